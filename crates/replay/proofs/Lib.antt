@@ -1,0 +1,2 @@
+pub mod EdgeStates
+pub mod EdgeStreams

@@ -1,0 +1,1 @@
+// Edges of 01 replayed on the definition, in proofs/: no code.
