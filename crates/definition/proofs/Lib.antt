@@ -22,6 +22,7 @@ pub mod Demand
 pub mod Computed
 pub mod Spelling
 pub mod Worked
+pub mod Solved
 pub mod Marked
 pub mod NoFail
 pub mod Fuel
