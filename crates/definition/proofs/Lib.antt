@@ -5,6 +5,7 @@ pub mod Order
 pub mod Steps
 pub mod Merge
 pub mod Post
+pub mod Room
 pub mod Calls
 pub mod Main
 pub mod Reading
@@ -14,7 +15,9 @@ pub mod PutBack
 pub mod Facts
 pub mod Soundness
 pub mod Reaches
+pub mod Ranges
 pub mod WellRead
+pub mod Walk
 pub mod Went
 pub mod Runs
 pub mod Records
@@ -28,3 +31,5 @@ pub mod NoFail
 pub mod Fuel
 pub mod Nine
 pub mod Late
+pub mod Refused
+pub mod SoundKept
