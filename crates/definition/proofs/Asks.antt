@@ -1,0 +1,161 @@
+-- The joins and subtypes that a record asks for: each starts in a sound state, and where it must not leave a variable that reaches itself it leaves none. Assumes nothing.
+use mathlib.Core.Path.{_≡_, refl, sym, subst}
+use mathlib.Core.Logic.{_⊎_, inl, inr}
+use mathlib.Core.Bool.{Bool, true, false}
+use mathlib.Core.List.{List, [], _∷_, _++_, List·Memᴰ, List·Memᴰ·append-cases, List·Memᴰ·eq-of-singleton, List·Memᴰ·not-nil}
+use Prim.Native.Nat.{ℕ, _<_}
+use native.Mathlib.Omega.{arith}
+use lib.ListN.{length}
+use lib.Dec.{leb}
+use Rattle.definition.specs.Types.{TypeName, Var, State, max-depth, answer-too-long, unsound-state, Result, ok, err, refused, _>>=_, if_then_else_}
+use Rattle.definition.specs.Store.{count, taken, sp}
+use Rattle.definition.specs.Subst.{unfold-type}
+use Rattle.definition.specs.Join.{TypingCase, Join, Subtype, join-impl, join, subtype}
+use Rattle.definition.specs.Constraints.{num-vars, undecided, u64, default-num-var}
+use Rattle.definition.specs.Write.{Bytes, write}
+use Rattle.definition.specs.Reader.{Read, got, not-read}
+use Rattle.definition.specs.Record.{Record, SD, FV, NV, SN, JN, SU, UF, RD, IN, TS, NC, BC, SC, SV, read-record}
+use Rattle.definition.specs.Trees.{Tree, arity}
+use Rattle.definition.specs.Step.{Answer, number-of-refusal, refusal, max-payload, answer-with, answer, max-buffer, usable, two-types, lent, run, step}
+use Rattle.definition.specs.Rank.{None-reaches-itself}
+use Rattle.definition.specs.Demand.{Ask, outcome, if-met, ask-two, ask-num, ask-nums, asks, lent-asks, step-asks}
+use Rattle.definition.proofs.Tracks.{never}
+use Rattle.definition.proofs.Order.{Sound}
+use Rattle.definition.proofs.Post.{Post, p-ok, p-err, p-refused}
+use Rattle.definition.proofs.Calls.{sp-post, var-ok}
+use Rattle.definition.proofs.Facts.{and-r, facts}
+use Rattle.definition.proofs.WellRead.{ReadWell, given, Fine, FineRecord, well-read}
+use Rattle.definition.proofs.Went.{Went, PostS, ps-ok}
+use Rattle.definition.proofs.Runs.{Declared, declared-on, Below, below-on, num-vars-below, place-went, u64-ok, default-went}
+use Rattle.definition.proofs.Calm.{Calm}
+use Rattle.definition.proofs.NoFail.{Gives, gives, gives-ok, calm-placed, new-calm, calm-default}
+
+-- the answer is 0, and no variable reaches itself in the state that it leaves
+abbrev pub Typed : Answer → Type 0
+Typed a = (a .number ≡ 0) × None-reaches-itself (a .state)
+
+typed-ok : (S s : State) (p : Bytes) → Typed (answer S (ok (s, p))) → None-reaches-itself s
+unfolding answer answer-with refusal number-of-refusal
+typed-ok S s p t = go (leb (length p) max-payload) (t .0) (t .1)
+  where
+    go : (b : Bool) → (if b then record { number = 0; payload = p; state = s } else refusal S answer-too-long) .number ≡ 0
+        → None-reaches-itself ((if b then record { number = 0; payload = p; state = s } else refusal S answer-too-long) .state) → None-reaches-itself s
+    go true e n = n
+    go false e n = never (cc)
+
+-- what a join is claimed from. E: what is given of its record
+pub record Fair (E : Type 0) (a : Ask) : Type 0 where
+  pub ar : TypeName → ℕ
+  pub from : Sound ar (a .before)
+  pub l-in : a .lhs < count (a .before)
+  pub r-in : a .rhs < count (a .before)
+  pub clear : E → (s : State) (t : ℕ) → outcome a ≡ ok (s, t) → None-reaches-itself s
+
+abbrev pub All-fair : Type 0 → List Ask → Type 0
+All-fair E l = (a : Ask) → List·Memᴰ a l → Fair E a
+
+joined-clear : (S₀ : State) (m : Result (State × ℕ)) (f : State × ℕ → Bytes) → Typed (answer S₀ (m >>= λ (x : State × ℕ). ok (x .0, f x))) → (s : State) (t : ℕ) → m ≡ ok (s, t) → None-reaches-itself s
+unfolding _>>=_
+joined-clear S₀ m f z s t e = typed-ok S₀ s (f (s, t)) (subst (λ (y : Result (State × ℕ)). Typed (answer S₀ (y >>= λ (x : State × ℕ). ok (x .0, f x)))) e z)
+
+module _ {E : Type 0} where
+  none-fair : All-fair E []
+  none-fair a m = absurd (List·Memᴰ·not-nil m)
+
+  one-fair : (b : Ask) → Fair E b → All-fair E (b ∷ [])
+  one-fair b h a m = subst (λ (x : Ask). Fair E x) (sym (List·Memᴰ·eq-of-singleton m)) h
+
+  both-fair : (l r : List Ask) → All-fair E l → All-fair E r → All-fair E (l ++ r)
+  both-fair l r p q a m = elim (List·Memᴰ·append-cases l m) [ inl x ↦ p a x | inr x ↦ q a x ]
+
+  -- the run, of which Z is given, goes on by k where the asks go on by f
+  met-fair : {B C : Type 0} {ar : TypeName → ℕ} {S : State} {P : State → B → Type 0} {m : Result (State × B)} (Z : Result C → Type 0) (f : State × B → Result (List Ask)) (k : State × B → Result C)
+      → Z (m >>= k) → Post ar S P m → ((s : State) (b : B) → P s b → Z (k (s, b)) → All-fair E (if-met (f (s, b)))) → All-fair E (if-met (m >>= f))
+  unfolding _>>=_ if-met
+  met-fair Z f k z (p-ok {s = s} {b = b} g p) h = h s b p z
+  met-fair Z f k z (p-err g n) h = none-fair
+  met-fair Z f k z p-refused h = none-fair
+
+  post-fair : {B : Type 0} {ar : TypeName → ℕ} {S : State} {P : State → B → Type 0} {m : Result (State × B)} (f : State × B → Result (List Ask)) → Post ar S P m
+      → ((s : State) (b : B) → P s b → All-fair E (if-met (f (s, b)))) → All-fair E (if-met (m >>= f))
+  post-fair f p h = met-fair (λ (x : Result Bytes). Unit {0}) f (λ x. ok []) tt p (λ s b q z. h s b q)
+
+  two-fair : {ar : TypeName → ℕ} (c : TypingCase) (S : State) → Sound ar S → (t1 t2 : Tree) → Fine ar (taken S) t1 → Fine ar (taken S) t2
+      → (E → Typed (answer S (two-types (λ s l r. join-impl max-depth s c l r) S t1 t2))) → All-fair E (ask-two c S t1 t2)
+  unfolding ask-two if-met two-types
+  two-fair {ar} c S s t1 t2 f1 f2 z =
+      met-fair (λ m. E → Typed (answer S m)) _ _ z (place-went f1 s (omega arith)) (λ S1 l w1 z1.
+      met-fair (λ m. E → Typed (answer S m)) _ _ z1 (place-went f2 (w1 .sound) (omega (arith, w1 .above .more-vars))) (λ S2 r w2 z2.
+      one-fair _ (record {
+        ar = ar;
+        from = w2 .sound;
+        l-in = omega (arith, w1 .t-in, w2 .above .more-nodes);
+        r-in = w2 .t-in;
+        clear = λ e. joined-clear S (join-impl max-depth S2 c l r) (λ x. write (x .0) (x .1)) (z2 e);
+      })))
+
+  -- ---- SV
+
+  num-fair : {ar : TypeName → ℕ} (S : State) → Sound ar S → Declared ar S → (v loc : ℕ) → v < taken S → (E → None-reaches-itself S) → All-fair E (ask-num S v loc)
+  unfolding ask-num if-met join
+  num-fair {ar} S s d v loc h z = go (undecided _) refl
+    where
+      go : (b : Bool) → undecided (unfold-type S (record { loc = loc; value = Var v }) .value) ≡ b → All-fair E (elim b [
+        | false ↦ []
+        | true ↦ if-met (sp S loc u64 >>= (λ (x : State × ℕ). sp (x .0) loc (Var v) >>= (λ (y : State × ℕ). ok (record { before = y .0; case = Join; lhs = x .1; rhs = y .1 } ∷ []))))
+      ])
+      go false e = none-fair
+      go true e = post-fair _ (sp-post s loc u64 (u64-ok d)) (λ S1 l p.
+          post-fair _ (sp-post (p .sound) loc (Var v) (var-ok v (omega (arith, p .same-vars)))) (λ S2 r q.
+          one-fair _ (record {
+            ar = ar;
+            from = q .sound;
+            l-in = omega (arith, p .t-in, q .quiet .q-nodes);
+            r-in = q .t-in;
+            clear = λ x s′ t j. gives-ok (calm-placed s v loc l r h e p q) j .none-still (new-calm (p .sound) q .none-still (new-calm s p .none-still (z x)));
+          })))
+
+  nums-fair : {ar : TypeName → ℕ} (l : List (ℕ × ℕ)) (S : State) → Sound ar S → Declared ar S → Below (taken S) l → (E → None-reaches-itself S) → All-fair E (ask-nums S l)
+  unfolding ask-nums
+  nums-fair [] S s d h z = none-fair
+  nums-fair {ar} ((v, loc) ∷ l) S s d h z =
+      both-fair _ _ (num-fair S s d v loc (h .0) z)
+      (go (default-num-var S v loc) (default-went v loc s d (h .0)) (calm-default s d v loc (h .0)) (λ S′ s′ d′ h′ z′. nums-fair l S′ s′ d′ h′ z′))
+    where
+      go : (m : Result State) → PostS ar S (Went ar S) m → Gives (Calm S) m → ((S′ : State) → Sound ar S′ → Declared ar S′ → Below (taken S′) l → (E → None-reaches-itself S′) → All-fair E (ask-nums S′ l))
+          → All-fair E (elim m [ ok s ↦ ask-nums s l | err s e ↦ [] | refused x ↦ [] ])
+      go (ok S′) (ps-ok g w) (gives c) f = f S′ (w .sound) (declared-on d g) (below-on (w .above .more-vars) l (h .1)) (λ x. c .none-still (z x))
+      go (refused x) p c f = none-fair
+
+  -- ---- a record, where none reaches itself before it, and it answers 0 and leaves none that reaches itself, or is SV
+
+  asks-fair : (S : State) → Sound (arity S) S → (r : Record) → FineRecord (arity S) (taken S) r → (E → None-reaches-itself S) → (E → Typed (answer S (run S r)) ⊎ (r ≡ SV)) → All-fair E (asks S r)
+  unfolding asks run join subtype
+  asks-fair S s (SD a ps) f n z = none-fair
+  asks-fair S s (FV loc) f n z = none-fair
+  asks-fair S s (NV loc) f n z = none-fair
+  asks-fair S s (SN v loc) f n z = none-fair
+  asks-fair S s (JN t1 t2) f n z = two-fair Join S s t1 t2 (f .0) (f .1) (λ e. elim (z e) [ inl t ↦ t | inr d ↦ never (cc) ])
+  asks-fair S s (SU t1 t2) f n z = two-fair Subtype S s t1 t2 (f .0) (f .1) (λ e. elim (z e) [ inl t ↦ t | inr d ↦ never (cc) ])
+  asks-fair S s (UF t) f n z = none-fair
+  asks-fair S s (RD t) f n z = none-fair
+  asks-fair S s (IN t) f n z = none-fair
+  asks-fair S s (TS ps t) f n z = none-fair
+  asks-fair S s (NC loc kind t) f n z = none-fair
+  asks-fair S s (BC loc t) f n z = none-fair
+  asks-fair S s (SC loc t) f n z = none-fair
+  asks-fair S s SV f n z = nums-fair (num-vars 0 (S .vars)) S s (λ n. refl) (num-vars-below 0 (S .vars) (taken S) (omega arith)) n
+
+  lent-fair : (s : State) → Sound (arity s) s → (r : Read Record) → ReadWell ⊥ s r → (E → None-reaches-itself s) → (E → Typed (lent s r) ⊎ (r ≡ got SV [])) → All-fair E (lent-asks s r)
+  unfolding lent-asks lent
+  lent-fair s h (got r []) (given f i) n z = asks-fair s h r (f .0) n (λ e. elim (z e) [ inl t ↦ inl t | inr d ↦ inr (cc) ])
+  lent-fair s h (got r (b ∷ rest)) f n z = none-fair
+  lent-fair s h (not-read x) f n z = none-fair
+
+  pub step-fair : (s : State) (bytes : Bytes) (buffer : ℕ) → (E → None-reaches-itself s) → (E → Typed (step s bytes buffer) ⊎ (read-record s bytes ≡ got SV [])) → All-fair E (step-asks s bytes buffer)
+  unfolding step-asks usable step
+  step-fair s bytes buffer n z = go (usable s buffer) refl z
+    where
+      go : (b : Bool) → usable s buffer ≡ b → (E → Typed (elim b [ true ↦ lent s (read-record s bytes) | false ↦ refusal s unsound-state ]) ⊎ (read-record s bytes ≡ got SV [])) → All-fair E (elim b [ true ↦ lent-asks s (read-record s bytes) | false ↦ [] ])
+      go true e z = lent-fair s (facts s (and-r (leb max-buffer buffer) _ e)) (read-record s bytes) (well-read ⊥ s bytes (λ h. absurd h)) n z
+      go false e z = none-fair
