@@ -1,0 +1,59 @@
+// Wrapped numbers, ability sets and marks, names of types, and the limits.
+ghost use mathlib.Core.Path.{_≡_};
+ghost use mathlib.Core.Option.{some};
+ghost use Rattle.definition.specs.Types.{Builtin};
+ghost use Rattle.definition.specs.Join.{is-numeric};
+ghost use Rattle.definition.specs.Trees.{has-drop};
+
+pub const MAX_NODES: u32 = 2048;
+
+pub const MAX_ARGS: u32 = 4096;
+
+pub const MAX_VARS: u32 = 1024;
+
+pub const MAX_CONSTRAINTS: u32 = 512;
+
+pub const MAX_STRUCTS: u32 = 256;
+
+pub const MAX_DEPTH: u32 = 256;
+
+// An inference variable's number.
+pub struct TVar(pub u16);
+
+// A type parameter's id. No variable, so never looked up as one.
+pub struct TParamID(pub u32);
+
+// copy 1, drop 2, store 4, key 8
+pub struct AbilitySet(pub u8);
+
+// An ability mark on a named type.
+pub enum Mark {
+    Absent,
+    Set(AbilitySet),
+}
+
+// An expression list's name is its count; a builtin and a struct have numbers.
+pub enum TypeName {
+    Multiple(u32),
+    Builtin(u32),
+    ModuleType(u32),
+}
+
+// BuiltinTypeName_::is_numeric: u8, u64, u128.
+pub fn is_numeric(b: u32) -> bool
+    ensures { λ r. ⌜ r ≡ is-numeric (Builtin b) ⌝ }
+{
+    if b == 2 {
+        return true;
+    }
+    if b == 3 {
+        return true;
+    }
+    b == 4
+}
+
+pub fn has_drop(a: AbilitySet) -> bool
+    ensures { λ r. ⌜ r ≡ has-drop (some (a .0)) ⌝ }
+{
+    a.0 / 2 % 2 == 1
+}

@@ -1,0 +1,9 @@
+-- Laws of the tables in words, of growing states, and of steps that follow one another. Assumes nothing.
+pub mod Tab
+pub mod Rows
+pub mod Written
+pub mod Fields
+pub mod Steps
+pub mod States
+pub mod Pushed
+pub mod Primitives

@@ -1,0 +1,17 @@
+-- `table::flag_of` meets its contract. Assumes nothing.
+use Rattle.table.specs.Rows.{flag}
+use Rattle.table.proofs.flag_of.Statement.{statement}
+use Rattle.table.proofs.flag_of.Tie as tie
+use Rattle.table.proofs.flag_of.Reads as reads
+use Rattle.table.proofs.flag_of.Lts as lts
+
+returns : tie.Need-returns
+unfolding flag
+returns c = rw (c .if1 .taken)
+
+returns-2 : tie.Need-returns-2
+unfolding flag
+returns-2 c = rw (c .if1 .left)
+
+pub flag-of-spec : {M : Type 1} → statement M
+flag-of-spec = tie.close (tie.spec returns returns-2)

@@ -1,0 +1,40 @@
+-- `table::mark_one` meets its contract. Assumes nothing.
+use Rattle.table.proofs.Primitives.{bound-in, mark-cell}
+use borrow.Author.Needs.{needs}
+use Rattle.table.proofs.mark_one.Statement.{statement}
+use Rattle.table.proofs.mark_one.Tie as tie
+use Rattle.table.proofs.mark_one.Reads as reads
+use Rattle.table.proofs.mark_one.Lts as lts
+use Rattle.table.proofs.bound_at.Reads as bound-at-reads
+use Rattle.table.proofs.num_loc_at.Reads as num-loc-at-reads
+use Rattle.table.proofs.or_insert.Reads as or-insert-reads
+use Rattle.table.proofs.put_cell.Reads as put-cell-reads
+
+bound-at-requires : tie.Need-bound-at-requires
+bound-at-requires c κs = search needs
+
+num-loc-at-requires : tie.Need-num-loc-at-requires
+num-loc-at-requires c κs = search needs
+
+or-insert-requires : tie.Need-or-insert-requires
+or-insert-requires c κs = search needs
+
+put-cell-requires : tie.Need-put-cell-requires
+put-cell-requires c κs = (c .before .before .before .before .before .before .before .pre, bound-in _ _ _ (c .before .before .before .before .bound-at .result) (c .before .before .before .before .before .before .before .pre) (c .before .before .before .before .bound-at .ensures))
+
+same-length : tie.Need-same-length
+same-length c = search needs
+
+returns : tie.Need-returns
+returns c = mark-cell _ _ _ _ _ (c .before .before .before .before .before .before .before .bound-at .result) (c .before .before .before .before .before .num-loc-at .result) _ (c .before .before .before .before .before .before .before .bound-at .ensures) (c .before .before .before .before .before .num-loc-at .ensures) (c .before .before .before .before .or-insert .ensures) (c .before .before .put-cell .ensures)
+
+pub mark-one-spec : {M : Type 1} → statement M
+mark-one-spec =
+    tie.close
+    (tie.spec
+    bound-at-requires
+    num-loc-at-requires
+    or-insert-requires
+    put-cell-requires
+    same-length
+    returns)

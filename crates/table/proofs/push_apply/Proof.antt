@@ -1,0 +1,82 @@
+-- `table::push_apply` meets its contract. Assumes nothing.
+use native.Mathlib.Omega.{arith}
+use mathlib.Core.Path.{_∙_}
+use Rattle.table.proofs.Primitives.{apply-full, apply-pushed}
+use Rattle.table.proofs.Pushed.{node-full}
+use borrow.Author.Needs.{needs}
+use Rattle.table.proofs.push_apply.Statement.{statement}
+use Rattle.table.proofs.push_apply.Tie as tie
+use Rattle.table.proofs.push_apply.Reads as reads
+use Rattle.table.proofs.push_apply.Lts as lts
+use Rattle.table.proofs.row_of.Reads as row-of-reads
+use Rattle.table.proofs.wide.Reads as wide-reads
+use Rattle.table.proofs.write_row.Reads as write-row-reads
+
+returns : tie.Need-returns
+returns c = node-full _ _ _ _ (c .before .before .pre .0) (c .if1 .taken)
+
+sub-if2 : tie.Need-sub-if2
+sub-if2 c = search needs
+
+returns-2 : tie.Need-returns-2
+returns-2 c = apply-full _ _ _ (c .before .before .before .args .k) (c .before .before .before .args .name) _ _ (c .before .before .before .pre .0) (c .before .before .before .pre .1) (search needs) (c .before .if1 .left) (c .if2 .taken)
+
+wide-requires : tie.Need-wide-requires
+wide-requires c κs = search needs
+
+add-write-row : tie.Need-add-write-row
+add-write-row c = search needs
+
+wide-requires-2 : tie.Need-wide-requires-2
+wide-requires-2 c κs = search needs
+
+write-row-requires : tie.Need-write-row-requires
+write-row-requires c κs = search needs
+
+row-of-requires : tie.Need-row-of-requires
+row-of-requires c κs = search needs
+
+wide-requires-3 : tie.Need-wide-requires-3
+wide-requires-3 c κs = search needs
+
+mul-write-row : tie.Need-mul-write-row
+mul-write-row c = search needs
+
+add-write-row-2 : tie.Need-add-write-row-2
+add-write-row-2 c = search needs
+
+write-row-requires-2 : tie.Need-write-row-requires-2
+write-row-requires-2 c κs = search needs
+
+add-t13 : tie.Need-add-t13
+add-t13 c = search needs
+
+add-t25 : tie.Need-add-t25
+add-t25 c = search needs
+
+same-length : tie.Need-same-length
+same-length c = c .before .before .write-row2 .ensures .size ∙ c .before .before .before .before .before .before .before .before .write-row .ensures .size
+
+returns-3 : tie.Need-returns-3
+returns-3 c = apply-pushed _ _ _ (c .before .before .before .before .before .before .before .before .before .before .before .before .before .before .before .args .k) (c .before .before .before .before .before .before .before .before .before .before .before .before .before .before .before .args .name) _ _ (c .before .before .before .before .before .before .before .before .before .before .before .before .before .before .before .pre .0) (c .before .before .before .before .before .before .before .before .before .before .before .before .before .before .before .pre .1) (search needs) (c .before .before .before .before .before .before .before .before .before .before .before .before .before .if1 .left) _ _ _ _ _ _ (λ q. omega (arith, c .before .before .before .before .before .before .before .before .before .before .before .before .if2 .left)) (c .before .before .before .wide3 .ensures) (c .before .before .before .before .before .before .before .before .before .before .wide .ensures) (c .before .before .before .before .before .before .before .before .before .wide2 .ensures) (c .before .before .before .before .before .before .before .before .write-row .ensures) (c .before .before .write-row2 .ensures) (c .before .before .before .before .before .row-of .ensures)
+
+pub push-apply-spec : {M : Type 1} → statement M
+push-apply-spec =
+    tie.close
+    (tie.spec
+    returns
+    sub-if2
+    returns-2
+    wide-requires
+    add-write-row
+    wide-requires-2
+    write-row-requires
+    row-of-requires
+    wide-requires-3
+    mul-write-row
+    add-write-row-2
+    write-row-requires-2
+    add-t13
+    add-t25
+    same-length
+    returns-3)

@@ -1,0 +1,53 @@
+-- `table::put_cell` meets its contract. Assumes nothing.
+use Rattle.table.proofs.Primitives.{found-in}
+use Rattle.table.proofs.Pushed.{cell-put, cell-none}
+use borrow.Author.Needs.{needs}
+use Rattle.table.proofs.put_cell.Statement.{statement}
+use Rattle.table.proofs.put_cell.Tie as tie
+use Rattle.table.proofs.put_cell.Reads as reads
+use Rattle.table.proofs.put_cell.Lts as lts
+use Rattle.table.proofs.cell_row.Reads as cell-row-reads
+use Rattle.table.proofs.number.Reads as number-reads
+use Rattle.table.proofs.wide.Reads as wide-reads
+use Rattle.table.proofs.write_row.Reads as write-row-reads
+
+number-requires : tie.Need-number-requires
+number-requires c κs = search needs
+
+cell-row-requires : tie.Need-cell-row-requires
+cell-row-requires c κs = search needs
+
+wide-requires : tie.Need-wide-requires
+wide-requires c κs = search needs
+
+mul-write-row : tie.Need-mul-write-row
+mul-write-row c = search needs
+
+add-write-row : tie.Need-add-write-row
+add-write-row c = search needs
+
+write-row-requires : tie.Need-write-row-requires
+write-row-requires c κs = search needs
+
+same-length : tie.Need-same-length
+same-length c = c .before .before .write-row .ensures .size
+
+returns : tie.Need-returns
+returns c = rw (c .before .before .before .before .before .before .before .number .ensures .0) at (cell-put _ _ _ _ _ (c .before .before .before .before .before .before .before .before .before .pre .0) (found-in _ (c .before .before .before .before .before .before .before .before .before .args .b) (c .before .before .before .before .before .before .before .before .before .pre .1)) _ _ (c .before .before .before .before .before .before .if1 .taken) (rw (c .before .before .before .wide .ensures) at (c .before .before .write-row .ensures)) (c .before .before .before .before .before .cell-row .ensures))
+
+returns-2 : tie.Need-returns-2
+returns-2 c = cell-none _ _ _ _ _ (c .before .before .before .pre .0) (found-in _ (c .before .before .before .args .b) (c .before .before .before .pre .1)) (rw (c .before .number .ensures .0) at (c .if1 .left))
+
+pub put-cell-spec : {M : Type 1} → statement M
+put-cell-spec =
+    tie.close
+    (tie.spec
+    number-requires
+    cell-row-requires
+    wide-requires
+    mul-write-row
+    add-write-row
+    write-row-requires
+    same-length
+    returns
+    returns-2)

@@ -1,0 +1,263 @@
+-- The state that the words hold, with so many rows of each table in use, and what holds of a function that reads or changes them.
+-- Assumes nothing: these are definitions.
+use mathlib.Core.Path.{_≡_}
+use mathlib.Core.List.{List, [], _∷_, _++_}
+use mathlib.Core.Option.{Option, none, some}
+use Prim.Native.Nat.{ℕ, _+_, _*_, _≤_, _<_}
+use lib.ListN.{length, getD, set}
+use Rattle.definition.specs.Types as d
+use Rattle.definition.specs.Types.{State, Struct, Places, Cell, Result, ok, err, refused, _>>=_}
+use Rattle.definition.specs.Types.{SubtypeError, ArityMismatch, RecursiveType, full, too-deep, runs-into-itself, abilities-disagree, open-variable, no-argument, parameter-twice}
+use Rattle.definition.specs.Store.{count, taken, node, with-vars, with-structs, get, add-constraint, declare}
+use Rattle.names.specs.Names.{mark-of, name-of}
+use Rattle.table.specs.Rows.{entries, Clean, node-table, arg-table, var-table, constraint-table, struct-table, places}
+use Rattle.table.specs.declared.Shape.{Shape}
+use Rattle.table.specs.declared.Shape.the-variants.{Unit as UnitS, Ref, Param, Apply, Var, Anything, UnresolvedError}
+use Rattle.table.specs.declared.Node.{Node}
+use Rattle.table.specs.declared.Used.{Used}
+use Rattle.table.specs.declared.Found.{Found}
+use Rattle.table.specs.declared.Found.the-variants.{Nothing, Just}
+use Rattle.table.specs.declared.Constraint.{Constraint}
+use Rattle.table.specs.declared.Constraint.the-variants.{Ability, Numeric, Bits, Ordered, BaseType, SingleType}
+use Rattle.table.specs.declared.Out.{Out}
+use Rattle.table.specs.declared.Out.the-variants.{Done, Subtype, Incompatible, Arity, Recursive, Full, Deep, Itself, Disagree, Open, NoArgument, Twice}
+use Rattle.table.specs.declared.Step.{Step}
+
+-- ---- answers as the definition has them
+
+abbrev pub found : Found → Option ℕ
+found Nothing = none
+found (Just x) = some x
+
+abbrev pub shape-of : Shape → d.Shape Places
+shape-of UnitS = d.UnitType
+shape-of (Ref m t) = d.Ref m t
+shape-of (Param id a) = d.Param (id .0) (a .0)
+shape-of (Apply k n first many) = d.Apply (mark-of k) (name-of n) (places first many)
+shape-of (Var v) = d.Var (v .0)
+shape-of Anything = d.Anything
+shape-of UnresolvedError = d.UnresolvedError
+
+abbrev pub node-of : Node → d.Node
+node-of n = record { loc = n .loc; value = shape-of (n .shape) }
+
+abbrev pub node-at : ℕ → Shape → d.Node
+node-at loc shape = record { loc = loc; value = shape-of shape }
+
+abbrev pub cell : Found → Found → Cell
+cell b m = record { binding = found b; numeric = found m }
+
+-- a shape without arguments
+abbrev pub value-of : Shape → d.Type-value
+value-of UnitS = d.UnitType
+value-of (Ref m t) = d.Ref m t
+value-of (Param id a) = d.Param (id .0) (a .0)
+value-of (Apply k n first many) = d.Apply (mark-of k) (name-of n) []
+value-of (Var v) = d.Var (v .0)
+value-of Anything = d.Anything
+value-of UnresolvedError = d.UnresolvedError
+
+abbrev pub constraint-of : Constraint → d.Constraint
+constraint-of (Ability loc ty a) = d.AbilityConstraint loc ty (a .0)
+constraint-of (Numeric loc ty) = d.NumericConstraint loc ty
+constraint-of (Bits loc ty) = d.BitsConstraint loc ty
+constraint-of (Ordered loc ty) = d.OrderedConstraint loc ty
+constraint-of (BaseType loc ty) = d.BaseTypeConstraint loc ty
+constraint-of (SingleType loc ty) = d.SingleTypeConstraint loc ty
+
+-- the answer o, met in the state s
+unfoldable pub outcome : Out → State → Result (State × ℕ)
+outcome (Done t) s = ok (s, t)
+outcome (Subtype a b) s = err s (SubtypeError a b)
+outcome (Incompatible a b) s = err s (d.Incompatible a b)
+outcome (Arity a b) s = err s (ArityMismatch a b)
+outcome (Recursive loc) s = err s (RecursiveType loc)
+outcome Full s = refused full
+outcome Deep s = refused too-deep
+outcome Itself s = refused runs-into-itself
+outcome Disagree s = refused abilities-disagree
+outcome Open s = refused open-variable
+outcome NoArgument s = refused no-argument
+outcome Twice s = refused parameter-twice
+
+-- the number that an answer is, if it is one
+abbrev pub done : Out → Found
+done (Done t) = Just t
+done (Subtype a b) = Nothing
+done (Incompatible a b) = Nothing
+done (Arity a b) = Nothing
+done (Recursive loc) = Nothing
+done Full = Nothing
+done Deep = Nothing
+done Itself = Nothing
+done Disagree = Nothing
+done Open = Nothing
+done NoArgument = Nothing
+done Twice = Nothing
+
+-- ---- the state
+
+-- what the words hold. The structs' parameter bytes stand beside them: here they are zeros
+unfoldable pub view : List ℕ → Used → State
+view w u = record {
+  nodes = entries node-table w (u .nodes);
+  args = entries arg-table w (u .args);
+  vars = entries var-table w (u .vars);
+  constraints = entries constraint-table w (u .constraints);
+  structs = entries struct-table w (u .structs);
+}
+
+-- .. with these declarations
+unfoldable pub seen : List ℕ → Used → List Struct → State
+seen w u ds = with-structs (view w u) ds
+
+-- the parts of node t are below it, and its places are in use
+abbrev pub Below : List ℕ → ℕ → d.Shape Places → Type 0
+Below args t d.UnitType = Unit {0}
+Below args t (d.Ref m p) = p < t
+Below args t (d.Param id a) = Unit {0}
+Below args t (d.Apply k n p) = (p .many ≤ 8) × ((p .first + p .many ≤ length args) × ((i : ℕ) → i < p .many → getD args (p .first + i) 0 < t))
+Below args t (d.Var v) = Unit {0}
+Below args t d.Anything = Unit {0}
+Below args t d.UnresolvedError = Unit {0}
+
+-- what of a sound state every function keeps
+pub record Inside (s : State) : Type 0 where
+  pub parts : (t : ℕ) → t < count s → Below (s .args) t (node s t .value)
+  pub bindings : (v t : ℕ) → get s v ≡ some t → t < count s
+
+-- there are as many words as the layout has, no more rows in use than each table has, and no word says more than the state.
+-- Of the first five words, the counts, nothing is said: they are written when a call ends
+pub record Lay (w : List ℕ) (u : Used) : Type 0 where
+  pub size : length w ≡ 24069
+  pub nodes : u .nodes ≤ 2048
+  pub args : u .args ≤ 4096
+  pub vars : u .vars ≤ 1024
+  pub constraints : u .constraints ≤ 512
+  pub structs : u .structs ≤ 256
+  pub clean-nodes : Clean node-table w (u .nodes)
+  pub clean-args : Clean arg-table w (u .args)
+  pub clean-vars : Clean var-table w (u .vars)
+  pub clean-constraints : Clean constraint-table w (u .constraints)
+  pub clean-structs : Clean struct-table w (u .structs)
+  pub inside : Inside (view w u)
+
+-- l is the front of m
+pub record Front {A : Type 0} (l m : List A) : Type 0 where
+  pub rest : List A
+  pub is : m ≡ l ++ rest
+
+-- rows are only added; variables may be bound and marked besides
+pub record Grown (s t : State) : Type 0 where
+  pub nodes : Front (s .nodes) (t .nodes)
+  pub args : Front (s .args) (t .args)
+  pub vars : taken s ≤ taken t
+  pub constraints : Front (s .constraints) (t .constraints)
+  pub structs : Front (s .structs) (t .structs)
+
+-- ---- what a function does
+
+-- the words w with u in use became w′ and the answer r, as f says, whatever the declarations are
+pub record Changed (w : List ℕ) (u : Used) (w′ : List ℕ) (r : Step) (f : State → Result (State × ℕ)) : Type 0 where
+  pub lay : Lay w′ (r .used)
+  pub grown : Grown (view w u) (view w′ (r .used))
+  pub structs : view w′ (r .used) .structs ≡ view w u .structs
+  pub is : (ds : List Struct) → outcome (r .out) (seen w′ (r .used) ds) ≡ f (seen w u ds)
+
+-- the nodes that an answer names are below n
+abbrev pub Nodes-in : ℕ → Out → Type 0
+Nodes-in n (Done t) = t < n
+Nodes-in n (Subtype a b) = (a < n) × (b < n)
+Nodes-in n (Incompatible a b) = (a < n) × (b < n)
+Nodes-in n (Arity a b) = (a < n) × (b < n)
+Nodes-in n (Recursive loc) = Unit {0}
+Nodes-in n Full = Unit {0}
+Nodes-in n Deep = Unit {0}
+Nodes-in n Itself = Unit {0}
+Nodes-in n Disagree = Unit {0}
+Nodes-in n Open = Unit {0}
+Nodes-in n NoArgument = Unit {0}
+Nodes-in n Twice = Unit {0}
+
+-- the variable that an answer names is below n
+abbrev pub Var-in : ℕ → Out → Type 0
+Var-in n (Done v) = v < n
+Var-in n (Subtype a b) = Unit {0}
+Var-in n (Incompatible a b) = Unit {0}
+Var-in n (Arity a b) = Unit {0}
+Var-in n (Recursive loc) = Unit {0}
+Var-in n Full = Unit {0}
+Var-in n Deep = Unit {0}
+Var-in n Itself = Unit {0}
+Var-in n Disagree = Unit {0}
+Var-in n Open = Unit {0}
+Var-in n NoArgument = Unit {0}
+Var-in n Twice = Unit {0}
+
+-- .. and the answer is a node
+pub record After (w : List ℕ) (u : Used) (w′ : List ℕ) (r : Step) (f : State → Result (State × ℕ)) : Type 0 where
+  pub changed : Changed w u w′ r f
+  pub inside : Nodes-in (r .used .nodes) (r .out)
+
+-- the words w with u in use became w′, as f says; no row was taken
+pub record Stored (w : List ℕ) (u : Used) (w′ : List ℕ) (f : State → State) : Type 0 where
+  pub lay : Lay w′ u
+  pub grown : Grown (view w u) (view w′ u)
+  pub structs : view w′ u .structs ≡ view w u .structs
+  pub is : (ds : List Struct) → seen w′ u ds ≡ f (seen w u ds)
+
+-- w′ is w, but for n words of row from place `at` on
+pub record Wrote (w : List ℕ) (at n : ℕ) (row : List ℕ) (w′ : List ℕ) : Type 0 where
+  pub size : length w′ ≡ length w
+  pub here : (k : ℕ) → k < n → getD w′ (at + k) 0 ≡ getD row k 0
+  pub there : (j : ℕ) → ((k : ℕ) → k < n → j ≡ at + k → ⊥) → getD w′ j 0 ≡ getD w j 0
+
+-- a constraint is listed; there is no number to answer
+unfoldable pub pushed-constraint : d.Constraint → State → Result (State × ℕ)
+pushed-constraint c s = add-constraint s c >>= (λ t. ok (t, 0))
+
+-- variable v has this binding and this mark
+unfoldable pub with-cell : ℕ → Option ℕ → Option ℕ → State → State
+with-cell v b m s = with-vars s (set (s .vars) v (record { binding = b; numeric = m }))
+
+-- declarations that have the abilities and the parameter counts of the struct rows
+pub record Declares (w : List ℕ) (u : Used) (ds : List Struct) : Type 0 where
+  pub many : length ds ≡ u .structs
+  pub abilities : (i : ℕ) → i < u .structs → getD ds i (struct-table .blank) .abilities ≡ getD (view w u .structs) i (struct-table .blank) .abilities
+  pub params : (i : ℕ) → i < u .structs → length (getD ds i (struct-table .blank) .params) ≡ length (getD (view w u .structs) i (struct-table .blank) .params)
+
+-- a struct is declared, if the answer is its number
+abbrev pub more : Found → List Struct → Struct → List Struct
+more Nothing ds x = ds
+more (Just n) ds x = ds ++ (x ∷ [])
+
+-- the words hold one struct row more, if there is room; its bytes ps stand beside them
+pub record Declared (w : List ℕ) (u : Used) (w′ : List ℕ) (r : Step) (abilities params : ℕ) : Type 0 where
+  pub lay : Lay w′ (r .used)
+  pub grown : Grown (view w u) (view w′ (r .used))
+  pub is : (ds : List Struct) (ps : List ℕ) → length ds ≡ u .structs
+      → outcome (r .out) (seen w′ (r .used) (more (done (r .out)) ds (record { abilities = abilities; params = ps }))) ≡ declare (seen w u ds) abilities ps
+  pub declares : (ds : List Struct) (ps : List ℕ) → Declares w u ds → length ps ≡ params
+      → Declares w′ (r .used) (more (done (r .out)) ds (record { abilities = abilities; params = ps }))
+
+-- ---- what the primitives ask
+
+-- a shape without arguments whose part is below n
+abbrev pub Flat : ℕ → Shape → Type 0
+Flat n UnitS = Unit {0}
+Flat n (Ref m t) = t < n
+Flat n (Param id a) = Unit {0}
+Flat n (Apply k c first many) = ⊥
+Flat n (Var v) = Unit {0}
+Flat n Anything = Unit {0}
+Flat n UnresolvedError = Unit {0}
+
+-- a binding to a node below n
+abbrev pub Found-in : ℕ → Found → Type 0
+Found-in n Nothing = Unit {0}
+Found-in n (Just t) = t < n
+
+-- n parts, each below the number of nodes
+pub record Parts (nodes : ℕ) (parts : List ℕ) (n : ℕ) : Type 0 where
+  pub few : n ≤ 8
+  pub below : (i : ℕ) → i < n → getD parts i 0 < nodes
