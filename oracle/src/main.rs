@@ -1,0 +1,131 @@
+//! The commands; README.md has them with examples.
+use oracle::{
+    gen, job,
+    job::Options,
+    list, order, show,
+    text::{assemble, disassemble, Detail},
+};
+use std::{
+    fs,
+    io::{Read, Write},
+    process::exit,
+};
+
+const USAGE: &str = "\
+oracle log [--why] [--state] [--r1] [--xp] [STREAM]   core.rs's log of a stream
+oracle gen random SEED COUNT RECORDS [PROFILE] [--cut]
+                                                      a list of jobs with their logs
+oracle gen exhaustive FIRST COUNT [STEP] [--cut]      --cut: without records that core.rs refuses
+oracle gen limits SEED COUNT [--cut]
+oracle gen order SEED COUNT                           jobs for `oracle order`
+oracle check [LIST]                                   run a list's jobs again, compare their logs
+oracle counts [LIST]                                  records of a list by mark and answer
+oracle order [LIST]                                   what this build's map order changes
+oracle asm [--number] [TEXT]                          text to bytes
+oracle disasm [STREAM]                                bytes to text
+oracle show [--full] JOB LOG                          a job and its log for people
+Without a file, stdin is read.";
+
+fn fail(message: &str) -> ! {
+    eprintln!("{}", message);
+    exit(2)
+}
+
+fn read(path: Option<&String>) -> Vec<u8> {
+    let mut bytes = vec![];
+    let done = match path {
+        Some(p) => fs::read(p).map(|b| bytes = b),
+        None => std::io::stdin().read_to_end(&mut bytes).map(|_| ()),
+    };
+    done.unwrap_or_else(|e| fail(&format!("{}: {}", path.map_or("stdin", |p| p), e)));
+    bytes
+}
+
+fn read_text(path: Option<&String>) -> String {
+    String::from_utf8(read(path)).unwrap_or_else(|_| fail("not text"))
+}
+
+fn read_list(path: Option<&String>) -> Vec<list::Entry> {
+    list::parse(&read_text(path)).unwrap_or_else(|e| fail(&e))
+}
+
+fn write(bytes: &[u8]) {
+    if std::io::stdout().lock().write_all(bytes).is_err() {
+        exit(2)
+    }
+}
+
+fn number(word: Option<&String>) -> u64 {
+    word.and_then(|w| w.parse().ok()).unwrap_or_else(|| fail(USAGE))
+}
+
+fn generate(words: &[String], cut: bool) -> Vec<list::Entry> {
+    let (seed, count) = (number(words.get(1)), number(words.get(2)));
+    let made: Vec<_> = match words[0].as_str() {
+        "random" => {
+            let records = number(words.get(3)) as usize;
+            let named = |w: &String| gen::Profile::named(w).unwrap_or_else(|| fail(USAGE));
+            let profile = words.get(4).map(named);
+            (0..count).map(|i| gen::random(seed, i, records, profile, cut)).collect()
+        }
+        "exhaustive" => {
+            let step = words.get(3).map_or(1, |w| number(Some(w)));
+            (0..count).map_while(|i| gen::exhaustive((seed + i * step) as usize, cut)).collect()
+        }
+        "limits" => (0..count).map(|i| gen::limits(seed, i, cut)).collect(),
+        "order" => (0..count).map(|i| order::made(seed, i)).collect(),
+        _ => fail(USAGE),
+    };
+    made.iter().map(list::entry).collect()
+}
+
+fn check(entries: &[list::Entry]) -> i32 {
+    let differs = |e: &&list::Entry| job::log(&e.stream, Options::default(), false, false) != e.log;
+    let wrong: Vec<_> = entries.iter().filter(differs).collect();
+    wrong.iter().for_each(|e| println!("differs: {}", e.name));
+    println!("{} jobs equal, {} differ", entries.len() - wrong.len(), wrong.len());
+    !wrong.is_empty() as i32
+}
+
+fn run(args: Vec<String>) -> i32 {
+    let (flags, words): (Vec<String>, Vec<String>) = args.into_iter().partition(|a| a.starts_with("--"));
+    let flag = |name: &str| flags.iter().any(|f| f == name);
+    match words.first().map(String::as_str) {
+        Some("log") => {
+            let options = Options { abilities: flag("--r1"), expand: flag("--xp") };
+            write(job::log(&read(words.get(1)), options, flag("--why"), flag("--state")).as_bytes())
+        }
+        Some("gen") if words.len() > 1 => write(list::print(&generate(&words[1..], flag("--cut"))).as_bytes()),
+        Some("check") => return check(&read_list(words.get(1))),
+        Some("counts") => {
+            let entries = read_list(words.get(1));
+            println!("{} jobs", entries.len());
+            for ((mark, answer), n) in list::counts(&entries) {
+                println!("{} {} {}", mark, answer, n)
+            }
+        }
+        Some("order") => {
+            for (what, n) in order::compare(&read_list(words.get(1))) {
+                println!("{}: {}", what, n)
+            }
+        }
+        Some("asm") => match assemble(&read_text(words.get(1)), flag("--number")) {
+            Ok(bytes) => write(&bytes),
+            Err(e) => fail(&e),
+        },
+        Some("disasm") => write(disassemble(&read(words.get(1))).as_bytes()),
+        Some("show") if words.len() == 3 => {
+            let detail = if flag("--full") { Detail::Full } else { Detail::Types };
+            let (lines, summary) = show::show(&read(words.get(1)), &read_text(words.get(2)), detail);
+            println!("{}{}", lines, summary.text());
+            return summary.code();
+        }
+        _ => fail(USAGE),
+    }
+    0
+}
+
+fn main() {
+    let args = std::env::args().skip(1).collect();
+    exit(job::with_stack(|| run(args)))
+}

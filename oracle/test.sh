@@ -1,0 +1,48 @@
+#!/bin/bash
+# The Rust side: upstream unchanged, both builds, the tests under both maps, the stored lists made again.
+# Its last line is 'N passed, M failed'; it exits non-zero where M is not 0.
+cd "$(dirname "$0")" || exit 1
+passed=0 failed=0
+tmp=$(mktemp -d) && trap 'rm -rf "$tmp"' EXIT
+
+step() { # NAME CMD..
+  local name=$1
+  shift
+  if "$@" > "$tmp/out" 2>&1; then
+    passed=$((passed + 1)) && echo "ok      $name"
+  else
+    failed=$((failed + 1)) && echo "FAILED  $name" && tail -n 40 "$tmp/out"
+  fi
+}
+
+tests() { # NAME ARGS..: each test counts
+  local name=$1
+  shift
+  cargo test --release --offline -j1 "$@" > "$tmp/out" 2>&1 || tail -n 60 "$tmp/out"
+  local p f
+  p=$(grep -c '^test .* \.\.\. ok$' "$tmp/out") f=$(grep -c '^test .* \.\.\. FAILED$' "$tmp/out")
+  [ $((p + f)) -gt 0 ] || f=1
+  passed=$((passed + p)) failed=$((failed + f))
+  echo "$p of $((p + f))  $name"
+}
+
+made_again() { # the replay list and what is made from it are what is stored
+  ./replay.sh > "$tmp/list" && cmp replay.list "$tmp/list" || return 1
+  mkdir "$tmp/proofs" && python3 ../tools/jobs.py antt "$tmp/proofs" || return 1
+  for f in "$tmp"/proofs/*; do cmp "$f" "../crates/replay/proofs/${f##*/}" || return 1; done
+}
+
+altered() { # a changed answer is seen
+  sed '0,/^7 0 /s//7 1 /' replay.list > "$tmp/altered" && ! cmp -s replay.list "$tmp/altered" || return 1
+  ! target/release/oracle check "$tmp/altered"
+}
+
+step "upstream unchanged" sh -c 'cd upstream && sha256sum -c ../upstream.sha256'
+step "build, ordered map" cargo build --release --offline -j1
+step "build, real map" cargo build --release --offline -j1 --features hashmap --target-dir target/hashmap
+tests "tests, ordered map"
+tests "tests, real map" --features hashmap --target-dir target/hashmap
+step "replay list made again" made_again
+step "an altered answer is found" altered
+echo "$passed passed, $failed failed"
+[ "$failed" -eq 0 ]

@@ -1,0 +1,310 @@
+//! What test.sh runs, under both maps.
+use oracle::{
+    gen::{self, Chance, Made},
+    job::{self, with_stack, Job, Options, Outcome},
+    list, order,
+    record::{self, hex, read_record, Record},
+    show::show,
+    text::{assemble, disassemble, Detail},
+};
+use std::collections::BTreeSet;
+
+const REAL_MAP: bool = cfg!(feature = "hashmap");
+
+fn log(stream: &[u8]) -> String {
+    job::log(stream, Options::default(), false, false)
+}
+
+fn asm(text: &str) -> Vec<u8> {
+    assemble(text, true).unwrap()
+}
+
+/// the numbers of a job's answers
+fn numbers(stream: &[u8]) -> Vec<u8> {
+    log(stream).lines().map(|l| l.split(' ').nth(1).unwrap().parse().unwrap()).collect()
+}
+
+fn last(text: &str) -> u8 {
+    *numbers(&asm(text)).last().unwrap()
+}
+
+fn made() -> Vec<Made> {
+    let mut jobs: Vec<_> = (0..2000).map(|i| gen::random(11, i, 25, None, false)).collect();
+    jobs.extend((0..).map_while(|i| gen::exhaustive(i, false)));
+    jobs.extend((0..70).map(|i| gen::limits(11, i, false)));
+    jobs
+}
+
+//---- 01 ------------------------------------------------------------------------------------------------
+
+#[test]
+fn marked_calls() {
+    let text = include_str!("../marked.txt");
+    let blocks: Vec<_> = text.split("\n\n").skip(1).collect();
+    assert_eq!(blocks.len(), 15);
+    for b in blocks {
+        let (name, rest) = b.split_once('\n').unwrap();
+        let (job, wanted) = rest.split_once("log\n").unwrap();
+        let stream = assemble(job, false).unwrap();
+        assert_eq!(log(&stream).trim_end(), wanted.trim_end(), "{}", name);
+    }
+}
+
+#[test]
+fn worked_example_by_its_bytes() {
+    let stream = record::unhex("4e5601000000 4a4e06020000000000 03030000000002 55460604000000 0000").unwrap();
+    assert_eq!(log(&stream), "0 0 06010000000000\n1 0 06020000000000\n2 0 03030000000002\n");
+}
+
+#[test]
+fn edges_of_the_record_form() {
+    let nested = |n: usize| format!("UF {}u8{}", "vector<".repeat(n - 1), ">".repeat(n - 1));
+    assert_eq!((last(&nested(64)), last(&nested(65))), (0, 5));
+    // eight lists of eight lists of eight variables: 2 + 73 * 7 + 512 * 7 bytes
+    let list = |part: &str| format!("({})", vec![part; 8].join(", "));
+    let long = format!("FV\nUF {}", list(&list(&list("V0"))));
+    let fits = long.replacen("V0, V0, V0", "P1, _, _", 1);
+    assert_eq!((asm(&long).len() - 6, last(&long)), (4097, 5));
+    assert_eq!((asm(&fits).len() - 6, last(&fits)), (4096, 0));
+    let vars = |n| numbers(&asm(&"FV\n".repeat(n)));
+    assert_eq!((vars(1024)[1023], vars(1025)[1024]), (0, 7));
+}
+
+#[test]
+fn refusals_by_the_rules_of_01() {
+    let cases = [
+        ("hex 5858", 5),
+        ("hex 4a4e09", 5),
+        ("UF V0", 6),
+        ("UF S0", 6),
+        ("FV\nJN V0, vector<V0>\nJN V0, vector<V0>\nJN vector<V0>, V0", 4),
+        ("FV\nFV\nJN V0, vector<V1>\nJN V1, vector<V0>\nRD &V0", 9),
+        ("JN u8, u8{drop}", 10),
+        ("JN vector<u8>{}, vector<bool>", 10),
+        ("FV\nIN vector<V0>", 11),
+        ("FV\nTS [] V0", 11),
+        ("TS [P1 = u8] vector<P2>", 12),
+        ("TS [P1 = u8, P1 = u8] P1", 13),
+    ];
+    for (text, number) in cases {
+        assert_eq!(last(text), number, "{}", text);
+    }
+    let row = format!("({})", vec!["P1"; 8].join(", "));
+    let square = format!("({})", vec![row.as_str(); 8].join(", "));
+    assert_eq!(last(&format!("TS [P1 = {}] {}", row, row)), 0);
+    assert_eq!(last(&format!("TS [P1 = {}] {}", row, square)), 14);
+    assert_eq!(last(&("SD {}\n".repeat(256) + "UF S255")), 0);
+    assert_eq!(last(&"SD {}\n".repeat(257)), 7);
+    assert_eq!(last(&"SC ()\n".repeat(513)), 7);
+}
+
+#[test]
+fn a_constraint_on_a_type_in_itself_is_silent() {
+    let stream = asm("FV\nFV\nJN V0, vector<V1>\nJN V1, vector<V0>\nNC bits V0\nSV\nFV");
+    assert_eq!(log(&stream).lines().last(), Some("5 -"));
+}
+
+//---- states ----------------------------------------------------------------------------------------------
+
+#[test]
+fn errors_and_refusals_put_the_state_back() {
+    for i in 0..300 {
+        let m = gen::random(12, i, 25, None, false);
+        let (mut job, mut rest) = (Job::new(Options::default()), &m.stream[..]);
+        while !rest.is_empty() {
+            let before = job.state();
+            let (outcome, n) = job.next(rest);
+            let mut after = job.state();
+            match outcome {
+                Outcome::Core(0, _) => (),
+                Outcome::Core(..) => {
+                    assert!(after.next_var >= before.next_var);
+                    after.next_var = before.next_var;
+                    assert_eq!(before, after)
+                }
+                _ => assert_eq!(before, after),
+            }
+            if n == 0 {
+                break; // under the real map a later run may take fewer variables
+            }
+            rest = &rest[n..];
+        }
+    }
+}
+
+#[test]
+fn jobs_side_by_side_do_not_meet() {
+    let streams: Vec<_> = (0..20).map(|i| gen::random(13, i, 25, None, true).stream).collect();
+    let mut jobs: Vec<_> = streams.iter().map(|s| (Job::new(Options::default()), &s[..], String::new(), 0)).collect();
+    while jobs.iter().any(|(_, rest, _, _)| !rest.is_empty()) {
+        for (job, rest, log, n) in jobs.iter_mut().filter(|(_, rest, _, _)| !rest.is_empty()) {
+            let (outcome, length) = job.next(rest);
+            *log += &format!("{} {}\n", n, job::answer_text(&outcome));
+            *n += 1;
+            *rest = if length == 0 { &[] } else { &rest[length..] };
+        }
+    }
+    if !REAL_MAP {
+        jobs.iter().zip(&streams).for_each(|((_, _, got, _), s)| assert_eq!(got, &log(s)))
+    }
+}
+
+//---- generator and list ---------------------------------------------------------------------------------------
+
+#[test]
+fn a_seed_gives_one_job() {
+    let bytes = |seed, i| gen::random(seed, i, 25, None, false).stream;
+    if !REAL_MAP {
+        (0..200).for_each(|i| assert_eq!(bytes(1, i), bytes(1, i)))
+    }
+    assert_ne!(bytes(1, 0), bytes(2, 0));
+    assert_ne!(bytes(1, 0), bytes(1, 1));
+}
+
+#[test]
+fn every_mark_and_answer_is_made() {
+    let entries: Vec<_> = with_stack(|| made().iter().map(list::entry).collect());
+    let counts = list::counts(&entries);
+    let marks: BTreeSet<_> = counts.keys().map(|(m, _)| m.as_str()).collect();
+    let all = ["BC", "FV", "IN", "JN", "NC", "NV", "RD", "SC", "SD", "SN", "SU", "SV", "TS", "UF"];
+    assert_eq!(marks.into_iter().collect::<Vec<_>>(), all);
+    for n in [0, 2, 3, 4] {
+        assert!(counts[&("JN".to_string(), n)] > 20, "JN {}", n)
+    }
+    for n in 0..5 {
+        assert!(counts[&("SU".to_string(), n)] > 20, "SU {}", n)
+    }
+}
+
+#[test]
+fn the_replay_list_is_core_rs_s() {
+    let entries = list::parse(include_str!("../replay.list")).unwrap();
+    assert_eq!(entries.len(), 180);
+    assert!(list::counts(&entries).keys().all(|(_, n)| *n <= 4));
+    if !REAL_MAP {
+        entries.iter().for_each(|e| assert_eq!(log(&e.stream), e.log, "{}", e.name));
+    }
+    let again = list::parse(&list::print(&entries)).unwrap();
+    let same = |(a, b): (&list::Entry, &list::Entry)| (&a.name, &a.stream, &a.log) == (&b.name, &b.stream, &b.log);
+    assert!(entries.iter().zip(&again).all(same));
+}
+
+#[test]
+fn map_order_changes_no_resolved_type() {
+    let entries: Vec<_> = (0..500).map(|i| list::entry(&order::made(3, i))).collect();
+    let counts = order::compare(&entries);
+    assert_eq!(counts["jobs"], 500);
+    for what in ["jobs of unequal length", "lines before SV that differ", "of these, resolved types differ"] {
+        assert_eq!(counts[what], 0, "{}", what)
+    }
+    assert_eq!(counts["of these, bytes differ"] > 0, REAL_MAP);
+}
+
+//---- text ------------------------------------------------------------------------------------------------------
+
+#[test]
+fn text_round_trip() {
+    with_stack(|| {
+        for m in made() {
+            let text = disassemble(&m.stream);
+            assert!(!text.contains("hex"), "{}", m.name);
+            assert_eq!(text.lines().count(), m.outcomes.len(), "{}", m.name);
+            assert_eq!(assemble(&text, false).as_deref(), Ok(&m.stream[..]), "{}", m.name);
+        }
+    })
+}
+
+#[test]
+fn text_round_trip_of_spoilt_streams() {
+    let mut chance = Chance::new(14, 0);
+    for i in 0..3000 {
+        let mut stream = gen::random(14, i, 8, None, false).stream;
+        let at = chance.below(stream.len());
+        match chance.below(3) {
+            0 => stream[at] = chance.bits() as u8,
+            1 => stream.truncate(at),
+            _ => drop(stream.remove(at)),
+        }
+        let text = disassemble(&stream);
+        assert_eq!(assemble(&text, false).as_deref(), Ok(&stream[..]), "{}", hex(&stream));
+    }
+}
+
+#[test]
+fn text_that_is_no_job_is_refused() {
+    let lines = [
+        "XX u8",
+        "JN u8",
+        "JN u8 u8",
+        "JN u8, u8, u8",
+        "UF (u8)",
+        "UF vector",
+        "UF u8<u8>",
+        "UF V70000",
+        "UF Q1",
+        "UF u8{fly}",
+        "UF (_, _, _, _, _, _, _, _, _)",
+        "SN u8",
+        "NC often u8",
+        "TS P1 = u8 u8",
+        "SD copy",
+        "hex 0",
+        "UF &muty",
+        "FV @4294967296",
+        "SD {} <{}, {}>\nUF S0<u8>",
+    ];
+    for line in lines {
+        assert!(assemble(line, false).is_err(), "{}", line)
+    }
+    assert_eq!(assemble("SV\n\n  UF  Q1", false), Err("line 3: a type is wanted at `Q1`".into()));
+}
+
+#[test]
+fn records_round_trip() {
+    let m = gen::random(15, 0, 60, None, true);
+    let (mut known, mut rest) = (oracle::text::any_variable(), &m.stream[..]);
+    while !rest.is_empty() {
+        let (r, n) = read_record(rest, &known).unwrap();
+        assert_eq!(r.bytes(), &rest[..n]);
+        if let Record::SD(_, params) = r {
+            known.params.push(params.len())
+        }
+        rest = &rest[n..];
+    }
+}
+
+//---- printer ------------------------------------------------------------------------------------------------------
+
+#[test]
+fn a_job_and_its_log_for_people() {
+    let stream = asm("FV\nJN V0, vector<u64>\nSU &u8, &mut u8\nJN (u8, bool), (u8,)\nSC ()\nSV\nJN (), _");
+    let (lines, summary) = show(&stream, &log(&stream), Detail::Types);
+    let wanted = "\
+0 FV   → typed V0
+1 JN  V0  ~  vector<u64>   → typed V0
+2 SU  &u8  <:  &mut u8   → subtype error: &u8 where &mut u8 is wanted
+3 JN  (u8, bool)  ~  (u8,)   → arity mismatch: (u8, bool) and (u8,)
+4 SC  ()   → typed
+5 SV   → typed; failed: () is no single type (constraint @14)
+6 JN  ()  ~  _   → typed ()
+";
+    assert_eq!(lines, wanted);
+    let wanted = "7 records; 0 typed: 5, 1 subtype error: 1, 3 arity mismatch: 1; failed constraints: 1; first error: record 2, subtype error";
+    assert_eq!((summary.text().as_str(), summary.code()), (wanted, 1));
+    let stream = asm("FV\nUF V0");
+    assert_eq!(show(&stream, &log(&stream), Detail::Types).1.code(), 0);
+    for log in ["", "0 0 06010000000000\n", "0 0 06010000000000\n1 0 0702000000\n2 0\n", "0 0 0601\n1 0 0702000000\n"] {
+        assert_eq!(show(&stream, log, Detail::Types).1.code(), 2, "{}", log)
+    }
+}
+
+#[test]
+fn every_made_job_can_be_shown() {
+    with_stack(|| {
+        for m in made() {
+            let e = list::entry(&m);
+            let (_, summary) = show(&e.stream, &e.log, Detail::Full);
+            assert_eq!(summary.wrong, None, "{}", m.name);
+        }
+    })
+}
