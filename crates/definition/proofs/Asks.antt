@@ -9,7 +9,7 @@ use lib.ListN.{length}
 use lib.Dec.{leb}
 use Rattle.definition.specs.Types.{TypeName, Var, State, max-depth, answer-too-long, unsound-state, Result, ok, err, refused, _>>=_, if_then_else_}
 use Rattle.definition.specs.Store.{count, taken, sp}
-use Rattle.definition.specs.Subst.{unfold-type}
+use Rattle.definition.specs.Subst.{forward-tvar, unfold-type}
 use Rattle.definition.specs.Join.{TypingCase, Join, Subtype, join-impl, join, subtype}
 use Rattle.definition.specs.Constraints.{num-vars, undecided, u64, default-num-var}
 use Rattle.definition.specs.Write.{Bytes, write}
@@ -27,8 +27,7 @@ use Rattle.definition.proofs.Facts.{and-r, facts}
 use Rattle.definition.proofs.WellRead.{ReadWell, given, Fine, FineRecord, well-read}
 use Rattle.definition.proofs.Went.{Went, PostS, ps-ok}
 use Rattle.definition.proofs.Runs.{Declared, declared-on, Below, below-on, num-vars-below, place-went, u64-ok, default-went}
-use Rattle.definition.proofs.Calm.{Calm}
-use Rattle.definition.proofs.NoFail.{Gives, gives, gives-ok, calm-placed, new-calm, calm-default}
+use Rattle.definition.proofs.NoFail.{Sure, sure-ok, sure-is, CalmAt, placed-sure, new-calm, default-sure}
 
 -- the answer is 0, and no variable reaches itself in the state that it leaves
 abbrev pub Typed : Answer → Type 0
@@ -112,7 +111,7 @@ module _ {E : Type 0} where
             from = q .sound;
             l-in = omega (arith, p .t-in, q .quiet .q-nodes);
             r-in = q .t-in;
-            clear = λ x s′ t j. gives-ok (calm-placed s v loc l r h e p q) j .none-still (new-calm (p .sound) q .none-still (new-calm s p .none-still (z x)));
+            clear = λ x s′ t j. sure-is (placed-sure s v loc l r h e p q) j .calm .none-still (new-calm (p .sound) q .none-still (new-calm s p .none-still (z x)));
           })))
 
   nums-fair : {ar : TypeName → ℕ} (l : List (ℕ × ℕ)) (S : State) → Sound ar S → Declared ar S → Below (taken S) l → (E → None-reaches-itself S) → All-fair E (ask-nums S l)
@@ -120,11 +119,11 @@ module _ {E : Type 0} where
   nums-fair [] S s d h z = none-fair
   nums-fair {ar} ((v, loc) ∷ l) S s d h z =
       both-fair _ _ (num-fair S s d v loc (h .0) z)
-      (go (default-num-var S v loc) (default-went v loc s d (h .0)) (calm-default s d v loc (h .0)) (λ S′ s′ d′ h′ z′. nums-fair l S′ s′ d′ h′ z′))
+      (go (default-num-var S v loc) (default-went v loc s d (h .0)) (default-sure s d v loc (h .0)) (λ S′ s′ d′ h′ z′. nums-fair l S′ s′ d′ h′ z′))
     where
-      go : (m : Result State) → PostS ar S (Went ar S) m → Gives (Calm S) m → ((S′ : State) → Sound ar S′ → Declared ar S′ → Below (taken S′) l → (E → None-reaches-itself S′) → All-fair E (ask-nums S′ l))
+      go : (m : Result State) → PostS ar S (Went ar S) m → Sure (CalmAt S (forward-tvar S v)) m → ((S′ : State) → Sound ar S′ → Declared ar S′ → Below (taken S′) l → (E → None-reaches-itself S′) → All-fair E (ask-nums S′ l))
           → All-fair E (elim m [ ok s ↦ ask-nums s l | err s e ↦ [] | refused x ↦ [] ])
-      go (ok S′) (ps-ok g w) (gives c) f = f S′ (w .sound) (declared-on d g) (below-on (w .above .more-vars) l (h .1)) (λ x. c .none-still (z x))
+      go (ok S′) (ps-ok g w) (sure-ok c) f = f S′ (w .sound) (declared-on d g) (below-on (w .above .more-vars) l (h .1)) (λ x. c .calm .none-still (z x))
       go (refused x) p c f = none-fair
 
   -- ---- a record, where none reaches itself before it, and it answers 0 and leaves none that reaches itself, or is SV
@@ -146,9 +145,9 @@ module _ {E : Type 0} where
   asks-fair S s (SC loc t) f n z = none-fair
   asks-fair S s SV f n z = nums-fair (num-vars 0 (S .vars)) S s (λ n. refl) (num-vars-below 0 (S .vars) (taken S) (omega arith)) n
 
-  lent-fair : (s : State) → Sound (arity s) s → (r : Read Record) → ReadWell ⊥ s r → (E → None-reaches-itself s) → (E → Typed (lent s r) ⊎ (r ≡ got SV [])) → All-fair E (lent-asks s r)
+  lent-fair : (s : State) → Sound (arity s) s → {k : ℕ} (r : Read Record) → ReadWell ⊥ s k r → (E → None-reaches-itself s) → (E → Typed (lent s r) ⊎ (r ≡ got SV [])) → All-fair E (lent-asks s r)
   unfolding lent-asks lent
-  lent-fair s h (got r []) (given f i) n z = asks-fair s h r (f .0) n (λ e. elim (z e) [ inl t ↦ inl t | inr d ↦ inr (cc) ])
+  lent-fair s h (got r []) (given f i l) n z = asks-fair s h r (f .0) n (λ e. elim (z e) [ inl t ↦ inl t | inr d ↦ inr (cc) ])
   lent-fair s h (got r (b ∷ rest)) f n z = none-fair
   lent-fair s h (not-read x) f n z = none-fair
 

@@ -40,3 +40,13 @@ pub mod Nine
 pub mod Late
 pub mod Refused
 pub mod SoundKept
+pub mod BookTypes
+pub mod BookJoin
+pub mod BookLiteral
+pub mod BookRoom
+pub mod Book
+pub mod Enough
+pub mod Decimal
+pub mod NumericCheck
+pub mod NoFailIn
+pub mod Stream

@@ -176,11 +176,11 @@ with-good s h n l p s′ h′ = go (leb (length p) max-payload)
     go true = record { left = h′; no-15 = l }
     go false = record { left = h; no-15 = omega arith }
 
-run-time-number : {x : Refusal} → Run-time x → number-of-refusal x < 15
+run-time-number : {z : Bool} {x : Refusal} → Run-time z x → number-of-refusal x < 15
 unfolding number-of-refusal
 run-time-number seven = omega arith
 run-time-number eight = omega arith
-run-time-number nine = omega arith
+run-time-number (nine y) = omega arith
 run-time-number ten = omega arith
 run-time-number eleven = omega arith
 run-time-number twelve = omega arith
@@ -196,21 +196,21 @@ module _ (s : State) (h : sound s ≡ true) where
   unfolding refusal
   refusal-good x l = record { left = h; no-15 = l }
 
-  answer-good : (m : Result (State × Bytes)) → Leaves (arity s) s m → Run (Unit {0}) s m → Good (answer s m)
+  answer-good : (m : Result (State × Bytes)) → Leaves (arity s) s m → Run (Unit {0}) s true m → Good (answer s m)
   unfolding answer
   answer-good (ok (s′, p)) (l-ok w) (e-ok i) = with-good s h 0 (omega arith) p s′ (still-sound (w .sound) (i tt))
   answer-good (err s′ e) (l-err g n) (e-err i) = with-good s h (number-of-error e) (omega (arith, error-number e)) _ (put-back s s′) (still-sound (sound-put-back (facts s h) g n) (put-back-ranges (ranges-of s h) (i tt)))
   answer-good (refused x) l-refused (e-refused t) = refusal-good x (run-time-number t)
 
-  lent-good : (r : Read Record) → ReadWell (Unit {0}) s r → Good (lent s r)
+  lent-good : {n : ℕ} (r : Read Record) → ReadWell (Unit {0}) s n r → Good (lent s r)
   unfolding lent number-of-refusal
-  lent-good (got r []) (given f i) = answer-good (run s r) (run-leaves s (facts s h) r (f .0)) (run-walk (Unit {0}) s s (λ u. ranges-of s h) r (f .1))
+  lent-good (got r []) (given f i l) = answer-good (run s r) (run-leaves s (facts s h) r (f .0)) (run-walk (Unit {0}) s true refl s (λ u. ranges-of s h) r (f .1))
   lent-good (got r (b ∷ rest)) f = refusal-good _ (omega arith)
   lent-good (not-read x) (not-given t) = refusal-good x (read-time-number t)
 
-  streamed-good : (bytes : Bytes) → Is-bytes bytes → (r : Read Record) → ReadWell (Unit {0}) s r → Good (streamed s bytes r .0) × Is-bytes (streamed s bytes r .1)
+  streamed-good : (bytes : Bytes) → Is-bytes bytes → {n : ℕ} (r : Read Record) → ReadWell (Unit {0}) s n r → Good (streamed s bytes r .0) × Is-bytes (streamed s bytes r .1)
   unfolding streamed
-  streamed-good bytes is (got r rest) (given f i) = (answer-good (run s r) (run-leaves s (facts s h) r (f .0)) (run-walk (Unit {0}) s s (λ u. ranges-of s h) r (f .1)), i tt)
+  streamed-good bytes is (got r rest) (given f i l) = (answer-good (run s r) (run-leaves s (facts s h) r (f .0)) (run-walk (Unit {0}) s true refl s (λ u. ranges-of s h) r (f .1)), i tt)
   streamed-good bytes is (not-read x) (not-given t) = (refusal-good x (read-time-number t), is)
 
 -- ---- the theorem

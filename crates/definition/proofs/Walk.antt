@@ -1,4 +1,4 @@
--- Every call of a run, walked once: it refuses with 7 to 13 alone, and where a claim H says that the state and the record are in range, so is what it leaves.
+-- Every call of a run, walked once: it refuses with 7 to 13 alone, with 9 only where a walk runs out of steps, and where a claim H says that the state and the record are in range, so is what it leaves.
 -- Assumes nothing.
 use mathlib.Core.Path.{_≡_, refl}
 use mathlib.Core.Bool.{Bool, true, false, not, _&&_}
@@ -29,33 +29,33 @@ use Rattle.definition.proofs.Main.{Took, took, took-any-l, took-any-r, 
 use Rattle.definition.proofs.Ranges.{U32, ShapeIn, CellIn, ConstraintIn, StructIn, Ranges, declare-ranges, loc-of-in, value-in, name-in, cell-in, node-ranges, var-ranges, insert-ranges, add-ranges, num-var-ranges, merge-ranges, staying-ranges}
 use Rattle.definition.proofs.WellRead.{TreeIn, TreesIn, RecordIn}
 
--- 7 to 13
-pub data Run-time : Refusal → Type 0 where
-  seven : Run-time full
-  eight : Run-time too-deep
-  nine : Run-time runs-into-itself
-  ten : Run-time abilities-disagree
-  eleven : Run-time open-variable
-  twelve : Run-time no-argument
-  thirteen : Run-time parameter-twice
+-- 7 to 13, of which 9 only if z
+pub data Run-time (z : Bool) : Refusal → Type 0 where
+  seven : Run-time z full
+  eight : Run-time z too-deep
+  nine : z ≡ true → Run-time z runs-into-itself
+  ten : Run-time z abilities-disagree
+  eleven : Run-time z open-variable
+  twelve : Run-time z no-argument
+  thirteen : Run-time z parameter-twice
 
 -- a success has P, an error is met in a state that has E
-pub data Ends {A : Type 0} (E : State → Type 0) (P : A → Type 0) : Result A → Type 0 where
-  e-ok : {a : A} → P a → Ends E P (ok a)
-  e-err : {s : State} {e : TypingError} → E s → Ends E P (err s e)
-  e-refused : {x : Refusal} → Run-time x → Ends E P (refused x)
+pub data Ends {A : Type 0} (z : Bool) (E : State → Type 0) (P : A → Type 0) : Result A → Type 0 where
+  e-ok : {a : A} → P a → Ends z E P (ok a)
+  e-err : {s : State} {e : TypingError} → E s → Ends z E P (err s e)
+  e-refused : {x : Refusal} → Run-time z x → Ends z E P (refused x)
 
-bind : {A B : Type 0} {E : State → Type 0} {P : A → Type 0} {Q : B → Type 0} {m : Result A} (f : A → Result B) → Ends E P m → ((a : A) → P a → Ends E Q (f a)) → Ends E Q (m >>= f)
+bind : {A B : Type 0} {z : Bool} {E : State → Type 0} {P : A → Type 0} {Q : B → Type 0} {m : Result A} (f : A → Result B) → Ends z E P m → ((a : A) → P a → Ends z E Q (f a)) → Ends z E Q (m >>= f)
 unfolding _>>=_
 bind f (e-ok {a = a} p) h = h a p
 bind f (e-err p) h = e-err p
 bind f (e-refused r) h = e-refused r
 
-either : {A : Type 0} {E : State → Type 0} {P : A → Type 0} (b : Bool) {x y : Result A} → (b ≡ true → Ends E P x) → (b ≡ false → Ends E P y) → Ends E P (if b then x else y)
+either : {A : Type 0} {z : Bool} {E : State → Type 0} {P : A → Type 0} (b : Bool) {x y : Result A} → (b ≡ true → Ends z E P x) → (b ≡ false → Ends z E P y) → Ends z E P (if b then x else y)
 either true p q = p refl
 either false p q = q refl
 
-maybe : {A : Type 0} {E : State → Type 0} {P : A → Type 0} (o : Option ℕ) {x : Result A} {f : ℕ → Result A} → Ends E P x → ((t : ℕ) → Ends E P (f t)) → Ends {A = A} E P (elim o [ none ↦ x | some t ↦ f t ])
+maybe : {A : Type 0} {z : Bool} {E : State → Type 0} {P : A → Type 0} (o : Option ℕ) {x : Result A} {f : ℕ → Result A} → Ends z E P x → ((t : ℕ) → Ends z E P (f t)) → Ends {A = A} z E P (elim o [ none ↦ x | some t ↦ f t ])
 maybe none p q = p
 maybe (some t) p q = q t
 
@@ -77,7 +77,7 @@ u64-in b = refl
 abbrev IsSet : ℕ → Type 0
 IsSet a = is-set a ≡ true
 
-tparams-in : (s : State) (n : TypeName) → All IsSet (tparam-constraints s n)
+pub tparams-in : (s : State) (n : TypeName) → All IsSet (tparam-constraints s n)
 unfolding tparam-constraints builtin-tparams is-set
 tparams-in s (Multiple len) = zeros len
   where
@@ -121,25 +121,25 @@ num-vars-in v (c ∷ cells) h = go (c .numeric) (h .0 .mark-in) (num-vars-in (su
 
 -- ---- the state
 
-module _ (H : Type 0) (b : State) where
+module _ (H : Type 0) (b : State) (z : Bool) where
   abbrev pub In : State → Type 0
   In s = H → Ranges b s
 
   -- it leaves a state, and something that is of no matter here. E: what a call that meets no error need not ask
   abbrev pub RunOr : (State → Type 0) → {B : Type 0} → Result (State × B) → Type 0
-  RunOr E m = Ends E (λ a. In (a .0)) m
+  RunOr E m = Ends z E (λ a. In (a .0)) m
 
   abbrev pub Run : {B : Type 0} → Result (State × B) → Type 0
   Run m = RunOr In m
 
-  sp-run : {E : State → Type 0} (s : State) → In s → (l : ℕ) → (H → U32 l) → (x : Type-value) → (H → ShapeIn b x) → RunOr E (sp s l x)
+  pub sp-run : {E : State → Type 0} (s : State) → In s → (l : ℕ) → (H → U32 l) → (x : Type-value) → (H → ShapeIn b x) → RunOr E (sp s l x)
   sp-run {E} s i l u x f = with-room (RunOr E) (sp-room s l x) (λ e. e-ok (λ h. node-ranges (i h) l x (u h) (f h) (e .0) (e .1))) (e-refused seven)
 
   tvar-run : (s : State) → In s → Run (next-tvar s)
   tvar-run s i = with-room Run (tvar-room s) (λ e. e-ok (λ h. var-ranges (i h) e)) (e-refused seven)
 
-  add-run : (s : State) → In s → (c : Constraint) → (H → ConstraintIn c) → Ends In In (add-constraint s c)
-  add-run s i c f = with-room (Ends In In) (constraint-room s c) (λ e. e-ok (λ h. add-ranges (i h) c (f h) e)) (e-refused seven)
+  pub add-run : (s : State) → In s → (c : Constraint) → (H → ConstraintIn c) → Ends z In In (add-constraint s c)
+  add-run s i c f = with-room (Ends z In In) (constraint-room s c) (λ e. e-ok (λ h. add-ranges (i h) c (f h) e)) (e-refused seven)
 
   abbrev Runs : (State → Type 0) → (State → ℕ → Result (State × ℕ)) → Type 0
   Runs E f = (s : State) → In s → (t : ℕ) → RunOr E (f s t)
@@ -274,34 +274,34 @@ module _ (H : Type 0) (b : State) where
     subst-value-run subst (Param id a) g = maybe (arg-of subst id) (e-refused twelve) (λ t. e-ok i)
     subst-value-run subst (Apply k n tys) g = bind _ (map-run f r tys s i) (λ x j. sp-run (x .0) j loc u (Apply k n (x .1)) g)
 
-  ready-run : {E : State → Type 0} (n : ℕ) → Runs E (ready n)
+  ready-run : {E : State → Type 0} → z ≡ true → (n : ℕ) → Runs E (ready n)
   unfolding ready
-  ready-run zero s i ty = e-refused nine
-  ready-run (suc n) s i ty = ready-value-run (λ s t. ready n s t) (λ s i t. ready-run n s i t) s i ty (loc-of s ty) (λ h. loc-of-in (i h) ty) (value s ty) (λ h. value-in (i h) ty)
+  ready-run y zero s i ty = e-refused (nine y)
+  ready-run y (suc n) s i ty = ready-value-run (λ s t. ready n s t) (λ s i t. ready-run y n s i t) s i ty (loc-of s ty) (λ h. loc-of-in (i h) ty) (value s ty) (λ h. value-in (i h) ty)
 
-  pub ready-tvars-run : {E : State → Type 0} → Runs E ready-tvars
+  pub ready-tvars-run : {E : State → Type 0} → z ≡ true → Runs E ready-tvars
   unfolding ready-tvars
-  ready-tvars-run {E} s i ty = go (reaches-itself s ty)
+  ready-tvars-run {E} y s i ty = go (reaches-itself s ty)
     where
       go : (x : Bool) → RunOr E {B = ℕ} (elim x [ true ↦ refused runs-into-itself | false ↦ ready (2 * count s) s ty ])
-      go true = e-refused nine
-      go false = ready-run (2 * count s) s i ty
+      go true = e-refused (nine y)
+      go false = ready-run y (2 * count s) s i ty
 
-  pub subst-run : {E : State → Type 0} (n : ℕ) (subst : TParamSubst) → Runs E (subst-down n subst)
+  pub subst-run : {E : State → Type 0} → z ≡ true → (n : ℕ) (subst : TParamSubst) → Runs E (subst-down n subst)
   unfolding subst-down
-  subst-run zero subst s i ty = e-refused nine
-  subst-run (suc n) subst s i ty = subst-value-run (λ s t. subst-down n subst s t) (λ s i t. subst-run n subst s i t) s i ty (loc-of s ty) (λ h. loc-of-in (i h) ty) subst (value s ty) (λ h. value-in (i h) ty)
+  subst-run y zero subst s i ty = e-refused (nine y)
+  subst-run y (suc n) subst s i ty = subst-value-run (λ s t. subst-down n subst s t) (λ s i t. subst-run y n subst s i t) s i ty (loc-of s ty) (λ h. loc-of-in (i h) ty) subst (value s ty) (λ h. value-in (i h) ty)
 
-  pub make-run : {E : State → Type 0} (ps : List (ℕ × ℕ)) → Ends E (λ subst. Unit {0}) (make-tparam-subst ps)
+  pub make-run : {E : State → Type 0} (ps : List (ℕ × ℕ)) → Ends z E (λ subst. Unit {0}) (make-tparam-subst ps)
   unfolding make-tparam-subst
   make-run [] = e-ok tt
   make-run ((id, arg) ∷ ps) = bind _ (make-run ps) (λ subst p. maybe (arg-of subst id) (e-ok tt) (λ old. e-refused thirteen))
 
-  make-tvar-run : (s : State) → In s → (l : ℕ) → (H → U32 l) → Run (make-tvar s l)
+  pub make-tvar-run : (s : State) → In s → (l : ℕ) → (H → U32 l) → Run (make-tvar s l)
   unfolding make-tvar
   make-tvar-run s i l u = bind _ (tvar-run s i) (λ x j. sp-run (x .0) j l u (Var (x .1)) (λ h. tt))
 
-  tparams-run : (s : State) → In s → (loc : ℕ) → (H → U32 loc) → (n : TypeName) (tys cs : List ℕ) → All IsSet cs → Run (make-tparams s loc n tys cs)
+  pub tparams-run : (s : State) → In s → (loc : ℕ) → (H → U32 loc) → (n : TypeName) (tys cs : List ℕ) → All IsSet cs → Run (make-tparams s loc n tys cs)
   unfolding make-tparams
   tparams-run s i loc u n [] cs a = e-ok i
   tparams-run s i loc u n (ty ∷ tys) [] a = e-ok i
@@ -311,7 +311,7 @@ module _ (H : Type 0) (b : State) where
       bind _ (add-run y i2 (tvar-constraint n loc (x .1)) (λ h. tvar-constraint-in n loc (x .1) (u h))) (λ z i3.
       bind _ (tparams-run z i3 loc u n tys cs (a .1)) (λ w i4. e-ok i4))))
 
-  join-args-run : (s : State) → In s → (vs ts : List ℕ) → Run (join-args s vs ts)
+  pub join-args-run : (s : State) → In s → (vs ts : List ℕ) → Run (join-args s vs ts)
   unfolding join-args join
   join-args-run s i [] ts = e-ok i
   join-args-run s i (v ∷ vs) [] = e-ok i
@@ -328,23 +328,23 @@ module _ (H : Type 0) (b : State) where
   inst-value-run f r s i ty loc u (Param id a) g = e-ok i
   inst-value-run f r s i ty loc u (Var v) g = e-refused eleven
 
-  inst-run : (n : ℕ) → Runs In (instantiate-down n)
+  inst-run : z ≡ true → (n : ℕ) → Runs In (instantiate-down n)
   unfolding instantiate-down
-  inst-run zero s i ty = e-refused nine
-  inst-run (suc n) s i ty = inst-value-run (λ s t. instantiate-down n s t) (λ s i t. inst-run n s i t) s i ty (loc-of s ty) (λ h. loc-of-in (i h) ty) (value s ty) (λ h. value-in (i h) ty)
+  inst-run y zero s i ty = e-refused (nine y)
+  inst-run y (suc n) s i ty = inst-value-run (λ s t. instantiate-down n s t) (λ s i t. inst-run y n s i t) s i ty (loc-of s ty) (λ h. loc-of-in (i h) ty) (value s ty) (λ h. value-in (i h) ty)
 
-  default-run : (s : State) → In s → (v loc : ℕ) → (H → U32 loc) → Ends In In (default-num-var s v loc)
+  default-run : (s : State) → In s → (v loc : ℕ) → (H → U32 loc) → Ends z In In (default-num-var s v loc)
   unfolding default-num-var join
   default-run s i v loc u = go (undecided _) (
       bind _ (sp-run s i loc u u64 (λ h. u64-in b)) (λ x i1.
       bind _ (sp-run (x .0) i1 loc u (Var v) (λ h. tt)) (λ y i2.
       bind _ (join-run max-depth (y .0) i2 _ (x .1) (y .1)) (λ z i3. e-ok i3))))
     where
-      go : (c : Bool) {x : Result State} → Ends In In x → Ends {A = State} In In (elim c [ false ↦ ok s | true ↦ x ])
+      go : (c : Bool) {x : Result State} → Ends z In In x → Ends {A = State} z In In (elim c [ false ↦ ok s | true ↦ x ])
       go false p = e-ok i
       go true p = p
 
-  defaults-run : (l : List (ℕ × ℕ)) → (H → LocsIn l) → (s : State) → In s → Ends In In (default-num-vars s l)
+  defaults-run : (l : List (ℕ × ℕ)) → (H → LocsIn l) → (s : State) → In s → Ends z In In (default-num-vars s l)
   unfolding default-num-vars
   defaults-run [] f s i = e-ok i
   defaults-run ((v, loc) ∷ l) f s i = bind _ (default-run s i v loc (λ h. f h .0)) (λ x j. defaults-run l (λ h. f h .1) x j)
@@ -362,20 +362,20 @@ module _ (H : Type 0) (b : State) where
   declare-run : (s : State) → In s → (a : ℕ) (ps : List ℕ) → (H → StructIn (record { abilities = a; params = ps })) → Run (declare s a ps)
   declare-run s i a ps f = with-room Run (struct-room s a ps) (λ e. e-ok (λ h. declare-ranges (i h) _ (f h) e)) (e-refused seven)
 
-  pub run-walk : (s : State) → In s → (r : Record) → (H → RecordIn b r) → Run (run s r)
+  pub run-walk : z ≡ true → (s : State) → In s → (r : Record) → (H → RecordIn b r) → Run (run s r)
   unfolding run join subtype subst-tparams instantiate solve-constraints
-  run-walk s i (SD a ps) f = bind _ (declare-run s i a ps f) (λ x j. e-ok j)
-  run-walk s i (FV loc) f = bind _ (tvar-run s i) (λ x j. e-ok j)
-  run-walk s i (NV loc) f = bind _ (tvar-run s i) (λ x j. e-ok (λ h. num-var-ranges (j h) (x .1) loc (f h)))
-  run-walk s i (SN v loc) f = e-ok (λ h. num-var-ranges (i h) v loc (f h))
-  run-walk s i (JN t1 t2) f = two-run _ (λ s i l r. join-run max-depth s i _ l r) s i t1 t2 f
-  run-walk s i (SU t1 t2) f = two-run _ (λ s i l r. join-run max-depth s i _ l r) s i t1 t2 f
-  run-walk s i (UF t) f = bind _ (place-run t f s i) (λ x j. e-ok i)
-  run-walk s i (RD t) f = bind _ (place-run t f s i) (λ x j. bind _ (ready-tvars-run (x .0) j (x .1)) (λ y k. e-ok i))
-  run-walk s i (IN t) f = bind _ (place-run t f s i) (λ x j. bind _ (inst-run _ (x .0) j (x .1)) (λ y k. e-ok k))
-  run-walk s i (TS ps t) f =
-      bind _ (pairs-run ps (λ h. f h .0) s i) (λ x i1. bind _ (place-run t (λ h. f h .1) (x .0) i1) (λ y i2. bind _ (make-run (x .1)) (λ subst p. bind _ (subst-run _ subst (y .0) i2 (y .1)) (λ z i3. e-ok i))))
-  run-walk s i (NC loc kind t) f = constrain-run s i t (λ h. f h .1) _ (λ ty h. numeric-in kind loc ty (f h .0))
-  run-walk s i (BC loc t) f = constrain-run s i t (λ h. f h .1) _ (λ ty h. f h .0)
-  run-walk s i (SC loc t) f = constrain-run s i t (λ h. f h .1) _ (λ ty h. f h .0)
-  run-walk s i SV f = bind _ (defaults-run _ (λ h. num-vars-in 0 (s .vars) (i h .cells-in)) s i) (λ x j. e-ok (λ h. staying-ranges (j h)))
+  run-walk y s i (SD a ps) f = bind _ (declare-run s i a ps f) (λ x j. e-ok j)
+  run-walk y s i (FV loc) f = bind _ (tvar-run s i) (λ x j. e-ok j)
+  run-walk y s i (NV loc) f = bind _ (tvar-run s i) (λ x j. e-ok (λ h. num-var-ranges (j h) (x .1) loc (f h)))
+  run-walk y s i (SN v loc) f = e-ok (λ h. num-var-ranges (i h) v loc (f h))
+  run-walk y s i (JN t1 t2) f = two-run _ (λ s i l r. join-run max-depth s i _ l r) s i t1 t2 f
+  run-walk y s i (SU t1 t2) f = two-run _ (λ s i l r. join-run max-depth s i _ l r) s i t1 t2 f
+  run-walk y s i (UF t) f = bind _ (place-run t f s i) (λ x j. e-ok i)
+  run-walk y s i (RD t) f = bind _ (place-run t f s i) (λ x j. bind _ (ready-tvars-run y (x .0) j (x .1)) (λ r k. e-ok i))
+  run-walk y s i (IN t) f = bind _ (place-run t f s i) (λ x j. bind _ (inst-run y _ (x .0) j (x .1)) (λ r k. e-ok k))
+  run-walk y s i (TS ps t) f =
+      bind _ (pairs-run ps (λ h. f h .0) s i) (λ x i1. bind _ (place-run t (λ h. f h .1) (x .0) i1) (λ r i2. bind _ (make-run (x .1)) (λ subst p. bind _ (subst-run y _ subst (r .0) i2 (r .1)) (λ t i3. e-ok i))))
+  run-walk y s i (NC loc kind t) f = constrain-run s i t (λ h. f h .1) _ (λ ty h. numeric-in kind loc ty (f h .0))
+  run-walk y s i (BC loc t) f = constrain-run s i t (λ h. f h .1) _ (λ ty h. f h .0)
+  run-walk y s i (SC loc t) f = constrain-run s i t (λ h. f h .1) _ (λ ty h. f h .0)
+  run-walk y s i SV f = bind _ (defaults-run _ (λ h. num-vars-in 0 (s .vars) (i h .cells-in)) s i) (λ x j. e-ok (λ h. staying-ranges (j h)))
