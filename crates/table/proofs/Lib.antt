@@ -7,3 +7,4 @@ pub mod Steps
 pub mod States
 pub mod Pushed
 pub mod Primitives
+pub mod Encoded

@@ -2,3 +2,4 @@
 pub mod Tab
 pub mod Rows
 pub mod State
+pub mod Encode

@@ -97,6 +97,10 @@ done Twice = Nothing
 
 -- ---- the state
 
+-- the counts that the words have
+abbrev pub used-at : List ℕ → Used
+used-at w = record { nodes = getD w 0 0; args = getD w 1 0; vars = getD w 2 0; constraints = getD w 3 0; structs = getD w 4 0 }
+
 -- what the words hold. The structs' parameter bytes stand beside them: here they are zeros
 unfoldable pub view : List ℕ → Used → State
 view w u = record {

@@ -9,7 +9,8 @@ ghost use Rattle.definition.specs.Store.{node, get, num-loc, args-at, sp, next-
 ghost use Rattle.definition.specs.Subst.{or-insert, mark-one};
 ghost use Rattle.names.specs.Names.{mark-of, name-of};
 ghost use Rattle.table.specs.Rows.{flag, read-shape, read-mark, read-name, read-option, mark-word, name-word, name-tag, option-flag, option-word, read-constraint, node-table, var-table, constraint-table, struct-table, places, Written};
-ghost use Rattle.table.specs.State.{found, shape-of, node-of, node-at, cell, value-of, constraint-of, done, view, seen, Lay, Changed, After, Stored, Wrote, with-cell, Declares, Declared, Flat, Found-in, Parts, Var-in, pushed-constraint};
+ghost use Rattle.table.specs.Encode.{encode};
+ghost use Rattle.table.specs.State.{used-at, found, shape-of, node-of, node-at, cell, value-of, constraint-of, done, view, seen, Lay, Changed, After, Stored, Wrote, with-cell, Declares, Declared, Flat, Found-in, Parts, Var-in, pushed-constraint};
 use names::AbilitySet;
 use names::MAX_ARGS;
 use names::MAX_CONSTRAINTS;
@@ -270,6 +271,35 @@ fn row_of(loc: u32, shape: Shape) -> [u32; 8]
         Shape::Anything => [7, loc, 0, 0, 0, 0, 0, 0],
         Shape::UnresolvedError => [8, loc, 0, 0, 0, 0, 0, 0],
     }
+}
+
+// ---- the counts
+
+// The counts as the words have them.
+pub fn used_of(w: &[u32]) -> Used
+    requires { ⌜ 5 ≤ length (now w) ⌝ }
+    ensures { λ r. ⌜ r ≡ used-at (now (w .entry)) ⌝ }
+{
+    Used {
+        nodes: w[0],
+        args: w[1],
+        vars: w[2],
+        constraints: w[3],
+        structs: w[4],
+    }
+}
+
+// The counts are written: the words are the state's, outright.
+pub fn write_used(w: &mut [u32], u: Used)
+    requires { ⌜ Lay (now w) u ⌝ }
+    ensures { λ _. ⌜ ((ds : List d.Struct) → Declares (now (w .entry)) u ds → now (w .exit) ≡ encode (seen (now (w .entry)) u ds)) ⌝ }
+{
+    write_row(
+        w,
+        0,
+        [u.nodes, u.args, u.vars, u.constraints, u.structs, 0, 0, 0],
+        5,
+    );
 }
 
 // ---- nodes and argument places

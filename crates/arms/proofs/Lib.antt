@@ -1,0 +1,2 @@
+-- Laws of the arms. Assumes nothing.
+pub mod Guards

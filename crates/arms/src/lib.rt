@@ -1,0 +1,257 @@
+// Which arm of join_impl two types take: the match of typing/core.rs on both operands, with its guards.
+ghost use Rattle.definition.specs.Join as d;
+ghost use mathlib.Core.Path.{_≡_};
+ghost use Rattle.names.specs.Names.{mark-of, name-of};
+ghost use Rattle.table.specs.declared.Shape.the-variants.{Unit, Ref, Param, Apply, Var, UnresolvedError};
+ghost use Rattle.arms.specs.Arms.{case-of, Takes};
+use names::AbilitySet;
+use names::Mark;
+use names::TParamID;
+use names::TVar;
+use names::TypeName;
+use table::Shape;
+
+pub enum TypingCase {
+    Join,
+    Subtype,
+}
+
+pub enum Arm {
+    // The answer is that operand.
+    Left,
+    Right,
+    // Whether the result is at the left location, whether it is mutable, and the two inner types.
+    Refs(bool, bool, u32, u32),
+    // The result's mark and name, and the argument places of both: the first and how many.
+    Applies(Mark, TypeName, u32, u32, u32, u32),
+    Vars(TVar, TVar),
+    // That operand is the variable.
+    VarLeft(TVar),
+    VarRight(TVar),
+    SubtypeError,
+    ArityMismatch,
+    Incompatible,
+    Disagree,
+}
+
+// n1 == n2
+fn same_name(n1: TypeName, n2: TypeName) -> bool
+    ensures { λ r. ⌜ r ≡ d.same-name (name-of n1) (name-of n2) ⌝ }
+{
+    match n1 {
+        TypeName::Multiple(a) => match n2 {
+            TypeName::Multiple(b) => a == b,
+            TypeName::Builtin(_) => false,
+            TypeName::ModuleType(_) => false,
+        },
+        TypeName::Builtin(a) => match n2 {
+            TypeName::Multiple(_) => false,
+            TypeName::Builtin(b) => a == b,
+            TypeName::ModuleType(_) => false,
+        },
+        TypeName::ModuleType(a) => match n2 {
+            TypeName::Multiple(_) => false,
+            TypeName::Builtin(_) => false,
+            TypeName::ModuleType(b) => a == b,
+        },
+    }
+}
+
+fn is_multiple(n: TypeName) -> bool
+    ensures { λ r. ⌜ r ≡ d.is-multiple (name-of n) ⌝ }
+{
+    match n {
+        TypeName::Multiple(_) => true,
+        TypeName::Builtin(_) => false,
+        TypeName::ModuleType(_) => false,
+    }
+}
+
+// k1 == k2
+fn same_mark(k1: Mark, k2: Mark) -> bool
+    ensures { λ r. ⌜ r ≡ d.same-mark (mark-of k1) (mark-of k2) ⌝ }
+{
+    match k1 {
+        Mark::Absent => match k2 {
+            Mark::Absent => true,
+            Mark::Set(_) => false,
+        },
+        Mark::Set(a) => match k2 {
+            Mark::Absent => false,
+            Mark::Set(b) => a.0 == b.0,
+        },
+    }
+}
+
+// match (case, mut1, mut2)
+fn arm_refs(case: TypingCase, mut1: bool, t1: u32, mut2: bool, t2: u32) -> Arm
+    ensures { λ a. ⌜ Takes (case-of case) (Ref mut1 t1) (Ref mut2 t2) a ⌝ }
+{
+    match case {
+        TypingCase::Join => {
+            if mut1 {
+                Arm::Refs(false, mut2, t1, t2)
+            } else {
+                Arm::Refs(mut2, false, t1, t2)
+            }
+        }
+        TypingCase::Subtype => {
+            if mut1 {
+                Arm::Refs(false, mut2, t1, t2)
+            } else {
+                if mut2 {
+                    Arm::SubtypeError
+                } else {
+                    Arm::Refs(false, false, t1, t2)
+                }
+            }
+        }
+    }
+}
+
+// Names are compared before marks.
+fn arm_applies(
+    k1: Mark,
+    n1: TypeName,
+    first1: u32,
+    many1: u32,
+    k2: Mark,
+    n2: TypeName,
+    first2: u32,
+    many2: u32,
+) -> Arm
+    ensures { λ a. ⌜ ((case : d.TypingCase) → Takes case (Apply k1 n1 first1 many1) (Apply k2 n2 first2 many2) a) ⌝ }
+{
+    if same_name(n1, n2) {
+        if same_mark(k1, k2) {
+            return Arm::Applies(k2, n2, first1, many1, first2, many2);
+        }
+        return Arm::Disagree;
+    }
+    if is_multiple(n1) {
+        if is_multiple(n2) {
+            return Arm::ArityMismatch;
+        }
+    }
+    Arm::Incompatible
+}
+
+fn arm_unit(rhs: Shape) -> Arm
+    ensures { λ a. ⌜ ((case : d.TypingCase) → Takes case Unit rhs a) ⌝ }
+{
+    match rhs {
+        Shape::Unit => Arm::Right,
+        Shape::Ref(_, _) => Arm::Incompatible,
+        Shape::Param(_, _) => Arm::Incompatible,
+        Shape::Apply(_, _, _, _) => Arm::Incompatible,
+        Shape::Var(id) => Arm::VarRight(id),
+        Shape::Anything => Arm::Left,
+        Shape::UnresolvedError => Arm::Left,
+    }
+}
+
+fn arm_ref(case: TypingCase, mut1: bool, t1: u32, rhs: Shape) -> Arm
+    ensures { λ a. ⌜ Takes (case-of case) (Ref mut1 t1) rhs a ⌝ }
+{
+    match rhs {
+        Shape::Unit => Arm::Incompatible,
+        Shape::Ref(mut2, t2) => arm_refs(case, mut1, t1, mut2, t2),
+        Shape::Param(_, _) => Arm::Incompatible,
+        Shape::Apply(_, _, _, _) => Arm::Incompatible,
+        Shape::Var(id) => Arm::VarRight(id),
+        Shape::Anything => Arm::Left,
+        Shape::UnresolvedError => Arm::Left,
+    }
+}
+
+fn arm_param(id1: TParamID, a1: AbilitySet, rhs: Shape) -> Arm
+    ensures { λ a. ⌜ ((case : d.TypingCase) → Takes case (Param id1 a1) rhs a) ⌝ }
+{
+    match rhs {
+        Shape::Unit => Arm::Incompatible,
+        Shape::Ref(_, _) => Arm::Incompatible,
+        Shape::Param(id2, _) => {
+            if id1.0 == id2.0 {
+                Arm::Right
+            } else {
+                Arm::Incompatible
+            }
+        }
+        Shape::Apply(_, _, _, _) => Arm::Incompatible,
+        Shape::Var(id) => Arm::VarRight(id),
+        Shape::Anything => Arm::Left,
+        Shape::UnresolvedError => Arm::Left,
+    }
+}
+
+fn arm_apply(k1: Mark, n1: TypeName, first1: u32, many1: u32, rhs: Shape) -> Arm
+    ensures { λ a. ⌜ ((case : d.TypingCase) → Takes case (Apply k1 n1 first1 many1) rhs a) ⌝ }
+{
+    match rhs {
+        Shape::Unit => Arm::Incompatible,
+        Shape::Ref(_, _) => Arm::Incompatible,
+        Shape::Param(_, _) => Arm::Incompatible,
+        Shape::Apply(k2, n2, first2, many2) => arm_applies(
+            k1,
+            n1,
+            first1,
+            many1,
+            k2,
+            n2,
+            first2,
+            many2,
+        ),
+        Shape::Var(id) => Arm::VarRight(id),
+        Shape::Anything => Arm::Left,
+        Shape::UnresolvedError => Arm::Left,
+    }
+}
+
+fn arm_var(id1: TVar, rhs: Shape) -> Arm
+    ensures { λ a. ⌜ ((case : d.TypingCase) → Takes case (Var id1) rhs a) ⌝ }
+{
+    match rhs {
+        Shape::Unit => Arm::VarLeft(id1),
+        Shape::Ref(_, _) => Arm::VarLeft(id1),
+        Shape::Param(_, _) => Arm::VarLeft(id1),
+        Shape::Apply(_, _, _, _) => Arm::VarLeft(id1),
+        Shape::Var(id2) => {
+            if id1.0 == id2.0 {
+                Arm::Right
+            } else {
+                Arm::Vars(id1, id2)
+            }
+        }
+        Shape::Anything => Arm::Left,
+        Shape::UnresolvedError => Arm::VarLeft(id1),
+    }
+}
+
+fn arm_error(rhs: Shape) -> Arm
+    ensures { λ a. ⌜ ((case : d.TypingCase) → Takes case UnresolvedError rhs a) ⌝ }
+{
+    match rhs {
+        Shape::Unit => Arm::Right,
+        Shape::Ref(_, _) => Arm::Right,
+        Shape::Param(_, _) => Arm::Right,
+        Shape::Apply(_, _, _, _) => Arm::Right,
+        Shape::Var(id) => Arm::VarRight(id),
+        Shape::Anything => Arm::Left,
+        Shape::UnresolvedError => Arm::Right,
+    }
+}
+
+// match (lhs, rhs)
+pub fn arm_of(case: TypingCase, lhs: Shape, rhs: Shape) -> Arm
+    ensures { λ a. ⌜ Takes (case-of case) lhs rhs a ⌝ }
+{
+    match lhs {
+        Shape::Unit => arm_unit(rhs),
+        Shape::Ref(mut1, t1) => arm_ref(case, mut1, t1, rhs),
+        Shape::Param(id1, a1) => arm_param(id1, a1, rhs),
+        Shape::Apply(k1, n1, first1, many1) => arm_apply(k1, n1, first1, many1, rhs),
+        Shape::Var(id1) => arm_var(id1, rhs),
+        Shape::Anything => Arm::Right,
+        Shape::UnresolvedError => arm_error(rhs),
+    }
+}

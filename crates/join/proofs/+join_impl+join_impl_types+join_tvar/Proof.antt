@@ -1,0 +1,503 @@
+use Rattle.join.proofs.Operands.{ready-in, tvar-stop, tvar-inner, tvar-close, impl-deep, arm-below, arm-left, arm-right, arm-subtype, arm-arity, arm-incompatible, arm-disagree, refs-stop, refs-then, applies-stop, applies-then, arm-vars, left-is, left-merge, right-is, right-merge}
+use Rattle.join.proofs.Args.{Gathering, gather-none, gather-room, gather-in, gather-stop, gather-more, gathered}
+use Rattle.merge.proofs.Answers.{node-in, still-in}
+use Rattle.arms.specs.Arms.{case-of}
+use Rattle.table.proofs.Steps.{after-now}
+use mathlib.Core.Path.{refl, sym, _∙_}
+use native.Mathlib.Omega.{arith}
+use borrow.Author.Needs.{needs}
+use Prim.Native.Nat.{ℕ, _+_, _-_, _<_}
+use borrow.Fn.Kinds.{In}
+use borrow.Fn.PlainCycle.{Measures, is, falls, and}
+use Rattle.join.proofs.join_impl.Reads as join-impl
+use Rattle.join.proofs.join_impl.Kinds as join-impl-kinds
+use Rattle.join.proofs.+join_impl+join_impl_types+join_tvar.Lts-join_impl as join-impl-lts
+use Rattle.join.proofs.join_impl_types.Reads as join-impl-types
+use Rattle.join.proofs.join_impl_types.Kinds as join-impl-types-kinds
+use Rattle.join.proofs.+join_impl+join_impl_types+join_tvar.Lts-join_impl_types as join-impl-types-lts
+use Rattle.join.proofs.join_tvar.Reads as join-tvar
+use Rattle.join.proofs.join_tvar.Kinds as join-tvar-kinds
+use Rattle.join.proofs.+join_impl+join_impl_types+join_tvar.Lts-join_tvar as join-tvar-lts
+use Rattle.arms.proofs.arm_of.Reads as arm-of-reads
+use Rattle.join.proofs.fewer.Reads as fewer-reads
+use Rattle.join.proofs.pick_loc.Reads as pick-loc-reads
+use Rattle.merge.proofs.close_tvar.Reads as close-tvar-reads
+use Rattle.merge.proofs.meet_tvar.Reads as meet-tvar-reads
+use Rattle.merge.proofs.open_tvar.Reads as open-tvar-reads
+use Rattle.table.proofs.arg_at.Reads as arg-at-reads
+use Rattle.table.proofs.done_of.Reads as done-of-reads
+use Rattle.table.proofs.node_at.Reads as node-at-reads
+use Rattle.table.proofs.push_apply.Reads as push-apply-reads
+use Rattle.table.proofs.push_node.Reads as push-node-reads
+use Rattle.join.proofs.+join_impl+join_impl_types+join_tvar.{statement}
+use Rattle.join.proofs.+join_impl+join_impl_types+join_tvar.Tie.{close}
+
+abbrev μ-join-impl : Measures 1 join-impl-kinds.ps ℕ
+μ-join-impl κs a = a .1 .1 .1 .0 + a .1 .1 .1 .0
+
+abbrev μ-join-impl-types : Measures 1 join-impl-types-kinds.ps ℕ
+μ-join-impl-types κs a = a .1 .1 .1 .0 + a .1 .1 .1 .0 + 1
+
+abbrev μ-join-tvar : Measures 1 join-tvar-kinds.ps ℕ
+μ-join-tvar κs a = a .1 .1 .1 .0 + a .1 .1 .1 .0 + 1
+
+abbrev join-impl-at : ℕ → In 1 join-impl-kinds.ps
+join-impl-at t = and 1 join-impl-kinds.ps (is 1 join-impl-kinds.ps μ-join-impl t) join-impl.Pre
+
+abbrev join-impl-below : ℕ → In 1 join-impl-kinds.ps
+join-impl-below t =
+    and 1 join-impl-kinds.ps (falls 1 join-impl-kinds.ps _<_ μ-join-impl t) join-impl.Pre
+
+abbrev join-impl-types-at : ℕ → In 1 join-impl-types-kinds.ps
+join-impl-types-at t =
+    and
+    1
+    join-impl-types-kinds.ps
+    (is 1 join-impl-types-kinds.ps μ-join-impl-types t)
+    join-impl-types.Pre
+
+abbrev join-impl-types-below : ℕ → In 1 join-impl-types-kinds.ps
+join-impl-types-below t =
+    and
+    1
+    join-impl-types-kinds.ps
+    (falls 1 join-impl-types-kinds.ps _<_ μ-join-impl-types t)
+    join-impl-types.Pre
+
+abbrev join-tvar-at : ℕ → In 1 join-tvar-kinds.ps
+join-tvar-at t = and 1 join-tvar-kinds.ps (is 1 join-tvar-kinds.ps μ-join-tvar t) join-tvar.Pre
+
+abbrev join-tvar-below : ℕ → In 1 join-tvar-kinds.ps
+join-tvar-below t =
+    and 1 join-tvar-kinds.ps (falls 1 join-tvar-kinds.ps _<_ μ-join-tvar t) join-tvar.Pre
+
+abbrev join-impl-calls : ℕ → join-impl-lts.Claims
+join-impl-calls t = (node-at-reads.Asked, node-at-reads.Learnt, arm-of-reads.Asked, arm-of-reads.Learnt, join-impl-below t, join-impl.Post, done-of-reads.Asked, done-of-reads.Learnt, pick-loc-reads.Asked, pick-loc-reads.Learnt, push-node-reads.Asked, push-node-reads.Learnt, join-impl-types-below t, join-impl-types.Post, push-apply-reads.Asked, push-apply-reads.Learnt, join-tvar-below t, join-tvar.Post, meet-tvar-reads.Asked, meet-tvar-reads.Learnt)
+
+abbrev join-impl-types-calls : ℕ → join-impl-types-lts.Claims
+join-impl-types-calls t = (fewer-reads.Asked, fewer-reads.Learnt, arg-at-reads.Asked, arg-at-reads.Learnt, join-impl-below t, join-impl.Post, done-of-reads.Asked, done-of-reads.Learnt)
+
+abbrev join-tvar-calls : ℕ → join-tvar-lts.Claims
+join-tvar-calls t = (open-tvar-reads.Asked, open-tvar-reads.Learnt, join-impl-below t, join-impl.Post, done-of-reads.Asked, done-of-reads.Learnt, close-tvar-reads.Asked, close-tvar-reads.Learnt)
+
+join-impl-returns : (t : ℕ) → join-impl-lts.Need-returns (join-impl-calls t) (join-impl-at t) join-impl.Post
+join-impl-returns t c = after-now _ _ _ _ (c .before .before .pre .1 .0) tt (λ ds. impl-deep _ _ _ _ _ (c .if1 .taken))
+
+join-impl-node-at-requires : (t : ℕ) → join-impl-lts.Need-node-at-requires (join-impl-calls t) (join-impl-at t) join-impl.Post
+join-impl-node-at-requires t c κs = c .before .before .before .pre .1 .0
+
+join-impl-node-at-requires-2 : (t : ℕ) → join-impl-lts.Need-node-at-requires-2 (join-impl-calls t) (join-impl-at t) join-impl.Post
+join-impl-node-at-requires-2 t c κs = c .before .before .before .before .before .pre .1 .0
+
+join-impl-arm-of-requires : (t : ℕ) → join-impl-lts.Need-arm-of-requires (join-impl-calls t) (join-impl-at t) join-impl.Post
+join-impl-arm-of-requires t c κs = tt
+
+join-impl-enum-told : (t : ℕ) → join-impl-lts.Need-enum-told (join-impl-calls t) (join-impl-at t) join-impl.Post
+join-impl-enum-told t c = search needs
+
+join-impl-enum-told-2 : (t : ℕ) → join-impl-lts.Need-enum-told-2 (join-impl-calls t) (join-impl-at t) join-impl.Post
+join-impl-enum-told-2 t c = search needs
+
+join-impl-enum-known-side : (t : ℕ) → join-impl-lts.Need-enum-known-side (join-impl-calls t) (join-impl-at t) join-impl.Post
+join-impl-enum-known-side t c = search needs
+
+join-impl-sub-join-impl : (t : ℕ) → join-impl-lts.Need-sub-join-impl (join-impl-calls t) (join-impl-at t) join-impl.Post
+join-impl-sub-join-impl t c = omega arith
+
+join-impl-join-impl-requires : (t : ℕ) → join-impl-lts.Need-join-impl-requires (join-impl-calls t) (join-impl-at t) join-impl.Post
+join-impl-join-impl-requires t c κs = (omega arith, (c .before .before .before .before .before .before .before .before .before .before .before .pre .1 .0, arm-below _ (c .before .before .before .before .before .before .before .before .before .before .before .args .case) _ _ _ _ (c .before .before .before .before .before .before .before .node-at .result) (c .before .before .before .before .before .node-at2 .result) (c .before .before .before .before .before .before .before .before .before .if1 .left) (c .before .before .before .before .before .before .before .node-at .ensures) (c .before .before .before .before .before .node-at2 .ensures) _ (c .before .before .before .before .arm-of .ensures) _ (c .before .before .before .before .before .before .before .before .before .before .before .pre .1 .0) (c .before .before .before .before .before .before .before .before .before .before .before .pre .1 .1 .0) (c .before .before .before .before .before .before .before .before .before .before .before .pre .1 .1 .1) (c .before .before .side .given .1)))
+
+join-impl-done-of-requires : (t : ℕ) → join-impl-lts.Need-done-of-requires (join-impl-calls t) (join-impl-at t) join-impl.Post
+join-impl-done-of-requires t c κs = tt
+
+join-impl-enum-known-t : (t : ℕ) → join-impl-lts.Need-enum-known-t (join-impl-calls t) (join-impl-at t) join-impl.Post
+join-impl-enum-known-t t c = search needs
+
+join-impl-enum-told-3 : (t : ℕ) → join-impl-lts.Need-enum-told-3 (join-impl-calls t) (join-impl-at t) join-impl.Post
+join-impl-enum-told-3 t c = search needs
+
+join-impl-same-length : (t : ℕ) → join-impl-lts.Need-same-length (join-impl-calls t) (join-impl-at t) join-impl.Post
+join-impl-same-length t c = c .before .before .before .before .before .join-impl .ensures .changed .lay .size ∙ sym (c .before .before .before .before .before .before .before .before .before .before .before .before .before .before .before .before .before .pre .1 .0 .size)
+
+join-impl-returns-2 : (t : ℕ) → join-impl-lts.Need-returns-2 (join-impl-calls t) (join-impl-at t) join-impl.Post
+join-impl-returns-2 t c = refs-stop _ (c .before .before .before .before .before .before .before .before .before .before .before .before .before .before .before .before .before .args .case) _ _ _ _ (c .before .before .before .before .before .before .before .before .before .before .before .before .before .node-at .result) (c .before .before .before .before .before .before .before .before .before .before .before .node-at2 .result) (c .before .before .before .before .before .before .before .before .before .before .before .before .before .before .before .if1 .left) (c .before .before .before .before .before .before .before .before .before .before .before .before .before .node-at .ensures) (c .before .before .before .before .before .before .before .before .before .before .before .node-at2 .ensures) _ (c .before .before .before .before .before .before .before .before .before .before .arm-of .ensures) _ _ _ _ (c .before .before .before .before .before .before .before .before .side .given .1) _ _ _ (c .before .before .before .before .before .join-impl .ensures) (c .before .before .done-of .ensures) (c .enum-told3 .given .1)
+
+join-impl-pick-loc-requires : (t : ℕ) → join-impl-lts.Need-pick-loc-requires (join-impl-calls t) (join-impl-at t) join-impl.Post
+join-impl-pick-loc-requires t c κs = tt
+
+join-impl-push-node-requires : (t : ℕ) → join-impl-lts.Need-push-node-requires (join-impl-calls t) (join-impl-at t) join-impl.Post
+join-impl-push-node-requires t c κs = (c .before .before .before .before .before .before .before .before .join-impl .ensures .changed .lay, node-in _ (c .before .before .before .before .before .before .before .before .join-impl .result .out) _ _ (c .before .before .before .before .before .before .before .before .join-impl .ensures .inside) (c .before .before .before .before .before .done-of .ensures) (c .before .before .before .t .given .1))
+
+join-impl-enum-known-k : (t : ℕ) → join-impl-lts.Need-enum-known-k (join-impl-calls t) (join-impl-at t) join-impl.Post
+join-impl-enum-known-k t c = search needs
+
+join-impl-sub-join-impl-types : (t : ℕ) → join-impl-lts.Need-sub-join-impl-types (join-impl-calls t) (join-impl-at t) join-impl.Post
+join-impl-sub-join-impl-types t c = omega arith
+
+join-impl-join-impl-types-requires : (t : ℕ) → join-impl-lts.Need-join-impl-types-requires (join-impl-calls t) (join-impl-at t) join-impl.Post
+join-impl-join-impl-types-requires t c κs = (omega arith, (c .before .before .before .before .before .before .before .before .before .before .before .pre .1 .0, arm-below _ (c .before .before .before .before .before .before .before .before .before .before .before .args .case) _ _ _ _ (c .before .before .before .before .before .before .before .node-at .result) (c .before .before .before .before .before .node-at2 .result) (c .before .before .before .before .before .before .before .before .before .if1 .left) (c .before .before .before .before .before .before .before .node-at .ensures) (c .before .before .before .before .before .node-at2 .ensures) _ (c .before .before .before .before .arm-of .ensures) _ (c .before .before .before .before .before .before .before .before .before .before .before .pre .1 .0) (c .before .before .before .before .before .before .before .before .before .before .before .pre .1 .1 .0) (c .before .before .before .before .before .before .before .before .before .before .before .pre .1 .1 .1) (c .before .before .k .given .1)))
+
+join-impl-done-of-requires-2 : (t : ℕ) → join-impl-lts.Need-done-of-requires-2 (join-impl-calls t) (join-impl-at t) join-impl.Post
+join-impl-done-of-requires-2 t c κs = tt
+
+join-impl-enum-known-m : (t : ℕ) → join-impl-lts.Need-enum-known-m (join-impl-calls t) (join-impl-at t) join-impl.Post
+join-impl-enum-known-m t c = search needs
+
+join-impl-enum-told-4 : (t : ℕ) → join-impl-lts.Need-enum-told-4 (join-impl-calls t) (join-impl-at t) join-impl.Post
+join-impl-enum-told-4 t c = search needs
+
+join-impl-same-length-2 : (t : ℕ) → join-impl-lts.Need-same-length-2 (join-impl-calls t) (join-impl-at t) join-impl.Post
+join-impl-same-length-2 t c = c .before .before .before .before .before .before .before .join-impl-types .ensures .lay .size ∙ sym (c .before .before .before .before .before .before .before .before .before .before .before .before .before .before .before .before .before .before .before .pre .1 .0 .size)
+
+join-impl-returns-3 : (t : ℕ) → join-impl-lts.Need-returns-3 (join-impl-calls t) (join-impl-at t) join-impl.Post
+join-impl-returns-3 t c = applies-stop _ (c .before .before .before .before .before .before .before .before .before .before .before .before .before .before .before .before .before .before .before .args .case) _ _ _ _ (c .before .before .before .before .before .before .before .before .before .before .before .before .before .before .before .node-at .result) (c .before .before .before .before .before .before .before .before .before .before .before .before .before .node-at2 .result) (c .before .before .before .before .before .before .before .before .before .before .before .before .before .before .before .before .before .if1 .left) (c .before .before .before .before .before .before .before .before .before .before .before .before .before .before .before .node-at .ensures) (c .before .before .before .before .before .before .before .before .before .before .before .before .before .node-at2 .ensures) _ (c .before .before .before .before .before .before .before .before .before .before .before .before .arm-of .ensures) _ _ _ _ _ _ (c .before .before .before .before .before .before .before .before .before .before .k .given .1) _ _ _ (c .before .before .before .before .before .before .before .join-impl-types .ensures) (c .before .before .done-of2 .ensures) (c .enum-told4 .given .1)
+
+join-impl-push-apply-requires : (t : ℕ) → join-impl-lts.Need-push-apply-requires (join-impl-calls t) (join-impl-at t) join-impl.Post
+join-impl-push-apply-requires t c κs = (c .before .before .before .before .before .before .before .before .before .join-impl-types .ensures .lay, c .before .before .before .before .before .before .before .before .before .join-impl-types .ensures .parts _ (sym (c .before .before .before .before .done-of2 .ensures) ∙ c .before .before .m .given .1))
+
+join-impl-enum-known-id1 : (t : ℕ) → join-impl-lts.Need-enum-known-id1 (join-impl-calls t) (join-impl-at t) join-impl.Post
+join-impl-enum-known-id1 t c = search needs
+
+join-impl-sub-join-tvar : (t : ℕ) → join-impl-lts.Need-sub-join-tvar (join-impl-calls t) (join-impl-at t) join-impl.Post
+join-impl-sub-join-tvar t c = omega arith
+
+join-impl-join-tvar-requires : (t : ℕ) → join-impl-lts.Need-join-tvar-requires (join-impl-calls t) (join-impl-at t) join-impl.Post
+join-impl-join-tvar-requires t c κs = (omega arith, c .before .before .before .before .before .before .before .before .before .before .before .pre .1 .0)
+
+join-impl-enum-known-id : (t : ℕ) → join-impl-lts.Need-enum-known-id (join-impl-calls t) (join-impl-at t) join-impl.Post
+join-impl-enum-known-id t c = search needs
+
+join-impl-meet-tvar-requires : (t : ℕ) → join-impl-lts.Need-meet-tvar-requires (join-impl-calls t) (join-impl-at t) join-impl.Post
+join-impl-meet-tvar-requires t c κs = (c .before .before .before .before .before .before .before .before .before .before .before .pre .1 .0, (c .before .before .before .before .before .before .before .before .before .before .before .pre .1 .1 .0, (c .before .before .before .before .before .before .before .before .before .before .before .pre .1 .1 .1, (c .before .before .before .before .before .before .before .before .before .before .before .pre .1 .1 .0, c .before .before .before .before .before .before .before .before .before .before .before .pre .1 .1 .1))))
+
+join-impl-enum-known-what : (t : ℕ) → join-impl-lts.Need-enum-known-what (join-impl-calls t) (join-impl-at t) join-impl.Post
+join-impl-enum-known-what t c = search needs
+
+join-impl-enum-known-what-2 : (t : ℕ) → join-impl-lts.Need-enum-known-what-2 (join-impl-calls t) (join-impl-at t) join-impl.Post
+join-impl-enum-known-what-2 t c = search needs
+
+join-impl-sub-join-tvar-2 : (t : ℕ) → join-impl-lts.Need-sub-join-tvar-2 (join-impl-calls t) (join-impl-at t) join-impl.Post
+join-impl-sub-join-tvar-2 t c = omega arith
+
+join-impl-join-tvar-requires-2 : (t : ℕ) → join-impl-lts.Need-join-tvar-requires-2 (join-impl-calls t) (join-impl-at t) join-impl.Post
+join-impl-join-tvar-requires-2 t c κs = (omega (arith, c .before .before .before .before .before .before .before .before .before .before .before .before .before .before .before .before .before .before .before .pre .0, c .before .before .before .before .before .before .before .before .before .before .before .before .before .before .before .before .before .if1 .left), c .before .before .before .before .before .before .before .meet-tvar .ensures .lay)
+
+join-impl-enum-known-id-2 : (t : ℕ) → join-impl-lts.Need-enum-known-id-2 (join-impl-calls t) (join-impl-at t) join-impl.Post
+join-impl-enum-known-id-2 t c = search needs
+
+join-impl-meet-tvar-requires-2 : (t : ℕ) → join-impl-lts.Need-meet-tvar-requires-2 (join-impl-calls t) (join-impl-at t) join-impl.Post
+join-impl-meet-tvar-requires-2 t c κs = (c .before .before .before .before .before .before .before .before .before .before .before .pre .1 .0, (c .before .before .before .before .before .before .before .before .before .before .before .pre .1 .1 .0, (c .before .before .before .before .before .before .before .before .before .before .before .pre .1 .1 .1, (c .before .before .before .before .before .before .before .before .before .before .before .pre .1 .1 .1, c .before .before .before .before .before .before .before .before .before .before .before .pre .1 .1 .0))))
+
+join-impl-enum-known-what-3 : (t : ℕ) → join-impl-lts.Need-enum-known-what-3 (join-impl-calls t) (join-impl-at t) join-impl.Post
+join-impl-enum-known-what-3 t c = search needs
+
+join-impl-enum-known-what-4 : (t : ℕ) → join-impl-lts.Need-enum-known-what-4 (join-impl-calls t) (join-impl-at t) join-impl.Post
+join-impl-enum-known-what-4 t c = search needs
+
+join-impl-sub-join-tvar-3 : (t : ℕ) → join-impl-lts.Need-sub-join-tvar-3 (join-impl-calls t) (join-impl-at t) join-impl.Post
+join-impl-sub-join-tvar-3 t c = omega arith
+
+join-impl-join-tvar-requires-3 : (t : ℕ) → join-impl-lts.Need-join-tvar-requires-3 (join-impl-calls t) (join-impl-at t) join-impl.Post
+join-impl-join-tvar-requires-3 t c κs = (omega (arith, c .before .before .before .before .before .before .before .before .before .before .before .before .before .before .before .before .before .before .before .pre .0, c .before .before .before .before .before .before .before .before .before .before .before .before .before .before .before .before .before .if1 .left), c .before .before .before .before .before .before .before .meet-tvar2 .ensures .lay)
+
+join-impl-enum-told-5 : (t : ℕ) → join-impl-lts.Need-enum-told-5 (join-impl-calls t) (join-impl-at t) join-impl.Post
+join-impl-enum-told-5 t c = search needs
+
+join-impl-enum-told-6 : (t : ℕ) → join-impl-lts.Need-enum-told-6 (join-impl-calls t) (join-impl-at t) join-impl.Post
+join-impl-enum-told-6 t c = search needs
+
+join-impl-enum-told-7 : (t : ℕ) → join-impl-lts.Need-enum-told-7 (join-impl-calls t) (join-impl-at t) join-impl.Post
+join-impl-enum-told-7 t c = search needs
+
+join-impl-enum-told-8 : (t : ℕ) → join-impl-lts.Need-enum-told-8 (join-impl-calls t) (join-impl-at t) join-impl.Post
+join-impl-enum-told-8 t c = search needs
+
+join-impl-same-length-3 : (t : ℕ) → join-impl-lts.Need-same-length-3 (join-impl-calls t) (join-impl-at t) join-impl.Post
+join-impl-same-length-3 t c = search needs
+
+join-impl-returns-4 : (t : ℕ) → join-impl-lts.Need-returns-4 (join-impl-calls t) (join-impl-at t) join-impl.Post
+join-impl-returns-4 t c = arm-left _ (c .before .before .before .before .before .before .before .before .before .args .case) _ _ _ _ (c .before .before .before .before .before .node-at .result) (c .before .before .before .node-at2 .result) (c .before .before .before .before .before .before .before .if1 .left) (c .before .before .before .before .before .node-at .ensures) (c .before .before .before .node-at2 .ensures) _ (c .before .before .arm-of .ensures) (c .before .before .before .before .before .before .before .before .before .pre .1 .0) (c .before .before .before .before .before .before .before .before .before .pre .1 .1 .0) (c .enum-told .given .1)
+
+join-impl-same-length-4 : (t : ℕ) → join-impl-lts.Need-same-length-4 (join-impl-calls t) (join-impl-at t) join-impl.Post
+join-impl-same-length-4 t c = search needs
+
+join-impl-returns-5 : (t : ℕ) → join-impl-lts.Need-returns-5 (join-impl-calls t) (join-impl-at t) join-impl.Post
+join-impl-returns-5 t c = arm-right _ (c .before .before .before .before .before .before .before .before .before .args .case) _ _ _ _ (c .before .before .before .before .before .node-at .result) (c .before .before .before .node-at2 .result) (c .before .before .before .before .before .before .before .if1 .left) (c .before .before .before .before .before .node-at .ensures) (c .before .before .before .node-at2 .ensures) _ (c .before .before .arm-of .ensures) (c .before .before .before .before .before .before .before .before .before .pre .1 .0) (c .before .before .before .before .before .before .before .before .before .pre .1 .1 .1) (c .enum-told2 .given .1)
+
+join-impl-same-length-5 : (t : ℕ) → join-impl-lts.Need-same-length-5 (join-impl-calls t) (join-impl-at t) join-impl.Post
+join-impl-same-length-5 t c = c .before .before .push-node .ensures .changed .lay .size ∙ sym (c .before .before .before .before .before .before .before .before .before .before .before .before .before .before .before .before .before .before .before .before .before .before .before .pre .1 .0 .size)
+
+join-impl-returns-6 : (t : ℕ) → join-impl-lts.Need-returns-6 (join-impl-calls t) (join-impl-at t) join-impl.Post
+join-impl-returns-6 t c = refs-then _ (c .before .before .before .before .before .before .before .before .before .before .before .before .before .before .before .before .before .before .before .before .before .before .before .args .case) _ _ _ _ (c .before .before .before .before .before .before .before .before .before .before .before .before .before .before .before .before .before .before .before .node-at .result) (c .before .before .before .before .before .before .before .before .before .before .before .before .before .before .before .before .before .node-at2 .result) (c .before .before .before .before .before .before .before .before .before .before .before .before .before .before .before .before .before .before .before .before .before .if1 .left) (c .before .before .before .before .before .before .before .before .before .before .before .before .before .before .before .before .before .before .before .node-at .ensures) (c .before .before .before .before .before .before .before .before .before .before .before .before .before .before .before .before .before .node-at2 .ensures) _ (c .before .before .before .before .before .before .before .before .before .before .before .before .before .before .before .before .arm-of .ensures) _ _ _ _ (c .before .before .before .before .before .before .before .before .before .before .before .before .before .before .side .given .1) _ _ _ (c .before .before .before .before .before .before .before .before .before .before .before .join-impl .ensures) (c .before .before .before .before .before .before .before .before .done-of .ensures) _ _ _ _ (c .before .before .before .before .before .before .t .given .1) (c .before .before .before .before .pick-loc .ensures) (c .before .before .push-node .ensures)
+
+join-impl-same-length-6 : (t : ℕ) → join-impl-lts.Need-same-length-6 (join-impl-calls t) (join-impl-at t) join-impl.Post
+join-impl-same-length-6 t c = c .before .before .push-apply .ensures .changed .lay .size ∙ sym (c .before .before .before .before .before .before .before .before .before .before .before .before .before .before .before .before .before .before .before .before .before .before .before .before .pre .1 .0 .size)
+
+join-impl-returns-7 : (t : ℕ) → join-impl-lts.Need-returns-7 (join-impl-calls t) (join-impl-at t) join-impl.Post
+join-impl-returns-7 t c = applies-then _ (c .before .before .before .before .before .before .before .before .before .before .before .before .before .before .before .before .before .before .before .before .before .before .before .before .args .case) _ _ _ _ (c .before .before .before .before .before .before .before .before .before .before .before .before .before .before .before .before .before .before .before .before .node-at .result) (c .before .before .before .before .before .before .before .before .before .before .before .before .before .before .before .before .before .before .node-at2 .result) (c .before .before .before .before .before .before .before .before .before .before .before .before .before .before .before .before .before .before .before .before .before .before .if1 .left) (c .before .before .before .before .before .before .before .before .before .before .before .before .before .before .before .before .before .before .before .before .node-at .ensures) (c .before .before .before .before .before .before .before .before .before .before .before .before .before .before .before .before .before .before .node-at2 .ensures) _ (c .before .before .before .before .before .before .before .before .before .before .before .before .before .before .before .before .before .arm-of .ensures) _ _ _ _ _ _ (c .before .before .before .before .before .before .before .before .before .before .before .before .before .before .before .k .given .1) _ _ _ (c .before .before .before .before .before .before .before .before .before .before .before .before .join-impl-types .ensures) (c .before .before .before .before .before .before .before .done-of2 .ensures) _ _ _ (c .before .before .before .before .before .m .given .1) (c .before .before .push-apply .ensures)
+
+join-impl-same-length-7 : (t : ℕ) → join-impl-lts.Need-same-length-7 (join-impl-calls t) (join-impl-at t) join-impl.Post
+join-impl-same-length-7 t c = c .before .before .join-tvar .ensures .changed .lay .size ∙ sym (c .before .before .before .before .before .before .before .before .before .before .before .before .before .before .pre .1 .0 .size)
+
+join-impl-returns-8 : (t : ℕ) → join-impl-lts.Need-returns-8 (join-impl-calls t) (join-impl-at t) join-impl.Post
+join-impl-returns-8 t c = arm-vars _ (c .before .before .before .before .before .before .before .before .before .before .before .before .before .before .args .case) _ _ _ _ (c .before .before .before .before .before .before .before .before .before .before .node-at .result) (c .before .before .before .before .before .before .before .before .node-at2 .result) (c .before .before .before .before .before .before .before .before .before .before .before .before .if1 .left) (c .before .before .before .before .before .before .before .before .before .before .node-at .ensures) (c .before .before .before .before .before .before .before .before .node-at2 .ensures) _ (c .before .before .before .before .before .before .before .arm-of .ensures) _ _ _ _ (c .before .before .before .before .before .id1 .given .1) (c .before .before .join-tvar .ensures)
+
+join-impl-same-length-8 : (t : ℕ) → join-impl-lts.Need-same-length-8 (join-impl-calls t) (join-impl-at t) join-impl.Post
+join-impl-same-length-8 t c = c .before .before .before .before .before .before .meet-tvar .ensures .lay .size ∙ sym (c .before .before .before .before .before .before .before .before .before .before .before .before .before .before .before .before .before .before .pre .1 .0 .size)
+
+join-impl-returns-9 : (t : ℕ) → join-impl-lts.Need-returns-9 (join-impl-calls t) (join-impl-at t) join-impl.Post
+join-impl-returns-9 t c = left-is _ (c .before .before .before .before .before .before .before .before .before .before .before .before .before .before .before .before .before .before .args .case) _ _ _ _ (c .before .before .before .before .before .before .before .before .before .before .before .before .before .before .node-at .result) (c .before .before .before .before .before .before .before .before .before .before .before .before .node-at2 .result) (c .before .before .before .before .before .before .before .before .before .before .before .before .before .before .before .before .if1 .left) (c .before .before .before .before .before .before .before .before .before .before .before .before .before .before .node-at .ensures) (c .before .before .before .before .before .before .before .before .before .before .before .before .node-at2 .ensures) _ (c .before .before .before .before .before .before .before .before .before .before .before .arm-of .ensures) _ _ _ (c .before .before .before .before .before .before .before .before .before .id .given .1) (c .before .before .before .before .before .before .meet-tvar .ensures) _ (c .before .what .given .1)
+
+join-impl-same-length-9 : (t : ℕ) → join-impl-lts.Need-same-length-9 (join-impl-calls t) (join-impl-at t) join-impl.Post
+join-impl-same-length-9 t c = c .before .before .join-tvar2 .ensures .changed .lay .size ∙ sym (c .before .before .before .before .before .before .before .before .before .before .before .before .before .before .before .before .before .before .before .before .before .before .pre .1 .0 .size)
+
+join-impl-returns-10 : (t : ℕ) → join-impl-lts.Need-returns-10 (join-impl-calls t) (join-impl-at t) join-impl.Post
+join-impl-returns-10 t c = left-merge _ (c .before .before .before .before .before .before .before .before .before .before .before .before .before .before .before .before .before .before .before .before .before .before .args .case) _ _ _ _ (c .before .before .before .before .before .before .before .before .before .before .before .before .before .before .before .before .before .before .node-at .result) (c .before .before .before .before .before .before .before .before .before .before .before .before .before .before .before .before .node-at2 .result) (c .before .before .before .before .before .before .before .before .before .before .before .before .before .before .before .before .before .before .before .before .if1 .left) (c .before .before .before .before .before .before .before .before .before .before .before .before .before .before .before .before .before .before .node-at .ensures) (c .before .before .before .before .before .before .before .before .before .before .before .before .before .before .before .before .node-at2 .ensures) _ (c .before .before .before .before .before .before .before .before .before .before .before .before .before .before .before .arm-of .ensures) _ _ _ (c .before .before .before .before .before .before .before .before .before .before .before .before .before .id .given .1) (c .before .before .before .before .before .before .before .before .before .before .meet-tvar .ensures) _ _ _ (c .before .before .before .before .before .what2 .given .1) (c .before .before .join-tvar2 .ensures)
+
+join-impl-same-length-10 : (t : ℕ) → join-impl-lts.Need-same-length-10 (join-impl-calls t) (join-impl-at t) join-impl.Post
+join-impl-same-length-10 t c = c .before .before .before .before .before .before .meet-tvar2 .ensures .lay .size ∙ sym (c .before .before .before .before .before .before .before .before .before .before .before .before .before .before .before .before .before .before .pre .1 .0 .size)
+
+join-impl-returns-11 : (t : ℕ) → join-impl-lts.Need-returns-11 (join-impl-calls t) (join-impl-at t) join-impl.Post
+join-impl-returns-11 t c = right-is _ (c .before .before .before .before .before .before .before .before .before .before .before .before .before .before .before .before .before .before .args .case) _ _ _ _ (c .before .before .before .before .before .before .before .before .before .before .before .before .before .before .node-at .result) (c .before .before .before .before .before .before .before .before .before .before .before .before .node-at2 .result) (c .before .before .before .before .before .before .before .before .before .before .before .before .before .before .before .before .if1 .left) (c .before .before .before .before .before .before .before .before .before .before .before .before .before .before .node-at .ensures) (c .before .before .before .before .before .before .before .before .before .before .before .before .node-at2 .ensures) _ (c .before .before .before .before .before .before .before .before .before .before .before .arm-of .ensures) _ _ _ (c .before .before .before .before .before .before .before .before .before .id2 .given .1) (c .before .before .before .before .before .before .meet-tvar2 .ensures) _ (c .before .what3 .given .1)
+
+join-impl-same-length-11 : (t : ℕ) → join-impl-lts.Need-same-length-11 (join-impl-calls t) (join-impl-at t) join-impl.Post
+join-impl-same-length-11 t c = c .before .before .join-tvar3 .ensures .changed .lay .size ∙ sym (c .before .before .before .before .before .before .before .before .before .before .before .before .before .before .before .before .before .before .before .before .before .before .pre .1 .0 .size)
+
+join-impl-returns-12 : (t : ℕ) → join-impl-lts.Need-returns-12 (join-impl-calls t) (join-impl-at t) join-impl.Post
+join-impl-returns-12 t c = right-merge _ (c .before .before .before .before .before .before .before .before .before .before .before .before .before .before .before .before .before .before .before .before .before .before .args .case) _ _ _ _ (c .before .before .before .before .before .before .before .before .before .before .before .before .before .before .before .before .before .before .node-at .result) (c .before .before .before .before .before .before .before .before .before .before .before .before .before .before .before .before .node-at2 .result) (c .before .before .before .before .before .before .before .before .before .before .before .before .before .before .before .before .before .before .before .before .if1 .left) (c .before .before .before .before .before .before .before .before .before .before .before .before .before .before .before .before .before .before .node-at .ensures) (c .before .before .before .before .before .before .before .before .before .before .before .before .before .before .before .before .node-at2 .ensures) _ (c .before .before .before .before .before .before .before .before .before .before .before .before .before .before .before .arm-of .ensures) _ _ _ (c .before .before .before .before .before .before .before .before .before .before .before .before .before .id2 .given .1) (c .before .before .before .before .before .before .before .before .before .before .meet-tvar2 .ensures) _ _ _ (c .before .before .before .before .before .what4 .given .1) (c .before .before .join-tvar3 .ensures)
+
+join-impl-same-length-12 : (t : ℕ) → join-impl-lts.Need-same-length-12 (join-impl-calls t) (join-impl-at t) join-impl.Post
+join-impl-same-length-12 t c = search needs
+
+join-impl-returns-13 : (t : ℕ) → join-impl-lts.Need-returns-13 (join-impl-calls t) (join-impl-at t) join-impl.Post
+join-impl-returns-13 t c = arm-subtype _ (c .before .before .before .before .before .before .before .before .before .args .case) _ _ _ _ (c .before .before .before .before .before .node-at .result) (c .before .before .before .node-at2 .result) (c .before .before .before .before .before .before .before .if1 .left) (c .before .before .before .before .before .node-at .ensures) (c .before .before .before .node-at2 .ensures) _ (c .before .before .arm-of .ensures) (c .before .before .before .before .before .before .before .before .before .pre .1 .0) (c .before .before .before .before .before .before .before .before .before .pre .1 .1 .0, c .before .before .before .before .before .before .before .before .before .pre .1 .1 .1) (c .enum-told5 .given .1)
+
+join-impl-same-length-13 : (t : ℕ) → join-impl-lts.Need-same-length-13 (join-impl-calls t) (join-impl-at t) join-impl.Post
+join-impl-same-length-13 t c = search needs
+
+join-impl-returns-14 : (t : ℕ) → join-impl-lts.Need-returns-14 (join-impl-calls t) (join-impl-at t) join-impl.Post
+join-impl-returns-14 t c = arm-arity _ (c .before .before .before .before .before .before .before .before .before .args .case) _ _ _ _ (c .before .before .before .before .before .node-at .result) (c .before .before .before .node-at2 .result) (c .before .before .before .before .before .before .before .if1 .left) (c .before .before .before .before .before .node-at .ensures) (c .before .before .before .node-at2 .ensures) _ (c .before .before .arm-of .ensures) (c .before .before .before .before .before .before .before .before .before .pre .1 .0) (c .before .before .before .before .before .before .before .before .before .pre .1 .1 .0, c .before .before .before .before .before .before .before .before .before .pre .1 .1 .1) (c .enum-told6 .given .1)
+
+join-impl-same-length-14 : (t : ℕ) → join-impl-lts.Need-same-length-14 (join-impl-calls t) (join-impl-at t) join-impl.Post
+join-impl-same-length-14 t c = search needs
+
+join-impl-returns-15 : (t : ℕ) → join-impl-lts.Need-returns-15 (join-impl-calls t) (join-impl-at t) join-impl.Post
+join-impl-returns-15 t c = arm-incompatible _ (c .before .before .before .before .before .before .before .before .before .args .case) _ _ _ _ (c .before .before .before .before .before .node-at .result) (c .before .before .before .node-at2 .result) (c .before .before .before .before .before .before .before .if1 .left) (c .before .before .before .before .before .node-at .ensures) (c .before .before .before .node-at2 .ensures) _ (c .before .before .arm-of .ensures) (c .before .before .before .before .before .before .before .before .before .pre .1 .0) (c .before .before .before .before .before .before .before .before .before .pre .1 .1 .0, c .before .before .before .before .before .before .before .before .before .pre .1 .1 .1) (c .enum-told7 .given .1)
+
+join-impl-same-length-15 : (t : ℕ) → join-impl-lts.Need-same-length-15 (join-impl-calls t) (join-impl-at t) join-impl.Post
+join-impl-same-length-15 t c = search needs
+
+join-impl-returns-16 : (t : ℕ) → join-impl-lts.Need-returns-16 (join-impl-calls t) (join-impl-at t) join-impl.Post
+join-impl-returns-16 t c = arm-disagree _ (c .before .before .before .before .before .before .before .before .before .args .case) _ _ _ _ (c .before .before .before .before .before .node-at .result) (c .before .before .before .node-at2 .result) (c .before .before .before .before .before .before .before .if1 .left) (c .before .before .before .before .before .node-at .ensures) (c .before .before .before .node-at2 .ensures) _ (c .before .before .arm-of .ensures) (c .before .before .before .before .before .before .before .before .before .pre .1 .0) (c .enum-told8 .given .1)
+
+abbrev join-impl-types-Inv-loop : join-impl-types-lts.InvT-loop
+join-impl-types-Inv-loop w₀ case left first1 many1 first2 many2 n tys₀ at₀ i₀ w tys at i = Gathering left (case-of case) w₀ at₀ first1 many1 first2 many2 n w at tys i
+
+abbrev join-impl-types-μ-loop : join-impl-types-lts.MeasureT-loop
+join-impl-types-μ-loop w₀ case left first1 many1 first2 many2 n tys₀ at₀ i₀ w tys at i = n - i
+
+join-impl-types-fewer-requires : (t : ℕ) → join-impl-types-lts.Need-fewer-requires (join-impl-types-calls t) (join-impl-types-at t) join-impl-types.Post join-impl-types-Inv-loop join-impl-types-μ-loop
+join-impl-types-fewer-requires t c κs = tt
+
+join-impl-types-loop-holds : (t : ℕ) → join-impl-types-lts.Need-loop-holds (join-impl-types-calls t) (join-impl-types-at t) join-impl-types.Post join-impl-types-Inv-loop join-impl-types-μ-loop
+join-impl-types-loop-holds t c = gather-none _ _ _ _ _ _ _ _ _ _ (c .before .before .pre .1 .0) (c .before .before .pre .1 .1 .0) (c .before .before .pre .1 .1 .1) (c .fewer .ensures) refl
+
+join-impl-types-arg-at-requires : (t : ℕ) → join-impl-types-lts.Need-arg-at-requires (join-impl-types-calls t) (join-impl-types-at t) join-impl-types.Post join-impl-types-Inv-loop join-impl-types-μ-loop
+join-impl-types-arg-at-requires t c κs = c .before .before .loop .inv .lay
+
+join-impl-types-arg-at-requires-2 : (t : ℕ) → join-impl-types-lts.Need-arg-at-requires-2 (join-impl-types-calls t) (join-impl-types-at t) join-impl-types.Post join-impl-types-Inv-loop join-impl-types-μ-loop
+join-impl-types-arg-at-requires-2 t c κs = c .before .before .before .before .loop .inv .lay
+
+join-impl-types-join-impl-requires : (t : ℕ) → join-impl-types-lts.Need-join-impl-requires (join-impl-types-calls t) (join-impl-types-at t) join-impl-types.Post join-impl-types-Inv-loop join-impl-types-μ-loop
+join-impl-types-join-impl-requires t c κs = (omega arith, (c .before .before .before .before .before .before .loop .inv .lay, gather-in _ _ _ _ _ _ _ _ _ _ _ _ _ (c .before .before .before .before .before .before .loop .inv) (c .before .before .before .before .before .loop-test .taken) _ _ (c .before .before .before .arg-at .ensures) (c .before .arg-at2 .ensures)))
+
+join-impl-types-done-of-requires : (t : ℕ) → join-impl-types-lts.Need-done-of-requires (join-impl-types-calls t) (join-impl-types-at t) join-impl-types.Post join-impl-types-Inv-loop join-impl-types-μ-loop
+join-impl-types-done-of-requires t c κs = tt
+
+join-impl-types-enum-known-t : (t : ℕ) → join-impl-types-lts.Need-enum-known-t (join-impl-types-calls t) (join-impl-types-at t) join-impl-types.Post join-impl-types-Inv-loop join-impl-types-μ-loop
+join-impl-types-enum-known-t t c = search needs
+
+join-impl-types-enum-told : (t : ℕ) → join-impl-types-lts.Need-enum-told (join-impl-types-calls t) (join-impl-types-at t) join-impl-types.Post join-impl-types-Inv-loop join-impl-types-μ-loop
+join-impl-types-enum-told t c = search needs
+
+join-impl-types-same-length : (t : ℕ) → join-impl-types-lts.Need-same-length (join-impl-types-calls t) (join-impl-types-at t) join-impl-types.Post join-impl-types-Inv-loop join-impl-types-μ-loop
+join-impl-types-same-length t c = c .before .before .before .before .before .before .join-impl .ensures .changed .lay .size ∙ sym (c .before .before .before .before .before .before .before .before .before .before .before .before .before .before .before .before .pre .1 .0 .size)
+
+join-impl-types-returns : (t : ℕ) → join-impl-types-lts.Need-returns (join-impl-types-calls t) (join-impl-types-at t) join-impl-types.Post join-impl-types-Inv-loop join-impl-types-μ-loop
+join-impl-types-returns t c = gather-stop _ _ _ _ _ _ _ _ _ _ _ _ _ (c .before .before .before .before .before .before .before .before .before .before .before .before .before .loop .inv) (c .before .before .before .before .before .before .before .before .before .before .before .before .loop-test .taken) _ _ (c .before .before .before .before .before .before .before .before .before .before .arg-at .ensures) (c .before .before .before .before .before .before .before .before .arg-at2 .ensures) _ _ (c .before .before .before .before .before .before .join-impl .ensures) _ (c .before .before .done-of .ensures) (c .enum-told .given .1)
+
+join-impl-types-cast-k : (t : ℕ) → join-impl-types-lts.Need-cast-k (join-impl-types-calls t) (join-impl-types-at t) join-impl-types.Post join-impl-types-Inv-loop join-impl-types-μ-loop
+join-impl-types-cast-k t c = search needs
+
+join-impl-types-mul-tys : (t : ℕ) → join-impl-types-lts.Need-mul-tys (join-impl-types-calls t) (join-impl-types-at t) join-impl-types.Post join-impl-types-Inv-loop join-impl-types-μ-loop
+join-impl-types-mul-tys t c = search needs
+
+join-impl-types-array-write-tys : (t : ℕ) → join-impl-types-lts.Need-array-write-tys (join-impl-types-calls t) (join-impl-types-at t) join-impl-types.Post join-impl-types-Inv-loop join-impl-types-μ-loop
+join-impl-types-array-write-tys t c = omega (arith, gather-room _ _ _ _ _ _ _ _ _ _ _ _ _ (c .before .before .before .before .before .before .before .before .before .before .before .before .before .before .loop .inv) (c .before .before .before .before .before .before .before .before .before .before .before .before .before .loop-test .taken) _ _ (c .before .before .before .before .before .before .before .before .before .before .before .arg-at .ensures) (c .before .before .before .before .before .before .before .before .before .arg-at2 .ensures))
+
+join-impl-types-add-i : (t : ℕ) → join-impl-types-lts.Need-add-i (join-impl-types-calls t) (join-impl-types-at t) join-impl-types.Post join-impl-types-Inv-loop join-impl-types-μ-loop
+join-impl-types-add-i t c = omega arith
+
+join-impl-types-loop-less : (t : ℕ) → join-impl-types-lts.Need-loop-less (join-impl-types-calls t) (join-impl-types-at t) join-impl-types.Post join-impl-types-Inv-loop join-impl-types-μ-loop
+join-impl-types-loop-less t c = omega arith
+
+join-impl-types-loop-again : (t : ℕ) → join-impl-types-lts.Need-loop-again (join-impl-types-calls t) (join-impl-types-at t) join-impl-types.Post join-impl-types-Inv-loop join-impl-types-μ-loop
+join-impl-types-loop-again t c = gather-more _ _ _ _ _ _ _ _ _ _ _ _ _ (c .before .before .before .before .before .before .before .before .before .before .before .before .before .before .loop .inv) (c .before .before .before .before .before .before .before .before .before .before .before .before .before .loop-test .taken) _ _ (c .before .before .before .before .before .before .before .before .before .before .before .arg-at .ensures) (c .before .before .before .before .before .before .before .before .before .arg-at2 .ensures) _ _ (c .before .before .before .before .before .before .before .join-impl .ensures) _ (c .before .before .before .done-of .ensures) _ (c .before .t .given .1)
+
+join-impl-types-same-length-2 : (t : ℕ) → join-impl-types-lts.Need-same-length-2 (join-impl-types-calls t) (join-impl-types-at t) join-impl-types.Post join-impl-types-Inv-loop join-impl-types-μ-loop
+join-impl-types-same-length-2 t c = c .before .loop .inv .lay .size ∙ sym (c .before .before .before .before .pre .1 .0 .size)
+
+join-impl-types-returns-2 : (t : ℕ) → join-impl-types-lts.Need-returns-2 (join-impl-types-calls t) (join-impl-types-at t) join-impl-types.Post join-impl-types-Inv-loop join-impl-types-μ-loop
+join-impl-types-returns-2 t c = gathered _ _ _ _ _ _ _ _ _ _ _ _ _ (c .before .loop .inv) (c .loop-test .left)
+
+join-tvar-open-tvar-requires : (t : ℕ) → join-tvar-lts.Need-open-tvar-requires (join-tvar-calls t) (join-tvar-at t) join-tvar.Post
+join-tvar-open-tvar-requires t c κs = c .before .before .pre .1
+
+join-tvar-enum-known-what : (t : ℕ) → join-tvar-lts.Need-enum-known-what (join-tvar-calls t) (join-tvar-at t) join-tvar.Post
+join-tvar-enum-known-what t c = search needs
+
+join-tvar-enum-known-what-2 : (t : ℕ) → join-tvar-lts.Need-enum-known-what-2 (join-tvar-calls t) (join-tvar-at t) join-tvar.Post
+join-tvar-enum-known-what-2 t c = search needs
+
+join-tvar-join-impl-requires : (t : ℕ) → join-tvar-lts.Need-join-impl-requires (join-tvar-calls t) (join-tvar-at t) join-tvar.Post
+join-tvar-join-impl-requires t c κs = (omega arith, (c .before .before .before .before .before .before .before .open-tvar .ensures .lay, (ready-in _ (c .before .before .before .before .before .before .before .open-tvar .result .what) _ _ _ _ (c .before .before .before .before .before .before .before .open-tvar .ensures .inside) (c .before .before .what2 .given .1) .0, ready-in _ (c .before .before .before .before .before .before .before .open-tvar .result .what) _ _ _ _ (c .before .before .before .before .before .before .before .open-tvar .ensures .inside) (c .before .before .what2 .given .1) .1 .0)))
+
+join-tvar-done-of-requires : (t : ℕ) → join-tvar-lts.Need-done-of-requires (join-tvar-calls t) (join-tvar-at t) join-tvar.Post
+join-tvar-done-of-requires t c κs = tt
+
+join-tvar-enum-known-ty : (t : ℕ) → join-tvar-lts.Need-enum-known-ty (join-tvar-calls t) (join-tvar-at t) join-tvar.Post
+join-tvar-enum-known-ty t c = search needs
+
+join-tvar-enum-told : (t : ℕ) → join-tvar-lts.Need-enum-told (join-tvar-calls t) (join-tvar-at t) join-tvar.Post
+join-tvar-enum-told t c = search needs
+
+join-tvar-same-length : (t : ℕ) → join-tvar-lts.Need-same-length (join-tvar-calls t) (join-tvar-at t) join-tvar.Post
+join-tvar-same-length t c = c .before .before .before .before .before .join-impl .ensures .changed .lay .size ∙ sym (c .before .before .before .before .before .before .before .before .before .before .before .before .before .before .before .before .pre .1 .size)
+
+join-tvar-returns : (t : ℕ) → join-tvar-lts.Need-returns (join-tvar-calls t) (join-tvar-at t) join-tvar.Post
+join-tvar-returns t c = tvar-inner _ _ _ _ _ _ _ _ _ _ (c .before .before .before .before .before .before .before .before .before .before .before .before .before .open-tvar .ensures) _ _ _ _ (c .before .before .before .before .before .before .before .before .what2 .given .1) _ _ _ (c .before .before .before .before .before .join-impl .ensures) (c .before .before .done-of .ensures) (c .enum-told .given .1)
+
+join-tvar-close-tvar-requires : (t : ℕ) → join-tvar-lts.Need-close-tvar-requires (join-tvar-calls t) (join-tvar-at t) join-tvar.Post
+join-tvar-close-tvar-requires t c κs = (c .before .before .before .before .before .before .before .join-impl .ensures .changed .lay, (still-in _ _ _ _ _ (c .before .before .before .before .before .before .before .join-impl .ensures .changed .grown) (ready-in _ (c .before .before .before .before .before .before .before .before .before .before .before .before .before .before .before .open-tvar .result .what) _ _ _ _ (c .before .before .before .before .before .before .before .before .before .before .before .before .before .before .before .open-tvar .ensures .inside) (c .before .before .before .before .before .before .before .before .before .before .what2 .given .1) .0), (still-in _ _ _ _ _ (c .before .before .before .before .before .before .before .join-impl .ensures .changed .grown) (ready-in _ (c .before .before .before .before .before .before .before .before .before .before .before .before .before .before .before .open-tvar .result .what) _ _ _ _ (c .before .before .before .before .before .before .before .before .before .before .before .before .before .before .before .open-tvar .ensures .inside) (c .before .before .before .before .before .before .before .before .before .before .what2 .given .1) .1 .0), (still-in _ _ _ _ _ (c .before .before .before .before .before .before .before .join-impl .ensures .changed .grown) (ready-in _ (c .before .before .before .before .before .before .before .before .before .before .before .before .before .before .before .open-tvar .result .what) _ _ _ _ (c .before .before .before .before .before .before .before .before .before .before .before .before .before .before .before .open-tvar .ensures .inside) (c .before .before .before .before .before .before .before .before .before .before .what2 .given .1) .1 .1), node-in _ (c .before .before .before .before .before .before .before .join-impl .result .out) _ _ (c .before .before .before .before .before .before .before .join-impl .ensures .inside) (c .before .before .before .before .done-of .ensures) (c .before .before .ty .given .1)))))
+
+join-tvar-same-length-2 : (t : ℕ) → join-tvar-lts.Need-same-length-2 (join-tvar-calls t) (join-tvar-at t) join-tvar.Post
+join-tvar-same-length-2 t c = c .before .before .before .before .before .before .open-tvar .ensures .lay .size ∙ sym (c .before .before .before .before .before .before .before .before .before .pre .1 .size)
+
+join-tvar-returns-2 : (t : ℕ) → join-tvar-lts.Need-returns-2 (join-tvar-calls t) (join-tvar-at t) join-tvar.Post
+join-tvar-returns-2 t c = tvar-stop _ _ _ _ _ _ _ _ _ _ (c .before .before .before .before .before .before .open-tvar .ensures) _ (c .before .what .given .1)
+
+join-tvar-same-length-3 : (t : ℕ) → join-tvar-lts.Need-same-length-3 (join-tvar-calls t) (join-tvar-at t) join-tvar.Post
+join-tvar-same-length-3 t c = c .before .before .close-tvar .ensures .changed .lay .size ∙ sym (c .before .before .before .before .before .before .before .before .before .before .before .before .before .before .before .before .before .before .before .before .before .pre .1 .size)
+
+join-tvar-returns-3 : (t : ℕ) → join-tvar-lts.Need-returns-3 (join-tvar-calls t) (join-tvar-at t) join-tvar.Post
+join-tvar-returns-3 t c = tvar-close _ _ _ _ _ _ _ _ _ _ (c .before .before .before .before .before .before .before .before .before .before .before .before .before .before .before .before .before .before .open-tvar .ensures) _ _ _ _ (c .before .before .before .before .before .before .before .before .before .before .before .before .before .what2 .given .1) _ _ _ (c .before .before .before .before .before .before .before .before .before .before .join-impl .ensures) (c .before .before .before .before .before .before .before .done-of .ensures) _ _ _ (c .before .before .before .before .before .ty .given .1) (c .before .before .close-tvar .ensures)
+
+pub +join-impl+join-impl-types+join-tvar-spec : {M : Type 1} → statement M
++join-impl+join-impl-types+join-tvar-spec =
+    close μ-join-impl μ-join-impl-types μ-join-tvar (λ t. join-impl-lts.spec (join-impl-calls t) (join-impl-at t) join-impl.Post
+    (join-impl-returns t)
+    (join-impl-node-at-requires t)
+    (join-impl-node-at-requires-2 t)
+    (join-impl-arm-of-requires t)
+    (join-impl-enum-told t)
+    (join-impl-enum-told-2 t)
+    (join-impl-enum-known-side t)
+    (join-impl-sub-join-impl t)
+    (join-impl-join-impl-requires t)
+    (join-impl-done-of-requires t)
+    (join-impl-enum-known-t t)
+    (join-impl-enum-told-3 t)
+    (join-impl-same-length t)
+    (join-impl-returns-2 t)
+    (join-impl-pick-loc-requires t)
+    (join-impl-push-node-requires t)
+    (join-impl-enum-known-k t)
+    (join-impl-sub-join-impl-types t)
+    (join-impl-join-impl-types-requires t)
+    (join-impl-done-of-requires-2 t)
+    (join-impl-enum-known-m t)
+    (join-impl-enum-told-4 t)
+    (join-impl-same-length-2 t)
+    (join-impl-returns-3 t)
+    (join-impl-push-apply-requires t)
+    (join-impl-enum-known-id1 t)
+    (join-impl-sub-join-tvar t)
+    (join-impl-join-tvar-requires t)
+    (join-impl-enum-known-id t)
+    (join-impl-meet-tvar-requires t)
+    (join-impl-enum-known-what t)
+    (join-impl-enum-known-what-2 t)
+    (join-impl-sub-join-tvar-2 t)
+    (join-impl-join-tvar-requires-2 t)
+    (join-impl-enum-known-id-2 t)
+    (join-impl-meet-tvar-requires-2 t)
+    (join-impl-enum-known-what-3 t)
+    (join-impl-enum-known-what-4 t)
+    (join-impl-sub-join-tvar-3 t)
+    (join-impl-join-tvar-requires-3 t)
+    (join-impl-enum-told-5 t)
+    (join-impl-enum-told-6 t)
+    (join-impl-enum-told-7 t)
+    (join-impl-enum-told-8 t)
+    (join-impl-same-length-3 t)
+    (join-impl-returns-4 t)
+    (join-impl-same-length-4 t)
+    (join-impl-returns-5 t)
+    (join-impl-same-length-5 t)
+    (join-impl-returns-6 t)
+    (join-impl-same-length-6 t)
+    (join-impl-returns-7 t)
+    (join-impl-same-length-7 t)
+    (join-impl-returns-8 t)
+    (join-impl-same-length-8 t)
+    (join-impl-returns-9 t)
+    (join-impl-same-length-9 t)
+    (join-impl-returns-10 t)
+    (join-impl-same-length-10 t)
+    (join-impl-returns-11 t)
+    (join-impl-same-length-11 t)
+    (join-impl-returns-12 t)
+    (join-impl-same-length-12 t)
+    (join-impl-returns-13 t)
+    (join-impl-same-length-13 t)
+    (join-impl-returns-14 t)
+    (join-impl-same-length-14 t)
+    (join-impl-returns-15 t)
+    (join-impl-same-length-15 t)
+    (join-impl-returns-16 t))
+    (λ t. join-impl-types-lts.spec (join-impl-types-calls t) (join-impl-types-at t) join-impl-types.Post
+    join-impl-types-Inv-loop
+    join-impl-types-μ-loop
+    (join-impl-types-fewer-requires t)
+    (join-impl-types-loop-holds t)
+    (join-impl-types-arg-at-requires t)
+    (join-impl-types-arg-at-requires-2 t)
+    (join-impl-types-join-impl-requires t)
+    (join-impl-types-done-of-requires t)
+    (join-impl-types-enum-known-t t)
+    (join-impl-types-enum-told t)
+    (join-impl-types-same-length t)
+    (join-impl-types-returns t)
+    (join-impl-types-cast-k t)
+    (join-impl-types-mul-tys t)
+    (join-impl-types-array-write-tys t)
+    (join-impl-types-add-i t)
+    (join-impl-types-loop-less t)
+    (join-impl-types-loop-again t)
+    (join-impl-types-same-length-2 t)
+    (join-impl-types-returns-2 t))
+    λ t. join-tvar-lts.spec (join-tvar-calls t) (join-tvar-at t) join-tvar.Post
+    (join-tvar-open-tvar-requires t)
+    (join-tvar-enum-known-what t)
+    (join-tvar-enum-known-what-2 t)
+    (join-tvar-join-impl-requires t)
+    (join-tvar-done-of-requires t)
+    (join-tvar-enum-known-ty t)
+    (join-tvar-enum-told t)
+    (join-tvar-same-length t)
+    (join-tvar-returns t)
+    (join-tvar-close-tvar-requires t)
+    (join-tvar-same-length-2 t)
+    (join-tvar-returns-2 t)
+    (join-tvar-same-length-3 t)
+    (join-tvar-returns-3 t)

@@ -1,0 +1,311 @@
+-- The operand walk and the merge: what each arm does, as laws that follow the code. Assumes nothing.
+use mathlib.Core.Path.{_≡_, refl, sym, ap, _∙_, subst}
+use mathlib.Core.Bool.{Bool, true, false}
+use mathlib.Core.List.{List, []}
+use mathlib.Core.Option.{Option, none, some}
+use Prim.Native.Nat.{ℕ, zero, suc, _+_, _-_, _<_, _≤_}
+use native.Mathlib.Numerals.{sub-one}
+use native.Mathlib.Omega.{arith}
+use lib.ListN.{getD, length, take}
+use Rattle.definition.specs.Types as d
+use Rattle.definition.specs.Types.{State, Struct, Places, Result, ok, err, refused, _>>=_, if_then_else_}
+use Rattle.definition.specs.Store.{count, node, value, loc-of, args-at, with-args, with-structs, with-vars, with-var, get, insert, sp, next-tvar}
+use Rattle.definition.specs.Join as j
+use Rattle.definition.specs.Join.{Join-impl, Var-l, Var-r, arm, join-arm, join-impl, join-impl-types, join-tvar, join-unbound}
+use Rattle.names.specs.Names.{mark-of, name-of}
+use Rattle.names.specs.declared.Mark.{Mark}
+use Rattle.names.specs.declared.TypeName.{TypeName}
+use Rattle.names.specs.declared.TVar.{TVar}
+use Rattle.table.specs.Rows.{places}
+use Rattle.table.specs.State.{Lay, Grown, Changed, After, Nodes-in, outcome, seen, view, done, node-of, shape-of, Below}
+use Rattle.table.specs.declared.Step.{Step}
+use Rattle.table.specs.declared.Used.{Used}
+use Rattle.table.specs.declared.Node.{Node}
+use Rattle.table.specs.declared.Out.{Out}
+use Rattle.table.specs.declared.Out.the-variants.{Done, Subtype, Incompatible as IncompatibleO, Arity, Deep, Disagree as DisagreeO}
+use Rattle.table.specs.declared.Found.{Found}
+use Rattle.table.specs.declared.Found.the-variants.{Nothing, Just}
+use Rattle.table.proofs.Steps.{grown-trans, after-now, after-stop, after-then}
+use Rattle.arms.specs.Arms.{case-of, by-arm, Arm-below, Takes}
+use Rattle.arms.specs.declared.TypingCase.{TypingCase}
+use Rattle.arms.specs.declared.Arm.{Arm}
+use Rattle.arms.specs.declared.Arm.the-variants.{Left, Right, Refs, Applies, Vars, VarLeft, VarRight, SubtypeError, ArityMismatch, Incompatible, Disagree}
+use Rattle.merge.specs.Merge.{Inner, open-tvar, open-types, open-ends, opened, Opened-in, Opens, show-both, close-tvar, meet-tvar, met, Meets}
+use Rattle.merge.specs.declared.Open.{Open}
+use Rattle.merge.specs.declared.Opened.{Opened}
+use Rattle.merge.specs.declared.Opened.the-variants.{Ready, Stop}
+use Rattle.merge.specs.declared.Met.{Met}
+use Rattle.merge.specs.declared.Meet.{Meet}
+use Rattle.merge.specs.declared.Meet.the-variants.{Is, Merge}
+use Rattle.merge.proofs.Answers.{then-is, count-is, loc-is, value-is}
+use Rattle.merge.proofs.Laws.{after-seen}
+use Rattle.join.specs.Join.{Joined}
+use Rattle.join.specs.declared.Types.{Types}
+use Rattle.join.proofs.Binds.{stop-any, bind-ok, next-same}
+use Rattle.join.proofs.Args.{inner}
+
+-- ---- answers that are handed on
+
+module _ (w : List ℕ) (u : Used) (w′ : List ℕ) (m : Met) (f : (State → ℕ → Result (State × ℕ)) → State → Result (State × ℕ)) (a : Meets w u w′ m f) (k : State → ℕ → Result (State × ℕ)) where
+  pub met-is : (o : Out) → m .what ≡ Is o → After w u w′ (record { out = o; used = m .used }) (λ s. f k s)
+  unfolding met
+  met-is o e = record { changed = record { lay = a .lay; grown = a .grown; structs = a .structs; is = λ ds. rw e at (a .is k ds) }; inside = rw e at (a .inside) }
+
+  pub met-merge : (v : TVar) (w₂ : List ℕ) (r : Step) → m .what ≡ Merge v → After w′ (m .used) w₂ r (λ s. k s (v .0)) → After w u w₂ r (λ s. f k s)
+  unfolding met
+  met-merge v w₂ r e n =
+      record {
+        changed = record {
+          lay = n .changed .lay;
+          grown = grown-trans _ _ _ (a .grown) (n .changed .grown);
+          structs = n .changed .structs ∙ a .structs;
+          is = λ ds. n .changed .is ds ∙ (rw e at (a .is k ds));
+        };
+        inside = n .inside;
+      }
+
+module _ (w : List ℕ) (u : Used) (w′ : List ℕ) (m : Open) (f : Inner → State → Result (State × ℕ)) (a : Opens w u w′ m f) (k : Inner) where
+  open-is : (o : Out) → m .what ≡ Stop o → After w u w′ (record { out = o; used = m .used }) (λ s. f k s)
+  unfolding opened
+  open-is o e = record { changed = record { lay = a .lay; grown = a .grown; structs = a .structs; is = λ ds. rw e at (a .is k ds) }; inside = rw e at (a .inside) }
+
+  open-ready : (ty1 ty2 : ℕ) (v : TVar) (var2 : ℕ) (w₂ : List ℕ) (r : Step) → m .what ≡ Ready ty1 ty2 v var2 → After w′ (m .used) w₂ r (λ s. k s ty1 ty2 (v .0) var2) → After w u w₂ r (λ s. f k s)
+  unfolding opened
+  open-ready ty1 ty2 v var2 w₂ r e n =
+      record {
+        changed = record {
+          lay = n .changed .lay;
+          grown = grown-trans _ _ _ (a .grown) (n .changed .grown);
+          structs = n .changed .structs ∙ a .structs;
+          is = λ ds. n .changed .is ds ∙ (rw e at (a .is k ds));
+        };
+        inside = n .inside;
+      }
+
+module _ (w : List ℕ) (u : Used) (w′ : List ℕ) (t : Types) (f : State → Result (State × List ℕ)) (h : State × List ℕ → Result (State × ℕ)) (b : Found) (a : Joined w u w′ t f) (p : b ≡ done (t .out)) where
+  types-stop : b ≡ Nothing → After w u w′ (record { out = t .out; used = t .used }) (λ s. f s >>= h)
+  types-stop q =
+      record {
+        changed = record {
+          lay = a .lay;
+          grown = a .grown;
+          structs = a .structs;
+          is = λ ds. bind-ok (outcome (t .out) (seen w′ (t .used) ds)) ∙ stop-any (t .out) (seen w′ (t .used) ds) (λ x. ok x) (λ x. ok (x .0, take (x .1) (t .tys))) h (sym p ∙ q) ∙ ap (λ (m : Result (State × List ℕ)). m >>= h) (a .is ds);
+        };
+        inside = a .inside (sym p ∙ q);
+      }
+
+  types-then : (n : ℕ) (w₂ : List ℕ) (r : Step) → b ≡ Just n → After w′ (t .used) w₂ r (λ s. h (s, take n (t .tys))) → After w u w₂ r (λ s. f s >>= h)
+  unfolding _>>=_
+  types-then n w₂ r q x =
+      record {
+        changed = record {
+          lay = x .changed .lay;
+          grown = grown-trans _ _ _ (a .grown) (x .changed .grown);
+          structs = x .changed .structs ∙ a .structs;
+          is = λ ds. x .changed .is ds ∙ ap (λ (m : Result (State × List ℕ)). m >>= h) (then-is (t .out) b n (seen w′ (t .used) ds) (λ x. ok (x .0, take (x .1) (t .tys))) p q ∙ a .is ds);
+        };
+        inside = x .inside;
+      }
+
+-- ---- the merge
+
+pub ready-in : (n : ℕ) (o : Opened) (ty1 ty2 : ℕ) (v : TVar) (var2 : ℕ) → Opened-in n o → o ≡ Ready ty1 ty2 v var2 → (ty1 < n) × ((ty2 < n) × (var2 < n))
+ready-in n o ty1 ty2 v var2 i e = rw e at i
+
+abbrev then-close : ℕ → j.TypingCase → ℕ → ℕ → ℕ → Inner
+then-close left case id1 loc2 id2 = λ s ty1 ty2 new var2. join-impl left s case ty1 ty2 >>= (λ x. close-tvar (x .0) ty1 id1 ty2 loc2 id2 new var2 (x .1))
+
+tvar-is : (left : ℕ) (case : j.TypingCase) (s : State) (loc1 id1 loc2 id2 : ℕ) → open-tvar (then-close left case id1 loc2 id2) s loc1 id1 loc2 id2 ≡ join-tvar (inner left) s case loc1 id1 loc2 id2
+unfolding open-tvar open-types open-ends close-tvar show-both join-tvar
+tvar-is left case s loc1 id1 loc2 id2 = refl
+
+module _ (left : ℕ) (case : j.TypingCase) (w : List ℕ) (u : Used) (loc1 id1 loc2 id2 : ℕ) (w₁ : List ℕ) (m : Open) (a : Opens w u w₁ m (λ k s. open-tvar k s loc1 id1 loc2 id2)) where
+  pub tvar-stop : (o : Out) → m .what ≡ Stop o → After w u w₁ (record { out = o; used = m .used }) (λ s. join-tvar (inner left) s case loc1 id1 loc2 id2)
+  tvar-stop o e =
+      after-seen (λ s. join-tvar (inner left) s case loc1 id1 loc2 id2) (λ ds. tvar-is left case (seen w u ds) loc1 id1 loc2 id2)
+      (open-is w u w₁ m (λ k s. open-tvar k s loc1 id1 loc2 id2) a (then-close left case id1 loc2 id2) o e)
+
+  module _ (ty1 ty2 : ℕ) (v : TVar) (var2 : ℕ) (e : m .what ≡ Ready ty1 ty2 v var2) where
+    module _ (w₂ : List ℕ) (x : Step) (b : Found) (after : After w₁ (m .used) w₂ x (λ s. join-impl left s case ty1 ty2)) (p : b ≡ done (x .out)) where
+      from-open : (w′ : List ℕ) (r : Step) → After w₁ (m .used) w′ r (λ s. then-close left case id1 loc2 id2 s ty1 ty2 (v .0) var2) → After w u w′ r (λ s. join-tvar (inner left) s case loc1 id1 loc2 id2)
+      from-open w′ r n =
+          after-seen (λ s. join-tvar (inner left) s case loc1 id1 loc2 id2) (λ ds. tvar-is left case (seen w u ds) loc1 id1 loc2 id2)
+          (open-ready w u w₁ m (λ k s. open-tvar k s loc1 id1 loc2 id2) a (then-close left case id1 loc2 id2) ty1 ty2 v var2 w′ r e n)
+
+      pub tvar-inner : b ≡ Nothing → After w u w₂ x (λ s. join-tvar (inner left) s case loc1 id1 loc2 id2)
+      tvar-inner q =
+          from-open w₂ x (after-stop w₁ (m .used) w₂ x (λ s. join-impl left s case ty1 ty2) (λ y. close-tvar (y .0) ty1 id1 ty2 loc2 id2 (v .0) var2 (y .1)) b after p q)
+
+      pub tvar-close : (ty : ℕ) (w₃ : List ℕ) (r : Step) → b ≡ Just ty → After w₂ (x .used) w₃ r (λ s. close-tvar s ty1 id1 ty2 loc2 id2 (v .0) var2 ty) → After w u w₃ r (λ s. join-tvar (inner left) s case loc1 id1 loc2 id2)
+      tvar-close ty w₃ r q n =
+          from-open w₃ r (after-then w₁ (m .used) w₂ x (λ s. join-impl left s case ty1 ty2) (λ y. close-tvar (y .0) ty1 id1 ty2 loc2 id2 (v .0) var2 (y .1)) b ty w₃ r (after .changed) p q n)
+
+-- ---- the operand walk
+
+pub impl-deep : (left : ℕ) (case : j.TypingCase) (s : State) (lhs rhs : ℕ) → left ≡ 0 → outcome Deep s ≡ join-impl left s case lhs rhs
+unfolding join-impl outcome
+impl-deep left case s lhs rhs e = rw e
+
+impl-more : (left : ℕ) (case : j.TypingCase) (s : State) (lhs rhs : ℕ) → (left ≡ 0 → ⊥) → join-arm (inner (left - 1)) s case lhs rhs (arm (value s lhs) (value s rhs)) ≡ join-impl left s case lhs rhs
+unfolding join-impl
+impl-more zero case s lhs rhs h = absurd (h refl)
+impl-more (suc n) case s lhs rhs h = rw (sub-one (suc n))
+
+below-more : (args : List ℕ) (t n : ℕ) (s : d.Shape Places) → t ≤ n → Below args t s → Below args n s
+below-more args t n d.UnitType h b = tt
+below-more args t n (d.Ref m p) h b = omega arith
+below-more args t n (d.Param id a) h b = tt
+below-more args t n (d.Apply k c p) h b = (b .0, (b .1 .0, λ i lt. let x = b .1 .1 i lt in omega arith))
+below-more args t n (d.Var v) h b = tt
+below-more args t n d.Anything h b = tt
+below-more args t n d.UnresolvedError h b = tt
+
+node-seen : (w : List ℕ) (u : Used) (t : ℕ) (ds : List Struct) → node (seen w u ds) t ≡ node (view w u) t
+unfolding node seen with-structs
+node-seen w u t ds = refl
+
+fresh-loc : (s : State) (t : ℕ) → loc-of (with-var s) t ≡ loc-of s t
+unfolding loc-of node with-var with-vars
+fresh-loc s t = refl
+
+node-below : (w : List ℕ) (u : Used) (t : ℕ) (n : Node) → Lay w u → t < u .nodes → ((ds : List Struct) → node-of n ≡ node (seen w u ds) t) → Below (view w u .args) (u .nodes) (shape-of (n .shape))
+node-below w u t n h lt e =
+    let x : t < count (view w u) = rw (count-is w u) lt in
+    below-more (view w u .args) t (u .nodes) (shape-of (n .shape)) (omega arith)
+    (subst (λ (m : d.Node). Below (view w u .args) t (m .value)) (sym (e [] ∙ node-seen w u t [])) (h .inside .parts t x))
+
+module _ (left : ℕ) (case : TypingCase) (w : List ℕ) (u : Used) (lhs rhs : ℕ) (l r : Node) (more : left ≡ 0 → ⊥)
+    (el : (ds : List Struct) → node-of l ≡ node (seen w u ds) lhs) (er : (ds : List Struct) → node-of r ≡ node (seen w u ds) rhs)
+    (a : Arm) (takes : Takes (case-of case) (l .shape) (r .shape) a) where
+  chosen : (b : Arm) → a ≡ b → (ds : List Struct) → by-arm (inner (left - 1)) (seen w u ds) (case-of case) lhs rhs b ≡ join-impl left (seen w u ds) (case-of case) lhs rhs
+  chosen b e ds =
+      rw (← e)
+      (sym (takes .is (inner (left - 1)) (seen w u ds) lhs rhs)
+      ∙ (rw (value-is (seen w u ds) lhs l (el ds), value-is (seen w u ds) rhs r (er ds)) (impl-more left (case-of case) (seen w u ds) lhs rhs more)))
+
+  by : (b : Arm) (w′ : List ℕ) (x : Step) → a ≡ b → After w u w′ x (λ s. by-arm (inner (left - 1)) s (case-of case) lhs rhs b) → After w u w′ x (λ s. join-impl left s (case-of case) lhs rhs)
+  by b w′ x e n = after-seen (λ s. join-impl left s (case-of case) lhs rhs) (chosen b e) n
+
+  -- what an arm goes on to are nodes
+  pub arm-below : (b : Arm) → Lay w u → lhs < u .nodes → rhs < u .nodes → a ≡ b → Arm-below (view w u .args) (u .nodes) b
+  arm-below b h hl hr e = rw e at (takes .below (view w u .args) (u .nodes) (node-below w u lhs l h hl el) (node-below w u rhs r h hr er))
+
+  -- the arms that go on to nothing
+  pub arm-left : Lay w u → lhs < u .nodes → a ≡ Left → After w u w (record { out = Done lhs; used = u }) (λ s. join-impl left s (case-of case) lhs rhs)
+  unfolding by-arm outcome
+  arm-left h i e = by Left w _ e (after-now w u (Done lhs) (λ s. by-arm (inner (left - 1)) s (case-of case) lhs rhs Left) h i (λ ds. refl))
+
+  pub arm-right : Lay w u → rhs < u .nodes → a ≡ Right → After w u w (record { out = Done rhs; used = u }) (λ s. join-impl left s (case-of case) lhs rhs)
+  unfolding by-arm outcome
+  arm-right h i e = by Right w _ e (after-now w u (Done rhs) (λ s. by-arm (inner (left - 1)) s (case-of case) lhs rhs Right) h i (λ ds. refl))
+
+  pub arm-subtype : Lay w u → (lhs < u .nodes) × (rhs < u .nodes) → a ≡ SubtypeError → After w u w (record { out = Subtype lhs rhs; used = u }) (λ s. join-impl left s (case-of case) lhs rhs)
+  unfolding by-arm outcome
+  arm-subtype h i e = by SubtypeError w _ e (after-now w u (Subtype lhs rhs) (λ s. by-arm (inner (left - 1)) s (case-of case) lhs rhs SubtypeError) h i (λ ds. refl))
+
+  pub arm-arity : Lay w u → (lhs < u .nodes) × (rhs < u .nodes) → a ≡ ArityMismatch → After w u w (record { out = Arity lhs rhs; used = u }) (λ s. join-impl left s (case-of case) lhs rhs)
+  unfolding by-arm outcome
+  arm-arity h i e = by ArityMismatch w _ e (after-now w u (Arity lhs rhs) (λ s. by-arm (inner (left - 1)) s (case-of case) lhs rhs ArityMismatch) h i (λ ds. refl))
+
+  pub arm-incompatible : Lay w u → (lhs < u .nodes) × (rhs < u .nodes) → a ≡ Incompatible → After w u w (record { out = IncompatibleO lhs rhs; used = u }) (λ s. join-impl left s (case-of case) lhs rhs)
+  unfolding by-arm outcome
+  arm-incompatible h i e = by Incompatible w _ e (after-now w u (IncompatibleO lhs rhs) (λ s. by-arm (inner (left - 1)) s (case-of case) lhs rhs Incompatible) h i (λ ds. refl))
+
+  pub arm-disagree : Lay w u → a ≡ Disagree → After w u w (record { out = DisagreeO; used = u }) (λ s. join-impl left s (case-of case) lhs rhs)
+  unfolding by-arm outcome
+  arm-disagree h e = by Disagree w _ e (after-now w u DisagreeO (λ s. by-arm (inner (left - 1)) s (case-of case) lhs rhs Disagree) h tt (λ ds. refl))
+
+  -- references
+  module _ (side mut : Bool) (t1 t2 : ℕ) (e : a ≡ Refs side mut t1 t2) (w₁ : List ℕ) (x : Step) (b : Found)
+      (after : After w u w₁ x (λ s. join-impl (left - 1) s (case-of case) t1 t2)) (p : b ≡ done (x .out)) where
+    abbrev then-ref : ℕ → State × ℕ → Result (State × ℕ)
+    then-ref loc y = sp (y .0) loc (d.Ref mut (y .1))
+
+    from-refs : (loc : ℕ) (w′ : List ℕ) (y : Step) → loc ≡ (if side then l .loc else r .loc) → After w u w′ y (λ s. join-impl (left - 1) s (case-of case) t1 t2 >>= then-ref loc) → After w u w′ y (λ s. join-impl left s (case-of case) lhs rhs)
+    unfolding by-arm
+    from-refs loc w′ y q n =
+        by (Refs side mut t1 t2) w′ y e
+        (after-seen (λ s. by-arm (inner (left - 1)) s (case-of case) lhs rhs (Refs side mut t1 t2))
+        (λ ds. rw (q, loc-is (seen w u ds) lhs l (el ds), loc-is (seen w u ds) rhs r (er ds))) n)
+
+    pub refs-stop : b ≡ Nothing → After w u w₁ x (λ s. join-impl left s (case-of case) lhs rhs)
+    refs-stop q = from-refs (if side then l .loc else r .loc) w₁ x refl (after-stop w u w₁ x (λ s. join-impl (left - 1) s (case-of case) t1 t2) (then-ref (if side then l .loc else r .loc)) b after p q)
+
+    pub refs-then : (t loc : ℕ) (w₂ : List ℕ) (y : Step) → b ≡ Just t → loc ≡ (if side then l .loc else r .loc) → After w₁ (x .used) w₂ y (λ s. sp s loc (d.Ref mut t)) → After w u w₂ y (λ s. join-impl left s (case-of case) lhs rhs)
+    refs-then t loc w₂ y q i n = from-refs loc w₂ y i (after-then w u w₁ x (λ s. join-impl (left - 1) s (case-of case) t1 t2) (then-ref loc) b t w₂ y (after .changed) p q n)
+
+  -- named types
+  module _ (k : Mark) (n : TypeName) (first1 many1 first2 many2 : ℕ) (e : a ≡ Applies k n first1 many1 first2 many2) (w₁ : List ℕ) (x : Types) (b : Found)
+      (joined : Joined w u w₁ x (λ s. join-impl-types (inner (left - 1)) s (case-of case) (args-at s (places first1 many1)) (args-at s (places first2 many2)))) (p : b ≡ done (x .out)) where
+    abbrev then-apply : State × List ℕ → Result (State × ℕ)
+    then-apply y = sp (y .0) (r .loc) (d.Apply (mark-of k) (name-of n) (y .1))
+
+    from-applies : (w′ : List ℕ) (y : Step)
+        → After w u w′ y (λ s. join-impl-types (inner (left - 1)) s (case-of case) (args-at s (places first1 many1)) (args-at s (places first2 many2)) >>= then-apply)
+        → After w u w′ y (λ s. join-impl left s (case-of case) lhs rhs)
+    unfolding by-arm
+    from-applies w′ y m =
+        by (Applies k n first1 many1 first2 many2) w′ y e
+        (after-seen (λ s. by-arm (inner (left - 1)) s (case-of case) lhs rhs (Applies k n first1 many1 first2 many2)) (λ ds. rw (loc-is (seen w u ds) rhs r (er ds))) m)
+
+    pub applies-stop : b ≡ Nothing → After w u w₁ (record { out = x .out; used = x .used }) (λ s. join-impl left s (case-of case) lhs rhs)
+    applies-stop q = from-applies w₁ _ (types-stop w u w₁ x _ then-apply b joined p q)
+
+    pub applies-then : (m : ℕ) (w₂ : List ℕ) (y : Step) → b ≡ Just m → After w₁ (x .used) w₂ y (λ s. sp s (r .loc) (d.Apply (mark-of k) (name-of n) (take m (x .tys)))) → After w u w₂ y (λ s. join-impl left s (case-of case) lhs rhs)
+    applies-then m w₂ y q z = from-applies w₂ y (types-then w u w₁ x _ then-apply b joined p m w₂ y q z)
+
+  -- two variables
+  pub arm-vars : (id1 id2 : TVar) (w₁ : List ℕ) (x : Step) → a ≡ Vars id1 id2 → After w u w₁ x (λ s. join-tvar (inner (left - 1)) s (case-of case) (l .loc) (id1 .0) (r .loc) (id2 .0)) → After w u w₁ x (λ s. join-impl left s (case-of case) lhs rhs)
+  unfolding by-arm
+  arm-vars id1 id2 w₁ x e n =
+      by (Vars id1 id2) w₁ x e
+      (after-seen (λ s. by-arm (inner (left - 1)) s (case-of case) lhs rhs (Vars id1 id2)) (λ ds. rw (loc-is (seen w u ds) lhs l (el ds), loc-is (seen w u ds) rhs r (er ds))) n)
+
+  -- one variable
+  abbrev merge-left : ℕ → State → ℕ → Result (State × ℕ)
+  merge-left id = λ s new. join-tvar (inner (left - 1)) s (case-of case) (l .loc) id (r .loc) new
+
+  abbrev merge-right : ℕ → State → ℕ → Result (State × ℕ)
+  merge-right id = λ s new. join-tvar (inner (left - 1)) s (case-of case) (l .loc) new (r .loc) id
+
+  left-by : (id : ℕ) (ds : List Struct) (g : Option ℕ) → g ≡ get (seen w u ds) id → meet-tvar (merge-left id) (seen w u ds) lhs rhs lhs id rhs ≡ join-arm (inner (left - 1)) (seen w u ds) (case-of case) lhs rhs (Var-l id)
+  unfolding meet-tvar join-arm
+  left-by id ds none e = rw (← e, meet-tvar, join-arm)
+  left-by id ds (some t) e =
+      rw (← e, meet-tvar, join-arm)
+      (next-same (seen w u ds) _ _ (rw (fresh-loc (seen w u ds) lhs, fresh-loc (seen w u ds) rhs, loc-is (seen w u ds) lhs l (el ds), loc-is (seen w u ds) rhs r (er ds))))
+
+  right-by : (id : ℕ) (ds : List Struct) (g : Option ℕ) → g ≡ get (seen w u ds) id → meet-tvar (merge-right id) (seen w u ds) lhs rhs rhs id lhs ≡ join-arm (inner (left - 1)) (seen w u ds) (case-of case) lhs rhs (Var-r id)
+  unfolding meet-tvar join-arm
+  right-by id ds none e = rw (← e, meet-tvar, join-arm)
+  right-by id ds (some t) e =
+      rw (← e, meet-tvar, join-arm)
+      (next-same (seen w u ds) _ _ (rw (fresh-loc (seen w u ds) lhs, fresh-loc (seen w u ds) rhs, loc-is (seen w u ds) lhs l (el ds), loc-is (seen w u ds) rhs r (er ds))))
+
+  module _ (id : TVar) (w₁ : List ℕ) (m : Met) where
+    from-left : (w′ : List ℕ) (x : Step) → a ≡ VarLeft id → After w u w′ x (λ s. meet-tvar (merge-left (id .0)) s lhs rhs lhs (id .0) rhs) → After w u w′ x (λ s. join-impl left s (case-of case) lhs rhs)
+    unfolding by-arm
+    from-left w′ x e n =
+        by (VarLeft id) w′ x e
+        (after-seen (λ s. by-arm (inner (left - 1)) s (case-of case) lhs rhs (VarLeft id)) (λ ds. left-by (id .0) ds (get (seen w u ds) (id .0)) refl) n)
+
+    from-right : (w′ : List ℕ) (x : Step) → a ≡ VarRight id → After w u w′ x (λ s. meet-tvar (merge-right (id .0)) s lhs rhs rhs (id .0) lhs) → After w u w′ x (λ s. join-impl left s (case-of case) lhs rhs)
+    unfolding by-arm
+    from-right w′ x e n =
+        by (VarRight id) w′ x e
+        (after-seen (λ s. by-arm (inner (left - 1)) s (case-of case) lhs rhs (VarRight id)) (λ ds. right-by (id .0) ds (get (seen w u ds) (id .0)) refl) n)
+
+    module _ (e : a ≡ VarLeft id) (meets : Meets w u w₁ m (λ k s. meet-tvar k s lhs rhs lhs (id .0) rhs)) where
+      pub left-is : (o : Out) → m .what ≡ Is o → After w u w₁ (record { out = o; used = m .used }) (λ s. join-impl left s (case-of case) lhs rhs)
+      left-is o q = from-left w₁ _ e (met-is w u w₁ m (λ k s. meet-tvar k s lhs rhs lhs (id .0) rhs) meets (merge-left (id .0)) o q)
+
+      pub left-merge : (v : TVar) (w₂ : List ℕ) (x : Step) → m .what ≡ Merge v → After w₁ (m .used) w₂ x (λ s. join-tvar (inner (left - 1)) s (case-of case) (l .loc) (id .0) (r .loc) (v .0)) → After w u w₂ x (λ s. join-impl left s (case-of case) lhs rhs)
+      left-merge v w₂ x q n = from-left w₂ x e (met-merge w u w₁ m (λ k s. meet-tvar k s lhs rhs lhs (id .0) rhs) meets (merge-left (id .0)) v w₂ x q n)
+
+    module _ (e : a ≡ VarRight id) (meets : Meets w u w₁ m (λ k s. meet-tvar k s lhs rhs rhs (id .0) lhs)) where
+      pub right-is : (o : Out) → m .what ≡ Is o → After w u w₁ (record { out = o; used = m .used }) (λ s. join-impl left s (case-of case) lhs rhs)
+      right-is o q = from-right w₁ _ e (met-is w u w₁ m (λ k s. meet-tvar k s lhs rhs rhs (id .0) lhs) meets (merge-right (id .0)) o q)
+
+      pub right-merge : (v : TVar) (w₂ : List ℕ) (x : Step) → m .what ≡ Merge v → After w₁ (m .used) w₂ x (λ s. join-tvar (inner (left - 1)) s (case-of case) (l .loc) (v .0) (r .loc) (id .0)) → After w u w₂ x (λ s. join-impl left s (case-of case) lhs rhs)
+      right-merge v w₂ x q n = from-right w₂ x e (met-merge w u w₁ m (λ k s. meet-tvar k s lhs rhs rhs (id .0) lhs) meets (merge-right (id .0)) v w₂ x q n)

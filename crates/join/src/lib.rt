@@ -1,0 +1,211 @@
+// typing/core.rs: join, subtype, join_impl, join_impl_types, join_tvar. What calls no join is in `arms` and `merge`.
+ghost use mathlib.Core.Path.{_≡_};
+ghost use mathlib.Core.Option.{none};
+ghost use Prim.Native.Nat.{ℕ, _≤_, _<_};
+ghost use Rattle.definition.specs.Types.{Apply, if_then_else_};
+ghost use Rattle.definition.specs.Types as d;
+ghost use Rattle.definition.specs.Store.{args-at};
+ghost use Rattle.definition.specs.Join.{join, subtype, join-impl, join-impl-types, join-tvar};
+ghost use Rattle.table.specs.Rows.{places};
+ghost use Rattle.table.specs.State.{Lay, After};
+ghost use Rattle.arms.specs.Arms.{case-of};
+ghost use Rattle.join.specs.Join.{Args-in, Joined, Fewer};
+use arms::Arm;
+use arms::TypingCase;
+use merge::Meet;
+use merge::Opened;
+use names::MAX_DEPTH;
+use names::TVar;
+use table::Found;
+use table::Node;
+use table::Out;
+use table::Shape;
+use table::Step;
+use table::Used;
+
+// The joins of two argument lists: the answer is how many, and they stand in `tys`.
+struct Types {
+    out: Out,
+    used: Used,
+    tys: [u32; 8],
+}
+
+fn pick_loc(left: bool, loc1: u32, loc2: u32) -> u32
+    ensures { λ r. ⌜ r ≡ (if left then loc1 else loc2) ⌝ }
+{
+    if left { loc1 } else { loc2 }
+}
+
+fn fewer(a: u32, b: u32) -> u32
+    ensures { λ r. ⌜ Fewer a b r ⌝ }
+{
+    if a < b { a } else { b }
+}
+
+pub fn join(w: &mut [u32], u: Used, lhs: u32, rhs: u32) -> Step
+    requires { ⌜ Lay (now w) u × ((lhs < u .nodes) × (rhs < u .nodes)) ⌝ }
+    ensures { λ r. ⌜ After (now (w .entry)) u (now (w .exit)) r (λ s. join s lhs rhs) ⌝ }
+{
+    join_impl(w, u, TypingCase::Join, MAX_DEPTH, lhs, rhs)
+}
+
+pub fn subtype(w: &mut [u32], u: Used, lhs: u32, rhs: u32) -> Step
+    requires { ⌜ Lay (now w) u × ((lhs < u .nodes) × (rhs < u .nodes)) ⌝ }
+    ensures { λ r. ⌜ After (now (w .entry)) u (now (w .exit)) r (λ s. subtype s lhs rhs) ⌝ }
+{
+    join_impl(w, u, TypingCase::Subtype, MAX_DEPTH, lhs, rhs)
+}
+
+// The operand walk; `left` is how many calls deep it may still go.
+fn join_impl(w: &mut [u32], u: Used, case: TypingCase, left: u32, lhs: u32, rhs: u32) -> Step
+    requires { ⌜ Lay (now w) u × ((lhs < u .nodes) × (rhs < u .nodes)) ⌝ }
+    ensures { λ r. ⌜ After (now (w .entry)) u (now (w .exit)) r (λ s. join-impl left s (case-of case) lhs rhs) ⌝ }
+{
+    if left == 0 {
+        return Step {
+            out: Out::Deep,
+            used: u,
+        };
+    }
+    let l = table::node_at(w, u, lhs);
+    let r = table::node_at(w, u, rhs);
+    let ls = l.shape;
+    let rs = r.shape;
+    match arms::arm_of(case, ls, rs) {
+        Arm::Left => Step {
+            out: Out::Done(lhs),
+            used: u,
+        },
+        Arm::Right => Step {
+            out: Out::Done(rhs),
+            used: u,
+        },
+        Arm::Refs(side, mutable, t1, t2) => {
+            let a = join_impl(w, u, case, left - 1, t1, t2);
+            let ao = a.out;
+            let Found::Just(t) = table::done_of(ao) else {
+                return a;
+            };
+            let loc = pick_loc(side, l.loc, r.loc);
+            table::push_node(w, a.used, loc, Shape::Ref(mutable, t))
+        }
+        Arm::Applies(k, n, first1, many1, first2, many2) => {
+            let a = join_impl_types(w, u, case, left - 1, first1, many1, first2, many2);
+            let ao = a.out;
+            let au = a.used;
+            let tys = a.tys;
+            let Found::Just(m) = table::done_of(ao) else {
+                return Step { out: ao, used: au };
+            };
+            table::push_apply(w, au, r.loc, k, n, tys, m)
+        }
+        Arm::Vars(id1, id2) => join_tvar(w, u, case, left - 1, l.loc, id1, r.loc, id2),
+        Arm::VarLeft(id) => {
+            let a = merge::meet_tvar(w, u, lhs, rhs, lhs, id, rhs);
+            let what = a.what;
+            let au = a.used;
+            match what {
+                Meet::Is(o) => Step { out: o, used: au },
+                Meet::Merge(fresh) => join_tvar(w, au, case, left - 1, l.loc, id, r.loc, fresh),
+            }
+        }
+        Arm::VarRight(id) => {
+            let a = merge::meet_tvar(w, u, lhs, rhs, rhs, id, lhs);
+            let what = a.what;
+            let au = a.used;
+            match what {
+                Meet::Is(o) => Step { out: o, used: au },
+                Meet::Merge(fresh) => join_tvar(w, au, case, left - 1, l.loc, fresh, r.loc, id),
+            }
+        }
+        Arm::SubtypeError => Step {
+            out: Out::Subtype(lhs, rhs),
+            used: u,
+        },
+        Arm::ArityMismatch => Step {
+            out: Out::Arity(lhs, rhs),
+            used: u,
+        },
+        Arm::Incompatible => Step {
+            out: Out::Incompatible(lhs, rhs),
+            used: u,
+        },
+        Arm::Disagree => Step {
+            out: Out::Disagree,
+            used: u,
+        },
+    }
+}
+
+// The argument walk, over as many as both lists have.
+fn join_impl_types(
+    w: &mut [u32],
+    u: Used,
+    case: TypingCase,
+    left: u32,
+    first1: u32,
+    many1: u32,
+    first2: u32,
+    many2: u32,
+) -> Types
+    requires { ⌜ Lay (now w) u × (Args-in (now w) u first1 many1 × Args-in (now w) u first2 many2) ⌝ }
+    ensures { λ r. ⌜ Joined (now (w .entry)) u (now (w .exit)) r (λ s. join-impl-types (λ s c l r. join-impl left s c l r) s (case-of case) (args-at s (places first1 many1)) (args-at s (places first2 many2))) ⌝ }
+{
+    let n = fewer(many1, many2);
+    let mut tys = [0u32; 8];
+    let mut at = u;
+    let mut i = 0;
+    while i < n {
+        let ty1 = table::arg_at(w, at, first1, i);
+        let ty2 = table::arg_at(w, at, first2, i);
+        let s = join_impl(w, at, case, left, ty1, ty2);
+        let o = s.out;
+        let su = s.used;
+        let Found::Just(t) = table::done_of(o) else {
+            return Types {
+                out: o,
+                used: su,
+                tys: tys,
+            };
+        };
+        let k = i as usize;
+        tys[k] = t;
+        at = su;
+        i += 1;
+    }
+    Types {
+        out: Out::Done(n),
+        used: at,
+        tys: tys,
+    }
+}
+
+// The variable merge.
+fn join_tvar(
+    w: &mut [u32],
+    u: Used,
+    case: TypingCase,
+    left: u32,
+    loc1: u32,
+    id1: TVar,
+    loc2: u32,
+    id2: TVar,
+) -> Step
+    requires { ⌜ Lay (now w) u ⌝ }
+    ensures { λ r. ⌜ After (now (w .entry)) u (now (w .exit)) r (λ s. join-tvar (λ s c l r. join-impl left s c l r) s (case-of case) loc1 (id1 .0) loc2 (id2 .0)) ⌝ }
+{
+    let a = merge::open_tvar(w, u, loc1, id1, loc2, id2);
+    let what = a.what;
+    let au = a.used;
+    match what {
+        Opened::Stop(o) => Step { out: o, used: au },
+        Opened::Ready(ty1, ty2, fresh, var2) => {
+            let b = join_impl(w, au, case, left, ty1, ty2);
+            let bo = b.out;
+            let Found::Just(ty) = table::done_of(bo) else {
+                return b;
+            };
+            merge::close_tvar(w, b.used, ty1, id1, ty2, loc2, id2, fresh, var2, ty)
+        }
+    }
+}

@@ -1,0 +1,353 @@
+-- The steps of a merge and of a meeting, as laws that follow the code. Assumes nothing.
+use mathlib.Core.Path.{_≡_, refl, sym, ap, _∙_, subst}
+use mathlib.Core.Bool.{Bool, true, false}
+use mathlib.Core.List.{List, []}
+use mathlib.Core.Option.{Option, none, some}
+use Prim.Native.Nat.{ℕ, _+_, _≤_, _<_}
+use native.Mathlib.Omega.{arith}
+use Rattle.definition.specs.Types as d
+use Rattle.definition.specs.Types.{State, Struct, Result, ok, err, refused, _>>=_, if_then_else_}
+use Rattle.definition.specs.Store.{get, node, loc-of, num-loc, insert, sp, next-tvar}
+use Rattle.definition.specs.Subst.{is-anything, forward-tvar, set-num-var}
+use Rattle.definition.specs.Join.{type-of, merge-num, shown, join-bind-tvar, join-unbound}
+use Rattle.names.specs.declared.TVar.{TVar}
+use Rattle.subst.specs.Answers.{bound, Binds}
+use Rattle.subst.specs.declared.Binding.{Binding}
+use Rattle.subst.specs.declared.Binding.the-variants.{Bound, Failed, Recursive as RecursiveB}
+use Rattle.table.specs.State.{Lay, Grown, Changed, After, Stored, Nodes-in, Var-in, outcome, seen, view, done, found, node-of, value-of}
+use Rattle.table.specs.declared.Step.{Step}
+use Rattle.table.specs.declared.Used.{Used}
+use Rattle.table.specs.declared.Node.{Node}
+use Rattle.table.specs.declared.Out.{Out}
+use Rattle.table.specs.declared.Out.the-variants.{Done, Incompatible, Recursive}
+use Rattle.table.specs.declared.Found.{Found}
+use Rattle.table.specs.declared.Found.the-variants.{Nothing, Just}
+use Rattle.table.proofs.Steps.{grown-refl, grown-trans, after-now, after-stop, after-then, changed-stop}
+use Rattle.merge.specs.Merge.{Inner, open-ends, open-types, open-tvar, opened, Opens, show-both, close-tvar, meet-tvar, met, Meets}
+use Rattle.merge.specs.declared.Open.{Open}
+use Rattle.merge.specs.declared.Opened.the-variants.{Ready, Stop}
+use Rattle.merge.specs.declared.Met.{Met}
+use Rattle.merge.specs.declared.Meet.the-variants.{Is, Merge}
+use Rattle.merge.proofs.Answers.{then-is, node-in, next-stop-in, nodes-grow, loc-is, value-is, anything-is}
+
+-- what f says of the words at hand, said otherwise
+pub after-seen : {w : List ℕ} {u : Used} {w′ : List ℕ} {r : Step} {f : State → Result (State × ℕ)} (g : State → Result (State × ℕ))
+    → ((ds : List Struct) → f (seen w u ds) ≡ g (seen w u ds)) → After w u w′ r f → After w u w′ r g
+after-seen g e a =
+    record { changed = record { lay = a .changed .lay; grown = a .changed .grown; structs = a .changed .structs; is = λ ds. a .changed .is ds ∙ e ds }; inside = a .inside }
+
+-- ---- the type of a chain's end
+
+pub end-free : (s : State) (loc v : ℕ) → none ≡ get s v → sp s loc d.Anything ≡ type-of s loc v
+unfolding type-of
+end-free s loc v e = rw (← e, type-of)
+
+pub end-bound : (s : State) (loc v t : ℕ) → some t ≡ get s v → outcome (Done t) s ≡ type-of s loc v
+unfolding type-of outcome
+end-bound s loc v t e = rw (← e, type-of)
+
+-- ---- opening a merge
+
+pub open-seen : {w : List ℕ} {u : Used} {w′ : List ℕ} {r : Open} {f : Inner → State → Result (State × ℕ)} (g : Inner → State → Result (State × ℕ))
+    → ((k : Inner) (ds : List Struct) → f k (seen w u ds) ≡ g k (seen w u ds)) → Opens w u w′ r f → Opens w u w′ r g
+open-seen g e a = record { lay = a .lay; grown = a .grown; structs = a .structs; is = λ k ds. a .is k ds ∙ e k ds; inside = a .inside }
+
+pub open-stop : (w : List ℕ) (u : Used) (w′ : List ℕ) (r : Step) (f : State → Result (State × ℕ)) (h : Inner → State × ℕ → Result (State × ℕ)) (b : Found)
+    → Changed w u w′ r f → Nodes-in (r .used .nodes) (r .out) → b ≡ done (r .out) → b ≡ Nothing
+    → Opens w u w′ (record { what = Stop (r .out); used = r .used }) (λ k s. f s >>= h k)
+unfolding opened
+open-stop w u w′ r f h b a i p q =
+    record { lay = a .lay; grown = a .grown; structs = a .structs; is = λ k ds. changed-stop w u w′ r f (h k) b a p q .is ds; inside = i }
+
+pub open-then : (w : List ℕ) (u : Used) (w′ : List ℕ) (r : Step) (f : State → Result (State × ℕ)) (h : Inner → State × ℕ → Result (State × ℕ)) (b : Found) (t : ℕ) (w₂ : List ℕ) (r₂ : Open)
+    → Changed w u w′ r f → b ≡ done (r .out) → b ≡ Just t → Opens w′ (r .used) w₂ r₂ (λ k s. h k (s, t))
+    → Opens w u w₂ r₂ (λ k s. f s >>= h k)
+open-then w u w′ r f h b t w₂ r₂ a p q n =
+    record {
+      lay = n .lay;
+      grown = grown-trans _ _ _ (a .grown) (n .grown);
+      structs = n .structs ∙ a .structs;
+      is = λ k ds. n .is k ds ∙ then-is (r .out) b t (seen w′ (r .used) ds) (h k) p q ∙ ap (λ (x : Result (State × ℕ)). x >>= h k) (a .is ds);
+      inside = n .inside;
+    }
+
+pub open-stored : (w : List ℕ) (u : Used) (w′ : List ℕ) (f : State → State) (h : Inner → State → Result (State × ℕ)) (w₂ : List ℕ) (r₂ : Open)
+    → Stored w u w′ f → Opens w′ u w₂ r₂ h → Opens w u w₂ r₂ (λ k s. h k (f s))
+open-stored w u w′ f h w₂ r₂ a n =
+    record {
+      lay = n .lay;
+      grown = grown-trans _ _ _ (a .grown) (n .grown);
+      structs = n .structs ∙ a .structs;
+      is = λ k ds. n .is k ds ∙ ap (h k) (a .is ds);
+      inside = n .inside;
+    }
+
+pub open-ready : (w : List ℕ) (u : Used) (ty1 ty2 : ℕ) (v : TVar) (var2 : ℕ) → Lay w u → ty1 < u .nodes → ty2 < u .nodes → var2 < u .nodes
+    → Opens w u w (record { what = Ready ty1 ty2 v var2; used = u }) (λ k s. k s ty1 ty2 (v .0) var2)
+unfolding opened
+open-ready w u ty1 ty2 v var2 h a b c = record { lay = h; grown = grown-refl (view w u); structs = refl; is = λ k ds. refl; inside = (a, (b, c)) }
+
+pub open-is : (k : Inner) (s : State) (loc1 id1 loc2 id2 e1 e2 : ℕ) (num1 num2 : Option ℕ) → e1 ≡ forward-tvar s id1 → e2 ≡ forward-tvar s id2 → num1 ≡ num-loc s e1 → num2 ≡ num-loc s e2
+    → open-types k s loc1 e1 num1 loc2 e2 num2 ≡ open-tvar k s loc1 id1 loc2 id2
+unfolding open-tvar
+open-is k s loc1 id1 loc2 id2 e1 e2 num1 num2 p q a b = rw (a, b, p, q)
+
+-- TVar::next, the number wrapped
+open-fresh : (w : List ℕ) (u : Used) (w′ : List ℕ) (r : Step) (h : Inner → State × ℕ → Result (State × ℕ)) (b : Found) (n : ℕ) (v : TVar) (w₂ : List ℕ) (r₂ : Open)
+    → Changed w u w′ r (λ s. next-tvar s) → b ≡ done (r .out) → b ≡ Just n → v .0 ≡ n → Opens w′ (r .used) w₂ r₂ (λ k s. h k (s, v .0))
+    → Opens w u w₂ r₂ (λ k s. next-tvar s >>= h k)
+open-fresh w u w′ r h b n v w₂ r₂ a p q e o = open-then w u w′ r (λ s. next-tvar s) h b (v .0) w₂ r₂ a p (q ∙ ap Just (sym e)) o
+
+-- both ends are bound to the fresh variable v
+module _ (loc1 id1 : ℕ) (num1 : Option ℕ) (ty1 loc2 id2 : ℕ) (num2 : Option ℕ) (ty2 : ℕ) where
+  abbrev from-var2 : ℕ → ℕ → Inner → State × ℕ → Result (State × ℕ)
+  from-var2 v var1 k x = k (insert (insert (x .0) id1 var1) id2 (x .1)) ty1 ty2 v (x .1)
+
+  abbrev from-var1 : ℕ → Inner → State × ℕ → Result (State × ℕ)
+  from-var1 v k x = sp (x .0) loc2 (d.Var v) >>= from-var2 v (x .1) k
+
+  abbrev from-new : Inner → State × ℕ → Result (State × ℕ)
+  from-new k x = sp (merge-num (x .0) num1 num2 (x .1)) loc1 (d.Var (x .1)) >>= from-var1 (x .1) k
+
+  from-start : (w : List ℕ) (u : Used) (w′ : List ℕ) (r : Open) → Opens w u w′ r (λ k s. next-tvar s >>= from-new k) → Opens w u w′ r (λ k s. open-ends k s loc1 id1 num1 ty1 loc2 id2 num2 ty2)
+  unfolding open-ends
+  from-start w u w′ r o = o
+
+  module _ (w : List ℕ) (u : Used) (w₁ : List ℕ) (a : Step) (b : Found) (ta : Changed w u w₁ a (λ s. next-tvar s)) (da : b ≡ done (a .out)) where
+    pub ends-no-var : b ≡ Nothing → Opens w u w₁ (record { what = Stop (a .out); used = a .used }) (λ k s. open-ends k s loc1 id1 num1 ty1 loc2 id2 num2 ty2)
+    ends-no-var q = from-start w u w₁ _ (open-stop w u w₁ a (λ s. next-tvar s) from-new b ta (next-stop-in w u w₁ a b ta da q) da q)
+
+    module _ (n : ℕ) (v : TVar) (is : b ≡ Just n) (e : v .0 ≡ n) (w₂ : List ℕ) (m : Stored w₁ (a .used) w₂ (λ s. merge-num s num1 num2 (v .0)))
+        (w₃ : List ℕ) (p : Step) (bp : Found) (tp : After w₂ (a .used) w₃ p (λ s. sp s loc1 (d.Var (v .0)))) (dp : bp ≡ done (p .out)) where
+      from-mark : (w′ : List ℕ) (r : Open) → Opens w₂ (a .used) w′ r (λ k s. sp s loc1 (d.Var (v .0)) >>= from-var1 (v .0) k) → Opens w u w′ r (λ k s. open-ends k s loc1 id1 num1 ty1 loc2 id2 num2 ty2)
+      from-mark w′ r o =
+          from-start w u w′ r
+          (open-fresh w u w₁ a from-new b n v w′ r ta da is e
+          (open-stored w₁ (a .used) w₂ (λ s. merge-num s num1 num2 (v .0)) (λ k s. sp s loc1 (d.Var (v .0)) >>= from-var1 (v .0) k) w′ r m o))
+
+      pub ends-no-node : bp ≡ Nothing → Opens w u w₃ (record { what = Stop (p .out); used = p .used }) (λ k s. open-ends k s loc1 id1 num1 ty1 loc2 id2 num2 ty2)
+      ends-no-node q = from-mark w₃ _ (open-stop w₂ (a .used) w₃ p (λ s. sp s loc1 (d.Var (v .0))) (from-var1 (v .0)) bp (tp .changed) (tp .inside) dp q)
+
+      module _ (var1 : ℕ) (is1 : bp ≡ Just var1) (w₄ : List ℕ) (q : Step) (bq : Found) (tq : After w₃ (p .used) w₄ q (λ s. sp s loc2 (d.Var (v .0)))) (dq : bq ≡ done (q .out)) where
+        from-node : (w′ : List ℕ) (r : Open) → Opens w₃ (p .used) w′ r (λ k s. sp s loc2 (d.Var (v .0)) >>= from-var2 (v .0) var1 k) → Opens w u w′ r (λ k s. open-ends k s loc1 id1 num1 ty1 loc2 id2 num2 ty2)
+        from-node w′ r o = from-mark w′ r (open-then w₂ (a .used) w₃ p (λ s. sp s loc1 (d.Var (v .0))) (from-var1 (v .0)) bp var1 w′ r (tp .changed) dp is1 o)
+
+        pub ends-no-second : bq ≡ Nothing → Opens w u w₄ (record { what = Stop (q .out); used = q .used }) (λ k s. open-ends k s loc1 id1 num1 ty1 loc2 id2 num2 ty2)
+        ends-no-second x = from-node w₄ _ (open-stop w₃ (p .used) w₄ q (λ s. sp s loc2 (d.Var (v .0))) (from-var2 (v .0) var1) bq (tq .changed) (tq .inside) dq x)
+
+        pub ends-ready : (var2 : ℕ) → bq ≡ Just var2 → (w₅ w₆ : List ℕ) → Stored w₄ (q .used) w₅ (λ s. insert s id1 var1) → Stored w₅ (q .used) w₆ (λ s. insert s id2 var2) → ty1 < u .nodes → ty2 < u .nodes
+            → Opens w u w₆ (record { what = Ready ty1 ty2 v var2; used = q .used }) (λ k s. open-ends k s loc1 id1 num1 ty1 loc2 id2 num2 ty2)
+        ends-ready var2 is2 w₅ w₆ x y in1 in2 =
+            let g1 = nodes-grow w u w₁ (a .used) (ta .grown) in
+            let g2 = nodes-grow w₂ (a .used) w₃ (p .used) (tp .changed .grown) in
+            let g3 = nodes-grow w₃ (p .used) w₄ (q .used) (tq .changed .grown) in
+            let below1 : ty1 < q .used .nodes = omega arith in
+            let below2 : ty2 < q .used .nodes = omega arith in
+            from-node w₆ _
+            (open-then w₃ (p .used) w₄ q (λ s. sp s loc2 (d.Var (v .0))) (from-var2 (v .0) var1) bq var2 w₆ _ (tq .changed) dq is2
+            (open-stored w₄ (q .used) w₅ (λ s. insert s id1 var1) (λ k s. k (insert s id2 var2) ty1 ty2 (v .0) var2) w₆ _ x
+            (open-stored w₅ (q .used) w₆ (λ s. insert s id2 var2) (λ k s. k s ty1 ty2 (v .0) var2) w₆ _ y
+            (open-ready w₆ (q .used) ty1 ty2 v var2 (y .lay) below1 below2 (node-in (q .used .nodes) (q .out) bq var2 (tq .inside) dq is2)))))
+
+-- the ends e1 and e2 of both chains
+module _ (w : List ℕ) (u : Used) (loc1 id1 loc2 id2 : ℕ) (e1 e2 : TVar) (n1 n2 : Found)
+    (p1 : (ds : List Struct) → e1 .0 ≡ forward-tvar (seen w u ds) id1) (p2 : (ds : List Struct) → e2 .0 ≡ forward-tvar (seen w u ds) id2)
+    (q1 : (ds : List Struct) → found n1 ≡ num-loc (seen w u ds) (e1 .0)) (q2 : (ds : List Struct) → found n2 ≡ num-loc (seen w u ds) (e2 .0)) where
+  abbrev from-ty2 : ℕ → Inner → State × ℕ → Result (State × ℕ)
+  from-ty2 ty1 k x = open-ends k (x .0) loc1 (e1 .0) (found n1) ty1 loc2 (e2 .0) (found n2) (x .1)
+
+  abbrev from-ty1 : Inner → State × ℕ → Result (State × ℕ)
+  from-ty1 k x = type-of (x .0) loc2 (e2 .0) >>= from-ty2 (x .1) k
+
+  from-ends : (w′ : List ℕ) (r : Open) → Opens w u w′ r (λ k s. type-of s loc1 (e1 .0) >>= from-ty1 k) → Opens w u w′ r (λ k s. open-tvar k s loc1 id1 loc2 id2)
+  unfolding open-types
+  from-ends w′ r o = open-seen (λ k s. open-tvar k s loc1 id1 loc2 id2) (λ k ds. open-is k (seen w u ds) loc1 id1 loc2 id2 (e1 .0) (e2 .0) (found n1) (found n2) (p1 ds) (p2 ds) (q1 ds) (q2 ds)) o
+
+  module _ (w₁ : List ℕ) (a : Step) (b : Found) (ta : After w u w₁ a (λ s. type-of s loc1 (e1 .0))) (da : b ≡ done (a .out)) where
+    pub open-no-first : b ≡ Nothing → Opens w u w₁ (record { what = Stop (a .out); used = a .used }) (λ k s. open-tvar k s loc1 id1 loc2 id2)
+    open-no-first q = from-ends w₁ _ (open-stop w u w₁ a (λ s. type-of s loc1 (e1 .0)) from-ty1 b (ta .changed) (ta .inside) da q)
+
+    module _ (ty1 : ℕ) (is : b ≡ Just ty1) (w₂ : List ℕ) (r : Step) (br : Found) (tr : After w₁ (a .used) w₂ r (λ s. type-of s loc2 (e2 .0))) (dr : br ≡ done (r .out)) where
+      from-first : (w′ : List ℕ) (o : Open) → Opens w₁ (a .used) w′ o (λ k s. type-of s loc2 (e2 .0) >>= from-ty2 ty1 k) → Opens w u w′ o (λ k s. open-tvar k s loc1 id1 loc2 id2)
+      from-first w′ o x = from-ends w′ o (open-then w u w₁ a (λ s. type-of s loc1 (e1 .0)) from-ty1 b ty1 w′ o (ta .changed) da is x)
+
+      pub open-no-second : br ≡ Nothing → Opens w u w₂ (record { what = Stop (r .out); used = r .used }) (λ k s. open-tvar k s loc1 id1 loc2 id2)
+      open-no-second q = from-first w₂ _ (open-stop w₁ (a .used) w₂ r (λ s. type-of s loc2 (e2 .0)) (from-ty2 ty1) br (tr .changed) (tr .inside) dr q)
+
+      pub open-both : (ty2 : ℕ) → br ≡ Just ty2 → (w₃ : List ℕ) (o : Open) → Opens w₂ (r .used) w₃ o (λ k s. open-ends k s loc1 (e1 .0) (found n1) ty1 loc2 (e2 .0) (found n2) ty2) → Opens w u w₃ o (λ k s. open-tvar k s loc1 id1 loc2 id2)
+      open-both ty2 is2 w₃ o x = from-first w₃ o (open-then w₁ (a .used) w₂ r (λ s. type-of s loc2 (e2 .0)) (from-ty2 ty1) br ty2 w₃ o (tr .changed) dr is2 x)
+
+-- ---- the numeric mark of a merge
+
+module _ (w : List ℕ) (u : Used) (n1 n2 : Found) (v : ℕ) where
+  pub marks-second : (w′ : List ℕ) (nloc : ℕ) → n2 ≡ Just nloc → Stored w u w′ (λ s. set-num-var s v nloc) → Stored w u w′ (λ s. merge-num s (found n1) (found n2) v)
+  unfolding merge-num
+  marks-second w′ nloc e a = rw e a
+
+  pub marks-first : (w′ : List ℕ) (nloc : ℕ) → n2 ≡ Nothing → n1 ≡ Just nloc → Stored w u w′ (λ s. set-num-var s v nloc) → Stored w u w′ (λ s. merge-num s (found n1) (found n2) v)
+  unfolding merge-num
+  marks-first w′ nloc e p a = rw (e, p) a
+
+  pub marks-none : n2 ≡ Nothing → n1 ≡ Nothing → Lay w u → Stored w u w (λ s. merge-num s (found n1) (found n2) v)
+  unfolding merge-num
+  marks-none e p h = rw (e, p) (record { lay = h; grown = grown-refl (view w u); structs = refl; is = λ ds. refl })
+
+-- ---- showing
+
+pub shown-var : (s : State) (ty id : ℕ) (n : Node) (b : Bool) → node-of n ≡ node s ty → b ≡ is-anything (value-of (n .shape)) → b ≡ true → sp s (n .loc) (d.Var id) ≡ shown s ty id
+unfolding shown
+shown-var s ty id n b e p q = rw (← value-is s ty n e, anything-is s (n .shape), ← p, q, ← loc-is s ty n e)
+
+pub shown-same : (s : State) (ty id : ℕ) (n : Node) (b : Bool) → node-of n ≡ node s ty → b ≡ is-anything (value-of (n .shape)) → b ≡ false → outcome (Done ty) s ≡ shown s ty id
+unfolding shown outcome
+shown-same s ty id n b e p q = rw (← value-is s ty n e, anything-is s (n .shape), ← p, q)
+
+module _ (ty1 id1 ty2 id2 : ℕ) where
+  abbrev show-second : ℕ → State × ℕ → Result (State × ℕ)
+  show-second t1 x = err (x .0) (d.Incompatible t1 (x .1))
+
+  abbrev show-first : State × ℕ → Result (State × ℕ)
+  show-first x = shown (x .0) ty2 id2 >>= show-second (x .1)
+
+  show-is : (s : State) → (shown s ty1 id1 >>= show-first) ≡ show-both s ty1 id1 ty2 id2
+  unfolding show-both
+  show-is s = refl
+
+  module _ (w : List ℕ) (u : Used) (w₁ : List ℕ) (a : Step) (b : Found) (ta : After w u w₁ a (λ s. shown s ty1 id1)) (da : b ≡ done (a .out)) where
+    pub show-no-first : b ≡ Nothing → After w u w₁ a (λ s. show-both s ty1 id1 ty2 id2)
+    show-no-first q = after-seen (λ s. show-both s ty1 id1 ty2 id2) (λ ds. show-is (seen w u ds)) (after-stop w u w₁ a (λ s. shown s ty1 id1) show-first b ta da q)
+
+    module _ (t1 : ℕ) (is : b ≡ Just t1) (w₂ : List ℕ) (r : Step) (br : Found) (tr : After w₁ (a .used) w₂ r (λ s. shown s ty2 id2)) (dr : br ≡ done (r .out)) where
+      from-shown : (w′ : List ℕ) (x : Step) → After w₁ (a .used) w′ x (λ s. shown s ty2 id2 >>= show-second t1) → After w u w′ x (λ s. show-both s ty1 id1 ty2 id2)
+      from-shown w′ x o = after-seen (λ s. show-both s ty1 id1 ty2 id2) (λ ds. show-is (seen w u ds)) (after-then w u w₁ a (λ s. shown s ty1 id1) show-first b t1 w′ x (ta .changed) da is o)
+
+      pub show-no-second : br ≡ Nothing → After w u w₂ r (λ s. show-both s ty1 id1 ty2 id2)
+      show-no-second q = from-shown w₂ r (after-stop w₁ (a .used) w₂ r (λ s. shown s ty2 id2) (show-second t1) br tr dr q)
+
+      pub show-done : (t2 : ℕ) → br ≡ Just t2 → After w u w₂ (record { out = Incompatible t1 t2; used = r .used }) (λ s. show-both s ty1 id1 ty2 id2)
+      unfolding outcome
+      show-done t2 q =
+          let x = node-in (a .used .nodes) (a .out) b t1 (ta .inside) da is in
+          let y = nodes-grow w₁ (a .used) w₂ (r .used) (tr .changed .grown) in
+          let below1 : t1 < r .used .nodes = omega arith in
+          from-shown w₂ _
+          (after-then w₁ (a .used) w₂ r (λ s. shown s ty2 id2) (show-second t1) br t2 w₂ _ (tr .changed) dr q
+          (after-now w₂ (r .used) (Incompatible t1 t2) (λ s. show-second t1 (s, t2)) (tr .changed .lay) (below1, node-in (r .used .nodes) (r .out) br t2 (tr .inside) dr q) (λ ds. refl)))
+
+-- ---- closing a merge
+
+module _ (ty1 id1 ty2 loc2 id2 new var2 new-ty : ℕ) where
+  pub close-bound : (s : State) (t : ℕ) (n : Node) → some t ≡ get s new → node-of n ≡ node s t → outcome (Recursive (n .loc)) s ≡ close-tvar s ty1 id1 ty2 loc2 id2 new var2 new-ty
+  unfolding close-tvar outcome
+  close-bound s t n e p = rw (← e, close-tvar, loc-is s t n p)
+
+  module _ (s s′ : State) (b : Binding) (free : none ≡ get s new) (bind : bound b loc2 s′ ≡ join-bind-tvar s loc2 new new-ty) where
+    close-free : (bound b loc2 s′ >>= (λ r. if r .1 then ok (r .0, var2) else show-both (r .0) ty1 id1 ty2 id2)) ≡ close-tvar s ty1 id1 ty2 loc2 id2 new var2 new-ty
+    unfolding close-tvar
+    close-free = rw (← free, close-tvar, bind)
+
+    pub close-done : b ≡ Bound → outcome (Done var2) s′ ≡ close-tvar s ty1 id1 ty2 loc2 id2 new var2 new-ty
+    unfolding outcome _>>=_
+    close-done e = rw (← close-free, e)
+
+    pub close-failed : b ≡ Failed → show-both s′ ty1 id1 ty2 id2 ≡ close-tvar s ty1 id1 ty2 loc2 id2 new var2 new-ty
+    unfolding _>>=_
+    close-failed e = rw (← close-free, e)
+
+    pub close-recursive : b ≡ RecursiveB → outcome (Recursive loc2) s′ ≡ close-tvar s ty1 id1 ty2 loc2 id2 new var2 new-ty
+    unfolding outcome _>>=_
+    close-recursive e = rw (← close-free, e)
+
+-- ---- a variable that is not bound takes a type
+
+module _ (s s′ : State) (lhs rhs var id other : ℕ) (n : Node) (b : Binding) (at : node-of n ≡ node s var) (bind : (loc : ℕ) → bound b loc s′ ≡ join-bind-tvar s loc id other) where
+  unbound-is : (bound b (n .loc) s′ >>= (λ r. if r .1 then ok (r .0, var) else err (r .0) (d.Incompatible lhs rhs))) ≡ join-unbound s lhs rhs var id other
+  unfolding join-unbound
+  unbound-is = rw (bind (n .loc), loc-is s var n at)
+
+  pub unbound-done : b ≡ Bound → outcome (Done var) s′ ≡ join-unbound s lhs rhs var id other
+  unfolding outcome _>>=_
+  unbound-done e = rw (← unbound-is, e)
+
+  pub unbound-failed : b ≡ Failed → outcome (Incompatible lhs rhs) s′ ≡ join-unbound s lhs rhs var id other
+  unfolding outcome _>>=_
+  unbound-failed e = rw (← unbound-is, e)
+
+  pub unbound-recursive : b ≡ RecursiveB → outcome (Recursive (n .loc)) s′ ≡ join-unbound s lhs rhs var id other
+  unfolding outcome _>>=_
+  unbound-recursive e = rw (← unbound-is, e)
+
+-- what a binding did, as an answer
+pub bound-after : (w : List ℕ) (u : Used) (w′ : List ℕ) (b : Binding) (tvar ty : ℕ) (o : Out) (f : State → Result (State × ℕ))
+    → Binds w u w′ b tvar ty → Nodes-in (u .nodes) o → ((ds : List Struct) → outcome o (seen w′ u ds) ≡ f (seen w u ds))
+    → After w u w′ (record { out = o; used = u }) f
+bound-after w u w′ b tvar ty o f a i e =
+    record { changed = record { lay = a .lay; grown = a .grown; structs = a .structs; is = e }; inside = i }
+
+-- .. and what follows it
+pub bound-then : (w : List ℕ) (u : Used) (w′ : List ℕ) (b : Binding) (tvar ty : ℕ) (w₂ : List ℕ) (r : Step) (f g : State → Result (State × ℕ))
+    → Binds w u w′ b tvar ty → After w′ u w₂ r f → ((ds : List Struct) → f (seen w′ u ds) ≡ g (seen w u ds)) → After w u w₂ r g
+bound-then w u w′ b tvar ty w₂ r f g a n e =
+    record {
+      changed = record {
+        lay = n .changed .lay;
+        grown = grown-trans _ _ _ (a .grown) (n .changed .grown);
+        structs = n .changed .structs ∙ a .structs;
+        is = λ ds. n .changed .is ds ∙ e ds;
+      };
+      inside = n .inside;
+    }
+
+-- ---- a variable meets another type
+
+module _ (lhs rhs var id other : ℕ) where
+  pub meet-free : (k : State → ℕ → Result (State × ℕ)) (s : State) → none ≡ get s id → join-unbound s lhs rhs var id other ≡ meet-tvar k s lhs rhs var id other
+  unfolding meet-tvar
+  meet-free k s e = rw (← e, meet-tvar)
+
+  pub meet-bound : (k : State → ℕ → Result (State × ℕ)) (s : State) (t : ℕ) → some t ≡ get s id
+      → (next-tvar s >>= (λ a. k (insert (a .0) (a .1) other) (a .1))) ≡ meet-tvar k s lhs rhs var id other
+  unfolding meet-tvar
+  meet-bound k s t e = rw (← e, meet-tvar)
+
+  module _ (w : List ℕ) (u : Used) (f : Found) (is : (ds : List Struct) → found f ≡ get (seen w u ds) id) where
+    pub meets-free : (w′ : List ℕ) (r : Step) → f ≡ Nothing → After w u w′ r (λ s. join-unbound s lhs rhs var id other)
+        → Meets w u w′ (record { what = Is (r .out); used = r .used }) (λ k s. meet-tvar k s lhs rhs var id other)
+    unfolding met
+    meets-free w′ r e a =
+        record {
+          lay = a .changed .lay;
+          grown = a .changed .grown;
+          structs = a .changed .structs;
+          is = λ k ds. a .changed .is ds ∙ meet-free k (seen w u ds) (sym (ap found e) ∙ is ds);
+          inside = a .inside;
+        }
+
+    module _ (t : ℕ) (to : f ≡ Just t) (w′ : List ℕ) (r : Step) (a : Changed w u w′ r (λ s. next-tvar s)) (b : Found) (p : b ≡ done (r .out)) where
+      pub meets-stop : b ≡ Nothing → Meets w u w′ (record { what = Is (r .out); used = r .used }) (λ k s. meet-tvar k s lhs rhs var id other)
+      unfolding met
+      meets-stop q =
+          record {
+            lay = a .lay;
+            grown = a .grown;
+            structs = a .structs;
+            is = λ k ds. changed-stop w u w′ r (λ s. next-tvar s) (λ y. k (insert (y .0) (y .1) other) (y .1)) b a p q .is ds ∙ meet-bound k (seen w u ds) t (sym (ap found to) ∙ is ds);
+            inside = next-stop-in w u w′ r b a p q;
+          }
+
+      pub meets-fresh : (n : ℕ) (v : TVar) (w₂ : List ℕ) → b ≡ Just n → v .0 ≡ n → Stored w′ (r .used) w₂ (λ s. insert s (v .0) other)
+          → Meets w u w₂ (record { what = Merge v; used = r .used }) (λ k s. meet-tvar k s lhs rhs var id other)
+      unfolding met
+      meets-fresh n v w₂ q e h =
+          record {
+            lay = h .lay;
+            grown = grown-trans _ _ _ (a .grown) (h .grown);
+            structs = h .structs ∙ a .structs;
+            is = λ k ds.
+                ap (λ (s : State). k s (v .0)) (h .is ds)
+                ∙ ap (λ (m : ℕ). k (insert (seen w′ (r .used) ds) m other) m) e
+                ∙ then-is (r .out) b n (seen w′ (r .used) ds) (λ y. k (insert (y .0) (y .1) other) (y .1)) p q
+                ∙ ap (λ (x : Result (State × ℕ)). x >>= (λ y. k (insert (y .0) (y .1) other) (y .1))) (a .is ds)
+                ∙ meet-bound k (seen w u ds) t (sym (ap found to) ∙ is ds);
+            inside = tt;
+          }

@@ -1,0 +1,57 @@
+use Rattle.merge.proofs.Laws.{bound-after, unbound-done, unbound-failed, unbound-recursive}
+use borrow.Author.Needs.{needs}
+use Rattle.merge.proofs.join_unbound.Statement.{statement}
+use Rattle.merge.proofs.join_unbound.Tie as tie
+use Rattle.merge.proofs.join_unbound.Reads as reads
+use Rattle.merge.proofs.join_unbound.Lts as lts
+use Rattle.subst.proofs.join_bind_tvar.Reads as join-bind-tvar-reads
+use Rattle.table.proofs.node_at.Reads as node-at-reads
+
+node-at-requires : tie.Need-node-at-requires
+node-at-requires c κs = search needs
+
+join-bind-tvar-requires : tie.Need-join-bind-tvar-requires
+join-bind-tvar-requires c κs = search needs
+
+enum-told : tie.Need-enum-told
+enum-told c = search needs
+
+enum-told-2 : tie.Need-enum-told-2
+enum-told-2 c = search needs
+
+enum-told-3 : tie.Need-enum-told-3
+enum-told-3 c = search needs
+
+same-length : tie.Need-same-length
+same-length c = search needs
+
+returns : tie.Need-returns
+returns c = bound-after _ _ _ _ _ _ _ _ (c .before .before .before .before .join-bind-tvar .ensures) (c .before .before .before .before .before .before .before .before .before .pre .1 .1 .1 .0) (λ ds. unbound-done _ _ _ _ _ _ _ (c .before .before .before .before .before .before .node-at .result) _ (c .before .before .before .before .before .before .node-at .ensures ds) (λ loc. c .before .before .before .before .join-bind-tvar .ensures .is ds loc) (c .enum-told .given .1))
+
+same-length-2 : tie.Need-same-length-2
+same-length-2 c = search needs
+
+returns-2 : tie.Need-returns-2
+returns-2 c = bound-after _ _ _ _ _ _ _ _ (c .before .before .before .before .join-bind-tvar .ensures) (c .before .before .before .before .before .before .before .before .before .pre .1 .0, c .before .before .before .before .before .before .before .before .before .pre .1 .1 .0) (λ ds. unbound-failed _ _ _ _ _ _ _ (c .before .before .before .before .before .before .node-at .result) _ (c .before .before .before .before .before .before .node-at .ensures ds) (λ loc. c .before .before .before .before .join-bind-tvar .ensures .is ds loc) (c .enum-told2 .given .1))
+
+same-length-3 : tie.Need-same-length-3
+same-length-3 c = search needs
+
+returns-3 : tie.Need-returns-3
+returns-3 c = bound-after _ _ _ _ _ _ _ _ (c .before .before .before .before .join-bind-tvar .ensures) tt (λ ds. unbound-recursive _ _ _ _ _ _ _ (c .before .before .before .before .before .before .node-at .result) _ (c .before .before .before .before .before .before .node-at .ensures ds) (λ loc. c .before .before .before .before .join-bind-tvar .ensures .is ds loc) (c .enum-told3 .given .1))
+
+pub join-unbound-spec : {M : Type 1} → statement M
+join-unbound-spec =
+    tie.close
+    (tie.spec
+    node-at-requires
+    join-bind-tvar-requires
+    enum-told
+    enum-told-2
+    enum-told-3
+    same-length
+    returns
+    same-length-2
+    returns-2
+    same-length-3
+    returns-3)

@@ -1,0 +1,43 @@
+use Rattle.table.proofs.Steps.{after-now}
+use Rattle.merge.proofs.Laws.{after-seen, shown-var, shown-same}
+use borrow.Author.Needs.{needs}
+use Rattle.merge.proofs.shown.Statement.{statement}
+use Rattle.merge.proofs.shown.Tie as tie
+use Rattle.merge.proofs.shown.Reads as reads
+use Rattle.merge.proofs.shown.Lts as lts
+use Rattle.merge.proofs.is_anything.Reads as is-anything-reads
+use Rattle.table.proofs.node_at.Reads as node-at-reads
+use Rattle.table.proofs.push_node.Reads as push-node-reads
+
+node-at-requires : tie.Need-node-at-requires
+node-at-requires c κs = search needs
+
+is-anything-requires : tie.Need-is-anything-requires
+is-anything-requires c κs = search needs
+
+push-node-requires : tie.Need-push-node-requires
+push-node-requires c κs = search needs
+
+same-length : tie.Need-same-length
+same-length c = search needs
+
+returns : tie.Need-returns
+returns c = after-seen _ (λ ds. shown-var _ _ _ (c .before .before .before .before .before .before .node-at .result) _ (c .before .before .before .before .before .before .node-at .ensures ds) (c .before .before .before .before .before .is-anything .ensures) (c .before .before .before .before .if1 .taken)) (c .before .before .push-node .ensures)
+
+same-length-2 : tie.Need-same-length-2
+same-length-2 c = search needs
+
+returns-2 : tie.Need-returns-2
+returns-2 c = after-now _ _ _ _ (c .before .before .before .before .before .pre .0) (c .before .before .before .before .before .pre .1) (λ ds. shown-same _ _ _ (c .before .before .node-at .result) _ (c .before .before .node-at .ensures ds) (c .before .is-anything .ensures) (c .if1 .left))
+
+pub shown-spec : {M : Type 1} → statement M
+shown-spec =
+    tie.close
+    (tie.spec
+    node-at-requires
+    is-anything-requires
+    push-node-requires
+    same-length
+    returns
+    same-length-2
+    returns-2)

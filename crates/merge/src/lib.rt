@@ -1,0 +1,309 @@
+// The variable merge around its inner join, and a variable that meets another type: what of join_tvar and join_impl calls no join.
+ghost use mathlib.Core.Path.{_≡_};
+ghost use Prim.Native.Nat.{ℕ, _<_};
+ghost use Rattle.definition.specs.Join.{type-of, merge-num, shown, join-unbound};
+ghost use Rattle.definition.specs.Subst.{is-anything};
+ghost use Rattle.table.specs.State.{Lay, After, Stored, found, value-of};
+ghost use Rattle.merge.specs.Merge.{open-ends, open-tvar, show-both, close-tvar, meet-tvar, Opens, Meets};
+use names::TVar;
+use subst::Binding;
+use table::Found;
+use table::Node;
+use table::Out;
+use table::Shape;
+use table::Step;
+use table::Used;
+
+// A merge before its inner join: the types of both ends, the fresh variable, and the result's node.
+pub enum Opened {
+    Ready(u32, u32, TVar, u32),
+    Stop(Out),
+}
+
+pub struct Open {
+    pub what: Opened,
+    pub used: Used,
+}
+
+// A variable met another type: the answer, or a fresh variable that took the type, to merge with.
+pub enum Meet {
+    Is(Out),
+    Merge(TVar),
+}
+
+pub struct Met {
+    pub what: Meet,
+    pub used: Used,
+}
+
+// The type of a chain's end: a new `_` where it is not bound.
+fn type_of(w: &mut [u32], u: Used, loc: u32, id: TVar) -> Step
+    requires { ⌜ Lay (now w) u ⌝ }
+    ensures { λ r. ⌜ After (now (w .entry)) u (now (w .exit)) r (λ s. type-of s loc (id .0)) ⌝ }
+{
+    match table::bound_at(w, u, id) {
+        Found::Nothing => table::push_node(w, u, loc, Shape::Anything),
+        Found::Just(t) => Step {
+            out: Out::Done(t),
+            used: u,
+        },
+    }
+}
+
+// The fresh variable is numeric if either end is; the second's location wins.
+fn merge_num(w: &mut [u32], u: Used, num_loc_1: Found, num_loc_2: Found, new_tvar: TVar)
+    requires { ⌜ Lay (now w) u ⌝ }
+    ensures { λ _. ⌜ Stored (now (w .entry)) u (now (w .exit)) (λ s. merge-num s (found «num_loc_1») (found «num_loc_2») («new_tvar» .0)) ⌝ }
+{
+    match num_loc_2 {
+        Found::Just(nloc) => subst::set_num_var(w, u, new_tvar, nloc),
+        Found::Nothing => match num_loc_1 {
+            Found::Just(nloc) => subst::set_num_var(w, u, new_tvar, nloc),
+            Found::Nothing => {}
+        },
+    }
+}
+
+// Both ends are bound to a fresh variable.
+fn open_ends(
+    w: &mut [u32],
+    u: Used,
+    loc1: u32,
+    last_id1: TVar,
+    num_loc_1: Found,
+    ty1: u32,
+    loc2: u32,
+    last_id2: TVar,
+    num_loc_2: Found,
+    ty2: u32,
+) -> Open
+    requires { ⌜ Lay (now w) u × ((ty1 < u .nodes) × (ty2 < u .nodes)) ⌝ }
+    ensures { λ r. ⌜ Opens (now (w .entry)) u (now (w .exit)) r (λ k s. open-ends k s loc1 («last_id1» .0) (found «num_loc_1») ty1 loc2 («last_id2» .0) (found «num_loc_2») ty2) ⌝ }
+{
+    let a = table::take_var(w, u);
+    let ao = a.out;
+    let au = a.used;
+    let Found::Just(n) = table::done_of(ao) else {
+        return Open {
+            what: Opened::Stop(ao),
+            used: au,
+        };
+    };
+    let new_tvar = table::tvar(n);
+    merge_num(w, au, num_loc_1, num_loc_2, new_tvar);
+    let b = table::push_node(w, au, loc1, Shape::Var(new_tvar));
+    let bo = b.out;
+    let bu = b.used;
+    let Found::Just(var1) = table::done_of(bo) else {
+        return Open {
+            what: Opened::Stop(bo),
+            used: bu,
+        };
+    };
+    let d = table::push_node(w, bu, loc2, Shape::Var(new_tvar));
+    let od = d.out;
+    let du = d.used;
+    let Found::Just(var2) = table::done_of(od) else {
+        return Open {
+            what: Opened::Stop(od),
+            used: du,
+        };
+    };
+    table::bind_var(w, du, last_id1, var1);
+    table::bind_var(w, du, last_id2, var2);
+    Open {
+        what: Opened::Ready(ty1, ty2, new_tvar, var2),
+        used: du,
+    }
+}
+
+// The ends of both chains, with their types and numeric marks.
+pub fn open_tvar(w: &mut [u32], u: Used, loc1: u32, id1: TVar, loc2: u32, id2: TVar) -> Open
+    requires { ⌜ Lay (now w) u ⌝ }
+    ensures { λ r. ⌜ Opens (now (w .entry)) u (now (w .exit)) r (λ k s. open-tvar k s loc1 (id1 .0) loc2 (id2 .0)) ⌝ }
+{
+    let last_id1 = subst::forward_tvar(w, u, id1);
+    let last_id2 = subst::forward_tvar(w, u, id2);
+    let num_loc_1 = table::num_loc_at(w, u, last_id1);
+    let num_loc_2 = table::num_loc_at(w, u, last_id2);
+    let a = type_of(w, u, loc1, last_id1);
+    let ao = a.out;
+    let au = a.used;
+    let Found::Just(ty1) = table::done_of(ao) else {
+        return Open {
+            what: Opened::Stop(ao),
+            used: au,
+        };
+    };
+    let b = type_of(w, au, loc2, last_id2);
+    let bo = b.out;
+    let bu = b.used;
+    let Found::Just(ty2) = table::done_of(bo) else {
+        return Open {
+            what: Opened::Stop(bo),
+            used: bu,
+        };
+    };
+    open_ends(
+        w,
+        bu,
+        loc1,
+        last_id1,
+        num_loc_1,
+        ty1,
+        loc2,
+        last_id2,
+        num_loc_2,
+        ty2,
+    )
+}
+
+fn is_anything(s: Shape) -> bool
+    ensures { λ r. ⌜ r ≡ is-anything (value-of s) ⌝ }
+{
+    match s {
+        Shape::Unit => false,
+        Shape::Ref(_, _) => false,
+        Shape::Param(_, _) => false,
+        Shape::Apply(_, _, _, _) => false,
+        Shape::Var(_) => false,
+        Shape::Anything => true,
+        Shape::UnresolvedError => false,
+    }
+}
+
+// An operand's type as an error shows it: the variable where it is `_`.
+fn shown(w: &mut [u32], u: Used, ty: u32, id: TVar) -> Step
+    requires { ⌜ Lay (now w) u × (ty < u .nodes) ⌝ }
+    ensures { λ r. ⌜ After (now (w .entry)) u (now (w .exit)) r (λ s. shown s ty (id .0)) ⌝ }
+{
+    let n = table::node_at(w, u, ty);
+    let s = n.shape;
+    if is_anything(s) {
+        return table::push_node(w, u, n.loc, Shape::Var(id));
+    }
+    Step {
+        out: Out::Done(ty),
+        used: u,
+    }
+}
+
+// The numeric check failed.
+fn show_both(w: &mut [u32], u: Used, ty1: u32, id1: TVar, ty2: u32, id2: TVar) -> Step
+    requires { ⌜ Lay (now w) u × ((ty1 < u .nodes) × (ty2 < u .nodes)) ⌝ }
+    ensures { λ r. ⌜ After (now (w .entry)) u (now (w .exit)) r (λ s. show-both s ty1 (id1 .0) ty2 (id2 .0)) ⌝ }
+{
+    let a = shown(w, u, ty1, id1);
+    let ao = a.out;
+    let au = a.used;
+    let Found::Just(shown1) = table::done_of(ao) else {
+        return a;
+    };
+    let b = shown(w, au, ty2, id2);
+    let bo = b.out;
+    let bu = b.used;
+    let Found::Just(shown2) = table::done_of(bo) else {
+        return b;
+    };
+    Step {
+        out: Out::Incompatible(shown1, shown2),
+        used: bu,
+    }
+}
+
+// After the inner join: the fresh variable takes the joined type.
+pub fn close_tvar(
+    w: &mut [u32],
+    u: Used,
+    ty1: u32,
+    id1: TVar,
+    ty2: u32,
+    loc2: u32,
+    id2: TVar,
+    new_tvar: TVar,
+    var2: u32,
+    new_ty: u32,
+) -> Step
+    requires { ⌜ Lay (now w) u × ((ty1 < u .nodes) × ((ty2 < u .nodes) × ((var2 < u .nodes) × («new_ty» < u .nodes)))) ⌝ }
+    ensures { λ r. ⌜ After (now (w .entry)) u (now (w .exit)) r (λ s. close-tvar s ty1 (id1 .0) ty2 loc2 (id2 .0) («new_tvar» .0) var2 «new_ty») ⌝ }
+{
+    match table::bound_at(w, u, new_tvar) {
+        Found::Just(t) => {
+            let n = table::node_at(w, u, t);
+            Step {
+                out: Out::Recursive(n.loc),
+                used: u,
+            }
+        }
+        Found::Nothing => match subst::join_bind_tvar(w, u, new_tvar, new_ty) {
+            Binding::Bound => Step {
+                out: Out::Done(var2),
+                used: u,
+            },
+            Binding::Failed => show_both(w, u, ty1, id1, ty2, id2),
+            Binding::Recursive => Step {
+                out: Out::Recursive(loc2),
+                used: u,
+            },
+        },
+    }
+}
+
+// The variable at node `var`, not bound, takes the other type.
+fn join_unbound(w: &mut [u32], u: Used, lhs: u32, rhs: u32, var: u32, id: TVar, other: u32) -> Step
+    requires { ⌜ Lay (now w) u × ((lhs < u .nodes) × ((rhs < u .nodes) × ((var < u .nodes) × (other < u .nodes)))) ⌝ }
+    ensures { λ r. ⌜ After (now (w .entry)) u (now (w .exit)) r (λ s. join-unbound s lhs rhs var (id .0) other) ⌝ }
+{
+    let n = table::node_at(w, u, var);
+    match subst::join_bind_tvar(w, u, id, other) {
+        Binding::Bound => Step {
+            out: Out::Done(var),
+            used: u,
+        },
+        Binding::Failed => Step {
+            out: Out::Incompatible(lhs, rhs),
+            used: u,
+        },
+        Binding::Recursive => Step {
+            out: Out::Recursive(n.loc),
+            used: u,
+        },
+    }
+}
+
+// The variable at node `var` meets another type: not bound, it takes the type; else a fresh variable does.
+pub fn meet_tvar(w: &mut [u32], u: Used, lhs: u32, rhs: u32, var: u32, id: TVar, other: u32) -> Met
+    requires { ⌜ Lay (now w) u × ((lhs < u .nodes) × ((rhs < u .nodes) × ((var < u .nodes) × (other < u .nodes)))) ⌝ }
+    ensures { λ r. ⌜ Meets (now (w .entry)) u (now (w .exit)) r (λ k s. meet-tvar k s lhs rhs var (id .0) other) ⌝ }
+{
+    match table::bound_at(w, u, id) {
+        Found::Nothing => {
+            let a = join_unbound(w, u, lhs, rhs, var, id, other);
+            let ao = a.out;
+            let au = a.used;
+            Met {
+                what: Meet::Is(ao),
+                used: au,
+            }
+        }
+        Found::Just(_) => {
+            let a = table::take_var(w, u);
+            let ao = a.out;
+            let au = a.used;
+            match table::done_of(ao) {
+                Found::Nothing => Met {
+                    what: Meet::Is(ao),
+                    used: au,
+                },
+                Found::Just(n) => {
+                    let new_tvar = table::tvar(n);
+                    table::bind_var(w, au, new_tvar, other);
+                    Met {
+                        what: Meet::Merge(new_tvar),
+                        used: au,
+                    }
+                }
+            }
+        }
+    }
+}

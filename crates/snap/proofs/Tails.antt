@@ -1,0 +1,216 @@
+-- Tails zeroed after the variables are put back: the words hold what they held. Assumes nothing.
+use mathlib.Core.Path.{_≡_, refl, sym, ap, _∙_, subst}
+use mathlib.Core.List.{List, [], _∷_, _++_}
+use Prim.Native.Nat.{ℕ, _+_, _*_, _-_, _<_, _≤_}
+use native.Mathlib.Omega.{arith}
+use native.Mathlib.Decide.{decLt}
+use lib.ListN.{length, getD, replicate, List·getD-append}
+use Rattle.definition.specs.Types.{State, Struct, Cell, unbound, Constraint}
+use Rattle.definition.specs.Store.{taken, with-vars, with-structs}
+use Rattle.definition.specs.Step.{put-back}
+use Rattle.table.specs.Tab.{tab}
+use Rattle.table.specs.Rows.{Table, row, words-at, entries, Clean, cell-words, node-words, shape-words, arg-words, constraint-words, struct-words, node-table, arg-table, var-table, constraint-table, struct-table}
+use Rattle.table.specs.State.{view, seen, Lay, Inside, Front, Grown, Stored, Wrote}
+use Rattle.table.specs.declared.Used.{Used}
+use Rattle.table.proofs.Rows.{length-entries, entry-at, entry-out, row-same, Same, same-entries, same-clean, apart}
+use Rattle.table.proofs.Steps.{grown-trans}
+use Rattle.snap.specs.Snap.{Above, Saved, Since, PutBack}
+use Rattle.snap.proofs.Back.{getD-blanks, zero-row}
+
+-- ---- one table: rows b to n of w are zeroed, and w has the rows of w₀ below b
+
+module _ {A : Type 0} (T : Table A) (w₀ : List ℕ) (b : ℕ) (w : List ℕ) (n : ℕ) (clean₀ : Clean T w₀ b) (clean : Clean T w n) (front : Front (entries T w₀ b) (entries T w n)) (zeros : T .write (T .blank) ≡ tab (T .width) (λ k. 0)) where
+  front-row : (i : ℕ) → i < b → i < T .rows → row T w i ≡ row T w₀ i
+  unfolding Clean
+  front-row i lt p =
+      clean i p
+      ∙ ap (λ (l : List A). T .write (getD l i (T .blank))) (front .is)
+      ∙ ap (T .write) (List·getD-append (entries T w₀ b) (front .rest) (T .blank) i (rw (length-entries T w₀ b) lt))
+      ∙ sym (clean₀ i p)
+
+  blank-before : (i : ℕ) → b ≤ i → i < T .rows → row T w₀ i ≡ T .write (T .blank)
+  unfolding Clean
+  blank-before i le p = clean₀ i p ∙ ap (T .write) (entry-out T w₀ b i (T .blank) le)
+
+  blank-after : (i : ℕ) → n ≤ i → i < T .rows → row T w i ≡ T .write (T .blank)
+  unfolding Clean
+  blank-after i le p = clean i p ∙ ap (T .write) (entry-out T w n i (T .blank) le)
+
+  pub cut : (wa wb : List ℕ) → Same T w wa → Wrote wa (T .base + b * T .width) ((n - b) * T .width) [] wb → b ≤ n
+      → ((i k l : ℕ) → i < b → k < T .width → T .base + i * T .width + k ≡ T .base + b * T .width + l → ⊥)
+      → ((i k l : ℕ) → n ≤ i → l < (n - b) * T .width → T .base + i * T .width + k ≡ T .base + b * T .width + l → ⊥)
+      → ((i k : ℕ) → b ≤ i → i < n → k < T .width → ((i - b) * T .width + k < (n - b) * T .width) × (T .base + b * T .width + ((i - b) * T .width + k) ≡ T .base + i * T .width + k))
+      → Same T w₀ wb
+  cut wa wb same z le under over within i p = by (decLt i b) (decLt i n)
+    where
+      by : Dec (i < b) → Dec (i < n) → row T wb i ≡ row T w₀ i
+      by (yes q) r = row-same T wa wb i (λ k s. z .there (T .base + i * T .width + k) (λ l t e. under i k l q s e)) ∙ same i p ∙ front-row i q p
+      by (no q) (yes r) =
+          zero-row T wb i (λ k s.
+          let x = within i k (omega arith) r s in
+          sym (ap (λ (y : ℕ). getD wb y 0) (x .1)) ∙ z .here ((i - b) * T .width + k) (x .0))
+          ∙ sym zeros
+          ∙ sym (blank-before i (omega arith) p)
+      by (no q) (no r) =
+          row-same T wa wb i (λ k s. z .there (T .base + i * T .width + k) (λ l t e. over i k l (omega arith) t e)) ∙ same i p ∙ blank-after i (omega arith) p ∙ sym (blank-before i (omega arith) p)
+
+-- ---- all tables
+
+blank-node : node-table .write (node-table .blank) ≡ tab 6 (λ k. 0)
+unfolding tab node-words shape-words
+blank-node = refl
+
+blank-arg : arg-table .write (arg-table .blank) ≡ tab 1 (λ k. 0)
+unfolding tab arg-words
+blank-arg = refl
+
+blank-constraint : constraint-table .write (constraint-table .blank) ≡ tab 4 (λ k. 0)
+unfolding tab constraint-words
+blank-constraint = refl
+
+blank-struct : struct-table .write (struct-table .blank) ≡ tab 2 (λ k. 0)
+unfolding tab struct-words
+blank-struct = refl
+
+module _ (w : List ℕ) (u : Used) (before : Used) (saved w₁ w₂ w₃ w₄ w₅ w₀ : List ℕ) (above : Above before u) (s : Since w₀ before saved w u)
+    (a : Stored w u w₁ (λ s. put-back (with-structs (view w₀ before) (s .structs)) s))
+    (z₂ : Wrote w₁ (5 + before .nodes * 6) ((u .nodes - before .nodes) * 6) [] w₂)
+    (z₃ : Wrote w₂ (12293 + before .args * 1) ((u .args - before .args) * 1) [] w₃)
+    (z₄ : Wrote w₃ (21509 + before .constraints * 4) ((u .constraints - before .constraints) * 4) [] w₄)
+    (z₅ : Wrote w₄ (23557 + before .structs * 2) ((u .structs - before .structs) * 2) [] w₅) where
+  h : Lay w₁ u
+  h = a .lay
+
+  grown : Grown (view w₀ before) (view w₁ u)
+  grown = grown-trans _ _ _ (s .grown) (a .grown)
+
+  -- ---- nodes
+  pub same-nodes : Same node-table w₀ w₅
+  unfolding view
+  same-nodes i p =
+      let m = h .nodes in
+      let q = above .nodes in
+      apart node-table w₄ (23557 + before .structs * 2) ((u .structs - before .structs) * 2) [] w₅ z₅ (λ i k l p q s e. omega arith) i p
+      ∙ apart node-table w₃ (21509 + before .constraints * 4) ((u .constraints - before .constraints) * 4) [] w₄ z₄ (λ i k l p q s e. omega arith) i p
+      ∙ apart node-table w₂ (12293 + before .args * 1) ((u .args - before .args) * 1) [] w₃ z₃ (λ i k l p q s e. omega arith) i p
+      ∙ cut node-table w₀ (before .nodes) w₁ (u .nodes) (s .lay .clean-nodes) (h .clean-nodes) (grown .nodes) blank-node w₁ w₂ (λ i p. refl) z₂ q
+      (λ i k l r t e. omega arith)
+      (λ i k l r t e. omega arith)
+      (λ i k r t v. (omega arith, omega arith))
+      i p
+
+  -- ---- argument places
+  pub same-args : Same arg-table w₀ w₅
+  unfolding view
+  same-args i p =
+      let m = h .nodes in
+      let q = above .nodes in
+      apart arg-table w₄ (23557 + before .structs * 2) ((u .structs - before .structs) * 2) [] w₅ z₅ (λ i k l p q s e. omega arith) i p
+      ∙ apart arg-table w₃ (21509 + before .constraints * 4) ((u .constraints - before .constraints) * 4) [] w₄ z₄ (λ i k l p q s e. omega arith) i p
+      ∙ cut arg-table w₀ (before .args) w₁ (u .args) (s .lay .clean-args) (h .clean-args) (grown .args) blank-arg w₂ w₃
+      (apart arg-table w₁ (5 + before .nodes * 6) ((u .nodes - before .nodes) * 6) [] w₂ z₂ (λ i k l p r s e. omega arith))
+      z₃
+      (above .args)
+      (λ i k l r t e. omega arith)
+      (λ i k l r t e. omega arith)
+      (λ i k r t v. (omega arith, omega arith))
+      i p
+
+  -- ---- constraints
+  pub same-constraints : Same constraint-table w₀ w₅
+  unfolding view
+  same-constraints i p =
+      let m = h .nodes in
+      let q = above .nodes in
+      let ma = h .args in
+      let qa = above .args in
+      apart constraint-table w₄ (23557 + before .structs * 2) ((u .structs - before .structs) * 2) [] w₅ z₅ (λ i k l p q s e. omega arith) i p
+      ∙ cut constraint-table w₀ (before .constraints) w₁ (u .constraints) (s .lay .clean-constraints) (h .clean-constraints) (grown .constraints) blank-constraint w₃ w₄
+      (λ i p. apart constraint-table w₂ (12293 + before .args * 1) ((u .args - before .args) * 1) [] w₃ z₃ (λ i k l p r s e. omega arith) i p
+      ∙ apart constraint-table w₁ (5 + before .nodes * 6) ((u .nodes - before .nodes) * 6) [] w₂ z₂ (λ i k l p r s e. omega arith) i p)
+      z₄
+      (above .constraints)
+      (λ i k l r t e. omega arith)
+      (λ i k l r t e. omega arith)
+      (λ i k r t v. (omega arith, omega arith))
+      i p
+
+  -- ---- structs
+  pub same-structs : Same struct-table w₀ w₅
+  unfolding view
+  same-structs i p =
+      let m = h .nodes in
+      let q = above .nodes in
+      let ma = h .args in
+      let qa = above .args in
+      let mc = h .constraints in
+      let qc = above .constraints in
+      cut struct-table w₀ (before .structs) w₁ (u .structs) (s .lay .clean-structs) (h .clean-structs) (grown .structs) blank-struct w₄ w₅
+      (λ i p. apart struct-table w₃ (21509 + before .constraints * 4) ((u .constraints - before .constraints) * 4) [] w₄ z₄ (λ i k l p r s e. omega arith) i p
+      ∙ apart struct-table w₂ (12293 + before .args * 1) ((u .args - before .args) * 1) [] w₃ z₃ (λ i k l p r s e. omega arith) i p
+      ∙ apart struct-table w₁ (5 + before .nodes * 6) ((u .nodes - before .nodes) * 6) [] w₂ z₂ (λ i k l p r s e. omega arith) i p)
+      z₅
+      (above .structs)
+      (λ i k l r t e. omega arith)
+      (λ i k l r t e. omega arith)
+      (λ i k r t v. (omega arith, omega arith))
+      i p
+
+  -- ---- variables: those taken since are blank
+  vars-then : entries var-table w₁ (u .vars) ≡ entries var-table w₀ (before .vars) ++ replicate (taken (view w u) - taken (view w₀ before)) unbound
+  unfolding view seen with-structs put-back with-vars
+  vars-then = ap (λ (x : State). x .vars) (a .is [])
+
+  pub same-vars : Same var-table w₀ w₅
+  unfolding Clean
+  same-vars i p =
+      let m = h .nodes in
+      let q = above .nodes in
+      let ma = h .args in
+      let qa = above .args in
+      apart var-table w₄ (23557 + before .structs * 2) ((u .structs - before .structs) * 2) [] w₅ z₅ (λ i k l p q s e. omega arith) i p
+      ∙ apart var-table w₃ (21509 + before .constraints * 4) ((u .constraints - before .constraints) * 4) [] w₄ z₄ (λ i k l p q s e. omega arith) i p
+      ∙ apart var-table w₂ (12293 + before .args * 1) ((u .args - before .args) * 1) [] w₃ z₃ (λ i k l p r s e. omega arith) i p
+      ∙ apart var-table w₁ (5 + before .nodes * 6) ((u .nodes - before .nodes) * 6) [] w₂ z₂ (λ i k l p r s e. omega arith) i p
+      ∙ h .clean-vars i p
+      ∙ ap (λ (l : List Cell). cell-words (getD l i unbound)) vars-then
+      ∙ ap cell-words (getD-blanks (entries var-table w₀ (before .vars)) (taken (view w u) - taken (view w₀ before)) i unbound)
+      ∙ sym (s .lay .clean-vars i p)
+
+  undone-view : view w₅ before ≡ view w₀ before
+  unfolding view
+  undone-view =
+      λ i. record {
+        nodes = same-entries node-table w₀ w₅ (before .nodes) same-nodes (s .lay .nodes) i;
+        args = same-entries arg-table w₀ w₅ (before .args) same-args (s .lay .args) i;
+        vars = same-entries var-table w₀ w₅ (before .vars) same-vars (s .lay .vars) i;
+        constraints = same-entries constraint-table w₀ w₅ (before .constraints) same-constraints (s .lay .constraints) i;
+        structs = same-entries struct-table w₀ w₅ (before .structs) same-structs (s .lay .structs) i;
+      }
+
+  undone-lay : Lay w₅ before
+  undone-lay =
+      record {
+        size = z₅ .size ∙ z₄ .size ∙ z₃ .size ∙ z₂ .size ∙ h .size;
+        nodes = s .lay .nodes;
+        args = s .lay .args;
+        vars = s .lay .vars;
+        constraints = s .lay .constraints;
+        structs = s .lay .structs;
+        clean-nodes = same-clean node-table w₀ w₅ (before .nodes) same-nodes (s .lay .nodes) (s .lay .clean-nodes);
+        clean-args = same-clean arg-table w₀ w₅ (before .args) same-args (s .lay .args) (s .lay .clean-args);
+        clean-vars = same-clean var-table w₀ w₅ (before .vars) same-vars (s .lay .vars) (s .lay .clean-vars);
+        clean-constraints = same-clean constraint-table w₀ w₅ (before .constraints) same-constraints (s .lay .constraints) (s .lay .clean-constraints);
+        clean-structs = same-clean struct-table w₀ w₅ (before .structs) same-structs (s .lay .structs) (s .lay .clean-structs);
+        inside = subst Inside (sym undone-view) (s .lay .inside);
+      }
+
+  pub undoing : Lay w₅ before × (view w₅ before ≡ view w₀ before)
+  undoing = (undone-lay, undone-view)
+
+-- a row of one word
+pub times-one : (w : List ℕ) (base b n : ℕ) (w′ : List ℕ) → Wrote w (base + b) n [] w′ → Wrote w (base + b * 1) (n * 1) [] w′
+times-one w base b n w′ h =
+    let e : b * 1 ≡ b = omega arith in
+    let f : n * 1 ≡ n = omega arith in
+    rw (e, f) h

@@ -1,0 +1,56 @@
+-- `snap::put_vars` meets its contract. Assumes nothing.
+use mathlib.Core.Path.{_∙_}
+use Rattle.snap.proofs.Back.{putting-back}
+use borrow.Author.Needs.{needs}
+use Rattle.snap.proofs.put_vars.Statement.{statement}
+use Rattle.snap.proofs.put_vars.Tie as tie
+use Rattle.snap.proofs.put_vars.Reads as reads
+use Rattle.snap.proofs.put_vars.Lts as lts
+use Rattle.snap.proofs.copy.Reads as copy-reads
+use Rattle.snap.proofs.wide.Reads as wide-reads
+use Rattle.snap.proofs.zero_words.Reads as zero-words-reads
+
+wide-requires : tie.Need-wide-requires
+wide-requires c κs = search needs
+
+mul-n : tie.Need-mul-n
+mul-n c = search needs
+
+sub-more : tie.Need-sub-more
+sub-more c = search needs
+
+copy-requires : tie.Need-copy-requires
+copy-requires c κs = search needs
+
+add-zero-words : tie.Need-add-zero-words
+add-zero-words c = search needs
+
+wide-requires-2 : tie.Need-wide-requires-2
+wide-requires-2 c κs = search needs
+
+mul-zero-words : tie.Need-mul-zero-words
+mul-zero-words c = search needs
+
+zero-words-requires : tie.Need-zero-words-requires
+zero-words-requires c κs = search needs
+
+same-length : tie.Need-same-length
+same-length c = c .before .before .zero-words .ensures .size ∙ c .before .before .before .before .before .before .before .copy .ensures .size
+
+returns : tie.Need-returns
+returns c = λ w₀ s. putting-back _ _ _ _ _ _ (c .before .before .before .before .before .before .before .before .before .before .before .before .before .before .pre .0) (c .before .before .before .before .before .before .before .before .before .before .before .before .before .before .pre .1 .0) (rw (c .before .before .before .before .before .before .before .before .before .before .before .wide .ensures) at (c .before .before .before .before .before .before .before .copy .ensures)) (rw (c .before .before .before .before .before .before .before .before .before .before .before .wide .ensures, c .before .before .before .wide2 .ensures) at (c .before .before .zero-words .ensures)) w₀ s
+
+pub put-vars-spec : {M : Type 1} → statement M
+put-vars-spec =
+    tie.close
+    (tie.spec
+    wide-requires
+    mul-n
+    sub-more
+    copy-requires
+    add-zero-words
+    wide-requires-2
+    mul-zero-words
+    zero-words-requires
+    same-length
+    returns)

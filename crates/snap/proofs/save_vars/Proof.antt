@@ -1,0 +1,74 @@
+-- `snap::save_vars` meets its contract. Assumes nothing.
+use Prim.Native.Nat.{_-_}
+use native.Mathlib.Omega.{arith}
+use Rattle.snap.proofs.Saving.{Saving, saving-none, saving-more}
+use Rattle.snap.proofs.save_vars.Statement.{statement}
+use Rattle.snap.proofs.save_vars.Tie as tie
+use Rattle.snap.proofs.save_vars.Reads as reads
+use Rattle.snap.proofs.save_vars.Lts as lts
+use Rattle.snap.proofs.wide.Reads as wide-reads
+
+abbrev Inv-loop : tie.InvT-loop
+Inv-loop w saved₀ n k₀ saved k = Saving w saved₀ saved n k
+
+abbrev μ-loop : tie.MeasureT-loop
+μ-loop w saved₀ n k₀ saved k = n - k
+
+wide-requires : tie.Need-wide-requires Inv-loop μ-loop
+wide-requires c κs = tt
+
+mul-n : tie.Need-mul-n Inv-loop μ-loop
+mul-n c = omega arith
+
+loop-holds : tie.Need-loop-holds Inv-loop μ-loop
+loop-holds c = saving-none _ _ _
+
+add-saved : tie.Need-add-saved Inv-loop μ-loop
+add-saved c = omega arith
+
+mul-saved : tie.Need-mul-saved Inv-loop μ-loop
+mul-saved c = omega arith
+
+shared-slice-read-saved : tie.Need-shared-slice-read-saved Inv-loop μ-loop
+shared-slice-read-saved c = omega (arith, c .before .before .loop .inv .size)
+
+mul-saved-2 : tie.Need-mul-saved-2 Inv-loop μ-loop
+mul-saved-2 c = omega arith
+
+slice-write-saved : tie.Need-slice-write-saved Inv-loop μ-loop
+slice-write-saved c = omega (arith, c .before .before .loop .inv .size)
+
+add-k : tie.Need-add-k Inv-loop μ-loop
+add-k c = omega arith
+
+loop-less : tie.Need-loop-less Inv-loop μ-loop
+loop-less c = omega arith
+
+loop-again : tie.Need-loop-again Inv-loop μ-loop
+loop-again c = saving-more _ _ _ _ _ (c .before .before .loop .inv) (omega arith) (omega arith)
+
+same-length : tie.Need-same-length Inv-loop μ-loop
+same-length c = c .before .loop .inv .size
+
+returns : tie.Need-returns Inv-loop μ-loop
+returns c = record { word = λ k p. c .before .loop .inv .word k (omega arith) }
+
+pub save-vars-spec : {M : Type 1} → statement M
+save-vars-spec =
+    tie.close
+    (tie.spec
+    Inv-loop
+    μ-loop
+    wide-requires
+    mul-n
+    loop-holds
+    add-saved
+    mul-saved
+    shared-slice-read-saved
+    mul-saved-2
+    slice-write-saved
+    add-k
+    loop-less
+    loop-again
+    same-length
+    returns)

@@ -1,0 +1,2 @@
+-- What a snapshot holds, and what its return does. Assumes nothing: these are definitions.
+pub mod Snap

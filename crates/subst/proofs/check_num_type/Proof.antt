@@ -1,0 +1,78 @@
+use Rattle.subst.specs.Answers.{next}
+use Rattle.table.specs.State.{found}
+use Rattle.definition.specs.Join.{num-shape}
+use Rattle.subst.proofs.Laws.{value-is, var-of, num-plain, num-open, num-bound}
+use mathlib.Core.Path.{refl, sym, ap, _∙_}
+use borrow.Author.Needs.{needs}
+use Rattle.subst.proofs.check_num_type.Statement.{statement}
+use Rattle.subst.proofs.check_num_type.Tie as tie
+use Rattle.subst.proofs.check_num_type.Reads as reads
+use Rattle.subst.proofs.check_num_type.Lts as lts
+use Rattle.subst.proofs.as_var.Reads as as-var-reads
+use Rattle.subst.proofs.forward_tvar.Reads as forward-tvar-reads
+use Rattle.subst.proofs.is_num_var.Reads as is-num-var-reads
+use Rattle.subst.proofs.num_node.Reads as num-node-reads
+use Rattle.subst.proofs.num_shape.Reads as num-shape-reads
+use Rattle.table.proofs.bound_at.Reads as bound-at-reads
+use Rattle.table.proofs.node_at.Reads as node-at-reads
+
+node-at-requires : tie.Need-node-at-requires
+node-at-requires c κs = search needs
+
+as-var-requires : tie.Need-as-var-requires
+as-var-requires c κs = search needs
+
+enum-told : tie.Need-enum-told
+enum-told c = search needs
+
+num-shape-requires : tie.Need-num-shape-requires
+num-shape-requires c κs = search needs
+
+enum-known-v : tie.Need-enum-known-v
+enum-known-v c = search needs
+
+forward-tvar-requires : tie.Need-forward-tvar-requires
+forward-tvar-requires c κs = search needs
+
+bound-at-requires : tie.Need-bound-at-requires
+bound-at-requires c κs = search needs
+
+enum-told-2 : tie.Need-enum-told-2
+enum-told-2 c = search needs
+
+is-num-var-requires : tie.Need-is-num-var-requires
+is-num-var-requires c κs = search needs
+
+enum-known-t : tie.Need-enum-known-t
+enum-known-t c = search needs
+
+num-node-requires : tie.Need-num-node-requires
+num-node-requires c κs = search needs
+
+returns : tie.Need-returns
+returns c = λ ds. c .num-shape .ensures _ ∙ ap num-shape (value-is _ _ (c .before .before .before .before .node-at .result) (c .before .before .before .before .node-at .ensures ds)) ∙ num-plain _ _ (var-of _ _ (c .before .before .before .before .node-at .result) (c .before .before .before .as-var .result) (c .before .before .before .before .node-at .ensures ds) (c .before .before .before .as-var .ensures) ∙ ap next (c .before .enum-told .given .1))
+
+returns-2 : tie.Need-returns-2
+returns-2 c = λ ds. c .is-num-var .ensures ds ∙ num-open _ _ _ (var-of _ _ (c .before .before .before .before .before .before .before .before .before .node-at .result) (c .before .before .before .before .before .before .before .before .as-var .result) (c .before .before .before .before .before .before .before .before .before .node-at .ensures ds) (c .before .before .before .before .before .before .before .before .as-var .ensures) ∙ ap next (c .before .before .before .before .before .before .v .given .1)) _ (c .before .before .before .before .forward-tvar .ensures ds) (sym (c .before .before .before .bound-at .ensures ds) ∙ ap found (c .before .enum-told2 .given .1))
+
+returns-3 : tie.Need-returns-3
+returns-3 c = λ ds. c .num-node .ensures ds ∙ num-bound _ _ _ (var-of _ _ (c .before .before .before .before .before .before .before .before .before .before .node-at .result) (c .before .before .before .before .before .before .before .before .before .as-var .result) (c .before .before .before .before .before .before .before .before .before .before .node-at .ensures ds) (c .before .before .before .before .before .before .before .before .before .as-var .ensures) ∙ ap next (c .before .before .before .before .before .before .before .v .given .1)) _ _ (c .before .before .before .before .before .forward-tvar .ensures ds) (sym (c .before .before .before .before .bound-at .ensures ds) ∙ ap found (c .before .before .t .given .1))
+
+pub check-num-type-spec : {M : Type 1} → statement M
+check-num-type-spec =
+    tie.close
+    (tie.spec
+    node-at-requires
+    as-var-requires
+    enum-told
+    num-shape-requires
+    enum-known-v
+    forward-tvar-requires
+    bound-at-requires
+    enum-told-2
+    is-num-var-requires
+    enum-known-t
+    num-node-requires
+    returns
+    returns-2
+    returns-3)

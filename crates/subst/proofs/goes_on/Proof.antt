@@ -1,0 +1,31 @@
+use Rattle.subst.proofs.Itself.{goes-node, goes-anything, unfolded-node}
+use borrow.Author.Needs.{needs}
+use Rattle.subst.proofs.goes_on.Statement.{statement}
+use Rattle.subst.proofs.goes_on.Tie as tie
+use Rattle.subst.proofs.goes_on.Reads as reads
+use Rattle.subst.proofs.goes_on.Lts as lts
+use Rattle.subst.proofs.unfold_type.Reads as unfold-type-reads
+use Rattle.table.proofs.node_at.Reads as node-at-reads
+
+unfold-type-requires : tie.Need-unfold-type-requires
+unfold-type-requires c κs = search needs
+
+enum-known-x : tie.Need-enum-known-x
+enum-known-x c = search needs
+
+node-at-requires : tie.Need-node-at-requires
+node-at-requires c κs = search needs
+
+enum-told : tie.Need-enum-told
+enum-told c = search needs
+
+returns : tie.Need-returns
+returns c = goes-node _ _ _ (c .before .before .before .before .unfold-type .result) (c .before .before .before .before .unfold-type .ensures) (c .before .before .before .before .before .before .pre .0) _ (c .before .before .x .given .1) (unfolded-node (c .before .before .before .before .unfold-type .ensures .inside) (c .before .before .x .given .1)) (c .node-at .result) (c .node-at .ensures)
+
+returns-2 : tie.Need-returns-2
+returns-2 c = goes-anything _ _ _ (c .before .before .unfold-type .result) (c .before .before .unfold-type .ensures) _ (c .enum-told .given .1)
+
+pub goes-on-spec : {M : Type 1} → statement M
+goes-on-spec =
+    tie.close
+    (tie.spec unfold-type-requires enum-known-x node-at-requires enum-told returns returns-2)

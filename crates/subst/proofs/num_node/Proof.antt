@@ -1,0 +1,22 @@
+use mathlib.Core.Path.{ap, _∙_}
+use Rattle.definition.specs.Join.{num-shape}
+use Rattle.subst.proofs.Laws.{value-is}
+use borrow.Author.Needs.{needs}
+use Rattle.subst.proofs.num_node.Statement.{statement}
+use Rattle.subst.proofs.num_node.Tie as tie
+use Rattle.subst.proofs.num_node.Reads as reads
+use Rattle.subst.proofs.num_node.Lts as lts
+use Rattle.subst.proofs.num_shape.Reads as num-shape-reads
+use Rattle.table.proofs.node_at.Reads as node-at-reads
+
+node-at-requires : tie.Need-node-at-requires
+node-at-requires c κs = search needs
+
+num-shape-requires : tie.Need-num-shape-requires
+num-shape-requires c κs = search needs
+
+returns : tie.Need-returns
+returns c = λ ds. c .num-shape .ensures _ ∙ ap num-shape (value-is _ _ (c .before .node-at .result) (c .before .node-at .ensures ds))
+
+pub num-node-spec : {M : Type 1} → statement M
+num-node-spec = tie.close (tie.spec node-at-requires num-shape-requires returns)

@@ -1,0 +1,71 @@
+-- Answers of substitution as the definition has them, and what is promised with them. Assumes nothing: these are definitions.
+use mathlib.Core.Path.{_≡_}
+use mathlib.Core.Bool.{Bool, true, false}
+use mathlib.Core.List.{List}
+use mathlib.Core.Option.{Option, none, some}
+use Prim.Native.Nat.{ℕ, suc, _<_}
+use lib.ListN.{length, getD}
+use Rattle.definition.specs.Types as d
+use Rattle.definition.specs.Types.{State, Struct, Places, Spanned, Type-value, Result, ok, err, RecursiveType}
+use Rattle.definition.specs.Store.{spanned}
+use Rattle.definition.specs.Subst.{unfold-type}
+use Rattle.definition.specs.Join.{used, join-bind-tvar}
+use Rattle.table.specs.State.{view, seen, Lay, Grown}
+use Rattle.table.specs.declared.Used.{Used}
+use Rattle.subst.specs.declared.Next.{Next}
+use Rattle.subst.specs.declared.Next.the-variants.{Last, To}
+use Rattle.subst.specs.declared.Unfolded.{Unfolded}
+use Rattle.subst.specs.declared.Unfolded.the-variants.{Node, Anything}
+use Rattle.subst.specs.declared.Binding.{Binding}
+use Rattle.subst.specs.declared.Binding.the-variants.{Bound, Failed, Recursive}
+
+-- the variable that a type is
+abbrev pub next : Next → Option ℕ
+next Last = none
+next (To v) = some (v .0)
+
+-- what a type unfolds to
+abbrev pub unfolded : Unfolded → State → Spanned Type-value
+unfolded (Node t) s = spanned s t
+unfolded (Anything loc) s = record { loc = loc; value = d.Anything }
+
+abbrev pub Unfolded-in : ℕ → Unfolded → Type 0
+Unfolded-in n (Node t) = t < n
+Unfolded-in n (Anything loc) = Unit {0}
+
+-- a variable at a location
+abbrev pub var-at : ℕ → ℕ → Spanned Type-value
+var-at loc v = record { loc = loc; value = d.Var v }
+
+-- the type ty unfolds to r, whatever the declarations are
+pub record Unfolds (w : List ℕ) (u : Used) (r : Unfolded) (ty : State → Spanned Type-value) : Type 0 where
+  pub is : (ds : List Struct) → unfolded r (seen w u ds) ≡ unfold-type (seen w u ds) (ty (seen w u ds))
+  pub inside : Unfolded-in (u .nodes) r
+
+-- how many parts a type has
+abbrev pub part-count : d.Shape Places → ℕ
+part-count d.UnitType = 0
+part-count (d.Ref m t) = 1
+part-count (d.Param id a) = 0
+part-count (d.Apply k n p) = p .many
+part-count (d.Var v) = 0
+part-count d.Anything = 0
+part-count d.UnresolvedError = 0
+
+-- the occurs walk's table: a node marked there is known not to have the variable in it
+pub record Clear (w : List ℕ) (u : Used) (v : ℕ) (marks : List ℕ) : Type 0 where
+  pub size : length marks ≡ 2048
+  pub clear : (ds : List Struct) (t : ℕ) → getD marks t 0 ≡ 1 → used (suc t) (seen w u ds) v t ≡ false
+
+-- what binding a variable answers, at the location loc
+abbrev pub bound : Binding → ℕ → State → Result (State × Bool)
+bound Bound loc s = ok (s, true)
+bound Failed loc s = ok (s, false)
+bound Recursive loc s = err s (RecursiveType loc)
+
+-- the words w became w′ and the answer r, as join-bind-tvar says, whatever the location and the declarations are
+pub record Binds (w : List ℕ) (u : Used) (w′ : List ℕ) (r : Binding) (tvar ty : ℕ) : Type 0 where
+  pub lay : Lay w′ u
+  pub grown : Grown (view w u) (view w′ u)
+  pub structs : view w′ u .structs ≡ view w u .structs
+  pub is : (ds : List Struct) (loc : ℕ) → bound r loc (seen w′ u ds) ≡ join-bind-tvar (seen w u ds) loc tvar ty

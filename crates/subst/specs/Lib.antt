@@ -1,0 +1,4 @@
+-- What the answers of substitution stand for in the definition. Assumes nothing: these are definitions.
+pub mod Answers
+pub mod Itself
+pub mod Ready

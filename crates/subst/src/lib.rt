@@ -1,0 +1,572 @@
+// typing/core.rs's Subst: chain ends, unfolding, the numeric check, the occurs walk, binding, numeric marks.
+ghost use mathlib.Core.Path.{_≡_};
+ghost use mathlib.Core.List.{List};
+ghost use Prim.Native.Nat.{ℕ, suc, _<_, _≤_};
+ghost use lib.ListN.{length, getD};
+ghost use Rattle.definition.specs.Types as d;
+ghost use Rattle.definition.specs.Store.{value, with-args, spanned};
+ghost use Rattle.definition.specs.Subst.{as-var, is-anything, parts, next-of, forward-tvar, set-num-var, reaches-itself, ready, ready-tvars};
+ghost use Rattle.definition.specs.Join.{is-numeric, is-num-var, num-shape, check-num-tvar′, check-num-tvar, is-var, used};
+ghost use Rattle.names.specs.Names.{mark-of, name-of};
+ghost use Rattle.table.specs.State.{shape-of, outcome, seen, Lay, Stored, After, Nodes-in};
+ghost use Rattle.subst.specs.Answers.{next, part-count, Unfolds, var-at, Clear, Binds};
+ghost use Rattle.subst.specs.Itself.{Goes-on, Higher, Levels, Marked};
+ghost use Rattle.subst.specs.Ready.{Goes, Types-in, Args-in, Readied, types, then-ref, then-apply};
+use names::Mark;
+use names::TVar;
+use names::TypeName;
+use table::Found;
+use table::Out;
+use table::Shape;
+use table::Step;
+use table::Used;
+
+// The variable that a type is, if it is one.
+pub enum Next {
+    Last,
+    To(TVar),
+}
+
+// What binding a variable comes to: it succeeds, the numeric check fails, or the variable occurs in the type.
+pub enum Binding {
+    Bound,
+    Failed,
+    Recursive,
+}
+
+// What a type unfolds to: a node, or `_` at a location, which stands in no table.
+pub enum Unfolded {
+    Node(u32),
+    Anything(u32),
+}
+
+// How ready_tvars goes on from a type.
+pub enum Onward {
+    Same,
+    Ref(bool, u32),
+    Apply(Mark, TypeName, u32, u32),
+    Open(TVar),
+    Bound(u32),
+}
+
+// Types that are ready: as many as `out` is done with, or why not.
+pub struct Types {
+    pub tys: [u32; 8],
+    pub out: Out,
+    pub used: Used,
+}
+
+// ---- shapes
+
+fn as_var(s: Shape) -> Next
+    ensures { λ r. ⌜ ((st : d.State) → next r ≡ as-var (with-args st (shape-of s))) ⌝ }
+{
+    match s {
+        Shape::Unit => Next::Last,
+        Shape::Ref(_, _) => Next::Last,
+        Shape::Param(_, _) => Next::Last,
+        Shape::Apply(_, _, _, _) => Next::Last,
+        Shape::Var(v) => Next::To(v),
+        Shape::Anything => Next::Last,
+        Shape::UnresolvedError => Next::Last,
+    }
+}
+
+fn is_anything(s: Shape) -> bool
+    ensures { λ r. ⌜ ((st : d.State) → r ≡ is-anything (with-args st (shape-of s))) ⌝ }
+{
+    match s {
+        Shape::Unit => false,
+        Shape::Ref(_, _) => false,
+        Shape::Param(_, _) => false,
+        Shape::Apply(_, _, _, _) => false,
+        Shape::Var(_) => false,
+        Shape::Anything => true,
+        Shape::UnresolvedError => false,
+    }
+}
+
+fn is_var(v: TVar, s: Shape) -> bool
+    ensures { λ r. ⌜ ((st : d.State) → r ≡ is-var (v .0) (with-args st (shape-of s))) ⌝ }
+{
+    match s {
+        Shape::Unit => false,
+        Shape::Ref(_, _) => false,
+        Shape::Param(_, _) => false,
+        Shape::Apply(_, _, _, _) => false,
+        Shape::Var(x) => x.0 == v.0,
+        Shape::Anything => false,
+        Shape::UnresolvedError => false,
+    }
+}
+
+fn part_count(s: Shape) -> u32
+    ensures { λ r. ⌜ r ≡ part-count (shape-of s) ⌝ }
+{
+    match s {
+        Shape::Unit => 0,
+        Shape::Ref(_, _) => 1,
+        Shape::Param(_, _) => 0,
+        Shape::Apply(_, _, _, many) => many,
+        Shape::Var(_) => 0,
+        Shape::Anything => 0,
+        Shape::UnresolvedError => 0,
+    }
+}
+
+// Part i of a type.
+fn part_at(w: &[u32], u: Used, s: Shape, i: u32) -> u32
+    requires { ⌜ Lay (now w) u ⌝ }
+    ensures { λ r. ⌜ ((ds : List d.Struct) → i < part-count (shape-of s) → r ≡ getD (parts (with-args (seen (now (w .entry)) u ds) (shape-of s))) i 0) ⌝ }
+{
+    match s {
+        Shape::Unit => 0,
+        Shape::Ref(_, t) => t,
+        Shape::Param(_, _) => 0,
+        Shape::Apply(_, _, first, _) => table::arg_at(w, u, first, i),
+        Shape::Var(_) => 0,
+        Shape::Anything => 0,
+        Shape::UnresolvedError => 0,
+    }
+}
+
+// ---- forward_tvar
+
+// The variable that cur is bound to, if that is what it is bound to.
+fn next_of(w: &[u32], u: Used, cur: TVar) -> Next
+    requires { ⌜ Lay (now w) u ⌝ }
+    ensures { λ r. ⌜ ((ds : List d.Struct) → next r ≡ next-of (seen (now (w .entry)) u ds) (cur .0)) ⌝ }
+{
+    match table::bound_at(w, u, cur) {
+        Found::Nothing => Next::Last,
+        Found::Just(t) => {
+            let n = table::node_at(w, u, t);
+            let s = n.shape;
+            as_var(s)
+        }
+    }
+}
+
+// The variable at the end of the chain from id.
+pub fn forward_tvar(w: &[u32], u: Used, id: TVar) -> TVar
+    requires { ⌜ Lay (now w) u ⌝ }
+    ensures { λ r. ⌜ ((ds : List d.Struct) → r .0 ≡ forward-tvar (seen (now (w .entry)) u ds) (id .0)) ⌝ }
+{
+    let mut cur = id;
+    let mut left = u.vars;
+    while 0 < left {
+        match next_of(w, u, cur) {
+            Next::Last => {
+                return cur;
+            }
+            Next::To(v) => {
+                cur = v;
+                left -= 1;
+            }
+        }
+    }
+    cur
+}
+
+// ---- unfold_type
+
+// The type of the variable v, at the location loc.
+pub fn unfold_tvar(w: &[u32], u: Used, loc: u32, v: TVar) -> Unfolded
+    requires { ⌜ Lay (now w) u ⌝ }
+    ensures { λ r. ⌜ Unfolds (now (w .entry)) u r (λ s. var-at loc (v .0)) ⌝ }
+{
+    let last = forward_tvar(w, u, v);
+    match table::bound_at(w, u, last) {
+        Found::Nothing => Unfolded::Anything(loc),
+        Found::Just(t) => Unfolded::Node(t),
+    }
+}
+
+// Of a variable, the type at its end; of any other type, itself.
+pub fn unfold_type(w: &[u32], u: Used, t: u32) -> Unfolded
+    requires { ⌜ Lay (now w) u × (t < u .nodes) ⌝ }
+    ensures { λ r. ⌜ Unfolds (now (w .entry)) u r (λ s. spanned s t) ⌝ }
+{
+    let n = table::node_at(w, u, t);
+    let s = n.shape;
+    let loc = n.loc;
+    match as_var(s) {
+        Next::Last => Unfolded::Node(t),
+        Next::To(v) => unfold_tvar(w, u, loc, v),
+    }
+}
+
+// ---- Subst::set_num_var
+
+// Marks tvar numeric, and so on along its chain. A mark that is there stays.
+pub fn set_num_var(w: &mut [u32], u: Used, tvar: TVar, loc: u32)
+    requires { ⌜ Lay (now w) u ⌝ }
+    ensures { λ _. ⌜ Stored (now (w .entry)) u (now (w .exit)) (λ s. set-num-var s (tvar .0) loc) ⌝ }
+{
+    let mut cur = tvar;
+    let mut left = u.vars;
+    while 0 < left {
+        let n = next_of(w, u, cur);
+        table::mark_one(w, u, cur, loc);
+        match n {
+            Next::Last => {
+                return;
+            }
+            Next::To(v) => {
+                cur = v;
+                left -= 1;
+            }
+        }
+    }
+}
+
+// ---- check_num_tvar
+
+fn is_num_var(w: &[u32], u: Used, v: TVar) -> bool
+    requires { ⌜ Lay (now w) u ⌝ }
+    ensures { λ r. ⌜ ((ds : List d.Struct) → r ≡ is-num-var (seen (now (w .entry)) u ds) (v .0)) ⌝ }
+{
+    match table::num_loc_at(w, u, v) {
+        Found::Nothing => false,
+        Found::Just(_) => true,
+    }
+}
+
+fn is_numeric(n: TypeName) -> bool
+    ensures { λ r. ⌜ r ≡ is-numeric (name-of n) ⌝ }
+{
+    match n {
+        TypeName::Multiple(_) => false,
+        TypeName::Builtin(b) => names::is_numeric(b),
+        TypeName::ModuleType(_) => false,
+    }
+}
+
+// A type that is no variable: what a numeric variable takes.
+fn num_shape(s: Shape) -> bool
+    ensures { λ r. ⌜ ((st : d.State) → r ≡ num-shape (with-args st (shape-of s))) ⌝ }
+{
+    match s {
+        Shape::Unit => false,
+        Shape::Ref(_, _) => false,
+        Shape::Param(_, _) => false,
+        Shape::Apply(_, n, _, _) => is_numeric(n),
+        Shape::Var(_) => false,
+        Shape::Anything => true,
+        Shape::UnresolvedError => true,
+    }
+}
+
+fn num_node(w: &[u32], u: Used, t: u32) -> bool
+    requires { ⌜ Lay (now w) u ⌝ }
+    ensures { λ r. ⌜ ((ds : List d.Struct) → r ≡ num-shape (value (seen (now (w .entry)) u ds) t)) ⌝ }
+{
+    let n = table::node_at(w, u, t);
+    let s = n.shape;
+    num_shape(s)
+}
+
+// check_num_tvar_: a variable is followed to its end first.
+fn check_num_type(w: &[u32], u: Used, ty: u32) -> bool
+    requires { ⌜ Lay (now w) u ⌝ }
+    ensures { λ r. ⌜ ((ds : List d.Struct) → r ≡ check-num-tvar′ (seen (now (w .entry)) u ds) ty) ⌝ }
+{
+    let n = table::node_at(w, u, ty);
+    let s = n.shape;
+    match as_var(s) {
+        Next::Last => num_shape(s),
+        Next::To(v) => {
+            let last = forward_tvar(w, u, v);
+            match table::bound_at(w, u, last) {
+                Found::Nothing => is_num_var(w, u, last),
+                Found::Just(t) => num_node(w, u, t),
+            }
+        }
+    }
+}
+
+// A variable without a numeric mark takes any type.
+pub fn check_num_tvar(w: &[u32], u: Used, tvar: TVar, ty: u32) -> bool
+    requires { ⌜ Lay (now w) u ⌝ }
+    ensures { λ r. ⌜ ((ds : List d.Struct) → r ≡ check-num-tvar (seen (now (w .entry)) u ds) (tvar .0) ty) ⌝ }
+{
+    if is_num_var(w, u, tvar) {
+        return check_num_type(w, u, ty);
+    }
+    true
+}
+
+// ---- the occurs walk
+
+fn wide(x: u32) -> usize
+    ensures { λ r. ⌜ r ≡ x ⌝ }
+{
+    x as usize
+}
+
+// Whether tvar is in node t: down into every part, following no binding. A node without it is marked, so each is looked at once.
+fn used_in(w: &[u32], u: Used, tvar: TVar, t: u32, marks: &mut [u8]) -> bool
+    requires { ⌜ Lay (now w) u × ((t < u .nodes) × Clear (now w) u (tvar .0) (now marks)) ⌝ }
+    ensures { λ r. ⌜ ((ds : List d.Struct) → r ≡ used (suc t) (seen (now (w .entry)) u ds) (tvar .0) t) × Clear (now (w .entry)) u (tvar .0) (now (marks .exit)) ⌝ }
+{
+    let at = wide(t);
+    if marks[at] == 1 {
+        return false;
+    }
+    let n = table::node_at(w, u, t);
+    let s = n.shape;
+    if is_var(tvar, s) {
+        return true;
+    }
+    let many = part_count(s);
+    let mut i: u32 = 0;
+    while i < many {
+        let p = part_at(w, u, s, i);
+        if used_in(w, u, tvar, p, marks) {
+            return true;
+        }
+        i = i + 1;
+    }
+    marks[at] = 1;
+    false
+}
+
+// used_tvars(ty) has tvar. A type without parts needs no marks.
+pub fn used_tvars(w: &[u32], u: Used, tvar: TVar, ty: u32) -> bool
+    requires { ⌜ Lay (now w) u × (ty < u .nodes) ⌝ }
+    ensures { λ r. ⌜ ((ds : List d.Struct) → r ≡ used (suc ty) (seen (now (w .entry)) u ds) (tvar .0) ty) ⌝ }
+{
+    let n = table::node_at(w, u, ty);
+    let s = n.shape;
+    if part_count(s) == 0 {
+        return is_var(tvar, s);
+    }
+    let mut marks: [u8; 2048] = [0; 2048];
+    used_in(w, u, tvar, ty, &mut marks)
+}
+
+// ---- join_bind_tvar
+
+// Binds tvar to ty. `_` succeeds and stores no binding.
+pub fn join_bind_tvar(w: &mut [u32], u: Used, tvar: TVar, ty: u32) -> Binding
+    requires { ⌜ Lay (now w) u × (ty < u .nodes) ⌝ }
+    ensures { λ r. ⌜ Binds (now (w .entry)) u (now (w .exit)) r (tvar .0) ty ⌝ }
+{
+    if !check_num_tvar(w, u, tvar, ty) {
+        return Binding::Failed;
+    }
+    if used_tvars(w, u, tvar, ty) {
+        return Binding::Recursive;
+    }
+    let n = table::node_at(w, u, ty);
+    let s = n.shape;
+    if is_anything(s) {
+        return Binding::Bound;
+    }
+    table::bind_var(w, u, tvar, ty);
+    Binding::Bound
+}
+
+// ---- a type that reaches a variable that reaches itself
+
+// The shape that reading node t goes on with.
+fn goes_on(w: &[u32], u: Used, t: u32) -> Shape
+    requires { ⌜ Lay (now w) u × (t < u .nodes) ⌝ }
+    ensures { λ r. ⌜ Goes-on (now (w .entry)) u t r ⌝ }
+{
+    match unfold_type(w, u, t) {
+        Unfolded::Node(x) => {
+            let n = table::node_at(w, u, x);
+            n.shape
+        }
+        Unfolded::Anything(_) => Shape::Anything,
+    }
+}
+
+fn higher(a: u32, b: u32) -> u32
+    ensures { λ r. ⌜ Higher a b r ⌝ }
+{
+    if a < b {
+        return b;
+    }
+    a
+}
+
+// In how many levels reading node t is over; 0 if not in `left`. A node's answer is marked, so that each node is read once.
+fn levels(w: &[u32], u: Used, t: u32, left: u32, marks: &mut [u32]) -> u32
+    requires { ⌜ Lay (now w) u × ((t < u .nodes) × ((left ≤ u .nodes) × Marked (now w) u (now marks))) ⌝ }
+    ensures { λ r. ⌜ Levels (now (w .entry)) u t left r × Marked (now (w .entry)) u (now (marks .exit)) ⌝ }
+{
+    if left == 0 {
+        return 0;
+    }
+    let at = wide(t);
+    if 0 < marks[at] {
+        return marks[at];
+    }
+    let s = goes_on(w, u, t);
+    let many = part_count(s);
+    let mut high: u32 = 0;
+    let mut i: u32 = 0;
+    while i < many {
+        let p = part_at(w, u, s, i);
+        let n = levels(w, u, p, left - 1, marks);
+        if n == 0 {
+            return 0;
+        }
+        high = higher(high, n);
+        i = i + 1;
+    }
+    if u.nodes <= high {
+        return 0;
+    }
+    marks[at] = high + 1;
+    high + 1
+}
+
+// A type without parts needs no marks.
+pub fn reaches_itself(w: &[u32], u: Used, t: u32) -> bool
+    requires { ⌜ Lay (now w) u × (t < u .nodes) ⌝ }
+    ensures { λ r. ⌜ ((ds : List d.Struct) → r ≡ reaches-itself (seen (now (w .entry)) u ds) t) ⌝ }
+{
+    let s = goes_on(w, u, t);
+    if part_count(s) == 0 {
+        return false;
+    }
+    let mut marks: [u32; 2048] = [0; 2048];
+    let n = levels(w, u, t, u.nodes, &mut marks);
+    n == 0
+}
+
+// ---- ready_tvars
+
+fn ready_onward(w: &[u32], u: Used, s: Shape) -> Onward
+    requires { ⌜ Lay (now w) u ⌝ }
+    ensures { λ r. ⌜ Goes (now (w .entry)) u s r ⌝ }
+{
+    match s {
+        Shape::Unit => Onward::Same,
+        Shape::Ref(m, t) => Onward::Ref(m, t),
+        Shape::Param(_, _) => Onward::Same,
+        Shape::Apply(k, n, first, many) => Onward::Apply(k, n, first, many),
+        Shape::Var(v) => {
+            let last = forward_tvar(w, u, v);
+            match table::bound_at(w, u, last) {
+                Found::Nothing => Onward::Open(last),
+                Found::Just(t) => Onward::Bound(t),
+            }
+        }
+        Shape::Anything => Onward::Same,
+        Shape::UnresolvedError => Onward::Same,
+    }
+}
+
+// The reference to the type that `a` is done with.
+fn push_ref(w: &mut [u32], a: Step, loc: u32, m: bool) -> Step
+    requires { ⌜ Lay (now w) (a .used) × Nodes-in (a .used .nodes) (a .out) ⌝ }
+    ensures { λ r. ⌜ After (now (w .entry)) (a .used) (now (w .exit)) r (λ s. then-ref loc m (outcome (a .out) s)) ⌝ }
+{
+    let o = a.out;
+    let u = a.used;
+    match table::done_of(o) {
+        Found::Nothing => Step { out: o, used: u },
+        Found::Just(t) => table::push_node(w, u, loc, Shape::Ref(m, t)),
+    }
+}
+
+// The named type of the types that `a` is done with.
+fn push_types(w: &mut [u32], a: Types, loc: u32, k: Mark, name: TypeName) -> Step
+    requires { ⌜ Lay (now w) (a .used) × Types-in (a .used .nodes) (a .tys) (a .out) ⌝ }
+    ensures { λ r. ⌜ After (now (w .entry)) (a .used) (now (w .exit)) r (λ s. then-apply loc (mark-of k) (name-of name) (types (a .tys) (outcome (a .out) s))) ⌝ }
+{
+    let o = a.out;
+    let u = a.used;
+    let tys = a.tys;
+    match table::done_of(o) {
+        Found::Nothing => Step { out: o, used: u },
+        Found::Just(n) => table::push_apply(w, u, loc, k, name, tys, n),
+    }
+}
+
+// The arguments, one after the other.
+fn ready_types(w: &mut [u32], u: Used, first: u32, many: u32, left: u32) -> Types
+    requires { ⌜ Lay (now w) u × Args-in (now w) u first many ⌝ }
+    ensures { λ r. ⌜ Readied (now (w .entry)) u (now (w .exit)) r first many left ⌝ }
+{
+    let mut tys: [u32; 8] = [0; 8];
+    let mut cur = u;
+    let mut i: u32 = 0;
+    while i < many {
+        let t = table::arg_at(w, cur, first, i);
+        let a = ready(w, cur, t, left);
+        let o = a.out;
+        let next = a.used;
+        match table::done_of(o) {
+            Found::Nothing => {
+                return Types {
+                    tys: tys,
+                    out: o,
+                    used: next,
+                };
+            }
+            Found::Just(x) => {
+                let at = wide(i);
+                tys[at] = x;
+                cur = next;
+                i = i + 1;
+            }
+        }
+    }
+    Types {
+        tys: tys,
+        out: Out::Done(many),
+        used: cur,
+    }
+}
+
+// ready_tvars, at most `left` calls deep.
+fn ready(w: &mut [u32], u: Used, t: u32, left: u32) -> Step
+    requires { ⌜ Lay (now w) u × (t < u .nodes) ⌝ }
+    ensures { λ r. ⌜ After (now (w .entry)) u (now (w .exit)) r (λ s. ready left s t) ⌝ }
+{
+    if left == 0 {
+        return Step {
+            out: Out::Itself,
+            used: u,
+        };
+    }
+    let n = table::node_at(w, u, t);
+    let loc = n.loc;
+    let s = n.shape;
+    match ready_onward(w, u, s) {
+        Onward::Same => Step {
+            out: Out::Done(t),
+            used: u,
+        },
+        Onward::Ref(m, p) => {
+            let a = ready(w, u, p, left - 1);
+            push_ref(w, a, loc, m)
+        }
+        Onward::Apply(k, name, first, many) => {
+            let a = ready_types(w, u, first, many, left - 1);
+            push_types(w, a, loc, k, name)
+        }
+        Onward::Open(v) => table::push_node(w, u, loc, Shape::Var(v)),
+        Onward::Bound(x) => ready(w, u, x, left - 1),
+    }
+}
+
+// Replaces every bound variable by its binding, in every part.
+pub fn ready_tvars(w: &mut [u32], u: Used, t: u32) -> Step
+    requires { ⌜ Lay (now w) u × (t < u .nodes) ⌝ }
+    ensures { λ r. ⌜ After (now (w .entry)) u (now (w .exit)) r (λ s. ready-tvars s t) ⌝ }
+{
+    if reaches_itself(w, u, t) {
+        return Step {
+            out: Out::Itself,
+            used: u,
+        };
+    }
+    let n = u.nodes;
+    ready(w, u, t, n * 2)
+}
