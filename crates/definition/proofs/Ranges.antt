@@ -240,7 +240,7 @@ chain-ranges (suc n) {b} {s} r v loc u = go (next-of s v) (λ next. chain-ranges
 
 pub num-var-ranges : {b s : State} → Ranges b s → (v loc : ℕ) → U32 loc → Ranges b (set-num-var s v loc)
 unfolding set-num-var
-num-var-ranges {s = s} r v loc u = chain-ranges (taken s) r v loc u
+num-var-ranges r v loc u = chain-ranges _ r v loc u
 
 pub merge-ranges : {b s : State} → Ranges b s → (x y : Option ℕ) → numeric-allowed x ≡ true → numeric-allowed y ≡ true → (v : ℕ) → Ranges b (merge-num s x y v)
 unfolding merge-num numeric-allowed
