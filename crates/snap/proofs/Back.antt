@@ -1,18 +1,17 @@
 -- The variables put back: the definition's put-back. Assumes nothing.
 use mathlib.Core.Path.{_≡_, refl, sym, ap, ap₂, _∙_, subst}
 use mathlib.Core.List.{List, [], _∷_, _++_}
-use mathlib.Core.Option.{some}
 use Prim.Native.Nat.{ℕ, zero, suc, _+_, _*_, _-_, _<_, _≤_}
 use native.Mathlib.Omega.{arith}
 use native.Mathlib.Decide.{decLt}
-use lib.ListN.{length, getD, replicate, length-append, length-replicate, List·getD-append}
+use lib.ListN.{length, getD, replicate, length-append, length-replicate}
 use lib.Seq.{ext-getD}
-use Rattle.definition.specs.Types.{State, Struct, Cell, unbound}
+use Rattle.definition.specs.Types.{Struct, Cell, unbound}
 use Rattle.definition.specs.Store.{count, taken, node, get, with-vars, with-structs}
 use Rattle.definition.specs.Step.{put-back}
 use Rattle.table.specs.Tab.{tab}
 use Rattle.table.specs.Rows.{Table, row, words-at, entries, Clean, read-cell, cell-words, option-flag, option-word, node-table, arg-table, var-table, constraint-table, struct-table}
-use Rattle.table.specs.State.{view, seen, Lay, Inside, Grown, Stored, Wrote}
+use Rattle.table.specs.State.{view, seen, Lay, Inside, Stored, Wrote}
 use Rattle.table.specs.declared.Used.{Used}
 use Rattle.table.proofs.Tab.{tab-ext}
 use Rattle.table.proofs.Rows.{length-entries, entry-at, entry-out, row-same, Same, same-entries, same-clean, apart}
@@ -20,7 +19,7 @@ use Rattle.table.proofs.Written.{cell-again}
 use Rattle.table.proofs.States.{grown-vars}
 use Rattle.table.proofs.Steps.{stored-by}
 use Rattle.table.proofs.Pushed.{count-view, taken-view}
-use Rattle.snap.specs.Snap.{Above, Saved, Since, PutBack}
+use Rattle.snap.specs.Snap.{Above, Since}
 
 -- past a list, and past the blanks after it, all is blank
 getD-blank : {A : Type 0} (n i : ℕ) (d : A) → getD (replicate n d) i d ≡ d

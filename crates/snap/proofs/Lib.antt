@@ -2,3 +2,4 @@
 pub mod Saving
 pub mod Back
 pub mod Tails
+pub mod Exact

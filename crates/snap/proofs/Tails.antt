@@ -1,20 +1,20 @@
 -- Tails zeroed after the variables are put back: the words hold what they held. Assumes nothing.
 use mathlib.Core.Path.{_≡_, refl, sym, ap, _∙_, subst}
-use mathlib.Core.List.{List, [], _∷_, _++_}
+use mathlib.Core.List.{List, [], _++_}
 use Prim.Native.Nat.{ℕ, _+_, _*_, _-_, _<_, _≤_}
 use native.Mathlib.Omega.{arith}
 use native.Mathlib.Decide.{decLt}
-use lib.ListN.{length, getD, replicate, List·getD-append}
-use Rattle.definition.specs.Types.{State, Struct, Cell, unbound, Constraint}
+use lib.ListN.{getD, replicate, List·getD-append}
+use Rattle.definition.specs.Types.{State, Cell, unbound}
 use Rattle.definition.specs.Store.{taken, with-vars, with-structs}
 use Rattle.definition.specs.Step.{put-back}
 use Rattle.table.specs.Tab.{tab}
-use Rattle.table.specs.Rows.{Table, row, words-at, entries, Clean, cell-words, node-words, shape-words, arg-words, constraint-words, struct-words, node-table, arg-table, var-table, constraint-table, struct-table}
+use Rattle.table.specs.Rows.{Table, row, entries, Clean, cell-words, node-words, shape-words, arg-words, constraint-words, struct-words, node-table, arg-table, var-table, constraint-table, struct-table}
 use Rattle.table.specs.State.{view, seen, Lay, Inside, Front, Grown, Stored, Wrote}
 use Rattle.table.specs.declared.Used.{Used}
-use Rattle.table.proofs.Rows.{length-entries, entry-at, entry-out, row-same, Same, same-entries, same-clean, apart}
+use Rattle.table.proofs.Rows.{length-entries, entry-out, row-same, Same, same-entries, same-clean, apart}
 use Rattle.table.proofs.Steps.{grown-trans}
-use Rattle.snap.specs.Snap.{Above, Saved, Since, PutBack}
+use Rattle.snap.specs.Snap.{Above, Since}
 use Rattle.snap.proofs.Back.{getD-blanks, zero-row}
 
 -- ---- one table: rows b to n of w are zeroed, and w has the rows of w₀ below b

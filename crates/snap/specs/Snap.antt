@@ -3,7 +3,6 @@ use mathlib.Core.Path.{_≡_}
 use mathlib.Core.List.{List}
 use Prim.Native.Nat.{ℕ, _+_, _*_, _≤_, _<_}
 use lib.ListN.{getD}
-use Rattle.definition.specs.Types.{State}
 use Rattle.definition.specs.Store.{with-structs}
 use Rattle.definition.specs.Step.{put-back}
 use Rattle.table.specs.State.{view, Lay, Grown, Stored}

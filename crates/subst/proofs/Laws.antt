@@ -1,15 +1,15 @@
 -- The steps of the definition's chain end, numeric check and binding, as the code takes them. Assumes nothing.
 use mathlib.Core.Path.{_≡_, refl, sym, ap, _∙_}
-use mathlib.Core.Bool.{Bool, true, false, not, _||_}
+use mathlib.Core.Bool.{Bool, true, false, not}
 use mathlib.Core.List.{List}
 use mathlib.Core.Option.{Option, none, some}
 use Prim.Native.Nat.{ℕ, zero, suc, _-_, _<_, _≤_}
 use native.Mathlib.Nat.{not-suc-le-zero}
 use native.Mathlib.Numerals.{sub-one}
 use native.Mathlib.Omega.{arith}
-use lib.ListN.{length, getD}
+use lib.ListN.{getD}
 use Rattle.definition.specs.Types as d
-use Rattle.definition.specs.Types.{State, Struct, Result, ok, err, RecursiveType}
+use Rattle.definition.specs.Types.{State, Struct, ok, err, RecursiveType}
 use Rattle.definition.specs.Store.{count, taken, node, args-at, with-args, value, loc-of, get, num-loc, insert, with-structs}
 use Rattle.definition.specs.Subst.{as-var, is-anything, parts, next-in, next-of, forward, forward-tvar}
 use Rattle.definition.specs.Join.{is-num-var, num-shape, check-num-tvar′, check-num-tvar, used, join-bind-tvar}

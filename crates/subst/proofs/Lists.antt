@@ -8,9 +8,6 @@ use native.Mathlib.Omega.{arith}
 use lib.ListN.{length, getD}
 use Rattle.definition.specs.Store.{any-of, all-of}
 
-pub never : {A : Type 0} → true ≡ false → A
-never e = absurd (let z : _≡_ {A = ℕ} 0 1 = cc in omega arith)
-
 pub or-true : (b : Bool) → (b || true) ≡ true
 or-true true = refl
 or-true false = refl

@@ -6,8 +6,8 @@ use Prim.Native.Nat.{ℕ, zero, suc, _+_, _<_, _≤_}
 use native.Mathlib.Nat.{not-suc-le-zero}
 use native.Mathlib.Decide.{ℕ-discrete, decLt}
 use native.Mathlib.Omega.{arith}
-use lib.ListN.{length, getD, set, take, drop, length-take, length-drop, length-set, replicate, length-replicate, getD-replicate, List·getD-eq-default}
-use lib.Seq.{getD-take, getD-drop, getD-set-same, getD-set-other}
+use lib.ListN.{length, getD, set, length-take, length-drop, length-set, replicate, length-replicate, getD-replicate, List·getD-eq-default}
+use lib.Seq.{getD-take, getD-drop, getD-set-other}
 use Rattle.definition.specs.Types as d
 use Rattle.definition.specs.Types.{State, Struct, Places}
 use Rattle.definition.specs.Store.{count, node, args-at, with-args, value, any-of}
@@ -27,9 +27,6 @@ use Rattle.subst.proofs.Laws.{count-seen, inside-seen, value-is}
 pub record Low (s : State) (t : ℕ) (sh : d.Shape Places) : Type 0 where
   pub many : length (parts (with-args s sh)) ≡ part-count sh
   pub low : (i : ℕ) → i < part-count sh → getD (parts (with-args s sh)) i 0 < t
-
-none-low : {t : ℕ} (i : ℕ) → i < 0 → 0 < t
-none-low i h = absurd (not-suc-le-zero h)
 
 ref-low : (t p : ℕ) → p < t → (i : ℕ) → i < 1 → getD (p ∷ []) i 0 < t
 ref-low t p b zero h = b

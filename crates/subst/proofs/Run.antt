@@ -2,16 +2,16 @@
 use mathlib.Core.Path.{_≡_, refl, sym, ap, ap₂, _∙_, subst}
 use mathlib.Core.Bool.{Bool, true, false}
 use mathlib.Core.List.{List, [], _∷_, _++_, append-assoc, append-nil}
-use mathlib.Core.Option.{Option, none, some}
+use mathlib.Core.Option.{none, some}
 use Prim.Native.Nat.{ℕ, zero, suc, _+_, _-_, _*_, _<_, _≤_}
 use native.Mathlib.Nat.{not-suc-le-zero}
 use native.Mathlib.Numerals.{add-one}
 use native.Mathlib.Decide.{ℕ-discrete}
 use native.Mathlib.Omega.{arith}
-use lib.ListN.{length, getD, set, take, drop, length-set, length-take, length-drop, length-append, drop-of-length-le, replicate, length-replicate}
+use lib.ListN.{length, getD, set, take, drop, length-set, length-take, length-drop, length-append, drop-of-length-le}
 use lib.Seq.{take-append-le, drop-append-le, drop-cons, take-suc-set, getD-take, getD-drop, getD-set-same, getD-set-other}
 use Rattle.definition.specs.Types as d
-use Rattle.definition.specs.Types.{State, Struct, Places, Type-value, Result, ok, err, refused, runs-into-itself, _>>=_}
+use Rattle.definition.specs.Types.{State, Struct, Result, ok, err, refused, _>>=_}
 use Rattle.definition.specs.Store.{count, node, args-at, with-args, value, loc-of, get, sp, map-types, with-structs}
 use Rattle.definition.specs.Subst.{forward-tvar, reaches-itself, ready-value, ready, ready-tvars}
 use Rattle.names.specs.Names.{mark-of, name-of}
@@ -19,7 +19,7 @@ use Rattle.names.specs.declared.TVar.{TVar}
 use Rattle.names.specs.declared.Mark.{Mark}
 use Rattle.names.specs.declared.TypeName.{TypeName}
 use Rattle.table.specs.Rows.{node-table, arg-table, places}
-use Rattle.table.specs.State.{found, shape-of, node-of, value-of, done, outcome, view, seen, Lay, Below, Grown, Front, Changed, After, Nodes-in, Parts}
+use Rattle.table.specs.State.{found, shape-of, node-of, value-of, done, outcome, view, seen, Lay, Below, Grown, Front, After, Nodes-in, Parts}
 use Rattle.table.specs.declared.Used.{Used}
 use Rattle.table.specs.declared.Node.{Node}
 use Rattle.table.specs.declared.Step.{Step}

@@ -5,8 +5,7 @@ use mathlib.Core.Option.{Option, none, some}
 use Prim.Native.Nat.{ℕ, zero, suc, _-_, _<_, _≤_}
 use native.Mathlib.Nat.{not-suc-le-zero}
 use native.Mathlib.Numerals.{sub-one}
-use native.Mathlib.Omega.{arith}
-use Rattle.definition.specs.Types.{State, Struct, Spanned, Type-value}
+use Rattle.definition.specs.Types.{State, Struct}
 use Rattle.definition.specs.Store.{node, value, loc-of, spanned, get, with-args}
 use Rattle.definition.specs.Subst.{as-var, next-of, forward-tvar, unfold-var, unfold-type, mark-one, mark-chain, set-num-var}
 use Rattle.table.specs.State.{found, shape-of, node-of, view, seen, Lay, Grown, Stored}
@@ -16,7 +15,7 @@ use Rattle.table.specs.declared.Found.{Found}
 use Rattle.table.specs.declared.Found.the-variants.{Nothing, Just}
 use Rattle.table.proofs.Steps.{grown-refl, grown-trans}
 use Rattle.names.specs.declared.TVar.{TVar}
-use Rattle.subst.specs.Answers.{next, unfolded, Unfolded-in, var-at, Unfolds}
+use Rattle.subst.specs.Answers.{next, var-at, Unfolds}
 use Rattle.subst.specs.declared.Next.{Next}
 use Rattle.subst.specs.declared.Next.the-variants.{Last, To}
 use Rattle.subst.specs.declared.Unfolded.{Unfolded}

@@ -2,13 +2,12 @@
 use mathlib.Core.Path.{_≡_}
 use mathlib.Core.Bool.{Bool}
 use mathlib.Core.List.{List}
-use mathlib.Core.Option.{none, some}
 use Prim.Native.Nat.{ℕ, _+_, _<_, _≤_}
 use lib.ListN.{getD, take}
 use Rattle.definition.specs.Types as d
 use Rattle.definition.specs.Types.{State, Struct, Result, ok, _>>=_}
-use Rattle.definition.specs.Store.{args-at, with-args, get, sp, map-types}
-use Rattle.definition.specs.Subst.{forward-tvar, ready-value, ready}
+use Rattle.definition.specs.Store.{args-at, with-args, sp, map-types}
+use Rattle.definition.specs.Subst.{ready-value, ready}
 use Rattle.names.specs.Names.{mark-of, name-of}
 use Rattle.table.specs.Rows.{places}
 use Rattle.table.specs.State.{shape-of, done, outcome, view, seen, Lay, Grown, Nodes-in, Parts}

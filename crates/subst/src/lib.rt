@@ -1,4 +1,4 @@
-// typing/core.rs's Subst: chain ends, unfolding, the numeric check, the occurs walk, binding, numeric marks.
+// typing/core.rs: chain ends, unfolding, numeric marks, the numeric check, the occurs walk, binding, types that run into themselves, ready_tvars.
 ghost use mathlib.Core.Path.{_≡_};
 ghost use mathlib.Core.List.{List};
 ghost use Prim.Native.Nat.{ℕ, suc, _<_, _≤_};
@@ -22,7 +22,7 @@ use table::Step;
 use table::Used;
 
 // The variable that a type is, if it is one.
-pub enum Next {
+enum Next {
     Last,
     To(TVar),
 }
@@ -41,7 +41,7 @@ pub enum Unfolded {
 }
 
 // How ready_tvars goes on from a type.
-pub enum Onward {
+enum Onward {
     Same,
     Ref(bool, u32),
     Apply(Mark, TypeName, u32, u32),
@@ -50,7 +50,7 @@ pub enum Onward {
 }
 
 // Types that are ready: as many as `out` is done with, or why not.
-pub struct Types {
+struct Types {
     pub tys: [u32; 8],
     pub out: Out,
     pub used: Used,
@@ -204,8 +204,8 @@ pub fn set_num_var(w: &mut [u32], u: Used, tvar: TVar, loc: u32)
     ensures { λ _. ⌜ Stored (now (w .entry)) u (now (w .exit)) (λ s. set-num-var s (tvar .0) loc) ⌝ }
 {
     let mut cur = tvar;
-    let mut left = u.vars;
-    while 0 < left {
+    let mut unmarked = u.vars;
+    while 0 < unmarked {
         let n = next_of(w, u, cur);
         table::mark_one(w, u, cur, loc);
         match n {
@@ -214,7 +214,7 @@ pub fn set_num_var(w: &mut [u32], u: Used, tvar: TVar, loc: u32)
             }
             Next::To(v) => {
                 cur = v;
-                left -= 1;
+                unmarked -= 1;
             }
         }
     }

@@ -1,18 +1,18 @@
 -- What is read of a row, in words. Assumes nothing.
-use mathlib.Core.Path.{_≡_, refl, sym, ap, _∙_}
+use mathlib.Core.Path.{_≡_, sym, ap, _∙_}
 use mathlib.Core.List.{List, [], _∷_}
 use mathlib.Core.Option.{none}
 use Prim.Native.Nat.{ℕ, _+_, _*_, _%_, _≤_, _<_}
 use native.Mathlib.Omega.{arith}
-use lib.ListN.{length, getD, take, drop, replicate, length-replicate, List·getD-eq-default}
+use lib.ListN.{length, getD, drop, replicate, length-replicate, List·getD-eq-default}
 use lib.Seq.{getD-take, getD-drop}
-use Rattle.definition.specs.Types.{State, Struct, Shape, Places, Node, Cell, unbound}
+use Rattle.definition.specs.Types.{Struct, Shape, Places, Cell, unbound}
 use Rattle.definition.specs.Store.{nowhere, node, get, num-loc, args-at, with-structs}
 use Rattle.table.specs.Tab.{tab}
 use Rattle.table.specs.Rows.{words-at, row, entries, places, read-shape, read-option, read-node, read-arg, read-cell, read-constraint, read-struct, node-table, arg-table, var-table, constraint-table, struct-table}
 use Rattle.table.specs.State.{view, seen, Declares}
 use Rattle.table.specs.declared.Used.{Used}
-use Rattle.table.proofs.Rows.{length-entries, entry-at, entry-out}
+use Rattle.table.proofs.Rows.{entry-at, entry-out}
 
 pub arg-row : (w : List ℕ) (k : ℕ) → row arg-table w k ≡ getD w (12293 + k) 0 ∷ []
 unfolding row words-at tab

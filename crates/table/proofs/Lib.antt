@@ -8,3 +8,4 @@ pub mod States
 pub mod Pushed
 pub mod Primitives
 pub mod Encoded
+pub mod Laws

@@ -1,13 +1,12 @@
 -- The primitives' last steps: what they wrote is what the definition says. `at` and the like are numbers as indices. Assumes nothing.
 use mathlib.Core.Path.{_≡_, refl, sym, ap, _∙_, subst}
-use mathlib.Core.List.{List, [], _∷_, _++_}
-use mathlib.Core.Option.{Option, none, some, Option·none-ne-some, Option·some-injective}
-use Prim.Native.Nat.{ℕ, _+_, _*_, _-_, _≤_, _<_}
+use mathlib.Core.List.{List, [], _++_}
+use mathlib.Core.Option.{Option, some, Option·none-ne-some, Option·some-injective}
+use Prim.Native.Nat.{ℕ, _+_, _*_, _-_, _<_}
 use native.Mathlib.Omega.{arith}
 use lib.ListN.{length, getD, take, length-append}
 use lib.Seq.{length-take-le, getD-take, getD-append-add}
 use Rattle.definition.specs.Types as d
-use Rattle.definition.specs.Types.{State, Places}
 use Rattle.definition.specs.Store.{args-of, stored, sp, insert, get, num-loc, with-structs}
 use Rattle.definition.specs.Subst.{mark-one, or-insert}
 use Rattle.names.specs.Names.{mark-of, name-of}

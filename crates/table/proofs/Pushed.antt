@@ -1,21 +1,17 @@
 -- What a store does to the state that the words hold. Assumes nothing.
 use mathlib.Core.Path.{_≡_, refl, sym, ap, ap₂, _∙_, subst}
-use mathlib.Core.List.{List, [], _∷_, _++_, append-nil}
-use mathlib.Core.Option.{Option, none, some}
-use Prim.Native.Nat.{ℕ, zero, suc, _+_, _*_, _-_, _≤_, _<_}
+use mathlib.Core.List.{List, [], _∷_, _++_}
+use mathlib.Core.Option.{Option, some}
+use Prim.Native.Nat.{ℕ, _+_, _*_, _-_, _≤_, _<_}
 use native.Mathlib.Omega.{arith}
-use native.Mathlib.Decide.{ℕ-discrete, decLt}
-use lib.ListN.{length, getD, set, take, length-append, List·getD-append, length-set, replicate, length-replicate}
+use native.Mathlib.Decide.{decLt}
+use lib.ListN.{length, getD, take, length-append, List·getD-append, length-set, replicate, length-replicate}
 use lib.Seq.{ext-getD, getD-append-add, getD-take, length-take-le, set-out, getD-at}
-use Rattle.definition.specs.Types as d
-use Rattle.definition.specs.Types.{State, Struct, Shape, Places, Node, Type-value, Cell, unbound, Constraint, Result, ok, refused, full}
+use Rattle.definition.specs.Types.{State, Struct, Shape, Places, Node, Type-value, Cell, unbound, Constraint, ok}
 use Rattle.definition.specs.Store.{count, taken, with-vars, with-var, with-constraints, with-structs, with-node, args-of, stored, sp, next-tvar, declare}
-use Rattle.table.specs.Tab.{tab}
-use Rattle.table.specs.Rows.{Table, row, entries, Clean, Written, words-at, arg-words, read-arg, node-table, arg-table, var-table, constraint-table, struct-table, places}
-use Rattle.table.specs.State.{view, seen, Below, Inside, Lay, Grown, Wrote, Changed, After, Stored, Declares, Declared, Nodes-in, Var-in, outcome, with-cell, pushed-constraint}
+use Rattle.table.specs.Rows.{row, entries, Clean, Written, arg-words, read-arg, node-table, arg-table, var-table, constraint-table, struct-table, places}
+use Rattle.table.specs.State.{view, seen, Below, Inside, Lay, Grown, Wrote, Changed, After, Stored, Declared, Var-in, outcome, with-cell, pushed-constraint}
 use Rattle.table.specs.declared.Used.{Used}
-use Rattle.table.specs.declared.Step.{Step}
-use Rattle.table.specs.declared.Out.{Out}
 use Rattle.table.specs.declared.Out.the-variants.{Done, Full}
 use Rattle.table.proofs.Rows.{length-entries, entry-at, entry-out, Same, same-entries, same-clean, apart, Put, put-row, put-push, put-push-clean, put-blank, put-set, put-set-clean}
 use Rattle.table.proofs.Written.{node-long, cell-again, cell-long, constraint-long, struct-long}

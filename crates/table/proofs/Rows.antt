@@ -1,13 +1,12 @@
 -- What a store of a row does to a table, whatever its rows mean. Assumes nothing.
 use mathlib.Core.Path.{_≡_, refl, sym, ap, ap₂, _∙_}
 use mathlib.Core.List.{List, [], _∷_, _++_}
-use Prim.Native.Nat.{ℕ, zero, suc, _+_, _*_, _<_, _≤_}
+use Prim.Native.Nat.{ℕ, _+_, _*_, _<_, _≤_}
 use native.Mathlib.Omega.{arith}
 use native.Mathlib.Decide.{ℕ-discrete, decLt}
 use native.Mathlib.Nat.{not-suc-le-zero}
-use lib.ListN.{length, getD, set, take, length-set, length-append, List·getD-append, List·getD-eq-default}
+use lib.ListN.{length, getD, set, length-set, length-append, List·getD-append, List·getD-eq-default}
 use lib.Seq.{getD-set-same, getD-set-other, getD-take, ext-getD, getD-at}
-use Rattle.table.specs.Tab.{tab}
 use Rattle.table.specs.Rows.{Table, words-at, row, entries, Clean, Written}
 use Rattle.table.specs.State.{Wrote}
 use Rattle.table.proofs.Tab.{length-tab, tab-more, tab-ext, getD-tab, getD-tab-out, tab-set}

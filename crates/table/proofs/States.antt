@@ -1,21 +1,18 @@
 -- What the steps of a state keep: parts below their node, bindings that are nodes, rows only added. Assumes nothing.
 use mathlib.Core.Path.{_≡_, refl, sym, ap, _∙_}
-use mathlib.Core.Logic.{⊎-elim}
-use mathlib.Core.List.{List, [], _∷_, _++_, append-nil}
-use mathlib.Core.Option.{Option, none, some}
-use Prim.Native.Nat.{ℕ, zero, suc, _+_, _≤_, _<_}
+use mathlib.Core.List.{List, [], _∷_, _++_}
+use mathlib.Core.Option.{Option, some}
+use Prim.Native.Nat.{ℕ, _+_, _≤_, _<_}
 use native.Mathlib.Omega.{arith}
 use native.Mathlib.Decide.{decLt}
-use lib.Dec.{ltb, leb}
-use lib.ListN.{length, getD, set, length-append, length-set, List·getD-append, List·getD-eq-default}
+use lib.ListN.{length, getD, set, length-append, List·getD-append, List·getD-eq-default}
 use lib.Seq.{getD-at, getD-set-same, getD-set-other, set-out}
 use borrow.Author.Tests.{lt-ltb, le-ltb, le-leb, lt-leb}
 use native.Mathlib.Decide.{ℕ-discrete}
 use Rattle.definition.specs.Types as d
-use Rattle.definition.specs.Types.{State, Shape, UnitType, Ref, Param, Apply, Var, Anything, UnresolvedError, Places, Type-value, Cell, unbound, Constraint, max-nodes, max-args, max-vars, max-constraints, max-structs, full, Result, ok, refused}
-use Rattle.definition.specs.Store.{count, taken, nowhere, node, get, num-loc, insert, with-vars, with-var, with-constraints, with-structs, with-node, args-of, stored, sp, next-tvar, add-constraint, declare}
-use Rattle.definition.specs.Subst.{mark-one, or-insert}
-use Rattle.table.specs.State.{Below, Inside, Front, Grown, with-cell, pushed-constraint}
+use Rattle.definition.specs.Types.{State, Shape, UnitType, Ref, Param, Apply, Var, Anything, UnresolvedError, Places, Type-value, Cell, unbound, Constraint, max-nodes, max-args, max-vars, max-constraints, max-structs, full, ok, refused}
+use Rattle.definition.specs.Store.{count, taken, nowhere, node, get, with-vars, with-var, with-constraints, with-structs, with-node, args-of, stored, sp, next-tvar, add-constraint, declare}
+use Rattle.table.specs.State.{Below, Inside, Grown, with-cell, pushed-constraint}
 use Rattle.table.proofs.Steps.{front-refl}
 
 -- ---- the definition's steps, with room and without

@@ -1,10 +1,10 @@
 -- How answers follow one another: what a caller knows of the words after one step and the next. Assumes nothing.
 use mathlib.Core.Path.{_≡_, refl, sym, ap, _∙_, subst}
-use mathlib.Core.List.{List, [], _∷_, _++_, append-nil, append-assoc}
-use Prim.Native.Nat.{ℕ, _≤_, _<_}
+use mathlib.Core.List.{List, [], _++_, append-nil, append-assoc}
+use Prim.Native.Nat.{ℕ}
 use native.Mathlib.Omega.{arith}
-use Rattle.definition.specs.Types.{State, Struct, Result, ok, err, refused, _>>=_}
-use Rattle.definition.specs.Store.{taken, with-structs}
+use Rattle.definition.specs.Types.{State, Struct, Result, _>>=_}
+use Rattle.definition.specs.Store.{with-structs}
 use Rattle.table.specs.State.{Lay, Front, Grown, Changed, After, Stored, Nodes-in, outcome, seen, view, done}
 use Rattle.table.specs.declared.Step.{Step}
 use Rattle.table.specs.declared.Used.{Used}

@@ -1,17 +1,17 @@
 -- Entries written as rows, and read again. Assumes nothing.
-use mathlib.Core.Path.{_≡_, refl, sym, ap, ap₂, _∙_}
+use mathlib.Core.Path.{_≡_, refl, sym, ap, _∙_}
 use mathlib.Core.Bool.{Bool, true, false}
 use mathlib.Core.List.{List, [], _∷_}
 use mathlib.Core.Option.{Option, none, some}
-use Prim.Native.Nat.{ℕ, _+_, _-_, _<_, _≤_, _%_}
+use Prim.Native.Nat.{ℕ, _+_, _-_, _<_, _%_}
 use native.Mathlib.Omega.{arith}
-use lib.Dec.{ltb, eqb}
-use lib.ListN.{length, getD, take, replicate, length-replicate}
+use lib.Dec.{eqb}
+use lib.ListN.{length, take, replicate, length-replicate}
 use borrow.Author.Tests.{le-ltb}
-use Rattle.definition.specs.Types.{TypeName, Multiple, Builtin, ModuleType, Mark, Shape, UnitType, Ref, Param, Apply, Var, Anything, UnresolvedError, Places, Node, Cell, unbound}
-use Rattle.definition.specs.Types.{Constraint, AbilityConstraint, NumericConstraint, BitsConstraint, OrderedConstraint, BaseTypeConstraint, SingleTypeConstraint, Struct, if_then_else_}
+use Rattle.definition.specs.Types.{TypeName, Multiple, Builtin, ModuleType, Mark, Shape, UnitType, Ref, Param, Apply, Var, Anything, UnresolvedError, Places, Node, Cell}
+use Rattle.definition.specs.Types.{Constraint, AbilityConstraint, NumericConstraint, BitsConstraint, OrderedConstraint, BaseTypeConstraint, SingleTypeConstraint, Struct}
 use Rattle.table.specs.Rows.{flag, read-mark, mark-word, read-option, option-flag, option-word, places, read-name, read-shape, read-node, name-tag, name-word, shape-words, node-words, node-table}
-use Rattle.table.specs.Rows.{read-arg, arg-words, arg-table, read-cell, cell-words, var-table, read-constraint, constraint-words, constraint-table, read-struct, struct-words, struct-table, Written}
+use Rattle.table.specs.Rows.{read-cell, cell-words, var-table, read-constraint, constraint-words, constraint-table, read-struct, struct-words, struct-table, Written}
 
 -- ---- nodes
 

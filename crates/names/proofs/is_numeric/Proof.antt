@@ -1,5 +1,4 @@
 -- `names::is_numeric` meets its contract: each return rewrites with the tests that led there. Assumes nothing.
-use mathlib.Core.Path.{refl}
 use borrow.Author.Tests.{eq-eqb, ne-eqb}
 use Rattle.definition.specs.Join.{is-numeric}
 use Rattle.names.proofs.is_numeric.Statement.{statement}

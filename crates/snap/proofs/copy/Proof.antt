@@ -1,6 +1,5 @@
 -- `snap::copy` meets its contract: what is written so far is a shorter row. Assumes nothing.
 use mathlib.Core.Path.{_≡_}
-use mathlib.Core.List.{[]}
 use Prim.Native.Nat.{_≤_, _-_}
 use native.Mathlib.Omega.{arith}
 use borrow.Author.Needs.{needs}
@@ -8,8 +7,6 @@ use Rattle.table.specs.State.{Wrote}
 use Rattle.table.proofs.Rows.{wrote-none, wrote-more}
 use Rattle.snap.proofs.copy.Statement.{statement}
 use Rattle.snap.proofs.copy.Tie as tie
-use Rattle.snap.proofs.copy.Reads as reads
-use Rattle.snap.proofs.copy.Lts as lts
 
 abbrev Inv-loop : tie.InvT-loop
 Inv-loop w₀ at from n k₀ w k = (k ≤ n) × Wrote w₀ at k from w

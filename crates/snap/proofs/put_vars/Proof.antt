@@ -4,11 +4,6 @@ use Rattle.snap.proofs.Back.{putting-back}
 use borrow.Author.Needs.{needs}
 use Rattle.snap.proofs.put_vars.Statement.{statement}
 use Rattle.snap.proofs.put_vars.Tie as tie
-use Rattle.snap.proofs.put_vars.Reads as reads
-use Rattle.snap.proofs.put_vars.Lts as lts
-use Rattle.snap.proofs.copy.Reads as copy-reads
-use Rattle.snap.proofs.wide.Reads as wide-reads
-use Rattle.snap.proofs.zero_words.Reads as zero-words-reads
 
 wide-requires : tie.Need-wide-requires
 wide-requires c κs = search needs

@@ -4,9 +4,6 @@ use native.Mathlib.Omega.{arith}
 use Rattle.snap.proofs.Saving.{Saving, saving-none, saving-more}
 use Rattle.snap.proofs.save_vars.Statement.{statement}
 use Rattle.snap.proofs.save_vars.Tie as tie
-use Rattle.snap.proofs.save_vars.Reads as reads
-use Rattle.snap.proofs.save_vars.Lts as lts
-use Rattle.snap.proofs.wide.Reads as wide-reads
 
 abbrev Inv-loop : tie.InvT-loop
 Inv-loop w saved₀ n k₀ saved k = Saving w saved₀ saved n k

@@ -5,11 +5,6 @@ use Rattle.snap.proofs.Tails.{undoing, times-one}
 use borrow.Author.Needs.{needs}
 use Rattle.snap.proofs.undo.Statement.{statement}
 use Rattle.snap.proofs.undo.Tie as tie
-use Rattle.snap.proofs.undo.Reads as reads
-use Rattle.snap.proofs.undo.Lts as lts
-use Rattle.snap.proofs.put_vars.Reads as put-vars-reads
-use Rattle.snap.proofs.wide.Reads as wide-reads
-use Rattle.snap.proofs.zero_words.Reads as zero-words-reads
 
 put-vars-requires : tie.Need-put-vars-requires
 put-vars-requires c κs = search needs

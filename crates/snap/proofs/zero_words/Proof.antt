@@ -3,14 +3,11 @@ use Prim.Native.Nat.{_≤_, _-_}
 use native.Mathlib.Omega.{arith}
 use Rattle.table.specs.State.{Wrote}
 use Rattle.table.proofs.Rows.{wrote-none, wrote-more}
-use lib.ListN.{length-set}
 use mathlib.Core.Path.{_≡_}
 use mathlib.Core.List.{[]}
 use borrow.Author.Needs.{needs}
 use Rattle.snap.proofs.zero_words.Statement.{statement}
 use Rattle.snap.proofs.zero_words.Tie as tie
-use Rattle.snap.proofs.zero_words.Reads as reads
-use Rattle.snap.proofs.zero_words.Lts as lts
 
 abbrev Inv-loop : tie.InvT-loop
 Inv-loop w₀ at n k₀ w k = (k ≤ n) × Wrote w₀ at k [] w

@@ -1,8 +1,9 @@
+-- `subst::ready` and `subst::ready_types` meet their contracts. Assumes nothing.
 use lib.ListN.{length-replicate}
 use borrow.Author.Needs.{needs}
 use native.Mathlib.Omega.{arith}
 use Rattle.subst.proofs.Run.{ready-none, ref-in, args-in, bound-in, ready-same, ready-ref, ready-apply, ready-open, ready-bound, Going, going-start, going-in, going-stop, going-on, going-done}
-use mathlib.Core.Path.{refl, sym, ap, _∙_}
+use mathlib.Core.Path.{sym, _∙_}
 use Prim.Native.Nat.{ℕ, _<_, _-_, _+_, _*_}
 use borrow.Fn.Kinds.{In}
 use borrow.Fn.PlainCycle.{Measures, is, falls, and}

@@ -1,11 +1,10 @@
+-- `subst::as_var` meets its contract. Assumes nothing.
 use mathlib.Core.Path.{refl}
 use Rattle.definition.specs.Store.{with-args}
 use Rattle.definition.specs.Subst.{as-var}
 use borrow.Author.Needs.{needs}
 use Rattle.subst.proofs.as_var.Statement.{statement}
 use Rattle.subst.proofs.as_var.Tie as tie
-use Rattle.subst.proofs.as_var.Reads as reads
-use Rattle.subst.proofs.as_var.Lts as lts
 
 enum-told : tie.Need-enum-told
 enum-told c = search needs

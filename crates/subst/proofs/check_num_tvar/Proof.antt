@@ -1,12 +1,9 @@
+-- `subst::check_num_tvar` meets its contract. Assumes nothing.
 use Rattle.subst.proofs.Laws.{num-marked, num-any}
-use mathlib.Core.Path.{refl, sym, ap, _∙_}
+use mathlib.Core.Path.{sym, _∙_}
 use borrow.Author.Needs.{needs}
 use Rattle.subst.proofs.check_num_tvar.Statement.{statement}
 use Rattle.subst.proofs.check_num_tvar.Tie as tie
-use Rattle.subst.proofs.check_num_tvar.Reads as reads
-use Rattle.subst.proofs.check_num_tvar.Lts as lts
-use Rattle.subst.proofs.check_num_type.Reads as check-num-type-reads
-use Rattle.subst.proofs.is_num_var.Reads as is-num-var-reads
 
 is-num-var-requires : tie.Need-is-num-var-requires
 is-num-var-requires c κs = search needs

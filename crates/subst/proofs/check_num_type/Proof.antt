@@ -1,20 +1,12 @@
+-- `subst::check_num_type` meets its contract. Assumes nothing.
 use Rattle.subst.specs.Answers.{next}
 use Rattle.table.specs.State.{found}
 use Rattle.definition.specs.Join.{num-shape}
 use Rattle.subst.proofs.Laws.{value-is, var-of, num-plain, num-open, num-bound}
-use mathlib.Core.Path.{refl, sym, ap, _∙_}
+use mathlib.Core.Path.{sym, ap, _∙_}
 use borrow.Author.Needs.{needs}
 use Rattle.subst.proofs.check_num_type.Statement.{statement}
 use Rattle.subst.proofs.check_num_type.Tie as tie
-use Rattle.subst.proofs.check_num_type.Reads as reads
-use Rattle.subst.proofs.check_num_type.Lts as lts
-use Rattle.subst.proofs.as_var.Reads as as-var-reads
-use Rattle.subst.proofs.forward_tvar.Reads as forward-tvar-reads
-use Rattle.subst.proofs.is_num_var.Reads as is-num-var-reads
-use Rattle.subst.proofs.num_node.Reads as num-node-reads
-use Rattle.subst.proofs.num_shape.Reads as num-shape-reads
-use Rattle.table.proofs.bound_at.Reads as bound-at-reads
-use Rattle.table.proofs.node_at.Reads as node-at-reads
 
 node-at-requires : tie.Need-node-at-requires
 node-at-requires c κs = search needs

@@ -1,11 +1,9 @@
+-- `subst::forward_tvar` meets its contract. Assumes nothing.
 use borrow.Author.Needs.{needs}
 use native.Mathlib.Omega.{arith}
 use Rattle.subst.proofs.Laws.{Chain, chain-start, chain-end, chain-on, chain-out}
 use Rattle.subst.proofs.forward_tvar.Statement.{statement}
 use Rattle.subst.proofs.forward_tvar.Tie as tie
-use Rattle.subst.proofs.forward_tvar.Reads as reads
-use Rattle.subst.proofs.forward_tvar.Lts as lts
-use Rattle.subst.proofs.next_of.Reads as next-of-reads
 
 abbrev Inv-loop : tie.InvT-loop
 Inv-loop w u cur₀ left₀ cur left = Chain w u (cur₀ .0) left₀ (cur .0) left

@@ -1,11 +1,8 @@
+-- `subst::goes_on` meets its contract. Assumes nothing.
 use Rattle.subst.proofs.Itself.{goes-node, goes-anything, unfolded-node}
 use borrow.Author.Needs.{needs}
 use Rattle.subst.proofs.goes_on.Statement.{statement}
 use Rattle.subst.proofs.goes_on.Tie as tie
-use Rattle.subst.proofs.goes_on.Reads as reads
-use Rattle.subst.proofs.goes_on.Lts as lts
-use Rattle.subst.proofs.unfold_type.Reads as unfold-type-reads
-use Rattle.table.proofs.node_at.Reads as node-at-reads
 
 unfold-type-requires : tie.Need-unfold-type-requires
 unfold-type-requires c κs = search needs

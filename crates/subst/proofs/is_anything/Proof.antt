@@ -1,11 +1,10 @@
+-- `subst::is_anything` meets its contract. Assumes nothing.
 use mathlib.Core.Path.{refl}
 use Rattle.definition.specs.Store.{with-args}
 use Rattle.definition.specs.Subst.{is-anything}
 use borrow.Author.Needs.{needs}
 use Rattle.subst.proofs.is_anything.Statement.{statement}
 use Rattle.subst.proofs.is_anything.Tie as tie
-use Rattle.subst.proofs.is_anything.Reads as reads
-use Rattle.subst.proofs.is_anything.Lts as lts
 
 enum-told : tie.Need-enum-told
 enum-told c = search needs

@@ -1,12 +1,10 @@
+-- `subst::is_num_var` meets its contract. Assumes nothing.
 use mathlib.Core.Path.{sym, ap}
 use Rattle.table.specs.State.{found}
 use Rattle.subst.proofs.Laws.{is-num}
 use borrow.Author.Needs.{needs}
 use Rattle.subst.proofs.is_num_var.Statement.{statement}
 use Rattle.subst.proofs.is_num_var.Tie as tie
-use Rattle.subst.proofs.is_num_var.Reads as reads
-use Rattle.subst.proofs.is_num_var.Lts as lts
-use Rattle.table.proofs.num_loc_at.Reads as num-loc-at-reads
 
 num-loc-at-requires : tie.Need-num-loc-at-requires
 num-loc-at-requires c κs = search needs

@@ -1,11 +1,9 @@
+-- `subst::is_numeric` meets its contract. Assumes nothing.
 use mathlib.Core.Path.{refl, _∙_}
 use Rattle.definition.specs.Join.{is-numeric}
 use borrow.Author.Needs.{needs}
 use Rattle.subst.proofs.is_numeric.Statement.{statement}
 use Rattle.subst.proofs.is_numeric.Tie as tie
-use Rattle.subst.proofs.is_numeric.Reads as reads
-use Rattle.subst.proofs.is_numeric.Lts as lts
-use Rattle.names.proofs.is_numeric.Reads as is-numeric-reads
 
 enum-told : tie.Need-enum-told
 enum-told c = search needs

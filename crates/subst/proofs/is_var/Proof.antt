@@ -1,11 +1,10 @@
+-- `subst::is_var` meets its contract. Assumes nothing.
 use mathlib.Core.Path.{refl}
 use Rattle.definition.specs.Store.{with-args}
 use Rattle.definition.specs.Join.{is-var}
 use borrow.Author.Needs.{needs}
 use Rattle.subst.proofs.is_var.Statement.{statement}
 use Rattle.subst.proofs.is_var.Tie as tie
-use Rattle.subst.proofs.is_var.Reads as reads
-use Rattle.subst.proofs.is_var.Lts as lts
 
 enum-told : tie.Need-enum-told
 enum-told c = search needs

@@ -1,15 +1,9 @@
+-- `subst::join_bind_tvar` meets its contract. Assumes nothing.
 use Rattle.subst.proofs.Laws.{binds-failed, binds-used, binds-anything, binds-stored}
-use mathlib.Core.Path.{refl, sym, ap, _∙_}
+use mathlib.Core.Path.{sym, _∙_}
 use borrow.Author.Needs.{needs}
 use Rattle.subst.proofs.join_bind_tvar.Statement.{statement}
 use Rattle.subst.proofs.join_bind_tvar.Tie as tie
-use Rattle.subst.proofs.join_bind_tvar.Reads as reads
-use Rattle.subst.proofs.join_bind_tvar.Lts as lts
-use Rattle.subst.proofs.check_num_tvar.Reads as check-num-tvar-reads
-use Rattle.subst.proofs.is_anything.Reads as is-anything-reads
-use Rattle.subst.proofs.used_tvars.Reads as used-tvars-reads
-use Rattle.table.proofs.bind_var.Reads as bind-var-reads
-use Rattle.table.proofs.node_at.Reads as node-at-reads
 
 check-num-tvar-requires : tie.Need-check-num-tvar-requires
 check-num-tvar-requires c κs = search needs

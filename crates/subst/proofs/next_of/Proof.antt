@@ -1,14 +1,10 @@
+-- `subst::next_of` meets its contract. Assumes nothing.
 use mathlib.Core.Path.{ap, _∙_}
 use Rattle.definition.specs.Subst.{as-var}
 use Rattle.subst.proofs.Laws.{next-none, next-some, value-is}
 use borrow.Author.Needs.{needs}
 use Rattle.subst.proofs.next_of.Statement.{statement}
 use Rattle.subst.proofs.next_of.Tie as tie
-use Rattle.subst.proofs.next_of.Reads as reads
-use Rattle.subst.proofs.next_of.Lts as lts
-use Rattle.subst.proofs.as_var.Reads as as-var-reads
-use Rattle.table.proofs.bound_at.Reads as bound-at-reads
-use Rattle.table.proofs.node_at.Reads as node-at-reads
 
 bound-at-requires : tie.Need-bound-at-requires
 bound-at-requires c κs = search needs

@@ -1,13 +1,10 @@
+-- `subst::num_node` meets its contract. Assumes nothing.
 use mathlib.Core.Path.{ap, _∙_}
 use Rattle.definition.specs.Join.{num-shape}
 use Rattle.subst.proofs.Laws.{value-is}
 use borrow.Author.Needs.{needs}
 use Rattle.subst.proofs.num_node.Statement.{statement}
 use Rattle.subst.proofs.num_node.Tie as tie
-use Rattle.subst.proofs.num_node.Reads as reads
-use Rattle.subst.proofs.num_node.Lts as lts
-use Rattle.subst.proofs.num_shape.Reads as num-shape-reads
-use Rattle.table.proofs.node_at.Reads as node-at-reads
 
 node-at-requires : tie.Need-node-at-requires
 node-at-requires c κs = search needs

@@ -1,3 +1,4 @@
+-- `subst::num_shape` meets its contract. Assumes nothing.
 use mathlib.Core.Path.{refl}
 use Rattle.definition.specs.Store.{with-args}
 use mathlib.Core.Path.{_∙_}
@@ -5,9 +6,6 @@ use Rattle.definition.specs.Join.{num-shape}
 use borrow.Author.Needs.{needs}
 use Rattle.subst.proofs.num_shape.Statement.{statement}
 use Rattle.subst.proofs.num_shape.Tie as tie
-use Rattle.subst.proofs.num_shape.Reads as reads
-use Rattle.subst.proofs.num_shape.Lts as lts
-use Rattle.subst.proofs.is_numeric.Reads as is-numeric-reads
 
 enum-told : tie.Need-enum-told
 enum-told c = search needs

@@ -1,11 +1,9 @@
+-- `subst::part_at` meets its contract. Assumes nothing.
 use Rattle.subst.proofs.Laws.{part-ref, part-apply}
 use native.Mathlib.Nat.{not-suc-le-zero}
 use borrow.Author.Needs.{needs}
 use Rattle.subst.proofs.part_at.Statement.{statement}
 use Rattle.subst.proofs.part_at.Tie as tie
-use Rattle.subst.proofs.part_at.Reads as reads
-use Rattle.subst.proofs.part_at.Lts as lts
-use Rattle.table.proofs.arg_at.Reads as arg-at-reads
 
 enum-told : tie.Need-enum-told
 enum-told c = search needs

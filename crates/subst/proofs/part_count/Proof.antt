@@ -1,10 +1,9 @@
+-- `subst::part_count` meets its contract. Assumes nothing.
 use Rattle.table.specs.Rows.{places}
 use mathlib.Core.Path.{refl}
 use borrow.Author.Needs.{needs}
 use Rattle.subst.proofs.part_count.Statement.{statement}
 use Rattle.subst.proofs.part_count.Tie as tie
-use Rattle.subst.proofs.part_count.Reads as reads
-use Rattle.subst.proofs.part_count.Lts as lts
 
 enum-told : tie.Need-enum-told
 enum-told c = search needs

@@ -1,12 +1,9 @@
+-- `subst::push_ref` meets its contract. Assumes nothing.
 use Rattle.subst.proofs.Run.{done-in, ref-stop, ref-then}
-use mathlib.Core.Path.{refl, sym, ap, _∙_}
+use mathlib.Core.Path.{sym, _∙_}
 use borrow.Author.Needs.{needs}
 use Rattle.subst.proofs.push_ref.Statement.{statement}
 use Rattle.subst.proofs.push_ref.Tie as tie
-use Rattle.subst.proofs.push_ref.Reads as reads
-use Rattle.subst.proofs.push_ref.Lts as lts
-use Rattle.table.proofs.done_of.Reads as done-of-reads
-use Rattle.table.proofs.push_node.Reads as push-node-reads
 
 done-of-requires : tie.Need-done-of-requires
 done-of-requires c κs = search needs

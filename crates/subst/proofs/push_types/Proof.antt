@@ -1,12 +1,9 @@
+-- `subst::push_types` meets its contract. Assumes nothing.
 use Rattle.subst.proofs.Run.{types-done, apply-stop, apply-then}
-use mathlib.Core.Path.{refl, sym, ap, _∙_}
+use mathlib.Core.Path.{sym, _∙_}
 use borrow.Author.Needs.{needs}
 use Rattle.subst.proofs.push_types.Statement.{statement}
 use Rattle.subst.proofs.push_types.Tie as tie
-use Rattle.subst.proofs.push_types.Reads as reads
-use Rattle.subst.proofs.push_types.Lts as lts
-use Rattle.table.proofs.done_of.Reads as done-of-reads
-use Rattle.table.proofs.push_apply.Reads as push-apply-reads
 
 done-of-requires : tie.Need-done-of-requires
 done-of-requires c κs = search needs

@@ -1,13 +1,9 @@
+-- `subst::reaches_itself` meets its contract. Assumes nothing.
 use native.Mathlib.Omega.{arith}
 use Rattle.subst.proofs.Itself.{reaches-not, marked-none, reaches-is}
 use borrow.Author.Needs.{needs}
 use Rattle.subst.proofs.reaches_itself.Statement.{statement}
 use Rattle.subst.proofs.reaches_itself.Tie as tie
-use Rattle.subst.proofs.reaches_itself.Reads as reads
-use Rattle.subst.proofs.reaches_itself.Lts as lts
-use Rattle.subst.proofs.goes_on.Reads as goes-on-reads
-use Rattle.subst.proofs.levels.Reads as levels-reads
-use Rattle.subst.proofs.part_count.Reads as part-count-reads
 
 goes-on-requires : tie.Need-goes-on-requires
 goes-on-requires c κs = search needs

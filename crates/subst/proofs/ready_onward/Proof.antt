@@ -1,14 +1,11 @@
+-- `subst::ready_onward` meets its contract. Assumes nothing.
 use Rattle.definition.specs.Store.{with-args}
 use Rattle.definition.specs.Subst.{ready-value}
 use Rattle.subst.proofs.Run.{goes-flat, goes-ref, goes-apply, goes-open, goes-bound}
-use mathlib.Core.Path.{refl, sym, ap, _∙_}
+use mathlib.Core.Path.{refl}
 use borrow.Author.Needs.{needs}
 use Rattle.subst.proofs.ready_onward.Statement.{statement}
 use Rattle.subst.proofs.ready_onward.Tie as tie
-use Rattle.subst.proofs.ready_onward.Reads as reads
-use Rattle.subst.proofs.ready_onward.Lts as lts
-use Rattle.subst.proofs.forward_tvar.Reads as forward-tvar-reads
-use Rattle.table.proofs.bound_at.Reads as bound-at-reads
 
 enum-told : tie.Need-enum-told
 enum-told c = search needs

@@ -1,12 +1,9 @@
+-- `subst::ready_tvars` meets its contract. Assumes nothing.
 use borrow.Author.Needs.{needs}
 use Rattle.subst.proofs.Run.{run-stop, run-on}
-use mathlib.Core.Path.{refl, sym, ap, _∙_}
+use mathlib.Core.Path.{sym, _∙_}
 use Rattle.subst.proofs.ready_tvars.Statement.{statement}
 use Rattle.subst.proofs.ready_tvars.Tie as tie
-use Rattle.subst.proofs.ready_tvars.Reads as reads
-use Rattle.subst.proofs.ready_tvars.Lts as lts
-use Rattle.subst.proofs.reaches_itself.Reads as reaches-itself-reads
-use Rattle.subst.proofs.ready.Reads as ready-reads
 
 reaches-itself-requires : tie.Need-reaches-itself-requires
 reaches-itself-requires c κs = search needs

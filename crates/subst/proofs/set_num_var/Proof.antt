@@ -1,13 +1,10 @@
+-- `subst::set_num_var` meets its contract. Assumes nothing.
 use native.Mathlib.Omega.{arith}
 use borrow.Author.Needs.{needs}
 use Rattle.subst.proofs.Unfold.{Marking, marking-start, marking-last, marking-on, marking-out}
-use mathlib.Core.Path.{refl, sym, ap, _∙_}
+use mathlib.Core.Path.{sym, _∙_}
 use Rattle.subst.proofs.set_num_var.Statement.{statement}
 use Rattle.subst.proofs.set_num_var.Tie as tie
-use Rattle.subst.proofs.set_num_var.Reads as reads
-use Rattle.subst.proofs.set_num_var.Lts as lts
-use Rattle.subst.proofs.next_of.Reads as next-of-reads
-use Rattle.table.proofs.mark_one.Reads as mark-one-reads
 
 abbrev Inv-loop : tie.InvT-loop
 Inv-loop w₀ u loc cur₀ left₀ w cur left = Marking w₀ u (cur₀ .0) loc left₀ w (cur .0) left
@@ -36,8 +33,8 @@ returns c = marking-last (c .before .before .before .before .before .before .bef
 enum-known-n : tie.Need-enum-known-n Inv-loop μ-loop
 enum-known-n c = search needs
 
-sub-left : tie.Need-sub-left Inv-loop μ-loop
-sub-left c = search needs
+sub-unmarked : tie.Need-sub-unmarked Inv-loop μ-loop
+sub-unmarked c = search needs
 
 loop-less : tie.Need-loop-less Inv-loop μ-loop
 loop-less c = omega arith
@@ -64,7 +61,7 @@ set-num-var-spec =
     same-length
     returns
     enum-known-n
-    sub-left
+    sub-unmarked
     loop-less
     loop-again
     same-length-2

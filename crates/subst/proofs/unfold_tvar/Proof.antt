@@ -1,11 +1,8 @@
+-- `subst::unfold_tvar` meets its contract. Assumes nothing.
 use Rattle.subst.proofs.Unfold.{unfolds-open, unfolds-bound}
 use borrow.Author.Needs.{needs}
 use Rattle.subst.proofs.unfold_tvar.Statement.{statement}
 use Rattle.subst.proofs.unfold_tvar.Tie as tie
-use Rattle.subst.proofs.unfold_tvar.Reads as reads
-use Rattle.subst.proofs.unfold_tvar.Lts as lts
-use Rattle.subst.proofs.forward_tvar.Reads as forward-tvar-reads
-use Rattle.table.proofs.bound_at.Reads as bound-at-reads
 
 forward-tvar-requires : tie.Need-forward-tvar-requires
 forward-tvar-requires c κs = search needs

@@ -1,12 +1,8 @@
+-- `subst::unfold_type` meets its contract. Assumes nothing.
 use Rattle.subst.proofs.Unfold.{unfolds-plain, unfolds-var}
 use borrow.Author.Needs.{needs}
 use Rattle.subst.proofs.unfold_type.Statement.{statement}
 use Rattle.subst.proofs.unfold_type.Tie as tie
-use Rattle.subst.proofs.unfold_type.Reads as reads
-use Rattle.subst.proofs.unfold_type.Lts as lts
-use Rattle.subst.proofs.as_var.Reads as as-var-reads
-use Rattle.subst.proofs.unfold_tvar.Reads as unfold-tvar-reads
-use Rattle.table.proofs.node_at.Reads as node-at-reads
 
 node-at-requires : tie.Need-node-at-requires
 node-at-requires c κs = search needs

@@ -1,13 +1,8 @@
+-- `subst::used_tvars` meets its contract. Assumes nothing.
 use Rattle.subst.proofs.Occurs.{at-node, flat-used, clear-none}
 use borrow.Author.Needs.{needs}
 use Rattle.subst.proofs.used_tvars.Statement.{statement}
 use Rattle.subst.proofs.used_tvars.Tie as tie
-use Rattle.subst.proofs.used_tvars.Reads as reads
-use Rattle.subst.proofs.used_tvars.Lts as lts
-use Rattle.subst.proofs.is_var.Reads as is-var-reads
-use Rattle.subst.proofs.part_count.Reads as part-count-reads
-use Rattle.subst.proofs.used_in.Reads as used-in-reads
-use Rattle.table.proofs.node_at.Reads as node-at-reads
 
 node-at-requires : tie.Need-node-at-requires
 node-at-requires c κs = c .before .pre .0

@@ -3,8 +3,6 @@ use Rattle.table.specs.Rows.{name-tag, name-word}
 use borrow.Author.Needs.{needs}
 use Rattle.table.proofs.apply_row.Statement.{statement}
 use Rattle.table.proofs.apply_row.Tie as tie
-use Rattle.table.proofs.apply_row.Reads as reads
-use Rattle.table.proofs.apply_row.Lts as lts
 
 enum-known-n : tie.Need-enum-known-n
 enum-known-n c = search needs

@@ -4,9 +4,6 @@ use Rattle.table.proofs.Fields.{arg-read, arg-beyond}
 use borrow.Author.Needs.{needs}
 use Rattle.table.proofs.arg_at.Statement.{statement}
 use Rattle.table.proofs.arg_at.Tie as tie
-use Rattle.table.proofs.arg_at.Reads as reads
-use Rattle.table.proofs.arg_at.Lts as lts
-use Rattle.table.proofs.wide.Reads as wide-reads
 
 wide-requires : tie.Need-wide-requires
 wide-requires c κs = search needs

@@ -3,10 +3,6 @@ use Rattle.table.proofs.Primitives.{insert-cell}
 use borrow.Author.Needs.{needs}
 use Rattle.table.proofs.bind_var.Statement.{statement}
 use Rattle.table.proofs.bind_var.Tie as tie
-use Rattle.table.proofs.bind_var.Reads as reads
-use Rattle.table.proofs.bind_var.Lts as lts
-use Rattle.table.proofs.num_loc_at.Reads as num-loc-at-reads
-use Rattle.table.proofs.put_cell.Reads as put-cell-reads
 
 num-loc-at-requires : tie.Need-num-loc-at-requires
 num-loc-at-requires c κs = search needs

@@ -4,11 +4,6 @@ use Rattle.table.proofs.Fields.{get-read, get-beyond}
 use borrow.Author.Needs.{needs}
 use Rattle.table.proofs.bound_at.Statement.{statement}
 use Rattle.table.proofs.bound_at.Tie as tie
-use Rattle.table.proofs.bound_at.Reads as reads
-use Rattle.table.proofs.bound_at.Lts as lts
-use Rattle.table.proofs.number.Reads as number-reads
-use Rattle.table.proofs.option_at.Reads as option-at-reads
-use Rattle.table.proofs.wide.Reads as wide-reads
 
 number-requires : tie.Need-number-requires
 number-requires c κs = search needs

@@ -3,10 +3,6 @@ use Rattle.table.proofs.Written.{cell-row}
 use borrow.Author.Needs.{needs}
 use Rattle.table.proofs.cell_row.Statement.{statement}
 use Rattle.table.proofs.cell_row.Tie as tie
-use Rattle.table.proofs.cell_row.Reads as reads
-use Rattle.table.proofs.cell_row.Lts as lts
-use Rattle.table.proofs.flag_found.Reads as flag-found-reads
-use Rattle.table.proofs.word_found.Reads as word-found-reads
 
 flag-found-requires : tie.Need-flag-found-requires
 flag-found-requires c κs = search needs

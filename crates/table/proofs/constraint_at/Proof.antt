@@ -4,10 +4,6 @@ use Rattle.table.proofs.Fields.{constraint-read}
 use borrow.Author.Needs.{needs}
 use Rattle.table.proofs.constraint_at.Statement.{statement}
 use Rattle.table.proofs.constraint_at.Tie as tie
-use Rattle.table.proofs.constraint_at.Reads as reads
-use Rattle.table.proofs.constraint_at.Lts as lts
-use Rattle.table.proofs.constraint_of.Reads as constraint-of-reads
-use Rattle.table.proofs.wide.Reads as wide-reads
 
 wide-requires : tie.Need-wide-requires
 wide-requires c κs = search needs

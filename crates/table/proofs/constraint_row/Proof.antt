@@ -3,9 +3,6 @@ use Rattle.table.proofs.Written.{ability-row, numeric-row, bits-row, or
 use borrow.Author.Needs.{needs}
 use Rattle.table.proofs.constraint_row.Statement.{statement}
 use Rattle.table.proofs.constraint_row.Tie as tie
-use Rattle.table.proofs.constraint_row.Reads as reads
-use Rattle.table.proofs.constraint_row.Lts as lts
-use Rattle.table.proofs.bits.Reads as bits-reads
 
 enum-known-c : tie.Need-enum-known-c
 enum-known-c c = search needs

@@ -2,8 +2,6 @@
 use borrow.Author.Needs.{needs}
 use Rattle.table.proofs.done_of.Statement.{statement}
 use Rattle.table.proofs.done_of.Tie as tie
-use Rattle.table.proofs.done_of.Reads as reads
-use Rattle.table.proofs.done_of.Lts as lts
 
 enum-known-o : tie.Need-enum-known-o
 enum-known-o c = search needs

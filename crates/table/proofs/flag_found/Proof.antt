@@ -3,8 +3,6 @@ use Rattle.table.specs.Rows.{option-flag}
 use borrow.Author.Needs.{needs}
 use Rattle.table.proofs.flag_found.Statement.{statement}
 use Rattle.table.proofs.flag_found.Tie as tie
-use Rattle.table.proofs.flag_found.Reads as reads
-use Rattle.table.proofs.flag_found.Lts as lts
 
 enum-told : tie.Need-enum-told
 enum-told c = search needs

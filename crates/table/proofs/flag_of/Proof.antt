@@ -2,8 +2,6 @@
 use Rattle.table.specs.Rows.{flag}
 use Rattle.table.proofs.flag_of.Statement.{statement}
 use Rattle.table.proofs.flag_of.Tie as tie
-use Rattle.table.proofs.flag_of.Reads as reads
-use Rattle.table.proofs.flag_of.Lts as lts
 
 returns : tie.Need-returns
 unfolding flag

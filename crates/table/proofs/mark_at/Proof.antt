@@ -4,9 +4,6 @@ use Rattle.table.specs.Rows.{read-mark}
 use borrow.Author.Needs.{needs}
 use Rattle.table.proofs.mark_at.Statement.{statement}
 use Rattle.table.proofs.mark_at.Tie as tie
-use Rattle.table.proofs.mark_at.Reads as reads
-use Rattle.table.proofs.mark_at.Lts as lts
-use Rattle.table.proofs.set_at.Reads as set-at-reads
 
 set-at-requires : tie.Need-set-at-requires
 set-at-requires c κs = search needs

@@ -3,12 +3,6 @@ use Rattle.table.proofs.Primitives.{bound-in, mark-cell}
 use borrow.Author.Needs.{needs}
 use Rattle.table.proofs.mark_one.Statement.{statement}
 use Rattle.table.proofs.mark_one.Tie as tie
-use Rattle.table.proofs.mark_one.Reads as reads
-use Rattle.table.proofs.mark_one.Lts as lts
-use Rattle.table.proofs.bound_at.Reads as bound-at-reads
-use Rattle.table.proofs.num_loc_at.Reads as num-loc-at-reads
-use Rattle.table.proofs.or_insert.Reads as or-insert-reads
-use Rattle.table.proofs.put_cell.Reads as put-cell-reads
 
 bound-at-requires : tie.Need-bound-at-requires
 bound-at-requires c κs = search needs

@@ -6,9 +6,6 @@ use Rattle.table.specs.Rows.{mark-word, read-mark}
 use borrow.Author.Needs.{needs}
 use Rattle.table.proofs.mark_word.Statement.{statement}
 use Rattle.table.proofs.mark_word.Tie as tie
-use Rattle.table.proofs.mark_word.Reads as reads
-use Rattle.table.proofs.mark_word.Lts as lts
-use Rattle.table.proofs.bits.Reads as bits-reads
 
 enum-told : tie.Need-enum-told
 enum-told c = search needs

@@ -4,10 +4,6 @@ use Rattle.table.proofs.Fields.{node-made, node-beyond}
 use borrow.Author.Needs.{needs}
 use Rattle.table.proofs.node_at.Statement.{statement}
 use Rattle.table.proofs.node_at.Tie as tie
-use Rattle.table.proofs.node_at.Reads as reads
-use Rattle.table.proofs.node_at.Lts as lts
-use Rattle.table.proofs.shape_at.Reads as shape-at-reads
-use Rattle.table.proofs.wide.Reads as wide-reads
 
 wide-requires : tie.Need-wide-requires
 wide-requires c κs = search needs

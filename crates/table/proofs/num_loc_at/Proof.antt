@@ -4,11 +4,6 @@ use Rattle.table.proofs.Fields.{num-read, num-beyond}
 use borrow.Author.Needs.{needs}
 use Rattle.table.proofs.num_loc_at.Statement.{statement}
 use Rattle.table.proofs.num_loc_at.Tie as tie
-use Rattle.table.proofs.num_loc_at.Reads as reads
-use Rattle.table.proofs.num_loc_at.Lts as lts
-use Rattle.table.proofs.number.Reads as number-reads
-use Rattle.table.proofs.option_at.Reads as option-at-reads
-use Rattle.table.proofs.wide.Reads as wide-reads
 
 number-requires : tie.Need-number-requires
 number-requires c κs = search needs

@@ -3,8 +3,6 @@ use borrow.Author.Tests.{eq-eqb, ne-eqb}
 use Rattle.table.specs.Rows.{read-option}
 use Rattle.table.proofs.option_at.Statement.{statement}
 use Rattle.table.proofs.option_at.Tie as tie
-use Rattle.table.proofs.option_at.Reads as reads
-use Rattle.table.proofs.option_at.Lts as lts
 
 returns : tie.Need-returns
 unfolding read-option

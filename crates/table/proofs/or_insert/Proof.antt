@@ -3,8 +3,6 @@ use Rattle.definition.specs.Subst.{or-insert}
 use borrow.Author.Needs.{needs}
 use Rattle.table.proofs.or_insert.Statement.{statement}
 use Rattle.table.proofs.or_insert.Tie as tie
-use Rattle.table.proofs.or_insert.Reads as reads
-use Rattle.table.proofs.or_insert.Lts as lts
 
 enum-told : tie.Need-enum-told
 enum-told c = search needs

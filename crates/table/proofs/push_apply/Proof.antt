@@ -6,11 +6,6 @@ use Rattle.table.proofs.Pushed.{node-full}
 use borrow.Author.Needs.{needs}
 use Rattle.table.proofs.push_apply.Statement.{statement}
 use Rattle.table.proofs.push_apply.Tie as tie
-use Rattle.table.proofs.push_apply.Reads as reads
-use Rattle.table.proofs.push_apply.Lts as lts
-use Rattle.table.proofs.row_of.Reads as row-of-reads
-use Rattle.table.proofs.wide.Reads as wide-reads
-use Rattle.table.proofs.write_row.Reads as write-row-reads
 
 returns : tie.Need-returns
 returns c = node-full _ _ _ _ (c .before .before .pre .0) (c .if1 .taken)

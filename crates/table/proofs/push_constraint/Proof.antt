@@ -3,11 +3,6 @@ use Rattle.table.proofs.Pushed.{constraints-full, constraint-pushed}
 use borrow.Author.Needs.{needs}
 use Rattle.table.proofs.push_constraint.Statement.{statement}
 use Rattle.table.proofs.push_constraint.Tie as tie
-use Rattle.table.proofs.push_constraint.Reads as reads
-use Rattle.table.proofs.push_constraint.Lts as lts
-use Rattle.table.proofs.constraint_row.Reads as constraint-row-reads
-use Rattle.table.proofs.wide.Reads as wide-reads
-use Rattle.table.proofs.write_row.Reads as write-row-reads
 
 returns : tie.Need-returns
 returns c = constraints-full _ _ _ (c .before .before .pre) (c .if1 .taken)

@@ -4,11 +4,6 @@ use Rattle.table.proofs.Pushed.{structs-full, struct-pushed}
 use borrow.Author.Needs.{needs}
 use Rattle.table.proofs.push_struct.Statement.{statement}
 use Rattle.table.proofs.push_struct.Tie as tie
-use Rattle.table.proofs.push_struct.Reads as reads
-use Rattle.table.proofs.push_struct.Lts as lts
-use Rattle.table.proofs.bits.Reads as bits-reads
-use Rattle.table.proofs.wide.Reads as wide-reads
-use Rattle.table.proofs.write_row.Reads as write-row-reads
 
 returns : tie.Need-returns
 returns c = structs-full _ _ _ _ (c .before .before .pre) (c .if1 .taken)

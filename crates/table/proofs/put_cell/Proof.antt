@@ -4,12 +4,6 @@ use Rattle.table.proofs.Pushed.{cell-put, cell-none}
 use borrow.Author.Needs.{needs}
 use Rattle.table.proofs.put_cell.Statement.{statement}
 use Rattle.table.proofs.put_cell.Tie as tie
-use Rattle.table.proofs.put_cell.Reads as reads
-use Rattle.table.proofs.put_cell.Lts as lts
-use Rattle.table.proofs.cell_row.Reads as cell-row-reads
-use Rattle.table.proofs.number.Reads as number-reads
-use Rattle.table.proofs.wide.Reads as wide-reads
-use Rattle.table.proofs.write_row.Reads as write-row-reads
 
 number-requires : tie.Need-number-requires
 number-requires c κs = search needs

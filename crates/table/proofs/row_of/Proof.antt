@@ -3,13 +3,6 @@ use Rattle.table.proofs.Written.{unit-row, ref-row, param-row, apply-ro
 use borrow.Author.Needs.{needs}
 use Rattle.table.proofs.row_of.Statement.{statement}
 use Rattle.table.proofs.row_of.Tie as tie
-use Rattle.table.proofs.row_of.Reads as reads
-use Rattle.table.proofs.row_of.Lts as lts
-use Rattle.table.proofs.apply_row.Reads as apply-row-reads
-use Rattle.table.proofs.bits.Reads as bits-reads
-use Rattle.table.proofs.flag_of.Reads as flag-of-reads
-use Rattle.table.proofs.mark_word.Reads as mark-word-reads
-use Rattle.table.proofs.number.Reads as number-reads
 
 enum-told : tie.Need-enum-told
 enum-told c = search needs

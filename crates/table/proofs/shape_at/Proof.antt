@@ -4,12 +4,6 @@ use Rattle.table.specs.Rows.{read-shape}
 use borrow.Author.Needs.{needs}
 use Rattle.table.proofs.shape_at.Statement.{statement}
 use Rattle.table.proofs.shape_at.Tie as tie
-use Rattle.table.proofs.shape_at.Reads as reads
-use Rattle.table.proofs.shape_at.Lts as lts
-use Rattle.table.proofs.mark_at.Reads as mark-at-reads
-use Rattle.table.proofs.name_at.Reads as name-at-reads
-use Rattle.table.proofs.set_at.Reads as set-at-reads
-use Rattle.table.proofs.tvar_at.Reads as tvar-at-reads
 
 returns : tie.Need-returns
 unfolding read-shape

@@ -6,10 +6,6 @@ use Rattle.table.proofs.Fields.{struct-read, struct-beyond}
 use borrow.Author.Needs.{needs}
 use Rattle.table.proofs.struct_at.Statement.{statement}
 use Rattle.table.proofs.struct_at.Tie as tie
-use Rattle.table.proofs.struct_at.Reads as reads
-use Rattle.table.proofs.struct_at.Lts as lts
-use Rattle.table.proofs.set_at.Reads as set-at-reads
-use Rattle.table.proofs.wide.Reads as wide-reads
 
 wide-requires : tie.Need-wide-requires
 wide-requires c κs = search needs

@@ -3,8 +3,6 @@ use Rattle.table.proofs.Pushed.{var-full, var-taken}
 use borrow.Author.Needs.{needs}
 use Rattle.table.proofs.take_var.Statement.{statement}
 use Rattle.table.proofs.take_var.Tie as tie
-use Rattle.table.proofs.take_var.Reads as reads
-use Rattle.table.proofs.take_var.Lts as lts
 
 returns : tie.Need-returns
 returns c = (var-full _ _ (c .before .pre) (c .if1 .taken), tt)

@@ -3,13 +3,10 @@ use Prim.Native.Nat.{_≤_, _-_}
 use native.Mathlib.Omega.{arith}
 use Rattle.table.specs.State.{Wrote}
 use Rattle.table.proofs.Rows.{wrote-none, wrote-more}
-use lib.ListN.{length-set}
 use mathlib.Core.Path.{_≡_}
 use borrow.Author.Needs.{needs}
 use Rattle.table.proofs.write_row.Statement.{statement}
 use Rattle.table.proofs.write_row.Tie as tie
-use Rattle.table.proofs.write_row.Reads as reads
-use Rattle.table.proofs.write_row.Lts as lts
 
 abbrev Inv-loop : tie.InvT-loop
 Inv-loop w₀ at n row k₀ w k = (k ≤ n) × Wrote w₀ at k row w

@@ -3,9 +3,6 @@ use Rattle.table.proofs.Encoded.{used-written}
 use borrow.Author.Needs.{needs}
 use Rattle.table.proofs.write_used.Statement.{statement}
 use Rattle.table.proofs.write_used.Tie as tie
-use Rattle.table.proofs.write_used.Reads as reads
-use Rattle.table.proofs.write_used.Lts as lts
-use Rattle.table.proofs.write_row.Reads as write-row-reads
 
 write-row-requires : tie.Need-write-row-requires
 write-row-requires c κs = search needs
