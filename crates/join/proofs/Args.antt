@@ -154,8 +154,7 @@ module _ (left : ℕ) (case : j.TypingCase) (w₀ : List ℕ) (u₀ : Used) (fir
               grown = grown-trans _ _ _ (g .grown) (after .changed .grown);
               structs = after .changed .structs ∙ g .structs;
               is = λ ds. stop-any (x .out) (seen w₂ (x .used) ds) _ _ _ (sym p ∙ q) ∙ step-is ds;
-              parts = λ m e. let z : _≡_ {A = ℕ} 0 1 = cc in absurd (omega arith);
-              inside = λ e. after .inside;
+              types = record { parts = λ m e. let z : _≡_ {A = ℕ} 0 1 = cc in absurd (omega arith); inside = λ e. after .inside };
             }
 
         pub gather-more : (t : ℕ) → b ≡ Just t → Gathering left case w₀ u₀ first1 many1 first2 many2 n w₂ (x .used) (set tys i t) (i + 1)
@@ -211,6 +210,8 @@ module _ (left : ℕ) (case : j.TypingCase) (w₀ : List ℕ) (u₀ : Used) (fir
           grown = g .grown;
           structs = g .structs;
           is = λ ds. rw e (ap (λ (l : List ℕ). ok (seen w u ds, l)) (sym (append-nil (take i tys))) ∙ ap (λ (m : Result (State × List ℕ)). m >>= in-front (take i tys)) (sym (walk-end ds e)) ∙ g .same ds);
-          parts = λ m q. let z : m ≡ n = cc in record { few = omega arith; below = λ k lt. g .below k (omega arith) };
-          inside = λ q. let z : _≡_ {A = ℕ} 0 1 = cc in absurd (omega arith);
+          types = record {
+            parts = λ m q. let z : m ≡ n = cc in record { few = omega arith; below = λ k lt. g .below k (omega arith) };
+            inside = λ q. let z : _≡_ {A = ℕ} 0 1 = cc in absurd (omega arith);
+          };
         }

@@ -34,35 +34,40 @@ use Rattle.merge.specs.Merge.{Inner, open-tvar, open-types, open-ends, opened, 
 use Rattle.merge.specs.declared.Open.{Open}
 use Rattle.merge.specs.declared.Opened.{Opened}
 use Rattle.merge.specs.declared.Opened.the-variants.{Ready, Stop}
-use Rattle.merge.specs.declared.Met.{Met}
 use Rattle.merge.specs.declared.Meet.{Meet}
 use Rattle.merge.specs.declared.Meet.the-variants.{Is, Merge}
 use Rattle.merge.proofs.Answers.{then-is, count-is, loc-is, value-is}
 use Rattle.merge.proofs.Laws.{after-seen}
-use Rattle.join.specs.Join.{Joined}
+use Rattle.join.specs.Join.{Joined, step, ref-at, apply-at, Follows, Follows-types}
 use Rattle.join.specs.declared.Types.{Types}
 use Rattle.join.proofs.Binds.{stop-any, bind-ok, next-same}
 use Rattle.join.proofs.Args.{inner}
 
 -- ---- answers that are handed on
 
-module _ (w : List ℕ) (u : Used) (w′ : List ℕ) (m : Met) (f : (State → ℕ → Result (State × ℕ)) → State → Result (State × ℕ)) (a : Meets w u w′ m f) (k : State → ℕ → Result (State × ℕ)) where
-  pub met-is : (o : Out) → m .what ≡ Is o → After w u w′ (record { out = o; used = m .used }) (λ s. f k s)
+module _ (w : List ℕ) (u : Used) (w′ : List ℕ) (m : Meet) (f : (State → ℕ → Result (State × ℕ)) → State → Result (State × ℕ)) (a : Meets w u w′ m f) (k : State → ℕ → Result (State × ℕ)) where
+  met-is : (x : Step) → m ≡ Is x → After w u w′ x (λ s. f k s)
   unfolding met
-  met-is o e = record { changed = record { lay = a .lay; grown = a .grown; structs = a .structs; is = λ ds. rw e at (a .is k ds) }; inside = rw e at (a .inside) }
+  met-is x e =
+      let b : Meets w u w′ (Is x) f = rw e at a in
+      record { changed = record { lay = b .lay; grown = b .grown; structs = b .structs; is = λ ds. b .is k ds }; inside = b .inside }
 
-  pub met-merge : (v : TVar) (w₂ : List ℕ) (r : Step) → m .what ≡ Merge v → After w′ (m .used) w₂ r (λ s. k s (v .0)) → After w u w₂ r (λ s. f k s)
+  met-merge : (u′ : Used) (v : TVar) (w₂ : List ℕ) (r : Step) → m ≡ Merge u′ v → After w′ u′ w₂ r (λ s. k s (v .0)) → After w u w₂ r (λ s. f k s)
   unfolding met
-  met-merge v w₂ r e n =
+  met-merge u′ v w₂ r e n =
+      let b : Meets w u w′ (Merge u′ v) f = rw e at a in
       record {
         changed = record {
           lay = n .changed .lay;
-          grown = grown-trans _ _ _ (a .grown) (n .changed .grown);
-          structs = n .changed .structs ∙ a .structs;
-          is = λ ds. n .changed .is ds ∙ (rw e at (a .is k ds));
+          grown = grown-trans _ _ _ (b .grown) (n .changed .grown);
+          structs = n .changed .structs ∙ b .structs;
+          is = λ ds. n .changed .is ds ∙ b .is k ds;
         };
         inside = n .inside;
       }
+
+pub merge-lay : (w : List ℕ) (u : Used) (w′ : List ℕ) (m : Meet) (f : (State → ℕ → Result (State × ℕ)) → State → Result (State × ℕ)) (u′ : Used) (v : TVar) → Meets w u w′ m f → m ≡ Merge u′ v → Lay w′ u′
+merge-lay w u w′ m f u′ v a e = let b : Meets w u w′ (Merge u′ v) f = rw e at a in b .lay
 
 module _ (w : List ℕ) (u : Used) (w′ : List ℕ) (m : Open) (f : Inner → State → Result (State × ℕ)) (a : Opens w u w′ m f) (k : Inner) where
   open-is : (o : Out) → m .what ≡ Stop o → After w u w′ (record { out = o; used = m .used }) (λ s. f k s)
@@ -92,7 +97,7 @@ module _ (w : List ℕ) (u : Used) (w′ : List ℕ) (t : Types) (f : State → 
           structs = a .structs;
           is = λ ds. bind-ok (outcome (t .out) (seen w′ (t .used) ds)) ∙ stop-any (t .out) (seen w′ (t .used) ds) (λ x. ok x) (λ x. ok (x .0, take (x .1) (t .tys))) h (sym p ∙ q) ∙ ap (λ (m : Result (State × List ℕ)). m >>= h) (a .is ds);
         };
-        inside = a .inside (sym p ∙ q);
+        inside = a .types .inside (sym p ∙ q);
       }
 
   types-then : (n : ℕ) (w₂ : List ℕ) (r : Step) → b ≡ Just n → After w′ (t .used) w₂ r (λ s. h (s, take n (t .tys))) → After w u w₂ r (λ s. f s >>= h)
@@ -107,6 +112,22 @@ module _ (w : List ℕ) (u : Used) (w′ : List ℕ) (t : Types) (f : State → 
         };
         inside = x .inside;
       }
+
+-- an answer at once
+pub settled-after : (w : List ℕ) (u : Used) (w′ : List ℕ) (r x : Step) (f : State → Result (State × ℕ)) → r ≡ x → After w u w′ x f → After w u w′ r f
+settled-after w u w′ r x f e a = rw e a
+
+pub follows-stop : (w : List ℕ) (a : Step) (b : Found) (h : State × ℕ → Result (State × ℕ)) → b ≡ done (a .out) → b ≡ Nothing → Follows w a w a h
+follows-stop w a b h p q = record { then = λ w₀ u₀ f x. after-stop w₀ u₀ w a f h b x p q }
+
+pub follows-then : (w : List ℕ) (a : Step) (b : Found) (t : ℕ) (h : State × ℕ → Result (State × ℕ)) (w₂ : List ℕ) (r : Step) → b ≡ done (a .out) → b ≡ Just t → After w (a .used) w₂ r (λ s. h (s, t)) → Follows w a w₂ r h
+follows-then w a b t h w₂ r p q n = record { then = λ w₀ u₀ f x. after-then w₀ u₀ w a f h b t w₂ r (x .changed) p q n }
+
+pub follows-types-stop : (w : List ℕ) (a : Types) (b : Found) (h : State × List ℕ → Result (State × ℕ)) → b ≡ done (a .out) → b ≡ Nothing → Follows-types w a w (step (a .out) (a .used)) h
+follows-types-stop w a b h p q = record { then = λ w₀ u₀ f x. types-stop w₀ u₀ w a f h b x p q }
+
+pub follows-types-then : (w : List ℕ) (a : Types) (b : Found) (m : ℕ) (h : State × List ℕ → Result (State × ℕ)) (w₂ : List ℕ) (r : Step) → b ≡ done (a .out) → b ≡ Just m → After w (a .used) w₂ r (λ s. h (s, take m (a .tys))) → Follows-types w a w₂ r h
+follows-types-then w a b m h w₂ r p q n = record { then = λ w₀ u₀ f x. types-then w₀ u₀ w a f h b x p m w₂ r q n }
 
 -- ---- the merge
 
@@ -192,68 +213,49 @@ module _ (left : ℕ) (case : TypingCase) (w : List ℕ) (u : Used) (lhs rhs : �
   arm-below b h hl hr e = rw e at (takes .below (view w u .args) (u .nodes) (node-below w u lhs l h hl el) (node-below w u rhs r h hr er))
 
   -- the arms that go on to nothing
-  pub arm-left : Lay w u → lhs < u .nodes → a ≡ Left → After w u w (record { out = Done lhs; used = u }) (λ s. join-impl left s (case-of case) lhs rhs)
+  pub arm-left : Lay w u → lhs < u .nodes → a ≡ Left → After w u w (step (Done lhs) u) (λ s. join-impl left s (case-of case) lhs rhs)
   unfolding by-arm outcome
   arm-left h i e = by Left w _ e (after-now w u (Done lhs) (λ s. by-arm (inner (left - 1)) s (case-of case) lhs rhs Left) h i (λ ds. refl))
 
-  pub arm-right : Lay w u → rhs < u .nodes → a ≡ Right → After w u w (record { out = Done rhs; used = u }) (λ s. join-impl left s (case-of case) lhs rhs)
+  pub arm-right : Lay w u → rhs < u .nodes → a ≡ Right → After w u w (step (Done rhs) u) (λ s. join-impl left s (case-of case) lhs rhs)
   unfolding by-arm outcome
   arm-right h i e = by Right w _ e (after-now w u (Done rhs) (λ s. by-arm (inner (left - 1)) s (case-of case) lhs rhs Right) h i (λ ds. refl))
 
-  pub arm-subtype : Lay w u → (lhs < u .nodes) × (rhs < u .nodes) → a ≡ SubtypeError → After w u w (record { out = Subtype lhs rhs; used = u }) (λ s. join-impl left s (case-of case) lhs rhs)
+  pub arm-subtype : Lay w u → (lhs < u .nodes) × (rhs < u .nodes) → a ≡ SubtypeError → After w u w (step (Subtype lhs rhs) u) (λ s. join-impl left s (case-of case) lhs rhs)
   unfolding by-arm outcome
   arm-subtype h i e = by SubtypeError w _ e (after-now w u (Subtype lhs rhs) (λ s. by-arm (inner (left - 1)) s (case-of case) lhs rhs SubtypeError) h i (λ ds. refl))
 
-  pub arm-arity : Lay w u → (lhs < u .nodes) × (rhs < u .nodes) → a ≡ ArityMismatch → After w u w (record { out = Arity lhs rhs; used = u }) (λ s. join-impl left s (case-of case) lhs rhs)
+  pub arm-arity : Lay w u → (lhs < u .nodes) × (rhs < u .nodes) → a ≡ ArityMismatch → After w u w (step (Arity lhs rhs) u) (λ s. join-impl left s (case-of case) lhs rhs)
   unfolding by-arm outcome
   arm-arity h i e = by ArityMismatch w _ e (after-now w u (Arity lhs rhs) (λ s. by-arm (inner (left - 1)) s (case-of case) lhs rhs ArityMismatch) h i (λ ds. refl))
 
-  pub arm-incompatible : Lay w u → (lhs < u .nodes) × (rhs < u .nodes) → a ≡ Incompatible → After w u w (record { out = IncompatibleO lhs rhs; used = u }) (λ s. join-impl left s (case-of case) lhs rhs)
+  pub arm-incompatible : Lay w u → (lhs < u .nodes) × (rhs < u .nodes) → a ≡ Incompatible → After w u w (step (IncompatibleO lhs rhs) u) (λ s. join-impl left s (case-of case) lhs rhs)
   unfolding by-arm outcome
   arm-incompatible h i e = by Incompatible w _ e (after-now w u (IncompatibleO lhs rhs) (λ s. by-arm (inner (left - 1)) s (case-of case) lhs rhs Incompatible) h i (λ ds. refl))
 
-  pub arm-disagree : Lay w u → a ≡ Disagree → After w u w (record { out = DisagreeO; used = u }) (λ s. join-impl left s (case-of case) lhs rhs)
+  pub arm-disagree : Lay w u → a ≡ Disagree → After w u w (step (DisagreeO) u) (λ s. join-impl left s (case-of case) lhs rhs)
   unfolding by-arm outcome
   arm-disagree h e = by Disagree w _ e (after-now w u DisagreeO (λ s. by-arm (inner (left - 1)) s (case-of case) lhs rhs Disagree) h tt (λ ds. refl))
 
   -- references
-  module _ (side mut : Bool) (t1 t2 : ℕ) (e : a ≡ Refs side mut t1 t2) (w₁ : List ℕ) (x : Step) (b : Found)
-      (after : After w u w₁ x (λ s. join-impl (left - 1) s (case-of case) t1 t2)) (p : b ≡ done (x .out)) where
-    abbrev then-ref : ℕ → State × ℕ → Result (State × ℕ)
-    then-ref loc y = sp (y .0) loc (d.Ref mut (y .1))
-
-    from-refs : (loc : ℕ) (w′ : List ℕ) (y : Step) → loc ≡ (if side then l .loc else r .loc) → After w u w′ y (λ s. join-impl (left - 1) s (case-of case) t1 t2 >>= then-ref loc) → After w u w′ y (λ s. join-impl left s (case-of case) lhs rhs)
-    unfolding by-arm
-    from-refs loc w′ y q n =
-        by (Refs side mut t1 t2) w′ y e
-        (after-seen (λ s. by-arm (inner (left - 1)) s (case-of case) lhs rhs (Refs side mut t1 t2))
-        (λ ds. rw (q, loc-is (seen w u ds) lhs l (el ds), loc-is (seen w u ds) rhs r (er ds))) n)
-
-    pub refs-stop : b ≡ Nothing → After w u w₁ x (λ s. join-impl left s (case-of case) lhs rhs)
-    refs-stop q = from-refs (if side then l .loc else r .loc) w₁ x refl (after-stop w u w₁ x (λ s. join-impl (left - 1) s (case-of case) t1 t2) (then-ref (if side then l .loc else r .loc)) b after p q)
-
-    pub refs-then : (t loc : ℕ) (w₂ : List ℕ) (y : Step) → b ≡ Just t → loc ≡ (if side then l .loc else r .loc) → After w₁ (x .used) w₂ y (λ s. sp s loc (d.Ref mut t)) → After w u w₂ y (λ s. join-impl left s (case-of case) lhs rhs)
-    refs-then t loc w₂ y q i n = from-refs loc w₂ y i (after-then w u w₁ x (λ s. join-impl (left - 1) s (case-of case) t1 t2) (then-ref loc) b t w₂ y (after .changed) p q n)
+  pub arm-refs : (side mut : Bool) (t1 t2 loc : ℕ) (w₁ : List ℕ) (x : Step) (w₂ : List ℕ) (y : Step) → a ≡ Refs side mut t1 t2 → loc ≡ (if side then l .loc else r .loc)
+      → After w u w₁ x (λ s. join-impl (left - 1) s (case-of case) t1 t2) → Follows w₁ x w₂ y (ref-at loc mut) → After w u w₂ y (λ s. join-impl left s (case-of case) lhs rhs)
+  unfolding by-arm
+  arm-refs side mut t1 t2 loc w₁ x w₂ y e q after n =
+      by (Refs side mut t1 t2) w₂ y e
+      (after-seen (λ s. by-arm (inner (left - 1)) s (case-of case) lhs rhs (Refs side mut t1 t2))
+      (λ ds. rw (q, loc-is (seen w u ds) lhs l (el ds), loc-is (seen w u ds) rhs r (er ds)))
+      (n .then w u (λ s. join-impl (left - 1) s (case-of case) t1 t2) after))
 
   -- named types
-  module _ (k : Mark) (n : TypeName) (first1 many1 first2 many2 : ℕ) (e : a ≡ Applies k n first1 many1 first2 many2) (w₁ : List ℕ) (x : Types) (b : Found)
-      (joined : Joined w u w₁ x (λ s. join-impl-types (inner (left - 1)) s (case-of case) (args-at s (places first1 many1)) (args-at s (places first2 many2)))) (p : b ≡ done (x .out)) where
-    abbrev then-apply : State × List ℕ → Result (State × ℕ)
-    then-apply y = sp (y .0) (r .loc) (d.Apply (mark-of k) (name-of n) (y .1))
-
-    from-applies : (w′ : List ℕ) (y : Step)
-        → After w u w′ y (λ s. join-impl-types (inner (left - 1)) s (case-of case) (args-at s (places first1 many1)) (args-at s (places first2 many2)) >>= then-apply)
-        → After w u w′ y (λ s. join-impl left s (case-of case) lhs rhs)
-    unfolding by-arm
-    from-applies w′ y m =
-        by (Applies k n first1 many1 first2 many2) w′ y e
-        (after-seen (λ s. by-arm (inner (left - 1)) s (case-of case) lhs rhs (Applies k n first1 many1 first2 many2)) (λ ds. rw (loc-is (seen w u ds) rhs r (er ds))) m)
-
-    pub applies-stop : b ≡ Nothing → After w u w₁ (record { out = x .out; used = x .used }) (λ s. join-impl left s (case-of case) lhs rhs)
-    applies-stop q = from-applies w₁ _ (types-stop w u w₁ x _ then-apply b joined p q)
-
-    pub applies-then : (m : ℕ) (w₂ : List ℕ) (y : Step) → b ≡ Just m → After w₁ (x .used) w₂ y (λ s. sp s (r .loc) (d.Apply (mark-of k) (name-of n) (take m (x .tys)))) → After w u w₂ y (λ s. join-impl left s (case-of case) lhs rhs)
-    applies-then m w₂ y q z = from-applies w₂ y (types-then w u w₁ x _ then-apply b joined p m w₂ y q z)
+  pub arm-applies : (k : Mark) (n : TypeName) (first1 many1 first2 many2 : ℕ) (w₁ : List ℕ) (x : Types) (w₂ : List ℕ) (y : Step) → a ≡ Applies k n first1 many1 first2 many2
+      → Joined w u w₁ x (λ s. join-impl-types (inner (left - 1)) s (case-of case) (args-at s (places first1 many1)) (args-at s (places first2 many2)))
+      → Follows-types w₁ x w₂ y (apply-at (r .loc) (mark-of k) (name-of n)) → After w u w₂ y (λ s. join-impl left s (case-of case) lhs rhs)
+  unfolding by-arm
+  arm-applies k n first1 many1 first2 many2 w₁ x w₂ y e joined m =
+      by (Applies k n first1 many1 first2 many2) w₂ y e
+      (after-seen (λ s. by-arm (inner (left - 1)) s (case-of case) lhs rhs (Applies k n first1 many1 first2 many2)) (λ ds. rw (loc-is (seen w u ds) rhs r (er ds)))
+      (m .then w u (λ s. join-impl-types (inner (left - 1)) s (case-of case) (args-at s (places first1 many1)) (args-at s (places first2 many2))) joined))
 
   -- two variables
   pub arm-vars : (id1 id2 : TVar) (w₁ : List ℕ) (x : Step) → a ≡ Vars id1 id2 → After w u w₁ x (λ s. join-tvar (inner (left - 1)) s (case-of case) (l .loc) (id1 .0) (r .loc) (id2 .0)) → After w u w₁ x (λ s. join-impl left s (case-of case) lhs rhs)
@@ -283,7 +285,7 @@ module _ (left : ℕ) (case : TypingCase) (w : List ℕ) (u : Used) (lhs rhs : �
       rw (← e, meet-tvar, join-arm)
       (next-same (seen w u ds) _ _ (rw (fresh-loc (seen w u ds) lhs, fresh-loc (seen w u ds) rhs, loc-is (seen w u ds) lhs l (el ds), loc-is (seen w u ds) rhs r (er ds))))
 
-  module _ (id : TVar) (w₁ : List ℕ) (m : Met) where
+  module _ (id : TVar) (w₁ : List ℕ) (m : Meet) where
     from-left : (w′ : List ℕ) (x : Step) → a ≡ VarLeft id → After w u w′ x (λ s. meet-tvar (merge-left (id .0)) s lhs rhs lhs (id .0) rhs) → After w u w′ x (λ s. join-impl left s (case-of case) lhs rhs)
     unfolding by-arm
     from-left w′ x e n =
@@ -297,15 +299,15 @@ module _ (left : ℕ) (case : TypingCase) (w : List ℕ) (u : Used) (lhs rhs : �
         (after-seen (λ s. by-arm (inner (left - 1)) s (case-of case) lhs rhs (VarRight id)) (λ ds. right-by (id .0) ds (get (seen w u ds) (id .0)) refl) n)
 
     module _ (e : a ≡ VarLeft id) (meets : Meets w u w₁ m (λ k s. meet-tvar k s lhs rhs lhs (id .0) rhs)) where
-      pub left-is : (o : Out) → m .what ≡ Is o → After w u w₁ (record { out = o; used = m .used }) (λ s. join-impl left s (case-of case) lhs rhs)
-      left-is o q = from-left w₁ _ e (met-is w u w₁ m (λ k s. meet-tvar k s lhs rhs lhs (id .0) rhs) meets (merge-left (id .0)) o q)
+      pub left-is : (x : Step) → m ≡ Is x → After w u w₁ x (λ s. join-impl left s (case-of case) lhs rhs)
+      left-is x q = from-left w₁ x e (met-is w u w₁ m (λ k s. meet-tvar k s lhs rhs lhs (id .0) rhs) meets (merge-left (id .0)) x q)
 
-      pub left-merge : (v : TVar) (w₂ : List ℕ) (x : Step) → m .what ≡ Merge v → After w₁ (m .used) w₂ x (λ s. join-tvar (inner (left - 1)) s (case-of case) (l .loc) (id .0) (r .loc) (v .0)) → After w u w₂ x (λ s. join-impl left s (case-of case) lhs rhs)
-      left-merge v w₂ x q n = from-left w₂ x e (met-merge w u w₁ m (λ k s. meet-tvar k s lhs rhs lhs (id .0) rhs) meets (merge-left (id .0)) v w₂ x q n)
+      pub left-merge : (u₁ : Used) (v : TVar) (w₂ : List ℕ) (x : Step) → m ≡ Merge u₁ v → After w₁ u₁ w₂ x (λ s. join-tvar (inner (left - 1)) s (case-of case) (l .loc) (id .0) (r .loc) (v .0)) → After w u w₂ x (λ s. join-impl left s (case-of case) lhs rhs)
+      left-merge u₁ v w₂ x q n = from-left w₂ x e (met-merge w u w₁ m (λ k s. meet-tvar k s lhs rhs lhs (id .0) rhs) meets (merge-left (id .0)) u₁ v w₂ x q n)
 
     module _ (e : a ≡ VarRight id) (meets : Meets w u w₁ m (λ k s. meet-tvar k s lhs rhs rhs (id .0) lhs)) where
-      pub right-is : (o : Out) → m .what ≡ Is o → After w u w₁ (record { out = o; used = m .used }) (λ s. join-impl left s (case-of case) lhs rhs)
-      right-is o q = from-right w₁ _ e (met-is w u w₁ m (λ k s. meet-tvar k s lhs rhs rhs (id .0) lhs) meets (merge-right (id .0)) o q)
+      pub right-is : (x : Step) → m ≡ Is x → After w u w₁ x (λ s. join-impl left s (case-of case) lhs rhs)
+      right-is x q = from-right w₁ x e (met-is w u w₁ m (λ k s. meet-tvar k s lhs rhs rhs (id .0) lhs) meets (merge-right (id .0)) x q)
 
-      pub right-merge : (v : TVar) (w₂ : List ℕ) (x : Step) → m .what ≡ Merge v → After w₁ (m .used) w₂ x (λ s. join-tvar (inner (left - 1)) s (case-of case) (l .loc) (v .0) (r .loc) (id .0)) → After w u w₂ x (λ s. join-impl left s (case-of case) lhs rhs)
-      right-merge v w₂ x q n = from-right w₂ x e (met-merge w u w₁ m (λ k s. meet-tvar k s lhs rhs rhs (id .0) lhs) meets (merge-right (id .0)) v w₂ x q n)
+      pub right-merge : (u₁ : Used) (v : TVar) (w₂ : List ℕ) (x : Step) → m ≡ Merge u₁ v → After w₁ u₁ w₂ x (λ s. join-tvar (inner (left - 1)) s (case-of case) (l .loc) (v .0) (r .loc) (id .0)) → After w u w₂ x (λ s. join-impl left s (case-of case) lhs rhs)
+      right-merge u₁ v w₂ x q n = from-right w₂ x e (met-merge w u w₁ m (λ k s. meet-tvar k s lhs rhs rhs (id .0) lhs) meets (merge-right (id .0)) u₁ v w₂ x q n)

@@ -1,23 +1,23 @@
 // typing/core.rs: join, subtype, join_impl, join_impl_types, join_tvar. What calls no join is in `arms` and `merge`.
 ghost use mathlib.Core.Path.{_≡_};
-ghost use mathlib.Core.Option.{none};
 ghost use Prim.Native.Nat.{ℕ, _≤_, _<_};
-ghost use Rattle.definition.specs.Types.{Apply, if_then_else_};
-ghost use Rattle.definition.specs.Types as d;
+ghost use Rattle.definition.specs.Types.{if_then_else_};
 ghost use Rattle.definition.specs.Store.{args-at};
 ghost use Rattle.definition.specs.Join.{join, subtype, join-impl, join-impl-types, join-tvar};
 ghost use Rattle.table.specs.Rows.{places};
-ghost use Rattle.table.specs.State.{Lay, After};
+ghost use Rattle.table.specs.State.{Lay, After, Nodes-in};
 ghost use Rattle.arms.specs.Arms.{case-of};
-ghost use Rattle.join.specs.Join.{Args-in, Joined, Fewer};
+ghost use Rattle.names.specs.Names.{mark-of, name-of};
+ghost use Rattle.join.specs.Join.{Args-in, Joined, Fewer, step, Follows, Follows-types, Types-in, ref-at, apply-at};
 use arms::Arm;
 use arms::TypingCase;
 use merge::Meet;
 use merge::Opened;
 use names::MAX_DEPTH;
+use names::Mark;
 use names::TVar;
+use names::TypeName;
 use table::Found;
-use table::Node;
 use table::Out;
 use table::Shape;
 use table::Step;
@@ -30,10 +30,43 @@ struct Types {
     tys: [u32; 8],
 }
 
+fn settled(u: Used, o: Out) -> Step
+    ensures { λ r. ⌜ r ≡ step o u ⌝ }
+{
+    Step { out: o, used: u }
+}
+
 fn pick_loc(left: bool, loc1: u32, loc2: u32) -> u32
     ensures { λ r. ⌜ r ≡ (if left then loc1 else loc2) ⌝ }
 {
     if left { loc1 } else { loc2 }
+}
+
+// The reference to the type that was joined, if one was.
+fn push_ref(w: &mut [u32], a: Step, loc: u32, mutable: bool) -> Step
+    requires { ⌜ Lay (now w) (a .used) × Nodes-in (a .used .nodes) (a .out) ⌝ }
+    ensures { λ r. ⌜ Follows (now (w .entry)) a (now (w .exit)) r (ref-at loc mutable) ⌝ }
+{
+    let o = a.out;
+    let u = a.used;
+    let Found::Just(t) = table::done_of(o) else {
+        return a;
+    };
+    table::push_node(w, u, loc, Shape::Ref(mutable, t))
+}
+
+// The named type of the arguments that were joined, if they were.
+fn push_types(w: &mut [u32], a: Types, loc: u32, k: Mark, n: TypeName) -> Step
+    requires { ⌜ Lay (now w) (a .used) × Types-in a ⌝ }
+    ensures { λ r. ⌜ Follows-types (now (w .entry)) a (now (w .exit)) r (apply-at loc (mark-of k) (name-of n)) ⌝ }
+{
+    let o = a.out;
+    let u = a.used;
+    let tys = a.tys;
+    let Found::Just(m) = table::done_of(o) else {
+        return settled(u, o);
+    };
+    table::push_apply(w, u, loc, k, n, tys, m)
 }
 
 fn fewer(a: u32, b: u32) -> u32
@@ -62,78 +95,37 @@ fn join_impl(w: &mut [u32], u: Used, case: TypingCase, left: u32, lhs: u32, rhs:
     ensures { λ r. ⌜ After (now (w .entry)) u (now (w .exit)) r (λ s. join-impl left s (case-of case) lhs rhs) ⌝ }
 {
     if left == 0 {
-        return Step {
-            out: Out::Deep,
-            used: u,
-        };
+        return settled(u, Out::Deep);
     }
     let l = table::node_at(w, u, lhs);
     let r = table::node_at(w, u, rhs);
     let ls = l.shape;
     let rs = r.shape;
     match arms::arm_of(case, ls, rs) {
-        Arm::Left => Step {
-            out: Out::Done(lhs),
-            used: u,
-        },
-        Arm::Right => Step {
-            out: Out::Done(rhs),
-            used: u,
-        },
+        Arm::Left => settled(u, Out::Done(lhs)),
+        Arm::Right => settled(u, Out::Done(rhs)),
         Arm::Refs(side, mutable, t1, t2) => {
-            let a = join_impl(w, u, case, left - 1, t1, t2);
-            let ao = a.out;
-            let Found::Just(t) = table::done_of(ao) else {
-                return a;
-            };
             let loc = pick_loc(side, l.loc, r.loc);
-            table::push_node(w, a.used, loc, Shape::Ref(mutable, t))
+            let a = join_impl(w, u, case, left - 1, t1, t2);
+            push_ref(w, a, loc, mutable)
         }
         Arm::Applies(k, n, first1, many1, first2, many2) => {
             let a = join_impl_types(w, u, case, left - 1, first1, many1, first2, many2);
-            let ao = a.out;
-            let au = a.used;
-            let tys = a.tys;
-            let Found::Just(m) = table::done_of(ao) else {
-                return Step { out: ao, used: au };
-            };
-            table::push_apply(w, au, r.loc, k, n, tys, m)
+            push_types(w, a, r.loc, k, n)
         }
         Arm::Vars(id1, id2) => join_tvar(w, u, case, left - 1, l.loc, id1, r.loc, id2),
-        Arm::VarLeft(id) => {
-            let a = merge::meet_tvar(w, u, lhs, rhs, lhs, id, rhs);
-            let what = a.what;
-            let au = a.used;
-            match what {
-                Meet::Is(o) => Step { out: o, used: au },
-                Meet::Merge(fresh) => join_tvar(w, au, case, left - 1, l.loc, id, r.loc, fresh),
-            }
-        }
-        Arm::VarRight(id) => {
-            let a = merge::meet_tvar(w, u, lhs, rhs, rhs, id, lhs);
-            let what = a.what;
-            let au = a.used;
-            match what {
-                Meet::Is(o) => Step { out: o, used: au },
-                Meet::Merge(fresh) => join_tvar(w, au, case, left - 1, l.loc, fresh, r.loc, id),
-            }
-        }
-        Arm::SubtypeError => Step {
-            out: Out::Subtype(lhs, rhs),
-            used: u,
+        Arm::VarLeft(id) => match merge::meet_tvar(w, u, lhs, rhs, lhs, id, rhs) {
+            Meet::Is(a) => a,
+            Meet::Merge(au, new) => join_tvar(w, au, case, left - 1, l.loc, id, r.loc, new),
         },
-        Arm::ArityMismatch => Step {
-            out: Out::Arity(lhs, rhs),
-            used: u,
+        Arm::VarRight(id) => match merge::meet_tvar(w, u, lhs, rhs, rhs, id, lhs) {
+            Meet::Is(a) => a,
+            Meet::Merge(au, new) => join_tvar(w, au, case, left - 1, l.loc, new, r.loc, id),
         },
-        Arm::Incompatible => Step {
-            out: Out::Incompatible(lhs, rhs),
-            used: u,
-        },
-        Arm::Disagree => Step {
-            out: Out::Disagree,
-            used: u,
-        },
+        Arm::SubtypeError => settled(u, Out::Subtype(lhs, rhs)),
+        Arm::ArityMismatch => settled(u, Out::Arity(lhs, rhs)),
+        Arm::Incompatible => settled(u, Out::Incompatible(lhs, rhs)),
+        Arm::Disagree => settled(u, Out::Disagree),
     }
 }
 

@@ -26,7 +26,6 @@ use Rattle.table.proofs.Steps.{grown-refl, grown-trans, after-now, after-stop, 
 use Rattle.merge.specs.Merge.{Inner, open-ends, open-types, open-tvar, opened, Opens, show-both, close-tvar, meet-tvar, met, Meets}
 use Rattle.merge.specs.declared.Open.{Open}
 use Rattle.merge.specs.declared.Opened.the-variants.{Ready, Stop}
-use Rattle.merge.specs.declared.Met.{Met}
 use Rattle.merge.specs.declared.Meet.the-variants.{Is, Merge}
 use Rattle.merge.proofs.Answers.{then-is, node-in, next-stop-in, nodes-grow, loc-is, value-is, anything-is}
 
@@ -312,7 +311,7 @@ module _ (lhs rhs var id other : ℕ) where
 
   module _ (w : List ℕ) (u : Used) (f : Found) (is : (ds : List Struct) → found f ≡ get (seen w u ds) id) where
     pub meets-free : (w′ : List ℕ) (r : Step) → f ≡ Nothing → After w u w′ r (λ s. join-unbound s lhs rhs var id other)
-        → Meets w u w′ (record { what = Is (r .out); used = r .used }) (λ k s. meet-tvar k s lhs rhs var id other)
+        → Meets w u w′ (Is r) (λ k s. meet-tvar k s lhs rhs var id other)
     unfolding met
     meets-free w′ r e a =
         record {
@@ -324,7 +323,7 @@ module _ (lhs rhs var id other : ℕ) where
         }
 
     module _ (t : ℕ) (to : f ≡ Just t) (w′ : List ℕ) (r : Step) (a : Changed w u w′ r (λ s. next-tvar s)) (b : Found) (p : b ≡ done (r .out)) where
-      pub meets-stop : b ≡ Nothing → Meets w u w′ (record { what = Is (r .out); used = r .used }) (λ k s. meet-tvar k s lhs rhs var id other)
+      pub meets-stop : b ≡ Nothing → Meets w u w′ (Is r) (λ k s. meet-tvar k s lhs rhs var id other)
       unfolding met
       meets-stop q =
           record {
@@ -336,7 +335,7 @@ module _ (lhs rhs var id other : ℕ) where
           }
 
       pub meets-fresh : (n : ℕ) (v : TVar) (w₂ : List ℕ) → b ≡ Just n → v .0 ≡ n → Stored w′ (r .used) w₂ (λ s. insert s (v .0) other)
-          → Meets w u w₂ (record { what = Merge v; used = r .used }) (λ k s. meet-tvar k s lhs rhs var id other)
+          → Meets w u w₂ (Merge (r .used) v) (λ k s. meet-tvar k s lhs rhs var id other)
       unfolding met
       meets-fresh n v w₂ q e h =
           record {

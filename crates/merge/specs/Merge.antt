@@ -16,7 +16,6 @@ use Rattle.merge.specs.declared.Opened.the-variants.{Ready, Stop}
 use Rattle.merge.specs.declared.Open.{Open}
 use Rattle.merge.specs.declared.Meet.{Meet}
 use Rattle.merge.specs.declared.Meet.the-variants.{Is, Merge}
-use Rattle.merge.specs.declared.Met.{Met}
 
 -- ---- before the inner join. What follows gets the state, ty1, ty2, new-tvar and var2
 
@@ -87,17 +86,22 @@ meet-tvar merge subst lhs rhs var id other = elim (get subst id) [
     merge (insert subst new-tvar other) new-tvar
 ]
 
+-- the rows in use
+abbrev pub used-then : Meet → Used
+used-then (Is a) = a .used
+used-then (Merge u new-tvar) = u
+
 unfoldable pub met : (State → ℕ → Result (State × ℕ)) → Meet → State → Result (State × ℕ)
-met merge (Is o) subst = outcome o subst
-met merge (Merge new-tvar) subst = merge subst (new-tvar .0)
+met merge (Is a) subst = outcome (a .out) subst
+met merge (Merge u new-tvar) subst = merge subst (new-tvar .0)
 
-abbrev pub Meet-in : ℕ → Meet → Type 0
-Meet-in n (Is o) = Nodes-in n o
-Meet-in n (Merge new-tvar) = Unit {0}
+abbrev pub Meet-in : Meet → Type 0
+Meet-in (Is a) = Nodes-in (a .used .nodes) (a .out)
+Meet-in (Merge u new-tvar) = Unit {0}
 
-pub record Meets (w : List ℕ) (u : Used) (w′ : List ℕ) (r : Met) (f : (State → ℕ → Result (State × ℕ)) → State → Result (State × ℕ)) : Type 0 where
-  pub lay : Lay w′ (r .used)
-  pub grown : Grown (view w u) (view w′ (r .used))
-  pub structs : view w′ (r .used) .structs ≡ view w u .structs
-  pub is : (merge : State → ℕ → Result (State × ℕ)) (ds : List Struct) → met merge (r .what) (seen w′ (r .used) ds) ≡ f merge (seen w u ds)
-  pub inside : Meet-in (r .used .nodes) (r .what)
+pub record Meets (w : List ℕ) (u : Used) (w′ : List ℕ) (r : Meet) (f : (State → ℕ → Result (State × ℕ)) → State → Result (State × ℕ)) : Type 0 where
+  pub lay : Lay w′ (used-then r)
+  pub grown : Grown (view w u) (view w′ (used-then r))
+  pub structs : view w′ (used-then r) .structs ≡ view w u .structs
+  pub is : (merge : State → ℕ → Result (State × ℕ)) (ds : List Struct) → met merge r (seen w′ (used-then r) ds) ≡ f merge (seen w u ds)
+  pub inside : Meet-in r

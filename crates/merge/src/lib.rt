@@ -27,13 +27,8 @@ pub struct Open {
 
 // A variable met another type: the answer, or a fresh variable that took the type, to merge with.
 pub enum Meet {
-    Is(Out),
-    Merge(TVar),
-}
-
-pub struct Met {
-    pub what: Meet,
-    pub used: Used,
+    Is(Step),
+    Merge(Used, TVar),
 }
 
 // The type of a chain's end: a new `_` where it is not bound.
@@ -272,36 +267,22 @@ fn join_unbound(w: &mut [u32], u: Used, lhs: u32, rhs: u32, var: u32, id: TVar, 
 }
 
 // The variable at node `var` meets another type: not bound, it takes the type; else a fresh variable does.
-pub fn meet_tvar(w: &mut [u32], u: Used, lhs: u32, rhs: u32, var: u32, id: TVar, other: u32) -> Met
+pub fn meet_tvar(w: &mut [u32], u: Used, lhs: u32, rhs: u32, var: u32, id: TVar, other: u32) -> Meet
     requires { ⌜ Lay (now w) u × ((lhs < u .nodes) × ((rhs < u .nodes) × ((var < u .nodes) × (other < u .nodes)))) ⌝ }
     ensures { λ r. ⌜ Meets (now (w .entry)) u (now (w .exit)) r (λ k s. meet-tvar k s lhs rhs var (id .0) other) ⌝ }
 {
     match table::bound_at(w, u, id) {
-        Found::Nothing => {
-            let a = join_unbound(w, u, lhs, rhs, var, id, other);
-            let ao = a.out;
-            let au = a.used;
-            Met {
-                what: Meet::Is(ao),
-                used: au,
-            }
-        }
+        Found::Nothing => Meet::Is(join_unbound(w, u, lhs, rhs, var, id, other)),
         Found::Just(_) => {
             let a = table::take_var(w, u);
             let ao = a.out;
             let au = a.used;
             match table::done_of(ao) {
-                Found::Nothing => Met {
-                    what: Meet::Is(ao),
-                    used: au,
-                },
+                Found::Nothing => Meet::Is(a),
                 Found::Just(n) => {
                     let new_tvar = table::tvar(n);
                     table::bind_var(w, au, new_tvar, other);
-                    Met {
-                        what: Meet::Merge(new_tvar),
-                        used: au,
-                    }
+                    Meet::Merge(au, new_tvar)
                 }
             }
         }

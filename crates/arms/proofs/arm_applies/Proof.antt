@@ -1,13 +1,9 @@
+-- `arms::arm_applies` meets its contract. Assumes nothing.
 use mathlib.Core.Path.{sym, _∙_}
 use Rattle.arms.proofs.Guards.{applies-same, applies-disagree, applies-arity, applies-other-left, applies-other-right}
 use borrow.Author.Needs.{needs}
 use Rattle.arms.proofs.arm_applies.Statement.{statement}
 use Rattle.arms.proofs.arm_applies.Tie as tie
-use Rattle.arms.proofs.arm_applies.Reads as reads
-use Rattle.arms.proofs.arm_applies.Lts as lts
-use Rattle.arms.proofs.is_multiple.Reads as is-multiple-reads
-use Rattle.arms.proofs.same_mark.Reads as same-mark-reads
-use Rattle.arms.proofs.same_name.Reads as same-name-reads
 
 same-name-requires : tie.Need-same-name-requires
 same-name-requires c κs = search needs

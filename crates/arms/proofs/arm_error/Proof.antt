@@ -1,3 +1,4 @@
+-- `arms::arm_error` meets its contract. Assumes nothing.
 use Rattle.arms.specs.Arms.{by-arm}
 use Rattle.definition.specs.Store.{with-args}
 use Rattle.definition.specs.Join.{arm, join-arm}
@@ -5,8 +6,6 @@ use mathlib.Core.Path.{refl}
 use borrow.Author.Needs.{needs}
 use Rattle.arms.proofs.arm_error.Statement.{statement}
 use Rattle.arms.proofs.arm_error.Tie as tie
-use Rattle.arms.proofs.arm_error.Reads as reads
-use Rattle.arms.proofs.arm_error.Lts as lts
 
 enum-told : tie.Need-enum-told
 enum-told c = search needs

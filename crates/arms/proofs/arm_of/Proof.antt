@@ -1,3 +1,4 @@
+-- `arms::arm_of` meets its contract. Assumes nothing.
 use Rattle.arms.specs.Arms.{by-arm}
 use Rattle.definition.specs.Store.{with-args}
 use Rattle.definition.specs.Join.{arm, join-arm}
@@ -5,14 +6,6 @@ use mathlib.Core.Path.{refl}
 use borrow.Author.Needs.{needs}
 use Rattle.arms.proofs.arm_of.Statement.{statement}
 use Rattle.arms.proofs.arm_of.Tie as tie
-use Rattle.arms.proofs.arm_of.Reads as reads
-use Rattle.arms.proofs.arm_of.Lts as lts
-use Rattle.arms.proofs.arm_apply.Reads as arm-apply-reads
-use Rattle.arms.proofs.arm_error.Reads as arm-error-reads
-use Rattle.arms.proofs.arm_param.Reads as arm-param-reads
-use Rattle.arms.proofs.arm_ref.Reads as arm-ref-reads
-use Rattle.arms.proofs.arm_unit.Reads as arm-unit-reads
-use Rattle.arms.proofs.arm_var.Reads as arm-var-reads
 
 enum-told : tie.Need-enum-told
 enum-told c = search needs

@@ -1,3 +1,4 @@
+-- `arms::arm_param` meets its contract. Assumes nothing.
 use borrow.Author.Tests.{eq-eqb, ne-eqb}
 use Rattle.arms.specs.Arms.{by-arm}
 use Rattle.definition.specs.Store.{with-args}
@@ -6,8 +7,6 @@ use mathlib.Core.Path.{refl}
 use borrow.Author.Needs.{needs}
 use Rattle.arms.proofs.arm_param.Statement.{statement}
 use Rattle.arms.proofs.arm_param.Tie as tie
-use Rattle.arms.proofs.arm_param.Reads as reads
-use Rattle.arms.proofs.arm_param.Lts as lts
 
 enum-told : tie.Need-enum-told
 enum-told c = search needs

@@ -1,3 +1,4 @@
+-- `arms::arm_ref` meets its contract. Assumes nothing.
 use Rattle.arms.specs.Arms.{by-arm}
 use Rattle.definition.specs.Store.{with-args}
 use Rattle.definition.specs.Join.{arm, join-arm}
@@ -5,9 +6,6 @@ use mathlib.Core.Path.{refl}
 use borrow.Author.Needs.{needs}
 use Rattle.arms.proofs.arm_ref.Statement.{statement}
 use Rattle.arms.proofs.arm_ref.Tie as tie
-use Rattle.arms.proofs.arm_ref.Reads as reads
-use Rattle.arms.proofs.arm_ref.Lts as lts
-use Rattle.arms.proofs.arm_refs.Reads as arm-refs-reads
 
 enum-told : tie.Need-enum-told
 enum-told c = search needs

@@ -1,9 +1,8 @@
+-- `arms::arm_refs` meets its contract. Assumes nothing.
 use Rattle.arms.proofs.Guards.{join-left-mut, join-left-imm, subtype-left-mut, subtype-both-imm, subtype-imm-mut}
 use borrow.Author.Needs.{needs}
 use Rattle.arms.proofs.arm_refs.Statement.{statement}
 use Rattle.arms.proofs.arm_refs.Tie as tie
-use Rattle.arms.proofs.arm_refs.Reads as reads
-use Rattle.arms.proofs.arm_refs.Lts as lts
 
 enum-told : tie.Need-enum-told
 enum-told c = search needs

@@ -1,3 +1,4 @@
+-- `arms::arm_unit` meets its contract. Assumes nothing.
 use Rattle.arms.specs.Arms.{by-arm}
 use Rattle.definition.specs.Store.{with-args}
 use Rattle.definition.specs.Join.{arm, join-arm}
@@ -5,8 +6,6 @@ use mathlib.Core.Path.{refl}
 use borrow.Author.Needs.{needs}
 use Rattle.arms.proofs.arm_unit.Statement.{statement}
 use Rattle.arms.proofs.arm_unit.Tie as tie
-use Rattle.arms.proofs.arm_unit.Reads as reads
-use Rattle.arms.proofs.arm_unit.Lts as lts
 
 enum-told : tie.Need-enum-told
 enum-told c = search needs

@@ -1,3 +1,4 @@
+-- `arms::arm_var` meets its contract. Assumes nothing.
 use borrow.Author.Tests.{eq-eqb, ne-eqb}
 use Rattle.arms.specs.Arms.{by-arm}
 use Rattle.definition.specs.Store.{with-args}
@@ -6,8 +7,6 @@ use mathlib.Core.Path.{refl}
 use borrow.Author.Needs.{needs}
 use Rattle.arms.proofs.arm_var.Statement.{statement}
 use Rattle.arms.proofs.arm_var.Tie as tie
-use Rattle.arms.proofs.arm_var.Reads as reads
-use Rattle.arms.proofs.arm_var.Lts as lts
 
 enum-told : tie.Need-enum-told
 enum-told c = search needs

@@ -1,9 +1,8 @@
+-- `arms::is_multiple` meets its contract. Assumes nothing.
 use Rattle.definition.specs.Join.{is-multiple}
 use borrow.Author.Needs.{needs}
 use Rattle.arms.proofs.is_multiple.Statement.{statement}
 use Rattle.arms.proofs.is_multiple.Tie as tie
-use Rattle.arms.proofs.is_multiple.Reads as reads
-use Rattle.arms.proofs.is_multiple.Lts as lts
 
 enum-told : tie.Need-enum-told
 enum-told c = search needs

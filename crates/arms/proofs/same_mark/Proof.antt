@@ -1,9 +1,8 @@
+-- `arms::same_mark` meets its contract. Assumes nothing.
 use Rattle.definition.specs.Join.{same-mark}
 use borrow.Author.Needs.{needs}
 use Rattle.arms.proofs.same_mark.Statement.{statement}
 use Rattle.arms.proofs.same_mark.Tie as tie
-use Rattle.arms.proofs.same_mark.Reads as reads
-use Rattle.arms.proofs.same_mark.Lts as lts
 
 enum-told : tie.Need-enum-told
 enum-told c = search needs

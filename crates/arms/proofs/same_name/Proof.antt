@@ -1,9 +1,8 @@
+-- `arms::same_name` meets its contract. Assumes nothing.
 use Rattle.definition.specs.Join.{same-name}
 use borrow.Author.Needs.{needs}
 use Rattle.arms.proofs.same_name.Statement.{statement}
 use Rattle.arms.proofs.same_name.Tie as tie
-use Rattle.arms.proofs.same_name.Reads as reads
-use Rattle.arms.proofs.same_name.Lts as lts
 
 enum-known-n1 : tie.Need-enum-known-n1
 enum-known-n1 c = search needs

@@ -1,4 +1,6 @@
-use Rattle.join.proofs.Operands.{ready-in, tvar-stop, tvar-inner, tvar-close, impl-deep, arm-below, arm-left, arm-right, arm-subtype, arm-arity, arm-incompatible, arm-disagree, refs-stop, refs-then, applies-stop, applies-then, arm-vars, left-is, left-merge, right-is, right-merge}
+-- `join::join_impl`, `join_impl_types` and `join_tvar` meet their contracts, as one cycle of calls. Twice the depth left falls, and stands one higher where
+-- the argument walk and the merge call the operand walk at the same depth. Assumes nothing.
+use Rattle.join.proofs.Operands.{merge-lay, settled-after, ready-in, tvar-stop, tvar-inner, tvar-close, impl-deep, arm-below, arm-left, arm-right, arm-subtype, arm-arity, arm-incompatible, arm-disagree, arm-refs, arm-applies, arm-vars, left-is, left-merge, right-is, right-merge}
 use Rattle.join.proofs.Args.{Gathering, gather-none, gather-room, gather-in, gather-stop, gather-more, gathered}
 use Rattle.merge.proofs.Answers.{node-in, still-in}
 use Rattle.arms.specs.Arms.{case-of}
@@ -21,14 +23,15 @@ use Rattle.join.proofs.+join_impl+join_impl_types+join_tvar.Lts-join_tv
 use Rattle.arms.proofs.arm_of.Reads as arm-of-reads
 use Rattle.join.proofs.fewer.Reads as fewer-reads
 use Rattle.join.proofs.pick_loc.Reads as pick-loc-reads
+use Rattle.join.proofs.push_ref.Reads as push-ref-reads
+use Rattle.join.proofs.push_types.Reads as push-types-reads
+use Rattle.join.proofs.settled.Reads as settled-reads
 use Rattle.merge.proofs.close_tvar.Reads as close-tvar-reads
 use Rattle.merge.proofs.meet_tvar.Reads as meet-tvar-reads
 use Rattle.merge.proofs.open_tvar.Reads as open-tvar-reads
 use Rattle.table.proofs.arg_at.Reads as arg-at-reads
 use Rattle.table.proofs.done_of.Reads as done-of-reads
 use Rattle.table.proofs.node_at.Reads as node-at-reads
-use Rattle.table.proofs.push_apply.Reads as push-apply-reads
-use Rattle.table.proofs.push_node.Reads as push-node-reads
 use Rattle.join.proofs.+join_impl+join_impl_types+join_tvar.{statement}
 use Rattle.join.proofs.+join_impl+join_impl_types+join_tvar.Tie.{close}
 
@@ -72,7 +75,7 @@ join-tvar-below t =
     and 1 join-tvar-kinds.ps (falls 1 join-tvar-kinds.ps _<_ μ-join-tvar t) join-tvar.Pre
 
 abbrev join-impl-calls : ℕ → join-impl-lts.Claims
-join-impl-calls t = (node-at-reads.Asked, node-at-reads.Learnt, arm-of-reads.Asked, arm-of-reads.Learnt, join-impl-below t, join-impl.Post, done-of-reads.Asked, done-of-reads.Learnt, pick-loc-reads.Asked, pick-loc-reads.Learnt, push-node-reads.Asked, push-node-reads.Learnt, join-impl-types-below t, join-impl-types.Post, push-apply-reads.Asked, push-apply-reads.Learnt, join-tvar-below t, join-tvar.Post, meet-tvar-reads.Asked, meet-tvar-reads.Learnt)
+join-impl-calls t = (settled-reads.Asked, settled-reads.Learnt, node-at-reads.Asked, node-at-reads.Learnt, arm-of-reads.Asked, arm-of-reads.Learnt, pick-loc-reads.Asked, pick-loc-reads.Learnt, join-impl-below t, join-impl.Post, push-ref-reads.Asked, push-ref-reads.Learnt, join-impl-types-below t, join-impl-types.Post, push-types-reads.Asked, push-types-reads.Learnt, join-tvar-below t, join-tvar.Post, meet-tvar-reads.Asked, meet-tvar-reads.Learnt)
 
 abbrev join-impl-types-calls : ℕ → join-impl-types-lts.Claims
 join-impl-types-calls t = (fewer-reads.Asked, fewer-reads.Learnt, arg-at-reads.Asked, arg-at-reads.Learnt, join-impl-below t, join-impl.Post, done-of-reads.Asked, done-of-reads.Learnt)
@@ -80,8 +83,11 @@ join-impl-types-calls t = (fewer-reads.Asked, fewer-reads.Learnt, arg-at-reads.A
 abbrev join-tvar-calls : ℕ → join-tvar-lts.Claims
 join-tvar-calls t = (open-tvar-reads.Asked, open-tvar-reads.Learnt, join-impl-below t, join-impl.Post, done-of-reads.Asked, done-of-reads.Learnt, close-tvar-reads.Asked, close-tvar-reads.Learnt)
 
+join-impl-settled-requires : (t : ℕ) → join-impl-lts.Need-settled-requires (join-impl-calls t) (join-impl-at t) join-impl.Post
+join-impl-settled-requires t c κs = tt
+
 join-impl-returns : (t : ℕ) → join-impl-lts.Need-returns (join-impl-calls t) (join-impl-at t) join-impl.Post
-join-impl-returns t c = after-now _ _ _ _ (c .before .before .pre .1 .0) tt (λ ds. impl-deep _ _ _ _ _ (c .if1 .taken))
+join-impl-returns t c = settled-after _ _ _ _ _ _ (c .settled .ensures) (after-now _ _ _ _ (c .before .before .before .pre .1 .0) tt (λ ds. impl-deep _ _ _ _ _ (c .before .if1 .taken)))
 
 join-impl-node-at-requires : (t : ℕ) → join-impl-lts.Need-node-at-requires (join-impl-calls t) (join-impl-at t) join-impl.Post
 join-impl-node-at-requires t c κs = c .before .before .before .pre .1 .0
@@ -95,38 +101,29 @@ join-impl-arm-of-requires t c κs = tt
 join-impl-enum-told : (t : ℕ) → join-impl-lts.Need-enum-told (join-impl-calls t) (join-impl-at t) join-impl.Post
 join-impl-enum-told t c = search needs
 
+join-impl-settled-requires-2 : (t : ℕ) → join-impl-lts.Need-settled-requires-2 (join-impl-calls t) (join-impl-at t) join-impl.Post
+join-impl-settled-requires-2 t c κs = tt
+
 join-impl-enum-told-2 : (t : ℕ) → join-impl-lts.Need-enum-told-2 (join-impl-calls t) (join-impl-at t) join-impl.Post
 join-impl-enum-told-2 t c = search needs
 
+join-impl-settled-requires-3 : (t : ℕ) → join-impl-lts.Need-settled-requires-3 (join-impl-calls t) (join-impl-at t) join-impl.Post
+join-impl-settled-requires-3 t c κs = tt
+
 join-impl-enum-known-side : (t : ℕ) → join-impl-lts.Need-enum-known-side (join-impl-calls t) (join-impl-at t) join-impl.Post
 join-impl-enum-known-side t c = search needs
+
+join-impl-pick-loc-requires : (t : ℕ) → join-impl-lts.Need-pick-loc-requires (join-impl-calls t) (join-impl-at t) join-impl.Post
+join-impl-pick-loc-requires t c κs = tt
 
 join-impl-sub-join-impl : (t : ℕ) → join-impl-lts.Need-sub-join-impl (join-impl-calls t) (join-impl-at t) join-impl.Post
 join-impl-sub-join-impl t c = omega arith
 
 join-impl-join-impl-requires : (t : ℕ) → join-impl-lts.Need-join-impl-requires (join-impl-calls t) (join-impl-at t) join-impl.Post
-join-impl-join-impl-requires t c κs = (omega arith, (c .before .before .before .before .before .before .before .before .before .before .before .pre .1 .0, arm-below _ (c .before .before .before .before .before .before .before .before .before .before .before .args .case) _ _ _ _ (c .before .before .before .before .before .before .before .node-at .result) (c .before .before .before .before .before .node-at2 .result) (c .before .before .before .before .before .before .before .before .before .if1 .left) (c .before .before .before .before .before .before .before .node-at .ensures) (c .before .before .before .before .before .node-at2 .ensures) _ (c .before .before .before .before .arm-of .ensures) _ (c .before .before .before .before .before .before .before .before .before .before .before .pre .1 .0) (c .before .before .before .before .before .before .before .before .before .before .before .pre .1 .1 .0) (c .before .before .before .before .before .before .before .before .before .before .before .pre .1 .1 .1) (c .before .before .side .given .1)))
+join-impl-join-impl-requires t c κs = (omega arith, (c .before .before .before .before .before .before .before .before .before .before .before .before .pre .1 .0, arm-below _ (c .before .before .before .before .before .before .before .before .before .before .before .before .args .case) _ _ _ _ (c .before .before .before .before .before .before .before .before .node-at .result) (c .before .before .before .before .before .before .node-at2 .result) (c .before .before .before .before .before .before .before .before .before .before .if1 .left) (c .before .before .before .before .before .before .before .before .node-at .ensures) (c .before .before .before .before .before .before .node-at2 .ensures) _ (c .before .before .before .before .before .arm-of .ensures) _ (c .before .before .before .before .before .before .before .before .before .before .before .before .pre .1 .0) (c .before .before .before .before .before .before .before .before .before .before .before .before .pre .1 .1 .0) (c .before .before .before .before .before .before .before .before .before .before .before .before .pre .1 .1 .1) (c .before .before .before .side .given .1)))
 
-join-impl-done-of-requires : (t : ℕ) → join-impl-lts.Need-done-of-requires (join-impl-calls t) (join-impl-at t) join-impl.Post
-join-impl-done-of-requires t c κs = tt
-
-join-impl-enum-known-t : (t : ℕ) → join-impl-lts.Need-enum-known-t (join-impl-calls t) (join-impl-at t) join-impl.Post
-join-impl-enum-known-t t c = search needs
-
-join-impl-enum-told-3 : (t : ℕ) → join-impl-lts.Need-enum-told-3 (join-impl-calls t) (join-impl-at t) join-impl.Post
-join-impl-enum-told-3 t c = search needs
-
-join-impl-same-length : (t : ℕ) → join-impl-lts.Need-same-length (join-impl-calls t) (join-impl-at t) join-impl.Post
-join-impl-same-length t c = c .before .before .before .before .before .join-impl .ensures .changed .lay .size ∙ sym (c .before .before .before .before .before .before .before .before .before .before .before .before .before .before .before .before .before .pre .1 .0 .size)
-
-join-impl-returns-2 : (t : ℕ) → join-impl-lts.Need-returns-2 (join-impl-calls t) (join-impl-at t) join-impl.Post
-join-impl-returns-2 t c = refs-stop _ (c .before .before .before .before .before .before .before .before .before .before .before .before .before .before .before .before .before .args .case) _ _ _ _ (c .before .before .before .before .before .before .before .before .before .before .before .before .before .node-at .result) (c .before .before .before .before .before .before .before .before .before .before .before .node-at2 .result) (c .before .before .before .before .before .before .before .before .before .before .before .before .before .before .before .if1 .left) (c .before .before .before .before .before .before .before .before .before .before .before .before .before .node-at .ensures) (c .before .before .before .before .before .before .before .before .before .before .before .node-at2 .ensures) _ (c .before .before .before .before .before .before .before .before .before .before .arm-of .ensures) _ _ _ _ (c .before .before .before .before .before .before .before .before .side .given .1) _ _ _ (c .before .before .before .before .before .join-impl .ensures) (c .before .before .done-of .ensures) (c .enum-told3 .given .1)
-
-join-impl-pick-loc-requires : (t : ℕ) → join-impl-lts.Need-pick-loc-requires (join-impl-calls t) (join-impl-at t) join-impl.Post
-join-impl-pick-loc-requires t c κs = tt
-
-join-impl-push-node-requires : (t : ℕ) → join-impl-lts.Need-push-node-requires (join-impl-calls t) (join-impl-at t) join-impl.Post
-join-impl-push-node-requires t c κs = (c .before .before .before .before .before .before .before .before .join-impl .ensures .changed .lay, node-in _ (c .before .before .before .before .before .before .before .before .join-impl .result .out) _ _ (c .before .before .before .before .before .before .before .before .join-impl .ensures .inside) (c .before .before .before .before .before .done-of .ensures) (c .before .before .before .t .given .1))
+join-impl-push-ref-requires : (t : ℕ) → join-impl-lts.Need-push-ref-requires (join-impl-calls t) (join-impl-at t) join-impl.Post
+join-impl-push-ref-requires t c κs = (c .before .before .before .join-impl .ensures .changed .lay, c .before .before .before .join-impl .ensures .inside)
 
 join-impl-enum-known-k : (t : ℕ) → join-impl-lts.Need-enum-known-k (join-impl-calls t) (join-impl-at t) join-impl.Post
 join-impl-enum-known-k t c = search needs
@@ -137,23 +134,8 @@ join-impl-sub-join-impl-types t c = omega arith
 join-impl-join-impl-types-requires : (t : ℕ) → join-impl-lts.Need-join-impl-types-requires (join-impl-calls t) (join-impl-at t) join-impl.Post
 join-impl-join-impl-types-requires t c κs = (omega arith, (c .before .before .before .before .before .before .before .before .before .before .before .pre .1 .0, arm-below _ (c .before .before .before .before .before .before .before .before .before .before .before .args .case) _ _ _ _ (c .before .before .before .before .before .before .before .node-at .result) (c .before .before .before .before .before .node-at2 .result) (c .before .before .before .before .before .before .before .before .before .if1 .left) (c .before .before .before .before .before .before .before .node-at .ensures) (c .before .before .before .before .before .node-at2 .ensures) _ (c .before .before .before .before .arm-of .ensures) _ (c .before .before .before .before .before .before .before .before .before .before .before .pre .1 .0) (c .before .before .before .before .before .before .before .before .before .before .before .pre .1 .1 .0) (c .before .before .before .before .before .before .before .before .before .before .before .pre .1 .1 .1) (c .before .before .k .given .1)))
 
-join-impl-done-of-requires-2 : (t : ℕ) → join-impl-lts.Need-done-of-requires-2 (join-impl-calls t) (join-impl-at t) join-impl.Post
-join-impl-done-of-requires-2 t c κs = tt
-
-join-impl-enum-known-m : (t : ℕ) → join-impl-lts.Need-enum-known-m (join-impl-calls t) (join-impl-at t) join-impl.Post
-join-impl-enum-known-m t c = search needs
-
-join-impl-enum-told-4 : (t : ℕ) → join-impl-lts.Need-enum-told-4 (join-impl-calls t) (join-impl-at t) join-impl.Post
-join-impl-enum-told-4 t c = search needs
-
-join-impl-same-length-2 : (t : ℕ) → join-impl-lts.Need-same-length-2 (join-impl-calls t) (join-impl-at t) join-impl.Post
-join-impl-same-length-2 t c = c .before .before .before .before .before .before .before .join-impl-types .ensures .lay .size ∙ sym (c .before .before .before .before .before .before .before .before .before .before .before .before .before .before .before .before .before .before .before .pre .1 .0 .size)
-
-join-impl-returns-3 : (t : ℕ) → join-impl-lts.Need-returns-3 (join-impl-calls t) (join-impl-at t) join-impl.Post
-join-impl-returns-3 t c = applies-stop _ (c .before .before .before .before .before .before .before .before .before .before .before .before .before .before .before .before .before .before .before .args .case) _ _ _ _ (c .before .before .before .before .before .before .before .before .before .before .before .before .before .before .before .node-at .result) (c .before .before .before .before .before .before .before .before .before .before .before .before .before .node-at2 .result) (c .before .before .before .before .before .before .before .before .before .before .before .before .before .before .before .before .before .if1 .left) (c .before .before .before .before .before .before .before .before .before .before .before .before .before .before .before .node-at .ensures) (c .before .before .before .before .before .before .before .before .before .before .before .before .before .node-at2 .ensures) _ (c .before .before .before .before .before .before .before .before .before .before .before .before .arm-of .ensures) _ _ _ _ _ _ (c .before .before .before .before .before .before .before .before .before .before .k .given .1) _ _ _ (c .before .before .before .before .before .before .before .join-impl-types .ensures) (c .before .before .done-of2 .ensures) (c .enum-told4 .given .1)
-
-join-impl-push-apply-requires : (t : ℕ) → join-impl-lts.Need-push-apply-requires (join-impl-calls t) (join-impl-at t) join-impl.Post
-join-impl-push-apply-requires t c κs = (c .before .before .before .before .before .before .before .before .before .join-impl-types .ensures .lay, c .before .before .before .before .before .before .before .before .before .join-impl-types .ensures .parts _ (sym (c .before .before .before .before .done-of2 .ensures) ∙ c .before .before .m .given .1))
+join-impl-push-types-requires : (t : ℕ) → join-impl-lts.Need-push-types-requires (join-impl-calls t) (join-impl-at t) join-impl.Post
+join-impl-push-types-requires t c κs = (c .before .before .before .join-impl-types .ensures .lay, c .before .before .before .join-impl-types .ensures .types)
 
 join-impl-enum-known-id1 : (t : ℕ) → join-impl-lts.Need-enum-known-id1 (join-impl-calls t) (join-impl-at t) join-impl.Post
 join-impl-enum-known-id1 t c = search needs
@@ -170,17 +152,17 @@ join-impl-enum-known-id t c = search needs
 join-impl-meet-tvar-requires : (t : ℕ) → join-impl-lts.Need-meet-tvar-requires (join-impl-calls t) (join-impl-at t) join-impl.Post
 join-impl-meet-tvar-requires t c κs = (c .before .before .before .before .before .before .before .before .before .before .before .pre .1 .0, (c .before .before .before .before .before .before .before .before .before .before .before .pre .1 .1 .0, (c .before .before .before .before .before .before .before .before .before .before .before .pre .1 .1 .1, (c .before .before .before .before .before .before .before .before .before .before .before .pre .1 .1 .0, c .before .before .before .before .before .before .before .before .before .before .before .pre .1 .1 .1))))
 
-join-impl-enum-known-what : (t : ℕ) → join-impl-lts.Need-enum-known-what (join-impl-calls t) (join-impl-at t) join-impl.Post
-join-impl-enum-known-what t c = search needs
+join-impl-enum-known-a : (t : ℕ) → join-impl-lts.Need-enum-known-a (join-impl-calls t) (join-impl-at t) join-impl.Post
+join-impl-enum-known-a t c = search needs
 
-join-impl-enum-known-what-2 : (t : ℕ) → join-impl-lts.Need-enum-known-what-2 (join-impl-calls t) (join-impl-at t) join-impl.Post
-join-impl-enum-known-what-2 t c = search needs
+join-impl-enum-known-au : (t : ℕ) → join-impl-lts.Need-enum-known-au (join-impl-calls t) (join-impl-at t) join-impl.Post
+join-impl-enum-known-au t c = search needs
 
 join-impl-sub-join-tvar-2 : (t : ℕ) → join-impl-lts.Need-sub-join-tvar-2 (join-impl-calls t) (join-impl-at t) join-impl.Post
 join-impl-sub-join-tvar-2 t c = omega arith
 
 join-impl-join-tvar-requires-2 : (t : ℕ) → join-impl-lts.Need-join-tvar-requires-2 (join-impl-calls t) (join-impl-at t) join-impl.Post
-join-impl-join-tvar-requires-2 t c κs = (omega (arith, c .before .before .before .before .before .before .before .before .before .before .before .before .before .before .before .before .before .before .before .pre .0, c .before .before .before .before .before .before .before .before .before .before .before .before .before .before .before .before .before .if1 .left), c .before .before .before .before .before .before .before .meet-tvar .ensures .lay)
+join-impl-join-tvar-requires-2 t c κs = (omega (arith, c .before .before .before .before .before .before .before .before .before .before .before .before .before .before .before .before .before .before .pre .0, c .before .before .before .before .before .before .before .before .before .before .before .before .before .before .before .before .if1 .left), merge-lay _ _ _ _ _ _ _ (c .before .before .before .before .before .before .meet-tvar .ensures) (c .before .before .au .given .1))
 
 join-impl-enum-known-id-2 : (t : ℕ) → join-impl-lts.Need-enum-known-id-2 (join-impl-calls t) (join-impl-at t) join-impl.Post
 join-impl-enum-known-id-2 t c = search needs
@@ -188,107 +170,119 @@ join-impl-enum-known-id-2 t c = search needs
 join-impl-meet-tvar-requires-2 : (t : ℕ) → join-impl-lts.Need-meet-tvar-requires-2 (join-impl-calls t) (join-impl-at t) join-impl.Post
 join-impl-meet-tvar-requires-2 t c κs = (c .before .before .before .before .before .before .before .before .before .before .before .pre .1 .0, (c .before .before .before .before .before .before .before .before .before .before .before .pre .1 .1 .0, (c .before .before .before .before .before .before .before .before .before .before .before .pre .1 .1 .1, (c .before .before .before .before .before .before .before .before .before .before .before .pre .1 .1 .1, c .before .before .before .before .before .before .before .before .before .before .before .pre .1 .1 .0))))
 
-join-impl-enum-known-what-3 : (t : ℕ) → join-impl-lts.Need-enum-known-what-3 (join-impl-calls t) (join-impl-at t) join-impl.Post
-join-impl-enum-known-what-3 t c = search needs
+join-impl-enum-known-a-2 : (t : ℕ) → join-impl-lts.Need-enum-known-a-2 (join-impl-calls t) (join-impl-at t) join-impl.Post
+join-impl-enum-known-a-2 t c = search needs
 
-join-impl-enum-known-what-4 : (t : ℕ) → join-impl-lts.Need-enum-known-what-4 (join-impl-calls t) (join-impl-at t) join-impl.Post
-join-impl-enum-known-what-4 t c = search needs
+join-impl-enum-known-au-2 : (t : ℕ) → join-impl-lts.Need-enum-known-au-2 (join-impl-calls t) (join-impl-at t) join-impl.Post
+join-impl-enum-known-au-2 t c = search needs
 
 join-impl-sub-join-tvar-3 : (t : ℕ) → join-impl-lts.Need-sub-join-tvar-3 (join-impl-calls t) (join-impl-at t) join-impl.Post
 join-impl-sub-join-tvar-3 t c = omega arith
 
 join-impl-join-tvar-requires-3 : (t : ℕ) → join-impl-lts.Need-join-tvar-requires-3 (join-impl-calls t) (join-impl-at t) join-impl.Post
-join-impl-join-tvar-requires-3 t c κs = (omega (arith, c .before .before .before .before .before .before .before .before .before .before .before .before .before .before .before .before .before .before .before .pre .0, c .before .before .before .before .before .before .before .before .before .before .before .before .before .before .before .before .before .if1 .left), c .before .before .before .before .before .before .before .meet-tvar2 .ensures .lay)
+join-impl-join-tvar-requires-3 t c κs = (omega (arith, c .before .before .before .before .before .before .before .before .before .before .before .before .before .before .before .before .before .before .pre .0, c .before .before .before .before .before .before .before .before .before .before .before .before .before .before .before .before .if1 .left), merge-lay _ _ _ _ _ _ _ (c .before .before .before .before .before .before .meet-tvar2 .ensures) (c .before .before .au2 .given .1))
+
+join-impl-enum-told-3 : (t : ℕ) → join-impl-lts.Need-enum-told-3 (join-impl-calls t) (join-impl-at t) join-impl.Post
+join-impl-enum-told-3 t c = search needs
+
+join-impl-settled-requires-4 : (t : ℕ) → join-impl-lts.Need-settled-requires-4 (join-impl-calls t) (join-impl-at t) join-impl.Post
+join-impl-settled-requires-4 t c κs = tt
+
+join-impl-enum-told-4 : (t : ℕ) → join-impl-lts.Need-enum-told-4 (join-impl-calls t) (join-impl-at t) join-impl.Post
+join-impl-enum-told-4 t c = search needs
+
+join-impl-settled-requires-5 : (t : ℕ) → join-impl-lts.Need-settled-requires-5 (join-impl-calls t) (join-impl-at t) join-impl.Post
+join-impl-settled-requires-5 t c κs = tt
 
 join-impl-enum-told-5 : (t : ℕ) → join-impl-lts.Need-enum-told-5 (join-impl-calls t) (join-impl-at t) join-impl.Post
 join-impl-enum-told-5 t c = search needs
 
+join-impl-settled-requires-6 : (t : ℕ) → join-impl-lts.Need-settled-requires-6 (join-impl-calls t) (join-impl-at t) join-impl.Post
+join-impl-settled-requires-6 t c κs = tt
+
 join-impl-enum-told-6 : (t : ℕ) → join-impl-lts.Need-enum-told-6 (join-impl-calls t) (join-impl-at t) join-impl.Post
 join-impl-enum-told-6 t c = search needs
 
-join-impl-enum-told-7 : (t : ℕ) → join-impl-lts.Need-enum-told-7 (join-impl-calls t) (join-impl-at t) join-impl.Post
-join-impl-enum-told-7 t c = search needs
+join-impl-settled-requires-7 : (t : ℕ) → join-impl-lts.Need-settled-requires-7 (join-impl-calls t) (join-impl-at t) join-impl.Post
+join-impl-settled-requires-7 t c κs = tt
 
-join-impl-enum-told-8 : (t : ℕ) → join-impl-lts.Need-enum-told-8 (join-impl-calls t) (join-impl-at t) join-impl.Post
-join-impl-enum-told-8 t c = search needs
+join-impl-same-length : (t : ℕ) → join-impl-lts.Need-same-length (join-impl-calls t) (join-impl-at t) join-impl.Post
+join-impl-same-length t c = search needs
+
+join-impl-returns-2 : (t : ℕ) → join-impl-lts.Need-returns-2 (join-impl-calls t) (join-impl-at t) join-impl.Post
+join-impl-returns-2 t c = settled-after _ _ _ _ _ _ (c .settled2 .ensures) (arm-left _ (c .before .before .before .before .before .before .before .before .before .before .args .case) _ _ _ _ (c .before .before .before .before .before .before .node-at .result) (c .before .before .before .before .node-at2 .result) (c .before .before .before .before .before .before .before .before .if1 .left) (c .before .before .before .before .before .before .node-at .ensures) (c .before .before .before .before .node-at2 .ensures) _ (c .before .before .before .arm-of .ensures) (c .before .before .before .before .before .before .before .before .before .before .pre .1 .0) (c .before .before .before .before .before .before .before .before .before .before .pre .1 .1 .0) (c .before .enum-told .given .1))
+
+join-impl-same-length-2 : (t : ℕ) → join-impl-lts.Need-same-length-2 (join-impl-calls t) (join-impl-at t) join-impl.Post
+join-impl-same-length-2 t c = search needs
+
+join-impl-returns-3 : (t : ℕ) → join-impl-lts.Need-returns-3 (join-impl-calls t) (join-impl-at t) join-impl.Post
+join-impl-returns-3 t c = settled-after _ _ _ _ _ _ (c .settled3 .ensures) (arm-right _ (c .before .before .before .before .before .before .before .before .before .before .args .case) _ _ _ _ (c .before .before .before .before .before .before .node-at .result) (c .before .before .before .before .node-at2 .result) (c .before .before .before .before .before .before .before .before .if1 .left) (c .before .before .before .before .before .before .node-at .ensures) (c .before .before .before .before .node-at2 .ensures) _ (c .before .before .before .arm-of .ensures) (c .before .before .before .before .before .before .before .before .before .before .pre .1 .0) (c .before .before .before .before .before .before .before .before .before .before .pre .1 .1 .1) (c .before .enum-told2 .given .1))
 
 join-impl-same-length-3 : (t : ℕ) → join-impl-lts.Need-same-length-3 (join-impl-calls t) (join-impl-at t) join-impl.Post
-join-impl-same-length-3 t c = search needs
+join-impl-same-length-3 t c = c .before .before .push-ref .ensures .then _ _ _ (c .before .before .before .before .before .before .join-impl .ensures) .changed .lay .size ∙ sym (c .before .before .before .before .before .before .before .before .before .before .before .before .before .before .before .before .before .before .before .pre .1 .0 .size)
 
 join-impl-returns-4 : (t : ℕ) → join-impl-lts.Need-returns-4 (join-impl-calls t) (join-impl-at t) join-impl.Post
-join-impl-returns-4 t c = arm-left _ (c .before .before .before .before .before .before .before .before .before .args .case) _ _ _ _ (c .before .before .before .before .before .node-at .result) (c .before .before .before .node-at2 .result) (c .before .before .before .before .before .before .before .if1 .left) (c .before .before .before .before .before .node-at .ensures) (c .before .before .before .node-at2 .ensures) _ (c .before .before .arm-of .ensures) (c .before .before .before .before .before .before .before .before .before .pre .1 .0) (c .before .before .before .before .before .before .before .before .before .pre .1 .1 .0) (c .enum-told .given .1)
+join-impl-returns-4 t c = arm-refs _ (c .before .before .before .before .before .before .before .before .before .before .before .before .before .before .before .before .before .before .before .args .case) _ _ _ _ (c .before .before .before .before .before .before .before .before .before .before .before .before .before .before .before .node-at .result) (c .before .before .before .before .before .before .before .before .before .before .before .before .before .node-at2 .result) (c .before .before .before .before .before .before .before .before .before .before .before .before .before .before .before .before .before .if1 .left) (c .before .before .before .before .before .before .before .before .before .before .before .before .before .before .before .node-at .ensures) (c .before .before .before .before .before .before .before .before .before .before .before .before .before .node-at2 .ensures) _ (c .before .before .before .before .before .before .before .before .before .before .before .before .arm-of .ensures) _ _ _ _ _ _ _ _ _ (c .before .before .before .before .before .before .before .before .before .before .side .given .1) (c .before .before .before .before .before .before .before .before .pick-loc .ensures) (c .before .before .before .before .before .before .join-impl .ensures) (c .before .before .push-ref .ensures)
 
 join-impl-same-length-4 : (t : ℕ) → join-impl-lts.Need-same-length-4 (join-impl-calls t) (join-impl-at t) join-impl.Post
-join-impl-same-length-4 t c = search needs
+join-impl-same-length-4 t c = c .before .before .push-types .ensures .then _ _ _ (c .before .before .before .before .before .before .join-impl-types .ensures) .changed .lay .size ∙ sym (c .before .before .before .before .before .before .before .before .before .before .before .before .before .before .before .before .before .before .pre .1 .0 .size)
 
 join-impl-returns-5 : (t : ℕ) → join-impl-lts.Need-returns-5 (join-impl-calls t) (join-impl-at t) join-impl.Post
-join-impl-returns-5 t c = arm-right _ (c .before .before .before .before .before .before .before .before .before .args .case) _ _ _ _ (c .before .before .before .before .before .node-at .result) (c .before .before .before .node-at2 .result) (c .before .before .before .before .before .before .before .if1 .left) (c .before .before .before .before .before .node-at .ensures) (c .before .before .before .node-at2 .ensures) _ (c .before .before .arm-of .ensures) (c .before .before .before .before .before .before .before .before .before .pre .1 .0) (c .before .before .before .before .before .before .before .before .before .pre .1 .1 .1) (c .enum-told2 .given .1)
+join-impl-returns-5 t c = arm-applies _ (c .before .before .before .before .before .before .before .before .before .before .before .before .before .before .before .before .before .before .args .case) _ _ _ _ (c .before .before .before .before .before .before .before .before .before .before .before .before .before .before .node-at .result) (c .before .before .before .before .before .before .before .before .before .before .before .before .node-at2 .result) (c .before .before .before .before .before .before .before .before .before .before .before .before .before .before .before .before .if1 .left) (c .before .before .before .before .before .before .before .before .before .before .before .before .before .before .node-at .ensures) (c .before .before .before .before .before .before .before .before .before .before .before .before .node-at2 .ensures) _ (c .before .before .before .before .before .before .before .before .before .before .before .arm-of .ensures) _ _ _ _ _ _ _ _ _ _ (c .before .before .before .before .before .before .before .before .before .k .given .1) (c .before .before .before .before .before .before .join-impl-types .ensures) (c .before .before .push-types .ensures)
 
 join-impl-same-length-5 : (t : ℕ) → join-impl-lts.Need-same-length-5 (join-impl-calls t) (join-impl-at t) join-impl.Post
-join-impl-same-length-5 t c = c .before .before .push-node .ensures .changed .lay .size ∙ sym (c .before .before .before .before .before .before .before .before .before .before .before .before .before .before .before .before .before .before .before .before .before .before .before .pre .1 .0 .size)
+join-impl-same-length-5 t c = c .before .before .join-tvar .ensures .changed .lay .size ∙ sym (c .before .before .before .before .before .before .before .before .before .before .before .before .before .before .pre .1 .0 .size)
 
 join-impl-returns-6 : (t : ℕ) → join-impl-lts.Need-returns-6 (join-impl-calls t) (join-impl-at t) join-impl.Post
-join-impl-returns-6 t c = refs-then _ (c .before .before .before .before .before .before .before .before .before .before .before .before .before .before .before .before .before .before .before .before .before .before .before .args .case) _ _ _ _ (c .before .before .before .before .before .before .before .before .before .before .before .before .before .before .before .before .before .before .before .node-at .result) (c .before .before .before .before .before .before .before .before .before .before .before .before .before .before .before .before .before .node-at2 .result) (c .before .before .before .before .before .before .before .before .before .before .before .before .before .before .before .before .before .before .before .before .before .if1 .left) (c .before .before .before .before .before .before .before .before .before .before .before .before .before .before .before .before .before .before .before .node-at .ensures) (c .before .before .before .before .before .before .before .before .before .before .before .before .before .before .before .before .before .node-at2 .ensures) _ (c .before .before .before .before .before .before .before .before .before .before .before .before .before .before .before .before .arm-of .ensures) _ _ _ _ (c .before .before .before .before .before .before .before .before .before .before .before .before .before .before .side .given .1) _ _ _ (c .before .before .before .before .before .before .before .before .before .before .before .join-impl .ensures) (c .before .before .before .before .before .before .before .before .done-of .ensures) _ _ _ _ (c .before .before .before .before .before .before .t .given .1) (c .before .before .before .before .pick-loc .ensures) (c .before .before .push-node .ensures)
+join-impl-returns-6 t c = arm-vars _ (c .before .before .before .before .before .before .before .before .before .before .before .before .before .before .args .case) _ _ _ _ (c .before .before .before .before .before .before .before .before .before .before .node-at .result) (c .before .before .before .before .before .before .before .before .node-at2 .result) (c .before .before .before .before .before .before .before .before .before .before .before .before .if1 .left) (c .before .before .before .before .before .before .before .before .before .before .node-at .ensures) (c .before .before .before .before .before .before .before .before .node-at2 .ensures) _ (c .before .before .before .before .before .before .before .arm-of .ensures) _ _ _ _ (c .before .before .before .before .before .id1 .given .1) (c .before .before .join-tvar .ensures)
 
 join-impl-same-length-6 : (t : ℕ) → join-impl-lts.Need-same-length-6 (join-impl-calls t) (join-impl-at t) join-impl.Post
-join-impl-same-length-6 t c = c .before .before .push-apply .ensures .changed .lay .size ∙ sym (c .before .before .before .before .before .before .before .before .before .before .before .before .before .before .before .before .before .before .before .before .before .before .before .before .pre .1 .0 .size)
+join-impl-same-length-6 t c = c .before .before .before .before .before .meet-tvar .ensures .lay .size ∙ sym (c .before .before .before .before .before .before .before .before .before .before .before .before .before .before .before .before .before .pre .1 .0 .size)
 
 join-impl-returns-7 : (t : ℕ) → join-impl-lts.Need-returns-7 (join-impl-calls t) (join-impl-at t) join-impl.Post
-join-impl-returns-7 t c = applies-then _ (c .before .before .before .before .before .before .before .before .before .before .before .before .before .before .before .before .before .before .before .before .before .before .before .before .args .case) _ _ _ _ (c .before .before .before .before .before .before .before .before .before .before .before .before .before .before .before .before .before .before .before .before .node-at .result) (c .before .before .before .before .before .before .before .before .before .before .before .before .before .before .before .before .before .before .node-at2 .result) (c .before .before .before .before .before .before .before .before .before .before .before .before .before .before .before .before .before .before .before .before .before .before .if1 .left) (c .before .before .before .before .before .before .before .before .before .before .before .before .before .before .before .before .before .before .before .before .node-at .ensures) (c .before .before .before .before .before .before .before .before .before .before .before .before .before .before .before .before .before .before .node-at2 .ensures) _ (c .before .before .before .before .before .before .before .before .before .before .before .before .before .before .before .before .before .arm-of .ensures) _ _ _ _ _ _ (c .before .before .before .before .before .before .before .before .before .before .before .before .before .before .before .k .given .1) _ _ _ (c .before .before .before .before .before .before .before .before .before .before .before .before .join-impl-types .ensures) (c .before .before .before .before .before .before .before .done-of2 .ensures) _ _ _ (c .before .before .before .before .before .m .given .1) (c .before .before .push-apply .ensures)
+join-impl-returns-7 t c = left-is _ (c .before .before .before .before .before .before .before .before .before .before .before .before .before .before .before .before .before .args .case) _ _ _ _ (c .before .before .before .before .before .before .before .before .before .before .before .before .before .node-at .result) (c .before .before .before .before .before .before .before .before .before .before .before .node-at2 .result) (c .before .before .before .before .before .before .before .before .before .before .before .before .before .before .before .if1 .left) (c .before .before .before .before .before .before .before .before .before .before .before .before .before .node-at .ensures) (c .before .before .before .before .before .before .before .before .before .before .before .node-at2 .ensures) _ (c .before .before .before .before .before .before .before .before .before .before .arm-of .ensures) _ _ _ (c .before .before .before .before .before .before .before .before .id .given .1) (c .before .before .before .before .before .meet-tvar .ensures) _ (c .before .a .given .1)
 
 join-impl-same-length-7 : (t : ℕ) → join-impl-lts.Need-same-length-7 (join-impl-calls t) (join-impl-at t) join-impl.Post
-join-impl-same-length-7 t c = c .before .before .join-tvar .ensures .changed .lay .size ∙ sym (c .before .before .before .before .before .before .before .before .before .before .before .before .before .before .pre .1 .0 .size)
+join-impl-same-length-7 t c = c .before .before .join-tvar2 .ensures .changed .lay .size ∙ sym (c .before .before .before .before .before .before .before .before .before .before .before .before .before .before .before .before .before .before .before .before .before .pre .1 .0 .size)
 
 join-impl-returns-8 : (t : ℕ) → join-impl-lts.Need-returns-8 (join-impl-calls t) (join-impl-at t) join-impl.Post
-join-impl-returns-8 t c = arm-vars _ (c .before .before .before .before .before .before .before .before .before .before .before .before .before .before .args .case) _ _ _ _ (c .before .before .before .before .before .before .before .before .before .before .node-at .result) (c .before .before .before .before .before .before .before .before .node-at2 .result) (c .before .before .before .before .before .before .before .before .before .before .before .before .if1 .left) (c .before .before .before .before .before .before .before .before .before .before .node-at .ensures) (c .before .before .before .before .before .before .before .before .node-at2 .ensures) _ (c .before .before .before .before .before .before .before .arm-of .ensures) _ _ _ _ (c .before .before .before .before .before .id1 .given .1) (c .before .before .join-tvar .ensures)
+join-impl-returns-8 t c = left-merge _ (c .before .before .before .before .before .before .before .before .before .before .before .before .before .before .before .before .before .before .before .before .before .args .case) _ _ _ _ (c .before .before .before .before .before .before .before .before .before .before .before .before .before .before .before .before .before .node-at .result) (c .before .before .before .before .before .before .before .before .before .before .before .before .before .before .before .node-at2 .result) (c .before .before .before .before .before .before .before .before .before .before .before .before .before .before .before .before .before .before .before .if1 .left) (c .before .before .before .before .before .before .before .before .before .before .before .before .before .before .before .before .before .node-at .ensures) (c .before .before .before .before .before .before .before .before .before .before .before .before .before .before .before .node-at2 .ensures) _ (c .before .before .before .before .before .before .before .before .before .before .before .before .before .before .arm-of .ensures) _ _ _ (c .before .before .before .before .before .before .before .before .before .before .before .before .id .given .1) (c .before .before .before .before .before .before .before .before .before .meet-tvar .ensures) _ _ _ _ (c .before .before .before .before .before .au .given .1) (c .before .before .join-tvar2 .ensures)
 
 join-impl-same-length-8 : (t : ℕ) → join-impl-lts.Need-same-length-8 (join-impl-calls t) (join-impl-at t) join-impl.Post
-join-impl-same-length-8 t c = c .before .before .before .before .before .before .meet-tvar .ensures .lay .size ∙ sym (c .before .before .before .before .before .before .before .before .before .before .before .before .before .before .before .before .before .before .pre .1 .0 .size)
+join-impl-same-length-8 t c = c .before .before .before .before .before .meet-tvar2 .ensures .lay .size ∙ sym (c .before .before .before .before .before .before .before .before .before .before .before .before .before .before .before .before .before .pre .1 .0 .size)
 
 join-impl-returns-9 : (t : ℕ) → join-impl-lts.Need-returns-9 (join-impl-calls t) (join-impl-at t) join-impl.Post
-join-impl-returns-9 t c = left-is _ (c .before .before .before .before .before .before .before .before .before .before .before .before .before .before .before .before .before .before .args .case) _ _ _ _ (c .before .before .before .before .before .before .before .before .before .before .before .before .before .before .node-at .result) (c .before .before .before .before .before .before .before .before .before .before .before .before .node-at2 .result) (c .before .before .before .before .before .before .before .before .before .before .before .before .before .before .before .before .if1 .left) (c .before .before .before .before .before .before .before .before .before .before .before .before .before .before .node-at .ensures) (c .before .before .before .before .before .before .before .before .before .before .before .before .node-at2 .ensures) _ (c .before .before .before .before .before .before .before .before .before .before .before .arm-of .ensures) _ _ _ (c .before .before .before .before .before .before .before .before .before .id .given .1) (c .before .before .before .before .before .before .meet-tvar .ensures) _ (c .before .what .given .1)
+join-impl-returns-9 t c = right-is _ (c .before .before .before .before .before .before .before .before .before .before .before .before .before .before .before .before .before .args .case) _ _ _ _ (c .before .before .before .before .before .before .before .before .before .before .before .before .before .node-at .result) (c .before .before .before .before .before .before .before .before .before .before .before .node-at2 .result) (c .before .before .before .before .before .before .before .before .before .before .before .before .before .before .before .if1 .left) (c .before .before .before .before .before .before .before .before .before .before .before .before .before .node-at .ensures) (c .before .before .before .before .before .before .before .before .before .before .before .node-at2 .ensures) _ (c .before .before .before .before .before .before .before .before .before .before .arm-of .ensures) _ _ _ (c .before .before .before .before .before .before .before .before .id2 .given .1) (c .before .before .before .before .before .meet-tvar2 .ensures) _ (c .before .a2 .given .1)
 
 join-impl-same-length-9 : (t : ℕ) → join-impl-lts.Need-same-length-9 (join-impl-calls t) (join-impl-at t) join-impl.Post
-join-impl-same-length-9 t c = c .before .before .join-tvar2 .ensures .changed .lay .size ∙ sym (c .before .before .before .before .before .before .before .before .before .before .before .before .before .before .before .before .before .before .before .before .before .before .pre .1 .0 .size)
+join-impl-same-length-9 t c = c .before .before .join-tvar3 .ensures .changed .lay .size ∙ sym (c .before .before .before .before .before .before .before .before .before .before .before .before .before .before .before .before .before .before .before .before .before .pre .1 .0 .size)
 
 join-impl-returns-10 : (t : ℕ) → join-impl-lts.Need-returns-10 (join-impl-calls t) (join-impl-at t) join-impl.Post
-join-impl-returns-10 t c = left-merge _ (c .before .before .before .before .before .before .before .before .before .before .before .before .before .before .before .before .before .before .before .before .before .before .args .case) _ _ _ _ (c .before .before .before .before .before .before .before .before .before .before .before .before .before .before .before .before .before .before .node-at .result) (c .before .before .before .before .before .before .before .before .before .before .before .before .before .before .before .before .node-at2 .result) (c .before .before .before .before .before .before .before .before .before .before .before .before .before .before .before .before .before .before .before .before .if1 .left) (c .before .before .before .before .before .before .before .before .before .before .before .before .before .before .before .before .before .before .node-at .ensures) (c .before .before .before .before .before .before .before .before .before .before .before .before .before .before .before .before .node-at2 .ensures) _ (c .before .before .before .before .before .before .before .before .before .before .before .before .before .before .before .arm-of .ensures) _ _ _ (c .before .before .before .before .before .before .before .before .before .before .before .before .before .id .given .1) (c .before .before .before .before .before .before .before .before .before .before .meet-tvar .ensures) _ _ _ (c .before .before .before .before .before .what2 .given .1) (c .before .before .join-tvar2 .ensures)
+join-impl-returns-10 t c = right-merge _ (c .before .before .before .before .before .before .before .before .before .before .before .before .before .before .before .before .before .before .before .before .before .args .case) _ _ _ _ (c .before .before .before .before .before .before .before .before .before .before .before .before .before .before .before .before .before .node-at .result) (c .before .before .before .before .before .before .before .before .before .before .before .before .before .before .before .node-at2 .result) (c .before .before .before .before .before .before .before .before .before .before .before .before .before .before .before .before .before .before .before .if1 .left) (c .before .before .before .before .before .before .before .before .before .before .before .before .before .before .before .before .before .node-at .ensures) (c .before .before .before .before .before .before .before .before .before .before .before .before .before .before .before .node-at2 .ensures) _ (c .before .before .before .before .before .before .before .before .before .before .before .before .before .before .arm-of .ensures) _ _ _ (c .before .before .before .before .before .before .before .before .before .before .before .before .id2 .given .1) (c .before .before .before .before .before .before .before .before .before .meet-tvar2 .ensures) _ _ _ _ (c .before .before .before .before .before .au2 .given .1) (c .before .before .join-tvar3 .ensures)
 
 join-impl-same-length-10 : (t : ℕ) → join-impl-lts.Need-same-length-10 (join-impl-calls t) (join-impl-at t) join-impl.Post
-join-impl-same-length-10 t c = c .before .before .before .before .before .before .meet-tvar2 .ensures .lay .size ∙ sym (c .before .before .before .before .before .before .before .before .before .before .before .before .before .before .before .before .before .before .pre .1 .0 .size)
+join-impl-same-length-10 t c = search needs
 
 join-impl-returns-11 : (t : ℕ) → join-impl-lts.Need-returns-11 (join-impl-calls t) (join-impl-at t) join-impl.Post
-join-impl-returns-11 t c = right-is _ (c .before .before .before .before .before .before .before .before .before .before .before .before .before .before .before .before .before .before .args .case) _ _ _ _ (c .before .before .before .before .before .before .before .before .before .before .before .before .before .before .node-at .result) (c .before .before .before .before .before .before .before .before .before .before .before .before .node-at2 .result) (c .before .before .before .before .before .before .before .before .before .before .before .before .before .before .before .before .if1 .left) (c .before .before .before .before .before .before .before .before .before .before .before .before .before .before .node-at .ensures) (c .before .before .before .before .before .before .before .before .before .before .before .before .node-at2 .ensures) _ (c .before .before .before .before .before .before .before .before .before .before .before .arm-of .ensures) _ _ _ (c .before .before .before .before .before .before .before .before .before .id2 .given .1) (c .before .before .before .before .before .before .meet-tvar2 .ensures) _ (c .before .what3 .given .1)
+join-impl-returns-11 t c = settled-after _ _ _ _ _ _ (c .settled4 .ensures) (arm-subtype _ (c .before .before .before .before .before .before .before .before .before .before .args .case) _ _ _ _ (c .before .before .before .before .before .before .node-at .result) (c .before .before .before .before .node-at2 .result) (c .before .before .before .before .before .before .before .before .if1 .left) (c .before .before .before .before .before .before .node-at .ensures) (c .before .before .before .before .node-at2 .ensures) _ (c .before .before .before .arm-of .ensures) (c .before .before .before .before .before .before .before .before .before .before .pre .1 .0) (c .before .before .before .before .before .before .before .before .before .before .pre .1 .1 .0, c .before .before .before .before .before .before .before .before .before .before .pre .1 .1 .1) (c .before .enum-told3 .given .1))
 
 join-impl-same-length-11 : (t : ℕ) → join-impl-lts.Need-same-length-11 (join-impl-calls t) (join-impl-at t) join-impl.Post
-join-impl-same-length-11 t c = c .before .before .join-tvar3 .ensures .changed .lay .size ∙ sym (c .before .before .before .before .before .before .before .before .before .before .before .before .before .before .before .before .before .before .before .before .before .before .pre .1 .0 .size)
+join-impl-same-length-11 t c = search needs
 
 join-impl-returns-12 : (t : ℕ) → join-impl-lts.Need-returns-12 (join-impl-calls t) (join-impl-at t) join-impl.Post
-join-impl-returns-12 t c = right-merge _ (c .before .before .before .before .before .before .before .before .before .before .before .before .before .before .before .before .before .before .before .before .before .before .args .case) _ _ _ _ (c .before .before .before .before .before .before .before .before .before .before .before .before .before .before .before .before .before .before .node-at .result) (c .before .before .before .before .before .before .before .before .before .before .before .before .before .before .before .before .node-at2 .result) (c .before .before .before .before .before .before .before .before .before .before .before .before .before .before .before .before .before .before .before .before .if1 .left) (c .before .before .before .before .before .before .before .before .before .before .before .before .before .before .before .before .before .before .node-at .ensures) (c .before .before .before .before .before .before .before .before .before .before .before .before .before .before .before .before .node-at2 .ensures) _ (c .before .before .before .before .before .before .before .before .before .before .before .before .before .before .before .arm-of .ensures) _ _ _ (c .before .before .before .before .before .before .before .before .before .before .before .before .before .id2 .given .1) (c .before .before .before .before .before .before .before .before .before .before .meet-tvar2 .ensures) _ _ _ (c .before .before .before .before .before .what4 .given .1) (c .before .before .join-tvar3 .ensures)
+join-impl-returns-12 t c = settled-after _ _ _ _ _ _ (c .settled5 .ensures) (arm-arity _ (c .before .before .before .before .before .before .before .before .before .before .args .case) _ _ _ _ (c .before .before .before .before .before .before .node-at .result) (c .before .before .before .before .node-at2 .result) (c .before .before .before .before .before .before .before .before .if1 .left) (c .before .before .before .before .before .before .node-at .ensures) (c .before .before .before .before .node-at2 .ensures) _ (c .before .before .before .arm-of .ensures) (c .before .before .before .before .before .before .before .before .before .before .pre .1 .0) (c .before .before .before .before .before .before .before .before .before .before .pre .1 .1 .0, c .before .before .before .before .before .before .before .before .before .before .pre .1 .1 .1) (c .before .enum-told4 .given .1))
 
 join-impl-same-length-12 : (t : ℕ) → join-impl-lts.Need-same-length-12 (join-impl-calls t) (join-impl-at t) join-impl.Post
 join-impl-same-length-12 t c = search needs
 
 join-impl-returns-13 : (t : ℕ) → join-impl-lts.Need-returns-13 (join-impl-calls t) (join-impl-at t) join-impl.Post
-join-impl-returns-13 t c = arm-subtype _ (c .before .before .before .before .before .before .before .before .before .args .case) _ _ _ _ (c .before .before .before .before .before .node-at .result) (c .before .before .before .node-at2 .result) (c .before .before .before .before .before .before .before .if1 .left) (c .before .before .before .before .before .node-at .ensures) (c .before .before .before .node-at2 .ensures) _ (c .before .before .arm-of .ensures) (c .before .before .before .before .before .before .before .before .before .pre .1 .0) (c .before .before .before .before .before .before .before .before .before .pre .1 .1 .0, c .before .before .before .before .before .before .before .before .before .pre .1 .1 .1) (c .enum-told5 .given .1)
+join-impl-returns-13 t c = settled-after _ _ _ _ _ _ (c .settled6 .ensures) (arm-incompatible _ (c .before .before .before .before .before .before .before .before .before .before .args .case) _ _ _ _ (c .before .before .before .before .before .before .node-at .result) (c .before .before .before .before .node-at2 .result) (c .before .before .before .before .before .before .before .before .if1 .left) (c .before .before .before .before .before .before .node-at .ensures) (c .before .before .before .before .node-at2 .ensures) _ (c .before .before .before .arm-of .ensures) (c .before .before .before .before .before .before .before .before .before .before .pre .1 .0) (c .before .before .before .before .before .before .before .before .before .before .pre .1 .1 .0, c .before .before .before .before .before .before .before .before .before .before .pre .1 .1 .1) (c .before .enum-told5 .given .1))
 
 join-impl-same-length-13 : (t : ℕ) → join-impl-lts.Need-same-length-13 (join-impl-calls t) (join-impl-at t) join-impl.Post
 join-impl-same-length-13 t c = search needs
 
 join-impl-returns-14 : (t : ℕ) → join-impl-lts.Need-returns-14 (join-impl-calls t) (join-impl-at t) join-impl.Post
-join-impl-returns-14 t c = arm-arity _ (c .before .before .before .before .before .before .before .before .before .args .case) _ _ _ _ (c .before .before .before .before .before .node-at .result) (c .before .before .before .node-at2 .result) (c .before .before .before .before .before .before .before .if1 .left) (c .before .before .before .before .before .node-at .ensures) (c .before .before .before .node-at2 .ensures) _ (c .before .before .arm-of .ensures) (c .before .before .before .before .before .before .before .before .before .pre .1 .0) (c .before .before .before .before .before .before .before .before .before .pre .1 .1 .0, c .before .before .before .before .before .before .before .before .before .pre .1 .1 .1) (c .enum-told6 .given .1)
-
-join-impl-same-length-14 : (t : ℕ) → join-impl-lts.Need-same-length-14 (join-impl-calls t) (join-impl-at t) join-impl.Post
-join-impl-same-length-14 t c = search needs
-
-join-impl-returns-15 : (t : ℕ) → join-impl-lts.Need-returns-15 (join-impl-calls t) (join-impl-at t) join-impl.Post
-join-impl-returns-15 t c = arm-incompatible _ (c .before .before .before .before .before .before .before .before .before .args .case) _ _ _ _ (c .before .before .before .before .before .node-at .result) (c .before .before .before .node-at2 .result) (c .before .before .before .before .before .before .before .if1 .left) (c .before .before .before .before .before .node-at .ensures) (c .before .before .before .node-at2 .ensures) _ (c .before .before .arm-of .ensures) (c .before .before .before .before .before .before .before .before .before .pre .1 .0) (c .before .before .before .before .before .before .before .before .before .pre .1 .1 .0, c .before .before .before .before .before .before .before .before .before .pre .1 .1 .1) (c .enum-told7 .given .1)
-
-join-impl-same-length-15 : (t : ℕ) → join-impl-lts.Need-same-length-15 (join-impl-calls t) (join-impl-at t) join-impl.Post
-join-impl-same-length-15 t c = search needs
-
-join-impl-returns-16 : (t : ℕ) → join-impl-lts.Need-returns-16 (join-impl-calls t) (join-impl-at t) join-impl.Post
-join-impl-returns-16 t c = arm-disagree _ (c .before .before .before .before .before .before .before .before .before .args .case) _ _ _ _ (c .before .before .before .before .before .node-at .result) (c .before .before .before .node-at2 .result) (c .before .before .before .before .before .before .before .if1 .left) (c .before .before .before .before .before .node-at .ensures) (c .before .before .before .node-at2 .ensures) _ (c .before .before .arm-of .ensures) (c .before .before .before .before .before .before .before .before .before .pre .1 .0) (c .enum-told8 .given .1)
+join-impl-returns-14 t c = settled-after _ _ _ _ _ _ (c .settled7 .ensures) (arm-disagree _ (c .before .before .before .before .before .before .before .before .before .before .args .case) _ _ _ _ (c .before .before .before .before .before .before .node-at .result) (c .before .before .before .before .node-at2 .result) (c .before .before .before .before .before .before .before .before .if1 .left) (c .before .before .before .before .before .before .node-at .ensures) (c .before .before .before .before .node-at2 .ensures) _ (c .before .before .before .arm-of .ensures) (c .before .before .before .before .before .before .before .before .before .before .pre .1 .0) (c .before .enum-told6 .given .1))
 
 abbrev join-impl-types-Inv-loop : join-impl-types-lts.InvT-loop
 join-impl-types-Inv-loop w₀ case left first1 many1 first2 many2 n tys₀ at₀ i₀ w tys at i = Gathering left (case-of case) w₀ at₀ first1 many1 first2 many2 n w at tys i
@@ -395,50 +389,51 @@ join-tvar-returns-3 t c = tvar-close _ _ _ _ _ _ _ _ _ _ (c .before .before .bef
 pub +join-impl+join-impl-types+join-tvar-spec : {M : Type 1} → statement M
 +join-impl+join-impl-types+join-tvar-spec =
     close μ-join-impl μ-join-impl-types μ-join-tvar (λ t. join-impl-lts.spec (join-impl-calls t) (join-impl-at t) join-impl.Post
+    (join-impl-settled-requires t)
     (join-impl-returns t)
     (join-impl-node-at-requires t)
     (join-impl-node-at-requires-2 t)
     (join-impl-arm-of-requires t)
     (join-impl-enum-told t)
+    (join-impl-settled-requires-2 t)
     (join-impl-enum-told-2 t)
+    (join-impl-settled-requires-3 t)
     (join-impl-enum-known-side t)
+    (join-impl-pick-loc-requires t)
     (join-impl-sub-join-impl t)
     (join-impl-join-impl-requires t)
-    (join-impl-done-of-requires t)
-    (join-impl-enum-known-t t)
-    (join-impl-enum-told-3 t)
-    (join-impl-same-length t)
-    (join-impl-returns-2 t)
-    (join-impl-pick-loc-requires t)
-    (join-impl-push-node-requires t)
+    (join-impl-push-ref-requires t)
     (join-impl-enum-known-k t)
     (join-impl-sub-join-impl-types t)
     (join-impl-join-impl-types-requires t)
-    (join-impl-done-of-requires-2 t)
-    (join-impl-enum-known-m t)
-    (join-impl-enum-told-4 t)
-    (join-impl-same-length-2 t)
-    (join-impl-returns-3 t)
-    (join-impl-push-apply-requires t)
+    (join-impl-push-types-requires t)
     (join-impl-enum-known-id1 t)
     (join-impl-sub-join-tvar t)
     (join-impl-join-tvar-requires t)
     (join-impl-enum-known-id t)
     (join-impl-meet-tvar-requires t)
-    (join-impl-enum-known-what t)
-    (join-impl-enum-known-what-2 t)
+    (join-impl-enum-known-a t)
+    (join-impl-enum-known-au t)
     (join-impl-sub-join-tvar-2 t)
     (join-impl-join-tvar-requires-2 t)
     (join-impl-enum-known-id-2 t)
     (join-impl-meet-tvar-requires-2 t)
-    (join-impl-enum-known-what-3 t)
-    (join-impl-enum-known-what-4 t)
+    (join-impl-enum-known-a-2 t)
+    (join-impl-enum-known-au-2 t)
     (join-impl-sub-join-tvar-3 t)
     (join-impl-join-tvar-requires-3 t)
+    (join-impl-enum-told-3 t)
+    (join-impl-settled-requires-4 t)
+    (join-impl-enum-told-4 t)
+    (join-impl-settled-requires-5 t)
     (join-impl-enum-told-5 t)
+    (join-impl-settled-requires-6 t)
     (join-impl-enum-told-6 t)
-    (join-impl-enum-told-7 t)
-    (join-impl-enum-told-8 t)
+    (join-impl-settled-requires-7 t)
+    (join-impl-same-length t)
+    (join-impl-returns-2 t)
+    (join-impl-same-length-2 t)
+    (join-impl-returns-3 t)
     (join-impl-same-length-3 t)
     (join-impl-returns-4 t)
     (join-impl-same-length-4 t)
@@ -460,11 +455,7 @@ pub +join-impl+join-impl-types+join-tvar-spec : {M : Type 1} → statement M
     (join-impl-same-length-12 t)
     (join-impl-returns-13 t)
     (join-impl-same-length-13 t)
-    (join-impl-returns-14 t)
-    (join-impl-same-length-14 t)
-    (join-impl-returns-15 t)
-    (join-impl-same-length-15 t)
-    (join-impl-returns-16 t))
+    (join-impl-returns-14 t))
     (λ t. join-impl-types-lts.spec (join-impl-types-calls t) (join-impl-types-at t) join-impl-types.Post
     join-impl-types-Inv-loop
     join-impl-types-μ-loop

@@ -1,11 +1,9 @@
+-- `join::join` meets its contract. Assumes nothing.
 use Rattle.definition.specs.Types.{max-depth}
 use Rattle.definition.specs.Join.{join}
 use borrow.Author.Needs.{needs}
 use Rattle.join.proofs.join.Statement.{statement}
 use Rattle.join.proofs.join.Tie as tie
-use Rattle.join.proofs.join.Reads as reads
-use Rattle.join.proofs.join.Lts as lts
-use Rattle.join.proofs.join_impl.Reads as join-impl-reads
 
 join-impl-requires : tie.Need-join-impl-requires
 join-impl-requires c κs = search needs

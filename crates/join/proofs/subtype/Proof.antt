@@ -1,11 +1,9 @@
+-- `join::subtype` meets its contract. Assumes nothing.
 use Rattle.definition.specs.Types.{max-depth}
 use Rattle.definition.specs.Join.{subtype}
 use borrow.Author.Needs.{needs}
 use Rattle.join.proofs.subtype.Statement.{statement}
 use Rattle.join.proofs.subtype.Tie as tie
-use Rattle.join.proofs.subtype.Reads as reads
-use Rattle.join.proofs.subtype.Lts as lts
-use Rattle.join.proofs.join_impl.Reads as join-impl-reads
 
 join-impl-requires : tie.Need-join-impl-requires
 join-impl-requires c κs = search needs

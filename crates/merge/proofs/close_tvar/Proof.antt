@@ -1,3 +1,4 @@
+-- `merge::close_tvar` meets its contract. Assumes nothing.
 use Rattle.table.specs.State.{found}
 use Rattle.table.proofs.Steps.{after-now}
 use mathlib.Core.Path.{refl, sym, ap, _∙_}
@@ -5,12 +6,6 @@ use Rattle.merge.proofs.Laws.{close-bound, close-done, close-failed, cl
 use borrow.Author.Needs.{needs}
 use Rattle.merge.proofs.close_tvar.Statement.{statement}
 use Rattle.merge.proofs.close_tvar.Tie as tie
-use Rattle.merge.proofs.close_tvar.Reads as reads
-use Rattle.merge.proofs.close_tvar.Lts as lts
-use Rattle.merge.proofs.show_both.Reads as show-both-reads
-use Rattle.subst.proofs.join_bind_tvar.Reads as join-bind-tvar-reads
-use Rattle.table.proofs.bound_at.Reads as bound-at-reads
-use Rattle.table.proofs.node_at.Reads as node-at-reads
 
 bound-at-requires : tie.Need-bound-at-requires
 bound-at-requires c κs = search needs

@@ -1,9 +1,8 @@
+-- `merge::is_anything` meets its contract. Assumes nothing.
 use Rattle.definition.specs.Subst.{is-anything}
 use borrow.Author.Needs.{needs}
 use Rattle.merge.proofs.is_anything.Statement.{statement}
 use Rattle.merge.proofs.is_anything.Tie as tie
-use Rattle.merge.proofs.is_anything.Reads as reads
-use Rattle.merge.proofs.is_anything.Lts as lts
 
 enum-told : tie.Need-enum-told
 enum-told c = search needs

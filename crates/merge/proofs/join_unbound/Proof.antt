@@ -1,11 +1,8 @@
+-- `merge::join_unbound` meets its contract. Assumes nothing.
 use Rattle.merge.proofs.Laws.{bound-after, unbound-done, unbound-failed, unbound-recursive}
 use borrow.Author.Needs.{needs}
 use Rattle.merge.proofs.join_unbound.Statement.{statement}
 use Rattle.merge.proofs.join_unbound.Tie as tie
-use Rattle.merge.proofs.join_unbound.Reads as reads
-use Rattle.merge.proofs.join_unbound.Lts as lts
-use Rattle.subst.proofs.join_bind_tvar.Reads as join-bind-tvar-reads
-use Rattle.table.proofs.node_at.Reads as node-at-reads
 
 node-at-requires : tie.Need-node-at-requires
 node-at-requires c κs = search needs

@@ -1,16 +1,9 @@
+-- `merge::meet_tvar` meets its contract. Assumes nothing.
 use Rattle.merge.proofs.Answers.{var-small, still-in}
 use Rattle.merge.proofs.Laws.{meets-free, meets-stop, meets-fresh}
 use borrow.Author.Needs.{needs}
 use Rattle.merge.proofs.meet_tvar.Statement.{statement}
 use Rattle.merge.proofs.meet_tvar.Tie as tie
-use Rattle.merge.proofs.meet_tvar.Reads as reads
-use Rattle.merge.proofs.meet_tvar.Lts as lts
-use Rattle.merge.proofs.join_unbound.Reads as join-unbound-reads
-use Rattle.table.proofs.bind_var.Reads as bind-var-reads
-use Rattle.table.proofs.bound_at.Reads as bound-at-reads
-use Rattle.table.proofs.done_of.Reads as done-of-reads
-use Rattle.table.proofs.take_var.Reads as take-var-reads
-use Rattle.table.proofs.tvar.Reads as tvar-reads
 
 bound-at-requires : tie.Need-bound-at-requires
 bound-at-requires c κs = search needs
@@ -46,7 +39,7 @@ same-length : tie.Need-same-length
 same-length c = search needs
 
 returns : tie.Need-returns
-returns c = meets-free _ _ _ _ _ _ _ _ (c .before .before .before .before .before .before .before .bound-at .ensures) _ _ (c .before .before .before .before .before .enum-told .given .1) (c .before .before .before .join-unbound .ensures)
+returns c = meets-free _ _ _ _ _ _ _ _ (c .before .before .before .before .before .before .bound-at .ensures) _ _ (c .before .before .before .before .enum-told .given .1) (c .before .before .join-unbound .ensures)
 
 same-length-2 : tie.Need-same-length-2
 same-length-2 c = search needs

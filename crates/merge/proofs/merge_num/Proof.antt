@@ -1,10 +1,8 @@
+-- `merge::merge_num` meets its contract. Assumes nothing.
 use Rattle.merge.proofs.Laws.{marks-second, marks-first, marks-none}
 use borrow.Author.Needs.{needs}
 use Rattle.merge.proofs.merge_num.Statement.{statement}
 use Rattle.merge.proofs.merge_num.Tie as tie
-use Rattle.merge.proofs.merge_num.Reads as reads
-use Rattle.merge.proofs.merge_num.Lts as lts
-use Rattle.subst.proofs.set_num_var.Reads as set-num-var-reads
 
 enum-known-num-loc-2 : tie.Need-enum-known-num-loc-2
 enum-known-num-loc-2 c = search needs

@@ -1,17 +1,10 @@
+-- `merge::open_ends` meets its contract. Assumes nothing.
 use mathlib.Core.Path.{refl, sym, ap, _∙_}
 use Rattle.merge.proofs.Answers.{var-small, still-in, node-in}
 use Rattle.merge.proofs.Laws.{ends-no-var, ends-no-node, ends-no-second, ends-ready}
 use borrow.Author.Needs.{needs}
 use Rattle.merge.proofs.open_ends.Statement.{statement}
 use Rattle.merge.proofs.open_ends.Tie as tie
-use Rattle.merge.proofs.open_ends.Reads as reads
-use Rattle.merge.proofs.open_ends.Lts as lts
-use Rattle.merge.proofs.merge_num.Reads as merge-num-reads
-use Rattle.table.proofs.bind_var.Reads as bind-var-reads
-use Rattle.table.proofs.done_of.Reads as done-of-reads
-use Rattle.table.proofs.push_node.Reads as push-node-reads
-use Rattle.table.proofs.take_var.Reads as take-var-reads
-use Rattle.table.proofs.tvar.Reads as tvar-reads
 
 take-var-requires : tie.Need-take-var-requires
 take-var-requires c κs = search needs

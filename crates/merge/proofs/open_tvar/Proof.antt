@@ -1,16 +1,10 @@
+-- `merge::open_tvar` meets its contract. Assumes nothing.
 use Rattle.merge.proofs.Answers.{still-in, node-in}
 use mathlib.Core.Path.{refl, sym, ap, _∙_}
 use Rattle.merge.proofs.Laws.{open-no-first, open-no-second, open-both}
 use borrow.Author.Needs.{needs}
 use Rattle.merge.proofs.open_tvar.Statement.{statement}
 use Rattle.merge.proofs.open_tvar.Tie as tie
-use Rattle.merge.proofs.open_tvar.Reads as reads
-use Rattle.merge.proofs.open_tvar.Lts as lts
-use Rattle.merge.proofs.open_ends.Reads as open-ends-reads
-use Rattle.merge.proofs.type_of.Reads as type-of-reads
-use Rattle.subst.proofs.forward_tvar.Reads as forward-tvar-reads
-use Rattle.table.proofs.done_of.Reads as done-of-reads
-use Rattle.table.proofs.num_loc_at.Reads as num-loc-at-reads
 
 forward-tvar-requires : tie.Need-forward-tvar-requires
 forward-tvar-requires c κs = search needs

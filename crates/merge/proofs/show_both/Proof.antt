@@ -1,12 +1,9 @@
+-- `merge::show_both` meets its contract. Assumes nothing.
 use Rattle.merge.proofs.Answers.{still-in}
 use Rattle.merge.proofs.Laws.{show-no-first, show-no-second, show-done}
 use borrow.Author.Needs.{needs}
 use Rattle.merge.proofs.show_both.Statement.{statement}
 use Rattle.merge.proofs.show_both.Tie as tie
-use Rattle.merge.proofs.show_both.Reads as reads
-use Rattle.merge.proofs.show_both.Lts as lts
-use Rattle.merge.proofs.shown.Reads as shown-reads
-use Rattle.table.proofs.done_of.Reads as done-of-reads
 
 shown-requires : tie.Need-shown-requires
 shown-requires c κs = search needs

@@ -1,13 +1,9 @@
+-- `merge::shown` meets its contract. Assumes nothing.
 use Rattle.table.proofs.Steps.{after-now}
 use Rattle.merge.proofs.Laws.{after-seen, shown-var, shown-same}
 use borrow.Author.Needs.{needs}
 use Rattle.merge.proofs.shown.Statement.{statement}
 use Rattle.merge.proofs.shown.Tie as tie
-use Rattle.merge.proofs.shown.Reads as reads
-use Rattle.merge.proofs.shown.Lts as lts
-use Rattle.merge.proofs.is_anything.Reads as is-anything-reads
-use Rattle.table.proofs.node_at.Reads as node-at-reads
-use Rattle.table.proofs.push_node.Reads as push-node-reads
 
 node-at-requires : tie.Need-node-at-requires
 node-at-requires c κs = search needs

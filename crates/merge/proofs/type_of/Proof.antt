@@ -1,3 +1,4 @@
+-- `merge::type_of` meets its contract. Assumes nothing.
 use Rattle.table.specs.State.{found}
 use Rattle.table.proofs.Steps.{after-now}
 use mathlib.Core.Path.{refl, sym, ap, _∙_}
@@ -6,10 +7,6 @@ use Rattle.merge.proofs.Laws.{after-seen, end-free, end-bound}
 use borrow.Author.Needs.{needs}
 use Rattle.merge.proofs.type_of.Statement.{statement}
 use Rattle.merge.proofs.type_of.Tie as tie
-use Rattle.merge.proofs.type_of.Reads as reads
-use Rattle.merge.proofs.type_of.Lts as lts
-use Rattle.table.proofs.bound_at.Reads as bound-at-reads
-use Rattle.table.proofs.push_node.Reads as push-node-reads
 
 bound-at-requires : tie.Need-bound-at-requires
 bound-at-requires c κs = search needs

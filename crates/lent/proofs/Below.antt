@@ -1,0 +1,88 @@
+-- Laws of a test of every number below a bound, and of tests joined. Assumes nothing.
+use mathlib.Core.Path.{_≡_, refl, sym, ap, _∙_}
+use mathlib.Core.Logic.{⊎-elim}
+use mathlib.Core.Bool.{Bool, true, false, not, _&&_}
+use mathlib.Core.List.{List, [], _∷_, _++_}
+use Prim.Native.Nat.{ℕ, zero, suc, _+_, _<_, _≤_}
+use native.Mathlib.Nat.{lt-suc-self, lt-trans, eq-or-lt-of-le, le-of-suc-le-suc, not-suc-le-zero}
+use native.Mathlib.Numerals.{add-one}
+use native.Mathlib.Omega.{arith}
+use Rattle.definition.specs.Types.{if_then_else_}
+use Rattle.lent.specs.Tests.{all-below}
+
+-- ---- two tests
+
+pub and-l : (a b : Bool) → a && b ≡ true → a ≡ true
+and-l true b e = refl
+and-l false b e = e
+
+pub and-r : (a b : Bool) → a && b ≡ true → b ≡ true
+and-r true b e = e
+and-r false b e = let z : false ≡ true = e in cc
+
+pub both : (a b : Bool) → a ≡ true → b ≡ true → a && b ≡ true
+both a b p q = rw (p, q) refl
+
+pub fails-l : (a b : Bool) → a ≡ false → a && b ≡ false
+fails-l a b e = rw e refl
+
+pub fails-r : (a b : Bool) → b ≡ false → a && b ≡ false
+fails-r true b e = e
+fails-r false b e = refl
+
+-- two tests that pass together are one
+pub same-test : (a b : Bool) → (a ≡ true → b ≡ true) → (b ≡ true → a ≡ true) → a ≡ b
+same-test true b f g = sym (f refl)
+same-test false true f g = g refl
+same-test false false f g = refl
+
+-- a test that follows from another and fails
+pub not-passed : (a b : Bool) → (a ≡ true → b ≡ true) → b ≡ false → a ≡ false
+not-passed true b f e = sym (f refl) ∙ e
+not-passed false b f e = refl
+
+-- ---- every number below
+
+pub all-none : (f : ℕ → Bool) → all-below 0 f ≡ true
+unfolding all-below
+all-none f = refl
+
+pub all-more : (n : ℕ) (f : ℕ → Bool) → all-below n f ≡ true → f n ≡ true → all-below (n + 1) f ≡ true
+unfolding all-below
+all-more n f p q = rw add-one (both (all-below n f) (f n) p q)
+
+pub all-at : (n : ℕ) (f : ℕ → Bool) → all-below n f ≡ true → (i : ℕ) → i < n → f i ≡ true
+unfolding all-below
+all-at zero f e i h = absurd (not-suc-le-zero h)
+all-at (suc n) f e i h =
+    ⊎-elim
+    (λ (p : i ≡ n). ap f p ∙ and-r (all-below n f) (f n) e)
+    (λ (q : i < n). all-at n f (and-l (all-below n f) (f n) e) i q)
+    (eq-or-lt-of-le (le-of-suc-le-suc h))
+
+pub all-from : (n : ℕ) (f : ℕ → Bool) → ((i : ℕ) → i < n → f i ≡ true) → all-below n f ≡ true
+unfolding all-below
+all-from zero f h = refl
+all-from (suc n) f h = both (all-below n f) (f n) (all-from n f (λ i p. h i (lt-trans p (lt-suc-self n)))) (h n (lt-suc-self n))
+
+-- one number fails
+pub one-fails : (n : ℕ) (f : ℕ → Bool) (i : ℕ) → i < n → f i ≡ false → all-below n f ≡ false
+one-fails n f i h e = not-passed (all-below n f) (f i) (λ p. all-at n f p i h) e
+
+-- the loop is over
+pub all-done : (n i : ℕ) (f : ℕ → Bool) → n ≤ i → i ≤ n → all-below i f ≡ true → all-below n f ≡ true
+all-done n i f h k e = let z : i ≡ n = omega arith in rw z at e
+
+-- ---- what a test decides
+
+pub passes : (a b : Bool) → a ≡ true → b ≡ a && b
+passes a b e = rw e refl
+
+pub when-true : {A : Type 0} (b : Bool) (x y : A) → b ≡ true → (if b then x else y) ≡ x
+when-true b x y e = rw e refl
+
+pub when-false : {A : Type 0} (b : Bool) (x y : A) → b ≡ false → (if b then x else y) ≡ y
+when-false b x y e = rw e refl
+
+pub fails-then : (a b : Bool) → a ≡ true → b ≡ false → a && b ≡ false
+fails-then a b e f = fails-r a b f

@@ -1,0 +1,54 @@
+use borrow.Author.Tests.{not-true, not-false, lt-ltb, le-ltb, eq-eqb, ne-eqb}
+use Rattle.lent.specs.Tests.{all-below, byte-fine}
+use Rattle.lent.proofs.Below.{one-fails, all-more, all-none, all-done}
+use borrow.Author.Needs.{needs}
+use native.Mathlib.Omega.{arith}
+use Prim.Native.Nat.{_≤_, _<_, _-_, _+_}
+use mathlib.Core.Bool.{true}
+use mathlib.Core.Path.{_≡_, refl, sym, _∙_}
+use Rattle.lent.proofs.bytes_fine.Statement.{statement}
+use Rattle.lent.proofs.bytes_fine.Tie as tie
+use Rattle.lent.proofs.bytes_fine.Reads as reads
+use Rattle.lent.proofs.bytes_fine.Lts as lts
+use Rattle.lent.proofs.byte_fine.Reads as byte-fine-reads
+
+abbrev Inv-loop : tie.InvT-loop
+Inv-loop bytes n k₀ k = (k ≤ 8) × (all-below k (byte-fine bytes n) ≡ true)
+
+abbrev μ-loop : tie.MeasureT-loop
+μ-loop bytes n k₀ k = 8 - k
+
+loop-holds : tie.Need-loop-holds Inv-loop μ-loop
+loop-holds c = (omega arith, all-none _)
+
+byte-fine-requires : tie.Need-byte-fine-requires Inv-loop μ-loop
+byte-fine-requires c κs = search needs
+
+returns : tie.Need-returns Inv-loop μ-loop
+returns c = sym (one-fails _ _ (c .before .before .before .loop .k) (omega arith) (sym (c .before .byte-fine .ensures) ∙ not-true _ (c .if1 .taken)))
+
+add-k : tie.Need-add-k Inv-loop μ-loop
+add-k c = omega arith
+
+loop-less : tie.Need-loop-less Inv-loop μ-loop
+loop-less c = omega arith
+
+loop-again : tie.Need-loop-again Inv-loop μ-loop
+loop-again c = (omega arith, all-more _ _ (c .before .before .before .loop .inv .1) (sym (c .before .byte-fine .ensures) ∙ not-false _ (c .if1 .left)))
+
+returns-2 : tie.Need-returns-2 Inv-loop μ-loop
+returns-2 c = sym (all-done _ _ _ (omega arith) (omega arith) (c .before .loop .inv .1))
+
+pub bytes-fine-spec : {M : Type 1} → statement M
+bytes-fine-spec =
+    tie.close
+    (tie.spec
+    Inv-loop
+    μ-loop
+    loop-holds
+    byte-fine-requires
+    returns
+    add-k
+    loop-less
+    loop-again
+    returns-2)

@@ -1,0 +1,54 @@
+use borrow.Author.Tests.{not-true, not-false, lt-ltb, le-ltb, eq-eqb, ne-eqb}
+use Rattle.lent.specs.Tests.{all-below, chain-fine}
+use Rattle.lent.proofs.Below.{one-fails, all-more, all-none, all-done}
+use borrow.Author.Needs.{needs}
+use native.Mathlib.Omega.{arith}
+use Prim.Native.Nat.{_≤_, _<_, _-_, _+_}
+use mathlib.Core.Bool.{true}
+use mathlib.Core.Path.{_≡_, refl, sym, _∙_}
+use Rattle.lent.proofs.chains_fine.Statement.{statement}
+use Rattle.lent.proofs.chains_fine.Tie as tie
+use Rattle.lent.proofs.chains_fine.Reads as reads
+use Rattle.lent.proofs.chains_fine.Lts as lts
+use Rattle.lent.proofs.chain_fine.Reads as chain-fine-reads
+
+abbrev Inv-loop : tie.InvT-loop
+Inv-loop w u n i₀ i = (i ≤ (u .vars)) × (all-below i (chain-fine w u) ≡ true)
+
+abbrev μ-loop : tie.MeasureT-loop
+μ-loop w u n i₀ i = (u .vars) - i
+
+loop-holds : tie.Need-loop-holds Inv-loop μ-loop
+loop-holds c = (omega arith, all-none _)
+
+chain-fine-requires : tie.Need-chain-fine-requires Inv-loop μ-loop
+chain-fine-requires c κs = search needs
+
+returns : tie.Need-returns Inv-loop μ-loop
+returns c = sym (one-fails _ _ (c .before .before .before .loop .i) (omega arith) (sym (c .before .chain-fine .ensures) ∙ not-true _ (c .if1 .taken)))
+
+add-i : tie.Need-add-i Inv-loop μ-loop
+add-i c = omega arith
+
+loop-less : tie.Need-loop-less Inv-loop μ-loop
+loop-less c = omega arith
+
+loop-again : tie.Need-loop-again Inv-loop μ-loop
+loop-again c = (omega arith, all-more _ _ (c .before .before .before .loop .inv .1) (sym (c .before .chain-fine .ensures) ∙ not-false _ (c .if1 .left)))
+
+returns-2 : tie.Need-returns-2 Inv-loop μ-loop
+returns-2 c = sym (all-done _ _ _ (omega arith) (omega arith) (c .before .loop .inv .1))
+
+pub chains-fine-spec : {M : Type 1} → statement M
+chains-fine-spec =
+    tie.close
+    (tie.spec
+    Inv-loop
+    μ-loop
+    loop-holds
+    chain-fine-requires
+    returns
+    add-i
+    loop-less
+    loop-again
+    returns-2)

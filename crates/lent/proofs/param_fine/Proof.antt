@@ -1,0 +1,24 @@
+use Rattle.lent.proofs.Below.{passes, both, fails-l, fails-then, when-true, when-false, one-fails, all-more, all-none, all-done}
+use mathlib.Core.Path.{refl, sym, ap, _∙_}
+use borrow.Author.Tests.{lt-ltb, le-ltb, le-leb, lt-leb, eq-eqb, ne-eqb}
+use Rattle.lent.specs.Tests.{param-fine}
+use borrow.Author.Tests.{ltb-true, ltb-false, leb-true, leb-false, eqb-true, eqb-false, lt-ltb, le-ltb, le-leb, lt-leb, eq-eqb, ne-eqb}
+use Rattle.lent.proofs.param_fine.Statement.{statement}
+use Rattle.lent.proofs.param_fine.Tie as tie
+use Rattle.lent.proofs.param_fine.Reads as reads
+use Rattle.lent.proofs.param_fine.Lts as lts
+
+returns : tie.Need-returns
+unfolding param-fine
+returns c = sym (fails-l _ _ (fails-l _ _ (lt-leb _ _ (c .if1 .taken))))
+
+returns-2 : tie.Need-returns-2
+unfolding param-fine
+returns-2 c = sym (fails-l _ _ (fails-then _ _ (le-leb _ _ (c .before .if1 .left)) (ne-eqb _ _ (c .if2 .taken))))
+
+returns-3 : tie.Need-returns-3
+unfolding param-fine
+returns-3 c = passes _ _ (both _ _ (le-leb _ _ (c .before .if1 .left)) (eq-eqb _ _ (c .if2 .left)))
+
+pub param-fine-spec : {M : Type 1} → statement M
+param-fine-spec = tie.close (tie.spec returns returns-2 returns-3)

@@ -1,0 +1,38 @@
+use Rattle.lent.proofs.Below.{passes, both, fails-l, fails-then, when-true, when-false, one-fails, all-more, all-none, all-done}
+use mathlib.Core.Path.{refl, sym, ap, _∙_}
+use borrow.Author.Tests.{lt-ltb, le-ltb, le-leb, lt-leb, eq-eqb, ne-eqb}
+use Rattle.lent.specs.Tests.{params-at}
+use borrow.Author.Tests.{ltb-true, ltb-false, leb-true, leb-false, eqb-true, eqb-false, lt-ltb, le-ltb, le-leb, lt-leb, eq-eqb, ne-eqb}
+use borrow.Author.Needs.{needs}
+use Rattle.lent.proofs.params_at.Statement.{statement}
+use Rattle.lent.proofs.params_at.Tie as tie
+use Rattle.lent.proofs.params_at.Reads as reads
+use Rattle.lent.proofs.params_at.Lts as lts
+
+mul-at : tie.Need-mul-at
+mul-at c = search needs
+
+add-at : tie.Need-add-at
+add-at c = search needs
+
+add-result : tie.Need-add-result
+add-result c = search needs
+
+mul-result : tie.Need-mul-result
+mul-result c = search needs
+
+shared-slice-read-result : tie.Need-shared-slice-read-result
+shared-slice-read-result c = search needs
+
+returns : tie.Need-returns
+unfolding params-at
+returns c = sym (when-true _ _ _ (lt-ltb _ _ (c .before .if1 .taken)))
+
+returns-2 : tie.Need-returns-2
+unfolding params-at
+returns-2 c = sym (when-false _ _ _ (le-ltb _ _ (c .if1 .left)))
+
+pub params-at-spec : {M : Type 1} → statement M
+params-at-spec =
+    tie.close
+    (tie.spec mul-at add-at add-result mul-result shared-slice-read-result returns returns-2)

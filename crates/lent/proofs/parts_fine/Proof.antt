@@ -1,0 +1,68 @@
+use Rattle.lent.specs.Tests.{all-below, part-fine}
+use borrow.Author.Tests.{not-true, not-false, lt-ltb, le-ltb, eq-eqb, ne-eqb}
+use Rattle.lent.proofs.Below.{one-fails, all-more, all-none, all-done}
+use borrow.Author.Needs.{needs}
+use native.Mathlib.Omega.{arith}
+use Prim.Native.Nat.{_≤_, _<_, _-_, _+_}
+use mathlib.Core.Bool.{true}
+use mathlib.Core.Path.{_≡_, refl, sym, _∙_}
+use Rattle.lent.proofs.parts_fine.Statement.{statement}
+use Rattle.lent.proofs.parts_fine.Tie as tie
+use Rattle.lent.proofs.parts_fine.Reads as reads
+use Rattle.lent.proofs.parts_fine.Lts as lts
+
+abbrev Inv-loop : tie.InvT-loop
+Inv-loop w t c d i₀ i = (i ≤ d) × (all-below i (part-fine w t c) ≡ true)
+
+abbrev μ-loop : tie.MeasureT-loop
+μ-loop w t c d i₀ i = d - i
+
+loop-holds : tie.Need-loop-holds Inv-loop μ-loop
+loop-holds c = (omega arith, all-none _)
+
+add-at : tie.Need-add-at Inv-loop μ-loop
+add-at c = search needs
+
+add-at-2 : tie.Need-add-at-2 Inv-loop μ-loop
+add-at-2 c = search needs
+
+mul-if1 : tie.Need-mul-if1 Inv-loop μ-loop
+mul-if1 c = search needs
+
+shared-slice-read-if1 : tie.Need-shared-slice-read-if1 Inv-loop μ-loop
+shared-slice-read-if1 c = search needs
+
+returns : tie.Need-returns Inv-loop μ-loop
+unfolding part-fine
+returns c = sym (one-fails _ _ (c .before .before .before .loop .i) (omega arith) (le-ltb _ _ (c .if1 .taken)))
+
+add-i : tie.Need-add-i Inv-loop μ-loop
+add-i c = omega arith
+
+loop-less : tie.Need-loop-less Inv-loop μ-loop
+loop-less c = omega arith
+
+loop-again : tie.Need-loop-again Inv-loop μ-loop
+unfolding part-fine
+loop-again c = (omega arith, all-more _ _ (c .before .before .before .loop .inv .1) (lt-ltb _ _ (c .if1 .left)))
+
+returns-2 : tie.Need-returns-2 Inv-loop μ-loop
+unfolding part-fine
+returns-2 c = sym (all-done _ _ _ (omega arith) (omega arith) (c .before .loop .inv .1))
+
+pub parts-fine-spec : {M : Type 1} → statement M
+parts-fine-spec =
+    tie.close
+    (tie.spec
+    Inv-loop
+    μ-loop
+    loop-holds
+    add-at
+    add-at-2
+    mul-if1
+    shared-slice-read-if1
+    returns
+    add-i
+    loop-less
+    loop-again
+    returns-2)

@@ -1,0 +1,53 @@
+use Rattle.lent.proofs.Below.{passes, both, fails-l, fails-then, when-true, when-false, one-fails, all-more, all-none, all-done}
+use mathlib.Core.Path.{refl, sym, ap, _∙_}
+use borrow.Author.Tests.{lt-ltb, le-ltb, le-leb, lt-leb, eq-eqb, ne-eqb}
+use Rattle.lent.specs.Tests.{struct-fine}
+use borrow.Author.Tests.{ltb-true, ltb-false, leb-true, leb-false, eqb-true, eqb-false, lt-ltb, le-ltb, le-leb, lt-leb, eq-eqb, ne-eqb}
+use borrow.Author.Needs.{needs}
+use Rattle.lent.proofs.struct_fine.Statement.{statement}
+use Rattle.lent.proofs.struct_fine.Tie as tie
+use Rattle.lent.proofs.struct_fine.Reads as reads
+use Rattle.lent.proofs.struct_fine.Lts as lts
+
+mul-at : tie.Need-mul-at
+mul-at c = search needs
+
+add-at : tie.Need-add-at
+add-at c = search needs
+
+mul-if1 : tie.Need-mul-if1
+mul-if1 c = search needs
+
+shared-slice-read-if1 : tie.Need-shared-slice-read-if1
+shared-slice-read-if1 c = search needs
+
+returns : tie.Need-returns
+unfolding struct-fine
+returns c = sym (fails-l _ _ (lt-leb _ _ (c .if1 .taken)))
+
+add-result : tie.Need-add-result
+add-result c = search needs
+
+mul-result : tie.Need-mul-result
+mul-result c = search needs
+
+shared-slice-read-result : tie.Need-shared-slice-read-result
+shared-slice-read-result c = search needs
+
+returns-2 : tie.Need-returns-2
+unfolding struct-fine
+returns-2 c = passes _ _ (le-leb _ _ (c .before .if1 .left))
+
+pub struct-fine-spec : {M : Type 1} → statement M
+struct-fine-spec =
+    tie.close
+    (tie.spec
+    mul-at
+    add-at
+    mul-if1
+    shared-slice-read-if1
+    returns
+    add-result
+    mul-result
+    shared-slice-read-result
+    returns-2)

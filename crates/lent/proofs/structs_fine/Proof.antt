@@ -1,0 +1,54 @@
+use borrow.Author.Tests.{not-true, not-false, lt-ltb, le-ltb, eq-eqb, ne-eqb}
+use Rattle.lent.specs.Tests.{all-below, struct-fine}
+use Rattle.lent.proofs.Below.{one-fails, all-more, all-none, all-done}
+use borrow.Author.Needs.{needs}
+use native.Mathlib.Omega.{arith}
+use Prim.Native.Nat.{_≤_, _<_, _-_, _+_}
+use mathlib.Core.Bool.{true}
+use mathlib.Core.Path.{_≡_, refl, sym, _∙_}
+use Rattle.lent.proofs.structs_fine.Statement.{statement}
+use Rattle.lent.proofs.structs_fine.Tie as tie
+use Rattle.lent.proofs.structs_fine.Reads as reads
+use Rattle.lent.proofs.structs_fine.Lts as lts
+use Rattle.lent.proofs.struct_fine.Reads as struct-fine-reads
+
+abbrev Inv-loop : tie.InvT-loop
+Inv-loop w n i₀ i = (i ≤ n) × (all-below i (struct-fine w) ≡ true)
+
+abbrev μ-loop : tie.MeasureT-loop
+μ-loop w n i₀ i = n - i
+
+loop-holds : tie.Need-loop-holds Inv-loop μ-loop
+loop-holds c = (omega arith, all-none _)
+
+struct-fine-requires : tie.Need-struct-fine-requires Inv-loop μ-loop
+struct-fine-requires c κs = search needs
+
+returns : tie.Need-returns Inv-loop μ-loop
+returns c = sym (one-fails _ _ (c .before .before .before .loop .i) (omega arith) (sym (c .before .struct-fine .ensures) ∙ not-true _ (c .if1 .taken)))
+
+add-i : tie.Need-add-i Inv-loop μ-loop
+add-i c = omega arith
+
+loop-less : tie.Need-loop-less Inv-loop μ-loop
+loop-less c = omega arith
+
+loop-again : tie.Need-loop-again Inv-loop μ-loop
+loop-again c = (omega arith, all-more _ _ (c .before .before .before .loop .inv .1) (sym (c .before .struct-fine .ensures) ∙ not-false _ (c .if1 .left)))
+
+returns-2 : tie.Need-returns-2 Inv-loop μ-loop
+returns-2 c = sym (all-done _ _ _ (omega arith) (omega arith) (c .before .loop .inv .1))
+
+pub structs-fine-spec : {M : Type 1} → statement M
+structs-fine-spec =
+    tie.close
+    (tie.spec
+    Inv-loop
+    μ-loop
+    loop-holds
+    struct-fine-requires
+    returns
+    add-i
+    loop-less
+    loop-again
+    returns-2)

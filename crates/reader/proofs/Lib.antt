@@ -1,0 +1,5 @@
+-- Laws of the reader. Assumes nothing.
+pub mod Rest
+pub mod Heads
+pub mod Parts
+pub mod Loop

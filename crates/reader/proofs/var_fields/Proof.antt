@@ -1,0 +1,52 @@
+-- `reader::var_fields` meets its contract. Assumes nothing.
+use native.Mathlib.Omega.{arith}
+use mathlib.Core.Path.{refl}
+use Rattle.definition.specs.Reader.{_>>=_, go-on, give}
+use Rattle.definition.specs.Trees.{read-var, read-trees}
+use borrow.Author.Needs.{needs}
+use Rattle.reader.proofs.var_fields.Statement.{statement}
+use Rattle.reader.proofs.var_fields.Tie as tie
+
+name-below-requires : tie.Need-name-below-requires
+name-below-requires c κs = search needs
+
+enum-known-n : tie.Need-enum-known-n
+enum-known-n c = search needs
+
+cast-t9 : tie.Need-cast-t9
+cast-t9 c = omega (arith, (rw (c .before .n .given .1) at (c .before .before .before .name-below .ensures .within)) .0)
+
+add-t12 : tie.Need-add-t12
+add-t12 c = search needs
+
+enum-told : tie.Need-enum-told
+enum-told c = search needs
+
+enum-told-2 : tie.Need-enum-told-2
+enum-told-2 c = search needs
+
+returns : tie.Need-returns
+unfolding read-var _>>=_ go-on give read-trees
+returns c = λ s e. record { is = λ part. rw (e, ← c .before .before .before .name-below .ensures .is, c .before .n .given .1) refl; within = ((rw (c .before .n .given .1) at (c .before .before .before .name-below .ensures .within)) .1, omega arith) }
+
+returns-2 : tie.Need-returns-2
+unfolding read-var _>>=_ go-on give read-trees
+returns-2 c = λ s e. record { is = λ part. rw (e, ← c .before .before .name-below .ensures .is, c .enum-told .given .1) refl; within = tt }
+
+returns-3 : tie.Need-returns-3
+unfolding read-var _>>=_ go-on give read-trees
+returns-3 c = λ s e. record { is = λ part. rw (e, ← c .before .before .name-below .ensures .is, c .enum-told2 .given .1) refl; within = tt }
+
+pub var-fields-spec : {M : Type 1} → statement M
+var-fields-spec =
+    tie.close
+    (tie.spec
+    name-below-requires
+    enum-known-n
+    cast-t9
+    add-t12
+    enum-told
+    enum-told-2
+    returns
+    returns-2
+    returns-3)

@@ -1,0 +1,551 @@
+// One record from the caller's bytes: read from left to right (5, 6), its types placed as nodes (7).
+ghost use mathlib.Core.Path.{_≡_};
+ghost use mathlib.Core.Bool.{false};
+ghost use mathlib.Core.List.{List, []};
+ghost use Prim.Native.Nat.{ℕ, _+_, _-_, _≤_, _<_};
+ghost use lib.ListN.{length, getD, take};
+ghost use Rattle.definition.specs.Types as d;
+ghost use Rattle.definition.specs.Types.{malformed};
+ghost use Rattle.definition.specs.Store.{taken};
+ghost use Rattle.definition.specs.Instantiate.{builtin-tparams};
+ghost use Rattle.definition.specs.Reader.{refuse, byte, byte-to, read-u16, read-u32, name-below};
+ghost use Rattle.definition.specs.Trees.{mark-of, mark-fits, read-apply, read-ref, read-param, read-builtin, read-list, read-struct, read-var, by-tag, read-nested};
+ghost use Rattle.names.specs.Names.{mark-of as mark-is, name-of};
+ghost use Rattle.table.specs.State.{view, seen, Lay, After, Declares};
+ghost use Rattle.reader.specs.declared.Head.the-variants.{Begun};
+ghost use Rattle.reader.specs.Fields.{rest, Reads, Names, marked, Marks, Begins, Knows, Head-within, Head-nests, tree-read, many-parts};
+ghost use Rattle.reader.specs.Taken.{Arities, Takes, Parts-below, put-node, found-part, is-stop, is-over, node-in};
+use names::AbilitySet;
+use names::Mark;
+use names::TParamID;
+use names::TVar;
+use names::TypeName;
+use names::has_drop;
+use names::is_numeric;
+use table::Found;
+use table::Out;
+use table::Shape;
+use table::Step;
+use table::Used;
+use table::done_of;
+use table::push_apply;
+use table::push_node;
+use table::struct_at;
+
+// A number, or too few bytes.
+pub enum Number {
+    Got(u32),
+    Missing,
+}
+
+// A variable or a struct that there is; too few bytes; or one that there is not.
+pub enum Name {
+    Known(u32),
+    Cut,
+    Unknown,
+}
+
+// An ability mark.
+pub enum Marked {
+    With(Mark),
+    Wrong,
+}
+
+// A type's tag, location and fields without its parts, and the place after them; or 5; or 6.
+pub enum Head {
+    Begun(Shape, u32, usize),
+    Broken,
+    Unnamed,
+}
+
+// A type read and placed: its node; no space was left for it (7); 5; or 6.
+pub enum Part {
+    At(u32),
+    Full,
+    Malformed,
+    Unknown,
+}
+
+// .. with the rows in use then, and the place after the type.
+pub struct Taken {
+    pub part: Part,
+    pub used: Used,
+    pub next: usize,
+}
+
+fn wide(x: u8) -> u32
+    ensures { λ r. ⌜ (r ≡ x) × (r < 256) ⌝ }
+{
+    x as u32
+}
+
+// ---- numbers
+
+fn read_byte(b: &[u8], end: usize, at: usize) -> Number
+    requires { ⌜ (end ≤ length (now b)) × (at ≤ end) ⌝ }
+    ensures { λ r. ⌜ Reads byte 255 (now (b .entry)) end at 1 r ⌝ }
+{
+    if at < end {
+        Number::Got(wide(b[at]))
+    } else {
+        Number::Missing
+    }
+}
+
+fn read_u16(b: &[u8], end: usize, at: usize) -> Number
+    requires { ⌜ (end ≤ length (now b)) × (at ≤ end) ⌝ }
+    ensures { λ r. ⌜ Reads read-u16 65535 (now (b .entry)) end at 2 r ⌝ }
+{
+    if end - at < 2 {
+        return Number::Missing;
+    }
+    Number::Got(wide(b[at]) + 256 * wide(b[at + 1]))
+}
+
+pub fn read_u32(b: &[u8], end: usize, at: usize) -> Number
+    requires { ⌜ (end ≤ length (now b)) × (at ≤ end) ⌝ }
+    ensures { λ r. ⌜ Reads read-u32 4294967295 (now (b .entry)) end at 4 r ⌝ }
+{
+    if end - at < 4 {
+        return Number::Missing;
+    }
+    Number::Got(
+        wide(b[at]) + 256 * wide(b[at + 1]) + 65536 * wide(b[at + 2]) + 16777216 * wide(b[at + 3]),
+    )
+}
+
+// A byte from 0 to max.
+pub fn byte_to(b: &[u8], end: usize, at: usize, max: u32) -> Number
+    requires { ⌜ (end ≤ length (now b)) × (at ≤ end) ⌝ }
+    ensures { λ r. ⌜ Reads (byte-to max) max (now (b .entry)) end at 1 r ⌝ }
+{
+    let f = read_byte(b, end, at);
+    match f {
+        Number::Got(x) => {
+            if x <= max {
+                Number::Got(x)
+            } else {
+                Number::Missing
+            }
+        }
+        Number::Missing => Number::Missing,
+    }
+}
+
+// A number below `known`.
+pub fn name_below(b: &[u8], end: usize, at: usize, known: u32) -> Name
+    requires { ⌜ (end ≤ length (now b)) × (at ≤ end) ⌝ }
+    ensures { λ r. ⌜ Names known (now (b .entry)) end at r ⌝ }
+{
+    let f = read_u16(b, end, at);
+    match f {
+        Number::Got(x) => {
+            if x < known {
+                Name::Known(x)
+            } else {
+                Name::Unknown
+            }
+        }
+        Number::Missing => Name::Cut,
+    }
+}
+
+fn mark_of(x: u32) -> Marked
+    ensures { λ r. ⌜ marked r ≡ mark-of x ⌝ }
+{
+    if x == 0 {
+        return Marked::With(Mark::Absent);
+    }
+    if x < 16 {
+        return Marked::Wrong;
+    }
+    if x <= 31 {
+        return Marked::With(Mark::Set(AbilitySet((x - 16) as u8)));
+    }
+    Marked::Wrong
+}
+
+// 0 (none) or 16 plus the set.
+fn read_mark(b: &[u8], end: usize, at: usize) -> Marked
+    requires { ⌜ (end ≤ length (now b)) × (at ≤ end) ⌝ }
+    ensures { λ r. ⌜ Marks (now (b .entry)) end at r ⌝ }
+{
+    let f = read_byte(b, end, at);
+    match f {
+        Number::Got(x) => mark_of(x),
+        Number::Missing => Marked::Wrong,
+    }
+}
+
+// ---- fields after the tag and the location
+
+fn ref_fields(b: &[u8], end: usize, at: usize, loc: u32) -> Head
+    requires { ⌜ (end ≤ length (now b)) × (at ≤ end) ⌝ }
+    ensures { λ r. ⌜ ((s : d.State) → Begins (λ part. read-ref s part loc (rest (now (b .entry)) end at)) (now (b .entry)) end r) ⌝ }
+{
+    let m = byte_to(b, end, at, 1);
+    match m {
+        Number::Got(x) => Head::Begun(Shape::Ref(0 < x, 0), loc, at + 1),
+        Number::Missing => Head::Broken,
+    }
+}
+
+fn param_fields(b: &[u8], end: usize, at: usize, loc: u32) -> Head
+    requires { ⌜ (end ≤ length (now b)) × (at ≤ end) ⌝ }
+    ensures { λ r. ⌜ ((s : d.State) → Begins (λ part. read-param s part loc (rest (now (b .entry)) end at)) (now (b .entry)) end r) ⌝ }
+{
+    let i = read_u32(b, end, at);
+    match i {
+        Number::Got(id) => {
+            let a = byte_to(b, end, at + 4, 15);
+            match a {
+                Number::Got(x) => Head::Begun(
+                    Shape::Param(TParamID(id), AbilitySet(x as u8)),
+                    loc,
+                    at + 4 + 1,
+                ),
+                Number::Missing => Head::Broken,
+            }
+        }
+        Number::Missing => Head::Broken,
+    }
+}
+
+// On an integer type a set must contain drop.
+fn fits(k: Mark, b: u32) -> bool
+    ensures { λ r. ⌜ r ≡ mark-fits (mark-is k) (d.Builtin b) ⌝ }
+{
+    match k {
+        Mark::Absent => true,
+        Mark::Set(a) => { if is_numeric(b) { has_drop(a) } else { true } }
+    }
+}
+
+fn builtin_arity(b: u32) -> u32
+    ensures { λ r. ⌜ (r ≡ length (builtin-tparams b)) × (r ≤ 1) ⌝ }
+{
+    if b == 5 { 1 } else { 0 }
+}
+
+fn builtin_head(k: Mark, n: u32, loc: u32, next: usize) -> Head
+    ensures { λ r. ⌜ ((s : d.State) (b : List ℕ) (end : ℕ) → next ≤ end → Begins (λ part. read-apply s part loc (mark-is k) (d.Builtin n) (rest b end next)) b end r) ⌝ }
+{
+    if fits(k, n) {
+        let many = builtin_arity(n);
+        Head::Begun(Shape::Apply(k, TypeName::Builtin(n), 0, many), loc, next)
+    } else {
+        Head::Broken
+    }
+}
+
+fn builtin_fields(b: &[u8], end: usize, at: usize, loc: u32) -> Head
+    requires { ⌜ (end ≤ length (now b)) × (at ≤ end) ⌝ }
+    ensures { λ r. ⌜ ((s : d.State) → Begins (λ part. read-builtin s part loc (rest (now (b .entry)) end at)) (now (b .entry)) end r) ⌝ }
+{
+    let m = read_mark(b, end, at);
+    match m {
+        Marked::With(k) => {
+            let n = byte_to(b, end, at + 1, 6);
+            match n {
+                Number::Got(x) => builtin_head(k, x, loc, at + 1 + 1),
+                Number::Missing => Head::Broken,
+            }
+        }
+        Marked::Wrong => Head::Broken,
+    }
+}
+
+fn list_fields(b: &[u8], end: usize, at: usize, loc: u32) -> Head
+    requires { ⌜ (end ≤ length (now b)) × (at ≤ end) ⌝ }
+    ensures { λ r. ⌜ ((s : d.State) → Begins (λ part. read-list s part loc (rest (now (b .entry)) end at)) (now (b .entry)) end r) ⌝ }
+{
+    let m = read_mark(b, end, at);
+    match m {
+        Marked::With(k) => {
+            let n = byte_to(b, end, at + 1, 8);
+            match n {
+                Number::Got(x) => Head::Begun(
+                    Shape::Apply(k, TypeName::Multiple(x), 0, x),
+                    loc,
+                    at + 1 + 1,
+                ),
+                Number::Missing => Head::Broken,
+            }
+        }
+        Marked::Wrong => Head::Broken,
+    }
+}
+
+fn var_fields(b: &[u8], end: usize, at: usize, known: u32, loc: u32) -> Head
+    requires { ⌜ (end ≤ length (now b)) × ((at ≤ end) × (known ≤ 1024)) ⌝ }
+    ensures { λ r. ⌜ ((s : d.State) → taken s ≡ known → Begins (λ part. read-var s part loc (rest (now (b .entry)) end at)) (now (b .entry)) end r) ⌝ }
+{
+    let n = name_below(b, end, at, known);
+    match n {
+        Name::Known(x) => Head::Begun(Shape::Var(TVar(x as u16)), loc, at + 2),
+        Name::Cut => Head::Broken,
+        Name::Unknown => Head::Unnamed,
+    }
+}
+
+fn struct_fields(w: &[u32], u: Used, b: &[u8], end: usize, at: usize, loc: u32) -> Head
+    requires { ⌜ Lay (now w) u × Arities (view (now w) u .structs) ⌝ }
+    requires { ⌜ (end ≤ length (now b)) × (at ≤ end) ⌝ }
+    ensures { λ r. ⌜ ((s : d.State) → Declares (now (w .entry)) u (s .structs) → Begins (λ part. read-struct s part loc (rest (now (b .entry)) end at)) (now (b .entry)) end r) ⌝ }
+{
+    let m = read_mark(b, end, at);
+    match m {
+        Marked::With(k) => {
+            let known = u.structs;
+            let n = name_below(b, end, at + 1, known);
+            match n {
+                Name::Known(x) => {
+                    let row = struct_at(w, u, x);
+                    let many = row.params;
+                    Head::Begun(
+                        Shape::Apply(k, TypeName::ModuleType(x), 0, many),
+                        loc,
+                        at + 1 + 2,
+                    )
+                }
+                Name::Cut => Head::Broken,
+                Name::Unknown => Head::Unnamed,
+            }
+        }
+        Marked::Wrong => Head::Broken,
+    }
+}
+
+// By the tag, from 0 to 8.
+fn fields(
+    w: &[u32],
+    u: Used,
+    b: &[u8],
+    end: usize,
+    at: usize,
+    known: u32,
+    tag: u32,
+    loc: u32,
+) -> Head
+    requires { ⌜ Lay (now w) u × Arities (view (now w) u .structs) ⌝ }
+    requires { ⌜ (end ≤ length (now b)) × ((at ≤ end) × ((known ≤ 1024) × (tag ≤ 8))) ⌝ }
+    ensures { λ r. ⌜ ((s : d.State) (ds : List d.Struct) → Declares (now (w .entry)) u ds → Knows s known ds → Begins (λ part. getD (by-tag s part loc) tag (refuse malformed) (rest (now (b .entry)) end at)) (now (b .entry)) end r) ⌝ }
+    ensures { λ r. ⌜ Head-within r end ⌝ }
+{
+    if tag == 0 {
+        return Head::Begun(Shape::Unit, loc, at);
+    }
+    if tag == 1 {
+        return ref_fields(b, end, at, loc);
+    }
+    if tag == 2 {
+        return param_fields(b, end, at, loc);
+    }
+    if tag == 3 {
+        return builtin_fields(b, end, at, loc);
+    }
+    if tag == 4 {
+        return list_fields(b, end, at, loc);
+    }
+    if tag == 5 {
+        return struct_fields(w, u, b, end, at, loc);
+    }
+    if tag == 6 {
+        return var_fields(b, end, at, known, loc);
+    }
+    if tag == 7 {
+        return Head::Begun(Shape::Anything, loc, at);
+    }
+    Head::Begun(Shape::UnresolvedError, loc, at)
+}
+
+// Tag, location and fields of a type at most `nest` deep.
+fn read_head(w: &[u32], u: Used, b: &[u8], end: usize, at: usize, known: u32, nest: u32) -> Head
+    requires { ⌜ Lay (now w) u × Arities (view (now w) u .structs) ⌝ }
+    requires { ⌜ (end ≤ length (now b)) × ((at ≤ end) × (known ≤ 1024)) ⌝ }
+    ensures { λ r. ⌜ ((s : d.State) (ds : List d.Struct) → Declares (now (w .entry)) u ds → Knows s known ds → tree-read r (now (b .entry)) end (read-nested (nest - 1) s) ≡ read-nested nest s (rest (now (b .entry)) end at)) ⌝ }
+    ensures { λ r. ⌜ Head-within r end × Head-nests r nest ⌝ }
+{
+    if nest == 0 {
+        return Head::Broken;
+    }
+    let t = byte_to(b, end, at, 8);
+    match t {
+        Number::Got(tag) => {
+            let l = read_u32(b, end, at + 1);
+            match l {
+                Number::Got(loc) => fields(w, u, b, end, at + 1 + 4, known, tag, loc),
+                Number::Missing => Head::Broken,
+            }
+        }
+        Number::Missing => Head::Broken,
+    }
+}
+
+// ---- a type and its parts, read and placed
+
+fn part_count(shape: Shape) -> usize
+    ensures { λ r. ⌜ r ≡ many-parts shape ⌝ }
+{
+    match shape {
+        Shape::Unit => 0,
+        Shape::Ref(_, _) => 1,
+        Shape::Param(_, _) => 0,
+        Shape::Apply(_, _, _, many) => many as usize,
+        Shape::Var(_) => 0,
+        Shape::Anything => 0,
+        Shape::UnresolvedError => 0,
+    }
+}
+
+// The node of a type whose parts are placed, unless space has ended.
+fn place_node(w: &mut [u32], u: Used, over: bool, loc: u32, shape: Shape, parts: [u32; 8]) -> Step
+    requires { ⌜ Lay (now w) u × ((many-parts shape ≤ 8) × (over ≡ false → Parts-below (u .nodes) parts (many-parts shape))) ⌝ }
+    ensures { λ r. ⌜ After (now (w .entry)) u (now (w .exit)) r (put-node over loc shape (take (many-parts shape) parts)) ⌝ }
+{
+    if over {
+        return Step {
+            out: Out::Full,
+            used: u,
+        };
+    }
+    match shape {
+        Shape::Unit => push_node(w, u, loc, shape),
+        Shape::Ref(m, _) => push_node(w, u, loc, Shape::Ref(m, parts[0])),
+        Shape::Param(_, _) => push_node(w, u, loc, shape),
+        Shape::Apply(k, name, _, many) => push_apply(w, u, loc, k, name, parts, many),
+        Shape::Var(_) => push_node(w, u, loc, shape),
+        Shape::Anything => push_node(w, u, loc, shape),
+        Shape::UnresolvedError => push_node(w, u, loc, shape),
+    }
+}
+
+fn part_found(f: Found) -> Part
+    ensures { λ r. ⌜ r ≡ found-part f ⌝ }
+{
+    match f {
+        Found::Nothing => Part::Full,
+        Found::Just(t) => Part::At(t),
+    }
+}
+
+fn stops(p: Part) -> bool
+    ensures { λ r. ⌜ r ≡ is-stop p ⌝ }
+{
+    match p {
+        Part::At(_) => false,
+        Part::Full => false,
+        Part::Malformed => true,
+        Part::Unknown => true,
+    }
+}
+
+fn no_space(p: Part) -> bool
+    ensures { λ r. ⌜ r ≡ is-over p ⌝ }
+{
+    match p {
+        Part::At(_) => false,
+        Part::Full => true,
+        Part::Malformed => false,
+        Part::Unknown => false,
+    }
+}
+
+fn node_of(p: Part) -> u32
+    ensures { λ r. ⌜ r ≡ node-in p ⌝ }
+{
+    match p {
+        Part::At(t) => t,
+        Part::Full => 0,
+        Part::Malformed => 0,
+        Part::Unknown => 0,
+    }
+}
+
+// A type at most `nest` deep. Once space has ended nothing more is placed, but reading goes on: a later 5 or 6 comes before 7.
+pub fn read_type(
+    w: &mut [u32],
+    u: Used,
+    b: &[u8],
+    end: usize,
+    at: usize,
+    known: u32,
+    nest: u32,
+    full: bool,
+) -> Taken
+    requires { ⌜ Lay (now w) u × Arities (view (now w) u .structs) ⌝ }
+    requires { ⌜ (end ≤ length (now b)) × ((at ≤ end) × (known ≤ 1024)) ⌝ }
+    ensures { λ r. ⌜ Takes (now (w .entry)) u (now (b .entry)) end known full (λ s. read-nested nest s (rest (now (b .entry)) end at)) (now (w .exit)) r ⌝ }
+{
+    let h = read_head(w, u, b, end, at, known, nest);
+    match h {
+        Head::Begun(shape, loc, next) => read_parts(
+            w,
+            u,
+            b,
+            end,
+            next,
+            known,
+            nest - 1,
+            full,
+            loc,
+            shape,
+        ),
+        Head::Broken => Taken {
+            part: Part::Malformed,
+            used: u,
+            next: at,
+        },
+        Head::Unnamed => Taken {
+            part: Part::Unknown,
+            used: u,
+            next: at,
+        },
+    }
+}
+
+// Its parts, and then its node.
+fn read_parts(
+    w: &mut [u32],
+    u: Used,
+    b: &[u8],
+    end: usize,
+    at: usize,
+    known: u32,
+    nest: u32,
+    full: bool,
+    loc: u32,
+    shape: Shape,
+) -> Taken
+    requires { ⌜ Lay (now w) u × Arities (view (now w) u .structs) ⌝ }
+    requires { ⌜ (end ≤ length (now b)) × ((at ≤ end) × ((known ≤ 1024) × (many-parts shape ≤ 8))) ⌝ }
+    ensures { λ r. ⌜ Takes (now (w .entry)) u (now (b .entry)) end known full (λ s. tree-read (Begun shape loc at) (now (b .entry)) end (read-nested nest s)) (now (w .exit)) r ⌝ }
+{
+    let n = part_count(shape);
+    let mut used = u;
+    let mut next = at;
+    let mut over = full;
+    let mut parts: [u32; 8] = [0; 8];
+    let mut i: usize = 0;
+    while i < n {
+        let r = read_type(w, used, b, end, next, known, nest, over);
+        let p = r.part;
+        if stops(p) {
+            return r;
+        }
+        used = r.used;
+        next = r.next;
+        over = no_space(p);
+        parts[i] = node_of(p);
+        i = i + 1;
+    }
+    let step = place_node(w, used, over, loc, shape, parts);
+    let out = step.out;
+    let p = part_found(done_of(out));
+    let v = step.used;
+    Taken {
+        part: p,
+        used: v,
+        next: next,
+    }
+}

@@ -1,0 +1,3 @@
+-- What the proofs of substitution cite. Assumes nothing.
+pub mod PairLaws
+pub mod DownLaws

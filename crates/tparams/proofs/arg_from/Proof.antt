@@ -1,0 +1,71 @@
+use mathlib.Core.Path.{_∙_}
+use native.Mathlib.Omega.{arith}
+use Prim.Native.Nat.{_≤_, _<_, _-_, _+_}
+use mathlib.Core.Path.{_≡_}
+use lib.ListN.{length}
+use Rattle.definition.specs.TParams.{arg-of}
+use Rattle.tparams.specs.Pairs.{pairs}
+use Rattle.tparams.proofs.PairLaws.{arg-here, arg-past, arg-none}
+use borrow.Author.Needs.{needs}
+use Rattle.tparams.proofs.arg_from.Statement.{statement}
+use Rattle.tparams.proofs.arg_from.Tie as tie
+use Rattle.tparams.proofs.arg_from.Reads as reads
+use Rattle.tparams.proofs.arg_from.Lts as lts
+use Rattle.tparams.proofs.wide.Reads as wide-reads
+
+abbrev Inv-loop : tie.InvT-loop
+Inv-loop i n id ids args k₀ k = (i ≤ k) × ((k ≤ n) × (arg-of (pairs ids args k (n - k)) id ≡ arg-of (pairs ids args i (n - i)) id))
+
+abbrev μ-loop : tie.MeasureT-loop
+μ-loop i n id ids args k₀ k = n - k
+
+loop-holds : tie.Need-loop-holds Inv-loop μ-loop
+loop-holds c = search needs
+
+wide-requires : tie.Need-wide-requires Inv-loop μ-loop
+wide-requires c κs = search needs
+
+mul-if1 : tie.Need-mul-if1 Inv-loop μ-loop
+mul-if1 c = search needs
+
+array-read-if1 : tie.Need-array-read-if1 Inv-loop μ-loop
+array-read-if1 c = search needs
+
+mul-t15 : tie.Need-mul-t15 Inv-loop μ-loop
+mul-t15 c = search needs
+
+array-read-t18 : tie.Need-array-read-t18 Inv-loop μ-loop
+array-read-t18 c = search needs
+
+returns : tie.Need-returns Inv-loop μ-loop
+returns c = arg-here _ _ _ _ _ _ (c .before .wide .ensures) (c .before .before .loop-test .taken) (c .if1 .taken) ∙ c .before .before .before .loop .inv .1 .1
+
+add-k : tie.Need-add-k Inv-loop μ-loop
+add-k c = search needs
+
+loop-less : tie.Need-loop-less Inv-loop μ-loop
+loop-less c = search needs
+
+loop-again : tie.Need-loop-again Inv-loop μ-loop
+loop-again c = (omega arith, (omega arith, arg-past _ _ _ _ _ _ (c .before .wide .ensures) (c .before .before .loop-test .taken) (c .if1 .left) ∙ c .before .before .before .loop .inv .1 .1))
+
+returns-2 : tie.Need-returns-2 Inv-loop μ-loop
+returns-2 c = arg-none _ _ _ _ _ (omega arith) ∙ c .before .loop .inv .1 .1
+
+pub arg-from-spec : {M : Type 1} → statement M
+arg-from-spec =
+    tie.close
+    (tie.spec
+    Inv-loop
+    μ-loop
+    loop-holds
+    wide-requires
+    mul-if1
+    array-read-if1
+    mul-t15
+    array-read-t18
+    returns
+    add-k
+    loop-less
+    loop-again
+    returns-2)

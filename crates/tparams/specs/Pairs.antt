@@ -1,0 +1,25 @@
+-- Parameter ids and their arguments, which stand in two arrays, as the definition's list of pairs. Assumes nothing: these are definitions.
+use mathlib.Core.Bool.{Bool, true, false}
+use mathlib.Core.List.{List, [], _∷_}
+use mathlib.Core.Option.{Option, none, some}
+use Prim.Native.Nat.{ℕ, zero, suc}
+use lib.ListN.{getD}
+use Rattle.definition.specs.Types.{Result, ok, refused, parameter-twice}
+use Rattle.definition.specs.TParams.{TParamSubst}
+use Rattle.table.specs.declared.Out.{Out}
+use Rattle.table.specs.declared.Out.the-variants.{Done, NoArgument}
+
+-- n pairs, from place i on
+unfoldable pub pairs : List ℕ → List ℕ → ℕ → ℕ → List (ℕ × ℕ)
+pairs ids args i zero = []
+pairs ids args i (suc n) = (getD ids i 0, getD args i 0) ∷ pairs ids args (suc i) n
+
+-- the pairs are the substitution, or an id stands in them twice
+abbrev pub made : Bool → TParamSubst → Result TParamSubst
+made true subst = ok subst
+made false subst = refused parameter-twice
+
+-- a parameter's argument, or 12
+abbrev pub answer : Option ℕ → Out
+answer none = NoArgument
+answer (some t) = Done t

@@ -1,0 +1,143 @@
+// typing/core.rs: make_tparam_subst, subst_tparams. A TParamSubst is n ids and n arguments, in two arrays.
+ghost use mathlib.Core.Path.{_≡_};
+ghost use Prim.Native.Nat.{ℕ, _-_, _≤_, _<_};
+ghost use Rattle.definition.specs.TParams.{arg-of, make-tparam-subst, subst-down, subst-tparams};
+ghost use Rattle.table.specs.State.{found, Lay, After, Parts};
+ghost use Rattle.tparams.specs.Pairs.{pairs, made, answer};
+use names::TParamID;
+use table::Found;
+use table::Out;
+use table::Shape;
+use table::Step;
+use table::Used;
+
+fn wide(x: u32) -> usize
+    ensures { λ r. ⌜ r ≡ x ⌝ }
+{
+    x as usize
+}
+
+// The argument of an id, from place i on.
+fn arg_from(ids: [u32; 8], args: [u32; 8], i: u32, n: u32, id: u32) -> Found
+    requires { ⌜ (i ≤ n) × (n ≤ 8) ⌝ }
+    ensures { λ r. ⌜ found r ≡ arg-of (pairs ids args i (n - i)) id ⌝ }
+{
+    let mut k = i;
+    while k < n {
+        let at = wide(k);
+        if ids[at] == id {
+            return Found::Just(args[at]);
+        }
+        k = k + 1;
+    }
+    Found::Nothing
+}
+
+// subst.get(id)
+pub fn arg_of(ids: [u32; 8], args: [u32; 8], n: u32, id: TParamID) -> Found
+    requires { ⌜ n ≤ 8 ⌝ }
+    ensures { λ r. ⌜ found r ≡ arg-of (pairs ids args 0 n) (id .0) ⌝ }
+{
+    arg_from(ids, args, 0, n, id.0)
+}
+
+// Whether no id stands twice: the Rust asserts it.
+pub fn make_tparam_subst(ids: [u32; 8], args: [u32; 8], n: u32) -> bool
+    requires { ⌜ n ≤ 8 ⌝ }
+    ensures { λ r. ⌜ made r (pairs ids args 0 n) ≡ make-tparam-subst (pairs ids args 0 n) ⌝ }
+{
+    let mut i = n;
+    while 0 < i {
+        i = i - 1;
+        let at = wide(i);
+        match arg_from(ids, args, i + 1, n, ids[at]) {
+            Found::Nothing => {}
+            Found::Just(_) => {
+                return false;
+            }
+        }
+    }
+    true
+}
+
+// A parameter's argument, as an answer.
+fn arg_or_none(ids: [u32; 8], args: [u32; 8], n: u32, id: TParamID) -> Out
+    requires { ⌜ n ≤ 8 ⌝ }
+    ensures { λ r. ⌜ r ≡ answer (arg-of (pairs ids args 0 n) (id .0)) ⌝ }
+{
+    match arg_of(ids, args, n, id) {
+        Found::Nothing => Out::NoArgument,
+        Found::Just(t) => Out::Done(t),
+    }
+}
+
+fn stay(o: Out, u: Used) -> Step
+    ensures { λ r. ⌜ r ≡ record { out = o; used = u } ⌝ }
+{
+    Step { out: o, used: u }
+}
+
+// At most `left` levels of subst_tparams; parts are built before their node.
+fn subst_down(
+    w: &mut [u32],
+    u: Used,
+    left: u32,
+    ids: [u32; 8],
+    args: [u32; 8],
+    n: u32,
+    ty: u32,
+) -> Step
+    requires { ⌜ Lay (now w) u × ((ty < u .nodes) × Parts (u .nodes) args n) ⌝ }
+    ensures { λ r. ⌜ After (now (w .entry)) u (now (w .exit)) r (λ s. subst-down left (pairs ids args 0 n) s ty) ⌝ }
+{
+    if left == 0 {
+        return stay(Out::Itself, u);
+    }
+    let node = table::node_at(w, u, ty);
+    let loc = node.loc;
+    let shape = node.shape;
+    match shape {
+        Shape::Unit => stay(Out::Done(ty), u),
+        Shape::UnresolvedError => stay(Out::Done(ty), u),
+        Shape::Anything => stay(Out::Done(ty), u),
+        Shape::Var(_) => stay(Out::Open, u),
+        Shape::Param(id, _) => {
+            let o = arg_or_none(ids, args, n, id);
+            stay(o, u)
+        }
+        Shape::Ref(m, t) => {
+            let a = subst_down(w, u, left - 1, ids, args, n, t);
+            let o = a.out;
+            let v = a.used;
+            let Found::Just(p) = table::done_of(o) else {
+                return a;
+            };
+            table::push_node(w, v, loc, Shape::Ref(m, p))
+        }
+        Shape::Apply(k, name, first, many) => {
+            let mut parts: [u32; 8] = [0; 8];
+            let mut v = u;
+            let mut i: u32 = 0;
+            while i < many {
+                let t = table::arg_at(w, v, first, i);
+                let a = subst_down(w, v, left - 1, ids, args, n, t);
+                let o = a.out;
+                let Found::Just(p) = table::done_of(o) else {
+                    return a;
+                };
+                let at = wide(i);
+                parts[at] = p;
+                v = a.used;
+                i = i + 1;
+            }
+            table::push_apply(w, v, loc, k, name, parts, many)
+        }
+    }
+}
+
+pub fn subst_tparams(w: &mut [u32], u: Used, ids: [u32; 8], args: [u32; 8], n: u32, ty: u32) -> Step
+    requires { ⌜ Lay (now w) u × ((ty < u .nodes) × Parts (u .nodes) args n) ⌝ }
+    ensures { λ r. ⌜ After (now (w .entry)) u (now (w .exit)) r (λ s. subst-tparams (pairs ids args 0 n) s ty) ⌝ }
+{
+    subst_down(w, u, ty + 1, ids, args, n, ty)
+}

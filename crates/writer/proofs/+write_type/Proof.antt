@@ -1,0 +1,104 @@
+-- `writer::write_type` meets its contract. Assumes nothing.
+use Rattle.writer.proofs.Turns.{at-node, Goes-on, goes-more, write-none, write-all, part-falls, part-room, bytes-at, head-room}
+use mathlib.Core.List.{[]}
+use Prim.Native.Nat.{_-_, ℕ, _<_}
+use native.Mathlib.Omega.{arith}
+use borrow.Fn.Kinds.{In}
+use borrow.Fn.PlainCycle.{Measures, is, falls, and}
+use Rattle.writer.proofs.write_type.Reads as write-type
+use Rattle.writer.proofs.write_type.Kinds as write-type-kinds
+use Rattle.writer.proofs.+write_type.Lts-write_type as write-type-lts
+use Rattle.table.proofs.node_at.Reads as node-at-reads
+use Rattle.writer.proofs.part_at.Reads as part-at-reads
+use Rattle.writer.proofs.part_count.Reads as part-count-reads
+use Rattle.writer.proofs.write_head.Reads as write-head-reads
+use Rattle.writer.proofs.+write_type.{statement}
+use Rattle.writer.proofs.+write_type.Tie.{close}
+
+abbrev μ-write-type : Measures 2 write-type-kinds.ps ℕ
+μ-write-type κs a = a .1 .1 .0
+
+abbrev write-type-at : ℕ → In 2 write-type-kinds.ps
+write-type-at t =
+    and 2 write-type-kinds.ps (is 2 write-type-kinds.ps μ-write-type t) write-type.Pre
+
+abbrev write-type-below : ℕ → In 2 write-type-kinds.ps
+write-type-below t =
+    and 2 write-type-kinds.ps (falls 2 write-type-kinds.ps _<_ μ-write-type t) write-type.Pre
+
+abbrev write-type-calls : ℕ → write-type-lts.Claims
+write-type-calls t = (node-at-reads.Asked, node-at-reads.Learnt, part-count-reads.Asked, part-count-reads.Learnt, write-head-reads.Asked, write-head-reads.Learnt, part-at-reads.Asked, part-at-reads.Learnt, write-type-below t, write-type.Post)
+
+abbrev write-type-Inv-loop : write-type-lts.InvT-loop
+write-type-Inv-loop w u t buf₀ at loc shape n next₀ i₀ buf next i = Goes-on w u t n at buf₀ next₀ buf next i
+
+abbrev write-type-μ-loop : write-type-lts.MeasureT-loop
+write-type-μ-loop w u t buf₀ at loc shape n next₀ i₀ buf next i = n - i
+
+write-type-node-at-requires : (t : ℕ) → write-type-lts.Need-node-at-requires (write-type-calls t) (write-type-at t) write-type.Post write-type-Inv-loop write-type-μ-loop
+write-type-node-at-requires t c κs = c .before .before .pre .1 .0 .0
+
+write-type-part-count-requires : (t : ℕ) → write-type-lts.Need-part-count-requires (write-type-calls t) (write-type-at t) write-type.Post write-type-Inv-loop write-type-μ-loop
+write-type-part-count-requires t c κs = tt
+
+write-type-write-head-requires : (t : ℕ) → write-type-lts.Need-write-head-requires (write-type-calls t) (write-type-at t) write-type.Post write-type-Inv-loop write-type-μ-loop
+write-type-write-head-requires t c κs =
+    let a = at-node _ _ _ (c .before .before .node-at .result) _ (c .before .before .before .before .before .pre .1 .0 .0) (c .before .before .before .before .before .pre .1 .0 .1 .0) (c .before .before .node-at .ensures) (c .before .part-count .ensures) in
+    (bytes-at _ _ _ (c .before .before .node-at .result) _ a (c .before .before .before .before .before .pre .1 .0 .1 .1), head-room _ _ _ (c .before .before .node-at .result) _ (c .before .before .before .before .before .args .buf .now) _ a (c .before .before .before .before .before .pre .1 .1))
+
+write-type-loop-holds : (t : ℕ) → write-type-lts.Need-loop-holds (write-type-calls t) (write-type-at t) write-type.Post write-type-Inv-loop write-type-μ-loop
+write-type-loop-holds t c = (omega arith, λ E h. h)
+
+write-type-part-at-requires : (t : ℕ) → write-type-lts.Need-part-at-requires (write-type-calls t) (write-type-at t) write-type.Post write-type-Inv-loop write-type-μ-loop
+write-type-part-at-requires t c κs = c .before .before .before .before .before .before .before .before .before .before .pre .1 .0 .0
+
+write-type-write-type-requires : (t : ℕ) → write-type-lts.Need-write-type-requires (write-type-calls t) (write-type-at t) write-type.Post write-type-Inv-loop write-type-μ-loop
+write-type-write-type-requires t c κs =
+    let E = c .before .before .before .before .before .before .before .before .before .before .before .before .args .buf .now in
+    let a = at-node _ _ _ (c .before .before .before .before .before .before .before .before .before .node-at .result) _ (c .before .before .before .before .before .before .before .before .before .before .before .before .pre .1 .0 .0) (c .before .before .before .before .before .before .before .before .before .before .before .before .pre .1 .0 .1 .0) (c .before .before .before .before .before .before .before .before .before .node-at .ensures) (c .before .before .before .before .before .before .before .before .part-count .ensures) in
+    let base = write-none _ _ _ (c .before .before .before .before .before .before .before .before .before .node-at .result) _ E _ _ _ a (c .before .before .before .before .before .before .before .before .before .before .before .before .pre .1 .1) (c .before .before .before .before .before .before .write-head .ensures) in
+    let f = part-falls _ _ _ (c .before .before .before .before .before .before .before .before .before .node-at .result) _ a [] _ _ (c .before .part-at .ensures []) (c .before .before .loop-test .taken) in
+    (omega (arith, f, c .before .before .before .before .before .before .before .before .before .before .before .before .pre .0), ((c .before .before .before .before .before .before .before .before .before .before .before .before .pre .1 .0 .0, (omega (arith, f, c .before .before .before .before .before .before .before .before .before .before .before .before .pre .1 .0 .1 .0), c .before .before .before .before .before .before .before .before .before .before .before .before .pre .1 .0 .1 .1)), part-room _ _ _ (c .before .before .before .before .before .before .before .before .before .node-at .result) _ E _ _ _ _ _ a (c .before .before .before .before .before .before .before .before .before .before .before .before .pre .1 .1) (c .before .before .before .loop .inv .1 E base) (c .before .before .loop-test .taken) (c .before .part-at .ensures)))
+
+write-type-add-i : (t : ℕ) → write-type-lts.Need-add-i (write-type-calls t) (write-type-at t) write-type.Post write-type-Inv-loop write-type-μ-loop
+write-type-add-i t c = omega arith
+
+write-type-loop-less : (t : ℕ) → write-type-lts.Need-loop-less (write-type-calls t) (write-type-at t) write-type.Post write-type-Inv-loop write-type-μ-loop
+write-type-loop-less t c = omega arith
+
+write-type-loop-again : (t : ℕ) → write-type-lts.Need-loop-again (write-type-calls t) (write-type-at t) write-type.Post write-type-Inv-loop write-type-μ-loop
+write-type-loop-again t c =
+    let E = c .before .before .before .before .before .before .before .before .before .before .before .before .before .before .before .args .buf .now in
+    let a = at-node _ _ _ (c .before .before .before .before .before .before .before .before .before .before .before .before .node-at .result) _ (c .before .before .before .before .before .before .before .before .before .before .before .before .before .before .before .pre .1 .0 .0) (c .before .before .before .before .before .before .before .before .before .before .before .before .before .before .before .pre .1 .0 .1 .0) (c .before .before .before .before .before .before .before .before .before .before .before .before .node-at .ensures) (c .before .before .before .before .before .before .before .before .before .before .before .part-count .ensures) in
+    let base = write-none _ _ _ (c .before .before .before .before .before .before .before .before .before .before .before .before .node-at .result) _ E _ _ _ a (c .before .before .before .before .before .before .before .before .before .before .before .before .before .before .before .pre .1 .1) (c .before .before .before .before .before .before .before .before .before .write-head .ensures) in
+    goes-more _ _ _ (c .before .before .before .before .before .before .before .before .before .before .before .before .node-at .result) _ E _ _ _ _ _ _ _ _ _ a (c .before .before .before .before .before .before .before .before .before .before .before .before .before .before .before .pre .1 .1) base (c .before .before .before .before .before .before .loop .inv) (c .before .before .before .before .before .loop-test .taken) (c .before .before .before .before .part-at .ensures) (c .before .before .write-type .ensures)
+
+write-type-same-length : (t : ℕ) → write-type-lts.Need-same-length (write-type-calls t) (write-type-at t) write-type.Post write-type-Inv-loop write-type-μ-loop
+write-type-same-length t c =
+    let E = c .before .before .before .before .before .before .before .before .before .before .args .buf .now in
+    let a = at-node _ _ _ (c .before .before .before .before .before .before .before .node-at .result) _ (c .before .before .before .before .before .before .before .before .before .before .pre .1 .0 .0) (c .before .before .before .before .before .before .before .before .before .before .pre .1 .0 .1 .0) (c .before .before .before .before .before .before .before .node-at .ensures) (c .before .before .before .before .before .before .part-count .ensures) in
+    let base = write-none _ _ _ (c .before .before .before .before .before .before .before .node-at .result) _ E _ _ _ a (c .before .before .before .before .before .before .before .before .before .before .pre .1 .1) (c .before .before .before .before .write-head .ensures) in
+    c .before .loop .inv .1 E base .size
+
+write-type-returns : (t : ℕ) → write-type-lts.Need-returns (write-type-calls t) (write-type-at t) write-type.Post write-type-Inv-loop write-type-μ-loop
+write-type-returns t c =
+    let E = c .before .before .before .before .before .before .before .before .before .before .args .buf .now in
+    let a = at-node _ _ _ (c .before .before .before .before .before .before .before .node-at .result) _ (c .before .before .before .before .before .before .before .before .before .before .pre .1 .0 .0) (c .before .before .before .before .before .before .before .before .before .before .pre .1 .0 .1 .0) (c .before .before .before .before .before .before .before .node-at .ensures) (c .before .before .before .before .before .before .part-count .ensures) in
+    let base = write-none _ _ _ (c .before .before .before .before .before .before .before .node-at .result) _ E _ _ _ a (c .before .before .before .before .before .before .before .before .before .before .pre .1 .1) (c .before .before .before .before .write-head .ensures) in
+    write-all _ _ _ (c .before .before .before .before .before .before .before .node-at .result) _ E _ _ _ _ a (c .before .loop .inv .1 E base) (c .loop-test .left)
+
+pub +write-type-spec : {M : Type 1} → statement M
++write-type-spec = close μ-write-type λ t. write-type-lts.spec (write-type-calls t) (write-type-at t) write-type.Post
+    write-type-Inv-loop
+    write-type-μ-loop
+    (write-type-node-at-requires t)
+    (write-type-part-count-requires t)
+    (write-type-write-head-requires t)
+    (write-type-loop-holds t)
+    (write-type-part-at-requires t)
+    (write-type-write-type-requires t)
+    (write-type-add-i t)
+    (write-type-loop-less t)
+    (write-type-loop-again t)
+    (write-type-same-length t)
+    (write-type-returns t)
