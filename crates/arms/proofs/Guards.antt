@@ -1,7 +1,6 @@
 -- The arms of references and of named types, by their guards. Assumes nothing.
-use mathlib.Core.Path.{_≡_, refl, sym, ap, _∙_}
-use mathlib.Core.Bool.{Bool, true, false, not, _&&_}
-use mathlib.Core.Option.{some}
+use mathlib.Core.Path.{_≡_, refl, _∙_}
+use mathlib.Core.Bool.{Bool, true, false, _&&_}
 use Prim.Native.Nat.{ℕ}
 use Rattle.definition.specs.Store.{with-args}
 use Rattle.definition.specs.Join as j
@@ -9,7 +8,6 @@ use Rattle.definition.specs.Join.{arm, join-arm, join-refs, join-mut, join-loc,
 use Rattle.names.specs.Names.{mark-of, name-of}
 use Rattle.names.specs.declared.Mark.{Mark}
 use Rattle.names.specs.declared.TypeName.{TypeName}
-use Rattle.table.specs.declared.Shape.{Shape}
 use Rattle.table.specs.declared.Shape.the-variants.{Ref, Apply}
 use Rattle.arms.specs.Arms.{by-arm, Takes}
 use Rattle.arms.specs.declared.Arm.the-variants.{Refs, Applies, SubtypeError, ArityMismatch, Incompatible, Disagree}

@@ -1,6 +1,5 @@
 -- The arms that the code tells apart, their guards decided, as what the definition's join_arm gives there. Assumes nothing: these are definitions.
 use mathlib.Core.Path.{_≡_}
-use mathlib.Core.Bool.{Bool}
 use mathlib.Core.List.{List}
 use Prim.Native.Nat.{ℕ, _<_}
 use Rattle.definition.specs.Types as d

@@ -29,7 +29,7 @@ digits-step : (n m x : ℕ) → (ltb x 10 ≡ false → digits n (x / 10) ≡ di
 unfolding digits
 digits-step n m x h = ap (λ (front : Bytes). front ++ ((48 + x % 10) ∷ [])) (if-same (ltb x 10) h)
 
-digits-same : (n m x : ℕ) → x < ten (suc n) → x < ten (suc m) → digits (suc n) x ≡ digits (suc m) x
+pub digits-same : (n m x : ℕ) → x < ten (suc n) → x < ten (suc m) → digits (suc n) x ≡ digits (suc m) x
 digits-same zero m x h i = digits-step zero m x (λ e. no-digit x h e)
 digits-same (suc n) zero x h i = digits-step (suc n) zero x (λ e. no-digit x i e)
 digits-same (suc n) (suc m) x h i = digits-step (suc n) (suc m) x (λ e. digits-same n m (x / 10) (tenth x (ten (suc n)) h) (tenth x (ten (suc m)) i))

@@ -50,3 +50,4 @@ pub mod Decimal
 pub mod NumericCheck
 pub mod NoFailIn
 pub mod Stream
+pub mod Pieces

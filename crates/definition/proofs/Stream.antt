@@ -17,7 +17,7 @@ use Rattle.definition.proofs.WellRead.{Read-time, five, six, ReadWell, 
 use Rattle.definition.proofs.SoundKept.{stream-sound-kept, trusted, fresh-sound}
 
 -- the rest has fewer bytes, or the job is over
-data Goes-on (bytes : Bytes) (r : Answer × Bytes) : Type 0 where
+pub data Goes-on (bytes : Bytes) (r : Answer × Bytes) : Type 0 where
   shorter : length (r .1) ≤ length bytes → Goes-on bytes r
   over : ends-job (r .0 .number) ≡ true → Goes-on bytes r
 
@@ -26,7 +26,7 @@ unfolding number-of-refusal ends-job
 ends five = refl
 ends six = refl
 
-stream-on : (s : State) → sound s ≡ true → (b : ℕ) (bytes : Bytes) → Goes-on bytes (step-stream s (b ∷ bytes) max-buffer)
+pub stream-on : (s : State) → sound s ≡ true → (b : ℕ) (bytes : Bytes) → Goes-on bytes (step-stream s (b ∷ bytes) max-buffer)
 unfolding streamed refusal
 stream-on s h b bytes = rw (trusted s (b ∷ bytes) h) (go (read-record s (b ∷ bytes)) (well-read ⊥ s (b ∷ bytes) (λ x. absurd x)))
   where

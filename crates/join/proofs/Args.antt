@@ -1,10 +1,8 @@
 -- The argument walk: its list of places, and where its loop stands. Assumes nothing.
-use mathlib.Core.Path.{_≡_, refl, sym, ap, _∙_, subst}
-use mathlib.Core.Bool.{Bool, true, false}
+use mathlib.Core.Path.{_≡_, refl, sym, ap, _∙_}
 use mathlib.Core.List.{List, [], _∷_, _++_, append-nil}
 use mathlib.Core.Logic.{⊎-elim}
-use mathlib.Core.Option.{none}
-use Prim.Native.Nat.{ℕ, zero, suc, _+_, _-_, _<_, _≤_}
+use Prim.Native.Nat.{ℕ, _+_, _-_, _<_, _≤_}
 use native.Mathlib.Nat.{eq-or-lt-of-le}
 use native.Mathlib.Numerals.{add-one}
 use native.Mathlib.Omega.{arith}
@@ -17,7 +15,7 @@ use Rattle.definition.specs.Store.{args-at, with-structs}
 use Rattle.definition.specs.Join as j
 use Rattle.definition.specs.Join.{join-impl, join-impl-types}
 use Rattle.table.specs.Rows.{places}
-use Rattle.table.specs.State.{Lay, Front, Grown, After, view, seen, outcome, done, Below, Parts}
+use Rattle.table.specs.State.{Lay, Grown, After, view, seen, outcome, done}
 use Rattle.table.specs.declared.Step.{Step}
 use Rattle.table.specs.declared.Used.{Used}
 use Rattle.table.specs.declared.Out.the-variants.{Done}

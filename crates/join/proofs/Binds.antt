@@ -1,5 +1,5 @@
 -- Answers that are handed on. Assumes nothing.
-use mathlib.Core.Path.{_≡_, refl, sym, ap, _∙_}
+use mathlib.Core.Path.{_≡_, refl, ap, _∙_}
 use mathlib.Core.Bool.{Bool, true, false}
 use mathlib.Core.List.{List, [], _∷_, _++_, append-assoc}
 use Prim.Native.Nat.{ℕ}
@@ -10,8 +10,7 @@ use Rattle.definition.specs.Store.{taken, with-var, next-tvar}
 use Rattle.table.specs.State.{outcome, done}
 use Rattle.table.specs.declared.Out.{Out}
 use Rattle.table.specs.declared.Out.the-variants.{Done, Subtype, Incompatible, Arity, Recursive, Full, Deep, Itself, Disagree, Open, NoArgument, Twice}
-use Rattle.table.specs.declared.Found.{Found}
-use Rattle.table.specs.declared.Found.the-variants.{Nothing, Just}
+use Rattle.table.specs.declared.Found.the-variants.{Nothing}
 
 -- no number, so nothing follows, whatever it were
 pub stop-any : {B C : Type 0} (o : Out) (s : State) (f : State × ℕ → Result B) (g : State × ℕ → Result C) (h : C → Result B) → done o ≡ Nothing → (outcome o s >>= f) ≡ ((outcome o s >>= g) >>= h)

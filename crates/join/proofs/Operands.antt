@@ -1,23 +1,23 @@
 -- The operand walk and the merge: what each arm does, as laws that follow the code. Assumes nothing.
 use mathlib.Core.Path.{_≡_, refl, sym, ap, _∙_, subst}
-use mathlib.Core.Bool.{Bool, true, false}
+use mathlib.Core.Bool.{Bool}
 use mathlib.Core.List.{List, []}
 use mathlib.Core.Option.{Option, none, some}
 use Prim.Native.Nat.{ℕ, zero, suc, _+_, _-_, _<_, _≤_}
 use native.Mathlib.Numerals.{sub-one}
 use native.Mathlib.Omega.{arith}
-use lib.ListN.{getD, length, take}
+use lib.ListN.{take}
 use Rattle.definition.specs.Types as d
-use Rattle.definition.specs.Types.{State, Struct, Places, Result, ok, err, refused, _>>=_, if_then_else_}
-use Rattle.definition.specs.Store.{count, node, value, loc-of, args-at, with-args, with-structs, with-vars, with-var, get, insert, sp, next-tvar}
+use Rattle.definition.specs.Types.{State, Struct, Places, Result, ok, _>>=_, if_then_else_}
+use Rattle.definition.specs.Store.{count, node, value, loc-of, args-at, with-structs, with-vars, with-var, get}
 use Rattle.definition.specs.Join as j
-use Rattle.definition.specs.Join.{Join-impl, Var-l, Var-r, arm, join-arm, join-impl, join-impl-types, join-tvar, join-unbound}
+use Rattle.definition.specs.Join.{Var-l, Var-r, arm, join-arm, join-impl, join-impl-types, join-tvar}
 use Rattle.names.specs.Names.{mark-of, name-of}
 use Rattle.names.specs.declared.Mark.{Mark}
 use Rattle.names.specs.declared.TypeName.{TypeName}
 use Rattle.names.specs.declared.TVar.{TVar}
 use Rattle.table.specs.Rows.{places}
-use Rattle.table.specs.State.{Lay, Grown, Changed, After, Nodes-in, outcome, seen, view, done, node-of, shape-of, Below}
+use Rattle.table.specs.State.{Lay, After, outcome, seen, view, done, node-of, shape-of, Below}
 use Rattle.table.specs.declared.Step.{Step}
 use Rattle.table.specs.declared.Used.{Used}
 use Rattle.table.specs.declared.Node.{Node}

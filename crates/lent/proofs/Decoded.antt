@@ -20,14 +20,16 @@ use Rattle.definition.proofs.Facts.{of-each, fields, shape}
 use Rattle.definition.proofs.Soundness.{sound-is}
 use Rattle.table.specs.Tab.{tab}
 use Rattle.table.specs.Rows.{Table, row, words-at, entries, flag, read-mark, mark-word, read-option, option-flag, option-word, read-name, name-tag, name-word, places, read-shape, shape-words, read-node, node-words, read-arg, arg-words, read-cell, cell-words, read-constraint, constraint-words, read-struct, struct-words, node-table, arg-table, var-table, constraint-table, struct-table}
-use Rattle.table.specs.State.{view, seen}
+use Rattle.table.specs.State.{view, seen, Lay, Declares}
 use Rattle.table.specs.declared.Used.{Used}
 use Rattle.table.proofs.Tab.{length-tab, getD-tab}
 use Rattle.table.proofs.Rows.{length-entries, entry-at}
-use Rattle.lent.specs.Lent.{used-of, bytes-at, struct-of, structs-of, decode, count-words, encode-words, encode-params}
+use Rattle.table.specs.Encode.{counts as count-words, encode as encode-words}
+use Rattle.lent.specs.Lent.{used-of, bytes-at, struct-of, structs-of, decode, encode-params, Lent-sound}
 use Rattle.lent.proofs.Below.{and-l, and-r, both, when-true, when-false}
 use Rattle.lent.proofs.Fields.{mod-back}
-use Rattle.lent.proofs.Encode.{Rows, Holds, holds}
+use Rattle.lent.proofs.Encode.{Rows, holds}
+use Rattle.lent.proofs.Lays.{lay-encoded}
 
 -- ---- each entry is read as it was written
 
@@ -168,3 +170,14 @@ module _ (s : State) (ok : sound s ≡ true) where
   decoded =
       ap (λ (u : Used). seen W u (structs-of W P (u .structs))) used-back
       ∙ (λ i. record { nodes = nodes-back i; args = args-back i; vars = vars-back i; constraints = list-back i; structs = structs-back i })
+
+-- the encoding of a sound state passes the test
+pub encode-lent : (s : State) → sound s ≡ true → Lent-sound (encode-words s) (encode-params s)
+encode-lent s ok = record { words = ap (λ (x : State). encode-words x) (sym (decoded s ok)); bytes = ap (λ (x : State). encode-params x) (sym (decoded s ok)); is-sound = ap (λ (x : State). sound x) (decoded s ok) ∙ ok }
+
+-- where a call ends: the words keep the layout, the counts are written, and the bytes are those of the declarations
+pub lay-lent : (w : List ℕ) (p : List (List ℕ)) (u : Used) (ds : List Struct) → Lay w u → Declares w u ds → used-of w ≡ u → p ≡ encode-params (seen w u ds) → sound (seen w u ds) ≡ true → Lent-sound w p
+lay-lent w p u ds lay dec e b ok = rw (lay-encoded w u ds lay dec e, b) (encode-lent (seen w u ds) ok)
+
+pub lay-decoded : (w : List ℕ) (p : List (List ℕ)) (u : Used) (ds : List Struct) → Lay w u → Declares w u ds → used-of w ≡ u → p ≡ encode-params (seen w u ds) → sound (seen w u ds) ≡ true → decode w p ≡ seen w u ds
+lay-decoded w p u ds lay dec e b ok = ap₂ (λ (x : List ℕ) (y : List (List ℕ)). decode x y) (lay-encoded w u ds lay dec e) b ∙ decoded (seen w u ds) ok

@@ -9,8 +9,9 @@ use Rattle.definition.specs.Types.{State, Node, Shape, UnitType, Ref, Param, Ap
 use Rattle.definition.specs.Types.{Constraint, AbilityConstraint, NumericConstraint, BitsConstraint, OrderedConstraint, BaseTypeConstraint, SingleTypeConstraint}
 use Rattle.table.specs.Tab.{tab}
 use Rattle.table.specs.Rows.{Table, words-at, row, node-words, shape-words, arg-words, cell-words, constraint-words, struct-words, node-table, arg-table, var-table, constraint-table, struct-table}
-use Rattle.lent.specs.Lent.{joined, table-words, count-words, encode-words}
-use Rattle.lent.proofs.Joined.{words-more, words-whole, words-joined, joined-ext, length-joined, joined-row}
+use Rattle.table.specs.Encode.{table-words, counts as count-words, encode as encode-words}
+use Rattle.table.proofs.Encoded.{encoded-as}
+use Rattle.lent.proofs.Joined.{joined, flat-joined, length-joined, joined-row}
 
 -- ---- rows are as wide as their table says
 
@@ -56,17 +57,17 @@ abbrev pub Rows : {A : Type 0} → Table A → List ℕ → List A → Type 0
 Rows T w l = (i : ℕ) → i < T .rows → row T w i ≡ T .write (getD l i (T .blank))
 
 module _ {A : Type 0} (T : Table A) (long : (a : A) → length (T .write a) ≡ T .width) where
-  length-table : (l : List A) → length (table-words T l) ≡ T .rows * T .width
+  table-joined : (l : List A) → table-words T l ≡ joined (T .rows) (λ i. T .write (getD l i (T .blank)))
   unfolding table-words
-  length-table l = length-joined (T .width) (λ i. T .write (getD l i (T .blank))) (λ i. long (getD l i (T .blank))) (T .rows)
+  table-joined l = flat-joined (T .rows) (λ i. T .write (getD l i (T .blank)))
+
+  length-table : (l : List A) → length (table-words T l) ≡ T .rows * T .width
+  length-table l = ap (λ (x : List ℕ). length x) (table-joined l) ∙ length-joined (T .width) (λ i. T .write (getD l i (T .blank))) (λ i. long (getD l i (T .blank))) (T .rows)
 
   table-rows : (w before after : List ℕ) (l : List A) → w ≡ before ++ (table-words T l ++ after) → length before ≡ T .base → Rows T w l
-  unfolding table-words row
-  table-rows w before after l e h i p = joined-row (T .width) (λ i. T .write (getD l i (T .blank))) (λ i. long (getD l i (T .blank))) w before after (T .base) (T .rows) i e h p
-
-  table-whole : (w : List ℕ) (l : List A) → Rows T w l → words-at w (T .base) (T .rows * T .width) ≡ table-words T l
-  unfolding table-words row
-  table-whole w l h = words-joined w (T .base) (T .width) (T .rows) ∙ joined-ext (T .rows) _ _ h
+  unfolding row
+  table-rows w before after l e h i p =
+      joined-row (T .width) (λ i. T .write (getD l i (T .blank))) (λ i. long (getD l i (T .blank))) w before after (T .base) (T .rows) i (e ∙ ap (λ (x : List ℕ). before ++ (x ++ after)) (table-joined l)) h p
 
 -- ---- all five
 
@@ -80,26 +81,9 @@ pub record Holds (w : List ℕ) (s : State) : Type 0 where
   pub constraints : Rows constraint-table w (s .constraints)
   pub structs : Rows struct-table w (s .structs)
 
-split : (w : List ℕ) → words-at w 0 (5 + (12288 + (4096 + (5120 + (2048 + 512))))) ≡ words-at w 0 5 ++ (words-at w 5 12288 ++ (words-at w 12293 4096 ++ (words-at w 16389 5120 ++ (words-at w 21509 2048 ++ words-at w 23557 512))))
-split w =
-    words-more w 0 5 (12288 + (4096 + (5120 + (2048 + 512))))
-    ∙ ap (λ (l : List ℕ). words-at w 0 5 ++ l) (words-more w 5 12288 (4096 + (5120 + (2048 + 512)))
-    ∙ ap (λ (l : List ℕ). words-at w 5 12288 ++ l) (words-more w 12293 4096 (5120 + (2048 + 512))
-    ∙ ap (λ (l : List ℕ). words-at w 12293 4096 ++ l) (words-more w 16389 5120 (2048 + 512)
-    ∙ ap (λ (l : List ℕ). words-at w 16389 5120 ++ l) (words-more w 21509 2048 512))))
-
 -- words that hold a state are its encoding
 pub encoded : (w : List ℕ) (s : State) → Holds w s → w ≡ encode-words s
-unfolding encode-words
-encoded w s h =
-    words-whole w 24069 (h .size)
-    ∙ split w
-    ∙ ap₂ (λ (a b : List ℕ). a ++ b) (h .counts)
-    (ap₂ (λ (a b : List ℕ). a ++ b) (table-whole node-table node-long w (s .nodes) (h .nodes))
-    (ap₂ (λ (a b : List ℕ). a ++ b) (table-whole arg-table arg-long w (s .args) (h .args))
-    (ap₂ (λ (a b : List ℕ). a ++ b) (table-whole var-table cell-long w (s .vars) (h .vars))
-    (ap₂ (λ (a b : List ℕ). a ++ b) (table-whole constraint-table constraint-long w (s .constraints) (h .constraints))
-    (table-whole struct-table struct-long w (s .structs) (h .structs))))))
+encoded w s h = encoded-as w s (h .size) (h .counts) (h .nodes) (h .args) (h .vars) (h .constraints) (h .structs)
 
 -- ---- the encoding of a state holds it
 

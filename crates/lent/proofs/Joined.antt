@@ -10,39 +10,22 @@ use lib.Seq.{getD-append-add, ext-getD}
 use Rattle.table.specs.Tab.{tab}
 use Rattle.table.specs.Rows.{Table, words-at, row}
 use Rattle.table.proofs.Tab.{length-tab, getD-tab, tab-ext}
-use Rattle.lent.specs.Lent.{joined, table-words}
+use Rattle.table.specs.Encode.{flat}
 
--- ---- words from a place on
+-- f 0, f 1, .., f (n - 1), one after the other
+unfoldable pub joined : ℕ → (ℕ → List ℕ) → List ℕ
+joined zero f = []
+joined (suc n) f = joined n f ++ f n
 
-pub words-more : (w : List ℕ) (a m n : ℕ) → words-at w a (m + n) ≡ words-at w a m ++ words-at w (a + m) n
-unfolding words-at tab
-words-more w a m zero = let z : m + 0 ≡ m = omega arith in rw z (sym (append-nil (words-at w a m)))
-words-more w a m (suc n) =
-    let z : m + suc n ≡ suc (m + n) = omega arith in
-    let y : a + (m + n) ≡ a + m + n = omega arith in
-    rw z (ap₂ (λ (l : List ℕ) (x : ℕ). l ++ (getD w x 0 ∷ [])) (words-more w a m n) y ∙ append-assoc (words-at w a m) (words-at w (a + m) n) (getD w (a + m + n) 0 ∷ []))
+flat-more : (l : List (List ℕ)) (r : List ℕ) → flat (l ++ (r ∷ [])) ≡ flat l ++ r
+unfolding flat
+flat-more [] r = append-nil r
+flat-more (x ∷ l) r = ap (λ (y : List ℕ). x ++ y) (flat-more l r) ∙ sym (append-assoc x (flat l) r)
 
-pub words-whole : (w : List ℕ) (n : ℕ) → length w ≡ n → w ≡ words-at w 0 n
-unfolding words-at
-words-whole w n e = ext-getD 0 w (tab n (λ k. getD w (0 + k) 0)) (e ∙ sym (length-tab n _)) (λ i h.
-    let z : 0 + i ≡ i = omega arith in
-    sym (getD-tab n (λ k. getD w (0 + k) 0) i 0 (rw e at h) ∙ ap (λ (k : ℕ). getD w k 0) z))
-
--- ---- rows one after the other
-
-pub joined-ext : (n : ℕ) (f g : ℕ → List ℕ) → ((i : ℕ) → i < n → f i ≡ g i) → joined n f ≡ joined n g
-unfolding joined
-joined-ext zero f g h = refl
-joined-ext (suc n) f g h = ap₂ (λ (l m : List ℕ). l ++ m) (joined-ext n f g (λ i p. h i (lt-trans p (lt-suc-self n)))) (h n (lt-suc-self n))
-
-words-none : (w : List ℕ) (base : ℕ) → words-at w base 0 ≡ []
-unfolding words-at tab
-words-none w base = refl
-
-pub words-joined : (w : List ℕ) (base k n : ℕ) → words-at w base (n * k) ≡ joined n (λ i. words-at w (base + i * k) k)
-unfolding joined
-words-joined w base k zero = rw (zero-mul k) (words-none w base)
-words-joined w base k (suc n) = rw (suc-mul n k) (words-more w base (n * k) k ∙ ap (λ (l : List ℕ). l ++ words-at w (base + n * k) k) (words-joined w base k n))
+pub flat-joined : (n : ℕ) (f : ℕ → List ℕ) → flat (tab n f) ≡ joined n f
+unfolding joined tab flat
+flat-joined zero f = refl
+flat-joined (suc n) f = flat-more (tab n f) (f n) ∙ ap (λ (l : List ℕ). l ++ f n) (flat-joined n f)
 
 module _ (k : ℕ) (f : ℕ → List ℕ) (long : (i : ℕ) → length (f i) ≡ k) where
   pub length-joined : (n : ℕ) → length (joined n f) ≡ n * k

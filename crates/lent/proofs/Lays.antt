@@ -23,12 +23,14 @@ use Rattle.table.specs.Tab.{tab}
 use Rattle.table.specs.Rows.{row, words-at, entries, Clean, struct-words, read-struct, node-table, arg-table, var-table, constraint-table, struct-table}
 use Rattle.table.specs.State.{view, seen, Below, Inside, Lay, Declares}
 use Rattle.table.specs.declared.Used.{Used}
-use Rattle.table.proofs.Tab.{getD-tab, getD-tab-out}
+use Rattle.table.proofs.Tab.{length-tab, getD-tab, getD-tab-out}
+use Rattle.table.proofs.Encoded.{encoded}
 use Rattle.table.proofs.Rows.{length-entries, entry-at, entry-out}
-use Rattle.lent.specs.Lent.{used-of, struct-of, structs-of, decode, count-words, encode-words, encode-params, Lent-sound}
+use Rattle.table.specs.Encode.{encode as encode-words}
+use Rattle.lent.specs.Lent.{used-of, struct-of, structs-of, decode, encode-params, Lent-sound}
 use Rattle.lent.specs.Tests.{Sized}
 use Rattle.lent.proofs.Below.{and-l, and-r, both}
-use Rattle.lent.proofs.Encode.{Rows, Holds, encoded, holds}
+use Rattle.lent.proofs.Encode.{Holds}
 use Rattle.lent.proofs.Rows.{used-row, past-row}
 use Rattle.lent.proofs.Shapes.{args-count, vars-count}
 use Rattle.lent.proofs.Rowwise.{nodes-count}
@@ -36,35 +38,12 @@ use Rattle.lent.proofs.Tested.{bytes-long, lent-holds, lent-sized, list
 
 -- ---- words that keep the layout are the encoding of what they show
 
-seen-structs : (w : List ℕ) (u : Used) (ds : List Struct) → length (seen w u ds .structs) ≡ length ds
-unfolding seen with-structs
-seen-structs w u ds = refl
+counts-kept : (w : List ℕ) (u : Used) → used-of w ≡ u → words-at w 0 5 ≡ u .nodes ∷ u .args ∷ u .vars ∷ u .constraints ∷ u .structs ∷ []
+unfolding words-at tab used-of
+counts-kept w u e = ap (λ (x : Used). x .nodes ∷ x .args ∷ x .vars ∷ x .constraints ∷ x .structs ∷ []) e
 
-module _ (w : List ℕ) (u : Used) (ds : List Struct) (lay : Lay w u) (dec : Declares w u ds) where
-  decl-rows : Rows struct-table w ds
-  unfolding Clean struct-words view
-  decl-rows i h = lay .clean-structs i h ∙ by (decLt i (u .structs))
-    where
-      by : Dec (i < u .structs) → struct-table .write (getD (entries struct-table w (u .structs)) i (struct-table .blank)) ≡ struct-table .write (getD ds i (struct-table .blank))
-      by (yes lt) = let a = dec .abilities i lt in let b = dec .params i lt in cc
-      by (no ge) = ap (λ (x : Struct). struct-words x) (entry-out struct-table w (u .structs) i (struct-table .blank) (omega arith) ∙ sym (List·getD-eq-default ds (struct-table .blank) (rw (dec .many) (omega arith))))
-
-  counts-kept : used-of w ≡ u → words-at w 0 5 ≡ count-words (seen w u ds)
-  unfolding words-at tab count-words used-of
-  counts-kept e =
-      let n : getD w 0 0 ≡ u .nodes = ap (λ (x : Used). x .nodes) e in
-      let a : getD w 1 0 ≡ u .args = ap (λ (x : Used). x .args) e in
-      let v : getD w 2 0 ≡ u .vars = ap (λ (x : Used). x .vars) e in
-      let c : getD w 3 0 ≡ u .constraints = ap (λ (x : Used). x .constraints) e in
-      let s : getD w 4 0 ≡ u .structs = ap (λ (x : Used). x .structs) e in
-      cc (nodes-count w u ds, args-count w u ds 0, vars-count w u ds 0, list-count w u ds, decls-many)
-    where
-      decls-many : length (seen w u ds .structs) ≡ u .structs
-      decls-many = seen-structs w u ds ∙ dec .many
-
-  pub lay-encoded : used-of w ≡ u → w ≡ encode-words (seen w u ds)
-  unfolding seen view with-structs Clean
-  lay-encoded e = encoded w (seen w u ds) (record { size = lay .size; counts = counts-kept e; nodes = lay .clean-nodes; args = lay .clean-args; vars = lay .clean-vars; constraints = lay .clean-constraints; structs = decl-rows })
+pub lay-encoded : (w : List ℕ) (u : Used) (ds : List Struct) → Lay w u → Declares w u ds → used-of w ≡ u → w ≡ encode-words (seen w u ds)
+lay-encoded w u ds lay dec e = encoded w u ds lay dec (counts-kept w u e)
 
 -- ---- the layout follows from the test
 
@@ -159,3 +138,13 @@ module _ (w : List ℕ) (p : List (List ℕ)) (h : Lent-sound w p) where
         clean-structs = λ i a. r .structs i a ∙ same-row i;
         inside = inside-view;
       }
+
+-- the declarations have the abilities and parameter counts of their rows
+pub lent-declares : (w : List ℕ) (p : List (List ℕ)) (u : Used) → Declares w u (structs-of w p (u .structs))
+unfolding structs-of struct-of view
+lent-declares w p u =
+    record {
+      many = length-tab (u .structs) _;
+      abilities = λ i lt. ap (λ (x : Struct). x .abilities) (getD-tab (u .structs) (λ i. struct-of w p i) i (struct-table .blank) lt) ∙ ap (λ (x : Struct). x .abilities) (sym (entry-at struct-table w (u .structs) i (struct-table .blank) lt));
+      params = λ i lt. ap (λ (x : Struct). length (x .params)) (getD-tab (u .structs) (λ i. struct-of w p i) i (struct-table .blank) lt) ∙ bytes-long w p u i _ ∙ ap (λ (x : Struct). length (x .params)) (sym (entry-at struct-table w (u .structs) i (struct-table .blank) lt));
+    }

@@ -1,6 +1,5 @@
 -- Laws of the lent state, and of its test. Assumes nothing.
 pub mod Below
-pub mod Fine
 pub mod Fields
 pub mod Joined
 pub mod Encode

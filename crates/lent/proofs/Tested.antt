@@ -24,7 +24,8 @@ use Rattle.table.specs.declared.Used.{Used}
 use Rattle.table.proofs.Tab.{length-tab, getD-tab, getD-tab-out}
 use Rattle.table.proofs.Rows.{length-entries, entry-at}
 use Rattle.table.proofs.Fields.{node-made, arg-row, get-read, num-read, constraint-read}
-use Rattle.lent.specs.Lent.{used-of, bytes-at, struct-of, structs-of, decode, count-words, encode-words, encode-params, same-words, same-rows, lent-sound, Lent-sound}
+use Rattle.table.specs.Encode.{counts as count-words, encode as encode-words}
+use Rattle.lent.specs.Lent.{used-of, bytes-at, struct-of, structs-of, decode, encode-params, same-words, same-rows, lent-sound, Lent-sound}
 use Rattle.lent.specs.Tests.{Sized, all-below, counts-fine, zeros, tails-fine, struct-fine, params-at, byte-fine, bytes-fine, shape-fine, node-fine, cell-fine, binding-fine, numeric-fine, chain-fine, constraint-fine}
 use Rattle.lent.proofs.Below.{and-l, and-r, both, same-test, not-passed, all-at, all-from, when-true, when-false}
 use Rattle.lent.proofs.Fields.{tag-of, mod-back, set-mod, set-was}

@@ -2,7 +2,6 @@
 use mathlib.Core.Path.{_≡_, refl, sym, ap, _∙_, subst}
 use mathlib.Core.Bool.{Bool, true, false}
 use mathlib.Core.List.{List, []}
-use mathlib.Core.Option.{Option, none, some}
 use Prim.Native.Nat.{ℕ, _+_, _≤_, _<_}
 use native.Mathlib.Omega.{arith}
 use lib.Dec.{ltb}
@@ -11,7 +10,7 @@ use Rattle.definition.specs.Types.{State, Struct, Result, ok, err, refused, _>>
 use Rattle.definition.specs.Store.{count, taken, get, node, loc-of, value, with-args, with-structs, next-tvar}
 use Rattle.definition.specs.Subst.{is-anything}
 use Rattle.table.specs.Rows.{node-table}
-use Rattle.table.specs.State.{Lay, Front, Grown, Changed, After, Stored, Nodes-in, Var-in, outcome, seen, view, done, found, node-of, shape-of, value-of}
+use Rattle.table.specs.State.{Lay, Grown, Changed, Nodes-in, Var-in, outcome, seen, view, done, found, node-of, shape-of, value-of}
 use Rattle.table.specs.declared.Step.{Step}
 use Rattle.table.specs.declared.Used.{Used}
 use Rattle.table.specs.declared.Node.{Node}

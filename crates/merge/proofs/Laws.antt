@@ -1,20 +1,20 @@
 -- The steps of a merge and of a meeting, as laws that follow the code. Assumes nothing.
-use mathlib.Core.Path.{_≡_, refl, sym, ap, _∙_, subst}
+use mathlib.Core.Path.{_≡_, refl, sym, ap, _∙_}
 use mathlib.Core.Bool.{Bool, true, false}
 use mathlib.Core.List.{List, []}
 use mathlib.Core.Option.{Option, none, some}
 use Prim.Native.Nat.{ℕ, _+_, _≤_, _<_}
 use native.Mathlib.Omega.{arith}
 use Rattle.definition.specs.Types as d
-use Rattle.definition.specs.Types.{State, Struct, Result, ok, err, refused, _>>=_, if_then_else_}
-use Rattle.definition.specs.Store.{get, node, loc-of, num-loc, insert, sp, next-tvar}
+use Rattle.definition.specs.Types.{State, Struct, Result, ok, err, _>>=_, if_then_else_}
+use Rattle.definition.specs.Store.{get, node, num-loc, insert, sp, next-tvar}
 use Rattle.definition.specs.Subst.{is-anything, forward-tvar, set-num-var}
 use Rattle.definition.specs.Join.{type-of, merge-num, shown, join-bind-tvar, join-unbound}
 use Rattle.names.specs.declared.TVar.{TVar}
 use Rattle.subst.specs.Answers.{bound, Binds}
 use Rattle.subst.specs.declared.Binding.{Binding}
 use Rattle.subst.specs.declared.Binding.the-variants.{Bound, Failed, Recursive as RecursiveB}
-use Rattle.table.specs.State.{Lay, Grown, Changed, After, Stored, Nodes-in, Var-in, outcome, seen, view, done, found, node-of, value-of}
+use Rattle.table.specs.State.{Lay, Changed, After, Stored, Nodes-in, outcome, seen, view, done, found, node-of, value-of}
 use Rattle.table.specs.declared.Step.{Step}
 use Rattle.table.specs.declared.Used.{Used}
 use Rattle.table.specs.declared.Node.{Node}

@@ -169,6 +169,9 @@ module _ (K : List Struct → Type 0) where
 after-when : (K : List Struct → Type 0) (w : List ℕ) (u : Used) (w′ : List ℕ) (r : Step) (f : State → Result (State × ℕ)) → ((ds : List Struct) → K ds) → When K w u w′ r f → After w u w′ r f
 after-when K w u w′ r f k a = record { changed = record { lay = a .lay; grown = a .grown; structs = a .structs; is = λ ds. a .is ds (k ds) }; inside = a .inside }
 
+pub when-done : (K : List Struct → Type 0) (w : List ℕ) (u : Used) (w′ : List ℕ) (r : Step) (f : State → Result (State × ℕ)) (b : Found) (t : ℕ) → When K w u w′ r f → b ≡ done (r .out) → b ≡ Just t → t < r .used .nodes
+when-done K w u w′ r f b t a p q = done-in (r .out) (r .used .nodes) t (sym p ∙ q) (a .inside)
+
 unfoldable pub Any : List Struct → Type 0
 Any ds = Unit {0}
 

@@ -1,20 +1,13 @@
+-- `lent::apply_fine` meets its contract. Assumes nothing.
+use mathlib.Core.Path.{sym, _∙_}
 use native.Mathlib.Omega.{arith}
-use Rattle.lent.proofs.Fine.{name-small}
-use borrow.Author.Tests.{not-true, not-false}
-use Rattle.lent.specs.Tests.{apply-fine}
-use Rattle.lent.proofs.Below.{passes, both, fails-l, fails-then, when-true, when-false, one-fails, all-more, all-none, all-done}
-use mathlib.Core.Path.{refl, sym, ap, _∙_}
-use borrow.Author.Tests.{lt-ltb, le-ltb, le-leb, lt-leb, eq-eqb, ne-eqb}
+use borrow.Author.Tests.{not-true, not-false, le-leb, lt-leb, eq-eqb, ne-eqb}
 use borrow.Author.Needs.{needs}
+use Rattle.lent.specs.Tests.{apply-fine}
+use Rattle.lent.proofs.Fields.{name-small}
+use Rattle.lent.proofs.Below.{passes, both, fails-l, fails-then}
 use Rattle.lent.proofs.apply_fine.Statement.{statement}
 use Rattle.lent.proofs.apply_fine.Tie as tie
-use Rattle.lent.proofs.apply_fine.Reads as reads
-use Rattle.lent.proofs.apply_fine.Lts as lts
-use Rattle.lent.proofs.args_fine.Reads as args-fine-reads
-use Rattle.lent.proofs.fits_fine.Reads as fits-fine-reads
-use Rattle.lent.proofs.mark_fine.Reads as mark-fine-reads
-use Rattle.lent.proofs.name_fine.Reads as name-fine-reads
-use Rattle.lent.proofs.parts_fine.Reads as parts-fine-reads
 
 mark-fine-requires : tie.Need-mark-fine-requires
 mark-fine-requires c κs = search needs

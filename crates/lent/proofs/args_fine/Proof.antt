@@ -1,13 +1,11 @@
-use Rattle.lent.proofs.Below.{passes, both, fails-l, fails-then, when-true, when-false, one-fails, all-more, all-none, all-done}
-use mathlib.Core.Path.{refl, sym, ap, _∙_}
-use borrow.Author.Tests.{lt-ltb, le-ltb, le-leb, lt-leb, eq-eqb, ne-eqb}
-use Rattle.lent.specs.Tests.{args-fine}
-use borrow.Author.Tests.{ltb-true, ltb-false, leb-true, leb-false, eqb-true, eqb-false, lt-ltb, le-ltb, le-leb, lt-leb, eq-eqb, ne-eqb}
+-- `lent::args_fine` meets its contract. Assumes nothing.
+use mathlib.Core.Path.{sym, _∙_}
+use borrow.Author.Tests.{eq-eqb, ne-eqb}
 use borrow.Author.Needs.{needs}
+use Rattle.lent.specs.Tests.{args-fine}
+use Rattle.lent.proofs.Below.{when-true, when-false}
 use Rattle.lent.proofs.args_fine.Statement.{statement}
 use Rattle.lent.proofs.args_fine.Tie as tie
-use Rattle.lent.proofs.args_fine.Reads as reads
-use Rattle.lent.proofs.args_fine.Lts as lts
 
 returns : tie.Need-returns
 unfolding args-fine

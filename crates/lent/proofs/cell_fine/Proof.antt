@@ -1,14 +1,11 @@
-use borrow.Author.Tests.{not-true, not-false, lt-ltb, le-ltb, eq-eqb, ne-eqb}
-use Rattle.lent.specs.Tests.{cell-fine}
-use Rattle.lent.proofs.Below.{passes, both, fails-l, fails-then, when-true, when-false, one-fails, all-more, all-none, all-done}
-use mathlib.Core.Path.{refl, sym, ap, _∙_}
+-- `lent::cell_fine` meets its contract. Assumes nothing.
+use mathlib.Core.Path.{sym, _∙_}
+use borrow.Author.Tests.{not-true, not-false}
 use borrow.Author.Needs.{needs}
+use Rattle.lent.specs.Tests.{cell-fine}
+use Rattle.lent.proofs.Below.{passes, both, fails-l, fails-then}
 use Rattle.lent.proofs.cell_fine.Statement.{statement}
 use Rattle.lent.proofs.cell_fine.Tie as tie
-use Rattle.lent.proofs.cell_fine.Reads as reads
-use Rattle.lent.proofs.cell_fine.Lts as lts
-use Rattle.lent.proofs.binding_fine.Reads as binding-fine-reads
-use Rattle.lent.proofs.numeric_fine.Reads as numeric-fine-reads
 
 mul-at : tie.Need-mul-at
 mul-at c = search needs

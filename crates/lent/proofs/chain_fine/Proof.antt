@@ -1,19 +1,13 @@
-use Prim.Native.Nat.{ℕ}
-use mathlib.Core.Path.{ap}
-use Rattle.table.specs.State.{found}
-use Rattle.lent.proofs.Chains.{ends-none, ends-last, ends-next}
-use Rattle.lent.specs.Tests.{ends-fine, chain-fine}
-use Rattle.lent.proofs.Below.{one-fails, all-more, all-none, all-done}
-use borrow.Author.Needs.{needs}
+-- `lent::chain_fine` meets its contract. Assumes nothing.
+use mathlib.Core.Path.{ap, _≡_, refl, sym, _∙_}
+use Prim.Native.Nat.{_≤_}
 use native.Mathlib.Omega.{arith}
-use Prim.Native.Nat.{_≤_, _<_, _-_, _+_}
-use mathlib.Core.Bool.{true}
-use mathlib.Core.Path.{_≡_, refl, sym, _∙_}
+use borrow.Author.Needs.{needs}
+use Rattle.table.specs.State.{found}
+use Rattle.lent.specs.Tests.{ends-fine, chain-fine}
+use Rattle.lent.proofs.Chains.{ends-none, ends-last, ends-next}
 use Rattle.lent.proofs.chain_fine.Statement.{statement}
 use Rattle.lent.proofs.chain_fine.Tie as tie
-use Rattle.lent.proofs.chain_fine.Reads as reads
-use Rattle.lent.proofs.chain_fine.Lts as lts
-use Rattle.lent.proofs.next_at.Reads as next-at-reads
 
 abbrev Inv-loop : tie.InvT-loop
 Inv-loop w u v left₀ cur₀ left cur = (left ≤ u .vars) × (ends-fine w u left cur ≡ chain-fine w u v)

@@ -1,16 +1,14 @@
-use borrow.Author.Tests.{not-true, not-false, lt-ltb, le-ltb, eq-eqb, ne-eqb}
+-- `lent::constraints_fine` meets its contract. Assumes nothing.
+use mathlib.Core.Bool.{true}
+use mathlib.Core.Path.{_≡_, sym, _∙_}
+use Prim.Native.Nat.{_≤_, _-_}
+use native.Mathlib.Omega.{arith}
+use borrow.Author.Tests.{not-true, not-false}
+use borrow.Author.Needs.{needs}
 use Rattle.lent.specs.Tests.{all-below, constraint-fine}
 use Rattle.lent.proofs.Below.{one-fails, all-more, all-none, all-done}
-use borrow.Author.Needs.{needs}
-use native.Mathlib.Omega.{arith}
-use Prim.Native.Nat.{_≤_, _<_, _-_, _+_}
-use mathlib.Core.Bool.{true}
-use mathlib.Core.Path.{_≡_, refl, sym, _∙_}
 use Rattle.lent.proofs.constraints_fine.Statement.{statement}
 use Rattle.lent.proofs.constraints_fine.Tie as tie
-use Rattle.lent.proofs.constraints_fine.Reads as reads
-use Rattle.lent.proofs.constraints_fine.Lts as lts
-use Rattle.lent.proofs.constraint_fine.Reads as constraint-fine-reads
 
 abbrev Inv-loop : tie.InvT-loop
 Inv-loop w u n i₀ i = (i ≤ (u .constraints)) × (all-below i (constraint-fine w u) ≡ true)

@@ -1,14 +1,11 @@
-use Rattle.lent.proofs.Below.{passes, both, fails-l, fails-then, when-true, when-false, one-fails, all-more, all-none, all-done}
-use Rattle.lent.specs.Tests.{fits-fine}
-use mathlib.Core.Path.{refl, sym, ap, _∙_}
-use borrow.Author.Tests.{lt-ltb, le-ltb, le-leb, lt-leb, eq-eqb, ne-eqb}
+-- `lent::fits_fine` meets its contract. Assumes nothing.
+use mathlib.Core.Path.{sym, _∙_}
+use borrow.Author.Tests.{eq-eqb, ne-eqb}
 use borrow.Author.Needs.{needs}
+use Rattle.lent.specs.Tests.{fits-fine}
+use Rattle.lent.proofs.Below.{when-true, when-false}
 use Rattle.lent.proofs.fits_fine.Statement.{statement}
 use Rattle.lent.proofs.fits_fine.Tie as tie
-use Rattle.lent.proofs.fits_fine.Reads as reads
-use Rattle.lent.proofs.fits_fine.Lts as lts
-use Rattle.lent.proofs.mark_drops.Reads as mark-drops-reads
-use Rattle.names.proofs.is_numeric.Reads as is-numeric-reads
 
 returns : tie.Need-returns
 unfolding fits-fine

@@ -1,27 +1,13 @@
-use Rattle.definition.specs.Types.{Mark}
-use Rattle.table.specs.Rows.{read-mark}
-use Rattle.definition.specs.Trees.{has-drop}
-use Rattle.definition.specs.Types.{Mark}
-use Rattle.table.specs.Rows.{read-mark}
-use Rattle.definition.specs.Trees.{has-drop}
-use Rattle.definition.specs.Types.{Mark}
-use Rattle.table.specs.Rows.{read-mark}
-use Rattle.definition.specs.Trees.{has-drop}
-use Rattle.table.specs.Rows.{read-mark}
-use Rattle.definition.specs.Trees.{has-drop}
-use Rattle.lent.proofs.Below.{passes, both, fails-l, fails-then, when-true, when-false, one-fails, all-more, all-none, all-done}
-use Rattle.table.specs.Rows.{read-mark}
-use Rattle.definition.specs.Trees.{has-drop}
-use mathlib.Core.Path.{refl, sym, ap, _∙_}
-use borrow.Author.Tests.{lt-ltb, le-ltb, le-leb, lt-leb, eq-eqb, ne-eqb}
-use Rattle.table.specs.Rows.{read-mark}
-use borrow.Author.Tests.{ltb-true, ltb-false, leb-true, leb-false, eqb-true, eqb-false, lt-ltb, le-ltb, le-leb, lt-leb, eq-eqb, ne-eqb}
+-- `lent::mark_drops` meets its contract. Assumes nothing.
+use mathlib.Core.Path.{sym, ap, _∙_}
+use borrow.Author.Tests.{lt-ltb, le-ltb}
 use borrow.Author.Needs.{needs}
+use Rattle.definition.specs.Types.{Mark}
+use Rattle.definition.specs.Trees.{has-drop}
+use Rattle.table.specs.Rows.{read-mark}
+use Rattle.lent.proofs.Below.{when-true, when-false}
 use Rattle.lent.proofs.mark_drops.Statement.{statement}
 use Rattle.lent.proofs.mark_drops.Tie as tie
-use Rattle.lent.proofs.mark_drops.Reads as reads
-use Rattle.lent.proofs.mark_drops.Lts as lts
-use Rattle.names.proofs.has_drop.Reads as has-drop-reads
 
 returns : tie.Need-returns
 unfolding read-mark has-drop

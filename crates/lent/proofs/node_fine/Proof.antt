@@ -1,10 +1,8 @@
-use Rattle.lent.specs.Tests.{node-fine}
+-- `lent::node_fine` meets its contract. Assumes nothing.
 use borrow.Author.Needs.{needs}
+use Rattle.lent.specs.Tests.{node-fine}
 use Rattle.lent.proofs.node_fine.Statement.{statement}
 use Rattle.lent.proofs.node_fine.Tie as tie
-use Rattle.lent.proofs.node_fine.Reads as reads
-use Rattle.lent.proofs.node_fine.Lts as lts
-use Rattle.lent.proofs.shape_fine.Reads as shape-fine-reads
 
 mul-at : tie.Need-mul-at
 mul-at c = search needs

@@ -1,13 +1,11 @@
-use Rattle.lent.proofs.Below.{passes, both, fails-l, fails-then, when-true, when-false, one-fails, all-more, all-none, all-done}
-use mathlib.Core.Path.{refl, sym, ap, _∙_}
-use borrow.Author.Tests.{lt-ltb, le-ltb, le-leb, lt-leb, eq-eqb, ne-eqb}
-use Rattle.lent.specs.Tests.{params-at}
-use borrow.Author.Tests.{ltb-true, ltb-false, leb-true, leb-false, eqb-true, eqb-false, lt-ltb, le-ltb, le-leb, lt-leb, eq-eqb, ne-eqb}
+-- `lent::params_at` meets its contract. Assumes nothing.
+use mathlib.Core.Path.{sym}
+use borrow.Author.Tests.{lt-ltb, le-ltb}
 use borrow.Author.Needs.{needs}
+use Rattle.lent.specs.Tests.{params-at}
+use Rattle.lent.proofs.Below.{when-true, when-false}
 use Rattle.lent.proofs.params_at.Statement.{statement}
 use Rattle.lent.proofs.params_at.Tie as tie
-use Rattle.lent.proofs.params_at.Reads as reads
-use Rattle.lent.proofs.params_at.Lts as lts
 
 mul-at : tie.Need-mul-at
 mul-at c = search needs

@@ -1,21 +1,16 @@
-use mathlib.Core.Path.{_≡_, refl, sym, _∙_}
-use Prim.Native.Nat.{ℕ}
+-- `lent::params_fine` meets its contract. Assumes nothing.
+use mathlib.Core.Path.{_≡_, sym, _∙_, ap}
 use mathlib.Core.List.{[]}
-use lib.ListN.{getD}
-use Rattle.lent.specs.Tests.{all-below, bytes-fine, byte-fine}
-use borrow.Author.Tests.{not-true, not-false, lt-ltb, le-ltb, eq-eqb, ne-eqb}
-use Rattle.lent.proofs.Below.{one-fails, all-more, all-none, all-done}
-use borrow.Author.Needs.{needs}
-use native.Mathlib.Omega.{arith}
-use Prim.Native.Nat.{_≤_, _<_, _-_, _+_}
 use mathlib.Core.Bool.{true}
-use mathlib.Core.Path.{_≡_, refl, sym, ap, _∙_}
+use Prim.Native.Nat.{ℕ, _≤_, _-_}
+use native.Mathlib.Omega.{arith}
+use lib.ListN.{getD}
+use borrow.Author.Tests.{not-true, not-false}
+use borrow.Author.Needs.{needs}
+use Rattle.lent.specs.Tests.{all-below, bytes-fine, byte-fine}
+use Rattle.lent.proofs.Below.{one-fails, all-more, all-none, all-done}
 use Rattle.lent.proofs.params_fine.Statement.{statement}
 use Rattle.lent.proofs.params_fine.Tie as tie
-use Rattle.lent.proofs.params_fine.Reads as reads
-use Rattle.lent.proofs.params_fine.Lts as lts
-use Rattle.lent.proofs.bytes_fine.Reads as bytes-fine-reads
-use Rattle.lent.proofs.params_at.Reads as params-at-reads
 
 abbrev Inv-loop : tie.InvT-loop
 Inv-loop w u params i₀ i = (i ≤ 256) × (all-below i (bytes-fine w u params) ≡ true)

@@ -1,15 +1,14 @@
-use Rattle.lent.specs.Tests.{all-below, part-fine}
-use borrow.Author.Tests.{not-true, not-false, lt-ltb, le-ltb, eq-eqb, ne-eqb}
-use Rattle.lent.proofs.Below.{one-fails, all-more, all-none, all-done}
-use borrow.Author.Needs.{needs}
-use native.Mathlib.Omega.{arith}
-use Prim.Native.Nat.{_≤_, _<_, _-_, _+_}
+-- `lent::parts_fine` meets its contract. Assumes nothing.
 use mathlib.Core.Bool.{true}
-use mathlib.Core.Path.{_≡_, refl, sym, _∙_}
+use mathlib.Core.Path.{_≡_, sym}
+use Prim.Native.Nat.{_≤_, _-_}
+use native.Mathlib.Omega.{arith}
+use borrow.Author.Tests.{lt-ltb, le-ltb}
+use borrow.Author.Needs.{needs}
+use Rattle.lent.specs.Tests.{all-below, part-fine}
+use Rattle.lent.proofs.Below.{one-fails, all-more, all-none, all-done}
 use Rattle.lent.proofs.parts_fine.Statement.{statement}
 use Rattle.lent.proofs.parts_fine.Tie as tie
-use Rattle.lent.proofs.parts_fine.Reads as reads
-use Rattle.lent.proofs.parts_fine.Lts as lts
 
 abbrev Inv-loop : tie.InvT-loop
 Inv-loop w t c d i₀ i = (i ≤ d) × (all-below i (part-fine w t c) ≡ true)

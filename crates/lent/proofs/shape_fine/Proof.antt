@@ -1,17 +1,11 @@
-use Rattle.lent.specs.Tests.{shape-fine}
-use Rattle.lent.proofs.Below.{passes, both, fails-l, fails-then, when-true, when-false, one-fails, all-more, all-none, all-done}
-use mathlib.Core.Path.{refl, sym, ap, _∙_}
+-- `lent::shape_fine` meets its contract. Assumes nothing.
+use mathlib.Core.Path.{sym, _∙_}
 use borrow.Author.Tests.{lt-ltb, le-ltb, le-leb, lt-leb, eq-eqb, ne-eqb}
 use borrow.Author.Needs.{needs}
+use Rattle.lent.specs.Tests.{shape-fine}
+use Rattle.lent.proofs.Below.{passes, fails-l, when-true, when-false}
 use Rattle.lent.proofs.shape_fine.Statement.{statement}
 use Rattle.lent.proofs.shape_fine.Tie as tie
-use Rattle.lent.proofs.shape_fine.Reads as reads
-use Rattle.lent.proofs.shape_fine.Lts as lts
-use Rattle.lent.proofs.apply_fine.Reads as apply-fine-reads
-use Rattle.lent.proofs.four_zeros.Reads as four-zeros-reads
-use Rattle.lent.proofs.param_fine.Reads as param-fine-reads
-use Rattle.lent.proofs.ref_fine.Reads as ref-fine-reads
-use Rattle.lent.proofs.var_fine.Reads as var-fine-reads
 
 four-zeros-requires : tie.Need-four-zeros-requires
 four-zeros-requires c κs = search needs

@@ -1,22 +1,12 @@
+-- `lent::sound_state` meets its contract. Assumes nothing.
+use mathlib.Core.Path.{sym, _∙_}
 use native.Mathlib.Omega.{arith}
+use borrow.Author.Tests.{not-true, not-false}
+use borrow.Author.Needs.{needs}
 use Rattle.lent.proofs.Owned.{table-of}
 use Rattle.lent.proofs.Tested.{sized, no-size, no-counts, no-test, last-test}
-use borrow.Author.Tests.{not-true, not-false}
-use mathlib.Core.Path.{sym, _∙_}
-use borrow.Author.Needs.{needs}
 use Rattle.lent.proofs.sound_state.Statement.{statement}
 use Rattle.lent.proofs.sound_state.Tie as tie
-use Rattle.lent.proofs.sound_state.Reads as reads
-use Rattle.lent.proofs.sound_state.Lts as lts
-use Rattle.lent.proofs.cells_fine.Reads as cells-fine-reads
-use Rattle.lent.proofs.chains_fine.Reads as chains-fine-reads
-use Rattle.lent.proofs.constraints_fine.Reads as constraints-fine-reads
-use Rattle.lent.proofs.counts_fine.Reads as counts-fine-reads
-use Rattle.lent.proofs.nodes_fine.Reads as nodes-fine-reads
-use Rattle.lent.proofs.params_fine.Reads as params-fine-reads
-use Rattle.lent.proofs.structs_fine.Reads as structs-fine-reads
-use Rattle.lent.proofs.tails_fine.Reads as tails-fine-reads
-use Rattle.lent.proofs.used_of.Reads as used-of-reads
 
 returns : tie.Need-returns
 returns c = sym (no-size _ _ (c .if1 .taken))

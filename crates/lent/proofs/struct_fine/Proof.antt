@@ -1,13 +1,11 @@
-use Rattle.lent.proofs.Below.{passes, both, fails-l, fails-then, when-true, when-false, one-fails, all-more, all-none, all-done}
-use mathlib.Core.Path.{refl, sym, ap, _∙_}
-use borrow.Author.Tests.{lt-ltb, le-ltb, le-leb, lt-leb, eq-eqb, ne-eqb}
-use Rattle.lent.specs.Tests.{struct-fine}
-use borrow.Author.Tests.{ltb-true, ltb-false, leb-true, leb-false, eqb-true, eqb-false, lt-ltb, le-ltb, le-leb, lt-leb, eq-eqb, ne-eqb}
+-- `lent::struct_fine` meets its contract. Assumes nothing.
+use mathlib.Core.Path.{sym}
+use borrow.Author.Tests.{le-leb, lt-leb}
 use borrow.Author.Needs.{needs}
+use Rattle.lent.specs.Tests.{struct-fine}
+use Rattle.lent.proofs.Below.{passes, fails-l}
 use Rattle.lent.proofs.struct_fine.Statement.{statement}
 use Rattle.lent.proofs.struct_fine.Tie as tie
-use Rattle.lent.proofs.struct_fine.Reads as reads
-use Rattle.lent.proofs.struct_fine.Lts as lts
 
 mul-at : tie.Need-mul-at
 mul-at c = search needs

@@ -1,13 +1,11 @@
-use borrow.Author.Tests.{not-true, not-false, lt-ltb, le-ltb, eq-eqb, ne-eqb}
-use Rattle.lent.specs.Tests.{tails-fine}
-use Rattle.lent.proofs.Below.{passes, both, fails-l, fails-then, when-true, when-false, one-fails, all-more, all-none, all-done}
-use mathlib.Core.Path.{refl, sym, ap, _∙_}
+-- `lent::tails_fine` meets its contract. Assumes nothing.
+use mathlib.Core.Path.{sym, _∙_}
+use borrow.Author.Tests.{not-true, not-false}
 use borrow.Author.Needs.{needs}
+use Rattle.lent.specs.Tests.{tails-fine}
+use Rattle.lent.proofs.Below.{passes, both, fails-l, fails-then}
 use Rattle.lent.proofs.tails_fine.Statement.{statement}
 use Rattle.lent.proofs.tails_fine.Tie as tie
-use Rattle.lent.proofs.tails_fine.Reads as reads
-use Rattle.lent.proofs.tails_fine.Lts as lts
-use Rattle.lent.proofs.zeros.Reads as zeros-reads
 
 cast-zeros : tie.Need-cast-zeros
 cast-zeros c = search needs

@@ -1,16 +1,8 @@
-use Rattle.lent.specs.Lent.{used-of}
-use Rattle.lent.specs.Lent.{used-of}
-use Rattle.lent.specs.Lent.{used-of}
-use Rattle.lent.specs.Lent.{used-of}
-use Rattle.lent.proofs.Below.{passes, both, fails-l, fails-then, when-true, when-false, one-fails, all-more, all-none, all-done}
-use mathlib.Core.Path.{refl, sym, ap, _∙_}
-use borrow.Author.Tests.{lt-ltb, le-ltb, le-leb, lt-leb, eq-eqb, ne-eqb}
-use borrow.Author.Tests.{ltb-true, ltb-false, leb-true, leb-false, eqb-true, eqb-false, lt-ltb, le-ltb, le-leb, lt-leb, eq-eqb, ne-eqb}
+-- `lent::used_of` meets its contract. Assumes nothing.
 use borrow.Author.Needs.{needs}
+use Rattle.lent.specs.Lent.{used-of}
 use Rattle.lent.proofs.used_of.Statement.{statement}
 use Rattle.lent.proofs.used_of.Tie as tie
-use Rattle.lent.proofs.used_of.Reads as reads
-use Rattle.lent.proofs.used_of.Lts as lts
 
 shared-slice-read-t3 : tie.Need-shared-slice-read-t3
 shared-slice-read-t3 c = search needs

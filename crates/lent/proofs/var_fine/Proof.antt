@@ -1,12 +1,10 @@
-use Rattle.lent.proofs.Below.{passes, both, fails-l, fails-then, when-true, when-false, one-fails, all-more, all-none, all-done}
-use mathlib.Core.Path.{refl, sym, ap, _∙_}
-use borrow.Author.Tests.{lt-ltb, le-ltb, le-leb, lt-leb, eq-eqb, ne-eqb}
+-- `lent::var_fine` meets its contract. Assumes nothing.
+use mathlib.Core.Path.{sym}
+use borrow.Author.Tests.{lt-ltb, le-ltb, eq-eqb, ne-eqb}
 use Rattle.lent.specs.Tests.{var-fine}
-use borrow.Author.Tests.{ltb-true, ltb-false, leb-true, leb-false, eqb-true, eqb-false, lt-ltb, le-ltb, le-leb, lt-leb, eq-eqb, ne-eqb}
+use Rattle.lent.proofs.Below.{passes, both, fails-l, fails-then}
 use Rattle.lent.proofs.var_fine.Statement.{statement}
 use Rattle.lent.proofs.var_fine.Tie as tie
-use Rattle.lent.proofs.var_fine.Reads as reads
-use Rattle.lent.proofs.var_fine.Lts as lts
 
 returns : tie.Need-returns
 unfolding var-fine

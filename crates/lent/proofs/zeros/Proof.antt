@@ -1,15 +1,14 @@
-use Rattle.lent.specs.Tests.{all-below, zero-at, zeros}
-use borrow.Author.Tests.{not-true, not-false, lt-ltb, le-ltb, eq-eqb, ne-eqb}
-use Rattle.lent.proofs.Below.{one-fails, all-more, all-none, all-done}
-use borrow.Author.Needs.{needs}
-use native.Mathlib.Omega.{arith}
-use Prim.Native.Nat.{_≤_, _<_, _-_, _+_}
+-- `lent::zeros` meets its contract. Assumes nothing.
 use mathlib.Core.Bool.{true}
-use mathlib.Core.Path.{_≡_, refl, sym, _∙_}
+use mathlib.Core.Path.{_≡_, sym}
+use Prim.Native.Nat.{_≤_, _-_}
+use native.Mathlib.Omega.{arith}
+use borrow.Author.Tests.{eq-eqb, ne-eqb}
+use borrow.Author.Needs.{needs}
+use Rattle.lent.specs.Tests.{all-below, zero-at, zeros}
+use Rattle.lent.proofs.Below.{one-fails, all-more, all-none, all-done}
 use Rattle.lent.proofs.zeros.Statement.{statement}
 use Rattle.lent.proofs.zeros.Tie as tie
-use Rattle.lent.proofs.zeros.Reads as reads
-use Rattle.lent.proofs.zeros.Lts as lts
 
 abbrev Inv-loop : tie.InvT-loop
 Inv-loop w first last n k₀ k = (k ≤ n) × (all-below k (zero-at w first) ≡ true)

@@ -1,7 +1,7 @@
 -- `merge::close_tvar` meets its contract. Assumes nothing.
 use Rattle.table.specs.State.{found}
 use Rattle.table.proofs.Steps.{after-now}
-use mathlib.Core.Path.{refl, sym, ap, _∙_}
+use mathlib.Core.Path.{sym, ap, _∙_}
 use Rattle.merge.proofs.Laws.{close-bound, close-done, close-failed, close-recursive, bound-after, bound-then}
 use borrow.Author.Needs.{needs}
 use Rattle.merge.proofs.close_tvar.Statement.{statement}

@@ -1,5 +1,5 @@
 -- `merge::open_ends` meets its contract. Assumes nothing.
-use mathlib.Core.Path.{refl, sym, ap, _∙_}
+use mathlib.Core.Path.{sym, _∙_}
 use Rattle.merge.proofs.Answers.{var-small, still-in, node-in}
 use Rattle.merge.proofs.Laws.{ends-no-var, ends-no-node, ends-no-second, ends-ready}
 use borrow.Author.Needs.{needs}

@@ -1,6 +1,6 @@
 -- `merge::open_tvar` meets its contract. Assumes nothing.
 use Rattle.merge.proofs.Answers.{still-in, node-in}
-use mathlib.Core.Path.{refl, sym, ap, _∙_}
+use mathlib.Core.Path.{sym, _∙_}
 use Rattle.merge.proofs.Laws.{open-no-first, open-no-second, open-both}
 use borrow.Author.Needs.{needs}
 use Rattle.merge.proofs.open_tvar.Statement.{statement}

@@ -1,7 +1,7 @@
 -- `merge::type_of` meets its contract. Assumes nothing.
 use Rattle.table.specs.State.{found}
 use Rattle.table.proofs.Steps.{after-now}
-use mathlib.Core.Path.{refl, sym, ap, _∙_}
+use mathlib.Core.Path.{sym, ap, _∙_}
 use Rattle.merge.proofs.Answers.{bound-in}
 use Rattle.merge.proofs.Laws.{after-seen, end-free, end-bound}
 use borrow.Author.Needs.{needs}

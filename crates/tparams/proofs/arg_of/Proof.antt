@@ -1,3 +1,4 @@
+-- `tparams::arg_of` meets its contract. Assumes nothing.
 use native.Mathlib.Nat.{sub-zero}
 use borrow.Author.Needs.{needs}
 use Rattle.tparams.proofs.arg_of.Statement.{statement}

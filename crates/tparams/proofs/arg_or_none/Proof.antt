@@ -1,3 +1,4 @@
+-- `tparams::arg_or_none` meets its contract. Assumes nothing.
 use mathlib.Core.Path.{refl}
 use borrow.Author.Needs.{needs}
 use Rattle.tparams.proofs.arg_or_none.Statement.{statement}

@@ -1,3 +1,4 @@
+-- `tparams::make_tparam_subst` meets its contract. Assumes nothing.
 use native.Mathlib.Nat.{sub-zero}
 use mathlib.Core.Path.{sym}
 use native.Mathlib.Omega.{arith}

@@ -1,3 +1,4 @@
+-- `tparams::subst_tparams` meets its contract. Assumes nothing.
 use Rattle.tparams.proofs.DownLaws.{tparams-is}
 use borrow.Author.Needs.{needs}
 use Rattle.tparams.proofs.subst_tparams.Statement.{statement}

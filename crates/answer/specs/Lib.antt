@@ -1,0 +1,2 @@
+-- What a run left, as the definition's result, and what its answer leaves. Assumes nothing: these are definitions.
+pub mod Ran

@@ -1,0 +1,90 @@
+-- What a run left, as the definition's result, and what its answer leaves in the words and in the buffer. Assumes nothing: these are definitions.
+use mathlib.Core.Path.{_≡_}
+use mathlib.Core.Bool.{Bool}
+use mathlib.Core.List.{List, [], _++_}
+use Prim.Native.Nat.{ℕ, _≤_, _<_}
+use lib.ListN.{take, drop}
+use Rattle.definition.specs.Types as d
+use Rattle.definition.specs.Types.{State, Struct, Result, ok, err, _>>=_, if_then_else_, TypingError, Refusal}
+use Rattle.definition.specs.Write.{Bytes, u16, head, write}
+use Rattle.definition.specs.Step as step
+use Rattle.definition.specs.Step.{answer, refusal}
+use Rattle.table.specs.State.{outcome, seen, Lay, Declares}
+use Rattle.table.specs.declared.Used.{Used}
+use Rattle.table.specs.declared.Out.{Out}
+use Rattle.table.specs.declared.Out.the-variants.{Done, Subtype, Incompatible, Arity, Recursive, Full, Deep, Itself, Disagree, Open, NoArgument, Twice}
+use Rattle.snap.specs.Snap.{Since}
+use Rattle.answer.specs.declared.Show.{Show}
+use Rattle.answer.specs.declared.Show.the-variants.{Nothing, Number, Variable, Node, Anything}
+use Rattle.answer.specs.declared.Ran.{Ran}
+use Rattle.answer.specs.declared.Answer.{Answer}
+
+-- ---- what a run left
+
+-- the payload of a success with the number t
+unfoldable pub shown : Show → ℕ → State → Bytes
+shown Nothing t s = []
+shown Number n s = u16 n
+shown (Variable loc) v s = head loc (d.Var v)
+shown Node t s = write s t
+shown (Anything loc) t s = head loc d.Anything
+
+-- the result of a run that left the state `after`: on success it is kept, or the state goes back to `before`
+unfoldable pub ran : Ran → State → State → Result (State × Bytes)
+ran r after before = do
+  (s, t) ← outcome (r .out) after
+  ok (if r .kept then s else before, shown (r .show) t s)
+
+-- the node or the variable that is shown is in use
+abbrev pub Shows : Used → Show → ℕ → Type 0
+Shows u Nothing t = Unit {0}
+Shows u Number n = Unit {0}
+Shows u (Variable loc) v = v < u .vars
+Shows u Node t = t < u .nodes
+Shows u (Anything loc) t = Unit {0}
+
+abbrev pub Tells : Used → Show → Out → Type 0
+Tells u show (Done t) = Shows u show t
+Tells u show (Subtype a b) = (a < u .nodes) × (b < u .nodes)
+Tells u show (Incompatible a b) = (a < u .nodes) × (b < u .nodes)
+Tells u show (Arity a b) = (a < u .nodes) × (b < u .nodes)
+Tells u show (Recursive loc) = Unit {0}
+Tells u show Full = Unit {0}
+Tells u show Deep = Unit {0}
+Tells u show Itself = Unit {0}
+Tells u show Disagree = Unit {0}
+Tells u show Open = Unit {0}
+Tells u show NoArgument = Unit {0}
+Tells u show Twice = Unit {0}
+
+-- ---- the definition's answers, of the state after a run and of that before it
+
+abbrev pub answered : Ran → State → State → step.Answer
+answered r after before = answer before (ran r after before)
+
+abbrev pub success : Bool → Show → ℕ → State → State → step.Answer
+success kept show t after before = answer before (ok (if kept then after else before, shown show t after))
+
+abbrev pub failure : TypingError → State → State → step.Answer
+failure e after before = answer before (err after e)
+
+abbrev pub refused-by : Refusal → State → State → step.Answer
+refused-by x after before = refusal before x
+
+-- ---- what an answer leaves
+
+abbrev pub reply : ℕ → ℕ → Used → Bool → Answer
+reply number len used kept = record { number = number; len = len; used = used; kept = kept }
+
+-- before the run there were the words w₀, of which `before` was in use, and after it w and u
+pub record Settled (w₀ : List ℕ) (before : Used) (w : List ℕ) (u : Used) (w′ buf′ : List ℕ) (r : Answer) (f : State → State → step.Answer) : Type 0 where
+  pub lay : Lay w′ (r .used)
+  pub is : (ds₀ ds : List Struct)
+      → f (seen w u ds) (seen w₀ before ds₀) ≡ record { number = r .number; payload = take (r .len) buf′; state = seen w′ (r .used) (if r .kept then ds else ds₀) }
+  pub declares : (ds₀ ds : List Struct) → Declares w₀ before ds₀ → Declares w u ds → Declares w′ (r .used) (if r .kept then ds else ds₀)
+
+-- w with u in use became w′, and buf became buf′ with the payload in front and all else as it was; number, payload and state are as f says
+pub record Answers (w : List ℕ) (u before : Used) (saved buf w′ buf′ : List ℕ) (r : Answer) (f : State → State → step.Answer) : Type 0 where
+  pub few : r .len ≤ 4096
+  pub rest : buf′ ≡ take (r .len) buf′ ++ drop (r .len) buf
+  pub settled : (w₀ : List ℕ) → Since w₀ before saved w u → Settled w₀ before w u w′ buf′ r f

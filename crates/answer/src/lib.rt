@@ -1,0 +1,255 @@
+// From what a run left to its answer: the payload written, and the state kept, put back or as it was at entry.
+ghost use mathlib.Core.Path.{_≡_};
+ghost use mathlib.Core.Bool.{true, false};
+ghost use mathlib.Core.List.{List, _++_};
+ghost use Prim.Native.Nat.{ℕ, _≤_, _<_};
+ghost use lib.ListN.{length};
+ghost use Rattle.definition.specs.Types as d;
+ghost use Rattle.definition.specs.Types.{State, TypingError, Refusal};
+ghost use Rattle.definition.specs.Write.{u32 as bytes-u32, write, write-error};
+ghost use Rattle.definition.specs.Step.{number-of-error, number-of-refusal};
+ghost use Rattle.table.specs.State.{view, seen, Lay};
+ghost use Rattle.snap.specs.Snap.{Above, PutBack, Undone};
+ghost use Rattle.writer.specs.Bytes.{Wrote, capped, All-bytes};
+ghost use Rattle.answer.specs.Ran.{reply, shown, Shows, Tells, answered, success, failure, refused-by, Answers};
+use snap::put_vars;
+use snap::undo;
+use table::Out;
+use table::Shape;
+use table::Used;
+use table::tvar;
+use writer::put_few;
+use writer::size_type;
+use writer::u16_of;
+use writer::u32_of;
+use writer::write_head;
+use writer::write_type;
+
+// What the payload of a success shows of its number: nothing, the number, the variable at a location, the type of the node, or `_` at a location.
+pub enum Show {
+    Nothing,
+    Number,
+    Variable(u32),
+    Node,
+    Anything(u32),
+}
+
+// What a run left: on success its state is kept, or goes back to that at entry.
+pub struct Ran {
+    pub out: Out,
+    pub used: Used,
+    pub show: Show,
+    pub kept: bool,
+}
+
+// The number, how many bytes the payload has, and the rows in use; whether the state is the one that the run left.
+pub struct Answer {
+    pub number: u32,
+    pub len: usize,
+    pub used: Used,
+    pub kept: bool,
+}
+
+pub const MAX_PAYLOAD: u32 = 4096;
+
+// ---- the payload
+
+// How many bytes, if no more than 4,096; else 4,097.
+fn shown_size(w: &[u32], u: Used, show: Show, t: u32) -> u32
+    requires { ⌜ Lay (now w) u × Shows u show t ⌝ }
+    ensures { λ r. ⌜ ((ds : List d.Struct) → r ≡ capped 4096 (length (shown show t (seen (now (w .entry)) u ds)))) ⌝ }
+{
+    match show {
+        Show::Nothing => 0,
+        Show::Number => 2,
+        Show::Variable(_) => 7,
+        Show::Node => size_type(w, u, t, MAX_PAYLOAD),
+        Show::Anything(_) => 5,
+    }
+}
+
+fn two_size(w: &[u32], u: Used, a: u32, b: u32) -> u32
+    requires { ⌜ Lay (now w) u × ((a < u .nodes) × (b < u .nodes)) ⌝ }
+    ensures { λ r. ⌜ ((ds : List d.Struct) → r ≡ capped 4096 (length (write (seen (now (w .entry)) u ds) a ++ write (seen (now (w .entry)) u ds) b))) ⌝ }
+{
+    let n = size_type(w, u, a, MAX_PAYLOAD);
+    if MAX_PAYLOAD < n {
+        return MAX_PAYLOAD + 1;
+    }
+    let m = size_type(w, u, b, MAX_PAYLOAD - n);
+    n + m
+}
+
+fn write_shown(w: &[u32], u: Used, show: Show, t: u32, buf: &mut [u8]) -> usize
+    requires { ⌜ Lay (now w) u × (Shows u show t × (All-bytes (view (now w) u) × (4096 ≤ length (now buf)))) ⌝ }
+    requires { ⌜ ((ds : List d.Struct) → length (shown show t (seen (now w) u ds)) ≤ 4096) ⌝ }
+    ensures { λ r. ⌜ ((ds : List d.Struct) → Wrote (now (buf .entry)) 0 (shown show t (seen (now (w .entry)) u ds)) (now (buf .exit)) r) ⌝ }
+{
+    match show {
+        Show::Nothing => 0,
+        Show::Number => put_few(buf, 0, u16_of(t)),
+        Show::Variable(loc) => write_head(loc, Shape::Var(tvar(t)), buf, 0),
+        Show::Node => write_type(w, u, t, buf, 0),
+        Show::Anything(loc) => write_head(loc, Shape::Anything, buf, 0),
+    }
+}
+
+fn write_two(w: &[u32], u: Used, a: u32, b: u32, buf: &mut [u8]) -> usize
+    requires { ⌜ Lay (now w) u × ((a < u .nodes) × ((b < u .nodes) × (All-bytes (view (now w) u) × (4096 ≤ length (now buf))))) ⌝ }
+    requires { ⌜ ((ds : List d.Struct) → length (write (seen (now w) u ds) a ++ write (seen (now w) u ds) b) ≤ 4096) ⌝ }
+    ensures { λ r. ⌜ ((ds : List d.Struct) → Wrote (now (buf .entry)) 0 (write (seen (now (w .entry)) u ds) a ++ write (seen (now (w .entry)) u ds) b) (now (buf .exit)) r) ⌝ }
+{
+    let next = write_type(w, u, a, buf, 0);
+    write_type(w, u, b, buf, next)
+}
+
+fn write_location(loc: u32, buf: &mut [u8]) -> usize
+    requires { ⌜ 4096 ≤ length (now buf) ⌝ }
+    ensures { λ r. ⌜ Wrote (now (buf .entry)) 0 (bytes-u32 loc) (now (buf .exit)) r ⌝ }
+{
+    put_few(buf, 0, u32_of(loc))
+}
+
+// ---- the state
+
+// The state is that at entry.
+pub fn go_back(
+    w: &mut [u32],
+    u: Used,
+    before: Used,
+    saved: &[u32],
+    number: u32,
+    len: usize,
+) -> Answer
+    requires { ⌜ Lay (now w) u × (Above before u × (5120 ≤ length (now saved))) ⌝ }
+    ensures { λ r. ⌜ Undone (now (w .entry)) u (now (w .exit)) before (now (saved .entry)) × (r ≡ reply number len before false) ⌝ }
+{
+    undo(w, u, before, saved);
+    Answer {
+        number: number,
+        len: len,
+        used: before,
+        kept: false,
+    }
+}
+
+// Bindings and marks are those at entry.
+pub fn put_back(
+    w: &mut [u32],
+    u: Used,
+    before: Used,
+    saved: &[u32],
+    number: u32,
+    len: usize,
+) -> Answer
+    requires { ⌜ Lay (now w) u × (Above before u × (5120 ≤ length (now saved))) ⌝ }
+    ensures { λ r. ⌜ PutBack (now (w .entry)) u (now (w .exit)) before (now (saved .entry)) × (r ≡ reply number len u true) ⌝ }
+{
+    put_vars(w, u, before, saved);
+    Answer {
+        number: number,
+        len: len,
+        used: u,
+        kept: true,
+    }
+}
+
+// ---- the answers
+
+// A refusal: nothing is changed.
+pub fn refuse(w: &mut [u32], u: Used, before: Used, saved: &[u32], number: u32) -> Answer
+    requires { ⌜ Lay (now w) u × (Above before u × (5120 ≤ length (now saved))) ⌝ }
+    ensures { λ r. ⌜ ((x : Refusal) (buf : List ℕ) → number-of-refusal x ≡ number → Answers (now (w .entry)) u before (now (saved .entry)) buf (now (w .exit)) buf r (refused-by x)) ⌝ }
+{
+    go_back(w, u, before, saved, number, 0)
+}
+
+// A success with the number t.
+fn succeed(
+    w: &mut [u32],
+    u: Used,
+    before: Used,
+    saved: &[u32],
+    kept: bool,
+    show: Show,
+    t: u32,
+    buf: &mut [u8],
+) -> Answer
+    requires { ⌜ Lay (now w) u × (Above before u × (5120 ≤ length (now saved))) ⌝ }
+    requires { ⌜ Shows u show t × (All-bytes (view (now w) u) × (4096 ≤ length (now buf))) ⌝ }
+    ensures { λ r. ⌜ Answers (now (w .entry)) u before (now (saved .entry)) (now (buf .entry)) (now (w .exit)) (now (buf .exit)) r (success kept show t) ⌝ }
+{
+    let size = shown_size(w, u, show, t);
+    if MAX_PAYLOAD < size {
+        return refuse(w, u, before, saved, 14);
+    }
+    let len = write_shown(w, u, show, t, buf);
+    if kept {
+        return Answer {
+            number: 0,
+            len: len,
+            used: u,
+            kept: true,
+        };
+    }
+    go_back(w, u, before, saved, 0, len)
+}
+
+// An error that shows two types.
+fn fail_two(
+    w: &mut [u32],
+    u: Used,
+    before: Used,
+    saved: &[u32],
+    number: u32,
+    a: u32,
+    b: u32,
+    buf: &mut [u8],
+) -> Answer
+    requires { ⌜ Lay (now w) u × (Above before u × (5120 ≤ length (now saved))) ⌝ }
+    requires { ⌜ ((a < u .nodes) × (b < u .nodes)) × (All-bytes (view (now w) u) × (4096 ≤ length (now buf))) ⌝ }
+    ensures { λ r. ⌜ ((e : TypingError) → number-of-error e ≡ number → ((s : State) → write-error s e ≡ write s a ++ write s b) → Answers (now (w .entry)) u before (now (saved .entry)) (now (buf .entry)) (now (w .exit)) (now (buf .exit)) r (failure e)) ⌝ }
+{
+    let size = two_size(w, u, a, b);
+    if MAX_PAYLOAD < size {
+        return refuse(w, u, before, saved, 14);
+    }
+    let len = write_two(w, u, a, b, buf);
+    put_back(w, u, before, saved, number, len)
+}
+
+// A recursive type: it shows a location.
+fn fail_at(w: &mut [u32], u: Used, before: Used, saved: &[u32], loc: u32, buf: &mut [u8]) -> Answer
+    requires { ⌜ Lay (now w) u × (Above before u × (5120 ≤ length (now saved))) ⌝ }
+    requires { ⌜ 4096 ≤ length (now buf) ⌝ }
+    ensures { λ r. ⌜ Answers (now (w .entry)) u before (now (saved .entry)) (now (buf .entry)) (now (w .exit)) (now (buf .exit)) r (failure (d.RecursiveType loc)) ⌝ }
+{
+    let len = write_location(loc, buf);
+    put_back(w, u, before, saved, 4, len)
+}
+
+// The answer to what a run left.
+pub fn answer_of(w: &mut [u32], before: Used, saved: &[u32], ran: Ran, buf: &mut [u8]) -> Answer
+    requires { ⌜ Lay (now w) (ran .used) × (Above before (ran .used) × (5120 ≤ length (now saved))) ⌝ }
+    requires { ⌜ Tells (ran .used) (ran .show) (ran .out) × (All-bytes (view (now w) (ran .used)) × (4096 ≤ length (now buf))) ⌝ }
+    ensures { λ r. ⌜ Answers (now (w .entry)) (ran .used) before (now (saved .entry)) (now (buf .entry)) (now (w .exit)) (now (buf .exit)) r (answered ran) ⌝ }
+{
+    let out = ran.out;
+    let u = ran.used;
+    let show = ran.show;
+    let kept = ran.kept;
+    match out {
+        Out::Done(t) => succeed(w, u, before, saved, kept, show, t, buf),
+        Out::Subtype(a, b) => fail_two(w, u, before, saved, 1, a, b, buf),
+        Out::Incompatible(a, b) => fail_two(w, u, before, saved, 2, a, b, buf),
+        Out::Arity(a, b) => fail_two(w, u, before, saved, 3, a, b, buf),
+        Out::Recursive(loc) => fail_at(w, u, before, saved, loc, buf),
+        Out::Full => refuse(w, u, before, saved, 7),
+        Out::Deep => refuse(w, u, before, saved, 8),
+        Out::Itself => refuse(w, u, before, saved, 9),
+        Out::Disagree => refuse(w, u, before, saved, 10),
+        Out::Open => refuse(w, u, before, saved, 11),
+        Out::NoArgument => refuse(w, u, before, saved, 12),
+        Out::Twice => refuse(w, u, before, saved, 13),
+    }
+}

@@ -1,0 +1,3 @@
+-- Laws of the constraints' steps. Assumes nothing.
+pub mod Defaults
+pub mod Filter

@@ -1,0 +1,283 @@
+// typing/core.rs: a constraint is listed; solve_constraints: numeric variables that nothing decides become u64, and which constraints stay.
+ghost use mathlib.Core.Path.{_≡_};
+ghost use mathlib.Core.List.{List, [], _∷_};
+ghost use Prim.Native.Nat.{ℕ, _+_, _*_, _≤_, _<_};
+ghost use lib.ListN.{length, getD};
+ghost use Rattle.definition.specs.Types as d;
+ghost use Rattle.definition.specs.Types.{BaseTypeConstraint, SingleTypeConstraint, if_then_else_};
+ghost use Rattle.definition.specs.Store.{with-args};
+ghost use Rattle.definition.specs.Subst.{unfold-type};
+ghost use Rattle.definition.specs.Constraints.{undecided, num-vars, default-num-var, default-num-vars, stays};
+ghost use Rattle.definition.specs.Step.{numeric-constraint};
+ghost use Rattle.table.specs.Rows.{read-option};
+ghost use Rattle.table.specs.State.{shape-of, constraint-of, found, seen, Lay, Changed, After, Wrote, pushed-constraint};
+ghost use Rattle.subst.specs.Answers.{var-at};
+ghost use Rattle.snap.specs.Snap.{Saved};
+ghost use Rattle.constraints.specs.Filter.{Stay, Compacted, First, Filtered};
+ghost use Rattle.constraints.specs.Solve.{kind-of, numbered, join-u64, default-marked, Answered};
+use names::AbilitySet;
+use names::Mark;
+use names::TVar;
+use names::TypeName;
+use subst::Unfolded;
+use table::Constraint;
+use table::Found;
+use table::Out;
+use table::Shape;
+use table::Step;
+use table::Used;
+
+// The operators that a type is asked for.
+pub enum NumericKind {
+    Numeric,
+    Bits,
+    Ordered,
+}
+
+// ---- a constraint is listed; the answer is 0
+
+pub fn numeric_constraint(w: &mut [u32], u: Used, kind: NumericKind, loc: u32, ty: u32) -> Step
+    requires { ⌜ Lay (now w) u ⌝ }
+    ensures { λ r. ⌜ Changed (now (w .entry)) u (now (w .exit)) r (pushed-constraint (numeric-constraint (kind-of kind) loc ty)) ⌝ }
+{
+    match kind {
+        NumericKind::Numeric => table::push_constraint(w, u, Constraint::Numeric(loc, ty)),
+        NumericKind::Bits => table::push_constraint(w, u, Constraint::Bits(loc, ty)),
+        NumericKind::Ordered => table::push_constraint(w, u, Constraint::Ordered(loc, ty)),
+    }
+}
+
+pub fn base_type_constraint(w: &mut [u32], u: Used, loc: u32, ty: u32) -> Step
+    requires { ⌜ Lay (now w) u ⌝ }
+    ensures { λ r. ⌜ Changed (now (w .entry)) u (now (w .exit)) r (pushed-constraint (BaseTypeConstraint loc ty)) ⌝ }
+{
+    table::push_constraint(w, u, Constraint::BaseType(loc, ty))
+}
+
+pub fn single_type_constraint(w: &mut [u32], u: Used, loc: u32, ty: u32) -> Step
+    requires { ⌜ Lay (now w) u ⌝ }
+    ensures { λ r. ⌜ Changed (now (w .entry)) u (now (w .exit)) r (pushed-constraint (SingleTypeConstraint loc ty)) ⌝ }
+{
+    table::push_constraint(w, u, Constraint::SingleType(loc, ty))
+}
+
+// ---- numeric variables that nothing decides become u64
+
+// UnresolvedError | Anything
+fn undecided(s: Shape) -> bool
+    ensures { λ r. ⌜ ((st : d.State) → r ≡ undecided (with-args st (shape-of s))) ⌝ }
+{
+    match s {
+        Shape::Unit => false,
+        Shape::Ref(_, _) => false,
+        Shape::Param(_, _) => false,
+        Shape::Apply(_, _, _, _) => false,
+        Shape::Var(_) => false,
+        Shape::Anything => true,
+        Shape::UnresolvedError => true,
+    }
+}
+
+fn undecided_var(w: &[u32], u: Used, num_var: TVar, loc: u32) -> bool
+    requires { ⌜ Lay (now w) u ⌝ }
+    ensures { λ r. ⌜ ((ds : List d.Struct) → r ≡ undecided (unfold-type (seen (now (w .entry)) u ds) (var-at loc («num_var» .0)) .value)) ⌝ }
+{
+    match subst::unfold_tvar(w, u, loc, num_var) {
+        Unfolded::Node(t) => {
+            let n = table::node_at(w, u, t);
+            let s = n.shape;
+            undecided(s)
+        }
+        Unfolded::Anything(_) => true,
+    }
+}
+
+// The join with u64, which has the abilities copy, drop and store.
+fn join_u64(w: &mut [u32], u: Used, num_var: TVar, loc: u32) -> Step
+    requires { ⌜ Lay (now w) u ⌝ }
+    ensures { λ r. ⌜ After (now (w .entry)) u (now (w .exit)) r (λ s. join-u64 s («num_var» .0) loc) ⌝ }
+{
+    let k = Mark::Set(AbilitySet(7));
+    let a = table::push_apply(w, u, loc, k, TypeName::Builtin(3), [0; 8], 0);
+    let ao = a.out;
+    let au = a.used;
+    let Found::Just(u64_) = table::done_of(ao) else {
+        return a;
+    };
+    let b = table::push_node(w, au, loc, Shape::Var(num_var));
+    let bo = b.out;
+    let bu = b.used;
+    let Found::Just(tvar) = table::done_of(bo) else {
+        return b;
+    };
+    join::join(w, bu, u64_, tvar)
+}
+
+fn default_num_var(w: &mut [u32], u: Used, num_var: TVar, loc: u32) -> Step
+    requires { ⌜ Lay (now w) u ⌝ }
+    ensures { λ r. ⌜ Answered (now (w .entry)) u (now (w .exit)) r (λ s. numbered (default-num-var s («num_var» .0) loc)) ⌝ }
+{
+    if undecided_var(w, u, num_var, loc) {
+        let a = join_u64(w, u, num_var, loc);
+        let ao = a.out;
+        let au = a.used;
+        let Found::Just(_) = table::done_of(ao) else {
+            return a;
+        };
+        return Step {
+            out: Out::Done(0),
+            used: au,
+        };
+    }
+    Step {
+        out: Out::Done(0),
+        used: u,
+    }
+}
+
+// A variable that has a mark, at the mark's location.
+fn default_marked(w: &mut [u32], u: Used, num_var: TVar, mark: Found) -> Step
+    requires { ⌜ Lay (now w) u ⌝ }
+    ensures { λ r. ⌜ Answered (now (w .entry)) u (now (w .exit)) r (λ s. numbered (default-marked s («num_var» .0) (found mark))) ⌝ }
+{
+    match mark {
+        Found::Nothing => Step {
+            out: Out::Done(0),
+            used: u,
+        },
+        Found::Just(loc) => default_num_var(w, u, num_var, loc),
+    }
+}
+
+// The mark that variable v had when the rows were saved.
+fn saved_mark(saved: &[u32], v: u32) -> Found
+    requires { ⌜ (v < 1024) × (5120 ≤ length (now saved)) ⌝ }
+    ensures { λ r. ⌜ found r ≡ read-option (getD (now (saved .entry)) (v * 5 + 2) 0) (getD (now (saved .entry)) (v * 5 + 3) 0) ⌝ }
+{
+    let at = v as usize * 5;
+    if saved[at + 2] == 1 {
+        Found::Just(saved[at + 3])
+    } else {
+        Found::Nothing
+    }
+}
+
+// The marks are read as they were at the start: a join marks variables, and the list is fixed before the first.
+pub fn default_num_vars(w: &mut [u32], u: Used, saved: &[u32]) -> Step
+    requires { ⌜ Lay (now w) u × (Saved (now w) u (now saved) × (5120 ≤ length (now saved))) ⌝ }
+    ensures { λ r. ⌜ Answered (now (w .entry)) u (now (w .exit)) r (λ s. numbered (default-num-vars s (num-vars 0 (s .vars)))) ⌝ }
+{
+    let n = u.vars;
+    let mut at = u;
+    let mut v: u32 = 0;
+    while v < n {
+        let mark = saved_mark(saved, v);
+        let num_var = table::tvar(v);
+        let a = default_marked(w, at, num_var, mark);
+        let ao = a.out;
+        let au = a.used;
+        let Found::Just(_) = table::done_of(ao) else {
+            return a;
+        };
+        at = au;
+        v = v + 1;
+    }
+    Step {
+        out: Out::Done(0),
+        used: at,
+    }
+}
+
+// ---- ability constraints stay
+
+fn stays(c: Constraint) -> bool
+    ensures { λ r. ⌜ stays (constraint-of c) ≡ (if r then constraint-of c ∷ [] else []) ⌝ }
+{
+    match c {
+        Constraint::Ability(_, _, _) => true,
+        Constraint::Numeric(_, _) => false,
+        Constraint::Bits(_, _) => false,
+        Constraint::Ordered(_, _) => false,
+        Constraint::BaseType(_, _) => false,
+        Constraint::SingleType(_, _) => false,
+    }
+}
+
+// Constraint row i.
+fn store_row(w: &mut [u32], i: u32, row: [u32; 4])
+    requires { ⌜ (i < 512) × (length (now w) ≡ 24069) ⌝ }
+    ensures { λ _. ⌜ Wrote (now (w .entry)) (21509 + i * 4) 4 row (now (w .exit)) ⌝ }
+{
+    let at = 21509 + i as usize * 4;
+    let mut k: usize = 0;
+    while k < 4 {
+        w[at + k] = row[k];
+        k = k + 1;
+    }
+}
+
+// Constraint i goes to row k, if it stays; the answer is how many stay so far.
+fn stay(w: &mut [u32], u: Used, i: u32, k: u32) -> u32
+    requires { ⌜ Lay (now w) u × ((i < u .constraints) × (k ≤ i)) ⌝ }
+    ensures { λ r. ⌜ Stay (now (w .entry)) u i k (now (w .exit)) r ⌝ }
+{
+    let c = table::constraint_at(w, u, i);
+    if stays(c) {
+        let at = 21509 + i as usize * 4;
+        let row = [w[at], w[at + 1], w[at + 2], w[at + 3]];
+        store_row(w, k, row);
+        return k + 1;
+    }
+    k
+}
+
+// Those that stay stand first, in order; the answer is how many.
+fn compact(w: &mut [u32], u: Used) -> u32
+    requires { ⌜ Lay (now w) u ⌝ }
+    ensures { λ r. ⌜ Compacted (now (w .entry)) u (now (w .exit)) (u .constraints) r ⌝ }
+{
+    let n = u.constraints;
+    let mut k: u32 = 0;
+    let mut i: u32 = 0;
+    while i < n {
+        k = stay(w, u, i, k);
+        i = i + 1;
+    }
+    k
+}
+
+// The last row is zero again.
+fn pop_constraint(w: &mut [u32], u: Used) -> Used
+    requires { ⌜ Lay (now w) u × (0 < u .constraints) ⌝ }
+    ensures { λ r. ⌜ First (now (w .entry)) u (now (w .exit)) r × (r .constraints + 1 ≡ u .constraints) ⌝ }
+{
+    let n = u.constraints - 1;
+    store_row(w, n, [0, 0, 0, 0]);
+    Used {
+        nodes: u.nodes,
+        args: u.args,
+        vars: u.vars,
+        constraints: n,
+        structs: u.structs,
+    }
+}
+
+// The first k are left.
+fn first_constraints(w: &mut [u32], u: Used, k: u32) -> Used
+    requires { ⌜ Lay (now w) u × (k ≤ u .constraints) ⌝ }
+    ensures { λ r. ⌜ First (now (w .entry)) u (now (w .exit)) r × (r .constraints ≡ k) ⌝ }
+{
+    let mut at = u;
+    while k < at.constraints {
+        at = pop_constraint(w, at);
+    }
+    at
+}
+
+pub fn staying(w: &mut [u32], u: Used) -> Used
+    requires { ⌜ Lay (now w) u ⌝ }
+    ensures { λ r. ⌜ Filtered (now (w .entry)) u (now (w .exit)) r ⌝ }
+{
+    let k = compact(w, u);
+    first_constraints(w, u, k)
+}

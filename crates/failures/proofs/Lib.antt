@@ -1,0 +1,2 @@
+-- Laws of failures. Assumes nothing.
+pub mod Laws

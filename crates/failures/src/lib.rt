@@ -1,0 +1,172 @@
+// typing/core.rs: solve_builtin_type_constraint, solve_base_type_constraint, solve_single_type_constraint: what the Rust reports as a message.
+ghost use mathlib.Core.Path.{_≡_};
+ghost use mathlib.Core.List.{List};
+ghost use mathlib.Core.Bool.{not};
+ghost use Prim.Native.Nat.{ℕ, _<_};
+ghost use Rattle.definition.specs.Types as d;
+ghost use Rattle.definition.specs.Store.{with-args};
+ghost use Rattle.definition.specs.Join.{is-numeric, is-multiple};
+ghost use Rattle.definition.specs.Constraints.{is-integer, is-base, is-single, solve-constraint};
+ghost use Rattle.names.specs.Names.{name-of};
+ghost use Rattle.table.specs.State.{shape-of, constraint-of, seen, Lay};
+ghost use Rattle.failures.specs.Failing.{good, ask, Asks, failing, Ty-in, Fails};
+use names::TypeName;
+use subst::Unfolded;
+use table::Constraint;
+use table::Shape;
+use table::Used;
+
+// What a constraint asks: an integer type 1, a base type 2, a single type 3; 0, nothing that is asked here.
+pub struct Ask {
+    pub code: u32,
+    pub loc: u32,
+    pub ty: u32,
+}
+
+// A failure: its code, its location, and the type as a node or `_` at a location.
+pub enum Failing {
+    Fine,
+    Node(u32, u32, u32),
+    Anything(u32, u32, u32),
+}
+
+fn is_numeric(n: TypeName) -> bool
+    ensures { λ r. ⌜ r ≡ is-numeric (name-of n) ⌝ }
+{
+    match n {
+        TypeName::Multiple(_) => false,
+        TypeName::Builtin(b) => names::is_numeric(b),
+        TypeName::ModuleType(_) => false,
+    }
+}
+
+fn not_multiple(n: TypeName) -> bool
+    ensures { λ r. ⌜ r ≡ not (is-multiple (name-of n)) ⌝ }
+{
+    match n {
+        TypeName::Multiple(_) => false,
+        TypeName::Builtin(_) => true,
+        TypeName::ModuleType(_) => true,
+    }
+}
+
+fn is_integer(s: Shape) -> bool
+    ensures { λ r. ⌜ ((st : d.State) → r ≡ is-integer (with-args st (shape-of s))) ⌝ }
+{
+    match s {
+        Shape::Unit => false,
+        Shape::Ref(_, _) => false,
+        Shape::Param(_, _) => false,
+        Shape::Apply(_, n, _, _) => is_numeric(n),
+        Shape::Var(_) => false,
+        Shape::Anything => false,
+        Shape::UnresolvedError => false,
+    }
+}
+
+fn is_base(s: Shape) -> bool
+    ensures { λ r. ⌜ ((st : d.State) → r ≡ is-base (with-args st (shape-of s))) ⌝ }
+{
+    match s {
+        Shape::Unit => false,
+        Shape::Ref(_, _) => false,
+        Shape::Param(_, _) => true,
+        Shape::Apply(_, n, _, _) => not_multiple(n),
+        Shape::Var(_) => true,
+        Shape::Anything => true,
+        Shape::UnresolvedError => true,
+    }
+}
+
+fn is_single(s: Shape) -> bool
+    ensures { λ r. ⌜ ((st : d.State) → r ≡ is-single (with-args st (shape-of s))) ⌝ }
+{
+    match s {
+        Shape::Unit => false,
+        Shape::Ref(_, _) => true,
+        Shape::Param(_, _) => true,
+        Shape::Apply(_, n, _, _) => not_multiple(n),
+        Shape::Var(_) => true,
+        Shape::Anything => true,
+        Shape::UnresolvedError => true,
+    }
+}
+
+fn good(code: u32, s: Shape) -> bool
+    ensures { λ r. ⌜ ((st : d.State) → r ≡ good code (with-args st (shape-of s))) ⌝ }
+{
+    if code == 1 {
+        return is_integer(s);
+    }
+    if code == 2 {
+        return is_base(s);
+    }
+    is_single(s)
+}
+
+fn ask_of(c: Constraint) -> Ask
+    ensures { λ r. ⌜ Asks r (constraint-of c) ⌝ }
+{
+    match c {
+        Constraint::Ability(loc, ty, _) => Ask {
+            code: 0,
+            loc: loc,
+            ty: ty,
+        },
+        Constraint::Numeric(loc, ty) => Ask {
+            code: 1,
+            loc: loc,
+            ty: ty,
+        },
+        Constraint::Bits(loc, ty) => Ask {
+            code: 1,
+            loc: loc,
+            ty: ty,
+        },
+        Constraint::Ordered(loc, ty) => Ask {
+            code: 1,
+            loc: loc,
+            ty: ty,
+        },
+        Constraint::BaseType(loc, ty) => Ask {
+            code: 2,
+            loc: loc,
+            ty: ty,
+        },
+        Constraint::SingleType(loc, ty) => Ask {
+            code: 3,
+            loc: loc,
+            ty: ty,
+        },
+    }
+}
+
+// The failure of a constraint, if it fails.
+pub fn failing_of(w: &[u32], u: Used, c: Constraint) -> Failing
+    requires { ⌜ Lay (now w) u × Ty-in (u .nodes) (constraint-of c) ⌝ }
+    ensures { λ r. ⌜ Fails (now (w .entry)) u r (constraint-of c) ⌝ }
+{
+    let a = ask_of(c);
+    let code = a.code;
+    let loc = a.loc;
+    let ty = a.ty;
+    if code == 0 {
+        return Failing::Fine;
+    }
+    match subst::unfold_type(w, u, ty) {
+        Unfolded::Node(t) => {
+            let n = table::node_at(w, u, t);
+            let s = n.shape;
+            if good(code, s) {
+                return Failing::Fine;
+            }
+            Failing::Node(code, loc, t)
+        }
+        Unfolded::Anything(at) => {
+            if good(code, Shape::Anything) {
+                return Failing::Fine;
+            }
+            Failing::Anything(code, loc, at)
+        }
+    }
+}

@@ -1,0 +1,181 @@
+-- make_tparams and the joins as walks over places, and the declarations that words and bytes hold. Assumes nothing.
+use mathlib.Core.Path.{_≡_, refl, sym, ap, _∙_}
+use mathlib.Core.Bool.{Bool, true, false}
+use mathlib.Core.List.{List, [], _∷_, map}
+use Prim.Native.Nat.{ℕ, zero, suc, _+_, _-_, _≤_, _<_, _%_, min}
+use native.Mathlib.Omega.{arith}
+use native.Mathlib.Decide.{decLt}
+use lib.ListN.{length, getD, take, length-take, length-map, length-replicate, getD-replicate, List·getD-map, List·getD-eq-default}
+use lib.Seq.{getD-take}
+use lib.Dec.{eqb}
+use borrow.Author.Tests.{eq-eqb, ne-eqb}
+use Rattle.definition.specs.Types as d
+use Rattle.definition.specs.Types.{State, Struct, Result, ok, err, refused, AbilityConstraint, Multiple, Builtin, ModuleType, _>>=_, if_then_else_}
+use Rattle.definition.specs.Store.{loc-of, sp, map-types, add-constraint, with-structs}
+use Rattle.definition.specs.Join.{join}
+use Rattle.definition.specs.Instantiate.{make-tvar, tvar-constraint, builtin-tparams, struct-tparams, tparam-constraints, make-tparams, join-args}
+use Rattle.table.specs.Rows.{struct-table}
+use Rattle.table.specs.State.{view, seen, Declares}
+use Rattle.table.specs.declared.Used.{Used}
+use Rattle.table.proofs.Rows.{length-entries}
+use Rattle.walk.proofs.Steps.{bind-ok}
+use Rattle.walk.proofs.Walk.{range, rest, sp-apply}
+use Rattle.instantiate.specs.Known.{Known, Numbered, ability-at}
+use Rattle.instantiate.specs.Args.{make-tparam, made, joined}
+
+-- ---- as walks over places
+
+-- argument i gets its variable
+unfoldable pub tparam-by : ℕ → d.TypeName → List ℕ → List (List ℕ) → State → ℕ → Result (State × ℕ)
+tparam-by loc n tys params s i = make-tparam s loc n (getD tys i 0) (ability-at params n i)
+
+-- variable i is joined with argument i
+unfoldable pub join-by : List ℕ → List ℕ → State → ℕ → Result (State × ℕ)
+join-by tvars tys s i = join s (getD tvars i 0) (getD tys i 0)
+
+abbrev cons : ℕ → State × List ℕ → Result (State × List ℕ)
+cons t p = ok (p .0, t ∷ p .1)
+
+tparam-then : {A : Type 0} (s : State) (loc : ℕ) (n : d.TypeName) (ty c : ℕ) (g : State × ℕ → Result A)
+    → (make-tparam s loc n ty c >>= g) ≡ (make-tvar s (loc-of s ty) >>= (λ p. add-constraint (p .0) (AbilityConstraint loc (p .1) c) >>= (λ s. add-constraint s (tvar-constraint n loc (p .1)) >>= (λ s. g (s, p .1)))))
+unfolding make-tparam _>>=_
+tparam-then s loc n ty c g = by (make-tvar s (loc-of s ty))
+  where
+    third : (t : ℕ) (m : Result State) → (m >>= (λ s. ok (s, t)) >>= g) ≡ (m >>= (λ s. g (s, t)))
+    third t (ok s) = refl
+    third t (err s e) = refl
+    third t (refused x) = refl
+
+    second : (t : ℕ) (m : Result State) → (m >>= (λ s. add-constraint s (tvar-constraint n loc t) >>= (λ s. ok (s, t))) >>= g) ≡ (m >>= (λ s. add-constraint s (tvar-constraint n loc t) >>= (λ s. g (s, t))))
+    second t (ok s) = third t (add-constraint s (tvar-constraint n loc t))
+    second t (err s e) = refl
+    second t (refused x) = refl
+
+    by : (m : Result (State × ℕ)) → (m >>= (λ p. add-constraint (p .0) (AbilityConstraint loc (p .1) c) >>= (λ s. add-constraint s (tvar-constraint n loc (p .1)) >>= (λ s. ok (s, p .1)))) >>= g)
+        ≡ (m >>= (λ p. add-constraint (p .0) (AbilityConstraint loc (p .1) c) >>= (λ s. add-constraint s (tvar-constraint n loc (p .1)) >>= (λ s. g (s, p .1)))))
+    by (ok (s, t)) = second t (add-constraint s (AbilityConstraint loc t c))
+    by (err s e) = refl
+    by (refused x) = refl
+
+-- both lists are gone through together, from place j of tys on
+tparams-walk : (loc : ℕ) (n : d.TypeName) (tys : List ℕ) (params : List (List ℕ)) (k : ℕ) (l m : List ℕ) (j : ℕ) (s : State) → k ≡ min (length l) (length m)
+    → ((i : ℕ) → i < length l → getD l i 0 ≡ getD tys (j + i) 0) → ((i : ℕ) → i < length m → getD m i 0 ≡ ability-at params n (j + i))
+    → make-tparams s loc n l m ≡ map-types (tparam-by loc n tys params) s (range j k)
+unfolding make-tparams map-types range tparam-by
+tparams-walk loc n tys params zero [] m j s e p q = refl
+tparams-walk loc n tys params zero (x ∷ l) [] j s e p q = refl
+tparams-walk loc n tys params zero (x ∷ l) (y ∷ m) j s e p q = absurd (omega arith)
+tparams-walk loc n tys params (suc k) [] m j s e p q = absurd (omega arith)
+tparams-walk loc n tys params (suc k) (x ∷ l) [] j s e p q = absurd (omega arith)
+tparams-walk loc n tys params (suc k) (x ∷ l) (y ∷ m) j s e p q =
+    sym (tparam-then s loc n x y (λ r. make-tparams (r .0) loc n l m >>= cons (r .1)))
+    ∙ ap (λ (g : State × ℕ → Result (State × List ℕ)). make-tparam s loc n x y >>= g)
+    (λ i r. tparams-walk loc n tys params k l m (suc j) (r .0) (omega arith) (λ i lt. p (suc i) (omega arith) ∙ ap (λ (z : ℕ). getD tys z 0) (omega arith)) (λ i lt. q (suc i) (omega arith) ∙ ap (λ (z : ℕ). ability-at params n z) (omega arith)) i >>= cons (r .1))
+    ∙ ap (λ (z : ℕ). make-tparam s loc n z y >>= (λ r. map-types (tparam-by loc n tys params) (r .0) (range (suc j) k) >>= cons (r .1))) (p 0 (omega arith) ∙ ap (λ (z : ℕ). getD tys z 0) (omega arith))
+    ∙ ap (λ (z : ℕ). make-tparam s loc n (getD tys j 0) z >>= (λ r. map-types (tparam-by loc n tys params) (r .0) (range (suc j) k) >>= cons (r .1))) (q 0 (omega arith) ∙ ap (λ (z : ℕ). ability-at params n z) (omega arith))
+
+joins-walk : (tvars tys : List ℕ) (k : ℕ) (l m : List ℕ) (j : ℕ) (s : State) → k ≡ min (length l) (length m)
+    → ((i : ℕ) → i < length l → getD l i 0 ≡ getD tvars (j + i) 0) → ((i : ℕ) → i < length m → getD m i 0 ≡ getD tys (j + i) 0)
+    → join-args s l m ≡ map-types (join-by tvars tys) s (range j k)
+unfolding join-args map-types range join-by
+joins-walk tvars tys zero [] m j s e p q = refl
+joins-walk tvars tys zero (x ∷ l) [] j s e p q = refl
+joins-walk tvars tys zero (x ∷ l) (y ∷ m) j s e p q = absurd (omega arith)
+joins-walk tvars tys (suc k) [] m j s e p q = absurd (omega arith)
+joins-walk tvars tys (suc k) (x ∷ l) [] j s e p q = absurd (omega arith)
+joins-walk tvars tys (suc k) (x ∷ l) (y ∷ m) j s e p q =
+    ap (λ (g : State × ℕ → Result (State × List ℕ)). join s x y >>= g)
+    (λ i r. joins-walk tvars tys k l m (suc j) (r .0) (omega arith) (λ i lt. p (suc i) (omega arith) ∙ ap (λ (z : ℕ). getD tvars z 0) (omega arith)) (λ i lt. q (suc i) (omega arith) ∙ ap (λ (z : ℕ). getD tys z 0) (omega arith)) i >>= cons (r .1))
+    ∙ ap (λ (z : ℕ). join s z y >>= (λ r. map-types (join-by tvars tys) (r .0) (range (suc j) k) >>= cons (r .1))) (p 0 (omega arith) ∙ ap (λ (z : ℕ). getD tvars z 0) (omega arith))
+    ∙ ap (λ (z : ℕ). join s (getD tvars j 0) z >>= (λ r. map-types (join-by tvars tys) (r .0) (range (suc j) k) >>= cons (r .1))) (q 0 (omega arith) ∙ ap (λ (z : ℕ). getD tys z 0) (omega arith))
+
+-- what follows the variables: nothing
+abbrev pub just-list : List ℕ → State → Result (State × List ℕ)
+just-list l s = ok (s, l)
+
+pub tparams-are : (loc : ℕ) (n : d.TypeName) (tys abilities : List ℕ) (params : List (List ℕ)) (k : ℕ) (s : State) → k ≡ min (length tys) (length abilities) → ((i : ℕ) → i < length abilities → getD abilities i 0 ≡ ability-at params n i)
+    → rest (tparam-by loc n tys params) just-list [] (range 0 k) s ≡ make-tparams s loc n tys abilities
+unfolding rest
+tparams-are loc n tys abilities params k s e q =
+    bind-ok (map-types (tparam-by loc n tys params) s (range 0 k))
+    ∙ sym (tparams-walk loc n tys params k tys abilities 0 s e (λ i lt. ap (λ (z : ℕ). getD tys z 0) (omega arith)) (λ i lt. q i lt ∙ ap (λ (z : ℕ). ability-at params n z) (omega arith)))
+
+-- the joins of the first a of tvars and the first b of tys, then the node
+pub joins-are : (loc : ℕ) (k : d.Mark) (n : d.TypeName) (tvars tys : List ℕ) (a b c : ℕ) (s : State) → a ≤ length tvars → b ≤ length tys → c ≡ min a b
+    → rest (join-by tvars tys) (sp-apply loc k n) [] (range 0 c) s ≡ joined loc k n (take a tvars) (take b tys) s
+unfolding rest joined sp-apply
+joins-are loc k n tvars tys a b c s p q e =
+    ap (λ (m : Result (State × List ℕ)). m >>= (λ r. sp (r .0) loc (d.Apply k n (r .1))))
+    (sym (joins-walk tvars tys c (take a tvars) (take b tys) 0 s (rw (length-take, length-take) (omega arith)) (λ i lt. front tvars a i lt ∙ ap (λ (z : ℕ). getD tvars z 0) (omega arith)) (λ i lt. front tys b i lt ∙ ap (λ (z : ℕ). getD tys z 0) (omega arith))))
+  where
+    front : (l : List ℕ) (n i : ℕ) → i < length (take n l) → getD (take n l) i 0 ≡ getD l i 0
+    front l n i lt = getD-take n l i 0 (omega (arith, length-take n l))
+
+-- ---- the declarations that words and bytes hold
+
+structs-view : (w : List ℕ) (u : Used) → length (view w u .structs) ≡ u .structs
+unfolding view
+structs-view w u = length-entries struct-table w (u .structs)
+
+pub known-kept : (w : List ℕ) (u : Used) (w′ : List ℕ) (u′ : Used) (params : List (List ℕ)) → view w′ u′ .structs ≡ view w u .structs → (ds : List Struct) → Known w u params ds → Known w′ u′ params ds
+known-kept w u w′ u′ params e ds k =
+    let same : u′ .structs ≡ u .structs = sym (structs-view w′ u′) ∙ ap length e ∙ structs-view w u in
+    record {
+      rows = record {
+        many = k .rows .many ∙ sym same;
+        abilities = λ i lt. rw e (k .rows .abilities i (omega (arith, same)));
+        params = λ i lt. rw e (k .rows .params i (omega (arith, same)));
+      };
+      bytes = k .bytes;
+    }
+
+module _ (w : List ℕ) (u : Used) (params : List (List ℕ)) (ds : List Struct) (k : Known w u params ds) where
+  pub ability-is : (n : d.TypeName) (i : ℕ) → i < length (tparam-constraints (seen w u ds) n) → getD (tparam-constraints (seen w u ds) n) i 0 ≡ ability-at params n i
+  unfolding tparam-constraints ability-at struct-tparams builtin-tparams seen with-structs
+  ability-is (Multiple len) i lt = getD-replicate len i 0 0 (omega (arith, length-replicate {A = ℕ} len 0))
+  ability-is (Builtin b) i lt = by (eqb b 5)
+    where
+      one : (i : ℕ) → getD {A = ℕ} (0 ∷ []) i 0 ≡ 0
+      one zero = refl
+      one (suc i) = refl
+
+      by : (c : Bool) → getD {A = ℕ} (if c then 0 ∷ [] else []) i 0 ≡ 0
+      by true = one i
+      by false = refl
+  ability-is (ModuleType n) i lt =
+      List·getD-map (λ p. p % 16) (getD ds n (struct-table .blank) .params) i 0 ∙ ap (λ (x : ℕ). x % 16) (sym (k .bytes n i (rw (length-map (getD ds n (struct-table .blank) .params) (λ p. p % 16)) at lt)))
+
+  pub is-numbered : u .structs ≤ 256 → (n : d.TypeName) (i : ℕ) → i < length (tparam-constraints (seen w u ds) n) → Numbered n
+  unfolding tparam-constraints struct-tparams seen with-structs
+  is-numbered few (Multiple len) i lt = tt
+  is-numbered few (Builtin b) i lt = tt
+  is-numbered few (ModuleType n) i lt = by (decLt n 256)
+    where
+      by : Dec (n < 256) → n < 256
+      by (yes y) = y
+      by (no no-row) =
+          let e : getD ds n (struct-table .blank) ≡ struct-table .blank = List·getD-eq-default ds (struct-table .blank) (omega (arith, k .rows .many)) in
+          absurd (omega (arith, rw (length-map (getD ds n (struct-table .blank) .params) (λ p. p % 16), e) at lt))
+
+-- ---- how many parameters a name has
+
+module _ (w : List ℕ) (u : Used) (ds : List Struct) where
+  pub count-multiple : (len : ℕ) → len ≡ length (tparam-constraints (seen w u ds) (Multiple len))
+  unfolding tparam-constraints
+  count-multiple len = sym (length-replicate {A = ℕ} len 0)
+
+  pub count-builtin : (b r : ℕ) → r ≡ length (builtin-tparams b) → r ≡ length (tparam-constraints (seen w u ds) (Builtin b))
+  unfolding tparam-constraints
+  count-builtin b r e = e
+
+  pub count-struct : (n r : ℕ) → r ≡ length (getD ds n (struct-table .blank) .params) → r ≡ length (tparam-constraints (seen w u ds) (ModuleType n))
+  unfolding tparam-constraints struct-tparams seen with-structs
+  count-struct n r e = e ∙ sym (length-map (getD ds n (struct-table .blank) .params) (λ p. p % 16))
+
+pub builtin-one : (b : ℕ) → b ≡ 5 → 1 ≡ length (builtin-tparams b)
+unfolding builtin-tparams
+builtin-one b e = rw (eq-eqb _ _ e) refl
+
+pub builtin-none : (b : ℕ) → (b ≡ 5 → ⊥) → 0 ≡ length (builtin-tparams b)
+unfolding builtin-tparams
+builtin-none b e = rw (ne-eqb _ _ e) refl

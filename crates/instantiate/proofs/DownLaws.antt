@@ -1,0 +1,159 @@
+-- One level of instantiate, arm by arm, as the code takes it. Assumes nothing.
+use mathlib.Core.Path.{_≡_, refl, sym, ap, _∙_, subst}
+use mathlib.Core.List.{List, [], _++_}
+use Prim.Native.Nat.{ℕ, suc, _+_, _-_, _≤_, _<_}
+use native.Mathlib.Numerals.{add-one}
+use native.Mathlib.Omega.{arith}
+use lib.ListN.{length, getD, take}
+use Rattle.definition.specs.Types as d
+use Rattle.definition.specs.Types.{State, Struct, Result, ok, err, refused, BaseTypeConstraint, _>>=_}
+use Rattle.definition.specs.Store.{node, loc-of, value, with-args, args-at, sp, map-types, with-structs, add-constraint}
+use Rattle.definition.specs.Instantiate.{make-tvar, tparam-constraints, make-tparams, join-args, instantiate-type-args, instantiate-apply, instantiate-value, instantiate-down, instantiate}
+use Rattle.names.specs.Names.{mark-of, name-of}
+use Rattle.names.specs.declared.Mark.{Mark}
+use Rattle.names.specs.declared.TypeName.{TypeName}
+use Rattle.names.specs.declared.TParamID.{TParamID}
+use Rattle.names.specs.declared.AbilitySet.{AbilitySet}
+use Rattle.names.specs.declared.TVar.{TVar}
+use Rattle.table.specs.Rows.{places}
+use Rattle.table.specs.State.{shape-of, node-of, value-of, view, seen, Lay, Changed, After, Nodes-in, outcome, done, pushed-constraint}
+use Rattle.table.specs.declared.Shape.{Shape}
+use Rattle.table.specs.declared.Shape.the-variants.{Unit as UnitS, Ref, Param, Apply, Var, Anything, UnresolvedError}
+use Rattle.table.specs.declared.Node.{Node}
+use Rattle.table.specs.declared.Step.{Step}
+use Rattle.table.specs.declared.Used.{Used}
+use Rattle.table.specs.declared.Out.{Out}
+use Rattle.table.specs.declared.Out.the-variants.{Done, Itself, Open}
+use Rattle.table.specs.declared.Found.{Found}
+use Rattle.table.specs.declared.Found.the-variants.{Nothing, Just}
+use Rattle.table.proofs.Steps.{after-now, grown-trans}
+use Rattle.walk.specs.When.{When, Placed}
+use Rattle.walk.proofs.Steps.{args-kept, bind-ok, bind-assoc, done-then, done-stop, when-after, when-at, when-stop, when-then}
+use Rattle.walk.proofs.Walk.{rest}
+use Rattle.instantiate.specs.declared.Tparams.{Tparams}
+use Rattle.instantiate.specs.Known.{Known}
+use Rattle.instantiate.specs.Args.{made, listed, Listed, joined}
+use Rattle.instantiate.proofs.ArgLaws.{known-kept}
+use Rattle.instantiate.proofs.TvarLaws.{constraint-stop, constraint-then}
+
+pub inst-zero : (K : List Struct → Type 0) (w : List ℕ) (u : Used) (left ty : ℕ) (r : Step) → Lay w u → left ≡ 0 → r ≡ record { out = Itself; used = u } → When K w u w r (λ s. instantiate-down left s ty)
+unfolding instantiate-down outcome
+inst-zero K w u left ty r lay z e = rw (z, e) (when-after K w u w _ _ (after-now w u Itself (λ s. instantiate-down 0 s ty) lay tt (λ ds. refl)))
+
+-- a named type: its variables, its arguments, the joins, the node
+apply-is : (inst : State → ℕ → Result (State × ℕ)) (s : State) (loc : ℕ) (k : d.Mark) (n : d.TypeName) (tys : List ℕ)
+    → (made loc n tys s >>= (λ p. rest inst (joined loc k n (p .1)) [] tys (p .0))) ≡ instantiate-apply inst s loc k n tys
+unfolding made rest joined instantiate-apply instantiate-type-args
+apply-is inst s loc k n tys =
+    ap (λ (g : State × List ℕ → Result (State × ℕ)). make-tparams s loc n tys (tparam-constraints s n) >>= g)
+    (λ i p. sym (bind-assoc (map-types inst (p .0) tys) (λ q. join-args (q .0) (p .1) (q .1)) (λ q. sp (q .0) loc (d.Apply k n (q .1)))) i)
+    ∙ sym (bind-assoc (make-tparams s loc n tys (tparam-constraints s n)) (λ p. map-types inst (p .0) tys >>= (λ q. join-args (q .0) (p .1) (q .1))) (λ q. sp (q .0) loc (d.Apply k n (q .1))))
+
+module _ (w : List ℕ) (u : Used) (params : List (List ℕ)) (left ty : ℕ) (nd : Node) (lay : Lay w u) (left-some : left ≡ 0 → ⊥) (node-is : (ds : List Struct) → node-of nd ≡ node (seen w u ds) ty) where
+  inst-is : (sh : Shape) → nd .shape ≡ sh → (ds : List Struct)
+      → instantiate-value (instantiate-down (left - 1)) (seen w u ds) ty (nd .loc) (with-args (seen w u ds) (shape-of sh)) ≡ instantiate-down left (seen w u ds) ty
+  unfolding instantiate-down loc-of value
+  inst-is sh e ds =
+      let z : suc (left - 1) ≡ left = omega arith in
+      ap (λ (x : Shape). instantiate-value (instantiate-down (left - 1)) (seen w u ds) ty (nd .loc) (with-args (seen w u ds) (shape-of x))) (sym e)
+      ∙ ap (λ (x : d.Node). instantiate-value (instantiate-down (left - 1)) (seen w u ds) ty (x .loc) (with-args (seen w u ds) (x .value))) (node-is ds)
+      ∙ ap (λ (k : ℕ). instantiate-down k (seen w u ds) ty) z
+
+  stays : (sh : Shape) (o : Out) (r : Step) → nd .shape ≡ sh → r ≡ record { out = o; used = u } → Nodes-in (u .nodes) o
+      → ((s : State) → outcome o s ≡ instantiate-value (instantiate-down (left - 1)) s ty (nd .loc) (with-args s (shape-of sh))) → When (Known w u params) w u w r (λ s. instantiate-down left s ty)
+  stays sh o r e f i q = rw f (when-after (Known w u params) w u w _ _ (after-now w u o (λ s. instantiate-down left s ty) lay i (λ ds. q (seen w u ds) ∙ inst-is sh e ds)))
+
+  module _ (r : Step) (in-use : ty < u .nodes) (r-is : r ≡ record { out = Done ty; used = u }) where
+    pub inst-unit : nd .shape ≡ UnitS → When (Known w u params) w u w r (λ s. instantiate-down left s ty)
+    unfolding outcome instantiate-value with-args
+    inst-unit e = stays UnitS (Done ty) r e r-is in-use (λ s. refl)
+
+    pub inst-error : nd .shape ≡ UnresolvedError → When (Known w u params) w u w r (λ s. instantiate-down left s ty)
+    unfolding outcome instantiate-value with-args
+    inst-error e = stays UnresolvedError (Done ty) r e r-is in-use (λ s. refl)
+
+    pub inst-param : (id : TParamID) (a : AbilitySet) → nd .shape ≡ Param id a → When (Known w u params) w u w r (λ s. instantiate-down left s ty)
+    unfolding outcome instantiate-value with-args
+    inst-param id a e = stays (Param id a) (Done ty) r e r-is in-use (λ s. refl)
+
+  pub inst-var : (v : TVar) (r : Step) → nd .shape ≡ Var v → r ≡ record { out = Open; used = u } → When (Known w u params) w u w r (λ s. instantiate-down left s ty)
+  unfolding outcome instantiate-value with-args
+  inst-var v r e f = stays (Var v) Open r e f tt (λ s. refl)
+
+  pub inst-anything : (w′ : List ℕ) (r : Step) → nd .shape ≡ Anything → After w u w′ r (λ s. make-tvar s (nd .loc)) → When (Known w u params) w u w′ r (λ s. instantiate-down left s ty)
+  unfolding instantiate-value with-args
+  inst-anything w′ r e a = when-at (Known w u params) w u w′ r _ _ (λ ds k. inst-is Anything e ds) (when-after (Known w u params) w u w′ r _ a)
+
+  module _ (m : _) (t : ℕ) (e : nd .shape ≡ Ref m t) (w₁ : List ℕ) (b : Step) (b₁ : Found) (first : Changed w u w₁ b (pushed-constraint (BaseTypeConstraint (nd .loc) t))) (b₁-is : b₁ ≡ done (b .out)) where
+    ref-is : (ds : List Struct) → (pushed-constraint (BaseTypeConstraint (nd .loc) t) (seen w u ds) >>= (λ q. instantiate-down (left - 1) (q .0) t >>= (λ p. sp (p .0) (nd .loc) (d.Ref m (p .1))))) ≡ instantiate-down left (seen w u ds) ty
+    unfolding instantiate-value with-args
+    ref-is ds = constraint-then (BaseTypeConstraint (nd .loc) t) (seen w u ds) (λ q. instantiate-down (left - 1) (q .0) t >>= (λ p. sp (p .0) (nd .loc) (d.Ref m (p .1)))) ∙ inst-is (Ref m t) e ds
+
+    pub ref-full : b₁ ≡ Nothing → When (Known w u params) w u w₁ b (λ s. instantiate-down left s ty)
+    ref-full q =
+        when-at (Known w u params) w u w₁ b _ _ (λ ds k. ref-is ds)
+        (when-after (Known w u params) w u w₁ b _ (constraint-stop w u w₁ b (BaseTypeConstraint (nd .loc) t) (λ q. instantiate-down (left - 1) (q .0) t >>= (λ p. sp (p .0) (nd .loc) (d.Ref m (p .1)))) b₁ first b₁-is q))
+
+    module _ (y : ℕ) (b₁-at : b₁ ≡ Just y) (w₂ : List ℕ) (a : Step) (b₂ : Found) (inner : When (Known w₁ (b .used) params) w₁ (b .used) w₂ a (λ s. instantiate-down (left - 1) s t)) (b₂-is : b₂ ≡ done (a .out)) where
+      then-this : (w′ : List ℕ) (r : Step) → When (Known w₁ (b .used) params) w₁ (b .used) w′ r (λ s. instantiate-down (left - 1) s t >>= (λ p. sp (p .0) (nd .loc) (d.Ref m (p .1)))) → When (Known w u params) w u w′ r (λ s. instantiate-down left s ty)
+      then-this w′ r x =
+          record {
+            lay = x .lay;
+            grown = grown-trans _ _ _ (first .grown) (x .grown);
+            structs = x .structs ∙ first .structs;
+            is = λ ds kn. x .is ds (known-kept w u w₁ (b .used) params (first .structs) ds kn)
+                ∙ sym (done-then (b .out) (seen w₁ (b .used) ds) (λ q. instantiate-down (left - 1) (q .0) t >>= (λ p. sp (p .0) (nd .loc) (d.Ref m (p .1)))) y (sym b₁-is ∙ b₁-at))
+                ∙ ap (λ (z : Result (State × ℕ)). z >>= (λ q. instantiate-down (left - 1) (q .0) t >>= (λ p. sp (p .0) (nd .loc) (d.Ref m (p .1))))) (first .is ds)
+                ∙ ref-is ds;
+            inside = x .inside;
+          }
+
+      pub ref-stop : b₂ ≡ Nothing → When (Known w u params) w u w₂ a (λ s. instantiate-down left s ty)
+      ref-stop q = then-this w₂ a (when-stop (Known w₁ (b .used) params) w₁ (b .used) w₂ a (λ s. instantiate-down (left - 1) s t) (λ p. sp (p .0) (nd .loc) (d.Ref m (p .1))) b₂ inner b₂-is q)
+
+      pub ref-then : (p : ℕ) (w₃ : List ℕ) (r : Step) → b₂ ≡ Just p → After w₂ (a .used) w₃ r (λ s. sp s (nd .loc) (value-of (Ref m p))) → When (Known w u params) w u w₃ r (λ s. instantiate-down left s ty)
+      ref-then p w₃ r q x =
+          then-this w₃ r (when-then (Known w₁ (b .used) params) (Known w₁ (b .used) params) w₁ (b .used) w₂ a (λ s. instantiate-down (left - 1) s t) (λ p. sp (p .0) (nd .loc) (d.Ref m (p .1))) b₂ p w₃ r inner b₂-is q (λ ds k. k)
+          (when-after (Known w₁ (b .used) params) w₂ (a .used) w₃ r _ x))
+
+  module _ (k : Mark) (n : TypeName) (first many : ℕ) (e : nd .shape ≡ Apply k n first many) (pl : Placed w u first many) (w₁ : List ℕ) (b : Tparams) (b₁ : Found)
+      (made-all : Listed (Known w u params) w u w₁ b (made (nd .loc) (name-of n) (args-at (view w u) (places first many)))) (b₁-is : b₁ ≡ done (b .out)) where
+    go : State × List ℕ → Result (State × ℕ)
+    go p = rest (instantiate-down (left - 1)) (joined (nd .loc) (mark-of k) (name-of n) (p .1)) [] (args-at (view w u) (places first many)) (p .0)
+
+    all-is : (ds : List Struct) → Known w u params ds → (outcome (b .out) (seen w₁ (b .used) ds) >>= (λ p. go (p .0, take (b .many) (b .tvars)))) ≡ instantiate-down left (seen w u ds) ty
+    unfolding go instantiate-value with-args listed seen with-structs args-at rest _>>=_
+    all-is ds kn =
+        sym (bind-assoc (outcome (b .out) (seen w₁ (b .used) ds)) (λ p. ok (p .0, take (b .many) (b .tvars))) go)
+        ∙ ap (λ (x : Result (State × List ℕ)). x >>= go) (made-all .is ds kn)
+        ∙ apply-is (instantiate-down (left - 1)) (seen w u ds) (nd .loc) (mark-of k) (name-of n) (args-at (seen w u ds) (places first many))
+        ∙ inst-is (Apply k n first many) e ds
+
+    pub apply-stop : (r : Step) → r ≡ record { out = b .out; used = b .used } → b₁ ≡ Nothing → When (Known w u params) w u w₁ r (λ s. instantiate-down left s ty)
+    apply-stop r f q =
+        rw f record {
+          lay = made-all .lay;
+          grown = made-all .grown;
+          structs = made-all .structs;
+          is = λ ds kn. sym (bind-ok _) ∙ done-stop (b .out) (seen w₁ (b .used) ds) (λ x. ok x) (λ p. go (p .0, take (b .many) (b .tvars))) (sym b₁-is ∙ q) ∙ all-is ds kn;
+          inside = made-all .stopped (sym b₁-is ∙ q);
+        }
+
+    pub apply-then : (y : ℕ) (w₂ : List ℕ) (r : Step) → b₁ ≡ Just y
+        → When (Known w₁ (b .used) params) w₁ (b .used) w₂ r (rest (instantiate-down (left - 1)) (joined (nd .loc) (mark-of k) (name-of n) (take (b .many) (b .tvars))) [] (args-at (view w₁ (b .used)) (places first many)))
+        → When (Known w u params) w u w₂ r (λ s. instantiate-down left s ty)
+    unfolding go places
+    apply-then y w₂ r q x =
+        record {
+          lay = x .lay;
+          grown = grown-trans _ _ _ (made-all .grown) (x .grown);
+          structs = x .structs ∙ made-all .structs;
+          is = λ ds kn. x .is ds (known-kept w u w₁ (b .used) params (made-all .structs) ds kn)
+              ∙ ap (λ (l : List ℕ). rest (instantiate-down (left - 1)) (joined (nd .loc) (mark-of k) (name-of n) (take (b .many) (b .tvars))) [] l (seen w₁ (b .used) ds)) (args-kept (view w u) (view w₁ (b .used)) (places first many) (made-all .grown) (pl .inside))
+              ∙ sym (done-then (b .out) (seen w₁ (b .used) ds) (λ p. go (p .0, take (b .many) (b .tvars))) y (sym b₁-is ∙ q)) ∙ all-is ds kn;
+          inside = x .inside;
+        }
+
+pub instantiate-is : (K : List Struct → Type 0) (w : List ℕ) (u : Used) (ty : ℕ) (w′ : List ℕ) (r : Step) → When K w u w′ r (λ s. instantiate-down (ty + 1) s ty) → When K w u w′ r (λ s. instantiate s ty)
+unfolding instantiate
+instantiate-is K w u ty w′ r a = when-at K w u w′ r _ _ (λ ds k. ap (λ (k : ℕ). instantiate-down k (seen w u ds) ty) (add-one ty)) a

@@ -1,0 +1,3 @@
+-- Laws of the log. Assumes nothing.
+pub mod Put
+pub mod Text

@@ -1,0 +1,2 @@
+-- What the log's functions leave in a buffer. Assumes nothing: these are definitions.
+pub mod Line

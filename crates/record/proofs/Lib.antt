@@ -1,0 +1,3 @@
+-- Laws of the record reader. Assumes nothing.
+pub mod Placing
+pub mod Forms

@@ -1,0 +1,165 @@
+-- The fields of the state that a run leaves, be it with a success or with a typing error, are in range, so those that are written as a byte are bytes. Assumes nothing.
+use mathlib.Core.Path.{_≡_, refl, sym, _∙_, subst}
+use mathlib.Core.Bool.{Bool, true, _&&_}
+use mathlib.Core.List.{List}
+use mathlib.Core.Option.{none, some}
+use Prim.Native.Nat.{ℕ, _<_}
+use native.Mathlib.Omega.{arith}
+use lib.ListN.{length}
+use lib.Dec.{leb→le}
+use Rattle.definition.specs.Types.{TypeName, Multiple, Builtin, ModuleType, Mark, Shape, UnitType, Ref, Param, Apply, Var, Anything, UnresolvedError, Places, State, Struct, Result, ok, err, refused, _>>=_, if_then_else_}
+use Rattle.definition.specs.Store.{node, with-structs}
+use Rattle.definition.specs.Subst.{ready-tvars}
+use Rattle.definition.specs.TParams.{make-tparam-subst, subst-tparams}
+use Rattle.definition.specs.Write.{Bytes, mark}
+use Rattle.definition.specs.Trees.{Tree, mark-fits}
+use Rattle.definition.specs.Record.{Record, SD}
+use Rattle.definition.specs.Place.{place, place-pairs}
+use Rattle.definition.specs.Sound.{is-mark, is-name, is-set}
+use Rattle.definition.specs.Step.{run}
+use Rattle.definition.proofs.Order.{All}
+use Rattle.definition.proofs.Facts.{and-l, and-r, test}
+use Rattle.definition.proofs.Ranges.{ShapeIn, StructIn, Ranges, node-in}
+use Rattle.definition.proofs.WellRead.{TreeIn, RecordIn}
+use Rattle.definition.proofs.Walk.{Ends, e-ok, e-err, e-refused, Run, place-run, pairs-run, ready-tvars-run, make-run, subst-run, run-walk}
+use Rattle.table.specs.State.{outcome, view, seen}
+use Rattle.table.specs.declared.Used.{Used}
+use Rattle.table.specs.declared.Out.{Out}
+use Rattle.table.specs.declared.Out.the-variants.{Done, Subtype, Incompatible, Arity, Recursive, Full, Deep, Itself, Disagree, Open, NoArgument, Twice}
+use Rattle.writer.specs.Bytes.{Name-byte, Byte-fields, All-bytes}
+use Rattle.answer.specs.Ran.{shown, ran}
+use Rattle.answer.specs.declared.Ran.{Ran}
+use Rattle.answer.specs.declared.Show.{Show}
+use Rattle.run.specs.Runs.{subst-in, Runs, Settles, Declared}
+use Rattle.run.proofs.Records.{run-SD}
+
+-- ---- fields in range are bytes
+
+mark-byte : (k : Mark) → is-mark k ≡ true → mark k < 256
+unfolding mark is-mark is-set
+mark-byte none e = omega arith
+mark-byte (some set) e = omega (arith, leb→le set 15 (test e))
+
+name-byte : (b : State) (n : TypeName) → is-name b n ≡ true → Name-byte n
+unfolding is-name
+name-byte b (Multiple n) e = omega (arith, leb→le n 8 (test e))
+name-byte b (Builtin n) e = omega (arith, leb→le n 6 (test e))
+name-byte b (ModuleType n) e = tt
+
+shape-bytes : (b : State) (x : Shape Places) → ShapeIn b x → Byte-fields x
+shape-bytes b UnitType h = tt
+shape-bytes b (Ref m t) h = tt
+shape-bytes b (Param id a) h = tt
+shape-bytes b (Apply k n p) h = let front = and-l (is-mark k && is-name b n) (mark-fits k n) h in (mark-byte k (and-l (is-mark k) (is-name b n) front), name-byte b n (and-r (is-mark k) (is-name b n) front))
+shape-bytes b (Var v) h = tt
+shape-bytes b Anything h = tt
+shape-bytes b UnresolvedError h = tt
+
+pub ranges-bytes : (b s : State) → Ranges b s → All-bytes s
+unfolding All-bytes
+ranges-bytes b s r t i = shape-bytes b (node s t .value) (node-in r t .shape-in)
+
+seen-bytes : (w : List ℕ) (u : Used) (ds : List Struct) → All-bytes (seen w u ds) → All-bytes (view w u)
+unfolding seen with-structs All-bytes node
+seen-bytes w u ds h = h
+
+-- ---- the state that an answer leaves
+
+-- a call that leaves states in the ranges of b
+abbrev pub Leaves : State → {A : Type 0} → Result (State × A) → Type 0
+Leaves b m = Run (Unit {0}) b true m
+
+outcome-in : (b : State) (o : Out) (s : State) → Leaves b (outcome o s) → Settles o → Ranges b s
+unfolding outcome
+outcome-in b (Done t) s (e-ok i) h = i tt
+outcome-in b (Subtype x y) s (e-err i) h = i tt
+outcome-in b (Incompatible x y) s (e-err i) h = i tt
+outcome-in b (Arity x y) s (e-err i) h = i tt
+outcome-in b (Recursive loc) s (e-err i) h = i tt
+outcome-in b Full s e h = absurd h
+outcome-in b Deep s e h = absurd h
+outcome-in b Itself s e h = absurd h
+outcome-in b Disagree s e h = absurd h
+outcome-in b Open s e h = absurd h
+outcome-in b NoArgument s e h = absurd h
+outcome-in b Twice s e h = absurd h
+
+outcome-leaves : (b : State) (o : Out) (s : State) → Ranges b s → Settles o → Leaves b (outcome o s)
+unfolding outcome
+outcome-leaves b (Done t) s r h = e-ok (λ x. r)
+outcome-leaves b (Subtype x y) s r h = e-err (λ x. r)
+outcome-leaves b (Incompatible x y) s r h = e-err (λ x. r)
+outcome-leaves b (Arity x y) s r h = e-err (λ x. r)
+outcome-leaves b (Recursive loc) s r h = e-err (λ x. r)
+outcome-leaves b Full s r h = absurd h
+outcome-leaves b Deep s r h = absurd h
+outcome-leaves b Itself s r h = absurd h
+outcome-leaves b Disagree s r h = absurd h
+outcome-leaves b Open s r h = absurd h
+outcome-leaves b NoArgument s r h = absurd h
+outcome-leaves b Twice s r h = absurd h
+
+-- where the state is kept, what is shown with it is of no matter
+unshown : (b before : State) (show : Show) (m : Result (State × ℕ)) → Leaves b (m >>= (λ x. ok (if true then x .0 else before, shown show (x .1) (x .0)))) → Leaves b m
+unfolding _>>=_
+unshown b before show (ok x) (e-ok i) = e-ok i
+unshown b before show (err s e) (e-err i) = e-err i
+unshown b before show (refused x) (e-refused i) = e-refused i
+
+-- ---- what a run leaves
+
+by-run : (b : State) (r : Ran) (s before : State) → r .kept ≡ true → Leaves b (ran r s before) → Settles (r .out) → Ranges b s
+unfolding ran
+by-run b r s before e l h = outcome-in b (r .out) s (unshown b before (r .show) (outcome (r .out) s) (rw e at l)) h
+
+in-words : (b : State) (w : List ℕ) (u : Used) (ds : List Struct) → Ranges b (seen w u ds) → All-bytes (view w u)
+in-words b w u ds r = seen-bytes w u ds (ranges-bytes b (seen w u ds) r)
+
+module _ {K : List Struct → Type 0} {w : List ℕ} {u : Used} {w′ : List ℕ} {r : Ran} {kept : Bool} {step : State → Result (State × ℕ)} {f : State → State → Result (State × Bytes)} (c : Runs K w u w′ r kept step f) (ds : List Struct) (k : K ds) (b : State) where
+  -- by its step
+  pub step-bytes : Leaves b (step (seen w u ds)) → Settles (r .out) → All-bytes (view w′ (r .used))
+  step-bytes l h = in-words b w′ (r .used) ds (outcome-in b (r .out) _ (subst (λ (m : Result (State × ℕ)). Leaves b m) (sym (c .left ds k)) l) h)
+
+  -- where the state is kept, by the run of its record, which is f once the types are placed
+  pub record-bytes : kept ≡ true → Ranges b b → (x : Record) → RecordIn b x → run b x ≡ f (seen w u ds) b → Settles (r .out) → All-bytes (view w′ (r .used))
+  record-bytes e i x g q h =
+      in-words b w′ (r .used) ds
+      (by-run b r (seen w′ (r .used) ds) b (c .kept-is ∙ e) (subst (λ (m : Result (State × Bytes)). Leaves b m) (q ∙ sym (c .is ds k b)) (run-walk (Unit {0}) b true refl b (λ y. i) x (λ y. g))) h)
+
+-- SD
+pub declare-bytes : {w : List ℕ} {u : Used} {w′ : List ℕ} {r : Ran} {abilities params : ℕ} → Declared w u w′ r abilities params → (ds : List Struct) → length ds ≡ u .structs → Ranges (seen w u ds) (seen w u ds)
+    → (ps : List ℕ) → StructIn (record { abilities = abilities; params = ps }) → Settles (r .out) → All-bytes (view w′ (r .used))
+declare-bytes {w} {u} {w′} {r} {abilities} c ds many i ps g h =
+    let b = seen w u ds in
+    in-words b w′ (r .used) _
+    (by-run b r _ b (c .kept-is) (subst (λ (m : Result (State × Bytes)). Leaves b m) (run-SD b abilities ps ∙ sym (c .is ds ps many b)) (run-walk (Unit {0}) b true refl b (λ y. i) (SD abilities ps) (λ y. g))) h)
+
+-- ---- UF, RD, TS, whose state is not kept: from the state with their types placed
+
+pub placed-in : (b s : State) → Ranges b s → (t : Tree) → TreeIn b t → (s′ : State) (ty : ℕ) → place t s ≡ ok (s′, ty) → Ranges b s′
+placed-in b s i t g s′ ty e = go (subst (λ (m : Result (State × ℕ)). Leaves b m) e (place-run (Unit {0}) b true t (λ y. g) s (λ y. i)))
+  where
+    go : Leaves b {A = ℕ} (ok (s′, ty)) → Ranges b s′
+    go (e-ok j) = j tt
+
+pub pairs-in : (b s : State) → Ranges b s → (ps : List (ℕ × Tree)) → All (λ (p : ℕ × Tree). TreeIn b (p .1)) ps → (s′ : State) (tys : List (ℕ × ℕ)) → place-pairs ps s ≡ ok (s′, tys) → Ranges b s′
+pairs-in b s i ps g s′ tys e = go (subst (λ (m : Result (State × List (ℕ × ℕ))). Leaves b m) e (pairs-run (Unit {0}) b true ps (λ y. g) s (λ y. i)))
+  where
+    go : Leaves b {A = List (ℕ × ℕ)} (ok (s′, tys)) → Ranges b s′
+    go (e-ok j) = j tt
+
+pub ready-leaves : (b s : State) → Ranges b s → (t : ℕ) → Leaves b (ready-tvars s t)
+ready-leaves b s i t = ready-tvars-run (Unit {0}) b true refl s (λ y. i) t
+
+pub subst-leaves : (b s : State) → Ranges b s → (ps : List (ℕ × ℕ)) (t : ℕ) → Leaves b (subst-in ps t s)
+unfolding subst-in subst-tparams _>>=_
+subst-leaves b s i ps t = go (make-tparam-subst ps) (make-run (Unit {0}) b true ps)
+  where
+    go : (m : Result (List (ℕ × ℕ))) → Ends true (λ (x : State). Unit {0} → Ranges b x) (λ pairs. Unit {0}) m → Leaves b (m >>= (λ pairs. subst-tparams pairs s t))
+    go (ok pairs) e = subst-run (Unit {0}) b true refl _ pairs s (λ y. i) t
+    go (err x y) (e-err j) = e-err j
+    go (refused x) (e-refused j) = e-refused j
+
+-- UF's answer leaves the state with its type placed
+pub unfold-leaves : (b s : State) → Ranges b s → (o : Out) → Settles o → Leaves b (outcome o s)
+unfold-leaves b s i o h = outcome-leaves b o s i h

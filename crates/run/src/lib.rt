@@ -1,0 +1,191 @@
+// The run of each record from its placed types on: what it leaves, and what its answer shows.
+ghost use mathlib.Core.Path.{_≡_};
+ghost use mathlib.Core.Bool.{true, false};
+ghost use Prim.Native.Nat.{_<_};
+ghost use Rattle.definition.specs.Store.{next-tvar};
+ghost use Rattle.definition.specs.Subst.{ready-tvars};
+ghost use Rattle.definition.specs.Instantiate.{instantiate};
+ghost use Rattle.table.specs.State.{constraint-of, outcome, Lay, Parts, Found-in, pushed-constraint};
+ghost use Rattle.arms.specs.Arms.{case-of};
+ghost use Rattle.tparams.specs.Pairs.{pairs};
+ghost use Rattle.instantiate.specs.Known.{Known};
+ghost use Rattle.run.specs.Runs.{join-in, two-run, unfold-run, ready-run, subst-in, tparams-run, instantiate-run, tvar-run, num-tvar-in, num-tvar-run, set-num-in, set-num-run, constraint-run, Any, Runs, with-row, Declared};
+use answer::Ran;
+use answer::Show;
+use arms::TypingCase;
+use names::AbilitySet;
+use names::TVar;
+use subst::Unfolded;
+use table::Constraint;
+use table::Found;
+use table::Out;
+use table::Step;
+use table::Used;
+
+// What a step's answer is as a run's.
+fn shown(a: Step, show: Show, kept: bool) -> Ran
+    ensures { λ r. ⌜ r ≡ record { out = a .out; used = a .used; show = show; kept = kept } ⌝ }
+{
+    let o = a.out;
+    let u = a.used;
+    Ran {
+        out: o,
+        used: u,
+        show: show,
+        kept: kept,
+    }
+}
+
+// JN, SU: the join of two types.
+pub fn run_two(w: &mut [u32], u: Used, case: TypingCase, lhs: u32, rhs: u32) -> Ran
+    requires { ⌜ Lay (now w) u × ((lhs < u .nodes) × (rhs < u .nodes)) ⌝ }
+    ensures { λ r. ⌜ Runs Any (now (w .entry)) u (now (w .exit)) r true (λ s. join-in (case-of case) s lhs rhs) (two-run (case-of case) lhs rhs) ⌝ }
+{
+    match case {
+        TypingCase::Join => {
+            let a = join::join(w, u, lhs, rhs);
+            shown(a, Show::Node, true)
+        }
+        TypingCase::Subtype => {
+            let a = join::subtype(w, u, lhs, rhs);
+            shown(a, Show::Node, true)
+        }
+    }
+}
+
+// UF: what a type unfolds to.
+pub fn run_unfold(w: &[u32], u: Used, t: u32) -> Ran
+    requires { ⌜ Lay (now w) u × (t < u .nodes) ⌝ }
+    ensures { λ r. ⌜ Runs Any (now (w .entry)) u (now (w .entry)) r false (λ s. outcome (r .out) s) (unfold-run t) ⌝ }
+{
+    match subst::unfold_type(w, u, t) {
+        Unfolded::Node(x) => Ran {
+            out: Out::Done(x),
+            used: u,
+            show: Show::Node,
+            kept: false,
+        },
+        Unfolded::Anything(loc) => Ran {
+            out: Out::Done(0),
+            used: u,
+            show: Show::Anything(loc),
+            kept: false,
+        },
+    }
+}
+
+// RD: a type with its variables replaced.
+pub fn run_ready(w: &mut [u32], u: Used, t: u32) -> Ran
+    requires { ⌜ Lay (now w) u × (t < u .nodes) ⌝ }
+    ensures { λ r. ⌜ Runs Any (now (w .entry)) u (now (w .exit)) r false (λ s. ready-tvars s t) (ready-run t) ⌝ }
+{
+    let a = subst::ready_tvars(w, u, t);
+    shown(a, Show::Node, false)
+}
+
+// TS: a type with arguments for its parameters.
+pub fn run_tparams(w: &mut [u32], u: Used, ids: [u32; 8], args: [u32; 8], n: u32, t: u32) -> Ran
+    requires { ⌜ Lay (now w) u × ((t < u .nodes) × Parts (u .nodes) args n) ⌝ }
+    ensures { λ r. ⌜ Runs Any (now (w .entry)) u (now (w .exit)) r false (subst-in (pairs ids args 0 n) t) (tparams-run (pairs ids args 0 n) t) ⌝ }
+{
+    if tparams::make_tparam_subst(ids, args, n) {
+        let a = tparams::subst_tparams(w, u, ids, args, n, t);
+        return shown(a, Show::Node, false);
+    }
+    Ran {
+        out: Out::Twice,
+        used: u,
+        show: Show::Node,
+        kept: false,
+    }
+}
+
+// IN: a type with its parameters' constraints, by the declarations that the struct rows and the parameter bytes hold.
+pub fn run_instantiate(w: &mut [u32], u: Used, params: &[[u8; 8]; 256], t: u32) -> Ran
+    requires { ⌜ Lay (now w) u × (t < u .nodes) ⌝ }
+    ensures { λ r. ⌜ Runs (Known (now (w .entry)) u (now (params .entry))) (now (w .entry)) u (now (w .exit)) r true (λ s. instantiate s t) (instantiate-run t) ⌝ }
+{
+    let a = instantiate::instantiate(w, u, params, t);
+    shown(a, Show::Node, true)
+}
+
+// FV: a new variable.
+pub fn run_tvar(w: &mut [u32], u: Used, loc: u32) -> Ran
+    requires { ⌜ Lay (now w) u ⌝ }
+    ensures { λ r. ⌜ Runs Any (now (w .entry)) u (now (w .exit)) r true next-tvar (tvar-run loc) ⌝ }
+{
+    let a = table::take_var(w, u);
+    shown(a, Show::Variable(loc), true)
+}
+
+// NV: a new variable, marked numeric.
+pub fn run_num_tvar(w: &mut [u32], u: Used, loc: u32) -> Ran
+    requires { ⌜ Lay (now w) u ⌝ }
+    ensures { λ r. ⌜ Runs Any (now (w .entry)) u (now (w .exit)) r true (num-tvar-in loc) (num-tvar-run loc) ⌝ }
+{
+    let a = table::take_var(w, u);
+    let o = a.out;
+    let v = a.used;
+    match table::done_of(o) {
+        Found::Nothing => shown(a, Show::Variable(loc), true),
+        Found::Just(n) => {
+            let x = table::tvar(n);
+            subst::set_num_var(w, v, x, loc);
+            shown(a, Show::Variable(loc), true)
+        }
+    }
+}
+
+// SN: a variable marked numeric.
+pub fn run_set_num(w: &mut [u32], u: Used, v: TVar, loc: u32) -> Ran
+    requires { ⌜ Lay (now w) u ⌝ }
+    ensures { λ r. ⌜ Runs Any (now (w .entry)) u (now (w .exit)) r true (set-num-in (v .0) loc) (set-num-run (v .0) loc) ⌝ }
+{
+    subst::set_num_var(w, u, v, loc);
+    Ran {
+        out: Out::Done(0),
+        used: u,
+        show: Show::Nothing,
+        kept: true,
+    }
+}
+
+// NC, BC, SC: a constraint is listed.
+pub fn run_constraint(w: &mut [u32], u: Used, c: Constraint) -> Ran
+    requires { ⌜ Lay (now w) u ⌝ }
+    ensures { λ r. ⌜ Runs Any (now (w .entry)) u (now (w .exit)) r true (pushed-constraint (constraint-of c)) (constraint-run (constraint-of c)) ⌝ }
+{
+    let a = table::push_constraint(w, u, c);
+    shown(a, Show::Nothing, true)
+}
+
+// SD: a struct is declared, with so many parameters.
+pub fn run_declare(w: &mut [u32], u: Used, abilities: AbilitySet, params: u32) -> Ran
+    requires { ⌜ Lay (now w) u ⌝ }
+    ensures { λ r. ⌜ Declared (now (w .entry)) u (now (w .exit)) r (abilities .0) params ⌝ }
+{
+    let a = table::push_struct(w, u, abilities, params);
+    shown(a, Show::Number, true)
+}
+
+fn wide(x: u32) -> usize
+    ensures { λ r. ⌜ r ≡ x ⌝ }
+{
+    x as usize
+}
+
+// Its parameter bytes, zero past their count, in the row of its number, if it has one.
+pub fn with_row(params: [[u8; 8]; 256], n: Found, bytes: [u8; 8]) -> [[u8; 8]; 256]
+    requires { ⌜ Found-in 256 n ⌝ }
+    ensures { λ r. ⌜ r ≡ with-row n params bytes ⌝ }
+{
+    match n {
+        Found::Nothing => params,
+        Found::Just(k) => {
+            let mut rows = params;
+            let at = wide(k);
+            rows[at] = bytes;
+            rows
+        }
+    }
+}
