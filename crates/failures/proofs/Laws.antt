@@ -56,7 +56,7 @@ module _ (w : List ℕ) (u : Used) (r : Ask) (c : d.Constraint) (a : Asks r c) w
       node-fine q = fine (λ ds. node-good ds ∙ q)
 
       pub node-fails : b ≡ false → Fails w u (NodeF (r .code) (r .loc) t) c
-      node-fails q = record { is = λ ds. ap (λ (g : Unfolded). failure (seen w u ds) (r .code) (r .loc) (unfolded g (seen w u ds))) (sym p) ∙ failed ds (node-good ds ∙ q); inside = rw p at (h .inside) }
+      node-fails q = record { is = λ ds. ap (λ (g : Unfolded). failure (seen w u ds) (r .code) (r .loc) (unfolded g (seen w u ds))) (sym p) ∙ failed ds (node-good ds ∙ q); inside = (a .few, rw p at (h .inside)) }
 
     module _ (at : ℕ) (p : f ≡ AnythingU at) (b : Bool) (is : (st : State) → b ≡ good (r .code) (with-args st d.Anything)) where
       anything-good : (ds : List Struct) → good (r .code) (unfolded f (seen w u ds) .value) ≡ b
@@ -67,4 +67,4 @@ module _ (w : List ℕ) (u : Used) (r : Ask) (c : d.Constraint) (a : Asks r c) w
       anything-fine q = fine (λ ds. anything-good ds ∙ q)
 
       pub anything-fails : b ≡ false → Fails w u (AnythingF (r .code) (r .loc) at) c
-      anything-fails q = record { is = λ ds. ap (λ (g : Unfolded). failure (seen w u ds) (r .code) (r .loc) (unfolded g (seen w u ds))) (sym p) ∙ failed ds (anything-good ds ∙ q); inside = tt }
+      anything-fails q = record { is = λ ds. ap (λ (g : Unfolded). failure (seen w u ds) (r .code) (r .loc) (unfolded g (seen w u ds))) (sym p) ∙ failed ds (anything-good ds ∙ q); inside = a .few }

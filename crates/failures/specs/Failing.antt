@@ -37,6 +37,7 @@ Ty-in n c = ty-of c < n
 
 -- the constraint asks so
 pub record Asks (r : Ask) (c : d.Constraint) : Type 0 where
+  pub few : r .code < 4
   pub ty-is : r .ty ≡ ty-of c
   pub is : (s : State) → ask s (r .code) (r .loc) (r .ty) ≡ solve-constraint s c
 
@@ -46,11 +47,11 @@ failing Fine s = []
 failing (Node code loc t) s = failure s code loc (spanned s t)
 failing (Anything code loc at) s = failure s code loc (record { loc = at; value = d.Anything })
 
--- the type that it names is a node
+-- the code is one of three, and the type that it names is a node
 abbrev pub Failing-in : ℕ → Failing → Type 0
 Failing-in n Fine = Unit {0}
-Failing-in n (Node code loc t) = t < n
-Failing-in n (Anything code loc at) = Unit {0}
+Failing-in n (Node code loc t) = (code < 4) × (t < n)
+Failing-in n (Anything code loc at) = code < 4
 
 -- the constraint fails so, whatever the declarations are
 pub record Fails (w : List ℕ) (u : Used) (r : Failing) (c : d.Constraint) : Type 0 where

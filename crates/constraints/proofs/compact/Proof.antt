@@ -1,3 +1,4 @@
+-- `constraints::compact` meets its contract. Assumes nothing.
 use mathlib.Core.Path.{_≡_}
 use Rattle.constraints.proofs.Filter.{compact-none, compact-more}
 use Rattle.constraints.specs.Filter.{Compacted}

@@ -1,3 +1,4 @@
+-- `constraints::default_marked` meets its contract. Assumes nothing.
 use Rattle.constraints.proofs.Defaults.{marked-none, marked-some}
 use borrow.Author.Needs.{needs}
 use Rattle.constraints.proofs.default_marked.Statement.{statement}

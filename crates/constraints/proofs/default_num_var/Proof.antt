@@ -1,3 +1,4 @@
+-- `constraints::default_num_var` meets its contract. Assumes nothing.
 use Rattle.constraints.proofs.Defaults.{default-stop, default-done, default-decided}
 use borrow.Author.Needs.{needs}
 use Rattle.constraints.proofs.default_num_var.Statement.{statement}

@@ -1,3 +1,4 @@
+-- `constraints::default_num_vars` meets its contract. Assumes nothing.
 use Rattle.constraints.proofs.Defaults.{Defaulting, defaulting-none, defaulting-all, defaulting-stop, defaulting-more}
 use Prim.Native.Nat.{_-_}
 use borrow.Author.Needs.{needs}

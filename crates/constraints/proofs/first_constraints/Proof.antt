@@ -1,3 +1,4 @@
+-- `constraints::first_constraints` meets its contract. Assumes nothing.
 use Rattle.constraints.proofs.Filter.{first-all, first-fewer}
 use Rattle.constraints.specs.Filter.{First}
 use Prim.Native.Nat.{_≤_}

@@ -1,3 +1,4 @@
+-- `constraints::join_u64` meets its contract. Assumes nothing.
 use Rattle.constraints.proofs.Defaults.{u64-full, tvar-full, u64-joined}
 use Rattle.merge.proofs.Answers.{still-in, node-in}
 use mathlib.Core.Path.{sym, _∙_}

@@ -1,3 +1,4 @@
+-- `constraints::numeric_constraint` meets its contract. Assumes nothing.
 use Rattle.definition.specs.Step.{numeric-constraint}
 use borrow.Author.Needs.{needs}
 use Rattle.constraints.proofs.numeric_constraint.Statement.{statement}

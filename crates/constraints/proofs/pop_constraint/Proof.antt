@@ -1,3 +1,4 @@
+-- `constraints::pop_constraint` meets its contract. Assumes nothing.
 use Rattle.constraints.proofs.Filter.{popped}
 use native.Mathlib.Omega.{arith}
 use borrow.Author.Needs.{needs}

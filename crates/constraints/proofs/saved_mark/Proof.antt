@@ -1,3 +1,4 @@
+-- `constraints::saved_mark` meets its contract. Assumes nothing.
 use Rattle.table.specs.Rows.{read-option}
 use borrow.Author.Tests.{eq-eqb, ne-eqb}
 use borrow.Author.Needs.{needs}

@@ -1,3 +1,4 @@
+-- `constraints::stay` meets its contract. Assumes nothing.
 use Rattle.constraints.proofs.Filter.{stay-kept, stay-left}
 use borrow.Author.Needs.{needs}
 use Rattle.constraints.proofs.stay.Statement.{statement}

@@ -1,3 +1,4 @@
+-- `constraints::staying` meets its contract. Assumes nothing.
 use Rattle.constraints.proofs.Filter.{filtered}
 use borrow.Author.Needs.{needs}
 use Rattle.constraints.proofs.staying.Statement.{statement}

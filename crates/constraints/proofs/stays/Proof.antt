@@ -1,3 +1,4 @@
+-- `constraints::stays` meets its contract. Assumes nothing.
 use mathlib.Core.Path.{refl}
 use Rattle.definition.specs.Constraints.{stays}
 use borrow.Author.Needs.{needs}

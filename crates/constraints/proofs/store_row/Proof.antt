@@ -1,3 +1,4 @@
+-- `constraints::store_row` meets its contract. Assumes nothing.
 use borrow.Author.Needs.{needs}
 use mathlib.Core.Path.{_≡_}
 use Rattle.table.proofs.Rows.{wrote-none, wrote-more}

@@ -1,3 +1,4 @@
+-- `constraints::undecided` meets its contract. Assumes nothing.
 use mathlib.Core.Path.{refl}
 use Rattle.definition.specs.Store.{with-args}
 use Rattle.definition.specs.Constraints.{undecided}

@@ -1,3 +1,4 @@
+-- `constraints::undecided_var` meets its contract. Assumes nothing.
 use Rattle.constraints.proofs.Defaults.{undecided-node, undecided-anything}
 use borrow.Author.Needs.{needs}
 use Rattle.constraints.proofs.undecided_var.Statement.{statement}

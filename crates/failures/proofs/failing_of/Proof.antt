@@ -1,3 +1,4 @@
+-- `failures::failing_of` meets its contract. Assumes nothing.
 use Rattle.failures.proofs.Laws.{nothing-asked, node-fine, node-fails, anything-fine, anything-fails}
 use borrow.Author.Needs.{needs}
 use Rattle.failures.proofs.failing_of.Statement.{statement}

@@ -1,3 +1,4 @@
+-- `failures::good` meets its contract. Assumes nothing.
 use mathlib.Core.Path.{_∙_}
 use borrow.Author.Tests.{eq-eqb, ne-eqb}
 use Rattle.failures.specs.Failing.{good}

@@ -1,3 +1,4 @@
+-- `failures::is_integer` meets its contract. Assumes nothing.
 use mathlib.Core.Path.{refl, _∙_}
 use Rattle.definition.specs.Store.{with-args}
 use Rattle.definition.specs.Constraints.{is-integer}

@@ -1,3 +1,4 @@
+-- `failures::is_numeric` meets its contract. Assumes nothing.
 use mathlib.Core.Path.{refl, _∙_}
 use Rattle.definition.specs.Join.{is-numeric}
 use borrow.Author.Needs.{needs}

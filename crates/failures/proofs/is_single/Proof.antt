@@ -1,3 +1,4 @@
+-- `failures::is_single` meets its contract. Assumes nothing.
 use mathlib.Core.Path.{refl, _∙_}
 use Rattle.definition.specs.Store.{with-args}
 use Rattle.definition.specs.Constraints.{is-single}

@@ -1,3 +1,4 @@
+-- `failures::not_multiple` meets its contract. Assumes nothing.
 use mathlib.Core.Path.{refl}
 use Rattle.definition.specs.Join.{is-multiple}
 use borrow.Author.Needs.{needs}

@@ -1,0 +1,60 @@
+-- The steps of SV together are the definition's solve-constraints. Assumes nothing.
+use mathlib.Core.Path.{_≡_, refl, sym, ap, _∙_}
+use mathlib.Core.List.{List, []}
+use Prim.Native.Nat.{ℕ}
+use native.Mathlib.Omega.{arith}
+use Rattle.definition.specs.Types.{State, Struct, Result, ok, err, refused, _>>=_}
+use Rattle.definition.specs.Store.{with-constraints}
+use Rattle.definition.specs.Constraints.{num-vars, default-num-vars, staying, failures, solve-constraints}
+use Rattle.definition.specs.Write.{Bytes}
+use Rattle.table.specs.State.{outcome, seen, done}
+use Rattle.table.specs.declared.Step.{Step}
+use Rattle.table.specs.declared.Used.{Used}
+use Rattle.table.specs.declared.Out.{Out}
+use Rattle.table.specs.declared.Out.the-variants.{Done, Subtype, Incompatible, Arity, Recursive, Full, Deep, Itself, Disagree, Open, NoArgument, Twice}
+use Rattle.table.specs.declared.Found.{Found}
+use Rattle.table.specs.declared.Found.the-variants.{Nothing, Just}
+use Rattle.merge.proofs.Answers.{then-is}
+use Rattle.constraints.specs.Solve.{numbered, Answered}
+use Rattle.constraints.specs.Filter.{Filtered}
+
+numbered-then : {B : Type 0} (r : Result State) (h : State → Result B) → (numbered r >>= (λ x. h (x .0))) ≡ (r >>= h)
+unfolding numbered _>>=_
+numbered-then (ok s) h = refl
+numbered-then (err s e) h = refl
+numbered-then (refused x) h = refl
+
+-- what follows an answer without a number is never reached
+stop-same : {B : Type 0} (o : Out) (s : State) (h k : State × ℕ → Result B) → done o ≡ Nothing → (outcome o s >>= h) ≡ (outcome o s >>= k)
+unfolding outcome _>>=_
+stop-same (Done t) s h k e = let z : _≡_ {A = ℕ} 0 1 = cc in absurd (omega arith)
+stop-same (Subtype a b) s h k e = refl
+stop-same (Incompatible a b) s h k e = refl
+stop-same (Arity a b) s h k e = refl
+stop-same (Recursive loc) s h k e = refl
+stop-same Full s h k e = refl
+stop-same Deep s h k e = refl
+stop-same Itself s h k e = refl
+stop-same Disagree s h k e = refl
+stop-same Open s h k e = refl
+stop-same NoArgument s h k e = refl
+stop-same Twice s h k e = refl
+
+abbrev finish : State → Result (State × Bytes)
+finish s = ok (with-constraints s (staying (s .constraints)), failures s (s .constraints))
+
+module _ (w : List ℕ) (u : Used) (w₁ : List ℕ) (r : Step) (b : Found) (a : Answered w u w₁ r (λ s. numbered (default-num-vars s (num-vars 0 (s .vars))))) (p : b ≡ done (r .out)) where
+  goes-on : (ds : List Struct) → (outcome (r .out) (seen w₁ (r .used) ds) >>= (λ x. finish (x .0))) ≡ solve-constraints (seen w u ds)
+  unfolding solve-constraints
+  goes-on ds = ap (λ (y : Result (State × ℕ)). y >>= (λ x. finish (x .0))) (a .changed .is ds) ∙ numbered-then (default-num-vars (seen w u ds) (num-vars 0 (seen w u ds .vars))) finish
+
+  -- the payload is of the state before the filter
+  pub solved : (t : ℕ) → b ≡ Just t → (w₂ : List ℕ) (u₂ : Used) → Filtered w₁ (r .used) w₂ u₂ → (ds : List Struct)
+      → ok (seen w₂ u₂ ds, failures (seen w₁ (r .used) ds) (seen w₁ (r .used) ds .constraints)) ≡ solve-constraints (seen w u ds)
+  solved t q w₂ u₂ f ds =
+      ap (λ (s : State). ok (s, failures (seen w₁ (r .used) ds) (seen w₁ (r .used) ds .constraints))) (f .is ds)
+      ∙ then-is (r .out) b t (seen w₁ (r .used) ds) (λ x. finish (x .0)) p q
+      ∙ goes-on ds
+
+  pub unsolved : b ≡ Nothing → (ds : List Struct) → (outcome (r .out) (seen w₁ (r .used) ds) >>= (λ x. ok (x .0, []))) ≡ solve-constraints (seen w u ds)
+  unsolved q ds = stop-same (r .out) (seen w₁ (r .used) ds) (λ x. ok (x .0, [])) (λ x. finish (x .0)) (sym p ∙ q) ∙ goes-on ds

@@ -1,0 +1,2 @@
+-- Laws of the report. Assumes nothing.
+pub mod Report
