@@ -57,6 +57,21 @@ Tells u show Open = Unit {0}
 Tells u show NoArgument = Unit {0}
 Tells u show Twice = Unit {0}
 
+-- a success or a typing error, whose answer shows the state; not a refusal
+abbrev pub Settles : Out → Type 0
+Settles (Done t) = Unit {0}
+Settles (Subtype a b) = Unit {0}
+Settles (Incompatible a b) = Unit {0}
+Settles (Arity a b) = Unit {0}
+Settles (Recursive loc) = Unit {0}
+Settles Full = ⊥
+Settles Deep = ⊥
+Settles Itself = ⊥
+Settles Disagree = ⊥
+Settles Open = ⊥
+Settles NoArgument = ⊥
+Settles Twice = ⊥
+
 -- ---- the definition's answers, of the state after a run and of that before it
 
 abbrev pub answered : Ran → State → State → step.Answer

@@ -11,7 +11,7 @@ ghost use Rattle.definition.specs.Step.{number-of-error, number-of-refusal};
 ghost use Rattle.table.specs.State.{view, seen, Lay};
 ghost use Rattle.snap.specs.Snap.{Above, PutBack, Undone};
 ghost use Rattle.writer.specs.Bytes.{Wrote, capped, All-bytes};
-ghost use Rattle.answer.specs.Ran.{reply, shown, Shows, Tells, answered, success, failure, refused-by, Answers};
+ghost use Rattle.answer.specs.Ran.{reply, shown, Shows, Tells, Settles, answered, success, failure, refused-by, Answers};
 use snap::put_vars;
 use snap::undo;
 use table::Out;
@@ -231,7 +231,7 @@ fn fail_at(w: &mut [u32], u: Used, before: Used, saved: &[u32], loc: u32, buf: &
 // The answer to what a run left.
 pub fn answer_of(w: &mut [u32], before: Used, saved: &[u32], ran: Ran, buf: &mut [u8]) -> Answer
     requires { ⌜ Lay (now w) (ran .used) × (Above before (ran .used) × (5120 ≤ length (now saved))) ⌝ }
-    requires { ⌜ Tells (ran .used) (ran .show) (ran .out) × (All-bytes (view (now w) (ran .used)) × (4096 ≤ length (now buf))) ⌝ }
+    requires { ⌜ Tells (ran .used) (ran .show) (ran .out) × ((Settles (ran .out) → All-bytes (view (now w) (ran .used))) × (4096 ≤ length (now buf))) ⌝ }
     ensures { λ r. ⌜ Answers (now (w .entry)) (ran .used) before (now (saved .entry)) (now (buf .entry)) (now (w .exit)) (now (buf .exit)) r (answered ran) ⌝ }
 {
     let out = ran.out;

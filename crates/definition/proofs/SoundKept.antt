@@ -67,7 +67,7 @@ constraint-ranges s (OrderedConstraint loc ty) e = and-l (is-u32 loc) _ e
 constraint-ranges s (BaseTypeConstraint loc ty) e = and-l (is-u32 loc) _ e
 constraint-ranges s (SingleTypeConstraint loc ty) e = and-l (is-u32 loc) _ e
 
-ranges-of : (s : State) → sound s ≡ true → Ranges s s
+pub ranges-of : (s : State) → sound s ≡ true → Ranges s s
 unfolding node cell-allowed
 ranges-of s h = let w = sound-is s .0 h in record {
   few-nodes = w .few-nodes;
@@ -242,7 +242,7 @@ trusted s bytes h = rw (untested, step-stream) refl
     untested : usable s max-buffer ≡ true
     untested = and (le-test max-buffer max-buffer (omega arith)) h
 
-stream-no-15 : (s : State) (bytes : Bytes) → Is-bytes bytes → sound s ≡ true → step-stream s bytes max-buffer .0 .number < 15
+pub stream-no-15 : (s : State) (bytes : Bytes) → Is-bytes bytes → sound s ≡ true → step-stream s bytes max-buffer .0 .number < 15
 stream-no-15 s bytes is h = rw (trusted s bytes h) (streamed-good s h bytes is (read-record s bytes) (well-read (Unit {0}) s bytes (λ u. is)) .0 .no-15)
 
 abbrev Low : Entry → Type 0

@@ -27,10 +27,10 @@ use Rattle.table.specs.declared.Used.{Used}
 use Rattle.table.specs.declared.Out.{Out}
 use Rattle.table.specs.declared.Out.the-variants.{Done, Subtype, Incompatible, Arity, Recursive, Full, Deep, Itself, Disagree, Open, NoArgument, Twice}
 use Rattle.writer.specs.Bytes.{Name-byte, Byte-fields, All-bytes}
-use Rattle.answer.specs.Ran.{shown, ran}
+use Rattle.answer.specs.Ran.{shown, ran, Settles}
 use Rattle.answer.specs.declared.Ran.{Ran}
 use Rattle.answer.specs.declared.Show.{Show}
-use Rattle.run.specs.Runs.{subst-in, Runs, Settles, Declared}
+use Rattle.run.specs.Runs.{subst-in, Runs, Declared}
 use Rattle.run.proofs.Records.{run-SD}
 
 -- ---- fields in range are bytes

@@ -17,8 +17,6 @@ use Rattle.table.specs.State.{outcome, done, more, view, seen, Lay, Grown, Foun
 use Rattle.table.specs.declared.Used.{Used}
 use Rattle.table.specs.declared.Found.{Found}
 use Rattle.table.specs.declared.Found.the-variants.{Nothing, Just}
-use Rattle.table.specs.declared.Out.{Out}
-use Rattle.table.specs.declared.Out.the-variants.{Done, Subtype, Incompatible, Arity, Recursive, Full, Deep, Itself, Disagree, Open, NoArgument, Twice}
 use Rattle.answer.specs.Ran.{ran, Tells}
 use Rattle.answer.specs.declared.Ran.{Ran}
 
@@ -113,21 +111,6 @@ pub record Runs (K : List Struct → Type 0) (w : List ℕ) (u : Used) (w′ : L
   pub kept-is : r .kept ≡ kept
   pub left : (ds : List Struct) → K ds → outcome (r .out) (seen w′ (r .used) ds) ≡ step (seen w u ds)
   pub is : (ds : List Struct) → K ds → (before : State) → ran r (seen w′ (r .used) ds) before ≡ f (seen w u ds) before
-
--- a success or a typing error, whose answer shows the state; not a refusal
-abbrev pub Settles : Out → Type 0
-Settles (Done t) = Unit {0}
-Settles (Subtype a b) = Unit {0}
-Settles (Incompatible a b) = Unit {0}
-Settles (Arity a b) = Unit {0}
-Settles (Recursive loc) = Unit {0}
-Settles Full = ⊥
-Settles Deep = ⊥
-Settles Itself = ⊥
-Settles Disagree = ⊥
-Settles Open = ⊥
-Settles NoArgument = ⊥
-Settles Twice = ⊥
 
 -- the words hold one struct row more, if there is room; its bytes ps stand beside them
 pub record Declared (w : List ℕ) (u : Used) (w′ : List ℕ) (r : Ran) (abilities params : ℕ) : Type 0 where
