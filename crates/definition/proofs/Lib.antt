@@ -51,3 +51,4 @@ pub mod NumericCheck
 pub mod NoFailIn
 pub mod Stream
 pub mod Pieces
+pub mod Points

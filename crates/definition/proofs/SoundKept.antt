@@ -234,13 +234,14 @@ after-sound s ((bytes, buffer) ∷ records) is h = after-sound (step s bytes buf
 
 -- ---- a job never meets 15
 
+pub usable-sound : (s : State) → sound s ≡ true → usable s max-buffer ≡ true
+unfolding usable
+usable-sound s h = and (le-test max-buffer max-buffer (omega arith)) h
+
 -- so a job need not test its state again
 pub trusted : (s : State) (bytes : Bytes) → sound s ≡ true → step-stream s bytes max-buffer ≡ streamed s bytes (read-record s bytes)
-unfolding step-stream usable
-trusted s bytes h = rw (untested, step-stream) refl
-  where
-    untested : usable s max-buffer ≡ true
-    untested = and (le-test max-buffer max-buffer (omega arith)) h
+unfolding step-stream
+trusted s bytes h = rw (usable-sound s h, step-stream) refl
 
 pub stream-no-15 : (s : State) (bytes : Bytes) → Is-bytes bytes → sound s ≡ true → step-stream s bytes max-buffer .0 .number < 15
 stream-no-15 s bytes is h = rw (trusted s bytes h) (streamed-good s h bytes is (read-record s bytes) (well-read (Unit {0}) s bytes (λ u. is)) .0 .no-15)

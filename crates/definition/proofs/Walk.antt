@@ -45,7 +45,7 @@ pub data Ends {A : Type 0} (z : Bool) (E : State → Type 0) (P : A → Type 0) 
   e-err : {s : State} {e : TypingError} → E s → Ends z E P (err s e)
   e-refused : {x : Refusal} → Run-time z x → Ends z E P (refused x)
 
-bind : {A B : Type 0} {z : Bool} {E : State → Type 0} {P : A → Type 0} {Q : B → Type 0} {m : Result A} (f : A → Result B) → Ends z E P m → ((a : A) → P a → Ends z E Q (f a)) → Ends z E Q (m >>= f)
+pub bind : {A B : Type 0} {z : Bool} {E : State → Type 0} {P : A → Type 0} {Q : B → Type 0} {m : Result A} (f : A → Result B) → Ends z E P m → ((a : A) → P a → Ends z E Q (f a)) → Ends z E Q (m >>= f)
 unfolding _>>=_
 bind f (e-ok {a = a} p) h = h a p
 bind f (e-err p) h = e-err p

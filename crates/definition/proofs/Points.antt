@@ -1,0 +1,75 @@
+-- Three points of 01 said by themselves: a record that only looks leaves the state as at entry, a lent record with bytes left over is 5, and of two numeric marks the
+-- second one's location is kept. Assumes nothing.
+use mathlib.Core.Path.{_≡_, refl}
+use mathlib.Core.Bool.{Bool, true, false}
+use mathlib.Core.List.{List, [], _∷_}
+use mathlib.Core.Option.{some}
+use Prim.Native.Nat.{ℕ}
+use lib.ListN.{length}
+use lib.Dec.{leb}
+use Rattle.definition.specs.Types.{State, fresh, malformed, answer-too-long, Result, ok, err, refused, if_then_else_}
+use Rattle.definition.specs.Store.{num-loc}
+use Rattle.definition.specs.TParams.{subst-tparams}
+use Rattle.definition.specs.Write.{Bytes}
+use Rattle.definition.specs.Reader.{got}
+use Rattle.definition.specs.Trees.{Tree}
+use Rattle.definition.specs.Record.{Record, UF, RD, TS, read-record}
+use Rattle.definition.specs.Step.{run, refusal, max-payload, answer-with, answer, lent, step, max-buffer}
+use Rattle.definition.specs.Sound.{sound}
+use Rattle.definition.proofs.Walk.{Ends, e-ok, e-err, e-refused, bind, place-run, pairs-run, ready-tvars-run, make-run, subst-run}
+use Rattle.definition.proofs.SoundKept.{usable-sound}
+use Rattle.definition.proofs.Computed.{left-by}
+use Rattle.definition.proofs.Spelling.{hex}
+
+-- ---- UF, RD and TS
+
+-- the record whose run only looks at a state
+pub data Looks : Record → Type 0 where
+  unfolds : {t : Tree} → Looks (UF t)
+  readies : {t : Tree} → Looks (RD t)
+  substitutes : {ps : List (ℕ × Tree)} {t : Tree} → Looks (TS ps t)
+
+-- no error is met, and a success leaves the state s
+abbrev Back : State → Result (State × Bytes) → Type 0
+Back s m = Ends true (λ x. ⊥) (λ a. a .0 ≡ s) m
+
+goes-back : (s : State) (x : Record) → Looks x → Back s (run s x)
+unfolding run subst-tparams
+goes-back s (UF t) unfolds = bind _ (place-run ⊥ s true t (λ h. absurd h) s (λ h. absurd h)) (λ x j. e-ok refl)
+goes-back s (RD t) readies =
+    bind _ (place-run ⊥ s true t (λ h. absurd h) s (λ h. absurd h)) (λ x j. bind _ (ready-tvars-run ⊥ s true refl (x .0) j (x .1)) (λ r k. e-ok refl))
+goes-back s (TS ps t) substitutes =
+    bind _ (pairs-run ⊥ s true ps (λ h. absurd h) s (λ h. absurd h)) (λ x i. bind _ (place-run ⊥ s true t (λ h. absurd h) (x .0) i)
+    (λ r j. bind _ (make-run ⊥ s true (x .1)) (λ subst p. bind _ (subst-run ⊥ s true refl _ subst (r .0) j (r .1)) (λ y k. e-ok refl))))
+
+with-back : (s after : State) (payload : Bytes) → after ≡ s → answer-with s 0 payload after .state ≡ s
+unfolding answer-with refusal
+with-back s after payload e = go (leb (length payload) max-payload)
+  where
+    go : (b : Bool) → (if b then record { number = 0; payload = payload; state = after } else refusal s answer-too-long) .state ≡ s
+    go true = e
+    go false = refl
+
+back-leaves : (s : State) (m : Result (State × Bytes)) → Back s m → answer s m .state ≡ s
+unfolding answer refusal
+back-leaves s (ok (after, payload)) (e-ok e) = with-back s after payload e
+back-leaves s (err after x) (e-err e) = absurd e
+back-leaves s (refused x) (e-refused r) = refl
+
+-- UF, RD and TS leave the state as at entry, whatever they answer
+pub looking-leaves : (s : State) (x : Record) → Looks x → answer s (run s x) .state ≡ s
+looking-leaves s x l = back-leaves s (run s x) (goes-back s x l)
+
+-- ---- bytes left over
+
+-- 5, and nothing is run: the state is as at entry
+pub left-over : (s : State) (x : Record) (b : ℕ) (rest bytes : Bytes) → sound s ≡ true → read-record s bytes ≡ got x (b ∷ rest) → step s bytes max-buffer ≡ refusal s malformed
+unfolding step lent
+left-over s x b rest bytes h e = rw (usable-sound s h, step) (rw e refl)
+
+-- ---- two numeric marks
+
+-- two variables marked at 5 and at 9 are joined: the variable that both become is marked at 9
+second-mark : num-loc (left-by fresh (hex "4e5605000000" ∷ hex "4e5609000000" ∷ hex "4a4e06010000000000 06020000000100" ∷ [])) 2 ≡ some 9
+unfolding left-by num-loc
+second-mark = refl
