@@ -86,7 +86,7 @@ module _ (w : List ℕ) (u before : Used) (saved : List ℕ) where
     long w′ buf buf′ r h a = answers-is w u before saved buf w′ buf′ r (refused-by answer-too-long) f (λ ds s. with (seen w u ds) s ∙ answer-long s number _ _ (h ds)) a
 
     module _ (w′ buf buf′ : List ℕ) (len : ℕ) (fits : (ds : List Struct) → length (p (seen w u ds)) ≤ 4096) (wrote : (ds : List Struct) → Wrote buf 0 (p (seen w u ds)) buf′ len) where
-      settles : (used : Used) (kept : Bool)
+      pub settles : (used : Used) (kept : Bool)
           → ((w₀ : List ℕ) → Since w₀ before saved w u → Lay w′ used)
           → ((w₀ : List ℕ) → Since w₀ before saved w u → (ds₀ ds : List Struct) → q (seen w u ds) (seen w₀ before ds₀) ≡ seen w′ used (if kept then ds else ds₀))
           → ((w₀ : List ℕ) → Since w₀ before saved w u → (ds₀ ds : List Struct) → Declares w₀ before ds₀ → Declares w u ds → Declares w′ used (if kept then ds else ds₀))

@@ -40,11 +40,11 @@ stop-same Open s h k e = refl
 stop-same NoArgument s h k e = refl
 stop-same Twice s h k e = refl
 
-abbrev finish : State → Result (State × Bytes)
+abbrev pub finish : State → Result (State × Bytes)
 finish s = ok (with-constraints s (staying (s .constraints)), failures s (s .constraints))
 
 module _ (w : List ℕ) (u : Used) (w₁ : List ℕ) (r : Step) (b : Found) (a : Answered w u w₁ r (λ s. numbered (default-num-vars s (num-vars 0 (s .vars))))) (p : b ≡ done (r .out)) where
-  goes-on : (ds : List Struct) → (outcome (r .out) (seen w₁ (r .used) ds) >>= (λ x. finish (x .0))) ≡ solve-constraints (seen w u ds)
+  pub goes-on : (ds : List Struct) → (outcome (r .out) (seen w₁ (r .used) ds) >>= (λ x. finish (x .0))) ≡ solve-constraints (seen w u ds)
   unfolding solve-constraints
   goes-on ds = ap (λ (y : Result (State × ℕ)). y >>= (λ x. finish (x .0))) (a .changed .is ds) ∙ numbered-then (default-num-vars (seen w u ds) (num-vars 0 (seen w u ds .vars))) finish
 

@@ -1,0 +1,139 @@
+-- What default_num_vars leaves of a sound state: each constraint is on a node, and the fields that are written as a byte are bytes. Assumes nothing.
+use mathlib.Core.Path.{_≡_, refl, sym, _∙_, subst}
+use mathlib.Core.Bool.{true}
+use mathlib.Core.List.{List, [], _∷_, List·Memᴰ, List·Memᴰ·head, List·Memᴰ·tail}
+use Prim.Native.Nat.{ℕ, zero, suc, _<_}
+use native.Mathlib.Omega.{arith}
+use lib.ListN.{length, getD}
+use Rattle.definition.specs.Types.{State, Struct, Constraint, AbilityConstraint, NumericConstraint, BitsConstraint, OrderedConstraint, BaseTypeConstraint, SingleTypeConstraint, Result, ok, err, refused, _>>=_}
+use Rattle.definition.specs.Store.{taken, node, with-constraints, with-structs}
+use Rattle.definition.specs.Constraints.{num-vars, default-num-vars, solve-constraints}
+use Rattle.definition.specs.Trees.{arity}
+use Rattle.definition.specs.Record.{SV}
+use Rattle.definition.specs.Sound.{sound}
+use Rattle.definition.specs.Step.{run}
+use Rattle.definition.proofs.Laws.{type-on, OnNodes}
+use Rattle.definition.proofs.Facts.{facts}
+use Rattle.definition.proofs.Went.{Went, PostS, ps-ok, ps-err}
+use Rattle.definition.proofs.Runs.{num-vars-below, defaults-went}
+use Rattle.definition.proofs.Walk.{e-ok, e-err, Run, run-walk}
+use Rattle.definition.proofs.SoundKept.{ranges-of}
+use Rattle.table.specs.Rows.{constraint-table}
+use Rattle.table.specs.State.{outcome, done, view, seen, Nodes-in}
+use Rattle.table.specs.declared.Used.{Used}
+use Rattle.table.specs.declared.Step.{Step}
+use Rattle.table.specs.declared.Found.{Found}
+use Rattle.table.specs.declared.Found.the-variants.{Nothing, Just}
+use Rattle.table.specs.declared.Out.{Out}
+use Rattle.table.specs.declared.Out.the-variants.{Done, Subtype, Incompatible, Arity, Recursive, Full, Deep, Itself, Disagree, Open, NoArgument, Twice}
+use Rattle.merge.proofs.Answers.{done-out}
+use Rattle.constraints.specs.Solve.{numbered, Answered}
+use Rattle.constraints.proofs.Solved.{finish}
+use Rattle.failures.specs.Failing.{ty-of}
+use Rattle.writer.specs.Bytes.{All-bytes}
+use Rattle.report.specs.Report.{Tys-in}
+use Rattle.answer.specs.Ran.{Tells, Settles}
+use Rattle.answer.specs.declared.Show.the-variants as show
+use Rattle.answer.proofs.Calls.{ranges-bytes, seen-bytes}
+use Rattle.solve.specs.Solves.{Holds-sound}
+
+-- what the report asks of a state
+abbrev pub Fit : State → Type 0
+Fit s = Tys-in s × All-bytes s
+
+-- ---- constraints on nodes
+
+same-ty : (c : Constraint) → ty-of c ≡ type-on c
+same-ty (AbilityConstraint loc ty a) = refl
+same-ty (NumericConstraint loc ty) = refl
+same-ty (BitsConstraint loc ty) = refl
+same-ty (OrderedConstraint loc ty) = refl
+same-ty (BaseTypeConstraint loc ty) = refl
+same-ty (SingleTypeConstraint loc ty) = refl
+
+member : (d : Constraint) (l : List Constraint) (i : ℕ) → i < length l → List·Memᴰ (getD l i d) l
+member d [] i h = absurd (omega arith)
+member d (c ∷ l) zero h = List·Memᴰ·head refl
+member d (c ∷ l) (suc i) h = List·Memᴰ·tail (member d l i (omega arith))
+
+tys-in : (s : State) → OnNodes s → Tys-in s
+unfolding Tys-in
+tys-in s o i h = let c = getD (s .constraints) i (constraint-table .blank) in omega (arith, same-ty c, o .on c (member (constraint-table .blank) (s .constraints) i h))
+
+-- ---- the state that is left
+
+-- with a success or a typing error it has P
+abbrev Met : (State → Type 0) → {A : Type 0} → Result (State × A) → Type 0
+Met P (ok x) = P (x .0)
+Met P (err s e) = P s
+Met P (refused x) = Unit {0}
+
+all-constraints : (s : State) (cs : List Constraint) → All-bytes (with-constraints s cs) → All-bytes s
+unfolding All-bytes node with-constraints
+all-constraints s cs h = h
+
+module _ (s : State) (h : sound s ≡ true) where
+  went : PostS (arity s) s (Went (arity s) s) (default-num-vars s (num-vars 0 (s .vars)))
+  went = defaults-went (num-vars 0 (s .vars)) (facts s h) (λ n. refl) (num-vars-below 0 (s .vars) (taken s) (omega arith))
+
+  walked : Run (Unit {0}) s true (default-num-vars s (num-vars 0 (s .vars)) >>= finish)
+  unfolding run solve-constraints
+  walked = run-walk (Unit {0}) s true refl s (λ y. ranges-of s h) SV (λ y. tt)
+
+  both : (m : Result State) → PostS (arity s) s (Went (arity s) s) m → Run (Unit {0}) s true (m >>= finish) → Met Fit (numbered m)
+  unfolding numbered _>>=_
+  both (ok t) (ps-ok g w) (e-ok i) = (tys-in t (w .sound .constraints-on), all-constraints t _ (ranges-bytes s _ (i tt)))
+  both (err t e) (ps-err g n) (e-err i) = (tys-in t (n .n-constraints), ranges-bytes s t (i tt))
+  both (refused x) p e = tt
+
+  left : Met Fit (numbered (default-num-vars s (num-vars 0 (s .vars))))
+  left = both _ went walked
+
+-- ---- in the words
+
+met : (P : State → Type 0) (o : Out) (s : State) → Met P (outcome o s) → Settles o → P s
+unfolding outcome
+met P (Done t) s p h = p
+met P (Subtype a b) s p h = p
+met P (Incompatible a b) s p h = p
+met P (Arity a b) s p h = p
+met P (Recursive loc) s p h = p
+met P Full s p h = absurd h
+met P Deep s p h = absurd h
+met P Itself s p h = absurd h
+met P Disagree s p h = absurd h
+met P Open s p h = absurd h
+met P NoArgument s p h = absurd h
+met P Twice s p h = absurd h
+
+seen-tys : (w : List ℕ) (u : Used) (ds : List Struct) → Tys-in (seen w u ds) → Tys-in (view w u)
+unfolding seen with-structs Tys-in
+seen-tys w u ds h = h
+
+tells-nothing : (u : Used) (o : Out) → Nodes-in (u .nodes) o → Tells u show.Nothing o
+tells-nothing u (Done t) h = tt
+tells-nothing u (Subtype a b) h = h
+tells-nothing u (Incompatible a b) h = h
+tells-nothing u (Arity a b) h = h
+tells-nothing u (Recursive loc) h = tt
+tells-nothing u Full h = tt
+tells-nothing u Deep h = tt
+tells-nothing u Itself h = tt
+tells-nothing u Disagree h = tt
+tells-nothing u Open h = tt
+tells-nothing u NoArgument h = tt
+tells-nothing u Twice h = tt
+
+module _ {w : List ℕ} {u : Used} {w′ : List ℕ} {r : Step} (a : Answered w u w′ r (λ s. numbered (default-num-vars s (num-vars 0 (s .vars))))) where
+  pub fits : Holds-sound w u → Settles (r .out) → Fit (view w′ (r .used))
+  fits h k =
+      let ds = h .structs in
+      let x : Fit (seen w′ (r .used) ds) = met Fit (r .out) _ (subst (λ (m : Result (State × ℕ)). Met Fit m) (sym (a .changed .is ds)) (left (seen w u ds) (h .is-sound))) k in
+      (seen-tys w′ (r .used) ds (x .0), seen-bytes w′ (r .used) ds (x .1))
+
+  module _ (b : Found) (p : b ≡ done (r .out)) where
+    pub done-fits : Holds-sound w u → (t : ℕ) → b ≡ Just t → Fit (view w′ (r .used))
+    done-fits h t q = fits h (subst (λ (o : Out). Settles o) (sym (done-out (r .out) b t p q)) tt)
+
+    pub tells : b ≡ Nothing → Tells (r .used) show.Nothing (r .out)
+    tells q = tells-nothing (r .used) (r .out) (a .others (sym p ∙ q))
