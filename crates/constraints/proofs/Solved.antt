@@ -48,13 +48,5 @@ module _ (w : List ℕ) (u : Used) (w₁ : List ℕ) (r : Step) (b : Found) (a :
   unfolding solve-constraints
   goes-on ds = ap (λ (y : Result (State × ℕ)). y >>= (λ x. finish (x .0))) (a .changed .is ds) ∙ numbered-then (default-num-vars (seen w u ds) (num-vars 0 (seen w u ds .vars))) finish
 
-  -- the payload is of the state before the filter
-  pub solved : (t : ℕ) → b ≡ Just t → (w₂ : List ℕ) (u₂ : Used) → Filtered w₁ (r .used) w₂ u₂ → (ds : List Struct)
-      → ok (seen w₂ u₂ ds, failures (seen w₁ (r .used) ds) (seen w₁ (r .used) ds .constraints)) ≡ solve-constraints (seen w u ds)
-  solved t q w₂ u₂ f ds =
-      ap (λ (s : State). ok (s, failures (seen w₁ (r .used) ds) (seen w₁ (r .used) ds .constraints))) (f .is ds)
-      ∙ then-is (r .out) b t (seen w₁ (r .used) ds) (λ x. finish (x .0)) p q
-      ∙ goes-on ds
-
   pub unsolved : b ≡ Nothing → (ds : List Struct) → (outcome (r .out) (seen w₁ (r .used) ds) >>= (λ x. ok (x .0, []))) ≡ solve-constraints (seen w u ds)
   unsolved q ds = stop-same (r .out) (seen w₁ (r .used) ds) (λ x. ok (x .0, [])) (λ x. finish (x .0)) (sym p ∙ q) ∙ goes-on ds

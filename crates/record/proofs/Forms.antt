@@ -12,7 +12,7 @@ use Rattle.definition.specs.Reader.{Read, Reader, give, go-on, read-u32}
 use Rattle.definition.specs.Trees.{Tree, read-nested, read-type}
 use Rattle.definition.specs.Place.{place}
 use Rattle.definition.specs.Record as d
-use Rattle.definition.specs.Record.{Record, read-two, read-one, read-loc, read-loc-type, read-SN, read-NC}
+use Rattle.definition.specs.Record.{Record, read-two, read-one, read-loc, read-loc-type, read-SN, read-NC, read-SD, read-pair, read-TS}
 use Rattle.table.specs.Rows.{node-table}
 use Rattle.table.specs.State.{Lay, Grown, Declares, view, seen}
 use Rattle.table.specs.declared.Used.{Used}
@@ -93,13 +93,13 @@ part-same Full f g s l e = refl
 part-same Malformed f g s l e = refl
 part-same Unknown f g s l e = refl
 
-part-so : (p : Part) (n : ℕ) (P : ℕ → Type 0) → Part-in n p → ((t : ℕ) → p ≡ At t → t < n → P t) → Part-so p P
+pub part-so : (p : Part) (n : ℕ) (P : ℕ → Type 0) → Part-in n p → ((t : ℕ) → p ≡ At t → t < n → P t) → Part-so p P
 part-so (At t) n P i f = f t refl i
 part-so Full n P i f = tt
 part-so Malformed n P i f = tt
 part-so Unknown n P i f = tt
 
-stop-so : (p : Part) (P : ℕ → Type 0) → is-stop p ≡ true → Part-so p P
+pub stop-so : (p : Part) (P : ℕ → Type 0) → is-stop p ≡ true → Part-so p P
 stop-so (At t) P e = not-is e
 stop-so Full P e = not-is e
 stop-so Malformed P e = tt
@@ -124,7 +124,7 @@ one-is w u b end known at w′ r mark a c make t o =
 
 -- ---- two types
 
-first-in : (p : Part) (n n′ : ℕ) → n ≤ n′ → is-stop p ≡ false → is-over p ≡ false → Part-in n p → node-in p < n′
+pub first-in : (p : Part) (n n′ : ℕ) → n ≤ n′ → is-stop p ≡ false → is-over p ≡ false → Part-in n p → node-in p < n′
 first-in (At t) n n′ l e o i = omega arith
 first-in Full n n′ l e o i = is-not o
 first-in Malformed n n′ l e o i = is-not e
@@ -208,6 +208,23 @@ module _ (w : List ℕ) (u : Used) (b : List ℕ) (end known at : ℕ) where
       → Fields-are w u b end known (λ s. go-on (read-type s (rest b end (at + 4 + 1))) (λ t. give (d.NC loc (n.kind x) t))) w′ r → Fields-are w u b end known (λ s. read-NC s (rest b end at)) w′ r
   unfolding read-NC d.read-kind n.kind rd._>>=_ go-on give
   nc-is w′ r loc x e g f = fields-is w u b end known _ _ w′ r (λ ds s d k. rw (← e, ← g) refl) f
+
+  pub sd-is : (r : Fields) (a n : ℕ) → rd.got a (rest b end (at + 1)) ≡ rd.byte-to 15 (rest b end at) → rd.got n (rest b end (at + 1 + 1)) ≡ rd.byte-to 8 (rest b end (at + 1))
+      → Fields-are w u b end known (λ s. go-on (rd.times n (rd.byte-to 31) (rest b end (at + 1 + 1))) (λ params. give (d.SD a params))) w r → Fields-are w u b end known (λ s. read-SD s (rest b end at)) w r
+  unfolding read-SD rd._>>=_ go-on
+  sd-is r a n e g f = fields-is w u b end known _ _ w r (λ ds s d k. rw (← e, ← g) refl) f
+
+  pub ts-is : (w′ : List ℕ) (r : Fields) (n : ℕ) → rd.got n (rest b end (at + 1)) ≡ rd.byte-to 8 (rest b end at)
+      → Fields-are w u b end known (λ s. go-on (rd.times n (read-pair s) (rest b end (at + 1))) (λ pairs l. go-on (read-type s l) (λ t. give (d.TS pairs t)))) w′ r
+      → Fields-are w u b end known (λ s. read-TS s (rest b end at)) w′ r
+  unfolding read-TS rd._>>=_ go-on
+  ts-is w′ r n e f = fields-is w u b end known _ _ w′ r (λ ds s d k. rw (← e) refl) f
+
+-- ---- no fields
+
+pub sv-is : (w : List ℕ) (u : Used) (b : List ℕ) (end known at : ℕ) → Lay w u → at ≤ end → Fields-are w u b end known (λ s. give d.SV (rest b end at)) w (plain-fields m.SV (At 0) u at 0 0)
+unfolding place-read place-record give
+sv-is w u b end known at l a = fields-none w u b end known _ _ l refl a tt (λ s s′ ds k. refl)
 
 -- ---- the marks of each form
 

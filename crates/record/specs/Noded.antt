@@ -3,7 +3,7 @@ use mathlib.Core.Path.{_≡_}
 use mathlib.Core.Bool.{false}
 use mathlib.Core.List.{List, [], _∷_}
 use Prim.Native.Nat.{ℕ, zero, suc, _≤_, _<_}
-use lib.ListN.{getD, take, drop, replicate}
+use lib.ListN.{length, getD, take, drop, replicate}
 use Rattle.definition.specs.Types.{State, Struct, malformed, unknown-name, full, Result, ok, refused, _>>=_}
 use Rattle.definition.specs.Write.{Bytes}
 use Rattle.definition.specs.Reader.{Read, Reader, give, refuse}
@@ -163,10 +163,25 @@ pub record Fields-are (w : List ℕ) (u : Used) (b : List ℕ) (end known : ℕ)
   pub is : (ds : List Struct) (s : State) → Declares w u ds → Knows s known ds
       → fields-as r (seen w′ (r .used) ds) (rest b end (r .next)) ≡ place-read false place-record (m s) (seen w u ds)
 
+-- a record that starts at place `start`: the bytes after it are those from place next on, of all that there are
+pub record Record-is (w : List ℕ) (u : Used) (b : List ℕ) (start : ℕ) (w′ : List ℕ) (r : Fields) : Type 0 where
+  pub lay : Lay w′ (r .used)
+  pub grown : Grown (view w u) (view w′ (r .used))
+  pub structs : view w′ (r .used) .structs ≡ view w u .structs
+  pub inside : Fields-in (u .vars) r
+  pub within : r .next ≤ length b
+  pub is : (ds : List Struct) → Declares w u ds
+      → fields-as r (seen w′ (r .used) ds) (drop (r .next) b) ≡ place-read false place-record (read-record (seen w u ds) (drop start b)) (seen w u ds)
+
 -- without arrays
 abbrev pub plain-fields : RecordMark → Part → Used → ℕ → ℕ → ℕ → Fields
 plain-fields mark part u next a b =
     record { mark = mark; part = part; used = u; next = next; a = a; b = b; params = replicate 8 0; ids = replicate 8 0; nodes = replicate 8 0 }
+
+-- with pairs
+abbrev pub paired-fields : Part → Used → ℕ → ℕ → List ℕ → List ℕ → Fields
+paired-fields part u next many ids nodes =
+    record { mark = m.TS; part = part; used = u; next = next; a = 0; b = many; params = replicate 8 0; ids = ids; nodes = nodes }
 
 -- ---- the forms that several marks share
 

@@ -2,17 +2,18 @@
 ghost use mathlib.Core.Path.{_≡_};
 ghost use mathlib.Core.Bool.{false, _&&_};
 ghost use mathlib.Core.List.{List};
+ghost use mathlib.Core.Logic.{_⊎_};
 ghost use Prim.Native.Nat.{ℕ, _+_, _≤_, _<_};
 ghost use lib.ListN.{length, getD, drop};
 ghost use lib.Dec.{eqb};
 ghost use Rattle.definition.specs.Types as d;
-ghost use Rattle.definition.specs.Reader.{give, go-on};
+ghost use Rattle.definition.specs.Reader.{give, go-on, byte-to, times};
 ghost use Rattle.definition.specs.Trees.{Tree, read-type};
-ghost use Rattle.definition.specs.Record.{Record, by-mark, fields-of, read-two, read-loc, read-loc-type, read-SN, read-NC};
+ghost use Rattle.definition.specs.Record.{Record, SD, TS, by-mark, fields-of, read-fields, read-two, read-loc, read-loc-type, read-SN, read-NC, read-SD, read-pair, read-TS};
 ghost use Rattle.table.specs.State.{view, Lay};
 ghost use Rattle.reader.specs.Fields.{rest};
 ghost use Rattle.reader.specs.Taken.{Arities, is-stop, is-over, node-in};
-ghost use Rattle.record.specs.Noded.{reader-of, Fields-are, plain-fields, One, Two, Loc};
+ghost use Rattle.record.specs.Noded.{reader-of, Fields-are, Record-is, plain-fields, paired-fields, One, Two, Loc};
 use reader::Name;
 use reader::Number;
 use reader::Part;
@@ -235,4 +236,257 @@ fn read_nc(w: &mut [u32], u: Used, b: &[u8], end: usize, at: usize, known: u32) 
         }
         Number::Missing => plain(RecordMark::NC, Part::Malformed, u, at, 0, 0),
     }
+}
+
+// ---- a struct's declaration
+
+fn read_params(u: Used, b: &[u8], end: usize, at: usize, abilities: u32, many: u32) -> Fields
+    requires { ⌜ (end ≤ length (now b)) × ((at ≤ end) × ((abilities ≤ 15) × (many ≤ 8))) ⌝ }
+    ensures { λ r. ⌜ ((w : List ℕ) (known : ℕ) → Lay w u → Fields-are w u (now (b .entry)) end known (λ s. go-on (times many (byte-to 31) (rest (now (b .entry)) end at)) (λ params. give (SD abilities params))) w r) ⌝ }
+{
+    let n = many as usize;
+    let mut params: [u8; 8] = [0; 8];
+    let mut i: usize = 0;
+    while i < n {
+        let p = byte_to(b, end, at + i, 31);
+        let Number::Got(x) = p else {
+            return plain(RecordMark::SD, Part::Malformed, u, at, 0, 0);
+        };
+        params[i] = x as u8;
+        i = i + 1;
+    }
+    Fields {
+        mark: RecordMark::SD,
+        part: Part::At(0),
+        used: u,
+        next: at + n,
+        a: abilities,
+        b: many,
+        params: params,
+        ids: [0; 8],
+        nodes: [0; 8],
+    }
+}
+
+fn read_sd(u: Used, b: &[u8], end: usize, at: usize) -> Fields
+    requires { ⌜ (end ≤ length (now b)) × (at ≤ end) ⌝ }
+    ensures { λ r. ⌜ ((w : List ℕ) (known : ℕ) → Lay w u → Fields-are w u (now (b .entry)) end known (λ s. read-SD s (rest (now (b .entry)) end at)) w r) ⌝ }
+{
+    let a = byte_to(b, end, at, 15);
+    match a {
+        Number::Got(abilities) => {
+            let n = byte_to(b, end, at + 1, 8);
+            match n {
+                Number::Got(many) => read_params(u, b, end, at + 1 + 1, abilities, many),
+                Number::Missing => plain(RecordMark::SD, Part::Malformed, u, at, 0, 0),
+            }
+        }
+        Number::Missing => plain(RecordMark::SD, Part::Malformed, u, at, 0, 0),
+    }
+}
+
+// ---- pairs of an id and a type, and a last type
+
+fn paired(part: Part, u: Used, next: usize, many: u32, ids: [u32; 8], nodes: [u32; 8]) -> Fields
+    ensures { λ r. ⌜ r ≡ paired-fields part u next many ids nodes ⌝ }
+{
+    Fields {
+        mark: RecordMark::TS,
+        part: part,
+        used: u,
+        next: next,
+        a: 0,
+        b: many,
+        params: [0; 8],
+        ids: ids,
+        nodes: nodes,
+    }
+}
+
+fn read_pairs(
+    w: &mut [u32],
+    u: Used,
+    b: &[u8],
+    end: usize,
+    at: usize,
+    known: u32,
+    many: u32,
+) -> Fields
+    requires { ⌜ Lay (now w) u × Arities (view (now w) u .structs) ⌝ }
+    requires { ⌜ (end ≤ length (now b)) × ((at ≤ end) × ((known ≤ 1024) × (many ≤ 8))) ⌝ }
+    ensures { λ r. ⌜ Fields-are (now (w .entry)) u (now (b .entry)) end known (λ s. go-on (times many (read-pair s) (rest (now (b .entry)) end at)) (λ pairs l. go-on (read-type s l) (λ t. give (TS pairs t)))) (now (w .exit)) r ⌝ }
+{
+    let n = many as usize;
+    let mut used = u;
+    let mut next = at;
+    let mut over = false;
+    let mut ids: [u32; 8] = [0; 8];
+    let mut nodes: [u32; 8] = [0; 8];
+    let mut i: usize = 0;
+    while i < n {
+        let l = read_u32(b, end, next);
+        let Number::Got(id) = l else {
+            return plain(RecordMark::TS, Part::Malformed, used, next, 0, 0);
+        };
+        let r = read_type(w, used, b, end, next + 4, known, 64, over);
+        let p = r.part;
+        used = r.used;
+        next = r.next;
+        if stops(p) {
+            return plain(RecordMark::TS, p, used, next, 0, 0);
+        }
+        over = no_space(p);
+        ids[i] = id;
+        nodes[i] = node_of(p);
+        i = i + 1;
+    }
+    let r = read_type(w, used, b, end, next, known, 64, over);
+    let p = r.part;
+    let v = r.used;
+    paired(p, v, r.next, many, ids, nodes)
+}
+
+fn read_ts(w: &mut [u32], u: Used, b: &[u8], end: usize, at: usize, known: u32) -> Fields
+    requires { ⌜ Lay (now w) u × Arities (view (now w) u .structs) ⌝ }
+    requires { ⌜ (end ≤ length (now b)) × ((at ≤ end) × (known ≤ 1024)) ⌝ }
+    ensures { λ r. ⌜ Fields-are (now (w .entry)) u (now (b .entry)) end known (λ s. read-TS s (rest (now (b .entry)) end at)) (now (w .exit)) r ⌝ }
+{
+    let n = byte_to(b, end, at, 8);
+    match n {
+        Number::Got(many) => read_pairs(w, u, b, end, at + 1, known, many),
+        Number::Missing => plain(RecordMark::TS, Part::Malformed, u, at, 0, 0),
+    }
+}
+
+// ---- the mark
+
+fn same(x: u8, y: u8, a: u8, c: u8) -> bool
+    ensures { λ r. ⌜ r ≡ (eqb x a && eqb y c) ⌝ }
+{
+    if x == a { y == c } else { false }
+}
+
+// The last seven of the marks.
+fn late_mark(x: u8, y: u8) -> RecordMark
+    ensures { λ r. ⌜ ((s : d.State) → reader-of r s ≡ fields-of (drop 7 (by-mark s)) x y) ⌝ }
+{
+    if same(x, y, 82, 68) {
+        return RecordMark::RD;
+    }
+    if same(x, y, 84, 83) {
+        return RecordMark::TS;
+    }
+    if same(x, y, 73, 78) {
+        return RecordMark::IN;
+    }
+    if same(x, y, 78, 67) {
+        return RecordMark::NC;
+    }
+    if same(x, y, 66, 67) {
+        return RecordMark::BC;
+    }
+    if same(x, y, 83, 67) {
+        return RecordMark::SC;
+    }
+    if same(x, y, 83, 86) {
+        return RecordMark::SV;
+    }
+    RecordMark::Other
+}
+
+// In ASCII.
+fn mark_of(x: u8, y: u8) -> RecordMark
+    ensures { λ r. ⌜ ((s : d.State) → reader-of r s ≡ fields-of (by-mark s) x y) ⌝ }
+{
+    if same(x, y, 83, 68) {
+        return RecordMark::SD;
+    }
+    if same(x, y, 70, 86) {
+        return RecordMark::FV;
+    }
+    if same(x, y, 78, 86) {
+        return RecordMark::NV;
+    }
+    if same(x, y, 83, 78) {
+        return RecordMark::SN;
+    }
+    if same(x, y, 74, 78) {
+        return RecordMark::JN;
+    }
+    if same(x, y, 83, 85) {
+        return RecordMark::SU;
+    }
+    if same(x, y, 85, 70) {
+        return RecordMark::UF;
+    }
+    late_mark(x, y)
+}
+
+// ---- the whole record
+
+// The fields of a mark.
+fn fields_of(
+    w: &mut [u32],
+    u: Used,
+    b: &[u8],
+    end: usize,
+    at: usize,
+    known: u32,
+    mark: RecordMark,
+) -> Fields
+    requires { ⌜ Lay (now w) u × Arities (view (now w) u .structs) ⌝ }
+    requires { ⌜ (end ≤ length (now b)) × ((at ≤ end) × (known ≤ 1024)) ⌝ }
+    ensures { λ r. ⌜ Fields-are (now (w .entry)) u (now (b .entry)) end known (λ s. reader-of mark s (rest (now (b .entry)) end at)) (now (w .exit)) r ⌝ }
+{
+    match mark {
+        RecordMark::SD => read_sd(u, b, end, at),
+        RecordMark::FV => read_loc(u, b, end, at, RecordMark::FV),
+        RecordMark::NV => read_loc(u, b, end, at, RecordMark::NV),
+        RecordMark::SN => read_sn(u, b, end, at, known),
+        RecordMark::JN => read_two(w, u, b, end, at, known, RecordMark::JN),
+        RecordMark::SU => read_two(w, u, b, end, at, known, RecordMark::SU),
+        RecordMark::UF => read_one(w, u, b, end, at, known, RecordMark::UF, 0, 0),
+        RecordMark::RD => read_one(w, u, b, end, at, known, RecordMark::RD, 0, 0),
+        RecordMark::TS => read_ts(w, u, b, end, at, known),
+        RecordMark::IN => read_one(w, u, b, end, at, known, RecordMark::IN, 0, 0),
+        RecordMark::NC => read_nc(w, u, b, end, at, known),
+        RecordMark::BC => read_loc_type(w, u, b, end, at, known, RecordMark::BC),
+        RecordMark::SC => read_loc_type(w, u, b, end, at, known, RecordMark::SC),
+        RecordMark::SV => plain(RecordMark::SV, Part::At(0), u, at, 0, 0),
+        RecordMark::Other => plain(RecordMark::Other, Part::Malformed, u, at, 0, 0),
+    }
+}
+
+// The mark, and its fields.
+fn read_fields(w: &mut [u32], u: Used, b: &[u8], end: usize, at: usize, known: u32) -> Fields
+    requires { ⌜ Lay (now w) u × Arities (view (now w) u .structs) ⌝ }
+    requires { ⌜ (end ≤ length (now b)) × ((at ≤ end) × (known ≤ 1024)) ⌝ }
+    ensures { λ r. ⌜ Fields-are (now (w .entry)) u (now (b .entry)) end known (λ s. read-fields s (rest (now (b .entry)) end at)) (now (w .exit)) r ⌝ }
+{
+    if end - at < 2 {
+        return plain(RecordMark::Other, Part::Malformed, u, at, 0, 0);
+    }
+    let m = mark_of(b[at], b[at + 1]);
+    fields_of(w, u, b, end, at + 2, known, m)
+}
+
+// Where the bytes of a record end at the latest: byte 4,097 is never read.
+fn end_of(long: usize, start: usize) -> usize
+    requires { ⌜ start ≤ long ⌝ }
+    ensures { λ r. ⌜ (r ≤ long) × ((start ≤ r) × ((r ≡ start + 4096) ⊎ ((r ≡ long) × (long ≤ start + 4096)))) ⌝ }
+{
+    if long - start < 4096 {
+        return long;
+    }
+    start + 4096
+}
+
+// The record that starts at place `start`.
+pub fn read_record(w: &mut [u32], u: Used, b: &[u8], start: usize) -> Fields
+    requires { ⌜ Lay (now w) u × (Arities (view (now w) u .structs) × (start ≤ length (now b))) ⌝ }
+    ensures { λ r. ⌜ Record-is (now (w .entry)) u (now (b .entry)) start (now (w .exit)) r ⌝ }
+{
+    let end = end_of(b.len(), start);
+    let known = u.vars;
+    read_fields(w, u, b, end, start, known)
 }

@@ -1,0 +1,52 @@
+-- A mark's two bytes: where they stand, and compared with one mark after the other. Assumes nothing.
+use mathlib.Core.Path.{_≡_, refl, sym, ap, _∙_}
+use mathlib.Core.Bool.{true, false, _&&_}
+use mathlib.Core.List.{List, [], _∷_}
+use Prim.Native.Nat.{ℕ, _+_, _-_, _≤_, _<_}
+use native.Mathlib.Omega.{arith}
+use lib.Dec.{eqb}
+use lib.ListN.{length, getD, drop}
+use Rattle.definition.specs.Types.{State, malformed}
+use Rattle.definition.specs.Write.{Bytes}
+use Rattle.definition.specs.Reader.{Read, got, not-read, Reader, refuse, go-on, _>>=_, byte}
+use Rattle.definition.specs.Record.{Record, by-mark, fields-of, read-fields}
+use Rattle.reader.specs.Fields.{rest}
+use Rattle.reader.proofs.Rest.{rest-length, rest-one}
+
+module _ (x y a b : ℕ) (f : Reader Record) (ms : List (ℕ × ℕ × Reader Record)) where
+  pub hit : (eqb x a && eqb y b) ≡ true → f ≡ fields-of ((a, b, f) ∷ ms) x y
+  unfolding fields-of
+  hit e = rw e refl
+
+  pub pass : (r : Reader Record) → (eqb x a && eqb y b) ≡ false → r ≡ fields-of ms x y → r ≡ fields-of ((a, b, f) ∷ ms) x y
+  unfolding fields-of
+  pass r e k = rw e k
+
+-- the first k marks are others
+abbrev pub Onward : (State → List (ℕ × ℕ × Reader Record)) → ℕ → ℕ → ℕ → Type 0
+Onward marks k x y = (s : State) (r : Reader Record) → r ≡ fields-of (drop k (marks s)) x y → r ≡ fields-of (marks s) x y
+
+abbrev pub late-marks : State → List (ℕ × ℕ × Reader Record)
+late-marks s = drop 7 (by-mark s)
+
+pub no-mark : (x y : ℕ) → refuse malformed ≡ fields-of [] x y
+unfolding fields-of
+no-mark x y = refl
+
+-- ---- the mark's bytes
+
+fields-short : (s : State) (l : Bytes) → length l < 2 → not-read malformed ≡ read-fields s l
+unfolding read-fields _>>=_ go-on byte
+fields-short s [] h = refl
+fields-short s (x ∷ []) h = refl
+fields-short s (x ∷ y ∷ l) h = absurd (omega arith)
+
+module _ (b : List ℕ) (end at : ℕ) (fits : end ≤ length b) (s : State) where
+  pub mark-missing : end - at < 2 → not-read malformed ≡ read-fields s (rest b end at)
+  mark-missing h = fields-short s (rest b end at) (rw (rest-length b end fits at) h)
+
+  pub mark-there : at + 2 ≤ end → (f : Reader Record) → f ≡ fields-of (by-mark s) (getD b at 0) (getD b (at + 1) 0) → f (rest b end (at + 2)) ≡ read-fields s (rest b end at)
+  unfolding read-fields _>>=_ go-on byte
+  mark-there h f e =
+      let z : at + 1 + 1 ≡ at + 2 = omega arith in
+      rw (rest-one b end fits at (omega arith), rest-one b end fits (at + 1) (omega arith), z, e) refl

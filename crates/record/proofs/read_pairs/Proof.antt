@@ -1,0 +1,126 @@
+-- `record::read_pairs` meets its contract. Assumes nothing.
+use Rattle.reader.specs.Taken.{Arities}
+use Prim.Native.Nat.{_-_}
+use mathlib.Core.Path.{refl, sym, _∙_, subst}
+use Rattle.record.proofs.Pairs.{Pairs-go, pairs-none, pairs-cut, pairs-stop, pairs-turn, pairs-all}
+use native.Mathlib.Omega.{arith}
+use borrow.Author.Needs.{needs}
+use Rattle.record.proofs.read_pairs.Statement.{statement}
+use Rattle.record.proofs.read_pairs.Tie as tie
+
+abbrev Inv-loop : tie.InvT-loop
+Inv-loop w₀ b end at known many n used₀ next₀ over₀ ids₀ nodes₀ i₀ w used next over ids nodes i = Pairs-go w₀ used₀ b end known n at w used next over ids nodes i
+
+abbrev μ-loop : tie.MeasureT-loop
+μ-loop w₀ b end at known many n used₀ next₀ over₀ ids₀ nodes₀ i₀ w used next over ids nodes i = n - i
+
+loop-holds : tie.Need-loop-holds Inv-loop μ-loop
+loop-holds c = pairs-none _ _ _ _ _ _ _ _ _ (c .before .before .pre .0 .0) (c .before .before .pre .1 .1 .0) refl refl
+
+read-u32-requires : tie.Need-read-u32-requires Inv-loop μ-loop
+read-u32-requires c κs = (c .before .before .before .before .pre .1 .0, c .before .loop .inv .within)
+
+enum-known-l : tie.Need-enum-known-l Inv-loop μ-loop
+enum-known-l c = search needs
+
+enum-told : tie.Need-enum-told Inv-loop μ-loop
+enum-told c = search needs
+
+plain-requires : tie.Need-plain-requires Inv-loop μ-loop
+plain-requires c κs = search needs
+
+same-length : tie.Need-same-length Inv-loop μ-loop
+same-length c = c .before .before .before .before .before .loop .inv .lay .size ∙ sym (c .before .before .before .before .before .before .before .before .pre .0 .0 .size)
+
+returns : tie.Need-returns Inv-loop μ-loop
+returns c = rw (c .plain .ensures) (pairs-cut _ _ _ _ _ _ _ _ _ _ _ _ _ _ (c .before .before .before .before .before .loop .inv) (c .before .before .before .before .loop-test .taken) (rw (c .before .enum-told .given .1) at (c .before .before .before .read-u32 .ensures .is)))
+
+add-read-type : tie.Need-add-read-type Inv-loop μ-loop
+add-read-type c = search needs
+
+read-type-requires : tie.Need-read-type-requires Inv-loop μ-loop
+read-type-requires c κs = ((c .before .before .before .before .before .before .loop .inv .lay, subst Arities (sym (c .before .before .before .before .before .before .loop .inv .structs)) (c .before .before .before .before .before .before .before .before .before .pre .0 .1)), (c .before .before .before .before .before .before .before .before .before .pre .1 .0, ((rw (c .before .before .l .given .1) at (c .before .before .before .before .read-u32 .ensures .within)) .1, c .before .before .before .before .before .before .before .before .before .pre .1 .1 .1 .0)))
+
+stops-requires : tie.Need-stops-requires Inv-loop μ-loop
+stops-requires c κs = search needs
+
+plain-requires-2 : tie.Need-plain-requires-2 Inv-loop μ-loop
+plain-requires-2 c κs = search needs
+
+same-length-2 : tie.Need-same-length-2 Inv-loop μ-loop
+same-length-2 c = c .before .before .before .before .before .before .read-type .ensures .lay .size ∙ sym (c .before .before .before .before .before .before .before .before .before .before .before .before .before .before .before .before .pre .0 .0 .size)
+
+returns-2 : tie.Need-returns-2 Inv-loop μ-loop
+returns-2 c = rw (c .plain2 .ensures) (pairs-stop _ _ _ _ _ _ _ _ _ _ _ _ _ _ (c .before .before .before .before .before .before .before .before .before .before .before .before .before .loop .inv) _ (rw (c .before .before .before .before .before .before .before .before .before .l .given .1) at (c .before .before .before .before .before .before .before .before .before .before .before .read-u32 .ensures .is)) _ _ (c .before .before .before .before .before .before .read-type .ensures) (c .before .before .before .before .before .before .before .before .before .before .before .before .loop-test .taken) (sym (c .before .before .stops .ensures) ∙ c .before .if1 .taken))
+
+no-space-requires : tie.Need-no-space-requires Inv-loop μ-loop
+no-space-requires c κs = search needs
+
+mul-ids : tie.Need-mul-ids Inv-loop μ-loop
+mul-ids c = search needs
+
+array-write-ids : tie.Need-array-write-ids Inv-loop μ-loop
+array-write-ids c = omega (arith, c .before .before .before .before .before .before .before .before .before .before .before .before .before .before .before .before .pre .1 .1 .1 .1, c .before .before .before .before .before .before .before .before .before .before .before .before .loop-test .taken)
+
+node-of-requires : tie.Need-node-of-requires Inv-loop μ-loop
+node-of-requires c κs = search needs
+
+mul-nodes : tie.Need-mul-nodes Inv-loop μ-loop
+mul-nodes c = omega (arith, c .before .before .before .before .before .before .before .before .before .before .before .before .before .before .before .before .before .pre .1 .1 .1 .1, c .before .before .before .before .before .before .before .before .before .before .before .before .before .loop-test .taken)
+
+array-write-nodes : tie.Need-array-write-nodes Inv-loop μ-loop
+array-write-nodes c = omega (arith, c .before .before .before .before .before .before .before .before .before .before .before .before .before .before .before .before .before .pre .1 .1 .1 .1, c .before .before .before .before .before .before .before .before .before .before .before .before .before .loop-test .taken)
+
+add-i : tie.Need-add-i Inv-loop μ-loop
+add-i c = omega (arith, c .before .before .before .before .before .before .before .before .before .before .before .before .before .before .before .before .before .pre .1 .1 .1 .1, c .before .before .before .before .before .before .before .before .before .before .before .before .before .loop-test .taken)
+
+loop-less : tie.Need-loop-less Inv-loop μ-loop
+loop-less c = omega arith
+
+loop-again : tie.Need-loop-again Inv-loop μ-loop
+loop-again c = rw (c .before .no-space .ensures, c .node-of .ensures) (pairs-turn _ _ _ _ _ _ _ _ _ _ _ _ _ _ (c .before .before .before .before .before .before .before .before .before .before .before .before .before .before .loop .inv) _ (rw (c .before .before .before .before .before .before .before .before .before .before .l .given .1) at (c .before .before .before .before .before .before .before .before .before .before .before .before .read-u32 .ensures .is)) _ _ (c .before .before .before .before .before .before .before .read-type .ensures) (c .before .before .before .before .before .before .before .before .before .before .before .before .before .loop-test .taken) (c .before .before .before .before .before .before .before .before .before .before .before .before .before .before .before .before .before .pre .1 .1 .1 .1) (sym (c .before .before .before .stops .ensures) ∙ c .before .before .if1 .left))
+
+read-type-requires-2 : tie.Need-read-type-requires-2 Inv-loop μ-loop
+read-type-requires-2 c κs = ((c .before .before .loop .inv .lay, subst Arities (sym (c .before .before .loop .inv .structs)) (c .before .before .before .before .before .pre .0 .1)), (c .before .before .before .before .before .pre .1 .0, (c .before .before .loop .inv .within, c .before .before .before .before .before .pre .1 .1 .1 .0)))
+
+paired-requires : tie.Need-paired-requires Inv-loop μ-loop
+paired-requires c κs = search needs
+
+same-length-3 : tie.Need-same-length-3 Inv-loop μ-loop
+same-length-3 c = c .before .before .before .before .read-type2 .ensures .lay .size ∙ sym (c .before .before .before .before .before .before .before .before .before .before .pre .0 .0 .size)
+
+returns-3 : tie.Need-returns-3 Inv-loop μ-loop
+returns-3 c = rw (c .paired .ensures) (pairs-all _ _ _ _ _ _ _ _ _ _ _ _ _ _ (c .before .before .before .before .before .before .before .loop .inv) (c .before .before .before .before .before .before .loop-test .left) (c .before .before .before .before .before .before .before .before .before .before .pre .1 .1 .1 .1) _ _ (c .before .before .before .before .read-type2 .ensures))
+
+pub read-pairs-spec : {M : Type 1} → statement M
+read-pairs-spec =
+    tie.close
+    (tie.spec
+    Inv-loop
+    μ-loop
+    loop-holds
+    read-u32-requires
+    enum-known-l
+    enum-told
+    plain-requires
+    same-length
+    returns
+    add-read-type
+    read-type-requires
+    stops-requires
+    plain-requires-2
+    same-length-2
+    returns-2
+    no-space-requires
+    mul-ids
+    array-write-ids
+    node-of-requires
+    mul-nodes
+    array-write-nodes
+    add-i
+    loop-less
+    loop-again
+    read-type-requires-2
+    paired-requires
+    same-length-3
+    returns-3)
