@@ -1,67 +1,28 @@
 -- The fields of the state that a run leaves, be it with a success or with a typing error, are in range, so those that are written as a byte are bytes. Assumes nothing.
 use mathlib.Core.Path.{_≡_, refl, sym, _∙_, subst}
-use mathlib.Core.Bool.{Bool, true, _&&_}
+use mathlib.Core.Bool.{Bool, true}
 use mathlib.Core.List.{List}
-use mathlib.Core.Option.{none, some}
-use Prim.Native.Nat.{ℕ, _<_}
-use native.Mathlib.Omega.{arith}
+use Prim.Native.Nat.{ℕ}
 use lib.ListN.{length}
-use lib.Dec.{leb→le}
-use Rattle.definition.specs.Types.{TypeName, Multiple, Builtin, ModuleType, Mark, Shape, UnitType, Ref, Param, Apply, Var, Anything, UnresolvedError, Places, State, Struct, Result, ok, err, refused, _>>=_, if_then_else_}
-use Rattle.definition.specs.Store.{node, with-structs}
+use Rattle.definition.specs.Types.{State, Struct, Result, ok, err, refused, _>>=_, if_then_else_}
 use Rattle.definition.specs.Subst.{ready-tvars}
 use Rattle.definition.specs.TParams.{make-tparam-subst, subst-tparams}
-use Rattle.definition.specs.Write.{Bytes, mark}
-use Rattle.definition.specs.Trees.{Tree, mark-fits}
+use Rattle.definition.specs.Write.{Bytes}
 use Rattle.definition.specs.Record.{Record, SD}
-use Rattle.definition.specs.Place.{place, place-pairs}
-use Rattle.definition.specs.Sound.{is-mark, is-name, is-set}
 use Rattle.definition.specs.Step.{run}
-use Rattle.definition.proofs.Order.{All}
-use Rattle.definition.proofs.Facts.{and-l, and-r, test}
-use Rattle.definition.proofs.Ranges.{ShapeIn, StructIn, Ranges, node-in}
-use Rattle.definition.proofs.WellRead.{TreeIn, RecordIn}
-use Rattle.definition.proofs.Walk.{Ends, e-ok, e-err, e-refused, Run, place-run, pairs-run, ready-tvars-run, make-run, subst-run, run-walk}
+use Rattle.definition.proofs.Ranges.{StructIn, Ranges}
+use Rattle.definition.proofs.WellRead.{RecordIn}
+use Rattle.definition.proofs.Walk.{Ends, e-ok, e-err, e-refused, Run, ready-tvars-run, make-run, subst-run, run-walk}
 use Rattle.table.specs.State.{outcome, view, seen}
 use Rattle.table.specs.declared.Used.{Used}
 use Rattle.table.specs.declared.Out.{Out}
 use Rattle.table.specs.declared.Out.the-variants.{Done, Subtype, Incompatible, Arity, Recursive, Full, Deep, Itself, Disagree, Open, NoArgument, Twice}
-use Rattle.writer.specs.Bytes.{Name-byte, Byte-fields, All-bytes}
+use Rattle.writer.specs.Bytes.{All-bytes}
 use Rattle.answer.specs.Ran.{shown, ran, Settles}
 use Rattle.answer.specs.declared.Ran.{Ran}
 use Rattle.answer.specs.declared.Show.{Show}
-use Rattle.run.specs.Runs.{subst-in, Runs, Declared}
-use Rattle.run.proofs.Records.{run-SD}
-
--- ---- fields in range are bytes
-
-mark-byte : (k : Mark) → is-mark k ≡ true → mark k < 256
-unfolding mark is-mark is-set
-mark-byte none e = omega arith
-mark-byte (some set) e = omega (arith, leb→le set 15 (test e))
-
-name-byte : (b : State) (n : TypeName) → is-name b n ≡ true → Name-byte n
-unfolding is-name
-name-byte b (Multiple n) e = omega (arith, leb→le n 8 (test e))
-name-byte b (Builtin n) e = omega (arith, leb→le n 6 (test e))
-name-byte b (ModuleType n) e = tt
-
-shape-bytes : (b : State) (x : Shape Places) → ShapeIn b x → Byte-fields x
-shape-bytes b UnitType h = tt
-shape-bytes b (Ref m t) h = tt
-shape-bytes b (Param id a) h = tt
-shape-bytes b (Apply k n p) h = let front = and-l (is-mark k && is-name b n) (mark-fits k n) h in (mark-byte k (and-l (is-mark k) (is-name b n) front), name-byte b n (and-r (is-mark k) (is-name b n) front))
-shape-bytes b (Var v) h = tt
-shape-bytes b Anything h = tt
-shape-bytes b UnresolvedError h = tt
-
-pub ranges-bytes : (b s : State) → Ranges b s → All-bytes s
-unfolding All-bytes
-ranges-bytes b s r t i = shape-bytes b (node s t .value) (node-in r t .shape-in)
-
-seen-bytes : (w : List ℕ) (u : Used) (ds : List Struct) → All-bytes (seen w u ds) → All-bytes (view w u)
-unfolding seen with-structs All-bytes node
-seen-bytes w u ds h = h
+use Rattle.answer.proofs.Calls.{ranges-bytes, seen-bytes}
+use Rattle.run.specs.Runs.{subst-in, declare-run, Runs, Declared}
 
 -- ---- the state that an answer leaves
 
@@ -127,6 +88,10 @@ module _ {K : List Struct → Type 0} {w : List ℕ} {u : Used} {w′ : List ℕ
       (by-run b r (seen w′ (r .used) ds) b (c .kept-is ∙ e) (subst (λ (m : Result (State × Bytes)). Leaves b m) (q ∙ sym (c .is ds k b)) (run-walk (Unit {0}) b true refl b (λ y. i) x (λ y. g))) h)
 
 -- SD
+run-SD : (s : State) (abilities : ℕ) (params : List ℕ) → run s (SD abilities params) ≡ declare-run abilities params s s
+unfolding run declare-run
+run-SD s abilities params = refl
+
 pub declare-bytes : {w : List ℕ} {u : Used} {w′ : List ℕ} {r : Ran} {abilities params : ℕ} → Declared w u w′ r abilities params → (ds : List Struct) → length ds ≡ u .structs → Ranges (seen w u ds) (seen w u ds)
     → (ps : List ℕ) → StructIn (record { abilities = abilities; params = ps }) → Settles (r .out) → All-bytes (view w′ (r .used))
 declare-bytes {w} {u} {w′} {r} {abilities} c ds many i ps g h =
@@ -134,19 +99,7 @@ declare-bytes {w} {u} {w′} {r} {abilities} c ds many i ps g h =
     in-words b w′ (r .used) _
     (by-run b r _ b (c .kept-is) (subst (λ (m : Result (State × Bytes)). Leaves b m) (run-SD b abilities ps ∙ sym (c .is ds ps many b)) (run-walk (Unit {0}) b true refl b (λ y. i) (SD abilities ps) (λ y. g))) h)
 
--- ---- UF, RD, TS, whose state is not kept: from the state with their types placed
-
-pub placed-in : (b s : State) → Ranges b s → (t : Tree) → TreeIn b t → (s′ : State) (ty : ℕ) → place t s ≡ ok (s′, ty) → Ranges b s′
-placed-in b s i t g s′ ty e = go (subst (λ (m : Result (State × ℕ)). Leaves b m) e (place-run (Unit {0}) b true t (λ y. g) s (λ y. i)))
-  where
-    go : Leaves b {A = ℕ} (ok (s′, ty)) → Ranges b s′
-    go (e-ok j) = j tt
-
-pub pairs-in : (b s : State) → Ranges b s → (ps : List (ℕ × Tree)) → All (λ (p : ℕ × Tree). TreeIn b (p .1)) ps → (s′ : State) (tys : List (ℕ × ℕ)) → place-pairs ps s ≡ ok (s′, tys) → Ranges b s′
-pairs-in b s i ps g s′ tys e = go (subst (λ (m : Result (State × List (ℕ × ℕ))). Leaves b m) e (pairs-run (Unit {0}) b true ps (λ y. g) s (λ y. i)))
-  where
-    go : Leaves b {A = List (ℕ × ℕ)} (ok (s′, tys)) → Ranges b s′
-    go (e-ok j) = j tt
+-- ---- UF, RD, TS, whose state is not kept: from the state s with their types placed
 
 pub ready-leaves : (b s : State) → Ranges b s → (t : ℕ) → Leaves b (ready-tvars s t)
 ready-leaves b s i t = ready-tvars-run (Unit {0}) b true refl s (λ y. i) t

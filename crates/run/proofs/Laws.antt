@@ -1,21 +1,22 @@
 -- A step's answer as a run's. Assumes nothing.
 use mathlib.Core.Path.{_≡_, refl, sym, ap, _∙_, subst}
 use mathlib.Core.Bool.{Bool, true, false}
-use mathlib.Core.List.{List, [], append-nil}
-use Prim.Native.Nat.{ℕ, _<_}
+use mathlib.Core.List.{List, []}
+use Prim.Native.Nat.{ℕ, zero, suc, _<_}
 use native.Mathlib.Omega.{arith}
 use lib.Dec.{ltb, ltb→lt}
 use lib.ListN.{length, set, replicate, length-replicate}
 use Rattle.definition.specs.Types as d
 use Rattle.definition.specs.Types.{State, Struct, Result, ok, err, refused, _>>=_, if_then_else_, max-vars, max-constraints, max-structs, full, parameter-twice, Spanned, Type-value}
 use Rattle.definition.specs.Store.{taken, spanned, next-tvar, add-constraint, declare}
-use Rattle.definition.specs.Subst.{set-num-var, ready-tvars, parts}
+use Rattle.definition.specs.Subst.{set-num-var, ready-tvars}
 use Rattle.definition.specs.Join as j
 use Rattle.definition.specs.Join.{join, subtype}
 use Rattle.definition.specs.TParams.{make-tparam-subst, subst-tparams}
 use Rattle.definition.specs.Instantiate.{instantiate}
-use Rattle.definition.specs.Write.{Bytes, head, each, write, write-down, write-spanned}
-use Rattle.table.specs.State.{outcome, done, view, seen, Lay, Grown, Changed, After, Stored, Nodes-in, Var-in, pushed-constraint, Found-in, more}
+use Rattle.definition.specs.Record.{Numeric}
+use Rattle.definition.specs.Write.{Bytes, head, write, write-spanned}
+use Rattle.table.specs.State.{outcome, done, view, seen, Lay, Grown, Changed, After, Stored, Var-in, pushed-constraint, Found-in, more}
 use Rattle.table.specs.State as table
 use Rattle.definition.proofs.Facts.{test}
 use Rattle.table.specs.declared.Used.{Used}
@@ -35,26 +36,12 @@ use Rattle.walk.specs.When.{When}
 use Rattle.tparams.specs.Pairs.{made}
 use Rattle.answer.specs.Ran.{shown, ran, Shows, Tells}
 use Rattle.answer.specs.declared.Ran.{Ran}
+use Rattle.answer.proofs.Calls.{tells-node, write-anything}
 use Rattle.answer.specs.declared.Show.{Show}
 use Rattle.answer.specs.declared.Show.the-variants.{Nothing as NothingS, Number, Variable, Node, Anything}
-use Rattle.run.specs.Runs.{join-in, two-run, unfold-run, ready-run, subst-in, tparams-run, instantiate-run, tvar-run, num-tvar-in, num-tvar-run, set-num-in, set-num-run, constraint-run, declare-run, Any, Runs, with-row, Declared}
+use Rattle.run.specs.Runs.{join-in, two-run, unfold-run, ready-run, subst-in, tparams-run, instantiate-run, tvar-run, num-tvar-in, num-tvar-run, set-num-in, set-num-run, kind-at, constraint-run, declare-run, Any, Runs, with-row, Declared}
 
 -- ---- what an answer tells
-
--- the nodes that it names are in use
-pub tells-node : (u : Used) (o : Out) → Nodes-in (u .nodes) o → Tells u Node o
-tells-node u (Done t) i = i
-tells-node u (Subtype a b) i = i
-tells-node u (Incompatible a b) i = i
-tells-node u (Arity a b) i = i
-tells-node u (Recursive loc) i = tt
-tells-node u Full i = tt
-tells-node u Deep i = tt
-tells-node u Itself i = tt
-tells-node u Disagree i = tt
-tells-node u Open i = tt
-tells-node u NoArgument i = tt
-tells-node u Twice i = tt
 
 abbrev NoError : {A : Type 0} → Result A → Type 0
 NoError (ok a) = Unit {0}
@@ -174,15 +161,11 @@ module _ {w : List ℕ} {u : Used} (h : Lay w u) where
       ran-now (Done x) Node false _ _ (let i = a .inside in rw q at i) (λ ds. refl)
       (λ ds before. ap (λ (z : Spanned Type-value). ok (before, write-spanned (seen w u ds) z)) (let e = a .is ds in rw q at e))
 
-  written : (s : State) (loc : ℕ) → head loc d.Anything ≡ write-spanned s (record { loc = loc; value = d.Anything })
-  unfolding write-spanned write-down parts each
-  written s loc = sym (append-nil (head loc d.Anything))
-
   pub ran-anything : (t loc : ℕ) (y : Unfolded) → Unfolds w u y (λ s. spanned s t) → y ≡ AnythingU loc → Runs Any w u w (record { out = Done 0; used = u; show = Anything loc; kept = false }) false (λ s. outcome (Done 0) s) (unfold-run t)
   unfolding unfold-run outcome shown _>>=_
   ran-anything t loc y a q =
       ran-now (Done 0) (Anything loc) false _ _ tt (λ ds. refl)
-      (λ ds before. ap (λ (z : Bytes). ok (before, z)) (written (seen w u ds) loc ∙ ap (λ (z : Spanned Type-value). write-spanned (seen w u ds) z) (let e = a .is ds in rw q at e)))
+      (λ ds before. ap (λ (z : Bytes). ok (before, z)) (sym (write-anything (seen w u ds) loc) ∙ ap (λ (z : Spanned Type-value). write-spanned (seen w u ds) z) (let e = a .is ds in rw q at e)))
 
   -- ---- TS
 
@@ -292,6 +275,13 @@ module _ {w : List ℕ} {u : Used} {w′ : List ℕ} {a : Step} where
 
       follows : (s before : State) → (pushed-constraint k s >>= shows true NothingS before) ≡ constraint-run k s before
       follows s before = go before (add-constraint s k)
+
+-- a byte that is neither 1 nor 2
+pub kind-numeric : (b : ℕ) → (b ≡ 1 → ⊥) → (b ≡ 2 → ⊥) → Numeric ≡ kind-at b
+kind-numeric zero p q = refl
+kind-numeric (suc zero) p q = absurd (p refl)
+kind-numeric (suc (suc zero)) p q = absurd (q refl)
+kind-numeric (suc (suc (suc b))) p q = refl
 
 -- ---- SN
 

@@ -1,9 +1,9 @@
 -- The run of each record from its placed types on, as the definition's `run` has it, and what a function that runs it leaves in the words. Assumes nothing: these are definitions.
 use mathlib.Core.Path.{_≡_}
 use mathlib.Core.Bool.{Bool, true}
-use mathlib.Core.List.{List, []}
+use mathlib.Core.List.{List, [], _∷_}
 use Prim.Native.Nat.{ℕ}
-use lib.ListN.{length, set}
+use lib.ListN.{length, getD, set}
 use Rattle.definition.specs.Types as d
 use Rattle.definition.specs.Types.{State, Struct, Result, ok, _>>=_}
 use Rattle.definition.specs.Store.{spanned, next-tvar, add-constraint, declare}
@@ -12,6 +12,7 @@ use Rattle.definition.specs.Join as j
 use Rattle.definition.specs.Join.{join, subtype}
 use Rattle.definition.specs.TParams.{make-tparam-subst, subst-tparams}
 use Rattle.definition.specs.Instantiate.{instantiate}
+use Rattle.definition.specs.Record.{NumericKind, Numeric, Bits, Ordered}
 use Rattle.definition.specs.Write.{Bytes, u16, head, write, write-spanned}
 use Rattle.table.specs.State.{outcome, done, more, view, seen, Lay, Grown, Found-in, Declares}
 use Rattle.table.specs.declared.Used.{Used}
@@ -83,6 +84,10 @@ set-num-in v loc s = ok (set-num-var s v loc, 0)
 -- SN
 unfoldable pub set-num-run : ℕ → ℕ → State → State → Result (State × Bytes)
 set-num-run v loc s before = ok (set-num-var s v loc, [])
+
+-- the byte of an NC
+abbrev pub kind-at : ℕ → NumericKind
+kind-at b = getD (Numeric ∷ Bits ∷ Ordered ∷ []) b Numeric
 
 -- NC, BC, SC
 unfoldable pub constraint-run : d.Constraint → State → State → Result (State × Bytes)

@@ -2,21 +2,24 @@
 ghost use mathlib.Core.Path.{_≡_};
 ghost use mathlib.Core.Bool.{true, false};
 ghost use Prim.Native.Nat.{_<_};
+ghost use Rattle.definition.specs.Types.{BaseTypeConstraint, SingleTypeConstraint};
 ghost use Rattle.definition.specs.Store.{next-tvar};
 ghost use Rattle.definition.specs.Subst.{ready-tvars};
 ghost use Rattle.definition.specs.Instantiate.{instantiate};
-ghost use Rattle.table.specs.State.{constraint-of, outcome, Lay, Parts, Found-in, pushed-constraint};
+ghost use Rattle.definition.specs.Step.{numeric-constraint};
+ghost use Rattle.table.specs.State.{outcome, Lay, Parts, Found-in, pushed-constraint};
 ghost use Rattle.arms.specs.Arms.{case-of};
 ghost use Rattle.tparams.specs.Pairs.{pairs};
 ghost use Rattle.instantiate.specs.Known.{Known};
-ghost use Rattle.run.specs.Runs.{join-in, two-run, unfold-run, ready-run, subst-in, tparams-run, instantiate-run, tvar-run, num-tvar-in, num-tvar-run, set-num-in, set-num-run, constraint-run, Any, Runs, with-row, Declared};
+ghost use Rattle.constraints.specs.Solve.{kind-of};
+ghost use Rattle.run.specs.Runs.{join-in, two-run, unfold-run, ready-run, subst-in, tparams-run, instantiate-run, tvar-run, num-tvar-in, num-tvar-run, set-num-in, set-num-run, kind-at, constraint-run, Any, Runs, with-row, Declared};
 use answer::Ran;
 use answer::Show;
 use arms::TypingCase;
+use constraints::NumericKind;
 use names::AbilitySet;
 use names::TVar;
 use subst::Unfolded;
-use table::Constraint;
 use table::Found;
 use table::Out;
 use table::Step;
@@ -150,13 +153,49 @@ pub fn run_set_num(w: &mut [u32], u: Used, v: TVar, loc: u32) -> Ran
     }
 }
 
-// NC, BC, SC: a constraint is listed.
-pub fn run_constraint(w: &mut [u32], u: Used, c: Constraint) -> Ran
-    requires { ⌜ Lay (now w) u ⌝ }
-    ensures { λ r. ⌜ Runs Any (now (w .entry)) u (now (w .exit)) r true (pushed-constraint (constraint-of c)) (constraint-run (constraint-of c)) ⌝ }
+// The operators that the byte of an NC stands for.
+fn kind_of(kind: u32) -> NumericKind
+    ensures { λ r. ⌜ kind-of r ≡ kind-at kind ⌝ }
 {
-    let a = table::push_constraint(w, u, c);
+    if kind == 1 {
+        return NumericKind::Bits;
+    }
+    if kind == 2 {
+        return NumericKind::Ordered;
+    }
+    NumericKind::Numeric
+}
+
+// NC, BC, SC: a constraint is listed.
+pub fn run_numeric(w: &mut [u32], u: Used, kind: u32, loc: u32, ty: u32) -> Ran
+    requires { ⌜ Lay (now w) u ⌝ }
+    ensures { λ r. ⌜ Runs Any (now (w .entry)) u (now (w .exit)) r true (pushed-constraint (numeric-constraint (kind-at kind) loc ty)) (constraint-run (numeric-constraint (kind-at kind) loc ty)) ⌝ }
+{
+    let k = kind_of(kind);
+    let a = constraints::numeric_constraint(w, u, k, loc, ty);
     shown(a, Show::Nothing, true)
+}
+
+pub fn run_base_type(w: &mut [u32], u: Used, loc: u32, ty: u32) -> Ran
+    requires { ⌜ Lay (now w) u ⌝ }
+    ensures { λ r. ⌜ Runs Any (now (w .entry)) u (now (w .exit)) r true (pushed-constraint (BaseTypeConstraint loc ty)) (constraint-run (BaseTypeConstraint loc ty)) ⌝ }
+{
+    shown(
+        constraints::base_type_constraint(w, u, loc, ty),
+        Show::Nothing,
+        true,
+    )
+}
+
+pub fn run_single_type(w: &mut [u32], u: Used, loc: u32, ty: u32) -> Ran
+    requires { ⌜ Lay (now w) u ⌝ }
+    ensures { λ r. ⌜ Runs Any (now (w .entry)) u (now (w .exit)) r true (pushed-constraint (SingleTypeConstraint loc ty)) (constraint-run (SingleTypeConstraint loc ty)) ⌝ }
+{
+    shown(
+        constraints::single_type_constraint(w, u, loc, ty),
+        Show::Nothing,
+        true,
+    )
 }
 
 // SD: a struct is declared, with so many parameters.

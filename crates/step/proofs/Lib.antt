@@ -1,0 +1,9 @@
+-- What a record leaves of a sound state: its declarations and their bytes, what was placed, what was read, its answer, and the step. Assumes nothing.
+pub mod Padding
+pub mod Rows
+pub mod Placing
+pub mod Reading
+pub mod Keeping
+pub mod Replying
+pub mod Marks
+pub mod Stepping

@@ -1,0 +1,121 @@
+-- Only SD is placed as SD and only SV as SV, and both leave the state as it is. Assumes nothing.
+use mathlib.Core.Path.{_≡_, refl, ap, _∙_}
+use mathlib.Core.List.{List}
+use Prim.Native.Nat.{ℕ}
+use native.Mathlib.Omega.{arith}
+use Rattle.definition.specs.Types.{State, Result, ok, err, refused, _>>=_}
+use Rattle.definition.specs.Trees.{Tree}
+use Rattle.definition.specs.Place.{place, place-pairs}
+use Rattle.definition.specs.Record as d
+use Rattle.definition.specs.Record.{Record}
+use Rattle.record.specs.Noded.{Noded, SD, FV, NV, SN, JN, SU, UF, RD, IN, TS, NC, BC, SC, SV, place-record}
+
+abbrev own : Noded → ℕ
+own (SD a ps) = 0
+own (FV loc) = 2
+own (NV loc) = 2
+own (SN v loc) = 2
+own (JN a b) = 2
+own (SU a b) = 2
+own (UF t) = 2
+own (RD t) = 2
+own (IN t) = 2
+own (TS ps t) = 2
+own (NC loc k t) = 2
+own (BC loc t) = 2
+own (SC loc t) = 2
+own SV = 1
+
+-- what the record is placed as
+abbrev As : Record → State → State → Noded → Type 0
+As (d.SD a ps) s s′ n = (n ≡ SD a ps) × (s′ ≡ s)
+As (d.FV loc) s s′ n = own n ≡ 2
+As (d.NV loc) s s′ n = own n ≡ 2
+As (d.SN v loc) s s′ n = own n ≡ 2
+As (d.JN a b) s s′ n = own n ≡ 2
+As (d.SU a b) s s′ n = own n ≡ 2
+As (d.UF t) s s′ n = own n ≡ 2
+As (d.RD t) s s′ n = own n ≡ 2
+As (d.IN t) s s′ n = own n ≡ 2
+As (d.TS ps t) s s′ n = own n ≡ 2
+As (d.NC loc k t) s s′ n = own n ≡ 2
+As (d.BC loc t) s s′ n = own n ≡ 2
+As (d.SC loc t) s s′ n = own n ≡ 2
+As d.SV s s′ n = (n ≡ SV) × (s′ ≡ s)
+
+module _ (s′ : State) (n : Noded) where
+  parts : (s : State) (a : Noded) → _≡_ {A = Result (State × Noded)} (ok (s, a)) (ok (s′, n)) → (n ≡ a) × (s′ ≡ s)
+  parts s a e =
+      let f : _≡_ {A = State × Noded} (s′, n) (s, a) = cc in
+      (ap (λ (p : State × Noded). p .1) f, ap (λ (p : State × Noded). p .0) f)
+
+  same : (s : State) (a : Noded) → own a ≡ 2 → _≡_ {A = Result (State × Noded)} (ok (s, a)) (ok (s′, n)) → own n ≡ 2
+  same s a h e = ap own (parts s a e .0) ∙ h
+
+  one : {A : Type 0} (m : Result (State × A)) (f : A → Noded) → ((a : A) → own (f a) ≡ 2) → _≡_ {A = Result (State × Noded)} (m >>= (λ p. ok (p .0, f (p .1)))) (ok (s′, n)) → own n ≡ 2
+  unfolding _>>=_
+  one (ok p) f h e = same (p .0) (f (p .1)) (h (p .1)) e
+  one (err x y) f h e = absurd (let z : _≡_ {A = ℕ} 0 1 = cc in omega arith)
+  one (refused x) f h e = absurd (let z : _≡_ {A = ℕ} 0 1 = cc in omega arith)
+
+  two : {A : Type 0} (m : Result (State × A)) (t : Tree) (f : A → ℕ → Noded) → ((a : A) (b : ℕ) → own (f a b) ≡ 2)
+      → _≡_ {A = Result (State × Noded)} (m >>= (λ p. place t (p .0) >>= (λ q. ok (q .0, f (p .1) (q .1))))) (ok (s′, n)) → own n ≡ 2
+  unfolding _>>=_
+  two (ok p) t f h e = one (place t (p .0)) (f (p .1)) (h (p .1)) e
+  two (err x y) t f h e = absurd (let z : _≡_ {A = ℕ} 0 1 = cc in omega arith)
+  two (refused x) t f h e = absurd (let z : _≡_ {A = ℕ} 0 1 = cc in omega arith)
+
+  placed-as : (x : Record) (s : State) → place-record x s ≡ ok (s′, n) → As x s s′ n
+  unfolding place-record
+  placed-as (d.SD a ps) s e = parts s (SD a ps) e
+  placed-as (d.FV loc) s e = same s (FV loc) refl e
+  placed-as (d.NV loc) s e = same s (NV loc) refl e
+  placed-as (d.SN v loc) s e = same s (SN v loc) refl e
+  placed-as (d.JN a b) s e = two (place a s) b JN (λ x y. refl) e
+  placed-as (d.SU a b) s e = two (place a s) b SU (λ x y. refl) e
+  placed-as (d.UF t) s e = one (place t s) UF (λ x. refl) e
+  placed-as (d.RD t) s e = one (place t s) RD (λ x. refl) e
+  placed-as (d.IN t) s e = one (place t s) IN (λ x. refl) e
+  placed-as (d.TS ps t) s e = two (place-pairs ps s) t TS (λ x y. refl) e
+  placed-as (d.NC loc k t) s e = one (place t s) (NC loc k) (λ x. refl) e
+  placed-as (d.BC loc t) s e = one (place t s) (BC loc) (λ x. refl) e
+  placed-as (d.SC loc t) s e = one (place t s) (SC loc) (λ x. refl) e
+  placed-as d.SV s e = parts s SV e
+
+pub placed-SD : (x : Record) (s s′ : State) (a : ℕ) (ps : List ℕ) → place-record x s ≡ ok (s′, SD a ps) → (x ≡ d.SD a ps) × (s′ ≡ s)
+placed-SD x s s′ a ps e = go x (placed-as s′ (SD a ps) x s e)
+  where
+    go : (x : Record) → As x s s′ (SD a ps) → (x ≡ d.SD a ps) × (s′ ≡ s)
+    go (d.SD b qs) h = let g = h .0 in (cc, h .1)
+    go (d.FV loc) h = absurd (omega arith)
+    go (d.NV loc) h = absurd (omega arith)
+    go (d.SN v loc) h = absurd (omega arith)
+    go (d.JN t u) h = absurd (omega arith)
+    go (d.SU t u) h = absurd (omega arith)
+    go (d.UF t) h = absurd (omega arith)
+    go (d.RD t) h = absurd (omega arith)
+    go (d.IN t) h = absurd (omega arith)
+    go (d.TS qs t) h = absurd (omega arith)
+    go (d.NC loc k t) h = absurd (omega arith)
+    go (d.BC loc t) h = absurd (omega arith)
+    go (d.SC loc t) h = absurd (omega arith)
+    go d.SV h = absurd (let g = h .0 in let z : _≡_ {A = ℕ} 0 1 = cc in omega arith)
+
+pub placed-SV : (x : Record) (s s′ : State) → place-record x s ≡ ok (s′, SV) → s′ ≡ s
+placed-SV x s s′ e = go x (placed-as s′ SV x s e)
+  where
+    go : (x : Record) → As x s s′ SV → s′ ≡ s
+    go (d.SD b qs) h = h .1
+    go (d.FV loc) h = absurd (omega arith)
+    go (d.NV loc) h = absurd (omega arith)
+    go (d.SN v loc) h = absurd (omega arith)
+    go (d.JN t u) h = absurd (omega arith)
+    go (d.SU t u) h = absurd (omega arith)
+    go (d.UF t) h = absurd (omega arith)
+    go (d.RD t) h = absurd (omega arith)
+    go (d.IN t) h = absurd (omega arith)
+    go (d.TS qs t) h = absurd (omega arith)
+    go (d.NC loc k t) h = absurd (omega arith)
+    go (d.BC loc t) h = absurd (omega arith)
+    go (d.SC loc t) h = absurd (omega arith)
+    go d.SV h = h .1

@@ -1,0 +1,204 @@
+-- A record read, placed and answered is a step of the definition. Assumes nothing.
+use mathlib.Core.Path.{_≡_, refl, sym, ap, _∙_, subst}
+use mathlib.Core.Bool.{Bool, true, false, _&&_}
+use mathlib.Core.List.{List}
+use Prim.Native.Nat.{ℕ, _-_, _≤_}
+use native.Mathlib.Omega.{arith}
+use lib.Dec.{ltb}
+use lib.ListN.{length, drop}
+use Rattle.definition.specs.Types.{State, Struct, Refusal, malformed, unknown-name, full, Result, ok, refused, _>>=_, if_then_else_}
+use Rattle.definition.specs.Write.{Bytes, Is-bytes}
+use Rattle.definition.specs.Reader.{Read, got}
+use Rattle.definition.specs.Record.{Record, read-record}
+use Rattle.definition.specs.Sound.{sound}
+use Rattle.definition.specs.Step as step
+use Rattle.definition.specs.Step.{run, answer, refusal, number-of-refusal}
+use Rattle.definition.proofs.WellRead.{RecordIn, ReadWell, given, well-read}
+use Rattle.table.specs.Tab.{tab}
+use Rattle.table.specs.Rows.{words-at}
+use Rattle.table.specs.Encode.{encode}
+use Rattle.table.specs.State.{view, seen, Grown, Declares}
+use Rattle.table.specs.declared.Used.{Used}
+use Rattle.snap.specs.Snap.{Above, Saved, Since, Undone}
+use Rattle.snap.proofs.Exact.{declares-still, word-for-word}
+use Rattle.lent.specs.Lent.{used-of}
+use Rattle.lent.proofs.Lays.{lent-declares}
+use Rattle.reader.specs.Taken.{Arities, stopped, placed, place-read}
+use Rattle.reader.specs.declared.Part.{Part}
+use Rattle.reader.specs.declared.Part.the-variants.{At, Full, Malformed, Unknown}
+use Rattle.record.specs.Noded.{Noded, place-record, noded, Part-so, Noded-in, part-with, Record-is}
+use Rattle.record.specs.declared.Fields.{Fields}
+use Rattle.answer.specs.Ran.{refused-by, Answers}
+use Rattle.answer.specs.declared.Answer.{Answer}
+use Rattle.answer.proofs.Calls.{grown-above}
+use Rattle.dispatch.specs.Dispatch.{noded-run}
+use Rattle.dispatch.proofs.Placed.{run-placed}
+use Rattle.dispatch.proofs.Inside.{noded-in-more}
+use Rattle.step.specs.declared.Stepped.{Stepped}
+use Rattle.step.specs.Trusted.{held, Stands, answered, unread, Steps}
+use Rattle.step.specs.Replies.{Replied, Begun, Begins, Ends, place-after}
+use Rattle.step.proofs.Reading.{stop-is, Got, got-is, answered-not, unread-not, unread-got, answered-got}
+use Rattle.step.proofs.Keeping.{bytes-after, answered-sound, view-arities}
+use Rattle.step.proofs.Replying.{declared-in, stands-arities, reply-refused}
+
+pub number-5 : number-of-refusal malformed ≡ 5
+unfolding number-of-refusal
+number-5 = refl
+
+pub number-6 : number-of-refusal unknown-name ≡ 6
+unfolding number-of-refusal
+number-6 = refl
+
+-- what read_record asks
+pub reading-arities : {w : List ℕ} {u : Used} {params : List (List ℕ)} → Stands w u params → Arities (view w u .structs)
+reading-arities {w} {u} {params} s = view-arities w u _ (lent-declares w params u) (stands-arities s)
+
+abbrev gone : Answer → ℕ → Stepped
+gone a next = record { number = a .number; len = a .len; used = a .used; next = next }
+
+-- what was read well
+record-in : (s : State) (bytes : Bytes) → Is-bytes bytes → (x : Record) (l : Bytes) → read-record s bytes ≡ got x l → RecordIn s x
+record-in s bytes is x l e = go (subst (λ (r : Read Record). ReadWell (Unit {0}) s (length bytes - 1) r) e (well-read (Unit {0}) s bytes (λ y. is)))
+  where
+    go : {n : ℕ} → ReadWell (Unit {0}) s n (got x l) → RecordIn s x
+    go (given p i k) = p .1 tt
+
+-- what was read of the state that words and bytes hold
+module _ {w : List ℕ} {u : Used} (params : List (List ℕ)) {stream : Bytes} {at : ℕ} {w₁ : List ℕ} {f : Fields} (c : Record-is w u stream at w₁ f) where
+  read-is : (p : Part) → f .part ≡ p → part-with p (noded (f .mark) f) (seen w₁ (f .used) (declared-in w u params)) (drop (f .next) stream) ≡ place-read false place-record (read-record (held w u params) (drop at stream)) (held w u params)
+  unfolding held
+  read-is p e = ap (λ (q : Part). part-with q (noded (f .mark) f) (seen w₁ (f .used) (declared-in w u params)) (drop (f .next) stream)) (sym e) ∙ c .is (declared-in w u params) (lent-declares w params u)
+
+  -- the splitter
+  rest-is : unread (held w u params) (drop at stream) ≡ drop (place-after (f .part) at (f .next)) stream
+  rest-is = go (f .part) refl
+    where
+      r : Read Record
+      r = read-record (held w u params) (drop at stream)
+
+      more : (q : Result (State × Noded)) → placed q (drop (f .next) stream) ≡ place-read false place-record r (held w u params) → unread (held w u params) (drop at stream) ≡ drop (f .next) stream
+      more q e = let i = got-is r q (drop (f .next) stream) (held w u params) e in unread-got false (held w u params) (drop at stream) (i .what) (drop (f .next) stream) (i .read)
+
+      none : (x : Refusal) → stopped x ≡ place-read false place-record r (held w u params) → unread (held w u params) (drop at stream) ≡ drop at stream
+      none x e = unread-not false (held w u params) (drop at stream) x (stop-is r x (held w u params) e)
+
+      go : (p : Part) → f .part ≡ p → unread (held w u params) (drop at stream) ≡ drop (place-after p at (f .next)) stream
+      go (At t) e = more _ (read-is (At t) e)
+      go Full e = more _ (read-is Full e)
+      go Malformed e = none _ (read-is Malformed e)
+      go Unknown e = none _ (read-is Unknown e)
+
+rest-within : (p : Part) (at next n : ℕ) → at ≤ n → next ≤ n → place-after p at next ≤ n
+rest-within (At t) at next n a b = b
+rest-within Full at next n a b = b
+rest-within Malformed at next n a b = a
+rest-within Unknown at next n a b = a
+
+pub splits : {w : List ℕ} {u : Used} (params : List (List ℕ)) {stream : Bytes} {w₁ : List ℕ} {f : Fields} → Record-is w u stream 0 w₁ f → {r : ℕ} → r ≡ place-after (f .part) 0 (f .next) → (r ≤ length stream) × (unread (held w u params) stream ≡ drop r stream)
+splits params {stream} {f = f} c e = rw e (rest-within (f .part) 0 (f .next) (length stream) (omega arith) (c .within), rest-is params c)
+
+-- the words as they were, once the counts are written again
+pub words-back : {w : List ℕ} {u : Used} {params : List (List ℕ)} {saved w₁ : List ℕ} {v : Used} {w₂ w₃ : List ℕ} → Stands w u params → u ≡ used-of w → Saved w u saved → Grown (view w u) (view w₁ v) → Undone w₁ v w₂ u saved
+    → ((ds : List Struct) → Declares w₂ u ds → w₃ ≡ encode (seen w₂ u ds)) → w₃ ≡ w
+unfolding words-at tab used-of
+words-back {w} {u} {params} {saved} {w₁} {v} {w₂} {w₃} s counts kept g undone written =
+    let same = undone w (record { lay = s .lay; kept = kept; grown = g }) .1 in
+    let d = lent-declares w params u in
+    let ds = declared-in w u params in
+    word-for-word w w₂ u ds same d w₃ (s .lay) (rw counts refl) (written ds (declares-still w w₂ u ds same d))
+
+module _ {w : List ℕ} {u : Used} {params : List (List ℕ)} (stream : Bytes) (at : ℕ) (s : Stands w u params) (is : Is-bytes stream) where
+  abbrev s₀ : State
+  s₀ = held w u params
+
+  abbrev bytes : Bytes
+  bytes = drop at stream
+
+  steps : (whole : Bool) {buf w′ : List ℕ} {params′ : List (List ℕ)} {buf′ : List ℕ} {a : Answer} {r : Stepped} → Replied buf w′ params′ buf′ a (answered whole s₀ bytes)
+      → (next : ℕ) → next ≤ length stream → unread s₀ bytes ≡ drop next stream → r ≡ gone a next → Steps whole w u params stream at buf w′ params′ buf′ r
+  steps whole p next le rest e =
+      rw e (record {
+        stands = record { lay = p .lay; bytes = p .bytes; is-sound = ap (λ (x : step.Answer). sound (x .state)) (sym (p .is)) ∙ answered-sound whole s₀ bytes (bytes-after at stream is) (s .is-sound) };
+        few = p .few;
+        buffer = p .rest;
+        within = le;
+        is = p .is;
+        rest = rest;
+      })
+
+  module _ {saved w₁ : List ℕ} {f : Fields} (kept : Saved w u saved) (c : Record-is w u stream at w₁ f) where
+    abbrev ds : List Struct
+    ds = declared-in w u params
+
+    since : Since w u saved w₁ (f .used)
+    since = record { lay = s .lay; kept = kept; grown = c .grown }
+
+    pub read-above : Above u (f .used)
+    read-above = grown-above w u w₁ (f .used) (c .grown)
+
+    -- a refusal's number, and what it leaves
+    abbrev Refuses : ℕ → List ℕ → Answer → Type 0
+    Refuses number w′ a = (x : Refusal) (buf : List ℕ) → number-of-refusal x ≡ number → Answers w₁ (f .used) u saved buf w′ buf a (refused-by x)
+
+    refused-by-x : (whole : Bool) (x : Refusal) {number : ℕ} {w′ : List ℕ} {a : Answer} → Refuses number w′ a → number-of-refusal x ≡ number → answered whole s₀ bytes ≡ refusal s₀ x
+        → (buf : List ℕ) → Replied buf w′ params buf a (answered whole s₀ bytes)
+    refused-by-x whole x g n e buf = rw e (reply-refused x buf s since (c .structs) (g x buf n))
+
+    -- 5, 6
+    pub steps-stopped : (whole : Bool) (p : Part) (x : Refusal) → ((g : ℕ → Noded) (t : State) (l : Bytes) → part-with p g t l ≡ stopped x) → f .part ≡ p → at ≤ length stream
+        → {number : ℕ} {w′ : List ℕ} {a : Answer} → Refuses number w′ a → number-of-refusal x ≡ number → (buf : List ℕ) {r : Stepped} → r ≡ gone a at → Steps whole w u params stream at buf w′ params buf r
+    steps-stopped whole p x h e le g n buf q =
+        let i = stop-is (read-record s₀ bytes) x s₀ (sym (h (noded (f .mark) f) _ _) ∙ read-is params c p e) in
+        steps whole (refused-by-x whole x g n (answered-not whole s₀ bytes x i) buf) at le (unread-not whole s₀ bytes x i) q
+
+    module _ (whole over : Bool) (o : over ≡ whole && ltb (f .next) (length stream)) where
+      abbrev Read-as : Result (State × Noded) → Type 0
+      Read-as q = Got (read-record s₀ bytes) q (drop (f .next) stream) s₀
+
+      got-steps : {q : Result (State × Noded)} → Read-as q → {buf w′ : List ℕ} {params′ : List (List ℕ)} {buf′ : List ℕ} {a : Answer} {r : Stepped} → Replied buf w′ params′ buf′ a (answered whole s₀ bytes) → r ≡ gone a (f .next)
+          → Steps whole w u params stream at buf w′ params′ buf′ r
+      got-steps i p e = steps whole p (f .next) (c .within) (unread-got whole s₀ bytes (i .what) (drop (f .next) stream) (i .read)) e
+
+      -- 7, but bytes left over are 5
+      pub steps-full : f .part ≡ Full → {number : ℕ} {w′ : List ℕ} {a : Answer} → Refuses number w′ a → number ≡ (if over then 5 else 7) → (buf : List ℕ) {r : Stepped} → r ≡ gone a (f .next)
+          → Steps whole w u params stream at buf w′ params buf r
+      unfolding _>>=_ answer number-of-refusal
+      steps-full e {number} {w′} {a} g n buf q =
+          let i : Read-as (refused full) = got-is (read-record s₀ bytes) (refused full) (drop (f .next) stream) s₀ (read-is params c Full e) in
+          let ran : run s₀ (i .what) ≡ refused full = run-placed s₀ (i .what) ∙ ap (λ (m : Result (State × Noded)). m >>= (λ q. noded-run (q .1) (q .0) s₀)) (i .placed) in
+          let told = answered-got whole s₀ bytes (i .what) stream (f .next) (i .read) over o ∙ ap (λ (m : Result (State × Bytes)). if over then refusal s₀ malformed else answer s₀ m) ran in
+          got-steps i (go over n told) q
+        where
+          go : (b : Bool) → number ≡ (if b then 5 else 7) → answered whole s₀ bytes ≡ (if b then refusal s₀ malformed else refusal s₀ full) → Replied buf w′ params buf a (answered whole s₀ bytes)
+          go true n t = refused-by-x whole malformed g (sym n) t buf
+          go false n t = refused-by-x whole full g (sym n) t buf
+
+      module _ (t : ℕ) (e : f .part ≡ At t) where
+        abbrev n : Noded
+        n = noded (f .mark) f t
+
+        at-node : Read-as (ok (seen w₁ (f .used) ds, n))
+        at-node = got-is (read-record s₀ bytes) (ok (seen w₁ (f .used) ds, n)) (drop (f .next) stream) s₀ (read-is params c (At t) e)
+
+        told : answered whole s₀ bytes ≡ (if over then refusal s₀ malformed else answer s₀ (run s₀ (at-node .what)))
+        told = answered-got whole s₀ bytes (at-node .what) stream (f .next) (at-node .read) over o
+
+        begun : Begun w u params saved w₁ (f .used) (at-node .what) n
+        begun = record { stands = s; since = since; structs = c .structs; fields = record-in s₀ bytes (bytes-after at stream is) _ _ (at-node .read); placed = at-node .placed }
+
+        pub begins : Begins u params saved w₁ (f .used) n
+        begins = record { words = w; what = at-node .what; from = begun }
+
+        pub placed-in : Noded-in (f .mark) (f .used .vars) (f .used .nodes) f t
+        placed-in = noded-in-more (f .mark) (u .vars) (f .used .nodes) f t (subst (λ (p : Part). Part-so p (Noded-in (f .mark) (u .vars) (f .used .nodes) f)) e (c .inside)) (f .used .vars) (f .used .nodes) (read-above .vars) (omega arith)
+
+        -- bytes left over
+        pub steps-over : over ≡ true → {w′ : List ℕ} {a : Answer} → Refuses 5 w′ a → (buf : List ℕ) {r : Stepped} → r ≡ gone a (f .next) → Steps whole w u params stream at buf w′ params buf r
+        unfolding number-of-refusal
+        steps-over b g buf q = got-steps at-node (refused-by-x whole malformed g refl (told ∙ ap (λ (x : Bool). if x then refusal s₀ malformed else answer s₀ (run s₀ (at-node .what))) b) buf) q
+
+        pub steps-run : over ≡ false → {buf w′ : List ℕ} {params′ : List (List ℕ)} {buf′ : List ℕ} {a : Answer} → Ends u params saved w₁ (f .used) n buf w′ params′ buf′ a → {r : Stepped} → r ≡ gone a (f .next)
+            → Steps whole w u params stream at buf w′ params′ buf′ r
+        steps-run b {buf} {w′} {params′} {buf′} {a} g q =
+            let p : Replied buf w′ params′ buf′ a (answered whole s₀ bytes) = rw (told ∙ ap (λ (x : Bool). if x then refusal s₀ malformed else answer s₀ (run s₀ (at-node .what))) b) (g w (at-node .what) begun) in
+            got-steps at-node p q

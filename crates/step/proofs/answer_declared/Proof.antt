@@ -1,0 +1,51 @@
+-- `step::answer_declared` meets its contract. Assumes nothing.
+use mathlib.Core.Path.{refl}
+use Rattle.step.proofs.Replying.{begun-above, declared-bytes, declared-row, reply-declared}
+use borrow.Author.Needs.{needs}
+use Rattle.step.proofs.answer_declared.Statement.{statement}
+use Rattle.step.proofs.answer_declared.Tie as tie
+
+ability-set-requires : tie.Need-ability-set-requires
+ability-set-requires c κs = search needs
+
+run-declare-requires : tie.Need-run-declare-requires
+run-declare-requires c κs = search needs
+
+answer-of-requires : tie.Need-answer-of-requires
+answer-of-requires c κs = let d = rw (c .before .before .before .before .before .ability-set .ensures) at (c .before .before .before .before .run-declare .ensures) in ((d .lay, (begun-above (c .before .before .before .before .before .before .before .before .before .before .pre .1) _ _ (d .grown), c .before .before .before .before .before .before .before .before .before .before .pre .0 .1 .1 .1 .0)), (d .tells, (declared-bytes (c .before .before .before .before .before .before .before .before .before .before .pre .1 .from) d, c .before .before .before .before .before .before .before .before .before .before .pre .0 .1 .1 .1 .1)))
+
+done-of-requires : tie.Need-done-of-requires
+done-of-requires c κs = search needs
+
+row-for-requires : tie.Need-row-for-requires
+row-for-requires c κs = search needs
+
+padded-requires : tie.Need-padded-requires
+padded-requires c κs = c .before .before .before .before .before .before .before .before .before .before .before .before .before .before .before .before .before .before .pre .0 .1 .1 .0
+
+with-row-requires : tie.Need-with-row-requires
+with-row-requires c κs = declared-row _ _ (c .before .before .before .before .before .before .before .before .before .before .before .before .before .before .before .before .before .before .before .pre .1 .from) (rw (c .before .before .before .before .before .before .before .before .before .before .before .before .before .before .ability-set .ensures) at (c .before .before .before .before .before .before .before .before .before .before .before .before .before .run-declare .ensures)) (c .padded .ensures .1) (c .before .before .before .before .before .before .before .before .before .before .before .before .before .before .before .before .before .before .before .pre .0 .1 .1 .0) _ _ _ (c .before .before .before .done-of .ensures) (c .before .before .row-for .ensures)
+
+same-length : tie.Need-same-length
+same-length c = search needs
+
+same-length-2 : tie.Need-same-length-2
+same-length-2 c = search needs
+
+returns : tie.Need-returns
+returns c = λ w₀ x b. reply-declared _ _ b (rw (c .before .before .before .before .before .before .before .before .before .before .before .before .before .before .before .ability-set .ensures) at (c .before .before .before .before .before .before .before .before .before .before .before .before .before .before .run-declare .ensures)) (c .before .padded .ensures .1) (c .before .before .before .before .before .before .before .before .before .before .before .before .before .before .before .before .before .before .before .before .pre .0 .1 .1 .0) _ _ _ (c .before .before .before .before .done-of .ensures) (c .before .before .before .row-for .ensures) (c .before .before .before .before .before .before .before .before .before .answer-of .ensures) refl _ (c .before .padded .ensures .0) _ (c .with-row .ensures)
+
+pub answer-declared-spec : {M : Type 1} → statement M
+answer-declared-spec =
+    tie.close
+    (tie.spec
+    ability-set-requires
+    run-declare-requires
+    answer-of-requires
+    done-of-requires
+    row-for-requires
+    padded-requires
+    with-row-requires
+    same-length
+    same-length-2
+    returns)

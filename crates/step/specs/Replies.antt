@@ -1,0 +1,108 @@
+-- The run of a record that is read and placed: what it starts from, and what its answer leaves in words, parameter bytes and buffer. Assumes nothing: these are definitions.
+use mathlib.Core.Path.{_≡_}
+use mathlib.Core.Bool.{Bool, true, false}
+use mathlib.Core.List.{List, _++_}
+use Prim.Native.Nat.{ℕ, _≤_}
+use lib.ListN.{getD, take, drop}
+use Rattle.definition.specs.Types.{ok}
+use Rattle.definition.specs.Record.{Record}
+use Rattle.definition.specs.Step as step
+use Rattle.definition.specs.Step.{run, answer}
+use Rattle.definition.proofs.WellRead.{RecordIn}
+use Rattle.table.specs.Tab.{tab}
+use Rattle.table.specs.State.{view, seen, Lay}
+use Rattle.table.specs.declared.Used.{Used}
+use Rattle.table.specs.declared.Found.{Found}
+use Rattle.table.specs.declared.Found.the-variants.{Nothing, Just}
+use Rattle.lent.specs.Lent.{structs-of, encode-params}
+use Rattle.snap.specs.Snap.{Since}
+use Rattle.reader.specs.declared.Part.{Part}
+use Rattle.reader.specs.declared.Part.the-variants.{At, Full, Malformed, Unknown}
+use Rattle.record.specs.Noded.{Noded, place-record}
+use Rattle.record.specs.declared.RecordMark.{RecordMark}
+use Rattle.record.specs.declared.RecordMark.the-variants as m
+use Rattle.answer.specs.declared.Answer.{Answer}
+use Rattle.step.specs.Trusted.{held, Stands}
+
+-- the answer a is r: the payload stands in front of the buffer, and its state is what words and bytes hold, the bytes being just its declarations'
+pub record Replied (buf w′ : List ℕ) (params′ : List (List ℕ)) (buf′ : List ℕ) (r : Answer) (a : step.Answer) : Type 0 where
+  pub lay : Lay w′ (r .used)
+  pub bytes : params′ ≡ encode-params (held w′ (r .used) params′)
+  pub few : r .len ≤ 4096
+  pub rest : buf′ ≡ take (r .len) buf′ ++ drop (r .len) buf
+  pub is : a ≡ record { number = r .number; payload = take (r .len) buf′; state = held w′ (r .used) params′ }
+
+-- the record x of a sound state, held in w₀ and saved, is placed in w: n is left to run
+pub record Begun (w₀ : List ℕ) (before : Used) (params : List (List ℕ)) (saved w : List ℕ) (u : Used) (x : Record) (n : Noded) : Type 0 where
+  pub stands : Stands w₀ before params
+  pub since : Since w₀ before saved w u
+  pub structs : view w u .structs ≡ view w₀ before .structs
+  pub fields : RecordIn (held w₀ before params) x
+  pub placed : place-record x (held w₀ before params) ≡ ok (seen w u (structs-of w₀ params (before .structs)), n)
+
+-- .. of some sound state
+pub record Begins (before : Used) (params : List (List ℕ)) (saved w : List ℕ) (u : Used) (n : Noded) : Type 0 where
+  pub words : List ℕ
+  pub what : Record
+  pub from : Begun words before params saved w u what n
+
+-- r answers the run of that record
+abbrev pub Ends : Used → List (List ℕ) → List ℕ → List ℕ → Used → Noded → List ℕ → List ℕ → List (List ℕ) → List ℕ → Answer → Type 0
+Ends before params saved w u n buf w′ params′ buf′ r =
+    (w₀ : List ℕ) (x : Record) → Begun w₀ before params saved w u x n → Replied buf w′ params′ buf′ r (answer (held w₀ before params) (run (held w₀ before params) x))
+
+-- ---- SD's row
+
+-- the row of a new struct, if there is one and the state is kept
+abbrev pub row-for : Found → Bool → ℕ → Found
+row-for Nothing kept n = Nothing
+row-for (Just t) true n = Just n
+row-for (Just t) false n = Nothing
+
+-- the first n bytes, and zeros
+unfoldable pub padded : List ℕ → ℕ → List ℕ
+padded bytes n = tab 8 (λ k. getD (take n bytes) k 0)
+
+-- ---- the marks that have their own calls. Other stands for none, and is placed as SV
+
+abbrev pub declares : RecordMark → Bool
+declares m.SD = true
+declares m.FV = false
+declares m.NV = false
+declares m.SN = false
+declares m.JN = false
+declares m.SU = false
+declares m.UF = false
+declares m.RD = false
+declares m.TS = false
+declares m.IN = false
+declares m.NC = false
+declares m.BC = false
+declares m.SC = false
+declares m.SV = false
+declares m.Other = false
+
+abbrev pub solves : RecordMark → Bool
+solves m.SD = false
+solves m.FV = false
+solves m.NV = false
+solves m.SN = false
+solves m.JN = false
+solves m.SU = false
+solves m.UF = false
+solves m.RD = false
+solves m.TS = false
+solves m.IN = false
+solves m.NC = false
+solves m.BC = false
+solves m.SC = false
+solves m.SV = true
+solves m.Other = true
+
+-- ---- the stream after a record
+
+abbrev pub place-after : Part → ℕ → ℕ → ℕ
+place-after (At t) at next = next
+place-after Full at next = next
+place-after Malformed at next = at
+place-after Unknown at next = at

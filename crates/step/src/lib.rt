@@ -1,0 +1,270 @@
+// One record of a sound state: read, placed, run and answered; a refusal leaves all as at entry.
+ghost use mathlib.Core.Path.{_≡_};
+ghost use mathlib.Core.Bool.{_&&_};
+ghost use Prim.Native.Nat.{_≤_};
+ghost use lib.Dec.{ltb};
+ghost use lib.ListN.{length, take, drop};
+ghost use Rattle.definition.specs.Types.{if_then_else_};
+ghost use Rattle.definition.specs.Write.{Is-bytes};
+ghost use Rattle.table.specs.State.{Lay};
+ghost use Rattle.lent.specs.Lent.{used-of};
+ghost use Rattle.record.specs.Noded.{SD, noded, Noded-in};
+ghost use Rattle.step.specs.Trusted.{held, Stands, unread, Steps};
+ghost use Rattle.step.specs.Replies.{Begins, Ends, row-for, padded, declares, solves, place-after};
+use answer::Answer;
+use names::AbilitySet;
+use reader::Part;
+use record::Fields;
+use record::RecordMark;
+use table::Found;
+use table::Used;
+
+// One record's answer, the rows in use after it, and where the rest of the stream begins.
+pub struct Stepped {
+    pub number: u32,
+    pub len: usize,
+    pub used: Used,
+    pub next: usize,
+}
+
+fn with_next(a: Answer, next: usize) -> Stepped
+    ensures { λ r. ⌜ r ≡ record { number = a .number; len = a .len; used = a .used; next = next } ⌝ }
+{
+    let u = a.used;
+    Stepped {
+        number: a.number,
+        len: a.len,
+        used: u,
+        next: next,
+    }
+}
+
+// ---- SD
+
+fn wide(x: u32) -> usize
+    ensures { λ r. ⌜ r ≡ x ⌝ }
+{
+    x as usize
+}
+
+fn ability_set(x: u32) -> AbilitySet
+    requires { ⌜ x ≤ 15 ⌝ }
+    ensures { λ r. ⌜ r .0 ≡ x ⌝ }
+{
+    AbilitySet(x as u8)
+}
+
+// A new struct's row, if there is one and the state is kept.
+fn row_for(number: Found, kept: bool, n: u32) -> Found
+    ensures { λ r. ⌜ r ≡ row-for number kept n ⌝ }
+{
+    match number {
+        Found::Nothing => Found::Nothing,
+        Found::Just(_) => {
+            if kept {
+                return Found::Just(n);
+            }
+            Found::Nothing
+        }
+    }
+}
+
+// The first n bytes, and zeros.
+fn padded(bytes: [u8; 8], n: u32) -> [u8; 8]
+    requires { ⌜ n ≤ 8 ⌝ }
+    ensures { λ r. ⌜ (r ≡ padded bytes n) × (length bytes ≡ 8) ⌝ }
+{
+    let mut row = bytes;
+    let mut i = wide(n);
+    while i < 8 {
+        row[i] = 0;
+        i = i + 1;
+    }
+    row
+}
+
+// The bytes go into the row of the struct's number.
+fn answer_declared(
+    w: &mut [u32],
+    u: Used,
+    before: Used,
+    params: &mut [[u8; 8]; 256],
+    saved: &[u32],
+    abilities: u32,
+    many: u32,
+    bytes: [u8; 8],
+    buf: &mut [u8],
+) -> Answer
+    requires { ⌜ Lay (now w) u × ((abilities ≤ 15) × ((many ≤ 8) × ((5120 ≤ length (now saved)) × (4096 ≤ length (now buf))))) ⌝ }
+    requires { ⌜ Begins before (now params) (now saved) (now w) u (SD abilities (take many bytes)) ⌝ }
+    ensures { λ r. ⌜ Ends before (now (params .entry)) (now (saved .entry)) (now (w .entry)) u (SD abilities (take many bytes)) (now (buf .entry)) (now (w .exit)) (now (params .exit)) (now (buf .exit)) r ⌝ }
+{
+    let r = run::run_declare(w, u, ability_set(abilities), many);
+    let o = r.out;
+    let a = answer::answer_of(w, before, saved, r, buf);
+    let n = row_for(table::done_of(o), a.kept, u.structs);
+    *params = run::with_row(*params, n, padded(bytes, many));
+    a
+}
+
+// ---- the marks
+
+fn declares(mark: RecordMark) -> bool
+    ensures { λ r. ⌜ r ≡ declares mark ⌝ }
+{
+    match mark {
+        RecordMark::SD => true,
+        RecordMark::FV => false,
+        RecordMark::NV => false,
+        RecordMark::SN => false,
+        RecordMark::JN => false,
+        RecordMark::SU => false,
+        RecordMark::UF => false,
+        RecordMark::RD => false,
+        RecordMark::TS => false,
+        RecordMark::IN => false,
+        RecordMark::NC => false,
+        RecordMark::BC => false,
+        RecordMark::SC => false,
+        RecordMark::SV => false,
+        RecordMark::Other => false,
+    }
+}
+
+fn solves(mark: RecordMark) -> bool
+    ensures { λ r. ⌜ r ≡ solves mark ⌝ }
+{
+    match mark {
+        RecordMark::SD => false,
+        RecordMark::FV => false,
+        RecordMark::NV => false,
+        RecordMark::SN => false,
+        RecordMark::JN => false,
+        RecordMark::SU => false,
+        RecordMark::UF => false,
+        RecordMark::RD => false,
+        RecordMark::TS => false,
+        RecordMark::IN => false,
+        RecordMark::NC => false,
+        RecordMark::BC => false,
+        RecordMark::SC => false,
+        RecordMark::SV => true,
+        RecordMark::Other => true,
+    }
+}
+
+// What was read and placed is run and answered; t is the node of the last type.
+fn answer_placed(
+    w: &mut [u32],
+    u: Used,
+    before: Used,
+    params: &mut [[u8; 8]; 256],
+    saved: &[u32],
+    f: Fields,
+    t: u32,
+    buf: &mut [u8],
+) -> Answer
+    requires { ⌜ Lay (now w) u × (Noded-in (f .mark) (u .vars) (u .nodes) f t × ((5120 ≤ length (now saved)) × (4096 ≤ length (now buf)))) ⌝ }
+    requires { ⌜ Begins before (now params) (now saved) (now w) u (noded (f .mark) f t) ⌝ }
+    ensures { λ r. ⌜ Ends before (now (params .entry)) (now (saved .entry)) (now (w .entry)) u (noded (f .mark) f t) (now (buf .entry)) (now (w .exit)) (now (params .exit)) (now (buf .exit)) r ⌝ }
+{
+    let mark = f.mark;
+    if declares(mark) {
+        let bytes = f.params;
+        return answer_declared(w, u, before, params, saved, f.a, f.b, bytes, buf);
+    }
+    if solves(mark) {
+        return solve::solve(w, u, saved, buf);
+    }
+    let r = dispatch::run_fields(w, u, params, f, t);
+    answer::answer_of(w, before, saved, r, buf)
+}
+
+// ---- the record
+
+// Whether the record is all that is lent, and bytes are left over.
+fn left_over(whole: bool, next: usize, long: usize) -> bool
+    ensures { λ r. ⌜ r ≡ whole && ltb next long ⌝ }
+{
+    if whole {
+        return next < long;
+    }
+    false
+}
+
+// No space is 7, but bytes left over are 5.
+fn seven_or_five(over: bool) -> u32
+    ensures { λ r. ⌜ r ≡ (if over then 5 else 7) ⌝ }
+{
+    if over {
+        return 5;
+    }
+    7
+}
+
+// whole: the record is all that is lent, and bytes left over are 5, which comes before 7.
+pub fn step_trusted(
+    w: &mut [u32],
+    u: Used,
+    params: &mut [[u8; 8]; 256],
+    stream: &[u8],
+    at: usize,
+    whole: bool,
+    saved: &mut [u32],
+    buf: &mut [u8],
+) -> Stepped
+    requires { ⌜ Stands (now w) u (now params) × (Is-bytes (now stream) × ((at ≤ length (now stream)) × ((5120 ≤ length (now saved)) × (4096 ≤ length (now buf))))) ⌝ }
+    ensures { λ r. ⌜ Steps whole (now (w .entry)) u (now (params .entry)) (now (stream .entry)) at (now (buf .entry)) (now (w .exit)) (now (params .exit)) (now (buf .exit)) r ⌝ }
+{
+    snap::save_vars(w, u, saved);
+    let f = record::read_record(w, u, stream, at);
+    let p = f.part;
+    let v = f.used;
+    let next = f.next;
+    let over = left_over(whole, next, stream.len());
+    match p {
+        Part::Malformed => with_next(answer::refuse(w, v, u, saved, 5), at),
+        Part::Unknown => with_next(answer::refuse(w, v, u, saved, 6), at),
+        Part::Full => with_next(answer::refuse(w, v, u, saved, seven_or_five(over)), next),
+        Part::At(t) => {
+            if over {
+                return with_next(answer::refuse(w, v, u, saved, 5), next);
+            }
+            with_next(answer_placed(w, v, u, params, saved, f, t, buf), next)
+        }
+    }
+}
+
+// ---- the splitter
+
+// Where the stream goes on: 5 and 6 leave it as it is.
+fn place_after(p: Part, at: usize, next: usize) -> usize
+    ensures { λ r. ⌜ r ≡ place-after p at next ⌝ }
+{
+    match p {
+        Part::At(_) => next,
+        Part::Full => next,
+        Part::Malformed => at,
+        Part::Unknown => at,
+    }
+}
+
+// How many bytes the record at the head of the stream has, none on 5 and 6; the words are as they were.
+pub fn rest_trusted(
+    w: &mut [u32],
+    u: Used,
+    params: &[[u8; 8]; 256],
+    stream: &[u8],
+    saved: &mut [u32],
+) -> usize
+    requires { ⌜ Stands (now w) u (now params) × ((u ≡ used-of (now w)) × (5120 ≤ length (now saved))) ⌝ }
+    ensures { λ r. ⌜ (now (w .exit) ≡ now (w .entry)) × ((r ≤ length (now (stream .entry))) × (unread (held (now (w .entry)) u (now (params .entry))) (now (stream .entry)) ≡ drop r (now (stream .entry)))) ⌝ }
+{
+    snap::save_vars(w, u, saved);
+    let f = record::read_record(w, u, stream, 0);
+    let p = f.part;
+    let v = f.used;
+    snap::undo(w, v, u, saved);
+    table::write_used(w, u);
+    place_after(p, 0, f.next)
+}
