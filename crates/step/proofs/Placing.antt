@@ -1,7 +1,7 @@
 -- Only SD is placed as SD and only SV as SV, and both leave the state as it is. Assumes nothing.
-use mathlib.Core.Path.{_≡_, refl, ap, _∙_}
+use mathlib.Core.Path.{_≡_, refl, sym, ap, _∙_}
 use mathlib.Core.List.{List}
-use Prim.Native.Nat.{ℕ}
+use Prim.Native.Nat.{ℕ, _<_}
 use native.Mathlib.Omega.{arith}
 use Rattle.definition.specs.Types.{State, Result, ok, err, refused, _>>=_}
 use Rattle.definition.specs.Trees.{Tree}
@@ -82,11 +82,28 @@ module _ (s′ : State) (n : Noded) where
   placed-as (d.SC loc t) s e = one (place t s) (SC loc) (λ x. refl) e
   placed-as d.SV s e = parts s SV e
 
-pub placed-SD : (x : Record) (s s′ : State) (a : ℕ) (ps : List ℕ) → place-record x s ≡ ok (s′, SD a ps) → (x ≡ d.SD a ps) × (s′ ≡ s)
-placed-SD x s s′ a ps e = go x (placed-as s′ (SD a ps) x s e)
+-- the record that is placed as n
+abbrev whose : Noded → Record
+whose (SD a ps) = d.SD a ps
+whose (FV loc) = d.SV
+whose (NV loc) = d.SV
+whose (SN v loc) = d.SV
+whose (JN a b) = d.SV
+whose (SU a b) = d.SV
+whose (UF t) = d.SV
+whose (RD t) = d.SV
+whose (IN t) = d.SV
+whose (TS ps t) = d.SV
+whose (NC loc k t) = d.SV
+whose (BC loc t) = d.SV
+whose (SC loc t) = d.SV
+whose SV = d.SV
+
+placed-own : (x : Record) (s s′ : State) (n : Noded) → own n < 2 → place-record x s ≡ ok (s′, n) → (x ≡ whose n) × (s′ ≡ s)
+placed-own x s s′ n l e = go x (placed-as s′ n x s e)
   where
-    go : (x : Record) → As x s s′ (SD a ps) → (x ≡ d.SD a ps) × (s′ ≡ s)
-    go (d.SD b qs) h = let g = h .0 in (cc, h .1)
+    go : (x : Record) → As x s s′ n → (x ≡ whose n) × (s′ ≡ s)
+    go (d.SD b qs) h = (sym (ap whose (h .0)), h .1)
     go (d.FV loc) h = absurd (omega arith)
     go (d.NV loc) h = absurd (omega arith)
     go (d.SN v loc) h = absurd (omega arith)
@@ -99,23 +116,10 @@ placed-SD x s s′ a ps e = go x (placed-as s′ (SD a ps) x s e)
     go (d.NC loc k t) h = absurd (omega arith)
     go (d.BC loc t) h = absurd (omega arith)
     go (d.SC loc t) h = absurd (omega arith)
-    go d.SV h = absurd (let g = h .0 in let z : _≡_ {A = ℕ} 0 1 = cc in omega arith)
+    go d.SV h = (sym (ap whose (h .0)), h .1)
+
+pub placed-SD : (x : Record) (s s′ : State) (a : ℕ) (ps : List ℕ) → place-record x s ≡ ok (s′, SD a ps) → (x ≡ d.SD a ps) × (s′ ≡ s)
+placed-SD x s s′ a ps e = placed-own x s s′ (SD a ps) (omega arith) e
 
 pub placed-SV : (x : Record) (s s′ : State) → place-record x s ≡ ok (s′, SV) → s′ ≡ s
-placed-SV x s s′ e = go x (placed-as s′ SV x s e)
-  where
-    go : (x : Record) → As x s s′ SV → s′ ≡ s
-    go (d.SD b qs) h = h .1
-    go (d.FV loc) h = absurd (omega arith)
-    go (d.NV loc) h = absurd (omega arith)
-    go (d.SN v loc) h = absurd (omega arith)
-    go (d.JN t u) h = absurd (omega arith)
-    go (d.SU t u) h = absurd (omega arith)
-    go (d.UF t) h = absurd (omega arith)
-    go (d.RD t) h = absurd (omega arith)
-    go (d.IN t) h = absurd (omega arith)
-    go (d.TS qs t) h = absurd (omega arith)
-    go (d.NC loc k t) h = absurd (omega arith)
-    go (d.BC loc t) h = absurd (omega arith)
-    go (d.SC loc t) h = absurd (omega arith)
-    go d.SV h = h .1
+placed-SV x s s′ e = placed-own x s s′ SV (omega arith) e .1

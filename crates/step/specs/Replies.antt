@@ -22,6 +22,8 @@ use Rattle.record.specs.Noded.{Noded, place-record}
 use Rattle.record.specs.declared.RecordMark.{RecordMark}
 use Rattle.record.specs.declared.RecordMark.the-variants as m
 use Rattle.answer.specs.declared.Answer.{Answer}
+use Rattle.step.specs.declared.Call.{Call}
+use Rattle.step.specs.declared.Call.the-variants.{Declare, Solve, Run}
 use Rattle.step.specs.Trusted.{held, Stands}
 
 -- the answer a is r: the payload stands in front of the buffer, and its state is what words and bytes hold, the bytes being just its declarations'
@@ -63,41 +65,24 @@ row-for (Just t) false n = Nothing
 unfoldable pub padded : List ℕ → ℕ → List ℕ
 padded bytes n = tab 8 (λ k. getD (take n bytes) k 0)
 
--- ---- the marks that have their own calls. Other stands for none, and is placed as SV
+-- ---- by which call a mark is run. Other stands for none, and is placed as SV
 
-abbrev pub declares : RecordMark → Bool
-declares m.SD = true
-declares m.FV = false
-declares m.NV = false
-declares m.SN = false
-declares m.JN = false
-declares m.SU = false
-declares m.UF = false
-declares m.RD = false
-declares m.TS = false
-declares m.IN = false
-declares m.NC = false
-declares m.BC = false
-declares m.SC = false
-declares m.SV = false
-declares m.Other = false
-
-abbrev pub solves : RecordMark → Bool
-solves m.SD = false
-solves m.FV = false
-solves m.NV = false
-solves m.SN = false
-solves m.JN = false
-solves m.SU = false
-solves m.UF = false
-solves m.RD = false
-solves m.TS = false
-solves m.IN = false
-solves m.NC = false
-solves m.BC = false
-solves m.SC = false
-solves m.SV = true
-solves m.Other = true
+abbrev pub call-of : RecordMark → Call
+call-of m.SD = Declare
+call-of m.FV = Run
+call-of m.NV = Run
+call-of m.SN = Run
+call-of m.JN = Run
+call-of m.SU = Run
+call-of m.UF = Run
+call-of m.RD = Run
+call-of m.TS = Run
+call-of m.IN = Run
+call-of m.NC = Run
+call-of m.BC = Run
+call-of m.SC = Run
+call-of m.SV = Solve
+call-of m.Other = Solve
 
 -- ---- the stream after a record
 

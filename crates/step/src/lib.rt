@@ -10,7 +10,7 @@ ghost use Rattle.table.specs.State.{Lay};
 ghost use Rattle.lent.specs.Lent.{used-of};
 ghost use Rattle.record.specs.Noded.{SD, noded, Noded-in};
 ghost use Rattle.step.specs.Trusted.{held, Stands, unread, Steps};
-ghost use Rattle.step.specs.Replies.{Begins, Ends, row-for, padded, declares, solves, place-after};
+ghost use Rattle.step.specs.Replies.{Begins, Ends, row-for, padded, call-of, place-after};
 use answer::Answer;
 use names::AbilitySet;
 use reader::Part;
@@ -109,47 +109,32 @@ fn answer_declared(
 
 // ---- the marks
 
-fn declares(mark: RecordMark) -> bool
-    ensures { λ r. ⌜ r ≡ declares mark ⌝ }
-{
-    match mark {
-        RecordMark::SD => true,
-        RecordMark::FV => false,
-        RecordMark::NV => false,
-        RecordMark::SN => false,
-        RecordMark::JN => false,
-        RecordMark::SU => false,
-        RecordMark::UF => false,
-        RecordMark::RD => false,
-        RecordMark::TS => false,
-        RecordMark::IN => false,
-        RecordMark::NC => false,
-        RecordMark::BC => false,
-        RecordMark::SC => false,
-        RecordMark::SV => false,
-        RecordMark::Other => false,
-    }
+// By which call a mark is run. Other stands for none, and is placed as SV.
+enum Call {
+    Declare,
+    Solve,
+    Run,
 }
 
-fn solves(mark: RecordMark) -> bool
-    ensures { λ r. ⌜ r ≡ solves mark ⌝ }
+fn call_of(mark: RecordMark) -> Call
+    ensures { λ r. ⌜ r ≡ call-of mark ⌝ }
 {
     match mark {
-        RecordMark::SD => false,
-        RecordMark::FV => false,
-        RecordMark::NV => false,
-        RecordMark::SN => false,
-        RecordMark::JN => false,
-        RecordMark::SU => false,
-        RecordMark::UF => false,
-        RecordMark::RD => false,
-        RecordMark::TS => false,
-        RecordMark::IN => false,
-        RecordMark::NC => false,
-        RecordMark::BC => false,
-        RecordMark::SC => false,
-        RecordMark::SV => true,
-        RecordMark::Other => true,
+        RecordMark::SD => Call::Declare,
+        RecordMark::FV => Call::Run,
+        RecordMark::NV => Call::Run,
+        RecordMark::SN => Call::Run,
+        RecordMark::JN => Call::Run,
+        RecordMark::SU => Call::Run,
+        RecordMark::UF => Call::Run,
+        RecordMark::RD => Call::Run,
+        RecordMark::TS => Call::Run,
+        RecordMark::IN => Call::Run,
+        RecordMark::NC => Call::Run,
+        RecordMark::BC => Call::Run,
+        RecordMark::SC => Call::Run,
+        RecordMark::SV => Call::Solve,
+        RecordMark::Other => Call::Solve,
     }
 }
 
@@ -169,15 +154,18 @@ fn answer_placed(
     ensures { λ r. ⌜ Ends before (now (params .entry)) (now (saved .entry)) (now (w .entry)) u (noded (f .mark) f t) (now (buf .entry)) (now (w .exit)) (now (params .exit)) (now (buf .exit)) r ⌝ }
 {
     let mark = f.mark;
-    if declares(mark) {
-        let bytes = f.params;
-        return answer_declared(w, u, before, params, saved, f.a, f.b, bytes, buf);
+    let call = call_of(mark);
+    match call {
+        Call::Declare => {
+            let bytes = f.params;
+            answer_declared(w, u, before, params, saved, f.a, f.b, bytes, buf)
+        }
+        Call::Solve => solve::solve(w, u, saved, buf),
+        Call::Run => {
+            let r = dispatch::run_fields(w, u, params, f, t);
+            answer::answer_of(w, before, saved, r, buf)
+        }
     }
-    if solves(mark) {
-        return solve::solve(w, u, saved, buf);
-    }
-    let r = dispatch::run_fields(w, u, params, f, t);
-    answer::answer_of(w, before, saved, r, buf)
 }
 
 // ---- the record

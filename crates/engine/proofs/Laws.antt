@@ -1,0 +1,189 @@
+-- From a state that was tested once to what the public calls give. Assumes nothing.
+use mathlib.Core.Path.{_≡_, refl, sym, ap, ap₂, _∙_}
+use mathlib.Core.Bool.{Bool, true, false, not, _||_, _&&_}
+use mathlib.Core.List.{List, [], _∷_, _++_}
+use Prim.Native.Nat.{ℕ, suc, _-_, _≤_, _<_}
+use native.Mathlib.Omega.{arith}
+use borrow.Author.Tests.{ne-eqb, lt-leb, le-leb}
+use mir.Syntax.{w8}
+use mir.Val.{Fits}
+use lib.Dec.{leb, ltb, eqb, leb→le}
+use lib.ListN.{length, getD, take, drop, length-take, length-drop}
+use lib.Seq.{take-all}
+use Rattle.definition.specs.Types.{State, Struct, unsound-state}
+use Rattle.definition.specs.Write.{Bytes, Is-bytes}
+use Rattle.definition.specs.Record.{read-record, max-record}
+use Rattle.definition.specs.Sound.{sound}
+use Rattle.definition.specs.Step as step
+use Rattle.definition.specs.Step.{lent, step, step-stream, usable, max-buffer}
+use Rattle.definition.specs.Job.{ends-job}
+use Rattle.definition.specs.Pieces.{max-line, max-place, takes-on, next-lines}
+use Rattle.definition.proofs.Facts.{and-l, and-r, test}
+use Rattle.definition.proofs.SoundKept.{trusted}
+use Rattle.definition.proofs.Soundness.{and, le-test}
+use Rattle.table.specs.Encode.{encode}
+use Rattle.table.specs.State.{seen, Declares}
+use Rattle.table.specs.declared.Used.{Used}
+use Rattle.lent.specs.Lent.{used-of, structs-of, decode, lent-sound}
+use Rattle.lent.proofs.Tested.{lent-says}
+use Rattle.lent.proofs.Lays.{lent-lay, lent-declares}
+use Rattle.step.specs.declared.Stepped.{Stepped}
+use Rattle.engine.specs.declared.Lines.{Lines}
+use Rattle.engine.specs.Public.{Lent-answer, lent-answer, lent-step, in-front, rest-of, Lent-piece, lent-piece, lent-lines}
+use Rattle.step.specs.Trusted.{held, Stands, answered, unread, Steps}
+use Rattle.engine.specs.Lists.{Lists}
+
+pub bytes-of : (l : List ℕ) → ((i : ℕ) → Fits w8 (getD l i 0)) → Is-bytes l
+bytes-of [] f = tt
+bytes-of (x ∷ l) f = (f 0 .fits, bytes-of l (λ i. f (suc i)))
+
+-- ---- from the test on
+
+module _ (w : List ℕ) (p : List (List ℕ)) (h : lent-sound w p ≡ true) (u : Used) (c : u ≡ used-of w) where
+  pub held-lent : held w u p ≡ decode w p
+  unfolding held decode
+  held-lent = rw c refl
+
+  pub stands-lent : Stands w u p
+  unfolding held decode
+  stands-lent = let l = lent-says w p h in rw c (record { lay = lent-lay w p l; bytes = l .bytes; is-sound = l .is-sound })
+
+pub lent-size : (w : List ℕ) (p : List (List ℕ)) → lent-sound w p ≡ true → length w ≡ 24069
+lent-size w p h = lent-lay w p (lent-says w p h) .size
+
+-- where a call ends: the counts are written
+module _ (w : List ℕ) (u : Used) (p : List (List ℕ)) (st : Stands w u p) (w′ : List ℕ) (f : (ds : List Struct) → Declares w u ds → w′ ≡ encode (seen w u ds)) where
+  pub written : w′ ≡ encode (held w u p)
+  unfolding held
+  written = f (structs-of w p (u .structs)) (lent-declares w p u)
+
+-- ---- one lent record
+
+long : (n : ℕ) (l : List ℕ) → n ≤ length l → length (take n l) ≡ n
+long n l h = length-take n l ∙ omega (arith, h)
+
+module _ (w : List ℕ) (p : List (List ℕ)) (h : lent-sound w p ≡ true) (u : Used) (c : u ≡ used-of w) (bytes buf : Bytes) (k : 4096 ≤ length buf) (w′ : List ℕ) (p′ : List (List ℕ)) (buf′ : Bytes) (r : Stepped) (g : Steps true w u p bytes 0 buf w′ p′ buf′ r) (w″ : List ℕ) (e : (ds : List Struct) → Declares w′ (r .used) ds → w″ ≡ encode (seen w′ (r .used) ds)) where
+  steps : step (decode w p) bytes (length buf) ≡ record { number = r .number; payload = take (r .len) buf′; state = held w′ (r .used) p′ }
+  unfolding step usable answered max-buffer
+  steps =
+      let t : usable (decode w p) (length buf) ≡ true = and (le-test 4096 (length buf) k) (lent-says w p h .is-sound) in
+      ap (λ q. elim q as (λ x. step.Answer) [ true ↦ lent (decode w p) (read-record (decode w p) bytes) | false ↦ step.refusal (decode w p) unsound-state ]) t ∙ (rw (held-lent w p h u c) at (g .is))
+
+  recorded : lent-step w p bytes (length buf) ≡ record { number = r .number; payload = take (r .len) buf′; words = w″; params = p′ }
+  unfolding lent-step lent-answer
+  recorded =
+      ap (λ q. elim q as (λ x. Lent-answer) [ true ↦ lent-answer (step (decode w p) bytes (length buf)) | false ↦ record { number = 15; payload = []; words = w; params = p } ]) h
+      ∙ ap lent-answer steps
+      ∙ ap₂ (λ (x : List ℕ) (y : List (List ℕ)). record { number = r .number; payload = take (r .len) buf′; words = x; params = y }) (sym (written w′ (r .used) p′ (g .stands) w″ e)) (sym (g .stands .bytes))
+
+  abbrev a : Lent-answer
+  a = lent-step w p bytes (length buf)
+
+  pub record-gives : length buf′ ≡ length buf → (p′ ≡ a .params) × ((w″ ≡ a .words) × ((r .number ≡ a .number) × ((r .len ≡ length (a .payload)) × (buf′ ≡ in-front (a .payload) buf))))
+  unfolding in-front
+  record-gives l =
+      let n : length (take (r .len) buf′) ≡ r .len = long (r .len) buf′ (omega (arith, l, k, g .few)) in
+      rw recorded (refl, (refl, (refl, (sym n, g .buffer ∙ ap (λ (n : ℕ). take (r .len) buf′ ++ drop n buf) (sym n)))))
+
+-- ---- 15
+
+pub fails-r : (a b : Bool) → b ≡ false → a && b ≡ false
+fails-r true b e = e
+fails-r false b e = refl
+
+pub and-true : (a b : Bool) → b ≡ true → a && b ≡ a
+and-true true b e = e
+and-true false b e = refl
+
+no-room : (s : State) (bytes : Bytes) (buffer : ℕ) → leb 4096 buffer ≡ false → step s bytes buffer ≡ step.refusal s unsound-state
+unfolding step usable max-buffer
+no-room s bytes buffer e = ap {B = step.Answer} (λ b. elim (b && sound s) as (λ x. step.Answer) [ true ↦ lent s (read-record s bytes) | false ↦ step.refusal s unsound-state ]) e
+
+pub unusable : (w : List ℕ) (p : List (List ℕ)) (bytes : Bytes) (buffer : ℕ) → lent-sound w p && leb 4096 buffer ≡ false → lent-step w p bytes buffer ≡ record { number = 15; payload = []; words = w; params = p }
+unfolding lent-step lent-answer step.refusal step.number-of-refusal
+unusable w p bytes buffer e = go (lent-sound w p) refl
+  where
+    go : (b : Bool) → lent-sound w p ≡ b → _≡_ {A = Lent-answer} (elim b as (λ x. Lent-answer) [ true ↦ lent-answer (step (decode w p) bytes buffer) | false ↦ record { number = 15; payload = []; words = w; params = p } ]) (record { number = 15; payload = []; words = w; params = p })
+    go false h = refl
+    go true h =
+        let l = lent-says w p h in
+        ap lent-answer (no-room (decode w p) bytes buffer (rw h at e))
+        ∙ ap₂ (λ (x : List ℕ) (y : List (List ℕ)). record { number = 15; payload = []; words = x; params = y }) (sym (l .words)) (sym (l .bytes))
+
+pub unusable-gives : (w : List ℕ) (p : List (List ℕ)) (bytes buf : Bytes) → lent-sound w p && leb 4096 (length buf) ≡ false
+    → (p ≡ lent-step w p bytes (length buf) .params) × ((w ≡ lent-step w p bytes (length buf) .words) × ((15 ≡ lent-step w p bytes (length buf) .number) × ((0 ≡ length (lent-step w p bytes (length buf) .payload)) × (buf ≡ in-front (lent-step w p bytes (length buf) .payload) buf))))
+unfolding in-front
+unusable-gives w p bytes buf e = rw (unusable w p bytes (length buf) e) (refl, (refl, (refl, (refl, refl))))
+
+pub usable-both : (w : List ℕ) (p : List (List ℕ)) (buffer : ℕ) → lent-sound w p && leb 4096 buffer ≡ true → (lent-sound w p ≡ true) × (4096 ≤ buffer)
+usable-both w p buffer e = (and-l (lent-sound w p) (leb 4096 buffer) e, leb→le 4096 buffer (test (and-r (lent-sound w p) (leb 4096 buffer) e)))
+
+-- ---- the tests of a job
+
+pub ends-five : (n : ℕ) → n ≡ 5 → true ≡ ends-job n
+unfolding ends-job
+ends-five n e = rw e refl
+
+pub ends-other : (n : ℕ) → (n ≡ 5 → ⊥) → eqb n 6 ≡ ends-job n
+unfolding ends-job
+ends-other n d = sym (ap (λ (b : Bool). b || eqb n 6) (ne-eqb n 5 d))
+
+module _ (i : ℕ) (b : Bytes) (room : ℕ) (more : Bool) where
+  abbrev hand : Bool
+  hand = not more || leb 4096 (length b)
+
+  pub takes-none : hand ≡ false → false ≡ takes-on i b room more
+  unfolding takes-on max-record
+  takes-none e = sym (ap (λ (x : Bool). x && (leb max-line room && ltb i max-place)) e)
+
+  pub takes-little : room < 8217 → false ≡ takes-on i b room more
+  unfolding takes-on max-line
+  takes-little l = sym (fails-r (not more || leb max-record (length b)) _ (ap (λ (x : Bool). x && ltb i max-place) (lt-leb 8217 room l)))
+
+  pub takes-last : hand ≡ true → 8217 ≤ room → ltb i 18446744073709551615 ≡ takes-on i b room more
+  unfolding takes-on max-record max-line max-place
+  takes-last e l = sym (ap (λ (x : Bool). x && (leb 8217 room && ltb i 18446744073709551615)) e ∙ ap (λ (x : Bool). x && ltb i 18446744073709551615) (le-leb 8217 room l))
+
+-- ---- a job's lines
+
+module _ (w : List ℕ) (p : List (List ℕ)) (h : lent-sound w p ≡ true) (u : Used) (c : u ≡ used-of w) (place : ℕ) (stream : Bytes) (more : Bool) (log : Bytes) (w′ : List ℕ) (p′ : List (List ℕ)) (log′ : Bytes) (r : Lines) (g : Lists w u p place stream more log w′ p′ log′ r) (w″ : List ℕ) (e : (ds : List Struct) → Declares w′ (r .used) ds → w″ ≡ encode (seen w′ (r .used) ds)) where
+  abbrev lines : Lent-piece
+  lines = lent-lines w p place stream (length log) more
+
+  listed : lines ≡ record { number = 0; text = take (r .written) log′; words = w″; params = p′; rest = drop (r .read) stream; place = r .place; ended = r .ended }
+  unfolding lent-lines lent-piece
+  listed =
+      ap (λ q. elim q as (λ x. Lent-piece) [ true ↦ lent-piece (next-lines place (decode w p) stream (length log) more) | false ↦ record { number = 15; text = []; words = w; params = p; rest = stream; place = place; ended = true } ]) h
+      ∙ ap lent-piece (rw (held-lent w p h u c) at (g .is))
+      ∙ ap₂ (λ (x : List ℕ) (y : List (List ℕ)). record { number = 0; text = take (r .written) log′; words = x; params = y; rest = drop (r .read) stream; place = r .place; ended = r .ended }) (sym (written w′ (r .used) p′ (g .stands) w″ e)) (sym (g .stands .bytes))
+
+  pub job-gives : length log′ ≡ length log
+      → (p′ ≡ lines .params) × ((w″ ≡ lines .words) × ((0 ≡ lines .number) × ((log′ ≡ in-front (lines .text) log) × ((r .written ≡ length (lines .text)) × ((drop (r .read) stream ≡ lines .rest) × ((r .place ≡ lines .place) × ((r .ended ≡ lines .ended) × ((r .read ≤ length stream) × (r .written ≤ length log)))))))))
+  unfolding in-front
+  job-gives l =
+      let n : length (take (r .written) log′) ≡ r .written = long (r .written) log′ (omega (arith, l, g .fits)) in
+      rw listed (refl, (refl, (refl, (g .others ∙ ap (λ (n : ℕ). take (r .written) log′ ++ drop n log) (sym n), (sym n, (refl, (refl, (refl, (g .within, g .fits)))))))))
+
+pub unsound-lines : (w : List ℕ) (p : List (List ℕ)) (place : ℕ) (stream : Bytes) (more : Bool) (log : Bytes) → lent-sound w p ≡ false
+    → (p ≡ lent-lines w p place stream (length log) more .params) × ((w ≡ lent-lines w p place stream (length log) more .words) × ((15 ≡ lent-lines w p place stream (length log) more .number) × ((log ≡ in-front (lent-lines w p place stream (length log) more .text) log) × ((0 ≡ length (lent-lines w p place stream (length log) more .text)) × ((stream ≡ lent-lines w p place stream (length log) more .rest) × ((place ≡ lent-lines w p place stream (length log) more .place) × ((true ≡ lent-lines w p place stream (length log) more .ended) × ((0 ≤ length stream) × (0 ≤ length log)))))))))
+unfolding in-front lent-lines
+unsound-lines w p place stream more log h =
+    let e : lent-lines w p place stream (length log) more ≡ record { number = 15; text = []; words = w; params = p; rest = stream; place = place; ended = true } = ap (λ q. elim q as (λ x. Lent-piece) [ true ↦ lent-piece (next-lines place (decode w p) stream (length log) more) | false ↦ record { number = 15; text = []; words = w; params = p; rest = stream; place = place; ended = true } ]) h in
+    rw e (refl, (refl, (refl, (refl, (refl, (refl, (refl, (refl, (omega arith, omega arith)))))))))
+
+-- ---- the splitter
+
+pub unsound-rest : (w : List ℕ) (p : List (List ℕ)) (stream : Bytes) → lent-sound w p ≡ false → stream ≡ rest-of w p stream
+unfolding rest-of
+unsound-rest w p stream h = sym (ap {B = Bytes} (λ q. elim q as (λ x. Bytes) [ true ↦ step-stream (decode w p) stream max-buffer .1 | false ↦ stream ]) h)
+
+pub sound-rest : (w : List ℕ) (p : List (List ℕ)) → lent-sound w p ≡ true → (u : Used) → u ≡ used-of w → (stream rest : Bytes) → unread (held w u p) stream ≡ rest → rest ≡ rest-of w p stream
+unfolding rest-of unread
+sound-rest w p h u c stream rest e = sym (
+    ap {B = Bytes} (λ q. elim q as (λ x. Bytes) [ true ↦ step-stream (decode w p) stream max-buffer .1 | false ↦ stream ]) h
+    ∙ ap (λ (x : step.Answer × Bytes). x .1) (trusted (decode w p) stream (lent-says w p h .is-sound))
+    ∙ (rw (held-lent w p h u c) at e))
+
+-- a part to the end is what is left
+pub rest-all : (s : List ℕ) (n : ℕ) → take (length s - n) (drop n s) ≡ drop n s
+rest-all s n = let h : length (drop n s) ≤ length s - n = simp length-drop (omega arith) in take-all (length s - n) (drop n s) h

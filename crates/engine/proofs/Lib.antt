@@ -1,0 +1,3 @@
+-- Laws of the public calls. Assumes nothing.
+pub mod Laws
+pub mod Jobs

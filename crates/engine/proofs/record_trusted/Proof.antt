@@ -1,0 +1,43 @@
+-- `engine::record_trusted` meets its contract. Assumes nothing.
+use native.Mathlib.Omega.{arith}
+use borrow.Author.Needs.{needs}
+use Rattle.engine.proofs.Laws.{bytes-of, stands-lent, lent-size, record-gives}
+use Rattle.engine.proofs.record_trusted.Statement.{statement}
+use Rattle.engine.proofs.record_trusted.Tie as tie
+
+used-of-requires : tie.Need-used-of-requires
+used-of-requires c κs = lent-size _ _ (c .before .before .before .before .pre .0)
+
+slice-aggregate-step-trusted : tie.Need-slice-aggregate-step-trusted
+slice-aggregate-step-trusted c = search needs
+
+step-trusted-requires : tie.Need-step-trusted-requires
+step-trusted-requires c κs = (stands-lent _ _ (c .before .before .before .before .before .before .before .before .before .pre .0) _ (c .before .before .before .before .used-of .ensures), (bytes-of (c .before .before .before .before .before .before .before .before .before .args .«record» .now) (c .before .before .before .before .before .before .before .shared-slice-known .given), (omega arith, (omega arith, c .before .before .before .before .before .before .before .before .before .pre .1))))
+
+write-used-requires : tie.Need-write-used-requires
+write-used-requires c κs = search needs
+
+cast-length : tie.Need-cast-length
+cast-length c = search needs
+
+same-length : tie.Need-same-length
+same-length c = search needs
+
+same-length-2 : tie.Need-same-length-2
+same-length-2 c = search needs
+
+returns : tie.Need-returns
+returns c = record-gives _ _ (c .before .before .before .before .before .before .before .before .before .before .before .before .before .before .before .before .before .before .before .before .before .pre .0) _ (c .before .before .before .before .before .before .before .before .before .before .before .before .before .before .before .before .used-of .ensures) _ _ (c .before .before .before .before .before .before .before .before .before .before .before .before .before .before .before .before .before .before .before .before .before .pre .1) _ _ _ _ (c .before .before .before .before .before .before .before .before .before .before .before .step-trusted .ensures) _ (c .before .before .before .write-used .ensures) (c .before .before .before .before .before .before .before .before .before .before .before .step-trusted .kept .1 .1 .1 .1 .1 .1 .1 .0)
+
+pub record-trusted-spec : {M : Type 1} → statement M
+record-trusted-spec =
+    tie.close
+    (tie.spec
+    used-of-requires
+    slice-aggregate-step-trusted
+    step-trusted-requires
+    write-used-requires
+    cast-length
+    same-length
+    same-length-2
+    returns)

@@ -1,0 +1,59 @@
+-- What each public call gives, outright, whatever it is lent. Assumes nothing: these are definitions.
+use mathlib.Core.Bool.{Bool, true, false}
+use mathlib.Core.List.{List, [], _++_}
+use Prim.Native.Nat.{ℕ}
+use lib.ListN.{length, drop}
+use Rattle.definition.specs.Write.{Bytes}
+use Rattle.definition.specs.Step.{Answer, step, step-stream, max-buffer}
+use Rattle.definition.specs.Pieces.{Piece, next-lines}
+use Rattle.table.specs.Encode.{encode}
+use Rattle.lent.specs.Lent.{decode, encode-params, lent-sound}
+
+-- ---- one lent record
+
+-- number and payload, and the words and parameter bytes that are left
+pub record Lent-answer : Type 0 where
+  pub number : ℕ
+  pub payload : Bytes
+  pub words : List ℕ
+  pub params : List (List ℕ)
+
+unfoldable pub lent-answer : Answer → Lent-answer
+lent-answer a = record { number = a .number; payload = a .payload; words = encode (a .state); params = encode-params (a .state) }
+
+-- the definition's step on the state that is lent; words that no sound state has are 15
+unfoldable pub lent-step : List ℕ → List (List ℕ) → Bytes → ℕ → Lent-answer
+lent-step w params bytes buffer = elim (lent-sound w params) [
+  | true ↦ lent-answer (step (decode w params) bytes buffer)
+  | false ↦ record { number = 15; payload = []; words = w; params = params }
+]
+
+-- bytes in front of a buffer, which is else as it was
+unfoldable pub in-front : Bytes → Bytes → Bytes
+in-front bytes buffer = bytes ++ drop (length bytes) buffer
+
+-- ---- the splitter: the stream after one record, all of it on 5, 6 and 15
+
+unfoldable pub rest-of : List ℕ → List (List ℕ) → Bytes → Bytes
+rest-of w params stream = elim (lent-sound w params) [ true ↦ step-stream (decode w params) stream max-buffer .1 | false ↦ stream ]
+
+-- ---- a job's next lines
+
+-- 0, or 15 for an unsound state, which ends the job; the lines; words and bytes; the unread rest, the next record's number, and whether the job ended
+pub record Lent-piece : Type 0 where
+  pub number : ℕ
+  pub text : Bytes
+  pub words : List ℕ
+  pub params : List (List ℕ)
+  pub rest : Bytes
+  pub place : ℕ
+  pub ended : Bool
+
+unfoldable pub lent-piece : Piece → Lent-piece
+lent-piece p = record { number = 0; text = p .text; words = encode (p .state); params = encode-params (p .state); rest = p .rest; place = p .place; ended = p .ended }
+
+unfoldable pub lent-lines : List ℕ → List (List ℕ) → ℕ → Bytes → ℕ → Bool → Lent-piece
+lent-lines w params place stream room more = elim (lent-sound w params) [
+  | true ↦ lent-piece (next-lines place (decode w params) stream room more)
+  | false ↦ record { number = 15; text = []; words = w; params = params; rest = stream; place = place; ended = true }
+]

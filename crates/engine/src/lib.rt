@@ -1,0 +1,283 @@
+// The public calls: one lent record, the splitter of a stream, a job's next lines. Each says outright what it gives, whatever it is lent.
+ghost use mathlib.Core.Path.{_≡_};
+ghost use mathlib.Core.Bool.{Bool, true, false, not, _||_, _&&_};
+ghost use mathlib.Core.List.{List, [], _++_};
+ghost use Prim.Native.Nat.{ℕ, _+_, _-_, _≤_, _<_};
+ghost use lib.Dec.{leb};
+ghost use lib.ListN.{length as size, take, drop};
+ghost use Rattle.definition.specs.Write.{Is-bytes};
+ghost use Rattle.definition.specs.Job.{ends-job};
+ghost use Rattle.definition.specs.Pieces.{takes-on};
+ghost use Rattle.lent.specs.Lent.{lent-sound};
+ghost use Rattle.engine.specs.Public.{lent-step, in-front, rest-of, lent-lines};
+ghost use Rattle.engine.specs.Lists.{Lists};
+ghost use Rattle.step.specs.Trusted.{Stands};
+use lent::sound_state;
+use lent::used_of;
+use log::write_line;
+use step::rest_trusted;
+use step::step_trusted;
+use table::Used;
+
+// How much of a stream was read and how much of a log written; the rows in use, the next record's number, and whether the job ended.
+pub struct Lines {
+    pub used: Used,
+    pub read: usize,
+    pub written: usize,
+    pub place: u64,
+    pub ended: bool,
+}
+
+// Whether a call may go on: else it is 15.
+fn usable(state: &[u32], params: [[u8; 8]; 256], buffer: usize) -> bool
+    ensures { λ r. ⌜ r ≡ lent-sound (now (state .entry)) params && leb 4096 buffer ⌝ }
+{
+    if buffer < 4096 {
+        return false;
+    }
+    sound_state(state, params)
+}
+
+// One record, lent whole, on a sound state.
+fn record_trusted(
+    state: &mut [u32],
+    params: [[u8; 8]; 256],
+    record: &[u8],
+    answer: &mut [u8],
+    number: &mut u32,
+    length: &mut u32,
+) -> [[u8; 8]; 256]
+    requires { ⌜ (lent-sound (now state) params ≡ true) × (4096 ≤ size (now answer)) ⌝ }
+    ensures { λ r. ⌜ r ≡ lent-step (now (state .entry)) params (now («record» .entry)) (size (now (answer .entry))) .params ⌝ }
+    ensures { λ r. ⌜ now (state .exit) ≡ lent-step (now (state .entry)) params (now («record» .entry)) (size (now (answer .entry))) .words ⌝ }
+    ensures { λ r. ⌜ now (number .exit) ≡ lent-step (now (state .entry)) params (now («record» .entry)) (size (now (answer .entry))) .number ⌝ }
+    ensures { λ r. ⌜ now (length .exit) ≡ size (lent-step (now (state .entry)) params (now («record» .entry)) (size (now (answer .entry))) .payload) ⌝ }
+    ensures { λ r. ⌜ now (answer .exit) ≡ in-front (lent-step (now (state .entry)) params (now («record» .entry)) (size (now (answer .entry))) .payload) (now (answer .entry)) ⌝ }
+{
+    let u = used_of(state);
+    let mut rows = params;
+    let mut saved = [0u32; 5120];
+    let r = step_trusted(state, u, &mut rows, record, 0, true, &mut saved, answer);
+    let v = r.used;
+    table::write_used(state, v);
+    *number = r.number;
+    *length = r.len as u32;
+    rows
+}
+
+// One record, lent whole: bytes left over are 5. Number and length come beside the parameter bytes.
+pub fn lent_record(
+    state: &mut [u32],
+    params: [[u8; 8]; 256],
+    record: &[u8],
+    answer: &mut [u8],
+    number: &mut u32,
+    length: &mut u32,
+) -> [[u8; 8]; 256]
+    ensures { λ r. ⌜ r ≡ lent-step (now (state .entry)) params (now («record» .entry)) (size (now (answer .entry))) .params ⌝ }
+    ensures { λ r. ⌜ now (state .exit) ≡ lent-step (now (state .entry)) params (now («record» .entry)) (size (now (answer .entry))) .words ⌝ }
+    ensures { λ r. ⌜ now (number .exit) ≡ lent-step (now (state .entry)) params (now («record» .entry)) (size (now (answer .entry))) .number ⌝ }
+    ensures { λ r. ⌜ now (length .exit) ≡ size (lent-step (now (state .entry)) params (now («record» .entry)) (size (now (answer .entry))) .payload) ⌝ }
+    ensures { λ r. ⌜ now (answer .exit) ≡ in-front (lent-step (now (state .entry)) params (now («record» .entry)) (size (now (answer .entry))) .payload) (now (answer .entry)) ⌝ }
+{
+    if usable(state, params, answer.len()) {
+        return record_trusted(state, params, record, answer, number, length);
+    }
+    *number = 15;
+    *length = 0;
+    params
+}
+
+// ---- a job
+
+// Whether a whole record is surely at hand: 4,096 bytes, or all that there are.
+fn at_hand(left: usize, more: bool) -> bool
+    ensures { λ r. ⌜ r ≡ (not more || leb 4096 left) ⌝ }
+{
+    if more {
+        return 4096 <= left;
+    }
+    true
+}
+
+// Whether record `place` is taken on, with so many bytes at hand and so much room in the log.
+fn takes_on(place: u64, left: usize, room: usize, more: bool) -> bool
+    ensures { λ r. ⌜ ((bytes : List ℕ) → size bytes ≡ left → r ≡ takes-on place bytes room more) ⌝ }
+{
+    if !at_hand(left, more) {
+        return false;
+    }
+    if room < 8217 {
+        return false;
+    }
+    place < 18446744073709551615
+}
+
+// 5 and 6 end a job.
+fn ends_job(number: u32) -> bool
+    ensures { λ r. ⌜ r ≡ ends-job number ⌝ }
+{
+    if number == 5 {
+        return true;
+    }
+    number == 6
+}
+
+// The lines of as many records as are at hand and have room, on a sound state.
+fn lines_trusted(
+    w: &mut [u32],
+    u: Used,
+    params: &mut [[u8; 8]; 256],
+    stream: &[u8],
+    more: bool,
+    log: &mut [u8],
+    place: u64,
+) -> Lines
+    requires { ⌜ Stands (now w) u (now params) ⌝ }
+    ensures { λ r. ⌜ Lists (now (w .entry)) u (now (params .entry)) place (now (stream .entry)) more (now (log .entry)) (now (w .exit)) (now (params .exit)) (now (log .exit)) r ⌝ }
+{
+    let mut saved = [0u32; 5120];
+    let mut buf = [0u8; 4096];
+    let mut used = u;
+    let mut at: usize = 0;
+    let mut n: usize = 0;
+    let mut i = place;
+    while at < stream.len() {
+        if !takes_on(i, stream.len() - at, log.len() - n, more) {
+            return Lines {
+                used: used,
+                read: at,
+                written: n,
+                place: i,
+                ended: false,
+            };
+        }
+        let r = step_trusted(w, used, params, stream, at, false, &mut saved, &mut buf);
+        n = write_line(i, r.number, &buf, r.len, log, n);
+        i = i + 1;
+        used = r.used;
+        at = r.next;
+        if ends_job(r.number) {
+            return Lines {
+                used: used,
+                read: at,
+                written: n,
+                place: i,
+                ended: true,
+            };
+        }
+    }
+    Lines {
+        used: used,
+        read: at,
+        written: n,
+        place: i,
+        ended: !more,
+    }
+}
+
+// .. and all that they leave.
+fn job_trusted(
+    state: &mut [u32],
+    params: [[u8; 8]; 256],
+    stream: &[u8],
+    more: bool,
+    log: &mut [u8],
+    number: &mut u32,
+    written: &mut usize,
+    read: &mut usize,
+    place: &mut u64,
+    ended: &mut bool,
+) -> [[u8; 8]; 256]
+    requires { ⌜ lent-sound (now state) params ≡ true ⌝ }
+    ensures { λ r. ⌜ r ≡ lent-lines (now (state .entry)) params (now (place .entry)) (now (stream .entry)) (size (now (log .entry))) more .params ⌝ }
+    ensures { λ r. ⌜ now (state .exit) ≡ lent-lines (now (state .entry)) params (now (place .entry)) (now (stream .entry)) (size (now (log .entry))) more .words ⌝ }
+    ensures { λ r. ⌜ now (number .exit) ≡ lent-lines (now (state .entry)) params (now (place .entry)) (now (stream .entry)) (size (now (log .entry))) more .number ⌝ }
+    ensures { λ r. ⌜ now (log .exit) ≡ in-front (lent-lines (now (state .entry)) params (now (place .entry)) (now (stream .entry)) (size (now (log .entry))) more .text) (now (log .entry)) ⌝ }
+    ensures { λ r. ⌜ now (written .exit) ≡ size (lent-lines (now (state .entry)) params (now (place .entry)) (now (stream .entry)) (size (now (log .entry))) more .text) ⌝ }
+    ensures { λ r. ⌜ drop (now (read .exit)) (now (stream .entry)) ≡ lent-lines (now (state .entry)) params (now (place .entry)) (now (stream .entry)) (size (now (log .entry))) more .rest ⌝ }
+    ensures { λ r. ⌜ now (place .exit) ≡ lent-lines (now (state .entry)) params (now (place .entry)) (now (stream .entry)) (size (now (log .entry))) more .place ⌝ }
+    ensures { λ r. ⌜ now (ended .exit) ≡ lent-lines (now (state .entry)) params (now (place .entry)) (now (stream .entry)) (size (now (log .entry))) more .ended ⌝ }
+    ensures { λ r. ⌜ (now (read .exit) ≤ size (now (stream .entry))) × (now (written .exit) ≤ size (now (log .entry))) ⌝ }
+{
+    let u = used_of(state);
+    let mut rows = params;
+    let first = *place;
+    let r = lines_trusted(state, u, &mut rows, stream, more, log, first);
+    let v = r.used;
+    table::write_used(state, v);
+    *number = 0;
+    *written = r.written;
+    *read = r.read;
+    *place = r.place;
+    *ended = r.ended;
+    rows
+}
+
+// A job's next lines: those of as many records as the bytes at hand hold whole and the log surely has room for. `more`: further bytes follow.
+// The state is tested once. `place` is the next record's number; `read` and `written` say how much of the stream and of the log was used.
+pub fn job(
+    state: &mut [u32],
+    params: [[u8; 8]; 256],
+    stream: &[u8],
+    more: bool,
+    log: &mut [u8],
+    number: &mut u32,
+    written: &mut usize,
+    read: &mut usize,
+    place: &mut u64,
+    ended: &mut bool,
+) -> [[u8; 8]; 256]
+    ensures { λ r. ⌜ r ≡ lent-lines (now (state .entry)) params (now (place .entry)) (now (stream .entry)) (size (now (log .entry))) more .params ⌝ }
+    ensures { λ r. ⌜ now (state .exit) ≡ lent-lines (now (state .entry)) params (now (place .entry)) (now (stream .entry)) (size (now (log .entry))) more .words ⌝ }
+    ensures { λ r. ⌜ now (number .exit) ≡ lent-lines (now (state .entry)) params (now (place .entry)) (now (stream .entry)) (size (now (log .entry))) more .number ⌝ }
+    ensures { λ r. ⌜ now (log .exit) ≡ in-front (lent-lines (now (state .entry)) params (now (place .entry)) (now (stream .entry)) (size (now (log .entry))) more .text) (now (log .entry)) ⌝ }
+    ensures { λ r. ⌜ now (written .exit) ≡ size (lent-lines (now (state .entry)) params (now (place .entry)) (now (stream .entry)) (size (now (log .entry))) more .text) ⌝ }
+    ensures { λ r. ⌜ drop (now (read .exit)) (now (stream .entry)) ≡ lent-lines (now (state .entry)) params (now (place .entry)) (now (stream .entry)) (size (now (log .entry))) more .rest ⌝ }
+    ensures { λ r. ⌜ now (place .exit) ≡ lent-lines (now (state .entry)) params (now (place .entry)) (now (stream .entry)) (size (now (log .entry))) more .place ⌝ }
+    ensures { λ r. ⌜ now (ended .exit) ≡ lent-lines (now (state .entry)) params (now (place .entry)) (now (stream .entry)) (size (now (log .entry))) more .ended ⌝ }
+    ensures { λ r. ⌜ (now (read .exit) ≤ size (now (stream .entry))) × (now (written .exit) ≤ size (now (log .entry))) ⌝ }
+{
+    if sound_state(state, params) {
+        return job_trusted(
+            state,
+            params,
+            stream,
+            more,
+            log,
+            number,
+            written,
+            read,
+            place,
+            ended,
+        );
+    }
+    *number = 15;
+    *written = 0;
+    *read = 0;
+    *ended = true;
+    params
+}
+
+// ---- the splitter
+
+// How many bytes the record at the head of the stream has, none on 5, 6 and 15; the words are as they were.
+fn rest_size(state: &mut [u32], params: [[u8; 8]; 256], stream: &[u8]) -> usize
+    ensures { λ r. ⌜ (now (state .exit) ≡ now (state .entry)) × ((r ≤ size (now (stream .entry))) × (drop r (now (stream .entry)) ≡ rest-of (now (state .entry)) params (now (stream .entry)))) ⌝ }
+{
+    if !sound_state(state, params) {
+        return 0;
+    }
+    let u = used_of(state);
+    let mut saved = [0u32; 5120];
+    rest_trusted(state, u, &params, stream, &mut saved)
+}
+
+// The stream after one record; all of it on 5, 6 and 15. The state is as it was.
+pub fn split<'a>(state: &mut [u32], params: [[u8; 8]; 256], stream: &'a [u8]) -> &'a [u8]
+    ensures { λ r. ⌜ now r ≡ rest-of (now (state .entry)) params (now (stream .entry)) ⌝ }
+    ensures { λ r. ⌜ now (state .exit) ≡ now (state .entry) ⌝ }
+{
+    let n = rest_size(state, params, stream);
+    &stream[n..]
+}
