@@ -123,6 +123,18 @@ fn ends_job(number: u32) -> bool
     number == 6
 }
 
+fn lines_at(used: Used, read: usize, written: usize, place: u64, ended: bool) -> Lines
+    ensures { λ r. ⌜ r ≡ record { used = used; read = read; written = written; place = place; ended = ended } ⌝ }
+{
+    Lines {
+        used: used,
+        read: read,
+        written: written,
+        place: place,
+        ended: ended,
+    }
+}
+
 // The lines of as many records as are at hand and have room, on a sound state.
 fn lines_trusted(
     w: &mut [u32],
@@ -144,13 +156,7 @@ fn lines_trusted(
     let mut i = place;
     while at < stream.len() {
         if !takes_on(i, stream.len() - at, log.len() - n, more) {
-            return Lines {
-                used: used,
-                read: at,
-                written: n,
-                place: i,
-                ended: false,
-            };
+            return lines_at(used, at, n, i, false);
         }
         let r = step_trusted(w, used, params, stream, at, false, &mut saved, &mut buf);
         n = write_line(i, r.number, &buf, r.len, log, n);
@@ -158,22 +164,10 @@ fn lines_trusted(
         used = r.used;
         at = r.next;
         if ends_job(r.number) {
-            return Lines {
-                used: used,
-                read: at,
-                written: n,
-                place: i,
-                ended: true,
-            };
+            return lines_at(used, at, n, i, true);
         }
     }
-    Lines {
-        used: used,
-        read: at,
-        written: n,
-        place: i,
-        ended: !more,
-    }
+    lines_at(used, at, n, i, !more)
 }
 
 // .. and all that they leave.

@@ -28,14 +28,17 @@ sub-takes-on-2 c = omega (arith, c .before .loop .inv .1 .1 .fits, c .before .lo
 takes-on-requires : tie.Need-takes-on-requires Inv-loop μ-loop
 takes-on-requires c κs = search needs
 
+lines-at-requires : tie.Need-lines-at-requires Inv-loop μ-loop
+lines-at-requires c κs = search needs
+
 same-length : tie.Need-same-length Inv-loop μ-loop
-same-length c = c .before .before .before .loop .inv .1 .1 .stands .lay .size ∙ sym (c .before .before .before .before .before .before .before .pre .lay .size)
+same-length c = c .before .before .before .before .loop .inv .1 .1 .stands .lay .size ∙ sym (c .before .before .before .before .before .before .before .before .pre .lay .size)
 
 same-length-2 : tie.Need-same-length-2 Inv-loop μ-loop
-same-length-2 c = c .before .before .before .loop .inv .1 .1 .size
+same-length-2 c = c .before .before .before .before .loop .inv .1 .1 .size
 
 returns : tie.Need-returns Inv-loop μ-loop
-returns c = going-stops (c .before .before .before .loop .inv .1 .1) (c .before .before .loop-test .taken) (taken-on (c .before .before .before .loop .inv .1 .1) (c .before .takes-on .ensures) (not-true _ (c .if1 .taken)))
+returns c = rw (c .lines-at .ensures) (going-stops (c .before .before .before .before .loop .inv .1 .1) (c .before .before .before .loop-test .taken) (taken-on (c .before .before .before .before .loop .inv .1 .1) (c .before .before .takes-on .ensures) (not-true _ (c .before .if1 .taken))))
 
 slice-aggregate-step-trusted : tie.Need-slice-aggregate-step-trusted Inv-loop μ-loop
 slice-aggregate-step-trusted c = sym (c .before .before .before .before .before .before .loop .inv .0)
@@ -58,14 +61,17 @@ add-i c = record { fits = omega (arith, takes-room _ _ _ _ (taken-on (c .before 
 ends-job-requires : tie.Need-ends-job-requires Inv-loop μ-loop
 ends-job-requires c κs = search needs
 
+lines-at-requires-2 : tie.Need-lines-at-requires-2 Inv-loop μ-loop
+lines-at-requires-2 c κs = search needs
+
 same-length-3 : tie.Need-same-length-3 Inv-loop μ-loop
-same-length-3 c = c .before .before .before .before .before .before .before .before .before .before .before .before .step-trusted .ensures .stands .lay .size ∙ sym (c .before .before .before .before .before .before .before .before .before .before .before .before .before .before .before .before .before .before .before .before .before .before .before .before .pre .lay .size)
+same-length-3 c = c .before .before .before .before .before .before .before .before .before .before .before .before .before .step-trusted .ensures .stands .lay .size ∙ sym (c .before .before .before .before .before .before .before .before .before .before .before .before .before .before .before .before .before .before .before .before .before .before .before .before .before .pre .lay .size)
 
 same-length-4 : tie.Need-same-length-4 Inv-loop μ-loop
-same-length-4 c = turned (c .before .before .before .before .before .before .before .before .before .before .before .before .before .before .before .before .before .before .before .before .loop .inv .1 .1) (bytes-of (c .before .before .before .before .before .before .before .before .before .before .before .before .before .before .before .before .before .before .before .before .before .before .before .before .args .stream .now) (c .before .before .before .before .before .before .before .before .before .before .before .before .before .before .before .before .before .before .before .before .before .before .shared-slice-known .given)) (c .before .before .before .before .before .before .before .before .before .before .before .before .before .before .before .before .before .before .before .loop-test .taken) (taken-on (c .before .before .before .before .before .before .before .before .before .before .before .before .before .before .before .before .before .before .before .before .loop .inv .1 .1) (c .before .before .before .before .before .before .before .before .before .before .before .before .before .before .before .before .before .before .takes-on .ensures) (not-false _ (c .before .before .before .before .before .before .before .before .before .before .before .before .before .before .before .before .before .if1 .left))) (c .before .before .before .before .before .before .before .before .before .before .before .before .step-trusted .ensures) (c .before .before .before .before .before .write-line .ensures) .size
+same-length-4 c = turned (c .before .before .before .before .before .before .before .before .before .before .before .before .before .before .before .before .before .before .before .before .before .loop .inv .1 .1) (bytes-of (c .before .before .before .before .before .before .before .before .before .before .before .before .before .before .before .before .before .before .before .before .before .before .before .before .before .args .stream .now) (c .before .before .before .before .before .before .before .before .before .before .before .before .before .before .before .before .before .before .before .before .before .before .before .shared-slice-known .given)) (c .before .before .before .before .before .before .before .before .before .before .before .before .before .before .before .before .before .before .before .before .loop-test .taken) (taken-on (c .before .before .before .before .before .before .before .before .before .before .before .before .before .before .before .before .before .before .before .before .before .loop .inv .1 .1) (c .before .before .before .before .before .before .before .before .before .before .before .before .before .before .before .before .before .before .before .takes-on .ensures) (not-false _ (c .before .before .before .before .before .before .before .before .before .before .before .before .before .before .before .before .before .before .if1 .left))) (c .before .before .before .before .before .before .before .before .before .before .before .before .before .step-trusted .ensures) (c .before .before .before .before .before .before .write-line .ensures) .size
 
 returns-2 : tie.Need-returns-2 Inv-loop μ-loop
-returns-2 c = going-last (c .before .before .before .before .before .before .before .before .before .before .before .before .before .before .before .before .before .before .before .before .loop .inv .1 .1) (bytes-of (c .before .before .before .before .before .before .before .before .before .before .before .before .before .before .before .before .before .before .before .before .before .before .before .before .args .stream .now) (c .before .before .before .before .before .before .before .before .before .before .before .before .before .before .before .before .before .before .before .before .before .before .shared-slice-known .given)) (c .before .before .before .before .before .before .before .before .before .before .before .before .before .before .before .before .before .before .before .loop-test .taken) (taken-on (c .before .before .before .before .before .before .before .before .before .before .before .before .before .before .before .before .before .before .before .before .loop .inv .1 .1) (c .before .before .before .before .before .before .before .before .before .before .before .before .before .before .before .before .before .before .takes-on .ensures) (not-false _ (c .before .before .before .before .before .before .before .before .before .before .before .before .before .before .before .before .before .if1 .left))) (c .before .before .before .before .before .before .before .before .before .before .before .before .step-trusted .ensures) (sym (c .before .ends-job .ensures) ∙ c .if2 .taken) (c .before .before .before .before .before .write-line .ensures)
+returns-2 c = rw (c .lines-at2 .ensures) (going-last (c .before .before .before .before .before .before .before .before .before .before .before .before .before .before .before .before .before .before .before .before .before .loop .inv .1 .1) (bytes-of (c .before .before .before .before .before .before .before .before .before .before .before .before .before .before .before .before .before .before .before .before .before .before .before .before .before .args .stream .now) (c .before .before .before .before .before .before .before .before .before .before .before .before .before .before .before .before .before .before .before .before .before .before .before .shared-slice-known .given)) (c .before .before .before .before .before .before .before .before .before .before .before .before .before .before .before .before .before .before .before .before .loop-test .taken) (taken-on (c .before .before .before .before .before .before .before .before .before .before .before .before .before .before .before .before .before .before .before .before .before .loop .inv .1 .1) (c .before .before .before .before .before .before .before .before .before .before .before .before .before .before .before .before .before .before .before .takes-on .ensures) (not-false _ (c .before .before .before .before .before .before .before .before .before .before .before .before .before .before .before .before .before .before .if1 .left))) (c .before .before .before .before .before .before .before .before .before .before .before .before .before .step-trusted .ensures) (sym (c .before .before .ends-job .ensures) ∙ c .before .if2 .taken) (c .before .before .before .before .before .before .write-line .ensures))
 
 loop-less : tie.Need-loop-less Inv-loop μ-loop
 loop-less c = omega (arith, going-less (c .before .before .before .before .before .before .before .before .before .before .before .before .before .before .before .before .before .before .before .before .loop .inv .1 .1) (bytes-of (c .before .before .before .before .before .before .before .before .before .before .before .before .before .before .before .before .before .before .before .before .before .before .before .before .args .stream .now) (c .before .before .before .before .before .before .before .before .before .before .before .before .before .before .before .before .before .before .before .before .before .before .shared-slice-known .given)) (c .before .before .before .before .before .before .before .before .before .before .before .before .before .before .before .before .before .before .before .loop-test .taken) (taken-on (c .before .before .before .before .before .before .before .before .before .before .before .before .before .before .before .before .before .before .before .before .loop .inv .1 .1) (c .before .before .before .before .before .before .before .before .before .before .before .before .before .before .before .before .before .before .takes-on .ensures) (not-false _ (c .before .before .before .before .before .before .before .before .before .before .before .before .before .before .before .before .before .if1 .left))) (c .before .before .before .before .before .before .before .before .before .before .before .before .step-trusted .ensures) (sym (c .before .ends-job .ensures) ∙ c .if2 .left), c .before .before .before .before .before .before .before .before .before .before .before .before .step-trusted .ensures .within)
@@ -73,14 +79,17 @@ loop-less c = omega (arith, going-less (c .before .before .before .before .befor
 loop-again : tie.Need-loop-again Inv-loop μ-loop
 loop-again c = (c .before .before .before .before .before .before .before .before .before .before .before .before .step-trusted .kept .1 .1 .1 .1 .1 .1 .0 ∙ c .before .before .before .before .before .before .before .before .before .before .before .before .before .before .before .before .before .before .before .before .loop .inv .0, (c .before .before .before .before .before .before .before .before .before .before .before .before .step-trusted .kept .1 .1 .1 .1 .1 .1 .1 .0 ∙ c .before .before .before .before .before .before .before .before .before .before .before .before .before .before .before .before .before .before .before .before .loop .inv .1 .0, going-on (c .before .before .before .before .before .before .before .before .before .before .before .before .before .before .before .before .before .before .before .before .loop .inv .1 .1) (bytes-of (c .before .before .before .before .before .before .before .before .before .before .before .before .before .before .before .before .before .before .before .before .before .before .before .before .args .stream .now) (c .before .before .before .before .before .before .before .before .before .before .before .before .before .before .before .before .before .before .before .before .before .before .shared-slice-known .given)) (c .before .before .before .before .before .before .before .before .before .before .before .before .before .before .before .before .before .before .before .loop-test .taken) (taken-on (c .before .before .before .before .before .before .before .before .before .before .before .before .before .before .before .before .before .before .before .before .loop .inv .1 .1) (c .before .before .before .before .before .before .before .before .before .before .before .before .before .before .before .before .before .before .takes-on .ensures) (not-false _ (c .before .before .before .before .before .before .before .before .before .before .before .before .before .before .before .before .before .if1 .left))) (c .before .before .before .before .before .before .before .before .before .before .before .before .step-trusted .ensures) (sym (c .before .ends-job .ensures) ∙ c .if2 .left) (c .before .before .before .before .before .write-line .ensures)))
 
+lines-at-requires-3 : tie.Need-lines-at-requires-3 Inv-loop μ-loop
+lines-at-requires-3 c κs = search needs
+
 same-length-5 : tie.Need-same-length-5 Inv-loop μ-loop
-same-length-5 c = c .before .loop .inv .1 .1 .stands .lay .size ∙ sym (c .before .before .before .before .before .pre .lay .size)
+same-length-5 c = c .before .before .loop .inv .1 .1 .stands .lay .size ∙ sym (c .before .before .before .before .before .before .pre .lay .size)
 
 same-length-6 : tie.Need-same-length-6 Inv-loop μ-loop
-same-length-6 c = c .before .loop .inv .1 .1 .size
+same-length-6 c = c .before .before .loop .inv .1 .1 .size
 
 returns-3 : tie.Need-returns-3 Inv-loop μ-loop
-returns-3 c = going-spent (c .before .loop .inv .1 .1) (c .loop-test .left)
+returns-3 c = rw (c .lines-at3 .ensures) (going-spent (c .before .before .loop .inv .1 .1) (c .before .loop-test .left))
 
 pub lines-trusted-spec : {M : Type 1} → statement M
 lines-trusted-spec =
@@ -92,6 +101,7 @@ lines-trusted-spec =
     sub-takes-on
     sub-takes-on-2
     takes-on-requires
+    lines-at-requires
     same-length
     same-length-2
     returns
@@ -102,11 +112,13 @@ lines-trusted-spec =
     write-line-requires
     add-i
     ends-job-requires
+    lines-at-requires-2
     same-length-3
     same-length-4
     returns-2
     loop-less
     loop-again
+    lines-at-requires-3
     same-length-5
     same-length-6
     returns-3)
