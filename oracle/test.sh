@@ -32,6 +32,11 @@ made_again() { # the replay list and what is made from it are what is stored
   for f in "$tmp"/proofs/*; do cmp "$f" "../crates/replay/proofs/${f##*/}" || return 1; done
 }
 
+edges_again() { # the edges' jobs and what they print are what is stored
+  python3 ../tools/edges.py "$tmp/edges" || return 1
+  for f in stdin stdout; do cmp "$tmp/edges/$f" "../crates/edges/$f" || return 1; done
+}
+
 altered() { # a changed answer is seen
   sed '0,/^7 0 /s//7 1 /' replay.list > "$tmp/altered" && ! cmp -s replay.list "$tmp/altered" || return 1
   ! target/release/oracle check "$tmp/altered"
@@ -43,6 +48,7 @@ step "build, real map" cargo build --release --offline -j1 --features hashmap --
 tests "tests, ordered map"
 tests "tests, real map" --features hashmap --target-dir target/hashmap
 step "replay list made again" made_again
+step "edges made again" edges_again
 step "an altered answer is found" altered
 echo "$passed passed, $failed failed"
 [ "$failed" -eq 0 ]

@@ -256,7 +256,7 @@ pub fn job(
 // ---- the splitter
 
 // How many bytes the record at the head of the stream has, none on 5, 6 and 15; the words are as they were.
-fn rest_size(state: &mut [u32], params: [[u8; 8]; 256], stream: &[u8]) -> usize
+pub fn rest_size(state: &mut [u32], params: [[u8; 8]; 256], stream: &[u8]) -> usize
     ensures { λ r. ⌜ (now (state .exit) ≡ now (state .entry)) × ((r ≤ size (now (stream .entry))) × (drop r (now (stream .entry)) ≡ rest-of (now (state .entry)) params (now (stream .entry)))) ⌝ }
 {
     if !sound_state(state, params) {

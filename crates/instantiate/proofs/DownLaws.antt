@@ -116,43 +116,49 @@ module _ (w : List ℕ) (u : Used) (params : List (List ℕ)) (left ty : ℕ) (n
           then-this w₃ r (when-then (Known w₁ (b .used) params) (Known w₁ (b .used) params) w₁ (b .used) w₂ a (λ s. instantiate-down (left - 1) s t) (λ p. sp (p .0) (nd .loc) (d.Ref m (p .1))) b₂ p w₃ r inner b₂-is q (λ ds k. k)
           (when-after (Known w₁ (b .used) params) w₂ (a .used) w₃ r _ x))
 
-  module _ (k : Mark) (n : TypeName) (first many : ℕ) (e : nd .shape ≡ Apply k n first many) (pl : Placed w u first many) (w₁ : List ℕ) (b : Tparams) (b₁ : Found)
-      (made-all : Listed (Known w u params) w u w₁ b (made (nd .loc) (name-of n) (args-at (view w u) (places first many)))) (b₁-is : b₁ ≡ done (b .out)) where
-    go : State × List ℕ → Result (State × ℕ)
-    go p = rest (instantiate-down (left - 1)) (joined (nd .loc) (mark-of k) (name-of n) (p .1)) [] (args-at (view w u) (places first many)) (p .0)
+  pub apply-by : (k : Mark) (n : TypeName) (first many : ℕ) → nd .shape ≡ Apply k n first many → (w′ : List ℕ) (r : Step)
+      → When (Known w u params) w u w′ r (λ s. instantiate-apply (instantiate-down (left - 1)) s (nd .loc) (mark-of k) (name-of n) (args-at (view w u) (places first many))) → When (Known w u params) w u w′ r (λ s. instantiate-down left s ty)
+  unfolding instantiate-value with-args seen with-structs args-at
+  apply-by k n first many e w′ r a = when-at (Known w u params) w u w′ r _ _ (λ ds kn. inst-is (Apply k n first many) e ds) a
 
-    all-is : (ds : List Struct) → Known w u params ds → (outcome (b .out) (seen w₁ (b .used) ds) >>= (λ p. go (p .0, take (b .many) (b .tvars)))) ≡ instantiate-down left (seen w u ds) ty
-    unfolding go instantiate-value with-args listed seen with-structs args-at rest _>>=_
-    all-is ds kn =
-        sym (bind-assoc (outcome (b .out) (seen w₁ (b .used) ds)) (λ p. ok (p .0, take (b .many) (b .tvars))) go)
-        ∙ ap (λ (x : Result (State × List ℕ)). x >>= go) (made-all .is ds kn)
-        ∙ apply-is (instantiate-down (left - 1)) (seen w u ds) (nd .loc) (mark-of k) (name-of n) (args-at (seen w u ds) (places first many))
-        ∙ inst-is (Apply k n first many) e ds
+-- ---- a named type
 
-    pub apply-stop : (r : Step) → r ≡ record { out = b .out; used = b .used } → b₁ ≡ Nothing → When (Known w u params) w u w₁ r (λ s. instantiate-down left s ty)
-    apply-stop r f q =
-        rw f record {
-          lay = made-all .lay;
-          grown = made-all .grown;
-          structs = made-all .structs;
-          is = λ ds kn. sym (bind-ok _) ∙ done-stop (b .out) (seen w₁ (b .used) ds) (λ x. ok x) (λ p. go (p .0, take (b .many) (b .tvars))) (sym b₁-is ∙ q) ∙ all-is ds kn;
-          inside = made-all .stopped (sym b₁-is ∙ q);
-        }
+module _ (w : List ℕ) (u : Used) (params : List (List ℕ)) (left loc : ℕ) (k : d.Mark) (n : d.TypeName) (first many : ℕ) (pl : Placed w u first many) (w₁ : List ℕ) (b : Tparams) (b₁ : Found)
+    (made-all : Listed (Known w u params) w u w₁ b (made loc n (args-at (view w u) (places first many)))) (b₁-is : b₁ ≡ done (b .out)) where
+  go : State × List ℕ → Result (State × ℕ)
+  go p = rest (instantiate-down left) (joined loc k n (p .1)) [] (args-at (view w u) (places first many)) (p .0)
 
-    pub apply-then : (y : ℕ) (w₂ : List ℕ) (r : Step) → b₁ ≡ Just y
-        → When (Known w₁ (b .used) params) w₁ (b .used) w₂ r (rest (instantiate-down (left - 1)) (joined (nd .loc) (mark-of k) (name-of n) (take (b .many) (b .tvars))) [] (args-at (view w₁ (b .used)) (places first many)))
-        → When (Known w u params) w u w₂ r (λ s. instantiate-down left s ty)
-    unfolding go places
-    apply-then y w₂ r q x =
-        record {
-          lay = x .lay;
-          grown = grown-trans _ _ _ (made-all .grown) (x .grown);
-          structs = x .structs ∙ made-all .structs;
-          is = λ ds kn. x .is ds (known-kept w u w₁ (b .used) params (made-all .structs) ds kn)
-              ∙ ap (λ (l : List ℕ). rest (instantiate-down (left - 1)) (joined (nd .loc) (mark-of k) (name-of n) (take (b .many) (b .tvars))) [] l (seen w₁ (b .used) ds)) (args-kept (view w u) (view w₁ (b .used)) (places first many) (made-all .grown) (pl .inside))
-              ∙ sym (done-then (b .out) (seen w₁ (b .used) ds) (λ p. go (p .0, take (b .many) (b .tvars))) y (sym b₁-is ∙ q)) ∙ all-is ds kn;
-          inside = x .inside;
-        }
+  all-is : (ds : List Struct) → Known w u params ds → (outcome (b .out) (seen w₁ (b .used) ds) >>= (λ p. go (p .0, take (b .many) (b .tvars)))) ≡ instantiate-apply (instantiate-down left) (seen w u ds) loc k n (args-at (view w u) (places first many))
+  unfolding go listed _>>=_
+  all-is ds kn =
+      sym (bind-assoc (outcome (b .out) (seen w₁ (b .used) ds)) (λ p. ok (p .0, take (b .many) (b .tvars))) go)
+      ∙ ap (λ (x : Result (State × List ℕ)). x >>= go) (made-all .is ds kn)
+      ∙ apply-is (instantiate-down left) (seen w u ds) loc k n (args-at (view w u) (places first many))
+
+  pub apply-stop : (r : Step) → r ≡ record { out = b .out; used = b .used } → b₁ ≡ Nothing → When (Known w u params) w u w₁ r (λ s. instantiate-apply (instantiate-down left) s loc k n (args-at (view w u) (places first many)))
+  apply-stop r f q =
+      rw f record {
+        lay = made-all .lay;
+        grown = made-all .grown;
+        structs = made-all .structs;
+        is = λ ds kn. sym (bind-ok _) ∙ done-stop (b .out) (seen w₁ (b .used) ds) (λ x. ok x) (λ p. go (p .0, take (b .many) (b .tvars))) (sym b₁-is ∙ q) ∙ all-is ds kn;
+        inside = made-all .stopped (sym b₁-is ∙ q);
+      }
+
+  pub apply-then : (y : ℕ) (w₂ : List ℕ) (r : Step) → b₁ ≡ Just y
+      → When (Known w₁ (b .used) params) w₁ (b .used) w₂ r (rest (instantiate-down left) (joined loc k n (take (b .many) (b .tvars))) [] (args-at (view w₁ (b .used)) (places first many)))
+      → When (Known w u params) w u w₂ r (λ s. instantiate-apply (instantiate-down left) s loc k n (args-at (view w u) (places first many)))
+  unfolding go places
+  apply-then y w₂ r q x =
+      record {
+        lay = x .lay;
+        grown = grown-trans _ _ _ (made-all .grown) (x .grown);
+        structs = x .structs ∙ made-all .structs;
+        is = λ ds kn. x .is ds (known-kept w u w₁ (b .used) params (made-all .structs) ds kn)
+            ∙ ap (λ (l : List ℕ). rest (instantiate-down left) (joined loc k n (take (b .many) (b .tvars))) [] l (seen w₁ (b .used) ds)) (args-kept (view w u) (view w₁ (b .used)) (places first many) (made-all .grown) (pl .inside))
+            ∙ sym (done-then (b .out) (seen w₁ (b .used) ds) (λ p. go (p .0, take (b .many) (b .tvars))) y (sym b₁-is ∙ q)) ∙ all-is ds kn;
+        inside = x .inside;
+      }
 
 pub instantiate-is : (K : List Struct → Type 0) (w : List ℕ) (u : Used) (ty : ℕ) (w′ : List ℕ) (r : Step) → When K w u w′ r (λ s. instantiate-down (ty + 1) s ty) → When K w u w′ r (λ s. instantiate s ty)
 unfolding instantiate

@@ -6,11 +6,11 @@ ghost use Prim.Native.Nat.{ℕ, _<_, _≤_, _%_, min};
 ghost use lib.ListN.{length, getD, take};
 ghost use Rattle.definition.specs.Types as d;
 ghost use Rattle.definition.specs.Store.{args-at};
-ghost use Rattle.definition.specs.Instantiate.{make-tvar, tvar-constraint, builtin-tparams, tparam-constraints, instantiate-down, instantiate};
+ghost use Rattle.definition.specs.Instantiate.{make-tvar, tvar-constraint, builtin-tparams, tparam-constraints, instantiate-apply, instantiate-down, instantiate};
 ghost use Rattle.names.specs.Names.{mark-of, name-of};
 ghost use Rattle.table.specs.Rows.{places};
 ghost use Rattle.table.specs.State.{constraint-of, view, seen, Lay, After, Parts, Declares};
-ghost use Rattle.walk.specs.When.{When, Placed};
+ghost use Rattle.walk.specs.When.{When, Placed, Named};
 ghost use Rattle.instantiate.specs.Known.{Known, Numbered, ability-at};
 ghost use Rattle.instantiate.specs.Args.{make-tparam, made, Listed, joined};
 use names::AbilitySet;
@@ -235,7 +235,48 @@ fn join_args(
     table::push_apply(w, v, loc, k, n, parts, c)
 }
 
-// At most `left` levels of instantiate: variables and constraints of all arguments, the arguments, the joins, the node.
+// A named type: variables and constraints of its arguments, at most `left` levels of them, the joins, the node.
+fn instantiate_apply(
+    w: &mut [u32],
+    u: Used,
+    params: &[[u8; 8]; 256],
+    left: u32,
+    loc: u32,
+    k: Mark,
+    n: TypeName,
+    first: u32,
+    many: u32,
+) -> Step
+    requires { ⌜ Lay (now w) u × Named (now w) u first many (u .nodes) ⌝ }
+    ensures { λ r. ⌜ When (Known (now (w .entry)) u (now (params .entry))) (now (w .entry)) u (now (w .exit)) r (λ s. instantiate-apply (instantiate-down left) s loc (mark-of k) (name-of n) (args-at (view (now (w .entry)) u) (places first many))) ⌝ }
+{
+    let b = make_tparams(w, u, params, loc, n, first, many);
+    let bo = b.out;
+    let bv = b.used;
+    let tvars = b.tvars;
+    let count = b.many;
+    let Found::Just(_) = table::done_of(bo) else {
+        return stay(bo, bv);
+    };
+    let mut parts: [u32; 8] = [0; 8];
+    let mut v = bv;
+    let mut i: u32 = 0;
+    while i < many {
+        let t = table::arg_at(w, v, first, i);
+        let a = instantiate_down(w, v, params, left, t);
+        let o = a.out;
+        let Found::Just(p) = table::done_of(o) else {
+            return a;
+        };
+        let at = wide(i);
+        parts[at] = p;
+        v = a.used;
+        i = i + 1;
+    }
+    join_args(w, v, loc, k, n, tvars, count, parts, many)
+}
+
+// At most `left` levels of instantiate; parts are built before their node.
 fn instantiate_down(w: &mut [u32], u: Used, params: &[[u8; 8]; 256], left: u32, ty: u32) -> Step
     requires { ⌜ Lay (now w) u × (ty < u .nodes) ⌝ }
     ensures { λ r. ⌜ When (Known (now (w .entry)) u (now (params .entry))) (now (w .entry)) u (now (w .exit)) r (λ s. instantiate-down left s ty) ⌝ }
@@ -268,30 +309,7 @@ fn instantiate_down(w: &mut [u32], u: Used, params: &[[u8; 8]; 256], left: u32, 
             table::push_node(w, v, loc, Shape::Ref(m, p))
         }
         Shape::Apply(k, n, first, many) => {
-            let b = make_tparams(w, u, params, loc, n, first, many);
-            let bo = b.out;
-            let bv = b.used;
-            let tvars = b.tvars;
-            let count = b.many;
-            let Found::Just(_) = table::done_of(bo) else {
-                return stay(bo, bv);
-            };
-            let mut parts: [u32; 8] = [0; 8];
-            let mut v = bv;
-            let mut i: u32 = 0;
-            while i < many {
-                let t = table::arg_at(w, v, first, i);
-                let a = instantiate_down(w, v, params, left - 1, t);
-                let o = a.out;
-                let Found::Just(p) = table::done_of(o) else {
-                    return a;
-                };
-                let at = wide(i);
-                parts[at] = p;
-                v = a.used;
-                i = i + 1;
-            }
-            join_args(w, v, loc, k, n, tvars, count, parts, many)
+            instantiate_apply(w, u, params, left - 1, loc, k, n, first, many)
         }
     }
 }

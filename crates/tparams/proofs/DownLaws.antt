@@ -91,9 +91,15 @@ module _ (w : List ℕ) (u : Used) (ps : TParamSubst) (left ty : ℕ) (nd : Node
     ref-then p w₂ r q x = after-at w u w₂ r _ _ (down-is (Ref m t) e) (after-then w u w′ a (λ s. subst-down (left - 1) ps s t) (λ p. sp (p .0) (nd .loc) (d.Ref m (p .1))) b p w₂ r (inner .changed) b-is q x)
 
   pub apply-by : (k : Mark) (n : TypeName) (first many : ℕ) → nd .shape ≡ Apply k n first many → (w′ : List ℕ) (r : Step)
-      → When Any w u w′ r (rest (subst-down (left - 1) ps) (sp-apply (nd .loc) (mark-of k) (name-of n)) [] (args-at (view w u) (places first many))) → After w u w′ r (λ s. subst-down left ps s ty)
-  unfolding subst-value with-args rest sp-apply seen with-structs args-at
-  apply-by k n first many e w′ r a = after-at w u w′ r _ _ (down-is (Apply k n first many) e) (any-after w u w′ r _ a)
+      → After w u w′ r (λ s. subst-value (subst-down (left - 1) ps) ps s 0 (nd .loc) (d.Apply (mark-of k) (name-of n) (args-at (view w u) (places first many)))) → After w u w′ r (λ s. subst-down left ps s ty)
+  unfolding subst-value with-args seen with-structs args-at
+  apply-by k n first many e w′ r a = after-at w u w′ r _ _ (down-is (Apply k n first many) e) a
+
+-- a named type: the walk over its arguments, then its node
+pub apply-walked : (w : List ℕ) (u : Used) (ps : TParamSubst) (left loc : ℕ) (k : d.Mark) (n : d.TypeName) (tys : List ℕ) (w′ : List ℕ) (r : Step)
+    → When Any w u w′ r (rest (subst-down left ps) (sp-apply loc k n) [] tys) → After w u w′ r (λ s. subst-value (subst-down left ps) ps s 0 loc (d.Apply k n tys))
+unfolding subst-value rest sp-apply
+apply-walked w u ps left loc k n tys w′ r a = any-after w u w′ r _ a
 
 pub tparams-is : (w : List ℕ) (u : Used) (ps : TParamSubst) (ty : ℕ) (w′ : List ℕ) (r : Step) → After w u w′ r (λ s. subst-down (ty + 1) ps s ty) → After w u w′ r (λ s. subst-tparams ps s ty)
 unfolding subst-tparams

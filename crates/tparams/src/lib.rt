@@ -1,10 +1,17 @@
 // typing/core.rs: make_tparam_subst, subst_tparams. A TParamSubst is n ids and n arguments, in two arrays.
 ghost use mathlib.Core.Path.{_≡_};
 ghost use Prim.Native.Nat.{ℕ, _-_, _≤_, _<_};
-ghost use Rattle.definition.specs.TParams.{arg-of, make-tparam-subst, subst-down, subst-tparams};
-ghost use Rattle.table.specs.State.{found, Lay, After, Parts};
+ghost use Rattle.definition.specs.Types.{Apply};
+ghost use Rattle.definition.specs.Store.{args-at};
+ghost use Rattle.definition.specs.TParams.{arg-of, make-tparam-subst, subst-value, subst-down, subst-tparams};
+ghost use Rattle.names.specs.Names.{mark-of, name-of};
+ghost use Rattle.table.specs.Rows.{places};
+ghost use Rattle.table.specs.State.{found, view, Lay, After, Parts};
+ghost use Rattle.walk.specs.When.{Named};
 ghost use Rattle.tparams.specs.Pairs.{pairs, made, answer};
+use names::Mark;
 use names::TParamID;
+use names::TypeName;
 use table::Found;
 use table::Out;
 use table::Shape;
@@ -77,6 +84,41 @@ fn stay(o: Out, u: Used) -> Step
     Step { out: o, used: u }
 }
 
+// A named type: at most `left` levels of its arguments, in order; then its node.
+fn subst_apply(
+    w: &mut [u32],
+    u: Used,
+    left: u32,
+    ids: [u32; 8],
+    args: [u32; 8],
+    n: u32,
+    loc: u32,
+    k: Mark,
+    name: TypeName,
+    first: u32,
+    many: u32,
+) -> Step
+    requires { ⌜ Lay (now w) u × (Named (now w) u first many (u .nodes) × Parts (u .nodes) args n) ⌝ }
+    ensures { λ r. ⌜ After (now (w .entry)) u (now (w .exit)) r (λ s. subst-value (subst-down left (pairs ids args 0 n)) (pairs ids args 0 n) s 0 loc (Apply (mark-of k) (name-of name) (args-at (view (now (w .entry)) u) (places first many)))) ⌝ }
+{
+    let mut parts: [u32; 8] = [0; 8];
+    let mut v = u;
+    let mut i: u32 = 0;
+    while i < many {
+        let t = table::arg_at(w, v, first, i);
+        let a = subst_down(w, v, left, ids, args, n, t);
+        let o = a.out;
+        let Found::Just(p) = table::done_of(o) else {
+            return a;
+        };
+        let at = wide(i);
+        parts[at] = p;
+        v = a.used;
+        i = i + 1;
+    }
+    table::push_apply(w, v, loc, k, name, parts, many)
+}
+
 // At most `left` levels of subst_tparams; parts are built before their node.
 fn subst_down(
     w: &mut [u32],
@@ -115,22 +157,7 @@ fn subst_down(
             table::push_node(w, v, loc, Shape::Ref(m, p))
         }
         Shape::Apply(k, name, first, many) => {
-            let mut parts: [u32; 8] = [0; 8];
-            let mut v = u;
-            let mut i: u32 = 0;
-            while i < many {
-                let t = table::arg_at(w, v, first, i);
-                let a = subst_down(w, v, left - 1, ids, args, n, t);
-                let o = a.out;
-                let Found::Just(p) = table::done_of(o) else {
-                    return a;
-                };
-                let at = wide(i);
-                parts[at] = p;
-                v = a.used;
-                i = i + 1;
-            }
-            table::push_apply(w, v, loc, k, name, parts, many)
+            subst_apply(w, u, left - 1, ids, args, n, loc, k, name, first, many)
         }
     }
 }

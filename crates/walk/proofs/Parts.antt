@@ -16,7 +16,7 @@ use Rattle.table.specs.declared.Shape.the-variants.{Ref, Apply}
 use Rattle.table.specs.declared.Node.{Node}
 use Rattle.table.specs.declared.Used.{Used}
 use Rattle.walk.proofs.Steps.{count-view}
-use Rattle.walk.proofs.Walk.{Named}
+use Rattle.walk.specs.When.{Named}
 
 module _ (w : List ℕ) (u : Used) (ty : ℕ) (nd : Node) (lay : Lay w u) (in-use : ty < u .nodes) (node-is : (ds : List Struct) → node-of nd ≡ node (seen w u ds) ty) where
   below-it : (sh : Shape) → nd .shape ≡ sh → Below (view w u .args) ty (shape-of sh)

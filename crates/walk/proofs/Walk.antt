@@ -16,7 +16,7 @@ use Rattle.table.specs.declared.Used.{Used}
 use Rattle.table.specs.declared.Found.{Found}
 use Rattle.table.specs.declared.Found.the-variants.{Nothing, Just}
 use Rattle.table.proofs.Steps.{grown-refl, grown-trans}
-use Rattle.walk.specs.When.{When, Placed}
+use Rattle.walk.specs.When.{When, Placed, Named}
 use Rattle.walk.proofs.Steps.{nodes-grow, front-length, args-kept, args-length, done-then, done-in, done-stop, bind-ok}
 
 -- ---- the walk, as the definition has it: `through` are through, `tys` are to come, and h follows
@@ -137,11 +137,6 @@ module _ (K : List Struct → Type 0) (f : State → ℕ → Result (State × �
 
 -- ---- the arguments of a named type
 
--- node ty is a named type: its places are in use, and its arguments are below it
-pub record Named (w : List ℕ) (u : Used) (first many ty : ℕ) : Type 0 where
-  pub placed : Placed w u first many
-  pub smaller : (i : ℕ) → i < many → getD (args-at (view w u) (places first many)) i 0 < ty
-
 pub placed-length : (w : List ℕ) (u : Used) (first many : ℕ) → Placed w u first many → length (args-at (view w u) (places first many)) ≡ many
 unfolding places
 placed-length w u first many pl = args-length (view w u) (places first many) (pl .inside)
@@ -159,6 +154,9 @@ named-kept w₀ u₀ first many ty nm w u g =
       placed = record { few = nm .placed .few; inside = omega (arith, nm .placed .inside, front-length _ _ (g .args)) };
       smaller = λ i lt. rw (args-kept (view w₀ u₀) (view w u) (places first many) g (nm .placed .inside)) (nm .smaller i lt);
     }
+
+pub named-below : (w : List ℕ) (u : Used) (first many ty n : ℕ) → ty < n → Named w u first many ty → Named w u first many n
+named-below w u first many ty n lt nm = record { placed = nm .placed; smaller = λ i h. omega (arith, nm .smaller i h) }
 
 -- ---- the numbers j, j + 1, .., k of them: a walk over places
 

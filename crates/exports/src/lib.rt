@@ -1,0 +1,83 @@
+// The public calls for C and Rust, over pointers and lengths: pongiwaru.h beside src/ declares them. Each says outright what it gives, whatever it is lent.
+ghost use mathlib.Core.Path.{_≡_};
+ghost use Prim.Native.Nat.{_-_, _≤_};
+ghost use lib.ListN.{length as size, drop};
+ghost use Rattle.engine.specs.Public.{lent-step, in-front, rest-of, lent-lines};
+
+// One record, lent whole. The result is the answer's number; the payload stands in front of the answer buffer, and length is how long it is.
+#[no_mangle]
+pub extern "C" fn pongiwaru_record(
+    state: &mut [u32],
+    params: &mut [[u8; 8]; 256],
+    record: &[u8],
+    answer: &mut [u8],
+    length: &mut u32,
+) -> u32
+    ensures { λ r. ⌜ r ≡ lent-step (now (state .entry)) (now (params .entry)) (now («record» .entry)) (size (now (answer .entry))) .number ⌝ }
+    ensures { λ r. ⌜ now (state .exit) ≡ lent-step (now (state .entry)) (now (params .entry)) (now («record» .entry)) (size (now (answer .entry))) .words ⌝ }
+    ensures { λ r. ⌜ now (params .exit) ≡ lent-step (now (state .entry)) (now (params .entry)) (now («record» .entry)) (size (now (answer .entry))) .params ⌝ }
+    ensures { λ r. ⌜ now (length .exit) ≡ size (lent-step (now (state .entry)) (now (params .entry)) (now («record» .entry)) (size (now (answer .entry))) .payload) ⌝ }
+    ensures { λ r. ⌜ now (answer .exit) ≡ in-front (lent-step (now (state .entry)) (now (params .entry)) (now («record» .entry)) (size (now (answer .entry))) .payload) (now (answer .entry)) ⌝ }
+{
+    let mut number: u32 = 0;
+    let p = *params;
+    *params = engine::lent_record(state, p, record, answer, &mut number, length);
+    number
+}
+
+// How many bytes of the stream are left after one record; all of them on 5, 6 and 15. The state is as it was.
+#[no_mangle]
+pub extern "C" fn pongiwaru_split(
+    state: &mut [u32],
+    params: &[[u8; 8]; 256],
+    stream: &[u8],
+    rest: &mut usize,
+)
+    ensures { λ _. ⌜ now (state .exit) ≡ now (state .entry) ⌝ }
+    ensures { λ _. ⌜ now (rest .exit) ≤ size (now (stream .entry)) ⌝ }
+    ensures { λ _. ⌜ drop (size (now (stream .entry)) - now (rest .exit)) (now (stream .entry)) ≡ rest-of (now (state .entry)) (now (params .entry)) (now (stream .entry)) ⌝ }
+{
+    let p = *params;
+    let n = engine::rest_size(state, p, stream);
+    *rest = stream.len() - n;
+}
+
+// A job's next lines. The result is 0, or 15 for a state that is not sound.
+#[no_mangle]
+pub extern "C" fn pongiwaru_job(
+    state: &mut [u32],
+    params: &mut [[u8; 8]; 256],
+    stream: &[u8],
+    more: bool,
+    log: &mut [u8],
+    written: &mut usize,
+    read: &mut usize,
+    place: &mut u64,
+    ended: &mut bool,
+) -> u32
+    ensures { λ r. ⌜ r ≡ lent-lines (now (state .entry)) (now (params .entry)) (now (place .entry)) (now (stream .entry)) (size (now (log .entry))) more .number ⌝ }
+    ensures { λ r. ⌜ now (state .exit) ≡ lent-lines (now (state .entry)) (now (params .entry)) (now (place .entry)) (now (stream .entry)) (size (now (log .entry))) more .words ⌝ }
+    ensures { λ r. ⌜ now (params .exit) ≡ lent-lines (now (state .entry)) (now (params .entry)) (now (place .entry)) (now (stream .entry)) (size (now (log .entry))) more .params ⌝ }
+    ensures { λ r. ⌜ now (log .exit) ≡ in-front (lent-lines (now (state .entry)) (now (params .entry)) (now (place .entry)) (now (stream .entry)) (size (now (log .entry))) more .text) (now (log .entry)) ⌝ }
+    ensures { λ r. ⌜ now (written .exit) ≡ size (lent-lines (now (state .entry)) (now (params .entry)) (now (place .entry)) (now (stream .entry)) (size (now (log .entry))) more .text) ⌝ }
+    ensures { λ r. ⌜ drop (now (read .exit)) (now (stream .entry)) ≡ lent-lines (now (state .entry)) (now (params .entry)) (now (place .entry)) (now (stream .entry)) (size (now (log .entry))) more .rest ⌝ }
+    ensures { λ r. ⌜ now (place .exit) ≡ lent-lines (now (state .entry)) (now (params .entry)) (now (place .entry)) (now (stream .entry)) (size (now (log .entry))) more .place ⌝ }
+    ensures { λ r. ⌜ now (ended .exit) ≡ lent-lines (now (state .entry)) (now (params .entry)) (now (place .entry)) (now (stream .entry)) (size (now (log .entry))) more .ended ⌝ }
+    ensures { λ r. ⌜ (now (read .exit) ≤ size (now (stream .entry))) × (now (written .exit) ≤ size (now (log .entry))) ⌝ }
+{
+    let mut number: u32 = 0;
+    let p = *params;
+    *params = engine::job(
+        state,
+        p,
+        stream,
+        more,
+        log,
+        &mut number,
+        written,
+        read,
+        place,
+        ended,
+    );
+    number
+}

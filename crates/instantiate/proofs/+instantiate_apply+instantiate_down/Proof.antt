@@ -1,0 +1,426 @@
+-- `instantiate::instantiate_apply` and `instantiate::instantiate_down` meet their contracts. Assumes nothing.
+use mathlib.Core.Path.{_≡_, refl, sym, _∙_}
+use native.Mathlib.Omega.{arith}
+use borrow.Author.Needs.{needs}
+use lib.ListN.{take}
+use Rattle.definition.specs.Instantiate as D
+use Rattle.definition.specs.Store.{args-at}
+use Rattle.names.specs.Names.{mark-of, name-of}
+use Rattle.table.specs.Rows.{places}
+use Rattle.table.specs.State.{view}
+use Rattle.walk.proofs.Steps.{nodes-grow, parts-grow, when-done, when-after, Any}
+use Rattle.walk.proofs.Parts.{ref-below, named}
+use Rattle.walk.proofs.Walk.{Walked, placed-length, named-kept, named-below, arg-kept, walk-start, walk-stop, walk-more, walk-end, walk-parts}
+use Rattle.instantiate.specs.Known.{Known}
+use Rattle.instantiate.specs.Args.{joined}
+use Rattle.instantiate.proofs.ArgLaws.{known-kept}
+use Rattle.instantiate.proofs.DownLaws.{inst-zero, inst-unit, inst-error, inst-param, inst-var, inst-anything, ref-full, ref-stop, ref-then, apply-by, apply-stop, apply-then}
+use Prim.Native.Nat.{ℕ, _+_, _*_, _-_, _<_}
+use borrow.Fn.Kinds.{In}
+use borrow.Fn.PlainCycle.{Measures, is, falls, and}
+use Rattle.instantiate.proofs.instantiate_apply.Reads as instantiate-apply
+use Rattle.instantiate.proofs.instantiate_apply.Kinds as instantiate-apply-kinds
+use Rattle.instantiate.proofs.+instantiate_apply+instantiate_down.Lts-instantiate_apply as instantiate-apply-lts
+use Rattle.instantiate.proofs.instantiate_down.Reads as instantiate-down
+use Rattle.instantiate.proofs.instantiate_down.Kinds as instantiate-down-kinds
+use Rattle.instantiate.proofs.+instantiate_apply+instantiate_down.Lts-instantiate_down as instantiate-down-lts
+use Rattle.instantiate.proofs.join_args.Reads as join-args-reads
+use Rattle.instantiate.proofs.make_tparams.Reads as make-tparams-reads
+use Rattle.instantiate.proofs.make_tvar.Reads as make-tvar-reads
+use Rattle.instantiate.proofs.stay.Reads as stay-reads
+use Rattle.instantiate.proofs.wide.Reads as wide-reads
+use Rattle.table.proofs.arg_at.Reads as arg-at-reads
+use Rattle.table.proofs.done_of.Reads as done-of-reads
+use Rattle.table.proofs.node_at.Reads as node-at-reads
+use Rattle.table.proofs.push_constraint.Reads as push-constraint-reads
+use Rattle.table.proofs.push_node.Reads as push-node-reads
+use Rattle.instantiate.proofs.+instantiate_apply+instantiate_down.{statement}
+use Rattle.instantiate.proofs.+instantiate_apply+instantiate_down.Tie.{close}
+
+abbrev μ-instantiate-apply : Measures 2 instantiate-apply-kinds.ps ℕ
+μ-instantiate-apply κs a = 2 * a .1 .1 .1 .0 + 1
+
+abbrev μ-instantiate-down : Measures 2 instantiate-down-kinds.ps ℕ
+μ-instantiate-down κs a = 2 * a .1 .1 .1 .0
+
+abbrev instantiate-apply-at : ℕ → In 2 instantiate-apply-kinds.ps
+instantiate-apply-at t =
+    and
+    2
+    instantiate-apply-kinds.ps
+    (is 2 instantiate-apply-kinds.ps μ-instantiate-apply t)
+    instantiate-apply.Pre
+
+abbrev instantiate-apply-below : ℕ → In 2 instantiate-apply-kinds.ps
+instantiate-apply-below t =
+    and
+    2
+    instantiate-apply-kinds.ps
+    (falls 2 instantiate-apply-kinds.ps _<_ μ-instantiate-apply t)
+    instantiate-apply.Pre
+
+abbrev instantiate-down-at : ℕ → In 2 instantiate-down-kinds.ps
+instantiate-down-at t =
+    and
+    2
+    instantiate-down-kinds.ps
+    (is 2 instantiate-down-kinds.ps μ-instantiate-down t)
+    instantiate-down.Pre
+
+abbrev instantiate-down-below : ℕ → In 2 instantiate-down-kinds.ps
+instantiate-down-below t =
+    and
+    2
+    instantiate-down-kinds.ps
+    (falls 2 instantiate-down-kinds.ps _<_ μ-instantiate-down t)
+    instantiate-down.Pre
+
+abbrev instantiate-apply-calls : ℕ → instantiate-apply-lts.Claims
+instantiate-apply-calls t = (make-tparams-reads.Asked, make-tparams-reads.Learnt, done-of-reads.Asked, done-of-reads.Learnt, stay-reads.Asked, stay-reads.Learnt, arg-at-reads.Asked, arg-at-reads.Learnt, instantiate-down-below t, instantiate-down.Post, wide-reads.Asked, wide-reads.Learnt, join-args-reads.Asked, join-args-reads.Learnt)
+
+abbrev instantiate-down-calls : ℕ → instantiate-down-lts.Claims
+instantiate-down-calls t = (stay-reads.Asked, stay-reads.Learnt, node-at-reads.Asked, node-at-reads.Learnt, make-tvar-reads.Asked, make-tvar-reads.Learnt, push-constraint-reads.Asked, push-constraint-reads.Learnt, done-of-reads.Asked, done-of-reads.Learnt, instantiate-down-below t, instantiate-down.Post, push-node-reads.Asked, push-node-reads.Learnt, instantiate-apply-below t, instantiate-apply.Post)
+
+abbrev instantiate-apply-Inv-loop : instantiate-apply-lts.InvT-loop
+instantiate-apply-Inv-loop w₀ params left loc k n first many tvars count parts₀ v₀ i₀ w parts v i =
+    Walked (Known w₀ v₀ params) (D.instantiate-down left) (joined loc (mark-of k) (name-of n) (take count tvars)) (args-at (view w₀ v₀) (places first many)) w₀ v₀ w v parts i
+
+abbrev instantiate-apply-μ-loop : instantiate-apply-lts.MeasureT-loop
+instantiate-apply-μ-loop w₀ params left loc k n first many tvars count parts₀ v₀ i₀ w parts v i = many - i
+
+instantiate-apply-make-tparams-requires :
+    (t : ℕ) → instantiate-apply-lts.Need-make-tparams-requires (instantiate-apply-calls t) (instantiate-apply-at t) instantiate-apply.Post
+    instantiate-apply-Inv-loop
+    instantiate-apply-μ-loop
+instantiate-apply-make-tparams-requires t c κs = (c .before .before .pre .1 .0, c .before .before .pre .1 .1 .placed)
+
+instantiate-apply-done-of-requires : (t : ℕ) → instantiate-apply-lts.Need-done-of-requires (instantiate-apply-calls t) (instantiate-apply-at t) instantiate-apply.Post
+    instantiate-apply-Inv-loop
+    instantiate-apply-μ-loop
+instantiate-apply-done-of-requires t c κs = search needs
+
+instantiate-apply-enum-told : (t : ℕ) → instantiate-apply-lts.Need-enum-told (instantiate-apply-calls t) (instantiate-apply-at t) instantiate-apply.Post
+    instantiate-apply-Inv-loop
+    instantiate-apply-μ-loop
+instantiate-apply-enum-told t c = search needs
+
+instantiate-apply-enum-told-2 : (t : ℕ) → instantiate-apply-lts.Need-enum-told-2 (instantiate-apply-calls t) (instantiate-apply-at t) instantiate-apply.Post
+    instantiate-apply-Inv-loop
+    instantiate-apply-μ-loop
+instantiate-apply-enum-told-2 t c = search needs
+
+instantiate-apply-stay-requires : (t : ℕ) → instantiate-apply-lts.Need-stay-requires (instantiate-apply-calls t) (instantiate-apply-at t) instantiate-apply.Post
+    instantiate-apply-Inv-loop
+    instantiate-apply-μ-loop
+instantiate-apply-stay-requires t c κs = search needs
+
+instantiate-apply-same-length : (t : ℕ) → instantiate-apply-lts.Need-same-length (instantiate-apply-calls t) (instantiate-apply-at t) instantiate-apply.Post
+    instantiate-apply-Inv-loop
+    instantiate-apply-μ-loop
+instantiate-apply-same-length t c = c .before .before .before .before .before .before .before .before .make-tparams .ensures .lay .size ∙ sym (c .before .before .before .before .before .before .before .before .before .before .before .pre .1 .0 .size)
+
+instantiate-apply-returns : (t : ℕ) → instantiate-apply-lts.Need-returns (instantiate-apply-calls t) (instantiate-apply-at t) instantiate-apply.Post
+    instantiate-apply-Inv-loop
+    instantiate-apply-μ-loop
+instantiate-apply-returns t c = apply-stop _ _ _ _ _ _ _ _ _ (c .before .before .before .before .before .before .before .before .before .before .before .pre .1 .1 .placed) _ (c .before .before .before .before .before .before .before .before .make-tparams .result) _ (c .before .before .before .before .before .before .before .before .make-tparams .ensures) (c .before .before .before .done-of .ensures) _ (c .stay .ensures) (c .before .enum-told2 .given .1)
+
+instantiate-apply-loop-holds : (t : ℕ) → instantiate-apply-lts.Need-loop-holds (instantiate-apply-calls t) (instantiate-apply-at t) instantiate-apply.Post
+    instantiate-apply-Inv-loop
+    instantiate-apply-μ-loop
+instantiate-apply-loop-holds t c = walk-start _ _ _ _ _ (placed-length _ _ _ _ ((named-kept _ _ _ _ _ (c .before .before .before .before .before .before .before .before .before .before .pre .1 .1) _ _ (c .before .before .before .before .before .before .before .make-tparams .ensures .grown)) .placed)) ((named-kept _ _ _ _ _ (c .before .before .before .before .before .before .before .before .before .before .pre .1 .1) _ _ (c .before .before .before .before .before .before .before .make-tparams .ensures .grown)) .placed .few) _ _ _ (c .before .before .before .before .before .before .before .make-tparams .ensures .lay) refl
+
+instantiate-apply-arg-at-requires : (t : ℕ) → instantiate-apply-lts.Need-arg-at-requires (instantiate-apply-calls t) (instantiate-apply-at t) instantiate-apply.Post
+    instantiate-apply-Inv-loop
+    instantiate-apply-μ-loop
+instantiate-apply-arg-at-requires t c κs = c .before .before .loop .inv .lay
+
+instantiate-apply-instantiate-down-requires :
+    (t : ℕ) → instantiate-apply-lts.Need-instantiate-down-requires (instantiate-apply-calls t) (instantiate-apply-at t) instantiate-apply.Post
+    instantiate-apply-Inv-loop
+    instantiate-apply-μ-loop
+instantiate-apply-instantiate-down-requires t c κs = (omega (arith, c .before .before .before .before .before .before .before .before .before .before .before .before .before .before .before .pre .0), (c .before .before .before .before .loop .inv .lay, omega (arith, (arg-kept _ _ _ _ ((named-kept _ _ _ _ _ (c .before .before .before .before .before .before .before .before .before .before .before .before .before .before .before .pre .1 .1) _ _ (c .before .before .before .before .before .before .before .before .before .before .before .before .make-tparams .ensures .grown)) .placed) _ _ (c .before .before .before .before .loop .inv .grown) _ _ (c .before .before .before .loop-test .taken) (c .before .arg-at .ensures)), (named-kept _ _ _ _ _ (c .before .before .before .before .before .before .before .before .before .before .before .before .before .before .before .pre .1 .1) _ _ (c .before .before .before .before .before .before .before .before .before .before .before .before .make-tparams .ensures .grown)) .smaller _ (c .before .before .before .loop-test .taken), nodes-grow _ _ _ _ (c .before .before .before .before .before .before .before .before .before .before .before .before .make-tparams .ensures .grown), nodes-grow _ _ _ _ (c .before .before .before .before .loop .inv .grown))))
+
+instantiate-apply-done-of-requires-2 : (t : ℕ) → instantiate-apply-lts.Need-done-of-requires-2 (instantiate-apply-calls t) (instantiate-apply-at t) instantiate-apply.Post
+    instantiate-apply-Inv-loop
+    instantiate-apply-μ-loop
+instantiate-apply-done-of-requires-2 t c κs = search needs
+
+instantiate-apply-enum-known-p : (t : ℕ) → instantiate-apply-lts.Need-enum-known-p (instantiate-apply-calls t) (instantiate-apply-at t) instantiate-apply.Post
+    instantiate-apply-Inv-loop
+    instantiate-apply-μ-loop
+instantiate-apply-enum-known-p t c = search needs
+
+instantiate-apply-enum-told-3 : (t : ℕ) → instantiate-apply-lts.Need-enum-told-3 (instantiate-apply-calls t) (instantiate-apply-at t) instantiate-apply.Post
+    instantiate-apply-Inv-loop
+    instantiate-apply-μ-loop
+instantiate-apply-enum-told-3 t c = search needs
+
+instantiate-apply-same-length-2 : (t : ℕ) → instantiate-apply-lts.Need-same-length-2 (instantiate-apply-calls t) (instantiate-apply-at t) instantiate-apply.Post
+    instantiate-apply-Inv-loop
+    instantiate-apply-μ-loop
+instantiate-apply-same-length-2 t c = c .before .before .before .before .before .instantiate-down .ensures .lay .size ∙ sym (c .before .before .before .before .before .before .before .before .before .before .before .before .before .before .before .before .before .before .before .before .before .pre .1 .0 .size)
+
+instantiate-apply-returns-2 : (t : ℕ) → instantiate-apply-lts.Need-returns-2 (instantiate-apply-calls t) (instantiate-apply-at t) instantiate-apply.Post
+    instantiate-apply-Inv-loop
+    instantiate-apply-μ-loop
+instantiate-apply-returns-2 t c = apply-then _ _ _ _ _ _ _ _ _ (c .before .before .before .before .before .before .before .before .before .before .before .before .before .before .before .before .before .before .before .before .before .pre .1 .1 .placed) _ (c .before .before .before .before .before .before .before .before .before .before .before .before .before .before .before .before .before .before .make-tparams .result) _ (c .before .before .before .before .before .before .before .before .before .before .before .before .before .before .before .before .before .before .make-tparams .ensures) (c .before .before .before .before .before .before .before .before .before .before .before .before .before .done-of .ensures) _ _ _ (c .before .before .before .before .before .before .before .before .before .before .before .enum-told .given .1) (walk-stop _ _ _ _ _ (placed-length _ _ _ _ ((named-kept _ _ _ _ _ (c .before .before .before .before .before .before .before .before .before .before .before .before .before .before .before .before .before .before .before .before .before .pre .1 .1) _ _ (c .before .before .before .before .before .before .before .before .before .before .before .before .before .before .before .before .before .before .make-tparams .ensures .grown)) .placed)) ((named-kept _ _ _ _ _ (c .before .before .before .before .before .before .before .before .before .before .before .before .before .before .before .before .before .before .before .before .before .pre .1 .1) _ _ (c .before .before .before .before .before .before .before .before .before .before .before .before .before .before .before .before .before .before .make-tparams .ensures .grown)) .placed .few) _ _ _ _ _ _ (c .before .before .before .before .before .before .before .before .before .before .loop .inv) _ (c .before .before .before .before .before .before .before .before .before .loop-test .taken) (arg-kept _ _ _ _ ((named-kept _ _ _ _ _ (c .before .before .before .before .before .before .before .before .before .before .before .before .before .before .before .before .before .before .before .before .before .pre .1 .1) _ _ (c .before .before .before .before .before .before .before .before .before .before .before .before .before .before .before .before .before .before .make-tparams .ensures .grown)) .placed) _ _ (c .before .before .before .before .before .before .before .before .before .before .loop .inv .grown) _ _ (c .before .before .before .before .before .before .before .before .before .loop-test .taken) (c .before .before .before .before .before .before .before .arg-at .ensures)) _ (known-kept _ _ _ _ _ (c .before .before .before .before .before .before .before .before .before .before .loop .inv .structs)) _ _ (c .before .before .before .before .before .instantiate-down .ensures) _ (c .before .before .done-of2 .ensures) (c .enum-told3 .given .1))
+
+instantiate-apply-wide-requires : (t : ℕ) → instantiate-apply-lts.Need-wide-requires (instantiate-apply-calls t) (instantiate-apply-at t) instantiate-apply.Post
+    instantiate-apply-Inv-loop
+    instantiate-apply-μ-loop
+instantiate-apply-wide-requires t c κs = search needs
+
+instantiate-apply-mul-parts : (t : ℕ) → instantiate-apply-lts.Need-mul-parts (instantiate-apply-calls t) (instantiate-apply-at t) instantiate-apply.Post
+    instantiate-apply-Inv-loop
+    instantiate-apply-μ-loop
+instantiate-apply-mul-parts t c = omega (arith, c .wide .ensures, c .before .before .before .before .before .before .before .before .before .before .before .before .before .before .before .before .before .before .before .before .before .before .before .pre .1 .1 .placed .few, c .before .before .before .before .before .before .before .before .before .before .before .loop-test .taken)
+
+instantiate-apply-array-write-parts : (t : ℕ) → instantiate-apply-lts.Need-array-write-parts (instantiate-apply-calls t) (instantiate-apply-at t) instantiate-apply.Post
+    instantiate-apply-Inv-loop
+    instantiate-apply-μ-loop
+instantiate-apply-array-write-parts t c = omega (arith, c .wide .ensures, c .before .before .before .before .before .before .before .before .before .before .before .before .before .before .before .before .before .before .before .before .before .before .before .pre .1 .1 .placed .few, c .before .before .before .before .before .before .before .before .before .before .before .loop-test .taken)
+
+instantiate-apply-add-i : (t : ℕ) → instantiate-apply-lts.Need-add-i (instantiate-apply-calls t) (instantiate-apply-at t) instantiate-apply.Post
+    instantiate-apply-Inv-loop
+    instantiate-apply-μ-loop
+instantiate-apply-add-i t c = omega (arith, c .before .before .before .before .before .before .before .before .before .before .before .before .before .before .before .before .before .before .before .before .before .before .before .before .pre .1 .1 .placed .few, c .before .before .before .before .before .before .before .before .before .before .before .before .loop-test .taken)
+
+instantiate-apply-loop-less : (t : ℕ) → instantiate-apply-lts.Need-loop-less (instantiate-apply-calls t) (instantiate-apply-at t) instantiate-apply.Post
+    instantiate-apply-Inv-loop
+    instantiate-apply-μ-loop
+instantiate-apply-loop-less t c = omega (arith, c .before .before .before .before .before .before .before .before .before .before .before .before .loop-test .taken)
+
+instantiate-apply-loop-again : (t : ℕ) → instantiate-apply-lts.Need-loop-again (instantiate-apply-calls t) (instantiate-apply-at t) instantiate-apply.Post
+    instantiate-apply-Inv-loop
+    instantiate-apply-μ-loop
+instantiate-apply-loop-again t c = walk-more _ _ _ _ _ (placed-length _ _ _ _ ((named-kept _ _ _ _ _ (c .before .before .before .before .before .before .before .before .before .before .before .before .before .before .before .before .before .before .before .before .before .before .before .before .pre .1 .1) _ _ (c .before .before .before .before .before .before .before .before .before .before .before .before .before .before .before .before .before .before .before .before .before .make-tparams .ensures .grown)) .placed)) ((named-kept _ _ _ _ _ (c .before .before .before .before .before .before .before .before .before .before .before .before .before .before .before .before .before .before .before .before .before .before .before .before .pre .1 .1) _ _ (c .before .before .before .before .before .before .before .before .before .before .before .before .before .before .before .before .before .before .before .before .before .make-tparams .ensures .grown)) .placed .few) _ _ _ _ _ _ (c .before .before .before .before .before .before .before .before .before .before .before .before .before .loop .inv) _ (c .before .before .before .before .before .before .before .before .before .before .before .before .loop-test .taken) (arg-kept _ _ _ _ ((named-kept _ _ _ _ _ (c .before .before .before .before .before .before .before .before .before .before .before .before .before .before .before .before .before .before .before .before .before .before .before .before .pre .1 .1) _ _ (c .before .before .before .before .before .before .before .before .before .before .before .before .before .before .before .before .before .before .before .before .before .make-tparams .ensures .grown)) .placed) _ _ (c .before .before .before .before .before .before .before .before .before .before .before .before .before .loop .inv .grown) _ _ (c .before .before .before .before .before .before .before .before .before .before .before .before .loop-test .taken) (c .before .before .before .before .before .before .before .before .before .before .arg-at .ensures)) _ (known-kept _ _ _ _ _ (c .before .before .before .before .before .before .before .before .before .before .before .before .before .loop .inv .structs)) _ _ (c .before .before .before .before .before .before .before .before .instantiate-down .ensures) _ (c .before .before .before .before .before .done-of2 .ensures) _ _ (c .before .before .before .p .given .1) (c .before .wide .ensures)
+
+instantiate-apply-join-args-requires : (t : ℕ) → instantiate-apply-lts.Need-join-args-requires (instantiate-apply-calls t) (instantiate-apply-at t) instantiate-apply.Post
+    instantiate-apply-Inv-loop
+    instantiate-apply-μ-loop
+instantiate-apply-join-args-requires t c κs = (c .before .before .loop .inv .lay, (parts-grow _ _ _ _ (nodes-grow _ _ _ _ (c .before .before .loop .inv .grown)) (c .before .before .before .before .before .before .before .before .before .before .make-tparams .ensures .below _ (sym (c .before .before .before .before .before .done-of .ensures) ∙ c .before .before .before .enum-told .given .1)), walk-parts _ _ _ _ _ (placed-length _ _ _ _ ((named-kept _ _ _ _ _ (c .before .before .before .before .before .before .before .before .before .before .before .before .before .pre .1 .1) _ _ (c .before .before .before .before .before .before .before .before .before .before .make-tparams .ensures .grown)) .placed)) ((named-kept _ _ _ _ _ (c .before .before .before .before .before .before .before .before .before .before .before .before .before .pre .1 .1) _ _ (c .before .before .before .before .before .before .before .before .before .before .make-tparams .ensures .grown)) .placed .few) _ _ _ _ _ _ (c .before .before .loop .inv) (c .before .loop-test .left)))
+
+instantiate-apply-same-length-3 : (t : ℕ) → instantiate-apply-lts.Need-same-length-3 (instantiate-apply-calls t) (instantiate-apply-at t) instantiate-apply.Post
+    instantiate-apply-Inv-loop
+    instantiate-apply-μ-loop
+instantiate-apply-same-length-3 t c = c .before .before .join-args .ensures .changed .lay .size ∙ sym (c .before .before .before .before .before .before .before .before .before .before .before .before .before .before .before .before .pre .1 .0 .size)
+
+instantiate-apply-returns-3 : (t : ℕ) → instantiate-apply-lts.Need-returns-3 (instantiate-apply-calls t) (instantiate-apply-at t) instantiate-apply.Post
+    instantiate-apply-Inv-loop
+    instantiate-apply-μ-loop
+unfolding Any
+instantiate-apply-returns-3 t c = apply-then _ _ _ _ _ _ _ _ _ (c .before .before .before .before .before .before .before .before .before .before .before .before .before .before .before .before .pre .1 .1 .placed) _ (c .before .before .before .before .before .before .before .before .before .before .before .before .before .make-tparams .result) _ (c .before .before .before .before .before .before .before .before .before .before .before .before .before .make-tparams .ensures) (c .before .before .before .before .before .before .before .before .done-of .ensures) _ _ _ (c .before .before .before .before .before .before .enum-told .given .1) (walk-end _ _ _ _ _ (placed-length _ _ _ _ ((named-kept _ _ _ _ _ (c .before .before .before .before .before .before .before .before .before .before .before .before .before .before .before .before .pre .1 .1) _ _ (c .before .before .before .before .before .before .before .before .before .before .before .before .before .make-tparams .ensures .grown)) .placed)) ((named-kept _ _ _ _ _ (c .before .before .before .before .before .before .before .before .before .before .before .before .before .before .before .before .pre .1 .1) _ _ (c .before .before .before .before .before .before .before .before .before .before .before .before .before .make-tparams .ensures .grown)) .placed .few) _ _ _ _ _ _ (c .before .before .before .before .before .loop .inv) Any (λ ds k. tt) _ _ (c .before .before .before .before .loop-test .left) (when-after Any _ _ _ _ _ (c .before .before .join-args .ensures)))
+
+instantiate-down-stay-requires : (t : ℕ) → instantiate-down-lts.Need-stay-requires (instantiate-down-calls t) (instantiate-down-at t) instantiate-down.Post
+instantiate-down-stay-requires t c κs = search needs
+
+instantiate-down-returns : (t : ℕ) → instantiate-down-lts.Need-returns (instantiate-down-calls t) (instantiate-down-at t) instantiate-down.Post
+instantiate-down-returns t c = inst-zero _ _ _ _ _ _ (c .before .before .before .pre .1 .0) (c .before .if1 .taken) (c .stay .ensures)
+
+instantiate-down-node-at-requires : (t : ℕ) → instantiate-down-lts.Need-node-at-requires (instantiate-down-calls t) (instantiate-down-at t) instantiate-down.Post
+instantiate-down-node-at-requires t c κs = search needs
+
+instantiate-down-enum-told : (t : ℕ) → instantiate-down-lts.Need-enum-told (instantiate-down-calls t) (instantiate-down-at t) instantiate-down.Post
+instantiate-down-enum-told t c = search needs
+
+instantiate-down-stay-requires-2 : (t : ℕ) → instantiate-down-lts.Need-stay-requires-2 (instantiate-down-calls t) (instantiate-down-at t) instantiate-down.Post
+instantiate-down-stay-requires-2 t c κs = search needs
+
+instantiate-down-enum-told-2 : (t : ℕ) → instantiate-down-lts.Need-enum-told-2 (instantiate-down-calls t) (instantiate-down-at t) instantiate-down.Post
+instantiate-down-enum-told-2 t c = search needs
+
+instantiate-down-stay-requires-3 : (t : ℕ) → instantiate-down-lts.Need-stay-requires-3 (instantiate-down-calls t) (instantiate-down-at t) instantiate-down.Post
+instantiate-down-stay-requires-3 t c κs = search needs
+
+instantiate-down-enum-told-3 : (t : ℕ) → instantiate-down-lts.Need-enum-told-3 (instantiate-down-calls t) (instantiate-down-at t) instantiate-down.Post
+instantiate-down-enum-told-3 t c = search needs
+
+instantiate-down-stay-requires-4 : (t : ℕ) → instantiate-down-lts.Need-stay-requires-4 (instantiate-down-calls t) (instantiate-down-at t) instantiate-down.Post
+instantiate-down-stay-requires-4 t c κs = search needs
+
+instantiate-down-enum-told-4 : (t : ℕ) → instantiate-down-lts.Need-enum-told-4 (instantiate-down-calls t) (instantiate-down-at t) instantiate-down.Post
+instantiate-down-enum-told-4 t c = search needs
+
+instantiate-down-stay-requires-5 : (t : ℕ) → instantiate-down-lts.Need-stay-requires-5 (instantiate-down-calls t) (instantiate-down-at t) instantiate-down.Post
+instantiate-down-stay-requires-5 t c κs = search needs
+
+instantiate-down-enum-told-5 : (t : ℕ) → instantiate-down-lts.Need-enum-told-5 (instantiate-down-calls t) (instantiate-down-at t) instantiate-down.Post
+instantiate-down-enum-told-5 t c = search needs
+
+instantiate-down-make-tvar-requires : (t : ℕ) → instantiate-down-lts.Need-make-tvar-requires (instantiate-down-calls t) (instantiate-down-at t) instantiate-down.Post
+instantiate-down-make-tvar-requires t c κs = search needs
+
+instantiate-down-enum-known-shape : (t : ℕ) → instantiate-down-lts.Need-enum-known-shape (instantiate-down-calls t) (instantiate-down-at t) instantiate-down.Post
+instantiate-down-enum-known-shape t c = search needs
+
+instantiate-down-push-constraint-requires :
+    (t : ℕ) → instantiate-down-lts.Need-push-constraint-requires (instantiate-down-calls t) (instantiate-down-at t) instantiate-down.Post
+instantiate-down-push-constraint-requires t c κs = search needs
+
+instantiate-down-done-of-requires : (t : ℕ) → instantiate-down-lts.Need-done-of-requires (instantiate-down-calls t) (instantiate-down-at t) instantiate-down.Post
+instantiate-down-done-of-requires t c κs = search needs
+
+instantiate-down-enum-told-6 : (t : ℕ) → instantiate-down-lts.Need-enum-told-6 (instantiate-down-calls t) (instantiate-down-at t) instantiate-down.Post
+instantiate-down-enum-told-6 t c = search needs
+
+instantiate-down-enum-told-7 : (t : ℕ) → instantiate-down-lts.Need-enum-told-7 (instantiate-down-calls t) (instantiate-down-at t) instantiate-down.Post
+instantiate-down-enum-told-7 t c = search needs
+
+instantiate-down-same-length : (t : ℕ) → instantiate-down-lts.Need-same-length (instantiate-down-calls t) (instantiate-down-at t) instantiate-down.Post
+instantiate-down-same-length t c = c .before .before .before .before .before .before .push-constraint .ensures .lay .size ∙ sym (c .before .before .before .before .before .before .before .before .before .before .before .before .before .before .before .pre .1 .0 .size)
+
+instantiate-down-returns-2 : (t : ℕ) → instantiate-down-lts.Need-returns-2 (instantiate-down-calls t) (instantiate-down-at t) instantiate-down.Post
+instantiate-down-returns-2 t c = ref-full _ _ _ _ _ _ (c .before .before .before .before .before .before .before .before .before .before .before .before .before .before .before .pre .1 .0) (c .before .before .before .before .before .before .before .before .before .before .before .before .before .if1 .left) (c .before .before .before .before .before .before .before .before .before .before .before .node-at .ensures) _ _ (c .before .before .before .before .before .before .before .before .before .shape .given .1) _ _ _ (c .before .before .before .before .before .before .push-constraint .ensures) (c .before .before .done-of .ensures) (c .enum-told7 .given .1)
+
+instantiate-down-sub-instantiate-down : (t : ℕ) → instantiate-down-lts.Need-sub-instantiate-down (instantiate-down-calls t) (instantiate-down-at t) instantiate-down.Post
+instantiate-down-sub-instantiate-down t c = omega (arith, c .before .before .before .before .before .before .before .before .before .before .before .before .before .before .if1 .left)
+
+instantiate-down-instantiate-down-requires :
+    (t : ℕ) → instantiate-down-lts.Need-instantiate-down-requires (instantiate-down-calls t) (instantiate-down-at t) instantiate-down.Post
+instantiate-down-instantiate-down-requires t c κs = (omega (arith, c .before .before .before .before .before .before .before .before .before .before .before .before .before .before .before .before .pre .0, c .before .before .before .before .before .before .before .before .before .before .before .before .before .before .if1 .left), (c .before .before .before .before .before .before .before .push-constraint .ensures .lay, omega (arith, ref-below _ _ _ _ (c .before .before .before .before .before .before .before .before .before .before .before .before .before .before .before .before .pre .1 .0) (c .before .before .before .before .before .before .before .before .before .before .before .before .before .before .before .before .pre .1 .1) (c .before .before .before .before .before .before .before .before .before .before .before .before .node-at .ensures) _ _ (c .before .before .before .before .before .before .before .before .before .before .shape .given .1), c .before .before .before .before .before .before .before .before .before .before .before .before .before .before .before .before .pre .1 .1, nodes-grow _ _ _ _ (c .before .before .before .before .before .before .before .push-constraint .ensures .grown))))
+
+instantiate-down-done-of-requires-2 : (t : ℕ) → instantiate-down-lts.Need-done-of-requires-2 (instantiate-down-calls t) (instantiate-down-at t) instantiate-down.Post
+instantiate-down-done-of-requires-2 t c κs = search needs
+
+instantiate-down-enum-known-p : (t : ℕ) → instantiate-down-lts.Need-enum-known-p (instantiate-down-calls t) (instantiate-down-at t) instantiate-down.Post
+instantiate-down-enum-known-p t c = search needs
+
+instantiate-down-enum-told-8 : (t : ℕ) → instantiate-down-lts.Need-enum-told-8 (instantiate-down-calls t) (instantiate-down-at t) instantiate-down.Post
+instantiate-down-enum-told-8 t c = search needs
+
+instantiate-down-same-length-2 : (t : ℕ) → instantiate-down-lts.Need-same-length-2 (instantiate-down-calls t) (instantiate-down-at t) instantiate-down.Post
+instantiate-down-same-length-2 t c = c .before .before .before .before .before .before .instantiate-down .ensures .lay .size ∙ sym (c .before .before .before .before .before .before .before .before .before .before .before .before .before .before .before .before .before .before .before .before .before .before .before .pre .1 .0 .size)
+
+instantiate-down-returns-3 : (t : ℕ) → instantiate-down-lts.Need-returns-3 (instantiate-down-calls t) (instantiate-down-at t) instantiate-down.Post
+instantiate-down-returns-3 t c = ref-stop _ _ _ _ _ _ (c .before .before .before .before .before .before .before .before .before .before .before .before .before .before .before .before .before .before .before .before .before .before .before .pre .1 .0) (c .before .before .before .before .before .before .before .before .before .before .before .before .before .before .before .before .before .before .before .before .before .if1 .left) (c .before .before .before .before .before .before .before .before .before .before .before .before .before .before .before .before .before .before .before .node-at .ensures) _ _ (c .before .before .before .before .before .before .before .before .before .before .before .before .before .before .before .before .before .shape .given .1) _ _ _ (c .before .before .before .before .before .before .before .before .before .before .before .before .before .before .push-constraint .ensures) (c .before .before .before .before .before .before .before .before .before .before .done-of .ensures) _ (c .before .before .before .before .before .before .before .before .enum-told6 .given .1) _ _ _ (c .before .before .before .before .before .before .instantiate-down .ensures) (c .before .before .done-of2 .ensures) (c .enum-told8 .given .1)
+
+instantiate-down-push-node-requires : (t : ℕ) → instantiate-down-lts.Need-push-node-requires (instantiate-down-calls t) (instantiate-down-at t) instantiate-down.Post
+instantiate-down-push-node-requires t c κs = (c .before .before .before .before .before .before .before .before .instantiate-down .ensures .lay, when-done _ _ _ _ _ _ _ _ (c .before .before .before .before .before .before .before .before .instantiate-down .ensures) (c .before .before .before .before .done-of2 .ensures) (c .before .before .p .given .1))
+
+instantiate-down-enum-known-shape-2 : (t : ℕ) → instantiate-down-lts.Need-enum-known-shape-2 (instantiate-down-calls t) (instantiate-down-at t) instantiate-down.Post
+instantiate-down-enum-known-shape-2 t c = search needs
+
+instantiate-down-sub-instantiate-apply : (t : ℕ) → instantiate-down-lts.Need-sub-instantiate-apply (instantiate-down-calls t) (instantiate-down-at t) instantiate-down.Post
+instantiate-down-sub-instantiate-apply t c = omega (arith, c .before .before .before .before .before .before .if1 .left)
+
+instantiate-down-instantiate-apply-requires :
+    (t : ℕ) → instantiate-down-lts.Need-instantiate-apply-requires (instantiate-down-calls t) (instantiate-down-at t) instantiate-down.Post
+instantiate-down-instantiate-apply-requires t c κs = (omega (arith, c .before .before .before .before .before .before .before .before .pre .0, c .before .before .before .before .before .before .if1 .left), (c .before .before .before .before .before .before .before .before .pre .1 .0, named-below _ _ _ _ _ _ (c .before .before .before .before .before .before .before .before .pre .1 .1) (named _ _ _ _ (c .before .before .before .before .before .before .before .before .pre .1 .0) (c .before .before .before .before .before .before .before .before .pre .1 .1) (c .before .before .before .before .node-at .ensures) _ _ _ _ (c .before .before .shape2 .given .1))))
+
+instantiate-down-same-length-3 : (t : ℕ) → instantiate-down-lts.Need-same-length-3 (instantiate-down-calls t) (instantiate-down-at t) instantiate-down.Post
+instantiate-down-same-length-3 t c = search needs
+
+instantiate-down-returns-4 : (t : ℕ) → instantiate-down-lts.Need-returns-4 (instantiate-down-calls t) (instantiate-down-at t) instantiate-down.Post
+instantiate-down-returns-4 t c = inst-unit _ _ _ _ _ _ (c .before .before .before .before .before .before .before .pre .1 .0) (c .before .before .before .before .before .if1 .left) (c .before .before .before .node-at .ensures) _ (c .before .before .before .before .before .before .before .pre .1 .1) (c .stay2 .ensures) (c .before .enum-told .given .1)
+
+instantiate-down-same-length-4 : (t : ℕ) → instantiate-down-lts.Need-same-length-4 (instantiate-down-calls t) (instantiate-down-at t) instantiate-down.Post
+instantiate-down-same-length-4 t c = search needs
+
+instantiate-down-returns-5 : (t : ℕ) → instantiate-down-lts.Need-returns-5 (instantiate-down-calls t) (instantiate-down-at t) instantiate-down.Post
+instantiate-down-returns-5 t c = inst-error _ _ _ _ _ _ (c .before .before .before .before .before .before .before .pre .1 .0) (c .before .before .before .before .before .if1 .left) (c .before .before .before .node-at .ensures) _ (c .before .before .before .before .before .before .before .pre .1 .1) (c .stay3 .ensures) (c .before .enum-told2 .given .1)
+
+instantiate-down-same-length-5 : (t : ℕ) → instantiate-down-lts.Need-same-length-5 (instantiate-down-calls t) (instantiate-down-at t) instantiate-down.Post
+instantiate-down-same-length-5 t c = search needs
+
+instantiate-down-returns-6 : (t : ℕ) → instantiate-down-lts.Need-returns-6 (instantiate-down-calls t) (instantiate-down-at t) instantiate-down.Post
+instantiate-down-returns-6 t c = inst-param _ _ _ _ _ _ (c .before .before .before .before .before .before .before .pre .1 .0) (c .before .before .before .before .before .if1 .left) (c .before .before .before .node-at .ensures) _ (c .before .before .before .before .before .before .before .pre .1 .1) (c .stay4 .ensures) _ _ (c .before .enum-told3 .given .1)
+
+instantiate-down-same-length-6 : (t : ℕ) → instantiate-down-lts.Need-same-length-6 (instantiate-down-calls t) (instantiate-down-at t) instantiate-down.Post
+instantiate-down-same-length-6 t c = search needs
+
+instantiate-down-returns-7 : (t : ℕ) → instantiate-down-lts.Need-returns-7 (instantiate-down-calls t) (instantiate-down-at t) instantiate-down.Post
+instantiate-down-returns-7 t c = inst-var _ _ _ _ _ _ (c .before .before .before .before .before .before .before .pre .1 .0) (c .before .before .before .before .before .if1 .left) (c .before .before .before .node-at .ensures) _ _ (c .before .enum-told4 .given .1) (c .stay5 .ensures)
+
+instantiate-down-same-length-7 : (t : ℕ) → instantiate-down-lts.Need-same-length-7 (instantiate-down-calls t) (instantiate-down-at t) instantiate-down.Post
+instantiate-down-same-length-7 t c = c .before .before .make-tvar .ensures .changed .lay .size ∙ sym (c .before .before .before .before .before .before .before .before .before .before .pre .1 .0 .size)
+
+instantiate-down-returns-8 : (t : ℕ) → instantiate-down-lts.Need-returns-8 (instantiate-down-calls t) (instantiate-down-at t) instantiate-down.Post
+instantiate-down-returns-8 t c = inst-anything _ _ _ _ _ _ (c .before .before .before .before .before .before .before .before .before .before .pre .1 .0) (c .before .before .before .before .before .before .before .before .if1 .left) (c .before .before .before .before .before .before .node-at .ensures) _ _ (c .before .before .before .before .enum-told5 .given .1) (c .before .before .make-tvar .ensures)
+
+instantiate-down-same-length-8 : (t : ℕ) → instantiate-down-lts.Need-same-length-8 (instantiate-down-calls t) (instantiate-down-at t) instantiate-down.Post
+instantiate-down-same-length-8 t c = c .before .before .push-node .ensures .changed .lay .size ∙ sym (c .before .before .before .before .before .before .before .before .before .before .before .before .before .before .before .before .before .before .before .before .before .before .before .before .before .before .before .before .pre .1 .0 .size)
+
+instantiate-down-returns-9 : (t : ℕ) → instantiate-down-lts.Need-returns-9 (instantiate-down-calls t) (instantiate-down-at t) instantiate-down.Post
+instantiate-down-returns-9 t c = ref-then _ _ _ _ _ _ (c .before .before .before .before .before .before .before .before .before .before .before .before .before .before .before .before .before .before .before .before .before .before .before .before .before .before .before .before .pre .1 .0) (c .before .before .before .before .before .before .before .before .before .before .before .before .before .before .before .before .before .before .before .before .before .before .before .before .before .before .if1 .left) (c .before .before .before .before .before .before .before .before .before .before .before .before .before .before .before .before .before .before .before .before .before .before .before .before .node-at .ensures) _ _ (c .before .before .before .before .before .before .before .before .before .before .before .before .before .before .before .before .before .before .before .before .before .before .shape .given .1) _ _ _ (c .before .before .before .before .before .before .before .before .before .before .before .before .before .before .before .before .before .before .before .push-constraint .ensures) (c .before .before .before .before .before .before .before .before .before .before .before .before .before .before .before .done-of .ensures) _ (c .before .before .before .before .before .before .before .before .before .before .before .before .before .enum-told6 .given .1) _ _ _ (c .before .before .before .before .before .before .before .before .before .before .before .instantiate-down .ensures) (c .before .before .before .before .before .before .before .done-of2 .ensures) _ _ _ (c .before .before .before .before .before .p .given .1) (c .before .before .push-node .ensures)
+
+instantiate-down-same-length-9 : (t : ℕ) → instantiate-down-lts.Need-same-length-9 (instantiate-down-calls t) (instantiate-down-at t) instantiate-down.Post
+instantiate-down-same-length-9 t c = c .before .before .instantiate-apply .ensures .lay .size ∙ sym (c .before .before .before .before .before .before .before .before .before .before .before .pre .1 .0 .size)
+
+instantiate-down-returns-10 : (t : ℕ) → instantiate-down-lts.Need-returns-10 (instantiate-down-calls t) (instantiate-down-at t) instantiate-down.Post
+instantiate-down-returns-10 t c = apply-by _ _ _ _ _ _ (c .before .before .before .before .before .before .before .before .before .before .before .pre .1 .0) (c .before .before .before .before .before .before .before .before .before .if1 .left) (c .before .before .before .before .before .before .before .node-at .ensures) _ _ _ _ (c .before .before .before .before .before .shape2 .given .1) _ _ (c .before .before .instantiate-apply .ensures)
+
+pub +instantiate-apply+instantiate-down-spec : {M : Type 1} → statement M
++instantiate-apply+instantiate-down-spec =
+    close μ-instantiate-apply μ-instantiate-down (λ t. instantiate-apply-lts.spec (instantiate-apply-calls t) (instantiate-apply-at t) instantiate-apply.Post
+    instantiate-apply-Inv-loop
+    instantiate-apply-μ-loop
+    (instantiate-apply-make-tparams-requires t)
+    (instantiate-apply-done-of-requires t)
+    (instantiate-apply-enum-told t)
+    (instantiate-apply-enum-told-2 t)
+    (instantiate-apply-stay-requires t)
+    (instantiate-apply-same-length t)
+    (instantiate-apply-returns t)
+    (instantiate-apply-loop-holds t)
+    (instantiate-apply-arg-at-requires t)
+    (instantiate-apply-instantiate-down-requires t)
+    (instantiate-apply-done-of-requires-2 t)
+    (instantiate-apply-enum-known-p t)
+    (instantiate-apply-enum-told-3 t)
+    (instantiate-apply-same-length-2 t)
+    (instantiate-apply-returns-2 t)
+    (instantiate-apply-wide-requires t)
+    (instantiate-apply-mul-parts t)
+    (instantiate-apply-array-write-parts t)
+    (instantiate-apply-add-i t)
+    (instantiate-apply-loop-less t)
+    (instantiate-apply-loop-again t)
+    (instantiate-apply-join-args-requires t)
+    (instantiate-apply-same-length-3 t)
+    (instantiate-apply-returns-3 t))
+    λ t. instantiate-down-lts.spec (instantiate-down-calls t) (instantiate-down-at t) instantiate-down.Post
+    (instantiate-down-stay-requires t)
+    (instantiate-down-returns t)
+    (instantiate-down-node-at-requires t)
+    (instantiate-down-enum-told t)
+    (instantiate-down-stay-requires-2 t)
+    (instantiate-down-enum-told-2 t)
+    (instantiate-down-stay-requires-3 t)
+    (instantiate-down-enum-told-3 t)
+    (instantiate-down-stay-requires-4 t)
+    (instantiate-down-enum-told-4 t)
+    (instantiate-down-stay-requires-5 t)
+    (instantiate-down-enum-told-5 t)
+    (instantiate-down-make-tvar-requires t)
+    (instantiate-down-enum-known-shape t)
+    (instantiate-down-push-constraint-requires t)
+    (instantiate-down-done-of-requires t)
+    (instantiate-down-enum-told-6 t)
+    (instantiate-down-enum-told-7 t)
+    (instantiate-down-same-length t)
+    (instantiate-down-returns-2 t)
+    (instantiate-down-sub-instantiate-down t)
+    (instantiate-down-instantiate-down-requires t)
+    (instantiate-down-done-of-requires-2 t)
+    (instantiate-down-enum-known-p t)
+    (instantiate-down-enum-told-8 t)
+    (instantiate-down-same-length-2 t)
+    (instantiate-down-returns-3 t)
+    (instantiate-down-push-node-requires t)
+    (instantiate-down-enum-known-shape-2 t)
+    (instantiate-down-sub-instantiate-apply t)
+    (instantiate-down-instantiate-apply-requires t)
+    (instantiate-down-same-length-3 t)
+    (instantiate-down-returns-4 t)
+    (instantiate-down-same-length-4 t)
+    (instantiate-down-returns-5 t)
+    (instantiate-down-same-length-5 t)
+    (instantiate-down-returns-6 t)
+    (instantiate-down-same-length-6 t)
+    (instantiate-down-returns-7 t)
+    (instantiate-down-same-length-7 t)
+    (instantiate-down-returns-8 t)
+    (instantiate-down-same-length-8 t)
+    (instantiate-down-returns-9 t)
+    (instantiate-down-same-length-9 t)
+    (instantiate-down-returns-10 t)

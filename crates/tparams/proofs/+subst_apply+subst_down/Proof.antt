@@ -1,0 +1,304 @@
+-- `tparams::subst_apply` and `tparams::subst_down` meet their contracts. Assumes nothing.
+use mathlib.Core.Path.{_≡_, refl, sym, _∙_}
+use native.Mathlib.Omega.{arith}
+use borrow.Author.Needs.{needs}
+use Rattle.definition.specs.TParams as D
+use Rattle.names.specs.Names.{mark-of, name-of}
+use Rattle.tparams.specs.Pairs.{pairs}
+use Rattle.tparams.proofs.PairLaws.{args-in}
+use Rattle.definition.specs.Store.{args-at}
+use Rattle.table.specs.Rows.{places}
+use Rattle.table.specs.State.{view}
+use Rattle.walk.proofs.Steps.{nodes-grow, parts-grow, after-done, when-after, Any}
+use Rattle.walk.proofs.Parts.{ref-below, named}
+use Rattle.walk.proofs.Walk.{sp-apply, Walked, placed-length, arg-kept, named-below, walk-start, walk-stop, walk-more, walk-end, walk-parts}
+use Rattle.tparams.proofs.DownLaws.{down-zero, down-unit, down-anything, down-error, down-var, down-param, ref-stop, ref-then, apply-walked, apply-by}
+use Prim.Native.Nat.{ℕ, _+_, _*_, _-_, _<_}
+use borrow.Fn.Kinds.{In}
+use borrow.Fn.PlainCycle.{Measures, is, falls, and}
+use Rattle.tparams.proofs.subst_apply.Reads as subst-apply
+use Rattle.tparams.proofs.subst_apply.Kinds as subst-apply-kinds
+use Rattle.tparams.proofs.+subst_apply+subst_down.Lts-subst_apply as subst-apply-lts
+use Rattle.tparams.proofs.subst_down.Reads as subst-down
+use Rattle.tparams.proofs.subst_down.Kinds as subst-down-kinds
+use Rattle.tparams.proofs.+subst_apply+subst_down.Lts-subst_down as subst-down-lts
+use Rattle.table.proofs.arg_at.Reads as arg-at-reads
+use Rattle.table.proofs.done_of.Reads as done-of-reads
+use Rattle.table.proofs.node_at.Reads as node-at-reads
+use Rattle.table.proofs.push_apply.Reads as push-apply-reads
+use Rattle.table.proofs.push_node.Reads as push-node-reads
+use Rattle.tparams.proofs.arg_or_none.Reads as arg-or-none-reads
+use Rattle.tparams.proofs.stay.Reads as stay-reads
+use Rattle.tparams.proofs.wide.Reads as wide-reads
+use Rattle.tparams.proofs.+subst_apply+subst_down.{statement}
+use Rattle.tparams.proofs.+subst_apply+subst_down.Tie.{close}
+
+abbrev μ-subst-apply : Measures 1 subst-apply-kinds.ps ℕ
+μ-subst-apply κs a = 2 * a .1 .1 .0 + 1
+
+abbrev μ-subst-down : Measures 1 subst-down-kinds.ps ℕ
+μ-subst-down κs a = 2 * a .1 .1 .0
+
+abbrev subst-apply-at : ℕ → In 1 subst-apply-kinds.ps
+subst-apply-at t =
+    and 1 subst-apply-kinds.ps (is 1 subst-apply-kinds.ps μ-subst-apply t) subst-apply.Pre
+
+abbrev subst-apply-below : ℕ → In 1 subst-apply-kinds.ps
+subst-apply-below t =
+    and 1 subst-apply-kinds.ps (falls 1 subst-apply-kinds.ps _<_ μ-subst-apply t) subst-apply.Pre
+
+abbrev subst-down-at : ℕ → In 1 subst-down-kinds.ps
+subst-down-at t =
+    and 1 subst-down-kinds.ps (is 1 subst-down-kinds.ps μ-subst-down t) subst-down.Pre
+
+abbrev subst-down-below : ℕ → In 1 subst-down-kinds.ps
+subst-down-below t =
+    and 1 subst-down-kinds.ps (falls 1 subst-down-kinds.ps _<_ μ-subst-down t) subst-down.Pre
+
+abbrev subst-apply-calls : ℕ → subst-apply-lts.Claims
+subst-apply-calls t = (arg-at-reads.Asked, arg-at-reads.Learnt, subst-down-below t, subst-down.Post, done-of-reads.Asked, done-of-reads.Learnt, wide-reads.Asked, wide-reads.Learnt, push-apply-reads.Asked, push-apply-reads.Learnt)
+
+abbrev subst-down-calls : ℕ → subst-down-lts.Claims
+subst-down-calls t = (stay-reads.Asked, stay-reads.Learnt, node-at-reads.Asked, node-at-reads.Learnt, arg-or-none-reads.Asked, arg-or-none-reads.Learnt, subst-down-below t, subst-down.Post, done-of-reads.Asked, done-of-reads.Learnt, push-node-reads.Asked, push-node-reads.Learnt, subst-apply-below t, subst-apply.Post)
+
+abbrev subst-apply-Inv-loop : subst-apply-lts.InvT-loop
+subst-apply-Inv-loop w₀ left ids args n loc k name first many parts₀ v₀ i₀ w parts v i =
+    Walked Any (D.subst-down left (pairs ids args 0 n)) (sp-apply loc (mark-of k) (name-of name)) (args-at (view w₀ v₀) (places first many)) w₀ v₀ w v parts i
+
+abbrev subst-apply-μ-loop : subst-apply-lts.MeasureT-loop
+subst-apply-μ-loop w₀ left ids args n loc k name first many parts₀ v₀ i₀ w parts v i = many - i
+
+subst-apply-loop-holds : (t : ℕ) → subst-apply-lts.Need-loop-holds (subst-apply-calls t) (subst-apply-at t) subst-apply.Post subst-apply-Inv-loop subst-apply-μ-loop
+subst-apply-loop-holds t c = walk-start _ _ _ _ _ (placed-length _ _ _ _ (c .before .pre .1 .1 .0 .placed)) ((c .before .pre .1 .1 .0 .placed) .few) _ _ _ (c .before .pre .1 .0) refl
+
+subst-apply-arg-at-requires : (t : ℕ) → subst-apply-lts.Need-arg-at-requires (subst-apply-calls t) (subst-apply-at t) subst-apply.Post subst-apply-Inv-loop subst-apply-μ-loop
+subst-apply-arg-at-requires t c κs = search needs
+
+subst-apply-subst-down-requires : (t : ℕ) → subst-apply-lts.Need-subst-down-requires (subst-apply-calls t) (subst-apply-at t) subst-apply.Post subst-apply-Inv-loop subst-apply-μ-loop
+subst-apply-subst-down-requires t c κs = (omega (arith, c .before .before .before .before .before .before .pre .0), (c .before .before .before .before .loop .inv .lay, (omega (arith, (arg-kept _ _ _ _ (c .before .before .before .before .before .before .pre .1 .1 .0 .placed) _ _ (c .before .before .before .before .loop .inv .grown) _ _ (c .before .before .before .loop-test .taken) (c .before .arg-at .ensures)), c .before .before .before .before .before .before .pre .1 .1 .0 .smaller _ (c .before .before .before .loop-test .taken), nodes-grow _ _ _ _ (c .before .before .before .before .loop .inv .grown)), parts-grow _ _ _ _ (nodes-grow _ _ _ _ (c .before .before .before .before .loop .inv .grown)) (c .before .before .before .before .before .before .pre .1 .1 .1))))
+
+subst-apply-done-of-requires : (t : ℕ) → subst-apply-lts.Need-done-of-requires (subst-apply-calls t) (subst-apply-at t) subst-apply.Post subst-apply-Inv-loop subst-apply-μ-loop
+subst-apply-done-of-requires t c κs = search needs
+
+subst-apply-enum-known-p : (t : ℕ) → subst-apply-lts.Need-enum-known-p (subst-apply-calls t) (subst-apply-at t) subst-apply.Post subst-apply-Inv-loop subst-apply-μ-loop
+subst-apply-enum-known-p t c = search needs
+
+subst-apply-enum-told : (t : ℕ) → subst-apply-lts.Need-enum-told (subst-apply-calls t) (subst-apply-at t) subst-apply.Post subst-apply-Inv-loop subst-apply-μ-loop
+subst-apply-enum-told t c = search needs
+
+subst-apply-same-length : (t : ℕ) → subst-apply-lts.Need-same-length (subst-apply-calls t) (subst-apply-at t) subst-apply.Post subst-apply-Inv-loop subst-apply-μ-loop
+subst-apply-same-length t c = c .before .before .before .before .before .subst-down .ensures .changed .lay .size ∙ sym (c .before .before .before .before .before .before .before .before .before .before .before .before .pre .1 .0 .size)
+
+subst-apply-returns : (t : ℕ) → subst-apply-lts.Need-returns (subst-apply-calls t) (subst-apply-at t) subst-apply.Post subst-apply-Inv-loop subst-apply-μ-loop
+subst-apply-returns t c = apply-walked _ _ _ _ _ _ _ _ _ _ (walk-stop _ _ _ _ _ (placed-length _ _ _ _ (c .before .before .before .before .before .before .before .before .before .before .before .before .pre .1 .1 .0 .placed)) ((c .before .before .before .before .before .before .before .before .before .before .before .before .pre .1 .1 .0 .placed) .few) _ _ _ _ _ _ (c .before .before .before .before .before .before .before .before .before .before .loop .inv) _ (c .before .before .before .before .before .before .before .before .before .loop-test .taken) (arg-kept _ _ _ _ (c .before .before .before .before .before .before .before .before .before .before .before .before .pre .1 .1 .0 .placed) _ _ (c .before .before .before .before .before .before .before .before .before .before .loop .inv .grown) _ _ (c .before .before .before .before .before .before .before .before .before .loop-test .taken) (c .before .before .before .before .before .before .before .arg-at .ensures)) Any (λ ds k. k) _ _ (when-after Any _ _ _ _ _ (c .before .before .before .before .before .subst-down .ensures)) _ (c .before .before .done-of .ensures) (c .enum-told .given .1))
+
+subst-apply-wide-requires : (t : ℕ) → subst-apply-lts.Need-wide-requires (subst-apply-calls t) (subst-apply-at t) subst-apply.Post subst-apply-Inv-loop subst-apply-μ-loop
+subst-apply-wide-requires t c κs = search needs
+
+subst-apply-mul-parts : (t : ℕ) → subst-apply-lts.Need-mul-parts (subst-apply-calls t) (subst-apply-at t) subst-apply.Post subst-apply-Inv-loop subst-apply-μ-loop
+subst-apply-mul-parts t c = omega (arith, c .wide .ensures, (c .before .before .before .before .before .before .before .before .before .before .before .before .before .before .pre .1 .1 .0 .placed) .few, c .before .before .before .before .before .before .before .before .before .before .before .loop-test .taken)
+
+subst-apply-array-write-parts : (t : ℕ) → subst-apply-lts.Need-array-write-parts (subst-apply-calls t) (subst-apply-at t) subst-apply.Post subst-apply-Inv-loop subst-apply-μ-loop
+subst-apply-array-write-parts t c = omega (arith, c .wide .ensures, (c .before .before .before .before .before .before .before .before .before .before .before .before .before .before .pre .1 .1 .0 .placed) .few, c .before .before .before .before .before .before .before .before .before .before .before .loop-test .taken)
+
+subst-apply-add-i : (t : ℕ) → subst-apply-lts.Need-add-i (subst-apply-calls t) (subst-apply-at t) subst-apply.Post subst-apply-Inv-loop subst-apply-μ-loop
+subst-apply-add-i t c = omega (arith, (c .before .before .before .before .before .before .before .before .before .before .before .before .before .before .before .pre .1 .1 .0 .placed) .few, c .before .before .before .before .before .before .before .before .before .before .before .before .loop-test .taken)
+
+subst-apply-loop-less : (t : ℕ) → subst-apply-lts.Need-loop-less (subst-apply-calls t) (subst-apply-at t) subst-apply.Post subst-apply-Inv-loop subst-apply-μ-loop
+subst-apply-loop-less t c = search needs
+
+subst-apply-loop-again : (t : ℕ) → subst-apply-lts.Need-loop-again (subst-apply-calls t) (subst-apply-at t) subst-apply.Post subst-apply-Inv-loop subst-apply-μ-loop
+subst-apply-loop-again t c = walk-more _ _ _ _ _ (placed-length _ _ _ _ (c .before .before .before .before .before .before .before .before .before .before .before .before .before .before .before .pre .1 .1 .0 .placed)) ((c .before .before .before .before .before .before .before .before .before .before .before .before .before .before .before .pre .1 .1 .0 .placed) .few) _ _ _ _ _ _ (c .before .before .before .before .before .before .before .before .before .before .before .before .before .loop .inv) _ (c .before .before .before .before .before .before .before .before .before .before .before .before .loop-test .taken) (arg-kept _ _ _ _ (c .before .before .before .before .before .before .before .before .before .before .before .before .before .before .before .pre .1 .1 .0 .placed) _ _ (c .before .before .before .before .before .before .before .before .before .before .before .before .before .loop .inv .grown) _ _ (c .before .before .before .before .before .before .before .before .before .before .before .before .loop-test .taken) (c .before .before .before .before .before .before .before .before .before .before .arg-at .ensures)) Any (λ ds k. k) _ _ (when-after Any _ _ _ _ _ (c .before .before .before .before .before .before .before .before .subst-down .ensures)) _ (c .before .before .before .before .before .done-of .ensures) _ _ (c .before .before .before .p .given .1) (c .before .wide .ensures)
+
+subst-apply-push-apply-requires : (t : ℕ) → subst-apply-lts.Need-push-apply-requires (subst-apply-calls t) (subst-apply-at t) subst-apply.Post subst-apply-Inv-loop subst-apply-μ-loop
+subst-apply-push-apply-requires t c κs = (c .before .before .loop .inv .lay, walk-parts _ _ _ _ _ (placed-length _ _ _ _ (c .before .before .before .before .pre .1 .1 .0 .placed)) ((c .before .before .before .before .pre .1 .1 .0 .placed) .few) _ _ _ _ _ _ (c .before .before .loop .inv) (c .before .loop-test .left))
+
+subst-apply-same-length-2 : (t : ℕ) → subst-apply-lts.Need-same-length-2 (subst-apply-calls t) (subst-apply-at t) subst-apply.Post subst-apply-Inv-loop subst-apply-μ-loop
+subst-apply-same-length-2 t c = c .before .before .push-apply .ensures .changed .lay .size ∙ sym (c .before .before .before .before .before .before .before .pre .1 .0 .size)
+
+subst-apply-returns-2 : (t : ℕ) → subst-apply-lts.Need-returns-2 (subst-apply-calls t) (subst-apply-at t) subst-apply.Post subst-apply-Inv-loop subst-apply-μ-loop
+unfolding sp-apply
+subst-apply-returns-2 t c = apply-walked _ _ _ _ _ _ _ _ _ _ (walk-end _ _ _ _ _ (placed-length _ _ _ _ (c .before .before .before .before .before .before .before .pre .1 .1 .0 .placed)) ((c .before .before .before .before .before .before .before .pre .1 .1 .0 .placed) .few) _ _ _ _ _ _ (c .before .before .before .before .before .loop .inv) Any (λ ds k. k) _ _ (c .before .before .before .before .loop-test .left) (when-after Any _ _ _ _ _ (c .before .before .push-apply .ensures)))
+
+subst-down-stay-requires : (t : ℕ) → subst-down-lts.Need-stay-requires (subst-down-calls t) (subst-down-at t) subst-down.Post
+subst-down-stay-requires t c κs = search needs
+
+subst-down-returns : (t : ℕ) → subst-down-lts.Need-returns (subst-down-calls t) (subst-down-at t) subst-down.Post
+subst-down-returns t c = down-zero _ _ _ _ _ _ (c .before .before .before .pre .1 .0) (c .before .if1 .taken) (c .stay .ensures)
+
+subst-down-node-at-requires : (t : ℕ) → subst-down-lts.Need-node-at-requires (subst-down-calls t) (subst-down-at t) subst-down.Post
+subst-down-node-at-requires t c κs = search needs
+
+subst-down-enum-told : (t : ℕ) → subst-down-lts.Need-enum-told (subst-down-calls t) (subst-down-at t) subst-down.Post
+subst-down-enum-told t c = search needs
+
+subst-down-stay-requires-2 : (t : ℕ) → subst-down-lts.Need-stay-requires-2 (subst-down-calls t) (subst-down-at t) subst-down.Post
+subst-down-stay-requires-2 t c κs = search needs
+
+subst-down-enum-told-2 : (t : ℕ) → subst-down-lts.Need-enum-told-2 (subst-down-calls t) (subst-down-at t) subst-down.Post
+subst-down-enum-told-2 t c = search needs
+
+subst-down-stay-requires-3 : (t : ℕ) → subst-down-lts.Need-stay-requires-3 (subst-down-calls t) (subst-down-at t) subst-down.Post
+subst-down-stay-requires-3 t c κs = search needs
+
+subst-down-enum-told-3 : (t : ℕ) → subst-down-lts.Need-enum-told-3 (subst-down-calls t) (subst-down-at t) subst-down.Post
+subst-down-enum-told-3 t c = search needs
+
+subst-down-stay-requires-4 : (t : ℕ) → subst-down-lts.Need-stay-requires-4 (subst-down-calls t) (subst-down-at t) subst-down.Post
+subst-down-stay-requires-4 t c κs = search needs
+
+subst-down-enum-told-4 : (t : ℕ) → subst-down-lts.Need-enum-told-4 (subst-down-calls t) (subst-down-at t) subst-down.Post
+subst-down-enum-told-4 t c = search needs
+
+subst-down-stay-requires-5 : (t : ℕ) → subst-down-lts.Need-stay-requires-5 (subst-down-calls t) (subst-down-at t) subst-down.Post
+subst-down-stay-requires-5 t c κs = search needs
+
+subst-down-enum-known-shape : (t : ℕ) → subst-down-lts.Need-enum-known-shape (subst-down-calls t) (subst-down-at t) subst-down.Post
+subst-down-enum-known-shape t c = search needs
+
+subst-down-arg-or-none-requires : (t : ℕ) → subst-down-lts.Need-arg-or-none-requires (subst-down-calls t) (subst-down-at t) subst-down.Post
+subst-down-arg-or-none-requires t c κs = search needs
+
+subst-down-stay-requires-6 : (t : ℕ) → subst-down-lts.Need-stay-requires-6 (subst-down-calls t) (subst-down-at t) subst-down.Post
+subst-down-stay-requires-6 t c κs = search needs
+
+subst-down-enum-known-shape-2 : (t : ℕ) → subst-down-lts.Need-enum-known-shape-2 (subst-down-calls t) (subst-down-at t) subst-down.Post
+subst-down-enum-known-shape-2 t c = search needs
+
+subst-down-sub-subst-down : (t : ℕ) → subst-down-lts.Need-sub-subst-down (subst-down-calls t) (subst-down-at t) subst-down.Post
+subst-down-sub-subst-down t c = search needs
+
+subst-down-subst-down-requires : (t : ℕ) → subst-down-lts.Need-subst-down-requires (subst-down-calls t) (subst-down-at t) subst-down.Post
+subst-down-subst-down-requires t c κs = (omega (arith, c .before .before .before .before .before .before .before .before .pre .0, c .before .before .before .before .before .before .if1 .left), (c .before .before .before .before .before .before .before .before .pre .1 .0, (omega (arith, ref-below _ _ _ _ (c .before .before .before .before .before .before .before .before .pre .1 .0) (c .before .before .before .before .before .before .before .before .pre .1 .1 .0) (c .before .before .before .before .node-at .ensures) _ _ (c .before .before .shape2 .given .1), c .before .before .before .before .before .before .before .before .pre .1 .1 .0), c .before .before .before .before .before .before .before .before .pre .1 .1 .1)))
+
+subst-down-done-of-requires : (t : ℕ) → subst-down-lts.Need-done-of-requires (subst-down-calls t) (subst-down-at t) subst-down.Post
+subst-down-done-of-requires t c κs = search needs
+
+subst-down-enum-known-p : (t : ℕ) → subst-down-lts.Need-enum-known-p (subst-down-calls t) (subst-down-at t) subst-down.Post
+subst-down-enum-known-p t c = search needs
+
+subst-down-enum-told-5 : (t : ℕ) → subst-down-lts.Need-enum-told-5 (subst-down-calls t) (subst-down-at t) subst-down.Post
+subst-down-enum-told-5 t c = search needs
+
+subst-down-same-length : (t : ℕ) → subst-down-lts.Need-same-length (subst-down-calls t) (subst-down-at t) subst-down.Post
+subst-down-same-length t c = c .before .before .before .before .before .before .subst-down .ensures .changed .lay .size ∙ sym (c .before .before .before .before .before .before .before .before .before .before .before .before .before .before .before .pre .1 .0 .size)
+
+subst-down-returns-2 : (t : ℕ) → subst-down-lts.Need-returns-2 (subst-down-calls t) (subst-down-at t) subst-down.Post
+subst-down-returns-2 t c = ref-stop _ _ _ _ _ _ (c .before .before .before .before .before .before .before .before .before .before .before .before .before .before .before .pre .1 .0) (c .before .before .before .before .before .before .before .before .before .before .before .before .before .if1 .left) (c .before .before .before .before .before .before .before .before .before .before .before .node-at .ensures) _ _ (c .before .before .before .before .before .before .before .before .before .shape2 .given .1) _ _ _ (c .before .before .before .before .before .before .subst-down .ensures) (c .before .before .done-of .ensures) (c .enum-told5 .given .1)
+
+subst-down-push-node-requires : (t : ℕ) → subst-down-lts.Need-push-node-requires (subst-down-calls t) (subst-down-at t) subst-down.Post
+subst-down-push-node-requires t c κs = (c .before .before .before .before .before .before .before .before .subst-down .ensures .changed .lay, after-done _ _ _ _ _ _ _ (c .before .before .before .before .before .before .before .before .subst-down .ensures) (c .before .before .before .before .done-of .ensures) (c .before .before .p .given .1))
+
+subst-down-enum-known-shape-3 : (t : ℕ) → subst-down-lts.Need-enum-known-shape-3 (subst-down-calls t) (subst-down-at t) subst-down.Post
+subst-down-enum-known-shape-3 t c = search needs
+
+subst-down-sub-subst-apply : (t : ℕ) → subst-down-lts.Need-sub-subst-apply (subst-down-calls t) (subst-down-at t) subst-down.Post
+subst-down-sub-subst-apply t c = search needs
+
+subst-down-subst-apply-requires : (t : ℕ) → subst-down-lts.Need-subst-apply-requires (subst-down-calls t) (subst-down-at t) subst-down.Post
+subst-down-subst-apply-requires t c κs = (omega (arith, c .before .before .before .before .before .before .before .before .pre .0, c .before .before .before .before .before .before .if1 .left), (c .before .before .before .before .before .before .before .before .pre .1 .0, (named-below _ _ _ _ _ _ (c .before .before .before .before .before .before .before .before .pre .1 .1 .0) (named _ _ _ _ (c .before .before .before .before .before .before .before .before .pre .1 .0) (c .before .before .before .before .before .before .before .before .pre .1 .1 .0) (c .before .before .before .before .node-at .ensures) _ _ _ _ (c .before .before .shape3 .given .1)), c .before .before .before .before .before .before .before .before .pre .1 .1 .1)))
+
+subst-down-same-length-2 : (t : ℕ) → subst-down-lts.Need-same-length-2 (subst-down-calls t) (subst-down-at t) subst-down.Post
+subst-down-same-length-2 t c = search needs
+
+subst-down-returns-3 : (t : ℕ) → subst-down-lts.Need-returns-3 (subst-down-calls t) (subst-down-at t) subst-down.Post
+subst-down-returns-3 t c = down-unit _ _ _ _ _ _ (c .before .before .before .before .before .before .before .pre .1 .0) (c .before .before .before .before .before .if1 .left) (c .before .before .before .node-at .ensures) _ (c .before .before .before .before .before .before .before .pre .1 .1 .0) (c .stay2 .ensures) (c .before .enum-told .given .1)
+
+subst-down-same-length-3 : (t : ℕ) → subst-down-lts.Need-same-length-3 (subst-down-calls t) (subst-down-at t) subst-down.Post
+subst-down-same-length-3 t c = search needs
+
+subst-down-returns-4 : (t : ℕ) → subst-down-lts.Need-returns-4 (subst-down-calls t) (subst-down-at t) subst-down.Post
+subst-down-returns-4 t c = down-error _ _ _ _ _ _ (c .before .before .before .before .before .before .before .pre .1 .0) (c .before .before .before .before .before .if1 .left) (c .before .before .before .node-at .ensures) _ (c .before .before .before .before .before .before .before .pre .1 .1 .0) (c .stay3 .ensures) (c .before .enum-told2 .given .1)
+
+subst-down-same-length-4 : (t : ℕ) → subst-down-lts.Need-same-length-4 (subst-down-calls t) (subst-down-at t) subst-down.Post
+subst-down-same-length-4 t c = search needs
+
+subst-down-returns-5 : (t : ℕ) → subst-down-lts.Need-returns-5 (subst-down-calls t) (subst-down-at t) subst-down.Post
+subst-down-returns-5 t c = down-anything _ _ _ _ _ _ (c .before .before .before .before .before .before .before .pre .1 .0) (c .before .before .before .before .before .if1 .left) (c .before .before .before .node-at .ensures) _ (c .before .before .before .before .before .before .before .pre .1 .1 .0) (c .stay4 .ensures) (c .before .enum-told3 .given .1)
+
+subst-down-same-length-5 : (t : ℕ) → subst-down-lts.Need-same-length-5 (subst-down-calls t) (subst-down-at t) subst-down.Post
+subst-down-same-length-5 t c = search needs
+
+subst-down-returns-6 : (t : ℕ) → subst-down-lts.Need-returns-6 (subst-down-calls t) (subst-down-at t) subst-down.Post
+subst-down-returns-6 t c = down-var _ _ _ _ _ _ (c .before .before .before .before .before .before .before .pre .1 .0) (c .before .before .before .before .before .if1 .left) (c .before .before .before .node-at .ensures) _ _ (c .before .enum-told4 .given .1) (c .stay5 .ensures)
+
+subst-down-same-length-6 : (t : ℕ) → subst-down-lts.Need-same-length-6 (subst-down-calls t) (subst-down-at t) subst-down.Post
+subst-down-same-length-6 t c = search needs
+
+subst-down-returns-7 : (t : ℕ) → subst-down-lts.Need-returns-7 (subst-down-calls t) (subst-down-at t) subst-down.Post
+subst-down-returns-7 t c = down-param _ _ _ _ _ _ (c .before .before .before .before .before .before .before .before .before .pre .1 .0) (c .before .before .before .before .before .before .before .if1 .left) (c .before .before .before .before .before .node-at .ensures) _ _ _ _ (c .before .before .before .shape .given .1) (c .before .arg-or-none .ensures) (args-in _ _ _ _ _ (c .before .before .before .before .before .before .before .before .before .pre .1 .1 .1)) (c .stay6 .ensures)
+
+subst-down-same-length-7 : (t : ℕ) → subst-down-lts.Need-same-length-7 (subst-down-calls t) (subst-down-at t) subst-down.Post
+subst-down-same-length-7 t c = c .before .before .push-node .ensures .changed .lay .size ∙ sym (c .before .before .before .before .before .before .before .before .before .before .before .before .before .before .before .before .before .before .before .before .pre .1 .0 .size)
+
+subst-down-returns-8 : (t : ℕ) → subst-down-lts.Need-returns-8 (subst-down-calls t) (subst-down-at t) subst-down.Post
+subst-down-returns-8 t c = ref-then _ _ _ _ _ _ (c .before .before .before .before .before .before .before .before .before .before .before .before .before .before .before .before .before .before .before .before .pre .1 .0) (c .before .before .before .before .before .before .before .before .before .before .before .before .before .before .before .before .before .before .if1 .left) (c .before .before .before .before .before .before .before .before .before .before .before .before .before .before .before .before .node-at .ensures) _ _ (c .before .before .before .before .before .before .before .before .before .before .before .before .before .before .shape2 .given .1) _ _ _ (c .before .before .before .before .before .before .before .before .before .before .before .subst-down .ensures) (c .before .before .before .before .before .before .before .done-of .ensures) _ _ _ (c .before .before .before .before .before .p .given .1) (c .before .before .push-node .ensures)
+
+subst-down-same-length-8 : (t : ℕ) → subst-down-lts.Need-same-length-8 (subst-down-calls t) (subst-down-at t) subst-down.Post
+subst-down-same-length-8 t c = c .before .before .subst-apply .ensures .changed .lay .size ∙ sym (c .before .before .before .before .before .before .before .before .before .before .before .pre .1 .0 .size)
+
+subst-down-returns-9 : (t : ℕ) → subst-down-lts.Need-returns-9 (subst-down-calls t) (subst-down-at t) subst-down.Post
+subst-down-returns-9 t c = apply-by _ _ _ _ _ _ (c .before .before .before .before .before .before .before .before .before .before .before .pre .1 .0) (c .before .before .before .before .before .before .before .before .before .if1 .left) (c .before .before .before .before .before .before .before .node-at .ensures) _ _ _ _ (c .before .before .before .before .before .shape3 .given .1) _ _ (c .before .before .subst-apply .ensures)
+
+pub +subst-apply+subst-down-spec : {M : Type 1} → statement M
++subst-apply+subst-down-spec = close μ-subst-apply μ-subst-down (λ t. subst-apply-lts.spec (subst-apply-calls t) (subst-apply-at t) subst-apply.Post
+    subst-apply-Inv-loop
+    subst-apply-μ-loop
+    (subst-apply-loop-holds t)
+    (subst-apply-arg-at-requires t)
+    (subst-apply-subst-down-requires t)
+    (subst-apply-done-of-requires t)
+    (subst-apply-enum-known-p t)
+    (subst-apply-enum-told t)
+    (subst-apply-same-length t)
+    (subst-apply-returns t)
+    (subst-apply-wide-requires t)
+    (subst-apply-mul-parts t)
+    (subst-apply-array-write-parts t)
+    (subst-apply-add-i t)
+    (subst-apply-loop-less t)
+    (subst-apply-loop-again t)
+    (subst-apply-push-apply-requires t)
+    (subst-apply-same-length-2 t)
+    (subst-apply-returns-2 t))
+    λ t. subst-down-lts.spec (subst-down-calls t) (subst-down-at t) subst-down.Post
+    (subst-down-stay-requires t)
+    (subst-down-returns t)
+    (subst-down-node-at-requires t)
+    (subst-down-enum-told t)
+    (subst-down-stay-requires-2 t)
+    (subst-down-enum-told-2 t)
+    (subst-down-stay-requires-3 t)
+    (subst-down-enum-told-3 t)
+    (subst-down-stay-requires-4 t)
+    (subst-down-enum-told-4 t)
+    (subst-down-stay-requires-5 t)
+    (subst-down-enum-known-shape t)
+    (subst-down-arg-or-none-requires t)
+    (subst-down-stay-requires-6 t)
+    (subst-down-enum-known-shape-2 t)
+    (subst-down-sub-subst-down t)
+    (subst-down-subst-down-requires t)
+    (subst-down-done-of-requires t)
+    (subst-down-enum-known-p t)
+    (subst-down-enum-told-5 t)
+    (subst-down-same-length t)
+    (subst-down-returns-2 t)
+    (subst-down-push-node-requires t)
+    (subst-down-enum-known-shape-3 t)
+    (subst-down-sub-subst-apply t)
+    (subst-down-subst-apply-requires t)
+    (subst-down-same-length-2 t)
+    (subst-down-returns-3 t)
+    (subst-down-same-length-3 t)
+    (subst-down-returns-4 t)
+    (subst-down-same-length-4 t)
+    (subst-down-returns-5 t)
+    (subst-down-same-length-5 t)
+    (subst-down-returns-6 t)
+    (subst-down-same-length-6 t)
+    (subst-down-returns-7 t)
+    (subst-down-same-length-7 t)
+    (subst-down-returns-8 t)
+    (subst-down-same-length-8 t)
+    (subst-down-returns-9 t)

@@ -1,0 +1,137 @@
+#!/usr/bin/env python3
+"""The jobs of the program crates/edges, and what it must print.
+
+  tools/edges.py [DIR]       DIR/stdin and DIR/stdout; without DIR those of crates/edges
+
+The marked calls have 01's logs (oracle/marked.txt), the streams of crates/replay/proofs/EdgeStreams.antt the logs that the definition
+computes. The jobs below stand at 01's limits: their answers 0 to 4 are core.rs's (oracle log), and each refusal is given here by the rule
+that it stands beside. A refused record leaves the state as it was, so core.rs is run without it.
+"""
+import os, re, struct, subprocess, sys
+
+ROOT = os.path.join(os.path.dirname(os.path.abspath(__file__)), '..')
+ORACLE = os.path.join(ROOT, 'oracle/target/release/oracle')
+KEPT = 7  # the program prints the last seven lines of a log
+
+
+def oracle(*words, given=b''):
+    return subprocess.run([ORACLE] + list(words), input=given, stdout=subprocess.PIPE, check=True).stdout
+
+
+def asm(text):
+    return oracle('asm', given=text.encode())
+
+
+# ---- jobs whose logs are written elsewhere
+
+def marked():
+    blocks = open(os.path.join(ROOT, 'oracle/marked.txt')).read().split('\n\n')[1:]
+    for block in blocks:
+        name, rest = block.split('\n', 1)
+        job, log = rest.split('log\n')
+        yield name[4:], asm(job), log.strip().split('\n')
+
+
+def computed():
+    text = open(os.path.join(ROOT, 'crates/replay/proofs/EdgeStreams.antt')).read()
+    for name, stream, log in re.findall(r'^edge-(\S+) : log-of \(hex "([0-9a-f]*)"\) ≡ text "(.*)"$', text, re.M):
+        yield name, bytes.fromhex(stream), log.replace('\\n', '\n').strip().split('\n')
+
+
+# ---- jobs at the limits
+
+def limit(name, *parts):
+    """Each part is lines of text, or a pair: a line and the number that refuses it."""
+    lines = []
+    for part in parts:
+        lines += [part] if isinstance(part, tuple) else [(line, None) for line in part.split('\n') if line]
+    passed = oracle('log', given=asm('\n'.join(line for line, number in lines if number is None))).decode().split('\n')
+    log, k = [], 0
+    for i, (line, number) in enumerate(lines):
+        if number is None:
+            _, answer = passed[k].split(' ', 1)
+            if answer.split()[0] not in ('0', '1', '2', '3', '4'):
+                raise SystemExit('%s: not an answer of core.rs: %s' % (name, line))
+            log.append('%d %s' % (i, answer))
+            k += 1
+        else:
+            log.append('%d %d' % (i, number))
+    return name, asm('\n'.join(line for line, _ in lines)), log
+
+
+def refs(n, inner):
+    return '&' * n + inner
+
+
+def list_of(*parts):
+    return '(' + ', '.join(parts) + (',)' if len(parts) < 2 else ')')
+
+
+EIGHT = list_of(*['()'] * 8)            # 9 nodes, 8 places
+SIXTY_FOUR = list_of(*[EIGHT] * 8)      # 73 nodes, 72 places, 7 + 8 * 47 bytes
+BIG = list_of(*[SIXTY_FOUR] * 8)        # 585 nodes, 584 places, 7 + 8 * 383 bytes
+
+
+def chains(last):
+    """V0 .. V3 and V4 .. V7: each bound to 63 references around the next, the last of each to so many around ()"""
+    lines = ['FV'] * 8
+    for v in (0, 4):
+        lines += ['JN V%d, %s' % (v + k, refs(63, 'V%d' % (v + k + 1))) for k in range(3)]
+        lines.append('JN V%d, %s' % (v + 3, refs(last, '()')))
+    return '\n'.join(lines)
+
+
+def limits():
+    # 1,024 variables; a join that takes none goes on
+    yield limit('variables', 'FV\n' * 1023 + 'NV', ('FV', 7), ('NV', 7), 'UF V1023\nJN V1023, u8\nUF V1023')
+    # a merge wants one more
+    yield limit('variables of a merge', 'FV\n' * 1024, ('JN V0, V1', 7), 'JN V0, u8\nUF V0')
+    # 512 constraints
+    yield limit('constraints', 'BC ()\n' * 511 + 'SC ()', ('NC numeric u8', 7), ('BC u8', 7), ('SC u8', 7), 'UF u8')
+    # 256 declarations
+    yield limit('structs', 'SD {} <{}>\n' * 255 + 'SD {copy} <{drop}, phantom {}>', ('SD {}', 7), 'UF S255<u8, u8>\nUF S0<bool>')
+    # 2,048 nodes: JN of () twice takes two. UF wants one meanwhile
+    yield limit('nodes', 'JN (), ()\n' * 1024, ('JN (), ()', 7), ('UF ()', 7), 'FV')
+    yield limit('nodes, one left', 'JN (), ()\n' * 1023 + 'BC ()', ('JN (), ()', 7), 'UF ()', 'BC ()', ('UF ()', 7))
+    # JN of u8 twice takes two for reading and one for the result: 682 of them leave two
+    yield limit('nodes, built', 'JN u8, u8\n' * 682, ('JN u8, u8', 7), 'JN u8, ()', ('UF ()', 7))
+    # 4,096 argument places: 2 * 72 read, 72 built by each of 54 joins, 8 read by each of 8 BC. Nodes are left
+    filled = 'FV\nFV\nJN V0, %s\nJN V1, %s\n' % (SIXTY_FOUR, SIXTY_FOUR) + 'JN V0, V1\n' * 54
+    yield limit('places', filled, ('JN V0, V1', 7), ('BC ' + SIXTY_FOUR, 7), ('BC ' + EIGHT + '\n') * 8, ('BC (u8,)', 7), ('UF vector<u8>', 7), 'BC u8\nUF ()')
+    # an error, a result and failures that would have more than 4,096 bytes: two types of 3,071 bytes or more
+    yield limit('payloads', 'FV\nFV\nJN V0, %s\nJN V1, vector<%s>' % (BIG, BIG), ('JN V0, V1', 14), ('RD (V0, V0)', 14), 'NC numeric V0\nNC bits V1', ('SV', 14), 'FV\nRD V2')
+    # the first call and the merges' at 1, 2, 65, 66, 129, 130, 193 and 194, then one for each reference and its part
+    yield limit('depth 256', chains(62), 'JN V0, V4\nUF V0')
+    yield limit('depth 257', chains(63), ('JN V0, V4', 8), 'UF V0\nJN V1, V5\nFV')
+
+
+def end(name, stream, *log):
+    return name, stream, list(log)
+
+
+def ends():
+    fv = asm('FV @1')
+    answer = '0 06010000000000'
+    # an empty rest ends the job without a line; a cut record is 5, and so is one that only begins
+    yield end('empty', b'')
+    yield end('cut', fv[:5], '0 5')
+    yield end('cut later', fv + asm('UF V0')[:8], '0 ' + answer, '1 5')
+    # after 5 or 6 nothing is read
+    yield end('after 5', fv + b'XX' + fv, '0 ' + answer, '1 5')
+    yield end('after 6', fv + asm('UF V1') + fv, '0 ' + answer, '1 6')
+
+
+def main():
+    where = sys.argv[1] if len(sys.argv) > 1 else os.path.join(ROOT, 'crates/edges')
+    os.makedirs(where, exist_ok=True)
+    jobs = [j for made in (marked, computed, limits, ends) for j in made()]
+    with open(os.path.join(where, 'stdin'), 'wb') as f:
+        for name, stream, _ in jobs:
+            job = name.encode() + b'\n' + stream
+            f.write(struct.pack('<I', len(job)) + job)
+    with open(os.path.join(where, 'stdout'), 'w') as f:
+        for name, _, log in jobs:
+            f.write('= %s\n' % name + ''.join(line + '\n' for line in log[-KEPT:]))
+
+
+main()
