@@ -1,5 +1,6 @@
 -- Laws of the reader. Assumes nothing.
 pub mod Rest
+pub mod Words
 pub mod Heads
 pub mod Parts
 pub mod Loop

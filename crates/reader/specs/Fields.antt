@@ -14,8 +14,8 @@ use Rattle.names.specs.Names.{mark-of, name-of}
 use Rattle.names.specs.declared.Mark.{Mark}
 use Rattle.table.specs.declared.Shape.{Shape}
 use Rattle.table.specs.declared.Shape.the-variants.{Unit as UnitS, Ref, Param, Apply, Var, Anything, UnresolvedError}
-use Rattle.reader.specs.declared.Number.{Number}
-use Rattle.reader.specs.declared.Number.the-variants.{Got, Missing}
+use Rattle.cursor.specs.declared.Number.{Number}
+use Rattle.cursor.specs.declared.Number.the-variants.{Got, Missing}
 use Rattle.reader.specs.declared.Name.{Name}
 use Rattle.reader.specs.declared.Name.the-variants.{Known, Cut, Unknown}
 use Rattle.reader.specs.declared.Marked.{Marked}

@@ -15,6 +15,8 @@ ghost use Rattle.table.specs.State.{view, seen, Lay, After, Declares};
 ghost use Rattle.reader.specs.declared.Head.the-variants.{Begun};
 ghost use Rattle.reader.specs.Fields.{rest, Reads, Names, marked, Marks, Begins, Knows, Head-within, Head-nests, tree-read, many-parts};
 ghost use Rattle.reader.specs.Taken.{Arities, Takes, Parts-below, put-node, found-part, is-stop, is-over, node-in};
+pub use cursor::Number;
+use cursor::read_word;
 use names::AbilitySet;
 use names::Mark;
 use names::TParamID;
@@ -31,12 +33,6 @@ use table::done_of;
 use table::push_apply;
 use table::push_node;
 use table::struct_at;
-
-// A number, or too few bytes.
-pub enum Number {
-    Got(u32),
-    Missing,
-}
 
 // A variable or a struct that there is; too few bytes; or one that there is not.
 pub enum Name {
@@ -73,45 +69,27 @@ pub struct Taken {
     pub next: usize,
 }
 
-fn wide(x: u8) -> u32
-    ensures { λ r. ⌜ (r ≡ x) × (r < 256) ⌝ }
-{
-    x as u32
-}
-
 // ---- numbers
 
 fn read_byte(b: &[u8], end: usize, at: usize) -> Number
     requires { ⌜ (end ≤ length (now b)) × (at ≤ end) ⌝ }
     ensures { λ r. ⌜ Reads byte 255 (now (b .entry)) end at 1 r ⌝ }
 {
-    if at < end {
-        Number::Got(wide(b[at]))
-    } else {
-        Number::Missing
-    }
+    read_word(b, end, at, 1)
 }
 
 fn read_u16(b: &[u8], end: usize, at: usize) -> Number
     requires { ⌜ (end ≤ length (now b)) × (at ≤ end) ⌝ }
     ensures { λ r. ⌜ Reads read-u16 65535 (now (b .entry)) end at 2 r ⌝ }
 {
-    if end - at < 2 {
-        return Number::Missing;
-    }
-    Number::Got(wide(b[at]) + 256 * wide(b[at + 1]))
+    read_word(b, end, at, 2)
 }
 
 pub fn read_u32(b: &[u8], end: usize, at: usize) -> Number
     requires { ⌜ (end ≤ length (now b)) × (at ≤ end) ⌝ }
     ensures { λ r. ⌜ Reads read-u32 4294967295 (now (b .entry)) end at 4 r ⌝ }
 {
-    if end - at < 4 {
-        return Number::Missing;
-    }
-    Number::Got(
-        wide(b[at]) + 256 * wide(b[at + 1]) + 65536 * wide(b[at + 2]) + 16777216 * wide(b[at + 3]),
-    )
+    read_word(b, end, at, 4)
 }
 
 // A byte from 0 to max.

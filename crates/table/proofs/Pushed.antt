@@ -5,12 +5,13 @@ use mathlib.Core.Option.{Option, some}
 use Prim.Native.Nat.{ℕ, _+_, _*_, _-_, _≤_, _<_}
 use native.Mathlib.Omega.{arith}
 use native.Mathlib.Decide.{decLt}
+use borrow.Author.Tests.{lt-ltb, le-ltb}
 use lib.ListN.{length, getD, take, length-append, List·getD-append, length-set, replicate, length-replicate}
 use lib.Seq.{ext-getD, getD-append-add, getD-take, length-take-le, set-out, getD-at}
 use Rattle.definition.specs.Types.{State, Struct, Shape, Places, Node, Type-value, Cell, unbound, Constraint, ok}
 use Rattle.definition.specs.Store.{count, taken, with-vars, with-var, with-constraints, with-structs, with-node, args-of, stored, sp, next-tvar, declare}
 use Rattle.table.specs.Rows.{row, entries, Clean, Written, arg-words, read-arg, node-table, arg-table, var-table, constraint-table, struct-table, places}
-use Rattle.table.specs.State.{view, seen, Below, Inside, Lay, Grown, Wrote, Changed, After, Stored, Declared, Var-in, outcome, with-cell, pushed-constraint}
+use Rattle.table.specs.State.{view, seen, Below, Inside, Lay, Grown, Wrote, Changed, After, Stored, Declared, Var-in, one-var, outcome, with-cell, pushed-constraint}
 use Rattle.table.specs.declared.Used.{Used}
 use Rattle.table.specs.declared.Out.the-variants.{Done, Full}
 use Rattle.table.proofs.Rows.{length-entries, entry-at, entry-out, Same, same-entries, same-clean, apart, Put, put-row, put-push, put-push-clean, put-blank, put-set, put-set-clean}
@@ -185,7 +186,7 @@ module _ (w : List ℕ) (u : Used) (loc : ℕ) (v : Type-value) (h : Lay w u) wh
 -- ---- a variable is taken: its row is blank already
 
 module _ (w : List ℕ) (u : Used) (h : Lay w u) where
-  pub var-full : 1024 ≤ u .vars → Changed w u w (record { out = Full; used = u }) (λ s. next-tvar s)
+  var-full : 1024 ≤ u .vars → Changed w u w (record { out = Full; used = u }) (λ s. next-tvar s)
   unfolding outcome
   var-full le = changed-now w u Full _ h (λ ds. sym (tvar-full (seen w u ds) (rw (taken-seen w u ds) le)))
 
@@ -228,9 +229,13 @@ module _ (w : List ℕ) (u : Used) (h : Lay w u) where
     unfolding outcome seen with-structs with-var with-vars
     var-room ds = sym (tvar-room (seen w u ds) (rw (taken-seen w u ds) lt) ∙ ap (λ (x : ℕ). ok (with-var (seen w u ds), x)) (taken-seen w u ds))
 
-    pub var-taken : Changed w u w (record { out = Done (u .vars); used = one-more }) (λ s. next-tvar s) × Var-in (u .vars + 1) (Done (u .vars))
+    var-taken : Changed w u w (record { out = Done (u .vars); used = one-more }) (λ s. next-tvar s) × Var-in (u .vars + 1) (Done (u .vars))
     unfolding with-var with-vars
     var-taken = (changed-by w u w one-more (Done (u .vars)) _ (with-var (view w u)) var-lay var-view (grown-vars (view w u) _ (rw (length-append (view w u .vars) (unbound ∷ [])) (omega arith))) refl var-room, omega arith)
+
+  pub var-stepped : Changed w u w (one-var u) (λ s. next-tvar s) × Var-in (one-var u .used .vars) (one-var u .out)
+  unfolding one-var
+  var-stepped = elim (decLt (u .vars) 1024) [ yes l ↦ rw (lt-ltb _ _ l) (var-taken l) | no l ↦ let g : 1024 ≤ u .vars = omega arith in rw (le-ltb _ _ g) (var-full g, tt) ]
 
 -- ---- a variable's row is written
 

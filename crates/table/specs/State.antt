@@ -4,9 +4,10 @@ use mathlib.Core.Path.{_≡_}
 use mathlib.Core.List.{List, [], _∷_, _++_}
 use mathlib.Core.Option.{Option, none, some}
 use Prim.Native.Nat.{ℕ, _+_, _≤_, _<_}
+use lib.Dec.{ltb}
 use lib.ListN.{length, getD, set}
 use Rattle.definition.specs.Types as d
-use Rattle.definition.specs.Types.{State, Struct, Places, Cell, Result, ok, err, refused, _>>=_}
+use Rattle.definition.specs.Types.{State, Struct, Places, Cell, Result, ok, err, refused, _>>=_, if_then_else_}
 use Rattle.definition.specs.Types.{SubtypeError, ArityMismatch, RecursiveType, full, too-deep, runs-into-itself, abilities-disagree, open-variable, no-argument, parameter-twice}
 use Rattle.definition.specs.Store.{count, taken, node, with-vars, with-structs, get, add-constraint, declare}
 use Rattle.names.specs.Names.{mark-of, name-of}
@@ -160,6 +161,13 @@ pub record Grown (s t : State) : Type 0 where
   pub structs : Front (s .structs) (t .structs)
 
 -- ---- what a function does
+
+-- the counts after one more variable, and its number; or none is left
+unfoldable pub one-var : Used → Step
+one-var u =
+    if ltb (u .vars) 1024
+    then record { out = Done (u .vars); used = record { nodes = u .nodes; args = u .args; vars = u .vars + 1; constraints = u .constraints; structs = u .structs } }
+    else record { out = Full; used = u }
 
 -- the words w with u in use became w′ and the answer r, as f says, whatever the declarations are
 pub record Changed (w : List ℕ) (u : Used) (w′ : List ℕ) (r : Step) (f : State → Result (State × ℕ)) : Type 0 where

@@ -10,7 +10,7 @@ ghost use Rattle.definition.specs.Subst.{or-insert, mark-one};
 ghost use Rattle.names.specs.Names.{mark-of, name-of};
 ghost use Rattle.table.specs.Rows.{flag, read-shape, read-mark, read-name, read-option, mark-word, name-word, name-tag, option-flag, option-word, read-constraint, node-table, var-table, constraint-table, struct-table, places, Written};
 ghost use Rattle.table.specs.Encode.{encode};
-ghost use Rattle.table.specs.State.{used-at, found, shape-of, node-of, node-at, cell, value-of, constraint-of, done, view, seen, Lay, Changed, After, Stored, Wrote, with-cell, Declares, Declared, Flat, Found-in, Parts, Var-in, pushed-constraint};
+ghost use Rattle.table.specs.State.{used-at, found, shape-of, node-of, node-at, cell, value-of, constraint-of, done, view, seen, Lay, Changed, After, Stored, Wrote, with-cell, Declares, Declared, Flat, Found-in, Parts, Var-in, one-var, pushed-constraint};
 use names::AbilitySet;
 use names::MAX_ARGS;
 use names::MAX_CONSTRAINTS;
@@ -440,10 +440,9 @@ pub fn num_loc_at(w: &[u32], u: Used, v: TVar) -> Found
     }
 }
 
-// TVar::next: a fresh variable. Its row is zero already.
-pub fn take_var(w: &mut [u32], u: Used) -> Step
-    requires { ⌜ Lay (now w) u ⌝ }
-    ensures { λ r. ⌜ Changed (now (w .entry)) u (now (w .exit)) r (λ s. next-tvar s) × Var-in (r .used .vars) (r .out) ⌝ }
+// The counts after one more variable, and its number; or none is left.
+fn var_taken(u: Used) -> Step
+    ensures { λ r. ⌜ r ≡ one-var u ⌝ }
 {
     let n = u.vars;
     if MAX_VARS <= n {
@@ -462,6 +461,32 @@ pub fn take_var(w: &mut [u32], u: Used) -> Step
             structs: u.structs,
         },
     }
+}
+
+// TVar::next: the counts are lent, and altered by the taking.
+fn next_tvar(used: &mut Used) -> Out
+    ensures { λ r. ⌜ (r ≡ one-var (now (used .entry)) .out) × (now (used .exit) ≡ one-var (now (used .entry)) .used) ⌝ }
+{
+    let s = var_taken(*used);
+    *used = s.used;
+    s.out
+}
+
+// The same for a caller that has the counts by value.
+fn one_var(u: Used) -> Step
+    ensures { λ r. ⌜ r ≡ one-var u ⌝ }
+{
+    let mut v = u;
+    let out = next_tvar(&mut v);
+    Step { out: out, used: v }
+}
+
+// A fresh variable. Its row is zero already.
+pub fn take_var(w: &mut [u32], u: Used) -> Step
+    requires { ⌜ Lay (now w) u ⌝ }
+    ensures { λ r. ⌜ Changed (now (w .entry)) u (now (w .exit)) r (λ s. next-tvar s) × Var-in (r .used .vars) (r .out) ⌝ }
+{
+    one_var(u)
 }
 
 fn flag_found(f: Found) -> u32
