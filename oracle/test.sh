@@ -1,5 +1,6 @@
 #!/bin/bash
-# The Rust side: upstream unchanged, both builds, the tests under both maps, the stored lists made again.
+# The Rust side: upstream unchanged, both builds, the tests under both maps, the stored lists made again. Where rt or
+# PONGIWARU_LIB, an archive, is at hand: the engine beside core.rs, damaged records and states, traps.
 # Its last line is 'N passed, M failed'; it exits non-zero where M is not 0.
 cd "$(dirname "$0")" || exit 1
 passed=0 failed=0
@@ -42,6 +43,29 @@ altered() { # a changed answer is seen
   ! target/release/oracle check "$tmp/altered"
 }
 
+archive() { # the engine's functions, proved, in ../target/staticlib
+  if [ -n "$PONGIWARU_LIB" ]; then [ -f "$PONGIWARU_LIB" ]; else (cd .. && rt staticlib exports); fi
+}
+
+found() { # WHAT: an answer of the engine's side, altered, is found and the job made small
+  target/release/oracle compare 1 500 --alter="$1" > "$tmp/found"
+  [ $? -eq 1 ] && grep -q '^DISAGREEMENT' "$tmp/found"
+}
+
+with_engine() {
+  step "2,000 jobs beside core.rs" target/release/oracle compare 1 2000
+  for what in number payload binding mark constraint reading count line; do step "altered: $what" found $what; done
+  step "damaged records" target/release/oracle damage records 1 50
+  step "damaged states" target/release/oracle damage states 1 2
+  step "damaged at several places" target/release/oracle damage wild 1 100
+  step "traps" target/release/oracle traps
+}
+
+if [ -n "$PONGIWARU_LIB" ] || { command -v rt && grep -q '^exports:' ../crates.txt; } > /dev/null; then
+  engine=yes && step "the engine's archive" archive
+else
+  engine=no && echo "without the engine: neither rt nor PONGIWARU_LIB"
+fi
 step "upstream unchanged" sh -c 'cd upstream && sha256sum -c ../upstream.sha256'
 step "build, ordered map" cargo build --release --offline -j1
 step "build, real map" cargo build --release --offline -j1 --features hashmap --target-dir target/hashmap
@@ -50,5 +74,6 @@ tests "tests, real map" --features hashmap --target-dir target/hashmap
 step "replay list made again" made_again
 step "edges made again" edges_again
 step "an altered answer is found" altered
+[ $engine = no ] || with_engine
 echo "$passed passed, $failed failed"
 [ "$failed" -eq 0 ]

@@ -444,6 +444,21 @@ pub fn random(seed: u64, index: u64, records: usize, profile: Option<Profile>, c
     g.made
 }
 
+/// records on the state that a job has
+pub fn onward(job: Job, seed: u64, index: u64, records: usize) -> Made {
+    let mut m = Maker::new(Chance::new(seed, index));
+    let name = format!("onward-{}-{}-{:?}", seed, index, m.profile).to_lowercase();
+    let made = Made { name, stream: vec![], outcomes: vec![] };
+    let mut g = Growing { job, made, cut: false };
+    for n in 3..3 + records {
+        let r = m.record(n, g.job.known().vars, &g.job.known().params);
+        if !g.add(&r) {
+            break;
+        }
+    }
+    g.made
+}
+
 fn v(n: u16) -> Ty {
     bare(Kind::Var(n))
 }
@@ -561,6 +576,15 @@ fn chains(g: &mut Growing, n: usize) {
     g.add_all((0..2 * n as u32 + 2).map(Record::FV));
     g.add_all((0..2 * n as u16).map(|i| Record::JN(v(i), vector(v(i + 2)))));
     g.add(&Record::JN(v(0), v(1)));
+}
+
+/// a job whose join comes to 01's greatest depth, or past it, which core.rs does not know
+pub fn deep(seed: u64, index: u64) -> Made {
+    let mut m = Maker::new(Chance::new(seed ^ 0x6465_6570, index));
+    let mut g = Growing::new(format!("deep-{}-{}", seed, index), false);
+    chains(&mut g, 124 + m.chance.below(7));
+    g.add(&Record::SU(v(0), v(1)));
+    g.made
 }
 
 impl Maker {

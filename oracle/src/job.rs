@@ -86,28 +86,28 @@ fn ability_set(loc: Loc, bits: u8) -> AbilitySet {
     AbilitySet::from_abilities_(loc, of).unwrap()
 }
 
-fn ability_bits(s: &AbilitySet) -> u8 {
+pub(crate) fn ability_bits(s: &AbilitySet) -> u8 {
     ABILITIES.iter().filter(|(_, a)| s.has_ability_(*a)).map(|(b, _)| b).sum()
 }
 
-fn mark_in(loc: Loc, mark: u8) -> Option<AbilitySet> {
+pub(crate) fn mark_in(loc: Loc, mark: u8) -> Option<AbilitySet> {
     (mark != 0).then(|| ability_set(loc, mark - 16))
 }
 
-fn mark_out(s: &Option<AbilitySet>) -> u8 {
+pub(crate) fn mark_out(s: &Option<AbilitySet>) -> u8 {
     s.as_ref().map_or(0, |s| 16 + ability_bits(s))
 }
 
-fn module(loc: Loc) -> ModuleIdent {
+pub(crate) fn module(loc: Loc) -> ModuleIdent {
     let address = Address::anonymous(loc, NumericalAddress(1));
     sp(loc, ModuleIdent_::new(address, ModuleName(sp(loc, Symbol::from("M")))))
 }
 
-fn struct_name(loc: Loc, n: u16) -> StructName {
+pub(crate) fn struct_name(loc: Loc, n: u16) -> StructName {
     StructName(sp(loc, Symbol::from(format!("S{}", n).as_str())))
 }
 
-fn tparam(loc: Loc, id: u32, bits: u8) -> TParam {
+pub(crate) fn tparam(loc: Loc, id: u32, bits: u8) -> TParam {
     TParam {
         id: TParamID(id as u64),
         user_specified_name: sp(loc, Symbol::from("P")),
@@ -115,7 +115,7 @@ fn tparam(loc: Loc, id: u32, bits: u8) -> TParam {
     }
 }
 
-const BUILTINS: [BuiltinTypeName_; 7] = [
+pub(crate) const BUILTINS: [BuiltinTypeName_; 7] = [
     BuiltinTypeName_::Address,
     BuiltinTypeName_::Signer,
     BuiltinTypeName_::U8,
@@ -208,6 +208,18 @@ fn held(c: &Constraint) -> Held {
     Held { kind, loc: loc.start(), abilities, ty: type_out(type_of(c)) }
 }
 
+fn unheld(h: &Held) -> Constraint {
+    let (loc, ty) = (Loc::of(h.loc), type_in(&h.ty));
+    match h.kind {
+        0 => Constraint::NumericConstraint(loc, "+", ty),
+        1 => Constraint::BitsConstraint(loc, "|", ty),
+        2 => Constraint::OrderedConstraint(loc, "<", ty),
+        3 => Constraint::BaseTypeConstraint(loc, "base".into(), ty),
+        4 => Constraint::SingleTypeConstraint(loc, "single".into(), ty),
+        _ => Constraint::AbilityConstraint { loc, msg: None, ty, constraints: ability_set(loc, h.abilities) },
+    }
+}
+
 //---- panics ------------------------------------------------------------------------------------------
 
 thread_local!(static PANIC: RefCell<Option<String>> = const { RefCell::new(None) });
@@ -259,7 +271,7 @@ type Answer = Result<(u8, Vec<u8>), Outcome>;
 pub struct Job {
     options: Options,
     known: Known,
-    ctx: Context<'static>,
+    pub(crate) ctx: Context<'static>,
 }
 
 impl Job {
@@ -317,6 +329,28 @@ impl Job {
         &self.known
     }
 
+    /// A job whose state is `s`; its structs are declared one after the other.
+    pub fn load(s: &State, declared: &[(u8, Vec<u8>)]) -> Job {
+        let mut job = Job::new(Options::default());
+        for (abilities, bytes) in declared {
+            job.declare(*abilities, bytes, &mut vec![]).ok().unwrap()
+        }
+        job.known.vars = s.next_var as usize;
+        s.bindings.iter().for_each(|(v, t)| job.ctx.subst.insert(nprobe::tvar(*v as u64), type_in(t)));
+        let marks = s.marks.iter().map(|(v, l)| (nprobe::tvar(*v as u64), Loc::of(*l)));
+        marks.for_each(|(v, l)| cprobe::mark(&mut job.ctx.subst, v, l));
+        job.ctx.constraints = s.constraints.iter().map(unheld).collect();
+        job
+    }
+
+    /// Declaration n: abilities and parameter bytes, as core.rs holds them.
+    pub fn declared(&self, n: usize) -> (u8, Vec<u8>) {
+        let info = self.ctx.modules.get(&module(Loc::of(0))).unwrap();
+        let def = info.structs.get(&struct_name(Loc::of(0), n as u16)).unwrap();
+        let byte = |p: &StructTypeParameter| ability_bits(&p.param.abilities) + 16 * p.is_phantom as u8;
+        (ability_bits(&def.abilities), def.type_parameters.iter().map(byte).collect())
+    }
+
     pub fn state(&self) -> State {
         let n = |v: TVar| nprobe::number(v) as u16;
         let s = &self.ctx.subst;
@@ -365,7 +399,7 @@ impl Job {
         Ok((0, out))
     }
 
-    fn declare(&mut self, abilities: u8, params: &[u8], out: &mut Vec<u8>) -> Result<(), Outcome> {
+    pub(crate) fn declare(&mut self, abilities: u8, params: &[u8], out: &mut Vec<u8>) -> Result<(), Outcome> {
         let number = self.known.params.len() as u16;
         if self.known.params.len() == MAX_STRUCTS {
             return Err(Outcome::Refused(7, "no struct left".into()));

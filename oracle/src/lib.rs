@@ -63,6 +63,9 @@ pub mod typing {
                 v.sort_by_key(|(k, _)| *k);
                 v
             }
+            pub fn mark(s: &mut Subst, v: TVar, l: Loc) {
+                s.num_vars.insert(v, l);
+            }
             pub fn bindings(s: &Subst) -> Vec<(TVar, Type)> {
                 let mut v: Vec<_> = s.tvars.iter().map(|(k, t)| (*k, t.clone())).collect();
                 v.sort_by_key(|(k, _)| *k);
@@ -80,10 +83,19 @@ pub struct FullyCompiledProgram {
     pub naming: naming::ast::Program,
 }
 
+pub mod bench;
+pub mod calls;
+pub mod compare;
+pub mod count;
+pub mod damage;
 pub mod gen;
 pub mod job;
+pub mod lender;
+pub mod lent;
 pub mod list;
 pub mod order;
 pub mod record;
 pub mod show;
+pub mod shrink;
 pub mod text;
+pub mod traps;

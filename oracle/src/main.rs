@@ -1,9 +1,12 @@
 //! The commands; README.md has them with examples.
 use oracle::{
-    gen, job,
+    bench,
+    calls::{self, Calls},
+    compare, damage, gen, job,
     job::Options,
     list, order, show,
     text::{assemble, disassemble, Detail},
+    traps,
 };
 use std::{
     fs,
@@ -21,6 +24,11 @@ oracle gen order SEED COUNT                           jobs for `oracle order`
 oracle check [LIST]                                   run a list's jobs again, compare their logs
 oracle counts [LIST]                                  records of a list by mark and answer
 oracle order [LIST]                                   what this build's map order changes
+oracle compare SEED COUNT [RECORDS] [--alter=WHAT]     the engine beside core.rs, on jobs from a seed
+oracle damage records|states|wild SEED COUNT           damaged records, damaged states
+oracle traps                                          types with more parts than nodes, deep and looped ones
+oracle bench [RUNS]                                   records per second beside core.rs
+oracle bench once WORK SIDE TIMES                     the same job again and again, for a profiler
 oracle asm [--number] [TEXT]                          text to bytes
 oracle disasm [STREAM]                                bytes to text
 oracle show [--full] JOB LOG                          a job and its log for people
@@ -87,6 +95,54 @@ fn check(entries: &[list::Entry]) -> i32 {
     !wrong.is_empty() as i32
 }
 
+/// The engine, or with --mimic core.rs behind its calls.
+fn engine(mimic: bool) -> &'static (dyn Calls + Sync) {
+    match calls::engine() {
+        _ if mimic => &calls::Mimic,
+        Some(engine) => engine,
+        None => fail("built without the engine's archive: see README.md"),
+    }
+}
+
+fn compare(words: &[String], calls: &dyn Calls, alter: Option<compare::Alter>) -> i32 {
+    let records = words.get(3).map_or(25, |w| number(Some(w))) as usize;
+    let altered = alter.map(|alter| compare::Altered { calls, alter });
+    let calls = altered.as_ref().map_or(calls, |a| a as &dyn Calls);
+    let mut tally = compare::Tally::default();
+    let start = std::time::Instant::now();
+    let found = compare::many(calls, number(words.get(1)), number(words.get(2)), records, &mut tally);
+    print!("{}", tally.text());
+    println!("{:.1} s", start.elapsed().as_secs_f64());
+    let Some(found) = found else {
+        println!("no disagreement");
+        return 0;
+    };
+    println!("DISAGREEMENT in {}; smallest job:", found.name);
+    print!("{}", compare::report(&compare::smallest(calls, found)));
+    1
+}
+
+fn hurt(words: &[String], calls: &dyn Calls) -> i32 {
+    let (seed, count) = (number(words.get(2)), number(words.get(3)));
+    let mut tally = damage::Tally::default();
+    let start = std::time::Instant::now();
+    let done = match words.get(1).map(String::as_str) {
+        Some("records") => damage::records(calls, seed, count, &mut tally),
+        Some("states") => damage::states(calls, seed, count, &mut tally),
+        Some("wild") => damage::wild(calls, seed, count, &mut tally),
+        _ => fail(USAGE),
+    };
+    print!("{}{:.1} s\n", tally.text(), start.elapsed().as_secs_f64());
+    match done {
+        Ok(()) => println!("all as they must be"),
+        Err(what) => {
+            println!("FAULT: {}", what);
+            return 1;
+        }
+    }
+    0
+}
+
 fn run(args: Vec<String>) -> i32 {
     let (flags, words): (Vec<String>, Vec<String>) = args.into_iter().partition(|a| a.starts_with("--"));
     let flag = |name: &str| flags.iter().any(|f| f == name);
@@ -109,6 +165,33 @@ fn run(args: Vec<String>) -> i32 {
                 println!("{}: {}", what, n)
             }
         }
+        Some("compare") => {
+            let named = |f: &String| {
+                f.strip_prefix("--alter=").map(|w| compare::Alter::named(w).unwrap_or_else(|| fail(USAGE)))
+            };
+            return compare(&words, engine(flag("--mimic")), flags.iter().find_map(named));
+        }
+        Some("bench") if words.get(1).map(String::as_str) == Some("once") => {
+            let named = words.get(2).and_then(|w| bench::WORKS.into_iter().find(|n| n == w));
+            let work = &bench::work(named.unwrap_or_else(|| fail(USAGE)));
+            let side = words.get(3).filter(|s| bench::SIDES.contains(&s.as_str())).unwrap_or_else(|| fail(USAGE));
+            let mut lent = bench::Lent::new();
+            for _ in 0..number(words.get(4)) {
+                bench::once(work, side, engine(false), &mut lent);
+            }
+            println!("{} records", work.records)
+        }
+        Some("bench") => {
+            let runs = words.get(1).map_or(200, |w| number(Some(w)));
+            print!("{}", bench::table(engine(false), runs as usize))
+        }
+        Some("traps") => {
+            let (lines, slowest) = traps::run(engine(false));
+            lines.iter().for_each(|l| println!("{}", l.text()));
+            println!("slowest call: {:.3} ms", slowest * 1000.0);
+            return (slowest >= traps::LIMIT) as i32;
+        }
+        Some("damage") => return hurt(&words, engine(flag("--mimic"))),
         Some("asm") => match assemble(&read_text(words.get(1)), flag("--number")) {
             Ok(bytes) => write(&bytes),
             Err(e) => fail(&e),

@@ -1,0 +1,235 @@
+//! The public calls over a lent state: the engine's, where its archive is linked, and core.rs behind the same calls.
+use crate::{
+    job::{answer_text, Job, Outcome},
+    lent::{encode, sound, Params, View},
+    record,
+};
+
+pub const MIN_ANSWER: usize = 4096;
+/// room that a log needs for one line more
+pub const LINE: usize = 8217;
+
+/// What a job's call gives beside words and log.
+#[derive(Debug, Clone, Copy, Default, PartialEq, Eq)]
+pub struct Lines {
+    pub written: usize,
+    pub read: usize,
+    pub place: u64,
+    pub ended: bool,
+}
+
+pub trait Calls {
+    /// whether nodes, places and depth are counted as 01 says
+    fn counts(&self) -> bool {
+        true
+    }
+    /// One record, lent whole: the answer's number.
+    fn record(&self, state: &mut [u32], params: &mut Params, record: &[u8], answer: &mut [u8], length: &mut u32)
+        -> u32;
+    /// How many bytes of the stream are left after one record.
+    fn split(&self, state: &mut [u32], params: &Params, stream: &[u8], rest: &mut usize);
+    /// A job's next lines, `lines.place` on: 0, or 15.
+    fn job(
+        &self,
+        state: &mut [u32],
+        params: &mut Params,
+        stream: &[u8],
+        more: bool,
+        log: &mut [u8],
+        lines: &mut Lines,
+    ) -> u32;
+}
+
+//---- the engine ------------------------------------------------------------------------------------------
+
+#[cfg(linked)]
+pub struct Engine;
+
+#[cfg(linked)]
+mod archive {
+    extern "C" {
+        pub fn pongiwaru_record(
+            state: *mut u32,
+            words: usize,
+            params: *mut u8,
+            record: *const u8,
+            bytes: usize,
+            answer: *mut u8,
+            room: usize,
+            length: *mut u32,
+        ) -> u32;
+        pub fn pongiwaru_split(
+            state: *mut u32,
+            words: usize,
+            params: *const u8,
+            stream: *const u8,
+            bytes: usize,
+            rest: *mut usize,
+        );
+        pub fn pongiwaru_job(
+            state: *mut u32,
+            words: usize,
+            params: *mut u8,
+            stream: *const u8,
+            bytes: usize,
+            more: bool,
+            log: *mut u8,
+            room: usize,
+            written: *mut usize,
+            read: *mut usize,
+            place: *mut u64,
+            ended: *mut bool,
+        ) -> u32;
+    }
+}
+
+#[cfg(linked)]
+impl Calls for Engine {
+    fn record(
+        &self,
+        state: &mut [u32],
+        params: &mut Params,
+        record: &[u8],
+        answer: &mut [u8],
+        length: &mut u32,
+    ) -> u32 {
+        let (words, bytes, room) = (state.len(), record.len(), answer.len());
+        let (state, params) = (state.as_mut_ptr(), params.as_mut_ptr().cast());
+        // each pointer comes with its slice's own length
+        unsafe {
+            archive::pongiwaru_record(state, words, params, record.as_ptr(), bytes, answer.as_mut_ptr(), room, length)
+        }
+    }
+
+    fn split(&self, state: &mut [u32], params: &Params, stream: &[u8], rest: &mut usize) {
+        let (words, params) = (state.len(), params.as_ptr().cast());
+        unsafe { archive::pongiwaru_split(state.as_mut_ptr(), words, params, stream.as_ptr(), stream.len(), rest) }
+    }
+
+    fn job(
+        &self,
+        state: &mut [u32],
+        params: &mut Params,
+        stream: &[u8],
+        more: bool,
+        log: &mut [u8],
+        lines: &mut Lines,
+    ) -> u32 {
+        let (words, bytes, room) = (state.len(), stream.len(), log.len());
+        let (state, params, stream, log) =
+            (state.as_mut_ptr(), params.as_mut_ptr().cast(), stream.as_ptr(), log.as_mut_ptr());
+        let Lines { written, read, place, ended } = lines;
+        unsafe {
+            archive::pongiwaru_job(state, words, params, stream, bytes, more, log, room, written, read, place, ended)
+        }
+    }
+}
+
+/// The engine; without its archive, none.
+#[cfg(linked)]
+pub fn engine() -> Option<&'static (dyn Calls + Sync)> {
+    Some(&Engine)
+}
+#[cfg(not(linked))]
+pub fn engine() -> Option<&'static (dyn Calls + Sync)> {
+    None
+}
+
+//---- core.rs behind the same calls, to try the harness itself -------------------------------------------------
+
+pub struct Mimic;
+
+/// The lent state as a job of core.rs's.
+pub fn job_of(s: View) -> Job {
+    let declared: Vec<_> = (0..s.structs()).map(|i| s.declared(i)).collect();
+    Job::load(&s.state(), &declared)
+}
+
+impl Mimic {
+    fn number(outcome: &Outcome) -> u32 {
+        match outcome {
+            Outcome::Core(n, _) | Outcome::Refused(n, _) => *n as u32,
+            Outcome::Silent(_) => 0,
+        }
+    }
+
+    /// writes the job's state back
+    fn leave(job: &Job, state: &mut [u32], params: &mut Params) {
+        let declared: Vec<_> = (0..job.known().params.len()).map(|i| job.declared(i)).collect();
+        let lent = encode(&job.state(), &declared).expect("a state of few nodes");
+        state.copy_from_slice(&lent.words);
+        *params = lent.params
+    }
+}
+
+impl Calls for Mimic {
+    /// it lays every type down anew
+    fn counts(&self) -> bool {
+        false
+    }
+
+    fn record(
+        &self,
+        state: &mut [u32],
+        params: &mut Params,
+        record: &[u8],
+        answer: &mut [u8],
+        length: &mut u32,
+    ) -> u32 {
+        *length = 0;
+        if answer.len() < MIN_ANSWER || sound(state, params).is_err() {
+            return 15;
+        }
+        let mut job = job_of(View { words: state, params });
+        let outcome = match record::read_record(record, job.known()) {
+            Err(number) => return number as u32,
+            Ok((_, n)) if n < record.len() => return 5,
+            Ok((r, _)) => job.record(&r),
+        };
+        if let Outcome::Core(_, payload) = &outcome {
+            answer[..payload.len()].copy_from_slice(payload);
+            *length = payload.len() as u32;
+            Mimic::leave(&job, state, params)
+        }
+        Mimic::number(&outcome)
+    }
+
+    fn split(&self, state: &mut [u32], params: &Params, stream: &[u8], rest: &mut usize) {
+        *rest = stream.len();
+        if sound(state, params).is_ok() {
+            let job = job_of(View { words: state, params });
+            *rest -= record::read_record(stream, job.known()).map_or(0, |(_, n)| n)
+        }
+    }
+
+    fn job(
+        &self,
+        state: &mut [u32],
+        params: &mut Params,
+        stream: &[u8],
+        more: bool,
+        log: &mut [u8],
+        lines: &mut Lines,
+    ) -> u32 {
+        *lines = Lines { place: lines.place, ..Lines::default() };
+        if sound(state, params).is_err() {
+            lines.ended = true;
+            return 15;
+        }
+        let mut job = job_of(View { words: state, params });
+        while lines.read < stream.len() && !lines.ended {
+            if (more && stream.len() - lines.read < 4096) || log.len() - lines.written < LINE {
+                Mimic::leave(&job, state, params);
+                return 0;
+            }
+            let (outcome, n) = job.next(&stream[lines.read..]);
+            let line = format!("{} {}\n", lines.place, answer_text(&outcome));
+            log[lines.written..lines.written + line.len()].copy_from_slice(line.as_bytes());
+            (lines.written, lines.read, lines.place) = (lines.written + line.len(), lines.read + n, lines.place + 1);
+            lines.ended = n == 0
+        }
+        lines.ended |= !more;
+        Mimic::leave(&job, state, params);
+        0
+    }
+}

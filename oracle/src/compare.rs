@@ -1,0 +1,433 @@
+//! The engine beside core.rs, in one process: every answer, payload, binding, mark, constraint and declaration.
+use crate::{
+    calls::{job_of, Calls, Lines, LINE, MIN_ANSWER},
+    count::{counted, used, Counted},
+    gen::{self, Chance, Made},
+    job::{Job, Outcome},
+    lender::{Answer, Fault, Lender},
+    lent::{self, Lent, Params},
+    record::{self, hex, Record},
+    shrink::shrink,
+    text::{disassemble, state_text},
+};
+use std::collections::BTreeMap;
+
+/// The first record at which the two part, and how.
+#[derive(Debug, Clone, PartialEq, Eq)]
+pub struct Disagreement {
+    pub record: usize,
+    pub what: String,
+}
+
+/// What was run.
+#[derive(Debug, Clone, Default)]
+pub struct Tally {
+    pub jobs: usize,
+    /// records by mark and by the engine's answer, where both agree
+    pub records: BTreeMap<(&'static str, u32), usize>,
+    /// why a job was not followed to its end, or an answer not held to core.rs's
+    pub apart: BTreeMap<&'static str, usize>,
+    pub lines: usize,
+}
+
+impl Tally {
+    pub fn count(&self, of: impl Fn(u32) -> bool) -> usize {
+        self.records.iter().filter(|((_, n), _)| of(*n)).map(|(_, c)| c).sum()
+    }
+    pub fn all(&self) -> usize {
+        self.count(|_| true)
+    }
+    fn apart(&mut self, why: &'static str) {
+        *self.apart.entry(why).or_insert(0) += 1
+    }
+    pub fn text(&self) -> String {
+        let mut out = format!("{} jobs, {} records; lines compared: {}\n", self.jobs, self.all(), self.lines);
+        let marks: Vec<_> = {
+            let mut m: Vec<_> = self.records.keys().map(|(m, _)| *m).collect();
+            m.dedup();
+            m
+        };
+        for mark in marks {
+            let of = |n| self.records.get(&(mark, n)).copied().unwrap_or(0);
+            let cells: Vec<_> = (0..15).filter(|n| of(*n) > 0).map(|n| format!("{}: {}", n, of(n))).collect();
+            out += &format!("{}  {}\n", mark, cells.join(", "))
+        }
+        let (core, rest) = (self.count(|n| n <= 4), self.count(|n| n > 4));
+        out += &format!("0 to 4, held to core.rs: {}; 5 to 14, held to 01's rules: {}\n", core, rest);
+        self.apart.iter().for_each(|(why, n)| out += &format!("{}: {}\n", why, n));
+        out
+    }
+}
+
+const LIMIT: &str = "7 or 8 where core.rs goes on, as counted by 01";
+const OTHER_REFUSAL: &str = "7 or 8 before another of 7 to 14, as counted by 01";
+const SILENT: &str = "core.rs silent: job ended";
+
+//---- one record ------------------------------------------------------------------------------------------
+
+/// How an answer agrees with core.rs.
+#[derive(Debug, Clone, Copy, PartialEq, Eq)]
+pub enum Agreed {
+    Same,
+    /// ours is a limit that core.rs does not know: it has gone on
+    Limit,
+    Silent,
+}
+
+/// The answer beside core.rs's outcome and what 01's counts say.
+pub fn agree(
+    outcome: &Outcome,
+    answer: &Answer,
+    counted: Option<Counted>,
+    tally: &mut Tally,
+) -> Result<Agreed, String> {
+    let limit = |n: u32| matches!(n, 7 | 8);
+    let number = counted.map(|c| c.number);
+    if number.is_some_and(|n| limit(answer.number) || limit(n)) {
+        if Some(answer.number) != number {
+            return Err(format!("by 01's counts: {:?}; ours: {}", number, shown(answer)));
+        }
+        let core = matches!(outcome, Outcome::Core(..));
+        let known = matches!(outcome, Outcome::Refused(n, _) if *n as u32 == answer.number);
+        if !known {
+            tally.apart(if core { LIMIT } else { OTHER_REFUSAL })
+        }
+        return Ok(if known { Agreed::Same } else { Agreed::Limit });
+    }
+    match outcome {
+        Outcome::Silent(_) => {
+            tally.apart(SILENT);
+            Ok(Agreed::Silent)
+        }
+        Outcome::Core(n, payload) if *n as u32 == answer.number && *payload == answer.payload => Ok(Agreed::Same),
+        Outcome::Refused(n, _) if *n as u32 == answer.number => Ok(Agreed::Same),
+        Outcome::Core(n, p) => Err(format!("core.rs: {} {}; ours: {}", n, hex(p), shown(answer))),
+        Outcome::Refused(n, why) => Err(format!("by 01: {} ({}); ours: {}", n, why, shown(answer))),
+    }
+}
+
+fn shown(a: &Answer) -> String {
+    format!("{} {}", a.number, hex(&a.payload))
+}
+
+/// UF, RD and TS leave the state word for word.
+fn only_reads(r: &Record) -> bool {
+    matches!(r, Record::UF(_) | Record::RD(_) | Record::TS(..))
+}
+
+pub fn same_counts(lender: &Lender, counted: Option<Counted>) -> Result<(), String> {
+    match counted {
+        Some(c) if c.used != used(lender.view()) => {
+            Err(format!("by 01's counts: {:?}; ours: {:?}", c.used, used(lender.view())))
+        }
+        _ => Ok(()),
+    }
+}
+
+pub fn same_state(lender: &Lender, job: &Job, r: Option<&Record>) -> Result<(), String> {
+    let view = lender.view();
+    if let Err(rule) = lent::sound(view.words, view.params) {
+        return Err(format!("left unsound: {}", rule));
+    }
+    if r.is_some_and(only_reads) && !lender.unchanged() {
+        return Err(format!("a reading record changed {}", lender.first_change()));
+    }
+    let (ours, core) = (view.state(), job.state());
+    if ours != core {
+        return Err(format!("core.rs: {}; ours: {}", state_text(&core), state_text(&ours)));
+    }
+    let last = view.structs().saturating_sub(1);
+    if matches!(r, Some(Record::SD(..))) && view.declared(last) != job.declared(last) {
+        return Err("declarations differ".into());
+    }
+    Ok(())
+}
+
+//---- one job --------------------------------------------------------------------------------------------------
+
+struct Run<'a> {
+    lender: Lender<'a>,
+    job: Job,
+    log: String,
+    at: usize,
+    place: usize,
+}
+
+impl Run<'_> {
+    /// one record; Ok(false): the job is over
+    fn step(&mut self, stream: &[u8], room: usize, tally: &mut Tally) -> Result<bool, String> {
+        let rest = &stream[self.at..];
+        let read = record::read_record(rest, self.job.known()).ok();
+        let (outcome, n) = self.job.next(rest);
+        let split = self.lender.split(rest)?;
+        if split != n {
+            return Err(format!("split takes {} bytes, not {}", split, n));
+        }
+        let (r, mark) = (read.as_ref().map(|(r, _)| r), read.as_ref().map_or("??", |(r, _)| r.mark()));
+        let counted = r.filter(|_| self.lender.calls.counts()).map(|r| counted(self.lender.view(), r));
+        let answer = self.lender.record(if n == 0 { rest } else { &rest[..n] }, room)?;
+        match agree(&outcome, &answer, counted, tally)? {
+            Agreed::Same => (),
+            Agreed::Limit => self.job = job_of(self.lender.view()),
+            Agreed::Silent => return Ok(false),
+        }
+        if answer.number <= 4 {
+            same_state(&self.lender, &self.job, r)?;
+            same_counts(&self.lender, counted)?
+        }
+        *tally.records.entry((mark, answer.number)).or_insert(0) += 1;
+        self.log += &match answer.payload.is_empty() {
+            true => format!("{} {}\n", self.place, answer.number),
+            false => format!("{} {}\n", self.place, shown(&answer)),
+        };
+        (self.at, self.place) = (self.at + n, self.place + 1);
+        Ok(n > 0)
+    }
+}
+
+/// A stream's records one by one on a state, then the same stream as a job in pieces.
+pub fn stream(
+    calls: &dyn Calls,
+    start: &Lent,
+    stream: &[u8],
+    chance: &mut Chance,
+    tally: &mut Tally,
+) -> Result<(), Disagreement> {
+    let (lender, job) = (Lender::new(calls, start), job_of(start.view()));
+    let mut run = Run { lender, job, log: String::new(), at: 0, place: 0 };
+    let room = MIN_ANSWER + if chance.percent(20) { chance.below(100) } else { 0 };
+    let mut refused = false;
+    while run.at < stream.len() {
+        let place = run.place;
+        match run.step(stream, room, tally) {
+            Ok(true) => (),
+            Ok(false) => {
+                refused = run.place > place;
+                break;
+            }
+            Err(what) => return Err(Disagreement { record: place, what }),
+        }
+    }
+    tally.jobs += 1;
+    tally.lines += run.place;
+    let followed = if refused { stream } else { &stream[..run.at] };
+    let end = run.lender.lent();
+    run.lender.lend(start);
+    in_pieces(&mut run.lender, followed, &run.log, chance)
+        .and_then(|_| match run.lender.lent() == end {
+            true => Ok(()),
+            false => Err("the job leaves another state than its records".into()),
+        })
+        .map_err(|what| Disagreement { record: run.place, what })
+}
+
+/// The stream handed over in pieces gives the same lines.
+fn in_pieces(lender: &mut Lender, stream: &[u8], wanted: &str, chance: &mut Chance) -> Result<(), Fault> {
+    let piece = chance.one(&[usize::MAX, usize::MAX, 4096, 5000, 9000]);
+    let room = LINE + chance.one(&[0, 1, 20_000]);
+    let (mut log, mut at, mut have, mut place) = (vec![], 0, 0usize, 0);
+    let mut over = false;
+    while !over {
+        have = stream.len().min(have.saturating_add(piece));
+        let more = have < stream.len();
+        let (number, Lines { read, place: next, ended, .. }, text) =
+            lender.job(&stream[at..have], more, room, place)?;
+        log.extend(text);
+        if number != 0 {
+            return Err(format!("the job answers {}", number));
+        }
+        let stuck = read == 0 && next == place && !more;
+        (at, place, over) = (at + read, next, ended);
+        if stuck && !over {
+            return Err("the job does not go on".into());
+        }
+    }
+    match log == wanted.as_bytes() {
+        true => Ok(()),
+        false => Err(format!("the job's lines differ: {}; wanted: {}", String::from_utf8_lossy(&log), wanted)),
+    }
+}
+
+//---- many jobs ---------------------------------------------------------------------------------------------------
+
+/// Job i of a comparison: three in five by chance, one in three short and exhaustive, some long, some near the limits.
+pub fn made(seed: u64, i: u64, records: usize) -> Made {
+    let mut chance = Chance::new(seed ^ 0x636f_6d70, i);
+    match chance.below(100) {
+        0 if chance.percent(20) => gen::deep(seed, i),
+        0 => gen::limits(seed, i, false),
+        1 => gen::random(seed, i, 12 * records, None, false),
+        2..=34 => gen::exhaustive(chance.below(7056), false).unwrap(),
+        _ => gen::random(seed, i, records / 2 + chance.below(records), None, false),
+    }
+}
+
+/// The state of job i with some of its tables nearly full: rows of zeros are `()`, free places, open variables, ability
+/// constraints of nothing and structs without parameters.
+pub fn crowded(start: &Lent, seed: u64, i: u64) -> Lent {
+    let (mut lent, mut chance) = (start.clone(), Chance::new(seed ^ 0x6372_6f77, i));
+    let [nodes, places, vars, constraints, structs] = lent::LIMITS;
+    for (table, limit, near) in [(0, nodes, 30), (1, places, 12), (2, vars, 6), (3, constraints, 6), (4, structs, 3)] {
+        let full = (limit - chance.below(near)) as u32;
+        if chance.percent(if table < 2 { 60 } else { 25 }) && lent.words[table] < full && lent.words[0] > 0 {
+            lent.words[table] = full
+        }
+    }
+    lent
+}
+
+pub struct Found {
+    pub name: String,
+    pub start: Lent,
+    pub stream: Vec<u8>,
+    pub disagreement: Disagreement,
+}
+
+/// One job in eight goes on from a crowded state, where it has no records that cannot be read.
+fn crowd(calls: &dyn Calls, seed: u64, i: u64) -> Option<(Lent, Made)> {
+    (i % 8 == 7 && calls.counts()).then_some(())?;
+    let m = crate::damage::midway(calls, seed, i).ok()?;
+    let lent = crowded(&m.lent, seed, i);
+    let made = gen::onward(job_of(lent.view()), seed, i, 12);
+    Some((lent, made))
+}
+
+/// Jobs up to `count`; stops at the first disagreement.
+pub fn many(calls: &dyn Calls, seed: u64, count: u64, records: usize, tally: &mut Tally) -> Option<Found> {
+    (0..count).find_map(|i| {
+        let (start, m) = crowd(calls, seed, i).unwrap_or_else(|| (lent::fresh(), made(seed, i, records)));
+        let disagreement = stream(calls, &start, &m.stream, &mut Chance::new(seed, i), tally).err()?;
+        Some(Found { name: m.name, start, stream: m.stream, disagreement })
+    })
+}
+
+/// The disagreement that a stream shows, if it shows one.
+pub fn disagrees(calls: &dyn Calls, start: &Lent, bytes: &[u8]) -> Option<Disagreement> {
+    stream(calls, start, bytes, &mut Chance::new(0, 0), &mut Tally::default()).err()
+}
+
+/// The same disagreement, or another, in a smaller job; on a fresh state if it shows there.
+pub fn smallest(calls: &dyn Calls, found: Found) -> Found {
+    let fresh = lent::fresh();
+    let start = if disagrees(calls, &fresh, &found.stream).is_some() { fresh } else { found.start.clone() };
+    let stream = shrink(&found.stream, |s| disagrees(calls, &start, s).is_some());
+    match disagrees(calls, &start, &stream) {
+        Some(disagreement) => Found { name: found.name, start, stream, disagreement },
+        None => found,
+    }
+}
+
+//---- altered answers, to show that a comparison can fail -------------------------------------------------------------
+
+#[derive(Debug, Clone, Copy, PartialEq, Eq)]
+pub enum Alter {
+    /// 2 becomes 3
+    Number,
+    /// the location of a reference that a join answers
+    Payload,
+    /// the location of a variable's binding
+    Binding,
+    /// SN marks nothing
+    Mark,
+    /// the kind of a constraint that NC adds
+    Constraint,
+    /// RD changes nothing to see but a spare node
+    Reading,
+    /// a join takes a node too many
+    Count,
+    /// a line of a job
+    Line,
+}
+
+pub const ALTERS: [Alter; 8] = {
+    use Alter::*;
+    [Number, Payload, Binding, Mark, Constraint, Reading, Count, Line]
+};
+
+impl Alter {
+    pub fn named(name: &str) -> Option<Alter> {
+        ALTERS.into_iter().find(|a| format!("{:?}", a).to_lowercase() == name)
+    }
+}
+
+pub struct Altered<'a> {
+    pub calls: &'a dyn Calls,
+    pub alter: Alter,
+}
+
+impl Altered<'_> {
+    fn spoil(&self, words: &mut [u32], params: &Params, record: &[u8], answer: &mut [u8], number: u32) -> u32 {
+        let view = lent::View { words, params };
+        let first_var = record.get(9).map_or(0, |v| *v as usize);
+        let bound = (record.starts_with(b"JN\x06") && number == 0).then(|| view.binding(first_var)).flatten();
+        match self.alter {
+            Alter::Number if number == 2 => return 3,
+            Alter::Payload if number == 0 && record.starts_with(b"JN") && answer[0] == 1 => answer[1] ^= 1,
+            Alter::Binding => {
+                if let Some(node) = bound {
+                    words[5 + 6 * node + 1] ^= 1
+                }
+            }
+            Alter::Constraint if number == 0 && record.starts_with(b"NC") => {
+                let at = 21_509 + 4 * (view.constraints() - 1);
+                words[at] = words[at] % 3 + 1
+            }
+            Alter::Reading if number == 0 && record.starts_with(b"RD") && view.nodes() < 2048 => words[0] += 1,
+            Alter::Count if number == 0 && record.starts_with(b"JN") && view.nodes() < 2048 => words[0] += 1,
+            _ => (),
+        }
+        number
+    }
+}
+
+impl Calls for Altered<'_> {
+    fn record(
+        &self,
+        state: &mut [u32],
+        params: &mut Params,
+        record: &[u8],
+        answer: &mut [u8],
+        length: &mut u32,
+    ) -> u32 {
+        let before = state.to_vec();
+        let number = self.calls.record(state, params, record, answer, length);
+        if self.alter == Alter::Mark && record.starts_with(b"SN") {
+            state.copy_from_slice(&before)
+        }
+        self.spoil(state, params, record, answer, number)
+    }
+
+    fn counts(&self) -> bool {
+        self.calls.counts()
+    }
+
+    fn split(&self, state: &mut [u32], params: &Params, stream: &[u8], rest: &mut usize) {
+        self.calls.split(state, params, stream, rest)
+    }
+
+    fn job(
+        &self,
+        state: &mut [u32],
+        params: &mut Params,
+        stream: &[u8],
+        more: bool,
+        log: &mut [u8],
+        lines: &mut Lines,
+    ) -> u32 {
+        let number = self.calls.job(state, params, stream, more, log, lines);
+        if self.alter == Alter::Line && lines.written > 40 {
+            log[lines.written - 2] ^= 1
+        }
+        number
+    }
+}
+
+/// A disagreement for people.
+pub fn report(found: &Found) -> String {
+    let Disagreement { record, what } = &found.disagreement;
+    let text: Vec<_> = disassemble(&found.stream).lines().map(|l| format!("    {}", l)).collect();
+    let rows: Vec<_> = found.start.words[..5].iter().map(u32::to_string).collect();
+    let start = if found.start == lent::fresh() { "fresh".into() } else { format!("rows in use: {}", rows.join(" ")) };
+    let (text, bytes) = (text.join("\n"), hex(&found.stream));
+    format!("{}, record {}: {}\n    state: {}\n{}\n    {}\n", found.name, record, what, start, text, bytes)
+}
