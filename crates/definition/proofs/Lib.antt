@@ -52,3 +52,11 @@ pub mod NoFailIn
 pub mod Stream
 pub mod Pieces
 pub mod Points
+pub mod Erase
+pub mod EraseJoin
+pub mod EraseRead
+pub mod EraseWrite
+pub mod EraseRun
+pub mod Cuts
+pub mod Locations
+pub mod StreamJob

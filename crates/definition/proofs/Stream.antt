@@ -21,7 +21,7 @@ pub data Goes-on (bytes : Bytes) (r : Answer × Bytes) : Type 0 where
   shorter : length (r .1) ≤ length bytes → Goes-on bytes r
   over : ends-job (r .0 .number) ≡ true → Goes-on bytes r
 
-ends : {x : Refusal} → Read-time x → ends-job (number-of-refusal x) ≡ true
+pub ends : {x : Refusal} → Read-time x → ends-job (number-of-refusal x) ≡ true
 unfolding number-of-refusal ends-job
 ends five = refl
 ends six = refl
