@@ -175,7 +175,7 @@ unsound-lines w p place stream more log h =
 
 pub unsound-rest : (w : List ℕ) (p : List (List ℕ)) (stream : Bytes) → lent-sound w p ≡ false → stream ≡ rest-of w p stream
 unfolding rest-of
-unsound-rest w p stream h = sym (ap {B = Bytes} (λ q. elim q as (λ x. Bytes) [ true ↦ step-stream (decode w p) stream max-buffer .1 | false ↦ stream ]) h)
+unsound-rest w p stream h = rw (h, rest-of) refl
 
 pub sound-rest : (w : List ℕ) (p : List (List ℕ)) → lent-sound w p ≡ true → (u : Used) → u ≡ used-of w → (stream rest : Bytes) → unread (held w u p) stream ≡ rest → rest ≡ rest-of w p stream
 unfolding rest-of unread

@@ -66,6 +66,7 @@ fn record_trusted(
 }
 
 // One record, lent whole: bytes left over are 5. Number and length come beside the parameter bytes.
+// Refused (must-fail/): 15 for a buffer of just 4,096 bytes (fifteen_at_4096), a length on 15 (length_on_15), bytes left over let through (left_over_passed).
 pub fn lent_record(
     state: &mut [u32],
     params: [[u8; 8]; 256],
@@ -210,6 +211,8 @@ fn job_trusted(
 
 // A job's next lines: those of as many records as the bytes at hand hold whole and the log surely has room for. `more`: further bytes follow.
 // The state is tested once. `place` is the next record's number; `read` and `written` say how much of the stream and of the log was used.
+// Refused: the first record right and 0 after (echoes_0), a job that goes on after 6 (six_goes_on) or from an unsound state (unsound_goes_on), a record begun
+// that may not be whole (cut_one_early).
 pub fn job(
     state: &mut [u32],
     params: [[u8; 8]; 256],
@@ -268,6 +271,7 @@ pub fn rest_size(state: &mut [u32], params: [[u8; 8]; 256], stream: &[u8]) -> us
 }
 
 // The stream after one record; all of it on 5, 6 and 15. The state is as it was.
+// Refused: a stream handed back whole always (all_handed_back), one byte passed on 15 (split_past_15).
 pub fn split<'a>(state: &mut [u32], params: [[u8; 8]; 256], stream: &'a [u8]) -> &'a [u8]
     ensures { λ r. ⌜ now r ≡ rest-of (now (state .entry)) params (now (stream .entry)) ⌝ }
     ensures { λ r. ⌜ now (state .exit) ≡ now (state .entry) ⌝ }

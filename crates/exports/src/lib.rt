@@ -5,6 +5,7 @@ ghost use lib.ListN.{length as size, drop};
 ghost use Rattle.engine.specs.Public.{lent-step, in-front, rest-of, lent-lines};
 
 // One record, lent whole. The result is the answer's number; the payload stands in front of the answer buffer, and length is how long it is.
+// Refused (must-fail/): an answer for a short buffer (short_buffer_passed), no payload ever (no_payload).
 #[no_mangle]
 pub extern "C" fn pongiwaru_record(
     state: &mut [u32],
@@ -26,6 +27,7 @@ pub extern "C" fn pongiwaru_record(
 }
 
 // How many bytes of the stream are left after one record; all of them on 5, 6 and 15. The state is as it was.
+// Refused: the bytes read in place of those left (rest_from_the_front), all of them always (all_left).
 #[no_mangle]
 pub extern "C" fn pongiwaru_split(
     state: &mut [u32],
@@ -43,6 +45,7 @@ pub extern "C" fn pongiwaru_split(
 }
 
 // A job's next lines. The result is 0, or 15 for a state that is not sound.
+// Refused: the same record number again (place_as_it_was), an end that the lines don't give (ended_at_once).
 #[no_mangle]
 pub extern "C" fn pongiwaru_job(
     state: &mut [u32],
