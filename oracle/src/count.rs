@@ -1,5 +1,5 @@
 //! What a record takes, counted by 01's rules on trees: nodes, argument places, variables and constraints, and the 7 or 8
-//! where a limit is met. core.rs counts none of these. Written from 01 alone; answers other than 7 and 8 are core.rs's to give.
+//! where a limit is met. core.rs counts none of these. Uses no code of the engine's; not claimed to be independent of the definition. Answers other than 7 and 8 are core.rs's to give.
 use crate::{
     lent::{View, MAX_CONSTRAINTS, MAX_NODES, MAX_PLACES, MAX_STRUCTS, MAX_VARS},
     record::{Kind, Record, Ty},

@@ -1,4 +1,5 @@
-//! The lent state (docs/STATE.md) read, written and tested, from 01's text alone: nothing of the engine's is used.
+//! The lent state (docs/STATE.md) read, written and tested. Uses no code of the engine's; its test follows 01, the readings and the definition's `sound`, so it is no
+//! check of that definition.
 use crate::{
     job::{Held, State},
     record::{Kind, Ty, VECTOR},
