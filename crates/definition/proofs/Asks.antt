@@ -1,13 +1,12 @@
 -- The joins and subtypes that a record asks for: each starts in a sound state, and where it must not leave a variable that reaches itself it leaves none. Assumes nothing.
 use mathlib.Core.Path.{_≡_, refl, sym, subst}
-use mathlib.Core.Logic.{_⊎_, inl, inr}
+use mathlib.Core.Logic.{inl, inr}
 use mathlib.Core.Bool.{Bool, true, false}
 use mathlib.Core.List.{List, [], _∷_, _++_, List·Memᴰ, List·Memᴰ·append-cases, List·Memᴰ·eq-of-singleton, List·Memᴰ·not-nil}
-use Prim.Native.Nat.{ℕ, _<_}
+use Prim.Native.Nat.{ℕ, _≤_, _<_}
 use native.Mathlib.Omega.{arith}
-use lib.ListN.{length}
 use lib.Dec.{leb}
-use Rattle.definition.specs.Types.{TypeName, Var, State, max-depth, answer-too-long, unsound-state, Result, ok, err, refused, _>>=_, if_then_else_}
+use Rattle.definition.specs.Types.{TypeName, Var, State, max-depth, unsound-state, Result, ok, err, refused, _>>=_}
 use Rattle.definition.specs.Store.{count, taken, sp}
 use Rattle.definition.specs.Subst.{forward-tvar, unfold-type}
 use Rattle.definition.specs.Join.{TypingCase, Join, Subtype, join-impl, join, subtype}
@@ -16,10 +15,9 @@ use Rattle.definition.specs.Write.{Bytes, write}
 use Rattle.definition.specs.Reader.{Read, got, not-read}
 use Rattle.definition.specs.Record.{Record, SD, FV, NV, SN, JN, SU, UF, RD, IN, TS, NC, BC, SC, SV, read-record}
 use Rattle.definition.specs.Trees.{Tree, arity}
-use Rattle.definition.specs.Step.{Answer, number-of-refusal, refusal, max-payload, answer-with, answer, max-buffer, usable, two-types, lent, run, step}
+use Rattle.definition.specs.Step.{Answer, refusal, max-payload, answer, max-buffer, usable, two-types, lent, run, step}
 use Rattle.definition.specs.Rank.{None-reaches-itself}
 use Rattle.definition.specs.Demand.{Ask, outcome, if-met, ask-two, ask-num, ask-nums, asks, lent-asks, step-asks}
-use Rattle.definition.proofs.Tracks.{never}
 use Rattle.definition.proofs.Order.{Sound}
 use Rattle.definition.proofs.Post.{Post, p-ok, p-err, p-refused}
 use Rattle.definition.proofs.Calls.{sp-post, var-ok}
@@ -27,20 +25,8 @@ use Rattle.definition.proofs.Facts.{and-r, facts}
 use Rattle.definition.proofs.WellRead.{ReadWell, given, Fine, FineRecord, well-read}
 use Rattle.definition.proofs.Went.{Went, PostS, ps-ok}
 use Rattle.definition.proofs.Runs.{Declared, declared-on, Below, below-on, num-vars-below, place-went, u64-ok, default-went}
+use Rattle.definition.proofs.JoinAnswers.{weight, Weighs, weighs, record-weighs, run-fits}
 use Rattle.definition.proofs.NoFail.{Sure, sure-ok, sure-is, CalmAt, placed-sure, new-calm, default-sure}
-
--- the answer is 0, and no variable reaches itself in the state that it leaves
-abbrev pub Typed : Answer → Type 0
-Typed a = (a .number ≡ 0) × None-reaches-itself (a .state)
-
-typed-ok : (S s : State) (p : Bytes) → Typed (answer S (ok (s, p))) → None-reaches-itself s
-unfolding answer answer-with refusal number-of-refusal
-typed-ok S s p t = go (leb (length p) max-payload) (t .0) (t .1)
-  where
-    go : (b : Bool) → (if b then record { number = 0; payload = p; state = s } else refusal S answer-too-long) .number ≡ 0
-        → None-reaches-itself ((if b then record { number = 0; payload = p; state = s } else refusal S answer-too-long) .state) → None-reaches-itself s
-    go true e n = n
-    go false e n = never (cc)
 
 -- what a join is claimed from. E: what is given of its record
 pub record Fair (E : Type 0) (a : Ask) : Type 0 where
@@ -53,9 +39,13 @@ pub record Fair (E : Type 0) (a : Ask) : Type 0 where
 abbrev pub All-fair : Type 0 → List Ask → Type 0
 All-fair E l = (a : Ask) → List·Memᴰ a l → Fair E a
 
-joined-clear : (S₀ : State) (m : Result (State × ℕ)) (f : State × ℕ → Bytes) → Typed (answer S₀ (m >>= λ (x : State × ℕ). ok (x .0, f x))) → (s : State) (t : ℕ) → m ≡ ok (s, t) → None-reaches-itself s
+-- where the run succeeds it leaves no variable that reaches itself
+abbrev Clears : Result (State × Bytes) → Type 0
+Clears m = (s : State) (p : Bytes) → m ≡ ok (s, p) → None-reaches-itself s
+
+joined-clear : (m : Result (State × ℕ)) (f : State × ℕ → Bytes) → Clears (m >>= λ (x : State × ℕ). ok (x .0, f x)) → (s : State) (t : ℕ) → m ≡ ok (s, t) → None-reaches-itself s
 unfolding _>>=_
-joined-clear S₀ m f z s t e = typed-ok S₀ s (f (s, t)) (subst (λ (y : Result (State × ℕ)). Typed (answer S₀ (y >>= λ (x : State × ℕ). ok (x .0, f x)))) e z)
+joined-clear m f z s t e = z s (f (s, t)) (rw e refl)
 
 module _ {E : Type 0} where
   none-fair : All-fair E []
@@ -80,17 +70,17 @@ module _ {E : Type 0} where
   post-fair f p h = met-fair (λ (x : Result Bytes). Unit {0}) f (λ x. ok []) tt p (λ s b q z. h s b q)
 
   two-fair : {ar : TypeName → ℕ} (c : TypingCase) (S : State) → Sound ar S → (t1 t2 : Tree) → Fine ar (taken S) t1 → Fine ar (taken S) t2
-      → (E → Typed (answer S (two-types (λ s l r. join-impl max-depth s c l r) S t1 t2))) → All-fair E (ask-two c S t1 t2)
+      → (E → Clears (two-types (λ s l r. join-impl max-depth s c l r) S t1 t2)) → All-fair E (ask-two c S t1 t2)
   unfolding ask-two if-met two-types
   two-fair {ar} c S s t1 t2 f1 f2 z =
-      met-fair (λ m. E → Typed (answer S m)) _ _ z (place-went f1 s (omega arith)) (λ S1 l w1 z1.
-      met-fair (λ m. E → Typed (answer S m)) _ _ z1 (place-went f2 (w1 .sound) (omega (arith, w1 .above .more-vars))) (λ S2 r w2 z2.
+      met-fair (λ m. E → Clears m) _ _ z (place-went f1 s (omega arith)) (λ S1 l w1 z1.
+      met-fair (λ m. E → Clears m) _ _ z1 (place-went f2 (w1 .sound) (omega (arith, w1 .above .more-vars))) (λ S2 r w2 z2.
       one-fair _ (record {
         ar = ar;
         from = w2 .sound;
         l-in = omega (arith, w1 .t-in, w2 .above .more-nodes);
         r-in = w2 .t-in;
-        clear = λ e. joined-clear S (join-impl max-depth S2 c l r) (λ x. write (x .0) (x .1)) (z2 e);
+        clear = λ e. joined-clear (join-impl max-depth S2 c l r) (λ x. write (x .0) (x .1)) (z2 e);
       })))
 
   -- ---- SV
@@ -126,35 +116,35 @@ module _ {E : Type 0} where
       go (ok S′) (ps-ok g w) (sure-ok c) f = f S′ (w .sound) (declared-on d g) (below-on (w .above .more-vars) l (h .1)) (λ x. c .calm .none-still (z x))
       go (refused x) p c f = none-fair
 
-  -- ---- a record, where none reaches itself before it, and it answers 0 and leaves none that reaches itself, or is SV
+  -- ---- a record, where none reaches itself before it or in the state that it leaves
 
-  asks-fair : (S : State) → Sound (arity S) S → (r : Record) → FineRecord (arity S) (taken S) r → (E → None-reaches-itself S) → (E → Typed (answer S (run S r)) ⊎ (r ≡ SV)) → All-fair E (asks S r)
+  asks-fair : (S : State) → Sound (arity S) S → (r : Record) → FineRecord (arity S) (taken S) r → weight r ≤ max-payload → (E → None-reaches-itself S) → (E → None-reaches-itself (answer S (run S r) .state)) → All-fair E (asks S r)
   unfolding asks run join subtype
-  asks-fair S s (SD a ps) f n z = none-fair
-  asks-fair S s (FV loc) f n z = none-fair
-  asks-fair S s (NV loc) f n z = none-fair
-  asks-fair S s (SN v loc) f n z = none-fair
-  asks-fair S s (JN t1 t2) f n z = two-fair Join S s t1 t2 (f .0) (f .1) (λ e. elim (z e) [ inl t ↦ t | inr d ↦ never (cc) ])
-  asks-fair S s (SU t1 t2) f n z = two-fair Subtype S s t1 t2 (f .0) (f .1) (λ e. elim (z e) [ inl t ↦ t | inr d ↦ never (cc) ])
-  asks-fair S s (UF t) f n z = none-fair
-  asks-fair S s (RD t) f n z = none-fair
-  asks-fair S s (IN t) f n z = none-fair
-  asks-fair S s (TS ps t) f n z = none-fair
-  asks-fair S s (NC loc kind t) f n z = none-fair
-  asks-fair S s (BC loc t) f n z = none-fair
-  asks-fair S s (SC loc t) f n z = none-fair
-  asks-fair S s SV f n z = nums-fair (num-vars 0 (S .vars)) S s (λ n. refl) (num-vars-below 0 (S .vars) (taken S) (omega arith)) n
+  asks-fair S s (SD a ps) f w n z = none-fair
+  asks-fair S s (FV loc) f w n z = none-fair
+  asks-fair S s (NV loc) f w n z = none-fair
+  asks-fair S s (SN v loc) f w n z = none-fair
+  asks-fair S s (JN t1 t2) f w n z = two-fair Join S s t1 t2 (f .0) (f .1) (λ e s′ p d. subst (λ (x : Answer). None-reaches-itself (x .state)) (run-fits s Join t1 t2 f w s′ p d) (z e))
+  asks-fair S s (SU t1 t2) f w n z = two-fair Subtype S s t1 t2 (f .0) (f .1) (λ e s′ p d. subst (λ (x : Answer). None-reaches-itself (x .state)) (run-fits s Subtype t1 t2 f w s′ p d) (z e))
+  asks-fair S s (UF t) f w n z = none-fair
+  asks-fair S s (RD t) f w n z = none-fair
+  asks-fair S s (IN t) f w n z = none-fair
+  asks-fair S s (TS ps t) f w n z = none-fair
+  asks-fair S s (NC loc kind t) f w n z = none-fair
+  asks-fair S s (BC loc t) f w n z = none-fair
+  asks-fair S s (SC loc t) f w n z = none-fair
+  asks-fair S s SV f w n z = nums-fair (num-vars 0 (S .vars)) S s (λ n. refl) (num-vars-below 0 (S .vars) (taken S) (omega arith)) n
 
-  lent-fair : (s : State) → Sound (arity s) s → {k : ℕ} (r : Read Record) → ReadWell ⊥ s k r → (E → None-reaches-itself s) → (E → Typed (lent s r) ⊎ (r ≡ got SV [])) → All-fair E (lent-asks s r)
+  lent-fair : (s : State) → Sound (arity s) s → {k : ℕ} (r : Read Record) → ReadWell ⊥ s k r → Weighs max-payload r → (E → None-reaches-itself s) → (E → None-reaches-itself (lent s r .state)) → All-fair E (lent-asks s r)
   unfolding lent-asks lent
-  lent-fair s h (got r []) (given f i l) n z = asks-fair s h r (f .0) n (λ e. elim (z e) [ inl t ↦ inl t | inr d ↦ inr (cc) ])
-  lent-fair s h (got r (b ∷ rest)) f n z = none-fair
-  lent-fair s h (not-read x) f n z = none-fair
+  lent-fair s h (got r []) (given f i l) (weighs w) n z = asks-fair s h r (f .0) w n z
+  lent-fair s h (got r (b ∷ rest)) f w n z = none-fair
+  lent-fair s h (not-read x) f w n z = none-fair
 
-  pub step-fair : (s : State) (bytes : Bytes) (buffer : ℕ) → (E → None-reaches-itself s) → (E → Typed (step s bytes buffer) ⊎ (read-record s bytes ≡ got SV [])) → All-fair E (step-asks s bytes buffer)
+  pub step-fair : (s : State) (bytes : Bytes) (buffer : ℕ) → (E → None-reaches-itself s) → (E → None-reaches-itself (step s bytes buffer .state)) → All-fair E (step-asks s bytes buffer)
   unfolding step-asks usable step
   step-fair s bytes buffer n z = go (usable s buffer) refl z
     where
-      go : (b : Bool) → usable s buffer ≡ b → (E → Typed (elim b [ true ↦ lent s (read-record s bytes) | false ↦ refusal s unsound-state ]) ⊎ (read-record s bytes ≡ got SV [])) → All-fair E (elim b [ true ↦ lent-asks s (read-record s bytes) | false ↦ [] ])
-      go true e z = lent-fair s (facts s (and-r (leb max-buffer buffer) _ e)) (read-record s bytes) (well-read ⊥ s bytes (λ h. absurd h)) n z
+      go : (b : Bool) → usable s buffer ≡ b → (E → None-reaches-itself ((elim b as (λ x. Answer) [ true ↦ lent s (read-record s bytes) | false ↦ refusal s unsound-state ]) .state)) → All-fair E (elim b [ true ↦ lent-asks s (read-record s bytes) | false ↦ [] ])
+      go true e z = lent-fair s (facts s (and-r (leb max-buffer buffer) _ e)) (read-record s bytes) (well-read ⊥ s bytes (λ h. absurd h)) (record-weighs s bytes) n z
       go false e z = none-fair

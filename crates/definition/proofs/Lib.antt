@@ -25,6 +25,8 @@ pub mod Walk
 pub mod Went
 pub mod Runs
 pub mod Records
+pub mod JoinWrites
+pub mod JoinAnswers
 pub mod NoFail
 pub mod Asks
 pub mod Asked
