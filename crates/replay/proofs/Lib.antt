@@ -1,3 +1,4 @@
+pub mod EdgeRules
 pub mod EdgeStates
 pub mod EdgeStreams
 pub mod Jobs1
