@@ -1,8 +1,9 @@
 -- Bytes moved to the front one by one, and bytes written behind others. Assumes nothing.
 use mathlib.Core.Path.{_≡_, refl, sym, ap, ap₂, _∙_}
 use mathlib.Core.List.{List, [], _∷_, _++_}
-use Prim.Native.Nat.{ℕ, suc, _+_, _-_, _≤_, _<_}
-use mathlib.Core.Bool.{Bool, true, _||_}
+use Prim.Native.Nat.{ℕ, _+_, _-_, _≤_, _<_}
+use mathlib.Core.Bool.{Bool, true, false}
+use mathlib.Core.Logic.{_⊎_, inl, inr}
 use native.Mathlib.Numerals.{add-one}
 use native.Mathlib.Omega.{arith}
 use lib.ListN.{length, getD, take, drop, set, length-set, length-drop}
@@ -43,6 +44,11 @@ moved-all l from have left l′ e m = let d : left ≡ have - from = omega arith
 pub front-kept : (n end : ℕ) (l rest : List ℕ) → n ≤ end → end ≤ length l → take n (take end l ++ rest) ≡ take n l
 front-kept n end l rest h g = take-append-le n (take end l) rest (simp length-take-le (omega arith)) ∙ take-take n end l h
 
--- a test that holds, or another
-pub or-true : (a b : Bool) → a ≡ true → (a || b) ≡ true
-or-true a b e = rw e
+-- two ways to come here
+pub one-way : {A B C : Type 0} → A ⊎ B → (A → C) → (B → C) → C
+one-way (inl a) f g = f a
+one-way (inr b) f g = g b
+
+-- a test does not both hold and fail
+pub clash : {A : Type 0} {b : Bool} → b ≡ true → b ≡ false → A
+clash e f = let z : _≡_ {A = ℕ} 0 1 = cc in absurd (omega (arith, z))

@@ -1,7 +1,5 @@
 -- `joinlog::list` meets its contract: words, rows, rest and lines are those of `engine::job`. Assumes nothing.
-use mathlib.Core.Path.{_∙_}
 use borrow.Author.Needs.{needs}
-use Rattle.joinlog.proofs.Moves.{or-true}
 use Rattle.joinlog.proofs.list.Tie as tie
 use Rattle.joinlog.proofs.list.Statement.{statement}
 
@@ -20,11 +18,11 @@ part-write-all-end c = search needs
 write-all-requires : tie.Need-write-all-requires
 write-all-requires c κs = search needs
 
-tell-unwritten-requires : tie.Need-tell-unwritten-requires
-tell-unwritten-requires c κs = search needs
+unwritten-requires : tie.Need-unwritten-requires
+unwritten-requires c κs = search needs
 
-over-requires : tie.Need-over-requires
-over-requires c κs = search needs
+either-requires : tie.Need-either-requires
+either-requires c κs = search needs
 
 same-length : tie.Need-same-length
 same-length c = search needs
@@ -43,7 +41,7 @@ returns c =
       within = f .1 .1 .1 .0;
       rest = f .0;
       next = f .1 .0;
-      ends = λ h. c .over .ensures ∙ or-true _ _ (f .1 .1 .0 ∙ h);
+      ends = rw (← f .1 .1 .0) (c .either .ensures);
     }
 
 pub list-spec : {M : Type 1} → statement M
@@ -55,8 +53,8 @@ list-spec =
     part-write-all-start
     part-write-all-end
     write-all-requires
-    tell-unwritten-requires
-    over-requires
+    unwritten-requires
+    either-requires
     same-length
     same-length-2
     returns)

@@ -33,8 +33,8 @@ read-requires c κs = search needs
 count-requires : tie.Need-count-requires Inv-loop μ-loop
 count-requires c κs = search needs
 
-tell-unread-requires : tie.Need-tell-unread-requires Inv-loop μ-loop
-tell-unread-requires c κs = search needs
+unread-requires : tie.Need-unread-requires Inv-loop μ-loop
+unread-requires c κs = search needs
 
 same-length : tie.Need-same-length Inv-loop μ-loop
 same-length c = search needs
@@ -43,7 +43,7 @@ returns : tie.Need-returns Inv-loop μ-loop
 returns c =
     let i = c .before .before .before .before .before .before .before .before .before .before .before .before .loop .inv in
     let few : c .before .before .before .before .before .before .before .before .before .before .before .before .loop .end ≤ length (c .before .before .before .before .before .before .before .before .before .before .before .before .loop .buf) = omega arith in
-    (search needs, rw (front-kept _ _ (c .before .before .before .before .before .before .before .before .before .before .before .before .loop .buf) _ (i .0 .1 .0) few) (i .1))
+    record { whole = i .0 .1 .0; within = i .0 .1 .1; kept = rw (front-kept _ _ (c .before .before .before .before .before .before .before .before .before .before .before .before .loop .buf) _ (i .0 .1 .0) few) (i .1) }
 
 add-end : tie.Need-add-end Inv-loop μ-loop
 add-end c = search needs
@@ -61,7 +61,9 @@ same-length-2 : tie.Need-same-length-2 Inv-loop μ-loop
 same-length-2 c = search needs
 
 returns-2 : tie.Need-returns-2 Inv-loop μ-loop
-returns-2 c = search needs
+returns-2 c =
+    let i = c .before .loop .inv in
+    record { whole = i .0 .1 .0; within = i .0 .1 .1; kept = i .1 }
 
 pub refill-spec : {M : Type 1} → statement M
 refill-spec =
@@ -75,7 +77,7 @@ refill-spec =
     part-part-end
     read-requires
     count-requires
-    tell-unread-requires
+    unread-requires
     same-length
     returns
     add-end
