@@ -69,6 +69,10 @@ all-from (suc n) f h = both (all-below n f) (f n) (all-from n f (λ i p. h i (lt
 pub one-fails : (n : ℕ) (f : ℕ → Bool) (i : ℕ) → i < n → f i ≡ false → all-below n f ≡ false
 one-fails n f i h e = not-passed (all-below n f) (f i) (λ p. all-at n f p i h) e
 
+-- .. and so do fewer
+pub fewer-fail : (n m : ℕ) (f : ℕ → Bool) → m ≤ n → all-below m f ≡ false → all-below n f ≡ false
+fewer-fail n m f h e = not-passed (all-below n f) (all-below m f) (λ p. all-from m f (λ i l. all-at n f p i (omega (arith, h, l)))) e
+
 -- the loop is over
 pub all-done : (n i : ℕ) (f : ℕ → Bool) → n ≤ i → i ≤ n → all-below i f ≡ true → all-below n f ≡ true
 all-done n i f h k e = let z : i ≡ n = omega arith in rw z at e

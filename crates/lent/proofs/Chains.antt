@@ -35,7 +35,7 @@ module _ (w : List ℕ) (u : Used) where
   unfolding ends-fine
   ends-last n v x z e = rw (z, e, ends-fine) refl
 
-  ends-suc : (n v x : ℕ) → next-at w u v ≡ some x → ends-fine w u (suc n) v ≡ ends-fine w u n x
+  pub ends-suc : (n v x : ℕ) → next-at w u v ≡ some x → ends-fine w u (suc n) v ≡ ends-fine w u n x
   unfolding ends-fine
   ends-suc n v x e = rw (e, ends-fine) refl
 

@@ -11,3 +11,5 @@ pub mod Tested
 pub mod Owned
 pub mod Lays
 pub mod Decoded
+pub mod Ors
+pub mod Links

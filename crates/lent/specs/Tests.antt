@@ -11,6 +11,8 @@ use Rattle.definition.specs.Join.{is-numeric}
 use Rattle.definition.specs.Trees.{has-drop}
 use Rattle.table.specs.Rows.{read-mark}
 use Rattle.table.specs.declared.Used.{Used}
+use Rattle.lent.specs.declared.Next.{Next}
+use Rattle.lent.specs.declared.Next.the-variants.{Last, To}
 
 -- as many words as the layout has, and no more rows in use than each table has
 pub record Sized (w : List ℕ) (u : Used) : Type 0 where
@@ -138,6 +140,26 @@ ends-fine w u (suc n) v = elim (next-at w u v) [ none ↦ true | some next ↦ e
 
 unfoldable pub chain-fine : List ℕ → Used → ℕ → Bool
 chain-fine w u v = ends-fine w u (u .vars) v
+
+-- the variable that a binding leads to
+abbrev pub next : Next → Option ℕ
+next Last = none
+next (To v) = some (v .0)
+
+-- n bindings lead from v to the end of its chain
+unfoldable pub Links : List ℕ → Used → ℕ → ℕ → Type 0
+Links w u v n = (m : ℕ) → ends-fine w u m v ≡ leb n m
+
+-- what is noted of a variable, if not 0, is one more than its chain's length
+pub record Noted (w : List ℕ) (u : Used) (lengths : List ℕ) : Type 0 where
+  pub size : length lengths ≡ 1024
+  pub few : (v : ℕ) → getD lengths v 0 ≤ suc (u .vars)
+  pub links : (v : ℕ) → 0 < getD lengths v 0 → Links w u v (getD lengths v 0 - 1)
+
+-- n bindings lead from v to the end of its chain, or n is past the count of variables and so is the chain
+pub record Counted (w : List ℕ) (u : Used) (v n : ℕ) : Type 0 where
+  pub ends : n ≤ u .vars → Links w u v n
+  pub goes-on : u .vars < n → chain-fine w u v ≡ false
 
 -- ---- constraints
 

@@ -2,22 +2,28 @@
 ghost use mathlib.Core.Path.{_≡_};
 ghost use mathlib.Core.Bool.{true};
 ghost use Prim.Native.Nat.{ℕ, _+_, _*_, _≤_, _<_};
-ghost use lib.ListN.{length, getD};
+ghost use lib.Dec.{eqb};
+ghost use lib.ListN.{length, getD, set};
 ghost use Rattle.definition.specs.Trees.{has-drop};
 ghost use Rattle.table.specs.Rows.{read-mark};
-ghost use Rattle.table.specs.State.{found};
 ghost use Rattle.lent.specs.Lent.{used-of, lent-sound};
-ghost use Rattle.lent.specs.Tests.{Sized, all-below, counts-fine, zeros, tails-fine, struct-fine, params-at, byte-fine, bytes-fine, four-zeros, ref-fine, param-fine, var-fine, mark-fine, name-fine, fits-fine, args-fine, part-fine, apply-fine, shape-fine, node-fine, binding-fine, numeric-fine, cell-fine, var-at, next-at, ends-fine, chain-fine, constraint-fine};
+ghost use Rattle.lent.specs.Tests.{Sized, all-below, counts-fine, zeros, tails-fine, struct-fine, params-at, byte-fine, bytes-fine, four-zeros, ref-fine, param-fine, var-fine, mark-fine, name-fine, fits-fine, args-fine, part-fine, apply-fine, shape-fine, node-fine, binding-fine, numeric-fine, cell-fine, var-at, next-at, next, Links, Noted, Counted, chain-fine, constraint-fine};
 use names::AbilitySet;
 use names::MAX_ARGS;
 use names::MAX_CONSTRAINTS;
 use names::MAX_NODES;
 use names::MAX_STRUCTS;
 use names::MAX_VARS;
+use names::TVar;
 use names::has_drop;
 use names::is_numeric;
-use table::Found;
 use table::Used;
+
+// The variable that a binding leads to, if it leads to one.
+enum Next {
+    Last,
+    To(TVar),
+}
 
 // The first five words are the counts.
 pub fn used_of(w: &[u32]) -> Used
@@ -58,15 +64,13 @@ fn zeros(w: &[u32], first: usize, last: usize) -> bool
     requires { ⌜ (first ≤ last) × (last ≤ length (now w)) ⌝ }
     ensures { λ r. ⌜ r ≡ zeros (now (w .entry)) first last ⌝ }
 {
-    let n = last - first;
-    let mut k: usize = 0;
-    while k < n {
-        if w[first + k] != 0 {
-            return false;
-        }
+    let mut all: u32 = 0;
+    let mut k: usize = first;
+    while k < last {
+        all = all | w[k];
         k = k + 1;
     }
-    true
+    all == 0
 }
 
 fn tails_fine(w: &[u32], u: Used) -> bool
@@ -154,21 +158,48 @@ fn bytes_fine(bytes: [u8; 8], n: u32) -> bool
     true
 }
 
-fn params_fine(w: &[u32], u: Used, params: [[u8; 8]; 256]) -> bool
+// The bytes of the declarations.
+fn given_fine(w: &[u32], u: Used, params: [[u8; 8]; 256]) -> bool
     requires { ⌜ Sized (now w) u ⌝ }
-    ensures { λ r. ⌜ r ≡ all-below 256 (bytes-fine (now (w .entry)) u params) ⌝ }
+    ensures { λ r. ⌜ r ≡ all-below (u .structs) (bytes-fine (now (w .entry)) u params) ⌝ }
 {
+    let n = u.structs;
     let mut i: u32 = 0;
-    while i < 256 {
-        let n = params_at(w, u, i);
+    while i < n {
+        let many = params_at(w, u, i);
         let at = i as usize;
         let bytes = params[at];
-        if !bytes_fine(bytes, n) {
+        if !bytes_fine(bytes, many) {
             return false;
         }
         i = i + 1;
     }
     true
+}
+
+// 0 just where all eight are.
+fn any_of(bytes: [u8; 8]) -> u8
+    ensures { λ r. ⌜ eqb r 0 ≡ all-below 8 (byte-fine bytes 0) ⌝ }
+{
+    bytes[0] | bytes[1] | bytes[2] | bytes[3] | bytes[4] | bytes[5] | bytes[6] | bytes[7]
+}
+
+// .. and of the rows past the last declaration, which are zero: `|` in place of a branch for each byte.
+fn params_fine(w: &[u32], u: Used, params: [[u8; 8]; 256]) -> bool
+    requires { ⌜ Sized (now w) u ⌝ }
+    ensures { λ r. ⌜ r ≡ all-below 256 (bytes-fine (now (w .entry)) u params) ⌝ }
+{
+    if !given_fine(w, u, params) {
+        return false;
+    }
+    let mut any: u8 = 0;
+    let mut k = u.structs as usize;
+    while k < 256 {
+        let bytes = params[k];
+        any = any | any_of(bytes);
+        k = k + 1;
+    }
+    any == 0
 }
 
 // ---- nodes
@@ -414,11 +445,11 @@ fn numeric_fine(is: u32, x: u32) -> bool
     is == 1
 }
 
-fn cell_fine(w: &[u32], u: Used, v: u32) -> bool
-    requires { ⌜ Sized (now w) u × (v < 1024) ⌝ }
-    ensures { λ r. ⌜ r ≡ cell-fine (now (w .entry)) u v ⌝ }
+fn cell_fine(w: &[u32], u: Used, v: TVar) -> bool
+    requires { ⌜ Sized (now w) u × (v .0 < 1024) ⌝ }
+    ensures { λ r. ⌜ r ≡ cell-fine (now (w .entry)) u (v .0) ⌝ }
 {
-    let at = 16389 + (v as usize) * 5;
+    let at = 16389 + (v.0 as usize) * 5;
     if !binding_fine(w, u, w[at], w[at + 1]) {
         return false;
     }
@@ -435,7 +466,7 @@ fn cells_fine(w: &[u32], u: Used) -> bool
     let n = u.vars;
     let mut i: u32 = 0;
     while i < n {
-        if !cell_fine(w, u, i) {
+        if !cell_fine(w, u, TVar(i as u16)) {
             return false;
         }
         i = i + 1;
@@ -444,71 +475,130 @@ fn cells_fine(w: &[u32], u: Used) -> bool
 }
 
 // The variable that node x is.
-fn var_at(w: &[u32], u: Used, x: u32) -> Found
+fn var_at(w: &[u32], u: Used, x: u32) -> Next
     requires { ⌜ Sized (now w) u ⌝ }
-    ensures { λ r. ⌜ found r ≡ var-at (now (w .entry)) u x ⌝ }
+    ensures { λ r. ⌜ next r ≡ var-at (now (w .entry)) u x ⌝ }
 {
     let n = u.nodes;
     if n <= x {
-        return Found::Nothing;
+        return Next::Last;
     }
     let at = 5 + (x as usize) * 6;
     if w[at] != 6 {
-        return Found::Nothing;
+        return Next::Last;
     }
-    Found::Just(w[at + 2] % 65536)
+    Next::To(TVar((w[at + 2] % 65536) as u16))
 }
 
 // The variable that v is bound to.
-fn next_at(w: &[u32], u: Used, v: u32) -> Found
+fn next_at(w: &[u32], u: Used, v: TVar) -> Next
     requires { ⌜ Sized (now w) u ⌝ }
-    ensures { λ r. ⌜ found r ≡ next-at (now (w .entry)) u v ⌝ }
+    ensures { λ r. ⌜ next r ≡ next-at (now (w .entry)) u (v .0) ⌝ }
 {
     let n = u.vars;
-    if n <= v {
-        return Found::Nothing;
+    if n <= (v.0 as u32) {
+        return Next::Last;
     }
-    let at = 16389 + (v as usize) * 5;
+    let at = 16389 + (v.0 as usize) * 5;
     if w[at] != 1 {
-        return Found::Nothing;
+        return Next::Last;
     }
     var_at(w, u, w[at + 1])
 }
 
-// Following bindings from v ends in as many steps as there are variables.
-fn chain_fine(w: &[u32], u: Used, v: u32) -> bool
-    requires { ⌜ Sized (now w) u ⌝ }
-    ensures { λ r. ⌜ r ≡ chain-fine (now (w .entry)) u v ⌝ }
+// One more than the length of v's chain, if it is noted; else 0.
+fn noted(lengths: &[u32], v: TVar) -> u32
+    ensures { λ r. ⌜ r ≡ getD (now (lengths .entry)) (v .0) 0 ⌝ }
 {
-    let mut left = u.vars;
+    let at = v.0 as usize;
+    if at < lengths.len() { lengths[at] } else { 0 }
+}
+
+// How many bindings lead from v to its chain's end; more than there are variables where none is met. A length that is noted is not counted again.
+fn chain_length(w: &[u32], u: Used, v: TVar, lengths: &[u32]) -> u32
+    requires { ⌜ Sized (now w) u × Noted (now w) u (now lengths) ⌝ }
+    ensures { λ r. ⌜ Counted (now (w .entry)) u (v .0) r ⌝ }
+{
+    let many = u.vars;
     let mut cur = v;
-    while 0 < left {
+    let mut n: u32 = 0;
+    while n <= many {
+        let known = noted(lengths, cur);
+        if 0 < known {
+            return n + (known - 1);
+        }
         let next = next_at(w, u, cur);
         match next {
-            Found::Nothing => {
-                return true;
+            Next::Last => {
+                return n;
             }
-            Found::Just(x) => {
+            Next::To(x) => {
+                cur = x;
+            }
+        }
+        n = n + 1;
+    }
+    n
+}
+
+fn note(lengths: &mut [u32], v: TVar, n: u32)
+    ensures { λ r. ⌜ now (lengths .exit) ≡ set (now (lengths .entry)) (v .0) n ⌝ }
+{
+    let at = v.0 as usize;
+    if at < lengths.len() {
+        lengths[at] = n;
+    }
+}
+
+// Notes the lengths of v's chain, which has n bindings, and of its links, up to one that is noted.
+fn note_chain(w: &[u32], u: Used, v: TVar, n: u32, lengths: &mut [u32])
+    requires { ⌜ Sized (now w) u × (Noted (now w) u (now lengths) × ((n ≤ u .vars) × Links (now w) u (v .0) n)) ⌝ }
+    ensures { λ r. ⌜ Noted (now (w .entry)) u (now (lengths .exit)) ⌝ }
+{
+    let mut cur = v;
+    let mut left = n;
+    while 0 < left {
+        let known = noted(lengths, cur);
+        if 0 < known {
+            return;
+        }
+        note(lengths, cur, left + 1);
+        let next = next_at(w, u, cur);
+        match next {
+            Next::Last => {
+                return;
+            }
+            Next::To(x) => {
                 cur = x;
             }
         }
         left = left - 1;
     }
-    let last = next_at(w, u, cur);
-    match last {
-        Found::Nothing => true,
-        Found::Just(_) => false,
-    }
 }
 
+// Following bindings from v ends in as many steps as there are variables.
+fn chain_fine(w: &[u32], u: Used, v: TVar, lengths: &mut [u32]) -> bool
+    requires { ⌜ Sized (now w) u × Noted (now w) u (now lengths) ⌝ }
+    ensures { λ r. ⌜ (r ≡ chain-fine (now (w .entry)) u (v .0)) × Noted (now (w .entry)) u (now (lengths .exit)) ⌝ }
+{
+    let n = chain_length(w, u, v, lengths);
+    if u.vars < n {
+        return false;
+    }
+    note_chain(w, u, v, n, lengths);
+    true
+}
+
+// .. so for every variable. With the lengths noted, each binding is followed twice at most.
 fn chains_fine(w: &[u32], u: Used) -> bool
     requires { ⌜ Sized (now w) u ⌝ }
     ensures { λ r. ⌜ r ≡ all-below (u .vars) (chain-fine (now (w .entry)) u) ⌝ }
 {
     let n = u.vars;
+    let mut lengths: [u32; 1024] = [0; 1024];
     let mut i: u32 = 0;
     while i < n {
-        if !chain_fine(w, u, i) {
+        if !chain_fine(w, u, TVar(i as u16), &mut lengths) {
             return false;
         }
         i = i + 1;

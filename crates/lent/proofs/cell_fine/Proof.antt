@@ -7,6 +7,9 @@ use Rattle.lent.proofs.Below.{passes, both, fails-l, fails-then}
 use Rattle.lent.proofs.cell_fine.Statement.{statement}
 use Rattle.lent.proofs.cell_fine.Tie as tie
 
+cast-at : tie.Need-cast-at
+cast-at c = search needs
+
 mul-at : tie.Need-mul-at
 mul-at c = search needs
 
@@ -77,6 +80,7 @@ pub cell-fine-spec : {M : Type 1} → statement M
 cell-fine-spec =
     tie.close
     (tie.spec
+    cast-at
     mul-at
     add-at
     mul-binding-fine

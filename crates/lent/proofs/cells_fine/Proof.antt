@@ -19,6 +19,9 @@ abbrev μ-loop : tie.MeasureT-loop
 loop-holds : tie.Need-loop-holds Inv-loop μ-loop
 loop-holds c = (omega arith, all-none _)
 
+cast-t6 : tie.Need-cast-t6 Inv-loop μ-loop
+cast-t6 c = search needs
+
 cell-fine-requires : tie.Need-cell-fine-requires Inv-loop μ-loop
 cell-fine-requires c κs = search needs
 
@@ -44,6 +47,7 @@ cells-fine-spec =
     Inv-loop
     μ-loop
     loop-holds
+    cast-t6
     cell-fine-requires
     returns
     add-i

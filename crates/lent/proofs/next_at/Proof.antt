@@ -7,9 +7,15 @@ use Rattle.lent.proofs.Below.{when-true, when-false}
 use Rattle.lent.proofs.next_at.Statement.{statement}
 use Rattle.lent.proofs.next_at.Tie as tie
 
+cast-if1 : tie.Need-cast-if1
+cast-if1 c = search needs
+
 returns : tie.Need-returns
 unfolding next-at
 returns c = sym (when-false _ _ _ (le-ltb _ _ (c .if1 .taken)))
+
+cast-at : tie.Need-cast-at
+cast-at c = search needs
 
 mul-at : tie.Need-mul-at
 mul-at c = search needs
@@ -25,7 +31,7 @@ shared-slice-read-if2 c = search needs
 
 returns-2 : tie.Need-returns-2
 unfolding next-at
-returns-2 c = sym (when-true _ _ _ (lt-ltb _ _ (c .before .before .if1 .left)) ∙ when-false _ _ _ (ne-eqb _ _ (c .if2 .taken)))
+returns-2 c = sym (when-true _ _ _ (lt-ltb _ _ (c .before .before .before .if1 .left)) ∙ when-false _ _ _ (ne-eqb _ _ (c .if2 .taken)))
 
 add-var-at : tie.Need-add-var-at
 add-var-at c = search needs
@@ -41,13 +47,15 @@ var-at-requires c κs = search needs
 
 returns-3 : tie.Need-returns-3
 unfolding next-at
-returns-3 c = c .var-at .ensures ∙ sym (when-true _ _ _ (lt-ltb _ _ (c .before .before .before .before .if1 .left)) ∙ when-true _ _ _ (eq-eqb _ _ (c .before .before .if2 .left)))
+returns-3 c = c .var-at .ensures ∙ sym (when-true _ _ _ (lt-ltb _ _ (c .before .before .before .before .before .if1 .left)) ∙ when-true _ _ _ (eq-eqb _ _ (c .before .before .if2 .left)))
 
 pub next-at-spec : {M : Type 1} → statement M
 next-at-spec =
     tie.close
     (tie.spec
+    cast-if1
     returns
+    cast-at
     mul-at
     add-at
     mul-if2

@@ -1,31 +1,31 @@
 -- `lent::params_fine` meets its contract. Assumes nothing.
-use mathlib.Core.Path.{_≡_, sym, _∙_, ap}
-use mathlib.Core.List.{[]}
-use mathlib.Core.Bool.{true}
-use Prim.Native.Nat.{ℕ, _≤_, _-_}
+use mathlib.Core.Path.{sym, _∙_}
+use Prim.Native.Nat.{_-_}
 use native.Mathlib.Omega.{arith}
-use lib.ListN.{getD}
 use borrow.Author.Tests.{not-true, not-false}
 use borrow.Author.Needs.{needs}
-use Rattle.lent.specs.Tests.{all-below, bytes-fine, byte-fine}
-use Rattle.lent.proofs.Below.{one-fails, all-more, all-none, all-done}
+use Rattle.lent.proofs.Below.{fewer-fail}
+use Rattle.lent.proofs.Ors.{Blank, blank-none, blank-more, blank-all}
 use Rattle.lent.proofs.params_fine.Statement.{statement}
 use Rattle.lent.proofs.params_fine.Tie as tie
 
 abbrev Inv-loop : tie.InvT-loop
-Inv-loop w u params i₀ i = (i ≤ 256) × (all-below i (bytes-fine w u params) ≡ true)
+Inv-loop w params any₀ k₀ any k = Blank params k₀ k any
 
 abbrev μ-loop : tie.MeasureT-loop
-μ-loop w u params i₀ i = 256 - i
+μ-loop w params any₀ k₀ any k = 256 - k
+
+given-fine-requires : tie.Need-given-fine-requires Inv-loop μ-loop
+given-fine-requires c κs = search needs
+
+returns : tie.Need-returns Inv-loop μ-loop
+returns c = sym (fewer-fail _ _ _ (let h = c .before .before .before .pre in omega arith) (sym (c .before .given-fine .ensures) ∙ not-true _ (c .if1 .taken)))
+
+cast-k : tie.Need-cast-k Inv-loop μ-loop
+cast-k c = search needs
 
 loop-holds : tie.Need-loop-holds Inv-loop μ-loop
-loop-holds c = (omega arith, all-none _)
-
-params-at-requires : tie.Need-params-at-requires Inv-loop μ-loop
-params-at-requires c κs = search needs
-
-cast-at : tie.Need-cast-at Inv-loop μ-loop
-cast-at c = search needs
+loop-holds c = blank-none _ _ (let h = c .before .before .before .before .pre in omega arith)
 
 mul-bytes : tie.Need-mul-bytes Inv-loop μ-loop
 mul-bytes c = search needs
@@ -33,26 +33,20 @@ mul-bytes c = search needs
 array-copy-out-bytes : tie.Need-array-copy-out-bytes Inv-loop μ-loop
 array-copy-out-bytes c = search needs
 
-bytes-fine-requires : tie.Need-bytes-fine-requires Inv-loop μ-loop
-bytes-fine-requires c κs = search needs
+any-of-requires : tie.Need-any-of-requires Inv-loop μ-loop
+any-of-requires c κs = search needs
 
-returns : tie.Need-returns Inv-loop μ-loop
-unfolding bytes-fine
-returns c = sym (one-fails _ _ (c .before .before .before .before .before .loop .i) (omega arith) (sym (c .before .bytes-fine .ensures ∙ ap (λ (k : ℕ). all-below 8 (byte-fine (getD (c .before .before .before .before .before .before .before .args .t3) (c .before .before .before .before .before .loop .i) []) k)) (c .before .before .before .params-at .ensures)) ∙ not-true _ (c .if1 .taken)))
-
-add-i : tie.Need-add-i Inv-loop μ-loop
-add-i c = omega arith
+add-k : tie.Need-add-k Inv-loop μ-loop
+add-k c = omega arith
 
 loop-less : tie.Need-loop-less Inv-loop μ-loop
 loop-less c = omega arith
 
 loop-again : tie.Need-loop-again Inv-loop μ-loop
-unfolding bytes-fine
-loop-again c = (omega arith, all-more _ _ (c .before .before .before .before .before .loop .inv .1) (sym (c .before .bytes-fine .ensures ∙ ap (λ (k : ℕ). all-below 8 (byte-fine (getD (c .before .before .before .before .before .before .before .args .t3) (c .before .before .before .before .before .loop .i) []) k)) (c .before .before .before .params-at .ensures)) ∙ not-false _ (c .if1 .left)))
+loop-again c = blank-more _ _ _ _ _ (c .before .before .before .loop .inv) (c .before .before .loop-test .taken) (c .any-of .ensures)
 
 returns-2 : tie.Need-returns-2 Inv-loop μ-loop
-unfolding bytes-fine
-returns-2 c = sym (all-done _ _ _ (omega arith) (omega arith) (c .before .loop .inv .1))
+returns-2 c = blank-all _ _ _ _ _ (c .before .loop .inv) (omega arith) (sym (c .before .before .before .before .given-fine .ensures) ∙ not-false _ (c .before .before .before .if1 .left))
 
 pub params-fine-spec : {M : Type 1} → statement M
 params-fine-spec =
@@ -60,14 +54,14 @@ params-fine-spec =
     (tie.spec
     Inv-loop
     μ-loop
+    given-fine-requires
+    returns
+    cast-k
     loop-holds
-    params-at-requires
-    cast-at
     mul-bytes
     array-copy-out-bytes
-    bytes-fine-requires
-    returns
-    add-i
+    any-of-requires
+    add-k
     loop-less
     loop-again
     returns-2)

@@ -36,6 +36,9 @@ mul-t7 c = search needs
 shared-slice-read-t10 : tie.Need-shared-slice-read-t10
 shared-slice-read-t10 c = search needs
 
+cast-t13 : tie.Need-cast-t13
+cast-t13 c = search needs
+
 returns-3 : tie.Need-returns-3
 unfolding var-at
 returns-3 c = sym (when-true _ _ _ (lt-ltb _ _ (c .before .before .before .if1 .left)) ∙ when-true _ _ _ (eq-eqb _ _ (c .before .if2 .left)))
@@ -53,4 +56,5 @@ var-at-spec =
     add-t8
     mul-t7
     shared-slice-read-t10
+    cast-t13
     returns-3)

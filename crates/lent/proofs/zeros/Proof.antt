@@ -1,39 +1,30 @@
 -- `lent::zeros` meets its contract. Assumes nothing.
 use mathlib.Core.Bool.{true}
-use mathlib.Core.Path.{_≡_, sym}
-use Prim.Native.Nat.{_≤_, _-_}
+use mathlib.Core.Path.{_≡_, sym, ap, _∙_}
+use Prim.Native.Nat.{ℕ, _≤_, _-_}
+use lib.Dec.{eqb}
 use native.Mathlib.Omega.{arith}
 use borrow.Author.Tests.{eq-eqb, ne-eqb}
 use borrow.Author.Needs.{needs}
 use Rattle.lent.specs.Tests.{all-below, zero-at, zeros}
-use Rattle.lent.proofs.Below.{one-fails, all-more, all-none, all-done}
+use Rattle.lent.proofs.Ors.{one-more, none-yet}
 use Rattle.lent.proofs.zeros.Statement.{statement}
 use Rattle.lent.proofs.zeros.Tie as tie
 
 abbrev Inv-loop : tie.InvT-loop
-Inv-loop w first last n k₀ k = (k ≤ n) × (all-below k (zero-at w first) ≡ true)
+Inv-loop w first last all₀ k₀ all k = (first ≤ k) × ((k ≤ last) × (all-below (k - first) (zero-at w first) ≡ eqb all 0))
 
 abbrev μ-loop : tie.MeasureT-loop
-μ-loop w first last n k₀ k = n - k
-
-sub-n : tie.Need-sub-n Inv-loop μ-loop
-sub-n c = search needs
+μ-loop w first last all₀ k₀ all k = last - k
 
 loop-holds : tie.Need-loop-holds Inv-loop μ-loop
-loop-holds c = (omega arith, all-none _)
+loop-holds c = (omega arith, (omega arith, none-yet _ _))
 
-add-if1 : tie.Need-add-if1 Inv-loop μ-loop
-add-if1 c = search needs
+mul-all : tie.Need-mul-all Inv-loop μ-loop
+mul-all c = search needs
 
-mul-if1 : tie.Need-mul-if1 Inv-loop μ-loop
-mul-if1 c = search needs
-
-shared-slice-read-if1 : tie.Need-shared-slice-read-if1 Inv-loop μ-loop
-shared-slice-read-if1 c = search needs
-
-returns : tie.Need-returns Inv-loop μ-loop
-unfolding zeros zero-at
-returns c = sym (one-fails _ _ (c .before .before .before .loop .k) (omega arith) (ne-eqb _ _ (c .if1 .taken)))
+shared-slice-read-all : tie.Need-shared-slice-read-all Inv-loop μ-loop
+shared-slice-read-all c = search needs
 
 add-k : tie.Need-add-k Inv-loop μ-loop
 add-k c = omega arith
@@ -42,12 +33,11 @@ loop-less : tie.Need-loop-less Inv-loop μ-loop
 loop-less c = omega arith
 
 loop-again : tie.Need-loop-again Inv-loop μ-loop
-unfolding zeros zero-at
-loop-again c = (omega arith, all-more _ _ (c .before .before .before .loop .inv .1) (eq-eqb _ _ (c .if1 .left)))
+loop-again c = (omega arith, (omega arith, one-more _ _ _ (c .before .before .loop .all) (c .before .before .loop .inv .0) (c .before .before .loop .inv .1 .1)))
 
-returns-2 : tie.Need-returns-2 Inv-loop μ-loop
-unfolding zeros zero-at
-returns-2 c = sym (all-done _ _ _ (omega arith) (omega arith) (c .before .loop .inv .1))
+returns : tie.Need-returns Inv-loop μ-loop
+unfolding zeros
+returns c = sym (ap (λ (n : ℕ). all-below (n - c .before .before .args .first) (zero-at (c .before .before .args .w .now) (c .before .before .args .first))) (let p : c .before .before .args .last ≡ c .before .loop .k = omega arith in p) ∙ c .before .loop .inv .1 .1)
 
 pub zeros-spec : {M : Type 1} → statement M
 zeros-spec =
@@ -55,13 +45,10 @@ zeros-spec =
     (tie.spec
     Inv-loop
     μ-loop
-    sub-n
     loop-holds
-    add-if1
-    mul-if1
-    shared-slice-read-if1
-    returns
+    mul-all
+    shared-slice-read-all
     add-k
     loop-less
     loop-again
-    returns-2)
+    returns)

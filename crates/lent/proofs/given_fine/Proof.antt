@@ -1,0 +1,73 @@
+-- `lent::given_fine` meets its contract. Assumes nothing.
+use mathlib.Core.Path.{_≡_, sym, _∙_, ap}
+use mathlib.Core.List.{[]}
+use mathlib.Core.Bool.{true}
+use Prim.Native.Nat.{ℕ, _≤_, _-_}
+use native.Mathlib.Omega.{arith}
+use lib.ListN.{getD}
+use borrow.Author.Tests.{not-true, not-false}
+use borrow.Author.Needs.{needs}
+use Rattle.lent.specs.Tests.{all-below, bytes-fine, byte-fine}
+use Rattle.lent.proofs.Below.{one-fails, all-more, all-none, all-done}
+use Rattle.lent.proofs.given_fine.Statement.{statement}
+use Rattle.lent.proofs.given_fine.Tie as tie
+
+abbrev Inv-loop : tie.InvT-loop
+Inv-loop w u params n i₀ i = (i ≤ u .structs) × (all-below i (bytes-fine w u params) ≡ true)
+
+abbrev μ-loop : tie.MeasureT-loop
+μ-loop w u params n i₀ i = u .structs - i
+
+loop-holds : tie.Need-loop-holds Inv-loop μ-loop
+loop-holds c = (omega arith, all-none _)
+
+params-at-requires : tie.Need-params-at-requires Inv-loop μ-loop
+params-at-requires c κs = search needs
+
+cast-at : tie.Need-cast-at Inv-loop μ-loop
+cast-at c = search needs
+
+mul-bytes : tie.Need-mul-bytes Inv-loop μ-loop
+mul-bytes c = search needs
+
+array-copy-out-bytes : tie.Need-array-copy-out-bytes Inv-loop μ-loop
+array-copy-out-bytes c = search needs
+
+bytes-fine-requires : tie.Need-bytes-fine-requires Inv-loop μ-loop
+bytes-fine-requires c κs = search needs
+
+returns : tie.Need-returns Inv-loop μ-loop
+unfolding bytes-fine
+returns c = sym (one-fails _ _ (c .before .before .before .before .before .loop .i) (omega arith) (sym (c .before .bytes-fine .ensures ∙ ap (λ (k : ℕ). all-below 8 (byte-fine (getD (c .before .before .before .before .before .before .before .args .t3) (c .before .before .before .before .before .loop .i) []) k)) (c .before .before .before .params-at .ensures)) ∙ not-true _ (c .if1 .taken)))
+
+add-i : tie.Need-add-i Inv-loop μ-loop
+add-i c = omega arith
+
+loop-less : tie.Need-loop-less Inv-loop μ-loop
+loop-less c = omega arith
+
+loop-again : tie.Need-loop-again Inv-loop μ-loop
+unfolding bytes-fine
+loop-again c = (omega arith, all-more _ _ (c .before .before .before .before .before .loop .inv .1) (sym (c .before .bytes-fine .ensures ∙ ap (λ (k : ℕ). all-below 8 (byte-fine (getD (c .before .before .before .before .before .before .before .args .t3) (c .before .before .before .before .before .loop .i) []) k)) (c .before .before .before .params-at .ensures)) ∙ not-false _ (c .if1 .left)))
+
+returns-2 : tie.Need-returns-2 Inv-loop μ-loop
+unfolding bytes-fine
+returns-2 c = sym (all-done _ _ _ (omega arith) (omega arith) (c .before .loop .inv .1))
+
+pub given-fine-spec : {M : Type 1} → statement M
+given-fine-spec =
+    tie.close
+    (tie.spec
+    Inv-loop
+    μ-loop
+    loop-holds
+    params-at-requires
+    cast-at
+    mul-bytes
+    array-copy-out-bytes
+    bytes-fine-requires
+    returns
+    add-i
+    loop-less
+    loop-again
+    returns-2)
