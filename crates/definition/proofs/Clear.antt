@@ -20,7 +20,8 @@ use Rattle.definition.proofs.Tracks.{never}
 use Rattle.definition.proofs.Order.{Sound}
 use Rattle.definition.proofs.Facts.{unnot, elim-l, elim-r, of-each, facts}
 use Rattle.definition.proofs.WholeReading.{reaches-is-runs}
-use Rattle.definition.proofs.Demand.{Somehow, step-stepped, demand-3}
+use Rattle.definition.proofs.EveryDepth.{Somehow, step-stepped}
+use Rattle.definition.proofs.Demand.{demand-3}
 use Rattle.definition.proofs.Computed.{answered}
 use Rattle.definition.proofs.Spelling.{bool, vector, var, FV, NV, JN, SV}
 
@@ -73,6 +74,6 @@ job-clear : clear-from fresh job ≡ true
 unfolding answered clear-from clear clear-binding
 job-clear = refl
 
-pub job-adds : Demand-3 fresh job
+pub job-demand-3 : Demand-3 fresh job
 unfolding answered
-job-adds = demand-3 fresh job refl (no-loops fresh job refl job-clear)
+job-demand-3 = demand-3 fresh job refl (no-loops fresh job refl job-clear)

@@ -19,12 +19,12 @@ use Rattle.definition.specs.Record.{Record, SD, FV, NV, SN, JN, SU, UF, 
 use Rattle.definition.specs.Place.{place, place-all}
 use Rattle.definition.specs.Sound.{sound}
 use Rattle.definition.specs.Step.{Answer, refusal, max-payload, answer-with, answer, max-buffer, usable, two-types, lent, run, step}
-use Rattle.definition.specs.Demand.{Ask, outcome, asks, lent-asks, step-asks}
+use Rattle.definition.specs.Demand.{Join-call, outcome, run-calls, lent-calls, step-calls}
 use Rattle.definition.proofs.Order.{All, Sound}
 use Rattle.definition.proofs.Post.{grown-refl, Post, p-ok, post-map, bind-post}
 use Rattle.definition.proofs.Facts.{and-r, facts}
 use Rattle.definition.proofs.Soundness.{le-test}
-use Rattle.definition.proofs.Asked.{One-join, not-placed, joined, join-asked, subtype-asked}
+use Rattle.definition.proofs.CallsMade.{One-join, not-placed, joined, JN-calls, SU-calls}
 use Rattle.definition.proofs.WellRead.{Fine, fine-unit, fine-anything, fine-error, fine-ref, fine-param, fine-apply, fine-var, Fines, fine-none, fine-then, FineRecord, ReadWell, given, well-read}
 use Rattle.definition.proofs.Went.{WentTo}
 use Rattle.definition.proofs.Runs.{place-went}
@@ -408,18 +408,18 @@ two-answered : (c : TypingCase) (s : State) → Sound (arity s) s → {n : ℕ} 
     → run s (two-of c t1 t2) ≡ ok (s′, p) → answer s (run s (two-of c t1 t2)) ≡ record { number = 0; payload = p; state = s′ }
 two-answered c s h t1 t2 (given f i l) (weighs w) s′ p e = run-fits h c t1 t2 (f .0) w s′ p e
 
-one-run : {m : Result (State × Bytes)} {l : List Ask} → One-join m l → (a : Ask) → List·Memᴰ a l → (s : State) (t : ℕ) → outcome a ≡ ok (s, t) → m ≡ ok (s, write s t)
+one-run : {m : Result (State × Bytes)} {l : List Join-call} → One-join m l → (a : Join-call) → List·Memᴰ a l → (s : State) (t : ℕ) → outcome a ≡ ok (s, t) → m ≡ ok (s, write s t)
 unfolding _then-run_
 one-run not-placed a mem s t e = absurd (List·Memᴰ·not-nil mem)
 one-run (joined b) a mem s t e = let d : a ≡ b = List·Memᴰ·eq-of-singleton mem in let k : outcome b ≡ ok (s, t) = rw d at e in rw k refl
 
-two-asked : (c : TypingCase) (s : State) (t1 t2 : Tree) → One-join (run s (two-of c t1 t2)) (asks s (two-of c t1 t2))
-two-asked Join s t1 t2 = join-asked s t1 t2
-two-asked Subtype s t1 t2 = subtype-asked s t1 t2
+two-types-made : (c : TypingCase) (s : State) (t1 t2 : Tree) → One-join (run s (two-of c t1 t2)) (run-calls s (two-of c t1 t2))
+two-types-made Join s t1 t2 = JN-calls s t1 t2
+two-types-made Subtype s t1 t2 = SU-calls s t1 t2
 
-pub join-answers-0 : (s : State) (bytes : Bytes) (buffer : ℕ) (c : TypingCase) (t1 t2 : Tree) → read-record s bytes ≡ got (two-of c t1 t2) [] → (a : Ask) → List·Memᴰ a (step-asks s bytes buffer)
+pub join-answers-0 : (s : State) (bytes : Bytes) (buffer : ℕ) (c : TypingCase) (t1 t2 : Tree) → read-record s bytes ≡ got (two-of c t1 t2) [] → (a : Join-call) → List·Memᴰ a (step-calls s bytes buffer)
     → (s′ : State) (t : ℕ) → outcome a ≡ ok (s′, t) → step s bytes buffer ≡ record { number = 0; payload = write s′ t; state = s′ }
-unfolding step step-asks lent lent-asks
+unfolding step step-calls lent lent-calls
 join-answers-0 s bytes buffer c t1 t2 e a mem s′ t d = go (usable s buffer) refl mem
   where
     well : ReadWell ⊥ s (length bytes - 1) (got (two-of c t1 t2) [])
@@ -428,10 +428,10 @@ join-answers-0 s bytes buffer c t1 t2 e a mem s′ t d = go (usable s buffer) re
     short : Weighs max-payload (got (two-of c t1 t2) [])
     short = subst (λ (y : Read Record). Weighs max-payload y) e (record-weighs s bytes)
 
-    go : (b : Bool) → usable s buffer ≡ b → List·Memᴰ a (elim b as (λ x. List Ask) [ true ↦ lent-asks s (read-record s bytes) | false ↦ [] ])
+    go : (b : Bool) → usable s buffer ≡ b → List·Memᴰ a (elim b as (λ x. List Join-call) [ true ↦ lent-calls s (read-record s bytes) | false ↦ [] ])
         → _≡_ {A = Answer} (elim b [ true ↦ lent s (read-record s bytes) | false ↦ refusal s unsound-state ]) (record { number = 0; payload = write s′ t; state = s′ })
     go true u m =
-        let m′ : List·Memᴰ a (asks s (two-of c t1 t2)) = subst (λ (y : Read Record). List·Memᴰ a (lent-asks s y)) e m in
+        let m′ : List·Memᴰ a (run-calls s (two-of c t1 t2)) = subst (λ (y : Read Record). List·Memᴰ a (lent-calls s y)) e m in
         subst (λ (y : Read Record). lent s y ≡ record { number = 0; payload = write s′ t; state = s′ }) (sym e)
-        (two-answered c s (facts s (usable-sound s buffer u)) t1 t2 well short s′ (write s′ t) (one-run (two-asked c s t1 t2) a m′ s′ t d))
+        (two-answered c s (facts s (usable-sound s buffer u)) t1 t2 well short s′ (write s′ t) (one-run (two-types-made c s t1 t2) a m′ s′ t d))
     go false u m = absurd (List·Memᴰ·not-nil m)

@@ -8,9 +8,9 @@ pub mod Post
 pub mod Room
 pub mod Calls
 pub mod Main
+pub mod Depth
 pub mod Reading
 pub mod Loops
-pub mod Whole
 pub mod Finite
 pub mod PutBack
 pub mod Facts
@@ -28,8 +28,9 @@ pub mod Records
 pub mod JoinWrites
 pub mod JoinAnswers
 pub mod NoFail
-pub mod Asks
-pub mod Asked
+pub mod CallsFair
+pub mod CallsMade
+pub mod EveryDepth
 pub mod Demand
 pub mod Computed
 pub mod Spelling

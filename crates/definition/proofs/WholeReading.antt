@@ -9,26 +9,26 @@ use native.Mathlib.Omega.{arith}
 use Rattle.definition.specs.Types.{TypeName, Type-value, UnitType, Ref, Param, Apply, Var, Anything, UnresolvedError, State}
 use Rattle.definition.specs.Store.{count, taken, value, get}
 use Rattle.definition.specs.Subst.{as-var, parts, forward-tvar, reaches-itself}
-use Rattle.definition.specs.Rank.{ReadType, named, reference, ReadTypes, follow, read-all, read-shape, read-as, read-var}
+use Rattle.definition.specs.Rank.{ReadType, any, named, reference, ReadTypes}
 use Rattle.definition.specs.Rank.{Reads, reads-unit, reads-reference, reads-parameter, reads-named, reads-bound, reads-open, reads-any, reads-error, Reads-all, reads-none, reads-each}
 use Rattle.definition.specs.Rank.{Meets, meets-it, meets-bound, meets-part, Reaches-itself, Runs-into-itself}
-use Rattle.definition.specs.Rank.{Rank, both-cut, any-below, open-below, error-below, units, parameters, references, same-named, Ranks, no-more, each}
-use Rattle.definition.proofs.Loops.{Whole, whole-any, whole-open, whole-error, whole-unit, whole-reference, whole-parameter, whole-named, Wholes, whole-none, whole-each, reading, Meets-end, met, met-in, Itself, Loop}
+use Rattle.definition.specs.Rank.{Rank, references, same-named, Ranks, each}
+use Rattle.definition.proofs.Depth.{follow, read-all, read-shape, unrolled, Ends-within}
+use Rattle.definition.proofs.Loops.{deep-enough, Meets-end, met, met-in, Itself, Loop}
 use Rattle.definition.proofs.Tracks.{never, Ends, here, hop, ends-stop, solid-nonvar, nonvar-var, Kind, k-any, k-var, k-solid, kind}
 use Rattle.definition.proofs.Order.{All, All-map, Sound, next-bound, chain, bind-solid}
 use Rattle.definition.proofs.Reading.{any-plain, follow-plain, follow-bound, follow-open}
-use Rattle.definition.proofs.Whole.{cut-whole, read-whole}
 use Rattle.definition.proofs.Finite.{reading-or, all-at}
 use Rattle.definition.specs.Sound.{sound}
 use Rattle.definition.proofs.Facts.{facts}
-use Rattle.definition.proofs.Reaches.{ends-or, ends-whole, reaches-is-loop}
+use Rattle.definition.proofs.Reaches.{ends-or, ends-within, reaches-is-loop}
 
 -- a whole reading, and a depth from which on the reading to a depth is the same
 pub record Read-whole (S : State) (t : Type-value) : Type 0 where
   pub is : ReadType
   pub reads : Reads S t is
   pub depth : ℕ
-  pub enough : (n : ℕ) → depth ≤ n → read-as n S t ≡ is
+  pub enough : (rest : ReadType) (n : ℕ) → depth ≤ n → unrolled rest n S t ≡ is
 
 -- ---- one at most
 
@@ -49,22 +49,54 @@ mutual
   reads-all-once reads-none reads-none = refl
   reads-all-once (reads-each {r = r} {rs = rs} d ds) (reads-each d′ ds′) = rw (reads-once d d′, reads-all-once ds ds′) refl
 
--- ---- what ranks below a whole reading is whole
+-- ---- what ranks at or below a reading that ends, ends
 
-mutual
-  pub whole-below : {r r′ : ReadType} → Rank r r′ → Whole r′ → Whole r
-  whole-below both-cut w = w
-  whole-below any-below w = whole-any
-  whole-below open-below w = whole-open
-  whole-below (error-below k) w = whole-error
-  whole-below units w = whole-unit
-  whole-below parameters w = whole-parameter
-  whole-below (references m h) (whole-reference w) = whole-reference (whole-below h w)
-  whole-below (same-named hs) (whole-named ws) = whole-named (wholes-below hs ws)
+module _ (f g : ℕ → ReadType) (P Q : ℕ → Type 0) (h : (p q : ℕ) → Rank (f p) (g q) → Q q → P p) where
+  list-below : (ps qs : List ℕ) → Ranks (read-all f ps) (read-all g qs) → All Q qs → All P ps
+  unfolding read-all
+  list-below [] qs rs ws = tt
+  list-below (p ∷ ps) (q ∷ qs) (each r rs) ws = (h p q r (ws .0), list-below ps qs rs (ws .1))
 
-  wholes-below : {rs rs′ : ReadTypes} → Ranks rs rs′ → Wholes rs′ → Wholes rs
-  wholes-below no-more w = whole-none
-  wholes-below (each h hs) (whole-each w ws) = whole-each (whole-below h w) (wholes-below hs ws)
+  shape-below : (L R : Type-value) → Rank (read-shape f L) (read-shape g R) → All Q (parts R) → All P (parts L)
+  unfolding read-shape parts
+  shape-below UnitType R r ws = tt
+  shape-below (Ref m p) (Ref m′ q) (references l r) ws = (h p q r (ws .0), tt)
+  shape-below (Param id a) R r ws = tt
+  shape-below (Apply k n ps) (Apply k′ n′ qs) (same-named rs) ws = list-below ps qs rs ws
+  shape-below (Var v) R r ws = tt
+  shape-below Anything R r ws = tt
+  shape-below UnresolvedError R r ws = tt
+
+pub ends-below : (rest : ReadType) (S S′ : State) (n : ℕ) (L R : Type-value) → Rank (unrolled rest n S L) (unrolled rest n S′ R) → Ends-within S′ n R → Ends-within S n L
+unfolding unrolled Ends-within
+ends-below rest S S′ zero L R r w = w
+ends-below rest S S′ (suc n) L R r w =
+    shape-below (λ p. unrolled rest n S (value S p)) (λ q. unrolled rest n S′ (value S′ q)) (λ p. Ends-within S n (value S p)) (λ q. Ends-within S′ n (value S′ q))
+    (λ p q r w. ends-below rest S S′ n (value S p) (value S′ q) r w) (follow S L) (follow S′ R) r w
+
+-- ---- what is read whole is read once for all
+
+list-same : (f g : ℕ → ReadType) (ps : List ℕ) → All (λ p. g p ≡ f p) ps → read-all g ps ≡ read-all f ps
+unfolding read-all
+list-same f g [] h = refl
+list-same f g (p ∷ ps) h = rw (h .0, list-same f g ps (h .1)) refl
+
+shape-same : (f g : ℕ → ReadType) (L : Type-value) → All (λ p. g p ≡ f p) (parts L) → read-shape g L ≡ read-shape f L
+unfolding read-shape parts
+shape-same f g UnitType h = refl
+shape-same f g (Ref m t) h = rw (h .0) refl
+shape-same f g (Param id a) h = refl
+shape-same f g (Apply k n tys) h = rw (list-same f g tys h) refl
+shape-same f g (Var v) h = refl
+shape-same f g Anything h = refl
+shape-same f g UnresolvedError h = refl
+
+unrolled-same : (rest rest′ : ReadType) (S : State) (n m : ℕ) (L : Type-value) → n ≤ m → Ends-within S n L → unrolled rest′ m S L ≡ unrolled rest n S L
+unfolding unrolled Ends-within
+unrolled-same rest rest′ S zero m L h w = absurd w
+unrolled-same rest rest′ S (suc n) zero L h w = absurd (omega arith)
+unrolled-same rest rest′ S (suc n) (suc m) L h w =
+    shape-same (λ p. unrolled rest n S (value S p)) (λ p. unrolled rest′ m S (value S p)) (follow S L) (All-map (λ p x. unrolled-same rest rest′ S n m (value S p) (omega arith) x) (parts (follow S L)) w)
 
 -- ---- a shape of a state: its parts are nodes, and a variable is taken
 
@@ -80,52 +112,54 @@ module _ {ar : TypeName → ℕ} {S : State} (s : Sound ar S) where
   pub type-is-in : {t : ℕ} → t < count S → In S (value S t)
   type-is-in {t} h = record { parts-in = All-map (λ p l. omega arith) (parts (value S t)) (s .parts-below t h); var-in = λ v e. s .var-in t v h e }
 
-  -- ---- what is read whole to some depth is the whole reading
+  -- ---- what ends within some depth is the whole reading
 
   ends-reads : {v e : ℕ} {r : ReadType} → Ends S v e → Reads S (Var e) r → Reads S (Var v) r
   ends-reads (here n) d = d
   ends-reads {r = r} (hop {v = v} {w = w} n c) d = let b = next-bound S v w n in reads-bound (b .1) (subst (λ (x : Type-value). Reads S x r) (sym (b .2)) (ends-reads c d))
 
-  list-reads : (f : ℕ → ReadType) (ps : List ℕ) → All (λ p. p < count S) ps → ((p : ℕ) → p < count S → Whole (f p) → Reads S (value S p) (f p)) → Wholes (read-all f ps) → Reads-all S ps (read-all f ps)
+  -- what is below is read: as f, where Q
+  abbrev Below-reads : (ℕ → ReadType) → (ℕ → Type 0) → Type 0
+  Below-reads f Q = (p : ℕ) → p < count S → Q p → Reads S (value S p) (f p)
+
+  list-reads : (f : ℕ → ReadType) (Q : ℕ → Type 0) (ps : List ℕ) → All (λ p. p < count S) ps → Below-reads f Q → All Q ps → Reads-all S ps (read-all f ps)
   unfolding read-all
-  list-reads f [] a h w = reads-none
-  list-reads f (p ∷ ps) a h (whole-each w ws) = reads-each (h p (a .0) w) (list-reads f ps (a .1) h ws)
+  list-reads f Q [] a h w = reads-none
+  list-reads f Q (p ∷ ps) a h w = reads-each (h p (a .0) (w .0)) (list-reads f Q ps (a .1) h (w .1))
 
-  plain-reads : (f : ℕ → ReadType) (L : Type-value) → as-var L ≡ none → All (λ p. p < count S) (parts L) → ((p : ℕ) → p < count S → Whole (f p) → Reads S (value S p) (f p)) → Whole (read-shape f L)
-      → Reads S L (read-shape f L)
+  plain-reads : (f : ℕ → ReadType) (Q : ℕ → Type 0) (L : Type-value) → as-var L ≡ none → All (λ p. p < count S) (parts L) → Below-reads f Q → All Q (parts L) → Reads S L (read-shape f L)
   unfolding read-shape parts
-  plain-reads f UnitType e a h w = reads-unit
-  plain-reads f (Ref m t) e a h (whole-reference w) = reads-reference (h t (a .0) w)
-  plain-reads f (Param id x) e a h w = reads-parameter
-  plain-reads f (Apply k n ts) e a h (whole-named ws) = reads-named (list-reads f ts a h ws)
-  plain-reads f (Var v) e a h w = nonvar-var {v = v} e refl
-  plain-reads f Anything e a h w = reads-any
-  plain-reads f UnresolvedError e a h w = reads-error
+  plain-reads f Q UnitType e a h w = reads-unit
+  plain-reads f Q (Ref m t) e a h w = reads-reference (h t (a .0) (w .0))
+  plain-reads f Q (Param id x) e a h w = reads-parameter
+  plain-reads f Q (Apply k n ts) e a h w = reads-named (list-reads f Q ts a h w)
+  plain-reads f Q (Var v) e a h w = nonvar-var {v = v} e refl
+  plain-reads f Q Anything e a h w = reads-any
+  plain-reads f Q UnresolvedError e a h w = reads-error
 
-  variable-reads : (f : ℕ → ReadType) (v : ℕ) → v < taken S → ((p : ℕ) → p < count S → Whole (f p) → Reads S (value S p) (f p)) → (o : Option ℕ) → get S (forward-tvar S v) ≡ o → Whole (read-shape f (follow S (Var v)))
-      → Reads S (Var v) (read-shape f (follow S (Var v)))
+  variable-reads : (f : ℕ → ReadType) (Q : ℕ → Type 0) (v : ℕ) → v < taken S → Below-reads f Q → (o : Option ℕ) → get S (forward-tvar S v) ≡ o → All Q (parts (follow S (Var v))) → Reads S (Var v) (read-shape f (follow S (Var v)))
   unfolding read-shape
-  variable-reads f v l h none g w = rw (follow-open S v g) (ends-reads (chain s v l) (reads-open g))
-  variable-reads f v l h (some T) g w =
+  variable-reads f Q v l h none g w = rw (follow-open S v g) (ends-reads (chain s v l) (reads-open g))
+  variable-reads f Q v l h (some T) g w =
       let e = follow-bound S v T g in
       let hard = solid-nonvar (value S T) (bind-solid s (forward-tvar S v) T g (ends-stop (chain s v l))) in
-      rw e (ends-reads (chain s v l) (reads-bound g (plain-reads f (value S T) hard (type-is-in (s .bind-in (forward-tvar S v) T g) .parts-in) h (rw e at w))))
+      rw e (ends-reads (chain s v l) (reads-bound g (plain-reads f Q (value S T) hard (type-is-in (s .bind-in (forward-tvar S v) T g) .parts-in) h (rw e at w))))
 
-  shape-reads : (f : ℕ → ReadType) (L : Type-value) → In S L → ((p : ℕ) → p < count S → Whole (f p) → Reads S (value S p) (f p)) → Whole (read-shape f (follow S L)) → Reads S L (read-shape f (follow S L))
-  shape-reads f L i h w = go (kind L)
+  shape-reads : (f : ℕ → ReadType) (Q : ℕ → Type 0) (L : Type-value) → In S L → Below-reads f Q → All Q (parts (follow S L)) → Reads S L (read-shape f (follow S L))
+  shape-reads f Q L i h w = go (kind L)
     where
       plain : as-var L ≡ none → Reads S L (read-shape f (follow S L))
-      plain e = let d = follow-plain S L e in rw d (plain-reads f L e (i .parts-in) h (rw d at w))
+      plain e = let d = follow-plain S L e in rw d (plain-reads f Q L e (i .parts-in) h (rw d at w))
 
       go : Kind L → Reads S L (read-shape f (follow S L))
       go (k-any e) = plain (rw e any-plain)
-      go (k-var {v = v} e) = rw e (variable-reads f v (i .var-in v e) h (get S (forward-tvar S v)) refl (rw e at w))
+      go (k-var {v = v} e) = rw e (variable-reads f Q v (i .var-in v e) h (get S (forward-tvar S v)) refl (rw e at w))
       go (k-solid e n) = plain n
 
-  pub whole-reads : (n : ℕ) (L : Type-value) → In S L → Whole (read-as n S L) → Reads S L (read-as n S L)
-  unfolding read-as
-  whole-reads zero L i w = cut-whole w
-  whole-reads (suc n) L i w = shape-reads (λ p. read-as n S (value S p)) L i (λ p l x. whole-reads n (value S p) (type-is-in l) x) w
+  pub ends-read : (rest : ReadType) (n : ℕ) (L : Type-value) → In S L → Ends-within S n L → Reads S L (unrolled rest n S L)
+  unfolding unrolled Ends-within
+  ends-read rest zero L i w = absurd w
+  ends-read rest (suc n) L i w = shape-reads (λ p. unrolled rest n S (value S p)) (λ p. Ends-within S n (value S p)) L i (λ p l x. ends-read rest n (value S p) (type-is-in l) x) w
 
   -- ---- a loop by chain ends is a variable that reaches itself
 
@@ -229,27 +263,26 @@ reads-clear d l = let a = reads-ended d in ended-never (a .0) (meets-ended (l .m
 -- ---- there is one, and a reading to any great enough depth is it
 
 module _ {ar : TypeName → ℕ} {S : State} (s : Sound ar S) where
-  pub type-whole : (t : ℕ) → t < count S → ¬ Runs-into-itself S (value S t) → Whole (read-as (count S) S (value S t))
-  type-whole t h n = elim (ends-or s t h) [ inl e ↦ ends-whole s (count S) t e | inr l ↦ absurd (n (loop-runs s (type-is-in s h) l)) ]
+  pub type-ends : (t : ℕ) → t < count S → ¬ Runs-into-itself S (value S t) → Ends-within S (count S) (value S t)
+  type-ends t h n = elim (ends-or s t h) [ inl e ↦ ends-within s (count S) t e | inr l ↦ absurd (n (loop-runs s (type-is-in s h) l)) ]
 
-  pub var-whole : (v : ℕ) → v < taken S → ¬ Runs-into-itself S (Var v) → Whole (reading S v)
-  var-whole v h n = elim (reading-or s v h) [ inl w ↦ w | inr l ↦ absurd (n (loop-runs s (var-is-in h) l)) ]
+  pub var-ends : (v : ℕ) → v < taken S → ¬ Runs-into-itself S (Var v) → Ends-within S (deep-enough S) (Var v)
+  var-ends v h n = elim (reading-or s v h) [ inl w ↦ w | inr l ↦ absurd (n (loop-runs s (var-is-in h) l)) ]
 
-  whole-is : (n : ℕ) (L : Type-value) → In S L → Whole (read-as n S L) → Read-whole S L
-  whole-is n L i w = record { is = read-as n S L; reads = whole-reads s n L i w; depth = n; enough = λ m h. read-whole S n m L h w }
+  ends-whole : (n : ℕ) (L : Type-value) → In S L → Ends-within S n L → Read-whole S L
+  ends-whole n L i w = record { is = unrolled any n S L; reads = ends-read s any n L i w; depth = n; enough = λ rest m h. unrolled-same any rest S n m L h w }
 
 pub readable-type : (S : State) → sound S ≡ true → (t : ℕ) → t < count S → Read-whole S (value S t) ↔ (¬ Runs-into-itself S (value S t))
-readable-type S h t i = let s = facts S h in ((λ r. reads-clear (r .reads)), λ n. whole-is s (count S) (value S t) (type-is-in s i) (type-whole s t i n))
+readable-type S h t i = let s = facts S h in ((λ r. reads-clear (r .reads)), λ n. ends-whole s (count S) (value S t) (type-is-in s i) (type-ends s t i n))
 
 pub readable-var : (S : State) → sound S ≡ true → (v : ℕ) → v < taken S → Read-whole S (Var v) ↔ (¬ Runs-into-itself S (Var v))
-unfolding reading read-var
-readable-var S h v i = let s = facts S h in ((λ r. reads-clear (r .reads)), λ n. whole-is s (suc (taken S * count S)) (Var v) (var-is-in i) (var-whole s v i n))
+readable-var S h v i = let s = facts S h in ((λ r. reads-clear (r .reads)), λ n. ends-whole s (deep-enough S) (Var v) (var-is-in i) (var-ends s v i n))
 
 -- ---- no. 9: the test says what 01 says
 
 module _ {ar : TypeName → ℕ} {S : State} (s : Sound ar S) where
   runs-loop : (t : ℕ) → t < count S → Runs-into-itself S (value S t) → Loop S (value S t)
-  runs-loop t h l = elim (ends-or s t h) [ inl e ↦ absurd (reads-clear (whole-reads s (count S) (value S t) (type-is-in s h) (ends-whole s (count S) t e)) l) | inr x ↦ x ]
+  runs-loop t h l = elim (ends-or s t h) [ inl e ↦ absurd (reads-clear (ends-read s any (count S) (value S t) (type-is-in s h) (ends-within s (count S) t e)) l) | inr x ↦ x ]
 
   pub reaches-is-runs : (t : ℕ) → t < count S → (reaches-itself S t ≡ true) ↔ Runs-into-itself S (value S t)
   reaches-is-runs t h = let x = reaches-is-loop s t h in ((λ e. loop-runs s (type-is-in s h) (x .0 e)), λ l. x .1 (runs-loop t h l))
