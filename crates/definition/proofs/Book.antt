@@ -1,18 +1,18 @@
 -- subtype, join and SV follow the Move Book. Assumes nothing.
 use mathlib.Core.Path.{_≡_, refl, subst}
-use mathlib.Core.Bool.{Bool, true, false}
+use mathlib.Core.Bool.{true}
 use Prim.Native.Nat.{ℕ}
-use Rattle.definition.specs.Types.{Builtin, State, max-depth, Refusal, abilities-disagree, refused}
+use Rattle.definition.specs.Types.{State, max-depth, Refusal, abilities-disagree, refused}
 use Rattle.definition.specs.Join.{Join, Subtype, join-impl, join, subtype}
 use Rattle.definition.specs.Trees.{arity}
 use Rattle.definition.specs.Sound.{sound}
-use Rattle.definition.specs.Book.{MoveType, reference, tuple, named, no-types, _and_, Book-subtype, itself, mut-as-imm, tuples, no-more, each, Book-type, Deep-subtype, Denotes, Subtype-rule, Join-rule, Room, The-Book}
-use Rattle.definition.proofs.Tracks.{never}
+use Rattle.definition.specs.Book.{MoveType, Book-subtype, Book-type, Denotes, Subtype-rule, Join-rule, The-Book}
+use Rattle.definition.proofs.BookDeep.{Deep-subtype, Join-room, Deep-book}
 use Rattle.definition.proofs.Facts.{facts}
-use Rattle.definition.proofs.BookTypes.{book-deep, deep-book, from-subtype, serves-subtype, from-join, best-least, least-book}
+use Rattle.definition.proofs.BookTypes.{book-deep, deep-book as deep-is-book, from-subtype, serves-subtype, from-join, best-least, least-book}
 use Rattle.definition.proofs.BookJoin.{Judges, judged, map-to}
 use Rattle.definition.proofs.BookRoom.{roomy}
-use Rattle.definition.proofs.BookLiteral.{literal}
+use Rattle.definition.proofs.BookLiteral.{literal, decided-literal, literal-room}
 
 module _ (S : State) (h : sound S ≡ true) (l r : ℕ) (L R : MoveType) (dl : Denotes S l L) (dr : Denotes S r R) where
   all-depths : Judges (arity S) (λ s c l r. join-impl max-depth s c l r)
@@ -28,17 +28,17 @@ module _ (S : State) (h : sound S ≡ true) (l r : ℕ) (L R : MoveType) (dl : D
   unfolding Join-rule join
   join-deep = map-to (λ S′ t g. (g .type, best-least (g .the-best), g .is)) (λ apart U a b. apart U (from-join a b)) (all-depths Join S l r L R (facts S h) dl dr)
 
-  subtype-room : Room S max-depth L → (x : Refusal) → subtype S l r ≡ refused x → x ≡ abilities-disagree
+  subtype-room : Join-room S max-depth L → (x : Refusal) → subtype S l r ≡ refused x → x ≡ abilities-disagree
   unfolding subtype arity
   subtype-room o x e = roomy {ar = arity S} (λ n. refl) max-depth Subtype S l r L R (facts S h) dl dr o x e
 
-  join-room : Room S max-depth L → (x : Refusal) → join S l r ≡ refused x → x ≡ abilities-disagree
+  join-room : Join-room S max-depth L → (x : Refusal) → join S l r ≡ refused x → x ≡ abilities-disagree
   unfolding join arity
   join-room o x e = roomy {ar = arity S} (λ n. refl) max-depth Join S l r L R (facts S h) dl dr o x e
 
   subtype-book : Book-type L → Subtype-rule Book-subtype S l r L R
   unfolding Subtype-rule
-  subtype-book b = map-to (λ S′ t p. (deep-book b (p .0), p .1)) (λ n d. n (book-deep d)) subtype-deep
+  subtype-book b = map-to (λ S′ t p. (deep-is-book b (p .0), p .1)) (λ n d. n (book-deep d)) subtype-deep
 
   join-book : Book-type L → Book-type R → Join-rule Book-subtype S l r L R
   unfolding Join-rule
@@ -46,38 +46,18 @@ module _ (S : State) (h : sound S ≡ true) (l r : ℕ) (L R : MoveType) (dl : D
 
 pub the-book : (S : State) → sound S ≡ true → The-Book S
 the-book S h = record {
-  subtype-deep = λ l r L R dl dr. subtype-deep S h l r L R dl dr;
-  join-deep = λ l r L R dl dr. join-deep S h l r L R dl dr;
   subtype-book = λ l r L R dl dr b. subtype-book S h l r L R dl dr b;
   join-book = λ l r L R dl dr bl br. join-book S h l r L R dl dr bl br;
-  subtype-room = λ l r L R dl dr o x e. subtype-room S h l r L R dl dr o x e;
-  join-room = λ l r L R dl dr o x e. join-room S h l r L R dl dr o x e;
-  book-deep = λ L R b. book-deep b;
   literal = λ v loc e free. literal S h v loc e free;
+  decided-literal = λ v loc t e i. decided-literal S h v loc t e i;
 }
 
--- ---- the Book's examples of tuples
-
-abbrev pub u64-type : MoveType
-u64-type = named (Builtin 3) no-types
-
-abbrev pub two : Bool → Bool → MoveType
-two m n = tuple (_and_ (reference m u64-type) (_and_ (reference n u64-type) no-types))
-
--- (&u64, &mut u64) and (&mut u64, &mut u64) are subtypes of (&u64, &u64)
-pub second-mutable : Book-subtype (two false true) (two false false)
-second-mutable = tuples (each itself (each mut-as-imm no-more))
-
-pub both-mutable : Book-subtype (two true true) (two false false)
-both-mutable = tuples (each mut-as-imm (each mut-as-imm no-more))
-
--- (&u64, &mut u64) is no subtype of (&mut u64, &mut u64)
-pub not-mutable : Book-subtype (two false true) (two true true) → ⊥
-not-mutable s = never (let e : true ≡ false = first s in cc)
-  where
-    imm : {m m′ : Bool} {T T′ : MoveType} → Book-subtype (reference m T) (reference m′ T′) → m ≡ false → m′ ≡ false
-    imm itself e = e
-    imm mut-as-imm e = refl
-
-    first : Book-subtype (two false true) (two true true) → true ≡ false
-    first (tuples (each t ts)) = imm t refl
+pub deep-book : (S : State) → sound S ≡ true → Deep-book S
+deep-book S h = record {
+  subtype-deep = λ l r L R dl dr. subtype-deep S h l r L R dl dr;
+  join-deep = λ l r L R dl dr. join-deep S h l r L R dl dr;
+  book-deep = λ L R b. book-deep b;
+  subtype-room = λ l r L R dl dr o x e. subtype-room S h l r L R dl dr o x e;
+  join-room = λ l r L R dl dr o x e. join-room S h l r L R dl dr o x e;
+  literal-room = λ a b x e. literal-room S h a b x e;
+}

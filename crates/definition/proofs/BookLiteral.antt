@@ -1,41 +1,49 @@
--- A numeric variable whose type nothing has decided is u64 after solve_constraints. Assumes nothing.
+-- A numeric variable whose type nothing has decided is u64 after solve_constraints; one that is an integer type stays it. Assumes nothing.
 use mathlib.Core.Path.{_≡_, refl, sym, ap, _∙_}
 use mathlib.Core.Logic.{_⊎_, inl, inr}
 use mathlib.Core.Bool.{Bool, true, false}
 use mathlib.Core.List.{List, [], _∷_}
 use mathlib.Core.Option.{Option, none, some}
-use Prim.Native.Nat.{ℕ, zero, suc, _+_, _≤_, _<_}
+use Prim.Native.Nat.{ℕ, zero, suc, _+_, _*_, _≤_, _<_}
 use native.Mathlib.Decide.{ℕ-discrete}
 use native.Mathlib.Omega.{arith}
-use lib.ListN.{getD, List·getD-eq-default}
-use Rattle.definition.specs.Types.{TypeName, Type-value, Apply, Var, Cell, unbound, State, max-depth, Result, ok, refused, _>>=_}
+use lib.Dec.{eqb}
+use lib.ListN.{length, getD, List·getD-eq-default}
+use Rattle.definition.specs.Types.{TypeName, Multiple, Builtin, ModuleType, Mark, Type-value, UnitType, Ref, Param, Apply, Var, Anything, UnresolvedError, Cell, unbound, State, max-nodes, max-vars, max-depth, Refusal, Result, ok, refused, _>>=_, if_then_else_}
 use Rattle.definition.specs.Store.{count, taken, value, spanned, get, num-loc, with-constraints, sp}
-use Rattle.definition.specs.Subst.{parts, as-var, forward-tvar, unfold-var, unfold-type}
-use Rattle.definition.specs.Join.{join}
-use Rattle.definition.specs.Constraints.{num-vars, undecided, u64, default-num-var, default-num-vars, solve-constraints, staying, failures}
+use Rattle.definition.specs.Subst.{parts, as-var, forward, forward-tvar, unfold-var, unfold-type}
+use Rattle.definition.specs.Join.{is-numeric, join}
+use Rattle.definition.specs.Constraints.{num-vars, undecided, is-integer, u64, default-num-var, default-num-vars, solve-constraints, staying, failures}
+use Rattle.definition.specs.Instantiate.{builtin-tparams}
+use Rattle.definition.specs.Write.{Bytes}
 use Rattle.definition.specs.Trees.{arity}
 use Rattle.definition.specs.Sound.{sound}
 use Rattle.definition.specs.Book.{Literal-rule}
+use Rattle.definition.proofs.Laws.{get-beyond}
 use Rattle.definition.proofs.Chains.{next-none}
 use Rattle.definition.proofs.Tracks.{never, Ends, here, ends-det, solid-var, nonvar-var, any-var, Head, h-unit, h-ref, h-param, h-apply, r-self, r-var, fits-solid-l, Tracks, t-any, t-var, t-fit, Fits, f-err, f-node, TracksAll, ta-nil, ta-cons}
 use Rattle.definition.proofs.Order.{Sound, _⊑_, chain, ends-in, ends-keep}
 use Rattle.definition.proofs.Steps.{quiet-⊑}
 use Rattle.definition.proofs.Post.{Grown, grown-refl}
 use Rattle.definition.proofs.Calls.{sp-post, var-ok}
-use Rattle.definition.proofs.Main.{join-impl-good}
+use Rattle.definition.proofs.Main.{eq-of, join-impl-good}
 use Rattle.definition.proofs.Went.{Went, went-refl, went-trans, went-quiet, quiet-list, sound-staying, PostS, ps-ok, ps-refused, bind-postS}
-use Rattle.definition.proofs.Runs.{Declared, declared-on, Below, below-on, num-vars-below, u64-ok}
+use Rattle.definition.proofs.Runs.{Declared, declared-on, Below, below-on, num-vars-below, u64-ok, defaults-went}
 use Rattle.definition.proofs.Facts.{facts}
-use Rattle.definition.proofs.NoFail.{Sure, sure-ok, sure-refused, sure-bind, sure-map, CalmAt, default-sure}
+use Rattle.definition.proofs.Soundness.{sound-is}
+use Rattle.definition.proofs.Takes.{Takes, takes-ok, takes-full}
+use Rattle.definition.proofs.NoFail.{Sure, sure-ok, sure-refused, sure-bind, sure-map, CalmAt, default-sure, defaults-take, no-defaults}
+use Rattle.definition.proofs.Records.{NoErr, no-ok, no-refused}
+use Rattle.definition.proofs.BookDeep.{numeric}
 
--- ---- what is u64 stays u64
+-- ---- what is a named type without arguments stays it
 
-head-u64 : {L R : Type-value} {S : State} → Head L R → TracksAll S (parts L) (parts R) → L ≡ u64 → R ≡ u64
-unfolding parts u64
-head-u64 h-unit ts e = never (cc)
-head-u64 (h-ref l) ts e = never (cc)
-head-u64 h-param ts e = never (cc)
-head-u64 {S = S} (h-apply {k = k} {n = n} {ps = ps} {qs = qs}) ts e =
+head-leaf : {k : Mark} {n : TypeName} {L R : Type-value} {S : State} → Head L R → TracksAll S (parts L) (parts R) → L ≡ Apply k n [] → R ≡ Apply k n []
+unfolding parts
+head-leaf h-unit ts e = never (cc)
+head-leaf (h-ref l) ts e = never (cc)
+head-leaf h-param ts e = never (cc)
+head-leaf {S = S} (h-apply {k = k} {n = n} {ps = ps} {qs = qs}) ts e =
     let c : ps ≡ [] = cc in
     let d : qs ≡ ps = go ts c ∙ sym c in
     ap (λ (ts : List ℕ). Apply k n ts) d ∙ e
@@ -44,22 +52,28 @@ head-u64 {S = S} (h-apply {k = k} {n = n} {ps = ps} {qs = qs}) ts e =
     go ta-nil e = refl
     go (ta-cons t ts) e = never (cc)
 
-fits-u64 : {S : State} {x t : ℕ} → Fits S x t → value S x ≡ u64 → value S t ≡ u64
-unfolding u64
-fits-u64 (f-err e h) u = never (cc)
-fits-u64 (f-node h ts) u = head-u64 h ts u
+fits-leaf : {k : Mark} {n : TypeName} {S : State} {x t : ℕ} → Fits S x t → value S x ≡ Apply k n [] → value S t ≡ Apply k n []
+fits-leaf (f-err e h) u = never (cc)
+fits-leaf (f-node h ts) u = head-leaf h ts u
 
--- the variable v is u64
+-- the variable v is the type
+Is : State → ℕ → Type-value → Type 0
+Is S v type = (t : ℕ) × (get S (forward-tvar S v) ≡ some t) × (value S t ≡ type)
+
 Is-u64 : State → ℕ → Type 0
-Is-u64 S v = (t : ℕ) × (get S (forward-tvar S v) ≡ some t) × (value S t ≡ u64)
+Is-u64 S v = Is S v u64
 
 module _ {ar : TypeName → ℕ} {S S′ : State} (s : Sound ar S) (s′ : Sound ar S′) (x : S ⊑ S′) where
-  u64-on : (v : ℕ) → v < taken S → Is-u64 S v → Is-u64 S′ v
-  unfolding Is-u64
-  u64-on v h (t, g, u) =
+  leaf-on : (k : Mark) (n : TypeName) (v : ℕ) → v < taken S → Is S v (Apply k n []) → Is S′ v (Apply k n [])
+  unfolding Is
+  leaf-on k n v h (t, g, u) =
       let l = x .lands (forward-tvar S v) t g (s .chains v h) in
       let same : forward-tvar S′ v ≡ l .last = ends-det (chain s′ v (omega (arith, x .more-vars))) (ends-keep x (chain s v h) (l .ends)) in
-      (l .type, rw same (l .bound), fits-u64 (l .fits) (x .kept t (s .bind-in _ t g) ∙ u))
+      (l .type, rw same (l .bound), fits-leaf (l .fits) (x .kept t (s .bind-in _ t g) ∙ u))
+
+  u64-on : (v : ℕ) → v < taken S → Is-u64 S v → Is-u64 S′ v
+  unfolding Is-u64 u64
+  u64-on v h u = leaf-on _ _ v h u
 
   -- variables with one end keep one end
   one-end : (v w : ℕ) → v < taken S → w < taken S → forward-tvar S v ≡ forward-tvar S w → forward-tvar S′ v ≡ forward-tvar S′ w
@@ -73,7 +87,7 @@ module _ {ar : TypeName → ℕ} {S S′ : State} (s : Sound ar S) (s′ : Sound
 
 -- a join with u64 makes it so
 tracked-u64 : {ar : TypeName → ℕ} {S : State} {l r t w : ℕ} → Sound ar S → w < taken S → Tracks S l t → Tracks S r t → value S l ≡ u64 → value S r ≡ Var w → Is-u64 S w
-unfolding Is-u64 u64
+unfolding Is-u64 Is u64
 tracked-u64 s h (t-any e) q u d = never (cc)
 tracked-u64 s h (t-var a b c e) q u d = never (cc)
 tracked-u64 s h (t-fit r f) (t-any e) u d = any-var e d
@@ -84,7 +98,7 @@ tracked-u64 {S = S} {w = w} s h (t-fit (r-var {w = w1} {e = e1} {t = t} v k g) f
     let q : w1 ≡ w2 = cc in
     let ends : e2 ≡ e1 = ends-det e (rw q at k) in
     let same : forward-tvar S w ≡ e2 = ends-det (chain s w h) (rw p at c) in
-    (t, rw (same, ends) g, fits-u64 f u)
+    (t, rw (same, ends) g, fits-leaf f u)
 
 record Decided (ar : TypeName → ℕ) (S : State) (v loc : ℕ) (S′ : State) : Type 0 where
   went : Went ar S S′
@@ -125,7 +139,7 @@ record Turned (ar : TypeName → ℕ) (S : State) (w v : ℕ) (S′ : State) : T
 
 module _ {ar : TypeName → ℕ} {S : State} (s : Sound ar S) (w loc v : ℕ) (w-in : w < taken S) (v-in : v < taken S) where
   turned : {S′ : State} → Literal S v → Grown S S′ → Decided ar S w loc S′ → CalmAt S (forward-tvar S w) S′ → Turned ar S w v S′
-  unfolding Is-u64
+  unfolding Is-u64 Is
   turned {S′} (inr u) g d o = let r = u64-on s (d .went .sound) (d .went .above) v v-in u in record { grown = g; went = d .went; still = inr r; its-turn = λ e. r }
   turned {S′} (inl free) g d o = go (ℕ-discrete (forward-tvar S v) (forward-tvar S w))
     where
@@ -193,23 +207,104 @@ solved {ar} ((w, loc) ∷ l) {S} s d b v v-in f n = sure-bind _ (turn s w loc v 
     next x i (inr (inr m)) = inr m
 
 -- SV's new list of constraints changes no variable
-unfolds-u64 : {ar : TypeName → ℕ} {S : State} → Sound ar S → (v loc : ℕ) → v < taken S → Is-u64 S v → unfold-type (with-constraints S (staying (S .constraints))) (record { loc = loc; value = Var v }) .value ≡ u64
-unfolding unfold-type unfold-var as-var spanned Is-u64
-unfolds-u64 s v loc h u = let s′ = sound-staying s in let r = u64-on s s′ (quiet-⊑ s s′ (quiet-list s _)) v h u in rw (r .1) (r .2)
+unfolds-leaf : {ar : TypeName → ℕ} {S : State} → Sound ar S → (k : Mark) (n : TypeName) (v loc : ℕ) → v < taken S → Is S v (Apply k n []) → unfold-type (with-constraints S (staying (S .constraints))) (record { loc = loc; value = Var v }) .value ≡ Apply k n []
+unfolding unfold-type unfold-var as-var spanned Is
+unfolds-leaf s k n v loc h u = let s′ = sound-staying s in let r = leaf-on s s′ (quiet-⊑ s s′ (quiet-list s _)) k n v h u in rw (r .1) (r .2)
 
-pub literal : (S : State) → sound S ≡ true → (v loc : ℕ) → num-loc S v ≡ some loc → get S (forward-tvar S v) ≡ none → Literal-rule v (solve-constraints S)
-unfolding solve-constraints Literal-rule num-loc _>>=_ u64
-literal S h v loc e free = go (default-num-vars S (num-vars 0 (S .vars))) (solved (num-vars 0 (S .vars)) s (λ n. refl) (num-vars-below 0 (S .vars) (taken S) (omega arith)) v v-in (inl free) (inr listed))
+-- a variable that is looked up with success is taken
+get-in : (S : State) (v t : ℕ) → get S v ≡ some t → v < taken S
+get-in S v t e = elim (native.Mathlib.Decide.decLt v (taken S)) [ yes l ↦ l | no l ↦ never (let g = get-beyond S v (omega arith) in cc) ]
+
+-- one without binding leads to itself
+forward-stays : (S : State) (v n : ℕ) → get S v ≡ none → forward n S v ≡ v
+unfolding forward
+forward-stays S v zero e = refl
+forward-stays S v (suc n) e = rw (next-none S v e, forward) refl
+
+end-in : (S : State) (v t : ℕ) → get S (forward-tvar S v) ≡ some t → v < taken S
+unfolding forward-tvar
+end-in S v t e = elim (native.Mathlib.Decide.decLt v (taken S)) [ yes l ↦ l | no l ↦ get-in S v t (rw (forward-stays S v (taken S) (get-beyond S v (omega arith))) at e) ]
+
+-- an integer type has no arguments
+empty : (ts : List ℕ) → length ts ≡ 0 → ts ≡ []
+empty [] e = refl
+empty (t ∷ ts) e = absurd (omega arith)
+
+no-arguments : (S : State) (n : TypeName) (ts : List ℕ) → is-numeric n ≡ true → length ts ≡ arity S n → ts ≡ []
+unfolding is-numeric arity builtin-tparams
+no-arguments S (Multiple n) ts i e = never (cc)
+no-arguments S (ModuleType n) ts i e = never (cc)
+no-arguments S (Builtin b) ts i e = go (eqb b 5) refl e
   where
-    s : Sound (arity S) S
-    s = facts S h
+    go : (c : Bool) → eqb b 5 ≡ c → length ts ≡ length {A = ℕ} (if c then 0 ∷ [] else []) → ts ≡ []
+    go true d e = never (let z : b ≡ 5 = eq-of b 5 d in let f : false ≡ true = rw z at i in cc)
+    go false d e = empty ts e
 
-    v-in : v < taken S
-    v-in = elim (native.Mathlib.Decide.decLt v (taken S)) [ yes l ↦ l | no l ↦ never (let d : getD (S .vars) v unbound .numeric ≡ none = ap (λ (c : Cell). c .numeric) (List·getD-eq-default (S .vars) unbound (omega arith)) in cc) ]
+module _ (S : State) (h : sound S ≡ true) where
+  s : Sound (arity S) S
+  s = facts S h
 
-    listed : Listed v (num-vars 0 (S .vars))
-    listed = let z : 0 + v ≡ v = omega arith in rw z at (marked-listed (S .vars) 0 v loc e)
+  below : Below (taken S) (num-vars 0 (S .vars))
+  below = num-vars-below 0 (S .vars) (taken S) (omega arith)
 
-    go : (m : Result State) → Sure (Solved (arity S) S v) m → Literal-rule v (m >>= (λ (s : State). ok (with-constraints s (staying (s .constraints)), failures s (s .constraints))))
-    go (ok S′) (sure-ok p) = λ loc. unfolds-u64 (p .sound-after) v loc (omega (arith, v-in, p .more)) (p .is)
-    go (refused x) sure-refused = tt
+  default-all : Takes S (5 * numeric S) (2 * numeric S) (λ s. s) (λ s. Unit {0}) (default-num-vars S (num-vars 0 (S .vars)))
+  default-all = defaults-take (num-vars 0 (S .vars)) s (λ n. refl) below
+
+  -- what SV goes on with
+  abbrev rest : State → Result (State × Bytes)
+  rest s = ok (with-constraints s (staying (s .constraints)), failures s (s .constraints))
+
+  pub literal-room : count S + 5 * numeric S ≤ max-nodes → taken S + 2 * numeric S ≤ max-vars → (x : Refusal) → solve-constraints S ≡ refused x → ⊥
+  unfolding solve-constraints _>>=_
+  literal-room a b x e = go (default-num-vars S (num-vars 0 (S .vars))) default-all e
+    where
+      go : (m : Result State) → Takes S (5 * numeric S) (2 * numeric S) (λ s. s) (λ s. Unit {0}) m → (m >>= rest) ≡ refused x → ⊥
+      go (ok S′) (takes-ok t u) e = never (cc)
+      go (refused y) (takes-full f) e = f (record { nodes-left = a; vars-left = b; places-fit = sound-is S .0 h .few-args })
+
+  literal-by : (k : Mark) (n : TypeName) (v : ℕ) → v < taken S → Sure (λ S′. Sound (arity S) S′ × (taken S ≤ taken S′) × Is S′ v (Apply k n [])) (default-num-vars S (num-vars 0 (S .vars)))
+      → Literal-rule v (Apply k n []) (solve-constraints S)
+  unfolding solve-constraints Literal-rule _>>=_
+  literal-by k n v v-in r = go (default-num-vars S (num-vars 0 (S .vars))) r default-all
+    where
+      go : (m : Result State) → Sure (λ S′. Sound (arity S) S′ × (taken S ≤ taken S′) × Is S′ v (Apply k n [])) m → Takes S (5 * numeric S) (2 * numeric S) (λ s. s) (λ s. Unit {0}) m → Literal-rule v (Apply k n []) (m >>= rest)
+      go (ok S′) (sure-ok p) t = λ loc. unfolds-leaf (p .0) k n v loc (omega (arith, v-in, p .1)) (p .2)
+      go (refused x) p (takes-full f) = refl
+
+  pub literal : (v loc : ℕ) → num-loc S v ≡ some loc → get S (forward-tvar S v) ≡ none → Literal-rule v (Apply (some 7) (Builtin 3) []) (solve-constraints S)
+  unfolding num-loc Is-u64 u64
+  literal v loc e free = literal-by (some 7) (Builtin 3) v v-in (sure-map (λ S′ p. (p .sound-after, p .more, p .is)) (solved (num-vars 0 (S .vars)) s (λ n. refl) below v v-in (inl free) (inr listed)))
+    where
+      v-in : v < taken S
+      v-in = elim (native.Mathlib.Decide.decLt v (taken S)) [ yes l ↦ l | no l ↦ never (let d : getD (S .vars) v unbound .numeric ≡ none = ap (λ (c : Cell). c .numeric) (List·getD-eq-default (S .vars) unbound (omega arith)) in cc) ]
+
+      listed : Listed v (num-vars 0 (S .vars))
+      listed = let z : 0 + v ≡ v = omega arith in rw z at (marked-listed (S .vars) 0 v loc e)
+
+  -- ---- a decided one
+
+  went-sure : {m : Result State} → NoErr m → PostS (arity S) S (Went (arity S) S) m → Sure (Went (arity S) S) m
+  went-sure no-ok (ps-ok g w) = sure-ok w
+  went-sure no-refused ps-refused = sure-refused
+
+  integer-stays : (v T : ℕ) (t : Type-value) → get S (forward-tvar S v) ≡ some T → value S T ≡ t → is-integer t ≡ true → Literal-rule v t (solve-constraints S)
+  unfolding is-integer Is
+  integer-stays v T UnitType g e i = never (cc)
+  integer-stays v T (Ref m t) g e i = never (cc)
+  integer-stays v T (Param id a) g e i = never (cc)
+  integer-stays v T (Var w) g e i = never (cc)
+  integer-stays v T Anything g e i = never (cc)
+  integer-stays v T UnresolvedError g e i = never (cc)
+  integer-stays v T (Apply k n ts) g e i =
+      let v-in = end-in S v T g in
+      let c : ts ≡ [] = no-arguments S n ts i (s .arity T k n ts (s .bind-in _ T g) e) in
+      rw c (literal-by k n v v-in (sure-map (λ S′ w. (w .sound, w .above .more-vars, leaf-on s (w .sound) (w .above) k n v v-in (T, g, rw c at e)))
+      (went-sure (no-defaults (num-vars 0 (S .vars)) s (λ n. refl) below) (defaults-went (num-vars 0 (S .vars)) s (λ n. refl) below))))
+
+  pub decided-literal : (v loc : ℕ) (t : Type-value) → unfold-type S (record { loc = loc; value = Var v }) .value ≡ t → is-integer t ≡ true → Literal-rule v t (solve-constraints S)
+  unfolding unfold-type unfold-var as-var spanned is-integer
+  decided-literal v loc t e i = go (get S (forward-tvar S v)) refl e
+    where
+      go : (o : Option ℕ) → get S (forward-tvar S v) ≡ o → unfold-var S loc o .value ≡ t → Literal-rule v t (solve-constraints S)
+      go none g d = never (let z : false ≡ true = rw (← d) at i in cc)
+      go (some T) g d = integer-stays v T t g d i

@@ -12,7 +12,7 @@ use Rattle.definition.specs.Types.{TypeName, Multiple, Mark, Type-value,
 use Rattle.definition.specs.Store.{count, value, loc-of, with-node, args-of, sp}
 use Rattle.definition.specs.Join.{TypingCase, Join-impl, join-impl-types, join-mut, join-refs, same-name, is-multiple, same-mark, join-applies, arm, join-arm, join-impl}
 use Rattle.definition.specs.Book.{MoveType, unit, reference, parameter, tuple, named, MoveTypes, no-types, _and_, Denotes, is-unit, is-reference, is-parameter, is-tuple, is-named, Denote, are-none, are-each, Comes-to, succeeds, fails, cut-short}
-use Rattle.definition.specs.Book.{size, sizes, Levels, unit-level, reference-level, parameter-level, tuple-level, named-level, All-levels, each-level, Room}
+use Rattle.definition.proofs.BookDeep.{size, sizes, Levels, unit-level, reference-level, parameter-level, tuple-level, named-level, All-levels, each-level, Join-room}
 use Rattle.definition.proofs.Laws.{count-with-node}
 use Rattle.definition.proofs.Tracks.{never}
 use Rattle.definition.proofs.Order.{Sound}
@@ -68,7 +68,7 @@ sp-fine S l sh h i = rw (lt-ltb _ _ h, le-leb _ _ i) (f-ok (record { one-node = 
 
 -- the join of what is below
 abbrev Rooms : (TypeName → ℕ) → ℕ → Type 0
-Rooms ar d = (c : TypingCase) (S : State) (l r : ℕ) (L R : MoveType) → Sound ar S → Denotes S l L → Denotes S r R → Room S d L → Fine-with (Cost S (size L)) (join-impl d S c l r)
+Rooms ar d = (c : TypingCase) (S : State) (l r : ℕ) (L R : MoveType) → Sound ar S → Denotes S l L → Denotes S r R → Join-room S d L → Fine-with (Cost S (size L)) (join-impl d S c l r)
 
 module _ {ar : TypeName → ℕ} (counts : Counts ar) {d : ℕ} (h : Rooms ar d) (c : TypingCase) where
   abbrev J : Join-impl
@@ -87,7 +87,7 @@ module _ {ar : TypeName → ℕ} (counts : Counts ar) {d : ℕ} (h : Rooms ar d)
       f-then _ (types-room ls rs S1 Ls Rs (j .sound) (denote-keep es (j .quiet)) (denote-keep es′ (j .quiet)) (omega arith) (omega (arith, k .nodes)) (omega (arith, k .places)) vs) (λ S2 ts w.
       f-ok {s = S2} {b = t ∷ ts} (record { nodes = omega (arith, k .nodes, w .nodes); places = omega (arith, k .places, w .places); few = omega (arith, w .few) })))
 
-  refs-room : (S : State) (l r : ℕ) (m1 : Bool) (t1 : ℕ) (m2 : Bool) (t2 : ℕ) (L R : MoveType) → Sound ar S → Denotes S t1 L → Denotes S t2 R → Room S (suc d) (reference m1 L) → (o : Option Bool)
+  refs-room : (S : State) (l r : ℕ) (m1 : Bool) (t1 : ℕ) (m2 : Bool) (t2 : ℕ) (L R : MoveType) → Sound ar S → Denotes S t1 L → Denotes S t2 R → Join-room S (suc d) (reference m1 L) → (o : Option Bool)
       → Fine-with (Cost S (suc (size L))) (join-refs J S c l r m1 t1 m2 t2 o)
   unfolding join-refs args-of
   refs-room S l r m1 t1 m2 t2 L R s e e′ o none = f-err
@@ -134,7 +134,7 @@ itself : (S : State) (r k : ℕ) → 0 < k → Fine-with (Cost S k) (ok (S, r))
 itself S r k h = f-ok {s = S} {b = r} (record { nodes = omega arith; places = omega arith })
 
 module _ {ar : TypeName → ℕ} (counts : Counts ar) {d : ℕ} where
-  arm-room : Rooms ar d → (c : TypingCase) (S : State) (l r : ℕ) (L R : MoveType) → Sound ar S → Denotes S l L → Denotes S r R → Room S (suc d) L
+  arm-room : Rooms ar d → (c : TypingCase) (S : State) (l r : ℕ) (L R : MoveType) → Sound ar S → Denotes S l L → Denotes S r R → Join-room S (suc d) L
       → Fine-with (Cost S (size L)) (join-arm (λ s c l r. join-impl d s c l r) S c l r (arm (value S l) (value S r)))
   unfolding join-arm arm
   arm-room h c S l r unit unit s (is-unit e) (is-unit e′) o = rw (e, e′) (itself S r 1 (omega arith))
@@ -172,7 +172,7 @@ unfolding join-impl
 rooms counts zero c S l r L R s f f′ o = absurd (no-level (o .levels))
 rooms counts (suc d) c S l r L R s f f′ o = arm-room counts {d = d} (λ c S l r L R s f f′ o. rooms counts d c S l r L R s f f′ o) c S l r L R s f f′ o
 
-pub roomy : {ar : TypeName → ℕ} → Counts ar → (d : ℕ) (c : TypingCase) (S : State) (l r : ℕ) (L R : MoveType) → Sound ar S → Denotes S l L → Denotes S r R → Room S d L → (x : Refusal) → join-impl d S c l r ≡ refused x → x ≡ abilities-disagree
+pub roomy : {ar : TypeName → ℕ} → Counts ar → (d : ℕ) (c : TypingCase) (S : State) (l r : ℕ) (L R : MoveType) → Sound ar S → Denotes S l L → Denotes S r R → Join-room S d L → (x : Refusal) → join-impl d S c l r ≡ refused x → x ≡ abilities-disagree
 roomy counts d c S l r L R s f f′ o x e = go (join-impl d S c l r) (rooms counts d c S l r L R s f f′ o) e
   where
     go : (m : Result (State × ℕ)) → Fine-with (Cost S (size L)) m → m ≡ refused x → x ≡ abilities-disagree

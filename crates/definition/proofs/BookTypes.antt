@@ -7,7 +7,8 @@ use Rattle.definition.specs.Types.{TypeName}
 use Rattle.definition.specs.Join.{TypingCase, Join, Subtype, join-mut}
 use Rattle.definition.specs.Book.{MoveType, unit, reference, parameter, tuple, named, MoveTypes, no-types, _and_, Book-subtype, itself, mut-as-imm, tuples, Book-subtypes, no-more, each}
 use Rattle.definition.specs.Book.{Base, base-parameter, base-named, Bases, base-none, base-each, Single, single-base, single-reference, Singles, single-none, single-each, Book-type, book-unit, book-single, book-tuple}
-use Rattle.definition.specs.Book.{Mut-as, as-itself, as-imm, Deep-subtype, units, references, parameters, in-tuples, in-arguments, Deep-subtypes, deep-no-more, deep-each, Least}
+use Rattle.definition.specs.Book.{Least}
+use Rattle.definition.proofs.BookDeep.{Mut-as, as-itself, as-imm, Deep-subtype, units, references, parameters, in-tuples, in-arguments, Deep-subtypes, deep-no-more, deep-each}
 use Rattle.definition.proofs.Tracks.{never}
 
 -- ---- the Book's rules hold at every depth
@@ -63,7 +64,7 @@ singles-book (single-each s ss) (deep-each d ds) = each (single-book s d) (singl
 pub deep-book : {L R : MoveType} → Book-type L → Deep-subtype L R → Book-subtype L R
 deep-book book-unit units = itself
 deep-book (book-single s) d = single-book s d
-deep-book (book-tuple ss) (in-tuples ds) = tuples (singles-book ss ds)
+deep-book (book-tuple s t ss) (in-tuples (deep-each d (deep-each e ds))) = tuples (each (single-book s d) (each (single-book t e) (singles-book ss ds)))
 
 -- .. and lead to a type of the Book's
 single-up : {L R : MoveType} → Single L → Deep-subtype L R → Single R
@@ -77,7 +78,7 @@ singles-up (single-each s ss) (deep-each d ds) = single-each (single-up s d) (si
 pub book-up : {L R : MoveType} → Book-type L → Deep-subtype L R → Book-type R
 book-up book-unit units = book-unit
 book-up (book-single s) d = book-single (single-up s d)
-book-up (book-tuple ss) (in-tuples ds) = book-tuple (singles-up ss ds)
+book-up (book-tuple s t ss) (in-tuples (deep-each d (deep-each e ds))) = book-tuple (single-up s d) (single-up t e) (singles-up ss ds)
 
 -- ---- T serves L and R: both are its subtypes, and where a subtype is asked for it is R
 

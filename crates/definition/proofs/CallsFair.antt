@@ -26,7 +26,7 @@ use Rattle.definition.proofs.WellRead.{ReadWell, given, Fine, FineRecor
 use Rattle.definition.proofs.Went.{Went, PostS, ps-ok}
 use Rattle.definition.proofs.Runs.{Declared, declared-on, Below, below-on, num-vars-below, place-went, u64-ok, default-went}
 use Rattle.definition.proofs.JoinAnswers.{weight, Weighs, weighs, record-weighs, run-fits}
-use Rattle.definition.proofs.NoFail.{Sure, sure-ok, sure-is, CalmAt, placed-sure, new-calm, default-sure}
+use Rattle.definition.proofs.NoFail.{Sure, sure-ok, sure-is, takes-sure, CalmAt, placed-takes, new-calm, default-sure}
 
 -- what a join is claimed from. E: what is given of its record
 pub record Fair (E : Type 0) (a : Join-call) : Type 0 where
@@ -101,7 +101,7 @@ module _ {E : Type 0} where
             from = q .sound;
             l-in = omega (arith, p .t-in, q .quiet .q-nodes);
             r-in = q .t-in;
-            clear = λ x s′ t j. sure-is (placed-sure s v loc l r h e p q) j .calm .none-still (new-calm (p .sound) q .none-still (new-calm s p .none-still (z x)));
+            clear = λ x s′ t j. sure-is (takes-sure (placed-takes s v loc l r h e p q)) j .calm .none-still (new-calm (p .sound) q .none-still (new-calm s p .none-still (z x)));
           })))
 
   nums-fair : {ar : TypeName → ℕ} (l : List (ℕ × ℕ)) (S : State) → Sound ar S → Declared ar S → Below (taken S) l → (E → None-reaches-itself S) → All-fair E (default-num-vars-calls S l)

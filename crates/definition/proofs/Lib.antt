@@ -27,6 +27,7 @@ pub mod Runs
 pub mod Records
 pub mod JoinWrites
 pub mod JoinAnswers
+pub mod Takes
 pub mod NoFail
 pub mod CallsFair
 pub mod CallsMade
@@ -43,11 +44,13 @@ pub mod Nine
 pub mod Late
 pub mod Refused
 pub mod SoundKept
+pub mod BookDeep
 pub mod BookTypes
 pub mod BookJoin
 pub mod BookLiteral
 pub mod BookRoom
 pub mod Book
+pub mod BookExamples
 pub mod Enough
 pub mod Decimal
 pub mod NumericCheck

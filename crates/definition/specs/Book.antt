@@ -3,14 +3,13 @@ use mathlib.Core.Path.{_≡_}
 use mathlib.Core.Bool.{Bool, true, false}
 use mathlib.Core.List.{List, [], _∷_}
 use mathlib.Core.Option.{none, some}
-use Prim.Native.Nat.{ℕ, suc, _+_, _≤_}
-use lib.ListN.{length}
-use Rattle.definition.specs.Types.{TypeName, Multiple, Builtin, Mark, UnitType, Ref, Param, Apply, Var, State, TypingError, SubtypeError, Incompatible, ArityMismatch}
-use Rattle.definition.specs.Types.{max-nodes, max-args, max-depth, Refusal, full, too-deep, abilities-disagree, Result, ok, err, refused}
-use Rattle.definition.specs.Store.{count, value, get, num-loc}
+use Prim.Native.Nat.{ℕ}
+use Rattle.definition.specs.Types.{TypeName, Multiple, Builtin, Mark, Type-value, UnitType, Ref, Param, Apply, Var, State, TypingError, SubtypeError, Incompatible, ArityMismatch}
+use Rattle.definition.specs.Types.{Refusal, full, too-deep, abilities-disagree, Result, ok, err, refused}
+use Rattle.definition.specs.Store.{value, get, num-loc}
 use Rattle.definition.specs.Subst.{forward-tvar, unfold-type}
 use Rattle.definition.specs.Join.{is-multiple, join, subtype}
-use Rattle.definition.specs.Constraints.{solve-constraints}
+use Rattle.definition.specs.Constraints.{is-integer, solve-constraints}
 use Rattle.definition.specs.Write.{Bytes}
 
 -- ---- Move's types: no variables, no `_` or `!`, no locations, no ability marks
@@ -65,25 +64,8 @@ pub data Singles : MoveTypes → Type 0 where
 pub data Book-type : MoveType → Type 0 where
   book-unit : Book-type unit
   book-single : {t : MoveType} → Single t → Book-type t
-  book-tuple : {ts : MoveTypes} → Singles ts → Book-type (tuple ts)
-
--- ---- core.rs's relation: the same rules, at every depth, so that it also speaks of types that the Book does not allow
-
-pub data Mut-as : Bool → Bool → Type 0 where
-  as-itself : {m : Bool} → Mut-as m m
-  as-imm : Mut-as true false
-
-mutual
-  pub data Deep-subtype : MoveType → MoveType → Type 0 where
-    units : Deep-subtype unit unit
-    references : {m m′ : Bool} {t t′ : MoveType} → Mut-as m m′ → Deep-subtype t t′ → Deep-subtype (reference m t) (reference m′ t′)
-    parameters : {id : ℕ} → Deep-subtype (parameter id) (parameter id)
-    in-tuples : {ts us : MoveTypes} → Deep-subtypes ts us → Deep-subtype (tuple ts) (tuple us)
-    in-arguments : {n : TypeName} {ts us : MoveTypes} → Deep-subtypes ts us → Deep-subtype (named n ts) (named n us)
-
-  pub data Deep-subtypes : MoveTypes → MoveTypes → Type 0 where
-    deep-no-more : Deep-subtypes no-types no-types
-    deep-each : {t u : MoveType} {ts us : MoveTypes} → Deep-subtype t u → Deep-subtypes ts us → Deep-subtypes (_and_ t ts) (_and_ u us)
+  -- of two elements or more
+  book-tuple : {t u : MoveType} {ts : MoveTypes} → Single t → Single u → Singles ts → Book-type (tuple (_and_ t (_and_ u ts)))
 
 -- ---- nodes as Move's types
 
@@ -137,53 +119,17 @@ Subtype-rule Sub s l r L R = Comes-to (λ s′ t. Sub L R × Denotes s′ t R) (
 unfoldable pub Join-rule : Relation → State → ℕ → ℕ → MoveType → MoveType → Type 0
 Join-rule Sub s l r L R = Comes-to (λ s′ t. (T : MoveType) × Least Sub L R T × Denotes s′ t T) ((U : MoveType) → Sub L U → Sub R U → ⊥) (join s l r)
 
--- Integers: the type of a literal that nothing decides is taken to be u64. After SV that is what its variable unfolds to, with the mark that core.rs gives it
-unfoldable pub Literal-rule : ℕ → Result (State × Bytes) → Type 0
-Literal-rule v (ok (s, failures)) = (loc : ℕ) → unfold-type s (record { loc = loc; value = Var v }) .value ≡ Apply (some 7) (Builtin 3) []
-Literal-rule v (err s e) = ⊥
-Literal-rule v (refused x) = Unit {0}
+-- after SV the variable v unfolds to the type t; SV fails by none of 1 to 4, and is refused with 7 only
+unfoldable pub Literal-rule : ℕ → Type-value → Result (State × Bytes) → Type 0
+Literal-rule v t (ok (s, failures)) = (loc : ℕ) → unfold-type s (record { loc = loc; value = Var v }) .value ≡ t
+Literal-rule v t (err s e) = ⊥
+Literal-rule v t (refused x) = x ≡ full
 
--- space and depth enough for a join with T on the left: a node and a place for each tag of T, and a call for each level
-abbrev mutual
-  pub size : MoveType → ℕ
-  size unit = 1
-  size (reference m T) = suc (size T)
-  size (parameter id) = 1
-  size (tuple Ts) = suc (sizes Ts)
-  size (named n Ts) = suc (sizes Ts)
-
-  pub sizes : MoveTypes → ℕ
-  sizes no-types = 0
-  sizes (_and_ T Ts) = size T + sizes Ts
-
-mutual
-  pub data Levels : ℕ → MoveType → Type 0 where
-    unit-level : {d : ℕ} → Levels (suc d) unit
-    reference-level : {d : ℕ} {m : Bool} {T : MoveType} → Levels d T → Levels (suc d) (reference m T)
-    parameter-level : {d id : ℕ} → Levels (suc d) (parameter id)
-    tuple-level : {d : ℕ} {Ts : MoveTypes} → All-levels d Ts → Levels (suc d) (tuple Ts)
-    named-level : {d : ℕ} {n : TypeName} {Ts : MoveTypes} → All-levels d Ts → Levels (suc d) (named n Ts)
-
-  pub data All-levels : ℕ → MoveTypes → Type 0 where
-    no-levels : {d : ℕ} → All-levels d no-types
-    each-level : {d : ℕ} {T : MoveType} {Ts : MoveTypes} → Levels d T → All-levels d Ts → All-levels d (_and_ T Ts)
-
-pub record Room (s : State) (depth : ℕ) (T : MoveType) : Type 0 where
-  pub nodes-left : count s + size T ≤ max-nodes
-  pub places-left : length (s .args) + size T ≤ max-args
-  pub levels : Levels depth T
-
--- proofs/Book.antt: it holds of every sound state
+-- proofs/Book.antt: it holds of every sound state. How much space and depth suffice: proofs/BookDeep.antt
 pub record The-Book (s : State) : Type 0 where
-  -- of all types without variables
-  pub subtype-deep : (l r : ℕ) (L R : MoveType) → Denotes s l L → Denotes s r R → Subtype-rule Deep-subtype s l r L R
-  pub join-deep : (l r : ℕ) (L R : MoveType) → Denotes s l L → Denotes s r R → Join-rule Deep-subtype s l r L R
-  -- of the Book's
   pub subtype-book : (l r : ℕ) (L R : MoveType) → Denotes s l L → Denotes s r R → Book-type L → Subtype-rule Book-subtype s l r L R
   pub join-book : (l r : ℕ) (L R : MoveType) → Denotes s l L → Denotes s r R → Book-type L → Book-type R → Join-rule Book-subtype s l r L R
-  -- with room enough only disagreeing marks are refused
-  pub subtype-room : (l r : ℕ) (L R : MoveType) → Denotes s l L → Denotes s r R → Room s max-depth L → (x : Refusal) → subtype s l r ≡ refused x → x ≡ abilities-disagree
-  pub join-room : (l r : ℕ) (L R : MoveType) → Denotes s l L → Denotes s r R → Room s max-depth L → (x : Refusal) → join s l r ≡ refused x → x ≡ abilities-disagree
-  -- what the Book allows is allowed between all types
-  pub book-deep : (L R : MoveType) → Book-subtype L R → Deep-subtype L R
-  pub literal : (v loc : ℕ) → num-loc s v ≡ some loc → get s (forward-tvar s v) ≡ none → Literal-rule v (solve-constraints s)
+  -- Integers: the type of a literal that nothing decides is taken to be u64, with the mark that core.rs gives it
+  pub literal : (v loc : ℕ) → num-loc s v ≡ some loc → get s (forward-tvar s v) ≡ none → Literal-rule v (Apply (some 7) (Builtin 3) []) (solve-constraints s)
+  -- .. and that of a literal that is decided stays as it is
+  pub decided-literal : (v loc : ℕ) (t : Type-value) → unfold-type s (record { loc = loc; value = Var v }) .value ≡ t → is-integer t ≡ true → Literal-rule v t (solve-constraints s)
