@@ -8,7 +8,7 @@ use Rattle.definition.specs.Write.{Bytes}
 use Rattle.definition.specs.Book.{MoveType, reference, tuple, named, no-types, _and_, Book-subtype, itself, mut-as-imm, tuples, no-more, each}
 use Rattle.definition.proofs.Tracks.{never}
 use Rattle.definition.proofs.Computed.{answers-of}
-use Rattle.definition.proofs.Spelling.{imm, mut, builtin, u8, default-u64, list, var, NV, JN, SU, UF, SV}
+use Rattle.definition.proofs.Spelling.{imm, mut, builtin, u8, default-u64, list, var, NV, SU, UF, SV}
 
 -- ---- by the Book's rules
 
