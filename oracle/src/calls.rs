@@ -182,7 +182,7 @@ impl Calls for Mimic {
         }
         let mut job = job_of(View { words: state, params });
         let outcome = match record::read_record(record, job.known()) {
-            Err(number) => return number as u32,
+            Err(x) => return x.number as u32,
             Ok((_, n)) if n < record.len() => return 5,
             Ok((r, _)) => job.record(&r),
         };

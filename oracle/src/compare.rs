@@ -8,7 +8,8 @@ use crate::{
     lent::{self, Lent, Params},
     record::{self, hex, Record},
     shrink::shrink,
-    text::{disassemble, state_text},
+    state_text::state_text,
+    text::disassemble,
 };
 use std::collections::BTreeMap;
 
