@@ -19,16 +19,12 @@ pub enum Difference {
 /// One job with its log.
 pub type Side<'a> = (&'a [u8], &'a str);
 
-fn records(p: &Pair, params: &[usize]) -> Vec<u8> {
-    blank_record(p.bytes, params)
-}
-
 fn differ(a: &Pair, a_params: &[usize], b: &Pair, b_params: &[usize]) -> Option<String> {
     let told = |what: &str, one: &dyn Fn(&Pair) -> String| {
         Some(format!("record {}: the {} differ\n  1: {}\n  2: {}", a.n, what, one(a), one(b)))
     };
     let payload = |p: &Pair, params: &[usize]| blank_payload(p.bytes, p.number, &p.raw, params);
-    if records(a, a_params) != records(b, b_params) {
+    if blank_record(a.bytes, a_params) != blank_record(b.bytes, b_params) {
         told("records", &|p| record(p, Detail::Full))
     } else if a.number != b.number || payload(a, a_params) != payload(b, b_params) {
         told("answers", &|p| format!("{} {}", p.number, answer(p, Detail::Full)))

@@ -73,7 +73,11 @@ impl Words {
             }
         }
         if !command.files.contains(&words.files.len()) {
-            usage(&format!("{} takes other files than {}", command.name, words.files.len()))
+            let wanted = match (*command.files.start(), *command.files.end()) {
+                (a, b) if a == b => a.to_string(),
+                (a, b) => format!("{} or {}", a, b),
+            };
+            usage(&format!("{} takes {} files, not {}", command.name, wanted, words.files.len()))
         }
         words
     }
