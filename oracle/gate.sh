@@ -1,12 +1,17 @@
 #!/bin/bash
-# 20,000 random jobs through core.rs and through the engine in one process: answers, payloads, bindings, marks, constraints. Exits non-zero on a disagreement.
+# 20,000 random jobs through core.rs and through the engine in one process: answers, payloads, bindings, marks, constraints. Exits non-zero on a disagreement,
+# and where cargo is missing, unless WITHOUT_CORE_RS=yes: so a green gate has made the comparison, or says that it was told not to.
 # The engine is compiled from the sources that the gate proves after this, without their proofs: seconds instead of minutes.
 cd "$(dirname "$0")" || exit 1
-if ! command -v cargo > /dev/null; then
-  echo "no cargo: the comparison with core.rs is left out"
+if [ "${WITHOUT_CORE_RS-}" = yes ]; then
+  echo "told to leave out the comparison with core.rs"
   exit 0
 fi
-PONGIWARU_LIB=$(bash ../tools/quick_build.sh exports)
-case $? in 0) export PONGIWARU_LIB ;; 3) echo "the comparison with core.rs is left out"; exit 0 ;; *) exit 1 ;; esac
+if ! command -v cargo > /dev/null; then
+  echo "no cargo, so no comparison with core.rs: WITHOUT_CORE_RS=yes leaves it out"
+  exit 1
+fi
+PONGIWARU_LIB=$(bash ../tools/quick_build.sh exports) || exit 1
+export PONGIWARU_LIB
 cargo build --release --offline -j2 || exit 1
 target/release/oracle compare 1 20000

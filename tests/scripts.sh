@@ -1,5 +1,5 @@
 #!/bin/bash
-# joinlog.sh and release.sh: what they say and their exit status. joinlog is built without proofs; no crate is proved.
+# joinlog.sh, release.sh, and the gate where cargo is missing: what they say and their exit status. joinlog is built without proofs; no crate is proved.
 # Its last line is 'N passed, M failed'; it exits non-zero where M is not 0.
 cd "$(dirname "$0")/.." || exit 1
 root=$PWD passed=0 failed=0
@@ -102,6 +102,11 @@ gives "proved: an estimate first" 0 '^2 0 ' 'proved first: from nothing' env PAT
 verdict "a line for each crate" "$(grep -q '^rt: names proved' "$tmp/err" && ! grep -q has_drop "$tmp/err" && echo yes)"
 verdict "the talk in a file" "$(grep -q has_drop "$tmp/fresh/target/joinlog-check.txt" && echo yes)"
 gives "proved already: no word" 0 '^2 0 ' '' env PATH="$tmp/bin" "$tmp/fresh/joinlog.sh" --example
+
+# ---- the gate without cargo
+
+gives "gate: no cargo" 1 'no cargo, so no comparison' '' env PATH="$tmp/bin" bash oracle/gate.sh
+gives "gate: told to leave it out" 0 'told to leave out' '' env PATH="$tmp/bin" WITHOUT_CORE_RS=yes bash oracle/gate.sh
 
 # ---- release.sh
 
