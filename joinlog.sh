@@ -75,8 +75,9 @@ run() {
   ended=("${PIPESTATUS[@]}")
   wait
   cat "$tmp/said" >&2
-  [ "${ended[0]}" -eq 0 ] || die 1 "joinlog was stopped (status ${ended[0]})"
+  # where nobody reads the log any more, tee and then joinlog are stopped in silence
   if [ "${ended[1]}" -ne 0 ] || [ -s "$tmp/said" ]; then exit 1; fi
+  [ "${ended[0]}" -eq 0 ] || die 1 "joinlog was stopped (status ${ended[0]})"
   if grep -Eq '^[0-9]+ (5|6|18)$' "$tmp/last"; then exit 3; fi
   exit 0
 }

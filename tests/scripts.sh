@@ -60,6 +60,8 @@ gives "5 ends a job" 3 '^1 5$' '' $run "$tmp/malformed"
 gives "6 ends a job" 3 '^0 6$' '' $run "$tmp/unknown"
 in=. gives "input fails" 1 '' 'standard input cannot be read' $run
 gives "output fails" 1 '' 'No space left' bash -c "$run $tmp/good > /dev/full"
+yes SV | head -n 20000 | tr -d '\n' > "$tmp/long"
+gives "the log is read no further" 1 '^0 0$' '' bash -c "set -o pipefail; $run $tmp/long | head -n 1"
 cat > "$tmp/ends18" << 'END'
 #!/bin/sh
 printf '0 0\n1 18\n'
