@@ -150,6 +150,10 @@ verdict "release: nothing half there" "$([ -z "$(find "$tmp/logs" -name '*.part'
 touch -d 2031-01-01 "$tmp/jobs/bad"
 ./release.sh --quick "$tmp/jobs" "$tmp/logs" > "$tmp/out" 2>&1
 verdict "release: a newer job is run again" "$([ "$(date -r "$tmp/logs/bad.log" +%Y)" != 2030 ] && echo yes)"
+rm -rf "$tmp/logs" && (cd "$tmp/jobs" && find . -type f) |
+  RELEASE_PROGRAM=$program xargs -I{} ./release.sh --one "$tmp/jobs" "$tmp/logs" {} && touch -d 2035-01-01 "$tmp/logs/bad.log"
+gives "release: by jobs alone, as over several machines" 1 '^11 jobs, 29 records' 'of 11 jobs' ./release.sh --quick "$tmp/jobs" "$tmp/logs"
+verdict "release: then only summed up" "$([ "$(date -r "$tmp/logs/bad.log" +%Y)" = 2035 ] && echo yes)"
 rm -rf "$tmp/logs/one more" && touch "$tmp/logs/one more"
 gives "release: a log that cannot be written" 2 '^one more/last: no log$' 'one more' ./release.sh --quick "$tmp/jobs" "$tmp/logs"
 
