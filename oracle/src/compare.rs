@@ -402,7 +402,7 @@ impl Calls for Altered<'_> {
         self.calls.counts()
     }
 
-    fn split(&self, state: &mut [u32], params: &Params, stream: &[u8], rest: &mut usize) {
+    fn split(&self, state: &mut [u32], params: &mut Params, stream: &[u8], rest: &mut usize) {
         self.calls.split(state, params, stream, rest)
     }
 

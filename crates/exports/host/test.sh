@@ -28,12 +28,13 @@ from_c() { # STANDARD
 }
 as_cpp() { echo '#include "crates/exports/pongiwaru.h"' | c++ -x c++ -std=c++11 -pedantic-errors -Wall -Wextra -Werror -fsyntax-only -I . -; }
 from_rust() {
-  rustc -O --edition 2021 crates/exports/host/host.rs -C link-arg="$lib" -o "$tmp/rust" && "$tmp/rust" | cmp - crates/joinlog/stdout
+  PONGIWARU_LIB=$(readlink -f "$lib") cargo run -q --release --offline --manifest-path rust/pongiwaru/Cargo.toml --example worked > "$tmp/log" &&
+    cmp "$tmp/log" crates/joinlog/stdout
 }
 
 from_c c99
 from_c c17
 if command -v c++ > /dev/null; then one "the header as C++" as_cpp; fi
-if command -v rustc > /dev/null; then one "from Rust" from_rust; else echo "no rustc: the call from Rust is left out"; fi
+if command -v cargo > /dev/null; then one "from Rust" from_rust; else echo "no cargo: the call from Rust is left out"; fi
 echo "$passed passed, $failed failed"
 [ "$failed" -eq 0 ]
