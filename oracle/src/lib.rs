@@ -94,6 +94,7 @@ pub mod lender;
 pub mod lent;
 pub mod list;
 pub mod order;
+pub mod program;
 pub mod shrink;
 pub mod state_text;
 pub mod traps;

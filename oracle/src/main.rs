@@ -4,7 +4,7 @@ use oracle::{
     calls::{self, Calls},
     compare, damage, gen, job,
     job::Options,
-    list, order, traps,
+    list, order, program, traps,
 };
 use std::{
     fs,
@@ -27,6 +27,7 @@ oracle damage records|states|wild SEED COUNT           damaged records, damaged 
 oracle traps                                          types with more parts than nodes, deep and looped ones
 oracle bench [RUNS]                                   records per second beside core.rs
 oracle bench once WORK SIDE TIMES                     the same job again and again, for a profiler
+oracle joinlog PROGRAM                                joinlog beside one call of the engine
 Without a file, stdin is read.";
 
 fn fail(message: &str) -> ! {
@@ -187,6 +188,13 @@ fn run(args: Vec<String>) -> i32 {
             return (slowest >= traps::LIMIT) as i32;
         }
         Some("damage") => return hurt(&words, engine(flag("--mimic"))),
+        Some("joinlog") if words.len() == 2 => match program::run(engine(false), words[1].as_ref()) {
+            Ok(told) => print!("{}", told),
+            Err(what) => {
+                println!("JOINLOG DIFFERS: {}", what);
+                return 1;
+            }
+        },
         _ => fail(USAGE),
     }
     0
