@@ -1,20 +1,19 @@
 #!/bin/bash
-# 20,000 random jobs through core.rs and through the engine in one process: answers, payloads, bindings, marks, constraints. Exits non-zero on a disagreement.
-# The engine is compiled from the sources that the gate proves after this, without their proofs: seconds instead of minutes.
+# 20,000 random jobs through core.rs and through the engine in one process: answers, payloads, bindings, marks, constraints. Then joinlog over streams of 600 KiB, beside
+# one call of the engine over the whole stream. Exits non-zero on a disagreement, and where cargo is missing, unless WITHOUT_CORE_RS=yes: so a green gate has made the
+# comparison, or says that it was told not to.
+# Engine and joinlog are compiled from the sources that the gate proves after this, without their proofs: seconds instead of minutes.
 cd "$(dirname "$0")" || exit 1
-home=${RATTLE_HOME:-$(dirname "$(dirname "$(readlink -f "$(command -v rt)")")")}
-own=$home/on/$(uname -m)
-if ! command -v cargo > /dev/null || [ ! -x "$own/bin/rattle-cases" ]; then
-  echo "no cargo, or no compiler without proofs: the comparison with core.rs is left out"
+if [ "${WITHOUT_CORE_RS-}" = yes ]; then
+  echo "told to leave out the comparison with core.rs"
   exit 0
 fi
-tmp=$(mktemp -d) && trap 'rm -rf "$tmp"' EXIT
-libs=()
-for d in $(sed -n 's/^\([a-z]*\):.*/\1/p' ../crates.txt); do
-  if [ "$d" != exports ] && [ -f "../crates/$d/src/lib.rt" ]; then libs+=(--lib "$d=../crates/$d/src/lib.rt"); fi
-done
-"$own/bin/rattle-cases" --toolchain "$own/toolchain" --staticlib "$tmp/libexports.a" ../crates/exports/src/lib.rt --crate-name exports \
-  --lib "std=$home/libs/std/src/lib.rt" "${libs[@]}" || exit 1
-export PONGIWARU_LIB=$tmp/libexports.a
+if ! command -v cargo > /dev/null; then
+  echo "no cargo, so no comparison with core.rs: WITHOUT_CORE_RS=yes leaves it out"
+  exit 1
+fi
+PONGIWARU_LIB=$(bash ../tools/quick_build.sh exports) || exit 1
+export PONGIWARU_LIB
+joinlog=$(bash ../tools/quick_build.sh joinlog) || exit 1
 cargo build --release --offline -j2 || exit 1
-target/release/oracle compare 1 20000
+target/release/oracle compare 1 20000 && target/release/oracle joinlog "$joinlog"

@@ -34,7 +34,7 @@ made_again() { # the replay list and what is made from it are what is stored
 }
 
 edges_again() { # the edges' jobs and what they print are what is stored
-  python3 ../tools/edges.py "$tmp/edges" || return 1
+  cargo build --release --offline -j1 --manifest-path ../rust/joblog/Cargo.toml && python3 ../tools/edges.py "$tmp/edges" || return 1
   for f in stdin stdout; do cmp "$tmp/edges/$f" "../crates/edges/$f" || return 1; done
 }
 

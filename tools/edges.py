@@ -5,21 +5,22 @@
 
 The marked calls have 01's logs (oracle/marked.txt), the streams of crates/replay/proofs/EdgeStreams.antt the logs that the definition
 computes. The jobs below stand at 01's limits: their answers 0 to 4 are core.rs's (oracle log), and each refusal is given here by the rule
-that it stands beside. A refused record leaves the state as it was, so core.rs is run without it.
+that it stands beside. A refused record leaves the state as it was, so core.rs is run without it. Wants oracle and rust/joblog built.
 """
 import os, re, struct, subprocess, sys
 
 ROOT = os.path.join(os.path.dirname(os.path.abspath(__file__)), '..')
 ORACLE = os.path.join(ROOT, 'oracle/target/release/oracle')
+JOBLOG = os.path.join(ROOT, 'rust/joblog/target/release/joblog')
 KEPT = 7  # the program prints the last seven lines of a log
 
 
-def oracle(*words, given=b''):
-    return subprocess.run([ORACLE] + list(words), input=given, stdout=subprocess.PIPE, check=True).stdout
+def run(*words, given=b''):
+    return subprocess.run(list(words), input=given, stdout=subprocess.PIPE, check=True).stdout
 
 
 def asm(text):
-    return oracle('asm', given=text.encode())
+    return run(JOBLOG, 'asm', given=text.encode())
 
 
 # ---- jobs whose logs are written elsewhere
@@ -45,7 +46,7 @@ def limit(name, *parts):
     lines = []
     for part in parts:
         lines += [part] if isinstance(part, tuple) else [(line, None) for line in part.split('\n') if line]
-    passed = oracle('log', given=asm('\n'.join(line for line, number in lines if number is None))).decode().split('\n')
+    passed = run(ORACLE, 'log', given=asm('\n'.join(line for line, number in lines if number is None))).decode().split('\n')
     log, k = [], 0
     for i, (line, number) in enumerate(lines):
         if number is None:

@@ -6,11 +6,12 @@
  * A fresh state is 24,069 words and 256 rows of parameter bytes, all zero:
  *
  *     static uint32_t state[PONGIWARU_WORDS];
- *     static uint8_t params[PONGIWARU_ROWS][8];
+ *     static uint8_t params[PONGIWARU_ROWS][PONGIWARU_ROW_BYTES];
  *
  * Words and rows belong together: lend those that the last call left. They may be kept, copied and lent again later.
  * Every pointer is to as many elements as the length beside it says, none is null (a length may be 0), and what a call may write
- * overlaps nothing else that it is lent. Calls on different states may run side by side.
+ * overlaps nothing else that it is lent. params has no length beside it: every call reads exactly PONGIWARU_ROWS rows, and
+ * pongiwaru_record and pongiwaru_job write as many. Calls on different states may run side by side.
  */
 #ifndef PONGIWARU_H
 #define PONGIWARU_H
@@ -22,28 +23,60 @@
 extern "C" {
 #endif
 
+/* PONGIWARU_VERSION changes with the records, their answers or these functions, PONGIWARU_LAYOUT with what the words and rows of a
+ * state mean. Keep the layout's number beside a kept state. A later version of the same layout goes on with it; under another layout
+ * it may be 15 or be taken for another sound state, so don't lend it: run its records again from a fresh state. */
+#define PONGIWARU_VERSION 1
+#define PONGIWARU_LAYOUT 1
+
 enum {
-    PONGIWARU_WORDS = 24069, /* of a state; with another length it is 15 */
-    PONGIWARU_ROWS = 256,
-    PONGIWARU_ANSWER = 4096, /* the least answer buffer; a shorter one is 15 */
-    PONGIWARU_LINE = 8217    /* the log's room for one more line; a job with less takes no record */
+    PONGIWARU_WORDS = 24069,       /* of a state; with another length it is 15 */
+    PONGIWARU_ROWS = 256,          /* of params, at every call */
+    PONGIWARU_ROW_BYTES = 8,
+    PONGIWARU_RECORD_BYTES = 4096, /* the most that a record has; a longer one is 5 */
+    PONGIWARU_ANSWER_BYTES = 4096, /* the least answer buffer; a shorter one is 15 */
+    PONGIWARU_LINE_BYTES = 8217    /* the log's room for one more line; a job with less takes no record */
 };
 
-/* One record, lent whole: bytes left over are 5. The result is the answer's number, 0 to 15. The payload stands in front of answer,
- * and *length is how long it is; the rest of answer is as it was. 5 to 15 have no payload and leave state and params as they were. */
-uint32_t pongiwaru_record(uint32_t *state, size_t state_length, uint8_t (*params)[8],
+/* The number of an answer. 0 to 4 may have a payload and change the state; 5 to 15 have none and leave all as it was. */
+enum pongiwaru_number {
+    PONGIWARU_TYPED = 0,
+    PONGIWARU_SUBTYPE_ERROR = 1,
+    PONGIWARU_INCOMPATIBLE = 2,
+    PONGIWARU_ARITY_MISMATCH = 3,
+    PONGIWARU_RECURSIVE_TYPE = 4,
+    PONGIWARU_MALFORMED = 5,
+    PONGIWARU_UNKNOWN_NAME = 6,
+    PONGIWARU_FULL = 7,
+    PONGIWARU_TOO_DEEP = 8,
+    PONGIWARU_RUNS_INTO_ITSELF = 9,
+    PONGIWARU_ABILITIES_DISAGREE = 10,
+    PONGIWARU_OPEN_VARIABLE = 11,
+    PONGIWARU_NO_ARGUMENT = 12,
+    PONGIWARU_PARAMETER_TWICE = 13,
+    PONGIWARU_ANSWER_TOO_LONG = 14,
+    PONGIWARU_UNSOUND_STATE = 15 /* words and params that are no sound state's, or an answer buffer that is too short */
+};
+
+/* One record, lent whole: bytes left over are 5. The result is the answer's number. The payload stands in front of answer, and
+ * *length is how long it is; the rest of answer is as it was. */
+uint32_t pongiwaru_record(uint32_t *state, size_t state_length, uint8_t params[PONGIWARU_ROWS][PONGIWARU_ROW_BYTES],
                           const uint8_t *record, size_t record_length,
                           uint8_t *answer, size_t answer_length, uint32_t *length);
 
-/* How many bytes of the stream are left after the record at its head: the last *rest. All of them on 5, 6 and 15. The state is as it was. */
-void pongiwaru_split(uint32_t *state, size_t state_length, const uint8_t (*params)[8],
+/* How many bytes of the stream are left after the record at its head: the last *rest. All of them on 5, 6 and 15. State and params
+ * are as they were; params is not const, since C before C23 refuses an array of rows that is not const where const rows are wanted. */
+void pongiwaru_split(uint32_t *state, size_t state_length, uint8_t params[PONGIWARU_ROWS][PONGIWARU_ROW_BYTES],
                      const uint8_t *stream, size_t stream_length, size_t *rest);
 
 /* A job's next lines, those of as many records as the bytes hold whole and the log has room for. more: further bytes follow these,
  * so a record is taken only where 4,096 bytes are at hand. *place is the next record's number, from 0. The result is 0, or 15 for a
  * state that is not sound. *read and *written say how much of stream and log was used. *ended: nothing follows, after a 5, a 6, a 15
- * or the last record. */
-uint32_t pongiwaru_job(uint32_t *state, size_t state_length, uint8_t (*params)[8],
+ * or the last record.
+ * A call that has not ended is made again, on the bytes that were not read. Where it read nothing it waits: with more, for the bytes
+ * that follow; for a log of PONGIWARU_LINE_BYTES; or for ever, where *place is UINT64_MAX, since record numbers end one below it.
+ * A caller that lends a *place of its own tests for that and stops; a count from 0 does not come so far. */
+uint32_t pongiwaru_job(uint32_t *state, size_t state_length, uint8_t params[PONGIWARU_ROWS][PONGIWARU_ROW_BYTES],
                        const uint8_t *stream, size_t stream_length, bool more,
                        uint8_t *log, size_t log_length, size_t *written, size_t *read,
                        uint64_t *place, bool *ended);

@@ -4,19 +4,13 @@ use crate::{
     lent::{encode, sound, Params, View},
     record,
 };
+use pongiwaru::lent;
 
-pub const MIN_ANSWER: usize = 4096;
+pub const MIN_ANSWER: usize = pongiwaru::ANSWER_BYTES;
 /// room that a log needs for one line more
-pub const LINE: usize = 8217;
+pub const LINE: usize = pongiwaru::LINE_BYTES;
 
-/// What a job's call gives beside words and log.
-#[derive(Debug, Clone, Copy, Default, PartialEq, Eq)]
-pub struct Lines {
-    pub written: usize,
-    pub read: usize,
-    pub place: u64,
-    pub ended: bool,
-}
+pub use pongiwaru::lent::Progress as Lines;
 
 pub trait Calls {
     /// whether nodes, places and depth are counted as 01 says
@@ -27,7 +21,7 @@ pub trait Calls {
     fn record(&self, state: &mut [u32], params: &mut Params, record: &[u8], answer: &mut [u8], length: &mut u32)
         -> u32;
     /// How many bytes of the stream are left after one record.
-    fn split(&self, state: &mut [u32], params: &Params, stream: &[u8], rest: &mut usize);
+    fn split(&self, state: &mut [u32], params: &mut Params, stream: &[u8], rest: &mut usize);
     /// A job's next lines, `lines.place` on: 0, or 15.
     fn job(
         &self,
@@ -42,48 +36,8 @@ pub trait Calls {
 
 //---- the engine ------------------------------------------------------------------------------------------
 
-#[cfg(linked)]
 pub struct Engine;
 
-#[cfg(linked)]
-mod archive {
-    extern "C" {
-        pub fn pongiwaru_record(
-            state: *mut u32,
-            words: usize,
-            params: *mut u8,
-            record: *const u8,
-            bytes: usize,
-            answer: *mut u8,
-            room: usize,
-            length: *mut u32,
-        ) -> u32;
-        pub fn pongiwaru_split(
-            state: *mut u32,
-            words: usize,
-            params: *const u8,
-            stream: *const u8,
-            bytes: usize,
-            rest: *mut usize,
-        );
-        pub fn pongiwaru_job(
-            state: *mut u32,
-            words: usize,
-            params: *mut u8,
-            stream: *const u8,
-            bytes: usize,
-            more: bool,
-            log: *mut u8,
-            room: usize,
-            written: *mut usize,
-            read: *mut usize,
-            place: *mut u64,
-            ended: *mut bool,
-        ) -> u32;
-    }
-}
-
-#[cfg(linked)]
 impl Calls for Engine {
     fn record(
         &self,
@@ -93,17 +47,11 @@ impl Calls for Engine {
         answer: &mut [u8],
         length: &mut u32,
     ) -> u32 {
-        let (words, bytes, room) = (state.len(), record.len(), answer.len());
-        let (state, params) = (state.as_mut_ptr(), params.as_mut_ptr().cast());
-        // each pointer comes with its slice's own length
-        unsafe {
-            archive::pongiwaru_record(state, words, params, record.as_ptr(), bytes, answer.as_mut_ptr(), room, length)
-        }
+        lent::record(state, params, record, answer, length)
     }
 
-    fn split(&self, state: &mut [u32], params: &Params, stream: &[u8], rest: &mut usize) {
-        let (words, params) = (state.len(), params.as_ptr().cast());
-        unsafe { archive::pongiwaru_split(state.as_mut_ptr(), words, params, stream.as_ptr(), stream.len(), rest) }
+    fn split(&self, state: &mut [u32], params: &mut Params, stream: &[u8], rest: &mut usize) {
+        lent::split(state, params, stream, rest)
     }
 
     fn job(
@@ -115,24 +63,13 @@ impl Calls for Engine {
         log: &mut [u8],
         lines: &mut Lines,
     ) -> u32 {
-        let (words, bytes, room) = (state.len(), stream.len(), log.len());
-        let (state, params, stream, log) =
-            (state.as_mut_ptr(), params.as_mut_ptr().cast(), stream.as_ptr(), log.as_mut_ptr());
-        let Lines { written, read, place, ended } = lines;
-        unsafe {
-            archive::pongiwaru_job(state, words, params, stream, bytes, more, log, room, written, read, place, ended)
-        }
+        lent::job(state, params, stream, more, log, lines)
     }
 }
 
 /// The engine; without its archive, none.
-#[cfg(linked)]
 pub fn engine() -> Option<&'static (dyn Calls + Sync)> {
-    Some(&Engine)
-}
-#[cfg(not(linked))]
-pub fn engine() -> Option<&'static (dyn Calls + Sync)> {
-    None
+    pongiwaru::LINKED.then_some(&Engine as &(dyn Calls + Sync))
 }
 
 //---- core.rs behind the same calls, to try the harness itself -------------------------------------------------
@@ -182,7 +119,7 @@ impl Calls for Mimic {
         }
         let mut job = job_of(View { words: state, params });
         let outcome = match record::read_record(record, job.known()) {
-            Err(number) => return number as u32,
+            Err(x) => return x.number as u32,
             Ok((_, n)) if n < record.len() => return 5,
             Ok((r, _)) => job.record(&r),
         };
@@ -194,7 +131,7 @@ impl Calls for Mimic {
         Mimic::number(&outcome)
     }
 
-    fn split(&self, state: &mut [u32], params: &Params, stream: &[u8], rest: &mut usize) {
+    fn split(&self, state: &mut [u32], params: &mut Params, stream: &[u8], rest: &mut usize) {
         *rest = stream.len();
         if sound(state, params).is_ok() {
             let job = job_of(View { words: state, params });

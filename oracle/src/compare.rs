@@ -8,7 +8,8 @@ use crate::{
     lent::{self, Lent, Params},
     record::{self, hex, Record},
     shrink::shrink,
-    text::{disassemble, state_text},
+    state_text::state_text,
+    text::disassemble,
 };
 use std::collections::BTreeMap;
 
@@ -401,7 +402,7 @@ impl Calls for Altered<'_> {
         self.calls.counts()
     }
 
-    fn split(&self, state: &mut [u32], params: &Params, stream: &[u8], rest: &mut usize) {
+    fn split(&self, state: &mut [u32], params: &mut Params, stream: &[u8], rest: &mut usize) {
         self.calls.split(state, params, stream, rest)
     }
 

@@ -50,7 +50,7 @@ type Tried = Result<(), String>;
 fn expected(s: View, bytes: &[u8]) -> (Outcome, Job) {
     let mut job = job_of(s);
     let outcome = match read_record(bytes, job.known()) {
-        Err(n) => Outcome::Refused(n, "not read".into()),
+        Err(x) => Outcome::Refused(x.number, x.rule.into()),
         Ok((_, n)) if n < bytes.len() => Outcome::Refused(5, "bytes left over".into()),
         Ok((r, _)) => job.record(&r),
     };
@@ -115,7 +115,7 @@ fn stream(lender: &mut Lender, bytes: &[u8], tally: &mut Tally) -> Tried {
     let line = match first {
         Ok(_) if large || verdict.is_err() => None,
         Ok(n) if n > 0 => Some(answer_text(&expected(lender.view(), &bytes[..n]).0)),
-        _ => first.err().filter(|_| !bytes.is_empty()).map(|n| n.to_string()),
+        _ => first.err().filter(|_| !bytes.is_empty()).map(|x| x.number.to_string()),
     };
     let (number, lines, log) = lender.job(bytes, false, LINE, 0)?;
     tally.add("split and job");

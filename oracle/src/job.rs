@@ -16,7 +16,7 @@ use crate::{
     parser::ast::{Ability_, ModuleName, StructName},
     record::{self, Kind, Known, Record, Ty},
     shared::{unique_map::UniqueMap, CompilationEnv, Counter, NumericalAddress},
-    text,
+    state_text::state_text,
     typing::{
         core::{self, probe as cprobe, Constraint, Context, ModuleInfo, Subst, TypingError},
         expand,
@@ -294,7 +294,7 @@ impl Job {
     pub fn next(&mut self, stream: &[u8]) -> (Outcome, usize) {
         match record::read_record(stream, &self.known) {
             Ok((r, n)) => (self.record(&r), n),
-            Err(number) => (Outcome::Refused(number, "not read".into()), 0),
+            Err(x) => (Outcome::Refused(x.number, format!("not read: byte {}, {}", x.at, x.rule)), 0),
         }
     }
 
@@ -636,7 +636,7 @@ pub fn log(stream: &[u8], options: Options, notes: bool, states: bool) -> String
             _ => (),
         }
         if states {
-            writeln!(out, "# {}", text::state_text(&job.state())).unwrap();
+            writeln!(out, "# {}", state_text(&job.state())).unwrap();
         }
         n += 1;
     });

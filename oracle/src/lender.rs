@@ -180,7 +180,7 @@ impl<'a> Lender<'a> {
     pub fn split(&mut self, stream: &[u8]) -> Result<usize, Fault> {
         self.prepare(stream, 0);
         let mut rest = Guarded::new(&[usize::MAX], usize::MAX / 3);
-        let params: &Params = self.params.get().try_into().unwrap();
+        let params: &mut Params = self.params.get_mut().try_into().unwrap();
         self.calls.split(self.words.get_mut(), params, self.input.get(), &mut rest.get_mut()[0]);
         self.kept(stream, 0)?;
         if !rest.unhurt() || !self.unchanged() {

@@ -94,8 +94,10 @@ pub mod lender;
 pub mod lent;
 pub mod list;
 pub mod order;
-pub mod record;
-pub mod show;
+pub mod program;
 pub mod shrink;
-pub mod text;
+pub mod state_text;
 pub mod traps;
+
+/// the record form, jobs as text and the printer, under the names that this crate uses
+pub use joblog::{record, show, text};

@@ -4,9 +4,7 @@ use oracle::{
     calls::{self, Calls},
     compare, damage, gen, job,
     job::Options,
-    list, order, show,
-    text::{assemble, disassemble, Detail},
-    traps,
+    list, order, program, traps,
 };
 use std::{
     fs,
@@ -29,9 +27,7 @@ oracle damage records|states|wild SEED COUNT           damaged records, damaged 
 oracle traps                                          types with more parts than nodes, deep and looped ones
 oracle bench [RUNS]                                   records per second beside core.rs
 oracle bench once WORK SIDE TIMES                     the same job again and again, for a profiler
-oracle asm [--number] [TEXT]                          text to bytes
-oracle disasm [STREAM]                                bytes to text
-oracle show [--full] JOB LOG                          a job and its log for people
+oracle joinlog PROGRAM                                joinlog beside one call of the engine
 Without a file, stdin is read.";
 
 fn fail(message: &str) -> ! {
@@ -192,17 +188,13 @@ fn run(args: Vec<String>) -> i32 {
             return (slowest >= traps::LIMIT) as i32;
         }
         Some("damage") => return hurt(&words, engine(flag("--mimic"))),
-        Some("asm") => match assemble(&read_text(words.get(1)), flag("--number")) {
-            Ok(bytes) => write(&bytes),
-            Err(e) => fail(&e),
+        Some("joinlog") if words.len() == 2 => match program::run(engine(false), words[1].as_ref()) {
+            Ok(told) => print!("{}", told),
+            Err(what) => {
+                println!("JOINLOG DIFFERS: {}", what);
+                return 1;
+            }
         },
-        Some("disasm") => write(disassemble(&read(words.get(1))).as_bytes()),
-        Some("show") if words.len() == 3 => {
-            let detail = if flag("--full") { Detail::Full } else { Detail::Types };
-            let (lines, summary) = show::show(&read(words.get(1)), &read_text(words.get(2)), detail);
-            println!("{}{}", lines, summary.text());
-            return summary.code();
-        }
         _ => fail(USAGE),
     }
     0

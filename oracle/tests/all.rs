@@ -1,10 +1,14 @@
 //! What test.sh runs, under both maps.
+use joblog::{
+    diff::{diff, Difference},
+    location::blank_record,
+};
 use oracle::{
     gen::{self, Chance, Made},
     job::{self, with_stack, Job, Options, Outcome},
     list, order,
     record::{self, hex, read_record, Record},
-    show::show,
+    show::{self, show},
     text::{assemble, disassemble, Detail},
 };
 use std::collections::BTreeSet;
@@ -231,35 +235,6 @@ fn text_round_trip_of_spoilt_streams() {
 }
 
 #[test]
-fn text_that_is_no_job_is_refused() {
-    let lines = [
-        "XX u8",
-        "JN u8",
-        "JN u8 u8",
-        "JN u8, u8, u8",
-        "UF (u8)",
-        "UF vector",
-        "UF u8<u8>",
-        "UF V70000",
-        "UF Q1",
-        "UF u8{fly}",
-        "UF (_, _, _, _, _, _, _, _, _)",
-        "SN u8",
-        "NC often u8",
-        "TS P1 = u8 u8",
-        "SD copy",
-        "hex 0",
-        "UF &muty",
-        "FV @4294967296",
-        "SD {} <{}, {}>\nUF S0<u8>",
-    ];
-    for line in lines {
-        assert!(assemble(line, false).is_err(), "{}", line)
-    }
-    assert_eq!(assemble("SV\n\n  UF  Q1", false), Err("line 3: a type is wanted at `Q1`".into()));
-}
-
-#[test]
 fn records_round_trip() {
     let m = gen::random(15, 0, 60, None, true);
     let (mut known, mut rest) = (oracle::text::any_variable(), &m.stream[..]);
@@ -276,35 +251,42 @@ fn records_round_trip() {
 //---- printer ------------------------------------------------------------------------------------------------------
 
 #[test]
-fn a_job_and_its_log_for_people() {
-    let stream = asm("FV\nJN V0, vector<u64>\nSU &u8, &mut u8\nJN (u8, bool), (u8,)\nSC ()\nSV\nJN (), _");
-    let (lines, summary) = show(&stream, &log(&stream), Detail::Types);
-    let wanted = "\
-0 FV   → typed V0
-1 JN  V0  ~  vector<u64>   → typed V0
-2 SU  &u8  <:  &mut u8   → subtype error: &u8 where &mut u8 is wanted
-3 JN  (u8, bool)  ~  (u8,)   → arity mismatch: (u8, bool) and (u8,)
-4 SC  ()   → typed
-5 SV   → typed; failed: () is no single type (constraint @14)
-6 JN  ()  ~  _   → typed ()
-";
-    assert_eq!(lines, wanted);
-    let wanted = "7 records; 0 typed: 5, 1 subtype error: 1, 3 arity mismatch: 1; failed constraints: 1; first error: record 2, subtype error";
-    assert_eq!((summary.text().as_str(), summary.code()), (wanted, 1));
-    let stream = asm("FV\nUF V0");
-    assert_eq!(show(&stream, &log(&stream), Detail::Types).1.code(), 0);
-    for log in ["", "0 0 06010000000000\n", "0 0 06010000000000\n1 0 0702000000\n2 0\n", "0 0 0601\n1 0 0702000000\n"] {
-        assert_eq!(show(&stream, log, Detail::Types).1.code(), 2, "{}", log)
-    }
-}
-
-#[test]
 fn every_made_job_can_be_shown() {
     with_stack(|| {
         for m in made() {
             let e = list::entry(&m);
-            let (_, summary) = show(&e.stream, &e.log, Detail::Full);
+            let shown = show::Options { detail: Detail::Full, why: true, ..Default::default() };
+            let (_, summary) = show(&e.stream, &e.log, shown);
             assert_eq!(summary.wrong, None, "{}", m.name);
+        }
+    })
+}
+
+//---- R-4 ----------------------------------------------------------------------------------------------------------
+
+/// a stream with every location field set to 0
+fn blanked(m: &Made) -> Vec<u8> {
+    let (mut out, mut known, mut rest) = (vec![], oracle::text::any_variable(), &m.stream[..]);
+    while let Ok((r, n)) = read_record(rest, &known) {
+        out.extend(blank_record(&rest[..n], &known.params));
+        if let Record::SD(_, params) = r {
+            known.params.push(params.len())
+        }
+        rest = &rest[n..];
+    }
+    out.extend(blank_record(rest, &known.params));
+    out
+}
+
+#[test]
+fn locations_decide_nothing() {
+    with_stack(|| {
+        for m in made().iter().filter(|m| !REAL_MAP || !disassemble(&m.stream).contains("SV")) {
+            let (one, two) = (&m.stream, &blanked(m));
+            match diff((one, &log(one)), (two, &log(two))) {
+                Difference::None(_) => (),
+                Difference::Found(what) | Difference::Misfit(_, what) => panic!("{}: {}", m.name, what),
+            }
         }
     })
 }

@@ -233,7 +233,7 @@ impl Calls for Careless {
             (_, n) => n,
         }
     }
-    fn split(&self, w: &mut [u32], p: &Params, stream: &[u8], rest: &mut usize) {
+    fn split(&self, w: &mut [u32], p: &mut Params, stream: &[u8], rest: &mut usize) {
         Mimic.split(w, p, stream, rest)
     }
     fn job(&self, w: &mut [u32], p: &mut Params, s: &[u8], more: bool, log: &mut [u8], lines: &mut Lines) -> u32 {

@@ -1,4 +1,5 @@
 // Which arm of join_impl two types take: the match of typing/core.rs on both operands, with its guards.
+// Changed from the source that NOTICE names: ported to Rattle.
 ghost use Rattle.definition.specs.Join as d;
 ghost use mathlib.Core.Path.{_≡_};
 ghost use Rattle.names.specs.Names.{mark-of, name-of};

@@ -1,4 +1,5 @@
 // typing/core.rs: a constraint is listed; solve_constraints: numeric variables that nothing decides become u64, and which constraints stay.
+// Changed from the source that NOTICE names: ported to Rattle.
 ghost use mathlib.Core.Path.{_≡_};
 ghost use mathlib.Core.List.{List, [], _∷_};
 ghost use Prim.Native.Nat.{ℕ, _+_, _*_, _≤_, _<_};

@@ -1,4 +1,5 @@
 // typing/core.rs: solve_builtin_type_constraint, solve_base_type_constraint, solve_single_type_constraint: what the Rust reports as a message.
+// Changed from the source that NOTICE names: ported to Rattle.
 ghost use mathlib.Core.Path.{_≡_};
 ghost use mathlib.Core.List.{List};
 ghost use mathlib.Core.Bool.{not};

@@ -1,5 +1,6 @@
 // typing/core.rs: make_tvar, instantiate, instantiate_apply, instantiate_type_args, make_tparams.
 // The declarations' parameter bytes stand beside the words, eight to a struct.
+// Changed from the source that NOTICE names: ported to Rattle.
 ghost use mathlib.Core.Path.{_≡_};
 ghost use mathlib.Core.List.{List, []};
 ghost use Prim.Native.Nat.{ℕ, _<_, _≤_, _%_, min};

@@ -1,4 +1,5 @@
 // typing/core.rs: join, subtype, join_impl, join_impl_types, join_tvar. What calls no join is in `arms` and `merge`.
+// Changed from the source that NOTICE names: ported to Rattle.
 ghost use mathlib.Core.Path.{_≡_};
 ghost use Prim.Native.Nat.{ℕ, _≤_, _<_};
 ghost use Rattle.definition.specs.Types.{if_then_else_};

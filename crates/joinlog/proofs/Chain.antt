@@ -1,15 +1,13 @@
 -- A run's turns so far, and how they end. Assumes nothing.
-use mathlib.Core.Path.{_≡_, refl}
+use mathlib.Core.Path.{_≡_, refl, sym, _∙_}
 use mathlib.Core.Bool.{true, false}
 use mathlib.Core.List.{List, [], _∷_}
-use Prim.Native.Nat.{ℕ, zero, suc, _+_, _-_, _<_}
+use Prim.Native.Nat.{ℕ, zero, suc, _+_, _-_, _≤_, _<_}
 use native.Mathlib.Omega.{arith}
-use lib.ListN.{take, drop}
+use lib.ListN.{length, take, drop}
 use Rattle.definition.specs.Write.{Is-bytes}
 use Rattle.definition.proofs.WellRead.{bytes-append}
-use Rattle.joinlog.specs.declared.Turn.{Turn}
-use Rattle.joinlog.specs.Turns.{Turned, reads, lists, bytes-read, first, Turns, none, and-turn, Ran, Fresh}
-use Rattle.joinlog.proofs.Moves.{clash}
+use Rattle.joinlog.specs.Turns.{Within, Held, held, Turned, reads, lists, bytes-read, first, Turns, none, and-turn, Ran, Fresh}
 use Rattle.joinlog.proofs.Logs.{turns-log, turns-front}
 
 bytes-take : (n : ℕ) (l : List ℕ) → Is-bytes l → Is-bytes (take n l)
@@ -22,32 +20,30 @@ bytes-drop zero l is = is
 bytes-drop (suc n) [] is = tt
 bytes-drop (suc n) (x ∷ l) is = bytes-drop n l (is .1)
 
-read-bytes : {w : List ℕ} {rows : List (List ℕ)} {buf log : List ℕ} {t : Turn} {w′ : List ℕ} {rows′ : List (List ℕ)} {buf′ log′ : List ℕ} {t′ : Turn} (d : Turned w rows buf log t w′ rows′ buf′ log′ t′) → Is-bytes buf′ → Is-bytes (bytes-read d)
+read-bytes : (h : Held) → Is-bytes (h .buf) → Is-bytes (bytes-read h)
 unfolding bytes-read
-read-bytes {t} {buf′} {t′} (reads more few words kept same f) is = bytes-take (t′ .have - (t .have - t .from)) (drop (t .have - t .from) buf′) (bytes-drop (t .have - t .from) buf′ is)
-read-bytes (lists whole same onward end follow l) is = tt
+read-bytes h is = bytes-take (h .turn .read) _ (bytes-drop (h .turn .have - h .turn .read) (h .buf) is)
+
+turned-within : {h h′ : Held} → Turned h h′ → length (h′ .buf) ≡ length (h .buf) → Within (h′ .turn) (h′ .buf)
+turned-within (reads cut ew er el f) e = record { ordered = omega (arith, f .front); inside = omega (arith, f .inside) }
+turned-within (lists whole l) e = record { ordered = l .within .ordered; inside = omega (arith, l .within .inside) }
 
 -- as many turns as were counted off
-pub record Going (w₀ : List ℕ) (rows₀ : List (List ℕ)) (buf₀ log₀ w : List ℕ) (rows : List (List ℕ)) (buf log : List ℕ) (t : Turn) (left : ℕ) : Type 0 where
+pub record Going (h₀ h : Held) (left : ℕ) : Type 0 where
   pub count : ℕ
   pub input : List ℕ
   pub output : List ℕ
-  pub turns : Turns w₀ rows₀ buf₀ log₀ count input output w rows buf log t
+  pub turns : Turns h₀ count input output h
   pub bytes : Is-bytes input
+  pub within : Within (h .turn) (h .buf)
   pub of-all : count + left ≡ 18446744073709551615
 
-module _ (w₀ : List ℕ) (rows₀ : List (List ℕ)) (buf₀ log₀ : List ℕ) where
-  pub going-none : Going w₀ rows₀ buf₀ log₀ w₀ rows₀ buf₀ log₀ first 18446744073709551615
-  going-none = record { count = 0; input = []; output = []; turns = none; bytes = tt; of-all = refl }
+pub going-none : (words : List ℕ) (rows : List (List ℕ)) (buf log : List ℕ) → Going (held words rows buf log first) (held words rows buf log first) 18446744073709551615
+going-none words rows buf log = record { count = 0; input = []; output = []; turns = none; bytes = tt; within = record { ordered = omega arith; inside = omega arith }; of-all = refl }
 
-  module _ (w : List ℕ) (rows : List (List ℕ)) (buf log : List ℕ) (t : Turn) (left : ℕ) (g : Going w₀ rows₀ buf₀ log₀ w rows buf log t left) where
-    pub going-on : t .ended ≡ false → 0 < left → (w′ : List ℕ) (rows′ : List (List ℕ)) (buf′ log′ : List ℕ) (t′ : Turn) → Is-bytes buf′ → Turned w rows buf log t w′ rows′ buf′ log′ t′ → Going w₀ rows₀ buf₀ log₀ w′ rows′ buf′ log′ t′ (left - 1)
-    going-on e l w′ rows′ buf′ log′ t′ is d = record { count = suc (g .count); input = _; output = _; turns = and-turn (g .turns) e d; bytes = bytes-append (g .input) (bytes-read d) (g .bytes) (read-bytes d is); of-all = omega (arith, g .of-all) }
+pub going-on : {h₀ h h′ : Held} {left : ℕ} → Going h₀ h left → h .turn .ended ≡ false → 0 < left → Turned h h′ → length (h′ .buf) ≡ length (h .buf) → Is-bytes (h′ .buf) → Going h₀ h′ (left - 1)
+going-on {h′} g e l d same is = record { count = suc (g .count); input = _; output = _; turns = and-turn (g .turns) e d; bytes = bytes-append (g .input) (bytes-read h′) (g .bytes) (read-bytes h′ is); within = turned-within d same; of-all = omega (arith, g .of-all) }
 
-    -- the job ended
-    pub going-ended : Fresh w₀ rows₀ → t .ended ≡ true → Ran w₀ rows₀ buf₀ log₀ w rows buf log t
-    going-ended s e = record { count = g .count; input = g .input; output = g .output; turns = g .turns; bytes = g .bytes; front = turns-front w₀ rows₀ buf₀ log₀ s (g .count) (g .input) (g .output) w rows buf log t (g .turns) (g .bytes); log = λ e o. turns-log w₀ rows₀ buf₀ log₀ s (g .count) (g .input) (g .output) w rows buf log t (g .turns) e o (g .bytes); all = λ h. clash e h }
-
-    -- no turn is left
-    pub going-spent : Fresh w₀ rows₀ → left ≡ 0 → Ran w₀ rows₀ buf₀ log₀ w rows buf log t
-    going-spent s z = record { count = g .count; input = g .input; output = g .output; turns = g .turns; bytes = g .bytes; front = turns-front w₀ rows₀ buf₀ log₀ s (g .count) (g .input) (g .output) w rows buf log t (g .turns) (g .bytes); log = λ e o. turns-log w₀ rows₀ buf₀ log₀ s (g .count) (g .input) (g .output) w rows buf log t (g .turns) e o (g .bytes); all = λ h. omega (arith, g .of-all) }
+-- the job ended, or no turn is left
+pub ran : {words : List ℕ} {rows : List (List ℕ)} {buf log : List ℕ} {h : Held} {left : ℕ} → Fresh words rows → Going (held words rows buf log first) h left → (h .turn .ended ≡ false → left ≡ 0) → Ran (held words rows buf log first) h
+ran {words} {rows} {buf} {log} s g z = record { count = g .count; input = g .input; output = g .output; turns = g .turns; bytes = g .bytes; all = λ e. omega (arith, g .of-all, z e); front = turns-front words rows buf log s (g .turns) (g .bytes); log = turns-log words rows buf log s (g .turns) (g .bytes) }

@@ -1,25 +1,40 @@
 // Reads a stream of records from standard input, starts from a fresh state, and writes the log: a line for each record.
-ghost use Prim.Native.Nat.{_+_, _≤_};
+ghost use Prim.Native.Nat.{_+_, _-_, _≤_, _<_};
 ghost use mathlib.Core.Path.{_≡_};
-ghost use mathlib.Core.Bool.{not, _||_};
+ghost use mathlib.Core.Bool.{true, not, _||_};
 ghost use lib.ListN.{length, take};
-ghost use Rattle.joinlog.specs.Turns.{negative, at-hand, Fresh, Refilled, Filled, Listed, Turned, Ran};
+ghost use Rattle.joinlog.specs.Turns.{negative, Within, short, at-hand, held, first, Fresh, Behind, Filled, Listed, Turned, Ran};
 
-// Where the bytes at hand begin and end, whether more may follow them, the next record's number, whether the job ended, and whether a read or a write failed.
+// Where the bytes at hand begin and end in the buffer, whether more may follow them, and the next record's number; how many bytes the last turn read and how much text
+// it handed to the writer; whether the job ended, and whether that is because a read or a write failed.
 struct Turn {
     from: usize,
     have: usize,
     more: bool,
     place: u64,
+    read: usize,
+    written: usize,
     ended: bool,
     lost: bool,
 }
 
-// Where the bytes read end, and whether the last read failed.
-struct Behind {
-    end: usize,
+// How many bytes a read brought or a writer was handed, and whether it failed.
+struct Moved {
+    count: usize,
     failed: bool,
 }
+
+// One test or the other.
+fn either(a: bool, b: bool) -> bool
+    ensures { λ r. ⌜ r ≡ (a || b) ⌝ }
+{
+    if a {
+        return true;
+    }
+    b
+}
+
+// ---- reading
 
 // Moves the bytes from `from` up to `have` to the front, and says how many they are.
 fn shift(buf: &mut [u8], from: usize, have: usize) -> usize
@@ -35,16 +50,6 @@ fn shift(buf: &mut [u8], from: usize, have: usize) -> usize
     left
 }
 
-// One test or the other.
-fn either(a: bool, b: bool) -> bool
-    ensures { λ r. ⌜ r ≡ (a || b) ⌝ }
-{
-    if a {
-        return true;
-    }
-    b
-}
-
 // A read that fails ends the job, and not in silence.
 fn unread(got: isize) -> bool
     ensures { λ r. ⌜ r ≡ negative got ⌝ }
@@ -55,6 +60,43 @@ fn unread(got: isize) -> bool
     }
     false
 }
+
+// One read, behind the first `have` bytes. It needs room: into none a read brings nothing, as at the stream's end.
+fn read_behind(buf: &mut [u8], have: usize) -> Moved
+    requires { ⌜ have < length (now buf) ⌝ }
+    ensures { λ r. ⌜ Behind (now (buf .entry)) have (now (buf .exit)) r ⌝ }
+{
+    let part = &mut buf[have..];
+    let got = libc::read(0, part);
+    let n = io::count(got, part);
+    Moved {
+        count: n,
+        failed: unread(got),
+    }
+}
+
+// What is left goes to the front, and one read brings what is there behind it. A read that brings nothing, and did not fail, is the stream's end.
+fn fill(buf: &mut [u8], t: Turn) -> Turn
+    requires { ⌜ Within t (now buf) × (t .have - t .from < length (now buf)) ⌝ }
+    ensures { λ r. ⌜ Filled (now (buf .entry)) t (now (buf .exit)) r ⌝ }
+{
+    let left = shift(buf, t.from, t.have);
+    let got = read_behind(buf, left);
+    let n = got.count;
+    let front: usize = 0;
+    Turn {
+        from: front,
+        have: left + n,
+        more: either(0 < n, got.failed),
+        place: t.place,
+        read: n,
+        written: 0,
+        ended: got.failed,
+        lost: got.failed,
+    }
+}
+
+// ---- writing
 
 // A log that cannot be written ends the job.
 fn unwritten(done: bool) -> bool
@@ -67,71 +109,36 @@ fn unwritten(done: bool) -> bool
     true
 }
 
-// Reads behind the first `have` bytes until the buffer is full, nothing comes, or a read fails; where the bytes then end.
-fn refill(buf: &mut [u8], have: usize) -> Behind
-    requires { ⌜ have ≤ length (now buf) ⌝ }
-    ensures { λ r. ⌜ Refilled (now (buf .entry)) have (now (buf .exit)) r ⌝ }
+// Hands the first n bytes of the log to the writer.
+fn hand_over(log: &[u8], n: usize) -> Moved
+    requires { ⌜ n ≤ length (now log) ⌝ }
+    ensures { λ r. ⌜ r .count ≡ n ⌝ }
 {
-    let mut end = have;
-    while end < buf.len() {
-        let part = &mut buf[end..];
-        let got = libc::read(0, part);
-        let n = io::count(got, part);
-        if n == 0 {
-            return Behind {
-                end: end,
-                failed: unread(got),
-            };
-        }
-        end = end + n;
-    }
-    Behind {
-        end: end,
-        failed: false,
-    }
-}
-
-// What is left goes to the front, and the rest of the buffer is filled. A buffer that is not full then holds the end of the stream, unless a read failed: that ends the job.
-fn fill(buf: &mut [u8], from: usize, have: usize, place: u64) -> Turn
-    requires { ⌜ (from ≤ have) × (have ≤ length (now buf)) ⌝ }
-    ensures { λ r. ⌜ Filled (now (buf .entry)) from have place (now (buf .exit)) r ⌝ }
-{
-    let left = shift(buf, from, have);
-    let got = refill(buf, left);
-    let end = got.end;
-    let front: usize = 0;
-    Turn {
-        from: front,
-        have: end,
-        more: either(end == buf.len(), got.failed),
-        place: place,
-        ended: got.failed,
-        lost: got.failed,
+    let done = io::write_all(1, &log[0..n]);
+    Moved {
+        count: n,
+        failed: unwritten(done),
     }
 }
 
 // Writes the lines of the records at hand, as many as the log takes.
-fn list(
-    state: &mut [u32],
-    rows: &mut [[u8; 8]; 256],
-    stream: &[u8],
-    more: bool,
-    log: &mut [u8],
-    first: u64,
-) -> Turn
-    ensures { λ r. ⌜ Listed (now (state .entry)) (now (rows .entry)) (now (stream .entry)) more (now (log .entry)) first (now (state .exit)) (now (rows .exit)) (now (log .exit)) r ⌝ }
+fn list(state: &mut [u32], rows: &mut [[u8; 8]; 256], buf: &[u8], log: &mut [u8], t: Turn) -> Turn
+    requires { ⌜ Within t (now buf) ⌝ }
+    ensures { λ r. ⌜ Listed (held (now (state .entry)) (now (rows .entry)) (now (buf .entry)) (now (log .entry)) t) (held (now (state .exit)) (now (rows .exit)) (now (buf .entry)) (now (log .exit)) r) ⌝ }
 {
     let mut number: u32 = 0;
     let mut written: usize = 0;
     let mut read: usize = 0;
-    let mut place = first;
+    let mut place = t.place;
     let mut ended = false;
+    let from = t.from;
+    let have = t.have;
     let p = *rows;
     *rows = engine::job(
         state,
         p,
-        stream,
-        more,
+        &buf[from..have],
+        t.more,
         log,
         &mut number,
         &mut written,
@@ -139,16 +146,30 @@ fn list(
         &mut place,
         &mut ended,
     );
-    let done = io::write_all(1, &log[0..written]);
-    let lost = unwritten(done);
+    let handed = hand_over(log, written);
     Turn {
-        from: read,
-        have: 0,
-        more: more,
+        from: from + read,
+        have: have,
+        more: t.more,
         place: place,
-        ended: either(ended, lost),
-        lost: lost,
+        read: 0,
+        written: handed.count,
+        ended: either(ended, handed.failed),
+        lost: handed.failed,
     }
+}
+
+// ---- turns
+
+// Whether a record at hand may not be whole.
+fn short(t: Turn) -> bool
+    requires { ⌜ t .from ≤ t .have ⌝ }
+    ensures { λ r. ⌜ r ≡ short t ⌝ }
+{
+    if t.more {
+        return t.have - t.from < 4096;
+    }
+    false
 }
 
 // Reads on where a record may not be whole, else writes lines.
@@ -159,45 +180,32 @@ fn one_turn(
     log: &mut [u8],
     t: Turn,
 ) -> Turn
-    requires { ⌜ (t .from ≤ t .have) × (t .have ≤ length (now buf)) ⌝ }
-    ensures { λ r. ⌜ (r .from ≤ r .have) × (r .have ≤ length (now (buf .entry))) ⌝ }
-    ensures { λ r. ⌜ Turned (now (state .entry)) (now (rows .entry)) (now (buf .entry)) (now (log .entry)) t (now (state .exit)) (now (rows .exit)) (now (buf .exit)) (now (log .exit)) r ⌝ }
+    requires { ⌜ Within t (now buf) × (4096 ≤ length (now buf)) ⌝ }
+    ensures { λ r. ⌜ Turned (held (now (state .entry)) (now (rows .entry)) (now (buf .entry)) (now (log .entry)) t) (held (now (state .exit)) (now (rows .exit)) (now (buf .exit)) (now (log .exit)) r) ⌝ }
 {
-    let from = t.from;
-    let have = t.have;
-    let follow = t.more;
-    let place = t.place;
-    if follow {
-        if have - from < 4096 {
-            return fill(buf, from, have, place);
-        }
+    if short(t) {
+        return fill(buf, t);
     }
-    let l = list(state, rows, &buf[from..have], follow, log, place);
-    Turn {
-        from: from + l.from,
-        have: have,
-        more: follow,
-        place: l.place,
-        ended: l.ended,
-        lost: l.lost,
-    }
+    list(state, rows, buf, log, t)
 }
 
 // Turn after turn until one ends the job. Nothing says that the input ends, so turns are counted: more than any machine makes.
-// No contract can say what `libc::read` put or `io::write_all` took. Bytes read are those that stand in the buffer behind the bytes at hand, and text handed over is
-// what `list` put in front of the log: that just this part goes to descriptor 1 is to be seen in `list`.
+// No contract can say what `libc::read` put or `io::write_all` took: that bytes read are those that `read_behind` counts, behind those at hand, and text handed over those
+// that `hand_over` counts, in front of the log, is to be seen in these two.
 // Refused (must-fail/): numbers from 0 anew (place_from_zero) or from 1 (starts_at_one), no more after the first bytes (no_more), more for ever (always_more), two turns
-// (two_turns), words of no fresh state (words_of_one), an end after the first lines (ends_at_once), turns that neither read nor list (spins_at_4095), a failed read
-// that is passed over (unread_goes_on) or taken for the end (unread_is_the_end).
+// (two_turns), words of no fresh state (words_of_one), an end after the first lines (ends_at_once) or none after 6 (six_goes_on), turns that neither read nor list
+// (spins_at_4095), lines that are not handed over (nothing_handed_over), a failed read passed over (unread_goes_on) or taken for the end (unread_is_the_end).
 fn run(state: &mut [u32], rows: &mut [[u8; 8]; 256], buf: &mut [u8], log: &mut [u8]) -> Turn
-    requires { ⌜ Fresh (now state) (now rows) ⌝ }
-    ensures { λ r. ⌜ Ran (now (state .entry)) (now (rows .entry)) (now (buf .entry)) (now (log .entry)) (now (state .exit)) (now (rows .exit)) (now (buf .exit)) (now (log .exit)) r ⌝ }
+    requires { ⌜ Fresh (now state) (now rows) × (4096 ≤ length (now buf)) ⌝ }
+    ensures { λ r. ⌜ Ran (held (now (state .entry)) (now (rows .entry)) (now (buf .entry)) (now (log .entry)) first) (held (now (state .exit)) (now (rows .exit)) (now (buf .exit)) (now (log .exit)) r) ⌝ }
 {
     let mut t = Turn {
         from: 0,
         have: 0,
         more: true,
         place: 0,
+        read: 0,
+        written: 0,
         ended: false,
         lost: false,
     };

@@ -1,4 +1,5 @@
 // The variable merge around its inner join, and a variable that meets another type: what of join_tvar and join_impl calls no join.
+// Changed from the source that NOTICE names: ported to Rattle.
 ghost use mathlib.Core.Path.{_≡_};
 ghost use Prim.Native.Nat.{ℕ, _<_};
 ghost use Rattle.definition.specs.Join.{type-of, merge-num, shown, join-unbound};

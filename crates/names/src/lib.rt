@@ -1,4 +1,5 @@
 // Wrapped numbers, ability sets and marks, names of types, and the limits.
+// Changed from the source that NOTICE names: ported to Rattle.
 ghost use mathlib.Core.Path.{_≡_};
 ghost use mathlib.Core.Option.{some};
 ghost use Rattle.definition.specs.Types.{Builtin};

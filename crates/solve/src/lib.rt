@@ -1,4 +1,5 @@
 // SV: solve_constraints. Numeric variables that nothing decides become u64, the failures are the payload, and of the constraints only those stay that ask for abilities.
+// Changed from the source that NOTICE names: ported to Rattle.
 ghost use Prim.Native.Nat.{_≤_};
 ghost use lib.ListN.{length};
 ghost use Rattle.table.specs.State.{Lay, view};

@@ -1,4 +1,5 @@
 // typing/core.rs: chain ends, unfolding, numeric marks, the numeric check, the occurs walk, binding, types that run into themselves, ready_tvars.
+// Changed from the source that NOTICE names: ported to Rattle.
 ghost use mathlib.Core.Path.{_≡_};
 ghost use mathlib.Core.List.{List};
 ghost use Prim.Native.Nat.{ℕ, suc, _<_, _≤_};

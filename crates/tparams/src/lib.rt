@@ -1,4 +1,5 @@
 // typing/core.rs: make_tparam_subst, subst_tparams. A TParamSubst is n ids and n arguments, in two arrays.
+// Changed from the source that NOTICE names: ported to Rattle.
 ghost use mathlib.Core.Path.{_≡_};
 ghost use Prim.Native.Nat.{ℕ, _-_, _≤_, _<_};
 ghost use Rattle.definition.specs.Types.{Apply};

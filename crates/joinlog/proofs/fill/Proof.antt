@@ -1,19 +1,20 @@
 -- `joinlog::fill` meets its contract: what is left is moved, and read behind. Assumes nothing.
-use mathlib.Core.Path.{_∙_, _≡_, ap, refl}
-use Prim.Native.Nat.{_-_, ℕ}
+use mathlib.Core.Path.{_≡_, refl, ap, _∙_}
+use Prim.Native.Nat.{ℕ, _-_}
 use native.Mathlib.Omega.{arith}
 use borrow.Author.Needs.{needs}
-use mathlib.Core.Bool.{_||_}
-use lib.Dec.{eqb}
-use lib.ListN.{length, take}
-use Rattle.joinlog.proofs.fill.Tie as tie
+use lib.ListN.{take}
 use Rattle.joinlog.proofs.fill.Statement.{statement}
+use Rattle.joinlog.proofs.fill.Tie as tie
 
 shift-requires : tie.Need-shift-requires
 shift-requires c κs = search needs
 
-refill-requires : tie.Need-refill-requires
-refill-requires c κs = search needs
+read-behind-requires : tie.Need-read-behind-requires
+read-behind-requires c κs = search needs
+
+add-t11 : tie.Need-add-t11
+add-t11 c = search needs
 
 either-requires : tie.Need-either-requires
 either-requires c κs = search needs
@@ -22,20 +23,22 @@ same-length : tie.Need-same-length
 same-length c = search needs
 
 returns : tie.Need-returns
-returns c =
-    let m = c .before .before .before .before .before .before .before .shift .ensures in
-    let e = c .before .before .before .refill .ensures in
-    let q : c .before .before .before .before .before .before .before .before .before .before .args .have - c .before .before .before .before .before .before .before .before .before .before .args .from ≡ c .before .before .before .before .before .before .before .shift .result = omega arith in
-    let same : length (c .before .before .before .refill .last .0) ≡ length (c .before .before .before .before .before .before .before .before .before .before .args .buf .now) = search needs in
+returns c = let m = c .before .before .before .before .before .before .before .shift .ensures in
+    let e = c .before .before .before .read-behind .ensures in
+    let q : c .before .before .before .before .before .before .before .before .before .before .args .t .have - c .before .before .before .before .before .before .before .before .before .before .args .t .from ≡ c .before .before .before .before .before .before .before .shift .result = omega arith in
     record {
       front = refl;
-      kept = ap (λ (k : ℕ). take k (c .before .before .before .refill .last .0)) q ∙ e .kept ∙ m .1;
-      whole = omega (arith, e .whole);
-      within = search needs;
-      follow = c .either .ensures ∙ ap (λ (n : ℕ). eqb (c .before .before .before .refill .result .end) n || c .before .before .before .refill .result .failed) same;
-      next = refl;
+      kept = ap (λ (k : ℕ). take k (c .before .before .before .read-behind .last .0)) q ∙ e .kept ∙ m .1;
+      end = omega arith;
+      inside = search needs;
+      follow = c .either .ensures;
+      none = e .none;
+      same-place = refl;
+      silent = refl;
       ends = refl;
     }
 
 pub fill-spec : {M : Type 1} → statement M
-fill-spec = tie.close (tie.spec shift-requires refill-requires either-requires same-length returns)
+fill-spec =
+    tie.close
+    (tie.spec shift-requires read-behind-requires add-t11 either-requires same-length returns)

@@ -20,7 +20,7 @@ slice-aggregate-run-3 : tie.Need-slice-aggregate-run-3
 slice-aggregate-run-3 c = search needs
 
 run-requires : tie.Need-run-requires
-run-requires c κs = record { words = fresh-words; params = fresh-rows }
+run-requires c κs = (record { fresh-words = fresh-words; fresh-rows = fresh-rows }, search needs)
 
 returns : tie.Need-returns
 returns c = search needs

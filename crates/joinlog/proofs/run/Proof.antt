@@ -1,23 +1,23 @@
 -- `joinlog::run` meets its contract: turn after turn, counted down. Assumes nothing.
-use mathlib.Core.Path.{_≡_, refl}
-use Prim.Native.Nat.{_≤_}
+use mathlib.Core.Path.{refl, _≡_}
 use native.Mathlib.Omega.{arith}
 use borrow.Author.Needs.{needs}
 use lib.ListN.{length}
 use Rattle.engine.proofs.Laws.{bytes-of}
-use Rattle.joinlog.proofs.Chain.{Going, going-none, going-on, going-ended, going-spent}
+use Rattle.joinlog.specs.Turns.{held, first}
+use Rattle.joinlog.proofs.Moves.{clash}
+use Rattle.joinlog.proofs.Chain.{Going, going-none, going-on, ran}
 use Rattle.joinlog.proofs.run.Statement.{statement}
 use Rattle.joinlog.proofs.run.Tie as tie
 
 abbrev Inv-loop : tie.InvT-loop
-Inv-loop state₀ rows₀ buf₀ log₀ t₀ turns₀ state rows buf log t turns =
-    (length state ≡ length state₀) × ((length buf ≡ length buf₀) × ((length log ≡ length log₀) × ((t .from ≤ t .have) × ((t .have ≤ length buf) × Going state₀ rows₀ buf₀ log₀ state rows buf log t turns))))
+Inv-loop state₀ rows₀ buf₀ log₀ t₀ turns₀ state rows buf log t turns = (length state ≡ length state₀) × ((length buf ≡ length buf₀) × ((length log ≡ length log₀) × Going (held state₀ rows₀ buf₀ log₀ first) (held state rows buf log t) turns))
 
 abbrev μ-loop : tie.MeasureT-loop
 μ-loop state₀ rows₀ buf₀ log₀ t₀ turns₀ state rows buf log t turns = turns
 
 loop-holds : tie.Need-loop-holds Inv-loop μ-loop
-loop-holds c = (refl, (refl, (refl, (omega arith, (omega arith, going-none _ _ _ _)))))
+loop-holds c = (refl, (refl, (refl, going-none _ _ _ _)))
 
 same-length : tie.Need-same-length Inv-loop μ-loop
 same-length c = search needs
@@ -29,10 +29,10 @@ same-length-3 : tie.Need-same-length-3 Inv-loop μ-loop
 same-length-3 c = search needs
 
 returns : tie.Need-returns Inv-loop μ-loop
-returns c = going-ended _ _ _ _ _ _ _ _ _ _ (c .before .before .loop .inv .1 .1 .1 .1 .1) (c .before .before .before .before .before .before .pre) (c .if1 .taken)
+returns c = ran (c .before .before .before .before .before .before .pre .0) (c .before .before .loop .inv .1 .1 .1) (λ e. clash (c .if1 .taken) e)
 
 one-turn-requires : tie.Need-one-turn-requires Inv-loop μ-loop
-one-turn-requires c κs = search needs
+one-turn-requires c κs = (c .before .before .before .before .before .before .loop .inv .1 .1 .1 .within, omega arith)
 
 sub-turns : tie.Need-sub-turns Inv-loop μ-loop
 sub-turns c = search needs
@@ -41,10 +41,10 @@ loop-less : tie.Need-loop-less Inv-loop μ-loop
 loop-less c = search needs
 
 loop-again : tie.Need-loop-again Inv-loop μ-loop
-loop-again c =
-    let i = c .before .before .before .before .before .before .before .before .before .before .before .before .before .loop .inv in
+loop-again c = let i = c .before .before .before .before .before .before .before .before .before .before .before .before .before .loop .inv in
     let e = c .before .before .before .before .before .before .one-turn .ensures in
-    (search needs, (search needs, (search needs, (e .0 .0, (search needs, going-on _ _ _ _ _ _ _ _ _ _ (i .1 .1 .1 .1 .1) (c .before .before .before .before .before .before .before .before .before .before .before .if1 .left) (c .before .before .before .before .before .before .before .before .before .before .before .before .loop-test .taken) _ _ _ _ _ (bytes-of (c .before .before .before .before .before .before .one-turn .last .1 .1 .0) (c .before .before .slice-known5 .given)) (e .1))))))
+    let same : length (c .before .before .before .before .before .before .one-turn .last .1 .1 .0) ≡ length (c .before .before .before .before .before .before .before .before .before .before .before .before .before .loop .buf) = search needs in
+    (search needs, (search needs, (search needs, going-on (i .1 .1 .1) (c .before .before .before .before .before .before .before .before .before .before .before .if1 .left) (c .before .before .before .before .before .before .before .before .before .before .before .before .loop-test .taken) e same (bytes-of (c .before .before .before .before .before .before .one-turn .last .1 .1 .0) (c .before .before .slice-known5 .given)))))
 
 same-length-4 : tie.Need-same-length-4 Inv-loop μ-loop
 same-length-4 c = search needs
@@ -56,7 +56,7 @@ same-length-6 : tie.Need-same-length-6 Inv-loop μ-loop
 same-length-6 c = search needs
 
 returns-2 : tie.Need-returns-2 Inv-loop μ-loop
-returns-2 c = going-spent _ _ _ _ _ _ _ _ _ _ (c .before .loop .inv .1 .1 .1 .1 .1) (c .before .before .before .before .before .pre) (omega arith)
+returns-2 c = ran (c .before .before .before .before .before .pre .0) (c .before .loop .inv .1 .1 .1) (λ e. omega arith)
 
 pub run-spec : {M : Type 1} → statement M
 run-spec =

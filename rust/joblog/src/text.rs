@@ -1,8 +1,5 @@
 //! Jobs as text, one record to a line, in Move's syntax (README.md has the grammar): printer and parser.
-use crate::{
-    job::{Held, State},
-    record::{self, Kind, Known, Record, Ty, ABILITIES, BUILTINS, VECTOR},
-};
+use crate::record::{self, Kind, Known, Record, Ty, ABILITIES, BUILTINS, MAX_RECORD};
 use std::fmt::Write;
 
 const NUMERIC_KINDS: [&str; 3] = ["numeric", "bits", "ordered"];
@@ -59,7 +56,7 @@ pub fn type_text(t: &Ty, d: Detail) -> String {
         Kind::Param(id, 0) => format!("P{}", id),
         Kind::Param(id, set) if d == Detail::Full => format!("P{}{}", id, abilities(*set)),
         Kind::Param(id, _) => format!("P{}", id),
-        Kind::Builtin(m, n, args) => format!("{}{}{}", BUILTINS[*n as usize], angled(args, d), mark(*m, d)),
+        Kind::Builtin(m, n, args) => format!("{}{}{}", BUILTINS[*n as usize].name, angled(args, d), mark(*m, d)),
         Kind::List(m, args) => {
             // a comma tells a list of one from its part, and the empty list from `()`
             let last = if args.len() < 2 { "," } else { "" };
@@ -133,20 +130,6 @@ pub fn disassemble(mut stream: &[u8]) -> String {
     out
 }
 
-/// A job's state on one line.
-pub fn state_text(s: &State) -> String {
-    let kinds = ["numeric", "bits", "ordered", "base", "single", "abilities"];
-    let held = |h: &Held| {
-        let set = if h.kind == 5 { abilities(h.abilities) + " " } else { String::new() };
-        format!("{} @{} {}{}", kinds[h.kind as usize], h.loc, set, type_text(&h.ty, Detail::Full))
-    };
-    let bindings: Vec<_> = s.bindings.iter().map(|(v, t)| format!("V{} = {}", v, type_text(t, Detail::Full))).collect();
-    let marks: Vec<_> = s.marks.iter().map(|(v, loc)| format!("V{} @{}", v, loc)).collect();
-    let constraints: Vec<_> = s.constraints.iter().map(held).collect();
-    let (b, m, c) = (bindings.join(", "), marks.join(", "), constraints.join(", "));
-    format!("next V{}, S{}; bindings [{}]; numeric [{}]; constraints [{}]", s.next_var, s.structs, b, m, c)
-}
-
 //---- parsing ------------------------------------------------------------------------------------------
 
 struct Parser<'a> {
@@ -154,7 +137,11 @@ struct Parser<'a> {
     /// the next location for a place that names none; None: such a place has 0
     auto: &'a mut Option<u32>,
     params: &'a [usize],
+    depth: usize,
 }
+
+/// A type that nests deeper fits into no record: each level has six bytes or more.
+const MAX_DEPTH: usize = MAX_RECORD / 6;
 
 type Parsed<T> = Result<T, String>;
 
@@ -275,6 +262,16 @@ impl Parser<'_> {
     }
 
     fn ty(&mut self) -> Parsed<Ty> {
+        self.depth += 1;
+        if self.depth > MAX_DEPTH {
+            return Err("types nest too deep for any record".into());
+        }
+        let t = self.one_type();
+        self.depth -= 1;
+        t
+    }
+
+    fn one_type(&mut self) -> Parsed<Ty> {
         if self.take("&") {
             let mutable =
                 self.rest.starts_with("mut") && !self.rest[3..].starts_with(|c: char| c.is_ascii_alphanumeric());
@@ -302,9 +299,9 @@ impl Parser<'_> {
         if word == "_" {
             return Ok(Kind::Anything);
         }
-        if let Some(n) = BUILTINS.iter().position(|b| *b == word) {
+        if let Some(n) = BUILTINS.iter().position(|b| b.name == word) {
             let args = self.angled()?;
-            if args.len() != (n as u8 == VECTOR) as usize {
+            if args.len() != BUILTINS[n].arguments {
                 return Err(format!("{} has {} arguments here: `{}`", word, args.len(), rest));
             }
             return Ok(Kind::Builtin(self.mark()?, n as u8, args));
@@ -415,7 +412,7 @@ pub fn assemble(text: &str, number: bool) -> Result<Vec<u8>, String> {
             out.extend(record::unhex(digits).ok_or_else(|| at_line("pairs of hexadecimal digits are wanted".into()))?);
             continue;
         }
-        let mut p = Parser { rest: line, auto: &mut auto, params: &params };
+        let mut p = Parser { rest: line, auto: &mut auto, params: &params, depth: 0 };
         let r = p.record().map_err(at_line)?;
         p.skip();
         if !p.rest.is_empty() {

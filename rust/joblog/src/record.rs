@@ -2,7 +2,28 @@
 
 pub const MAX_RECORD: usize = 4096;
 pub const MAX_NESTING: usize = 64;
-pub const BUILTINS: [&str; 7] = ["address", "signer", "u8", "u64", "u128", "vector", "bool"];
+
+pub struct Builtin {
+    pub name: &'static str,
+    pub arguments: usize,
+    /// an ability mark on it must have drop
+    pub integer: bool,
+}
+
+const fn builtin(name: &'static str, arguments: usize, integer: bool) -> Builtin {
+    Builtin { name, arguments, integer }
+}
+
+/// by number
+pub const BUILTINS: [Builtin; 7] = [
+    builtin("address", 0, false),
+    builtin("signer", 0, false),
+    builtin("u8", 0, true),
+    builtin("u64", 0, true),
+    builtin("u128", 0, true),
+    builtin("vector", 1, false),
+    builtin("bool", 0, false),
+];
 pub const VECTOR: u8 = 5;
 pub const ABILITIES: [(u8, &str); 4] = [(1, "copy"), (2, "drop"), (4, "store"), (8, "key")];
 
@@ -54,10 +75,23 @@ pub struct Known {
     pub expand: bool,
 }
 
-/// 5 or 6
-pub type Refusal = u8;
-const MALFORMED: Refusal = 5;
-const UNKNOWN_NAME: Refusal = 6;
+/// Where in the record reading stops, and by which rule: the answer's number is 5 or 6.
+#[derive(Debug, Clone, Copy, PartialEq, Eq)]
+pub struct Refusal {
+    pub number: u8,
+    pub at: usize,
+    pub rule: &'static str,
+}
+
+fn malformed<T>(at: usize, rule: &'static str) -> Read<T> {
+    Err(Refusal { number: 5, at, rule })
+}
+
+fn unknown_name(at: usize, rule: &'static str) -> Refusal {
+    Refusal { number: 6, at, rule }
+}
+
+const NOT_TAKEN: &str = "this variable is not taken yet";
 
 //---- reading: the first of 5 and 6 that is met from left to right ---------------------------------
 
@@ -66,18 +100,31 @@ struct Reader<'a> {
     at: usize,
     known: &'a Known,
     max_nesting: usize,
+    /// variables read, and where
+    met: Vec<(usize, u16)>,
 }
 
 type Read<T> = Result<T, Refusal>;
 
-impl Reader<'_> {
-    fn byte(&mut self) -> Read<u8> {
-        let b = *self.bytes.get(self.at).ok_or(MALFORMED)?;
-        self.at += 1;
-        Ok(b)
+impl<'a> Reader<'a> {
+    fn new(bytes: &'a [u8], known: &'a Known, max_nesting: usize) -> Self {
+        Reader { bytes, at: 0, known, max_nesting, met: vec![] }
     }
-    fn byte_to(&mut self, max: u8) -> Read<u8> {
-        self.byte().and_then(|b| if b <= max { Ok(b) } else { Err(MALFORMED) })
+    fn byte(&mut self) -> Read<u8> {
+        match self.bytes.get(self.at) {
+            Some(b) => {
+                self.at += 1;
+                Ok(*b)
+            }
+            None if self.at == MAX_RECORD => malformed(self.at, "a record has at most 4,096 bytes"),
+            None => malformed(self.at, "the bytes end inside the record"),
+        }
+    }
+    fn byte_to(&mut self, max: u8, rule: &'static str) -> Read<u8> {
+        match self.byte()? {
+            b if b <= max => Ok(b),
+            _ => malformed(self.at - 1, rule),
+        }
     }
     fn u16(&mut self) -> Read<u16> {
         Ok(u16::from_le_bytes([self.byte()?, self.byte()?]))
@@ -85,20 +132,23 @@ impl Reader<'_> {
     fn u32(&mut self) -> Read<u32> {
         Ok(u32::from_le_bytes([self.byte()?, self.byte()?, self.byte()?, self.byte()?]))
     }
+    fn set(&mut self) -> Read<u8> {
+        self.byte_to(15, "a set of abilities is 0 to 15")
+    }
     fn var(&mut self) -> Read<u16> {
+        let at = self.at;
         let v = self.u16()?;
+        self.met.push((at, v));
         if (v as usize) < self.known.vars {
             Ok(v)
         } else {
-            Err(UNKNOWN_NAME)
+            Err(unknown_name(at, NOT_TAKEN))
         }
     }
     fn mark(&mut self) -> Read<u8> {
-        let m = self.byte_to(31)?;
-        if m == 0 || m >= 16 {
-            Ok(m)
-        } else {
-            Err(MALFORMED)
+        match self.byte()? {
+            m @ (0 | 16..=31) => Ok(m),
+            _ => malformed(self.at - 1, "an ability mark is 0, or 16 plus a set"),
         }
     }
     fn types(&mut self, n: usize, depth: usize) -> Read<Vec<Ty>> {
@@ -106,31 +156,24 @@ impl Reader<'_> {
     }
 
     fn ty(&mut self, depth: usize) -> Read<Ty> {
-        let tag = self.byte_to(8)?;
+        let tag = self.byte_to(8, "a type's tag is 0 to 8")?;
         if depth > self.max_nesting {
-            return Err(MALFORMED);
+            return malformed(self.at - 1, "types nest at most 64 deep");
         }
         let loc = self.u32()?;
         let kind = match tag {
             0 => Kind::Unit,
-            1 => Kind::Ref(self.byte_to(1)? == 1, Box::new(self.ty(depth + 1)?)),
-            2 => Kind::Param(self.u32()?, self.byte_to(15)?),
-            3 => {
-                let (m, n) = (self.mark()?, self.byte_to(6)?);
-                if matches!(n, 2..=4) && m != 0 && m & 2 == 0 {
-                    return Err(MALFORMED);
-                }
-                Kind::Builtin(m, n, self.types((n == VECTOR) as usize, depth + 1)?)
+            1 => {
+                let mutable = self.byte_to(1, "mutable is 0 or 1")? == 1;
+                Kind::Ref(mutable, Box::new(self.ty(depth + 1)?))
             }
+            2 => Kind::Param(self.u32()?, self.set()?),
+            3 => self.builtin(depth)?,
             4 => {
-                let (m, n) = (self.mark()?, self.byte_to(8)?);
+                let (m, n) = (self.mark()?, self.byte_to(8, "a list has at most 8 parts")?);
                 Kind::List(m, self.types(n as usize, depth + 1)?)
             }
-            5 => {
-                let (m, n) = (self.mark()?, self.u16()?);
-                let count = *self.known.params.get(n as usize).ok_or(UNKNOWN_NAME)?;
-                Kind::Struct(m, n, self.types(count, depth + 1)?)
-            }
+            5 => self.declared(depth)?,
             6 => Kind::Var(self.var()?),
             7 => Kind::Anything,
             _ => Kind::UnresolvedError,
@@ -138,12 +181,41 @@ impl Reader<'_> {
         Ok(Ty { loc, kind })
     }
 
+    fn builtin(&mut self, depth: usize) -> Read<Kind> {
+        let (m, n) = (self.mark()?, self.byte()?);
+        let Some(b) = BUILTINS.get(n as usize) else {
+            return malformed(self.at - 1, "no builtin has this number");
+        };
+        if b.integer && m != 0 && m & 2 == 0 {
+            return malformed(self.at - 1, "an integer type's ability mark has drop");
+        }
+        Ok(Kind::Builtin(m, n, self.types(b.arguments, depth + 1)?))
+    }
+
+    fn declared(&mut self, depth: usize) -> Read<Kind> {
+        let m = self.mark()?;
+        let at = self.at;
+        let n = self.u16()?;
+        let unknown = unknown_name(at, "this struct is not declared");
+        let count = *self.known.params.get(n as usize).ok_or(unknown)?;
+        Ok(Kind::Struct(m, n, self.types(count, depth + 1)?))
+    }
+
+    fn declaration(&mut self) -> Read<Record> {
+        let (abilities, n) = (self.set()?, self.byte_to(8, "a struct has at most 8 parameters")?);
+        let param = |r: &mut Self| r.byte_to(31, "a parameter byte is 0 to 31");
+        Ok(Record::SD(abilities, (0..n).map(|_| param(self)).collect::<Read<_>>()?))
+    }
+
+    fn arguments(&mut self) -> Read<Record> {
+        let n = self.byte_to(8, "TS lists at most 8 parameters")?;
+        let args = (0..n).map(|_| Ok((self.u32()?, self.ty(1)?))).collect::<Read<_>>()?;
+        Ok(Record::TS(args, self.ty(1)?))
+    }
+
     fn record(&mut self) -> Read<Record> {
         Ok(match &[self.byte()?, self.byte()?] {
-            b"SD" => {
-                let (abilities, n) = (self.byte_to(15)?, self.byte_to(8)?);
-                Record::SD(abilities, (0..n).map(|_| self.byte_to(31)).collect::<Read<_>>()?)
-            }
+            b"SD" => self.declaration()?,
             b"FV" => Record::FV(self.u32()?),
             b"NV" => Record::NV(self.u32()?),
             b"SN" => Record::SN(self.var()?, self.u32()?),
@@ -151,32 +223,36 @@ impl Reader<'_> {
             b"SU" => Record::SU(self.ty(1)?, self.ty(1)?),
             b"UF" => Record::UF(self.ty(1)?),
             b"RD" => Record::RD(self.ty(1)?),
-            b"TS" => {
-                let n = self.byte_to(8)?;
-                let args = (0..n).map(|_| Ok((self.u32()?, self.ty(1)?))).collect::<Read<_>>()?;
-                Record::TS(args, self.ty(1)?)
-            }
+            b"TS" => self.arguments()?,
             b"IN" => Record::IN(self.ty(1)?),
-            b"NC" => Record::NC(self.u32()?, self.byte_to(2)?, self.ty(1)?),
+            b"NC" => Record::NC(self.u32()?, self.byte_to(2, "a numeric constraint's kind is 0 to 2")?, self.ty(1)?),
             b"BC" => Record::BC(self.u32()?, self.ty(1)?),
             b"SC" => Record::SC(self.u32()?, self.ty(1)?),
             b"SV" => Record::SV,
             b"XP" if self.known.expand => Record::XP(self.ty(1)?),
-            _ => return Err(MALFORMED),
+            _ => return malformed(0, "no record has this mark"),
         })
     }
 }
 
 /// The first record of a stream and how many bytes it has; byte 4,097 is never read.
 pub fn read_record(stream: &[u8], known: &Known) -> Read<(Record, usize)> {
-    let bytes = &stream[..stream.len().min(MAX_RECORD)];
-    let mut r = Reader { bytes, at: 0, known, max_nesting: MAX_NESTING };
+    let mut r = Reader::new(&stream[..stream.len().min(MAX_RECORD)], known, MAX_NESTING);
     Ok((r.record()?, r.at))
+}
+
+/// Where reading may stop if it is not known how many variables are taken, only that those below `taken` are: at each
+/// other variable that is met, and where it stops in any case.
+pub fn stops(stream: &[u8], known: &Known, taken: usize) -> Vec<Refusal> {
+    let mut r = Reader::new(&stream[..stream.len().min(MAX_RECORD)], known, MAX_NESTING);
+    let last = r.record().err();
+    let open = r.met.iter().filter(|(_, v)| *v as usize >= taken);
+    open.map(|(at, _)| unknown_name(*at, NOT_TAKEN)).chain(last).collect()
 }
 
 /// The first type of a payload and how many bytes it has; a payload may nest deeper than a record.
 pub fn read_type(payload: &[u8], known: &Known) -> Read<(Ty, usize)> {
-    let mut r = Reader { bytes: payload, at: 0, known, max_nesting: usize::MAX };
+    let mut r = Reader::new(payload, known, usize::MAX);
     Ok((r.ty(1)?, r.at))
 }
 
@@ -222,9 +298,31 @@ impl Ty {
         self.write(&mut out);
         out
     }
+
+    /// one more than the highest variable in it
+    pub fn taken(&self) -> usize {
+        let own = if let Kind::Var(v) = self.kind { v as usize + 1 } else { 0 };
+        self.parts().iter().map(Ty::taken).fold(own, usize::max)
+    }
 }
 
 impl Record {
+    pub fn types(&self) -> Vec<&Ty> {
+        match self {
+            Record::SD(..) | Record::FV(_) | Record::NV(_) | Record::SN(..) | Record::SV => vec![],
+            Record::JN(a, b) | Record::SU(a, b) => vec![a, b],
+            Record::TS(args, t) => args.iter().map(|(_, a)| a).chain([t]).collect(),
+            Record::UF(t) | Record::RD(t) | Record::IN(t) | Record::XP(t) => vec![t],
+            Record::NC(_, _, t) | Record::BC(_, t) | Record::SC(_, t) => vec![t],
+        }
+    }
+
+    /// one more than the highest variable in it
+    pub fn taken(&self) -> usize {
+        let own = if let Record::SN(v, _) = self { *v as usize + 1 } else { 0 };
+        self.types().into_iter().map(Ty::taken).fold(own, usize::max)
+    }
+
     pub fn mark(&self) -> &'static str {
         match self {
             Record::SD(..) => "SD",

@@ -1,0 +1,173 @@
+//! Text to bytes, and a job with its log for people.
+use joblog::{
+    diff::{diff, Difference},
+    show::{show, Options},
+    text::{assemble, disassemble},
+};
+
+fn asm(text: &str) -> Vec<u8> {
+    assemble(text, true).unwrap()
+}
+
+#[test]
+fn text_that_is_no_job_is_refused() {
+    let lines = [
+        "XX u8",
+        "JN u8",
+        "JN u8 u8",
+        "JN u8, u8, u8",
+        "UF (u8)",
+        "UF vector",
+        "UF u8<u8>",
+        "UF V70000",
+        "UF Q1",
+        "UF u8{fly}",
+        "UF (_, _, _, _, _, _, _, _, _)",
+        "SN u8",
+        "NC often u8",
+        "TS P1 = u8 u8",
+        "SD copy",
+        "hex 0",
+        "UF &muty",
+        "FV @4294967296",
+        "SD {} <{}, {}>\nUF S0<u8>",
+    ];
+    for line in lines {
+        assert!(assemble(line, false).is_err(), "{}", line)
+    }
+    assert_eq!(assemble("SV\n\n  UF  Q1", false), Err("line 3: a type is wanted at `Q1`".into()));
+    assert!(assemble(&format!("UF {}u8", "&".repeat(1_000_000)), false).is_err());
+}
+
+#[test]
+fn every_stream_has_a_text() {
+    for stream in [&b"XX"[..], b"", b"UF", b"UF\x09", b"UF\x01\0\0\0\0\x02", b"SVSV\x80", &[0xff; 5000]] {
+        assert_eq!(assemble(&disassemble(stream), false).as_deref(), Ok(stream))
+    }
+}
+
+const JOB: &str = "FV\nJN V0, vector<u64>\nSU &u8, &mut u8\nJN (u8, bool), (u8,)\nSC ()\nSV\nJN (), _";
+/// core.rs's
+const LOG: &str = "\
+0 0 06010000000000
+1 0 06020000000000
+2 1 0105000000000306000000000201070000000103080000000002
+3 3 040b000000000203090000000002030a0000000006040d0000000001030c0000000002
+4 0
+5 0 030e000000000f000000
+6 0 0010000000
+";
+
+#[test]
+fn a_job_and_its_log_for_people() {
+    let (lines, summary) = show(&asm(JOB), LOG, Options::default());
+    let wanted = "\
+0 FV   → typed V0
+1 JN  V0  ~  vector<u64>   → typed V0
+2 SU  &u8  <:  &mut u8   → subtype error: &u8 where &mut u8 is wanted
+3 JN  (u8, bool)  ~  (u8,)   → arity mismatch: (u8, bool) and (u8,)
+4 SC  ()   → typed
+5 SV   → typed; failed: () is no single type (constraint @14)
+6 JN  ()  ~  _   → typed ()
+";
+    assert_eq!(lines, wanted);
+    let counts = "7 records; 0 typed: 5, 1 subtype error: 1, 3 arity mismatch: 1; failed constraints: 1";
+    let wanted = format!("{}; first error: record 2, subtype error", counts);
+    assert_eq!((summary.text(), summary.code()), (wanted.clone(), 1));
+
+    let line = |i: usize| format!("{}\n", lines.lines().nth(i).unwrap());
+    let shown = |errors, n| show(&asm(JOB), LOG, Options { errors, lines: n, ..Default::default() });
+    assert_eq!(shown(true, 9).0, line(2) + &line(3) + &line(5));
+    assert_eq!(shown(true, 1).0, line(2));
+    assert_eq!(shown(false, 2).0, line(0) + &line(1));
+    assert_eq!(shown(true, 0).1.text(), wanted)
+}
+
+#[test]
+fn a_log_that_does_not_fit_is_told_once() {
+    let stream = asm("FV\nUF V0");
+    let summary = |log: &str| {
+        let s = show(&stream, log, Options::default()).1;
+        (s.text(), s.code())
+    };
+    assert_eq!(summary("0 0 06010000000000\n1 0 0702000000\n"), ("2 records; 0 typed: 2; no error".into(), 0));
+    let misfit = |counts: &str, what: &str| (format!("{}; the log does not fit the job: {}", counts, what), 2);
+    let one = "1 records; 0 typed: 1";
+    let two = "2 records; 0 typed: 2";
+    for (log, counts, what) in [
+        ("", "0 records", "it is too short: no line for record 0 and those after it"),
+        ("0 0 06010000000000\n", one, "it is too short: no line for record 1 and those after it"),
+        ("0 0 06010000000000\n1 0 0702000000\n2 0\n", two, "it has more lines than the job has records"),
+        ("0 0 0601\n1 0 0702000000\n", "0 records", "record 0: its payload is no type"),
+        ("1 0\n", "0 records", "record 0: `1 0` is not its line"),
+        ("0 5\n", "0 records", "record 0 is not one that is answered with 5"),
+        ("0 99\n", "0 records", "record 0: there is no answer 99"),
+        ("0 7 00\n", "0 records", "record 0: a refusal has no payload"),
+    ] {
+        assert_eq!(summary(log), misfit(counts, what), "{}", log)
+    }
+    assert_eq!(show(&[], "", Options::default()).1.text(), "0 records; no error")
+}
+
+#[test]
+fn why_a_record_is_not_read() {
+    let why = |text: &str, log: &str| {
+        let (lines, summary) = show(&asm(text), log, Options { why: true, ..Default::default() });
+        assert_eq!(summary.wrong, None);
+        lines.lines().last().unwrap().trim().to_string()
+    };
+    let first = [
+        ("hex 5858", 5, "byte 0 (58; byte 0 of the job): no record has this mark"),
+        ("hex 55", 5, "byte 1 (byte 1 of the job): the bytes end inside the record"),
+        ("hex 5546 09", 5, "byte 2 (09; byte 2 of the job): a type's tag is 0 to 8"),
+        ("hex 5546 01 00000000 02", 5, "byte 7 (02; byte 7 of the job): mutable is 0 or 1"),
+        ("hex 5546 03 00000000 01", 5, "byte 7 (01; byte 7 of the job): an ability mark is 0, or 16 plus a set"),
+        ("hex 5546 03 00000000 10 02", 5, "byte 8 (02; byte 8 of the job): an integer type's ability mark has drop"),
+        ("hex 5546 03 00000000 00 07", 5, "byte 8 (07; byte 8 of the job): no builtin has this number"),
+        ("hex 5546 04 00000000 00 09", 5, "byte 8 (09; byte 8 of the job): a list has at most 8 parts"),
+        ("hex 5346", 5, "byte 0 (53; byte 0 of the job): no record has this mark"),
+        ("hex 5344 10", 5, "byte 2 (10; byte 2 of the job): a set of abilities is 0 to 15"),
+        ("hex 5344 00 09", 5, "byte 3 (09; byte 3 of the job): a struct has at most 8 parameters"),
+        ("hex 5344 00 01 20", 5, "byte 4 (20; byte 4 of the job): a parameter byte is 0 to 31"),
+        ("hex 5453 09", 5, "byte 2 (09; byte 2 of the job): TS lists at most 8 parameters"),
+        ("hex 4e43 00000000 03", 5, "byte 6 (03; byte 6 of the job): a numeric constraint's kind is 0 to 2"),
+        ("UF S0", 6, "byte 8 (00; byte 8 of the job): this struct is not declared"),
+        ("UF V0", 6, "byte 7 (00; byte 7 of the job): this variable is not taken yet"),
+    ];
+    for (text, number, wanted) in first {
+        assert_eq!(why(text, &format!("0 {}\n", number)), wanted, "{}", text)
+    }
+    let deep = format!("UF {}u8", "&".repeat(64));
+    assert_eq!(why(&deep, "0 5\n"), "byte 386 (03; byte 386 of the job): types nest at most 64 deep");
+    let long = format!("UF {}", ["(", &["(_, _, _, _, _, _, _, _)"; 8].join(", "), ")"].concat());
+    let long = long.replace('_', "(P1, P1, P1, P1, P1, P1, P1, P1)");
+    let wanted = "byte 4096 (00; byte 4096 of the job): a record has at most 4,096 bytes";
+    assert_eq!(why(&long, "0 5\n"), wanted);
+    // V0 is taken; of V1 and V2 the log does not tell
+    let not_taken =
+        |at: usize, b: &str| format!("byte {} ({}; byte {} of the job): this variable is not taken yet", at, b, at + 6);
+    let wanted = format!("the first of these that is so: {}; or {}", not_taken(22, "01"), not_taken(29, "02"));
+    assert_eq!(why("FV\nTS [] (V0, V1, V2)", "0 0 06010000000000\n1 6\n"), wanted)
+}
+
+#[test]
+fn locations_are_no_difference() {
+    let side = |text: &str, log: &str| (assemble(text, false).unwrap(), log.to_string());
+    let found = |a: &(Vec<u8>, String), b: &(Vec<u8>, String)| match diff((&a.0, &a.1), (&b.0, &b.1)) {
+        Difference::None(n) => format!("none of {}", n),
+        Difference::Found(what) => what,
+        Difference::Misfit(i, what) => format!("{}: {}", i, what),
+    };
+    let a = side("FV @1\nUF V0 @2", "0 0 06010000000000\n1 0 0702000000\n");
+    let b = side("FV @7\nUF V0 @8", "0 0 06070000000000\n1 0 0708000000\n");
+    assert_eq!(found(&a, &b), "none of 2");
+    let c = side("FV @7\nUF V0 @8", "0 0 06070000000000\n1 0 0808000000\n");
+    assert_eq!(found(&a, &c), "record 1: the answers differ\n  1: 0 typed _@2\n  2: 0 typed !@8");
+    let d = side("FV @7\nUF _ @8", "0 0 06070000000000\n1 0 0708000000\n");
+    assert_eq!(found(&a, &d), "record 1: the records differ\n  1: UF  V0@2\n  2: UF  _@8");
+    let e = side("FV @7", "0 0 06070000000000\n");
+    assert_eq!(found(&a, &e), "record 1: job 1 has it, job 2 has ended");
+    assert_eq!(found(&e, &a), "record 1: job 2 has it, job 1 has ended");
+    let f = side("FV @7\nFV", "0 0 06070000000000\n");
+    assert_eq!(found(&a, &f), "2: it is too short: no line for record 1 and those after it");
+}
