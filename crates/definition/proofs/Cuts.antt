@@ -14,7 +14,7 @@ use Rattle.definition.specs.Write.{Bytes}
 use Rattle.definition.specs.Reader.{Read, got, not-read, Reader, give, refuse, go-on, _>>=_, byte, read-u16, read-u32, byte-to, read-bool, name-below, times}
 use Rattle.definition.specs.Trees.{Tree, read-trees, mark-of, read-mark, mark-fits, arity, read-apply, read-ref, read-param, read-builtin, read-list, read-struct, read-var, by-tag, read-nested, read-type}
 use Rattle.definition.specs.Record.{Record, read-kind, read-SD, read-SN, read-two, read-one, read-loc, read-loc-type, read-pair, read-TS, read-NC, by-mark, fields-of, read-fields, max-record, hand-back, read-record}
-use Rattle.definition.specs.Locations.{front}
+use Rattle.definition.proofs.StreamRecords.{front}
 use Rattle.definition.proofs.Order.{All}
 
 -- what m gives of the bytes is what it gives of a front of them, whatever follows

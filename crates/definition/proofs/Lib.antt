@@ -56,6 +56,7 @@ pub mod Decimal
 pub mod NumericCheck
 pub mod NoFailIn
 pub mod Stream
+pub mod Piecewise
 pub mod Pieces
 pub mod Points
 pub mod Erase
@@ -63,6 +64,7 @@ pub mod EraseJoin
 pub mod EraseRead
 pub mod EraseWrite
 pub mod EraseRun
+pub mod StreamRecords
 pub mod Cuts
 pub mod Locations
 pub mod StreamJob

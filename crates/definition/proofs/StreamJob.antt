@@ -12,7 +12,8 @@ use Rattle.definition.specs.Record.{Record, read-record}
 use Rattle.definition.specs.Sound.{sound}
 use Rattle.definition.specs.Step.{run, Answer, number-of-error, number-of-refusal, refusal, max-payload, answer-with, answer, max-buffer, lent, step, streamed, step-stream}
 use Rattle.definition.specs.Job.{Entry, ends-job, job-from, job-log}
-use Rattle.definition.specs.Locations.{front, records-from, records-of, entries, blank-job, Seen, seen, blank-log, Locations-decide-nothing}
+use Rattle.definition.proofs.StreamRecords.{front, records-from, records-of, entries}
+use Rattle.definition.specs.Locations.{blank-job, Seen, seen, blank-log, Locations-decide-nothing}
 use Rattle.definition.proofs.Walk.{Run-time, seven, eight, nine, ten, eleven, twelve, thirteen}
 use Rattle.definition.proofs.Late.{Late, fine, wrong, down, run-late}
 use Rattle.definition.proofs.WellRead.{bytes-take, Read-time, ReadWell, not-given, well-read}

@@ -3,8 +3,8 @@
 use mathlib.Core.Path.{_≡_}
 use mathlib.Core.Bool.{_&&_}
 use mathlib.Core.List.{List, [], _∷_, _++_}
-use Prim.Native.Nat.{ℕ, zero, suc, _+_, _-_, _*_}
-use lib.ListN.{length, getD, take, replicate}
+use Prim.Native.Nat.{ℕ, zero, suc, _+_, _*_}
+use lib.ListN.{length, getD, replicate}
 use lib.Dec.{eqb}
 use Rattle.definition.specs.Types.{Builtin, ModuleType, State, fresh, if_then_else_}
 use Rattle.definition.specs.Store.{count, taken}
@@ -12,8 +12,7 @@ use Rattle.definition.specs.Trees.{arity}
 use Rattle.definition.specs.Write.{Bytes}
 use Rattle.definition.specs.Reader.{Read, got, not-read}
 use Rattle.definition.specs.Record.{Record, SD, FV, NV, SN, JN, SU, UF, RD, IN, TS, NC, BC, SC, SV, read-record}
-use Rattle.definition.specs.Step.{Answer, max-buffer, step, step-stream}
-use Rattle.definition.specs.Job.{Entry}
+use Rattle.definition.specs.Step.{Answer, step}
 
 -- ---- bytes and what they are
 
@@ -190,26 +189,3 @@ blank-log s ((bytes, buffer) ∷ records) = let a = step s bytes buffer in seen 
 -- R-4 (proofs/Locations.antt): two jobs that are equal but for location fields are answered alike but for location fields
 unfoldable pub Locations-decide-nothing : List (Bytes × ℕ) → List (Bytes × ℕ) → Type 0
 Locations-decide-nothing job job′ = blank-job fresh job ≡ blank-job fresh job′ → blank-log fresh job ≡ blank-log fresh job′
-
--- ---- streams
-
--- the bytes that were read, where `rest` is left
-unfoldable pub front : Bytes → Bytes → Bytes
-front bytes rest = take (length bytes - length rest) bytes
-
--- a stream as a job: its records, at most n, each cut off where it ends and lent a whole buffer. One that cannot be read is the last, with all that is left
-unfoldable pub records-from : ℕ → State → Bytes → List (Bytes × ℕ)
-records-from zero s bytes = []
-records-from (suc n) s [] = []
-records-from (suc n) s (b ∷ bytes) = elim (read-record s (b ∷ bytes)) [
-  | got r rest ↦ (front (b ∷ bytes) rest, max-buffer) ∷ records-from n (step-stream s (b ∷ bytes) max-buffer .0 .state) rest
-  | not-read x ↦ (b ∷ bytes, max-buffer) ∷ []
-]
-
-unfoldable pub records-of : Bytes → List (Bytes × ℕ)
-records-of bytes = records-from (length bytes) fresh bytes
-
--- the log of a job, its records numbered from i on (proofs/StreamJob.antt: a stream's log is that of its records)
-unfoldable pub entries : ℕ → State → List (Bytes × ℕ) → List Entry
-entries i s [] = []
-entries i s ((bytes, buffer) ∷ records) = let a = step s bytes buffer in record { place = i; number = a .number; payload = a .payload } ∷ entries (suc i) (a .state) records

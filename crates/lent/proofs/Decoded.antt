@@ -15,9 +15,9 @@ use Rattle.definition.specs.Types.{Constraint, AbilityConstraint, NumericConstr
 use Rattle.definition.specs.Store.{count, taken, node, nowhere, with-structs, all-of}
 use Rattle.definition.specs.Trees.{mark-fits}
 use Rattle.definition.specs.Sound as sd
-use Rattle.definition.specs.Sound.{sound, is-u32, is-set, is-mark, is-name, places-fit, shape-allowed, node-allowed, at-node, constraint-allowed, struct-allowed, Is-sound}
+use Rattle.definition.specs.Sound.{sound, is-u32, is-set, is-mark, is-name, places-fit, shape-allowed, node-allowed, at-node, constraint-allowed, struct-allowed}
 use Rattle.definition.proofs.Facts.{of-each, fields, shape}
-use Rattle.definition.proofs.Soundness.{sound-is}
+use Rattle.definition.proofs.Soundness.{Is-sound, sound-is}
 use Rattle.table.specs.Tab.{tab}
 use Rattle.table.specs.Rows.{Table, row, words-at, entries, flag, read-mark, mark-word, read-option, option-flag, option-word, read-name, name-tag, name-word, places, read-shape, shape-words, read-node, node-words, read-arg, arg-words, read-cell, cell-words, read-constraint, constraint-words, read-struct, struct-words, node-table, arg-table, var-table, constraint-table, struct-table}
 use Rattle.table.specs.State.{view, seen, Lay, Declares}
