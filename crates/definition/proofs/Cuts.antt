@@ -7,12 +7,12 @@ use Prim.Native.Nat.{ℕ, zero, suc, _-_, _≤_}
 use native.Mathlib.Omega.{arith}
 use lib.ListN.{length, getD, take, drop, length-append, length-take, take-append-drop, drop-of-length-le}
 use lib.Seq.{take-all, take-at}
-use lib.Dec.{eqb, leb, ltb}
-use Rattle.definition.specs.Types.{TypeName, Multiple, Builtin, ModuleType, Mark, State, Refusal, malformed, if_then_else_}
+use lib.Dec.{eqb, ltb}
+use Rattle.definition.specs.Types.{TypeName, Mark, State, Refusal, malformed, if_then_else_}
 use Rattle.definition.specs.Store.{taken}
 use Rattle.definition.specs.Write.{Bytes}
-use Rattle.definition.specs.Reader.{Read, got, not-read, Reader, give, refuse, go-on, _>>=_, byte, read-u16, read-u32, byte-to, read-bool, name-below, times}
-use Rattle.definition.specs.Trees.{Tree, read-trees, mark-of, read-mark, mark-fits, arity, read-apply, read-ref, read-param, read-builtin, read-list, read-struct, read-var, by-tag, read-nested, read-type}
+use Rattle.definition.specs.Reader.{Read, got, not-read, Reader, give, refuse, go-on, _>>=_, byte, read-u16, read-u32, byte-if, read-bool, name-below, times}
+use Rattle.definition.specs.Trees.{Tree, read-trees, mark-of, read-mark, mark-fits, arity, read-apply, read-ref, read-param, read-var, by-tag, is-name, read-nested, read-type}
 use Rattle.definition.specs.Record.{Record, read-kind, read-SD, read-SN, read-two, read-one, read-loc, read-loc-type, read-pair, read-TS, read-NC, by-mark, fields-of, read-fields, max-record, hand-back, read-record}
 use Rattle.definition.proofs.StreamRecords.{front}
 use Rattle.definition.proofs.Order.{All}
@@ -80,13 +80,13 @@ c-u32 : Cuts read-u32
 unfolding read-u32
 c-u32 = c-bind _ _ c-byte (λ a. c-bind _ _ c-byte (λ b. c-bind _ _ c-byte (λ c. c-bind _ _ c-byte (λ d. c-give _))))
 
-c-byte-to : (max : ℕ) → Cuts (byte-to max)
-unfolding byte-to
-c-byte-to max = c-bind _ _ c-byte (λ b. c-if (leb b max) (c-give b) (c-refuse _))
+c-byte-if : (allowed : ℕ → Bool) → Cuts (byte-if allowed)
+unfolding byte-if
+c-byte-if allowed = c-bind _ _ c-byte (λ b. c-if (allowed b) (c-give b) (c-refuse _))
 
 c-bool : Cuts read-bool
 unfolding read-bool
-c-bool = c-bind _ _ (c-byte-to 1) (λ b. c-give _)
+c-bool = c-bind _ _ (c-byte-if _) (λ b. c-give _)
 
 c-name : (known : ℕ) → Cuts (name-below known)
 unfolding name-below
@@ -108,24 +108,25 @@ c-trees zero m p = c-give _
 c-trees (suc n) m p = c-bind _ _ p (λ t. c-bind _ _ (c-trees n m p) (λ ts. c-give _))
 
 module _ (s : State) (m : Reader Tree) (p : Cuts m) (loc : ℕ) where
-  c-apply : (k : Mark) (n : TypeName) → Cuts (read-apply s m loc k n)
+  c-apply : (number : Reader ℕ) → Cuts number → (name : ℕ → TypeName) (x : Refusal) → Cuts (read-apply s m loc number name x)
   unfolding read-apply
-  c-apply k n = c-if (not (mark-fits k n)) (c-refuse _) (c-bind _ _ (c-trees (arity s n) m p) (λ ts. c-give _))
+  c-apply number c name x =
+      c-bind _ _ c-mark (λ k. c-bind _ _ c (λ n. c-if (not (is-name s (name n))) (c-refuse _) (c-if (not (mark-fits k (name n))) (c-refuse _) (c-bind _ _ (c-trees (arity s (name n)) m p) (λ ts. c-give _)))))
 
   c-tags : All (λ r. Cuts r) (by-tag s m loc)
-  unfolding by-tag read-ref read-param read-builtin read-list read-struct read-var
+  unfolding by-tag read-ref read-param read-var
   c-tags = (
     c-give _,
     (
       c-bind _ _ c-bool (λ mut. c-bind _ _ p (λ t. c-give _)),
       (
-        c-bind _ _ c-u32 (λ id. c-bind _ _ (c-byte-to 15) (λ a. c-give _)),
+        c-bind _ _ c-u32 (λ id. c-bind _ _ (c-byte-if _) (λ a. c-give _)),
         (
-          c-bind _ _ c-mark (λ k. c-bind _ _ (c-byte-to 6) (λ b. c-apply k (Builtin b))),
+          c-apply _ c-byte _ _,
           (
-            c-bind _ _ c-mark (λ k. c-bind _ _ (c-byte-to 8) (λ n. c-apply k (Multiple n))),
+            c-apply _ c-byte _ _,
             (
-              c-bind _ _ c-mark (λ k. c-bind _ _ (c-name (length (s .structs))) (λ n. c-apply k (ModuleType n))),
+              c-apply _ c-u16 _ _,
               (
                 c-bind _ _ (c-name (taken s)) (λ v. c-give _),
                 (
@@ -146,7 +147,7 @@ module _ (s : State) (m : Reader Tree) (p : Cuts m) (loc : ℕ) where
 c-nested : (n : ℕ) (s : State) → Cuts (read-nested n s)
 unfolding read-nested
 c-nested zero s = c-refuse _
-c-nested (suc n) s = c-bind _ _ (c-byte-to 8) (λ tag. c-bind _ _ c-u32 (λ loc. c-get (by-tag s (read-nested n s) loc) (c-tags s (read-nested n s) (c-nested n s) loc) tag))
+c-nested (suc n) s = c-bind _ _ (c-byte-if _) (λ tag. c-bind _ _ c-u32 (λ loc. c-get (by-tag s (read-nested n s) loc) (c-tags s (read-nested n s) (c-nested n s) loc) tag))
 
 -- ---- records
 
@@ -174,7 +175,7 @@ module _ (s : State) where
   c-marks : All (λ (row : ℕ × ℕ × Reader Record). Cuts (row .2)) (by-mark s)
   unfolding by-mark read-SD read-SN read-TS read-pair read-NC read-kind
   c-marks = (
-    c-bind _ _ (c-byte-to 15) (λ a. c-bind _ _ (c-byte-to 8) (λ n. c-bind _ _ (c-times n _ (c-byte-to 31)) (λ ps. c-give _))),
+    c-bind _ _ (c-byte-if _) (λ a. c-bind _ _ (c-byte-if _) (λ n. c-bind _ _ (c-times n _ (c-byte-if _)) (λ ps. c-give _))),
     (
       c-loc _,
       (
@@ -190,11 +191,11 @@ module _ (s : State) where
                 (
                   c-one _,
                   (
-                    c-bind _ _ (c-byte-to 8) (λ n. c-bind _ _ (c-times n _ (c-bind _ _ c-u32 (λ id. c-bind _ _ c-type (λ t. c-give _)))) (λ ps. c-bind _ _ c-type (λ t. c-give _))),
+                    c-bind _ _ (c-byte-if _) (λ n. c-bind _ _ (c-times n _ (c-bind _ _ c-u32 (λ id. c-bind _ _ c-type (λ t. c-give _)))) (λ ps. c-bind _ _ c-type (λ t. c-give _))),
                     (
                       c-one _,
                       (
-                        c-bind _ _ c-u32 (λ l. c-bind _ _ (c-bind _ _ (c-byte-to 2) (λ b. c-give _)) (λ kind. c-bind _ _ c-type (λ t. c-give _))),
+                        c-bind _ _ c-u32 (λ l. c-bind _ _ (c-bind _ _ (c-byte-if _) (λ b. c-give _)) (λ kind. c-bind _ _ c-type (λ t. c-give _))),
                         (
                           c-loc-type _,
                           (

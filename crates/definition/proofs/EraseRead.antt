@@ -5,12 +5,12 @@ use mathlib.Core.List.{List, [], _∷_, _++_, map, append-assoc}
 use mathlib.Core.Option.{Option, none, some}
 use Prim.Native.Nat.{ℕ, zero, suc, _+_, _*_}
 use lib.ListN.{length, getD, take, drop, replicate, length-append, length-drop}
-use lib.Dec.{eqb, leb, ltb}
-use Rattle.definition.specs.Types.{TypeName, Multiple, Builtin, ModuleType, Mark, State, Refusal, malformed, if_then_else_}
+use lib.Dec.{eqb, ltb}
+use Rattle.definition.specs.Types.{TypeName, Multiple, Builtin, ModuleType, Mark, State, Refusal, malformed, unknown-name, if_then_else_}
 use Rattle.definition.specs.Write.{Bytes}
 use Rattle.definition.specs.Instantiate.{struct-tparams}
-use Rattle.definition.specs.Reader.{Read, got, not-read, Reader, give, refuse, go-on, _>>=_, byte, read-u16, read-u32, byte-to, read-bool, name-below, times}
-use Rattle.definition.specs.Trees.{Tree, unit-tree, anything-tree, error-tree, ref-tree, param-tree, apply-tree, var-tree, Trees, no-trees, _then_, read-trees, mark-of, read-mark, mark-fits, arity, read-apply, read-ref, read-param, read-builtin, read-list, read-struct, read-var, by-tag, read-nested, read-type}
+use Rattle.definition.specs.Reader.{Read, got, not-read, Reader, give, refuse, go-on, _>>=_, byte, read-u16, read-u32, byte-if, byte-to, read-bool, name-below, times}
+use Rattle.definition.specs.Trees.{Tree, unit-tree, anything-tree, error-tree, ref-tree, param-tree, apply-tree, var-tree, Trees, no-trees, _then_, read-trees, mark-of, read-mark, mark-fits, arity, read-apply, read-ref, read-param, read-var, by-tag, is-name, read-nested, read-type}
 use Rattle.definition.specs.Record.{NumericKind, Record, SD, FV, NV, SN, JN, SU, UF, RD, IN, TS, NC, BC, SC, SV, read-kind, read-SD, read-SN, read-two, read-one, read-loc, read-loc-type, read-pair, read-TS, read-NC, by-mark, fields-of, read-fields, max-record, hand-back, read-record}
 use Rattle.definition.specs.Locations.{Part, plain, location, type, types, builtin, list, struct, struct-high, pairs, loc-field, u32-field, tag-fields, pair-fields, brings, blank-byte, blank, mark-fields, after-mark, blank-record}
 use Rattle.definition.proofs.Erase.{erase, taken-erase, structs-erase}
@@ -151,17 +151,17 @@ module _ {S : State} where
   unfolding read-u32 u32-field
   al-u32 more = al-bind _ _ (al-plain _) (λ a. al-bind _ _ (al-plain _) (λ b. al-bind _ _ (al-plain _) (λ c. al-bind _ _ (al-plain more) (λ d. al-give _ refl))))
 
-  al-byte-to : (max : ℕ) (p : Part) (more : List Part) → ((b : ℕ) → blank-byte p b ≡ b) → Alike same S (p ∷ more) (λ b. brings S p b ++ more) (byte-to max) (byte-to max)
-  unfolding byte-to
-  al-byte-to max p more k = al-bind _ _ (al-byte p more k) (λ b. al-if (leb b max) (al-give b refl) (al-refuse _))
+  al-byte-if : (allowed : ℕ → Bool) (p : Part) (more : List Part) → ((b : ℕ) → blank-byte p b ≡ b) → Alike same S (p ∷ more) (λ b. brings S p b ++ more) (byte-if allowed) (byte-if allowed)
+  unfolding byte-if
+  al-byte-if allowed p more k = al-bind _ _ (al-byte p more k) (λ b. al-if (allowed b) (al-give b refl) (al-refuse _))
 
-  al-plain-to : (max : ℕ) (more : List Part) → Alike same S (plain ∷ more) (λ b. more) (byte-to max) (byte-to max)
+  al-plain-if : (allowed : ℕ → Bool) (more : List Part) → Alike same S (plain ∷ more) (λ b. more) (byte-if allowed) (byte-if allowed)
   unfolding brings blank-byte
-  al-plain-to max more = al-byte-to max plain more (λ b. refl)
+  al-plain-if allowed more = al-byte-if allowed plain more (λ b. refl)
 
   al-bool : (more : List Part) → Alike same S (plain ∷ more) (λ b. more) read-bool read-bool
   unfolding read-bool
-  al-bool more = al-bind _ _ (al-plain-to 1 more) (λ b. al-give _ refl)
+  al-bool more = al-bind _ _ (al-plain-if _ more) (λ b. al-give _ refl)
 
   al-u16 : (more : List Part) → Alike same S (plain ∷ plain ∷ more) (λ n. more) read-u16 read-u16
   unfolding read-u16
@@ -199,10 +199,18 @@ module _ (s : State) where
   abbrev Fields : List Part → Reader Tree → Reader Tree → Type 0
   Fields ps m m′ = (more : List Part) → Alike erase-tree s (ps ++ more) (λ t. more) m m′
 
+  name-erase : (n : TypeName) → is-name (erase s) n ≡ is-name s n
+  unfolding is-name
+  name-erase (Multiple n) = refl
+  name-erase (Builtin b) = refl
+  name-erase (ModuleType n) = rw (structs-erase s) refl
+
   module _ (m m′ : Reader Tree) (p : OneType m m′) (loc : ℕ) where
-    al-apply : (k : Mark) (n : TypeName) (more : List Part) → Alike erase-tree s (replicate (arity s n) type ++ more) (λ t. more) (read-apply s m loc k n) (read-apply (erase s) m′ 0 k n)
+    al-apply : (before : List Part) (number : Reader ℕ) (name : ℕ → TypeName) (x : Refusal) → ((more : List Part) → Alike same s (before ++ more) (λ n. replicate (arity s (name n)) type ++ more) number number)
+        → Fields (plain ∷ before) (read-apply s m loc number name x) (read-apply (erase s) m′ 0 number name x)
     unfolding read-apply erase-tree
-    al-apply k n more = rw (arity-erase s n) (al-if (not (mark-fits k n)) (al-refuse _) (al-bind _ _ (al-trees m m′ p (arity s n) more) (λ ts. al-give (apply-tree loc k n ts) refl)))
+    al-apply before number name x a more = al-bind _ _ (al-mark _) (λ k. al-bind _ _ (a more) (λ n.
+        rw (arity-erase s (name n), name-erase (name n)) (al-if (not (is-name s (name n))) (al-refuse _) (al-if (not (mark-fits k (name n))) (al-refuse _) (al-bind _ _ (al-trees m m′ p (arity s (name n)) more) (λ ts. al-give (apply-tree loc k (name n) ts) refl))))))
 
     al-ref : Fields (plain ∷ type ∷ []) (read-ref s m loc) (read-ref (erase s) m′ 0)
     unfolding read-ref erase-tree
@@ -210,19 +218,18 @@ module _ (s : State) where
 
     al-param : Fields (u32-field ++ (plain ∷ [])) (read-param s m loc) (read-param (erase s) m′ 0)
     unfolding read-param erase-tree u32-field
-    al-param more = al-bind _ _ (al-u32 _) (λ id. al-bind _ _ (al-plain-to 15 more) (λ a. al-give (param-tree loc id a) refl))
+    al-param more = al-bind _ _ (al-u32 _) (λ id. al-bind _ _ (al-plain-if _ more) (λ a. al-give (param-tree loc id a) refl))
 
-    al-builtin : Fields (plain ∷ builtin ∷ []) (read-builtin s m loc) (read-builtin (erase s) m′ 0)
-    unfolding read-builtin brings blank-byte
-    al-builtin more = al-bind _ _ (al-mark _) (λ k. al-bind _ _ (al-byte-to 6 builtin more (λ b. refl)) (λ b. al-apply k (Builtin b) more))
+    al-builtin : Fields (plain ∷ builtin ∷ []) (read-apply s m loc byte Builtin malformed) (read-apply (erase s) m′ 0 byte Builtin malformed)
+    unfolding brings blank-byte
+    al-builtin = al-apply (builtin ∷ []) byte _ _ (λ more. al-byte builtin more (λ b. refl))
 
-    al-list : Fields (plain ∷ list ∷ []) (read-list s m loc) (read-list (erase s) m′ 0)
-    unfolding read-list brings blank-byte arity
-    al-list more = al-bind _ _ (al-mark _) (λ k. al-bind _ _ (al-byte-to 8 list more (λ b. refl)) (λ n. al-apply k (Multiple n) more))
+    al-list : Fields (plain ∷ list ∷ []) (read-apply s m loc byte Multiple malformed) (read-apply (erase s) m′ 0 byte Multiple malformed)
+    unfolding brings blank-byte arity
+    al-list = al-apply (list ∷ []) byte _ _ (λ more. al-byte list more (λ b. refl))
 
-    al-struct-type : Fields (plain ∷ struct ∷ []) (read-struct s m loc) (read-struct (erase s) m′ 0)
-    unfolding read-struct
-    al-struct-type more = al-bind _ _ (al-mark _) (λ k. al-bind _ _ (al-name _ _ (rw (structs-erase s) refl) (al-struct more)) (λ n. al-apply k (ModuleType n) more))
+    al-struct-type : Fields (plain ∷ struct ∷ []) (read-apply s m loc read-u16 ModuleType unknown-name) (read-apply (erase s) m′ 0 read-u16 ModuleType unknown-name)
+    al-struct-type = al-apply (struct ∷ []) read-u16 _ _ (λ more. al-struct more)
 
     al-var : Fields (plain ∷ plain ∷ []) (read-var s m loc) (read-var (erase s) m′ 0)
     unfolding read-var erase-tree
@@ -247,7 +254,7 @@ module _ (s : State) where
   nested : (n : ℕ) → OneType (read-nested n s) (read-nested n (erase s))
   unfolding read-nested brings blank-byte loc-field
   nested zero more = al-refuse _
-  nested (suc n) more = al-bind _ _ (al-byte-to 8 type more (λ b. refl)) (λ tag. al-bind _ _ (al-loc (getD tag-fields tag [] ++ more)) (λ loc. row-at (tag-rows (read-nested n s) (read-nested n (erase s)) (nested n) loc) tag more))
+  nested (suc n) more = al-bind _ _ (al-byte-if _ type more (λ b. refl)) (λ tag. al-bind _ _ (al-loc (getD tag-fields tag [] ++ more)) (λ loc. row-at (tag-rows (read-nested n s) (read-nested n (erase s)) (nested n) loc) tag more))
 
   al-type : (more : List Part) → Alike erase-tree s (type ∷ more) (λ t. more) (read-type s) (read-type (erase s))
   unfolding read-type
@@ -280,7 +287,7 @@ module _ (s : State) where
 
   al-kind : (more : List Part) → Alike {A = NumericKind} same s (plain ∷ more) (λ kind. more) read-kind read-kind
   unfolding read-kind
-  al-kind more = al-bind _ _ (al-plain-to 2 more) (λ b. al-give _ refl)
+  al-kind more = al-bind _ _ (al-plain-if _ more) (λ b. al-give _ refl)
 
   al-NC : Whole-record (loc-field ++ (plain ∷ type ∷ [])) (read-NC s) (read-NC (erase s))
   unfolding read-NC erase-record
@@ -293,7 +300,7 @@ module _ (s : State) where
 
   al-TS : Whole-record (pairs ∷ []) (read-TS s) (read-TS (erase s))
   unfolding read-TS brings blank-byte erase-record
-  al-TS = al-bind _ _ (al-byte-to 8 pairs [] (λ b. refl)) (λ n. rw (append-assoc (pair-fields n)) (al-bind _ _ (al-pairs n (type ∷ [])) (λ ps. al-bind _ _ (al-type []) (λ t. al-give (TS ps t) refl))))
+  al-TS = al-bind _ _ (al-byte-if _ pairs [] (λ b. refl)) (λ n. rw (append-assoc (pair-fields n)) (al-bind _ _ (al-pairs n (type ∷ [])) (λ ps. al-bind _ _ (al-type []) (λ t. al-give (TS ps t) refl))))
 
   al-SD : Whole-record [] (read-SD s) (read-SD (erase s))
   unfolding read-SD erase-record

@@ -16,10 +16,10 @@ use Rattle.definition.specs.TParams.{arg-of, make-tparam-subst}
 use Rattle.definition.specs.Constraints.{num-vars, undecided, u64, default-num-var, default-num-vars, failures as all-failures, stays, staying, solve-constraints}
 use Rattle.definition.specs.Write.{Bytes, u16, write-error}
 use Rattle.definition.specs.Reader.{Read}
-use Rattle.definition.specs.Trees.{Tree, unit-tree, anything-tree, error-tree, ref-tree, param-tree, apply-tree, var-tree, Trees, no-trees, _then_, mark-fits, arity}
+use Rattle.definition.specs.Trees.{Tree, unit-tree, anything-tree, error-tree, ref-tree, param-tree, apply-tree, var-tree, Trees, no-trees, _then_, mark-fits, arity, is-mark, is-name}
 use Rattle.definition.specs.Record.{NumericKind, Numeric, Bits, Ordered, Record, SD, FV, NV, SN, JN, SU, UF, RD, IN, TS, NC, BC, SC, SV}
 use Rattle.definition.specs.Place.{place, place-all, place-pairs}
-use Rattle.definition.specs.Sound.{is-mark, is-name, sound}
+use Rattle.definition.specs.Sound.{sound}
 use Rattle.definition.specs.Step.{numeric-constraint, constrain, two-types, run, Answer, number-of-error, refusal, put-back, max-payload, answer-with, answer, lent}
 use Rattle.definition.specs.Locations.{Part, types, failures, blank, success-fields, shown-fields, payload-fields}
 use Rattle.definition.proofs.Tracks.{never}

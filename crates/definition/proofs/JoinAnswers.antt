@@ -7,14 +7,14 @@ use Prim.Native.Nat.{ℕ, zero, suc, _+_, _-_, _≤_, _<_}
 use native.Mathlib.Omega.{arith}
 use lib.ListN.{length, getD, take, drop, length-take}
 use lib.Dec.{ltb, leb, eqb}
-use Rattle.definition.specs.Types.{TypeName, Multiple, Builtin, ModuleType, Mark, Type-value, UnitType, Ref, Param, Apply, Var, Anything, UnresolvedError, State, Refusal, malformed, unsound-state, max-depth, Result, ok, _>>=_ as _then-run_, if_then_else_}
+use Rattle.definition.specs.Types.{TypeName, Multiple, Builtin, ModuleType, Mark, Type-value, UnitType, Ref, Param, Apply, Var, Anything, UnresolvedError, State, Refusal, malformed, unknown-name, unsound-state, max-depth, Result, ok, _>>=_ as _then-run_, if_then_else_}
 use Rattle.definition.specs.Store.{count, taken, sp}
 use Rattle.definition.specs.Subst.{parts}
 use Rattle.definition.specs.Join.{TypingCase, Join, Subtype, join-impl, join, subtype}
 use Rattle.definition.specs.Write.{Bytes, write}
-use Rattle.definition.specs.Reader.{Read, got, not-read, Reader, give, refuse, go-on, _>>=_, byte, read-u16, read-u32, byte-to, read-bool, name-below, times}
+use Rattle.definition.specs.Reader.{Read, got, not-read, Reader, give, refuse, go-on, _>>=_, byte, read-u16, read-u32, byte-if, byte-to, read-bool, name-below, times}
 use Rattle.definition.specs.Trees.{Tree, unit-tree, anything-tree, error-tree, ref-tree, param-tree, apply-tree, var-tree, Trees, no-trees, _then_}
-use Rattle.definition.specs.Trees.{read-trees, mark-of, read-mark, mark-fits, arity, read-apply, read-ref, read-param, read-builtin, read-list, read-struct, read-var, by-tag, read-nested, read-type}
+use Rattle.definition.specs.Trees.{read-trees, mark-of, read-mark, mark-fits, arity, read-apply, read-ref, read-param, read-var, by-tag, is-set, is-name, read-nested, read-type}
 use Rattle.definition.specs.Record.{Record, SD, FV, NV, SN, JN, SU, UF, RD, IN, TS, NC, BC, SC, SV, read-kind, read-SD, read-SN, read-two, read-one, read-loc, read-loc-type, read-pair, read-TS, read-NC, by-mark, fields-of, read-fields, max-record, hand-back, read-record}
 use Rattle.definition.specs.Place.{place, place-all}
 use Rattle.definition.specs.Sound.{sound}
@@ -94,17 +94,17 @@ pays-u32 =
     pays-then (λ b. 1) (λ n. 4) 0 byte _ pays-byte (λ a. pays-then (λ b. 1) (λ n. 4) 1 byte _ pays-byte (λ b. pays-then (λ b. 1) (λ n. 4) 2 byte _ pays-byte (λ c. pays-then (λ b. 1) (λ n. 4) 3 byte _ pays-byte (λ d.
     pays-give (λ n. 4) 4 _ (omega arith)))))
 
-pays-to : (max : ℕ) → Pays 0 (λ b. 1) (byte-to max)
-unfolding byte-to
-pays-to max = pays-then (λ b. 1) (λ b. 1) 0 byte _ pays-byte (λ b. pays-if (λ b. 1) 1 (leb b max) (pays-give (λ b. 1) 1 b (omega arith)) (pays-refuse (λ b. 1) 1 malformed))
+pays-byte-if : (allowed : ℕ → Bool) → Pays 0 (λ b. 1) (byte-if allowed)
+unfolding byte-if
+pays-byte-if allowed = pays-then (λ b. 1) (λ b. 1) 0 byte _ pays-byte (λ b. pays-if (λ b. 1) 1 (allowed b) (pays-give (λ b. 1) 1 b (omega arith)) (pays-refuse (λ b. 1) 1 malformed))
 
 pays-bool : Pays 0 (λ b. 1) read-bool
 unfolding read-bool
-pays-bool = pays-then (λ b. 1) (λ b. 1) 0 (byte-to 1) _ (pays-to 1) (λ b. pays-give (λ b. 1) 1 _ (omega arith))
+pays-bool = pays-then (λ b. 1) (λ b. 1) 0 (byte-to 1) _ (pays-byte-if _) (λ b. pays-give (λ b. 1) 1 _ (omega arith))
 
 pays-mark : Pays 0 (λ k. 1) read-mark
 unfolding read-mark mark-of
-pays-mark = pays-then (λ b. 1) (λ k. 1) 0 byte _ pays-byte (λ b. go b (eqb b 0) (leb 16 b && leb b 31))
+pays-mark = pays-then (λ b. 1) (λ k. 1) 0 byte _ pays-byte (λ b. go b (eqb b 0) (leb 16 b && is-set (b - 16)))
   where
     go : (b : ℕ) (z m : Bool) → Pays {A = Mark} 1 (λ k. 1) (elim (if z then some none else if m then some (some (b - 16)) else none) as (λ o. Reader Mark) [ none ↦ refuse malformed | some k ↦ give k ])
     go b true m = pays-give (λ k. 1) 1 none (omega arith)
@@ -123,10 +123,12 @@ module _ (s : State) where
       pays-then tree-size trees-size 0 m _ p (λ t. pays-then trees-size trees-size (0 + tree-size t) (read-trees n m) _ (pays-trees n m p) (λ ts. pays-give trees-size (0 + tree-size t + trees-size ts) (_then_ t ts) (omega arith)))
 
   module _ (m : Reader Tree) (p : Pays 0 tree-size m) (loc : ℕ) where
-    pays-apply : (k : Mark) (n : TypeName) → Pays (name-size n) tree-size (read-apply s m loc k n)
+    -- w: how many bytes the number takes
+    pays-apply : (w : ℕ) (number : Reader ℕ) → Pays 0 (λ n. w) number → (name : ℕ → TypeName) (x : Refusal) → ((n : ℕ) → name-size (name n) ≡ 6 + w) → Pays 5 tree-size (read-apply s m loc number name x)
     unfolding read-apply tree-size trees-size
-    pays-apply k n = pays-if tree-size (name-size n) (not (mark-fits k n)) (pays-refuse tree-size (name-size n) malformed)
-        (pays-then trees-size tree-size (name-size n) (read-trees (arity s n) m) _ (pays-trees (arity s n) m p) (λ ts. pays-give tree-size (name-size n + trees-size ts) (apply-tree loc k n ts) (omega arith)))
+    pays-apply w number q name x e = pays-then (λ b. 1) tree-size 5 read-mark _ pays-mark (λ k. pays-then (λ b. w) tree-size 6 number _ q (λ n.
+        pays-if tree-size (6 + w) (not (is-name s (name n))) (pays-refuse tree-size (6 + w) x) (pays-if tree-size (6 + w) (not (mark-fits k (name n))) (pays-refuse tree-size (6 + w) malformed)
+        (pays-then trees-size tree-size (6 + w) (read-trees (arity s (name n)) m) _ (pays-trees (arity s (name n)) m p) (λ ts. pays-give tree-size (6 + w + trees-size ts) (apply-tree loc k (name n) ts) (omega (arith, e n)))))))
 
     pays-ref : Pays 5 tree-size (read-ref s m loc)
     unfolding read-ref tree-size trees-size
@@ -134,19 +136,19 @@ module _ (s : State) where
 
     pays-param : Pays 5 tree-size (read-param s m loc)
     unfolding read-param tree-size trees-size
-    pays-param = pays-then (λ b. 4) tree-size 5 read-u32 _ pays-u32 (λ id. pays-then (λ b. 1) tree-size 9 (byte-to 15) _ (pays-to 15) (λ a. pays-give tree-size 10 (param-tree loc id a) (omega arith)))
+    pays-param = pays-then (λ b. 4) tree-size 5 read-u32 _ pays-u32 (λ id. pays-then (λ b. 1) tree-size 9 (byte-if is-set) _ (pays-byte-if is-set) (λ a. pays-give tree-size 10 (param-tree loc id a) (omega arith)))
 
-    pays-builtin : Pays 5 tree-size (read-builtin s m loc)
-    unfolding read-builtin name-size
-    pays-builtin = pays-then (λ b. 1) tree-size 5 read-mark _ pays-mark (λ k. pays-then (λ b. 1) tree-size 6 (byte-to 6) _ (pays-to 6) (λ b. pays-apply k (Builtin b)))
+    pays-builtin : Pays 5 tree-size (read-apply s m loc byte Builtin malformed)
+    unfolding name-size
+    pays-builtin = pays-apply 1 byte pays-byte Builtin malformed (λ n. refl)
 
-    pays-list : Pays 5 tree-size (read-list s m loc)
-    unfolding read-list name-size
-    pays-list = pays-then (λ b. 1) tree-size 5 read-mark _ pays-mark (λ k. pays-then (λ b. 1) tree-size 6 (byte-to 8) _ (pays-to 8) (λ n. pays-apply k (Multiple n)))
+    pays-list : Pays 5 tree-size (read-apply s m loc byte Multiple malformed)
+    unfolding name-size
+    pays-list = pays-apply 1 byte pays-byte Multiple malformed (λ n. refl)
 
-    pays-struct : Pays 5 tree-size (read-struct s m loc)
-    unfolding read-struct name-size
-    pays-struct = pays-then (λ b. 1) tree-size 5 read-mark _ pays-mark (λ k. pays-then (λ b. 2) tree-size 6 (name-below (length (s .structs))) _ (pays-name (length (s .structs))) (λ n. pays-apply k (ModuleType n)))
+    pays-struct : Pays 5 tree-size (read-apply s m loc read-u16 ModuleType unknown-name)
+    unfolding name-size
+    pays-struct = pays-apply 2 read-u16 pays-u16 ModuleType unknown-name (λ n. refl)
 
     pays-var : Pays 5 tree-size (read-var s m loc)
     unfolding read-var tree-size trees-size
@@ -172,7 +174,7 @@ module _ (s : State) where
   unfolding read-nested
   pays-nested zero = pays-refuse tree-size 0 malformed
   pays-nested (suc n) =
-      pays-then (λ b. 1) tree-size 0 (byte-to 8) _ (pays-to 8) (λ tag. pays-then (λ b. 4) tree-size 1 read-u32 _ pays-u32 (λ loc. pays-by-tag (read-nested n s) (pays-nested n) loc tag))
+      pays-then (λ b. 1) tree-size 0 (byte-to 8) _ (pays-byte-if _) (λ tag. pays-then (λ b. 4) tree-size 1 read-u32 _ pays-u32 (λ loc. pays-by-tag (read-nested n s) (pays-nested n) loc tag))
 
   pays-type : Pays 0 tree-size (read-type s)
   unfolding read-type

@@ -10,10 +10,10 @@ use Rattle.definition.specs.Types.{TypeName, Mark, Shape, UnitType, Ref,
 use Rattle.definition.specs.Types.{Constraint, AbilityConstraint, NumericConstraint, BitsConstraint, OrderedConstraint, BaseTypeConstraint, SingleTypeConstraint}
 use Rattle.definition.specs.Store.{nowhere, count, taken, with-args, node, value, loc-of, num-loc, with-vars, with-constraints, with-structs, insert, args-of, stored, with-node, with-var, all-of}
 use Rattle.definition.specs.Subst.{next-of, or-insert, mark-one, mark-chain, set-num-var}
-use Rattle.definition.specs.Trees.{mark-fits}
+use Rattle.definition.specs.Trees.{mark-fits, is-set, is-mark, is-name}
 use Rattle.definition.specs.Join.{merge-num}
 use Rattle.definition.specs.Constraints.{stays, staying}
-use Rattle.definition.specs.Sound.{is-u32, is-set, is-mark, is-name, numeric-allowed, struct-allowed}
+use Rattle.definition.specs.Sound.{is-u32, numeric-allowed, struct-allowed}
 use Rattle.definition.proofs.Stays.{Stays, stay, leave, stays-one}
 use Rattle.definition.proofs.Order.{All}
 use Rattle.definition.proofs.Soundness.{elim-and}

@@ -12,12 +12,12 @@ use Rattle.definition.specs.Types.{Constraint, AbilityConstraint, Numeri
 use Rattle.definition.specs.Types.{Refusal, answer-too-long, Result, ok, err, refused}
 use Rattle.definition.specs.Store.{nowhere, count, taken, node, value, with-args, args-at, num-loc, all-of}
 use Rattle.definition.specs.Subst.{parts}
-use Rattle.definition.specs.Trees.{mark-fits, arity}
+use Rattle.definition.specs.Trees.{mark-fits, arity, is-set, is-mark, is-name}
 use Rattle.definition.specs.Instantiate.{struct-tparams}
 use Rattle.definition.specs.Write.{Bytes, Is-bytes}
 use Rattle.definition.specs.Reader.{Read, got, not-read}
 use Rattle.definition.specs.Record.{Record, read-record}
-use Rattle.definition.specs.Sound.{all-at, counts-fit, parts-smaller, fields-allowed, bindings-known, chains-end, is-u32, is-set, is-mark, is-name, places-fit, shape-allowed, node-allowed, at-node, constraint-allowed, binding-allowed, cell-allowed, sound}
+use Rattle.definition.specs.Sound.{all-at, counts-fit, parts-smaller, fields-allowed, bindings-known, chains-end, is-u32, places-fit, shape-allowed, node-allowed, at-node, constraint-allowed, binding-allowed, cell-allowed, sound}
 use Rattle.definition.specs.Step.{run, Answer, number-of-error, number-of-refusal, refusal, put-back, max-payload, answer-with, answer, max-buffer, usable, lent, step, streamed, step-stream}
 use Rattle.definition.specs.Demand.{after}
 use Rattle.definition.specs.Job.{Entry, ends-job, job-from, job-log}

@@ -17,10 +17,10 @@ use Rattle.definition.specs.Join.{TypingCase, Join, Subtype, Join-impl, 
 use Rattle.definition.specs.TParams.{TParamSubst, arg-of, make-tparam-subst, subst-value, subst-down, subst-tparams}
 use Rattle.definition.specs.Instantiate.{make-tvar, tvar-constraint, builtin-tparams, struct-tparams, tparam-constraints, make-tparams, join-args, instantiate-type-args, instantiate-apply, instantiate-value, instantiate-down, instantiate}
 use Rattle.definition.specs.Constraints.{num-vars, undecided, u64, default-num-var, default-num-vars, solve-constraints}
-use Rattle.definition.specs.Trees.{Tree, unit-tree, anything-tree, error-tree, ref-tree, param-tree, apply-tree, var-tree, Trees, no-trees, _then_, has-drop, mark-fits}
+use Rattle.definition.specs.Trees.{Tree, unit-tree, anything-tree, error-tree, ref-tree, param-tree, apply-tree, var-tree, Trees, no-trees, _then_, has-drop, mark-fits, is-set, is-mark, is-name}
 use Rattle.definition.specs.Record.{NumericKind, Numeric, Bits, Ordered, Record, SD, FV, NV, SN, JN, SU, UF, RD, IN, TS, NC, BC, SC, SV}
 use Rattle.definition.specs.Place.{place, place-all, place-pairs}
-use Rattle.definition.specs.Sound.{is-set, is-mark, is-name, numeric-allowed}
+use Rattle.definition.specs.Sound.{numeric-allowed}
 use Rattle.definition.specs.Step.{numeric-constraint, constrain, two-types, run}
 use Rattle.definition.proofs.Order.{All}
 use Rattle.definition.proofs.Soundness.{le-test}
@@ -71,14 +71,14 @@ join-loc-in Join m1 m2 l1 l2 u1 u2 = go (not m1 && m2)
 join-loc-in Subtype m1 m2 l1 l2 u1 u2 = u2
 
 u64-in : (b : State) → ShapeIn b u64
-unfolding u64 is-mark is-set is-name mark-fits is-numeric has-drop
+unfolding u64 is-mark is-name mark-fits is-numeric has-drop
 u64-in b = refl
 
 abbrev IsSet : ℕ → Type 0
 IsSet a = is-set a ≡ true
 
 pub tparams-in : (s : State) (n : TypeName) → All IsSet (tparam-constraints s n)
-unfolding tparam-constraints builtin-tparams is-set
+unfolding tparam-constraints builtin-tparams
 tparams-in s (Multiple len) = zeros len
   where
     zeros : (n : ℕ) → All IsSet (replicate n 0)

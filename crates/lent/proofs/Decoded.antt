@@ -13,9 +13,9 @@ use borrow.Author.Tests.{ltb-true, leb-true, eqb-true, le-ltb, lt-ltb}
 use Rattle.definition.specs.Types.{State, Struct, Cell, Node, Shape, TypeName, Multiple, Builtin, ModuleType, Mark, UnitType, Ref, Param, Apply, Var, Anything, UnresolvedError, Places, unbound, if_then_else_}
 use Rattle.definition.specs.Types.{Constraint, AbilityConstraint, NumericConstraint, BitsConstraint, OrderedConstraint, BaseTypeConstraint, SingleTypeConstraint}
 use Rattle.definition.specs.Store.{count, taken, node, nowhere, with-structs, all-of}
-use Rattle.definition.specs.Trees.{mark-fits}
+use Rattle.definition.specs.Trees.{mark-fits, is-set, is-mark, is-name}
 use Rattle.definition.specs.Sound as sd
-use Rattle.definition.specs.Sound.{sound, is-u32, is-set, is-mark, is-name, places-fit, shape-allowed, node-allowed, at-node, constraint-allowed, struct-allowed}
+use Rattle.definition.specs.Sound.{sound, is-u32, places-fit, shape-allowed, node-allowed, at-node, constraint-allowed, struct-allowed}
 use Rattle.definition.proofs.Facts.{of-each, fields, shape}
 use Rattle.definition.proofs.Soundness.{Is-sound, sound-is}
 use Rattle.table.specs.Tab.{tab}

@@ -12,8 +12,7 @@ use lib.ListN.{length}
 use borrow.Author.Tests.{ltb-true, leb-true, leb-false, eqb-true, lt-ltb, le-ltb, le-leb, lt-leb, eq-eqb, ne-eqb}
 use Rattle.definition.specs.Types.{Mark, Builtin, if_then_else_}
 use Rattle.definition.specs.Join.{is-numeric}
-use Rattle.definition.specs.Trees.{has-drop}
-use Rattle.definition.specs.Sound.{is-set, is-mark}
+use Rattle.definition.specs.Trees.{has-drop, is-set, is-mark}
 use Rattle.table.specs.declared.Used.{Used}
 use Rattle.table.specs.Rows.{flag, read-mark, mark-word, read-option, option-flag, option-word}
 use Rattle.lent.specs.Tests.{four-zeros, mark-fine, name-fine}

@@ -14,9 +14,9 @@ use Rattle.definition.specs.Types.{State, Struct, Shape, TypeName, Multiple, Bu
 use Rattle.definition.specs.Store.{count, taken, node, nowhere, get, with-args, args-at, with-structs, all-of}
 use Rattle.definition.specs.Subst.{parts}
 use Rattle.definition.specs.Instantiate.{builtin-tparams, struct-tparams}
-use Rattle.definition.specs.Trees.{arity, mark-fits}
+use Rattle.definition.specs.Trees.{arity, mark-fits, is-set, is-mark, is-name}
 use Rattle.definition.specs.Sound as sd
-use Rattle.definition.specs.Sound.{sound, smaller-than, is-u32, is-set, is-mark, is-name, places-fit, shape-allowed, node-allowed, struct-allowed}
+use Rattle.definition.specs.Sound.{sound, smaller-than, is-u32, places-fit, shape-allowed, node-allowed, struct-allowed}
 use Rattle.definition.proofs.Facts.{of-each, at-place, smaller, shape, fields, in-nodes, cell, bound-taken}
 use Rattle.definition.proofs.Soundness.{Is-sound, sound-is}
 use Rattle.table.specs.Tab.{tab}

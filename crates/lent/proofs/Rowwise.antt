@@ -12,7 +12,8 @@ use borrow.Author.Tests.{ltb-true, leb-true, eqb-true, lt-ltb, le-ltb, le-leb, l
 use Rattle.definition.specs.Types.{State, Struct, Node, Cell, Constraint, AbilityConstraint, NumericConstraint, BitsConstraint, OrderedConstraint, BaseTypeConstraint, SingleTypeConstraint, Shape, Places, if_then_else_}
 use Rattle.definition.specs.Store.{count, taken, node, value, with-args, with-structs}
 use Rattle.definition.specs.Subst.{is-anything}
-use Rattle.definition.specs.Sound.{is-u32, is-set, at-node, constraint-allowed, binding-allowed, numeric-allowed, known}
+use Rattle.definition.specs.Sound.{is-u32, at-node, constraint-allowed, binding-allowed, numeric-allowed, known}
+use Rattle.definition.specs.Trees.{is-set}
 use Rattle.table.specs.Rows.{read-option, option-flag, option-word, read-shape, read-constraint, constraint-words, entries, node-table}
 use Rattle.table.specs.State.{view, seen}
 use Rattle.table.specs.declared.Used.{Used}

@@ -14,7 +14,8 @@ use Rattle.definition.specs.Types.{State, Struct, Node, Cell, Shape, Places, Co
 use Rattle.definition.specs.Store.{nowhere, count, taken, node, value, get, num-loc, with-args, with-structs, all-of}
 use Rattle.definition.specs.Subst.{parts}
 use Rattle.definition.specs.Sound as sd
-use Rattle.definition.specs.Sound.{sound, counts-fit, smaller-than, is-u32, is-set, node-allowed, shape-allowed, binding-allowed, numeric-allowed, cell-allowed, constraint-allowed, struct-allowed, fields-allowed, known, bindings-known, chain-ends, chains-end}
+use Rattle.definition.specs.Sound.{sound, counts-fit, smaller-than, is-u32, node-allowed, shape-allowed, binding-allowed, numeric-allowed, cell-allowed, constraint-allowed, struct-allowed, fields-allowed, known, bindings-known, chain-ends, chains-end}
+use Rattle.definition.specs.Trees.{is-set}
 use Rattle.definition.proofs.Facts as f
 use Rattle.definition.proofs.Facts.{of-each, at-place}
 use Rattle.table.specs.Tab.{tab}

@@ -8,7 +8,9 @@ use native.Mathlib.Nat.{not-suc-le-zero}
 use native.Mathlib.Numerals.{add-one}
 use native.Mathlib.Omega.{arith}
 use lib.ListN.{length, getD, take, drop, length-drop, drop-of-length-le}
+use lib.Dec.{leb}
 use lib.Seq.{drop-cons, getD-take, length-take-le, drop-drop}
+use borrow.Author.Tests.{le-leb, lt-leb}
 use Rattle.definition.specs.Types as d
 use Rattle.definition.specs.Types.{TypeName, malformed}
 use Rattle.definition.specs.Join.{is-numeric}
@@ -91,6 +93,13 @@ picked : (r : Marked) (m : Bytes) → mark-read r m ≡ pick (marked r) m
 unfolding give refuse
 picked (With k) m = refl
 picked Wrong m = refl
+
+-- the set in a mark's byte
+pub set-in : (x : ℕ) → x ≤ 31 → leb (x - 16) 15 ≡ true
+set-in x l = le-leb (x - 16) 15 (omega (arith, l))
+
+pub set-past : (x : ℕ) → 31 < x → leb (x - 16) 15 ≡ false
+set-past x l = lt-leb (x - 16) 15 (omega (arith, l))
 
 -- the byte x is read as the mark r
 pub mark-step : (r : Marked) (x : ℕ) (l m : Bytes) → marked r ≡ mark-of x → byte l ≡ got x m → mark-read r m ≡ read-mark l

@@ -1,15 +1,16 @@
 -- What is left of the caller's bytes, and the fields of a type as read. Assumes nothing: these are definitions.
 use mathlib.Core.Path.{_≡_}
+use mathlib.Core.Bool.{not}
 use mathlib.Core.List.{List, []}
 use mathlib.Core.Option.{Option, none, some}
 use Prim.Native.Nat.{ℕ, _+_, _≤_, _<_}
 use lib.ListN.{length, take, drop}
 use Rattle.definition.specs.Types as d
-use Rattle.definition.specs.Types.{State, Struct, malformed, unknown-name}
+use Rattle.definition.specs.Types.{State, Struct, malformed, unknown-name, if_then_else_}
 use Rattle.definition.specs.Store.{taken}
 use Rattle.definition.specs.Write.{Bytes}
-use Rattle.definition.specs.Reader.{Read, got, not-read, Reader, give, go-on, name-below}
-use Rattle.definition.specs.Trees.{Tree, unit-tree, anything-tree, error-tree, ref-tree, param-tree, apply-tree, var-tree, Trees, no-trees, _then_, read-trees, read-mark}
+use Rattle.definition.specs.Reader.{Read, got, not-read, Reader, give, refuse, go-on, _>>=_, name-below}
+use Rattle.definition.specs.Trees.{Tree, unit-tree, anything-tree, error-tree, ref-tree, param-tree, apply-tree, var-tree, Trees, no-trees, _then_, read-trees, read-mark, mark-fits, arity}
 use Rattle.names.specs.Names.{mark-of, name-of}
 use Rattle.names.specs.declared.Mark.{Mark}
 use Rattle.table.specs.declared.Shape.{Shape}
@@ -98,6 +99,12 @@ tree-of loc (Apply k n first many) ts = apply-tree loc (mark-of k) (name-of n) t
 tree-of loc (Var v) ts = var-tree loc (v .0)
 tree-of loc Anything ts = anything-tree loc
 tree-of loc UnresolvedError ts = error-tree loc
+
+-- what stands after an ability mark and a name
+unfoldable pub read-args : State → Reader Tree → ℕ → d.Mark → d.TypeName → Reader Tree
+read-args s part loc k n = if not (mark-fits k n) then refuse malformed else do
+  ts ← read-trees (arity s n) part
+  give (apply-tree loc k n ts)
 
 -- the tree, once `part` has read the parts
 abbrev pub tree-read : Head → List ℕ → ℕ → Reader Tree → Read Tree

@@ -9,11 +9,11 @@ ghost use Rattle.definition.specs.Types.{malformed};
 ghost use Rattle.definition.specs.Store.{taken};
 ghost use Rattle.definition.specs.Instantiate.{builtin-tparams};
 ghost use Rattle.definition.specs.Reader.{refuse, byte, byte-to, read-u16, read-u32, name-below};
-ghost use Rattle.definition.specs.Trees.{mark-of, mark-fits, read-apply, read-ref, read-param, read-builtin, read-list, read-struct, read-var, by-tag, read-nested};
+ghost use Rattle.definition.specs.Trees.{mark-of, mark-fits, read-apply, read-ref, read-param, read-var, by-tag, read-nested};
 ghost use Rattle.names.specs.Names.{mark-of as mark-is, name-of};
 ghost use Rattle.table.specs.State.{view, seen, Lay, After, Declares};
 ghost use Rattle.reader.specs.declared.Head.the-variants.{Begun};
-ghost use Rattle.reader.specs.Fields.{rest, Reads, Names, marked, Marks, Begins, Knows, Head-within, Head-nests, tree-read, many-parts};
+ghost use Rattle.reader.specs.Fields.{rest, read-args, Reads, Names, marked, Marks, Begins, Knows, Head-within, Head-nests, tree-read, many-parts};
 ghost use Rattle.reader.specs.Taken.{Arities, Takes, Parts-below, put-node, found-part, is-stop, is-over, node-in};
 pub use cursor::Number;
 use cursor::read_word;
@@ -206,7 +206,7 @@ fn builtin_arity(b: u32) -> u32
 }
 
 fn builtin_head(k: Mark, n: u32, loc: u32, next: usize) -> Head
-    ensures { λ r. ⌜ ((s : d.State) (b : List ℕ) (end : ℕ) → next ≤ end → Begins (λ part. read-apply s part loc (mark-is k) (d.Builtin n) (rest b end next)) b end r) ⌝ }
+    ensures { λ r. ⌜ ((s : d.State) (b : List ℕ) (end : ℕ) → next ≤ end → Begins (λ part. read-args s part loc (mark-is k) (d.Builtin n) (rest b end next)) b end r) ⌝ }
 {
     if fits(k, n) {
         let many = builtin_arity(n);
@@ -218,7 +218,7 @@ fn builtin_head(k: Mark, n: u32, loc: u32, next: usize) -> Head
 
 fn builtin_fields(b: &[u8], end: usize, at: usize, loc: u32) -> Head
     requires { ⌜ (end ≤ length (now b)) × (at ≤ end) ⌝ }
-    ensures { λ r. ⌜ ((s : d.State) → Begins (λ part. read-builtin s part loc (rest (now (b .entry)) end at)) (now (b .entry)) end r) ⌝ }
+    ensures { λ r. ⌜ ((s : d.State) → Begins (λ part. read-apply s part loc byte d.Builtin malformed (rest (now (b .entry)) end at)) (now (b .entry)) end r) ⌝ }
 {
     let m = read_mark(b, end, at);
     match m {
@@ -235,7 +235,7 @@ fn builtin_fields(b: &[u8], end: usize, at: usize, loc: u32) -> Head
 
 fn list_fields(b: &[u8], end: usize, at: usize, loc: u32) -> Head
     requires { ⌜ (end ≤ length (now b)) × (at ≤ end) ⌝ }
-    ensures { λ r. ⌜ ((s : d.State) → Begins (λ part. read-list s part loc (rest (now (b .entry)) end at)) (now (b .entry)) end r) ⌝ }
+    ensures { λ r. ⌜ ((s : d.State) → Begins (λ part. read-apply s part loc byte d.Multiple malformed (rest (now (b .entry)) end at)) (now (b .entry)) end r) ⌝ }
 {
     let m = read_mark(b, end, at);
     match m {
@@ -269,7 +269,7 @@ fn var_fields(b: &[u8], end: usize, at: usize, known: u32, loc: u32) -> Head
 fn struct_fields(w: &[u32], u: Used, b: &[u8], end: usize, at: usize, loc: u32) -> Head
     requires { ⌜ Lay (now w) u × Arities (view (now w) u .structs) ⌝ }
     requires { ⌜ (end ≤ length (now b)) × (at ≤ end) ⌝ }
-    ensures { λ r. ⌜ ((s : d.State) → Declares (now (w .entry)) u (s .structs) → Begins (λ part. read-struct s part loc (rest (now (b .entry)) end at)) (now (b .entry)) end r) ⌝ }
+    ensures { λ r. ⌜ ((s : d.State) → Declares (now (w .entry)) u (s .structs) → Begins (λ part. read-apply s part loc read-u16 d.ModuleType d.unknown-name (rest (now (b .entry)) end at)) (now (b .entry)) end r) ⌝ }
 {
     let m = read_mark(b, end, at);
     match m {

@@ -11,7 +11,8 @@ use lib.ListN.{length, getD, drop, List·getD-eq-default}
 use Rattle.definition.specs.Types.{State, Struct, Cell}
 use Rattle.definition.specs.Write.{Bytes, Is-bytes}
 use Rattle.definition.specs.Record.{read-record}
-use Rattle.definition.specs.Sound.{sound, is-set, struct-allowed}
+use Rattle.definition.specs.Sound.{sound, struct-allowed}
+use Rattle.definition.specs.Trees.{is-set}
 use Rattle.definition.specs.Step as step
 use Rattle.definition.specs.Step.{lent, usable, max-buffer}
 use Rattle.definition.proofs.Order.{All}

@@ -1,7 +1,8 @@
 -- `reader::builtin_fields` meets its contract. Assumes nothing.
 use mathlib.Core.Path.{refl, _∙_}
 use Rattle.definition.specs.Reader.{_>>=_, go-on}
-use Rattle.definition.specs.Trees.{read-builtin}
+use Rattle.reader.specs.Fields.{read-args}
+use Rattle.reader.proofs.Named.{builtin-is}
 use borrow.Author.Needs.{needs}
 use Rattle.reader.proofs.builtin_fields.Statement.{statement}
 use Rattle.reader.proofs.builtin_fields.Tie as tie
@@ -37,18 +38,18 @@ enum-told-2 : tie.Need-enum-told-2
 enum-told-2 c = search needs
 
 returns : tie.Need-returns
-unfolding read-builtin _>>=_ go-on
+unfolding _>>=_ go-on
 returns c = λ s.
     let b = c .builtin-head .ensures s _ _ ((rw (c .before .before .n .given .1) at (c .before .before .before .before .byte-to .ensures .within)) .1) in
-    record { is = λ part. b .is part ∙ rw (← c .before .before .before .before .before .before .before .before .read-mark .ensures .is, c .before .before .before .before .before .before .m .given .1, ← c .before .before .before .before .byte-to .ensures .is, c .before .before .n .given .1) refl; within = b .within }
+    record { is = λ part. rw (builtin-is s part _ _) (b .is part ∙ rw (← c .before .before .before .before .before .before .before .before .read-mark .ensures .is, c .before .before .before .before .before .before .m .given .1, ← c .before .before .before .before .byte-to .ensures .is, c .before .before .n .given .1) refl); within = b .within }
 
 returns-2 : tie.Need-returns-2
-unfolding read-builtin _>>=_ go-on
-returns-2 c = λ s. record { is = λ part. rw (← c .before .before .before .before .before .before .read-mark .ensures .is, c .before .before .before .before .m .given .1, ← c .before .before .byte-to .ensures .is, c .enum-told .given .1) refl; within = tt }
+unfolding _>>=_ go-on
+returns-2 c = λ s. record { is = λ part. rw (builtin-is s part _ _, ← c .before .before .before .before .before .before .read-mark .ensures .is, c .before .before .before .before .m .given .1, ← c .before .before .byte-to .ensures .is, c .enum-told .given .1) refl; within = tt }
 
 returns-3 : tie.Need-returns-3
-unfolding read-builtin _>>=_ go-on
-returns-3 c = λ s. record { is = λ part. rw (← c .before .before .read-mark .ensures .is, c .enum-told2 .given .1) refl; within = tt }
+unfolding _>>=_ go-on
+returns-3 c = λ s. record { is = λ part. rw (builtin-is s part _ _, ← c .before .before .read-mark .ensures .is, c .enum-told2 .given .1) refl; within = tt }
 
 pub builtin-fields-spec : {M : Type 1} → statement M
 builtin-fields-spec =

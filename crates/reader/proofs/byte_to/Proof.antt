@@ -1,7 +1,7 @@
 -- `reader::byte_to` meets its contract. Assumes nothing.
 use mathlib.Core.Path.{refl}
 use borrow.Author.Tests.{le-leb, lt-leb}
-use Rattle.definition.specs.Reader.{byte-to, _>>=_, go-on, give, refuse}
+use Rattle.definition.specs.Reader.{byte-if, _>>=_, go-on, give, refuse}
 use borrow.Author.Needs.{needs}
 use Rattle.reader.proofs.byte_to.Statement.{statement}
 use Rattle.reader.proofs.byte_to.Tie as tie
@@ -16,15 +16,15 @@ enum-told : tie.Need-enum-told
 enum-told c = search needs
 
 returns : tie.Need-returns
-unfolding byte-to _>>=_ go-on give refuse
+unfolding byte-if _>>=_ go-on give refuse
 returns c = record { is = rw (← c .before .before .before .before .read-byte .ensures .is, c .before .before .f .given .1, le-leb _ _ (c .if1 .taken)) refl; within = (c .if1 .taken, (rw (c .before .before .f .given .1) at (c .before .before .before .before .read-byte .ensures .within)) .1) }
 
 returns-2 : tie.Need-returns-2
-unfolding byte-to _>>=_ go-on give refuse
+unfolding byte-if _>>=_ go-on give refuse
 returns-2 c = record { is = rw (← c .before .before .before .before .read-byte .ensures .is, c .before .before .f .given .1, lt-leb _ _ (c .if1 .left)) refl; within = tt }
 
 returns-3 : tie.Need-returns-3
-unfolding byte-to _>>=_ go-on give refuse
+unfolding byte-if _>>=_ go-on give refuse
 returns-3 c = record { is = rw (← c .before .before .read-byte .ensures .is, c .enum-told .given .1) refl; within = tt }
 
 pub byte-to-spec : {M : Type 1} → statement M

@@ -2,7 +2,9 @@
 use Rattle.definition.specs.Join.{is-numeric}
 use mathlib.Core.Path.{refl}
 use Rattle.definition.specs.Reader.{_>>=_, go-on}
-use Rattle.definition.specs.Trees.{read-list, read-apply, arity, mark-fits}
+use Rattle.definition.specs.Trees.{arity, mark-fits}
+use Rattle.reader.specs.Fields.{read-args}
+use Rattle.reader.proofs.Named.{list-is}
 use borrow.Author.Needs.{needs}
 use Rattle.reader.proofs.list_fields.Statement.{statement}
 use Rattle.reader.proofs.list_fields.Tie as tie
@@ -35,18 +37,18 @@ enum-told-2 : tie.Need-enum-told-2
 enum-told-2 c = search needs
 
 returns : tie.Need-returns
-unfolding read-list read-apply arity mark-fits _>>=_ go-on is-numeric
+unfolding read-args arity mark-fits _>>=_ go-on is-numeric
 returns c = λ s.
     let l = rw (c .before .n .given .1) at (c .before .before .before .byte-to .ensures .within) in
-    record { is = λ part. rw (← c .before .before .before .before .before .before .before .read-mark .ensures .is, c .before .before .before .before .before .m .given .1, ← c .before .before .before .byte-to .ensures .is, c .before .n .given .1) refl; within = (l .1, l .0) }
+    record { is = λ part. rw (list-is s part _ _, ← c .before .before .before .before .before .before .before .read-mark .ensures .is, c .before .before .before .before .before .m .given .1, ← c .before .before .before .byte-to .ensures .is, c .before .n .given .1) refl; within = (l .1, l .0) }
 
 returns-2 : tie.Need-returns-2
-unfolding read-list read-apply arity mark-fits _>>=_ go-on
-returns-2 c = λ s. record { is = λ part. rw (← c .before .before .before .before .before .before .read-mark .ensures .is, c .before .before .before .before .m .given .1, ← c .before .before .byte-to .ensures .is, c .enum-told .given .1) refl; within = tt }
+unfolding read-args arity mark-fits _>>=_ go-on
+returns-2 c = λ s. record { is = λ part. rw (list-is s part _ _, ← c .before .before .before .before .before .before .read-mark .ensures .is, c .before .before .before .before .m .given .1, ← c .before .before .byte-to .ensures .is, c .enum-told .given .1) refl; within = tt }
 
 returns-3 : tie.Need-returns-3
-unfolding read-list read-apply arity mark-fits _>>=_ go-on
-returns-3 c = λ s. record { is = λ part. rw (← c .before .before .read-mark .ensures .is, c .enum-told2 .given .1) refl; within = tt }
+unfolding read-args arity mark-fits _>>=_ go-on
+returns-3 c = λ s. record { is = λ part. rw (list-is s part _ _, ← c .before .before .read-mark .ensures .is, c .enum-told2 .given .1) refl; within = tt }
 
 pub list-fields-spec : {M : Type 1} → statement M
 list-fields-spec =

@@ -2,6 +2,7 @@
 use borrow.Author.Tests.{eq-eqb, ne-eqb, le-leb, lt-leb}
 use Rattle.definition.specs.Trees.{mark-of}
 use borrow.Author.Needs.{needs}
+use Rattle.reader.proofs.Rest.{set-in, set-past}
 use Rattle.reader.proofs.mark_of.Statement.{statement}
 use Rattle.reader.proofs.mark_of.Tie as tie
 
@@ -18,11 +19,11 @@ cast-t5 c = search needs
 
 returns-3 : tie.Need-returns-3
 unfolding mark-of
-returns-3 c = simp (ne-eqb _ _ (c .before .before .if1 .left), le-leb _ _ (c .before .if2 .left), le-leb _ _ (c .if3 .taken))
+returns-3 c = simp (ne-eqb _ _ (c .before .before .if1 .left), le-leb _ _ (c .before .if2 .left), set-in _ (c .if3 .taken))
 
 returns-4 : tie.Need-returns-4
 unfolding mark-of
-returns-4 c = simp (ne-eqb _ _ (c .before .before .if1 .left), le-leb _ _ (c .before .if2 .left), lt-leb _ _ (c .if3 .left))
+returns-4 c = simp (ne-eqb _ _ (c .before .before .if1 .left), le-leb _ _ (c .before .if2 .left), set-past _ (c .if3 .left))
 
 pub mark-of-spec : {M : Type 1} → statement M
 mark-of-spec = tie.close (tie.spec returns returns-2 cast-t5 returns-3 returns-4)

@@ -3,7 +3,9 @@ use Rattle.reader.proofs.Heads.{declares-self, arity-fits}
 use mathlib.Core.Path.{refl}
 use Rattle.definition.specs.Join.{is-numeric}
 use Rattle.definition.specs.Instantiate.{struct-tparams}
-use Rattle.definition.specs.Trees.{read-struct, read-apply, arity, mark-fits}
+use Rattle.definition.specs.Trees.{arity, mark-fits}
+use Rattle.reader.specs.Fields.{read-args}
+use Rattle.reader.proofs.Named.{struct-is}
 use Rattle.definition.specs.Reader.{_>>=_, go-on}
 use borrow.Author.Needs.{needs}
 use Rattle.reader.proofs.struct_fields.Statement.{statement}
@@ -43,20 +45,20 @@ enum-told-3 : tie.Need-enum-told-3
 enum-told-3 c = search needs
 
 returns : tie.Need-returns
-unfolding read-struct read-apply arity struct-tparams mark-fits is-numeric _>>=_ go-on
-returns c = λ s de. record { is = λ part. rw (← c .before .before .before .before .before .before .before .before .read-mark .ensures .is, c .before .before .before .before .before .before .m .given .1, de .many, ← c .before .before .before .before .name-below .ensures .is, c .before .before .n .given .1, c .struct-at .ensures (s .structs) de .1) refl; within = ((rw (c .before .before .n .given .1) at (c .before .before .before .before .name-below .ensures .within)) .1, arity-fits _ _ _ _ (c .before .before .before .before .before .before .before .before .before .before .before .pre .0 .1) (c .struct-at .ensures _ (declares-self _ _) .1)) }
+unfolding read-args arity struct-tparams mark-fits is-numeric _>>=_ go-on
+returns c = λ s de. record { is = λ part. rw (struct-is s part _ _, ← c .before .before .before .before .before .before .before .before .read-mark .ensures .is, c .before .before .before .before .before .before .m .given .1, de .many, ← c .before .before .before .before .name-below .ensures .is, c .before .before .n .given .1, c .struct-at .ensures (s .structs) de .1) refl; within = ((rw (c .before .before .n .given .1) at (c .before .before .before .before .name-below .ensures .within)) .1, arity-fits _ _ _ _ (c .before .before .before .before .before .before .before .before .before .before .before .pre .0 .1) (c .struct-at .ensures _ (declares-self _ _) .1)) }
 
 returns-2 : tie.Need-returns-2
-unfolding read-struct read-apply arity struct-tparams mark-fits is-numeric _>>=_ go-on
-returns-2 c = λ s de. record { is = λ part. rw (← c .before .before .before .before .before .before .read-mark .ensures .is, c .before .before .before .before .m .given .1, de .many, ← c .before .before .name-below .ensures .is, c .enum-told .given .1) refl; within = tt }
+unfolding read-args arity struct-tparams mark-fits is-numeric _>>=_ go-on
+returns-2 c = λ s de. record { is = λ part. rw (struct-is s part _ _, ← c .before .before .before .before .before .before .read-mark .ensures .is, c .before .before .before .before .m .given .1, de .many, ← c .before .before .name-below .ensures .is, c .enum-told .given .1) refl; within = tt }
 
 returns-3 : tie.Need-returns-3
-unfolding read-struct read-apply arity struct-tparams mark-fits is-numeric _>>=_ go-on
-returns-3 c = λ s de. record { is = λ part. rw (← c .before .before .before .before .before .before .read-mark .ensures .is, c .before .before .before .before .m .given .1, de .many, ← c .before .before .name-below .ensures .is, c .enum-told2 .given .1) refl; within = tt }
+unfolding read-args arity struct-tparams mark-fits is-numeric _>>=_ go-on
+returns-3 c = λ s de. record { is = λ part. rw (struct-is s part _ _, ← c .before .before .before .before .before .before .read-mark .ensures .is, c .before .before .before .before .m .given .1, de .many, ← c .before .before .name-below .ensures .is, c .enum-told2 .given .1) refl; within = tt }
 
 returns-4 : tie.Need-returns-4
-unfolding read-struct read-apply arity struct-tparams mark-fits is-numeric _>>=_ go-on
-returns-4 c = λ s de. record { is = λ part. rw (← c .before .before .read-mark .ensures .is, c .enum-told3 .given .1) refl; within = tt }
+unfolding read-args arity struct-tparams mark-fits is-numeric _>>=_ go-on
+returns-4 c = λ s de. record { is = λ part. rw (struct-is s part _ _, ← c .before .before .read-mark .ensures .is, c .enum-told3 .given .1) refl; within = tt }
 
 pub struct-fields-spec : {M : Type 1} → statement M
 struct-fields-spec =
