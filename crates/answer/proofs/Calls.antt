@@ -37,7 +37,7 @@ and-right false true e = refl
 and-right false false e = e
 
 mark-byte : (k : Mark) → is-mark k ≡ true → mark k < 256
-unfolding is-mark is-set mark
+unfolding is-mark mark
 mark-byte none e = omega arith
 mark-byte (some x) e = let h = leb-true x 15 e in omega arith
 

@@ -86,7 +86,7 @@ unfolding check-num-tvar is-num-var
 unmarked S x t e = rw (e, is-num-var) refl
 
 any-used : (S : State) (x t : ℕ) → value S t ≡ Anything → used (suc t) S x t ≡ false
-unfolding used is-var any-of parts
+unfolding used as-var is-var any-of parts
 any-used S x t e = rw e refl
 
 type-open : (S : State) (loc e : ℕ) → get S e ≡ none → type-of S loc e ≡ sp S loc Anything
@@ -182,7 +182,7 @@ arm-l x Anything e = never (cc)
 arm-l x UnresolvedError e = refl
 
 used-other : (S : State) (x w t : ℕ) → value S t ≡ Var w → used (suc t) S x t ≡ false → w ≢ x
-unfolding used is-var any-of parts
+unfolding used as-var is-var any-of parts
 used-other S x w t e u d = never (let z : eqb w x || false ≡ false = rw e at u in let y = eq-eqb w x d in let k : true ≡ false = rw y at z in cc)
 
 module _ {ar : TypeName → ℕ} {S : State} (s : Sound ar S) (n h a b v t x : ℕ) (h-in : h ≤ taken S) (hb : h ≤ b) where
@@ -430,7 +430,7 @@ sp-raw : (S : State) (l : ℕ) (sh : Type-value) → Sure (λ (a : State × ℕ)
 sp-raw S l sh = with-room (Sure (λ (a : State × ℕ). a ≡ (with-node S l sh, count S))) (sp-room S l sh) (λ e. sure-ok refl) sure-refused
 
 used-var : (n : ℕ) (S : State) (y p z : ℕ) → value S p ≡ Var z → y ≢ z → used n S y p ≡ false
-unfolding used is-var any-of parts
+unfolding used as-var is-var any-of parts
 used-var zero S y p z e d = refl
 used-var (suc n) S y p z e d = rw (e, ne-eqb z y (λ k. d (sym k))) refl
 

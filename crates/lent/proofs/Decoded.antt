@@ -34,7 +34,6 @@ use Rattle.lent.proofs.Lays.{lay-encoded}
 -- ---- each entry is read as it was written
 
 small-set : (x : ℕ) → is-set x ≡ true → x % 256 ≡ x
-unfolding is-set
 small-set x e = mod-back x 256 (omega (arith, leb-true x 15 e))
 
 flag-read : (m : Bool) → eqb (flag m) 1 ≡ m

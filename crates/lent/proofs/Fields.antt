@@ -88,11 +88,9 @@ pub mod-back : (x n : ℕ) → x < n → x % n ≡ x
 mod-back x n h = mod-eq-of-lt h
 
 pub set-mod : (x : ℕ) → x ≤ 15 → is-set (x % 256) ≡ true
-unfolding is-set
 set-mod x h = rw (mod-back x 256 (omega arith)) (le-leb x 15 h)
 
 pub set-was : (x : ℕ) → x % 256 ≡ x → is-set (x % 256) ≡ true → x ≤ 15
-unfolding is-set
 set-was x e h = leb-true x 15 (rw e at h)
 
 mark-zero : (a : ℕ) → a < 16 → read-mark a ≡ none

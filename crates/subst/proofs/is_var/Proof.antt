@@ -1,6 +1,7 @@
 -- `subst::is_var` meets its contract. Assumes nothing.
 use mathlib.Core.Path.{refl}
 use Rattle.definition.specs.Store.{with-args}
+use Rattle.definition.specs.Subst.{as-var}
 use Rattle.definition.specs.Join.{is-var}
 use borrow.Author.Needs.{needs}
 use Rattle.subst.proofs.is_var.Statement.{statement}
@@ -28,31 +29,31 @@ enum-told-6 : tie.Need-enum-told-6
 enum-told-6 c = search needs
 
 returns : tie.Need-returns
-unfolding is-var with-args
+unfolding as-var is-var with-args
 returns c = λ st. rw (c .enum-told .given .1) refl
 
 returns-2 : tie.Need-returns-2
-unfolding is-var with-args
+unfolding as-var is-var with-args
 returns-2 c = λ st. rw (c .enum-told2 .given .1) refl
 
 returns-3 : tie.Need-returns-3
-unfolding is-var with-args
+unfolding as-var is-var with-args
 returns-3 c = λ st. rw (c .enum-told3 .given .1) refl
 
 returns-4 : tie.Need-returns-4
-unfolding is-var with-args
+unfolding as-var is-var with-args
 returns-4 c = λ st. rw (c .enum-told4 .given .1) refl
 
 returns-5 : tie.Need-returns-5
-unfolding is-var with-args
+unfolding as-var is-var with-args
 returns-5 c = λ st. rw (c .before .before .before .s .given .1) refl
 
 returns-6 : tie.Need-returns-6
-unfolding is-var with-args
+unfolding as-var is-var with-args
 returns-6 c = λ st. rw (c .enum-told5 .given .1) refl
 
 returns-7 : tie.Need-returns-7
-unfolding is-var with-args
+unfolding as-var is-var with-args
 returns-7 c = λ st. rw (c .enum-told6 .given .1) refl
 
 pub is-var-spec : {M : Type 1} → statement M
