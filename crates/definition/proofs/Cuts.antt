@@ -11,9 +11,9 @@ use lib.Dec.{eqb, ltb}
 use Rattle.definition.specs.Types.{TypeName, Mark, State, Refusal, malformed, if_then_else_}
 use Rattle.definition.specs.Store.{taken}
 use Rattle.definition.specs.Write.{Bytes}
-use Rattle.definition.specs.Reader.{Read, got, not-read, Reader, give, refuse, go-on, _>>=_, byte, read-u16, read-u32, byte-if, read-bool, name-below, times}
-use Rattle.definition.specs.Trees.{Tree, read-trees, mark-of, read-mark, mark-fits, arity, read-apply, read-ref, read-param, read-var, by-tag, is-name, read-nested, read-type}
-use Rattle.definition.specs.Record.{Record, read-kind, read-SD, read-SN, read-two, read-one, read-loc, read-loc-type, read-pair, read-TS, read-NC, by-mark, fields-of, read-fields, max-record, hand-back, read-record}
+use Rattle.definition.specs.Reader.{Read, got, not-read, Reader, give, refuse, go-on, _>>=_, byte, read-u16, read-u32, byte-if, read-bool, name-below, times, read-one, read-two, read-three}
+use Rattle.definition.specs.Trees.{Tree, read-trees, mark-of, read-mark, mark-fits, arity, read-apply, by-tag, is-name, read-nested, read-type}
+use Rattle.definition.specs.Record.{Record, read-kind, read-SD, read-pair, read-TS, by-mark, fields-of, read-fields, max-record, hand-back, read-record}
 use Rattle.definition.proofs.StreamRecords.{front}
 use Rattle.definition.proofs.Order.{All}
 
@@ -85,7 +85,7 @@ unfolding byte-if
 c-byte-if allowed = c-bind _ _ c-byte (λ b. c-if (allowed b) (c-give b) (c-refuse _))
 
 c-bool : Cuts read-bool
-unfolding read-bool
+unfolding read-bool read-one
 c-bool = c-bind _ _ (c-byte-if _) (λ b. c-give _)
 
 c-name : (known : ℕ) → Cuts (name-below known)
@@ -114,7 +114,7 @@ module _ (s : State) (m : Reader Tree) (p : Cuts m) (loc : ℕ) where
       c-bind _ _ c-mark (λ k. c-bind _ _ c (λ n. c-if (not (is-name s (name n))) (c-refuse _) (c-if (not (mark-fits k (name n))) (c-refuse _) (c-bind _ _ (c-trees (arity s (name n)) m p) (λ ts. c-give _)))))
 
   c-tags : All (λ r. Cuts r) (by-tag s m loc)
-  unfolding by-tag read-ref read-param read-var
+  unfolding by-tag read-two read-one
   c-tags = (
     c-give _,
     (
@@ -156,24 +156,24 @@ module _ (s : State) where
   unfolding read-type
   c-type = c-nested 64 s
 
-  c-two : (mark : Tree → Tree → Record) → Cuts (read-two s mark)
+  c-two : (mark : Tree → Tree → Record) → Cuts (read-two mark (read-type s) (read-type s))
   unfolding read-two
   c-two mark = c-bind _ _ c-type (λ t. c-bind _ _ c-type (λ u. c-give _))
 
-  c-one : (mark : Tree → Record) → Cuts (read-one s mark)
+  c-one : (mark : Tree → Record) → Cuts (read-one mark (read-type s))
   unfolding read-one
   c-one mark = c-bind _ _ c-type (λ t. c-give _)
 
-  c-loc : (mark : ℕ → Record) → Cuts (read-loc s mark)
-  unfolding read-loc
+  c-loc : (mark : ℕ → Record) → Cuts (read-one mark read-u32)
+  unfolding read-one
   c-loc mark = c-bind _ _ c-u32 (λ l. c-give _)
 
-  c-loc-type : (mark : ℕ → Tree → Record) → Cuts (read-loc-type s mark)
-  unfolding read-loc-type
+  c-loc-type : (mark : ℕ → Tree → Record) → Cuts (read-two mark read-u32 (read-type s))
+  unfolding read-two
   c-loc-type mark = c-bind _ _ c-u32 (λ l. c-bind _ _ c-type (λ t. c-give _))
 
   c-marks : All (λ (row : ℕ × ℕ × Reader Record). Cuts (row .2)) (by-mark s)
-  unfolding by-mark read-SD read-SN read-TS read-pair read-NC read-kind
+  unfolding by-mark read-SD read-two read-TS read-pair read-three read-kind read-one
   c-marks = (
     c-bind _ _ (c-byte-if _) (λ a. c-bind _ _ (c-byte-if _) (λ n. c-bind _ _ (c-times n _ (c-byte-if _)) (λ ps. c-give _))),
     (

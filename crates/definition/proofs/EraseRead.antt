@@ -7,11 +7,12 @@ use Prim.Native.Nat.{ℕ, zero, suc, _+_, _*_}
 use lib.ListN.{length, getD, take, drop, replicate, length-append, length-drop}
 use lib.Dec.{eqb, ltb}
 use Rattle.definition.specs.Types.{TypeName, Multiple, Builtin, ModuleType, Mark, State, Refusal, malformed, unknown-name, if_then_else_}
+use Rattle.definition.specs.Store.{taken}
 use Rattle.definition.specs.Write.{Bytes}
 use Rattle.definition.specs.Instantiate.{struct-tparams}
-use Rattle.definition.specs.Reader.{Read, got, not-read, Reader, give, refuse, go-on, _>>=_, byte, read-u16, read-u32, byte-if, byte-to, read-bool, name-below, times}
-use Rattle.definition.specs.Trees.{Tree, unit-tree, anything-tree, error-tree, ref-tree, param-tree, apply-tree, var-tree, Trees, no-trees, _then_, read-trees, mark-of, read-mark, mark-fits, arity, read-apply, read-ref, read-param, read-var, by-tag, is-name, read-nested, read-type}
-use Rattle.definition.specs.Record.{NumericKind, Record, SD, FV, NV, SN, JN, SU, UF, RD, IN, TS, NC, BC, SC, SV, read-kind, read-SD, read-SN, read-two, read-one, read-loc, read-loc-type, read-pair, read-TS, read-NC, by-mark, fields-of, read-fields, max-record, hand-back, read-record}
+use Rattle.definition.specs.Reader.{Read, got, not-read, Reader, give, refuse, go-on, _>>=_, byte, read-u16, read-u32, byte-if, byte-to, read-bool, name-below, times, read-one, read-two, read-three}
+use Rattle.definition.specs.Trees.{Tree, unit-tree, anything-tree, error-tree, ref-tree, param-tree, apply-tree, var-tree, Trees, no-trees, _then_, read-trees, mark-of, read-mark, mark-fits, arity, read-apply, by-tag, is-name, read-nested, read-type, is-set}
+use Rattle.definition.specs.Record.{NumericKind, Record, SD, FV, NV, SN, JN, SU, UF, RD, IN, TS, NC, BC, SC, SV, read-kind, read-SD, read-pair, read-TS, by-mark, fields-of, read-fields, max-record, hand-back, read-record}
 use Rattle.definition.specs.Locations.{Part, plain, location, type, types, builtin, list, struct, struct-high, pairs, loc-field, u32-field, tag-fields, pair-fields, brings, blank-byte, blank, mark-fields, after-mark, blank-record}
 use Rattle.definition.proofs.Erase.{erase, taken-erase, structs-erase}
 
@@ -160,7 +161,7 @@ module _ {S : State} where
   al-plain-if allowed more = al-byte-if allowed plain more (λ b. refl)
 
   al-bool : (more : List Part) → Alike same S (plain ∷ more) (λ b. more) read-bool read-bool
-  unfolding read-bool
+  unfolding read-bool read-one
   al-bool more = al-bind _ _ (al-plain-if _ more) (λ b. al-give _ refl)
 
   al-u16 : (more : List Part) → Alike same S (plain ∷ plain ∷ more) (λ n. more) read-u16 read-u16
@@ -212,12 +213,12 @@ module _ (s : State) where
     al-apply before number name x a more = al-bind _ _ (al-mark _) (λ k. al-bind _ _ (a more) (λ n.
         rw (arity-erase s (name n), name-erase (name n)) (al-if (not (is-name s (name n))) (al-refuse _) (al-if (not (mark-fits k (name n))) (al-refuse _) (al-bind _ _ (al-trees m m′ p (arity s (name n)) more) (λ ts. al-give (apply-tree loc k (name n) ts) refl))))))
 
-    al-ref : Fields (plain ∷ type ∷ []) (read-ref s m loc) (read-ref (erase s) m′ 0)
-    unfolding read-ref erase-tree
+    al-ref : Fields (plain ∷ type ∷ []) (read-two (ref-tree loc) read-bool m) (read-two (ref-tree 0) read-bool m′)
+    unfolding read-two erase-tree
     al-ref more = al-bind _ _ (al-bool _) (λ mut. al-bind _ _ (p more) (λ t. al-give (ref-tree loc mut t) refl))
 
-    al-param : Fields (u32-field ++ (plain ∷ [])) (read-param s m loc) (read-param (erase s) m′ 0)
-    unfolding read-param erase-tree u32-field
+    al-param : Fields (u32-field ++ (plain ∷ [])) (read-two (param-tree loc) read-u32 (byte-if is-set)) (read-two (param-tree 0) read-u32 (byte-if is-set))
+    unfolding read-two erase-tree u32-field
     al-param more = al-bind _ _ (al-u32 _) (λ id. al-bind _ _ (al-plain-if _ more) (λ a. al-give (param-tree loc id a) refl))
 
     al-builtin : Fields (plain ∷ builtin ∷ []) (read-apply s m loc byte Builtin malformed) (read-apply (erase s) m′ 0 byte Builtin malformed)
@@ -231,8 +232,8 @@ module _ (s : State) where
     al-struct-type : Fields (plain ∷ struct ∷ []) (read-apply s m loc read-u16 ModuleType unknown-name) (read-apply (erase s) m′ 0 read-u16 ModuleType unknown-name)
     al-struct-type = al-apply (struct ∷ []) read-u16 _ _ (λ more. al-struct more)
 
-    al-var : Fields (plain ∷ plain ∷ []) (read-var s m loc) (read-var (erase s) m′ 0)
-    unfolding read-var erase-tree
+    al-var : Fields (plain ∷ plain ∷ []) (read-one (var-tree loc) (name-below (taken s))) (read-one (var-tree 0) (name-below (taken (erase s))))
+    unfolding read-one erase-tree
     al-var more = al-bind _ _ (al-name _ _ (taken-erase s) (al-u16 more)) (λ v. al-give (var-tree loc v) refl)
 
   -- by tag, row for row
@@ -265,36 +266,36 @@ module _ (s : State) where
   abbrev Whole-record : List Part → Reader Record → Reader Record → Type 0
   Whole-record ps m m′ = Alike erase-record s ps (λ r. []) m m′
 
-  al-SN : Whole-record (plain ∷ plain ∷ loc-field) (read-SN s) (read-SN (erase s))
-  unfolding read-SN erase-record loc-field
+  al-SN : Whole-record (plain ∷ plain ∷ loc-field) (read-two SN (name-below (taken s)) read-u32) (read-two SN (name-below (taken (erase s))) read-u32)
+  unfolding read-two erase-record loc-field
   al-SN = al-bind _ _ (al-name _ _ (taken-erase s) (al-u16 loc-field)) (λ v. al-bind _ _ (al-loc []) (λ loc. al-give (SN v loc) refl))
 
-  al-two : (mark : Tree → Tree → Record) → ((t u : Tree) → mark (erase-tree t) (erase-tree u) ≡ erase-record (mark t u)) → Whole-record (type ∷ type ∷ []) (read-two s mark) (read-two (erase s) mark)
+  al-two : (mark : Tree → Tree → Record) → ((t u : Tree) → mark (erase-tree t) (erase-tree u) ≡ erase-record (mark t u)) → Whole-record (type ∷ type ∷ []) (read-two mark (read-type s) (read-type s)) (read-two mark (read-type (erase s)) (read-type (erase s)))
   unfolding read-two
   al-two mark e = al-bind _ _ (al-type _) (λ t. al-bind _ _ (al-type []) (λ u. al-give (mark t u) (e t u)))
 
-  al-one : (mark : Tree → Record) → ((t : Tree) → mark (erase-tree t) ≡ erase-record (mark t)) → Whole-record (type ∷ []) (read-one s mark) (read-one (erase s) mark)
+  al-one : (mark : Tree → Record) → ((t : Tree) → mark (erase-tree t) ≡ erase-record (mark t)) → Whole-record (type ∷ []) (read-one mark (read-type s)) (read-one mark (read-type (erase s)))
   unfolding read-one
   al-one mark e = al-bind _ _ (al-type []) (λ t. al-give (mark t) (e t))
 
-  al-loc-only : (mark : ℕ → Record) → ((l : ℕ) → mark 0 ≡ erase-record (mark l)) → Whole-record loc-field (read-loc s mark) (read-loc (erase s) mark)
-  unfolding read-loc loc-field
+  al-loc-only : (mark : ℕ → Record) → ((l : ℕ) → mark 0 ≡ erase-record (mark l)) → Whole-record loc-field (read-one mark read-u32) (read-one mark read-u32)
+  unfolding read-one loc-field
   al-loc-only mark e = al-bind _ _ (al-loc []) (λ l. al-give (mark l) (e l))
 
-  al-loc-type : (mark : ℕ → Tree → Record) → ((l : ℕ) (t : Tree) → mark 0 (erase-tree t) ≡ erase-record (mark l t)) → Whole-record (loc-field ++ (type ∷ [])) (read-loc-type s mark) (read-loc-type (erase s) mark)
-  unfolding read-loc-type
+  al-loc-type : (mark : ℕ → Tree → Record) → ((l : ℕ) (t : Tree) → mark 0 (erase-tree t) ≡ erase-record (mark l t)) → Whole-record (loc-field ++ (type ∷ [])) (read-two mark read-u32 (read-type s)) (read-two mark read-u32 (read-type (erase s)))
+  unfolding read-two
   al-loc-type mark e = al-bind _ _ (al-loc _) (λ l. al-bind _ _ (al-type []) (λ t. al-give (mark l t) (e l t)))
 
   al-kind : (more : List Part) → Alike {A = NumericKind} same s (plain ∷ more) (λ kind. more) read-kind read-kind
-  unfolding read-kind
+  unfolding read-kind read-one
   al-kind more = al-bind _ _ (al-plain-if _ more) (λ b. al-give _ refl)
 
-  al-NC : Whole-record (loc-field ++ (plain ∷ type ∷ [])) (read-NC s) (read-NC (erase s))
-  unfolding read-NC erase-record
+  al-NC : Whole-record (loc-field ++ (plain ∷ type ∷ [])) (read-three NC read-u32 read-kind (read-type s)) (read-three NC read-u32 read-kind (read-type (erase s)))
+  unfolding read-three erase-record
   al-NC = al-bind _ _ (al-loc _) (λ l. al-bind _ _ (al-kind (type ∷ [])) (λ kind. al-bind _ _ (al-type []) (λ t. al-give (NC l kind t) refl)))
 
   al-pairs : (n : ℕ) (more : List Part) → Alike (map erase-pair) s (pair-fields n ++ more) (λ ps. more) (times n (read-pair s)) (times n (read-pair (erase s)))
-  unfolding times read-pair pair-fields u32-field
+  unfolding times read-pair read-two pair-fields u32-field
   al-pairs zero more = al-give [] refl
   al-pairs (suc n) more = al-bind _ _ (al-bind _ _ (al-u32 (type ∷ pair-fields n ++ more)) (λ id. al-bind _ _ (al-type (pair-fields n ++ more)) (λ t. al-give {h = erase-pair} (id, t) refl))) (λ p. al-bind _ _ (al-pairs n more) (λ ps. al-give (p ∷ ps) refl))
 

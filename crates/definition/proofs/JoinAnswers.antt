@@ -12,10 +12,10 @@ use Rattle.definition.specs.Store.{count, taken, sp}
 use Rattle.definition.specs.Subst.{parts}
 use Rattle.definition.specs.Join.{TypingCase, Join, Subtype, join-impl, join, subtype}
 use Rattle.definition.specs.Write.{Bytes, write}
-use Rattle.definition.specs.Reader.{Read, got, not-read, Reader, give, refuse, go-on, _>>=_, byte, read-u16, read-u32, byte-if, byte-to, read-bool, name-below, times}
+use Rattle.definition.specs.Reader.{Read, got, not-read, Reader, give, refuse, go-on, _>>=_, byte, read-u16, read-u32, byte-if, byte-to, read-bool, name-below, times, read-one, read-two, read-three}
 use Rattle.definition.specs.Trees.{Tree, unit-tree, anything-tree, error-tree, ref-tree, param-tree, apply-tree, var-tree, Trees, no-trees, _then_}
-use Rattle.definition.specs.Trees.{read-trees, mark-of, read-mark, mark-fits, arity, read-apply, read-ref, read-param, read-var, by-tag, is-set, is-name, read-nested, read-type}
-use Rattle.definition.specs.Record.{Record, SD, FV, NV, SN, JN, SU, UF, RD, IN, TS, NC, BC, SC, SV, read-kind, read-SD, read-SN, read-two, read-one, read-loc, read-loc-type, read-pair, read-TS, read-NC, by-mark, fields-of, read-fields, max-record, hand-back, read-record}
+use Rattle.definition.specs.Trees.{read-trees, mark-of, read-mark, mark-fits, arity, read-apply, by-tag, is-set, is-name, read-nested, read-type}
+use Rattle.definition.specs.Record.{Record, SD, FV, NV, SN, JN, SU, UF, RD, IN, TS, NC, BC, SC, SV, read-kind, read-SD, read-pair, read-TS, by-mark, fields-of, read-fields, max-record, hand-back, read-record}
 use Rattle.definition.specs.Place.{place, place-all}
 use Rattle.definition.specs.Sound.{sound}
 use Rattle.definition.specs.Step.{Answer, refusal, max-payload, answer-with, answer, max-buffer, usable, two-types, lent, run, step}
@@ -99,7 +99,7 @@ unfolding byte-if
 pays-byte-if allowed = pays-then (λ b. 1) (λ b. 1) 0 byte _ pays-byte (λ b. pays-if (λ b. 1) 1 (allowed b) (pays-give (λ b. 1) 1 b (omega arith)) (pays-refuse (λ b. 1) 1 malformed))
 
 pays-bool : Pays 0 (λ b. 1) read-bool
-unfolding read-bool
+unfolding read-bool read-one
 pays-bool = pays-then (λ b. 1) (λ b. 1) 0 (byte-to 1) _ (pays-byte-if _) (λ b. pays-give (λ b. 1) 1 _ (omega arith))
 
 pays-mark : Pays 0 (λ k. 1) read-mark
@@ -130,12 +130,12 @@ module _ (s : State) where
         pays-if tree-size (6 + w) (not (is-name s (name n))) (pays-refuse tree-size (6 + w) x) (pays-if tree-size (6 + w) (not (mark-fits k (name n))) (pays-refuse tree-size (6 + w) malformed)
         (pays-then trees-size tree-size (6 + w) (read-trees (arity s (name n)) m) _ (pays-trees (arity s (name n)) m p) (λ ts. pays-give tree-size (6 + w + trees-size ts) (apply-tree loc k (name n) ts) (omega (arith, e n)))))))
 
-    pays-ref : Pays 5 tree-size (read-ref s m loc)
-    unfolding read-ref tree-size trees-size
+    pays-ref : Pays 5 tree-size (read-two (ref-tree loc) read-bool m)
+    unfolding read-two tree-size trees-size
     pays-ref = pays-then (λ b. 1) tree-size 5 read-bool _ pays-bool (λ b. pays-then tree-size tree-size 6 m _ p (λ t. pays-give tree-size (6 + tree-size t) (ref-tree loc b t) (omega arith)))
 
-    pays-param : Pays 5 tree-size (read-param s m loc)
-    unfolding read-param tree-size trees-size
+    pays-param : Pays 5 tree-size (read-two (param-tree loc) read-u32 (byte-if is-set))
+    unfolding read-two tree-size trees-size
     pays-param = pays-then (λ b. 4) tree-size 5 read-u32 _ pays-u32 (λ id. pays-then (λ b. 1) tree-size 9 (byte-if is-set) _ (pays-byte-if is-set) (λ a. pays-give tree-size 10 (param-tree loc id a) (omega arith)))
 
     pays-builtin : Pays 5 tree-size (read-apply s m loc byte Builtin malformed)
@@ -150,8 +150,8 @@ module _ (s : State) where
     unfolding name-size
     pays-struct = pays-apply 2 read-u16 pays-u16 ModuleType unknown-name (λ n. refl)
 
-    pays-var : Pays 5 tree-size (read-var s m loc)
-    unfolding read-var tree-size trees-size
+    pays-var : Pays 5 tree-size (read-one (var-tree loc) (name-below (taken s)))
+    unfolding read-one tree-size trees-size
     pays-var = pays-then (λ b. 2) tree-size 5 (name-below (taken s)) _ (pays-name (taken s)) (λ v. pays-give tree-size 7 (var-tree loc v) (omega arith))
 
     abbrev All-pay : List (Reader Tree) → Type 0
@@ -242,36 +242,36 @@ module _ (n : ℕ) where
   light-if false p q = q
 
   module _ (s : State) where
-    light-two : (mark : Tree → Tree → Record) → ((t1 t2 : Tree) → weight (mark t1 t2) ≡ tree-size t1 + tree-size t2) → Light (read-two s mark)
+    light-two : (mark : Tree → Tree → Record) → ((t1 t2 : Tree) → weight (mark t1 t2) ≡ tree-size t1 + tree-size t2) → Light (read-two mark (read-type s) (read-type s))
     unfolding read-two
     light-two mark e = light-pays _ (pays-then tree-size weight 0 (read-type s) _ (pays-type s) (λ t1. pays-then tree-size weight (0 + tree-size t1) (read-type s) _ (pays-type s) (λ t2. pays-give weight (0 + tree-size t1 + tree-size t2) (mark t1 t2) (omega (arith, e t1 t2)))))
 
-    light-one : (mark : Tree → Record) → ((t : Tree) → weight (mark t) ≡ 0) → Light (read-one s mark)
+    light-one : (mark : Tree → Record) → ((t : Tree) → weight (mark t) ≡ 0) → Light (read-one mark (read-type s))
     unfolding read-one
     light-one mark e = light (always-then (read-type s) _ (λ t. always-give (mark t) (e t)))
 
-    light-loc : (mark : ℕ → Record) → ((loc : ℕ) → weight (mark loc) ≡ 0) → Light (read-loc s mark)
-    unfolding read-loc
+    light-loc : (mark : ℕ → Record) → ((loc : ℕ) → weight (mark loc) ≡ 0) → Light (read-one mark read-u32)
+    unfolding read-one
     light-loc mark e = light (always-then read-u32 _ (λ loc. always-give (mark loc) (e loc)))
 
-    light-loc-type : (mark : ℕ → Tree → Record) → ((loc : ℕ) (t : Tree) → weight (mark loc t) ≡ 0) → Light (read-loc-type s mark)
-    unfolding read-loc-type
+    light-loc-type : (mark : ℕ → Tree → Record) → ((loc : ℕ) (t : Tree) → weight (mark loc t) ≡ 0) → Light (read-two mark read-u32 (read-type s))
+    unfolding read-two
     light-loc-type mark e = light (always-then read-u32 _ (λ loc. always-then (read-type s) _ (λ t. always-give (mark loc t) (e loc t))))
 
     light-SD : Light (read-SD s)
     unfolding read-SD weight
     light-SD = light (always-then (byte-to 15) _ (λ a. always-then (byte-to 8) _ (λ n. always-then (times n (byte-to 31)) _ (λ ps. always-give (SD a ps) refl))))
 
-    light-SN : Light (read-SN s)
-    unfolding read-SN weight
+    light-SN : Light (read-two SN (name-below (taken s)) read-u32)
+    unfolding read-two weight
     light-SN = light (always-then (name-below (taken s)) _ (λ v. always-then read-u32 _ (λ loc. always-give (SN v loc) refl)))
 
     light-TS : Light (read-TS s)
     unfolding read-TS weight
     light-TS = light (always-then (byte-to 8) _ (λ n. always-then (times n (read-pair s)) _ (λ ps. always-then (read-type s) _ (λ t. always-give (TS ps t) refl))))
 
-    light-NC : Light (read-NC s)
-    unfolding read-NC weight
+    light-NC : Light (read-three NC read-u32 read-kind (read-type s))
+    unfolding read-three weight
     light-NC = light (always-then read-u32 _ (λ loc. always-then read-kind _ (λ k. always-then (read-type s) _ (λ t. always-give (NC loc k t) refl))))
 
     abbrev All-light : List (ℕ × ℕ × Reader Record) → Type 0

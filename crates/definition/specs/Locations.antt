@@ -1,12 +1,6 @@
 -- 02, R-4: which bytes of a record and of a payload are location fields; a job, and what it is answered, with these fields set to 0.
 -- Assumes nothing: these are definitions.
-use mathlib.Core.Path.{_≡_}
-use mathlib.Core.Bool.{_&&_}
-use mathlib.Core.List.{List, [], _∷_, _++_}
-use Prim.Native.Nat.{ℕ, zero, suc, _+_, _*_}
-use lib.ListN.{length, getD, replicate}
-use lib.Dec.{eqb}
-use Rattle.definition.specs.Types.{Builtin, ModuleType, State, fresh, if_then_else_}
+use Rattle.definition.specs.Types.{_≡_, _&&_, List, [], _∷_, _++_, ℕ, zero, suc, _+_, _*_, length, getD, replicate, eqb, Builtin, ModuleType, State, fresh, if_then_else_}
 use Rattle.definition.specs.Store.{count, taken}
 use Rattle.definition.specs.Trees.{arity}
 use Rattle.definition.specs.Write.{Bytes}
@@ -15,7 +9,6 @@ use Rattle.definition.specs.Record.{Record, SD, FV, NV, SN, JN, SU, UF, 
 use Rattle.definition.specs.Step.{Answer, step}
 
 -- ---- bytes and what they are
-
 -- what the next byte is: no location, a byte of a location, or one that tells what comes after it
 pub data Part : Type 0 where
   plain location : Part
@@ -91,7 +84,6 @@ blank s (b ∷ bytes) [] = b ∷ bytes
 blank s (b ∷ bytes) (part ∷ awaited) = blank-byte part b ∷ blank s bytes (brings s part b ++ awaited)
 
 -- ---- records
-
 -- what stands after each mark
 unfoldable pub mark-fields : List (ℕ × ℕ × List Part)
 mark-fields =
@@ -123,7 +115,6 @@ blank-record s (a ∷ []) = a ∷ []
 blank-record s (a ∷ b ∷ bytes) = a ∷ b ∷ blank s bytes (after-mark mark-fields a b)
 
 -- ---- payloads
-
 -- what 0 shows: SD a number, SV its failures, the others types or nothing
 unfoldable pub success-fields : Record → List Part
 success-fields (SD abilities params) = []
@@ -154,7 +145,6 @@ unfoldable pub blank-payload : State → Bytes → Answer → Bytes
 blank-payload s bytes a = blank s (a .payload) (payload-fields (read-record s bytes) (a .number))
 
 -- ---- jobs
-
 -- records, each with the length of the answer buffer that it is lent, all location fields set to 0
 unfoldable pub blank-job : State → List (Bytes × ℕ) → List (Bytes × ℕ)
 blank-job s [] = []

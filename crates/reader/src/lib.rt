@@ -8,8 +8,8 @@ ghost use Rattle.definition.specs.Types as d;
 ghost use Rattle.definition.specs.Types.{malformed};
 ghost use Rattle.definition.specs.Store.{taken};
 ghost use Rattle.definition.specs.Instantiate.{builtin-tparams};
-ghost use Rattle.definition.specs.Reader.{refuse, byte, byte-to, read-u16, read-u32, name-below};
-ghost use Rattle.definition.specs.Trees.{mark-of, mark-fits, read-apply, read-ref, read-param, read-var, by-tag, read-nested};
+ghost use Rattle.definition.specs.Reader.{refuse, byte, byte-to, read-u16, read-u32, name-below, read-one, read-two, byte-if, read-bool};
+ghost use Rattle.definition.specs.Trees.{mark-of, mark-fits, read-apply, by-tag, read-nested, ref-tree, param-tree, var-tree, is-set};
 ghost use Rattle.names.specs.Names.{mark-of as mark-is, name-of};
 ghost use Rattle.table.specs.State.{view, seen, Lay, After, Declares};
 ghost use Rattle.reader.specs.declared.Head.the-variants.{Begun};
@@ -159,7 +159,7 @@ fn read_mark(b: &[u8], end: usize, at: usize) -> Marked
 
 fn ref_fields(b: &[u8], end: usize, at: usize, loc: u32) -> Head
     requires { ⌜ (end ≤ length (now b)) × (at ≤ end) ⌝ }
-    ensures { λ r. ⌜ ((s : d.State) → Begins (λ part. read-ref s part loc (rest (now (b .entry)) end at)) (now (b .entry)) end r) ⌝ }
+    ensures { λ r. ⌜ ((s : d.State) → Begins (λ part. read-two (ref-tree loc) read-bool part (rest (now (b .entry)) end at)) (now (b .entry)) end r) ⌝ }
 {
     let m = byte_to(b, end, at, 1);
     match m {
@@ -170,7 +170,7 @@ fn ref_fields(b: &[u8], end: usize, at: usize, loc: u32) -> Head
 
 fn param_fields(b: &[u8], end: usize, at: usize, loc: u32) -> Head
     requires { ⌜ (end ≤ length (now b)) × (at ≤ end) ⌝ }
-    ensures { λ r. ⌜ ((s : d.State) → Begins (λ part. read-param s part loc (rest (now (b .entry)) end at)) (now (b .entry)) end r) ⌝ }
+    ensures { λ r. ⌜ ((s : d.State) → Begins (λ part. read-two (param-tree loc) read-u32 (byte-if is-set) (rest (now (b .entry)) end at)) (now (b .entry)) end r) ⌝ }
 {
     let i = read_u32(b, end, at);
     match i {
@@ -256,7 +256,7 @@ fn list_fields(b: &[u8], end: usize, at: usize, loc: u32) -> Head
 
 fn var_fields(b: &[u8], end: usize, at: usize, known: u32, loc: u32) -> Head
     requires { ⌜ (end ≤ length (now b)) × ((at ≤ end) × (known ≤ 1024)) ⌝ }
-    ensures { λ r. ⌜ ((s : d.State) → taken s ≡ known → Begins (λ part. read-var s part loc (rest (now (b .entry)) end at)) (now (b .entry)) end r) ⌝ }
+    ensures { λ r. ⌜ ((s : d.State) → taken s ≡ known → Begins (λ part. read-one (var-tree loc) (name-below (taken s)) (rest (now (b .entry)) end at)) (now (b .entry)) end r) ⌝ }
 {
     let n = name_below(b, end, at, known);
     match n {

@@ -6,13 +6,14 @@ use Prim.Native.Nat.{ℕ, _+_, _≤_, _<_}
 use native.Mathlib.Omega.{arith}
 use lib.ListN.{length, replicate, length-append, length-replicate}
 use Rattle.definition.specs.Types.{State, Struct, unbound, malformed, unknown-name, Result, ok, _>>=_}
+use Rattle.definition.specs.Store.{taken}
 use Rattle.definition.specs.Write.{Bytes}
 use Rattle.definition.specs.Reader as rd
-use Rattle.definition.specs.Reader.{Read, Reader, give, go-on, read-u32}
+use Rattle.definition.specs.Reader.{Read, Reader, give, go-on, read-u32, read-one, read-two, read-three, name-below}
 use Rattle.definition.specs.Trees.{Tree, read-nested, read-type}
 use Rattle.definition.specs.Place.{place}
 use Rattle.definition.specs.Record as d
-use Rattle.definition.specs.Record.{Record, read-two, read-one, read-loc, read-loc-type, read-SN, read-NC, read-SD, read-pair, read-TS}
+use Rattle.definition.specs.Record.{Record, read-SD, read-pair, read-TS, read-kind}
 use Rattle.table.specs.Rows.{node-table}
 use Rattle.table.specs.State.{Lay, Grown, Declares, view, seen}
 use Rattle.table.specs.declared.Used.{Used}
@@ -134,7 +135,7 @@ module _ (w : List ℕ) (u : Used) (b : List ℕ) (end known at : ℕ) (w₁ : L
   abbrev second : ℕ → Tree → State → Result (State × Noded)
   second lhs t2 s = place t2 s >>= (λ (s, rhs). ok (s, o .nodes lhs rhs))
 
-  pub two-stop : is-stop (r .part) ≡ true → Fields-are w u b end known (λ s. read-two s make (rest b end at)) w₁ (plain-fields mark (r .part) (r .used) (r .next) 0 0)
+  pub two-stop : is-stop (r .part) ≡ true → Fields-are w u b end known (λ s. read-two make (read-type s) (read-type s) (rest b end at)) w₁ (plain-fields mark (r .part) (r .used) (r .next) 0 0)
   unfolding read-two read-type rd._>>=_
   two-stop e =
       record {
@@ -147,7 +148,7 @@ module _ (w : List ℕ) (u : Used) (b : List ℕ) (end known at : ℕ) (w₁ : L
       }
 
   pub two-is : is-stop (r .part) ≡ false → (w₂ : List ℕ) (q : Taken) → Takes w₁ (r .used) b end known (is-over (r .part)) (λ s. read-nested 64 s (rest b end (r .next))) w₂ q
-      → Fields-are w u b end known (λ s. read-two s make (rest b end at)) w₂ (plain-fields mark (q .part) (q .used) (q .next) 0 (node-in (r .part)))
+      → Fields-are w u b end known (λ s. read-two make (read-type s) (read-type s) (rest b end at)) w₂ (plain-fields mark (q .part) (q .used) (q .next) 0 (node-in (r .part)))
   unfolding read-two read-type rd._>>=_ go-on give
   two-is e w₂ q t′ =
       record {
@@ -187,26 +188,26 @@ unknown-is w u b end known at m mark l a e = fields-none w u b end known m _ l r
 
 module _ (w : List ℕ) (u : Used) (b : List ℕ) (end known at : ℕ) where
   pub loc-is : (loc : ℕ) (mark : RecordMark) (make : ℕ → Record) → Loc mark make → Lay w u → at + 4 ≤ end → rd.got loc (rest b end (at + 4)) ≡ read-u32 (rest b end at)
-      → Fields-are w u b end known (λ s. read-loc s make (rest b end at)) w (plain-fields mark (At 0) u (at + 4) loc 0)
-  unfolding place-read read-loc rd._>>=_ go-on give
+      → Fields-are w u b end known (λ s. read-one make read-u32 (rest b end at)) w (plain-fields mark (At 0) u (at + 4) loc 0)
+  unfolding place-read read-one rd._>>=_ go-on give
   loc-is loc mark make o l a e =
       fields-none w u b end known _ _ l refl a (o .inside _ _ _ _ _ _ _)
       (λ s s′ ds k. ap (λ (x : Noded). placed (ok (s′, x)) (rest b end (at + 4))) (o .shows _ _ _ _ _) ∙ ap (λ (q : Result (State × Noded)). placed q (rest b end (at + 4))) (sym (o .places loc s′))
       ∙ ap (λ (x : Read ℕ). place-read false place-record (go-on x (λ loc. give (make loc))) s′) e)
 
   pub sn-is : (v loc : ℕ) → Lay w u → v < known → at + 2 + 4 ≤ end → rd.got v (rest b end (at + 2)) ≡ rd.name-below known (rest b end at) → rd.got loc (rest b end (at + 2 + 4)) ≡ read-u32 (rest b end (at + 2))
-      → Fields-are w u b end known (λ s. read-SN s (rest b end at)) w (plain-fields m.SN (At 0) u (at + 2 + 4) v loc)
-  unfolding place-read place-record read-SN rd._>>=_ go-on give
+      → Fields-are w u b end known (λ s. read-two d.SN (name-below (taken s)) read-u32 (rest b end at)) w (plain-fields m.SN (At 0) u (at + 2 + 4) v loc)
+  unfolding place-read place-record read-two rd._>>=_ go-on give
   sn-is v loc l below a e f = fields-none w u b end known _ _ l refl a below (λ s s′ ds k. rw (k .vars, ← e, ← f) refl)
 
   pub loc-type-is : (w′ : List ℕ) (r : Fields) (loc : ℕ) (make : ℕ → Tree → Record) → rd.got loc (rest b end (at + 4)) ≡ read-u32 (rest b end at)
-      → Fields-are w u b end known (λ s. go-on (read-type s (rest b end (at + 4))) (λ t. give (make loc t))) w′ r → Fields-are w u b end known (λ s. read-loc-type s make (rest b end at)) w′ r
-  unfolding read-loc-type rd._>>=_ go-on
+      → Fields-are w u b end known (λ s. go-on (read-type s (rest b end (at + 4))) (λ t. give (make loc t))) w′ r → Fields-are w u b end known (λ s. read-two make read-u32 (read-type s) (rest b end at)) w′ r
+  unfolding read-two rd._>>=_ go-on
   loc-type-is w′ r loc make e f = fields-is w u b end known _ _ w′ r (λ ds s d k. rw (← e) refl) f
 
   pub nc-is : (w′ : List ℕ) (r : Fields) (loc x : ℕ) → rd.got loc (rest b end (at + 4)) ≡ read-u32 (rest b end at) → rd.got x (rest b end (at + 4 + 1)) ≡ rd.byte-to 2 (rest b end (at + 4))
-      → Fields-are w u b end known (λ s. go-on (read-type s (rest b end (at + 4 + 1))) (λ t. give (d.NC loc (n.kind x) t))) w′ r → Fields-are w u b end known (λ s. read-NC s (rest b end at)) w′ r
-  unfolding read-NC d.read-kind n.kind rd._>>=_ go-on give
+      → Fields-are w u b end known (λ s. go-on (read-type s (rest b end (at + 4 + 1))) (λ t. give (d.NC loc (n.kind x) t))) w′ r → Fields-are w u b end known (λ s. read-three d.NC read-u32 read-kind (read-type s) (rest b end at)) w′ r
+  unfolding read-three d.read-kind read-one n.kind rd._>>=_ go-on give
   nc-is w′ r loc x e g f = fields-is w u b end known _ _ w′ r (λ ds s d k. rw (← e, ← g) refl) f
 
   pub sd-is : (r : Fields) (a n : ℕ) → rd.got a (rest b end (at + 1)) ≡ rd.byte-to 15 (rest b end at) → rd.got n (rest b end (at + 1 + 1)) ≡ rd.byte-to 8 (rest b end (at + 1))

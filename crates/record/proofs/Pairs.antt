@@ -12,7 +12,7 @@ use lib.Seq.{getD-set-same, getD-set-other}
 use Rattle.definition.specs.Types.{State, Struct, malformed, Result, ok, err, refused, _>>=_}
 use Rattle.definition.specs.Write.{Bytes}
 use Rattle.definition.specs.Reader as rd
-use Rattle.definition.specs.Reader.{Read, got, not-read, give, go-on, read-u32, times}
+use Rattle.definition.specs.Reader.{Read, got, not-read, give, go-on, read-u32, times, read-two}
 use Rattle.definition.specs.Trees.{Tree, read-nested, read-type}
 use Rattle.definition.specs.Place.{place, place-pairs}
 use Rattle.definition.specs.Record as d
@@ -89,7 +89,7 @@ put-one xs id t c s = by (place t s)
 
 -- one pair more
 left-more : (s : State) (n id : ℕ) (l k : Bytes) → got id k ≡ read-u32 l → left-at s (suc n) l ≡ go-on (read-type s k) (λ t l. go-on (left-at s n l) (λ c. give ((id, t) ∷ c .0, c .1)))
-unfolding times read-pair rd._>>=_ go-on give
+unfolding times read-pair read-two rd._>>=_ go-on give
 left-more s n id l k e = rw (← e) (by (read-type s k))
   where
     last-by : (t : Tree) (ps : List (ℕ × Tree)) (y : Read Tree) → go-on {B = Left} y (λ t′. give ((id, t) ∷ ps, t′)) ≡ go-on (go-on {B = Left} y (λ t′. give (ps, t′))) (λ c. give ((id, t) ∷ c .0, c .1))
@@ -109,7 +109,7 @@ left-more s n id l k e = rw (← e) (by (read-type s k))
     by (not-read z) = refl
 
 left-cut : (s : State) (n : ℕ) (l : Bytes) → not-read malformed ≡ read-u32 l → not-read malformed ≡ left-at s (suc n) l
-unfolding times read-pair rd._>>=_ go-on
+unfolding times read-pair read-two rd._>>=_ go-on
 left-cut s n l e = rw (← e) refl
 
 left-none : (s : State) (l : Bytes) → left-at s 0 l ≡ go-on (read-type s l) (λ t. give ([], t))

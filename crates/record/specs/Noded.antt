@@ -5,11 +5,12 @@ use mathlib.Core.List.{List, [], _∷_}
 use Prim.Native.Nat.{ℕ, zero, suc, _≤_, _<_}
 use lib.ListN.{length, getD, take, drop, replicate}
 use Rattle.definition.specs.Types.{State, Struct, malformed, unknown-name, full, Result, ok, refused, _>>=_}
+use Rattle.definition.specs.Store.{taken}
 use Rattle.definition.specs.Write.{Bytes}
-use Rattle.definition.specs.Reader.{Read, Reader, give, refuse}
+use Rattle.definition.specs.Reader.{Read, Reader, give, refuse, read-one, read-two, read-three, name-below, read-u32}
 use Rattle.definition.specs.Record as d
-use Rattle.definition.specs.Record.{NumericKind, Numeric, Bits, Ordered, Record, read-SD, read-loc, read-SN, read-two, read-one, read-TS, read-NC, read-loc-type, read-record}
-use Rattle.definition.specs.Trees.{Tree}
+use Rattle.definition.specs.Record.{NumericKind, Numeric, Bits, Ordered, Record, read-SD, read-TS, read-record, read-kind}
+use Rattle.definition.specs.Trees.{Tree, read-type}
 use Rattle.definition.specs.Place.{place, place-pairs}
 use Rattle.table.specs.State.{Lay, Grown, Declares, Parts, view, seen}
 use Rattle.table.specs.declared.Used.{Used}
@@ -83,18 +84,18 @@ kind b = getD (Numeric ∷ Bits ∷ Ordered ∷ []) b Numeric
 -- the reader of a mark's fields
 abbrev pub reader-of : RecordMark → State → Reader Record
 reader-of m.SD s = read-SD s
-reader-of m.FV s = read-loc s d.FV
-reader-of m.NV s = read-loc s d.NV
-reader-of m.SN s = read-SN s
-reader-of m.JN s = read-two s d.JN
-reader-of m.SU s = read-two s d.SU
-reader-of m.UF s = read-one s d.UF
-reader-of m.RD s = read-one s d.RD
+reader-of m.FV s = read-one d.FV read-u32
+reader-of m.NV s = read-one d.NV read-u32
+reader-of m.SN s = read-two d.SN (name-below (taken s)) read-u32
+reader-of m.JN s = read-two d.JN (read-type s) (read-type s)
+reader-of m.SU s = read-two d.SU (read-type s) (read-type s)
+reader-of m.UF s = read-one d.UF (read-type s)
+reader-of m.RD s = read-one d.RD (read-type s)
 reader-of m.TS s = read-TS s
-reader-of m.IN s = read-one s d.IN
-reader-of m.NC s = read-NC s
-reader-of m.BC s = read-loc-type s d.BC
-reader-of m.SC s = read-loc-type s d.SC
+reader-of m.IN s = read-one d.IN (read-type s)
+reader-of m.NC s = read-three d.NC read-u32 read-kind (read-type s)
+reader-of m.BC s = read-two d.BC read-u32 (read-type s)
+reader-of m.SC s = read-two d.SC read-u32 (read-type s)
 reader-of m.SV s = give d.SV
 reader-of m.Other s = refuse malformed
 

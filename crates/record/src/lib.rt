@@ -7,9 +7,10 @@ ghost use Prim.Native.Nat.{ℕ, _+_, _≤_, _<_};
 ghost use lib.ListN.{length, getD, drop};
 ghost use lib.Dec.{eqb};
 ghost use Rattle.definition.specs.Types as d;
-ghost use Rattle.definition.specs.Reader.{give, go-on, byte-to, times};
+ghost use Rattle.definition.specs.Store.{taken};
+ghost use Rattle.definition.specs.Reader.{give, go-on, byte-to, times, read-one, read-two, read-three, name-below, read-u32};
 ghost use Rattle.definition.specs.Trees.{Tree, read-type};
-ghost use Rattle.definition.specs.Record.{Record, SD, TS, by-mark, fields-of, read-fields, read-two, read-loc, read-loc-type, read-SN, read-NC, read-SD, read-pair, read-TS};
+ghost use Rattle.definition.specs.Record.{Record, SD, SN, TS, NC, by-mark, fields-of, read-fields, read-SD, read-pair, read-TS, read-kind};
 ghost use Rattle.table.specs.State.{view, Lay};
 ghost use Rattle.reader.specs.Fields.{rest};
 ghost use Rattle.reader.specs.Taken.{Arities, is-stop, is-over, node-in};
@@ -142,7 +143,7 @@ fn read_two(
 ) -> Fields
     requires { ⌜ Lay (now w) u × Arities (view (now w) u .structs) ⌝ }
     requires { ⌜ (end ≤ length (now b)) × ((at ≤ end) × (known ≤ 1024)) ⌝ }
-    ensures { λ r. ⌜ ((make : Tree → Tree → Record) → Two mark make → Fields-are (now (w .entry)) u (now (b .entry)) end known (λ s. read-two s make (rest (now (b .entry)) end at)) (now (w .exit)) r) ⌝ }
+    ensures { λ r. ⌜ ((make : Tree → Tree → Record) → Two mark make → Fields-are (now (w .entry)) u (now (b .entry)) end known (λ s. read-two make (read-type s) (read-type s) (rest (now (b .entry)) end at)) (now (w .exit)) r) ⌝ }
 {
     let r = read_type(w, u, b, end, at, known, 64, false);
     let p = r.part;
@@ -162,7 +163,7 @@ fn read_two(
 // FV, NV.
 fn read_loc(u: Used, b: &[u8], end: usize, at: usize, mark: RecordMark) -> Fields
     requires { ⌜ (end ≤ length (now b)) × (at ≤ end) ⌝ }
-    ensures { λ r. ⌜ ((make : ℕ → Record) → Loc mark make → (w : List ℕ) (known : ℕ) → Lay w u → Fields-are w u (now (b .entry)) end known (λ s. read-loc s make (rest (now (b .entry)) end at)) w r) ⌝ }
+    ensures { λ r. ⌜ ((make : ℕ → Record) → Loc mark make → (w : List ℕ) (known : ℕ) → Lay w u → Fields-are w u (now (b .entry)) end known (λ s. read-one make read-u32 (rest (now (b .entry)) end at)) w r) ⌝ }
 {
     let l = read_u32(b, end, at);
     match l {
@@ -173,7 +174,7 @@ fn read_loc(u: Used, b: &[u8], end: usize, at: usize, mark: RecordMark) -> Field
 
 fn read_sn(u: Used, b: &[u8], end: usize, at: usize, known: u32) -> Fields
     requires { ⌜ (end ≤ length (now b)) × (at ≤ end) ⌝ }
-    ensures { λ r. ⌜ ((w : List ℕ) → Lay w u → Fields-are w u (now (b .entry)) end known (λ s. read-SN s (rest (now (b .entry)) end at)) w r) ⌝ }
+    ensures { λ r. ⌜ ((w : List ℕ) → Lay w u → Fields-are w u (now (b .entry)) end known (λ s. read-two SN (name-below (taken s)) read-u32 (rest (now (b .entry)) end at)) w r) ⌝ }
 {
     let n = name_below(b, end, at, known);
     match n {
@@ -201,7 +202,7 @@ fn read_loc_type(
 ) -> Fields
     requires { ⌜ Lay (now w) u × Arities (view (now w) u .structs) ⌝ }
     requires { ⌜ (end ≤ length (now b)) × ((at ≤ end) × (known ≤ 1024)) ⌝ }
-    ensures { λ r. ⌜ ((make : ℕ → Tree → Record) → ((loc : ℕ) → One mark loc 0 (make loc)) → Fields-are (now (w .entry)) u (now (b .entry)) end known (λ s. read-loc-type s make (rest (now (b .entry)) end at)) (now (w .exit)) r) ⌝ }
+    ensures { λ r. ⌜ ((make : ℕ → Tree → Record) → ((loc : ℕ) → One mark loc 0 (make loc)) → Fields-are (now (w .entry)) u (now (b .entry)) end known (λ s. read-two make read-u32 (read-type s) (rest (now (b .entry)) end at)) (now (w .exit)) r) ⌝ }
 {
     let l = read_u32(b, end, at);
     match l {
@@ -213,7 +214,7 @@ fn read_loc_type(
 fn read_nc(w: &mut [u32], u: Used, b: &[u8], end: usize, at: usize, known: u32) -> Fields
     requires { ⌜ Lay (now w) u × Arities (view (now w) u .structs) ⌝ }
     requires { ⌜ (end ≤ length (now b)) × ((at ≤ end) × (known ≤ 1024)) ⌝ }
-    ensures { λ r. ⌜ Fields-are (now (w .entry)) u (now (b .entry)) end known (λ s. read-NC s (rest (now (b .entry)) end at)) (now (w .exit)) r ⌝ }
+    ensures { λ r. ⌜ Fields-are (now (w .entry)) u (now (b .entry)) end known (λ s. read-three NC read-u32 read-kind (read-type s) (rest (now (b .entry)) end at)) (now (w .exit)) r ⌝ }
 {
     let l = read_u32(b, end, at);
     match l {

@@ -1,8 +1,8 @@
 -- `reader::param_fields` meets its contract. Assumes nothing.
 use mathlib.Core.Path.{refl}
 use native.Mathlib.Omega.{arith}
-use Rattle.definition.specs.Trees.{read-param, read-trees}
-use Rattle.definition.specs.Reader.{_>>=_, go-on, give}
+use Rattle.definition.specs.Trees.{read-trees}
+use Rattle.definition.specs.Reader.{_>>=_, go-on, give, read-two, read-u32}
 use borrow.Author.Needs.{needs}
 use Rattle.reader.proofs.param_fields.Statement.{statement}
 use Rattle.reader.proofs.param_fields.Tie as tie
@@ -38,15 +38,15 @@ enum-told-2 : tie.Need-enum-told-2
 enum-told-2 c = search needs
 
 returns : tie.Need-returns
-unfolding read-param read-trees _>>=_ go-on give
+unfolding read-two read-trees _>>=_ go-on give
 returns c = λ s. record { is = λ part. rw (← c .before .before .before .before .before .before .before .read-u32 .ensures .is, c .before .before .before .before .before .i .given .1, ← c .before .before .before .byte-to .ensures .is, c .before .a .given .1) refl; within = ((rw (c .before .a .given .1) at (c .before .before .before .byte-to .ensures .within)) .1, omega arith) }
 
 returns-2 : tie.Need-returns-2
-unfolding read-param read-trees _>>=_ go-on give
+unfolding read-two read-trees _>>=_ go-on give
 returns-2 c = λ s. record { is = λ part. rw (← c .before .before .before .before .before .before .read-u32 .ensures .is, c .before .before .before .before .i .given .1, ← c .before .before .byte-to .ensures .is, c .enum-told .given .1) refl; within = tt }
 
 returns-3 : tie.Need-returns-3
-unfolding read-param read-trees _>>=_ go-on give
+unfolding read-two read-trees _>>=_ go-on give
 returns-3 c = λ s. record { is = λ part. rw (← c .before .before .read-u32 .ensures .is, c .enum-told2 .given .1) refl; within = tt }
 
 pub param-fields-spec : {M : Type 1} → statement M

@@ -2,8 +2,7 @@
 use Rattle.reader.proofs.Rest.{read-one}
 use mathlib.Core.Path.{refl, _∙_}
 use native.Mathlib.Omega.{arith}
-use Rattle.definition.specs.Trees.{read-ref}
-use Rattle.definition.specs.Reader.{_>>=_, go-on, give, read-bool}
+use Rattle.definition.specs.Reader.{_>>=_, go-on, give, read-bool, read-two}
 use borrow.Author.Needs.{needs}
 use Rattle.reader.proofs.ref_fields.Statement.{statement}
 use Rattle.reader.proofs.ref_fields.Tie as tie
@@ -21,11 +20,11 @@ enum-told : tie.Need-enum-told
 enum-told c = search needs
 
 returns : tie.Need-returns
-unfolding read-ref read-bool _>>=_ go-on give
+unfolding read-two read-bool read-one _>>=_ go-on give
 returns c = λ s. record { is = λ part. read-one part _ _ ∙ rw (← c .before .before .before .byte-to .ensures .is, c .before .m .given .1) refl; within = ((rw (c .before .m .given .1) at (c .before .before .before .byte-to .ensures .within)) .1, omega arith) }
 
 returns-2 : tie.Need-returns-2
-unfolding read-ref read-bool _>>=_ go-on give
+unfolding read-two read-bool read-one _>>=_ go-on give
 returns-2 c = λ s. record { is = λ part. rw (← c .before .before .byte-to .ensures .is, c .enum-told .given .1) refl; within = tt }
 
 pub ref-fields-spec : {M : Type 1} → statement M

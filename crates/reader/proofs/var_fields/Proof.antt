@@ -1,8 +1,8 @@
 -- `reader::var_fields` meets its contract. Assumes nothing.
 use native.Mathlib.Omega.{arith}
 use mathlib.Core.Path.{refl}
-use Rattle.definition.specs.Reader.{_>>=_, go-on, give}
-use Rattle.definition.specs.Trees.{read-var, read-trees}
+use Rattle.definition.specs.Reader.{_>>=_, go-on, give, read-one, name-below}
+use Rattle.definition.specs.Trees.{read-trees}
 use borrow.Author.Needs.{needs}
 use Rattle.reader.proofs.var_fields.Statement.{statement}
 use Rattle.reader.proofs.var_fields.Tie as tie
@@ -26,15 +26,15 @@ enum-told-2 : tie.Need-enum-told-2
 enum-told-2 c = search needs
 
 returns : tie.Need-returns
-unfolding read-var _>>=_ go-on give read-trees
+unfolding read-one _>>=_ go-on give read-trees
 returns c = λ s e. record { is = λ part. rw (e, ← c .before .before .before .name-below .ensures .is, c .before .n .given .1) refl; within = ((rw (c .before .n .given .1) at (c .before .before .before .name-below .ensures .within)) .1, omega arith) }
 
 returns-2 : tie.Need-returns-2
-unfolding read-var _>>=_ go-on give read-trees
+unfolding read-one _>>=_ go-on give read-trees
 returns-2 c = λ s e. record { is = λ part. rw (e, ← c .before .before .name-below .ensures .is, c .enum-told .given .1) refl; within = tt }
 
 returns-3 : tie.Need-returns-3
-unfolding read-var _>>=_ go-on give read-trees
+unfolding read-one _>>=_ go-on give read-trees
 returns-3 c = λ s e. record { is = λ part. rw (e, ← c .before .before .name-below .ensures .is, c .enum-told2 .given .1) refl; within = tt }
 
 pub var-fields-spec : {M : Type 1} → statement M

@@ -1,6 +1,5 @@
 -- `record::read_loc` meets its contract. Assumes nothing.
-use Rattle.definition.specs.Record.{read-loc}
-use Rattle.definition.specs.Reader.{_>>=_, go-on}
+use Rattle.definition.specs.Reader.{_>>=_, go-on, read-one, read-u32}
 use mathlib.Core.Path.{refl}
 use Rattle.record.proofs.Forms.{loc-is, malformed-is}
 use borrow.Author.Needs.{needs}
@@ -29,7 +28,7 @@ returns : tie.Need-returns
 returns c = λ make o w known l. rw (c .plain .ensures) (loc-is w _ _ _ known _ _ _ make o l ((rw (c .before .before .l .given .1) at (c .before .before .before .before .read-u32 .ensures .within)) .1) (rw (c .before .before .l .given .1) at (c .before .before .before .before .read-u32 .ensures .is)))
 
 returns-2 : tie.Need-returns-2
-unfolding read-loc _>>=_ go-on
+unfolding read-one _>>=_ go-on
 returns-2 c = λ make o w known l. rw (c .plain2 .ensures) (malformed-is w _ _ _ known _ _ _ l (c .before .before .before .before .before .pre .1) (λ s ds k. rw (← c .before .before .before .read-u32 .ensures .is, c .before .enum-told .given .1) refl))
 
 pub read-loc-spec : {M : Type 1} → statement M

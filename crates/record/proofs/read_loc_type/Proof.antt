@@ -1,6 +1,5 @@
 -- `record::read_loc_type` meets its contract. Assumes nothing.
-use Rattle.definition.specs.Record.{read-loc-type}
-use Rattle.definition.specs.Reader.{_>>=_, go-on}
+use Rattle.definition.specs.Reader.{_>>=_, go-on, read-one, read-two, read-u32}
 use mathlib.Core.Path.{refl}
 use Rattle.record.proofs.Forms.{loc-type-is, malformed-is}
 use borrow.Author.Needs.{needs}
@@ -32,7 +31,7 @@ returns : tie.Need-returns
 returns c = λ make o. loc-type-is _ _ _ _ _ _ _ _ _ make (rw (c .before .before .before .before .before .l .given .1) at (c .before .before .before .before .before .before .before .read-u32 .ensures .is)) (c .before .before .read-one .ensures _ (o _))
 
 returns-2 : tie.Need-returns-2
-unfolding read-loc-type _>>=_ go-on
+unfolding read-two _>>=_ go-on
 returns-2 c = λ make o. rw (c .plain .ensures) (malformed-is _ _ _ _ _ _ _ _ (c .before .before .before .before .before .before .pre .0 .0) (c .before .before .before .before .before .before .pre .1 .1 .0) (λ s ds k. rw (← c .before .before .before .read-u32 .ensures .is, c .before .enum-told .given .1) refl))
 
 pub read-loc-type-spec : {M : Type 1} → statement M

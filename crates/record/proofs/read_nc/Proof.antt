@@ -1,6 +1,6 @@
 -- `record::read_nc` meets its contract. Assumes nothing.
-use Rattle.definition.specs.Record.{read-NC, read-kind}
-use Rattle.definition.specs.Reader.{_>>=_, go-on}
+use Rattle.definition.specs.Record.{read-kind}
+use Rattle.definition.specs.Reader.{_>>=_, go-on, read-one, read-three, read-u32}
 use mathlib.Core.Path.{refl, sym, _∙_}
 use Rattle.record.proofs.Forms.{nc-is, malformed-is, one-NC}
 use borrow.Author.Needs.{needs}
@@ -50,11 +50,11 @@ returns : tie.Need-returns
 returns c = nc-is _ _ _ _ _ _ _ _ _ _ (rw (c .before .before .before .before .before .before .before .before .before .l .given .1) at (c .before .before .before .before .before .before .before .before .before .before .before .read-u32 .ensures .is)) (rw (c .before .before .before .before .before .k .given .1) at (c .before .before .before .before .before .before .before .byte-to .ensures .is)) (c .before .before .read-one .ensures _ (one-NC _ _ ((rw (c .before .before .before .before .before .k .given .1) at (c .before .before .before .before .before .before .before .byte-to .ensures .within)) .0)))
 
 returns-2 : tie.Need-returns-2
-unfolding read-NC read-kind _>>=_ go-on
+unfolding read-three read-kind read-one _>>=_ go-on
 returns-2 c = rw (c .plain .ensures) (malformed-is _ _ _ _ _ _ _ _ (c .before .before .before .before .before .before .before .before .before .before .pre .0 .0) (c .before .before .before .before .before .before .before .before .before .before .pre .1 .1 .0) (λ s ds k. rw (← c .before .before .before .before .before .before .before .read-u32 .ensures .is, c .before .before .before .before .before .l .given .1, ← c .before .before .before .byte-to .ensures .is, c .before .enum-told .given .1) refl))
 
 returns-3 : tie.Need-returns-3
-unfolding read-NC read-kind _>>=_ go-on
+unfolding read-three read-kind read-one _>>=_ go-on
 returns-3 c = rw (c .plain2 .ensures) (malformed-is _ _ _ _ _ _ _ _ (c .before .before .before .before .before .before .pre .0 .0) (c .before .before .before .before .before .before .pre .1 .1 .0) (λ s ds k. rw (← c .before .before .before .read-u32 .ensures .is, c .before .enum-told2 .given .1) refl))
 
 pub read-nc-spec : {M : Type 1} → statement M

@@ -1,6 +1,5 @@
 -- `record::read_sn` meets its contract. Assumes nothing.
-use Rattle.definition.specs.Record.{read-SN}
-use Rattle.definition.specs.Reader.{_>>=_, go-on}
+use Rattle.definition.specs.Reader.{_>>=_, go-on, read-two, name-below, read-u32}
 use mathlib.Core.Path.{refl}
 use Rattle.record.proofs.Forms.{sn-is, malformed-is, unknown-is}
 use borrow.Author.Needs.{needs}
@@ -53,15 +52,15 @@ returns : tie.Need-returns
 returns c = λ w l. rw (c .plain .ensures) (sn-is w _ _ _ _ _ _ _ l ((rw (c .before .before .before .before .before .before .n .given .1) at (c .before .before .before .before .before .before .before .before .name-below .ensures .within)) .0) ((rw (c .before .before .l .given .1) at (c .before .before .before .before .read-u32 .ensures .within)) .1) (rw (c .before .before .before .before .before .before .n .given .1) at (c .before .before .before .before .before .before .before .before .name-below .ensures .is)) (rw (c .before .before .l .given .1) at (c .before .before .before .before .read-u32 .ensures .is)))
 
 returns-2 : tie.Need-returns-2
-unfolding read-SN _>>=_ go-on
+unfolding read-two _>>=_ go-on
 returns-2 c = λ w l. rw (c .plain2 .ensures) (malformed-is w _ _ _ _ _ _ _ l (c .before .before .before .before .before .before .before .before .before .pre .1) (λ s ds k. rw (k .vars, ← c .before .before .before .before .before .before .before .name-below .ensures .is, c .before .before .before .before .before .n .given .1, ← c .before .before .before .read-u32 .ensures .is, c .before .enum-told .given .1) refl))
 
 returns-3 : tie.Need-returns-3
-unfolding read-SN _>>=_ go-on
+unfolding read-two _>>=_ go-on
 returns-3 c = λ w l. rw (c .plain3 .ensures) (malformed-is w _ _ _ _ _ _ _ l (c .before .before .before .before .before .pre .1) (λ s ds k. rw (k .vars, ← c .before .before .before .name-below .ensures .is, c .before .enum-told2 .given .1) refl))
 
 returns-4 : tie.Need-returns-4
-unfolding read-SN _>>=_ go-on
+unfolding read-two _>>=_ go-on
 returns-4 c = λ w l. rw (c .plain4 .ensures) (unknown-is w _ _ _ _ _ _ _ l (c .before .before .before .before .before .pre .1) (λ s ds k. rw (k .vars, ← c .before .before .before .name-below .ensures .is, c .before .enum-told3 .given .1) refl))
 
 pub read-sn-spec : {M : Type 1} → statement M
