@@ -1,3 +1,7 @@
+pub mod AnswersJoin
+pub mod AnswersRecords
+pub mod AnswersLimits
+pub mod AnswersPieces
 pub mod Laws
 pub mod Tracks
 pub mod Chains
