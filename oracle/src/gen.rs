@@ -105,6 +105,8 @@ fn bare(kind: Kind) -> Ty {
 
 pub struct Maker {
     chance: Chance,
+    /// for the ids that TS lists twice; its own, so that all else is drawn as without them. None: never twice
+    twice: Option<Chance>,
     pub profile: Profile,
     marks: Marks,
     /// locations are 1, 2, 3 .., or for some jobs any number
@@ -124,6 +126,7 @@ impl Maker {
             chance.weighted(&[(4, All), (2, Refs), (4, Knots), (3, Numbers), (2, Lists), (2, Structs), (2, Fresh)]);
         let knots = profile == Knots;
         Maker {
+            twice: Some(Chance(!chance.0)),
             profile,
             marks: chance.weighted(&[(45, Marks::None), (40, Marks::Primitives), (15, Marks::Mixed)]),
             locs: 0,
@@ -337,6 +340,12 @@ impl Maker {
         if self.chance.percent(10) {
             ids.truncate(3)
         }
+        if let Some(twice) = &mut self.twice {
+            let (i, j) = (twice.below(ids.len()), twice.below(ids.len()));
+            if i != j && twice.percent(6) {
+                ids[i] = ids[j]
+            }
+        }
         ids.into_iter().map(|id| (id, self.small())).collect()
     }
 
@@ -434,6 +443,7 @@ impl Growing {
 pub fn random(seed: u64, index: u64, records: usize, profile: Option<Profile>, cut: bool) -> Made {
     let mut m = Maker::new(Chance::new(seed, index));
     m.profile = profile.unwrap_or(m.profile);
+    m.twice = m.twice.filter(|_| !cut);
     let mut g = Growing::new(format!("random-{}-{}-{:?}", seed, index, m.profile).to_lowercase(), cut);
     for n in 0..records {
         let r = m.record(n, g.job.known().vars, &g.job.known().params);
@@ -540,6 +550,7 @@ pub fn exhaustive(index: usize, cut: bool) -> Option<Made> {
 /// length, or the depth of a join.
 pub fn limits(seed: u64, index: u64, cut: bool) -> Made {
     let mut m = Maker::new(Chance::new(seed ^ 0x6c69_6d69_7473, index));
+    m.twice = m.twice.filter(|_| !cut);
     let kinds = ["variables", "constraints", "structs", "nesting", "length", "depth", "payload"];
     let kind = kinds[index as usize % kinds.len()];
     let mut g = Growing::new(format!("limits-{}-{}-{}", seed, index, kind), cut);
