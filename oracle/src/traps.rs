@@ -3,15 +3,15 @@
 use crate::{
     calls::{Calls, MIN_ANSWER},
     lender::Lender,
-    lent::{fresh, sound, Lent, MAX_NODES},
+    lent::{fresh, sound, Lent, MAX_NODES, MAX_VARS},
     text::assemble,
 };
 use std::time::Instant;
 
 /// seconds that a call may take
 pub const LIMIT: f64 = 0.05;
-/// what a thread has by default
-const STACK: usize = 2 << 20;
+/// the stack that every call fits
+const STACK: usize = 512 << 10;
 
 pub struct Line {
     pub state: &'static str,
@@ -63,13 +63,34 @@ fn deep() -> Lent {
     s
 }
 
-/// one type with all nodes but the last few
-fn deepest() -> Lent {
+/// V0 is a type with all nodes but the spare ones, V2 what is 253 levels above its end V1. With one spare RD goes down all of it;
+/// with four a join of the two goes down 254 calls, and then looks for V1 in all that is left of V0.
+fn deepest(reference: bool, spare: usize) -> Lent {
     let mut s = fresh();
     (0..8).for_each(|_| assert!(s.add_var().is_some()));
-    let bottom = s.add_node(6, 1, 1, 0, &[]).unwrap();
-    let top = (0..MAX_NODES - 8).fold(bottom, |below, _| s.add_node(1, 0, 1, below as u32, &[]).unwrap());
+    let mut top = s.add_node(6, 1, 1, 0, &[]).unwrap();
+    for level in 1..MAX_NODES - spare {
+        let next = if reference { s.add_node(1, 0, 1, top as u32, &[]) } else { s.add_node(4, 0, 0, 1, &[top]) };
+        top = next.unwrap();
+        if level == 253 {
+            s.bind(2, top)
+        }
+    }
     s.bind(0, top);
+    s
+}
+
+/// V0 is a list of a variable that is a list of a variable, and so on, through all variables
+fn turns() -> Lent {
+    let mut s = fresh();
+    (0..MAX_VARS).for_each(|_| assert!(s.add_var().is_some()));
+    let mut below = s.add_node(6, 1, 1, 0, &[]).unwrap();
+    for v in 8..MAX_VARS {
+        s.bind(v, below);
+        let variable = s.add_node(6, 0, v as u32, 0, &[]).unwrap();
+        below = s.add_node(4, 0, 0, 1, &[variable]).unwrap()
+    }
+    s.bind(0, below);
     s
 }
 
@@ -124,21 +145,29 @@ const RECORDS: [&str; 22] = [
     "SV",
 ];
 
-fn tried(calls: &dyn Calls, state: &'static str, lent: &Lent, record: &str) -> Line {
+fn tried(calls: &(dyn Calls + Sync), state: &'static str, lent: &Lent, record: &str) -> Line {
     let bytes = assemble(record, true).unwrap();
-    let (mut seconds, mut answer) = (f64::MAX, None);
-    for _ in 0..3 {
+    let call = || {
         let mut lender = Lender::new(calls, lent);
         lender.warm(MIN_ANSWER);
         let start = Instant::now();
         let a = lender.record(&bytes, MIN_ANSWER).unwrap();
-        seconds = start.elapsed().as_secs_f64().min(seconds);
+        (start.elapsed().as_secs_f64(), a, lender.lent())
+    };
+    let (mut seconds, mut answer) = (f64::MAX, None);
+    for _ in 0..3 {
+        let (took, a, left) = on_a_thread(STACK, call);
+        seconds = took.min(seconds);
         assert_ne!(a.number, 15);
-        assert_eq!(sound(lender.words(), lender.params()), Ok(()));
+        assert_eq!(sound(&left.words, &left.params), Ok(()));
         answer = Some(a)
     }
     let a = answer.unwrap();
     Line { state, record: record.into(), number: a.number, payload: a.payload.len(), seconds }
+}
+
+fn on_a_thread<T: Send>(stack: usize, work: impl FnOnce() -> T + Send) -> T {
+    std::thread::scope(|s| std::thread::Builder::new().stack_size(stack).spawn_scoped(s, work).unwrap().join().unwrap())
 }
 
 /// The state with constraints on V0, for SV to solve.
@@ -150,31 +179,27 @@ fn constrained(calls: &dyn Calls, lent: &Lent) -> Lent {
     lender.lent()
 }
 
-/// Every record on every state, with the stack of a thread; and the slowest call's seconds.
+/// Every record on every state, each call on a thread of its own; and the slowest call's seconds.
 pub fn run(calls: &(dyn Calls + Sync)) -> (Vec<Line>, f64) {
-    let work = || {
-        let states = [
-            ("ladder", ladder()),
-            ("deep", deep()),
-            ("deepest", deepest()),
-            ("tower", tower(calls, false)),
-            ("circle", tower(calls, true)),
-            ("chains", chains()),
-        ];
-        let mut lines = vec![];
-        for (name, lent) in &states {
-            assert_eq!(sound(&lent.words, &lent.params), Ok(()), "{}", name);
-            lines.extend(RECORDS.iter().map(|r| tried(calls, name, lent, r)));
-            let mut solved = tried(calls, name, &constrained(calls, lent), "SV");
-            solved.record = "SV with constraints on V0".into();
-            lines.push(solved)
-        }
-        lines
-    };
-    let lines = std::thread::scope(|s| {
-        let thread = std::thread::Builder::new().stack_size(STACK).spawn_scoped(s, work).unwrap();
-        thread.join().unwrap()
-    });
+    let states = [
+        ("ladder", ladder()),
+        ("deep", deep()),
+        ("deepest", deepest(true, 1)),
+        ("lists", deepest(false, 1)),
+        ("under", deepest(true, 4)),
+        ("turns", turns()),
+        ("tower", tower(calls, false)),
+        ("circle", tower(calls, true)),
+        ("chains", chains()),
+    ];
+    let mut lines = vec![];
+    for (name, lent) in &states {
+        assert_eq!(sound(&lent.words, &lent.params), Ok(()), "{}", name);
+        lines.extend(RECORDS.iter().map(|r| tried(calls, name, lent, r)));
+        let mut solved = tried(calls, name, &constrained(calls, lent), "SV");
+        solved.record = "SV with constraints on V0".into();
+        lines.push(solved)
+    }
     let slowest = lines.iter().map(|l| l.seconds).fold(0.0, f64::max);
     (lines, slowest)
 }

@@ -6,6 +6,7 @@ use Prim.Native.Nat.{ℕ, zero, suc, _<_}
 use native.Mathlib.Nat.{not-suc-le-zero}
 use native.Mathlib.Omega.{arith}
 use lib.ListN.{length, getD}
+use lib.Seq.{ext-getD}
 use Rattle.definition.specs.Store.{any-of, all-of}
 
 pub or-true : (b : Bool) → (b || true) ≡ true
@@ -60,3 +61,18 @@ all-one f [] i h e = absurd (not-suc-le-zero h)
 all-one f (t ∷ ts) zero h e = all-cons f t ts false e
 all-one f (t ∷ ts) (suc i) h e =
     all-cons f t ts (f t) refl ∙ ap (λ (b : Bool). f t && b) (all-one f ts i (omega arith) e) ∙ and-false (f t)
+
+-- a list of eight, written out
+pub eight : (l : List ℕ) → length l ≡ 8 → getD l 0 0 ∷ getD l 1 0 ∷ getD l 2 0 ∷ getD l 3 0 ∷ getD l 4 0 ∷ getD l 5 0 ∷ getD l 6 0 ∷ getD l 7 0 ∷ [] ≡ l
+eight l e = ext-getD 0 _ l (sym e) at
+  where
+    at : (i : ℕ) → i < 8 → getD (getD l 0 0 ∷ getD l 1 0 ∷ getD l 2 0 ∷ getD l 3 0 ∷ getD l 4 0 ∷ getD l 5 0 ∷ getD l 6 0 ∷ getD l 7 0 ∷ []) i 0 ≡ getD l i 0
+    at zero h = refl
+    at (suc zero) h = refl
+    at (suc (suc zero)) h = refl
+    at (suc (suc (suc zero))) h = refl
+    at (suc (suc (suc (suc zero)))) h = refl
+    at (suc (suc (suc (suc (suc zero))))) h = refl
+    at (suc (suc (suc (suc (suc (suc zero)))))) h = refl
+    at (suc (suc (suc (suc (suc (suc (suc zero))))))) h = refl
+    at (suc (suc (suc (suc (suc (suc (suc (suc i)))))))) h = absurd (omega arith)

@@ -1,25 +1,25 @@
--- ready_tvars: one level, the arguments one after the other, and the whole run, as the code goes about them. Assumes nothing.
+-- ready_tvars: one level, the parts one after the other, and the whole run, as the code goes about them. Assumes nothing.
 use mathlib.Core.Path.{_≡_, refl, sym, ap, ap₂, _∙_, subst}
 use mathlib.Core.Bool.{Bool, true, false}
 use mathlib.Core.List.{List, [], _∷_, _++_, append-assoc, append-nil}
-use mathlib.Core.Option.{none, some}
+use mathlib.Core.Option.{Option, none, some}
 use Prim.Native.Nat.{ℕ, zero, suc, _+_, _-_, _*_, _<_, _≤_}
 use native.Mathlib.Nat.{not-suc-le-zero}
 use native.Mathlib.Numerals.{add-one}
 use native.Mathlib.Decide.{ℕ-discrete}
 use native.Mathlib.Omega.{arith}
-use lib.ListN.{length, getD, set, take, drop, length-set, length-take, length-drop, length-append, drop-of-length-le}
-use lib.Seq.{take-append-le, drop-append-le, drop-cons, take-suc-set, getD-take, getD-drop, getD-set-same, getD-set-other}
+use lib.ListN.{length, getD, set, take, drop, length-set, length-take, length-drop, length-append, drop-of-length-le, List·getD-append}
+use lib.Seq.{take-append-le, drop-append-le, drop-cons, take-suc-set, getD-take, getD-set-same, getD-set-other}
 use Rattle.definition.specs.Types as d
-use Rattle.definition.specs.Types.{State, Struct, Result, ok, err, refused, _>>=_}
-use Rattle.definition.specs.Store.{count, node, args-at, with-args, value, loc-of, get, sp, map-types, with-structs}
-use Rattle.definition.specs.Subst.{forward-tvar, reaches-itself, ready-value, ready, ready-tvars}
+use Rattle.definition.specs.Types.{State, Struct, Places, Result, ok, err, refused, _>>=_}
+use Rattle.definition.specs.Store.{count, node, nowhere, args-at, with-args, value, loc-of, get, sp, map-types, with-structs}
+use Rattle.definition.specs.Subst.{as-var, parts, forward-tvar, reaches-itself, ready-value, ready, ready-tvars}
 use Rattle.names.specs.Names.{mark-of, name-of}
 use Rattle.names.specs.declared.TVar.{TVar}
 use Rattle.names.specs.declared.Mark.{Mark}
 use Rattle.names.specs.declared.TypeName.{TypeName}
-use Rattle.table.specs.Rows.{node-table, arg-table, places}
-use Rattle.table.specs.State.{found, shape-of, node-of, value-of, done, outcome, view, seen, Lay, Below, Grown, Front, After, Nodes-in, Parts}
+use Rattle.table.specs.Rows.{node-table, places}
+use Rattle.table.specs.State.{found, shape-of, node-of, value-of, done, outcome, view, seen, Lay, Below, Grown, Front, After, Nodes-in, Parts as Parts-in}
 use Rattle.table.specs.declared.Used.{Used}
 use Rattle.table.specs.declared.Node.{Node}
 use Rattle.table.specs.declared.Step.{Step}
@@ -30,33 +30,20 @@ use Rattle.table.specs.declared.Found.the-variants.{Nothing, Just}
 use Rattle.table.specs.declared.Out.{Out}
 use Rattle.table.specs.declared.Out.the-variants.{Done, Subtype, Incompatible, Arity, Recursive, Full, Deep, Itself, Disagree, Open as OpenO, NoArgument, Twice}
 use Rattle.table.proofs.Rows.{length-entries}
-use Rattle.table.proofs.Steps.{grown-refl, grown-trans, changed-now, after-now, after-is, after-stop, after-then}
-use Rattle.subst.specs.Ready.{then-ref, then-apply, types, onward-of, Onward-in, Goes, Types-in, Args-in, Readied}
-use Rattle.subst.specs.declared.Types.{Types}
+use Rattle.table.proofs.Steps.{grown-refl, grown-trans, after-now, after-stop}
+use Rattle.subst.specs.Answers.{part-count}
+use Rattle.subst.specs.Ready.{rebuilt, rebuilt-at, by-parts, by-parts-at, Has-parts, onward-of, Onward-in, Goes, landed, Landing-in, Lands}
 use Rattle.subst.specs.declared.Onward.{Onward}
-use Rattle.subst.specs.declared.Onward.the-variants.{Same, Ref, Apply, Open, Bound}
+use Rattle.subst.specs.declared.Onward.the-variants.{Parts, Open, Bound}
+use Rattle.subst.specs.declared.Landing.{Landing}
+use Rattle.subst.specs.declared.Landing.the-variants.{Parts as PartsL, Open as OpenL, Spent}
 use Rattle.subst.proofs.Laws.{count-seen, inside-seen, value-is, loc-is}
+use Rattle.subst.proofs.Occurs.{at-node, many-parts, part-is, parts-low}
 
 -- ---- answers
 
 clash : {A : Type 0} → _≡_ {A = ℕ} 0 1 → A
 clash z = absurd (omega arith)
-
--- an answer that is no number stops whatever follows
-stops : {B : Type 0} (o : Out) (s : State) (g h : State × ℕ → Result B) → done o ≡ Nothing → (outcome o s >>= g) ≡ (outcome o s >>= h)
-unfolding outcome _>>=_
-stops (Done t) s g h e = clash (cc)
-stops (Subtype a b) s g h e = refl
-stops (Incompatible a b) s g h e = refl
-stops (Arity a b) s g h e = refl
-stops (Recursive loc) s g h e = refl
-stops Full s g h e = refl
-stops Deep s g h e = refl
-stops Itself s g h e = refl
-stops Disagree s g h e = refl
-stops OpenO s g h e = refl
-stops NoArgument s g h e = refl
-stops Twice s g h e = refl
 
 done-is : (o : Out) (t : ℕ) → done o ≡ Just t → o ≡ Done t
 done-is (Done x) t e = cc
@@ -85,9 +72,6 @@ bind-bind (refused x) g h = refl
 pub done-in : (o : Out) (n t : ℕ) (f : Found) → Nodes-in n o → f ≡ done o → f ≡ Just t → t < n
 done-in o n t f h e z = subst (λ (x : Out). Nodes-in n x) (done-is o t (sym e ∙ z)) h
 
-pub types-done : (o : Out) (nodes n : ℕ) (tys : List ℕ) (f : Found) → Types-in nodes tys o → f ≡ done o → f ≡ Just n → Parts nodes tys n
-types-done o nodes n tys f h e z = h .parts n (done-is o n (sym e ∙ z))
-
 -- ---- steps
 
 pub after-at : (w : List ℕ) (u : Used) (w′ : List ℕ) (r : Step) (f g : State → Result (State × ℕ)) → ((ds : List Struct) → f (seen w u ds) ≡ g (seen w u ds)) → After w u w′ r f → After w u w′ r g
@@ -96,47 +80,31 @@ after-at w u w′ r f g e a = record {
   inside = a .inside;
 }
 
-module _ (w : List ℕ) (a : Step) (h : Lay w (a .used)) where
-  pub ref-stop : (loc : ℕ) (m : Bool) (f : Found) → Nodes-in (a .used .nodes) (a .out) → f ≡ done (a .out) → f ≡ Nothing → After w (a .used) w a (λ s. then-ref loc m (outcome (a .out) s))
-  unfolding then-ref
-  ref-stop loc m f i e z = after-stop w (a .used) w a (λ s. outcome (a .out) s) (λ x. sp (x .0) loc (d.Ref m (x .1))) f (after-now w (a .used) (a .out) (λ s. outcome (a .out) s) h i (λ ds. refl)) e z
-
-  pub ref-then : (loc : ℕ) (m : Bool) (f : Found) (t : ℕ) (w′ : List ℕ) (r : Step) → f ≡ done (a .out) → f ≡ Just t → After w (a .used) w′ r (λ s. sp s loc (value-of (RefS m t))) → After w (a .used) w′ r (λ s. then-ref loc m (outcome (a .out) s))
-  unfolding then-ref
-  ref-then loc m f t w′ r e z n = after-then w (a .used) w a (λ s. outcome (a .out) s) (λ x. sp (x .0) loc (d.Ref m (x .1))) f t w′ r (changed-now w (a .used) (a .out) (λ s. outcome (a .out) s) h (λ ds. refl)) e z n
-
-module _ (w : List ℕ) (o : Out) (u : Used) (tys : List ℕ) (h : Lay w u) (loc : ℕ) (k : d.Mark) (name : d.TypeName) where
-  joined : (m : Result (State × ℕ)) → (m >>= (λ x. sp (x .0) loc (d.Apply k name (take (x .1) tys)))) ≡ then-apply loc k name (types tys m)
-  unfolding then-apply types _>>=_
-  joined (ok x) = refl
-  joined (err s e) = refl
-  joined (refused x) = refl
-
-  pub apply-stop : (f : Found) → Types-in (u .nodes) tys o → f ≡ done o → f ≡ Nothing → After w u w (record { out = o; used = u }) (λ s. then-apply loc k name (types tys (outcome o s)))
-  apply-stop f i e z =
-      after-is w u w _ _ _ (λ s. joined (outcome o s))
-      (after-stop w u w (record { out = o; used = u }) (λ s. outcome o s) (λ x. sp (x .0) loc (d.Apply k name (take (x .1) tys))) f (after-now w u o (λ s. outcome o s) h (i .others (sym e ∙ z)) (λ ds. refl)) e z)
-
-  pub apply-then : (f : Found) (n : ℕ) (w′ : List ℕ) (r : Step) → f ≡ done o → f ≡ Just n → After w u w′ r (λ s. sp s loc (d.Apply k name (take n tys))) → After w u w′ r (λ s. then-apply loc k name (types tys (outcome o s)))
-  apply-then f n w′ r e z a =
-      after-is w u w′ _ _ _ (λ s. joined (outcome o s))
-      (after-then w u w (record { out = o; used = u }) (λ s. outcome o s) (λ x. sp (x .0) loc (d.Apply k name (take (x .1) tys))) f n w′ r (changed-now w u o (λ s. outcome o s) h (λ ds. refl)) e z a)
-
 -- ---- one level
 
 abbrev Ready : Type 0
 Ready = State → ℕ → Result (State × ℕ)
 
-pub goes-flat : (w : List ℕ) (u : Used) (sh : Shape) → ((f : Ready) (ty loc : ℕ) (s : State) → ok (s, ty) ≡ ready-value f s ty loc (with-args s (shape-of sh))) → Goes w u sh Same
-goes-flat w u sh e = record { is = λ f ty loc ds. e f ty loc (seen w u ds); inside = tt }
+one-part : (m : Result (State × ℕ)) (loc : ℕ) (b : Bool)
+    → (_>>=_ {A = State × List ℕ} (m >>= (λ (x : State × ℕ). _>>=_ {A = State × List ℕ} (ok (x .0, [])) (λ y. ok (y .0, x .1 ∷ y .1)))) (λ y. sp (y .0) loc (d.Ref b (getD (y .1) 0 0)))) ≡ (m >>= (λ x. sp (x .0) loc (d.Ref b (x .1))))
+unfolding _>>=_
+one-part (ok x) loc b = refl
+one-part (err s e) loc b = refl
+one-part (refused x) loc b = refl
 
-pub goes-ref : (w : List ℕ) (u : Used) (sh : Shape) (m : Bool) (t : ℕ) → sh ≡ RefS m t → Goes w u sh (Ref m t)
-unfolding then-ref ready-value with-args
-goes-ref w u sh m t e = record { is = λ f ty loc ds. rw e refl; inside = ap shape-of e }
+-- a type that is no variable
+plain : (f : Ready) (s : State) (ty loc : ℕ) (x : d.Type-value) → none ≡ as-var x → by-parts f s ty loc x ≡ ready-value f s ty loc x
+unfolding by-parts ready-value rebuilt parts map-types as-var _>>=_
+plain f s ty loc d.UnitType e = refl
+plain f s ty loc (d.Ref m t) e = one-part (f s t) loc m
+plain f s ty loc (d.Param id a) e = refl
+plain f s ty loc (d.Apply k n tys) e = refl
+plain f s ty loc (d.Var v) e = clash (cc)
+plain f s ty loc d.Anything e = refl
+plain f s ty loc d.UnresolvedError e = refl
 
-pub goes-apply : (w : List ℕ) (u : Used) (sh : Shape) (k : Mark) (n : TypeName) (first many : ℕ) → sh ≡ ApplyS k n first many → Goes w u sh (Apply k n first many)
-unfolding then-apply ready-value with-args
-goes-apply w u sh k n first many e = record { is = λ f ty loc ds. rw e refl; inside = ap shape-of e }
+pub goes-plain : (w : List ℕ) (u : Used) (sh : Shape) (many : ℕ) → ((s : State) → none ≡ as-var (with-args s (shape-of sh))) → many ≡ part-count (shape-of sh) → Goes w u sh (Parts many)
+goes-plain w u sh many e m = record { is = λ f ty loc ds. plain f (seen w u ds) ty loc (with-args (seen w u ds) (shape-of sh)) (e (seen w u ds)); inside = m }
 
 var-open : (f : Ready) (s : State) (ty loc v : ℕ) → get s (forward-tvar s v) ≡ none → sp s loc (d.Var (forward-tvar s v)) ≡ ready-value f s ty loc (d.Var v)
 unfolding ready-value
@@ -176,110 +144,162 @@ one-level (suc n) s ty p =
     let e : suc n - 1 ≡ n = omega arith in
     ap (λ (k : ℕ). ready-value (λ s t. ready k s t) s ty (loc-of s ty) (value s ty)) e
 
-pub args-seen : (w : List ℕ) (u : Used) (ds : List Struct) → seen w u ds .args ≡ view w u .args
-unfolding seen with-structs
-args-seen w u ds = refl
-
-pub args-count : (w : List ℕ) (u : Used) → length (view w u .args) ≡ u .args
-unfolding view
-args-count w u = length-entries arg-table w (u .args)
-
 pub nodes-count : (w : List ℕ) (u : Used) → length (view w u .nodes) ≡ u .nodes
 unfolding view
 nodes-count w u = length-entries node-table w (u .nodes)
 
--- at node n, which is t
-module _ (w : List ℕ) (u : Used) (t left : ℕ) (h : Lay w u) (i : t < u .nodes) (n : Node) (e : (ds : List Struct) → node-of n ≡ node (seen w u ds) t) (r : Onward) (g : Goes w u (n .shape) r) where
-  level : 0 < left → (ds : List Struct) → onward-of (λ s t. ready (left - 1) s t) (seen w u ds) t (n .loc) r ≡ ready left (seen w u ds) t
-  level p ds =
-      g .is (λ s t. ready (left - 1) s t) t (n .loc) ds
-      ∙ ap (λ (l : ℕ). ready-value (λ s t. ready (left - 1) s t) (seen w u ds) t l (with-args (seen w u ds) (shape-of (n .shape)))) (loc-is (seen w u ds) t n (e ds))
-      ∙ ap (ready-value (λ s t. ready (left - 1) s t) (seen w u ds) t (loc-of (seen w u ds) t)) (value-is (seen w u ds) t n (e ds))
-      ∙ one-level left (seen w u ds) t p
+-- where the loop stands: from here on all comes to what it comes to from the start
+pub record Coming (w : List ℕ) (u : Used) (t calls at left : ℕ) : Type 0 where
+  pub lay : Lay w u
+  pub in-nodes : at < u .nodes
+  pub fewer : left ≤ calls
+  pub is : (ds : List Struct) → ready left (seen w u ds) at ≡ ready calls (seen w u ds) t
 
-  below : Below (view w u .args) t (shape-of (n .shape))
-  unfolding node
-  below =
-      let k : t < count (seen w u []) = rw (count-seen w u []) i in
-      let v : node (seen w u []) t .value ≡ shape-of (n .shape) = ap (λ (y : d.Node). y .value) (sym (e [])) in
-      rw (args-seen w u [], v) at (inside-seen w u [] h .parts t k)
+pub coming-start : (w : List ℕ) (u : Used) (t calls : ℕ) → Lay w u → t < u .nodes → Coming w u t calls t calls
+coming-start w u t calls h i = record { lay = h; in-nodes = i; fewer = omega arith; is = λ ds. refl }
 
-  pub ref-in : (m : Bool) (p : ℕ) → r ≡ Ref m p → p < u .nodes
-  ref-in m p z =
-      let q : shape-of (n .shape) ≡ d.Ref m p = subst (λ (x : Onward). Onward-in u (n .shape) x) z (g .inside) in
-      let b : p < t = rw q at below in
-      omega arith
+module _ {w : List ℕ} {u : Used} {t calls at left : ℕ} (c : Coming w u t calls at left) where
+  pub coming-none : left ≤ 0 → Lands w u t calls Spent
+  unfolding ready
+  coming-none z =
+      let y : left ≡ 0 = omega arith in
+      record { is = λ ds. sym (ap (λ (k : ℕ). ready k (seen w u ds) at) y) ∙ c .is ds; inside = tt }
 
-  pub bound-in : (x : ℕ) → r ≡ Bound x → x < u .nodes
-  bound-in x z = subst (λ (x : Onward). Onward-in u (n .shape) x) z (g .inside)
+  -- at node n
+  module _ (p : 0 < left) (n : Node) (e : (ds : List Struct) → node-of n ≡ node (seen w u ds) at) (r : Onward) (g : Goes w u (n .shape) r) where
+    -- the shape's value and the node's
+    abbrev shown : List Struct → d.Type-value
+    shown ds = with-args (seen w u ds) (shape-of (n .shape))
 
-  pub args-in : (k : Mark) (name : TypeName) (first many : ℕ) → r ≡ Apply k name first many → Args-in w u first many
-  unfolding places
-  args-in k name first many z =
-      let q : shape-of (n .shape) ≡ d.Apply (mark-of k) (name-of name) (places first many) = subst (λ (x : Onward). Onward-in u (n .shape) x) z (g .inside) in
-      let b : Below (view w u .args) t (d.Apply (mark-of k) (name-of name) (places first many)) = rw q at below in
-      record { few = b .0; within = rw (args-count w u) at (b .1 .0); inside = λ j l. let x = b .1 .1 j l in omega arith }
+    level : (ds : List Struct) → onward-of (λ s t. ready (left - 1) s t) (seen w u ds) at (n .loc) (shown ds) r ≡ ready calls (seen w u ds) t
+    level ds =
+        g .is (λ s t. ready (left - 1) s t) at (n .loc) ds
+        ∙ ap (λ (l : ℕ). ready-value (λ s t. ready (left - 1) s t) (seen w u ds) at l (shown ds)) (loc-is (seen w u ds) at n (e ds))
+        ∙ ap (ready-value (λ s t. ready (left - 1) s t) (seen w u ds) at (loc-of (seen w u ds) at)) (value-is (seen w u ds) at n (e ds))
+        ∙ one-level left (seen w u ds) at p
+        ∙ c .is ds
 
-  module _ (ne : left ≡ 0 → ⊥) where
-    step-on : (x : Onward) → r ≡ x → (ds : List Struct) → onward-of (λ s t. ready (left - 1) s t) (seen w u ds) t (n .loc) x ≡ ready left (seen w u ds) t
-    step-on x z ds = let p : 0 < left = omega arith in sym (ap (onward-of (λ s t. ready (left - 1) s t) (seen w u ds) t (n .loc)) z) ∙ level p ds
+    step-on : (x : Onward) → r ≡ x → (ds : List Struct) → onward-of (λ s t. ready (left - 1) s t) (seen w u ds) at (n .loc) (shown ds) x ≡ ready calls (seen w u ds) t
+    step-on x z ds = sym (ap (onward-of (λ s t. ready (left - 1) s t) (seen w u ds) at (n .loc) (shown ds)) z) ∙ level ds
 
-    pub ready-same : r ≡ Same → After w u w (record { out = Done t; used = u }) (λ s. ready left s t)
-    unfolding outcome
-    ready-same z = after-now w u (Done t) (λ s. ready left s t) h i (λ ds. step-on Same z ds)
+    within : (x : Onward) → r ≡ x → Onward-in u (n .shape) x
+    within x z = subst (λ (y : Onward). Onward-in u (n .shape) y) z (g .inside)
 
-    pub ready-open : (v : TVar) → r ≡ Open v → (w′ : List ℕ) (a : Step) → After w u w′ a (λ s. sp s (n .loc) (d.Var (v .0))) → After w u w′ a (λ s. ready left s t)
-    ready-open v z w′ a f = after-at w u w′ a _ _ (step-on (Open v) z) f
+    pub coming-on : (x : ℕ) → r ≡ Bound x → Coming w u t calls x (left - 1)
+    coming-on x z = let f = c .fewer in record { lay = c .lay; in-nodes = within (Bound x) z; fewer = omega arith; is = step-on (Bound x) z }
 
-    pub ready-bound : (x : ℕ) → r ≡ Bound x → (w′ : List ℕ) (a : Step) → After w u w′ a (λ s. ready (left - 1) s x) → After w u w′ a (λ s. ready left s t)
-    ready-bound x z w′ a f = after-at w u w′ a _ _ (step-on (Bound x) z) f
+    pub coming-open : (v : TVar) → r ≡ Open v → Lands w u t calls (OpenL (n .loc) v)
+    coming-open v z = record { is = step-on (Open v) z; inside = tt }
 
-    pub ready-ref : (m : Bool) (p : ℕ) → r ≡ Ref m p → (w₁ : List ℕ) (a : Step) → After w u w₁ a (λ s. ready (left - 1) s p) → (w₂ : List ℕ) (b : Step) → After w₁ (a .used) w₂ b (λ s. then-ref (n .loc) m (outcome (a .out) s))
-        → After w u w₂ b (λ s. ready left s t)
-    ready-ref m p z w₁ a f w₂ b k = record {
-      changed = record {
-        lay = k .changed .lay;
-        grown = grown-trans _ _ _ (f .changed .grown) (k .changed .grown);
-        structs = k .changed .structs ∙ f .changed .structs;
-        is = λ ds. k .changed .is ds ∙ ap (then-ref (n .loc) m) (f .changed .is ds) ∙ step-on (Ref m p) z ds;
-      };
-      inside = k .inside;
-    }
+    pub coming-parts : (many : ℕ) → r ≡ Parts many → Lands w u t calls (PartsL at many (left - 1))
+    unfolding by-parts-at
+    coming-parts many z =
+        let f = c .fewer in
+        record {
+          is = λ ds.
+              sym (ap (λ (l : ℕ). by-parts (λ s t. ready (left - 1) s t) (seen w u ds) at l (shown ds)) (loc-is (seen w u ds) at n (e ds))
+              ∙ ap (by-parts (λ s t. ready (left - 1) s t) (seen w u ds) at (loc-of (seen w u ds) at)) (value-is (seen w u ds) at n (e ds)))
+              ∙ step-on (Parts many) z ds;
+          inside = (c .in-nodes, (omega arith, many-parts (at-node w u at many n (c .lay) (c .in-nodes) e (within (Parts many) z))));
+        }
 
-    pub ready-apply : (k : Mark) (name : TypeName) (first many : ℕ) → r ≡ Apply k name first many → (w₁ : List ℕ) (a : Types) → Readied w u w₁ a first many (left - 1) → (w₂ : List ℕ) (b : Step)
-        → After w₁ (a .used) w₂ b (λ s. then-apply (n .loc) (mark-of k) (name-of name) (types (a .tys) (outcome (a .out) s))) → After w u w₂ b (λ s. ready left s t)
-    ready-apply k name first many z w₁ a f w₂ b c = record {
-      changed = record {
-        lay = c .changed .lay;
-        grown = grown-trans _ _ _ (f .grown) (c .changed .grown);
-        structs = c .changed .structs ∙ f .structs;
-        is = λ ds. c .changed .is ds ∙ ap (then-apply (n .loc) (mark-of k) (name-of name)) (f .is ds) ∙ step-on (Apply k name first many) z ds;
-      };
-      inside = c .inside;
-    }
+-- ---- the type anew
 
-pub ready-none : (w : List ℕ) (u : Used) (t left : ℕ) → Lay w u → left ≡ 0 → After w u w (record { out = Itself; used = u }) (λ s. ready left s t)
-unfolding outcome ready
-ready-none w u t left h z = after-now w u Itself (λ s. ready left s t) h tt (λ ds. ap (λ (n : ℕ). ready n (seen w u ds) t) (sym z))
+module _ (w : List ℕ) (u : Used) (t : ℕ) (h : Lay w u) (i : t < u .nodes) (n : Node) (e : (ds : List Struct) → node-of n ≡ node (seen w u ds) t) where
+  pub part-of : (j r : ℕ) → ((ds : List Struct) → j < part-count (shape-of (n .shape)) → r ≡ getD (parts (with-args (seen w u ds) (shape-of (n .shape)))) j 0)
+      → (ds : List Struct) → j < length (parts (value (seen w u ds) t)) → r ≡ getD (parts (value (seen w u ds) t)) j 0
+  part-of j r f ds l =
+      let a = at-node w u t (part-count (shape-of (n .shape))) n h i e refl in
+      part-is a j r (rw (many-parts a ds) at l) f ds
 
--- ---- the arguments
+  anew : (tys : List ℕ) (ds : List Struct) → rebuilt (seen w u ds) t (n .loc) (with-args (seen w u ds) (shape-of (n .shape))) tys ≡ rebuilt-at (seen w u ds) t tys
+  unfolding rebuilt-at
+  anew tys ds =
+      ap (λ (l : ℕ). rebuilt (seen w u ds) t l (with-args (seen w u ds) (shape-of (n .shape))) tys) (loc-is (seen w u ds) t n (e ds))
+      ∙ ap (λ (x : d.Type-value). rebuilt (seen w u ds) t (loc-of (seen w u ds) t) x tys) (value-is (seen w u ds) t n (e ds))
 
--- the places of a state that has grown
-args-kept : {s t : State} (first many : ℕ) → Grown s t → first + many ≤ length (s .args) → args-at t (places first many) ≡ args-at s (places first many)
-unfolding args-at places
-args-kept {s} {t} first many g h =
+  pub anew-stays : (tys : List ℕ) → ((s : State) (loc : ℕ) → ok (s, t) ≡ rebuilt s t loc (with-args s (shape-of (n .shape))) tys) → After w u w (record { out = Done t; used = u }) (λ s. rebuilt-at s t tys)
+  unfolding outcome
+  anew-stays tys f = after-now w u (Done t) (λ s. rebuilt-at s t tys) h i (λ ds. f (seen w u ds) (n .loc) ∙ anew tys ds)
+
+  module _ (many : ℕ) (p : Has-parts w u t many) where
+    module _ (m : Bool) (x : ℕ) (z : n .shape ≡ RefS m x) where
+      ref-one : many ≡ 1
+      unfolding parts with-args
+      ref-one = sym (p []) ∙ sym (ap (λ (y : d.Type-value). length (parts y)) (value-is (seen w u []) t n (e []))) ∙ rw z refl
+
+      pub ref-in : (tys : List ℕ) → Parts-in (u .nodes) tys many → getD tys 0 0 < u .nodes
+      ref-in tys k = k .below 0 (let o = ref-one in omega arith)
+
+      pub anew-ref : (tys : List ℕ) (w′ : List ℕ) (r : Step) → After w u w′ r (λ s. sp s (n .loc) (d.Ref m (getD tys 0 0))) → After w u w′ r (λ s. rebuilt-at s t (take many tys))
+      unfolding rebuilt with-args
+      anew-ref tys w′ r a = after-at w u w′ r _ _ (λ ds.
+          let o = ref-one in
+          let l : 0 < many = omega arith in
+          sym (rw (z, getD-take many tys 0 0 l) refl) ∙ anew (take many tys) ds) a
+
+    pub anew-apply : (k : Mark) (name : TypeName) (first old : ℕ) → n .shape ≡ ApplyS k name first old → (tys w′ : List ℕ) (r : Step) → After w u w′ r (λ s. sp s (n .loc) (d.Apply (mark-of k) (name-of name) (take many tys)))
+        → After w u w′ r (λ s. rebuilt-at s t (take many tys))
+    unfolding rebuilt with-args
+    anew-apply k name first old z tys w′ r a = after-at w u w′ r _ _ (λ ds. sym (rw z refl) ∙ anew (take many tys) ds) a
+
+-- ---- a node of a state that has grown
+
+front-at : {A : Type 0} (l m : List A) (a : A) (i : ℕ) → Front l m → i < length l → getD m i a ≡ getD l i a
+front-at l m a i f h = rw (f .is) (List·getD-append l (f .rest) a i h)
+
+args-kept : {s t : State} (p : Places) → Grown s t → p .first + p .many ≤ length (s .args) → args-at t p ≡ args-at s p
+unfolding args-at
+args-kept {s} {t} p g h =
     let e = g .args .is in
-    let l : first ≤ length (s .args) = omega arith in
-    let k : many ≤ length (drop first (s .args)) = rw (length-drop first (s .args)) (omega arith) in
-    rw (e, drop-append-le first (s .args) (g .args .rest) l) (take-append-le many (drop first (s .args)) (g .args .rest) k)
+    let l : p .first ≤ length (s .args) = omega arith in
+    let k : p .many ≤ length (drop (p .first) (s .args)) = rw (length-drop (p .first) (s .args)) (omega arith) in
+    rw (e, drop-append-le (p .first) (s .args) (g .args .rest) l) (take-append-le (p .many) (drop (p .first) (s .args)) (g .args .rest) k)
 
-arg-is : (s : State) (first many i : ℕ) → i < many → getD (args-at s (places first many)) i 0 ≡ getD (s .args) (first + i) 0
-unfolding args-at places
-arg-is s first many i h = rw (getD-take, getD-drop) refl
+shape-kept : {s t : State} (x : ℕ) (sh : d.Shape Places) → Grown s t → Below (s .args) x sh → with-args t sh ≡ with-args s sh
+unfolding with-args
+shape-kept x d.UnitType g b = refl
+shape-kept x (d.Ref m p) g b = refl
+shape-kept x (d.Param id a) g b = refl
+shape-kept x (d.Apply k n p) g b = ap (d.Apply k n) (args-kept p g (b .1 .0))
+shape-kept x (d.Var v) g b = refl
+shape-kept x d.Anything g b = refl
+shape-kept x d.UnresolvedError g b = refl
 
-args-length : (s : State) (first many : ℕ) → first + many ≤ length (s .args) → length (args-at s (places first many)) ≡ many
-unfolding args-at places
-args-length s first many h = simp (length-take, length-drop) (omega arith)
+module _ (w₀ : List ℕ) (u : Used) (w : List ℕ) (cur : Used) (t : ℕ) (h : Lay w₀ u) (i : t < u .nodes) (g : Grown (view w₀ u) (view w cur)) where
+  node-kept : (ds : List Struct) → node (seen w cur ds) t ≡ node (seen w₀ u ds) t
+  unfolding node seen with-structs
+  node-kept ds = front-at (view w₀ u .nodes) (view w cur .nodes) nowhere t (g .nodes) (rw (nodes-count w₀ u) i)
+
+  loc-kept : (ds : List Struct) → loc-of (seen w cur ds) t ≡ loc-of (seen w₀ u ds) t
+  unfolding loc-of
+  loc-kept ds = ap (λ (x : d.Node). x .loc) (node-kept ds)
+
+  seen-grown : (ds : List Struct) → Grown (seen w₀ u ds) (seen w cur ds)
+  unfolding seen with-structs
+  seen-grown ds = record { nodes = g .nodes; args = g .args; vars = g .vars; constraints = g .constraints; structs = record { rest = []; is = sym (append-nil ds) } }
+
+  pub value-kept : (ds : List Struct) → value (seen w cur ds) t ≡ value (seen w₀ u ds) t
+  unfolding value
+  value-kept ds =
+      ap (λ (x : d.Node). with-args (seen w cur ds) (x .value)) (node-kept ds)
+      ∙ shape-kept t (node (seen w₀ u ds) t .value) (seen-grown ds) (inside-seen w₀ u ds h .parts t (rw (count-seen w₀ u ds) i))
+
+  pub rebuilt-kept : (tys : List ℕ) (ds : List Struct) → rebuilt-at (seen w cur ds) t tys ≡ rebuilt (seen w cur ds) t (loc-of (seen w₀ u ds) t) (value (seen w₀ u ds) t) tys
+  unfolding rebuilt-at
+  rebuilt-kept tys ds = ap₂ (λ (l : ℕ) (x : d.Type-value). rebuilt (seen w cur ds) t l x tys) (loc-kept ds) (value-kept ds)
+
+-- ---- the parts, one after the other
+
+few-parts : (s : State) (t : ℕ) (sh : d.Shape Places) → Below (s .args) t sh → length (parts (with-args s sh)) ≤ 8
+unfolding parts with-args args-at
+few-parts s t d.UnitType b = omega arith
+few-parts s t (d.Ref m p) b = omega arith
+few-parts s t (d.Param id a) b = omega arith
+few-parts s t (d.Apply k n p) b = simp (length-take, length-drop) (let l = b .0 in omega arith)
+few-parts s t (d.Var v) b = omega arith
+few-parts s t d.Anything b = omega arith
+few-parts s t d.UnresolvedError b = omega arith
 
 map-cons : (f : Ready) (s : State) (t : ℕ) (ts : List ℕ) → map-types f s (t ∷ ts) ≡ (f s t >>= (λ x. map-types f (x .0) ts >>= (λ y. ok (y .0, x .1 ∷ y .1))))
 unfolding map-types
@@ -299,12 +319,23 @@ map-next : (f : Ready) (s s₁ : State) (t x : ℕ) (ts l : List ℕ) → f s t 
 unfolding map-types _>>=_
 map-next f s s₁ t x ts l e = ap (onto l) (rw (e, map-types) refl) ∙ onto-next l x (map-types f s₁ ts)
 
-map-stop : (f : Ready) (s s₁ : State) (o : Out) (t : ℕ) (ts l tys : List ℕ) → outcome o s₁ ≡ f s t → done o ≡ Nothing → types tys (outcome o s₁) ≡ onto l (map-types f s (t ∷ ts))
-unfolding types onto
-map-stop f s s₁ o t ts l tys e z =
-    stops o s₁ _ _ z
-    ∙ sym (bind-bind (outcome o s₁) (λ x. map-types f (x .0) ts >>= (λ y. ok (y .0, x .1 ∷ y .1))) (λ y. ok (y .0, l ++ y .1)))
-    ∙ ap (onto l) (ap (λ (m : Result (State × ℕ)). m >>= (λ x. map-types f (x .0) ts >>= (λ y. ok (y .0, x .1 ∷ y .1)))) e ∙ sym (map-cons f s t ts))
+-- what was made ready with one more, and what follows all
+then-all : List ℕ → (State × List ℕ → Result (State × ℕ)) → ℕ → Result (State × List ℕ) → Result (State × ℕ)
+then-all l k x m = _>>=_ {A = State × List ℕ} (m >>= (λ y. ok (y .0, x ∷ y .1))) (λ y. k (y .0, l ++ y .1))
+
+onto-then : (l : List ℕ) (k : State × List ℕ → Result (State × ℕ)) (m : Result (State × List ℕ)) → (onto l m >>= k) ≡ (m >>= (λ y. k (y .0, l ++ y .1)))
+unfolding onto _>>=_
+onto-then l k (ok y) = refl
+onto-then l k (err s e) = refl
+onto-then l k (refused x) = refl
+
+-- .. after its first part
+map-first : (f : Ready) (s : State) (t : ℕ) (ts l : List ℕ) (k : State × List ℕ → Result (State × ℕ)) → (f s t >>= (λ x. then-all l k (x .1) (map-types f (x .0) ts))) ≡ (onto l (map-types f s (t ∷ ts)) >>= k)
+unfolding then-all
+map-first f s t ts l k =
+    sym (onto-then l k (map-types f s (t ∷ ts))
+    ∙ ap (λ (m : Result (State × List ℕ)). m >>= (λ y. k (y .0, l ++ y .1))) (map-cons f s t ts)
+    ∙ bind-bind (f s t) (λ x. map-types f (x .0) ts >>= (λ y. ok (y .0, x .1 ∷ y .1))) (λ y. k (y .0, l ++ y .1)))
 
 map-end : (f : Ready) (s : State) (l : List ℕ) → onto l (map-types f s []) ≡ ok (s, l)
 unfolding onto map-types _>>=_
@@ -316,136 +347,194 @@ map-start (ok y) = refl
 map-start (err s e) = refl
 map-start (refused y) = refl
 
--- where the loop stands: i arguments are ready, and the rest comes to what all come to
-pub record Going (w₀ : List ℕ) (u : Used) (first many left : ℕ) (w tys : List ℕ) (cur : Used) (i : ℕ) : Type 0 where
+-- where the loop stands: i parts are ready, and the rest comes to what all come to
+pub record Going (w₀ : List ℕ) (u : Used) (t many left : ℕ) (w tys : List ℕ) (cur : Used) (i : ℕ) : Type 0 where
+  pub start : Lay w₀ u
+  pub in-nodes : t < u .nodes
+  pub has : Has-parts w₀ u t many
   pub lay : Lay w cur
   pub grown : Grown (view w₀ u) (view w cur)
   pub structs : view w cur .structs ≡ view w₀ u .structs
-  pub args : Args-in w₀ u first many
   pub le : i ≤ many
+  pub few : many ≤ 8
   pub size : length tys ≡ 8
-  pub parts : Parts (cur .nodes) tys i
-  pub is : (ds : List Struct) → onto (take i tys) (map-types (λ s t. ready left s t) (seen w cur ds) (drop i (args-at (seen w₀ u ds) (places first many))))
-      ≡ map-types (λ s t. ready left s t) (seen w₀ u ds) (args-at (seen w₀ u ds) (places first many))
+  pub done-parts : Parts-in (cur .nodes) tys i
+  pub is : (ds : List Struct) → onto (take i tys) (map-types (λ s t. ready left s t) (seen w cur ds) (drop i (parts (value (seen w₀ u ds) t))))
+      ≡ map-types (λ s t. ready left s t) (seen w₀ u ds) (parts (value (seen w₀ u ds) t))
 
-pub going-start : (w : List ℕ) (u : Used) (first many left : ℕ) (tys : List ℕ) → Lay w u → Args-in w u first many → length tys ≡ 8 → Going w u first many left w tys u 0
-going-start w u first many left tys h a z = record {
+pub going-start : (w : List ℕ) (u : Used) (t many left : ℕ) (tys : List ℕ) → Lay w u → t < u .nodes → Has-parts w u t many → length tys ≡ 8 → Going w u t many left w tys u 0
+unfolding value
+going-start w u t many left tys h i p z = record {
+  start = h;
+  in-nodes = i;
+  has = p;
   lay = h;
   grown = grown-refl (view w u);
   structs = refl;
-  args = a;
   le = omega arith;
+  few = rw (p []) at (few-parts (seen w u []) t (node (seen w u []) t .value) (inside-seen w u [] h .parts t (rw (count-seen w u []) i)));
   size = z;
-  parts = record { few = omega arith; below = λ j l. absurd (not-suc-le-zero l) };
+  done-parts = record { few = omega arith; below = λ j l. absurd (not-suc-le-zero l) };
   is = λ ds. map-start _;
 }
 
 length-front : {A : Type 0} {l m : List A} → Front l m → length l ≤ length m
 length-front {l = l} f = rw (f .is, length-append l (f .rest)) (omega arith)
 
-module _ {w₀ : List ℕ} {u : Used} {first many left : ℕ} {w tys : List ℕ} {cur : Used} {i : ℕ} (g : Going w₀ u first many left w tys cur i) where
-  -- the arguments
+nodes-grow : (w : List ℕ) (u : Used) (w′ : List ℕ) (u′ : Used) → Grown (view w u) (view w′ u′) → u .nodes ≤ u′ .nodes
+nodes-grow w u w′ u′ g =
+    let c = length-front (g .nodes) in
+    let k = nodes-count w u in
+    let n = nodes-count w′ u′ in
+    omega arith
+
+module _ {w₀ : List ℕ} {u : Used} {t many left : ℕ} {w tys : List ℕ} {cur : Used} {i : ℕ} (g : Going w₀ u t many left w tys cur i) where
+  -- the parts
   abbrev all : List Struct → List ℕ
-  all ds = args-at (seen w₀ u ds) (places first many)
+  all ds = parts (value (seen w₀ u ds) t)
 
-  within : (ds : List Struct) → first + many ≤ length (seen w₀ u ds .args)
-  within ds = rw (args-seen w₀ u ds, args-count w₀ u) (g .args .within)
+  -- node t, once its parts are ready
+  abbrev finish : List Struct → State × List ℕ → Result (State × ℕ)
+  finish ds y = rebuilt (y .0) t (loc-of (seen w₀ u ds) t) (value (seen w₀ u ds) t) (y .1)
 
-  all-length : (ds : List Struct) → length (all ds) ≡ many
-  all-length ds = args-length (seen w₀ u ds) first many (within ds)
+  pub going-node : t < cur .nodes
+  going-node = let a = nodes-grow w₀ u w cur (g .grown) in let b = g .in-nodes in omega arith
 
-  same-args : (ds : List Struct) → args-at (seen w cur ds) (places first many) ≡ all ds
-  unfolding seen with-structs args-at
-  same-args ds = args-kept {s = view w₀ u} {t = view w cur} first many (g .grown) (within ds)
+  pub going-has : Has-parts w cur t many
+  going-has ds = ap (λ (x : d.Type-value). length (parts x)) (value-kept w₀ u w cur t (g .start) (g .in-nodes) (g .grown) ds) ∙ g .has ds
 
-  pub going-done : many ≤ i → Readied w₀ u w (record { tys = tys; out = Done many; used = cur }) first many left
-  unfolding types outcome _>>=_
-  going-done l = record {
-    lay = g .lay;
-    grown = g .grown;
-    structs = g .structs;
-    inside = record { parts = λ n z. by n (cc); others = λ z. clash (cc) };
-    is = λ ds. sym (map-end (λ s t. ready left s t) (seen w cur ds) (take many tys)) ∙ sym (ap₂ (λ (a : List ℕ) (b : List ℕ). onto a (map-types (λ s t. ready left s t) (seen w cur ds) b)) (ap (λ (k : ℕ). take k tys) end) (none-left ds)) ∙ g .is ds;
+  by-list : (ds : List Struct) → (map-types (λ s t. ready left s t) (seen w₀ u ds) (all ds) >>= finish ds) ≡ by-parts-at (λ s t. ready left s t) (seen w₀ u ds) t
+  unfolding by-parts-at by-parts
+  by-list ds = refl
+
+  end : many ≤ i → i ≡ many
+  end l = let a = g .le in omega arith
+
+  pub going-parts : many ≤ i → Parts-in (cur .nodes) tys many
+  going-parts l = subst (λ (k : ℕ). Parts-in (cur .nodes) tys k) (end l) (g .done-parts)
+
+  pub going-done : many ≤ i → (w′ : List ℕ) (r : Step) → After w cur w′ r (λ s. rebuilt-at s t (take many tys)) → After w₀ u w′ r (λ s. by-parts-at (λ s t. ready left s t) s t)
+  unfolding _>>=_
+  going-done l w′ r a = record {
+    changed = record {
+      lay = a .changed .lay;
+      grown = grown-trans _ _ _ (g .grown) (a .changed .grown);
+      structs = a .changed .structs ∙ g .structs;
+      is = λ ds.
+          a .changed .is ds
+          ∙ rebuilt-kept w₀ u w cur t (g .start) (g .in-nodes) (g .grown) (take many tys) ds
+          ∙ ap (λ (m : Result (State × List ℕ)). m >>= finish ds) (sym (map-end (λ s t. ready left s t) (seen w cur ds) (take many tys))
+          ∙ sym (ap₂ (λ (a : List ℕ) (b : List ℕ). onto a (map-types (λ s t. ready left s t) (seen w cur ds) b)) (ap (λ (k : ℕ). take k tys) (end l)) (none-left ds))
+          ∙ g .is ds)
+          ∙ by-list ds;
+    };
+    inside = a .inside;
   }
     where
-      end : i ≡ many
-      end = let a = g .le in omega arith
-
-      by : (n : ℕ) → many ≡ n → Parts (cur .nodes) tys n
-      by n z = subst (λ (k : ℕ). Parts (cur .nodes) tys k) (end ∙ z) (g .parts)
-
       none-left : (ds : List Struct) → drop i (all ds) ≡ []
-      none-left ds = drop-of-length-le (all ds) {i = i} (rw (all-length ds) l)
+      none-left ds = drop-of-length-le (all ds) {i = i} (rw (g .has ds) l)
 
-  module _ (t : ℕ) (l : i < many) (e : (ds : List Struct) (m : ℕ) → i < m → t ≡ getD (args-at (seen w cur ds) (places first m)) i 0) where
-    arg : (ds : List Struct) → t ≡ getD (all ds) i 0
-    arg ds = e ds many l ∙ ap (λ (x : List ℕ). getD x i 0) (same-args ds)
+  module _ (p : ℕ) (l : i < many) (e : (ds : List Struct) → i < length (parts (value (seen w cur ds) t)) → p ≡ getD (parts (value (seen w cur ds) t)) i 0) where
+    part : (ds : List Struct) → p ≡ getD (all ds) i 0
+    part ds = e ds (rw (going-has ds) l) ∙ ap (λ (x : d.Type-value). getD (parts x) i 0) (value-kept w₀ u w cur t (g .start) (g .in-nodes) (g .grown) ds)
 
-    pub going-in : t < cur .nodes
+    pub going-in : p < cur .nodes
     going-in =
-        let a : t ≡ getD (view w₀ u .args) (first + i) 0 = arg [] ∙ arg-is (seen w₀ u []) first many i l ∙ ap (λ (x : List ℕ). getD x (first + i) 0) (args-seen w₀ u []) in
-        let b = g .args .inside i l in
-        let c = length-front (g .grown .nodes) in
-        let k = nodes-count w₀ u in
-        let n = nodes-count w cur in
+        let a = part [] in
+        let k : i < length (all []) = rw (g .has []) l in
+        let b = parts-low (seen w₀ u []) (inside-seen w₀ u [] (g .start)) t (rw (count-seen w₀ u []) (g .in-nodes)) i k in
+        let c = going-node in
         omega arith
 
-    split : (ds : List Struct) → drop i (all ds) ≡ t ∷ drop (i + 1) (all ds)
+    split : (ds : List Struct) → drop i (all ds) ≡ p ∷ drop (i + 1) (all ds)
     split ds =
-        let k : i < length (all ds) = rw (all-length ds) l in
-        rw (add-one i) (drop-cons (all ds) i 0 k ∙ ap (λ (x : ℕ). x ∷ drop (suc i) (all ds)) (sym (arg ds)))
+        let k : i < length (all ds) = rw (g .has ds) l in
+        rw (add-one i) (drop-cons (all ds) i 0 k ∙ ap (λ (x : ℕ). x ∷ drop (suc i) (all ds)) (sym (part ds)))
 
-    module _ (w₁ : List ℕ) (a : Step) (f : After w cur w₁ a (λ s. ready left s t)) (b : Found) (z : b ≡ done (a .out)) where
-      pub going-stop : b ≡ Nothing → Readied w₀ u w₁ (record { tys = tys; out = a .out; used = a .used }) first many left
+    from-here : (ds : List Struct) → onto (take i tys) (map-types (λ s t. ready left s t) (seen w cur ds) (p ∷ drop (i + 1) (all ds))) ≡ map-types (λ s t. ready left s t) (seen w₀ u ds) (all ds)
+    from-here ds = ap (λ (x : List ℕ). onto (take i tys) (map-types (λ s t. ready left s t) (seen w cur ds) x)) (sym (split ds)) ∙ g .is ds
+
+    module _ (w₁ : List ℕ) (a : Step) (f : After w cur w₁ a (λ s. ready left s p)) (b : Found) (z : b ≡ done (a .out)) where
+      pub going-stop : b ≡ Nothing → After w₀ u w₁ a (λ s. by-parts-at (λ s t. ready left s t) s t)
       going-stop y = record {
-        lay = f .changed .lay;
-        grown = grown-trans _ _ _ (g .grown) (f .changed .grown);
-        structs = f .changed .structs ∙ g .structs;
-        inside = record { parts = λ n x. clash (let p = sym z ∙ y in let q = ap done x in cc); others = λ x. f .inside };
-        is = λ ds.
-            map-stop (λ s t. ready left s t) (seen w cur ds) (seen w₁ (a .used) ds) (a .out) t (drop (i + 1) (all ds)) (take i tys) tys (f .changed .is ds) (sym z ∙ y)
-            ∙ ap (λ (x : List ℕ). onto (take i tys) (map-types (λ s t. ready left s t) (seen w cur ds) x)) (sym (split ds))
-            ∙ g .is ds;
+        changed = record {
+          lay = f .changed .lay;
+          grown = grown-trans _ _ _ (g .grown) (f .changed .grown);
+          structs = f .changed .structs ∙ g .structs;
+          is = λ ds.
+              after-stop w cur w₁ a (λ s. ready left s p) (λ x. then-all (take i tys) (finish ds) (x .1) (map-types (λ s t. ready left s t) (x .0) (drop (i + 1) (all ds)))) b f z y .changed .is ds
+              ∙ map-first (λ s t. ready left s t) (seen w cur ds) p (drop (i + 1) (all ds)) (take i tys) (finish ds)
+              ∙ ap (λ (m : Result (State × List ℕ)). m >>= finish ds) (from-here ds)
+              ∙ by-list ds;
+        };
+        inside = f .inside;
       }
 
-      pub going-on : (x : ℕ) → b ≡ Just x → Going w₀ u first many left w₁ (set tys i x) (a .used) (i + 1)
+      -- the part's number is short
+      pub going-short : (x : ℕ) → b ≡ Just x → x < 65536
+      going-short x y = let k = done-in (a .out) (a .used .nodes) x b (f .inside) z y in let n = f .changed .lay .nodes in omega arith
+
+      pub going-on : (x : ℕ) → b ≡ Just x → Going w₀ u t many left w₁ (set tys i x) (a .used) (i + 1)
       going-on x y = record {
+        start = g .start;
+        in-nodes = g .in-nodes;
+        has = g .has;
         lay = f .changed .lay;
         grown = grown-trans _ _ _ (g .grown) (f .changed .grown);
         structs = f .changed .structs ∙ g .structs;
-        args = g .args;
         le = omega arith;
+        few = g .few;
         size = length-set tys i x ∙ g .size;
-        parts = record { few = let n = g .args .few in omega arith; below = λ j k. below-more j k (ℕ-discrete j i) };
-        is = λ ds. sym (next ds) ∙ g .is ds;
+        done-parts = record { few = let n = g .few in omega arith; below = λ j k. below-more j k (ℕ-discrete j i) };
+        is = λ ds. sym (next ds) ∙ from-here ds;
       }
         where
-          few : i < length tys
-          few = let n = g .args .few in let k = g .size in omega arith
+          short : i < length tys
+          short = let n = g .few in let k = g .size in omega arith
 
-          is-x : (ds : List Struct) → ready left (seen w cur ds) t ≡ ok (seen w₁ (a .used) ds, x)
+          is-x : (ds : List Struct) → ready left (seen w cur ds) p ≡ ok (seen w₁ (a .used) ds, x)
           is-x ds = sym (f .changed .is ds) ∙ ap (λ (o : Out). outcome o (seen w₁ (a .used) ds)) (done-is (a .out) x (sym z ∙ y)) ∙ done-ok x (seen w₁ (a .used) ds)
 
           fronts : take (i + 1) (set tys i x) ≡ take i tys ++ (x ∷ [])
-          fronts = rw (add-one i) (take-suc-set tys i x few)
+          fronts = rw (add-one i) (take-suc-set tys i x short)
 
-          next : (ds : List Struct) → onto (take i tys) (map-types (λ s t. ready left s t) (seen w cur ds) (drop i (all ds)))
+          next : (ds : List Struct) → onto (take i tys) (map-types (λ s t. ready left s t) (seen w cur ds) (p ∷ drop (i + 1) (all ds)))
               ≡ onto (take (i + 1) (set tys i x)) (map-types (λ s t. ready left s t) (seen w₁ (a .used) ds) (drop (i + 1) (all ds)))
           next ds =
-              ap (λ (k : List ℕ). onto (take i tys) (map-types (λ s t. ready left s t) (seen w cur ds) k)) (split ds)
-              ∙ map-next (λ s t. ready left s t) (seen w cur ds) (seen w₁ (a .used) ds) t x (drop (i + 1) (all ds)) (take i tys) (is-x ds)
+              map-next (λ s t. ready left s t) (seen w cur ds) (seen w₁ (a .used) ds) p x (drop (i + 1) (all ds)) (take i tys) (is-x ds)
               ∙ ap (λ (k : List ℕ). onto k (map-types (λ s t. ready left s t) (seen w₁ (a .used) ds) (drop (i + 1) (all ds)))) (sym fronts)
 
-          grew : cur .nodes ≤ a .used .nodes
-          grew =
-              let c = length-front (f .changed .grown .nodes) in
-              let k = nodes-count w cur in
-              let n = nodes-count w₁ (a .used) in
-              omega arith
-
           below-more : (j : ℕ) → j < i + 1 → Dec (j ≡ i) → getD (set tys i x) j 0 < a .used .nodes
-          below-more j k (yes q) = rw (q, getD-set-same tys i x 0 few) (done-in (a .out) (a .used .nodes) x b (f .inside) z y)
-          below-more j k (no q) = rw (getD-set-other tys i j x 0 q) (let p = g .parts .below j (omega arith) in let m = grew in omega arith)
+          below-more j k (yes q) = rw (q, getD-set-same tys i x 0 short) (done-in (a .out) (a .used .nodes) x b (f .inside) z y)
+          below-more j k (no q) = rw (getD-set-other tys i j x 0 q) (let p = g .done-parts .below j (omega arith) in let m = nodes-grow w cur w₁ (a .used) (f .changed .grown) in omega arith)
+
+-- ---- a landing
+
+module _ (w : List ℕ) (u : Used) (t calls : ℕ) (h : Lay w u) (r : Landing) (g : Lands w u t calls r) where
+  lands-at : (x : Landing) → r ≡ x → (ds : List Struct) → landed (seen w u ds) x ≡ ready calls (seen w u ds) t
+  lands-at x z ds = sym (ap (landed (seen w u ds)) z) ∙ g .is ds
+
+  pub lands-spent : r ≡ Spent → After w u w (record { out = Itself; used = u }) (λ s. ready calls s t)
+  unfolding outcome
+  lands-spent z = after-now w u Itself (λ s. ready calls s t) h tt (lands-at Spent z)
+
+  pub lands-open : (loc : ℕ) (v : TVar) → r ≡ OpenL loc v → (w′ : List ℕ) (a : Step) → After w u w′ a (λ s. sp s loc (d.Var (v .0))) → After w u w′ a (λ s. ready calls s t)
+  lands-open loc v z w′ a f = after-at w u w′ a _ _ (lands-at (OpenL loc v) z) f
+
+  module _ (x many left : ℕ) (z : r ≡ PartsL x many left) where
+    pub lands-in : Landing-in w u calls (PartsL x many left)
+    lands-in = subst (Landing-in w u calls) z (g .inside)
+
+    pub lands-parts : (w′ : List ℕ) (a : Step) → After w u w′ a (λ s. by-parts-at (λ s t. ready left s t) s x) → After w u w′ a (λ s. ready calls s t)
+    lands-parts w′ a f = after-at w u w′ a _ _ (lands-at (PartsL x many left) z) f
+
+    bare : (s : State) (l : List ℕ) → parts (value s x) ≡ l → length l ≡ 0 → rebuilt-at s x [] ≡ by-parts-at (λ s t. ready left s t) s x
+    unfolding rebuilt-at by-parts-at by-parts map-types _>>=_
+    bare s [] e m = sym (rw (e, map-types) refl)
+    bare s (y ∷ ys) e m = absurd (omega arith)
+
+    pub lands-bare : many ≡ 0 → (w′ : List ℕ) (a : Step) → After w u w′ a (λ s. rebuilt-at s x []) → After w u w′ a (λ s. ready calls s t)
+    lands-bare m w′ a f = lands-parts w′ a (after-at w u w′ a _ _ (λ ds. bare (seen w u ds) (parts (value (seen w u ds) x)) refl (lands-in .1 .1 ds ∙ m)) f)
 
 -- ---- the whole run
 

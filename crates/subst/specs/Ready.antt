@@ -1,73 +1,75 @@
 -- ready_tvars: how it goes on from a type, and what its steps answer. Assumes nothing: these are definitions.
 use mathlib.Core.Path.{_≡_}
-use mathlib.Core.Bool.{Bool}
 use mathlib.Core.List.{List}
-use Prim.Native.Nat.{ℕ, _+_, _<_, _≤_}
-use lib.ListN.{getD, take}
+use Prim.Native.Nat.{ℕ, _<_}
+use lib.ListN.{length, getD}
 use Rattle.definition.specs.Types as d
-use Rattle.definition.specs.Types.{State, Struct, Result, ok, _>>=_}
-use Rattle.definition.specs.Store.{args-at, with-args, sp, map-types}
-use Rattle.definition.specs.Subst.{ready-value, ready}
-use Rattle.names.specs.Names.{mark-of, name-of}
-use Rattle.table.specs.Rows.{places}
-use Rattle.table.specs.State.{shape-of, done, outcome, view, seen, Lay, Grown, Nodes-in, Parts}
+use Rattle.definition.specs.Types.{State, Struct, Result, ok, refused, runs-into-itself, _>>=_}
+use Rattle.definition.specs.Store.{value, loc-of, with-args, sp, map-types}
+use Rattle.definition.specs.Subst.{parts, ready-value, ready}
+use Rattle.table.specs.State.{shape-of, seen}
 use Rattle.table.specs.declared.Used.{Used}
 use Rattle.table.specs.declared.Shape.{Shape}
-use Rattle.table.specs.declared.Found.the-variants.{Nothing}
-use Rattle.table.specs.declared.Out.{Out}
-use Rattle.table.specs.declared.Out.the-variants.{Done}
-use Rattle.subst.specs.declared.Types.{Types}
+use Rattle.subst.specs.Answers.{part-count}
 use Rattle.subst.specs.declared.Onward.{Onward}
-use Rattle.subst.specs.declared.Onward.the-variants.{Same, Ref, Apply, Open, Bound}
+use Rattle.subst.specs.declared.Onward.the-variants.{Parts, Open, Bound}
+use Rattle.subst.specs.declared.Landing.{Landing}
+use Rattle.subst.specs.declared.Landing.the-variants.{Parts as PartsL, Open as OpenL, Spent}
 
--- with the part that an answer is done with, a reference
-unfoldable pub then-ref : ℕ → Bool → Result (State × ℕ) → Result (State × ℕ)
-then-ref loc m r = r >>= (λ x. sp (x .0) loc (d.Ref m (x .1)))
+-- the type ty anew, with the parts tys; one without parts and without a name stays
+unfoldable pub rebuilt : State → ℕ → ℕ → d.Type-value → List ℕ → Result (State × ℕ)
+rebuilt s ty loc d.UnitType tys = ok (s, ty)
+rebuilt s ty loc (d.Ref m t) tys = sp s loc (d.Ref m (getD tys 0 0))
+rebuilt s ty loc (d.Param id a) tys = ok (s, ty)
+rebuilt s ty loc (d.Apply k n old) tys = sp s loc (d.Apply k n tys)
+rebuilt s ty loc (d.Var v) tys = ok (s, ty)
+rebuilt s ty loc d.Anything tys = ok (s, ty)
+rebuilt s ty loc d.UnresolvedError tys = ok (s, ty)
 
--- with its arguments, a named type
-unfoldable pub then-apply : ℕ → d.Mark → d.TypeName → Result (State × List ℕ) → Result (State × ℕ)
-then-apply loc k n r = r >>= (λ x. sp (x .0) loc (d.Apply k n (x .1)))
+unfoldable pub rebuilt-at : State → ℕ → List ℕ → Result (State × ℕ)
+rebuilt-at s ty tys = rebuilt s ty (loc-of s ty) (value s ty) tys
 
--- the arguments: as many of tys as the answer says
-unfoldable pub types : List ℕ → Result (State × ℕ) → Result (State × List ℕ)
-types tys r = r >>= (λ x. ok (x .0, take (x .1) tys))
+-- .. its parts made ready first, one after the other
+unfoldable pub by-parts : (State → ℕ → Result (State × ℕ)) → State → ℕ → ℕ → d.Type-value → Result (State × ℕ)
+by-parts f s ty loc x = map-types f s (parts x) >>= (λ y. rebuilt (y .0) ty loc x (y .1))
+
+unfoldable pub by-parts-at : (State → ℕ → Result (State × ℕ)) → State → ℕ → Result (State × ℕ)
+by-parts-at f s ty = by-parts f s ty (loc-of s ty) (value s ty)
+
+-- node t has so many parts
+abbrev pub Has-parts : List ℕ → Used → ℕ → ℕ → Type 0
+Has-parts w u t many = (ds : List Struct) → length (parts (value (seen w u ds) t)) ≡ many
 
 -- one level of ready_tvars, of the type ty
-abbrev pub onward-of : (State → ℕ → Result (State × ℕ)) → State → ℕ → ℕ → Onward → Result (State × ℕ)
-onward-of f s ty loc Same = ok (s, ty)
-onward-of f s ty loc (Ref m t) = then-ref loc m (f s t)
-onward-of f s ty loc (Apply k n first many) = then-apply loc (mark-of k) (name-of n) (map-types f s (args-at s (places first many)))
-onward-of f s ty loc (Open v) = sp s loc (d.Var (v .0))
-onward-of f s ty loc (Bound t) = f s t
+abbrev pub onward-of : (State → ℕ → Result (State × ℕ)) → State → ℕ → ℕ → d.Type-value → Onward → Result (State × ℕ)
+onward-of f s ty loc x (Parts many) = by-parts f s ty loc x
+onward-of f s ty loc x (Open v) = sp s loc (d.Var (v .0))
+onward-of f s ty loc x (Bound t) = f s t
 
--- the shape that a way onward is of; a binding is a node
+-- a binding is a node
 abbrev pub Onward-in : Used → Shape → Onward → Type 0
-Onward-in u sh Same = Unit {0}
-Onward-in u sh (Ref m t) = shape-of sh ≡ d.Ref m t
-Onward-in u sh (Apply k n first many) = shape-of sh ≡ d.Apply (mark-of k) (name-of n) (places first many)
+Onward-in u sh (Parts many) = many ≡ part-count (shape-of sh)
 Onward-in u sh (Open v) = Unit {0}
 Onward-in u sh (Bound t) = t < u .nodes
 
 -- a shape goes on so
 pub record Goes (w : List ℕ) (u : Used) (sh : Shape) (r : Onward) : Type 0 where
-  pub is : (f : State → ℕ → Result (State × ℕ)) (ty loc : ℕ) (ds : List Struct) → onward-of f (seen w u ds) ty loc r ≡ ready-value f (seen w u ds) ty loc (with-args (seen w u ds) (shape-of sh))
+  pub is : (f : State → ℕ → Result (State × ℕ)) (ty loc : ℕ) (ds : List Struct) → onward-of f (seen w u ds) ty loc (with-args (seen w u ds) (shape-of sh)) r
+      ≡ ready-value f (seen w u ds) ty loc (with-args (seen w u ds) (shape-of sh))
   pub inside : Onward-in u sh r
 
--- the types that an answer is done with are nodes, and so are those that it names else
-pub record Types-in (nodes : ℕ) (tys : List ℕ) (o : Out) : Type 0 where
-  pub parts : (n : ℕ) → o ≡ Done n → Parts nodes tys n
-  pub others : done o ≡ Nothing → Nodes-in nodes o
+-- what ready_tvars comes to from a landing
+abbrev pub landed : State → Landing → Result (State × ℕ)
+landed s (PartsL t many left) = by-parts-at (λ s t. ready left s t) s t
+landed s (OpenL loc v) = sp s loc (d.Var (v .0))
+landed s Spent = refused runs-into-itself
 
--- `many` arguments from place `first` on, each a node
-pub record Args-in (w : List ℕ) (u : Used) (first many : ℕ) : Type 0 where
-  pub few : many ≤ 8
-  pub within : first + many ≤ u .args
-  pub inside : (i : ℕ) → i < many → getD (view w u .args) (first + i) 0 < u .nodes
+abbrev pub Landing-in : List ℕ → Used → ℕ → Landing → Type 0
+Landing-in w u calls (PartsL t many left) = (t < u .nodes) × ((left < calls) × Has-parts w u t many)
+Landing-in w u calls (OpenL loc v) = Unit {0}
+Landing-in w u calls Spent = Unit {0}
 
--- the words w became w′ and the types r: the arguments, made ready one after the other
-pub record Readied (w : List ℕ) (u : Used) (w′ : List ℕ) (r : Types) (first many left : ℕ) : Type 0 where
-  pub lay : Lay w′ (r .used)
-  pub grown : Grown (view w u) (view w′ (r .used))
-  pub structs : view w′ (r .used) .structs ≡ view w u .structs
-  pub inside : Types-in (r .used .nodes) (r .tys) (r .out)
-  pub is : (ds : List Struct) → types (r .tys) (outcome (r .out) (seen w′ (r .used) ds)) ≡ map-types (λ s t. ready left s t) (seen w u ds) (args-at (seen w u ds) (places first many))
+-- type t, in at most `calls` calls, lands so
+pub record Lands (w : List ℕ) (u : Used) (t calls : ℕ) (r : Landing) : Type 0 where
+  pub is : (ds : List Struct) → landed (seen w u ds) r ≡ ready calls (seen w u ds) t
+  pub inside : Landing-in w u calls r

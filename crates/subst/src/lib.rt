@@ -1,19 +1,19 @@
 // typing/core.rs: chain ends, unfolding, numeric marks, the numeric check, the occurs walk, binding, types that run into themselves, ready_tvars.
 // Changed from the source that NOTICE names: ported to Rattle.
 ghost use mathlib.Core.Path.{_≡_};
-ghost use mathlib.Core.List.{List};
+ghost use mathlib.Core.List.{List, []};
 ghost use Prim.Native.Nat.{ℕ, suc, _<_, _≤_};
-ghost use lib.ListN.{length, getD};
+ghost use lib.ListN.{length, getD, take};
 ghost use Rattle.definition.specs.Types as d;
 ghost use Rattle.definition.specs.Store.{value, with-args, spanned};
 ghost use Rattle.definition.specs.Subst.{as-var, is-anything, parts, next-of, forward-tvar, set-num-var, reaches-itself, ready, ready-tvars};
 ghost use Rattle.definition.specs.Join.{is-numeric, is-num-var, num-shape, check-num-tvar′, check-num-tvar, is-var, used};
-ghost use Rattle.names.specs.Names.{mark-of, name-of};
-ghost use Rattle.table.specs.State.{shape-of, outcome, seen, Lay, Stored, After, Nodes-in};
+ghost use Rattle.names.specs.Names.{name-of};
+ghost use Rattle.table.specs.State.{shape-of, seen, Lay, Stored, After, Parts};
+ghost use Rattle.table.specs.declared.Out.the-variants.{Done};
 ghost use Rattle.subst.specs.Answers.{next, part-count, Unfolds, var-at, Clear, Binds};
 ghost use Rattle.subst.specs.Itself.{Goes-on, Higher, Levels, Marked};
-ghost use Rattle.subst.specs.Ready.{Goes, Types-in, Args-in, Readied, types, then-ref, then-apply};
-use names::Mark;
+ghost use Rattle.subst.specs.Ready.{Goes, Lands, Has-parts, rebuilt-at, by-parts-at};
 use names::TVar;
 use names::TypeName;
 use table::Found;
@@ -41,20 +41,18 @@ pub enum Unfolded {
     Anything(u32),
 }
 
-// How ready_tvars goes on from a type.
+// How ready_tvars goes on from a type: to so many parts, to an open variable's end, or to what a variable is bound to.
 enum Onward {
-    Same,
-    Ref(bool, u32),
-    Apply(Mark, TypeName, u32, u32),
+    Parts(u32),
     Open(TVar),
     Bound(u32),
 }
 
-// Types that are ready: as many as `out` is done with, or why not.
-struct Types {
-    pub tys: [u32; 8],
-    pub out: Out,
-    pub used: Used,
+// Where the bound variables from a type on lead: to a node with its parts and the calls that are left; to an open variable; or the calls are used up.
+enum Landing {
+    Parts(u32, u32, u32),
+    Open(u32, TVar),
+    Spent,
 }
 
 // ---- shapes
@@ -446,10 +444,10 @@ fn ready_onward(w: &[u32], u: Used, s: Shape) -> Onward
     ensures { λ r. ⌜ Goes (now (w .entry)) u s r ⌝ }
 {
     match s {
-        Shape::Unit => Onward::Same,
-        Shape::Ref(m, t) => Onward::Ref(m, t),
-        Shape::Param(_, _) => Onward::Same,
-        Shape::Apply(k, n, first, many) => Onward::Apply(k, n, first, many),
+        Shape::Unit => Onward::Parts(0),
+        Shape::Ref(_, _) => Onward::Parts(1),
+        Shape::Param(_, _) => Onward::Parts(0),
+        Shape::Apply(_, _, _, many) => Onward::Parts(many),
         Shape::Var(v) => {
             let last = forward_tvar(w, u, v);
             match table::bound_at(w, u, last) {
@@ -457,72 +455,132 @@ fn ready_onward(w: &[u32], u: Used, s: Shape) -> Onward
                 Found::Just(t) => Onward::Bound(t),
             }
         }
-        Shape::Anything => Onward::Same,
-        Shape::UnresolvedError => Onward::Same,
+        Shape::Anything => Onward::Parts(0),
+        Shape::UnresolvedError => Onward::Parts(0),
     }
 }
 
-// The reference to the type that `a` is done with.
-fn push_ref(w: &mut [u32], a: Step, loc: u32, m: bool) -> Step
-    requires { ⌜ Lay (now w) (a .used) × Nodes-in (a .used .nodes) (a .out) ⌝ }
-    ensures { λ r. ⌜ After (now (w .entry)) (a .used) (now (w .exit)) r (λ s. then-ref loc m (outcome (a .out) s)) ⌝ }
+// A call for each bound variable on the way.
+fn land(w: &[u32], u: Used, t: u32, left: u32) -> Landing
+    requires { ⌜ Lay (now w) u × (t < u .nodes) ⌝ }
+    ensures { λ r. ⌜ Lands (now (w .entry)) u t left r ⌝ }
 {
-    let o = a.out;
-    let u = a.used;
-    match table::done_of(o) {
-        Found::Nothing => Step { out: o, used: u },
-        Found::Just(t) => table::push_node(w, u, loc, Shape::Ref(m, t)),
+    let mut at = t;
+    let mut calls = left;
+    while 0 < calls {
+        let n = table::node_at(w, u, at);
+        let loc = n.loc;
+        let s = n.shape;
+        calls = calls - 1;
+        match ready_onward(w, u, s) {
+            Onward::Parts(many) => {
+                return Landing::Parts(at, many, calls);
+            }
+            Onward::Open(v) => {
+                return Landing::Open(loc, v);
+            }
+            Onward::Bound(x) => {
+                at = x;
+            }
+        }
+    }
+    Landing::Spent
+}
+
+// Part i of node t.
+fn part_of(w: &[u32], u: Used, t: u32, i: u32) -> u32
+    requires { ⌜ Lay (now w) u × (t < u .nodes) ⌝ }
+    ensures { λ r. ⌜ ((ds : List d.Struct) → i < length (parts (value (seen (now (w .entry)) u ds) t)) → r ≡ getD (parts (value (seen (now (w .entry)) u ds) t)) i 0) ⌝ }
+{
+    let n = table::node_at(w, u, t);
+    let s = n.shape;
+    part_at(w, u, s, i)
+}
+
+fn narrow(x: u32) -> u16
+    requires { ⌜ x < 65536 ⌝ }
+    ensures { λ r. ⌜ r ≡ x ⌝ }
+{
+    x as u16
+}
+
+fn widened(t: [u16; 8]) -> [u32; 8]
+    ensures { λ r. ⌜ r ≡ t ⌝ }
+{
+    [
+        t[0] as u32,
+        t[1] as u32,
+        t[2] as u32,
+        t[3] as u32,
+        t[4] as u32,
+        t[5] as u32,
+        t[6] as u32,
+        t[7] as u32,
+    ]
+}
+
+fn stays(u: Used, t: u32) -> Step
+    ensures { λ r. ⌜ r ≡ record { out = Done t; used = u } ⌝ }
+{
+    Step {
+        out: Out::Done(t),
+        used: u,
     }
 }
 
-// The named type of the types that `a` is done with.
-fn push_types(w: &mut [u32], a: Types, loc: u32, k: Mark, name: TypeName) -> Step
-    requires { ⌜ Lay (now w) (a .used) × Types-in (a .used .nodes) (a .tys) (a .out) ⌝ }
-    ensures { λ r. ⌜ After (now (w .entry)) (a .used) (now (w .exit)) r (λ s. then-apply loc (mark-of k) (name-of name) (types (a .tys) (outcome (a .out) s))) ⌝ }
+// Node t anew, with these parts; a type without parts and without a name stays.
+fn rebuild(w: &mut [u32], u: Used, t: u32, ready: [u16; 8], many: u32) -> Step
+    requires { ⌜ Lay (now w) u × ((t < u .nodes) × (Has-parts (now w) u t many × Parts (u .nodes) ready many)) ⌝ }
+    ensures { λ r. ⌜ After (now (w .entry)) u (now (w .exit)) r (λ s. rebuilt-at s t (take many ready)) ⌝ }
 {
-    let o = a.out;
-    let u = a.used;
-    let tys = a.tys;
-    match table::done_of(o) {
-        Found::Nothing => Step { out: o, used: u },
-        Found::Just(n) => table::push_apply(w, u, loc, k, name, tys, n),
+    let tys = widened(ready);
+    let n = table::node_at(w, u, t);
+    let loc = n.loc;
+    let s = n.shape;
+    match s {
+        Shape::Unit => stays(u, t),
+        Shape::Ref(m, _) => table::push_node(w, u, loc, Shape::Ref(m, tys[0])),
+        Shape::Param(_, _) => stays(u, t),
+        Shape::Apply(k, name, _, _) => table::push_apply(w, u, loc, k, name, tys, many),
+        Shape::Var(_) => stays(u, t),
+        Shape::Anything => stays(u, t),
+        Shape::UnresolvedError => stays(u, t),
     }
 }
 
-// The arguments, one after the other.
-fn ready_types(w: &mut [u32], u: Used, first: u32, many: u32, left: u32) -> Types
-    requires { ⌜ Lay (now w) u × Args-in (now w) u first many ⌝ }
-    ensures { λ r. ⌜ Readied (now (w .entry)) u (now (w .exit)) r first many left ⌝ }
+fn rebuild_bare(w: &mut [u32], u: Used, t: u32) -> Step
+    requires { ⌜ Lay (now w) u × ((t < u .nodes) × Has-parts (now w) u t 0) ⌝ }
+    ensures { λ r. ⌜ After (now (w .entry)) u (now (w .exit)) r (λ s. rebuilt-at s t []) ⌝ }
 {
-    let mut tys: [u32; 8] = [0; 8];
+    rebuild(w, u, t, [0; 8], 0)
+}
+
+// The parts of node t, one after the other; then the node. The call for a part is the only one that a level waits for: 224 bytes of stack.
+fn ready_types(w: &mut [u32], u: Used, t: u32, many: u32, left: u32) -> Step
+    requires { ⌜ Lay (now w) u × ((t < u .nodes) × Has-parts (now w) u t many) ⌝ }
+    ensures { λ r. ⌜ After (now (w .entry)) u (now (w .exit)) r (λ s. by-parts-at (λ s t. ready left s t) s t) ⌝ }
+{
+    let mut tys: [u16; 8] = [0; 8];
     let mut cur = u;
     let mut i: u32 = 0;
     while i < many {
-        let t = table::arg_at(w, cur, first, i);
-        let a = ready(w, cur, t, left);
+        let p = part_of(w, cur, t, i);
+        let a = ready(w, cur, p, left);
         let o = a.out;
         let next = a.used;
         match table::done_of(o) {
             Found::Nothing => {
-                return Types {
-                    tys: tys,
-                    out: o,
-                    used: next,
-                };
+                return a;
             }
             Found::Just(x) => {
                 let at = wide(i);
-                tys[at] = x;
+                tys[at] = narrow(x);
                 cur = next;
                 i = i + 1;
             }
         }
     }
-    Types {
-        tys: tys,
-        out: Out::Done(many),
-        used: cur,
-    }
+    rebuild(w, cur, t, tys, many)
 }
 
 // ready_tvars, at most `left` calls deep.
@@ -530,30 +588,18 @@ fn ready(w: &mut [u32], u: Used, t: u32, left: u32) -> Step
     requires { ⌜ Lay (now w) u × (t < u .nodes) ⌝ }
     ensures { λ r. ⌜ After (now (w .entry)) u (now (w .exit)) r (λ s. ready left s t) ⌝ }
 {
-    if left == 0 {
-        return Step {
+    match land(w, u, t, left) {
+        Landing::Parts(x, many, calls) => {
+            if many == 0 {
+                return rebuild_bare(w, u, x);
+            }
+            ready_types(w, u, x, many, calls)
+        }
+        Landing::Open(loc, v) => table::push_node(w, u, loc, Shape::Var(v)),
+        Landing::Spent => Step {
             out: Out::Itself,
             used: u,
-        };
-    }
-    let n = table::node_at(w, u, t);
-    let loc = n.loc;
-    let s = n.shape;
-    match ready_onward(w, u, s) {
-        Onward::Same => Step {
-            out: Out::Done(t),
-            used: u,
         },
-        Onward::Ref(m, p) => {
-            let a = ready(w, u, p, left - 1);
-            push_ref(w, a, loc, m)
-        }
-        Onward::Apply(k, name, first, many) => {
-            let a = ready_types(w, u, first, many, left - 1);
-            push_types(w, a, loc, k, name)
-        }
-        Onward::Open(v) => table::push_node(w, u, loc, Shape::Var(v)),
-        Onward::Bound(x) => ready(w, u, x, left - 1),
     }
 }
 

@@ -1,7 +1,8 @@
 -- `subst::ready_onward` meets its contract. Assumes nothing.
 use Rattle.definition.specs.Store.{with-args}
-use Rattle.definition.specs.Subst.{ready-value}
-use Rattle.subst.proofs.Run.{goes-flat, goes-ref, goes-apply, goes-open, goes-bound}
+use Rattle.table.specs.Rows.{places}
+use Rattle.definition.specs.Subst.{as-var}
+use Rattle.subst.proofs.Run.{goes-plain, goes-open, goes-bound}
 use mathlib.Core.Path.{refl}
 use borrow.Author.Needs.{needs}
 use Rattle.subst.proofs.ready_onward.Statement.{statement}
@@ -10,17 +11,17 @@ use Rattle.subst.proofs.ready_onward.Tie as tie
 enum-told : tie.Need-enum-told
 enum-told c = search needs
 
-enum-known-s : tie.Need-enum-known-s
-enum-known-s c = search needs
-
 enum-told-2 : tie.Need-enum-told-2
 enum-told-2 c = search needs
 
+enum-told-3 : tie.Need-enum-told-3
+enum-told-3 c = search needs
+
+enum-known-s : tie.Need-enum-known-s
+enum-known-s c = search needs
+
 enum-known-s-2 : tie.Need-enum-known-s-2
 enum-known-s-2 c = search needs
-
-enum-known-s-3 : tie.Need-enum-known-s-3
-enum-known-s-3 c = search needs
 
 forward-tvar-requires : tie.Need-forward-tvar-requires
 forward-tvar-requires c κs = search needs
@@ -28,61 +29,63 @@ forward-tvar-requires c κs = search needs
 bound-at-requires : tie.Need-bound-at-requires
 bound-at-requires c κs = search needs
 
-enum-told-3 : tie.Need-enum-told-3
-enum-told-3 c = search needs
+enum-told-4 : tie.Need-enum-told-4
+enum-told-4 c = search needs
 
 enum-known-t : tie.Need-enum-known-t
 enum-known-t c = search needs
 
-enum-told-4 : tie.Need-enum-told-4
-enum-told-4 c = search needs
-
 enum-told-5 : tie.Need-enum-told-5
 enum-told-5 c = search needs
 
+enum-told-6 : tie.Need-enum-told-6
+enum-told-6 c = search needs
+
 returns : tie.Need-returns
-unfolding ready-value with-args
-returns c = goes-flat _ _ _ (λ f ty loc s. rw (c .enum-told .given .1) refl)
+unfolding as-var with-args
+returns c = goes-plain _ _ _ _ (λ s. rw (c .enum-told .given .1) refl) (rw (c .enum-told .given .1) refl)
 
 returns-2 : tie.Need-returns-2
-returns-2 c = goes-ref _ _ _ _ _ (c .before .s .given .1)
+unfolding as-var with-args
+returns-2 c = goes-plain _ _ _ _ (λ s. rw (c .enum-told2 .given .1) refl) (rw (c .enum-told2 .given .1) refl)
 
 returns-3 : tie.Need-returns-3
-unfolding ready-value with-args
-returns-3 c = goes-flat _ _ _ (λ f ty loc s. rw (c .enum-told2 .given .1) refl)
+unfolding as-var with-args
+returns-3 c = goes-plain _ _ _ _ (λ s. rw (c .enum-told3 .given .1) refl) (rw (c .enum-told3 .given .1) refl)
 
 returns-4 : tie.Need-returns-4
-returns-4 c = goes-apply _ _ _ _ _ _ _ (c .before .s2 .given .1)
+unfolding as-var with-args places
+returns-4 c = goes-plain _ _ _ _ (λ s. rw (c .before .s .given .1) refl) (rw (c .before .s .given .1) refl)
 
 returns-5 : tie.Need-returns-5
-returns-5 c = goes-open _ _ _ _ _ (c .before .before .before .before .before .s3 .given .1) (c .before .before .before .forward-tvar .ensures) _ (c .before .before .bound-at .ensures) (c .enum-told3 .given .1)
+returns-5 c = goes-open _ _ _ _ _ (c .before .before .before .before .before .s2 .given .1) (c .before .before .before .forward-tvar .ensures) _ (c .before .before .bound-at .ensures) (c .enum-told4 .given .1)
 
 returns-6 : tie.Need-returns-6
-returns-6 c = goes-bound _ _ _ _ _ (c .before .before .before .before .before .before .s3 .given .1) (c .before .before .before .before .forward-tvar .ensures) _ (c .before .before .before .bound-at .ensures) (c .before .before .before .before .before .before .before .before .before .pre) _ (c .before .t .given .1)
+returns-6 c = goes-bound _ _ _ _ _ (c .before .before .before .before .before .before .s2 .given .1) (c .before .before .before .before .forward-tvar .ensures) _ (c .before .before .before .bound-at .ensures) (c .before .before .before .before .before .before .before .before .before .pre) _ (c .before .t .given .1)
 
 returns-7 : tie.Need-returns-7
-unfolding ready-value with-args
-returns-7 c = goes-flat _ _ _ (λ f ty loc s. rw (c .enum-told4 .given .1) refl)
+unfolding as-var with-args
+returns-7 c = goes-plain _ _ _ _ (λ s. rw (c .enum-told5 .given .1) refl) (rw (c .enum-told5 .given .1) refl)
 
 returns-8 : tie.Need-returns-8
-unfolding ready-value with-args
-returns-8 c = goes-flat _ _ _ (λ f ty loc s. rw (c .enum-told5 .given .1) refl)
+unfolding as-var with-args
+returns-8 c = goes-plain _ _ _ _ (λ s. rw (c .enum-told6 .given .1) refl) (rw (c .enum-told6 .given .1) refl)
 
 pub ready-onward-spec : {M : Type 1} → statement M
 ready-onward-spec =
     tie.close
     (tie.spec
     enum-told
-    enum-known-s
     enum-told-2
+    enum-told-3
+    enum-known-s
     enum-known-s-2
-    enum-known-s-3
     forward-tvar-requires
     bound-at-requires
-    enum-told-3
-    enum-known-t
     enum-told-4
+    enum-known-t
     enum-told-5
+    enum-told-6
     returns
     returns-2
     returns-3
