@@ -20,7 +20,7 @@ use Rattle.table.specs.declared.Node.{Node}
 use Rattle.table.specs.declared.Shape.{Shape}
 use Rattle.table.specs.declared.Shape.the-variants.{Anything as AnythingS}
 use Rattle.subst.specs.Answers.{part-count, unfolded, Unfolded-in, Unfolds}
-use Rattle.subst.specs.Itself.{Goes-on, Higher, Ends-at, Marked, Levels}
+use Rattle.subst.specs.Itself.{Goes-on, Higher, Ends-at, Marked, Levels, Soon}
 use Rattle.subst.specs.declared.Unfolded.{Unfolded}
 use Rattle.subst.specs.declared.Unfolded.the-variants.{Node as NodeU, Anything}
 use Rattle.subst.proofs.Lists.{all-all, all-one}
@@ -212,13 +212,50 @@ reaches-is w u t zero r ds = eq-eqb 0 0 refl ∙ sym (rw (count-seen w u ds, r .
 reaches-is w u t (suc n) r ds =
     ne-eqb (suc n) 0 (λ z. omega arith) ∙ sym (rw (count-seen w u ds, r .over (omega arith) .ends ds (u .nodes) (r .over (omega arith) .few)) refl)
 
-pub reaches-not : (w : List ℕ) (u : Used) (t : ℕ) (sh : Shape) (many : ℕ) → t < u .nodes → Goes-on w u t sh → many ≡ part-count (shape-of sh) → many ≡ 0 → (ds : List Struct) → false ≡ reaches-itself (seen w u ds) t
+-- ---- few parts
+
+pub soon-none : (w : List ℕ) (u : Used) (t left : ℕ) → Soon w u t left 0
+soon-none w u t left = record { over = λ p. absurd (not-suc-le-zero p) }
+
+-- the parts before i are over in one level less
+pub record Few (w : List ℕ) (u : Used) (t left : ℕ) (sh : Shape) (many i : ℕ) : Type 0 where
+  pub lay : Lay w u
+  pub some-left : 0 < left
+  pub goes : Goes-on w u t sh
+  pub many-is : many ≡ part-count (shape-of sh)
+  pub le : i ≤ many
+  pub over : (ds : List Struct) (j : ℕ) → j < i → ends-in (left - 1) (seen w u ds) (getD (goes-on-to (seen w u ds) t) j 0) ≡ true
+
+pub few-none : (w : List ℕ) (u : Used) (t left : ℕ) (sh : Shape) (many : ℕ) → Lay w u → (left ≡ 0 → ⊥) → Goes-on w u t sh → many ≡ part-count (shape-of sh) → Few w u t left sh many 0
+few-none w u t left sh many h n g e = record { lay = h; some-left = omega arith; goes = g; many-is = e; le = omega arith; over = λ ds j p. absurd (not-suc-le-zero p) }
+
+module _ {w : List ℕ} {u : Used} {t left : ℕ} {sh : Shape} {many i : ℕ} (h : Few w u t left sh many i) where
+  module _ (p : ℕ) (l : i < many) (e : (ds : List Struct) → i < part-count (shape-of sh) → p ≡ getD (parts (with-args (seen w u ds) (shape-of sh))) i 0) where
+    few-is : (ds : List Struct) → p ≡ getD (goes-on-to (seen w u ds) t) i 0
+    few-is ds = e ds (rw (← h .many-is) l) ∙ ap (λ (x : List ℕ). getD x i 0) (h .goes .is ds)
+
+    pub few-part : p < u .nodes
+    few-part = rw (few-is []) (h .goes .inside [] i (rw (← h .many-is) l))
+
+    pub few-more : (r : ℕ) → Soon w u p (left - 1) r → (r ≡ 0 → ⊥) → Few w u t left sh many (i + 1)
+    few-more r s z = record { lay = h .lay; some-left = h .some-left; goes = h .goes; many-is = h .many-is; le = omega arith; over = λ ds j k. by ds j k (ℕ-discrete j i) }
+      where
+        by : (ds : List Struct) (j : ℕ) → j < i + 1 → Dec (j ≡ i) → ends-in (left - 1) (seen w u ds) (getD (goes-on-to (seen w u ds) t) j 0) ≡ true
+        by ds j k (yes y) = rw (y, ← few-is ds) (s .over (omega arith) ds)
+        by ds j k (no y) = h .over ds j (omega arith)
+
+  pub few-all : many ≤ i → (r : ℕ) → Soon w u t left r
+  few-all l r = record {
+    over = λ p ds.
+        let n : left ≡ suc (left - 1) = (let q = h .some-left in omega arith) in
+        ap (λ (k : ℕ). ends-in k (seen w u ds) t) n
+        ∙ ends-suc (left - 1) (seen w u ds) t
+        ∙ all-all (λ q. ends-in (left - 1) (seen w u ds) q) (goes-on-to (seen w u ds) t) (λ j k.
+        let a = h .goes .many ds in
+        let b = h .many-is in
+        h .over ds j (omega arith));
+  }
+
+pub reaches-soon : (w : List ℕ) (u : Used) (t r : ℕ) → Soon w u t (u .nodes) r → 0 < r → (ds : List Struct) → false ≡ reaches-itself (seen w u ds) t
 unfolding reaches-itself
-reaches-not w u t sh many h g e z ds = by (count (seen w u ds)) (rw (count-seen w u ds) h)
-  where
-    by : (n : ℕ) → t < n → false ≡ not (ends-in n (seen w u ds) t)
-    by zero p = absurd (not-suc-le-zero p)
-    by (suc n) p =
-        let m = g .many ds in
-        let a : all-of (λ q. ends-in n (seen w u ds) q) (goes-on-to (seen w u ds) t) ≡ true = all-all _ _ (λ j k. absurd (omega arith)) in
-        rw (ends-suc n (seen w u ds) t, a) refl
+reaches-soon w u t r s p ds = sym (rw (count-seen w u ds, s .over p ds) refl)

@@ -18,7 +18,7 @@ use Rattle.table.specs.declared.Used.{Used}
 use Rattle.table.specs.declared.Shape.{Shape}
 use Rattle.table.specs.declared.Node.{Node}
 use Rattle.subst.specs.Answers.{part-count, Clear}
-use Rattle.subst.proofs.Lists.{any-same, any-none, any-one, or-true, or-false}
+use Rattle.subst.proofs.Lists.{any-same, any-none, any-one, or-true}
 use Rattle.subst.proofs.Laws.{count-seen, inside-seen, value-is}
 
 -- ---- the parts of node t
@@ -116,15 +116,6 @@ module _ {w : List ℕ} {u : Used} {t : ℕ} {sh : Shape} {many : ℕ} (a : At w
 
   pub self-used : (v : ℕ) (b : Bool) → ((s : State) → b ≡ is-var v (with-args s (shape-of sh))) → b ≡ true → (ds : List Struct) → true ≡ used (suc t) (seen w u ds) v t
   self-used v b e z ds = sym (used-self (seen w u ds) (inside-seen w u ds (a .lay)) v t (counted ds) (sym (e (seen w u ds) ∙ ap (is-var v) (a .is ds)) ∙ z))
-
-  -- without parts
-  pub flat-used : (v : ℕ) (b : Bool) → many ≡ 0 → ((s : State) → b ≡ is-var v (with-args s (shape-of sh))) → (ds : List Struct) → b ≡ used (suc t) (seen w u ds) v t
-  flat-used v b z e ds =
-      let m = many-parts ds in
-      let none : any-of (λ p. used (suc p) (seen w u ds) v p) (parts (value (seen w u ds) t)) ≡ false = any-none _ _ (λ i l. absurd (omega arith)) in
-      e (seen w u ds)
-      ∙ ap (is-var v) (a .is ds)
-      ∙ sym (used-is (seen w u ds) (inside-seen w u ds (a .lay)) v t (counted ds) ∙ ap (λ (b : Bool). is-var v (value (seen w u ds) t) || b) none ∙ or-false _)
 
 -- the parts before i are passed without meeting v, which node t is not itself
 pub record Passed (w : List ℕ) (u : Used) (v t : ℕ) (sh : Shape) (many : ℕ) (marks : List ℕ) (i : ℕ) : Type 0 where

@@ -2,7 +2,7 @@
 use mathlib.Core.Path.{_≡_, refl, sym, ap, ap₂, _∙_, subst}
 use mathlib.Core.Bool.{Bool, true, false}
 use mathlib.Core.List.{List, [], _∷_, _++_, append-assoc, append-nil}
-use mathlib.Core.Option.{Option, none, some}
+use mathlib.Core.Option.{none, some}
 use Prim.Native.Nat.{ℕ, zero, suc, _+_, _-_, _*_, _<_, _≤_}
 use native.Mathlib.Nat.{not-suc-le-zero}
 use native.Mathlib.Numerals.{add-one}
@@ -18,8 +18,8 @@ use Rattle.names.specs.Names.{mark-of, name-of}
 use Rattle.names.specs.declared.TVar.{TVar}
 use Rattle.names.specs.declared.Mark.{Mark}
 use Rattle.names.specs.declared.TypeName.{TypeName}
-use Rattle.table.specs.Rows.{node-table, places}
-use Rattle.table.specs.State.{found, shape-of, node-of, value-of, done, outcome, view, seen, Lay, Below, Grown, Front, After, Nodes-in, Parts as Parts-in}
+use Rattle.table.specs.Rows.{node-table}
+use Rattle.table.specs.State.{found, shape-of, node-of, done, outcome, view, seen, Lay, Below, Grown, Front, After, Nodes-in, Parts as Parts-in}
 use Rattle.table.specs.declared.Used.{Used}
 use Rattle.table.specs.declared.Node.{Node}
 use Rattle.table.specs.declared.Step.{Step}

@@ -39,3 +39,7 @@ pub record Marked (w : List ℕ) (u : Used) (marks : List ℕ) : Type 0 where
 pub record Levels (w : List ℕ) (u : Used) (t left r : ℕ) : Type 0 where
   pub over : 0 < r → Ends-at w u t r
   pub not-over : r ≡ 0 → (ds : List Struct) → ends-in left (seen w u ds) t ≡ false
+
+-- an answer other than 0 says that reading node t is over in `left` levels
+pub record Soon (w : List ℕ) (u : Used) (t left r : ℕ) : Type 0 where
+  pub over : 0 < r → (ds : List Struct) → ends-in left (seen w u ds) t ≡ true

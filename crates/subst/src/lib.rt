@@ -1,6 +1,7 @@
 // typing/core.rs: chain ends, unfolding, numeric marks, the numeric check, the occurs walk, binding, types that run into themselves, ready_tvars.
 // Changed from the source that NOTICE names: ported to Rattle.
 ghost use mathlib.Core.Path.{_≡_};
+ghost use mathlib.Core.Bool.{false};
 ghost use mathlib.Core.List.{List, []};
 ghost use Prim.Native.Nat.{ℕ, suc, _<_, _≤_};
 ghost use lib.ListN.{length, getD, take};
@@ -12,7 +13,7 @@ ghost use Rattle.names.specs.Names.{name-of};
 ghost use Rattle.table.specs.State.{shape-of, seen, Lay, Stored, After, Parts};
 ghost use Rattle.table.specs.declared.Out.the-variants.{Done};
 ghost use Rattle.subst.specs.Answers.{next, part-count, Unfolds, var-at, Clear, Binds};
-ghost use Rattle.subst.specs.Itself.{Goes-on, Higher, Levels, Marked};
+ghost use Rattle.subst.specs.Itself.{Goes-on, Higher, Levels, Marked, Soon};
 ghost use Rattle.subst.specs.Ready.{Goes, Lands, Has-parts, rebuilt-at, by-parts-at};
 use names::TVar;
 use names::TypeName;
@@ -330,15 +331,40 @@ fn used_in(w: &[u32], u: Used, tvar: TVar, t: u32, marks: &mut [u8]) -> bool
     false
 }
 
-// used_tvars(ty) has tvar. A type without parts needs no marks.
+// How many of `budget` parts are left once tvar is seen not to be in node t; 0 if it is there, or not so soon.
+fn soon_clear(w: &[u32], u: Used, tvar: TVar, t: u32, budget: u32) -> u32
+    requires { ⌜ Lay (now w) u × (t < u .nodes) ⌝ }
+    ensures { λ r. ⌜ (0 < r → (ds : List d.Struct) → used (suc t) (seen (now (w .entry)) u ds) (tvar .0) t ≡ false) ⌝ }
+{
+    if budget == 0 {
+        return 0;
+    }
+    let n = table::node_at(w, u, t);
+    let s = n.shape;
+    if is_var(tvar, s) {
+        return 0;
+    }
+    let many = part_count(s);
+    let mut rest = budget - 1;
+    let mut i: u32 = 0;
+    while i < many {
+        let p = part_at(w, u, s, i);
+        rest = soon_clear(w, u, tvar, p, rest);
+        if rest == 0 {
+            return 0;
+        }
+        i = i + 1;
+    }
+    rest
+}
+
+// used_tvars(ty) has tvar. A type of fewer than 64 parts needs no marks.
 pub fn used_tvars(w: &[u32], u: Used, tvar: TVar, ty: u32) -> bool
     requires { ⌜ Lay (now w) u × (ty < u .nodes) ⌝ }
     ensures { λ r. ⌜ ((ds : List d.Struct) → r ≡ used (suc ty) (seen (now (w .entry)) u ds) (tvar .0) ty) ⌝ }
 {
-    let n = table::node_at(w, u, ty);
-    let s = n.shape;
-    if part_count(s) == 0 {
-        return is_var(tvar, s);
+    if 0 < soon_clear(w, u, tvar, ty, 64) {
+        return false;
     }
     let mut marks: [u8; 2048] = [0; 2048];
     used_in(w, u, tvar, ty, &mut marks)
@@ -423,13 +449,38 @@ fn levels(w: &[u32], u: Used, t: u32, left: u32, marks: &mut [u32]) -> u32
     high + 1
 }
 
-// A type without parts needs no marks.
+// How many of `budget` parts are left once reading node t is over, in at most `left` levels; 0 if it is not over so soon.
+fn soon_over(w: &[u32], u: Used, t: u32, left: u32, budget: u32) -> u32
+    requires { ⌜ Lay (now w) u × (t < u .nodes) ⌝ }
+    ensures { λ r. ⌜ Soon (now (w .entry)) u t left r ⌝ }
+{
+    if left == 0 {
+        return 0;
+    }
+    if budget == 0 {
+        return 0;
+    }
+    let s = goes_on(w, u, t);
+    let many = part_count(s);
+    let mut rest = budget - 1;
+    let mut i: u32 = 0;
+    while i < many {
+        let p = part_at(w, u, s, i);
+        rest = soon_over(w, u, p, left - 1, rest);
+        if rest == 0 {
+            return 0;
+        }
+        i = i + 1;
+    }
+    rest
+}
+
+// A type of fewer than 64 parts needs no marks.
 pub fn reaches_itself(w: &[u32], u: Used, t: u32) -> bool
     requires { ⌜ Lay (now w) u × (t < u .nodes) ⌝ }
     ensures { λ r. ⌜ ((ds : List d.Struct) → r ≡ reaches-itself (seen (now (w .entry)) u ds) t) ⌝ }
 {
-    let s = goes_on(w, u, t);
-    if part_count(s) == 0 {
+    if 0 < soon_over(w, u, t, u.nodes, 64) {
         return false;
     }
     let mut marks: [u32; 2048] = [0; 2048];
