@@ -211,8 +211,8 @@ fn job_trusted(
 
 // A job's next lines: those of as many records as the bytes at hand hold whole and the log surely has room for. `more`: further bytes follow.
 // The state is tested once. `place` is the next record's number; `read` and `written` say how much of the stream and of the log was used.
-// Refused: the first record right and 0 after (echoes_0), a job that goes on after 6 (six_goes_on) or from an unsound state (unsound_goes_on), a record begun
-// that may not be whole (cut_one_early).
+// Refused: the first record right and 0 after (echoes_0), 0 for every record (zero_for_all), a job that goes on after 6 (six_goes_on) or from an unsound state
+// (unsound_goes_on), a record begun that may not be whole (cut_one_early).
 pub fn job(
     state: &mut [u32],
     params: [[u8; 8]; 256],

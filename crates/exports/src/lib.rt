@@ -5,7 +5,7 @@ ghost use lib.ListN.{length as size, drop};
 ghost use Rattle.engine.specs.Public.{lent-step, in-front, rest-of, lent-lines};
 
 // One record, lent whole. The result is the answer's number; the payload stands in front of the answer buffer, and length is how long it is.
-// Refused (must-fail/): an answer for a short buffer (short_buffer_passed), no payload ever (no_payload).
+// Refused (must-fail/): no payload ever (no_payload), the parameter bytes of before the call (params_as_they_were).
 #[no_mangle]
 pub extern "C" fn pongiwaru_record(
     state: &mut [u32],
@@ -45,7 +45,7 @@ pub extern "C" fn pongiwaru_split(
 }
 
 // A job's next lines. The result is 0, or 15 for a state that is not sound.
-// Refused: the same record number again (place_as_it_was), an end that the lines don't give (ended_at_once).
+// Refused: bytes waited for that don't follow (always_more), a record number that begins again (place_from_zero), an end that the lines don't give (ended_at_once).
 #[no_mangle]
 pub extern "C" fn pongiwaru_job(
     state: &mut [u32],

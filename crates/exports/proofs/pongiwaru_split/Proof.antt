@@ -1,7 +1,7 @@
 -- `pongiwaru_split`: the rest begins where the record ends. Assumes nothing.
 use mathlib.Core.Path.{_≡_, _∙_, ap}
 use mathlib.Core.List.{List}
-use Prim.Native.Nat.{ℕ, _-_, _≤_}
+use Prim.Native.Nat.{ℕ, _-_}
 use native.Mathlib.Omega.{arith}
 use borrow.Author.Needs.{needs}
 use lib.ListN.{length, drop}
@@ -17,14 +17,14 @@ sub-rest c = search needs
 same-length : tie.Need-same-length
 same-length c = search needs
 
--- what is left of all but what is left of all but n bytes is what is left of n
-all-but : (l : List ℕ) (n : ℕ) → n ≤ length l → drop (length l - (length l - n)) l ≡ drop n l
-all-but l n h = let e : length l - (length l - n) ≡ n = omega arith in ap (λ (k : ℕ). drop k l) e
+-- the last bytes, as many as are left
+last : (l after : List ℕ) (n left : ℕ) → drop n l ≡ after → length l - left ≡ n → drop (length l - left) l ≡ after
+last l after n left e h = ap (λ (k : ℕ). drop k l) h ∙ e
 
 returns : tie.Need-returns
 returns c =
     let e = c .before .before .rest-size .ensures in
-    (e .0, (omega arith, all-but _ _ (e .1 .0) ∙ e .1 .1))
+    (e .0, (omega arith, last _ _ (c .before .before .rest-size .result) _ (e .1 .1) (omega arith)))
 
 pub pongiwaru-split-spec : {M : Type 1} → statement M
 pongiwaru-split-spec = tie.close (tie.spec rest-size-requires sub-rest same-length returns)
