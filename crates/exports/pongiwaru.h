@@ -11,7 +11,8 @@
  * Words and rows belong together: lend those that the last call left. They may be kept, copied and lent again later.
  * Every pointer is to as many elements as the length beside it says, none is null (a length may be 0), and what a call may write
  * overlaps nothing else that it is lent. params has no length beside it: every call reads exactly PONGIWARU_ROWS rows, and
- * pongiwaru_record and pongiwaru_job write as many. Calls on different states may run side by side.
+ * pongiwaru_record and pongiwaru_job write as many. Calls on different states may run side by side. A call allocates nothing; it
+ * runs on the caller's stack, and needs the more of it the deeper a state's types are nested.
  */
 #ifndef PONGIWARU_H
 #define PONGIWARU_H
