@@ -2,7 +2,9 @@
 use mathlib.Core.Bool.{Bool, true, false}
 use mathlib.Core.List.{List, [], _++_}
 use Prim.Native.Nat.{ℕ}
+use lib.Dec.{eqb}
 use lib.ListN.{length, drop}
+use Rattle.definition.specs.Types.{fresh}
 use Rattle.definition.specs.Write.{Bytes}
 use Rattle.definition.specs.Step.{Answer, step, step-stream, max-buffer}
 use Rattle.definition.proofs.Piecewise.{Piece, next-lines}
@@ -56,4 +58,11 @@ unfoldable pub lent-lines : List ℕ → List (List ℕ) → ℕ → Bytes → �
 lent-lines w params place stream room more = elim (lent-sound w params) [
   | true ↦ lent-piece (next-lines place (decode w params) stream room more)
   | false ↦ record { number = 15; text = []; words = w; params = params; rest = stream; place = place; ended = true }
+]
+
+-- a job's first lines, from a fresh state whatever the words hold; words of another length are those of no state, 15
+unfoldable pub fresh-lines : List ℕ → List (List ℕ) → Bytes → ℕ → Bool → Lent-piece
+fresh-lines w params stream room more = elim (eqb (length w) 24069) [
+  | true ↦ lent-lines (encode fresh) (encode-params fresh) 0 stream room more
+  | false ↦ lent-lines w params 0 stream room more
 ]

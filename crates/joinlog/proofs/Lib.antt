@@ -2,4 +2,3 @@
 pub mod Moves
 pub mod Logs
 pub mod Chain
-pub mod Start
