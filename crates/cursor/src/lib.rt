@@ -2,7 +2,7 @@
 ghost use mathlib.Core.Path.{_≡_};
 ghost use Prim.Native.Nat.{_-_, _<_, _≤_};
 ghost use lib.ListN.{length, take as front};
-ghost use Rattle.cursor.specs.Words.{word-at};
+ghost use Rattle.cursor.specs.Words.{word-at, words-at};
 
 // A number, or too few bytes.
 pub enum Number {
@@ -18,6 +18,13 @@ pub struct Reader<'a> {
 // A number, and the position after it.
 pub struct Word {
     pub number: Number,
+    pub next: usize,
+}
+
+// Two numbers, one after the other, and the position after them.
+pub struct Words {
+    pub first: Number,
+    pub second: Number,
     pub next: usize,
 }
 
@@ -82,18 +89,43 @@ pub fn take<'s, 'a>(r: &'s mut Reader<'a>, n: usize) -> Number
     w.number
 }
 
-// The same for a caller that has bytes and a position.
-fn read_at(s: &[u8], at: usize, n: usize) -> Number
-    ensures { λ x. ⌜ x ≡ word-at (now (s .entry)) at n .number ⌝ }
+// For a caller that has bytes and a position: one reader, and where it stands after a number of n bytes.
+fn read_at(s: &[u8], at: usize, n: usize) -> Word
+    ensures { λ r. ⌜ r ≡ word-at (now (s .entry)) at n ⌝ }
 {
     let mut r = Reader { src: s, at: at };
-    take(&mut r, n)
+    let x = take(&mut r, n);
+    Word {
+        number: x,
+        next: r.at,
+    }
+}
+
+// .. after a number of n bytes and one of m: the reader goes on where the first ends.
+fn read_two_at(s: &[u8], at: usize, n: usize, m: usize) -> Words
+    ensures { λ r. ⌜ r ≡ words-at (now (s .entry)) at n m ⌝ }
+{
+    let mut r = Reader { src: s, at: at };
+    let x = take(&mut r, n);
+    let y = take(&mut r, m);
+    Words {
+        first: x,
+        second: y,
+        next: r.at,
+    }
 }
 
 // .. in the bytes before `end`.
-pub fn read_word(b: &[u8], end: usize, at: usize, n: usize) -> Number
+pub fn read_word(b: &[u8], end: usize, at: usize, n: usize) -> Word
     requires { ⌜ end ≤ length (now b) ⌝ }
-    ensures { λ x. ⌜ x ≡ word-at (front end (now (b .entry))) at n .number ⌝ }
+    ensures { λ r. ⌜ r ≡ word-at (front end (now (b .entry))) at n ⌝ }
 {
     read_at(&b[0..end], at, n)
+}
+
+pub fn read_words(b: &[u8], end: usize, at: usize, n: usize, m: usize) -> Words
+    requires { ⌜ end ≤ length (now b) ⌝ }
+    ensures { λ r. ⌜ r ≡ words-at (front end (now (b .entry))) at n m ⌝ }
+{
+    read_two_at(&b[0..end], at, n, m)
 }

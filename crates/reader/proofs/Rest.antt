@@ -19,7 +19,7 @@ use Rattle.definition.specs.Reader.{Read, got, not-read, Reader, give, refuse, 
 use Rattle.definition.specs.Trees.{Tree, Trees, no-trees, _then_, read-trees, mark-of, read-mark, has-drop, mark-fits}
 use Rattle.reader.specs.declared.Marked.{Marked}
 use Rattle.reader.specs.declared.Marked.the-variants.{With, Wrong}
-use Rattle.reader.specs.Fields.{rest, marked, mark-read, Mark-in}
+use Rattle.reader.specs.Fields.{rest, marked, mark-read}
 
 module _ (b : List ℕ) (end : ℕ) (fits : end ≤ length b) where
   pub rest-length : (at : ℕ) → length (rest b end at) ≡ end - at
@@ -105,10 +105,6 @@ set-past x l = lt-leb (x - 16) 15 (omega (arith, l))
 pub mark-step : (r : Marked) (x : ℕ) (l m : Bytes) → marked r ≡ mark-of x → byte l ≡ got x m → mark-read r m ≡ read-mark l
 unfolding read-mark _>>=_ go-on
 mark-step r x l m e f = picked r m ∙ ap (λ (o : Option d.Mark). pick o m) e ∙ rw f
-
-pub mark-within : (r : Marked) (P : Type 0) → P → Mark-in r P
-mark-within (With k) P p = p
-mark-within Wrong P p = tt
 
 -- ---- one part
 

@@ -9,7 +9,7 @@ use Rattle.definition.specs.Types as d
 use Rattle.definition.specs.Types.{State, Struct, malformed, unknown-name, if_then_else_}
 use Rattle.definition.specs.Store.{taken}
 use Rattle.definition.specs.Write.{Bytes}
-use Rattle.definition.specs.Reader.{Read, got, not-read, Reader, give, refuse, go-on, _>>=_, name-below}
+use Rattle.definition.specs.Reader.{Read, got, not-read, Reader, give, refuse, go-on, _>>=_, name-below, byte, read-u16, read-u32}
 use Rattle.definition.specs.Trees.{Tree, unit-tree, anything-tree, error-tree, ref-tree, param-tree, apply-tree, var-tree, Trees, no-trees, _then_, read-trees, read-mark, mark-fits, arity}
 use Rattle.names.specs.Names.{mark-of, name-of}
 use Rattle.names.specs.declared.Mark.{Mark}
@@ -17,6 +17,7 @@ use Rattle.table.specs.declared.Shape.{Shape}
 use Rattle.table.specs.declared.Shape.the-variants.{Unit as UnitS, Ref, Param, Apply, Var, Anything, UnresolvedError}
 use Rattle.cursor.specs.declared.Number.{Number}
 use Rattle.cursor.specs.declared.Number.the-variants.{Got, Missing}
+use Rattle.cursor.specs.declared.Words.{Words}
 use Rattle.reader.specs.declared.Name.{Name}
 use Rattle.reader.specs.declared.Name.the-variants.{Known, Cut, Unknown}
 use Rattle.reader.specs.declared.Marked.{Marked}
@@ -38,10 +39,23 @@ abbrev pub Number-in : Number → (ℕ → Type 0) → Type 0
 Number-in (Got x) P = P x
 Number-in Missing P = Unit {0}
 
--- f is what m reads at place `at`, in n bytes: a number from 0 to max
-pub record Reads (m : Reader ℕ) (max : ℕ) (b : List ℕ) (end at n : ℕ) (f : Number) : Type 0 where
-  pub is : number f (rest b end (at + n)) ≡ m (rest b end at)
-  pub within : Number-in f (λ x. (x ≤ max) × (at + n ≤ end))
+-- a number of n bytes is what m reads, and is max at most
+pub data Width : ℕ → Reader ℕ → ℕ → Type 0 where
+  byte-wide : Width 1 byte 255
+  u16-wide : Width 2 read-u16 65535
+  u32-wide : Width 4 read-u32 4294967295
+
+-- f is what m reads at place `at`, a number from 0 to max, and next the place after it
+pub record Reads (m : Reader ℕ) (max : ℕ) (b : List ℕ) (end at : ℕ) (f : Number) (next : ℕ) : Type 0 where
+  pub is : number f (rest b end next) ≡ m (rest b end at)
+  pub most : Number-in f (λ x. x ≤ max)
+  pub within : next ≤ end
+
+-- what m reads, and what m′ reads after it
+pub record Reads-two (m : Reader ℕ) (max : ℕ) (m′ : Reader ℕ) (max′ : ℕ) (b : List ℕ) (end at : ℕ) (r : Words) : Type 0 where
+  pub middle : ℕ
+  pub first : Reads m max b end at (r .first) middle
+  pub second : Reads m′ max′ b end middle (r .second) (r .next)
 
 abbrev pub name : Name → Bytes → Read ℕ
 name (Known x) bytes = got x bytes
@@ -54,9 +68,10 @@ Name-in Cut P = Unit {0}
 Name-in Unknown P = Unit {0}
 
 -- a name below `known`
-pub record Names (known : ℕ) (b : List ℕ) (end at : ℕ) (f : Name) : Type 0 where
-  pub is : name f (rest b end (at + 2)) ≡ name-below known (rest b end at)
-  pub within : Name-in f (λ x. (x < known) × (at + 2 ≤ end))
+pub record Names (known : ℕ) (b : List ℕ) (end at : ℕ) (f : Name) (next : ℕ) : Type 0 where
+  pub is : name f (rest b end next) ≡ name-below known (rest b end at)
+  pub below : Name-in f (λ x. x < known)
+  pub within : next ≤ end
 
 abbrev pub marked : Marked → Option d.Mark
 marked (With k) = some (mark-of k)
@@ -66,13 +81,9 @@ abbrev pub mark-read : Marked → Bytes → Read d.Mark
 mark-read (With k) bytes = got (mark-of k) bytes
 mark-read Wrong bytes = not-read malformed
 
-abbrev pub Mark-in : Marked → Type 0 → Type 0
-Mark-in (With k) P = P
-Mark-in Wrong P = Unit {0}
-
-pub record Marks (b : List ℕ) (end at : ℕ) (f : Marked) : Type 0 where
-  pub is : mark-read f (rest b end (at + 1)) ≡ read-mark (rest b end at)
-  pub within : Mark-in f (at + 1 ≤ end)
+pub record Marks (b : List ℕ) (end at : ℕ) (f : Marked) (next : ℕ) : Type 0 where
+  pub is : mark-read f (rest b end next) ≡ read-mark (rest b end at)
+  pub within : next ≤ end
 
 -- ---- a type's tag, location and fields; its parts follow
 

@@ -8,15 +8,18 @@ ghost use Rattle.definition.specs.Types as d;
 ghost use Rattle.definition.specs.Types.{malformed};
 ghost use Rattle.definition.specs.Store.{taken};
 ghost use Rattle.definition.specs.Instantiate.{builtin-tparams};
-ghost use Rattle.definition.specs.Reader.{refuse, byte, byte-to, read-u16, read-u32, name-below, read-one, read-two, byte-if, read-bool};
+ghost use Rattle.definition.specs.Reader.{refuse, byte, byte-to, read-u16, read-u32, name-below, read-one, read-two, byte-if, read-bool, Reader};
 ghost use Rattle.definition.specs.Trees.{mark-of, mark-fits, read-apply, by-tag, read-nested, ref-tree, param-tree, var-tree, is-set};
 ghost use Rattle.names.specs.Names.{mark-of as mark-is, name-of};
 ghost use Rattle.table.specs.State.{view, seen, Lay, After, Declares};
 ghost use Rattle.reader.specs.declared.Head.the-variants.{Begun};
-ghost use Rattle.reader.specs.Fields.{rest, read-args, Reads, Names, marked, Marks, Begins, Knows, Head-within, Head-nests, tree-read, many-parts};
+ghost use Rattle.reader.specs.Fields.{rest, read-args, Reads, Names, marked, Marks, Begins, Knows, Head-within, Head-nests, tree-read, many-parts, Width, Reads-two};
 ghost use Rattle.reader.specs.Taken.{Arities, Takes, Parts-below, put-node, found-part, is-stop, is-over, node-in};
 pub use cursor::Number;
+pub use cursor::Word;
+pub use cursor::Words;
 use cursor::read_word;
+use cursor::read_words;
 use names::AbilitySet;
 use names::Mark;
 use names::TParamID;
@@ -71,33 +74,26 @@ pub struct Taken {
 
 // ---- numbers
 
-fn read_byte(b: &[u8], end: usize, at: usize) -> Number
+// A number of n bytes, and the place after it.
+pub fn read_number(b: &[u8], end: usize, at: usize, n: usize) -> Word
     requires { ⌜ (end ≤ length (now b)) × (at ≤ end) ⌝ }
-    ensures { λ r. ⌜ Reads byte 255 (now (b .entry)) end at 1 r ⌝ }
+    ensures { λ r. ⌜ ((m : Reader ℕ) (max : ℕ) → Width n m max → Reads m max (now (b .entry)) end at (r .number) (r .next)) ⌝ }
 {
-    read_word(b, end, at, 1)
+    read_word(b, end, at, n)
 }
 
-fn read_u16(b: &[u8], end: usize, at: usize) -> Number
+// One of n bytes and then one of k.
+pub fn read_numbers(b: &[u8], end: usize, at: usize, n: usize, k: usize) -> Words
     requires { ⌜ (end ≤ length (now b)) × (at ≤ end) ⌝ }
-    ensures { λ r. ⌜ Reads read-u16 65535 (now (b .entry)) end at 2 r ⌝ }
+    ensures { λ r. ⌜ ((m m′ : Reader ℕ) (max max′ : ℕ) → Width n m max → Width k m′ max′ → Reads-two m max m′ max′ (now (b .entry)) end at r) ⌝ }
 {
-    read_word(b, end, at, 2)
-}
-
-pub fn read_u32(b: &[u8], end: usize, at: usize) -> Number
-    requires { ⌜ (end ≤ length (now b)) × (at ≤ end) ⌝ }
-    ensures { λ r. ⌜ Reads read-u32 4294967295 (now (b .entry)) end at 4 r ⌝ }
-{
-    read_word(b, end, at, 4)
+    read_words(b, end, at, n, k)
 }
 
 // A byte from 0 to max.
-pub fn byte_to(b: &[u8], end: usize, at: usize, max: u32) -> Number
-    requires { ⌜ (end ≤ length (now b)) × (at ≤ end) ⌝ }
-    ensures { λ r. ⌜ Reads (byte-to max) max (now (b .entry)) end at 1 r ⌝ }
+pub fn byte_to(f: Number, max: u32) -> Number
+    ensures { λ r. ⌜ ((b : List ℕ) (end at next : ℕ) → Reads byte 255 b end at f next → Reads (byte-to max) max b end at r next) ⌝ }
 {
-    let f = read_byte(b, end, at);
     match f {
         Number::Got(x) => {
             if x <= max {
@@ -111,11 +107,9 @@ pub fn byte_to(b: &[u8], end: usize, at: usize, max: u32) -> Number
 }
 
 // A number below `known`.
-pub fn name_below(b: &[u8], end: usize, at: usize, known: u32) -> Name
-    requires { ⌜ (end ≤ length (now b)) × (at ≤ end) ⌝ }
-    ensures { λ r. ⌜ Names known (now (b .entry)) end at r ⌝ }
+pub fn name_below(f: Number, known: u32) -> Name
+    ensures { λ r. ⌜ ((b : List ℕ) (end at next : ℕ) → Reads read-u16 65535 b end at f next → Names known b end at r next) ⌝ }
 {
-    let f = read_u16(b, end, at);
     match f {
         Number::Got(x) => {
             if x < known {
@@ -144,11 +138,9 @@ fn mark_of(x: u32) -> Marked
 }
 
 // 0 (none) or 16 plus the set.
-fn read_mark(b: &[u8], end: usize, at: usize) -> Marked
-    requires { ⌜ (end ≤ length (now b)) × (at ≤ end) ⌝ }
-    ensures { λ r. ⌜ Marks (now (b .entry)) end at r ⌝ }
+fn read_mark(f: Number) -> Marked
+    ensures { λ r. ⌜ ((b : List ℕ) (end at next : ℕ) → Reads byte 255 b end at f next → Marks b end at r next) ⌝ }
 {
-    let f = read_byte(b, end, at);
     match f {
         Number::Got(x) => mark_of(x),
         Number::Missing => Marked::Wrong,
@@ -161,9 +153,11 @@ fn ref_fields(b: &[u8], end: usize, at: usize, loc: u32) -> Head
     requires { ⌜ (end ≤ length (now b)) × (at ≤ end) ⌝ }
     ensures { λ r. ⌜ ((s : d.State) → Begins (λ part. read-two (ref-tree loc) read-bool part (rest (now (b .entry)) end at)) (now (b .entry)) end r) ⌝ }
 {
-    let m = byte_to(b, end, at, 1);
+    let r = read_number(b, end, at, 1);
+    let f = r.number;
+    let m = byte_to(f, 1);
     match m {
-        Number::Got(x) => Head::Begun(Shape::Ref(0 < x, 0), loc, at + 1),
+        Number::Got(x) => Head::Begun(Shape::Ref(0 < x, 0), loc, r.next),
         Number::Missing => Head::Broken,
     }
 }
@@ -172,15 +166,17 @@ fn param_fields(b: &[u8], end: usize, at: usize, loc: u32) -> Head
     requires { ⌜ (end ≤ length (now b)) × (at ≤ end) ⌝ }
     ensures { λ r. ⌜ ((s : d.State) → Begins (λ part. read-two (param-tree loc) read-u32 (byte-if is-set) (rest (now (b .entry)) end at)) (now (b .entry)) end r) ⌝ }
 {
-    let i = read_u32(b, end, at);
+    let r = read_numbers(b, end, at, 4, 1);
+    let i = r.first;
+    let f = r.second;
     match i {
         Number::Got(id) => {
-            let a = byte_to(b, end, at + 4, 15);
+            let a = byte_to(f, 15);
             match a {
                 Number::Got(x) => Head::Begun(
                     Shape::Param(TParamID(id), AbilitySet(x as u8)),
                     loc,
-                    at + 4 + 1,
+                    r.next,
                 ),
                 Number::Missing => Head::Broken,
             }
@@ -220,12 +216,15 @@ fn builtin_fields(b: &[u8], end: usize, at: usize, loc: u32) -> Head
     requires { ⌜ (end ≤ length (now b)) × (at ≤ end) ⌝ }
     ensures { λ r. ⌜ ((s : d.State) → Begins (λ part. read-apply s part loc byte d.Builtin malformed (rest (now (b .entry)) end at)) (now (b .entry)) end r) ⌝ }
 {
-    let m = read_mark(b, end, at);
+    let r = read_numbers(b, end, at, 1, 1);
+    let f = r.first;
+    let g = r.second;
+    let m = read_mark(f);
     match m {
         Marked::With(k) => {
-            let n = byte_to(b, end, at + 1, 6);
+            let n = byte_to(g, 6);
             match n {
-                Number::Got(x) => builtin_head(k, x, loc, at + 1 + 1),
+                Number::Got(x) => builtin_head(k, x, loc, r.next),
                 Number::Missing => Head::Broken,
             }
         }
@@ -237,15 +236,18 @@ fn list_fields(b: &[u8], end: usize, at: usize, loc: u32) -> Head
     requires { ⌜ (end ≤ length (now b)) × (at ≤ end) ⌝ }
     ensures { λ r. ⌜ ((s : d.State) → Begins (λ part. read-apply s part loc byte d.Multiple malformed (rest (now (b .entry)) end at)) (now (b .entry)) end r) ⌝ }
 {
-    let m = read_mark(b, end, at);
+    let r = read_numbers(b, end, at, 1, 1);
+    let f = r.first;
+    let g = r.second;
+    let m = read_mark(f);
     match m {
         Marked::With(k) => {
-            let n = byte_to(b, end, at + 1, 8);
+            let n = byte_to(g, 8);
             match n {
                 Number::Got(x) => Head::Begun(
                     Shape::Apply(k, TypeName::Multiple(x), 0, x),
                     loc,
-                    at + 1 + 1,
+                    r.next,
                 ),
                 Number::Missing => Head::Broken,
             }
@@ -258,9 +260,11 @@ fn var_fields(b: &[u8], end: usize, at: usize, known: u32, loc: u32) -> Head
     requires { ⌜ (end ≤ length (now b)) × ((at ≤ end) × (known ≤ 1024)) ⌝ }
     ensures { λ r. ⌜ ((s : d.State) → taken s ≡ known → Begins (λ part. read-one (var-tree loc) (name-below (taken s)) (rest (now (b .entry)) end at)) (now (b .entry)) end r) ⌝ }
 {
-    let n = name_below(b, end, at, known);
+    let r = read_number(b, end, at, 2);
+    let f = r.number;
+    let n = name_below(f, known);
     match n {
-        Name::Known(x) => Head::Begun(Shape::Var(TVar(x as u16)), loc, at + 2),
+        Name::Known(x) => Head::Begun(Shape::Var(TVar(x as u16)), loc, r.next),
         Name::Cut => Head::Broken,
         Name::Unknown => Head::Unnamed,
     }
@@ -271,11 +275,14 @@ fn struct_fields(w: &[u32], u: Used, b: &[u8], end: usize, at: usize, loc: u32) 
     requires { ⌜ (end ≤ length (now b)) × (at ≤ end) ⌝ }
     ensures { λ r. ⌜ ((s : d.State) → Declares (now (w .entry)) u (s .structs) → Begins (λ part. read-apply s part loc read-u16 d.ModuleType d.unknown-name (rest (now (b .entry)) end at)) (now (b .entry)) end r) ⌝ }
 {
-    let m = read_mark(b, end, at);
+    let r = read_numbers(b, end, at, 1, 2);
+    let f = r.first;
+    let g = r.second;
+    let m = read_mark(f);
     match m {
         Marked::With(k) => {
             let known = u.structs;
-            let n = name_below(b, end, at + 1, known);
+            let n = name_below(g, known);
             match n {
                 Name::Known(x) => {
                     let row = struct_at(w, u, x);
@@ -283,7 +290,7 @@ fn struct_fields(w: &[u32], u: Used, b: &[u8], end: usize, at: usize, loc: u32) 
                     Head::Begun(
                         Shape::Apply(k, TypeName::ModuleType(x), 0, many),
                         loc,
-                        at + 1 + 2,
+                        r.next,
                     )
                 }
                 Name::Cut => Head::Broken,
@@ -347,15 +354,15 @@ fn read_head(w: &[u32], u: Used, b: &[u8], end: usize, at: usize, known: u32, ne
     if nest == 0 {
         return Head::Broken;
     }
-    let t = byte_to(b, end, at, 8);
+    let r = read_numbers(b, end, at, 1, 4);
+    let f = r.first;
+    let l = r.second;
+    let t = byte_to(f, 8);
     match t {
-        Number::Got(tag) => {
-            let l = read_u32(b, end, at + 1);
-            match l {
-                Number::Got(loc) => fields(w, u, b, end, at + 1 + 4, known, tag, loc),
-                Number::Missing => Head::Broken,
-            }
-        }
+        Number::Got(tag) => match l {
+            Number::Got(loc) => fields(w, u, b, end, r.next, known, tag, loc),
+            Number::Missing => Head::Broken,
+        },
         Number::Missing => Head::Broken,
     }
 }
@@ -407,7 +414,7 @@ fn part_found(f: Found) -> Part
     }
 }
 
-fn stops(p: Part) -> bool
+pub fn stops(p: Part) -> bool
     ensures { λ r. ⌜ r ≡ is-stop p ⌝ }
 {
     match p {
@@ -418,7 +425,7 @@ fn stops(p: Part) -> bool
     }
 }
 
-fn no_space(p: Part) -> bool
+pub fn no_space(p: Part) -> bool
     ensures { λ r. ⌜ r ≡ is-over p ⌝ }
 {
     match p {
@@ -429,7 +436,7 @@ fn no_space(p: Part) -> bool
     }
 }
 
-fn node_of(p: Part) -> u32
+pub fn node_of(p: Part) -> u32
     ensures { λ r. ⌜ r ≡ node-in p ⌝ }
 {
     match p {

@@ -186,37 +186,37 @@ unknown-is w u b end known at m mark l a e = fields-none w u b end known m _ l r
 
 -- ---- numbers, and a type or none
 
-module _ (w : List ℕ) (u : Used) (b : List ℕ) (end known at : ℕ) where
-  pub loc-is : (loc : ℕ) (mark : RecordMark) (make : ℕ → Record) → Loc mark make → Lay w u → at + 4 ≤ end → rd.got loc (rest b end (at + 4)) ≡ read-u32 (rest b end at)
-      → Fields-are w u b end known (λ s. read-one make read-u32 (rest b end at)) w (plain-fields mark (At 0) u (at + 4) loc 0)
+module _ (w : List ℕ) (u : Used) (b : List ℕ) (end known at next : ℕ) where
+  pub loc-is : (loc : ℕ) (mark : RecordMark) (make : ℕ → Record) → Loc mark make → Lay w u → next ≤ end → rd.got loc (rest b end next) ≡ read-u32 (rest b end at)
+      → Fields-are w u b end known (λ s. read-one make read-u32 (rest b end at)) w (plain-fields mark (At 0) u next loc 0)
   unfolding place-read read-one rd._>>=_ go-on give
   loc-is loc mark make o l a e =
       fields-none w u b end known _ _ l refl a (o .inside _ _ _ _ _ _ _)
-      (λ s s′ ds k. ap (λ (x : Noded). placed (ok (s′, x)) (rest b end (at + 4))) (o .shows _ _ _ _ _) ∙ ap (λ (q : Result (State × Noded)). placed q (rest b end (at + 4))) (sym (o .places loc s′))
+      (λ s s′ ds k. ap (λ (x : Noded). placed (ok (s′, x)) (rest b end next)) (o .shows _ _ _ _ _) ∙ ap (λ (q : Result (State × Noded)). placed q (rest b end next)) (sym (o .places loc s′))
       ∙ ap (λ (x : Read ℕ). place-read false place-record (go-on x (λ loc. give (make loc))) s′) e)
 
-  pub sn-is : (v loc : ℕ) → Lay w u → v < known → at + 2 + 4 ≤ end → rd.got v (rest b end (at + 2)) ≡ rd.name-below known (rest b end at) → rd.got loc (rest b end (at + 2 + 4)) ≡ read-u32 (rest b end (at + 2))
-      → Fields-are w u b end known (λ s. read-two d.SN (name-below (taken s)) read-u32 (rest b end at)) w (plain-fields m.SN (At 0) u (at + 2 + 4) v loc)
+  pub sn-is : (v loc middle : ℕ) → Lay w u → v < known → next ≤ end → rd.got v (rest b end middle) ≡ rd.name-below known (rest b end at) → rd.got loc (rest b end next) ≡ read-u32 (rest b end middle)
+      → Fields-are w u b end known (λ s. read-two d.SN (name-below (taken s)) read-u32 (rest b end at)) w (plain-fields m.SN (At 0) u next v loc)
   unfolding place-read place-record read-two rd._>>=_ go-on give
-  sn-is v loc l below a e f = fields-none w u b end known _ _ l refl a below (λ s s′ ds k. rw (k .vars, ← e, ← f) refl)
+  sn-is v loc middle l below a e f = fields-none w u b end known _ _ l refl a below (λ s s′ ds k. rw (k .vars, ← e, ← f) refl)
 
-  pub loc-type-is : (w′ : List ℕ) (r : Fields) (loc : ℕ) (make : ℕ → Tree → Record) → rd.got loc (rest b end (at + 4)) ≡ read-u32 (rest b end at)
-      → Fields-are w u b end known (λ s. go-on (read-type s (rest b end (at + 4))) (λ t. give (make loc t))) w′ r → Fields-are w u b end known (λ s. read-two make read-u32 (read-type s) (rest b end at)) w′ r
+  pub loc-type-is : (w′ : List ℕ) (r : Fields) (loc : ℕ) (make : ℕ → Tree → Record) → rd.got loc (rest b end next) ≡ read-u32 (rest b end at)
+      → Fields-are w u b end known (λ s. go-on (read-type s (rest b end next)) (λ t. give (make loc t))) w′ r → Fields-are w u b end known (λ s. read-two make read-u32 (read-type s) (rest b end at)) w′ r
   unfolding read-two rd._>>=_ go-on
   loc-type-is w′ r loc make e f = fields-is w u b end known _ _ w′ r (λ ds s d k. rw (← e) refl) f
 
-  pub nc-is : (w′ : List ℕ) (r : Fields) (loc x : ℕ) → rd.got loc (rest b end (at + 4)) ≡ read-u32 (rest b end at) → rd.got x (rest b end (at + 4 + 1)) ≡ rd.byte-to 2 (rest b end (at + 4))
-      → Fields-are w u b end known (λ s. go-on (read-type s (rest b end (at + 4 + 1))) (λ t. give (d.NC loc (n.kind x) t))) w′ r → Fields-are w u b end known (λ s. read-three d.NC read-u32 read-kind (read-type s) (rest b end at)) w′ r
+  pub nc-is : (w′ : List ℕ) (r : Fields) (loc x middle : ℕ) → rd.got loc (rest b end middle) ≡ read-u32 (rest b end at) → rd.got x (rest b end next) ≡ rd.byte-to 2 (rest b end middle)
+      → Fields-are w u b end known (λ s. go-on (read-type s (rest b end next)) (λ t. give (d.NC loc (n.kind x) t))) w′ r → Fields-are w u b end known (λ s. read-three d.NC read-u32 read-kind (read-type s) (rest b end at)) w′ r
   unfolding read-three d.read-kind read-one n.kind rd._>>=_ go-on give
-  nc-is w′ r loc x e g f = fields-is w u b end known _ _ w′ r (λ ds s d k. rw (← e, ← g) refl) f
+  nc-is w′ r loc x middle e g f = fields-is w u b end known _ _ w′ r (λ ds s d k. rw (← e, ← g) refl) f
 
-  pub sd-is : (r : Fields) (a n : ℕ) → rd.got a (rest b end (at + 1)) ≡ rd.byte-to 15 (rest b end at) → rd.got n (rest b end (at + 1 + 1)) ≡ rd.byte-to 8 (rest b end (at + 1))
-      → Fields-are w u b end known (λ s. go-on (rd.times n (rd.byte-to 31) (rest b end (at + 1 + 1))) (λ params. give (d.SD a params))) w r → Fields-are w u b end known (λ s. read-SD s (rest b end at)) w r
+  pub sd-is : (r : Fields) (a n middle : ℕ) → rd.got a (rest b end middle) ≡ rd.byte-to 15 (rest b end at) → rd.got n (rest b end next) ≡ rd.byte-to 8 (rest b end middle)
+      → Fields-are w u b end known (λ s. go-on (rd.times n (rd.byte-to 31) (rest b end next)) (λ params. give (d.SD a params))) w r → Fields-are w u b end known (λ s. read-SD s (rest b end at)) w r
   unfolding read-SD rd._>>=_ go-on
-  sd-is r a n e g f = fields-is w u b end known _ _ w r (λ ds s d k. rw (← e, ← g) refl) f
+  sd-is r a n middle e g f = fields-is w u b end known _ _ w r (λ ds s d k. rw (← e, ← g) refl) f
 
-  pub ts-is : (w′ : List ℕ) (r : Fields) (n : ℕ) → rd.got n (rest b end (at + 1)) ≡ rd.byte-to 8 (rest b end at)
-      → Fields-are w u b end known (λ s. go-on (rd.times n (read-pair s) (rest b end (at + 1))) (λ pairs l. go-on (read-type s l) (λ t. give (d.TS pairs t)))) w′ r
+  pub ts-is : (w′ : List ℕ) (r : Fields) (n : ℕ) → rd.got n (rest b end next) ≡ rd.byte-to 8 (rest b end at)
+      → Fields-are w u b end known (λ s. go-on (rd.times n (read-pair s) (rest b end next)) (λ pairs l. go-on (read-type s l) (λ t. give (d.TS pairs t)))) w′ r
       → Fields-are w u b end known (λ s. read-TS s (rest b end at)) w′ r
   unfolding read-TS rd._>>=_ go-on
   ts-is w′ r n e f = fields-is w u b end known _ _ w′ r (λ ds s d k. rw (← e) refl) f

@@ -1,4 +1,4 @@
--- A mark's two bytes: where they stand, and compared with one mark after the other. Assumes nothing.
+-- A mark's two bytes: read, and compared with one mark after the other. Assumes nothing.
 use mathlib.Core.Path.{_≡_, refl, sym, ap, _∙_}
 use mathlib.Core.Bool.{true, false, _&&_}
 use mathlib.Core.List.{List, [], _∷_}
@@ -35,18 +35,7 @@ no-mark x y = refl
 
 -- ---- the mark's bytes
 
-fields-short : (s : State) (l : Bytes) → length l < 2 → not-read malformed ≡ read-fields s l
-unfolding read-fields _>>=_ go-on byte
-fields-short s [] h = refl
-fields-short s (x ∷ []) h = refl
-fields-short s (x ∷ y ∷ l) h = absurd (omega arith)
-
-module _ (b : List ℕ) (end at : ℕ) (fits : end ≤ length b) (s : State) where
-  pub mark-missing : end - at < 2 → not-read malformed ≡ read-fields s (rest b end at)
-  mark-missing h = fields-short s (rest b end at) (rw (rest-length b end fits at) h)
-
-  pub mark-there : at + 2 ≤ end → (f : Reader Record) → f ≡ fields-of (by-mark s) (getD b at 0) (getD b (at + 1) 0) → f (rest b end (at + 2)) ≡ read-fields s (rest b end at)
-  unfolding read-fields _>>=_ go-on byte
-  mark-there h f e =
-      let z : at + 1 + 1 ≡ at + 2 = omega arith in
-      rw (rest-one b end fits at (omega arith), rest-one b end fits (at + 1) (omega arith), z, e) refl
+module _ (s : State) (x y : ℕ) (l l₁ l₂ : Bytes) where
+  pub mark-there : got x l₁ ≡ byte l → got y l₂ ≡ byte l₁ → (f : Reader Record) → f ≡ fields-of (by-mark s) x y → f l₂ ≡ read-fields s l
+  unfolding read-fields _>>=_ go-on
+  mark-there e e₁ f k = rw (← e, ← e₁, k) refl

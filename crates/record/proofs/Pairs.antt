@@ -190,7 +190,7 @@ module _ (w₀ : List ℕ) (u₀ : Used) (b : List ℕ) (end known n at : ℕ) (
             ∙ sym (turn-is l ds s d k);
       }
 
-  module _ (id : ℕ) (e : got id (rest b end (next + 4)) ≡ read-u32 (rest b end next)) (w′ : List ℕ) (r : Taken) (t : Takes w u b end known over (λ s. read-nested 64 s (rest b end (next + 4))) w′ r) (l : i < n) where
+  module _ (id after-id : ℕ) (e : got id (rest b end after-id) ≡ read-u32 (rest b end next)) (w′ : List ℕ) (r : Taken) (t : Takes w u b end known over (λ s. read-nested 64 s (rest b end after-id)) w′ r) (l : i < n) where
     abbrev one : Tree → Left → Left
     one t c = ((id, t) ∷ c .0, c .1)
 
@@ -198,10 +198,10 @@ module _ (w₀ : List ℕ) (u₀ : Used) (b : List ℕ) (end known n at : ℕ) (
     after x c s = put-left (pairs ids nodes 0 i ++ ((id, x) ∷ [])) c s
 
     pair-is : (ds : List Struct) (s : State) → Declares w₀ u₀ ds → Knows s known ds → place-read false place-record (read-all s) (seen w₀ u₀ ds)
-        ≡ place-read over (put-left (pairs ids nodes 0 i)) (go-on (read-nested 64 s (rest b end (next + 4))) (λ t l. go-on (left-at s (n - (i + 1)) l) (λ c. give (one t c)))) (seen w u ds)
+        ≡ place-read over (put-left (pairs ids nodes 0 i)) (go-on (read-nested 64 s (rest b end after-id)) (λ t l. go-on (left-at s (n - (i + 1)) l) (λ c. give (one t c)))) (seen w u ds)
     unfolding read-type
     pair-is ds s d k =
-        turn-is l ds s d k ∙ ap (λ (x : Read Left). place-read over (put-left (pairs ids nodes 0 i)) x (seen w u ds)) (left-more s (n - (i + 1)) id (rest b end next) (rest b end (next + 4)) e)
+        turn-is l ds s d k ∙ ap (λ (x : Read Left). place-read over (put-left (pairs ids nodes 0 i)) x (seen w u ds)) (left-more s (n - (i + 1)) id (rest b end next) (rest b end after-id) e)
 
     pub pairs-stop : is-stop (r .part) ≡ true → Fields-are w₀ u₀ b end known read-all w′ (plain-fields m.TS (r .part) (r .used) (r .next) 0 0)
     pairs-stop st =
@@ -212,7 +212,7 @@ module _ (w₀ : List ℕ) (u₀ : Used) (b : List ℕ) (end known n at : ℕ) (
           inside = stop-so (r .part) _ st;
           within = t .within;
           is = λ ds s d k.
-              type-stops (put-left (pairs ids nodes 0 i)) one after (put-one (pairs ids nodes 0 i) id) (left-at s (n - (i + 1))) (r .part) over (read-nested 64 s (rest b end (next + 4))) (seen w u ds)
+              type-stops (put-left (pairs ids nodes 0 i)) one after (put-one (pairs ids nodes 0 i) id) (left-at s (n - (i + 1))) (r .part) over (read-nested 64 s (rest b end after-id)) (seen w u ds)
               (seen w′ (r .used) ds) (rest b end (r .next)) (t .is ds s (declares-kept w₀ u₀ w u ds (g .structs) d) k) st _
               ∙ sym (pair-is ds s d k);
         }
@@ -252,7 +252,7 @@ module _ (w₀ : List ℕ) (u₀ : Used) (b : List ℕ) (end known n at : ℕ) (
           below = λ o. here lt o st;
           is = λ ds s d k.
               left-is s n (rest b end at) (seen w₀ u₀ ds) ∙ pair-is ds s d k
-              ∙ first-type (put-left (pairs ids nodes 0 i)) one after (put-one (pairs ids nodes 0 i) id) (left-at s (n - (i + 1))) (r .part) over (read-nested 64 s (rest b end (next + 4))) (seen w u ds)
+              ∙ first-type (put-left (pairs ids nodes 0 i)) one after (put-one (pairs ids nodes 0 i) id) (left-at s (n - (i + 1))) (r .part) over (read-nested 64 s (rest b end after-id)) (seen w u ds)
               (seen w′ (r .used) ds) (rest b end (r .next)) (t .is ds s (declares-kept w₀ u₀ w u ds (g .structs) d) k) st
               ∙ ap (λ (xs : List (ℕ × ℕ)). place-read (is-over (r .part)) (put-left xs) (left-at s (n - (i + 1)) (rest b end (r .next))) (seen w′ (r .used) ds))
               (sym (pairs-more ids nodes i id (node-in (r .part)) lt′ lt));

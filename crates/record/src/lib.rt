@@ -13,7 +13,7 @@ ghost use Rattle.definition.specs.Trees.{Tree, read-type};
 ghost use Rattle.definition.specs.Record.{Record, SD, SN, TS, NC, by-mark, fields-of, read-fields, read-SD, read-pair, read-TS, read-kind};
 ghost use Rattle.table.specs.State.{view, Lay};
 ghost use Rattle.reader.specs.Fields.{rest};
-ghost use Rattle.reader.specs.Taken.{Arities, is-stop, is-over, node-in};
+ghost use Rattle.reader.specs.Taken.{Arities};
 ghost use Rattle.record.specs.Noded.{reader-of, Fields-are, Record-is, plain-fields, paired-fields, One, Two, Loc};
 use reader::Name;
 use reader::Number;
@@ -21,8 +21,12 @@ use reader::Part;
 use reader::Taken;
 use reader::byte_to;
 use reader::name_below;
+use reader::no_space;
+use reader::node_of;
+use reader::read_number;
+use reader::read_numbers;
 use reader::read_type;
-use reader::read_u32;
+use reader::stops;
 use table::Used;
 
 // The two bytes that a record begins with, or others.
@@ -72,39 +76,6 @@ fn plain(mark: RecordMark, part: Part, u: Used, next: usize, a: u32, b: u32) -> 
         params: [0; 8],
         ids: [0; 8],
         nodes: [0; 8],
-    }
-}
-
-fn stops(p: Part) -> bool
-    ensures { λ r. ⌜ r ≡ is-stop p ⌝ }
-{
-    match p {
-        Part::At(_) => false,
-        Part::Full => false,
-        Part::Malformed => true,
-        Part::Unknown => true,
-    }
-}
-
-fn no_space(p: Part) -> bool
-    ensures { λ r. ⌜ r ≡ is-over p ⌝ }
-{
-    match p {
-        Part::At(_) => false,
-        Part::Full => true,
-        Part::Malformed => false,
-        Part::Unknown => false,
-    }
-}
-
-fn node_of(p: Part) -> u32
-    ensures { λ r. ⌜ r ≡ node-in p ⌝ }
-{
-    match p {
-        Part::At(t) => t,
-        Part::Full => 0,
-        Part::Malformed => 0,
-        Part::Unknown => 0,
     }
 }
 
@@ -165,9 +136,10 @@ fn read_loc(u: Used, b: &[u8], end: usize, at: usize, mark: RecordMark) -> Field
     requires { ⌜ (end ≤ length (now b)) × (at ≤ end) ⌝ }
     ensures { λ r. ⌜ ((make : ℕ → Record) → Loc mark make → (w : List ℕ) (known : ℕ) → Lay w u → Fields-are w u (now (b .entry)) end known (λ s. read-one make read-u32 (rest (now (b .entry)) end at)) w r) ⌝ }
 {
-    let l = read_u32(b, end, at);
+    let r = read_number(b, end, at, 4);
+    let l = r.number;
     match l {
-        Number::Got(loc) => plain(mark, Part::At(0), u, at + 4, loc, 0),
+        Number::Got(loc) => plain(mark, Part::At(0), u, r.next, loc, 0),
         Number::Missing => plain(mark, Part::Malformed, u, at, 0, 0),
     }
 }
@@ -176,15 +148,15 @@ fn read_sn(u: Used, b: &[u8], end: usize, at: usize, known: u32) -> Fields
     requires { ⌜ (end ≤ length (now b)) × (at ≤ end) ⌝ }
     ensures { λ r. ⌜ ((w : List ℕ) → Lay w u → Fields-are w u (now (b .entry)) end known (λ s. read-two SN (name-below (taken s)) read-u32 (rest (now (b .entry)) end at)) w r) ⌝ }
 {
-    let n = name_below(b, end, at, known);
+    let r = read_numbers(b, end, at, 2, 4);
+    let f = r.first;
+    let l = r.second;
+    let n = name_below(f, known);
     match n {
-        Name::Known(v) => {
-            let l = read_u32(b, end, at + 2);
-            match l {
-                Number::Got(loc) => plain(RecordMark::SN, Part::At(0), u, at + 2 + 4, v, loc),
-                Number::Missing => plain(RecordMark::SN, Part::Malformed, u, at, 0, 0),
-            }
-        }
+        Name::Known(v) => match l {
+            Number::Got(loc) => plain(RecordMark::SN, Part::At(0), u, r.next, v, loc),
+            Number::Missing => plain(RecordMark::SN, Part::Malformed, u, at, 0, 0),
+        },
         Name::Cut => plain(RecordMark::SN, Part::Malformed, u, at, 0, 0),
         Name::Unknown => plain(RecordMark::SN, Part::Unknown, u, at, 0, 0),
     }
@@ -204,9 +176,10 @@ fn read_loc_type(
     requires { ⌜ (end ≤ length (now b)) × ((at ≤ end) × (known ≤ 1024)) ⌝ }
     ensures { λ r. ⌜ ((make : ℕ → Tree → Record) → ((loc : ℕ) → One mark loc 0 (make loc)) → Fields-are (now (w .entry)) u (now (b .entry)) end known (λ s. read-two make read-u32 (read-type s) (rest (now (b .entry)) end at)) (now (w .exit)) r) ⌝ }
 {
-    let l = read_u32(b, end, at);
+    let r = read_number(b, end, at, 4);
+    let l = r.number;
     match l {
-        Number::Got(loc) => read_one(w, u, b, end, at + 4, known, mark, loc, 0),
+        Number::Got(loc) => read_one(w, u, b, end, r.next, known, mark, loc, 0),
         Number::Missing => plain(mark, Part::Malformed, u, at, 0, 0),
     }
 }
@@ -216,17 +189,19 @@ fn read_nc(w: &mut [u32], u: Used, b: &[u8], end: usize, at: usize, known: u32) 
     requires { ⌜ (end ≤ length (now b)) × ((at ≤ end) × (known ≤ 1024)) ⌝ }
     ensures { λ r. ⌜ Fields-are (now (w .entry)) u (now (b .entry)) end known (λ s. read-three NC read-u32 read-kind (read-type s) (rest (now (b .entry)) end at)) (now (w .exit)) r ⌝ }
 {
-    let l = read_u32(b, end, at);
+    let r = read_numbers(b, end, at, 4, 1);
+    let l = r.first;
+    let f = r.second;
     match l {
         Number::Got(loc) => {
-            let k = byte_to(b, end, at + 4, 2);
+            let k = byte_to(f, 2);
             match k {
                 Number::Got(kind) => read_one(
                     w,
                     u,
                     b,
                     end,
-                    at + 4 + 1,
+                    r.next,
                     known,
                     RecordMark::NC,
                     loc,
@@ -247,20 +222,24 @@ fn read_params(u: Used, b: &[u8], end: usize, at: usize, abilities: u32, many: u
 {
     let n = many as usize;
     let mut params: [u8; 8] = [0; 8];
+    let mut next = at;
     let mut i: usize = 0;
     while i < n {
-        let p = byte_to(b, end, at + i, 31);
+        let r = read_number(b, end, next, 1);
+        let f = r.number;
+        let p = byte_to(f, 31);
         let Number::Got(x) = p else {
             return plain(RecordMark::SD, Part::Malformed, u, at, 0, 0);
         };
         params[i] = x as u8;
+        next = r.next;
         i = i + 1;
     }
     Fields {
         mark: RecordMark::SD,
         part: Part::At(0),
         used: u,
-        next: at + n,
+        next: next,
         a: abilities,
         b: many,
         params: params,
@@ -273,12 +252,15 @@ fn read_sd(u: Used, b: &[u8], end: usize, at: usize) -> Fields
     requires { ⌜ (end ≤ length (now b)) × (at ≤ end) ⌝ }
     ensures { λ r. ⌜ ((w : List ℕ) (known : ℕ) → Lay w u → Fields-are w u (now (b .entry)) end known (λ s. read-SD s (rest (now (b .entry)) end at)) w r) ⌝ }
 {
-    let a = byte_to(b, end, at, 15);
+    let r = read_numbers(b, end, at, 1, 1);
+    let f = r.first;
+    let g = r.second;
+    let a = byte_to(f, 15);
     match a {
         Number::Got(abilities) => {
-            let n = byte_to(b, end, at + 1, 8);
+            let n = byte_to(g, 8);
             match n {
-                Number::Got(many) => read_params(u, b, end, at + 1 + 1, abilities, many),
+                Number::Got(many) => read_params(u, b, end, r.next, abilities, many),
                 Number::Missing => plain(RecordMark::SD, Part::Malformed, u, at, 0, 0),
             }
         }
@@ -325,14 +307,15 @@ fn read_pairs(
     let mut nodes: [u32; 8] = [0; 8];
     let mut i: usize = 0;
     while i < n {
-        let l = read_u32(b, end, next);
+        let r = read_number(b, end, next, 4);
+        let l = r.number;
         let Number::Got(id) = l else {
             return plain(RecordMark::TS, Part::Malformed, used, next, 0, 0);
         };
-        let r = read_type(w, used, b, end, next + 4, known, 64, over);
-        let p = r.part;
-        used = r.used;
-        next = r.next;
+        let t = read_type(w, used, b, end, r.next, known, 64, over);
+        let p = t.part;
+        used = t.used;
+        next = t.next;
         if stops(p) {
             return plain(RecordMark::TS, p, used, next, 0, 0);
         }
@@ -352,23 +335,25 @@ fn read_ts(w: &mut [u32], u: Used, b: &[u8], end: usize, at: usize, known: u32) 
     requires { ⌜ (end ≤ length (now b)) × ((at ≤ end) × (known ≤ 1024)) ⌝ }
     ensures { λ r. ⌜ Fields-are (now (w .entry)) u (now (b .entry)) end known (λ s. read-TS s (rest (now (b .entry)) end at)) (now (w .exit)) r ⌝ }
 {
-    let n = byte_to(b, end, at, 8);
+    let r = read_number(b, end, at, 1);
+    let f = r.number;
+    let n = byte_to(f, 8);
     match n {
-        Number::Got(many) => read_pairs(w, u, b, end, at + 1, known, many),
+        Number::Got(many) => read_pairs(w, u, b, end, r.next, known, many),
         Number::Missing => plain(RecordMark::TS, Part::Malformed, u, at, 0, 0),
     }
 }
 
 // ---- the mark
 
-fn same(x: u8, y: u8, a: u8, c: u8) -> bool
+fn same(x: u32, y: u32, a: u32, c: u32) -> bool
     ensures { λ r. ⌜ r ≡ (eqb x a && eqb y c) ⌝ }
 {
     if x == a { y == c } else { false }
 }
 
 // The last seven of the marks.
-fn late_mark(x: u8, y: u8) -> RecordMark
+fn late_mark(x: u32, y: u32) -> RecordMark
     ensures { λ r. ⌜ ((s : d.State) → reader-of r s ≡ fields-of (drop 7 (by-mark s)) x y) ⌝ }
 {
     if same(x, y, 82, 68) {
@@ -396,7 +381,7 @@ fn late_mark(x: u8, y: u8) -> RecordMark
 }
 
 // In ASCII.
-fn mark_of(x: u8, y: u8) -> RecordMark
+fn mark_of(x: u32, y: u32) -> RecordMark
     ensures { λ r. ⌜ ((s : d.State) → reader-of r s ≡ fields-of (by-mark s) x y) ⌝ }
 {
     if same(x, y, 83, 68) {
@@ -464,11 +449,17 @@ fn read_fields(w: &mut [u32], u: Used, b: &[u8], end: usize, at: usize, known: u
     requires { ⌜ (end ≤ length (now b)) × ((at ≤ end) × (known ≤ 1024)) ⌝ }
     ensures { λ r. ⌜ Fields-are (now (w .entry)) u (now (b .entry)) end known (λ s. read-fields s (rest (now (b .entry)) end at)) (now (w .exit)) r ⌝ }
 {
-    if end - at < 2 {
+    let r = read_numbers(b, end, at, 1, 1);
+    let f = r.first;
+    let g = r.second;
+    let Number::Got(x) = f else {
         return plain(RecordMark::Other, Part::Malformed, u, at, 0, 0);
-    }
-    let m = mark_of(b[at], b[at + 1]);
-    fields_of(w, u, b, end, at + 2, known, m)
+    };
+    let Number::Got(y) = g else {
+        return plain(RecordMark::Other, Part::Malformed, u, at, 0, 0);
+    };
+    let m = mark_of(x, y);
+    fields_of(w, u, b, end, r.next, known, m)
 }
 
 // Where the bytes of a record end at the latest: byte 4,097 is never read.

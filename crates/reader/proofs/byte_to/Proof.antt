@@ -6,9 +6,6 @@ use borrow.Author.Needs.{needs}
 use Rattle.reader.proofs.byte_to.Statement.{statement}
 use Rattle.reader.proofs.byte_to.Tie as tie
 
-read-byte-requires : tie.Need-read-byte-requires
-read-byte-requires c κs = search needs
-
 enum-known-f : tie.Need-enum-known-f
 enum-known-f c = search needs
 
@@ -17,16 +14,15 @@ enum-told c = search needs
 
 returns : tie.Need-returns
 unfolding byte-if _>>=_ go-on give refuse
-returns c = record { is = rw (← c .before .before .before .before .read-byte .ensures .is, c .before .before .f .given .1, le-leb _ _ (c .if1 .taken)) refl; within = (c .if1 .taken, (rw (c .before .before .f .given .1) at (c .before .before .before .before .read-byte .ensures .within)) .1) }
+returns c = λ b end at next r. record { is = rw (← r .is, c .before .before .f .given .1, le-leb _ _ (c .if1 .taken)) refl; most = c .if1 .taken; within = r .within }
 
 returns-2 : tie.Need-returns-2
 unfolding byte-if _>>=_ go-on give refuse
-returns-2 c = record { is = rw (← c .before .before .before .before .read-byte .ensures .is, c .before .before .f .given .1, lt-leb _ _ (c .if1 .left)) refl; within = tt }
+returns-2 c = λ b end at next r. record { is = rw (← r .is, c .before .before .f .given .1, lt-leb _ _ (c .if1 .left)) refl; most = tt; within = r .within }
 
 returns-3 : tie.Need-returns-3
 unfolding byte-if _>>=_ go-on give refuse
-returns-3 c = record { is = rw (← c .before .before .read-byte .ensures .is, c .enum-told .given .1) refl; within = tt }
+returns-3 c = λ b end at next r. record { is = rw (← r .is, c .enum-told .given .1) refl; most = tt; within = r .within }
 
 pub byte-to-spec : {M : Type 1} → statement M
-byte-to-spec =
-    tie.close (tie.spec read-byte-requires enum-known-f enum-told returns returns-2 returns-3)
+byte-to-spec = tie.close (tie.spec enum-known-f enum-told returns returns-2 returns-3)

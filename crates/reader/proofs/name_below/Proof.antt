@@ -6,9 +6,6 @@ use borrow.Author.Needs.{needs}
 use Rattle.reader.proofs.name_below.Statement.{statement}
 use Rattle.reader.proofs.name_below.Tie as tie
 
-read-u16-requires : tie.Need-read-u16-requires
-read-u16-requires c κs = search needs
-
 enum-known-f : tie.Need-enum-known-f
 enum-known-f c = search needs
 
@@ -17,16 +14,15 @@ enum-told c = search needs
 
 returns : tie.Need-returns
 unfolding name-below _>>=_ go-on give refuse
-returns c = record { is = rw (← c .before .before .before .before .read-u16 .ensures .is, c .before .before .f .given .1, lt-ltb _ _ (c .if1 .taken)) refl; within = (c .if1 .taken, (rw (c .before .before .f .given .1) at (c .before .before .before .before .read-u16 .ensures .within)) .1) }
+returns c = λ b end at next r. record { is = rw (← r .is, c .before .before .f .given .1, lt-ltb _ _ (c .if1 .taken)) refl; below = c .if1 .taken; within = r .within }
 
 returns-2 : tie.Need-returns-2
 unfolding name-below _>>=_ go-on give refuse
-returns-2 c = record { is = rw (← c .before .before .before .before .read-u16 .ensures .is, c .before .before .f .given .1, le-ltb _ _ (c .if1 .left)) refl; within = tt }
+returns-2 c = λ b end at next r. record { is = rw (← r .is, c .before .before .f .given .1, le-ltb _ _ (c .if1 .left)) refl; below = tt; within = r .within }
 
 returns-3 : tie.Need-returns-3
 unfolding name-below _>>=_ go-on give refuse
-returns-3 c = record { is = rw (← c .before .before .read-u16 .ensures .is, c .enum-told .given .1) refl; within = tt }
+returns-3 c = λ b end at next r. record { is = rw (← r .is, c .enum-told .given .1) refl; below = tt; within = r .within }
 
 pub name-below-spec : {M : Type 1} → statement M
-name-below-spec =
-    tie.close (tie.spec read-u16-requires enum-known-f enum-told returns returns-2 returns-3)
+name-below-spec = tie.close (tie.spec enum-known-f enum-told returns returns-2 returns-3)

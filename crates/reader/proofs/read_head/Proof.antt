@@ -4,6 +4,7 @@ use Prim.Native.Nat.{_<_}
 use native.Mathlib.Omega.{arith}
 use mathlib.Core.Path.{refl}
 use Rattle.definition.specs.Reader.{go-on}
+use Rattle.reader.specs.Fields.{byte-wide, u32-wide}
 use borrow.Author.Needs.{needs}
 use Rattle.reader.proofs.read_head.Statement.{statement}
 use Rattle.reader.proofs.read_head.Tie as tie
@@ -11,29 +12,20 @@ use Rattle.reader.proofs.read_head.Tie as tie
 returns : tie.Need-returns
 returns c = (λ s ds de kn. no-nest _ s _ (c .if1 .taken), (tt, tt))
 
+read-numbers-requires : tie.Need-read-numbers-requires
+read-numbers-requires c κs = search needs
+
 byte-to-requires : tie.Need-byte-to-requires
 byte-to-requires c κs = search needs
 
 enum-known-t : tie.Need-enum-known-t
 enum-known-t c = search needs
 
-add-read-u32 : tie.Need-add-read-u32
-add-read-u32 c = search needs
-
-read-u32-requires : tie.Need-read-u32-requires
-read-u32-requires c κs = (c .before .before .before .before .before .before .before .pre .1 .0, (rw (c .before .t .given .1) at (c .before .before .before .byte-to .ensures .within)) .1)
-
 enum-known-l : tie.Need-enum-known-l
 enum-known-l c = search needs
 
-add-fields : tie.Need-add-fields
-add-fields c = search needs
-
-add-fields-2 : tie.Need-add-fields-2
-add-fields-2 c = search needs
-
 fields-requires : tie.Need-fields-requires
-fields-requires c κs = (c .before .before .before .before .before .before .before .before .before .before .before .pre .0, (c .before .before .before .before .before .before .before .before .before .before .before .pre .1 .0, ((rw (c .before .l .given .1) at (c .before .before .before .read-u32 .ensures .within)) .1, (c .before .before .before .before .before .before .before .before .before .before .before .pre .1 .1 .1, (rw (c .before .before .before .before .before .t .given .1) at (c .before .before .before .before .before .before .before .byte-to .ensures .within)) .0))))
+fields-requires c κs = let r = c .before .before .before .before .before .before .before .read-numbers .ensures _ _ _ _ byte-wide u32-wide in (c .before .before .before .before .before .before .before .before .before .before .before .pre .0, (c .before .before .before .before .before .before .before .before .before .before .before .pre .1 .0, (r .second .within, (c .before .before .before .before .before .before .before .before .before .before .before .pre .1 .1 .1, rw (c .before .before .before .before .t .given .1) at (c .before .before .before .before .before .before .byte-to .ensures _ _ _ _ (r .first) .most)))))
 
 enum-told : tie.Need-enum-told
 enum-told c = search needs
@@ -44,30 +36,33 @@ enum-told-2 c = search needs
 returns-2 : tie.Need-returns-2
 unfolding go-on
 returns-2 c = let p : 0 < c .before .before .before .before .before .before .before .before .before .before .before .before .args .nest = omega (arith, c .before .before .before .before .before .before .before .before .before .if1 .left) in
-    (λ s ds de kn. rw (read-deep (c .before .before .before .before .before .before .before .before .before .before .before .before .args .nest) s _ p, ← c .before .before .before .before .before .before .before .before .byte-to .ensures .is, c .before .before .before .before .before .before .t .given .1, ← c .before .before .before .before .read-u32 .ensures .is, c .before .before .l .given .1) (c .fields .ensures .0 s ds de kn .is _), (c .fields .ensures .1, nests (c .fields .result) _ p))
+    let r = c .before .before .before .before .before .before .before .before .read-numbers .ensures _ _ _ _ byte-wide u32-wide in
+    let t = c .before .before .before .before .before .before .before .byte-to .ensures _ _ _ _ (r .first) in
+    (λ s ds de kn. rw (read-deep (c .before .before .before .before .before .before .before .before .before .before .before .before .args .nest) s _ p, ← t .is, c .before .before .before .before .before .t .given .1, ← r .second .is, c .before .before .l .given .1) (c .fields .ensures .0 s ds de kn .is _), (c .fields .ensures .1, nests (c .fields .result) _ p))
 
 returns-3 : tie.Need-returns-3
 unfolding go-on
 returns-3 c = let p : 0 < c .before .before .before .before .before .before .before .before .before .before .args .nest = omega (arith, c .before .before .before .before .before .before .before .if1 .left) in
-    (λ s ds de kn. rw (read-deep (c .before .before .before .before .before .before .before .before .before .before .args .nest) s _ p, ← c .before .before .before .before .before .before .byte-to .ensures .is, c .before .before .before .before .t .given .1, ← c .before .before .read-u32 .ensures .is, c .enum-told .given .1) refl, (tt, tt))
+    let r = c .before .before .before .before .before .before .read-numbers .ensures _ _ _ _ byte-wide u32-wide in
+    let t = c .before .before .before .before .before .byte-to .ensures _ _ _ _ (r .first) in
+    (λ s ds de kn. rw (read-deep (c .before .before .before .before .before .before .before .before .before .before .args .nest) s _ p, ← t .is, c .before .before .before .t .given .1, ← r .second .is, c .enum-told .given .1) refl, (tt, tt))
 
 returns-4 : tie.Need-returns-4
 unfolding go-on
-returns-4 c = let p : 0 < c .before .before .before .before .before .before .args .nest = omega (arith, c .before .before .before .if1 .left) in
-    (λ s ds de kn. rw (read-deep (c .before .before .before .before .before .before .args .nest) s _ p, ← c .before .before .byte-to .ensures .is, c .enum-told2 .given .1) refl, (tt, tt))
+returns-4 c = let p : 0 < c .before .before .before .before .before .before .before .args .nest = omega (arith, c .before .before .before .before .if1 .left) in
+    let r = c .before .before .before .read-numbers .ensures _ _ _ _ byte-wide u32-wide in
+    let t = c .before .before .byte-to .ensures _ _ _ _ (r .first) in
+    (λ s ds de kn. rw (read-deep (c .before .before .before .before .before .before .before .args .nest) s _ p, ← t .is, c .enum-told2 .given .1) refl, (tt, tt))
 
 pub read-head-spec : {M : Type 1} → statement M
 read-head-spec =
     tie.close
     (tie.spec
     returns
+    read-numbers-requires
     byte-to-requires
     enum-known-t
-    add-read-u32
-    read-u32-requires
     enum-known-l
-    add-fields
-    add-fields-2
     fields-requires
     enum-told
     enum-told-2

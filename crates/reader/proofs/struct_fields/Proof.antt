@@ -7,9 +7,13 @@ use Rattle.definition.specs.Trees.{arity, mark-fits}
 use Rattle.reader.specs.Fields.{read-args}
 use Rattle.reader.proofs.Named.{struct-is}
 use Rattle.definition.specs.Reader.{_>>=_, go-on}
+use Rattle.reader.specs.Fields.{byte-wide, u16-wide}
 use borrow.Author.Needs.{needs}
 use Rattle.reader.proofs.struct_fields.Statement.{statement}
 use Rattle.reader.proofs.struct_fields.Tie as tie
+
+read-numbers-requires : tie.Need-read-numbers-requires
+read-numbers-requires c κs = search needs
 
 read-mark-requires : tie.Need-read-mark-requires
 read-mark-requires c κs = search needs
@@ -17,23 +21,14 @@ read-mark-requires c κs = search needs
 enum-known-m : tie.Need-enum-known-m
 enum-known-m c = search needs
 
-add-name-below : tie.Need-add-name-below
-add-name-below c = search needs
-
 name-below-requires : tie.Need-name-below-requires
-name-below-requires c κs = (c .before .before .before .before .before .before .pre .1 .0, rw (c .before .m .given .1) at (c .before .before .before .read-mark .ensures .within))
+name-below-requires c κs = search needs
 
 enum-known-n : tie.Need-enum-known-n
 enum-known-n c = search needs
 
 struct-at-requires : tie.Need-struct-at-requires
 struct-at-requires c κs = search needs
-
-add-t19 : tie.Need-add-t19
-add-t19 c = search needs
-
-add-t20 : tie.Need-add-t20
-add-t20 c = search needs
 
 enum-told : tie.Need-enum-told
 enum-told c = search needs
@@ -46,32 +41,45 @@ enum-told-3 c = search needs
 
 returns : tie.Need-returns
 unfolding read-args arity struct-tparams mark-fits is-numeric _>>=_ go-on
-returns c = λ s de. record { is = λ part. rw (struct-is s part _ _, ← c .before .before .before .before .before .before .before .before .read-mark .ensures .is, c .before .before .before .before .before .before .m .given .1, de .many, ← c .before .before .before .before .name-below .ensures .is, c .before .before .n .given .1, c .struct-at .ensures (s .structs) de .1) refl; within = ((rw (c .before .before .n .given .1) at (c .before .before .before .before .name-below .ensures .within)) .1, arity-fits _ _ _ _ (c .before .before .before .before .before .before .before .before .before .before .before .pre .0 .1) (c .struct-at .ensures _ (declares-self _ _) .1)) }
+returns c = λ s de.
+    let r = c .before .before .before .before .before .before .before .before .before .read-numbers .ensures _ _ _ _ byte-wide u16-wide in
+    let m = c .before .before .before .before .before .before .before .before .read-mark .ensures _ _ _ _ (r .first) in
+    let n = c .before .before .before .before .name-below .ensures _ _ _ _ (r .second) in
+    record { is = λ part. rw (struct-is s part _ _, ← m .is, c .before .before .before .before .before .before .m .given .1, de .many, ← n .is, c .before .before .n .given .1, c .struct-at .ensures (s .structs) de .1) refl; within = (n .within, arity-fits _ _ _ _ (c .before .before .before .before .before .before .before .before .before .before .before .before .pre .0 .1) (c .struct-at .ensures _ (declares-self _ _) .1)) }
 
 returns-2 : tie.Need-returns-2
 unfolding read-args arity struct-tparams mark-fits is-numeric _>>=_ go-on
-returns-2 c = λ s de. record { is = λ part. rw (struct-is s part _ _, ← c .before .before .before .before .before .before .read-mark .ensures .is, c .before .before .before .before .m .given .1, de .many, ← c .before .before .name-below .ensures .is, c .enum-told .given .1) refl; within = tt }
+returns-2 c = λ s de.
+    let r = c .before .before .before .before .before .before .before .read-numbers .ensures _ _ _ _ byte-wide u16-wide in
+    let m = c .before .before .before .before .before .before .read-mark .ensures _ _ _ _ (r .first) in
+    let n = c .before .before .name-below .ensures _ _ _ _ (r .second) in
+    record { is = λ part. rw (struct-is s part _ _, ← m .is, c .before .before .before .before .m .given .1, de .many, ← n .is, c .enum-told .given .1) refl; within = tt }
 
 returns-3 : tie.Need-returns-3
 unfolding read-args arity struct-tparams mark-fits is-numeric _>>=_ go-on
-returns-3 c = λ s de. record { is = λ part. rw (struct-is s part _ _, ← c .before .before .before .before .before .before .read-mark .ensures .is, c .before .before .before .before .m .given .1, de .many, ← c .before .before .name-below .ensures .is, c .enum-told2 .given .1) refl; within = tt }
+returns-3 c = λ s de.
+    let r = c .before .before .before .before .before .before .before .read-numbers .ensures _ _ _ _ byte-wide u16-wide in
+    let m = c .before .before .before .before .before .before .read-mark .ensures _ _ _ _ (r .first) in
+    let n = c .before .before .name-below .ensures _ _ _ _ (r .second) in
+    record { is = λ part. rw (struct-is s part _ _, ← m .is, c .before .before .before .before .m .given .1, de .many, ← n .is, c .enum-told2 .given .1) refl; within = tt }
 
 returns-4 : tie.Need-returns-4
 unfolding read-args arity struct-tparams mark-fits is-numeric _>>=_ go-on
-returns-4 c = λ s de. record { is = λ part. rw (struct-is s part _ _, ← c .before .before .read-mark .ensures .is, c .enum-told3 .given .1) refl; within = tt }
+returns-4 c = λ s de.
+    let r = c .before .before .before .read-numbers .ensures _ _ _ _ byte-wide u16-wide in
+    let m = c .before .before .read-mark .ensures _ _ _ _ (r .first) in
+    record { is = λ part. rw (struct-is s part _ _, ← m .is, c .enum-told3 .given .1) refl; within = tt }
 
 pub struct-fields-spec : {M : Type 1} → statement M
 struct-fields-spec =
     tie.close
     (tie.spec
+    read-numbers-requires
     read-mark-requires
     enum-known-m
-    add-name-below
     name-below-requires
     enum-known-n
     struct-at-requires
-    add-t19
-    add-t20
     enum-told
     enum-told-2
     enum-told-3

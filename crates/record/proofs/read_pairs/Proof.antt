@@ -5,6 +5,7 @@ use mathlib.Core.Path.{refl, sym, _∙_, subst}
 use Rattle.record.proofs.Pairs.{Pairs-go, pairs-none, pairs-cut, pairs-stop, pairs-turn, pairs-all}
 use native.Mathlib.Omega.{arith}
 use borrow.Author.Needs.{needs}
+use Rattle.reader.specs.Fields.{u32-wide}
 use Rattle.record.proofs.read_pairs.Statement.{statement}
 use Rattle.record.proofs.read_pairs.Tie as tie
 
@@ -17,8 +18,8 @@ abbrev μ-loop : tie.MeasureT-loop
 loop-holds : tie.Need-loop-holds Inv-loop μ-loop
 loop-holds c = pairs-none _ _ _ _ _ _ _ _ _ (c .before .before .pre .0 .0) (c .before .before .pre .1 .1 .0) refl refl
 
-read-u32-requires : tie.Need-read-u32-requires Inv-loop μ-loop
-read-u32-requires c κs = (c .before .before .before .before .pre .1 .0, c .before .loop .inv .within)
+read-number-requires : tie.Need-read-number-requires Inv-loop μ-loop
+read-number-requires c κs = (c .before .before .before .before .pre .1 .0, c .before .loop .inv .within)
 
 enum-known-l : tie.Need-enum-known-l Inv-loop μ-loop
 enum-known-l c = search needs
@@ -33,13 +34,10 @@ same-length : tie.Need-same-length Inv-loop μ-loop
 same-length c = c .before .before .before .before .before .loop .inv .lay .size ∙ sym (c .before .before .before .before .before .before .before .before .pre .0 .0 .size)
 
 returns : tie.Need-returns Inv-loop μ-loop
-returns c = rw (c .plain .ensures) (pairs-cut _ _ _ _ _ _ _ _ _ _ _ _ _ _ (c .before .before .before .before .before .loop .inv) (c .before .before .before .before .loop-test .taken) (rw (c .before .enum-told .given .1) at (c .before .before .before .read-u32 .ensures .is)))
-
-add-read-type : tie.Need-add-read-type Inv-loop μ-loop
-add-read-type c = search needs
+returns c = rw (c .plain .ensures) (pairs-cut _ _ _ _ _ _ _ _ _ _ _ _ _ _ (c .before .before .before .before .before .loop .inv) (c .before .before .before .before .loop-test .taken) (rw (c .before .enum-told .given .1) at (c .before .before .before .read-number .ensures _ _ u32-wide .is)))
 
 read-type-requires : tie.Need-read-type-requires Inv-loop μ-loop
-read-type-requires c κs = ((c .before .before .before .before .before .before .loop .inv .lay, subst Arities (sym (c .before .before .before .before .before .before .loop .inv .structs)) (c .before .before .before .before .before .before .before .before .before .pre .0 .1)), (c .before .before .before .before .before .before .before .before .before .pre .1 .0, ((rw (c .before .before .l .given .1) at (c .before .before .before .before .read-u32 .ensures .within)) .1, c .before .before .before .before .before .before .before .before .before .pre .1 .1 .1 .0)))
+read-type-requires c κs = ((c .before .before .before .before .before .before .loop .inv .lay, subst Arities (sym (c .before .before .before .before .before .before .loop .inv .structs)) (c .before .before .before .before .before .before .before .before .before .pre .0 .1)), (c .before .before .before .before .before .before .before .before .before .pre .1 .0, (c .before .before .before .before .read-number .ensures _ _ u32-wide .within, c .before .before .before .before .before .before .before .before .before .pre .1 .1 .1 .0)))
 
 stops-requires : tie.Need-stops-requires Inv-loop μ-loop
 stops-requires c κs = search needs
@@ -51,13 +49,13 @@ same-length-2 : tie.Need-same-length-2 Inv-loop μ-loop
 same-length-2 c = c .before .before .before .before .before .before .read-type .ensures .lay .size ∙ sym (c .before .before .before .before .before .before .before .before .before .before .before .before .before .before .before .before .pre .0 .0 .size)
 
 returns-2 : tie.Need-returns-2 Inv-loop μ-loop
-returns-2 c = rw (c .plain2 .ensures) (pairs-stop _ _ _ _ _ _ _ _ _ _ _ _ _ _ (c .before .before .before .before .before .before .before .before .before .before .before .before .before .loop .inv) _ (rw (c .before .before .before .before .before .before .before .before .before .l .given .1) at (c .before .before .before .before .before .before .before .before .before .before .before .read-u32 .ensures .is)) _ _ (c .before .before .before .before .before .before .read-type .ensures) (c .before .before .before .before .before .before .before .before .before .before .before .before .loop-test .taken) (sym (c .before .before .stops .ensures) ∙ c .before .if1 .taken))
+returns-2 c = rw (c .plain2 .ensures) (pairs-stop _ _ _ _ _ _ _ _ _ _ _ _ _ _ (c .before .before .before .before .before .before .before .before .before .before .before .before .before .loop .inv) _ _ (rw (c .before .before .before .before .before .before .before .before .before .l .given .1) at (c .before .before .before .before .before .before .before .before .before .before .before .read-number .ensures _ _ u32-wide .is)) _ _ (c .before .before .before .before .before .before .read-type .ensures) (c .before .before .before .before .before .before .before .before .before .before .before .before .loop-test .taken) (sym (c .before .before .stops .ensures) ∙ c .before .if1 .taken))
 
 no-space-requires : tie.Need-no-space-requires Inv-loop μ-loop
 no-space-requires c κs = search needs
 
 mul-ids : tie.Need-mul-ids Inv-loop μ-loop
-mul-ids c = search needs
+mul-ids c = omega (arith, c .before .before .before .before .before .before .before .before .before .before .before .before .before .before .before .before .pre .1 .1 .1 .1, c .before .before .before .before .before .before .before .before .before .before .before .before .loop-test .taken)
 
 array-write-ids : tie.Need-array-write-ids Inv-loop μ-loop
 array-write-ids c = omega (arith, c .before .before .before .before .before .before .before .before .before .before .before .before .before .before .before .before .pre .1 .1 .1 .1, c .before .before .before .before .before .before .before .before .before .before .before .before .loop-test .taken)
@@ -78,7 +76,7 @@ loop-less : tie.Need-loop-less Inv-loop μ-loop
 loop-less c = omega arith
 
 loop-again : tie.Need-loop-again Inv-loop μ-loop
-loop-again c = rw (c .before .no-space .ensures, c .node-of .ensures) (pairs-turn _ _ _ _ _ _ _ _ _ _ _ _ _ _ (c .before .before .before .before .before .before .before .before .before .before .before .before .before .before .loop .inv) _ (rw (c .before .before .before .before .before .before .before .before .before .before .l .given .1) at (c .before .before .before .before .before .before .before .before .before .before .before .before .read-u32 .ensures .is)) _ _ (c .before .before .before .before .before .before .before .read-type .ensures) (c .before .before .before .before .before .before .before .before .before .before .before .before .before .loop-test .taken) (c .before .before .before .before .before .before .before .before .before .before .before .before .before .before .before .before .before .pre .1 .1 .1 .1) (sym (c .before .before .before .stops .ensures) ∙ c .before .before .if1 .left))
+loop-again c = rw (c .before .no-space .ensures, c .node-of .ensures) (pairs-turn _ _ _ _ _ _ _ _ _ _ _ _ _ _ (c .before .before .before .before .before .before .before .before .before .before .before .before .before .before .loop .inv) _ _ (rw (c .before .before .before .before .before .before .before .before .before .before .l .given .1) at (c .before .before .before .before .before .before .before .before .before .before .before .before .read-number .ensures _ _ u32-wide .is)) _ _ (c .before .before .before .before .before .before .before .read-type .ensures) (c .before .before .before .before .before .before .before .before .before .before .before .before .before .loop-test .taken) (c .before .before .before .before .before .before .before .before .before .before .before .before .before .before .before .before .before .pre .1 .1 .1 .1) (sym (c .before .before .before .stops .ensures) ∙ c .before .before .if1 .left))
 
 read-type-requires-2 : tie.Need-read-type-requires-2 Inv-loop μ-loop
 read-type-requires-2 c κs = ((c .before .before .loop .inv .lay, subst Arities (sym (c .before .before .loop .inv .structs)) (c .before .before .before .before .before .pre .0 .1)), (c .before .before .before .before .before .pre .1 .0, (c .before .before .loop .inv .within, c .before .before .before .before .before .pre .1 .1 .1 .0)))
@@ -99,13 +97,12 @@ read-pairs-spec =
     Inv-loop
     μ-loop
     loop-holds
-    read-u32-requires
+    read-number-requires
     enum-known-l
     enum-told
     plain-requires
     same-length
     returns
-    add-read-type
     read-type-requires
     stops-requires
     plain-requires-2

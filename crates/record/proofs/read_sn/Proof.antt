@@ -2,9 +2,13 @@
 use Rattle.definition.specs.Reader.{_>>=_, go-on, read-two, name-below, read-u32}
 use mathlib.Core.Path.{refl}
 use Rattle.record.proofs.Forms.{sn-is, malformed-is, unknown-is}
+use Rattle.reader.specs.Fields.{u16-wide, u32-wide}
 use borrow.Author.Needs.{needs}
 use Rattle.record.proofs.read_sn.Statement.{statement}
 use Rattle.record.proofs.read_sn.Tie as tie
+
+read-numbers-requires : tie.Need-read-numbers-requires
+read-numbers-requires c κs = search needs
 
 name-below-requires : tie.Need-name-below-requires
 name-below-requires c κs = search needs
@@ -12,20 +16,8 @@ name-below-requires c κs = search needs
 enum-known-n : tie.Need-enum-known-n
 enum-known-n c = search needs
 
-add-read-u32 : tie.Need-add-read-u32
-add-read-u32 c = search needs
-
-read-u32-requires : tie.Need-read-u32-requires
-read-u32-requires c κs = (c .before .before .before .before .before .pre .0, (rw (c .before .n .given .1) at (c .before .before .before .name-below .ensures .within)) .1)
-
 enum-known-l : tie.Need-enum-known-l
 enum-known-l c = search needs
-
-add-plain : tie.Need-add-plain
-add-plain c = search needs
-
-add-plain-2 : tie.Need-add-plain-2
-add-plain-2 c = search needs
 
 plain-requires : tie.Need-plain-requires
 plain-requires c κs = search needs
@@ -49,31 +41,40 @@ plain-requires-4 : tie.Need-plain-requires-4
 plain-requires-4 c κs = search needs
 
 returns : tie.Need-returns
-returns c = λ w l. rw (c .plain .ensures) (sn-is w _ _ _ _ _ _ _ l ((rw (c .before .before .before .before .before .before .n .given .1) at (c .before .before .before .before .before .before .before .before .name-below .ensures .within)) .0) ((rw (c .before .before .l .given .1) at (c .before .before .before .before .read-u32 .ensures .within)) .1) (rw (c .before .before .before .before .before .before .n .given .1) at (c .before .before .before .before .before .before .before .before .name-below .ensures .is)) (rw (c .before .before .l .given .1) at (c .before .before .before .before .read-u32 .ensures .is)))
+returns c = λ w l.
+    let r = c .before .before .before .before .before .before .before .before .read-numbers .ensures _ _ _ _ u16-wide u32-wide in
+    let n = c .before .before .before .before .before .before .before .name-below .ensures _ _ _ _ (r .first) in
+    rw (c .plain .ensures) (sn-is w _ _ _ _ _ _ _ _ _ l (rw (c .before .before .before .before .before .n .given .1) at (n .below)) (r .second .within) (rw (c .before .before .before .before .before .n .given .1) at (n .is)) (rw (c .before .before .l .given .1) at (r .second .is)))
 
 returns-2 : tie.Need-returns-2
 unfolding read-two _>>=_ go-on
-returns-2 c = λ w l. rw (c .plain2 .ensures) (malformed-is w _ _ _ _ _ _ _ l (c .before .before .before .before .before .before .before .before .before .pre .1) (λ s ds k. rw (k .vars, ← c .before .before .before .before .before .before .before .name-below .ensures .is, c .before .before .before .before .before .n .given .1, ← c .before .before .before .read-u32 .ensures .is, c .before .enum-told .given .1) refl))
+returns-2 c = λ w l.
+    let r = c .before .before .before .before .before .before .before .read-numbers .ensures _ _ _ _ u16-wide u32-wide in
+    let n = c .before .before .before .before .before .before .name-below .ensures _ _ _ _ (r .first) in
+    rw (c .plain2 .ensures) (malformed-is w _ _ _ _ _ _ _ l (c .before .before .before .before .before .before .before .before .before .pre .1) (λ s ds k. rw (k .vars, ← n .is, c .before .before .before .before .n .given .1, ← r .second .is, c .before .enum-told .given .1) refl))
 
 returns-3 : tie.Need-returns-3
 unfolding read-two _>>=_ go-on
-returns-3 c = λ w l. rw (c .plain3 .ensures) (malformed-is w _ _ _ _ _ _ _ l (c .before .before .before .before .before .pre .1) (λ s ds k. rw (k .vars, ← c .before .before .before .name-below .ensures .is, c .before .enum-told2 .given .1) refl))
+returns-3 c = λ w l.
+    let r = c .before .before .before .before .read-numbers .ensures _ _ _ _ u16-wide u32-wide in
+    let n = c .before .before .before .name-below .ensures _ _ _ _ (r .first) in
+    rw (c .plain3 .ensures) (malformed-is w _ _ _ _ _ _ _ l (c .before .before .before .before .before .before .pre .1) (λ s ds k. rw (k .vars, ← n .is, c .before .enum-told2 .given .1) refl))
 
 returns-4 : tie.Need-returns-4
 unfolding read-two _>>=_ go-on
-returns-4 c = λ w l. rw (c .plain4 .ensures) (unknown-is w _ _ _ _ _ _ _ l (c .before .before .before .before .before .pre .1) (λ s ds k. rw (k .vars, ← c .before .before .before .name-below .ensures .is, c .before .enum-told3 .given .1) refl))
+returns-4 c = λ w l.
+    let r = c .before .before .before .before .read-numbers .ensures _ _ _ _ u16-wide u32-wide in
+    let n = c .before .before .before .name-below .ensures _ _ _ _ (r .first) in
+    rw (c .plain4 .ensures) (unknown-is w _ _ _ _ _ _ _ l (c .before .before .before .before .before .before .pre .1) (λ s ds k. rw (k .vars, ← n .is, c .before .enum-told3 .given .1) refl))
 
 pub read-sn-spec : {M : Type 1} → statement M
 read-sn-spec =
     tie.close
     (tie.spec
+    read-numbers-requires
     name-below-requires
     enum-known-n
-    add-read-u32
-    read-u32-requires
     enum-known-l
-    add-plain
-    add-plain-2
     plain-requires
     enum-told
     plain-requires-2

@@ -1,0 +1,2 @@
+-- What the proofs by hand share. Assumes nothing.
+pub mod Loan
