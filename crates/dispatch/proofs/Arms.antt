@@ -19,7 +19,8 @@ use Rattle.record.specs.Noded.{Noded, noded, kind}
 use Rattle.record.specs.Noded as record-of
 use Rattle.record.specs.declared.RecordMark.the-variants as m
 use Rattle.record.specs.declared.Fields.{Fields}
-use Rattle.tparams.specs.Pairs.{pairs}
+use Rattle.names.specs.declared.TParamID.{TParamID}
+use Rattle.tparams.specs.Pairs.{id-at, pairs}
 use Rattle.run.specs.Runs.{join-in, two-run, unfold-run, ready-run, subst-in, tparams-run, instantiate-run, tvar-run, num-tvar-in, num-tvar-run, set-num-in, set-num-run, kind-at, constraint-run, Any, Runs}
 use Rattle.dispatch.specs.Dispatch.{noded-run, noded-step, noded-kept}
 
@@ -28,10 +29,10 @@ abbrev pub Ran-as : List ℕ → Used → List (List ℕ) → List ℕ → Ran �
 Ran-as w u params w′ r n = Runs (Known w u params) w u w′ r (noded-kept n) (noded-step r n) (noded-run n)
 
 -- both crates' pairs
-pairs-same : (ids nodes : List ℕ) (i n : ℕ) → pairs ids nodes i n ≡ record-of.pairs ids nodes i n
+pairs-same : (ids : List TParamID) (nodes : List ℕ) (i n : ℕ) → pairs ids nodes i n ≡ record-of.pairs ids nodes i n
 unfolding pairs record-of.pairs
 pairs-same ids nodes i zero = refl
-pairs-same ids nodes i (suc n) = ap (λ (l : List (ℕ × ℕ)). (getD ids i 0, getD nodes i 0) ∷ l) (pairs-same ids nodes (suc i) n)
+pairs-same ids nodes i (suc n) = ap (λ (l : List (ℕ × ℕ)). (id-at ids i, getD nodes i 0) ∷ l) (pairs-same ids nodes (suc i) n)
 
 module _ {w : List ℕ} {u : Used} {w′ : List ℕ} {r : Ran} where
   -- whatever the declarations are, so for those in K too
@@ -75,9 +76,9 @@ module _ {w : List ℕ} {u : Used} {w′ : List ℕ} {r : Ran} where
     unfolding noded-kept noded-step noded-run
     arm-SC e c = rw e (narrow c)
 
-    pub arm-SN : f .mark ≡ m.SN → (v : ℕ) → v ≡ f .a → Runs Any w u w′ r true (set-num-in v (f .b)) (set-num-run v (f .b)) → Ran-as w u params w′ r (noded (f .mark) f t)
+    pub arm-SN : f .mark ≡ m.SN → Runs Any w u w′ r true (set-num-in (f .var .0) (f .a)) (set-num-run (f .var .0) (f .a)) → Ran-as w u params w′ r (noded (f .mark) f t)
     unfolding noded-kept noded-step noded-run
-    arm-SN e v q c = rw e (narrow (rw q at c))
+    arm-SN e c = rw e (narrow c)
 
     pub arm-TS : f .mark ≡ m.TS → Runs Any w u w′ r false (subst-in (pairs (f .ids) (f .nodes) 0 (f .b)) t) (tparams-run (pairs (f .ids) (f .nodes) 0 (f .b)) t) → Ran-as w u params w′ r (noded (f .mark) f t)
     unfolding noded-kept noded-step noded-run

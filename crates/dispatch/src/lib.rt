@@ -35,8 +35,8 @@ pub fn run_fields(w: &mut [u32], u: Used, params: &[[u8; 8]; 256], f: Fields, t:
         RecordMark::FV => run::run_tvar(w, u, a),
         RecordMark::NV => run::run_num_tvar(w, u, a),
         RecordMark::SN => {
-            let v = table::tvar(a);
-            run::run_set_num(w, u, v, b)
+            let v = f.var;
+            run::run_set_num(w, u, v, a)
         }
         RecordMark::JN => run::run_two(w, u, TypingCase::Join, b, t),
         RecordMark::SU => run::run_two(w, u, TypingCase::Subtype, b, t),

@@ -14,6 +14,7 @@ use Rattle.definition.specs.Trees.{Tree, read-nested, read-type}
 use Rattle.definition.specs.Place.{place}
 use Rattle.definition.specs.Record as d
 use Rattle.definition.specs.Record.{Record, read-SD, read-pair, read-TS, read-kind}
+use Rattle.names.specs.declared.TVar.{TVar}
 use Rattle.table.specs.Rows.{node-table}
 use Rattle.table.specs.State.{Lay, Grown, Declares, view, seen}
 use Rattle.table.specs.declared.Used.{Used}
@@ -30,7 +31,7 @@ use Rattle.reader.proofs.Loop.{declares-kept}
 use Rattle.record.specs.declared.RecordMark.{RecordMark}
 use Rattle.record.specs.declared.RecordMark.the-variants as m
 use Rattle.record.specs.declared.Fields.{Fields}
-use Rattle.record.specs.Noded.{Noded, place-record, noded, part-with, fields-as, Part-so, Noded-in, Fields-in, Fields-are, plain-fields, One, Two, Loc}
+use Rattle.record.specs.Noded.{Noded, place-record, noded, part-with, fields-as, Part-so, Noded-in, Fields-in, Fields-are, plain-fields, var-fields, One, Two, Loc}
 use Rattle.record.specs.Noded as n
 use Rattle.record.proofs.Placing.{is-not, not-is, last-type, first-type, type-stops}
 
@@ -195,8 +196,8 @@ module _ (w : List ℕ) (u : Used) (b : List ℕ) (end known at next : ℕ) wher
       (λ s s′ ds k. ap (λ (x : Noded). placed (ok (s′, x)) (rest b end next)) (o .shows _ _ _ _ _) ∙ ap (λ (q : Result (State × Noded)). placed q (rest b end next)) (sym (o .places loc s′))
       ∙ ap (λ (x : Read ℕ). place-read false place-record (go-on x (λ loc. give (make loc))) s′) e)
 
-  pub sn-is : (v loc middle : ℕ) → Lay w u → v < known → next ≤ end → rd.got v (rest b end middle) ≡ rd.name-below known (rest b end at) → rd.got loc (rest b end next) ≡ read-u32 (rest b end middle)
-      → Fields-are w u b end known (λ s. read-two d.SN (name-below (taken s)) read-u32 (rest b end at)) w (plain-fields m.SN (At 0) u next v loc)
+  pub sn-is : (v : TVar) (loc middle : ℕ) → Lay w u → v .0 < known → next ≤ end → rd.got (v .0) (rest b end middle) ≡ rd.name-below known (rest b end at) → rd.got loc (rest b end next) ≡ read-u32 (rest b end middle)
+      → Fields-are w u b end known (λ s. read-two d.SN (name-below (taken s)) read-u32 (rest b end at)) w (var-fields u next v loc)
   unfolding place-read place-record read-two rd._>>=_ go-on give
   sn-is v loc middle l below a e f = fields-none w u b end known _ _ l refl a below (λ s s′ ds k. rw (k .vars, ← e, ← f) refl)
 

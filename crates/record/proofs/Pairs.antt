@@ -17,6 +17,7 @@ use Rattle.definition.specs.Trees.{Tree, read-nested, read-type}
 use Rattle.definition.specs.Place.{place, place-pairs}
 use Rattle.definition.specs.Record as d
 use Rattle.definition.specs.Record.{Record, read-pair}
+use Rattle.names.specs.declared.TParamID.{TParamID}
 use Rattle.table.specs.State.{Lay, Grown, Declares, Parts, view, seen}
 use Rattle.table.specs.declared.Used.{Used}
 use Rattle.table.proofs.Steps.{grown-refl, grown-trans}
@@ -27,36 +28,38 @@ use Rattle.reader.specs.Fields.{rest, Knows}
 use Rattle.reader.specs.Taken.{Placed, stopped, placed, place-read, part-of, Part-in, Takes, is-stop, is-over, node-in}
 use Rattle.reader.proofs.Loop.{declares-kept}
 use Rattle.record.specs.declared.RecordMark.the-variants as m
-use Rattle.record.specs.Noded.{Noded, TS, place-record, pairs, part-with, Fields-are, plain-fields, paired-fields}
+use Rattle.record.specs.Noded.{Noded, TS, place-record, id-at, pairs, part-with, Fields-are, plain-fields, paired-fields}
 use Rattle.record.proofs.Placing.{is-not, last-type, first-type, type-stops}
 use Rattle.record.proofs.Forms.{nodes-grow, was-open, part-so, stop-so, first-in}
 
 -- ---- pairs in two arrays
 
-pairs-last : (ids nodes : List ℕ) (j n : ℕ) → pairs ids nodes j (suc n) ≡ pairs ids nodes j n ++ ((getD ids (j + n) 0, getD nodes (j + n) 0) ∷ [])
+pairs-last : (ids : List TParamID) (nodes : List ℕ) (j n : ℕ) → pairs ids nodes j (suc n) ≡ pairs ids nodes j n ++ ((id-at ids (j + n), getD nodes (j + n) 0) ∷ [])
 unfolding pairs
 pairs-last ids nodes j zero =
     let z : j ≡ j + 0 = omega arith in
-    ap (λ (k : ℕ). (getD ids k 0, getD nodes k 0) ∷ []) z
+    ap (λ (k : ℕ). (id-at ids k, getD nodes k 0) ∷ []) z
 pairs-last ids nodes j (suc n) =
     let z : suc j + n ≡ j + suc n = omega arith in
-    ap (λ (ps : List (ℕ × ℕ)). (getD ids j 0, getD nodes j 0) ∷ ps)
-    (pairs-last ids nodes (suc j) n ∙ ap (λ (k : ℕ). pairs ids nodes (suc j) n ++ ((getD ids k 0, getD nodes k 0) ∷ [])) z)
+    ap (λ (ps : List (ℕ × ℕ)). (id-at ids j, getD nodes j 0) ∷ ps)
+    (pairs-last ids nodes (suc j) n ∙ ap (λ (k : ℕ). pairs ids nodes (suc j) n ++ ((id-at ids k, getD nodes k 0) ∷ [])) z)
 
-pairs-other : (ids nodes : List ℕ) (i x y j n : ℕ) → j + n ≤ i → pairs (set ids i x) (set nodes i y) j n ≡ pairs ids nodes j n
+pairs-other : (ids : List TParamID) (nodes : List ℕ) (i : ℕ) (x : TParamID) (y j n : ℕ) → j + n ≤ i → pairs (set ids i x) (set nodes i y) j n ≡ pairs ids nodes j n
 unfolding pairs
 pairs-other ids nodes i x y j zero l = refl
 pairs-other ids nodes i x y j (suc n) l =
     let e : j ≡ i → ⊥ = λ e. omega arith in
     let r : suc j + n ≤ i = omega arith in
-    rw (getD-set-other ids i j x 0 e, getD-set-other nodes i j y 0 e, pairs-other ids nodes i x y (suc j) n r) refl
+    let a : id-at (set ids i x) j ≡ id-at ids j = ap (λ (t : TParamID). t .0) (getD-set-other ids i j x (record { 0 = 0 }) e) in
+    rw (a, getD-set-other nodes i j y 0 e, pairs-other ids nodes i x y (suc j) n r) refl
 
-pairs-more : (ids nodes : List ℕ) (i x y : ℕ) → i < length ids → i < length nodes → pairs (set ids i x) (set nodes i y) 0 (i + 1) ≡ pairs ids nodes 0 i ++ ((x, y) ∷ [])
+pairs-more : (ids : List TParamID) (nodes : List ℕ) (i : ℕ) (x : TParamID) (y : ℕ) → i < length ids → i < length nodes → pairs (set ids i x) (set nodes i y) 0 (i + 1) ≡ pairs ids nodes 0 i ++ ((x .0, y) ∷ [])
 pairs-more ids nodes i x y l l′ =
     let z : 0 + i ≡ i = omega arith in
     let o : 0 + i ≤ i = omega arith in
+    let a : id-at (set ids i x) i ≡ x .0 = ap (λ (t : TParamID). t .0) (getD-set-same ids i x (record { 0 = 0 }) l) in
     ap (λ (k : ℕ). pairs (set ids i x) (set nodes i y) 0 k) (add-one i) ∙ pairs-last (set ids i x) (set nodes i y) 0 i
-    ∙ rw (z, pairs-other ids nodes i x y 0 i o, getD-set-same ids i x 0 l, getD-set-same nodes i y 0 l′) refl
+    ∙ rw (z, pairs-other ids nodes i x y 0 i o, a, getD-set-same nodes i y 0 l′) refl
 
 -- ---- what is left to read, and to place after the pairs xs
 
@@ -138,7 +141,7 @@ put-last xs t s = ap (λ (k : List (ℕ × ℕ)). place t s >>= (λ (s, n). ok (
 
 -- ---- the loop
 
-pub record Pairs-go (w₀ : List ℕ) (u₀ : Used) (b : List ℕ) (end known n at : ℕ) (w : List ℕ) (u : Used) (next : ℕ) (over : Bool) (ids nodes : List ℕ) (i : ℕ) : Type 0 where
+pub record Pairs-go (w₀ : List ℕ) (u₀ : Used) (b : List ℕ) (end known n at : ℕ) (w : List ℕ) (u : Used) (next : ℕ) (over : Bool) (ids : List TParamID) (nodes : List ℕ) (i : ℕ) : Type 0 where
   pub left : i ≤ n
   pub lay : Lay w u
   pub grown : Grown (view w₀ u₀) (view w u)
@@ -150,7 +153,7 @@ pub record Pairs-go (w₀ : List ℕ) (u₀ : Used) (b : List ℕ) (end known n 
   pub is : (ds : List Struct) (s : State) → Declares w₀ u₀ ds → Knows s known ds
       → place-read false (put-left []) (left-at s n (rest b end at)) (seen w₀ u₀ ds) ≡ place-read over (put-left (pairs ids nodes 0 i)) (left-at s (n - i) (rest b end next)) (seen w u ds)
 
-pub pairs-none : (w : List ℕ) (u : Used) (b : List ℕ) (end known n at : ℕ) (ids nodes : List ℕ) → Lay w u → at ≤ end → length ids ≡ 8 → length nodes ≡ 8 → Pairs-go w u b end known n at w u at false ids nodes 0
+pub pairs-none : (w : List ℕ) (u : Used) (b : List ℕ) (end known n at : ℕ) (ids : List TParamID) (nodes : List ℕ) → Lay w u → at ≤ end → length ids ≡ 8 → length nodes ≡ 8 → Pairs-go w u b end known n at w u at false ids nodes 0
 unfolding pairs
 pairs-none w u b end known n at ids nodes l a e e′ =
     record {
@@ -165,7 +168,7 @@ pairs-none w u b end known n at ids nodes l a e e′ =
       is = λ ds s d k. ap (λ (j : ℕ). place-read false (put-left []) (left-at s j (rest b end at)) (seen w u ds)) (sym (sub-zero n));
     }
 
-module _ (w₀ : List ℕ) (u₀ : Used) (b : List ℕ) (end known n at : ℕ) (w : List ℕ) (u : Used) (next : ℕ) (over : Bool) (ids nodes : List ℕ) (i : ℕ) (g : Pairs-go w₀ u₀ b end known n at w u next over ids nodes i) where
+module _ (w₀ : List ℕ) (u₀ : Used) (b : List ℕ) (end known n at : ℕ) (w : List ℕ) (u : Used) (next : ℕ) (over : Bool) (ids : List TParamID) (nodes : List ℕ) (i : ℕ) (g : Pairs-go w₀ u₀ b end known n at w u next over ids nodes i) where
   abbrev read-all : State → Read Record
   read-all s = go-on (times n (read-pair s) (rest b end at)) (λ ps l. go-on (read-type s l) (λ t. give (d.TS ps t)))
 
@@ -235,7 +238,7 @@ module _ (w₀ : List ℕ) (u₀ : Used) (b : List ℕ) (end known n at : ℕ) (
             rw (getD-set-other nodes i j (node-in (r .part)) 0 q) (omega arith)
 
     pub pairs-turn : n ≤ 8 → is-stop (r .part) ≡ false
-        → Pairs-go w₀ u₀ b end known n at w′ (r .used) (r .next) (is-over (r .part)) (set ids i id) (set nodes i (node-in (r .part))) (i + 1)
+        → Pairs-go w₀ u₀ b end known n at w′ (r .used) (r .next) (is-over (r .part)) (set ids i (record { 0 = id })) (set nodes i (node-in (r .part))) (i + 1)
     pairs-turn few st =
         let z : length nodes ≡ 8 = g .long in
         let z′ : length ids ≡ 8 = g .long-ids in
@@ -247,7 +250,7 @@ module _ (w₀ : List ℕ) (u₀ : Used) (b : List ℕ) (end known n at : ℕ) (
           grown = grown-trans _ _ _ (g .grown) (t .grown);
           structs = t .structs ∙ g .structs;
           within = t .within;
-          long-ids = length-set ids i id ∙ g .long-ids;
+          long-ids = length-set ids i (record { 0 = id }) ∙ g .long-ids;
           long = length-set nodes i (node-in (r .part)) ∙ g .long;
           below = λ o. here lt o st;
           is = λ ds s d k.
@@ -255,7 +258,7 @@ module _ (w₀ : List ℕ) (u₀ : Used) (b : List ℕ) (end known n at : ℕ) (
               ∙ first-type (put-left (pairs ids nodes 0 i)) one after (put-one (pairs ids nodes 0 i) id) (left-at s (n - (i + 1))) (r .part) over (read-nested 64 s (rest b end after-id)) (seen w u ds)
               (seen w′ (r .used) ds) (rest b end (r .next)) (t .is ds s (declares-kept w₀ u₀ w u ds (g .structs) d) k) st
               ∙ ap (λ (xs : List (ℕ × ℕ)). place-read (is-over (r .part)) (put-left xs) (left-at s (n - (i + 1)) (rest b end (r .next))) (seen w′ (r .used) ds))
-              (sym (pairs-more ids nodes i id (node-in (r .part)) lt′ lt));
+              (sym (pairs-more ids nodes i (record { 0 = id }) (node-in (r .part)) lt′ lt));
         }
 
   pub pairs-all : n ≤ i → n ≤ 8 → (w′ : List ℕ) (r : Taken) → Takes w u b end known over (λ s. read-nested 64 s (rest b end next)) w′ r

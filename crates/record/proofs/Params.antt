@@ -95,7 +95,7 @@ module _ (b : List ℕ) (end at n : ℕ) (params : List ℕ) (next i : ℕ) (g :
         ∙ ap (λ (k : ℕ). got (take k params ++ []) (rest b end next)) z ∙ ap (λ (xs : List ℕ). got xs (rest b end next)) (append-nil (take n params))
 
     pub params-all : n ≤ i → abilities ≤ 15 → n ≤ 8
-        → Fields-are w u b end known declared w (record { mark = m.SD; part = At 0; used = u; next = next; a = abilities; b = n; params = params; ids = replicate 8 0; nodes = replicate 8 0 })
+        → Fields-are w u b end known declared w (record { mark = m.SD; part = At 0; used = u; next = next; a = abilities; b = n; var = record { 0 = 0 }; params = params; ids = replicate 8 (record { 0 = 0 }); nodes = replicate 8 0 })
     unfolding go-on give place-read place-record
     params-all l few few′ =
         fields-none w u b end known declared _ lay refl (g .within) (few, few′)

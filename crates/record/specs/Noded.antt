@@ -12,6 +12,8 @@ use Rattle.definition.specs.Record as d
 use Rattle.definition.specs.Record.{NumericKind, Numeric, Bits, Ordered, Record, read-SD, read-TS, read-record, read-kind}
 use Rattle.definition.specs.Trees.{Tree, read-type}
 use Rattle.definition.specs.Place.{place, place-pairs}
+use Rattle.names.specs.declared.TParamID.{TParamID}
+use Rattle.names.specs.declared.TVar.{TVar}
 use Rattle.table.specs.State.{Lay, Grown, Declares, Parts, view, seen}
 use Rattle.table.specs.declared.Used.{Used}
 use Rattle.reader.specs.declared.Part.{Part}
@@ -73,10 +75,13 @@ place-record d.SV s = ok (s, SV)
 
 -- ---- what the code's answer is
 
+abbrev pub id-at : List TParamID → ℕ → ℕ
+id-at ids i = getD ids i (record { 0 = 0 }) .0
+
 -- n pairs, from place i on
-unfoldable pub pairs : List ℕ → List ℕ → ℕ → ℕ → List (ℕ × ℕ)
+unfoldable pub pairs : List TParamID → List ℕ → ℕ → ℕ → List (ℕ × ℕ)
 pairs ids nodes i zero = []
-pairs ids nodes i (suc n) = (getD ids i 0, getD nodes i 0) ∷ pairs ids nodes (suc i) n
+pairs ids nodes i (suc n) = (id-at ids i, getD nodes i 0) ∷ pairs ids nodes (suc i) n
 
 unfoldable pub kind : ℕ → NumericKind
 kind b = getD (Numeric ∷ Bits ∷ Ordered ∷ []) b Numeric
@@ -104,7 +109,7 @@ abbrev pub noded : RecordMark → Fields → ℕ → Noded
 noded m.SD r t = SD (r .a) (take (r .b) (r .params))
 noded m.FV r t = FV (r .a)
 noded m.NV r t = NV (r .a)
-noded m.SN r t = SN (r .a) (r .b)
+noded m.SN r t = SN (r .var .0) (r .a)
 noded m.JN r t = JN (r .b) t
 noded m.SU r t = SU (r .b) t
 noded m.UF r t = UF t
@@ -138,7 +143,7 @@ abbrev pub Noded-in : RecordMark → ℕ → ℕ → Fields → ℕ → Type 0
 Noded-in m.SD known n r t = (r .a ≤ 15) × (r .b ≤ 8)
 Noded-in m.FV known n r t = Unit {0}
 Noded-in m.NV known n r t = Unit {0}
-Noded-in m.SN known n r t = r .a < known
+Noded-in m.SN known n r t = r .var .0 < known
 Noded-in m.JN known n r t = (r .b < n) × (t < n)
 Noded-in m.SU known n r t = (r .b < n) × (t < n)
 Noded-in m.UF known n r t = t < n
@@ -177,12 +182,17 @@ pub record Record-is (w : List ℕ) (u : Used) (b : List ℕ) (start : ℕ) (w�
 -- without arrays
 abbrev pub plain-fields : RecordMark → Part → Used → ℕ → ℕ → ℕ → Fields
 plain-fields mark part u next a b =
-    record { mark = mark; part = part; used = u; next = next; a = a; b = b; params = replicate 8 0; ids = replicate 8 0; nodes = replicate 8 0 }
+    record { mark = mark; part = part; used = u; next = next; a = a; b = b; var = record { 0 = 0 }; params = replicate 8 0; ids = replicate 8 (record { 0 = 0 }); nodes = replicate 8 0 }
+
+-- with a variable
+abbrev pub var-fields : Used → ℕ → TVar → ℕ → Fields
+var-fields u next v loc =
+    record { mark = m.SN; part = At 0; used = u; next = next; a = loc; b = 0; var = v; params = replicate 8 0; ids = replicate 8 (record { 0 = 0 }); nodes = replicate 8 0 }
 
 -- with pairs
-abbrev pub paired-fields : Part → Used → ℕ → ℕ → List ℕ → List ℕ → Fields
+abbrev pub paired-fields : Part → Used → ℕ → ℕ → List TParamID → List ℕ → Fields
 paired-fields part u next many ids nodes =
-    record { mark = m.TS; part = part; used = u; next = next; a = 0; b = many; params = replicate 8 0; ids = ids; nodes = nodes }
+    record { mark = m.TS; part = part; used = u; next = next; a = 0; b = many; var = record { 0 = 0 }; params = replicate 8 0; ids = ids; nodes = nodes }
 
 -- ---- the forms that several marks share
 

@@ -14,7 +14,9 @@ ghost use Rattle.definition.specs.Record.{Record, SD, SN, TS, NC, by-mark, fiel
 ghost use Rattle.table.specs.State.{view, Lay};
 ghost use Rattle.reader.specs.Fields.{rest};
 ghost use Rattle.reader.specs.Taken.{Arities};
-ghost use Rattle.record.specs.Noded.{reader-of, Fields-are, Record-is, plain-fields, paired-fields, One, Two, Loc};
+ghost use Rattle.record.specs.Noded.{reader-of, Fields-are, Record-is, plain-fields, var-fields, paired-fields, One, Two, Loc};
+use names::TParamID;
+use names::TVar;
 use reader::Name;
 use reader::Number;
 use reader::Part;
@@ -49,8 +51,8 @@ pub enum RecordMark {
 }
 
 // A record read and placed: the node of its last type (0 where it has none), or 7, 5 or 6; the rows in use then, and the place after it.
-// a: a location, a variable (SN), an ability set (SD). b: the first node (JN, SU), the location (SN), the kind (NC), how many (SD, TS).
-// SD's parameter bytes; TS's ids and their nodes.
+// a: a location, an ability set (SD). b: the first node (JN, SU), the kind (NC), how many (SD, TS).
+// SN's variable; SD's parameter bytes; TS's ids and their nodes.
 pub struct Fields {
     pub mark: RecordMark,
     pub part: Part,
@@ -58,14 +60,17 @@ pub struct Fields {
     pub next: usize,
     pub a: u32,
     pub b: u32,
+    pub var: TVar,
     pub params: [u8; 8],
-    pub ids: [u32; 8],
+    pub ids: [TParamID; 8],
     pub nodes: [u32; 8],
 }
 
 fn plain(mark: RecordMark, part: Part, u: Used, next: usize, a: u32, b: u32) -> Fields
     ensures { λ r. ⌜ r ≡ plain-fields mark part u next a b ⌝ }
 {
+    let none = TParamID(0);
+    let ids = [none; 8];
     Fields {
         mark: mark,
         part: part,
@@ -73,8 +78,9 @@ fn plain(mark: RecordMark, part: Part, u: Used, next: usize, a: u32, b: u32) -> 
         next: next,
         a: a,
         b: b,
+        var: TVar(0),
         params: [0; 8],
-        ids: [0; 8],
+        ids: ids,
         nodes: [0; 8],
     }
 }
@@ -144,8 +150,27 @@ fn read_loc(u: Used, b: &[u8], end: usize, at: usize, mark: RecordMark) -> Field
     }
 }
 
+fn with_var(u: Used, next: usize, var: TVar, loc: u32) -> Fields
+    ensures { λ r. ⌜ r ≡ var-fields u next var loc ⌝ }
+{
+    let none = TParamID(0);
+    let ids = [none; 8];
+    Fields {
+        mark: RecordMark::SN,
+        part: Part::At(0),
+        used: u,
+        next: next,
+        a: loc,
+        b: 0,
+        var: var,
+        params: [0; 8],
+        ids: ids,
+        nodes: [0; 8],
+    }
+}
+
 fn read_sn(u: Used, b: &[u8], end: usize, at: usize, known: u32) -> Fields
-    requires { ⌜ (end ≤ length (now b)) × (at ≤ end) ⌝ }
+    requires { ⌜ (end ≤ length (now b)) × ((at ≤ end) × (known ≤ 1024)) ⌝ }
     ensures { λ r. ⌜ ((w : List ℕ) → Lay w u → Fields-are w u (now (b .entry)) end known (λ s. read-two SN (name-below (taken s)) read-u32 (rest (now (b .entry)) end at)) w r) ⌝ }
 {
     let r = read_numbers(b, end, at, 2, 4);
@@ -154,7 +179,7 @@ fn read_sn(u: Used, b: &[u8], end: usize, at: usize, known: u32) -> Fields
     let n = name_below(f, known);
     match n {
         Name::Known(v) => match l {
-            Number::Got(loc) => plain(RecordMark::SN, Part::At(0), u, r.next, v, loc),
+            Number::Got(loc) => with_var(u, r.next, TVar(v as u16), loc),
             Number::Missing => plain(RecordMark::SN, Part::Malformed, u, at, 0, 0),
         },
         Name::Cut => plain(RecordMark::SN, Part::Malformed, u, at, 0, 0),
@@ -235,6 +260,8 @@ fn read_params(u: Used, b: &[u8], end: usize, at: usize, abilities: u32, many: u
         next = r.next;
         i = i + 1;
     }
+    let none = TParamID(0);
+    let ids = [none; 8];
     Fields {
         mark: RecordMark::SD,
         part: Part::At(0),
@@ -242,8 +269,9 @@ fn read_params(u: Used, b: &[u8], end: usize, at: usize, abilities: u32, many: u
         next: next,
         a: abilities,
         b: many,
+        var: TVar(0),
         params: params,
-        ids: [0; 8],
+        ids: ids,
         nodes: [0; 8],
     }
 }
@@ -270,7 +298,7 @@ fn read_sd(u: Used, b: &[u8], end: usize, at: usize) -> Fields
 
 // ---- pairs of an id and a type, and a last type
 
-fn paired(part: Part, u: Used, next: usize, many: u32, ids: [u32; 8], nodes: [u32; 8]) -> Fields
+fn paired(part: Part, u: Used, next: usize, many: u32, ids: [TParamID; 8], nodes: [u32; 8]) -> Fields
     ensures { λ r. ⌜ r ≡ paired-fields part u next many ids nodes ⌝ }
 {
     Fields {
@@ -280,6 +308,7 @@ fn paired(part: Part, u: Used, next: usize, many: u32, ids: [u32; 8], nodes: [u3
         next: next,
         a: 0,
         b: many,
+        var: TVar(0),
         params: [0; 8],
         ids: ids,
         nodes: nodes,
@@ -303,13 +332,14 @@ fn read_pairs(
     let mut used = u;
     let mut next = at;
     let mut over = false;
-    let mut ids: [u32; 8] = [0; 8];
+    let none = TParamID(0);
+    let mut ids: [TParamID; 8] = [none; 8];
     let mut nodes: [u32; 8] = [0; 8];
     let mut i: usize = 0;
     while i < n {
         let r = read_number(b, end, next, 4);
         let l = r.number;
-        let Number::Got(id) = l else {
+        let Number::Got(x) = l else {
             return plain(RecordMark::TS, Part::Malformed, used, next, 0, 0);
         };
         let t = read_type(w, used, b, end, r.next, known, 64, over);
@@ -320,7 +350,7 @@ fn read_pairs(
             return plain(RecordMark::TS, p, used, next, 0, 0);
         }
         over = no_space(p);
-        ids[i] = id;
+        ids[i] = TParamID(x);
         nodes[i] = node_of(p);
         i = i + 1;
     }

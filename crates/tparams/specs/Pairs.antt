@@ -6,13 +6,17 @@ use Prim.Native.Nat.{ℕ, zero, suc}
 use lib.ListN.{getD}
 use Rattle.definition.specs.Types.{Result, ok, refused, parameter-twice}
 use Rattle.definition.specs.TParams.{TParamSubst}
+use Rattle.names.specs.declared.TParamID.{TParamID}
 use Rattle.table.specs.declared.Out.{Out}
 use Rattle.table.specs.declared.Out.the-variants.{Done, NoArgument}
 
+abbrev pub id-at : List TParamID → ℕ → ℕ
+id-at ids i = getD ids i (record { 0 = 0 }) .0
+
 -- n pairs, from place i on
-unfoldable pub pairs : List ℕ → List ℕ → ℕ → ℕ → List (ℕ × ℕ)
+unfoldable pub pairs : List TParamID → List ℕ → ℕ → ℕ → List (ℕ × ℕ)
 pairs ids args i zero = []
-pairs ids args i (suc n) = (getD ids i 0, getD args i 0) ∷ pairs ids args (suc i) n
+pairs ids args i (suc n) = (id-at ids i, getD args i 0) ∷ pairs ids args (suc i) n
 
 -- the pairs are the substitution, or an id stands in them twice
 abbrev pub made : Bool → TParamSubst → Result TParamSubst

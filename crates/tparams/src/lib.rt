@@ -26,14 +26,15 @@ fn wide(x: u32) -> usize
 }
 
 // The argument of an id, from place i on.
-fn arg_from(ids: [u32; 8], args: [u32; 8], i: u32, n: u32, id: u32) -> Found
+fn arg_from(ids: [TParamID; 8], args: [u32; 8], i: u32, n: u32, id: TParamID) -> Found
     requires { ⌜ (i ≤ n) × (n ≤ 8) ⌝ }
-    ensures { λ r. ⌜ found r ≡ arg-of (pairs ids args i (n - i)) id ⌝ }
+    ensures { λ r. ⌜ found r ≡ arg-of (pairs ids args i (n - i)) (id .0) ⌝ }
 {
     let mut k = i;
     while k < n {
         let at = wide(k);
-        if ids[at] == id {
+        let x = ids[at];
+        if x.0 == id.0 {
             return Found::Just(args[at]);
         }
         k = k + 1;
@@ -42,15 +43,15 @@ fn arg_from(ids: [u32; 8], args: [u32; 8], i: u32, n: u32, id: u32) -> Found
 }
 
 // subst.get(id)
-pub fn arg_of(ids: [u32; 8], args: [u32; 8], n: u32, id: TParamID) -> Found
+pub fn arg_of(ids: [TParamID; 8], args: [u32; 8], n: u32, id: TParamID) -> Found
     requires { ⌜ n ≤ 8 ⌝ }
     ensures { λ r. ⌜ found r ≡ arg-of (pairs ids args 0 n) (id .0) ⌝ }
 {
-    arg_from(ids, args, 0, n, id.0)
+    arg_from(ids, args, 0, n, id)
 }
 
 // Whether no id stands twice: the Rust asserts it.
-pub fn make_tparam_subst(ids: [u32; 8], args: [u32; 8], n: u32) -> bool
+pub fn make_tparam_subst(ids: [TParamID; 8], args: [u32; 8], n: u32) -> bool
     requires { ⌜ n ≤ 8 ⌝ }
     ensures { λ r. ⌜ made r (pairs ids args 0 n) ≡ make-tparam-subst (pairs ids args 0 n) ⌝ }
 {
@@ -58,7 +59,8 @@ pub fn make_tparam_subst(ids: [u32; 8], args: [u32; 8], n: u32) -> bool
     while 0 < i {
         i = i - 1;
         let at = wide(i);
-        match arg_from(ids, args, i + 1, n, ids[at]) {
+        let id = ids[at];
+        match arg_from(ids, args, i + 1, n, id) {
             Found::Nothing => {}
             Found::Just(_) => {
                 return false;
@@ -69,7 +71,7 @@ pub fn make_tparam_subst(ids: [u32; 8], args: [u32; 8], n: u32) -> bool
 }
 
 // A parameter's argument, as an answer.
-fn arg_or_none(ids: [u32; 8], args: [u32; 8], n: u32, id: TParamID) -> Out
+fn arg_or_none(ids: [TParamID; 8], args: [u32; 8], n: u32, id: TParamID) -> Out
     requires { ⌜ n ≤ 8 ⌝ }
     ensures { λ r. ⌜ r ≡ answer (arg-of (pairs ids args 0 n) (id .0)) ⌝ }
 {
@@ -90,7 +92,7 @@ fn subst_apply(
     w: &mut [u32],
     u: Used,
     left: u32,
-    ids: [u32; 8],
+    ids: [TParamID; 8],
     args: [u32; 8],
     n: u32,
     loc: u32,
@@ -125,7 +127,7 @@ fn subst_down(
     w: &mut [u32],
     u: Used,
     left: u32,
-    ids: [u32; 8],
+    ids: [TParamID; 8],
     args: [u32; 8],
     n: u32,
     ty: u32,
@@ -163,7 +165,7 @@ fn subst_down(
     }
 }
 
-pub fn subst_tparams(w: &mut [u32], u: Used, ids: [u32; 8], args: [u32; 8], n: u32, ty: u32) -> Step
+pub fn subst_tparams(w: &mut [u32], u: Used, ids: [TParamID; 8], args: [u32; 8], n: u32, ty: u32) -> Step
     requires { ⌜ Lay (now w) u × ((ty < u .nodes) × Parts (u .nodes) args n) ⌝ }
     ensures { λ r. ⌜ After (now (w .entry)) u (now (w .exit)) r (λ s. subst-tparams (pairs ids args 0 n) s ty) ⌝ }
 {

@@ -26,9 +26,6 @@ run-num-tvar-requires c κs = search needs
 enum-told-4 : tie.Need-enum-told-4
 enum-told-4 c = search needs
 
-tvar-requires : tie.Need-tvar-requires
-tvar-requires c κs = omega (arith, c .before .before .before .pre .0 .vars, rw (c .enum-told4 .given .1) at (c .before .before .before .pre .1 .1))
-
 run-set-num-requires : tie.Need-run-set-num-requires
 run-set-num-requires c κs = search needs
 
@@ -117,7 +114,7 @@ same-length-3 : tie.Need-same-length-3
 same-length-3 c = search needs
 
 returns-4 : tie.Need-returns-4
-returns-4 c = arm-SN (c .before .before .before .before .before .before .before .before .args .f) (c .before .before .before .before .before .before .before .before .args .t) (c .before .before .before .before .before .enum-told4 .given .1) _ (c .before .before .before .before .tvar .ensures) (c .before .before .run-set-num .ensures)
+returns-4 c = arm-SN (c .before .before .before .before .before .before .before .args .f) (c .before .before .before .before .before .before .before .args .t) (c .before .before .before .before .enum-told4 .given .1) (c .before .before .run-set-num .ensures)
 
 same-length-4 : tie.Need-same-length-4
 same-length-4 c = search needs
@@ -190,7 +187,6 @@ run-fields-spec =
     enum-told-3
     run-num-tvar-requires
     enum-told-4
-    tvar-requires
     run-set-num-requires
     enum-told-5
     run-two-requires

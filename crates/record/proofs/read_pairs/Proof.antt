@@ -57,8 +57,8 @@ no-space-requires c κs = search needs
 mul-ids : tie.Need-mul-ids Inv-loop μ-loop
 mul-ids c = omega (arith, c .before .before .before .before .before .before .before .before .before .before .before .before .before .before .before .before .pre .1 .1 .1 .1, c .before .before .before .before .before .before .before .before .before .before .before .before .loop-test .taken)
 
-array-write-ids : tie.Need-array-write-ids Inv-loop μ-loop
-array-write-ids c = omega (arith, c .before .before .before .before .before .before .before .before .before .before .before .before .before .before .before .before .pre .1 .1 .1 .1, c .before .before .before .before .before .before .before .before .before .before .before .before .loop-test .taken)
+array-set-from-ids : tie.Need-array-set-from-ids Inv-loop μ-loop
+array-set-from-ids c = omega (arith, c .before .before .before .before .before .before .before .before .before .before .before .before .before .before .before .before .pre .1 .1 .1 .1, c .before .before .before .before .before .before .before .before .before .before .before .before .loop-test .taken)
 
 node-of-requires : tie.Need-node-of-requires Inv-loop μ-loop
 node-of-requires c κs = search needs
@@ -110,7 +110,7 @@ read-pairs-spec =
     returns-2
     no-space-requires
     mul-ids
-    array-write-ids
+    array-set-from-ids
     node-of-requires
     mul-nodes
     array-write-nodes

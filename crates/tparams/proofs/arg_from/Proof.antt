@@ -10,12 +10,9 @@ use Rattle.tparams.proofs.PairLaws.{arg-here, arg-past, arg-none}
 use borrow.Author.Needs.{needs}
 use Rattle.tparams.proofs.arg_from.Statement.{statement}
 use Rattle.tparams.proofs.arg_from.Tie as tie
-use Rattle.tparams.proofs.arg_from.Reads as reads
-use Rattle.tparams.proofs.arg_from.Lts as lts
-use Rattle.tparams.proofs.wide.Reads as wide-reads
 
 abbrev Inv-loop : tie.InvT-loop
-Inv-loop i n id ids args k₀ k = (i ≤ k) × ((k ≤ n) × (arg-of (pairs ids args k (n - k)) id ≡ arg-of (pairs ids args i (n - i)) id))
+Inv-loop i n id ids args k₀ k = (i ≤ k) × ((k ≤ n) × (arg-of (pairs ids args k (n - k)) (id .0) ≡ arg-of (pairs ids args i (n - i)) (id .0)))
 
 abbrev μ-loop : tie.MeasureT-loop
 μ-loop i n id ids args k₀ k = n - k
@@ -26,20 +23,20 @@ loop-holds c = search needs
 wide-requires : tie.Need-wide-requires Inv-loop μ-loop
 wide-requires c κs = search needs
 
-mul-if1 : tie.Need-mul-if1 Inv-loop μ-loop
-mul-if1 c = search needs
+mul-x : tie.Need-mul-x Inv-loop μ-loop
+mul-x c = search needs
 
-array-read-if1 : tie.Need-array-read-if1 Inv-loop μ-loop
-array-read-if1 c = search needs
+array-copy-out-x : tie.Need-array-copy-out-x Inv-loop μ-loop
+array-copy-out-x c = search needs
 
-mul-t15 : tie.Need-mul-t15 Inv-loop μ-loop
-mul-t15 c = search needs
+mul-t16 : tie.Need-mul-t16 Inv-loop μ-loop
+mul-t16 c = search needs
 
-array-read-t18 : tie.Need-array-read-t18 Inv-loop μ-loop
-array-read-t18 c = search needs
+array-read-t19 : tie.Need-array-read-t19 Inv-loop μ-loop
+array-read-t19 c = search needs
 
 returns : tie.Need-returns Inv-loop μ-loop
-returns c = arg-here _ _ _ _ _ _ (c .before .wide .ensures) (c .before .before .loop-test .taken) (c .if1 .taken) ∙ c .before .before .before .loop .inv .1 .1
+returns c = arg-here _ _ _ _ _ _ (c .before .before .before .wide .ensures) (c .before .before .before .before .loop-test .taken) (c .if1 .taken) ∙ c .before .before .before .before .before .loop .inv .1 .1
 
 add-k : tie.Need-add-k Inv-loop μ-loop
 add-k c = search needs
@@ -48,7 +45,7 @@ loop-less : tie.Need-loop-less Inv-loop μ-loop
 loop-less c = search needs
 
 loop-again : tie.Need-loop-again Inv-loop μ-loop
-loop-again c = (omega arith, (omega arith, arg-past _ _ _ _ _ _ (c .before .wide .ensures) (c .before .before .loop-test .taken) (c .if1 .left) ∙ c .before .before .before .loop .inv .1 .1))
+loop-again c = (omega arith, (omega arith, arg-past _ _ _ _ _ _ (c .before .before .before .wide .ensures) (c .before .before .before .before .loop-test .taken) (c .if1 .left) ∙ c .before .before .before .before .before .loop .inv .1 .1))
 
 returns-2 : tie.Need-returns-2 Inv-loop μ-loop
 returns-2 c = arg-none _ _ _ _ _ (omega arith) ∙ c .before .loop .inv .1 .1
@@ -61,10 +58,10 @@ arg-from-spec =
     μ-loop
     loop-holds
     wide-requires
-    mul-if1
-    array-read-if1
-    mul-t15
-    array-read-t18
+    mul-x
+    array-copy-out-x
+    mul-t16
+    array-read-t19
     returns
     add-k
     loop-less

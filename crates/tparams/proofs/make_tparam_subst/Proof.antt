@@ -12,10 +12,6 @@ use Rattle.tparams.proofs.PairLaws.{made-none, made-back, twice-back}
 use borrow.Author.Needs.{needs}
 use Rattle.tparams.proofs.make_tparam_subst.Statement.{statement}
 use Rattle.tparams.proofs.make_tparam_subst.Tie as tie
-use Rattle.tparams.proofs.make_tparam_subst.Reads as reads
-use Rattle.tparams.proofs.make_tparam_subst.Lts as lts
-use Rattle.tparams.proofs.arg_from.Reads as arg-from-reads
-use Rattle.tparams.proofs.wide.Reads as wide-reads
 
 abbrev Inv-loop : tie.InvT-loop
 Inv-loop args n ids i₀ i = (i ≤ n) × (make-tparam-subst (pairs ids args i (n - i)) ≡ ok (pairs ids args i (n - i)))
@@ -32,14 +28,14 @@ sub-i c = search needs
 wide-requires : tie.Need-wide-requires Inv-loop μ-loop
 wide-requires c κs = search needs
 
+mul-id : tie.Need-mul-id Inv-loop μ-loop
+mul-id c = search needs
+
+array-copy-out-id : tie.Need-array-copy-out-id Inv-loop μ-loop
+array-copy-out-id c = search needs
+
 add-arg-from : tie.Need-add-arg-from Inv-loop μ-loop
 add-arg-from c = search needs
-
-mul-arg-from : tie.Need-mul-arg-from Inv-loop μ-loop
-mul-arg-from c = search needs
-
-array-read-arg-from : tie.Need-array-read-arg-from Inv-loop μ-loop
-array-read-arg-from c = search needs
 
 arg-from-requires : tie.Need-arg-from-requires Inv-loop μ-loop
 arg-from-requires c κs = search needs
@@ -51,13 +47,13 @@ loop-less : tie.Need-loop-less Inv-loop μ-loop
 loop-less c = search needs
 
 loop-again : tie.Need-loop-again Inv-loop μ-loop
-loop-again c = (omega arith, made-back _ _ _ _ _ (c .before .before .before .before .loop-test .taken) (c .before .before .before .before .before .loop .inv .0) (c .before .before .before .wide .ensures) (c .before .before .before .before .before .loop .inv .1) (rw (c .enum-told .given .1) at (c .before .before .arg-from .ensures)))
+loop-again c = (omega arith, made-back _ _ _ _ _ (c .before .before .before .before .before .loop-test .taken) (c .before .before .before .before .before .before .loop .inv .0) (c .before .before .before .before .wide .ensures) (c .before .before .before .before .before .before .loop .inv .1) (rw (c .enum-told .given .1) at (c .before .before .arg-from .ensures)))
 
 enum-told-2 : tie.Need-enum-told-2 Inv-loop μ-loop
 enum-told-2 c = search needs
 
 returns : tie.Need-returns Inv-loop μ-loop
-returns c = sym (twice-back _ _ _ _ _ (c .before .before .before .before .loop-test .taken) (c .before .before .before .before .before .loop .inv .0) (c .before .before .before .wide .ensures) (c .before .before .before .before .before .loop .inv .1) _ (rw (c .enum-told2 .given .1) at (c .before .before .arg-from .ensures)))
+returns c = sym (twice-back _ _ _ _ _ (c .before .before .before .before .before .loop-test .taken) (c .before .before .before .before .before .before .loop .inv .0) (c .before .before .before .before .wide .ensures) (c .before .before .before .before .before .before .loop .inv .1) _ (rw (c .enum-told2 .given .1) at (c .before .before .arg-from .ensures)))
 
 returns-2 : tie.Need-returns-2 Inv-loop μ-loop
 returns-2 c = let e : c .before .loop .i ≡ 0 = omega arith in sym (rw (e, sub-zero _) at (c .before .loop .inv .1))
@@ -71,9 +67,9 @@ make-tparam-subst-spec =
     loop-holds
     sub-i
     wide-requires
+    mul-id
+    array-copy-out-id
     add-arg-from
-    mul-arg-from
-    array-read-arg-from
     arg-from-requires
     enum-told
     loop-less
