@@ -3,7 +3,6 @@ use mathlib.Core.Path.{refl, _∙_}
 use Rattle.definition.specs.Reader.{_>>=_, go-on}
 use Rattle.reader.specs.Fields.{read-args, byte-wide}
 use Rattle.reader.proofs.Named.{builtin-is}
-use Rattle.definition.specs.Trees.{}
 use borrow.Author.Needs.{needs}
 use Rattle.reader.proofs.builtin_fields.Statement.{statement}
 use Rattle.reader.proofs.builtin_fields.Tie as tie

@@ -1,9 +1,8 @@
 -- `reader::ref_fields` meets its contract. Assumes nothing.
-use Rattle.reader.proofs.Rest.{read-one}
+use Rattle.reader.proofs.Rest.{read-one as one-part}
 use mathlib.Core.Path.{refl, _∙_}
 use native.Mathlib.Omega.{arith}
-use Rattle.definition.specs.Reader.{_>>=_, go-on, give, read-bool, read-two}
-use Rattle.definition.specs.Trees.{}
+use Rattle.definition.specs.Reader.{_>>=_, go-on, give, read-bool, read-one, read-two}
 use Rattle.reader.specs.Fields.{byte-wide}
 use borrow.Author.Needs.{needs}
 use Rattle.reader.proofs.ref_fields.Statement.{statement}
@@ -25,7 +24,7 @@ returns : tie.Need-returns
 unfolding read-two read-bool read-one _>>=_ go-on give
 returns c = λ s.
     let m = c .before .before .before .byte-to .ensures _ _ _ _ (c .before .before .before .before .read-number .ensures _ _ byte-wide) in
-    record { is = λ part. read-one part _ _ ∙ rw (← m .is, c .before .m .given .1) refl; within = (m .within, omega arith) }
+    record { is = λ part. one-part part _ _ ∙ rw (← m .is, c .before .m .given .1) refl; within = (m .within, omega arith) }
 
 returns-2 : tie.Need-returns-2
 unfolding read-two read-bool read-one _>>=_ go-on give
