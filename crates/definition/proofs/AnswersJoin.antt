@@ -80,6 +80,10 @@ pub both-ends-bound : after (FV 1 ∷ FV 2 ∷ JN (var 3 0) (var 4 1) ∷ JN (va
 unfolding after
 both-ends-bound = refl
 
+pub mark-at-its-location : num-loc (left-by fresh (NV 9 ∷ [])) 0 ≡ some 9
+unfolding left-by
+mark-at-its-location = refl
+
 pub second-mark-kept : num-loc (left-by fresh (NV 5 ∷ NV 9 ∷ JN (var 1 0) (var 2 1) ∷ [])) 2 ≡ some 9
 unfolding left-by
 second-mark-kept = refl

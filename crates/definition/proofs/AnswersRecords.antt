@@ -1,10 +1,9 @@
 -- Records other than JN and SU, and what they leave in the state, computed. Each line is false under an edit of must-fail/ (docs/CLAIMS.md, 'Edits of the definition'). Assumes nothing.
 use mathlib.Core.Path.{_≡_, refl}
 use mathlib.Core.List.{[], _∷_, _++_}
-use mathlib.Core.Option.{some}
 use Prim.Native.Nat.{ℕ, zero, suc}
 use Rattle.definition.specs.Types.{fresh, AbilityConstraint, BaseTypeConstraint}
-use Rattle.definition.specs.Store.{count, num-loc}
+use Rattle.definition.specs.Store.{count}
 use Rattle.definition.specs.Write.{Bytes}
 use Rattle.definition.proofs.Computed.{left-by}
 use Rattle.definition.proofs.Spelling.{unit, imm, u8, default-u64, vector, var, hex, text, FV, NV, UF, RD, SV, BC}
@@ -25,7 +24,7 @@ pub byte-left-over-is-5 : after [] (FV 1 ++ (0 ∷ [])) ≡ (5, [])
 unfolding after
 byte-left-over-is-5 = refl
 
--- ---- FV, NV, SN
+-- ---- FV, SN
 
 pub variable-at-any-location : after (FV 1 ∷ []) (FV 1001) ≡ (0, var 1001 1)
 unfolding after
@@ -34,10 +33,6 @@ variable-at-any-location = refl
 pub SN-shows-nothing : after (FV 1 ∷ []) (text "SN" ++ hex "0000 e9030000") ≡ (0, [])
 unfolding after
 SN-shows-nothing = refl
-
-pub mark-at-its-location : num-loc (left-by fresh (NV 9 ∷ [])) 0 ≡ some 9
-unfolding left-by
-mark-at-its-location = refl
 
 -- ---- UF, RD, IN
 
