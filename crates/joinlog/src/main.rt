@@ -3,15 +3,16 @@ ghost use Prim.Native.Nat.{_+_, _-_, _≤_, _<_};
 ghost use mathlib.Core.Path.{_≡_};
 ghost use mathlib.Core.Bool.{true, not, _||_};
 ghost use lib.ListN.{length, take};
-ghost use Rattle.joinlog.specs.Turns.{negative, Within, short, at-hand, held, first, Fresh, Behind, Filled, Listed, Turned, Ran};
+ghost use Rattle.joinlog.specs.Turns.{negative, Within, short, at-hand, held, first, Behind, Filled, job-lines, Gave, Listed, Turned, Ran};
 
 // Where the bytes at hand begin and end in the buffer, whether more may follow them, and the next record's number; how many bytes the last turn read and how much text
-// it handed to the writer; whether the job ended, and whether that is because a read or a write failed.
+// it handed to the writer; whether the job has begun, whether it ended, and whether that is because a read or a write failed.
 struct Turn {
     from: usize,
     have: usize,
     more: bool,
     place: u64,
+    begun: bool,
     read: usize,
     written: usize,
     ended: bool,
@@ -89,6 +90,7 @@ fn fill(buf: &mut [u8], t: Turn) -> Turn
         have: left + n,
         more: either(0 < n, got.failed),
         place: t.place,
+        begun: t.begun,
         read: n,
         written: 0,
         ended: got.failed,
@@ -121,6 +123,49 @@ fn hand_over(log: &[u8], n: usize) -> Moved
     }
 }
 
+// A job's first lines are those from a fresh state, whatever the words hold; then it goes on.
+fn next_lines(
+    state: &mut [u32],
+    rows: [[u8; 8]; 256],
+    stream: &[u8],
+    t: Turn,
+    log: &mut [u8],
+    number: &mut u32,
+    written: &mut usize,
+    read: &mut usize,
+    place: &mut u64,
+    ended: &mut bool,
+) -> [[u8; 8]; 256]
+    ensures { λ r. ⌜ Gave (job-lines (t .begun) (now (state .entry)) rows (now (place .entry)) (now (stream .entry)) (length (now (log .entry))) (t .more)) (now (stream .entry)) (now (log .entry)) (now (state .exit)) r (now (log .exit)) (now (written .exit)) (now (read .exit)) (now (place .exit)) (now (ended .exit)) ⌝ }
+{
+    if t.begun {
+        return engine::job(
+            state,
+            rows,
+            stream,
+            t.more,
+            log,
+            number,
+            written,
+            read,
+            place,
+            ended,
+        );
+    }
+    engine::fresh_job(
+        state,
+        rows,
+        stream,
+        t.more,
+        log,
+        number,
+        written,
+        read,
+        place,
+        ended,
+    )
+}
+
 // Writes the lines of the records at hand, as many as the log takes.
 fn list(state: &mut [u32], rows: &mut [[u8; 8]; 256], buf: &[u8], log: &mut [u8], t: Turn) -> Turn
     requires { ⌜ Within t (now buf) ⌝ }
@@ -134,11 +179,11 @@ fn list(state: &mut [u32], rows: &mut [[u8; 8]; 256], buf: &[u8], log: &mut [u8]
     let from = t.from;
     let have = t.have;
     let p = *rows;
-    *rows = engine::job(
+    *rows = next_lines(
         state,
         p,
         &buf[from..have],
-        t.more,
+        t,
         log,
         &mut number,
         &mut written,
@@ -152,6 +197,7 @@ fn list(state: &mut [u32], rows: &mut [[u8; 8]; 256], buf: &[u8], log: &mut [u8]
         have: have,
         more: t.more,
         place: place,
+        begun: true,
         read: 0,
         written: handed.count,
         ended: either(ended, handed.failed),
@@ -193,10 +239,10 @@ fn one_turn(
 // No contract can say what `libc::read` put or `io::write_all` took: that bytes read are those that `read_behind` counts, behind those at hand, and text handed over those
 // that `hand_over` counts, in front of the log, is to be seen in these two.
 // Refused (must-fail/): numbers from 0 anew (place_from_zero) or from 1 (starts_at_one), no more after the first bytes (no_more), more for ever (always_more), two turns
-// (two_turns), words of no fresh state (words_of_one), an end after the first lines (ends_at_once) or none after 6 (six_goes_on), turns that neither read nor list
+// (two_turns), a start from the words as they are (begun_at_once), a fresh state for each piece (begun_anew), an end after the first lines (ends_at_once) or none after 6 (six_goes_on), turns that neither read nor list
 // (spins_at_4095), lines that are not handed over (nothing_handed_over), a failed read passed over (unread_goes_on) or taken for the end (unread_is_the_end).
 fn run(state: &mut [u32], rows: &mut [[u8; 8]; 256], buf: &mut [u8], log: &mut [u8]) -> Turn
-    requires { ⌜ Fresh (now state) (now rows) × (4096 ≤ length (now buf)) ⌝ }
+    requires { ⌜ (length (now state) ≡ 24069) × (4096 ≤ length (now buf)) ⌝ }
     ensures { λ r. ⌜ Ran (held (now (state .entry)) (now (rows .entry)) (now (buf .entry)) (now (log .entry)) first) (held (now (state .exit)) (now (rows .exit)) (now (buf .exit)) (now (log .exit)) r) ⌝ }
 {
     let mut t = Turn {
@@ -204,6 +250,7 @@ fn run(state: &mut [u32], rows: &mut [[u8; 8]; 256], buf: &mut [u8], log: &mut [
         have: 0,
         more: true,
         place: 0,
+        begun: false,
         read: 0,
         written: 0,
         ended: false,

@@ -34,6 +34,7 @@ returns c = let m = c .before .before .before .before .before .before .before .s
       follow = c .either .ensures;
       none = e .none;
       same-place = refl;
+      same-begun = refl;
       silent = refl;
       ends = refl;
     }

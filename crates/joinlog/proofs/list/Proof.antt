@@ -9,17 +9,17 @@ use Rattle.joinlog.proofs.Moves.{passed}
 use Rattle.joinlog.proofs.list.Statement.{statement}
 use Rattle.joinlog.proofs.list.Tie as tie
 
-sub-job : tie.Need-sub-job
-sub-job c = search needs
+sub-next-lines : tie.Need-sub-next-lines
+sub-next-lines c = search needs
 
-part-job-start : tie.Need-part-job-start
-part-job-start c = search needs
+part-next-lines-start : tie.Need-part-next-lines-start
+part-next-lines-start c = search needs
 
-part-job-end : tie.Need-part-job-end
-part-job-end c = search needs
+part-next-lines-end : tie.Need-part-next-lines-end
+part-next-lines-end c = search needs
 
-job-requires : tie.Need-job-requires
-job-requires c κs = search needs
+next-lines-requires : tie.Need-next-lines-requires
+next-lines-requires c κs = search needs
 
 hand-over-requires : tie.Need-hand-over-requires
 hand-over-requires c κs = search needs
@@ -37,33 +37,33 @@ same-length-2 : tie.Need-same-length-2
 same-length-2 c = search needs
 
 returns : tie.Need-returns
-returns c = let e = c .before .before .before .before .before .before .before .job .ensures in
-    let f = e .1 .1 .1 .1 in
+returns c = let e = c .before .before .before .before .before .before .before .next-lines .ensures in
     let t = c .before .before .before .before .before .before .before .before .before .before .before .before .before .before .before .before .before .before .before .before .args .t in
     let few : t .have - t .from ≤ length (drop (t .from) (c .before .before .before .before .before .before .before .before .before .before .before .before .before .before .before .before .before .before .before .before .args .buf .now)) = simp length-drop (omega (arith, c .before .before .before .before .before .before .before .before .before .before .before .before .before .before .before .before .before .before .before .before .pre .inside)) in
     let size = length-take-le (t .have - t .from) (drop (t .from) (c .before .before .before .before .before .before .before .before .before .before .before .before .before .before .before .before .before .before .before .before .args .buf .now)) few in
     record {
-      words = e .1 .0;
-      rows = e .0;
-      text = e .1 .1 .1 .0;
-      handed = c .before .hand-over .ensures ∙ f .0;
-      within = record { ordered = omega (arith, f .1 .1 .1 .1 .0, size, c .before .before .before .before .before .before .before .before .before .before .before .before .before .before .before .before .before .before .before .before .pre .ordered); inside = c .before .before .before .before .before .before .before .before .before .before .before .before .before .before .before .before .before .before .before .before .pre .inside };
-      rest = passed (t .from) _ (t .have) (c .before .before .before .before .before .before .before .before .before .before .before .before .before .before .before .before .before .before .before .before .args .buf .now) ∙ f .1 .0;
+      words = e .words;
+      rows = e .rows;
+      text = e .text;
+      handed = c .before .hand-over .ensures ∙ e .size;
+      within = record { ordered = omega (arith, e .inside, size, c .before .before .before .before .before .before .before .before .before .before .before .before .before .before .before .before .before .before .before .before .pre .ordered); inside = c .before .before .before .before .before .before .before .before .before .before .before .before .before .before .before .before .before .before .before .before .pre .inside };
+      rest = passed (t .from) _ (t .have) (c .before .before .before .before .before .before .before .before .before .before .before .before .before .before .before .before .before .before .before .before .args .buf .now) ∙ e .rest;
       same-bytes = refl;
       none = refl;
       follow = refl;
-      next = f .1 .1 .0;
-      ends = rw (← f .1 .1 .1 .0) (c .either .ensures);
+      next = e .next;
+      begun = refl;
+      ends = rw (← e .ends) (c .either .ensures);
     }
 
 pub list-spec : {M : Type 1} → statement M
 list-spec =
     tie.close
     (tie.spec
-    sub-job
-    part-job-start
-    part-job-end
-    job-requires
+    sub-next-lines
+    part-next-lines-start
+    part-next-lines-end
+    next-lines-requires
     hand-over-requires
     add-t31
     either-requires

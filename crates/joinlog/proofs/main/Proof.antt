@@ -1,6 +1,5 @@
--- `joinlog::main` meets its contract: the run starts from a fresh state. Assumes nothing.
+-- `joinlog::main` meets its contract: the buffers have the lengths that the run wants. Assumes nothing.
 use borrow.Author.Needs.{needs}
-use Rattle.engine.proofs.Fresh.{no-words, no-params}
 use Rattle.joinlog.proofs.main.Statement.{statement}
 use Rattle.joinlog.proofs.main.Tie as tie
 
@@ -20,7 +19,7 @@ slice-aggregate-run-3 : tie.Need-slice-aggregate-run-3
 slice-aggregate-run-3 c = search needs
 
 run-requires : tie.Need-run-requires
-run-requires c κs = (record { fresh-words = no-words; fresh-rows = no-params }, search needs)
+run-requires c κs = search needs
 
 returns : tie.Need-returns
 returns c = search needs
