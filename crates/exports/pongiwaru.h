@@ -10,9 +10,10 @@
  *
  * Words and rows belong together: lend those that the last call left. They may be kept, copied and lent again later.
  * Every pointer is to as many elements as the length beside it says, none is null (a length may be 0), and what a call may write
- * overlaps nothing else that it is lent. params has no length beside it: every call reads exactly PONGIWARU_ROWS rows, and
- * pongiwaru_record and pongiwaru_job write as many. Calls on different states may run side by side. A call allocates nothing; it
- * runs on the caller's stack, and needs the more of it the deeper a state's types are nested.
+ * overlaps nothing else that it is lent. params has no length beside it: every call reads exactly PONGIWARU_ROWS rows, and all but
+ * pongiwaru_split write as many. Calls on different states may run side by side. A call allocates nothing; it runs on the caller's
+ * stack, and needs the more of it the deeper a state's types are nested: a thread of PONGIWARU_STACK_BYTES is enough (tested on the
+ * deepest sound states, not proved).
  */
 #ifndef PONGIWARU_H
 #define PONGIWARU_H
@@ -36,7 +37,8 @@ enum {
     PONGIWARU_ROW_BYTES = 8,
     PONGIWARU_RECORD_BYTES = 4096, /* the most that a record has; a longer one is 5 */
     PONGIWARU_ANSWER_BYTES = 4096, /* the least answer buffer; a shorter one is 15 */
-    PONGIWARU_LINE_BYTES = 8217    /* the log's room for one more line; a job with less takes no record */
+    PONGIWARU_LINE_BYTES = 8217,   /* the log's room for one more line; a job with less takes no record */
+    PONGIWARU_STACK_BYTES = 524288 /* of a thread: enough for every call */
 };
 
 /* The number of an answer. 0 to 4 may have a payload and change the state; 5 to 15 have none and leave all as it was. */
@@ -81,6 +83,14 @@ uint32_t pongiwaru_job(uint32_t *state, size_t state_length, uint8_t params[PONG
                        const uint8_t *stream, size_t stream_length, bool more,
                        uint8_t *log, size_t log_length, size_t *written, size_t *read,
                        uint64_t *place, bool *ended);
+
+/* A job's first lines, from a fresh state and record number 0: state and params may hold anything, and are cleared by the call, so the
+ * state is not tested. Else as pongiwaru_job, which goes on from what this leaves; *place is only written. The result is 0, or 15 where
+ * state_length is not PONGIWARU_WORDS. */
+uint32_t pongiwaru_fresh_job(uint32_t *state, size_t state_length, uint8_t params[PONGIWARU_ROWS][PONGIWARU_ROW_BYTES],
+                             const uint8_t *stream, size_t stream_length, bool more,
+                             uint8_t *log, size_t log_length, size_t *written, size_t *read,
+                             uint64_t *place, bool *ended);
 
 #ifdef __cplusplus
 }

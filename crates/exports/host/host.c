@@ -111,6 +111,11 @@ static void jobs(void) {
     job(worked + 6, sizeof worked - 6, false, sizeof log_bytes, &written, &read, &place, &ended);
     expect("no record has the number 2^64 - 1", written == 0 && read == 0 && place == UINT64_MAX && !ended);
     expect("a job on no state is 15", pongiwaru_job(state, 0, params, worked, sizeof worked, false, log_bytes, sizeof log_bytes, &written, &read, &place, &ended) == 15 && written == 0 && read == 0 && ended);
+    memset(state, 0xa5, sizeof state);
+    memset(params, 0xa5, sizeof params);
+    place = 7;
+    expect("a fresh job takes words that are no state", pongiwaru_fresh_job(state, PONGIWARU_WORDS, params, worked, sizeof worked, false, log_bytes, sizeof log_bytes, &written, &read, &place, &ended) == 0 && read == sizeof worked && ended && place == 3);
+    expect("a fresh job of another length is 15", pongiwaru_fresh_job(state, 0, params, worked, sizeof worked, false, log_bytes, sizeof log_bytes, &written, &read, &place, &ended) == 15 && written == 0 && read == 0 && ended);
 }
 
 /* ---- each answer under its name: streams whose last record has it, by pongiwaru_split and pongiwaru_record, and by pongiwaru_job */

@@ -49,9 +49,25 @@ pub fn split(state: &mut [u32], rows: &mut Rows, stream: &[u8], rest: &mut usize
     }
 }
 
-/// A job's next lines, from `progress.place` on: 0, or 15.
 #[cfg(linked)]
-pub fn job(
+type Lines = unsafe extern "C" fn(
+    *mut u32,
+    usize,
+    *mut [u8; ROW_BYTES],
+    *const u8,
+    usize,
+    bool,
+    *mut u8,
+    usize,
+    *mut usize,
+    *mut usize,
+    *mut u64,
+    *mut bool,
+) -> u32;
+
+#[cfg(linked)]
+fn lines(
+    call: Lines,
     state: &mut [u32],
     rows: &mut Rows,
     stream: &[u8],
@@ -62,7 +78,7 @@ pub fn job(
     let (words, bytes, room) = (state.len(), stream.len(), log.len());
     let Progress { written, read, place, ended } = progress;
     unsafe {
-        header::pongiwaru_job(
+        call(
             state.as_mut_ptr(),
             words,
             rows.as_mut_ptr(),
@@ -79,6 +95,32 @@ pub fn job(
     }
 }
 
+/// A job's next lines, from `progress.place` on: 0, or 15.
+#[cfg(linked)]
+pub fn job(
+    state: &mut [u32],
+    rows: &mut Rows,
+    stream: &[u8],
+    more: bool,
+    log: &mut [u8],
+    progress: &mut Progress,
+) -> u32 {
+    lines(header::pongiwaru_job, state, rows, stream, more, log, progress)
+}
+
+/// A job's first lines, from a fresh state, whatever words and rows hold: 0, or 15.
+#[cfg(linked)]
+pub fn fresh_job(
+    state: &mut [u32],
+    rows: &mut Rows,
+    stream: &[u8],
+    more: bool,
+    log: &mut [u8],
+    progress: &mut Progress,
+) -> u32 {
+    lines(header::pongiwaru_fresh_job, state, rows, stream, more, log, progress)
+}
+
 #[cfg(not(linked))]
 pub fn record(_: &mut [u32], _: &mut Rows, _: &[u8], _: &mut [u8], _: &mut u32) -> u32 {
     no_archive()
@@ -89,5 +131,9 @@ pub fn split(_: &mut [u32], _: &mut Rows, _: &[u8], _: &mut usize) {
 }
 #[cfg(not(linked))]
 pub fn job(_: &mut [u32], _: &mut Rows, _: &[u8], _: bool, _: &mut [u8], _: &mut Progress) -> u32 {
+    no_archive()
+}
+#[cfg(not(linked))]
+pub fn fresh_job(_: &mut [u32], _: &mut Rows, _: &[u8], _: bool, _: &mut [u8], _: &mut Progress) -> u32 {
     no_archive()
 }

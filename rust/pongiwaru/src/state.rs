@@ -76,6 +76,14 @@ impl State {
         Lines { answer: answer(number), read: p.read, written: p.written, ended: p.ended }
     }
 
+    /// A job's first lines, from a fresh state and record number 0, whatever this one holds; `job` goes on from them.
+    pub fn fresh_job(&mut self, stream: &[u8], more: bool, log: &mut [u8], place: &mut u64) -> Lines {
+        let mut p = Progress::default();
+        let number = lent::fresh_job(&mut self.words, &mut self.rows, stream, more, log, &mut p);
+        *place = p.place;
+        Lines { answer: answer(number), read: p.read, written: p.written, ended: p.ended }
+    }
+
     /// The log of a whole stream, record numbers from 0; None where the state is unsound.
     pub fn log(&mut self, stream: &[u8]) -> Option<Vec<u8>> {
         let (mut out, mut rest, mut place) = (vec![], stream, 0);

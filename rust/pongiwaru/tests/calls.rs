@@ -100,3 +100,15 @@ fn numbers_and_answers() {
     assert_eq!(Answer::of(Answer::ALL.len() as u32), None);
     assert_eq!(Answer::SubtypeError.to_string(), "subtype error")
 }
+
+#[test]
+fn a_fresh_job_from_words_that_hold_anything() {
+    let mut log = vec![0; 8 * LINE_BYTES];
+    let (mut state, mut place) = (State::fresh(), 7);
+    assert!(state.log(STREAM).is_some());
+    for _ in 0..2 {
+        let lines = state.fresh_job(STREAM, false, &mut log, &mut place);
+        assert_eq!((lines.answer, lines.read, lines.ended, place), (Answer::Typed, STREAM.len(), true, 3));
+        assert_eq!(&log[..lines.written], LOG.as_bytes());
+    }
+}
