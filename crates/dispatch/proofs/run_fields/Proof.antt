@@ -114,7 +114,7 @@ same-length-3 : tie.Need-same-length-3
 same-length-3 c = search needs
 
 returns-4 : tie.Need-returns-4
-returns-4 c = arm-SN (c .before .before .before .before .before .before .before .args .f) (c .before .before .before .before .before .before .before .args .t) (c .before .before .before .before .enum-told4 .given .1) (c .before .before .run-set-num .ensures)
+returns-4 c = arm-SN (c .before .before .before .before .before .before .before .before .args .f) (c .before .before .before .before .before .before .before .before .args .t) (c .before .before .before .before .before .enum-told4 .given .1) (c .before .before .run-set-num .ensures)
 
 same-length-4 : tie.Need-same-length-4
 same-length-4 c = search needs

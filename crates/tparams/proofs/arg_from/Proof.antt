@@ -36,7 +36,7 @@ array-read-t19 : tie.Need-array-read-t19 Inv-loop μ-loop
 array-read-t19 c = search needs
 
 returns : tie.Need-returns Inv-loop μ-loop
-returns c = arg-here _ _ _ _ _ _ (c .before .before .before .wide .ensures) (c .before .before .before .before .loop-test .taken) (c .if1 .taken) ∙ c .before .before .before .before .before .loop .inv .1 .1
+returns c = arg-here _ _ _ _ _ _ (c .before .before .before .before .wide .ensures) (c .before .before .before .before .before .loop-test .taken) (c .if1 .taken) ∙ c .before .before .before .before .before .before .loop .inv .1 .1
 
 add-k : tie.Need-add-k Inv-loop μ-loop
 add-k c = search needs
@@ -45,7 +45,7 @@ loop-less : tie.Need-loop-less Inv-loop μ-loop
 loop-less c = search needs
 
 loop-again : tie.Need-loop-again Inv-loop μ-loop
-loop-again c = (omega arith, (omega arith, arg-past _ _ _ _ _ _ (c .before .before .before .wide .ensures) (c .before .before .before .before .loop-test .taken) (c .if1 .left) ∙ c .before .before .before .before .before .loop .inv .1 .1))
+loop-again c = (omega arith, (omega arith, arg-past _ _ _ _ _ _ (c .before .before .before .before .wide .ensures) (c .before .before .before .before .before .loop-test .taken) (c .if1 .left) ∙ c .before .before .before .before .before .before .loop .inv .1 .1))
 
 returns-2 : tie.Need-returns-2 Inv-loop μ-loop
 returns-2 c = arg-none _ _ _ _ _ (omega arith) ∙ c .before .loop .inv .1 .1
