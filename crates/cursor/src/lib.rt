@@ -1,6 +1,7 @@
 // A record's bytes and a position in them: a number of one, two or four bytes is read, the least byte first, and the position moves on.
 ghost use mathlib.Core.Path.{_≡_};
-ghost use Prim.Native.Nat.{_-_, _<_, _≤_};
+ghost use mathlib.Core.Logic.{_⊎_};
+ghost use Prim.Native.Nat.{_+_, _-_, _<_, _≤_};
 ghost use lib.ListN.{length, take as front};
 ghost use Rattle.cursor.specs.Words.{word-at, words-at};
 
@@ -128,4 +129,15 @@ pub fn read_words(b: &[u8], end: usize, at: usize, n: usize, m: usize) -> Words
     ensures { λ r. ⌜ r ≡ words-at (front end (now (b .entry))) at n m ⌝ }
 {
     read_two_at(&b[0..end], at, n, m)
+}
+
+// Where the bytes of a record end at the latest: byte 4,097 is never read.
+pub fn end_of(long: usize, start: usize) -> usize
+    requires { ⌜ start ≤ long ⌝ }
+    ensures { λ r. ⌜ (r ≤ long) × ((start ≤ r) × ((r ≡ start + 4096) ⊎ ((r ≡ long) × (long ≤ start + 4096)))) ⌝ }
+{
+    if long - start < 4096 {
+        return long;
+    }
+    start + 4096
 }

@@ -15,10 +15,10 @@ use Rattle.table.specs.State.{outcome, pushed-constraint}
 use Rattle.table.specs.declared.Used.{Used}
 use Rattle.answer.specs.declared.Ran.{Ran}
 use Rattle.instantiate.specs.Known.{Known}
-use Rattle.record.specs.Noded.{Noded, noded, kind}
-use Rattle.record.specs.Noded as record-of
-use Rattle.record.specs.declared.RecordMark.the-variants as m
-use Rattle.record.specs.declared.Fields.{Fields}
+use Rattle.fields.specs.Noded.{Noded, noded, kind}
+use Rattle.fields.specs.Noded as record-of
+use Rattle.marks.specs.declared.RecordMark.the-variants as m
+use Rattle.fields.specs.declared.Fields.{Fields}
 use Rattle.names.specs.declared.TParamID.{TParamID}
 use Rattle.tparams.specs.Pairs.{id-at, pairs}
 use Rattle.run.specs.Runs.{join-in, two-run, unfold-run, ready-run, subst-in, tparams-run, instantiate-run, tvar-run, num-tvar-in, num-tvar-run, set-num-in, set-num-run, kind-at, constraint-run, Any, Runs}

@@ -12,10 +12,10 @@ use Rattle.table.proofs.Tab.{length-tab, getD-tab, getD-tab-out}
 use Rattle.lent.specs.Lent.{bytes-at, struct-of, structs-of}
 use Rattle.lent.proofs.Lays.{lent-declares}
 use Rattle.instantiate.specs.Known.{Known}
-use Rattle.record.specs.Noded.{Noded-in}
-use Rattle.record.specs.declared.RecordMark.{RecordMark}
-use Rattle.record.specs.declared.RecordMark.the-variants as m
-use Rattle.record.specs.declared.Fields.{Fields}
+use Rattle.fields.specs.Noded.{Noded-in}
+use Rattle.marks.specs.declared.RecordMark.{RecordMark}
+use Rattle.marks.specs.declared.RecordMark.the-variants as m
+use Rattle.fields.specs.declared.Fields.{Fields}
 
 -- ---- more variables and nodes
 

@@ -8,7 +8,7 @@ use Rattle.definition.specs.Place.{place, place-pairs}
 use Rattle.definition.specs.Record as d
 use Rattle.definition.specs.Record.{Record}
 use Rattle.definition.specs.Step.{constrain, two-types, run}
-use Rattle.record.specs.Noded.{Noded, SD, FV, NV, SN, JN, SU, UF, RD, IN, TS, NC, BC, SC, SV, place-record}
+use Rattle.fields.specs.Noded.{Noded, SD, FV, NV, SN, JN, SU, UF, RD, IN, TS, NC, BC, SC, SV, place-record}
 use Rattle.run.specs.Runs.{join-in, two-run, unfold-run, ready-run, tparams-run, instantiate-run, tvar-run, num-tvar-run, set-num-run, constraint-run, declare-run}
 use Rattle.dispatch.specs.Dispatch.{noded-run}
 

@@ -10,9 +10,9 @@ use Rattle.definition.specs.Instantiate.{instantiate}
 use Rattle.definition.specs.Constraints.{solve-constraints}
 use Rattle.definition.specs.Step.{numeric-constraint}
 use Rattle.table.specs.State.{outcome, pushed-constraint}
-use Rattle.record.specs.Noded.{Noded, SD, FV, NV, SN, JN, SU, UF, RD, IN, TS, NC, BC, SC, SV}
-use Rattle.record.specs.declared.RecordMark.{RecordMark}
-use Rattle.record.specs.declared.RecordMark.the-variants as m
+use Rattle.fields.specs.Noded.{Noded, SD, FV, NV, SN, JN, SU, UF, RD, IN, TS, NC, BC, SC, SV}
+use Rattle.marks.specs.declared.RecordMark.{RecordMark}
+use Rattle.marks.specs.declared.RecordMark.the-variants as m
 use Rattle.answer.specs.declared.Ran.{Ran}
 use Rattle.run.specs.Runs.{join-in, two-run, unfold-run, ready-run, subst-in, tparams-run, instantiate-run, tvar-run, num-tvar-in, num-tvar-run, set-num-in, set-num-run, constraint-run, declare-run}
 

@@ -1,14 +1,14 @@
 // A record that is read and placed is run, by its mark.
 ghost use Rattle.table.specs.State.{Lay};
 ghost use Rattle.instantiate.specs.Known.{Known};
-ghost use Rattle.record.specs.Noded.{noded, Noded-in};
+ghost use Rattle.fields.specs.Noded.{noded, Noded-in};
 ghost use Rattle.run.specs.Runs.{Runs};
 ghost use Rattle.dispatch.specs.Dispatch.{noded-run, noded-step, noded-kept, Shown-run};
 use answer::Ran;
 use answer::Show;
 use arms::TypingCase;
-use record::Fields;
-use record::RecordMark;
+use fields::Fields;
+use marks::RecordMark;
 use table::Out;
 use table::Used;
 

@@ -27,10 +27,10 @@ use Rattle.reader.specs.declared.Taken.{Taken}
 use Rattle.reader.specs.Fields.{rest, Knows}
 use Rattle.reader.specs.Taken.{Placed, stopped, placed, place-read, part-of, Part-in, Takes, is-stop, is-over, node-in}
 use Rattle.reader.proofs.Loop.{declares-kept}
-use Rattle.record.specs.declared.RecordMark.the-variants as m
-use Rattle.record.specs.Noded.{Noded, TS, place-record, id-at, pairs, part-with, Fields-are, plain-fields, paired-fields}
-use Rattle.record.proofs.Placing.{is-not, last-type, first-type, type-stops}
-use Rattle.record.proofs.Forms.{nodes-grow, was-open, part-so, stop-so, first-in}
+use Rattle.marks.specs.declared.RecordMark.the-variants as m
+use Rattle.fields.specs.Noded.{Noded, TS, place-record, id-at, pairs, part-with, Fields-are, plain-fields, paired-fields}
+use Rattle.fields.proofs.Placing.{is-not, last-type, first-type, type-stops}
+use Rattle.fields.proofs.Forms.{nodes-grow, was-open, part-so, stop-so, first-in}
 
 -- ---- pairs in two arrays
 

@@ -19,8 +19,8 @@ use Rattle.reader.specs.declared.Part.{Part}
 use Rattle.reader.specs.declared.Part.the-variants.{At, Full, Malformed, Unknown}
 use Rattle.reader.specs.Fields.{rest, Knows}
 use Rattle.reader.specs.Taken.{Placed, stopped, placed, place-read}
-use Rattle.record.specs.declared.Fields.{Fields}
-use Rattle.record.specs.Noded.{place-record, noded, part-with, fields-as, Fields-are, Record-is}
+use Rattle.fields.specs.declared.Fields.{Fields}
+use Rattle.fields.specs.Noded.{place-record, noded, part-with, fields-as, Fields-are, Record-is}
 
 -- ---- bytes handed back
 

@@ -2,10 +2,10 @@
 use mathlib.Core.Path.{_≡_, refl, subst}
 use Prim.Native.Nat.{ℕ, _≤_}
 use lib.ListN.{take}
-use Rattle.record.specs.Noded.{SD, SV, noded, Noded-in}
-use Rattle.record.specs.declared.RecordMark.{RecordMark}
-use Rattle.record.specs.declared.RecordMark.the-variants as m
-use Rattle.record.specs.declared.Fields.{Fields}
+use Rattle.fields.specs.Noded.{SD, SV, noded, Noded-in}
+use Rattle.marks.specs.declared.RecordMark.{RecordMark}
+use Rattle.marks.specs.declared.RecordMark.the-variants as m
+use Rattle.fields.specs.declared.Fields.{Fields}
 use Rattle.dispatch.specs.Dispatch.{Shown-run}
 use Rattle.step.specs.Replies.{call-of}
 use Rattle.step.specs.declared.Call.{Call}

@@ -8,7 +8,7 @@ use Rattle.definition.specs.Trees.{Tree}
 use Rattle.definition.specs.Place.{place, place-pairs}
 use Rattle.definition.specs.Record as d
 use Rattle.definition.specs.Record.{Record}
-use Rattle.record.specs.Noded.{Noded, SD, FV, NV, SN, JN, SU, UF, RD, IN, TS, NC, BC, SC, SV, place-record}
+use Rattle.fields.specs.Noded.{Noded, SD, FV, NV, SN, JN, SU, UF, RD, IN, TS, NC, BC, SC, SV, place-record}
 
 abbrev own : Noded → ℕ
 own (SD a ps) = 0

@@ -14,7 +14,7 @@ use Rattle.definition.specs.Record.{Record, read-record}
 use Rattle.definition.specs.Step as step
 use Rattle.definition.specs.Step.{run, answer, refusal, lent, streamed}
 use Rattle.reader.specs.Taken.{stopped, placed, place-read}
-use Rattle.record.specs.Noded.{Noded, place-record}
+use Rattle.fields.specs.Noded.{Noded, place-record}
 use Rattle.step.specs.Trusted.{answered, unread}
 
 -- ---- from what was placed to what was read

@@ -24,7 +24,7 @@ use Rattle.lent.specs.Lent.{structs-of, encode-params}
 use Rattle.lent.proofs.Lays.{lent-declares}
 use Rattle.reader.specs.Taken.{Arities}
 use Rattle.reader.proofs.Loop.{declares-kept}
-use Rattle.record.specs.Noded.{Noded, SD, SV}
+use Rattle.fields.specs.Noded.{Noded, SD, SV}
 use Rattle.writer.specs.Bytes.{All-bytes}
 use Rattle.answer.specs.Ran.{Settles, answered, refused-by, Settled, Answers}
 use Rattle.answer.specs.declared.Ran.{Ran}

@@ -26,8 +26,8 @@ use Rattle.lent.proofs.Lays.{lent-declares}
 use Rattle.reader.specs.Taken.{Arities, stopped, placed, place-read}
 use Rattle.reader.specs.declared.Part.{Part}
 use Rattle.reader.specs.declared.Part.the-variants.{At, Full, Malformed, Unknown}
-use Rattle.record.specs.Noded.{Noded, place-record, noded, Part-so, Noded-in, part-with, Record-is}
-use Rattle.record.specs.declared.Fields.{Fields}
+use Rattle.fields.specs.Noded.{Noded, place-record, noded, Part-so, Noded-in, part-with, Record-is}
+use Rattle.fields.specs.declared.Fields.{Fields}
 use Rattle.answer.specs.Ran.{refused-by, Answers}
 use Rattle.answer.specs.declared.Answer.{Answer}
 use Rattle.answer.proofs.Calls.{grown-above}

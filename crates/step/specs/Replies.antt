@@ -18,9 +18,9 @@ use Rattle.lent.specs.Lent.{structs-of, encode-params}
 use Rattle.snap.specs.Snap.{Since}
 use Rattle.reader.specs.declared.Part.{Part}
 use Rattle.reader.specs.declared.Part.the-variants.{At, Full, Malformed, Unknown}
-use Rattle.record.specs.Noded.{Noded, place-record}
-use Rattle.record.specs.declared.RecordMark.{RecordMark}
-use Rattle.record.specs.declared.RecordMark.the-variants as m
+use Rattle.fields.specs.Noded.{Noded, place-record}
+use Rattle.marks.specs.declared.RecordMark.{RecordMark}
+use Rattle.marks.specs.declared.RecordMark.the-variants as m
 use Rattle.answer.specs.declared.Answer.{Answer}
 use Rattle.step.specs.declared.Call.{Call}
 use Rattle.step.specs.declared.Call.the-variants.{Declare, Solve, Run}

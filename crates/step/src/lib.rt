@@ -8,14 +8,14 @@ ghost use Rattle.definition.specs.Types.{if_then_else_};
 ghost use Rattle.definition.specs.Write.{Is-bytes};
 ghost use Rattle.table.specs.State.{Lay};
 ghost use Rattle.lent.specs.Lent.{used-of};
-ghost use Rattle.record.specs.Noded.{SD, noded, Noded-in};
+ghost use Rattle.fields.specs.Noded.{SD, noded, Noded-in};
 ghost use Rattle.step.specs.Trusted.{held, Stands, unread, Steps};
 ghost use Rattle.step.specs.Replies.{Begins, Ends, row-for, padded, call-of, place-after};
 use answer::Answer;
 use names::AbilitySet;
 use reader::Part;
-use record::Fields;
-use record::RecordMark;
+use fields::Fields;
+use marks::RecordMark;
 use table::Found;
 use table::Used;
 

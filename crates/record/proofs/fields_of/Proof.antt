@@ -1,6 +1,6 @@
 -- `record::fields_of` meets its contract. Assumes nothing.
 use Rattle.definition.specs.Reader.{_>>=_, refuse, read-one, read-two}
-use Rattle.record.proofs.Forms.{malformed-is, sv-is, one-UF, one-RD, one-IN, one-BC, one-SC, two-JN, two-SU, loc-FV, loc-NV}
+use Rattle.fields.proofs.Forms.{malformed-is, sv-is, one-UF, one-RD, one-IN, one-BC, one-SC, two-JN, two-SU, loc-FV, loc-NV}
 use mathlib.Core.Path.{refl}
 use borrow.Author.Needs.{needs}
 use Rattle.record.proofs.fields_of.Statement.{statement}

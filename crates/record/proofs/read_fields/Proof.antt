@@ -1,6 +1,6 @@
 -- `record::read_fields` meets its contract. Assumes nothing.
 use Rattle.record.proofs.Marks.{mark-there}
-use Rattle.record.proofs.Forms.{malformed-is, fields-is}
+use Rattle.fields.proofs.Forms.{malformed-is, fields-is}
 use borrow.Author.Needs.{needs}
 use Rattle.reader.specs.Fields.{byte-wide}
 use mathlib.Core.Path.{refl}

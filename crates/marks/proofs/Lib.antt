@@ -1,0 +1,2 @@
+-- Laws of marks. Assumes nothing.
+pub mod Marks

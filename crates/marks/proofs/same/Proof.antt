@@ -1,0 +1,15 @@
+-- `marks::same` meets its contract. Assumes nothing.
+use mathlib.Core.Path.{refl}
+use borrow.Author.Tests.{eq-eqb, ne-eqb}
+use borrow.Author.Needs.{needs}
+use Rattle.marks.proofs.same.Statement.{statement}
+use Rattle.marks.proofs.same.Tie as tie
+
+returns : tie.Need-returns
+returns c = rw (eq-eqb _ _ (c .if1 .taken)) refl
+
+returns-2 : tie.Need-returns-2
+returns-2 c = rw (ne-eqb _ _ (c .if1 .left)) refl
+
+pub same-spec : {M : Type 1} → statement M
+same-spec = tie.close (tie.spec returns returns-2)
