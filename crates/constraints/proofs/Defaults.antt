@@ -10,7 +10,7 @@ use lib.ListN.{length, getD, drop, drop-of-length-le}
 use lib.Seq.{drop-cons}
 use Rattle.definition.specs.Types as d
 use Rattle.definition.specs.Types.{State, Struct, Cell, unbound, Spanned, Type-value, Result, ok, err, refused, _>>=_}
-use Rattle.definition.specs.Store.{node, with-args, value, spanned, num-loc, sp, with-structs}
+use Rattle.definition.specs.Store.{node, with-args, type-at, spanned, num-loc, sp, with-structs}
 use Rattle.definition.specs.Subst.{unfold-type}
 use Rattle.definition.specs.Join.{join}
 use Rattle.definition.specs.Constraints.{undecided, u64, num-vars, default-num-var, default-num-vars}

@@ -10,7 +10,7 @@ use lib.Dec.{eqb}
 use borrow.Author.Tests.{eqb-false, not-true, not-false, eq-eqb}
 use Rattle.definition.specs.Types.{TypeName, Multiple, Builtin, ModuleType, Mark, Type-value, Ref, Apply, UnresolvedError, Node, State}
 use Rattle.definition.specs.Types.{Incompatible, Result, err, _>>=_, if_then_else_}
-use Rattle.definition.specs.Store.{nowhere, count, node, value, with-args, sp}
+use Rattle.definition.specs.Store.{nowhere, count, node, type-at, with-args, sp}
 use Rattle.definition.specs.Join.{TypingCase, Join-impl, join-impl-types, join-mut, join-refs, same-name, is-multiple, same-mark, join-applies, arm, join-arm, join-impl}
 use Rattle.definition.specs.Book.{MoveType, unit, reference, parameter, tuple, named, MoveTypes, no-types, _and_, Denotes, is-unit, is-reference, is-parameter, is-tuple, is-named, Denote, are-none, are-each}
 use Rattle.definition.specs.Book.{no-subtype, incompatible, other-count, no-space, no-depth, other-marks, Comes-to, succeeds, fails, cut-short}
@@ -26,11 +26,11 @@ use Rattle.definition.proofs.BookTypes.{Apart, Aparts, head-of, many, a
 
 -- ---- a node that is a type of Move's is below the count, and stays that type
 
-value-beyond : (S : State) (t : ℕ) → count S ≤ t → value S t ≡ UnresolvedError
-unfolding value node with-args
+value-beyond : (S : State) (t : ℕ) → count S ≤ t → type-at S t ≡ UnresolvedError
+unfolding type-at node with-args
 value-beyond S t h = ap (λ (n : Node). with-args S (n .value)) (List·getD-eq-default (S .nodes) nowhere h)
 
-inside : (S : State) (t : ℕ) → (value S t ≡ UnresolvedError → ⊥) → t < count S
+inside : (S : State) (t : ℕ) → (type-at S t ≡ UnresolvedError → ⊥) → t < count S
 inside S t h = elim (native.Mathlib.Decide.decLt t (count S)) [ yes l ↦ l | no l ↦ absurd (h (value-beyond S t (omega arith))) ]
 
 pub denotes-in : {S : State} {t : ℕ} {T : MoveType} → Denotes S t T → t < count S
@@ -155,7 +155,7 @@ module _ {ar : TypeName → ℕ} (join : Join-impl) (g : Judges ar join) (c : Ty
     -- lists, builtins and structs: apart where the names are, and else as their arguments are
     applies-to : (k1 : Mark) (n1 : TypeName) (tys1 : List ℕ) (k2 : Mark) (n2 : TypeName) (tys2 : List ℕ) (Ls Rs : MoveTypes) (L R : MoveType) → Denote S tys1 Ls → Denote S tys2 Rs
         → (n1 ≡ n2 → length tys1 ≡ length tys2) → length tys2 ≡ ar n2 → (same-name n1 n2 ≡ false → Apart c L R) → (Aparts c Ls Rs → Apart c L R)
-        → ((S′ : State) (t : ℕ) (ts : List ℕ) (Ts : MoveTypes) → n1 ≡ n2 → value S′ t ≡ Apply k2 n2 ts → Denote S′ ts Ts → Bests c Ls Rs Ts → (T : MoveType) × Denotes S′ t T × Best c L R T)
+        → ((S′ : State) (t : ℕ) (ts : List ℕ) (Ts : MoveTypes) → n1 ≡ n2 → type-at S′ t ≡ Apply k2 n2 ts → Denote S′ ts Ts → Bests c Ls Rs Ts → (T : MoveType) × Denotes S′ t T × Best c L R T)
         → Judged ar c S L R (join-applies join S c l r k1 n1 tys1 k2 n2 tys2)
     unfolding join-applies
     applies-to k1 n1 tys1 k2 n2 tys2 Ls Rs L R d1 d2 long a2 other down up =
@@ -187,7 +187,7 @@ off : {ar : TypeName → ℕ} {c : TypingCase} {S : State} {l r : ℕ} {L R : Mo
 off h = fails (apart-heads h) incompatible
 
 module _ {ar : TypeName → ℕ} (counts : Counts ar) where
-  arm-to : (join : Join-impl) → Judges ar join → (c : TypingCase) (S : State) (l r : ℕ) (L R : MoveType) → Sound ar S → Denotes S l L → Denotes S r R → Judged ar c S L R (join-arm join S c l r (arm (value S l) (value S r)))
+  arm-to : (join : Join-impl) → Judges ar join → (c : TypingCase) (S : State) (l r : ℕ) (L R : MoveType) → Sound ar S → Denotes S l L → Denotes S r R → Judged ar c S L R (join-arm join S c l r (arm (type-at S l) (type-at S r)))
   unfolding join-arm arm
   arm-to join g c S l r unit unit s (is-unit e) (is-unit e′) = rw (e, e′) (succeeds (record { sound = s; quiet = quiet-refl S; type = unit; is = is-unit e′; the-best = best-unit }))
   arm-to join g c S l r unit (reference m R) s (is-unit e) (is-reference e′ d′) = rw (e, e′) (off (λ h. omega arith))

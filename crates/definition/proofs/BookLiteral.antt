@@ -10,7 +10,7 @@ use native.Mathlib.Omega.{arith}
 use lib.Dec.{eqb}
 use lib.ListN.{length, getD, List·getD-eq-default}
 use Rattle.definition.specs.Types.{TypeName, Multiple, Builtin, ModuleType, Mark, Type-value, UnitType, Ref, Param, Apply, Var, Anything, UnresolvedError, Cell, unbound, State, max-nodes, max-vars, max-depth, Refusal, Result, ok, refused, _>>=_, if_then_else_}
-use Rattle.definition.specs.Store.{count, taken, value, spanned, get, num-loc, with-constraints, sp}
+use Rattle.definition.specs.Store.{count, taken, type-at, spanned, get, num-loc, with-constraints, sp}
 use Rattle.definition.specs.Subst.{parts, as-var, forward, forward-tvar, unfold-var, unfold-type}
 use Rattle.definition.specs.Join.{is-numeric, join}
 use Rattle.definition.specs.Constraints.{num-vars, undecided, is-integer, u64, default-num-var, default-num-vars, solve-constraints, staying, failures}
@@ -52,13 +52,13 @@ head-leaf {S = S} (h-apply {k = k} {n = n} {ps = ps} {qs = qs}) ts e =
     go ta-nil e = refl
     go (ta-cons t ts) e = never (cc)
 
-fits-leaf : {k : Mark} {n : TypeName} {S : State} {x t : ℕ} → Fits S x t → value S x ≡ Apply k n [] → value S t ≡ Apply k n []
+fits-leaf : {k : Mark} {n : TypeName} {S : State} {x t : ℕ} → Fits S x t → type-at S x ≡ Apply k n [] → type-at S t ≡ Apply k n []
 fits-leaf (f-err e h) u = never (cc)
 fits-leaf (f-node h ts) u = head-leaf h ts u
 
 -- the variable v is the type
 Is : State → ℕ → Type-value → Type 0
-Is S v type = (t : ℕ) × (get S (forward-tvar S v) ≡ some t) × (value S t ≡ type)
+Is S v type = (t : ℕ) × (get S (forward-tvar S v) ≡ some t) × (type-at S t ≡ type)
 
 Is-u64 : State → ℕ → Type 0
 Is-u64 S v = Is S v u64
@@ -86,7 +86,7 @@ module _ {ar : TypeName → ℕ} {S S′ : State} (s : Sound ar S) (s′ : Sound
 -- ---- one variable
 
 -- a join with u64 makes it so
-tracked-u64 : {ar : TypeName → ℕ} {S : State} {l r t w : ℕ} → Sound ar S → w < taken S → Tracks S l t → Tracks S r t → value S l ≡ u64 → value S r ≡ Var w → Is-u64 S w
+tracked-u64 : {ar : TypeName → ℕ} {S : State} {l r t w : ℕ} → Sound ar S → w < taken S → Tracks S l t → Tracks S r t → type-at S l ≡ u64 → type-at S r ≡ Var w → Is-u64 S w
 unfolding Is-u64 Is u64
 tracked-u64 s h (t-any e) q u d = never (cc)
 tracked-u64 s h (t-var a b c e) q u d = never (cc)
@@ -287,7 +287,7 @@ module _ (S : State) (h : sound S ≡ true) where
   went-sure no-ok (ps-ok g w) = sure-ok w
   went-sure no-refused ps-refused = sure-refused
 
-  integer-stays : (v T : ℕ) (t : Type-value) → get S (forward-tvar S v) ≡ some T → value S T ≡ t → is-integer t ≡ true → Literal-rule v t (solve-constraints S)
+  integer-stays : (v T : ℕ) (t : Type-value) → get S (forward-tvar S v) ≡ some T → type-at S T ≡ t → is-integer t ≡ true → Literal-rule v t (solve-constraints S)
   unfolding is-integer Is
   integer-stays v T UnitType g e i = never (cc)
   integer-stays v T (Ref m t) g e i = never (cc)

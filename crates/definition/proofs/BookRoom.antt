@@ -9,7 +9,7 @@ use lib.ListN.{length, length-append}
 use lib.Dec.{eqb}
 use borrow.Author.Tests.{lt-ltb, le-leb}
 use Rattle.definition.specs.Types.{TypeName, Multiple, Mark, Type-value, Ref, Apply, State, max-nodes, max-args, TypingError, Incompatible, Refusal, abilities-disagree, Result, ok, err, refused, _>>=_, if_then_else_}
-use Rattle.definition.specs.Store.{count, value, loc-of, with-node, args-of, sp}
+use Rattle.definition.specs.Store.{count, type-at, loc-of, with-node, args-of, sp}
 use Rattle.definition.specs.Join.{TypingCase, Join-impl, join-impl-types, join-mut, join-refs, same-name, is-multiple, same-mark, join-applies, arm, join-arm, join-impl}
 use Rattle.definition.specs.Book.{MoveType, unit, reference, parameter, tuple, named, MoveTypes, no-types, _and_, Denotes, is-unit, is-reference, is-parameter, is-tuple, is-named, Denote, are-none, are-each, Comes-to, succeeds, fails, cut-short}
 use Rattle.definition.proofs.BookDeep.{size, sizes, Levels, unit-level, reference-level, parameter-level, tuple-level, named-level, All-levels, each-level, Join-room}
@@ -121,7 +121,7 @@ no-level v = go v refl
     go (named-level v) e = absurd (omega arith)
 
 -- equal names have equally many arguments
-same-long : {ar : TypeName → ℕ} {S : State} {k1 k2 : Mark} {n1 n2 : TypeName} {ps1 ps2 : List ℕ} → Sound ar S → (l r : ℕ) → value S l ≡ Apply k1 n1 ps1 → value S r ≡ Apply k2 n2 ps2 → l < count S → r < count S → n1 ≡ n2 → length ps1 ≡ length ps2
+same-long : {ar : TypeName → ℕ} {S : State} {k1 k2 : Mark} {n1 n2 : TypeName} {ps1 ps2 : List ℕ} → Sound ar S → (l r : ℕ) → type-at S l ≡ Apply k1 n1 ps1 → type-at S r ≡ Apply k2 n2 ps2 → l < count S → r < count S → n1 ≡ n2 → length ps1 ≡ length ps2
 same-long {ar} {k1 = k1} {k2 = k2} {n1 = n1} {n2 = n2} {ps1 = ps1} {ps2 = ps2} s l r e e′ i j h = s .arity l k1 n1 ps1 i e ∙ ap ar h ∙ sym (s .arity r k2 n2 ps2 j e′)
 
 tuple-levels : {d : ℕ} {Ts : MoveTypes} → Levels (suc d) (tuple Ts) → All-levels d Ts
@@ -135,7 +135,7 @@ itself S r k h = f-ok {s = S} {b = r} (record { nodes = omega arith; places = om
 
 module _ {ar : TypeName → ℕ} (counts : Counts ar) {d : ℕ} where
   arm-room : Rooms ar d → (c : TypingCase) (S : State) (l r : ℕ) (L R : MoveType) → Sound ar S → Denotes S l L → Denotes S r R → Join-room S (suc d) L
-      → Fine-with (Cost S (size L)) (join-arm (λ s c l r. join-impl d s c l r) S c l r (arm (value S l) (value S r)))
+      → Fine-with (Cost S (size L)) (join-arm (λ s c l r. join-impl d s c l r) S c l r (arm (type-at S l) (type-at S r)))
   unfolding join-arm arm
   arm-room h c S l r unit unit s (is-unit e) (is-unit e′) o = rw (e, e′) (itself S r 1 (omega arith))
   arm-room h c S l r (reference m1 L) (reference m2 R) s (is-reference {p = t1} e f) (is-reference {p = t2} e′ f′) o = rw (e, e′) (refs-room counts h c S l r m1 t1 m2 t2 L R s f f′ o (join-mut c m1 m2))

@@ -10,7 +10,7 @@ use Rattle.definition.specs.Constraints.{num-vars, undecided, u64, defau
 use Rattle.definition.specs.Write.{Bytes, write}
 use Rattle.definition.specs.Record.{JN, SU, SV}
 use Rattle.definition.specs.Trees.{Tree}
-use Rattle.definition.specs.Place.{place}
+use Rattle.definition.specs.Build.{build}
 use Rattle.definition.specs.Step.{two-types, run}
 use Rattle.definition.specs.Demand.{Join-call, outcome, if-reached, two-types-calls, default-num-var-calls, default-num-vars-calls, run-calls}
 use Rattle.definition.proofs.Records.{NoErr, no-sp, no-place}
@@ -23,16 +23,16 @@ pub data One-join : Result (State × Bytes) → List Join-call → Type 0 where
 
 two-types-made : (c : TypingCase) (S : State) (t1 t2 : Tree) → One-join (two-types (λ s l r. join-impl max-depth s c l r) S t1 t2) (two-types-calls c S t1 t2)
 unfolding two-types two-types-calls if-reached _>>=_
-two-types-made c S t1 t2 = first (place t1 S) (no-place t1 S)
+two-types-made c S t1 t2 = first (build t1 S) (no-place t1 S)
   where
     second : (l : ℕ) (m : Result (State × ℕ)) → NoErr m → One-join (m >>= λ (y : State × ℕ). join-impl max-depth (y .0) c l (y .1) >>= λ (x : State × ℕ). ok (x .0, write (x .0) (x .1)))
         (if-reached (m >>= λ (y : State × ℕ). ok (record { before = y .0; case = c; lhs = l; rhs = y .1 } ∷ [])))
     second l (ok (s, r)) e = joined (record { before = s; case = c; lhs = l; rhs = r })
     second l (refused x) e = not-placed
 
-    first : (m : Result (State × ℕ)) → NoErr m → One-join (m >>= λ (z : State × ℕ). place t2 (z .0) >>= λ (y : State × ℕ). join-impl max-depth (y .0) c (z .1) (y .1) >>= λ (x : State × ℕ). ok (x .0, write (x .0) (x .1)))
-        (if-reached (m >>= λ (z : State × ℕ). place t2 (z .0) >>= λ (y : State × ℕ). ok (record { before = y .0; case = c; lhs = z .1; rhs = y .1 } ∷ [])))
-    first (ok (s, l)) e = second l (place t2 s) (no-place t2 s)
+    first : (m : Result (State × ℕ)) → NoErr m → One-join (m >>= λ (z : State × ℕ). build t2 (z .0) >>= λ (y : State × ℕ). join-impl max-depth (y .0) c (z .1) (y .1) >>= λ (x : State × ℕ). ok (x .0, write (x .0) (x .1)))
+        (if-reached (m >>= λ (z : State × ℕ). build t2 (z .0) >>= λ (y : State × ℕ). ok (record { before = y .0; case = c; lhs = z .1; rhs = y .1 } ∷ [])))
+    first (ok (s, l)) e = second l (build t2 s) (no-place t2 s)
     first (refused x) e = not-placed
 
 pub JN-calls : (s : State) (t1 t2 : Tree) → One-join (run s (JN t1 t2)) (run-calls s (JN t1 t2))

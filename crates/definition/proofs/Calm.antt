@@ -7,7 +7,7 @@ use Prim.Native.Nat.{ℕ, _<_}
 use native.Mathlib.Decide.{ℕ-discrete}
 use native.Mathlib.Omega.{arith}
 use Rattle.definition.specs.Types.{TypeName, Type-value, Var, State}
-use Rattle.definition.specs.Store.{count, taken, value, get, insert}
+use Rattle.definition.specs.Store.{count, taken, type-at, get, insert}
 use Rattle.definition.specs.Subst.{as-var, parts}
 use Rattle.definition.specs.Rank.{Meets, meets-it, meets-bound, meets-part, None-reaches-itself}
 use Rattle.definition.proofs.Laws.{get-insert-same, get-insert-other, value-insert}
@@ -40,16 +40,16 @@ dead-open S w e v t g meets-it = never (cc)
 dead-open S w e v t g (meets-bound g′ m) = never (cc)
 dead-open S w e v t g (meets-part i m) = List·Memᴰ·not-nil i
 
-module _ {ar : TypeName → ℕ} {S S′ : State} (s : Sound ar S) (kept : (i : ℕ) → i < count S → value S′ i ≡ value S i)
-    (bindings : (v t : ℕ) → get S′ v ≡ some t → (get S v ≡ some t) ⊎ Dead S′ (value S′ t)) where
-  back : {v t : ℕ} {L : Type-value} → get S′ v ≡ some t → Meets S′ v L → (q : ℕ) → q < count S → value S q ≡ L → Meets S v L
+module _ {ar : TypeName → ℕ} {S S′ : State} (s : Sound ar S) (kept : (i : ℕ) → i < count S → type-at S′ i ≡ type-at S i)
+    (bindings : (v t : ℕ) → get S′ v ≡ some t → (get S v ≡ some t) ⊎ Dead S′ (type-at S′ t)) where
+  back : {v t : ℕ} {L : Type-value} → get S′ v ≡ some t → Meets S′ v L → (q : ℕ) → q < count S → type-at S q ≡ L → Meets S v L
   back b meets-it q h e = meets-it
   back {v} {t} b (meets-bound {w = w} {t = u} g m) q h e = elim (bindings w u g) [
     | inl g′ ↦ let l : u < count S = s .bind-in w u g′ in meets-bound g′ (subst (λ (x : Type-value). Meets S v x) (kept u l) (back b m u l (sym (kept u l))))
     | inr d ↦ absurd (d v t b m)
   ]
   back {v} {t} {L} b (meets-part {p = p} i m) q h e =
-      let l : p < q = all-at (λ x. x < q) (parts (value S q)) (s .parts-below q h) p (rw e i) in
+      let l : p < q = all-at (λ x. x < q) (parts (type-at S q)) (s .parts-below q h) p (rw e i) in
       let l′ : p < count S = omega arith in
       meets-part i (subst (λ (x : Type-value). Meets S v x) (kept p l′) (back b m p l′ (sym (kept p l′))))
 
@@ -64,7 +64,7 @@ module _ {ar : TypeName → ℕ} {S S′ : State} (s : Sound ar S) (kept : (i : 
   calm = record { none-still = kept-none }
 
 -- bindings as they were
-pub calm-same : {ar : TypeName → ℕ} {S : State} → Sound ar S → (S′ : State) → ((i : ℕ) → i < count S → value S′ i ≡ value S i) → ((v : ℕ) → get S′ v ≡ get S v) → Calm S S′
+pub calm-same : {ar : TypeName → ℕ} {S : State} → Sound ar S → (S′ : State) → ((i : ℕ) → i < count S → type-at S′ i ≡ type-at S i) → ((v : ℕ) → get S′ v ≡ get S v) → Calm S S′
 calm-same s S′ kept same = calm s kept (λ v t g. inl (sym (same v) ∙ g))
 
 pub insert-cases : (S : State) (v t w u : ℕ) → v < taken S → get (insert S v t) w ≡ some u → (u ≡ t) ⊎ (get S w ≡ some u)
@@ -74,19 +74,19 @@ insert-cases S v t w u h e = elim (ℕ-discrete w v) [
 ]
 
 -- a binding to what meets no bound variable
-pub calm-insert : {ar : TypeName → ℕ} {S : State} → Sound ar S → (v t : ℕ) → v < taken S → Dead (insert S v t) (value S t) → Calm S (insert S v t)
+pub calm-insert : {ar : TypeName → ℕ} {S : State} → Sound ar S → (v t : ℕ) → v < taken S → Dead (insert S v t) (type-at S t) → Calm S (insert S v t)
 calm-insert {S = S} s v t h d = calm s (λ i l. value-insert S v t i) (λ w u e. elim (insert-cases S v t w u h e) [
-  | inl c ↦ inr (subst (λ (x : Type-value). Dead (insert S v t) x) (sym (value-insert S v t u ∙ ap (value S) c)) d)
+  | inl c ↦ inr (subst (λ (x : Type-value). Dead (insert S v t) x) (sym (value-insert S v t u ∙ ap (type-at S) c)) d)
   | inr g ↦ inl g
 ])
 
 -- both chain ends bound to a variable without binding
 pub calm-tied : {ar : TypeName → ℕ} {S P : State} {e1 e2 f n1 n2 : ℕ} (y : Ready ar S P e1 e2 f n1 n2) → get (tied y) f ≡ none → Calm P (tied y)
 calm-tied {P = P} {f = f} {n1 = n1} {n2 = n2} y free = calm (y .sound) (λ i l. val y i) (λ w u e. elim (tied-cases y w u e) [
-  | inl c ↦ inr (at-f u (val y u ∙ ap (value P) c ∙ y .is1))
-  | inr (inl c) ↦ inr (at-f u (val y u ∙ ap (value P) c ∙ y .is2))
+  | inl c ↦ inr (at-f u (val y u ∙ ap (type-at P) c ∙ y .is1))
+  | inr (inl c) ↦ inr (at-f u (val y u ∙ ap (type-at P) c ∙ y .is2))
   | inr (inr g) ↦ inl g
 ])
   where
-    at-f : (u : ℕ) → value (tied y) u ≡ Var f → Dead (tied y) (value (tied y) u)
+    at-f : (u : ℕ) → type-at (tied y) u ≡ Var f → Dead (tied y) (type-at (tied y) u)
     at-f u e = subst (λ (x : Type-value). Dead (tied y) x) (sym e) (dead-open (tied y) f free)

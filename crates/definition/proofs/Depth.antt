@@ -3,14 +3,14 @@ use mathlib.Core.List.{List, [], _∷_}
 use mathlib.Core.Option.{none, some}
 use Prim.Native.Nat.{ℕ, zero, suc}
 use Rattle.definition.specs.Types.{Type-value, UnitType, Ref, Param, Apply, Var, Anything, UnresolvedError, State}
-use Rattle.definition.specs.Store.{value, get}
+use Rattle.definition.specs.Store.{type-at, get}
 use Rattle.definition.specs.Subst.{forward-tvar, parts}
 use Rattle.definition.specs.Rank.{ReadType, any, open-var, unresolved, unit, reference, parameter, named, ReadTypes, no-types, _and_}
 use Rattle.definition.proofs.Order.{All}
 
 -- a chain end stands for its binding, or for itself
 unfoldable pub end-shape : State → ℕ → Type-value
-end-shape s e = elim (get s e) [ none ↦ Var e | some t ↦ value s t ]
+end-shape s e = elim (get s e) [ none ↦ Var e | some t ↦ type-at s t ]
 
 -- a bound variable is replaced by its binding
 unfoldable pub follow : State → Type-value → Type-value
@@ -38,9 +38,9 @@ read-shape f UnresolvedError = unresolved
 -- the shape, read n levels deep, with the type `rest` wherever it goes deeper. The levels of two such readings meet only each other: `rest` stands beside `rest`
 unfoldable pub unrolled : ReadType → ℕ → State → Type-value → ReadType
 unrolled rest zero s shape = rest
-unrolled rest (suc n) s shape = read-shape (λ p. unrolled rest n s (value s p)) (follow s shape)
+unrolled rest (suc n) s shape = read-shape (λ p. unrolled rest n s (type-at s p)) (follow s shape)
 
 -- it goes no deeper: reading the shape ends within n levels
 unfoldable pub Ends-within : State → ℕ → Type-value → Type 0
 Ends-within s zero shape = ⊥
-Ends-within s (suc n) shape = All (λ p. Ends-within s n (value s p)) (parts (follow s shape))
+Ends-within s (suc n) shape = All (λ p. Ends-within s n (type-at s p)) (parts (follow s shape))

@@ -9,7 +9,7 @@ use native.Mathlib.Omega.{arith}
 use lib.ListN.{length, getD, set, replicate, getD-replicate}
 use lib.Seq.{getD-set-other}
 use Rattle.definition.specs.Types.{TypeName, Mark, Type-value, UnitType, Ref, Param, Apply, Var, Anything, UnresolvedError, State, TypingError, Refusal, no-argument, Result, ok, err, refused, _>>=_}
-use Rattle.definition.specs.Store.{count, taken, value, loc-of, sp, map-types}
+use Rattle.definition.specs.Store.{count, taken, type-at, loc-of, sp, map-types}
 use Rattle.definition.specs.Subst.{parts, next-of, forward, forward-tvar, mark-one, mark-chain, set-num-var}
 use Rattle.definition.specs.TParams.{TParamSubst, arg-of, subst-value, subst-down, subst-tparams}
 use Rattle.definition.specs.Instantiate.{tparam-constraints, instantiate-type-args, instantiate-apply, instantiate-value, instantiate-down, instantiate}
@@ -196,18 +196,18 @@ module _ {ar : TypeName → ℕ} {S₀ : State} (s₀ : Sound ar S₀) where
   itself : {S : State} (t : ℕ) → t < count S₀ → Good ar S₀ S → One ar S₀ S (S, t)
   itself t h g = record { good = g; more = omega arith; t-in = omega (arith, g .grown .g-nodes) }
 
-  ref-below : (t p : ℕ) (m : Bool) → t < count S₀ → value S₀ t ≡ Ref m p → p < t
+  ref-below : (t p : ℕ) (m : Bool) → t < count S₀ → type-at S₀ t ≡ Ref m p → p < t
   unfolding parts
   ref-below t p m h e = (rw e at (s₀ .parts-below t h)) .0
 
-  args-below : (t : ℕ) {k : Mark} {n : TypeName} (ps : List ℕ) → t < count S₀ → value S₀ t ≡ Apply k n ps → All (λ p. p < t) ps
+  args-below : (t : ℕ) {k : Mark} {n : TypeName} (ps : List ℕ) → t < count S₀ → type-at S₀ t ≡ Apply k n ps → All (λ p. p < t) ps
   unfolding parts
   args-below t ps h e = rw e at (s₀ .parts-below t h)
 
   -- ---- subst_tparams
 
   module _ (sub : TParamSubst) (args : (id arg : ℕ) → arg-of sub id ≡ some arg → arg < count S₀) where
-    subst-level : (f f′ : Walk) (t : ℕ) → t < count S₀ → Agree ar S₀ (λ p. p < t) f f′ → (S : State) → Good ar S₀ S → (x : Type-value) → value S₀ t ≡ x
+    subst-level : (f f′ : Walk) (t : ℕ) → t < count S₀ → Agree ar S₀ (λ p. p < t) f f′ → (S : State) → Good ar S₀ S → (x : Type-value) → type-at S₀ t ≡ x
         → Settled (One ar S₀ S) (subst-value f sub S t (loc-of S t) x) (subst-value f′ sub S t (loc-of S t) x)
     unfolding subst-value
     subst-level f f′ t h ag S g UnitType e = s-ok (itself t h g)
@@ -228,12 +228,12 @@ module _ {ar : TypeName → ℕ} {S₀ : State} (s₀ : Sound ar S₀) where
     subst-levels zero m S t g h i j = absurd (omega arith)
     subst-levels (suc n) zero S t g h i j = absurd (omega arith)
     subst-levels (suc n) (suc m) S t g h i j =
-        rw (g .grown .g-kept t h) (subst-level (λ s t. subst-down n sub s t) (λ s t. subst-down m sub s t) t h (λ S p g l. subst-levels n m S p g (omega arith) (omega arith) (omega arith)) S g (value S₀ t) refl)
+        rw (g .grown .g-kept t h) (subst-level (λ s t. subst-down n sub s t) (λ s t. subst-down m sub s t) t h (λ S p g l. subst-levels n m S p g (omega arith) (omega arith) (omega arith)) S g (type-at S₀ t) refl)
 
   -- ---- instantiate
 
   module _ (d₀ : Declared ar S₀) where
-    instantiate-level : (f f′ : Walk) (t : ℕ) → t < count S₀ → Agree ar S₀ (λ p. p < t) f f′ → (S : State) → Good ar S₀ S → (x : Type-value) → value S₀ t ≡ x
+    instantiate-level : (f f′ : Walk) (t : ℕ) → t < count S₀ → Agree ar S₀ (λ p. p < t) f f′ → (S : State) → Good ar S₀ S → (x : Type-value) → type-at S₀ t ≡ x
         → Settled Always (instantiate-value f S t (loc-of S t) x) (instantiate-value f′ S t (loc-of S t) x)
     unfolding instantiate-value instantiate-apply instantiate-type-args
     instantiate-level f f′ t h ag S g UnitType e = s-ok tt
@@ -254,7 +254,7 @@ module _ {ar : TypeName → ℕ} {S₀ : State} (s₀ : Sound ar S₀) where
     instantiate-levels zero m S t g h i j = absurd (omega arith)
     instantiate-levels (suc n) zero S t g h i j = absurd (omega arith)
     instantiate-levels (suc n) (suc m) S t g h i j = post-settled {Q = Always}
-        (rw (g .grown .g-kept t h) (instantiate-level (λ s t. instantiate-down n s t) (λ s t. instantiate-down m s t) t h (λ S p g l. instantiate-levels n m S p g (omega arith) (omega arith) (omega arith)) S g (value S₀ t) refl))
+        (rw (g .grown .g-kept t h) (instantiate-level (λ s t. instantiate-down n s t) (λ s t. instantiate-down m s t) t h (λ S p g l. instantiate-levels n m S p g (omega arith) (omega arith) (omega arith)) S g (type-at S₀ t) refl))
         (instantiate-down-went (suc n) S t (g .is-sound) (declared-on d₀ (g .grown)) (omega (arith, g .grown .g-nodes)))
         (λ s u k w. record { good = good-on g k (w .sound); more = k .g-nodes; t-in = w .t-in })
 

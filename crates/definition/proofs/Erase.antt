@@ -9,7 +9,7 @@ use lib.Dec.{leb, ltb}
 use Rattle.definition.specs.Types.{Shape, UnitType, Ref, Param, Apply, Var, Anything, UnresolvedError, Type-value, Spanned, Places, Node, Cell, unbound, State}
 use Rattle.definition.specs.Types.{Constraint, AbilityConstraint, NumericConstraint, BitsConstraint, OrderedConstraint, BaseTypeConstraint, SingleTypeConstraint}
 use Rattle.definition.specs.Types.{max-nodes, max-args, max-vars, max-constraints, max-structs, TypingError, SubtypeError, Incompatible, ArityMismatch, RecursiveType, Refusal, Result, ok, err, refused, _>>=_, if_then_else_}
-use Rattle.definition.specs.Store.{count, taken, nowhere, args-at, with-args, node, value, loc-of, spanned, get, num-loc, with-vars, with-constraints, with-structs, insert, args-of, with-node, sp, with-var, next-tvar, add-constraint, declare, map-types, any-of, all-of}
+use Rattle.definition.specs.Store.{count, taken, nowhere, args-at, with-args, node, type-at, loc-of, spanned, get, num-loc, with-vars, with-constraints, with-structs, insert, args-of, with-node, sp, with-var, next-tvar, add-constraint, declare, map-types, any-of, all-of}
 
 -- ---- locations set to 0
 
@@ -80,8 +80,8 @@ module _ (s : State) where
   with-args-erase Anything = refl
   with-args-erase UnresolvedError = refl
 
-  pub value-erase : (t : ℕ) → value (erase s) t ≡ value s t
-  unfolding value
+  pub value-erase : (t : ℕ) → type-at (erase s) t ≡ type-at s t
+  unfolding type-at
   value-erase t = rw (node-erase t) (with-args-erase (node s t .value))
 
   pub loc-erase : (t : ℕ) → loc-of (erase s) t ≡ 0

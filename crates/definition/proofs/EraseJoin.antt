@@ -7,7 +7,7 @@ use Prim.Native.Nat.{ℕ, zero, suc, _*_}
 use lib.Dec.{eqb}
 use Rattle.definition.specs.Types.{TypeName, Multiple, Builtin, ModuleType, Mark, UnitType, Ref, Param, Apply, Var, Anything, UnresolvedError, Type-value, Spanned, State}
 use Rattle.definition.specs.Types.{AbilityConstraint, BaseTypeConstraint, RecursiveType, Result, if_then_else_}
-use Rattle.definition.specs.Store.{count, taken, value, loc-of, spanned, get, num-loc, insert, sp}
+use Rattle.definition.specs.Store.{count, taken, type-at, loc-of, spanned, get, num-loc, insert, sp}
 use Rattle.definition.specs.Subst.{as-var, is-anything, parts, next-in, next-of, forward, forward-tvar, or-insert, mark-one, mark-chain, set-num-var, unfold-var, unfold-type, goes-on-to, ends-in, reaches-itself, ready-value, ready, ready-tvars}
 use Rattle.definition.specs.Join.{TypingCase, Join, Subtype, is-num-var, num-shape, check-num-tvar′, check-num-tvar, is-var, used, join-bind-tvar, Join-impl, type-of, merge-num, shown, join-tvar, join-impl-types}
 use Rattle.definition.specs.Join.{Arm, Anything-l, Anything-r, Units, Refs, Params, Applies, Vars, Var-l, Var-r, Error-l, Error-r, Others, arm, join-mut, join-loc, join-refs, same-name, is-multiple, same-mark, join-applies, join-unbound, join-arm, join-impl, join, subtype}
@@ -113,7 +113,7 @@ ready-value-erase f r s t l l′ z (Var i) = er-opt (get s (forward-tvar s i)) (
 ready-erase : (n : ℕ) → Erases (ready n)
 unfolding ready
 ready-erase zero s t = er-refused
-ready-erase (suc n) s t = rw (value-erase s t) (ready-value-erase (λ s t. ready n s t) (λ s t. ready-erase n s t) s t (loc-of s t) (loc-of (erase s) t) (loc-erase s t) (value s t))
+ready-erase (suc n) s t = rw (value-erase s t) (ready-value-erase (λ s t. ready n s t) (λ s t. ready-erase n s t) s t (loc-of s t) (loc-of (erase s) t) (loc-erase s t) (type-at s t))
 
 pub ready-tvars-erase : Erases ready-tvars
 unfolding ready-tvars
@@ -132,7 +132,7 @@ module _ (s : State) where
 
   check′-erase : (t : ℕ) → check-num-tvar′ (erase s) t ≡ check-num-tvar′ s t
   unfolding check-num-tvar′
-  check′-erase t = opt-same (as-var (value s t)) (as-var (value (erase s) t)) (ap as-var (value-erase s t)) (ap num-shape (value-erase s t)) (λ v.
+  check′-erase t = opt-same (as-var (type-at s t)) (as-var (type-at (erase s) t)) (ap as-var (value-erase s t)) (ap num-shape (value-erase s t)) (λ v.
       opt-same (get s (forward-tvar s v)) (get (erase s) (forward-tvar (erase s) v)) (end-get s v) (rw (end-erase s v) (num-var-erase (forward-tvar s v))) (λ u. ap num-shape (value-erase s u)))
 
   check-erase : (v t : ℕ) → check-num-tvar (erase s) v t ≡ check-num-tvar s v t
@@ -142,14 +142,14 @@ module _ (s : State) where
   used-erase : (n v t : ℕ) → used n (erase s) v t ≡ used n s v t
   unfolding used
   used-erase zero v t = refl
-  used-erase (suc n) v t = rw (value-erase s t) (ap (λ b. is-var v (value s t) || b) (any-erase _ _ (λ p. used-erase n v p) (parts (value s t))))
+  used-erase (suc n) v t = rw (value-erase s t) (ap (λ b. is-var v (type-at s t) || b) (any-erase _ _ (λ p. used-erase n v p) (parts (type-at s t))))
 
 bind-erase : (s : State) (l l′ v t : ℕ) → l′ ≡ 0 → Erased with-state (join-bind-tvar s l v t) (join-bind-tvar (erase s) l′ v t)
 unfolding join-bind-tvar
 bind-erase s l l′ v t z =
     er-if (not (check-num-tvar s v t)) _ (ap not (check-erase s v t)) (er-ok refl)
     (er-if (used (suc t) s v t) _ (used-erase s (suc t) v t) (er-err refl (rw z refl))
-    (er-if (is-anything (value s t)) _ (ap is-anything (value-erase s t)) (er-ok refl) (er-ok (rw (insert-erase s v t) refl))))
+    (er-if (is-anything (type-at s t)) _ (ap is-anything (value-erase s t)) (er-ok refl) (er-ok (rw (insert-erase s v t) refl))))
 
 -- ---- the merge
 
@@ -159,7 +159,7 @@ type-of-erase s l l′ v z = er-opt (get s v) _ (get-erase s v) (sp-erase s l l�
 
 shown-erase : (s : State) (t v : ℕ) → Erased with-state (shown s t v) (shown (erase s) t v)
 unfolding shown
-shown-erase s t v = er-if (is-anything (value s t)) _ (ap is-anything (value-erase s t)) (sp-erase s (loc-of s t) (loc-of (erase s) t) (Var v) (loc-erase s t)) (er-ok refl)
+shown-erase s t v = er-if (is-anything (type-at s t)) _ (ap is-anything (value-erase s t)) (sp-erase s (loc-of s t) (loc-of (erase s) t) (Var v) (loc-erase s t)) (er-ok refl)
 
 sp-from : (s s′ : State) → s′ ≡ erase s → (l l′ : ℕ) (x : Type-value) → l′ ≡ 0 → Erased with-state (sp s l x) (sp s′ l′ x)
 sp-from s s′ e l l′ x z = rw e (sp-erase s l l′ x z)
@@ -247,7 +247,7 @@ module _ (j : Join-impl) (r : Alike j) where
 pub join-impl-erase : (n : ℕ) → Alike (join-impl n)
 unfolding join-impl
 join-impl-erase zero s c l r = er-refused
-join-impl-erase (suc n) s c l r = rw (value-erase s l, value-erase s r) (arm-erase (λ s c l r. join-impl n s c l r) (λ s c l r. join-impl-erase n s c l r) s c l r (arm (value s l) (value s r)))
+join-impl-erase (suc n) s c l r = rw (value-erase s l, value-erase s r) (arm-erase (λ s c l r. join-impl n s c l r) (λ s c l r. join-impl-erase n s c l r) s c l r (arm (type-at s l) (type-at s r)))
 
 pub join-erase : (s : State) (l r : ℕ) → Erased with-state (join s l r) (join (erase s) l r)
 unfolding join
@@ -272,7 +272,7 @@ subst-value-erase f r ps s t l l′ z (Apply k n tys) = er-bind _ _ (map-erase f
 subst-down-erase : (n : ℕ) (ps : TParamSubst) → Erases (subst-down n ps)
 unfolding subst-down
 subst-down-erase zero ps s t = er-refused
-subst-down-erase (suc n) ps s t = rw (value-erase s t) (subst-value-erase (λ s t. subst-down n ps s t) (λ s t. subst-down-erase n ps s t) ps s t (loc-of s t) _ (loc-erase s t) (value s t))
+subst-down-erase (suc n) ps s t = rw (value-erase s t) (subst-value-erase (λ s t. subst-down n ps s t) (λ s t. subst-down-erase n ps s t) ps s t (loc-of s t) _ (loc-erase s t) (type-at s t))
 
 pub subst-erase : (ps : TParamSubst) → Erases (subst-tparams ps)
 unfolding subst-tparams
@@ -326,7 +326,7 @@ instantiate-value-erase f r s t l l′ z (Var v) = er-refused
 instantiate-down-erase : (n : ℕ) → Erases (instantiate-down n)
 unfolding instantiate-down
 instantiate-down-erase zero s t = er-refused
-instantiate-down-erase (suc n) s t = rw (value-erase s t) (instantiate-value-erase (λ s t. instantiate-down n s t) (λ s t. instantiate-down-erase n s t) s t (loc-of s t) _ (loc-erase s t) (value s t))
+instantiate-down-erase (suc n) s t = rw (value-erase s t) (instantiate-value-erase (λ s t. instantiate-down n s t) (λ s t. instantiate-down-erase n s t) s t (loc-of s t) _ (loc-erase s t) (type-at s t))
 
 pub instantiate-erase : Erases instantiate
 unfolding instantiate

@@ -13,7 +13,7 @@ use Rattle.definition.specs.Instantiate.{struct-tparams}
 use Rattle.definition.specs.Reader.{Read, got, not-read, Reader, give, refuse, go-on, _>>=_, byte, read-u16, read-u32, byte-if, byte-to, read-bool, name-below, times, read-one, read-two, read-three}
 use Rattle.definition.specs.Trees.{Tree, unit-tree, anything-tree, error-tree, ref-tree, param-tree, apply-tree, var-tree, Trees, no-trees, _then_, read-trees, mark-of, read-mark, mark-fits, arity, read-apply, by-tag, is-name, read-nested, read-type, is-set}
 use Rattle.definition.specs.Record.{NumericKind, Record, SD, FV, NV, SN, JN, SU, UF, RD, IN, TS, NC, BC, SC, SV, read-kind, read-SD, read-pair, read-TS, by-mark, fields-of, read-fields, max-record, hand-back, read-record}
-use Rattle.definition.specs.Locations.{Part, plain, location, type, types, builtin, list, struct, struct-high, pairs, loc-field, u32-field, tag-fields, pair-fields, brings, blank-byte, blank, mark-fields, after-mark, blank-record}
+use Rattle.definition.specs.Locations.{Part, plain, location, type, types, builtin, list, struct, struct-high, pairs, loc-field, u32-field, tag-fields, pair-fields, expand, blank-byte, blank, mark-fields, after-mark, blank-record}
 use Rattle.definition.proofs.Erase.{erase, taken-erase, structs-erase}
 
 -- ---- locations set to 0
@@ -124,20 +124,20 @@ module _ {S : State} where
 
   -- ---- numbers
 
-  al-byte : (p : Part) (more : List Part) → ((b : ℕ) → blank-byte p b ≡ b) → Alike same S (p ∷ more) (λ b. brings S p b ++ more) byte byte
+  al-byte : (p : Part) (more : List Part) → ((b : ℕ) → blank-byte p b ≡ b) → Alike same S (p ∷ more) (λ b. expand S p b ++ more) byte byte
   unfolding byte blank
   al-byte p more k = record { at = go }
     where
-      go : (bytes : Bytes) → Reads same S (λ b. brings S p b ++ more) (byte bytes) (byte (blank S bytes (p ∷ more)))
+      go : (bytes : Bytes) → Reads same S (λ b. expand S p b ++ more) (byte bytes) (byte (blank S bytes (p ∷ more)))
       go [] = r-not
       go (b ∷ bytes) = r-got (k b) refl
 
   al-plain : (more : List Part) → Alike same S (plain ∷ more) (λ b. more) byte byte
-  unfolding brings blank-byte
+  unfolding expand blank-byte
   al-plain more = al-byte plain more (λ b. refl)
 
   al-zero : (more : List Part) → Alike (λ b. 0) S (location ∷ more) (λ b. more) byte byte
-  unfolding byte blank brings blank-byte
+  unfolding byte blank expand blank-byte
   al-zero more = record { at = go }
     where
       go : (bytes : Bytes) → Reads (λ b. 0) S (λ b. more) (byte bytes) (byte (blank S bytes (location ∷ more)))
@@ -152,12 +152,12 @@ module _ {S : State} where
   unfolding read-u32 u32-field
   al-u32 more = al-bind _ _ (al-plain _) (λ a. al-bind _ _ (al-plain _) (λ b. al-bind _ _ (al-plain _) (λ c. al-bind _ _ (al-plain more) (λ d. al-give _ refl))))
 
-  al-byte-if : (allowed : ℕ → Bool) (p : Part) (more : List Part) → ((b : ℕ) → blank-byte p b ≡ b) → Alike same S (p ∷ more) (λ b. brings S p b ++ more) (byte-if allowed) (byte-if allowed)
+  al-byte-if : (allowed : ℕ → Bool) (p : Part) (more : List Part) → ((b : ℕ) → blank-byte p b ≡ b) → Alike same S (p ∷ more) (λ b. expand S p b ++ more) (byte-if allowed) (byte-if allowed)
   unfolding byte-if
   al-byte-if allowed p more k = al-bind _ _ (al-byte p more k) (λ b. al-if (allowed b) (al-give b refl) (al-refuse _))
 
   al-plain-if : (allowed : ℕ → Bool) (more : List Part) → Alike same S (plain ∷ more) (λ b. more) (byte-if allowed) (byte-if allowed)
-  unfolding brings blank-byte
+  unfolding expand blank-byte
   al-plain-if allowed more = al-byte-if allowed plain more (λ b. refl)
 
   al-bool : (more : List Part) → Alike same S (plain ∷ more) (λ b. more) read-bool read-bool
@@ -169,7 +169,7 @@ module _ {S : State} where
   al-u16 more = al-bind _ _ (al-plain _) (λ a. al-bind _ _ (al-plain more) (λ b. al-give _ refl))
 
   al-struct : (more : List Part) → Alike same S (struct ∷ more) (λ n. replicate (arity S (ModuleType n)) type ++ more) read-u16 read-u16
-  unfolding read-u16 brings blank-byte
+  unfolding read-u16 expand blank-byte
   al-struct more = al-bind _ _ (al-byte struct more (λ b. refl)) (λ a. al-bind _ _ (al-byte (struct-high a) more (λ b. refl)) (λ b. al-give (a + 256 * b) refl))
 
   al-name : {before : List Part} {after : ℕ → List Part} (known known′ : ℕ) → known′ ≡ known → Alike same S before after read-u16 read-u16 → Alike same S before after (name-below known) (name-below known′)
@@ -222,11 +222,11 @@ module _ (s : State) where
     al-param more = al-bind _ _ (al-u32 _) (λ id. al-bind _ _ (al-plain-if _ more) (λ a. al-give (param-tree loc id a) refl))
 
     al-builtin : Fields (plain ∷ builtin ∷ []) (read-apply s m loc byte Builtin malformed) (read-apply (erase s) m′ 0 byte Builtin malformed)
-    unfolding brings blank-byte
+    unfolding expand blank-byte
     al-builtin = al-apply (builtin ∷ []) byte _ _ (λ more. al-byte builtin more (λ b. refl))
 
     al-list : Fields (plain ∷ list ∷ []) (read-apply s m loc byte Multiple malformed) (read-apply (erase s) m′ 0 byte Multiple malformed)
-    unfolding brings blank-byte arity
+    unfolding expand blank-byte arity
     al-list = al-apply (list ∷ []) byte _ _ (λ more. al-byte list more (λ b. refl))
 
     al-struct-type : Fields (plain ∷ struct ∷ []) (read-apply s m loc read-u16 ModuleType unknown-name) (read-apply (erase s) m′ 0 read-u16 ModuleType unknown-name)
@@ -253,7 +253,7 @@ module _ (s : State) where
       (row (λ more. al-give (anything-tree loc) refl) (row (λ more. al-give (error-tree loc) refl) no-rows))))))))
 
   nested : (n : ℕ) → OneType (read-nested n s) (read-nested n (erase s))
-  unfolding read-nested brings blank-byte loc-field
+  unfolding read-nested expand blank-byte loc-field
   nested zero more = al-refuse _
   nested (suc n) more = al-bind _ _ (al-byte-if _ type more (λ b. refl)) (λ tag. al-bind _ _ (al-loc (getD tag-fields tag [] ++ more)) (λ loc. row-at (tag-rows (read-nested n s) (read-nested n (erase s)) (nested n) loc) tag more))
 
@@ -300,7 +300,7 @@ module _ (s : State) where
   al-pairs (suc n) more = al-bind _ _ (al-bind _ _ (al-u32 (type ∷ pair-fields n ++ more)) (λ id. al-bind _ _ (al-type (pair-fields n ++ more)) (λ t. al-give {h = erase-pair} (id, t) refl))) (λ p. al-bind _ _ (al-pairs n more) (λ ps. al-give (p ∷ ps) refl))
 
   al-TS : Whole-record (pairs ∷ []) (read-TS s) (read-TS (erase s))
-  unfolding read-TS brings blank-byte erase-record
+  unfolding read-TS expand blank-byte erase-record
   al-TS = al-bind _ _ (al-byte-if _ pairs [] (λ b. refl)) (λ n. rw (append-assoc (pair-fields n)) (al-bind _ _ (al-pairs n (type ∷ [])) (λ ps. al-bind _ _ (al-type []) (λ t. al-give (TS ps t) refl))))
 
   al-SD : Whole-record [] (read-SD s) (read-SD (erase s))

@@ -9,7 +9,7 @@ use lib.ListN.{length, replicate, List·getD-eq-default}
 use lib.Dec.{leb, ltb, ltb→lt, nltb→le}
 use Rattle.definition.specs.Types.{TypeName, Multiple, Builtin, ModuleType, UnitType, Ref, Param, Apply, Var, Anything, UnresolvedError, Type-value, Spanned, Node, Cell, unbound, State, max-structs, if_then_else_}
 use Rattle.definition.specs.Types.{Constraint, AbilityConstraint, NumericConstraint, BitsConstraint, OrderedConstraint, BaseTypeConstraint, SingleTypeConstraint, TypingError, SubtypeError, Incompatible, ArityMismatch, RecursiveType, Refusal, answer-too-long, Result, ok, _>>=_}
-use Rattle.definition.specs.Store.{nowhere, count, taken, node, value, with-args, spanned, with-constraints}
+use Rattle.definition.specs.Store.{nowhere, count, taken, node, type-at, with-args, spanned, with-constraints}
 use Rattle.definition.specs.Subst.{parts, unfold-type}
 use Rattle.definition.specs.Join.{join, subtype}
 use Rattle.definition.specs.TParams.{arg-of, make-tparam-subst}
@@ -18,7 +18,7 @@ use Rattle.definition.specs.Write.{Bytes, u16, write-error}
 use Rattle.definition.specs.Reader.{Read}
 use Rattle.definition.specs.Trees.{Tree, unit-tree, anything-tree, error-tree, ref-tree, param-tree, apply-tree, var-tree, Trees, no-trees, _then_, mark-fits, arity, is-mark, is-name}
 use Rattle.definition.specs.Record.{NumericKind, Numeric, Bits, Ordered, Record, SD, FV, NV, SN, JN, SU, UF, RD, IN, TS, NC, BC, SC, SV}
-use Rattle.definition.specs.Place.{place, place-all, place-pairs}
+use Rattle.definition.specs.Build.{build, build-all, build-pairs}
 use Rattle.definition.specs.Sound.{sound}
 use Rattle.definition.specs.Step.{numeric-constraint, constrain, two-types, run, Answer, number-of-error, refusal, put-back, max-payload, answer-with, answer, lent}
 use Rattle.definition.specs.Locations.{Part, types, failures, blank, success-fields, shown-fields, payload-fields}
@@ -40,9 +40,9 @@ use Rattle.definition.proofs.EraseWrite.{NameFits, Fits, Fitting, spann
 -- ---- placing
 
 mutual
-  unfolding place place-all erase-tree erase-trees
+  unfolding build build-all erase-tree erase-trees
 
-  place-erase : (t : Tree) (s : State) → Erased with-state (place t s) (place (erase-tree t) (erase s))
+  place-erase : (t : Tree) (s : State) → Erased with-state (build t s) (build (erase-tree t) (erase s))
   place-erase (unit-tree loc) s = sp-erase s loc 0 UnitType refl
   place-erase (anything-tree loc) s = sp-erase s loc 0 Anything refl
   place-erase (error-tree loc) s = sp-erase s loc 0 UnresolvedError refl
@@ -51,12 +51,12 @@ mutual
   place-erase (apply-tree loc k n ts) s = er-bind _ _ (place-all-erase ts s) (λ x. sp-erase (x .0) loc 0 (Apply k n (x .1)) refl)
   place-erase (var-tree loc v) s = sp-erase s loc 0 (Var v) refl
 
-  place-all-erase : (ts : Trees) (s : State) → Erased with-state (place-all ts s) (place-all (erase-trees ts) (erase s))
+  place-all-erase : (ts : Trees) (s : State) → Erased with-state (build-all ts s) (build-all (erase-trees ts) (erase s))
   place-all-erase no-trees s = er-ok refl
   place-all-erase (_then_ t ts) s = er-bind _ _ (place-erase t s) (λ x. er-bind _ _ (place-all-erase ts (x .0)) (λ y. er-ok refl))
 
-pairs-erase : (ps : List (ℕ × Tree)) (s : State) → Erased with-state (place-pairs ps s) (place-pairs (map erase-pair ps) (erase s))
-unfolding place-pairs
+pairs-erase : (ps : List (ℕ × Tree)) (s : State) → Erased with-state (build-pairs ps s) (build-pairs (map erase-pair ps) (erase s))
+unfolding build-pairs
 pairs-erase [] s = er-ok refl
 pairs-erase ((id, t) ∷ ps) s = er-bind _ _ (place-erase t s) (λ x. er-bind _ _ (pairs-erase ps (x .0)) (λ y. er-ok refl))
 
@@ -110,9 +110,9 @@ staying-erase [] = refl
 staying-erase (c ∷ cs) = rw (map-append erase-constraint (stays c) (staying cs), stays-erase c, staying-erase cs) refl
 
 -- the declared arities hold in the state that SV writes from
-module _ (S s : State) (few : length (S .structs) ≤ max-structs) (w : Sound (arity S) s) (r : (t : ℕ) → ShapeIn S (value s t)) where
-  outside : (t : ℕ) → count s ≤ t → value s t ≡ UnresolvedError
-  unfolding value node with-args
+module _ (S s : State) (few : length (S .structs) ≤ max-structs) (w : Sound (arity S) s) (r : (t : ℕ) → ShapeIn S (type-at s t)) where
+  outside : (t : ℕ) → count s ≤ t → type-at s t ≡ UnresolvedError
+  unfolding type-at node with-args
   outside t h = ap (λ (n : Node). with-args s (n .value)) (List·getD-eq-default (s .nodes) nowhere h)
 
   name-fits : (n : TypeName) → is-name S n ≡ true → NameFits n
@@ -121,7 +121,7 @@ module _ (S s : State) (few : length (S .structs) ≤ max-structs) (w : Sound (a
   name-fits (Builtin b) h = tt
   name-fits (ModuleType m) h = omega (arith, ltb→lt m (length (S .structs)) (test h))
 
-  value-fits : (t : ℕ) → t < count s → (x : Type-value) → value s t ≡ x → ShapeIn S x → Fits S x
+  value-fits : (t : ℕ) → t < count s → (x : Type-value) → type-at s t ≡ x → ShapeIn S x → Fits S x
   value-fits t i UnitType e h = tt
   value-fits t i (Ref m u) e h = tt
   value-fits t i (Param id a) e h = tt
@@ -130,19 +130,19 @@ module _ (S s : State) (few : length (S .structs) ≤ max-structs) (w : Sound (a
   value-fits t i Anything e h = tt
   value-fits t i UnresolvedError e h = tt
 
-  in-or-out : (P : Type-value → Type 0) → P UnresolvedError → (t : ℕ) → (t < count s → P (value s t)) → P (value s t)
+  in-or-out : (P : Type-value → Type 0) → P UnresolvedError → (t : ℕ) → (t < count s → P (type-at s t)) → P (type-at s t)
   in-or-out P out t f = go (ltb t (count s)) refl
     where
-      go : (b : Bool) → ltb t (count s) ≡ b → P (value s t)
+      go : (b : Bool) → ltb t (count s) ≡ b → P (type-at s t)
       go true e = f (ltb→lt t (count s) (test e))
       go false e = rw (outside t (nltb→le t (count s) (test (ap not e)))) out
 
   fitting : Fitting S s
   unfolding parts
   fitting = record {
-    fits = λ t. in-or-out (Fits S) tt t (λ i. value-fits t i (value s t) refl (r t));
+    fits = λ t. in-or-out (Fits S) tt t (λ i. value-fits t i (type-at s t) refl (r t));
     below = λ t. in-or-out (λ x. All (λ p. p < t) (parts x)) tt t (λ i. w .parts-below t i);
-    inside = λ t. in-or-out (λ x. All (λ p. p < count s) (parts x)) tt t (λ i. All-map {P = λ p. p < t} (λ p l. omega arith) (parts (value s t)) (w .parts-below t i));
+    inside = λ t. in-or-out (λ x. All (λ p. p < count s) (parts x)) tt t (λ i. All-map {P = λ p. p < t} (λ p l. omega arith) (parts (type-at s t)) (w .parts-below t i));
   }
 
 -- what a run shows and leaves, with locations set to 0

@@ -8,14 +8,14 @@ use native.Mathlib.Omega.{arith}
 use lib.ListN.{length, replicate}
 use Rattle.definition.specs.Types.{TypeName, Multiple, Builtin, ModuleType, UnitType, Ref, Param, Apply, Var, Anything, UnresolvedError, Type-value, Spanned, State, if_then_else_}
 use Rattle.definition.specs.Types.{Constraint, AbilityConstraint, NumericConstraint, BitsConstraint, OrderedConstraint, BaseTypeConstraint, SingleTypeConstraint, TypingError, SubtypeError, Incompatible, ArityMismatch, RecursiveType}
-use Rattle.definition.specs.Store.{count, value, loc-of, spanned, get}
+use Rattle.definition.specs.Store.{count, type-at, loc-of, spanned, get}
 use Rattle.definition.specs.Subst.{as-var, parts, forward-tvar, unfold-var, unfold-type}
 use Rattle.definition.specs.Write.{Bytes, u16, u32, apply-head, head, each, write-down, write-spanned, write, write-error}
 use Rattle.definition.specs.Trees.{arity}
 use Rattle.definition.specs.Constraints.{is-integer, is-base, is-single, failure, solve, solve-constraint, failures as all-failures}
 use Rattle.definition.specs.Step.{number-of-error}
 use Rattle.definition.specs.Record.{Record}
-use Rattle.definition.specs.Locations.{Part, location, type, types, failures, loc-field, u32-field, tag-fields, tag-widths, brings, blank-byte, blank, shown-fields}
+use Rattle.definition.specs.Locations.{Part, location, type, types, failures, loc-field, u32-field, tag-fields, tag-widths, expand, blank-byte, blank, shown-fields}
 use Rattle.definition.proofs.Order.{All, All-map}
 use Rattle.definition.proofs.Erase.{erase-spanned, erase-constraint, erase-error, erase, count-erase, spanned-erase}
 use Rattle.definition.proofs.EraseJoin.{unfold-type-erase}
@@ -33,7 +33,7 @@ module _ (S : State) where
   row = types ∷ []
 
   head-row : (l : ℕ) (x : Type-value) (rest : Bytes) → blank S (head l x ++ rest) row ≡ head 0 x ++ blank S rest row
-  unfolding head apply-head u32 u16 blank brings blank-byte loc-field tag-widths
+  unfolding head apply-head u32 u16 blank expand blank-byte loc-field tag-widths
   head-row l UnitType rest = refl
   head-row l (Ref m t) rest = refl
   head-row l (Param id a) rest = refl
@@ -83,7 +83,7 @@ module _ (S : State) where
   two-row s t u = write-row-on s t (write s u) ∙ ap (λ (l : Bytes). write (erase s) t ++ l) (write-row s u)
 
   pub error-shown : (r : Record) (s : State) (e : TypingError) → blank S (write-error s e) (shown-fields r (number-of-error e)) ≡ write-error (erase s) (erase-error e)
-  unfolding write-error number-of-error shown-fields u32 blank loc-field brings blank-byte
+  unfolding write-error number-of-error shown-fields u32 blank loc-field expand blank-byte
   error-shown r s (SubtypeError t u) = two-row s t u
   error-shown r s (Incompatible t u) = two-row s t u
   error-shown r s (ArityMismatch t u) = two-row s t u
@@ -104,7 +104,7 @@ module _ (S : State) where
   u16-back n h = omega arith
 
   head-type : (l : ℕ) (x : Type-value) → Fits x → (rest : Bytes) (more : List Part) → blank S (head l x ++ rest) (type ∷ more) ≡ head 0 x ++ blank S rest (replicate (length (parts x)) type ++ more)
-  unfolding head apply-head u32 u16 blank brings blank-byte loc-field u32-field tag-fields parts arity
+  unfolding head apply-head u32 u16 blank expand blank-byte loc-field u32-field tag-fields parts arity
   head-type l UnitType h rest more = refl
   head-type l (Ref m t) h rest more = refl
   head-type l (Param id a) h rest more = refl
@@ -124,9 +124,9 @@ module _ (S : State) where
 
   -- a state whose types can be told apart by the declarations of S
   pub record Fitting (s : State) : Type 0 where
-    pub fits : (t : ℕ) → Fits (value s t)
-    pub below : (t : ℕ) → All (λ p. p < t) (parts (value s t))
-    pub inside : (t : ℕ) → All (λ p. p < count s) (parts (value s t))
+    pub fits : (t : ℕ) → Fits (type-at s t)
+    pub below : (t : ℕ) → All (λ p. p < t) (parts (type-at s t))
+    pub inside : (t : ℕ) → All (λ p. p < count s) (parts (type-at s t))
 
   module _ (s : State) (w : Fitting s) where
     -- the parts of a type written one level less
@@ -146,7 +146,7 @@ module _ (S : State) where
     unfolding spanned
     parts-shown zero p l rest more = absurd (omega arith)
     parts-shown (suc n) p l rest more = rw (spanned-erase s p) (
-        level n (parts-shown n) (spanned s p) (w .fits p) (All-map {P = λ q. q < p} (λ q k. omega arith) (parts (value s p)) (w .below p)) rest more)
+        level n (parts-shown n) (spanned s p) (w .fits p) (All-map {P = λ q. q < p} (λ q k. omega arith) (parts (type-at s p)) (w .below p)) rest more)
 
     spanned-type : (t : Spanned Type-value) → Fits (t .value) → All (λ p. p < count s) (parts (t .value)) → (rest : Bytes) (more : List Part)
         → blank S (write-spanned s t ++ rest) (type ∷ more) ≡ write-spanned (erase s) (erase-spanned t) ++ blank S rest more
@@ -160,7 +160,7 @@ module _ (S : State) where
 
     unfolded : (t : ℕ) → Written (unfold-type s (spanned s t))
     unfolding unfold-type unfold-var parts spanned
-    unfolded t = go (as-var (value s t))
+    unfolded t = go (as-var (type-at s t))
       where
         bound : (o : Option ℕ) → Written (unfold-var s (loc-of s t) o)
         bound none = (tt, tt)
@@ -175,7 +175,7 @@ module _ (S : State) where
 
     failure-shown : (code loc : ℕ) (t : Spanned Type-value) → Fits (t .value) → All (λ p. p < count s) (parts (t .value)) → (rest : Bytes)
         → blank S (failure s code loc t ++ rest) failing ≡ failure (erase s) code 0 (erase-spanned t) ++ blank S rest failing
-    unfolding failure u32 blank brings blank-byte loc-field
+    unfolding failure u32 blank expand blank-byte loc-field
     failure-shown code loc t f a rest = ap (λ (l : Bytes). code ∷ 0 ∷ 0 ∷ 0 ∷ 0 ∷ l) (spanned-type t f a rest failing)
 
     solve-shown : (good : Type-value → Bool) (code loc ty : ℕ) (rest : Bytes) → blank S (solve s good code loc ty ++ rest) failing ≡ solve (erase s) good code 0 ty ++ blank S rest failing

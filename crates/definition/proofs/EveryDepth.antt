@@ -7,7 +7,7 @@ use native.Mathlib.Omega.{arith}
 use lib.ListN.{length, take}
 use lib.Dec.{leb}
 use Rattle.definition.specs.Types.{TypeName, Var, State, max-depth, answer-too-long, unsound-state, Result, ok, err, refused, if_then_else_}
-use Rattle.definition.specs.Store.{taken, value}
+use Rattle.definition.specs.Store.{taken, type-at}
 use Rattle.definition.specs.Write.{Bytes}
 use Rattle.definition.specs.Reader.{Read, got, not-read}
 use Rattle.definition.specs.Record.{Record, read-record}
@@ -36,7 +36,7 @@ Rises s s′ = (v : ℕ) → v < taken s → (rest : ReadType) (n : ℕ) → Ran
 
 -- the type x, read to any depth, ranks at or below t
 abbrev pub Below-at-every-depth : State → ℕ → ℕ → Type 0
-Below-at-every-depth s x t = (rest : ReadType) (n : ℕ) → Rank (unrolled rest n s (value s x)) (unrolled rest n s (value s t))
+Below-at-every-depth s x t = (rest : ReadType) (n : ℕ) → Rank (unrolled rest n s (type-at s x)) (unrolled rest n s (type-at s t))
 
 abbrev pub Joins-at-every-depth : Join-call → State → ℕ → Type 0
 Joins-at-every-depth call s t = Below-at-every-depth s (call .lhs) t × Below-at-every-depth s (call .rhs) t × Rises (call .before) s

@@ -16,7 +16,7 @@ use Rattle.definition.specs.Reader.{Read, got, not-read, Reader, give, r
 use Rattle.definition.specs.Trees.{Tree, unit-tree, anything-tree, error-tree, ref-tree, param-tree, apply-tree, var-tree, Trees, no-trees, _then_}
 use Rattle.definition.specs.Trees.{read-trees, mark-of, read-mark, mark-fits, arity, read-apply, by-tag, is-set, is-name, read-nested, read-type}
 use Rattle.definition.specs.Record.{Record, SD, FV, NV, SN, JN, SU, UF, RD, IN, TS, NC, BC, SC, SV, read-kind, read-SD, read-pair, read-TS, by-mark, fields-of, read-fields, max-record, hand-back, read-record}
-use Rattle.definition.specs.Place.{place, place-all}
+use Rattle.definition.specs.Build.{build, build-all}
 use Rattle.definition.specs.Sound.{sound}
 use Rattle.definition.specs.Step.{Answer, refusal, max-payload, answer-with, answer, max-buffer, usable, two-types, lent, run, step}
 use Rattle.definition.specs.Demand.{Join-call, outcome, run-calls, lent-calls, step-calls}
@@ -349,9 +349,9 @@ module _ {ar : TypeName → ℕ} where
 
   module _ {vars : ℕ} where
     mutual
-      unfolding place place-all tree-size trees-size wrote-all head-size parts
+      unfolding build build-all tree-size trees-size wrote-all head-size parts
 
-      pub place-put : {t : Tree} → Fine ar vars t → {S : State} → Sound ar S → vars ≤ taken S → Post ar S (Put ar (tree-size t)) (place t S)
+      pub place-put : {t : Tree} → Fine ar vars t → {S : State} → Sound ar S → vars ≤ taken S → Post ar S (Put ar (tree-size t)) (build t S)
       place-put (fine-unit {loc = loc}) s h = put (place-went fine-unit s h) (leaf s loc 5 UnitType refl refl)
       place-put (fine-anything {loc = loc}) s h = put (place-went fine-anything s h) (leaf s loc 5 Anything refl refl)
       place-put (fine-error {loc = loc}) s h = put (place-went fine-error s h) (leaf s loc 5 UnresolvedError refl refl)
@@ -362,7 +362,7 @@ module _ {ar : TypeName → ℕ} where
           post-map (λ S2 t g2 is s2 i. omega (arith, apply-wrote s2 t k n ts is i, wrote-all-kept (p .sound) s2 g2 ts (p .ts-in), p .written)) (sp-value (p .sound) loc (Apply k n ts))))
       place-put (fine-var {loc = loc} {v = v} l) s h = put (place-went (fine-var l) s h) (leaf s loc 7 (Var v) refl refl)
 
-      pub place-all-put : {ts : Trees} → Fines ar vars ts → {S : State} → Sound ar S → vars ≤ taken S → Post ar S (PutAll ar (trees-size ts)) (place-all ts S)
+      pub place-all-put : {ts : Trees} → Fines ar vars ts → {S : State} → Sound ar S → vars ≤ taken S → Post ar S (PutAll ar (trees-size ts)) (build-all ts S)
       place-all-put fine-none {S} s h = p-ok {b = []} (grown-refl S) (record { sound = s; ts-in = tt; written = refl })
       place-all-put (fine-then f fs) s h =
           bind-post _ (place-put f s h) (λ S1 t g p. bind-post _ (place-all-put fs (p .sound) (omega (arith, g .g-vars))) (λ S2 ts g2 q. p-ok {b = t ∷ ts} (grown-refl S2) (record {

@@ -8,7 +8,7 @@ use native.Mathlib.Omega.{arith}
 use lib.ListN.{length, length-append}
 use lib.Dec.{eqb}
 use Rattle.definition.specs.Types.{TypeName, Multiple, Builtin, ModuleType, Mark, Type-value, UnitType, Ref, Param, Apply, Var, Anything, UnresolvedError, State, Result, ok}
-use Rattle.definition.specs.Store.{count, value, loc-of, sp}
+use Rattle.definition.specs.Store.{count, type-at, loc-of, sp}
 use Rattle.definition.specs.Subst.{parts}
 use Rattle.definition.specs.Join.{TypingCase, Join-impl, join-impl-types, join-mut, join-loc, join-refs, same-name, same-mark, is-multiple, join-applies, join-arm, join-impl, Arm}
 use Rattle.definition.specs.Write.{u16, u32, apply-head, head, each, write}
@@ -69,25 +69,25 @@ each-length S [] = refl
 each-length S (t ∷ ts) = length-append (write S t) (each (λ p. write S p) ts) ∙ ap (λ (n : ℕ). length (write S t) + n) (each-length S ts)
 
 module _ {ar : TypeName → ℕ} {S : State} (s : Sound ar S) where
-  pub wrote-is : (t : ℕ) → t < count S → wrote S t ≡ head-size (value S t) + wrote-all S (parts (value S t))
+  pub wrote-is : (t : ℕ) → t < count S → wrote S t ≡ head-size (type-at S t) + wrote-all S (parts (type-at S t))
   unfolding wrote
   wrote-is t h =
-      let a = head-length (loc-of S t) (value S t) in
-      let b = each-length S (parts (value S t)) in
-      ap length (write-at s t h) ∙ length-append (head (loc-of S t) (value S t)) (each (λ p. write S p) (parts (value S t))) ∙ rw (a, b) refl
+      let a = head-length (loc-of S t) (type-at S t) in
+      let b = each-length S (parts (type-at S t)) in
+      ap length (write-at s t h) ∙ length-append (head (loc-of S t) (type-at S t)) (each (λ p. write S p) (parts (type-at S t))) ∙ rw (a, b) refl
 
-  pub wrote-of : (t : ℕ) (L : Type-value) → value S t ≡ L → t < count S → wrote S t ≡ head-size L + wrote-all S (parts L)
+  pub wrote-of : (t : ℕ) (L : Type-value) → type-at S t ≡ L → t < count S → wrote S t ≡ head-size L + wrote-all S (parts L)
   wrote-of t L e h = rw e at (wrote-is t h)
 
-  pub var-wrote : (t v : ℕ) → value S t ≡ Var v → t < count S → wrote S t ≡ 7
+  pub var-wrote : (t v : ℕ) → type-at S t ≡ Var v → t < count S → wrote S t ≡ 7
   unfolding parts wrote-all head-size
   var-wrote t v e h = wrote-of t (Var v) e h
 
-  pub ref-wrote : (t : ℕ) (m : Bool) (p : ℕ) → value S t ≡ Ref m p → t < count S → wrote S t ≡ 6 + wrote S p
+  pub ref-wrote : (t : ℕ) (m : Bool) (p : ℕ) → type-at S t ≡ Ref m p → t < count S → wrote S t ≡ 6 + wrote S p
   unfolding parts wrote-all head-size
   ref-wrote t m p e h = omega (arith, wrote-of t (Ref m p) e h)
 
-  pub apply-wrote : (t : ℕ) (k : Mark) (n : TypeName) (ps : List ℕ) → value S t ≡ Apply k n ps → t < count S → wrote S t ≡ name-size n + wrote-all S ps
+  pub apply-wrote : (t : ℕ) (k : Mark) (n : TypeName) (ps : List ℕ) → type-at S t ≡ Apply k n ps → t < count S → wrote S t ≡ name-size n + wrote-all S ps
   unfolding parts head-size
   apply-wrote t k n ps e h = wrote-of t (Apply k n ps) e h
 
@@ -101,8 +101,8 @@ module _ {ar : TypeName → ℕ} {S S′ : State} (s : Sound ar S) (s′ : Sound
   kept-below : (k t : ℕ) → t < k → t < count S → wrote S′ t ≡ wrote S t
   kept-below zero t h i = absurd (omega arith)
   kept-below (suc k) t h i =
-      let a = all-kept S S′ (λ p. p < t) (λ p l. kept-below k p (omega arith) (omega arith)) (parts (value S t)) (s .parts-below t i) in
-      omega (arith, a, wrote-is s t i, wrote-of s′ t (value S t) (g .g-kept t i) (omega (arith, g .g-nodes)))
+      let a = all-kept S S′ (λ p. p < t) (λ p l. kept-below k p (omega arith) (omega arith)) (parts (type-at S t)) (s .parts-below t i) in
+      omega (arith, a, wrote-is s t i, wrote-of s′ t (type-at S t) (g .g-kept t i) (omega (arith, g .g-nodes)))
 
   pub wrote-kept : (t : ℕ) → t < count S → wrote S′ t ≡ wrote S t
   wrote-kept t i = kept-below (suc t) t (omega arith) i
@@ -124,8 +124,8 @@ post-is {B} {ar} {S} {P} {s = s} {b = b} p e = go (subst (λ (y : Result (State 
     go (p-ok g q) = q
 
 -- a new node, whatever its parts
-pub sp-value : {ar : TypeName → ℕ} {S : State} → Sound ar S → (l : ℕ) (sh : Type-value) → Post ar S (λ S′ t. value S′ t ≡ sh) (sp S l sh)
-sp-value {ar} {S} s l sh = with-room (Post ar S (λ S′ t. value S′ t ≡ sh)) (sp-room S l sh) (λ e. p-ok (quiet-grown (quiet-node s l sh) (structs-node S l sh)) (value-new S l sh)) p-refused
+pub sp-value : {ar : TypeName → ℕ} {S : State} → Sound ar S → (l : ℕ) (sh : Type-value) → Post ar S (λ S′ t. type-at S′ t ≡ sh) (sp S l sh)
+sp-value {ar} {S} s l sh = with-room (Post ar S (λ S′ t. type-at S′ t ≡ sh)) (sp-room S l sh) (λ e. p-ok (quiet-grown (quiet-node s l sh) (structs-node S l sh)) (value-new S l sh)) p-refused
 
 -- ---- the arms of a join
 
@@ -144,7 +144,7 @@ record SlimAll (ar : TypeName → ℕ) (S : State) (ls rs : List ℕ) (S′ : St
   pub ts-in : All (λ t. t < count S′) ts
   pub narrow : wrote-all S′ ts ≤ wrote-all S ls + wrote-all S rs
 
-tracks-var : {S : State} {x r v : ℕ} → Tracks S x r → value S x ≡ Var v → (w : ℕ) × (value S r ≡ Var w)
+tracks-var : {S : State} {x r v : ℕ} → Tracks S x r → type-at S x ≡ Var v → (w : ℕ) × (type-at S r ≡ Var w)
 tracks-var (t-any e) d = any-var e d
 tracks-var (t-var {w = w} ex er a b) d = (w, er)
 tracks-var (t-fit r f) d = solid-var (fits-solid-l f) d
@@ -170,7 +170,7 @@ module _ {ar : TypeName → ℕ} (join : Join-impl) (g : Good ar join) (w : Slim
     slim-left : Post ar S (NarrowIn ar S l r) (ok (S, l))
     slim-left = p-ok {b = l} (grown-refl S) (λ s′ i. omega arith)
 
-    refs-slim : (m1 : Bool) (t1 : ℕ) (m2 : Bool) (t2 : ℕ) → value S l ≡ Ref m1 t1 → value S r ≡ Ref m2 t2 → (o : Option Bool) → Post ar S (NarrowIn ar S l r) (join-refs join S c l r m1 t1 m2 t2 o)
+    refs-slim : (m1 : Bool) (t1 : ℕ) (m2 : Bool) (t2 : ℕ) → type-at S l ≡ Ref m1 t1 → type-at S r ≡ Ref m2 t2 → (o : Option Bool) → Post ar S (NarrowIn ar S l r) (join-refs join S c l r m1 t1 m2 t2 o)
     unfolding join-refs parts
     refs-slim m1 t1 m2 t2 el er none = p-err (grown-refl S) (nodes-of s)
     refs-slim m1 t1 m2 t2 el er (some m) =
@@ -180,7 +180,7 @@ module _ {ar : TypeName → ℕ} (join : Join-impl) (g : Good ar join) (w : Slim
         post-map (λ S2 n g2 e s2 i. omega (arith, j .1, ref-wrote s l m1 t1 el l-in, ref-wrote s r m2 t2 er r-in, ref-wrote s2 n m t e i, wrote-kept (j .0 .sound) s2 g2 t (j .0 .t-in)))
         (sp-value (j .0 .sound) (join-loc c m1 m2 (loc-of S l) (loc-of S r)) (Ref m t)))
 
-    applies-slim : (k1 : Mark) (n1 : TypeName) (tys1 : List ℕ) (k2 : Mark) (n2 : TypeName) (tys2 : List ℕ) → value S l ≡ Apply k1 n1 tys1 → value S r ≡ Apply k2 n2 tys2
+    applies-slim : (k1 : Mark) (n1 : TypeName) (tys1 : List ℕ) (k2 : Mark) (n2 : TypeName) (tys2 : List ℕ) → type-at S l ≡ Apply k1 n1 tys1 → type-at S r ≡ Apply k2 n2 tys2
         → Post ar S (NarrowIn ar S l r) (join-applies join S c l r k1 n1 tys1 k2 n2 tys2)
     unfolding join-applies parts
     applies-slim k1 n1 tys1 k2 n2 tys2 el er =
@@ -194,13 +194,13 @@ module _ {ar : TypeName → ℕ} (join : Join-impl) (g : Good ar join) (w : Slim
         (sp-value (j .sound) (loc-of S r) (Apply k2 n2 ts))))))
 
     -- where a type is a variable, the result is one
-    var-slim : {m : Result (State × ℕ)} (x v : ℕ) → x < count S → value S x ≡ Var v → wrote S x ≤ wrote S l + wrote S r
+    var-slim : {m : Result (State × ℕ)} (x v : ℕ) → x < count S → type-at S x ≡ Var v → wrote S x ≤ wrote S l + wrote S r
         → ((S′ : State) (t : ℕ) → Joined ar S l r S′ t → Tracks S′ x t) → Post ar S (Joined ar S l r) m → Post ar S (NarrowIn ar S l r) m
     var-slim x v x-in e n f p = post-map (λ S′ t g j s′ i.
         let is = tracks-var (f S′ t j) (g .g-kept x x-in ∙ e) in
         omega (arith, var-wrote s x v e x-in, var-wrote s′ t (is .0) (is .1) i)) p
 
-    arm-slim : {a : Arm} → Took (value S l) (value S r) a → Post ar S (Joined ar S l r) (join-arm join S c l r a) → Post ar S (NarrowIn ar S l r) (join-arm join S c l r a)
+    arm-slim : {a : Arm} → Took (type-at S l) (type-at S r) a → Post ar S (Joined ar S l r) (join-arm join S c l r a) → Post ar S (NarrowIn ar S l r) (join-arm join S c l r a)
     unfolding join-arm
     arm-slim (took-any-l e) p = slim-right
     arm-slim (took-any-r e) p = slim-left
@@ -223,7 +223,7 @@ join-impl-slim zero S c l r s l-in r-in = p-refused
 join-impl-slim (suc depth) S c l r s l-in r-in =
     let p = join-impl-good (suc depth) S c l r s l-in r-in in
     post-map (λ S′ t g x. x .1 (x .0 .sound) (x .0 .t-in))
-    (post-both p (arm-slim (λ s c l r. join-impl depth s c l r) (λ S c l r s l-in r-in. join-impl-good depth S c l r s l-in r-in) (λ S c l r s l-in r-in. join-impl-slim depth S c l r s l-in r-in) s c l r l-in r-in (took (value S l) (value S r)) p))
+    (post-both p (arm-slim (λ s c l r. join-impl depth s c l r) (λ S c l r s l-in r-in. join-impl-good depth S c l r s l-in r-in) (λ S c l r s l-in r-in. join-impl-slim depth S c l r s l-in r-in) s c l r l-in r-in (took (type-at S l) (type-at S r)) p))
 
 pub join-writes-no-more : (depth : ℕ) (s : State) (case : TypingCase) (lhs rhs : ℕ) → sound s ≡ true → lhs < count s → rhs < count s → (s′ : State) (t : ℕ) → join-impl depth s case lhs rhs ≡ ok (s′, t)
     → length (write s′ t) ≤ length (write s lhs) + length (write s rhs)

@@ -14,7 +14,7 @@ use Rattle.definition.specs.Instantiate.{builtin-tparams}
 use Rattle.definition.specs.Trees.{arity}
 use Rattle.definition.specs.Sound.{sound}
 use Rattle.definition.specs.Step.{Answer, refusal, max-buffer, usable, lent, step}
-use Rattle.definition.specs.Locations.{failures, loc-field, tag-fields, brings, blank-byte, blank, mark-fields, after-mark, blank-record, blank-payload, blank-job, Seen, seen, blank-log, Locations-decide-nothing}
+use Rattle.definition.specs.Locations.{failures, loc-field, tag-fields, expand, blank-byte, blank, mark-fields, after-mark, blank-record, blank-payload, blank-job, Seen, seen, blank-log, Locations-decide-nothing}
 use Rattle.definition.proofs.Tracks.{never}
 use Rattle.definition.proofs.Order.{All}
 use Rattle.definition.proofs.Spelling.{hex}
@@ -100,10 +100,10 @@ locations-decide-nothing job job′ i i′ q = from-alike job job′ i i′ fres
 
 -- a join of V0 with u8
 join-blanked : blank-record fresh (hex "4a4e 06 02000000 0000 03 03000000 00 02") ≡ hex "4a4e 06 00000000 0000 03 00000000 00 02"
-unfolding blank-record after-mark mark-fields blank brings blank-byte loc-field tag-fields arity builtin-tparams
+unfolding blank-record after-mark mark-fields blank expand blank-byte loc-field tag-fields arity builtin-tparams
 join-blanked = refl
 
 -- a reference to `()` where a base type is wanted, then `()` where an integer is wanted: a code 1 is no tag 1
 failures-blanked : blank fresh (hex "02 07000000 01 08000000 00 00 09000000 01 0a000000 00 0b000000") (failures ∷ []) ≡ hex "02 00000000 01 00000000 00 00 00000000 01 00000000 00 00000000"
-unfolding blank brings blank-byte loc-field tag-fields
+unfolding blank expand blank-byte loc-field tag-fields
 failures-blanked = refl

@@ -10,7 +10,7 @@ use lib.ListN.{getD, set, List·getD-eq-default}
 use lib.Dec.{eqb}
 use borrow.Author.Tests.{eq-eqb, ne-eqb}
 use Rattle.definition.specs.Types.{TypeName, Type-value, UnitType, Ref, Param, Apply, Var, Anything, UnresolvedError, Cell, unbound, Constraint, AbilityConstraint, State, max-depth, Incompatible, Result, ok, err, _>>=_, if_then_else_}
-use Rattle.definition.specs.Store.{count, taken, value, loc-of, get, num-loc, insert, with-vars, with-node, with-var, with-constraints, sp, next-tvar, add-constraint, map-types, any-of}
+use Rattle.definition.specs.Store.{count, taken, type-at, loc-of, get, num-loc, insert, with-vars, with-node, with-var, with-constraints, sp, next-tvar, add-constraint, map-types, any-of}
 use Rattle.definition.specs.Subst.{as-var, is-anything, parts, forward-tvar}
 use Rattle.definition.specs.Join.{Join, is-num-var, check-num-tvar, is-var, used, join-bind-tvar, type-of, merge-num, join-tvar, arm, Var-l, join-unbound, join-arm, join-impl, join}
 use Rattle.definition.specs.Instantiate.{make-tvar, tvar-constraint, make-tparams, join-args, instantiate-type-args, instantiate-apply, instantiate-value, instantiate-down, instantiate}
@@ -85,7 +85,7 @@ unmarked : (S : State) (x t : ℕ) → num-loc S x ≡ none → check-num-tvar S
 unfolding check-num-tvar is-num-var
 unmarked S x t e = rw (e, is-num-var) refl
 
-any-used : (S : State) (x t : ℕ) → value S t ≡ Anything → used (suc t) S x t ≡ false
+any-used : (S : State) (x t : ℕ) → type-at S t ≡ Anything → used (suc t) S x t ≡ false
 unfolding used as-var is-var any-of parts
 any-used S x t e = rw e refl
 
@@ -96,11 +96,11 @@ type-open S loc e g = rw (g, type-of) refl
 open-end : {ar : TypeName → ℕ} {S : State} → Sound ar S → (x : ℕ) → x < taken S → get S x ≡ none → forward-tvar S x ≡ x
 open-end {S = S} s x h g = ends-det (chain s x h) (here (next-none S x g))
 
-any-join : (n : ℕ) (S : State) (l r : ℕ) → value S l ≡ Anything → join-impl (suc n) S Join l r ≡ ok (S, r)
+any-join : (n : ℕ) (S : State) (l r : ℕ) → type-at S l ≡ Anything → join-impl (suc n) S Join l r ≡ ok (S, r)
 unfolding join-impl join-arm arm
 any-join n S l r e = rw e refl
 
-any-bind : (S : State) (loc x t : ℕ) → num-loc S x ≡ none → value S t ≡ Anything → join-bind-tvar S loc x t ≡ ok (S, true)
+any-bind : (S : State) (loc x t : ℕ) → num-loc S x ≡ none → type-at S t ≡ Anything → join-bind-tvar S loc x t ≡ ok (S, true)
 unfolding join-bind-tvar is-anything
 any-bind S loc x t m e = rw (unmarked S x t m, any-used S x t e, e) refl
 
@@ -109,13 +109,13 @@ record Left (S : State) (x w : ℕ) (a : State × ℕ) : Type 0 where
   only : (y : ℕ) → y < taken S → y ≢ x → y ≢ w → get (a .0) y ≡ get S y
   marks : (y : ℕ) → num-loc (a .0) y ≡ num-loc S y
   var : ℕ
-  is : value (a .0) (a .1) ≡ Var var
+  is : type-at (a .0) (a .1) ≡ Var var
   which : (var ≡ x) ⊎ (taken S ≤ var)
 
 -- with what is no variable
-bind-sure : {ar : TypeName → ℕ} {S : State} → Sound ar S → (l r x : ℕ) → value S l ≡ Var x → num-loc S x ≡ none → used (suc r) S x r ≡ false → Sure (Left S x x) (join-unbound S l r l x r)
+bind-sure : {ar : TypeName → ℕ} {S : State} → Sound ar S → (l r x : ℕ) → type-at S l ≡ Var x → num-loc S x ≡ none → used (suc r) S x r ≡ false → Sure (Left S x x) (join-unbound S l r l x r)
 unfolding join-unbound join-bind-tvar _>>=_
-bind-sure {S = S} s l r x v m u = rw (unmarked S x r m, u) (go (is-anything (value S r)))
+bind-sure {S = S} s l r x v m u = rw (unmarked S x r m, u) (go (is-anything (type-at S r)))
   where
     go : (b : Bool) → Sure {A = State × ℕ} (Left S x x) ((if b then ok (S, true) else ok (insert S x r, true)) >>= (λ (a : State × Bool). if (a .1) then ok (a .0, l) else err (a .0) (Incompatible l r)))
     go true = sure-ok (record { only = λ y h a b. refl; marks = λ y. refl; var = x; is = v; which = inl refl })
@@ -138,10 +138,10 @@ merge-sure {ar} {S} n s loc1 x loc2 w i j gx gw mx mw = rw (open-end s x i gx, o
     let old : (y : ℕ) → get (E .0) y ≡ get S y = λ y. e .new .same-get y ∙ d .new .same-get y ∙ c .same-get y ∙ b .new .same-get y ∙ a .new .same-get y in
     let only : (y : ℕ) → y ≢ x → y ≢ w → get tied y ≡ get S y = λ y p q. get-insert-other (insert (E .0) x (D .1)) w (E .1) y q ∙ get-insert-other (E .0) x (D .1) y p ∙ old y in
     let marks : (y : ℕ) → num-loc tied y ≡ num-loc S y = λ y. num-insert (insert (E .0) x (D .1)) w (E .1) y ∙ num-insert (E .0) x (D .1) y ∙ e .marks y ∙ d .marks y ∙ c .marks y ∙ b .marks y ∙ a .marks y in
-    let val : (k : ℕ) → value tied k ≡ value (E .0) k = λ k. value-insert (insert (E .0) x (D .1)) w (E .1) k ∙ value-insert (E .0) x (D .1) k in
-    let late : (k : ℕ) (L : Type-value) → k < count (B .0) → value (B .0) k ≡ L → value tied k ≡ L = λ k L h v. val k ∙ e .grown .g-kept k (omega (arith, c .grown .g-nodes, d .grown .g-nodes)) ∙ d .grown .g-kept k (omega (arith, c .grown .g-nodes)) ∙ c .grown .g-kept k h ∙ v in
-    let v1 : value tied (A .1) ≡ Anything = late (A .1) Anything (omega (arith, a .new .t-in, b .grown .g-nodes)) (b .grown .g-kept (A .1) (a .new .t-in) ∙ a .new .is) in
-    let v2 : value tied (B .1) ≡ Anything = late (B .1) Anything (b .new .t-in) (b .new .is) in
+    let val : (k : ℕ) → type-at tied k ≡ type-at (E .0) k = λ k. value-insert (insert (E .0) x (D .1)) w (E .1) k ∙ value-insert (E .0) x (D .1) k in
+    let late : (k : ℕ) (L : Type-value) → k < count (B .0) → type-at (B .0) k ≡ L → type-at tied k ≡ L = λ k L h v. val k ∙ e .grown .g-kept k (omega (arith, c .grown .g-nodes, d .grown .g-nodes)) ∙ d .grown .g-kept k (omega (arith, c .grown .g-nodes)) ∙ c .grown .g-kept k h ∙ v in
+    let v1 : type-at tied (A .1) ≡ Anything = late (A .1) Anything (omega (arith, a .new .t-in, b .grown .g-nodes)) (b .grown .g-kept (A .1) (a .new .t-in) ∙ a .new .is) in
+    let v2 : type-at tied (B .1) ≡ Anything = late (B .1) Anything (b .new .t-in) (b .new .is) in
     sure-eq _ _ (any-join n tied (A .1) (B .1) v1) (sure-none (get tied f) _ (only f (λ p. omega arith) (λ p. omega arith) ∙ get-beyond S f (omega arith)) (
     sure-eq _ _ (any-bind tied loc2 f (B .1) (marks f ∙ num-beyond S f (omega arith)) v2) (
     sure-ok (record { only = λ y h p q. only y p q; marks = marks; var = f; is = val (E .1) ∙ e .new .is; which = inr (omega arith) })))))))))))
@@ -150,12 +150,12 @@ merge-sure {ar} {S} n s loc1 x loc2 w i j gx gw mx mw = rw (open-end s x i gx, o
 
 -- t is no variable, or a variable from b on that is unbound and has no mark; what comes next is from b′ on
 data Plain-or-open (S : State) (b t : ℕ) : ℕ → Type 0 where
-  is-plain : as-var (value S t) ≡ none → Plain-or-open S b t b
-  is-open : {w : ℕ} → value S t ≡ Var w → b ≤ w → w < taken S → get S w ≡ none → num-loc S w ≡ none → Plain-or-open S b t (suc w)
+  is-plain : as-var (type-at S t) ≡ none → Plain-or-open S b t b
+  is-open : {w : ℕ} → type-at S t ≡ Var w → b ≤ w → w < taken S → get S w ≡ none → num-loc S w ≡ none → Plain-or-open S b t (suc w)
 
 record Pair (S : State) (h a b v t x b′ : ℕ) : Type 0 where
   v-in : v < count S
-  is : value S v ≡ Var x
+  is : type-at S v ≡ Var x
   from : a ≤ x
   below : x < h
   free : get S x ≡ none
@@ -168,7 +168,7 @@ record Left-of (S : State) (x b b′ : ℕ) (a : State × ℕ) : Type 0 where
   only : (y : ℕ) → y < taken S → y ≢ x → (y < b) ⊎ (b′ ≤ y) → get (a .0) y ≡ get S y
   marks : (y : ℕ) → num-loc (a .0) y ≡ num-loc S y
   var : ℕ
-  is : value (a .0) (a .1) ≡ Var var
+  is : type-at (a .0) (a .1) ≡ Var var
   which : (var ≡ x) ⊎ (taken S ≤ var)
 
 arm-l : (x : ℕ) (R : Type-value) → solid R ≡ true → arm (Var x) R ≡ Var-l x
@@ -181,21 +181,21 @@ arm-l x (Var v) e = never (cc)
 arm-l x Anything e = never (cc)
 arm-l x UnresolvedError e = refl
 
-used-other : (S : State) (x w t : ℕ) → value S t ≡ Var w → used (suc t) S x t ≡ false → w ≢ x
+used-other : (S : State) (x w t : ℕ) → type-at S t ≡ Var w → used (suc t) S x t ≡ false → w ≢ x
 unfolding used as-var is-var any-of parts
 used-other S x w t e u d = never (let z : eqb w x || false ≡ false = rw e at u in let y = eq-eqb w x d in let k : true ≡ false = rw y at z in cc)
 
 module _ {ar : TypeName → ℕ} {S : State} (s : Sound ar S) (n h a b v t x : ℕ) (h-in : h ≤ taken S) (hb : h ≤ b) where
-  plain-sure : as-var (value S t) ≡ none → {b′ : ℕ} → Pair S h a b v t x b′ → Sure (Left S x x) (join-impl (suc (suc n)) S Join v t)
+  plain-sure : as-var (type-at S t) ≡ none → {b′ : ℕ} → Pair S h a b v t x b′ → Sure (Left S x x) (join-impl (suc (suc n)) S Join v t)
   unfolding join-impl join-arm arm
-  plain-sure e p = go (kind (value S t))
+  plain-sure e p = go (kind (type-at S t))
     where
-      go : Kind (value S t) → Sure (Left S x x) (join-impl (suc (suc n)) S Join v t)
+      go : Kind (type-at S t) → Sure (Left S x x) (join-impl (suc (suc n)) S Join v t)
       go (k-any d) = rw (p .is, d) (sure-ok (record { only = λ y i c k. refl; marks = λ y. refl; var = x; is = p .is; which = inl refl }))
       go (k-var d) = nonvar-var e d
-      go (k-solid d f) = rw (p .is, arm-l x (value S t) d) (rw (p .free, join-arm) (bind-sure s v t x (p .is) (p .clear) (p .unused)))
+      go (k-solid d f) = rw (p .is, arm-l x (type-at S t) d) (rw (p .free, join-arm) (bind-sure s v t x (p .is) (p .clear) (p .unused)))
 
-  open-sure : {w b′ : ℕ} → Pair S h a b v t x b′ → value S t ≡ Var w → w < taken S → get S w ≡ none → num-loc S w ≡ none → Sure (Left S x w) (join-impl (suc (suc n)) S Join v t)
+  open-sure : {w b′ : ℕ} → Pair S h a b v t x b′ → type-at S t ≡ Var w → w < taken S → get S w ≡ none → num-loc S w ≡ none → Sure (Left S x w) (join-impl (suc (suc n)) S Join v t)
   unfolding join-impl join-arm arm
   open-sure {w} p e i g m = rw (p .is, e) (rw (ne-eqb x w (λ d. used-other S x w t e (p .unused) (sym d))) (merge-sure n s (loc-of S v) x (loc-of S t) w (omega (arith, p .below)) i (p .free) g (p .clear) m))
 
@@ -216,7 +216,7 @@ used-kept : {ar : TypeName → ℕ} {S S′ : State} → Sound ar S → Grown S 
 unfolding used
 used-kept s g zero y t h = refl
 used-kept {S = S} {S′ = S′} s g (suc n) y t h = rw (g .g-kept t h)
-    (ap (λ (c : Bool). is-var y (value S t) || c) (any-same (λ p. used n S′ y p) (λ p. used n S y p) (λ p. p < t) (λ p l. used-kept s g n y p (omega arith)) (parts (value S t)) (s .parts-below t h)))
+    (ap (λ (c : Bool). is-var y (type-at S t) || c) (any-same (λ p. used n S′ y p) (λ p. used n S y p) (λ p. p < t) (λ p l. used-kept s g n y p (omega arith)) (parts (type-at S t)) (s .parts-below t h)))
 
 -- S′ has the nodes and marks of S
 record Steady (ar : TypeName → ℕ) (S S′ : State) : Type 0 where
@@ -265,7 +265,7 @@ pairs-keep {h = h} z i j k (pair {a = a} {b = b} {v = v} {t = t} {x = x} {b′ =
 
 -- every one is a variable from a on
 Vars-from : State → ℕ → List ℕ → Type 0
-Vars-from S a us = All (λ u. (u < count S) × ((z : ℕ) × (value S u ≡ Var z) × (a ≤ z))) us
+Vars-from S a us = All (λ u. (u < count S) × ((z : ℕ) × (type-at S u ≡ Var z) × (a ≤ z))) us
 
 record Args-joined (ar : TypeName → ℕ) (S : State) (a : ℕ) (r : State × List ℕ) : Type 0 where
   steady : Steady ar S (r .0)
@@ -323,7 +323,7 @@ record Made (ar : TypeName → ℕ) (S : State) (a : State × ℕ) : Type 0 wher
   steady : Steady ar S (a .0)
   gets : (y : ℕ) → get (a .0) y ≡ get S y
   t-in : a .1 < count (a .0)
-  is : value (a .0) (a .1) ≡ Var (taken S)
+  is : type-at (a .0) (a .1) ≡ Var (taken S)
   more : taken (a .0) ≡ suc (taken S)
 
 make-sure : {ar : TypeName → ℕ} {S : State} → Sound ar S → (l : ℕ) → Sure (Made ar S) (make-tvar S l)
@@ -338,7 +338,7 @@ make-sure s l = sure-bind _ (next-sure s) (λ A a. sure-map (λ B b. record {
 
 data Tvars (S : State) : ℕ → List ℕ → Type 0 where
   t-none : {a : ℕ} → Tvars S a []
-  t-one : {a v x : ℕ} {vs : List ℕ} → v < count S → value S v ≡ Var x → a ≤ x → x < taken S → Tvars S (suc x) vs → Tvars S a (v ∷ vs)
+  t-one : {a v x : ℕ} {vs : List ℕ} → v < count S → type-at S v ≡ Var x → a ≤ x → x < taken S → Tvars S (suc x) vs → Tvars S a (v ∷ vs)
 
 record Tparams (ar : TypeName → ℕ) (S : State) (r : State × List ℕ) : Type 0 where
   steady : Steady ar S (r .0)
@@ -429,7 +429,7 @@ pairs-of g e f m (t-one {v = u} {x = x} i v l j tv) (sh-one {t = t} {b′ = b′
 sp-raw : (S : State) (l : ℕ) (sh : Type-value) → Sure (λ (a : State × ℕ). a ≡ (with-node S l sh, count S)) (sp S l sh)
 sp-raw S l sh = with-room (Sure (λ (a : State × ℕ). a ≡ (with-node S l sh, count S))) (sp-room S l sh) (λ e. sure-ok refl) sure-refused
 
-used-var : (n : ℕ) (S : State) (y p z : ℕ) → value S p ≡ Var z → y ≢ z → used n S y p ≡ false
+used-var : (n : ℕ) (S : State) (y p z : ℕ) → type-at S p ≡ Var z → y ≢ z → used n S y p ≡ false
 unfolding used as-var is-var any-of parts
 used-var zero S y p z e d = refl
 used-var (suc n) S y p z e d = rw (e, ne-eqb z y (λ k. d (sym k))) refl
@@ -439,7 +439,7 @@ unfolding any-of
 used-none f [] a = refl
 used-none f (u ∷ us) a = rw (a .0, any-of) (used-none f us (a .1))
 
-unused-of : (S : State) (y t : ℕ) (x : Type-value) → value S t ≡ x → is-var y x ≡ false → All (λ u. used t S y u ≡ false) (parts x) → used (suc t) S y t ≡ false
+unused-of : (S : State) (y t : ℕ) (x : Type-value) → type-at S t ≡ x → is-var y x ≡ false → All (λ u. used t S y u ≡ false) (parts x) → used (suc t) S y t ≡ false
 unfolding used
 unused-of S y t x e v a = ap (λ (z : Type-value). is-var y z || any-of (λ p. used t S y p) (parts z)) e ∙ rw v (used-none (λ p. used t S y p) (parts x) a)
 
@@ -466,10 +466,10 @@ vars-unused {S = S} s l sh us y j vs = All-map (λ u p. used-var (count S) (with
 
 module _ {ar : TypeName → ℕ} (f : State → ℕ → Result (State × ℕ)) (h : Makes ar f) where
   -- a type that stays as it is
-  stays : {S : State} (t : ℕ) (x : Type-value) → value S t ≡ x → as-var x ≡ none → ((y : ℕ) → is-var y x ≡ false) → parts x ≡ [] → Sure (Level S) (ok (S, t))
+  stays : {S : State} (t : ℕ) (x : Type-value) → type-at S t ≡ x → as-var x ≡ none → ((y : ℕ) → is-var y x ≡ false) → parts x ≡ [] → Sure (Level S) (ok (S, t))
   stays {S} t x e a v p = sure-ok {a = (S, t)} (record { marks = λ y. refl; olds = λ y i. refl; unused = λ y i. unused-of S y t x e (v y) (rw p tt); next = taken S; next-in = omega arith; shape = is-plain (ap as-var e ∙ a) })
 
-  level-sure : {S : State} → Sound ar S → Declared ar S → (t : ℕ) → t < count S → (x : Type-value) → value S t ≡ x → Sure (Level S) (instantiate-value f S t (loc-of S t) x)
+  level-sure : {S : State} → Sound ar S → Declared ar S → (t : ℕ) → t < count S → (x : Type-value) → type-at S t ≡ x → Sure (Level S) (instantiate-value f S t (loc-of S t) x)
   unfolding instantiate-value instantiate-apply instantiate-type-args as-var is-var parts
   level-sure s d t i UnitType e = stays t UnitType e refl (λ y. refl) refl
   level-sure s d t i UnresolvedError e = stays t UnresolvedError e refl (λ y. refl) refl
@@ -507,7 +507,7 @@ module _ {ar : TypeName → ℕ} (f : State → ℕ → Result (State × ℕ)) (
 inst-sure : {ar : TypeName → ℕ} (n : ℕ) → Makes ar (instantiate-down n)
 unfolding instantiate-down
 inst-sure zero S t s d i = sure-refused
-inst-sure (suc n) S t s d i = both (instantiate-down-went (suc n) S t s d i) (level-sure (λ s t. instantiate-down n s t) (λ S t s d i. inst-sure n S t s d i) s d t i (value S t) refl)
+inst-sure (suc n) S t s d i = both (instantiate-down-went (suc n) S t s d i) (level-sure (λ s t. instantiate-down n s t) (λ S t s d i. inst-sure n S t s d i) s d t i (type-at S t) refl)
     (λ S′ u g w l. record { steady = record { before = s; after = w .sound; grown = g; marks = l .marks }; t-in = w .t-in; level = l })
 
 -- IN answers none of 1 to 4

@@ -3,7 +3,7 @@ use mathlib.Core.Path.{_≡_, refl}
 use mathlib.Core.Option.{none}
 use Prim.Native.Nat.{ℕ, _<_}
 use Rattle.definition.specs.Types.{TypeName, Type-value, State}
-use Rattle.definition.specs.Store.{count, taken, value}
+use Rattle.definition.specs.Store.{count, taken, type-at}
 use Rattle.definition.specs.Subst.{as-var, forward-tvar}
 use Rattle.definition.specs.Join.{TypingCase, Var-l, Var-r, arm, Arm, num-shape, check-num-tvar′, type-of, join-impl}
 use Rattle.definition.proofs.Tracks.{never, solid-nonvar}
@@ -13,7 +13,7 @@ use Rattle.definition.proofs.Calls.{type-of-post}
 use Rattle.definition.proofs.Main.{Took, took, took-any-l, took-any-r, took-units, took-refs, took-params, took-applies, took-vars, took-var-l, took-var-r, took-error-l, took-error-r, took-others, join-impl-good}
 
 -- of what is no variable the check looks at the type alone
-pub check-plain : (S : State) (ty : ℕ) → as-var (value S ty) ≡ none → check-num-tvar′ S ty ≡ num-shape (value S ty)
+pub check-plain : (S : State) (ty : ℕ) → as-var (type-at S ty) ≡ none → check-num-tvar′ S ty ≡ num-shape (type-at S ty)
 unfolding check-num-tvar′
 check-plain S ty e = rw (e, check-num-tvar′) refl
 
@@ -53,10 +53,10 @@ pub right-plain : (L R : Type-value) (id : ℕ) → arm L R ≡ Var-r id → as-
 right-plain L R id e = right-at id (took L R) e
 
 -- a merge joins what the two chain ends have, which is no variable ..
-pub end-plain : {ar : TypeName → ℕ} {S : State} → Sound ar S → (loc v : ℕ) → v < taken S → Post ar S (λ S′ t. as-var (value S′ t) ≡ none) (type-of S loc (forward-tvar S v))
+pub end-plain : {ar : TypeName → ℕ} {S : State} → Sound ar S → (loc v : ℕ) → v < taken S → Post ar S (λ S′ t. as-var (type-at S′ t) ≡ none) (type-of S loc (forward-tvar S v))
 end-plain s loc v h = post-map (λ S′ t g p. p .plain) (type-of-post s loc _ (s .chains v h))
 
 -- .. and binds the fresh variable to the join of two types that are none, which is none
-pub join-plain : {ar : TypeName → ℕ} {S : State} → Sound ar S → (depth : ℕ) (c : TypingCase) (l r : ℕ) → l < count S → r < count S → as-var (value S l) ≡ none → as-var (value S r) ≡ none
-    → Post ar S (λ S′ t. as-var (value S′ t) ≡ none) (join-impl depth S c l r)
+pub join-plain : {ar : TypeName → ℕ} {S : State} → Sound ar S → (depth : ℕ) (c : TypingCase) (l r : ℕ) → l < count S → r < count S → as-var (type-at S l) ≡ none → as-var (type-at S r) ≡ none
+    → Post ar S (λ S′ t. as-var (type-at S′ t) ≡ none) (join-impl depth S c l r)
 join-plain {S = S} s depth c l r i j e d = post-map (λ S′ t g p. p .plain e d) (join-impl-good depth S c l r s i j)

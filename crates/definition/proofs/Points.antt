@@ -3,12 +3,10 @@
 use mathlib.Core.Path.{_≡_, refl}
 use mathlib.Core.Bool.{Bool, true, false}
 use mathlib.Core.List.{List, [], _∷_}
-use mathlib.Core.Option.{some}
 use Prim.Native.Nat.{ℕ}
 use lib.ListN.{length}
 use lib.Dec.{leb}
-use Rattle.definition.specs.Types.{State, fresh, malformed, answer-too-long, Result, ok, err, refused, if_then_else_}
-use Rattle.definition.specs.Store.{num-loc}
+use Rattle.definition.specs.Types.{State, malformed, answer-too-long, Result, ok, err, refused, if_then_else_}
 use Rattle.definition.specs.TParams.{subst-tparams}
 use Rattle.definition.specs.Write.{Bytes}
 use Rattle.definition.specs.Reader.{got}
@@ -18,8 +16,6 @@ use Rattle.definition.specs.Step.{run, refusal, max-payload, answer-with
 use Rattle.definition.specs.Sound.{sound}
 use Rattle.definition.proofs.Walk.{Ends, e-ok, e-err, e-refused, bind, place-run, pairs-run, ready-tvars-run, make-run, subst-run}
 use Rattle.definition.proofs.SoundKept.{usable-sound}
-use Rattle.definition.proofs.Computed.{left-by}
-use Rattle.definition.proofs.Spelling.{hex}
 
 -- ---- UF, RD and TS
 
@@ -66,10 +62,3 @@ looking-leaves s x l = back-leaves s (run s x) (goes-back s x l)
 pub left-over : (s : State) (x : Record) (b : ℕ) (rest bytes : Bytes) → sound s ≡ true → read-record s bytes ≡ got x (b ∷ rest) → step s bytes max-buffer ≡ refusal s malformed
 unfolding step lent
 left-over s x b rest bytes h e = rw (usable-sound s h, step) (rw e refl)
-
--- ---- two numeric marks
-
--- two variables marked at 5 and at 9 are joined: the variable that both become is marked at 9
-second-mark : num-loc (left-by fresh (hex "4e5605000000" ∷ hex "4e5609000000" ∷ hex "4a4e06010000000000 06020000000100" ∷ [])) 2 ≡ some 9
-unfolding left-by num-loc
-second-mark = refl

@@ -8,7 +8,7 @@ use native.Mathlib.Omega.{arith}
 use lib.ListN.{length, getD, set, length-append, length-set}
 use Rattle.definition.specs.Types.{TypeName, Mark, Shape, UnitType, Ref, Param, Apply, Var, Anything, UnresolvedError, Type-value, Places, Node, Cell, unbound, Struct, State, max-nodes, max-args, max-vars, max-constraints, max-structs}
 use Rattle.definition.specs.Types.{Constraint, AbilityConstraint, NumericConstraint, BitsConstraint, OrderedConstraint, BaseTypeConstraint, SingleTypeConstraint}
-use Rattle.definition.specs.Store.{nowhere, count, taken, with-args, node, value, loc-of, num-loc, with-vars, with-constraints, with-structs, insert, args-of, stored, with-node, with-var, all-of}
+use Rattle.definition.specs.Store.{nowhere, count, taken, with-args, node, type-at, loc-of, num-loc, with-vars, with-constraints, with-structs, insert, args-of, stored, with-node, with-var, all-of}
 use Rattle.definition.specs.Subst.{next-of, or-insert, mark-one, mark-chain, set-num-var}
 use Rattle.definition.specs.Trees.{mark-fits, is-set, is-mark, is-name}
 use Rattle.definition.specs.Join.{merge-num}
@@ -129,11 +129,11 @@ module _ {b s : State} (r : Ranges b s) where
   unfolding loc-of
   loc-of-in t = node-in t .loc-in
 
-  pub value-in : (t : ℕ) → ShapeIn b (value s t)
-  unfolding value
+  pub value-in : (t : ℕ) → ShapeIn b (type-at s t)
+  unfolding type-at
   value-in t = read-in b s (node s t .value) (node-in t .shape-in)
 
-  pub name-in : (t : ℕ) (k : Mark) (n : TypeName) (ts : List ℕ) → value s t ≡ Apply k n ts → Named b k n
+  pub name-in : (t : ℕ) (k : Mark) (n : TypeName) (ts : List ℕ) → type-at s t ≡ Apply k n ts → Named b k n
   name-in t k n ts e = let h = value-in t in rw e at h
 
   pub cell-in : (v : ℕ) → numeric-allowed (num-loc s v) ≡ true

@@ -10,14 +10,14 @@ use lib.Dec.{leb, eqb, eqb-refl, ltb→lt}
 use Rattle.definition.specs.Types.{TypeName, Multiple, Builtin, ModuleType, Shape, UnitType, Ref, Param, Apply, Var, Anything, UnresolvedError, Places, Node, unbound, State, fresh, if_then_else_, max-nodes, max-args, max-vars, max-constraints, max-structs}
 use Rattle.definition.specs.Types.{Constraint, AbilityConstraint, NumericConstraint, BitsConstraint, OrderedConstraint, BaseTypeConstraint, SingleTypeConstraint, Struct}
 use Rattle.definition.specs.Types.{Refusal, answer-too-long, Result, ok, err, refused}
-use Rattle.definition.specs.Store.{nowhere, count, taken, node, value, with-args, args-at, num-loc, all-of}
+use Rattle.definition.specs.Store.{nowhere, count, taken, node, type-at, with-args, args-at, num-loc, all-of}
 use Rattle.definition.specs.Subst.{parts}
 use Rattle.definition.specs.Trees.{mark-fits, arity, is-set, is-mark, is-name}
 use Rattle.definition.specs.Instantiate.{struct-tparams}
 use Rattle.definition.specs.Write.{Bytes, Is-bytes}
 use Rattle.definition.specs.Reader.{Read, got, not-read}
 use Rattle.definition.specs.Record.{Record, read-record}
-use Rattle.definition.specs.Sound.{all-at, counts-fit, parts-smaller, fields-allowed, bindings-known, chains-end, is-u32, places-fit, shape-allowed, node-allowed, at-node, constraint-allowed, binding-allowed, cell-allowed, sound}
+use Rattle.definition.specs.Sound.{all-at, counts-fit, parts-smaller, fields-allowed, no-binding-anything, chains-end, is-u32, places-fit, shape-allowed, node-allowed, at-node, constraint-allowed, binding-allowed, cell-allowed, sound}
 use Rattle.definition.specs.Step.{run, Answer, number-of-error, number-of-refusal, refusal, put-back, max-payload, answer-with, answer, max-buffer, usable, lent, step, streamed, step-stream}
 use Rattle.definition.specs.Demand.{after}
 use Rattle.definition.specs.Job.{Entry, ends-job, job-from, job-log}
@@ -103,8 +103,8 @@ module _ {s s′ : State} (w : Sound (arity s) s′) (r : Ranges s s′) where
       let none : Struct = record { abilities = 0; params = [] } in
       ap (λ (d : Struct). length (d .params)) (ap (λ (ds : List Struct). getD ds n none) (r .declared) ∙ List·getD-append (s .structs) (r .extra) none n (ltb→lt n (length (s .structs)) (test h)))
 
-  same-value : (t : ℕ) (x : Shape Places) → node s′ t .value ≡ x → value s′ t ≡ with-args s′ x
-  unfolding value
+  same-value : (t : ℕ) (x : Shape Places) → node s′ t .value ≡ x → type-at s′ t ≡ with-args s′ x
+  unfolding type-at
   same-value t x e = ap (λ y. with-args s′ y) e
 
   shape-back : (t : ℕ) → t < count s′ → (x : Shape Places) → node s′ t .value ≡ x → ShapeIn s x → PlacesIn s′ x → shape-allowed s′ x ≡ true
@@ -142,13 +142,13 @@ module _ {s s′ : State} (w : Sound (arity s) s′) (r : Ranges s s′) where
     few-vars = r .few-vars;
     few-constraints = r .few-constraints;
     few-structs = r .few-structs;
-    smaller-parts = λ t p i m. each (λ q. q < t) (parts (value s′ t)) (w .parts-below t i) p m;
+    smaller-parts = λ t p i m. each (λ q. q < t) (parts (type-at s′ t)) (w .parts-below t i) p m;
     node-fields = node-back;
     binding-fields = w .bind-in;
-    mark-fields = λ v loc e. numeric-u32 (num-loc s′ v) loc e (cell-in r v);
+    numeric-fields = λ v loc e. numeric-u32 (num-loc s′ v) loc e (cell-in r v);
     constraint-fields = λ c m. constraint-back c (each ConstraintIn (s′ .constraints) (r .constraints-in) c m) (w .constraints-on .on c m);
     struct-fields = λ d m. each StructIn (s′ .structs) (r .structs-in) d m .struct-in;
-    known-bindings = λ v t e. not-anything (value s′ t) (w .bind-known v t e);
+    bindings-not-anything = λ v t e. not-anything (type-at s′ t) (w .bind-known v t e);
     ending-chains = w .chains;
   })
 
@@ -262,7 +262,7 @@ from-no-15 (suc n) i s (b ∷ bytes) is h =
     go false e es l f = (l, f)
 
 pub fresh-sound : sound fresh ≡ true
-unfolding sound counts-fit parts-smaller fields-allowed bindings-known chains-end all-of all-at max-nodes max-args max-vars max-constraints max-structs
+unfolding sound counts-fit parts-smaller fields-allowed no-binding-anything chains-end all-of all-at max-nodes max-args max-vars max-constraints max-structs
 fresh-sound = refl
 
 pub job-no-15 : (bytes : Bytes) → Is-bytes bytes → (e : Entry) → List·Memᴰ e (job-log bytes) → e .number ≢ 15

@@ -11,7 +11,7 @@ use lib.Dec.{eqb}
 use Rattle.definition.specs.Types.{TypeName, Multiple, Builtin, ModuleType, Type-value, UnitType, Ref, Param, Apply, Var, Anything, UnresolvedError, State, Cell, TypingError, max-depth, if_then_else_}
 use Rattle.definition.specs.Types.{Constraint, AbilityConstraint}
 use Rattle.definition.specs.Types.{Refusal, full, too-deep, runs-into-itself, abilities-disagree, open-variable, no-argument, parameter-twice, Result, ok, err, refused, _>>=_}
-use Rattle.definition.specs.Store.{count, value, loc-of, get, num-loc, sp, next-tvar, add-constraint, declare, map-types}
+use Rattle.definition.specs.Store.{count, type-at, loc-of, get, num-loc, sp, next-tvar, add-constraint, declare, map-types}
 use Rattle.definition.specs.Subst.{is-anything, forward-tvar, reaches-itself, ready-value, ready, ready-tvars}
 use Rattle.definition.specs.Join.{TypingCase, Join, Subtype, Join-impl, is-numeric, check-num-tvar, used, join-bind-tvar, type-of, shown, merge-num, join-tvar, join-impl-types, Arm, join-mut, join-loc, join-refs, same-name, is-multiple, same-mark, join-applies, join-unbound, join-arm, join-impl, join, subtype}
 use Rattle.definition.specs.TParams.{TParamSubst, arg-of, make-tparam-subst, subst-value, subst-down, subst-tparams}
@@ -19,7 +19,7 @@ use Rattle.definition.specs.Instantiate.{make-tvar, tvar-constraint, bui
 use Rattle.definition.specs.Constraints.{num-vars, undecided, u64, default-num-var, default-num-vars, solve-constraints}
 use Rattle.definition.specs.Trees.{Tree, unit-tree, anything-tree, error-tree, ref-tree, param-tree, apply-tree, var-tree, Trees, no-trees, _then_, has-drop, mark-fits, is-set, is-mark, is-name}
 use Rattle.definition.specs.Record.{NumericKind, Numeric, Bits, Ordered, Record, SD, FV, NV, SN, JN, SU, UF, RD, IN, TS, NC, BC, SC, SV}
-use Rattle.definition.specs.Place.{place, place-all, place-pairs}
+use Rattle.definition.specs.Build.{build, build-all, build-pairs}
 use Rattle.definition.specs.Sound.{numeric-allowed}
 use Rattle.definition.specs.Step.{numeric-constraint, constrain, two-types, run}
 use Rattle.definition.proofs.Order.{All}
@@ -150,9 +150,9 @@ module _ (H : Type 0) (b : State) (z : Bool) where
   map-run f r (t ∷ ts) s i = bind _ (r s i t) (λ x j. bind _ (map-run f r ts (x .0) j) (λ y k. e-ok k))
 
   mutual
-    unfolding place place-all TreeIn
+    unfolding build build-all TreeIn
 
-    pub place-run : {E : State → Type 0} (t : Tree) → (H → TreeIn b t) → (s : State) → In s → RunOr E (place t s)
+    pub place-run : {E : State → Type 0} (t : Tree) → (H → TreeIn b t) → (s : State) → In s → RunOr E (build t s)
     place-run (unit-tree loc) f s i = sp-run s i loc f UnitType (λ h. tt)
     place-run (anything-tree loc) f s i = sp-run s i loc f Anything (λ h. tt)
     place-run (error-tree loc) f s i = sp-run s i loc f UnresolvedError (λ h. tt)
@@ -161,12 +161,12 @@ module _ (H : Type 0) (b : State) (z : Bool) where
     place-run (apply-tree loc k n ts) f s i = bind _ (place-all-run ts (λ h. f h .2) s i) (λ x j. sp-run (x .0) j loc (λ h. f h .0) (Apply k n (x .1)) (λ h. f h .1))
     place-run (var-tree loc v) f s i = sp-run s i loc f (Var v) (λ h. tt)
 
-    place-all-run : {E : State → Type 0} (ts : Trees) → (H → TreesIn b ts) → (s : State) → In s → RunOr E (place-all ts s)
+    place-all-run : {E : State → Type 0} (ts : Trees) → (H → TreesIn b ts) → (s : State) → In s → RunOr E (build-all ts s)
     place-all-run no-trees f s i = e-ok i
     place-all-run (_then_ t ts) f s i = bind _ (place-run t (λ h. f h .0) s i) (λ x j. bind _ (place-all-run ts (λ h. f h .1) (x .0) j) (λ y k. e-ok k))
 
-  pub pairs-run : {E : State → Type 0} (ps : List (ℕ × Tree)) → (H → All (λ (p : ℕ × Tree). TreeIn b (p .1)) ps) → (s : State) → In s → RunOr E (place-pairs ps s)
-  unfolding place-pairs
+  pub pairs-run : {E : State → Type 0} (ps : List (ℕ × Tree)) → (H → All (λ (p : ℕ × Tree). TreeIn b (p .1)) ps) → (s : State) → In s → RunOr E (build-pairs ps s)
+  unfolding build-pairs
   pairs-run [] f s i = e-ok i
   pairs-run ((id, t) ∷ ps) f s i = bind _ (place-run t (λ h. f h .0) s i) (λ x j. bind _ (pairs-run ps (λ h. f h .1) (x .0) j) (λ y k. e-ok k))
 
@@ -175,7 +175,7 @@ module _ (H : Type 0) (b : State) (z : Bool) where
   bind-tvar-run : (s : State) → In s → (loc v ty : ℕ) → Run (join-bind-tvar s loc v ty)
   unfolding join-bind-tvar
   bind-tvar-run s i loc v ty =
-      either (not (check-num-tvar s v ty)) (λ c. e-ok i) (λ c. either (used (suc ty) s v ty) (λ u. e-err i) (λ u. either (is-anything (value s ty)) (λ a. e-ok i) (λ a. e-ok (λ h. insert-ranges (i h) v ty))))
+      either (not (check-num-tvar s v ty)) (λ c. e-ok i) (λ c. either (used (suc ty) s v ty) (λ u. e-err i) (λ u. either (is-anything (type-at s ty)) (λ a. e-ok i) (λ a. e-ok (λ h. insert-ranges (i h) v ty))))
 
   type-of-run : (s : State) → In s → (loc : ℕ) → (H → U32 loc) → (id : ℕ) → Run (type-of s loc id)
   unfolding type-of
@@ -183,7 +183,7 @@ module _ (H : Type 0) (b : State) (z : Bool) where
 
   shown-run : (s : State) → In s → (ty id : ℕ) → Run (shown s ty id)
   unfolding shown
-  shown-run s i ty id = either (is-anything (value s ty)) (λ a. sp-run s i (loc-of s ty) (λ h. loc-of-in (i h) ty) (Var id) (λ h. tt)) (λ a. e-ok i)
+  shown-run s i ty id = either (is-anything (type-at s ty)) (λ a. sp-run s i (loc-of s ty) (λ h. loc-of-in (i h) ty) (Var id) (λ h. tt)) (λ a. e-ok i)
 
   module _ (J : Join-impl) (r : (s : State) → In s → (c : TypingCase) (lhs rhs : ℕ) → Run (J s c lhs rhs)) where
     merge-run : (s : State) → In s → (c : TypingCase) (loc1 : ℕ) → (H → U32 loc1) → (id1 loc2 : ℕ) → (H → U32 loc2) → (id2 : ℕ) → Run (join-tvar J s c loc1 id1 loc2 id2)
@@ -225,7 +225,7 @@ module _ (H : Type 0) (b : State) (z : Bool) where
       unfolding join-unbound
       unbound-run var id other = bind _ (bind-tvar-run s i (loc-of s var) id other) (λ x j. either (x .1) (λ t. e-ok j) (λ t. e-err j))
 
-      arm-run : {a : Arm} → Took (value s lhs) (value s rhs) a → Run (join-arm J s c lhs rhs a)
+      arm-run : {a : Arm} → Took (type-at s lhs) (type-at s rhs) a → Run (join-arm J s c lhs rhs a)
       unfolding join-arm join-applies
       arm-run (took-any-l e) = e-ok i
       arm-run (took-any-r e) = e-ok i
@@ -249,7 +249,7 @@ module _ (H : Type 0) (b : State) (z : Bool) where
   join-run : (n : ℕ) (s : State) → In s → (c : TypingCase) (lhs rhs : ℕ) → Run (join-impl n s c lhs rhs)
   unfolding join-impl
   join-run zero s i c lhs rhs = e-refused eight
-  join-run (suc n) s i c lhs rhs = arm-run (λ s c l r. join-impl n s c l r) (λ s i c l r. join-run n s i c l r) s i c lhs rhs (took (value s lhs) (value s rhs))
+  join-run (suc n) s i c lhs rhs = arm-run (λ s c l r. join-impl n s c l r) (λ s i c l r. join-run n s i c l r) s i c lhs rhs (took (type-at s lhs) (type-at s rhs))
 
   -- ---- ready, type parameters, instantiate, constraints: one level, of a value whose fields are in range
 
@@ -277,7 +277,7 @@ module _ (H : Type 0) (b : State) (z : Bool) where
   ready-run : {E : State → Type 0} → z ≡ true → (n : ℕ) → Runs E (ready n)
   unfolding ready
   ready-run y zero s i ty = e-refused (nine y)
-  ready-run y (suc n) s i ty = ready-value-run (λ s t. ready n s t) (λ s i t. ready-run y n s i t) s i ty (loc-of s ty) (λ h. loc-of-in (i h) ty) (value s ty) (λ h. value-in (i h) ty)
+  ready-run y (suc n) s i ty = ready-value-run (λ s t. ready n s t) (λ s i t. ready-run y n s i t) s i ty (loc-of s ty) (λ h. loc-of-in (i h) ty) (type-at s ty) (λ h. value-in (i h) ty)
 
   pub ready-tvars-run : {E : State → Type 0} → z ≡ true → Runs E ready-tvars
   unfolding ready-tvars
@@ -290,7 +290,7 @@ module _ (H : Type 0) (b : State) (z : Bool) where
   pub subst-run : {E : State → Type 0} → z ≡ true → (n : ℕ) (subst : TParamSubst) → Runs E (subst-down n subst)
   unfolding subst-down
   subst-run y zero subst s i ty = e-refused (nine y)
-  subst-run y (suc n) subst s i ty = subst-value-run (λ s t. subst-down n subst s t) (λ s i t. subst-run y n subst s i t) s i ty (loc-of s ty) (λ h. loc-of-in (i h) ty) subst (value s ty) (λ h. value-in (i h) ty)
+  subst-run y (suc n) subst s i ty = subst-value-run (λ s t. subst-down n subst s t) (λ s i t. subst-run y n subst s i t) s i ty (loc-of s ty) (λ h. loc-of-in (i h) ty) subst (type-at s ty) (λ h. value-in (i h) ty)
 
   pub make-run : {E : State → Type 0} (ps : List (ℕ × ℕ)) → Ends z E (λ subst. Unit {0}) (make-tparam-subst ps)
   unfolding make-tparam-subst
@@ -331,7 +331,7 @@ module _ (H : Type 0) (b : State) (z : Bool) where
   inst-run : z ≡ true → (n : ℕ) → Runs In (instantiate-down n)
   unfolding instantiate-down
   inst-run y zero s i ty = e-refused (nine y)
-  inst-run y (suc n) s i ty = inst-value-run (λ s t. instantiate-down n s t) (λ s i t. inst-run y n s i t) s i ty (loc-of s ty) (λ h. loc-of-in (i h) ty) (value s ty) (λ h. value-in (i h) ty)
+  inst-run y (suc n) s i ty = inst-value-run (λ s t. instantiate-down n s t) (λ s i t. inst-run y n s i t) s i ty (loc-of s ty) (λ h. loc-of-in (i h) ty) (type-at s ty) (λ h. value-in (i h) ty)
 
   default-run : (s : State) → In s → (v loc : ℕ) → (H → U32 loc) → Ends z In In (default-num-var s v loc)
   unfolding default-num-var join

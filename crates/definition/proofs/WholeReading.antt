@@ -7,7 +7,7 @@ use mathlib.Core.Option.{Option, none, some}
 use Prim.Native.Nat.{ℕ, zero, suc, _+_, _≤_, _<_}
 use native.Mathlib.Omega.{arith}
 use Rattle.definition.specs.Types.{TypeName, Type-value, UnitType, Ref, Param, Apply, Var, Anything, UnresolvedError, State}
-use Rattle.definition.specs.Store.{count, taken, value, get}
+use Rattle.definition.specs.Store.{count, taken, type-at, get}
 use Rattle.definition.specs.Subst.{as-var, parts, forward-tvar, reaches-itself}
 use Rattle.definition.specs.Rank.{ReadType, any, named, reference, ReadTypes}
 use Rattle.definition.specs.Rank.{Reads, reads-unit, reads-reference, reads-parameter, reads-named, reads-bound, reads-open, reads-any, reads-error, Reads-all, reads-none, reads-each}
@@ -38,7 +38,7 @@ mutual
   reads-once (reads-reference {m = m} d) (reads-reference d′) = ap (reference m) (reads-once d d′)
   reads-once reads-parameter reads-parameter = refl
   reads-once (reads-named {k = k} {n = n} d) (reads-named d′) = ap (named k n) (reads-all-once d d′)
-  reads-once {s = s} {r′ = r′} (reads-bound {t = t} g d) (reads-bound {t = t′} g′ d′) = let e : t′ ≡ t = cc in reads-once d (subst (λ (x : ℕ). Reads s (value s x) r′) e d′)
+  reads-once {s = s} {r′ = r′} (reads-bound {t = t} g d) (reads-bound {t = t′} g′ d′) = let e : t′ ≡ t = cc in reads-once d (subst (λ (x : ℕ). Reads s (type-at s x) r′) e d′)
   reads-once (reads-bound g d) (reads-open g′) = never (cc)
   reads-once (reads-open g) (reads-bound g′ d) = never (cc)
   reads-once (reads-open g) (reads-open g′) = refl
@@ -71,8 +71,8 @@ pub ends-below : (rest : ReadType) (S S′ : State) (n : ℕ) (L R : Type-value)
 unfolding unrolled Ends-within
 ends-below rest S S′ zero L R r w = w
 ends-below rest S S′ (suc n) L R r w =
-    shape-below (λ p. unrolled rest n S (value S p)) (λ q. unrolled rest n S′ (value S′ q)) (λ p. Ends-within S n (value S p)) (λ q. Ends-within S′ n (value S′ q))
-    (λ p q r w. ends-below rest S S′ n (value S p) (value S′ q) r w) (follow S L) (follow S′ R) r w
+    shape-below (λ p. unrolled rest n S (type-at S p)) (λ q. unrolled rest n S′ (type-at S′ q)) (λ p. Ends-within S n (type-at S p)) (λ q. Ends-within S′ n (type-at S′ q))
+    (λ p q r w. ends-below rest S S′ n (type-at S p) (type-at S′ q) r w) (follow S L) (follow S′ R) r w
 
 -- ---- what is read whole is read once for all
 
@@ -96,7 +96,7 @@ unfolding unrolled Ends-within
 unrolled-same rest rest′ S zero m L h w = absurd w
 unrolled-same rest rest′ S (suc n) zero L h w = absurd (omega arith)
 unrolled-same rest rest′ S (suc n) (suc m) L h w =
-    shape-same (λ p. unrolled rest n S (value S p)) (λ p. unrolled rest′ m S (value S p)) (follow S L) (All-map (λ p x. unrolled-same rest rest′ S n m (value S p) (omega arith) x) (parts (follow S L)) w)
+    shape-same (λ p. unrolled rest n S (type-at S p)) (λ p. unrolled rest′ m S (type-at S p)) (follow S L) (All-map (λ p x. unrolled-same rest rest′ S n m (type-at S p) (omega arith) x) (parts (follow S L)) w)
 
 -- ---- a shape of a state: its parts are nodes, and a variable is taken
 
@@ -109,8 +109,8 @@ unfolding parts
 var-is-in {v = v} h = record { parts-in = tt; var-in = λ w e. let d : v ≡ w = cc in omega arith }
 
 module _ {ar : TypeName → ℕ} {S : State} (s : Sound ar S) where
-  pub type-is-in : {t : ℕ} → t < count S → In S (value S t)
-  type-is-in {t} h = record { parts-in = All-map (λ p l. omega arith) (parts (value S t)) (s .parts-below t h); var-in = λ v e. s .var-in t v h e }
+  pub type-is-in : {t : ℕ} → t < count S → In S (type-at S t)
+  type-is-in {t} h = record { parts-in = All-map (λ p l. omega arith) (parts (type-at S t)) (s .parts-below t h); var-in = λ v e. s .var-in t v h e }
 
   -- ---- what ends within some depth is the whole reading
 
@@ -120,7 +120,7 @@ module _ {ar : TypeName → ℕ} {S : State} (s : Sound ar S) where
 
   -- what is below is read: as f, where Q
   abbrev Below-reads : (ℕ → ReadType) → (ℕ → Type 0) → Type 0
-  Below-reads f Q = (p : ℕ) → p < count S → Q p → Reads S (value S p) (f p)
+  Below-reads f Q = (p : ℕ) → p < count S → Q p → Reads S (type-at S p) (f p)
 
   list-reads : (f : ℕ → ReadType) (Q : ℕ → Type 0) (ps : List ℕ) → All (λ p. p < count S) ps → Below-reads f Q → All Q ps → Reads-all S ps (read-all f ps)
   unfolding read-all
@@ -142,8 +142,8 @@ module _ {ar : TypeName → ℕ} {S : State} (s : Sound ar S) where
   variable-reads f Q v l h none g w = rw (follow-open S v g) (ends-reads (chain s v l) (reads-open g))
   variable-reads f Q v l h (some T) g w =
       let e = follow-bound S v T g in
-      let hard = solid-nonvar (value S T) (bind-solid s (forward-tvar S v) T g (ends-stop (chain s v l))) in
-      rw e (ends-reads (chain s v l) (reads-bound g (plain-reads f Q (value S T) hard (type-is-in (s .bind-in (forward-tvar S v) T g) .parts-in) h (rw e at w))))
+      let hard = solid-nonvar (type-at S T) (bind-solid s (forward-tvar S v) T g (ends-stop (chain s v l))) in
+      rw e (ends-reads (chain s v l) (reads-bound g (plain-reads f Q (type-at S T) hard (type-is-in (s .bind-in (forward-tvar S v) T g) .parts-in) h (rw e at w))))
 
   shape-reads : (f : ℕ → ReadType) (Q : ℕ → Type 0) (L : Type-value) → In S L → Below-reads f Q → All Q (parts (follow S L)) → Reads S L (read-shape f (follow S L))
   shape-reads f Q L i h w = go (kind L)
@@ -159,7 +159,7 @@ module _ {ar : TypeName → ℕ} {S : State} (s : Sound ar S) where
   pub ends-read : (rest : ReadType) (n : ℕ) (L : Type-value) → In S L → Ends-within S n L → Reads S L (unrolled rest n S L)
   unfolding unrolled Ends-within
   ends-read rest zero L i w = absurd w
-  ends-read rest (suc n) L i w = shape-reads (λ p. unrolled rest n S (value S p)) (λ p. Ends-within S n (value S p)) L i (λ p l x. ends-read rest n (value S p) (type-is-in l) x) w
+  ends-read rest (suc n) L i w = shape-reads (λ p. unrolled rest n S (type-at S p)) (λ p. Ends-within S n (type-at S p)) L i (λ p l x. ends-read rest n (type-at S p) (type-is-in l) x) w
 
   -- ---- a loop by chain ends is a variable that reaches itself
 
@@ -175,16 +175,16 @@ module _ {ar : TypeName → ℕ} {S : State} (s : Sound ar S) where
   end-meets {e} (met {v = v} d) i = meets-chain (chain s v (i .var-in v refl)) (subst (λ (x : ℕ). Meets S e (Var x)) (sym d) meets-it)
   end-meets {e} (met-in {shape = L} {p = p} m r) i = go (kind L) (λ l. end-meets r (type-is-in l))
     where
-      plain : as-var L ≡ none → (p < count S → Meets S e (value S p)) → Meets S e L
+      plain : as-var L ≡ none → (p < count S → Meets S e (type-at S p)) → Meets S e L
       plain n h = let m′ : List·Memᴰ p (parts L) = rw (follow-plain S L n) at m in meets-part m′ (h (part-in i p m′))
 
-      variable : (v : ℕ) → L ≡ Var v → (o : Option ℕ) → get S (forward-tvar S v) ≡ o → (p < count S → Meets S e (value S p)) → Meets S e (Var v)
+      variable : (v : ℕ) → L ≡ Var v → (o : Option ℕ) → get S (forward-tvar S v) ≡ o → (p < count S → Meets S e (type-at S p)) → Meets S e (Var v)
       variable v d none g h = let n : List·Memᴰ p [] = rw (d, follow-open S v g) at m in absurd (List·Memᴰ·not-nil n)
       variable v d (some T) g h =
-          let m′ : List·Memᴰ p (parts (value S T)) = rw (d, follow-bound S v T g) at m in
+          let m′ : List·Memᴰ p (parts (type-at S T)) = rw (d, follow-bound S v T g) at m in
           meets-chain (chain s v (i .var-in v d)) (meets-bound g (meets-part m′ (h (part-in (type-is-in (s .bind-in (forward-tvar S v) T g)) p m′))))
 
-      go : Kind L → (p < count S → Meets S e (value S p)) → Meets S e L
+      go : Kind L → (p < count S → Meets S e (type-at S p)) → Meets S e L
       go (k-any d) h = plain (rw d any-plain) h
       go (k-var {v = v} d) h = subst (λ (x : Type-value). Meets S e x) (sym d) (variable v d (get S (forward-tvar S v)) refl h)
       go (k-solid d n) h = plain n h
@@ -202,8 +202,8 @@ module _ {ar : TypeName → ℕ} {S : State} (s : Sound ar S) where
 -- L is read in at most n steps
 data Ended (S : State) : ℕ → Type-value → Type 0 where
   e-open : {n v : ℕ} → get S v ≡ none → Ended S n (Var v)
-  e-bound : {n v t : ℕ} → get S v ≡ some t → Ended S n (value S t) → Ended S (suc n) (Var v)
-  e-plain : {n : ℕ} {L : Type-value} → as-var L ≡ none → ((p : ℕ) → List·Memᴰ p (parts L) → Ended S n (value S p)) → Ended S (suc n) L
+  e-bound : {n v t : ℕ} → get S v ≡ some t → Ended S n (type-at S t) → Ended S (suc n) (Var v)
+  e-plain : {n : ℕ} {L : Type-value} → as-var L ≡ none → ((p : ℕ) → List·Memᴰ p (parts L) → Ended S n (type-at S p)) → Ended S (suc n) L
 
 ended-more : {S : State} {n : ℕ} {L : Type-value} → Ended S n L → (m : ℕ) → n ≤ m → Ended S m L
 ended-more (e-open g) m h = e-open g
@@ -221,7 +221,7 @@ mutual
   reads-ended : {S : State} {L : Type-value} {r : ReadType} → Reads S L r → (n : ℕ) × Ended S n L
   reads-ended reads-unit = (1, ended-leaf UnitType refl refl)
   reads-ended {S} (reads-reference {t = t} d) = let a = reads-ended d in
-      (suc (a .0), e-plain refl (λ p i. let e : p ≡ t = List·Memᴰ·eq-of-singleton i in subst (λ (x : ℕ). Ended S (a .0) (value S x)) (sym e) (a .1)))
+      (suc (a .0), e-plain refl (λ p i. let e : p ≡ t = List·Memᴰ·eq-of-singleton i in subst (λ (x : ℕ). Ended S (a .0) (type-at S x)) (sym e) (a .1)))
   reads-ended (reads-parameter {id = id} {a = a}) = (1, ended-leaf (Param id a) refl refl)
   reads-ended (reads-named d) = let a = reads-all-ended d in (suc (a .0), e-plain refl (a .1))
   reads-ended (reads-bound g d) = let a = reads-ended d in (suc (a .0), e-bound g (a .1))
@@ -229,19 +229,19 @@ mutual
   reads-ended reads-any = (1, ended-leaf Anything refl refl)
   reads-ended reads-error = (1, ended-leaf UnresolvedError refl refl)
 
-  reads-all-ended : {S : State} {ts : List ℕ} {rs : ReadTypes} → Reads-all S ts rs → (n : ℕ) × ((p : ℕ) → List·Memᴰ p ts → Ended S n (value S p))
+  reads-all-ended : {S : State} {ts : List ℕ} {rs : ReadTypes} → Reads-all S ts rs → (n : ℕ) × ((p : ℕ) → List·Memᴰ p ts → Ended S n (type-at S p))
   reads-all-ended reads-none = (0, λ p i. absurd (List·Memᴰ·not-nil i))
   reads-all-ended {S} (reads-each d ds) =
       let a = reads-ended d in
       let b = reads-all-ended ds in
       let n = a .0 + b .0 in
-      (n, λ p i. elim (List·Memᴰ·cases-cons i) [ inl e ↦ subst (λ (x : ℕ). Ended S n (value S x)) (sym e) (ended-more (a .1) n (omega arith)) | inr j ↦ ended-more (b .1 p j) n (omega arith) ])
+      (n, λ p i. elim (List·Memᴰ·cases-cons i) [ inl e ↦ subst (λ (x : ℕ). Ended S n (type-at S x)) (sym e) (ended-more (a .1) n (omega arith)) | inr j ↦ ended-more (b .1 p j) n (omega arith) ])
 
 meets-ended : {S : State} {n v : ℕ} {L : Type-value} → Meets S v L → Ended S n L → Ended S n (Var v)
 unfolding parts
 meets-ended meets-it d = d
 meets-ended (meets-bound g m) (e-open g′) = never (cc)
-meets-ended {S} (meets-bound {t = t} g m) (e-bound {n = n} {t = t′} g′ d) = let e : t′ ≡ t = cc in ended-more (meets-ended m (subst (λ (x : ℕ). Ended S n (value S x)) e d)) (suc n) (omega arith)
+meets-ended {S} (meets-bound {t = t} g m) (e-bound {n = n} {t = t′} g′ d) = let e : t′ ≡ t = cc in ended-more (meets-ended m (subst (λ (x : ℕ). Ended S n (type-at S x)) e d)) (suc n) (omega arith)
 meets-ended (meets-bound {w = w} g m) (e-plain e f) = nonvar-var {v = w} e refl
 meets-ended (meets-part i m) (e-open g) = absurd (List·Memᴰ·not-nil i)
 meets-ended (meets-part i m) (e-bound g d) = absurd (List·Memᴰ·not-nil i)
@@ -250,7 +250,7 @@ meets-ended (meets-part {p = p} i m) (e-plain {n = n} e f) = ended-more (meets-e
 -- once round from v to v, with fewer steps
 ended-round : {S : State} {n v : ℕ} → Ended S (suc n) (Var v) → Reaches-itself S v → Ended S n (Var v)
 ended-round (e-open g) t = e-open g
-ended-round {S} (e-bound {n = n} {t = T} g d) t = let e : T ≡ t .binding = let b = t .bound in cc in meets-ended (t .again) (subst (λ (x : ℕ). Ended S n (value S x)) e d)
+ended-round {S} (e-bound {n = n} {t = T} g d) t = let e : T ≡ t .binding = let b = t .bound in cc in meets-ended (t .again) (subst (λ (x : ℕ). Ended S n (type-at S x)) e d)
 ended-round {v = v} (e-plain e f) t = nonvar-var {v = v} e refl
 
 ended-never : {S : State} (n : ℕ) {v : ℕ} → Ended S n (Var v) → Reaches-itself S v → ⊥
@@ -263,7 +263,7 @@ reads-clear d l = let a = reads-ended d in ended-never (a .0) (meets-ended (l .m
 -- ---- there is one, and a reading to any great enough depth is it
 
 module _ {ar : TypeName → ℕ} {S : State} (s : Sound ar S) where
-  pub type-ends : (t : ℕ) → t < count S → ¬ Runs-into-itself S (value S t) → Ends-within S (count S) (value S t)
+  pub type-ends : (t : ℕ) → t < count S → ¬ Runs-into-itself S (type-at S t) → Ends-within S (count S) (type-at S t)
   type-ends t h n = elim (ends-or s t h) [ inl e ↦ ends-within s (count S) t e | inr l ↦ absurd (n (loop-runs s (type-is-in s h) l)) ]
 
   pub var-ends : (v : ℕ) → v < taken S → ¬ Runs-into-itself S (Var v) → Ends-within S (deep-enough S) (Var v)
@@ -272,8 +272,8 @@ module _ {ar : TypeName → ℕ} {S : State} (s : Sound ar S) where
   ends-whole : (n : ℕ) (L : Type-value) → In S L → Ends-within S n L → Read-whole S L
   ends-whole n L i w = record { is = unrolled any n S L; reads = ends-read s any n L i w; depth = n; enough = λ rest m h. unrolled-same any rest S n m L h w }
 
-pub readable-type : (S : State) → sound S ≡ true → (t : ℕ) → t < count S → Read-whole S (value S t) ↔ (¬ Runs-into-itself S (value S t))
-readable-type S h t i = let s = facts S h in ((λ r. reads-clear (r .reads)), λ n. ends-whole s (count S) (value S t) (type-is-in s i) (type-ends s t i n))
+pub readable-type : (S : State) → sound S ≡ true → (t : ℕ) → t < count S → Read-whole S (type-at S t) ↔ (¬ Runs-into-itself S (type-at S t))
+readable-type S h t i = let s = facts S h in ((λ r. reads-clear (r .reads)), λ n. ends-whole s (count S) (type-at S t) (type-is-in s i) (type-ends s t i n))
 
 pub readable-var : (S : State) → sound S ≡ true → (v : ℕ) → v < taken S → Read-whole S (Var v) ↔ (¬ Runs-into-itself S (Var v))
 readable-var S h v i = let s = facts S h in ((λ r. reads-clear (r .reads)), λ n. ends-whole s (deep-enough S) (Var v) (var-is-in i) (var-ends s v i n))
@@ -281,12 +281,12 @@ readable-var S h v i = let s = facts S h in ((λ r. reads-clear (r .reads)), λ 
 -- ---- no. 9: the test says what 01 says
 
 module _ {ar : TypeName → ℕ} {S : State} (s : Sound ar S) where
-  runs-loop : (t : ℕ) → t < count S → Runs-into-itself S (value S t) → Loop S (value S t)
-  runs-loop t h l = elim (ends-or s t h) [ inl e ↦ absurd (reads-clear (ends-read s any (count S) (value S t) (type-is-in s h) (ends-within s (count S) t e)) l) | inr x ↦ x ]
+  runs-loop : (t : ℕ) → t < count S → Runs-into-itself S (type-at S t) → Loop S (type-at S t)
+  runs-loop t h l = elim (ends-or s t h) [ inl e ↦ absurd (reads-clear (ends-read s any (count S) (type-at S t) (type-is-in s h) (ends-within s (count S) t e)) l) | inr x ↦ x ]
 
-  pub reaches-is-runs : (t : ℕ) → t < count S → (reaches-itself S t ≡ true) ↔ Runs-into-itself S (value S t)
+  pub reaches-is-runs : (t : ℕ) → t < count S → (reaches-itself S t ≡ true) ↔ Runs-into-itself S (type-at S t)
   reaches-is-runs t h = let x = reaches-is-loop s t h in ((λ e. loop-runs s (type-is-in s h) (x .0 e)), λ l. x .1 (runs-loop t h l))
 
 -- in a state that passes the test
-pub nine : (S : State) → sound S ≡ true → (t : ℕ) → t < count S → (reaches-itself S t ≡ true) ↔ Runs-into-itself S (value S t)
+pub nine : (S : State) → sound S ≡ true → (t : ℕ) → t < count S → (reaches-itself S t ≡ true) ↔ Runs-into-itself S (type-at S t)
 nine S h t i = reaches-is-runs (facts S h) t i

@@ -6,7 +6,7 @@ use mathlib.Core.Option.{none, some}
 use Prim.Native.Nat.{ℕ}
 use Rattle.definition.specs.Types.{TypeName, Multiple, Builtin, Mark, Type-value, UnitType, Ref, Param, Apply, Var, State, TypingError, SubtypeError, Incompatible, ArityMismatch}
 use Rattle.definition.specs.Types.{Refusal, full, too-deep, abilities-disagree, Result, ok, err, refused}
-use Rattle.definition.specs.Store.{value, get, num-loc}
+use Rattle.definition.specs.Store.{type-at, get, num-loc}
 use Rattle.definition.specs.Subst.{forward-tvar, unfold-type}
 use Rattle.definition.specs.Join.{is-multiple, join, subtype}
 use Rattle.definition.specs.Constraints.{is-integer, solve-constraints}
@@ -72,11 +72,11 @@ pub data Book-type : MoveType → Type 0 where
 mutual
   -- the node t of the state is the type T
   pub data Denotes (s : State) : ℕ → MoveType → Type 0 where
-    is-unit : {t : ℕ} → value s t ≡ UnitType → Denotes s t unit
-    is-reference : {t p : ℕ} {m : Bool} {T : MoveType} → value s t ≡ Ref m p → Denotes s p T → Denotes s t (reference m T)
-    is-parameter : {t id a : ℕ} → value s t ≡ Param id a → Denotes s t (parameter id)
-    is-tuple : {t n : ℕ} {k : Mark} {ps : List ℕ} {Ts : MoveTypes} → value s t ≡ Apply k (Multiple n) ps → Denote s ps Ts → Denotes s t (tuple Ts)
-    is-named : {t : ℕ} {k : Mark} {n : TypeName} {ps : List ℕ} {Ts : MoveTypes} → value s t ≡ Apply k n ps → is-multiple n ≡ false → Denote s ps Ts → Denotes s t (named n Ts)
+    is-unit : {t : ℕ} → type-at s t ≡ UnitType → Denotes s t unit
+    is-reference : {t p : ℕ} {m : Bool} {T : MoveType} → type-at s t ≡ Ref m p → Denotes s p T → Denotes s t (reference m T)
+    is-parameter : {t id a : ℕ} → type-at s t ≡ Param id a → Denotes s t (parameter id)
+    is-tuple : {t n : ℕ} {k : Mark} {ps : List ℕ} {Ts : MoveTypes} → type-at s t ≡ Apply k (Multiple n) ps → Denote s ps Ts → Denotes s t (tuple Ts)
+    is-named : {t : ℕ} {k : Mark} {n : TypeName} {ps : List ℕ} {Ts : MoveTypes} → type-at s t ≡ Apply k n ps → is-multiple n ≡ false → Denote s ps Ts → Denotes s t (named n Ts)
 
   pub data Denote (s : State) : List ℕ → MoveTypes → Type 0 where
     are-none : Denote s [] no-types

@@ -53,17 +53,17 @@ pair-fields zero = []
 pair-fields (suc n) = u32-field ++ type ∷ pair-fields n
 
 -- what a byte b brings, before all that is awaited already. The state tells a struct's arity
-unfoldable pub brings : State → Part → ℕ → List Part
-brings s plain b = []
-brings s location b = []
-brings s type b = loc-field ++ getD tag-fields b []
-brings s types b = loc-field ++ replicate (getD tag-widths b 0) plain ++ (types ∷ [])
-brings s builtin b = replicate (arity s (Builtin b)) type
-brings s list b = replicate b type
-brings s struct b = struct-high b ∷ []
-brings s (struct-high a) b = replicate (arity s (ModuleType (a + 256 * b))) type
-brings s pairs b = pair-fields b ++ (type ∷ [])
-brings s failures b = loc-field ++ (type ∷ failures ∷ [])
+unfoldable pub expand : State → Part → ℕ → List Part
+expand s plain b = []
+expand s location b = []
+expand s type b = loc-field ++ getD tag-fields b []
+expand s types b = loc-field ++ replicate (getD tag-widths b 0) plain ++ (types ∷ [])
+expand s builtin b = replicate (arity s (Builtin b)) type
+expand s list b = replicate b type
+expand s struct b = struct-high b ∷ []
+expand s (struct-high a) b = replicate (arity s (ModuleType (a + 256 * b))) type
+expand s pairs b = pair-fields b ++ (type ∷ [])
+expand s failures b = loc-field ++ (type ∷ failures ∷ [])
 
 unfoldable pub blank-byte : Part → ℕ → ℕ
 blank-byte location b = 0
@@ -81,7 +81,7 @@ blank-byte failures b = b
 unfoldable pub blank : State → Bytes → List Part → Bytes
 blank s [] awaited = []
 blank s (b ∷ bytes) [] = b ∷ bytes
-blank s (b ∷ bytes) (part ∷ awaited) = blank-byte part b ∷ blank s bytes (brings s part b ++ awaited)
+blank s (b ∷ bytes) (part ∷ awaited) = blank-byte part b ∷ blank s bytes (expand s part b ++ awaited)
 
 -- ---- records
 -- what stands after each mark

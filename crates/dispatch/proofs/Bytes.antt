@@ -5,7 +5,7 @@ use mathlib.Core.List.{List}
 use Prim.Native.Nat.{ℕ}
 use Rattle.definition.specs.Types.{State, Struct, Result, ok, _>>=_}
 use Rattle.definition.specs.Trees.{Tree}
-use Rattle.definition.specs.Place.{place}
+use Rattle.definition.specs.Build.{build}
 use Rattle.definition.specs.Record as d
 use Rattle.definition.specs.Record.{Record}
 use Rattle.definition.proofs.Ranges.{Ranges}
@@ -30,14 +30,14 @@ then f l h = bind f l (λ a i. h a (i tt))
 
 module _ (b : State) where
   -- after m, the tree t is placed
-  last : {A B : Type 0} {m : Result (State × A)} (t : Tree) (f : A → ℕ → B) → Leaves b m → TreeIn b t → Leaves b (m >>= (λ p. place t (p .0) >>= (λ q. ok (q .0, f (p .1) (q .1)))))
+  last : {A B : Type 0} {m : Result (State × A)} (t : Tree) (f : A → ℕ → B) → Leaves b m → TreeIn b t → Leaves b (m >>= (λ p. build t (p .0) >>= (λ q. ok (q .0, f (p .1) (q .1)))))
   last t f l g = then _ l (λ p i. then _ (place-run (Unit {0}) b true t (λ y. g) (p .0) (λ y. i)) (λ q j. e-ok (λ y. j)))
 
   module _ (i : Ranges b b) where
-    tree : (t : Tree) → TreeIn b t → Leaves b (place t b)
+    tree : (t : Tree) → TreeIn b t → Leaves b (build t b)
     tree t g = place-run (Unit {0}) b true t (λ y. g) b (λ y. i)
 
-    alone : (t : Tree) (f : ℕ → Noded) → TreeIn b t → Leaves b (place t b >>= (λ p. ok (p .0, f (p .1))))
+    alone : (t : Tree) (f : ℕ → Noded) → TreeIn b t → Leaves b (build t b >>= (λ p. ok (p .0, f (p .1))))
     alone t f g = then _ (tree t g) (λ p j. e-ok (λ y. j))
 
     place-leaves : (x : Record) → RecordIn b x → Leaves b (place-record x b)

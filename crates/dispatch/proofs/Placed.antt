@@ -4,7 +4,7 @@ use Prim.Native.Nat.{ℕ}
 use Rattle.definition.specs.Types.{State, Result, ok, err, refused, _>>=_}
 use Rattle.definition.specs.Write.{Bytes}
 use Rattle.definition.specs.Trees.{Tree}
-use Rattle.definition.specs.Place.{place, place-pairs}
+use Rattle.definition.specs.Build.{build, build-pairs}
 use Rattle.definition.specs.Record as d
 use Rattle.definition.specs.Record.{Record}
 use Rattle.definition.specs.Step.{constrain, two-types, run}
@@ -24,9 +24,9 @@ module _ (g : Noded → State → Result (State × Bytes)) where
   one (refused x) make = refl
 
   -- and the tree t after it
-  two : {A : Type 0} (m : Result (State × A)) (t : Tree) (make : A → ℕ → Noded) → (m >>= (λ p. place t (p .0) >>= (λ q. g (make (p .1) (q .1)) (q .0)))) ≡ ((m >>= (λ p. place t (p .0) >>= placed-as (make (p .1)))) >>= (λ q. g (q .1) (q .0)))
+  two : {A : Type 0} (m : Result (State × A)) (t : Tree) (make : A → ℕ → Noded) → (m >>= (λ p. build t (p .0) >>= (λ q. g (make (p .1) (q .1)) (q .0)))) ≡ ((m >>= (λ p. build t (p .0) >>= placed-as (make (p .1)))) >>= (λ q. g (q .1) (q .0)))
   unfolding _>>=_
-  two (ok p) t make = one (place t (p .0)) (make (p .1))
+  two (ok p) t make = one (build t (p .0)) (make (p .1))
   two (err s e) t make = refl
   two (refused x) t make = refl
 
@@ -36,13 +36,13 @@ run-placed s (d.SD abilities params) = refl
 run-placed s (d.FV loc) = refl
 run-placed s (d.NV loc) = refl
 run-placed s (d.SN v loc) = refl
-run-placed s (d.JN t1 t2) = two (λ n s′. noded-run n s′ s) (place t1 s) t2 JN
-run-placed s (d.SU t1 t2) = two (λ n s′. noded-run n s′ s) (place t1 s) t2 SU
-run-placed s (d.UF t) = one (λ n s′. noded-run n s′ s) (place t s) UF
-run-placed s (d.RD t) = one (λ n s′. noded-run n s′ s) (place t s) RD
-run-placed s (d.IN t) = one (λ n s′. noded-run n s′ s) (place t s) IN
-run-placed s (d.TS pairs t) = two (λ n s′. noded-run n s′ s) (place-pairs pairs s) t TS
-run-placed s (d.NC loc kind t) = one (λ n s′. noded-run n s′ s) (place t s) (NC loc kind)
-run-placed s (d.BC loc t) = one (λ n s′. noded-run n s′ s) (place t s) (BC loc)
-run-placed s (d.SC loc t) = one (λ n s′. noded-run n s′ s) (place t s) (SC loc)
+run-placed s (d.JN t1 t2) = two (λ n s′. noded-run n s′ s) (build t1 s) t2 JN
+run-placed s (d.SU t1 t2) = two (λ n s′. noded-run n s′ s) (build t1 s) t2 SU
+run-placed s (d.UF t) = one (λ n s′. noded-run n s′ s) (build t s) UF
+run-placed s (d.RD t) = one (λ n s′. noded-run n s′ s) (build t s) RD
+run-placed s (d.IN t) = one (λ n s′. noded-run n s′ s) (build t s) IN
+run-placed s (d.TS pairs t) = two (λ n s′. noded-run n s′ s) (build-pairs pairs s) t TS
+run-placed s (d.NC loc kind t) = one (λ n s′. noded-run n s′ s) (build t s) (NC loc kind)
+run-placed s (d.BC loc t) = one (λ n s′. noded-run n s′ s) (build t s) (BC loc)
+run-placed s (d.SC loc t) = one (λ n s′. noded-run n s′ s) (build t s) (SC loc)
 run-placed s d.SV = refl

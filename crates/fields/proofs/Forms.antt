@@ -11,7 +11,7 @@ use Rattle.definition.specs.Write.{Bytes}
 use Rattle.definition.specs.Reader as rd
 use Rattle.definition.specs.Reader.{Read, Reader, give, go-on, read-u32, read-one, read-two, read-three, name-below}
 use Rattle.definition.specs.Trees.{Tree, read-nested, read-type}
-use Rattle.definition.specs.Place.{place}
+use Rattle.definition.specs.Build.{build}
 use Rattle.definition.specs.Record as d
 use Rattle.definition.specs.Record.{Record, read-SD, read-pair, read-TS, read-kind}
 use Rattle.names.specs.declared.TVar.{TVar}
@@ -134,7 +134,7 @@ first-in Unknown n n′ l e o i = is-not e
 
 module _ (w : List ℕ) (u : Used) (b : List ℕ) (end known at : ℕ) (w₁ : List ℕ) (r : Taken) (mark : RecordMark) (make : Tree → Tree → Record) (t : Takes w u b end known false (λ s. read-nested 64 s (rest b end at)) w₁ r) (o : Two mark make) where
   abbrev second : ℕ → Tree → State → Result (State × Noded)
-  second lhs t2 s = place t2 s >>= (λ (s, rhs). ok (s, o .nodes lhs rhs))
+  second lhs t2 s = build t2 s >>= (λ (s, rhs). ok (s, o .nodes lhs rhs))
 
   pub two-stop : is-stop (r .part) ≡ true → Fields-are w u b end known (λ s. read-two make (read-type s) (read-type s) (rest b end at)) w₁ (plain-fields mark (r .part) (r .used) (r .next) 0 0)
   unfolding read-two read-type rd._>>=_
@@ -169,7 +169,7 @@ module _ (w : List ℕ) (u : Used) (b : List ℕ) (end known at : ℕ) (w₁ : L
       read-same (rd.got a l) over s = refl
       read-same (rd.not-read y) over s = refl
 
-      alone : (p : Part) (over : Bool) (x : Read Tree) (s s′ : State) (l : Bytes) → part-of p s′ l ≡ place-read over place x s
+      alone : (p : Part) (over : Bool) (x : Read Tree) (s s′ : State) (l : Bytes) → part-of p s′ l ≡ place-read over build x s
           → part-with p (o .nodes (node-in (r .part))) s′ l ≡ place-read over (second (node-in (r .part))) x s
       alone p over x s s′ l f = last-type (second (node-in (r .part))) (λ t. t) (o .nodes (node-in (r .part))) (λ t s. refl) p over x s s′ l f ∙ read-same x over s
 

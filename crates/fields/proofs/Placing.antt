@@ -7,7 +7,7 @@ use Rattle.definition.specs.Types.{State, full, Result, ok, err, refused, _>>=_
 use Rattle.definition.specs.Write.{Bytes}
 use Rattle.definition.specs.Reader.{Read, got, not-read, Reader, give, go-on}
 use Rattle.definition.specs.Trees.{Tree}
-use Rattle.definition.specs.Place.{place}
+use Rattle.definition.specs.Build.{build}
 use Rattle.reader.specs.declared.Part.{Part}
 use Rattle.reader.specs.declared.Part.the-variants.{At, Full, Malformed, Unknown}
 use Rattle.reader.specs.Taken.{Placed, stopped, placed, place-read, part-of, is-stop, is-over, node-in}
@@ -24,7 +24,7 @@ not-is e = is-not (sym e)
 -- ---- the last type
 
 module _ {A B : Type 0} (put : A → State → Result (State × B)) (h : Tree → A) (g : ℕ → B)
-    (places : (t : Tree) (s : State) → put (h t) s ≡ (place t s >>= (λ (s, n). ok (s, g n)))) where
+    (places : (t : Tree) (s : State) → put (h t) s ≡ (build t s >>= (λ (s, n). ok (s, g n)))) where
   abbrev mapped : Placed ℕ → Placed B
   mapped (stopped x) = stopped x
   mapped (placed q l) = placed (q >>= (λ (s, n). ok (s, g n))) l
@@ -36,20 +36,20 @@ module _ {A B : Type 0} (put : A → State → Result (State × B)) (h : Tree �
   part-mapped Malformed s l = refl
   part-mapped Unknown s l = refl
 
-  read-mapped : (over : Bool) (x : Read Tree) (s : State) → mapped (place-read over place x s) ≡ place-read over put (go-on x (λ t. give (h t))) s
+  read-mapped : (over : Bool) (x : Read Tree) (s : State) → mapped (place-read over build x s) ≡ place-read over put (go-on x (λ t. give (h t))) s
   unfolding _>>=_ place-read go-on give
   read-mapped over (not-read y) s = refl
   read-mapped true (got t l) s = refl
   read-mapped false (got t l) s = ap (λ (q : Result (State × B)). placed q l) (sym (places t s))
 
-  pub last-type : (p : Part) (over : Bool) (x : Read Tree) (s s′ : State) (l : Bytes) → part-of p s′ l ≡ place-read over place x s
+  pub last-type : (p : Part) (over : Bool) (x : Read Tree) (s s′ : State) (l : Bytes) → part-of p s′ l ≡ place-read over build x s
       → part-with p g s′ l ≡ place-read over put (go-on x (λ t. give (h t))) s
   last-type p over x s s′ l e = part-mapped p s′ l ∙ ap mapped e ∙ read-mapped over x s
 
 -- ---- a type with more to read after it
 
 module _ {A B C : Type 0} (put : A → State → Result (State × B)) (h : Tree → C → A) (after : ℕ → C → State → Result (State × B))
-    (places : (t : Tree) (c : C) (s : State) → put (h t c) s ≡ (place t s >>= (λ (s, n). after n c s))) (more : Reader C) where
+    (places : (t : Tree) (c : C) (s : State) → put (h t c) s ≡ (build t s >>= (λ (s, n). after n c s))) (more : Reader C) where
   abbrev going : Result (State × ℕ) → Read C → Placed B
   going q (not-read x) = stopped x
   going q (got c l) = placed (q >>= (λ (s, n). after n c s)) l
@@ -58,12 +58,12 @@ module _ {A B C : Type 0} (put : A → State → Result (State × B)) (h : Tree 
   onward (stopped x) = stopped x
   onward (placed q l) = going q (more l)
 
-  read-onward : (over : Bool) (x : Read Tree) (s : State) → place-read over put (go-on x (λ t l. go-on (more l) (λ c. give (h t c)))) s ≡ onward (place-read over place x s)
+  read-onward : (over : Bool) (x : Read Tree) (s : State) → place-read over put (go-on x (λ t l. go-on (more l) (λ c. give (h t c)))) s ≡ onward (place-read over build x s)
   unfolding place-read go-on give _>>=_
   read-onward over (not-read y) s = refl
   read-onward over (got t l) s = by over (more l)
     where
-      by : (over : Bool) (y : Read C) → place-read over put (go-on y (λ c. give (h t c))) s ≡ going (if over then refused full else place t s) y
+      by : (over : Bool) (y : Read C) → place-read over put (go-on y (λ c. give (h t c))) s ≡ going (if over then refused full else build t s) y
       by over (not-read z) = refl
       by true (got c k) = refl
       by false (got c k) = ap (λ (q : Result (State × B)). placed q k) (places t c s)
@@ -83,11 +83,11 @@ module _ {A B C : Type 0} (put : A → State → Result (State × B)) (h : Tree 
   part-onward Malformed s l e = is-not e
   part-onward Unknown s l e = is-not e
 
-  pub first-type : (p : Part) (over : Bool) (x : Read Tree) (s s′ : State) (l : Bytes) → part-of p s′ l ≡ place-read over place x s → is-stop p ≡ false
+  pub first-type : (p : Part) (over : Bool) (x : Read Tree) (s s′ : State) (l : Bytes) → part-of p s′ l ≡ place-read over build x s → is-stop p ≡ false
       → place-read over put (go-on x (λ t l. go-on (more l) (λ c. give (h t c)))) s ≡ place-read (is-over p) (after (node-in p)) (more l) s′
   first-type p over x s s′ l e n = read-onward over x s ∙ ap onward (sym e) ∙ part-onward p s′ l n
 
-  pub type-stops : (p : Part) (over : Bool) (x : Read Tree) (s s′ : State) (l : Bytes) → part-of p s′ l ≡ place-read over place x s → is-stop p ≡ true
+  pub type-stops : (p : Part) (over : Bool) (x : Read Tree) (s s′ : State) (l : Bytes) → part-of p s′ l ≡ place-read over build x s → is-stop p ≡ true
       → (g : ℕ → B) → part-with p g s′ l ≡ place-read over put (go-on x (λ t l. go-on (more l) (λ c. give (h t c)))) s
   type-stops p over x s s′ l e n g = by p n ∙ ap onward e ∙ sym (read-onward over x s)
     where

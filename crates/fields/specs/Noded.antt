@@ -10,7 +10,7 @@ use Rattle.definition.specs.Reader.{Read}
 use Rattle.definition.specs.Record as d
 use Rattle.definition.specs.Record.{NumericKind, Numeric, Bits, Ordered, Record, read-record}
 use Rattle.definition.specs.Trees.{Tree}
-use Rattle.definition.specs.Place.{place, place-pairs}
+use Rattle.definition.specs.Build.{build, build-pairs}
 use Rattle.names.specs.declared.TParamID.{TParamID}
 use Rattle.names.specs.declared.TVar.{TVar}
 use Rattle.table.specs.State.{Lay, Grown, Declares, Parts, view, seen}
@@ -41,34 +41,34 @@ place-record (d.FV loc) s = ok (s, FV loc)
 place-record (d.NV loc) s = ok (s, NV loc)
 place-record (d.SN v loc) s = ok (s, SN v loc)
 place-record (d.JN t1 t2) s = do
-  (s, lhs) ← place t1 s
-  (s, rhs) ← place t2 s
+  (s, lhs) ← build t1 s
+  (s, rhs) ← build t2 s
   ok (s, JN lhs rhs)
 place-record (d.SU t1 t2) s = do
-  (s, lhs) ← place t1 s
-  (s, rhs) ← place t2 s
+  (s, lhs) ← build t1 s
+  (s, rhs) ← build t2 s
   ok (s, SU lhs rhs)
 place-record (d.UF t) s = do
-  (s, ty) ← place t s
+  (s, ty) ← build t s
   ok (s, UF ty)
 place-record (d.RD t) s = do
-  (s, ty) ← place t s
+  (s, ty) ← build t s
   ok (s, RD ty)
 place-record (d.IN t) s = do
-  (s, ty) ← place t s
+  (s, ty) ← build t s
   ok (s, IN ty)
 place-record (d.TS pairs t) s = do
-  (s, pairs) ← place-pairs pairs s
-  (s, ty) ← place t s
+  (s, pairs) ← build-pairs pairs s
+  (s, ty) ← build t s
   ok (s, TS pairs ty)
 place-record (d.NC loc kind t) s = do
-  (s, ty) ← place t s
+  (s, ty) ← build t s
   ok (s, NC loc kind ty)
 place-record (d.BC loc t) s = do
-  (s, ty) ← place t s
+  (s, ty) ← build t s
   ok (s, BC loc ty)
 place-record (d.SC loc t) s = do
-  (s, ty) ← place t s
+  (s, ty) ← build t s
   ok (s, SC loc ty)
 place-record d.SV s = ok (s, SV)
 
@@ -180,14 +180,14 @@ paired-fields part u next many ids nodes =
 -- the numbers a and b, and a last type
 pub record One (mark : RecordMark) (a b : ℕ) (make : Tree → Record) : Type 0 where
   pub nodes : ℕ → Noded
-  pub places : (t : Tree) (s : State) → place-record (make t) s ≡ (place t s >>= (λ (s, ty). ok (s, nodes ty)))
+  pub places : (t : Tree) (s : State) → place-record (make t) s ≡ (build t s >>= (λ (s, ty). ok (s, nodes ty)))
   pub shows : (part : Part) (u : Used) (next t : ℕ) → noded mark (plain-fields mark part u next a b) t ≡ nodes t
   pub inside : (part : Part) (u : Used) (next known n t : ℕ) → t < n → Noded-in mark known n (plain-fields mark part u next a b) t
 
 -- two types
 pub record Two (mark : RecordMark) (make : Tree → Tree → Record) : Type 0 where
   pub nodes : ℕ → ℕ → Noded
-  pub places : (t1 t2 : Tree) (s : State) → place-record (make t1 t2) s ≡ (place t1 s >>= (λ (s, lhs). place t2 s >>= (λ (s, rhs). ok (s, nodes lhs rhs))))
+  pub places : (t1 t2 : Tree) (s : State) → place-record (make t1 t2) s ≡ (build t1 s >>= (λ (s, lhs). build t2 s >>= (λ (s, rhs). ok (s, nodes lhs rhs))))
   pub shows : (part : Part) (u : Used) (next b t : ℕ) → noded mark (plain-fields mark part u next 0 b) t ≡ nodes b t
   pub inside : (part : Part) (u : Used) (next known n b t : ℕ) → b < n → t < n → Noded-in mark known n (plain-fields mark part u next 0 b) t
 

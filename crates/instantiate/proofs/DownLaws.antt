@@ -7,7 +7,7 @@ use native.Mathlib.Omega.{arith}
 use lib.ListN.{length, getD, take}
 use Rattle.definition.specs.Types as d
 use Rattle.definition.specs.Types.{State, Struct, Result, ok, err, refused, BaseTypeConstraint, _>>=_}
-use Rattle.definition.specs.Store.{node, loc-of, value, with-args, args-at, sp, map-types, with-structs, add-constraint}
+use Rattle.definition.specs.Store.{node, loc-of, type-at, with-args, args-at, sp, map-types, with-structs, add-constraint}
 use Rattle.definition.specs.Instantiate.{make-tvar, tparam-constraints, make-tparams, join-args, instantiate-type-args, instantiate-apply, instantiate-value, instantiate-down, instantiate}
 use Rattle.names.specs.Names.{mark-of, name-of}
 use Rattle.names.specs.declared.Mark.{Mark}
@@ -52,7 +52,7 @@ apply-is inst s loc k n tys =
 module _ (w : List ℕ) (u : Used) (params : List (List ℕ)) (left ty : ℕ) (nd : Node) (lay : Lay w u) (left-some : left ≡ 0 → ⊥) (node-is : (ds : List Struct) → node-of nd ≡ node (seen w u ds) ty) where
   inst-is : (sh : Shape) → nd .shape ≡ sh → (ds : List Struct)
       → instantiate-value (instantiate-down (left - 1)) (seen w u ds) ty (nd .loc) (with-args (seen w u ds) (shape-of sh)) ≡ instantiate-down left (seen w u ds) ty
-  unfolding instantiate-down loc-of value
+  unfolding instantiate-down loc-of type-at
   inst-is sh e ds =
       let z : suc (left - 1) ≡ left = omega arith in
       ap (λ (x : Shape). instantiate-value (instantiate-down (left - 1)) (seen w u ds) ty (nd .loc) (with-args (seen w u ds) (shape-of x))) (sym e)

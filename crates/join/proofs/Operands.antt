@@ -9,7 +9,7 @@ use native.Mathlib.Omega.{arith}
 use lib.ListN.{take}
 use Rattle.definition.specs.Types as d
 use Rattle.definition.specs.Types.{State, Struct, Places, Result, ok, _>>=_, if_then_else_}
-use Rattle.definition.specs.Store.{count, node, value, loc-of, args-at, with-structs, with-vars, with-var, get}
+use Rattle.definition.specs.Store.{count, node, type-at, loc-of, args-at, with-structs, with-vars, with-var, get}
 use Rattle.definition.specs.Join as j
 use Rattle.definition.specs.Join.{Var-l, Var-r, arm, join-arm, join-impl, join-impl-types, join-tvar}
 use Rattle.names.specs.Names.{mark-of, name-of}
@@ -168,7 +168,7 @@ pub impl-deep : (left : ℕ) (case : j.TypingCase) (s : State) (lhs rhs : ℕ) �
 unfolding join-impl outcome
 impl-deep left case s lhs rhs e = rw e
 
-impl-more : (left : ℕ) (case : j.TypingCase) (s : State) (lhs rhs : ℕ) → (left ≡ 0 → ⊥) → join-arm (inner (left - 1)) s case lhs rhs (arm (value s lhs) (value s rhs)) ≡ join-impl left s case lhs rhs
+impl-more : (left : ℕ) (case : j.TypingCase) (s : State) (lhs rhs : ℕ) → (left ≡ 0 → ⊥) → join-arm (inner (left - 1)) s case lhs rhs (arm (type-at s lhs) (type-at s rhs)) ≡ join-impl left s case lhs rhs
 unfolding join-impl
 impl-more zero case s lhs rhs h = absurd (h refl)
 impl-more (suc n) case s lhs rhs h = rw (sub-one (suc n))

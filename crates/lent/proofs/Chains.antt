@@ -12,7 +12,7 @@ use lib.ListN.{getD}
 use Prim.Native.Nat.{_+_, _*_}
 use borrow.Author.Tests.{lt-ltb, le-ltb}
 use Rattle.definition.specs.Types.{State, Struct, Node, if_then_else_}
-use Rattle.definition.specs.Store.{nowhere, taken, node, value, with-args}
+use Rattle.definition.specs.Store.{nowhere, taken, node, type-at, with-args}
 use Rattle.definition.specs.Subst.{as-var, next-in, next-of, forward, forward-tvar}
 use Rattle.definition.specs.Sound.{chain-ends}
 use Rattle.table.specs.Rows.{read-option}
@@ -45,8 +45,8 @@ module _ (w : List ℕ) (u : Used) where
 
 -- ---- the same as the definition's
 
-no-var : (s : State) (x : ℕ) → node s x ≡ nowhere → as-var (value s x) ≡ none
-unfolding value with-args as-var
+no-var : (s : State) (x : ℕ) → node s x ≡ nowhere → as-var (type-at s x) ≡ none
+unfolding type-at with-args as-var
 no-var s x e = ap (λ (n : Node). as-var (with-args s (n .value))) e
 
 abbrev stops : Option ℕ → Bool
@@ -66,11 +66,11 @@ unfolding forward
 go-on s n v x e = rw (e, forward) refl
 
 module _ (w : List ℕ) (u : Used) (ds : List Struct) where
-  var-is : (x : ℕ) → var-at w u x ≡ as-var (value (seen w u ds) x)
+  var-is : (x : ℕ) → var-at w u x ≡ as-var (type-at (seen w u ds) x)
   unfolding var-at
   var-is x = by (decLt x (u .nodes))
     where
-      by : Dec (x < u .nodes) → var-at w u x ≡ as-var (value (seen w u ds) x)
+      by : Dec (x < u .nodes) → var-at w u x ≡ as-var (type-at (seen w u ds) x)
       by (yes h) = when-true _ _ _ (lt-ltb x (u .nodes) h) ∙ sym (ap as-var (value-at w u ds x h) ∙ as-var-tag (seen w u ds) _ _ _ _ _ (tag-of (getD w (5 + x * 6) 0)))
       by (no h) = when-false _ _ _ (le-ltb x (u .nodes) (omega arith)) ∙ sym (no-var (seen w u ds) x (node-beyond w u ds x (omega arith)))
 

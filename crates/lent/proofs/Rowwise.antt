@@ -10,9 +10,9 @@ use lib.Dec.{eqb, leb, ltb}
 use lib.ListN.{length, getD}
 use borrow.Author.Tests.{ltb-true, leb-true, eqb-true, lt-ltb, le-ltb, le-leb, lt-leb, eq-eqb, ne-eqb}
 use Rattle.definition.specs.Types.{State, Struct, Node, Cell, Constraint, AbilityConstraint, NumericConstraint, BitsConstraint, OrderedConstraint, BaseTypeConstraint, SingleTypeConstraint, Shape, Places, if_then_else_}
-use Rattle.definition.specs.Store.{count, taken, node, value, with-args, with-structs}
+use Rattle.definition.specs.Store.{count, taken, node, type-at, with-args, with-structs}
 use Rattle.definition.specs.Subst.{is-anything}
-use Rattle.definition.specs.Sound.{is-u32, at-node, constraint-allowed, binding-allowed, numeric-allowed, known}
+use Rattle.definition.specs.Sound.{is-u32, at-node, constraint-allowed, binding-allowed, numeric-allowed, no-anything}
 use Rattle.definition.specs.Trees.{is-set}
 use Rattle.table.specs.Rows.{read-option, option-flag, option-word, read-shape, read-constraint, constraint-words, entries, node-table}
 use Rattle.table.specs.State.{view, seen}
@@ -81,21 +81,21 @@ module _ (w : List ℕ) (u : Used) (ds : List Struct) where
   nodes-count = length-entries node-table w (u .nodes)
 
   pub value-at : (x : ℕ) → x < u .nodes
-      → value (seen w u ds) x ≡ with-args (seen w u ds) (read-shape (getD w (5 + x * 6) 0) (getD w (5 + x * 6 + 2) 0) (getD w (5 + x * 6 + 3) 0) (getD w (5 + x * 6 + 4) 0) (getD w (5 + x * 6 + 5) 0))
-  unfolding value
+      → type-at (seen w u ds) x ≡ with-args (seen w u ds) (read-shape (getD w (5 + x * 6) 0) (getD w (5 + x * 6 + 2) 0) (getD w (5 + x * 6 + 3) 0) (getD w (5 + x * 6 + 4) 0) (getD w (5 + x * 6 + 5) 0))
+  unfolding type-at
   value-at x h = ap (λ (n : Node). with-args (seen w u ds) (n .value)) (sym (node-made w u ds x _ _ h refl refl))
 
   -- a binding: just its words, to a node, and not to `_`
   pub record Binding-good (is x : ℕ) : Type 0 where
     pub back : Back is x
     pub allowed : binding-allowed (seen w u ds) (read-option is x) ≡ true
-    pub knows : known (seen w u ds) (read-option is x) ≡ true
+    pub knows : no-anything (seen w u ds) (read-option is x) ≡ true
 
-  anything-word : (x : ℕ) → x < u .nodes → is-anything (value (seen w u ds) x) ≡ eqb (getD w (5 + x * 6) 0) 7
+  anything-word : (x : ℕ) → x < u .nodes → is-anything (type-at (seen w u ds) x) ≡ eqb (getD w (5 + x * 6) 0) 7
   anything-word x h = ap is-anything (value-at x h) ∙ anything-tag (seen w u ds) _ _ _ _ _ (tag-of (getD w (5 + x * 6) 0))
 
   pub binding-good : (is x : ℕ) → binding-fine w u is x ≡ true → Binding-good is x
-  unfolding binding-fine read-option option-flag option-word binding-allowed known
+  unfolding binding-fine read-option option-flag option-word binding-allowed no-anything
   binding-good is x e = by is (flag-is is) e
     where
       by : (is : ℕ) → Flag is → binding-fine w u is x ≡ true → Binding-good is x
@@ -111,7 +111,7 @@ module _ (w : List ℕ) (u : Used) (ds : List Struct) where
       by n (over _ h) e = absurd (let z : 1 < n = h in omega (arith, eqb-true n 1 (and-l (eqb n 1) (ltb x (u .nodes)) (and-l (eqb n 1 && ltb x (u .nodes)) (not (eqb (getD w (5 + x * 6) 0) 7)) (sym (when-false (eqb n 0) (eqb x 0) _ (ne-eqb n 0 (λ y. omega arith))) ∙ e)))))
 
   pub binding-was : (is x : ℕ) → Binding-good is x → binding-fine w u is x ≡ true
-  unfolding binding-fine read-option option-flag option-word binding-allowed known
+  unfolding binding-fine read-option option-flag option-word binding-allowed no-anything
   binding-was is x g = by is (flag-is is) g
     where
       by : (is : ℕ) → Flag is → Binding-good is x → binding-fine w u is x ≡ true

@@ -11,10 +11,10 @@ use lib.ListN.{length, getD, replicate, length-replicate, List·getD-eq-default}
 use lib.Seq.{ext-getD}
 use borrow.Author.Tests.{ltb-true, leb-true, eqb-true, lt-ltb, le-ltb, le-leb, eq-eqb}
 use Rattle.definition.specs.Types.{State, Struct, Node, Cell, Shape, Places, Constraint, unbound, max-nodes, max-args, max-vars, max-constraints, max-structs, if_then_else_}
-use Rattle.definition.specs.Store.{nowhere, count, taken, node, value, get, num-loc, with-args, with-structs, all-of}
+use Rattle.definition.specs.Store.{nowhere, count, taken, node, type-at, get, num-loc, with-args, with-structs, all-of}
 use Rattle.definition.specs.Subst.{parts}
 use Rattle.definition.specs.Sound as sd
-use Rattle.definition.specs.Sound.{sound, counts-fit, smaller-than, is-u32, node-allowed, shape-allowed, binding-allowed, numeric-allowed, cell-allowed, constraint-allowed, struct-allowed, fields-allowed, known, bindings-known, chain-ends, chains-end}
+use Rattle.definition.specs.Sound.{sound, counts-fit, smaller-than, is-u32, node-allowed, shape-allowed, binding-allowed, numeric-allowed, cell-allowed, constraint-allowed, struct-allowed, fields-allowed, no-anything, no-binding-anything, chain-ends, chains-end}
 use Rattle.definition.specs.Trees.{is-set}
 use Rattle.definition.proofs.Facts as f
 use Rattle.definition.proofs.Facts.{of-each, at-place}
@@ -320,11 +320,11 @@ module _ (w : List ℕ) (p : List (List ℕ)) (u : Used) (z : Sized w u) (small 
         let lt : i < u .structs = rw (structs-count w p u) at a in
         ap (λ (d : Struct). struct-allowed d) (struct-is w p u i (struct-table .blank) lt) ∙ sound-struct i lt))
 
-    sound-known : bindings-known S ≡ true
-    unfolding bindings-known get
-    sound-known = each-of (λ c. known S (c .binding)) unbound (S .vars) (λ v a.
+    sound-known : no-binding-anything S ≡ true
+    unfolding no-binding-anything get
+    sound-known = each-of (λ c. no-anything S (c .binding)) unbound (S .vars) (λ v a.
         let lt : v < u .vars = omega (arith, cells-count) in
-        ap (λ (o : Option ℕ). known S o) (get-read w u ds v lt) ∙ cell-good v lt .0 .knows)
+        ap (λ (o : Option ℕ). no-anything S o) (get-read w u ds v lt) ∙ cell-good v lt .0 .knows)
 
     sound-chains : chains-end S ≡ true
     unfolding chains-end
@@ -337,9 +337,9 @@ module _ (w : List ℕ) (p : List (List ℕ)) (u : Used) (z : Sized w u) (small 
   -- ---- and the other way
 
   module _ (holds-s : Holds w S) (same : p ≡ encode-params S) (ok : sound S ≡ true) where
-    five : (sd.counts-fit S ≡ true) × ((sd.parts-smaller S ≡ true) × ((fields-allowed S ≡ true) × ((bindings-known S ≡ true) × (chains-end S ≡ true))))
+    five : (sd.counts-fit S ≡ true) × ((sd.parts-smaller S ≡ true) × ((fields-allowed S ≡ true) × ((no-binding-anything S ≡ true) × (chains-end S ≡ true))))
     unfolding sound
-    five = five-l (counts-fit S) (sd.parts-smaller S) (fields-allowed S) (bindings-known S) (chains-end S) ok
+    five = five-l (counts-fit S) (sd.parts-smaller S) (fields-allowed S) (no-binding-anything S) (chains-end S) ok
 
     four : (all-of (λ n. node-allowed S n) (S .nodes) ≡ true) × ((all-of (λ c. cell-allowed S c) (S .vars) ≡ true) × ((all-of (λ c. constraint-allowed S c) (S .constraints) ≡ true) × (all-of (λ d. struct-allowed d) (S .structs) ≡ true)))
     unfolding fields-allowed
@@ -406,17 +406,17 @@ module _ (w : List ℕ) (p : List (List ℕ)) (u : Used) (z : Sized w u) (small 
         record { binding = record { flag = cc; word = cc }; numeric = record { flag = cc; word = cc }; spare = cc }
 
     cell-was : (v : ℕ) → v < u .vars → cell-fine w u v ≡ true
-    unfolding cell-fine cell-allowed bindings-known get
+    unfolding cell-fine cell-allowed no-binding-anything get
     cell-was v lt =
         let a : v < length (S .vars) = omega (arith, cells-count) in
         let c = cell-back v lt in
         let al = of-each (λ c. cell-allowed S c) unbound (S .vars) (four .1 .0) v a in
-        let kn = of-each (λ c. known S (c .binding)) unbound (S .vars) (five .1 .1 .1 .0) v a in
+        let kn = of-each (λ c. no-anything S (c .binding)) unbound (S .vars) (five .1 .1 .1 .0) v a in
         both _ _ (both _ _
         (binding-was w u ds _ _ (record {
           back = c .binding;
           allowed = ap (λ (o : Option ℕ). binding-allowed S o) (sym (get-read w u ds v lt)) ∙ and-l _ (numeric-allowed (getD (S .vars) v unbound .numeric)) al;
-          knows = ap (λ (o : Option ℕ). known S o) (sym (get-read w u ds v lt)) ∙ kn;
+          knows = ap (λ (o : Option ℕ). no-anything S o) (sym (get-read w u ds v lt)) ∙ kn;
         }))
         (numeric-was _ _ (c .numeric)))
         (eq-eqb _ 0 (c .spare))
@@ -569,7 +569,7 @@ module _ (w : List ℕ) (p : List (List ℕ)) where
   lent-sized h =
       let s = decode w p in
       let D = structs-of w p (used-of w .structs) in
-      let c = few-counts s (five-l (counts-fit s) (sd.parts-smaller s) (fields-allowed s) (bindings-known s) (chains-end s) (h .is-sound) .0) in
+      let c = few-counts s (five-l (counts-fit s) (sd.parts-smaller s) (fields-allowed s) (no-binding-anything s) (chains-end s) (h .is-sound) .0) in
       record {
         size = lent-holds h .size;
         nodes = omega (arith, c .0, nodes-count w (used-of w) D);

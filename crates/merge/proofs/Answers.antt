@@ -7,7 +7,7 @@ use native.Mathlib.Omega.{arith}
 use lib.Dec.{ltb}
 use lib.ListN.{length, length-append}
 use Rattle.definition.specs.Types.{State, Struct, Result, ok, err, refused, _>>=_, if_then_else_, max-vars}
-use Rattle.definition.specs.Store.{count, taken, get, node, loc-of, value, with-args, with-structs, next-tvar}
+use Rattle.definition.specs.Store.{count, taken, get, node, loc-of, type-at, with-args, with-structs, next-tvar}
 use Rattle.definition.specs.Subst.{is-anything}
 use Rattle.table.specs.Rows.{node-table}
 use Rattle.table.specs.State.{Lay, Grown, Changed, Nodes-in, Var-in, outcome, seen, view, done, found, node-of, shape-of, value-of}
@@ -124,8 +124,8 @@ pub loc-is : (s : State) (t : ℕ) (n : Node) → node-of n ≡ node s t → n .
 unfolding loc-of
 loc-is s t n e = ap (λ (m : _). m .loc) e
 
-pub value-is : (s : State) (t : ℕ) (n : Node) → node-of n ≡ node s t → with-args s (shape-of (n .shape)) ≡ value s t
-unfolding value
+pub value-is : (s : State) (t : ℕ) (n : Node) → node-of n ≡ node s t → with-args s (shape-of (n .shape)) ≡ type-at s t
+unfolding type-at
 value-is s t n e = ap (λ (m : _). with-args s (m .value)) e
 
 pub anything-is : (s : State) (x : Shape) → is-anything (with-args s (shape-of x)) ≡ is-anything (value-of x)

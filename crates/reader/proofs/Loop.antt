@@ -13,7 +13,7 @@ use lib.Seq.{take-suc-set, getD-set-same, getD-set-other}
 use Rattle.definition.specs.Types.{State, Struct, unbound}
 use Rattle.definition.specs.Reader.{Read}
 use Rattle.definition.specs.Trees.{Tree, read-trees, read-nested}
-use Rattle.definition.specs.Place.{place, place-all}
+use Rattle.definition.specs.Build.{build, build-all}
 use Rattle.table.specs.Rows.{node-table, struct-table}
 use Rattle.table.specs.State.{Lay, Grown, After, Declares, view, seen, done}
 use Rattle.table.specs.declared.Used.{Used}
@@ -74,12 +74,12 @@ takes-is w u b end known over m m′ w′ r e t =
       structs = t .structs;
       inside = t .inside;
       within = t .within;
-      is = λ ds s d k. t .is ds s d k ∙ ap (λ (x : Read Tree). place-read over place x (seen w u ds)) (e ds s d k);
+      is = λ ds s d k. t .is ds s d k ∙ ap (λ (x : Read Tree). place-read over build x (seen w u ds)) (e ds s d k);
     }
 
 -- nothing was written
 pub takes-none : (w : List ℕ) (u : Used) (b : List ℕ) (end known at : ℕ) (over : Bool) (m : State → Read Tree) (p : Part) → Lay w u → at ≤ end → Part-in (u .nodes) p
-    → ((ds : List Struct) (s : State) → Declares w u ds → Knows s known ds → part-of p (seen w u ds) (rest b end at) ≡ place-read over place (m s) (seen w u ds))
+    → ((ds : List Struct) (s : State) → Declares w u ds → Knows s known ds → part-of p (seen w u ds) (rest b end at) ≡ place-read over build (m s) (seen w u ds))
     → Takes w u b end known over m w (record { part = p; used = u; next = at })
 takes-none w u b end known at over m p l a i e = record { lay = l; grown = grown-refl (view w u); structs = refl; inside = i; within = a; is = e }
 
@@ -94,8 +94,8 @@ pub record Going (w₀ : List ℕ) (u₀ : Used) (b : List ℕ) (end known nest 
   pub long : length parts ≡ 8
   pub below : over ≡ false → (j : ℕ) → j < i → getD parts j 0 < u .nodes
   pub is : (ds : List Struct) (s : State) → Declares w₀ u₀ ds → Knows s known ds
-      → place-read over₀ place-all (read-trees n (read-nested nest s) (rest b end at)) (seen w₀ u₀ ds)
-      ≡ onward (take i parts) (place-read over place-all (read-trees (n - i) (read-nested nest s) (rest b end next)) (seen w u ds))
+      → place-read over₀ build-all (read-trees n (read-nested nest s) (rest b end at)) (seen w₀ u₀ ds)
+      ≡ onward (take i parts) (place-read over build-all (read-trees (n - i) (read-nested nest s) (rest b end next)) (seen w u ds))
 
 pub go-none : (w : List ℕ) (u : Used) (b : List ℕ) (end known nest : ℕ) (over : Bool) (n at : ℕ) (parts : List ℕ) → Lay w u → at ≤ end → length parts ≡ 8
     → Going w u b end known nest over n at w u at over parts 0
@@ -108,7 +108,7 @@ go-none w u b end known nest over n at parts l a e =
       within = a;
       long = e;
       below = λ o j h. absurd (omega arith);
-      is = λ ds s d k. onward-none _ ∙ ap (λ (j : ℕ). onward [] (place-read over place-all (read-trees j (read-nested nest s) (rest b end at)) (seen w u ds))) (sym (sub-zero n));
+      is = λ ds s d k. onward-none _ ∙ ap (λ (j : ℕ). onward [] (place-read over build-all (read-trees j (read-nested nest s) (rest b end at)) (seen w u ds))) (sym (sub-zero n));
     }
 
 abbrev code : Bool → ℕ
@@ -129,7 +129,7 @@ module _ (w₀ : List ℕ) (u₀ : Used) (b : List ℕ) (end known nest : ℕ) (
 
   -- the parts placed so far are below the count, if space has not ended
   by-part : i < length parts → (p : Part) → is-stop p ≡ false → is-over p ≡ false → Part-in (r .used .nodes) p
-      → ((ds : List Struct) (s : State) → Declares w u ds → Knows s known ds → part-of p (seen w′ (r .used) ds) (rest b end (r .next)) ≡ place-read over place (read-nested nest s (rest b end next)) (seen w u ds))
+      → ((ds : List Struct) (s : State) → Declares w u ds → Knows s known ds → part-of p (seen w′ (r .used) ds) (rest b end (r .next)) ≡ place-read over build (read-nested nest s (rest b end next)) (seen w u ds))
       → (j : ℕ) → j < i + 1 → getD (set parts i (node-in p)) j 0 < r .used .nodes
   by-part lt (At x) st o q e j h =
       here lt (at-open over _ _ _ _ _ (e (view w u .structs) (knowing known (view w u .structs)) (declares-self w u) (knows known (view w u .structs)))) x j q h
@@ -156,9 +156,9 @@ module _ (w₀ : List ℕ) (u₀ : Used) (b : List ℕ) (end known nest : ℕ) (
             let e = t .is ds s (declares-kept w₀ u₀ w u ds (g .structs) d) k in
             let x : take (i + 1) (set parts i (node-in (r .part))) ≡ take i parts ++ (node-in (r .part) ∷ []) = rw add-one (take-suc-set parts i (node-in (r .part)) lt) in
             g .is ds s d k
-            ∙ ap (λ (j : ℕ). onward (take i parts) (place-read over place-all (read-trees j (read-nested nest s) (rest b end next)) (seen w u ds))) one-more
+            ∙ ap (λ (j : ℕ). onward (take i parts) (place-read over build-all (read-trees j (read-nested nest s) (rest b end next)) (seen w u ds))) one-more
             ∙ turn (read-nested nest s) (n - (i + 1)) (rest b end next) over (seen w u ds) (seen w′ (r .used) ds) (r .part) (rest b end (r .next)) (take i parts) st e
-            ∙ ap (λ (xs : List ℕ). onward xs (place-read (is-over (r .part)) place-all (read-trees (n - (i + 1)) (read-nested nest s) (rest b end (r .next))) (seen w′ (r .used) ds))) (sym x);
+            ∙ ap (λ (xs : List ℕ). onward xs (place-read (is-over (r .part)) build-all (read-trees (n - (i + 1)) (read-nested nest s) (rest b end (r .next))) (seen w′ (r .used) ds))) (sym x);
       }
 
   pub go-stop : (loc : ℕ) (h : Shape) → n ≡ many-parts h → is-stop (r .part) ≡ true
@@ -173,9 +173,9 @@ module _ (w₀ : List ℕ) (u₀ : Used) (b : List ℕ) (end known nest : ℕ) (
         is = λ ds s d k.
             let e = t .is ds s (declares-kept w₀ u₀ w u ds (g .structs) d) k in
             stop (read-nested nest s) (n - (i + 1)) (rest b end next) over (seen w u ds) (seen w′ (r .used) ds) (r .part) (rest b end (r .next)) (take i parts) loc h st e
-            ∙ ap (λ (j : ℕ). then-node loc h (onward (take i parts) (place-read over place-all (read-trees j (read-nested nest s) (rest b end next)) (seen w u ds)))) (sym one-more)
+            ∙ ap (λ (j : ℕ). then-node loc h (onward (take i parts) (place-read over build-all (read-trees j (read-nested nest s) (rest b end next)) (seen w u ds)))) (sym one-more)
             ∙ ap (λ (p : Placed (List ℕ)). then-node loc h p) (sym (g .is ds s d k))
-            ∙ ap (λ (j : ℕ). then-node loc h (place-read over₀ place-all (read-trees j (read-nested nest s) (rest b end at)) (seen w₀ u₀ ds))) m
+            ∙ ap (λ (j : ℕ). then-node loc h (place-read over₀ build-all (read-trees j (read-nested nest s) (rest b end at)) (seen w₀ u₀ ds))) m
             ∙ sym (node-after h loc over₀ (read-nested nest s) (rest b end at) (seen w₀ u₀ ds));
       }
 
@@ -196,9 +196,9 @@ go-all w₀ u₀ b end known nest over₀ n at w u next over parts i g l loc h m
           ap (λ (p : Part). part-of p (seen w′ (x .used) ds) (rest b end next)) q
           ∙ found-is (x .out) over loc h (take (many-parts h) parts) (seen w u ds) (seen w′ (x .used) ds) (rest b end next) (a .changed .is ds)
           ∙ sym (none-left (read-nested nest s) (rest b end next) over (seen w u ds) (take (many-parts h) parts) loc h)
-          ∙ ap (λ (j : ℕ). then-node loc h (onward (take (many-parts h) parts) (place-read over place-all (read-trees j (read-nested nest s) (rest b end next)) (seen w u ds)))) (sym none)
-          ∙ ap (λ (j : ℕ). then-node loc h (onward (take j parts) (place-read over place-all (read-trees (n - i) (read-nested nest s) (rest b end next)) (seen w u ds)))) (sym (z ∙ m))
+          ∙ ap (λ (j : ℕ). then-node loc h (onward (take (many-parts h) parts) (place-read over build-all (read-trees j (read-nested nest s) (rest b end next)) (seen w u ds)))) (sym none)
+          ∙ ap (λ (j : ℕ). then-node loc h (onward (take j parts) (place-read over build-all (read-trees (n - i) (read-nested nest s) (rest b end next)) (seen w u ds)))) (sym (z ∙ m))
           ∙ ap (λ (p : Placed (List ℕ)). then-node loc h p) (sym (g .is ds s d k))
-          ∙ ap (λ (j : ℕ). then-node loc h (place-read over₀ place-all (read-trees j (read-nested nest s) (rest b end at)) (seen w₀ u₀ ds))) m
+          ∙ ap (λ (j : ℕ). then-node loc h (place-read over₀ build-all (read-trees j (read-nested nest s) (rest b end at)) (seen w₀ u₀ ds))) m
           ∙ sym (node-after h loc over₀ (read-nested nest s) (rest b end at) (seen w₀ u₀ ds));
     }

@@ -14,7 +14,7 @@ use Rattle.definition.specs.Reader.{Read, got, not-read, Reader, give, go-on}
 use Rattle.definition.specs.Reader as r
 use Rattle.definition.specs.Trees.{Tree, apply-tree, Trees, no-trees, _then_, read-trees}
 use Rattle.names.specs.Names.{mark-of, name-of}
-use Rattle.definition.specs.Place.{place, place-all}
+use Rattle.definition.specs.Build.{build, build-all}
 use Rattle.table.specs.declared.Shape.{Shape}
 use Rattle.table.specs.declared.Shape.the-variants.{Unit as UnitS, Ref, Param, Apply, Var, Anything, UnresolvedError}
 use Rattle.table.specs.State.{outcome, done, Nodes-in}
@@ -44,8 +44,8 @@ leaf-is loc h false l s = refl
 
 -- one part
 ref-is : (loc : ℕ) (m : Bool) (t : ℕ) (over : Bool) (part : Reader Tree) (l : Bytes) (s : State)
-    → place-read over place (go-on (read-trees 1 part l) (λ ts. give (tree-of loc (Ref m t) ts))) s ≡ then-node loc (Ref m t) (place-read over place-all (read-trees 1 part l) s)
-unfolding read-trees r._>>=_ _>>=_ go-on give place-read place place-all
+    → place-read over build (go-on (read-trees 1 part l) (λ ts. give (tree-of loc (Ref m t) ts))) s ≡ then-node loc (Ref m t) (place-read over build-all (read-trees 1 part l) s)
+unfolding read-trees r._>>=_ _>>=_ go-on give place-read build build-all
 ref-is loc m t over part l s = by (part l) over
   where
     placing : (p : Result (State × ℕ)) (k : Bytes)
@@ -54,17 +54,17 @@ ref-is loc m t over part l s = by (part l) over
     placing (err s e) k = refl
     placing (refused y) k = refl
 
-    by : (x : Read Tree) (over : Bool) → place-read over place (go-on (go-on x (λ t bytes. go-on (read-trees 0 part bytes) (λ ts. give (_then_ t ts)))) (λ ts. give (tree-of loc (Ref m t) ts))) s
-        ≡ then-node loc (Ref m t) (place-read over place-all (go-on x (λ t bytes. go-on (read-trees 0 part bytes) (λ ts. give (_then_ t ts)))) s)
+    by : (x : Read Tree) (over : Bool) → place-read over build (go-on (go-on x (λ t bytes. go-on (read-trees 0 part bytes) (λ ts. give (_then_ t ts)))) (λ ts. give (tree-of loc (Ref m t) ts))) s
+        ≡ then-node loc (Ref m t) (place-read over build-all (go-on x (λ t bytes. go-on (read-trees 0 part bytes) (λ ts. give (_then_ t ts)))) s)
     by (got x k) true = refl
-    by (got x k) false = placing (place x s) k
+    by (got x k) false = placing (build x s) k
     by (not-read y) over = refl
 
 apply-is : (loc : ℕ) (h : Shape) (k : d.Mark) (n : d.TypeName) (over : Bool) (x : Read Trees) (s : State) → ((tys : List ℕ) → with-parts h tys ≡ d.Apply k n tys)
-    → place-read over place (go-on x (λ ts. give (apply-tree loc k n ts))) s ≡ then-node loc h (place-read over place-all x s)
-unfolding _>>=_ go-on give place-read place
+    → place-read over build (go-on x (λ ts. give (apply-tree loc k n ts))) s ≡ then-node loc h (place-read over build-all x s)
+unfolding _>>=_ go-on give place-read build
 apply-is loc h k n true (got ts l) s e = refl
-apply-is loc h k n false (got ts l) s e = placing (place-all ts s)
+apply-is loc h k n false (got ts l) s e = placing (build-all ts s)
   where
     placing : (p : Result (State × List ℕ)) → _≡_ {A = Placed ℕ} (placed (p >>= (λ (s, tys). sp s loc (d.Apply k n tys))) l) (placed (p >>= (λ (s, tys). sp s loc (with-parts h tys))) l)
     placing (ok (s, tys)) = ap (λ (v : d.Type-value). placed (sp s loc v) l) (sym (e tys))
@@ -73,8 +73,8 @@ apply-is loc h k n false (got ts l) s e = placing (place-all ts s)
 apply-is loc h k n over (not-read y) s e = refl
 
 pub node-after : (h : Shape) (loc : ℕ) (over : Bool) (part : Reader Tree) (l : Bytes) (s : State)
-    → place-read over place (go-on (read-trees (many-parts h) part l) (λ ts. give (tree-of loc h ts))) s ≡ then-node loc h (place-read over place-all (read-trees (many-parts h) part l) s)
-unfolding read-trees go-on give place-read place place-all
+    → place-read over build (go-on (read-trees (many-parts h) part l) (λ ts. give (tree-of loc h ts))) s ≡ then-node loc h (place-read over build-all (read-trees (many-parts h) part l) s)
+unfolding read-trees go-on give place-read build build-all
 node-after UnitS loc over part l s = leaf-is loc UnitS over l s
 node-after (Ref m t) loc over part l s = ref-is loc m t over part l s
 node-after (Param id a) loc over part l s = leaf-is loc (Param id a) over l s
@@ -105,7 +105,7 @@ onward-none (placed (err s e) l) = refl
 onward-none (placed (refused x) l) = refl
 
 -- once space has ended, it does not matter what was placed before
-over-any : (xs ys : List ℕ) (x : Read Trees) (s s′ : State) → onward xs (place-read true place-all x s) ≡ onward ys (place-read true place-all x s′)
+over-any : (xs ys : List ℕ) (x : Read Trees) (s s′ : State) → onward xs (place-read true build-all x s) ≡ onward ys (place-read true build-all x s′)
 unfolding place-read _>>=_
 over-any xs ys (got ts l) s s′ = refl
 over-any xs ys (not-read x) s s′ = refl
@@ -114,41 +114,41 @@ module _ (part : Reader Tree) (m : ℕ) where
   abbrev more : Read Tree → Read Trees
   more x = go-on x (λ t l. go-on (read-trees m part l) (λ ts. give (_then_ t ts)))
 
-  step-at : (x : Read Tree) (over : Bool) (s s′ : State) (t : ℕ) (k : Bytes) → placed (ok (s′, t)) k ≡ place-read over place x s
-      → place-read over place-all (more x) s ≡ onward (t ∷ []) (place-read false place-all (read-trees m part k) s′)
-  unfolding place-read go-on give place-all _>>=_
+  step-at : (x : Read Tree) (over : Bool) (s s′ : State) (t : ℕ) (k : Bytes) → placed (ok (s′, t)) k ≡ place-read over build x s
+      → place-read over build-all (more x) s ≡ onward (t ∷ []) (place-read false build-all (read-trees m part k) s′)
+  unfolding place-read go-on give build-all _>>=_
   step-at (not-read y) over s s′ t k e = never (cc)
   step-at (got a l) true s s′ t k e = never (cc)
   step-at (got a l) false s s′ t k e =
-      let p : place a s ≡ ok (s′, t) = cc in
+      let p : build a s ≡ ok (s′, t) = cc in
       let q : l ≡ k = cc in
       rw q (by (read-trees m part k) p)
     where
-      by : (y : Read Trees) → place a s ≡ ok (s′, t) → place-read false place-all (go-on y (λ ts. give (_then_ a ts))) s ≡ onward (t ∷ []) (place-read false place-all y s′)
+      by : (y : Read Trees) → build a s ≡ ok (s′, t) → place-read false build-all (go-on y (λ ts. give (_then_ a ts))) s ≡ onward (t ∷ []) (place-read false build-all y s′)
       by (got ts j) p = rw p refl
       by (not-read z) p = refl
 
-  step-over : (x : Read Tree) (over : Bool) (s s′ : State) (k : Bytes) → placed (refused full) k ≡ place-read over place x s
-      → place-read over place-all (more x) s ≡ place-read true place-all (read-trees m part k) s′
-  unfolding place-read go-on give place-all _>>=_
+  step-over : (x : Read Tree) (over : Bool) (s s′ : State) (k : Bytes) → placed (refused full) k ≡ place-read over build x s
+      → place-read over build-all (more x) s ≡ place-read true build-all (read-trees m part k) s′
+  unfolding place-read go-on give build-all _>>=_
   step-over (not-read y) over s s′ k e = never (cc)
   step-over (got a l) true s s′ k e =
       let q : l ≡ k = cc in
       rw q (by (read-trees m part k))
     where
-      by : (y : Read Trees) → place-read true place-all (go-on y (λ ts. give (_then_ a ts))) s ≡ place-read true place-all y s′
+      by : (y : Read Trees) → place-read true build-all (go-on y (λ ts. give (_then_ a ts))) s ≡ place-read true build-all y s′
       by (got ts j) = refl
       by (not-read z) = refl
   step-over (got a l) false s s′ k e =
-      let p : place a s ≡ refused full = cc in
+      let p : build a s ≡ refused full = cc in
       let q : l ≡ k = cc in
       rw q (by (read-trees m part k) p)
     where
-      by : (y : Read Trees) → place a s ≡ refused full → place-read false place-all (go-on y (λ ts. give (_then_ a ts))) s ≡ place-read true place-all y s′
+      by : (y : Read Trees) → build a s ≡ refused full → place-read false build-all (go-on y (λ ts. give (_then_ a ts))) s ≡ place-read true build-all y s′
       by (got ts j) p = rw p refl
       by (not-read z) p = refl
 
-  step-stop : (x : Read Tree) (over : Bool) (s : State) (y : Refusal) → stopped y ≡ place-read over place x s → stopped y ≡ place-read over place-all (more x) s
+  step-stop : (x : Read Tree) (over : Bool) (s : State) (y : Refusal) → stopped y ≡ place-read over build x s → stopped y ≡ place-read over build-all (more x) s
   unfolding place-read go-on
   step-stop (not-read z) over s y e = ap stopped (cc)
   step-stop (got a l) over s y e = never (cc)
@@ -161,16 +161,16 @@ is-not e = never (ap (λ (b : Bool). if b then 0 else 1) e)
 not-is : {A : Type 0} → false ≡ true → A
 not-is e = never (ap (λ (b : Bool). if b then 1 else 0) e)
 
-pub turn : (part : Reader Tree) (m : ℕ) (l : Bytes) (over : Bool) (s s′ : State) (p : Part) (k : Bytes) (xs : List ℕ) → is-stop p ≡ false → part-of p s′ k ≡ place-read over place (part l) s
-    → onward xs (place-read over place-all (read-trees (suc m) part l) s) ≡ onward (xs ++ (node-in p ∷ [])) (place-read (is-over p) place-all (read-trees m part k) s′)
+pub turn : (part : Reader Tree) (m : ℕ) (l : Bytes) (over : Bool) (s s′ : State) (p : Part) (k : Bytes) (xs : List ℕ) → is-stop p ≡ false → part-of p s′ k ≡ place-read over build (part l) s
+    → onward xs (place-read over build-all (read-trees (suc m) part l) s) ≡ onward (xs ++ (node-in p ∷ [])) (place-read (is-over p) build-all (read-trees m part k) s′)
 unfolding read-trees r._>>=_
-turn part m l over s s′ (At t) k xs n e = ap (λ (q : Placed (List ℕ)). onward xs q) (step-at part m (part l) over s s′ t k e) ∙ onward-onward xs (t ∷ []) (place-read false place-all (read-trees m part k) s′)
+turn part m l over s s′ (At t) k xs n e = ap (λ (q : Placed (List ℕ)). onward xs q) (step-at part m (part l) over s s′ t k e) ∙ onward-onward xs (t ∷ []) (place-read false build-all (read-trees m part k) s′)
 turn part m l over s s′ Full k xs n e = ap (λ (q : Placed (List ℕ)). onward xs q) (step-over part m (part l) over s s′ k e) ∙ over-any xs (xs ++ (0 ∷ [])) (read-trees m part k) s′ s′
 turn part m l over s s′ Malformed k xs n e = is-not n
 turn part m l over s s′ Unknown k xs n e = is-not n
 
-pub stop : (part : Reader Tree) (m : ℕ) (l : Bytes) (over : Bool) (s s′ : State) (p : Part) (k : Bytes) (xs : List ℕ) (loc : ℕ) (h : Shape) → is-stop p ≡ true → part-of p s′ k ≡ place-read over place (part l) s
-    → part-of p s′ k ≡ then-node loc h (onward xs (place-read over place-all (read-trees (suc m) part l) s))
+pub stop : (part : Reader Tree) (m : ℕ) (l : Bytes) (over : Bool) (s s′ : State) (p : Part) (k : Bytes) (xs : List ℕ) (loc : ℕ) (h : Shape) → is-stop p ≡ true → part-of p s′ k ≡ place-read over build (part l) s
+    → part-of p s′ k ≡ then-node loc h (onward xs (place-read over build-all (read-trees (suc m) part l) s))
 unfolding read-trees r._>>=_
 stop part m l over s s′ (At t) k xs loc h n e = not-is n
 stop part m l over s s′ Full k xs loc h n e = not-is n
@@ -178,7 +178,7 @@ stop part m l over s s′ Malformed k xs loc h n e = ap (λ (q : Placed (List �
 stop part m l over s s′ Unknown k xs loc h n e = ap (λ (q : Placed (List ℕ)). then-node loc h (onward xs q)) (step-stop part m (part l) over s unknown-name e)
 
 -- a node was placed: there was space before
-pub at-open : (over : Bool) (x : Read Tree) (s s′ : State) (t : ℕ) (k : Bytes) → placed (ok (s′, t)) k ≡ place-read over place x s → over ≡ false
+pub at-open : (over : Bool) (x : Read Tree) (s s′ : State) (t : ℕ) (k : Bytes) → placed (ok (s′, t)) k ≡ place-read over build x s → over ≡ false
 unfolding place-read
 at-open false x s s′ t k e = refl
 at-open true (got a l) s s′ t k e = never (cc)
@@ -186,8 +186,8 @@ at-open true (not-read y) s s′ t k e = never (cc)
 
 -- no part is left
 pub none-left : (part : Reader Tree) (l : Bytes) (over : Bool) (s : State) (xs : List ℕ) (loc : ℕ) (h : Shape)
-    → then-node loc h (onward xs (place-read over place-all (read-trees 0 part l) s)) ≡ placed (put-node over loc h xs s) l
-unfolding read-trees give place-read place-all put-node _>>=_
+    → then-node loc h (onward xs (place-read over build-all (read-trees 0 part l) s)) ≡ placed (put-node over loc h xs s) l
+unfolding read-trees give place-read build-all put-node _>>=_
 none-left part l true s xs loc h = refl
 none-left part l false s xs loc h = ap (λ (k : List ℕ). placed (sp s loc (with-parts h k)) l) (append-nil xs)
 

@@ -10,7 +10,7 @@ use Rattle.definition.specs.Store.{sp}
 use Rattle.definition.specs.Write.{Bytes}
 use Rattle.definition.specs.Reader.{Read, got, not-read}
 use Rattle.definition.specs.Trees.{Tree}
-use Rattle.definition.specs.Place.{place}
+use Rattle.definition.specs.Build.{build}
 use Rattle.names.specs.Names.{mark-of, name-of}
 use Rattle.table.specs.State.{Lay, Grown, Declares, view, seen}
 use Rattle.table.specs.declared.Used.{Used}
@@ -57,7 +57,7 @@ pub record Takes (w : List ℕ) (u : Used) (b : List ℕ) (end known : ℕ) (ove
   pub inside : Part-in (r .used .nodes) (r .part)
   pub within : r .next ≤ end
   pub is : (ds : List Struct) (s : State) → Declares w u ds → Knows s known ds
-      → part-of (r .part) (seen w′ (r .used) ds) (rest b end (r .next)) ≡ place-read over place (m s) (seen w u ds)
+      → part-of (r .part) (seen w′ (r .used) ds) (rest b end (r .next)) ≡ place-read over build (m s) (seen w u ds)
 
 -- a type's value with these parts
 abbrev pub with-parts : Shape → List ℕ → d.Type-value

@@ -14,7 +14,7 @@ use Rattle.definition.specs.Write.{Bytes}
 use Rattle.definition.specs.Reader as rd
 use Rattle.definition.specs.Reader.{Read, got, not-read, give, go-on, read-u32, times, read-two}
 use Rattle.definition.specs.Trees.{Tree, read-nested, read-type}
-use Rattle.definition.specs.Place.{place, place-pairs}
+use Rattle.definition.specs.Build.{build, build-pairs}
 use Rattle.definition.specs.Record as d
 use Rattle.definition.specs.Record.{Record, read-pair}
 use Rattle.names.specs.declared.TParamID.{TParamID}
@@ -70,23 +70,23 @@ abbrev left-at : State → ℕ → Bytes → Read Left
 left-at s n l = go-on (times n (read-pair s) l) (λ ps l. go-on (read-type s l) (λ t. give (ps, t)))
 
 abbrev put-after : List (ℕ × ℕ) → Tree → Result (State × List (ℕ × ℕ)) → Result (State × Noded)
-put-after xs t p = p >>= (λ (s, ys). place t s >>= (λ (s, ty). ok (s, TS (xs ++ ys) ty)))
+put-after xs t p = p >>= (λ (s, ys). build t s >>= (λ (s, ty). ok (s, TS (xs ++ ys) ty)))
 
 abbrev put-left : List (ℕ × ℕ) → Left → State → Result (State × Noded)
-put-left xs c s = put-after xs (c .1) (place-pairs (c .0) s)
+put-left xs c s = put-after xs (c .1) (build-pairs (c .0) s)
 
-put-one : (xs : List (ℕ × ℕ)) (id : ℕ) (t : Tree) (c : Left) (s : State) → put-left xs ((id, t) ∷ c .0, c .1) s ≡ (place t s >>= (λ (s, n). put-left (xs ++ ((id, n) ∷ [])) c s))
-unfolding place-pairs _>>=_
-put-one xs id t c s = by (place t s)
+put-one : (xs : List (ℕ × ℕ)) (id : ℕ) (t : Tree) (c : Left) (s : State) → put-left xs ((id, t) ∷ c .0, c .1) s ≡ (build t s >>= (λ (s, n). put-left (xs ++ ((id, n) ∷ [])) c s))
+unfolding build-pairs _>>=_
+put-one xs id t c s = by (build t s)
   where
     rest-is : (n : ℕ) (p : Result (State × List (ℕ × ℕ))) → put-after xs (c .1) (p >>= (λ (s, ps). ok (s, (id, n) ∷ ps))) ≡ put-after (xs ++ ((id, n) ∷ [])) (c .1) p
-    rest-is n (ok (s, ys)) = ap (λ (k : List (ℕ × ℕ)). place (c .1) s >>= (λ (s, ty). ok (s, TS k ty))) (sym (append-assoc xs ((id, n) ∷ []) ys))
+    rest-is n (ok (s, ys)) = ap (λ (k : List (ℕ × ℕ)). build (c .1) s >>= (λ (s, ty). ok (s, TS k ty))) (sym (append-assoc xs ((id, n) ∷ []) ys))
     rest-is n (err s e) = refl
     rest-is n (refused y) = refl
 
     by : (p : Result (State × ℕ))
-        → put-after xs (c .1) (p >>= (λ (s, t). place-pairs (c .0) s >>= (λ (s, ps). ok (s, (id, t) ∷ ps)))) ≡ (p >>= (λ (s, n). put-left (xs ++ ((id, n) ∷ [])) c s))
-    by (ok (s, n)) = rest-is n (place-pairs (c .0) s)
+        → put-after xs (c .1) (p >>= (λ (s, t). build-pairs (c .0) s >>= (λ (s, ps). ok (s, (id, t) ∷ ps)))) ≡ (p >>= (λ (s, n). put-left (xs ++ ((id, n) ∷ [])) c s))
+    by (ok (s, n)) = rest-is n (build-pairs (c .0) s)
     by (err s e) = refl
     by (refused y) = refl
 
@@ -135,9 +135,9 @@ left-is s n l v = by (times n (read-pair s) l)
     by (not-read z) = refl
 
 -- no pair is left
-put-last : (xs : List (ℕ × ℕ)) (t : Tree) (s : State) → put-left xs ([], t) s ≡ (place t s >>= (λ (s, n). ok (s, TS xs n)))
-unfolding place-pairs _>>=_
-put-last xs t s = ap (λ (k : List (ℕ × ℕ)). place t s >>= (λ (s, n). ok (s, TS k n))) (append-nil xs)
+put-last : (xs : List (ℕ × ℕ)) (t : Tree) (s : State) → put-left xs ([], t) s ≡ (build t s >>= (λ (s, n). ok (s, TS xs n)))
+unfolding build-pairs _>>=_
+put-last xs t s = ap (λ (k : List (ℕ × ℕ)). build t s >>= (λ (s, n). ok (s, TS k n))) (append-nil xs)
 
 -- ---- the loop
 
@@ -263,7 +263,7 @@ module _ (w₀ : List ℕ) (u₀ : Used) (b : List ℕ) (end known n at : ℕ) (
 
   pub pairs-all : n ≤ i → n ≤ 8 → (w′ : List ℕ) (r : Taken) → Takes w u b end known over (λ s. read-nested 64 s (rest b end next)) w′ r
       → Fields-are w₀ u₀ b end known read-all w′ (paired-fields (r .part) (r .used) (r .next) n ids nodes)
-  unfolding read-type place-pairs
+  unfolding read-type build-pairs
   pairs-all l few w′ r t =
       let z : i ≡ n = (let y = g .left in omega arith) in
       let none : n - i ≡ 0 = omega arith in

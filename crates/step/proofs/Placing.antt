@@ -5,7 +5,7 @@ use Prim.Native.Nat.{ℕ, _<_}
 use native.Mathlib.Omega.{arith}
 use Rattle.definition.specs.Types.{State, Result, ok, err, refused, _>>=_}
 use Rattle.definition.specs.Trees.{Tree}
-use Rattle.definition.specs.Place.{place, place-pairs}
+use Rattle.definition.specs.Build.{build, build-pairs}
 use Rattle.definition.specs.Record as d
 use Rattle.definition.specs.Record.{Record}
 use Rattle.fields.specs.Noded.{Noded, SD, FV, NV, SN, JN, SU, UF, RD, IN, TS, NC, BC, SC, SV, place-record}
@@ -59,9 +59,9 @@ module _ (s′ : State) (n : Noded) where
   one (refused x) f h e = absurd (let z : _≡_ {A = ℕ} 0 1 = cc in omega arith)
 
   two : {A : Type 0} (m : Result (State × A)) (t : Tree) (f : A → ℕ → Noded) → ((a : A) (b : ℕ) → own (f a b) ≡ 2)
-      → _≡_ {A = Result (State × Noded)} (m >>= (λ p. place t (p .0) >>= (λ q. ok (q .0, f (p .1) (q .1))))) (ok (s′, n)) → own n ≡ 2
+      → _≡_ {A = Result (State × Noded)} (m >>= (λ p. build t (p .0) >>= (λ q. ok (q .0, f (p .1) (q .1))))) (ok (s′, n)) → own n ≡ 2
   unfolding _>>=_
-  two (ok p) t f h e = one (place t (p .0)) (f (p .1)) (h (p .1)) e
+  two (ok p) t f h e = one (build t (p .0)) (f (p .1)) (h (p .1)) e
   two (err x y) t f h e = absurd (let z : _≡_ {A = ℕ} 0 1 = cc in omega arith)
   two (refused x) t f h e = absurd (let z : _≡_ {A = ℕ} 0 1 = cc in omega arith)
 
@@ -71,15 +71,15 @@ module _ (s′ : State) (n : Noded) where
   placed-as (d.FV loc) s e = same s (FV loc) refl e
   placed-as (d.NV loc) s e = same s (NV loc) refl e
   placed-as (d.SN v loc) s e = same s (SN v loc) refl e
-  placed-as (d.JN a b) s e = two (place a s) b JN (λ x y. refl) e
-  placed-as (d.SU a b) s e = two (place a s) b SU (λ x y. refl) e
-  placed-as (d.UF t) s e = one (place t s) UF (λ x. refl) e
-  placed-as (d.RD t) s e = one (place t s) RD (λ x. refl) e
-  placed-as (d.IN t) s e = one (place t s) IN (λ x. refl) e
-  placed-as (d.TS ps t) s e = two (place-pairs ps s) t TS (λ x y. refl) e
-  placed-as (d.NC loc k t) s e = one (place t s) (NC loc k) (λ x. refl) e
-  placed-as (d.BC loc t) s e = one (place t s) (BC loc) (λ x. refl) e
-  placed-as (d.SC loc t) s e = one (place t s) (SC loc) (λ x. refl) e
+  placed-as (d.JN a b) s e = two (build a s) b JN (λ x y. refl) e
+  placed-as (d.SU a b) s e = two (build a s) b SU (λ x y. refl) e
+  placed-as (d.UF t) s e = one (build t s) UF (λ x. refl) e
+  placed-as (d.RD t) s e = one (build t s) RD (λ x. refl) e
+  placed-as (d.IN t) s e = one (build t s) IN (λ x. refl) e
+  placed-as (d.TS ps t) s e = two (build-pairs ps s) t TS (λ x y. refl) e
+  placed-as (d.NC loc k t) s e = one (build t s) (NC loc k) (λ x. refl) e
+  placed-as (d.BC loc t) s e = one (build t s) (BC loc) (λ x. refl) e
+  placed-as (d.SC loc t) s e = one (build t s) (SC loc) (λ x. refl) e
   placed-as d.SV s e = parts s SV e
 
 -- the record that is placed as n

@@ -12,7 +12,7 @@ use lib.ListN.{length, getD, set, length-set, replicate, length-replicate}
 use lib.Seq.{getD-set-same, getD-set-other}
 use Rattle.definition.specs.Types as d
 use Rattle.definition.specs.Types.{State, Struct, Spanned, Type-value}
-use Rattle.definition.specs.Store.{count, node, with-args, value, spanned, all-of}
+use Rattle.definition.specs.Store.{count, node, with-args, type-at, spanned, all-of}
 use Rattle.definition.specs.Subst.{parts, unfold-type, goes-on-to, ends-in, reaches-itself}
 use Rattle.table.specs.State.{shape-of, node-of, seen, Lay}
 use Rattle.table.specs.declared.Used.{Used}
@@ -29,7 +29,7 @@ use Rattle.subst.proofs.Occurs.{Low, below-low, zero-at}
 
 -- ---- where reading goes on
 
-goes-spanned : (s : State) (t x : ℕ) → spanned s x ≡ unfold-type s (spanned s t) → parts (value s x) ≡ goes-on-to s t
+goes-spanned : (s : State) (t x : ℕ) → spanned s x ≡ unfold-type s (spanned s t) → parts (type-at s x) ≡ goes-on-to s t
 unfolding goes-on-to spanned
 goes-spanned s t x e = ap (λ (y : Spanned Type-value). parts (y .value)) e
 

@@ -10,7 +10,7 @@ use native.Mathlib.Omega.{arith}
 use lib.ListN.{getD}
 use Rattle.definition.specs.Types as d
 use Rattle.definition.specs.Types.{State, Struct, ok, err, RecursiveType}
-use Rattle.definition.specs.Store.{count, taken, node, args-at, with-args, value, loc-of, get, num-loc, insert, with-structs}
+use Rattle.definition.specs.Store.{count, taken, node, args-at, with-args, type-at, loc-of, get, num-loc, insert, with-structs}
 use Rattle.definition.specs.Subst.{as-var, is-anything, parts, next-in, next-of, forward, forward-tvar}
 use Rattle.definition.specs.Join.{is-num-var, num-shape, check-num-tvar′, check-num-tvar, used, join-bind-tvar}
 use Rattle.table.specs.Rows.{node-table, var-table, places}
@@ -46,15 +46,15 @@ pub inside-seen : (w : List ℕ) (u : Used) (ds : List Struct) → Lay w u → I
 unfolding seen with-structs node get
 inside-seen w u ds h = record { parts = h .inside .parts; bindings = h .inside .bindings }
 
-pub value-is : (s : State) (t : ℕ) (n : Node) → node-of n ≡ node s t → with-args s (shape-of (n .shape)) ≡ value s t
-unfolding value
+pub value-is : (s : State) (t : ℕ) (n : Node) → node-of n ≡ node s t → with-args s (shape-of (n .shape)) ≡ type-at s t
+unfolding type-at
 value-is s t n e = ap (λ (x : d.Node). with-args s (x .value)) e
 
 pub loc-is : (s : State) (t : ℕ) (n : Node) → node-of n ≡ node s t → n .loc ≡ loc-of s t
 unfolding loc-of
 loc-is s t n e = ap (λ (x : d.Node). x .loc) e
 
-pub var-of : (s : State) (t : ℕ) (n : Node) (r : Next) → node-of n ≡ node s t → ((st : State) → next r ≡ as-var (with-args st (shape-of (n .shape)))) → as-var (value s t) ≡ next r
+pub var-of : (s : State) (t : ℕ) (n : Node) (r : Next) → node-of n ≡ node s t → ((st : State) → next r ≡ as-var (with-args st (shape-of (n .shape)))) → as-var (type-at s t) ≡ next r
 var-of s t n r e f = sym (f s ∙ ap as-var (value-is s t n e))
 
 -- ---- the chain
@@ -67,7 +67,7 @@ pub next-none : (s : State) (v : ℕ) (f : Found) → found f ≡ get s v → f 
 unfolding next-in
 next-none s v f e z = next-found s v f none e (ap found z)
 
-pub next-some : (s : State) (v t : ℕ) (f : Found) → found f ≡ get s v → f ≡ Just t → as-var (value s t) ≡ next-of s v
+pub next-some : (s : State) (v t : ℕ) (f : Found) → found f ≡ get s v → f ≡ Just t → as-var (type-at s t) ≡ next-of s v
 unfolding next-in
 next-some s v t f e z = next-found s v f (some t) e (ap found z)
 
@@ -117,23 +117,23 @@ unfolding is-num-var
 is-num s v f e o z = ap (λ (o : Option ℕ). elim o [ none ↦ false | some loc ↦ true ]) (sym e ∙ z)
 
 module _ (s : State) (ty : ℕ) where
-  pub num-plain : as-var (value s ty) ≡ none → num-shape (value s ty) ≡ check-num-tvar′ s ty
+  pub num-plain : as-var (type-at s ty) ≡ none → num-shape (type-at s ty) ≡ check-num-tvar′ s ty
   unfolding check-num-tvar′
   num-plain e = rw (e, check-num-tvar′) refl
 
-  module _ (v : ℕ) (e : as-var (value s ty) ≡ some v) where
+  module _ (v : ℕ) (e : as-var (type-at s ty) ≡ some v) where
     open-end : get s (forward-tvar s v) ≡ none → is-num-var s (forward-tvar s v) ≡ check-num-tvar′ s ty
     unfolding check-num-tvar′
     open-end g = rw (e, check-num-tvar′) (rw (g, check-num-tvar′) refl)
 
-    bound-end : (t : ℕ) → get s (forward-tvar s v) ≡ some t → num-shape (value s t) ≡ check-num-tvar′ s ty
+    bound-end : (t : ℕ) → get s (forward-tvar s v) ≡ some t → num-shape (type-at s t) ≡ check-num-tvar′ s ty
     unfolding check-num-tvar′
     bound-end t g = rw (e, check-num-tvar′) (rw (g, check-num-tvar′) refl)
 
     pub num-open : (last : ℕ) → last ≡ forward-tvar s v → get s last ≡ none → is-num-var s last ≡ check-num-tvar′ s ty
     num-open last l g = ap (is-num-var s) l ∙ open-end (sym (ap (get s) l) ∙ g)
 
-    pub num-bound : (last t : ℕ) → last ≡ forward-tvar s v → get s last ≡ some t → num-shape (value s t) ≡ check-num-tvar′ s ty
+    pub num-bound : (last t : ℕ) → last ≡ forward-tvar s v → get s last ≡ some t → num-shape (type-at s t) ≡ check-num-tvar′ s ty
     num-bound last t l g = bound-end t (sym (ap (get s) l) ∙ g)
 
   pub num-marked : (v : ℕ) → is-num-var s v ≡ true → check-num-tvar′ s ty ≡ check-num-tvar s v ty
@@ -157,11 +157,11 @@ module _ (s : State) (loc tvar ty : ℕ) where
     bind-used o = rw (c, o) refl
 
     module _ (o : used (suc ty) s tvar ty ≡ false) where
-      bind-anything : is-anything (value s ty) ≡ true → ok (s, true) ≡ join-bind-tvar s loc tvar ty
+      bind-anything : is-anything (type-at s ty) ≡ true → ok (s, true) ≡ join-bind-tvar s loc tvar ty
       unfolding join-bind-tvar
       bind-anything a = rw (c, o, a) refl
 
-      bind-stored : is-anything (value s ty) ≡ false → ok (insert s tvar ty, true) ≡ join-bind-tvar s loc tvar ty
+      bind-stored : is-anything (type-at s ty) ≡ false → ok (insert s tvar ty, true) ≡ join-bind-tvar s loc tvar ty
       unfolding join-bind-tvar
       bind-stored a = rw (c, o, a) refl
 
@@ -189,7 +189,7 @@ module _ (w : List ℕ) (u : Used) (tvar ty : ℕ) where
 
     module _ (o : Bool) (e : All w u (λ s. o ≡ used (suc ty) s tvar ty)) (ot : o ≡ false) (n : Node) (g : All w u (λ s. node-of n ≡ node s ty)) (a : Bool)
         (i : (s : State) → a ≡ is-anything (with-args s (shape-of (n .shape)))) where
-      is-any : (ds : List Struct) → is-anything (value (seen w u ds) ty) ≡ a
+      is-any : (ds : List Struct) → is-anything (type-at (seen w u ds) ty) ≡ a
       is-any ds = sym (i (seen w u ds) ∙ ap is-anything (value-is (seen w u ds) ty n (g ds)))
 
       pub binds-anything : Lay w u → a ≡ true → Binds w u w Bound tvar ty

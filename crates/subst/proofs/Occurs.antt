@@ -10,7 +10,7 @@ use lib.ListN.{length, getD, set, length-take, length-drop, length-set, replicat
 use lib.Seq.{getD-take, getD-drop, getD-set-other}
 use Rattle.definition.specs.Types as d
 use Rattle.definition.specs.Types.{State, Struct, Places}
-use Rattle.definition.specs.Store.{count, node, args-at, with-args, value, any-of}
+use Rattle.definition.specs.Store.{count, node, args-at, with-args, type-at, any-of}
 use Rattle.definition.specs.Subst.{parts}
 use Rattle.definition.specs.Join.{is-var, used}
 use Rattle.table.specs.State.{shape-of, node-of, seen, Lay, Below, Inside}
@@ -48,8 +48,8 @@ module _ (s : State) (inside : Inside s) (t : ℕ) (h : t < count s) where
   node-low : Low s t (node s t .value)
   node-low = below-low s t (node s t .value) (inside .parts t h)
 
-  pub parts-low : (i : ℕ) → i < length (parts (value s t)) → getD (parts (value s t)) i 0 < t
-  unfolding value
+  pub parts-low : (i : ℕ) → i < length (parts (type-at s t)) → getD (parts (type-at s t)) i 0 < t
+  unfolding type-at
   parts-low i p = node-low .low i (rw (node-low .many) at p)
 
 -- ---- where a variable is used
@@ -60,28 +60,28 @@ module _ (s : State) (inside : Inside s) (v : ℕ) where
   used-levels zero m t h i j = absurd (not-suc-le-zero i)
   used-levels (suc n) zero t h i j = absurd (not-suc-le-zero j)
   used-levels (suc n) (suc m) t h i j =
-      ap (λ (b : Bool). is-var v (value s t) || b)
-      (any-same (λ p. used n s v p) (λ p. used m s v p) (parts (value s t)) (λ k l.
-      let q : getD (parts (value s t)) k 0 < t = parts-low s inside t h k l in
-      used-levels n m (getD (parts (value s t)) k 0) (omega arith) (omega arith) (omega arith)))
+      ap (λ (b : Bool). is-var v (type-at s t) || b)
+      (any-same (λ p. used n s v p) (λ p. used m s v p) (parts (type-at s t)) (λ k l.
+      let q : getD (parts (type-at s t)) k 0 < t = parts-low s inside t h k l in
+      used-levels n m (getD (parts (type-at s t)) k 0) (omega arith) (omega arith) (omega arith)))
 
   module _ (t : ℕ) (h : t < count s) where
-    used-is : used (suc t) s v t ≡ (is-var v (value s t) || any-of (λ p. used (suc p) s v p) (parts (value s t)))
+    used-is : used (suc t) s v t ≡ (is-var v (type-at s t) || any-of (λ p. used (suc p) s v p) (parts (type-at s t)))
     unfolding used
     used-is =
-        ap (λ (b : Bool). is-var v (value s t) || b)
-        (any-same (λ p. used t s v p) (λ p. used (suc p) s v p) (parts (value s t)) (λ k l.
-        let q : getD (parts (value s t)) k 0 < t = parts-low s inside t h k l in
-        used-levels t (suc (getD (parts (value s t)) k 0)) (getD (parts (value s t)) k 0) (omega arith) q (omega arith)))
+        ap (λ (b : Bool). is-var v (type-at s t) || b)
+        (any-same (λ p. used t s v p) (λ p. used (suc p) s v p) (parts (type-at s t)) (λ k l.
+        let q : getD (parts (type-at s t)) k 0 < t = parts-low s inside t h k l in
+        used-levels t (suc (getD (parts (type-at s t)) k 0)) (getD (parts (type-at s t)) k 0) (omega arith) q (omega arith)))
 
-    used-self : is-var v (value s t) ≡ true → used (suc t) s v t ≡ true
+    used-self : is-var v (type-at s t) ≡ true → used (suc t) s v t ≡ true
     used-self e = used-is ∙ rw e refl
 
-    used-part : (i : ℕ) → i < length (parts (value s t)) → used (suc (getD (parts (value s t)) i 0)) s v (getD (parts (value s t)) i 0) ≡ true → used (suc t) s v t ≡ true
-    used-part i l e = used-is ∙ ap (λ (b : Bool). is-var v (value s t) || b) (any-one (λ p. used (suc p) s v p) (parts (value s t)) i l e) ∙ or-true (is-var v (value s t))
+    used-part : (i : ℕ) → i < length (parts (type-at s t)) → used (suc (getD (parts (type-at s t)) i 0)) s v (getD (parts (type-at s t)) i 0) ≡ true → used (suc t) s v t ≡ true
+    used-part i l e = used-is ∙ ap (λ (b : Bool). is-var v (type-at s t) || b) (any-one (λ p. used (suc p) s v p) (parts (type-at s t)) i l e) ∙ or-true (is-var v (type-at s t))
 
-    used-not : is-var v (value s t) ≡ false → ((i : ℕ) → i < length (parts (value s t)) → used (suc (getD (parts (value s t)) i 0)) s v (getD (parts (value s t)) i 0) ≡ false) → used (suc t) s v t ≡ false
-    used-not e f = used-is ∙ rw e (any-none (λ p. used (suc p) s v p) (parts (value s t)) f)
+    used-not : is-var v (type-at s t) ≡ false → ((i : ℕ) → i < length (parts (type-at s t)) → used (suc (getD (parts (type-at s t)) i 0)) s v (getD (parts (type-at s t)) i 0) ≡ false) → used (suc t) s v t ≡ false
+    used-not e f = used-is ∙ rw e (any-none (λ p. used (suc p) s v p) (parts (type-at s t)) f)
 
 -- ---- the walk at node t
 
@@ -89,7 +89,7 @@ module _ (s : State) (inside : Inside s) (v : ℕ) where
 pub record At (w : List ℕ) (u : Used) (t : ℕ) (sh : Shape) (many : ℕ) : Type 0 where
   pub lay : Lay w u
   pub in-nodes : t < u .nodes
-  pub is : (ds : List Struct) → with-args (seen w u ds) (shape-of sh) ≡ value (seen w u ds) t
+  pub is : (ds : List Struct) → with-args (seen w u ds) (shape-of sh) ≡ type-at (seen w u ds) t
   pub many-is : many ≡ part-count (shape-of sh)
   pub shape : (ds : List Struct) → shape-of sh ≡ node (seen w u ds) t .value
 
@@ -103,12 +103,12 @@ module _ {w : List ℕ} {u : Used} {t : ℕ} {sh : Shape} {many : ℕ} (a : At w
   low : (ds : List Struct) → Low (seen w u ds) t (shape-of sh)
   low ds = rw (a .shape ds) (below-low (seen w u ds) t (node (seen w u ds) t .value) (inside-seen w u ds (a .lay) .parts t (counted ds)))
 
-  pub many-parts : (ds : List Struct) → length (parts (value (seen w u ds) t)) ≡ many
+  pub many-parts : (ds : List Struct) → length (parts (type-at (seen w u ds) t)) ≡ many
   many-parts ds = sym (ap (λ (x : d.Type-value). length (parts x)) (a .is ds)) ∙ low ds .many ∙ sym (a .many-is)
 
   -- part i, as part_at gives it
   module _ (i p : ℕ) (l : i < many) (e : (ds : List Struct) → i < part-count (shape-of sh) → p ≡ getD (parts (with-args (seen w u ds) (shape-of sh))) i 0) where
-    pub part-is : (ds : List Struct) → p ≡ getD (parts (value (seen w u ds) t)) i 0
+    pub part-is : (ds : List Struct) → p ≡ getD (parts (type-at (seen w u ds) t)) i 0
     part-is ds = e ds (rw (a .many-is) at l) ∙ ap (λ (x : d.Type-value). getD (parts x) i 0) (a .is ds)
 
     pub part-low : p < t
@@ -122,8 +122,8 @@ pub record Passed (w : List ℕ) (u : Used) (v t : ℕ) (sh : Shape) (many : ℕ
   pub at : At w u t sh many
   pub le : i ≤ many
   pub clear : Clear w u v marks
-  pub no-self : (ds : List Struct) → is-var v (value (seen w u ds) t) ≡ false
-  pub no-part : (ds : List Struct) (j : ℕ) → j < i → used (suc (getD (parts (value (seen w u ds) t)) j 0)) (seen w u ds) v (getD (parts (value (seen w u ds) t)) j 0) ≡ false
+  pub no-self : (ds : List Struct) → is-var v (type-at (seen w u ds) t) ≡ false
+  pub no-part : (ds : List Struct) (j : ℕ) → j < i → used (suc (getD (parts (type-at (seen w u ds) t)) j 0)) (seen w u ds) v (getD (parts (type-at (seen w u ds) t)) j 0) ≡ false
 
 pub passed-none : (w : List ℕ) (u : Used) (v t : ℕ) (sh : Shape) (many : ℕ) (marks : List ℕ) → At w u t sh many → Clear w u v marks → (b : Bool) → ((s : State) → b ≡ is-var v (with-args s (shape-of sh))) → b ≡ false → Passed w u v t sh many marks 0
 passed-none w u v t sh many marks a c b e z = record {
@@ -144,7 +144,7 @@ module _ {w : List ℕ} {u : Used} {v t : ℕ} {sh : Shape} {many : ℕ} {marks 
 
   module _ (p : ℕ) (l : i < many) (e : (ds : List Struct) → i < part-count (shape-of sh) → p ≡ getD (parts (with-args (seen w u ds) (shape-of sh))) i 0)
       (b : Bool) (f : (ds : List Struct) → b ≡ used (suc p) (seen w u ds) v p) where
-    met : (ds : List Struct) → used (suc (getD (parts (value (seen w u ds) t)) i 0)) (seen w u ds) v (getD (parts (value (seen w u ds) t)) i 0) ≡ b
+    met : (ds : List Struct) → used (suc (getD (parts (type-at (seen w u ds) t)) i 0)) (seen w u ds) v (getD (parts (type-at (seen w u ds) t)) i 0) ≡ b
     met ds = sym (f ds ∙ ap (λ (q : ℕ). used (suc q) (seen w u ds) v q) (part-is (h .at) i p l e ds))
 
     pub part-used : b ≡ true → (ds : List Struct) → true ≡ used (suc t) (seen w u ds) v t
@@ -153,7 +153,7 @@ module _ {w : List ℕ} {u : Used} {v t : ℕ} {sh : Shape} {many : ℕ} {marks 
     pub passed-more : (marks′ : List ℕ) → Clear w u v marks′ → b ≡ false → Passed w u v t sh many marks′ (i + 1)
     passed-more marks′ c z = record { at = h .at; le = omega arith; clear = c; no-self = h .no-self; no-part = λ ds j k. one-more ds j k (ℕ-discrete j i) }
       where
-        one-more : (ds : List Struct) (j : ℕ) → j < i + 1 → Dec (j ≡ i) → used (suc (getD (parts (value (seen w u ds) t)) j 0)) (seen w u ds) v (getD (parts (value (seen w u ds) t)) j 0) ≡ false
+        one-more : (ds : List Struct) (j : ℕ) → j < i + 1 → Dec (j ≡ i) → used (suc (getD (parts (type-at (seen w u ds) t)) j 0)) (seen w u ds) v (getD (parts (type-at (seen w u ds) t)) j 0) ≡ false
         one-more ds j k (yes d) = rw d (met ds ∙ z)
         one-more ds j k (no d) = h .no-part ds j (omega arith)
 

@@ -12,7 +12,7 @@ use lib.ListN.{length, getD, set, take, drop, length-set, length-take, length-dr
 use lib.Seq.{take-append-le, drop-append-le, drop-cons, take-suc-set, getD-take, getD-set-same, getD-set-other}
 use Rattle.definition.specs.Types as d
 use Rattle.definition.specs.Types.{State, Struct, Places, Result, ok, err, refused, _>>=_}
-use Rattle.definition.specs.Store.{count, node, nowhere, args-at, with-args, value, loc-of, get, sp, map-types, with-structs}
+use Rattle.definition.specs.Store.{count, node, nowhere, args-at, with-args, type-at, loc-of, get, sp, map-types, with-structs}
 use Rattle.definition.specs.Subst.{as-var, parts, forward-tvar, reaches-itself, ready-value, ready, ready-tvars}
 use Rattle.names.specs.Names.{mark-of, name-of}
 use Rattle.names.specs.declared.TVar.{TVar}
@@ -137,12 +137,12 @@ module _ (w : List ℕ) (u : Used) (sh : Shape) (v last : TVar) (e : sh ≡ VarS
     inside = rw (count-seen w u []) at (inside-seen w u [] h .bindings (last .0) t (sym (g []) ∙ ap found z));
   }
 
-one-level : (left : ℕ) (s : State) (ty : ℕ) → 0 < left → ready-value (λ s t. ready (left - 1) s t) s ty (loc-of s ty) (value s ty) ≡ ready left s ty
+one-level : (left : ℕ) (s : State) (ty : ℕ) → 0 < left → ready-value (λ s t. ready (left - 1) s t) s ty (loc-of s ty) (type-at s ty) ≡ ready left s ty
 unfolding ready
 one-level zero s ty p = absurd (not-suc-le-zero p)
 one-level (suc n) s ty p =
     let e : suc n - 1 ≡ n = omega arith in
-    ap (λ (k : ℕ). ready-value (λ s t. ready k s t) s ty (loc-of s ty) (value s ty)) e
+    ap (λ (k : ℕ). ready-value (λ s t. ready k s t) s ty (loc-of s ty) (type-at s ty)) e
 
 pub nodes-count : (w : List ℕ) (u : Used) → length (view w u .nodes) ≡ u .nodes
 unfolding view
@@ -207,7 +207,7 @@ module _ {w : List ℕ} {u : Used} {t calls at left : ℕ} (c : Coming w u t cal
 
 module _ (w : List ℕ) (u : Used) (t : ℕ) (h : Lay w u) (i : t < u .nodes) (n : Node) (e : (ds : List Struct) → node-of n ≡ node (seen w u ds) t) where
   pub part-of : (j r : ℕ) → ((ds : List Struct) → j < part-count (shape-of (n .shape)) → r ≡ getD (parts (with-args (seen w u ds) (shape-of (n .shape)))) j 0)
-      → (ds : List Struct) → j < length (parts (value (seen w u ds) t)) → r ≡ getD (parts (value (seen w u ds) t)) j 0
+      → (ds : List Struct) → j < length (parts (type-at (seen w u ds) t)) → r ≡ getD (parts (type-at (seen w u ds) t)) j 0
   part-of j r f ds l =
       let a = at-node w u t (part-count (shape-of (n .shape))) n h i e refl in
       part-is a j r (rw (many-parts a ds) at l) f ds
@@ -279,13 +279,13 @@ module _ (w₀ : List ℕ) (u : Used) (w : List ℕ) (cur : Used) (t : ℕ) (h :
   unfolding seen with-structs
   seen-grown ds = record { nodes = g .nodes; args = g .args; vars = g .vars; constraints = g .constraints; structs = record { rest = []; is = sym (append-nil ds) } }
 
-  pub value-kept : (ds : List Struct) → value (seen w cur ds) t ≡ value (seen w₀ u ds) t
-  unfolding value
+  pub value-kept : (ds : List Struct) → type-at (seen w cur ds) t ≡ type-at (seen w₀ u ds) t
+  unfolding type-at
   value-kept ds =
       ap (λ (x : d.Node). with-args (seen w cur ds) (x .value)) (node-kept ds)
       ∙ shape-kept t (node (seen w₀ u ds) t .value) (seen-grown ds) (inside-seen w₀ u ds h .parts t (rw (count-seen w₀ u ds) i))
 
-  pub rebuilt-kept : (tys : List ℕ) (ds : List Struct) → rebuilt-at (seen w cur ds) t tys ≡ rebuilt (seen w cur ds) t (loc-of (seen w₀ u ds) t) (value (seen w₀ u ds) t) tys
+  pub rebuilt-kept : (tys : List ℕ) (ds : List Struct) → rebuilt-at (seen w cur ds) t tys ≡ rebuilt (seen w cur ds) t (loc-of (seen w₀ u ds) t) (type-at (seen w₀ u ds) t) tys
   unfolding rebuilt-at
   rebuilt-kept tys ds = ap₂ (λ (l : ℕ) (x : d.Type-value). rebuilt (seen w cur ds) t l x tys) (loc-kept ds) (value-kept ds)
 
@@ -359,11 +359,11 @@ pub record Going (w₀ : List ℕ) (u : Used) (t many left : ℕ) (w tys : List 
   pub few : many ≤ 8
   pub size : length tys ≡ 8
   pub done-parts : Parts-in (cur .nodes) tys i
-  pub is : (ds : List Struct) → onto (take i tys) (map-types (λ s t. ready left s t) (seen w cur ds) (drop i (parts (value (seen w₀ u ds) t))))
-      ≡ map-types (λ s t. ready left s t) (seen w₀ u ds) (parts (value (seen w₀ u ds) t))
+  pub is : (ds : List Struct) → onto (take i tys) (map-types (λ s t. ready left s t) (seen w cur ds) (drop i (parts (type-at (seen w₀ u ds) t))))
+      ≡ map-types (λ s t. ready left s t) (seen w₀ u ds) (parts (type-at (seen w₀ u ds) t))
 
 pub going-start : (w : List ℕ) (u : Used) (t many left : ℕ) (tys : List ℕ) → Lay w u → t < u .nodes → Has-parts w u t many → length tys ≡ 8 → Going w u t many left w tys u 0
-unfolding value
+unfolding type-at
 going-start w u t many left tys h i p z = record {
   start = h;
   in-nodes = i;
@@ -391,11 +391,11 @@ nodes-grow w u w′ u′ g =
 module _ {w₀ : List ℕ} {u : Used} {t many left : ℕ} {w tys : List ℕ} {cur : Used} {i : ℕ} (g : Going w₀ u t many left w tys cur i) where
   -- the parts
   abbrev all : List Struct → List ℕ
-  all ds = parts (value (seen w₀ u ds) t)
+  all ds = parts (type-at (seen w₀ u ds) t)
 
   -- node t, once its parts are ready
   abbrev finish : List Struct → State × List ℕ → Result (State × ℕ)
-  finish ds y = rebuilt (y .0) t (loc-of (seen w₀ u ds) t) (value (seen w₀ u ds) t) (y .1)
+  finish ds y = rebuilt (y .0) t (loc-of (seen w₀ u ds) t) (type-at (seen w₀ u ds) t) (y .1)
 
   pub going-node : t < cur .nodes
   going-node = let a = nodes-grow w₀ u w cur (g .grown) in let b = g .in-nodes in omega arith
@@ -434,7 +434,7 @@ module _ {w₀ : List ℕ} {u : Used} {t many left : ℕ} {w tys : List ℕ} {cu
       none-left : (ds : List Struct) → drop i (all ds) ≡ []
       none-left ds = drop-of-length-le (all ds) {i = i} (rw (g .has ds) l)
 
-  module _ (p : ℕ) (l : i < many) (e : (ds : List Struct) → i < length (parts (value (seen w cur ds) t)) → p ≡ getD (parts (value (seen w cur ds) t)) i 0) where
+  module _ (p : ℕ) (l : i < many) (e : (ds : List Struct) → i < length (parts (type-at (seen w cur ds) t)) → p ≡ getD (parts (type-at (seen w cur ds) t)) i 0) where
     part : (ds : List Struct) → p ≡ getD (all ds) i 0
     part ds = e ds (rw (going-has ds) l) ∙ ap (λ (x : d.Type-value). getD (parts x) i 0) (value-kept w₀ u w cur t (g .start) (g .in-nodes) (g .grown) ds)
 
@@ -528,13 +528,13 @@ module _ (w : List ℕ) (u : Used) (t calls : ℕ) (h : Lay w u) (r : Landing) (
     pub lands-parts : (w′ : List ℕ) (a : Step) → After w u w′ a (λ s. by-parts-at (λ s t. ready left s t) s x) → After w u w′ a (λ s. ready calls s t)
     lands-parts w′ a f = after-at w u w′ a _ _ (lands-at (PartsL x many left) z) f
 
-    bare : (s : State) (l : List ℕ) → parts (value s x) ≡ l → length l ≡ 0 → rebuilt-at s x [] ≡ by-parts-at (λ s t. ready left s t) s x
+    bare : (s : State) (l : List ℕ) → parts (type-at s x) ≡ l → length l ≡ 0 → rebuilt-at s x [] ≡ by-parts-at (λ s t. ready left s t) s x
     unfolding rebuilt-at by-parts-at by-parts map-types _>>=_
     bare s [] e m = sym (rw (e, map-types) refl)
     bare s (y ∷ ys) e m = absurd (omega arith)
 
     pub lands-bare : many ≡ 0 → (w′ : List ℕ) (a : Step) → After w u w′ a (λ s. rebuilt-at s x []) → After w u w′ a (λ s. ready calls s t)
-    lands-bare m w′ a f = lands-parts w′ a (after-at w u w′ a _ _ (λ ds. bare (seen w u ds) (parts (value (seen w u ds) x)) refl (lands-in .1 .1 ds ∙ m)) f)
+    lands-bare m w′ a f = lands-parts w′ a (after-at w u w′ a _ _ (λ ds. bare (seen w u ds) (parts (type-at (seen w u ds) x)) refl (lands-in .1 .1 ds ∙ m)) f)
 
 -- ---- the whole run
 

@@ -6,7 +6,7 @@ use Prim.Native.Nat.{ℕ, zero, suc, _-_, _<_, _≤_}
 use native.Mathlib.Nat.{not-suc-le-zero}
 use native.Mathlib.Numerals.{sub-one}
 use Rattle.definition.specs.Types.{State, Struct}
-use Rattle.definition.specs.Store.{node, value, loc-of, spanned, get, with-args}
+use Rattle.definition.specs.Store.{node, type-at, loc-of, spanned, get, with-args}
 use Rattle.definition.specs.Subst.{as-var, next-of, forward-tvar, unfold-var, unfold-type, mark-one, mark-chain, set-num-var}
 use Rattle.table.specs.State.{found, shape-of, node-of, view, seen, Lay, Grown, Stored}
 use Rattle.table.specs.declared.Used.{Used}
@@ -40,11 +40,11 @@ module _ (w : List ℕ) (u : Used) (loc v last : ℕ) (f : Found) (l : (ds : Lis
     inside = rw (count-seen w u []) at (inside-seen w u [] h .bindings last t (sym (g []) ∙ ap found z));
   }
 
-type-plain : (s : State) (t : ℕ) → as-var (value s t) ≡ none → spanned s t ≡ unfold-type s (spanned s t)
+type-plain : (s : State) (t : ℕ) → as-var (type-at s t) ≡ none → spanned s t ≡ unfold-type s (spanned s t)
 unfolding unfold-type spanned
 type-plain s t e = rw (e, unfold-type) refl
 
-type-var : (s : State) (t v : ℕ) → as-var (value s t) ≡ some v → unfold-type s (var-at (loc-of s t) v) ≡ unfold-type s (spanned s t)
+type-var : (s : State) (t v : ℕ) → as-var (type-at s t) ≡ some v → unfold-type s (var-at (loc-of s t) v) ≡ unfold-type s (spanned s t)
 unfolding unfold-type spanned as-var
 type-var s t v e = rw (e, unfold-type) refl
 

@@ -5,7 +5,7 @@ use Prim.Native.Nat.{ℕ, _<_}
 use lib.ListN.{length, getD}
 use Rattle.definition.specs.Types as d
 use Rattle.definition.specs.Types.{State, Struct, Result, ok, refused, runs-into-itself, _>>=_}
-use Rattle.definition.specs.Store.{value, loc-of, with-args, sp, map-types}
+use Rattle.definition.specs.Store.{type-at, loc-of, with-args, sp, map-types}
 use Rattle.definition.specs.Subst.{parts, ready-value, ready}
 use Rattle.table.specs.State.{shape-of, seen}
 use Rattle.table.specs.declared.Used.{Used}
@@ -27,18 +27,18 @@ rebuilt s ty loc d.Anything tys = ok (s, ty)
 rebuilt s ty loc d.UnresolvedError tys = ok (s, ty)
 
 unfoldable pub rebuilt-at : State → ℕ → List ℕ → Result (State × ℕ)
-rebuilt-at s ty tys = rebuilt s ty (loc-of s ty) (value s ty) tys
+rebuilt-at s ty tys = rebuilt s ty (loc-of s ty) (type-at s ty) tys
 
 -- .. its parts made ready first, one after the other
 unfoldable pub by-parts : (State → ℕ → Result (State × ℕ)) → State → ℕ → ℕ → d.Type-value → Result (State × ℕ)
 by-parts f s ty loc x = map-types f s (parts x) >>= (λ y. rebuilt (y .0) ty loc x (y .1))
 
 unfoldable pub by-parts-at : (State → ℕ → Result (State × ℕ)) → State → ℕ → Result (State × ℕ)
-by-parts-at f s ty = by-parts f s ty (loc-of s ty) (value s ty)
+by-parts-at f s ty = by-parts f s ty (loc-of s ty) (type-at s ty)
 
 -- node t has so many parts
 abbrev pub Has-parts : List ℕ → Used → ℕ → ℕ → Type 0
-Has-parts w u t many = (ds : List Struct) → length (parts (value (seen w u ds) t)) ≡ many
+Has-parts w u t many = (ds : List Struct) → length (parts (type-at (seen w u ds) t)) ≡ many
 
 -- one level of ready_tvars, of the type ty
 abbrev pub onward-of : (State → ℕ → Result (State × ℕ)) → State → ℕ → ℕ → d.Type-value → Onward → Result (State × ℕ)

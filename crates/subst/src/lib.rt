@@ -6,7 +6,7 @@ ghost use mathlib.Core.List.{List, []};
 ghost use Prim.Native.Nat.{ℕ, suc, _<_, _≤_};
 ghost use lib.ListN.{length, getD, take};
 ghost use Rattle.definition.specs.Types as d;
-ghost use Rattle.definition.specs.Store.{value, with-args, spanned};
+ghost use Rattle.definition.specs.Store.{type-at, with-args, spanned};
 ghost use Rattle.definition.specs.Subst.{as-var, is-anything, parts, next-of, forward-tvar, set-num-var, reaches-itself, ready, ready-tvars};
 ghost use Rattle.definition.specs.Join.{is-numeric, is-num-var, num-shape, check-num-tvar′, check-num-tvar, is-var, used};
 ghost use Rattle.names.specs.Names.{name-of};
@@ -259,7 +259,7 @@ fn num_shape(s: Shape) -> bool
 
 fn num_node(w: &[u32], u: Used, t: u32) -> bool
     requires { ⌜ Lay (now w) u ⌝ }
-    ensures { λ r. ⌜ ((ds : List d.Struct) → r ≡ num-shape (value (seen (now (w .entry)) u ds) t)) ⌝ }
+    ensures { λ r. ⌜ ((ds : List d.Struct) → r ≡ num-shape (type-at (seen (now (w .entry)) u ds) t)) ⌝ }
 {
     let n = table::node_at(w, u, t);
     let s = n.shape;
@@ -541,7 +541,7 @@ fn land(w: &[u32], u: Used, t: u32, left: u32) -> Landing
 // Part i of node t.
 fn part_of(w: &[u32], u: Used, t: u32, i: u32) -> u32
     requires { ⌜ Lay (now w) u × (t < u .nodes) ⌝ }
-    ensures { λ r. ⌜ ((ds : List d.Struct) → i < length (parts (value (seen (now (w .entry)) u ds) t)) → r ≡ getD (parts (value (seen (now (w .entry)) u ds) t)) i 0) ⌝ }
+    ensures { λ r. ⌜ ((ds : List d.Struct) → i < length (parts (type-at (seen (now (w .entry)) u ds) t)) → r ≡ getD (parts (type-at (seen (now (w .entry)) u ds) t)) i 0) ⌝ }
 {
     let n = table::node_at(w, u, t);
     let s = n.shape;

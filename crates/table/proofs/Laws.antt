@@ -6,7 +6,7 @@ use lib.ListN.{getD, drop}
 use lib.Seq.{getD-take, getD-drop}
 use Rattle.definition.specs.Types as d
 use Rattle.definition.specs.Types.{Struct}
-use Rattle.definition.specs.Store.{node, value, loc-of, args-at, with-args, with-structs}
+use Rattle.definition.specs.Store.{node, type-at, loc-of, args-at, with-args, with-structs}
 use Rattle.table.specs.Rows.{places}
 use Rattle.table.specs.State.{view, seen, Lay, Below, node-of, shape-of}
 use Rattle.table.specs.declared.Used.{Used}
@@ -14,8 +14,8 @@ use Rattle.table.specs.declared.Node.{Node}
 use Rattle.table.proofs.Pushed.{count-view}
 
 module _ (w : List ℕ) (u : Used) (t : ℕ) (n : Node) (is : (ds : List Struct) → node-of n ≡ node (seen w u ds) t) where
-  pub value-seen : (ds : List Struct) → value (seen w u ds) t ≡ with-args (seen w u ds) (shape-of (n .shape))
-  unfolding value
+  pub value-seen : (ds : List Struct) → type-at (seen w u ds) t ≡ with-args (seen w u ds) (shape-of (n .shape))
+  unfolding type-at
   value-seen ds = ap (λ (x : d.Node). with-args (seen w u ds) (x .value)) (sym (is ds))
 
   pub loc-seen : (ds : List Struct) → loc-of (seen w u ds) t ≡ n .loc

@@ -9,7 +9,7 @@ use lib.ListN.{length, getD, take}
 use lib.Seq.{getD-take, getD-drop}
 use Rattle.definition.specs.Types as d
 use Rattle.definition.specs.Types.{State, Struct, Result, ok, refused, no-argument, runs-into-itself, _>>=_}
-use Rattle.definition.specs.Store.{count, node, loc-of, value, with-args, args-at, sp, map-types, with-structs}
+use Rattle.definition.specs.Store.{count, node, loc-of, type-at, with-args, args-at, sp, map-types, with-structs}
 use Rattle.definition.specs.TParams.{TParamSubst, arg-of, subst-value, subst-down, subst-tparams}
 use Rattle.names.specs.Names.{mark-of, name-of}
 use Rattle.names.specs.declared.Mark.{Mark}
@@ -43,7 +43,7 @@ down-zero w u ps left ty r lay z e = rw (z, e) (after-now w u Itself (λ s. subs
 module _ (w : List ℕ) (u : Used) (ps : TParamSubst) (left ty : ℕ) (nd : Node) (lay : Lay w u) (left-some : left ≡ 0 → ⊥) (node-is : (ds : List Struct) → node-of nd ≡ node (seen w u ds) ty) where
   down-is : (sh : Shape) → nd .shape ≡ sh → (ds : List Struct)
       → subst-value (subst-down (left - 1) ps) ps (seen w u ds) ty (nd .loc) (with-args (seen w u ds) (shape-of sh)) ≡ subst-down left ps (seen w u ds) ty
-  unfolding subst-down loc-of value
+  unfolding subst-down loc-of type-at
   down-is sh e ds =
       let z : suc (left - 1) ≡ left = omega arith in
       ap (λ (x : Shape). subst-value (subst-down (left - 1) ps) ps (seen w u ds) ty (nd .loc) (with-args (seen w u ds) (shape-of x))) (sym e)

@@ -9,7 +9,7 @@ use lib.Dec.{leb}
 use lib.ListN.{length, getD, length-append}
 use Rattle.definition.specs.Types as d
 use Rattle.definition.specs.Types.{State, Struct}
-use Rattle.definition.specs.Store.{count, node, value, loc-of, with-args, with-structs}
+use Rattle.definition.specs.Store.{count, node, type-at, loc-of, with-args, with-structs}
 use Rattle.definition.specs.Subst.{parts}
 use Rattle.definition.specs.Write.{Bytes, head, write}
 use Rattle.table.specs.Rows.{node-table}
@@ -56,21 +56,21 @@ module _ (w : List ℕ) (u : Used) (t : ℕ) (x : Node) (n : ℕ) (at : At w u t
   below-count : t < count (seen w u ds)
   below-count = rw (count-seen w u ds) (at .below)
 
-  value-is : with-args (seen w u ds) (shape-of (x .shape)) ≡ value (seen w u ds) t
-  unfolding value
+  value-is : with-args (seen w u ds) (shape-of (x .shape)) ≡ type-at (seen w u ds) t
+  unfolding type-at
   value-is = ap (λ (y : d.Node). with-args (seen w u ds) (y .value)) (at .is ds)
 
-  pub head-is : head (x .loc) (value-of (x .shape)) ≡ head (loc-of (seen w u ds) t) (value (seen w u ds) t)
+  pub head-is : head (x .loc) (value-of (x .shape)) ≡ head (loc-of (seen w u ds) t) (type-at (seen w u ds) t)
   unfolding loc-of
-  head-is = sym (head-same (seen w u ds) (x .loc) (x .shape)) ∙ ap (λ (v : d.Type-value). head (x .loc) v) value-is ∙ ap (λ (y : d.Node). head (y .loc) (value (seen w u ds) t)) (at .is ds)
+  head-is = sym (head-same (seen w u ds) (x .loc) (x .shape)) ∙ ap (λ (v : d.Type-value). head (x .loc) v) value-is ∙ ap (λ (y : d.Node). head (y .loc) (type-at (seen w u ds) t)) (at .is ds)
 
   inner : Below (seen w u ds .args) t (shape-of (x .shape))
   inner = subst (λ (y : d.Node). Below (seen w u ds .args) t (y .value)) (sym (at .is ds)) (inside-seen w u ds (at .lay) .parts t below-count)
 
-  pub parts-many : length (parts (value (seen w u ds) t)) ≡ n
+  pub parts-many : length (parts (type-at (seen w u ds) t)) ≡ n
   parts-many = ap (λ (v : d.Type-value). length (parts v)) (sym value-is) ∙ parts-length (seen w u ds) t (shape-of (x .shape)) inner ∙ sym (at .many)
 
-  pub part-is : (p i : ℕ) → (i < part-count (shape-of (x .shape)) → p ≡ getD (parts (with-args (seen w u ds) (shape-of (x .shape)))) i 0) → i < n → p ≡ getD (parts (value (seen w u ds) t)) i 0
+  pub part-is : (p i : ℕ) → (i < part-count (shape-of (x .shape)) → p ≡ getD (parts (with-args (seen w u ds) (shape-of (x .shape)))) i 0) → i < n → p ≡ getD (parts (type-at (seen w u ds) t)) i 0
   part-is p i e l = e (rw (at .many) at l) ∙ ap (λ (v : d.Type-value). getD (parts v) i 0) value-is
 
   pub part-falls : (p i : ℕ) → (i < part-count (shape-of (x .shape)) → p ≡ getD (parts (with-args (seen w u ds) (shape-of (x .shape)))) i 0) → i < n → p < t
@@ -133,11 +133,11 @@ size-more w u t room x n size i p k at s l r part e =
       is = λ ds.
           let v = seen w u ds in
           let f : size ≡ length (front v t i) = exact room size (length (front v t i)) r (s .is ds) in
-          let q : p ≡ getD (parts (value v t)) i 0 = part-is w u t x n at ds p i (part ds) l in
-          let m : front v t (i + 1) ≡ front v t i ++ write v (getD (parts (value v t)) i 0) = front-more v t i (rw (parts-many w u t x n at ds) l) in
+          let q : p ≡ getD (parts (type-at v t)) i 0 = part-is w u t x n at ds p i (part ds) l in
+          let m : front v t (i + 1) ≡ front v t i ++ write v (getD (parts (type-at v t)) i 0) = front-more v t i (rw (parts-many w u t x n at ds) l) in
           let g : size + k ≡ capped room (length (front v t (i + 1))) =
           ap (λ (j : ℕ). size + j) (e ds) ∙ capped-more room size (length (write v p)) r
-          ∙ ap (λ (j : ℕ). capped room j) (ap (λ (j : ℕ). j + length (write v p)) f ∙ ap (λ (j : ℕ). length (front v t i) + length (write v j)) q ∙ sym (length-append (front v t i) (write v (getD (parts (value v t)) i 0))) ∙ ap length (sym m))
+          ∙ ap (λ (j : ℕ). capped room j) (ap (λ (j : ℕ). j + length (write v p)) f ∙ ap (λ (j : ℕ). length (front v t i) + length (write v j)) q ∙ sym (length-append (front v t i) (write v (getD (parts (type-at v t)) i 0))) ∙ ap length (sym m))
           in
           ap (λ (j : ℕ). capped room j) g ∙ capped-again room (length (front v t (i + 1)));
     }
@@ -156,7 +156,7 @@ pub size-all : (w : List ℕ) (u : Used) (t room : ℕ) (x : Node) (n size i : �
     → (ds : List Struct) → size ≡ capped room (length (write (seen w u ds) t))
 size-all w u t room x n size i at s l r ds =
     let v = seen w u ds in
-    let m : length (parts (value v t)) ≡ n = parts-many w u t x n at ds in
+    let m : length (parts (type-at v t)) ≡ n = parts-many w u t x n at ds in
     let f : front v t i ≡ write v t = front-all v (inside-seen w u ds (at .lay)) t i (rw (count-seen w u ds) (at .below)) (omega arith) in
     sym (capped-is room size r) ∙ s .is ds ∙ ap (λ (b : Bytes). capped room (length b)) f
 
@@ -235,7 +235,7 @@ pub write-all : (w : List ℕ) (u : Used) (t : ℕ) (x : Node) (n : ℕ) (buf₀
     → (ds : List Struct) → Wrote buf₀ at (write (seen w u ds) t) buf next
 write-all w u t x n buf₀ at buf next i a r l ds =
     let v = seen w u ds in
-    let m : length (parts (value v t)) ≡ n = parts-many w u t x n a ds in
+    let m : length (parts (type-at v t)) ≡ n = parts-many w u t x n a ds in
     let f : front v t i ≡ write v t = front-all v (inside-seen w u ds (a .lay)) t i (rw (count-seen w u ds) (a .below)) (omega arith) in
     rw (← f) (r .is ds)
 

@@ -8,7 +8,7 @@ use native.Mathlib.Omega.{arith}
 use lib.ListN.{length, getD, take, drop, length-append, length-drop, take-append-drop}
 use lib.Seq.{take-suc, take-all, getD-take, getD-drop, length-take-le}
 use Rattle.definition.specs.Types.{Shape, UnitType, Ref, Param, Apply, Var, Anything, UnresolvedError, Places, State}
-use Rattle.definition.specs.Store.{count, node, value, loc-of, spanned, with-args, args-at}
+use Rattle.definition.specs.Store.{count, node, type-at, loc-of, spanned, with-args, args-at}
 use Rattle.definition.specs.Subst.{parts}
 use Rattle.definition.specs.Write.{Bytes, head, each, write-down, write-spanned, write}
 use Rattle.table.specs.State.{Inside, Below}
@@ -54,8 +54,8 @@ unfolding each
 each-one f t = append-nil (f t)
 
 module _ (s : State) (inside : Inside s) where
-  falls : (t : ℕ) → t < count s → (i : ℕ) → i < length (parts (value s t)) → getD (parts (value s t)) i 0 < t
-  unfolding value
+  falls : (t : ℕ) → t < count s → (i : ℕ) → i < length (parts (type-at s t)) → getD (parts (type-at s t)) i 0 < t
+  unfolding type-at
   falls t l i h =
       let b = inside .parts t l in
       part-below s t (node s t .value) b i (rw (parts-length s t (node s t .value) b) at h)
@@ -65,50 +65,50 @@ module _ (s : State) (inside : Inside s) where
   levels zero m t h i j = absurd (not-suc-le-zero i)
   levels (suc n) zero t h i j = absurd (not-suc-le-zero j)
   levels (suc n) (suc m) t h i j =
-      ap (λ (b : Bytes). head (loc-of s t) (value s t) ++ b)
-      (each-same (λ p. write-down n s (spanned s p)) (λ p. write-down m s (spanned s p)) (parts (value s t))
-      (λ k l. let f : getD (parts (value s t)) k 0 < t = falls t h k l in levels n m (getD (parts (value s t)) k 0) (omega arith) (omega arith) (omega arith)))
+      ap (λ (b : Bytes). head (loc-of s t) (type-at s t) ++ b)
+      (each-same (λ p. write-down n s (spanned s p)) (λ p. write-down m s (spanned s p)) (parts (type-at s t))
+      (λ k l. let f : getD (parts (type-at s t)) k 0 < t = falls t h k l in levels n m (getD (parts (type-at s t)) k 0) (omega arith) (omega arith) (omega arith)))
 
   -- the bytes of a type: tag, location and fields, then those of its parts
-  pub write-is : (t : ℕ) → t < count s → write s t ≡ head (loc-of s t) (value s t) ++ each (write s) (parts (value s t))
+  pub write-is : (t : ℕ) → t < count s → write s t ≡ head (loc-of s t) (type-at s t) ++ each (write s) (parts (type-at s t))
   unfolding write write-spanned write-down spanned
   write-is t h =
-      ap (λ (b : Bytes). head (loc-of s t) (value s t) ++ b)
-      (each-same (λ p. write-down (count s) s (spanned s p)) (write s) (parts (value s t))
-      (λ k l. let f : getD (parts (value s t)) k 0 < t = falls t h k l in levels (count s) (suc (count s)) (getD (parts (value s t)) k 0) (omega arith) (omega arith) (omega arith)))
+      ap (λ (b : Bytes). head (loc-of s t) (type-at s t) ++ b)
+      (each-same (λ p. write-down (count s) s (spanned s p)) (write s) (parts (type-at s t))
+      (λ k l. let f : getD (parts (type-at s t)) k 0 < t = falls t h k l in levels (count s) (suc (count s)) (getD (parts (type-at s t)) k 0) (omega arith) (omega arith) (omega arith)))
 
 -- the bytes of a type up to its part i
 unfoldable pub front : State → ℕ → ℕ → Bytes
-front s t i = head (loc-of s t) (value s t) ++ each (write s) (take i (parts (value s t)))
+front s t i = head (loc-of s t) (type-at s t) ++ each (write s) (take i (parts (type-at s t)))
 
-pub front-none : (s : State) (t : ℕ) → front s t 0 ≡ head (loc-of s t) (value s t)
+pub front-none : (s : State) (t : ℕ) → front s t 0 ≡ head (loc-of s t) (type-at s t)
 unfolding front each
-front-none s t = append-nil (head (loc-of s t) (value s t))
+front-none s t = append-nil (head (loc-of s t) (type-at s t))
 
-pub front-more : (s : State) (t i : ℕ) → i < length (parts (value s t)) → front s t (i + 1) ≡ front s t i ++ write s (getD (parts (value s t)) i 0)
+pub front-more : (s : State) (t i : ℕ) → i < length (parts (type-at s t)) → front s t (i + 1) ≡ front s t i ++ write s (getD (parts (type-at s t)) i 0)
 unfolding front
 front-more s t i h =
-    let one : each (write s) (getD (parts (value s t)) i 0 ∷ []) ≡ write s (getD (parts (value s t)) i 0) = each-one (write s) (getD (parts (value s t)) i 0) in
-    rw (add-one i, take-suc (parts (value s t)) i 0 h, each-append (write s) (take i (parts (value s t))) (getD (parts (value s t)) i 0 ∷ []), one)
-    (sym (append-assoc (head (loc-of s t) (value s t)) (each (write s) (take i (parts (value s t)))) (write s (getD (parts (value s t)) i 0))))
+    let one : each (write s) (getD (parts (type-at s t)) i 0 ∷ []) ≡ write s (getD (parts (type-at s t)) i 0) = each-one (write s) (getD (parts (type-at s t)) i 0) in
+    rw (add-one i, take-suc (parts (type-at s t)) i 0 h, each-append (write s) (take i (parts (type-at s t))) (getD (parts (type-at s t)) i 0 ∷ []), one)
+    (sym (append-assoc (head (loc-of s t) (type-at s t)) (each (write s) (take i (parts (type-at s t)))) (write s (getD (parts (type-at s t)) i 0))))
 
 -- all parts
-pub front-all : (s : State) → Inside s → (t i : ℕ) → t < count s → length (parts (value s t)) ≤ i → front s t i ≡ write s t
+pub front-all : (s : State) → Inside s → (t i : ℕ) → t < count s → length (parts (type-at s t)) ≤ i → front s t i ≡ write s t
 unfolding front
-front-all s inside t i l h = rw (take-all i (parts (value s t)) h) (sym (write-is s inside t l))
+front-all s inside t i l h = rw (take-all i (parts (type-at s t)) h) (sym (write-is s inside t l))
 
 -- what is written up to a part is the front of the whole
 pub front-fits : (s : State) → Inside s → (t i : ℕ) → t < count s → length (front s t i) ≤ length (write s t)
 unfolding front
 front-fits s inside t i l =
-    let ps = parts (value s t) in
-    let e : write s t ≡ (head (loc-of s t) (value s t) ++ each (write s) (take i ps)) ++ each (write s) (drop i ps) =
+    let ps = parts (type-at s t) in
+    let e : write s t ≡ (head (loc-of s t) (type-at s t) ++ each (write s) (take i ps)) ++ each (write s) (drop i ps) =
     write-is s inside t l
-    ∙ ap (λ (k : List ℕ). head (loc-of s t) (value s t) ++ each (write s) k) (sym (take-append-drop i ps))
-    ∙ ap (λ (b : Bytes). head (loc-of s t) (value s t) ++ b) (each-append (write s) (take i ps) (drop i ps))
-    ∙ sym (append-assoc (head (loc-of s t) (value s t)) (each (write s) (take i ps)) (each (write s) (drop i ps)))
+    ∙ ap (λ (k : List ℕ). head (loc-of s t) (type-at s t) ++ each (write s) k) (sym (take-append-drop i ps))
+    ∙ ap (λ (b : Bytes). head (loc-of s t) (type-at s t) ++ b) (each-append (write s) (take i ps) (drop i ps))
+    ∙ sym (append-assoc (head (loc-of s t) (type-at s t)) (each (write s) (take i ps)) (each (write s) (drop i ps)))
     in
-    rw (e, length-append (head (loc-of s t) (value s t) ++ each (write s) (take i ps)) (each (write s) (drop i ps))) (omega arith)
+    rw (e, length-append (head (loc-of s t) (type-at s t) ++ each (write s) (take i ps)) (each (write s) (drop i ps))) (omega arith)
 
 pub one-part : (p i : ℕ) → i < 1 → p ≡ getD (p ∷ []) i 0
 one-part p zero h = refl
