@@ -38,7 +38,14 @@ use table::Used;
 
 // ---- pairs of an id and a type, and a last type
 
-fn paired(part: Part, u: Used, next: usize, many: u32, ids: [TParamID; 8], nodes: [u32; 8]) -> Fields
+fn paired(
+    part: Part,
+    u: Used,
+    next: usize,
+    many: u32,
+    ids: [TParamID; 8],
+    nodes: [u32; 8],
+) -> Fields
     ensures { λ r. ⌜ r ≡ paired-fields part u next many ids nodes ⌝ }
 {
     Fields {

@@ -88,7 +88,14 @@ pub fn run_ready(w: &mut [u32], u: Used, t: u32) -> Ran
 }
 
 // TS: a type with arguments for its parameters.
-pub fn run_tparams(w: &mut [u32], u: Used, ids: [TParamID; 8], args: [u32; 8], n: u32, t: u32) -> Ran
+pub fn run_tparams(
+    w: &mut [u32],
+    u: Used,
+    ids: [TParamID; 8],
+    args: [u32; 8],
+    n: u32,
+    t: u32,
+) -> Ran
     requires { ⌜ Lay (now w) u × ((t < u .nodes) × Parts (u .nodes) args n) ⌝ }
     ensures { λ r. ⌜ Runs Any (now (w .entry)) u (now (w .exit)) r false (subst-in (pairs ids args 0 n) t) (tparams-run (pairs ids args 0 n) t) ⌝ }
 {

@@ -12,10 +12,10 @@ ghost use Rattle.fields.specs.Noded.{SD, noded, Noded-in};
 ghost use Rattle.step.specs.Trusted.{held, Stands, unread, Steps};
 ghost use Rattle.step.specs.Replies.{Begins, Ends, row-for, padded, call-of, place-after};
 use answer::Answer;
-use names::AbilitySet;
-use reader::Part;
 use fields::Fields;
 use marks::RecordMark;
+use names::AbilitySet;
+use reader::Part;
 use table::Found;
 use table::Used;
 

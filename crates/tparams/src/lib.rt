@@ -165,7 +165,14 @@ fn subst_down(
     }
 }
 
-pub fn subst_tparams(w: &mut [u32], u: Used, ids: [TParamID; 8], args: [u32; 8], n: u32, ty: u32) -> Step
+pub fn subst_tparams(
+    w: &mut [u32],
+    u: Used,
+    ids: [TParamID; 8],
+    args: [u32; 8],
+    n: u32,
+    ty: u32,
+) -> Step
     requires { ⌜ Lay (now w) u × ((ty < u .nodes) × Parts (u .nodes) args n) ⌝ }
     ensures { λ r. ⌜ After (now (w .entry)) u (now (w .exit)) r (λ s. subst-tparams (pairs ids args 0 n) s ty) ⌝ }
 {

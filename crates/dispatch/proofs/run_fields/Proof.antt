@@ -1,6 +1,5 @@
 -- `dispatch::run_fields` meets its contract. Assumes nothing.
 use Rattle.dispatch.proofs.Arms.{arm-FV, arm-NV, arm-SN, arm-JN, arm-SU, arm-UF, arm-RD, arm-TS, arm-IN, arm-NC, arm-BC, arm-SC}
-use native.Mathlib.Omega.{arith}
 use borrow.Author.Needs.{needs}
 use Rattle.dispatch.proofs.run_fields.Statement.{statement}
 use Rattle.dispatch.proofs.run_fields.Tie as tie
