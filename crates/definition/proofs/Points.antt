@@ -1,5 +1,4 @@
--- Three points of 01 said by themselves: a record that only looks leaves the state as at entry, a lent record with bytes left over is 5, and of two numeric marks the
--- second one's location is kept. Assumes nothing.
+-- Two points of 01 said by themselves: a record that only looks leaves the state as at entry, and a lent record with bytes left over is 5. Assumes nothing.
 use mathlib.Core.Path.{_≡_, refl}
 use mathlib.Core.Bool.{Bool, true, false}
 use mathlib.Core.List.{List, [], _∷_}
