@@ -1,7 +1,7 @@
 -- `pongiwaru_fresh_job` gives what `engine::fresh_job` does. Assumes nothing.
 use borrow.Author.Needs.{needs}
-use Rattle.exports.proofs.pongiwaru_fresh_job.Statement.{statement}
-use Rattle.exports.proofs.pongiwaru_fresh_job.Tie as tie
+use Rattle.exports.proofs.fresh.pongiwaru_fresh_job.Statement.{statement}
+use Rattle.exports.proofs.fresh.pongiwaru_fresh_job.Tie as tie
 
 fresh-job-requires : tie.Need-fresh-job-requires
 fresh-job-requires c κs = search needs
