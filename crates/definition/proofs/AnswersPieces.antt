@@ -5,7 +5,7 @@ use mathlib.Core.List.{List, [], _∷_, _++_}
 use lib.ListN.{replicate}
 use Rattle.definition.specs.Types.{fresh}
 use Rattle.definition.specs.Write.{Bytes}
-use Rattle.definition.proofs.Piecewise.{Piece, next-lines}
+use Rattle.definition.specs.Pieces.{Piece, next-lines}
 use Rattle.definition.proofs.Computed.{log-of}
 use Rattle.definition.proofs.Spelling.{text, unit, param, u8, bool, list, FV, JN, UF}
 

@@ -60,7 +60,6 @@ pub mod Decimal
 pub mod NumericCheck
 pub mod NoFailIn
 pub mod Stream
-pub mod Piecewise
 pub mod Pieces
 pub mod Points
 pub mod Erase

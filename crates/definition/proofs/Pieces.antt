@@ -13,7 +13,7 @@ use Rattle.definition.specs.Record.{Record, max-record, hand-back, read-
 use Rattle.definition.specs.Sound.{sound}
 use Rattle.definition.specs.Step.{run, Answer, refusal, answer, max-buffer, usable, streamed, step-stream}
 use Rattle.definition.specs.Job.{Entry, ends-job, job-from, job-log, digits, decimal, hexadecimal, payload-text, line, lines, joinlog}
-use Rattle.definition.proofs.Piecewise.{Piece, max-line, max-place, takes-on, halt, after-line, next-from, next-lines}
+use Rattle.definition.specs.Pieces.{Piece, max-line, max-place, takes-on, halt, after-line, next-from, next-lines}
 use Rattle.definition.proofs.Decimal.{digits-same}
 use Rattle.definition.proofs.Facts.{and-l, test}
 use Rattle.definition.proofs.Soundness.{and, le-test, lt-test}

@@ -13,7 +13,7 @@ use Rattle.definition.specs.Sound.{sound}
 use Rattle.definition.specs.Step as step
 use Rattle.definition.specs.Step.{step-stream, max-buffer}
 use Rattle.definition.specs.Job.{ends-job, line}
-use Rattle.definition.proofs.Piecewise.{Piece, max-line, max-place, takes-on, halt, after-line, next-lines}
+use Rattle.definition.specs.Pieces.{Piece, max-line, max-place, takes-on, halt, after-line, next-lines}
 use Rattle.definition.proofs.Facts.{and-l, and-r, test}
 use Rattle.definition.proofs.SoundKept.{trusted, stream-no-15}
 use Rattle.definition.proofs.Stream.{Goes-on, shorter, over, stream-on}

@@ -11,7 +11,7 @@ use Rattle.definition.specs.Types.{State, fresh}
 use Rattle.definition.specs.Write.{Bytes, Is-bytes}
 use Rattle.definition.specs.Sound.{sound}
 use Rattle.definition.specs.Job.{job-from, job-log, lines, joinlog}
-use Rattle.definition.proofs.Piecewise.{Piece, next-lines}
+use Rattle.definition.specs.Pieces.{Piece, next-lines}
 use Rattle.definition.proofs.Facts.{and-l}
 use Rattle.definition.proofs.WellRead.{bytes-append}
 use Rattle.definition.proofs.SoundKept.{fresh-sound}
