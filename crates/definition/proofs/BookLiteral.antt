@@ -10,9 +10,9 @@ use native.Mathlib.Omega.{arith}
 use lib.Dec.{eqb}
 use lib.ListN.{length, getD, List·getD-eq-default}
 use Rattle.definition.specs.Types.{TypeName, Multiple, Builtin, ModuleType, Mark, Type-value, UnitType, Ref, Param, Apply, Var, Anything, UnresolvedError, Cell, unbound, State, max-nodes, max-vars, max-depth, Refusal, Result, ok, refused, _>>=_, if_then_else_}
-use Rattle.definition.specs.Store.{count, taken, type-at, spanned, get, num-loc, with-constraints, sp}
+use Rattle.definition.specs.Store.{any-of, count, taken, type-at, spanned, get, num-loc, with-constraints, sp}
 use Rattle.definition.specs.Subst.{parts, as-var, forward, forward-tvar, unfold-var, unfold-type}
-use Rattle.definition.specs.Join.{is-numeric, join}
+use Rattle.definition.specs.Join.{integers, is-numeric, join}
 use Rattle.definition.specs.Constraints.{num-vars, undecided, is-integer, u64, default-num-var, default-num-vars, solve-constraints, staying, failures}
 use Rattle.definition.specs.Instantiate.{builtin-tparams}
 use Rattle.definition.specs.Write.{Bytes}
@@ -230,8 +230,8 @@ empty : (ts : List ℕ) → length ts ≡ 0 → ts ≡ []
 empty [] e = refl
 empty (t ∷ ts) e = absurd (omega arith)
 
-no-arguments : (S : State) (n : TypeName) (ts : List ℕ) → is-numeric n ≡ true → length ts ≡ arity S n → ts ≡ []
-unfolding is-numeric arity builtin-tparams
+pub no-arguments : (S : State) (n : TypeName) (ts : List ℕ) → is-numeric n ≡ true → length ts ≡ arity S n → ts ≡ []
+unfolding is-numeric arity builtin-tparams any-of integers
 no-arguments S (Multiple n) ts i e = never (cc)
 no-arguments S (ModuleType n) ts i e = never (cc)
 no-arguments S (Builtin b) ts i e = go (eqb b 5) refl e

@@ -1,5 +1,6 @@
 pub mod AnswersJoin
 pub mod AnswersRecords
+pub mod AnswersWider
 pub mod AnswersLimits
 pub mod AnswersPieces
 pub mod Laws
@@ -58,6 +59,7 @@ pub mod BookExamples
 pub mod Enough
 pub mod Decimal
 pub mod NumericCheck
+pub mod NumericRule
 pub mod NoFailIn
 pub mod Stream
 pub mod Pieces

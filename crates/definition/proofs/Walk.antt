@@ -8,12 +8,12 @@ use Prim.Native.Nat.{ℕ, zero, suc, _*_, _%_}
 use native.Mathlib.Omega.{arith}
 use lib.ListN.{replicate}
 use lib.Dec.{eqb}
-use Rattle.definition.specs.Types.{TypeName, Multiple, Builtin, ModuleType, Type-value, UnitType, Ref, Param, Apply, Var, Anything, UnresolvedError, State, Cell, TypingError, max-depth, if_then_else_}
+use Rattle.definition.specs.Types.{max-builtin, TypeName, Multiple, Builtin, ModuleType, Type-value, UnitType, Ref, Param, Apply, Var, Anything, UnresolvedError, State, Cell, TypingError, max-depth, if_then_else_}
 use Rattle.definition.specs.Types.{Constraint, AbilityConstraint}
 use Rattle.definition.specs.Types.{Refusal, full, too-deep, runs-into-itself, abilities-disagree, open-variable, no-argument, parameter-twice, Result, ok, err, refused, _>>=_}
-use Rattle.definition.specs.Store.{count, type-at, loc-of, get, num-loc, sp, next-tvar, add-constraint, declare, map-types}
+use Rattle.definition.specs.Store.{any-of, count, type-at, loc-of, get, num-loc, sp, next-tvar, add-constraint, declare, map-types}
 use Rattle.definition.specs.Subst.{is-anything, forward-tvar, reaches-itself, ready-value, ready, ready-tvars}
-use Rattle.definition.specs.Join.{TypingCase, Join, Subtype, Join-impl, is-numeric, check-num-tvar, used, join-bind-tvar, type-of, shown, merge-num, join-tvar, join-impl-types, Arm, join-mut, join-loc, join-refs, same-name, is-multiple, same-mark, join-applies, join-unbound, join-arm, join-impl, join, subtype}
+use Rattle.definition.specs.Join.{integers, TypingCase, Join, Subtype, Join-impl, is-numeric, check-num-tvar, used, join-bind-tvar, type-of, shown, merge-num, join-tvar, join-impl-types, Arm, join-mut, join-loc, join-refs, same-name, is-multiple, same-mark, join-applies, join-unbound, join-arm, join-impl, join, subtype}
 use Rattle.definition.specs.TParams.{TParamSubst, arg-of, make-tparam-subst, subst-value, subst-down, subst-tparams}
 use Rattle.definition.specs.Instantiate.{make-tvar, tvar-constraint, builtin-tparams, struct-tparams, tparam-constraints, make-tparams, join-args, instantiate-type-args, instantiate-apply, instantiate-value, instantiate-down, instantiate}
 use Rattle.definition.specs.Constraints.{num-vars, undecided, u64, default-num-var, default-num-vars, solve-constraints}
@@ -71,7 +71,7 @@ join-loc-in Join m1 m2 l1 l2 u1 u2 = go (not m1 && m2)
 join-loc-in Subtype m1 m2 l1 l2 u1 u2 = u2
 
 u64-in : (b : State) → ShapeIn b u64
-unfolding u64 is-mark is-name mark-fits is-numeric has-drop
+unfolding u64 is-mark is-name mark-fits is-numeric has-drop max-builtin any-of integers
 u64-in b = refl
 
 abbrev IsSet : ℕ → Type 0

@@ -10,7 +10,7 @@ use native.Mathlib.Decide.{ℕ-discrete, decLt}
 use lib.Dec.{eqb, leb, ltb}
 use lib.ListN.{length}
 use borrow.Author.Tests.{ltb-true, leb-true, leb-false, eqb-true, lt-ltb, le-ltb, le-leb, lt-leb, eq-eqb, ne-eqb}
-use Rattle.definition.specs.Types.{Mark, Builtin, if_then_else_}
+use Rattle.definition.specs.Types.{Mark, Builtin, max-builtin, if_then_else_}
 use Rattle.definition.specs.Join.{is-numeric}
 use Rattle.definition.specs.Trees.{has-drop, is-set, is-mark}
 use Rattle.table.specs.declared.Used.{Used}
@@ -151,10 +151,10 @@ mark-was a e h = by (ℕ-discrete a 0) (decLt a 16)
 
 -- a name's number is small
 pub name-small : (u : Used) (tag b : ℕ) → u .structs ≤ 256 → name-fine u tag b ≡ true → b < 256
-unfolding name-fine
+unfolding name-fine max-builtin
 name-small u tag b h e = by (ℕ-discrete tag 3) (ℕ-discrete tag 4)
   where
     by : Dec (tag ≡ 3) → Dec (tag ≡ 4) → b < 256
-    by (yes p) q = omega (arith, leb-true b 6 (sym (when-true (eqb tag 3) (leb b 6) _ (eq-eqb tag 3 p)) ∙ e))
-    by (no p) (yes q) = omega (arith, leb-true b 8 (sym (when-false (eqb tag 3) (leb b 6) _ (ne-eqb tag 3 p) ∙ when-true (eqb tag 4) (leb b 8) _ (eq-eqb tag 4 q)) ∙ e))
-    by (no p) (no q) = omega (arith, ltb-true b (u .structs) (sym (when-false (eqb tag 3) (leb b 6) _ (ne-eqb tag 3 p) ∙ when-false (eqb tag 4) (leb b 8) _ (ne-eqb tag 4 q)) ∙ e))
+    by (yes p) q = omega (arith, leb-true b max-builtin (sym (when-true (eqb tag 3) (leb b max-builtin) _ (eq-eqb tag 3 p)) ∙ e))
+    by (no p) (yes q) = omega (arith, leb-true b 8 (sym (when-false (eqb tag 3) (leb b max-builtin) _ (ne-eqb tag 3 p) ∙ when-true (eqb tag 4) (leb b 8) _ (eq-eqb tag 4 q)) ∙ e))
+    by (no p) (no q) = omega (arith, ltb-true b (u .structs) (sym (when-false (eqb tag 3) (leb b max-builtin) _ (ne-eqb tag 3 p) ∙ when-false (eqb tag 4) (leb b 8) _ (ne-eqb tag 4 q)) ∙ e))

@@ -6,7 +6,7 @@ use mathlib.Core.Option.{Option, none, some}
 use Prim.Native.Nat.{ℕ, zero, suc, _+_, _*_, _-_, _≤_, _<_, _%_}
 use lib.Dec.{eqb, ltb, leb}
 use lib.ListN.{length, getD}
-use Rattle.definition.specs.Types.{Builtin, if_then_else_}
+use Rattle.definition.specs.Types.{Builtin, max-builtin, if_then_else_}
 use Rattle.definition.specs.Join.{is-numeric}
 use Rattle.definition.specs.Trees.{has-drop}
 use Rattle.table.specs.Rows.{read-mark}
@@ -82,7 +82,7 @@ unfoldable pub mark-fine : ℕ → Bool
 mark-fine a = if eqb a 0 then true else leb 16 a && leb a 31
 
 unfoldable pub name-fine : Used → ℕ → ℕ → Bool
-name-fine u tag b = if eqb tag 3 then leb b 6 else if eqb tag 4 then leb b 8 else ltb b (u .structs)
+name-fine u tag b = if eqb tag 3 then leb b max-builtin else if eqb tag 4 then leb b 8 else ltb b (u .structs)
 
 -- a number's mark has drop
 unfoldable pub fits-fine : ℕ → ℕ → ℕ → Bool

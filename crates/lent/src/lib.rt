@@ -10,6 +10,7 @@ ghost use Rattle.lent.specs.Lent.{used-of, lent-sound};
 ghost use Rattle.lent.specs.Tests.{Sized, all-below, counts-fine, zeros, tails-fine, struct-fine, params-at, byte-fine, bytes-fine, four-zeros, ref-fine, param-fine, var-fine, mark-fine, name-fine, fits-fine, args-fine, part-fine, apply-fine, shape-fine, node-fine, binding-fine, numeric-fine, cell-fine, var-at, next-at, next, Links, Noted, Counted, chain-fine, constraint-fine};
 use names::AbilitySet;
 use names::MAX_ARGS;
+use names::MAX_BUILTIN;
 use names::MAX_CONSTRAINTS;
 use names::MAX_NODES;
 use names::MAX_STRUCTS;
@@ -278,7 +279,7 @@ fn name_fine(u: Used, tag: u32, b: u32) -> bool
     ensures { λ r. ⌜ r ≡ name-fine u tag b ⌝ }
 {
     if tag == 3 {
-        return b <= 6;
+        return b <= MAX_BUILTIN;
     }
     if tag == 4 {
         return b <= 8;

@@ -18,6 +18,9 @@ pub const MAX_STRUCTS: u32 = 256;
 
 pub const MAX_DEPTH: u32 = 256;
 
+// The builtins are 0 to 9.
+pub const MAX_BUILTIN: u32 = 9;
+
 // An inference variable's number.
 pub struct TVar(pub u16);
 
@@ -40,7 +43,7 @@ pub enum TypeName {
     ModuleType(u32),
 }
 
-// BuiltinTypeName_::is_numeric: u8, u64, u128.
+// BuiltinTypeName_::is_numeric: u8, u64, u128; and u16, u32, u256.
 pub fn is_numeric(b: u32) -> bool
     ensures { λ r. ⌜ r ≡ is-numeric (Builtin b) ⌝ }
 {
@@ -50,7 +53,16 @@ pub fn is_numeric(b: u32) -> bool
     if b == 3 {
         return true;
     }
-    b == 4
+    if b == 4 {
+        return true;
+    }
+    if b == 7 {
+        return true;
+    }
+    if b == 8 {
+        return true;
+    }
+    b == 9
 }
 
 pub fn has_drop(a: AbilitySet) -> bool

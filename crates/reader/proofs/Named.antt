@@ -4,7 +4,7 @@ use mathlib.Core.Bool.{Bool, true, false, not}
 use Prim.Native.Nat.{ℕ}
 use lib.ListN.{length}
 use lib.Dec.{leb, ltb}
-use Rattle.definition.specs.Types.{TypeName, Multiple, Builtin, ModuleType, Mark, State, Refusal, malformed, unknown-name, if_then_else_}
+use Rattle.definition.specs.Types.{TypeName, Multiple, Builtin, ModuleType, Mark, max-builtin, State, Refusal, malformed, unknown-name, if_then_else_}
 use Rattle.definition.specs.Write.{Bytes}
 use Rattle.definition.specs.Reader.{Read, got, not-read, Reader, give, refuse, go-on, _>>=_, byte, read-u16, byte-if, byte-to, name-below}
 use Rattle.definition.specs.Trees.{Tree, is-name, mark-fits, read-mark, read-apply}
@@ -34,7 +34,7 @@ module _ (s : State) (part : Reader Tree) (loc : ℕ) where
               by true = refl
               by false = refl
 
-  pub builtin-is : (l : Bytes) → read-apply s part loc byte Builtin malformed l ≡ read-named (byte-to 6) Builtin l
+  pub builtin-is : (l : Bytes) → read-apply s part loc byte Builtin malformed l ≡ read-named (byte-to max-builtin) Builtin l
   unfolding byte-if is-name
   builtin-is l = named-is byte Builtin malformed l
 

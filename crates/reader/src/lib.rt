@@ -21,6 +21,7 @@ pub use cursor::Words;
 use cursor::read_word;
 use cursor::read_words;
 use names::AbilitySet;
+use names::MAX_BUILTIN;
 use names::Mark;
 use names::TParamID;
 use names::TVar;
@@ -222,7 +223,7 @@ fn builtin_fields(b: &[u8], end: usize, at: usize, loc: u32) -> Head
     let m = read_mark(f);
     match m {
         Marked::With(k) => {
-            let n = byte_to(g, 6);
+            let n = byte_to(g, MAX_BUILTIN);
             match n {
                 Number::Got(x) => builtin_head(k, x, loc, r.next),
                 Number::Missing => Head::Broken,
