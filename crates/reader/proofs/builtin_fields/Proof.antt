@@ -1,5 +1,6 @@
 -- `reader::builtin_fields` meets its contract. Assumes nothing.
 use mathlib.Core.Path.{refl, _∙_}
+use Rattle.definition.specs.Types.{max-builtin}
 use Rattle.definition.specs.Reader.{_>>=_, go-on}
 use Rattle.reader.specs.Fields.{read-args, byte-wide}
 use Rattle.reader.proofs.Named.{builtin-is}
@@ -32,7 +33,7 @@ enum-told-2 : tie.Need-enum-told-2
 enum-told-2 c = search needs
 
 returns : tie.Need-returns
-unfolding _>>=_ go-on
+unfolding _>>=_ go-on max-builtin
 returns c = λ s.
     let r = c .before .before .before .before .before .before .before .before .before .read-numbers .ensures _ _ _ _ byte-wide byte-wide in
     let m = c .before .before .before .before .before .before .before .before .read-mark .ensures _ _ _ _ (r .first) in
@@ -41,7 +42,7 @@ returns c = λ s.
     record { is = λ part. rw (builtin-is s part _ _) (b .is part ∙ rw (← m .is, c .before .before .before .before .before .before .m .given .1, ← n .is, c .before .before .n .given .1) refl); within = b .within }
 
 returns-2 : tie.Need-returns-2
-unfolding _>>=_ go-on
+unfolding _>>=_ go-on max-builtin
 returns-2 c = λ s.
     let r = c .before .before .before .before .before .before .before .read-numbers .ensures _ _ _ _ byte-wide byte-wide in
     let m = c .before .before .before .before .before .before .read-mark .ensures _ _ _ _ (r .first) in
