@@ -90,8 +90,11 @@ impl Mimic {
         }
     }
 
-    /// writes the job's state back
+    /// writes the job's state back, if core.rs has one
     fn leave(job: &Job, state: &mut [u32], params: &mut Params) {
+        if !job.has_state() {
+            return;
+        }
         let declared: Vec<_> = (0..job.known().params.len()).map(|i| job.declared(i)).collect();
         let lent = encode(&job.state(), &declared).expect("a state of few nodes");
         state.copy_from_slice(&lent.words);

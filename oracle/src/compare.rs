@@ -96,6 +96,8 @@ pub fn agree(
         return Ok(if known { Agreed::Same } else { Agreed::Limit });
     }
     match outcome {
+        // what is read is answered
+        Outcome::Silent(why) if matches!(answer.number, 5 | 6 | 15) => Err(format!("{}; ours: {}", why, shown(answer))),
         Outcome::Silent(_) => {
             tally.apart(SILENT);
             Ok(Agreed::Silent)

@@ -2,7 +2,7 @@
 //! where a limit is met. core.rs counts none of these. Uses no code of the engine's; not claimed to be independent of the definition. Answers other than 7 and 8 are core.rs's to give.
 use crate::{
     lent::{View, MAX_CONSTRAINTS, MAX_NODES, MAX_PLACES, MAX_STRUCTS, MAX_VARS},
-    record::{Kind, Record, Ty},
+    record::{Kind, Record, Ty, BUILTINS},
 };
 use std::collections::{BTreeMap, HashMap};
 
@@ -177,7 +177,10 @@ impl Sim {
     }
 
     fn bind(&mut self, v: u16, t: &Ty) -> Run<()> {
-        let integer = matches!(t.kind, Kind::Builtin(_, 2..=4, _) | Kind::Anything | Kind::UnresolvedError);
+        let integer = match t.kind {
+            Kind::Builtin(_, n, _) => BUILTINS[n as usize].integer,
+            _ => matches!(t.kind, Kind::Anything | Kind::UnresolvedError),
+        };
         if self.marks.contains_key(&v) && !integer {
             return Err(2);
         }

@@ -5,7 +5,7 @@ use crate::{
     compare::{self, agree, same_counts, same_state, Agreed},
     count::counted,
     gen::Chance,
-    job::{answer_text, Job, Outcome},
+    job::{self, answer_text, Job, Outcome},
     lender::Lender,
     lent::{fresh, place_of_word, sound, Lent, View, WORDS},
     record::{hex, read_record, MAX_RECORD},
@@ -17,6 +17,8 @@ const LARGE: u64 = 20_000;
 const ONWARD: &str = "went on, as core.rs does";
 const LIMIT: &str = "7 or 8, as counted by 01";
 const ALONE: &str = "went on, not held to core.rs (silent, or types too large for it)";
+/// u16, u32 or u256, in the record or in the state
+const WIDER: &str = "went on, not held to core.rs (an integer type that it has not)";
 
 #[derive(Debug, Clone, Default)]
 pub struct Tally {
@@ -35,6 +37,9 @@ impl Tally {
     }
     pub fn went_on(&self) -> usize {
         self.of(ONWARD)
+    }
+    pub fn wider(&self) -> usize {
+        self.of(WIDER)
     }
     pub fn text(&self) -> String {
         let all: String = self.outcomes.iter().map(|(what, n)| format!("  {}: {}\n", what, n)).collect();
@@ -90,6 +95,7 @@ pub fn lend(lender: &mut Lender, bytes: &[u8], room: usize, tally: &mut Tally) -
         (Outcome::Refused(n @ (5 | 6), _), _) => tally.add(n.to_string()),
         (_, Agreed::Same) => tally.add(ONWARD),
         (_, Agreed::Limit) => tally.add(LIMIT),
+        (Outcome::Silent(why), Agreed::Silent) if why == job::WIDER => tally.add(WIDER),
         (_, Agreed::Silent) => tally.add(ALONE),
     }
     match agreed == Agreed::Same && answer.number <= 4 {

@@ -36,6 +36,8 @@ pub const MAX_VARS: u64 = 1024;
 pub const MAX_CONSTRAINTS: usize = 512;
 pub const MAX_STRUCTS: usize = 256;
 pub const MAX_PAYLOAD: usize = 4096;
+/// why core.rs is silent about u16, u32 and u256
+pub const WIDER: &str = "core.rs has no such integer type";
 /// above it a type is not handed to a walk of core.rs that writes it out
 const HUGE: u64 = 4_000_000;
 
@@ -74,6 +76,13 @@ pub struct Held {
     pub loc: u32,
     pub abilities: u8,
     pub ty: Ty,
+}
+
+impl State {
+    fn has_wider(&self) -> bool {
+        let bound = self.bindings.iter().map(|(_, t)| t);
+        bound.chain(self.constraints.iter().map(|h| &h.ty)).any(is_wider)
+    }
 }
 
 //---- types in and out ------------------------------------------------------------------------------
@@ -115,6 +124,7 @@ pub(crate) fn tparam(loc: Loc, id: u32, bits: u8) -> TParam {
     }
 }
 
+/// core.rs's, by number; the numbers after them are 02's
 pub(crate) const BUILTINS: [BuiltinTypeName_; 7] = [
     BuiltinTypeName_::Address,
     BuiltinTypeName_::Signer,
@@ -124,6 +134,11 @@ pub(crate) const BUILTINS: [BuiltinTypeName_; 7] = [
     BuiltinTypeName_::Vector,
     BuiltinTypeName_::Bool,
 ];
+
+/// whether a builtin that core.rs has not stands in it
+pub fn is_wider(t: &Ty) -> bool {
+    matches!(t.kind, Kind::Builtin(_, n, _) if n as usize >= BUILTINS.len()) || t.parts().iter().any(is_wider)
+}
 
 fn types_in(ts: &[Ty]) -> Vec<Type> {
     ts.iter().map(type_in).collect()
@@ -271,6 +286,8 @@ type Answer = Result<(u8, Vec<u8>), Outcome>;
 pub struct Job {
     options: Options,
     known: Known,
+    /// its state has a type that core.rs has not, so that every record is silent
+    wider: bool,
     pub(crate) ctx: Context<'static>,
 }
 
@@ -287,7 +304,7 @@ impl Job {
             constants: UniqueMap::new(),
         };
         ctx.modules.add(module(Loc::of(0)), empty).ok().unwrap();
-        Job { options, known: Known { expand: options.expand, ..Known::default() }, ctx }
+        Job { options, known: Known { expand: options.expand, ..Known::default() }, wider: false, ctx }
     }
 
     /// The first record of `stream`: its outcome and how many bytes it has, 0 where it is not read.
@@ -300,6 +317,9 @@ impl Job {
 
     /// One record that is known to be read; all but 0 to 4 leave the state as at entry.
     pub fn record(&mut self, r: &Record) -> Outcome {
+        if self.wider || r.types().into_iter().any(is_wider) {
+            return Outcome::Silent(WIDER.into());
+        }
         let (subst, vars) = (self.ctx.subst.clone(), self.known.vars);
         let constraints: Vec<_> = self.ctx.constraints.iter().map(copy_of).collect();
         Counter::set(vars as u64);
@@ -329,6 +349,11 @@ impl Job {
         &self.known
     }
 
+    /// false: its state is not core.rs's
+    pub fn has_state(&self) -> bool {
+        !self.wider
+    }
+
     /// A job whose state is `s`; its structs are declared one after the other.
     pub fn load(s: &State, declared: &[(u8, Vec<u8>)]) -> Job {
         let mut job = Job::new(Options::default());
@@ -336,6 +361,10 @@ impl Job {
             job.declare(*abilities, bytes, &mut vec![]).ok().unwrap()
         }
         job.known.vars = s.next_var as usize;
+        job.wider = s.has_wider();
+        if job.wider {
+            return job;
+        }
         s.bindings.iter().for_each(|(v, t)| job.ctx.subst.insert(nprobe::tvar(*v as u64), type_in(t)));
         let marks = s.marks.iter().map(|(v, l)| (nprobe::tvar(*v as u64), Loc::of(*l)));
         marks.for_each(|(v, l)| cprobe::mark(&mut job.ctx.subst, v, l));

@@ -2,7 +2,7 @@
 //! check of that definition.
 use crate::{
     job::{Held, State},
-    record::{Kind, Ty, VECTOR},
+    record::{Kind, Ty, BUILTINS},
 };
 
 pub const WORDS: usize = 24_069;
@@ -219,12 +219,12 @@ impl View<'_> {
         let [tag, _, mark, name, first, many] = self.node(i);
         holds(mark == 0 || (16..32).contains(&mark), "an ability mark")?;
         let arguments = match (tag, name as usize) {
-            (3, 0..=6) => (name == VECTOR as u32) as u32,
+            (3, n) if n < BUILTINS.len() => BUILTINS[n].arguments as u32,
             (4, 0..=8) => name,
             (5, n) if n < self.structs() => self.row(STRUCT, n)[1],
             _ => return Err("a name"),
         };
-        let integer = tag == 3 && (2..=4).contains(&name);
+        let integer = tag == 3 && BUILTINS[name as usize].integer;
         holds(!integer || mark == 0 || mark & 2 != 0, "an integer type's mark has drop")?;
         holds(many == arguments, "as many places as arguments")?;
         let end = first as usize + many as usize;

@@ -108,6 +108,14 @@ fn a_constraint_on_a_type_in_itself_is_silent() {
     assert_eq!(log(&stream).lines().last(), Some("5 -"));
 }
 
+#[test]
+fn an_integer_type_that_core_rs_has_not_is_silent() {
+    for t in ["u16", "u32", "u256"] {
+        let stream = asm(&format!("FV\nJN V0, vector<{}>\nFV", t));
+        assert_eq!(log(&stream).lines().last(), Some("1 -"), "{}", t)
+    }
+}
+
 //---- states ----------------------------------------------------------------------------------------------
 
 #[test]

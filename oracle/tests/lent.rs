@@ -2,12 +2,13 @@
 //! linked, on the engine.
 use oracle::{
     bench,
-    calls::{engine, Calls, Lines, Mimic, MIN_ANSWER},
+    calls::{engine, job_of, Calls, Lines, Mimic, MIN_ANSWER},
     compare::{self, Alter, Altered, Tally, ALTERS},
     damage, gen,
-    job::{with_stack, Job, Options, Outcome},
+    job::{is_wider, with_stack, Job, Options, Outcome},
     lender::Lender,
     lent::{encode, fresh, sound, Lent, Params},
+    record::read_record,
     text::{assemble, disassemble},
     traps,
 };
@@ -88,7 +89,7 @@ fn each_rule_of_a_sound_state() {
         (node(0), 9, "a node's fields"),
         (node(0) + 2, 0x15, "an integer type's mark has drop"),
         (node(0) + 2, 15, "an ability mark"),
-        (node(0) + 3, 7, "a name"),
+        (node(0) + 3, 10, "a name"),
         (node(0) + 3, 5, "as many places as arguments"),
         (node(1) + 4, 3, "places below the used count"),
         (node(1) + 4, u32::MAX, "places below the used count"),
@@ -127,6 +128,22 @@ fn each_rule_of_a_sound_state() {
         t.params[row][at] = value;
         assert!(sound(&t.words, &t.params).is_err());
         all().iter().for_each(|c| assert_eq!(Lender::new(*c, &t).record(b"SV", 4096).unwrap().number, 15))
+    }
+}
+
+#[test]
+fn each_integer_type_in_a_state() {
+    for n in [2, 3, 4, 7, 8, 9] {
+        let mut s = fresh();
+        (s.add_node(3, 1, 0, n, &[]), s.add_node(3, 2, 0x12, n, &[]));
+        assert_eq!(sound(&s.words, &s.params), Ok(()), "{}", n);
+        let mut t = s.clone();
+        t.add_node(3, 3, 0x11, n, &[]);
+        assert_eq!(sound(&t.words, &t.params), Err("an integer type's mark has drop"), "{}", n);
+        for calls in all() {
+            let number = |s| Lender::new(calls, s).record(b"SV", MIN_ANSWER).unwrap().number;
+            assert_eq!((number(&s), number(&t)), (0, 15), "{}", n)
+        }
     }
 }
 
@@ -170,6 +187,14 @@ fn altered_answers_are_found_and_shrunk() {
 
 //---- damage --------------------------------------------------------------------------------------------------
 
+/// V0 is u256
+fn wider() -> Lent {
+    let mut s = fresh();
+    let (v, t) = (s.add_var().unwrap(), s.add_node(3, 1, 0, 9, &[]).unwrap());
+    s.bind(v, t);
+    s
+}
+
 #[test]
 fn damage_is_answered_as_it_must_be() {
     with_stack(|| {
@@ -177,7 +202,10 @@ fn damage_is_answered_as_it_must_be() {
             let mut tally = damage::Tally::default();
             damage::records(calls, 41, 6, &mut tally).unwrap();
             damage::wild(calls, 42, 6, &mut tally).unwrap();
-            assert!(tally.of("5") > 100 && tally.of("6") > 20 && tally.went_on() > 100, "{}", tally.text())
+            assert!(tally.of("5") > 100 && tally.of("6") > 20 && tally.went_on() > 100, "{}", tally.text());
+            let of_records = tally.wider();
+            damage::lend(&mut Lender::new(calls, &wider()), b"SV", MIN_ANSWER, &mut tally).unwrap();
+            assert!(of_records > 0 && tally.wider() == of_records + 1, "{}", tally.text())
         }
     })
 }
@@ -191,9 +219,11 @@ enum Careless {
     KeepsOnRefusal,
     PayloadOnRefusal,
     FiveForSix,
+    WiderUnread,
+    WiderUnsound,
 }
 
-const CARELESS: [Careless; 7] = [
+const CARELESS: [Careless; 9] = [
     Careless::PastAnswer,
     Careless::BesideWords,
     Careless::TakesUnsound,
@@ -201,7 +231,14 @@ const CARELESS: [Careless; 7] = [
     Careless::KeepsOnRefusal,
     Careless::PayloadOnRefusal,
     Careless::FiveForSix,
+    Careless::WiderUnread,
+    Careless::WiderUnsound,
 ];
+
+fn read_as_wider(lent: &Lent, record: &[u8]) -> bool {
+    let read = read_record(record, job_of(lent.view()).known());
+    read.is_ok_and(|(r, _)| r.types().into_iter().any(is_wider))
+}
 
 impl Calls for Careless {
     fn counts(&self) -> bool {
@@ -209,6 +246,7 @@ impl Calls for Careless {
     }
     fn record(&self, w: &mut [u32], p: &mut Params, r: &[u8], a: &mut [u8], length: &mut u32) -> u32 {
         let (end, first) = (a.len(), w.as_mut_ptr());
+        let lent = Lent { words: w.to_vec(), params: *p };
         match (self, Mimic.record(w, p, r, a, length)) {
             // the guards stand there, in the same allocation
             (Careless::PastAnswer, n) => unsafe {
@@ -230,6 +268,8 @@ impl Calls for Careless {
                 n
             }
             (Careless::FiveForSix, 6) => 5,
+            (Careless::WiderUnread, 0) if read_as_wider(&lent, r) => 5,
+            (Careless::WiderUnsound, 0) if !job_of(lent.view()).has_state() => 15,
             (_, n) => n,
         }
     }
@@ -246,8 +286,9 @@ fn careless_calls_are_found() {
     with_stack(|| {
         for (i, careless) in CARELESS.iter().enumerate() {
             let mut tally = damage::Tally::default();
-            let found =
-                damage::records(careless, 41, 6, &mut tally).and_then(|_| damage::wild(careless, 42, 6, &mut tally));
+            let found = damage::records(careless, 41, 6, &mut tally)
+                .and_then(|_| damage::wild(careless, 42, 6, &mut tally))
+                .and_then(|_| damage::lend(&mut Lender::new(careless, &wider()), b"SV", MIN_ANSWER, &mut tally));
             assert!(found.is_err(), "fault {}", i)
         }
     })

@@ -1,4 +1,4 @@
-//! 01's record form: types and records as trees, read from bytes and written to bytes.
+//! 01's record form, with 02's u16, u32 and u256: types and records as trees, read from bytes and written to bytes.
 
 pub const MAX_RECORD: usize = 4096;
 pub const MAX_NESTING: usize = 64;
@@ -15,7 +15,7 @@ const fn builtin(name: &'static str, arguments: usize, integer: bool) -> Builtin
 }
 
 /// by number
-pub const BUILTINS: [Builtin; 7] = [
+pub const BUILTINS: [Builtin; 10] = [
     builtin("address", 0, false),
     builtin("signer", 0, false),
     builtin("u8", 0, true),
@@ -23,6 +23,9 @@ pub const BUILTINS: [Builtin; 7] = [
     builtin("u128", 0, true),
     builtin("vector", 1, false),
     builtin("bool", 0, false),
+    builtin("u16", 0, true),
+    builtin("u32", 0, true),
+    builtin("u256", 0, true),
 ];
 pub const VECTOR: u8 = 5;
 pub const ABILITIES: [(u8, &str); 4] = [(1, "copy"), (2, "drop"), (4, "store"), (8, "key")];
