@@ -122,10 +122,16 @@ def ends():
     yield end('after 6', fv + asm('UF V1') + fv, '0 ' + answer, '1 6')
 
 
+def marks():
+    # on each integer type a mark without drop is 5
+    for name in ('u8', 'u64', 'u128', 'u16', 'u32', 'u256'):
+        yield end('copy alone on ' + name, asm('UF %s{copy}' % name), '0 5')
+
+
 def main():
     where = sys.argv[1] if len(sys.argv) > 1 else os.path.join(ROOT, 'crates/edges')
     os.makedirs(where, exist_ok=True)
-    jobs = [j for made in (marked, computed, limits, ends) for j in made()]
+    jobs = [j for made in (marked, computed, limits, ends, marks) for j in made()]
     with open(os.path.join(where, 'stdin'), 'wb') as f:
         for name, stream, _ in jobs:
             job = name.encode() + b'\n' + stream

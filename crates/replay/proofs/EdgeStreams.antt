@@ -55,6 +55,14 @@ edge-ok-mark-int : log-of (hex "5546030000000012024a4e03000000001202030000000000
 unfolding log-of
 edge-ok-mark-int = refl
 
+edge-builtin9 : log-of (hex "554603000000000009") ≡ text "0 0 03000000000009\n"
+unfolding log-of
+edge-builtin9 = refl
+
+edge-builtin10 : log-of (hex "55460300000000000a") ≡ text "0 5\n"
+unfolding log-of
+edge-builtin10 = refl
+
 edge-six-before-five : log-of (hex "4a4e0600000000030009") ≡ text "0 6\n"
 unfolding log-of
 edge-six-before-five = refl
