@@ -46,6 +46,20 @@ fn every_stream_has_a_text() {
     }
 }
 
+/// 01's seven, then 02's three
+#[test]
+fn builtins_by_number() {
+    let names = ["address", "signer", "u8", "u64", "u128", "vector<()>", "bool", "u16", "u32", "u256"];
+    for (n, name) in names.into_iter().enumerate() {
+        let text = format!("UF {}\n", name);
+        let stream = assemble(&text, false).unwrap();
+        assert_eq!((stream[8] as usize, disassemble(&stream)), (n, text));
+        let payload: String = stream[2..].iter().map(|b| format!("{:02x}", b)).collect();
+        let (lines, _) = show(&stream, &format!("0 0 {}\n", payload), Options::default());
+        assert!(lines.contains(&format!("typed {}", name)), "{}", lines)
+    }
+}
+
 const JOB: &str = "FV\nJN V0, vector<u64>\nSU &u8, &mut u8\nJN (u8, bool), (u8,)\nSC ()\nSV\nJN (), _";
 /// core.rs's
 const LOG: &str = "\
