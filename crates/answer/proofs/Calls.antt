@@ -7,7 +7,7 @@ use Prim.Native.Nat.{ℕ, _+_, _≤_, _<_}
 use native.Mathlib.Omega.{arith}
 use borrow.Author.Tests.{leb-true}
 use lib.ListN.{length, getD, length-append}
-use Rattle.definition.specs.Types.{State, Struct, TypeName, Multiple, Builtin, ModuleType, Mark, Shape, UnitType, Param, Ref, Apply, Var, Anything, UnresolvedError, Places}
+use Rattle.definition.specs.Types.{State, Struct, TypeName, Multiple, Builtin, ModuleType, Mark, Shape, UnitType, Param, Ref, Apply, Var, Anything, UnresolvedError, Places, max-builtin}
 use Rattle.definition.specs.Store.{nowhere, node, with-structs}
 use Rattle.definition.specs.Subst.{parts}
 use Rattle.definition.specs.Write.{mark, each, head, write-down, write-spanned}
@@ -42,9 +42,9 @@ mark-byte none e = omega arith
 mark-byte (some x) e = let h = leb-true x 15 e in omega arith
 
 name-byte : (s : State) (n : TypeName) → is-name s n ≡ true → Name-byte n
-unfolding is-name
+unfolding is-name max-builtin
 name-byte s (Multiple n) e = let h = leb-true n 8 e in omega arith
-name-byte s (Builtin b) e = let h = leb-true b 6 e in omega arith
+name-byte s (Builtin b) e = let h = leb-true b max-builtin e in omega arith
 name-byte s (ModuleType n) e = tt
 
 shape-bytes : (s : State) (x : Shape Places) → ShapeIn s x → Byte-fields x
