@@ -1,7 +1,10 @@
 //! The engine beside core.rs on the same jobs, in one process: records per second, as the variables in use grow.
 //!
-//! The engine reads the stream's bytes and writes the log, one call for a job, the state tested once. core.rs is timed
-//! twice over: alone, its types at hand and its answers dropped unread; and from bytes to a log, as the engine works.
+//! The engine reads the stream's bytes and writes the log, one call for a job. core.rs is timed twice over: alone, its
+//! types at hand and its answers dropped unread; and from bytes to a log, as the engine works.
+pub mod apart;
+pub mod body;
+
 use crate::{
     calls::{Calls, Lines},
     gen::Chance,
@@ -17,7 +20,7 @@ use crate::{
     typing::core::{self, Subst},
 };
 use move_ir_types::location::*;
-use std::{fmt::Write as _, hint::black_box, io::Write as _, mem, time::Instant};
+use std::{collections::BTreeMap, fmt::Write as _, hint::black_box, io::Write as _, mem, time::Instant};
 
 //---- jobs ------------------------------------------------------------------------------------------------
 
@@ -81,7 +84,13 @@ fn answered(stream: &[u8]) -> Option<Vec<u8>> {
     Some(out)
 }
 
-pub const WORKS: [&str; 4] = ["small", "middle", "large", "short"];
+pub const WORKS: [&str; 7] = ["small", "middle", "large", "short", "body-10", "body-100", "body-1000"];
+
+/// 1,000 variables by statements alone would need more than 2,048 nodes: there 450 are taken ahead.
+fn bodies(vars: usize, jobs: usize) -> Vec<Vec<u8>> {
+    let ahead = if vars == 1000 { 450 } else { 0 };
+    (0..).filter_map(|i| body::body(vars, ahead, i)).take(jobs).collect()
+}
 
 /// The jobs of a name.
 pub fn work(name: &'static str) -> Work {
@@ -89,25 +98,59 @@ pub fn work(name: &'static str) -> Work {
         "small" => vec![grown(10, 1000)],
         "middle" => vec![grown(100, 1000)],
         "large" => vec![grown(1000, 1000)],
-        _ => short(),
+        "short" => short(),
+        "body-10" => bodies(10, 40),
+        "body-100" => bodies(100, 4),
+        _ => bodies(1000, 1),
     };
     let records = streams.iter().map(|s| cut(s).len()).sum();
     Work { name, records, streams }
 }
 
 impl Work {
-    /// Variables in use at a job's end, at most. Every answer is 0.
-    pub fn vars(&self) -> usize {
-        let at_end = |stream: &Vec<u8>| {
+    /// Each record's mark, core.rs's answer, and the variables in use before and after it.
+    fn each(&self, mut f: impl FnMut(&str, u8, [usize; 2])) {
+        for stream in &self.streams {
             let (mut job, mut at) = (Job::new(Options::default()), 0);
             while at < stream.len() {
+                let vars = job.known().vars;
+                let mark = std::str::from_utf8(&stream[at..at + 2]).unwrap();
                 let (outcome, n) = job.next(&stream[at..]);
-                assert!(matches!(outcome, Outcome::Core(0, _)), "{}: {:?}", self.name, outcome);
+                let Outcome::Core(number, _) = outcome else { panic!("{}: {:?}", self.name, outcome) };
+                f(mark, number, [vars, job.known().vars]);
                 at += n
             }
-            job.known().vars
-        };
-        self.streams.iter().map(at_end).max().unwrap_or(0)
+        }
+    }
+
+    /// Variables in use at a job's end, at most; in a body, where SV comes.
+    pub fn vars(&self) -> usize {
+        let mut most = 0;
+        self.each(|mark, _, [before, after]| match (self.is_body(), mark) {
+            (true, "SV") => most = most.max(before),
+            (true, _) => (),
+            (false, _) => most = most.max(after),
+        });
+        most
+    }
+
+    /// Records by mark and answer.
+    pub fn counts(&self) -> BTreeMap<(String, u8), usize> {
+        let mut out = BTreeMap::new();
+        self.each(|mark, number, _| *out.entry((mark.into(), number)).or_insert(0) += 1);
+        out
+    }
+
+    /// Bodies have answers of 1 to 4: core.rs's callers keep a copy for those.
+    fn is_body(&self) -> bool {
+        self.name.starts_with("body")
+    }
+    pub fn sides(&self) -> &'static [&'static str] {
+        if self.is_body() {
+            &SIDES[..5]
+        } else {
+            &SIDES
+        }
     }
 }
 
@@ -130,6 +173,12 @@ pub enum Op {
     Solve,
 }
 
+pub enum Answer {
+    Nothing,
+    Type(Type),
+    Error(core::TypingError),
+}
+
 /// A join; with `copy` the caller keeps what it needs to put back on 1 to 4.
 fn joined(
     job: &mut Job,
@@ -137,42 +186,63 @@ fn joined(
     a: &Type,
     b: &Type,
     copy: bool,
-) -> Option<Type> {
+) -> Answer {
     let subst = mem::replace(&mut job.ctx.subst, Subst::empty());
     let kept = copy.then(|| subst.clone());
     match f(subst, a, b) {
         Ok((subst, t)) => {
             job.ctx.subst = subst;
-            Some(t)
+            Answer::Type(t)
         }
-        Err(_) => {
-            job.ctx.subst = kept.expect("no join of these jobs fails");
-            None
+        Err(e) => {
+            job.ctx.subst = kept.expect("only a body's joins fail");
+            Answer::Error(e)
         }
     }
 }
 
-/// One call of core.rs; the type that it answers.
-fn call(job: &mut Job, op: Op, copy: bool) -> Option<Type> {
+/// SV as 01 has it: ability constraints stay. All others of these jobs hold, so that there is no payload.
+fn solve(ctx: &mut core::Context) {
+    let is_ability = |c: &core::Constraint| matches!(c, core::Constraint::AbilityConstraint { .. });
+    let (kept, rest) = mem::take(&mut ctx.constraints).into_iter().partition(is_ability);
+    ctx.constraints = rest;
+    core::solve_constraints(ctx);
+    ctx.constraints = kept;
+    assert!(ctx.env.take_diags().is_empty())
+}
+
+/// One call of core.rs.
+fn call(job: &mut Job, op: Op, copy: bool) -> Answer {
+    let ctx = &mut job.ctx;
+    Answer::Type(match op {
+        Op::Fresh(l) => core::make_tvar(ctx, l),
+        Op::Numeric(l) => core::make_num_tvar(ctx, l),
+        Op::Join(f, a, b) => return joined(job, f, &a, &b, copy),
+        Op::Unfold(t) => core::unfold_type(&ctx.subst, t),
+        Op::Ready(t) => core::ready_tvars(&ctx.subst, t),
+        Op::Replace(ids, args, t) => core::subst_tparams(&core::make_tparam_subst(&ids, args), t),
+        Op::Instantiate(t) => core::instantiate(ctx, t),
+        other => {
+            untyped(job, other);
+            return Answer::Nothing;
+        }
+    })
+}
+
+/// The calls that give no type.
+fn untyped(job: &mut Job, op: Op) {
     let ctx = &mut job.ctx;
     match op {
         Op::Declare(a, p) => drop(job.declare(a, &p, &mut vec![])),
-        Op::Fresh(l) => return Some(core::make_tvar(ctx, l)),
-        Op::Numeric(l) => return Some(core::make_num_tvar(ctx, l)),
         Op::Mark(v, l) => ctx.subst.set_num_var(v, l),
-        Op::Join(f, a, b) => return joined(job, f, &a, &b, copy),
-        Op::Unfold(t) => return Some(core::unfold_type(&ctx.subst, t)),
-        Op::Ready(t) => return Some(core::ready_tvars(&ctx.subst, t)),
-        Op::Replace(ids, args, t) => return Some(core::subst_tparams(&core::make_tparam_subst(&ids, args), t)),
-        Op::Instantiate(t) => return Some(core::instantiate(ctx, t)),
         Op::Builtin(l, 0, t) => ctx.add_numeric_constraint(l, "+", t),
         Op::Builtin(l, 1, t) => ctx.add_bits_constraint(l, "|", t),
         Op::Builtin(l, _, t) => ctx.add_ordered_constraint(l, "<", t),
         Op::Base(l, t) => ctx.add_base_type_constraint(l, "base", t),
         Op::Single(l, t) => ctx.add_single_type_constraint(l, "single", t),
-        Op::Solve => core::solve_constraints(ctx),
+        Op::Solve => solve(ctx),
+        _ => unreachable!(),
     }
-    None
 }
 
 fn ops_of(stream: &[u8]) -> Vec<Op> {
@@ -208,17 +278,18 @@ pub fn oracle_timed_form(stream: &[u8], copy: bool, log: &mut Vec<u8>) {
         let op = form.record();
         let declared = matches!(op, Op::Declare(..)).then(|| form.params.len() as u16 - 1);
         let answer = call(&mut job, op, copy);
-        write!(log, "{} 0", place).unwrap();
+        write!(log, "{} ", place).unwrap();
         match (answer, declared) {
-            (Some(t), _) => {
-                log.push(b' ');
+            (Answer::Type(t), _) => {
+                log.extend(b"0 ");
                 put_type(&t, log)
             }
-            (_, Some(n)) => {
-                log.push(b' ');
+            (Answer::Error(e), _) => put_error(&e, log),
+            (Answer::Nothing, Some(n)) => {
+                log.extend(b"0 ");
                 put(&n.to_le_bytes(), log)
             }
-            _ => (),
+            (Answer::Nothing, None) => log.push(b'0'),
         }
         log.push(b'\n');
         place += 1
@@ -314,6 +385,25 @@ fn put(bytes: &[u8], log: &mut Vec<u8>) {
     bytes.iter().for_each(|b| log.extend([DIGITS[*b as usize >> 4], DIGITS[*b as usize & 15]]))
 }
 
+/// an answer of 1 to 4
+fn put_error(e: &core::TypingError, log: &mut Vec<u8>) {
+    use core::TypingError::*;
+    let (number, types) = match e {
+        SubtypeError(a, b) => (b'1', Some((a, b))),
+        Incompatible(a, b) => (b'2', Some((a, b))),
+        ArityMismatch(_, a, _, b) => (b'3', Some((a, b))),
+        RecursiveType(_) => (b'4', None),
+    };
+    log.extend([number, b' ']);
+    if let Some((a, b)) = types {
+        put_type(a, log);
+        put_type(b, log)
+    }
+    if let RecursiveType(l) = e {
+        put(&l.start().to_le_bytes(), log)
+    }
+}
+
 /// a type in hexadecimal, straight from core.rs's
 fn put_type(t: &Type, log: &mut Vec<u8>) {
     let head = |tag: u8, log: &mut Vec<u8>| {
@@ -375,7 +465,7 @@ impl Lent {
     }
 }
 
-/// a job from its fresh state on; the log's length
+/// a job on words that are zeroed first; the log's length
 #[no_mangle]
 #[inline(never)]
 pub fn oracle_timed_job(calls: &dyn Calls, stream: &[u8], lent: &mut Lent) -> usize {
@@ -383,6 +473,18 @@ pub fn oracle_timed_job(calls: &dyn Calls, stream: &[u8], lent: &mut Lent) -> us
     lent.words.fill(0);
     lent.params.fill([0; 8]);
     let number = calls.job(&mut lent.words, &mut lent.params, stream, false, &mut lent.log, &mut lines);
+    let told = &lent.words[..5];
+    assert!(number == 0 && lines.ended && lines.read == stream.len(), "{} {:?} {:?}", number, told, lines);
+    lines.written
+}
+
+/// a job by the call that clears the words itself; the log's length
+#[no_mangle]
+#[inline(never)]
+pub fn oracle_timed_fresh_job(stream: &[u8], lent: &mut Lent) -> usize {
+    let mut lines = Lines::default();
+    let number =
+        pongiwaru::lent::fresh_job(&mut lent.words, &mut lent.params, stream, false, &mut lent.log, &mut lines);
     assert!(number == 0 && lines.ended && lines.read == stream.len());
     lines.written
 }
@@ -396,7 +498,7 @@ pub fn oracle_timed_records(calls: &dyn Calls, records: &[&[u8]], lent: &mut Len
     let mut length = 0;
     for r in records {
         let number = calls.record(&mut lent.words, &mut lent.params, r, &mut lent.log[..4096], &mut length);
-        assert!(number == 0)
+        assert!(number <= 4)
     }
 }
 
@@ -408,7 +510,8 @@ impl Default for Lent {
 
 //---- measuring --------------------------------------------------------------------------------------------------
 
-pub const SIDES: [&str; 6] = ["engine", "engine-records", "core-copy", "core", "form-copy", "form"];
+pub const SIDES: [&str; 7] =
+    ["engine-fresh", "engine-zeroed", "engine-records", "core-copy", "form-copy", "core", "form"];
 
 /// the bytes of each record
 fn cut(stream: &[u8]) -> Vec<&[u8]> {
@@ -432,7 +535,8 @@ fn timed<T>(f: impl FnOnce() -> T) -> f64 {
 pub fn once(work: &Work, side: &str, calls: &dyn Calls, lent: &mut Lent) -> f64 {
     let mut log = Vec::with_capacity(8 << 20);
     let mut one = |stream: &Vec<u8>| match side {
-        "engine" => timed(|| oracle_timed_job(calls, stream, lent)),
+        "engine-fresh" => timed(|| oracle_timed_fresh_job(stream, lent)),
+        "engine-zeroed" => timed(|| oracle_timed_job(calls, stream, lent)),
         "engine-records" => {
             let records = cut(stream);
             timed(|| oracle_timed_records(calls, &records, lent))
@@ -457,29 +561,59 @@ pub fn measured(work: &Work, side: &str, calls: &dyn Calls, runs: usize) -> f64 
 pub fn same_logs(work: &Work, calls: &dyn Calls) -> bool {
     let (mut lent, mut log) = (Lent::new(), vec![]);
     work.streams.iter().all(|s| {
-        oracle_timed_form(s, false, &mut log);
+        oracle_timed_form(s, true, &mut log);
         let n = oracle_timed_job(calls, s, &mut lent);
-        log == lent.log[..n]
+        let zeroed = log == lent.log[..n];
+        let n = oracle_timed_fresh_job(s, &mut lent);
+        zeroed && log == lent.log[..n]
     })
 }
 
+/// A body's records by mark and by answer, in a hundred.
+fn shares(w: &Work) -> String {
+    let (mut marks, mut answers) = (BTreeMap::new(), BTreeMap::new());
+    for ((mark, number), n) in w.counts() {
+        *marks.entry(mark).or_insert(0) += n;
+        *answers.entry(number).or_insert(0) += n
+    }
+    let part = |n: usize| format!("{:.1}", 100.0 * n as f64 / w.records as f64);
+    let marks: Vec<_> = marks.into_iter().map(|(m, n)| format!("{} {}", m, part(n))).collect();
+    let answers: Vec<_> = answers.into_iter().map(|(a, n)| format!("{}: {}", a, part(n))).collect();
+    format!("  in 100 records: {}; answers {}\n", marks.join(", "), answers.join(", "))
+}
+
+/// Nodes in use at a job's end, at most.
+fn most_nodes(w: &Work) -> u32 {
+    let mut lent = Lent::new();
+    let at_end = |s: &Vec<u8>| {
+        oracle_timed_fresh_job(s, &mut lent);
+        lent.words[0]
+    };
+    w.streams.iter().map(at_end).max().unwrap_or(0)
+}
+
 /// A table for people.
-pub fn table(calls: &dyn Calls, runs: usize) -> String {
+pub fn table(calls: &(dyn Calls + Sync), runs: usize) -> String {
     let mut out = String::new();
     for w in WORKS.map(work) {
         assert!(same_logs(&w, calls), "{}: logs differ", w.name);
-        let ns: Vec<_> = SIDES.iter().map(|s| measured(&w, s, calls, runs)).collect();
-        writeln!(out, "{}: {} variables in use, {} jobs, {} records", w.name, w.vars(), w.streams.len(), w.records)
-            .unwrap();
-        for (side, n) in SIDES.iter().zip(&ns) {
-            let (per_second, ratio) = (1e9 / n, n / ns[0]);
-            writeln!(
-                out,
-                "  {:<15}{:>8.0} ns a record{:>10.0} a second{:>7.2} times the engine's time",
-                side, n, per_second, ratio
-            )
-            .unwrap()
+        let ns: Vec<_> = w.sides().iter().map(|s| measured(&w, s, calls, runs)).collect();
+        let (jobs, most) = (w.streams.len(), most_nodes(&w));
+        writeln!(
+            out,
+            "{}: {} variables in use, {} nodes, {} jobs, {} records",
+            w.name,
+            w.vars(),
+            most,
+            jobs,
+            w.records
+        )
+        .unwrap();
+        out += &shares(&w);
+        for (side, n) in w.sides().iter().zip(&ns) {
+            let ratio = n / ns[0];
+            writeln!(out, "  {:<15}{:>8.0} ns a record{:>8.2} times engine-fresh", side, n, ratio).unwrap()
         }
     }
-    out
+    out + &apart::table(calls, runs)
 }

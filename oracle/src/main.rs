@@ -27,6 +27,7 @@ oracle damage records|states|wild SEED COUNT           damaged records, damaged 
 oracle traps                                          types with more parts than nodes, deep and looped ones
 oracle bench [RUNS]                                   records per second beside core.rs
 oracle bench once WORK SIDE TIMES                     the same job again and again, for a profiler
+oracle bench marks                                    for each mark a call without records and one with, likewise
 oracle joinlog PROGRAM                                joinlog beside one call of the engine
 Without a file, stdin is read.";
 
@@ -176,6 +177,9 @@ fn run(args: Vec<String>) -> i32 {
                 bench::once(work, side, engine(false), &mut lent);
             }
             println!("{} records", work.records)
+        }
+        Some("bench") if words.get(1).map(String::as_str) == Some("marks") => {
+            print!("{}", bench::apart::marks_once(engine(false)))
         }
         Some("bench") => {
             let runs = words.get(1).map_or(200, |w| number(Some(w)));

@@ -1,0 +1,227 @@
+//! What a table of whole jobs does not show: a record of each mark, a lent record, and the slowest records on sound states.
+use super::{timed, Lent};
+use crate::{
+    calls::{Calls, Lines, MIN_ANSWER},
+    lent::{self, fresh, sound, MAX_CONSTRAINTS},
+    text::assemble,
+    traps,
+};
+use std::fmt::Write as _;
+
+//---- by mark -------------------------------------------------------------------------------------------------
+
+/// records of a row: the time of a call without records is taken off, and the rest shared among them
+const EACH: usize = 16;
+const DECLARED: &str = "SD {copy, drop} <{drop}>\n";
+
+pub struct Row {
+    pub name: &'static str,
+    answer: u8,
+    pub records: usize,
+    stream: Vec<u8>,
+}
+
+fn lines(n: usize, line: impl Fn(usize) -> String) -> String {
+    (0..n).map(|i| line(i) + "\n").collect()
+}
+
+/// 100 variables: V0 to V15 u64, to V23 vectors, to V27 structs, to V35 merged by two, to V79 open, to V95 numeric with a
+/// constraint each.
+fn middle() -> String {
+    let taken = lines(80, |_| "FV".into()) + &lines(16, |_| "NV".into());
+    let bound = |i| format!("JN V{}, {}", i, if i < 16 { "u64" } else { ["vector<u8>", "S0<u64>"][i / 24] });
+    let merged = lines(4, |i| format!("JN V{}, V{}", 28 + i, 32 + i));
+    taken + &lines(28, bound) + &merged + &lines(16, |i| format!("NC numeric V{}", 80 + i))
+}
+
+fn row(name: &'static str, answer: u8, records: usize, line: impl Fn(usize) -> String) -> Row {
+    let skipped = assemble(DECLARED, true).unwrap().len();
+    let stream = assemble(&(DECLARED.to_string() + &lines(records, line)), true).unwrap()[skipped..].to_vec();
+    Row { name, answer, records, stream }
+}
+
+pub fn rows() -> Vec<Row> {
+    let each = |name, line: &str| row(name, 0, EACH, |_| line.into());
+    let over = |name, answer, line: fn(usize) -> String| row(name, answer, EACH, line);
+    vec![
+        each("SD", "SD {copy} <{}>"),
+        each("FV", "FV"),
+        each("NV", "NV"),
+        over("SN", 0, |i| format!("SN V{}", 36 + i)),
+        each("JN, no variable", "JN vector<u8>, vector<u8>"),
+        over("JN, binds", 0, |i| format!("JN V{}, vector<u8>", 36 + i)),
+        over("JN, merges two open", 0, |i| format!("JN V{}, V{}", 36 + i, 60 + i)),
+        over("JN, a bound one", 0, |i| format!("JN V{}, u64", i)),
+        over("JN, fails with 2", 2, |i| format!("JN V{}, bool", i)),
+        over("JN, fails with 4", 4, |i| format!("JN V{}, vector<V{}>", 36 + i, 36 + i)),
+        each("SU, no variable", "SU &mut u8, &u8"),
+        over("SU, binds", 0, |i| format!("SU V{}, u64", 36 + i)),
+        over("SU, fails with 1", 1, |_| "SU &u8, &mut u8".into()),
+        over("UF", 0, |i| format!("UF V{}", i)),
+        over("RD, a variable", 0, |i| format!("RD V{}", i)),
+        over("RD, a list", 0, |i| format!("RD (V{}, vector<V{}>)", i, 16 + i % 8)),
+        over("TS", 0, |i| format!("TS [P1 = V{}] (P1, vector<P1>)", i)),
+        each("IN", "IN S0<_>"),
+        over("NC", 0, |i| format!("NC numeric V{}", i)),
+        over("BC", 0, |i| format!("BC V{}", i)),
+        over("SC", 0, |i| format!("SC V{}", i)),
+        row("SV, 16 of each", 0, 1, |_| "SV".into()),
+    ]
+}
+
+/// a job that goes on from the state that is lent; the log's length
+#[no_mangle]
+#[inline(never)]
+pub fn oracle_timed_more(calls: &dyn Calls, stream: &[u8], lent: &mut Lent) -> usize {
+    let mut lines = Lines::default();
+    let number = calls.job(&mut lent.words, &mut lent.params, stream, false, &mut lent.log, &mut lines);
+    assert!(number == 0 && lines.read == stream.len());
+    lines.written
+}
+
+pub struct Marks<'a> {
+    calls: &'a dyn Calls,
+    middle: lent::Lent,
+    lent: Lent,
+}
+
+impl Marks<'_> {
+    pub fn new(calls: &dyn Calls) -> Marks<'_> {
+        let mut lent = Lent::new();
+        super::oracle_timed_fresh_job(&assemble(&(DECLARED.to_string() + &middle()), true).unwrap(), &mut lent);
+        let middle = lent::Lent { words: lent.words.clone(), params: lent.params };
+        assert!(middle.words[2] == 100 && sound(&middle.words, &middle.params).is_ok());
+        Marks { calls, middle, lent }
+    }
+
+    /// one call on the middle state: seconds, and the log's length
+    fn once(&mut self, stream: &[u8]) -> (f64, usize) {
+        self.lent.words.copy_from_slice(&self.middle.words);
+        self.lent.params = self.middle.params;
+        let mut n = 0;
+        (timed(|| n = oracle_timed_more(self.calls, stream, &mut self.lent)), n)
+    }
+
+    /// seconds of a call without records, and of one with the row's
+    fn both(&mut self, row: &Row) -> [f64; 2] {
+        [self.once(&[]).0, self.once(&row.stream).0]
+    }
+
+    /// whether every answer is the row's
+    fn answered(&mut self, row: &Row) -> bool {
+        let (_, n) = self.once(&row.stream);
+        let log = std::str::from_utf8(&self.lent.log[..n]).unwrap();
+        let answers: Vec<_> = log.lines().map(|l| l.split(' ').nth(1)).collect();
+        answers.len() == row.records && answers.iter().all(|a| *a == Some(&row.answer.to_string()))
+    }
+
+    fn table(&mut self, runs: usize) -> String {
+        let mut out = String::from("by mark, on a state of 100 variables, engine alone:\n");
+        for row in rows() {
+            assert!(self.answered(&row), "{}: another answer", row.name);
+            let mut best = [f64::MAX; 2];
+            for _ in 0..runs {
+                let now = self.both(&row);
+                best = [best[0].min(now[0]), best[1].min(now[1])]
+            }
+            let ns = (best[1] - best[0]) * 1e9 / row.records as f64;
+            writeln!(out, "  {:<20}{:>8.0} ns", row.name, ns).unwrap()
+        }
+        out
+    }
+}
+
+//---- lent records ------------------------------------------------------------------------------------------------
+
+/// V0 to V999, each bound to the next, the last to u8; V1000 is a list of lists, four deep, whose ends are all V0; V1001
+/// on are numeric.
+fn chain() -> lent::Lent {
+    let mut s = fresh();
+    (0..1004).for_each(|_| assert!(s.add_var().is_some()));
+    let byte = s.add_node(3, 0, 0, 2, &[]).unwrap();
+    s.bind(999, byte);
+    for v in 0..999 {
+        let next = s.add_node(6, 0, v + 1, 0, &[]).unwrap();
+        s.bind(v as usize, next)
+    }
+    let first = s.add_node(6, 0, 0, 0, &[]).unwrap();
+    let top = (0..4).fold(first, |below, _| s.add_node(4, 0, 0, 8, &[below; 8]).unwrap());
+    s.bind(1000, top);
+    s
+}
+
+/// The same chain, open at its end, all of it numeric, with as many constraints on its head as there may be.
+fn marked_chain() -> lent::Lent {
+    let mut s = fresh();
+    (0..1000).for_each(|_| assert!(s.add_var().is_some()));
+    for v in 0..999 {
+        let next = s.add_node(6, 0, v + 1, 0, &[]).unwrap();
+        s.bind(v as usize, next)
+    }
+    (0..1000).for_each(|v| s.set_mark(v, 1));
+    let first = s.add_node(6, 0, 0, 0, &[]).unwrap();
+    (0..MAX_CONSTRAINTS).for_each(|_| assert!(s.add_constraint(1, 1, first, 0).is_some()));
+    s
+}
+
+/// lists of lists of eight, with `n` times V0 at their ends
+fn ends(n: usize) -> String {
+    let nest = |parts: Vec<String>| {
+        let lists = parts.chunks(8).map(|c| if c.len() == 1 { c[0].clone() } else { format!("({})", c.join(", ")) });
+        lists.collect::<Vec<_>>()
+    };
+    nest(nest(nest(vec!["V0".into(); n]))).remove(0)
+}
+
+/// the best of some runs of one lent record: its answer, and seconds
+fn lent_record(calls: &dyn Calls, state: &lent::Lent, record: &str, runs: usize) -> (u32, f64) {
+    assert_eq!(sound(&state.words, &state.params), Ok(()));
+    let bytes = assemble(record, true).unwrap();
+    let (mut answer, mut length, mut number, mut best) = ([0; MIN_ANSWER], 0, 0, f64::MAX);
+    for _ in 0..runs {
+        let (mut words, mut params) = (state.words.clone(), state.params);
+        best = best.min(timed(|| number = calls.record(&mut words, &mut params, &bytes, &mut answer, &mut length)))
+    }
+    (number, best)
+}
+
+fn lent_table(calls: &(dyn Calls + Sync), middle: &lent::Lent, runs: usize) -> String {
+    let mut out = String::from("a lent record:\n");
+    let (chain, marked) = (chain(), marked_chain());
+    let wide = format!("RD {}", ends(504));
+    for (state, lent, record, shown) in [
+        ("fresh", &fresh(), "UF u8", "UF u8"),
+        ("100 variables", middle, "UF V0", "UF V0"),
+        ("a chain of 1,000", &chain, "UF u8", "UF u8"),
+        ("a chain of 1,000", &chain, "UF V0", "UF V0"),
+        ("a chain of 1,000", &chain, "RD V0", "RD V0"),
+        ("a chain of 1,000", &chain, &wide, "RD of 504 times V0"),
+        ("a chain of 1,000", &chain, "RD V1000", "RD of 4,096 times V0"),
+        ("a chain of 1,000", &chain, "JN V0, V1", "JN V0, V1"),
+        ("all numeric", &marked, "SV", "SV with 512 constraints"),
+    ] {
+        let (number, seconds) = lent_record(calls, lent, record, runs);
+        writeln!(out, "  {:<18}{:<25}{:>3}{:>10.1} us", state, shown, number, seconds * 1e6).unwrap()
+    }
+    let (mut tried, _) = traps::run(calls);
+    tried.sort_by(|a, b| b.seconds.total_cmp(&a.seconds));
+    writeln!(out, "the slowest of {} records on other sound states (oracle traps):", tried.len()).unwrap();
+    tried.iter().take(4).for_each(|l| writeln!(out, "  {}", l.text()).unwrap());
+    out
+}
+
+pub fn table(calls: &(dyn Calls + Sync), runs: usize) -> String {
+    let mut marks = Marks::new(calls);
+    let by_mark = marks.table(10 * runs);
+    by_mark + &lent_table(calls, &marks.middle, runs)
+}
+
+/// Each row's two calls, for a profiler that counts them apart.
+pub fn marks_once(calls: &dyn Calls) -> String {
+    let mut marks = Marks::new(calls);
+    let told = |row: &Row| {
+        marks.both(row);
+        format!("{}\t{}\n", row.records, row.name)
+    };
+    rows().iter().map(told).collect()
+}
