@@ -6,10 +6,12 @@ cargo build --release --offline -j1 --features hashmap --target-dir target/hashm
 oracle=target/hashmap/release/oracle
 $oracle bench "${1:-200}" || exit 1
 command -v valgrind > /dev/null || exit 0
+
 echo "instructions a record:"
-for work in small middle large short; do
+for work in small middle large short body-10 body-100 body-1000; do
   line="  $work:"
-  for side in engine engine-records core-copy core form-copy form; do
+  for side in engine-fresh engine-zeroed engine-records core-copy form-copy core form; do
+    case $work-$side in body-*-core | body-*-form) continue ;; esac
     out=$(valgrind --tool=callgrind --callgrind-out-file=/dev/null --toggle-collect='oracle_timed*' \
       $oracle bench once $work $side 2 2>&1) || exit 1
     records=$(awk '/ records$/ { print $1 }' <<< "$out")
@@ -17,3 +19,16 @@ for work in small middle large short; do
   done
   echo "$line"
 done
+
+# two calls a row, without records and with: their difference, shared among the records
+dumps=$(mktemp -d) && trap 'rm -rf "$dumps"' EXIT
+rows=$(valgrind --tool=callgrind --callgrind-out-file="$dumps/call" --toggle-collect=oracle_timed_more \
+  --dump-after=oracle_timed_more $oracle bench marks 2> /dev/null) || exit 1
+echo "instructions by mark:"
+call=0
+while IFS=$'\t' read -r records name; do
+  counts=$(for i in $((call + 1)) $((call + 2)); do sed -n 's/^totals: //p' "$dumps/call.$i"; done)
+  awk -v n="$records" -v name="$name" 'NR == 1 { empty = $1 } END { printf "  %-20s%8d\n", name, ($1 - empty) / n }' \
+    <<< "$counts"
+  call=$((call + 2))
+done <<< "$rows"

@@ -12,6 +12,7 @@ use oracle::{
     text::{assemble, disassemble},
     traps,
 };
+use std::collections::BTreeSet;
 
 /// the engine where it is linked, and core.rs in its place
 fn all() -> Vec<&'static dyn Calls> {
@@ -325,7 +326,10 @@ fn benchmark_jobs_have_core_rs_s_logs() {
     for name in bench::WORKS {
         let work = bench::work(name);
         assert!(bench::same_logs(&work, engine), "{}", name);
-        let vars = ["small", "middle", "large"].iter().position(|n| *n == name).map(|i| 10usize.pow(i as u32 + 1));
-        assert!(vars.is_none_or(|v| v == work.vars()), "{}: {}", name, work.vars())
+        let sizes = [["small", "middle", "large"], ["body-10", "body-100", "body-1000"]];
+        let size = sizes.iter().find_map(|names| names.iter().position(|n| *n == name));
+        assert!(size.is_none_or(|i| 10usize.pow(i as u32 + 1) == work.vars()), "{}: {}", name, work.vars());
+        let answers: BTreeSet<_> = work.counts().into_keys().map(|(_, number)| number).collect();
+        assert_eq!(answers.len(), if name.starts_with("body") { 5 } else { 1 }, "{}", name)
     }
 }

@@ -133,32 +133,35 @@ impl Marks<'_> {
 
 //---- lent records ------------------------------------------------------------------------------------------------
 
-/// V0 to V999, each bound to the next, the last to u8; V1000 is a list of lists, four deep, whose ends are all V0; V1001
-/// on are numeric.
-fn chain() -> lent::Lent {
+/// V0 bound to V1, V1 to V2 and so on, for n variables; the last is open.
+fn open_chain(n: usize) -> lent::Lent {
     let mut s = fresh();
-    (0..1004).for_each(|_| assert!(s.add_var().is_some()));
-    let byte = s.add_node(3, 0, 0, 2, &[]).unwrap();
-    s.bind(999, byte);
-    for v in 0..999 {
-        let next = s.add_node(6, 0, v + 1, 0, &[]).unwrap();
-        s.bind(v as usize, next)
+    (0..n).for_each(|_| assert!(s.add_var().is_some()));
+    for v in 1..n {
+        let next = s.add_node(6, 0, v as u32, 0, &[]).unwrap();
+        s.bind(v - 1, next)
     }
-    let first = s.add_node(6, 0, 0, 0, &[]).unwrap();
-    let top = (0..4).fold(first, |below, _| s.add_node(4, 0, 0, 8, &[below; 8]).unwrap());
-    s.bind(1000, top);
     s
 }
 
-/// The same chain, open at its end, all of it numeric, with as many constraints on its head as there may be.
-fn marked_chain() -> lent::Lent {
-    let mut s = fresh();
-    (0..1000).for_each(|_| assert!(s.add_var().is_some()));
-    for v in 0..999 {
-        let next = s.add_node(6, 0, v + 1, 0, &[]).unwrap();
-        s.bind(v as usize, next)
+/// Such a chain that ends in `()`, and two variables more: lists of lists, four deep, whose ends are all V0, or all V1.
+fn chain(n: usize) -> lent::Lent {
+    let mut s = open_chain(n);
+    let unit = s.add_node(0, 0, 0, 0, &[]).unwrap();
+    s.bind(n - 1, unit);
+    for v in 0..2 {
+        let end = s.add_node(6, 0, v, 0, &[]).unwrap();
+        let top = (0..4).fold(end, |below, _| s.add_node(4, 0, 0, 8, &[below; 8]).unwrap());
+        let list = s.add_var().unwrap();
+        s.bind(list, top)
     }
-    (0..1000).for_each(|v| s.set_mark(v, 1));
+    s
+}
+
+/// Such an open chain, all of it numeric, with as many constraints on V0 as there may be.
+fn numeric_chain(n: usize) -> lent::Lent {
+    let mut s = open_chain(n);
+    (0..n).for_each(|v| s.set_mark(v, 1));
     let first = s.add_node(6, 0, 0, 0, &[]).unwrap();
     (0..MAX_CONSTRAINTS).for_each(|_| assert!(s.add_constraint(1, 1, first, 0).is_some()));
     s
@@ -186,22 +189,22 @@ fn lent_record(calls: &dyn Calls, state: &lent::Lent, record: &str, runs: usize)
 }
 
 fn lent_table(calls: &(dyn Calls + Sync), middle: &lent::Lent, runs: usize) -> String {
-    let mut out = String::from("a lent record:\n");
-    let (chain, marked) = (chain(), marked_chain());
+    let mut out = String::from("a lent record, its answer:\n");
+    let (long, half, numeric) = (chain(1000), chain(500), numeric_chain(1000));
     let wide = format!("RD {}", ends(504));
     for (state, lent, record, shown) in [
         ("fresh", &fresh(), "UF u8", "UF u8"),
         ("100 variables", middle, "UF V0", "UF V0"),
-        ("a chain of 1,000", &chain, "UF u8", "UF u8"),
-        ("a chain of 1,000", &chain, "UF V0", "UF V0"),
-        ("a chain of 1,000", &chain, "RD V0", "RD V0"),
-        ("a chain of 1,000", &chain, &wide, "RD of 504 times V0"),
-        ("a chain of 1,000", &chain, "RD V1000", "RD of 4,096 times V0"),
-        ("a chain of 1,000", &chain, "JN V0, V1", "JN V0, V1"),
-        ("all numeric", &marked, "SV", "SV with 512 constraints"),
+        ("chain of 1,000", &long, "UF u8", "UF u8"),
+        ("chain of 1,000", &long, "UF V0", "UF V0"),
+        ("chain of 1,000", &long, "RD V0", "RD V0"),
+        ("chain of 1,000", &long, &wide, "RD of a list with 504 V0"),
+        ("chain of 1,000", &long, "RD V1000", "RD of a list with 4,096 V0"),
+        ("chain of 500", &half, "JN V500, V501", "JN of 4,096 V0 and V1"),
+        ("chain of 1,000", &numeric, "SV", "SV, numeric, 512 constraints"),
     ] {
         let (number, seconds) = lent_record(calls, lent, record, runs);
-        writeln!(out, "  {:<18}{:<25}{:>3}{:>10.1} us", state, shown, number, seconds * 1e6).unwrap()
+        writeln!(out, "  {:<16}{:<30}{:>2}{:>10.1} us", state, shown, number, seconds * 1e6).unwrap()
     }
     let (mut tried, _) = traps::run(calls);
     tried.sort_by(|a, b| b.seconds.total_cmp(&a.seconds));
