@@ -20,15 +20,15 @@ for work in small middle large short body-10 body-100 body-1000; do
   echo "$line"
 done
 
-# two calls a row, without records and with: their difference, shared among the records
+# four calls a row, without records and with, on each of two states: the differences, shared among the records
 dumps=$(mktemp -d) && trap 'rm -rf "$dumps"' EXIT
 rows=$(valgrind --tool=callgrind --callgrind-out-file="$dumps/call" --toggle-collect=oracle_timed_more \
   --dump-after=oracle_timed_more $oracle bench marks 2> /dev/null) || exit 1
-echo "instructions by mark:"
+echo "instructions by mark, on both states:"
 call=0
 while IFS=$'\t' read -r records name; do
-  counts=$(for i in $((call + 1)) $((call + 2)); do sed -n 's/^totals: //p' "$dumps/call.$i"; done)
-  awk -v n="$records" -v name="$name" 'NR == 1 { empty = $1 } END { printf "  %-20s%8d\n", name, ($1 - empty) / n }' \
-    <<< "$counts"
-  call=$((call + 2))
+  counts=$(for i in 1 2 3 4; do sed -n 's/^totals: //p' "$dumps/call.$((call + i))"; done)
+  awk -v n="$records" -v name="$name" '{ c[NR] = $1 }
+    END { printf "  %-20s%8d%8d\n", name, (c[2] - c[1]) / n, (c[4] - c[3]) / n }' <<< "$counts"
+  call=$((call + 4))
 done <<< "$rows"

@@ -173,11 +173,7 @@ pub enum Op {
     Solve,
 }
 
-pub enum Answer {
-    Nothing,
-    Type(Type),
-    Error(core::TypingError),
-}
+type Failed = Option<core::TypingError>;
 
 /// A join; with `copy` the caller keeps what it needs to put back on 1 to 4.
 fn joined(
@@ -186,17 +182,19 @@ fn joined(
     a: &Type,
     b: &Type,
     copy: bool,
-) -> Answer {
+    failed: &mut Failed,
+) -> Option<Type> {
     let subst = mem::replace(&mut job.ctx.subst, Subst::empty());
     let kept = copy.then(|| subst.clone());
     match f(subst, a, b) {
         Ok((subst, t)) => {
             job.ctx.subst = subst;
-            Answer::Type(t)
+            Some(t)
         }
         Err(e) => {
             job.ctx.subst = kept.expect("only a body's joins fail");
-            Answer::Error(e)
+            *failed = Some(e);
+            None
         }
     }
 }
@@ -211,38 +209,27 @@ fn solve(ctx: &mut core::Context) {
     assert!(ctx.env.take_diags().is_empty())
 }
 
-/// One call of core.rs.
-fn call(job: &mut Job, op: Op, copy: bool) -> Answer {
-    let ctx = &mut job.ctx;
-    Answer::Type(match op {
-        Op::Fresh(l) => core::make_tvar(ctx, l),
-        Op::Numeric(l) => core::make_num_tvar(ctx, l),
-        Op::Join(f, a, b) => return joined(job, f, &a, &b, copy),
-        Op::Unfold(t) => core::unfold_type(&ctx.subst, t),
-        Op::Ready(t) => core::ready_tvars(&ctx.subst, t),
-        Op::Replace(ids, args, t) => core::subst_tparams(&core::make_tparam_subst(&ids, args), t),
-        Op::Instantiate(t) => core::instantiate(ctx, t),
-        other => {
-            untyped(job, other);
-            return Answer::Nothing;
-        }
-    })
-}
-
-/// The calls that give no type.
-fn untyped(job: &mut Job, op: Op) {
+/// One call of core.rs; the type that it answers.
+fn call(job: &mut Job, op: Op, copy: bool, failed: &mut Failed) -> Option<Type> {
     let ctx = &mut job.ctx;
     match op {
         Op::Declare(a, p) => drop(job.declare(a, &p, &mut vec![])),
+        Op::Fresh(l) => return Some(core::make_tvar(ctx, l)),
+        Op::Numeric(l) => return Some(core::make_num_tvar(ctx, l)),
         Op::Mark(v, l) => ctx.subst.set_num_var(v, l),
+        Op::Join(f, a, b) => return joined(job, f, &a, &b, copy, failed),
+        Op::Unfold(t) => return Some(core::unfold_type(&ctx.subst, t)),
+        Op::Ready(t) => return Some(core::ready_tvars(&ctx.subst, t)),
+        Op::Replace(ids, args, t) => return Some(core::subst_tparams(&core::make_tparam_subst(&ids, args), t)),
+        Op::Instantiate(t) => return Some(core::instantiate(ctx, t)),
         Op::Builtin(l, 0, t) => ctx.add_numeric_constraint(l, "+", t),
         Op::Builtin(l, 1, t) => ctx.add_bits_constraint(l, "|", t),
         Op::Builtin(l, _, t) => ctx.add_ordered_constraint(l, "<", t),
         Op::Base(l, t) => ctx.add_base_type_constraint(l, "base", t),
         Op::Single(l, t) => ctx.add_single_type_constraint(l, "single", t),
         Op::Solve => solve(ctx),
-        _ => unreachable!(),
     }
+    None
 }
 
 fn ops_of(stream: &[u8]) -> Vec<Op> {
@@ -260,8 +247,9 @@ fn ops_of(stream: &[u8]) -> Vec<Op> {
 pub fn oracle_timed_core(ops: Vec<Op>, copy: bool) {
     let mut job = Job::new(Options::default());
     Counter::set(0);
+    let mut failed = None;
     for op in ops {
-        black_box(call(&mut job, op, copy));
+        black_box(call(&mut job, op, copy, &mut failed));
     }
     drop(black_box(job))
 }
@@ -271,25 +259,25 @@ pub fn oracle_timed_core(ops: Vec<Op>, copy: bool) {
 #[inline(never)]
 pub fn oracle_timed_form(stream: &[u8], copy: bool, log: &mut Vec<u8>) {
     let mut job = Job::new(Options::default());
-    let (mut form, mut place) = (Form { bytes: stream, at: 0, params: vec![] }, 0);
+    let (mut form, mut place, mut failed) = (Form { bytes: stream, at: 0, params: vec![] }, 0, None);
     Counter::set(0);
     log.clear();
     while form.at < stream.len() {
         let op = form.record();
         let declared = matches!(op, Op::Declare(..)).then(|| form.params.len() as u16 - 1);
-        let answer = call(&mut job, op, copy);
+        let answer = call(&mut job, op, copy, &mut failed);
         write!(log, "{} ", place).unwrap();
-        match (answer, declared) {
-            (Answer::Type(t), _) => {
+        match (answer, declared, failed.take()) {
+            (Some(t), ..) => {
                 log.extend(b"0 ");
                 put_type(&t, log)
             }
-            (Answer::Error(e), _) => put_error(&e, log),
-            (Answer::Nothing, Some(n)) => {
+            (_, _, Some(e)) => put_error(&e, log),
+            (_, Some(n), _) => {
                 log.extend(b"0 ");
                 put(&n.to_le_bytes(), log)
             }
-            (Answer::Nothing, None) => log.push(b'0'),
+            _ => log.push(b'0'),
         }
         log.push(b'\n');
         place += 1

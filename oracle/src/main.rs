@@ -25,7 +25,7 @@ oracle order [LIST]                                   what this build's map orde
 oracle compare SEED COUNT [RECORDS] [--alter=WHAT]     the engine beside core.rs, on jobs from a seed
 oracle damage records|states|wild SEED COUNT           damaged records, damaged states
 oracle traps                                          types with more parts than nodes, deep and looped ones
-oracle bench [RUNS]                                   records per second beside core.rs
+oracle bench [RUNS]                                   times beside core.rs, by mark, of lent records
 oracle bench once WORK SIDE TIMES                     the same job again and again, for a profiler
 oracle bench marks                                    for each mark a call without records and one with, likewise
 oracle joinlog PROGRAM                                joinlog beside one call of the engine

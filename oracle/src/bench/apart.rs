@@ -25,13 +25,17 @@ fn lines(n: usize, line: impl Fn(usize) -> String) -> String {
     (0..n).map(|i| line(i) + "\n").collect()
 }
 
-/// 100 variables: V0 to V15 u64, to V23 vectors, to V27 structs, to V35 merged by two, to V79 open, to V95 numeric with a
-/// constraint each.
-fn middle() -> String {
+/// variables of the two states that the rows are tried on: the larger one has room for what they take
+const SIZES: [usize; 2] = [100, 960];
+
+/// V0 to V15 u64, to V23 vectors, to V27 structs, to V35 merged by two, to V79 open, to V95 numeric with a constraint each;
+/// and past the first 100 variables two in three u64.
+fn state(vars: usize) -> String {
+    let more = lines(vars - 100, |_| "FV".into()) + &lines((vars - 100) * 2 / 3, |i| format!("JN V{}, u64", 100 + i));
     let taken = lines(80, |_| "FV".into()) + &lines(16, |_| "NV".into());
     let bound = |i| format!("JN V{}, {}", i, if i < 16 { "u64" } else { ["vector<u8>", "S0<u64>"][i / 24] });
     let merged = lines(4, |i| format!("JN V{}, V{}", 28 + i, 32 + i));
-    taken + &lines(28, bound) + &merged + &lines(16, |i| format!("NC numeric V{}", 80 + i))
+    taken + &lines(28, bound) + &merged + &lines(16, |i| format!("NC numeric V{}", 80 + i)) + &more
 }
 
 fn row(name: &'static str, answer: u8, records: usize, line: impl Fn(usize) -> String) -> Row {
@@ -81,23 +85,23 @@ pub fn oracle_timed_more(calls: &dyn Calls, stream: &[u8], lent: &mut Lent) -> u
 
 pub struct Marks<'a> {
     calls: &'a dyn Calls,
-    middle: lent::Lent,
+    state: lent::Lent,
     lent: Lent,
 }
 
 impl Marks<'_> {
-    pub fn new(calls: &dyn Calls) -> Marks<'_> {
+    pub fn new(calls: &dyn Calls, vars: usize) -> Marks<'_> {
         let mut lent = Lent::new();
-        super::oracle_timed_fresh_job(&assemble(&(DECLARED.to_string() + &middle()), true).unwrap(), &mut lent);
-        let middle = lent::Lent { words: lent.words.clone(), params: lent.params };
-        assert!(middle.words[2] == 100 && sound(&middle.words, &middle.params).is_ok());
-        Marks { calls, middle, lent }
+        super::oracle_timed_fresh_job(&assemble(&(DECLARED.to_string() + &state(vars)), true).unwrap(), &mut lent);
+        let state = lent::Lent { words: lent.words.clone(), params: lent.params };
+        assert!(state.words[2] == vars as u32 && sound(&state.words, &state.params).is_ok());
+        Marks { calls, state, lent }
     }
 
-    /// one call on the middle state: seconds, and the log's length
+    /// one call on the state: seconds, and the log's length
     fn once(&mut self, stream: &[u8]) -> (f64, usize) {
-        self.lent.words.copy_from_slice(&self.middle.words);
-        self.lent.params = self.middle.params;
+        self.lent.words.copy_from_slice(&self.state.words);
+        self.lent.params = self.state.params;
         let mut n = 0;
         (timed(|| n = oracle_timed_more(self.calls, stream, &mut self.lent)), n)
     }
@@ -115,20 +119,38 @@ impl Marks<'_> {
         answers.len() == row.records && answers.iter().all(|a| *a == Some(&row.answer.to_string()))
     }
 
-    fn table(&mut self, runs: usize) -> String {
-        let mut out = String::from("by mark, on a state of 100 variables, engine alone:\n");
-        for row in rows() {
-            assert!(self.answered(&row), "{}: another answer", row.name);
-            let mut best = [f64::MAX; 2];
-            for _ in 0..runs {
-                let now = self.both(&row);
-                best = [best[0].min(now[0]), best[1].min(now[1])]
-            }
-            let ns = (best[1] - best[0]) * 1e9 / row.records as f64;
-            writeln!(out, "  {:<20}{:>8.0} ns", row.name, ns).unwrap()
+    /// nanoseconds of a record of the row
+    fn measured(&mut self, row: &Row, runs: usize) -> f64 {
+        assert!(self.answered(row), "{}: another answer", row.name);
+        let mut best = [f64::MAX; 2];
+        for _ in 0..runs {
+            let now = self.both(row);
+            best = [best[0].min(now[0]), best[1].min(now[1])]
         }
-        out
+        (best[1] - best[0]) * 1e9 / row.records as f64
     }
+}
+
+fn marks_table(calls: &dyn Calls, runs: usize) -> String {
+    let mut states = SIZES.map(|n| Marks::new(calls, n));
+    let mut out = format!("by mark, engine alone, ns a record on states of {:?} variables:\n", SIZES);
+    for row in rows() {
+        let [a, b] = [0, 1].map(|i| states[i].measured(&row, runs));
+        writeln!(out, "  {:<20}{:>8.0}{:>8.0}", row.name, a, b).unwrap()
+    }
+    out
+}
+
+/// Each row's two calls on each state, for a profiler that counts them apart.
+pub fn marks_once(calls: &dyn Calls) -> String {
+    let mut states = SIZES.map(|n| Marks::new(calls, n));
+    let told = |row: &Row| {
+        for s in &mut states {
+            s.both(row);
+        }
+        format!("{}\t{}\n", row.records, row.name)
+    };
+    rows().iter().map(told).collect()
 }
 
 //---- lent records ------------------------------------------------------------------------------------------------
@@ -188,13 +210,15 @@ fn lent_record(calls: &dyn Calls, state: &lent::Lent, record: &str, runs: usize)
     (number, best)
 }
 
-fn lent_table(calls: &(dyn Calls + Sync), middle: &lent::Lent, runs: usize) -> String {
+fn lent_table(calls: &(dyn Calls + Sync), runs: usize) -> String {
     let mut out = String::from("a lent record, its answer:\n");
+    let [middle, large] = SIZES.map(|n| Marks::new(calls, n).state);
     let (long, half, numeric) = (chain(1000), chain(500), numeric_chain(1000));
     let wide = format!("RD {}", ends(504));
     for (state, lent, record, shown) in [
         ("fresh", &fresh(), "UF u8", "UF u8"),
-        ("100 variables", middle, "UF V0", "UF V0"),
+        ("100 variables", &middle, "UF V0", "UF V0"),
+        ("960 variables", &large, "UF V0", "UF V0"),
         ("chain of 1,000", &long, "UF u8", "UF u8"),
         ("chain of 1,000", &long, "UF V0", "UF V0"),
         ("chain of 1,000", &long, "RD V0", "RD V0"),
@@ -214,17 +238,5 @@ fn lent_table(calls: &(dyn Calls + Sync), middle: &lent::Lent, runs: usize) -> S
 }
 
 pub fn table(calls: &(dyn Calls + Sync), runs: usize) -> String {
-    let mut marks = Marks::new(calls);
-    let by_mark = marks.table(10 * runs);
-    by_mark + &lent_table(calls, &marks.middle, runs)
-}
-
-/// Each row's two calls, for a profiler that counts them apart.
-pub fn marks_once(calls: &dyn Calls) -> String {
-    let mut marks = Marks::new(calls);
-    let told = |row: &Row| {
-        marks.both(row);
-        format!("{}\t{}\n", row.records, row.name)
-    };
-    rows().iter().map(told).collect()
+    marks_table(calls, 10 * runs) + &lent_table(calls, runs)
 }

@@ -1,5 +1,5 @@
 //! A function body as a type checker walks it: IN and TS for a call, SU for each argument, FV and JN for a let, JN where
-//! branches meet, UF at a dot, and at the end SV and RD of every local. One statement in nine is wrong: a join or subtype
+//! branches meet, UF at a dot, and at the end SV and RD of every local. One statement in eleven is wrong: a join or subtype
 //! that answers 1 to 4 and is put back.
 use crate::{
     gen::Chance,
