@@ -10,7 +10,7 @@ import os, sys
 ROOT = os.path.join(os.path.dirname(os.path.abspath(__file__)), '..')
 KIT = ('io', 'libc')
 GROUPS = [
-    ('believed', '#f5d76e', 'definition replay'),
+    ('believed', '#f5d76e', 'definition pieces replay'),
     ('the lent words', '#aed6f1', 'names table snap lent'),
     ("core.rs's functions", '#a9dfbf', 'subst arms merge join walk tparams instantiate constraints failures'),
     ('bytes in and out', '#d7bde2', 'cursor reader record writer report log answer'),

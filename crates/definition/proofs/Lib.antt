@@ -2,7 +2,6 @@ pub mod AnswersJoin
 pub mod AnswersRecords
 pub mod AnswersWider
 pub mod AnswersLimits
-pub mod AnswersPieces
 pub mod Laws
 pub mod Tracks
 pub mod Chains
@@ -62,7 +61,6 @@ pub mod NumericCheck
 pub mod NumericRule
 pub mod NoFailIn
 pub mod Stream
-pub mod Pieces
 pub mod Points
 pub mod Erase
 pub mod EraseJoin

@@ -13,11 +13,11 @@ use Rattle.definition.specs.Sound.{sound}
 use Rattle.definition.specs.Step as step
 use Rattle.definition.specs.Step.{step-stream, max-buffer}
 use Rattle.definition.specs.Job.{ends-job, line}
-use Rattle.definition.specs.Pieces.{Piece, max-line, max-place, takes-on, halt, after-line, next-lines}
+use Rattle.pieces.specs.Pieces.{Piece, max-line, max-place, takes-on, halt, after-line, next-lines}
 use Rattle.definition.proofs.Facts.{and-l, and-r, test}
 use Rattle.definition.proofs.SoundKept.{trusted, stream-no-15}
 use Rattle.definition.proofs.Stream.{Goes-on, shorter, over, stream-on}
-use Rattle.definition.proofs.Pieces.{entry-of, next-spent, next-stops, next-last, next-goes, no-line, two-lines, line-size}
+use Rattle.pieces.proofs.Pieces.{entry-of, next-spent, next-stops, next-last, next-goes, no-line, two-lines, line-size}
 use Rattle.table.specs.declared.Used.{Used}
 use Rattle.log.specs.Line.{Wrote, line-of}
 use Rattle.step.specs.declared.Stepped.{Stepped}

@@ -17,7 +17,7 @@ use Rattle.definition.specs.Sound.{sound}
 use Rattle.definition.specs.Step as step
 use Rattle.definition.specs.Step.{lent, step, step-stream, usable, max-buffer}
 use Rattle.definition.specs.Job.{ends-job}
-use Rattle.definition.specs.Pieces.{max-line, max-place, takes-on, next-lines}
+use Rattle.pieces.specs.Pieces.{max-line, max-place, takes-on, next-lines}
 use Rattle.definition.proofs.Facts.{and-l, and-r, test}
 use Rattle.definition.proofs.SoundKept.{trusted}
 use Rattle.definition.proofs.Soundness.{and, le-test}

@@ -5,7 +5,7 @@ use mathlib.Core.List.{List, _++_}
 use Prim.Native.Nat.{ℕ, _≤_}
 use lib.ListN.{length, take, drop}
 use Rattle.definition.specs.Write.{Bytes}
-use Rattle.definition.specs.Pieces.{next-lines}
+use Rattle.pieces.specs.Pieces.{next-lines}
 use Rattle.table.specs.declared.Used.{Used}
 use Rattle.step.specs.Trusted.{held, Stands}
 use Rattle.engine.specs.declared.Lines.{Lines}

@@ -7,7 +7,7 @@ use lib.ListN.{length, drop}
 use Rattle.definition.specs.Types.{fresh}
 use Rattle.definition.specs.Write.{Bytes}
 use Rattle.definition.specs.Step.{Answer, step, step-stream, max-buffer}
-use Rattle.definition.specs.Pieces.{Piece, next-lines}
+use Rattle.pieces.specs.Pieces.{Piece, next-lines}
 use Rattle.table.specs.Encode.{encode}
 use Rattle.lent.specs.Lent.{decode, encode-params, lent-sound}
 

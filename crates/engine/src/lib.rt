@@ -7,7 +7,7 @@ ghost use lib.Dec.{leb};
 ghost use lib.ListN.{length as size, take, drop, replicate};
 ghost use Rattle.definition.specs.Write.{Is-bytes};
 ghost use Rattle.definition.specs.Job.{ends-job};
-ghost use Rattle.definition.specs.Pieces.{takes-on};
+ghost use Rattle.pieces.specs.Pieces.{takes-on};
 ghost use Rattle.lent.specs.Lent.{lent-sound};
 ghost use Rattle.engine.specs.Public.{lent-step, in-front, rest-of, lent-lines, fresh-lines};
 ghost use Rattle.engine.specs.Lists.{Lists};

@@ -11,11 +11,11 @@ use Rattle.definition.specs.Types.{State, fresh}
 use Rattle.definition.specs.Write.{Bytes, Is-bytes}
 use Rattle.definition.specs.Sound.{sound}
 use Rattle.definition.specs.Job.{job-from, job-log, lines, joinlog}
-use Rattle.definition.specs.Pieces.{Piece, next-lines}
+use Rattle.pieces.specs.Pieces.{Piece, next-lines}
 use Rattle.definition.proofs.Facts.{and-l}
 use Rattle.definition.proofs.WellRead.{bytes-append}
 use Rattle.definition.proofs.SoundKept.{fresh-sound}
-use Rattle.definition.proofs.Pieces.{log-from, onward, piece-follows}
+use Rattle.pieces.proofs.Pieces.{log-from, onward, piece-follows}
 use Rattle.table.specs.Encode.{encode}
 use Rattle.lent.specs.Lent.{decode, encode-params}
 use Rattle.lent.proofs.Tested.{lent-passes}

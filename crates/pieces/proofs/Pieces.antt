@@ -6,21 +6,21 @@ use Prim.Native.Nat.{ℕ, zero, suc, _+_, _-_, _/_, _%_, _≤_, _<_}
 use native.Mathlib.Omega.{arith}
 use lib.ListN.{length, take, drop, length-append}
 use lib.Dec.{leb, ltb, leb→le}
 use Rattle.definition.specs.Types.{State, fresh, unsound-state, if_then_else_}
 use Rattle.definition.specs.Write.{Bytes, Is-bytes}
 use Rattle.definition.specs.Reader.{Read, got, not-read}
 use Rattle.definition.specs.Record.{Record, max-record, hand-back, read-fields, read-record}
 use Rattle.definition.specs.Sound.{sound}
 use Rattle.definition.specs.Step.{run, Answer, refusal, answer, max-buffer, usable, streamed, step-stream}
 use Rattle.definition.specs.Job.{Entry, ends-job, job-from, job-log, digits, decimal, hexadecimal, payload-text, line, lines, joinlog}
-use Rattle.definition.specs.Pieces.{Piece, max-line, max-place, takes-on, halt, after-line, next-from, next-lines}
+use Rattle.pieces.specs.Pieces.{Piece, max-line, max-place, takes-on, halt, after-line, next-from, next-lines}
 use Rattle.definition.proofs.Decimal.{digits-same}
 use Rattle.definition.proofs.Facts.{and-l, test}
 use Rattle.definition.proofs.Soundness.{and, le-test, lt-test}
 use Rattle.definition.proofs.WellRead.{bytes-append}
 use Rattle.definition.proofs.SoundKept.{stream-sound-kept, fresh-sound}
 use Rattle.definition.proofs.Stream.{Goes-on, shorter, over, stream-on, job-enough}
 use Rattle.definition.proofs.Tracks.{never}
 
 -- ---- a record never reads past 4,096 bytes
 

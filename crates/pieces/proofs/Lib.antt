@@ -1,0 +1,2 @@
+pub mod AnswersPieces
+pub mod Pieces
