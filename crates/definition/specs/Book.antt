@@ -1,10 +1,5 @@
 -- What the Move Book says of subtyping and of integer literals, in its own terms, and what that claims of subtype, join and SV. Assumes nothing: these are definitions.
-use mathlib.Core.Path.{_≡_}
-use mathlib.Core.Bool.{Bool, true, false}
-use mathlib.Core.List.{List, [], _∷_}
-use mathlib.Core.Option.{none, some}
-use Prim.Native.Nat.{ℕ}
-use Rattle.definition.specs.Types.{TypeName, Multiple, Builtin, Mark, Type-value, UnitType, Ref, Param, Apply, Var, State, TypingError, SubtypeError, Incompatible, ArityMismatch}
+use Rattle.definition.specs.Types.{_≡_, Bool, true, false, List, [], _∷_, none, some, ℕ, TypeName, Multiple, Builtin, Mark, Type-value, UnitType, Ref, Param, Apply, Var, State, TypingError, SubtypeError, Incompatible, ArityMismatch}
 use Rattle.definition.specs.Types.{Refusal, full, too-deep, abilities-disagree, Result, ok, err, refused}
 use Rattle.definition.specs.Store.{type-at, get, num-loc}
 use Rattle.definition.specs.Subst.{forward-tvar, unfold-type}
@@ -13,7 +8,6 @@ use Rattle.definition.specs.Constraints.{is-integer, solve-constraints}
 use Rattle.definition.specs.Write.{Bytes}
 
 -- ---- Move's types: no variables, no `_` or `!`, no locations, no ability marks
-
 mutual
   pub data MoveType : Type 0 where
     -- (). core.rs tells it from an expression list of count 0, which is a tuple here
@@ -30,7 +24,6 @@ mutual
     _and_ : MoveType → MoveTypes → MoveTypes
 
 -- ---- the Book's rules
-
 mutual
   pub data Book-subtype : MoveType → MoveType → Type 0 where
     itself : {t : MoveType} → Book-subtype t t
@@ -68,7 +61,6 @@ pub data Book-type : MoveType → Type 0 where
   book-tuple : {t u : MoveType} {ts : MoveTypes} → Single t → Single u → Singles ts → Book-type (tuple (_and_ t (_and_ u ts)))
 
 -- ---- nodes as Move's types
-
 mutual
   -- the node t of the state is the type T
   pub data Denotes (s : State) : ℕ → MoveType → Type 0 where
@@ -83,7 +75,6 @@ mutual
     are-each : {p : ℕ} {ps : List ℕ} {T : MoveType} {Ts : MoveTypes} → Denotes s p T → Denote s ps Ts → Denote s (p ∷ ps) (_and_ T Ts)
 
 -- ---- the claims
-
 -- errors 1, 2 and 3
 pub data Mismatch : TypingError → Type 0 where
   no-subtype : {l r : ℕ} → Mismatch (SubtypeError l r)
