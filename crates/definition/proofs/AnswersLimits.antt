@@ -1,5 +1,5 @@
--- 01's limits, the last that fits and the first that does not, computed in states written down. Each pair has a line that is false under an edit of must-fail/
--- (docs/CLAIMS.md, 'Edits of the definition'). Assumes nothing.
+-- 01's limits, computed in states written down: each line is false under an edit of must-fail/ (docs/CLAIMS.md, 'Edits of the definition'). The other side of each
+-- limit is in crates/replay, EdgeLimits. Assumes nothing.
 use mathlib.Core.Path.{_≡_, refl}
 use mathlib.Core.Bool.{false}
 use mathlib.Core.List.{List, [], _∷_, _++_}
@@ -26,41 +26,21 @@ filled nodes args vars constraints structs = record {
   structs = replicate structs (record { abilities = 0; params = [] });
 }
 
-pub node-2048 : answered (filled 2047 0 0 0 0) (UF (unit 1)) 4096 ≡ (0, unit 1)
-unfolding answered
-node-2048 = refl
-
 pub node-2049-is-7 : answered (filled 2048 0 0 0 0) (UF (unit 1)) 4096 ≡ (7, [])
 unfolding answered
 node-2049-is-7 = refl
-
-pub argument-4096 : answered (filled 1 4095 0 0 0) (UF (vector 1 (unit 2))) 4096 ≡ (0, vector 1 (unit 2))
-unfolding answered
-argument-4096 = refl
 
 pub argument-4097-is-7 : answered (filled 1 4096 0 0 0) (UF (vector 1 (unit 2))) 4096 ≡ (7, [])
 unfolding answered
 argument-4097-is-7 = refl
 
-pub variable-1024 : answered (filled 0 0 1023 0 0) (FV 1) 4096 ≡ (0, var 1 1023)
-unfolding answered
-variable-1024 = refl
-
 pub variable-1025-is-7 : answered (filled 0 0 1024 0 0) (FV 1) 4096 ≡ (7, [])
 unfolding answered
 variable-1025-is-7 = refl
 
-pub constraint-512 : answered (filled 1 0 0 511 0) (BC 0 (unit 1)) 4096 ≡ (0, [])
-unfolding answered
-constraint-512 = refl
-
 pub constraint-513-is-7 : answered (filled 1 0 0 512 0) (BC 0 (unit 1)) 4096 ≡ (7, [])
 unfolding answered
 constraint-513-is-7 = refl
-
-pub struct-256 : answered (filled 0 0 0 0 255) (text "SD\0\0") 4096 ≡ (0, 255 ∷ 0 ∷ [])
-unfolding answered
-struct-256 = refl
 
 pub struct-257-is-7 : answered (filled 0 0 0 0 256) (text "SD\0\0") 4096 ≡ (7, [])
 unfolding answered
@@ -86,10 +66,6 @@ deep leaf n = record {
 pub payload-4096 : answered (deep (record { loc = 0; value = Param 0 0 }) 681) (UF (var 1 0)) 4096 .0 ≡ 0
 unfolding answered
 payload-4096 = refl
-
-pub payload-4097-is-14 : answered (deep unit-node 682) (UF (var 1 0)) 4096 ≡ (14, [])
-unfolding answered
-payload-4097-is-14 = refl
 
 -- ---- record numbers
 

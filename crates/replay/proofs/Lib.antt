@@ -1,3 +1,4 @@
+pub mod EdgeLimits
 pub mod EdgeRules
 pub mod EdgeStates
 pub mod EdgeStreams

@@ -1,0 +1,31 @@
+-- 01's limits, the last that fits (of the payload the first that does not), computed in states written down. The other side of each is in crates/definition,
+-- AnswersLimits. Assumes nothing.
+use mathlib.Core.Path.{_≡_, refl}
+use mathlib.Core.List.{[], _∷_}
+use Rattle.definition.proofs.Computed.{answered}
+use Rattle.definition.proofs.Spelling.{text, unit, vector, var, FV, UF, BC}
+use Rattle.definition.proofs.AnswersLimits.{unit-node, filled, deep}
+
+node-2048 : answered (filled 2047 0 0 0 0) (UF (unit 1)) 4096 ≡ (0, unit 1)
+unfolding answered
+node-2048 = refl
+
+argument-4096 : answered (filled 1 4095 0 0 0) (UF (vector 1 (unit 2))) 4096 ≡ (0, vector 1 (unit 2))
+unfolding answered
+argument-4096 = refl
+
+variable-1024 : answered (filled 0 0 1023 0 0) (FV 1) 4096 ≡ (0, var 1 1023)
+unfolding answered
+variable-1024 = refl
+
+constraint-512 : answered (filled 1 0 0 511 0) (BC 0 (unit 1)) 4096 ≡ (0, [])
+unfolding answered
+constraint-512 = refl
+
+struct-256 : answered (filled 0 0 0 0 255) (text "SD\0\0") 4096 ≡ (0, 255 ∷ 0 ∷ [])
+unfolding answered
+struct-256 = refl
+
+payload-4097-is-14 : answered (deep unit-node 682) (UF (var 1 0)) 4096 ≡ (14, [])
+unfolding answered
+payload-4097-is-14 = refl
