@@ -32,7 +32,7 @@ links() { # each link of a document leads to a file or folder
   return $bad
 }
 
-layers() { python3 tools/layers.py "$tmp/layers.svg" && cmp "$tmp/layers.svg" docs/layers.svg; }
+made() { python3 tools/computed.py --check && python3 tools/layers.py --check && python3 tools/jobs.py antt --check; }
 
 drawn() { # every crate has its place in the picture and its row in README.md
   local name bad=0
@@ -68,7 +68,7 @@ verdict "the source's copyright line" grep -qF 'Copyright (c) The Diem Core Cont
 verdict "the licence's text" grep -q 'END OF TERMS AND CONDITIONS' NOTICE
 verdict "upstream is unchanged" sh -c 'cd oracle/upstream && sha256sum -c ../upstream.sha256'
 verdict "links" links
-verdict "layers made again" layers
+verdict "what tools/ makes, made again" made
 verdict "every crate drawn and named" drawn
 verdict "the worked job's bytes" worked
 verdict "widths" widths

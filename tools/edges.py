@@ -1,7 +1,8 @@
 #!/usr/bin/env python3
 """The jobs of the program crates/edges, and what it must print.
 
-  tools/edges.py [DIR]       DIR/stdin and DIR/stdout; without DIR those of crates/edges
+  tools/edges.py             crates/edges/stdin and stdout
+  tools/edges.py --check     says whether they are as made here, and writes nothing
 
 The marked calls have 01's logs (oracle/marked.txt), the streams of crates/replay/proofs/EdgeStreams.antt the logs that the definition
 computes. The jobs below stand at 01's limits: their answers 0 to 4 are core.rs's (oracle log), and each refusal is given here by the rule
@@ -129,16 +130,20 @@ def marks():
 
 
 def main():
-    where = sys.argv[1] if len(sys.argv) > 1 else os.path.join(ROOT, 'crates/edges')
-    os.makedirs(where, exist_ok=True)
+    where = os.path.join(ROOT, 'crates/edges')
     jobs = [j for made in (marked, computed, limits, ends, marks) for j in made()]
-    with open(os.path.join(where, 'stdin'), 'wb') as f:
-        for name, stream, _ in jobs:
-            job = name.encode() + b'\n' + stream
-            f.write(struct.pack('<I', len(job)) + job)
-    with open(os.path.join(where, 'stdout'), 'w') as f:
-        for name, _, log in jobs:
-            f.write('= %s\n' % name + ''.join(line + '\n' for line in log[-KEPT:]))
+    behind = [(len(name) + 1 + len(stream), name.encode() + b'\n' + stream) for name, stream, _ in jobs]
+    texts = {
+        'stdin': b''.join(struct.pack('<I', size) + job for size, job in behind),
+        'stdout': ''.join('= %s\n' % name + ''.join(line + '\n' for line in log[-KEPT:]) for name, _, log in jobs).encode(),
+    }
+    if '--check' in sys.argv[1:]:
+        stale = [name for name, text in texts.items() if open(os.path.join(where, name), 'rb').read() != text]
+        if stale:
+            sys.exit('crates/edges, stale, run tools/edges.py: ' + ' '.join(stale))
+    else:
+        for name, text in texts.items():
+            open(os.path.join(where, name), 'wb').write(text)
 
 
 main()

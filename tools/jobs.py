@@ -2,6 +2,7 @@
 """oracle/replay.list (core.rs's answers) as checks of the definition and as a program's input.
 
   tools/jobs.py antt [DIR]       Jobs1.antt, Jobs2.antt, .. of sixty jobs each in crates/replay/proofs, or in DIR
+  tools/jobs.py antt --check     says whether they are as made here, and writes nothing
   tools/jobs.py program DIR      DIR/stdin: each job behind its length, u32 little-endian; DIR/stdout: for each
                                  job a line `= NAME`, then its log
 """
@@ -44,12 +45,12 @@ def read_list(path):
     return jobs
 
 
-def antt(jobs, where):
+def antt(jobs):
+    """each file's name and text"""
     for k in range(0, len(jobs), EACH):
         rows = ''.join('    (hex "%s", text "%s") ∷\n' % (stream, ''.join(l + '\\n' for l in log))
                        for _, stream, log in jobs[k:k + EACH])
-        with open(os.path.join(where, 'Jobs%d.antt' % (k // EACH + 1)), 'w') as f:
-            f.write(HEAD + rows + FOOT)
+        yield 'Jobs%d.antt' % (k // EACH + 1), HEAD + rows + FOOT
 
 
 def program(jobs, where):
@@ -64,8 +65,15 @@ def program(jobs, where):
 def main():
     jobs = read_list(os.path.join(ROOT, 'oracle/replay.list'))
     what, where = (sys.argv[1:] + [None, None])[:2]
-    if what == 'antt':
-        antt(jobs, where or os.path.join(ROOT, 'crates/replay/proofs'))
+    proofs = os.path.join(ROOT, 'crates/replay/proofs')
+    if what == 'antt' and where == '--check':
+        stale = [name for name, text in antt(jobs) if open(os.path.join(proofs, name)).read() != text]
+        if stale:
+            raise SystemExit('stale, run tools/jobs.py antt: ' + ' '.join(stale))
+    elif what == 'antt':
+        for name, text in antt(jobs):
+            with open(os.path.join(where or proofs, name), 'w') as f:
+                f.write(text)
     elif what == 'program' and where:
         program(jobs, where)
     else:

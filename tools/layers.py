@@ -1,7 +1,8 @@
 #!/usr/bin/env python3
 """docs/layers.svg: the crates of crates.txt, each above those that stand on it; an arrow leads from a crate to one that needs it.
 
-  tools/layers.py [FILE]     writes FILE, else docs/layers.svg
+  tools/layers.py             writes docs/layers.svg
+  tools/layers.py --check     says whether it is as made here, and writes nothing
 
 A need that follows from others is left out, and so are the kit's own crates.
 """
@@ -74,8 +75,12 @@ def svg(need, rows):
 
 def main():
     need = needs()
-    out = sys.argv[1] if len(sys.argv) > 1 else os.path.join(ROOT, 'docs/layers.svg')
-    open(out, 'w').write(svg(need, rows(need)))
+    out, text = os.path.join(ROOT, 'docs/layers.svg'), svg(need, rows(need))
+    if '--check' in sys.argv[1:]:
+        if open(out).read() != text:
+            sys.exit('docs/layers.svg is stale: run tools/layers.py')
+    else:
+        open(out, 'w').write(text)
 
 
 main()
