@@ -6,7 +6,7 @@ use Rattle.definition.specs.Types.{fresh, AbilityConstraint, BaseTypeCon
 use Rattle.definition.specs.Store.{count}
 use Rattle.definition.specs.Write.{Bytes}
 use Rattle.definition.proofs.Computed.{left-by}
-use Rattle.definition.proofs.Spelling.{unit, imm, u8, default-u64, vector, var, hex, text, FV, NV, UF, RD, SV, BC}
+use Rattle.definition.proofs.Spelling.{unit, u8, default-u64, vector, list, var, hex, text, FV, NV, UF, RD, SV, BC}
 use Rattle.definition.proofs.AnswersJoin.{after}
 
 -- ---- reading
@@ -45,12 +45,12 @@ pub RD-reads-every-level : after [] (RD (vector 1 (u8 2))) ≡ (0, vector 1 (u8 
 unfolding after
 RD-reads-every-level = refl
 
-abbrev pub references : ℕ → Bytes
-references zero = unit 0
-references (suc n) = imm 0 (references n)
+abbrev pub lists : ℕ → Bytes
+lists zero = unit 0
+lists (suc n) = list 0 (lists n ∷ [])
 
 -- the deepest type that a record has
-pub IN-of-nesting-64 : after [] (text "IN" ++ references 63) ≡ (0, references 63)
+pub IN-of-nesting-64 : after [] (text "IN" ++ lists 63) ≡ (0, list 0 (var 0 0 ∷ []))
 unfolding after
 IN-of-nesting-64 = refl
 

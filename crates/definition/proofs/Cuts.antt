@@ -8,14 +8,15 @@ use native.Mathlib.Omega.{arith}
 use lib.ListN.{length, getD, take, drop, length-append, length-take, take-append-drop, drop-of-length-le}
 use lib.Seq.{take-all, take-at}
 use lib.Dec.{eqb, ltb}
-use Rattle.definition.specs.Types.{TypeName, Mark, State, Refusal, malformed, if_then_else_}
+use Rattle.definition.specs.Types.{TypeName, Mark, State, Refusal, malformed, doubled-reference, if_then_else_}
 use Rattle.definition.specs.Store.{taken}
 use Rattle.definition.specs.Write.{Bytes}
 use Rattle.definition.specs.Reader.{Read, got, not-read, Reader, give, refuse, go-on, _>>=_, byte, read-u16, read-u32, byte-if, read-bool, name-below, times, read-one, read-two, read-three}
-use Rattle.definition.specs.Trees.{Tree, read-trees, mark-of, read-mark, mark-fits, arity, read-apply, by-tag, is-name, read-nested, read-type}
+use Rattle.definition.specs.Trees.{Tree, read-trees, mark-of, read-mark, mark-fits, arity, under-ref, read-apply, by-tag, is-name, read-nested, read-type}
 use Rattle.definition.specs.Record.{Record, read-kind, read-SD, read-pair, read-TS, by-mark, fields-of, read-fields, max-record, hand-back, read-record}
 use Rattle.definition.proofs.StreamRecords.{front}
 use Rattle.definition.proofs.Order.{All}
+use Rattle.definition.proofs.Tracks.{never}
 
 -- what m gives of the bytes is what it gives of a front of them, whatever follows
 data Cut {A : Type 0} (m : Reader A) (bytes : Bytes) : Read A → Type 0 where
@@ -113,12 +114,12 @@ module _ (s : State) (m : Reader Tree) (p : Cuts m) (loc : ℕ) where
   c-apply number c name x =
       c-bind _ _ c-mark (λ k. c-bind _ _ c (λ n. c-if (not (is-name s (name n))) (c-refuse _) (c-if (not (mark-fits k (name n))) (c-refuse _) (c-bind _ _ (c-trees (arity s (name n)) m p) (λ ts. c-give _)))))
 
-  c-tags : All (λ r. Cuts r) (by-tag s m loc)
+  c-tags : ((left : ℕ) → Cuts (under-ref left m)) → (left : ℕ) → All (λ r. Cuts r) (by-tag s m loc left)
   unfolding by-tag read-two read-one
-  c-tags = (
+  c-tags under left = (
     c-give _,
     (
-      c-bind _ _ c-bool (λ mut. c-bind _ _ p (λ t. c-give _)),
+      c-bind _ _ c-bool (λ mut. c-bind _ _ (under left) (λ t. c-give _)),
       (
         c-bind _ _ c-u32 (λ id. c-bind _ _ (c-byte-if _) (λ a. c-give _)),
         (
@@ -144,10 +145,30 @@ module _ (s : State) (m : Reader Tree) (p : Cuts m) (loc : ℕ) where
     ),
   )
 
+-- a type takes a byte, so the byte that is looked at is one of those taken
+module _ (m : Reader Tree) (nothing : m [] ≡ not-read malformed) (left : ℕ) where
+  under-cut : (bytes : Bytes) (c : Bool) → ltb 0 left && eqb (getD bytes 0 0) 1 ≡ c → {x : Read Tree} → Cut m bytes x → Cut (under-ref left m) bytes (if c then not-read doubled-reference else x)
+  unfolding under-ref
+  under-cut bytes true d k = no-cut
+  under-cut bytes false d no-cut = no-cut
+  under-cut bytes false d (cut {a = a} [] rest e h) = never (let t : _≡_ {A = Read Tree} (got a []) (not-read malformed) = sym (h []) ∙ nothing in cc)
+  under-cut bytes false d (cut {a = a} (b ∷ taken) rest e h) =
+      let f : ltb 0 left && eqb b 1 ≡ false = ap (λ (l : Bytes). ltb 0 left && eqb (getD l 0 0) 1) (sym e) ∙ d in
+      cut {a = a} (b ∷ taken) rest e (λ more. rw f (h more))
+
+  c-under : Cuts m → Cuts (under-ref left m)
+  unfolding under-ref
+  c-under p = record { at = λ bytes. under-cut bytes _ refl (p .at bytes) }
+
+nested-nothing : (n : ℕ) (s : State) → read-nested n s [] ≡ not-read malformed
+unfolding read-nested refuse byte-if byte _>>=_ go-on
+nested-nothing zero s = refl
+nested-nothing (suc n) s = refl
+
 c-nested : (n : ℕ) (s : State) → Cuts (read-nested n s)
 unfolding read-nested
 c-nested zero s = c-refuse _
-c-nested (suc n) s = c-bind _ _ (c-byte-if _) (λ tag. c-bind _ _ c-u32 (λ loc. c-get (by-tag s (read-nested n s) loc) (c-tags s (read-nested n s) (c-nested n s) loc) tag))
+c-nested (suc n) s = c-bind _ _ (c-byte-if _) (λ tag. c-bind _ _ c-u32 (λ loc. c-get (by-tag s (read-nested n s) loc n) (c-tags s (read-nested n s) (c-nested n s) loc (λ left. c-under (read-nested n s) (nested-nothing n s) left (c-nested n s)) n) tag))
 
 -- ---- records
 

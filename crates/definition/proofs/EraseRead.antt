@@ -6,12 +6,12 @@ use mathlib.Core.Option.{Option, none, some}
 use Prim.Native.Nat.{ℕ, zero, suc, _+_, _*_}
 use lib.ListN.{length, getD, take, drop, replicate, length-append, length-drop}
 use lib.Dec.{eqb, ltb}
-use Rattle.definition.specs.Types.{TypeName, Multiple, Builtin, ModuleType, Mark, State, Refusal, malformed, unknown-name, if_then_else_}
+use Rattle.definition.specs.Types.{TypeName, Multiple, Builtin, ModuleType, Mark, State, Refusal, malformed, unknown-name, doubled-reference, if_then_else_}
 use Rattle.definition.specs.Store.{taken}
 use Rattle.definition.specs.Write.{Bytes}
 use Rattle.definition.specs.Instantiate.{struct-tparams}
 use Rattle.definition.specs.Reader.{Read, got, not-read, Reader, give, refuse, go-on, _>>=_, byte, read-u16, read-u32, byte-if, byte-to, read-bool, name-below, times, read-one, read-two, read-three}
-use Rattle.definition.specs.Trees.{Tree, unit-tree, anything-tree, error-tree, ref-tree, param-tree, apply-tree, var-tree, Trees, no-trees, _then_, read-trees, mark-of, read-mark, mark-fits, arity, read-apply, by-tag, is-name, read-nested, read-type, is-set}
+use Rattle.definition.specs.Trees.{Tree, unit-tree, anything-tree, error-tree, ref-tree, param-tree, apply-tree, var-tree, Trees, no-trees, _then_, read-trees, mark-of, read-mark, mark-fits, arity, under-ref, read-apply, by-tag, is-name, read-nested, read-type, is-set}
 use Rattle.definition.specs.Record.{NumericKind, Record, SD, FV, NV, SN, JN, SU, UF, RD, IN, TS, NC, BC, SC, SV, read-kind, read-SD, read-pair, read-TS, by-mark, fields-of, read-fields, max-record, hand-back, read-record}
 use Rattle.definition.specs.Locations.{Part, plain, location, type, types, builtin, list, struct, struct-high, pairs, loc-field, u32-field, tag-fields, pair-fields, expand, blank-byte, blank, mark-fields, after-mark, blank-record}
 use Rattle.definition.proofs.Erase.{erase, taken-erase, structs-erase}
@@ -213,9 +213,22 @@ module _ (s : State) where
     al-apply before number name x a more = al-bind _ _ (al-mark _) (λ k. al-bind _ _ (a more) (λ n.
         rw (arity-erase s (name n), name-erase (name n)) (al-if (not (is-name s (name n))) (al-refuse _) (al-if (not (mark-fits k (name n))) (al-refuse _) (al-bind _ _ (al-trees m m′ p (arity s (name n)) more) (λ ts. al-give (apply-tree loc k (name n) ts) refl))))))
 
-    al-ref : Fields (plain ∷ type ∷ []) (read-two (ref-tree loc) read-bool m) (read-two (ref-tree 0) read-bool m′)
+    -- the byte that is looked at is a tag, which stays
+    al-under : (left : ℕ) → OneType (under-ref left m) (under-ref left m′)
+    unfolding under-ref blank blank-byte
+    al-under left more = record { at = go }
+      where
+        either : (c : Bool) {x x′ : Read Tree} → Reads erase-tree s (λ t. more) x x′ → Reads erase-tree s (λ t. more) (if c then not-read doubled-reference else x) (if c then not-read doubled-reference else x′)
+        either true r = r-not
+        either false r = r
+
+        go : (bytes : Bytes) → Reads erase-tree s (λ t. more) (under-ref left m bytes) (under-ref left m′ (blank s bytes (type ∷ more)))
+        go [] = either (ltb 0 left && eqb 0 1) (p more .at [])
+        go (b ∷ bytes) = either (ltb 0 left && eqb b 1) (p more .at (b ∷ bytes))
+
+    al-ref : (left : ℕ) → Fields (plain ∷ type ∷ []) (read-two (ref-tree loc) read-bool (under-ref left m)) (read-two (ref-tree 0) read-bool (under-ref left m′))
     unfolding read-two erase-tree
-    al-ref more = al-bind _ _ (al-bool _) (λ mut. al-bind _ _ (p more) (λ t. al-give (ref-tree loc mut t) refl))
+    al-ref left more = al-bind _ _ (al-bool _) (λ mut. al-bind _ _ (al-under left more) (λ t. al-give (ref-tree loc mut t) refl))
 
     al-param : Fields (u32-field ++ (plain ∷ [])) (read-two (param-tree loc) read-u32 (byte-if is-set)) (read-two (param-tree 0) read-u32 (byte-if is-set))
     unfolding read-two erase-tree u32-field
@@ -246,16 +259,16 @@ module _ (s : State) where
   row-at (row f rows) zero more = f more
   row-at (row f rows) (suc i) more = row-at rows i more
 
-  tag-rows : (m m′ : Reader Tree) → OneType m m′ → (loc : ℕ) → Rows (by-tag s m loc) (by-tag (erase s) m′ 0) tag-fields
+  tag-rows : (m m′ : Reader Tree) → OneType m m′ → (loc left : ℕ) → Rows (by-tag s m loc left) (by-tag (erase s) m′ 0 left) tag-fields
   unfolding by-tag tag-fields erase-tree
-  tag-rows m m′ p loc =
-      row (λ more. al-give (unit-tree loc) refl) (row (al-ref m m′ p loc) (row (al-param m m′ p loc) (row (al-builtin m m′ p loc) (row (al-list m m′ p loc) (row (al-struct-type m m′ p loc) (row (al-var m m′ p loc)
+  tag-rows m m′ p loc left =
+      row (λ more. al-give (unit-tree loc) refl) (row (al-ref m m′ p loc left) (row (al-param m m′ p loc) (row (al-builtin m m′ p loc) (row (al-list m m′ p loc) (row (al-struct-type m m′ p loc) (row (al-var m m′ p loc)
       (row (λ more. al-give (anything-tree loc) refl) (row (λ more. al-give (error-tree loc) refl) no-rows))))))))
 
   nested : (n : ℕ) → OneType (read-nested n s) (read-nested n (erase s))
   unfolding read-nested expand blank-byte loc-field
   nested zero more = al-refuse _
-  nested (suc n) more = al-bind _ _ (al-byte-if _ type more (λ b. refl)) (λ tag. al-bind _ _ (al-loc (getD tag-fields tag [] ++ more)) (λ loc. row-at (tag-rows (read-nested n s) (read-nested n (erase s)) (nested n) loc) tag more))
+  nested (suc n) more = al-bind _ _ (al-byte-if _ type more (λ b. refl)) (λ tag. al-bind _ _ (al-loc (getD tag-fields tag [] ++ more)) (λ loc. row-at (tag-rows (read-nested n s) (read-nested n (erase s)) (nested n) loc n) tag more))
 
   al-type : (more : List Part) → Alike erase-tree s (type ∷ more) (λ t. more) (read-type s) (read-type (erase s))
   unfolding read-type

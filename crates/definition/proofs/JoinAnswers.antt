@@ -7,14 +7,14 @@ use Prim.Native.Nat.{ℕ, zero, suc, _+_, _-_, _≤_, _<_}
 use native.Mathlib.Omega.{arith}
 use lib.ListN.{length, getD, take, drop, length-take}
 use lib.Dec.{ltb, leb, eqb}
-use Rattle.definition.specs.Types.{TypeName, Multiple, Builtin, ModuleType, Mark, Type-value, UnitType, Ref, Param, Apply, Var, Anything, UnresolvedError, State, Refusal, malformed, unknown-name, unsound-state, max-depth, Result, ok, _>>=_ as _then-run_, if_then_else_}
+use Rattle.definition.specs.Types.{TypeName, Multiple, Builtin, ModuleType, Mark, Type-value, UnitType, Ref, Param, Apply, Var, Anything, UnresolvedError, State, Refusal, malformed, unknown-name, doubled-reference, unsound-state, max-depth, Result, ok, _>>=_ as _then-run_, if_then_else_}
 use Rattle.definition.specs.Store.{count, taken, sp}
 use Rattle.definition.specs.Subst.{parts}
 use Rattle.definition.specs.Join.{TypingCase, Join, Subtype, join-impl, join, subtype}
 use Rattle.definition.specs.Write.{Bytes, write}
 use Rattle.definition.specs.Reader.{Read, got, not-read, Reader, give, refuse, go-on, _>>=_, byte, read-u16, read-u32, byte-if, byte-to, read-bool, name-below, times, read-one, read-two, read-three}
 use Rattle.definition.specs.Trees.{Tree, unit-tree, anything-tree, error-tree, ref-tree, param-tree, apply-tree, var-tree, Trees, no-trees, _then_}
-use Rattle.definition.specs.Trees.{read-trees, mark-of, read-mark, mark-fits, arity, read-apply, by-tag, is-set, is-name, read-nested, read-type}
+use Rattle.definition.specs.Trees.{read-trees, mark-of, read-mark, mark-fits, arity, under-ref, read-apply, by-tag, is-set, is-name, read-nested, read-type}
 use Rattle.definition.specs.Record.{Record, SD, FV, NV, SN, JN, SU, UF, RD, IN, TS, NC, BC, SC, SV, read-kind, read-SD, read-pair, read-TS, by-mark, fields-of, read-fields, max-record, hand-back, read-record}
 use Rattle.definition.specs.Build.{build, build-all}
 use Rattle.definition.specs.Sound.{sound}
@@ -130,9 +130,17 @@ module _ (s : State) where
         pays-if tree-size (6 + w) (not (is-name s (name n))) (pays-refuse tree-size (6 + w) x) (pays-if tree-size (6 + w) (not (mark-fits k (name n))) (pays-refuse tree-size (6 + w) malformed)
         (pays-then trees-size tree-size (6 + w) (read-trees (arity s (name n)) m) _ (pays-trees (arity s (name n)) m p) (λ ts. pays-give tree-size (6 + w + trees-size ts) (apply-tree loc k (name n) ts) (omega (arith, e n)))))))
 
-    pays-ref : Pays 5 tree-size (read-two (ref-tree loc) read-bool m)
+    pays-under : (left : ℕ) → Pays 0 tree-size (under-ref left m)
+    unfolding under-ref
+    pays-under left bytes = go (ltb 0 left && eqb (getD bytes 0 0) 1)
+      where
+        go : (c : Bool) → Spent tree-size (0 + length bytes) (if c then not-read doubled-reference else m bytes)
+        go true = unread
+        go false = p bytes
+
+    pays-ref : (left : ℕ) → Pays 5 tree-size (read-two (ref-tree loc) read-bool (under-ref left m))
     unfolding read-two tree-size trees-size
-    pays-ref = pays-then (λ b. 1) tree-size 5 read-bool _ pays-bool (λ b. pays-then tree-size tree-size 6 m _ p (λ t. pays-give tree-size (6 + tree-size t) (ref-tree loc b t) (omega arith)))
+    pays-ref left = pays-then (λ b. 1) tree-size 5 read-bool _ pays-bool (λ b. pays-then tree-size tree-size 6 (under-ref left m) _ (pays-under left) (λ t. pays-give tree-size (6 + tree-size t) (ref-tree loc b t) (omega arith)))
 
     pays-param : Pays 5 tree-size (read-two (param-tree loc) read-u32 (byte-if is-set))
     unfolding read-two tree-size trees-size
@@ -163,18 +171,18 @@ module _ (s : State) where
     pays-at (r ∷ rs) a zero = a .0
     pays-at (r ∷ rs) a (suc i) = pays-at rs (a .1) i
 
-    pays-by-tag : (tag : ℕ) → Pays 5 tree-size (getD (by-tag s m loc) tag (refuse malformed))
+    pays-by-tag : (left tag : ℕ) → Pays 5 tree-size (getD (by-tag s m loc left) tag (refuse malformed))
     unfolding by-tag tree-size trees-size
-    pays-by-tag tag = pays-at (by-tag s m loc) (
+    pays-by-tag left tag = pays-at (by-tag s m loc left) (
       pays-give tree-size 5 (unit-tree loc) (omega arith),
-      (pays-ref, (pays-param, (pays-builtin, (pays-list, (pays-struct, (pays-var, (pays-give tree-size 5 (anything-tree loc) (omega arith), (pays-give tree-size 5 (error-tree loc) (omega arith), tt)))))))),
+      (pays-ref left, (pays-param, (pays-builtin, (pays-list, (pays-struct, (pays-var, (pays-give tree-size 5 (anything-tree loc) (omega arith), (pays-give tree-size 5 (error-tree loc) (omega arith), tt)))))))),
     ) tag
 
   pays-nested : (n : ℕ) → Pays 0 tree-size (read-nested n s)
   unfolding read-nested
   pays-nested zero = pays-refuse tree-size 0 malformed
   pays-nested (suc n) =
-      pays-then (λ b. 1) tree-size 0 (byte-to 8) _ (pays-byte-if _) (λ tag. pays-then (λ b. 4) tree-size 1 read-u32 _ pays-u32 (λ loc. pays-by-tag (read-nested n s) (pays-nested n) loc tag))
+      pays-then (λ b. 1) tree-size 0 (byte-to 8) _ (pays-byte-if _) (λ tag. pays-then (λ b. 4) tree-size 1 read-u32 _ pays-u32 (λ loc. pays-by-tag (read-nested n s) (pays-nested n) loc n tag))
 
   pays-type : Pays 0 tree-size (read-type s)
   unfolding read-type

@@ -1,5 +1,6 @@
 pub mod AnswersJoin
 pub mod AnswersRecords
+pub mod AnswersReferences
 pub mod AnswersWider
 pub mod AnswersLimits
 pub mod Laws
@@ -71,3 +72,9 @@ pub mod StreamRecords
 pub mod Cuts
 pub mod Locations
 pub mod StreamJob
+pub mod Doubled
+pub mod ReadsAsBefore
+pub mod InnerTag
+pub mod SavedStates
+pub mod Single
+pub mod NoneArises

@@ -1,16 +1,16 @@
--- 5 to 15 leave the state as at entry, and no payload. Assumes nothing.
+-- 5 and above leave the state as at entry, and no payload. No number has three digits. Assumes nothing.
 use mathlib.Core.Path.{_≡_, refl}
 use mathlib.Core.Bool.{Bool, true, false}
 use mathlib.Core.List.{[], _∷_}
-use Prim.Native.Nat.{ℕ, _≤_}
+use Prim.Native.Nat.{ℕ, _≤_, _<_}
 use native.Mathlib.Omega.{arith}
 use lib.ListN.{length}
 use lib.Dec.{leb}
-use Rattle.definition.specs.Types.{State, TypingError, SubtypeError, Incompatible, ArityMismatch, RecursiveType, Refusal, answer-too-long, unsound-state, Result, ok, err, refused, if_then_else_}
+use Rattle.definition.specs.Types.{State, TypingError, SubtypeError, Incompatible, ArityMismatch, RecursiveType, Refusal, malformed, unknown-name, full, too-deep, runs-into-itself, abilities-disagree, open-variable, no-argument, parameter-twice, answer-too-long, unsound-state, doubled-reference, Result, ok, err, refused, if_then_else_}
 use Rattle.definition.specs.Write.{Bytes}
 use Rattle.definition.specs.Reader.{Read, got, not-read}
 use Rattle.definition.specs.Record.{Record, read-record}
-use Rattle.definition.specs.Step.{run, Answer, number-of-error, refusal, put-back, max-payload, answer-with, answer, usable, lent, step, streamed, step-stream}
+use Rattle.definition.specs.Step.{run, Answer, number-of-error, number-of-refusal, refusal, put-back, max-payload, answer-with, answer, usable, lent, step, streamed, step-stream}
 
 -- ---- the test of a call passes, or it is 15
 
@@ -76,3 +76,43 @@ refusal-leaves s bytes buffer = step-cases s bytes buffer (λ a. Untouched s a) 
 
 pub stream-refusal-leaves : (s : State) (bytes : Bytes) (buffer : ℕ) → 5 ≤ step-stream s bytes buffer .0 .number → (step-stream s bytes buffer .0 .state ≡ s) × (step-stream s bytes buffer .0 .payload ≡ [])
 stream-refusal-leaves s bytes buffer = stream-cases s bytes buffer (λ x. Untouched s (x .0)) (streamed-untouched s bytes (read-record s bytes)) (refusal-untouched s unsound-state)
+
+-- ---- no number has more than two digits
+
+refusal-number : (x : Refusal) → number-of-refusal x < 100
+unfolding number-of-refusal
+refusal-number malformed = omega arith
+refusal-number unknown-name = omega arith
+refusal-number full = omega arith
+refusal-number too-deep = omega arith
+refusal-number runs-into-itself = omega arith
+refusal-number abilities-disagree = omega arith
+refusal-number open-variable = omega arith
+refusal-number no-argument = omega arith
+refusal-number parameter-twice = omega arith
+refusal-number answer-too-long = omega arith
+refusal-number unsound-state = omega arith
+refusal-number doubled-reference = omega arith
+
+with-number : (s : State) (n : ℕ) (p : Bytes) (s′ : State) → n < 100 → answer-with s n p s′ .number < 100
+unfolding answer-with refusal
+with-number s n p s′ h = go (leb (length p) max-payload)
+  where
+    go : (b : Bool) → (if b then record { number = n; payload = p; state = s′ } else refusal s answer-too-long) .number < 100
+    go true = h
+    go false = refusal-number answer-too-long
+
+answer-number : (s : State) (m : Result (State × Bytes)) → answer s m .number < 100
+unfolding answer refusal
+answer-number s (ok (s′, p)) = with-number s 0 p s′ (omega arith)
+answer-number s (err s′ e) = with-number s (number-of-error e) _ (put-back s s′) (omega (arith, error-number e))
+answer-number s (refused x) = refusal-number x
+
+streamed-number : (s : State) (bytes : Bytes) (r : Read Record) → streamed s bytes r .0 .number < 100
+unfolding streamed refusal
+streamed-number s bytes (got r rest) = answer-number s (run s r)
+streamed-number s bytes (not-read x) = refusal-number x
+
+pub stream-two-digits : (s : State) (bytes : Bytes) (buffer : ℕ) → step-stream s bytes buffer .0 .number < 100
+unfolding refusal
+stream-two-digits s bytes buffer = stream-cases s bytes buffer (λ x. x .0 .number < 100) (streamed-number s bytes (read-record s bytes)) (refusal-number unsound-state)

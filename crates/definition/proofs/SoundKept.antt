@@ -28,7 +28,7 @@ use Rattle.definition.proofs.Facts.{and-l, and-r, test, length-args, ce
 use Rattle.definition.proofs.Soundness.{untest, and, lt-test, le-test, not-anything, numeric-u32, sound-is}
 use Rattle.definition.proofs.PutBack.{sound-put-back}
 use Rattle.definition.proofs.Ranges.{all-append, ShapeIn, NodeIn, CellIn, ConstraintIn, StructIn, Ranges, unbound-in, node-in, cell-in, vars-ranges}
-use Rattle.definition.proofs.WellRead.{Read-time, five, six, ReadWell, given, not-given, well-read}
+use Rattle.definition.proofs.WellRead.{Read-time, five, six, eighteen, ReadWell, given, not-given, well-read}
 use Rattle.definition.proofs.Refused.{error-number, step-cases, stream-cases}
 use Rattle.definition.proofs.Records.{Leaves, l-ok, l-err, l-refused, run-leaves}
 use Rattle.definition.proofs.Walk.{Run-time, seven, eight, nine, ten, eleven, twelve, thirteen, e-ok, e-err, e-refused, Run, run-walk}
@@ -166,46 +166,47 @@ put-back-ranges {s} {s′} r r′ =
 -- an answer that leaves a sound state, and is no 15
 record Good (a : Answer) : Type 0 where
   left : sound (a .state) ≡ true
-  no-15 : a .number < 15
+  no-15 : a .number ≢ 15
 
-with-good : (s : State) → sound s ≡ true → (n : ℕ) → n < 15 → (p : Bytes) (s′ : State) → sound s′ ≡ true → Good (answer-with s n p s′)
+with-good : (s : State) → sound s ≡ true → (n : ℕ) → n ≢ 15 → (p : Bytes) (s′ : State) → sound s′ ≡ true → Good (answer-with s n p s′)
 unfolding answer-with refusal number-of-refusal
 with-good s h n l p s′ h′ = go (leb (length p) max-payload)
   where
     go : (b : Bool) → Good (if b then record { number = n; payload = p; state = s′ } else refusal s answer-too-long)
     go true = record { left = h′; no-15 = l }
-    go false = record { left = h; no-15 = omega arith }
+    go false = record { left = h; no-15 = λ d. absurd (omega (arith, d)) }
 
-run-time-number : {z : Bool} {x : Refusal} → Run-time z x → number-of-refusal x < 15
+run-time-number : {z : Bool} {x : Refusal} → Run-time z x → number-of-refusal x ≢ 15
 unfolding number-of-refusal
-run-time-number seven = omega arith
-run-time-number eight = omega arith
-run-time-number (nine y) = omega arith
-run-time-number ten = omega arith
-run-time-number eleven = omega arith
-run-time-number twelve = omega arith
-run-time-number thirteen = omega arith
+run-time-number seven d = absurd (omega (arith, d))
+run-time-number eight d = absurd (omega (arith, d))
+run-time-number (nine y) d = absurd (omega (arith, d))
+run-time-number ten d = absurd (omega (arith, d))
+run-time-number eleven d = absurd (omega (arith, d))
+run-time-number twelve d = absurd (omega (arith, d))
+run-time-number thirteen d = absurd (omega (arith, d))
 
-read-time-number : {x : Refusal} → Read-time x → number-of-refusal x < 15
+read-time-number : {x : Refusal} → Read-time x → number-of-refusal x ≢ 15
 unfolding number-of-refusal
-read-time-number five = omega arith
-read-time-number six = omega arith
+read-time-number five d = absurd (omega (arith, d))
+read-time-number six d = absurd (omega (arith, d))
+read-time-number eighteen d = absurd (omega (arith, d))
 
 module _ (s : State) (h : sound s ≡ true) where
-  refusal-good : (x : Refusal) → number-of-refusal x < 15 → Good (refusal s x)
+  refusal-good : (x : Refusal) → number-of-refusal x ≢ 15 → Good (refusal s x)
   unfolding refusal
   refusal-good x l = record { left = h; no-15 = l }
 
   answer-good : (m : Result (State × Bytes)) → Leaves (arity s) s m → Run (Unit {0}) s true m → Good (answer s m)
   unfolding answer
-  answer-good (ok (s′, p)) (l-ok w) (e-ok i) = with-good s h 0 (omega arith) p s′ (still-sound (w .sound) (i tt))
-  answer-good (err s′ e) (l-err g n) (e-err i) = with-good s h (number-of-error e) (omega (arith, error-number e)) _ (put-back s s′) (still-sound (sound-put-back (facts s h) g n) (put-back-ranges (ranges-of s h) (i tt)))
+  answer-good (ok (s′, p)) (l-ok w) (e-ok i) = with-good s h 0 (λ d. absurd (omega (arith, d))) p s′ (still-sound (w .sound) (i tt))
+  answer-good (err s′ e) (l-err g n) (e-err i) = with-good s h (number-of-error e) (λ d. absurd (omega (arith, error-number e, d))) _ (put-back s s′) (still-sound (sound-put-back (facts s h) g n) (put-back-ranges (ranges-of s h) (i tt)))
   answer-good (refused x) l-refused (e-refused t) = refusal-good x (run-time-number t)
 
   lent-good : {n : ℕ} (r : Read Record) → ReadWell (Unit {0}) s n r → Good (lent s r)
   unfolding lent number-of-refusal
   lent-good (got r []) (given f i l) = answer-good (run s r) (run-leaves s (facts s h) r (f .0)) (run-walk (Unit {0}) s true refl s (λ u. ranges-of s h) r (f .1))
-  lent-good (got r (b ∷ rest)) f = refusal-good _ (omega arith)
+  lent-good (got r (b ∷ rest)) f = refusal-good _ (λ d. absurd (omega (arith, d)))
   lent-good (not-read x) (not-given t) = refusal-good x (read-time-number t)
 
   streamed-good : (bytes : Bytes) → Is-bytes bytes → {n : ℕ} (r : Read Record) → ReadWell (Unit {0}) s n r → Good (streamed s bytes r .0) × Is-bytes (streamed s bytes r .1)
@@ -243,13 +244,13 @@ pub trusted : (s : State) (bytes : Bytes) → sound s ≡ true → step-stream s
 unfolding step-stream
 trusted s bytes h = rw (usable-sound s h, step-stream) refl
 
-pub stream-no-15 : (s : State) (bytes : Bytes) → Is-bytes bytes → sound s ≡ true → step-stream s bytes max-buffer .0 .number < 15
+pub stream-no-15 : (s : State) (bytes : Bytes) → Is-bytes bytes → sound s ≡ true → step-stream s bytes max-buffer .0 .number ≢ 15
 stream-no-15 s bytes is h = rw (trusted s bytes h) (streamed-good s h bytes is (read-record s bytes) (well-read (Unit {0}) s bytes (λ u. is)) .0 .no-15)
 
-abbrev Low : Entry → Type 0
-Low e = e .number < 15
+abbrev No-15 : Entry → Type 0
+No-15 e = e .number ≢ 15
 
-from-no-15 : (n i : ℕ) (s : State) (bytes : Bytes) → Is-bytes bytes → sound s ≡ true → All Low (job-from n i s bytes)
+from-no-15 : (n i : ℕ) (s : State) (bytes : Bytes) → Is-bytes bytes → sound s ≡ true → All No-15 (job-from n i s bytes)
 unfolding job-from
 from-no-15 zero i s bytes is h = tt
 from-no-15 (suc n) i s [] is h = tt
@@ -257,7 +258,7 @@ from-no-15 (suc n) i s (b ∷ bytes) is h =
     let kept = stream-sound-kept s (b ∷ bytes) max-buffer is h in
     go (ends-job (step-stream s (b ∷ bytes) max-buffer .0 .number)) _ _ (stream-no-15 s (b ∷ bytes) is h) (from-no-15 n (suc i) _ _ (kept .1) (kept .0))
   where
-    go : (x : Bool) (e : Entry) (es : List Entry) → Low e → All Low es → All Low (elim x [ true ↦ e ∷ [] | false ↦ e ∷ es ])
+    go : (x : Bool) (e : Entry) (es : List Entry) → No-15 e → All No-15 es → All No-15 (elim x [ true ↦ e ∷ [] | false ↦ e ∷ es ])
     go true e es l f = (l, tt)
     go false e es l f = (l, f)
 
@@ -267,4 +268,4 @@ fresh-sound = refl
 
 pub job-no-15 : (bytes : Bytes) → Is-bytes bytes → (e : Entry) → List·Memᴰ e (job-log bytes) → e .number ≢ 15
 unfolding job-log
-job-no-15 bytes is e m d = absurd (omega (arith, d, each Low (job-log bytes) (from-no-15 (length bytes) 0 fresh bytes is fresh-sound) e m))
+job-no-15 bytes is e m d = each No-15 (job-log bytes) (from-no-15 (length bytes) 0 fresh bytes is fresh-sound) e m d

@@ -1,4 +1,4 @@
--- A record takes a byte or more from its stream, and what it does not read it answers with 5 or 6: so a job has no more records than bytes. Assumes nothing.
+-- A record takes a byte or more from its stream, and what it does not read it answers with 5, 6 or 18: so a job has no more records than bytes. Assumes nothing.
 use mathlib.Core.Path.{_≡_, refl, ap}
 use mathlib.Core.Bool.{Bool, true, false}
 use mathlib.Core.List.{List, [], _∷_}
@@ -13,7 +13,7 @@ use Rattle.definition.specs.Sound.{sound}
 use Rattle.definition.specs.Step.{Answer, refusal, number-of-refusal, max-buffer, streamed, step-stream}
 use Rattle.definition.specs.Job.{Entry, ends-job, job-from, job-log}
 use Rattle.definition.proofs.Tracks.{never}
-use Rattle.definition.proofs.WellRead.{Read-time, five, six, ReadWell, given, not-given, well-read}
+use Rattle.definition.proofs.WellRead.{Read-time, five, six, eighteen, ReadWell, given, not-given, well-read}
 use Rattle.definition.proofs.SoundKept.{stream-sound-kept, trusted, fresh-sound}
 
 -- the rest has fewer bytes, or the job is over
@@ -25,6 +25,7 @@ pub ends : {x : Refusal} → Read-time x → ends-job (number-of-refusal x) ≡ 
 unfolding number-of-refusal ends-job
 ends five = refl
 ends six = refl
+ends eighteen = refl
 
 pub stream-on : (s : State) → sound s ≡ true → (b : ℕ) (bytes : Bytes) → Goes-on bytes (step-stream s (b ∷ bytes) max-buffer)
 unfolding streamed refusal

@@ -51,11 +51,11 @@ bind f (e-ok {a = a} p) h = h a p
 bind f (e-err p) h = e-err p
 bind f (e-refused r) h = e-refused r
 
-either : {A : Type 0} {z : Bool} {E : State → Type 0} {P : A → Type 0} (b : Bool) {x y : Result A} → (b ≡ true → Ends z E P x) → (b ≡ false → Ends z E P y) → Ends z E P (if b then x else y)
+pub either : {A : Type 0} {z : Bool} {E : State → Type 0} {P : A → Type 0} (b : Bool) {x y : Result A} → (b ≡ true → Ends z E P x) → (b ≡ false → Ends z E P y) → Ends z E P (if b then x else y)
 either true p q = p refl
 either false p q = q refl
 
-maybe : {A : Type 0} {z : Bool} {E : State → Type 0} {P : A → Type 0} (o : Option ℕ) {x : Result A} {f : ℕ → Result A} → Ends z E P x → ((t : ℕ) → Ends z E P (f t)) → Ends {A = A} z E P (elim o [ none ↦ x | some t ↦ f t ])
+pub maybe : {A : Type 0} {z : Bool} {E : State → Type 0} {P : A → Type 0} (o : Option ℕ) {x : Result A} {f : ℕ → Result A} → Ends z E P x → ((t : ℕ) → Ends z E P (f t)) → Ends {A = A} z E P (elim o [ none ↦ x | some t ↦ f t ])
 maybe none p q = p
 maybe (some t) p q = q t
 

@@ -132,7 +132,7 @@ success-fields (BC loc t) = types ∷ []
 success-fields (SC loc t) = types ∷ []
 success-fields SV = failures ∷ []
 
--- .. 1 to 3 two types, and 4 a location. 5 to 15 show nothing
+-- .. 1 to 3 two types, and 4 a location. 5 and above show nothing
 unfoldable pub shown-fields : Record → ℕ → List Part
 shown-fields r number = if eqb number 0 then success-fields r else if eqb number 4 then loc-field else types ∷ []
 

@@ -1,2 +1,3 @@
 pub mod AnswersPieces
 pub mod Pieces
+pub mod NoneArises

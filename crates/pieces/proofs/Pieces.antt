@@ -107,7 +107,7 @@ abbrev job-after : ℕ → ℕ → Answer × Bytes → List Entry
 job-after m i r = elim (ends-job (r .0 .number)) as (λ x. List Entry) [ true ↦ entry-of i r ∷ [] | false ↦ entry-of i r ∷ job-from m (suc i) (r .0 .state) (r .1) ]
 
 -- t: the record is taken on; o: its answer ends the job
-abbrev piece-after : Bool → Bool → ℕ → ℕ → State → Bytes → Answer × Bytes → ℕ → Bool → Piece
+abbrev pub piece-after : Bool → Bool → ℕ → ℕ → State → Bytes → Answer × Bytes → ℕ → Bool → Piece
 piece-after t o n i s bytes r room more =
     elim t as (λ x. Piece) [
       | false ↦ halt i s bytes false
