@@ -28,7 +28,7 @@ extern "C" {
 /* PONGIWARU_VERSION changes with the records, their answers or these functions, PONGIWARU_LAYOUT with what the words and rows of a
  * state mean. Keep the layout's number beside a kept state. A later version of the same layout goes on with it; under another layout
  * it may be 15 or be taken for another sound state, so don't lend it: run its records again from a fresh state. */
-#define PONGIWARU_VERSION 1
+#define PONGIWARU_VERSION 2
 #define PONGIWARU_LAYOUT 1
 
 enum {
@@ -41,7 +41,7 @@ enum {
     PONGIWARU_STACK_BYTES = 524288 /* of a thread: enough for every call */
 };
 
-/* The number of an answer. 0 to 4 may have a payload and change the state; 5 to 15 have none and leave all as it was. */
+/* The number of an answer. 0 to 4 may have a payload and change the state; 5 and above have none and leave all as it was. */
 enum pongiwaru_number {
     PONGIWARU_TYPED = 0,
     PONGIWARU_SUBTYPE_ERROR = 1,
@@ -58,7 +58,8 @@ enum pongiwaru_number {
     PONGIWARU_NO_ARGUMENT = 12,
     PONGIWARU_PARAMETER_TWICE = 13,
     PONGIWARU_ANSWER_TOO_LONG = 14,
-    PONGIWARU_UNSOUND_STATE = 15 /* words and params that are no sound state's, or an answer buffer that is too short */
+    PONGIWARU_UNSOUND_STATE = 15, /* words and params that are no sound state's, or an answer buffer that is too short */
+    PONGIWARU_DOUBLED_REFERENCE = 18 /* a reference directly under a reference */
 };
 
 /* One record, lent whole: bytes left over are 5. The result is the answer's number. The payload stands in front of answer, and
@@ -67,15 +68,15 @@ uint32_t pongiwaru_record(uint32_t *state, size_t state_length, uint8_t params[P
                           const uint8_t *record, size_t record_length,
                           uint8_t *answer, size_t answer_length, uint32_t *length);
 
-/* How many bytes of the stream are left after the record at its head: the last *rest. All of them on 5, 6 and 15. State and params
+/* How many bytes of the stream are left after the record at its head: the last *rest. All of them on 5, 6, 15 and 18. State and params
  * are as they were; params is not const, since C before C23 refuses an array of rows that is not const where const rows are wanted. */
 void pongiwaru_split(uint32_t *state, size_t state_length, uint8_t params[PONGIWARU_ROWS][PONGIWARU_ROW_BYTES],
                      const uint8_t *stream, size_t stream_length, size_t *rest);
 
 /* A job's next lines, those of as many records as the bytes hold whole and the log has room for. more: further bytes follow these,
  * so a record is taken only where 4,096 bytes are at hand. *place is the next record's number, from 0. The result is 0, or 15 for a
- * state that is not sound. *read and *written say how much of stream and log was used. *ended: nothing follows, after a 5, a 6, a 15
- * or the last record.
+ * state that is not sound. *read and *written say how much of stream and log was used. *ended: nothing follows, after a 5, a 6, a 15,
+ * an 18 or the last record.
  * A call that has not ended is made again, on the bytes that were not read. Where it read nothing it waits: with more, for the bytes
  * that follow; for a log of PONGIWARU_LINE_BYTES; or for ever, where *place is UINT64_MAX, since record numbers end one below it.
  * A caller that lends a *place of its own tests for that and stops; a count from 0 does not come so far. */

@@ -15,7 +15,8 @@ use Rattle.definition.specs.Step.{step-stream, max-buffer}
 use Rattle.definition.specs.Job.{ends-job, line}
 use Rattle.pieces.specs.Pieces.{Piece, max-line, max-place, takes-on, halt, after-line, next-lines}
 use Rattle.definition.proofs.Facts.{and-l, and-r, test}
-use Rattle.definition.proofs.SoundKept.{trusted, stream-no-15}
+use Rattle.definition.proofs.SoundKept.{trusted}
+use Rattle.definition.proofs.Refused.{stream-two-digits}
 use Rattle.definition.proofs.Stream.{Goes-on, shorter, over, stream-on}
 use Rattle.pieces.proofs.Pieces.{entry-of, next-spent, next-stops, next-last, next-goes, no-line, two-lines, line-size}
 use Rattle.table.specs.declared.Used.{Used}
@@ -164,11 +165,11 @@ module _ {w₀ : List ℕ} {u₀ : Used} {p₀ : List (List ℕ)} {place : ℕ} 
   pub line-room : n + length text ≤ length log
   unfolding max-line
   line-room =
-      let few : r .number < 15 = ap-lt answer-is (stream-no-15 (held w u p) (drop at stream) (bytes-past at stream is) (g .stands .is-sound)) in
-      let m = line-size (entry-of i answer) (omega (arith, few)) (omega (arith, length-take (r .len) buf′, st .few)) in
+      let few : r .number < 100 = ap-lt answer-is (stream-two-digits (held w u p) (drop at stream) max-buffer) in
+      let m = line-size (entry-of i answer) few (omega (arith, length-take (r .len) buf′, st .few)) in
       omega (arith, m, takes-room i (drop at stream) (length log₀ - n) more t .0, g .size, g .fits)
     where
-      ap-lt : {x y : step.Answer × Bytes} → x ≡ y → x .0 .number < 15 → y .0 .number < 15
+      ap-lt : {x y : step.Answer × Bytes} → x ≡ y → x .0 .number < 100 → y .0 .number < 100
       ap-lt e h = rw e at h
 
   pub turned : {log′ : Bytes} {n′ : ℕ} → Wrote log n text log′ n′ → Longer log₀ log n text log′ n′

@@ -4,10 +4,10 @@ use mathlib.Core.Bool.{Bool, true, false, not, _||_, _&&_}
 use mathlib.Core.List.{List, [], _∷_, _++_}
 use Prim.Native.Nat.{ℕ, suc, _-_, _≤_, _<_}
 use native.Mathlib.Omega.{arith}
-use borrow.Author.Tests.{ne-eqb, lt-leb, le-leb}
+use borrow.Author.Tests.{lt-leb, le-leb}
 use mir.Syntax.{w8}
 use mir.Val.{Fits}
-use lib.Dec.{leb, ltb, eqb, leb→le}
+use lib.Dec.{leb, ltb, leb→le}
 use lib.ListN.{length, getD, take, drop, length-take, length-drop}
 use lib.Seq.{take-all}
 use Rattle.definition.specs.Types.{State, Struct, unsound-state}
@@ -119,14 +119,6 @@ pub usable-both : (w : List ℕ) (p : List (List ℕ)) (buffer : ℕ) → lent-s
 usable-both w p buffer e = (and-l (lent-sound w p) (leb 4096 buffer) e, leb→le 4096 buffer (test (and-r (lent-sound w p) (leb 4096 buffer) e)))
 
 -- ---- the tests of a job
-
-pub ends-five : (n : ℕ) → n ≡ 5 → true ≡ ends-job n
-unfolding ends-job
-ends-five n e = rw e refl
-
-pub ends-other : (n : ℕ) → (n ≡ 5 → ⊥) → eqb n 6 ≡ ends-job n
-unfolding ends-job
-ends-other n d = sym (ap (λ (b : Bool). b || eqb n 6) (ne-eqb n 5 d))
 
 module _ (i : ℕ) (b : Bytes) (room : ℕ) (more : Bool) where
   abbrev hand : Bool

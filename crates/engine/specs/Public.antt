@@ -34,7 +34,7 @@ lent-step w params bytes buffer = elim (lent-sound w params) [
 unfoldable pub in-front : Bytes → Bytes → Bytes
 in-front bytes buffer = bytes ++ drop (length bytes) buffer
 
--- ---- the splitter: the stream after one record, all of it on 5, 6 and 15
+-- ---- the splitter: the stream after one record, all of it on 5, 6, 15 and 18
 
 unfoldable pub rest-of : List ℕ → List (List ℕ) → Bytes → Bytes
 rest-of w params stream = elim (lent-sound w params) [ true ↦ step-stream (decode w params) stream max-buffer .1 | false ↦ stream ]

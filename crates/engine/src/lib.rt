@@ -114,14 +114,17 @@ fn takes_on(place: u64, left: usize, room: usize, more: bool) -> bool
     place < 18446744073709551615
 }
 
-// 5 and 6 end a job.
+// 5, 6 and 18 end a job.
 fn ends_job(number: u32) -> bool
     ensures { λ r. ⌜ r ≡ ends-job number ⌝ }
 {
     if number == 5 {
         return true;
     }
-    number == 6
+    if number == 6 {
+        return true;
+    }
+    number == 18
 }
 
 fn lines_at(used: Used, read: usize, written: usize, place: u64, ended: bool) -> Lines
@@ -211,8 +214,8 @@ fn job_trusted(
 
 // A job's next lines: those of as many records as the bytes at hand hold whole and the log surely has room for. `more`: further bytes follow.
 // The state is tested once. `place` is the next record's number; `read` and `written` say how much of the stream and of the log was used.
-// Refused: the first record right and 0 after (echoes_0), 0 for every record (zero_for_all), a job that goes on after 6 (six_goes_on) or from an unsound state
-// (unsound_goes_on), a record begun that may not be whole (cut_one_early).
+// Refused: the first record right and 0 after (echoes_0), 0 for every record (zero_for_all), a job that goes on after 6 (six_goes_on), after 18
+// (eighteen_goes_on) or from an unsound state (unsound_goes_on), a record begun that may not be whole (cut_one_early).
 pub fn job(
     state: &mut [u32],
     params: [[u8; 8]; 256],
@@ -324,7 +327,7 @@ pub fn fresh_job(
 
 // ---- the splitter
 
-// How many bytes the record at the head of the stream has, none on 5, 6 and 15; the words are as they were.
+// How many bytes the record at the head of the stream has, none on 5, 6, 15 and 18; the words are as they were.
 pub fn rest_size(state: &mut [u32], params: [[u8; 8]; 256], stream: &[u8]) -> usize
     ensures { λ r. ⌜ (now (state .exit) ≡ now (state .entry)) × ((r ≤ size (now (stream .entry))) × (drop r (now (stream .entry)) ≡ rest-of (now (state .entry)) params (now (stream .entry)))) ⌝ }
 {
@@ -336,7 +339,7 @@ pub fn rest_size(state: &mut [u32], params: [[u8; 8]; 256], stream: &[u8]) -> us
     rest_trusted(state, u, &params, stream, &mut saved)
 }
 
-// The stream after one record; all of it on 5, 6 and 15. The state is as it was.
+// The stream after one record; all of it on 5, 6, 15 and 18. The state is as it was.
 // Refused: a stream handed back whole always (all_handed_back), one byte passed on 15 (split_past_15).
 pub fn split<'a>(state: &mut [u32], params: [[u8; 8]; 256], stream: &'a [u8]) -> &'a [u8]
     ensures { λ r. ⌜ now r ≡ rest-of (now (state .entry)) params (now (stream .entry)) ⌝ }

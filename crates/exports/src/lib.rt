@@ -28,7 +28,7 @@ pub extern "C" fn pongiwaru_record(
     number
 }
 
-// How many bytes of the stream are left after one record; all of them on 5, 6 and 15. The state is as it was.
+// How many bytes of the stream are left after one record; all of them on 5, 6, 15 and 18. The state is as it was.
 // Refused: the bytes read in place of those left (rest_from_the_front), all of them always (all_left).
 #[no_mangle]
 pub extern "C" fn pongiwaru_split(

@@ -21,7 +21,7 @@ use Rattle.table.specs.declared.Used.{Used}
 use Rattle.table.proofs.Rows.{length-entries}
 use Rattle.table.proofs.Steps.{grown-refl, grown-trans}
 use Rattle.reader.specs.declared.Part.{Part}
-use Rattle.reader.specs.declared.Part.the-variants.{At, Full, Malformed, Unknown}
+use Rattle.reader.specs.declared.Part.the-variants.{At, Full, Malformed, Unknown, Doubled}
 use Rattle.reader.specs.declared.Taken.{Taken}
 use Rattle.reader.specs.Fields.{rest, Knows}
 use Rattle.reader.specs.Taken.{Placed, placed, place-read, part-of, Part-in, Takes, is-stop, is-over, node-in}
@@ -94,18 +94,21 @@ part-same (At t) f g s l e = ap (λ (x : Noded). part-with (At t) (λ (z : ℕ).
 part-same Full f g s l e = refl
 part-same Malformed f g s l e = refl
 part-same Unknown f g s l e = refl
+part-same Doubled f g s l e = refl
 
 pub part-so : (p : Part) (n : ℕ) (P : ℕ → Type 0) → Part-in n p → ((t : ℕ) → p ≡ At t → t < n → P t) → Part-so p P
 part-so (At t) n P i f = f t refl i
 part-so Full n P i f = tt
 part-so Malformed n P i f = tt
 part-so Unknown n P i f = tt
+part-so Doubled n P i f = tt
 
 pub stop-so : (p : Part) (P : ℕ → Type 0) → is-stop p ≡ true → Part-so p P
 stop-so (At t) P e = not-is e
 stop-so Full P e = not-is e
 stop-so Malformed P e = tt
 stop-so Unknown P e = tt
+stop-so Doubled P e = tt
 
 -- ---- one type, after the numbers a and c
 
@@ -131,6 +134,7 @@ first-in (At t) n n′ l e o i = omega arith
 first-in Full n n′ l e o i = is-not o
 first-in Malformed n n′ l e o i = is-not e
 first-in Unknown n n′ l e o i = is-not e
+first-in Doubled n n′ l e o i = is-not e
 
 module _ (w : List ℕ) (u : Used) (b : List ℕ) (end known at : ℕ) (w₁ : List ℕ) (r : Taken) (mark : RecordMark) (make : Tree → Tree → Record) (t : Takes w u b end known false (λ s. read-nested 64 s (rest b end at)) w₁ r) (o : Two mark make) where
   abbrev second : ℕ → Tree → State → Result (State × Noded)

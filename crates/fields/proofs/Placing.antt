@@ -9,7 +9,7 @@ use Rattle.definition.specs.Reader.{Read, got, not-read, Reader, give, go-on}
 use Rattle.definition.specs.Trees.{Tree}
 use Rattle.definition.specs.Build.{build}
 use Rattle.reader.specs.declared.Part.{Part}
-use Rattle.reader.specs.declared.Part.the-variants.{At, Full, Malformed, Unknown}
+use Rattle.reader.specs.declared.Part.the-variants.{At, Full, Malformed, Unknown, Doubled}
 use Rattle.reader.specs.Taken.{Placed, stopped, placed, place-read, part-of, is-stop, is-over, node-in}
 use Rattle.fields.specs.Noded.{part-with}
 
@@ -35,6 +35,7 @@ module _ {A B : Type 0} (put : A → State → Result (State × B)) (h : Tree �
   part-mapped Full s l = refl
   part-mapped Malformed s l = refl
   part-mapped Unknown s l = refl
+  part-mapped Doubled s l = refl
 
   read-mapped : (over : Bool) (x : Read Tree) (s : State) → mapped (place-read over build x s) ≡ place-read over put (go-on x (λ t. give (h t))) s
   unfolding _>>=_ place-read go-on give
@@ -82,6 +83,7 @@ module _ {A B C : Type 0} (put : A → State → Result (State × B)) (h : Tree 
       by (got c k) = refl
   part-onward Malformed s l e = is-not e
   part-onward Unknown s l e = is-not e
+  part-onward Doubled s l e = is-not e
 
   pub first-type : (p : Part) (over : Bool) (x : Read Tree) (s s′ : State) (l : Bytes) → part-of p s′ l ≡ place-read over build x s → is-stop p ≡ false
       → place-read over put (go-on x (λ t l. go-on (more l) (λ c. give (h t c)))) s ≡ place-read (is-over p) (after (node-in p)) (more l) s′
@@ -96,3 +98,4 @@ module _ {A B C : Type 0} (put : A → State → Result (State × B)) (h : Tree 
       by Full n = not-is n
       by Malformed n = refl
       by Unknown n = refl
+      by Doubled n = refl

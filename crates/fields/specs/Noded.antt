@@ -4,7 +4,7 @@ use mathlib.Core.Bool.{false}
 use mathlib.Core.List.{List, [], _∷_}
 use Prim.Native.Nat.{ℕ, zero, suc, _≤_, _<_}
 use lib.ListN.{length, getD, take, drop, replicate}
-use Rattle.definition.specs.Types.{State, Struct, malformed, unknown-name, full, Result, ok, refused, _>>=_}
+use Rattle.definition.specs.Types.{State, Struct, malformed, unknown-name, doubled-reference, full, Result, ok, refused, _>>=_}
 use Rattle.definition.specs.Write.{Bytes}
 use Rattle.definition.specs.Reader.{Read}
 use Rattle.definition.specs.Record as d
@@ -16,7 +16,7 @@ use Rattle.names.specs.declared.TVar.{TVar}
 use Rattle.table.specs.State.{Lay, Grown, Declares, Parts, view, seen}
 use Rattle.table.specs.declared.Used.{Used}
 use Rattle.reader.specs.declared.Part.{Part}
-use Rattle.reader.specs.declared.Part.the-variants.{At, Full, Malformed, Unknown}
+use Rattle.reader.specs.declared.Part.the-variants.{At, Full, Malformed, Unknown, Doubled}
 use Rattle.reader.specs.Fields.{rest, Knows}
 use Rattle.reader.specs.Taken.{Placed, stopped, placed, place-read}
 use Rattle.marks.specs.declared.RecordMark.{RecordMark}
@@ -108,6 +108,7 @@ part-with (At t) f s bytes = placed (ok (s, f t)) bytes
 part-with Full f s bytes = placed (refused full) bytes
 part-with Malformed f s bytes = stopped malformed
 part-with Unknown f s bytes = stopped unknown-name
+part-with Doubled f s bytes = stopped doubled-reference
 
 -- met in the state s, with these bytes left
 abbrev pub fields-as : Fields → State → Bytes → Placed Noded
@@ -118,6 +119,7 @@ Part-so (At t) P = P t
 Part-so Full P = Unit {0}
 Part-so Malformed P = Unit {0}
 Part-so Unknown P = Unit {0}
+Part-so Doubled P = Unit {0}
 
 -- variables below known, nodes below n, and so on
 abbrev pub Noded-in : RecordMark → ℕ → ℕ → Fields → ℕ → Type 0

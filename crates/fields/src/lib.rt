@@ -1,4 +1,4 @@
-// The fields of a record after its mark, read from left to right (5, 6), its types placed as nodes (7).
+// The fields of a record after its mark, read from left to right (5, 6, 18), its types placed as nodes (7).
 ghost use mathlib.Core.Path.{_≡_};
 ghost use mathlib.Core.List.{List};
 ghost use Prim.Native.Nat.{ℕ, _≤_};
@@ -28,7 +28,7 @@ use reader::read_type;
 use reader::stops;
 use table::Used;
 
-// A record read and placed: the node of its last type (0 where it has none), or 7, 5 or 6; the rows in use then, and the place after it.
+// A record read and placed: the node of its last type (0 where it has none), or 7, 5, 6 or 18; the rows in use then, and the place after it.
 // a: a location, an ability set (SD). b: the first node (JN, SU), the kind (NC), how many (SD, TS).
 // SN's variable; SD's parameter bytes; TS's ids and their nodes.
 pub struct Fields {

@@ -239,7 +239,7 @@ fn one_turn(
 // No contract can say what `libc::read` put or `io::write_all` took: that bytes read are those that `read_behind` counts, behind those at hand, and text handed over those
 // that `hand_over` counts, in front of the log, is to be seen in these two.
 // Refused (must-fail/): numbers from 0 anew (place_from_zero) or from 1 (starts_at_one), no more after the first bytes (no_more), more for ever (always_more), two turns
-// (two_turns), a fresh state for each piece (begun_anew), an end after the first lines (ends_at_once) or none after 6
+// (two_turns), a fresh state for each piece (begun_anew), an end after the first lines (ends_at_once) or none after 5, 6 or 18
 // (six_goes_on), turns that neither read nor list (spins_at_4095), lines that are not handed over (nothing_handed_over), a failed read passed over (unread_goes_on) or
 // taken for the end (unread_is_the_end).
 fn run(state: &mut [u32], rows: &mut [[u8; 8]; 256], buf: &mut [u8], log: &mut [u8]) -> Turn

@@ -1,21 +1,23 @@
 -- A type's tag, location and fields: by the tag, and one level deeper. Assumes nothing.
 use mathlib.Core.Path.{_≡_, refl, sym, ap, _∙_, subst}
+use mathlib.Core.Bool.{Bool, _&&_}
 use mathlib.Core.List.{List, []}
 use Prim.Native.Nat.{ℕ, zero, suc, _+_, _-_, _<_, _≤_}
 use native.Mathlib.Nat.{not-suc-le-zero, le-antisymm}
 use native.Mathlib.Omega.{arith}
+use lib.Dec.{ltb, eqb}
 use lib.ListN.{length, getD, replicate, length-replicate}
 use Rattle.definition.specs.Store.{taken}
-use Rattle.definition.specs.Types.{State, Struct, unbound, malformed}
+use Rattle.definition.specs.Types.{State, Struct, unbound, malformed, doubled-reference, if_then_else_}
 use Rattle.definition.specs.Write.{Bytes}
-use Rattle.definition.specs.Reader.{not-read, go-on, _>>=_, refuse, byte-to, read-u32}
-use Rattle.definition.specs.Trees.{by-tag, read-nested}
+use Rattle.definition.specs.Reader.{not-read, Reader, go-on, _>>=_, refuse, byte-to, read-u32}
+use Rattle.definition.specs.Trees.{Tree, under-ref, by-tag, read-nested}
 use Rattle.table.specs.Rows.{struct-table}
 use Rattle.table.specs.State.{view, Declares}
 use Rattle.table.specs.declared.Used.{Used}
 use Rattle.table.proofs.Rows.{length-entries}
 use Rattle.reader.specs.declared.Head.{Head}
-use Rattle.reader.specs.declared.Head.the-variants.{Begun, Broken, Unnamed}
+use Rattle.reader.specs.declared.Head.the-variants.{Begun, Broken, Unnamed, Doubled}
 use Rattle.reader.specs.Fields.{Begins, Head-nests}
 use Rattle.reader.specs.Taken.{Arities}
 
@@ -31,17 +33,17 @@ pub arity-fits : (w : List ℕ) (u : Used) (n many : ℕ) → Arities (view w u 
 unfolding Arities
 arity-fits w u n many a e = rw e (a n)
 
-pub tag-begins : (s : State) (loc tag n : ℕ) (l : Bytes) (b : List ℕ) (end : ℕ) (h : Head) → tag ≡ n → Begins (λ part. getD (by-tag s part loc) n (refuse malformed) l) b end h
-    → Begins (λ part. getD (by-tag s part loc) tag (refuse malformed) l) b end h
-tag-begins s loc tag n l b end h e k = subst (λ (t : ℕ). Begins (λ part. getD (by-tag s part loc) t (refuse malformed) l) b end h) (sym e) k
+pub tag-begins : (s : State) (loc left tag n : ℕ) (l : Bytes) (b : List ℕ) (end : ℕ) (h : Head) → tag ≡ n → Begins (λ part. getD (by-tag s part loc left) n (refuse malformed) l) b end h
+    → Begins (λ part. getD (by-tag s part loc left) tag (refuse malformed) l) b end h
+tag-begins s loc left tag n l b end h e k = subst (λ (t : ℕ). Begins (λ part. getD (by-tag s part loc left) t (refuse malformed) l) b end h) (sym e) k
 
 pub read-deep : (nest : ℕ) (s : State) (l : Bytes) → 0 < nest
-    → read-nested nest s l ≡ go-on (byte-to 8 l) (λ tag m. go-on (read-u32 m) (λ loc n. getD (by-tag s (read-nested (nest - 1) s) loc) tag (refuse malformed) n))
+    → read-nested nest s l ≡ go-on (byte-to 8 l) (λ tag m. go-on (read-u32 m) (λ loc n. getD (by-tag s (read-nested (nest - 1) s) loc (nest - 1)) tag (refuse malformed) n))
 unfolding read-nested _>>=_
 read-deep zero s l h = absurd (not-suc-le-zero h)
 read-deep (suc nest) s l h =
     let e : nest ≡ suc nest - 1 = omega arith in
-    ap (λ (k : ℕ). go-on (byte-to 8 l) (λ tag m. go-on (read-u32 m) (λ loc n. getD (by-tag s (read-nested k s) loc) tag (refuse malformed) n))) e
+    ap (λ (k : ℕ). go-on (byte-to 8 l) (λ tag m. go-on (read-u32 m) (λ loc n. getD (by-tag s (read-nested k s) loc k) tag (refuse malformed) n))) e
 
 pub no-nest : (nest : ℕ) (s : State) (l : Bytes) → nest ≡ 0 → not-read malformed ≡ read-nested nest s l
 unfolding read-nested refuse
@@ -57,6 +59,12 @@ pub nests : (h : Head) (nest : ℕ) → 0 < nest → Head-nests h nest
 nests (Begun h loc next) nest p = p
 nests Broken nest p = tt
 nests Unnamed nest p = tt
+nests Doubled nest p = tt
+
+-- R-6: what is done with the type under a reference, once its tag is looked at
+pub under-ref-is : (left : ℕ) (l : Bytes) (t : Bool) → t ≡ ltb 0 left && eqb (getD l 0 0) 1 → (part : Reader Tree) → under-ref left part l ≡ (if t then not-read doubled-reference else part l)
+unfolding under-ref
+under-ref-is left l t e part = rw e refl
 
 next : (n tag : ℕ) → n ≤ tag → (tag ≡ n → ⊥) → n + 1 ≤ tag
 next n tag l e = omega arith

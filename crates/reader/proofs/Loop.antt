@@ -23,7 +23,7 @@ use Rattle.table.proofs.Rows.{length-entries}
 use Rattle.table.proofs.Steps.{grown-refl, grown-trans}
 use Rattle.reader.specs.declared.Head.the-variants.{Begun}
 use Rattle.reader.specs.declared.Part.{Part}
-use Rattle.reader.specs.declared.Part.the-variants.{At, Full, Malformed, Unknown}
+use Rattle.reader.specs.declared.Part.the-variants.{At, Full, Malformed, Unknown, Doubled}
 use Rattle.reader.specs.declared.Taken.{Taken}
 use Rattle.reader.specs.Fields.{rest, Knows, many-parts, tree-read}
 use Rattle.reader.specs.Taken.{Placed, place-read, part-of, Part-in, Arities, Takes, put-node, found-part, is-stop, is-over, node-in}
@@ -136,6 +136,7 @@ module _ (w₀ : List ℕ) (u₀ : Used) (b : List ℕ) (end known nest : ℕ) (
   by-part lt Full st o q e j h = never (ap code (sym o))
   by-part lt Malformed st o q e j h = never (ap code (sym st))
   by-part lt Unknown st o q e j h = never (ap code (sym st))
+  by-part lt Doubled st o q e j h = never (ap code (sym st))
 
   one-more : n - i ≡ suc (n - (i + 1))
   one-more = omega arith

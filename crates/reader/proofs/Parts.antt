@@ -7,7 +7,7 @@ use native.Mathlib.Omega.{arith}
 use lib.ListN.{length, getD}
 use lib.Dec.{ltb, leb}
 use Rattle.definition.specs.Types as d
-use Rattle.definition.specs.Types.{State, Refusal, max-nodes, max-args, malformed, unknown-name, full, Result, ok, err, refused, _>>=_, if_then_else_}
+use Rattle.definition.specs.Types.{State, Refusal, max-nodes, max-args, malformed, unknown-name, doubled-reference, full, Result, ok, err, refused, _>>=_, if_then_else_}
 use Rattle.definition.specs.Store.{count, args-of, with-node, sp}
 use Rattle.definition.specs.Write.{Bytes}
 use Rattle.definition.specs.Reader.{Read, got, not-read, Reader, give, go-on}
@@ -21,7 +21,7 @@ use Rattle.table.specs.State.{outcome, done, Nodes-in}
 use Rattle.table.specs.declared.Out.{Out}
 use Rattle.table.specs.declared.Out.the-variants.{Done, Subtype, Incompatible, Arity, Recursive, Full as FullO, Deep, Itself, Disagree, Open, NoArgument, Twice}
 use Rattle.reader.specs.declared.Part.{Part}
-use Rattle.reader.specs.declared.Part.the-variants.{At, Full, Malformed, Unknown}
+use Rattle.reader.specs.declared.Part.the-variants.{At, Full, Malformed, Unknown, Doubled}
 use Rattle.reader.specs.Fields.{many-parts, tree-of}
 use Rattle.reader.specs.Taken.{Placed, stopped, placed, place-read, part-of, Part-in, found-part, is-stop, is-over, node-in, with-parts, put-node}
 
@@ -168,6 +168,7 @@ turn part m l over s s′ (At t) k xs n e = ap (λ (q : Placed (List ℕ)). onwa
 turn part m l over s s′ Full k xs n e = ap (λ (q : Placed (List ℕ)). onward xs q) (step-over part m (part l) over s s′ k e) ∙ over-any xs (xs ++ (0 ∷ [])) (read-trees m part k) s′ s′
 turn part m l over s s′ Malformed k xs n e = is-not n
 turn part m l over s s′ Unknown k xs n e = is-not n
+turn part m l over s s′ Doubled k xs n e = is-not n
 
 pub stop : (part : Reader Tree) (m : ℕ) (l : Bytes) (over : Bool) (s s′ : State) (p : Part) (k : Bytes) (xs : List ℕ) (loc : ℕ) (h : Shape) → is-stop p ≡ true → part-of p s′ k ≡ place-read over build (part l) s
     → part-of p s′ k ≡ then-node loc h (onward xs (place-read over build-all (read-trees (suc m) part l) s))
@@ -176,6 +177,7 @@ stop part m l over s s′ (At t) k xs loc h n e = not-is n
 stop part m l over s s′ Full k xs loc h n e = not-is n
 stop part m l over s s′ Malformed k xs loc h n e = ap (λ (q : Placed (List ℕ)). then-node loc h (onward xs q)) (step-stop part m (part l) over s malformed e)
 stop part m l over s s′ Unknown k xs loc h n e = ap (λ (q : Placed (List ℕ)). then-node loc h (onward xs q)) (step-stop part m (part l) over s unknown-name e)
+stop part m l over s s′ Doubled k xs loc h n e = ap (λ (q : Placed (List ℕ)). then-node loc h (onward xs q)) (step-stop part m (part l) over s doubled-reference e)
 
 -- a node was placed: there was space before
 pub at-open : (over : Bool) (x : Read Tree) (s s′ : State) (t : ℕ) (k : Bytes) → placed (ok (s′, t)) k ≡ place-read over build x s → over ≡ false

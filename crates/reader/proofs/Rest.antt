@@ -7,9 +7,9 @@ use Prim.Native.Nat.{ℕ, zero, suc, _+_, _*_, _-_, _≤_, _<_}
 use native.Mathlib.Nat.{not-suc-le-zero}
 use native.Mathlib.Numerals.{add-one}
 use native.Mathlib.Omega.{arith}
-use lib.ListN.{length, getD, take, drop, length-drop, drop-of-length-le}
+use lib.ListN.{length, getD, take, drop, length-drop, drop-of-length-le, List·getD-eq-default}
 use lib.Dec.{leb}
-use lib.Seq.{drop-cons, getD-take, length-take-le, drop-drop}
+use lib.Seq.{drop-cons, getD-drop, getD-take, length-take-le, drop-drop}
 use borrow.Author.Tests.{le-leb, lt-leb}
 use Rattle.definition.specs.Types as d
 use Rattle.definition.specs.Types.{TypeName, malformed}
@@ -37,6 +37,14 @@ module _ (b : List ℕ) (end : ℕ) (fits : end ≤ length b) where
   rest-none at h =
       let l : length (take end b) ≤ at = rw (length-take-le end b fits) h in
       drop-of-length-le (take end b) l
+
+  -- the byte k places on, 0 past the end
+  pub ahead-there : (at k : ℕ) → k < end - at → getD b (at + k) 0 ≡ getD (rest b end at) k 0
+  unfolding rest
+  ahead-there at k h = rw (getD-drop at (take end b) k 0, getD-take end b (at + k) 0 (omega arith))
+
+  pub ahead-none : (at k : ℕ) → end - at ≤ k → 0 ≡ getD (rest b end at) k 0
+  ahead-none at k h = sym (List·getD-eq-default (rest b end at) 0 (rw (rest-length at) h))
 
   -- ---- too few bytes
 

@@ -6,7 +6,7 @@ use mathlib.Core.Option.{Option, none, some}
 use Prim.Native.Nat.{ℕ, _+_, _≤_, _<_}
 use lib.ListN.{length, take, drop}
 use Rattle.definition.specs.Types as d
-use Rattle.definition.specs.Types.{State, Struct, malformed, unknown-name, if_then_else_}
+use Rattle.definition.specs.Types.{State, Struct, malformed, unknown-name, doubled-reference, if_then_else_}
 use Rattle.definition.specs.Store.{taken}
 use Rattle.definition.specs.Write.{Bytes}
 use Rattle.definition.specs.Reader.{Read, got, not-read, Reader, give, refuse, go-on, _>>=_, name-below, byte, read-u16, read-u32}
@@ -23,7 +23,7 @@ use Rattle.reader.specs.declared.Name.the-variants.{Known, Cut, Unknown}
 use Rattle.reader.specs.declared.Marked.{Marked}
 use Rattle.reader.specs.declared.Marked.the-variants.{With, Wrong}
 use Rattle.reader.specs.declared.Head.{Head}
-use Rattle.reader.specs.declared.Head.the-variants.{Begun, Broken, Unnamed}
+use Rattle.reader.specs.declared.Head.the-variants.{Begun, Broken, Unnamed, Doubled}
 
 -- the bytes from place `at` up to `end`
 unfoldable pub rest : List ℕ → ℕ → ℕ → Bytes
@@ -122,16 +122,19 @@ abbrev pub tree-read : Head → List ℕ → ℕ → Reader Tree → Read Tree
 tree-read (Begun h loc next) b end part = go-on (read-trees (many-parts h) part (rest b end next)) (λ ts. give (tree-of loc h ts))
 tree-read Broken b end part = not-read malformed
 tree-read Unnamed b end part = not-read unknown-name
+tree-read Doubled b end part = not-read doubled-reference
 
 abbrev pub Head-within : Head → ℕ → Type 0
 Head-within (Begun h loc next) end = (next ≤ end) × (many-parts h ≤ 8)
 Head-within Broken end = Unit {0}
 Head-within Unnamed end = Unit {0}
+Head-within Doubled end = Unit {0}
 
 abbrev pub Head-nests : Head → ℕ → Type 0
 Head-nests (Begun h loc next) nest = 0 < nest
 Head-nests Broken nest = Unit {0}
 Head-nests Unnamed nest = Unit {0}
+Head-nests Doubled nest = Unit {0}
 
 -- h is what m reads, whatever reads the parts
 pub record Begins (m : Reader Tree → Read Tree) (b : List ℕ) (end : ℕ) (h : Head) : Type 0 where

@@ -1,11 +1,11 @@
--- A type read and placed at once: 5 or 6 wins over 7, so that reading goes on when space has ended. Assumes nothing: these are definitions.
+-- A type read and placed at once: 5, 6 or 18 wins over 7, so that reading goes on when space has ended. Assumes nothing: these are definitions.
 use mathlib.Core.Path.{_≡_}
 use mathlib.Core.Bool.{Bool, true, false}
 use mathlib.Core.List.{List, [], _∷_}
 use Prim.Native.Nat.{ℕ, _≤_, _<_}
 use lib.ListN.{length, getD}
 use Rattle.definition.specs.Types as d
-use Rattle.definition.specs.Types.{State, Struct, Refusal, malformed, unknown-name, full, Result, ok, refused, if_then_else_}
+use Rattle.definition.specs.Types.{State, Struct, Refusal, malformed, unknown-name, doubled-reference, full, Result, ok, refused, if_then_else_}
 use Rattle.definition.specs.Store.{sp}
 use Rattle.definition.specs.Write.{Bytes}
 use Rattle.definition.specs.Reader.{Read, got, not-read}
@@ -19,11 +19,11 @@ use Rattle.table.specs.declared.Found.the-variants.{Nothing, Just}
 use Rattle.table.specs.declared.Shape.{Shape}
 use Rattle.table.specs.declared.Shape.the-variants.{Unit as UnitS, Ref, Param, Apply, Var, Anything, UnresolvedError}
 use Rattle.reader.specs.declared.Part.{Part}
-use Rattle.reader.specs.declared.Part.the-variants.{At, Full, Malformed, Unknown}
+use Rattle.reader.specs.declared.Part.the-variants.{At, Full, Malformed, Unknown, Doubled}
 use Rattle.reader.specs.declared.Taken.{Taken}
 use Rattle.reader.specs.Fields.{rest, Knows}
 
--- 5 or 6; or what was placed, or 7, and the bytes after it
+-- 5, 6 or 18; or what was placed, or 7, and the bytes after it
 pub data Placed (A : Type 0) : Type 0 where
   stopped : Refusal → Placed A
   placed : Result (State × A) → Bytes → Placed A
@@ -38,12 +38,14 @@ part-of (At t) s bytes = placed (ok (s, t)) bytes
 part-of Full s bytes = placed (refused full) bytes
 part-of Malformed s bytes = stopped malformed
 part-of Unknown s bytes = stopped unknown-name
+part-of Doubled s bytes = stopped doubled-reference
 
 abbrev pub Part-in : ℕ → Part → Type 0
 Part-in n (At t) = t < n
 Part-in n Full = Unit {0}
 Part-in n Malformed = Unit {0}
 Part-in n Unknown = Unit {0}
+Part-in n Doubled = Unit {0}
 
 -- no struct has more than eight parameters, as in a sound state
 unfoldable pub Arities : List Struct → Type 0
@@ -87,15 +89,18 @@ is-stop (At t) = false
 is-stop Full = false
 is-stop Malformed = true
 is-stop Unknown = true
+is-stop Doubled = true
 
 abbrev pub is-over : Part → Bool
 is-over (At t) = false
 is-over Full = true
 is-over Malformed = false
 is-over Unknown = false
+is-over Doubled = false
 
 abbrev pub node-in : Part → ℕ
 node-in (At t) = t
 node-in Full = 0
 node-in Malformed = 0
 node-in Unknown = 0
+node-in Doubled = 0

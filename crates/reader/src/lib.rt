@@ -1,15 +1,16 @@
-// One record from the caller's bytes: read from left to right (5, 6), its types placed as nodes (7).
+// One record from the caller's bytes: read from left to right (5, 6, 18), its types placed as nodes (7).
 ghost use mathlib.Core.Path.{_≡_};
-ghost use mathlib.Core.Bool.{false};
+ghost use mathlib.Core.Bool.{false, _&&_};
 ghost use mathlib.Core.List.{List, []};
 ghost use Prim.Native.Nat.{ℕ, _+_, _-_, _≤_, _<_};
+ghost use lib.Dec.{ltb, eqb};
 ghost use lib.ListN.{length, getD, take};
 ghost use Rattle.definition.specs.Types as d;
 ghost use Rattle.definition.specs.Types.{malformed};
 ghost use Rattle.definition.specs.Store.{taken};
 ghost use Rattle.definition.specs.Instantiate.{builtin-tparams};
 ghost use Rattle.definition.specs.Reader.{refuse, byte, byte-to, read-u16, read-u32, name-below, read-one, read-two, byte-if, read-bool, Reader};
-ghost use Rattle.definition.specs.Trees.{mark-of, mark-fits, read-apply, by-tag, read-nested, ref-tree, param-tree, var-tree, is-set};
+ghost use Rattle.definition.specs.Trees.{mark-of, mark-fits, read-apply, by-tag, read-nested, ref-tree, param-tree, var-tree, is-set, under-ref};
 ghost use Rattle.names.specs.Names.{mark-of as mark-is, name-of};
 ghost use Rattle.table.specs.State.{view, seen, Lay, After, Declares};
 ghost use Rattle.reader.specs.declared.Head.the-variants.{Begun};
@@ -51,19 +52,21 @@ pub enum Marked {
     Wrong,
 }
 
-// A type's tag, location and fields without its parts, and the place after them; or 5; or 6.
+// A type's tag, location and fields without its parts, and the place after them; or 5; or 6; or 18.
 pub enum Head {
     Begun(Shape, u32, usize),
     Broken,
     Unnamed,
+    Doubled,
 }
 
-// A type read and placed: its node; no space was left for it (7); 5; or 6.
+// A type read and placed: its node; no space was left for it (7); 5; 6; or 18.
 pub enum Part {
     At(u32),
     Full,
     Malformed,
     Unknown,
+    Doubled,
 }
 
 // .. with the rows in use then, and the place after the type.
@@ -89,6 +92,20 @@ pub fn read_numbers(b: &[u8], end: usize, at: usize, n: usize, k: usize) -> Word
     ensures { λ r. ⌜ ((m m′ : Reader ℕ) (max max′ : ℕ) → Width n m max → Width k m′ max′ → Reads-two m max m′ max′ (now (b .entry)) end at r) ⌝ }
 {
     read_words(b, end, at, n, k)
+}
+
+fn wide(x: u8) -> u32
+    ensures { λ r. ⌜ r ≡ x ⌝ }
+{
+    x as u32
+}
+
+// The byte k places on, 0 if there is none. Nothing is read.
+fn byte_ahead(b: &[u8], end: usize, at: usize, k: usize) -> u32
+    requires { ⌜ (end ≤ length (now b)) × (at ≤ end) ⌝ }
+    ensures { λ r. ⌜ r ≡ getD (rest (now (b .entry)) end at) k 0 ⌝ }
+{
+    if k < end - at { wide(b[at + k]) } else { 0 }
 }
 
 // A byte from 0 to max.
@@ -150,15 +167,32 @@ fn read_mark(f: Number) -> Marked
 
 // ---- fields after the tag and the location
 
-fn ref_fields(b: &[u8], end: usize, at: usize, loc: u32) -> Head
+// R-6: the type under a reference, which may nest `left` deep, begins with the tag of a reference.
+fn is_doubled(b: &[u8], end: usize, at: usize, left: u32) -> bool
     requires { ⌜ (end ≤ length (now b)) × (at ≤ end) ⌝ }
-    ensures { λ r. ⌜ ((s : d.State) → Begins (λ part. read-two (ref-tree loc) read-bool part (rest (now (b .entry)) end at)) (now (b .entry)) end r) ⌝ }
+    ensures { λ r. ⌜ r ≡ ltb 0 left && eqb (getD (rest (now (b .entry)) end at) 0 0) 1 ⌝ }
+{
+    if left == 0 {
+        return false;
+    }
+    byte_ahead(b, end, at, 0) == 1
+}
+
+fn ref_fields(b: &[u8], end: usize, at: usize, left: u32, loc: u32) -> Head
+    requires { ⌜ (end ≤ length (now b)) × (at ≤ end) ⌝ }
+    ensures { λ r. ⌜ ((s : d.State) → Begins (λ part. read-two (ref-tree loc) read-bool (under-ref left part) (rest (now (b .entry)) end at)) (now (b .entry)) end r) ⌝ }
 {
     let r = read_number(b, end, at, 1);
     let f = r.number;
     let m = byte_to(f, 1);
     match m {
-        Number::Got(x) => Head::Begun(Shape::Ref(0 < x, 0), loc, r.next),
+        Number::Got(x) => {
+            let next = r.next;
+            if is_doubled(b, end, next, left) {
+                return Head::Doubled;
+            }
+            Head::Begun(Shape::Ref(0 < x, 0), loc, next)
+        }
         Number::Missing => Head::Broken,
     }
 }
@@ -302,7 +336,7 @@ fn struct_fields(w: &[u32], u: Used, b: &[u8], end: usize, at: usize, loc: u32) 
     }
 }
 
-// By the tag, from 0 to 8.
+// By the tag, from 0 to 8; a part may nest `left` deep.
 fn fields(
     w: &[u32],
     u: Used,
@@ -310,19 +344,20 @@ fn fields(
     end: usize,
     at: usize,
     known: u32,
+    left: u32,
     tag: u32,
     loc: u32,
 ) -> Head
     requires { ⌜ Lay (now w) u × Arities (view (now w) u .structs) ⌝ }
     requires { ⌜ (end ≤ length (now b)) × ((at ≤ end) × ((known ≤ 1024) × (tag ≤ 8))) ⌝ }
-    ensures { λ r. ⌜ ((s : d.State) (ds : List d.Struct) → Declares (now (w .entry)) u ds → Knows s known ds → Begins (λ part. getD (by-tag s part loc) tag (refuse malformed) (rest (now (b .entry)) end at)) (now (b .entry)) end r) ⌝ }
+    ensures { λ r. ⌜ ((s : d.State) (ds : List d.Struct) → Declares (now (w .entry)) u ds → Knows s known ds → Begins (λ part. getD (by-tag s part loc left) tag (refuse malformed) (rest (now (b .entry)) end at)) (now (b .entry)) end r) ⌝ }
     ensures { λ r. ⌜ Head-within r end ⌝ }
 {
     if tag == 0 {
         return Head::Begun(Shape::Unit, loc, at);
     }
     if tag == 1 {
-        return ref_fields(b, end, at, loc);
+        return ref_fields(b, end, at, left, loc);
     }
     if tag == 2 {
         return param_fields(b, end, at, loc);
@@ -355,13 +390,14 @@ fn read_head(w: &[u32], u: Used, b: &[u8], end: usize, at: usize, known: u32, ne
     if nest == 0 {
         return Head::Broken;
     }
+    let left = nest - 1;
     let r = read_numbers(b, end, at, 1, 4);
     let f = r.first;
     let l = r.second;
     let t = byte_to(f, 8);
     match t {
         Number::Got(tag) => match l {
-            Number::Got(loc) => fields(w, u, b, end, r.next, known, tag, loc),
+            Number::Got(loc) => fields(w, u, b, end, r.next, known, left, tag, loc),
             Number::Missing => Head::Broken,
         },
         Number::Missing => Head::Broken,
@@ -423,6 +459,7 @@ pub fn stops(p: Part) -> bool
         Part::Full => false,
         Part::Malformed => true,
         Part::Unknown => true,
+        Part::Doubled => true,
     }
 }
 
@@ -434,6 +471,7 @@ pub fn no_space(p: Part) -> bool
         Part::Full => true,
         Part::Malformed => false,
         Part::Unknown => false,
+        Part::Doubled => false,
     }
 }
 
@@ -445,10 +483,11 @@ pub fn node_of(p: Part) -> u32
         Part::Full => 0,
         Part::Malformed => 0,
         Part::Unknown => 0,
+        Part::Doubled => 0,
     }
 }
 
-// A type at most `nest` deep. Once space has ended nothing more is placed, but reading goes on: a later 5 or 6 comes before 7.
+// A type at most `nest` deep. Once space has ended nothing more is placed, but reading goes on: a later 5, 6 or 18 comes before 7.
 pub fn read_type(
     w: &mut [u32],
     u: Used,
@@ -484,6 +523,11 @@ pub fn read_type(
         },
         Head::Unnamed => Taken {
             part: Part::Unknown,
+            used: u,
+            next: at,
+        },
+        Head::Doubled => Taken {
+            part: Part::Doubled,
             used: u,
             next: at,
         },

@@ -22,7 +22,7 @@ use Rattle.table.specs.State.{Lay, Grown, Declares, Parts, view, seen}
 use Rattle.table.specs.declared.Used.{Used}
 use Rattle.table.proofs.Steps.{grown-refl, grown-trans}
 use Rattle.reader.specs.declared.Part.{Part}
-use Rattle.reader.specs.declared.Part.the-variants.{At, Full, Malformed, Unknown}
+use Rattle.reader.specs.declared.Part.the-variants.{At, Full, Malformed, Unknown, Doubled}
 use Rattle.reader.specs.declared.Taken.{Taken}
 use Rattle.reader.specs.Fields.{rest, Knows}
 use Rattle.reader.specs.Taken.{Placed, stopped, placed, place-read, part-of, Part-in, Takes, is-stop, is-over, node-in}
@@ -228,6 +228,7 @@ module _ (w₀ : List ℕ) (u₀ : Used) (b : List ℕ) (end known n at : ℕ) (
         part-open Full q o st = is-not o
         part-open Malformed q o st = is-not st
         part-open Unknown q o st = is-not st
+        part-open Doubled q o st = is-not st
 
         either : Dec (j ≡ i) → getD (set nodes i (node-in (r .part))) j 0 < r .used .nodes
         either (yes q) =

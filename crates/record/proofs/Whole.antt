@@ -16,7 +16,7 @@ use Rattle.table.specs.State.{Declares, seen}
 use Rattle.table.specs.declared.Used.{Used}
 use Rattle.table.proofs.Pushed.{taken-seen}
 use Rattle.reader.specs.declared.Part.{Part}
-use Rattle.reader.specs.declared.Part.the-variants.{At, Full, Malformed, Unknown}
+use Rattle.reader.specs.declared.Part.the-variants.{At, Full, Malformed, Unknown, Doubled}
 use Rattle.reader.specs.Fields.{rest, Knows}
 use Rattle.reader.specs.Taken.{Placed, stopped, placed, place-read}
 use Rattle.fields.specs.declared.Fields.{Fields}
@@ -33,6 +33,7 @@ longer-part (At t) g s l more = refl
 longer-part Full g s l more = refl
 longer-part Malformed g s l more = refl
 longer-part Unknown g s l more = refl
+longer-part Doubled g s l more = refl
 
 longer-read : {A B : Type 0} (put : A → State → Result (State × B)) (x : Read A) (s : State) (more : Bytes) → longer more (place-read false put x s) ≡ place-read false put (hand-back more x) s
 unfolding place-read hand-back

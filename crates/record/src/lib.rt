@@ -1,4 +1,4 @@
-// One record from the caller's bytes: its mark and fields read from left to right (5, 6), its types placed as nodes (7).
+// One record from the caller's bytes: its mark and fields read from left to right (5, 6, 18), its types placed as nodes (7).
 ghost use mathlib.Core.Path.{_≡_};
 ghost use Prim.Native.Nat.{_≤_};
 ghost use lib.ListN.{length};

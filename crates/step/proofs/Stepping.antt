@@ -6,7 +6,7 @@ use Prim.Native.Nat.{ℕ, _-_, _≤_}
 use native.Mathlib.Omega.{arith}
 use lib.Dec.{ltb}
 use lib.ListN.{length, drop}
-use Rattle.definition.specs.Types.{State, Struct, Refusal, malformed, unknown-name, full, Result, ok, refused, _>>=_, if_then_else_}
+use Rattle.definition.specs.Types.{State, Struct, Refusal, malformed, full, Result, ok, refused, _>>=_, if_then_else_}
 use Rattle.definition.specs.Write.{Bytes, Is-bytes}
 use Rattle.definition.specs.Reader.{Read, got}
 use Rattle.definition.specs.Record.{Record, read-record}
@@ -25,7 +25,7 @@ use Rattle.lent.specs.Lent.{used-of}
 use Rattle.lent.proofs.Lays.{lent-declares}
 use Rattle.reader.specs.Taken.{Arities, stopped, placed, place-read}
 use Rattle.reader.specs.declared.Part.{Part}
-use Rattle.reader.specs.declared.Part.the-variants.{At, Full, Malformed, Unknown}
+use Rattle.reader.specs.declared.Part.the-variants.{At, Full, Malformed, Unknown, Doubled}
 use Rattle.fields.specs.Noded.{Noded, place-record, noded, Part-so, Noded-in, part-with, Record-is}
 use Rattle.fields.specs.declared.Fields.{Fields}
 use Rattle.answer.specs.Ran.{refused-by, Answers}
@@ -40,14 +40,6 @@ use Rattle.step.specs.Replies.{Replied, Begun, Begins, Ends, place-after
 use Rattle.step.proofs.Reading.{stop-is, Got, got-is, answered-not, unread-not, unread-got, answered-got}
 use Rattle.step.proofs.Keeping.{bytes-after, answered-sound, view-arities}
 use Rattle.step.proofs.Replying.{declared-in, stands-arities, reply-refused}
-
-pub number-5 : number-of-refusal malformed ≡ 5
-unfolding number-of-refusal
-number-5 = refl
-
-pub number-6 : number-of-refusal unknown-name ≡ 6
-unfolding number-of-refusal
-number-6 = refl
 
 -- what read_record asks
 pub reading-arities : {w : List ℕ} {u : Used} {params : List (List ℕ)} → Stands w u params → Arities (view w u .structs)
@@ -87,12 +79,14 @@ module _ {w : List ℕ} {u : Used} (params : List (List ℕ)) {stream : Bytes} {
       go Full e = more _ (read-is Full e)
       go Malformed e = none _ (read-is Malformed e)
       go Unknown e = none _ (read-is Unknown e)
+      go Doubled e = none _ (read-is Doubled e)
 
 rest-within : (p : Part) (at next n : ℕ) → at ≤ n → next ≤ n → place-after p at next ≤ n
 rest-within (At t) at next n a b = b
 rest-within Full at next n a b = b
 rest-within Malformed at next n a b = a
 rest-within Unknown at next n a b = a
+rest-within Doubled at next n a b = a
 
 pub splits : {w : List ℕ} {u : Used} (params : List (List ℕ)) {stream : Bytes} {w₁ : List ℕ} {f : Fields} → Record-is w u stream 0 w₁ f → {r : ℕ} → r ≡ place-after (f .part) 0 (f .next) → (r ≤ length stream) × (unread (held w u params) stream ≡ drop r stream)
 splits params {stream} {f = f} c e = rw e (rest-within (f .part) 0 (f .next) (length stream) (omega arith) (c .within), rest-is params c)
@@ -144,7 +138,7 @@ module _ {w : List ℕ} {u : Used} {params : List (List ℕ)} (stream : Bytes) (
         → (buf : List ℕ) → Replied buf w′ params buf a (answered whole s₀ bytes)
     refused-by-x whole x g n e buf = rw e (reply-refused x buf s since (c .structs) (g x buf n))
 
-    -- 5, 6
+    -- 5, 6, 18
     pub steps-stopped : (whole : Bool) (p : Part) (x : Refusal) → ((g : ℕ → Noded) (t : State) (l : Bytes) → part-with p g t l ≡ stopped x) → f .part ≡ p → at ≤ length stream
         → {number : ℕ} {w′ : List ℕ} {a : Answer} → Refuses number w′ a → number-of-refusal x ≡ number → (buf : List ℕ) {r : Stepped} → r ≡ gone a at → Steps whole w u params stream at buf w′ params buf r
     steps-stopped whole p x h e le g n buf q =

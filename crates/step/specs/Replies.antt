@@ -17,7 +17,7 @@ use Rattle.table.specs.declared.Found.the-variants.{Nothing, Just}
 use Rattle.lent.specs.Lent.{structs-of, encode-params}
 use Rattle.snap.specs.Snap.{Since}
 use Rattle.reader.specs.declared.Part.{Part}
-use Rattle.reader.specs.declared.Part.the-variants.{At, Full, Malformed, Unknown}
+use Rattle.reader.specs.declared.Part.the-variants.{At, Full, Malformed, Unknown, Doubled}
 use Rattle.fields.specs.Noded.{Noded, place-record}
 use Rattle.marks.specs.declared.RecordMark.{RecordMark}
 use Rattle.marks.specs.declared.RecordMark.the-variants as m
@@ -91,3 +91,4 @@ place-after (At t) at next = next
 place-after Full at next = next
 place-after Malformed at next = at
 place-after Unknown at next = at
+place-after Doubled at next = at

@@ -213,6 +213,7 @@ pub fn step_trusted(
     match p {
         Part::Malformed => with_next(answer::refuse(w, v, u, saved, 5), at),
         Part::Unknown => with_next(answer::refuse(w, v, u, saved, 6), at),
+        Part::Doubled => with_next(answer::refuse(w, v, u, saved, 18), at),
         Part::Full => with_next(answer::refuse(w, v, u, saved, seven_or_five(over)), next),
         Part::At(t) => {
             if over {
@@ -225,7 +226,7 @@ pub fn step_trusted(
 
 // ---- the splitter
 
-// Where the stream goes on: 5 and 6 leave it as it is.
+// Where the stream goes on: 5, 6 and 18 leave it as it is.
 fn place_after(p: Part, at: usize, next: usize) -> usize
     ensures { λ r. ⌜ r ≡ place-after p at next ⌝ }
 {
@@ -234,10 +235,11 @@ fn place_after(p: Part, at: usize, next: usize) -> usize
         Part::Full => next,
         Part::Malformed => at,
         Part::Unknown => at,
+        Part::Doubled => at,
     }
 }
 
-// How many bytes the record at the head of the stream has, none on 5 and 6; the words are as they were.
+// How many bytes the record at the head of the stream has, none on 5, 6 and 18; the words are as they were.
 pub fn rest_trusted(
     w: &mut [u32],
     u: Used,

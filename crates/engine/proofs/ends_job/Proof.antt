@@ -1,13 +1,21 @@
 -- `engine::ends_job` meets its contract. Assumes nothing.
-use Rattle.engine.proofs.Laws.{ends-five, ends-other}
+use mathlib.Core.Path.{refl}
+use borrow.Author.Tests.{ne-eqb}
+use Rattle.definition.specs.Job.{ends-job}
 use Rattle.engine.proofs.ends_job.Statement.{statement}
 use Rattle.engine.proofs.ends_job.Tie as tie
 
 returns : tie.Need-returns
-returns c = ends-five _ (c .if1 .taken)
+unfolding ends-job
+returns c = rw (c .if1 .taken) refl
 
 returns-2 : tie.Need-returns-2
-returns-2 c = ends-other _ (c .if1 .left)
+unfolding ends-job
+returns-2 c = rw (c .if2 .taken) refl
+
+returns-3 : tie.Need-returns-3
+unfolding ends-job
+returns-3 c = rw (ne-eqb _ 5 (c .before .if1 .left), ne-eqb _ 6 (c .if2 .left)) refl
 
 pub ends-job-spec : {M : Type 1} → statement M
-ends-job-spec = tie.close (tie.spec returns returns-2)
+ends-job-spec = tie.close (tie.spec returns returns-2 returns-3)

@@ -1,6 +1,6 @@
 -- `reader::read_parts` and `reader::read_type` meet their contracts. Assumes nothing.
 use Rattle.reader.proofs.Loop.{Going, go-none, go-more, go-stop, go-all, takes-is, takes-none}
-use Rattle.reader.specs.declared.Part.the-variants.{Malformed, Unknown}
+use Rattle.reader.specs.declared.Part.the-variants.{Malformed, Unknown, Doubled}
 use Rattle.reader.specs.Taken.{Arities, place-read}
 use borrow.Author.Needs.{needs}
 use mathlib.Core.Path.{refl, sym, _∙_, subst}
@@ -142,6 +142,9 @@ read-type-enum-told t c = search needs
 read-type-enum-told-2 : (t : ℕ) → read-type-lts.Need-enum-told-2 (read-type-calls t) (read-type-at t) read-type.Post
 read-type-enum-told-2 t c = search needs
 
+read-type-enum-told-3 : (t : ℕ) → read-type-lts.Need-enum-told-3 (read-type-calls t) (read-type-at t) read-type.Post
+read-type-enum-told-3 t c = search needs
+
 read-type-same-length : (t : ℕ) → read-type-lts.Need-same-length (read-type-calls t) (read-type-at t) read-type.Post
 read-type-same-length t c = c .before .before .read-parts .ensures .lay .size ∙ sym (c .before .before .before .before .before .before .before .before .before .before .before .pre .1 .0 .0 .size)
 
@@ -161,6 +164,13 @@ read-type-same-length-3 t c = search needs
 read-type-returns-3 : (t : ℕ) → read-type-lts.Need-returns-3 (read-type-calls t) (read-type-at t) read-type.Post
 unfolding place-read
 read-type-returns-3 t c = takes-none _ _ _ _ _ _ _ _ Unknown (c .before .before .before .before .before .before .pre .1 .0 .0) (c .before .before .before .before .before .before .pre .1 .1 .1 .0) tt (λ ds s d k. rw (← c .before .before .read-head .ensures .0 s ds d k, c .enum-told2 .given .1) refl)
+
+read-type-same-length-4 : (t : ℕ) → read-type-lts.Need-same-length-4 (read-type-calls t) (read-type-at t) read-type.Post
+read-type-same-length-4 t c = search needs
+
+read-type-returns-4 : (t : ℕ) → read-type-lts.Need-returns-4 (read-type-calls t) (read-type-at t) read-type.Post
+unfolding place-read
+read-type-returns-4 t c = takes-none _ _ _ _ _ _ _ _ Doubled (c .before .before .before .before .before .before .pre .1 .0 .0) (c .before .before .before .before .before .before .pre .1 .1 .1 .0) tt (λ ds s d k. rw (← c .before .before .read-head .ensures .0 s ds d k, c .enum-told3 .given .1) refl)
 
 pub +read-parts+read-type-spec : {M : Type 1} → statement M
 +read-parts+read-type-spec = close μ-read-parts μ-read-type (λ t. read-parts-lts.spec (read-parts-calls t) (read-parts-at t) read-parts.Post
@@ -192,9 +202,12 @@ pub +read-parts+read-type-spec : {M : Type 1} → statement M
     (read-type-read-parts-requires t)
     (read-type-enum-told t)
     (read-type-enum-told-2 t)
+    (read-type-enum-told-3 t)
     (read-type-same-length t)
     (read-type-returns t)
     (read-type-same-length-2 t)
     (read-type-returns-2 t)
     (read-type-same-length-3 t)
     (read-type-returns-3 t)
+    (read-type-same-length-4 t)
+    (read-type-returns-4 t)

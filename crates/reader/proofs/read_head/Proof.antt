@@ -12,6 +12,9 @@ use Rattle.reader.proofs.read_head.Tie as tie
 returns : tie.Need-returns
 returns c = (λ s ds de kn. no-nest _ s _ (c .if1 .taken), (tt, tt))
 
+sub-left : tie.Need-sub-left
+sub-left c = search needs
+
 read-numbers-requires : tie.Need-read-numbers-requires
 read-numbers-requires c κs = search needs
 
@@ -59,6 +62,7 @@ read-head-spec =
     tie.close
     (tie.spec
     returns
+    sub-left
     read-numbers-requires
     byte-to-requires
     enum-known-t
