@@ -48,6 +48,7 @@ gives "no program" 2 '' 'wants a program' ./joinlog.sh --program /no/such
 cp crates/joinlog/stdin "$tmp/good"
 printf 'SVXXSV' > "$tmp/malformed"
 printf 'UF\6\0\0\0\0\0\0SV' > "$tmp/unknown"
+printf 'SVUF\1\0\0\0\0\0\1SV' > "$tmp/doubled"
 printf 'SVSV' > "$tmp/two"
 gives "example" 0 '^2 0 03030000000002$' '' $run --example
 gives "file" 0 '^2 0 03030000000002$' '' $run "$tmp/good"
@@ -58,20 +59,16 @@ gives "terminal: the bundled job" 0 '2 0 03030000000002' '' \
   python3 -c 'import pty, sys; sys.exit(pty.spawn(sys.argv[1:]) >> 8)' $run
 gives "5 ends a job" 3 '^1 5$' '' $run "$tmp/malformed"
 gives "6 ends a job" 3 '^0 6$' '' $run "$tmp/unknown"
+gives "18 ends a job" 3 '^1 18$' '' $run "$tmp/doubled"
 in=. gives "input fails" 1 '' 'standard input cannot be read' $run
 gives "output fails" 1 '' 'No space left' bash -c "$run $tmp/good > /dev/full"
 yes SV | head -n 20000 | tr -d '\n' > "$tmp/long"
 gives "the log is read no further" 1 '^0 0$' '' bash -c "set -o pipefail; $run $tmp/long | head -n 1"
-cat > "$tmp/ends18" << 'END'
-#!/bin/sh
-printf '0 0\n1 18\n'
-END
 cat > "$tmp/killed" << 'END'
 #!/bin/sh
 echo '0 0' && kill -9 $$
 END
-chmod +x "$tmp/ends18" "$tmp/killed"
-gives "18 ends a job" 3 '^1 18$' '' ./joinlog.sh --program "$tmp/ends18" --example
+chmod +x "$tmp/killed"
 gives "stopped from outside" 1 '^0 0$' 'joinlog was stopped' ./joinlog.sh --program "$tmp/killed" --example
 
 # ---- joinlog.sh: builds, in a folder where nothing is built
@@ -124,9 +121,9 @@ cp "$tmp/two" "$tmp/jobs/one more/last"
 gives "release: all answers 0" 0 '^9 jobs, 26 records; answers 0: 26; no error$' '^9 of 9 jobs$' ./release.sh --quick "$tmp/jobs" "$tmp/logs"
 verdict "release: a log" "$(cmp -s "$tmp/logs/job 3.log" crates/joinlog/stdout && [ -f "$tmp/logs/one more/last.log" ] && echo yes)"
 verdict "release: nothing half there" "$([ -z "$(find "$tmp/logs" -name '*.part')" ] && echo yes)"
-cp "$tmp/malformed" "$tmp/jobs/bad" && cp "$tmp/unknown" "$tmp/jobs/worse"
-gives "release: some answers are not" 1 '^11 jobs, 29 records; answers 0: 27, 5: 1, 6: 1; jobs with an error: 2$' '^11 of 11 jobs$' ./release.sh --quick -j 1 "$tmp/jobs" "$tmp/logs"
-verdict "release: the first error of each" "$(grep -q '^bad: record 1, answer 5$' "$tmp/out" && grep -q '^worse: record 0, answer 6$' "$tmp/out" && echo yes)"
+cp "$tmp/malformed" "$tmp/jobs/bad" && cp "$tmp/unknown" "$tmp/jobs/worse" && cp "$tmp/doubled" "$tmp/jobs/worst"
+gives "release: some answers are not" 1 '^12 jobs, 31 records; answers 0: 28, 5: 1, 6: 1, 18: 1; jobs with an error: 3$' '^12 of 12 jobs$' ./release.sh --quick -j 1 "$tmp/jobs" "$tmp/logs"
+verdict "release: the first error of each" "$(grep -q '^bad: record 1, answer 5$' "$tmp/out" && grep -q '^worse: record 0, answer 6$' "$tmp/out" && grep -q '^worst: record 1, answer 18$' "$tmp/out" && echo yes)"
 
 # A run that is stopped while its second job runs, and goes on with another joinlog.
 rm -rf "$tmp/logs" && cp release.sh "$tmp/fresh" && cat > "$tmp/fresh/target/bin/joinlog" << END
@@ -144,7 +141,7 @@ verdict "release: stopped, only whole logs" "$(
   [ -e "$tmp/second" ] && [ "$(find "$tmp/logs" -name '*.log')" = "$tmp/logs/bad.log" ] && [ -e "$tmp/logs/job 1.log.part" ] && echo yes
 )"
 touch -d 2030-01-01 "$tmp/logs/bad.log"
-gives "release: goes on" 1 '^11 jobs, 29 records' '^11 of 11 jobs$' ./release.sh --quick "$tmp/jobs" "$tmp/logs"
+gives "release: goes on" 1 '^12 jobs, 31 records' '^12 of 12 jobs$' ./release.sh --quick "$tmp/jobs" "$tmp/logs"
 verdict "release: what was there is not made again" "$([ "$(date -r "$tmp/logs/bad.log" +%Y)" = 2030 ] && echo yes)"
 verdict "release: nothing half there" "$([ -z "$(find "$tmp/logs" -name '*.part')" ] && echo yes)"
 touch -d 2031-01-01 "$tmp/jobs/bad"
@@ -152,7 +149,7 @@ touch -d 2031-01-01 "$tmp/jobs/bad"
 verdict "release: a newer job is run again" "$([ "$(date -r "$tmp/logs/bad.log" +%Y)" != 2030 ] && echo yes)"
 rm -rf "$tmp/logs" && (cd "$tmp/jobs" && find . -type f) |
   RELEASE_PROGRAM=$program xargs -I{} ./release.sh --one "$tmp/jobs" "$tmp/logs" {} && touch -d 2035-01-01 "$tmp/logs/bad.log"
-gives "release: by jobs alone, as over several machines" 1 '^11 jobs, 29 records' 'of 11 jobs' ./release.sh --quick "$tmp/jobs" "$tmp/logs"
+gives "release: by jobs alone, as over several machines" 1 '^12 jobs, 31 records' 'of 12 jobs' ./release.sh --quick "$tmp/jobs" "$tmp/logs"
 verdict "release: then only summed up" "$([ "$(date -r "$tmp/logs/bad.log" +%Y)" = 2035 ] && echo yes)"
 rm -rf "$tmp/logs/one more" && touch "$tmp/logs/one more"
 gives "release: a log that cannot be written" 2 '^one more/last: no log$' 'one more' ./release.sh --quick "$tmp/jobs" "$tmp/logs"

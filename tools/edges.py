@@ -61,10 +61,6 @@ def limit(name, *parts):
     return name, asm('\n'.join(line for line, _ in lines)), log
 
 
-def refs(n, inner):
-    return '&' * n + inner
-
-
 def list_of(*parts):
     return '(' + ', '.join(parts) + (',)' if len(parts) < 2 else ')')
 
@@ -74,12 +70,16 @@ SIXTY_FOUR = list_of(*[EIGHT] * 8)      # 73 nodes, 72 places, 7 + 8 * 47 bytes
 BIG = list_of(*[SIXTY_FOUR] * 8)        # 585 nodes, 584 places, 7 + 8 * 383 bytes
 
 
+def vectors(n, inner):
+    return 'vector<' * n + inner + '>' * n
+
+
 def chains(last):
-    """V0 .. V3 and V4 .. V7: each bound to 63 references around the next, the last of each to so many around ()"""
+    """V0 .. V3 and V4 .. V7: each bound to 63 vectors around the next, the last of each to so many around ()"""
     lines = ['FV'] * 8
     for v in (0, 4):
-        lines += ['JN V%d, %s' % (v + k, refs(63, 'V%d' % (v + k + 1))) for k in range(3)]
-        lines.append('JN V%d, %s' % (v + 3, refs(last, '()')))
+        lines += ['JN V%d, %s' % (v + k, vectors(63, 'V%d' % (v + k + 1))) for k in range(3)]
+        lines.append('JN V%d, %s' % (v + 3, vectors(last, '()')))
     return '\n'.join(lines)
 
 
@@ -102,9 +102,11 @@ def limits():
     yield limit('places', filled, ('JN V0, V1', 7), ('BC ' + SIXTY_FOUR, 7), ('BC ' + EIGHT + '\n') * 8, ('BC (u8,)', 7), ('UF vector<u8>', 7), 'BC u8\nUF ()')
     # an error, a result and failures that would have more than 4,096 bytes: two types of 3,071 bytes or more
     yield limit('payloads', 'FV\nFV\nJN V0, %s\nJN V1, vector<%s>' % (BIG, BIG), ('JN V0, V1', 14), ('RD (V0, V0)', 14), 'NC numeric V0\nNC bits V1', ('SV', 14), 'FV\nRD V2')
-    # the first call and the merges' at 1, 2, 65, 66, 129, 130, 193 and 194, then one for each reference and its part
+    # the first call and the merges' at 1, 2, 65, 66, 129, 130, 193 and 194, then one for each vector and its part
     yield limit('depth 256', chains(62), 'JN V0, V4\nUF V0')
     yield limit('depth 257', chains(63), ('JN V0, V4', 8), 'UF V0\nJN V1, V5\nFV')
+    # a chain of references ends the job at its first record
+    yield limit('chain of references', 'FV\nFV', ('JN V0, %sV1' % ('&' * 63), 18))
 
 
 def end(name, stream, *log):

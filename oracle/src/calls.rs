@@ -1,7 +1,7 @@
 //! The public calls over a lent state: the engine's, where its archive is linked, and core.rs behind the same calls.
 use crate::{
     job::{answer_text, Job, Outcome},
-    lent::{encode, sound, Params, View},
+    lent::{encode, sound, Lent, Params, View},
     record,
 };
 use pongiwaru::lent;
@@ -82,6 +82,12 @@ pub fn job_of(s: View) -> Job {
     Job::load(&s.state(), &declared)
 }
 
+/// A job's state in words, each type with nodes of its own; None where they do not fit.
+pub fn lent_of(job: &Job) -> Option<Lent> {
+    let declared: Vec<_> = (0..job.known().params.len()).map(|i| job.declared(i)).collect();
+    encode(&job.state(), &declared)
+}
+
 impl Mimic {
     fn number(outcome: &Outcome) -> u32 {
         match outcome {
@@ -95,8 +101,7 @@ impl Mimic {
         if !job.has_state() {
             return;
         }
-        let declared: Vec<_> = (0..job.known().params.len()).map(|i| job.declared(i)).collect();
-        let lent = encode(&job.state(), &declared).expect("a state of few nodes");
+        let lent = lent_of(job).expect("a state of few nodes");
         state.copy_from_slice(&lent.words);
         *params = lent.params
     }

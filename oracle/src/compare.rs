@@ -1,12 +1,12 @@
 //! The engine beside core.rs, in one process: every answer, payload, binding, mark, constraint and declaration.
 use crate::{
-    calls::{job_of, Calls, Lines, LINE, MIN_ANSWER},
+    calls::{job_of, lent_of, Calls, Lines, LINE, MIN_ANSWER},
     count::{counted, used, Counted},
     gen::{self, Chance, Made},
     job::{Job, Outcome},
     lender::{Answer, Fault, Lender},
     lent::{self, Lent, Params},
-    record::{self, hex, Record},
+    record::{self, hex, Kind, Known, Record, Ty},
     shrink::shrink,
     state_text::state_text,
     text::disassemble,
@@ -28,6 +28,8 @@ pub struct Tally {
     pub records: BTreeMap<(&'static str, u32), usize>,
     /// why a job was not followed to its end, or an answer not held to core.rs's
     pub apart: BTreeMap<&'static str, usize>,
+    /// answers that show a doubled reference, by mark
+    pub doubled: BTreeMap<&'static str, usize>,
     pub lines: usize,
 }
 
@@ -50,11 +52,13 @@ impl Tally {
         };
         for mark in marks {
             let of = |n| self.records.get(&(mark, n)).copied().unwrap_or(0);
-            let cells: Vec<_> = (0..15).filter(|n| of(*n) > 0).map(|n| format!("{}: {}", n, of(n))).collect();
+            let cells: Vec<_> = (0..19).filter(|n| of(*n) > 0).map(|n| format!("{}: {}", n, of(n))).collect();
             out += &format!("{}  {}\n", mark, cells.join(", "))
         }
         let (core, rest) = (self.count(|n| n <= 4), self.count(|n| n > 4));
-        out += &format!("0 to 4, held to core.rs: {}; 5 to 14, held to 01's rules: {}\n", core, rest);
+        out += &format!("0 to 4, held to core.rs: {}; from 5 on, held to 01's and 02's rules: {}\n", core, rest);
+        let doubled: Vec<_> = self.doubled.iter().map(|(mark, n)| format!("{} {}", mark, n)).collect();
+        out += &format!("answers that show a doubled reference: {}\n", doubled.join(", "));
         self.apart.iter().for_each(|(why, n)| out += &format!("{}: {}\n", why, n));
         out
     }
@@ -97,7 +101,9 @@ pub fn agree(
     }
     match outcome {
         // what is read is answered
-        Outcome::Silent(why) if matches!(answer.number, 5 | 6 | 15) => Err(format!("{}; ours: {}", why, shown(answer))),
+        Outcome::Silent(why) if matches!(answer.number, 5 | 6 | 15 | 18) => {
+            Err(format!("{}; ours: {}", why, shown(answer)))
+        }
         Outcome::Silent(_) => {
             tally.apart(SILENT);
             Ok(Agreed::Silent)
@@ -111,6 +117,23 @@ pub fn agree(
 
 fn shown(a: &Answer) -> String {
     format!("{} {}", a.number, hex(&a.payload))
+}
+
+/// Whether a type of the answer has a doubled reference in it; SV's stand after a code and a location.
+fn shows_doubled(r: &Record, a: &Answer, known: &Known) -> bool {
+    let before = match r {
+        Record::SD(..) => return false,
+        Record::SV => 5,
+        _ => 0,
+    };
+    let mut rest = &a.payload[..];
+    while let Some(Ok((t, n))) = rest.get(before..).map(|types| record::read_type(types, known)) {
+        if t.has_doubled() {
+            return true;
+        }
+        rest = &rest[before + n..]
+    }
+    false
 }
 
 /// UF, RD and TS leave the state word for word.
@@ -179,6 +202,9 @@ impl Run<'_> {
             same_counts(&self.lender, counted)?
         }
         *tally.records.entry((mark, answer.number)).or_insert(0) += 1;
+        if r.is_some_and(|r| shows_doubled(r, &answer, self.job.known())) {
+            *tally.doubled.entry(mark).or_insert(0) += 1
+        }
         self.log += &match answer.payload.is_empty() {
             true => format!("{} {}\n", self.place, answer.number),
             false => format!("{} {}\n", self.place, shown(&answer)),
@@ -279,6 +305,26 @@ pub fn crowded(start: &Lent, seed: u64, i: u64) -> Lent {
     lent
 }
 
+/// The state of job i with references under references, as one saved before R-6 may have them: over what variables are
+/// bound to, and over `u8` where they are unbound.
+pub fn doubled(start: &Lent, seed: u64, i: u64) -> Lent {
+    let (mut lent, mut chance) = (start.clone(), Chance::new(seed ^ 0x6462_6c64, i));
+    for v in 0..lent.view().vars() {
+        let u8_ = Ty { loc: chance.below(9) as u32, kind: Kind::Builtin(0, 2, vec![]) };
+        let bottom = lent.view().binding(v).filter(|_| chance.percent(50));
+        let open = lent.view().binding(v).is_none() && chance.percent(30);
+        let mut node = bottom.or_else(|| open.then(|| lent.add_type(&u8_)).flatten());
+        for _ in 0..chance.one(&[2, 2, 2, 3]) {
+            let (loc, mutable) = (chance.below(9) as u32, chance.percent(40) as u32);
+            node = node.and_then(|part| lent.add_node(1, loc, mutable, part as u32, &[]))
+        }
+        if let Some(node) = node {
+            lent.bind(v, node)
+        }
+    }
+    lent
+}
+
 pub struct Found {
     pub name: String,
     pub start: Lent,
@@ -286,19 +332,27 @@ pub struct Found {
     pub disagreement: Disagreement,
 }
 
-/// One job in eight goes on from a crowded state, where it has no records that cannot be read.
-fn crowd(calls: &dyn Calls, seed: u64, i: u64) -> Option<(Lent, Made)> {
-    (i % 8 == 7 && calls.counts()).then_some(())?;
+/// One job in eight goes on from a state with doubled references, one in eight from a crowded one, where it has no
+/// records that cannot be read.
+fn onward(calls: &dyn Calls, seed: u64, i: u64) -> Option<(Lent, Made)> {
+    let alter = match i % 8 {
+        3 => doubled,
+        7 if calls.counts() => crowded,
+        _ => return None,
+    };
     let m = crate::damage::midway(calls, seed, i).ok()?;
-    let lent = crowded(&m.lent, seed, i);
-    let made = gen::onward(job_of(lent.view()), seed, i, 12);
+    let lent = alter(&m.lent, seed, i);
+    let job = job_of(lent.view());
+    // core.rs in the engine's place lays every state down so
+    let lent = if calls.counts() { lent } else { lent_of(&job)? };
+    let made = gen::onward(job, seed, i, 12);
     Some((lent, made))
 }
 
 /// Jobs up to `count`; stops at the first disagreement.
 pub fn many(calls: &dyn Calls, seed: u64, count: u64, records: usize, tally: &mut Tally) -> Option<Found> {
     (0..count).find_map(|i| {
-        let (start, m) = crowd(calls, seed, i).unwrap_or_else(|| (lent::fresh(), made(seed, i, records)));
+        let (start, m) = onward(calls, seed, i).unwrap_or_else(|| (lent::fresh(), made(seed, i, records)));
         let disagreement = stream(calls, &start, &m.stream, &mut Chance::new(seed, i), tally).err()?;
         Some(Found { name: m.name, start, stream: m.stream, disagreement })
     })

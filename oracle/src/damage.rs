@@ -92,7 +92,7 @@ pub fn lend(lender: &mut Lender, bytes: &[u8], room: usize, tally: &mut Tally) -
     }
     let agreed = agree(&outcome, &answer, counted, &mut compare::Tally::default())?;
     match (&outcome, agreed) {
-        (Outcome::Refused(n @ (5 | 6), _), _) => tally.add(n.to_string()),
+        (Outcome::Refused(n @ (5 | 6 | 18), _), _) => tally.add(n.to_string()),
         (_, Agreed::Same) => tally.add(ONWARD),
         (_, Agreed::Limit) => tally.add(LIMIT),
         (Outcome::Silent(why), Agreed::Silent) if why == job::WIDER => tally.add(WIDER),
@@ -127,6 +127,9 @@ fn stream(lender: &mut Lender, bytes: &[u8], tally: &mut Tally) -> Tried {
     tally.add("split and job");
     let text = String::from_utf8_lossy(&log);
     match (verdict, line) {
+        (Ok(()), _) if first.is_err() && !(lines.ended && lines.read == 0) => {
+            Err(format!("job: {:?}, and {:?} though the record is not read", text, lines))
+        }
         (Err(rule), _) if number != 15 => Err(format!("job: {} though unsound: {}", number, rule)),
         (Ok(()), _) if number != 0 => Err(format!("job: {} though sound", number)),
         (Ok(()), Some(l)) if l != "-" && text != format!("0 {}\n", l) && !["0 7\n", "0 8\n"].contains(&&*text) => {
@@ -151,7 +154,7 @@ fn job_known(s: View) -> crate::record::Known {
 
 //---- a state on its way through a job -------------------------------------------------------------------------
 
-/// The state in the middle of a job, and the next record.
+/// The state in the middle of a job, some with doubled references, and the next record.
 pub struct Midway {
     pub name: String,
     pub lent: Lent,
@@ -175,7 +178,9 @@ pub fn midway(calls: &dyn Calls, seed: u64, i: u64) -> Result<Midway, String> {
         lender.record(&record, MIN_ANSWER)?;
         at += n
     }
-    Ok(Midway { name: m.name, lent: lender.lent(), record })
+    let lent = lender.lent();
+    let lent = if chance.percent(30) { compare::doubled(&lent, seed, i) } else { lent };
+    Ok(Midway { name: m.name, lent, record })
 }
 
 //---- damaged records ------------------------------------------------------------------------------------------
@@ -185,7 +190,8 @@ fn damaged(record: &[u8], chance: &mut Chance) -> Vec<Vec<u8>> {
     let mut out = vec![];
     for i in 0..record.len() {
         let b = record[i];
-        for x in [b ^ 1, b ^ 0x80, b.wrapping_add(1), 0, 0xff, chance.bits() as u8] {
+        // 1 is a reference's tag, which makes an 18 under a reference
+        for x in [b ^ 1, b ^ 0x80, b.wrapping_add(1), 0, 1, 0xff, chance.bits() as u8] {
             let mut r = record.to_vec();
             r[i] = x;
             out.push(r)

@@ -103,6 +103,14 @@ fn bare(kind: Kind) -> Ty {
     Ty { loc: 0, kind }
 }
 
+/// A reference to `t`, or to what `t` refers to: no record has a reference directly under a reference (02, R-6).
+fn reference(mutable: bool, t: Ty) -> Kind {
+    match t.kind {
+        Kind::Ref(_, inner) => Kind::Ref(mutable, inner),
+        _ => Kind::Ref(mutable, Box::new(t)),
+    }
+}
+
 pub struct Maker {
     chance: Chance,
     /// for the ids that TS lists twice; its own, so that all else is drawn as without them. None: never twice
@@ -214,7 +222,7 @@ impl Maker {
             Shape::Error => Kind::UnresolvedError,
             Shape::NoParts => Kind::List(0, vec![]),
             Shape::Var => self.var(),
-            Shape::Ref => Kind::Ref(self.chance.percent(50), Box::new(self.tree(depth - 1, closed))),
+            Shape::Ref => reference(self.chance.percent(50), self.tree(depth - 1, closed)),
             Shape::Vector => Kind::Builtin(0, VECTOR, parts(self, 1)),
             Shape::List => {
                 let n = self.chance.one(&[1, 2, 2, 2, 3, 4]);
@@ -247,7 +255,7 @@ impl Maker {
         bare(match &t.kind {
             Kind::Ref(mutable, inner) => {
                 let flip = self.chance.percent(40);
-                Kind::Ref(*mutable != flip, Box::new(self.changed(inner, percent)))
+                reference(*mutable != flip, self.changed(inner, percent))
             }
             Kind::Builtin(m, n, ts) => Kind::Builtin(*m, *n, all(self, ts)),
             Kind::Struct(m, n, ts) => Kind::Struct(*m, *n, all(self, ts)),
@@ -482,7 +490,7 @@ fn vector(t: Ty) -> Ty {
 }
 
 fn few_types() -> Vec<Ty> {
-    let reference = |mutable, t| bare(Kind::Ref(mutable, Box::new(t)));
+    let reference = |mutable, t| bare(reference(mutable, t));
     let list = |parts| bare(Kind::List(0, parts));
     vec![
         bare(Kind::Unit),
@@ -607,7 +615,7 @@ impl Maker {
         let inner = self.nested(n - 1);
         bare(match self.chance.below(3) {
             0 => Kind::Builtin(0, VECTOR, vec![inner]),
-            1 => Kind::Ref(true, Box::new(inner)),
+            1 if !matches!(inner.kind, Kind::Ref(..)) => reference(true, inner),
             _ => Kind::List(0, vec![inner]),
         })
     }

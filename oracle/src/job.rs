@@ -45,7 +45,7 @@ const HUGE: u64 = 4_000_000;
 pub enum Outcome {
     /// core.rs's answer, 0 to 4, and its payload
     Core(u8, Vec<u8>),
-    /// 5 to 14 by 01's rules, and why
+    /// 5 to 14 by 01's rules, 18 by 02's, and why
     Refused(u8, String),
     /// core.rs does not end here and 01 answers 0: there is nothing to compare with, and the job ends
     Silent(String),
@@ -640,7 +640,7 @@ pub fn answer_text(o: &Outcome) -> String {
     }
 }
 
-/// The outcomes of a stream's records; ends after 5, 6 or silence, or with the bytes.
+/// The outcomes of a stream's records; ends after 5, 6, 18 or silence, or with the bytes.
 pub fn outcomes(mut stream: &[u8], options: Options, mut each: impl FnMut(&Job, &Outcome)) {
     let mut job = Job::new(options);
     while !stream.is_empty() {

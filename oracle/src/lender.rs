@@ -167,7 +167,7 @@ impl<'a> Lender<'a> {
             return fault("wrote beside the length");
         }
         self.kept(record, long)?;
-        if number > 15 || (number >= 5 && long != 0) {
+        if pongiwaru::Answer::of(number).is_none() || (number >= 5 && long != 0) {
             return fault(format!("answer {} with a payload of {} bytes", number, long));
         }
         if number >= 5 && !self.unchanged() {

@@ -65,14 +65,19 @@ fn parting(ours: &[u8], whole: &[u8]) -> String {
     format!("line {}: joinlog '{}', in one call '{}'", n, line_of(ours, n), line_of(whole, n))
 }
 
-/// Long streams: whole, ending in a cut record, ended by a 5 on the way.
+/// UF of `&&..`, cut after the inner tag
+const DOUBLED: &[u8] = b"UF\x01\0\0\0\0\0\x01";
+
+/// Long streams: whole, ending in a cut record, ended by a 5 or an 18 on the way.
 pub fn run(calls: &dyn Calls, program: &Path) -> Result<String, String> {
     let stored = std::env::temp_dir().join(format!("joinlog-{}", std::process::id()));
     let mut told = String::new();
     for seed in 1..4 {
         let stream = long(seed, BYTES);
-        let stopped = [&long(seed, BYTES / 2)[..], b"??", &stream[..]].concat();
-        for (name, bytes) in [("whole", &stream[..]), ("cut", &stream[..stream.len() - 1]), ("stopped", &stopped[..])] {
+        let cut = stream[..stream.len() - 1].to_vec();
+        let ended_by = |record: &[u8]| [&long(seed, BYTES / 2)[..], record, &stream[..]].concat();
+        let (stopped, doubled) = (ended_by(b"??"), ended_by(DOUBLED));
+        for (name, bytes) in [("whole", &stream), ("cut", &cut), ("stopped", &stopped), ("doubled", &doubled)] {
             let log = whole(calls, bytes);
             for pipe in [false, true] {
                 let ours = printed(program, bytes, pipe, &stored);

@@ -74,6 +74,43 @@ fn edges_of_the_record_form() {
     assert_eq!((vars(1024)[1023], vars(1025)[1024]), (0, 7));
 }
 
+/// 02's R-6: where a reference may not stand, and which refusal is met first
+#[test]
+fn doubled_references() {
+    let cases = [
+        ("UF &&u8", 18),
+        ("UF &mut &u8", 18),
+        ("UF &&mut u8", 18),
+        ("UF (u8, &&u8)", 18),
+        ("UF vector<&&u8>", 18),
+        ("UF &vector<&u8>", 0),
+        ("SD {} <{}>\nUF S0<&&u8>", 18),
+        ("TS [P1 = &&u8] P1", 18),
+        ("TS [P1 = u8] &&P1", 18),
+        ("TS [P1 = &u8] &P1", 0),
+        ("JN u8, &&u8", 18),
+        // a variable bound to a reference is let through, and RD shows what that makes
+        ("FV\nJN V0, &u8\nRD &V0", 0),
+        // cut before the inner tag, after it, after its location
+        ("hex 5546 01 00000000 00", 5),
+        ("hex 5546 01 00000000 00 01", 18),
+        ("hex 5546 01 00000000 00 01 00000000", 18),
+        // faults further left, and further right
+        ("hex 4a4e 06 00000000 0000 01 00000000 00 01", 6),
+        ("hex 4a4e 01 00000000 02 01 00000000 00 01", 5),
+        ("hex 4a4e 01 00000000 00 01 00000000 02 09", 18),
+        ("hex 4a4e 01 00000000 00 01 00000000 00 06 00000000 0000", 18),
+        ("hex 5546 01 00000000 00 09", 5),
+    ];
+    for (text, number) in cases {
+        assert_eq!(last(text), number, "{}", text);
+    }
+    let under = |vectors: usize| last(&format!("UF {}&&u8{}", "vector<".repeat(vectors), ">".repeat(vectors)));
+    assert_eq!((under(62), under(63)), (18, 5));
+    // nothing is read after it
+    assert_eq!(numbers(&asm("SV\nUF &&u8\nSV")), [0, 18])
+}
+
 #[test]
 fn refusals_by_the_rules_of_01() {
     let cases = [

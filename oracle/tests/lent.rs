@@ -4,12 +4,13 @@ use oracle::{
     bench,
     calls::{engine, job_of, Calls, Lines, Mimic, MIN_ANSWER},
     compare::{self, Alter, Altered, Tally, ALTERS},
-    damage, gen,
+    damage,
+    gen::{self, Chance},
     job::{is_wider, with_stack, Job, Options, Outcome},
     lender::Lender,
     lent::{encode, fresh, sound, Lent, Params},
     record::read_record,
-    text::{assemble, disassemble},
+    text::{any_variable, assemble, disassemble},
     traps,
 };
 use std::collections::BTreeSet;
@@ -186,6 +187,83 @@ fn altered_answers_are_found_and_shrunk() {
     })
 }
 
+//---- doubled references -----------------------------------------------------------------------------------------
+
+/// V0 is &&u8, V1 &mut &u8, V2 numeric, V3 open, as a state from before R-6 may have them
+fn doubled() -> Lent {
+    let mut s = fresh();
+    (0..4).for_each(|_| assert!(s.add_var().is_some()));
+    for (v, mutable) in [(0, 0), (1, 1)] {
+        let u8_ = s.add_node(3, 1, 0, 2, &[]).unwrap();
+        let inner = s.add_node(1, 2, 0, u8_ as u32, &[]).unwrap();
+        let outer = s.add_node(1, 3, mutable, inner as u32, &[]).unwrap();
+        s.bind(v, outer)
+    }
+    s.set_mark(2, 4);
+    s
+}
+
+#[test]
+fn doubled_references_in_a_state() {
+    let (lent, hexed) = (doubled(), |t: &str| assemble(&format!("UF {}", t), false).unwrap()[2..].to_vec());
+    assert_eq!(sound(&lent.words, &lent.params), Ok(()));
+    let answers = [
+        ("UF V0", 0, "&@3 &@2 u8@1"),
+        ("RD (V1,)", 0, "(&mut@3 &@2 u8@1,)"),
+        ("SU V1, V0", 0, "V4"),
+        ("SU V0, V1", 1, "&@3 &@2 u8@1, &mut@3 &@2 u8@1"),
+        ("JN V0, &V3", 0, "V5"),
+        ("JN V2, V0", 2, "V2, &@3 &@2 u8@1"),
+        ("JN V0, vector<u8>", 2, "&@3 &@2 u8@1, vector<u8>"),
+        ("TS [P1 = V0] &P1", 0, "&V0"),
+        ("UF &&u8", 18, ""),
+    ];
+    for calls in all() {
+        for (record, number, types) in answers {
+            let answer = Lender::new(calls, &lent).record(&assemble(record, false).unwrap(), MIN_ANSWER).unwrap();
+            let types: Vec<u8> = types.split(", ").filter(|t| !t.is_empty()).flat_map(hexed).collect();
+            assert_eq!((answer.number, answer.payload), (number, types), "{}", record)
+        }
+    }
+}
+
+#[test]
+fn doubled_references_beside_core_rs() {
+    if cfg!(feature = "hashmap") {
+        return;
+    }
+    let text = "JN V2, V0\nSU V1, V0\nUF V1\nRD (V0, V1)\nNC numeric V0\nBC V1\nSV\nJN V0, &V3\nRD V3\nUF &&u8\nSV";
+    with_stack(|| {
+        for calls in all() {
+            let mut tally = Tally::default();
+            let found =
+                compare::stream(calls, &doubled(), &assemble(text, true).unwrap(), &mut Chance::new(1, 0), &mut tally);
+            assert!(found.is_ok(), "{}", found.unwrap_err().what);
+            assert_eq!((tally.lines, tally.records[&("??", 18)]), (10, 1));
+            assert_eq!(tally.doubled.into_iter().collect::<Vec<_>>(), [("JN", 1), ("RD", 1), ("SV", 1), ("UF", 1)])
+        }
+    })
+}
+
+/// All bytes are handed back, the line is printed and the job ends; so with 5.
+#[test]
+fn eighteen_ends_a_job() {
+    let stream = |record: &str| assemble(&format!("SV\n{}\nSV", record), false).unwrap();
+    for calls in all() {
+        for (record, number) in [("UF (u8, &&u8)", 18), ("hex 5858", 5)] {
+            let (all, mut lender) = (stream(record), Lender::new(calls, &fresh()));
+            assert_eq!((lender.split(&all[2..]), lender.unchanged()), (Ok(0), true));
+            for more in [false, true] {
+                // where more is to follow a record is taken only with 4,096 bytes at hand
+                let bytes = if more { [&all[..], &[0; 5000]].concat() } else { all.clone() };
+                let (_, lines, log) = lender.job(&bytes, more, 100_000, 7).unwrap();
+                assert_eq!(String::from_utf8(log).unwrap(), format!("7 0\n8 {}\n", number));
+                assert_eq!((lines.read, lines.place, lines.ended), (2, 9, true));
+            }
+        }
+    }
+}
+
 //---- damage --------------------------------------------------------------------------------------------------
 
 /// V0 is u256
@@ -204,6 +282,7 @@ fn damage_is_answered_as_it_must_be() {
             damage::records(calls, 41, 6, &mut tally).unwrap();
             damage::wild(calls, 42, 6, &mut tally).unwrap();
             assert!(tally.of("5") > 100 && tally.of("6") > 20 && tally.went_on() > 100, "{}", tally.text());
+            assert!(tally.of("18") > 0, "{}", tally.text());
             let of_records = tally.wider();
             damage::lend(&mut Lender::new(calls, &wider()), b"SV", MIN_ANSWER, &mut tally).unwrap();
             assert!(of_records > 0 && tally.wider() == of_records + 1, "{}", tally.text())
@@ -220,11 +299,14 @@ enum Careless {
     KeepsOnRefusal,
     PayloadOnRefusal,
     FiveForSix,
+    FiveForDoubled,
+    SplitsDoubled,
+    GoesOnAfterDoubled,
     WiderUnread,
     WiderUnsound,
 }
 
-const CARELESS: [Careless; 9] = [
+const CARELESS: [Careless; 12] = [
     Careless::PastAnswer,
     Careless::BesideWords,
     Careless::TakesUnsound,
@@ -232,6 +314,9 @@ const CARELESS: [Careless; 9] = [
     Careless::KeepsOnRefusal,
     Careless::PayloadOnRefusal,
     Careless::FiveForSix,
+    Careless::FiveForDoubled,
+    Careless::SplitsDoubled,
+    Careless::GoesOnAfterDoubled,
     Careless::WiderUnread,
     Careless::WiderUnsound,
 ];
@@ -268,17 +353,25 @@ impl Calls for Careless {
                 a[0] ^= 1;
                 n
             }
-            (Careless::FiveForSix, 6) => 5,
+            (Careless::FiveForSix, 6) | (Careless::FiveForDoubled, 18) => 5,
             (Careless::WiderUnread, 0) if read_as_wider(&lent, r) => 5,
             (Careless::WiderUnsound, 0) if !job_of(lent.view()).has_state() => 15,
             (_, n) => n,
         }
     }
     fn split(&self, w: &mut [u32], p: &mut Params, stream: &[u8], rest: &mut usize) {
-        Mimic.split(w, p, stream, rest)
+        Mimic.split(w, p, stream, rest);
+        let number = read_record(stream, &any_variable()).err().map(|x| x.number);
+        if let (Careless::SplitsDoubled, Some(18)) = (self, number) {
+            *rest -= 1
+        }
     }
     fn job(&self, w: &mut [u32], p: &mut Params, s: &[u8], more: bool, log: &mut [u8], lines: &mut Lines) -> u32 {
-        Mimic.job(w, p, s, more, log, lines)
+        let number = Mimic.job(w, p, s, more, log, lines);
+        if let Careless::GoesOnAfterDoubled = self {
+            lines.ended &= !log[..lines.written].ends_with(b" 18\n")
+        }
+        number
     }
 }
 

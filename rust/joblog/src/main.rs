@@ -16,7 +16,7 @@ joblog disasm [JOB]                   bytes to text
 joblog show [FLAGS] JOB LOG           a job and its log for people
     --full        locations and ability marks too
     --errors      only what is not answered with 0, and SV with failed constraints
-    --why         for an answer that ends a job (5, 6): the byte and the rule
+    --why         for an answer that ends a job (5, 6, 18): the byte and the rule
     -n N          at most N lines
 joblog diff JOB1 LOG1 JOB2 LOG2       equal but for locations? names the first difference
 joblog --help

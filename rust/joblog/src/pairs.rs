@@ -1,41 +1,47 @@
 //! A job gone through beside its log: each record with its line.
 use crate::record::{self, Known, Record, Refusal, Ty};
 
-/// An answer's word, and whether a job ends with it.
+/// An answer's number and word, and whether a job ends with it.
 pub struct Word {
+    pub number: usize,
     pub word: &'static str,
     pub ends: bool,
 }
 
-const fn goes_on(word: &'static str) -> Word {
-    Word { word, ends: false }
+const fn goes_on(number: usize, word: &'static str) -> Word {
+    Word { number, word, ends: false }
 }
-const fn ends(word: &'static str) -> Word {
-    Word { word, ends: true }
+const fn ends(number: usize, word: &'static str) -> Word {
+    Word { number, word, ends: true }
 }
 
-/// by number
-pub const ANSWERS: [Word; 16] = [
-    goes_on("typed"),
-    goes_on("subtype error"),
-    goes_on("incompatible"),
-    goes_on("arity mismatch"),
-    goes_on("recursive type"),
-    ends("malformed"),
-    ends("unknown name"),
-    goes_on("full"),
-    goes_on("too deep"),
-    goes_on("runs into itself"),
-    goes_on("abilities disagree"),
-    goes_on("open variable"),
-    goes_on("no argument"),
-    goes_on("parameter twice"),
-    goes_on("answer too long"),
-    goes_on("unsound state"),
+/// by rising number
+pub const ANSWERS: [Word; 17] = [
+    goes_on(0, "typed"),
+    goes_on(1, "subtype error"),
+    goes_on(2, "incompatible"),
+    goes_on(3, "arity mismatch"),
+    goes_on(4, "recursive type"),
+    ends(5, "malformed"),
+    ends(6, "unknown name"),
+    goes_on(7, "full"),
+    goes_on(8, "too deep"),
+    goes_on(9, "runs into itself"),
+    goes_on(10, "abilities disagree"),
+    goes_on(11, "open variable"),
+    goes_on(12, "no argument"),
+    goes_on(13, "parameter twice"),
+    goes_on(14, "answer too long"),
+    goes_on(15, "unsound state"),
+    ends(18, "doubled reference"),
 ];
 
+fn of_number(number: usize) -> Option<&'static Word> {
+    ANSWERS.iter().find(|a| a.number == number)
+}
+
 pub fn word(number: usize) -> &'static str {
-    ANSWERS.get(number).map_or("no such answer", |a| a.word)
+    of_number(number).map_or("no such answer", |a| a.word)
 }
 
 /// What a failed constraint's code says of its type, by code less 1.
@@ -101,7 +107,7 @@ impl<'a> Pairs<'a> {
             return Err(format!("record {}: core.rs does not end here, so there is no answer", n));
         }
         let (number, raw) = line_of(line, n).ok_or(format!("record {}: `{}` is not its line", n, line))?;
-        if ANSWERS.get(number).is_some_and(|a| a.ends) {
+        if of_number(number).is_some_and(|a| a.ends) {
             return self.not_read(number, raw);
         }
         let (r, length) = record::read_record(rest, &self.known).map_err(|x| {
@@ -169,7 +175,7 @@ impl<'a> Pairs<'a> {
                 let loc = raw.try_into().map_err(|_| "its payload is no location")?;
                 Ok(Payload::Location(u32::from_le_bytes(loc)))
             }
-            _ if ANSWERS.get(number).is_none() => Err(format!("there is no answer {}", number)),
+            _ if of_number(number).is_none() => Err(format!("there is no answer {}", number)),
             _ if raw.is_empty() => Ok(Payload::Types(vec![])),
             _ => Err("a refusal has no payload".into()),
         }

@@ -1,4 +1,5 @@
-//! 01's record form, with 02's u16, u32 and u256: types and records as trees, read from bytes and written to bytes.
+//! 01's record form, with 02's u16, u32 and u256 and its doubled references: types and records as trees, read from
+//! bytes and written to bytes.
 
 pub const MAX_RECORD: usize = 4096;
 pub const MAX_NESTING: usize = 64;
@@ -78,7 +79,7 @@ pub struct Known {
     pub expand: bool,
 }
 
-/// Where in the record reading stops, and by which rule: the answer's number is 5 or 6.
+/// Where in the record reading stops, and by which rule: the answer's number is 5, 6 or 18.
 #[derive(Debug, Clone, Copy, PartialEq, Eq)]
 pub struct Refusal {
     pub number: u8,
@@ -95,14 +96,22 @@ fn unknown_name(at: usize, rule: &'static str) -> Refusal {
 }
 
 const NOT_TAKEN: &str = "this variable is not taken yet";
+const DOUBLED: &str = "a reference stands directly under a reference";
 
-//---- reading: the first of 5 and 6 that is met from left to right ---------------------------------
+//---- reading: the first of 5, 6 and 18 that is met from left to right -----------------------------
+
+/// Where a type stands. A payload's may nest deeper than a record's and have doubled references.
+#[derive(Clone, Copy, PartialEq, Eq)]
+enum Of {
+    Record,
+    Payload,
+}
 
 struct Reader<'a> {
     bytes: &'a [u8],
     at: usize,
     known: &'a Known,
-    max_nesting: usize,
+    of: Of,
     /// variables read, and where
     met: Vec<(usize, u16)>,
 }
@@ -110,8 +119,8 @@ struct Reader<'a> {
 type Read<T> = Result<T, Refusal>;
 
 impl<'a> Reader<'a> {
-    fn new(bytes: &'a [u8], known: &'a Known, max_nesting: usize) -> Self {
-        Reader { bytes, at: 0, known, max_nesting, met: vec![] }
+    fn new(bytes: &'a [u8], known: &'a Known, of: Of) -> Self {
+        Reader { bytes, at: 0, known, of, met: vec![] }
     }
     fn byte(&mut self) -> Read<u8> {
         match self.bytes.get(self.at) {
@@ -158,17 +167,35 @@ impl<'a> Reader<'a> {
         (0..n).map(|_| self.ty(depth)).collect()
     }
 
-    fn ty(&mut self, depth: usize) -> Read<Ty> {
+    fn tag(&mut self, depth: usize) -> Read<u8> {
         let tag = self.byte_to(8, "a type's tag is 0 to 8")?;
-        if depth > self.max_nesting {
+        if depth > MAX_NESTING && self.of == Of::Record {
             return malformed(self.at - 1, "types nest at most 64 deep");
         }
+        Ok(tag)
+    }
+
+    fn ty(&mut self, depth: usize) -> Read<Ty> {
+        let tag = self.tag(depth)?;
+        self.after_tag(tag, depth)
+    }
+
+    /// the type under a reference: 18 is met at its tag, before its location is read
+    fn referred(&mut self, depth: usize) -> Read<Ty> {
+        let tag = self.tag(depth)?;
+        if tag == 1 && self.of == Of::Record {
+            return Err(Refusal { number: 18, at: self.at - 1, rule: DOUBLED });
+        }
+        self.after_tag(tag, depth)
+    }
+
+    fn after_tag(&mut self, tag: u8, depth: usize) -> Read<Ty> {
         let loc = self.u32()?;
         let kind = match tag {
             0 => Kind::Unit,
             1 => {
                 let mutable = self.byte_to(1, "mutable is 0 or 1")? == 1;
-                Kind::Ref(mutable, Box::new(self.ty(depth + 1)?))
+                Kind::Ref(mutable, Box::new(self.referred(depth + 1)?))
             }
             2 => Kind::Param(self.u32()?, self.set()?),
             3 => self.builtin(depth)?,
@@ -240,22 +267,22 @@ impl<'a> Reader<'a> {
 
 /// The first record of a stream and how many bytes it has; byte 4,097 is never read.
 pub fn read_record(stream: &[u8], known: &Known) -> Read<(Record, usize)> {
-    let mut r = Reader::new(&stream[..stream.len().min(MAX_RECORD)], known, MAX_NESTING);
+    let mut r = Reader::new(&stream[..stream.len().min(MAX_RECORD)], known, Of::Record);
     Ok((r.record()?, r.at))
 }
 
 /// Where reading may stop if it is not known how many variables are taken, only that those below `taken` are: at each
 /// other variable that is met, and where it stops in any case.
 pub fn stops(stream: &[u8], known: &Known, taken: usize) -> Vec<Refusal> {
-    let mut r = Reader::new(&stream[..stream.len().min(MAX_RECORD)], known, MAX_NESTING);
+    let mut r = Reader::new(&stream[..stream.len().min(MAX_RECORD)], known, Of::Record);
     let last = r.record().err();
     let open = r.met.iter().filter(|(_, v)| *v as usize >= taken);
     open.map(|(at, _)| unknown_name(*at, NOT_TAKEN)).chain(last).collect()
 }
 
-/// The first type of a payload and how many bytes it has; a payload may nest deeper than a record.
+/// The first type of a payload and how many bytes it has.
 pub fn read_type(payload: &[u8], known: &Known) -> Read<(Ty, usize)> {
-    let mut r = Reader::new(payload, known, usize::MAX);
+    let mut r = Reader::new(payload, known, Of::Payload);
     Ok((r.ty(1)?, r.at))
 }
 
@@ -300,6 +327,12 @@ impl Ty {
         let mut out = vec![];
         self.write(&mut out);
         out
+    }
+
+    /// whether a reference stands directly under a reference in it
+    pub fn has_doubled(&self) -> bool {
+        let is_ref = |t: &Ty| matches!(t.kind, Kind::Ref(..));
+        self.parts().iter().any(|t| is_ref(self) && is_ref(t) || t.has_doubled())
     }
 
     /// one more than the highest variable in it

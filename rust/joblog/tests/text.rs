@@ -44,6 +44,19 @@ fn every_stream_has_a_text() {
     for stream in [&b"XX"[..], b"", b"UF", b"UF\x09", b"UF\x01\0\0\0\0\x02", b"SVSV\x80", &[0xff; 5000]] {
         assert_eq!(assemble(&disassemble(stream), false).as_deref(), Ok(stream))
     }
+    let doubled = asm("FV\nUF &mut &u8");
+    assert_eq!(assemble(&disassemble(&doubled), false), Ok(doubled))
+}
+
+/// 02's R-6: in a payload they may stand, in a record they are 18
+#[test]
+fn doubled_references() {
+    let job = asm("FV\nRD V0\nSU &vector<&u8>, &mut &u8\nFV");
+    let log = "0 0 06010000000000\n1 0 01050000000001060000000103070000000002\n2 18\n";
+    let (lines, summary) = show(&job, log, Options::default());
+    assert_eq!(lines, "0 FV   → typed V0\n1 RD  V0   → typed &&mut u8\n2 (not read)   → doubled reference\n");
+    let wanted = "3 records; 0 typed: 2, 18 doubled reference: 1; first error: record 2, doubled reference";
+    assert_eq!((summary.text(), summary.code()), (wanted.into(), 1));
 }
 
 /// 01's seven, then 02's three
@@ -148,12 +161,26 @@ fn why_a_record_is_not_read() {
         ("hex 4e43 00000000 03", 5, "byte 6 (03; byte 6 of the job): a numeric constraint's kind is 0 to 2"),
         ("UF S0", 6, "byte 8 (00; byte 8 of the job): this struct is not declared"),
         ("UF V0", 6, "byte 7 (00; byte 7 of the job): this variable is not taken yet"),
+        ("UF &&u8", 18, "byte 8 (01; byte 8 of the job): a reference stands directly under a reference"),
+        (
+            "hex 5546 01 00000000 01 01",
+            18,
+            "byte 8 (01; byte 8 of the job): a reference stands directly under a reference",
+        ),
+        ("hex 5546 01 00000000 01", 5, "byte 8 (byte 8 of the job): the bytes end inside the record"),
+        ("hex 5546 01 00000000 01 09", 5, "byte 8 (09; byte 8 of the job): a type's tag is 0 to 8"),
     ];
     for (text, number, wanted) in first {
         assert_eq!(why(text, &format!("0 {}\n", number)), wanted, "{}", text)
     }
-    let deep = format!("UF {}u8", "&".repeat(64));
-    assert_eq!(why(&deep, "0 5\n"), "byte 386 (03; byte 386 of the job): types nest at most 64 deep");
+    let deep = |n: usize, inner: &str| format!("UF {}{}{}", "vector<".repeat(n), inner, ">".repeat(n));
+    let too_deep =
+        |at: usize, b: &str| format!("byte {} ({}; byte {} of the job): types nest at most 64 deep", at, b, at);
+    assert_eq!(why(&deep(64, "u8"), "0 5\n"), too_deep(450, "03"));
+    // a reference at nesting 63 and at 64 over another
+    let doubled = "byte 442 (01; byte 442 of the job): a reference stands directly under a reference";
+    assert_eq!(why(&deep(62, "&&u8"), "0 18\n"), doubled);
+    assert_eq!(why(&deep(63, "&&u8"), "0 5\n"), too_deep(449, "01"));
     let long = format!("UF {}", ["(", &["(_, _, _, _, _, _, _, _)"; 8].join(", "), ")"].concat());
     let long = long.replace('_', "(P1, P1, P1, P1, P1, P1, P1, P1)");
     let wanted = "byte 4096 (00; byte 4096 of the job): a record has at most 4,096 bytes";
@@ -183,6 +210,8 @@ fn locations_are_no_difference() {
     let e = side("FV @7", "0 0 06070000000000\n");
     assert_eq!(found(&a, &e), "record 1: job 1 has it, job 2 has ended");
     assert_eq!(found(&e, &a), "record 1: job 2 has it, job 1 has ended");
+    let g = |locations: &str| side(&format!("SV\nUF &mut{} &u8", locations), "0 0\n1 18\n");
+    assert_eq!(found(&g("@1"), &g("@2")), "none of 2");
     let f = side("FV @7\nFV", "0 0 06070000000000\n");
     assert_eq!(found(&a, &f), "2: it is too short: no line for record 1 and those after it");
 }

@@ -5,6 +5,9 @@ use pongiwaru::{Answer, State, ANSWER_BYTES, HEADER, LINE_BYTES, ROWS, ROW_BYTES
 const STREAM: &[u8] = include_bytes!("../../../crates/joinlog/stdin");
 const LOG: &str = include_str!("../../../crates/joinlog/stdout");
 
+/// UF of `&&u8`
+const DOUBLED: &[u8] = b"UF\x01\0\0\0\0\0\x01\0\0\0\0\0\x03\0\0\0\0\0\x02";
+
 /// SubtypeError to SUBTYPE_ERROR
 fn in_header(name: &str) -> String {
     let mut out = String::new();
@@ -23,13 +26,13 @@ fn answers_are_the_header_s() {
     let first = HEADER.iter().position(|(name, _)| *name == "TYPED").expect("the header names its answers");
     let header: Vec<_> = HEADER[first..].iter().map(|(name, number)| (name.to_string(), *number)).collect();
     assert_eq!(ours, header);
-    assert!(ours.iter().enumerate().all(|(i, (_, number))| i as u32 == *number));
+    assert!(ours.is_sorted_by_key(|(_, number)| number));
 }
 
 #[test]
 fn words_are_joblog_s() {
-    let joblog: Vec<_> = joblog::pairs::ANSWERS.iter().map(|a| a.word).collect();
-    assert_eq!(Answer::ALL.iter().map(|a| a.words()).collect::<Vec<_>>(), joblog)
+    let joblog: Vec<_> = joblog::pairs::ANSWERS.iter().map(|a| (a.number as u32, a.word)).collect();
+    assert_eq!(Answer::ALL.iter().map(|a| (a.number(), a.words())).collect::<Vec<_>>(), joblog)
 }
 
 #[test]
@@ -71,7 +74,9 @@ fn refusals_leave_all_as_it_was() {
     assert_eq!(state.record(b"XX"), (Answer::Malformed, vec![]));
     assert_eq!(state.record(b"SVSV"), (Answer::Malformed, vec![]));
     assert_eq!(state.record(b"UF\x06\0\0\0\0\x01\0"), (Answer::UnknownName, vec![]));
+    assert_eq!(state.record(DOUBLED), (Answer::DoubledReference, vec![]));
     assert_eq!(state.split(b"XXSV"), (&b""[..], &b"XXSV"[..]));
+    assert_eq!(state.split(DOUBLED), (&b""[..], DOUBLED));
     assert!(state == before && short == [7; ANSWER_BYTES - 1]);
     assert!(Answer::Malformed.is_refusal() && !Answer::Incompatible.is_refusal() && Answer::Incompatible.is_error())
 }
@@ -94,10 +99,10 @@ fn a_kept_state_goes_on_and_an_unsound_one_is_refused() {
 
 #[test]
 fn numbers_and_answers() {
-    for (n, a) in Answer::ALL.iter().enumerate() {
-        assert_eq!(Answer::of(n as u32), Some(*a))
+    for a in Answer::ALL {
+        assert_eq!(Answer::of(a.number()), Some(*a))
     }
-    assert_eq!(Answer::of(Answer::ALL.len() as u32), None);
+    assert_eq!([16, 17, 19].map(Answer::of), [None; 3]);
     assert_eq!(Answer::SubtypeError.to_string(), "subtype error")
 }
 
