@@ -13,7 +13,7 @@ use Rattle.definition.specs.Join.{TypingCase, Join, Subtype, join-impl, 
 use Rattle.definition.specs.Constraints.{num-vars, undecided, u64, default-num-var}
 use Rattle.definition.specs.Write.{Bytes, write}
 use Rattle.definition.specs.Reader.{Read, got, not-read}
-use Rattle.definition.specs.Record.{Record, SD, FV, NV, SN, JN, SU, UF, RD, IN, TS, NC, BC, SC, SV, read-record}
+use Rattle.definition.specs.Record.{Record, SD, FV, NV, SN, JN, SU, UF, RD, IN, TS, NC, BC, SC, SV, RM, read-record}
 use Rattle.definition.specs.Trees.{Tree, arity}
 use Rattle.definition.specs.Step.{Answer, refusal, max-payload, answer, max-buffer, usable, two-types, lent, run, step}
 use Rattle.definition.specs.Rank.{None-reaches-itself}
@@ -133,6 +133,7 @@ module _ {E : Type 0} where
   run-calls-fair S s (NC loc kind t) f w n z = none-fair
   run-calls-fair S s (BC loc t) f w n z = none-fair
   run-calls-fair S s (SC loc t) f w n z = none-fair
+  run-calls-fair S s (RM t) f w n z = none-fair
   run-calls-fair S s SV f w n z = nums-fair (num-vars 0 (S .vars)) S s (λ n. refl) (num-vars-below 0 (S .vars) (taken S) (omega arith)) n
 
   lent-fair : (s : State) → Sound (arity s) s → {k : ℕ} (r : Read Record) → ReadWell ⊥ s k r → Weighs max-payload r → (E → None-reaches-itself s) → (E → None-reaches-itself (lent s r .state)) → All-fair E (lent-calls s r)

@@ -223,7 +223,10 @@ module _ (s : State) where
                             c-loc-type _,
                             (
                               c-give _,
-                              tt,
+                              (
+                                c-one _,
+                                tt,
+                              ),
                             ),
                           ),
                         ),

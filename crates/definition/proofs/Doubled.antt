@@ -12,7 +12,7 @@ use Rattle.definition.specs.Store.{taken}
 use Rattle.definition.specs.Write.{Bytes}
 use Rattle.definition.specs.Reader.{Reader, give, refuse, _>>=_, read-one, read-two, read-three, byte, read-u16, read-u32, byte-if, byte-to, read-bool, name-below, times}
 use Rattle.definition.specs.Trees.{Tree, unit-tree, anything-tree, error-tree, ref-tree, param-tree, apply-tree, var-tree, Trees, no-trees, _then_, is-set, under-ref, read-apply, by-tag, read-nested, read-type}
-use Rattle.definition.specs.Record.{Record, SD, FV, NV, SN, JN, SU, UF, RD, IN, TS, NC, BC, SC, SV, read-kind, read-SD, read-pair, read-TS, by-mark, fields-of, read-fields, max-record, hand-back, read-record}
+use Rattle.definition.specs.Record.{Record, SD, FV, NV, SN, JN, SU, UF, RD, IN, TS, NC, BC, SC, SV, RM, read-kind, read-SD, read-pair, read-TS, by-mark, fields-of, read-fields, max-record, hand-back, read-record}
 use Rattle.definition.proofs.Tracks.{never}
 
 -- ---- doubled references
@@ -59,6 +59,7 @@ doubled-record (NC loc kind t) = doubled t
 doubled-record (BC loc t) = doubled t
 doubled-record (SC loc t) = doubled t
 doubled-record SV = false
+doubled-record (RM t) = doubled t
 
 abbrev pub No-doubled : Tree → Type 0
 No-doubled t = doubled t ≡ false
@@ -130,6 +131,7 @@ module _ (read-type : Reader Tree) (s : State) where
       (66, 67, read-two BC read-u32 read-type) ∷
       (83, 67, read-two SC read-u32 read-type) ∷
       (83, 86, give SV) ∷
+      (82, 77, read-one RM read-type) ∷
       []
 
   unfoldable pub fields-with : Reader Record

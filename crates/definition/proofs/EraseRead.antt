@@ -12,7 +12,7 @@ use Rattle.definition.specs.Write.{Bytes}
 use Rattle.definition.specs.Instantiate.{struct-tparams}
 use Rattle.definition.specs.Reader.{Read, got, not-read, Reader, give, refuse, go-on, _>>=_, byte, read-u16, read-u32, byte-if, byte-to, read-bool, name-below, times, read-one, read-two, read-three}
 use Rattle.definition.specs.Trees.{Tree, unit-tree, anything-tree, error-tree, ref-tree, param-tree, apply-tree, var-tree, Trees, no-trees, _then_, read-trees, mark-of, read-mark, mark-fits, arity, under-ref, read-apply, by-tag, is-name, read-nested, read-type, is-set}
-use Rattle.definition.specs.Record.{NumericKind, Record, SD, FV, NV, SN, JN, SU, UF, RD, IN, TS, NC, BC, SC, SV, read-kind, read-SD, read-pair, read-TS, by-mark, fields-of, read-fields, max-record, hand-back, read-record}
+use Rattle.definition.specs.Record.{NumericKind, Record, SD, FV, NV, SN, JN, SU, UF, RD, IN, TS, NC, BC, SC, SV, RM, read-kind, read-SD, read-pair, read-TS, by-mark, fields-of, read-fields, max-record, hand-back, read-record}
 use Rattle.definition.specs.Locations.{Part, plain, location, type, types, builtin, list, struct, struct-high, pairs, loc-field, u32-field, tag-fields, pair-fields, expand, blank-byte, blank, mark-fields, after-mark, blank-record}
 use Rattle.definition.proofs.Erase.{erase, taken-erase, structs-erase}
 
@@ -50,6 +50,7 @@ erase-record (NC loc kind t) = NC 0 kind (erase-tree t)
 erase-record (BC loc t) = BC 0 (erase-tree t)
 erase-record (SC loc t) = SC 0 (erase-tree t)
 erase-record SV = SV
+erase-record (RM t) = RM (erase-tree t)
 
 -- ---- blank
 
@@ -341,7 +342,7 @@ module _ (s : State) where
       mark-row al-SD (mark-row (al-loc-only FV (λ l. refl)) (mark-row (al-loc-only NV (λ l. refl)) (mark-row al-SN
       (mark-row (al-two JN (λ t u. refl)) (mark-row (al-two SU (λ t u. refl)) (mark-row (al-one UF (λ t. refl)) (mark-row (al-one RD (λ t. refl))
       (mark-row al-TS (mark-row (al-one IN (λ t. refl)) (mark-row al-NC (mark-row (al-loc-type BC (λ l t. refl)) (mark-row (al-loc-type SC (λ l t. refl))
-      (mark-row (al-give SV refl) no-marks)))))))))))))
+      (mark-row (al-give SV refl) (mark-row (al-one RM (λ t. refl)) no-marks))))))))))))))
 
   fields-alike : (bytes : Bytes) → Reads erase-record s (λ r. []) (read-fields s bytes) (read-fields (erase s) (blank-record s bytes))
   unfolding read-fields _>>=_ go-on byte blank-record

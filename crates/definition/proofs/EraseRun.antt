@@ -17,10 +17,11 @@ use Rattle.definition.specs.Constraints.{num-vars, undecided, u64, defau
 use Rattle.definition.specs.Write.{Bytes, u16, write-error}
 use Rattle.definition.specs.Reader.{Read}
 use Rattle.definition.specs.Trees.{Tree, unit-tree, anything-tree, error-tree, ref-tree, param-tree, apply-tree, var-tree, Trees, no-trees, _then_, mark-fits, arity, is-mark, is-name}
-use Rattle.definition.specs.Record.{NumericKind, Numeric, Bits, Ordered, Record, SD, FV, NV, SN, JN, SU, UF, RD, IN, TS, NC, BC, SC, SV}
+use Rattle.definition.specs.Record.{NumericKind, Numeric, Bits, Ordered, Record, SD, FV, NV, SN, JN, SU, UF, RD, IN, TS, NC, BC, SC, SV, RM}
 use Rattle.definition.specs.Build.{build, build-all, build-pairs}
+use Rattle.definition.specs.Needs.{Needs, merge, needs, needs-args, write-needs}
 use Rattle.definition.specs.Sound.{sound}
-use Rattle.definition.specs.Step.{numeric-constraint, constrain, two-types, run, Answer, number-of-error, refusal, put-back, max-payload, answer-with, answer, lent}
+use Rattle.definition.specs.Step.{numeric-constraint, constrain, two-types, tell, run, Answer, number-of-error, refusal, put-back, max-payload, answer-with, answer, lent}
 use Rattle.definition.specs.Locations.{Part, types, failures, blank, success-fields, shown-fields, payload-fields}
 use Rattle.definition.proofs.Tracks.{never}
 use Rattle.definition.proofs.Laws.{SameNodes, value-same}
@@ -54,6 +55,32 @@ mutual
   place-all-erase : (ts : Trees) (s : State) → Erased with-state (build-all ts s) (build-all (erase-trees ts) (erase s))
   place-all-erase no-trees s = er-ok refl
   place-all-erase (_then_ t ts) s = er-bind _ _ (place-erase t s) (λ x. er-bind _ _ (place-all-erase ts (x .0)) (λ y. er-ok refl))
+
+merge-erase : (t : Tree) → merge (erase-tree t) ≡ merge t
+unfolding merge erase-tree
+merge-erase (unit-tree loc) = refl
+merge-erase (anything-tree loc) = refl
+merge-erase (error-tree loc) = refl
+merge-erase (ref-tree loc mut t) = refl
+merge-erase (param-tree loc id a) = refl
+merge-erase (apply-tree loc k n ts) = refl
+merge-erase (var-tree loc v) = refl
+
+mutual
+  unfolding needs needs-args erase-tree erase-trees
+
+  needs-erase : (t : Tree) → needs (erase-tree t) ≡ needs t
+  needs-erase (unit-tree loc) = refl
+  needs-erase (anything-tree loc) = refl
+  needs-erase (error-tree loc) = refl
+  needs-erase (ref-tree loc mut t) = rw (needs-erase t) refl
+  needs-erase (param-tree loc id a) = refl
+  needs-erase (apply-tree loc k n ts) = rw (needs-args-erase ts) refl
+  needs-erase (var-tree loc v) = refl
+
+  needs-args-erase : (ts : Trees) → needs-args (erase-trees ts) ≡ needs-args ts
+  needs-args-erase no-trees = refl
+  needs-args-erase (_then_ t ts) = rw (merge-erase t, needs-erase t, needs-args-erase ts) refl
 
 pairs-erase : (ps : List (ℕ × Tree)) (s : State) → Erased with-state (build-pairs ps s) (build-pairs (map erase-pair ps) (erase s))
 unfolding build-pairs
@@ -214,6 +241,11 @@ module _ (S : State) (h : sound S ≡ true) where
   numeric-erase Bits loc ty = refl
   numeric-erase Ordered loc ty = refl
 
+  tell-erase : (n : Option Needs) → Erased (blanked S []) (tell S n) (tell (erase S) n)
+  unfolding tell
+  tell-erase none = er-refused
+  tell-erase (some n) = er-ok (pair-same refl (sym (blank-nil S (write-needs n))))
+
   pub run-erase : (r : Record) → Erased (blanked S (success-fields r)) (run S r) (run (erase S) (erase-record r))
   unfolding run erase-record success-fields
   run-erase (SD a ps) = er-bind _ _ (declare-erase S a ps) (λ x. er-ok (rw (blank-nil S (u16 (x .1))) refl))
@@ -230,6 +262,7 @@ module _ (S : State) (h : sound S ≡ true) where
   run-erase (BC loc t) = constrain-erase t _ _ (λ ty. refl)
   run-erase (SC loc t) = constrain-erase t _ _ (λ ty. refl)
   run-erase SV = solve-erase
+  run-erase (RM t) = rw (needs-erase t) (tell-erase (needs t))
 
 -- ---- the answer
 

@@ -14,7 +14,7 @@ use Rattle.definition.specs.Store.{taken}
 use Rattle.definition.specs.Write.{Bytes}
 use Rattle.definition.specs.Reader.{Read, got, not-read, Reader, give, refuse, go-on, _>>=_, read-one, read-two, read-three, byte, read-u16, read-u32, byte-if, read-bool, name-below, times}
 use Rattle.definition.specs.Trees.{Tree, no-trees, _then_, read-trees, mark-of, read-mark, mark-fits, arity, is-name, is-set, under-ref, read-apply, by-tag, read-nested, read-type}
-use Rattle.definition.specs.Record.{Record, FV, NV, SN, JN, SU, UF, RD, IN, NC, BC, SC, SV, read-kind, read-SD, max-record, hand-back, read-record}
+use Rattle.definition.specs.Record.{Record, FV, NV, SN, JN, SU, UF, RD, IN, NC, BC, SC, SV, RM, read-kind, read-SD, max-record, hand-back, read-record}
 use Rattle.definition.proofs.Facts.{and-l, and-r, test}
 use Rattle.definition.proofs.Tracks.{never}
 use Rattle.definition.proofs.Doubled.{Rows, no-rows, row, row-at, Marks, no-marks, mark-row, mark-at, by-tag-with, nested-with, pair-with, TS-with, by-mark-with, fields-with, record-with, record-now}
@@ -280,7 +280,7 @@ module _ (s : State) {p o : Reader Tree} (b : Both p o) where
   unfolding by-mark-with
   x-marks =
       mark-row x-SD (mark-row (x-loc FV) (mark-row (x-loc NV) (mark-row x-SN (mark-row (x-two JN) (mark-row (x-two SU) (mark-row (x-one UF) (mark-row (x-one RD)
-      (mark-row x-TS (mark-row (x-one IN) (mark-row x-NC (mark-row (x-loc-type BC) (mark-row (x-loc-type SC) (mark-row (x-give SV) no-marks)))))))))))))
+      (mark-row x-TS (mark-row (x-one IN) (mark-row x-NC (mark-row (x-loc-type BC) (mark-row (x-loc-type SC) (mark-row (x-give SV) (mark-row (x-one RM) no-marks))))))))))))))
 
   x-fields : Both (fields-with p s) (fields-with o s)
   unfolding fields-with

@@ -15,7 +15,7 @@ use Rattle.definition.specs.Write.{Bytes, write}
 use Rattle.definition.specs.Reader.{Read, got, not-read, Reader, give, refuse, go-on, _>>=_, byte, read-u16, read-u32, byte-if, byte-to, read-bool, name-below, times, read-one, read-two, read-three}
 use Rattle.definition.specs.Trees.{Tree, unit-tree, anything-tree, error-tree, ref-tree, param-tree, apply-tree, var-tree, Trees, no-trees, _then_}
 use Rattle.definition.specs.Trees.{read-trees, mark-of, read-mark, mark-fits, arity, under-ref, read-apply, by-tag, is-set, is-name, read-nested, read-type}
-use Rattle.definition.specs.Record.{Record, SD, FV, NV, SN, JN, SU, UF, RD, IN, TS, NC, BC, SC, SV, read-kind, read-SD, read-pair, read-TS, by-mark, fields-of, read-fields, max-record, hand-back, read-record}
+use Rattle.definition.specs.Record.{Record, SD, FV, NV, SN, JN, SU, UF, RD, IN, TS, NC, BC, SC, SV, RM, read-kind, read-SD, read-pair, read-TS, by-mark, fields-of, read-fields, max-record, hand-back, read-record}
 use Rattle.definition.specs.Build.{build, build-all}
 use Rattle.definition.specs.Sound.{sound}
 use Rattle.definition.specs.Step.{Answer, refusal, max-payload, answer-with, answer, max-buffer, usable, two-types, lent, run, step}
@@ -47,7 +47,7 @@ unfoldable mutual
   trees-size (_then_ t ts) = tree-size t + trees-size ts
 
 -- what is read and what is left make up n bytes at most. f: the bytes that a value takes at most
-data Spent {A : Type 0} (f : A → ℕ) (n : ℕ) : Read A → Type 0 where
+pub data Spent {A : Type 0} (f : A → ℕ) (n : ℕ) : Read A → Type 0 where
   spent : {a : A} {rest : Bytes} → f a + length rest ≤ n → Spent f n (got a rest)
   unread : {x : Refusal} → Spent f n (not-read x)
 
@@ -56,7 +56,7 @@ more l (spent {a = a} {rest = rest} h) = spent {a = a} {rest = rest} (omega arit
 more l unread = unread
 
 -- k bytes have been read before
-abbrev Pays : {A : Type 0} → ℕ → (A → ℕ) → Reader A → Type 0
+abbrev pub Pays : {A : Type 0} → ℕ → (A → ℕ) → Reader A → Type 0
 Pays k f m = (bytes : Bytes) → Spent f (k + length bytes) (m bytes)
 
 pays-then : {A B : Type 0} (f : A → ℕ) (g : B → ℕ) (k : ℕ) (m : Reader A) (h : A → Reader B) → Pays 0 f m → ((a : A) → Pays (k + f a) g (h a)) → Pays k g (m >>= h)
@@ -178,13 +178,13 @@ module _ (s : State) where
       (pays-ref left, (pays-param, (pays-builtin, (pays-list, (pays-struct, (pays-var, (pays-give tree-size 5 (anything-tree loc) (omega arith), (pays-give tree-size 5 (error-tree loc) (omega arith), tt)))))))),
     ) tag
 
-  pays-nested : (n : ℕ) → Pays 0 tree-size (read-nested n s)
+  pub pays-nested : (n : ℕ) → Pays 0 tree-size (read-nested n s)
   unfolding read-nested
   pays-nested zero = pays-refuse tree-size 0 malformed
   pays-nested (suc n) =
       pays-then (λ b. 1) tree-size 0 (byte-to 8) _ (pays-byte-if _) (λ tag. pays-then (λ b. 4) tree-size 1 read-u32 _ pays-u32 (λ loc. pays-by-tag (read-nested n s) (pays-nested n) loc n tag))
 
-  pays-type : Pays 0 tree-size (read-type s)
+  pub pays-type : Pays 0 tree-size (read-type s)
   unfolding read-type
   pays-type = pays-nested 64
 
@@ -205,6 +205,7 @@ weight (NC loc kind t) = 0
 weight (BC loc t) = 0
 weight (SC loc t) = 0
 weight SV = 0
+weight (RM t) = 0
 
 pub data Weighs (n : ℕ) : Read Record → Type 0 where
   weighs : {r : Record} {rest : Bytes} → weight r ≤ n → Weighs n (got r rest)
@@ -307,7 +308,7 @@ module _ (n : ℕ) where
                 light-two SU (λ a b. refl),
                 (
                   light-one UF (λ t. refl),
-                  (light-one RD (λ t. refl), (light-TS, (light-one IN (λ t. refl), (light-NC, (light-loc-type BC (λ l t. refl), (light-loc-type SC (λ l t. refl), (light (always-give SV refl), tt))))))),
+                  (light-one RD (λ t. refl), (light-TS, (light-one IN (λ t. refl), (light-NC, (light-loc-type BC (λ l t. refl), (light-loc-type SC (λ l t. refl), (light (always-give SV refl), (light-one RM (λ t. refl), tt)))))))),
                 ),
               ),
             ),
@@ -398,7 +399,7 @@ abbrev pub two-of : TypingCase → Tree → Tree → Record
 two-of Join t1 t2 = JN t1 t2
 two-of Subtype t1 t2 = SU t1 t2
 
-fitting : (S S′ : State) (p : Bytes) → length p ≤ max-payload → answer S (ok (S′, p)) ≡ record { number = 0; payload = p; state = S′ }
+pub fitting : (S S′ : State) (p : Bytes) → length p ≤ max-payload → answer S (ok (S′, p)) ≡ record { number = 0; payload = p; state = S′ }
 unfolding answer answer-with
 fitting S S′ p h = rw (le-test (length p) max-payload h) refl
 

@@ -1,6 +1,7 @@
 pub mod AnswersJoin
 pub mod AnswersRecords
 pub mod AnswersReferences
+pub mod AnswersSpace
 pub mod AnswersWider
 pub mod AnswersLimits
 pub mod Laws
@@ -60,7 +61,12 @@ pub mod Enough
 pub mod Decimal
 pub mod NumericCheck
 pub mod NumericRule
+pub mod Exact
 pub mod NoFailIn
+pub mod NeedsIn
+pub mod Needs
+pub mod NeedsOpen
+pub mod NeedsRecord
 pub mod Stream
 pub mod Points
 pub mod Erase

@@ -1,19 +1,20 @@
--- The joins of instantiate give none of 1 to 4: core.rs unwraps them. Assumes nothing.
+-- The joins of instantiate give none of 1 to 4: core.rs unwraps them. They and the steps around them take exactly so much of each table. Assumes nothing.
 use mathlib.Core.Path.{_≡_, refl, sym, ap, _∙_, subst}
 use mathlib.Core.Logic.{_≢_, _⊎_, inl, inr}
 use mathlib.Core.Bool.{Bool, true, false, _||_}
 use mathlib.Core.List.{List, [], _∷_}
 use mathlib.Core.Option.{Option, none, some}
-use Prim.Native.Nat.{ℕ, zero, suc, _≤_, _<_}
+use Prim.Native.Nat.{ℕ, zero, suc, _*_, _≤_, _<_}
 use native.Mathlib.Omega.{arith}
-use lib.ListN.{getD, set, List·getD-eq-default}
+use lib.ListN.{length, getD, set, List·getD-eq-default}
 use lib.Dec.{eqb}
 use borrow.Author.Tests.{eq-eqb, ne-eqb}
 use Rattle.definition.specs.Types.{TypeName, Type-value, UnitType, Ref, Param, Apply, Var, Anything, UnresolvedError, Cell, unbound, Constraint, AbilityConstraint, State, max-depth, Incompatible, Result, ok, err, _>>=_, if_then_else_}
-use Rattle.definition.specs.Store.{count, taken, type-at, loc-of, get, num-loc, insert, with-vars, with-node, with-var, with-constraints, sp, next-tvar, add-constraint, map-types, any-of}
+use Rattle.definition.specs.Store.{count, taken, type-at, loc-of, get, num-loc, insert, args-of, with-vars, with-node, with-var, with-constraints, sp, next-tvar, add-constraint, map-types, any-of}
 use Rattle.definition.specs.Subst.{as-var, is-anything, parts, forward-tvar}
 use Rattle.definition.specs.Join.{Join, is-num-var, check-num-tvar, is-var, used, join-bind-tvar, type-of, merge-num, join-tvar, arm, Var-l, join-unbound, join-arm, join-impl, join}
 use Rattle.definition.specs.Instantiate.{make-tvar, tvar-constraint, make-tparams, join-args, instantiate-type-args, instantiate-apply, instantiate-value, instantiate-down, instantiate}
+use Rattle.definition.specs.Needs.{Needs}
 use Rattle.definition.specs.Sound.{sound}
 use Rattle.definition.proofs.Facts.{facts}
 use Rattle.definition.proofs.Records.{NoErr}
@@ -29,11 +30,12 @@ use Rattle.definition.proofs.Post.{Grown, grown-refl, grown-trans, Post
 use Rattle.definition.proofs.Calls.{quiet-grown, NewNode, new-node, var-ok}
 use Rattle.definition.proofs.Went.{any-ok, ref-ok, quiet-list, sound-added}
 use Rattle.definition.proofs.Runs.{Declared, declared-on, tvar-on, instantiate-down-went}
-use Rattle.definition.proofs.NoFail.{Sure, sure-no, sure-ok, sure-refused, sure-bind, sure-map, sure-eq, sure-none}
+use Rattle.definition.proofs.NoFail.{Sure, sure-no, sure-ok, sure-refused, sure-bind, sure-map}
+use Rattle.definition.proofs.Exact.{four, sum, Exact, exact-ok, Exact-and, more-none, more-node, more-var, more-constraint, more-insert, more-trans, exact-room, exact-as, exact-map, exact-sure, exact-eq, exact-none, exact-post, exact-bind}
 
 -- ---- marks
 
-num-beyond : (s : State) (v : ℕ) → taken s ≤ v → num-loc s v ≡ none
+pub num-beyond : (s : State) (v : ℕ) → taken s ≤ v → num-loc s v ≡ none
 unfolding num-loc
 num-beyond s v h = ap (λ (c : Cell). c .numeric) (List·getD-eq-default (s .vars) unbound h)
 
@@ -58,14 +60,14 @@ num-insert s v t w = getD-bind (s .vars) v (some t) w
 
 -- ---- the steps
 
-record Node-at (ar : TypeName → ℕ) (S : State) (sh : Type-value) (a : State × ℕ) : Type 0 where
-  new : NewNode ar S sh (a .0) (a .1)
-  grown : Grown S (a .0)
-  marks : (v : ℕ) → num-loc (a .0) v ≡ num-loc S v
+pub record Node-at (ar : TypeName → ℕ) (S : State) (sh : Type-value) (a : State × ℕ) : Type 0 where
+  pub new : NewNode ar S sh (a .0) (a .1)
+  pub grown : Grown S (a .0)
+  pub marks : (v : ℕ) → num-loc (a .0) v ≡ num-loc S v
 
-sp-sure : {ar : TypeName → ℕ} {S : State} → Sound ar S → (l : ℕ) (sh : Type-value) → NodeOk ar S sh → Sure (Node-at ar S sh) (sp S l sh)
-sp-sure {ar} {S} s l sh o =
-    with-room (Sure (Node-at ar S sh)) (sp-room S l sh) (λ e. sure-ok (record { new = new-node s l sh o; grown = quiet-grown (quiet-node s l sh) (structs-node S l sh); marks = num-node S l sh })) sure-refused
+pub sp-exact : {ar : TypeName → ℕ} {S : State} → Sound ar S → (l : ℕ) (sh : Type-value) → NodeOk ar S sh → Exact-and S (four 1 (length (args-of sh)) 0 0) (Node-at ar S sh) (sp S l sh)
+sp-exact {ar} {S} s l sh o = exact-room (sp-room S l sh) (λ h. (omega (arith, h .nodes-fit), h .places-fit)) (more-node S l sh)
+    (record { new = new-node s l sh o; grown = quiet-grown (quiet-node s l sh) (structs-node S l sh); marks = num-node S l sh })
 
 record Var-at (ar : TypeName → ℕ) (S : State) (a : State × ℕ) : Type 0 where
   sound : Sound ar (a .0)
@@ -75,9 +77,9 @@ record Var-at (ar : TypeName → ℕ) (S : State) (a : State × ℕ) : Type 0 wh
   same-get : (v : ℕ) → get (a .0) v ≡ get S v
   marks : (v : ℕ) → num-loc (a .0) v ≡ num-loc S v
 
-next-sure : {ar : TypeName → ℕ} {S : State} → Sound ar S → Sure (Var-at ar S) (next-tvar S)
-next-sure {ar} {S} s = with-room (Sure (Var-at ar S)) (tvar-room S)
-    (λ e. sure-ok (record { sound = sound-var s; grown = quiet-grown (quiet-var s) (structs-with-var S); is = refl; more = taken-with-var S; same-get = get-with-var S; marks = num-var S })) sure-refused
+next-exact : {ar : TypeName → ℕ} {S : State} → Sound ar S → Exact-and S (four 0 0 1 0) (Var-at ar S) (next-tvar S)
+next-exact {ar} {S} s = exact-room (tvar-room S) (λ h. omega (arith, h .variables-fit)) (more-var S)
+    (record { sound = sound-var s; grown = quiet-grown (quiet-var s) (structs-with-var S); is = refl; more = taken-with-var S; same-get = get-with-var S; marks = num-var S })
 
 -- ---- a join with an unbound variable without a mark
 
@@ -112,26 +114,26 @@ record Left (S : State) (x w : ℕ) (a : State × ℕ) : Type 0 where
   is : type-at (a .0) (a .1) ≡ Var var
   which : (var ≡ x) ⊎ (taken S ≤ var)
 
--- with what is no variable
-bind-sure : {ar : TypeName → ℕ} {S : State} → Sound ar S → (l r x : ℕ) → type-at S l ≡ Var x → num-loc S x ≡ none → used (suc r) S x r ≡ false → Sure (Left S x x) (join-unbound S l r l x r)
+-- with what is no variable: it takes nothing
+bind-exact : {ar : TypeName → ℕ} {S : State} → Sound ar S → (l r x : ℕ) → type-at S l ≡ Var x → num-loc S x ≡ none → used (suc r) S x r ≡ false → Exact-and S (four 0 0 0 0) (Left S x x) (join-unbound S l r l x r)
 unfolding join-unbound join-bind-tvar _>>=_
-bind-sure {S = S} s l r x v m u = rw (unmarked S x r m, u) (go (is-anything (type-at S r)))
+bind-exact {S = S} s l r x v m u = rw (unmarked S x r m, u) (go (is-anything (type-at S r)))
   where
-    go : (b : Bool) → Sure {A = State × ℕ} (Left S x x) ((if b then ok (S, true) else ok (insert S x r, true)) >>= (λ (a : State × Bool). if (a .1) then ok (a .0, l) else err (a .0) (Incompatible l r)))
-    go true = sure-ok (record { only = λ y h a b. refl; marks = λ y. refl; var = x; is = v; which = inl refl })
-    go false = sure-ok (record { only = λ y h a b. get-insert-other S x r y a; marks = num-insert S x r; var = x; is = value-insert S x r l ∙ v; which = inl refl })
+    go : (b : Bool) → Exact-and {B = ℕ} S (four 0 0 0 0) (Left S x x) ((if b then ok (S, true) else ok (insert S x r, true)) >>= (λ (a : State × Bool). if (a .1) then ok (a .0, l) else err (a .0) (Incompatible l r)))
+    go true = exact-ok (more-none S) (record { only = λ y h a b. refl; marks = λ y. refl; var = x; is = v; which = inl refl })
+    go false = exact-ok (more-insert S x r) (record { only = λ y h a b. get-insert-other S x r y a; marks = num-insert S x r; var = x; is = value-insert S x r l ∙ v; which = inl refl })
 
--- with another such variable
-merge-sure : {ar : TypeName → ℕ} {S : State} (n : ℕ) → Sound ar S → (loc1 x loc2 w : ℕ) → x < taken S → w < taken S → get S x ≡ none → get S w ≡ none → num-loc S x ≡ none → num-loc S w ≡ none
-    → Sure (Left S x w) (join-tvar (λ s c l r. join-impl (suc n) s c l r) S Join loc1 x loc2 w)
-unfolding join-tvar merge-num
-merge-sure {ar} {S} n s loc1 x loc2 w i j gx gw mx mw = rw (open-end s x i gx, open-end s w j gw, mx, mw, type-open S loc1 x gx) (
-    sure-bind _ (sp-sure s loc1 Anything any-ok) (λ A a.
+-- with another such variable: two `_`, two bindings and a fresh variable
+merge-exact : {ar : TypeName → ℕ} {S : State} (n : ℕ) → Sound ar S → (loc1 x loc2 w : ℕ) → x < taken S → w < taken S → get S x ≡ none → get S w ≡ none → num-loc S x ≡ none → num-loc S w ≡ none
+    → Exact-and S (four 4 0 1 0) (Left S x w) (join-tvar (λ s c l r. join-impl (suc n) s c l r) S Join loc1 x loc2 w)
+unfolding join-tvar merge-num args-of
+merge-exact {ar} {S} n s loc1 x loc2 w i j gx gw mx mw = rw (open-end s x i gx, open-end s w j gw, mx, mw, type-open S loc1 x gx) (exact-as (
+    exact-bind {k = four 3 0 1 0} _ (sp-exact s loc1 Anything any-ok) (λ A a.
     rw (type-open (A .0) loc2 w (a .new .same-get w ∙ gw)) (
-    sure-bind _ (sp-sure (a .new .sound) loc2 Anything any-ok) (λ B b.
-    sure-bind _ (next-sure (b .new .sound)) (λ C c.
-    sure-bind _ (sp-sure (c .sound) loc1 (Var (C .1)) (var-ok (C .1) (omega (arith, c .is, c .more)))) (λ D d.
-    sure-bind _ (sp-sure (d .new .sound) loc2 (Var (C .1)) (var-ok (C .1) (omega (arith, c .is, c .more, d .new .same-vars)))) (λ E e.
+    exact-bind _ (sp-exact (a .new .sound) loc2 Anything any-ok) (λ B b.
+    exact-bind _ (next-exact (b .new .sound)) (λ C c.
+    exact-bind _ (sp-exact (c .sound) loc1 (Var (C .1)) (var-ok (C .1) (omega (arith, c .is, c .more)))) (λ D d.
+    exact-bind _ (sp-exact (d .new .sound) loc2 (Var (C .1)) (var-ok (C .1) (omega (arith, c .is, c .more, d .new .same-vars)))) (λ E e.
     let f = C .1 in
     let tied : State = insert (insert (E .0) x (D .1)) w (E .1) in
     let f-is : f ≡ taken S = c .is ∙ b .new .same-vars ∙ a .new .same-vars in
@@ -142,27 +144,31 @@ merge-sure {ar} {S} n s loc1 x loc2 w i j gx gw mx mw = rw (open-end s x i gx, o
     let late : (k : ℕ) (L : Type-value) → k < count (B .0) → type-at (B .0) k ≡ L → type-at tied k ≡ L = λ k L h v. val k ∙ e .grown .g-kept k (omega (arith, c .grown .g-nodes, d .grown .g-nodes)) ∙ d .grown .g-kept k (omega (arith, c .grown .g-nodes)) ∙ c .grown .g-kept k h ∙ v in
     let v1 : type-at tied (A .1) ≡ Anything = late (A .1) Anything (omega (arith, a .new .t-in, b .grown .g-nodes)) (b .grown .g-kept (A .1) (a .new .t-in) ∙ a .new .is) in
     let v2 : type-at tied (B .1) ≡ Anything = late (B .1) Anything (b .new .t-in) (b .new .is) in
-    sure-eq _ _ (any-join n tied (A .1) (B .1) v1) (sure-none (get tied f) _ (only f (λ p. omega arith) (λ p. omega arith) ∙ get-beyond S f (omega arith)) (
-    sure-eq _ _ (any-bind tied loc2 f (B .1) (marks f ∙ num-beyond S f (omega arith)) v2) (
-    sure-ok (record { only = λ y h p q. only y p q; marks = marks; var = f; is = val (E .1) ∙ e .new .is; which = inr (omega arith) })))))))))))
+    exact-eq _ _ (any-join n tied (A .1) (B .1) v1) (exact-none (get tied f) _ (only f (λ p. omega arith) (λ p. omega arith) ∙ get-beyond S f (omega arith)) (
+    exact-eq _ _ (any-bind tied loc2 f (B .1) (marks f ∙ num-beyond S f (omega arith)) v2) (
+    exact-ok (more-trans (more-insert (E .0) x (D .1)) (more-insert _ w (E .1))) (record { only = λ y h p q. only y p q; marks = marks; var = f; is = val (E .1) ∙ e .new .is; which = inr (omega arith) }))))))))))) (omega arith))
 
 -- ---- the variable of an argument, and the argument
 
+-- what the join of a fresh variable with it takes
+abbrev pub merged : Type-value → Needs
+merged x = elim (as-var x) [ none ↦ four 0 0 0 0 | some v ↦ four 4 0 1 0 ]
+
 -- t is no variable, or a variable from b on that is unbound and has no mark; what comes next is from b′ on
-data Plain-or-open (S : State) (b t : ℕ) : ℕ → Type 0 where
+pub data Plain-or-open (S : State) (b t : ℕ) : ℕ → Type 0 where
   is-plain : as-var (type-at S t) ≡ none → Plain-or-open S b t b
   is-open : {w : ℕ} → type-at S t ≡ Var w → b ≤ w → w < taken S → get S w ≡ none → num-loc S w ≡ none → Plain-or-open S b t (suc w)
 
-record Pair (S : State) (h a b v t x b′ : ℕ) : Type 0 where
-  v-in : v < count S
-  is : type-at S v ≡ Var x
-  from : a ≤ x
-  below : x < h
-  free : get S x ≡ none
-  clear : num-loc S x ≡ none
-  t-in : t < count S
-  unused : used (suc t) S x t ≡ false
-  shape : Plain-or-open S b t b′
+pub record Pair (S : State) (h a b v t x b′ : ℕ) : Type 0 where
+  pub v-in : v < count S
+  pub is : type-at S v ≡ Var x
+  pub from : a ≤ x
+  pub below : x < h
+  pub free : get S x ≡ none
+  pub clear : num-loc S x ≡ none
+  pub t-in : t < count S
+  pub unused : used (suc t) S x t ≡ false
+  pub shape : Plain-or-open S b t b′
 
 record Left-of (S : State) (x b b′ : ℕ) (a : State × ℕ) : Type 0 where
   only : (y : ℕ) → y < taken S → y ≢ x → (y < b) ⊎ (b′ ≤ y) → get (a .0) y ≡ get S y
@@ -186,25 +192,26 @@ unfolding used as-var is-var any-of parts
 used-other S x w t e u d = never (let z : eqb w x || false ≡ false = rw e at u in let y = eq-eqb w x d in let k : true ≡ false = rw y at z in cc)
 
 module _ {ar : TypeName → ℕ} {S : State} (s : Sound ar S) (n h a b v t x : ℕ) (h-in : h ≤ taken S) (hb : h ≤ b) where
-  plain-sure : as-var (type-at S t) ≡ none → {b′ : ℕ} → Pair S h a b v t x b′ → Sure (Left S x x) (join-impl (suc (suc n)) S Join v t)
+  plain-exact : as-var (type-at S t) ≡ none → {b′ : ℕ} → Pair S h a b v t x b′ → Exact-and S (four 0 0 0 0) (Left S x x) (join-impl (suc (suc n)) S Join v t)
   unfolding join-impl join-arm arm
-  plain-sure e p = go (kind (type-at S t))
+  plain-exact e p = go (kind (type-at S t))
     where
-      go : Kind (type-at S t) → Sure (Left S x x) (join-impl (suc (suc n)) S Join v t)
-      go (k-any d) = rw (p .is, d) (sure-ok (record { only = λ y i c k. refl; marks = λ y. refl; var = x; is = p .is; which = inl refl }))
+      go : Kind (type-at S t) → Exact-and S (four 0 0 0 0) (Left S x x) (join-impl (suc (suc n)) S Join v t)
+      go (k-any d) = rw (p .is, d) (exact-ok (more-none S) (record { only = λ y i c k. refl; marks = λ y. refl; var = x; is = p .is; which = inl refl }))
       go (k-var d) = nonvar-var e d
-      go (k-solid d f) = rw (p .is, arm-l x (type-at S t) d) (rw (p .free, join-arm) (bind-sure s v t x (p .is) (p .clear) (p .unused)))
+      go (k-solid d f) = rw (p .is, arm-l x (type-at S t) d) (rw (p .free, join-arm) (bind-exact s v t x (p .is) (p .clear) (p .unused)))
 
-  open-sure : {w b′ : ℕ} → Pair S h a b v t x b′ → type-at S t ≡ Var w → w < taken S → get S w ≡ none → num-loc S w ≡ none → Sure (Left S x w) (join-impl (suc (suc n)) S Join v t)
+  open-exact : {w b′ : ℕ} → Pair S h a b v t x b′ → type-at S t ≡ Var w → w < taken S → get S w ≡ none → num-loc S w ≡ none → Exact-and S (four 4 0 1 0) (Left S x w) (join-impl (suc (suc n)) S Join v t)
   unfolding join-impl join-arm arm
-  open-sure {w} p e i g m = rw (p .is, e) (rw (ne-eqb x w (λ d. used-other S x w t e (p .unused) (sym d))) (merge-sure n s (loc-of S v) x (loc-of S t) w (omega (arith, p .below)) i (p .free) g (p .clear) m))
+  open-exact {w} p e i g m = rw (p .is, e) (rw (ne-eqb x w (λ d. used-other S x w t e (p .unused) (sym d))) (merge-exact n s (loc-of S v) x (loc-of S t) w (omega (arith, p .below)) i (p .free) g (p .clear) m))
 
-  join-sure : {b′ : ℕ} → Pair S h a b v t x b′ → Sure (Left-of S x b b′) (join-impl (suc (suc n)) S Join v t)
-  join-sure p = go p (p .shape)
+  join-exact : {b′ : ℕ} → Pair S h a b v t x b′ → Exact-and S (merged (type-at S t)) (Left-of S x b b′) (join-impl (suc (suc n)) S Join v t)
+  unfolding as-var
+  join-exact p = go p (p .shape)
     where
-      go : {b′ : ℕ} → Pair S h a b v t x b′ → Plain-or-open S b t b′ → Sure (Left-of S x b b′) (join-impl (suc (suc n)) S Join v t)
-      go p (is-plain e) = sure-map (λ r l. record { only = λ y i c k. l .only y i c c; marks = l .marks; var = l .var; is = l .is; which = l .which }) (plain-sure e p)
-      go p (is-open {w = w} e l i g m) = sure-map (λ r q. record { only = λ y i c k. q .only y i c (other y w l k); marks = q .marks; var = q .var; is = q .is; which = q .which }) (open-sure p e i g m)
+      go : {b′ : ℕ} → Pair S h a b v t x b′ → Plain-or-open S b t b′ → Exact-and S (merged (type-at S t)) (Left-of S x b b′) (join-impl (suc (suc n)) S Join v t)
+      go p (is-plain e) = rw (e, merged) (exact-map (λ r l. record { only = λ y i c k. l .only y i c c; marks = l .marks; var = l .var; is = l .is; which = l .which }) (plain-exact e p))
+      go p (is-open {w = w} e l i g m) = rw (ap as-var e, merged) (exact-map (λ r q. record { only = λ y i c k. q .only y i c (other y w l k); marks = q .marks; var = q .var; is = q .is; which = q .which }) (open-exact p e i g m))
         where
           other : (y w : ℕ) → b ≤ w → (y < b) ⊎ (suc w ≤ y) → y ≢ w
           other y w l (inl j) d = omega arith
@@ -219,16 +226,16 @@ used-kept {S = S} {S′ = S′} s g (suc n) y t h = rw (g .g-kept t h)
     (ap (λ (c : Bool). is-var y (type-at S t) || c) (any-same (λ p. used n S′ y p) (λ p. used n S y p) (λ p. p < t) (λ p l. used-kept s g n y p (omega arith)) (parts (type-at S t)) (s .parts-below t h)))
 
 -- S′ has the nodes and marks of S
-record Steady (ar : TypeName → ℕ) (S S′ : State) : Type 0 where
-  before : Sound ar S
-  after : Sound ar S′
-  grown : Grown S S′
-  marks : (y : ℕ) → num-loc S′ y ≡ num-loc S y
+pub record Steady (ar : TypeName → ℕ) (S S′ : State) : Type 0 where
+  pub before : Sound ar S
+  pub after : Sound ar S′
+  pub grown : Grown S S′
+  pub marks : (y : ℕ) → num-loc S′ y ≡ num-loc S y
 
-steady-refl : {ar : TypeName → ℕ} {S : State} → Sound ar S → Steady ar S S
+pub steady-refl : {ar : TypeName → ℕ} {S : State} → Sound ar S → Steady ar S S
 steady-refl {S = S} s = record { before = s; after = s; grown = grown-refl S; marks = λ y. refl }
 
-steady-trans : {ar : TypeName → ℕ} {S S′ S″ : State} → Steady ar S S′ → Steady ar S′ S″ → Steady ar S S″
+pub steady-trans : {ar : TypeName → ℕ} {S S′ S″ : State} → Steady ar S S′ → Steady ar S′ S″ → Steady ar S S″
 steady-trans p q = record { before = p .before; after = q .after; grown = grown-trans (p .grown) (q .grown); marks = λ y. q .marks y ∙ p .marks y }
 
 shape-keep : {ar : TypeName → ℕ} {S S′ : State} {b t b′ : ℕ} → Steady ar S S′ → t < count S → ((y : ℕ) → y < taken S → b ≤ y → y < b′ → get S′ y ≡ get S y) → Plain-or-open S b t b′ → Plain-or-open S′ b t b′
@@ -239,7 +246,7 @@ next-from : {S : State} {b t b′ : ℕ} → Plain-or-open S b t b′ → b ≤ 
 next-from (is-plain e) = omega arith
 next-from (is-open e l i g m) = omega arith
 
-data Pairs (S : State) (h : ℕ) : ℕ → ℕ → List ℕ → List ℕ → Type 0 where
+pub data Pairs (S : State) (h : ℕ) : ℕ → ℕ → List ℕ → List ℕ → Type 0 where
   no-pairs : {a b : ℕ} {ts : List ℕ} → Pairs S h a b [] ts
   no-more : {a b v : ℕ} {vs : List ℕ} → Pairs S h a b (v ∷ vs) []
   pair : {a b v t x b′ : ℕ} {vs ts : List ℕ} → Pair S h a b v t x b′ → Pairs S h (suc x) b′ vs ts → Pairs S h a b (v ∷ vs) (t ∷ ts)
@@ -264,32 +271,43 @@ pairs-keep {h = h} z i j k (pair {a = a} {b = b} {v = v} {t = t} {x = x} {b′ =
     wider y (inr c) = inr (omega (arith, next-from (p .shape)))
 
 -- every one is a variable from a on
-Vars-from : State → ℕ → List ℕ → Type 0
+unfoldable pub Vars-from : State → ℕ → List ℕ → Type 0
 Vars-from S a us = All (λ u. (u < count S) × ((z : ℕ) × (type-at S u ≡ Var z) × (a ≤ z))) us
 
-record Args-joined (ar : TypeName → ℕ) (S : State) (a : ℕ) (r : State × List ℕ) : Type 0 where
-  steady : Steady ar S (r .0)
-  only : (y : ℕ) → y < taken S → y < a → get (r .0) y ≡ get S y
-  are : Vars-from (r .0) a (r .1)
+pub record Args-joined (ar : TypeName → ℕ) (S : State) (a : ℕ) (r : State × List ℕ) : Type 0 where
+  pub steady : Steady ar S (r .0)
+  pub only : (y : ℕ) → y < taken S → y < a → get (r .0) y ≡ get S y
+  pub are : Vars-from (r .0) a (r .1)
 
 both : {B : Type 0} {ar : TypeName → ℕ} {S : State} {P : State → B → Type 0} {Q R : State × B → Type 0} {m : Result (State × B)} → Post ar S P m → Sure Q m → ((s : State) (b : B) → Grown S s → P s b → Q (s, b) → R (s, b)) → Sure R m
 both (p-ok g p) (sure-ok q) f = sure-ok (f _ _ g p q)
 both p-refused sure-refused f = sure-refused
 
-join-args-sure : {ar : TypeName → ℕ} (vs ts : List ℕ) {S : State} {h a b : ℕ} → Sound ar S → h ≤ taken S → h ≤ b → Pairs S h a b vs ts → Sure (Args-joined ar S a) (join-args S vs ts)
+-- what the joins of the pairs take
+abbrev pub merges : State → List ℕ → List ℕ → Needs
+merges S [] ts = four 0 0 0 0
+merges S (v ∷ vs) [] = four 0 0 0 0
+merges S (v ∷ vs) (t ∷ ts) = sum (merged (type-at S t)) (merges S vs ts)
+
+merges-keep : {S S′ : State} {h a b : ℕ} {vs ts : List ℕ} → Grown S S′ → Pairs S h a b vs ts → merges S′ vs ts ≡ merges S vs ts
+merges-keep g no-pairs = refl
+merges-keep g no-more = refl
+merges-keep g (pair {t = t} p ps) = rw (g .g-kept t (p .t-in), merges-keep g ps) refl
+
+pub join-args-exact : {ar : TypeName → ℕ} (vs ts : List ℕ) {S : State} {h a b : ℕ} → Sound ar S → h ≤ taken S → h ≤ b → Pairs S h a b vs ts → Exact-and S (merges S vs ts) (Args-joined ar S a) (join-args S vs ts)
 unfolding join-args join max-depth Vars-from
-join-args-sure [] ts {S} s i j ps = sure-ok (record { steady = steady-refl s; only = λ y l c. refl; are = tt })
-join-args-sure (v ∷ vs) [] {S} s i j ps = sure-ok (record { steady = steady-refl s; only = λ y l c. refl; are = tt })
-join-args-sure {ar} (v ∷ vs) (t ∷ ts) {S} {h} {a} {b} s i j (pair {x = x} {b′ = b′} p ps) =
-    sure-bind _ (both {R = λ r. Steady ar S (r .0) × (r .1 < count (r .0)) × Left-of S x b b′ r} (join-impl-good 256 S Join v t s (p .v-in) (p .t-in)) (join-sure s 254 h a b v t x i j p) (λ S1 u g q l. (record { before = s; after = q .sound; grown = g; marks = l .marks }, q .t-in, l))) (λ r q.
+join-args-exact [] ts {S} s i j ps = exact-ok (more-none S) (record { steady = steady-refl s; only = λ y l c. refl; are = tt })
+join-args-exact (v ∷ vs) [] {S} s i j ps = exact-ok (more-none S) (record { steady = steady-refl s; only = λ y l c. refl; are = tt })
+join-args-exact {ar} (v ∷ vs) (t ∷ ts) {S} {h} {a} {b} s i j (pair {x = x} {b′ = b′} p ps) =
+    exact-as (exact-bind _ (exact-post {R = λ r. Steady ar S (r .0) × (r .1 < count (r .0)) × Left-of S x b b′ r} (join-impl-good 256 S Join v t s (p .v-in) (p .t-in)) (join-exact s 254 h a b v t x i j p) (λ S1 u g q l. (record { before = s; after = q .sound; grown = g; marks = l .marks }, q .t-in, l))) (λ r q.
     let z = q .0 in
     let l = q .2 in
     let up = z .grown .g-vars in
-    sure-bind _ (join-args-sure vs ts (z .after) (omega (arith, up)) (omega (arith, next-from (p .shape))) (pairs-keep z i (omega (arith, next-from (p .shape))) (λ y k c. l .only y k (apart y c) (side y c)) ps)) (λ r2 w. sure-ok (record {
+    exact-bind _ (subst (λ (k : Needs). Exact-and (r .0) k (Args-joined ar (r .0) (suc x)) (join-args (r .0) vs ts)) (merges-keep (z .grown) ps) (join-args-exact vs ts (z .after) (omega (arith, up)) (omega (arith, next-from (p .shape))) (pairs-keep z i (omega (arith, next-from (p .shape))) (λ y k c. l .only y k (apart y c) (side y c)) ps))) (λ r2 w. exact-ok (more-none (r2 .0)) (record {
       steady = steady-trans z (w .steady);
       only = λ y k c. w .only y (omega (arith, up)) (omega (arith, p .from)) ∙ l .only y k (λ d. omega (arith, p .from)) (inl (omega (arith, p .from, p .below)));
       are = ((omega (arith, q .1, w .steady .grown .g-nodes), (l .var, w .steady .grown .g-kept (r .1) (q .1) ∙ l .is, late (l .var) (l .which))), All-map (λ u f. (f .0, (f .1 .0, f .1 .1, omega (arith, p .from, f .1 .2)))) (r2 .1) (w .are));
-    })))
+    })))) (omega arith)
   where
     apart : (y : ℕ) → ((suc x ≤ y) × (y < h)) ⊎ (b′ ≤ y) → y ≢ x
     apart y (inl c) d = omega (arith, c .0)
@@ -306,78 +324,88 @@ join-args-sure {ar} (v ∷ vs) (t ∷ ts) {S} {h} {a} {b} s i j (pair {x = x} {b
 -- ---- variables for the arguments
 
 -- no variable is bound, or marked, or taken
-record Kept (ar : TypeName → ℕ) (S S′ : State) : Type 0 where
-  steady : Steady ar S S′
-  gets : (y : ℕ) → get S′ y ≡ get S y
-  vars : taken S′ ≡ taken S
+pub record Kept (ar : TypeName → ℕ) (S S′ : State) : Type 0 where
+  pub steady : Steady ar S S′
+  pub gets : (y : ℕ) → get S′ y ≡ get S y
+  pub vars : taken S′ ≡ taken S
 
-add-sure : {ar : TypeName → ℕ} {S : State} → Sound ar S → (c : Constraint) → type-on c < count S → Sure (Kept ar S) (add-constraint S c)
+pub add-exact : {ar : TypeName → ℕ} {S : State} → Sound ar S → (c : Constraint) → type-on c < count S → Exact S (four 0 0 0 1) (λ x. x) (Kept ar S) (add-constraint S c)
 unfolding with-constraints get num-loc
-add-sure {ar} {S} s c h = with-room (Sure (Kept ar S)) (constraint-room S c) (λ e. sure-ok (record {
+add-exact {ar} {S} s c h = exact-room (constraint-room S c) (λ e. omega (arith, e .constraints-fit)) (more-constraint S c) (record {
   steady = record { before = s; after = sound-added s c h; grown = quiet-grown (quiet-list s _) refl; marks = λ y. refl };
   gets = λ y. refl;
   vars = refl;
-})) sure-refused
+})
 
-record Made (ar : TypeName → ℕ) (S : State) (a : State × ℕ) : Type 0 where
-  steady : Steady ar S (a .0)
-  gets : (y : ℕ) → get (a .0) y ≡ get S y
-  t-in : a .1 < count (a .0)
-  is : type-at (a .0) (a .1) ≡ Var (taken S)
-  more : taken (a .0) ≡ suc (taken S)
+pub record Made (ar : TypeName → ℕ) (S : State) (a : State × ℕ) : Type 0 where
+  pub steady : Steady ar S (a .0)
+  pub gets : (y : ℕ) → get (a .0) y ≡ get S y
+  pub t-in : a .1 < count (a .0)
+  pub is : type-at (a .0) (a .1) ≡ Var (taken S)
+  pub more : taken (a .0) ≡ suc (taken S)
 
-make-sure : {ar : TypeName → ℕ} {S : State} → Sound ar S → (l : ℕ) → Sure (Made ar S) (make-tvar S l)
-unfolding make-tvar
-make-sure s l = sure-bind _ (next-sure s) (λ A a. sure-map (λ B b. record {
+pub make-exact : {ar : TypeName → ℕ} {S : State} → Sound ar S → (l : ℕ) → Exact-and S (four 1 0 1 0) (Made ar S) (make-tvar S l)
+unfolding make-tvar args-of
+make-exact s l = exact-bind _ (next-exact s) (λ A a. exact-map (λ B b. record {
   steady = record { before = s; after = b .new .sound; grown = grown-trans (a .grown) (b .grown); marks = λ y. b .marks y ∙ a .marks y };
   gets = λ y. b .new .same-get y ∙ a .same-get y;
   t-in = b .new .t-in;
   is = b .new .is ∙ ap Var (a .is);
   more = b .new .same-vars ∙ a .more;
-}) (sp-sure (a .sound) l (Var (A .1)) (var-ok (A .1) (omega (arith, a .is, a .more)))))
+}) (sp-exact (a .sound) l (Var (A .1)) (var-ok (A .1) (omega (arith, a .is, a .more)))))
 
-data Tvars (S : State) : ℕ → List ℕ → Type 0 where
+pub data Tvars (S : State) : ℕ → List ℕ → Type 0 where
   t-none : {a : ℕ} → Tvars S a []
   t-one : {a v x : ℕ} {vs : List ℕ} → v < count S → type-at S v ≡ Var x → a ≤ x → x < taken S → Tvars S (suc x) vs → Tvars S a (v ∷ vs)
 
-record Tparams (ar : TypeName → ℕ) (S : State) (r : State × List ℕ) : Type 0 where
-  steady : Steady ar S (r .0)
-  gets : (y : ℕ) → get (r .0) y ≡ get S y
-  tvars : Tvars (r .0) (taken S) (r .1)
+pub record Tparams (ar : TypeName → ℕ) (S : State) (r : State × List ℕ) : Type 0 where
+  pub steady : Steady ar S (r .0)
+  pub gets : (y : ℕ) → get (r .0) y ≡ get S y
+  pub tvars : Tvars (r .0) (taken S) (r .1)
 
-tparams-sure : {ar : TypeName → ℕ} (loc : ℕ) (n : TypeName) (tys cs : List ℕ) {S : State} → Sound ar S → Sure (Tparams ar S) (make-tparams S loc n tys cs)
+-- how many pairs two lists make
+abbrev pub pairs-in : List ℕ → List ℕ → ℕ
+pairs-in [] cs = 0
+pairs-in (ty ∷ tys) [] = 0
+pairs-in (ty ∷ tys) (c ∷ cs) = suc (pairs-in tys cs)
+
+-- a variable, its node and two constraints for each
+abbrev pub for-each : ℕ → Needs
+for-each n = four n 0 n (2 * n)
+
+pub tparams-exact : {ar : TypeName → ℕ} (loc : ℕ) (n : TypeName) (tys cs : List ℕ) {S : State} → Sound ar S → Exact-and S (for-each (pairs-in tys cs)) (Tparams ar S) (make-tparams S loc n tys cs)
 unfolding make-tparams
-tparams-sure loc n [] cs s = sure-ok (record { steady = steady-refl s; gets = λ y. refl; tvars = t-none })
-tparams-sure loc n (ty ∷ tys) [] s = sure-ok (record { steady = steady-refl s; gets = λ y. refl; tvars = t-none })
-tparams-sure loc n (ty ∷ tys) (c ∷ cs) {S} s =
-    sure-bind _ (make-sure s (loc-of S ty)) (λ A a.
-    sure-bind _ (add-sure (a .steady .after) (AbilityConstraint loc (A .1) c) (a .t-in)) (λ B b.
-    sure-bind _ (add-sure (b .steady .after) (tvar-constraint n loc (A .1)) (rw (tvar-on n loc (A .1)) (omega (arith, a .t-in, b .steady .grown .g-nodes)))) (λ C d.
-    sure-bind _ (tparams-sure loc n tys cs (d .steady .after)) (λ D e.
+tparams-exact loc n [] cs {S} s = exact-ok (more-none S) (record { steady = steady-refl s; gets = λ y. refl; tvars = t-none })
+tparams-exact loc n (ty ∷ tys) [] {S} s = exact-ok (more-none S) (record { steady = steady-refl s; gets = λ y. refl; tvars = t-none })
+tparams-exact loc n (ty ∷ tys) (c ∷ cs) {S} s =
+    exact-as (exact-bind _ (make-exact s (loc-of S ty)) (λ A a.
+    exact-bind _ (add-exact (a .steady .after) (AbilityConstraint loc (A .1) c) (a .t-in)) (λ B b.
+    exact-bind _ (add-exact (b .steady .after) (tvar-constraint n loc (A .1)) (rw (tvar-on n loc (A .1)) (omega (arith, a .t-in, b .steady .grown .g-nodes)))) (λ C d.
+    exact-bind _ (tparams-exact loc n tys cs (d .steady .after)) (λ D e.
     let z = steady-trans (b .steady) (steady-trans (d .steady) (e .steady)) in
     let k : taken C ≡ suc (taken S) = d .vars ∙ b .vars ∙ a .more in
-    sure-ok (record {
+    exact-ok (more-none (D .0)) (record {
       steady = steady-trans (a .steady) z;
       gets = λ y. e .gets y ∙ d .gets y ∙ b .gets y ∙ a .gets y;
       tvars = t-one (omega (arith, a .t-in, z .grown .g-nodes)) (z .grown .g-kept (A .1) (a .t-in) ∙ a .is) (omega arith) (omega (arith, a .more, z .grown .g-vars)) (subst (λ (i : ℕ). Tvars (D .0) i (D .1)) k (e .tvars));
-    })))))
+    })))))) (omega arith)
 
 -- ---- the arguments
 
-record Level (S : State) (a : State × ℕ) : Type 0 where
-  marks : (y : ℕ) → num-loc (a .0) y ≡ num-loc S y
-  olds : (y : ℕ) → y < taken S → get (a .0) y ≡ get S y
-  unused : (y : ℕ) → y < taken S → used (suc (a .1)) (a .0) y (a .1) ≡ false
-  next : ℕ
-  next-in : next ≤ taken (a .0)
-  shape : Plain-or-open (a .0) (taken S) (a .1) next
+pub record Level (S : State) (a : State × ℕ) : Type 0 where
+  pub marks : (y : ℕ) → num-loc (a .0) y ≡ num-loc S y
+  pub olds : (y : ℕ) → y < taken S → get (a .0) y ≡ get S y
+  pub unused : (y : ℕ) → y < taken S → used (suc (a .1)) (a .0) y (a .1) ≡ false
+  pub next : ℕ
+  pub next-in : next ≤ taken (a .0)
+  pub shape : Plain-or-open (a .0) (taken S) (a .1) next
 
-record Fresh (ar : TypeName → ℕ) (S : State) (a : State × ℕ) : Type 0 where
-  steady : Steady ar S (a .0)
-  t-in : a .1 < count (a .0)
-  level : Level S a
+pub record Fresh (ar : TypeName → ℕ) (S : State) (a : State × ℕ) : Type 0 where
+  pub steady : Steady ar S (a .0)
+  pub t-in : a .1 < count (a .0)
+  pub level : Level S a
 
-data Shapes (S : State) (k : ℕ) : ℕ → List ℕ → Type 0 where
+pub data Shapes (S : State) (k : ℕ) : ℕ → List ℕ → Type 0 where
   sh-none : {b : ℕ} → Shapes S k b []
   sh-one : {b t b′ : ℕ} {ts : List ℕ} → t < count S → ((y : ℕ) → y < k → used (suc t) S y t ≡ false) → Plain-or-open S b t b′ → Shapes S k b′ ts → Shapes S k b (t ∷ ts)
 
@@ -386,15 +414,15 @@ shapes-lower h l sh-none = sh-none
 shapes-lower h l (sh-one i u (is-plain e) ss) = sh-one i (λ y j. u y (omega arith)) (is-plain e) (shapes-lower h l ss)
 shapes-lower {b′ = b′} h l (sh-one i u (is-open {w = w} e c j g m) ss) = let c′ : b′ ≤ w = omega arith in sh-one i (λ y j. u y (omega arith)) (is-open e c′ j g m) (shapes-lower h (omega arith) ss)
 
-record Freshes (ar : TypeName → ℕ) (S : State) (r : State × List ℕ) : Type 0 where
-  steady : Steady ar S (r .0)
-  olds : (y : ℕ) → y < taken S → get (r .0) y ≡ get S y
-  shapes : Shapes (r .0) (taken S) (taken S) (r .1)
+pub record Freshes (ar : TypeName → ℕ) (S : State) (r : State × List ℕ) : Type 0 where
+  pub steady : Steady ar S (r .0)
+  pub olds : (y : ℕ) → y < taken S → get (r .0) y ≡ get S y
+  pub shapes : Shapes (r .0) (taken S) (taken S) (r .1)
 
-abbrev Makes : (TypeName → ℕ) → (State → ℕ → Result (State × ℕ)) → Type 0
+abbrev pub Makes : (TypeName → ℕ) → (State → ℕ → Result (State × ℕ)) → Type 0
 Makes ar f = (S : State) (t : ℕ) → Sound ar S → Declared ar S → t < count S → Sure (Fresh ar S) (f S t)
 
-map-sure : {ar : TypeName → ℕ} (f : State → ℕ → Result (State × ℕ)) → Makes ar f → (ts : List ℕ) {S : State} → Sound ar S → Declared ar S → All (λ t. t < count S) ts → Sure (Freshes ar S) (map-types f S ts)
+pub map-sure : {ar : TypeName → ℕ} (f : State → ℕ → Result (State × ℕ)) → Makes ar f → (ts : List ℕ) {S : State} → Sound ar S → Declared ar S → All (λ t. t < count S) ts → Sure (Freshes ar S) (map-types f S ts)
 unfolding map-types
 map-sure f h [] s d a = sure-ok (record { steady = steady-refl s; olds = λ y i. refl; shapes = sh-none })
 map-sure f h (t ∷ ts) {S} s d a =
@@ -409,7 +437,7 @@ map-sure f h (t ∷ ts) {S} s d a =
           (shape-keep z (p .t-in) (λ y i c e. q .olds y i) (l .shape)) (shapes-lower (p .steady .grown .g-vars) (l .next-in) (q .shapes));
     })))
 
-pairs-of : {S1 S2 : State} {h a b : ℕ} {vs ts : List ℕ} → Grown S1 S2 → h ≡ taken S1 → ((y : ℕ) → a ≤ y → y < h → get S2 y ≡ none) → ((y : ℕ) → a ≤ y → num-loc S2 y ≡ none) → Tvars S1 a vs → Shapes S2 h b ts → Pairs S2 h a b vs ts
+pub pairs-of : {S1 S2 : State} {h a b : ℕ} {vs ts : List ℕ} → Grown S1 S2 → h ≡ taken S1 → ((y : ℕ) → a ≤ y → y < h → get S2 y ≡ none) → ((y : ℕ) → a ≤ y → num-loc S2 y ≡ none) → Tvars S1 a vs → Shapes S2 h b ts → Pairs S2 h a b vs ts
 pairs-of g e f m t-none ss = no-pairs
 pairs-of g e f m (t-one i v l j tv) sh-none = no-more
 pairs-of g e f m (t-one {v = u} {x = x} i v l j tv) (sh-one {t = t} {b′ = b′} k n p ss) = pair {v = u} {t = t} {x = x} {b′ = b′} (record {
@@ -455,10 +483,10 @@ new-level {S = S} {S1 = S1} z o l sh e v u = sure-map (λ a d. subst (Level S) (
   shape = is-plain (ap as-var (value-new S1 l sh) ∙ e);
 })) (sp-raw S1 l sh)
 
-record Args-from (ar : TypeName → ℕ) (S : State) (r : State × List ℕ) : Type 0 where
-  steady : Steady ar S (r .0)
-  olds : (y : ℕ) → y < taken S → get (r .0) y ≡ get S y
-  are : Vars-from (r .0) (taken S) (r .1)
+pub record Args-from (ar : TypeName → ℕ) (S : State) (r : State × List ℕ) : Type 0 where
+  pub steady : Steady ar S (r .0)
+  pub olds : (y : ℕ) → y < taken S → get (r .0) y ≡ get S y
+  pub are : Vars-from (r .0) (taken S) (r .1)
 
 vars-unused : {ar : TypeName → ℕ} {S : State} {a : ℕ} → Sound ar S → (l : ℕ) (sh : Type-value) (us : List ℕ) (y : ℕ) → y < a → Vars-from S a us → All (λ u. used (count S) (with-node S l sh) y u ≡ false) us
 unfolding Vars-from
@@ -482,10 +510,10 @@ module _ {ar : TypeName → ℕ} (f : State → ℕ → Result (State × ℕ)) (
     next = suc (taken S);
     next-in = omega (arith, a .more);
     shape = is-open (a .is) (omega arith) (omega (arith, a .more)) (a .gets (taken S) ∙ get-beyond S (taken S) (omega arith)) (a .steady .marks (taken S) ∙ num-beyond S (taken S) (omega arith));
-  }) (make-sure s (loc-of S t))
+  }) (exact-sure (make-exact s (loc-of S t)))
   level-sure {S} s d t i (Ref m p) e =
       let b : p < t = (rw e at (s .parts-below t i)) .0 in
-      sure-bind _ (add-sure s _ (omega arith)) (λ A a.
+      sure-bind _ (exact-sure (add-exact s _ (omega arith))) (λ A a.
       sure-bind _ (h A p (a .steady .after) (declared-on d (a .steady .grown)) (omega (arith, a .steady .grown .g-nodes))) (λ B q.
       let s1 = q .steady .after in
       let sh = Ref m (B .1) in
@@ -495,16 +523,16 @@ module _ {ar : TypeName → ℕ} (f : State → ℕ → Result (State × ℕ)) (
       (used-levels s2 (count (B .0)) (suc (B .1)) y (B .1) (omega (arith, q .t-in, count-with-node (B .0) (loc-of S t) sh)) (q .t-in) (omega arith) ∙ used-kept s1 g2 (suc (B .1)) y (B .1) (q .t-in) ∙ q .level .unused y (omega (arith, a .vars)), tt))))
   level-sure {S} s d t i (Apply k n tys) e =
       let b : All (λ p. p < t) tys = rw e at (s .parts-below t i) in
-      sure-bind _ (sure-bind {Q = λ r. Args-from ar S r} _ (tparams-sure (loc-of S t) n tys _ s) (λ A a.
+      sure-bind _ (sure-bind {Q = λ r. Args-from ar S r} _ (exact-sure (tparams-exact (loc-of S t) n tys _ s)) (λ A a.
       let z1 = a .steady in
       sure-bind _ (map-sure f h tys (z1 .after) (declared-on d (z1 .grown)) (All-map (λ p l. omega (arith, z1 .grown .g-nodes)) tys b)) (λ B q.
       let z2 = q .steady in
       sure-map (λ C c. record { steady = steady-trans z1 (steady-trans z2 (c .steady)); olds = λ y j. c .only y (omega (arith, z1 .grown .g-vars, z2 .grown .g-vars)) j ∙ q .olds y (omega (arith, z1 .grown .g-vars)) ∙ a .gets y; are = c .are })
-      (join-args-sure (A .1) (B .1) (z2 .after) (z2 .grown .g-vars) (omega arith)
-      (pairs-of (z2 .grown) refl (λ y l j. q .olds y j ∙ a .gets y ∙ get-beyond S y l) (λ y l. z2 .marks y ∙ z1 .marks y ∙ num-beyond S y l) (a .tvars) (q .shapes)))))) (λ C c.
+      (exact-sure (join-args-exact (A .1) (B .1) (z2 .after) (z2 .grown .g-vars) (omega arith)
+      (pairs-of (z2 .grown) refl (λ y l j. q .olds y j ∙ a .gets y ∙ get-beyond S y l) (λ y l. z2 .marks y ∙ z1 .marks y ∙ num-beyond S y l) (a .tvars) (q .shapes))))))) (λ C c.
       new-level (c .steady) (c .olds) (loc-of S t) (Apply k n (C .1)) refl (λ y. refl) (λ y j. vars-unused (c .steady .after) (loc-of S t) (Apply k n (C .1)) (C .1) y j (c .are)))
 
-inst-sure : {ar : TypeName → ℕ} (n : ℕ) → Makes ar (instantiate-down n)
+pub inst-sure : {ar : TypeName → ℕ} (n : ℕ) → Makes ar (instantiate-down n)
 unfolding instantiate-down
 inst-sure zero S t s d i = sure-refused
 inst-sure (suc n) S t s d i = both (instantiate-down-went (suc n) S t s d i) (level-sure (λ s t. instantiate-down n s t) (λ S t s d i. inst-sure n S t s d i) s d t i (type-at S t) refl)

@@ -5,6 +5,7 @@ use mathlib.Core.Path.{_≡_, refl, ap}
 use mathlib.Core.Logic.{_≢_}
 use mathlib.Core.Bool.{Bool, true, false, _&&_, _||_}
 use mathlib.Core.List.{List, [], _∷_, _++_, List·Memᴰ·head}
+use mathlib.Core.Option.{Option, none, some}
 use Prim.Native.Nat.{ℕ, zero, suc, _-_, _<_}
 use native.Mathlib.Decide.{decLt}
 use native.Mathlib.Omega.{arith}
@@ -21,10 +22,11 @@ use Rattle.definition.specs.Constraints.{undecided, u64, default-num-var
 use Rattle.definition.specs.Write.{Bytes, u32}
 use Rattle.definition.specs.Reader.{Read, got, not-read}
 use Rattle.definition.specs.Trees.{Tree, unit-tree, anything-tree, error-tree, ref-tree, param-tree, apply-tree, var-tree, Trees, no-trees, _then_}
-use Rattle.definition.specs.Record.{Record, SD, FV, NV, SN, JN, SU, UF, RD, IN, TS, NC, BC, SC, SV, read-record}
+use Rattle.definition.specs.Record.{Record, SD, FV, NV, SN, JN, SU, UF, RD, IN, TS, NC, BC, SC, SV, RM, read-record}
+use Rattle.definition.specs.Needs.{Needs, needs}
 use Rattle.definition.specs.Build.{build, build-all}
 use Rattle.definition.specs.Sound.{sound}
-use Rattle.definition.specs.Step.{constrain, two-types, run, Answer, refusal, put-back, max-payload, max-buffer, answer-with, answer, usable, lent, step, streamed, step-stream}
+use Rattle.definition.specs.Step.{constrain, two-types, tell, run, Answer, refusal, put-back, max-payload, max-buffer, answer-with, answer, usable, lent, step, streamed, step-stream}
 use Rattle.definition.specs.Demand.{after}
 use Rattle.definition.proofs.Spelling.{imm, param, u8, var, text, FV as FV′, JN as JN′, RD as RD′}
 use Rattle.definition.proofs.AnswersJoin.{after as records-after}
@@ -168,6 +170,11 @@ module _ (s : State) (i : Single s) where
   placed : (t : Tree) (s′ : State) → RunOr ⊥ s true Single (build t s′)
   placed t s′ = place-run ⊥ s true t unasked s′ unasked
 
+  tell-leaves : (n : Option Needs) → Leaves (tell s n)
+  unfolding tell
+  tell-leaves none = e-refused eleven
+  tell-leaves (some n) = e-ok i
+
   run-leaves : (r : Record) → No-doubled-record r → Leaves (run s r)
   unfolding run join subtype subst-tparams instantiate solve-constraints doubled-record
   run-leaves (SD a ps) d = bind _ (declare-leaves s i a ps) (λ x j. e-ok j)
@@ -184,6 +191,7 @@ module _ (s : State) (i : Single s) where
   run-leaves (NC loc kind t) d = constrain-leaves s i t d _
   run-leaves (BC loc t) d = constrain-leaves s i t d _
   run-leaves (SC loc t) d = constrain-leaves s i t d _
+  run-leaves (RM t) d = tell-leaves (needs t)
   run-leaves SV d = bind _ (defaults-goes _ s i) (λ x j. e-ok (left-list j _ .single))
 
   -- ---- the answer

@@ -2,6 +2,7 @@
 use mathlib.Core.Path.{_≡_, refl}
 use mathlib.Core.Bool.{Bool, true, false}
 use mathlib.Core.List.{List, [], _∷_}
+use mathlib.Core.Option.{Option, none, some}
 use Prim.Native.Nat.{ℕ}
 use lib.ListN.{length}
 use lib.Dec.{leb}
@@ -10,23 +11,30 @@ use Rattle.definition.specs.TParams.{subst-tparams}
 use Rattle.definition.specs.Write.{Bytes}
 use Rattle.definition.specs.Reader.{got}
 use Rattle.definition.specs.Trees.{Tree}
-use Rattle.definition.specs.Record.{Record, UF, RD, TS, read-record}
-use Rattle.definition.specs.Step.{run, refusal, max-payload, answer-with, answer, lent, step, max-buffer}
+use Rattle.definition.specs.Record.{Record, UF, RD, TS, RM, read-record}
+use Rattle.definition.specs.Step.{tell, run, refusal, max-payload, answer-with, answer, lent, step, max-buffer}
+use Rattle.definition.specs.Needs.{Needs, needs}
 use Rattle.definition.specs.Sound.{sound}
-use Rattle.definition.proofs.Walk.{Ends, e-ok, e-err, e-refused, bind, place-run, pairs-run, ready-tvars-run, make-run, subst-run}
+use Rattle.definition.proofs.Walk.{eleven, Ends, e-ok, e-err, e-refused, bind, place-run, pairs-run, ready-tvars-run, make-run, subst-run}
 use Rattle.definition.proofs.SoundKept.{usable-sound}
 
--- ---- UF, RD and TS
+-- ---- UF, RD, TS and RM
 
 -- the record whose run only looks at a state
 pub data Looks : Record → Type 0 where
   unfolds : {t : Tree} → Looks (UF t)
   readies : {t : Tree} → Looks (RD t)
   substitutes : {ps : List (ℕ × Tree)} {t : Tree} → Looks (TS ps t)
+  tells : {t : Tree} → Looks (RM t)
 
 -- no error is met, and a success leaves the state s
 abbrev Back : State → Result (State × Bytes) → Type 0
 Back s m = Ends true (λ x. ⊥) (λ a. a .0 ≡ s) m
+
+tell-back : (s : State) (n : Option Needs) → Back s (tell s n)
+unfolding tell
+tell-back s none = e-refused eleven
+tell-back s (some n) = e-ok refl
 
 goes-back : (s : State) (x : Record) → Looks x → Back s (run s x)
 unfolding run subst-tparams
@@ -36,6 +44,7 @@ goes-back s (RD t) readies =
 goes-back s (TS ps t) substitutes =
     bind _ (pairs-run ⊥ s true ps (λ h. absurd h) s (λ h. absurd h)) (λ x i. bind _ (place-run ⊥ s true t (λ h. absurd h) (x .0) i)
     (λ r j. bind _ (make-run ⊥ s true (x .1)) (λ subst p. bind _ (subst-run ⊥ s true refl _ subst (r .0) j (r .1)) (λ y k. e-ok refl))))
+goes-back s (RM t) tells = tell-back s (needs t)
 
 with-back : (s after : State) (payload : Bytes) → after ≡ s → answer-with s 0 payload after .state ≡ s
 unfolding answer-with refusal
@@ -51,7 +60,7 @@ back-leaves s (ok (after, payload)) (e-ok e) = with-back s after payload e
 back-leaves s (err after x) (e-err e) = absurd e
 back-leaves s (refused x) (e-refused r) = refl
 
--- UF, RD and TS leave the state as at entry, whatever they answer
+-- UF, RD, TS and RM leave the state as at entry, whatever they answer
 pub looking-leaves : (s : State) (x : Record) → Looks x → answer s (run s x) .state ≡ s
 looking-leaves s x l = back-leaves s (run s x) (goes-back s x l)
 

@@ -14,7 +14,7 @@ use Rattle.definition.specs.Store.{taken}
 use Rattle.definition.specs.Write.{Bytes}
 use Rattle.definition.specs.Reader.{Read, got, not-read, Reader, give, refuse, go-on, _>>=_, read-one, read-two, read-three, byte, read-u16, read-u32, byte-if, byte-to, read-bool, name-below, times}
 use Rattle.definition.specs.Trees.{Tree, unit-tree, anything-tree, error-tree, ref-tree, param-tree, apply-tree, var-tree, no-trees, _then_, read-trees, read-mark, mark-fits, arity, is-name, is-set, under-ref, read-apply, by-tag, read-nested, read-type}
-use Rattle.definition.specs.Record.{Record, SD, FV, NV, SN, JN, SU, UF, RD, IN, TS, NC, BC, SC, SV, read-kind, read-SD, max-record, hand-back, read-record}
+use Rattle.definition.specs.Record.{Record, SD, FV, NV, SN, JN, SU, UF, RD, IN, TS, NC, BC, SC, SV, RM, read-kind, read-SD, max-record, hand-back, read-record}
 use Rattle.definition.proofs.Order.{All}
 use Rattle.definition.proofs.Soundness.{lt-test}
 use Rattle.definition.proofs.Doubled.{is-ref, doubled, doubled-in, doubled-pairs, doubled-record, No-doubled, No-doubled-record, read-01, read-record-01}
@@ -253,7 +253,7 @@ module _ (s : State) {m m′ : Reader Tree} (p : Beside false doubled m m′) wh
   unfolding by-mark-with doubled-record
   b-marks =
       mark-row b-SD (mark-row (b-loc FV (λ l. refl)) (mark-row (b-loc NV (λ l. refl)) (mark-row b-SN (mark-row (b-two JN (λ t u. refl)) (mark-row (b-two SU (λ t u. refl)) (mark-row (b-one UF (λ t. refl)) (mark-row (b-one RD (λ t. refl))
-      (mark-row b-TS (mark-row (b-one IN (λ t. refl)) (mark-row b-NC (mark-row (b-loc-type BC (λ l t. refl)) (mark-row (b-loc-type SC (λ l t. refl)) (mark-row (b-give SV false refl) no-marks)))))))))))))
+      (mark-row b-TS (mark-row (b-one IN (λ t. refl)) (mark-row b-NC (mark-row (b-loc-type BC (λ l t. refl)) (mark-row (b-loc-type SC (λ l t. refl)) (mark-row (b-give SV false refl) (mark-row (b-one RM (λ t. refl)) no-marks))))))))))))))
 
   b-fields : Whole (fields-with m s) (fields-with m′ s)
   unfolding fields-with

@@ -18,10 +18,11 @@ use Rattle.definition.specs.TParams.{TParamSubst, arg-of, make-tparam-su
 use Rattle.definition.specs.Instantiate.{make-tvar, tvar-constraint, builtin-tparams, struct-tparams, tparam-constraints, make-tparams, join-args, instantiate-type-args, instantiate-apply, instantiate-value, instantiate-down, instantiate}
 use Rattle.definition.specs.Constraints.{num-vars, undecided, u64, default-num-var, default-num-vars, solve-constraints}
 use Rattle.definition.specs.Trees.{Tree, unit-tree, anything-tree, error-tree, ref-tree, param-tree, apply-tree, var-tree, Trees, no-trees, _then_, has-drop, mark-fits, is-set, is-mark, is-name}
-use Rattle.definition.specs.Record.{NumericKind, Numeric, Bits, Ordered, Record, SD, FV, NV, SN, JN, SU, UF, RD, IN, TS, NC, BC, SC, SV}
+use Rattle.definition.specs.Record.{NumericKind, Numeric, Bits, Ordered, Record, SD, FV, NV, SN, JN, SU, UF, RD, IN, TS, NC, BC, SC, SV, RM}
 use Rattle.definition.specs.Build.{build, build-all, build-pairs}
+use Rattle.definition.specs.Needs.{Needs, needs}
 use Rattle.definition.specs.Sound.{numeric-allowed}
-use Rattle.definition.specs.Step.{numeric-constraint, constrain, two-types, run}
+use Rattle.definition.specs.Step.{numeric-constraint, constrain, two-types, tell, run}
 use Rattle.definition.proofs.Order.{All}
 use Rattle.definition.proofs.Soundness.{le-test}
 use Rattle.definition.proofs.Room.{with-room, sp-room, tvar-room, constraint-room, struct-room}
@@ -362,6 +363,11 @@ module _ (H : Type 0) (b : State) (z : Bool) where
   declare-run : (s : State) → In s → (a : ℕ) (ps : List ℕ) → (H → StructIn (record { abilities = a; params = ps })) → Run (declare s a ps)
   declare-run s i a ps f = with-room Run (struct-room s a ps) (λ e. e-ok (λ h. declare-ranges (i h) _ (f h) e)) (e-refused seven)
 
+  tell-run : (s : State) → In s → (n : Option Needs) → Run (tell s n)
+  unfolding tell
+  tell-run s i none = e-refused eleven
+  tell-run s i (some n) = e-ok i
+
   pub run-walk : z ≡ true → (s : State) → In s → (r : Record) → (H → RecordIn b r) → Run (run s r)
   unfolding run join subtype subst-tparams instantiate solve-constraints
   run-walk y s i (SD a ps) f = bind _ (declare-run s i a ps f) (λ x j. e-ok j)
@@ -378,4 +384,5 @@ module _ (H : Type 0) (b : State) (z : Bool) where
   run-walk y s i (NC loc kind t) f = constrain-run s i t (λ h. f h .1) _ (λ ty h. numeric-in kind loc ty (f h .0))
   run-walk y s i (BC loc t) f = constrain-run s i t (λ h. f h .1) _ (λ ty h. f h .0)
   run-walk y s i (SC loc t) f = constrain-run s i t (λ h. f h .1) _ (λ ty h. f h .0)
+  run-walk y s i (RM t) f = tell-run s i (needs t)
   run-walk y s i SV f = bind _ (defaults-run _ (λ h. num-vars-in 0 (s .vars) (i h .cells-in)) s i) (λ x j. e-ok (λ h. staying-ranges (j h)))

@@ -5,7 +5,7 @@ use Rattle.definition.specs.Store.{count, taken}
 use Rattle.definition.specs.Trees.{arity}
 use Rattle.definition.specs.Write.{Bytes}
 use Rattle.definition.specs.Reader.{Read, got, not-read}
-use Rattle.definition.specs.Record.{Record, SD, FV, NV, SN, JN, SU, UF, RD, IN, TS, NC, BC, SC, SV, read-record}
+use Rattle.definition.specs.Record.{Record, SD, FV, NV, SN, JN, SU, UF, RD, IN, TS, NC, BC, SC, SV, RM, read-record}
 use Rattle.definition.specs.Step.{Answer, step}
 
 -- ---- bytes and what they are
@@ -101,6 +101,7 @@ mark-fields =
     (66, 67, loc-field ++ (type ∷ [])) ∷
     (83, 67, loc-field ++ (type ∷ [])) ∷
     (83, 86, []) ∷
+    (82, 77, type ∷ []) ∷
     []
 
 unfoldable pub after-mark : List (ℕ × ℕ × List Part) → ℕ → ℕ → List Part
@@ -115,7 +116,7 @@ blank-record s (a ∷ []) = a ∷ []
 blank-record s (a ∷ b ∷ bytes) = a ∷ b ∷ blank s bytes (after-mark mark-fields a b)
 
 -- ---- payloads
--- what 0 shows: SD a number, SV its failures, the others types or nothing
+-- what 0 shows: SD a number, RM four, SV its failures, the others types or nothing
 unfoldable pub success-fields : Record → List Part
 success-fields (SD abilities params) = []
 success-fields (FV loc) = types ∷ []
@@ -131,6 +132,7 @@ success-fields (NC loc kind t) = types ∷ []
 success-fields (BC loc t) = types ∷ []
 success-fields (SC loc t) = types ∷ []
 success-fields SV = failures ∷ []
+success-fields (RM t) = []
 
 -- .. 1 to 3 two types, and 4 a location. 5 and above show nothing
 unfoldable pub shown-fields : Record → ℕ → List Part
