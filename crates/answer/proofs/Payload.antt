@@ -59,6 +59,25 @@ two-room buf a b buf₁ m h v =
 pub first-room : (a b : Bytes) (n : ℕ) → length (a ++ b) ≤ n → length a ≤ n
 first-room a b n h = let k = length-append a b in omega arith
 
+pub length-location : (loc : ℕ) → length (u32 loc) ≡ 4
+unfolding u32
+length-location loc = refl
+
+-- after a number
+pub next-room : (buf bytes buf₁ : List ℕ) (at next x : ℕ) → Wrote buf at bytes buf₁ next → bytes ≡ u32 x → at + 4 ≤ length buf → (next ≡ at + 4) × (length buf₁ ≡ length buf)
+next-room buf bytes buf₁ at next x v e h =
+    let k : length bytes ≡ 4 = ap length e ∙ length-location x in
+    let n = v .next-is in
+    (omega arith, ap length (v .is) ∙ length-put buf at bytes (omega arith))
+
+-- four numbers, one after the other
+module _ (buf : List ℕ) (fits : 4096 ≤ length buf) (a b c e : ℕ) where
+  pub wrote-four : (buf₁ buf₂ buf₃ buf₄ : List ℕ) (k l m n : ℕ) → Wrote buf 0 (u32 a) buf₁ k → Wrote buf₁ k (u32 b) buf₂ l → Wrote buf₂ l (u32 c) buf₃ m → Wrote buf₃ m (u32 e) buf₄ n
+      → Wrote buf 0 (u32 a ++ u32 b ++ u32 c ++ u32 e) buf₄ n
+  unfolding u32
+  wrote-four buf₁ buf₂ buf₃ buf₄ k l m n p q r t =
+      wrote-two buf (u32 a ++ u32 b ++ u32 c) (u32 e) _ _ _ _ (omega arith) (wrote-two buf (u32 a ++ u32 b) (u32 c) _ _ _ _ (omega arith) (wrote-two buf (u32 a) (u32 b) _ _ _ _ (omega arith) p q) r) t
+
 -- ---- lengths
 
 pub within : (p : Bytes) (size : ℕ) → size ≡ capped 4096 (length p) → size ≤ 4096 → length p ≤ 4096
@@ -88,10 +107,6 @@ at-most room n m e h = either (leb n room) refl
     either : (b : Bool) → leb n room ≡ b → m ≤ 4097
     either true t = let k : m ≡ n = e ∙ capped-is room n (leb-true n room t) in let l = leb-true n room t in omega arith
     either false t = let k : m ≡ room + 1 = e ∙ capped-over room n (leb-false n room t) in omega arith
-
-pub length-location : (loc : ℕ) → length (u32 loc) ≡ 4
-unfolding u32
-length-location loc = refl
 
 pub length-variable : (loc v : ℕ) → length (head loc (d.Var v)) ≡ 7
 unfolding head u32 u16

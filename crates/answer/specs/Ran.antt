@@ -6,7 +6,7 @@ use Prim.Native.Nat.{ℕ, _≤_, _<_}
 use lib.ListN.{take, drop}
 use Rattle.definition.specs.Types as d
 use Rattle.definition.specs.Types.{State, Struct, Result, ok, err, _>>=_, if_then_else_, TypingError, Refusal}
-use Rattle.definition.specs.Write.{Bytes, u16, head, write}
+use Rattle.definition.specs.Write.{Bytes, u16, u32, head, write}
 use Rattle.definition.specs.Step as step
 use Rattle.definition.specs.Step.{answer, refusal}
 use Rattle.table.specs.State.{outcome, seen, Lay, Declares}
@@ -15,7 +15,7 @@ use Rattle.table.specs.declared.Out.{Out}
 use Rattle.table.specs.declared.Out.the-variants.{Done, Subtype, Incompatible, Arity, Recursive, Full, Deep, Itself, Disagree, Open, NoArgument, Twice}
 use Rattle.snap.specs.Snap.{Since}
 use Rattle.answer.specs.declared.Show.{Show}
-use Rattle.answer.specs.declared.Show.the-variants.{Nothing, Number, Variable, Node, Anything}
+use Rattle.answer.specs.declared.Show.the-variants.{Nothing, Number, Variable, Node, Anything, Four}
 use Rattle.answer.specs.declared.Ran.{Ran}
 use Rattle.answer.specs.declared.Answer.{Answer}
 
@@ -28,6 +28,7 @@ shown Number n s = u16 n
 shown (Variable loc) v s = head loc (d.Var v)
 shown Node t s = write s t
 shown (Anything loc) t s = head loc d.Anything
+shown (Four a b c e) t s = u32 a ++ u32 b ++ u32 c ++ u32 e
 
 -- the result of a run that left the state `after`: on success it is kept, or the state goes back to `before`
 unfoldable pub ran : Ran → State → State → Result (State × Bytes)
@@ -42,6 +43,7 @@ Shows u Number n = Unit {0}
 Shows u (Variable loc) v = v < u .vars
 Shows u Node t = t < u .nodes
 Shows u (Anything loc) t = Unit {0}
+Shows u (Four a b c e) t = Unit {0}
 
 abbrev pub Tells : Used → Show → Out → Type 0
 Tells u show (Done t) = Shows u show t

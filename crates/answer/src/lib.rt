@@ -25,13 +25,14 @@ use writer::u32_of;
 use writer::write_head;
 use writer::write_type;
 
-// What the payload of a success shows of its number: nothing, the number, the variable at a location, the type of the node, or `_` at a location.
+// What the payload of a success shows of its number: nothing, the number, the variable at a location, the type of the node, `_` at a location, or four other numbers.
 pub enum Show {
     Nothing,
     Number,
     Variable(u32),
     Node,
     Anything(u32),
+    Four(u32, u32, u32, u32),
 }
 
 // What a run left: on success its state is kept, or goes back to that at entry.
@@ -65,6 +66,7 @@ fn shown_size(w: &[u32], u: Used, show: Show, t: u32) -> u32
         Show::Variable(_) => 7,
         Show::Node => size_type(w, u, t, MAX_PAYLOAD),
         Show::Anything(_) => 5,
+        Show::Four(_, _, _, _) => 16,
     }
 }
 
@@ -80,6 +82,16 @@ fn two_size(w: &[u32], u: Used, a: u32, b: u32) -> u32
     n + m
 }
 
+fn write_four(a: u32, b: u32, c: u32, e: u32, buf: &mut [u8]) -> usize
+    requires { ⌜ 4096 ≤ length (now buf) ⌝ }
+    ensures { λ r. ⌜ Wrote (now (buf .entry)) 0 (bytes-u32 a ++ bytes-u32 b ++ bytes-u32 c ++ bytes-u32 e) (now (buf .exit)) r ⌝ }
+{
+    let second = put_few(buf, 0, u32_of(a));
+    let third = put_few(buf, second, u32_of(b));
+    let fourth = put_few(buf, third, u32_of(c));
+    put_few(buf, fourth, u32_of(e))
+}
+
 fn write_shown(w: &[u32], u: Used, show: Show, t: u32, buf: &mut [u8]) -> usize
     requires { ⌜ Lay (now w) u × (Shows u show t × (All-bytes (view (now w) u) × (4096 ≤ length (now buf)))) ⌝ }
     requires { ⌜ ((ds : List d.Struct) → length (shown show t (seen (now w) u ds)) ≤ 4096) ⌝ }
@@ -91,6 +103,7 @@ fn write_shown(w: &[u32], u: Used, show: Show, t: u32, buf: &mut [u8]) -> usize
         Show::Variable(loc) => write_head(loc, Shape::Var(tvar(t)), buf, 0),
         Show::Node => write_type(w, u, t, buf, 0),
         Show::Anything(loc) => write_head(loc, Shape::Anything, buf, 0),
+        Show::Four(a, b, c, e) => write_four(a, b, c, e, buf),
     }
 }
 

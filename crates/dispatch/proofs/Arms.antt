@@ -15,13 +15,13 @@ use Rattle.table.specs.State.{outcome, pushed-constraint}
 use Rattle.table.specs.declared.Used.{Used}
 use Rattle.answer.specs.declared.Ran.{Ran}
 use Rattle.instantiate.specs.Known.{Known}
-use Rattle.fields.specs.Noded.{Noded, noded, kind}
+use Rattle.fields.specs.Noded.{Noded, noded, kind, told}
 use Rattle.fields.specs.Noded as record-of
 use Rattle.marks.specs.declared.RecordMark.the-variants as m
 use Rattle.fields.specs.declared.Fields.{Fields}
 use Rattle.names.specs.declared.TParamID.{TParamID}
 use Rattle.tparams.specs.Pairs.{id-at, pairs}
-use Rattle.run.specs.Runs.{join-in, two-run, unfold-run, ready-run, subst-in, tparams-run, instantiate-run, tvar-run, num-tvar-in, num-tvar-run, set-num-in, set-num-run, kind-at, constraint-run, Any, Runs}
+use Rattle.run.specs.Runs.{join-in, two-run, unfold-run, ready-run, subst-in, tparams-run, instantiate-run, tvar-run, num-tvar-in, num-tvar-run, set-num-in, set-num-run, kind-at, constraint-run, needs-run, Any, Runs}
 use Rattle.dispatch.specs.Dispatch.{noded-run, noded-step, noded-kept}
 
 -- n was run
@@ -83,6 +83,10 @@ module _ {w : List ℕ} {u : Used} {w′ : List ℕ} {r : Ran} where
     pub arm-TS : f .mark ≡ m.TS → Runs Any w u w′ r false (subst-in (pairs (f .ids) (f .nodes) 0 (f .b)) t) (tparams-run (pairs (f .ids) (f .nodes) 0 (f .b)) t) → Ran-as w u params w′ r (noded (f .mark) f t)
     unfolding noded-kept noded-step noded-run
     arm-TS e c = rw e (narrow (rw (pairs-same (f .ids) (f .nodes) 0 (f .b)) at c))
+
+    pub arm-RM : f .mark ≡ m.RM → Runs Any w u w′ r true (λ s. outcome (r .out) s) (needs-run (told (f .a) (f .nodes))) → Ran-as w u params w′ r (noded (f .mark) f t)
+    unfolding noded-kept noded-step noded-run
+    arm-RM e c = rw e (narrow c)
 
     pub arm-IN : f .mark ≡ m.IN → Runs (Known w u params) w u w′ r true (λ s. instantiate s t) (instantiate-run t) → Ran-as w u params w′ r (noded (f .mark) f t)
     unfolding noded-kept noded-step noded-run

@@ -17,7 +17,7 @@ use Rattle.writer.specs.Bytes.{All-bytes}
 use Rattle.answer.specs.Ran.{Settles}
 use Rattle.answer.specs.declared.Ran.{Ran}
 use Rattle.instantiate.specs.Known.{Known}
-use Rattle.fields.specs.Noded.{Noded, SD, FV, NV, SN, JN, SU, UF, RD, IN, TS, NC, BC, SC, SV, place-record}
+use Rattle.fields.specs.Noded.{Noded, SD, FV, NV, SN, JN, SU, UF, RD, IN, TS, NC, BC, SC, SV, RM, place-record}
 use Rattle.run.proofs.Bytes.{Leaves, step-bytes, record-bytes, ready-leaves, subst-leaves, unfold-leaves}
 use Rattle.dispatch.specs.Dispatch.{noded-run, noded-step, noded-kept}
 use Rattle.dispatch.proofs.Arms.{Ran-as}
@@ -56,6 +56,7 @@ module _ (b : State) where
     place-leaves (d.BC loc t) g = alone t (BC loc) (g .1)
     place-leaves (d.SC loc t) g = alone t (SC loc) (g .1)
     place-leaves d.SV g = e-ok (λ y. i)
+    place-leaves (d.RM t) g = e-ok (λ y. i)
 
     placed-in : (x : Record) → RecordIn b x → (s : State) (n : Noded) → place-record x b ≡ ok (s, n) → Ranges b s
     placed-in x g s n e = go (subst (λ (m : Result (State × Noded)). Leaves b m) e (place-leaves x g))
@@ -87,3 +88,4 @@ module _ {w : List ℕ} {u : Used} {w′ : List ℕ} {r : Ran} {params : List (L
   noded-bytes (BC loc t) c p h = kept _ refl c p h
   noded-bytes (SC loc t) c p h = kept _ refl c p h
   noded-bytes SV c p h = kept _ refl c p h
+  noded-bytes (RM n) c p h = kept _ refl c p h

@@ -34,6 +34,7 @@ noded-in-more m.NC known n f t h known′ n′ a b = (h .0, omega (arith, h .1))
 noded-in-more m.BC known n f t h known′ n′ a b = omega arith
 noded-in-more m.SC known n f t h known′ n′ a b = omega arith
 noded-in-more m.SV known n f t h known′ n′ a b = tt
+noded-in-more m.RM known n f t h known′ n′ a b = tt
 noded-in-more m.Other known n f t h known′ n′ a b = tt
 
 -- ---- the declarations

@@ -8,8 +8,8 @@ use Rattle.definition.specs.Build.{build, build-pairs}
 use Rattle.definition.specs.Record as d
 use Rattle.definition.specs.Record.{Record}
 use Rattle.definition.specs.Step.{constrain, two-types, run}
-use Rattle.fields.specs.Noded.{Noded, SD, FV, NV, SN, JN, SU, UF, RD, IN, TS, NC, BC, SC, SV, place-record}
-use Rattle.run.specs.Runs.{join-in, two-run, unfold-run, ready-run, tparams-run, instantiate-run, tvar-run, num-tvar-run, set-num-run, constraint-run, declare-run}
+use Rattle.fields.specs.Noded.{Noded, SD, FV, NV, SN, JN, SU, UF, RD, IN, TS, NC, BC, SC, SV, RM, place-record}
+use Rattle.run.specs.Runs.{join-in, two-run, unfold-run, ready-run, tparams-run, instantiate-run, tvar-run, num-tvar-run, set-num-run, constraint-run, needs-run, declare-run}
 use Rattle.dispatch.specs.Dispatch.{noded-run}
 
 abbrev placed-as : {A : Type 0} → (A → Noded) → State × A → Result (State × Noded)
@@ -31,7 +31,7 @@ module _ (g : Noded → State → Result (State × Bytes)) where
   two (refused x) t make = refl
 
 pub run-placed : (s : State) (x : Record) → run s x ≡ (place-record x s >>= (λ (s′, n). noded-run n s′ s))
-unfolding run constrain two-types place-record noded-run join-in two-run unfold-run ready-run tparams-run instantiate-run tvar-run num-tvar-run set-num-run constraint-run declare-run _>>=_
+unfolding run constrain two-types place-record noded-run join-in two-run unfold-run ready-run tparams-run instantiate-run tvar-run num-tvar-run set-num-run constraint-run needs-run declare-run _>>=_
 run-placed s (d.SD abilities params) = refl
 run-placed s (d.FV loc) = refl
 run-placed s (d.NV loc) = refl
@@ -46,3 +46,4 @@ run-placed s (d.NC loc kind t) = one (λ n s′. noded-run n s′ s) (build t s)
 run-placed s (d.BC loc t) = one (λ n s′. noded-run n s′ s) (build t s) (BC loc)
 run-placed s (d.SC loc t) = one (λ n s′. noded-run n s′ s) (build t s) (SC loc)
 run-placed s d.SV = refl
+run-placed s (d.RM t) = refl

@@ -10,11 +10,11 @@ use Rattle.definition.specs.Instantiate.{instantiate}
 use Rattle.definition.specs.Constraints.{solve-constraints}
 use Rattle.definition.specs.Step.{numeric-constraint}
 use Rattle.table.specs.State.{outcome, pushed-constraint}
-use Rattle.fields.specs.Noded.{Noded, SD, FV, NV, SN, JN, SU, UF, RD, IN, TS, NC, BC, SC, SV}
+use Rattle.fields.specs.Noded.{Noded, SD, FV, NV, SN, JN, SU, UF, RD, IN, TS, NC, BC, SC, SV, RM}
 use Rattle.marks.specs.declared.RecordMark.{RecordMark}
 use Rattle.marks.specs.declared.RecordMark.the-variants as m
 use Rattle.answer.specs.declared.Ran.{Ran}
-use Rattle.run.specs.Runs.{join-in, two-run, unfold-run, ready-run, subst-in, tparams-run, instantiate-run, tvar-run, num-tvar-in, num-tvar-run, set-num-in, set-num-run, constraint-run, declare-run}
+use Rattle.run.specs.Runs.{join-in, two-run, unfold-run, ready-run, subst-in, tparams-run, instantiate-run, tvar-run, num-tvar-in, num-tvar-run, set-num-in, set-num-run, constraint-run, needs-run, declare-run}
 
 -- s has the types placed, `before` is the state at entry
 unfoldable pub noded-run : Noded → State → State → Result (State × Bytes)
@@ -32,6 +32,7 @@ noded-run (NC loc kind t) s before = constraint-run (numeric-constraint kind loc
 noded-run (BC loc t) s before = constraint-run (BaseTypeConstraint loc t) s before
 noded-run (SC loc t) s before = constraint-run (SingleTypeConstraint loc t) s before
 noded-run SV s before = solve-constraints s
+noded-run (RM n) s before = needs-run n s before
 
 -- the number and the state that the run comes by, before the payload; SD and SV run elsewhere
 unfoldable pub noded-step : Ran → Noded → State → Result (State × ℕ)
@@ -49,6 +50,7 @@ noded-step r (NC loc kind t) s = pushed-constraint (numeric-constraint kind loc 
 noded-step r (BC loc t) s = pushed-constraint (BaseTypeConstraint loc t) s
 noded-step r (SC loc t) s = pushed-constraint (SingleTypeConstraint loc t) s
 noded-step r SV s = outcome (r .out) s
+noded-step r (RM n) s = outcome (r .out) s
 
 -- UF, RD and TS leave the state as at entry
 unfoldable pub noded-kept : Noded → Bool
@@ -66,6 +68,7 @@ noded-kept (NC loc kind t) = true
 noded-kept (BC loc t) = true
 noded-kept (SC loc t) = true
 noded-kept SV = true
+noded-kept (RM n) = true
 
 -- the marks whose run comes to a number that the answer shows
 abbrev pub Shown-run : RecordMark → Type 0
@@ -83,4 +86,5 @@ Shown-run m.NC = Unit {0}
 Shown-run m.BC = Unit {0}
 Shown-run m.SC = Unit {0}
 Shown-run m.SV = ⊥
+Shown-run m.RM = Unit {0}
 Shown-run m.Other = ⊥

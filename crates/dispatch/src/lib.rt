@@ -52,6 +52,10 @@ pub fn run_fields(w: &mut [u32], u: Used, params: &[[u8; 8]; 256], f: Fields, t:
         RecordMark::BC => run::run_base_type(w, u, a, t),
         RecordMark::SC => run::run_single_type(w, u, a, t),
         RecordMark::SV => nothing(u),
+        RecordMark::RM => {
+            let nodes = f.nodes;
+            run::run_needs(w, u, 0 < a, nodes[0], nodes[1], nodes[2], nodes[3])
+        }
         RecordMark::Other => nothing(u),
     }
 }

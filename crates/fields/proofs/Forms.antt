@@ -1,10 +1,12 @@
 -- The forms of a record's fields in the words: one type after numbers, two types, none. Assumes nothing.
 use mathlib.Core.Path.{_≡_, refl, sym, ap, _∙_}
 use mathlib.Core.Bool.{Bool, true, false}
-use mathlib.Core.List.{List, []}
-use Prim.Native.Nat.{ℕ, _+_, _≤_, _<_}
+use mathlib.Core.List.{List, [], _∷_}
+use Prim.Native.Nat.{ℕ, zero, suc, _+_, _-_, _≤_, _<_}
+use native.Mathlib.Nat.{zero-add, suc-add}
 use native.Mathlib.Omega.{arith}
-use lib.ListN.{length, replicate, length-append, length-replicate}
+use lib.ListN.{length, take, drop, replicate, length-append, length-replicate}
+use lib.Seq.{take-take, drop-drop}
 use Rattle.definition.specs.Types.{State, Struct, unbound, malformed, unknown-name, Result, ok, _>>=_}
 use Rattle.definition.specs.Store.{taken}
 use Rattle.definition.specs.Write.{Bytes}
@@ -12,6 +14,7 @@ use Rattle.definition.specs.Reader as rd
 use Rattle.definition.specs.Reader.{Read, Reader, give, go-on, read-u32, read-one, read-two, read-three, name-below}
 use Rattle.definition.specs.Trees.{Tree, read-nested, read-type}
 use Rattle.definition.specs.Build.{build}
+use Rattle.definition.specs.Needs.{takes}
 use Rattle.definition.specs.Record as d
 use Rattle.definition.specs.Record.{Record, read-SD, read-pair, read-TS, read-kind}
 use Rattle.names.specs.declared.TVar.{TVar}
@@ -28,6 +31,9 @@ use Rattle.reader.specs.Taken.{Placed, placed, place-read, part-of, Part-in, Ta
 use Rattle.reader.proofs.Heads.{declares-self}
 use Rattle.reader.proofs.Parts.{at-open}
 use Rattle.reader.proofs.Loop.{declares-kept}
+use Rattle.needs.specs.Counted.{unless, needs-of, as-argument, Tells, Counts}
+use Rattle.needs.specs.declared.Sums.{Sums}
+use Rattle.needs.specs.declared.Counted.{Counted}
 use Rattle.marks.specs.declared.RecordMark.{RecordMark}
 use Rattle.marks.specs.declared.RecordMark.the-variants as m
 use Rattle.fields.specs.declared.Fields.{Fields}
@@ -126,6 +132,64 @@ one-is w u b end known at w′ r mark a c make t o =
           part-same (r .part) _ (o .nodes) (seen w′ (r .used) ds) (rest b end (r .next)) (λ x. o .shows _ _ _ x)
           ∙ last-type place-record make (o .nodes) (o .places) (r .part) false _ (seen w u ds) _ _ (t .is ds s d k);
     }
+
+-- ---- one type, counted
+
+no-bytes : (n : ℕ) → _≡_ {A = Bytes} (take n []) []
+no-bytes zero = refl
+no-bytes (suc n) = refl
+
+front : (n m : ℕ) (l : Bytes) → take m (drop n l) ≡ drop n (take (n + m) l)
+front zero m l = ap (λ (k : ℕ). take k l) (sym (zero-add m))
+front (suc n) m [] = no-bytes m ∙ ap (λ (k : ℕ). drop (suc n) (take {A = ℕ} k [])) (sym (suc-add n m))
+front (suc n) m (x ∷ l) = front n m l ∙ ap (λ (k : ℕ). drop (suc n) (take k (x ∷ l))) (sym (suc-add n m))
+
+-- the bytes from `at` to `end` as a slice of their own
+part-rest : (b part : List ℕ) (end at k : ℕ) → at ≤ end → part ≡ take (end - at) (drop at b) → rest part (end - at) k ≡ rest b end (at + k)
+unfolding rest
+part-rest b part end at k l e =
+    let z : at + (end - at) ≡ end = omega arith in
+    rw (e, take-take (end - at) (end - at) (drop at b) (omega arith), front at (end - at) b, z, drop-drop k at (take end b))
+
+so-met : (c : Sums) → n.told (n.met-number (c .met)) (c .nodes ∷ c .places ∷ c .variables ∷ c .constraints ∷ 0 ∷ 0 ∷ 0 ∷ 0 ∷ []) ≡ needs-of c
+so-met c = go (c .met)
+  where
+    go : (met : Bool) → n.told (n.met-number met) (c .nodes ∷ c .places ∷ c .variables ∷ c .constraints ∷ 0 ∷ 0 ∷ 0 ∷ 0 ∷ []) ≡ unless met (takes (c .nodes) (c .places) (c .variables) (c .constraints))
+    go true = refl
+    go false = refl
+
+part-any : (p : Part) → Part-so p (λ t. Unit {0})
+part-any (At t) = tt
+part-any Full = tt
+part-any Malformed = tt
+part-any Unknown = tt
+part-any Doubled = tt
+
+pub rm-is : (w : List ℕ) (u : Used) (b part : List ℕ) (end known at : ℕ) (r : Counted) → part ≡ take (end - at) (drop at b) → Lay w u → at ≤ end
+    → Counts w u part (end - at) known false (λ s. read-nested 64 s (rest part (end - at) 0)) r
+    → Fields-are w u b end known (λ s. read-one d.RM (read-type s) (rest b end at)) w (n.counted-fields (r .part) u (at + r .next) (r .sums))
+unfolding place-read place-record read-one rd._>>=_ go-on give read-type as-argument
+rm-is w u b part end known at r e l a c =
+    let z = c .within in
+    record {
+      lay = l;
+      grown = grown-refl (view w u);
+      structs = refl;
+      inside = part-any (r .part);
+      within = omega arith;
+      is = λ ds s d k. go (r .part) s (seen w u ds) (c .is ds s d k);
+    }
+  where
+    first : rest part (end - at) 0 ≡ rest b end at
+    first = let z : at + 0 ≡ at = omega arith in part-rest b part end at 0 a e ∙ ap (λ (k : ℕ). rest b end k) z
+
+    go : (p : Part) (s s′ : State) → Tells p (r .sums) false (rest part (end - at) (r .next)) (read-nested 64 s (rest part (end - at) 0))
+        → part-with p (noded m.RM (n.counted-fields p u (at + r .next) (r .sums))) s′ (rest b end (at + r .next)) ≡ place-read false place-record (go-on (read-nested 64 s (rest b end at)) (λ t. give (d.RM t))) s′
+    go (At x) s s′ t = rw (← first, t .reads, part-rest b part end at (r .next) a e, so-met (r .sums), t .counts) refl
+    go Full s s′ t = absurd t
+    go Malformed s s′ t = rw (← first, t) refl
+    go Unknown s s′ t = rw (← first, t) refl
+    go Doubled s s′ t = rw (← first, t) refl
 
 -- ---- two types
 

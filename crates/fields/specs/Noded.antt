@@ -1,16 +1,19 @@
 -- A record whose types are placed: their nodes stand in the trees' stead. What the code's answer is as one. Assumes nothing: these are definitions.
 use mathlib.Core.Path.{_≡_}
-use mathlib.Core.Bool.{false}
+use mathlib.Core.Bool.{Bool, true, false}
 use mathlib.Core.List.{List, [], _∷_}
+use mathlib.Core.Option.{Option, none}
 use Prim.Native.Nat.{ℕ, zero, suc, _≤_, _<_}
 use lib.ListN.{length, getD, take, drop, replicate}
-use Rattle.definition.specs.Types.{State, Struct, malformed, unknown-name, doubled-reference, full, Result, ok, refused, _>>=_}
+use lib.Dec.{ltb}
+use Rattle.definition.specs.Types.{State, Struct, malformed, unknown-name, doubled-reference, full, Result, ok, refused, _>>=_, if_then_else_}
 use Rattle.definition.specs.Write.{Bytes}
 use Rattle.definition.specs.Reader.{Read}
 use Rattle.definition.specs.Record as d
 use Rattle.definition.specs.Record.{NumericKind, Numeric, Bits, Ordered, Record, read-record}
 use Rattle.definition.specs.Trees.{Tree}
 use Rattle.definition.specs.Build.{build, build-pairs}
+use Rattle.definition.specs.Needs.{Needs, takes, needs}
 use Rattle.names.specs.declared.TParamID.{TParamID}
 use Rattle.names.specs.declared.TVar.{TVar}
 use Rattle.table.specs.State.{Lay, Grown, Declares, Parts, view, seen}
@@ -19,6 +22,7 @@ use Rattle.reader.specs.declared.Part.{Part}
 use Rattle.reader.specs.declared.Part.the-variants.{At, Full, Malformed, Unknown, Doubled}
 use Rattle.reader.specs.Fields.{rest, Knows}
 use Rattle.reader.specs.Taken.{Placed, stopped, placed, place-read}
+use Rattle.needs.specs.declared.Sums.{Sums}
 use Rattle.marks.specs.declared.RecordMark.{RecordMark}
 use Rattle.marks.specs.declared.RecordMark.the-variants as m
 use Rattle.fields.specs.declared.Fields.{Fields}
@@ -33,6 +37,7 @@ pub data Noded : Type 0 where
   NC : ℕ → NumericKind → ℕ → Noded
   BC SC : ℕ → ℕ → Noded
   SV : Noded
+  RM : Option Needs → Noded
 
 -- the types of a record, from left to right
 unfoldable pub place-record : Record → State → Result (State × Noded)
@@ -71,6 +76,7 @@ place-record (d.SC loc t) s = do
   (s, ty) ← build t s
   ok (s, SC loc ty)
 place-record d.SV s = ok (s, SV)
+place-record (d.RM t) s = ok (s, RM (needs t))
 
 -- ---- what the code's answer is
 
@@ -84,6 +90,10 @@ pairs ids nodes i (suc n) = (id-at ids i, getD nodes i 0) ∷ pairs ids nodes (s
 
 unfoldable pub kind : ℕ → NumericKind
 kind b = getD (Numeric ∷ Bits ∷ Ordered ∷ []) b Numeric
+
+-- RM's four numbers, unless a says that a variable was met
+abbrev pub told : ℕ → List ℕ → Option Needs
+told a ns = if ltb 0 a then none else takes (getD ns 0 0) (getD ns 1 0) (getD ns 2 0) (getD ns 3 0)
 
 -- with t as the last type's node. No record has the mark Other
 abbrev pub noded : RecordMark → Fields → ℕ → Noded
@@ -101,6 +111,7 @@ noded m.NC r t = NC (r .a) (kind (r .b)) t
 noded m.BC r t = BC (r .a) t
 noded m.SC r t = SC (r .a) t
 noded m.SV r t = SV
+noded m.RM r t = RM (told (r .a) (r .nodes))
 noded m.Other r t = SV
 
 abbrev pub part-with : {A : Type 0} → Part → (ℕ → A) → State → Bytes → Placed A
@@ -137,6 +148,7 @@ Noded-in m.NC known n r t = (r .b ≤ 2) × (t < n)
 Noded-in m.BC known n r t = t < n
 Noded-in m.SC known n r t = t < n
 Noded-in m.SV known n r t = Unit {0}
+Noded-in m.RM known n r t = Unit {0}
 Noded-in m.Other known n r t = Unit {0}
 
 abbrev pub Fields-in : ℕ → Fields → Type 0
@@ -176,6 +188,26 @@ var-fields u next v loc =
 abbrev pub paired-fields : Part → Used → ℕ → ℕ → List TParamID → List ℕ → Fields
 paired-fields part u next many ids nodes =
     record { mark = m.TS; part = part; used = u; next = next; a = 0; b = many; var = record { 0 = 0 }; params = replicate 8 0; ids = ids; nodes = nodes }
+
+-- with RM's sums
+abbrev pub met-number : Bool → ℕ
+met-number true = 1
+met-number false = 0
+
+abbrev pub counted-fields : Part → Used → ℕ → Sums → Fields
+counted-fields part u next c =
+    record {
+      mark = m.RM;
+      part = part;
+      used = u;
+      next = next;
+      a = met-number (c .met);
+      b = 0;
+      var = record { 0 = 0 };
+      params = replicate 8 0;
+      ids = replicate 8 (record { 0 = 0 });
+      nodes = c .nodes ∷ c .places ∷ c .variables ∷ c .constraints ∷ 0 ∷ 0 ∷ 0 ∷ 0 ∷ [];
+    }
 
 -- ---- the forms that several marks share
 

@@ -1,19 +1,21 @@
 // The fields of a record after its mark, read from left to right (5, 6, 18), its types placed as nodes (7).
 ghost use mathlib.Core.Path.{_≡_};
 ghost use mathlib.Core.List.{List};
-ghost use Prim.Native.Nat.{ℕ, _≤_};
+ghost use Prim.Native.Nat.{ℕ, _+_, _≤_};
 ghost use lib.ListN.{length};
 ghost use Rattle.definition.specs.Store.{taken};
 ghost use Rattle.definition.specs.Reader.{give, go-on, byte-to, times, read-one, read-two, read-three, name-below, read-u32};
 ghost use Rattle.definition.specs.Trees.{Tree, read-type};
-ghost use Rattle.definition.specs.Record.{Record, SD, SN, NC, read-SD, read-kind};
+ghost use Rattle.definition.specs.Record.{Record, SD, SN, NC, RM, read-SD, read-kind};
 ghost use Rattle.table.specs.State.{view, Lay};
 ghost use Rattle.reader.specs.Fields.{rest};
 ghost use Rattle.reader.specs.Taken.{Arities};
-ghost use Rattle.fields.specs.Noded.{Fields-are, plain-fields, var-fields, One, Two, Loc};
+ghost use Rattle.fields.specs.Noded.{Fields-are, counted-fields, met-number, plain-fields, var-fields, One, Two, Loc};
 use marks::RecordMark;
 use names::TParamID;
 use names::TVar;
+use needs::Sums;
+use needs::count_type;
 use reader::Name;
 use reader::Number;
 use reader::Part;
@@ -30,7 +32,7 @@ use table::Used;
 
 // A record read and placed: the node of its last type (0 where it has none), or 7, 5, 6 or 18; the rows in use then, and the place after it.
 // a: a location, an ability set (SD). b: the first node (JN, SU), the kind (NC), how many (SD, TS).
-// SN's variable; SD's parameter bytes; TS's ids and their nodes.
+// SN's variable; SD's parameter bytes; TS's ids and their nodes. RM has its four sums in nodes, and 1 in a if a variable was met.
 pub struct Fields {
     pub mark: RecordMark,
     pub part: Part,
@@ -111,6 +113,44 @@ pub fn read_two(
     let p2 = q.part;
     let v2 = q.used;
     plain(mark, p2, v2, q.next, 0, node_of(p))
+}
+
+// ---- one type, counted and not placed
+
+fn met_number(met: bool) -> u32
+    ensures { λ r. ⌜ r ≡ met-number met ⌝ }
+{
+    if met { 1 } else { 0 }
+}
+
+fn counted(part: Part, u: Used, next: usize, c: Sums) -> Fields
+    ensures { λ r. ⌜ r ≡ counted-fields part u next c ⌝ }
+{
+    let none = TParamID(0);
+    let ids = [none; 8];
+    Fields {
+        mark: RecordMark::RM,
+        part: part,
+        used: u,
+        next: next,
+        a: met_number(c.met),
+        b: 0,
+        var: TVar(0),
+        params: [0; 8],
+        ids: ids,
+        nodes: [c.nodes, c.places, c.variables, c.constraints, 0, 0, 0, 0],
+    }
+}
+
+pub fn read_rm(w: &[u32], u: Used, b: &[u8], end: usize, at: usize, known: u32) -> Fields
+    requires { ⌜ Lay (now w) u × Arities (view (now w) u .structs) ⌝ }
+    requires { ⌜ (end ≤ length (now b)) × ((at ≤ end) × ((known ≤ 1024) × (end ≤ at + 4096))) ⌝ }
+    ensures { λ r. ⌜ Fields-are (now (w .entry)) u (now (b .entry)) end known (λ s. read-one RM (read-type s) (rest (now (b .entry)) end at)) (now (w .entry)) r ⌝ }
+{
+    let r = count_type(w, u, &b[at..end], end - at, 0, known, 64, false);
+    let p = r.part;
+    let c = r.sums;
+    counted(p, u, at + r.next, c)
 }
 
 // ---- numbers, and a type or none

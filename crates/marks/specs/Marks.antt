@@ -24,4 +24,5 @@ reader-of m.NC s = read-three d.NC read-u32 read-kind (read-type s)
 reader-of m.BC s = read-two d.BC read-u32 (read-type s)
 reader-of m.SC s = read-two d.SC read-u32 (read-type s)
 reader-of m.SV s = give d.SV
+reader-of m.RM s = read-one d.RM (read-type s)
 reader-of m.Other s = refuse malformed

@@ -23,6 +23,7 @@ pub enum RecordMark {
     BC,
     SC,
     SV,
+    RM,
     Other,
 }
 
@@ -32,7 +33,7 @@ fn same(x: u32, y: u32, a: u32, c: u32) -> bool
     if x == a { y == c } else { false }
 }
 
-// The last seven of the marks.
+// The last eight of the marks.
 fn late_mark(x: u32, y: u32) -> RecordMark
     ensures { λ r. ⌜ ((s : d.State) → reader-of r s ≡ fields-of (drop 7 (by-mark s)) x y) ⌝ }
 {
@@ -56,6 +57,9 @@ fn late_mark(x: u32, y: u32) -> RecordMark
     }
     if same(x, y, 83, 86) {
         return RecordMark::SV;
+    }
+    if same(x, y, 82, 77) {
+        return RecordMark::RM;
     }
     RecordMark::Other
 }

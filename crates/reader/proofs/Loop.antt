@@ -57,10 +57,10 @@ nodes-grow w u w′ u′ g =
     omega arith
 
 -- a state that knows so much, whatever the declarations are
-abbrev knowing : ℕ → List Struct → State
+abbrev pub knowing : ℕ → List Struct → State
 knowing n ds = record { nodes = []; args = []; vars = replicate n unbound; constraints = []; structs = ds }
 
-knows : (n : ℕ) (ds : List Struct) → Knows (knowing n ds) n ds
+pub knows : (n : ℕ) (ds : List Struct) → Knows (knowing n ds) n ds
 knows n ds = record { vars = length-replicate n unbound; structs = refl }
 
 -- ---- what m reads, said otherwise

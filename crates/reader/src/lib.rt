@@ -381,7 +381,7 @@ fn fields(
 }
 
 // Tag, location and fields of a type at most `nest` deep.
-fn read_head(w: &[u32], u: Used, b: &[u8], end: usize, at: usize, known: u32, nest: u32) -> Head
+pub fn read_head(w: &[u32], u: Used, b: &[u8], end: usize, at: usize, known: u32, nest: u32) -> Head
     requires { ⌜ Lay (now w) u × Arities (view (now w) u .structs) ⌝ }
     requires { ⌜ (end ≤ length (now b)) × ((at ≤ end) × (known ≤ 1024)) ⌝ }
     ensures { λ r. ⌜ ((s : d.State) (ds : List d.Struct) → Declares (now (w .entry)) u ds → Knows s known ds → tree-read r (now (b .entry)) end (read-nested (nest - 1) s) ≡ read-nested nest s (rest (now (b .entry)) end at)) ⌝ }
@@ -406,7 +406,7 @@ fn read_head(w: &[u32], u: Used, b: &[u8], end: usize, at: usize, known: u32, ne
 
 // ---- a type and its parts, read and placed
 
-fn part_count(shape: Shape) -> usize
+pub fn part_count(shape: Shape) -> usize
     ensures { λ r. ⌜ r ≡ many-parts shape ⌝ }
 {
     match shape {

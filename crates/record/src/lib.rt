@@ -1,6 +1,6 @@
 // One record from the caller's bytes: its mark and fields read from left to right (5, 6, 18), its types placed as nodes (7).
 ghost use mathlib.Core.Path.{_≡_};
-ghost use Prim.Native.Nat.{_≤_};
+ghost use Prim.Native.Nat.{_+_, _≤_};
 ghost use lib.ListN.{length};
 ghost use Rattle.definition.specs.Reader.{give, go-on, times};
 ghost use Rattle.definition.specs.Trees.{read-type};
@@ -17,6 +17,7 @@ use fields::read_loc;
 use fields::read_loc_type;
 use fields::read_nc;
 use fields::read_one;
+use fields::read_rm;
 use fields::read_sd;
 use fields::read_sn;
 use fields::read_two;
@@ -134,7 +135,7 @@ fn fields_of(
     mark: RecordMark,
 ) -> Fields
     requires { ⌜ Lay (now w) u × Arities (view (now w) u .structs) ⌝ }
-    requires { ⌜ (end ≤ length (now b)) × ((at ≤ end) × (known ≤ 1024)) ⌝ }
+    requires { ⌜ (end ≤ length (now b)) × ((at ≤ end) × ((known ≤ 1024) × (end ≤ at + 4096))) ⌝ }
     ensures { λ r. ⌜ Fields-are (now (w .entry)) u (now (b .entry)) end known (λ s. reader-of mark s (rest (now (b .entry)) end at)) (now (w .exit)) r ⌝ }
 {
     match mark {
@@ -152,6 +153,7 @@ fn fields_of(
         RecordMark::BC => read_loc_type(w, u, b, end, at, known, RecordMark::BC),
         RecordMark::SC => read_loc_type(w, u, b, end, at, known, RecordMark::SC),
         RecordMark::SV => plain(RecordMark::SV, Part::At(0), u, at, 0, 0),
+        RecordMark::RM => read_rm(w, u, b, end, at, known),
         RecordMark::Other => plain(RecordMark::Other, Part::Malformed, u, at, 0, 0),
     }
 }
@@ -159,7 +161,7 @@ fn fields_of(
 // The mark, and its fields.
 fn read_fields(w: &mut [u32], u: Used, b: &[u8], end: usize, at: usize, known: u32) -> Fields
     requires { ⌜ Lay (now w) u × Arities (view (now w) u .structs) ⌝ }
-    requires { ⌜ (end ≤ length (now b)) × ((at ≤ end) × (known ≤ 1024)) ⌝ }
+    requires { ⌜ (end ≤ length (now b)) × ((at ≤ end) × ((known ≤ 1024) × (end ≤ at + 4096))) ⌝ }
     ensures { λ r. ⌜ Fields-are (now (w .entry)) u (now (b .entry)) end known (λ s. read-fields s (rest (now (b .entry)) end at)) (now (w .exit)) r ⌝ }
 {
     let r = read_numbers(b, end, at, 1, 1);

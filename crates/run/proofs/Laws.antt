@@ -2,6 +2,7 @@
 use mathlib.Core.Path.{_≡_, refl, sym, ap, _∙_, subst}
 use mathlib.Core.Bool.{Bool, true, false}
 use mathlib.Core.List.{List, []}
+use mathlib.Core.Option.{Option, none}
 use Prim.Native.Nat.{ℕ, zero, suc, _<_}
 use native.Mathlib.Omega.{arith}
 use lib.Dec.{ltb, ltb→lt}
@@ -38,8 +39,10 @@ use Rattle.answer.specs.Ran.{shown, ran, Shows, Tells}
 use Rattle.answer.specs.declared.Ran.{Ran}
 use Rattle.answer.proofs.Calls.{tells-node, write-anything}
 use Rattle.answer.specs.declared.Show.{Show}
-use Rattle.answer.specs.declared.Show.the-variants.{Nothing as NothingS, Number, Variable, Node, Anything}
-use Rattle.run.specs.Runs.{join-in, two-run, unfold-run, ready-run, subst-in, tparams-run, instantiate-run, tvar-run, num-tvar-in, num-tvar-run, set-num-in, set-num-run, kind-at, constraint-run, declare-run, Any, Runs, with-row, Declared}
+use Rattle.answer.specs.declared.Show.the-variants.{Nothing as NothingS, Number, Variable, Node, Anything, Four}
+use Rattle.definition.specs.Needs.{Needs, takes, write-needs}
+use Rattle.definition.specs.Step.{tell}
+use Rattle.run.specs.Runs.{join-in, two-run, unfold-run, ready-run, subst-in, tparams-run, instantiate-run, tvar-run, num-tvar-in, num-tvar-run, set-num-in, set-num-run, kind-at, constraint-run, needs-run, declare-run, Any, Runs, with-row, Declared}
 
 -- ---- what an answer tells
 
@@ -166,6 +169,17 @@ module _ {w : List ℕ} {u : Used} (h : Lay w u) where
   ran-anything t loc y a q =
       ran-now (Done 0) (Anything loc) false _ _ tt (λ ds. refl)
       (λ ds before. ap (λ (z : Bytes). ok (before, z)) (sym (write-anything (seen w u ds) loc) ∙ ap (λ (z : Spanned Type-value). write-spanned (seen w u ds) z) (let e = a .is ds in rw q at e)))
+
+  -- ---- RM
+
+  pub ran-needs : (nodes places variables constraints : ℕ) (met : Bool) → met ≡ false
+      → Runs Any w u w (record { out = Done 0; used = u; show = Four nodes places variables constraints; kept = true }) true (λ s. outcome (Done 0) s) (needs-run (if met then none else takes nodes places variables constraints))
+  unfolding needs-run tell write-needs outcome shown _>>=_
+  ran-needs nodes places variables constraints met e = rw e (ran-now (Done 0) (Four nodes places variables constraints) true _ _ tt (λ ds. refl) (λ ds before. refl))
+
+  pub ran-open : (n : Option Needs) (met : Bool) → met ≡ true → Runs Any w u w (record { out = Open; used = u; show = NothingS; kept = true }) true (λ s. outcome Open s) (needs-run (if met then none else n))
+  unfolding needs-run tell outcome shown _>>=_
+  ran-open n met e = rw e (ran-now Open NothingS true _ _ tt (λ ds. refl) (λ ds before. refl))
 
   -- ---- TS
 

@@ -2,6 +2,7 @@
 use mathlib.Core.Path.{_≡_}
 use mathlib.Core.Bool.{Bool, true}
 use mathlib.Core.List.{List, [], _∷_}
+use mathlib.Core.Option.{Option}
 use Prim.Native.Nat.{ℕ}
 use lib.ListN.{length, getD, set}
 use Rattle.definition.specs.Types as d
@@ -14,6 +15,8 @@ use Rattle.definition.specs.TParams.{make-tparam-subst, subst-tparams}
 use Rattle.definition.specs.Instantiate.{instantiate}
 use Rattle.definition.specs.Record.{NumericKind, Numeric, Bits, Ordered}
 use Rattle.definition.specs.Write.{Bytes, u16, head, write, write-spanned}
+use Rattle.definition.specs.Needs.{Needs}
+use Rattle.definition.specs.Step.{tell}
 use Rattle.table.specs.State.{outcome, done, more, view, seen, Lay, Grown, Found-in, Declares}
 use Rattle.table.specs.declared.Used.{Used}
 use Rattle.table.specs.declared.Found.{Found}
@@ -94,6 +97,10 @@ unfoldable pub constraint-run : d.Constraint → State → State → Result (Sta
 constraint-run c s before = do
   s ← add-constraint s c
   ok (s, [])
+
+-- RM
+unfoldable pub needs-run : Option Needs → State → State → Result (State × Bytes)
+needs-run n s before = tell s n
 
 -- SD
 unfoldable pub declare-run : ℕ → List ℕ → State → State → Result (State × Bytes)

@@ -1,18 +1,20 @@
 // The run of each record from its placed types on: what it leaves, and what its answer shows.
 ghost use mathlib.Core.Path.{_≡_};
 ghost use mathlib.Core.Bool.{true, false};
+ghost use mathlib.Core.Option.{none};
 ghost use Prim.Native.Nat.{_<_};
-ghost use Rattle.definition.specs.Types.{BaseTypeConstraint, SingleTypeConstraint};
+ghost use Rattle.definition.specs.Types.{BaseTypeConstraint, SingleTypeConstraint, if_then_else_};
 ghost use Rattle.definition.specs.Store.{next-tvar};
 ghost use Rattle.definition.specs.Subst.{ready-tvars};
 ghost use Rattle.definition.specs.Instantiate.{instantiate};
+ghost use Rattle.definition.specs.Needs.{takes};
 ghost use Rattle.definition.specs.Step.{numeric-constraint};
 ghost use Rattle.table.specs.State.{outcome, Lay, Parts, Found-in, pushed-constraint};
 ghost use Rattle.arms.specs.Arms.{case-of};
 ghost use Rattle.tparams.specs.Pairs.{pairs};
 ghost use Rattle.instantiate.specs.Known.{Known};
 ghost use Rattle.constraints.specs.Solve.{kind-of};
-ghost use Rattle.run.specs.Runs.{join-in, two-run, unfold-run, ready-run, subst-in, tparams-run, instantiate-run, tvar-run, num-tvar-in, num-tvar-run, set-num-in, set-num-run, kind-at, constraint-run, Any, Runs, with-row, Declared};
+ghost use Rattle.run.specs.Runs.{join-in, two-run, unfold-run, ready-run, subst-in, tparams-run, instantiate-run, tvar-run, num-tvar-in, num-tvar-run, set-num-in, set-num-run, kind-at, constraint-run, needs-run, Any, Runs, with-row, Declared};
 use answer::Ran;
 use answer::Show;
 use arms::TypingCase;
@@ -204,6 +206,35 @@ pub fn run_single_type(w: &mut [u32], u: Used, loc: u32, ty: u32) -> Ran
         Show::Nothing,
         true,
     )
+}
+
+// RM: the four numbers that IN of the type would take, or 11 if a variable was met in it.
+pub fn run_needs(
+    w: &[u32],
+    u: Used,
+    met: bool,
+    nodes: u32,
+    places: u32,
+    variables: u32,
+    constraints: u32,
+) -> Ran
+    requires { ⌜ Lay (now w) u ⌝ }
+    ensures { λ r. ⌜ Runs Any (now (w .entry)) u (now (w .entry)) r true (λ s. outcome (r .out) s) (needs-run (if met then none else takes nodes places variables constraints)) ⌝ }
+{
+    if met {
+        return Ran {
+            out: Out::Open,
+            used: u,
+            show: Show::Nothing,
+            kept: true,
+        };
+    }
+    Ran {
+        out: Out::Done(0),
+        used: u,
+        show: Show::Four(nodes, places, variables, constraints),
+        kept: true,
+    }
 }
 
 // SD: a struct is declared, with so many parameters.

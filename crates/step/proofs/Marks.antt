@@ -31,6 +31,7 @@ called m.NC known nodes f t = tt
 called m.BC known nodes f t = tt
 called m.SC known nodes f t = tt
 called m.SV known nodes f t = refl
+called m.RM known nodes f t = tt
 called m.Other known nodes f t = refl
 
 module _ (f : Fields) (t : ℕ) where

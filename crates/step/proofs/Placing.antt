@@ -6,9 +6,10 @@ use native.Mathlib.Omega.{arith}
 use Rattle.definition.specs.Types.{State, Result, ok, err, refused, _>>=_}
 use Rattle.definition.specs.Trees.{Tree}
 use Rattle.definition.specs.Build.{build, build-pairs}
+use Rattle.definition.specs.Needs.{needs}
 use Rattle.definition.specs.Record as d
 use Rattle.definition.specs.Record.{Record}
-use Rattle.fields.specs.Noded.{Noded, SD, FV, NV, SN, JN, SU, UF, RD, IN, TS, NC, BC, SC, SV, place-record}
+use Rattle.fields.specs.Noded.{Noded, SD, FV, NV, SN, JN, SU, UF, RD, IN, TS, NC, BC, SC, SV, RM, place-record}
 
 abbrev own : Noded → ℕ
 own (SD a ps) = 0
@@ -25,6 +26,7 @@ own (NC loc k t) = 2
 own (BC loc t) = 2
 own (SC loc t) = 2
 own SV = 1
+own (RM n) = 2
 
 -- what the record is placed as
 abbrev As : Record → State → State → Noded → Type 0
@@ -42,6 +44,7 @@ As (d.NC loc k t) s s′ n = own n ≡ 2
 As (d.BC loc t) s s′ n = own n ≡ 2
 As (d.SC loc t) s s′ n = own n ≡ 2
 As d.SV s s′ n = (n ≡ SV) × (s′ ≡ s)
+As (d.RM t) s s′ n = own n ≡ 2
 
 module _ (s′ : State) (n : Noded) where
   parts : (s : State) (a : Noded) → _≡_ {A = Result (State × Noded)} (ok (s, a)) (ok (s′, n)) → (n ≡ a) × (s′ ≡ s)
@@ -81,6 +84,7 @@ module _ (s′ : State) (n : Noded) where
   placed-as (d.BC loc t) s e = one (build t s) (BC loc) (λ x. refl) e
   placed-as (d.SC loc t) s e = one (build t s) (SC loc) (λ x. refl) e
   placed-as d.SV s e = parts s SV e
+  placed-as (d.RM t) s e = same s (RM (needs t)) refl e
 
 -- the record that is placed as n
 abbrev whose : Noded → Record
@@ -98,6 +102,7 @@ whose (NC loc k t) = d.SV
 whose (BC loc t) = d.SV
 whose (SC loc t) = d.SV
 whose SV = d.SV
+whose (RM n) = d.SV
 
 placed-own : (x : Record) (s s′ : State) (n : Noded) → own n < 2 → place-record x s ≡ ok (s′, n) → (x ≡ whose n) × (s′ ≡ s)
 placed-own x s s′ n l e = go x (placed-as s′ n x s e)
@@ -117,6 +122,7 @@ placed-own x s s′ n l e = go x (placed-as s′ n x s e)
     go (d.BC loc t) h = absurd (omega arith)
     go (d.SC loc t) h = absurd (omega arith)
     go d.SV h = (sym (ap whose (h .0)), h .1)
+    go (d.RM t) h = absurd (omega arith)
 
 pub placed-SD : (x : Record) (s s′ : State) (a : ℕ) (ps : List ℕ) → place-record x s ≡ ok (s′, SD a ps) → (x ≡ d.SD a ps) × (s′ ≡ s)
 placed-SD x s s′ a ps e = placed-own x s s′ (SD a ps) (omega arith) e

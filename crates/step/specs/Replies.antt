@@ -82,6 +82,7 @@ call-of m.NC = Run
 call-of m.BC = Run
 call-of m.SC = Run
 call-of m.SV = Solve
+call-of m.RM = Run
 call-of m.Other = Solve
 
 -- ---- the stream after a record

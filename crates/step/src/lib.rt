@@ -134,6 +134,7 @@ fn call_of(mark: RecordMark) -> Call
         RecordMark::BC => Call::Run,
         RecordMark::SC => Call::Run,
         RecordMark::SV => Call::Solve,
+        RecordMark::RM => Call::Run,
         RecordMark::Other => Call::Solve,
     }
 }

@@ -25,6 +25,9 @@ size-type-requires c κs = (c .before .before .before .pre .0, (rw (c .enum-told
 enum-told-5 : tie.Need-enum-told-5
 enum-told-5 c = search needs
 
+enum-told-6 : tie.Need-enum-told-6
+enum-told-6 c = search needs
+
 returns : tie.Need-returns
 unfolding shown capped u16 u32 head
 returns c = λ ds. rw (c .enum-told .given .1)
@@ -45,6 +48,10 @@ returns-5 : tie.Need-returns-5
 unfolding shown capped u16 u32 head
 returns-5 c = λ ds. rw (c .enum-told5 .given .1)
 
+returns-6 : tie.Need-returns-6
+unfolding shown capped u16 u32 head
+returns-6 c = λ ds. rw (c .enum-told6 .given .1)
+
 pub shown-size-spec : {M : Type 1} → statement M
 shown-size-spec =
     tie.close
@@ -55,8 +62,10 @@ shown-size-spec =
     enum-told-4
     size-type-requires
     enum-told-5
+    enum-told-6
     returns
     returns-2
     returns-3
     returns-4
-    returns-5)
+    returns-5
+    returns-6)

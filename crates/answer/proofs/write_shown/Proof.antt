@@ -39,6 +39,12 @@ enum-known-show-2 c = search needs
 write-head-requires-2 : tie.Need-write-head-requires-2
 write-head-requires-2 c κs = (tt, omega (arith, length-anything (c .before .before .show2 .given .0 .0), c .before .before .before .before .before .before .pre .0 .1 .1 .1))
 
+enum-known-show-3 : tie.Need-enum-known-show-3
+enum-known-show-3 c = search needs
+
+write-four-requires : tie.Need-write-four-requires
+write-four-requires c κs = search needs
+
 returns : tie.Need-returns
 unfolding shown
 returns c = λ ds. rw (c .enum-told .given .1) (wrote-nothing _)
@@ -71,6 +77,13 @@ returns-5 : tie.Need-returns-5
 unfolding shown
 returns-5 c = λ ds. rw (c .before .before .before .before .before .show2 .given .1) (c .before .before .write-head2 .ensures)
 
+same-length-5 : tie.Need-same-length-5
+same-length-5 c = search needs
+
+returns-6 : tie.Need-returns-6
+unfolding shown
+returns-6 c = λ ds. rw (c .before .before .before .before .before .show3 .given .1) (c .before .before .write-four .ensures)
+
 pub write-shown-spec : {M : Type 1} → statement M
 write-shown-spec =
     tie.close
@@ -86,6 +99,8 @@ write-shown-spec =
     write-type-requires
     enum-known-show-2
     write-head-requires-2
+    enum-known-show-3
+    write-four-requires
     returns
     same-length
     returns-2
@@ -94,4 +109,6 @@ write-shown-spec =
     same-length-3
     returns-4
     same-length-4
-    returns-5)
+    returns-5
+    same-length-5
+    returns-6)

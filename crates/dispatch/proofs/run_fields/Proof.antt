@@ -1,5 +1,5 @@
 -- `dispatch::run_fields` meets its contract. Assumes nothing.
-use Rattle.dispatch.proofs.Arms.{arm-FV, arm-NV, arm-SN, arm-JN, arm-SU, arm-UF, arm-RD, arm-TS, arm-IN, arm-NC, arm-BC, arm-SC}
+use Rattle.dispatch.proofs.Arms.{arm-FV, arm-NV, arm-SN, arm-JN, arm-SU, arm-UF, arm-RD, arm-TS, arm-IN, arm-NC, arm-BC, arm-SC, arm-RM}
 use borrow.Author.Needs.{needs}
 use Rattle.dispatch.proofs.run_fields.Statement.{statement}
 use Rattle.dispatch.proofs.run_fields.Tie as tie
@@ -91,6 +91,24 @@ nothing-requires-2 c κs = search needs
 enum-told-15 : tie.Need-enum-told-15
 enum-told-15 c = search needs
 
+array-read-run-needs : tie.Need-array-read-run-needs
+array-read-run-needs c = search needs
+
+array-read-run-needs-2 : tie.Need-array-read-run-needs-2
+array-read-run-needs-2 c = search needs
+
+array-read-run-needs-3 : tie.Need-array-read-run-needs-3
+array-read-run-needs-3 c = search needs
+
+array-read-run-needs-4 : tie.Need-array-read-run-needs-4
+array-read-run-needs-4 c = search needs
+
+run-needs-requires : tie.Need-run-needs-requires
+run-needs-requires c κs = search needs
+
+enum-told-16 : tie.Need-enum-told-16
+enum-told-16 c = search needs
+
 nothing-requires-3 : tie.Need-nothing-requires-3
 nothing-requires-3 c κs = search needs
 
@@ -172,8 +190,14 @@ returns-13 c = arm-SC (c .before .before .before .before .before .before .before
 returns-14 : tie.Need-returns-14
 returns-14 c = absurd (rw (c .before .enum-told14 .given .1) at (c .before .before .before .before .pre .1 .0))
 
+same-length-13 : tie.Need-same-length-13
+same-length-13 c = search needs
+
 returns-15 : tie.Need-returns-15
-returns-15 c = absurd (rw (c .before .enum-told15 .given .1) at (c .before .before .before .before .pre .1 .0))
+returns-15 c = arm-RM (c .before .before .before .before .before .before .args .f) (c .before .before .before .before .before .before .args .t) (c .before .before .before .enum-told15 .given .1) (c .run-needs .ensures)
+
+returns-16 : tie.Need-returns-16
+returns-16 c = absurd (rw (c .before .enum-told16 .given .1) at (c .before .before .before .before .pre .1 .0))
 
 pub run-fields-spec : {M : Type 1} → statement M
 run-fields-spec =
@@ -208,6 +232,12 @@ run-fields-spec =
     enum-told-14
     nothing-requires-2
     enum-told-15
+    array-read-run-needs
+    array-read-run-needs-2
+    array-read-run-needs-3
+    array-read-run-needs-4
+    run-needs-requires
+    enum-told-16
     nothing-requires-3
     returns
     same-length
@@ -235,4 +265,6 @@ run-fields-spec =
     same-length-12
     returns-13
     returns-14
-    returns-15)
+    same-length-13
+    returns-15
+    returns-16)

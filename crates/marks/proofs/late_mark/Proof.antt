@@ -36,6 +36,10 @@ else-7 : (c : tie.Else7) → Onward late-marks 7 (c .before .before .before .bef
 unfolding by-mark
 else-7 c s r e = else-6 (c .before .before) s r (pass _ _ _ _ _ _ r (sym (c .before .same7 .ensures) ∙ c .if7 .left) e)
 
+else-8 : (c : tie.Else8) → Onward late-marks 8 (c .before .before .before .before .before .before .before .before .before .before .before .before .before .before .before .before .args .x) (c .before .before .before .before .before .before .before .before .before .before .before .before .before .before .before .before .args .y)
+unfolding by-mark
+else-8 c s r e = else-7 (c .before .before) s r (pass _ _ _ _ _ _ r (sym (c .before .same8 .ensures) ∙ c .if8 .left) e)
+
 -- ---- the needs
 
 same-requires : tie.Need-same-requires
@@ -87,9 +91,16 @@ returns-7 : tie.Need-returns-7
 unfolding by-mark
 returns-7 c = λ s. else-6 (c .before .before) s _ (hit _ _ _ _ _ _ (sym (c .before .same7 .ensures) ∙ c .if7 .taken))
 
+same-requires-8 : tie.Need-same-requires-8
+same-requires-8 c κs = search needs
+
 returns-8 : tie.Need-returns-8
 unfolding by-mark
-returns-8 c = λ s. else-7 c s _ (no-mark _ _)
+returns-8 c = λ s. else-7 (c .before .before) s _ (hit _ _ _ _ _ _ (sym (c .before .same8 .ensures) ∙ c .if8 .taken))
+
+returns-9 : tie.Need-returns-9
+unfolding by-mark
+returns-9 c = λ s. else-8 c s _ (no-mark _ _)
 
 pub late-mark-spec : {M : Type 1} → statement M
 late-mark-spec =
@@ -109,4 +120,6 @@ late-mark-spec =
     returns-6
     same-requires-7
     returns-7
-    returns-8)
+    same-requires-8
+    returns-8
+    returns-9)

@@ -93,6 +93,12 @@ plain-requires c κs = search needs
 enum-told-15 : tie.Need-enum-told-15
 enum-told-15 c = search needs
 
+read-rm-requires : tie.Need-read-rm-requires
+read-rm-requires c κs = search needs
+
+enum-told-16 : tie.Need-enum-told-16
+enum-told-16 c = search needs
+
 plain-requires-2 : tie.Need-plain-requires-2
 plain-requires-2 c κs = search needs
 
@@ -168,9 +174,15 @@ returns-13 c = rw (c .before .before .before .before .enum-told13 .given .1) (c 
 returns-14 : tie.Need-returns-14
 returns-14 c = rw (c .plain .ensures, c .before .enum-told14 .given .1) (sv-is _ _ _ _ _ _ (c .before .before .before .before .before .pre .0 .0) (c .before .before .before .before .before .pre .1 .1 .0))
 
+same-length-10 : tie.Need-same-length-10
+same-length-10 c = search needs
+
 returns-15 : tie.Need-returns-15
+returns-15 c = rw (c .before .before .enum-told15 .given .1) (c .read-rm .ensures)
+
+returns-16 : tie.Need-returns-16
 unfolding refuse
-returns-15 c = rw (c .plain2 .ensures, c .before .enum-told15 .given .1) (malformed-is _ _ _ _ _ _ _ _ (c .before .before .before .before .before .pre .0 .0) (c .before .before .before .before .before .pre .1 .1 .0) (λ s ds k. refl))
+returns-16 c = rw (c .plain2 .ensures, c .before .enum-told16 .given .1) (malformed-is _ _ _ _ _ _ _ _ (c .before .before .before .before .before .pre .0 .0) (c .before .before .before .before .before .pre .1 .1 .0) (λ s ds k. refl))
 
 pub fields-of-spec : {M : Type 1} → statement M
 fields-of-spec =
@@ -205,6 +217,8 @@ fields-of-spec =
     enum-told-14
     plain-requires
     enum-told-15
+    read-rm-requires
+    enum-told-16
     plain-requires-2
     returns
     returns-2
@@ -229,4 +243,6 @@ fields-of-spec =
     same-length-9
     returns-13
     returns-14
-    returns-15)
+    same-length-10
+    returns-15
+    returns-16)

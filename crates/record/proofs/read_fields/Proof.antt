@@ -1,5 +1,6 @@
 -- `record::read_fields` meets its contract. Assumes nothing.
-use Rattle.record.proofs.Marks.{mark-there}
+use Rattle.record.proofs.Marks.{mark-there, byte-past}
+use native.Mathlib.Omega.{arith}
 use Rattle.fields.proofs.Forms.{malformed-is, fields-is}
 use borrow.Author.Needs.{needs}
 use Rattle.reader.specs.Fields.{byte-wide}
@@ -46,7 +47,12 @@ mark-of-requires : tie.Need-mark-of-requires
 mark-of-requires c κs = search needs
 
 fields-of-requires : tie.Need-fields-of-requires
-fields-of-requires c κs = let r = c .before .before .before .before .before .before .before .before .read-numbers .ensures _ _ _ _ byte-wide byte-wide in (c .before .before .before .before .before .before .before .before .before .before .before .pre .0, (c .before .before .before .before .before .before .before .before .before .before .before .pre .1 .0, (r .second .within, c .before .before .before .before .before .before .before .before .before .before .before .pre .1 .1 .1)))
+fields-of-requires c κs =
+    let r = c .before .before .before .before .before .before .before .before .read-numbers .ensures _ _ _ _ byte-wide byte-wide in
+    let p = byte-past _ _ _ _ _ (c .before .before .before .before .before .before .before .before .before .before .before .pre .1 .0) (r .first .within) (rw (c .before .before .before .before .before .before .f .given .1) at (r .first .is)) in
+    let q = byte-past _ _ _ _ _ (c .before .before .before .before .before .before .before .before .before .before .before .pre .1 .0) (r .second .within) (rw (c .before .before .before .g .given .1) at (r .second .is)) in
+    let e = c .before .before .before .before .before .before .before .before .before .before .before .pre .1 .1 .1 .1 in
+    (c .before .before .before .before .before .before .before .before .before .before .before .pre .0, (c .before .before .before .before .before .before .before .before .before .before .before .pre .1 .0, (r .second .within, (c .before .before .before .before .before .before .before .before .before .before .before .pre .1 .1 .1 .0, omega arith))))
 
 same-length : tie.Need-same-length
 same-length c = search needs

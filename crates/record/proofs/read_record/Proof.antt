@@ -1,4 +1,5 @@
 -- `record::read_record` meets its contract. Assumes nothing.
+use Rattle.record.proofs.Marks.{end-near}
 use Rattle.record.proofs.Whole.{whole-is}
 use borrow.Author.Needs.{needs}
 use Rattle.record.proofs.read_record.Statement.{statement}
@@ -8,7 +9,7 @@ end-of-requires : tie.Need-end-of-requires
 end-of-requires c κs = search needs
 
 read-fields-requires : tie.Need-read-fields-requires
-read-fields-requires c κs = search needs
+read-fields-requires c κs = let e = end-near _ _ _ (c .before .end-of .ensures) in search needs
 
 same-length : tie.Need-same-length
 same-length c = search needs

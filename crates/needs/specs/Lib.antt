@@ -1,0 +1,2 @@
+-- What the counting walk's answers stand for in the definition. Assumes nothing: these are definitions.
+pub mod Counted
