@@ -109,6 +109,32 @@ def limits():
     yield limit('chain of references', 'FV\nFV', ('JN V0, %sV1' % ('&' * 63), 18))
 
 
+def told():
+    """R-3: IN where a table has just what RM tells, and one less; RM where nothing is left. RM's answers are 02's table (oracle log)."""
+    one, open_one = 'vector<u8>', 'vector<_>'   # 5 nodes, 2 places, 1 variable, 2 constraints; 9, 2, 3, 2
+    yield limit('told: nodes', 'JN (), ()\n' * 1021 + 'BC ()\nRM %s\nIN %s\nRM %s' % (one, one, one), ('IN ()', 7))
+    yield limit('told: a node less', 'JN (), ()\n' * 1022 + 'RM ' + one, ('IN ' + one, 7), 'IN &u8\nRM ()', ('IN ()', 7))
+    filled = 'FV\nFV\nJN V0, %s\nJN V1, %s\n' % (SIXTY_FOUR, SIXTY_FOUR) + 'JN V0, V1\n' * 54 + ('BC ' + EIGHT + '\n') * 7
+    six, seven = list_of(*['u8'] * 6), list_of(*['u8'] * 7)
+    yield limit('told: places', filled + 'BC %s\nRM %s\nIN %s\nRM %s' % (six, one, one, one), ('IN ' + one, 7), 'IN u8')
+    yield limit('told: a place less', filled + 'BC %s\nRM %s' % (seven, one), ('IN ' + one, 7), 'IN u8')
+    yield limit('told: variables', 'FV\n' * 1021 + 'RM %s\nIN %s\nRM %s' % (open_one, open_one, open_one), ('IN _', 7), 'IN u8')
+    yield limit('told: a variable less', 'FV\n' * 1022 + 'RM ' + open_one, ('IN ' + open_one, 7), 'IN ' + one)
+    yield limit('told: constraints', 'BC ()\n' * 510 + 'RM %s\nIN %s\nRM %s' % (one, one, one), ('IN &u8', 7), 'IN u8')
+    yield limit('told: a constraint less', 'BC ()\n' * 511 + 'RM ' + one, ('IN ' + one, 7), 'IN &u8')
+    # no node, variable or constraint
+    yield limit('told: nothing left', 'FV\n' * 1024 + 'BC ()\n' * 512 + 'JN (), ()\n' * 768, ('IN ()', 7), 'RM (_, &u8, vector<_>)')
+    # 4,081 bytes
+    eight = list_of(*['_'] * 8)
+    many = list_of(*[eight] * 8)
+    yield limit('told: most', 'RM ' + list_of(list_of(*[many] * 8), many, many, *[eight] * 5))
+    # a variable, wherever it stands, once all is read
+    yield limit('told: variable', 'FV', ('RM (u8, vector<(u8, V0)>)', 11), ('RM V0', 11), 'RM u8')
+    yield end('told: a struct after a variable', asm('FV\nRM (V0, S0)'), '0 0 06000000000000', '1 6')
+    ref = asm('UF &u8')
+    yield end('told: doubled', b'RM' + ref[2:8] + ref[2:], '0 18')
+
+
 def end(name, stream, *log):
     return name, stream, list(log)
 
@@ -133,7 +159,7 @@ def marks():
 
 def main():
     where = os.path.join(ROOT, 'crates/edges')
-    jobs = [j for made in (marked, computed, limits, ends, marks) for j in made()]
+    jobs = [j for made in (marked, computed, limits, told, ends, marks) for j in made()]
     behind = [(len(name) + 1 + len(stream), name.encode() + b'\n' + stream) for name, stream, _ in jobs]
     texts = {
         'stdin': b''.join(struct.pack('<I', size) + job for size, job in behind),

@@ -14,7 +14,7 @@ GROUPS = [
     ('believed', '#f5d76e', 'definition pieces replay'),
     ('the lent words', '#aed6f1', 'names table snap lent'),
     ("core.rs's functions", '#a9dfbf', 'subst arms merge join walk tparams instantiate constraints failures'),
-    ('bytes in and out', '#d7bde2', 'cursor marks reader fields record writer report log answer'),
+    ('bytes in and out', '#d7bde2', 'cursor marks reader needs fields record writer report log answer'),
     ('a record', '#f5b7b1', 'run solve dispatch step'),
     ('calls, programs', '#d5dbdb', 'engine joinlog exports edges traps'),
 ]

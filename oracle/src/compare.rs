@@ -1,11 +1,11 @@
 //! The engine beside core.rs, in one process: every answer, payload, binding, mark, constraint and declaration.
 use crate::{
     calls::{job_of, lent_of, Calls, Lines, LINE, MIN_ANSWER},
-    count::{counted, used, Counted},
+    count::{counted, needs, used, Counted, Used},
     gen::{self, Chance, Made},
     job::{Job, Outcome},
     lender::{Answer, Fault, Lender},
-    lent::{self, Lent, Params},
+    lent::{self, Lent, Params, LIMITS},
     record::{self, hex, Kind, Known, Record, Ty},
     shrink::shrink,
     state_text::state_text,
@@ -66,6 +66,8 @@ impl Tally {
 
 const LIMIT: &str = "7 or 8 where core.rs goes on, as counted by 01";
 const OTHER_REFUSAL: &str = "7 or 8 before another of 7 to 14, as counted by 01";
+const TOLD: &str = "RM before IN";
+const FILLED: &str = "IN where exactly RM's four are left, and where one is missing";
 const SILENT: &str = "core.rs silent: job ended";
 
 //---- one record ------------------------------------------------------------------------------------------
@@ -122,7 +124,7 @@ fn shown(a: &Answer) -> String {
 /// Whether a type of the answer has a doubled reference in it; SV's stand after a code and a location.
 fn shows_doubled(r: &Record, a: &Answer, known: &Known) -> bool {
     let before = match r {
-        Record::SD(..) => return false,
+        Record::SD(..) | Record::RM(_) => return false,
         Record::SV => 5,
         _ => 0,
     };
@@ -136,9 +138,9 @@ fn shows_doubled(r: &Record, a: &Answer, known: &Known) -> bool {
     false
 }
 
-/// UF, RD and TS leave the state word for word.
+/// UF, RD, TS and RM leave the state word for word.
 fn only_reads(r: &Record) -> bool {
-    matches!(r, Record::UF(_) | Record::RD(_) | Record::TS(..))
+    matches!(r, Record::UF(_) | Record::RD(_) | Record::TS(..) | Record::RM(_))
 }
 
 pub fn same_counts(lender: &Lender, counted: Option<Counted>) -> Result<(), String> {
@@ -169,6 +171,56 @@ pub fn same_state(lender: &Lender, job: &Job, r: Option<&Record>) -> Result<(), 
     Ok(())
 }
 
+//---- IN, and RM of the same type before it (R-3) ---------------------------------------------------------
+
+fn rows(u: Used) -> [usize; 4] {
+    [u.nodes, u.places, u.vars, u.constraints]
+}
+
+/// RM's four numbers, held to 02's table; none for a type with a variable. On a state with exactly so much left IN fills
+/// it, and with one less of a table it is 7.
+fn told(lender: &mut Lender, t: &Ty, tally: &mut Tally) -> Result<Option<[usize; 4]>, String> {
+    let answer = lender.record(&Record::RM(t.clone()).bytes(), MIN_ANSWER)?;
+    let four = needs(t);
+    let wanted = four.map(|f| f.iter().flat_map(|n| (*n as u32).to_le_bytes()).collect());
+    let wanted = wanted.map_or(Answer { number: 11, payload: vec![] }, |payload| Answer { number: 0, payload });
+    if answer != wanted || !lender.unchanged() {
+        return Err(format!("RM by 02's table: {}; ours: {}", shown(&wanted), shown(&answer)));
+    }
+    tally.apart(TOLD);
+    four.map_or(Ok(()), |four| exactly(lender, t, four, tally)).map(|_| four)
+}
+
+/// .. where each table has at least so much left
+fn exactly(lender: &Lender, t: &Ty, four: [usize; 4], tally: &mut Tally) -> Result<(), String> {
+    let start = lender.lent();
+    let least = |i: usize| LIMITS[i].checked_sub(four[i]).filter(|n| *n >= start.words[i] as usize);
+    let [Some(a), Some(b), Some(c), Some(d)] = std::array::from_fn(least) else { return Ok(()) };
+    let record = Record::IN(t.clone()).bytes();
+    for short in 0..5 {
+        let mut lent = start.clone();
+        for (i, n) in [a, b, c, d].into_iter().enumerate() {
+            lent.words[i] = n as u32 + (i == short && four[i] > 0) as u32
+        }
+        let mut other = Lender::new(lender.calls, &lent);
+        let answer = other.record(&record, MIN_ANSWER)?;
+        as_told(&other, &answer, four)?
+    }
+    tally.apart(FILLED);
+    Ok(())
+}
+
+/// IN's answer: 7 exactly if one of the four is more than what was left, else 0 and so many rows more.
+fn as_told(lender: &Lender, answer: &Answer, four: [usize; 4]) -> Result<(), String> {
+    let (before, after) = (rows(lender.used_before()), rows(used(lender.view())));
+    let fits = (0..4).all(|i| before[i] + four[i] <= LIMITS[i]);
+    let more: [usize; 4] = std::array::from_fn(|i| after[i] - before[i]);
+    match answer.number == if fits { 0 } else { 7 } && (!fits || more == four) {
+        true => Ok(()),
+        false => Err(format!("told {:?} at {:?}; IN: {}, {:?} more", four, before, shown(answer), more)),
+    }
+}
+
 //---- one job --------------------------------------------------------------------------------------------------
 
 struct Run<'a> {
@@ -191,7 +243,14 @@ impl Run<'_> {
         }
         let (r, mark) = (read.as_ref().map(|(r, _)| r), read.as_ref().map_or("??", |(r, _)| r.mark()));
         let counted = r.filter(|_| self.lender.calls.counts()).map(|r| counted(self.lender.view(), r));
+        let told = match r {
+            Some(Record::IN(t)) if self.lender.calls.counts() => told(&mut self.lender, t, tally)?,
+            _ => None,
+        };
         let answer = self.lender.record(if n == 0 { rest } else { &rest[..n] }, room)?;
+        if let Some(four) = told {
+            as_told(&self.lender, &answer, four)?
+        }
         match agree(&outcome, &answer, counted, tally)? {
             Agreed::Same => (),
             Agreed::Limit => self.job = job_of(self.lender.view()),
@@ -392,13 +451,15 @@ pub enum Alter {
     Reading,
     /// a join takes a node too many
     Count,
+    /// RM tells a node too few
+    Told,
     /// a line of a job
     Line,
 }
 
-pub const ALTERS: [Alter; 8] = {
+pub const ALTERS: [Alter; 9] = {
     use Alter::*;
-    [Number, Payload, Binding, Mark, Constraint, Reading, Count, Line]
+    [Number, Payload, Binding, Mark, Constraint, Reading, Count, Told, Line]
 };
 
 impl Alter {
@@ -431,6 +492,7 @@ impl Altered<'_> {
             }
             Alter::Reading if number == 0 && record.starts_with(b"RD") && view.nodes() < 2048 => words[0] += 1,
             Alter::Count if number == 0 && record.starts_with(b"JN") && view.nodes() < 2048 => words[0] += 1,
+            Alter::Told if number == 0 && record.starts_with(b"RM") => answer[0] -= 1,
             _ => (),
         }
         number

@@ -329,6 +329,27 @@ fn types(r: &Record) -> Vec<&Ty> {
     }
 }
 
+/// 02's table: the nodes, argument places, variables and constraints that IN of a type takes, none for one with a
+/// variable in it.
+pub fn needs(t: &Ty) -> Option<[usize; 4]> {
+    let own = match t.kind {
+        Kind::Unit | Kind::UnresolvedError | Kind::Param(..) => [1, 0, 0, 0],
+        Kind::Anything => [2, 0, 1, 0],
+        Kind::Ref(..) => [2, 0, 0, 1],
+        Kind::Builtin(..) | Kind::List(..) | Kind::Struct(..) => [2, 0, 0, 0],
+        Kind::Var(_) => return None,
+    };
+    let add = |a: [usize; 4], b: [usize; 4]| std::array::from_fn(|i| a[i] + b[i]);
+    t.parts().iter().try_fold(own, |sum, p| {
+        let beside = match (&t.kind, &p.kind) {
+            (Kind::Ref(..), _) => [0; 4],
+            (_, Kind::Anything) => [5, 2, 2, 2],
+            _ => [1, 2, 1, 2],
+        };
+        Some(add(add(sum, beside), needs(p)?))
+    })
+}
+
 /// A record on a sound state whose types are small enough to be trees.
 pub fn counted(s: View, r: &Record) -> Counted {
     let before = used(s);

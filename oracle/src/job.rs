@@ -4,6 +4,7 @@
 //! from the reader, from a count, or from the assertion at which core.rs panicked. Two limits are not modelled,
 //! because core.rs counts neither: 7 for nodes or argument places, and 8.
 use crate::{
+    count::needs,
     diagnostics::{
         codes::{AbilitySafety, Code, TypeSafety},
         Diagnostic,
@@ -423,6 +424,10 @@ impl Job {
             Record::BC(loc, t) => self.ctx.add_base_type_constraint(Loc::of(*loc), "base", type_in(t)),
             Record::SC(loc, t) => self.ctx.add_single_type_constraint(Loc::of(*loc), "single", type_in(t)),
             Record::SV => self.solve(&mut out)?,
+            Record::RM(t) => match needs(t) {
+                Some(four) => four.iter().for_each(|n| out.extend((*n as u32).to_le_bytes())),
+                None => return Err(Outcome::Refused(11, "a variable".into())),
+            },
             Record::XP(t) => self.expand(type_in(t), &mut out)?,
         }
         Ok((0, out))

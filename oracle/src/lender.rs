@@ -1,6 +1,7 @@
 //! A caller that lends: its buffers stand between guards, and each call is held to what every answer leaves alone.
 use crate::{
     calls::{Calls, Lines},
+    count::{used, Used},
     lent::{Lent, Params, View, MAX_STRUCTS},
 };
 
@@ -144,6 +145,11 @@ impl<'a> Lender<'a> {
             return fault(format!("wrote to its output past {} bytes", written));
         }
         Ok(())
+    }
+
+    /// rows in use before the last call
+    pub fn used_before(&self) -> Used {
+        used(View { words: &self.before.words, params: &self.before.params })
     }
 
     pub fn unchanged(&self) -> bool {

@@ -51,7 +51,7 @@ const fn row(mark: &[u8; 2], fields: &'static [Part], payload: &'static [Part]) 
     Mark { mark: *mark, fields, payload }
 }
 
-const MARKS: [Mark; 14] = [
+const MARKS: [Mark; 15] = [
     row(b"SD", &[], &[]),
     row(b"FV", &LOC, &[Types]),
     row(b"NV", &LOC, &[Types]),
@@ -66,6 +66,7 @@ const MARKS: [Mark; 14] = [
     row(b"BC", &[Location, Location, Location, Location, Type], &[Types]),
     row(b"SC", &[Location, Location, Location, Location, Type], &[Types]),
     row(b"SV", &[], &[Failures]),
+    row(b"RM", &[Type], &[]),
 ];
 
 fn of_mark(record: &[u8]) -> Option<&'static Mark> {

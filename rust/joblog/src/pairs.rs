@@ -58,6 +58,8 @@ pub enum Payload {
     Failures(Vec<Failure>),
     Struct(u16),
     Location(u32),
+    /// nodes, argument places, variables, constraints
+    Needs([u32; 4]),
 }
 
 /// Record `n`, which begins at byte `at` of the job, and its line.
@@ -166,6 +168,7 @@ impl<'a> Pairs<'a> {
                 Ok(Payload::Struct(u16::from_le_bytes(number)))
             }
             (0, Record::SV) => self.failures(raw),
+            (0, Record::RM(_)) => needs(raw),
             (0, _) => self.types(raw),
             (1..=3, _) => match self.types(raw)? {
                 Payload::Types(ts) if ts.len() == 2 => Ok(Payload::Types(ts)),
@@ -182,12 +185,18 @@ impl<'a> Pairs<'a> {
     }
 }
 
+fn needs(payload: &[u8]) -> Result<Payload, String> {
+    let (numbers, rest) = payload.as_chunks();
+    let four = numbers.iter().map(|b| u32::from_le_bytes(*b)).collect::<Vec<_>>().try_into();
+    four.ok().filter(|_| rest.is_empty()).map(Payload::Needs).ok_or("its payload is not four numbers".into())
+}
+
 impl Payload {
     fn taken(&self) -> usize {
         match self {
             Payload::Types(ts) => ts.iter().map(Ty::taken).max().unwrap_or(0),
             Payload::Failures(fs) => fs.iter().map(|f| f.ty.taken()).max().unwrap_or(0),
-            Payload::Struct(_) | Payload::Location(_) => 0,
+            Payload::Struct(_) | Payload::Location(_) | Payload::Needs(_) => 0,
         }
     }
 }

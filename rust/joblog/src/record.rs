@@ -67,6 +67,8 @@ pub enum Record {
     BC(u32, Ty),
     SC(u32, Ty),
     SV,
+    /// 02's R-3
+    RM(Ty),
     /// 02's R-5; malformed in the base
     XP(Ty),
 }
@@ -259,6 +261,7 @@ impl<'a> Reader<'a> {
             b"BC" => Record::BC(self.u32()?, self.ty(1)?),
             b"SC" => Record::SC(self.u32()?, self.ty(1)?),
             b"SV" => Record::SV,
+            b"RM" => Record::RM(self.ty(1)?),
             b"XP" if self.known.expand => Record::XP(self.ty(1)?),
             _ => return malformed(0, "no record has this mark"),
         })
@@ -348,7 +351,7 @@ impl Record {
             Record::SD(..) | Record::FV(_) | Record::NV(_) | Record::SN(..) | Record::SV => vec![],
             Record::JN(a, b) | Record::SU(a, b) => vec![a, b],
             Record::TS(args, t) => args.iter().map(|(_, a)| a).chain([t]).collect(),
-            Record::UF(t) | Record::RD(t) | Record::IN(t) | Record::XP(t) => vec![t],
+            Record::UF(t) | Record::RD(t) | Record::IN(t) | Record::RM(t) | Record::XP(t) => vec![t],
             Record::NC(_, _, t) | Record::BC(_, t) | Record::SC(_, t) => vec![t],
         }
     }
@@ -375,6 +378,7 @@ impl Record {
             Record::BC(..) => "BC",
             Record::SC(..) => "SC",
             Record::SV => "SV",
+            Record::RM(..) => "RM",
             Record::XP(..) => "XP",
         }
     }
@@ -410,7 +414,8 @@ impl Record {
                 a.write(&mut out);
                 b.write(&mut out)
             }
-            Record::UF(t) | Record::RD(t) | Record::TS(_, t) | Record::IN(t) | Record::XP(t) => t.write(&mut out),
+            Record::UF(t) | Record::RD(t) | Record::TS(_, t) | Record::IN(t) => t.write(&mut out),
+            Record::RM(t) | Record::XP(t) => t.write(&mut out),
             Record::NC(_, _, t) | Record::BC(_, t) | Record::SC(_, t) => t.write(&mut out),
             _ => (),
         }

@@ -37,6 +37,9 @@ pub fn answer(p: &Pair, d: Detail) -> String {
     match &p.payload {
         Payload::Struct(n) => format!("{} S{}", said, n),
         Payload::Location(loc) => format!("{} @{}", said, loc),
+        Payload::Needs([n, p, v, c]) => {
+            format!("{} {} nodes, {} places, {} variables, {} constraints", said, n, p, v, c)
+        }
         Payload::Failures(fs) if fs.is_empty() => said.into(),
         Payload::Failures(fs) => {
             let told = fs.iter().map(|f| format!("{} {} (constraint @{})", type_text(&f.ty, d), f.what, f.loc));

@@ -87,7 +87,7 @@ pub fn fields(r: &Record, d: Detail) -> Vec<String> {
         Record::FV(loc) | Record::NV(loc) => vec![located(*loc, String::new())],
         Record::SN(v, loc) => vec![format!("V{} {}", v, at(*loc, d)).trim_end().into()],
         Record::JN(a, b) | Record::SU(a, b) => vec![type_text(a, d), type_text(b, d)],
-        Record::UF(t) | Record::RD(t) | Record::IN(t) | Record::XP(t) => vec![type_text(t, d)],
+        Record::UF(t) | Record::RD(t) | Record::IN(t) | Record::RM(t) | Record::XP(t) => vec![type_text(t, d)],
         Record::TS(args, t) => {
             let args: Vec<_> = args.iter().map(|(id, t)| format!("P{} = {}", id, type_text(t, d))).collect();
             vec![format!("[{}] {}", args.join(", "), type_text(t, d))]
@@ -393,6 +393,7 @@ impl Parser<'_> {
             "BC" => Record::BC(self.loc()?, self.ty()?),
             "SC" => Record::SC(self.loc()?, self.ty()?),
             "SV" => Record::SV,
+            "RM" => Record::RM(self.ty()?),
             _ => return Err(format!("`{}` is no mark", mark)),
         })
     }

@@ -86,6 +86,17 @@ const LOG: &str = "\
 ";
 
 #[test]
+fn what_in_would_take() {
+    let job = asm("RM (_, vector<u8>)\nRM &u8");
+    let log = "0 0 0f000000060000000500000006000000\n1 0 04000000000000000000000001000000\n";
+    let wanted = "\
+0 RM  (_, vector<u8>)   → typed 15 nodes, 6 places, 5 variables, 6 constraints
+1 RM  &u8   → typed 4 nodes, 0 places, 0 variables, 1 constraints
+";
+    assert_eq!(show(&job, log, Options::default()).0, wanted)
+}
+
+#[test]
 fn a_job_and_its_log_for_people() {
     let (lines, summary) = show(&asm(JOB), LOG, Options::default());
     let wanted = "\
