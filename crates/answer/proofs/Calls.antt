@@ -70,6 +70,11 @@ pub seen-bytes : (w : List ℕ) (u : Used) (ds : List Struct) → All-bytes (see
 unfolding All-bytes node seen with-structs
 seen-bytes w u ds h = h
 
+-- ---- a state that is kept asks nothing of the variables
+
+pub kept-never : {K : Type 0} {kept : Bool} → kept ≡ true → kept ≡ false → K
+kept-never e f = absurd (let z : _≡_ {A = ℕ} 0 1 = cc in omega arith)
+
 -- ---- `_` in no table
 
 pub write-anything : (s : State) (loc : ℕ) → write-spanned s (record { loc = loc; value = Anything }) ≡ head loc Anything

@@ -13,9 +13,10 @@ use Rattle.definition.specs.Step as step
 use Rattle.definition.specs.Step.{answer, answer-with, refusal, put-back, max-payload, number-of-error, number-of-refusal}
 use Rattle.table.specs.State.{view, seen, Lay, Declares}
 use Rattle.table.specs.declared.Used.{Used}
-use Rattle.snap.specs.Snap.{Since, PutBack, Undone}
+use Rattle.snap.specs.Snap.{Since, PutBack, GivenBack, Undone}
+use Rattle.snap.proofs.Tails.{saved-stood}
 use Rattle.writer.specs.Bytes.{Wrote}
-use Rattle.answer.specs.Ran.{shown, success, failure, refused-by, Answers}
+use Rattle.answer.specs.Ran.{shown, success, failure, refused-by, Still, Answers}
 use Rattle.answer.specs.declared.Show.{Show}
 use Rattle.answer.specs.declared.Answer.{Answer}
 use Rattle.answer.proofs.Payload.{wrote-payload, wrote-rest, wrote-few}
@@ -128,6 +129,10 @@ module _ (w : List ℕ) (u before : Used) (saved : List ℕ) where
           (λ w₀ s. back w₀ s .lay)
           (λ w₀ s ds₀ ds. h (seen w u ds) (seen w₀ before ds₀) ∙ sym (back w₀ s .is ds ∙ put-back-same w₀ before ds₀ (seen w u ds .structs) (seen w u ds)))
           (λ w₀ s ds₀ ds a b. declares-same w w′ u ds (back w₀ s .structs) b)
+
+-- what was taken is given back where the variables stand
+pub given-back : (w : List ℕ) (u before : Used) (saved w′ : List ℕ) → Lay w u → Still w u before saved → GivenBack w u w′ before → Undone w u w′ before saved
+given-back w u before saved w′ h s g w₀ x = g w₀ (saved-stood w₀ before saved w u x h (s .rows) (s .many))
 
 pub number-14 : number-of-refusal answer-too-long ≡ 14
 unfolding number-of-refusal

@@ -13,7 +13,7 @@ use Rattle.table.specs.State.{outcome, seen, Lay, Declares}
 use Rattle.table.specs.declared.Used.{Used}
 use Rattle.table.specs.declared.Out.{Out}
 use Rattle.table.specs.declared.Out.the-variants.{Done, Subtype, Incompatible, Arity, Recursive, Full, Deep, Itself, Disagree, Open, NoArgument, Twice}
-use Rattle.snap.specs.Snap.{Since}
+use Rattle.snap.specs.Snap.{Saved, Since}
 use Rattle.answer.specs.declared.Show.{Show}
 use Rattle.answer.specs.declared.Show.the-variants.{Nothing, Number, Variable, Node, Anything, Four}
 use Rattle.answer.specs.declared.Ran.{Ran}
@@ -87,6 +87,13 @@ failure e after before = answer before (err after e)
 
 abbrev pub refused-by : Refusal → State → State → step.Answer
 refused-by x after before = refusal before x
+
+-- ---- what an answer asks
+
+-- no variable was taken, and those that are there are as they were saved
+pub record Still (w : List ℕ) (u before : Used) (saved : List ℕ) : Type 0 where
+  pub many : u .vars ≡ before .vars
+  pub rows : Saved w u saved
 
 -- ---- what an answer leaves
 

@@ -9,9 +9,11 @@ ghost use Rattle.definition.specs.Types.{State, TypingError, Refusal};
 ghost use Rattle.definition.specs.Write.{u32 as bytes-u32, write, write-error};
 ghost use Rattle.definition.specs.Step.{number-of-error, number-of-refusal};
 ghost use Rattle.table.specs.State.{view, seen, Lay};
+ghost use Rattle.table.specs.declared.Out.the-variants.{Done};
 ghost use Rattle.snap.specs.Snap.{Above, PutBack, Undone};
 ghost use Rattle.writer.specs.Bytes.{Wrote, capped, All-bytes};
-ghost use Rattle.answer.specs.Ran.{reply, shown, Shows, Tells, Settles, answered, success, failure, refused-by, Answers};
+ghost use Rattle.answer.specs.Ran.{reply, shown, Shows, Tells, Settles, Still, answered, success, failure, refused-by, Answers};
+use snap::give_back;
 use snap::put_vars;
 use snap::undo;
 use table::Out;
@@ -125,6 +127,17 @@ fn write_location(loc: u32, buf: &mut [u8]) -> usize
 
 // ---- the state
 
+fn as_before(before: Used, number: u32, len: usize) -> Answer
+    ensures { λ r. ⌜ r ≡ reply number len before false ⌝ }
+{
+    Answer {
+        number: number,
+        len: len,
+        used: before,
+        kept: false,
+    }
+}
+
 // The state is that at entry.
 pub fn go_back(
     w: &mut [u32],
@@ -138,12 +151,7 @@ pub fn go_back(
     ensures { λ r. ⌜ Undone (now (w .entry)) u (now (w .exit)) before (now (saved .entry)) × (r ≡ reply number len before false) ⌝ }
 {
     undo(w, u, before, saved);
-    Answer {
-        number: number,
-        len: len,
-        used: before,
-        kept: false,
-    }
+    as_before(before, number, len)
 }
 
 // Bindings and marks are those at entry.
@@ -177,7 +185,7 @@ pub fn refuse(w: &mut [u32], u: Used, before: Used, saved: &[u32], number: u32) 
     go_back(w, u, before, saved, number, 0)
 }
 
-// A success with the number t.
+// A success with the number t. Where its state is not kept, no variable was bound or marked: what was taken is given back.
 fn succeed(
     w: &mut [u32],
     u: Used,
@@ -190,6 +198,7 @@ fn succeed(
 ) -> Answer
     requires { ⌜ Lay (now w) u × (Above before u × (5120 ≤ length (now saved))) ⌝ }
     requires { ⌜ Shows u show t × (All-bytes (view (now w) u) × (4096 ≤ length (now buf))) ⌝ }
+    requires { ⌜ (kept ≡ false → Still (now w) u before (now saved)) ⌝ }
     ensures { λ r. ⌜ Answers (now (w .entry)) u before (now (saved .entry)) (now (buf .entry)) (now (w .exit)) (now (buf .exit)) r (success kept show t) ⌝ }
 {
     let size = shown_size(w, u, show, t);
@@ -205,7 +214,8 @@ fn succeed(
             kept: true,
         };
     }
-    go_back(w, u, before, saved, 0, len)
+    give_back(w, u, before);
+    as_before(before, 0, len)
 }
 
 // An error that shows two types.
@@ -245,6 +255,7 @@ fn fail_at(w: &mut [u32], u: Used, before: Used, saved: &[u32], loc: u32, buf: &
 pub fn answer_of(w: &mut [u32], before: Used, saved: &[u32], ran: Ran, buf: &mut [u8]) -> Answer
     requires { ⌜ Lay (now w) (ran .used) × (Above before (ran .used) × (5120 ≤ length (now saved))) ⌝ }
     requires { ⌜ Tells (ran .used) (ran .show) (ran .out) × ((Settles (ran .out) → All-bytes (view (now w) (ran .used))) × (4096 ≤ length (now buf))) ⌝ }
+    requires { ⌜ ((t : ℕ) → ran .out ≡ Done t → ran .kept ≡ false → Still (now w) (ran .used) before (now saved)) ⌝ }
     ensures { λ r. ⌜ Answers (now (w .entry)) (ran .used) before (now (saved .entry)) (now (buf .entry)) (now (w .exit)) (now (buf .exit)) r (answered ran) ⌝ }
 {
     let out = ran.out;

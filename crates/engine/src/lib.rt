@@ -57,7 +57,7 @@ fn record_trusted(
     let u = used_of(state);
     let mut rows = params;
     let mut saved = [0u32; 5120];
-    let r = step_trusted(state, u, &mut rows, record, 0, true, &mut saved, answer);
+    let r = step_trusted(state, u, &mut rows, record, 0, true, 0, &mut saved, answer);
     let v = r.used;
     table::write_used(state, v);
     *number = r.number;
@@ -155,6 +155,7 @@ fn lines_trusted(
     let mut saved = [0u32; 5120];
     let mut buf = [0u8; 4096];
     let mut used = u;
+    let mut rows: u32 = 0;
     let mut at: usize = 0;
     let mut n: usize = 0;
     let mut i = place;
@@ -162,10 +163,21 @@ fn lines_trusted(
         if !takes_on(i, stream.len() - at, log.len() - n, more) {
             return lines_at(used, at, n, i, false);
         }
-        let r = step_trusted(w, used, params, stream, at, false, &mut saved, &mut buf);
+        let r = step_trusted(
+            w,
+            used,
+            params,
+            stream,
+            at,
+            false,
+            rows,
+            &mut saved,
+            &mut buf,
+        );
         n = write_line(i, r.number, &buf, r.len, log, n);
         i = i + 1;
         used = r.used;
+        rows = r.rows;
         at = r.next;
         if ends_job(r.number) {
             return lines_at(used, at, n, i, true);

@@ -1,10 +1,11 @@
--- Tails zeroed after the variables are put back: the words hold what they held. Assumes nothing.
+-- Tails zeroed where the variables stand as they were: the words hold what they held. One law says for each table that its rows are those
+-- at entry, then all of them together; at the end, two ways in which the variables come to stand. Assumes nothing.
 use mathlib.Core.Path.{_≡_, refl, sym, ap, _∙_, subst}
-use mathlib.Core.List.{List, [], _++_}
+use mathlib.Core.List.{List, [], _++_, append-nil}
 use Prim.Native.Nat.{ℕ, _+_, _*_, _-_, _<_, _≤_}
 use native.Mathlib.Omega.{arith}
 use native.Mathlib.Decide.{decLt}
-use lib.ListN.{getD, replicate, List·getD-append}
+use lib.ListN.{length, getD, replicate, List·getD-append}
 use Rattle.definition.specs.Types.{State, Cell, unbound}
 use Rattle.definition.specs.Store.{taken, with-vars, with-structs}
 use Rattle.definition.specs.Step.{put-back}
@@ -12,9 +13,10 @@ use Rattle.table.specs.Tab.{tab}
 use Rattle.table.specs.Rows.{Table, row, entries, Clean, cell-words, node-words, shape-words, arg-words, constraint-words, struct-words, node-table, arg-table, var-table, constraint-table, struct-table}
 use Rattle.table.specs.State.{view, seen, Lay, Inside, Front, Grown, Stored, Wrote}
 use Rattle.table.specs.declared.Used.{Used}
+use Rattle.table.proofs.Tab.{tab-ext}
 use Rattle.table.proofs.Rows.{length-entries, entry-out, row-same, Same, same-entries, same-clean, apart}
 use Rattle.table.proofs.Steps.{grown-trans}
-use Rattle.snap.specs.Snap.{Above, Since}
+use Rattle.snap.specs.Snap.{Above, Saved, Since, Sized, Stood}
 use Rattle.snap.proofs.Back.{getD-blanks, zero-row}
 
 -- ---- one table: rows b to n of w are zeroed, and w has the rows of w₀ below b
@@ -72,17 +74,13 @@ blank-struct : struct-table .write (struct-table .blank) ≡ tab 2 (λ k. 0)
 unfolding tab struct-words
 blank-struct = refl
 
-module _ (w : List ℕ) (u : Used) (before : Used) (saved w₁ w₂ w₃ w₄ w₅ w₀ : List ℕ) (above : Above before u) (s : Since w₀ before saved w u)
-    (a : Stored w u w₁ (λ s. put-back (with-structs (view w₀ before) (s .structs)) s))
+module _ (w₁ : List ℕ) (u : Used) (before : Used) (w₂ w₃ w₄ w₅ w₀ : List ℕ) (above : Above before u) (s : Stood w₀ before w₁ u)
     (z₂ : Wrote w₁ (5 + before .nodes * 6) ((u .nodes - before .nodes) * 6) [] w₂)
     (z₃ : Wrote w₂ (12293 + before .args * 1) ((u .args - before .args) * 1) [] w₃)
     (z₄ : Wrote w₃ (21509 + before .constraints * 4) ((u .constraints - before .constraints) * 4) [] w₄)
     (z₅ : Wrote w₄ (23557 + before .structs * 2) ((u .structs - before .structs) * 2) [] w₅) where
   h : Lay w₁ u
-  h = a .lay
-
-  grown : Grown (view w₀ before) (view w₁ u)
-  grown = grown-trans _ _ _ (s .grown) (a .grown)
+  h = s .now
 
   -- ---- nodes
   pub same-nodes : Same node-table w₀ w₅
@@ -93,7 +91,7 @@ module _ (w : List ℕ) (u : Used) (before : Used) (saved w₁ w₂ w₃ w₄ w�
       apart node-table w₄ (23557 + before .structs * 2) ((u .structs - before .structs) * 2) [] w₅ z₅ (λ i k l p q s e. omega arith) i p
       ∙ apart node-table w₃ (21509 + before .constraints * 4) ((u .constraints - before .constraints) * 4) [] w₄ z₄ (λ i k l p q s e. omega arith) i p
       ∙ apart node-table w₂ (12293 + before .args * 1) ((u .args - before .args) * 1) [] w₃ z₃ (λ i k l p q s e. omega arith) i p
-      ∙ cut node-table w₀ (before .nodes) w₁ (u .nodes) (s .lay .clean-nodes) (h .clean-nodes) (grown .nodes) blank-node w₁ w₂ (λ i p. refl) z₂ q
+      ∙ cut node-table w₀ (before .nodes) w₁ (u .nodes) (s .lay .clean-nodes) (h .clean-nodes) (s .grown .nodes) blank-node w₁ w₂ (λ i p. refl) z₂ q
       (λ i k l r t e. omega arith)
       (λ i k l r t e. omega arith)
       (λ i k r t v. (omega arith, omega arith))
@@ -107,7 +105,7 @@ module _ (w : List ℕ) (u : Used) (before : Used) (saved w₁ w₂ w₃ w₄ w�
       let q = above .nodes in
       apart arg-table w₄ (23557 + before .structs * 2) ((u .structs - before .structs) * 2) [] w₅ z₅ (λ i k l p q s e. omega arith) i p
       ∙ apart arg-table w₃ (21509 + before .constraints * 4) ((u .constraints - before .constraints) * 4) [] w₄ z₄ (λ i k l p q s e. omega arith) i p
-      ∙ cut arg-table w₀ (before .args) w₁ (u .args) (s .lay .clean-args) (h .clean-args) (grown .args) blank-arg w₂ w₃
+      ∙ cut arg-table w₀ (before .args) w₁ (u .args) (s .lay .clean-args) (h .clean-args) (s .grown .args) blank-arg w₂ w₃
       (apart arg-table w₁ (5 + before .nodes * 6) ((u .nodes - before .nodes) * 6) [] w₂ z₂ (λ i k l p r s e. omega arith))
       z₃
       (above .args)
@@ -125,7 +123,7 @@ module _ (w : List ℕ) (u : Used) (before : Used) (saved w₁ w₂ w₃ w₄ w�
       let ma = h .args in
       let qa = above .args in
       apart constraint-table w₄ (23557 + before .structs * 2) ((u .structs - before .structs) * 2) [] w₅ z₅ (λ i k l p q s e. omega arith) i p
-      ∙ cut constraint-table w₀ (before .constraints) w₁ (u .constraints) (s .lay .clean-constraints) (h .clean-constraints) (grown .constraints) blank-constraint w₃ w₄
+      ∙ cut constraint-table w₀ (before .constraints) w₁ (u .constraints) (s .lay .clean-constraints) (h .clean-constraints) (s .grown .constraints) blank-constraint w₃ w₄
       (λ i p. apart constraint-table w₂ (12293 + before .args * 1) ((u .args - before .args) * 1) [] w₃ z₃ (λ i k l p r s e. omega arith) i p
       ∙ apart constraint-table w₁ (5 + before .nodes * 6) ((u .nodes - before .nodes) * 6) [] w₂ z₂ (λ i k l p r s e. omega arith) i p)
       z₄
@@ -145,7 +143,7 @@ module _ (w : List ℕ) (u : Used) (before : Used) (saved w₁ w₂ w₃ w₄ w�
       let qa = above .args in
       let mc = h .constraints in
       let qc = above .constraints in
-      cut struct-table w₀ (before .structs) w₁ (u .structs) (s .lay .clean-structs) (h .clean-structs) (grown .structs) blank-struct w₄ w₅
+      cut struct-table w₀ (before .structs) w₁ (u .structs) (s .lay .clean-structs) (h .clean-structs) (s .grown .structs) blank-struct w₄ w₅
       (λ i p. apart struct-table w₃ (21509 + before .constraints * 4) ((u .constraints - before .constraints) * 4) [] w₄ z₄ (λ i k l p r s e. omega arith) i p
       ∙ apart struct-table w₂ (12293 + before .args * 1) ((u .args - before .args) * 1) [] w₃ z₃ (λ i k l p r s e. omega arith) i p
       ∙ apart struct-table w₁ (5 + before .nodes * 6) ((u .nodes - before .nodes) * 6) [] w₂ z₂ (λ i k l p r s e. omega arith) i p)
@@ -157,9 +155,9 @@ module _ (w : List ℕ) (u : Used) (before : Used) (saved w₁ w₂ w₃ w₄ w�
       i p
 
   -- ---- variables: those taken since are blank
-  vars-then : entries var-table w₁ (u .vars) ≡ entries var-table w₀ (before .vars) ++ replicate (taken (view w u) - taken (view w₀ before)) unbound
-  unfolding view seen with-structs put-back with-vars
-  vars-then = ap (λ (x : State). x .vars) (a .is [])
+  vars-then : entries var-table w₁ (u .vars) ≡ entries var-table w₀ (before .vars) ++ replicate (s .blanks) unbound
+  unfolding view
+  vars-then = s .vars
 
   pub same-vars : Same var-table w₀ w₅
   unfolding Clean
@@ -174,7 +172,7 @@ module _ (w : List ℕ) (u : Used) (before : Used) (saved w₁ w₂ w₃ w₄ w�
       ∙ apart var-table w₁ (5 + before .nodes * 6) ((u .nodes - before .nodes) * 6) [] w₂ z₂ (λ i k l p r s e. omega arith) i p
       ∙ h .clean-vars i p
       ∙ ap (λ (l : List Cell). cell-words (getD l i unbound)) vars-then
-      ∙ ap cell-words (getD-blanks (entries var-table w₀ (before .vars)) (taken (view w u) - taken (view w₀ before)) i unbound)
+      ∙ ap cell-words (getD-blanks (entries var-table w₀ (before .vars)) (s .blanks) i unbound)
       ∙ sym (s .lay .clean-vars i p)
 
   undone-view : view w₅ before ≡ view w₀ before
@@ -214,3 +212,35 @@ times-one w base b n w′ h =
     let e : b * 1 ≡ b = omega arith in
     let f : n * 1 ≡ n = omega arith in
     rw (e, f) h
+
+-- ---- whose variables stand
+
+-- after they were put back
+pub put-stood : (w₀ : List ℕ) (before : Used) (saved w : List ℕ) (u : Used) (w₁ : List ℕ) → Since w₀ before saved w u → Stored w u w₁ (λ s. put-back (with-structs (view w₀ before) (s .structs)) s) → Stood w₀ before w₁ u
+unfolding seen with-structs put-back with-vars
+put-stood w₀ before saved w u w₁ s a = record { lay = s .lay; now = a .lay; grown = grown-trans _ _ _ (s .grown) (a .grown); blanks = taken (view w u) - taken (view w₀ before); vars = back }
+  where
+    back : view w₁ u .vars ≡ view w₀ before .vars ++ replicate (taken (view w u) - taken (view w₀ before)) unbound
+    back = ap (λ (x : State). x .vars) (a .is [])
+
+-- where the snapshot is still that of the words
+module _ (w₀ : List ℕ) (before : Used) (saved w : List ℕ) (u : Used) (s : Since w₀ before saved w u) (h : Lay w u) (now : Saved w u saved) (many : u .vars ≡ before .vars) where
+  still-row : (i : ℕ) → i < before .vars → row var-table w i ≡ row var-table w₀ i
+  still-row i lt = row-same var-table w₀ w i (λ k p.
+      let e : 16389 + i * 5 + k ≡ 16389 + (i * 5 + k) = omega arith in
+      ap (λ (x : ℕ). getD w x 0) e
+      ∙ sym (now .word (i * 5 + k) (omega arith))
+      ∙ s .kept .word (i * 5 + k) (omega arith)
+      ∙ ap (λ (x : ℕ). getD w₀ x 0) (sym e))
+
+  still-vars : view w u .vars ≡ view w₀ before .vars
+  unfolding view entries
+  still-vars = rw many (tab-ext (before .vars) _ _ (λ i lt. ap (var-table .read) (still-row i lt)))
+
+  pub saved-stood : Stood w₀ before w u
+  saved-stood = record { lay = s .lay; now = h; grown = s .grown; blanks = 0; vars = still-vars ∙ sym (append-nil (view w₀ before .vars)) }
+
+-- ---- what giving back asks
+
+pub sized-on : {w : List ℕ} {u : Used} (w′ : List ℕ) → length w′ ≡ length w → Lay w u → Sized w′ u
+sized-on w′ e h = record { size = e ∙ h .size; nodes = h .nodes; args = h .args; constraints = h .constraints; structs = h .structs }

@@ -4,7 +4,7 @@ ghost use mathlib.Core.List.{[]};
 ghost use Prim.Native.Nat.{_+_, _*_, _≤_};
 ghost use lib.ListN.{length};
 ghost use Rattle.table.specs.State.{Lay, Wrote};
-ghost use Rattle.snap.specs.Snap.{Above, Saved, PutBack, Undone};
+ghost use Rattle.snap.specs.Snap.{Above, Saved-partly, Saved, PutBack, Sized, GivenBack, Undone};
 use table::Used;
 
 // The number as an index.
@@ -38,13 +38,13 @@ fn zero_words(w: &mut [u32], at: usize, n: usize)
     }
 }
 
-// The rows of the variables in use.
-pub fn save_vars(w: &[u32], u: Used, saved: &mut [u32])
-    requires { ⌜ Lay (now w) u × (5120 ≤ length (now saved)) ⌝ }
+// The rows of the variables in use; the first `rows` of them are saved already.
+pub fn save_vars(w: &[u32], u: Used, rows: u32, saved: &mut [u32])
+    requires { ⌜ Lay (now w) u × ((5120 ≤ length (now saved)) × Saved-partly (now w) u rows (now saved)) ⌝ }
     ensures { λ _. ⌜ Saved (now (w .entry)) u (now (saved .exit)) ⌝ }
 {
     let n = wide(u.vars) * 5;
-    let mut k: usize = 0;
+    let mut k = wide(rows) * 5;
     while k < n {
         saved[k] = w[16389 + k];
         k = k + 1;
@@ -62,12 +62,11 @@ pub fn put_vars(w: &mut [u32], u: Used, before: Used, saved: &[u32])
     zero_words(w, 16389 + n, wide(more) * 5);
 }
 
-// All is as it was: what was taken since then is given back.
-pub fn undo(w: &mut [u32], u: Used, before: Used, saved: &[u32])
-    requires { ⌜ Lay (now w) u × (Above before u × (5120 ≤ length (now saved))) ⌝ }
-    ensures { λ _. ⌜ Undone (now (w .entry)) u (now (w .exit)) before (now (saved .entry)) ⌝ }
+// What was taken since then is given back; bindings and marks are left as they are.
+pub fn give_back(w: &mut [u32], u: Used, before: Used)
+    requires { ⌜ Sized (now w) u × Above before u ⌝ }
+    ensures { λ _. ⌜ GivenBack (now (w .entry)) u (now (w .exit)) before ⌝ }
 {
-    put_vars(w, u, before, saved);
     let nodes = u.nodes - before.nodes;
     zero_words(w, 5 + wide(before.nodes) * 6, wide(nodes) * 6);
     let args = u.args - before.args;
@@ -80,4 +79,13 @@ pub fn undo(w: &mut [u32], u: Used, before: Used, saved: &[u32])
     );
     let structs = u.structs - before.structs;
     zero_words(w, 23557 + wide(before.structs) * 2, wide(structs) * 2);
+}
+
+// All is as it was.
+pub fn undo(w: &mut [u32], u: Used, before: Used, saved: &[u32])
+    requires { ⌜ Lay (now w) u × (Above before u × (5120 ≤ length (now saved))) ⌝ }
+    ensures { λ _. ⌜ Undone (now (w .entry)) u (now (w .exit)) before (now (saved .entry)) ⌝ }
+{
+    put_vars(w, u, before, saved);
+    give_back(w, u, before);
 }

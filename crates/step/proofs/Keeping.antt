@@ -7,7 +7,7 @@ use native.Mathlib.Nat.{div-add-mod', mod-lt}
 use native.Mathlib.Omega.{arith}
 use native.Mathlib.Decide.{decLt}
 use lib.Dec.{leb, leb→le}
-use lib.ListN.{length, getD, drop, List·getD-eq-default}
+use lib.ListN.{length, getD, drop, length-append, List·getD-append, List·getD-eq-default}
 use Rattle.definition.specs.Types.{State, Struct, Cell}
 use Rattle.definition.specs.Write.{Bytes, Is-bytes}
 use Rattle.definition.specs.Record.{read-record}
@@ -20,11 +20,13 @@ use Rattle.definition.proofs.Facts.{and-l, and-r, test}
 use Rattle.definition.proofs.Ranges.{StructIn}
 use Rattle.definition.proofs.Soundness.{and, le-test}
 use Rattle.definition.proofs.SoundKept.{ranges-of, sound-kept, stream-sound-kept, trusted}
-use Rattle.table.specs.Rows.{row, Clean, var-table, struct-table}
-use Rattle.table.specs.State.{view, Lay, Declares}
+use Rattle.table.specs.Rows.{row, entries, Clean, var-table, struct-table}
+use Rattle.table.specs.State.{view, Lay, Front, Declares}
 use Rattle.table.specs.declared.Used.{Used}
 use Rattle.table.proofs.Rows.{length-entries, row-word}
-use Rattle.snap.specs.Snap.{Saved}
+use Rattle.table.proofs.Steps.{front-is}
+use Rattle.snap.specs.Snap.{Saved, Saved-partly}
+use Rattle.answer.specs.Ran.{Still}
 use Rattle.reader.specs.Taken.{Arities}
 use Rattle.step.specs.Trusted.{answered}
 use Rattle.step.proofs.Rows.{none}
@@ -64,25 +66,37 @@ view-arities w u ds d a i = by (decLt i (u .structs))
 
 -- ---- the saved variables
 
--- as long as none is bound or taken
-module _ (w₀ : List ℕ) (before : Used) (w : List ℕ) (u : Used) (a : Lay w₀ before) (b : Lay w u) (same : view w u .vars ≡ view w₀ before .vars) where
-  as-many : u .vars ≡ before .vars
+-- as long as they stay in front
+module _ (w₀ : List ℕ) (before : Used) (w : List ℕ) (u : Used) (a : Lay w₀ before) (b : Lay w u) (front : Front (view w₀ before .vars) (view w u .vars)) where
+  as-many : before .vars ≤ u .vars
   unfolding view
-  as-many = sym (length-entries var-table w (u .vars)) ∙ ap length same ∙ length-entries var-table w₀ (before .vars)
+  as-many = omega (arith, length-entries var-table w (u .vars), length-entries var-table w₀ (before .vars), ap length (front .is), length-append (entries var-table w₀ (before .vars)) (front .rest))
 
-  same-row : (i : ℕ) → i < 1024 → row var-table w i ≡ row var-table w₀ i
+  same-row : (i : ℕ) → i < before .vars → row var-table w i ≡ row var-table w₀ i
   unfolding Clean view
-  same-row i lt = b .clean-vars i lt ∙ ap (λ (l : List Cell). var-table .write (getD l i (var-table .blank))) same ∙ sym (a .clean-vars i lt)
+  same-row i lt =
+      let l : i < 1024 = omega (arith, a .vars) in
+      b .clean-vars i l
+      ∙ ap (λ (l : List Cell). var-table .write (getD l i (var-table .blank))) (front .is)
+      ∙ ap (var-table .write) (List·getD-append (entries var-table w₀ (before .vars)) (front .rest) (var-table .blank) i (rw (length-entries var-table w₀ (before .vars)) lt))
+      ∙ sym (a .clean-vars i l)
 
-  same-word : (i k : ℕ) → i < 1024 → k < 5 → getD w (16389 + i * 5 + k) 0 ≡ getD w₀ (16389 + i * 5 + k) 0
+  same-word : (i k : ℕ) → i < before .vars → k < 5 → getD w (16389 + i * 5 + k) 0 ≡ getD w₀ (16389 + i * 5 + k) 0
   same-word i k lt h = sym (row-word var-table w i k h) ∙ ap (λ (l : List ℕ). getD l k 0) (same-row i lt) ∙ row-word var-table w₀ i k h
 
-  pub saved-still : (saved : List ℕ) → Saved w₀ before saved → Saved w u saved
-  saved-still saved h = record { word = λ k lt. h .word k (omega (arith, as-many)) ∙ sym (at k lt) }
+  pub partly-still : (saved : List ℕ) → Saved w₀ before saved → Saved-partly w u (before .vars) saved
+  partly-still saved h = record { few = as-many; rows = record { word = λ k lt. h .word k lt ∙ sym (at k lt) } }
     where
-      at : (k : ℕ) → k < u .vars * 5 → getD w (16389 + k) 0 ≡ getD w₀ (16389 + k) 0
+      at : (k : ℕ) → k < before .vars * 5 → getD w (16389 + k) 0 ≡ getD w₀ (16389 + k) 0
       at k lt =
           let e : k / 5 * 5 + k % 5 ≡ k = div-add-mod' k 5 in
           let f : 16389 + k / 5 * 5 + k % 5 ≡ 16389 + k = omega arith in
-          let g = same-word (k / 5) (k % 5) (omega (arith, b .vars)) (mod-lt k (omega arith)) in
+          let g = same-word (k / 5) (k % 5) (omega arith) (mod-lt k (omega arith)) in
           rw f at g
+
+-- as long as none is bound or taken
+pub saved-still : (w₀ : List ℕ) (before : Used) (w : List ℕ) (u : Used) → Lay w₀ before → Lay w u → view w u .vars ≡ view w₀ before .vars → (saved : List ℕ) → Saved w₀ before saved → Still w u before saved
+unfolding view
+saved-still w₀ before w u a b same saved h =
+    let many : u .vars ≡ before .vars = sym (length-entries var-table w (u .vars)) ∙ ap length same ∙ length-entries var-table w₀ (before .vars) in
+    record { many = many; rows = rw many (partly-still w₀ before w u a b (front-is _ _ same) saved h .rows) }

@@ -2,6 +2,7 @@
 pub mod Padding
 pub mod Rows
 pub mod Placing
+pub mod Standing
 pub mod Reading
 pub mod Keeping
 pub mod Replying

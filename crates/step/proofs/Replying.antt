@@ -5,7 +5,7 @@ use mathlib.Core.List.{List, _++_}
 use Prim.Native.Nat.{ℕ, _≤_}
 use native.Mathlib.Omega.{arith}
 use lib.ListN.{length, take, drop, length-take}
-use Rattle.definition.specs.Types.{State, Struct, Refusal, Result, _>>=_, if_then_else_}
+use Rattle.definition.specs.Types.{State, Struct, Refusal, Result, ok, _>>=_, if_then_else_}
 use Rattle.definition.specs.Store.{with-structs}
 use Rattle.definition.specs.Record as d
 use Rattle.definition.specs.Record.{Record}
@@ -15,9 +15,11 @@ use Rattle.definition.specs.Step.{run, answer, refusal}
 use Rattle.definition.proofs.Ranges.{Ranges, StructIn}
 use Rattle.definition.proofs.WellRead.{RecordIn}
 use Rattle.definition.proofs.SoundKept.{ranges-of}
-use Rattle.table.specs.State.{done, more, view, seen, Lay, Grown, Found-in, Declares}
+use Rattle.table.specs.State.{outcome, done, more, view, seen, Lay, Grown, Found-in, Declares}
 use Rattle.table.specs.declared.Used.{Used}
 use Rattle.table.specs.declared.Found.{Found}
+use Rattle.table.specs.declared.Out.{Out}
+use Rattle.table.specs.declared.Out.the-variants.{Done}
 use Rattle.table.proofs.Steps.{grown-trans}
 use Rattle.snap.specs.Snap.{Above, Saved, Since}
 use Rattle.lent.specs.Lent.{structs-of, encode-params}
@@ -26,7 +28,7 @@ use Rattle.reader.specs.Taken.{Arities}
 use Rattle.reader.proofs.Loop.{declares-kept}
 use Rattle.fields.specs.Noded.{Noded, SD, SV}
 use Rattle.writer.specs.Bytes.{All-bytes}
-use Rattle.answer.specs.Ran.{Settles, answered, refused-by, Settled, Answers}
+use Rattle.answer.specs.Ran.{Settles, Still, answered, refused-by, Settled, Answers}
 use Rattle.answer.specs.declared.Ran.{Ran}
 use Rattle.answer.specs.declared.Answer.{Answer}
 use Rattle.answer.proofs.Calls.{grown-above}
@@ -42,6 +44,7 @@ use Rattle.step.specs.Trusted.{held, Stands}
 use Rattle.step.specs.Replies.{Replied, Begun, Begins, row-for, padded}
 use Rattle.step.proofs.Rows.{rows-of, rows-seen, held-known, known-rows, row-in, row-kept, arities-kept}
 use Rattle.step.proofs.Placing.{placed-SD, placed-SV}
+use Rattle.step.proofs.Standing.{Leaves, leaves-ok, place-leaves, unkept-leaves}
 use Rattle.step.proofs.Keeping.{sound-arities, saved-still}
 
 -- ---- any answer
@@ -124,6 +127,14 @@ module _ {w₀ : List ℕ} {before : Used} {params : List (List ℕ)} {saved w :
     unfolding held
     run-bytes h = noded-bytes ds then-known s₀ in-range x (b .fields) n c (b .placed) h
 
+    -- a success whose state is not kept has bound and marked nothing
+    pub run-still : (t : ℕ) → r₁ .out ≡ Done t → r₁ .kept ≡ false → Still w₁ (r₁ .used) before saved
+    unfolding held seen with-structs outcome
+    run-still t e q =
+        let read : view w u .vars ≡ view w₀ before .vars = leaves-ok (subst (Leaves (λ v. v ≡ s₀ .vars)) (b .placed) (place-leaves x s₀ refl)) in
+        let left : ok (seen w₁ (r₁ .used) ds, t) ≡ noded-step r₁ n (seen w u ds) = sym (ap (λ (o : Out). outcome o (seen w₁ (r₁ .used) ds)) e) ∙ c .left ds then-known in
+        saved-still w₀ before w₁ (r₁ .used) (b .since .lay) (c .lay) (leaves-ok (subst (Leaves (λ v. v ≡ s₀ .vars)) (sym left) (unkept-leaves r₁ n (seen w u ds) (sym (c .kept-is) ∙ q) read))) saved (b .since .kept)
+
     pub reply-run : {buf w′ buf′ : List ℕ} {r : Answer} → Answers w₁ (r₁ .used) before saved buf w′ buf′ r (answered r₁) → Replied buf w′ params buf′ r (answer s₀ (run s₀ x))
     unfolding held
     reply-run {buf} a =
@@ -194,7 +205,7 @@ module _ {w₀ : List ℕ} {before : Used} {params : List (List ℕ)} {saved w :
 
   pub solve-saved : Lay w u → Saved w u saved
   unfolding held seen with-structs
-  solve-saved l = saved-still w₀ before w u (b .since .lay) l (ap (λ (s : State). s .vars) still) saved (b .since .kept)
+  solve-saved l = saved-still w₀ before w u (b .since .lay) l (ap (λ (s : State). s .vars) still) saved (b .since .kept) .rows
 
   pub reply-solved : {buf w′ buf′ : List ℕ} {r : Answer} → Solves w u buf w′ buf′ r → Replied buf w′ params buf′ r (answer (held w₀ before params) (run (held w₀ before params) x))
   unfolding noded-run solve-answer

@@ -1,14 +1,17 @@
--- A record read, placed and answered is a step of the definition. Assumes nothing.
+-- A record read, placed and answered is a step of the definition, and the rows that were saved before it still stand where it says so: by what
+-- reading came to, a refusal, a record left over, or one that is run. Assumes nothing.
 use mathlib.Core.Path.{_≡_, refl, sym, ap, _∙_, subst}
 use mathlib.Core.Bool.{Bool, true, false, _&&_}
 use mathlib.Core.List.{List}
-use Prim.Native.Nat.{ℕ, _-_, _≤_}
+use Prim.Native.Nat.{ℕ, _-_, _≤_, _<_}
 use native.Mathlib.Omega.{arith}
+use native.Mathlib.Decide.{decLt}
 use lib.Dec.{ltb}
 use lib.ListN.{length, drop}
 use Rattle.definition.specs.Types.{State, Struct, Refusal, malformed, full, Result, ok, refused, _>>=_, if_then_else_}
 use Rattle.definition.specs.Write.{Bytes, Is-bytes}
 use Rattle.definition.specs.Reader.{Read, got}
+use Rattle.definition.specs.Store.{with-structs}
 use Rattle.definition.specs.Record.{Record, read-record}
 use Rattle.definition.specs.Sound.{sound}
 use Rattle.definition.specs.Step as step
@@ -17,9 +20,11 @@ use Rattle.definition.proofs.WellRead.{RecordIn, ReadWell, given, well-read}
 use Rattle.table.specs.Tab.{tab}
 use Rattle.table.specs.Rows.{words-at}
 use Rattle.table.specs.Encode.{encode}
-use Rattle.table.specs.State.{view, seen, Grown, Declares}
+use Rattle.table.specs.State.{view, seen, Front, Grown, Declares}
 use Rattle.table.specs.declared.Used.{Used}
-use Rattle.snap.specs.Snap.{Above, Saved, Since, Undone}
+use Rattle.snap.specs.Snap.{Above, Saved, Saved-partly, Since, Undone}
+use Rattle.snap.proofs.Saving.{partly-none, partly-fewer}
+use Rattle.table.proofs.Steps.{front-refl}
 use Rattle.snap.proofs.Exact.{declares-still, word-for-word}
 use Rattle.lent.specs.Lent.{used-of}
 use Rattle.lent.proofs.Lays.{lent-declares}
@@ -36,17 +41,20 @@ use Rattle.dispatch.proofs.Placed.{run-placed}
 use Rattle.dispatch.proofs.Inside.{noded-in-more}
 use Rattle.step.specs.declared.Stepped.{Stepped}
 use Rattle.step.specs.Trusted.{held, Stands, answered, unread, Steps}
-use Rattle.step.specs.Replies.{Replied, Begun, Begins, Ends, place-after}
+use Rattle.step.specs.Replies.{Replied, Begun, Begins, Ends, rows-after, place-after}
 use Rattle.step.proofs.Reading.{stop-is, Got, got-is, answered-not, unread-not, unread-got, answered-got}
-use Rattle.step.proofs.Keeping.{bytes-after, answered-sound, view-arities}
+use Rattle.step.proofs.Keeping.{bytes-after, answered-sound, view-arities, partly-still}
+use Rattle.step.proofs.Placing.{group}
+use Rattle.step.proofs.Marks.{rows-few, rows-none}
+use Rattle.step.proofs.Standing.{answer-front}
 use Rattle.step.proofs.Replying.{declared-in, stands-arities, reply-refused}
 
 -- what read_record asks
 pub reading-arities : {w : List ℕ} {u : Used} {params : List (List ℕ)} → Stands w u params → Arities (view w u .structs)
 reading-arities {w} {u} {params} s = view-arities w u _ (lent-declares w params u) (stands-arities s)
 
-abbrev gone : Answer → ℕ → Stepped
-gone a next = record { number = a .number; len = a .len; used = a .used; next = next }
+abbrev gone : Answer → ℕ → ℕ → Stepped
+gone a next rows = record { number = a .number; len = a .len; used = a .used; next = next; rows = rows }
 
 -- what was read well
 record-in : (s : State) (bytes : Bytes) → Is-bytes bytes → (x : Record) (l : Bytes) → read-record s bytes ≡ got x l → RecordIn s x
@@ -108,8 +116,8 @@ module _ {w : List ℕ} {u : Used} {params : List (List ℕ)} (stream : Bytes) (
   abbrev bytes : Bytes
   bytes = drop at stream
 
-  steps : (whole : Bool) {buf w′ : List ℕ} {params′ : List (List ℕ)} {buf′ : List ℕ} {a : Answer} {r : Stepped} → Replied buf w′ params′ buf′ a (answered whole s₀ bytes)
-      → (next : ℕ) → next ≤ length stream → unread s₀ bytes ≡ drop next stream → r ≡ gone a next → Steps whole w u params stream at buf w′ params′ buf′ r
+  steps : (whole : Bool) {rows : ℕ} {buf w′ : List ℕ} {params′ : List (List ℕ)} {buf′ : List ℕ} {a : Answer} {r : Stepped} → Replied buf w′ params′ buf′ a (answered whole s₀ bytes)
+      → (next : ℕ) → next ≤ length stream → unread s₀ bytes ≡ drop next stream → r ≡ gone a next rows → Steps whole w u params stream at buf w′ params′ buf′ r
   steps whole p next le rest e =
       rw e (record {
         stands = record { lay = p .lay; bytes = p .bytes; is-sound = ap (λ (x : step.Answer). sound (x .state)) (sym (p .is)) ∙ answered-sound whole s₀ bytes (bytes-after at stream is) (s .is-sound) };
@@ -120,7 +128,7 @@ module _ {w : List ℕ} {u : Used} {params : List (List ℕ)} (stream : Bytes) (
         rest = rest;
       })
 
-  module _ {saved w₁ : List ℕ} {f : Fields} (kept : Saved w u saved) (c : Record-is w u stream at w₁ f) where
+  module _ {saved w₁ : List ℕ} {f : Fields} (kept : Saved w u saved) (c : Record-is w u stream at w₁ f) {rows : ℕ} (is-rows : rows ≡ rows-after (f .mark) (u .vars)) where
     abbrev ds : List Struct
     ds = declared-in w u params
 
@@ -130,6 +138,17 @@ module _ {w : List ℕ} {u : Used} {params : List (List ℕ)} (stream : Bytes) (
     pub read-above : Above u (f .used)
     read-above = grown-above w u w₁ (f .used) (c .grown)
 
+    -- what is said of the answer, and of the saved rows after it
+    abbrev Leaving : Bool → List ℕ → List ℕ → List (List ℕ) → List ℕ → Stepped → Type 0
+    Leaving whole buf w′ params′ buf′ r = Steps whole w u params stream at buf w′ params′ buf′ r × Saved-partly w′ (r .used) (r .rows) saved
+
+    -- the saved rows, where the variables stay in front
+    in-front : {buf w′ : List ℕ} {params′ : List (List ℕ)} {buf′ : List ℕ} {a : Answer} {z : step.Answer} → Replied buf w′ params′ buf′ a z → Front (s₀ .vars) (z .state .vars) → Saved-partly w′ (a .used) rows saved
+    unfolding held seen with-structs
+    in-front {w′ = w′} {a = a} p front =
+        partly-fewer rows (rw is-rows (rows-few (f .mark) (u .vars)))
+        (partly-still w u w′ (a .used) (s .lay) (p .lay) (subst (λ (x : step.Answer). Front (s₀ .vars) (x .state .vars)) (p .is) front) saved kept)
+
     -- a refusal's number, and what it leaves
     abbrev Refuses : ℕ → List ℕ → Answer → Type 0
     Refuses number w′ a = (x : Refusal) (buf : List ℕ) → number-of-refusal x ≡ number → Answers w₁ (f .used) u saved buf w′ buf a (refused-by x)
@@ -138,34 +157,42 @@ module _ {w : List ℕ} {u : Used} {params : List (List ℕ)} (stream : Bytes) (
         → (buf : List ℕ) → Replied buf w′ params buf a (answered whole s₀ bytes)
     refused-by-x whole x g n e buf = rw e (reply-refused x buf s since (c .structs) (g x buf n))
 
+    refused-front : (whole : Bool) (x : Refusal) → answered whole s₀ bytes ≡ refusal s₀ x → Front (s₀ .vars) (answered whole s₀ bytes .state .vars)
+    unfolding refusal
+    refused-front whole x e = rw e (front-refl (s₀ .vars))
+
     -- 5, 6, 18
     pub steps-stopped : (whole : Bool) (p : Part) (x : Refusal) → ((g : ℕ → Noded) (t : State) (l : Bytes) → part-with p g t l ≡ stopped x) → f .part ≡ p → at ≤ length stream
-        → {number : ℕ} {w′ : List ℕ} {a : Answer} → Refuses number w′ a → number-of-refusal x ≡ number → (buf : List ℕ) {r : Stepped} → r ≡ gone a at → Steps whole w u params stream at buf w′ params buf r
+        → {number : ℕ} {w′ : List ℕ} {a : Answer} → Refuses number w′ a → number-of-refusal x ≡ number → (buf : List ℕ) {r : Stepped} → r ≡ gone a at rows → Leaving whole buf w′ params buf r
     steps-stopped whole p x h e le g n buf q =
         let i = stop-is (read-record s₀ bytes) x s₀ (sym (h (noded (f .mark) f) _ _) ∙ read-is params c p e) in
-        steps whole (refused-by-x whole x g n (answered-not whole s₀ bytes x i) buf) at le (unread-not whole s₀ bytes x i) q
+        let j = answered-not whole s₀ bytes x i in
+        let z = refused-by-x whole x g n j buf in
+        (steps whole z at le (unread-not whole s₀ bytes x i) q, rw q (in-front z (refused-front whole x j)))
 
     module _ (whole over : Bool) (o : over ≡ whole && ltb (f .next) (length stream)) where
       abbrev Read-as : Result (State × Noded) → Type 0
       Read-as q = Got (read-record s₀ bytes) q (drop (f .next) stream) s₀
 
-      got-steps : {q : Result (State × Noded)} → Read-as q → {buf w′ : List ℕ} {params′ : List (List ℕ)} {buf′ : List ℕ} {a : Answer} {r : Stepped} → Replied buf w′ params′ buf′ a (answered whole s₀ bytes) → r ≡ gone a (f .next)
-          → Steps whole w u params stream at buf w′ params′ buf′ r
-      got-steps i p e = steps whole p (f .next) (c .within) (unread-got whole s₀ bytes (i .what) (drop (f .next) stream) (i .read)) e
+      got-steps : {q : Result (State × Noded)} → Read-as q → {buf w′ : List ℕ} {params′ : List (List ℕ)} {buf′ : List ℕ} {a : Answer} {r : Stepped} → Replied buf w′ params′ buf′ a (answered whole s₀ bytes)
+          → Saved-partly w′ (a .used) rows saved → r ≡ gone a (f .next) rows → Leaving whole buf w′ params′ buf′ r
+      got-steps i p h e = (steps whole p (f .next) (c .within) (unread-got whole s₀ bytes (i .what) (drop (f .next) stream) (i .read)) e, rw e h)
 
       -- 7, but bytes left over are 5
-      pub steps-full : f .part ≡ Full → {number : ℕ} {w′ : List ℕ} {a : Answer} → Refuses number w′ a → number ≡ (if over then 5 else 7) → (buf : List ℕ) {r : Stepped} → r ≡ gone a (f .next)
-          → Steps whole w u params stream at buf w′ params buf r
+      pub steps-full : f .part ≡ Full → {number : ℕ} {w′ : List ℕ} {a : Answer} → Refuses number w′ a → number ≡ (if over then 5 else 7) → (buf : List ℕ) {r : Stepped} → r ≡ gone a (f .next) rows
+          → Leaving whole buf w′ params buf r
       unfolding _>>=_ answer number-of-refusal
       steps-full e {number} {w′} {a} g n buf q =
           let i : Read-as (refused full) = got-is (read-record s₀ bytes) (refused full) (drop (f .next) stream) s₀ (read-is params c Full e) in
           let ran : run s₀ (i .what) ≡ refused full = run-placed s₀ (i .what) ∙ ap (λ (m : Result (State × Noded)). m >>= (λ q. noded-run (q .1) (q .0) s₀)) (i .placed) in
           let told = answered-got whole s₀ bytes (i .what) stream (f .next) (i .read) over o ∙ ap (λ (m : Result (State × Bytes)). if over then refusal s₀ malformed else answer s₀ m) ran in
-          got-steps i (go over n told) q
+          let z = go over n told in
+          got-steps i (z .0) (in-front (z .0) (z .1)) q
         where
-          go : (b : Bool) → number ≡ (if b then 5 else 7) → answered whole s₀ bytes ≡ (if b then refusal s₀ malformed else refusal s₀ full) → Replied buf w′ params buf a (answered whole s₀ bytes)
-          go true n t = refused-by-x whole malformed g (sym n) t buf
-          go false n t = refused-by-x whole full g (sym n) t buf
+          go : (b : Bool) → number ≡ (if b then 5 else 7) → answered whole s₀ bytes ≡ (if b then refusal s₀ malformed else refusal s₀ full)
+              → Replied buf w′ params buf a (answered whole s₀ bytes) × Front (s₀ .vars) (answered whole s₀ bytes .state .vars)
+          go true n t = (refused-by-x whole malformed g (sym n) t buf, refused-front whole malformed t)
+          go false n t = (refused-by-x whole full g (sym n) t buf, refused-front whole full t)
 
       module _ (t : ℕ) (e : f .part ≡ At t) where
         abbrev n : Noded
@@ -187,12 +214,24 @@ module _ {w : List ℕ} {u : Used} {params : List (List ℕ)} (stream : Bytes) (
         placed-in = noded-in-more (f .mark) (u .vars) (f .used .nodes) f t (subst (λ (p : Part). Part-so p (Noded-in (f .mark) (u .vars) (f .used .nodes) f)) e (c .inside)) (f .used .vars) (f .used .nodes) (read-above .vars) (omega arith)
 
         -- bytes left over
-        pub steps-over : over ≡ true → {w′ : List ℕ} {a : Answer} → Refuses 5 w′ a → (buf : List ℕ) {r : Stepped} → r ≡ gone a (f .next) → Steps whole w u params stream at buf w′ params buf r
+        pub steps-over : over ≡ true → {w′ : List ℕ} {a : Answer} → Refuses 5 w′ a → (buf : List ℕ) {r : Stepped} → r ≡ gone a (f .next) rows → Leaving whole buf w′ params buf r
         unfolding number-of-refusal
-        steps-over b g buf q = got-steps at-node (refused-by-x whole malformed g refl (told ∙ ap (λ (x : Bool). if x then refusal s₀ malformed else answer s₀ (run s₀ (at-node .what))) b) buf) q
+        steps-over b g buf q =
+            let j : answered whole s₀ bytes ≡ refusal s₀ malformed = told ∙ ap (λ (x : Bool). if x then refusal s₀ malformed else answer s₀ (run s₀ (at-node .what))) b in
+            let z = refused-by-x whole malformed g refl j buf in
+            got-steps at-node z (in-front z (refused-front whole malformed j)) q
 
-        pub steps-run : over ≡ false → {buf w′ : List ℕ} {params′ : List (List ℕ)} {buf′ : List ℕ} {a : Answer} → Ends u params saved w₁ (f .used) n buf w′ params′ buf′ a → {r : Stepped} → r ≡ gone a (f .next)
-            → Steps whole w u params stream at buf w′ params′ buf′ r
+        -- what the record's mark says of the saved rows
+        rows-stand : {buf w′ : List ℕ} {params′ : List (List ℕ)} {buf′ : List ℕ} {a : Answer} → Replied buf w′ params′ buf′ a (answer s₀ (run s₀ (at-node .what))) → Saved-partly w′ (a .used) rows saved
+        rows-stand {w′ = w′} {a = a} p = go (decLt (group n) 2)
+          where
+            go : Dec (group n < 2) → Saved-partly w′ (a .used) rows saved
+            go (yes l) = in-front p (answer-front s₀ (at-node .what) _ n (at-node .placed) l)
+            go (no l) = rw (is-rows ∙ rows-none (f .mark) f t (u .vars) (omega arith)) (partly-none w′ (a .used) saved)
+
+        pub steps-run : over ≡ false → {buf w′ : List ℕ} {params′ : List (List ℕ)} {buf′ : List ℕ} {a : Answer} → Ends u params saved w₁ (f .used) n buf w′ params′ buf′ a → {r : Stepped} → r ≡ gone a (f .next) rows
+            → Leaving whole buf w′ params′ buf′ r
         steps-run b {buf} {w′} {params′} {buf′} {a} g q =
-            let p : Replied buf w′ params′ buf′ a (answered whole s₀ bytes) = rw (told ∙ ap (λ (x : Bool). if x then refusal s₀ malformed else answer s₀ (run s₀ (at-node .what))) b) (g w (at-node .what) begun) in
-            got-steps at-node p q
+            let z = g w (at-node .what) begun in
+            let p : Replied buf w′ params′ buf′ a (answered whole s₀ bytes) = rw (told ∙ ap (λ (x : Bool). if x then refusal s₀ malformed else answer s₀ (run s₀ (at-node .what))) b) z in
+            got-steps at-node p (rows-stand z) q

@@ -85,6 +85,25 @@ call-of m.SV = Solve
 call-of m.RM = Run
 call-of m.Other = Solve
 
+-- how many of the n saved rows surely stand after a record
+abbrev pub rows-after : RecordMark → ℕ → ℕ
+rows-after m.SD n = n
+rows-after m.FV n = n
+rows-after m.NV n = n
+rows-after m.SN n = 0
+rows-after m.JN n = 0
+rows-after m.SU n = 0
+rows-after m.UF n = n
+rows-after m.RD n = n
+rows-after m.TS n = n
+rows-after m.IN n = 0
+rows-after m.NC n = n
+rows-after m.BC n = n
+rows-after m.SC n = n
+rows-after m.SV n = 0
+rows-after m.RM n = n
+rows-after m.Other n = 0
+
 -- ---- the stream after a record
 
 abbrev pub place-after : Part → ℕ → ℕ → ℕ

@@ -7,10 +7,11 @@ ghost use lib.ListN.{length, take, drop};
 ghost use Rattle.definition.specs.Types.{if_then_else_};
 ghost use Rattle.definition.specs.Write.{Is-bytes};
 ghost use Rattle.table.specs.State.{Lay};
+ghost use Rattle.snap.specs.Snap.{Saved-partly};
 ghost use Rattle.lent.specs.Lent.{used-of};
 ghost use Rattle.fields.specs.Noded.{SD, noded, Noded-in};
 ghost use Rattle.step.specs.Trusted.{held, Stands, unread, Steps};
-ghost use Rattle.step.specs.Replies.{Begins, Ends, row-for, padded, call-of, place-after};
+ghost use Rattle.step.specs.Replies.{Begins, Ends, row-for, padded, call-of, rows-after, place-after};
 use answer::Answer;
 use fields::Fields;
 use marks::RecordMark;
@@ -19,16 +20,17 @@ use reader::Part;
 use table::Found;
 use table::Used;
 
-// One record's answer, the rows in use after it, and where the rest of the stream begins.
+// One record's answer, the rows in use after it, where the rest of the stream begins, and how many of the saved rows still stand.
 pub struct Stepped {
     pub number: u32,
     pub len: usize,
     pub used: Used,
     pub next: usize,
+    pub rows: u32,
 }
 
-fn with_next(a: Answer, next: usize) -> Stepped
-    ensures { λ r. ⌜ r ≡ record { number = a .number; len = a .len; used = a .used; next = next } ⌝ }
+fn with_next(a: Answer, next: usize, rows: u32) -> Stepped
+    ensures { λ r. ⌜ r ≡ record { number = a .number; len = a .len; used = a .used; next = next; rows = rows } ⌝ }
 {
     let u = a.used;
     Stepped {
@@ -36,6 +38,7 @@ fn with_next(a: Answer, next: usize) -> Stepped
         len: a.len,
         used: u,
         next: next,
+        rows: rows,
     }
 }
 
@@ -139,6 +142,30 @@ fn call_of(mark: RecordMark) -> Call
     }
 }
 
+// How many of the n saved rows surely stand after a record: the marks that bind or mark a variable that is there already leave none.
+fn rows_after(mark: RecordMark, n: u32) -> u32
+    ensures { λ r. ⌜ r ≡ rows-after mark n ⌝ }
+{
+    match mark {
+        RecordMark::SD => n,
+        RecordMark::FV => n,
+        RecordMark::NV => n,
+        RecordMark::SN => 0,
+        RecordMark::JN => 0,
+        RecordMark::SU => 0,
+        RecordMark::UF => n,
+        RecordMark::RD => n,
+        RecordMark::TS => n,
+        RecordMark::IN => 0,
+        RecordMark::NC => n,
+        RecordMark::BC => n,
+        RecordMark::SC => n,
+        RecordMark::SV => 0,
+        RecordMark::RM => n,
+        RecordMark::Other => 0,
+    }
+}
+
 // What was read and placed is run and answered; t is the node of the last type.
 fn answer_placed(
     w: &mut [u32],
@@ -191,7 +218,8 @@ fn seven_or_five(over: bool) -> u32
     7
 }
 
-// whole: the record is all that is lent, and bytes left over are 5, which comes before 7.
+// whole: the record is all that is lent, and bytes left over are 5, which comes before 7. The first `rows` variables are saved already, and the answer
+// says how many are still: so rows are copied once after each record that may change them, not at each record.
 pub fn step_trusted(
     w: &mut [u32],
     u: Used,
@@ -199,28 +227,37 @@ pub fn step_trusted(
     stream: &[u8],
     at: usize,
     whole: bool,
+    rows: u32,
     saved: &mut [u32],
     buf: &mut [u8],
 ) -> Stepped
     requires { ⌜ Stands (now w) u (now params) × (Is-bytes (now stream) × ((at ≤ length (now stream)) × ((5120 ≤ length (now saved)) × (4096 ≤ length (now buf))))) ⌝ }
+    requires { ⌜ Saved-partly (now w) u rows (now saved) ⌝ }
     ensures { λ r. ⌜ Steps whole (now (w .entry)) u (now (params .entry)) (now (stream .entry)) at (now (buf .entry)) (now (w .exit)) (now (params .exit)) (now (buf .exit)) r ⌝ }
+    ensures { λ r. ⌜ Saved-partly (now (w .exit)) (r .used) (r .rows) (now (saved .exit)) ⌝ }
 {
-    snap::save_vars(w, u, saved);
+    snap::save_vars(w, u, rows, saved);
     let f = record::read_record(w, u, stream, at);
     let p = f.part;
     let v = f.used;
     let next = f.next;
+    let mark = f.mark;
+    let kept = rows_after(mark, u.vars);
     let over = left_over(whole, next, stream.len());
     match p {
-        Part::Malformed => with_next(answer::refuse(w, v, u, saved, 5), at),
-        Part::Unknown => with_next(answer::refuse(w, v, u, saved, 6), at),
-        Part::Doubled => with_next(answer::refuse(w, v, u, saved, 18), at),
-        Part::Full => with_next(answer::refuse(w, v, u, saved, seven_or_five(over)), next),
+        Part::Malformed => with_next(answer::refuse(w, v, u, saved, 5), at, kept),
+        Part::Unknown => with_next(answer::refuse(w, v, u, saved, 6), at, kept),
+        Part::Doubled => with_next(answer::refuse(w, v, u, saved, 18), at, kept),
+        Part::Full => with_next(
+            answer::refuse(w, v, u, saved, seven_or_five(over)),
+            next,
+            kept,
+        ),
         Part::At(t) => {
             if over {
-                return with_next(answer::refuse(w, v, u, saved, 5), next);
+                return with_next(answer::refuse(w, v, u, saved, 5), next, kept);
             }
-            with_next(answer_placed(w, v, u, params, saved, f, t, buf), next)
+            with_next(answer_placed(w, v, u, params, saved, f, t, buf), next, kept)
         }
     }
 }
@@ -251,7 +288,7 @@ pub fn rest_trusted(
     requires { ⌜ Stands (now w) u (now params) × ((u ≡ used-of (now w)) × (5120 ≤ length (now saved))) ⌝ }
     ensures { λ r. ⌜ (now (w .exit) ≡ now (w .entry)) × ((r ≤ length (now (stream .entry))) × (unread (held (now (w .entry)) u (now (params .entry))) (now (stream .entry)) ≡ drop r (now (stream .entry)))) ⌝ }
 {
-    snap::save_vars(w, u, saved);
+    snap::save_vars(w, u, 0, saved);
     let f = record::read_record(w, u, stream, 0);
     let p = f.part;
     let v = f.used;

@@ -17,25 +17,25 @@ enum-known-out : tie.Need-enum-known-out
 enum-known-out c = search needs
 
 succeed-requires : tie.Need-succeed-requires
-succeed-requires c κs = (c .before .before .before .before .before .before .before .before .before .pre .0, (rw (c .before .before .before .out .given .1) at (c .before .before .before .before .before .before .before .before .before .pre .1 .0), ((rw (c .before .before .before .out .given .1) at (c .before .before .before .before .before .before .before .before .before .pre .1 .1 .0)) tt, c .before .before .before .before .before .before .before .before .before .pre .1 .1 .1)))
+succeed-requires c κs = (c .before .before .before .before .before .before .before .before .before .pre .0, ((rw (c .before .before .before .out .given .1) at (c .before .before .before .before .before .before .before .before .before .pre .1 .0 .0), ((rw (c .before .before .before .out .given .1) at (c .before .before .before .before .before .before .before .before .before .pre .1 .0 .1 .0)) tt, c .before .before .before .before .before .before .before .before .before .pre .1 .0 .1 .1)), c .before .before .before .before .before .before .before .before .before .pre .1 .1 _ (c .before .before .before .out .given .1)))
 
 enum-known-out-2 : tie.Need-enum-known-out-2
 enum-known-out-2 c = search needs
 
 fail-two-requires : tie.Need-fail-two-requires
-fail-two-requires c κs = (c .before .before .before .before .before .before .before .before .before .pre .0, (rw (c .before .before .before .out2 .given .1) at (c .before .before .before .before .before .before .before .before .before .pre .1 .0), ((rw (c .before .before .before .out2 .given .1) at (c .before .before .before .before .before .before .before .before .before .pre .1 .1 .0)) tt, c .before .before .before .before .before .before .before .before .before .pre .1 .1 .1)))
+fail-two-requires c κs = (c .before .before .before .before .before .before .before .before .before .pre .0, (rw (c .before .before .before .out2 .given .1) at (c .before .before .before .before .before .before .before .before .before .pre .1 .0 .0), ((rw (c .before .before .before .out2 .given .1) at (c .before .before .before .before .before .before .before .before .before .pre .1 .0 .1 .0)) tt, c .before .before .before .before .before .before .before .before .before .pre .1 .0 .1 .1)))
 
 enum-known-out-3 : tie.Need-enum-known-out-3
 enum-known-out-3 c = search needs
 
 fail-two-requires-2 : tie.Need-fail-two-requires-2
-fail-two-requires-2 c κs = (c .before .before .before .before .before .before .before .before .before .pre .0, (rw (c .before .before .before .out3 .given .1) at (c .before .before .before .before .before .before .before .before .before .pre .1 .0), ((rw (c .before .before .before .out3 .given .1) at (c .before .before .before .before .before .before .before .before .before .pre .1 .1 .0)) tt, c .before .before .before .before .before .before .before .before .before .pre .1 .1 .1)))
+fail-two-requires-2 c κs = (c .before .before .before .before .before .before .before .before .before .pre .0, (rw (c .before .before .before .out3 .given .1) at (c .before .before .before .before .before .before .before .before .before .pre .1 .0 .0), ((rw (c .before .before .before .out3 .given .1) at (c .before .before .before .before .before .before .before .before .before .pre .1 .0 .1 .0)) tt, c .before .before .before .before .before .before .before .before .before .pre .1 .0 .1 .1)))
 
 enum-known-out-4 : tie.Need-enum-known-out-4
 enum-known-out-4 c = search needs
 
 fail-two-requires-3 : tie.Need-fail-two-requires-3
-fail-two-requires-3 c κs = (c .before .before .before .before .before .before .before .before .before .pre .0, (rw (c .before .before .before .out4 .given .1) at (c .before .before .before .before .before .before .before .before .before .pre .1 .0), ((rw (c .before .before .before .out4 .given .1) at (c .before .before .before .before .before .before .before .before .before .pre .1 .1 .0)) tt, c .before .before .before .before .before .before .before .before .before .pre .1 .1 .1)))
+fail-two-requires-3 c κs = (c .before .before .before .before .before .before .before .before .before .pre .0, (rw (c .before .before .before .out4 .given .1) at (c .before .before .before .before .before .before .before .before .before .pre .1 .0 .0), ((rw (c .before .before .before .out4 .given .1) at (c .before .before .before .before .before .before .before .before .before .pre .1 .0 .1 .0)) tt, c .before .before .before .before .before .before .before .before .before .pre .1 .0 .1 .1)))
 
 enum-known-out-5 : tie.Need-enum-known-out-5
 enum-known-out-5 c = search needs

@@ -3,6 +3,8 @@ use mathlib.Core.Path.{_≡_, sym, _∙_}
 use Prim.Native.Nat.{ℕ, _-_}
 use native.Mathlib.Omega.{arith}
 use lib.ListN.{length, length-replicate}
+use Rattle.snap.specs.Snap.{Saved-partly}
+use Rattle.snap.proofs.Saving.{partly-none}
 use borrow.Author.Needs.{needs}
 use borrow.Author.Tests.{not-true, not-false}
 use Rattle.engine.proofs.Laws.{bytes-of}
@@ -11,13 +13,13 @@ use Rattle.engine.proofs.lines_trusted.Statement.{statement}
 use Rattle.engine.proofs.lines_trusted.Tie as tie
 
 abbrev Inv-loop : tie.InvT-loop
-Inv-loop w₀ params₀ stream more log₀ place saved₀ buf₀ used₀ at₀ n₀ i₀ w params log saved buf used at n i = (length saved ≡ 5120) × ((length buf ≡ 4096) × Going w₀ used₀ params₀ place stream more log₀ w used params log at n i)
+Inv-loop w₀ params₀ stream more log₀ place saved₀ buf₀ used₀ rows₀ at₀ n₀ i₀ w params log saved buf used rows at n i = ((length saved ≡ 5120) × Saved-partly w used rows saved) × ((length buf ≡ 4096) × Going w₀ used₀ params₀ place stream more log₀ w used params log at n i)
 
 abbrev μ-loop : tie.MeasureT-loop
-μ-loop w₀ params₀ stream more log₀ place saved₀ buf₀ used₀ at₀ n₀ i₀ w params log saved buf used at n i = length stream - at
+μ-loop w₀ params₀ stream more log₀ place saved₀ buf₀ used₀ rows₀ at₀ n₀ i₀ w params log saved buf used rows at n i = length stream - at
 
 loop-holds : tie.Need-loop-holds Inv-loop μ-loop
-loop-holds c = (length-replicate {A = ℕ} 5120 0, (length-replicate {A = ℕ} 4096 0, going-start _ _ _ _ _ _ _ (c .before .before .before .pre)))
+loop-holds c = ((length-replicate {A = ℕ} 5120 0, partly-none _ _ _), (length-replicate {A = ℕ} 4096 0, going-start _ _ _ _ _ _ _ (c .before .before .before .pre)))
 
 sub-takes-on : tie.Need-sub-takes-on Inv-loop μ-loop
 sub-takes-on c = omega (arith, c .before .loop .inv .1 .1 .within)
@@ -41,19 +43,19 @@ returns : tie.Need-returns Inv-loop μ-loop
 returns c = rw (c .lines-at .ensures) (going-stops (c .before .before .before .before .loop .inv .1 .1) (c .before .before .before .loop-test .taken) (taken-on (c .before .before .before .before .loop .inv .1 .1) (c .before .before .takes-on .ensures) (not-true _ (c .before .if1 .taken))))
 
 slice-aggregate-step-trusted : tie.Need-slice-aggregate-step-trusted Inv-loop μ-loop
-slice-aggregate-step-trusted c = sym (c .before .before .before .before .before .before .loop .inv .0)
+slice-aggregate-step-trusted c = sym (c .before .before .before .before .before .before .loop .inv .0 .0)
 
 slice-aggregate-step-trusted-2 : tie.Need-slice-aggregate-step-trusted-2 Inv-loop μ-loop
 slice-aggregate-step-trusted-2 c = sym (c .before .before .before .before .before .before .before .loop .inv .1 .0)
 
 step-trusted-requires : tie.Need-step-trusted-requires Inv-loop μ-loop
-step-trusted-requires c κs = (c .before .before .before .before .before .before .before .loop .inv .1 .1 .stands, (bytes-of (c .before .before .before .before .before .before .before .before .before .before .before .args .stream .now) (c .before .before .before .before .before .before .before .before .before .shared-slice-known .given), (c .before .before .before .before .before .before .before .loop .inv .1 .1 .within, (omega (arith, c .before .before .before .before .before .before .before .loop .inv .0), omega (arith, c .before .before .before .before .before .before .before .loop .inv .1 .0)))))
+step-trusted-requires c κs = ((c .before .before .before .before .before .before .before .loop .inv .1 .1 .stands, (bytes-of (c .before .before .before .before .before .before .before .before .before .before .before .args .stream .now) (c .before .before .before .before .before .before .before .before .before .shared-slice-known .given), (c .before .before .before .before .before .before .before .loop .inv .1 .1 .within, (omega (arith, c .before .before .before .before .before .before .before .loop .inv .0 .0), omega (arith, c .before .before .before .before .before .before .before .loop .inv .1 .0))))), c .before .before .before .before .before .before .before .loop .inv .0 .1)
 
 slice-aggregate-write-line : tie.Need-slice-aggregate-write-line Inv-loop μ-loop
-slice-aggregate-write-line c = sym (c .before .before .before .before .before .step-trusted .kept .1 .1 .1 .1 .1 .1 .1 .0 ∙ c .before .before .before .before .before .before .before .before .before .before .before .before .before .loop .inv .1 .0)
+slice-aggregate-write-line c = sym (c .before .before .before .before .before .step-trusted .kept .1 .1 .1 .1 .1 .1 .1 .1 .0 ∙ c .before .before .before .before .before .before .before .before .before .before .before .before .before .loop .inv .1 .0)
 
 write-line-requires : tie.Need-write-line-requires Inv-loop μ-loop
-write-line-requires c κs = (omega (arith, c .before .before .before .before .before .before .step-trusted .ensures .few, c .before .before .before .before .before .before .step-trusted .kept .1 .1 .1 .1 .1 .1 .1 .0, c .before .before .before .before .before .before .before .before .before .before .before .before .before .before .loop .inv .1 .0), line-room (c .before .before .before .before .before .before .before .before .before .before .before .before .before .before .loop .inv .1 .1) (bytes-of (c .before .before .before .before .before .before .before .before .before .before .before .before .before .before .before .before .before .before .args .stream .now) (c .before .before .before .before .before .before .before .before .before .before .before .before .before .before .before .before .shared-slice-known .given)) (c .before .before .before .before .before .before .before .before .before .before .before .before .before .loop-test .taken) (taken-on (c .before .before .before .before .before .before .before .before .before .before .before .before .before .before .loop .inv .1 .1) (c .before .before .before .before .before .before .before .before .before .before .before .before .takes-on .ensures) (not-false _ (c .before .before .before .before .before .before .before .before .before .before .before .if1 .left))) (c .before .before .before .before .before .before .step-trusted .ensures))
+write-line-requires c κs = (omega (arith, c .before .before .before .before .before .before .step-trusted .ensures .0 .few, c .before .before .before .before .before .before .step-trusted .kept .1 .1 .1 .1 .1 .1 .1 .1 .0, c .before .before .before .before .before .before .before .before .before .before .before .before .before .before .loop .inv .1 .0), line-room (c .before .before .before .before .before .before .before .before .before .before .before .before .before .before .loop .inv .1 .1) (bytes-of (c .before .before .before .before .before .before .before .before .before .before .before .before .before .before .before .before .before .before .args .stream .now) (c .before .before .before .before .before .before .before .before .before .before .before .before .before .before .before .before .shared-slice-known .given)) (c .before .before .before .before .before .before .before .before .before .before .before .before .before .loop-test .taken) (taken-on (c .before .before .before .before .before .before .before .before .before .before .before .before .before .before .loop .inv .1 .1) (c .before .before .before .before .before .before .before .before .before .before .before .before .takes-on .ensures) (not-false _ (c .before .before .before .before .before .before .before .before .before .before .before .if1 .left))) (c .before .before .before .before .before .before .step-trusted .ensures .0))
 
 add-i : tie.Need-add-i Inv-loop μ-loop
 add-i c = record { fits = omega (arith, takes-room _ _ _ _ (taken-on (c .before .before .before .before .before .before .before .before .before .before .before .before .before .before .before .before .before .loop .inv .1 .1) (c .before .before .before .before .before .before .before .before .before .before .before .before .before .before .before .takes-on .ensures) (not-false _ (c .before .before .before .before .before .before .before .before .before .before .before .before .before .before .if1 .left))) .1) }
@@ -65,19 +67,19 @@ lines-at-requires-2 : tie.Need-lines-at-requires-2 Inv-loop μ-loop
 lines-at-requires-2 c κs = search needs
 
 same-length-3 : tie.Need-same-length-3 Inv-loop μ-loop
-same-length-3 c = c .before .before .before .before .before .before .before .before .before .before .before .before .before .step-trusted .ensures .stands .lay .size ∙ sym (c .before .before .before .before .before .before .before .before .before .before .before .before .before .before .before .before .before .before .before .before .before .before .before .before .before .pre .lay .size)
+same-length-3 c = c .before .before .before .before .before .before .before .before .before .before .before .before .before .step-trusted .ensures .0 .stands .lay .size ∙ sym (c .before .before .before .before .before .before .before .before .before .before .before .before .before .before .before .before .before .before .before .before .before .before .before .before .before .pre .lay .size)
 
 same-length-4 : tie.Need-same-length-4 Inv-loop μ-loop
-same-length-4 c = turned (c .before .before .before .before .before .before .before .before .before .before .before .before .before .before .before .before .before .before .before .before .before .loop .inv .1 .1) (bytes-of (c .before .before .before .before .before .before .before .before .before .before .before .before .before .before .before .before .before .before .before .before .before .before .before .before .before .args .stream .now) (c .before .before .before .before .before .before .before .before .before .before .before .before .before .before .before .before .before .before .before .before .before .before .before .shared-slice-known .given)) (c .before .before .before .before .before .before .before .before .before .before .before .before .before .before .before .before .before .before .before .before .loop-test .taken) (taken-on (c .before .before .before .before .before .before .before .before .before .before .before .before .before .before .before .before .before .before .before .before .before .loop .inv .1 .1) (c .before .before .before .before .before .before .before .before .before .before .before .before .before .before .before .before .before .before .before .takes-on .ensures) (not-false _ (c .before .before .before .before .before .before .before .before .before .before .before .before .before .before .before .before .before .before .if1 .left))) (c .before .before .before .before .before .before .before .before .before .before .before .before .before .step-trusted .ensures) (c .before .before .before .before .before .before .write-line .ensures) .size
+same-length-4 c = turned (c .before .before .before .before .before .before .before .before .before .before .before .before .before .before .before .before .before .before .before .before .before .loop .inv .1 .1) (bytes-of (c .before .before .before .before .before .before .before .before .before .before .before .before .before .before .before .before .before .before .before .before .before .before .before .before .before .args .stream .now) (c .before .before .before .before .before .before .before .before .before .before .before .before .before .before .before .before .before .before .before .before .before .before .before .shared-slice-known .given)) (c .before .before .before .before .before .before .before .before .before .before .before .before .before .before .before .before .before .before .before .before .loop-test .taken) (taken-on (c .before .before .before .before .before .before .before .before .before .before .before .before .before .before .before .before .before .before .before .before .before .loop .inv .1 .1) (c .before .before .before .before .before .before .before .before .before .before .before .before .before .before .before .before .before .before .before .takes-on .ensures) (not-false _ (c .before .before .before .before .before .before .before .before .before .before .before .before .before .before .before .before .before .before .if1 .left))) (c .before .before .before .before .before .before .before .before .before .before .before .before .before .step-trusted .ensures .0) (c .before .before .before .before .before .before .write-line .ensures) .size
 
 returns-2 : tie.Need-returns-2 Inv-loop μ-loop
-returns-2 c = rw (c .lines-at2 .ensures) (going-last (c .before .before .before .before .before .before .before .before .before .before .before .before .before .before .before .before .before .before .before .before .before .loop .inv .1 .1) (bytes-of (c .before .before .before .before .before .before .before .before .before .before .before .before .before .before .before .before .before .before .before .before .before .before .before .before .before .args .stream .now) (c .before .before .before .before .before .before .before .before .before .before .before .before .before .before .before .before .before .before .before .before .before .before .before .shared-slice-known .given)) (c .before .before .before .before .before .before .before .before .before .before .before .before .before .before .before .before .before .before .before .before .loop-test .taken) (taken-on (c .before .before .before .before .before .before .before .before .before .before .before .before .before .before .before .before .before .before .before .before .before .loop .inv .1 .1) (c .before .before .before .before .before .before .before .before .before .before .before .before .before .before .before .before .before .before .before .takes-on .ensures) (not-false _ (c .before .before .before .before .before .before .before .before .before .before .before .before .before .before .before .before .before .before .if1 .left))) (c .before .before .before .before .before .before .before .before .before .before .before .before .before .step-trusted .ensures) (sym (c .before .before .ends-job .ensures) ∙ c .before .if2 .taken) (c .before .before .before .before .before .before .write-line .ensures))
+returns-2 c = rw (c .lines-at2 .ensures) (going-last (c .before .before .before .before .before .before .before .before .before .before .before .before .before .before .before .before .before .before .before .before .before .loop .inv .1 .1) (bytes-of (c .before .before .before .before .before .before .before .before .before .before .before .before .before .before .before .before .before .before .before .before .before .before .before .before .before .args .stream .now) (c .before .before .before .before .before .before .before .before .before .before .before .before .before .before .before .before .before .before .before .before .before .before .before .shared-slice-known .given)) (c .before .before .before .before .before .before .before .before .before .before .before .before .before .before .before .before .before .before .before .before .loop-test .taken) (taken-on (c .before .before .before .before .before .before .before .before .before .before .before .before .before .before .before .before .before .before .before .before .before .loop .inv .1 .1) (c .before .before .before .before .before .before .before .before .before .before .before .before .before .before .before .before .before .before .before .takes-on .ensures) (not-false _ (c .before .before .before .before .before .before .before .before .before .before .before .before .before .before .before .before .before .before .if1 .left))) (c .before .before .before .before .before .before .before .before .before .before .before .before .before .step-trusted .ensures .0) (sym (c .before .before .ends-job .ensures) ∙ c .before .if2 .taken) (c .before .before .before .before .before .before .write-line .ensures))
 
 loop-less : tie.Need-loop-less Inv-loop μ-loop
-loop-less c = omega (arith, going-less (c .before .before .before .before .before .before .before .before .before .before .before .before .before .before .before .before .before .before .before .before .loop .inv .1 .1) (bytes-of (c .before .before .before .before .before .before .before .before .before .before .before .before .before .before .before .before .before .before .before .before .before .before .before .before .args .stream .now) (c .before .before .before .before .before .before .before .before .before .before .before .before .before .before .before .before .before .before .before .before .before .before .shared-slice-known .given)) (c .before .before .before .before .before .before .before .before .before .before .before .before .before .before .before .before .before .before .before .loop-test .taken) (taken-on (c .before .before .before .before .before .before .before .before .before .before .before .before .before .before .before .before .before .before .before .before .loop .inv .1 .1) (c .before .before .before .before .before .before .before .before .before .before .before .before .before .before .before .before .before .before .takes-on .ensures) (not-false _ (c .before .before .before .before .before .before .before .before .before .before .before .before .before .before .before .before .before .if1 .left))) (c .before .before .before .before .before .before .before .before .before .before .before .before .step-trusted .ensures) (sym (c .before .ends-job .ensures) ∙ c .if2 .left), c .before .before .before .before .before .before .before .before .before .before .before .before .step-trusted .ensures .within)
+loop-less c = omega (arith, going-less (c .before .before .before .before .before .before .before .before .before .before .before .before .before .before .before .before .before .before .before .before .loop .inv .1 .1) (bytes-of (c .before .before .before .before .before .before .before .before .before .before .before .before .before .before .before .before .before .before .before .before .before .before .before .before .args .stream .now) (c .before .before .before .before .before .before .before .before .before .before .before .before .before .before .before .before .before .before .before .before .before .before .shared-slice-known .given)) (c .before .before .before .before .before .before .before .before .before .before .before .before .before .before .before .before .before .before .before .loop-test .taken) (taken-on (c .before .before .before .before .before .before .before .before .before .before .before .before .before .before .before .before .before .before .before .before .loop .inv .1 .1) (c .before .before .before .before .before .before .before .before .before .before .before .before .before .before .before .before .before .before .takes-on .ensures) (not-false _ (c .before .before .before .before .before .before .before .before .before .before .before .before .before .before .before .before .before .if1 .left))) (c .before .before .before .before .before .before .before .before .before .before .before .before .step-trusted .ensures .0) (sym (c .before .ends-job .ensures) ∙ c .if2 .left), c .before .before .before .before .before .before .before .before .before .before .before .before .step-trusted .ensures .0 .within)
 
 loop-again : tie.Need-loop-again Inv-loop μ-loop
-loop-again c = (c .before .before .before .before .before .before .before .before .before .before .before .before .step-trusted .kept .1 .1 .1 .1 .1 .1 .0 ∙ c .before .before .before .before .before .before .before .before .before .before .before .before .before .before .before .before .before .before .before .before .loop .inv .0, (c .before .before .before .before .before .before .before .before .before .before .before .before .step-trusted .kept .1 .1 .1 .1 .1 .1 .1 .0 ∙ c .before .before .before .before .before .before .before .before .before .before .before .before .before .before .before .before .before .before .before .before .loop .inv .1 .0, going-on (c .before .before .before .before .before .before .before .before .before .before .before .before .before .before .before .before .before .before .before .before .loop .inv .1 .1) (bytes-of (c .before .before .before .before .before .before .before .before .before .before .before .before .before .before .before .before .before .before .before .before .before .before .before .before .args .stream .now) (c .before .before .before .before .before .before .before .before .before .before .before .before .before .before .before .before .before .before .before .before .before .before .shared-slice-known .given)) (c .before .before .before .before .before .before .before .before .before .before .before .before .before .before .before .before .before .before .before .loop-test .taken) (taken-on (c .before .before .before .before .before .before .before .before .before .before .before .before .before .before .before .before .before .before .before .before .loop .inv .1 .1) (c .before .before .before .before .before .before .before .before .before .before .before .before .before .before .before .before .before .before .takes-on .ensures) (not-false _ (c .before .before .before .before .before .before .before .before .before .before .before .before .before .before .before .before .before .if1 .left))) (c .before .before .before .before .before .before .before .before .before .before .before .before .step-trusted .ensures) (sym (c .before .ends-job .ensures) ∙ c .if2 .left) (c .before .before .before .before .before .write-line .ensures)))
+loop-again c = ((c .before .before .before .before .before .before .before .before .before .before .before .before .step-trusted .kept .1 .1 .1 .1 .1 .1 .1 .0 ∙ c .before .before .before .before .before .before .before .before .before .before .before .before .before .before .before .before .before .before .before .before .loop .inv .0 .0, c .before .before .before .before .before .before .before .before .before .before .before .before .step-trusted .ensures .1), (c .before .before .before .before .before .before .before .before .before .before .before .before .step-trusted .kept .1 .1 .1 .1 .1 .1 .1 .1 .0 ∙ c .before .before .before .before .before .before .before .before .before .before .before .before .before .before .before .before .before .before .before .before .loop .inv .1 .0, going-on (c .before .before .before .before .before .before .before .before .before .before .before .before .before .before .before .before .before .before .before .before .loop .inv .1 .1) (bytes-of (c .before .before .before .before .before .before .before .before .before .before .before .before .before .before .before .before .before .before .before .before .before .before .before .before .args .stream .now) (c .before .before .before .before .before .before .before .before .before .before .before .before .before .before .before .before .before .before .before .before .before .before .shared-slice-known .given)) (c .before .before .before .before .before .before .before .before .before .before .before .before .before .before .before .before .before .before .before .loop-test .taken) (taken-on (c .before .before .before .before .before .before .before .before .before .before .before .before .before .before .before .before .before .before .before .before .loop .inv .1 .1) (c .before .before .before .before .before .before .before .before .before .before .before .before .before .before .before .before .before .before .takes-on .ensures) (not-false _ (c .before .before .before .before .before .before .before .before .before .before .before .before .before .before .before .before .before .if1 .left))) (c .before .before .before .before .before .before .before .before .before .before .before .before .step-trusted .ensures .0) (sym (c .before .ends-job .ensures) ∙ c .if2 .left) (c .before .before .before .before .before .write-line .ensures)))
 
 lines-at-requires-3 : tie.Need-lines-at-requires-3 Inv-loop μ-loop
 lines-at-requires-3 c κs = search needs

@@ -1,5 +1,6 @@
 -- `engine::record_trusted` meets its contract. Assumes nothing.
 use native.Mathlib.Omega.{arith}
+use Rattle.snap.proofs.Saving.{partly-none}
 use borrow.Author.Needs.{needs}
 use Rattle.engine.proofs.Laws.{bytes-of, stands-lent, lent-size, record-gives}
 use Rattle.engine.proofs.record_trusted.Statement.{statement}
@@ -12,7 +13,7 @@ slice-aggregate-step-trusted : tie.Need-slice-aggregate-step-trusted
 slice-aggregate-step-trusted c = search needs
 
 step-trusted-requires : tie.Need-step-trusted-requires
-step-trusted-requires c κs = (stands-lent _ _ (c .before .before .before .before .before .before .before .before .before .pre .0) _ (c .before .before .before .before .used-of .ensures), (bytes-of (c .before .before .before .before .before .before .before .before .before .args .«record» .now) (c .before .before .before .before .before .before .before .shared-slice-known .given), (omega arith, (omega arith, c .before .before .before .before .before .before .before .before .before .pre .1))))
+step-trusted-requires c κs = ((stands-lent _ _ (c .before .before .before .before .before .before .before .before .before .pre .0) _ (c .before .before .before .before .used-of .ensures), (bytes-of (c .before .before .before .before .before .before .before .before .before .args .«record» .now) (c .before .before .before .before .before .before .before .shared-slice-known .given), (omega arith, (omega arith, c .before .before .before .before .before .before .before .before .before .pre .1)))), partly-none _ _ _)
 
 write-used-requires : tie.Need-write-used-requires
 write-used-requires c κs = search needs
@@ -27,7 +28,7 @@ same-length-2 : tie.Need-same-length-2
 same-length-2 c = search needs
 
 returns : tie.Need-returns
-returns c = record-gives _ _ (c .before .before .before .before .before .before .before .before .before .before .before .before .before .before .before .before .before .before .before .before .before .pre .0) _ (c .before .before .before .before .before .before .before .before .before .before .before .before .before .before .before .before .used-of .ensures) _ _ (c .before .before .before .before .before .before .before .before .before .before .before .before .before .before .before .before .before .before .before .before .before .pre .1) _ _ _ _ (c .before .before .before .before .before .before .before .before .before .before .before .step-trusted .ensures) _ (c .before .before .before .write-used .ensures) (c .before .before .before .before .before .before .before .before .before .before .before .step-trusted .kept .1 .1 .1 .1 .1 .1 .1 .0)
+returns c = record-gives _ _ (c .before .before .before .before .before .before .before .before .before .before .before .before .before .before .before .before .before .before .before .before .before .pre .0) _ (c .before .before .before .before .before .before .before .before .before .before .before .before .before .before .before .before .used-of .ensures) _ _ (c .before .before .before .before .before .before .before .before .before .before .before .before .before .before .before .before .before .before .before .before .before .pre .1) _ _ _ _ (c .before .before .before .before .before .before .before .before .before .before .before .step-trusted .ensures .0) _ (c .before .before .before .write-used .ensures) (c .before .before .before .before .before .before .before .before .before .before .before .step-trusted .kept .1 .1 .1 .1 .1 .1 .1 .1 .0)
 
 pub record-trusted-spec : {M : Type 1} → statement M
 record-trusted-spec =

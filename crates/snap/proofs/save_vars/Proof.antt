@@ -1,24 +1,31 @@
 -- `snap::save_vars` meets its contract. Assumes nothing.
+use mathlib.Core.Path.{refl}
 use Prim.Native.Nat.{_-_}
 use native.Mathlib.Omega.{arith}
-use Rattle.snap.proofs.Saving.{Saving, saving-none, saving-more}
+use Rattle.snap.proofs.Saving.{Saving, saving-from, saving-more}
 use Rattle.snap.proofs.save_vars.Statement.{statement}
 use Rattle.snap.proofs.save_vars.Tie as tie
 
 abbrev Inv-loop : tie.InvT-loop
-Inv-loop w saved₀ n k₀ saved k = Saving w saved₀ saved n k
+Inv-loop w rows saved₀ n k₀ saved k = Saving w saved₀ saved n k
 
 abbrev μ-loop : tie.MeasureT-loop
-μ-loop w saved₀ n k₀ saved k = n - k
+μ-loop w rows saved₀ n k₀ saved k = n - k
 
 wide-requires : tie.Need-wide-requires Inv-loop μ-loop
 wide-requires c κs = tt
+
+wide-requires-2 : tie.Need-wide-requires-2 Inv-loop μ-loop
+wide-requires-2 c κs = tt
+
+mul-k : tie.Need-mul-k Inv-loop μ-loop
+mul-k c = omega (arith, c .wide2 .ensures, c .before .before .before .before .pre .1 .1 .few, c .before .before .before .before .pre .0 .vars)
 
 mul-n : tie.Need-mul-n Inv-loop μ-loop
 mul-n c = omega arith
 
 loop-holds : tie.Need-loop-holds Inv-loop μ-loop
-loop-holds c = saving-none _ _ _
+loop-holds c = saving-from _ _ _ _ _ (c .before .before .before .before .pre .1 .1 .rows) (rw (c .wide2 .ensures) refl) (omega (arith, c .before .wide .ensures, c .wide2 .ensures, c .before .before .before .before .pre .1 .1 .few))
 
 add-saved : tie.Need-add-saved Inv-loop μ-loop
 add-saved c = omega arith
@@ -58,6 +65,8 @@ save-vars-spec =
     μ-loop
     wide-requires
     mul-n
+    wide-requires-2
+    mul-k
     loop-holds
     add-saved
     mul-saved

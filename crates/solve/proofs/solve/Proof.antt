@@ -1,5 +1,6 @@
 -- `solve::solve` meets its contract. Assumes nothing.
-use Rattle.answer.proofs.Calls.{grown-above}
+use Rattle.answer.proofs.Calls.{grown-above, kept-never}
+use mathlib.Core.Path.{refl}
 use Rattle.solve.proofs.Left.{fits, done-fits, tells}
 use Rattle.solve.proofs.Answers.{solved-done, solved-stop}
 use borrow.Author.Needs.{needs}
@@ -22,7 +23,7 @@ enum-told-2 : tie.Need-enum-told-2
 enum-told-2 c = search needs
 
 answer-of-requires : tie.Need-answer-of-requires
-answer-of-requires c κs = ((c .before .before .before .before .before .before .before .before .default-num-vars .ensures .changed .lay, (grown-above _ _ _ _ (c .before .before .before .before .before .before .before .before .default-num-vars .ensures .changed .grown), c .before .before .before .before .before .before .before .before .before .before .before .before .before .pre .0 .1 .1 .0)), (tells (c .before .before .before .before .before .before .before .before .default-num-vars .ensures) _ (c .before .before .before .before .done-of .ensures) (c .before .before .enum-told2 .given .1), ((λ k. fits (c .before .before .before .before .before .before .before .before .default-num-vars .ensures) (c .before .before .before .before .before .before .before .before .before .before .before .before .before .pre .1) k .1), c .before .before .before .before .before .before .before .before .before .before .before .before .before .pre .0 .1 .1 .1)))
+answer-of-requires c κs = ((c .before .before .before .before .before .before .before .before .default-num-vars .ensures .changed .lay, (grown-above _ _ _ _ (c .before .before .before .before .before .before .before .before .default-num-vars .ensures .changed .grown), c .before .before .before .before .before .before .before .before .before .before .before .before .before .pre .0 .1 .1 .0)), ((tells (c .before .before .before .before .before .before .before .before .default-num-vars .ensures) _ (c .before .before .before .before .done-of .ensures) (c .before .before .enum-told2 .given .1), ((λ k. fits (c .before .before .before .before .before .before .before .before .default-num-vars .ensures) (c .before .before .before .before .before .before .before .before .before .before .before .before .before .pre .1) k .1), c .before .before .before .before .before .before .before .before .before .before .before .before .before .pre .0 .1 .1 .1)), λ t d f. kept-never refl f))
 
 same-length : tie.Need-same-length
 same-length c = search needs

@@ -1,5 +1,6 @@
 -- `step::answer_declared` meets its contract. Assumes nothing.
 use mathlib.Core.Path.{refl}
+use Rattle.answer.proofs.Calls.{kept-never}
 use Rattle.step.proofs.Replying.{begun-above, declared-bytes, declared-row, reply-declared}
 use borrow.Author.Needs.{needs}
 use Rattle.step.proofs.answer_declared.Statement.{statement}
@@ -12,7 +13,7 @@ run-declare-requires : tie.Need-run-declare-requires
 run-declare-requires c κs = search needs
 
 answer-of-requires : tie.Need-answer-of-requires
-answer-of-requires c κs = let d = rw (c .before .before .before .before .before .ability-set .ensures) at (c .before .before .before .before .run-declare .ensures) in ((d .lay, (begun-above (c .before .before .before .before .before .before .before .before .before .before .pre .1) _ _ (d .grown), c .before .before .before .before .before .before .before .before .before .before .pre .0 .1 .1 .1 .0)), (d .tells, (declared-bytes (c .before .before .before .before .before .before .before .before .before .before .pre .1 .from) d, c .before .before .before .before .before .before .before .before .before .before .pre .0 .1 .1 .1 .1)))
+answer-of-requires c κs = let d = rw (c .before .before .before .before .before .ability-set .ensures) at (c .before .before .before .before .run-declare .ensures) in ((d .lay, (begun-above (c .before .before .before .before .before .before .before .before .before .before .pre .1) _ _ (d .grown), c .before .before .before .before .before .before .before .before .before .before .pre .0 .1 .1 .1 .0)), ((d .tells, (declared-bytes (c .before .before .before .before .before .before .before .before .before .before .pre .1 .from) d, c .before .before .before .before .before .before .before .before .before .before .pre .0 .1 .1 .1 .1)), λ t o f. kept-never (d .kept-is) f))
 
 done-of-requires : tie.Need-done-of-requires
 done-of-requires c κs = search needs

@@ -2,7 +2,7 @@
 use Rattle.step.specs.declared.Call.the-variants.{Declare, Solve, Run}
 use mathlib.Core.Path.{sym, _∙_}
 use Rattle.step.proofs.Marks.{as-called}
-use Rattle.step.proofs.Replying.{begun-above, run-bytes, reply-run, solve-saved, solve-sound, reply-solved}
+use Rattle.step.proofs.Replying.{begun-above, run-bytes, run-still, reply-run, solve-saved, solve-sound, reply-solved}
 use borrow.Author.Needs.{needs}
 use Rattle.step.proofs.answer_placed.Statement.{statement}
 use Rattle.step.proofs.answer_placed.Tie as tie
@@ -29,7 +29,7 @@ run-fields-requires : tie.Need-run-fields-requires
 run-fields-requires c κs = (c .before .before .before .before .before .before .before .before .pre .0 .0, (as-called (c .before .before .before .before .before .before .before .before .args .f) (c .before .before .before .before .before .before .before .before .args .t) Run (sym (c .before .before .before .before .call-of .ensures) ∙ c .before .before .enum-told3 .given .1) (c .before .before .before .before .before .before .before .before .args .u .vars) (c .before .before .before .before .before .before .before .before .args .u .nodes), c .before .before .before .before .before .before .before .before .pre .0 .1 .0))
 
 answer-of-requires : tie.Need-answer-of-requires
-answer-of-requires c κs = let d = c .before .before .before .before .run-fields .ensures in ((d .lay, (begun-above (c .before .before .before .before .before .before .before .before .before .before .before .before .before .pre .1) _ _ (d .grown), c .before .before .before .before .before .before .before .before .before .before .before .before .before .pre .0 .1 .1 .0)), (d .tells, (run-bytes (c .before .before .before .before .before .before .before .before .before .before .before .before .before .pre .1 .from) d, c .before .before .before .before .before .before .before .before .before .before .before .before .before .pre .0 .1 .1 .1)))
+answer-of-requires c κs = let d = c .before .before .before .before .run-fields .ensures in ((d .lay, (begun-above (c .before .before .before .before .before .before .before .before .before .before .before .before .before .pre .1) _ _ (d .grown), c .before .before .before .before .before .before .before .before .before .before .before .before .before .pre .0 .1 .1 .0)), ((d .tells, (run-bytes (c .before .before .before .before .before .before .before .before .before .before .before .before .before .pre .1 .from) d, c .before .before .before .before .before .before .before .before .before .before .before .before .before .pre .0 .1 .1 .1)), run-still (c .before .before .before .before .before .before .before .before .before .before .before .before .before .pre .1 .from) d))
 
 same-length : tie.Need-same-length
 same-length c = search needs
