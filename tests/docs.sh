@@ -53,7 +53,7 @@ widths() { # prose of 120 columns at most, table cells of 200 characters
   LC_ALL=C.UTF-8 python3 - << 'END'
 import glob, sys
 bad = 0
-for path in ['README.md', 'CONTRIBUTING.md', 'docs/RECORDS.md', 'docs/PAPERS.md', 'docs/PICTURES.md'] + glob.glob('rust/*/README.md'):
+for path in ['README.md', 'CONTRIBUTING.md', 'oracle/README.md', 'tools/README.md'] + glob.glob('docs/**/*.md', recursive=True) + glob.glob('rust/*/README.md'):
     for n, line in enumerate(open(path, encoding='utf-8'), 1):
         cells = line.split('|') if line.startswith('|') else []
         if not cells and not line.startswith('    ') and len(line) > 121 or any(len(c) > 200 for c in cells):
