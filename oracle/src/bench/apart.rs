@@ -66,6 +66,7 @@ pub fn rows() -> Vec<Row> {
         over("RD, a list", 0, |i| format!("RD (V{}, vector<V{}>)", i, 16 + i % 8)),
         over("TS", 0, |i| format!("TS [P1 = V{}] (P1, vector<P1>)", i)),
         each("IN", "IN S0<_>"),
+        each("RM", "RM S0<_>"),
         over("NC", 0, |i| format!("NC numeric V{}", i)),
         over("BC", 0, |i| format!("BC V{}", i)),
         over("SC", 0, |i| format!("SC V{}", i)),
