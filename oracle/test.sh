@@ -51,7 +51,7 @@ found() { # WHAT: an answer of the engine's side, altered, is found and the job 
 
 with_engine() {
   step "2,000 jobs beside core.rs" target/release/oracle compare 1 2000
-  for what in number payload binding mark constraint reading count told line; do step "altered: $what" found $what; done
+  for what in number payload binding mark constraint reading count told missing line; do step "altered: $what" found $what; done
   step "damaged records" target/release/oracle damage records 1 50
   step "damaged states" target/release/oracle damage states 1 2
   step "damaged at several places" target/release/oracle damage wild 1 100

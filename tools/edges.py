@@ -135,6 +135,52 @@ def told():
     yield end('told: doubled', b'RM' + ref[2:8] + ref[2:], '0 18')
 
 
+def solved(name, *parts):
+    """limit, where the driver gives every refusal too: 7 of variables and constraints, 9, 14 and 16"""
+    name, stream, log = limit(name, *parts)
+    if run(ORACLE, 'log', given=stream).decode().split('\n')[:-1] != log:
+        raise SystemExit('%s: the driver of core.rs answers otherwise' % name)
+    return name, stream, log
+
+
+def abilities():
+    """R-1: the list filled, solved and filled again; 14, 9 and 16, and which of them comes first."""
+    one = 'IN vector<u8>\n'                 # two constraints, of which none fails
+    yield solved('solved: a full list', one * 256, ('IN &u8', 7), ('IN vector<u8>', 7), 'SV\nSV\nIN &u8\n' + one)
+    # 02's worked rows
+    yield solved('solved: declarations', 'SD {copy, drop, store, key} <{copy}, phantom {key}>\nIN S0<signer@3, u8@4>@2\nSV\nSV')
+    yield solved('solved: an argument', 'SD {} <{copy}>\nIN S0<vector<signer@4>@3>@2\nSV\nIN S0<vector<u8@4>{}@3>@2', ('SV', 16), ('SV', 16), 'FV')
+    # what (), a reference and a parameter lack nothing grants
+    yield solved('solved: no arguments', 'SD {} <{key}>\nFV\nIN S0<_>\nIN S0<_>\nIN S0<P1{copy}>\nJN V3, ()\nJN V6, &vector<u8>\nSV')
+    # the place is counted among all arguments: the second is phantom, and lacks too
+    yield solved('solved: place 2', 'SD {} <{copy}>\nSD {copy} <{}, phantom {}, {}>\nIN S0<S1<u8, signer, signer>>\nSV')
+    # S0 asks all of each of eight, S1 copy. A signer lacks three of four, each in 14 bytes, a vector of it copy in 22, a parameter in 17
+    begin = 'SD {} <%s>\nSD {} <{copy}>\n' % ', '.join(['{copy, drop, store, key}'] * 8)
+    many = 'IN S0<%s>\n' % ', '.join(['signer'] * 8)
+    yield solved('solved: 4,096 bytes', begin + many * 12 + 'IN S1<signer>\n' * 3 + 'IN S1<vector<signer>>\nSV\nSV')
+    yield solved('solved: 4,097 bytes', begin + many * 12 + 'IN S1<signer>\n' + 'IN S1<P1>\n' * 3, ('SV', 14), ('SV', 14), 'UF u8')
+    # V0 and V1 in a circle, V2 of an ability constraint; 14 before, and the first on the list decides
+    circle = 'FV\nFV\nJN V0, vector<V1>\nJN V1, vector<V0>\n'
+    asks = circle + 'SD {} <{copy}>\nIN S0<_>\n'
+    later = 'IN S1<vector<u8>{}>'
+    long = begin + circle + many * 13
+    nine = 'IN S1<_>\nJN V108, V0'
+    yield solved('solved: 14, then 9', long, ('SV', 14), nine, ('SV', 9), later, ('SV', 9))
+    yield solved('solved: 14, then 16', long, ('SV', 14), later, ('SV', 16), nine.replace('108', '110'), ('SV', 16))
+    yield solved('solved: 9, then 16', asks + 'JN V2, V0\nIN S0<u8{drop}>', ('SV', 9), 'UF u8')
+    yield solved('solved: 16, then 9', asks + 'JN V2, u8{drop}', ('SV', 16), 'IN S0<_>\nJN V9, V0', ('SV', 16), 'UF u8')
+    # of one constraint 9 comes before 16; through a phantom argument, under a mark, and though nothing is asked
+    yield solved('solved: 9 before 16', asks + 'JN V2, vector<V0>{}', ('SV', 9), 'UF u8')
+    yield solved('solved: 9, phantom', asks + 'SD {copy} <phantom {}>\nJN V2, S1<V0>', ('SV', 9), 'UF u8')
+    yield solved('solved: 9, under a mark', asks + 'JN V2, vector<V0>{copy}', ('SV', 9), 'UF u8')
+    yield solved('solved: 9, under a reference', asks + 'JN V2, &V0', ('SV', 9), 'UF u8')
+    yield solved('solved: 9, nothing asked', circle + 'IN vector<_>\nJN V2, V0', ('SV', 9), 'UF u8')
+    # the numeric step wants two nodes, and comes first
+    marked = 'NV\nSD {} <{copy}>\nIN S0<u8{drop}>\nBC ()\n' + 'JN (), ()\n' * 1020     # 6 nodes, 2,040 nodes
+    yield limit('solved: 7 before 16', marked + 'BC ()', ('SV', 7), 'UF u8')
+    yield solved('solved: 16 with room', marked, ('SV', 16), 'UF u8')
+
+
 def end(name, stream, *log):
     return name, stream, list(log)
 
@@ -159,7 +205,7 @@ def marks():
 
 def main():
     where = os.path.join(ROOT, 'crates/edges')
-    jobs = [j for made in (marked, computed, limits, told, ends, marks) for j in made()]
+    jobs = [j for made in (marked, computed, limits, told, abilities, ends, marks) for j in made()]
     behind = [(len(name) + 1 + len(stream), name.encode() + b'\n' + stream) for name, stream, _ in jobs]
     texts = {
         'stdin': b''.join(struct.pack('<I', size) + job for size, job in behind),

@@ -28,7 +28,7 @@ extern "C" {
 /* PONGIWARU_VERSION changes with the records, their answers or these functions, PONGIWARU_LAYOUT with what the words and rows of a
  * state mean. Keep the layout's number beside a kept state. A later version of the same layout goes on with it; under another layout
  * it may be 15 or be taken for another sound state, so don't lend it: run its records again from a fresh state. */
-#define PONGIWARU_VERSION 2
+#define PONGIWARU_VERSION 3
 #define PONGIWARU_LAYOUT 1
 
 enum {
@@ -59,6 +59,7 @@ enum pongiwaru_number {
     PONGIWARU_PARAMETER_TWICE = 13,
     PONGIWARU_ANSWER_TOO_LONG = 14,
     PONGIWARU_UNSOUND_STATE = 15, /* words and params that are no sound state's, or an answer buffer that is too short */
+    PONGIWARU_ABILITY_MARK_CONTRADICTED = 16, /* SV: a mark lacks what declaration and arguments grant; 17 is not given yet */
     PONGIWARU_DOUBLED_REFERENCE = 18 /* a reference directly under a reference */
 };
 

@@ -64,8 +64,8 @@ fn grown(vars: usize, more: usize) -> Vec<u8> {
     assemble(&text, true).unwrap()
 }
 
-/// The jobs of the replay list that without SV are answered with 0 throughout: SV would solve IN's ability constraints in
-/// core.rs, and keeps them here.
+/// The jobs of the replay list that without SV are answered with 0 throughout: core.rs tells SV's failures in messages,
+/// which are not written here.
 fn short() -> Vec<Vec<u8>> {
     let entries = crate::list::parse(include_str!("../replay.list")).unwrap();
     entries.iter().filter_map(|e| answered(&e.stream)).collect()
@@ -199,13 +199,9 @@ fn joined(
     }
 }
 
-/// SV as 01 has it: ability constraints stay. All others of these jobs hold, so that there is no payload.
+/// SV: all constraints of these jobs hold, so that there is no payload.
 fn solve(ctx: &mut core::Context) {
-    let is_ability = |c: &core::Constraint| matches!(c, core::Constraint::AbilityConstraint { .. });
-    let (kept, rest) = mem::take(&mut ctx.constraints).into_iter().partition(is_ability);
-    ctx.constraints = rest;
     core::solve_constraints(ctx);
-    ctx.constraints = kept;
     assert!(ctx.env.take_diags().is_empty())
 }
 

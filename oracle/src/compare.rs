@@ -2,7 +2,7 @@
 use crate::{
     calls::{job_of, lent_of, Calls, Lines, LINE, MIN_ANSWER},
     count::{counted, needs, used, Counted, Used},
-    gen::{self, Chance, Made},
+    gen::{self, Chance, Made, Profile},
     job::{Job, Outcome},
     lender::{Answer, Fault, Lender},
     lent::{self, Lent, Params, LIMITS},
@@ -30,6 +30,8 @@ pub struct Tally {
     pub apart: BTreeMap<&'static str, usize>,
     /// answers that show a doubled reference, by mark
     pub doubled: BTreeMap<&'static str, usize>,
+    /// SV's answers that show a missing ability, and the failures in them by rule 1 and 2
+    pub missing: [usize; 3],
     pub lines: usize,
 }
 
@@ -59,6 +61,8 @@ impl Tally {
         out += &format!("0 to 4, held to core.rs: {}; from 5 on, held to 01's and 02's rules: {}\n", core, rest);
         let doubled: Vec<_> = self.doubled.iter().map(|(mark, n)| format!("{} {}", mark, n)).collect();
         out += &format!("answers that show a doubled reference: {}\n", doubled.join(", "));
+        let [shown, one, two] = self.missing;
+        out += &format!("SV that shows missing abilities: {}; by rule 1: {}, by rule 2: {}\n", shown, one, two);
         self.apart.iter().for_each(|(why, n)| out += &format!("{}: {}\n", why, n));
         out
     }
@@ -121,21 +125,33 @@ fn shown(a: &Answer) -> String {
     format!("{} {}", a.number, hex(&a.payload))
 }
 
-/// Whether a type of the answer has a doubled reference in it; SV's stand after a code and a location.
-fn shows_doubled(r: &Record, a: &Answer, known: &Known) -> bool {
-    let before = match r {
-        Record::SD(..) | Record::RM(_) => return false,
-        Record::SV => 5,
-        _ => 0,
-    };
-    let mut rest = &a.payload[..];
-    while let Some(Ok((t, n))) = rest.get(before..).map(|types| record::read_type(types, known)) {
-        if t.has_doubled() {
-            return true;
-        }
-        rest = &rest[before + n..]
+/// The types that an answer shows, each with its rule where it is a failure of code 4, else 0. SV's stand after a code
+/// and a location; of code 4 an ability comes before, and a rule after, of one byte or two.
+fn types_shown(r: &Record, a: &Answer, known: &Known) -> Vec<(Ty, u8)> {
+    let (mut rest, mut out) = (&a.payload[..], vec![]);
+    while !matches!(r, Record::SD(..) | Record::RM(_)) {
+        let code = rest.first().copied().filter(|_| *r == Record::SV);
+        let before = code.map_or(0, |c| if c == 4 { 6 } else { 5 });
+        let Some(Ok((t, n))) = rest.get(before..).map(|types| record::read_type(types, known)) else { break };
+        rest = &rest[before + n..];
+        let rule = rest.first().copied().filter(|_| code == Some(4)).unwrap_or(0);
+        rest = &rest[rule as usize..];
+        out.push((t, rule))
     }
-    false
+    out
+}
+
+impl Tally {
+    fn count_shown(&mut self, r: &Record, mark: &'static str, shown: &[(Ty, u8)]) {
+        if shown.iter().any(|(t, _)| t.has_doubled()) {
+            *self.doubled.entry(mark).or_insert(0) += 1
+        }
+        let of = |rule: u8| shown.iter().filter(|(_, r)| *r == rule).count();
+        if *r == Record::SV {
+            let missing = [(of(1) + of(2) > 0) as usize, of(1), of(2)];
+            self.missing = std::array::from_fn(|i| self.missing[i] + missing[i])
+        }
+    }
 }
 
 /// UF, RD, TS and RM leave the state word for word.
@@ -261,8 +277,8 @@ impl Run<'_> {
             same_counts(&self.lender, counted)?
         }
         *tally.records.entry((mark, answer.number)).or_insert(0) += 1;
-        if r.is_some_and(|r| shows_doubled(r, &answer, self.job.known())) {
-            *tally.doubled.entry(mark).or_insert(0) += 1
+        if let Some(r) = r {
+            tally.count_shown(r, mark, &types_shown(r, &answer, self.job.known()))
         }
         self.log += &match answer.payload.is_empty() {
             true => format!("{} {}\n", self.place, answer.number),
@@ -338,15 +354,19 @@ fn in_pieces(lender: &mut Lender, stream: &[u8], wanted: &str, chance: &mut Chan
 
 //---- many jobs ---------------------------------------------------------------------------------------------------
 
-/// Job i of a comparison: three in five by chance, one in three short and exhaustive, some long, some near the limits.
-pub fn made(seed: u64, i: u64, records: usize) -> Made {
+/// Job i of a comparison: one in two by chance, one in three short and exhaustive, one in seven about abilities, some long,
+/// some near the limits.
+pub fn made(seed: u64, i: u64, records: usize, profile: Option<Profile>) -> Made {
     let mut chance = Chance::new(seed ^ 0x636f_6d70, i);
+    let some = |chance: &mut Chance| records / 2 + chance.below(records);
     match chance.below(100) {
+        _ if profile.is_some() => gen::random(seed, i, some(&mut chance), profile, false),
         0 if chance.percent(20) => gen::deep(seed, i),
         0 => gen::limits(seed, i, false),
         1 => gen::random(seed, i, 12 * records, None, false),
         2..=34 => gen::exhaustive(chance.below(7056), false).unwrap(),
-        _ => gen::random(seed, i, records / 2 + chance.below(records), None, false),
+        35..=49 => gen::random(seed, i, some(&mut chance), Some(Profile::Abilities), false),
+        _ => gen::random(seed, i, some(&mut chance), None, false),
     }
 }
 
@@ -408,10 +428,18 @@ fn onward(calls: &dyn Calls, seed: u64, i: u64) -> Option<(Lent, Made)> {
     Some((lent, made))
 }
 
-/// Jobs up to `count`; stops at the first disagreement.
-pub fn many(calls: &dyn Calls, seed: u64, count: u64, records: usize, tally: &mut Tally) -> Option<Found> {
+/// Jobs up to `count`, of a profile or of all kinds; stops at the first disagreement.
+pub fn many(
+    calls: &dyn Calls,
+    seed: u64,
+    count: u64,
+    records: usize,
+    profile: Option<Profile>,
+    tally: &mut Tally,
+) -> Option<Found> {
     (0..count).find_map(|i| {
-        let (start, m) = onward(calls, seed, i).unwrap_or_else(|| (lent::fresh(), made(seed, i, records)));
+        let begun = if profile.is_some() { None } else { onward(calls, seed, i) };
+        let (start, m) = begun.unwrap_or_else(|| (lent::fresh(), made(seed, i, records, profile)));
         let disagreement = stream(calls, &start, &m.stream, &mut Chance::new(seed, i), tally).err()?;
         Some(Found { name: m.name, start, stream: m.stream, disagreement })
     })
@@ -453,13 +481,15 @@ pub enum Alter {
     Count,
     /// RM tells a node too few
     Told,
+    /// SV's first missing ability is another
+    Missing,
     /// a line of a job
     Line,
 }
 
-pub const ALTERS: [Alter; 9] = {
+pub const ALTERS: [Alter; 10] = {
     use Alter::*;
-    [Number, Payload, Binding, Mark, Constraint, Reading, Count, Told, Line]
+    [Number, Payload, Binding, Mark, Constraint, Reading, Count, Told, Missing, Line]
 };
 
 impl Alter {
@@ -493,6 +523,7 @@ impl Altered<'_> {
             Alter::Reading if number == 0 && record.starts_with(b"RD") && view.nodes() < 2048 => words[0] += 1,
             Alter::Count if number == 0 && record.starts_with(b"JN") && view.nodes() < 2048 => words[0] += 1,
             Alter::Told if number == 0 && record.starts_with(b"RM") => answer[0] -= 1,
+            Alter::Missing if number == 0 && record == b"SV" && answer[0] == 4 => answer[5] ^= 3,
             _ => (),
         }
         number

@@ -306,8 +306,7 @@ impl Sim {
             Record::NC(..) | Record::BC(..) | Record::SC(..) => self.constraint(),
             Record::SV => {
                 self.settle()?;
-                let kept = (0..s.constraints()).filter(|i| s.constraint(*i)[0] == 0);
-                self.used.constraints = kept.count();
+                self.used.constraints = 0;
                 Ok(())
             }
             _ => Ok(()),

@@ -162,7 +162,7 @@ pub struct Midway {
 }
 
 pub fn midway(calls: &dyn Calls, seed: u64, i: u64) -> Result<Midway, String> {
-    let m = compare::made(seed, i, 40);
+    let m = compare::made(seed, i, 40, None);
     let mut chance = Chance::new(seed ^ 0x6d69_6477, i);
     let mut lender = Lender::new(calls, &fresh());
     let half = m.outcomes.len() / 2;

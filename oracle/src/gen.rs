@@ -65,12 +65,14 @@ pub enum Profile {
     Lists,
     Structs,
     Fresh,
+    /// every second record is IN or SV (02, R-1). Never by chance alone, so that the other profiles' jobs stay
+    Abilities,
 }
 
 impl Profile {
     pub fn named(name: &str) -> Option<Profile> {
         use Profile::*;
-        let all = [All, Refs, Knots, Numbers, Lists, Structs, Fresh];
+        let all = [All, Refs, Knots, Numbers, Lists, Structs, Fresh, Abilities];
         all.into_iter().find(|p| format!("{:?}", p).to_lowercase() == name)
     }
 }
@@ -81,6 +83,8 @@ enum Marks {
     /// as naming gives them to types without arguments
     Primitives,
     Mixed,
+    /// any, on one type in ten
+    Tenth,
 }
 
 #[derive(Clone, Copy)]
@@ -103,6 +107,11 @@ fn bare(kind: Kind) -> Ty {
     Ty { loc: 0, kind }
 }
 
+/// an integer type's mark has drop
+fn with_drop(builtin: Option<u8>, mark: u8) -> u8 {
+    mark | if matches!(builtin, Some(U8 | U64 | U128)) && mark != 0 { 2 } else { 0 }
+}
+
 /// A reference to `t`, or to what `t` refers to: no record has a reference directly under a reference (02, R-6).
 fn reference(mutable: bool, t: Ty) -> Kind {
     match t.kind {
@@ -123,6 +132,8 @@ pub struct Maker {
     depth: usize,
     var_weight: usize,
     few: usize,
+    /// of IN and SV, how many in a hundred are SV
+    solve: usize,
     vars: usize,
     params: Vec<usize>,
 }
@@ -142,10 +153,22 @@ impl Maker {
             depth: chance.one(&[2, 3, 3, 4, 5]),
             var_weight: if knots { chance.one(&[32, 64]) } else { chance.one(&[4, 8, 16, 32]) },
             few: if knots { chance.one(&[2, 3, 5]) } else { 0 },
+            solve: 0,
             vars: 0,
             params: vec![],
             chance,
         }
+    }
+
+    fn of_profile(mut self, profile: Profile) -> Maker {
+        self.profile = profile;
+        if profile == Profile::Abilities {
+            (self.few, self.var_weight) = self.chance.one(&[(0, 8), (0, 32), (3, 64), (6, 64)]);
+            // without marks there is no 16, and a long list is solved
+            (self.solve, self.marks) =
+                self.chance.one(&[(50, Marks::Tenth), (30, Marks::Tenth), (15, Marks::Tenth), (3, Marks::None)])
+        }
+        self
     }
 
     fn loc(&mut self) -> u32 {
@@ -164,12 +187,11 @@ impl Maker {
             (Marks::Primitives, _) => 0x17,
             (Marks::Mixed, _) => {
                 let any = 16 + self.chance.below(16) as u8;
-                let k = self.chance.one(&[0, 0, 0, any, 0x17]);
-                if matches!(builtin, Some(U8 | U64 | U128)) && k != 0 {
-                    k | 2
-                } else {
-                    k
-                }
+                with_drop(builtin, self.chance.one(&[0, 0, 0, any, 0x17]))
+            }
+            (Marks::Tenth, _) => {
+                let any = 16 + self.chance.below(16) as u8;
+                with_drop(builtin, if self.chance.percent(10) { any } else { 0 })
             }
         }
     }
@@ -192,6 +214,7 @@ impl Maker {
         let leaf = |w: usize| if p == P::Knots || p == P::Numbers { w / 4 } else { w };
         let part = |w: usize| if depth > 1 { w } else { 0 };
         let many = |of: Profile, w: usize| part(if p == of { 30 } else { w });
+        let structs = if p == P::Abilities { 20 } else { 5 };
         self.chance.weighted(&[
             (leaf(4), Unit),
             (if p == P::Numbers { 40 } else { leaf(24) }, Int),
@@ -199,14 +222,14 @@ impl Maker {
             (leaf(4), Plain(0)),
             (leaf(4), Plain(SIGNER)),
             (leaf(8), Param),
-            (if p == P::Fresh { 24 } else { 4 }, Anything),
+            (if matches!(p, P::Fresh | P::Abilities) { 24 } else { 4 }, Anything),
             (if p == P::Numbers { 12 } else { 4 }, Error),
             (1, NoParts),
             (if closed || self.vars == 0 { 0 } else { 4 * self.var_weight }, Var),
             (many(P::Refs, 5) * 4, Ref),
             (part(if p == P::Knots { 60 } else { 24 }), Vector),
             (many(P::Lists, 5) * 4, List),
-            (if self.params.is_empty() { 0 } else { many(P::Structs, 5) * 4 }, Struct),
+            (if self.params.is_empty() { 0 } else { many(P::Structs, structs) * 4 }, Struct),
         ])
     }
 
@@ -289,6 +312,16 @@ impl Maker {
         self.dressed(t)
     }
 
+    /// a type for IN: about abilities, mostly a struct
+    fn instance(&mut self, closed: bool) -> Ty {
+        if self.profile != Profile::Abilities || self.params.is_empty() || self.chance.percent(40) {
+            return self.ty(closed);
+        }
+        let (depth, s) = (self.depth, self.chance.below(self.params.len()));
+        let args = (0..self.params[s]).map(|_| self.tree(depth - 1, closed)).collect();
+        self.dressed(bare(Kind::Struct(0, s as u16, args)))
+    }
+
     fn small(&mut self) -> Ty {
         let depth = self.chance.one(&[1, 1, 2]);
         let t = self.tree(depth, false);
@@ -308,13 +341,17 @@ impl Maker {
 
     fn mark_of_record(&mut self, n: usize) -> &'static str {
         use Profile as P;
-        if (n < 3 && self.chance.percent(50)) || (self.params.is_empty() && self.chance.percent(10)) {
+        let first = if self.profile == P::Abilities { 6 } else { 3 };
+        if (n < first && self.chance.percent(50)) || (self.params.is_empty() && self.chance.percent(10)) {
             return "SD";
         }
         if self.vars == 0 || (self.vars < 2 && self.chance.percent(70)) {
             return self.chance.one(&["FV", "NV"]);
         }
         let p = self.profile;
+        if p == P::Abilities && self.chance.percent(50) {
+            return if self.chance.percent(self.solve) { "SV" } else { "IN" };
+        }
         let by = |of: Profile, w: usize, other: usize| if p == of { w } else { other };
         self.chance.weighted(&[
             (3, "SD"),
@@ -379,7 +416,7 @@ impl Maker {
             }
             "IN" => {
                 let closed = self.chance.percent(97);
-                Record::IN(self.ty(closed))
+                Record::IN(self.instance(closed))
             }
             "NC" => Record::NC(self.loc(), self.chance.below(3) as u8, self.small()),
             "BC" => Record::BC(self.loc(), self.small()),
@@ -450,7 +487,10 @@ impl Growing {
 /// without a profile, each job has one by chance
 pub fn random(seed: u64, index: u64, records: usize, profile: Option<Profile>, cut: bool) -> Made {
     let mut m = Maker::new(Chance::new(seed, index));
-    m.profile = profile.unwrap_or(m.profile);
+    m = match profile {
+        Some(profile) => m.of_profile(profile),
+        None => m,
+    };
     m.twice = m.twice.filter(|_| !cut);
     let mut g = Growing::new(format!("random-{}-{}-{:?}", seed, index, m.profile).to_lowercase(), cut);
     for n in 0..records {

@@ -46,7 +46,7 @@ const HUGE: u64 = 4_000_000;
 pub enum Outcome {
     /// core.rs's answer, 0 to 4, and its payload
     Core(u8, Vec<u8>),
-    /// 5 to 14 by 01's rules, 18 by 02's, and why
+    /// 5 to 14 by 01's rules, 16 and 18 by 02's, and why
     Refused(u8, String),
     /// core.rs does not end here and 01 answers 0: there is nothing to compare with, and the job ends
     Silent(String),
@@ -54,8 +54,6 @@ pub enum Outcome {
 
 #[derive(Debug, Clone, Copy, Default)]
 pub struct Options {
-    /// SV solves ability constraints too (02, R-1), code 4
-    pub abilities: bool,
     /// the record XP (02, R-5)
     pub expand: bool,
 }
@@ -265,12 +263,13 @@ fn caught<T>(f: impl FnOnce() -> T) -> Result<T, String> {
 }
 
 /// 01's number for an assertion or panic of core.rs
-const PANICS: [(&str, u8); 5] = [
+const PANICS: [(&str, u8); 6] = [
     ("ICE failed naming", 10),
     ("ICE instantiate type variable", 11),
     ("ICE tvar in subst_tparams", 11),
     ("ICE unmapped tparam in subst_tparams_base", 12),
     ("assertion failed: old_val.is_none()", 13),
+    ("assertion failed: label_added", 16),
 ];
 
 fn number_of_panic(message: &str) -> u8 {
@@ -280,12 +279,16 @@ fn number_of_panic(message: &str) -> u8 {
     }
 }
 
+/// where core.rs points to the argument that lacks an ability
+fn hint_of(d: &Diagnostic) -> Option<&Loc> {
+    d.secondary.iter().find(|(_, m)| m.contains("can have the ability")).map(|(loc, _)| loc)
+}
+
 //---- a job -------------------------------------------------------------------------------------------
 
 type Answer = Result<(u8, Vec<u8>), Outcome>;
 
 pub struct Job {
-    options: Options,
     known: Known,
     /// its state has a type that core.rs has not, so that every record is silent
     wider: bool,
@@ -305,7 +308,7 @@ impl Job {
             constants: UniqueMap::new(),
         };
         ctx.modules.add(module(Loc::of(0)), empty).ok().unwrap();
-        Job { options, known: Known { expand: options.expand, ..Known::default() }, wider: false, ctx }
+        Job { known: Known { expand: options.expand, ..Known::default() }, wider: false, ctx }
     }
 
     /// The first record of `stream`: its outcome and how many bytes it has, 0 where it is not read.
@@ -528,39 +531,35 @@ impl Job {
 
     //---- SV ------------------------------------------------------------------------------------------
 
-    /// The base keeps ability constraints on the list, core.rs solves and drops them. So the whole list is
-    /// taken out, core.rs solves a copy without them, and they are put back in their old order. The
-    /// diagnostics carry no type, so each constraint is then solved again alone to see which of them it
-    /// was (that adds diagnostics only: the numeric step finds nothing left to do); both must agree.
+    /// core.rs solves the list and drops it. Where it would not end, asserts or names a phantom argument, the driver
+    /// refuses first, in list order: 9, then 16 (02, R-1). Where an ability constraint after those is too large, or a
+    /// message would not end, core.rs is silent. The diagnostics carry no type, so each constraint is then solved again
+    /// alone to see which of them it was (that adds diagnostics only: the numeric step finds nothing left to do); both
+    /// must agree.
     fn solve(&mut self, out: &mut Vec<u8>) -> Result<(), Outcome> {
-        let r1 = self.options.abilities;
-        let is_ability = |c: &Constraint| matches!(c, Constraint::AbilityConstraint { .. });
         let all = std::mem::take(&mut self.ctx.constraints);
         // numeric step first, alone: what may be solved depends on the bindings that it makes
         core::solve_constraints(&mut self.ctx);
         for c in &all {
-            if (r1 && is_ability(c)) || (!is_ability(c) && self.will_fail(c)) {
-                self.printable(type_of(c))?
+            if let Constraint::AbilityConstraint { ty, constraints, .. } = c {
+                self.unhindered(c, ty, constraints)?
             }
         }
-        self.ctx.constraints = all.iter().filter(|c| r1 || !is_ability(c)).map(copy_of).collect();
+        let solvable = |c: &Constraint| if self.will_fail(c) { self.printable(type_of(c)) } else { Ok(()) };
+        all.iter().try_for_each(solvable)?;
+        self.ctx.constraints = all.iter().map(copy_of).collect();
         self.solve_rest();
         let together = self.ctx.env.take_diags();
-        let (mut singly, mut kept) = (vec![], vec![]);
+        let mut singly = vec![];
         for c in all {
-            if is_ability(&c) && !r1 {
-                kept.push(c);
-                continue;
-            }
             let t = core::unfold_type(&self.ctx.subst, type_of(&c).clone());
             self.ctx.constraints = vec![c];
             self.solve_rest();
             for d in self.ctx.env.take_diags() {
-                self.failure(&d, &t, out)?;
+                self.failure(&d, &t, out);
                 singly.push(d);
             }
         }
-        self.ctx.constraints = kept;
         assert!(format!("{:?}", together) == format!("{:?}", singly), "driver: attribution differs");
         Ok(())
     }
@@ -571,7 +570,7 @@ impl Job {
         assert!(before == Counter::peek(), "driver: a second numeric step did something");
     }
 
-    fn failure(&self, d: &Diagnostic, t: &Type, out: &mut Vec<u8>) -> Result<(), Outcome> {
+    fn failure(&self, d: &Diagnostic, t: &Type, out: &mut Vec<u8>) {
         let code = match d.code {
             Code::T(TypeSafety::BuiltinOperation) => 1,
             Code::T(TypeSafety::ExpectedBaseType) => 2,
@@ -581,12 +580,14 @@ impl Job {
         };
         out.push(code);
         out.extend(d.primary.0.start().to_le_bytes());
-        if code == 4 {
-            out.extend(self.ability_rule(d, t)?)
-        } else {
-            type_out(t).write(out)
+        if code != 4 {
+            return type_out(t).write(out);
         }
-        Ok(())
+        let named = |a: &Ability_| d.primary.1.contains(&format!("'{}'", a));
+        let (bit, ability) = *ABILITIES.iter().find(|(_, a)| named(a)).unwrap();
+        out.push(bit);
+        type_out(t).write(out);
+        out.extend(self.ability_rule(d, ability, t))
     }
 
     /// only to know when core.rs would write a message
@@ -594,6 +595,8 @@ impl Job {
         let t = core::unfold_type(&self.ctx.subst, type_of(c).clone());
         let list = matches!(&t.value, Type_::Apply(_, sp!(_, TypeName_::Multiple(_)), _));
         match c {
+            // what `unhindered` lets through is small
+            Constraint::AbilityConstraint { .. } => false,
             Constraint::BaseTypeConstraint(..) => list || matches!(&t.value, Type_::Ref(..)),
             Constraint::SingleTypeConstraint(..) => list,
             _ => !matches!(t.value.builtin_name(), Some(b) if b.value.is_numeric()),
@@ -608,28 +611,67 @@ impl Job {
         }
     }
 
-    /// 02's R-1: ability byte and rule, read off core.rs's labels
-    fn ability_rule(&self, d: &Diagnostic, t: &Type) -> Result<Vec<u8>, Outcome> {
-        let named = |a: &Ability_| d.primary.1.contains(&format!("'{}'", a));
-        let (bit, ability) = *ABILITIES.iter().find(|(_, a)| named(a)).unwrap();
-        let Some((hint, _)) = d.secondary.iter().find(|(_, m)| m.contains("can have the ability")) else {
-            return Ok(vec![bit, 1]);
-        };
-        let (args, phantom): (&[Type], Vec<bool>) = match &t.value {
+    /// 9 or 16 of an ability constraint; silent where the type is too large to be worked through
+    fn unhindered(&mut self, c: &Constraint, ty: &Type, asked: &AbilitySet) -> Result<(), Outcome> {
+        match self.read_size(ty) {
+            None => return Err(Outcome::Refused(9, "an ability constraint runs into itself".into())),
+            Some(_) => self.printable(ty)?,
+        }
+        let t = core::unfold_type(&self.ctx.subst, ty.clone());
+        let had = core::infer_abilities(&self.ctx, &self.ctx.subst, t.clone());
+        let missing = |a: Ability_| asked.has_ability_(a) && !had.has_ability_(a);
+        match ABILITIES.iter().any(|(_, a)| missing(*a) && self.granted(*a, &t)) {
+            true => self.contradicted(c, &t),
+            false => Ok(()),
+        }
+    }
+
+    /// What core.rs does where the driver finds 16: it asserts, or its hint is a phantom argument.
+    fn contradicted(&mut self, c: &Constraint, t: &Type) -> Result<(), Outcome> {
+        self.ctx.constraints = vec![copy_of(c)];
+        self.solve_rest();
+        let diags = self.ctx.env.take_diags();
+        let (args, phantom) = self.arguments(t);
+        let at_phantom = |hint: &Loc| args.iter().zip(&phantom).any(|(a, phantom)| *phantom && a.loc == *hint);
+        assert!(diags.iter().any(|d| hint_of(d).is_some_and(at_phantom)), "driver: 16, and core.rs names no phantom");
+        Err(Outcome::Refused(16, "only a phantom argument lacks what a mark lacks".into()))
+    }
+
+    /// the arguments of a named type, and for each whether it is phantom
+    fn arguments<'t>(&self, t: &'t Type) -> (&'t [Type], Vec<bool>) {
+        match &t.value {
             Type_::Apply(_, sp!(_, TypeName_::ModuleType(m, s)), args) => {
                 (args, self.ctx.struct_tparams(m, s).iter().map(|p| p.is_phantom).collect())
             }
             Type_::Apply(_, _, args) => (args, vec![false; args.len()]),
-            _ => panic!("driver: hint on a type without arguments"),
-        };
-        let lacks =
-            |a: &Type| !core::infer_abilities(&self.ctx, &self.ctx.subst, a.clone()).has_ability_(ability.requires());
-        let rust = args.iter().position(lacks).unwrap();
-        assert!(args[rust].loc == *hint, "driver: hint elsewhere");
-        match (0..args.len()).find(|i| !phantom[*i] && lacks(&args[*i])) {
-            Some(i) => Ok(vec![bit, 2, i as u8]),
-            None => Err(Outcome::Refused(16, "only a phantom argument lacks it".into())),
+            _ => (&[], vec![]),
         }
+    }
+
+    fn lacks(&self, a: Ability_, t: &Type) -> bool {
+        !core::infer_abilities(&self.ctx, &self.ctx.subst, t.clone()).has_ability_(a.requires())
+    }
+
+    /// declared, and no argument but phantom ones lacks what is needed
+    fn granted(&self, a: Ability_, t: &Type) -> bool {
+        let declared = match &t.value {
+            Type_::Apply(_, sp!(_, TypeName_::Multiple(_)), _) => AbilitySet::collection(t.loc),
+            Type_::Apply(_, sp!(_, TypeName_::Builtin(b)), _) => b.value.declared_abilities(b.loc),
+            Type_::Apply(_, sp!(_, TypeName_::ModuleType(m, s)), _) => self.ctx.struct_declared_abilities(m, s).clone(),
+            _ => return false,
+        };
+        let (args, phantom) = self.arguments(t);
+        declared.has_ability_(a) && !args.iter().zip(phantom).any(|(t, phantom)| !phantom && self.lacks(a, t))
+    }
+
+    /// 02's R-1: the rule, read off core.rs's labels; its hint looks at phantom arguments too
+    fn ability_rule(&self, d: &Diagnostic, ability: Ability_, t: &Type) -> Vec<u8> {
+        let Some(hint) = hint_of(d) else { return vec![1] };
+        let (args, phantom) = self.arguments(t);
+        let rust = args.iter().position(|a| self.lacks(ability, a)).unwrap();
+        assert!(args[rust].loc == *hint, "driver: hint elsewhere");
+        let place = (0..args.len()).find(|i| !phantom[*i] && self.lacks(ability, &args[*i])).unwrap();
+        vec![2, place as u8]
     }
 }
 

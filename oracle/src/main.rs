@@ -13,7 +13,7 @@ use std::{
 };
 
 const USAGE: &str = "\
-oracle log [--why] [--state] [--r1] [--xp] [STREAM]   core.rs's log of a stream
+oracle log [--why] [--state] [--xp] [STREAM]   core.rs's log of a stream
 oracle gen random SEED COUNT RECORDS [PROFILE] [--cut]
                                                       a list of jobs with their logs
 oracle gen exhaustive FIRST COUNT [STEP] [--cut]      --cut: without records that core.rs refuses
@@ -22,7 +22,8 @@ oracle gen order SEED COUNT                           jobs for `oracle order`
 oracle check [LIST]                                   run a list's jobs again, compare their logs
 oracle counts [LIST]                                  records of a list by mark and answer
 oracle order [LIST]                                   what this build's map order changes
-oracle compare SEED COUNT [RECORDS] [--alter=WHAT]     the engine beside core.rs, on jobs from a seed
+oracle compare SEED COUNT [RECORDS] [--alter=WHAT] [--profile=PROFILE]
+                                                      the engine beside core.rs, on jobs from a seed
 oracle damage records|states|wild SEED COUNT           damaged records, damaged states
 oracle traps                                          types with more parts than nodes, deep and looped ones
 oracle bench [RUNS]                                   times beside core.rs, by mark, of lent records
@@ -101,13 +102,13 @@ fn engine(mimic: bool) -> &'static (dyn Calls + Sync) {
     }
 }
 
-fn compare(words: &[String], calls: &dyn Calls, alter: Option<compare::Alter>) -> i32 {
+fn compare(words: &[String], calls: &dyn Calls, alter: Option<compare::Alter>, profile: Option<gen::Profile>) -> i32 {
     let records = words.get(3).map_or(25, |w| number(Some(w))) as usize;
     let altered = alter.map(|alter| compare::Altered { calls, alter });
     let calls = altered.as_ref().map_or(calls, |a| a as &dyn Calls);
     let mut tally = compare::Tally::default();
     let start = std::time::Instant::now();
-    let found = compare::many(calls, number(words.get(1)), number(words.get(2)), records, &mut tally);
+    let found = compare::many(calls, number(words.get(1)), number(words.get(2)), records, profile, &mut tally);
     print!("{}", tally.text());
     println!("{:.1} s", start.elapsed().as_secs_f64());
     let Some(found) = found else {
@@ -145,7 +146,7 @@ fn run(args: Vec<String>) -> i32 {
     let flag = |name: &str| flags.iter().any(|f| f == name);
     match words.first().map(String::as_str) {
         Some("log") => {
-            let options = Options { abilities: flag("--r1"), expand: flag("--xp") };
+            let options = Options { expand: flag("--xp") };
             write(job::log(&read(words.get(1)), options, flag("--why"), flag("--state")).as_bytes())
         }
         Some("gen") if words.len() > 1 => write(list::print(&generate(&words[1..], flag("--cut"))).as_bytes()),
@@ -166,7 +167,11 @@ fn run(args: Vec<String>) -> i32 {
             let named = |f: &String| {
                 f.strip_prefix("--alter=").map(|w| compare::Alter::named(w).unwrap_or_else(|| fail(USAGE)))
             };
-            return compare(&words, engine(flag("--mimic")), flags.iter().find_map(named));
+            let profile = |f: &String| {
+                f.strip_prefix("--profile=").map(|w| gen::Profile::named(w).unwrap_or_else(|| fail(USAGE)))
+            };
+            let (alter, profile) = (flags.iter().find_map(named), flags.iter().find_map(profile));
+            return compare(&words, engine(flag("--mimic")), alter, profile);
         }
         Some("bench") if words.get(1).map(String::as_str) == Some("once") => {
             let named = words.get(2).and_then(|w| bench::WORKS.into_iter().find(|n| n == w));

@@ -50,6 +50,28 @@ fn ladder() -> Lent {
     s
 }
 
+/// V0 is a list of seven ladders on a signer, which has drop alone, and of what is last
+fn leaning(last: impl Fn(&mut Lent) -> usize) -> Lent {
+    let mut s = fresh();
+    (0..8).for_each(|_| assert!(s.add_var().is_some()));
+    let signer = s.add_node(3, 2, 0, 1, &[]).unwrap();
+    let ladder = rungs(&mut s, signer, LEVELS);
+    let last = last(&mut s);
+    let top = s.add_node(4, 3, 0, 8, &[ladder, ladder, ladder, ladder, ladder, ladder, ladder, last]).unwrap();
+    s.bind(0, top);
+    s
+}
+
+/// .. a circle of two vectors, which a walk from left to right comes to last
+fn far_right(s: &mut Lent) -> usize {
+    let vars = [1, 2].map(|v| s.add_node(6, 4, v, 0, &[]).unwrap());
+    for (v, part) in [(1, vars[1]), (2, vars[0])] {
+        let vector = s.add_node(3, 5, 0, 5, &[part]).unwrap();
+        s.bind(v, vector)
+    }
+    vars[0]
+}
+
 /// V0 and V2 are vectors as deep as the nodes allow, on V1 and on u8
 fn deep() -> Lent {
     let mut s = fresh();
@@ -118,6 +140,17 @@ fn chains() -> Lent {
     s
 }
 
+/// V0 is bound to V1, V1 to V2 and so on, and the last to a signer
+fn chain() -> Lent {
+    let mut s = fresh();
+    (0..1000).for_each(|_| assert!(s.add_var().is_some()));
+    for v in 0..1000 {
+        let next = if v < 999 { s.add_node(6, 0, v + 1, 0, &[]) } else { s.add_node(3, 0, 0, 1, &[]) };
+        s.bind(v as usize, next.unwrap())
+    }
+    s
+}
+
 //---- records ------------------------------------------------------------------------------------------------
 
 const RECORDS: [&str; 22] = [
@@ -179,6 +212,14 @@ fn constrained(calls: &dyn Calls, lent: &Lent) -> Lent {
     lender.lent()
 }
 
+/// The state with all the constraints that it has room for asking V0's type for a set of abilities.
+fn asked(lent: &Lent, set: u8) -> Lent {
+    let mut s = lent.clone();
+    let node = s.view().binding(0).unwrap();
+    while s.add_constraint(0, 1, node, set).is_some() {}
+    s
+}
+
 /// Every record on every state, each call on a thread of its own; and the slowest call's seconds.
 pub fn run(calls: &(dyn Calls + Sync)) -> (Vec<Line>, f64) {
     let states = [
@@ -191,6 +232,9 @@ pub fn run(calls: &(dyn Calls + Sync)) -> (Vec<Line>, f64) {
         ("tower", tower(calls, false)),
         ("circle", tower(calls, true)),
         ("chains", chains()),
+        ("chain", chain()),
+        ("leaning", leaning(|s| s.add_node(3, 4, 0, 2, &[]).unwrap())),
+        ("right", leaning(far_right)),
     ];
     let mut lines = vec![];
     for (name, lent) in &states {
@@ -198,7 +242,12 @@ pub fn run(calls: &(dyn Calls + Sync)) -> (Vec<Line>, f64) {
         lines.extend(RECORDS.iter().map(|r| tried(calls, name, lent, r)));
         let mut solved = tried(calls, name, &constrained(calls, lent), "SV");
         solved.record = "SV with constraints on V0".into();
-        lines.push(solved)
+        lines.push(solved);
+        for (set, name_of_set) in [(0, "nothing"), (2, "drop"), (7, "copy, drop, store"), (15, "all four")] {
+            let mut solved = tried(calls, name, &asked(lent, set), "SV");
+            solved.record = format!("SV, 512 ask {}", name_of_set);
+            lines.push(solved)
+        }
     }
     let slowest = lines.iter().map(|l| l.seconds).fold(0.0, f64::max);
     (lines, slowest)

@@ -159,9 +159,10 @@ fn the_engine_agrees_with_core_rs() {
     with_stack(|| {
         for calls in all() {
             let mut tally = Tally::default();
-            let found = compare::many(calls, 31, 150, 25, &mut tally);
+            let found = compare::many(calls, 31, 150, 25, None, &mut tally);
             assert!(found.is_none(), "{}", compare::report(&found.unwrap()));
-            assert!(tally.count(|n| n <= 4) > 2000)
+            assert!(tally.count(|n| n <= 4) > 2000 && tally.count(|n| n == 16) > 0);
+            assert!(tally.missing.iter().all(|n| *n > 0), "{:?}", tally.missing)
         }
     })
 }
@@ -175,7 +176,7 @@ fn altered_answers_are_found_and_shrunk() {
         for calls in all() {
             for alter in ALTERS.into_iter().filter(|a| calls.counts() || !matches!(a, Alter::Count | Alter::Told)) {
                 let altered = Altered { calls, alter };
-                let found = compare::many(&altered, 32, 100, 25, &mut Tally::default());
+                let found = compare::many(&altered, 32, 100, 25, None, &mut Tally::default());
                 let found = found.unwrap_or_else(|| panic!("{:?} was not found", alter));
                 let small = compare::smallest(&altered, found);
                 assert!(compare::disagrees(&altered, &small.start, &small.stream).is_some());
@@ -279,7 +280,7 @@ fn damage_is_answered_as_it_must_be() {
     with_stack(|| {
         for calls in all() {
             let mut tally = damage::Tally::default();
-            damage::records(calls, 41, 6, &mut tally).unwrap();
+            damage::records(calls, 61, 10, &mut tally).unwrap();
             damage::wild(calls, 42, 6, &mut tally).unwrap();
             assert!(tally.of("5") > 100 && tally.of("6") > 20 && tally.went_on() > 100, "{}", tally.text());
             assert!(tally.of("18") > 0, "{}", tally.text());
@@ -380,7 +381,7 @@ fn careless_calls_are_found() {
     with_stack(|| {
         for (i, careless) in CARELESS.iter().enumerate() {
             let mut tally = damage::Tally::default();
-            let found = damage::records(careless, 41, 6, &mut tally)
+            let found = damage::records(careless, 61, 10, &mut tally)
                 .and_then(|_| damage::wild(careless, 42, 6, &mut tally))
                 .and_then(|_| damage::lend(&mut Lender::new(careless, &wider()), b"SV", MIN_ANSWER, &mut tally));
             assert!(found.is_err(), "fault {}", i)
@@ -407,9 +408,15 @@ fn a_state_of_core_rs_goes_through_the_calls() {
 fn traps_are_answered_at_once() {
     let Some(engine) = engine() else { return };
     let (lines, slowest) = traps::run(engine);
-    let number = |state, record| lines.iter().find(|l| l.state == state && l.record == record).unwrap().number;
+    let number =
+        |state: &str, record: &str| lines.iter().find(|l| l.state == state && l.record == record).unwrap().number;
     assert_eq!((number("ladder", "RD V0"), number("ladder", "UF V0"), number("ladder", "JN V0, V2")), (7, 14, 7));
     assert_eq!((number("tower", "RD V0"), number("circle", "RD V0"), number("deep", "JN V0, V2")), (7, 9, 8));
+    let asks = |state, set| number(state, format!("SV, 512 ask {}", set).as_str());
+    assert_eq!((asks("ladder", "copy, drop, store"), asks("ladder", "all four"), asks("tower", "drop")), (0, 14, 0));
+    assert_eq!((asks("circle", "nothing"), asks("right", "nothing"), asks("right", "all four")), (9, 9, 9));
+    assert_eq!((asks("leaning", "drop"), asks("leaning", "copy, drop, store")), (0, 14));
+    assert_eq!((asks("chain", "drop"), asks("chain", "copy, drop, store"), asks("chains", "all four")), (0, 14, 0));
     assert!(slowest < traps::LIMIT, "{} s", slowest)
 }
 

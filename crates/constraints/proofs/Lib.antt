@@ -1,4 +1,4 @@
 -- Laws of the constraints' steps. Assumes nothing.
 pub mod Defaults
-pub mod Filter
+pub mod Emptied
 pub mod Solved

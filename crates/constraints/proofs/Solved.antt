@@ -4,9 +4,7 @@ use mathlib.Core.List.{List, []}
 use Prim.Native.Nat.{ℕ}
 use native.Mathlib.Omega.{arith}
 use Rattle.definition.specs.Types.{State, Struct, Result, ok, err, refused, _>>=_}
-use Rattle.definition.specs.Store.{with-constraints}
-use Rattle.definition.specs.Constraints.{num-vars, default-num-vars, staying, failures, solve-constraints}
-use Rattle.definition.specs.Write.{Bytes}
+use Rattle.definition.specs.Constraints.{num-vars, default-num-vars, solve-all, solve-constraints}
 use Rattle.table.specs.State.{outcome, seen, done}
 use Rattle.table.specs.declared.Step.{Step}
 use Rattle.table.specs.declared.Used.{Used}
@@ -16,7 +14,6 @@ use Rattle.table.specs.declared.Found.{Found}
 use Rattle.table.specs.declared.Found.the-variants.{Nothing, Just}
 use Rattle.merge.proofs.Answers.{then-is}
 use Rattle.constraints.specs.Solve.{numbered, Answered}
-use Rattle.constraints.specs.Filter.{Filtered}
 
 numbered-then : {B : Type 0} (r : Result State) (h : State → Result B) → (numbered r >>= (λ x. h (x .0))) ≡ (r >>= h)
 unfolding numbered _>>=_
@@ -40,13 +37,10 @@ stop-same Open s h k e = refl
 stop-same NoArgument s h k e = refl
 stop-same Twice s h k e = refl
 
-abbrev pub finish : State → Result (State × Bytes)
-finish s = ok (with-constraints s (staying (s .constraints)), failures s (s .constraints))
-
 module _ (w : List ℕ) (u : Used) (w₁ : List ℕ) (r : Step) (b : Found) (a : Answered w u w₁ r (λ s. numbered (default-num-vars s (num-vars 0 (s .vars))))) (p : b ≡ done (r .out)) where
-  pub goes-on : (ds : List Struct) → (outcome (r .out) (seen w₁ (r .used) ds) >>= (λ x. finish (x .0))) ≡ solve-constraints (seen w u ds)
+  pub goes-on : (ds : List Struct) → (outcome (r .out) (seen w₁ (r .used) ds) >>= (λ x. solve-all (x .0))) ≡ solve-constraints (seen w u ds)
   unfolding solve-constraints
-  goes-on ds = ap (λ (y : Result (State × ℕ)). y >>= (λ x. finish (x .0))) (a .changed .is ds) ∙ numbered-then (default-num-vars (seen w u ds) (num-vars 0 (seen w u ds .vars))) finish
+  goes-on ds = ap (λ (y : Result (State × ℕ)). y >>= (λ x. solve-all (x .0))) (a .changed .is ds) ∙ numbered-then (default-num-vars (seen w u ds) (num-vars 0 (seen w u ds .vars))) solve-all
 
   pub unsolved : b ≡ Nothing → (ds : List Struct) → (outcome (r .out) (seen w₁ (r .used) ds) >>= (λ x. ok (x .0, []))) ≡ solve-constraints (seen w u ds)
-  unsolved q ds = stop-same (r .out) (seen w₁ (r .used) ds) (λ x. ok (x .0, [])) (λ x. finish (x .0)) (sym p ∙ q) ∙ goes-on ds
+  unsolved q ds = stop-same (r .out) (seen w₁ (r .used) ds) (λ x. ok (x .0, [])) (λ x. solve-all (x .0)) (sym p ∙ q) ∙ goes-on ds

@@ -1,3 +1,3 @@
 -- What the answers of the constraints stand for. Assumes nothing: these are definitions.
 pub mod Solve
-pub mod Filter
+pub mod Emptied

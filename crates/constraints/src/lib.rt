@@ -1,20 +1,20 @@
-// typing/core.rs: a constraint is listed; solve_constraints: numeric variables that nothing decides become u64, and which constraints stay.
+// typing/core.rs: a constraint is listed; solve_constraints: numeric variables that nothing decides become u64; the list is emptied.
 // Changed from the source that NOTICE names: ported to Rattle.
 ghost use mathlib.Core.Path.{_≡_};
 ghost use mathlib.Core.List.{List, [], _∷_};
 ghost use Prim.Native.Nat.{ℕ, _+_, _*_, _≤_, _<_};
 ghost use lib.ListN.{length, getD};
 ghost use Rattle.definition.specs.Types as d;
-ghost use Rattle.definition.specs.Types.{BaseTypeConstraint, SingleTypeConstraint, if_then_else_};
+ghost use Rattle.definition.specs.Types.{BaseTypeConstraint, SingleTypeConstraint};
 ghost use Rattle.definition.specs.Store.{with-args};
 ghost use Rattle.definition.specs.Subst.{unfold-type};
-ghost use Rattle.definition.specs.Constraints.{undecided, num-vars, default-num-var, default-num-vars, stays};
+ghost use Rattle.definition.specs.Constraints.{undecided, num-vars, default-num-var, default-num-vars};
 ghost use Rattle.definition.specs.Step.{numeric-constraint};
 ghost use Rattle.table.specs.Rows.{read-option};
 ghost use Rattle.table.specs.State.{shape-of, constraint-of, found, seen, Lay, Changed, After, Wrote, pushed-constraint};
 ghost use Rattle.subst.specs.Answers.{var-at};
 ghost use Rattle.snap.specs.Snap.{Saved};
-ghost use Rattle.constraints.specs.Filter.{Stay, Compacted, First, Filtered};
+ghost use Rattle.constraints.specs.Emptied.{First, Emptied};
 ghost use Rattle.constraints.specs.Solve.{kind-of, numbered, join-u64, default-marked, Answered};
 use names::AbilitySet;
 use names::Mark;
@@ -98,7 +98,7 @@ fn join_u64(w: &mut [u32], u: Used, num_var: TVar, loc: u32) -> Step
     requires { ⌜ Lay (now w) u ⌝ }
     ensures { λ r. ⌜ After (now (w .entry)) u (now (w .exit)) r (λ s. join-u64 s («num_var» .0) loc) ⌝ }
 {
-    let k = Mark::Set(AbilitySet(7));
+    let k = Mark::Set(AbilitySet::PRIMITIVES);
     let a = table::push_apply(w, u, loc, k, TypeName::Builtin(3), [0; 8], 0);
     let ao = a.out;
     let au = a.used;
@@ -189,20 +189,7 @@ pub fn default_num_vars(w: &mut [u32], u: Used, saved: &[u32]) -> Step
     }
 }
 
-// ---- ability constraints stay
-
-fn stays(c: Constraint) -> bool
-    ensures { λ r. ⌜ stays (constraint-of c) ≡ (if r then constraint-of c ∷ [] else []) ⌝ }
-{
-    match c {
-        Constraint::Ability(_, _, _) => true,
-        Constraint::Numeric(_, _) => false,
-        Constraint::Bits(_, _) => false,
-        Constraint::Ordered(_, _) => false,
-        Constraint::BaseType(_, _) => false,
-        Constraint::SingleType(_, _) => false,
-    }
-}
+// ---- std::mem::take(&mut context.constraints)
 
 // Constraint row i.
 fn store_row(w: &mut [u32], i: u32, row: [u32; 4])
@@ -215,36 +202,6 @@ fn store_row(w: &mut [u32], i: u32, row: [u32; 4])
         w[at + k] = row[k];
         k = k + 1;
     }
-}
-
-// Constraint i goes to row k, if it stays; the answer is how many stay so far.
-fn stay(w: &mut [u32], u: Used, i: u32, k: u32) -> u32
-    requires { ⌜ Lay (now w) u × ((i < u .constraints) × (k ≤ i)) ⌝ }
-    ensures { λ r. ⌜ Stay (now (w .entry)) u i k (now (w .exit)) r ⌝ }
-{
-    let c = table::constraint_at(w, u, i);
-    if stays(c) {
-        let at = 21509 + i as usize * 4;
-        let row = [w[at], w[at + 1], w[at + 2], w[at + 3]];
-        store_row(w, k, row);
-        return k + 1;
-    }
-    k
-}
-
-// Those that stay stand first, in order; the answer is how many.
-fn compact(w: &mut [u32], u: Used) -> u32
-    requires { ⌜ Lay (now w) u ⌝ }
-    ensures { λ r. ⌜ Compacted (now (w .entry)) u (now (w .exit)) (u .constraints) r ⌝ }
-{
-    let n = u.constraints;
-    let mut k: u32 = 0;
-    let mut i: u32 = 0;
-    while i < n {
-        k = stay(w, u, i, k);
-        i = i + 1;
-    }
-    k
 }
 
 // The last row is zero again.
@@ -263,22 +220,14 @@ fn pop_constraint(w: &mut [u32], u: Used) -> Used
     }
 }
 
-// The first k are left.
-fn first_constraints(w: &mut [u32], u: Used, k: u32) -> Used
-    requires { ⌜ Lay (now w) u × (k ≤ u .constraints) ⌝ }
-    ensures { λ r. ⌜ First (now (w .entry)) u (now (w .exit)) r × (r .constraints ≡ k) ⌝ }
+// No constraint is left.
+pub fn take_constraints(w: &mut [u32], u: Used) -> Used
+    requires { ⌜ Lay (now w) u ⌝ }
+    ensures { λ r. ⌜ Emptied (now (w .entry)) u (now (w .exit)) r ⌝ }
 {
     let mut at = u;
-    while k < at.constraints {
+    while 0 < at.constraints {
         at = pop_constraint(w, at);
     }
     at
-}
-
-pub fn staying(w: &mut [u32], u: Used) -> Used
-    requires { ⌜ Lay (now w) u ⌝ }
-    ensures { λ r. ⌜ Filtered (now (w .entry)) u (now (w .exit)) r ⌝ }
-{
-    let k = compact(w, u);
-    first_constraints(w, u, k)
 }

@@ -65,9 +65,10 @@ pub constraint-of-the-type-read : left-by fresh (FV 1 ∷ BC 2 (u8 3) ∷ []) .c
 unfolding left-by
 constraint-of-the-type-read = refl
 
-pub base-constraint-leaves-the-list : left-by fresh (BC 1 (u8 2) ∷ SV ∷ []) .constraints ≡ []
+-- a struct whose parameter wants no abilities, with u8: an ability constraint and two base constraints
+pub no-constraint-stays : left-by fresh (hex "5344 00 01 00" ∷ (hex "494e 05 01000000 00 0000" ++ u8 2) ∷ BC 3 (u8 4) ∷ SV ∷ []) .constraints ≡ []
 unfolding left-by
-base-constraint-leaves-the-list = refl
+no-constraint-stays = refl
 
 -- with copy, drop and store, at the mark's location
 pub undecided-becomes-u64 : after (NV 9 ∷ SV ∷ []) (UF (var 1 0)) ≡ (0, default-u64 9)

@@ -12,6 +12,7 @@ use Rattle.definition.proofs.Facts.{facts}
 use Rattle.definition.proofs.BookTypes.{book-deep, deep-book as deep-is-book, from-subtype, serves-subtype, from-join, best-least, least-book}
 use Rattle.definition.proofs.BookJoin.{Judges, judged, map-to}
 use Rattle.definition.proofs.BookRoom.{roomy}
+use Rattle.definition.proofs.BookAbilities.{abilities-are}
 use Rattle.definition.proofs.BookLiteral.{literal, decided-literal, literal-room}
 
 module _ (S : State) (h : sound S ≡ true) (l r : ℕ) (L R : MoveType) (dl : Denotes S l L) (dr : Denotes S r R) where
@@ -50,6 +51,7 @@ the-book S h = record {
   join-book = λ l r L R dl dr bl br. join-book S h l r L R dl dr bl br;
   literal = λ v loc e free. literal S h v loc e free;
   decided-literal = λ v loc t e i. decided-literal S h v loc t e i;
+  abilities-are = λ t i r a. abilities-are S h t i r a;
 }
 
 pub deep-book : (S : State) → sound S ≡ true → Deep-book S
@@ -59,5 +61,5 @@ deep-book S h = record {
   book-deep = λ L R b. book-deep b;
   subtype-room = λ l r L R dl dr o x e. subtype-room S h l r L R dl dr o x e;
   join-room = λ l r L R dl dr o x e. join-room S h l r L R dl dr o x e;
-  literal-room = λ a b x e. literal-room S h a b x e;
+  literal-room = λ a b e. literal-room S h a b e;
 }

@@ -3,7 +3,7 @@ use mathlib.Core.Path.{_≡_}
 use mathlib.Core.Bool.{Bool, true, false}
 use Prim.Native.Nat.{ℕ, suc, _+_, _*_, _≤_}
 use lib.ListN.{length}
-use Rattle.definition.specs.Types.{TypeName, State, max-nodes, max-args, max-vars, max-depth, Refusal, abilities-disagree, refused}
+use Rattle.definition.specs.Types.{TypeName, State, max-nodes, max-args, max-vars, max-depth, Refusal, full, abilities-disagree, refused}
 use Rattle.definition.specs.Store.{count, taken}
 use Rattle.definition.specs.Join.{join, subtype}
 use Rattle.definition.specs.Constraints.{num-vars, solve-constraints}
@@ -73,5 +73,5 @@ pub record Deep-book (s : State) : Type 0 where
   -- with room enough only disagreeing marks are refused
   pub subtype-room : (l r : ℕ) (L R : MoveType) → Denotes s l L → Denotes s r R → Join-room s max-depth L → (x : Refusal) → subtype s l r ≡ refused x → x ≡ abilities-disagree
   pub join-room : (l r : ℕ) (L R : MoveType) → Denotes s l L → Denotes s r R → Join-room s max-depth L → (x : Refusal) → join s l r ≡ refused x → x ≡ abilities-disagree
-  -- .. and SV is not refused
-  pub literal-room : count s + 5 * numeric s ≤ max-nodes → taken s + 2 * numeric s ≤ max-vars → (x : Refusal) → solve-constraints s ≡ refused x → ⊥
+  -- .. and SV is not refused with 7
+  pub literal-room : count s + 5 * numeric s ≤ max-nodes → taken s + 2 * numeric s ≤ max-vars → solve-constraints s ≡ refused full → ⊥

@@ -9,16 +9,16 @@ use native.Mathlib.Decide.{ℕ-discrete}
 use native.Mathlib.Omega.{arith}
 use lib.Dec.{eqb}
 use lib.ListN.{length, getD, List·getD-eq-default}
-use Rattle.definition.specs.Types.{TypeName, Multiple, Builtin, ModuleType, Mark, Type-value, UnitType, Ref, Param, Apply, Var, Anything, UnresolvedError, Cell, unbound, State, max-nodes, max-vars, max-depth, Refusal, Result, ok, refused, _>>=_, if_then_else_}
+use Rattle.definition.specs.Types.{TypeName, Multiple, Builtin, ModuleType, Mark, Type-value, UnitType, Ref, Param, Apply, Var, Anything, UnresolvedError, Cell, unbound, State, max-nodes, max-vars, max-depth, full, Result, ok, refused, _>>=_, if_then_else_}
 use Rattle.definition.specs.Store.{any-of, count, taken, type-at, spanned, get, num-loc, with-constraints, sp}
 use Rattle.definition.specs.Subst.{parts, as-var, forward, forward-tvar, unfold-var, unfold-type}
 use Rattle.definition.specs.Join.{integers, is-numeric, join}
-use Rattle.definition.specs.Constraints.{num-vars, undecided, is-integer, u64, default-num-var, default-num-vars, solve-constraints, staying, failures}
+use Rattle.definition.specs.Constraints.{num-vars, undecided, is-integer, u64, default-num-var, default-num-vars, solve-all, solve-constraints}
 use Rattle.definition.specs.Instantiate.{builtin-tparams}
 use Rattle.definition.specs.Write.{Bytes}
 use Rattle.definition.specs.Trees.{arity}
 use Rattle.definition.specs.Sound.{sound}
-use Rattle.definition.specs.Book.{Literal-rule}
+use Rattle.definition.specs.Book.{Literal-rule, sv-full, sv-itself, sv-contradicted}
 use Rattle.definition.proofs.Laws.{get-beyond}
 use Rattle.definition.proofs.Chains.{next-none}
 use Rattle.definition.proofs.Tracks.{never, Ends, here, ends-det, solid-var, nonvar-var, any-var, Head, h-unit, h-ref, h-param, h-apply, r-self, r-var, fits-solid-l, Tracks, t-any, t-var, t-fit, Fits, f-err, f-node, TracksAll, ta-nil, ta-cons}
@@ -27,7 +27,8 @@ use Rattle.definition.proofs.Steps.{quiet-⊑}
 use Rattle.definition.proofs.Post.{Grown, grown-refl}
 use Rattle.definition.proofs.Calls.{sp-post, var-ok}
 use Rattle.definition.proofs.Main.{eq-of, join-impl-good}
-use Rattle.definition.proofs.Went.{Went, went-refl, went-trans, went-quiet, quiet-list, sound-staying, PostS, ps-ok, ps-refused, bind-postS}
+use Rattle.definition.proofs.Hindered.{solve-cases}
+use Rattle.definition.proofs.Went.{Went, went-refl, went-trans, went-quiet, quiet-list, sound-cleared, PostS, ps-ok, ps-refused, bind-postS}
 use Rattle.definition.proofs.Runs.{Declared, declared-on, Below, below-on, num-vars-below, u64-ok, defaults-went}
 use Rattle.definition.proofs.Facts.{facts}
 use Rattle.definition.proofs.Soundness.{sound-is}
@@ -207,9 +208,9 @@ solved {ar} ((w, loc) ∷ l) {S} s d b v v-in f n = sure-bind _ (turn s w loc v 
     next x i (inr (inr m)) = inr m
 
 -- SV's new list of constraints changes no variable
-unfolds-leaf : {ar : TypeName → ℕ} {S : State} → Sound ar S → (k : Mark) (n : TypeName) (v loc : ℕ) → v < taken S → Is S v (Apply k n []) → unfold-type (with-constraints S (staying (S .constraints))) (record { loc = loc; value = Var v }) .value ≡ Apply k n []
+unfolds-leaf : {ar : TypeName → ℕ} {S : State} → Sound ar S → (k : Mark) (n : TypeName) (v loc : ℕ) → v < taken S → Is S v (Apply k n []) → unfold-type (with-constraints S []) (record { loc = loc; value = Var v }) .value ≡ Apply k n []
 unfolding unfold-type unfold-var as-var spanned Is
-unfolds-leaf s k n v loc h u = let s′ = sound-staying s in let r = leaf-on s s′ (quiet-⊑ s s′ (quiet-list s _)) k n v h u in rw (r .1) (r .2)
+unfolds-leaf s k n v loc h u = let s′ = sound-cleared s in let r = leaf-on s s′ (quiet-⊑ s s′ (quiet-list s _)) k n v h u in rw (r .1) (r .2)
 
 -- a variable that is looked up with success is taken
 get-in : (S : State) (v t : ℕ) → get S v ≡ some t → v < taken S
@@ -252,14 +253,14 @@ module _ (S : State) (h : sound S ≡ true) where
 
   -- what SV goes on with
   abbrev rest : State → Result (State × Bytes)
-  rest s = ok (with-constraints s (staying (s .constraints)), failures s (s .constraints))
+  rest s = solve-all s
 
-  pub literal-room : count S + 5 * numeric S ≤ max-nodes → taken S + 2 * numeric S ≤ max-vars → (x : Refusal) → solve-constraints S ≡ refused x → ⊥
+  pub literal-room : count S + 5 * numeric S ≤ max-nodes → taken S + 2 * numeric S ≤ max-vars → solve-constraints S ≡ refused full → ⊥
   unfolding solve-constraints _>>=_
-  literal-room a b x e = go (default-num-vars S (num-vars 0 (S .vars))) default-all e
+  literal-room a b e = go (default-num-vars S (num-vars 0 (S .vars))) default-all e
     where
-      go : (m : Result State) → Takes S (5 * numeric S) (2 * numeric S) (λ s. s) (λ s. Unit {0}) m → (m >>= rest) ≡ refused x → ⊥
-      go (ok S′) (takes-ok t u) e = never (cc)
+      go : (m : Result State) → Takes S (5 * numeric S) (2 * numeric S) (λ s. s) (λ s. Unit {0}) m → (m >>= rest) ≡ refused full → ⊥
+      go (ok S′) (takes-ok t u) e = solve-cases S′ (λ m. m ≡ refused full → ⊥) (λ d. never (cc)) (λ d. never (cc)) (λ d. never (cc)) e
       go (refused y) (takes-full f) e = f (record { nodes-left = a; vars-left = b; places-fit = sound-is S .0 h .few-args })
 
   literal-by : (k : Mark) (n : TypeName) (v : ℕ) → v < taken S → Sure (λ S′. Sound (arity S) S′ × (taken S ≤ taken S′) × Is S′ v (Apply k n [])) (default-num-vars S (num-vars 0 (S .vars)))
@@ -268,8 +269,8 @@ module _ (S : State) (h : sound S ≡ true) where
   literal-by k n v v-in r = go (default-num-vars S (num-vars 0 (S .vars))) r default-all
     where
       go : (m : Result State) → Sure (λ S′. Sound (arity S) S′ × (taken S ≤ taken S′) × Is S′ v (Apply k n [])) m → Takes S (5 * numeric S) (2 * numeric S) (λ s. s) (λ s. Unit {0}) m → Literal-rule v (Apply k n []) (m >>= rest)
-      go (ok S′) (sure-ok p) t = λ loc. unfolds-leaf (p .0) k n v loc (omega (arith, v-in, p .1)) (p .2)
-      go (refused x) p (takes-full f) = refl
+      go (ok S′) (sure-ok p) t = solve-cases S′ (Literal-rule v (Apply k n [])) (λ loc. unfolds-leaf (p .0) k n v loc (omega (arith, v-in, p .1)) (p .2)) sv-itself sv-contradicted
+      go (refused x) p (takes-full f) = sv-full
 
   pub literal : (v loc : ℕ) → num-loc S v ≡ some loc → get S (forward-tvar S v) ≡ none → Literal-rule v (Apply (some 7) (Builtin 3) []) (solve-constraints S)
   unfolding num-loc Is-u64 u64

@@ -4,9 +4,9 @@ use mathlib.Core.Bool.{Bool, true, false}
 use mathlib.Core.List.{List, [], _∷_, _++_}
 use Prim.Native.Nat.{ℕ}
 use Rattle.definition.specs.Types.{Var, State, max-depth, TypingError, Refusal, Result, ok, err, refused, _>>=_}
-use Rattle.definition.specs.Store.{sp, with-constraints}
+use Rattle.definition.specs.Store.{sp}
 use Rattle.definition.specs.Join.{TypingCase, Join, Subtype, join-impl, join, subtype}
-use Rattle.definition.specs.Constraints.{num-vars, undecided, u64, default-num-var, default-num-vars, staying, failures, solve-constraints}
+use Rattle.definition.specs.Constraints.{num-vars, undecided, u64, default-num-var, default-num-vars, solve-all, solve-constraints}
 use Rattle.definition.specs.Write.{Bytes, write}
 use Rattle.definition.specs.Record.{JN, SU, SV}
 use Rattle.definition.specs.Trees.{Tree}
@@ -93,6 +93,6 @@ nums-made ((v, loc) ∷ nums) S = go (default-num-var S v loc) (num-made S v loc
     go (refused x) d h = ends-refused d
 
 -- SV goes on from there with the constraints, and changes no binding
-pub SV-calls : (s : State) → (m : Result State) × Defaults s m (run-calls s SV) × (run s SV ≡ (m >>= λ (x : State). ok (with-constraints x (staying (x .constraints)), failures x (x .constraints))))
+pub SV-calls : (s : State) → (m : Result State) × Defaults s m (run-calls s SV) × (run s SV ≡ (m >>= λ (x : State). solve-all x))
 unfolding run run-calls solve-constraints
 SV-calls s = (default-num-vars s (num-vars 0 (s .vars)), nums-made (num-vars 0 (s .vars)) s, refl)

@@ -209,7 +209,7 @@ module _ {A : Type 0} where
   bool-same true b′ e p q = rw e p
   bool-same false b′ e p q = rw e q
 
-  pub opt-same : (o o′ : Option ℕ) {x x′ : A} {k k′ : ℕ → A} → o′ ≡ o → x′ ≡ x → ((t : ℕ) → k′ t ≡ k t) → _≡_ {A = A} (elim o′ [ none ↦ x′ | some t ↦ k′ t ]) (elim o [ none ↦ x | some t ↦ k t ])
+  pub opt-same : {B : Type 0} (o o′ : Option B) {x x′ : A} {k k′ : B → A} → o′ ≡ o → x′ ≡ x → ((t : B) → k′ t ≡ k t) → _≡_ {A = A} (elim o′ [ none ↦ x′ | some t ↦ k′ t ]) (elim o [ none ↦ x | some t ↦ k t ])
   opt-same none o′ e p q = rw e p
   opt-same (some t) o′ e p q = rw e (q t)
 

@@ -62,7 +62,7 @@ module _ (s : State) where
   ends-erase zero t = refl
   ends-erase (suc n) t = rw (goes-on-erase t) (all-erase _ _ (λ p. ends-erase n p) (goes-on-to s t))
 
-  itself-erase : (t : ℕ) → reaches-itself (erase s) t ≡ reaches-itself s t
+  pub itself-erase : (t : ℕ) → reaches-itself (erase s) t ≡ reaches-itself s t
   unfolding reaches-itself
   itself-erase t = rw (count-erase s, ends-erase (count s) t) refl
 

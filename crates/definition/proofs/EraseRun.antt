@@ -8,12 +8,12 @@ use native.Mathlib.Omega.{arith}
 use lib.ListN.{length, replicate, List·getD-eq-default}
 use lib.Dec.{leb, ltb, ltb→lt, nltb→le}
 use Rattle.definition.specs.Types.{TypeName, Multiple, Builtin, ModuleType, UnitType, Ref, Param, Apply, Var, Anything, UnresolvedError, Type-value, Spanned, Node, Cell, unbound, State, max-structs, if_then_else_}
-use Rattle.definition.specs.Types.{Constraint, AbilityConstraint, NumericConstraint, BitsConstraint, OrderedConstraint, BaseTypeConstraint, SingleTypeConstraint, TypingError, SubtypeError, Incompatible, ArityMismatch, RecursiveType, Refusal, answer-too-long, Result, ok, _>>=_}
+use Rattle.definition.specs.Types.{Constraint, TypingError, SubtypeError, Incompatible, ArityMismatch, RecursiveType, Refusal, answer-too-long, Result, ok, refused, _>>=_}
 use Rattle.definition.specs.Store.{nowhere, count, taken, node, type-at, with-args, spanned, with-constraints}
 use Rattle.definition.specs.Subst.{parts, unfold-type}
 use Rattle.definition.specs.Join.{join, subtype}
 use Rattle.definition.specs.TParams.{arg-of, make-tparam-subst}
-use Rattle.definition.specs.Constraints.{num-vars, undecided, u64, default-num-var, default-num-vars, failures as all-failures, stays, staying, solve-constraints}
+use Rattle.definition.specs.Constraints.{num-vars, undecided, u64, default-num-var, default-num-vars, failures as all-failures, hindrance, solve-all, solve-constraints}
 use Rattle.definition.specs.Write.{Bytes, u16, write-error}
 use Rattle.definition.specs.Reader.{Read}
 use Rattle.definition.specs.Trees.{Tree, unit-tree, anything-tree, error-tree, ref-tree, param-tree, apply-tree, var-tree, Trees, no-trees, _then_, mark-fits, arity, is-mark, is-name}
@@ -24,18 +24,18 @@ use Rattle.definition.specs.Sound.{sound}
 use Rattle.definition.specs.Step.{numeric-constraint, constrain, two-types, tell, run, Answer, number-of-error, refusal, put-back, max-payload, answer-with, answer, lent}
 use Rattle.definition.specs.Locations.{Part, types, failures, blank, success-fields, shown-fields, payload-fields}
 use Rattle.definition.proofs.Tracks.{never}
-use Rattle.definition.proofs.Laws.{SameNodes, value-same}
 use Rattle.definition.proofs.Order.{All, All-map, Sound}
 use Rattle.definition.proofs.Facts.{and-l, and-r, test, facts}
 use Rattle.definition.proofs.Ranges.{ShapeIn, Ranges, value-in}
 use Rattle.definition.proofs.Went.{Went, PostS, ps-ok}
 use Rattle.definition.proofs.Runs.{num-vars-below, defaults-went}
-use Rattle.definition.proofs.Walk.{Run, e-ok, run-walk}
+use Rattle.definition.proofs.Walk.{Ends, e-ok, In, starts-run}
 use Rattle.definition.proofs.SoundKept.{ranges-of}
 use Rattle.definition.proofs.Erase.{erase-mark, erase-cell, erase-constraint, erase-error, erase, taken-erase, spanned-erase, vars-erase, constraints-erased}
 use Rattle.definition.proofs.Erase.{Erased, er-ok, er-err, er-refused, with-state, er-bind, er-elim, er-opt, sp-erase, next-erase, add-erase, declare-erase}
 use Rattle.definition.proofs.EraseJoin.{unfold-type-erase, set-num-erase, ready-tvars-erase, join-erase, subtype-erase, subst-erase, instantiate-erase}
 use Rattle.definition.proofs.EraseRead.{erase-tree, erase-trees, erase-pair, erase-record, blank-nil, length-blank, Read-alike, w-got, w-not}
+use Rattle.definition.proofs.EraseAbilities.{hindrance-erase}
 use Rattle.definition.proofs.EraseWrite.{NameFits, Fits, Fitting, spanned-row, write-row, var-row, error-shown, failures-shown}
 
 -- ---- placing
@@ -122,20 +122,6 @@ unfolding default-num-vars
 defaults-erase [] s = er-ok refl
 defaults-erase ((v, loc) ∷ l) s = er-bind _ _ (default-erase s v loc) (λ s1. defaults-erase l s1)
 
-stays-erase : (c : Constraint) → stays (erase-constraint c) ≡ map erase-constraint (stays c)
-unfolding stays
-stays-erase (AbilityConstraint loc ty a) = refl
-stays-erase (NumericConstraint loc ty) = refl
-stays-erase (BitsConstraint loc ty) = refl
-stays-erase (OrderedConstraint loc ty) = refl
-stays-erase (BaseTypeConstraint loc ty) = refl
-stays-erase (SingleTypeConstraint loc ty) = refl
-
-staying-erase : (cs : List Constraint) → staying (map erase-constraint cs) ≡ map erase-constraint (staying cs)
-unfolding staying
-staying-erase [] = refl
-staying-erase (c ∷ cs) = rw (map-append erase-constraint (stays c) (staying cs), stays-erase c, staying-erase cs) refl
-
 -- the declared arities hold in the state that SV writes from
 module _ (S s : State) (few : length (S .structs) ≤ max-structs) (w : Sound (arity S) s) (r : (t : ℕ) → ShapeIn S (type-at s t)) where
   outside : (t : ℕ) → count s ≤ t → type-at s t ≡ UnresolvedError
@@ -191,34 +177,31 @@ vars-are : (s : State) → erase s .vars ≡ map erase-cell (s .vars)
 unfolding erase
 vars-are s = refl
 
-list-nodes : (s : State) (cs : List Constraint) → SameNodes s (with-constraints s cs)
-unfolding with-constraints
-list-nodes s cs = record { same-nodes = refl; same-args = refl }
-
 module _ (S : State) (h : sound S ≡ true) where
-  finish : State → Result (State × Bytes)
-  finish s = ok (with-constraints s (staying (s .constraints)), all-failures s (s .constraints))
-
-  finished : (s : State) → Went (arity S) S s → Ranges S (with-constraints s (staying (s .constraints)))
-      → (with-constraints (erase s) (staying (erase s .constraints)), all-failures (erase s) (erase s .constraints)) ≡ blanked S (failures ∷ []) (with-constraints s (staying (s .constraints)), all-failures s (s .constraints))
-  finished s w r = pair-same
-      (ap (λ (cs : List Constraint). with-constraints (erase s) cs) (ap staying (constraints-are s) ∙ staying-erase (s .constraints)) ∙ constraints-erased s (staying (s .constraints)))
-      (ap (all-failures (erase s)) (constraints-are s) ∙ sym (failures-shown S s fit (s .constraints)))
+  finished : (s : State) → Went (arity S) S s → Ranges S s → Erased (blanked S (failures ∷ [])) (solve-all s) (solve-all (erase s))
+  unfolding solve-all
+  finished s w r = go (hindrance s (s .constraints)) (hindrance (erase s) (erase s .constraints)) (ap (hindrance (erase s)) (constraints-are s) ∙ hindrance-erase s (s .constraints))
     where
       fit : Fitting S s
-      fit = fitting S s (ranges-of S h .few-structs) (w .sound) (λ t. rw (value-same (list-nodes s (staying (s .constraints))) t) at (value-in r t))
+      fit = fitting S s (ranges-of S h .few-structs) (w .sound) (value-in r)
 
-  close : {d d′ : Result State} → Erased erase d d′ → PostS (arity S) S (Went (arity S) S) d → Run (Unit {0}) S true (d >>= finish) → Erased (blanked S (failures ∷ [])) (d >>= finish) (d′ >>= finish)
-  unfolding _>>=_ finish
-  close (er-ok {a = s} e) (ps-ok g w) (e-ok i) = rw e (er-ok (finished s w (i tt)))
+      go : (o o′ : Option Refusal) → o′ ≡ o → Erased (blanked S (failures ∷ [])) (elim o [ none ↦ ok (with-constraints s [], all-failures s (s .constraints)) | some x ↦ refused x ])
+          (elim o′ [ none ↦ ok (with-constraints (erase s) [], all-failures (erase s) (erase s .constraints)) | some x ↦ refused x ])
+      go none o′ e = rw e (er-ok (pair-same (constraints-erased s []) (ap (all-failures (erase s)) (constraints-are s) ∙ sym (failures-shown S s fit (s .constraints)))))
+      go (some x) o′ e = rw e er-refused
+
+  close : {d d′ : Result State} → Erased erase d d′ → PostS (arity S) S (Went (arity S) S) d → Ends true (In (Unit {0}) S true) (In (Unit {0}) S true) d
+      → Erased (blanked S (failures ∷ [])) (d >>= λ (s : State). solve-all s) (d′ >>= λ (s : State). solve-all s)
+  unfolding _>>=_
+  close (er-ok {a = s} e) (ps-ok g w) (e-ok i) = rw e (finished s w (i tt))
   close (er-err e d) p q = er-err e d
   close er-refused p q = er-refused
 
   solve-erase : Erased (blanked S (failures ∷ [])) (solve-constraints S) (solve-constraints (erase S))
-  unfolding solve-constraints run finish
+  unfolding solve-constraints
   solve-erase = rw (nums-erase S) (close (defaults-erase (num-vars 0 (S .vars)) S)
       (defaults-went (num-vars 0 (S .vars)) (facts S h) (λ n. refl) (num-vars-below 0 (S .vars) (taken S) (omega arith)))
-      (run-walk (Unit {0}) S true refl S (λ u. ranges-of S h) SV (λ u. tt)))
+      (starts-run (Unit {0}) S true S (λ u. ranges-of S h)))
 
   -- ---- record by record
 

@@ -2,23 +2,26 @@
 use mathlib.Core.Path.{_≡_, refl, ap, _∙_}
 use mathlib.Core.Bool.{Bool, true, false}
 use mathlib.Core.List.{List, [], _∷_, _++_, map, append-assoc, append-nil}
-use mathlib.Core.Option.{Option, none, some}
 use Prim.Native.Nat.{ℕ, zero, suc, _+_, _*_, _/_, _%_, _<_}
 use native.Mathlib.Omega.{arith}
+use lib.Dec.{eqb}
 use lib.ListN.{length, replicate}
 use Rattle.definition.specs.Types.{TypeName, Multiple, Builtin, ModuleType, UnitType, Ref, Param, Apply, Var, Anything, UnresolvedError, Type-value, Spanned, State, if_then_else_}
 use Rattle.definition.specs.Types.{Constraint, AbilityConstraint, NumericConstraint, BitsConstraint, OrderedConstraint, BaseTypeConstraint, SingleTypeConstraint, TypingError, SubtypeError, Incompatible, ArityMismatch, RecursiveType}
-use Rattle.definition.specs.Store.{count, type-at, loc-of, spanned, get}
-use Rattle.definition.specs.Subst.{as-var, parts, forward-tvar, unfold-var, unfold-type}
+use Rattle.definition.specs.Store.{count, type-at, spanned}
+use Rattle.definition.specs.Subst.{parts, unfold-type}
 use Rattle.definition.specs.Write.{Bytes, u16, u32, apply-head, head, each, write-down, write-spanned, write, write-error}
 use Rattle.definition.specs.Trees.{arity}
-use Rattle.definition.specs.Constraints.{is-integer, is-base, is-single, failure, solve, solve-constraint, failures as all-failures}
+use Rattle.definition.specs.Constraints.{is-integer, is-base, is-single, failure, solve, missing, ability-failure, by-rule, solve-ability-constraint, solve-constraint, failures as all-failures}
+use Rattle.definition.specs.Abilities.{Rule, declaration, argument, contradicted, rule}
 use Rattle.definition.specs.Step.{number-of-error}
 use Rattle.definition.specs.Record.{Record}
-use Rattle.definition.specs.Locations.{Part, location, type, types, failures, loc-field, u32-field, tag-fields, tag-widths, expand, blank-byte, blank, shown-fields}
+use Rattle.definition.specs.Locations.{Part, location, type, types, failures, rule as rule-part, loc-field, u32-field, tag-fields, tag-widths, expand, blank-byte, blank, shown-fields}
 use Rattle.definition.proofs.Order.{All, All-map}
 use Rattle.definition.proofs.Erase.{erase-spanned, erase-constraint, erase-error, erase, count-erase, spanned-erase}
 use Rattle.definition.proofs.EraseJoin.{unfold-type-erase}
+use Rattle.definition.proofs.EraseAbilities.{rule-erase, missing-erase}
+use Rattle.definition.proofs.Inferred.{unfolded as as-unfolded}
 
 -- a struct's number is two bytes
 abbrev pub NameFits : TypeName → Type 0
@@ -159,41 +162,61 @@ module _ (S : State) where
     Written t = Fits (t .value) × All (λ p. p < count s) (parts (t .value))
 
     unfolded : (t : ℕ) → Written (unfold-type s (spanned s t))
-    unfolding unfold-type unfold-var parts spanned
-    unfolded t = go (as-var (type-at s t))
-      where
-        bound : (o : Option ℕ) → Written (unfold-var s (loc-of s t) o)
-        bound none = (tt, tt)
-        bound (some u) = (w .fits u, w .inside u)
-
-        go : (o : Option ℕ) → Written (elim o [ none ↦ spanned s t | some i ↦ unfold-var s (loc-of s t) (get s (forward-tvar s i)) ])
-        go none = (w .fits t, w .inside t)
-        go (some i) = bound (get s (forward-tvar s i))
+    unfolding parts
+    unfolded t = as-unfolded s (λ x. Fits x × All (λ p. p < count s) (parts x)) (tt, tt) (λ u. (w .fits u, w .inside u)) t
 
     abbrev failing : List Part
     failing = failures ∷ []
 
-    failure-shown : (code loc : ℕ) (t : Spanned Type-value) → Fits (t .value) → All (λ p. p < count s) (parts (t .value)) → (rest : Bytes)
+    failure-shown : (code loc : ℕ) → eqb code 4 ≡ false → (t : Spanned Type-value) → Written t → (rest : Bytes)
         → blank S (failure s code loc t ++ rest) failing ≡ failure (erase s) code 0 (erase-spanned t) ++ blank S rest failing
     unfolding failure u32 blank expand blank-byte loc-field
-    failure-shown code loc t f a rest = ap (λ (l : Bytes). code ∷ 0 ∷ 0 ∷ 0 ∷ 0 ∷ l) (spanned-type t f a rest failing)
+    failure-shown code loc e t h rest = rw e (ap (λ (l : Bytes). code ∷ 0 ∷ 0 ∷ 0 ∷ 0 ∷ l) (spanned-type t (h .0) (h .1) rest failing))
 
-    solve-shown : (good : Type-value → Bool) (code loc ty : ℕ) (rest : Bytes) → blank S (solve s good code loc ty ++ rest) failing ≡ solve (erase s) good code 0 ty ++ blank S rest failing
+    solve-shown : (good : Type-value → Bool) (code loc ty : ℕ) → eqb code 4 ≡ false → (rest : Bytes) → blank S (solve s good code loc ty ++ rest) failing ≡ solve (erase s) good code 0 ty ++ blank S rest failing
     unfolding solve
-    solve-shown good code loc ty rest = rw (spanned-erase s ty, unfold-type-erase s (spanned s ty)) (go (good (unfold-type s (spanned s ty) .value)))
+    solve-shown good code loc ty e rest = rw (spanned-erase s ty, unfold-type-erase s (spanned s ty)) (go (good (unfold-type s (spanned s ty) .value)))
       where
         go : (b : Bool) → blank S ((if b then [] else failure s code loc (unfold-type s (spanned s ty))) ++ rest) failing ≡ (if b then [] else failure (erase s) code 0 (erase-spanned (unfold-type s (spanned s ty)))) ++ blank S rest failing
         go true = refl
-        go false = failure-shown code loc (unfold-type s (spanned s ty)) (unfolded ty .0) (unfolded ty .1) rest
+        go false = failure-shown code loc e (unfold-type s (spanned s ty)) (unfolded ty) rest
+
+    -- code 4: the rule is one byte, or two
+    ability-shown : (loc ability : ℕ) (t : Spanned Type-value) → Written t → (why : Bytes) → ((rest : Bytes) → blank S (why ++ rest) (rule-part ∷ []) ≡ why ++ blank S rest failing) → (rest : Bytes)
+        → blank S (ability-failure s loc ability t why ++ rest) failing ≡ ability-failure (erase s) 0 ability (erase-spanned t) why ++ blank S rest failing
+    unfolding ability-failure u32 blank expand blank-byte loc-field
+    ability-shown loc ability t h why f rest =
+        rw (append-assoc (write-spanned s t) why rest, append-assoc (write-spanned (erase s) (erase-spanned t)) why (blank S rest failing))
+        (ap (λ (l : Bytes). 4 ∷ 0 ∷ 0 ∷ 0 ∷ 0 ∷ ability ∷ l) (spanned-type t (h .0) (h .1) (why ++ rest) (rule-part ∷ []) ∙ ap (λ (l : Bytes). write-spanned (erase s) (erase-spanned t) ++ l) (f rest)))
+
+    rule-shown : (loc ability : ℕ) (t : Spanned Type-value) → Written t → (r : Rule) (rest : Bytes) → blank S (by-rule s loc ability t r ++ rest) failing ≡ by-rule (erase s) 0 ability (erase-spanned t) r ++ blank S rest failing
+    unfolding by-rule blank expand blank-byte
+    rule-shown loc ability t h declaration rest = ability-shown loc ability t h _ (λ rest. refl) rest
+    rule-shown loc ability t h (argument place) rest = ability-shown loc ability t h _ (λ rest. refl) rest
+    rule-shown loc ability t h contradicted rest = refl
+
+    each-shown : (f f′ : ℕ → Bytes) → ((a : ℕ) (rest : Bytes) → blank S (f a ++ rest) failing ≡ f′ a ++ blank S rest failing) → (l : List ℕ) (rest : Bytes)
+        → blank S (each f l ++ rest) failing ≡ each f′ l ++ blank S rest failing
+    unfolding each
+    each-shown f f′ h [] rest = refl
+    each-shown f f′ h (a ∷ l) rest = rw (append-assoc (f a) (each f l) rest, append-assoc (f′ a) (each f′ l) (blank S rest failing)) (h a (each f l ++ rest) ∙ ap (λ (b : Bytes). f′ a ++ b) (each-shown f f′ h l rest))
+
+    abilities-shown : (loc ty wanted : ℕ) (rest : Bytes) → blank S (solve-ability-constraint s loc ty wanted ++ rest) failing ≡ solve-ability-constraint (erase s) 0 ty wanted ++ blank S rest failing
+    unfolding solve-ability-constraint
+    abilities-shown loc ty wanted rest = rw (missing-erase s ty wanted) (each-shown _ _ one (missing s ty wanted) rest)
+      where
+        one : (ability : ℕ) (rest : Bytes) → blank S (by-rule s loc ability (unfold-type s (spanned s ty)) (rule s ability (unfold-type s (spanned s ty) .value)) ++ rest) failing
+            ≡ by-rule (erase s) 0 ability (unfold-type (erase s) (spanned (erase s) ty)) (rule (erase s) ability (unfold-type (erase s) (spanned (erase s) ty) .value)) ++ blank S rest failing
+        one ability rest = rw (rule-erase s ability ty, spanned-erase s ty, unfold-type-erase s (spanned s ty)) (rule-shown loc ability (unfold-type s (spanned s ty)) (unfolded ty) (rule s ability (unfold-type s (spanned s ty) .value)) rest)
 
     constraint-shown : (c : Constraint) (rest : Bytes) → blank S (solve-constraint s c ++ rest) failing ≡ solve-constraint (erase s) (erase-constraint c) ++ blank S rest failing
     unfolding solve-constraint
-    constraint-shown (AbilityConstraint loc ty a) rest = refl
-    constraint-shown (NumericConstraint loc ty) rest = solve-shown is-integer 1 loc ty rest
-    constraint-shown (BitsConstraint loc ty) rest = solve-shown is-integer 1 loc ty rest
-    constraint-shown (OrderedConstraint loc ty) rest = solve-shown is-integer 1 loc ty rest
-    constraint-shown (BaseTypeConstraint loc ty) rest = solve-shown is-base 2 loc ty rest
-    constraint-shown (SingleTypeConstraint loc ty) rest = solve-shown is-single 3 loc ty rest
+    constraint-shown (AbilityConstraint loc ty a) rest = abilities-shown loc ty a rest
+    constraint-shown (NumericConstraint loc ty) rest = solve-shown is-integer 1 loc ty refl rest
+    constraint-shown (BitsConstraint loc ty) rest = solve-shown is-integer 1 loc ty refl rest
+    constraint-shown (OrderedConstraint loc ty) rest = solve-shown is-integer 1 loc ty refl rest
+    constraint-shown (BaseTypeConstraint loc ty) rest = solve-shown is-base 2 loc ty refl rest
+    constraint-shown (SingleTypeConstraint loc ty) rest = solve-shown is-single 3 loc ty refl rest
 
     pub failures-shown : (cs : List Constraint) → blank S (all-failures s cs) failing ≡ all-failures (erase s) (map erase-constraint cs)
     unfolding all-failures blank

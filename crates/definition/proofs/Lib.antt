@@ -1,6 +1,7 @@
 pub mod AnswersJoin
 pub mod AnswersRecords
 pub mod AnswersReferences
+pub mod AnswersSolve
 pub mod AnswersSpace
 pub mod AnswersWider
 pub mod AnswersLimits
@@ -22,7 +23,9 @@ pub mod PutBack
 pub mod Facts
 pub mod Soundness
 pub mod Reaches
+pub mod Hindered
 pub mod Stays
+pub mod Inferred
 pub mod Ranges
 pub mod WholeReading
 pub mod Calm
@@ -50,9 +53,12 @@ pub mod Nine
 pub mod Late
 pub mod Refused
 pub mod SoundKept
+pub mod Rules
+pub mod SolveRefused
 pub mod BookDeep
 pub mod BookTypes
 pub mod BookJoin
+pub mod BookAbilities
 pub mod BookLiteral
 pub mod BookRoom
 pub mod Book
@@ -72,6 +78,7 @@ pub mod Points
 pub mod Erase
 pub mod EraseJoin
 pub mod EraseRead
+pub mod EraseAbilities
 pub mod EraseWrite
 pub mod EraseRun
 pub mod StreamRecords

@@ -107,3 +107,8 @@ join-blanked = refl
 failures-blanked : blank fresh (hex "02 07000000 01 08000000 00 00 09000000 01 0a000000 00 0b000000") (failures ∷ []) ≡ hex "02 00000000 01 00000000 00 00 00000000 01 00000000 00 00000000"
 unfolding blank expand blank-byte loc-field tag-fields
 failures-blanked = refl
+
+-- .. of code 4: ability, type and rule, of one byte or of two
+abilities-blanked : blank fresh (hex "04 07000000 08 00 08000000 01 04 09000000 01 00 0a000000 02 05 01 0b000000 00 0c000000") (failures ∷ []) ≡ hex "04 00000000 08 00 00000000 01 04 00000000 01 00 00000000 02 05 01 00000000 00 00000000"
+unfolding blank expand blank-byte loc-field tag-fields
+abilities-blanked = refl

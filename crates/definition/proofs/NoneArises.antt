@@ -34,7 +34,8 @@ use Rattle.definition.proofs.Laws.{num-marks, vars-nodes}
 use Rattle.definition.proofs.Tracks.{never}
 use Rattle.definition.proofs.Room.{with-room, constraint-room, struct-room}
 use Rattle.definition.proofs.Soundness.{sound-is}
-use Rattle.definition.proofs.Walk.{seven, nine, eleven, Ends, e-ok, e-err, e-refused, bind, RunOr, place-run, pairs-run, ready-tvars-run, make-run, subst-run}
+use Rattle.definition.proofs.Walk.{seven, nine, eleven, sixteen, Ends, e-ok, e-err, e-refused, bind, RunOr, place-run, pairs-run, ready-tvars-run, make-run, subst-run}
+use Rattle.definition.proofs.Hindered.{solve-cases}
 use Rattle.definition.proofs.Doubled.{is-ref as is-ref-tree, doubled, doubled-in, No-doubled, No-doubled-in, doubled-record, No-doubled-record, or-l, or-r}
 use Rattle.definition.proofs.ReadsAsBefore.{record-none-doubled}
 use Rattle.definition.proofs.Single.{is-ref, Plain, Single, under, plain-no-ref, Left, left-same, left-refl, Goes, goes-from, goes-map, goes, Some, IsPlain, sp-goes, tvar-goes, Joined, join-goes}
@@ -192,7 +193,7 @@ module _ (s : State) (i : Single s) where
   run-leaves (BC loc t) d = constrain-leaves s i t d _
   run-leaves (SC loc t) d = constrain-leaves s i t d _
   run-leaves (RM t) d = tell-leaves (needs t)
-  run-leaves SV d = bind _ (defaults-goes _ s i) (λ x j. e-ok (left-list j _ .single))
+  run-leaves SV d = bind _ (defaults-goes _ s i) (λ x j. solve-cases x (λ m. Leaves m) (e-ok (left-list j [] .single)) (e-refused (nine refl)) (e-refused (sixteen refl)))
 
   -- ---- the answer
 

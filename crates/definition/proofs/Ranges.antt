@@ -12,9 +12,7 @@ use Rattle.definition.specs.Store.{nowhere, count, taken, with-args, nod
 use Rattle.definition.specs.Subst.{next-of, or-insert, mark-one, mark-chain, set-num-var}
 use Rattle.definition.specs.Trees.{mark-fits, is-set, is-mark, is-name}
 use Rattle.definition.specs.Join.{merge-num}
-use Rattle.definition.specs.Constraints.{stays, staying}
 use Rattle.definition.specs.Sound.{is-u32, numeric-allowed, struct-allowed}
-use Rattle.definition.proofs.Stays.{Stays, stay, leave, stays-one}
 use Rattle.definition.proofs.Order.{All}
 use Rattle.definition.proofs.Soundness.{elim-and}
 
@@ -248,17 +246,5 @@ merge-ranges r x (some l) hx hy v = num-var-ranges r v l hy
 merge-ranges r (some l) none hx hy v = num-var-ranges r v l hx
 merge-ranges r none none hx hy v = r
 
-stays-in : {c : Constraint} {l : List Constraint} → Stays c l → ConstraintIn c → All ConstraintIn l × (length l ≤ 1)
-stays-in (stay a) h = ((h, tt), omega arith)
-stays-in (leave n) h = (tt, omega arith)
-
-staying-in : (cs : List Constraint) → All ConstraintIn cs → All ConstraintIn (staying cs) × (length (staying cs) ≤ length cs)
-unfolding staying
-staying-in [] h = (tt, omega arith)
-staying-in (c ∷ cs) h =
-    let one = stays-in (stays-one c) (h .0) in
-    let more = staying-in cs (h .1) in
-    (all-append ConstraintIn (stays c) (staying cs) (one .0) (more .0), omega (arith, length-append (stays c) (staying cs), one .1, more .1))
-
-pub staying-ranges : {b s : State} → Ranges b s → Ranges b (with-constraints s (staying (s .constraints)))
-staying-ranges {s = s} r = let h = staying-in (s .constraints) (r .constraints-in) in constraints-ranges r _ (omega (arith, h .1, r .few-constraints)) (h .0)
+pub cleared-ranges : {b s : State} → Ranges b s → Ranges b (with-constraints s [])
+cleared-ranges r = constraints-ranges r [] (omega arith) tt

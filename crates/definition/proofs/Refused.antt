@@ -6,7 +6,7 @@ use Prim.Native.Nat.{ℕ, _≤_, _<_}
 use native.Mathlib.Omega.{arith}
 use lib.ListN.{length}
 use lib.Dec.{leb}
-use Rattle.definition.specs.Types.{State, TypingError, SubtypeError, Incompatible, ArityMismatch, RecursiveType, Refusal, malformed, unknown-name, full, too-deep, runs-into-itself, abilities-disagree, open-variable, no-argument, parameter-twice, answer-too-long, unsound-state, doubled-reference, Result, ok, err, refused, if_then_else_}
+use Rattle.definition.specs.Types.{State, TypingError, SubtypeError, Incompatible, ArityMismatch, RecursiveType, Refusal, malformed, unknown-name, full, too-deep, runs-into-itself, abilities-disagree, open-variable, no-argument, parameter-twice, answer-too-long, unsound-state, mark-contradicted, doubled-reference, Result, ok, err, refused, if_then_else_}
 use Rattle.definition.specs.Write.{Bytes}
 use Rattle.definition.specs.Reader.{Read, got, not-read}
 use Rattle.definition.specs.Record.{Record, read-record}
@@ -92,6 +92,7 @@ refusal-number no-argument = omega arith
 refusal-number parameter-twice = omega arith
 refusal-number answer-too-long = omega arith
 refusal-number unsound-state = omega arith
+refusal-number mark-contradicted = omega arith
 refusal-number doubled-reference = omega arith
 
 with-number : (s : State) (n : ℕ) (p : Bytes) (s′ : State) → n < 100 → answer-with s n p s′ .number < 100

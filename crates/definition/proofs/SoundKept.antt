@@ -31,7 +31,7 @@ use Rattle.definition.proofs.Ranges.{all-append, ShapeIn, NodeIn, CellI
 use Rattle.definition.proofs.WellRead.{Read-time, five, six, eighteen, ReadWell, given, not-given, well-read}
 use Rattle.definition.proofs.Refused.{error-number, step-cases, stream-cases}
 use Rattle.definition.proofs.Records.{Leaves, l-ok, l-err, l-refused, run-leaves}
-use Rattle.definition.proofs.Walk.{Run-time, seven, eight, nine, ten, eleven, twelve, thirteen, e-ok, e-err, e-refused, Run, run-walk}
+use Rattle.definition.proofs.Walk.{Run-time, seven, eight, nine, ten, eleven, twelve, thirteen, sixteen, e-ok, e-err, e-refused, Run, run-walk}
 
 -- ---- from the test to the ranges
 
@@ -185,6 +185,7 @@ run-time-number ten d = absurd (omega (arith, d))
 run-time-number eleven d = absurd (omega (arith, d))
 run-time-number twelve d = absurd (omega (arith, d))
 run-time-number thirteen d = absurd (omega (arith, d))
+run-time-number (sixteen y) d = absurd (omega (arith, d))
 
 read-time-number : {x : Refusal} → Read-time x → number-of-refusal x ≢ 15
 unfolding number-of-refusal

@@ -14,7 +14,7 @@ use Rattle.definition.specs.Step.{run, Answer, number-of-error, number-o
 use Rattle.definition.specs.Job.{Entry, ends-job, job-from, job-log}
 use Rattle.definition.proofs.StreamRecords.{front, records-from, records-of, entries}
 use Rattle.definition.specs.Locations.{blank-job, Seen, seen, blank-log, Locations-decide-nothing}
-use Rattle.definition.proofs.Walk.{Run-time, seven, eight, nine, ten, eleven, twelve, thirteen}
+use Rattle.definition.proofs.Walk.{Run-time, seven, eight, nine, ten, eleven, twelve, thirteen, sixteen}
 use Rattle.definition.proofs.Late.{Late, fine, wrong, down, run-late}
 use Rattle.definition.proofs.WellRead.{bytes-take, Read-time, ReadWell, not-given, well-read}
 use Rattle.definition.proofs.SoundKept.{stream-sound-kept, usable-sound, trusted, fresh-sound}
@@ -33,6 +33,7 @@ run-goes-on ten = refl
 run-goes-on eleven = refl
 run-goes-on twelve = refl
 run-goes-on thirteen = refl
+run-goes-on (sixteen y) = refl
 
 error-goes-on : (e : TypingError) → ends-job (number-of-error e) ≡ false
 unfolding ends-job number-of-error

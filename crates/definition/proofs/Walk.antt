@@ -1,4 +1,4 @@
--- Every call of a run, walked once: it refuses with 7 to 13 alone, with 9 only where a walk runs out of steps, and where a claim H says that the state and the record are in range, so is what it leaves.
+-- Every call of a run, walked once: it refuses with 7 to 13 and 16 alone, with 9 only where a walk runs out of steps or SV meets it, with 16 only there, and where a claim H says that the state and the record are in range, so is what it leaves.
 -- Assumes nothing.
 use mathlib.Core.Path.{_≡_, refl}
 use mathlib.Core.Bool.{Bool, true, false, not, _&&_}
@@ -10,7 +10,7 @@ use lib.ListN.{replicate}
 use lib.Dec.{eqb}
 use Rattle.definition.specs.Types.{max-builtin, TypeName, Multiple, Builtin, ModuleType, Type-value, UnitType, Ref, Param, Apply, Var, Anything, UnresolvedError, State, Cell, TypingError, max-depth, if_then_else_}
 use Rattle.definition.specs.Types.{Constraint, AbilityConstraint}
-use Rattle.definition.specs.Types.{Refusal, full, too-deep, runs-into-itself, abilities-disagree, open-variable, no-argument, parameter-twice, Result, ok, err, refused, _>>=_}
+use Rattle.definition.specs.Types.{Refusal, full, too-deep, runs-into-itself, abilities-disagree, open-variable, no-argument, parameter-twice, mark-contradicted, Result, ok, err, refused, _>>=_}
 use Rattle.definition.specs.Store.{any-of, count, type-at, loc-of, get, num-loc, sp, next-tvar, add-constraint, declare, map-types}
 use Rattle.definition.specs.Subst.{is-anything, forward-tvar, reaches-itself, ready-value, ready, ready-tvars}
 use Rattle.definition.specs.Join.{integers, TypingCase, Join, Subtype, Join-impl, is-numeric, check-num-tvar, used, join-bind-tvar, type-of, shown, merge-num, join-tvar, join-impl-types, Arm, join-mut, join-loc, join-refs, same-name, is-multiple, same-mark, join-applies, join-unbound, join-arm, join-impl, join, subtype}
@@ -27,10 +27,11 @@ use Rattle.definition.proofs.Order.{All}
 use Rattle.definition.proofs.Soundness.{le-test}
 use Rattle.definition.proofs.Room.{with-room, sp-room, tvar-room, constraint-room, struct-room}
 use Rattle.definition.proofs.Main.{Took, took, took-any-l, took-any-r, took-units, took-refs, took-params, took-applies, took-vars, took-var-l, took-var-r, took-error-l, took-error-r, took-others}
-use Rattle.definition.proofs.Ranges.{U32, ShapeIn, CellIn, ConstraintIn, StructIn, Ranges, declare-ranges, loc-of-in, value-in, name-in, cell-in, node-ranges, var-ranges, insert-ranges, add-ranges, num-var-ranges, merge-ranges, staying-ranges}
+use Rattle.definition.proofs.Ranges.{U32, ShapeIn, CellIn, ConstraintIn, StructIn, Ranges, declare-ranges, loc-of-in, value-in, name-in, cell-in, node-ranges, var-ranges, insert-ranges, add-ranges, num-var-ranges, merge-ranges, cleared-ranges}
+use Rattle.definition.proofs.Hindered.{solve-cases}
 use Rattle.definition.proofs.WellRead.{TreeIn, TreesIn, RecordIn}
 
--- 7 to 13, of which 9 only if z
+-- 7 to 13 and 16, of which 9 and 16 only if z
 pub data Run-time (z : Bool) : Refusal → Type 0 where
   seven : Run-time z full
   eight : Run-time z too-deep
@@ -39,6 +40,7 @@ pub data Run-time (z : Bool) : Refusal → Type 0 where
   eleven : Run-time z open-variable
   twelve : Run-time z no-argument
   thirteen : Run-time z parameter-twice
+  sixteen : z ≡ true → Run-time z mark-contradicted
 
 -- a success has P, an error is met in a state that has E
 pub data Ends {A : Type 0} (z : Bool) (E : State → Type 0) (P : A → Type 0) : Result A → Type 0 where
@@ -350,6 +352,10 @@ module _ (H : Type 0) (b : State) (z : Bool) where
   defaults-run [] f s i = e-ok i
   defaults-run ((v, loc) ∷ l) f s i = bind _ (default-run s i v loc (λ h. f h .0)) (λ x j. defaults-run l (λ h. f h .1) x j)
 
+  -- SV's first half
+  pub starts-run : (s : State) → In s → Ends z In In (default-num-vars s (num-vars 0 (s .vars)))
+  starts-run s i = defaults-run _ (λ h. num-vars-in 0 (s .vars) (i h .cells-in)) s i
+
   -- ---- records
 
   two-run : (f : State → ℕ → ℕ → Result (State × ℕ)) → ((s : State) → In s → (l r : ℕ) → Run (f s l r)) → (s : State) → In s → (t1 t2 : Tree) → (H → TreeIn b t1 × TreeIn b t2) → Run (two-types f s t1 t2)
@@ -385,4 +391,4 @@ module _ (H : Type 0) (b : State) (z : Bool) where
   run-walk y s i (BC loc t) f = constrain-run s i t (λ h. f h .1) _ (λ ty h. f h .0)
   run-walk y s i (SC loc t) f = constrain-run s i t (λ h. f h .1) _ (λ ty h. f h .0)
   run-walk y s i (RM t) f = tell-run s i (needs t)
-  run-walk y s i SV f = bind _ (defaults-run _ (λ h. num-vars-in 0 (s .vars) (i h .cells-in)) s i) (λ x j. e-ok (λ h. staying-ranges (j h)))
+  run-walk y s i SV f = bind _ (starts-run s i) (λ x j. solve-cases x Run (e-ok (λ h. cleared-ranges (j h))) (e-refused (nine y)) (e-refused (sixteen y)))

@@ -1,10 +1,15 @@
--- What the Move Book says of subtyping and of integer literals, in its own terms, and what that claims of subtype, join and SV. Assumes nothing: these are definitions.
-use Rattle.definition.specs.Types.{_≡_, Bool, true, false, List, [], _∷_, none, some, ℕ, TypeName, Multiple, Builtin, Mark, Type-value, UnitType, Ref, Param, Apply, Var, State, TypingError, SubtypeError, Incompatible, ArityMismatch}
-use Rattle.definition.specs.Types.{Refusal, full, too-deep, abilities-disagree, Result, ok, err, refused}
-use Rattle.definition.specs.Store.{type-at, get, num-loc}
+-- What the Move Book says of subtyping, of integer literals and of abilities, in its own terms, and what that claims of subtype, join and SV. Assumes nothing: these are definitions.
+use mathlib.Core.Logic.{_≢_, _↔_}
+use Prim.Native.Nat.{_≤_}
+use Rattle.definition.specs.Types.{_≡_, Bool, true, false, List, [], _∷_, none, some, ℕ, _<_, length, getD, TypeName, Multiple, Builtin, ModuleType, Mark, Type-value, UnitType, Ref, Param, Apply, Var, Anything, UnresolvedError, State, TypingError, SubtypeError, Incompatible, ArityMismatch}
+use Rattle.definition.specs.Types.{Refusal, full, too-deep, runs-into-itself, abilities-disagree, mark-contradicted, Result, ok, err, refused}
+use Rattle.definition.specs.Store.{count, type-at, get, num-loc}
 use Rattle.definition.specs.Subst.{forward-tvar, unfold-type}
 use Rattle.definition.specs.Join.{is-multiple, join, subtype}
+use Rattle.definition.specs.Instantiate.{struct-tparams}
+use Rattle.definition.specs.Abilities.{has, struct-abilities, infer-abilities}
 use Rattle.definition.specs.Constraints.{is-integer, solve-constraints}
+use Rattle.definition.specs.Rank.{Runs-into-itself}
 use Rattle.definition.specs.Write.{Bytes}
 
 -- ---- Move's types: no variables, no `_` or `!`, no locations, no ability marks
@@ -74,6 +79,60 @@ mutual
     are-none : Denote s [] no-types
     are-each : {p : ℕ} {ps : List ℕ} {T : MoveType} {Ts : MoveTypes} → Denotes s p T → Denote s ps Ts → Denote s (p ∷ ps) (_and_ T Ts)
 
+-- ---- the Book's abilities
+
+pub data Ability : Type 0 where
+  copy drop store key : Ability
+
+-- a declared set is the sum of these
+abbrev pub bit : Ability → ℕ
+bit copy = 1
+bit drop = 2
+bit store = 4
+bit key = 8
+
+abbrev pub In-set : Ability → ℕ → Type 0
+In-set a set = has set (bit a) ≡ true
+
+-- what a type needs of its arguments: for key store, for each other ability itself
+abbrev pub needed : Ability → Ability
+needed copy = copy
+needed drop = drop
+needed store = store
+needed key = store
+
+pub data Not-key : Ability → Type 0 where
+  is-copy : Not-key copy
+  is-drop : Not-key drop
+  is-store : Not-key store
+
+-- what a name has if its arguments have what is needed
+pub data Declares (s : State) : TypeName → Ability → Type 0 where
+  list-declares : {n : ℕ} {a : Ability} → Not-key a → Declares s (Multiple n) a
+  signer-declares : {b : ℕ} → b ≡ 1 → Declares s (Builtin b) drop
+  -- integers, bool, address and vectors
+  builtin-declares : {b : ℕ} {a : Ability} → b ≢ 1 → Not-key a → Declares s (Builtin b) a
+  struct-declares : {n : ℕ} {a : Ability} → In-set a (struct-abilities s n) → Declares s (ModuleType n) a
+
+-- parameter i of a struct is phantom: its byte is 16 or more
+pub data Phantom (s : State) : TypeName → ℕ → Type 0 where
+  is-phantom : {n i : ℕ} → 16 ≤ getD (struct-tparams s n) i 0 → Phantom s (ModuleType n) i
+
+-- the type has the ability. A bound variable is its binding
+pub data Has (s : State) : Ability → Type-value → Type 0 where
+  unit-has : {a : Ability} → Not-key a → Has s a UnitType
+  reference-copy : {m : Bool} {t : ℕ} → Has s copy (Ref m t)
+  reference-drop : {m : Bool} {t : ℕ} → Has s drop (Ref m t)
+  parameter-has : {a : Ability} {id set : ℕ} → In-set a set → Has s a (Param id set)
+  -- of a name without a mark, every argument has what is needed, phantom ones left out
+  named-has : {a : Ability} {n : TypeName} {tys : List ℕ} → Declares s n a → ((i : ℕ) → i < length tys → ¬ Phantom s n i → Has s (needed a) (type-at s (getD tys i 0))) → Has s a (Apply none n tys)
+  bound-has : {a : Ability} {v t : ℕ} → get s v ≡ some t → Has s a (type-at s t) → Has s a (Var v)
+  -- the Book knows no marks, unbound variables, `_` and `!`: core.rs takes a mark as it is, and gives the others every ability
+  marked-has : {a : Ability} {set : ℕ} {n : TypeName} {tys : List ℕ} → In-set a set → Has s a (Apply (some set) n tys)
+  open-has : {a : Ability} {v : ℕ} → get s v ≡ none → Has s a (Var v)
+  any-has : {a : Ability} → Has s a Anything
+  error-has : {a : Ability} → Has s a UnresolvedError
+
 -- ---- the claims
 -- errors 1, 2 and 3
 pub data Mismatch : TypingError → Type 0 where
@@ -110,11 +169,17 @@ Subtype-rule Sub s l r L R = Comes-to (λ s′ t. Sub L R × Denotes s′ t R) (
 unfoldable pub Join-rule : Relation → State → ℕ → ℕ → MoveType → MoveType → Type 0
 Join-rule Sub s l r L R = Comes-to (λ s′ t. (T : MoveType) × Least Sub L R T × Denotes s′ t T) ((U : MoveType) → Sub L U → Sub R U → ⊥) (join s l r)
 
--- after SV the variable v unfolds to the type t; SV fails by none of 1 to 4, and is refused with 7 only
+-- 7; and 9 and 16, which ability constraints bring (proofs/SolveRefused.antt)
+pub data SV-refused : Refusal → Type 0 where
+  sv-full : SV-refused full
+  sv-itself : SV-refused runs-into-itself
+  sv-contradicted : SV-refused mark-contradicted
+
+-- after SV the variable v unfolds to the type t; SV fails by none of 1 to 4, and is refused with 7, 9 and 16 only
 unfoldable pub Literal-rule : ℕ → Type-value → Result (State × Bytes) → Type 0
 Literal-rule v t (ok (s, failures)) = (loc : ℕ) → unfold-type s (record { loc = loc; value = Var v }) .value ≡ t
 Literal-rule v t (err s e) = ⊥
-Literal-rule v t (refused x) = x ≡ full
+Literal-rule v t (refused x) = SV-refused x
 
 -- proofs/Book.antt: it holds of every sound state. How much space and depth suffice: proofs/BookDeep.antt
 pub record The-Book (s : State) : Type 0 where
@@ -124,3 +189,5 @@ pub record The-Book (s : State) : Type 0 where
   pub literal : (v loc : ℕ) → num-loc s v ≡ some loc → get s (forward-tvar s v) ≡ none → Literal-rule v (Apply (some 7) (Builtin 3) []) (solve-constraints s)
   -- .. and that of a literal that is decided stays as it is
   pub decided-literal : (v loc : ℕ) (t : Type-value) → unfold-type s (record { loc = loc; value = Var v }) .value ≡ t → is-integer t ≡ true → Literal-rule v t (solve-constraints s)
+  -- Abilities: a type that does not run into itself has those that the Book gives it, and no others
+  pub abilities-are : (t : ℕ) → t < count s → ¬ Runs-into-itself s (type-at s t) → (a : Ability) → In-set a (infer-abilities s t) ↔ Has s a (type-at s t)

@@ -23,6 +23,8 @@ pub data Part : Type 0 where
   pairs : Part
   -- the code of a failure, in a row that goes on to the end
   failures : Part
+  -- the rule that decided a failure of code 4
+  rule : Part
 
 unfoldable pub loc-field : List Part
 loc-field = location ∷ location ∷ location ∷ location ∷ []
@@ -63,7 +65,8 @@ expand s list b = replicate b type
 expand s struct b = struct-high b ∷ []
 expand s (struct-high a) b = replicate (arity s (ModuleType (a + 256 * b))) type
 expand s pairs b = pair-fields b ++ (type ∷ [])
-expand s failures b = loc-field ++ (type ∷ failures ∷ [])
+expand s failures b = loc-field ++ (if eqb b 4 then plain ∷ type ∷ rule ∷ [] else type ∷ failures ∷ [])
+expand s rule b = if eqb b 2 then plain ∷ failures ∷ [] else failures ∷ []
 
 unfoldable pub blank-byte : Part → ℕ → ℕ
 blank-byte location b = 0
@@ -76,6 +79,7 @@ blank-byte struct b = b
 blank-byte (struct-high a) b = b
 blank-byte pairs b = b
 blank-byte failures b = b
+blank-byte rule b = b
 
 -- the bytes with every location field set to 0. Where nothing is awaited they stay as they are
 unfoldable pub blank : State → Bytes → List Part → Bytes

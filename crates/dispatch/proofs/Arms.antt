@@ -14,8 +14,9 @@ use Rattle.definition.specs.Step.{numeric-constraint}
 use Rattle.table.specs.State.{outcome, pushed-constraint}
 use Rattle.table.specs.declared.Used.{Used}
 use Rattle.answer.specs.declared.Ran.{Ran}
-use Rattle.instantiate.specs.Known.{Known}
+use Rattle.table.specs.Known.{Known}
 use Rattle.fields.specs.Noded.{Noded, noded, kind, told}
+use Rattle.table.specs.Known.{Known}
 use Rattle.fields.specs.Noded as record-of
 use Rattle.marks.specs.declared.RecordMark.the-variants as m
 use Rattle.fields.specs.declared.Fields.{Fields}

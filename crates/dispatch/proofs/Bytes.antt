@@ -16,8 +16,9 @@ use Rattle.table.specs.declared.Used.{Used}
 use Rattle.writer.specs.Bytes.{All-bytes}
 use Rattle.answer.specs.Ran.{Settles}
 use Rattle.answer.specs.declared.Ran.{Ran}
-use Rattle.instantiate.specs.Known.{Known}
+use Rattle.table.specs.Known.{Known}
 use Rattle.fields.specs.Noded.{Noded, SD, FV, NV, SN, JN, SU, UF, RD, IN, TS, NC, BC, SC, SV, RM, place-record}
+use Rattle.table.specs.Known.{Known}
 use Rattle.run.proofs.Bytes.{Leaves, step-bytes, record-bytes, ready-leaves, subst-leaves, unfold-leaves}
 use Rattle.dispatch.specs.Dispatch.{noded-run, noded-step, noded-kept}
 use Rattle.dispatch.proofs.Arms.{Ran-as}

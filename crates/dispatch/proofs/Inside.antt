@@ -11,7 +11,7 @@ use Rattle.table.specs.declared.Used.{Used}
 use Rattle.table.proofs.Tab.{length-tab, getD-tab, getD-tab-out}
 use Rattle.lent.specs.Lent.{bytes-at, struct-of, structs-of}
 use Rattle.lent.proofs.Lays.{lent-declares}
-use Rattle.instantiate.specs.Known.{Known}
+use Rattle.table.specs.Known.{Known}
 use Rattle.fields.specs.Noded.{Noded-in}
 use Rattle.marks.specs.declared.RecordMark.{RecordMark}
 use Rattle.marks.specs.declared.RecordMark.the-variants as m

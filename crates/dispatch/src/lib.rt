@@ -1,6 +1,6 @@
 // A record that is read and placed is run, by its mark.
 ghost use Rattle.table.specs.State.{Lay};
-ghost use Rattle.instantiate.specs.Known.{Known};
+ghost use Rattle.table.specs.Known.{Known};
 ghost use Rattle.fields.specs.Noded.{noded, Noded-in};
 ghost use Rattle.run.specs.Runs.{Runs};
 ghost use Rattle.dispatch.specs.Dispatch.{noded-run, noded-step, noded-kept, Shown-run};

@@ -63,6 +63,20 @@ static void records(void) {
     expect("5 changes nothing", length == 0 && memcmp(before, state, sizeof state) == 0);
 }
 
+/* SV's failure of code 4: the record's bytes that declaration, IN and SV have, and the payload */
+static void abilities(void) {
+    static const uint8_t sd[] = {'S', 'D', 0, 1, 1};
+    static const uint8_t in[] = {'I', 'N', 5, 2, 0, 0, 0, 0, 0, 0, 3, 3, 0, 0, 0, 0, 1};
+    static const uint8_t row[] = {4, 2, 0, 0, 0, 1, 3, 3, 0, 0, 0, 0, 1, 1};
+    static const uint8_t sv[] = {'S', 'V'};
+    uint32_t length = 9;
+    fresh();
+    record(sd, sizeof sd, sizeof answer, &length);
+    expect("IN leaves two constraints", record(in, sizeof in, sizeof answer, &length) == PONGIWARU_TYPED && state[3] == 2);
+    expect("SV shows a missing ability", record(sv, sizeof sv, sizeof answer, &length) == PONGIWARU_TYPED && length == sizeof row && memcmp(answer, row, sizeof row) == 0);
+    expect("SV leaves none", state[3] == 0 && record(sv, sizeof sv, sizeof answer, &length) == PONGIWARU_TYPED && length == 0);
+}
+
 static void refused(void) {
     uint32_t length = 9;
     fresh();
@@ -188,6 +202,7 @@ static void stream_of(enum pongiwaru_number number) {
         BYTES("RD\4" LOC "\0\2" VAR("\0") VAR("\0"));
         break;
     case PONGIWARU_UNSOUND_STATE: break;
+    case PONGIWARU_ABILITY_MARK_CONTRADICTED: BYTES("SD\0\1\1" "IN\5" LOC "\0\0\0" "\3" LOC "\22\2" "SV"); break;
     case PONGIWARU_DOUBLED_REFERENCE: BYTES("FV" LOC "UF" REF REF U8); break;
     }
 }
@@ -217,7 +232,7 @@ static void numbers(void) {
         uint64_t place = 0;
         bool ended;
         stream_of((enum pongiwaru_number)number);
-        if (size == 0) continue; /* 15 is no record's, and 16 and 17 are no answers */
+        if (size == 0) continue; /* 15 is no record's, and 17 is no answer */
         fresh();
         sprintf(what, "the last answer is %d", number);
         expect(what, one_by_one(text, &used) == (uint32_t)number);
@@ -231,6 +246,7 @@ static void numbers(void) {
 
 int main(void) {
     records();
+    abilities();
     refused();
     splits();
     jobs();

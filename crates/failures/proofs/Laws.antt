@@ -9,7 +9,7 @@ use Rattle.definition.specs.Types as d
 use Rattle.definition.specs.Types.{State, Struct, Spanned, Type-value, if_then_else_}
 use Rattle.definition.specs.Store.{node, with-args, spanned}
 use Rattle.definition.specs.Subst.{unfold-type}
-use Rattle.definition.specs.Constraints.{failure, solve, solve-constraint}
+use Rattle.definition.specs.Constraints.{failure, solve}
 use Rattle.definition.specs.Write.{Bytes}
 use Rattle.table.specs.State.{seen, node-of, shape-of}
 use Rattle.table.specs.declared.Used.{Used}
@@ -18,7 +18,7 @@ use Rattle.subst.specs.Answers.{unfolded, Unfolds}
 use Rattle.subst.specs.declared.Unfolded.{Unfolded}
 use Rattle.subst.specs.declared.Unfolded.the-variants.{Node as NodeU, Anything as AnythingU}
 use Rattle.subst.proofs.Laws.{value-is}
-use Rattle.failures.specs.Failing.{good, ask, Asks, failing, Fails}
+use Rattle.failures.specs.Failing.{good, ask, plain, Asks, failing, Fails}
 use Rattle.failures.specs.declared.Ask.{Ask}
 use Rattle.failures.specs.declared.Failing.the-variants.{Fine, Node as NodeF, Anything as AnythingF}
 
@@ -44,7 +44,7 @@ module _ (w : List ℕ) (u : Used) (r : Ask) (c : d.Constraint) (a : Asks r c) w
     fine : ((ds : List Struct) → good (r .code) (unfolded f (seen w u ds) .value) ≡ true) → Fails w u Fine c
     fine g = record { is = λ ds. ask-good (seen w u ds) (r .code) (r .loc) (r .ty) (unfolded f (seen w u ds)) ne (h .is ds) (g ds) ∙ a .is (seen w u ds); inside = tt }
 
-    failed : (ds : List Struct) → good (r .code) (unfolded f (seen w u ds) .value) ≡ false → failure (seen w u ds) (r .code) (r .loc) (unfolded f (seen w u ds)) ≡ solve-constraint (seen w u ds) c
+    failed : (ds : List Struct) → good (r .code) (unfolded f (seen w u ds) .value) ≡ false → failure (seen w u ds) (r .code) (r .loc) (unfolded f (seen w u ds)) ≡ plain (seen w u ds) c
     failed ds g = ask-fails (seen w u ds) (r .code) (r .loc) (r .ty) (unfolded f (seen w u ds)) ne (h .is ds) g ∙ a .is (seen w u ds)
 
     module _ (t : ℕ) (p : f ≡ NodeU t) (n : Node) (k : (ds : List Struct) → node-of n ≡ node (seen w u ds) t) (b : Bool) (is : (st : State) → b ≡ good (r .code) (with-args st (shape-of (n .shape)))) where

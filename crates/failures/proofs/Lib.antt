@@ -1,2 +1,3 @@
 -- Laws of failures. Assumes nothing.
 pub mod Laws
+pub mod Lacks

@@ -20,7 +20,8 @@ use Rattle.table.specs.declared.Used.{Used}
 use Rattle.table.proofs.Rows.{length-entries}
 use Rattle.walk.proofs.Steps.{bind-ok}
 use Rattle.walk.proofs.Walk.{range, rest, sp-apply}
-use Rattle.instantiate.specs.Known.{Known, Numbered, ability-at}
+use Rattle.table.specs.Known.{Known}
+use Rattle.instantiate.specs.Known.{Numbered, ability-at}
 use Rattle.instantiate.specs.Args.{make-tparam, made, joined}
 
 -- ---- as walks over places
@@ -112,22 +113,6 @@ joins-are loc k n tvars tys a b c s p q e =
     front l n i lt = getD-take n l i 0 (omega (arith, length-take n l))
 
 -- ---- the declarations that words and bytes hold
-
-structs-view : (w : List ℕ) (u : Used) → length (view w u .structs) ≡ u .structs
-unfolding view
-structs-view w u = length-entries struct-table w (u .structs)
-
-pub known-kept : (w : List ℕ) (u : Used) (w′ : List ℕ) (u′ : Used) (params : List (List ℕ)) → view w′ u′ .structs ≡ view w u .structs → (ds : List Struct) → Known w u params ds → Known w′ u′ params ds
-known-kept w u w′ u′ params e ds k =
-    let same : u′ .structs ≡ u .structs = sym (structs-view w′ u′) ∙ ap length e ∙ structs-view w u in
-    record {
-      rows = record {
-        many = k .rows .many ∙ sym same;
-        abilities = λ i lt. rw e (k .rows .abilities i (omega (arith, same)));
-        params = λ i lt. rw e (k .rows .params i (omega (arith, same)));
-      };
-      bytes = k .bytes;
-    }
 
 module _ (w : List ℕ) (u : Used) (params : List (List ℕ)) (ds : List Struct) (k : Known w u params ds) where
   pub ability-is : (n : d.TypeName) (i : ℕ) → i < length (tparam-constraints (seen w u ds) n) → getD (tparam-constraints (seen w u ds) n) i 0 ≡ ability-at params n i

@@ -31,9 +31,9 @@ use Rattle.walk.specs.When.{When, Placed}
 use Rattle.walk.proofs.Steps.{args-kept, bind-ok, bind-assoc, done-then, done-stop, when-after, when-at, when-stop, when-then}
 use Rattle.walk.proofs.Walk.{rest}
 use Rattle.instantiate.specs.declared.Tparams.{Tparams}
-use Rattle.instantiate.specs.Known.{Known}
+use Rattle.table.specs.Known.{Known}
 use Rattle.instantiate.specs.Args.{made, listed, Listed, joined}
-use Rattle.instantiate.proofs.ArgLaws.{known-kept}
+use Rattle.table.proofs.Known.{known-kept}
 use Rattle.instantiate.proofs.TvarLaws.{constraint-stop, constraint-then}
 
 pub inst-zero : (K : List Struct → Type 0) (w : List ℕ) (u : Used) (left ty : ℕ) (r : Step) → Lay w u → left ≡ 0 → r ≡ record { out = Itself; used = u } → When K w u w r (λ s. instantiate-down left s ty)

@@ -20,7 +20,8 @@ use Rattle.table.proofs.Steps.{grown-trans}
 use Rattle.walk.specs.When.{When, Placed}
 use Rattle.walk.proofs.Steps.{when-at, when-after}
 use Rattle.walk.proofs.Walk.{rest, range, range-length, range-at, Walked, placed-length, arg-kept, walk-start, walk-stops, walk-more, walk-ends, walk-parts}
-use Rattle.instantiate.specs.Known.{Known, Numbered, ability-at}
+use Rattle.table.specs.Known.{Known}
+use Rattle.instantiate.specs.Known.{Numbered, ability-at}
 use Rattle.instantiate.specs.Args.{make-tparam, made, listed, Listed}
 use Rattle.instantiate.proofs.ArgLaws.{tparam-by, just-list, tparams-are, ability-is, is-numbered}
 

@@ -1,17 +1,8 @@
--- The declarations that the struct rows and the parameter bytes beside them hold. Assumes nothing: these are definitions.
-use mathlib.Core.Path.{_≡_}
+-- The abilities that an argument must have, by the parameter bytes. Assumes nothing: these are definitions.
 use mathlib.Core.List.{List, []}
 use Prim.Native.Nat.{ℕ, _<_, _%_}
-use lib.ListN.{length, getD}
-use Rattle.definition.specs.Types.{Struct, TypeName, Multiple, Builtin, ModuleType}
-use Rattle.table.specs.Rows.{struct-table}
-use Rattle.table.specs.State.{Declares}
-use Rattle.table.specs.declared.Used.{Used}
-
--- ds has the rows' abilities and counts, and its parameters are the first bytes of each of params' rows
-pub record Known (w : List ℕ) (u : Used) (params : List (List ℕ)) (ds : List Struct) : Type 0 where
-  pub rows : Declares w u ds
-  pub bytes : (i k : ℕ) → k < length (getD ds i (struct-table .blank) .params) → getD (getD params i []) k 0 ≡ getD (getD ds i (struct-table .blank) .params) k 0
+use lib.ListN.{getD}
+use Rattle.definition.specs.Types.{TypeName, Multiple, Builtin, ModuleType}
 
 -- the abilities that argument i must have, by the bytes
 unfoldable pub ability-at : List (List ℕ) → TypeName → ℕ → ℕ

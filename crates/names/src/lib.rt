@@ -2,7 +2,9 @@
 // Changed from the source that NOTICE names: ported to Rattle.
 ghost use mathlib.Core.Path.{_≡_};
 ghost use mathlib.Core.Option.{some};
+ghost use Prim.Native.Nat.{_<_};
 ghost use Rattle.definition.specs.Types.{Builtin};
+ghost use Rattle.definition.specs.Abilities.{has, builtin-abilities, requires};
 ghost use Rattle.definition.specs.Join.{is-numeric};
 ghost use Rattle.definition.specs.Trees.{has-drop};
 
@@ -29,6 +31,19 @@ pub struct TParamID(pub u32);
 
 // copy 1, drop 2, store 4, key 8
 pub struct AbilitySet(pub u8);
+
+// What the Rust gives a type by its kind.
+impl AbilitySet {
+    pub const ALL: AbilitySet = AbilitySet(15);
+
+    pub const PRIMITIVES: AbilitySet = AbilitySet(7);
+
+    pub const REFERENCES: AbilitySet = AbilitySet(3);
+
+    pub const SIGNER: AbilitySet = AbilitySet(2);
+
+    pub const COLLECTION: AbilitySet = AbilitySet(7);
+}
 
 // An ability mark on a named type.
 pub enum Mark {
@@ -63,6 +78,37 @@ pub fn is_numeric(b: u32) -> bool
         return true;
     }
     b == 9
+}
+
+// AbilitySet::has_ability_
+pub fn has(a: AbilitySet, ability: u8) -> bool
+    requires { ⌜ 0 < ability ⌝ }
+    ensures { λ r. ⌜ r ≡ has (a .0) ability ⌝ }
+{
+    a.0 / ability % 2 == 1
+}
+
+// BuiltinTypeName_::declared_abilities
+pub fn builtin_abilities(b: u32) -> AbilitySet
+    ensures { λ r. ⌜ r .0 ≡ builtin-abilities b ⌝ }
+{
+    if b == 1 {
+        return AbilitySet::SIGNER;
+    }
+    if b == 5 {
+        return AbilitySet::COLLECTION;
+    }
+    AbilitySet::PRIMITIVES
+}
+
+// Ability_::requires: what an argument must have.
+pub fn requires_of(ability: u8) -> u8
+    ensures { λ r. ⌜ r ≡ requires ability ⌝ }
+{
+    if ability == 8 {
+        return 4;
+    }
+    ability
 }
 
 pub fn has_drop(a: AbilitySet) -> bool

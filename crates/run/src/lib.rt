@@ -12,7 +12,7 @@ ghost use Rattle.definition.specs.Step.{numeric-constraint};
 ghost use Rattle.table.specs.State.{outcome, Lay, Parts, Found-in, pushed-constraint};
 ghost use Rattle.arms.specs.Arms.{case-of};
 ghost use Rattle.tparams.specs.Pairs.{pairs};
-ghost use Rattle.instantiate.specs.Known.{Known};
+ghost use Rattle.table.specs.Known.{Known};
 ghost use Rattle.constraints.specs.Solve.{kind-of};
 ghost use Rattle.run.specs.Runs.{join-in, two-run, unfold-run, ready-run, subst-in, tparams-run, instantiate-run, tvar-run, num-tvar-in, num-tvar-run, set-num-in, set-num-run, kind-at, constraint-run, needs-run, Any, Runs, with-row, Declared};
 use answer::Ran;

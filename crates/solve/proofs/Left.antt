@@ -6,29 +6,28 @@ use Prim.Native.Nat.{ℕ, zero, suc, _<_}
 use native.Mathlib.Omega.{arith}
 use lib.ListN.{length, getD}
 use Rattle.definition.specs.Types.{State, Struct, Constraint, AbilityConstraint, NumericConstraint, BitsConstraint, OrderedConstraint, BaseTypeConstraint, SingleTypeConstraint, Result, ok, err, refused, _>>=_}
-use Rattle.definition.specs.Store.{taken, node, with-constraints, with-structs}
-use Rattle.definition.specs.Constraints.{num-vars, default-num-vars, solve-constraints}
+use Rattle.definition.specs.Store.{taken, with-structs}
+use Rattle.definition.specs.Constraints.{num-vars, default-num-vars}
 use Rattle.definition.specs.Trees.{arity}
-use Rattle.definition.specs.Record.{SV}
 use Rattle.definition.specs.Sound.{sound}
-use Rattle.definition.specs.Step.{run}
 use Rattle.definition.proofs.Laws.{type-on, OnNodes}
 use Rattle.definition.proofs.Facts.{facts}
 use Rattle.definition.proofs.Went.{Went, PostS, ps-ok, ps-err}
 use Rattle.definition.proofs.Runs.{num-vars-below, defaults-went}
-use Rattle.definition.proofs.Walk.{e-ok, e-err, Run, run-walk}
+use Rattle.definition.proofs.Walk.{e-ok, e-err, Ends, In, starts-run}
 use Rattle.definition.proofs.SoundKept.{ranges-of}
 use Rattle.table.specs.Rows.{constraint-table}
 use Rattle.table.specs.State.{outcome, done, view, seen, Nodes-in}
+use Rattle.table.specs.Known.{Declared}
 use Rattle.table.specs.declared.Used.{Used}
 use Rattle.table.specs.declared.Step.{Step}
 use Rattle.table.specs.declared.Found.{Found}
 use Rattle.table.specs.declared.Found.the-variants.{Nothing, Just}
 use Rattle.table.specs.declared.Out.{Out}
 use Rattle.table.specs.declared.Out.the-variants.{Done, Subtype, Incompatible, Arity, Recursive, Full, Deep, Itself, Disagree, Open, NoArgument, Twice}
+use Rattle.table.proofs.Known.{known-kept}
 use Rattle.merge.proofs.Answers.{done-out}
 use Rattle.constraints.specs.Solve.{numbered, Answered}
-use Rattle.constraints.proofs.Solved.{finish}
 use Rattle.failures.specs.Failing.{ty-of}
 use Rattle.writer.specs.Bytes.{All-bytes}
 use Rattle.report.specs.Report.{Tys-in}
@@ -68,21 +67,16 @@ Met P (ok x) = P (x .0)
 Met P (err s e) = P s
 Met P (refused x) = Unit {0}
 
-all-constraints : (s : State) (cs : List Constraint) → All-bytes (with-constraints s cs) → All-bytes s
-unfolding All-bytes node with-constraints
-all-constraints s cs h = h
-
 module _ (s : State) (h : sound s ≡ true) where
   went : PostS (arity s) s (Went (arity s) s) (default-num-vars s (num-vars 0 (s .vars)))
   went = defaults-went (num-vars 0 (s .vars)) (facts s h) (λ n. refl) (num-vars-below 0 (s .vars) (taken s) (omega arith))
 
-  walked : Run (Unit {0}) s true (default-num-vars s (num-vars 0 (s .vars)) >>= finish)
-  unfolding run solve-constraints
-  walked = run-walk (Unit {0}) s true refl s (λ y. ranges-of s h) SV (λ y. tt)
+  walked : Ends true (In (Unit {0}) s true) (In (Unit {0}) s true) (default-num-vars s (num-vars 0 (s .vars)))
+  walked = starts-run (Unit {0}) s true s (λ y. ranges-of s h)
 
-  both : (m : Result State) → PostS (arity s) s (Went (arity s) s) m → Run (Unit {0}) s true (m >>= finish) → Met Fit (numbered m)
+  both : (m : Result State) → PostS (arity s) s (Went (arity s) s) m → Ends true (In (Unit {0}) s true) (In (Unit {0}) s true) m → Met Fit (numbered m)
   unfolding numbered _>>=_
-  both (ok t) (ps-ok g w) (e-ok i) = (tys-in t (w .sound .constraints-on), all-constraints t _ (ranges-bytes s _ (i tt)))
+  both (ok t) (ps-ok g w) (e-ok i) = (tys-in t (w .sound .constraints-on), ranges-bytes s t (i tt))
   both (err t e) (ps-err g n) (e-err i) = (tys-in t (n .n-constraints), ranges-bytes s t (i tt))
   both (refused x) p e = tt
 
@@ -125,14 +119,18 @@ tells-nothing u NoArgument h = tt
 tells-nothing u Twice h = tt
 
 module _ {w : List ℕ} {u : Used} {w′ : List ℕ} {r : Step} (a : Answered w u w′ r (λ s. numbered (default-num-vars s (num-vars 0 (s .vars))))) where
-  pub fits : Holds-sound w u → Settles (r .out) → Fit (view w′ (r .used))
+  pub fits : {params : List (List ℕ)} → Holds-sound w u params → Settles (r .out) → Fit (view w′ (r .used))
   fits h k =
       let ds = h .structs in
       let x : Fit (seen w′ (r .used) ds) = met Fit (r .out) _ (subst (λ (m : Result (State × ℕ)). Met Fit m) (sym (a .changed .is ds)) (left (seen w u ds) (h .is-sound))) k in
       (seen-tys w′ (r .used) ds (x .0), seen-bytes w′ (r .used) ds (x .1))
 
+  -- the declarations stay
+  pub still-declared : {params : List (List ℕ)} → Holds-sound w u params → Declared w′ (r .used) params
+  still-declared {params} h = record { structs = h .structs; known = known-kept w u w′ (r .used) params (a .changed .structs) (h .structs) (h .known) }
+
   module _ (b : Found) (p : b ≡ done (r .out)) where
-    pub done-fits : Holds-sound w u → (t : ℕ) → b ≡ Just t → Fit (view w′ (r .used))
+    pub done-fits : {params : List (List ℕ)} → Holds-sound w u params → (t : ℕ) → b ≡ Just t → Fit (view w′ (r .used))
     done-fits h t q = fits h (subst (λ (o : Out). Settles o) (sym (done-out (r .out) b t p q)) tt)
 
     pub tells : b ≡ Nothing → Tells (r .used) show.Nothing (r .out)

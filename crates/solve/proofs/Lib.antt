@@ -1,3 +1,4 @@
--- What SV's first step leaves, and SV's answer from it. Assumes nothing.
+-- What SV's first step leaves, what the report asks, and SV's answer. Assumes nothing.
 pub mod Left
+pub mod Ready
 pub mod Answers

@@ -32,7 +32,7 @@ use Rattle.answer.specs.Ran.{Settles, Still, answered, refused-by, Settled, Ans
 use Rattle.answer.specs.declared.Ran.{Ran}
 use Rattle.answer.specs.declared.Answer.{Answer}
 use Rattle.answer.proofs.Calls.{grown-above}
-use Rattle.instantiate.specs.Known.{Known}
+use Rattle.table.specs.Known.{Known}
 use Rattle.run.specs.Runs.{Runs, Declared, with-row}
 use Rattle.run.proofs.Bytes.{declare-bytes}
 use Rattle.dispatch.specs.Dispatch.{noded-run, noded-step, noded-kept}
@@ -49,30 +49,35 @@ use Rattle.step.proofs.Keeping.{sound-arities, saved-still}
 
 -- ---- any answer
 
+-- with the declarations that are left
+replied-with : {w′ buf′ : List ℕ} {r : Answer} → Lay w′ (r .used) → (left : List Struct) → Declares w′ (r .used) left → (params′ : List (List ℕ)) → Arities left → params′ ≡ rows-of left
+    → (buf : List ℕ) → r .len ≤ 4096 → buf′ ≡ take (r .len) buf′ ++ drop (r .len) buf
+    → (a : step.Answer) → a ≡ record { number = r .number; payload = take (r .len) buf′; state = seen w′ (r .used) left } → Replied buf w′ params′ buf′ r a
+replied-with {w′} {buf′} {r} lay left d params′ short e buf few rest a q =
+    let h = held-known w′ (r .used) params′ left (known-rows w′ (r .used) params′ left d (lay .structs) short e) in
+    record {
+      lay = lay;
+      bytes = e ∙ sym (rows-seen w′ (r .used) left) ∙ ap encode-params (sym h);
+      few = few;
+      rest = rest;
+      is = q ∙ ap (λ (x : State). record { number = r .number; payload = take (r .len) buf′; state = x }) (sym h);
+    }
+
+same-either : (b : Bool) (ds : List Struct) → ds ≡ (if b then ds else ds)
+same-either true ds = refl
+same-either false ds = refl
+
 module _ {w₀ : List ℕ} {before : Used} {w : List ℕ} {u : Used} {w′ buf′ : List ℕ} {r : Answer} {f : State → State → step.Answer} (s : Settled w₀ before w u w′ buf′ r f) where
   replied : (ds₀ ds : List Struct) → Declares w₀ before ds₀ → Declares w u ds → (params′ : List (List ℕ)) → Arities (if r .kept then ds else ds₀) → params′ ≡ rows-of (if r .kept then ds else ds₀)
       → (buf : List ℕ) → r .len ≤ 4096 → buf′ ≡ take (r .len) buf′ ++ drop (r .len) buf → (a : step.Answer) → a ≡ f (seen w u ds) (seen w₀ before ds₀) → Replied buf w′ params′ buf′ r a
-  replied ds₀ ds d₀ d params′ short e buf few rest a q =
-      let left = if r .kept then ds else ds₀ in
-      let h = held-known w′ (r .used) params′ left (known-rows w′ (r .used) params′ left (s .declares ds₀ ds d₀ d) (s .lay .structs) short e) in
-      record {
-        lay = s .lay;
-        bytes = e ∙ sym (rows-seen w′ (r .used) left) ∙ ap encode-params (sym h);
-        few = few;
-        rest = rest;
-        is = q ∙ s .is ds₀ ds ∙ ap (λ (x : State). record { number = r .number; payload = take (r .len) buf′; state = x }) (sym h);
-      }
+  replied ds₀ ds d₀ d params′ short e buf few rest a q = replied-with (s .lay) (if r .kept then ds else ds₀) (s .declares ds₀ ds d₀ d) params′ short e buf few rest a (q ∙ s .is ds₀ ds)
 
   -- where nothing is declared
   replied-same : (ds : List Struct) → Declares w₀ before ds → Declares w u ds → (params : List (List ℕ)) → Arities ds → params ≡ rows-of ds
       → (buf : List ℕ) → r .len ≤ 4096 → buf′ ≡ take (r .len) buf′ ++ drop (r .len) buf → (a : step.Answer) → a ≡ f (seen w u ds) (seen w₀ before ds) → Replied buf w′ params buf′ r a
   replied-same ds d₀ d params short e buf few rest a q =
-      let same : ds ≡ (if r .kept then ds else ds) = go (r .kept) in
+      let same = same-either (r .kept) ds in
       replied ds ds d₀ d params (subst Arities same short) (e ∙ ap rows-of same) buf few rest a q
-    where
-      go : (b : Bool) → ds ≡ (if b then ds else ds)
-      go true = refl
-      go false = refl
 
 -- ---- a sound state's declarations
 
@@ -200,15 +205,18 @@ module _ {w₀ : List ℕ} {before : Used} {params : List (List ℕ)} {saved w :
   still : seen w u (ds b) ≡ s₀ b
   still = placed-SV x _ _ (b .placed)
 
-  pub solve-sound : Holds-sound w u
-  solve-sound = record { structs = ds b; is-sound = ap sound still ∙ b .stands .is-sound }
+  pub solve-sound : Holds-sound w u params
+  solve-sound = record { structs = ds b; is-sound = ap sound still ∙ b .stands .is-sound; known = then-known b }
 
   pub solve-saved : Lay w u → Saved w u saved
   unfolding held seen with-structs
   solve-saved l = saved-still w₀ before w u (b .since .lay) l (ap (λ (s : State). s .vars) still) saved (b .since .kept) .rows
 
-  pub reply-solved : {buf w′ buf′ : List ℕ} {r : Answer} → Solves w u buf w′ buf′ r → Replied buf w′ params buf′ r (answer (held w₀ before params) (run (held w₀ before params) x))
+  pub reply-solved : {buf w′ buf′ : List ℕ} {r : Answer} → Solves w u params buf w′ buf′ r → Replied buf w′ params buf′ r (answer (held w₀ before params) (run (held w₀ before params) x))
   unfolding noded-run solve-answer
-  reply-solved {buf} c =
-      replied-same (c .settled) (ds b) (then-declares b) (then-declares b) params (stands-arities (b .stands)) (stands-rows (b .stands)) buf (c .few) (c .rest) _
-      (ap₂ answer (sym still) (run-is b))
+  reply-solved {buf} {r = r} c =
+      let s = c .settled in
+      let same = same-either (r .kept) (ds b) in
+      replied-with (s .lay) (if r .kept then ds b else ds b) (s .declares (ds b) (ds b) (then-declares b) (then-declares b)) params
+      (subst Arities same (stands-arities (b .stands))) (stands-rows (b .stands) ∙ ap rows-of same) buf (c .few) (c .rest) _
+      (ap₂ answer (sym still) (run-is b) ∙ s .is (ds b) (ds b) (then-known b))

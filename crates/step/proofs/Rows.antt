@@ -19,7 +19,7 @@ use Rattle.table.proofs.Tab.{length-tab, getD-tab, tab-set}
 use Rattle.table.proofs.Rows.{entry-at}
 use Rattle.lent.specs.Lent.{bytes-at, struct-of, structs-of, encode-params}
 use Rattle.reader.specs.Taken.{Arities}
-use Rattle.instantiate.specs.Known.{Known}
+use Rattle.table.specs.Known.{Known}
 use Rattle.run.specs.Runs.{with-row}
 use Rattle.step.specs.Trusted.{held}
 use Rattle.step.specs.Replies.{row-for, padded}

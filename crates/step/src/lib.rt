@@ -188,7 +188,7 @@ fn answer_placed(
             let bytes = f.params;
             answer_declared(w, u, before, params, saved, f.a, f.b, bytes, buf)
         }
-        Call::Solve => solve::solve(w, u, saved, buf),
+        Call::Solve => solve::solve(w, u, params, saved, buf),
         Call::Run => {
             let r = dispatch::run_fields(w, u, params, f, t);
             answer::answer_of(w, before, saved, r, buf)

@@ -11,10 +11,10 @@ use borrow.Author.Tests.{eq-eqb, ne-eqb}
 use lib.ListN.{length, getD, set, length-set, replicate, length-replicate}
 use lib.Seq.{getD-set-same, getD-set-other}
 use Rattle.definition.specs.Types as d
-use Rattle.definition.specs.Types.{State, Struct, Spanned, Type-value}
+use Rattle.definition.specs.Types.{State, Struct, Places, Spanned, Type-value}
 use Rattle.definition.specs.Store.{count, node, with-args, type-at, spanned, all-of}
 use Rattle.definition.specs.Subst.{parts, unfold-type, goes-on-to, ends-in, reaches-itself}
-use Rattle.table.specs.State.{shape-of, node-of, seen, Lay}
+use Rattle.table.specs.State.{shape-of, node-of, seen, Lay, Below}
 use Rattle.table.specs.declared.Used.{Used}
 use Rattle.table.specs.declared.Node.{Node}
 use Rattle.table.specs.declared.Shape.{Shape}
@@ -29,37 +29,57 @@ use Rattle.subst.proofs.Occurs.{Low, below-low, zero-at}
 
 -- ---- where reading goes on
 
-goes-spanned : (s : State) (t x : ℕ) → spanned s x ≡ unfold-type s (spanned s t) → parts (type-at s x) ≡ goes-on-to s t
-unfolding goes-on-to spanned
-goes-spanned s t x e = ap (λ (y : Spanned Type-value). parts (y .value)) e
+few-parts : (args : List ℕ) (t : ℕ) (sh : d.Shape Places) → Below args t sh → part-count sh ≤ 8
+few-parts args t d.UnitType b = omega arith
+few-parts args t (d.Ref m p) b = omega arith
+few-parts args t (d.Param id a) b = omega arith
+few-parts args t (d.Apply k n p) b = b .0
+few-parts args t (d.Var v) b = omega arith
+few-parts args t d.Anything b = omega arith
+few-parts args t d.UnresolvedError b = omega arith
 
-goes-nowhere : (s : State) (t loc : ℕ) → _≡_ {A = Spanned Type-value} (record { loc = loc; value = d.Anything }) (unfold-type s (spanned s t)) → parts d.Anything ≡ goes-on-to s t
+value-goes : (s : State) (t : ℕ) (v : Type-value) → v ≡ unfold-type s (spanned s t) .value → parts v ≡ goes-on-to s t
 unfolding goes-on-to
-goes-nowhere s t loc e = ap (λ (y : Spanned Type-value). parts (y .value)) e
+value-goes s t v e = ap parts e
 
 module _ (w : List ℕ) (u : Used) (t : ℕ) (r : Unfolded) (f : Unfolds w u r (λ s. spanned s t)) where
+  unfolded-value : (y : Unfolded) → r ≡ y → (ds : List Struct) → unfolded y (seen w u ds) .value ≡ unfold-type (seen w u ds) (spanned (seen w u ds) t) .value
+  unfolded-value y z ds = ap (λ (x : Spanned Type-value). x .value) (sym (ap (λ (x : Unfolded). unfolded x (seen w u ds)) z) ∙ f .is ds)
+
   pub goes-node : Lay w u → (x : ℕ) → r ≡ NodeU x → x < u .nodes → (n : Node) → ((ds : List Struct) → node-of n ≡ node (seen w u ds) x) → Goes-on w u t (n .shape)
+  unfolding spanned
   goes-node h x z l n e = record {
+    value = value;
+    few = few-parts (seen w u [] .args) x (shape-of (n .shape)) (below []);
     is = is;
     many = λ ds. sym (ap length (is ds)) ∙ low ds .many;
     inside = λ ds i p. rw (← is ds) (let q = low ds .low i p in omega arith);
   }
     where
-      is : (ds : List Struct) → parts (with-args (seen w u ds) (shape-of (n .shape))) ≡ goes-on-to (seen w u ds) t
-      is ds = ap parts (value-is (seen w u ds) x n (e ds)) ∙ goes-spanned (seen w u ds) t x (sym (ap (λ (y : Unfolded). unfolded y (seen w u ds)) z) ∙ f .is ds)
+      value : (ds : List Struct) → with-args (seen w u ds) (shape-of (n .shape)) ≡ unfold-type (seen w u ds) (spanned (seen w u ds) t) .value
+      value ds = value-is (seen w u ds) x n (e ds) ∙ unfolded-value (NodeU x) z ds
 
-      low : (ds : List Struct) → Low (seen w u ds) x (shape-of (n .shape))
-      low ds =
+      is : (ds : List Struct) → parts (with-args (seen w u ds) (shape-of (n .shape))) ≡ goes-on-to (seen w u ds) t
+      is ds = value-goes (seen w u ds) t _ (value ds)
+
+      below : (ds : List Struct) → Below (seen w u ds .args) x (shape-of (n .shape))
+      below ds =
           let k : x < count (seen w u ds) = rw (count-seen w u ds) l in
           let v : shape-of (n .shape) ≡ node (seen w u ds) x .value = ap (λ (y : d.Node). y .value) (e ds) in
-          rw v (below-low (seen w u ds) x (node (seen w u ds) x .value) (inside-seen w u ds h .parts x k))
+          rw v (inside-seen w u ds h .parts x k)
+
+      low : (ds : List Struct) → Low (seen w u ds) x (shape-of (n .shape))
+      low ds = below-low (seen w u ds) x (shape-of (n .shape)) (below ds)
 
   pub goes-anything : (loc : ℕ) → r ≡ Anything loc → Goes-on w u t AnythingS
   unfolding parts with-args
-  goes-anything loc z = record { is = is; many = λ ds. ap length (sym (is ds)); inside = λ ds i p. absurd (not-suc-le-zero p) }
+  goes-anything loc z = record { value = value; few = omega arith; is = is; many = λ ds. ap length (sym (is ds)); inside = λ ds i p. absurd (not-suc-le-zero p) }
     where
+      value : (ds : List Struct) → d.Anything ≡ unfold-type (seen w u ds) (spanned (seen w u ds) t) .value
+      value ds = unfolded-value (Anything loc) z ds
+
       is : (ds : List Struct) → [] ≡ goes-on-to (seen w u ds) t
-      is ds = goes-nowhere (seen w u ds) t loc (sym (ap (λ (y : Unfolded). unfolded y (seen w u ds)) z) ∙ f .is ds)
+      is ds = value-goes (seen w u ds) t d.Anything (value ds)
 
 pub unfolded-node : {n x : ℕ} {r : Unfolded} → Unfolded-in n r → r ≡ NodeU x → x < n
 unfolded-node {n} h z = subst (λ (y : Unfolded). Unfolded-in n y) z h

@@ -5,15 +5,17 @@ use mathlib.Core.List.{List}
 use Prim.Native.Nat.{ℕ, _<_, _≤_}
 use lib.ListN.{length, getD}
 use Rattle.definition.specs.Types.{Struct}
-use Rattle.definition.specs.Store.{with-args}
-use Rattle.definition.specs.Subst.{parts, goes-on-to, ends-in}
+use Rattle.definition.specs.Store.{with-args, spanned}
+use Rattle.definition.specs.Subst.{parts, unfold-type, goes-on-to, ends-in}
 use Rattle.table.specs.State.{shape-of, seen}
 use Rattle.table.specs.declared.Used.{Used}
 use Rattle.table.specs.declared.Shape.{Shape}
 use Rattle.subst.specs.Answers.{part-count}
 
--- reading node t goes on to the parts of this shape, all of them nodes
+-- node t unfolds to this shape, and reading goes on to its parts, at most eight, all of them nodes
 pub record Goes-on (w : List ℕ) (u : Used) (t : ℕ) (sh : Shape) : Type 0 where
+  pub value : (ds : List Struct) → with-args (seen w u ds) (shape-of sh) ≡ unfold-type (seen w u ds) (spanned (seen w u ds) t) .value
+  pub few : part-count (shape-of sh) ≤ 8
   pub is : (ds : List Struct) → parts (with-args (seen w u ds) (shape-of sh)) ≡ goes-on-to (seen w u ds) t
   pub many : (ds : List Struct) → length (goes-on-to (seen w u ds) t) ≡ part-count (shape-of sh)
   pub inside : (ds : List Struct) (i : ℕ) → i < part-count (shape-of sh) → getD (goes-on-to (seen w u ds) t) i 0 < u .nodes

@@ -100,7 +100,7 @@ fn is_var(v: TVar, s: Shape) -> bool
     }
 }
 
-fn part_count(s: Shape) -> u32
+pub fn part_count(s: Shape) -> u32
     ensures { λ r. ⌜ r ≡ part-count (shape-of s) ⌝ }
 {
     match s {
@@ -115,7 +115,7 @@ fn part_count(s: Shape) -> u32
 }
 
 // Part i of a type.
-fn part_at(w: &[u32], u: Used, s: Shape, i: u32) -> u32
+pub fn part_at(w: &[u32], u: Used, s: Shape, i: u32) -> u32
     requires { ⌜ Lay (now w) u ⌝ }
     ensures { λ r. ⌜ ((ds : List d.Struct) → i < part-count (shape-of s) → r ≡ getD (parts (with-args (seen (now (w .entry)) u ds) (shape-of s))) i 0) ⌝ }
 {
@@ -395,7 +395,7 @@ pub fn join_bind_tvar(w: &mut [u32], u: Used, tvar: TVar, ty: u32) -> Binding
 // ---- a type that reaches a variable that reaches itself
 
 // The shape that reading node t goes on with.
-fn goes_on(w: &[u32], u: Used, t: u32) -> Shape
+pub fn goes_on(w: &[u32], u: Used, t: u32) -> Shape
     requires { ⌜ Lay (now w) u × (t < u .nodes) ⌝ }
     ensures { λ r. ⌜ Goes-on (now (w .entry)) u t r ⌝ }
 {
@@ -418,7 +418,7 @@ fn higher(a: u32, b: u32) -> u32
 }
 
 // In how many levels reading node t is over; 0 if not in `left`. A node's answer is marked, so that each node is read once.
-fn levels(w: &[u32], u: Used, t: u32, left: u32, marks: &mut [u32]) -> u32
+pub fn levels(w: &[u32], u: Used, t: u32, left: u32, marks: &mut [u32]) -> u32
     requires { ⌜ Lay (now w) u × ((t < u .nodes) × ((left ≤ u .nodes) × Marked (now w) u (now marks))) ⌝ }
     ensures { λ r. ⌜ Levels (now (w .entry)) u t left r × Marked (now (w .entry)) u (now (marks .exit)) ⌝ }
 {

@@ -9,3 +9,4 @@ pub mod Pushed
 pub mod Primitives
 pub mod Encoded
 pub mod Laws
+pub mod Known

@@ -2,4 +2,5 @@
 pub mod Tab
 pub mod Rows
 pub mod State
+pub mod Known
 pub mod Encode

@@ -18,6 +18,8 @@ pub struct Row {
     pub name: &'static str,
     answer: u8,
     pub records: usize,
+    /// run before, and not timed
+    before: Vec<u8>,
     stream: Vec<u8>,
 }
 
@@ -39,9 +41,18 @@ fn state(vars: usize) -> String {
 }
 
 fn row(name: &'static str, answer: u8, records: usize, line: impl Fn(usize) -> String) -> Row {
+    Row { name, answer, records, before: vec![], stream: declared(&lines(records, line)) }
+}
+
+/// records of a state with the declaration
+fn declared(text: &str) -> Vec<u8> {
     let skipped = assemble(DECLARED, true).unwrap().len();
-    let stream = assemble(&(DECLARED.to_string() + &lines(records, line)), true).unwrap()[skipped..].to_vec();
-    Row { name, answer, records, stream }
+    assemble(&(DECLARED.to_string() + text), true).unwrap()[skipped..].to_vec()
+}
+
+/// one SV on a list that SV has emptied and these records fill
+fn solved(name: &'static str, constrained: String) -> Row {
+    Row { before: declared(&("SV\n".to_string() + &constrained)), ..row(name, 0, 1, |_| "SV".into()) }
 }
 
 pub fn rows() -> Vec<Row> {
@@ -71,6 +82,10 @@ pub fn rows() -> Vec<Row> {
         over("BC", 0, |i| format!("BC V{}", i)),
         over("SC", 0, |i| format!("SC V{}", i)),
         row("SV, 16 of each", 0, 1, |_| "SV".into()),
+        solved("SV, empty list", String::new()),
+        solved("SV, 16 NC", lines(16, |i| format!("NC numeric V{}", i))),
+        solved("SV, 16 IN", lines(16, |_| "IN S0<u8>".into())),
+        solved("SV, 16 IN that fail", lines(16, |_| "IN S0<P1>".into())),
     ]
 }
 
@@ -99,22 +114,26 @@ impl Marks<'_> {
         Marks { calls, state, lent }
     }
 
-    /// one call on the state: seconds, and the log's length
-    fn once(&mut self, stream: &[u8]) -> (f64, usize) {
+    /// one call on the state after the records before it: seconds, and the log's length
+    fn once(&mut self, before: &[u8], stream: &[u8]) -> (f64, usize) {
         self.lent.words.copy_from_slice(&self.state.words);
         self.lent.params = self.state.params;
+        if !before.is_empty() {
+            let Lent { words, params, log, .. } = &mut self.lent;
+            assert!(self.calls.job(words, params, before, false, log, &mut Lines::default()) == 0)
+        }
         let mut n = 0;
         (timed(|| n = oracle_timed_more(self.calls, stream, &mut self.lent)), n)
     }
 
     /// seconds of a call without records, and of one with the row's
     fn both(&mut self, row: &Row) -> [f64; 2] {
-        [self.once(&[]).0, self.once(&row.stream).0]
+        [self.once(&row.before, &[]).0, self.once(&row.before, &row.stream).0]
     }
 
     /// whether every answer is the row's
     fn answered(&mut self, row: &Row) -> bool {
-        let (_, n) = self.once(&row.stream);
+        let (_, n) = self.once(&row.before, &row.stream);
         let log = std::str::from_utf8(&self.lent.log[..n]).unwrap();
         let answers: Vec<_> = log.lines().map(|l| l.split(' ').nth(1)).collect();
         answers.len() == row.records && answers.iter().all(|a| *a == Some(&row.answer.to_string()))
@@ -190,6 +209,18 @@ fn numeric_chain(n: usize) -> lent::Lent {
     s
 }
 
+/// An open chain with as many ability constraints on V0 as there may be, each for all four.
+fn asking_chain(n: usize, last: Option<u8>) -> lent::Lent {
+    let mut s = open_chain(n);
+    if let Some(builtin) = last {
+        let end = s.add_node(3, 0, 0, builtin as u32, &[]).unwrap();
+        s.bind(n - 1, end)
+    }
+    let first = s.add_node(6, 0, 0, 0, &[]).unwrap();
+    (0..MAX_CONSTRAINTS).for_each(|_| assert!(s.add_constraint(0, 1, first, 15).is_some()));
+    s
+}
+
 /// lists of lists of eight, with `n` times V0 at their ends
 fn ends(n: usize) -> String {
     let nest = |parts: Vec<String>| {
@@ -215,6 +246,7 @@ fn lent_table(calls: &(dyn Calls + Sync), runs: usize) -> String {
     let mut out = String::from("a lent record, its answer:\n");
     let [middle, large] = SIZES.map(|n| Marks::new(calls, n).state);
     let (long, half, numeric) = (chain(1000), chain(500), numeric_chain(1000));
+    let (open, signer) = (asking_chain(1000, None), asking_chain(1000, Some(1)));
     let wide = format!("RD {}", ends(504));
     for (state, lent, record, shown) in [
         ("fresh", &fresh(), "UF u8", "UF u8"),
@@ -227,9 +259,11 @@ fn lent_table(calls: &(dyn Calls + Sync), runs: usize) -> String {
         ("chain of 1,000", &long, "RD V1000", "RD of a list with 4,096 V0"),
         ("chain of 500", &half, "JN V500, V501", "JN of 4,096 V0 and V1"),
         ("chain of 1,000", &numeric, "SV", "SV, numeric, 512 constraints"),
+        ("chain of 1,000", &open, "SV", "SV, 512 ask all four"),
+        ("chain to a signer", &signer, "SV", "SV, 512 ask all four"),
     ] {
         let (number, seconds) = lent_record(calls, lent, record, runs);
-        writeln!(out, "  {:<16}{:<30}{:>2}{:>10.1} us", state, shown, number, seconds * 1e6).unwrap()
+        writeln!(out, "  {:<18}{:<30}{:>2}{:>10.1} us", state, shown, number, seconds * 1e6).unwrap()
     }
     let (mut tried, _) = traps::run(calls);
     tried.sort_by(|a, b| b.seconds.total_cmp(&a.seconds));

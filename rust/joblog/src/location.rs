@@ -20,6 +20,8 @@ enum Part {
     Pairs,
     /// the code of a failure, in a row that goes on to the end
     Failures,
+    /// the rule of a missing ability
+    Rule,
 }
 use Part::*;
 
@@ -88,7 +90,10 @@ fn brings(part: Part, b: u8, params: &[usize]) -> Vec<Part> {
         Struct => vec![StructHigh(b)],
         StructHigh(low) => vec![Type; params.get(u16::from_le_bytes([low, b]) as usize).copied().unwrap_or(0)],
         Pairs => [[Plain, Plain, Plain, Plain, Type].repeat(n), vec![Type]].concat(),
+        Failures if b == 4 => [&LOC[..], &[Plain, Type, Rule]].concat(),
         Failures => [&LOC[..], &[Type, Failures]].concat(),
+        Rule if b == 2 => vec![Plain, Failures],
+        Rule => vec![Failures],
     }
 }
 

@@ -1,5 +1,5 @@
 //! A job gone through beside its log: each record with its line.
-use crate::record::{self, Known, Record, Refusal, Ty};
+use crate::record::{self, Known, Record, Refusal, Ty, ABILITIES};
 
 /// An answer's number and word, and whether a job ends with it.
 pub struct Word {
@@ -16,7 +16,7 @@ const fn ends(number: usize, word: &'static str) -> Word {
 }
 
 /// by rising number
-pub const ANSWERS: [Word; 17] = [
+pub const ANSWERS: [Word; 18] = [
     goes_on(0, "typed"),
     goes_on(1, "subtype error"),
     goes_on(2, "incompatible"),
@@ -33,6 +33,7 @@ pub const ANSWERS: [Word; 17] = [
     goes_on(13, "parameter twice"),
     goes_on(14, "answer too long"),
     goes_on(15, "unsound state"),
+    goes_on(16, "ability mark contradicted"),
     ends(18, "doubled reference"),
 ];
 
@@ -44,11 +45,11 @@ pub fn word(number: usize) -> &'static str {
     of_number(number).map_or("no such answer", |a| a.word)
 }
 
-/// What a failed constraint's code says of its type, by code less 1.
+/// What a failed constraint's code says of its type, by code less 1; code 4 is told by ability and rule.
 pub const FAILURES: [&str; 3] = ["is no integer type", "is no base type", "is no single type"];
 
 pub struct Failure {
-    pub what: &'static str,
+    pub what: String,
     pub loc: u32,
     pub ty: Ty,
 }
@@ -152,13 +153,30 @@ impl<'a> Pairs<'a> {
     fn failures(&self, mut payload: &[u8]) -> Result<Payload, String> {
         let mut out = vec![];
         while let [code, rest @ ..] = payload {
-            let what = FAILURES.get((*code as usize).wrapping_sub(1)).ok_or("its payload is no failure")?;
             let (loc, rest) = rest.split_first_chunk().ok_or("its payload is cut")?;
-            let (ty, n) = self.ty(rest)?;
+            let (what, ty, rest) = if *code == 4 { self.missing(rest)? } else { self.unfit(*code, rest)? };
             out.push(Failure { what, loc: u32::from_le_bytes(*loc), ty });
-            payload = &rest[n..];
+            payload = rest;
         }
         Ok(Payload::Failures(out))
+    }
+
+    fn unfit<'p>(&self, code: u8, rest: &'p [u8]) -> Result<(String, Ty, &'p [u8]), String> {
+        let what = FAILURES.get((code as usize).wrapping_sub(1)).ok_or("its payload is no failure")?;
+        let (ty, n) = self.ty(rest)?;
+        Ok((what.to_string(), ty, &rest[n..]))
+    }
+
+    /// an ability that a type lacks, and why
+    fn missing<'p>(&self, rest: &'p [u8]) -> Result<(String, Ty, &'p [u8]), String> {
+        let (bit, rest) = rest.split_first().ok_or("its payload is cut")?;
+        let (_, ability) = ABILITIES.iter().find(|(b, _)| b == bit).ok_or("its payload has no ability")?;
+        let (ty, n) = self.ty(rest)?;
+        match &rest[n..] {
+            [1, rest @ ..] => Ok((format!("lacks {} by its declaration", ability), ty, rest)),
+            [2, place, rest @ ..] => Ok((format!("lacks {} by its argument {}", ability, place), ty, rest)),
+            _ => Err("its payload has no rule".into()),
+        }
     }
 
     fn payload(&self, r: &Record, number: usize, raw: &[u8]) -> Result<Payload, String> {

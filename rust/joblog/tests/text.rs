@@ -59,6 +59,39 @@ fn doubled_references() {
     assert_eq!((summary.text(), summary.code()), (wanted.into(), 1));
 }
 
+/// 02's R-1: code 4, by the declaration and by an argument
+#[test]
+fn missing_abilities() {
+    let job = asm("SD {}<{copy}>\nIN S0<vector<signer>>\nIN S0<signer>\nSV\nSV");
+    let log = "0 0 0000\n1 0 050100000000000006010000000000\n2 0 050200000000000006010000000200\n\
+        3 0 040100000001030300000000050604000000010002000402000000010303000000000101\n4 16\n";
+    let (lines, summary) = show(&job, log, Options::default());
+    let told =
+        "vector<V1> lacks copy by its argument 0 (constraint @1); signer lacks copy by its declaration (constraint @2)";
+    assert_eq!(lines.lines().nth(3).unwrap(), format!("3 SV   → typed; failed: {}", told));
+    assert_eq!(lines.lines().nth(4).unwrap(), "4 SV   → ability mark contradicted");
+    let counts = "5 records; 0 typed: 4, 16 ability mark contradicted: 1; failed constraints: 2";
+    assert_eq!(summary.text(), format!("{}; first error: record 4, ability mark contradicted", counts))
+}
+
+/// .. and payloads that are none of code 4
+#[test]
+fn no_missing_ability() {
+    let job = asm("SV");
+    let told = |payload: &str| show(&job, &format!("0 0 {}\n", payload), Options::default()).1.code();
+    let row = "0401000000 01 03020000000001";
+    assert_eq!(told(&format!("{}01", row).replace(' ', "")), 0);
+    assert_eq!(told(&format!("{}0207", row).replace(' ', "")), 0);
+    // no rule, two that are none, no place, a second row that is cut, a code that is none
+    for wrong in ["", "00", "03", "02", "0104", "0105"] {
+        assert_eq!(told(&format!("{}{}", row, wrong).replace(' ', "")), 2, "{}", wrong)
+    }
+    // cut, no ability, two of them, no type
+    for wrong in ["0401000000", "0401000000000302000000000101", "0401000000030302000000000101", "040100000001"] {
+        assert_eq!(told(wrong), 2, "{}", wrong)
+    }
+}
+
 /// 01's seven, then 02's three
 #[test]
 fn builtins_by_number() {
@@ -223,6 +256,15 @@ fn locations_are_no_difference() {
     assert_eq!(found(&e, &a), "record 1: job 2 has it, job 1 has ended");
     let g = |locations: &str| side(&format!("SV\nUF &mut{} &u8", locations), "0 0\n1 18\n");
     assert_eq!(found(&g("@1"), &g("@2")), "none of 2");
+    // code 4, by its declaration, by an argument, and a row behind them: ability, rule and place are no locations
+    let h = |at: &str, rest: &str| {
+        let row =
+            format!("04{0}01 03{0}0001 01 04{0}08 03{0}0005 06{0}0100 {1} 02{0} 08{0}", at, rest).replace(' ', "");
+        side("SV", &format!("0 0 {}\n", row))
+    };
+    assert_eq!(found(&h("01000000", "0203"), &h("09080706", "0203")), "none of 1");
+    assert!(found(&h("01000000", "0203"), &h("01000000", "0204")).starts_with("record 0: the answers differ"));
+    assert!(found(&h("01000000", "0203"), &h("01000000", "01")).starts_with("record 0: the answers differ"));
     let f = side("FV @7\nFV", "0 0 06070000000000\n");
     assert_eq!(found(&a, &f), "2: it is too short: no line for record 1 and those after it");
 }

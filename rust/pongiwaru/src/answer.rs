@@ -40,6 +40,7 @@ answers! {
     ParameterTwice = 13, "parameter twice";
     AnswerTooLong = 14, "answer too long";
     UnsoundState = 15, "unsound state";
+    AbilityMarkContradicted = 16, "ability mark contradicted";
     DoubledReference = 18, "doubled reference";
 }
 

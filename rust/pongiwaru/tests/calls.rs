@@ -81,6 +81,20 @@ fn refusals_leave_all_as_it_was() {
     assert!(Answer::Malformed.is_refusal() && !Answer::Incompatible.is_refusal() && Answer::Incompatible.is_error())
 }
 
+/// 02's R-1: a struct's parameter asks for copy; a signer has it not, and a `u8` only by its mark
+#[test]
+fn missing_abilities_and_a_mark_contradicted() {
+    let mut state = State::fresh();
+    assert_eq!(state.record(b"SD\0\x01\x01").0, Answer::Typed);
+    assert_eq!(state.record(b"IN\x05\x02\0\0\0\0\0\0\x03\x03\0\0\0\0\x01").0, Answer::Typed);
+    let row = b"\x04\x02\0\0\0\x01\x03\x03\0\0\0\0\x01\x01";
+    assert_eq!(state.record(b"SV"), (Answer::Typed, row.to_vec()));
+    assert_eq!(state.record(b"SV"), (Answer::Typed, vec![]));
+    assert_eq!(state.record(b"IN\x05\x02\0\0\0\0\0\0\x03\x03\0\0\0\x12\x02").0, Answer::Typed);
+    assert_eq!(state.record(b"SV"), (Answer::AbilityMarkContradicted, vec![]));
+    assert_eq!(Answer::AbilityMarkContradicted.number(), 16)
+}
+
 #[test]
 fn a_kept_state_goes_on_and_an_unsound_one_is_refused() {
     let mut state = State::fresh();
@@ -102,7 +116,7 @@ fn numbers_and_answers() {
     for a in Answer::ALL {
         assert_eq!(Answer::of(a.number()), Some(*a))
     }
-    assert_eq!([16, 17, 19].map(Answer::of), [None; 3]);
+    assert_eq!([17, 19].map(Answer::of), [None; 2]);
     assert_eq!(Answer::SubtypeError.to_string(), "subtype error")
 }
 

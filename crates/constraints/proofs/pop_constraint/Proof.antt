@@ -1,5 +1,5 @@
 -- `constraints::pop_constraint` meets its contract. Assumes nothing.
-use Rattle.constraints.proofs.Filter.{popped}
+use Rattle.constraints.proofs.Emptied.{popped}
 use native.Mathlib.Omega.{arith}
 use borrow.Author.Needs.{needs}
 use Rattle.constraints.proofs.pop_constraint.Statement.{statement}

@@ -11,9 +11,9 @@ use Rattle.table.specs.State.{view}
 use Rattle.walk.proofs.Steps.{nodes-grow, parts-grow, when-done, when-after, Any}
 use Rattle.walk.proofs.Parts.{ref-below, named}
 use Rattle.walk.proofs.Walk.{Walked, placed-length, named-kept, named-below, arg-kept, walk-start, walk-stop, walk-more, walk-end, walk-parts}
-use Rattle.instantiate.specs.Known.{Known}
+use Rattle.table.specs.Known.{Known}
 use Rattle.instantiate.specs.Args.{joined}
-use Rattle.instantiate.proofs.ArgLaws.{known-kept}
+use Rattle.table.proofs.Known.{known-kept}
 use Rattle.instantiate.proofs.DownLaws.{inst-zero, inst-unit, inst-error, inst-param, inst-var, inst-anything, ref-full, ref-stop, ref-then, apply-by, apply-stop, apply-then}
 use Prim.Native.Nat.{ℕ, _+_, _*_, _-_, _<_}
 use borrow.Fn.Kinds.{In}

@@ -8,7 +8,7 @@ use Rattle.names.specs.Names.{name-of}
 use Rattle.table.specs.Rows.{places}
 use Rattle.table.specs.State.{view}
 use Rattle.walk.proofs.Walk.{range, Walked}
-use Rattle.instantiate.specs.Known.{Known}
+use Rattle.table.specs.Known.{Known}
 use Rattle.instantiate.proofs.ArgLaws.{tparam-by, just-list}
 use Rattle.instantiate.proofs.MadeLaws.{made-start, made-stop, made-more, made-end}
 use Rattle.instantiate.proofs.make_tparams.Statement.{statement}

@@ -1,14 +1,11 @@
 -- `report::code_head` meets its contract. Assumes nothing.
-use Rattle.report.proofs.Report.{small}
-use Rattle.definition.specs.Write.{u32}
-use native.Mathlib.Omega.{arith}
 use mathlib.Core.Path.{refl}
+use native.Mathlib.Omega.{arith}
 use borrow.Author.Needs.{needs}
+use Rattle.definition.specs.Write.{u32}
+use Rattle.report.proofs.Report.{small}
 use Rattle.report.proofs.code_head.Statement.{statement}
 use Rattle.report.proofs.code_head.Tie as tie
-use Rattle.report.proofs.code_head.Reads as reads
-use Rattle.report.proofs.code_head.Lts as lts
-use Rattle.report.proofs.low.Reads as low-reads
 
 low-requires : tie.Need-low-requires
 low-requires c κs = search needs

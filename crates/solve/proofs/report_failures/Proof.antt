@@ -16,13 +16,22 @@ same-length : tie.Need-same-length
 same-length c = search needs
 
 returns : tie.Need-returns
-returns c = report-long _ _ _ (c .before .before .before .before .before .size-failures .ensures) _ _ _ _ _ _ (c .before .before .before .before .if1 .taken) (c .before .before .refuse .ensures answer-too-long _ number-14)
+returns c =
+    let size-failures = c .before .before .before .before .before .size-failures in
+    let if1 = c .before .before .before .before .if1 in
+    let refuse = c .before .before .refuse in
+    report-long _ _ _ _ (size-failures .ensures) _ _ _ _ _ _ (if1 .taken) (refuse .ensures answer-too-long _ number-14)
 
 write-failures-requires : tie.Need-write-failures-requires
-write-failures-requires c κs = ((c .before .before .before .before .before .before .before .before .pre .0 .0, (c .before .before .before .before .before .before .before .before .pre .1 .0, c .before .before .before .before .before .before .before .before .pre .1 .1 .0)), report-room _ _ _ (c .before .before .before .size-failures .ensures) (c .before .before .before .before .before .before .before .before .args .buf .now) (c .before .before .if1 .left) (c .before .before .before .before .before .before .before .before .pre .1 .1 .1))
+write-failures-requires c κs =
+    let p = c .before .before .before .before .before .before .before .before .before .pre in
+    let size-failures = c .before .before .before .size-failures in
+    let a = c .before .before .before .before .before .before .before .before .before .args in
+    let if1 = c .before .before .if1 in
+    ((p .0 .0, (p .1 .0, (p .1 .1 .0, (p .1 .1 .1 .0, p .1 .1 .1 .1 .0)))), report-room _ _ _ _ (size-failures .ensures) (a .buf .now) (if1 .left) (p .1 .1 .1 .1 .1))
 
-staying-requires : tie.Need-staying-requires
-staying-requires c κs = search needs
+take-constraints-requires : tie.Need-take-constraints-requires
+take-constraints-requires c κs = search needs
 
 same-length-2 : tie.Need-same-length-2
 same-length-2 c = search needs
@@ -31,7 +40,13 @@ same-length-3 : tie.Need-same-length-3
 same-length-3 c = search needs
 
 returns-2 : tie.Need-returns-2
-returns-2 c = report-kept _ _ _ (c .before .before .before .before .before .before .before .before .before .before .size-failures .ensures) _ _ _ _ _ _ _ (c .before .before .before .before .before .before .before .before .before .if1 .left) (c .before .before .before .before .before .before .write-failures .ensures) (c .before .before .staying .ensures)
+returns-2 c =
+    let size-failures = c .before .before .before .before .before .before .before .before .before .before .size-failures in
+    let p = c .before .before .before .before .before .before .before .before .before .before .before .before .before .before .before .before .pre in
+    let if1 = c .before .before .before .before .before .before .before .before .before .if1 in
+    let write-failures = c .before .before .before .before .before .before .write-failures in
+    let take-constraints = c .before .before .take-constraints in
+    report-kept _ _ _ _ (size-failures .ensures) _ _ _ _ _ (p .1 .1 .1 .1 .0) _ _ (if1 .left) (write-failures .ensures) (take-constraints .ensures)
 
 pub report-failures-spec : {M : Type 1} → statement M
 report-failures-spec =
@@ -42,7 +57,7 @@ report-failures-spec =
     same-length
     returns
     write-failures-requires
-    staying-requires
+    take-constraints-requires
     same-length-2
     same-length-3
     returns-2)

@@ -20,7 +20,14 @@ enum-told-2 : tie.Need-enum-told-2
 enum-told-2 c = search needs
 
 solve-requires : tie.Need-solve-requires
-solve-requires c κs = let b = (rw (as-called (c .before .before .before .before .before .before .before .before .args .f) (c .before .before .before .before .before .before .before .before .args .t) Solve (sym (c .before .before .before .before .call-of .ensures) ∙ c .before .before .enum-told2 .given .1) (c .before .before .before .before .before .before .before .before .args .u .vars) (c .before .before .before .before .before .before .before .before .args .u .nodes)) at (c .before .before .before .before .before .before .before .before .pre .1)) .from in ((c .before .before .before .before .before .before .before .before .pre .0 .0, (solve-saved b (c .before .before .before .before .before .before .before .before .pre .0 .0), c .before .before .before .before .before .before .before .before .pre .0 .1 .1)), solve-sound b)
+solve-requires c κs =
+    let a = c .before .before .before .before .before .before .before .before .before .args in
+    let call-of = c .before .before .before .before .before .call-of in
+    let enum-told2 = c .before .before .before .enum-told2 in
+    let p = c .before .before .before .before .before .before .before .before .before .pre in
+    let e = as-called (a .f) (a .t) Solve (sym (call-of .ensures) ∙ enum-told2 .given .1) (a .u .vars) (a .u .nodes) in
+    let b = (rw e at (p .1)) .from in
+    ((p .0 .0, (solve-saved b (p .0 .0), p .0 .1 .1)), solve-sound b)
 
 enum-told-3 : tie.Need-enum-told-3
 enum-told-3 c = search needs
@@ -47,7 +54,13 @@ same-length-4 : tie.Need-same-length-4
 same-length-4 c = search needs
 
 returns-2 : tie.Need-returns-2
-returns-2 c = λ w₀ x b. reply-solved (rw (as-called (c .before .before .before .before .before .before .before .before .before .before .before .before .before .args .f) (c .before .before .before .before .before .before .before .before .before .before .before .before .before .args .t) Solve (sym (c .before .before .before .before .before .before .before .before .before .call-of .ensures) ∙ c .before .before .before .before .before .before .before .enum-told2 .given .1) (c .before .before .before .before .before .before .before .before .before .before .before .before .before .args .u .vars) (c .before .before .before .before .before .before .before .before .before .before .before .before .before .args .u .nodes)) at b) (c .before .before .before .before .solve .ensures)
+returns-2 c =
+    let a = c .before .before .before .before .before .before .before .before .before .before .before .before .before .before .args in
+    let call-of = c .before .before .before .before .before .before .before .before .before .before .call-of in
+    let enum-told2 = c .before .before .before .before .before .before .before .before .enum-told2 in
+    let solve = c .before .before .before .before .solve in
+    let e = as-called (a .f) (a .t) Solve (sym (call-of .ensures) ∙ enum-told2 .given .1) (a .u .vars) (a .u .nodes) in
+    λ w₀ x b. reply-solved (rw e at b) (solve .ensures)
 
 same-length-5 : tie.Need-same-length-5
 same-length-5 c = search needs
