@@ -71,12 +71,12 @@ pub next-some : (s : State) (v t : ℕ) (f : Found) → found f ≡ get s v → 
 unfolding next-in
 next-some s v t f e z = next-found s v f (some t) e (ap found z)
 
-forward-none : (n : ℕ) (s : State) (v : ℕ) → next-of s v ≡ none → forward n s v ≡ v
+pub forward-none : (n : ℕ) (s : State) (v : ℕ) → next-of s v ≡ none → forward n s v ≡ v
 unfolding forward
 forward-none zero s v e = refl
 forward-none (suc n) s v e = rw (e, forward) refl
 
-forward-some : (n : ℕ) (s : State) (v x : ℕ) → next-of s v ≡ some x → forward (suc n) s v ≡ forward n s x
+pub forward-some : (n : ℕ) (s : State) (v x : ℕ) → next-of s v ≡ some x → forward (suc n) s v ≡ forward n s x
 unfolding forward
 forward-some n s v x e = rw (e, forward) refl
 

@@ -4,4 +4,5 @@ pub mod Laws
 pub mod Occurs
 pub mod Unfold
 pub mod Itself
+pub mod Ends
 pub mod Run

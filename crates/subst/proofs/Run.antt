@@ -2,18 +2,19 @@
 use mathlib.Core.Path.{_≡_, refl, sym, ap, ap₂, _∙_, subst}
 use mathlib.Core.Bool.{Bool, true, false}
 use mathlib.Core.List.{List, [], _∷_, _++_, append-assoc, append-nil}
-use mathlib.Core.Option.{none, some}
+use mathlib.Core.Option.{Option, none, some}
 use Prim.Native.Nat.{ℕ, zero, suc, _+_, _-_, _*_, _<_, _≤_}
 use native.Mathlib.Nat.{not-suc-le-zero}
 use native.Mathlib.Numerals.{add-one}
 use native.Mathlib.Decide.{ℕ-discrete}
 use native.Mathlib.Omega.{arith}
+use lib.Dec.{ltb, leb}
 use lib.ListN.{length, getD, set, take, drop, length-set, length-take, length-drop, length-append, drop-of-length-le, List·getD-append}
 use lib.Seq.{take-append-le, drop-append-le, drop-cons, take-suc-set, getD-take, getD-set-same, getD-set-other}
 use Rattle.definition.specs.Types as d
-use Rattle.definition.specs.Types.{State, Struct, Places, Result, ok, err, refused, _>>=_}
-use Rattle.definition.specs.Store.{count, node, nowhere, args-at, with-args, type-at, loc-of, get, sp, map-types, with-structs}
-use Rattle.definition.specs.Subst.{as-var, parts, forward-tvar, reaches-itself, ready-value, ready, ready-tvars}
+use Rattle.definition.specs.Types.{State, Struct, Places, Result, ok, err, refused, full, _>>=_, if_then_else_, max-nodes, max-args}
+use Rattle.definition.specs.Store.{count, taken, node, nowhere, args-at, with-args, type-at, loc-of, get, sp, map-types, with-structs, with-node, args-of}
+use Rattle.definition.specs.Subst.{as-var, parts, next-in, next-of, forward, forward-tvar, reaches-itself, ready-value, ready, ready-tvars}
 use Rattle.names.specs.Names.{mark-of, name-of}
 use Rattle.names.specs.declared.TVar.{TVar}
 use Rattle.names.specs.declared.Mark.{Mark}
@@ -32,6 +33,7 @@ use Rattle.table.specs.declared.Out.the-variants.{Done, Subtype, Incompatible, 
 use Rattle.table.proofs.Rows.{length-entries}
 use Rattle.table.proofs.Steps.{grown-refl, grown-trans, after-now, after-stop}
 use Rattle.subst.specs.Answers.{part-count}
+use Rattle.subst.specs.Ends.{Known}
 use Rattle.subst.specs.Ready.{rebuilt, rebuilt-at, by-parts, by-parts-at, Has-parts, onward-of, Onward-in, Goes, landed, Landing-in, Lands}
 use Rattle.subst.specs.declared.Onward.{Onward}
 use Rattle.subst.specs.declared.Onward.the-variants.{Parts, Open, Bound}
@@ -289,6 +291,90 @@ module _ (w₀ : List ℕ) (u : Used) (w : List ℕ) (cur : Used) (t : ℕ) (h :
   unfolding rebuilt-at
   rebuilt-kept tys ds = ap₂ (λ (l : ℕ) (x : d.Type-value). rebuilt (seen w cur ds) t l x tys) (loc-kept ds) (value-kept ds)
 
+-- ---- the table of ends, in a state that has grown
+
+-- an answer's state has the variables of s
+abbrev Vars-kept : {A : Type 0} → State → Result (State × A) → Type 0
+Vars-kept s (ok y) = y .0 .vars ≡ s .vars
+Vars-kept s (err t e) = Unit {0}
+Vars-kept s (refused x) = Unit {0}
+
+kept-from : {A : Type 0} (s t : State) (r : Result (State × A)) → t .vars ≡ s .vars → Vars-kept t r → Vars-kept s r
+kept-from s t (ok z) h g = g ∙ h
+kept-from s t (err x e) h g = tt
+kept-from s t (refused x) h g = tt
+
+kept-bind : {A B : Type 0} (s : State) (m : Result (State × A)) (k : State × A → Result (State × B)) → Vars-kept s m → ((y : State × A) → Vars-kept (y .0) (k y)) → Vars-kept s (m >>= k)
+unfolding _>>=_
+kept-bind s (ok y) k h f = kept-from s (y .0) (k y) h (f y)
+kept-bind s (err t e) k h f = tt
+kept-bind s (refused x) k h f = tt
+
+kept-if : {A : Type 0} (s : State) (b : Bool) (m k : Result (State × A)) → Vars-kept s m → Vars-kept s k → Vars-kept s (if b then m else k)
+kept-if s true m k h f = h
+kept-if s false m k h f = f
+
+kept-sp : (s : State) (loc : ℕ) (x : d.Type-value) → Vars-kept s (sp s loc x)
+unfolding sp with-node
+kept-sp s loc x = kept-if s (ltb (count s) max-nodes) _ _ (kept-if s (leb (length (s .args) + length (args-of x)) max-args) (ok (with-node s loc x, count s)) (refused full) refl tt) tt
+
+kept-map : (f : Ready) → ((s : State) (t : ℕ) → Vars-kept s (f s t)) → (s : State) (ts : List ℕ) → Vars-kept s (map-types f s ts)
+unfolding map-types
+kept-map f h s [] = refl
+kept-map f h s (t ∷ ts) = kept-bind s (f s t) _ (h s t) (λ x. kept-bind (x .0) (map-types f (x .0) ts) _ (kept-map f h (x .0) ts) (λ y. refl))
+
+kept-value : (f : Ready) → ((s : State) (t : ℕ) → Vars-kept s (f s t)) → (s : State) (ty loc : ℕ) (x : d.Type-value) → Vars-kept s (ready-value f s ty loc x)
+unfolding ready-value
+kept-value f h s ty loc d.UnitType = refl
+kept-value f h s ty loc (d.Ref m t) = kept-bind s (f s t) _ (h s t) (λ y. kept-sp (y .0) loc (d.Ref m (y .1)))
+kept-value f h s ty loc (d.Param id a) = refl
+kept-value f h s ty loc (d.Apply k n tys) = kept-bind s (map-types f s tys) _ (kept-map f h s tys) (λ y. kept-sp (y .0) loc (d.Apply k n (y .1)))
+kept-value f h s ty loc (d.Var v) = go (get s (forward-tvar s v))
+  where
+    go : (o : Option ℕ) → Vars-kept {A = ℕ} s (elim o [ none ↦ sp s loc (d.Var (forward-tvar s v)) | some t ↦ f s t ])
+    go none = kept-sp s loc (d.Var (forward-tvar s v))
+    go (some t) = h s t
+kept-value f h s ty loc d.Anything = refl
+kept-value f h s ty loc d.UnresolvedError = refl
+
+kept-ready : (n : ℕ) (s : State) (t : ℕ) → Vars-kept s (ready n s t)
+unfolding ready
+kept-ready zero s t = tt
+kept-ready (suc n) s t = kept-value (λ s t. ready n s t) (λ s t. kept-ready n s t) s t (loc-of s t) (type-at s t)
+
+-- reading a type leaves every variable as it is
+vars-same : (n : ℕ) (s s′ : State) (t x : ℕ) → ready n s t ≡ ok (s′, x) → s′ .vars ≡ s .vars
+vars-same n s s′ t x e = subst (λ (r : Result (State × ℕ)). Vars-kept s r) e (kept-ready n s t)
+
+module _ (w₀ : List ℕ) (u : Used) (w : List ℕ) (cur : Used) (h : Lay w₀ u) (g : Grown (view w₀ u) (view w cur)) (k : (ds : List Struct) → seen w cur ds .vars ≡ seen w₀ u ds .vars) where
+  get-kept : (ds : List Struct) (v : ℕ) → get (seen w cur ds) v ≡ get (seen w₀ u ds) v
+  unfolding get
+  get-kept ds v = rw (k ds) refl
+
+  next-kept : (ds : List Struct) (v : ℕ) → next-of (seen w cur ds) v ≡ next-of (seen w₀ u ds) v
+  unfolding next-of next-in
+  next-kept ds v = ap (next-in (seen w cur ds)) (get-kept ds v) ∙ go (get (seen w₀ u ds) v) refl
+    where
+      go : (o : Option ℕ) → get (seen w₀ u ds) v ≡ o → next-in (seen w cur ds) o ≡ next-in (seen w₀ u ds) o
+      go none e = refl
+      go (some t) e = ap as-var (value-kept w₀ u w cur t h (rw (count-seen w₀ u ds) at (inside-seen w₀ u ds h .bindings v t e)) g ds)
+
+  forward-kept : (n : ℕ) (ds : List Struct) (v : ℕ) → forward n (seen w cur ds) v ≡ forward n (seen w₀ u ds) v
+  unfolding forward
+  forward-kept zero ds v = refl
+  forward-kept (suc n) ds v = ap (λ (o : Option ℕ). elim o [ none ↦ v | some x ↦ forward n (seen w cur ds) x ]) (next-kept ds v) ∙ go (λ x. forward-kept n ds x) (next-of (seen w₀ u ds) v)
+    where
+      go : ((x : ℕ) → forward n (seen w cur ds) x ≡ forward n (seen w₀ u ds) x) → (o : Option ℕ) → _≡_ {A = ℕ} (elim o [ none ↦ v | some x ↦ forward n (seen w cur ds) x ]) (elim o [ none ↦ v | some x ↦ forward n (seen w₀ u ds) x ])
+      go f none = refl
+      go f (some x) = f x
+
+  end-kept : (ds : List Struct) (v : ℕ) → forward-tvar (seen w cur ds) v ≡ forward-tvar (seen w₀ u ds) v
+  unfolding forward-tvar
+  end-kept ds v = ap (λ (n : ℕ). forward n (seen w cur ds) v) (ap (λ (l : List d.Cell). length l) (k ds)) ∙ forward-kept (taken (seen w₀ u ds)) ds v
+
+  known-kept : (ends : List ℕ) → Known w₀ u ends → Known w cur ends
+  known-kept ends t = record { short = t .short; is = λ v p ds. t .is v p ds ∙ sym (end-kept ds v) }
+
 -- ---- the parts, one after the other
 
 few-parts : (s : State) (t : ℕ) (sh : d.Shape Places) → Below (s .args) t sh → length (parts (with-args s sh)) ≤ 8
@@ -470,6 +556,9 @@ module _ {w₀ : List ℕ} {u : Used} {t many left : ℕ} {w tys : List ℕ} {cu
         inside = f .inside;
       }
 
+      made : (x : ℕ) → b ≡ Just x → (ds : List Struct) → ready left (seen w cur ds) p ≡ ok (seen w₁ (a .used) ds, x)
+      made x y ds = sym (f .changed .is ds) ∙ ap (λ (o : Out). outcome o (seen w₁ (a .used) ds)) (done-is (a .out) x (sym z ∙ y)) ∙ done-ok x (seen w₁ (a .used) ds)
+
       -- the part's number is short
       pub going-short : (x : ℕ) → b ≡ Just x → x < 65536
       going-short x y = let k = done-in (a .out) (a .used .nodes) x b (f .inside) z y in let n = f .changed .lay .nodes in omega arith
@@ -492,21 +581,22 @@ module _ {w₀ : List ℕ} {u : Used} {t many left : ℕ} {w tys : List ℕ} {cu
           short : i < length tys
           short = let n = g .few in let k = g .size in omega arith
 
-          is-x : (ds : List Struct) → ready left (seen w cur ds) p ≡ ok (seen w₁ (a .used) ds, x)
-          is-x ds = sym (f .changed .is ds) ∙ ap (λ (o : Out). outcome o (seen w₁ (a .used) ds)) (done-is (a .out) x (sym z ∙ y)) ∙ done-ok x (seen w₁ (a .used) ds)
-
           fronts : take (i + 1) (set tys i x) ≡ take i tys ++ (x ∷ [])
           fronts = rw (add-one i) (take-suc-set tys i x short)
 
           next : (ds : List Struct) → onto (take i tys) (map-types (λ s t. ready left s t) (seen w cur ds) (p ∷ drop (i + 1) (all ds)))
               ≡ onto (take (i + 1) (set tys i x)) (map-types (λ s t. ready left s t) (seen w₁ (a .used) ds) (drop (i + 1) (all ds)))
           next ds =
-              map-next (λ s t. ready left s t) (seen w cur ds) (seen w₁ (a .used) ds) p x (drop (i + 1) (all ds)) (take i tys) (is-x ds)
+              map-next (λ s t. ready left s t) (seen w cur ds) (seen w₁ (a .used) ds) p x (drop (i + 1) (all ds)) (take i tys) (made x y ds)
               ∙ ap (λ (k : List ℕ). onto k (map-types (λ s t. ready left s t) (seen w₁ (a .used) ds) (drop (i + 1) (all ds)))) (sym fronts)
 
           below-more : (j : ℕ) → j < i + 1 → Dec (j ≡ i) → getD (set tys i x) j 0 < a .used .nodes
           below-more j k (yes q) = rw (q, getD-set-same tys i x 0 short) (done-in (a .out) (a .used .nodes) x b (f .inside) z y)
           below-more j k (no q) = rw (getD-set-other tys i j x 0 q) (let p = g .done-parts .below j (omega arith) in let m = nodes-grow w cur w₁ (a .used) (f .changed .grown) in omega arith)
+
+      -- what is noted of the ends still holds
+      pub going-known : (x : ℕ) → b ≡ Just x → (ends : List ℕ) → Known w cur ends → Known w₁ (a .used) ends
+      going-known x y ends = known-kept w cur w₁ (a .used) (g .lay) (f .changed .grown) (λ ds. vars-same left (seen w cur ds) (seen w₁ (a .used) ds) p x (made x y ds)) ends
 
 -- ---- a landing
 

@@ -3,8 +3,8 @@
 ghost use mathlib.Core.Path.{_≡_};
 ghost use mathlib.Core.Bool.{false};
 ghost use mathlib.Core.List.{List, []};
-ghost use Prim.Native.Nat.{ℕ, suc, _<_, _≤_};
-ghost use lib.ListN.{length, getD, take};
+ghost use Prim.Native.Nat.{ℕ, suc, _*_, _<_, _≤_};
+ghost use lib.ListN.{length, getD, set, take};
 ghost use Rattle.definition.specs.Types as d;
 ghost use Rattle.definition.specs.Store.{type-at, with-args, spanned};
 ghost use Rattle.definition.specs.Subst.{as-var, is-anything, parts, next-of, forward-tvar, set-num-var, reaches-itself, ready, ready-tvars};
@@ -13,6 +13,7 @@ ghost use Rattle.names.specs.Names.{name-of};
 ghost use Rattle.table.specs.State.{shape-of, seen, Lay, Stored, After, Parts};
 ghost use Rattle.table.specs.declared.Out.the-variants.{Done};
 ghost use Rattle.subst.specs.Answers.{next, part-count, Unfolds, var-at, Clear, Binds};
+ghost use Rattle.subst.specs.Ends.{Ends-by, Noted, Meets, Known};
 ghost use Rattle.subst.specs.Itself.{Goes-on, Higher, Levels, Marked, Soon};
 ghost use Rattle.subst.specs.Ready.{Goes, Lands, Has-parts, rebuilt-at, by-parts-at};
 use names::TVar;
@@ -47,6 +48,12 @@ enum Onward {
     Parts(u32),
     Open(TVar),
     Bound(u32),
+}
+
+// Where following a chain led to: one more than the number of its end, and how many bindings it and the noted chains have at most.
+enum Meeting {
+    End(u32, u32),
+    Never,
 }
 
 // Where the bound variables from a type on lead: to a node with its parts and the calls that are left; to an open variable; or the calls are used up.
@@ -475,6 +482,16 @@ fn soon_over(w: &[u32], u: Used, t: u32, left: u32, budget: u32) -> u32
     rest
 }
 
+// The test with marks, for a type of any size.
+fn never_over(w: &[u32], u: Used, t: u32) -> bool
+    requires { ⌜ Lay (now w) u × (t < u .nodes) ⌝ }
+    ensures { λ r. ⌜ ((ds : List d.Struct) → r ≡ reaches-itself (seen (now (w .entry)) u ds) t) ⌝ }
+{
+    let mut marks: [u32; 2048] = [0; 2048];
+    let n = levels(w, u, t, u.nodes, &mut marks);
+    n == 0
+}
+
 // A type of fewer than 64 parts needs no marks.
 pub fn reaches_itself(w: &[u32], u: Used, t: u32) -> bool
     requires { ⌜ Lay (now w) u × (t < u .nodes) ⌝ }
@@ -483,15 +500,122 @@ pub fn reaches_itself(w: &[u32], u: Used, t: u32) -> bool
     if 0 < soon_over(w, u, t, u.nodes, 64) {
         return false;
     }
-    let mut marks: [u32; 2048] = [0; 2048];
-    let n = levels(w, u, t, u.nodes, &mut marks);
-    n == 0
+    never_over(w, u, t)
+}
+
+// ---- the ends of all chains
+
+// One more than the number of the variable at the end of v's chain, if it is noted; else 0.
+fn noted(ends: &[u32], v: TVar) -> u32
+    ensures { λ r. ⌜ r ≡ getD (now (ends .entry)) (v .0) 0 ⌝ }
+{
+    let at = v.0 as usize;
+    if at < ends.len() { ends[at] } else { 0 }
+}
+
+fn note(ends: &mut [u32], v: TVar, x: u32)
+    ensures { λ _. ⌜ now (ends .exit) ≡ set (now (ends .entry)) (v .0) x ⌝ }
+{
+    let at = v.0 as usize;
+    if at < ends.len() {
+        ends[at] = x;
+    }
+}
+
+// Goes from v to its end, or to a variable whose end is noted. The chains that are noted have at most `longest` bindings.
+fn meet(w: &[u32], u: Used, v: TVar, longest: u32, ends: &[u32]) -> Meeting
+    requires { ⌜ Lay (now w) u × Noted (now w) u longest (now ends) ⌝ }
+    ensures { λ r. ⌜ Meets (now (w .entry)) u (v .0) longest r ⌝ }
+{
+    let mut cur = v;
+    let mut long = longest;
+    while long <= u.vars {
+        let known = noted(ends, cur);
+        if 0 < known {
+            return Meeting::End(known, long);
+        }
+        match next_of(w, u, cur) {
+            Next::Last => {
+                return Meeting::End(table::number(cur) + 1, long);
+            }
+            Next::To(x) => {
+                cur = x;
+                long = long + 1;
+            }
+        }
+    }
+    Meeting::Never
+}
+
+// Notes the end x of v's chain for v and its links, up to one whose end is noted.
+fn note_chain(w: &[u32], u: Used, v: TVar, x: u32, long: u32, ends: &mut [u32])
+    requires { ⌜ Lay (now w) u × (Noted (now w) u long (now ends) × Ends-by (now w) u (v .0) long x) ⌝ }
+    ensures { λ _. ⌜ Noted (now (w .entry)) u long (now (ends .exit)) ⌝ }
+{
+    let mut cur = v;
+    let mut links = u.vars;
+    while 0 < links {
+        let known = noted(ends, cur);
+        if 0 < known {
+            return;
+        }
+        note(ends, cur, x);
+        match next_of(w, u, cur) {
+            Next::Last => {
+                return;
+            }
+            Next::To(y) => {
+                cur = y;
+                links = links - 1;
+            }
+        }
+    }
+}
+
+// Notes v's chain; how many bindings the noted chains have at most is the answer.
+fn note_end(w: &[u32], u: Used, v: TVar, longest: u32, ends: &mut [u32]) -> u32
+    requires { ⌜ Lay (now w) u × ((longest ≤ u .vars) × Noted (now w) u longest (now ends)) ⌝ }
+    ensures { λ r. ⌜ (r ≤ u .vars) × Noted (now (w .entry)) u r (now (ends .exit)) ⌝ }
+{
+    match meet(w, u, v, longest, ends) {
+        Meeting::End(x, long) => {
+            note_chain(w, u, v, x, long, ends);
+            long
+        }
+        Meeting::Never => longest,
+    }
+}
+
+// Notes the end of every variable's chain. Each binding is followed twice at most.
+fn note_ends(w: &[u32], u: Used, ends: &mut [u32])
+    requires { ⌜ Lay (now w) u × Noted (now w) u 0 (now ends) ⌝ }
+    ensures { λ _. ⌜ Known (now (w .entry)) u (now (ends .exit)) × (length (now (ends .exit)) ≡ 1024) ⌝ }
+{
+    let n = u.vars;
+    let mut longest: u32 = 0;
+    let mut i: u32 = 0;
+    while i < n {
+        longest = note_end(w, u, table::tvar(i), longest, ends);
+        i = i + 1;
+    }
+}
+
+// The end of v's chain; what is noted is not looked for again.
+fn chain_end(w: &[u32], u: Used, v: TVar, ends: &[u32]) -> TVar
+    requires { ⌜ Lay (now w) u × Known (now w) u (now ends) ⌝ }
+    ensures { λ r. ⌜ ((ds : List d.Struct) → r .0 ≡ forward-tvar (seen (now (w .entry)) u ds) (v .0)) ⌝ }
+{
+    let known = noted(ends, v);
+    if 0 < known {
+        return table::tvar(known - 1);
+    }
+    forward_tvar(w, u, v)
 }
 
 // ---- ready_tvars
 
-fn ready_onward(w: &[u32], u: Used, s: Shape) -> Onward
-    requires { ⌜ Lay (now w) u ⌝ }
+fn ready_onward(w: &[u32], u: Used, s: Shape, ends: &[u32]) -> Onward
+    requires { ⌜ Lay (now w) u × Known (now w) u (now ends) ⌝ }
     ensures { λ r. ⌜ Goes (now (w .entry)) u s r ⌝ }
 {
     match s {
@@ -500,7 +624,7 @@ fn ready_onward(w: &[u32], u: Used, s: Shape) -> Onward
         Shape::Param(_, _) => Onward::Parts(0),
         Shape::Apply(_, _, _, many) => Onward::Parts(many),
         Shape::Var(v) => {
-            let last = forward_tvar(w, u, v);
+            let last = chain_end(w, u, v, ends);
             match table::bound_at(w, u, last) {
                 Found::Nothing => Onward::Open(last),
                 Found::Just(t) => Onward::Bound(t),
@@ -512,8 +636,8 @@ fn ready_onward(w: &[u32], u: Used, s: Shape) -> Onward
 }
 
 // A call for each bound variable on the way.
-fn land(w: &[u32], u: Used, t: u32, left: u32) -> Landing
-    requires { ⌜ Lay (now w) u × (t < u .nodes) ⌝ }
+fn land(w: &[u32], u: Used, t: u32, left: u32, ends: &[u32]) -> Landing
+    requires { ⌜ Lay (now w) u × ((t < u .nodes) × Known (now w) u (now ends)) ⌝ }
     ensures { λ r. ⌜ Lands (now (w .entry)) u t left r ⌝ }
 {
     let mut at = t;
@@ -523,7 +647,7 @@ fn land(w: &[u32], u: Used, t: u32, left: u32) -> Landing
         let loc = n.loc;
         let s = n.shape;
         calls = calls - 1;
-        match ready_onward(w, u, s) {
+        match ready_onward(w, u, s, ends) {
             Onward::Parts(many) => {
                 return Landing::Parts(at, many, calls);
             }
@@ -579,6 +703,29 @@ fn stays(u: Used, t: u32) -> Step
     }
 }
 
+// An answer, field by field: copied whole, its padding would take 16 bytes more of each level's stack.
+fn anew(s: Step) -> Step
+    ensures { λ r. ⌜ r ≡ s ⌝ }
+{
+    let u = s.used;
+    let o = s.out;
+    let x = match o {
+        Out::Done(t) => Out::Done(t),
+        Out::Subtype(a, b) => Out::Subtype(a, b),
+        Out::Incompatible(a, b) => Out::Incompatible(a, b),
+        Out::Arity(a, b) => Out::Arity(a, b),
+        Out::Recursive(loc) => Out::Recursive(loc),
+        Out::Full => Out::Full,
+        Out::Deep => Out::Deep,
+        Out::Itself => Out::Itself,
+        Out::Disagree => Out::Disagree,
+        Out::Open => Out::Open,
+        Out::NoArgument => Out::NoArgument,
+        Out::Twice => Out::Twice,
+    };
+    Step { out: x, used: u }
+}
+
 // Node t anew, with these parts; a type without parts and without a name stays.
 fn rebuild(w: &mut [u32], u: Used, t: u32, ready: [u16; 8], many: u32) -> Step
     requires { ⌜ Lay (now w) u × ((t < u .nodes) × (Has-parts (now w) u t many × Parts (u .nodes) ready many)) ⌝ }
@@ -603,12 +750,13 @@ fn rebuild_bare(w: &mut [u32], u: Used, t: u32) -> Step
     requires { ⌜ Lay (now w) u × ((t < u .nodes) × Has-parts (now w) u t 0) ⌝ }
     ensures { λ r. ⌜ After (now (w .entry)) u (now (w .exit)) r (λ s. rebuilt-at s t []) ⌝ }
 {
-    rebuild(w, u, t, [0; 8], 0)
+    let b = rebuild(w, u, t, [0; 8], 0);
+    anew(b)
 }
 
 // The parts of node t, one after the other; then the node. The call for a part is the only one that a level waits for: 224 bytes of stack.
-fn ready_types(w: &mut [u32], u: Used, t: u32, many: u32, left: u32) -> Step
-    requires { ⌜ Lay (now w) u × ((t < u .nodes) × Has-parts (now w) u t many) ⌝ }
+fn ready_types(w: &mut [u32], u: Used, t: u32, many: u32, left: u32, ends: &[u32]) -> Step
+    requires { ⌜ Lay (now w) u × ((t < u .nodes) × (Has-parts (now w) u t many × Known (now w) u (now ends))) ⌝ }
     ensures { λ r. ⌜ After (now (w .entry)) u (now (w .exit)) r (λ s. by-parts-at (λ s t. ready left s t) s t) ⌝ }
 {
     let mut tys: [u16; 8] = [0; 8];
@@ -616,12 +764,12 @@ fn ready_types(w: &mut [u32], u: Used, t: u32, many: u32, left: u32) -> Step
     let mut i: u32 = 0;
     while i < many {
         let p = part_of(w, cur, t, i);
-        let a = ready(w, cur, p, left);
+        let a = ready(w, cur, p, left, ends);
         let o = a.out;
         let next = a.used;
         match table::done_of(o) {
             Found::Nothing => {
-                return a;
+                return anew(a);
             }
             Found::Just(x) => {
                 let at = wide(i);
@@ -631,20 +779,21 @@ fn ready_types(w: &mut [u32], u: Used, t: u32, many: u32, left: u32) -> Step
             }
         }
     }
-    rebuild(w, cur, t, tys, many)
+    let b = rebuild(w, cur, t, tys, many);
+    anew(b)
 }
 
 // ready_tvars, at most `left` calls deep.
-fn ready(w: &mut [u32], u: Used, t: u32, left: u32) -> Step
-    requires { ⌜ Lay (now w) u × (t < u .nodes) ⌝ }
+fn ready(w: &mut [u32], u: Used, t: u32, left: u32, ends: &[u32]) -> Step
+    requires { ⌜ Lay (now w) u × ((t < u .nodes) × Known (now w) u (now ends)) ⌝ }
     ensures { λ r. ⌜ After (now (w .entry)) u (now (w .exit)) r (λ s. ready left s t) ⌝ }
 {
-    match land(w, u, t, left) {
+    match land(w, u, t, left, ends) {
         Landing::Parts(x, many, calls) => {
             if many == 0 {
                 return rebuild_bare(w, u, x);
             }
-            ready_types(w, u, x, many, calls)
+            ready_types(w, u, x, many, calls, ends)
         }
         Landing::Open(loc, v) => table::push_node(w, u, loc, Shape::Var(v)),
         Landing::Spent => Step {
@@ -654,17 +803,41 @@ fn ready(w: &mut [u32], u: Used, t: u32, left: u32) -> Step
     }
 }
 
+// A type of fewer than 64 parts: no ends are noted.
+fn ready_near(w: &mut [u32], u: Used, t: u32) -> Step
+    requires { ⌜ Lay (now w) u × (t < u .nodes) ⌝ }
+    ensures { λ r. ⌜ After (now (w .entry)) u (now (w .exit)) r (λ s. ready (u .nodes * 2) s t) ⌝ }
+{
+    let none: [u32; 1] = [0; 1];
+    let n = u.nodes;
+    ready(w, u, t, n * 2, &none)
+}
+
+// A type of any size: every end is noted first.
+fn ready_far(w: &mut [u32], u: Used, t: u32) -> Step
+    requires { ⌜ Lay (now w) u × (t < u .nodes) ⌝ }
+    ensures { λ r. ⌜ After (now (w .entry)) u (now (w .exit)) r (λ s. ready (u .nodes * 2) s t) ⌝ }
+{
+    let mut ends: [u32; 1024] = [0; 1024];
+    note_ends(w, u, &mut ends);
+    let n = u.nodes;
+    ready(w, u, t, n * 2, &ends)
+}
+
 // Replaces every bound variable by its binding, in every part.
 pub fn ready_tvars(w: &mut [u32], u: Used, t: u32) -> Step
     requires { ⌜ Lay (now w) u × (t < u .nodes) ⌝ }
     ensures { λ r. ⌜ After (now (w .entry)) u (now (w .exit)) r (λ s. ready-tvars s t) ⌝ }
 {
-    if reaches_itself(w, u, t) {
+    let rest = soon_over(w, u, t, u.nodes, 64);
+    if 0 < rest {
+        return ready_near(w, u, t);
+    }
+    if never_over(w, u, t) {
         return Step {
             out: Out::Itself,
             used: u,
         };
     }
-    let n = u.nodes;
-    ready(w, u, t, n * 2)
+    ready_far(w, u, t)
 }

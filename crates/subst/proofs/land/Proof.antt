@@ -6,13 +6,13 @@ use Rattle.subst.proofs.land.Statement.{statement}
 use Rattle.subst.proofs.land.Tie as tie
 
 abbrev Inv-loop : tie.InvT-loop
-Inv-loop w u t left at₀ calls₀ at calls = Coming w u t left at calls
+Inv-loop w u t left ends at₀ calls₀ at calls = Coming w u t left at calls
 
 abbrev μ-loop : tie.MeasureT-loop
-μ-loop w u t left at₀ calls₀ at calls = calls
+μ-loop w u t left ends at₀ calls₀ at calls = calls
 
 loop-holds : tie.Need-loop-holds Inv-loop μ-loop
-loop-holds c = coming-start _ _ _ _ (c .before .pre .0) (c .before .pre .1)
+loop-holds c = coming-start _ _ _ _ (c .before .before .pre .0) (c .before .before .pre .1 .0)
 
 node-at-requires : tie.Need-node-at-requires Inv-loop μ-loop
 node-at-requires c κs = c .before .loop .inv .lay
@@ -21,7 +21,7 @@ sub-calls : tie.Need-sub-calls Inv-loop μ-loop
 sub-calls c = omega arith
 
 ready-onward-requires : tie.Need-ready-onward-requires Inv-loop μ-loop
-ready-onward-requires c κs = c .before .before .loop .inv .lay
+ready-onward-requires c κs = (c .before .before .loop .inv .lay, c .before .before .before .before .before .pre .1 .1)
 
 enum-known-many : tie.Need-enum-known-many Inv-loop μ-loop
 enum-known-many c = search needs

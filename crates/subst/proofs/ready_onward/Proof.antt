@@ -23,8 +23,8 @@ enum-known-s c = search needs
 enum-known-s-2 : tie.Need-enum-known-s-2
 enum-known-s-2 c = search needs
 
-forward-tvar-requires : tie.Need-forward-tvar-requires
-forward-tvar-requires c κs = search needs
+chain-end-requires : tie.Need-chain-end-requires
+chain-end-requires c κs = search needs
 
 bound-at-requires : tie.Need-bound-at-requires
 bound-at-requires c κs = search needs
@@ -58,10 +58,10 @@ unfolding as-var with-args places
 returns-4 c = goes-plain _ _ _ _ (λ s. rw (c .before .s .given .1) refl) (rw (c .before .s .given .1) refl)
 
 returns-5 : tie.Need-returns-5
-returns-5 c = goes-open _ _ _ _ _ (c .before .before .before .before .before .s2 .given .1) (c .before .before .before .forward-tvar .ensures) _ (c .before .before .bound-at .ensures) (c .enum-told4 .given .1)
+returns-5 c = goes-open _ _ _ _ _ (c .before .before .before .before .before .s2 .given .1) (c .before .before .before .chain-end .ensures) _ (c .before .before .bound-at .ensures) (c .enum-told4 .given .1)
 
 returns-6 : tie.Need-returns-6
-returns-6 c = goes-bound _ _ _ _ _ (c .before .before .before .before .before .before .s2 .given .1) (c .before .before .before .before .forward-tvar .ensures) _ (c .before .before .before .bound-at .ensures) (c .before .before .before .before .before .before .before .before .before .pre) _ (c .before .t .given .1)
+returns-6 c = goes-bound _ _ _ _ _ (c .before .before .before .before .before .before .s2 .given .1) (c .before .before .before .before .chain-end .ensures) _ (c .before .before .before .bound-at .ensures) (c .before .before .before .before .before .before .before .before .before .before .pre .0) _ (c .before .t .given .1)
 
 returns-7 : tie.Need-returns-7
 unfolding as-var with-args
@@ -80,7 +80,7 @@ ready-onward-spec =
     enum-told-3
     enum-known-s
     enum-known-s-2
-    forward-tvar-requires
+    chain-end-requires
     bound-at-requires
     enum-told-4
     enum-known-t
