@@ -52,15 +52,11 @@ unfoldable pub struct-abilities : State → ℕ → ℕ
 struct-abilities s n = getD (s .structs) n (record { abilities = 0; params = [] }) .abilities
 
 unfoldable pub declared-abilities : State → TypeName → ℕ
-declared-abilities s (Multiple n) = collection
-declared-abilities s (Builtin b) = builtin-abilities b
-declared-abilities s (ModuleType n) = struct-abilities s n
+declared-abilities s n = elim n [ Multiple len ↦ collection | Builtin b ↦ builtin-abilities b | ModuleType m ↦ struct-abilities s m ]
 
 -- argument i counts: a struct's phantom arguments do not
 unfoldable pub counts : State → TypeName → ℕ → Bool
-counts s (Multiple n) i = true
-counts s (Builtin b) i = true
-counts s (ModuleType n) i = ltb (getD (struct-tparams s n) i 0) 16
+counts s n i = elim n [ Multiple len ↦ true | Builtin b ↦ true | ModuleType m ↦ ltb (getD (struct-tparams s m) i 0) 16 ]
 
 -- the place of the first argument that counts and lacks; the first of all has place i
 unfoldable pub first-lacking : (ℕ → Bool) → (ℕ → Bool) → ℕ → List ℕ → Option ℕ
@@ -68,8 +64,7 @@ first-lacking counts lacks i [] = none
 first-lacking counts lacks i (ty ∷ tys) = elim (counts i && lacks ty) [ true ↦ some i | false ↦ first-lacking counts lacks (suc i) tys ]
 
 unfoldable pub is-none : Option ℕ → Bool
-is-none none = true
-is-none (some i) = false
+is-none place = elim place [ none ↦ true | some i ↦ false ]
 
 -- ---- infer_abilities
 -- over the abilities that `infer` gives each argument
@@ -103,13 +98,11 @@ infer-abilities s ty = infer (count s) s ty
 -- ---- ability_not_satisified_tips: the rule that decided that an ability is missing
 -- the declaration lacks it; the argument at a place lacks what is needed; neither, so that a mark is contradicted
 pub data Rule : Type 0 where
-  declaration : Rule
+  declaration contradicted : Rule
   argument : ℕ → Rule
-  contradicted : Rule
 
 unfoldable pub by-argument : Option ℕ → Rule
-by-argument none = contradicted
-by-argument (some i) = argument i
+by-argument place = elim place [ none ↦ contradicted | some i ↦ argument i ]
 
 -- of an unfolded type. What (), a reference or a parameter lacks nothing grants; `_` and `!` lack nothing
 unfoldable pub rule : State → ℕ → Type-value → Rule

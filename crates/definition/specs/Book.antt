@@ -1,8 +1,7 @@
 -- What the Move Book says of subtyping, of integer literals and of abilities, in its own terms, and what that claims of subtype, join and SV. Assumes nothing: these are definitions.
 use mathlib.Core.Logic.{_≢_, _↔_}
 use Prim.Native.Nat.{_≤_}
-use Rattle.definition.specs.Types.{_≡_, Bool, true, false, List, [], _∷_, none, some, ℕ, _<_, length, getD, TypeName, Multiple, Builtin, ModuleType, Mark, Type-value, UnitType, Ref, Param, Apply, Var, Anything, UnresolvedError, State, TypingError, SubtypeError, Incompatible, ArityMismatch}
-use Rattle.definition.specs.Types.{Refusal, full, too-deep, runs-into-itself, abilities-disagree, mark-contradicted, Result, ok, err, refused}
+use Rattle.definition.specs.Types.{_≡_, Bool, true, false, List, [], _∷_, none, some, ℕ, _<_, length, getD, TypeName, Multiple, Builtin, ModuleType, Mark, Type-value, UnitType, Ref, Param, Apply, Var, Anything, UnresolvedError, State, TypingError, SubtypeError, Incompatible, ArityMismatch, Refusal, full, too-deep, runs-into-itself, abilities-disagree, mark-contradicted, Result, ok, err, refused}
 use Rattle.definition.specs.Store.{count, type-at, get, num-loc}
 use Rattle.definition.specs.Subst.{forward-tvar, unfold-type}
 use Rattle.definition.specs.Join.{is-multiple, join, subtype}
@@ -80,26 +79,19 @@ mutual
     are-each : {p : ℕ} {ps : List ℕ} {T : MoveType} {Ts : MoveTypes} → Denotes s p T → Denote s ps Ts → Denote s (p ∷ ps) (_and_ T Ts)
 
 -- ---- the Book's abilities
-
 pub data Ability : Type 0 where
   copy drop store key : Ability
 
 -- a declared set is the sum of these
 abbrev pub bit : Ability → ℕ
-bit copy = 1
-bit drop = 2
-bit store = 4
-bit key = 8
+bit a = elim a [ copy ↦ 1 | drop ↦ 2 | store ↦ 4 | key ↦ 8 ]
 
 abbrev pub In-set : Ability → ℕ → Type 0
 In-set a set = has set (bit a) ≡ true
 
 -- what a type needs of its arguments: for key store, for each other ability itself
 abbrev pub needed : Ability → Ability
-needed copy = copy
-needed drop = drop
-needed store = store
-needed key = store
+needed a = elim a [ copy ↦ copy | drop ↦ drop | store ↦ store | key ↦ store ]
 
 pub data Not-key : Ability → Type 0 where
   is-copy : Not-key copy
@@ -169,7 +161,7 @@ Subtype-rule Sub s l r L R = Comes-to (λ s′ t. Sub L R × Denotes s′ t R) (
 unfoldable pub Join-rule : Relation → State → ℕ → ℕ → MoveType → MoveType → Type 0
 Join-rule Sub s l r L R = Comes-to (λ s′ t. (T : MoveType) × Least Sub L R T × Denotes s′ t T) ((U : MoveType) → Sub L U → Sub R U → ⊥) (join s l r)
 
--- 7; and 9 and 16, which ability constraints bring (proofs/SolveRefused.antt)
+-- 7; and 9 and 16, which ability constraints bring (theorems/proofs/SolveRefused.antt)
 pub data SV-refused : Refusal → Type 0 where
   sv-full : SV-refused full
   sv-itself : SV-refused runs-into-itself
@@ -181,7 +173,7 @@ Literal-rule v t (ok (s, failures)) = (loc : ℕ) → unfold-type s (record { lo
 Literal-rule v t (err s e) = ⊥
 Literal-rule v t (refused x) = SV-refused x
 
--- proofs/Book.antt: it holds of every sound state. How much space and depth suffice: proofs/BookDeep.antt
+-- theorems/proofs/Book.antt: it holds of every sound state. How much space and depth suffice: theorems/proofs/BookDeep.antt
 pub record The-Book (s : State) : Type 0 where
   pub subtype-book : (l r : ℕ) (L R : MoveType) → Denotes s l L → Denotes s r R → Book-type L → Subtype-rule Book-subtype s l r L R
   pub join-book : (l r : ℕ) (L R : MoveType) → Denotes s l L → Denotes s r R → Book-type L → Book-type R → Join-rule Book-subtype s l r L R

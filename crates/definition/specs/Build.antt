@@ -8,26 +8,16 @@ unfoldable mutual
   build (unit-tree loc) s = sp s loc UnitType
   build (anything-tree loc) s = sp s loc Anything
   build (error-tree loc) s = sp s loc UnresolvedError
-  build (ref-tree loc mut t) s = do
-    (s, t) ← build t s
-    sp s loc (Ref mut t)
+  build (ref-tree loc mut t) s = do (s, t) ← build t s; sp s loc (Ref mut t)
   build (param-tree loc id abilities) s = sp s loc (Param id abilities)
-  build (apply-tree loc k n ts) s = do
-    (s, tys) ← build-all ts s
-    sp s loc (Apply k n tys)
+  build (apply-tree loc k n ts) s = do (s, tys) ← build-all ts s; sp s loc (Apply k n tys)
   build (var-tree loc v) s = sp s loc (Var v)
 
   pub build-all : Trees → State → Result (State × List ℕ)
   build-all no-trees s = ok (s, [])
-  build-all (_then_ t ts) s = do
-    (s, t) ← build t s
-    (s, ts) ← build-all ts s
-    ok (s, t ∷ ts)
+  build-all (_then_ t ts) s = do (s, t) ← build t s; (s, ts) ← build-all ts s; ok (s, t ∷ ts)
 
 -- TS's arguments, from left to right, each with its parameter's id
 unfoldable pub build-pairs : List (ℕ × Tree) → State → Result (State × List (ℕ × ℕ))
 build-pairs [] s = ok (s, [])
-build-pairs ((id, t) ∷ pairs) s = do
-  (s, t) ← build t s
-  (s, pairs) ← build-pairs pairs s
-  ok (s, (id, t) ∷ pairs)
+build-pairs ((id, t) ∷ pairs) s = do (s, t) ← build t s; (s, pairs) ← build-pairs pairs s; ok (s, (id, t) ∷ pairs)

@@ -1,1 +1,1 @@
-// The definition in specs/ and the theorems over it in proofs/: no code.
+// The definition in specs/, and answers that it computes in proofs/: no code.

@@ -8,9 +8,9 @@ use Rattle.definition.specs.Trees.{Tree}
 use Rattle.definition.specs.Build.{build}
 use Rattle.definition.specs.Record as d
 use Rattle.definition.specs.Record.{Record}
-use Rattle.definition.proofs.Ranges.{Ranges}
-use Rattle.definition.proofs.WellRead.{TreeIn, RecordIn}
-use Rattle.definition.proofs.Walk.{e-ok, bind, place-run, pairs-run}
+use Rattle.theorems.proofs.Ranges.{Ranges}
+use Rattle.theorems.proofs.WellRead.{TreeIn, RecordIn}
+use Rattle.theorems.proofs.Walk.{e-ok, bind, place-run, pairs-run}
 use Rattle.table.specs.State.{view, seen}
 use Rattle.table.specs.declared.Used.{Used}
 use Rattle.writer.specs.Bytes.{All-bytes}

@@ -12,7 +12,7 @@ use lib.ListN.{length, replicate, take, set, length-set}
 use lib.Seq.{take-all, take-suc-set}
 use Rattle.definition.specs.Types.{fresh}
 use Rattle.definition.specs.Write.{Bytes}
-use Rattle.definition.proofs.SoundKept.{fresh-sound}
+use Rattle.theorems.proofs.SoundKept.{fresh-sound}
 use Rattle.table.specs.Tab.{tab}
 use Rattle.table.specs.Rows.{node-table, arg-table, var-table, constraint-table, struct-table, node-words, shape-words, arg-words, cell-words, constraint-words, struct-words, option-flag, option-word, flag}
 use Rattle.table.specs.Encode.{flat, table-words, counts, encode}

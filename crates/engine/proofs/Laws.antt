@@ -18,9 +18,9 @@ use Rattle.definition.specs.Step as step
 use Rattle.definition.specs.Step.{lent, step, step-stream, usable, max-buffer}
 use Rattle.definition.specs.Job.{ends-job}
 use Rattle.pieces.specs.Pieces.{max-line, max-place, takes-on, next-lines}
-use Rattle.definition.proofs.Facts.{and-l, and-r, test}
-use Rattle.definition.proofs.SoundKept.{trusted}
-use Rattle.definition.proofs.Soundness.{and, le-test}
+use Rattle.theorems.proofs.Facts.{and-l, and-r, test}
+use Rattle.theorems.proofs.SoundKept.{trusted}
+use Rattle.theorems.proofs.Soundness.{and, le-test}
 use Rattle.table.specs.Encode.{encode}
 use Rattle.table.specs.State.{seen, Declares}
 use Rattle.table.specs.declared.Used.{Used}

@@ -6,7 +6,7 @@ use Prim.Native.Nat.{ℕ, zero, suc, _+_, _-_, _≤_, _<_}
 use native.Mathlib.Omega.{arith}
 use lib.ListN.{length, take, drop}
 use Rattle.definition.specs.Write.{Is-bytes}
-use Rattle.definition.proofs.WellRead.{bytes-append}
+use Rattle.theorems.proofs.WellRead.{bytes-append}
 use Rattle.joinlog.specs.Turns.{Within, Held, held, Turned, reads, lists, bytes-read, first, Turns, none, and-turn, Ran}
 use Rattle.joinlog.proofs.Logs.{turns-log, turns-front}
 

@@ -12,9 +12,9 @@ use Rattle.definition.specs.Write.{Bytes, Is-bytes}
 use Rattle.definition.specs.Sound.{sound}
 use Rattle.definition.specs.Job.{job-from, job-log, lines, joinlog}
 use Rattle.pieces.specs.Pieces.{Piece, next-lines}
-use Rattle.definition.proofs.Facts.{and-l}
-use Rattle.definition.proofs.WellRead.{bytes-append}
-use Rattle.definition.proofs.SoundKept.{fresh-sound}
+use Rattle.theorems.proofs.Facts.{and-l}
+use Rattle.theorems.proofs.WellRead.{bytes-append}
+use Rattle.theorems.proofs.SoundKept.{fresh-sound}
 use Rattle.pieces.proofs.Pieces.{log-from, onward, piece-follows}
 use Rattle.table.specs.Encode.{encode}
 use Rattle.lent.specs.Lent.{decode, encode-params}

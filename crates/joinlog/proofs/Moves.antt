@@ -10,7 +10,7 @@ use lib.IntN.{ℤ, pos, negsuc}
 use lib.ListN.{length, getD, take, drop, set, length-set, length-drop}
 use lib.Seq.{take-suc, take-nil, take-suc-set, drop-set-lt, getD-drop, drop-drop, length-take-le, take-take, take-append-le}
 use Rattle.io.specs.Counts.{clamped}
-use Rattle.definition.proofs.Facts.{and-r, test}
+use Rattle.theorems.proofs.Facts.{and-r, test}
 use Rattle.joinlog.specs.declared.Turn.{Turn}
 use Rattle.joinlog.specs.Turns.{negative, at-hand, short}
 

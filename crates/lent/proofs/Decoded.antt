@@ -16,8 +16,8 @@ use Rattle.definition.specs.Store.{count, taken, node, nowhere, with-structs, a
 use Rattle.definition.specs.Trees.{mark-fits, is-set, is-mark, is-name}
 use Rattle.definition.specs.Sound as sd
 use Rattle.definition.specs.Sound.{sound, is-u32, places-fit, shape-allowed, node-allowed, at-node, constraint-allowed, struct-allowed}
-use Rattle.definition.proofs.Facts.{of-each, fields, shape}
-use Rattle.definition.proofs.Soundness.{Is-sound, sound-is}
+use Rattle.theorems.proofs.Facts.{of-each, fields, shape}
+use Rattle.theorems.proofs.Soundness.{Is-sound, sound-is}
 use Rattle.table.specs.Tab.{tab}
 use Rattle.table.specs.Rows.{Table, row, words-at, entries, flag, read-mark, mark-word, read-option, option-flag, option-word, read-name, name-tag, name-word, places, read-shape, shape-words, read-node, node-words, read-arg, arg-words, read-cell, cell-words, read-constraint, constraint-words, read-struct, struct-words, node-table, arg-table, var-table, constraint-table, struct-table}
 use Rattle.table.specs.State.{view, seen, Lay, Declares}

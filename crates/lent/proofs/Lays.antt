@@ -17,8 +17,8 @@ use Rattle.definition.specs.Instantiate.{builtin-tparams, struct-tparams}
 use Rattle.definition.specs.Trees.{arity, mark-fits, is-set, is-mark, is-name}
 use Rattle.definition.specs.Sound as sd
 use Rattle.definition.specs.Sound.{sound, smaller-than, is-u32, places-fit, shape-allowed, node-allowed, struct-allowed}
-use Rattle.definition.proofs.Facts.{of-each, at-place, smaller, shape, fields, in-nodes, cell, bound-taken}
-use Rattle.definition.proofs.Soundness.{Is-sound, sound-is}
+use Rattle.theorems.proofs.Facts.{of-each, at-place, smaller, shape, fields, in-nodes, cell, bound-taken}
+use Rattle.theorems.proofs.Soundness.{Is-sound, sound-is}
 use Rattle.table.specs.Tab.{tab}
 use Rattle.table.specs.Rows.{row, words-at, entries, Clean, struct-words, read-struct, node-table, arg-table, var-table, constraint-table, struct-table}
 use Rattle.table.specs.State.{view, seen, Below, Inside, Lay, Declares}

@@ -16,7 +16,7 @@ use Rattle.definition.specs.Join.{is-numeric}
 use Rattle.definition.specs.Instantiate.{builtin-tparams, struct-tparams}
 use Rattle.definition.specs.Trees.{has-drop, mark-fits, arity, is-set, is-mark, is-name}
 use Rattle.definition.specs.Sound.{smaller-than, is-u32, places-fit, shape-allowed}
-use Rattle.definition.proofs.Facts.{of-each}
+use Rattle.theorems.proofs.Facts.{of-each}
 use Rattle.table.specs.Rows.{flag, read-mark, mark-word, read-name, name-tag, name-word, read-shape, shape-words, places, entries, arg-table, struct-table}
 use Rattle.table.specs.State.{view, seen}
 use Rattle.table.specs.declared.Used.{Used}

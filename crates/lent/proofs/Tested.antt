@@ -16,8 +16,8 @@ use Rattle.definition.specs.Subst.{parts}
 use Rattle.definition.specs.Sound as sd
 use Rattle.definition.specs.Sound.{sound, counts-fit, smaller-than, is-u32, node-allowed, shape-allowed, binding-allowed, numeric-allowed, cell-allowed, constraint-allowed, struct-allowed, fields-allowed, no-anything, no-binding-anything, chain-ends, chains-end}
 use Rattle.definition.specs.Trees.{is-set}
-use Rattle.definition.proofs.Facts as f
-use Rattle.definition.proofs.Facts.{of-each, at-place}
+use Rattle.theorems.proofs.Facts as f
+use Rattle.theorems.proofs.Facts.{of-each, at-place}
 use Rattle.table.specs.Tab.{tab}
 use Rattle.table.specs.Rows.{row, words-at, entries, read-node, node-words, shape-words, read-arg, arg-words, read-cell, cell-words, read-constraint, constraint-words, read-struct, struct-words, read-option, option-flag, option-word, read-shape, node-table, arg-table, var-table, constraint-table, struct-table}
 use Rattle.table.specs.State.{view, seen}

@@ -9,8 +9,8 @@ use borrow.Author.Tests.{leb-true}
 use Rattle.definition.specs.Types.{TypeName, Multiple, Builtin, ModuleType}
 use Rattle.definition.specs.Trees.{Tree, unit-tree, anything-tree, error-tree, ref-tree, param-tree, apply-tree, var-tree, Trees, no-trees, _then_}
 use Rattle.definition.specs.Needs.{Needs, takes, _plus_, merge, needs, needs-args}
-use Rattle.definition.proofs.JoinAnswers.{tree-size, trees-size}
-use Rattle.definition.proofs.JoinWrites.{name-size}
+use Rattle.theorems.proofs.JoinAnswers.{tree-size, trees-size}
+use Rattle.theorems.proofs.JoinWrites.{name-size}
 use Rattle.names.specs.Names.{name-of}
 use Rattle.table.specs.declared.Shape.{Shape}
 use Rattle.table.specs.declared.Shape.the-variants.{Unit as UnitS, Ref, Param, Apply, Var, Anything, UnresolvedError}

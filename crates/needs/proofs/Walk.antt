@@ -12,7 +12,7 @@ use Rattle.definition.specs.Write.{Bytes}
 use Rattle.definition.specs.Reader.{Read, got, not-read, Reader, give, go-on, _>>=_}
 use Rattle.definition.specs.Trees.{Tree, Trees, no-trees, _then_, read-trees, read-nested}
 use Rattle.definition.specs.Needs.{Needs, _plus_}
-use Rattle.definition.proofs.JoinAnswers.{tree-size, trees-size, Spent, spent, unread, pays-nested}
+use Rattle.theorems.proofs.JoinAnswers.{tree-size, trees-size, Spent, spent, unread, pays-nested}
 use Rattle.table.specs.State.{Declares, view}
 use Rattle.table.specs.declared.Used.{Used}
 use Rattle.table.specs.declared.Shape.{Shape}

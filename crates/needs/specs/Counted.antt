@@ -9,7 +9,7 @@ use Rattle.definition.specs.Write.{Bytes}
 use Rattle.definition.specs.Reader.{Read, got, not-read}
 use Rattle.definition.specs.Trees.{Tree}
 use Rattle.definition.specs.Needs.{Needs, takes, _plus_, merge, needs}
-use Rattle.definition.proofs.JoinAnswers.{tree-size}
+use Rattle.theorems.proofs.JoinAnswers.{tree-size}
 use Rattle.table.specs.State.{Declares}
 use Rattle.table.specs.declared.Used.{Used}
 use Rattle.table.specs.declared.Shape.{Shape}

@@ -10,12 +10,12 @@ use Rattle.definition.specs.Store.{taken, with-structs}
 use Rattle.definition.specs.Constraints.{num-vars, default-num-vars}
 use Rattle.definition.specs.Trees.{arity}
 use Rattle.definition.specs.Sound.{sound}
-use Rattle.definition.proofs.Laws.{type-on, OnNodes}
-use Rattle.definition.proofs.Facts.{facts}
-use Rattle.definition.proofs.Went.{Went, PostS, ps-ok, ps-err}
-use Rattle.definition.proofs.Runs.{num-vars-below, defaults-went}
-use Rattle.definition.proofs.Walk.{e-ok, e-err, Ends, In, starts-run}
-use Rattle.definition.proofs.SoundKept.{ranges-of}
+use Rattle.theorems.proofs.Laws.{type-on, OnNodes}
+use Rattle.theorems.proofs.Facts.{facts}
+use Rattle.theorems.proofs.Went.{Went, PostS, ps-ok, ps-err}
+use Rattle.theorems.proofs.Runs.{num-vars-below, defaults-went}
+use Rattle.theorems.proofs.Walk.{e-ok, e-err, Ends, In, starts-run}
+use Rattle.theorems.proofs.SoundKept.{ranges-of}
 use Rattle.table.specs.Rows.{constraint-table}
 use Rattle.table.specs.State.{outcome, done, view, seen, Nodes-in}
 use Rattle.table.specs.Known.{Declared}

@@ -15,11 +15,11 @@ use Rattle.definition.specs.Sound.{sound, struct-allowed}
 use Rattle.definition.specs.Trees.{is-set}
 use Rattle.definition.specs.Step as step
 use Rattle.definition.specs.Step.{lent, usable, max-buffer}
-use Rattle.definition.proofs.Order.{All}
-use Rattle.definition.proofs.Facts.{and-l, and-r, test}
-use Rattle.definition.proofs.Ranges.{StructIn}
-use Rattle.definition.proofs.Soundness.{and, le-test}
-use Rattle.definition.proofs.SoundKept.{ranges-of, sound-kept, stream-sound-kept, trusted}
+use Rattle.theorems.proofs.Order.{All}
+use Rattle.theorems.proofs.Facts.{and-l, and-r, test}
+use Rattle.theorems.proofs.Ranges.{StructIn}
+use Rattle.theorems.proofs.Soundness.{and, le-test}
+use Rattle.theorems.proofs.SoundKept.{ranges-of, sound-kept, stream-sound-kept, trusted}
 use Rattle.table.specs.Rows.{row, entries, Clean, var-table, struct-table}
 use Rattle.table.specs.State.{view, Lay, Front, Declares}
 use Rattle.table.specs.declared.Used.{Used}

@@ -12,9 +12,9 @@ use Rattle.definition.specs.Record.{Record}
 use Rattle.definition.specs.Sound.{sound}
 use Rattle.definition.specs.Step as step
 use Rattle.definition.specs.Step.{run, answer, refusal}
-use Rattle.definition.proofs.Ranges.{Ranges, StructIn}
-use Rattle.definition.proofs.WellRead.{RecordIn}
-use Rattle.definition.proofs.SoundKept.{ranges-of}
+use Rattle.theorems.proofs.Ranges.{Ranges, StructIn}
+use Rattle.theorems.proofs.WellRead.{RecordIn}
+use Rattle.theorems.proofs.SoundKept.{ranges-of}
 use Rattle.table.specs.State.{outcome, done, more, view, seen, Lay, Grown, Found-in, Declares}
 use Rattle.table.specs.declared.Used.{Used}
 use Rattle.table.specs.declared.Found.{Found}

@@ -16,7 +16,7 @@ use Rattle.definition.specs.Record.{Record, read-record}
 use Rattle.definition.specs.Sound.{sound}
 use Rattle.definition.specs.Step as step
 use Rattle.definition.specs.Step.{run, answer, refusal, number-of-refusal}
-use Rattle.definition.proofs.WellRead.{RecordIn, ReadWell, given, well-read}
+use Rattle.theorems.proofs.WellRead.{RecordIn, ReadWell, given, well-read}
 use Rattle.table.specs.Tab.{tab}
 use Rattle.table.specs.Rows.{words-at}
 use Rattle.table.specs.Encode.{encode}

@@ -8,7 +8,7 @@ use Rattle.definition.specs.Types.{ok}
 use Rattle.definition.specs.Record.{Record}
 use Rattle.definition.specs.Step as step
 use Rattle.definition.specs.Step.{run, answer}
-use Rattle.definition.proofs.WellRead.{RecordIn}
+use Rattle.theorems.proofs.WellRead.{RecordIn}
 use Rattle.table.specs.Tab.{tab}
 use Rattle.table.specs.State.{view, seen, Lay}
 use Rattle.table.specs.declared.Used.{Used}

@@ -1,0 +1,1 @@
+// What is proved of the definition; there is no code here.
