@@ -6,6 +6,7 @@ use crate::{
     list::Entry,
     record::{self, Kind, Known, Record, Ty},
 };
+use joblog::location::blank_payload;
 use std::collections::{BTreeMap, HashMap};
 
 /// A job about numbers up to its first SV; then RD of each variable from before it, and FV.
@@ -59,6 +60,14 @@ fn resolved(line: &str, known: &Known, names: &mut HashMap<u16, u16>) -> Option<
     Some(plain(&record::read_type(&payload, known).ok()?.0, names))
 }
 
+/// A line of SV, its failures' locations set to 0: the order decides at which mark's location a `u64` is stored.
+fn blank(line: &str, params: &[usize]) -> (String, Vec<u8>) {
+    let mut words = line.splitn(3, ' ').skip(1).map(String::from);
+    let number = words.next().unwrap();
+    let payload = words.next().and_then(|p| record::unhex(&p)).unwrap_or_default();
+    (number, blank_payload(b"SV", 0, &payload, params))
+}
+
 /// Counts of what differs between the list's logs and this build's.
 pub fn compare(entries: &[Entry]) -> BTreeMap<&'static str, usize> {
     let mut out = BTreeMap::new();
@@ -75,7 +84,9 @@ pub fn compare(entries: &[Entry]) -> BTreeMap<&'static str, usize> {
             match r {
                 Record::SV => {
                     solved = true;
-                    count("SV lines that differ", a != b)
+                    count("SV lines that differ", a != b);
+                    let failures = |line| blank(line, &known.params);
+                    count("of these, apart from locations", failures(a) != failures(b))
                 }
                 _ if !solved => count("lines before SV that differ", a != b),
                 Record::RD(_) => {
