@@ -6,7 +6,9 @@ use native.Mathlib.Omega.{arith}
 use native.Mathlib.Numerals.{add-one}
 use lib.ListN.{length, getD, drop, drop-of-length-le}
 use lib.Seq.{drop-cons}
-use Rattle.definition.specs.Types.{State, Struct, Constraint}
+use lib.Dec.{eqb}
+use Rattle.definition.specs.Types as d
+use Rattle.definition.specs.Types.{State, Struct, Constraint, if_then_else_}
 use Rattle.definition.specs.Store.{with-structs}
 use Rattle.definition.specs.Abilities.{all, has}
 use Rattle.definition.specs.Constraints.{solve-constraint, failures}
@@ -19,7 +21,7 @@ use Rattle.table.proofs.Pushed.{count-view, constraints-view, constraints-seen}
 use Rattle.failures.specs.Failing.{row, Is-ability, failing, Ty-in, Lacking, Asked-ready, All-ready}
 use Rattle.failures.specs.declared.Failing.{Failing}
 use Rattle.failures.proofs.Lacks.{four-rows}
-use Rattle.report.specs.Report.{Tys-in}
+use Rattle.report.specs.Report.{Tys-in, row-count}
 use Rattle.report.proofs.Series.{Pieces}
 
 abbrev blank : Constraint
@@ -36,7 +38,7 @@ module _ (w : List ℕ) (u : Used) (i : ℕ) (c : Constraint) (lt : i < u .const
   unfolding All-ready seen with-structs
   ready-in params sets h = rw (e []) (h i (rw (constraints-view w u) lt))
 
--- ---- four rows
+-- ---- four rows, of which some may hold a failure
 
 abbrev pub four : List ℕ
 four = 1 ∷ 2 ∷ 4 ∷ 8 ∷ []
@@ -57,6 +59,24 @@ each-none : (f : ℕ → Bytes) (l : List ℕ) (i : ℕ) → length l ≤ i → 
 unfolding each
 each-none f l i le = rw (drop-of-length-le l {i = i} le) refl
 
+-- bytes in the first row only
+after-first : (b : Bytes) (i : ℕ) → 1 ≤ i → each (λ ability. if eqb ability 1 then b else []) (drop i four) ≡ []
+unfolding each
+after-first b zero le = absurd (omega arith)
+after-first b (suc zero) le = refl
+after-first b (suc (suc zero)) le = refl
+after-first b (suc (suc (suc zero))) le = refl
+after-first b (suc (suc (suc (suc i)))) le = each-none (λ ability. if eqb ability 1 then b else []) four (suc (suc (suc (suc i)))) (omega arith)
+
+after-rows : (s : State) (c : Constraint) (i : ℕ) → row-count c ≤ i → each (λ ability. row s c ability) (drop i four) ≡ []
+unfolding row
+after-rows s (d.AbilityConstraint loc ty a) i le = each-none _ four i le
+after-rows s (d.NumericConstraint loc ty) i le = after-first _ i le
+after-rows s (d.BitsConstraint loc ty) i le = after-first _ i le
+after-rows s (d.OrderedConstraint loc ty) i le = after-first _ i le
+after-rows s (d.BaseTypeConstraint loc ty) i le = after-first _ i le
+after-rows s (d.SingleTypeConstraint loc ty) i le = after-first _ i le
+
 module _ (w : List ℕ) (u : Used) (c : Constraint) where
   abbrev pub all-rows : List Struct → Bytes
   all-rows ds = solve-constraint (seen w u ds) c
@@ -67,12 +87,12 @@ module _ (w : List ℕ) (u : Used) (c : Constraint) where
   unfoldable pub rows-from : List Struct → ℕ → Bytes
   rows-from ds k = each (λ ability. row (seen w u ds) c ability) (drop k four)
 
-  pub row-pieces : Pieces 4 one-row rows-from all-rows
+  pub row-pieces : (n : ℕ) → (n ≡ row-count c) × (n ≤ 4) → Pieces n one-row rows-from all-rows
   unfolding one-row rows-from
-  row-pieces = record {
+  row-pieces n h = record {
     first = λ ds. sym (four-rows (seen w u ds) c);
-    more = λ ds i lt. each-cons (λ ability. row (seen w u ds) c ability) four i lt;
-    none = λ ds i le. each-none (λ ability. row (seen w u ds) c ability) four i le;
+    more = λ ds i lt. each-cons (λ ability. row (seen w u ds) c ability) four i (omega (arith, h .1));
+    none = λ ds i le. after-rows (seen w u ds) c i (omega (arith, h .0));
   }
 
   pub row-is : (params : List (List ℕ)) (f : Failing) (ability i : ℕ) → Lacking w u params f (λ s. row s c ability) → ability ≡ getD four i 0

@@ -12,7 +12,7 @@ ghost use Rattle.table.specs.Known.{Known, Declared};
 ghost use Rattle.abilities.specs.Rules.{Place-in};
 ghost use Rattle.failures.specs.Failing.{Is-ability, Asked-ready, All-ready, why, failing, Failing-in, Ty-in};
 ghost use Rattle.writer.specs.Bytes.{capped, Few-is, Wrote, All-bytes};
-ghost use Rattle.report.specs.Report.{Tys-in};
+ghost use Rattle.report.specs.Report.{Tys-in, row-count};
 use failures::Failing;
 use table::Constraint;
 use table::Found;
@@ -27,6 +27,20 @@ fn ability_at(k: usize) -> u8
 {
     let abilities: [u8; 4] = [1, 2, 4, 8];
     abilities[k]
+}
+
+// How many rows may hold a failure: a constraint that asks for no abilities has its own in the first.
+fn row_count(c: Constraint) -> usize
+    ensures { λ r. ⌜ (r ≡ row-count (constraint-of c)) × (r ≤ 4) ⌝ }
+{
+    match c {
+        Constraint::Ability(_, _, _) => 4,
+        Constraint::Numeric(_, _) => 1,
+        Constraint::Bits(_, _) => 1,
+        Constraint::Ordered(_, _) => 1,
+        Constraint::BaseType(_, _) => 1,
+        Constraint::SingleType(_, _) => 1,
+    }
 }
 
 // How many bytes a rule has.
@@ -86,9 +100,10 @@ fn size_constraint(
     requires { ⌜ Lay (now w) u × (Ty-in (u .nodes) (constraint-of c) × (Asked-ready (now w) u (now params) (now sets) (constraint-of c) × (room ≤ 4096))) ⌝ }
     ensures { λ r. ⌜ (r ≤ room + 1) × ((ds : List d.Struct) → Known (now (w .entry)) u (now (params .entry)) ds → r ≡ capped room (length (solve-constraint (seen (now (w .entry)) u ds) (constraint-of c)))) ⌝ }
 {
+    let n = row_count(c);
     let mut size: u32 = 0;
     let mut k: usize = 0;
-    while k < 4 {
+    while k < n {
         let f = failures::row_of(w, u, params, sets, c, ability_at(k));
         size = size + size_failing(w, u, f, room - size);
         if room < size {
@@ -229,9 +244,10 @@ fn write_constraint(
     requires { ⌜ ((ds : List d.Struct) → Known (now w) u (now params) ds → at + length (solve-constraint (seen (now w) u ds) (constraint-of c)) ≤ length (now buf)) ⌝ }
     ensures { λ r. ⌜ ((ds : List d.Struct) → Known (now (w .entry)) u (now (params .entry)) ds → Wrote (now (buf .entry)) at (solve-constraint (seen (now (w .entry)) u ds) (constraint-of c)) (now (buf .exit)) r) ⌝ }
 {
+    let n = row_count(c);
     let mut next = at;
     let mut k: usize = 0;
-    while k < 4 {
+    while k < n {
         let f = failures::row_of(w, u, params, sets, c, ability_at(k));
         next = write_failing(w, u, f, buf, next);
         k = k + 1;
