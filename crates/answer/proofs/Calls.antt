@@ -20,7 +20,7 @@ use Rattle.table.proofs.Rows.{length-entries}
 use Rattle.snap.specs.Snap.{Above}
 use Rattle.table.specs.declared.Used.{Used}
 use Rattle.table.specs.declared.Out.{Out}
-use Rattle.table.specs.declared.Out.the-variants.{Done, Subtype, Incompatible, Arity, Recursive, Full, Deep, Itself, Disagree, Open, NoArgument, Twice}
+use Rattle.table.specs.declared.Out.the-variants.{Done, Failed, Refused}
 use Rattle.writer.specs.Bytes.{Name-byte, Byte-fields, All-bytes}
 use Rattle.answer.specs.Ran.{Tells}
 use Rattle.answer.specs.declared.Show.the-variants as show
@@ -85,17 +85,8 @@ write-anything s loc = append-nil (head loc Anything)
 
 pub tells-node : (u : Used) (o : Out) → Nodes-in (u .nodes) o → Tells u show.Node o
 tells-node u (Done t) h = h
-tells-node u (Subtype a b) h = h
-tells-node u (Incompatible a b) h = h
-tells-node u (Arity a b) h = h
-tells-node u (Recursive loc) h = tt
-tells-node u Full h = tt
-tells-node u Deep h = tt
-tells-node u Itself h = tt
-tells-node u Disagree h = tt
-tells-node u Open h = tt
-tells-node u NoArgument h = tt
-tells-node u Twice h = tt
+tells-node u (Failed e) h = h
+tells-node u (Refused x) h = tt
 
 -- ---- a state that has grown has no fewer rows in use
 

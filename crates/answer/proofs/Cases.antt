@@ -6,13 +6,15 @@ use Prim.Native.Nat.{ℕ, _≤_, _<_}
 use native.Mathlib.Omega.{arith}
 use lib.ListN.{length}
 use Rattle.definition.specs.Types as d
-use Rattle.definition.specs.Types.{State, Struct, _>>=_, if_then_else_, TypingError, SubtypeError, ArityMismatch, RecursiveType, answer-too-long}
+use Rattle.definition.specs.Types.{State, Struct, _>>=_, if_then_else_, TypingError, RecursiveType, answer-too-long}
 use Rattle.definition.specs.Write.{Bytes, u32, write, write-error}
 use Rattle.definition.specs.Step.{answer, answer-with, put-back, number-of-error}
-use Rattle.table.specs.State.{outcome, seen, Lay}
+use Rattle.table.specs.State.{outcome, error-of, refusal-of, seen, Lay}
 use Rattle.table.specs.declared.Used.{Used}
 use Rattle.table.specs.declared.Out.{Out}
-use Rattle.table.specs.declared.Out.the-variants.{Done, Subtype, Incompatible, Arity, Recursive}
+use Rattle.table.specs.declared.Out.the-variants.{Done, Failed, Refused}
+use Rattle.table.specs.declared.TypingError as table
+use Rattle.table.specs.declared.Refusal.{Refusal}
 use Rattle.snap.specs.Snap.{PutBack, Undone}
 use Rattle.writer.specs.Bytes.{Wrote, capped}
 use Rattle.answer.specs.Ran.{shown, ran, answered, success, failure, refused-by, Answers}
@@ -79,22 +81,10 @@ module _ (r : Ran) (after before : State) where
   unfolding ran outcome _>>=_
   is-done t e = rw e
 
-  pub is-subtype : (a b : ℕ) → r .out ≡ Subtype a b → answered r after before ≡ failure (SubtypeError a b) after before
+  pub is-failed : (x : table.TypingError) → r .out ≡ Failed x → answered r after before ≡ failure (error-of x) after before
   unfolding ran outcome _>>=_
-  is-subtype a b e = rw e
+  is-failed x e = rw e
 
-  pub is-incompatible : (a b : ℕ) → r .out ≡ Incompatible a b → answered r after before ≡ failure (d.Incompatible a b) after before
-  unfolding ran outcome _>>=_
-  is-incompatible a b e = rw e
-
-  pub is-arity : (a b : ℕ) → r .out ≡ Arity a b → answered r after before ≡ failure (ArityMismatch a b) after before
-  unfolding ran outcome _>>=_
-  is-arity a b e = rw e
-
-  pub is-recursive : (loc : ℕ) → r .out ≡ Recursive loc → answered r after before ≡ failure (RecursiveType loc) after before
-  unfolding ran outcome _>>=_
-  is-recursive loc e = rw e
-
-  pub is-refused : (o : Out) (x : d.Refusal) → ((s : State) → outcome o s ≡ d.refused x) → r .out ≡ o → answered r after before ≡ refused-by x after before
-  unfolding ran _>>=_ answer
-  is-refused o x h e = rw (e, h after)
+  pub is-refused : (x : Refusal) → r .out ≡ Refused x → answered r after before ≡ refused-by (refusal-of x) after before
+  unfolding ran outcome _>>=_ answer
+  is-refused x e = rw e

@@ -5,14 +5,14 @@ use mathlib.Core.List.{List, [], _++_}
 use Prim.Native.Nat.{ℕ, _≤_, _<_}
 use lib.ListN.{take, drop}
 use Rattle.definition.specs.Types as d
-use Rattle.definition.specs.Types.{State, Struct, Result, ok, err, _>>=_, if_then_else_, TypingError, Refusal}
+use Rattle.definition.specs.Types.{State, Struct, Result, ok, err, _>>=_, if_then_else_}
 use Rattle.definition.specs.Write.{Bytes, u16, u32, head, write}
 use Rattle.definition.specs.Step as step
 use Rattle.definition.specs.Step.{answer, refusal}
-use Rattle.table.specs.State.{outcome, seen, Lay, Declares}
+use Rattle.table.specs.State.{outcome, seen, Lay, Declares, Types-in}
 use Rattle.table.specs.declared.Used.{Used}
 use Rattle.table.specs.declared.Out.{Out}
-use Rattle.table.specs.declared.Out.the-variants.{Done, Subtype, Incompatible, Arity, Recursive, Full, Deep, Itself, Disagree, Open, NoArgument, Twice}
+use Rattle.table.specs.declared.Out.the-variants.{Done, Failed, Refused}
 use Rattle.snap.specs.Snap.{Saved, Since}
 use Rattle.answer.specs.declared.Show.{Show}
 use Rattle.answer.specs.declared.Show.the-variants.{Nothing, Number, Variable, Node, Anything, Four}
@@ -47,32 +47,14 @@ Shows u (Four a b c e) t = Unit {0}
 
 abbrev pub Tells : Used → Show → Out → Type 0
 Tells u show (Done t) = Shows u show t
-Tells u show (Subtype a b) = (a < u .nodes) × (b < u .nodes)
-Tells u show (Incompatible a b) = (a < u .nodes) × (b < u .nodes)
-Tells u show (Arity a b) = (a < u .nodes) × (b < u .nodes)
-Tells u show (Recursive loc) = Unit {0}
-Tells u show Full = Unit {0}
-Tells u show Deep = Unit {0}
-Tells u show Itself = Unit {0}
-Tells u show Disagree = Unit {0}
-Tells u show Open = Unit {0}
-Tells u show NoArgument = Unit {0}
-Tells u show Twice = Unit {0}
+Tells u show (Failed e) = Types-in (u .nodes) e
+Tells u show (Refused x) = Unit {0}
 
 -- a success or a typing error, whose answer shows the state; not a refusal
 abbrev pub Settles : Out → Type 0
 Settles (Done t) = Unit {0}
-Settles (Subtype a b) = Unit {0}
-Settles (Incompatible a b) = Unit {0}
-Settles (Arity a b) = Unit {0}
-Settles (Recursive loc) = Unit {0}
-Settles Full = ⊥
-Settles Deep = ⊥
-Settles Itself = ⊥
-Settles Disagree = ⊥
-Settles Open = ⊥
-Settles NoArgument = ⊥
-Settles Twice = ⊥
+Settles (Failed e) = Unit {0}
+Settles (Refused x) = ⊥
 
 -- ---- the definition's answers, of the state after a run and of that before it
 
@@ -82,10 +64,10 @@ answered r after before = answer before (ran r after before)
 abbrev pub success : Bool → Show → ℕ → State → State → step.Answer
 success kept show t after before = answer before (ok (if kept then after else before, shown show t after))
 
-abbrev pub failure : TypingError → State → State → step.Answer
+abbrev pub failure : d.TypingError → State → State → step.Answer
 failure e after before = answer before (err after e)
 
-abbrev pub refused-by : Refusal → State → State → step.Answer
+abbrev pub refused-by : d.Refusal → State → State → step.Answer
 refused-by x after before = refusal before x
 
 -- ---- what an answer asks

@@ -5,10 +5,10 @@ ghost use mathlib.Core.List.{List, _++_};
 ghost use Prim.Native.Nat.{ℕ, _≤_, _<_};
 ghost use lib.ListN.{length};
 ghost use Rattle.definition.specs.Types as d;
-ghost use Rattle.definition.specs.Types.{State, TypingError, Refusal};
+ghost use Rattle.definition.specs.Types.{State};
 ghost use Rattle.definition.specs.Write.{u32 as bytes-u32, write, write-error};
 ghost use Rattle.definition.specs.Step.{number-of-error, number-of-refusal};
-ghost use Rattle.table.specs.State.{view, seen, Lay};
+ghost use Rattle.table.specs.State.{error-of, refusal-of, view, seen, Lay, Types-in};
 ghost use Rattle.table.specs.declared.Out.the-variants.{Done};
 ghost use Rattle.snap.specs.Snap.{Above, PutBack, Undone};
 ghost use Rattle.writer.specs.Bytes.{Wrote, capped, All-bytes};
@@ -17,7 +17,9 @@ use snap::give_back;
 use snap::put_vars;
 use snap::undo;
 use table::Out;
+use table::Refusal;
 use table::Shape;
+use table::TypingError;
 use table::Used;
 use table::tvar;
 use writer::put_few;
@@ -177,10 +179,25 @@ pub fn put_back(
 
 // ---- the answers
 
+// The number of a refusal.
+fn number_of_refusal(x: Refusal) -> u32
+    ensures { λ r. ⌜ r ≡ number-of-refusal (refusal-of x) ⌝ }
+{
+    match x {
+        Refusal::Full => 7,
+        Refusal::TooDeep => 8,
+        Refusal::RunsIntoItself => 9,
+        Refusal::AbilitiesDisagree => 10,
+        Refusal::OpenVariable => 11,
+        Refusal::NoArgument => 12,
+        Refusal::ParameterTwice => 13,
+    }
+}
+
 // A refusal: nothing is changed.
 pub fn refuse(w: &mut [u32], u: Used, before: Used, saved: &[u32], number: u32) -> Answer
     requires { ⌜ Lay (now w) u × (Above before u × (5120 ≤ length (now saved))) ⌝ }
-    ensures { λ r. ⌜ ((x : Refusal) (buf : List ℕ) → number-of-refusal x ≡ number → Answers (now (w .entry)) u before (now (saved .entry)) buf (now (w .exit)) buf r (refused-by x)) ⌝ }
+    ensures { λ r. ⌜ ((x : d.Refusal) (buf : List ℕ) → number-of-refusal x ≡ number → Answers (now (w .entry)) u before (now (saved .entry)) buf (now (w .exit)) buf r (refused-by x)) ⌝ }
 {
     go_back(w, u, before, saved, number, 0)
 }
@@ -231,7 +248,7 @@ fn fail_two(
 ) -> Answer
     requires { ⌜ Lay (now w) u × (Above before u × (5120 ≤ length (now saved))) ⌝ }
     requires { ⌜ ((a < u .nodes) × (b < u .nodes)) × (All-bytes (view (now w) u) × (4096 ≤ length (now buf))) ⌝ }
-    ensures { λ r. ⌜ ((e : TypingError) → number-of-error e ≡ number → ((s : State) → write-error s e ≡ write s a ++ write s b) → Answers (now (w .entry)) u before (now (saved .entry)) (now (buf .entry)) (now (w .exit)) (now (buf .exit)) r (failure e)) ⌝ }
+    ensures { λ r. ⌜ ((e : d.TypingError) → number-of-error e ≡ number → ((s : State) → write-error s e ≡ write s a ++ write s b) → Answers (now (w .entry)) u before (now (saved .entry)) (now (buf .entry)) (now (w .exit)) (now (buf .exit)) r (failure e)) ⌝ }
 {
     let size = two_size(w, u, a, b);
     if MAX_PAYLOAD < size {
@@ -251,6 +268,27 @@ fn fail_at(w: &mut [u32], u: Used, before: Used, saved: &[u32], loc: u32, buf: &
     put_back(w, u, before, saved, 4, len)
 }
 
+// A typing error: it shows two types, or a location.
+fn fail(
+    w: &mut [u32],
+    u: Used,
+    before: Used,
+    saved: &[u32],
+    e: TypingError,
+    buf: &mut [u8],
+) -> Answer
+    requires { ⌜ Lay (now w) u × (Above before u × (5120 ≤ length (now saved))) ⌝ }
+    requires { ⌜ Types-in (u .nodes) e × (All-bytes (view (now w) u) × (4096 ≤ length (now buf))) ⌝ }
+    ensures { λ r. ⌜ Answers (now (w .entry)) u before (now (saved .entry)) (now (buf .entry)) (now (w .exit)) (now (buf .exit)) r (failure (error-of e)) ⌝ }
+{
+    match e {
+        TypingError::SubtypeError(a, b) => fail_two(w, u, before, saved, 1, a, b, buf),
+        TypingError::Incompatible(a, b) => fail_two(w, u, before, saved, 2, a, b, buf),
+        TypingError::ArityMismatch(a, b) => fail_two(w, u, before, saved, 3, a, b, buf),
+        TypingError::RecursiveType(loc) => fail_at(w, u, before, saved, loc, buf),
+    }
+}
+
 // The answer to what a run left.
 pub fn answer_of(w: &mut [u32], before: Used, saved: &[u32], ran: Ran, buf: &mut [u8]) -> Answer
     requires { ⌜ Lay (now w) (ran .used) × (Above before (ran .used) × (5120 ≤ length (now saved))) ⌝ }
@@ -264,16 +302,10 @@ pub fn answer_of(w: &mut [u32], before: Used, saved: &[u32], ran: Ran, buf: &mut
     let kept = ran.kept;
     match out {
         Out::Done(t) => succeed(w, u, before, saved, kept, show, t, buf),
-        Out::Subtype(a, b) => fail_two(w, u, before, saved, 1, a, b, buf),
-        Out::Incompatible(a, b) => fail_two(w, u, before, saved, 2, a, b, buf),
-        Out::Arity(a, b) => fail_two(w, u, before, saved, 3, a, b, buf),
-        Out::Recursive(loc) => fail_at(w, u, before, saved, loc, buf),
-        Out::Full => refuse(w, u, before, saved, 7),
-        Out::Deep => refuse(w, u, before, saved, 8),
-        Out::Itself => refuse(w, u, before, saved, 9),
-        Out::Disagree => refuse(w, u, before, saved, 10),
-        Out::Open => refuse(w, u, before, saved, 11),
-        Out::NoArgument => refuse(w, u, before, saved, 12),
-        Out::Twice => refuse(w, u, before, saved, 13),
+        Out::Failed(e) => fail(w, u, before, saved, e, buf),
+        Out::Refused(x) => {
+            let number = number_of_refusal(x);
+            refuse(w, u, before, saved, number)
+        }
     }
 }

@@ -9,9 +9,9 @@ use Rattle.table.specs.State.{outcome, seen, done}
 use Rattle.table.specs.declared.Step.{Step}
 use Rattle.table.specs.declared.Used.{Used}
 use Rattle.table.specs.declared.Out.{Out}
-use Rattle.table.specs.declared.Out.the-variants.{Done, Subtype, Incompatible, Arity, Recursive, Full, Deep, Itself, Disagree, Open, NoArgument, Twice}
 use Rattle.table.specs.declared.Found.{Found}
 use Rattle.table.specs.declared.Found.the-variants.{Nothing, Just}
+use Rattle.table.proofs.Steps.{stop-same}
 use Rattle.merge.proofs.Answers.{then-is}
 use Rattle.constraints.specs.Solve.{numbered, Answered}
 
@@ -20,22 +20,6 @@ unfolding numbered _>>=_
 numbered-then (ok s) h = refl
 numbered-then (err s e) h = refl
 numbered-then (refused x) h = refl
-
--- what follows an answer without a number is never reached
-stop-same : {B : Type 0} (o : Out) (s : State) (h k : State × ℕ → Result B) → done o ≡ Nothing → (outcome o s >>= h) ≡ (outcome o s >>= k)
-unfolding outcome _>>=_
-stop-same (Done t) s h k e = let z : _≡_ {A = ℕ} 0 1 = cc in absurd (omega arith)
-stop-same (Subtype a b) s h k e = refl
-stop-same (Incompatible a b) s h k e = refl
-stop-same (Arity a b) s h k e = refl
-stop-same (Recursive loc) s h k e = refl
-stop-same Full s h k e = refl
-stop-same Deep s h k e = refl
-stop-same Itself s h k e = refl
-stop-same Disagree s h k e = refl
-stop-same Open s h k e = refl
-stop-same NoArgument s h k e = refl
-stop-same Twice s h k e = refl
 
 module _ (w : List ℕ) (u : Used) (w₁ : List ℕ) (r : Step) (b : Found) (a : Answered w u w₁ r (λ s. numbered (default-num-vars s (num-vars 0 (s .vars))))) (p : b ≡ done (r .out)) where
   pub goes-on : (ds : List Struct) → (outcome (r .out) (seen w₁ (r .used) ds) >>= (λ x. solve-all (x .0))) ≡ solve-constraints (seen w u ds)

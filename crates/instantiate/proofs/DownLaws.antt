@@ -23,12 +23,13 @@ use Rattle.table.specs.declared.Node.{Node}
 use Rattle.table.specs.declared.Step.{Step}
 use Rattle.table.specs.declared.Used.{Used}
 use Rattle.table.specs.declared.Out.{Out}
-use Rattle.table.specs.declared.Out.the-variants.{Done, Itself, Open}
+use Rattle.table.specs.declared.Out.the-variants.{Done, Refused}
+use Rattle.table.specs.declared.Refusal.the-variants.{RunsIntoItself, OpenVariable}
 use Rattle.table.specs.declared.Found.{Found}
 use Rattle.table.specs.declared.Found.the-variants.{Nothing, Just}
-use Rattle.table.proofs.Steps.{after-now, grown-trans}
+use Rattle.table.proofs.Steps.{after-now, grown-trans, stop-same, then-is}
 use Rattle.walk.specs.When.{When, Placed}
-use Rattle.walk.proofs.Steps.{args-kept, bind-ok, bind-assoc, done-then, done-stop, when-after, when-at, when-stop, when-then}
+use Rattle.walk.proofs.Steps.{args-kept, bind-ok, bind-assoc, when-after, when-at, when-stop, when-then}
 use Rattle.walk.proofs.Walk.{rest}
 use Rattle.instantiate.specs.declared.Tparams.{Tparams}
 use Rattle.table.specs.Known.{Known}
@@ -36,9 +37,9 @@ use Rattle.instantiate.specs.Args.{made, listed, Listed, joined}
 use Rattle.table.proofs.Known.{known-kept}
 use Rattle.instantiate.proofs.TvarLaws.{constraint-stop, constraint-then}
 
-pub inst-zero : (K : List Struct → Type 0) (w : List ℕ) (u : Used) (left ty : ℕ) (r : Step) → Lay w u → left ≡ 0 → r ≡ record { out = Itself; used = u } → When K w u w r (λ s. instantiate-down left s ty)
+pub inst-zero : (K : List Struct → Type 0) (w : List ℕ) (u : Used) (left ty : ℕ) (r : Step) → Lay w u → left ≡ 0 → r ≡ record { out = Refused RunsIntoItself; used = u } → When K w u w r (λ s. instantiate-down left s ty)
 unfolding instantiate-down outcome
-inst-zero K w u left ty r lay z e = rw (z, e) (when-after K w u w _ _ (after-now w u Itself (λ s. instantiate-down 0 s ty) lay tt (λ ds. refl)))
+inst-zero K w u left ty r lay z e = rw (z, e) (when-after K w u w _ _ (after-now w u (Refused RunsIntoItself) (λ s. instantiate-down 0 s ty) lay tt (λ ds. refl)))
 
 -- a named type: its variables, its arguments, the joins, the node
 apply-is : (inst : State → ℕ → Result (State × ℕ)) (s : State) (loc : ℕ) (k : d.Mark) (n : d.TypeName) (tys : List ℕ)
@@ -76,9 +77,9 @@ module _ (w : List ℕ) (u : Used) (params : List (List ℕ)) (left ty : ℕ) (n
     unfolding outcome instantiate-value with-args
     inst-param id a e = stays (Param id a) (Done ty) r e r-is in-use (λ s. refl)
 
-  pub inst-var : (v : TVar) (r : Step) → nd .shape ≡ Var v → r ≡ record { out = Open; used = u } → When (Known w u params) w u w r (λ s. instantiate-down left s ty)
+  pub inst-var : (v : TVar) (r : Step) → nd .shape ≡ Var v → r ≡ record { out = Refused OpenVariable; used = u } → When (Known w u params) w u w r (λ s. instantiate-down left s ty)
   unfolding outcome instantiate-value with-args
-  inst-var v r e f = stays (Var v) Open r e f tt (λ s. refl)
+  inst-var v r e f = stays (Var v) (Refused OpenVariable) r e f tt (λ s. refl)
 
   pub inst-anything : (w′ : List ℕ) (r : Step) → nd .shape ≡ Anything → After w u w′ r (λ s. make-tvar s (nd .loc)) → When (Known w u params) w u w′ r (λ s. instantiate-down left s ty)
   unfolding instantiate-value with-args
@@ -102,7 +103,7 @@ module _ (w : List ℕ) (u : Used) (params : List (List ℕ)) (left ty : ℕ) (n
             grown = grown-trans _ _ _ (first .grown) (x .grown);
             structs = x .structs ∙ first .structs;
             is = λ ds kn. x .is ds (known-kept w u w₁ (b .used) params (first .structs) ds kn)
-                ∙ sym (done-then (b .out) (seen w₁ (b .used) ds) (λ q. instantiate-down (left - 1) (q .0) t >>= (λ p. sp (p .0) (nd .loc) (d.Ref m (p .1)))) y (sym b₁-is ∙ b₁-at))
+                ∙ then-is (b .out) (seen w₁ (b .used) ds) (λ q. instantiate-down (left - 1) (q .0) t >>= (λ p. sp (p .0) (nd .loc) (d.Ref m (p .1)))) y (sym b₁-is ∙ b₁-at)
                 ∙ ap (λ (z : Result (State × ℕ)). z >>= (λ q. instantiate-down (left - 1) (q .0) t >>= (λ p. sp (p .0) (nd .loc) (d.Ref m (p .1))))) (first .is ds)
                 ∙ ref-is ds;
             inside = x .inside;
@@ -141,7 +142,7 @@ module _ (w : List ℕ) (u : Used) (params : List (List ℕ)) (left loc : ℕ) (
         lay = made-all .lay;
         grown = made-all .grown;
         structs = made-all .structs;
-        is = λ ds kn. sym (bind-ok _) ∙ done-stop (b .out) (seen w₁ (b .used) ds) (λ x. ok x) (λ p. go (p .0, take (b .many) (b .tvars))) (sym b₁-is ∙ q) ∙ all-is ds kn;
+        is = λ ds kn. sym (bind-ok _) ∙ stop-same (b .out) (seen w₁ (b .used) ds) (λ x. ok x) (λ p. go (p .0, take (b .many) (b .tvars))) (sym b₁-is ∙ q) ∙ all-is ds kn;
         inside = made-all .stopped (sym b₁-is ∙ q);
       }
 
@@ -156,7 +157,7 @@ module _ (w : List ℕ) (u : Used) (params : List (List ℕ)) (left loc : ℕ) (
         structs = x .structs ∙ made-all .structs;
         is = λ ds kn. x .is ds (known-kept w u w₁ (b .used) params (made-all .structs) ds kn)
             ∙ ap (λ (l : List ℕ). rest (instantiate-down left) (joined loc k n (take (b .many) (b .tvars))) [] l (seen w₁ (b .used) ds)) (args-kept (view w u) (view w₁ (b .used)) (places first many) (made-all .grown) (pl .inside))
-            ∙ sym (done-then (b .out) (seen w₁ (b .used) ds) (λ p. go (p .0, take (b .many) (b .tvars))) y (sym b₁-is ∙ q)) ∙ all-is ds kn;
+            ∙ then-is (b .out) (seen w₁ (b .used) ds) (λ p. go (p .0, take (b .many) (b .tvars))) y (sym b₁-is ∙ q) ∙ all-is ds kn;
         inside = x .inside;
       }
 

@@ -21,8 +21,8 @@ use Rattle.table.specs.declared.Out.{Out}
 use Rattle.table.specs.declared.Out.the-variants.{Done}
 use Rattle.table.specs.declared.Found.{Found}
 use Rattle.table.specs.declared.Found.the-variants.{Nothing, Just}
-use Rattle.table.proofs.Steps.{changed-stop, after-now, after-stop, after-then}
-use Rattle.walk.proofs.Steps.{after-at, is-done, none-in, No-error, after-done, nodes-grow}
+use Rattle.table.proofs.Steps.{changed-stop, after-now, after-stop, after-then, No-error, done-is, none-in}
+use Rattle.walk.proofs.Steps.{after-at, after-done, nodes-grow}
 use Rattle.instantiate.specs.Args.{make-tparam}
 
 -- ---- steps that meet no error
@@ -86,7 +86,7 @@ pub tvar-small : (w : List ℕ) (u : Used) (w′ : List ℕ) (a : Step) (b : Fou
 tvar-small w u w′ a b x c i p q = omega (arith, c .lay .vars, var-in (a .out) (a .used .vars) x (sym p ∙ q) i)
   where
     var-in : (o : Out) (n t : ℕ) → done o ≡ Just t → Var-in n o → t < n
-    var-in o n t e h = rw (is-done o t e) at h
+    var-in o n t e h = rw (done-is o t e) at h
 
 pub tvar-node : (w : List ℕ) (u : Used) (w′ : List ℕ) (a : Step) (loc : ℕ) (b : Found) (x : ℕ) (id : TVar) (w₂ : List ℕ) (r : Step) → Changed w u w′ a (λ s. next-tvar s) → b ≡ done (a .out) → b ≡ Just x
     → id .0 ≡ x → After w′ (a .used) w₂ r (λ s. sp s loc (value-of (Var id))) → After w u w₂ r (λ s. make-tvar s loc)
@@ -136,7 +136,7 @@ module _ (w : List ℕ) (u : Used) (loc : ℕ) (n : d.TypeName) (ty c l : ℕ) (
       pub tparam-made : (z : ℕ) (r : Step) → b₃ ≡ Just z → r ≡ record { out = a .out; used = r₃ .used } → After w u w₃ r (λ s. make-tparam s loc n ty c)
       unfolding outcome
       tparam-made z r q e =
-          let o : a .out ≡ Done t = is-done (a .out) t (sym b-is ∙ b-at) in
+          let o : a .out ≡ Done t = done-is (a .out) t (sym b-is ∙ b-at) in
           rw (e, o)
           (then-this w₃ (record { out = Done t; used = r₃ .used }) (after-then w₁ (a .used) w₂ r₂ _ _ b₂ y w₃ _ first b₂-is b₂-at
           (after-then w₂ (r₂ .used) w₃ r₃ (pushed-constraint (tvar-constraint n loc t)) (number-put t) b₃ z w₃ _ second-is b₃-is q

@@ -21,6 +21,7 @@ use names::TypeName;
 use table::Constraint;
 use table::Found;
 use table::Out;
+use table::Refusal;
 use table::Shape;
 use table::Step;
 use table::Used;
@@ -284,7 +285,7 @@ fn instantiate_down(w: &mut [u32], u: Used, params: &[[u8; 8]; 256], left: u32, 
     ensures { λ r. ⌜ When (Known (now (w .entry)) u (now (params .entry))) (now (w .entry)) u (now (w .exit)) r (λ s. instantiate-down left s ty) ⌝ }
 {
     if left == 0 {
-        return stay(Out::Itself, u);
+        return stay(Out::Refused(Refusal::RunsIntoItself), u);
     }
     let node = table::node_at(w, u, ty);
     let loc = node.loc;
@@ -293,7 +294,7 @@ fn instantiate_down(w: &mut [u32], u: Used, params: &[[u8; 8]; 256], left: u32, 
         Shape::Unit => stay(Out::Done(ty), u),
         Shape::UnresolvedError => stay(Out::Done(ty), u),
         Shape::Param(_, _) => stay(Out::Done(ty), u),
-        Shape::Var(_) => stay(Out::Open, u),
+        Shape::Var(_) => stay(Out::Refused(Refusal::OpenVariable), u),
         Shape::Anything => make_tvar(w, u, loc),
         Shape::Ref(m, t) => {
             let b = table::push_constraint(w, u, Constraint::BaseType(loc, t));

@@ -9,24 +9,15 @@ use Rattle.definition.specs.Types.{State, Result, ok, err, refused, _>>=_, if_t
 use Rattle.definition.specs.Store.{taken, with-var, next-tvar}
 use Rattle.table.specs.State.{outcome, done}
 use Rattle.table.specs.declared.Out.{Out}
-use Rattle.table.specs.declared.Out.the-variants.{Done, Subtype, Incompatible, Arity, Recursive, Full, Deep, Itself, Disagree, Open, NoArgument, Twice}
+use Rattle.table.specs.declared.Out.the-variants.{Done, Failed, Refused}
 use Rattle.table.specs.declared.Found.the-variants.{Nothing}
 
 -- no number, so nothing follows, whatever it were
 pub stop-any : {B C : Type 0} (o : Out) (s : State) (f : State × ℕ → Result B) (g : State × ℕ → Result C) (h : C → Result B) → done o ≡ Nothing → (outcome o s >>= f) ≡ ((outcome o s >>= g) >>= h)
 unfolding outcome _>>=_
 stop-any (Done t) s f g h e = let z : _≡_ {A = ℕ} 0 1 = cc in absurd (omega arith)
-stop-any (Subtype a b) s f g h e = refl
-stop-any (Incompatible a b) s f g h e = refl
-stop-any (Arity a b) s f g h e = refl
-stop-any (Recursive loc) s f g h e = refl
-stop-any Full s f g h e = refl
-stop-any Deep s f g h e = refl
-stop-any Itself s f g h e = refl
-stop-any Disagree s f g h e = refl
-stop-any Open s f g h e = refl
-stop-any NoArgument s f g h e = refl
-stop-any Twice s f g h e = refl
+stop-any (Failed x) s f g h e = refl
+stop-any (Refused x) s f g h e = refl
 
 pub bind-ok : {A : Type 0} (m : Result A) → m ≡ (m >>= (λ x. ok x))
 unfolding _>>=_

@@ -22,7 +22,9 @@ use Rattle.table.specs.declared.Step.{Step}
 use Rattle.table.specs.declared.Used.{Used}
 use Rattle.table.specs.declared.Node.{Node}
 use Rattle.table.specs.declared.Out.{Out}
-use Rattle.table.specs.declared.Out.the-variants.{Done, Subtype, Incompatible as IncompatibleO, Arity, Deep, Disagree as DisagreeO}
+use Rattle.table.specs.declared.Out.the-variants.{Done, Failed, Refused}
+use Rattle.table.specs.declared.TypingError.the-variants as error
+use Rattle.table.specs.declared.Refusal.the-variants.{TooDeep, AbilitiesDisagree}
 use Rattle.table.specs.declared.Found.{Found}
 use Rattle.table.specs.declared.Found.the-variants.{Nothing, Just}
 use Rattle.table.proofs.Steps.{grown-trans, after-now, after-stop, after-then}
@@ -164,7 +166,7 @@ module _ (left : ℕ) (case : j.TypingCase) (w : List ℕ) (u : Used) (loc1 id1 
 
 -- ---- the operand walk
 
-pub impl-deep : (left : ℕ) (case : j.TypingCase) (s : State) (lhs rhs : ℕ) → left ≡ 0 → outcome Deep s ≡ join-impl left s case lhs rhs
+pub impl-deep : (left : ℕ) (case : j.TypingCase) (s : State) (lhs rhs : ℕ) → left ≡ 0 → outcome (Refused TooDeep) s ≡ join-impl left s case lhs rhs
 unfolding join-impl outcome
 impl-deep left case s lhs rhs e = rw e
 
@@ -221,21 +223,21 @@ module _ (left : ℕ) (case : TypingCase) (w : List ℕ) (u : Used) (lhs rhs : �
   unfolding by-arm outcome
   arm-right h i e = by Right w _ e (after-now w u (Done rhs) (λ s. by-arm (inner (left - 1)) s (case-of case) lhs rhs Right) h i (λ ds. refl))
 
-  pub arm-subtype : Lay w u → (lhs < u .nodes) × (rhs < u .nodes) → a ≡ SubtypeError → After w u w (step (Subtype lhs rhs) u) (λ s. join-impl left s (case-of case) lhs rhs)
+  pub arm-subtype : Lay w u → (lhs < u .nodes) × (rhs < u .nodes) → a ≡ SubtypeError → After w u w (step (Failed (error.SubtypeError lhs rhs)) u) (λ s. join-impl left s (case-of case) lhs rhs)
   unfolding by-arm outcome
-  arm-subtype h i e = by SubtypeError w _ e (after-now w u (Subtype lhs rhs) (λ s. by-arm (inner (left - 1)) s (case-of case) lhs rhs SubtypeError) h i (λ ds. refl))
+  arm-subtype h i e = by SubtypeError w _ e (after-now w u (Failed (error.SubtypeError lhs rhs)) (λ s. by-arm (inner (left - 1)) s (case-of case) lhs rhs SubtypeError) h i (λ ds. refl))
 
-  pub arm-arity : Lay w u → (lhs < u .nodes) × (rhs < u .nodes) → a ≡ ArityMismatch → After w u w (step (Arity lhs rhs) u) (λ s. join-impl left s (case-of case) lhs rhs)
+  pub arm-arity : Lay w u → (lhs < u .nodes) × (rhs < u .nodes) → a ≡ ArityMismatch → After w u w (step (Failed (error.ArityMismatch lhs rhs)) u) (λ s. join-impl left s (case-of case) lhs rhs)
   unfolding by-arm outcome
-  arm-arity h i e = by ArityMismatch w _ e (after-now w u (Arity lhs rhs) (λ s. by-arm (inner (left - 1)) s (case-of case) lhs rhs ArityMismatch) h i (λ ds. refl))
+  arm-arity h i e = by ArityMismatch w _ e (after-now w u (Failed (error.ArityMismatch lhs rhs)) (λ s. by-arm (inner (left - 1)) s (case-of case) lhs rhs ArityMismatch) h i (λ ds. refl))
 
-  pub arm-incompatible : Lay w u → (lhs < u .nodes) × (rhs < u .nodes) → a ≡ Incompatible → After w u w (step (IncompatibleO lhs rhs) u) (λ s. join-impl left s (case-of case) lhs rhs)
+  pub arm-incompatible : Lay w u → (lhs < u .nodes) × (rhs < u .nodes) → a ≡ Incompatible → After w u w (step (Failed (error.Incompatible lhs rhs)) u) (λ s. join-impl left s (case-of case) lhs rhs)
   unfolding by-arm outcome
-  arm-incompatible h i e = by Incompatible w _ e (after-now w u (IncompatibleO lhs rhs) (λ s. by-arm (inner (left - 1)) s (case-of case) lhs rhs Incompatible) h i (λ ds. refl))
+  arm-incompatible h i e = by Incompatible w _ e (after-now w u (Failed (error.Incompatible lhs rhs)) (λ s. by-arm (inner (left - 1)) s (case-of case) lhs rhs Incompatible) h i (λ ds. refl))
 
-  pub arm-disagree : Lay w u → a ≡ Disagree → After w u w (step (DisagreeO) u) (λ s. join-impl left s (case-of case) lhs rhs)
+  pub arm-disagree : Lay w u → a ≡ Disagree → After w u w (step (Refused AbilitiesDisagree) u) (λ s. join-impl left s (case-of case) lhs rhs)
   unfolding by-arm outcome
-  arm-disagree h e = by Disagree w _ e (after-now w u DisagreeO (λ s. by-arm (inner (left - 1)) s (case-of case) lhs rhs Disagree) h tt (λ ds. refl))
+  arm-disagree h e = by Disagree w _ e (after-now w u (Refused AbilitiesDisagree) (λ s. by-arm (inner (left - 1)) s (case-of case) lhs rhs Disagree) h tt (λ ds. refl))
 
   -- references
   pub arm-refs : (side mut : Bool) (t1 t2 loc : ℕ) (w₁ : List ℕ) (x : Step) (w₂ : List ℕ) (y : Step) → a ≡ Refs side mut t1 t2 → loc ≡ (if side then l .loc else r .loc)

@@ -20,8 +20,10 @@ use names::TVar;
 use names::TypeName;
 use table::Found;
 use table::Out;
+use table::Refusal;
 use table::Shape;
 use table::Step;
+use table::TypingError;
 use table::Used;
 
 // The joins of two argument lists: the answer is how many, and they stand in `tys`.
@@ -96,7 +98,7 @@ fn join_impl(w: &mut [u32], u: Used, case: TypingCase, left: u32, lhs: u32, rhs:
     ensures { λ r. ⌜ After (now (w .entry)) u (now (w .exit)) r (λ s. join-impl left s (case-of case) lhs rhs) ⌝ }
 {
     if left == 0 {
-        return settled(u, Out::Deep);
+        return settled(u, Out::Refused(Refusal::TooDeep));
     }
     let l = table::node_at(w, u, lhs);
     let r = table::node_at(w, u, rhs);
@@ -123,10 +125,10 @@ fn join_impl(w: &mut [u32], u: Used, case: TypingCase, left: u32, lhs: u32, rhs:
             Meet::Is(a) => a,
             Meet::Merge(au, new) => join_tvar(w, au, case, left - 1, l.loc, new, r.loc, id),
         },
-        Arm::SubtypeError => settled(u, Out::Subtype(lhs, rhs)),
-        Arm::ArityMismatch => settled(u, Out::Arity(lhs, rhs)),
-        Arm::Incompatible => settled(u, Out::Incompatible(lhs, rhs)),
-        Arm::Disagree => settled(u, Out::Disagree),
+        Arm::SubtypeError => settled(u, Out::Failed(TypingError::SubtypeError(lhs, rhs))),
+        Arm::ArityMismatch => settled(u, Out::Failed(TypingError::ArityMismatch(lhs, rhs))),
+        Arm::Incompatible => settled(u, Out::Failed(TypingError::Incompatible(lhs, rhs))),
+        Arm::Disagree => settled(u, Out::Refused(Refusal::AbilitiesDisagree)),
     }
 }
 

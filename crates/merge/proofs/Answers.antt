@@ -17,37 +17,21 @@ use Rattle.table.specs.declared.Node.{Node}
 use Rattle.table.specs.declared.Shape.{Shape}
 use Rattle.table.specs.declared.Shape.the-variants.{Unit as UnitS, Ref, Param, Apply, Var, Anything, UnresolvedError}
 use Rattle.table.specs.declared.Out.{Out}
-use Rattle.table.specs.declared.Out.the-variants.{Done, Subtype, Incompatible, Arity, Recursive, Full, Deep, Itself, Disagree, Open, NoArgument, Twice}
+use Rattle.table.specs.declared.Out.the-variants.{Done}
 use Rattle.table.specs.declared.Found.{Found}
 use Rattle.table.specs.declared.Found.the-variants.{Nothing, Just}
 use Rattle.table.proofs.Rows.{length-entries}
+use Rattle.table.proofs.Steps.{No-error, done-is, none-in}
+use Rattle.table.proofs.Steps as steps
 
 -- ---- the number of an answer
-
-never : {A : Type 0} (t : ℕ) → Nothing ≡ Just t → A
-never t e = let z : _≡_ {A = ℕ} 0 1 = cc in absurd (omega arith)
-
-pub done-is : (o : Out) (t : ℕ) → done o ≡ Just t → o ≡ Done t
-done-is (Done n) t e = cc
-done-is (Subtype a b) t e = never t e
-done-is (Incompatible a b) t e = never t e
-done-is (Arity a b) t e = never t e
-done-is (Recursive loc) t e = never t e
-done-is Full t e = never t e
-done-is Deep t e = never t e
-done-is Itself t e = never t e
-done-is Disagree t e = never t e
-done-is Open t e = never t e
-done-is NoArgument t e = never t e
-done-is Twice t e = never t e
 
 pub done-out : (o : Out) (b : Found) (t : ℕ) → b ≡ done o → b ≡ Just t → o ≡ Done t
 done-out o b t p q = done-is o t (sym p ∙ q)
 
 -- what follows the number t
 pub then-is : {B : Type 0} (o : Out) (b : Found) (t : ℕ) (s : State) (h : State × ℕ → Result B) → b ≡ done o → b ≡ Just t → h (s, t) ≡ (outcome o s >>= h)
-unfolding outcome _>>=_
-then-is o b t s h p q = rw (done-out o b t p q)
+then-is o b t s h p q = steps.then-is o s h t (sym p ∙ q)
 
 -- a node that an answer is
 pub node-in : (n : ℕ) (o : Out) (b : Found) (t : ℕ) → Nodes-in n o → b ≡ done o → b ≡ Just t → t < n
@@ -58,36 +42,16 @@ var-in n o b t i p q = rw (done-out o b t p q) at i
 
 -- ---- an answer of TVar::next names no node
 
-abbrev No-err : Result (State × ℕ) → Type 0
-No-err (ok a) = Unit {0}
-No-err (err s e) = ⊥
-No-err (refused x) = Unit {0}
-
-no-err-if : (b : Bool) (a : State × ℕ) (x : _) → No-err (if b then ok a else refused x)
+no-err-if : (b : Bool) (a : State × ℕ) (x : _) → No-error (if b then ok a else refused x)
 no-err-if true a x = tt
 no-err-if false a x = tt
 
-no-err-next : (s : State) → No-err (next-tvar s)
+no-err-next : (s : State) → No-error (next-tvar s)
 unfolding next-tvar
 no-err-next s = no-err-if (ltb (taken s) max-vars) _ _
 
-stop-in : (n : ℕ) (o : Out) (s : State) → No-err (outcome o s) → done o ≡ Nothing → Nodes-in n o
-unfolding outcome
-stop-in n (Done t) s i e = never t (sym e)
-stop-in n (Subtype a b) s i e = absurd i
-stop-in n (Incompatible a b) s i e = absurd i
-stop-in n (Arity a b) s i e = absurd i
-stop-in n (Recursive loc) s i e = tt
-stop-in n Full s i e = tt
-stop-in n Deep s i e = tt
-stop-in n Itself s i e = tt
-stop-in n Disagree s i e = tt
-stop-in n Open s i e = tt
-stop-in n NoArgument s i e = tt
-stop-in n Twice s i e = tt
-
 pub next-stop-in : (w : List ℕ) (u : Used) (w′ : List ℕ) (r : Step) (b : Found) → Changed w u w′ r (λ s. next-tvar s) → b ≡ done (r .out) → b ≡ Nothing → Nodes-in (r .used .nodes) (r .out)
-next-stop-in w u w′ r b a p q = stop-in (r .used .nodes) (r .out) (seen w′ (r .used) []) (subst No-err (sym (a .is [])) (no-err-next (seen w u []))) (sym p ∙ q)
+next-stop-in w u w′ r b a p q = none-in (r .used .nodes) (r .out) (seen w′ (r .used) []) (next-tvar (seen w u [])) (a .is []) (no-err-next (seen w u [])) (sym p ∙ q)
 
 -- ---- rows in use
 

@@ -13,13 +13,14 @@ use Rattle.definition.specs.Join.{type-of, merge-num, shown, join-bind-tvar, jo
 use Rattle.names.specs.declared.TVar.{TVar}
 use Rattle.subst.specs.Answers.{bound, Binds}
 use Rattle.subst.specs.declared.Binding.{Binding}
-use Rattle.subst.specs.declared.Binding.the-variants.{Bound, Failed, Recursive as RecursiveB}
+use Rattle.subst.specs.declared.Binding.the-variants.{Bound, Failed as FailedB, Recursive as RecursiveB}
 use Rattle.table.specs.State.{Lay, Changed, After, Stored, Nodes-in, outcome, seen, view, done, found, node-of, value-of}
 use Rattle.table.specs.declared.Step.{Step}
 use Rattle.table.specs.declared.Used.{Used}
 use Rattle.table.specs.declared.Node.{Node}
 use Rattle.table.specs.declared.Out.{Out}
-use Rattle.table.specs.declared.Out.the-variants.{Done, Incompatible, Recursive}
+use Rattle.table.specs.declared.Out.the-variants.{Done, Failed}
+use Rattle.table.specs.declared.TypingError.the-variants.{Incompatible, RecursiveType}
 use Rattle.table.specs.declared.Found.{Found}
 use Rattle.table.specs.declared.Found.the-variants.{Nothing, Just}
 use Rattle.table.proofs.Steps.{grown-refl, grown-trans, after-now, after-stop, after-then, changed-stop}
@@ -223,7 +224,7 @@ module _ (ty1 id1 ty2 id2 : ℕ) where
       pub show-no-second : br ≡ Nothing → After w u w₂ r (λ s. show-both s ty1 id1 ty2 id2)
       show-no-second q = from-shown w₂ r (after-stop w₁ (a .used) w₂ r (λ s. shown s ty2 id2) (show-second t1) br tr dr q)
 
-      pub show-done : (t2 : ℕ) → br ≡ Just t2 → After w u w₂ (record { out = Incompatible t1 t2; used = r .used }) (λ s. show-both s ty1 id1 ty2 id2)
+      pub show-done : (t2 : ℕ) → br ≡ Just t2 → After w u w₂ (record { out = Failed (Incompatible t1 t2); used = r .used }) (λ s. show-both s ty1 id1 ty2 id2)
       unfolding outcome
       show-done t2 q =
           let x = node-in (a .used .nodes) (a .out) b t1 (ta .inside) da is in
@@ -231,12 +232,12 @@ module _ (ty1 id1 ty2 id2 : ℕ) where
           let below1 : t1 < r .used .nodes = omega arith in
           from-shown w₂ _
           (after-then w₁ (a .used) w₂ r (λ s. shown s ty2 id2) (show-second t1) br t2 w₂ _ (tr .changed) dr q
-          (after-now w₂ (r .used) (Incompatible t1 t2) (λ s. show-second t1 (s, t2)) (tr .changed .lay) (below1, node-in (r .used .nodes) (r .out) br t2 (tr .inside) dr q) (λ ds. refl)))
+          (after-now w₂ (r .used) (Failed (Incompatible t1 t2)) (λ s. show-second t1 (s, t2)) (tr .changed .lay) (below1, node-in (r .used .nodes) (r .out) br t2 (tr .inside) dr q) (λ ds. refl)))
 
 -- ---- closing a merge
 
 module _ (ty1 id1 ty2 loc2 id2 new var2 new-ty : ℕ) where
-  pub close-bound : (s : State) (t : ℕ) (n : Node) → some t ≡ get s new → node-of n ≡ node s t → outcome (Recursive (n .loc)) s ≡ close-tvar s ty1 id1 ty2 loc2 id2 new var2 new-ty
+  pub close-bound : (s : State) (t : ℕ) (n : Node) → some t ≡ get s new → node-of n ≡ node s t → outcome (Failed (RecursiveType (n .loc))) s ≡ close-tvar s ty1 id1 ty2 loc2 id2 new var2 new-ty
   unfolding close-tvar outcome
   close-bound s t n e p = rw (← e, close-tvar, loc-is s t n p)
 
@@ -249,11 +250,11 @@ module _ (ty1 id1 ty2 loc2 id2 new var2 new-ty : ℕ) where
     unfolding outcome _>>=_
     close-done e = rw (← close-free, e)
 
-    pub close-failed : b ≡ Failed → show-both s′ ty1 id1 ty2 id2 ≡ close-tvar s ty1 id1 ty2 loc2 id2 new var2 new-ty
+    pub close-failed : b ≡ FailedB → show-both s′ ty1 id1 ty2 id2 ≡ close-tvar s ty1 id1 ty2 loc2 id2 new var2 new-ty
     unfolding _>>=_
     close-failed e = rw (← close-free, e)
 
-    pub close-recursive : b ≡ RecursiveB → outcome (Recursive loc2) s′ ≡ close-tvar s ty1 id1 ty2 loc2 id2 new var2 new-ty
+    pub close-recursive : b ≡ RecursiveB → outcome (Failed (RecursiveType loc2)) s′ ≡ close-tvar s ty1 id1 ty2 loc2 id2 new var2 new-ty
     unfolding outcome _>>=_
     close-recursive e = rw (← close-free, e)
 
@@ -268,11 +269,11 @@ module _ (s s′ : State) (lhs rhs var id other : ℕ) (n : Node) (b : Binding) 
   unfolding outcome _>>=_
   unbound-done e = rw (← unbound-is, e)
 
-  pub unbound-failed : b ≡ Failed → outcome (Incompatible lhs rhs) s′ ≡ join-unbound s lhs rhs var id other
+  pub unbound-failed : b ≡ FailedB → outcome (Failed (Incompatible lhs rhs)) s′ ≡ join-unbound s lhs rhs var id other
   unfolding outcome _>>=_
   unbound-failed e = rw (← unbound-is, e)
 
-  pub unbound-recursive : b ≡ RecursiveB → outcome (Recursive (n .loc)) s′ ≡ join-unbound s lhs rhs var id other
+  pub unbound-recursive : b ≡ RecursiveB → outcome (Failed (RecursiveType (n .loc))) s′ ≡ join-unbound s lhs rhs var id other
   unfolding outcome _>>=_
   unbound-recursive e = rw (← unbound-is, e)
 

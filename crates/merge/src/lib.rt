@@ -13,6 +13,7 @@ use table::Node;
 use table::Out;
 use table::Shape;
 use table::Step;
+use table::TypingError;
 use table::Used;
 
 // A merge before its inner join: the types of both ends, the fresh variable, and the result's node.
@@ -202,7 +203,7 @@ fn show_both(w: &mut [u32], u: Used, ty1: u32, id1: TVar, ty2: u32, id2: TVar) -
         return b;
     };
     Step {
-        out: Out::Incompatible(shown1, shown2),
+        out: Out::Failed(TypingError::Incompatible(shown1, shown2)),
         used: bu,
     }
 }
@@ -227,7 +228,7 @@ pub fn close_tvar(
         Found::Just(t) => {
             let n = table::node_at(w, u, t);
             Step {
-                out: Out::Recursive(n.loc),
+                out: Out::Failed(TypingError::RecursiveType(n.loc)),
                 used: u,
             }
         }
@@ -238,7 +239,7 @@ pub fn close_tvar(
             },
             Binding::Failed => show_both(w, u, ty1, id1, ty2, id2),
             Binding::Recursive => Step {
-                out: Out::Recursive(loc2),
+                out: Out::Failed(TypingError::RecursiveType(loc2)),
                 used: u,
             },
         },
@@ -257,11 +258,11 @@ fn join_unbound(w: &mut [u32], u: Used, lhs: u32, rhs: u32, var: u32, id: TVar, 
             used: u,
         },
         Binding::Failed => Step {
-            out: Out::Incompatible(lhs, rhs),
+            out: Out::Failed(TypingError::Incompatible(lhs, rhs)),
             used: u,
         },
         Binding::Recursive => Step {
-            out: Out::Recursive(n.loc),
+            out: Out::Failed(TypingError::RecursiveType(n.loc)),
             used: u,
         },
     }

@@ -19,7 +19,7 @@ use Rattle.table.specs.declared.Shape.{Shape}
 use Rattle.table.specs.declared.Shape.the-variants.{Unit as UnitS, Ref, Param, Apply, Var, Anything, UnresolvedError}
 use Rattle.table.specs.State.{outcome, done, Nodes-in}
 use Rattle.table.specs.declared.Out.{Out}
-use Rattle.table.specs.declared.Out.the-variants.{Done, Subtype, Incompatible, Arity, Recursive, Full as FullO, Deep, Itself, Disagree, Open, NoArgument, Twice}
+use Rattle.table.specs.declared.Out.the-variants.{Done, Failed, Refused}
 use Rattle.reader.specs.declared.Part.{Part}
 use Rattle.reader.specs.declared.Part.the-variants.{At, Full, Malformed, Unknown, Doubled}
 use Rattle.reader.specs.Fields.{many-parts, tree-of}
@@ -219,28 +219,10 @@ found-is o over loc h tys s s′ l e = by o e (subst Fine (sym e) (put-fine over
   where
     by : (o : Out) → outcome o s′ ≡ put-node over loc h tys s → Fine (outcome o s′) → part-of (found-part (done o)) s′ l ≡ placed (put-node over loc h tys s) l
     by (Done t) e f = ap (λ (q : Result (State × ℕ)). placed q l) e
-    by FullO e f = ap (λ (q : Result (State × ℕ)). placed q l) e
-    by (Subtype a b) e f = absurd f
-    by (Incompatible a b) e f = absurd f
-    by (Arity a b) e f = absurd f
-    by (Recursive x) e f = absurd f
-    by Deep e f = never (cc)
-    by Itself e f = never (cc)
-    by Disagree e f = never (cc)
-    by Open e f = never (cc)
-    by NoArgument e f = never (cc)
-    by Twice e f = never (cc)
+    by (Failed x) e f = absurd f
+    by (Refused x) e f = ap (λ (y : d.Refusal). placed (refused y) l) (sym f) ∙ ap (λ (q : Result (State × ℕ)). placed q l) e
 
 pub found-in : (o : Out) (n : ℕ) → Nodes-in n o → Part-in n (found-part (done o))
 found-in (Done t) n i = i
-found-in FullO n i = tt
-found-in (Subtype a b) n i = tt
-found-in (Incompatible a b) n i = tt
-found-in (Arity a b) n i = tt
-found-in (Recursive x) n i = tt
-found-in Deep n i = tt
-found-in Itself n i = tt
-found-in Disagree n i = tt
-found-in Open n i = tt
-found-in NoArgument n i = tt
-found-in Twice n i = tt
+found-in (Failed x) n i = tt
+found-in (Refused x) n i = tt

@@ -31,6 +31,7 @@ use names::has_drop;
 use names::is_numeric;
 use table::Found;
 use table::Out;
+use table::Refusal;
 use table::Shape;
 use table::Step;
 use table::Used;
@@ -427,7 +428,7 @@ fn place_node(w: &mut [u32], u: Used, over: bool, loc: u32, shape: Shape, parts:
 {
     if over {
         return Step {
-            out: Out::Full,
+            out: Out::Refused(Refusal::Full),
             used: u,
         };
     }

@@ -16,7 +16,7 @@ use Rattle.theorems.proofs.Walk.{Ends, e-ok, e-err, e-refused, Run, ready-tvars
 use Rattle.table.specs.State.{outcome, view, seen}
 use Rattle.table.specs.declared.Used.{Used}
 use Rattle.table.specs.declared.Out.{Out}
-use Rattle.table.specs.declared.Out.the-variants.{Done, Subtype, Incompatible, Arity, Recursive, Full, Deep, Itself, Disagree, Open, NoArgument, Twice}
+use Rattle.table.specs.declared.Out.the-variants.{Done, Failed, Refused}
 use Rattle.writer.specs.Bytes.{All-bytes}
 use Rattle.answer.specs.Ran.{shown, ran, Settles}
 use Rattle.answer.specs.declared.Ran.{Ran}
@@ -33,32 +33,14 @@ Leaves b m = Run (Unit {0}) b true m
 outcome-in : (b : State) (o : Out) (s : State) → Leaves b (outcome o s) → Settles o → Ranges b s
 unfolding outcome
 outcome-in b (Done t) s (e-ok i) h = i tt
-outcome-in b (Subtype x y) s (e-err i) h = i tt
-outcome-in b (Incompatible x y) s (e-err i) h = i tt
-outcome-in b (Arity x y) s (e-err i) h = i tt
-outcome-in b (Recursive loc) s (e-err i) h = i tt
-outcome-in b Full s e h = absurd h
-outcome-in b Deep s e h = absurd h
-outcome-in b Itself s e h = absurd h
-outcome-in b Disagree s e h = absurd h
-outcome-in b Open s e h = absurd h
-outcome-in b NoArgument s e h = absurd h
-outcome-in b Twice s e h = absurd h
+outcome-in b (Failed x) s (e-err i) h = i tt
+outcome-in b (Refused x) s e h = absurd h
 
 outcome-leaves : (b : State) (o : Out) (s : State) → Ranges b s → Settles o → Leaves b (outcome o s)
 unfolding outcome
 outcome-leaves b (Done t) s r h = e-ok (λ x. r)
-outcome-leaves b (Subtype x y) s r h = e-err (λ x. r)
-outcome-leaves b (Incompatible x y) s r h = e-err (λ x. r)
-outcome-leaves b (Arity x y) s r h = e-err (λ x. r)
-outcome-leaves b (Recursive loc) s r h = e-err (λ x. r)
-outcome-leaves b Full s r h = absurd h
-outcome-leaves b Deep s r h = absurd h
-outcome-leaves b Itself s r h = absurd h
-outcome-leaves b Disagree s r h = absurd h
-outcome-leaves b Open s r h = absurd h
-outcome-leaves b NoArgument s r h = absurd h
-outcome-leaves b Twice s r h = absurd h
+outcome-leaves b (Failed x) s r h = e-err (λ x. r)
+outcome-leaves b (Refused x) s r h = absurd h
 
 -- where the state is kept, what is shown with it is of no matter
 unshown : (b before : State) (show : Show) (m : Result (State × ℕ)) → Leaves b (m >>= (λ x. ok (if true then x .0 else before, shown show (x .1) (x .0)))) → Leaves b m

@@ -25,8 +25,9 @@ use Rattle.table.specs.declared.Step.{Step}
 use Rattle.table.specs.declared.Found.{Found}
 use Rattle.table.specs.declared.Found.the-variants.{Nothing, Just}
 use Rattle.table.specs.declared.Out.{Out}
-use Rattle.table.specs.declared.Out.the-variants.{Done, Subtype, Incompatible, Arity, Recursive, Full, Deep, Itself, Disagree, Open, NoArgument, Twice}
-use Rattle.table.proofs.Steps.{grown-refl, changed-is, after-is, changed-stop, changed-then}
+use Rattle.table.specs.declared.Out.the-variants.{Done, Failed, Refused}
+use Rattle.table.specs.declared.Refusal.the-variants.{OpenVariable, ParameterTwice}
+use Rattle.table.proofs.Steps.{grown-refl, changed-is, after-is, changed-stop, changed-then, No-error, done-is}
 use Rattle.arms.specs.Arms.{case-of}
 use Rattle.arms.specs.declared.TypingCase.{TypingCase}
 use Rattle.arms.specs.declared.TypingCase.the-variants.{Join as CaseJoin, Subtype as CaseSubtype}
@@ -46,59 +47,28 @@ use Rattle.run.specs.Runs.{join-in, two-run, unfold-run, ready-run, subs
 
 -- ---- what an answer tells
 
-abbrev NoError : {A : Type 0} → Result A → Type 0
-NoError (ok a) = Unit {0}
-NoError (err s e) = ⊥
-NoError (refused x) = Unit {0}
-
 -- it is no typing error, so it names none
-tells-plain : (u : Used) (show : Show) (o : Out) (s : State) → NoError (outcome o s) → ((t : ℕ) → o ≡ Done t → Shows u show t) → Tells u show o
+tells-plain : (u : Used) (show : Show) (o : Out) (s : State) → No-error (outcome o s) → ((t : ℕ) → o ≡ Done t → Shows u show t) → Tells u show o
 unfolding outcome
 tells-plain u show (Done t) s n f = f t refl
-tells-plain u show (Subtype a b) s n f = absurd n
-tells-plain u show (Incompatible a b) s n f = absurd n
-tells-plain u show (Arity a b) s n f = absurd n
-tells-plain u show (Recursive loc) s n f = tt
-tells-plain u show Full s n f = tt
-tells-plain u show Deep s n f = tt
-tells-plain u show Itself s n f = tt
-tells-plain u show Disagree s n f = tt
-tells-plain u show Open s n f = tt
-tells-plain u show NoArgument s n f = tt
-tells-plain u show Twice s n f = tt
+tells-plain u show (Failed x) s n f = absurd n
+tells-plain u show (Refused x) s n f = tt
 
-either-no-error : {A : Type 0} (b : Bool) (x : A) (y : d.Refusal) → NoError (if b then ok x else refused y)
+either-no-error : {A : Type 0} (b : Bool) (x : A) (y : d.Refusal) → No-error (if b then ok x else refused y)
 either-no-error true x y = tt
 either-no-error false x y = tt
 
-tvar-no-error : (s : State) → NoError (next-tvar s)
+tvar-no-error : (s : State) → No-error (next-tvar s)
 unfolding next-tvar
 tvar-no-error s = either-no-error (ltb (taken s) max-vars) _ _
 
-constraint-no-error : (c : d.Constraint) (s : State) → NoError (pushed-constraint c s)
+constraint-no-error : (c : d.Constraint) (s : State) → No-error (pushed-constraint c s)
 unfolding pushed-constraint add-constraint _>>=_
 constraint-no-error c s = go (ltb (length (s .constraints)) max-constraints) _
   where
-    go : (b : Bool) (x : State) → NoError {A = State × ℕ} ((if b then ok x else refused full) >>= (λ (t : State). ok (t, 0)))
+    go : (b : Bool) (x : State) → No-error {A = State × ℕ} ((if b then ok x else refused full) >>= (λ (t : State). ok (t, 0)))
     go true x = tt
     go false x = tt
-
-clash : {A : Type 0} → _≡_ {A = ℕ} 0 1 → A
-clash z = absurd (omega arith)
-
-done-is : (o : Out) (t : ℕ) → done o ≡ Just t → o ≡ Done t
-done-is (Done x) t e = cc
-done-is (Subtype a b) t e = clash (cc)
-done-is (Incompatible a b) t e = clash (cc)
-done-is (Arity a b) t e = clash (cc)
-done-is (Recursive loc) t e = clash (cc)
-done-is Full t e = clash (cc)
-done-is Deep t e = clash (cc)
-done-is Itself t e = clash (cc)
-done-is Disagree t e = clash (cc)
-done-is Open t e = clash (cc)
-done-is NoArgument t e = clash (cc)
-done-is Twice t e = clash (cc)
 
 -- ---- a step, and what its answer shows
 
@@ -177,17 +147,17 @@ module _ {w : List ℕ} {u : Used} (h : Lay w u) where
   unfolding needs-run tell write-needs outcome shown _>>=_
   ran-needs nodes places variables constraints met e = rw e (ran-now (Done 0) (Four nodes places variables constraints) true _ _ tt (λ ds. refl) (λ ds before. refl))
 
-  pub ran-open : (n : Option Needs) (met : Bool) → met ≡ true → Runs Any w u w (record { out = Open; used = u; show = NothingS; kept = true }) true (λ s. outcome Open s) (needs-run (if met then none else n))
+  pub ran-open : (n : Option Needs) (met : Bool) → met ≡ true → Runs Any w u w (record { out = Refused OpenVariable; used = u; show = NothingS; kept = true }) true (λ s. outcome (Refused OpenVariable) s) (needs-run (if met then none else n))
   unfolding needs-run tell outcome shown _>>=_
-  ran-open n met e = rw e (ran-now Open NothingS true _ _ tt (λ ds. refl) (λ ds before. refl))
+  ran-open n met e = rw e (ran-now (Refused OpenVariable) NothingS true _ _ tt (λ ds. refl) (λ ds before. refl))
 
   -- ---- TS
 
-  pub ran-twice : (ps : List (ℕ × ℕ)) (t : ℕ) (b : Bool) → made b ps ≡ make-tparam-subst ps → b ≡ false → Runs Any w u w (record { out = Twice; used = u; show = Node; kept = false }) false (subst-in ps t) (tparams-run ps t)
+  pub ran-twice : (ps : List (ℕ × ℕ)) (t : ℕ) (b : Bool) → made b ps ≡ make-tparam-subst ps → b ≡ false → Runs Any w u w (record { out = Refused ParameterTwice; used = u; show = Node; kept = false }) false (subst-in ps t) (tparams-run ps t)
   unfolding subst-in tparams-run outcome _>>=_
   ran-twice ps t b m q =
       let e : make-tparam-subst ps ≡ refused parameter-twice = sym m ∙ ap (λ (x : Bool). made x ps) q in
-      ran-now Twice Node false _ _ tt (λ ds. rw e refl) (λ ds before. rw e refl)
+      ran-now (Refused ParameterTwice) Node false _ _ tt (λ ds. rw e refl) (λ ds before. rw e refl)
 
 -- ---- RD, IN, FV, NV: what follows their step
 
@@ -219,7 +189,7 @@ num-follows loc s before = go (next-tvar s)
     go (err s e) = refl
     go (refused x) = refl
 
-tells-var : (loc : ℕ) (v : Used) (o : Out) (s : State) → NoError (outcome o s) → Var-in (v .vars) o → Tells v (Variable loc) o
+tells-var : (loc : ℕ) (v : Used) (o : Out) (s : State) → No-error (outcome o s) → Var-in (v .vars) o → Tells v (Variable loc) o
 tells-var loc v o s n i = tells-plain v (Variable loc) o s n (λ t q. rw q at i)
 
 module _ {w : List ℕ} {u : Used} {w′ : List ℕ} {a : Step} where
@@ -249,14 +219,14 @@ module _ {w : List ℕ} {u : Used} {w′ : List ℕ} {a : Step} where
   -- ---- FV, NV
 
   pub ran-tvar : (loc : ℕ) → Changed w u w′ a (λ s. next-tvar s) × Var-in (a .used .vars) (a .out) → {r : Ran} → r ≡ as-run a (Variable loc) true → Runs Any w u w′ r true (λ s. next-tvar s) (tvar-run loc)
-  ran-tvar loc c e = run-changed _ _ (Variable loc) true (tvar-follows loc) (c .0) (tells-var loc (a .used) (a .out) (seen w′ (a .used) []) (subst (λ (x : Result (State × ℕ)). NoError x) (sym (c .0 .is [])) (tvar-no-error (seen w u []))) (c .1)) e
+  ran-tvar loc c e = run-changed _ _ (Variable loc) true (tvar-follows loc) (c .0) (tells-var loc (a .used) (a .out) (seen w′ (a .used) []) (subst (λ (x : Result (State × ℕ)). No-error x) (sym (c .0 .is [])) (tvar-no-error (seen w u []))) (c .1)) e
 
   pub var-number : (b : Found) (n : ℕ) → Changed w u w′ a (λ s. next-tvar s) × Var-in (a .used .vars) (a .out) → b ≡ done (a .out) → b ≡ Just n → n < 65536
   var-number b n c p q = omega (arith, c .0 .lay .vars, let i = c .1 in rw (done-is (a .out) n (sym p ∙ q)) at i)
 
   module _ (loc : ℕ) (c : Changed w u w′ a (λ s. next-tvar s) × Var-in (a .used .vars) (a .out)) where
     tells : Tells (a .used) (Variable loc) (a .out)
-    tells = tells-var loc (a .used) (a .out) (seen w′ (a .used) []) (subst (λ (x : Result (State × ℕ)). NoError x) (sym (c .0 .is [])) (tvar-no-error (seen w u []))) (c .1)
+    tells = tells-var loc (a .used) (a .out) (seen w′ (a .used) []) (subst (λ (x : Result (State × ℕ)). No-error x) (sym (c .0 .is [])) (tvar-no-error (seen w u []))) (c .1)
 
     pub ran-no-tvar : (b : Found) → b ≡ done (a .out) → b ≡ Nothing → {r : Ran} → r ≡ as-run a (Variable loc) true → Runs Any w u w′ r true (num-tvar-in loc) (num-tvar-run loc)
     ran-no-tvar b p q e = run-changed _ _ (Variable loc) true (num-follows loc) (changed-is w u w′ a _ _ (in-is loc) (changed-stop w u w′ a (λ s. next-tvar s) (mark loc) b (c .0) p q)) tells e
@@ -280,7 +250,7 @@ module _ {w : List ℕ} {u : Used} {w′ : List ℕ} {a : Step} where
   unfolding pushed-constraint constraint-run _>>=_ shown
   ran-constraint k c e =
       run-changed _ _ NothingS true follows c
-      (tells-plain (a .used) NothingS (a .out) (seen w′ (a .used) []) (subst (λ (x : Result (State × ℕ)). NoError x) (sym (c .is [])) (constraint-no-error k (seen w u []))) (λ t q. tt)) e
+      (tells-plain (a .used) NothingS (a .out) (seen w′ (a .used) []) (subst (λ (x : Result (State × ℕ)). No-error x) (sym (c .is [])) (constraint-no-error k (seen w u []))) (λ t q. tt)) e
     where
       go : (before : State) (m : Result State) → ((m >>= (λ (t : State). ok (t, 0))) >>= shows true NothingS before) ≡ (m >>= (λ (t : State). ok (t, [])))
       go before (ok x) = refl
@@ -313,7 +283,7 @@ ran-set-num w u w′ v loc c = record {
 
 -- ---- SD
 
-declare-no-error : (s : State) (abilities : ℕ) (params : List ℕ) → NoError (declare s abilities params)
+declare-no-error : (s : State) (abilities : ℕ) (params : List ℕ) → No-error (declare s abilities params)
 unfolding declare
 declare-no-error s abilities params = either-no-error (ltb (length (s .structs)) max-structs) _ _
 
@@ -353,7 +323,7 @@ module _ {w : List ℕ} {u : Used} {w′ : List ℕ} {a : Step} {abilities n : �
       (record {
         lay = c .lay;
         grown = c .grown;
-        tells = tells-plain (a .used) Number (a .out) _ (subst (λ (x : Result (State × ℕ)). NoError x) (sym blank-is) (declare-no-error (seen w u blanks) abilities [])) (λ t z. tt);
+        tells = tells-plain (a .used) Number (a .out) _ (subst (λ (x : Result (State × ℕ)). No-error x) (sym blank-is) (declare-no-error (seen w u blanks) abilities [])) (λ t z. tt);
         kept-is = refl;
         number = number (done (a .out)) refl;
         is = λ ds ps many before. ap (λ (x : Result (State × ℕ)). x >>= shows true Number before) (c .is ds ps many);

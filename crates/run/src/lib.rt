@@ -25,6 +25,7 @@ use names::TVar;
 use subst::Unfolded;
 use table::Found;
 use table::Out;
+use table::Refusal;
 use table::Step;
 use table::Used;
 
@@ -106,7 +107,7 @@ pub fn run_tparams(
         return shown(a, Show::Node, false);
     }
     Ran {
-        out: Out::Twice,
+        out: Out::Refused(Refusal::ParameterTwice),
         used: u,
         show: Show::Node,
         kept: false,
@@ -223,7 +224,7 @@ pub fn run_needs(
 {
     if met {
         return Ran {
-            out: Out::Open,
+            out: Out::Refused(Refusal::OpenVariable),
             used: u,
             show: Show::Nothing,
             kept: true,

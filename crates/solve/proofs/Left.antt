@@ -24,7 +24,7 @@ use Rattle.table.specs.declared.Step.{Step}
 use Rattle.table.specs.declared.Found.{Found}
 use Rattle.table.specs.declared.Found.the-variants.{Nothing, Just}
 use Rattle.table.specs.declared.Out.{Out}
-use Rattle.table.specs.declared.Out.the-variants.{Done, Subtype, Incompatible, Arity, Recursive, Full, Deep, Itself, Disagree, Open, NoArgument, Twice}
+use Rattle.table.specs.declared.Out.the-variants.{Done, Failed, Refused}
 use Rattle.table.proofs.Known.{known-kept}
 use Rattle.merge.proofs.Answers.{done-out}
 use Rattle.constraints.specs.Solve.{numbered, Answered}
@@ -88,17 +88,8 @@ module _ (s : State) (h : sound s ≡ true) where
 met : (P : State → Type 0) (o : Out) (s : State) → Met P (outcome o s) → Settles o → P s
 unfolding outcome
 met P (Done t) s p h = p
-met P (Subtype a b) s p h = p
-met P (Incompatible a b) s p h = p
-met P (Arity a b) s p h = p
-met P (Recursive loc) s p h = p
-met P Full s p h = absurd h
-met P Deep s p h = absurd h
-met P Itself s p h = absurd h
-met P Disagree s p h = absurd h
-met P Open s p h = absurd h
-met P NoArgument s p h = absurd h
-met P Twice s p h = absurd h
+met P (Failed x) s p h = p
+met P (Refused x) s p h = absurd h
 
 seen-tys : (w : List ℕ) (u : Used) (ds : List Struct) → Tys-in (seen w u ds) → Tys-in (view w u)
 unfolding seen with-structs Tys-in
@@ -106,17 +97,8 @@ seen-tys w u ds h = h
 
 tells-nothing : (u : Used) (o : Out) → Nodes-in (u .nodes) o → Tells u show.Nothing o
 tells-nothing u (Done t) h = tt
-tells-nothing u (Subtype a b) h = h
-tells-nothing u (Incompatible a b) h = h
-tells-nothing u (Arity a b) h = h
-tells-nothing u (Recursive loc) h = tt
-tells-nothing u Full h = tt
-tells-nothing u Deep h = tt
-tells-nothing u Itself h = tt
-tells-nothing u Disagree h = tt
-tells-nothing u Open h = tt
-tells-nothing u NoArgument h = tt
-tells-nothing u Twice h = tt
+tells-nothing u (Failed x) h = h
+tells-nothing u (Refused x) h = tt
 
 module _ {w : List ℕ} {u : Used} {w′ : List ℕ} {r : Step} (a : Answered w u w′ r (λ s. numbered (default-num-vars s (num-vars 0 (s .vars))))) where
   pub fits : {params : List (List ℕ)} → Holds-sound w u params → Settles (r .out) → Fit (view w′ (r .used))

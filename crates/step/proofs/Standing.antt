@@ -25,7 +25,7 @@ use Rattle.definition.specs.Step as step
 use Rattle.definition.specs.Step.{constrain, tell, run, answer, answer-with, refusal, put-back, max-payload, number-of-error}
 use Rattle.table.specs.State.{Front, outcome}
 use Rattle.table.specs.declared.Out.{Out}
-use Rattle.table.specs.declared.Out.the-variants.{Done, Subtype, Incompatible, Arity, Recursive, Full, Deep, Itself, Disagree, Open, NoArgument, Twice}
+use Rattle.table.specs.declared.Out.the-variants.{Done, Failed, Refused}
 use Rattle.table.proofs.Steps.{front-refl}
 use Rattle.fields.specs.Noded.{Noded, SD, FV, NV, SN, JN, SU, UF, RD, IN, TS, NC, BC, SC, SV, RM, place-record}
 use Rattle.answer.specs.declared.Ran.{Ran}
@@ -160,17 +160,8 @@ module _ {P : List Cell → Type 0} where
   outcome-leaves : (o : Out) (s : State) → P (s .vars) → Leaves P (outcome o s)
   unfolding outcome
   outcome-leaves (Done t) s p = l-ok p
-  outcome-leaves (Subtype a b) s p = l-err
-  outcome-leaves (Incompatible a b) s p = l-err
-  outcome-leaves (Arity a b) s p = l-err
-  outcome-leaves (Recursive loc) s p = l-err
-  outcome-leaves Full s p = l-refused
-  outcome-leaves Deep s p = l-refused
-  outcome-leaves Itself s p = l-refused
-  outcome-leaves Disagree s p = l-refused
-  outcome-leaves Open s p = l-refused
-  outcome-leaves NoArgument s p = l-refused
-  outcome-leaves Twice s p = l-refused
+  outcome-leaves (Failed x) s p = l-err
+  outcome-leaves (Refused x) s p = l-refused
 
   -- UF, RD and TS, whose state is not kept
   pub unkept-leaves : (r : Ran) (n : Noded) (s : State) → noded-kept n ≡ false → P (s .vars) → Leaves P (noded-step r n s)

@@ -29,9 +29,10 @@ use Rattle.table.specs.declared.Shape.the-variants.{Ref as RefS, Apply as Apply
 use Rattle.table.specs.declared.Found.{Found}
 use Rattle.table.specs.declared.Found.the-variants.{Nothing, Just}
 use Rattle.table.specs.declared.Out.{Out}
-use Rattle.table.specs.declared.Out.the-variants.{Done, Subtype, Incompatible, Arity, Recursive, Full, Deep, Itself, Disagree, Open as OpenO, NoArgument, Twice}
+use Rattle.table.specs.declared.Out.the-variants.{Done, Refused}
+use Rattle.table.specs.declared.Refusal.the-variants.{RunsIntoItself}
 use Rattle.table.proofs.Rows.{length-entries}
-use Rattle.table.proofs.Steps.{grown-refl, grown-trans, after-now, after-stop}
+use Rattle.table.proofs.Steps.{grown-refl, grown-trans, after-now, after-stop, done-is}
 use Rattle.subst.specs.Answers.{part-count}
 use Rattle.subst.specs.Ends.{Known}
 use Rattle.subst.specs.Ready.{rebuilt, rebuilt-at, by-parts, by-parts-at, Has-parts, onward-of, Onward-in, Goes, landed, Landing-in, Lands}
@@ -46,20 +47,6 @@ use Rattle.subst.proofs.Occurs.{at-node, many-parts, part-is, parts-low
 
 clash : {A : Type 0} → _≡_ {A = ℕ} 0 1 → A
 clash z = absurd (omega arith)
-
-done-is : (o : Out) (t : ℕ) → done o ≡ Just t → o ≡ Done t
-done-is (Done x) t e = cc
-done-is (Subtype a b) t e = clash (cc)
-done-is (Incompatible a b) t e = clash (cc)
-done-is (Arity a b) t e = clash (cc)
-done-is (Recursive loc) t e = clash (cc)
-done-is Full t e = clash (cc)
-done-is Deep t e = clash (cc)
-done-is Itself t e = clash (cc)
-done-is Disagree t e = clash (cc)
-done-is OpenO t e = clash (cc)
-done-is NoArgument t e = clash (cc)
-done-is Twice t e = clash (cc)
 
 done-ok : (t : ℕ) (s : State) → outcome (Done t) s ≡ ok (s, t)
 unfolding outcome
@@ -604,9 +591,9 @@ module _ (w : List ℕ) (u : Used) (t calls : ℕ) (h : Lay w u) (r : Landing) (
   lands-at : (x : Landing) → r ≡ x → (ds : List Struct) → landed (seen w u ds) x ≡ ready calls (seen w u ds) t
   lands-at x z ds = sym (ap (landed (seen w u ds)) z) ∙ g .is ds
 
-  pub lands-spent : r ≡ Spent → After w u w (record { out = Itself; used = u }) (λ s. ready calls s t)
+  pub lands-spent : r ≡ Spent → After w u w (record { out = Refused RunsIntoItself; used = u }) (λ s. ready calls s t)
   unfolding outcome
-  lands-spent z = after-now w u Itself (λ s. ready calls s t) h tt (lands-at Spent z)
+  lands-spent z = after-now w u (Refused RunsIntoItself) (λ s. ready calls s t) h tt (lands-at Spent z)
 
   pub lands-open : (loc : ℕ) (v : TVar) → r ≡ OpenL loc v → (w′ : List ℕ) (a : Step) → After w u w′ a (λ s. sp s loc (d.Var (v .0))) → After w u w′ a (λ s. ready calls s t)
   lands-open loc v z w′ a f = after-at w u w′ a _ _ (lands-at (OpenL loc v) z) f
@@ -629,9 +616,9 @@ module _ (w : List ℕ) (u : Used) (t calls : ℕ) (h : Lay w u) (r : Landing) (
 -- ---- the whole run
 
 module _ (w : List ℕ) (u : Used) (t : ℕ) (h : Lay w u) (b : Bool) (e : (ds : List Struct) → b ≡ reaches-itself (seen w u ds) t) where
-  pub run-stop : b ≡ true → After w u w (record { out = Itself; used = u }) (λ s. ready-tvars s t)
+  pub run-stop : b ≡ true → After w u w (record { out = Refused RunsIntoItself; used = u }) (λ s. ready-tvars s t)
   unfolding outcome ready-tvars
-  run-stop z = after-now w u Itself (λ s. ready-tvars s t) h tt (λ ds. sym (let y = sym (e ds) ∙ z in rw (y, ready-tvars) refl))
+  run-stop z = after-now w u (Refused RunsIntoItself) (λ s. ready-tvars s t) h tt (λ ds. sym (let y = sym (e ds) ∙ z in rw (y, ready-tvars) refl))
 
   pub run-on : b ≡ false → (w′ : List ℕ) (r : Step) → After w u w′ r (λ s. ready (u .nodes * 2) s t) → After w u w′ r (λ s. ready-tvars s t)
   unfolding ready-tvars

@@ -20,6 +20,7 @@ use names::TVar;
 use names::TypeName;
 use table::Found;
 use table::Out;
+use table::Refusal;
 use table::Shape;
 use table::Step;
 use table::Used;
@@ -522,7 +523,8 @@ fn note(ends: &mut [u32], v: TVar, x: u32)
     }
 }
 
-// Goes from v to its end, or to a variable whose end is noted. The chains that are noted have at most `longest` bindings.
+// Goes from v to its end, or to a variable whose end is noted. The chains that are noted have at most `longest` bindings:
+// counted, since forward_tvar takes no more steps than there are variables.
 fn meet(w: &[u32], u: Used, v: TVar, longest: u32, ends: &[u32]) -> Meeting
     requires { ⌜ Lay (now w) u × Noted (now w) u longest (now ends) ⌝ }
     ensures { λ r. ⌜ Meets (now (w .entry)) u (v .0) longest r ⌝ }
@@ -711,17 +713,8 @@ fn anew(s: Step) -> Step
     let o = s.out;
     let x = match o {
         Out::Done(t) => Out::Done(t),
-        Out::Subtype(a, b) => Out::Subtype(a, b),
-        Out::Incompatible(a, b) => Out::Incompatible(a, b),
-        Out::Arity(a, b) => Out::Arity(a, b),
-        Out::Recursive(loc) => Out::Recursive(loc),
-        Out::Full => Out::Full,
-        Out::Deep => Out::Deep,
-        Out::Itself => Out::Itself,
-        Out::Disagree => Out::Disagree,
-        Out::Open => Out::Open,
-        Out::NoArgument => Out::NoArgument,
-        Out::Twice => Out::Twice,
+        Out::Failed(e) => Out::Failed(e),
+        Out::Refused(r) => Out::Refused(r),
     };
     Step { out: x, used: u }
 }
@@ -797,7 +790,7 @@ fn ready(w: &mut [u32], u: Used, t: u32, left: u32, ends: &[u32]) -> Step
         }
         Landing::Open(loc, v) => table::push_node(w, u, loc, Shape::Var(v)),
         Landing::Spent => Step {
-            out: Out::Itself,
+            out: Out::Refused(Refusal::RunsIntoItself),
             used: u,
         },
     }
@@ -835,7 +828,7 @@ pub fn ready_tvars(w: &mut [u32], u: Used, t: u32) -> Step
     }
     if never_over(w, u, t) {
         return Step {
-            out: Out::Itself,
+            out: Out::Refused(Refusal::RunsIntoItself),
             used: u,
         };
     }

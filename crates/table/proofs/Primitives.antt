@@ -19,7 +19,8 @@ use Rattle.table.specs.declared.Shape.the-variants.{Unit as UnitS, Ref, 
 use Rattle.table.specs.declared.Used.{Used}
 use Rattle.table.specs.declared.Found.{Found}
 use Rattle.table.specs.declared.Found.the-variants.{Nothing, Just}
-use Rattle.table.specs.declared.Out.the-variants.{Done, Full}
+use Rattle.table.specs.declared.Out.the-variants.{Done, Refused}
+use Rattle.table.specs.declared.Refusal.the-variants.{Full}
 use Rattle.table.proofs.Rows.{wrote-none}
 use Rattle.table.proofs.Pushed.{count-view, args-view, node-pushed, places-full}
 
@@ -73,7 +74,7 @@ module _ (w : List ℕ) (u : Used) (loc : ℕ) (k : Mark) (name : TypeName) (par
   many : length (take n parts) ≡ n
   many = let q = p .few in length-take-le n parts (omega arith)
 
-  pub apply-full : 4096 - u .args < n → After w u w (record { out = Full; used = u }) (λ s. sp s loc v)
+  pub apply-full : 4096 - u .args < n → After w u w (record { out = Refused Full; used = u }) (λ s. sp s loc v)
   unfolding args-of
   apply-full le = let few = h .args in places-full w u loc v h lt (rw many (omega arith))
 

@@ -13,7 +13,8 @@ use Rattle.definition.specs.Store.{count, taken, with-vars, with-var, with-cons
 use Rattle.table.specs.Rows.{row, entries, Clean, Written, arg-words, read-arg, node-table, arg-table, var-table, constraint-table, struct-table, places}
 use Rattle.table.specs.State.{view, seen, Below, Inside, Lay, Grown, Wrote, Changed, After, Stored, Declared, Var-in, one-var, outcome, with-cell, pushed-constraint}
 use Rattle.table.specs.declared.Used.{Used}
-use Rattle.table.specs.declared.Out.the-variants.{Done, Full}
+use Rattle.table.specs.declared.Out.the-variants.{Done, Refused}
+use Rattle.table.specs.declared.Refusal.the-variants.{Full}
 use Rattle.table.proofs.Rows.{length-entries, entry-at, entry-out, Same, same-entries, same-clean, apart, Put, put-row, put-push, put-push-clean, put-blank, put-set, put-set-clean}
 use Rattle.table.proofs.Written.{node-long, cell-again, cell-long, constraint-long, struct-long}
 use Rattle.table.proofs.Fields.{arg-row}
@@ -103,13 +104,13 @@ module _ (w : List ℕ) (m k : ℕ) (parts w′ : List ℕ) (h : Wrote w (12293 
 -- ---- a node, with its arguments
 
 module _ (w : List ℕ) (u : Used) (loc : ℕ) (v : Type-value) (h : Lay w u) where
-  pub node-full : 2048 ≤ u .nodes → After w u w (record { out = Full; used = u }) (λ s. sp s loc v)
+  pub node-full : 2048 ≤ u .nodes → After w u w (record { out = Refused Full; used = u }) (λ s. sp s loc v)
   unfolding outcome
-  node-full le = after-now w u Full _ h tt (λ ds. sym (sp-no-node (seen w u ds) loc v (rw (count-seen w u ds) le)))
+  node-full le = after-now w u (Refused Full) _ h tt (λ ds. sym (sp-no-node (seen w u ds) loc v (rw (count-seen w u ds) le)))
 
-  pub places-full : u .nodes < 2048 → 4096 < u .args + length (args-of v) → After w u w (record { out = Full; used = u }) (λ s. sp s loc v)
+  pub places-full : u .nodes < 2048 → 4096 < u .args + length (args-of v) → After w u w (record { out = Refused Full; used = u }) (λ s. sp s loc v)
   unfolding outcome
-  places-full lt le = after-now w u Full _ h tt (λ ds. sym (sp-no-place (seen w u ds) loc v (rw (count-seen w u ds) lt) (rw (args-seen w u ds) le)))
+  places-full lt le = after-now w u (Refused Full) _ h tt (λ ds. sym (sp-no-place (seen w u ds) loc v (rw (count-seen w u ds) lt) (rw (args-seen w u ds) le)))
 
   module _ (parts : List ℕ) (n m : ℕ) (w₁ r w′ : List ℕ) (sh : Shape Places)
       (lt : u .nodes < 2048) (room : u .args + n ≤ 4096) (long : n ≤ length parts) (many : m ≡ u .args + n)
@@ -186,9 +187,9 @@ module _ (w : List ℕ) (u : Used) (loc : ℕ) (v : Type-value) (h : Lay w u) wh
 -- ---- a variable is taken: its row is blank already
 
 module _ (w : List ℕ) (u : Used) (h : Lay w u) where
-  var-full : 1024 ≤ u .vars → Changed w u w (record { out = Full; used = u }) (λ s. next-tvar s)
+  var-full : 1024 ≤ u .vars → Changed w u w (record { out = Refused Full; used = u }) (λ s. next-tvar s)
   unfolding outcome
-  var-full le = changed-now w u Full _ h (λ ds. sym (tvar-full (seen w u ds) (rw (taken-seen w u ds) le)))
+  var-full le = changed-now w u (Refused Full) _ h (λ ds. sym (tvar-full (seen w u ds) (rw (taken-seen w u ds) le)))
 
   module _ (lt : u .vars < 1024) where
     abbrev one-more : Used
@@ -323,9 +324,9 @@ module _ (w : List ℕ) (u : Used) (v : ℕ) (b m : Option ℕ) (h : Lay w u) (n
 -- ---- a constraint is listed
 
 module _ (w : List ℕ) (u : Used) (x : Constraint) (h : Lay w u) where
-  pub constraints-full : 512 ≤ u .constraints → Changed w u w (record { out = Full; used = u }) (pushed-constraint x)
+  pub constraints-full : 512 ≤ u .constraints → Changed w u w (record { out = Refused Full; used = u }) (pushed-constraint x)
   unfolding outcome
-  constraints-full le = changed-now w u Full _ h (λ ds. sym (constraint-full (seen w u ds) x (rw (constraints-seen w u ds) le)))
+  constraints-full le = changed-now w u (Refused Full) _ h (λ ds. sym (constraint-full (seen w u ds) x (rw (constraints-seen w u ds) le)))
 
   module _ (r w′ : List ℕ) (lt : u .constraints < 512) (wrote : Wrote w (21509 + u .constraints * 4) 4 r w′) (q : Written constraint-table r x) where
     abbrev listed : Used
@@ -385,7 +386,7 @@ module _ (w : List ℕ) (u : Used) (x : Constraint) (h : Lay w u) where
 -- ---- a struct is declared
 
 module _ (w : List ℕ) (u : Used) (abilities params : ℕ) (h : Lay w u) where
-  pub structs-full : 256 ≤ u .structs → Declared w u w (record { out = Full; used = u }) abilities params
+  pub structs-full : 256 ≤ u .structs → Declared w u w (record { out = Refused Full; used = u }) abilities params
   unfolding outcome seen with-structs
   structs-full le =
       record {

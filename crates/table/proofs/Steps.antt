@@ -3,13 +3,13 @@ use mathlib.Core.Path.{_≡_, refl, sym, ap, _∙_, subst}
 use mathlib.Core.List.{List, [], _++_, append-nil, append-assoc}
 use Prim.Native.Nat.{ℕ}
 use native.Mathlib.Omega.{arith}
-use Rattle.definition.specs.Types.{State, Struct, Result, _>>=_}
+use Rattle.definition.specs.Types.{State, Struct, Result, ok, err, refused, _>>=_}
 use Rattle.definition.specs.Store.{with-structs}
 use Rattle.table.specs.State.{Lay, Front, Grown, Changed, After, Stored, Nodes-in, outcome, seen, view, done}
 use Rattle.table.specs.declared.Step.{Step}
 use Rattle.table.specs.declared.Used.{Used}
 use Rattle.table.specs.declared.Out.{Out}
-use Rattle.table.specs.declared.Out.the-variants.{Done, Subtype, Incompatible, Arity, Recursive, Full, Deep, Itself, Disagree, Open, NoArgument, Twice}
+use Rattle.table.specs.declared.Out.the-variants.{Done, Failed, Refused}
 use Rattle.table.specs.declared.Found.{Found}
 use Rattle.table.specs.declared.Found.the-variants.{Nothing, Just}
 
@@ -69,36 +69,42 @@ changed-is w u w′ r f g e a = record { lay = a .lay; grown = a .grown; structs
 pub after-is : (w : List ℕ) (u : Used) (w′ : List ℕ) (r : Step) (f g : State → Result (State × ℕ)) → ((s : State) → f s ≡ g s) → After w u w′ r f → After w u w′ r g
 after-is w u w′ r f g e a = record { changed = changed-is w u w′ r f g e (a .changed); inside = a .inside }
 
+-- ---- what an answer is
+
+never : {A : Type 0} → _≡_ {A = ℕ} 0 1 → A
+never z = absurd (omega arith)
+
+pub done-is : (o : Out) (t : ℕ) → done o ≡ Just t → o ≡ Done t
+done-is (Done n) t e = cc
+done-is (Failed x) t e = never (cc)
+done-is (Refused x) t e = never (cc)
+
+-- a result that is no error names no types
+abbrev pub No-error : {A : Type 0} → Result A → Type 0
+No-error (ok a) = Unit {0}
+No-error (err s e) = ⊥
+No-error (refused x) = Unit {0}
+
+pub none-in : (n : ℕ) (o : Out) (s : State) (m : Result (State × ℕ)) → outcome o s ≡ m → No-error m → done o ≡ Nothing → Nodes-in n o
+unfolding outcome
+none-in n (Done t) s m e q d = never (cc)
+none-in n (Failed x) s m e q d = absurd (rw (← e) at q)
+none-in n (Refused x) s m e q d = tt
+
 -- ---- f is no number, so nothing follows it
-
-abbrev is-just : Found → Type 0
-is-just Nothing = ⊥
-is-just (Just n) = Unit {0}
-
-just-nothing : {n : ℕ} → Just n ≡ Nothing → ⊥
-just-nothing e = subst is-just e tt
-
-nothing-just : {n : ℕ} → Nothing ≡ Just n → ⊥
-nothing-just e = subst is-just (sym e) tt
-
-abbrev number : Found → ℕ
-number Nothing = 0
-number (Just n) = n
 
 stop-is : (o : Out) (s : State) (h : State × ℕ → Result (State × ℕ)) → done o ≡ Nothing → outcome o s ≡ (outcome o s >>= h)
 unfolding outcome _>>=_
-stop-is (Done t) s h e = absurd (just-nothing e)
-stop-is (Subtype a b) s h e = refl
-stop-is (Incompatible a b) s h e = refl
-stop-is (Arity a b) s h e = refl
-stop-is (Recursive loc) s h e = refl
-stop-is Full s h e = refl
-stop-is Deep s h e = refl
-stop-is Itself s h e = refl
-stop-is Disagree s h e = refl
-stop-is Open s h e = refl
-stop-is NoArgument s h e = refl
-stop-is Twice s h e = refl
+stop-is (Done t) s h e = never (cc)
+stop-is (Failed x) s h e = refl
+stop-is (Refused x) s h e = refl
+
+-- .. whatever it were
+pub stop-same : {A : Type 0} (o : Out) (s : State) (h k : State × ℕ → Result A) → done o ≡ Nothing → (outcome o s >>= h) ≡ (outcome o s >>= k)
+unfolding outcome _>>=_
+stop-same (Done t) s h k e = never (cc)
+stop-same (Failed x) s h k e = refl
+stop-same (Refused x) s h k e = refl
 
 pub changed-stop : (w : List ℕ) (u : Used) (w′ : List ℕ) (r : Step) (f : State → Result (State × ℕ)) (h : State × ℕ → Result (State × ℕ)) (b : Found)
     → Changed w u w′ r f → b ≡ done (r .out) → b ≡ Nothing → Changed w u w′ r (λ s. f s >>= h)
@@ -111,20 +117,9 @@ after-stop w u w′ r f h b a p q = record { changed = changed-stop w u w′ r f
 
 -- ---- f is the number t, and what follows it is h
 
-then-is : (o : Out) (s : State) (h : State × ℕ → Result (State × ℕ)) (t : ℕ) → done o ≡ Just t → h (s, t) ≡ (outcome o s >>= h)
+pub then-is : {A : Type 0} (o : Out) (s : State) (h : State × ℕ → Result A) (t : ℕ) → done o ≡ Just t → h (s, t) ≡ (outcome o s >>= h)
 unfolding outcome _>>=_
-then-is (Done n) s h t e = ap (λ (m : ℕ). h (s, m)) (ap number (sym e))
-then-is (Subtype a b) s h t e = absurd (nothing-just e)
-then-is (Incompatible a b) s h t e = absurd (nothing-just e)
-then-is (Arity a b) s h t e = absurd (nothing-just e)
-then-is (Recursive loc) s h t e = absurd (nothing-just e)
-then-is Full s h t e = absurd (nothing-just e)
-then-is Deep s h t e = absurd (nothing-just e)
-then-is Itself s h t e = absurd (nothing-just e)
-then-is Disagree s h t e = absurd (nothing-just e)
-then-is Open s h t e = absurd (nothing-just e)
-then-is NoArgument s h t e = absurd (nothing-just e)
-then-is Twice s h t e = absurd (nothing-just e)
+then-is o s h t e = rw (done-is o t e)
 
 pub changed-then : (w : List ℕ) (u : Used) (w′ : List ℕ) (r : Step) (f : State → Result (State × ℕ)) (h : State × ℕ → Result (State × ℕ)) (b : Found) (t : ℕ) (w₂ : List ℕ) (r₂ : Step)
     → Changed w u w′ r f → b ≡ done (r .out) → b ≡ Just t → Changed w′ (r .used) w₂ r₂ (λ s. h (s, t)) → Changed w u w₂ r₂ (λ s. f s >>= h)

@@ -8,7 +8,7 @@ use lib.Dec.{ltb}
 use lib.ListN.{length, getD, set}
 use Rattle.definition.specs.Types as d
 use Rattle.definition.specs.Types.{State, Struct, Places, Cell, Result, ok, err, refused, _>>=_, if_then_else_}
-use Rattle.definition.specs.Types.{SubtypeError, ArityMismatch, RecursiveType, full, too-deep, runs-into-itself, abilities-disagree, open-variable, no-argument, parameter-twice}
+use Rattle.definition.specs.Types.{full, too-deep, runs-into-itself, abilities-disagree, open-variable, no-argument, parameter-twice}
 use Rattle.definition.specs.Store.{count, taken, node, with-vars, with-structs, get, add-constraint, declare}
 use Rattle.names.specs.Names.{mark-of, name-of}
 use Rattle.table.specs.Rows.{entries, Clean, node-table, arg-table, var-table, constraint-table, struct-table, places}
@@ -21,7 +21,11 @@ use Rattle.table.specs.declared.Found.the-variants.{Nothing, Just}
 use Rattle.table.specs.declared.Constraint.{Constraint}
 use Rattle.table.specs.declared.Constraint.the-variants.{Ability, Numeric, Bits, Ordered, BaseType, SingleType}
 use Rattle.table.specs.declared.Out.{Out}
-use Rattle.table.specs.declared.Out.the-variants.{Done, Subtype, Incompatible, Arity, Recursive, Full, Deep, Itself, Disagree, Open, NoArgument, Twice}
+use Rattle.table.specs.declared.Out.the-variants.{Done, Failed, Refused}
+use Rattle.table.specs.declared.TypingError.{TypingError}
+use Rattle.table.specs.declared.TypingError.the-variants.{SubtypeError, Incompatible, ArityMismatch, RecursiveType}
+use Rattle.table.specs.declared.Refusal.{Refusal}
+use Rattle.table.specs.declared.Refusal.the-variants.{Full, TooDeep, RunsIntoItself, AbilitiesDisagree, OpenVariable, NoArgument, ParameterTwice}
 use Rattle.table.specs.declared.Step.{Step}
 
 -- ---- answers as the definition has them
@@ -66,35 +70,32 @@ constraint-of (Ordered loc ty) = d.OrderedConstraint loc ty
 constraint-of (BaseType loc ty) = d.BaseTypeConstraint loc ty
 constraint-of (SingleType loc ty) = d.SingleTypeConstraint loc ty
 
+abbrev pub error-of : TypingError → d.TypingError
+error-of (SubtypeError a b) = d.SubtypeError a b
+error-of (Incompatible a b) = d.Incompatible a b
+error-of (ArityMismatch a b) = d.ArityMismatch a b
+error-of (RecursiveType loc) = d.RecursiveType loc
+
+abbrev pub refusal-of : Refusal → d.Refusal
+refusal-of Full = full
+refusal-of TooDeep = too-deep
+refusal-of RunsIntoItself = runs-into-itself
+refusal-of AbilitiesDisagree = abilities-disagree
+refusal-of OpenVariable = open-variable
+refusal-of NoArgument = no-argument
+refusal-of ParameterTwice = parameter-twice
+
 -- the answer o, met in the state s
 unfoldable pub outcome : Out → State → Result (State × ℕ)
 outcome (Done t) s = ok (s, t)
-outcome (Subtype a b) s = err s (SubtypeError a b)
-outcome (Incompatible a b) s = err s (d.Incompatible a b)
-outcome (Arity a b) s = err s (ArityMismatch a b)
-outcome (Recursive loc) s = err s (RecursiveType loc)
-outcome Full s = refused full
-outcome Deep s = refused too-deep
-outcome Itself s = refused runs-into-itself
-outcome Disagree s = refused abilities-disagree
-outcome Open s = refused open-variable
-outcome NoArgument s = refused no-argument
-outcome Twice s = refused parameter-twice
+outcome (Failed e) s = err s (error-of e)
+outcome (Refused x) s = refused (refusal-of x)
 
 -- the number that an answer is, if it is one
 abbrev pub done : Out → Found
 done (Done t) = Just t
-done (Subtype a b) = Nothing
-done (Incompatible a b) = Nothing
-done (Arity a b) = Nothing
-done (Recursive loc) = Nothing
-done Full = Nothing
-done Deep = Nothing
-done Itself = Nothing
-done Disagree = Nothing
-done Open = Nothing
-done NoArgument = Nothing
-done Twice = Nothing
+done (Failed e) = Nothing
+done (Refused x) = Nothing
 
 -- ---- the state
 
@@ -167,7 +168,7 @@ unfoldable pub one-var : Used → Step
 one-var u =
     if ltb (u .vars) 1024
     then record { out = Done (u .vars); used = record { nodes = u .nodes; args = u .args; vars = u .vars + 1; constraints = u .constraints; structs = u .structs } }
-    else record { out = Full; used = u }
+    else record { out = Refused Full; used = u }
 
 -- the words w with u in use became w′ and the answer r, as f says, whatever the declarations are
 pub record Changed (w : List ℕ) (u : Used) (w′ : List ℕ) (r : Step) (f : State → Result (State × ℕ)) : Type 0 where
@@ -176,35 +177,24 @@ pub record Changed (w : List ℕ) (u : Used) (w′ : List ℕ) (r : Step) (f : S
   pub structs : view w′ (r .used) .structs ≡ view w u .structs
   pub is : (ds : List Struct) → outcome (r .out) (seen w′ (r .used) ds) ≡ f (seen w u ds)
 
+-- the nodes that an error names are below n
+abbrev pub Types-in : ℕ → TypingError → Type 0
+Types-in n (SubtypeError a b) = (a < n) × (b < n)
+Types-in n (Incompatible a b) = (a < n) × (b < n)
+Types-in n (ArityMismatch a b) = (a < n) × (b < n)
+Types-in n (RecursiveType loc) = Unit {0}
+
 -- the nodes that an answer names are below n
 abbrev pub Nodes-in : ℕ → Out → Type 0
 Nodes-in n (Done t) = t < n
-Nodes-in n (Subtype a b) = (a < n) × (b < n)
-Nodes-in n (Incompatible a b) = (a < n) × (b < n)
-Nodes-in n (Arity a b) = (a < n) × (b < n)
-Nodes-in n (Recursive loc) = Unit {0}
-Nodes-in n Full = Unit {0}
-Nodes-in n Deep = Unit {0}
-Nodes-in n Itself = Unit {0}
-Nodes-in n Disagree = Unit {0}
-Nodes-in n Open = Unit {0}
-Nodes-in n NoArgument = Unit {0}
-Nodes-in n Twice = Unit {0}
+Nodes-in n (Failed e) = Types-in n e
+Nodes-in n (Refused x) = Unit {0}
 
 -- the variable that an answer names is below n
 abbrev pub Var-in : ℕ → Out → Type 0
 Var-in n (Done v) = v < n
-Var-in n (Subtype a b) = Unit {0}
-Var-in n (Incompatible a b) = Unit {0}
-Var-in n (Arity a b) = Unit {0}
-Var-in n (Recursive loc) = Unit {0}
-Var-in n Full = Unit {0}
-Var-in n Deep = Unit {0}
-Var-in n Itself = Unit {0}
-Var-in n Disagree = Unit {0}
-Var-in n Open = Unit {0}
-Var-in n NoArgument = Unit {0}
-Var-in n Twice = Unit {0}
+Var-in n (Failed e) = Unit {0}
+Var-in n (Refused x) = Unit {0}
 
 -- .. and the answer is a node
 pub record After (w : List ℕ) (u : Used) (w′ : List ℕ) (r : Step) (f : State → Result (State × ℕ)) : Type 0 where

@@ -68,20 +68,30 @@ pub struct Used {
     pub structs: u32,
 }
 
-// What a step answers: success with a number, an error with its types or location, or a refusal.
+// TypingError: the two types, or the location of a type that would contain itself.
+pub enum TypingError {
+    SubtypeError(u32, u32),
+    Incompatible(u32, u32),
+    ArityMismatch(u32, u32),
+    RecursiveType(u32),
+}
+
+// The definition's refusals that a step can meet.
+pub enum Refusal {
+    Full,
+    TooDeep,
+    RunsIntoItself,
+    AbilitiesDisagree,
+    OpenVariable,
+    NoArgument,
+    ParameterTwice,
+}
+
+// What a step answers: success with a number, an error or a refusal.
 pub enum Out {
     Done(u32),
-    Subtype(u32, u32),
-    Incompatible(u32, u32),
-    Arity(u32, u32),
-    Recursive(u32),
-    Full,
-    Deep,
-    Itself,
-    Disagree,
-    Open,
-    NoArgument,
-    Twice,
+    Failed(TypingError),
+    Refused(Refusal),
 }
 
 pub struct Step {
@@ -95,17 +105,8 @@ pub fn done_of(o: Out) -> Found
 {
     match o {
         Out::Done(t) => Found::Just(t),
-        Out::Subtype(_, _) => Found::Nothing,
-        Out::Incompatible(_, _) => Found::Nothing,
-        Out::Arity(_, _) => Found::Nothing,
-        Out::Recursive(_) => Found::Nothing,
-        Out::Full => Found::Nothing,
-        Out::Deep => Found::Nothing,
-        Out::Itself => Found::Nothing,
-        Out::Disagree => Found::Nothing,
-        Out::Open => Found::Nothing,
-        Out::NoArgument => Found::Nothing,
-        Out::Twice => Found::Nothing,
+        Out::Failed(_) => Found::Nothing,
+        Out::Refused(_) => Found::Nothing,
     }
 }
 
@@ -348,7 +349,7 @@ pub fn push_node(w: &mut [u32], u: Used, loc: u32, shape: Shape) -> Step
     let n = u.nodes;
     if MAX_NODES <= n {
         return Step {
-            out: Out::Full,
+            out: Out::Refused(Refusal::Full),
             used: u,
         };
     }
@@ -383,13 +384,13 @@ pub fn push_apply(
     let first = u.args;
     if MAX_NODES <= t {
         return Step {
-            out: Out::Full,
+            out: Out::Refused(Refusal::Full),
             used: u,
         };
     }
     if MAX_ARGS - first < n {
         return Step {
-            out: Out::Full,
+            out: Out::Refused(Refusal::Full),
             used: u,
         };
     }
@@ -447,7 +448,7 @@ fn var_taken(u: Used) -> Step
     let n = u.vars;
     if MAX_VARS <= n {
         return Step {
-            out: Out::Full,
+            out: Out::Refused(Refusal::Full),
             used: u,
         };
     }
@@ -607,7 +608,7 @@ pub fn push_constraint(w: &mut [u32], u: Used, c: Constraint) -> Step
     let n = u.constraints;
     if MAX_CONSTRAINTS <= n {
         return Step {
-            out: Out::Full,
+            out: Out::Refused(Refusal::Full),
             used: u,
         };
     }
@@ -644,7 +645,7 @@ pub fn push_struct(w: &mut [u32], u: Used, abilities: AbilitySet, params: u32) -
     let n = u.structs;
     if MAX_STRUCTS <= n {
         return Step {
-            out: Out::Full,
+            out: Out::Refused(Refusal::Full),
             used: u,
         };
     }

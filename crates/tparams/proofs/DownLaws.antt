@@ -25,7 +25,8 @@ use Rattle.table.specs.declared.Node.{Node}
 use Rattle.table.specs.declared.Step.{Step}
 use Rattle.table.specs.declared.Used.{Used}
 use Rattle.table.specs.declared.Out.{Out}
-use Rattle.table.specs.declared.Out.the-variants.{Done, Itself, Open}
+use Rattle.table.specs.declared.Out.the-variants.{Done, Refused}
+use Rattle.table.specs.declared.Refusal.the-variants.{RunsIntoItself, OpenVariable}
 use Rattle.table.specs.declared.Found.{Found}
 use Rattle.table.specs.declared.Found.the-variants.{Nothing, Just}
 use Rattle.table.proofs.Steps.{after-now, after-stop, after-then}
@@ -36,9 +37,9 @@ use Rattle.walk.proofs.Walk.{rest, sp-apply}
 
 -- ---- one level
 
-pub down-zero : (w : List ℕ) (u : Used) (ps : TParamSubst) (left ty : ℕ) (r : Step) → Lay w u → left ≡ 0 → r ≡ record { out = Itself; used = u } → After w u w r (λ s. subst-down left ps s ty)
+pub down-zero : (w : List ℕ) (u : Used) (ps : TParamSubst) (left ty : ℕ) (r : Step) → Lay w u → left ≡ 0 → r ≡ record { out = Refused RunsIntoItself; used = u } → After w u w r (λ s. subst-down left ps s ty)
 unfolding subst-down outcome
-down-zero w u ps left ty r lay z e = rw (z, e) (after-now w u Itself (λ s. subst-down 0 ps s ty) lay tt (λ ds. refl))
+down-zero w u ps left ty r lay z e = rw (z, e) (after-now w u (Refused RunsIntoItself) (λ s. subst-down 0 ps s ty) lay tt (λ ds. refl))
 
 module _ (w : List ℕ) (u : Used) (ps : TParamSubst) (left ty : ℕ) (nd : Node) (lay : Lay w u) (left-some : left ≡ 0 → ⊥) (node-is : (ds : List Struct) → node-of nd ≡ node (seen w u ds) ty) where
   down-is : (sh : Shape) → nd .shape ≡ sh → (ds : List Struct)
@@ -67,9 +68,9 @@ module _ (w : List ℕ) (u : Used) (ps : TParamSubst) (left ty : ℕ) (nd : Node
     unfolding outcome subst-value with-args
     down-error e = stays UnresolvedError (Done ty) r e r-is in-use (λ s. refl)
 
-  pub down-var : (v : TVar) (r : Step) → nd .shape ≡ Var v → r ≡ record { out = Open; used = u } → After w u w r (λ s. subst-down left ps s ty)
+  pub down-var : (v : TVar) (r : Step) → nd .shape ≡ Var v → r ≡ record { out = Refused OpenVariable; used = u } → After w u w r (λ s. subst-down left ps s ty)
   unfolding outcome subst-value with-args
-  down-var v r e f = stays (Var v) Open r e f tt (λ s. refl)
+  down-var v r e f = stays (Var v) (Refused OpenVariable) r e f tt (λ s. refl)
 
   answered : (s : State) (o : Option ℕ) → outcome (answer o) s ≡ elim o as (λ x. Result (State × ℕ)) [ none ↦ refused no-argument | some arg ↦ ok (s, arg) ]
   unfolding outcome

@@ -8,7 +8,8 @@ use Rattle.definition.specs.Types.{Result, ok, refused, parameter-twice}
 use Rattle.definition.specs.TParams.{TParamSubst}
 use Rattle.names.specs.declared.TParamID.{TParamID}
 use Rattle.table.specs.declared.Out.{Out}
-use Rattle.table.specs.declared.Out.the-variants.{Done, NoArgument}
+use Rattle.table.specs.declared.Out.the-variants.{Done, Refused}
+use Rattle.table.specs.declared.Refusal.the-variants.{NoArgument}
 
 abbrev pub id-at : List TParamID → ℕ → ℕ
 id-at ids i = getD ids i (record { 0 = 0 }) .0
@@ -25,5 +26,5 @@ made false subst = refused parameter-twice
 
 -- a parameter's argument, or 12
 abbrev pub answer : Option ℕ → Out
-answer none = NoArgument
+answer none = Refused NoArgument
 answer (some t) = Done t

@@ -15,6 +15,7 @@ use names::TParamID;
 use names::TypeName;
 use table::Found;
 use table::Out;
+use table::Refusal;
 use table::Shape;
 use table::Step;
 use table::Used;
@@ -76,7 +77,7 @@ fn arg_or_none(ids: [TParamID; 8], args: [u32; 8], n: u32, id: TParamID) -> Out
     ensures { λ r. ⌜ r ≡ answer (arg-of (pairs ids args 0 n) (id .0)) ⌝ }
 {
     match arg_of(ids, args, n, id) {
-        Found::Nothing => Out::NoArgument,
+        Found::Nothing => Out::Refused(Refusal::NoArgument),
         Found::Just(t) => Out::Done(t),
     }
 }
@@ -136,7 +137,7 @@ fn subst_down(
     ensures { λ r. ⌜ After (now (w .entry)) u (now (w .exit)) r (λ s. subst-down left (pairs ids args 0 n) s ty) ⌝ }
 {
     if left == 0 {
-        return stay(Out::Itself, u);
+        return stay(Out::Refused(Refusal::RunsIntoItself), u);
     }
     let node = table::node_at(w, u, ty);
     let loc = node.loc;
@@ -145,7 +146,7 @@ fn subst_down(
         Shape::Unit => stay(Out::Done(ty), u),
         Shape::UnresolvedError => stay(Out::Done(ty), u),
         Shape::Anything => stay(Out::Done(ty), u),
-        Shape::Var(_) => stay(Out::Open, u),
+        Shape::Var(_) => stay(Out::Refused(Refusal::OpenVariable), u),
         Shape::Param(id, _) => {
             let o = arg_or_none(ids, args, n, id);
             stay(o, u)

@@ -12,11 +12,10 @@ use Rattle.table.specs.State.{view, seen, Lay, Front, Grown, Changed, After, Pa
 use Rattle.table.specs.declared.Step.{Step}
 use Rattle.table.specs.declared.Used.{Used}
 use Rattle.table.specs.declared.Out.{Out}
-use Rattle.table.specs.declared.Out.the-variants.{Done, Subtype, Incompatible, Arity, Recursive, Full, Deep, Itself, Disagree, Open, NoArgument, Twice}
 use Rattle.table.specs.declared.Found.{Found}
 use Rattle.table.specs.declared.Found.the-variants.{Nothing, Just}
 use Rattle.table.proofs.Rows.{length-entries}
-use Rattle.table.proofs.Steps.{grown-refl, grown-trans}
+use Rattle.table.proofs.Steps.{grown-refl, grown-trans, done-is, stop-same, then-is}
 use Rattle.walk.specs.When.{When}
 
 -- ---- what a grown state keeps
@@ -48,47 +47,13 @@ parts-grow n m l k h p = record { few = p .few; below = λ i q. omega (arith, p 
 
 -- ---- the answer is a number
 
-pub is-done : (o : Out) (t : ℕ) → done o ≡ Just t → o ≡ Done t
-is-done (Done n) t e = cc
-is-done (Subtype a b) t e = cc
-is-done (Incompatible a b) t e = cc
-is-done (Arity a b) t e = cc
-is-done (Recursive loc) t e = cc
-is-done Full t e = cc
-is-done Deep t e = cc
-is-done Itself t e = cc
-is-done Disagree t e = cc
-is-done Open t e = cc
-is-done NoArgument t e = cc
-is-done Twice t e = cc
-
-pub done-then : {A : Type 0} (o : Out) (s : State) (k : State × ℕ → Result A) (t : ℕ) → done o ≡ Just t → (outcome o s >>= k) ≡ k (s, t)
-unfolding outcome _>>=_
-done-then o s k t e = rw (is-done o t e) refl
-
 pub done-in : (o : Out) (n t : ℕ) → done o ≡ Just t → Nodes-in n o → t < n
-done-in o n t e h = rw (is-done o t e) at h
+done-in o n t e h = rw (done-is o t e) at h
 
 pub after-done : (w : List ℕ) (u : Used) (w′ : List ℕ) (r : Step) (f : State → Result (State × ℕ)) (b : Found) (t : ℕ) → After w u w′ r f → b ≡ done (r .out) → b ≡ Just t → t < r .used .nodes
 after-done w u w′ r f b t a p q = done-in (r .out) (r .used .nodes) t (sym p ∙ q) (a .inside)
 
--- ---- the answer is none
-
--- nothing of it reaches what follows
-pub done-stop : {A : Type 0} (o : Out) (s : State) (h k : State × ℕ → Result A) → done o ≡ Nothing → (outcome o s >>= h) ≡ (outcome o s >>= k)
-unfolding outcome _>>=_
-done-stop (Done n) s h k e = let z : _≡_ {A = ℕ} 0 1 = cc in absurd (omega arith)
-done-stop (Subtype a b) s h k e = refl
-done-stop (Incompatible a b) s h k e = refl
-done-stop (Arity a b) s h k e = refl
-done-stop (Recursive loc) s h k e = refl
-done-stop Full s h k e = refl
-done-stop Deep s h k e = refl
-done-stop Itself s h k e = refl
-done-stop Disagree s h k e = refl
-done-stop Open s h k e = refl
-done-stop NoArgument s h k e = refl
-done-stop Twice s h k e = refl
+-- ---- what follows a result
 
 pub bind-ok : {A : Type 0} (m : Result A) → (m >>= (λ a. ok a)) ≡ m
 unfolding _>>=_
@@ -101,27 +66,6 @@ unfolding _>>=_
 bind-assoc (ok a) f g = refl
 bind-assoc (err s e) f g = refl
 bind-assoc (refused x) f g = refl
-
--- a result that is no error names no types
-abbrev pub No-error : {A : Type 0} → Result A → Type 0
-No-error (ok a) = Unit {0}
-No-error (err s e) = ⊥
-No-error (refused x) = Unit {0}
-
-pub none-in : (n : ℕ) (o : Out) (s : State) (m : Result (State × ℕ)) → outcome o s ≡ m → No-error m → done o ≡ Nothing → Nodes-in n o
-unfolding outcome
-none-in n (Done t) s m e q d = let z : _≡_ {A = ℕ} 0 1 = cc in absurd (omega arith)
-none-in n (Subtype a b) s m e q d = absurd (rw (← e) at q)
-none-in n (Incompatible a b) s m e q d = absurd (rw (← e) at q)
-none-in n (Arity a b) s m e q d = absurd (rw (← e) at q)
-none-in n (Recursive loc) s m e q d = tt
-none-in n Full s m e q d = tt
-none-in n Deep s m e q d = tt
-none-in n Itself s m e q d = tt
-none-in n Disagree s m e q d = tt
-none-in n Open s m e q d = tt
-none-in n NoArgument s m e q d = tt
-none-in n Twice s m e q d = tt
 
 -- ---- steps
 
@@ -149,7 +93,7 @@ module _ (K : List Struct → Type 0) where
         lay = a .lay;
         grown = a .grown;
         structs = a .structs;
-        is = λ ds k. sym (bind-ok _) ∙ done-stop (r .out) (seen w′ (r .used) ds) (λ x. ok x) h (sym p ∙ q) ∙ ap (λ (x : Result (State × ℕ)). x >>= h) (a .is ds k);
+        is = λ ds k. sym (bind-ok _) ∙ stop-same (r .out) (seen w′ (r .used) ds) (λ x. ok x) h (sym p ∙ q) ∙ ap (λ (x : Result (State × ℕ)). x >>= h) (a .is ds k);
         inside = a .inside;
       }
 
@@ -161,7 +105,7 @@ module _ (K : List Struct → Type 0) where
         lay = n .lay;
         grown = grown-trans _ _ _ (a .grown) (n .grown);
         structs = n .structs ∙ a .structs;
-        is = λ ds k. n .is ds (z ds k) ∙ sym (done-then (r .out) (seen w′ (r .used) ds) h t (sym p ∙ q)) ∙ ap (λ (x : Result (State × ℕ)). x >>= h) (a .is ds k);
+        is = λ ds k. n .is ds (z ds k) ∙ then-is (r .out) (seen w′ (r .used) ds) h t (sym p ∙ q) ∙ ap (λ (x : Result (State × ℕ)). x >>= h) (a .is ds k);
         inside = n .inside;
       }
 

@@ -15,9 +15,9 @@ use Rattle.table.specs.declared.Step.{Step}
 use Rattle.table.specs.declared.Used.{Used}
 use Rattle.table.specs.declared.Found.{Found}
 use Rattle.table.specs.declared.Found.the-variants.{Nothing, Just}
-use Rattle.table.proofs.Steps.{grown-refl, grown-trans}
+use Rattle.table.proofs.Steps.{grown-refl, grown-trans, stop-same, then-is}
 use Rattle.walk.specs.When.{When, Placed, Named}
-use Rattle.walk.proofs.Steps.{nodes-grow, front-length, args-kept, args-length, done-then, done-in, done-stop, bind-ok}
+use Rattle.walk.proofs.Steps.{nodes-grow, front-length, args-kept, args-length, done-in, bind-ok}
 
 -- ---- the walk, as the definition has it: `through` are through, `tys` are to come, and h follows
 
@@ -80,7 +80,7 @@ module _ {B : Type 0} (K : List Struct → Type 0) (f : State → ℕ → Result
 
       -- it is no number, so the walk ends with it, whatever was to follow
       pub walk-stops : b ≡ Nothing → (g : State × ℕ → Result B) (ds : List Struct) → K ds → (outcome (r .out) (seen w′ (r .used) ds) >>= g) ≡ rest f h [] tys (seen w₀ u₀ ds)
-      walk-stops q g ds k = done-stop (r .out) (seen w′ (r .used) ds) g next (sym b-is ∙ q) ∙ ap (λ (x : Result (State × ℕ)). x >>= next) (a .is ds (among ds k)) ∙ next-is ds k
+      walk-stops q g ds k = stop-same (r .out) (seen w′ (r .used) ds) g next (sym b-is ∙ q) ∙ ap (λ (x : Result (State × ℕ)). x >>= next) (a .is ds (among ds k)) ∙ next-is ds k
 
       -- it is the number p
       pub walk-more : (p at : ℕ) → b ≡ Just p → at ≡ i → Walked K f h tys w₀ u₀ w′ (r .used) (set parts at p) (i + 1)
@@ -94,7 +94,7 @@ module _ {B : Type 0} (K : List Struct → Type 0) (f : State → ℕ → Result
             through = omega (arith, size);
             below = λ j lt′. by j lt′ (decLt j i);
             is = λ ds k. rw (e, add-one, take-suc-set parts i p (omega (arith, wk .room, few)))
-                (sym (done-then (r .out) (seen w′ (r .used) ds) next p (sym b-is ∙ q)) ∙ ap (λ (x : Result (State × ℕ)). x >>= next) (a .is ds (among ds k)) ∙ next-is ds k);
+                (then-is (r .out) (seen w′ (r .used) ds) next p (sym b-is ∙ q) ∙ ap (λ (x : Result (State × ℕ)). x >>= next) (a .is ds (among ds k)) ∙ next-is ds k);
           }
         where
           by : (j : ℕ) → j < i + 1 → Dec (j < i) → getD (set parts at p) j 0 < r .used .nodes

@@ -3,7 +3,8 @@ use lib.Seq.{getD-take}
 use native.Mathlib.Omega.{arith}
 use mathlib.Core.Path.{refl}
 use Rattle.table.proofs.Steps.{after-now, after-is}
-use Rattle.table.specs.declared.Out.the-variants.{Full}
+use Rattle.table.specs.declared.Out.the-variants.{Refused}
+use Rattle.table.specs.declared.Refusal.the-variants.{Full}
 use Rattle.table.specs.State.{outcome}
 use Rattle.reader.specs.Taken.{put-node}
 use borrow.Author.Needs.{needs}
@@ -12,7 +13,7 @@ use Rattle.reader.proofs.place_node.Tie as tie
 
 returns : tie.Need-returns
 unfolding put-node outcome
-returns c = after-now _ _ Full _ (c .before .before .pre .0) tt (λ ds. rw (c .if1 .taken) refl)
+returns c = after-now _ _ (Refused Full) _ (c .before .before .pre .0) tt (λ ds. rw (c .if1 .taken) refl)
 
 enum-told : tie.Need-enum-told
 enum-told c = search needs
@@ -23,8 +24,8 @@ push-node-requires c κs = (c .before .before .before .before .before .pre .0, r
 enum-known-shape : tie.Need-enum-known-shape
 enum-known-shape c = search needs
 
-array-read-t21 : tie.Need-array-read-t21
-array-read-t21 c = search needs
+array-read-t22 : tie.Need-array-read-t22
+array-read-t22 c = search needs
 
 push-node-requires-2 : tie.Need-push-node-requires-2
 push-node-requires-2 c κs = (c .before .before .before .before .before .before .pre .0, c .before .before .before .before .before .before .pre .1 .1 (c .before .before .before .before .if1 .left) 0 (rw (c .before .before .shape .given .1) (omega arith)))
@@ -116,7 +117,7 @@ place-node-spec =
     enum-told
     push-node-requires
     enum-known-shape
-    array-read-t21
+    array-read-t22
     push-node-requires-2
     enum-told-2
     push-node-requires-3

@@ -43,11 +43,11 @@ add-write-row-2 c = search needs
 write-row-requires-2 : tie.Need-write-row-requires-2
 write-row-requires-2 c κs = search needs
 
-add-t13 : tie.Need-add-t13
-add-t13 c = search needs
+add-t14 : tie.Need-add-t14
+add-t14 c = search needs
 
-add-t25 : tie.Need-add-t25
-add-t25 c = search needs
+add-t27 : tie.Need-add-t27
+add-t27 c = search needs
 
 same-length : tie.Need-same-length
 same-length c = c .before .before .write-row2 .ensures .size ∙ c .before .before .before .before .before .before .before .before .write-row .ensures .size
@@ -71,7 +71,7 @@ push-apply-spec =
     mul-write-row
     add-write-row-2
     write-row-requires-2
-    add-t13
-    add-t25
+    add-t14
+    add-t27
     same-length
     returns-3)

@@ -22,8 +22,8 @@ add-write-row c = search needs
 write-row-requires : tie.Need-write-row-requires
 write-row-requires c κs = search needs
 
-add-t15 : tie.Need-add-t15
-add-t15 c = search needs
+add-t16 : tie.Need-add-t16
+add-t16 c = search needs
 
 same-length : tie.Need-same-length
 same-length c = c .before .before .write-row .ensures .size
@@ -41,6 +41,6 @@ push-constraint-spec =
     mul-write-row
     add-write-row
     write-row-requires
-    add-t15
+    add-t16
     same-length
     returns-2)

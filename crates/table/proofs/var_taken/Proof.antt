@@ -9,12 +9,12 @@ returns : tie.Need-returns
 unfolding one-var
 returns c = simp (le-ltb _ _ (c .if1 .taken))
 
-add-t6 : tie.Need-add-t6
-add-t6 c = search needs
+add-t7 : tie.Need-add-t7
+add-t7 c = search needs
 
 returns-2 : tie.Need-returns-2
 unfolding one-var
 returns-2 c = simp (lt-ltb _ _ (c .if1 .left))
 
 pub var-taken-spec : {M : Type 1} → statement M
-var-taken-spec = tie.close (tie.spec returns add-t6 returns-2)
+var-taken-spec = tie.close (tie.spec returns add-t7 returns-2)
