@@ -5,6 +5,8 @@ use mathlib.Core.List.{List, [], _∷_, _++_, append-nil}
 use Prim.Native.Nat.{ℕ, zero, suc, _<_}
 use lib.Dec.{eqb}
 use borrow.Author.Tests.{eq-eqb, ne-eqb}
+use denote.Enum.Declared.{tagOf}
+use types.Run.{OneOf, miss}
 use Rattle.definition.specs.Types as d
 use Rattle.definition.specs.Types.{State, Struct, Spanned, Type-value, if_then_else_}
 use Rattle.definition.specs.Store.{count, node, with-args, spanned}
@@ -14,7 +16,8 @@ use Rattle.definition.specs.Constraints.{missing, by-rule, solve-ability-constr
 use Rattle.definition.specs.Write.{Bytes, each}
 use Rattle.names.specs.declared.AbilitySet.{AbilitySet}
 use Rattle.table.specs.declared.Constraint.{Constraint}
-use Rattle.table.specs.declared.Constraint.the-variants.{Ability}
+use Rattle.table.proofs.Constraint.{the-type}
+use Rattle.table.specs.declared.Constraint.the-variants.{Ability, Numeric, Bits, Ordered, BaseType, SingleType}
 use Rattle.table.specs.State.{node-of, shape-of, constraint-of, seen, Lay}
 use Rattle.table.specs.Known.{Known}
 use Rattle.table.specs.declared.Node.{Node}
@@ -119,13 +122,21 @@ row-first s c r ability h e = rw (eq-eqb ability 1 e) h
 pub row-after : (s : State) (c : d.Constraint) (ability : ℕ) → (ability ≡ 1 → ⊥) → [] ≡ (if eqb ability 1 then plain s c else [])
 row-after s c ability e = rw (ne-eqb ability 1 e) refl
 
+-- the tags of the constraints that ask for no abilities
+abbrev pub plain-tags : List ℕ
+plain-tags = 1 ∷ 2 ∷ 3 ∷ 4 ∷ 5 ∷ []
+
 -- a constraint that asks for no abilities
-pub row-plain : (w : List ℕ) (u : Used) (params : List (List ℕ)) (r : Failing) (c y : Constraint) (ability : ℕ) → Failing-in (u .nodes) r × ((ds : List Struct) → failing r (seen w u ds) ≡ (if eqb ability 1 then plain (seen w u ds) (constraint-of c) else []))
-    → c ≡ y → ((s : State) → (if eqb ability 1 then plain s (constraint-of y) else []) ≡ row s (constraint-of y) ability) → Lacking w u params r (λ s. row s (constraint-of c) ability)
-row-plain w u params r c y ability h e f = record {
-  is = λ ds k. h .1 ds ∙ subst (λ (x : Constraint). (if eqb ability 1 then plain (seen w u ds) (constraint-of x) else []) ≡ row (seen w u ds) (constraint-of x) ability) (sym e) (f (seen w u ds));
-  inside = h .0;
-}
+module _ (w : List ℕ) (u : Used) (params : List (List ℕ)) (r : Failing) where
+  pub row-plain : (c : Constraint) (ability : ℕ) → Failing-in (u .nodes) r × ((ds : List Struct) → failing r (seen w u ds) ≡ (if eqb ability 1 then plain (seen w u ds) (constraint-of c) else []))
+      → OneOf plain-tags (tagOf the-type c) → Lacking w u params r (λ s. row s (constraint-of c) ability)
+  unfolding row
+  row-plain (Ability loc ty a) ability h k = absurd (miss plain-tags 0 tt k)
+  row-plain (Numeric loc ty) ability h k = record { is = λ ds _. h .1 ds; inside = h .0 }
+  row-plain (Bits loc ty) ability h k = record { is = λ ds _. h .1 ds; inside = h .0 }
+  row-plain (Ordered loc ty) ability h k = record { is = λ ds _. h .1 ds; inside = h .0 }
+  row-plain (BaseType loc ty) ability h k = record { is = λ ds _. h .1 ds; inside = h .0 }
+  row-plain (SingleType loc ty) ability h k = record { is = λ ds _. h .1 ds; inside = h .0 }
 
 each-if : (g : ℕ → Bytes) (test : ℕ → Bool) (l : List ℕ) → each g (select test l) ≡ each (λ a. if test a then g a else []) l
 unfolding each select

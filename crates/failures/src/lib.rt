@@ -233,7 +233,7 @@ fn first_row(w: &[u32], u: Used, c: Constraint, ability: u8) -> Failing
     Failing::Fine
 }
 
-// The failure of a constraint in the row of an ability.
+// The failure of a constraint in the row of an ability. first_row is called at one place so that it is inlined.
 pub fn row_of(
     w: &[u32],
     u: Used,
@@ -247,10 +247,6 @@ pub fn row_of(
 {
     match c {
         Constraint::Ability(loc, ty, a) => lack_of(w, u, params, sets, loc, ty, a, ability),
-        Constraint::Numeric(_, _) => first_row(w, u, c, ability),
-        Constraint::Bits(_, _) => first_row(w, u, c, ability),
-        Constraint::Ordered(_, _) => first_row(w, u, c, ability),
-        Constraint::BaseType(_, _) => first_row(w, u, c, ability),
-        Constraint::SingleType(_, _) => first_row(w, u, c, ability),
+        _ => first_row(w, u, c, ability),
     }
 }
