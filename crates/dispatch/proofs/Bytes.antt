@@ -6,7 +6,6 @@ use Prim.Native.Nat.{ℕ}
 use Rattle.definition.specs.Types.{State, Struct, Result, ok, _>>=_}
 use Rattle.definition.specs.Trees.{Tree}
 use Rattle.definition.specs.Build.{build}
-use Rattle.definition.specs.Record as d
 use Rattle.definition.specs.Record.{Record}
 use Rattle.theorems.proofs.Ranges.{Ranges}
 use Rattle.theorems.proofs.WellRead.{TreeIn, RecordIn}
@@ -16,13 +15,11 @@ use Rattle.table.specs.declared.Used.{Used}
 use Rattle.writer.specs.Bytes.{All-bytes}
 use Rattle.answer.specs.Ran.{Settles}
 use Rattle.answer.specs.declared.Ran.{Ran}
-use Rattle.table.specs.Known.{Known}
-use Rattle.fields.specs.Noded.{Noded, SD, FV, NV, SN, JN, SU, UF, RD, IN, TS, NC, BC, SC, SV, RM, place-record}
+use Rattle.fields.specs.Noded.{unfolded, ready, tparams, Run, binds, looks, adds, Noded, run, Shape, declares, solves, none, one, both, after-pairs, shape, place, place-record}
 use Rattle.table.specs.Known.{Known}
 use Rattle.run.proofs.Bytes.{Leaves, step-bytes, record-bytes, ready-leaves, subst-leaves, unfold-leaves}
-use Rattle.dispatch.specs.Dispatch.{noded-run, noded-step, noded-kept}
-use Rattle.dispatch.proofs.Arms.{Ran-as}
-use Rattle.dispatch.proofs.Placed.{run-placed}
+use Rattle.dispatch.specs.Dispatch.{noded-run, step-of, kept-of, Ran-as}
+use Rattle.dispatch.proofs.Placed.{Shape-in, shape-in, run-placed}
 
 -- ---- the state with a record's types placed
 
@@ -38,29 +35,17 @@ module _ (b : State) where
     tree : (t : Tree) → TreeIn b t → Leaves b (build t b)
     tree t g = place-run (Unit {0}) b true t (λ y. g) b (λ y. i)
 
-    alone : (t : Tree) (f : ℕ → Noded) → TreeIn b t → Leaves b (build t b >>= (λ p. ok (p .0, f (p .1))))
-    alone t f g = then _ (tree t g) (λ p j. e-ok (λ y. j))
-
-    place-leaves : (x : Record) → RecordIn b x → Leaves b (place-record x b)
-    unfolding place-record
-    place-leaves (d.SD abilities params) g = e-ok (λ y. i)
-    place-leaves (d.FV loc) g = e-ok (λ y. i)
-    place-leaves (d.NV loc) g = e-ok (λ y. i)
-    place-leaves (d.SN v loc) g = e-ok (λ y. i)
-    place-leaves (d.JN t1 t2) g = last t2 JN (tree t1 (g .0)) (g .1)
-    place-leaves (d.SU t1 t2) g = last t2 SU (tree t1 (g .0)) (g .1)
-    place-leaves (d.UF t) g = alone t UF g
-    place-leaves (d.RD t) g = alone t RD g
-    place-leaves (d.IN t) g = alone t IN g
-    place-leaves (d.TS pairs t) g = last t TS (pairs-run (Unit {0}) b true pairs (λ y. g .0) b (λ y. i)) (g .1)
-    place-leaves (d.NC loc kind t) g = alone t (NC loc kind) (g .1)
-    place-leaves (d.BC loc t) g = alone t (BC loc) (g .1)
-    place-leaves (d.SC loc t) g = alone t (SC loc) (g .1)
-    place-leaves d.SV g = e-ok (λ y. i)
-    place-leaves (d.RM t) g = e-ok (λ y. i)
+    place-leaves : (h : Shape) → Shape-in b h → Leaves b (place h b)
+    place-leaves (declares abilities params) g = e-ok (λ y. i)
+    place-leaves solves g = e-ok (λ y. i)
+    place-leaves (none r) g = e-ok (λ y. i)
+    place-leaves (one t f) g = then _ (tree t g) (λ p j. e-ok (λ y. j))
+    place-leaves (both t u f) g = last u (λ a c. run (f a c)) (tree t (g .0)) (g .1)
+    place-leaves (after-pairs pairs t f) g = last t (λ a c. run (f a c)) (pairs-run (Unit {0}) b true pairs (λ y. g .0) b (λ y. i)) (g .1)
 
     placed-in : (x : Record) → RecordIn b x → (s : State) (n : Noded) → place-record x b ≡ ok (s, n) → Ranges b s
-    placed-in x g s n e = go (subst (λ (m : Result (State × Noded)). Leaves b m) e (place-leaves x g))
+    unfolding place-record
+    placed-in x g s n e = go (subst (λ (m : Result (State × Noded)). Leaves b m) e (place-leaves (shape x) (shape-in b x g)))
       where
         go : Leaves b {A = Noded} (ok (s, n)) → Ranges b s
         go (e-ok j) = j tt
@@ -69,24 +54,14 @@ module _ (b : State) where
 
 module _ {w : List ℕ} {u : Used} {w′ : List ℕ} {r : Ran} {params : List (List ℕ)} (ds : List Struct) (k : Known w u params ds) (b : State) (i : Ranges b b) (x : Record) (g : RecordIn b x) where
   -- where the state is kept
-  kept : (n : Noded) → noded-kept n ≡ true → Ran-as w u params w′ r n → place-record x b ≡ ok (seen w u ds, n) → Settles (r .out) → All-bytes (view w′ (r .used))
-  unfolding _>>=_
+  kept : (n : Run) → kept-of n ≡ true → Ran-as (Known w u params) w u w′ r n → place-record x b ≡ ok (seen w u ds, run n) → Settles (r .out) → All-bytes (view w′ (r .used))
+  unfolding _>>=_ noded-run
   kept n e c p h = record-bytes c ds k b e i x g (run-placed b x ∙ ap (λ (m : Result (State × Noded)). m >>= (λ q. noded-run (q .1) (q .0) b)) p) h
 
-  pub noded-bytes : (n : Noded) → Ran-as w u params w′ r n → place-record x b ≡ ok (seen w u ds, n) → Settles (r .out) → All-bytes (view w′ (r .used))
-  unfolding noded-kept noded-step
-  noded-bytes (SD abilities params) c p h = kept _ refl c p h
-  noded-bytes (FV loc) c p h = kept _ refl c p h
-  noded-bytes (NV loc) c p h = kept _ refl c p h
-  noded-bytes (SN v loc) c p h = kept _ refl c p h
-  noded-bytes (JN lhs rhs) c p h = kept _ refl c p h
-  noded-bytes (SU lhs rhs) c p h = kept _ refl c p h
-  noded-bytes (UF t) c p h = step-bytes c ds k b (unfold-leaves b (seen w u ds) (placed-in b i x g _ _ p) (r .out) h) h
-  noded-bytes (RD t) c p h = step-bytes c ds k b (ready-leaves b (seen w u ds) (placed-in b i x g _ _ p) t) h
-  noded-bytes (IN t) c p h = kept _ refl c p h
-  noded-bytes (TS pairs t) c p h = step-bytes c ds k b (subst-leaves b (seen w u ds) (placed-in b i x g _ _ p) pairs t) h
-  noded-bytes (NC loc kind t) c p h = kept _ refl c p h
-  noded-bytes (BC loc t) c p h = kept _ refl c p h
-  noded-bytes (SC loc t) c p h = kept _ refl c p h
-  noded-bytes SV c p h = kept _ refl c p h
-  noded-bytes (RM n) c p h = kept _ refl c p h
+  pub run-bytes : (n : Run) → Ran-as (Known w u params) w u w′ r n → place-record x b ≡ ok (seen w u ds, run n) → Settles (r .out) → All-bytes (view w′ (r .used))
+  unfolding step-of
+  run-bytes (binds n) c p h = kept _ refl c p h
+  run-bytes (looks (unfolded t)) c p h = step-bytes c ds k b (unfold-leaves b (seen w u ds) (placed-in b i x g _ _ p) (r .out) h) h
+  run-bytes (looks (ready t)) c p h = step-bytes c ds k b (ready-leaves b (seen w u ds) (placed-in b i x g _ _ p) t) h
+  run-bytes (looks (tparams pairs t)) c p h = step-bytes c ds k b (subst-leaves b (seen w u ds) (placed-in b i x g _ _ p) pairs t) h
+  run-bytes (adds n) c p h = kept _ refl c p h

@@ -1,4 +1,4 @@
--- Nodes in use stay in use, and the declarations that lent words and bytes hold are known. Assumes nothing.
+-- The declarations that lent words and bytes hold are known. Assumes nothing.
 use mathlib.Core.Path.{_≡_, sym}
 use mathlib.Core.List.{List, []}
 use Prim.Native.Nat.{ℕ, _≤_, _<_}
@@ -12,32 +12,6 @@ use Rattle.table.proofs.Tab.{length-tab, getD-tab, getD-tab-out}
 use Rattle.lent.specs.Lent.{bytes-at, struct-of, structs-of}
 use Rattle.lent.proofs.Lays.{lent-declares}
 use Rattle.table.specs.Known.{Known}
-use Rattle.fields.specs.Noded.{Noded-in}
-use Rattle.marks.specs.declared.RecordMark.{RecordMark}
-use Rattle.marks.specs.declared.RecordMark.the-variants as m
-use Rattle.fields.specs.declared.Fields.{Fields}
-
--- ---- more variables and nodes
-
-pub noded-in-more : (mark : RecordMark) (known n : ℕ) (f : Fields) (t : ℕ) → Noded-in mark known n f t → (known′ n′ : ℕ) → known ≤ known′ → n ≤ n′ → Noded-in mark known′ n′ f t
-noded-in-more m.SD known n f t h known′ n′ a b = h
-noded-in-more m.FV known n f t h known′ n′ a b = tt
-noded-in-more m.NV known n f t h known′ n′ a b = tt
-noded-in-more m.SN known n f t h known′ n′ a b = omega arith
-noded-in-more m.JN known n f t h known′ n′ a b = (omega (arith, h .0), omega (arith, h .1))
-noded-in-more m.SU known n f t h known′ n′ a b = (omega (arith, h .0), omega (arith, h .1))
-noded-in-more m.UF known n f t h known′ n′ a b = omega arith
-noded-in-more m.RD known n f t h known′ n′ a b = omega arith
-noded-in-more m.TS known n f t h known′ n′ a b = (record { few = h .0 .few; below = λ i lt. omega (arith, h .0 .below i lt) }, omega (arith, h .1))
-noded-in-more m.IN known n f t h known′ n′ a b = omega arith
-noded-in-more m.NC known n f t h known′ n′ a b = (h .0, omega (arith, h .1))
-noded-in-more m.BC known n f t h known′ n′ a b = omega arith
-noded-in-more m.SC known n f t h known′ n′ a b = omega arith
-noded-in-more m.SV known n f t h known′ n′ a b = tt
-noded-in-more m.RM known n f t h known′ n′ a b = tt
-noded-in-more m.Other known n f t h known′ n′ a b = tt
-
--- ---- the declarations
 
 -- their bytes are the first of their rows
 row-bytes : (w : List ℕ) (params : List (List ℕ)) (i k : ℕ) → k < length (struct-of w params i .params) → getD (getD params i []) k 0 ≡ getD (struct-of w params i .params) k 0

@@ -1,49 +1,106 @@
--- The definition's run of a record places its types and runs what they are placed as. Assumes nothing.
-use mathlib.Core.Path.{_≡_, refl}
+-- The definition's run of a record places its types and runs what they are placed as; its trees are those of its shape. Assumes nothing.
+use mathlib.Core.Path.{_≡_, refl, _∙_}
+use mathlib.Core.List.{List}
 use Prim.Native.Nat.{ℕ}
 use Rattle.definition.specs.Types.{State, Result, ok, err, refused, _>>=_}
 use Rattle.definition.specs.Write.{Bytes}
 use Rattle.definition.specs.Trees.{Tree}
 use Rattle.definition.specs.Build.{build, build-pairs}
+use Rattle.definition.specs.Constraints.{solve-constraints}
 use Rattle.definition.specs.Record as d
 use Rattle.definition.specs.Record.{Record}
-use Rattle.definition.specs.Step.{constrain, two-types, run}
-use Rattle.fields.specs.Noded.{Noded, SD, FV, NV, SN, JN, SU, UF, RD, IN, TS, NC, BC, SC, SV, RM, place-record}
+use Rattle.definition.specs.Step.{constrain, two-types}
+use Rattle.definition.specs.Step as definition
+use Rattle.theorems.proofs.Order.{All}
+use Rattle.theorems.proofs.Ranges.{StructIn}
+use Rattle.theorems.proofs.WellRead.{TreeIn, RecordIn}
+use Rattle.fields.specs.Noded.{Run, Noded, run, Shape, declares, solves, none, one, both, after-pairs, shape, place, place-record}
 use Rattle.run.specs.Runs.{join-in, two-run, unfold-run, ready-run, tparams-run, instantiate-run, tvar-run, num-tvar-run, set-num-run, constraint-run, needs-run, declare-run}
-use Rattle.dispatch.specs.Dispatch.{noded-run}
+use Rattle.dispatch.specs.Dispatch.{run-of, noded-run}
 
-abbrev placed-as : {A : Type 0} → (A → Noded) → State × A → Result (State × Noded)
-placed-as make p = ok (p .0, make (p .1))
+-- ---- mark by mark
 
--- g runs what is placed
-module _ (g : Noded → State → Result (State × Bytes)) where
-  one : {A : Type 0} (m : Result (State × A)) (make : A → Noded) → (m >>= (λ p. g (make (p .1)) (p .0))) ≡ ((m >>= placed-as make) >>= (λ q. g (q .1) (q .0)))
-  unfolding _>>=_
-  one (ok p) make = refl
-  one (err s e) make = refl
-  one (refused x) make = refl
+abbrev run-shape : Shape → State → Result (State × Bytes)
+run-shape (declares abilities params) s = declare-run abilities params s s
+run-shape solves s = solve-constraints s
+run-shape (none r) s = run-of r s s
+run-shape (one t f) s = build t s >>= (λ p. run-of (f (p .1)) (p .0) s)
+run-shape (both t u f) s = build t s >>= (λ p. build u (p .0) >>= (λ q. run-of (f (p .1) (q .1)) (q .0) s))
+run-shape (after-pairs ps t f) s = build-pairs ps s >>= (λ p. build t (p .0) >>= (λ q. run-of (f (p .1) (q .1)) (q .0) s))
+
+run-is : (s : State) (x : Record) → definition.run s x ≡ run-shape (shape x) s
+unfolding definition.run constrain two-types run-of join-in two-run unfold-run ready-run tparams-run instantiate-run tvar-run num-tvar-run set-num-run constraint-run needs-run declare-run
+run-is s (d.SD abilities params) = refl
+run-is s (d.FV loc) = refl
+run-is s (d.NV loc) = refl
+run-is s (d.SN v loc) = refl
+run-is s (d.JN t1 t2) = refl
+run-is s (d.SU t1 t2) = refl
+run-is s (d.UF t) = refl
+run-is s (d.RD t) = refl
+run-is s (d.IN t) = refl
+run-is s (d.TS pairs t) = refl
+run-is s (d.NC loc kind t) = refl
+run-is s (d.BC loc t) = refl
+run-is s (d.SC loc t) = refl
+run-is s d.SV = refl
+run-is s (d.RM t) = refl
+
+-- what was read well
+abbrev pub Shape-in : State → Shape → Type 0
+Shape-in s (declares abilities params) = StructIn (record { abilities = abilities; params = params })
+Shape-in s solves = Unit {0}
+Shape-in s (none r) = Unit {0}
+Shape-in s (one t f) = TreeIn s t
+Shape-in s (both t u f) = TreeIn s t × TreeIn s u
+Shape-in s (after-pairs ps t f) = All (λ (p : ℕ × Tree). TreeIn s (p .1)) ps × TreeIn s t
+
+pub shape-in : (s : State) (x : Record) → RecordIn s x → Shape-in s (shape x)
+shape-in s (d.SD abilities params) g = g
+shape-in s (d.FV loc) g = tt
+shape-in s (d.NV loc) g = tt
+shape-in s (d.SN v loc) g = tt
+shape-in s (d.JN t1 t2) g = g
+shape-in s (d.SU t1 t2) g = g
+shape-in s (d.UF t) g = g
+shape-in s (d.RD t) g = g
+shape-in s (d.IN t) g = g
+shape-in s (d.TS pairs t) g = g
+shape-in s (d.NC loc kind t) g = g .1
+shape-in s (d.BC loc t) g = g .1
+shape-in s (d.SC loc t) g = g .1
+shape-in s d.SV g = tt
+shape-in s (d.RM t) g = tt
+
+-- ---- by shape
+
+module _ (s : State) where
+  abbrev then-run : Result (State × Noded) → Result (State × Bytes)
+  then-run m = m >>= (λ q. noded-run (q .1) (q .0) s)
+
+  last : {A : Type 0} (m : Result (State × A)) (f : A → Run) → (m >>= (λ p. run-of (f (p .1)) (p .0) s)) ≡ then-run (m >>= (λ p. ok (p .0, run (f (p .1)))))
+  unfolding _>>=_ noded-run
+  last (ok p) f = refl
+  last (err s e) f = refl
+  last (refused x) f = refl
 
   -- and the tree t after it
-  two : {A : Type 0} (m : Result (State × A)) (t : Tree) (make : A → ℕ → Noded) → (m >>= (λ p. build t (p .0) >>= (λ q. g (make (p .1) (q .1)) (q .0)))) ≡ ((m >>= (λ p. build t (p .0) >>= placed-as (make (p .1)))) >>= (λ q. g (q .1) (q .0)))
+  more : {A : Type 0} (m : Result (State × A)) (t : Tree) (f : A → ℕ → Run)
+      → (m >>= (λ p. build t (p .0) >>= (λ q. run-of (f (p .1) (q .1)) (q .0) s))) ≡ then-run (m >>= (λ p. build t (p .0) >>= (λ q. ok (q .0, run (f (p .1) (q .1))))))
   unfolding _>>=_
-  two (ok p) t make = one (build t (p .0)) (make (p .1))
-  two (err s e) t make = refl
-  two (refused x) t make = refl
+  more (ok p) t f = last (build t (p .0)) (f (p .1))
+  more (err s e) t f = refl
+  more (refused x) t f = refl
 
-pub run-placed : (s : State) (x : Record) → run s x ≡ (place-record x s >>= (λ (s′, n). noded-run n s′ s))
-unfolding run constrain two-types place-record noded-run join-in two-run unfold-run ready-run tparams-run instantiate-run tvar-run num-tvar-run set-num-run constraint-run needs-run declare-run _>>=_
-run-placed s (d.SD abilities params) = refl
-run-placed s (d.FV loc) = refl
-run-placed s (d.NV loc) = refl
-run-placed s (d.SN v loc) = refl
-run-placed s (d.JN t1 t2) = two (λ n s′. noded-run n s′ s) (build t1 s) t2 JN
-run-placed s (d.SU t1 t2) = two (λ n s′. noded-run n s′ s) (build t1 s) t2 SU
-run-placed s (d.UF t) = one (λ n s′. noded-run n s′ s) (build t s) UF
-run-placed s (d.RD t) = one (λ n s′. noded-run n s′ s) (build t s) RD
-run-placed s (d.IN t) = one (λ n s′. noded-run n s′ s) (build t s) IN
-run-placed s (d.TS pairs t) = two (λ n s′. noded-run n s′ s) (build-pairs pairs s) t TS
-run-placed s (d.NC loc kind t) = one (λ n s′. noded-run n s′ s) (build t s) (NC loc kind)
-run-placed s (d.BC loc t) = one (λ n s′. noded-run n s′ s) (build t s) (BC loc)
-run-placed s (d.SC loc t) = one (λ n s′. noded-run n s′ s) (build t s) (SC loc)
-run-placed s d.SV = refl
-run-placed s (d.RM t) = refl
+  placed-is : (h : Shape) → run-shape h s ≡ then-run (place h s)
+  unfolding _>>=_ noded-run
+  placed-is (declares abilities params) = refl
+  placed-is solves = refl
+  placed-is (none r) = refl
+  placed-is (one t f) = last (build t s) f
+  placed-is (both t u f) = more (build t s) u f
+  placed-is (after-pairs ps t f) = more (build-pairs ps s) t f
+
+pub run-placed : (s : State) (x : Record) → definition.run s x ≡ (place-record x s >>= (λ (s′, n). noded-run n s′ s))
+unfolding place-record
+run-placed s x = run-is s x ∙ placed-is s (shape x)

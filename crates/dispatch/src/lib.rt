@@ -1,61 +1,53 @@
-// A record that is read and placed is run, by its mark.
+// A record that is read and placed is run, by its mark. SD, whose bytes stand beside the words, and SV, whose payload is no type's, have calls of their own.
 ghost use Rattle.table.specs.State.{Lay};
 ghost use Rattle.table.specs.Known.{Known};
-ghost use Rattle.fields.specs.Noded.{noded, Noded-in};
-ghost use Rattle.run.specs.Runs.{Runs};
-ghost use Rattle.dispatch.specs.Dispatch.{noded-run, noded-step, noded-kept, Shown-run};
+ghost use Rattle.fields.specs.Noded.{binds, looks, adds, bind-of, look-of, add-of, Bind-in, Look-in};
+ghost use Rattle.run.specs.Runs.{Any};
+ghost use Rattle.dispatch.specs.Dispatch.{Ran-as};
 use answer::Ran;
-use answer::Show;
 use arms::TypingCase;
-use fields::Fields;
-use marks::RecordMark;
-use table::Out;
+use fields::Add;
+use fields::Bind;
+use fields::Look;
+use names::TParamID;
+use names::TVar;
+use needs::Sums;
 use table::Used;
 
-// For the marks that are not run here.
-fn nothing(u: Used) -> Ran {
-    Ran {
-        out: Out::Done(0),
-        used: u,
-        show: Show::Nothing,
-        kept: true,
+pub fn run_bind(w: &mut [u32], u: Used, params: &[[u8; 8]; 256], what: Bind) -> Ran
+    requires { ⌜ Lay (now w) u × Bind-in (u .nodes) what ⌝ }
+    ensures { λ r. ⌜ Ran-as (Known (now (w .entry)) u (now (params .entry))) (now (w .entry)) u (now (w .exit)) r (binds (bind-of what)) ⌝ }
+{
+    match what {
+        Bind::SN(v, loc) => run::run_set_num(w, u, v, loc),
+        Bind::JN(lhs, rhs) => run::run_two(w, u, TypingCase::Join, lhs, rhs),
+        Bind::SU(lhs, rhs) => run::run_two(w, u, TypingCase::Subtype, lhs, rhs),
+        Bind::IN(t) => run::run_instantiate(w, u, params, t),
     }
 }
 
-// Of the fields f, t being the node of the last type. SD, whose bytes stand beside the words, and SV, whose payload is no type's, have their own calls.
-pub fn run_fields(w: &mut [u32], u: Used, params: &[[u8; 8]; 256], f: Fields, t: u32) -> Ran
-    requires { ⌜ Lay (now w) u × (Shown-run (f .mark) × Noded-in (f .mark) (u .vars) (u .nodes) f t) ⌝ }
-    ensures { λ r. ⌜ Runs (Known (now (w .entry)) u (now (params .entry))) (now (w .entry)) u (now (w .exit)) r (noded-kept (noded (f .mark) f t)) (noded-step r (noded (f .mark) f t)) (noded-run (noded (f .mark) f t)) ⌝ }
+// With TS's pairs.
+pub fn run_look(w: &mut [u32], u: Used, ids: [TParamID; 8], nodes: [u32; 8], what: Look) -> Ran
+    requires { ⌜ Lay (now w) u × Look-in (u .nodes) nodes what ⌝ }
+    ensures { λ r. ⌜ Ran-as Any (now (w .entry)) u (now (w .exit)) r (looks (look-of what ids nodes)) ⌝ }
 {
-    let mark = f.mark;
-    let a = f.a;
-    let b = f.b;
-    match mark {
-        RecordMark::SD => nothing(u),
-        RecordMark::FV => run::run_tvar(w, u, a),
-        RecordMark::NV => run::run_num_tvar(w, u, a),
-        RecordMark::SN => {
-            let v = f.var;
-            run::run_set_num(w, u, v, a)
-        }
-        RecordMark::JN => run::run_two(w, u, TypingCase::Join, b, t),
-        RecordMark::SU => run::run_two(w, u, TypingCase::Subtype, b, t),
-        RecordMark::UF => run::run_unfold(w, u, t),
-        RecordMark::RD => run::run_ready(w, u, t),
-        RecordMark::TS => {
-            let ids = f.ids;
-            let nodes = f.nodes;
-            run::run_tparams(w, u, ids, nodes, b, t)
-        }
-        RecordMark::IN => run::run_instantiate(w, u, params, t),
-        RecordMark::NC => run::run_numeric(w, u, b, a, t),
-        RecordMark::BC => run::run_base_type(w, u, a, t),
-        RecordMark::SC => run::run_single_type(w, u, a, t),
-        RecordMark::SV => nothing(u),
-        RecordMark::RM => {
-            let nodes = f.nodes;
-            run::run_needs(w, u, 0 < a, nodes[0], nodes[1], nodes[2], nodes[3])
-        }
-        RecordMark::Other => nothing(u),
+    match what {
+        Look::UF(t) => run::run_unfold(w, u, t),
+        Look::RD(t) => run::run_ready(w, u, t),
+        Look::TS(many, t) => run::run_tparams(w, u, ids, nodes, many, t),
+    }
+}
+
+pub fn run_add(w: &mut [u32], u: Used, what: Add) -> Ran
+    requires { ⌜ Lay (now w) u ⌝ }
+    ensures { λ r. ⌜ Ran-as Any (now (w .entry)) u (now (w .exit)) r (adds (add-of what)) ⌝ }
+{
+    match what {
+        Add::FV(loc) => run::run_tvar(w, u, loc),
+        Add::NV(loc) => run::run_num_tvar(w, u, loc),
+        Add::NC(loc, kind, t) => run::run_numeric(w, u, kind, loc, t),
+        Add::BC(loc, t) => run::run_base_type(w, u, loc, t),
+        Add::SC(loc, t) => run::run_single_type(w, u, loc, t),
+        Add::RM(n) => run::run_needs(w, u, n.met, n.nodes, n.places, n.variables, n.constraints),
     }
 }

@@ -7,13 +7,15 @@ use native.Mathlib.Nat.{zero-add, suc-add}
 use native.Mathlib.Omega.{arith}
 use lib.ListN.{length, take, drop, replicate, length-append, length-replicate}
 use lib.Seq.{take-take, drop-drop}
-use Rattle.definition.specs.Types.{State, Struct, unbound, malformed, unknown-name, Result, ok, _>>=_}
+use Rattle.definition.specs.Types.{State, Struct, BaseTypeConstraint, SingleTypeConstraint, unbound, malformed, unknown-name, Result, ok, _>>=_}
 use Rattle.definition.specs.Store.{taken}
 use Rattle.definition.specs.Write.{Bytes}
 use Rattle.definition.specs.Reader as rd
 use Rattle.definition.specs.Reader.{Read, Reader, give, go-on, read-u32, read-one, read-two, read-three, name-below}
 use Rattle.definition.specs.Trees.{Tree, read-nested, read-type}
 use Rattle.definition.specs.Build.{build}
+use Rattle.definition.specs.Join.{Join, Subtype}
+use Rattle.definition.specs.Step.{numeric-constraint}
 use Rattle.definition.specs.Needs.{takes}
 use Rattle.definition.specs.Record as d
 use Rattle.definition.specs.Record.{Record, read-SD, read-pair, read-TS, read-kind}
@@ -34,10 +36,14 @@ use Rattle.reader.proofs.Loop.{declares-kept}
 use Rattle.needs.specs.Counted.{unless, needs-of, as-argument, Tells, Counts}
 use Rattle.needs.specs.declared.Sums.{Sums}
 use Rattle.needs.specs.declared.Counted.{Counted}
-use Rattle.marks.specs.declared.RecordMark.{RecordMark}
-use Rattle.marks.specs.declared.RecordMark.the-variants as m
+use Rattle.fields.specs.declared.Bind.the-variants as c
+use Rattle.fields.specs.declared.Look.the-variants as k
+use Rattle.fields.specs.declared.Add.the-variants as a
+use Rattle.fields.specs.declared.What.{What}
+use Rattle.fields.specs.declared.What.the-variants as q
+use Rattle.fields.specs.declared.Whole.the-variants as h
 use Rattle.fields.specs.declared.Fields.{Fields}
-use Rattle.fields.specs.Noded.{Noded, place-record, noded, part-with, fields-as, Part-so, Noded-in, Fields-in, Fields-are, plain-fields, var-fields, One, Two, Loc}
+use Rattle.fields.specs.Noded.{Noded, place-record, noded, part-with, whole-with, fields-as, Whole-so, What-in, Fields-in, Fields-are, plain-fields, whole-of, both-of, made-fields, One, Two, Loc}
 use Rattle.fields.specs.Noded as n
 use Rattle.fields.proofs.Placing.{is-not, not-is, last-type, first-type, type-stops}
 
@@ -83,7 +89,7 @@ fields-is w u b end known m m′ w′ r e t =
     }
 
 -- nothing was written
-pub fields-none : (w : List ℕ) (u : Used) (b : List ℕ) (end known : ℕ) (m : State → Read Record) (r : Fields) → Lay w u → r .used ≡ u → r .next ≤ end → Fields-in known r
+pub fields-none : (w : List ℕ) (u : Used) (b : List ℕ) (end known : ℕ) (m : State → Read Record) (r : Fields) → Lay w u → r .used ≡ u → r .next ≤ end → Fields-in r
     → ((s s′ : State) (ds : List Struct) → Knows s known ds → fields-as r s′ (rest b end (r .next)) ≡ place-read false place-record (m s) s′) → Fields-are w u b end known m w r
 fields-none w u b end known m r l e a i f =
     record {
@@ -95,43 +101,48 @@ fields-none w u b end known m r l e a i f =
       is = λ ds s d k. f s (seen w (r .used) ds) ds k ∙ ap (λ (v : Used). place-read false place-record (m s) (seen w v ds)) e;
     }
 
-part-same : (p : Part) (f g : ℕ → Noded) (s : State) (l : Bytes) → ((t : ℕ) → f t ≡ g t) → part-with p f s l ≡ part-with p g s l
-part-same (At t) f g s l e = ap (λ (x : Noded). part-with (At t) (λ (z : ℕ). x) s l) (e t)
-part-same Full f g s l e = refl
-part-same Malformed f g s l e = refl
-part-same Unknown f g s l e = refl
-part-same Doubled f g s l e = refl
+-- what stands where the last type is placed
+pub made-with : (p : Part) (g : What → Noded) (x : What) (f : ℕ → Noded) (s : State) (l : Bytes) → g x ≡ f (node-in p) → whole-with (whole-of p x) g s l ≡ part-with p f s l
+made-with (At t) g x f s l e = ap (λ (y : Noded). placed (ok (s, y)) l) e
+made-with Full g x f s l e = refl
+made-with Malformed g x f s l e = refl
+made-with Unknown g x f s l e = refl
+made-with Doubled g x f s l e = refl
 
-pub part-so : (p : Part) (n : ℕ) (P : ℕ → Type 0) → Part-in n p → ((t : ℕ) → p ≡ At t → t < n → P t) → Part-so p P
-part-so (At t) n P i f = f t refl i
-part-so Full n P i f = tt
-part-so Malformed n P i f = tt
-part-so Unknown n P i f = tt
-part-so Doubled n P i f = tt
+pub made-so : (p : Part) (n : ℕ) (x : What) (P : What → Type 0) → Part-in n p → ((t : ℕ) → p ≡ At t → node-in p < n → P x) → Whole-so (whole-of p x) P
+made-so (At t) n x P i f = f t refl i
+made-so Full n x P i f = tt
+made-so Malformed n x P i f = tt
+made-so Unknown n x P i f = tt
+made-so Doubled n x P i f = tt
 
-pub stop-so : (p : Part) (P : ℕ → Type 0) → is-stop p ≡ true → Part-so p P
-stop-so (At t) P e = not-is e
-stop-so Full P e = not-is e
-stop-so Malformed P e = tt
-stop-so Unknown P e = tt
-stop-so Doubled P e = tt
+pub stop-so : (p : Part) (x : What) (P : What → Type 0) → is-stop p ≡ true → Whole-so (whole-of p x) P
+stop-so (At t) x P e = not-is e
+stop-so Full x P e = not-is e
+stop-so Malformed x P e = tt
+stop-so Unknown x P e = tt
+stop-so Doubled x P e = tt
 
--- ---- one type, after the numbers a and c
+-- ---- one type
 
-pub one-is : (w : List ℕ) (u : Used) (b : List ℕ) (end known at : ℕ) (w′ : List ℕ) (r : Taken) (mark : RecordMark) (a c : ℕ) (make : Tree → Record) → Takes w u b end known false (λ s. read-nested 64 s (rest b end at)) w′ r
-    → (o : One mark a c make) → Fields-are w u b end known (λ s. go-on (read-type s (rest b end at)) (λ t. give (make t))) w′ (plain-fields mark (r .part) (r .used) (r .next) a c)
-unfolding read-type
-one-is w u b end known at w′ r mark a c make t o =
-    record {
-      lay = t .lay;
-      grown = t .grown;
-      structs = t .structs;
-      inside = part-so (r .part) (r .used .nodes) _ (t .inside) (λ x e l. o .inside _ _ _ known (r .used .nodes) x l);
-      within = t .within;
-      is = λ ds s d k.
-          part-same (r .part) _ (o .nodes) (seen w′ (r .used) ds) (rest b end (r .next)) (λ x. o .shows _ _ _ x)
-          ∙ last-type place-record make (o .nodes) (o .places) (r .part) false _ (seen w u ds) _ _ (t .is ds s d k);
-    }
+module _ (w : List ℕ) (u : Used) (b : List ℕ) (end known at : ℕ) (w′ : List ℕ) (r : Taken) (first : ℕ) (mk : ℕ → What) (make : Tree → Record) where
+  abbrev one-made : Fields
+  one-made = made-fields (mk (node-in (r .part))) (both-of (r .part) (r .used) (r .next) first)
+
+  pub one-is : Takes w u b end known false (λ s. read-nested 64 s (rest b end at)) w′ r → (o : One mk make)
+      → Fields-are w u b end known (λ s. go-on (read-type s (rest b end at)) (λ t. give (make t))) w′ one-made
+  unfolding read-type
+  one-is t o =
+      record {
+        lay = t .lay;
+        grown = t .grown;
+        structs = t .structs;
+        inside = made-so (r .part) (r .used .nodes) _ _ (t .inside) (λ x e l. o .inside _ (r .used .nodes) (node-in (r .part)) l);
+        within = t .within;
+        is = λ ds s d k.
+            made-with (r .part) (noded one-made) _ (o .nodes) (seen w′ (r .used) ds) (rest b end (r .next)) (o .shows one-made _)
+            ∙ last-type place-record make (o .nodes) (o .places) (r .part) false _ (seen w u ds) _ _ (t .is ds s d k);
+      }
 
 -- ---- one type, counted
 
@@ -151,41 +162,34 @@ part-rest b part end at k l e =
     let z : at + (end - at) ≡ end = omega arith in
     rw (e, take-take (end - at) (end - at) (drop at b) (omega arith), front at (end - at) b, z, drop-drop k at (take end b))
 
-so-met : (c : Sums) → n.told (n.met-number (c .met)) (c .nodes ∷ c .places ∷ c .variables ∷ c .constraints ∷ 0 ∷ 0 ∷ 0 ∷ 0 ∷ []) ≡ needs-of c
-so-met c = go (c .met)
-  where
-    go : (met : Bool) → n.told (n.met-number met) (c .nodes ∷ c .places ∷ c .variables ∷ c .constraints ∷ 0 ∷ 0 ∷ 0 ∷ 0 ∷ []) ≡ unless met (takes (c .nodes) (c .places) (c .variables) (c .constraints))
-    go true = refl
-    go false = refl
-
-part-any : (p : Part) → Part-so p (λ t. Unit {0})
-part-any (At t) = tt
-part-any Full = tt
-part-any Malformed = tt
-part-any Unknown = tt
-part-any Doubled = tt
+whole-any : (p : Part) (x : What) (P : What → Type 0) → P x → Whole-so (whole-of p x) P
+whole-any (At t) x P i = i
+whole-any Full x P i = tt
+whole-any Malformed x P i = tt
+whole-any Unknown x P i = tt
+whole-any Doubled x P i = tt
 
 pub rm-is : (w : List ℕ) (u : Used) (b part : List ℕ) (end known at : ℕ) (r : Counted) → part ≡ take (end - at) (drop at b) → Lay w u → at ≤ end
     → Counts w u part (end - at) known false (λ s. read-nested 64 s (rest part (end - at) 0)) r
-    → Fields-are w u b end known (λ s. read-one d.RM (read-type s) (rest b end at)) w (n.counted-fields (r .part) u (at + r .next) (r .sums))
+    → Fields-are w u b end known (λ s. read-one d.RM (read-type s) (rest b end at)) w (plain-fields (whole-of (r .part) (q.Add (a.RM (r .sums)))) u (at + r .next))
 unfolding place-read place-record read-one rd._>>=_ go-on give read-type as-argument
-rm-is w u b part end known at r e l a c =
+rm-is w u b part end known at r e l f c =
     let z = c .within in
     record {
       lay = l;
       grown = grown-refl (view w u);
       structs = refl;
-      inside = part-any (r .part);
+      inside = whole-any (r .part) _ _ tt;
       within = omega arith;
       is = λ ds s d k. go (r .part) s (seen w u ds) (c .is ds s d k);
     }
   where
     first : rest part (end - at) 0 ≡ rest b end at
-    first = let z : at + 0 ≡ at = omega arith in part-rest b part end at 0 a e ∙ ap (λ (k : ℕ). rest b end k) z
+    first = let z : at + 0 ≡ at = omega arith in part-rest b part end at 0 f e ∙ ap (λ (k : ℕ). rest b end k) z
 
     go : (p : Part) (s s′ : State) → Tells p (r .sums) false (rest part (end - at) (r .next)) (read-nested 64 s (rest part (end - at) 0))
-        → part-with p (noded m.RM (n.counted-fields p u (at + r .next) (r .sums))) s′ (rest b end (at + r .next)) ≡ place-read false place-record (go-on (read-nested 64 s (rest b end at)) (λ t. give (d.RM t))) s′
-    go (At x) s s′ t = rw (← first, t .reads, part-rest b part end at (r .next) a e, so-met (r .sums), t .counts) refl
+        → whole-with (whole-of p (q.Add (a.RM (r .sums)))) (noded (plain-fields (whole-of p (q.Add (a.RM (r .sums)))) u (at + r .next))) s′ (rest b end (at + r .next)) ≡ place-read false place-record (go-on (read-nested 64 s (rest b end at)) (λ t. give (d.RM t))) s′
+    go (At x) s s′ t = rw (← first, t .reads, part-rest b part end at (r .next) f e, t .counts) refl
     go Full s s′ t = absurd t
     go Malformed s s′ t = rw (← first, t) refl
     go Unknown s s′ t = rw (← first, t) refl
@@ -200,35 +204,42 @@ first-in Malformed n n′ l e o i = is-not e
 first-in Unknown n n′ l e o i = is-not e
 first-in Doubled n n′ l e o i = is-not e
 
-module _ (w : List ℕ) (u : Used) (b : List ℕ) (end known at : ℕ) (w₁ : List ℕ) (r : Taken) (mark : RecordMark) (make : Tree → Tree → Record) (t : Takes w u b end known false (λ s. read-nested 64 s (rest b end at)) w₁ r) (o : Two mark make) where
+module _ (w : List ℕ) (u : Used) (b : List ℕ) (end known at : ℕ) (w₁ : List ℕ) (r : Taken) (mk : ℕ → ℕ → What) (make : Tree → Tree → Record) (t : Takes w u b end known false (λ s. read-nested 64 s (rest b end at)) w₁ r) (o : Two mk make) where
   abbrev second : ℕ → Tree → State → Result (State × Noded)
   second lhs t2 s = build t2 s >>= (λ (s, rhs). ok (s, o .nodes lhs rhs))
 
-  pub two-stop : is-stop (r .part) ≡ true → Fields-are w u b end known (λ s. read-two make (read-type s) (read-type s) (rest b end at)) w₁ (plain-fields mark (r .part) (r .used) (r .next) 0 0)
+  abbrev stopped-at : Fields
+  stopped-at = made-fields (mk 0 (node-in (r .part))) (both-of (r .part) (r .used) (r .next) 0)
+
+  pub two-stop : is-stop (r .part) ≡ true → Fields-are w u b end known (λ s. read-two make (read-type s) (read-type s) (rest b end at)) w₁ stopped-at
   unfolding read-two read-type rd._>>=_
   two-stop e =
       record {
         lay = t .lay;
         grown = t .grown;
         structs = t .structs;
-        inside = stop-so (r .part) _ e;
+        inside = stop-so (r .part) _ _ e;
         within = t .within;
-        is = λ ds s d k. type-stops place-record make second (λ t1 t2 s. o .places t1 t2 s) (read-nested 64 s) (r .part) false _ (seen w u ds) (seen w₁ (r .used) ds) _ (t .is ds s d k) e _;
+        is = λ ds s d k. made-with (r .part) _ _ (λ (x : ℕ). noded stopped-at (mk 0 (node-in (r .part)))) (seen w₁ (r .used) ds) (rest b end (r .next)) refl ∙ type-stops place-record make second (λ t1 t2 s. o .places t1 t2 s) (read-nested 64 s) (r .part) false _ (seen w u ds) (seen w₁ (r .used) ds) _ (t .is ds s d k) e _;
       }
 
+  module _ (q : Taken) where
+    abbrev two-made : Fields
+    two-made = made-fields (mk (node-in (r .part)) (node-in (q .part))) (both-of (q .part) (q .used) (q .next) (node-in (r .part)))
+
   pub two-is : is-stop (r .part) ≡ false → (w₂ : List ℕ) (q : Taken) → Takes w₁ (r .used) b end known (is-over (r .part)) (λ s. read-nested 64 s (rest b end (r .next))) w₂ q
-      → Fields-are w u b end known (λ s. read-two make (read-type s) (read-type s) (rest b end at)) w₂ (plain-fields mark (q .part) (q .used) (q .next) 0 (node-in (r .part)))
+      → Fields-are w u b end known (λ s. read-two make (read-type s) (read-type s) (rest b end at)) w₂ (two-made q)
   unfolding read-two read-type rd._>>=_ go-on give
   two-is e w₂ q t′ =
       record {
         lay = t′ .lay;
         grown = grown-trans _ _ _ (t .grown) (t′ .grown);
         structs = t′ .structs ∙ t .structs;
-        inside = part-so (q .part) (q .used .nodes) _ (t′ .inside) (λ x f l. o .inside _ _ _ known (q .used .nodes) _ x
+        inside = made-so (q .part) (q .used .nodes) _ _ (t′ .inside) (λ x f l. o .inside _ (q .used .nodes) _ _
             (first-in (r .part) (r .used .nodes) (q .used .nodes) (nodes-grow w₁ (r .used) w₂ (q .used) (t′ .grown)) e (was-open _ _ _ _ _ _ _ _ _ _ t′ f) (t .inside)) l);
         within = t′ .within;
         is = λ ds s d k.
-            part-same (q .part) _ (o .nodes (node-in (r .part))) (seen w₂ (q .used) ds) (rest b end (q .next)) (λ x. o .shows _ _ _ _ x)
+            made-with (q .part) (noded (two-made q)) _ (o .nodes (node-in (r .part))) (seen w₂ (q .used) ds) (rest b end (q .next)) (o .shows (two-made q) _ _)
             ∙ alone (q .part) _ (read-nested 64 s (rest b end (r .next))) (seen w₁ (r .used) ds) _ _ (t′ .is ds s (declares-kept w u w₁ (r .used) ds (t .structs) d) k)
             ∙ sym (first-type place-record make second (λ t1 t2 s. o .places t1 t2 s) (read-nested 64 s) (r .part) false _ (seen w u ds) (seen w₁ (r .used) ds) _ (t .is ds s d k) e);
       }
@@ -243,31 +254,31 @@ module _ (w : List ℕ) (u : Used) (b : List ℕ) (end known at : ℕ) (w₁ : L
 
 -- ---- 5 or 6 in the numbers
 
-pub malformed-is : (w : List ℕ) (u : Used) (b : List ℕ) (end known at : ℕ) (m : State → Read Record) (mark : RecordMark) → Lay w u → at ≤ end
-    → ((s : State) (ds : List Struct) → Knows s known ds → rd.not-read malformed ≡ m s) → Fields-are w u b end known m w (plain-fields mark Malformed u at 0 0)
+pub malformed-is : (w : List ℕ) (u : Used) (b : List ℕ) (end known at : ℕ) (m : State → Read Record) → Lay w u → at ≤ end
+    → ((s : State) (ds : List Struct) → Knows s known ds → rd.not-read malformed ≡ m s) → Fields-are w u b end known m w (plain-fields h.Malformed u at)
 unfolding place-read
-malformed-is w u b end known at m mark l a e = fields-none w u b end known m _ l refl a tt (λ s s′ ds k. ap (λ (x : Read Record). place-read false place-record x s′) (e s ds k))
+malformed-is w u b end known at m l a e = fields-none w u b end known m _ l refl a tt (λ s s′ ds k. ap (λ (x : Read Record). place-read false place-record x s′) (e s ds k))
 
-pub unknown-is : (w : List ℕ) (u : Used) (b : List ℕ) (end known at : ℕ) (m : State → Read Record) (mark : RecordMark) → Lay w u → at ≤ end
-    → ((s : State) (ds : List Struct) → Knows s known ds → rd.not-read unknown-name ≡ m s) → Fields-are w u b end known m w (plain-fields mark Unknown u at 0 0)
+pub unknown-is : (w : List ℕ) (u : Used) (b : List ℕ) (end known at : ℕ) (m : State → Read Record) → Lay w u → at ≤ end
+    → ((s : State) (ds : List Struct) → Knows s known ds → rd.not-read unknown-name ≡ m s) → Fields-are w u b end known m w (plain-fields h.Unknown u at)
 unfolding place-read
-unknown-is w u b end known at m mark l a e = fields-none w u b end known m _ l refl a tt (λ s s′ ds k. ap (λ (x : Read Record). place-read false place-record x s′) (e s ds k))
+unknown-is w u b end known at m l a e = fields-none w u b end known m _ l refl a tt (λ s s′ ds k. ap (λ (x : Read Record). place-read false place-record x s′) (e s ds k))
 
 -- ---- numbers, and a type or none
 
 module _ (w : List ℕ) (u : Used) (b : List ℕ) (end known at next : ℕ) where
-  pub loc-is : (loc : ℕ) (mark : RecordMark) (make : ℕ → Record) → Loc mark make → Lay w u → next ≤ end → rd.got loc (rest b end next) ≡ read-u32 (rest b end at)
-      → Fields-are w u b end known (λ s. read-one make read-u32 (rest b end at)) w (plain-fields mark (At 0) u next loc 0)
+  pub loc-is : (loc : ℕ) (mk : ℕ → What) (make : ℕ → Record) → Loc mk make → Lay w u → next ≤ end → rd.got loc (rest b end next) ≡ read-u32 (rest b end at)
+      → Fields-are w u b end known (λ s. read-one make read-u32 (rest b end at)) w (made-fields (mk loc) (both-of (At 0) u next loc))
   unfolding place-read read-one rd._>>=_ go-on give
-  loc-is loc mark make o l a e =
-      fields-none w u b end known _ _ l refl a (o .inside _ _ _ _ _ _ _)
-      (λ s s′ ds k. ap (λ (x : Noded). placed (ok (s′, x)) (rest b end next)) (o .shows _ _ _ _ _) ∙ ap (λ (q : Result (State × Noded)). placed q (rest b end next)) (sym (o .places loc s′))
+  loc-is loc mk make o l a e =
+      fields-none w u b end known _ _ l refl a (o .inside _ _ _)
+      (λ s s′ ds k. ap (λ (x : Noded). placed (ok (s′, x)) (rest b end next)) (o .shows _ _) ∙ ap (λ (q : Result (State × Noded)). placed q (rest b end next)) (sym (o .places loc s′))
       ∙ ap (λ (x : Read ℕ). place-read false place-record (go-on x (λ loc. give (make loc))) s′) e)
 
-  pub sn-is : (v : TVar) (loc middle : ℕ) → Lay w u → v .0 < known → next ≤ end → rd.got (v .0) (rest b end middle) ≡ rd.name-below known (rest b end at) → rd.got loc (rest b end next) ≡ read-u32 (rest b end middle)
-      → Fields-are w u b end known (λ s. read-two d.SN (name-below (taken s)) read-u32 (rest b end at)) w (var-fields u next v loc)
+  pub sn-is : (v : TVar) (loc middle : ℕ) → Lay w u → next ≤ end → rd.got (v .0) (rest b end middle) ≡ rd.name-below known (rest b end at) → rd.got loc (rest b end next) ≡ read-u32 (rest b end middle)
+      → Fields-are w u b end known (λ s. read-two d.SN (name-below (taken s)) read-u32 (rest b end at)) w (plain-fields (h.Placed (q.Bind (c.SN v loc))) u next)
   unfolding place-read place-record read-two rd._>>=_ go-on give
-  sn-is v loc middle l below a e f = fields-none w u b end known _ _ l refl a below (λ s s′ ds k. rw (k .vars, ← e, ← f) refl)
+  sn-is v loc middle l a e f = fields-none w u b end known _ _ l refl a tt (λ s s′ ds k. rw (k .vars, ← e, ← f) refl)
 
   pub loc-type-is : (w′ : List ℕ) (r : Fields) (loc : ℕ) (make : ℕ → Tree → Record) → rd.got loc (rest b end next) ≡ read-u32 (rest b end at)
       → Fields-are w u b end known (λ s. go-on (read-type s (rest b end next)) (λ t. give (make loc t))) w′ r → Fields-are w u b end known (λ s. read-two make read-u32 (read-type s) (rest b end at)) w′ r
@@ -292,48 +303,48 @@ module _ (w : List ℕ) (u : Used) (b : List ℕ) (end known at next : ℕ) wher
 
 -- ---- no fields
 
-pub sv-is : (w : List ℕ) (u : Used) (b : List ℕ) (end known at : ℕ) → Lay w u → at ≤ end → Fields-are w u b end known (λ s. give d.SV (rest b end at)) w (plain-fields m.SV (At 0) u at 0 0)
+pub sv-is : (w : List ℕ) (u : Used) (b : List ℕ) (end known at : ℕ) → Lay w u → at ≤ end → Fields-are w u b end known (λ s. give d.SV (rest b end at)) w (plain-fields (h.Placed q.SV) u at)
 unfolding place-read place-record give
 sv-is w u b end known at l a = fields-none w u b end known _ _ l refl a tt (λ s s′ ds k. refl)
 
 -- ---- the marks of each form
 
-pub one-UF : One m.UF 0 0 d.UF
+pub one-UF : One (λ t. q.Look (k.UF t)) d.UF
 unfolding place-record
-one-UF = record { nodes = n.UF; places = λ t s. refl; shows = λ p u x t. refl; inside = λ p u x k n t l. l }
+one-UF = record { nodes = λ t. n.run (n.looks (n.unfolded t)); places = λ t s. refl; shows = λ r t. refl; inside = λ r n t l. l }
 
-pub one-RD : One m.RD 0 0 d.RD
+pub one-RD : One (λ t. q.Look (k.RD t)) d.RD
 unfolding place-record
-one-RD = record { nodes = n.RD; places = λ t s. refl; shows = λ p u x t. refl; inside = λ p u x k n t l. l }
+one-RD = record { nodes = λ t. n.run (n.looks (n.ready t)); places = λ t s. refl; shows = λ r t. refl; inside = λ r n t l. l }
 
-pub one-IN : One m.IN 0 0 d.IN
+pub one-IN : One (λ t. q.Bind (c.IN t)) d.IN
 unfolding place-record
-one-IN = record { nodes = n.IN; places = λ t s. refl; shows = λ p u x t. refl; inside = λ p u x k n t l. l }
+one-IN = record { nodes = λ t. n.run (n.binds (n.instantiate t)); places = λ t s. refl; shows = λ r t. refl; inside = λ r n t l. l }
 
-pub one-BC : (loc : ℕ) → One m.BC loc 0 (d.BC loc)
+pub one-BC : (loc : ℕ) → One (λ t. q.Add (a.BC loc t)) (d.BC loc)
 unfolding place-record
-one-BC loc = record { nodes = n.BC loc; places = λ t s. refl; shows = λ p u x t. refl; inside = λ p u x k n t l. l }
+one-BC loc = record { nodes = λ t. n.run (n.adds (n.constrain (BaseTypeConstraint loc t))); places = λ t s. refl; shows = λ r t. refl; inside = λ r n t l. tt }
 
-pub one-SC : (loc : ℕ) → One m.SC loc 0 (d.SC loc)
+pub one-SC : (loc : ℕ) → One (λ t. q.Add (a.SC loc t)) (d.SC loc)
 unfolding place-record
-one-SC loc = record { nodes = n.SC loc; places = λ t s. refl; shows = λ p u x t. refl; inside = λ p u x k n t l. l }
+one-SC loc = record { nodes = λ t. n.run (n.adds (n.constrain (SingleTypeConstraint loc t))); places = λ t s. refl; shows = λ r t. refl; inside = λ r n t l. tt }
 
-pub one-NC : (loc b : ℕ) → b ≤ 2 → One m.NC loc b (d.NC loc (n.kind b))
+pub one-NC : (loc b : ℕ) → One (λ t. q.Add (a.NC loc b t)) (d.NC loc (n.kind b))
 unfolding place-record
-one-NC loc b few = record { nodes = n.NC loc (n.kind b); places = λ t s. refl; shows = λ p u x t. refl; inside = λ p u x k n t l. (few, l) }
+one-NC loc b = record { nodes = λ t. n.run (n.adds (n.constrain (numeric-constraint (n.kind b) loc t))); places = λ t s. refl; shows = λ r t. refl; inside = λ r n t l. tt }
 
-pub two-JN : Two m.JN d.JN
+pub two-JN : Two (λ a t. q.Bind (c.JN a t)) d.JN
 unfolding place-record
-two-JN = record { nodes = n.JN; places = λ t1 t2 s. refl; shows = λ p u x b t. refl; inside = λ p u x k n b t l l′. (l, l′) }
+two-JN = record { nodes = λ a t. n.run (n.binds (n.two Join a t)); places = λ t1 t2 s. refl; shows = λ r a t. refl; inside = λ r n a t l l′. (l, l′) }
 
-pub two-SU : Two m.SU d.SU
+pub two-SU : Two (λ a t. q.Bind (c.SU a t)) d.SU
 unfolding place-record
-two-SU = record { nodes = n.SU; places = λ t1 t2 s. refl; shows = λ p u x b t. refl; inside = λ p u x k n b t l l′. (l, l′) }
+two-SU = record { nodes = λ a t. n.run (n.binds (n.two Subtype a t)); places = λ t1 t2 s. refl; shows = λ r a t. refl; inside = λ r n a t l l′. (l, l′) }
 
-pub loc-FV : Loc m.FV d.FV
+pub loc-FV : Loc (λ loc. q.Add (a.FV loc)) d.FV
 unfolding place-record
-loc-FV = record { nodes = n.FV; places = λ loc s. refl; shows = λ p u x a t. refl; inside = λ p u x a k n t. tt }
+loc-FV = record { nodes = λ loc. n.run (n.adds (n.tvar loc)); places = λ loc s. refl; shows = λ r loc. refl; inside = λ r n loc. tt }
 
-pub loc-NV : Loc m.NV d.NV
+pub loc-NV : Loc (λ loc. q.Add (a.NV loc)) d.NV
 unfolding place-record
-loc-NV = record { nodes = n.NV; places = λ loc s. refl; shows = λ p u x a t. refl; inside = λ p u x a k n t. tt }
+loc-NV = record { nodes = λ loc. n.run (n.adds (n.num-tvar loc)); places = λ loc s. refl; shows = λ r loc. refl; inside = λ r n loc. tt }

@@ -15,10 +15,10 @@ use Rattle.definition.specs.Record as d
 use Rattle.definition.specs.Record.{Record}
 use Rattle.table.specs.State.{Lay}
 use Rattle.table.specs.declared.Used.{Used}
-use Rattle.reader.specs.declared.Part.the-variants.{At, Malformed}
 use Rattle.reader.specs.Fields.{rest}
 use Rattle.reader.specs.Taken.{place-read}
-use Rattle.marks.specs.declared.RecordMark.the-variants as m
+use Rattle.fields.specs.declared.What.the-variants as q
+use Rattle.fields.specs.declared.Whole.the-variants as h
 use Rattle.fields.specs.Noded.{place-record, Fields-are, plain-fields}
 use Rattle.fields.proofs.Forms.{fields-none, malformed-is}
 
@@ -79,10 +79,10 @@ module _ (b : List ℕ) (end at n : ℕ) (params : List ℕ) (next i : ℕ) (g :
     abbrev declared : State → Read Record
     declared s = go-on (times n (byte-to 31) (rest b end at)) (λ params. give (d.SD abilities params))
 
-    pub params-stop : i < n → at ≤ end → not-read malformed ≡ byte-to 31 (rest b end next) → Fields-are w u b end known declared w (plain-fields m.SD Malformed u at 0 0)
+    pub params-stop : i < n → at ≤ end → not-read malformed ≡ byte-to 31 (rest b end next) → Fields-are w u b end known declared w (plain-fields h.Malformed u at)
     unfolding go-on
     params-stop l a e =
-        malformed-is w u b end known at declared m.SD lay a
+        malformed-is w u b end known at declared lay a
         (λ s ds k. ap (λ (r : Read ℕ). go-on (behind (take i params) (go-on r (λ x l. go-on (times (n - (i + 1)) (byte-to 31) l) (λ ys. give (x ∷ ys))))) (λ params. give (d.SD abilities params))) e
         ∙ ap (λ (r : Read (List ℕ)). go-on r (λ params. give (d.SD abilities params))) (sym (next-is l)))
 
@@ -95,7 +95,7 @@ module _ (b : List ℕ) (end at n : ℕ) (params : List ℕ) (next i : ℕ) (g :
         ∙ ap (λ (k : ℕ). got (take k params ++ []) (rest b end next)) z ∙ ap (λ (xs : List ℕ). got xs (rest b end next)) (append-nil (take n params))
 
     pub params-all : n ≤ i → abilities ≤ 15 → n ≤ 8
-        → Fields-are w u b end known declared w (record { mark = m.SD; part = At 0; used = u; next = next; a = abilities; b = n; var = record { 0 = 0 }; params = params; ids = replicate 8 (record { 0 = 0 }); nodes = replicate 8 0 })
+        → Fields-are w u b end known declared w (record { read = h.Placed (q.SD abilities n); used = u; next = next; params = params; ids = replicate 8 (record { 0 = 0 }); nodes = replicate 8 0 })
     unfolding go-on give place-read place-record
     params-all l few few′ =
         fields-none w u b end known declared _ lay refl (g .within) (few, few′)

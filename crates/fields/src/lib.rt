@@ -10,8 +10,7 @@ ghost use Rattle.definition.specs.Record.{Record, SD, SN, NC, RM, read-SD, read
 ghost use Rattle.table.specs.State.{view, Lay};
 ghost use Rattle.reader.specs.Fields.{rest};
 ghost use Rattle.reader.specs.Taken.{Arities};
-ghost use Rattle.fields.specs.Noded.{Fields-are, counted-fields, met-number, plain-fields, var-fields, One, Two, Loc};
-use marks::RecordMark;
+ghost use Rattle.fields.specs.Noded.{Fields-are, plain-fields, whole-of, both-of, made-fields, One, Two, Loc};
 use names::TParamID;
 use names::TVar;
 use needs::Sums;
@@ -30,42 +29,120 @@ use reader::read_type;
 use reader::stops;
 use table::Used;
 
-// A record read and placed: the node of its last type (0 where it has none), or 7, 5, 6 or 18; the rows in use then, and the place after it.
-// a: a location, an ability set (SD). b: the first node (JN, SU), the kind (NC), how many (SD, TS).
-// SN's variable; SD's parameter bytes; TS's ids and their nodes. RM has its four sums in nodes, and 1 in a if a variable was met.
+// ---- a record that is read, its types placed as nodes
+
+// It may bind or mark a variable that is there.
+pub enum Bind {
+    SN(TVar, u32),
+    JN(u32, u32),
+    SU(u32, u32),
+    IN(u32),
+}
+
+// It only shows, the state stays as at entry. TS says how many pairs stand beside it.
+pub enum Look {
+    UF(u32),
+    RD(u32),
+    TS(u32, u32),
+}
+
+// It takes new rows at most.
+pub enum Add {
+    FV(u32),
+    NV(u32),
+    NC(u32, u32, u32),
+    BC(u32, u32),
+    SC(u32, u32),
+    RM(Sums),
+}
+
+// SD says how many parameter bytes stand beside it.
+pub enum What {
+    SD(u32, u32),
+    SV,
+    Bind(Bind),
+    Look(Look),
+    Add(Add),
+}
+
+// .. or 7, 5, 6 or 18.
+pub enum Whole {
+    Placed(What),
+    Full,
+    Malformed,
+    Unknown,
+    Doubled,
+}
+
+// What was read, the rows in use then, and the place after it. SD's parameter bytes; TS's ids and their nodes.
 pub struct Fields {
-    pub mark: RecordMark,
-    pub part: Part,
+    pub read: Whole,
     pub used: Used,
     pub next: usize,
-    pub a: u32,
-    pub b: u32,
-    pub var: TVar,
     pub params: [u8; 8],
     pub ids: [TParamID; 8],
     pub nodes: [u32; 8],
 }
 
-pub fn plain(mark: RecordMark, part: Part, u: Used, next: usize, a: u32, b: u32) -> Fields
-    ensures { λ r. ⌜ r ≡ plain-fields mark part u next a b ⌝ }
+// Without arrays.
+pub fn plain(read: Whole, u: Used, next: usize) -> Fields
+    ensures { λ r. ⌜ r ≡ plain-fields read u next ⌝ }
 {
     let none = TParamID(0);
     let ids = [none; 8];
     Fields {
-        mark: mark,
-        part: part,
+        read: read,
         used: u,
         next: next,
-        a: a,
-        b: b,
-        var: TVar(0),
         params: [0; 8],
         ids: ids,
         nodes: [0; 8],
     }
 }
 
-// ---- one type, after the numbers a and c
+// The record, if its last type is placed.
+pub fn whole_of(p: Part, what: What) -> Whole
+    ensures { λ r. ⌜ r ≡ whole-of p what ⌝ }
+{
+    match p {
+        Part::At(_) => Whole::Placed(what),
+        Part::Full => Whole::Full,
+        Part::Malformed => Whole::Malformed,
+        Part::Unknown => Whole::Unknown,
+        Part::Doubled => Whole::Doubled,
+    }
+}
+
+// A number or a node, and the last type: its node, 0 if there is none.
+pub struct Both {
+    pub part: Part,
+    pub used: Used,
+    pub next: usize,
+    pub first: u32,
+    pub last: u32,
+}
+
+fn with_first(part: Part, u: Used, next: usize, first: u32) -> Both
+    ensures { λ r. ⌜ r ≡ both-of part u next first ⌝ }
+{
+    Both {
+        part: part,
+        used: u,
+        next: next,
+        first: first,
+        last: node_of(part),
+    }
+}
+
+pub fn made(what: What, r: Both) -> Fields
+    ensures { λ x. ⌜ x ≡ made-fields what r ⌝ }
+{
+    let p = r.part;
+    let u = r.used;
+    plain(whole_of(p, what), u, r.next)
+}
+
+// ---- one type, after the number first
 
 pub fn read_one(
     w: &mut [u32],
@@ -74,73 +151,38 @@ pub fn read_one(
     end: usize,
     at: usize,
     known: u32,
-    mark: RecordMark,
-    a: u32,
-    c: u32,
-) -> Fields
+    first: u32,
+) -> Both
     requires { ⌜ Lay (now w) u × Arities (view (now w) u .structs) ⌝ }
     requires { ⌜ (end ≤ length (now b)) × ((at ≤ end) × (known ≤ 1024)) ⌝ }
-    ensures { λ r. ⌜ ((make : Tree → Record) → One mark a c make → Fields-are (now (w .entry)) u (now (b .entry)) end known (λ s. go-on (read-type s (rest (now (b .entry)) end at)) (λ t. give (make t))) (now (w .exit)) r) ⌝ }
+    ensures { λ r. ⌜ ((make : Tree → Record) (mk : ℕ → What) → One mk make → Fields-are (now (w .entry)) u (now (b .entry)) end known (λ s. go-on (read-type s (rest (now (b .entry)) end at)) (λ t. give (make t))) (now (w .exit)) (made-fields (mk (r .last)) r)) × (r .first ≡ first) ⌝ }
 {
     let r = read_type(w, u, b, end, at, known, 64, false);
     let p = r.part;
     let v = r.used;
-    plain(mark, p, v, r.next, a, c)
+    with_first(p, v, r.next, first)
 }
 
 // JN, SU.
-pub fn read_two(
-    w: &mut [u32],
-    u: Used,
-    b: &[u8],
-    end: usize,
-    at: usize,
-    known: u32,
-    mark: RecordMark,
-) -> Fields
+pub fn read_two(w: &mut [u32], u: Used, b: &[u8], end: usize, at: usize, known: u32) -> Both
     requires { ⌜ Lay (now w) u × Arities (view (now w) u .structs) ⌝ }
     requires { ⌜ (end ≤ length (now b)) × ((at ≤ end) × (known ≤ 1024)) ⌝ }
-    ensures { λ r. ⌜ ((make : Tree → Tree → Record) → Two mark make → Fields-are (now (w .entry)) u (now (b .entry)) end known (λ s. read-two make (read-type s) (read-type s) (rest (now (b .entry)) end at)) (now (w .exit)) r) ⌝ }
+    ensures { λ r. ⌜ ((make : Tree → Tree → Record) (mk : ℕ → ℕ → What) → Two mk make → Fields-are (now (w .entry)) u (now (b .entry)) end known (λ s. read-two make (read-type s) (read-type s) (rest (now (b .entry)) end at)) (now (w .exit)) (made-fields (mk (r .first) (r .last)) r)) ⌝ }
 {
     let r = read_type(w, u, b, end, at, known, 64, false);
     let p = r.part;
     let v = r.used;
     let next = r.next;
     if stops(p) {
-        return plain(mark, p, v, next, 0, 0);
+        return with_first(p, v, next, 0);
     }
     let q = read_type(w, v, b, end, next, known, 64, no_space(p));
     let p2 = q.part;
     let v2 = q.used;
-    plain(mark, p2, v2, q.next, 0, node_of(p))
+    with_first(p2, v2, q.next, node_of(p))
 }
 
 // ---- one type, counted and not placed
-
-fn met_number(met: bool) -> u32
-    ensures { λ r. ⌜ r ≡ met-number met ⌝ }
-{
-    if met { 1 } else { 0 }
-}
-
-fn counted(part: Part, u: Used, next: usize, c: Sums) -> Fields
-    ensures { λ r. ⌜ r ≡ counted-fields part u next c ⌝ }
-{
-    let none = TParamID(0);
-    let ids = [none; 8];
-    Fields {
-        mark: RecordMark::RM,
-        part: part,
-        used: u,
-        next: next,
-        a: met_number(c.met),
-        b: 0,
-        var: TVar(0),
-        params: [0; 8],
-        ids: ids,
-        nodes: [c.nodes, c.places, c.variables, c.constraints, 0, 0, 0, 0],
-    }
-}
 
 pub fn read_rm(w: &[u32], u: Used, b: &[u8], end: usize, at: usize, known: u32) -> Fields
     requires { ⌜ Lay (now w) u × Arities (view (now w) u .structs) ⌝ }
@@ -150,40 +192,21 @@ pub fn read_rm(w: &[u32], u: Used, b: &[u8], end: usize, at: usize, known: u32) 
     let r = count_type(w, u, &b[at..end], end - at, 0, known, 64, false);
     let p = r.part;
     let c = r.sums;
-    counted(p, u, at + r.next, c)
+    plain(whole_of(p, What::Add(Add::RM(c))), u, at + r.next)
 }
 
 // ---- numbers, and a type or none
 
 // FV, NV.
-pub fn read_loc(u: Used, b: &[u8], end: usize, at: usize, mark: RecordMark) -> Fields
+pub fn read_loc(u: Used, b: &[u8], end: usize, at: usize) -> Both
     requires { ⌜ (end ≤ length (now b)) × (at ≤ end) ⌝ }
-    ensures { λ r. ⌜ ((make : ℕ → Record) → Loc mark make → (w : List ℕ) (known : ℕ) → Lay w u → Fields-are w u (now (b .entry)) end known (λ s. read-one make read-u32 (rest (now (b .entry)) end at)) w r) ⌝ }
+    ensures { λ r. ⌜ ((make : ℕ → Record) (mk : ℕ → What) → Loc mk make → (w : List ℕ) (known : ℕ) → Lay w u → Fields-are w u (now (b .entry)) end known (λ s. read-one make read-u32 (rest (now (b .entry)) end at)) w (made-fields (mk (r .first)) r)) ⌝ }
 {
     let r = read_number(b, end, at, 4);
     let l = r.number;
     match l {
-        Number::Got(loc) => plain(mark, Part::At(0), u, r.next, loc, 0),
-        Number::Missing => plain(mark, Part::Malformed, u, at, 0, 0),
-    }
-}
-
-fn with_var(u: Used, next: usize, var: TVar, loc: u32) -> Fields
-    ensures { λ r. ⌜ r ≡ var-fields u next var loc ⌝ }
-{
-    let none = TParamID(0);
-    let ids = [none; 8];
-    Fields {
-        mark: RecordMark::SN,
-        part: Part::At(0),
-        used: u,
-        next: next,
-        a: loc,
-        b: 0,
-        var: var,
-        params: [0; 8],
-        ids: ids,
-        nodes: [0; 8],
+        Number::Got(loc) => with_first(Part::At(0), u, r.next, loc),
+        Number::Missing => with_first(Part::Malformed, u, at, 0),
     }
 }
 
@@ -197,33 +220,29 @@ pub fn read_sn(u: Used, b: &[u8], end: usize, at: usize, known: u32) -> Fields
     let n = name_below(f, known);
     match n {
         Name::Known(v) => match l {
-            Number::Got(loc) => with_var(u, r.next, TVar(v as u16), loc),
-            Number::Missing => plain(RecordMark::SN, Part::Malformed, u, at, 0, 0),
+            Number::Got(loc) => plain(
+                Whole::Placed(What::Bind(Bind::SN(TVar(v as u16), loc))),
+                u,
+                r.next,
+            ),
+            Number::Missing => plain(Whole::Malformed, u, at),
         },
-        Name::Cut => plain(RecordMark::SN, Part::Malformed, u, at, 0, 0),
-        Name::Unknown => plain(RecordMark::SN, Part::Unknown, u, at, 0, 0),
+        Name::Cut => plain(Whole::Malformed, u, at),
+        Name::Unknown => plain(Whole::Unknown, u, at),
     }
 }
 
 // BC, SC.
-pub fn read_loc_type(
-    w: &mut [u32],
-    u: Used,
-    b: &[u8],
-    end: usize,
-    at: usize,
-    known: u32,
-    mark: RecordMark,
-) -> Fields
+pub fn read_loc_type(w: &mut [u32], u: Used, b: &[u8], end: usize, at: usize, known: u32) -> Both
     requires { ⌜ Lay (now w) u × Arities (view (now w) u .structs) ⌝ }
     requires { ⌜ (end ≤ length (now b)) × ((at ≤ end) × (known ≤ 1024)) ⌝ }
-    ensures { λ r. ⌜ ((make : ℕ → Tree → Record) → ((loc : ℕ) → One mark loc 0 (make loc)) → Fields-are (now (w .entry)) u (now (b .entry)) end known (λ s. read-two make read-u32 (read-type s) (rest (now (b .entry)) end at)) (now (w .exit)) r) ⌝ }
+    ensures { λ r. ⌜ ((make : ℕ → Tree → Record) (mk : ℕ → ℕ → What) → ((loc : ℕ) → One (mk loc) (make loc)) → Fields-are (now (w .entry)) u (now (b .entry)) end known (λ s. read-two make read-u32 (read-type s) (rest (now (b .entry)) end at)) (now (w .exit)) (made-fields (mk (r .first) (r .last)) r)) ⌝ }
 {
     let r = read_number(b, end, at, 4);
     let l = r.number;
     match l {
-        Number::Got(loc) => read_one(w, u, b, end, r.next, known, mark, loc, 0),
-        Number::Missing => plain(mark, Part::Malformed, u, at, 0, 0),
+        Number::Got(loc) => read_one(w, u, b, end, r.next, known, loc),
+        Number::Missing => with_first(Part::Malformed, u, at, 0),
     }
 }
 
@@ -239,21 +258,14 @@ pub fn read_nc(w: &mut [u32], u: Used, b: &[u8], end: usize, at: usize, known: u
         Number::Got(loc) => {
             let k = byte_to(f, 2);
             match k {
-                Number::Got(kind) => read_one(
-                    w,
-                    u,
-                    b,
-                    end,
-                    r.next,
-                    known,
-                    RecordMark::NC,
-                    loc,
-                    kind,
-                ),
-                Number::Missing => plain(RecordMark::NC, Part::Malformed, u, at, 0, 0),
+                Number::Got(kind) => {
+                    let t = read_one(w, u, b, end, r.next, known, loc);
+                    made(What::Add(Add::NC(loc, kind, t.last)), t)
+                }
+                Number::Missing => plain(Whole::Malformed, u, at),
             }
         }
-        Number::Missing => plain(RecordMark::NC, Part::Malformed, u, at, 0, 0),
+        Number::Missing => plain(Whole::Malformed, u, at),
     }
 }
 
@@ -272,7 +284,7 @@ fn read_params(u: Used, b: &[u8], end: usize, at: usize, abilities: u32, many: u
         let f = r.number;
         let p = byte_to(f, 31);
         let Number::Got(x) = p else {
-            return plain(RecordMark::SD, Part::Malformed, u, at, 0, 0);
+            return plain(Whole::Malformed, u, at);
         };
         params[i] = x as u8;
         next = r.next;
@@ -281,13 +293,9 @@ fn read_params(u: Used, b: &[u8], end: usize, at: usize, abilities: u32, many: u
     let none = TParamID(0);
     let ids = [none; 8];
     Fields {
-        mark: RecordMark::SD,
-        part: Part::At(0),
+        read: Whole::Placed(What::SD(abilities, many)),
         used: u,
         next: next,
-        a: abilities,
-        b: many,
-        var: TVar(0),
         params: params,
         ids: ids,
         nodes: [0; 8],
@@ -307,9 +315,9 @@ pub fn read_sd(u: Used, b: &[u8], end: usize, at: usize) -> Fields
             let n = byte_to(g, 8);
             match n {
                 Number::Got(many) => read_params(u, b, end, r.next, abilities, many),
-                Number::Missing => plain(RecordMark::SD, Part::Malformed, u, at, 0, 0),
+                Number::Missing => plain(Whole::Malformed, u, at),
             }
         }
-        Number::Missing => plain(RecordMark::SD, Part::Malformed, u, at, 0, 0),
+        Number::Missing => plain(Whole::Malformed, u, at),
     }
 }

@@ -27,10 +27,13 @@ use Rattle.reader.specs.declared.Taken.{Taken}
 use Rattle.reader.specs.Fields.{rest, Knows}
 use Rattle.reader.specs.Taken.{Placed, stopped, placed, place-read, part-of, Part-in, Takes, is-stop, is-over, node-in}
 use Rattle.reader.proofs.Loop.{declares-kept}
-use Rattle.marks.specs.declared.RecordMark.the-variants as m
-use Rattle.fields.specs.Noded.{Noded, TS, place-record, id-at, pairs, part-with, Fields-are, plain-fields, paired-fields}
+use Rattle.fields.specs.declared.Look.the-variants as k
+use Rattle.fields.specs.declared.What.the-variants as q
+use Rattle.fields.specs.declared.Whole.the-variants as h
+use Rattle.fields.specs.declared.Fields.{Fields}
+use Rattle.fields.specs.Noded.{Noded, run, looks, tparams, solve, place-record, id-at, pairs, noded, Fields-are, plain-fields, paired-fields, whole-of}
 use Rattle.fields.proofs.Placing.{is-not, last-type, first-type, type-stops}
-use Rattle.fields.proofs.Forms.{nodes-grow, was-open, part-so, stop-so, first-in}
+use Rattle.fields.proofs.Forms.{nodes-grow, was-open, made-with, made-so, stop-so, first-in}
 
 -- ---- pairs in two arrays
 
@@ -70,7 +73,7 @@ abbrev left-at : State → ℕ → Bytes → Read Left
 left-at s n l = go-on (times n (read-pair s) l) (λ ps l. go-on (read-type s l) (λ t. give (ps, t)))
 
 abbrev put-after : List (ℕ × ℕ) → Tree → Result (State × List (ℕ × ℕ)) → Result (State × Noded)
-put-after xs t p = p >>= (λ (s, ys). build t s >>= (λ (s, ty). ok (s, TS (xs ++ ys) ty)))
+put-after xs t p = p >>= (λ (s, ys). build t s >>= (λ (s, ty). ok (s, run (looks (tparams (xs ++ ys) ty)))))
 
 abbrev put-left : List (ℕ × ℕ) → Left → State → Result (State × Noded)
 put-left xs c s = put-after xs (c .1) (build-pairs (c .0) s)
@@ -80,7 +83,7 @@ unfolding build-pairs _>>=_
 put-one xs id t c s = by (build t s)
   where
     rest-is : (n : ℕ) (p : Result (State × List (ℕ × ℕ))) → put-after xs (c .1) (p >>= (λ (s, ps). ok (s, (id, n) ∷ ps))) ≡ put-after (xs ++ ((id, n) ∷ [])) (c .1) p
-    rest-is n (ok (s, ys)) = ap (λ (k : List (ℕ × ℕ)). build (c .1) s >>= (λ (s, ty). ok (s, TS k ty))) (sym (append-assoc xs ((id, n) ∷ []) ys))
+    rest-is n (ok (s, ys)) = ap (λ (k : List (ℕ × ℕ)). build (c .1) s >>= (λ (s, ty). ok (s, run (looks (tparams k ty))))) (sym (append-assoc xs ((id, n) ∷ []) ys))
     rest-is n (err s e) = refl
     rest-is n (refused y) = refl
 
@@ -135,9 +138,9 @@ left-is s n l v = by (times n (read-pair s) l)
     by (not-read z) = refl
 
 -- no pair is left
-put-last : (xs : List (ℕ × ℕ)) (t : Tree) (s : State) → put-left xs ([], t) s ≡ (build t s >>= (λ (s, n). ok (s, TS xs n)))
+put-last : (xs : List (ℕ × ℕ)) (t : Tree) (s : State) → put-left xs ([], t) s ≡ (build t s >>= (λ (s, n). ok (s, run (looks (tparams xs n)))))
 unfolding build-pairs _>>=_
-put-last xs t s = ap (λ (k : List (ℕ × ℕ)). build t s >>= (λ (s, n). ok (s, TS k n))) (append-nil xs)
+put-last xs t s = ap (λ (k : List (ℕ × ℕ)). build t s >>= (λ (s, n). ok (s, run (looks (tparams k n))))) (append-nil xs)
 
 -- ---- the loop
 
@@ -179,7 +182,7 @@ module _ (w₀ : List ℕ) (u₀ : Used) (b : List ℕ) (end known n at : ℕ) (
       let z : n - i ≡ suc (n - (i + 1)) = omega arith in
       sym (left-is s n (rest b end at) (seen w₀ u₀ ds)) ∙ g .is ds s d k ∙ ap (λ (j : ℕ). place-read over (put-left (pairs ids nodes 0 i)) (left-at s j (rest b end next)) (seen w u ds)) z
 
-  pub pairs-cut : i < n → not-read malformed ≡ read-u32 (rest b end next) → Fields-are w₀ u₀ b end known read-all w (plain-fields m.TS Malformed u next 0 0)
+  pub pairs-cut : i < n → not-read malformed ≡ read-u32 (rest b end next) → Fields-are w₀ u₀ b end known read-all w (plain-fields h.Malformed u next)
   unfolding place-read
   pairs-cut l e =
       record {
@@ -206,16 +209,17 @@ module _ (w₀ : List ℕ) (u₀ : Used) (b : List ℕ) (end known n at : ℕ) (
     pair-is ds s d k =
         turn-is l ds s d k ∙ ap (λ (x : Read Left). place-read over (put-left (pairs ids nodes 0 i)) x (seen w u ds)) (left-more s (n - (i + 1)) id (rest b end next) (rest b end after-id) e)
 
-    pub pairs-stop : is-stop (r .part) ≡ true → Fields-are w₀ u₀ b end known read-all w′ (plain-fields m.TS (r .part) (r .used) (r .next) 0 0)
+    pub pairs-stop : is-stop (r .part) ≡ true → Fields-are w₀ u₀ b end known read-all w′ (plain-fields (whole-of (r .part) q.SV) (r .used) (r .next))
     pairs-stop st =
         record {
           lay = t .lay;
           grown = grown-trans _ _ _ (g .grown) (t .grown);
           structs = t .structs ∙ g .structs;
-          inside = stop-so (r .part) _ st;
+          inside = stop-so (r .part) _ _ st;
           within = t .within;
           is = λ ds s d k.
-              type-stops (put-left (pairs ids nodes 0 i)) one after (put-one (pairs ids nodes 0 i) id) (left-at s (n - (i + 1))) (r .part) over (read-nested 64 s (rest b end after-id)) (seen w u ds)
+              made-with (r .part) _ _ (λ (x : ℕ). solve) (seen w′ (r .used) ds) (rest b end (r .next)) refl
+              ∙ type-stops (put-left (pairs ids nodes 0 i)) one after (put-one (pairs ids nodes 0 i) id) (left-at s (n - (i + 1))) (r .part) over (read-nested 64 s (rest b end after-id)) (seen w u ds)
               (seen w′ (r .used) ds) (rest b end (r .next)) (t .is ds s (declares-kept w₀ u₀ w u ds (g .structs) d) k) st _
               ∙ sym (pair-is ds s d k);
         }
@@ -262,8 +266,12 @@ module _ (w₀ : List ℕ) (u₀ : Used) (b : List ℕ) (end known n at : ℕ) (
               (sym (pairs-more ids nodes i (record { 0 = id }) (node-in (r .part)) lt′ lt));
         }
 
+  module _ (r : Taken) where
+    abbrev all-made : Fields
+    all-made = paired-fields (whole-of (r .part) (q.Look (k.TS n (node-in (r .part))))) (r .used) (r .next) ids nodes
+
   pub pairs-all : n ≤ i → n ≤ 8 → (w′ : List ℕ) (r : Taken) → Takes w u b end known over (λ s. read-nested 64 s (rest b end next)) w′ r
-      → Fields-are w₀ u₀ b end known read-all w′ (paired-fields (r .part) (r .used) (r .next) n ids nodes)
+      → Fields-are w₀ u₀ b end known read-all w′ (all-made r)
   unfolding read-type build-pairs
   pairs-all l few w′ r t =
       let z : i ≡ n = (let y = g .left in omega arith) in
@@ -273,10 +281,11 @@ module _ (w₀ : List ℕ) (u₀ : Used) (b : List ℕ) (end known n at : ℕ) (
         lay = t .lay;
         grown = grown-trans _ _ _ (g .grown) (t .grown);
         structs = t .structs ∙ g .structs;
-        inside = part-so (r .part) (r .used .nodes) _ (t .inside) (λ x f q. (record { few = few; below = λ j h. under (was-open _ _ _ _ _ over _ _ r x t f) up j (omega arith) }, q));
+        inside = made-so (r .part) (r .used .nodes) _ _ (t .inside) (λ x f q. (record { few = few; below = λ j h. under (was-open _ _ _ _ _ over _ _ r x t f) up j (omega arith) }, q));
         within = t .within;
         is = λ ds s d k.
-            last-type (put-left (pairs ids nodes 0 n)) (λ t. ([], t)) (λ x. TS (pairs ids nodes 0 n) x) (put-last (pairs ids nodes 0 n)) (r .part) over (read-nested 64 s (rest b end next)) (seen w u ds)
+            made-with (r .part) (noded (all-made r)) _ (λ x. run (looks (tparams (pairs ids nodes 0 n) x))) (seen w′ (r .used) ds) (rest b end (r .next)) refl
+            ∙ last-type (put-left (pairs ids nodes 0 n)) (λ t. ([], t)) (λ x. run (looks (tparams (pairs ids nodes 0 n) x))) (put-last (pairs ids nodes 0 n)) (r .part) over (read-nested 64 s (rest b end next)) (seen w u ds)
             (seen w′ (r .used) ds) (rest b end (r .next)) (t .is ds s (declares-kept w₀ u₀ w u ds (g .structs) d) k)
             ∙ ap (λ (x : Read Left). place-read over (put-left (pairs ids nodes 0 n)) x (seen w u ds)) (sym (left-none s (rest b end next)))
             ∙ ap (λ (j : ℕ). place-read over (put-left (pairs ids nodes 0 n)) (left-at s j (rest b end next)) (seen w u ds)) (sym none)

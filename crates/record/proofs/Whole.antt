@@ -15,25 +15,27 @@ use Rattle.definition.specs.Record.{Record, max-record, hand-back, read-fields,
 use Rattle.table.specs.State.{Declares, seen}
 use Rattle.table.specs.declared.Used.{Used}
 use Rattle.table.proofs.Pushed.{taken-seen}
-use Rattle.reader.specs.declared.Part.{Part}
-use Rattle.reader.specs.declared.Part.the-variants.{At, Full, Malformed, Unknown, Doubled}
 use Rattle.reader.specs.Fields.{rest, Knows}
-use Rattle.reader.specs.Taken.{Placed, stopped, placed, place-read}
+use Rattle.reader.specs.Taken as taken
+use Rattle.reader.specs.Taken.{stopped, placed, place-read}
+use Rattle.fields.specs.declared.What.{What}
+use Rattle.fields.specs.declared.Whole.{Whole}
+use Rattle.fields.specs.declared.Whole.the-variants.{Placed, Full, Malformed, Unknown, Doubled}
 use Rattle.fields.specs.declared.Fields.{Fields}
-use Rattle.fields.specs.Noded.{place-record, noded, part-with, fields-as, Fields-are, Record-is}
+use Rattle.fields.specs.Noded.{place-record, noded, whole-with, fields-as, Fields-are, Record-is}
 
 -- ---- bytes handed back
 
-abbrev longer : {B : Type 0} → Bytes → Placed B → Placed B
+abbrev longer : {B : Type 0} → Bytes → taken.Placed B → taken.Placed B
 longer more (stopped x) = stopped x
 longer more (placed q l) = placed q (l ++ more)
 
-longer-part : {B : Type 0} (p : Part) (g : ℕ → B) (s : State) (l more : Bytes) → part-with p g s (l ++ more) ≡ longer more (part-with p g s l)
-longer-part (At t) g s l more = refl
-longer-part Full g s l more = refl
-longer-part Malformed g s l more = refl
-longer-part Unknown g s l more = refl
-longer-part Doubled g s l more = refl
+longer-whole : {B : Type 0} (p : Whole) (g : What → B) (s : State) (l more : Bytes) → whole-with p g s (l ++ more) ≡ longer more (whole-with p g s l)
+longer-whole (Placed x) g s l more = refl
+longer-whole Full g s l more = refl
+longer-whole Malformed g s l more = refl
+longer-whole Unknown g s l more = refl
+longer-whole Doubled g s l more = refl
 
 longer-read : {A B : Type 0} (put : A → State → Result (State × B)) (x : Read A) (s : State) (more : Bytes) → longer more (place-read false put x s) ≡ place-read false put (hand-back more x) s
 unfolding place-read hand-back
@@ -93,7 +95,7 @@ module _ (w : List ℕ) (u : Used) (b : List ℕ) (start end : ℕ) where
         within = (let y = f .within in let z = e .0 in omega arith);
         is = λ ds d.
             ap (λ (l : Bytes). fields-as r (seen w′ (r .used) ds) l) (sym (rest-more b end (r .next) (e .0) (f .within)))
-            ∙ longer-part (r .part) (noded (r .mark) r) (seen w′ (r .used) ds) (rest b end (r .next)) (drop end b)
+            ∙ longer-whole (r .read) (noded r) (seen w′ (r .used) ds) (rest b end (r .next)) (drop end b)
             ∙ ap (longer (drop end b)) (f .is ds (seen w u ds) d (knows-seen w u ds))
             ∙ longer-read place-record (read-fields (seen w u ds) (rest b end start)) (seen w u ds) (drop end b)
             ∙ ap (λ (x : Read Record). place-read false place-record x (seen w u ds)) (handed (seen w u ds) (e .1 .1) (e .1 .0) (e .0));

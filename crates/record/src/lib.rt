@@ -11,7 +11,13 @@ ghost use Rattle.reader.specs.Taken.{Arities};
 ghost use Rattle.marks.specs.Marks.{reader-of};
 ghost use Rattle.fields.specs.Noded.{Fields-are, Record-is, paired-fields};
 use cursor::end_of;
+use fields::Add;
+use fields::Bind;
 use fields::Fields;
+use fields::Look;
+use fields::What;
+use fields::Whole;
+use fields::made;
 use fields::plain;
 use fields::read_loc;
 use fields::read_loc_type;
@@ -21,12 +27,11 @@ use fields::read_rm;
 use fields::read_sd;
 use fields::read_sn;
 use fields::read_two;
+use fields::whole_of;
 use marks::RecordMark;
 use marks::mark_of;
 use names::TParamID;
-use names::TVar;
 use reader::Number;
-use reader::Part;
 use reader::Taken;
 use reader::byte_to;
 use reader::no_space;
@@ -39,24 +44,13 @@ use table::Used;
 
 // ---- pairs of an id and a type, and a last type
 
-fn paired(
-    part: Part,
-    u: Used,
-    next: usize,
-    many: u32,
-    ids: [TParamID; 8],
-    nodes: [u32; 8],
-) -> Fields
-    ensures { λ r. ⌜ r ≡ paired-fields part u next many ids nodes ⌝ }
+fn paired(read: Whole, u: Used, next: usize, ids: [TParamID; 8], nodes: [u32; 8]) -> Fields
+    ensures { λ r. ⌜ r ≡ paired-fields read u next ids nodes ⌝ }
 {
     Fields {
-        mark: RecordMark::TS,
-        part: part,
+        read: read,
         used: u,
         next: next,
-        a: 0,
-        b: many,
-        var: TVar(0),
         params: [0; 8],
         ids: ids,
         nodes: nodes,
@@ -88,14 +82,14 @@ fn read_pairs(
         let r = read_number(b, end, next, 4);
         let l = r.number;
         let Number::Got(x) = l else {
-            return plain(RecordMark::TS, Part::Malformed, used, next, 0, 0);
+            return plain(Whole::Malformed, used, next);
         };
         let t = read_type(w, used, b, end, r.next, known, 64, over);
         let p = t.part;
         used = t.used;
         next = t.next;
         if stops(p) {
-            return plain(RecordMark::TS, p, used, next, 0, 0);
+            return plain(whole_of(p, What::SV), used, next);
         }
         over = no_space(p);
         ids[i] = TParamID(x);
@@ -105,7 +99,13 @@ fn read_pairs(
     let r = read_type(w, used, b, end, next, known, 64, over);
     let p = r.part;
     let v = r.used;
-    paired(p, v, r.next, many, ids, nodes)
+    paired(
+        whole_of(p, What::Look(Look::TS(many, node_of(p)))),
+        v,
+        r.next,
+        ids,
+        nodes,
+    )
 }
 
 fn read_ts(w: &mut [u32], u: Used, b: &[u8], end: usize, at: usize, known: u32) -> Fields
@@ -118,7 +118,7 @@ fn read_ts(w: &mut [u32], u: Used, b: &[u8], end: usize, at: usize, known: u32) 
     let n = byte_to(f, 8);
     match n {
         Number::Got(many) => read_pairs(w, u, b, end, r.next, known, many),
-        Number::Missing => plain(RecordMark::TS, Part::Malformed, u, at, 0, 0),
+        Number::Missing => plain(Whole::Malformed, u, at),
     }
 }
 
@@ -140,21 +140,48 @@ fn fields_of(
 {
     match mark {
         RecordMark::SD => read_sd(u, b, end, at),
-        RecordMark::FV => read_loc(u, b, end, at, RecordMark::FV),
-        RecordMark::NV => read_loc(u, b, end, at, RecordMark::NV),
+        RecordMark::FV => {
+            let r = read_loc(u, b, end, at);
+            made(What::Add(Add::FV(r.first)), r)
+        }
+        RecordMark::NV => {
+            let r = read_loc(u, b, end, at);
+            made(What::Add(Add::NV(r.first)), r)
+        }
         RecordMark::SN => read_sn(u, b, end, at, known),
-        RecordMark::JN => read_two(w, u, b, end, at, known, RecordMark::JN),
-        RecordMark::SU => read_two(w, u, b, end, at, known, RecordMark::SU),
-        RecordMark::UF => read_one(w, u, b, end, at, known, RecordMark::UF, 0, 0),
-        RecordMark::RD => read_one(w, u, b, end, at, known, RecordMark::RD, 0, 0),
+        RecordMark::JN => {
+            let r = read_two(w, u, b, end, at, known);
+            made(What::Bind(Bind::JN(r.first, r.last)), r)
+        }
+        RecordMark::SU => {
+            let r = read_two(w, u, b, end, at, known);
+            made(What::Bind(Bind::SU(r.first, r.last)), r)
+        }
+        RecordMark::UF => {
+            let r = read_one(w, u, b, end, at, known, 0);
+            made(What::Look(Look::UF(r.last)), r)
+        }
+        RecordMark::RD => {
+            let r = read_one(w, u, b, end, at, known, 0);
+            made(What::Look(Look::RD(r.last)), r)
+        }
         RecordMark::TS => read_ts(w, u, b, end, at, known),
-        RecordMark::IN => read_one(w, u, b, end, at, known, RecordMark::IN, 0, 0),
+        RecordMark::IN => {
+            let r = read_one(w, u, b, end, at, known, 0);
+            made(What::Bind(Bind::IN(r.last)), r)
+        }
         RecordMark::NC => read_nc(w, u, b, end, at, known),
-        RecordMark::BC => read_loc_type(w, u, b, end, at, known, RecordMark::BC),
-        RecordMark::SC => read_loc_type(w, u, b, end, at, known, RecordMark::SC),
-        RecordMark::SV => plain(RecordMark::SV, Part::At(0), u, at, 0, 0),
+        RecordMark::BC => {
+            let r = read_loc_type(w, u, b, end, at, known);
+            made(What::Add(Add::BC(r.first, r.last)), r)
+        }
+        RecordMark::SC => {
+            let r = read_loc_type(w, u, b, end, at, known);
+            made(What::Add(Add::SC(r.first, r.last)), r)
+        }
+        RecordMark::SV => plain(Whole::Placed(What::SV), u, at),
         RecordMark::RM => read_rm(w, u, b, end, at, known),
-        RecordMark::Other => plain(RecordMark::Other, Part::Malformed, u, at, 0, 0),
+        RecordMark::Other => plain(Whole::Malformed, u, at),
     }
 }
 
@@ -168,10 +195,10 @@ fn read_fields(w: &mut [u32], u: Used, b: &[u8], end: usize, at: usize, known: u
     let f = r.first;
     let g = r.second;
     let Number::Got(x) = f else {
-        return plain(RecordMark::Other, Part::Malformed, u, at, 0, 0);
+        return plain(Whole::Malformed, u, at);
     };
     let Number::Got(y) = g else {
-        return plain(RecordMark::Other, Part::Malformed, u, at, 0, 0);
+        return plain(Whole::Malformed, u, at);
     };
     let m = mark_of(x, y);
     fields_of(w, u, b, end, r.next, known, m)

@@ -6,5 +6,4 @@ pub mod Standing
 pub mod Reading
 pub mod Keeping
 pub mod Replying
-pub mod Marks
 pub mod Stepping

@@ -7,13 +7,11 @@ use native.Mathlib.Omega.{arith}
 use lib.ListN.{length, take, drop, length-take}
 use Rattle.definition.specs.Types.{State, Struct, Refusal, Result, ok, _>>=_, if_then_else_}
 use Rattle.definition.specs.Store.{with-structs}
-use Rattle.definition.specs.Record as d
 use Rattle.definition.specs.Record.{Record}
 use Rattle.definition.specs.Sound.{sound}
 use Rattle.definition.specs.Step as step
-use Rattle.definition.specs.Step.{run, answer, refusal}
+use Rattle.definition.specs.Step.{answer, refusal}
 use Rattle.theorems.proofs.Ranges.{Ranges, StructIn}
-use Rattle.theorems.proofs.WellRead.{RecordIn}
 use Rattle.theorems.proofs.SoundKept.{ranges-of}
 use Rattle.table.specs.State.{outcome, done, more, view, seen, Lay, Grown, Found-in, Declares}
 use Rattle.table.specs.declared.Used.{Used}
@@ -26,18 +24,18 @@ use Rattle.lent.specs.Lent.{structs-of, encode-params}
 use Rattle.lent.proofs.Lays.{lent-declares}
 use Rattle.reader.specs.Taken.{Arities}
 use Rattle.reader.proofs.Loop.{declares-kept}
-use Rattle.fields.specs.Noded.{Noded, SD, SV}
+use Rattle.fields.specs.Noded.{Run, Noded, declare, solve, run, Shape}
 use Rattle.writer.specs.Bytes.{All-bytes}
 use Rattle.answer.specs.Ran.{Settles, Still, answered, refused-by, Settled, Answers}
 use Rattle.answer.specs.declared.Ran.{Ran}
 use Rattle.answer.specs.declared.Answer.{Answer}
 use Rattle.answer.proofs.Calls.{grown-above}
 use Rattle.table.specs.Known.{Known}
-use Rattle.run.specs.Runs.{Runs, Declared, with-row}
+use Rattle.run.specs.Runs.{Declared, with-row}
 use Rattle.run.proofs.Bytes.{declare-bytes}
-use Rattle.dispatch.specs.Dispatch.{noded-run, noded-step, noded-kept}
-use Rattle.dispatch.proofs.Placed.{run-placed}
-use Rattle.dispatch.proofs.Bytes.{noded-bytes}
+use Rattle.dispatch.specs.Dispatch.{noded-run, step-of, Ran-as}
+use Rattle.dispatch.proofs.Placed.{Shape-in, shape-in, run-placed}
+use Rattle.dispatch.proofs.Bytes as noded
 use Rattle.dispatch.proofs.Inside.{known-structs}
 use Rattle.solve.specs.Solves.{Holds-sound, solve-answer, Solves}
 use Rattle.step.specs.Trusted.{held, Stands}
@@ -110,7 +108,7 @@ module _ {w₀ : List ℕ} {before : Used} {params : List (List ℕ)} {saved w :
   abbrev s₀ : State
   s₀ = held w₀ before params
 
-  run-is : run s₀ x ≡ noded-run n (seen w u ds) s₀
+  run-is : step.run s₀ x ≡ noded-run n (seen w u ds) s₀
   unfolding _>>=_
   run-is = run-placed s₀ x ∙ ap (λ (m : Result (State × Noded)). m >>= (λ q. noded-run (q .1) (q .0) s₀)) (b .placed)
 
@@ -126,25 +124,26 @@ module _ {w₀ : List ℕ} {before : Used} {params : List (List ℕ)} {saved w :
   in-range : Ranges s₀ s₀
   in-range = ranges-of s₀ (b .stands .is-sound)
 
-  -- by any mark but SD and SV
-  module _ {w₁ : List ℕ} {r₁ : Ran} (c : Runs (Known w u params) w u w₁ r₁ (noded-kept n) (noded-step r₁ n) (noded-run n)) where
+-- by any mark but SD and SV
+module _ {w₀ : List ℕ} {before : Used} {params : List (List ℕ)} {saved w : List ℕ} {u : Used} {x : Record} {n : Run} (b : Begun w₀ before params saved w u x (run n)) where
+  module _ {w₁ : List ℕ} {r₁ : Ran} (c : Ran-as (Known w u params) w u w₁ r₁ n) where
     pub run-bytes : Settles (r₁ .out) → All-bytes (view w₁ (r₁ .used))
     unfolding held
-    run-bytes h = noded-bytes ds then-known s₀ in-range x (b .fields) n c (b .placed) h
+    run-bytes h = noded.run-bytes (ds b) (then-known b) (s₀ b) (in-range b) x (b .fields) n c (b .placed) h
 
     -- a success whose state is not kept has bound and marked nothing
     pub run-still : (t : ℕ) → r₁ .out ≡ Done t → r₁ .kept ≡ false → Still w₁ (r₁ .used) before saved
     unfolding held seen with-structs outcome
     run-still t e q =
-        let read : view w u .vars ≡ view w₀ before .vars = leaves-ok (subst (Leaves (λ v. v ≡ s₀ .vars)) (b .placed) (place-leaves x s₀ refl)) in
-        let left : ok (seen w₁ (r₁ .used) ds, t) ≡ noded-step r₁ n (seen w u ds) = sym (ap (λ (o : Out). outcome o (seen w₁ (r₁ .used) ds)) e) ∙ c .left ds then-known in
-        saved-still w₀ before w₁ (r₁ .used) (b .since .lay) (c .lay) (leaves-ok (subst (Leaves (λ v. v ≡ s₀ .vars)) (sym left) (unkept-leaves r₁ n (seen w u ds) (sym (c .kept-is) ∙ q) read))) saved (b .since .kept)
+        let read : view w u .vars ≡ view w₀ before .vars = leaves-ok (subst (Leaves (λ v. v ≡ (s₀ b) .vars)) (b .placed) (place-leaves x (s₀ b) refl)) in
+        let left : ok (seen w₁ (r₁ .used) (ds b), t) ≡ step-of r₁ n (seen w u (ds b)) = sym (ap (λ (o : Out). outcome o (seen w₁ (r₁ .used) (ds b))) e) ∙ c .left (ds b) (then-known b) in
+        saved-still w₀ before w₁ (r₁ .used) (b .since .lay) (c .lay) (leaves-ok (subst (Leaves (λ v. v ≡ (s₀ b) .vars)) (sym left) (unkept-leaves r₁ n (seen w u (ds b)) (sym (c .kept-is) ∙ q) read))) saved (b .since .kept)
 
-    pub reply-run : {buf w′ buf′ : List ℕ} {r : Answer} → Answers w₁ (r₁ .used) before saved buf w′ buf′ r (answered r₁) → Replied buf w′ params buf′ r (answer s₀ (run s₀ x))
-    unfolding held
+    pub reply-run : {buf w′ buf′ : List ℕ} {r : Answer} → Answers w₁ (r₁ .used) before saved buf w′ buf′ r (answered r₁) → Replied buf w′ params buf′ r (answer (s₀ b) (step.run (s₀ b) x))
+    unfolding held noded-run
     reply-run {buf} a =
-        replied-same (a .settled w₀ (then-since (c .grown))) ds (lent-declares w₀ params before) (declares-kept w u w₁ (r₁ .used) ds (c .structs) then-declares) params
-        (stands-arities (b .stands)) (stands-rows (b .stands)) buf (a .few) (a .rest) _ (ap (answer s₀) (run-is ∙ sym (c .is ds then-known s₀)))
+        replied-same (a .settled w₀ (then-since b (c .grown))) (ds b) (lent-declares w₀ params before) (declares-kept w u w₁ (r₁ .used) (ds b) (c .structs) (then-declares b)) params
+        (stands-arities (b .stands)) (stands-rows (b .stands)) buf (a .few) (a .rest) _ (ap (answer (s₀ b)) (run-is b ∙ sym (c .is (ds b) (then-known b) (s₀ b))))
 
 -- so many rows or more are in use
 pub begun-above : {before : Used} {params : List (List ℕ)} {saved w : List ℕ} {u : Used} {n : Noded} → Begins before params saved w u n → (w₁ : List ℕ) (u₁ : Used) → Grown (view w u) (view w₁ u₁) → Above before u₁
@@ -152,12 +151,12 @@ begun-above {before} b w₁ u₁ g = grown-above (b .words) before w₁ u₁ (th
 
 -- ---- SD
 
-module _ {w₀ : List ℕ} {before : Used} {params : List (List ℕ)} {saved w : List ℕ} {u : Used} {x : Record} {abilities : ℕ} {ps : List ℕ} (b : Begun w₀ before params saved w u x (SD abilities ps)) where
+module _ {w₀ : List ℕ} {before : Used} {params : List (List ℕ)} {saved w : List ℕ} {u : Used} {x : Record} {abilities : ℕ} {ps : List ℕ} (b : Begun w₀ before params saved w u x (declare abilities ps)) where
   abbrev new : Struct
   new = record { abilities = abilities; params = ps }
 
   struct-in : StructIn new
-  struct-in = subst (λ (y : Record). RecordIn (held w₀ before params) y) (placed-SD x _ _ abilities ps (b .placed) .0) (b .fields)
+  struct-in = subst (λ (h : Shape). Shape-in (held w₀ before params) h) (placed-SD x _ _ abilities ps (b .placed) .0) (shape-in _ x (b .fields))
 
   module _ {w₁ : List ℕ} {r₁ : Ran} {many : ℕ} (c : Declared w u w₁ r₁ abilities many) where
     pub declared-bytes : Settles (r₁ .out) → All-bytes (view w₁ (r₁ .used))
@@ -178,7 +177,7 @@ module _ {w₀ : List ℕ} {before : Used} {params : List (List ℕ)} {saved w :
     many-before = then-declares b .many
 
 -- with these bytes, and the row n of the struct's number f, if it has one
-module _ {w₀ : List ℕ} {before : Used} {params : List (List ℕ)} {saved w : List ℕ} {u : Used} {x : Record} {abilities : ℕ} (many : ℕ) (bytes : List ℕ) (b : Begun w₀ before params saved w u x (SD abilities (take many bytes)))
+module _ {w₀ : List ℕ} {before : Used} {params : List (List ℕ)} {saved w : List ℕ} {u : Used} {x : Record} {abilities : ℕ} (many : ℕ) (bytes : List ℕ) (b : Begun w₀ before params saved w u x (declare abilities (take many bytes)))
     {w₁ : List ℕ} {r₁ : Ran} (c : Declared w u w₁ r₁ abilities many) (long : length bytes ≡ 8) (few : many ≤ 8) (f n : Found) (kept : Bool) (is-f : f ≡ done (r₁ .out)) (is-n : n ≡ row-for f kept (u .structs)) where
   as-long : length (take many bytes) ≡ many
   as-long = simp length-take (omega (arith, long, few))
@@ -190,7 +189,7 @@ module _ {w₀ : List ℕ} {before : Used} {params : List (List ℕ)} {saved w :
   declared-row = subst (λ (m : Found). Found-in 256 m) (sym is-row) (row-in (done (r₁ .out)) kept (ds b) abilities many bytes (u .structs) (many-before b c) (few-more b c as-long))
 
   pub reply-declared : {buf w′ buf′ : List ℕ} {r : Answer} → Answers w₁ (r₁ .used) before saved buf w′ buf′ r (answered r₁) → r .kept ≡ kept
-      → (row : List ℕ) → row ≡ padded bytes many → (params′ : List (List ℕ)) → params′ ≡ with-row n params row → Replied buf w′ params′ buf′ r (answer (held w₀ before params) (run (held w₀ before params) x))
+      → (row : List ℕ) → row ≡ padded bytes many → (params′ : List (List ℕ)) → params′ ≡ with-row n params row → Replied buf w′ params′ buf′ r (answer (held w₀ before params) (step.run (held w₀ before params) x))
   unfolding held noded-run
   reply-declared {buf} {w′} {buf′} {r} a k row is-padded params′ p =
       let q : params′ ≡ with-row (row-for (done (r₁ .out)) (r .kept) (u .structs)) params (padded bytes many) = p ∙ ap₂ (λ (m : Found) (l : List ℕ). with-row m params l) (is-row ∙ ap (λ (y : Bool). row-for (done (r₁ .out)) y (u .structs)) (sym k)) is-padded in
@@ -201,7 +200,7 @@ module _ {w₀ : List ℕ} {before : Used} {params : List (List ℕ)} {saved w :
 
 -- ---- SV
 
-module _ {w₀ : List ℕ} {before : Used} {params : List (List ℕ)} {saved w : List ℕ} {u : Used} {x : Record} (b : Begun w₀ before params saved w u x SV) where
+module _ {w₀ : List ℕ} {before : Used} {params : List (List ℕ)} {saved w : List ℕ} {u : Used} {x : Record} (b : Begun w₀ before params saved w u x solve) where
   still : seen w u (ds b) ≡ s₀ b
   still = placed-SV x _ _ (b .placed)
 
@@ -212,7 +211,7 @@ module _ {w₀ : List ℕ} {before : Used} {params : List (List ℕ)} {saved w :
   unfolding held seen with-structs
   solve-saved l = saved-still w₀ before w u (b .since .lay) l (ap (λ (s : State). s .vars) still) saved (b .since .kept) .rows
 
-  pub reply-solved : {buf w′ buf′ : List ℕ} {r : Answer} → Solves w u params buf w′ buf′ r → Replied buf w′ params buf′ r (answer (held w₀ before params) (run (held w₀ before params) x))
+  pub reply-solved : {buf w′ buf′ : List ℕ} {r : Answer} → Solves w u params buf w′ buf′ r → Replied buf w′ params buf′ r (answer (held w₀ before params) (step.run (held w₀ before params) x))
   unfolding noded-run solve-answer
   reply-solved {buf} {r = r} c =
       let s = c .settled in

@@ -4,35 +4,39 @@
 use mathlib.Core.Path.{_≡_, refl, sym, ap, _∙_, subst}
 use mathlib.Core.Bool.{Bool, true, false}
 use mathlib.Core.List.{List, [], _∷_, _++_}
-use mathlib.Core.Option.{Option, none, some}
+use mathlib.Core.Option.{Option, some}
+use mathlib.Core.Option as option
 use Prim.Native.Nat.{ℕ, zero, suc, _+_, _-_, _≤_, _<_}
 use native.Mathlib.Omega.{arith}
 use lib.Dec.{leb, ltb}
 use lib.ListN.{length, getD, set, replicate}
 use lib.Seq.{getD-at}
-use Rattle.definition.specs.Types.{State, Cell, unbound, Constraint, Shape, UnitType, Ref, Param, Apply, Var, Anything, UnresolvedError, Type-value}
+use Rattle.definition.specs.Types.{State, Cell, unbound, Constraint, UnitType, Ref, Param, Apply, Var, Anything, UnresolvedError, Type-value}
 use Rattle.definition.specs.Types.{TypingError, Refusal, full, answer-too-long, max-nodes, max-args, max-vars, max-constraints, max-structs, Result, ok, err, refused, _>>=_, if_then_else_}
-use Rattle.definition.specs.Store.{count, taken, args-of, get, with-vars, with-var, with-node, with-constraints, with-structs, sp, next-tvar, add-constraint, declare, type-at, map-types}
+use Rattle.definition.specs.Store.{count, taken, args-of, get, with-vars, with-var, with-node, with-constraints, with-structs, sp, next-tvar, add-constraint, type-at, map-types}
+use Rattle.definition.specs.Store as store
 use Rattle.definition.specs.Write.{Bytes, write-error}
 use Rattle.definition.specs.Trees.{Tree, unit-tree, anything-tree, error-tree, ref-tree, param-tree, apply-tree, var-tree, Trees, no-trees, _then_}
 use Rattle.definition.specs.Build.{build, build-all, build-pairs}
-use Rattle.definition.specs.Subst.{forward-tvar, next-in, next-of, mark-one, mark-chain, set-num-var, reaches-itself, ready-value, ready, ready-tvars}
+use Rattle.definition.specs.Subst.{forward-tvar, next-in, next-of, mark-one, mark-chain, set-num-var, reaches-itself, ready-value, ready-tvars}
+use Rattle.definition.specs.Subst as subst-of
 use Rattle.definition.specs.TParams.{TParamSubst, arg-of, subst-value, subst-down, subst-tparams}
-use Rattle.definition.specs.Needs.{Needs, needs}
-use Rattle.definition.specs.Record as d
+use Rattle.definition.specs.Needs.{Needs}
 use Rattle.definition.specs.Record.{Record}
-use Rattle.definition.specs.Step as step
-use Rattle.definition.specs.Step.{constrain, tell, run, answer, answer-with, refusal, put-back, max-payload, number-of-error}
+use Rattle.definition.specs.Step as definition
+use Rattle.definition.specs.Step.{answer, answer-with, refusal, put-back, max-payload, number-of-error}
 use Rattle.table.specs.State.{Front, outcome}
 use Rattle.table.specs.declared.Out.{Out}
 use Rattle.table.specs.declared.Out.the-variants.{Done, Failed, Refused}
 use Rattle.table.proofs.Steps.{front-refl}
-use Rattle.fields.specs.Noded.{Noded, SD, FV, NV, SN, JN, SU, UF, RD, IN, TS, NC, BC, SC, SV, RM, place-record}
+use Rattle.fields.specs.Noded.{Looks, unfolded, ready, tparams, Adds, tvar, num-tvar, constrain, tell, Run, binds, looks, adds, Noded, declare, solve, run}
+use Rattle.fields.specs.Noded.{Shape, declares, solves, none, one, both, after-pairs, shape, place, place-record}
 use Rattle.answer.specs.declared.Ran.{Ran}
 use Rattle.answer.proofs.Calls.{kept-never}
-use Rattle.run.specs.Runs.{subst-in}
-use Rattle.dispatch.specs.Dispatch.{noded-step, noded-kept}
-use Rattle.step.proofs.Placing.{group, As, placed-as}
+use Rattle.run.specs.Runs.{subst-in, unfold-run, ready-run, tparams-run, tvar-run, num-tvar-run, constraint-run, needs-run, declare-run}
+use Rattle.dispatch.specs.Dispatch.{run-of, noded-run, step-of, kept-of}
+use Rattle.dispatch.proofs.Placed.{run-placed}
+use Rattle.step.specs.Replies.{binding}
 
 pub data Leaves {A : Type 0} (P : List Cell → Type 0) : Result (State × A) → Type 0 where
   l-ok : {s : State} {a : A} → P (s .vars) → Leaves P (ok (s, a))
@@ -64,8 +68,8 @@ module _ {A : Type 0} {P : List Cell → Type 0} where
   either-leaves true x y = x
   either-leaves false x y = y
 
-  option-leaves : (o : Option ℕ) {x : Result (State × A)} {k : ℕ → Result (State × A)} → Leaves P x → ((t : ℕ) → Leaves P (k t)) → Leaves {A = A} P (elim o [ none ↦ x | some t ↦ k t ])
-  option-leaves none x k = x
+  option-leaves : (o : Option ℕ) {x : Result (State × A)} {k : ℕ → Result (State × A)} → Leaves P x → ((t : ℕ) → Leaves P (k t)) → Leaves {A = A} P (elim o [ option.none ↦ x | some t ↦ k t ])
+  option-leaves option.none x k = x
   option-leaves (some t) x k = k t
 
 -- ---- only nodes are taken
@@ -101,23 +105,17 @@ module _ {P : List Cell → Type 0} where
   pairs-leave [] s p = l-ok p
   pairs-leave (q ∷ ps) s p = then-leaves _ (build-leaves (q .1) s p) (λ s t p. then-leaves _ (pairs-leave ps s p) (λ s ps p. l-ok p))
 
+  shape-leaves : (h : Shape) (s : State) → P (s .vars) → Leaves P (place h s)
+  shape-leaves (declares a ps) s p = l-ok p
+  shape-leaves solves s p = l-ok p
+  shape-leaves (none r) s p = l-ok p
+  shape-leaves (one t f) s p = then-leaves _ (build-leaves t s p) (λ s a p. l-ok p)
+  shape-leaves (both t u f) s p = then-leaves _ (build-leaves t s p) (λ s a p. then-leaves _ (build-leaves u s p) (λ s b p. l-ok p))
+  shape-leaves (after-pairs ps t f) s p = then-leaves _ (pairs-leave ps s p) (λ s a p. then-leaves _ (build-leaves t s p) (λ s b p. l-ok p))
+
   pub place-leaves : (x : Record) (s : State) → P (s .vars) → Leaves P (place-record x s)
   unfolding place-record
-  place-leaves (d.SD a ps) s p = l-ok p
-  place-leaves (d.FV loc) s p = l-ok p
-  place-leaves (d.NV loc) s p = l-ok p
-  place-leaves (d.SN v loc) s p = l-ok p
-  place-leaves (d.JN t u) s p = then-leaves _ (build-leaves t s p) (λ s a p. then-leaves _ (build-leaves u s p) (λ s b p. l-ok p))
-  place-leaves (d.SU t u) s p = then-leaves _ (build-leaves t s p) (λ s a p. then-leaves _ (build-leaves u s p) (λ s b p. l-ok p))
-  place-leaves (d.UF t) s p = then-leaves _ (build-leaves t s p) (λ s a p. l-ok p)
-  place-leaves (d.RD t) s p = then-leaves _ (build-leaves t s p) (λ s a p. l-ok p)
-  place-leaves (d.IN t) s p = then-leaves _ (build-leaves t s p) (λ s a p. l-ok p)
-  place-leaves (d.TS ps t) s p = then-leaves _ (pairs-leave ps s p) (λ s a p. then-leaves _ (build-leaves t s p) (λ s b p. l-ok p))
-  place-leaves (d.NC loc k t) s p = then-leaves _ (build-leaves t s p) (λ s a p. l-ok p)
-  place-leaves (d.BC loc t) s p = then-leaves _ (build-leaves t s p) (λ s a p. l-ok p)
-  place-leaves (d.SC loc t) s p = then-leaves _ (build-leaves t s p) (λ s a p. l-ok p)
-  place-leaves d.SV s p = l-ok p
-  place-leaves (d.RM t) s p = l-ok p
+  place-leaves x s p = shape-leaves (shape x) s p
 
   ready-value-leaves : (f : State → ℕ → Result (State × ℕ)) → ((s : State) (t : ℕ) → P (s .vars) → Leaves P (f s t)) → (s : State) (ty loc : ℕ) (v : Type-value) → P (s .vars) → Leaves P (ready-value f s ty loc v)
   unfolding ready-value
@@ -129,10 +127,10 @@ module _ {P : List Cell → Type 0} where
   ready-value-leaves f h s ty loc (Apply k n tys) p = then-leaves _ (map-leaves f h s tys p) (λ s tys p. sp-leaves s loc (Apply k n tys) p)
   ready-value-leaves f h s ty loc (Var i) p = option-leaves (get s (forward-tvar s i)) (sp-leaves s loc (Var (forward-tvar s i)) p) (λ t. h s t p)
 
-  ready-leaves : (n : ℕ) (s : State) (t : ℕ) → P (s .vars) → Leaves P (ready n s t)
-  unfolding ready
+  ready-leaves : (n : ℕ) (s : State) (t : ℕ) → P (s .vars) → Leaves P (subst-of.ready n s t)
+  unfolding subst-of.ready
   ready-leaves zero s t p = l-refused
-  ready-leaves (suc n) s t p = ready-value-leaves (λ s t. ready n s t) (ready-leaves n) s t _ (type-at s t) p
+  ready-leaves (suc n) s t p = ready-value-leaves (λ s t. subst-of.ready n s t) (ready-leaves n) s t _ (type-at s t) p
 
   ready-tvars-leaves : (s : State) (t : ℕ) → P (s .vars) → Leaves P (ready-tvars s t)
   unfolding ready-tvars
@@ -163,24 +161,14 @@ module _ {P : List Cell → Type 0} where
   outcome-leaves (Failed x) s p = l-err
   outcome-leaves (Refused x) s p = l-refused
 
-  -- UF, RD and TS, whose state is not kept
-  pub unkept-leaves : (r : Ran) (n : Noded) (s : State) → noded-kept n ≡ false → P (s .vars) → Leaves P (noded-step r n s)
-  unfolding noded-kept noded-step
-  unkept-leaves r (SD a ps) s e p = kept-never refl e
-  unkept-leaves r (FV loc) s e p = kept-never refl e
-  unkept-leaves r (NV loc) s e p = kept-never refl e
-  unkept-leaves r (SN v loc) s e p = kept-never refl e
-  unkept-leaves r (JN a b) s e p = kept-never refl e
-  unkept-leaves r (SU a b) s e p = kept-never refl e
-  unkept-leaves r (UF t) s e p = outcome-leaves (r .out) s p
-  unkept-leaves r (RD t) s e p = ready-tvars-leaves s t p
-  unkept-leaves r (IN t) s e p = kept-never refl e
-  unkept-leaves r (TS ps t) s e p = subst-in-leaves ps t s p
-  unkept-leaves r (NC loc k t) s e p = kept-never refl e
-  unkept-leaves r (BC loc t) s e p = kept-never refl e
-  unkept-leaves r (SC loc t) s e p = kept-never refl e
-  unkept-leaves r SV s e p = kept-never refl e
-  unkept-leaves r (RM n) s e p = kept-never refl e
+  -- what only looks, whose state is not kept
+  pub unkept-leaves : (r : Ran) (n : Run) (s : State) → kept-of n ≡ false → P (s .vars) → Leaves P (step-of r n s)
+  unfolding step-of
+  unkept-leaves r (binds n) s e p = kept-never refl e
+  unkept-leaves r (looks (unfolded t)) s e p = outcome-leaves (r .out) s p
+  unkept-leaves r (looks (ready t)) s e p = ready-tvars-leaves s t p
+  unkept-leaves r (looks (tparams ps t)) s e p = subst-in-leaves ps t s p
+  unkept-leaves r (adds n) s e p = kept-never refl e
 
 -- ---- the variables at entry stay in front
 
@@ -190,13 +178,13 @@ front-set (x ∷ l) m zero c h = absurd (omega arith)
 front-set (x ∷ l) m (suc v) c h = let f = front-set l m v c (omega arith) in record { rest = f .rest; is = ap (λ (k : List Cell). x ∷ k) (f .is) }
 
 -- a variable that was just taken is bound to nothing, so it alone is marked
-new-get : (s : State) → get (with-var s) (length (s .vars)) ≡ none
+new-get : (s : State) → get (with-var s) (length (s .vars)) ≡ option.none
 unfolding get with-var with-vars
 new-get s = ap (λ (c : Cell). c .binding) (getD-at (s .vars) unbound [] unbound (length (s .vars)) refl)
 
-mark-last : (s : State) (n v loc : ℕ) → next-of s v ≡ none → mark-chain (suc n) s v loc ≡ mark-one s v loc
+mark-last : (s : State) (n v loc : ℕ) → next-of s v ≡ option.none → mark-chain (suc n) s v loc ≡ mark-one s v loc
 unfolding mark-chain
-mark-last s n v loc e = ap (λ (o : Option ℕ). elim o [ none ↦ mark-one s v loc | some next ↦ mark-chain n (mark-one s v loc) next loc ]) e
+mark-last s n v loc e = ap (λ (o : Option ℕ). elim o [ option.none ↦ mark-one s v loc | some next ↦ mark-chain n (mark-one s v loc) next loc ]) e
 
 new-front : (s : State) → Front (s .vars) (with-var s .vars)
 unfolding with-var with-vars
@@ -217,17 +205,13 @@ add-leaves {P} s c p = go (ltb (length (s .constraints)) max-constraints)
     go true = l-ok p
     go false = l-refused
 
-constrain-leaves : (s : State) (t : Tree) (make : ℕ → Constraint) → Leaves (Front (s .vars)) (constrain s t make)
-unfolding constrain
-constrain-leaves s t make = then-leaves _ (build-leaves t s (front-refl (s .vars))) (λ s ty p. add-leaves s (make ty) p)
-
-tell-leaves : {P : List Cell → Type 0} (s : State) (n : Option Needs) → P (s .vars) → Leaves P (tell s n)
-unfolding tell
-tell-leaves s none p = l-refused
+tell-leaves : {P : List Cell → Type 0} (s : State) (n : Option Needs) → P (s .vars) → Leaves P (definition.tell s n)
+unfolding definition.tell
+tell-leaves s option.none p = l-refused
 tell-leaves s (some n) p = l-ok p
 
-declare-leaves : (s : State) (a : ℕ) (ps : List ℕ) → Leaves (Front (s .vars)) (declare s a ps)
-unfolding declare with-structs
+declare-leaves : (s : State) (a : ℕ) (ps : List ℕ) → Leaves (Front (s .vars)) (store.declare s a ps)
+unfolding store.declare with-structs
 declare-leaves s a ps = if-leaves (ltb (length (s .structs)) max-structs) (l-ok (front-refl (s .vars))) l-refused
 
 tvar-leaves : {B : Type 0} (s : State) (f : State × ℕ → Result (State × B)) → Leaves (Front (s .vars)) (f (with-var s, length (s .vars))) → Leaves (Front (s .vars)) (next-tvar s >>= f)
@@ -238,24 +222,27 @@ tvar-leaves s f h = go (ltb (taken s) max-vars)
     go true = h
     go false = l-refused
 
+adds-leave : (n : Adds) (s before : State) → Leaves (Front (s .vars)) (run-of (adds n) s before)
+unfolding run-of tvar-run num-tvar-run constraint-run needs-run set-num-var
+adds-leave (tvar loc) s before = tvar-leaves s _ (l-ok (new-front s))
+adds-leave (num-tvar loc) s before = tvar-leaves s _ (l-ok (new-mark s _ loc))
+adds-leave (constrain c) s before = add-leaves s c (front-refl (s .vars))
+adds-leave (tell n) s before = tell-leaves s n (front-refl (s .vars))
+
+looks-leave : (n : Looks) (s before : State) → Leaves (Front (before .vars)) (run-of (looks n) s before)
+unfolding run-of unfold-run ready-run tparams-run
+looks-leave (unfolded t) s before = l-ok (front-refl (before .vars))
+looks-leave (ready t) s before = any-leaves _ _ (λ q. l-ok (front-refl (before .vars)))
+looks-leave (tparams ps t) s before = any-leaves _ _ (λ q. any-leaves _ _ (λ q. l-ok (front-refl (before .vars))))
+
 module _ (s : State) where
-  run-leaves : (x : Record) (s′ : State) (n : Noded) → As x s s′ n → group n < 2 → Leaves (Front (s .vars)) (run s x)
-  unfolding run set-num-var
-  run-leaves (d.SD a ps) s′ n h l = then-leaves _ (declare-leaves s a ps) (λ s k p. l-ok p)
-  run-leaves (d.FV loc) s′ n h l = tvar-leaves s _ (l-ok (new-front s))
-  run-leaves (d.NV loc) s′ n h l = tvar-leaves s _ (l-ok (new-mark s _ loc))
-  run-leaves (d.SN v loc) s′ n h l = absurd (omega arith)
-  run-leaves (d.JN t u) s′ n h l = absurd (omega arith)
-  run-leaves (d.SU t u) s′ n h l = absurd (omega arith)
-  run-leaves (d.UF t) s′ n h l = any-leaves _ _ (λ q. l-ok (front-refl (s .vars)))
-  run-leaves (d.RD t) s′ n h l = any-leaves _ _ (λ q. any-leaves _ _ (λ q. l-ok (front-refl (s .vars))))
-  run-leaves (d.IN t) s′ n h l = absurd (omega arith)
-  run-leaves (d.TS ps t) s′ n h l = any-leaves _ _ (λ q. any-leaves _ _ (λ q. any-leaves _ _ (λ q. any-leaves _ _ (λ q. l-ok (front-refl (s .vars))))))
-  run-leaves (d.NC loc k t) s′ n h l = constrain-leaves s t _
-  run-leaves (d.BC loc t) s′ n h l = constrain-leaves s t _
-  run-leaves (d.SC loc t) s′ n h l = constrain-leaves s t _
-  run-leaves d.SV s′ n h l = absurd (omega (arith, ap group (h .0)))
-  run-leaves (d.RM t) s′ n h l = tell-leaves s (needs t) (front-refl (s .vars))
+  noded-leaves : (n : Noded) (s′ : State) → s′ .vars ≡ s .vars → binding n ≡ false → Leaves (Front (s .vars)) (noded-run n s′ s)
+  unfolding noded-run declare-run
+  noded-leaves (declare a ps) s′ e k = subst (λ (v : List Cell). Leaves (Front v) (declare-run a ps s′ s)) e (then-leaves _ (declare-leaves s′ a ps) (λ s n p. l-ok p))
+  noded-leaves solve s′ e k = kept-never refl k
+  noded-leaves (run (binds n)) s′ e k = kept-never refl k
+  noded-leaves (run (looks n)) s′ e k = looks-leave n s′ s
+  noded-leaves (run (adds n)) s′ e k = subst (λ (v : List Cell). Leaves (Front v) (run-of (adds n) s′ s)) e (adds-leave n s′ s)
 
   if-state : (b : Bool) (number : ℕ) (payload : Bytes) (after : State) → Front (s .vars) (after .vars) → Front (s .vars) ((if b then record { number = number; payload = payload; state = after } else refusal s answer-too-long) .state .vars)
   unfolding refusal
@@ -276,6 +263,10 @@ module _ (s : State) where
   answer-leaves (l-err {s = after} {e = e}) = with-front (number-of-error e) (write-error after e) (put-back s after) (back-front after)
   answer-leaves l-refused = front-refl (s .vars)
 
-  -- a record whose group is below 2 leaves them so, whatever its answer is
-  pub answer-front : (x : Record) (s′ : State) (n : Noded) → place-record x s ≡ ok (s′, n) → group n < 2 → Front (s .vars) (answer s (run s x) .state .vars)
-  answer-front x s′ n e l = answer-leaves (run-leaves x s′ n (placed-as s′ n x s e) l)
+  -- what binds nothing leaves them so, whatever its answer is
+  pub answer-front : (x : Record) (s′ : State) (n : Noded) → place-record x s ≡ ok (s′, n) → binding n ≡ false → Front (s .vars) (answer s (definition.run s x) .state .vars)
+  unfolding _>>=_
+  answer-front x s′ n e k =
+      let same : s′ .vars ≡ s .vars = leaves-ok (subst (Leaves (λ v. v ≡ s .vars)) e (place-leaves x s refl)) in
+      let ran : definition.run s x ≡ noded-run n s′ s = run-placed s x ∙ ap (λ (m : Result (State × Noded)). m >>= (λ q. noded-run (q .1) (q .0) s)) e in
+      answer-leaves (subst (Leaves (Front (s .vars))) (sym ran) (noded-leaves n s′ same k))

@@ -5,7 +5,6 @@ use mathlib.Core.Bool.{Bool, true, false, _&&_}
 use mathlib.Core.List.{List}
 use Prim.Native.Nat.{ℕ, _-_, _≤_, _<_}
 use native.Mathlib.Omega.{arith}
-use native.Mathlib.Decide.{decLt}
 use lib.Dec.{ltb}
 use lib.ListN.{length, drop}
 use Rattle.definition.specs.Types.{State, Struct, Refusal, malformed, full, Result, ok, refused, _>>=_, if_then_else_}
@@ -23,29 +22,28 @@ use Rattle.table.specs.Encode.{encode}
 use Rattle.table.specs.State.{view, seen, Front, Grown, Declares}
 use Rattle.table.specs.declared.Used.{Used}
 use Rattle.snap.specs.Snap.{Above, Saved, Saved-partly, Since, Undone}
-use Rattle.snap.proofs.Saving.{partly-none, partly-fewer}
+use Rattle.snap.proofs.Saving.{partly-none}
 use Rattle.table.proofs.Steps.{front-refl}
 use Rattle.snap.proofs.Exact.{declares-still, word-for-word}
 use Rattle.lent.specs.Lent.{used-of}
 use Rattle.lent.proofs.Lays.{lent-declares}
 use Rattle.reader.specs.Taken.{Arities, stopped, placed, place-read}
-use Rattle.reader.specs.declared.Part.{Part}
-use Rattle.reader.specs.declared.Part.the-variants.{At, Full, Malformed, Unknown, Doubled}
-use Rattle.fields.specs.Noded.{Noded, place-record, noded, Part-so, Noded-in, part-with, Record-is}
+use Rattle.fields.specs.declared.What.{What}
+use Rattle.fields.specs.declared.What.the-variants as q
+use Rattle.fields.specs.declared.Whole.{Whole}
+use Rattle.fields.specs.declared.Whole.the-variants.{Placed, Full, Malformed, Unknown, Doubled}
+use Rattle.fields.specs.Noded.{Noded, place-record, noded, Whole-so, What-in, whole-with, Record-is}
 use Rattle.fields.specs.declared.Fields.{Fields}
 use Rattle.answer.specs.Ran.{refused-by, Answers}
 use Rattle.answer.specs.declared.Answer.{Answer}
 use Rattle.answer.proofs.Calls.{grown-above}
 use Rattle.dispatch.specs.Dispatch.{noded-run}
 use Rattle.dispatch.proofs.Placed.{run-placed}
-use Rattle.dispatch.proofs.Inside.{noded-in-more}
 use Rattle.step.specs.declared.Stepped.{Stepped}
 use Rattle.step.specs.Trusted.{held, Stands, answered, unread, Steps}
-use Rattle.step.specs.Replies.{Replied, Begun, Begins, Ends, rows-after, place-after}
+use Rattle.step.specs.Replies.{Replied, Begun, Begins, Ends, binding, rows-after, place-after}
 use Rattle.step.proofs.Reading.{stop-is, Got, got-is, answered-not, unread-not, unread-got, answered-got}
 use Rattle.step.proofs.Keeping.{bytes-after, answered-sound, view-arities, partly-still}
-use Rattle.step.proofs.Placing.{group}
-use Rattle.step.proofs.Marks.{rows-few, rows-none}
 use Rattle.step.proofs.Standing.{answer-front}
 use Rattle.step.proofs.Replying.{declared-in, stands-arities, reply-refused}
 
@@ -63,15 +61,22 @@ record-in s bytes is x l e = go (subst (λ (r : Read Record). ReadWell (Unit {0}
     go : {n : ℕ} → ReadWell (Unit {0}) s n (got x l) → RecordIn s x
     go (given p i k) = p .1 tt
 
+rows-by : (f : Fields) (x : What) (n : ℕ) → rows-after x n ≡ (if binding (noded f x) then 0 else n)
+rows-by f (q.SD abilities many) n = refl
+rows-by f q.SV n = refl
+rows-by f (q.Bind x) n = refl
+rows-by f (q.Look x) n = refl
+rows-by f (q.Add x) n = refl
+
 -- what was read of the state that words and bytes hold
 module _ {w : List ℕ} {u : Used} (params : List (List ℕ)) {stream : Bytes} {at : ℕ} {w₁ : List ℕ} {f : Fields} (c : Record-is w u stream at w₁ f) where
-  read-is : (p : Part) → f .part ≡ p → part-with p (noded (f .mark) f) (seen w₁ (f .used) (declared-in w u params)) (drop (f .next) stream) ≡ place-read false place-record (read-record (held w u params) (drop at stream)) (held w u params)
+  read-is : (p : Whole) → f .read ≡ p → whole-with p (noded f) (seen w₁ (f .used) (declared-in w u params)) (drop (f .next) stream) ≡ place-read false place-record (read-record (held w u params) (drop at stream)) (held w u params)
   unfolding held
-  read-is p e = ap (λ (q : Part). part-with q (noded (f .mark) f) (seen w₁ (f .used) (declared-in w u params)) (drop (f .next) stream)) (sym e) ∙ c .is (declared-in w u params) (lent-declares w params u)
+  read-is p e = ap (λ (q : Whole). whole-with q (noded f) (seen w₁ (f .used) (declared-in w u params)) (drop (f .next) stream)) (sym e) ∙ c .is (declared-in w u params) (lent-declares w params u)
 
   -- the splitter
-  rest-is : unread (held w u params) (drop at stream) ≡ drop (place-after (f .part) at (f .next)) stream
-  rest-is = go (f .part) refl
+  rest-is : unread (held w u params) (drop at stream) ≡ drop (place-after (f .read) at (f .next)) stream
+  rest-is = go (f .read) refl
     where
       r : Read Record
       r = read-record (held w u params) (drop at stream)
@@ -82,22 +87,22 @@ module _ {w : List ℕ} {u : Used} (params : List (List ℕ)) {stream : Bytes} {
       none : (x : Refusal) → stopped x ≡ place-read false place-record r (held w u params) → unread (held w u params) (drop at stream) ≡ drop at stream
       none x e = unread-not false (held w u params) (drop at stream) x (stop-is r x (held w u params) e)
 
-      go : (p : Part) → f .part ≡ p → unread (held w u params) (drop at stream) ≡ drop (place-after p at (f .next)) stream
-      go (At t) e = more _ (read-is (At t) e)
+      go : (p : Whole) → f .read ≡ p → unread (held w u params) (drop at stream) ≡ drop (place-after p at (f .next)) stream
+      go (Placed x) e = more _ (read-is (Placed x) e)
       go Full e = more _ (read-is Full e)
       go Malformed e = none _ (read-is Malformed e)
       go Unknown e = none _ (read-is Unknown e)
       go Doubled e = none _ (read-is Doubled e)
 
-rest-within : (p : Part) (at next n : ℕ) → at ≤ n → next ≤ n → place-after p at next ≤ n
-rest-within (At t) at next n a b = b
+rest-within : (p : Whole) (at next n : ℕ) → at ≤ n → next ≤ n → place-after p at next ≤ n
+rest-within (Placed x) at next n a b = b
 rest-within Full at next n a b = b
 rest-within Malformed at next n a b = a
 rest-within Unknown at next n a b = a
 rest-within Doubled at next n a b = a
 
-pub splits : {w : List ℕ} {u : Used} (params : List (List ℕ)) {stream : Bytes} {w₁ : List ℕ} {f : Fields} → Record-is w u stream 0 w₁ f → {r : ℕ} → r ≡ place-after (f .part) 0 (f .next) → (r ≤ length stream) × (unread (held w u params) stream ≡ drop r stream)
-splits params {stream} {f = f} c e = rw e (rest-within (f .part) 0 (f .next) (length stream) (omega arith) (c .within), rest-is params c)
+pub splits : {w : List ℕ} {u : Used} (params : List (List ℕ)) {stream : Bytes} {w₁ : List ℕ} {f : Fields} → Record-is w u stream 0 w₁ f → {r : ℕ} → r ≡ place-after (f .read) 0 (f .next) → (r ≤ length stream) × (unread (held w u params) stream ≡ drop r stream)
+splits params {stream} {f = f} c e = rw e (rest-within (f .read) 0 (f .next) (length stream) (omega arith) (c .within), rest-is params c)
 
 -- the words as they were, once the counts are written again
 pub words-back : {w : List ℕ} {u : Used} {params : List (List ℕ)} {saved w₁ : List ℕ} {v : Used} {w₂ w₃ : List ℕ} → Stands w u params → u ≡ used-of w → Saved w u saved → Grown (view w u) (view w₁ v) → Undone w₁ v w₂ u saved
@@ -128,7 +133,7 @@ module _ {w : List ℕ} {u : Used} {params : List (List ℕ)} (stream : Bytes) (
         rest = rest;
       })
 
-  module _ {saved w₁ : List ℕ} {f : Fields} (kept : Saved w u saved) (c : Record-is w u stream at w₁ f) {rows : ℕ} (is-rows : rows ≡ rows-after (f .mark) (u .vars)) where
+  module _ {saved w₁ : List ℕ} {f : Fields} (kept : Saved w u saved) (c : Record-is w u stream at w₁ f) where
     abbrev ds : List Struct
     ds = declared-in w u params
 
@@ -143,11 +148,10 @@ module _ {w : List ℕ} {u : Used} {params : List (List ℕ)} (stream : Bytes) (
     Leaving whole buf w′ params′ buf′ r = Steps whole w u params stream at buf w′ params′ buf′ r × Saved-partly w′ (r .used) (r .rows) saved
 
     -- the saved rows, where the variables stay in front
-    in-front : {buf w′ : List ℕ} {params′ : List (List ℕ)} {buf′ : List ℕ} {a : Answer} {z : step.Answer} → Replied buf w′ params′ buf′ a z → Front (s₀ .vars) (z .state .vars) → Saved-partly w′ (a .used) rows saved
+    in-front : {buf w′ : List ℕ} {params′ : List (List ℕ)} {buf′ : List ℕ} {a : Answer} {z : step.Answer} → Replied buf w′ params′ buf′ a z → Front (s₀ .vars) (z .state .vars) → Saved-partly w′ (a .used) (u .vars) saved
     unfolding held seen with-structs
     in-front {w′ = w′} {a = a} p front =
-        partly-fewer rows (rw is-rows (rows-few (f .mark) (u .vars)))
-        (partly-still w u w′ (a .used) (s .lay) (p .lay) (subst (λ (x : step.Answer). Front (s₀ .vars) (x .state .vars)) (p .is) front) saved kept)
+        partly-still w u w′ (a .used) (s .lay) (p .lay) (subst (λ (x : step.Answer). Front (s₀ .vars) (x .state .vars)) (p .is) front) saved kept
 
     -- a refusal's number, and what it leaves
     abbrev Refuses : ℕ → List ℕ → Answer → Type 0
@@ -162,10 +166,10 @@ module _ {w : List ℕ} {u : Used} {params : List (List ℕ)} (stream : Bytes) (
     refused-front whole x e = rw e (front-refl (s₀ .vars))
 
     -- 5, 6, 18
-    pub steps-stopped : (whole : Bool) (p : Part) (x : Refusal) → ((g : ℕ → Noded) (t : State) (l : Bytes) → part-with p g t l ≡ stopped x) → f .part ≡ p → at ≤ length stream
-        → {number : ℕ} {w′ : List ℕ} {a : Answer} → Refuses number w′ a → number-of-refusal x ≡ number → (buf : List ℕ) {r : Stepped} → r ≡ gone a at rows → Leaving whole buf w′ params buf r
+    pub steps-stopped : (whole : Bool) (p : Whole) (x : Refusal) → ((g : What → Noded) (t : State) (l : Bytes) → whole-with p g t l ≡ stopped x) → f .read ≡ p → at ≤ length stream
+        → {number : ℕ} {w′ : List ℕ} {a : Answer} → Refuses number w′ a → number-of-refusal x ≡ number → (buf : List ℕ) {r : Stepped} → r ≡ gone a at (u .vars) → Leaving whole buf w′ params buf r
     steps-stopped whole p x h e le g n buf q =
-        let i = stop-is (read-record s₀ bytes) x s₀ (sym (h (noded (f .mark) f) _ _) ∙ read-is params c p e) in
+        let i = stop-is (read-record s₀ bytes) x s₀ (sym (h (noded f) _ _) ∙ read-is params c p e) in
         let j = answered-not whole s₀ bytes x i in
         let z = refused-by-x whole x g n j buf in
         (steps whole z at le (unread-not whole s₀ bytes x i) q, rw q (in-front z (refused-front whole x j)))
@@ -174,12 +178,12 @@ module _ {w : List ℕ} {u : Used} {params : List (List ℕ)} (stream : Bytes) (
       abbrev Read-as : Result (State × Noded) → Type 0
       Read-as q = Got (read-record s₀ bytes) q (drop (f .next) stream) s₀
 
-      got-steps : {q : Result (State × Noded)} → Read-as q → {buf w′ : List ℕ} {params′ : List (List ℕ)} {buf′ : List ℕ} {a : Answer} {r : Stepped} → Replied buf w′ params′ buf′ a (answered whole s₀ bytes)
+      got-steps : {q : Result (State × Noded)} → Read-as q → {rows : ℕ} {buf w′ : List ℕ} {params′ : List (List ℕ)} {buf′ : List ℕ} {a : Answer} {r : Stepped} → Replied buf w′ params′ buf′ a (answered whole s₀ bytes)
           → Saved-partly w′ (a .used) rows saved → r ≡ gone a (f .next) rows → Leaving whole buf w′ params′ buf′ r
       got-steps i p h e = (steps whole p (f .next) (c .within) (unread-got whole s₀ bytes (i .what) (drop (f .next) stream) (i .read)) e, rw e h)
 
       -- 7, but bytes left over are 5
-      pub steps-full : f .part ≡ Full → {number : ℕ} {w′ : List ℕ} {a : Answer} → Refuses number w′ a → number ≡ (if over then 5 else 7) → (buf : List ℕ) {r : Stepped} → r ≡ gone a (f .next) rows
+      pub steps-full : f .read ≡ Full → {number : ℕ} {w′ : List ℕ} {a : Answer} → Refuses number w′ a → number ≡ (if over then 5 else 7) → (buf : List ℕ) {r : Stepped} → r ≡ gone a (f .next) (u .vars)
           → Leaving whole buf w′ params buf r
       unfolding _>>=_ answer number-of-refusal
       steps-full e {number} {w′} {a} g n buf q =
@@ -194,12 +198,12 @@ module _ {w : List ℕ} {u : Used} {params : List (List ℕ)} (stream : Bytes) (
           go true n t = (refused-by-x whole malformed g (sym n) t buf, refused-front whole malformed t)
           go false n t = (refused-by-x whole full g (sym n) t buf, refused-front whole full t)
 
-      module _ (t : ℕ) (e : f .part ≡ At t) where
+      module _ (what : What) (e : f .read ≡ Placed what) where
         abbrev n : Noded
-        n = noded (f .mark) f t
+        n = noded f what
 
         at-node : Read-as (ok (seen w₁ (f .used) ds, n))
-        at-node = got-is (read-record s₀ bytes) (ok (seen w₁ (f .used) ds, n)) (drop (f .next) stream) s₀ (read-is params c (At t) e)
+        at-node = got-is (read-record s₀ bytes) (ok (seen w₁ (f .used) ds, n)) (drop (f .next) stream) s₀ (read-is params c (Placed what) e)
 
         told : answered whole s₀ bytes ≡ (if over then refusal s₀ malformed else answer s₀ (run s₀ (at-node .what)))
         told = answered-got whole s₀ bytes (at-node .what) stream (f .next) (at-node .read) over o
@@ -210,28 +214,29 @@ module _ {w : List ℕ} {u : Used} {params : List (List ℕ)} (stream : Bytes) (
         pub begins : Begins u params saved w₁ (f .used) n
         begins = record { words = w; what = at-node .what; from = begun }
 
-        pub placed-in : Noded-in (f .mark) (f .used .vars) (f .used .nodes) f t
-        placed-in = noded-in-more (f .mark) (u .vars) (f .used .nodes) f t (subst (λ (p : Part). Part-so p (Noded-in (f .mark) (u .vars) (f .used .nodes) f)) e (c .inside)) (f .used .vars) (f .used .nodes) (read-above .vars) (omega arith)
+        pub placed-in : What-in (f .used .nodes) f what
+        placed-in = subst (λ (p : Whole). Whole-so p (What-in (f .used .nodes) f)) e (c .inside)
 
         -- bytes left over
-        pub steps-over : over ≡ true → {w′ : List ℕ} {a : Answer} → Refuses 5 w′ a → (buf : List ℕ) {r : Stepped} → r ≡ gone a (f .next) rows → Leaving whole buf w′ params buf r
+        pub steps-over : over ≡ true → {w′ : List ℕ} {a : Answer} → Refuses 5 w′ a → (buf : List ℕ) {r : Stepped} → r ≡ gone a (f .next) (u .vars) → Leaving whole buf w′ params buf r
         unfolding number-of-refusal
         steps-over b g buf q =
             let j : answered whole s₀ bytes ≡ refusal s₀ malformed = told ∙ ap (λ (x : Bool). if x then refusal s₀ malformed else answer s₀ (run s₀ (at-node .what))) b in
             let z = refused-by-x whole malformed g refl j buf in
             got-steps at-node z (in-front z (refused-front whole malformed j)) q
 
-        -- what the record's mark says of the saved rows
-        rows-stand : {buf w′ : List ℕ} {params′ : List (List ℕ)} {buf′ : List ℕ} {a : Answer} → Replied buf w′ params′ buf′ a (answer s₀ (run s₀ (at-node .what))) → Saved-partly w′ (a .used) rows saved
-        rows-stand {w′ = w′} {a = a} p = go (decLt (group n) 2)
+        -- what the record says of the saved rows
+        rows-stand : {buf w′ : List ℕ} {params′ : List (List ℕ)} {buf′ : List ℕ} {a : Answer} → Replied buf w′ params′ buf′ a (answer s₀ (run s₀ (at-node .what)))
+            → Saved-partly w′ (a .used) (rows-after what (u .vars)) saved
+        rows-stand {w′ = w′} {a = a} p = rw (rows-by f what (u .vars)) (go (binding n) refl)
           where
-            go : Dec (group n < 2) → Saved-partly w′ (a .used) rows saved
-            go (yes l) = in-front p (answer-front s₀ (at-node .what) _ n (at-node .placed) l)
-            go (no l) = rw (is-rows ∙ rows-none (f .mark) f t (u .vars) (omega arith)) (partly-none w′ (a .used) saved)
+            go : (b : Bool) → binding n ≡ b → Saved-partly w′ (a .used) (if b then 0 else u .vars) saved
+            go true k = partly-none w′ (a .used) saved
+            go false k = in-front p (answer-front s₀ (at-node .what) _ n (at-node .placed) k)
 
-        pub steps-run : over ≡ false → {buf w′ : List ℕ} {params′ : List (List ℕ)} {buf′ : List ℕ} {a : Answer} → Ends u params saved w₁ (f .used) n buf w′ params′ buf′ a → {r : Stepped} → r ≡ gone a (f .next) rows
+        pub steps-run : over ≡ false → {rows : ℕ} → rows ≡ rows-after what (u .vars) → {buf w′ : List ℕ} {params′ : List (List ℕ)} {buf′ : List ℕ} {a : Answer} → Ends u params saved w₁ (f .used) n buf w′ params′ buf′ a → {r : Stepped} → r ≡ gone a (f .next) rows
             → Leaving whole buf w′ params′ buf′ r
-        steps-run b {buf} {w′} {params′} {buf′} {a} g q =
+        steps-run b is-rows {buf} {w′} {params′} {buf′} {a} g q =
             let z = g w (at-node .what) begun in
             let p : Replied buf w′ params′ buf′ a (answered whole s₀ bytes) = rw (told ∙ ap (λ (x : Bool). if x then refusal s₀ malformed else answer s₀ (run s₀ (at-node .what))) b) z in
-            got-steps at-node p (rows-stand z) q
+            got-steps at-node p (rw is-rows (rows-stand z)) q

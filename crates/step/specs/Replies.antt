@@ -7,7 +7,7 @@ use lib.ListN.{getD, take, drop}
 use Rattle.definition.specs.Types.{ok}
 use Rattle.definition.specs.Record.{Record}
 use Rattle.definition.specs.Step as step
-use Rattle.definition.specs.Step.{run, answer}
+use Rattle.definition.specs.Step.{answer}
 use Rattle.theorems.proofs.WellRead.{RecordIn}
 use Rattle.table.specs.Tab.{tab}
 use Rattle.table.specs.State.{view, seen, Lay}
@@ -16,14 +16,12 @@ use Rattle.table.specs.declared.Found.{Found}
 use Rattle.table.specs.declared.Found.the-variants.{Nothing, Just}
 use Rattle.lent.specs.Lent.{structs-of, encode-params}
 use Rattle.snap.specs.Snap.{Since}
-use Rattle.reader.specs.declared.Part.{Part}
-use Rattle.reader.specs.declared.Part.the-variants.{At, Full, Malformed, Unknown, Doubled}
-use Rattle.fields.specs.Noded.{Noded, place-record}
-use Rattle.marks.specs.declared.RecordMark.{RecordMark}
-use Rattle.marks.specs.declared.RecordMark.the-variants as m
+use Rattle.fields.specs.declared.What.{What}
+use Rattle.fields.specs.declared.What.the-variants as q
+use Rattle.fields.specs.declared.Whole.{Whole}
+use Rattle.fields.specs.declared.Whole.the-variants.{Placed, Full, Malformed, Unknown, Doubled}
+use Rattle.fields.specs.Noded.{binds, looks, adds, Noded, declare, solve, run, place-record}
 use Rattle.answer.specs.declared.Answer.{Answer}
-use Rattle.step.specs.declared.Call.{Call}
-use Rattle.step.specs.declared.Call.the-variants.{Declare, Solve, Run}
 use Rattle.step.specs.Trusted.{held, Stands}
 
 -- the answer a is r: the payload stands in front of the buffer, and its state is what words and bytes hold, the bytes being just its declarations'
@@ -51,7 +49,7 @@ pub record Begins (before : Used) (params : List (List ℕ)) (saved w : List ℕ
 -- r answers the run of that record
 abbrev pub Ends : Used → List (List ℕ) → List ℕ → List ℕ → Used → Noded → List ℕ → List ℕ → List (List ℕ) → List ℕ → Answer → Type 0
 Ends before params saved w u n buf w′ params′ buf′ r =
-    (w₀ : List ℕ) (x : Record) → Begun w₀ before params saved w u x n → Replied buf w′ params′ buf′ r (answer (held w₀ before params) (run (held w₀ before params) x))
+    (w₀ : List ℕ) (x : Record) → Begun w₀ before params saved w u x n → Replied buf w′ params′ buf′ r (answer (held w₀ before params) (step.run (held w₀ before params) x))
 
 -- ---- SD's row
 
@@ -65,49 +63,28 @@ row-for (Just t) false n = Nothing
 unfoldable pub padded : List ℕ → ℕ → List ℕ
 padded bytes n = tab 8 (λ k. getD (take n bytes) k 0)
 
--- ---- by which call a mark is run. Other stands for none, and is placed as SV
+-- ---- the saved rows
 
-abbrev pub call-of : RecordMark → Call
-call-of m.SD = Declare
-call-of m.FV = Run
-call-of m.NV = Run
-call-of m.SN = Run
-call-of m.JN = Run
-call-of m.SU = Run
-call-of m.UF = Run
-call-of m.RD = Run
-call-of m.TS = Run
-call-of m.IN = Run
-call-of m.NC = Run
-call-of m.BC = Run
-call-of m.SC = Run
-call-of m.SV = Solve
-call-of m.RM = Run
-call-of m.Other = Solve
+-- it may bind or mark a variable that is there
+abbrev pub binding : Noded → Bool
+binding (declare abilities params) = false
+binding solve = true
+binding (run (binds n)) = true
+binding (run (looks n)) = false
+binding (run (adds n)) = false
 
 -- how many of the n saved rows surely stand after a record
-abbrev pub rows-after : RecordMark → ℕ → ℕ
-rows-after m.SD n = n
-rows-after m.FV n = n
-rows-after m.NV n = n
-rows-after m.SN n = 0
-rows-after m.JN n = 0
-rows-after m.SU n = 0
-rows-after m.UF n = n
-rows-after m.RD n = n
-rows-after m.TS n = n
-rows-after m.IN n = 0
-rows-after m.NC n = n
-rows-after m.BC n = n
-rows-after m.SC n = n
-rows-after m.SV n = 0
-rows-after m.RM n = n
-rows-after m.Other n = 0
+abbrev pub rows-after : What → ℕ → ℕ
+rows-after (q.SD abilities many) n = n
+rows-after q.SV n = 0
+rows-after (q.Bind x) n = 0
+rows-after (q.Look x) n = n
+rows-after (q.Add x) n = n
 
 -- ---- the stream after a record
 
-abbrev pub place-after : Part → ℕ → ℕ → ℕ
-place-after (At t) at next = next
+abbrev pub place-after : Whole → ℕ → ℕ → ℕ
+place-after (Placed x) at next = next
 place-after Full at next = next
 place-after Malformed at next = at
 place-after Unknown at next = at

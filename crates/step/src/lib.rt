@@ -9,14 +9,14 @@ ghost use Rattle.definition.specs.Write.{Is-bytes};
 ghost use Rattle.table.specs.State.{Lay};
 ghost use Rattle.snap.specs.Snap.{Saved-partly};
 ghost use Rattle.lent.specs.Lent.{used-of};
-ghost use Rattle.fields.specs.Noded.{SD, noded, Noded-in};
+ghost use Rattle.fields.specs.Noded.{declare, noded, What-in};
 ghost use Rattle.step.specs.Trusted.{held, Stands, unread, Steps};
-ghost use Rattle.step.specs.Replies.{Begins, Ends, row-for, padded, call-of, rows-after, place-after};
+ghost use Rattle.step.specs.Replies.{Begins, Ends, row-for, padded, rows-after, place-after};
 use answer::Answer;
 use fields::Fields;
-use marks::RecordMark;
+use fields::What;
+use fields::Whole;
 use names::AbilitySet;
-use reader::Part;
 use table::Found;
 use table::Used;
 
@@ -99,8 +99,8 @@ fn answer_declared(
     buf: &mut [u8],
 ) -> Answer
     requires { ⌜ Lay (now w) u × ((abilities ≤ 15) × ((many ≤ 8) × ((5120 ≤ length (now saved)) × (4096 ≤ length (now buf))))) ⌝ }
-    requires { ⌜ Begins before (now params) (now saved) (now w) u (SD abilities (take many bytes)) ⌝ }
-    ensures { λ r. ⌜ Ends before (now (params .entry)) (now (saved .entry)) (now (w .entry)) u (SD abilities (take many bytes)) (now (buf .entry)) (now (w .exit)) (now (params .exit)) (now (buf .exit)) r ⌝ }
+    requires { ⌜ Begins before (now params) (now saved) (now w) u (declare abilities (take many bytes)) ⌝ }
+    ensures { λ r. ⌜ Ends before (now (params .entry)) (now (saved .entry)) (now (w .entry)) u (declare abilities (take many bytes)) (now (buf .entry)) (now (w .exit)) (now (params .exit)) (now (buf .exit)) r ⌝ }
 {
     let r = run::run_declare(w, u, ability_set(abilities), many);
     let o = r.out;
@@ -110,63 +110,22 @@ fn answer_declared(
     a
 }
 
-// ---- the marks
+// ---- what was read
 
-// By which call a mark is run. Other stands for none, and is placed as SV.
-enum Call {
-    Declare,
-    Solve,
-    Run,
-}
-
-fn call_of(mark: RecordMark) -> Call
-    ensures { λ r. ⌜ r ≡ call-of mark ⌝ }
+// How many of the n saved rows surely stand after a record: what binds or marks a variable that is there leaves none.
+fn rows_after(what: What, n: u32) -> u32
+    ensures { λ r. ⌜ r ≡ rows-after what n ⌝ }
 {
-    match mark {
-        RecordMark::SD => Call::Declare,
-        RecordMark::FV => Call::Run,
-        RecordMark::NV => Call::Run,
-        RecordMark::SN => Call::Run,
-        RecordMark::JN => Call::Run,
-        RecordMark::SU => Call::Run,
-        RecordMark::UF => Call::Run,
-        RecordMark::RD => Call::Run,
-        RecordMark::TS => Call::Run,
-        RecordMark::IN => Call::Run,
-        RecordMark::NC => Call::Run,
-        RecordMark::BC => Call::Run,
-        RecordMark::SC => Call::Run,
-        RecordMark::SV => Call::Solve,
-        RecordMark::RM => Call::Run,
-        RecordMark::Other => Call::Solve,
+    match what {
+        What::SD(_, _) => n,
+        What::SV => 0,
+        What::Bind(_) => 0,
+        What::Look(_) => n,
+        What::Add(_) => n,
     }
 }
 
-// How many of the n saved rows surely stand after a record: the marks that bind or mark a variable that is there already leave none.
-fn rows_after(mark: RecordMark, n: u32) -> u32
-    ensures { λ r. ⌜ r ≡ rows-after mark n ⌝ }
-{
-    match mark {
-        RecordMark::SD => n,
-        RecordMark::FV => n,
-        RecordMark::NV => n,
-        RecordMark::SN => 0,
-        RecordMark::JN => 0,
-        RecordMark::SU => 0,
-        RecordMark::UF => n,
-        RecordMark::RD => n,
-        RecordMark::TS => n,
-        RecordMark::IN => 0,
-        RecordMark::NC => n,
-        RecordMark::BC => n,
-        RecordMark::SC => n,
-        RecordMark::SV => 0,
-        RecordMark::RM => n,
-        RecordMark::Other => 0,
-    }
-}
-
-// What was read and placed is run and answered; t is the node of the last type.
+// What was read and placed is run and answered.
 fn answer_placed(
     w: &mut [u32],
     u: Used,
@@ -174,23 +133,31 @@ fn answer_placed(
     params: &mut [[u8; 8]; 256],
     saved: &[u32],
     f: Fields,
-    t: u32,
+    what: What,
     buf: &mut [u8],
 ) -> Answer
-    requires { ⌜ Lay (now w) u × (Noded-in (f .mark) (u .vars) (u .nodes) f t × ((5120 ≤ length (now saved)) × (4096 ≤ length (now buf)))) ⌝ }
-    requires { ⌜ Begins before (now params) (now saved) (now w) u (noded (f .mark) f t) ⌝ }
-    ensures { λ r. ⌜ Ends before (now (params .entry)) (now (saved .entry)) (now (w .entry)) u (noded (f .mark) f t) (now (buf .entry)) (now (w .exit)) (now (params .exit)) (now (buf .exit)) r ⌝ }
+    requires { ⌜ Lay (now w) u × (What-in (u .nodes) f what × ((5120 ≤ length (now saved)) × (4096 ≤ length (now buf)))) ⌝ }
+    requires { ⌜ Begins before (now params) (now saved) (now w) u (noded f what) ⌝ }
+    ensures { λ r. ⌜ Ends before (now (params .entry)) (now (saved .entry)) (now (w .entry)) u (noded f what) (now (buf .entry)) (now (w .exit)) (now (params .exit)) (now (buf .exit)) r ⌝ }
 {
-    let mark = f.mark;
-    let call = call_of(mark);
-    match call {
-        Call::Declare => {
+    match what {
+        What::SD(abilities, many) => {
             let bytes = f.params;
-            answer_declared(w, u, before, params, saved, f.a, f.b, bytes, buf)
+            answer_declared(w, u, before, params, saved, abilities, many, bytes, buf)
         }
-        Call::Solve => solve::solve(w, u, params, saved, buf),
-        Call::Run => {
-            let r = dispatch::run_fields(w, u, params, f, t);
+        What::SV => solve::solve(w, u, params, saved, buf),
+        What::Bind(x) => {
+            let r = dispatch::run_bind(w, u, params, x);
+            answer::answer_of(w, before, saved, r, buf)
+        }
+        What::Look(x) => {
+            let ids = f.ids;
+            let nodes = f.nodes;
+            let r = dispatch::run_look(w, u, ids, nodes, x);
+            answer::answer_of(w, before, saved, r, buf)
+        }
+        What::Add(x) => {
+            let r = dispatch::run_add(w, u, x);
             answer::answer_of(w, before, saved, r, buf)
         }
     }
@@ -238,26 +205,26 @@ pub fn step_trusted(
 {
     snap::save_vars(w, u, rows, saved);
     let f = record::read_record(w, u, stream, at);
-    let p = f.part;
+    let read = f.read;
     let v = f.used;
     let next = f.next;
-    let mark = f.mark;
-    let kept = rows_after(mark, u.vars);
+    let kept = u.vars;
     let over = left_over(whole, next, stream.len());
-    match p {
-        Part::Malformed => with_next(answer::refuse(w, v, u, saved, 5), at, kept),
-        Part::Unknown => with_next(answer::refuse(w, v, u, saved, 6), at, kept),
-        Part::Doubled => with_next(answer::refuse(w, v, u, saved, 18), at, kept),
-        Part::Full => with_next(
+    match read {
+        Whole::Malformed => with_next(answer::refuse(w, v, u, saved, 5), at, kept),
+        Whole::Unknown => with_next(answer::refuse(w, v, u, saved, 6), at, kept),
+        Whole::Doubled => with_next(answer::refuse(w, v, u, saved, 18), at, kept),
+        Whole::Full => with_next(
             answer::refuse(w, v, u, saved, seven_or_five(over)),
             next,
             kept,
         ),
-        Part::At(t) => {
+        Whole::Placed(x) => {
             if over {
                 return with_next(answer::refuse(w, v, u, saved, 5), next, kept);
             }
-            with_next(answer_placed(w, v, u, params, saved, f, t, buf), next, kept)
+            let rows = rows_after(x, kept);
+            with_next(answer_placed(w, v, u, params, saved, f, x, buf), next, rows)
         }
     }
 }
@@ -265,15 +232,15 @@ pub fn step_trusted(
 // ---- the splitter
 
 // Where the stream goes on: 5, 6 and 18 leave it as it is.
-fn place_after(p: Part, at: usize, next: usize) -> usize
-    ensures { λ r. ⌜ r ≡ place-after p at next ⌝ }
+fn place_after(read: Whole, at: usize, next: usize) -> usize
+    ensures { λ r. ⌜ r ≡ place-after read at next ⌝ }
 {
-    match p {
-        Part::At(_) => next,
-        Part::Full => next,
-        Part::Malformed => at,
-        Part::Unknown => at,
-        Part::Doubled => at,
+    match read {
+        Whole::Placed(_) => next,
+        Whole::Full => next,
+        Whole::Malformed => at,
+        Whole::Unknown => at,
+        Whole::Doubled => at,
     }
 }
 
@@ -290,9 +257,9 @@ pub fn rest_trusted(
 {
     snap::save_vars(w, u, 0, saved);
     let f = record::read_record(w, u, stream, 0);
-    let p = f.part;
+    let read = f.read;
     let v = f.used;
     snap::undo(w, v, u, saved);
     table::write_used(w, u);
-    place_after(p, 0, f.next)
+    place_after(read, 0, f.next)
 }

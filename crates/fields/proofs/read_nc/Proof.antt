@@ -1,9 +1,9 @@
 -- `fields::read_nc` meets its contract. Assumes nothing.
+use mathlib.Core.Path.{refl, sym, _∙_}
 use Rattle.definition.specs.Record.{read-kind}
 use Rattle.definition.specs.Reader.{_>>=_, go-on, read-one, read-three, read-u32}
-use mathlib.Core.Path.{refl, sym, _∙_}
-use Rattle.fields.proofs.Forms.{nc-is, malformed-is, one-NC}
 use Rattle.reader.specs.Fields.{byte-wide, u32-wide}
+use Rattle.fields.proofs.Forms.{nc-is, malformed-is, one-NC}
 use borrow.Author.Needs.{needs}
 use Rattle.fields.proofs.read_nc.Statement.{statement}
 use Rattle.fields.proofs.read_nc.Tie as tie
@@ -21,7 +21,13 @@ enum-known-k : tie.Need-enum-known-k
 enum-known-k c = search needs
 
 read-one-requires : tie.Need-read-one-requires
-read-one-requires c κs = let r = c .before .before .before .before .before .before .before .before .read-numbers .ensures _ _ _ _ u32-wide byte-wide in (c .before .before .before .before .before .before .before .before .before .before .before .pre .0, (c .before .before .before .before .before .before .before .before .before .before .before .pre .1 .0, (r .second .within, c .before .before .before .before .before .before .before .before .before .before .before .pre .1 .1 .1)))
+read-one-requires c κs =
+    let p = c .before .before .before .before .before .before .before .before .before .before .before .pre in
+    let r = c .before .before .before .before .before .before .before .before .read-numbers .ensures _ _ _ _ u32-wide byte-wide in
+    (p .0, (p .1 .0, (r .second .within, p .1 .1 .1)))
+
+made-requires : tie.Need-made-requires
+made-requires c κs = search needs
 
 enum-told : tie.Need-enum-told
 enum-told c = search needs
@@ -36,29 +42,30 @@ plain-requires-2 : tie.Need-plain-requires-2
 plain-requires-2 c κs = search needs
 
 same-length : tie.Need-same-length
-same-length c =
-    let r = c .before .before .before .before .before .before .before .before .before .before .before .read-numbers .ensures _ _ _ _ u32-wide byte-wide in
-    let k = c .before .before .before .before .before .before .before .byte-to .ensures _ _ _ _ (r .second) in
-    c .before .before .read-one .ensures _ (one-NC _ _ (rw (c .before .before .before .before .before .k .given .1) at (k .most))) .lay .size ∙ sym (c .before .before .before .before .before .before .before .before .before .before .before .before .before .before .pre .0 .0 .size)
+same-length c = c .before .before .before .read-one .ensures .0 _ _ (one-NC 0 0) .lay .size ∙ sym (c .before .before .before .before .before .before .before .before .before .before .before .before .before .before .before .pre .0 .0 .size)
 
 returns : tie.Need-returns
 returns c =
-    let r = c .before .before .before .before .before .before .before .before .before .before .before .read-numbers .ensures _ _ _ _ u32-wide byte-wide in
-    let k = c .before .before .before .before .before .before .before .byte-to .ensures _ _ _ _ (r .second) in
-    nc-is _ _ _ _ _ _ _ _ _ _ _ _ (rw (c .before .before .before .before .before .before .before .before .before .l .given .1) at (r .first .is)) (rw (c .before .before .before .before .before .k .given .1) at (k .is)) (c .before .before .read-one .ensures _ (one-NC _ _ (rw (c .before .before .before .before .before .k .given .1) at (k .most))))
+    let r = c .before .before .before .before .before .before .before .before .before .before .before .before .read-numbers .ensures _ _ _ _ u32-wide byte-wide in
+    let k = c .before .before .before .before .before .before .before .before .byte-to .ensures _ _ _ _ (r .second) in
+    let e = rw (c .before .before .before .before .before .before .before .before .before .before .l .given .1) at (r .first .is) in
+    let g = rw (c .before .before .before .before .before .before .k .given .1) at (k .is) in
+    rw (c .made .ensures) (nc-is _ _ _ _ _ _ _ _ _ _ _ _ e g (c .before .before .before .read-one .ensures .0 _ _ (one-NC _ _)))
 
 returns-2 : tie.Need-returns-2
 unfolding read-three read-kind read-one _>>=_ go-on
 returns-2 c =
+    let p = c .before .before .before .before .before .before .before .before .before .before .pre in
     let r = c .before .before .before .before .before .before .before .read-numbers .ensures _ _ _ _ u32-wide byte-wide in
     let k = c .before .before .before .byte-to .ensures _ _ _ _ (r .second) in
-    rw (c .plain .ensures) (malformed-is _ _ _ _ _ _ _ _ (c .before .before .before .before .before .before .before .before .before .before .pre .0 .0) (c .before .before .before .before .before .before .before .before .before .before .pre .1 .1 .0) (λ s ds h. rw (← r .first .is, c .before .before .before .before .before .l .given .1, ← k .is, c .before .enum-told .given .1) refl))
+    rw (c .plain .ensures) (malformed-is _ _ _ _ _ _ _ (p .0 .0) (p .1 .1 .0) (λ s ds h. rw (← r .first .is, c .before .before .before .before .before .l .given .1, ← k .is, c .before .enum-told .given .1) refl))
 
 returns-3 : tie.Need-returns-3
 unfolding read-three read-kind read-one _>>=_ go-on
 returns-3 c =
+    let p = c .before .before .before .before .before .before .pre in
     let r = c .before .before .before .read-numbers .ensures _ _ _ _ u32-wide byte-wide in
-    rw (c .plain2 .ensures) (malformed-is _ _ _ _ _ _ _ _ (c .before .before .before .before .before .before .pre .0 .0) (c .before .before .before .before .before .before .pre .1 .1 .0) (λ s ds h. rw (← r .first .is, c .before .enum-told2 .given .1) refl))
+    rw (c .plain2 .ensures) (malformed-is _ _ _ _ _ _ _ (p .0 .0) (p .1 .1 .0) (λ s ds h. rw (← r .first .is, c .before .enum-told2 .given .1) refl))
 
 pub read-nc-spec : {M : Type 1} → statement M
 read-nc-spec =
@@ -69,6 +76,7 @@ read-nc-spec =
     byte-to-requires
     enum-known-k
     read-one-requires
+    made-requires
     enum-told
     plain-requires
     enum-told-2

@@ -20,14 +20,19 @@ sub-count-type-2 c = search needs
 count-type-requires : tie.Need-count-type-requires
 count-type-requires c κs = search needs
 
-add-counted : tie.Need-add-counted
-add-counted c = search needs
+whole-of-requires : tie.Need-whole-of-requires
+whole-of-requires c κs = search needs
 
-counted-requires : tie.Need-counted-requires
-counted-requires c κs = search needs
+add-plain : tie.Need-add-plain
+add-plain c = search needs
+
+plain-requires : tie.Need-plain-requires
+plain-requires c κs = search needs
 
 returns : tie.Need-returns
-returns c = rw (c .counted .ensures) (rm-is _ _ _ _ _ _ _ _ refl (c .before .before .before .before .before .before .before .pre .0 .0) (c .before .before .before .before .before .before .before .pre .1 .1 .0) (c .before .before .before .count-type .ensures))
+returns c =
+    let p = c .before .before .before .before .before .before .before .before .pre in
+    rw (c .plain .ensures, c .before .before .whole-of .ensures) (rm-is _ _ _ _ _ _ _ _ refl (p .0 .0) (p .1 .1 .0) (c .before .before .before .before .count-type .ensures))
 
 pub read-rm-spec : {M : Type 1} → statement M
 read-rm-spec =
@@ -38,6 +43,7 @@ read-rm-spec =
     part-count-type-end
     sub-count-type-2
     count-type-requires
-    add-counted
-    counted-requires
+    whole-of-requires
+    add-plain
+    plain-requires
     returns)

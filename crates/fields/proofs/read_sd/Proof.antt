@@ -55,14 +55,14 @@ returns-2 c = λ w known l.
     let r = c .before .before .before .before .before .before .before .before .read-numbers .ensures _ _ _ _ byte-wide byte-wide in
     let a = c .before .before .before .before .before .before .before .byte-to .ensures _ _ _ _ (r .first) in
     let n = c .before .before .before .byte-to2 .ensures _ _ _ _ (r .second) in
-    rw (c .plain .ensures) (malformed-is w _ _ _ known _ _ _ l (c .before .before .before .before .before .before .before .before .before .before .pre .1) (λ s ds k. rw (← a .is, c .before .before .before .before .before .a .given .1, ← n .is, c .before .enum-told .given .1) refl))
+    rw (c .plain .ensures) (malformed-is w _ _ _ known _ _ l (c .before .before .before .before .before .before .before .before .before .before .pre .1) (λ s ds k. rw (← a .is, c .before .before .before .before .before .a .given .1, ← n .is, c .before .enum-told .given .1) refl))
 
 returns-3 : tie.Need-returns-3
 unfolding read-SD _>>=_ go-on
 returns-3 c = λ w known l.
     let r = c .before .before .before .before .read-numbers .ensures _ _ _ _ byte-wide byte-wide in
     let a = c .before .before .before .byte-to .ensures _ _ _ _ (r .first) in
-    rw (c .plain2 .ensures) (malformed-is w _ _ _ known _ _ _ l (c .before .before .before .before .before .before .pre .1) (λ s ds k. rw (← a .is, c .before .enum-told2 .given .1) refl))
+    rw (c .plain2 .ensures) (malformed-is w _ _ _ known _ _ l (c .before .before .before .before .before .before .pre .1) (λ s ds k. rw (← a .is, c .before .enum-told2 .given .1) refl))
 
 pub read-sd-spec : {M : Type 1} → statement M
 read-sd-spec =

@@ -1,9 +1,9 @@
 -- `fields::read_sn` meets its contract. Assumes nothing.
-use Rattle.definition.specs.Reader.{_>>=_, go-on, read-two, name-below, read-u32}
 use mathlib.Core.Path.{refl}
-use Rattle.fields.proofs.Forms.{sn-is, malformed-is, unknown-is}
-use Rattle.reader.specs.Fields.{u16-wide, u32-wide}
 use native.Mathlib.Omega.{arith}
+use Rattle.definition.specs.Reader.{_>>=_, go-on, read-two, name-below, read-u32}
+use Rattle.reader.specs.Fields.{u16-wide, u32-wide}
+use Rattle.fields.proofs.Forms.{sn-is, malformed-is, unknown-is}
 use borrow.Author.Needs.{needs}
 use Rattle.fields.proofs.read_sn.Statement.{statement}
 use Rattle.fields.proofs.read_sn.Tie as tie
@@ -26,53 +26,55 @@ cast-t14 c =
     let n = c .before .before .before .before .before .before .name-below .ensures _ _ _ _ (r .first) in
     omega (arith, c .before .before .before .before .before .before .before .before .before .pre .1 .1, rw (c .before .before .before .before .n .given .1) at (n .below))
 
-with-var-requires : tie.Need-with-var-requires
-with-var-requires c κs = search needs
+plain-requires : tie.Need-plain-requires
+plain-requires c κs = search needs
 
 enum-told : tie.Need-enum-told
 enum-told c = search needs
 
-plain-requires : tie.Need-plain-requires
-plain-requires c κs = search needs
+plain-requires-2 : tie.Need-plain-requires-2
+plain-requires-2 c κs = search needs
 
 enum-told-2 : tie.Need-enum-told-2
 enum-told-2 c = search needs
 
-plain-requires-2 : tie.Need-plain-requires-2
-plain-requires-2 c κs = search needs
+plain-requires-3 : tie.Need-plain-requires-3
+plain-requires-3 c κs = search needs
 
 enum-told-3 : tie.Need-enum-told-3
 enum-told-3 c = search needs
 
-plain-requires-3 : tie.Need-plain-requires-3
-plain-requires-3 c κs = search needs
+plain-requires-4 : tie.Need-plain-requires-4
+plain-requires-4 c κs = search needs
 
 returns : tie.Need-returns
 returns c = λ w l.
     let r = c .before .before .before .before .before .before .before .before .read-numbers .ensures _ _ _ _ u16-wide u32-wide in
     let n = c .before .before .before .before .before .before .before .name-below .ensures _ _ _ _ (r .first) in
-    rw (c .with-var .ensures) (sn-is w _ _ _ _ _ _ _ _ _ l (rw (c .before .before .before .before .before .n .given .1) at (n .below)) (r .second .within) (rw (c .before .before .before .before .before .n .given .1) at (n .is)) (rw (c .before .before .l .given .1) at (r .second .is)))
+    let e = rw (c .before .before .before .before .before .n .given .1) at (n .is) in
+    let f = rw (c .before .before .l .given .1) at (r .second .is) in
+    rw (c .plain .ensures) (sn-is w _ _ _ _ _ _ _ _ _ l (r .second .within) e f)
 
 returns-2 : tie.Need-returns-2
 unfolding read-two _>>=_ go-on
 returns-2 c = λ w l.
     let r = c .before .before .before .before .before .before .before .read-numbers .ensures _ _ _ _ u16-wide u32-wide in
     let n = c .before .before .before .before .before .before .name-below .ensures _ _ _ _ (r .first) in
-    rw (c .plain .ensures) (malformed-is w _ _ _ _ _ _ _ l (c .before .before .before .before .before .before .before .before .before .pre .1 .0) (λ s ds k. rw (k .vars, ← n .is, c .before .before .before .before .n .given .1, ← r .second .is, c .before .enum-told .given .1) refl))
+    rw (c .plain2 .ensures) (malformed-is w _ _ _ _ _ _ l (c .before .before .before .before .before .before .before .before .before .pre .1 .0) (λ s ds k. rw (k .vars, ← n .is, c .before .before .before .before .n .given .1, ← r .second .is, c .before .enum-told .given .1) refl))
 
 returns-3 : tie.Need-returns-3
 unfolding read-two _>>=_ go-on
 returns-3 c = λ w l.
     let r = c .before .before .before .before .read-numbers .ensures _ _ _ _ u16-wide u32-wide in
     let n = c .before .before .before .name-below .ensures _ _ _ _ (r .first) in
-    rw (c .plain2 .ensures) (malformed-is w _ _ _ _ _ _ _ l (c .before .before .before .before .before .before .pre .1 .0) (λ s ds k. rw (k .vars, ← n .is, c .before .enum-told2 .given .1) refl))
+    rw (c .plain3 .ensures) (malformed-is w _ _ _ _ _ _ l (c .before .before .before .before .before .before .pre .1 .0) (λ s ds k. rw (k .vars, ← n .is, c .before .enum-told2 .given .1) refl))
 
 returns-4 : tie.Need-returns-4
 unfolding read-two _>>=_ go-on
 returns-4 c = λ w l.
     let r = c .before .before .before .before .read-numbers .ensures _ _ _ _ u16-wide u32-wide in
     let n = c .before .before .before .name-below .ensures _ _ _ _ (r .first) in
-    rw (c .plain3 .ensures) (unknown-is w _ _ _ _ _ _ _ l (c .before .before .before .before .before .before .pre .1 .0) (λ s ds k. rw (k .vars, ← n .is, c .before .enum-told3 .given .1) refl))
+    rw (c .plain4 .ensures) (unknown-is w _ _ _ _ _ _ l (c .before .before .before .before .before .before .pre .1 .0) (λ s ds k. rw (k .vars, ← n .is, c .before .enum-told3 .given .1) refl))
 
 pub read-sn-spec : {M : Type 1} → statement M
 read-sn-spec =
@@ -83,13 +85,13 @@ read-sn-spec =
     enum-known-n
     enum-known-l
     cast-t14
-    with-var-requires
-    enum-told
     plain-requires
-    enum-told-2
+    enum-told
     plain-requires-2
-    enum-told-3
+    enum-told-2
     plain-requires-3
+    enum-told-3
+    plain-requires-4
     returns
     returns-2
     returns-3

@@ -1,6 +1,6 @@
 -- `fields::read_two` meets its contract. Assumes nothing.
-use Rattle.reader.specs.Taken.{Arities}
 use mathlib.Core.Path.{sym, _∙_, subst}
+use Rattle.reader.specs.Taken.{Arities}
 use Rattle.fields.proofs.Forms.{two-is, two-stop}
 use borrow.Author.Needs.{needs}
 use Rattle.fields.proofs.read_two.Statement.{statement}
@@ -12,32 +12,41 @@ read-type-requires c κs = search needs
 stops-requires : tie.Need-stops-requires
 stops-requires c κs = search needs
 
-plain-requires : tie.Need-plain-requires
-plain-requires c κs = search needs
+with-first-requires : tie.Need-with-first-requires
+with-first-requires c κs = search needs
 
 same-length : tie.Need-same-length
 same-length c = search needs
 
 returns : tie.Need-returns
-returns c = λ make o. rw (c .plain .ensures) (two-stop _ _ _ _ _ _ _ _ _ _ (c .before .before .before .before .before .before .read-type .ensures) o (sym (c .before .before .stops .ensures) ∙ c .before .if1 .taken))
+returns c = λ make mk o.
+    let e = sym (c .before .before .stops .ensures) ∙ c .before .if1 .taken in
+    rw (c .with-first .ensures) (two-stop _ _ _ _ _ _ _ _ mk make (c .before .before .before .before .before .before .read-type .ensures) o e)
 
 no-space-requires : tie.Need-no-space-requires
 no-space-requires c κs = search needs
 
 read-type-requires-2 : tie.Need-read-type-requires-2
-read-type-requires-2 c κs = ((c .before .before .before .before .before .before .before .read-type .ensures .lay, subst Arities (sym (c .before .before .before .before .before .before .before .read-type .ensures .structs)) (c .before .before .before .before .before .before .before .before .before .before .before .pre .0 .1)), (c .before .before .before .before .before .before .before .before .before .before .before .pre .1 .0, (c .before .before .before .before .before .before .before .read-type .ensures .within, c .before .before .before .before .before .before .before .before .before .before .before .pre .1 .1 .1)))
+read-type-requires-2 c κs =
+    let p = c .before .before .before .before .before .before .before .before .before .before .before .pre in
+    let r = c .before .before .before .before .before .before .before .read-type .ensures in
+    ((r .lay, subst Arities (sym (r .structs)) (p .0 .1)), (p .1 .0, (r .within, p .1 .1 .1)))
 
 node-of-requires : tie.Need-node-of-requires
 node-of-requires c κs = search needs
 
-plain-requires-2 : tie.Need-plain-requires-2
-plain-requires-2 c κs = search needs
+with-first-requires-2 : tie.Need-with-first-requires-2
+with-first-requires-2 c κs = search needs
 
 same-length-2 : tie.Need-same-length-2
 same-length-2 c = c .before .before .before .before .before .read-type2 .ensures .lay .size ∙ sym (c .before .before .before .before .before .before .before .before .before .before .before .before .before .before .before .before .before .pre .0 .0 .size)
 
 returns-2 : tie.Need-returns-2
-returns-2 c = λ make o. rw (c .plain2 .ensures, c .before .node-of .ensures) (two-is _ _ _ _ _ _ _ _ _ _ (c .before .before .before .before .before .before .before .before .before .before .before .before .before .read-type .ensures) o (sym (c .before .before .before .before .before .before .before .before .before .stops .ensures) ∙ c .before .before .before .before .before .before .before .before .if1 .left) _ _ (rw (c .before .before .before .before .before .before .no-space .ensures) at (c .before .before .before .before .before .read-type2 .ensures)))
+returns-2 c = λ make mk o.
+    let r = c .before .before .before .before .before .before .before .before .before .before .before .before .before .read-type .ensures in
+    let e = sym (c .before .before .before .before .before .before .before .before .before .stops .ensures) ∙ c .before .before .before .before .before .before .before .before .if1 .left in
+    let q = rw (c .before .before .before .before .before .before .no-space .ensures) at (c .before .before .before .before .before .read-type2 .ensures) in
+    rw (c .with-first2 .ensures, c .before .node-of .ensures) (two-is _ _ _ _ _ _ _ _ mk make r o e _ _ q)
 
 pub read-two-spec : {M : Type 1} → statement M
 read-two-spec =
@@ -45,12 +54,12 @@ read-two-spec =
     (tie.spec
     read-type-requires
     stops-requires
-    plain-requires
+    with-first-requires
     same-length
     returns
     no-space-requires
     read-type-requires-2
     node-of-requires
-    plain-requires-2
+    with-first-requires-2
     same-length-2
     returns-2)

@@ -26,7 +26,7 @@ returns : tie.Need-returns
 unfolding read-fields _>>=_ go-on
 returns c =
     let r = c .before .before .before .read-numbers .ensures _ _ _ _ byte-wide byte-wide in
-    rw (c .plain .ensures) (malformed-is _ _ _ _ _ _ _ _ (c .before .before .before .before .before .before .pre .0 .0) (c .before .before .before .before .before .before .pre .1 .1 .0) (λ s ds k. rw (← r .first .is, c .before .enum-told .given .1) refl))
+    rw (c .plain .ensures) (malformed-is _ _ _ _ _ _ _ (c .before .before .before .before .before .before .pre .0 .0) (c .before .before .before .before .before .before .pre .1 .1 .0) (λ s ds k. rw (← r .first .is, c .before .enum-told .given .1) refl))
 
 enum-known-g : tie.Need-enum-known-g
 enum-known-g c = search needs
@@ -41,7 +41,7 @@ returns-2 : tie.Need-returns-2
 unfolding read-fields _>>=_ go-on
 returns-2 c =
     let r = c .before .before .before .before .before .before .read-numbers .ensures _ _ _ _ byte-wide byte-wide in
-    rw (c .plain2 .ensures) (malformed-is _ _ _ _ _ _ _ _ (c .before .before .before .before .before .before .before .before .before .pre .0 .0) (c .before .before .before .before .before .before .before .before .before .pre .1 .1 .0) (λ s ds k. rw (← r .first .is, c .before .before .before .before .f .given .1, ← r .second .is, c .before .enum-told2 .given .1) refl))
+    rw (c .plain2 .ensures) (malformed-is _ _ _ _ _ _ _ (c .before .before .before .before .before .before .before .before .before .pre .0 .0) (c .before .before .before .before .before .before .before .before .before .pre .1 .1 .0) (λ s ds k. rw (← r .first .is, c .before .before .before .before .f .given .1, ← r .second .is, c .before .enum-told2 .given .1) refl))
 
 mark-of-requires : tie.Need-mark-of-requires
 mark-of-requires c κs = search needs

@@ -2,10 +2,10 @@
 use Rattle.reader.specs.Taken.{Arities}
 use Prim.Native.Nat.{_-_}
 use mathlib.Core.Path.{refl, sym, _∙_, subst}
-use Rattle.record.proofs.Pairs.{Pairs-go, pairs-none, pairs-cut, pairs-stop, pairs-turn, pairs-all}
 use native.Mathlib.Omega.{arith}
-use borrow.Author.Needs.{needs}
 use Rattle.reader.specs.Fields.{u32-wide}
+use Rattle.record.proofs.Pairs.{Pairs-go, pairs-none, pairs-cut, pairs-stop, pairs-turn, pairs-all}
+use borrow.Author.Needs.{needs}
 use Rattle.record.proofs.read_pairs.Statement.{statement}
 use Rattle.record.proofs.read_pairs.Tie as tie
 
@@ -34,22 +34,35 @@ same-length : tie.Need-same-length Inv-loop μ-loop
 same-length c = c .before .before .before .before .before .loop .inv .lay .size ∙ sym (c .before .before .before .before .before .before .before .before .pre .0 .0 .size)
 
 returns : tie.Need-returns Inv-loop μ-loop
-returns c = rw (c .plain .ensures) (pairs-cut _ _ _ _ _ _ _ _ _ _ _ _ _ _ (c .before .before .before .before .before .loop .inv) (c .before .before .before .before .loop-test .taken) (rw (c .before .enum-told .given .1) at (c .before .before .before .read-number .ensures _ _ u32-wide .is)))
+returns c =
+    let e = rw (c .before .enum-told .given .1) at (c .before .before .before .read-number .ensures _ _ u32-wide .is) in
+    rw (c .plain .ensures) (pairs-cut _ _ _ _ _ _ _ _ _ _ _ _ _ _ (c .before .before .before .before .before .loop .inv) (c .before .before .before .before .loop-test .taken) e)
 
 read-type-requires : tie.Need-read-type-requires Inv-loop μ-loop
-read-type-requires c κs = ((c .before .before .before .before .before .before .loop .inv .lay, subst Arities (sym (c .before .before .before .before .before .before .loop .inv .structs)) (c .before .before .before .before .before .before .before .before .before .pre .0 .1)), (c .before .before .before .before .before .before .before .before .before .pre .1 .0, (c .before .before .before .before .read-number .ensures _ _ u32-wide .within, c .before .before .before .before .before .before .before .before .before .pre .1 .1 .1 .0)))
+read-type-requires c κs =
+    let p = c .before .before .before .before .before .before .before .before .before .pre in
+    let g = c .before .before .before .before .before .before .loop .inv in
+    ((g .lay, subst Arities (sym (g .structs)) (p .0 .1)), (p .1 .0, (c .before .before .before .before .read-number .ensures _ _ u32-wide .within, p .1 .1 .1 .0)))
 
 stops-requires : tie.Need-stops-requires Inv-loop μ-loop
 stops-requires c κs = search needs
+
+whole-of-requires : tie.Need-whole-of-requires Inv-loop μ-loop
+whole-of-requires c κs = search needs
 
 plain-requires-2 : tie.Need-plain-requires-2 Inv-loop μ-loop
 plain-requires-2 c κs = search needs
 
 same-length-2 : tie.Need-same-length-2 Inv-loop μ-loop
-same-length-2 c = c .before .before .before .before .before .before .read-type .ensures .lay .size ∙ sym (c .before .before .before .before .before .before .before .before .before .before .before .before .before .before .before .before .pre .0 .0 .size)
+same-length-2 c = c .before .before .before .before .before .before .before .read-type .ensures .lay .size ∙ sym (c .before .before .before .before .before .before .before .before .before .before .before .before .before .before .before .before .before .pre .0 .0 .size)
 
 returns-2 : tie.Need-returns-2 Inv-loop μ-loop
-returns-2 c = rw (c .plain2 .ensures) (pairs-stop _ _ _ _ _ _ _ _ _ _ _ _ _ _ (c .before .before .before .before .before .before .before .before .before .before .before .before .before .loop .inv) _ _ (rw (c .before .before .before .before .before .before .before .before .before .l .given .1) at (c .before .before .before .before .before .before .before .before .before .before .before .read-number .ensures _ _ u32-wide .is)) _ _ (c .before .before .before .before .before .before .read-type .ensures) (c .before .before .before .before .before .before .before .before .before .before .before .before .loop-test .taken) (sym (c .before .before .stops .ensures) ∙ c .before .if1 .taken))
+returns-2 c =
+    let g = c .before .before .before .before .before .before .before .before .before .before .before .before .before .before .loop .inv in
+    let id = rw (c .before .before .before .before .before .before .before .before .before .before .l .given .1) at (c .before .before .before .before .before .before .before .before .before .before .before .before .read-number .ensures _ _ u32-wide .is) in
+    let t = c .before .before .before .before .before .before .before .read-type .ensures in
+    let e = sym (c .before .before .before .stops .ensures) ∙ c .before .before .if1 .taken in
+    rw (c .plain2 .ensures, c .before .whole-of .ensures) (pairs-stop _ _ _ _ _ _ _ _ _ _ _ _ _ _ g _ _ id _ _ t (c .before .before .before .before .before .before .before .before .before .before .before .before .before .loop-test .taken) e)
 
 no-space-requires : tie.Need-no-space-requires Inv-loop μ-loop
 no-space-requires c κs = search needs
@@ -76,19 +89,38 @@ loop-less : tie.Need-loop-less Inv-loop μ-loop
 loop-less c = omega arith
 
 loop-again : tie.Need-loop-again Inv-loop μ-loop
-loop-again c = rw (c .before .no-space .ensures, c .node-of .ensures) (pairs-turn _ _ _ _ _ _ _ _ _ _ _ _ _ _ (c .before .before .before .before .before .before .before .before .before .before .before .before .before .before .loop .inv) _ _ (rw (c .before .before .before .before .before .before .before .before .before .before .l .given .1) at (c .before .before .before .before .before .before .before .before .before .before .before .before .read-number .ensures _ _ u32-wide .is)) _ _ (c .before .before .before .before .before .before .before .read-type .ensures) (c .before .before .before .before .before .before .before .before .before .before .before .before .before .loop-test .taken) (c .before .before .before .before .before .before .before .before .before .before .before .before .before .before .before .before .before .pre .1 .1 .1 .1) (sym (c .before .before .before .stops .ensures) ∙ c .before .before .if1 .left))
+loop-again c =
+    let g = c .before .before .before .before .before .before .before .before .before .before .before .before .before .before .loop .inv in
+    let id = rw (c .before .before .before .before .before .before .before .before .before .before .l .given .1) at (c .before .before .before .before .before .before .before .before .before .before .before .before .read-number .ensures _ _ u32-wide .is) in
+    let t = c .before .before .before .before .before .before .before .read-type .ensures in
+    let e = sym (c .before .before .before .stops .ensures) ∙ c .before .before .if1 .left in
+    let few = c .before .before .before .before .before .before .before .before .before .before .before .before .before .before .before .before .before .pre .1 .1 .1 .1 in
+    rw (c .before .no-space .ensures, c .node-of .ensures) (pairs-turn _ _ _ _ _ _ _ _ _ _ _ _ _ _ g _ _ id _ _ t (c .before .before .before .before .before .before .before .before .before .before .before .before .before .loop-test .taken) few e)
 
 read-type-requires-2 : tie.Need-read-type-requires-2 Inv-loop μ-loop
-read-type-requires-2 c κs = ((c .before .before .loop .inv .lay, subst Arities (sym (c .before .before .loop .inv .structs)) (c .before .before .before .before .before .pre .0 .1)), (c .before .before .before .before .before .pre .1 .0, (c .before .before .loop .inv .within, c .before .before .before .before .before .pre .1 .1 .1 .0)))
+read-type-requires-2 c κs =
+    let p = c .before .before .before .before .before .pre in
+    let g = c .before .before .loop .inv in
+    ((g .lay, subst Arities (sym (g .structs)) (p .0 .1)), (p .1 .0, (g .within, p .1 .1 .1 .0)))
+
+node-of-requires-2 : tie.Need-node-of-requires-2 Inv-loop μ-loop
+node-of-requires-2 c κs = search needs
+
+whole-of-requires-2 : tie.Need-whole-of-requires-2 Inv-loop μ-loop
+whole-of-requires-2 c κs = search needs
 
 paired-requires : tie.Need-paired-requires Inv-loop μ-loop
 paired-requires c κs = search needs
 
 same-length-3 : tie.Need-same-length-3 Inv-loop μ-loop
-same-length-3 c = c .before .before .before .before .read-type2 .ensures .lay .size ∙ sym (c .before .before .before .before .before .before .before .before .before .before .pre .0 .0 .size)
+same-length-3 c = c .before .before .before .before .before .before .read-type2 .ensures .lay .size ∙ sym (c .before .before .before .before .before .before .before .before .before .before .before .before .pre .0 .0 .size)
 
 returns-3 : tie.Need-returns-3 Inv-loop μ-loop
-returns-3 c = rw (c .paired .ensures) (pairs-all _ _ _ _ _ _ _ _ _ _ _ _ _ _ (c .before .before .before .before .before .before .before .loop .inv) (c .before .before .before .before .before .before .loop-test .left) (c .before .before .before .before .before .before .before .before .before .before .pre .1 .1 .1 .1) _ _ (c .before .before .before .before .read-type2 .ensures))
+returns-3 c =
+    let g = c .before .before .before .before .before .before .before .before .before .loop .inv in
+    let few = c .before .before .before .before .before .before .before .before .before .before .before .before .pre .1 .1 .1 .1 in
+    rw (c .paired .ensures, c .before .whole-of2 .ensures, c .before .before .node-of2 .ensures)
+    (pairs-all _ _ _ _ _ _ _ _ _ _ _ _ _ _ g (c .before .before .before .before .before .before .before .before .loop-test .left) few _ _ (c .before .before .before .before .before .before .read-type2 .ensures))
 
 pub read-pairs-spec : {M : Type 1} → statement M
 read-pairs-spec =
@@ -105,6 +137,7 @@ read-pairs-spec =
     returns
     read-type-requires
     stops-requires
+    whole-of-requires
     plain-requires-2
     same-length-2
     returns-2
@@ -118,6 +151,8 @@ read-pairs-spec =
     loop-less
     loop-again
     read-type-requires-2
+    node-of-requires-2
+    whole-of-requires-2
     paired-requires
     same-length-3
     returns-3)

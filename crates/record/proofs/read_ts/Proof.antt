@@ -40,7 +40,7 @@ returns-2 : tie.Need-returns-2
 unfolding read-TS _>>=_ go-on
 returns-2 c =
     let n = c .before .before .before .byte-to .ensures _ _ _ _ (c .before .before .before .before .read-number .ensures _ _ byte-wide) in
-    rw (c .plain .ensures) (malformed-is _ _ _ _ _ _ _ _ (c .before .before .before .before .before .before .before .pre .0 .0) (c .before .before .before .before .before .before .before .pre .1 .1 .0) (λ s ds k. rw (← n .is, c .before .enum-told .given .1) refl))
+    rw (c .plain .ensures) (malformed-is _ _ _ _ _ _ _ (c .before .before .before .before .before .before .before .pre .0 .0) (c .before .before .before .before .before .before .before .pre .1 .1 .0) (λ s ds k. rw (← n .is, c .before .enum-told .given .1) refl))
 
 pub read-ts-spec : {M : Type 1} → statement M
 read-ts-spec =

@@ -1,42 +1,70 @@
 -- `step::answer_placed` meets its contract. Assumes nothing.
-use Rattle.step.specs.declared.Call.the-variants.{Declare, Solve, Run}
-use mathlib.Core.Path.{sym, _∙_}
-use Rattle.step.proofs.Marks.{as-called}
+use Rattle.dispatch.proofs.Arms.{narrow}
 use Rattle.step.proofs.Replying.{begun-above, run-bytes, run-still, reply-run, solve-saved, solve-sound, reply-solved}
 use borrow.Author.Needs.{needs}
 use Rattle.step.proofs.answer_placed.Statement.{statement}
 use Rattle.step.proofs.answer_placed.Tie as tie
 
-call-of-requires : tie.Need-call-of-requires
-call-of-requires c κs = search needs
+enum-known-what : tie.Need-enum-known-what
+enum-known-what c = search needs
+
+answer-declared-requires : tie.Need-answer-declared-requires
+answer-declared-requires c κs =
+    let p = c .before .before .before .before .before .before .before .before .before .before .pre in
+    let e = c .before .before .before .before .before .what .given .1 in
+    let i = rw e at (p .0 .1 .0) in
+    ((p .0 .0, (i .0, (i .1, p .0 .1 .1))), rw e at (p .1))
 
 enum-told : tie.Need-enum-told
 enum-told c = search needs
 
-answer-declared-requires : tie.Need-answer-declared-requires
-answer-declared-requires c κs = let e = as-called (c .before .before .before .before .before .before .before .before .before .before .args .f) (c .before .before .before .before .before .before .before .before .before .before .args .t) Declare (sym (c .before .before .before .before .before .before .call-of .ensures) ∙ c .before .before .before .before .enum-told .given .1) (c .before .before .before .before .before .before .before .before .before .before .args .u .vars) (c .before .before .before .before .before .before .before .before .before .before .args .u .nodes) in let i = e .1 (c .before .before .before .before .before .before .before .before .before .before .pre .0 .1 .0) in ((c .before .before .before .before .before .before .before .before .before .before .pre .0 .0, (i .0, (i .1, c .before .before .before .before .before .before .before .before .before .before .pre .0 .1 .1))), rw (e .0) at (c .before .before .before .before .before .before .before .before .before .before .pre .1))
-
-enum-told-2 : tie.Need-enum-told-2
-enum-told-2 c = search needs
-
 solve-requires : tie.Need-solve-requires
 solve-requires c κs =
-    let a = c .before .before .before .before .before .before .before .before .before .args in
-    let call-of = c .before .before .before .before .before .call-of in
-    let enum-told2 = c .before .before .before .enum-told2 in
-    let p = c .before .before .before .before .before .before .before .before .before .pre in
-    let e = as-called (a .f) (a .t) Solve (sym (call-of .ensures) ∙ enum-told2 .given .1) (a .u .vars) (a .u .nodes) in
-    let b = (rw e at (p .1)) .from in
+    let p = c .before .before .before .before .before .before .before .before .pre in
+    let b = (rw (c .before .before .before .enum-told .given .1) at (p .1)) .from in
     ((p .0 .0, (solve-saved b (p .0 .0), p .0 .1 .1)), solve-sound b)
 
-enum-told-3 : tie.Need-enum-told-3
-enum-told-3 c = search needs
+enum-known-what-2 : tie.Need-enum-known-what-2
+enum-known-what-2 c = search needs
 
-run-fields-requires : tie.Need-run-fields-requires
-run-fields-requires c κs = (c .before .before .before .before .before .before .before .before .pre .0 .0, (as-called (c .before .before .before .before .before .before .before .before .args .f) (c .before .before .before .before .before .before .before .before .args .t) Run (sym (c .before .before .before .before .call-of .ensures) ∙ c .before .before .enum-told3 .given .1) (c .before .before .before .before .before .before .before .before .args .u .vars) (c .before .before .before .before .before .before .before .before .args .u .nodes), c .before .before .before .before .before .before .before .before .pre .0 .1 .0))
+run-bind-requires : tie.Need-run-bind-requires
+run-bind-requires c κs = (c .before .before .before .before .before .before .before .before .pre .0 .0, rw (c .before .before .before .what2 .given .1) at (c .before .before .before .before .before .before .before .before .pre .0 .1 .0))
 
 answer-of-requires : tie.Need-answer-of-requires
-answer-of-requires c κs = let d = c .before .before .before .before .run-fields .ensures in ((d .lay, (begun-above (c .before .before .before .before .before .before .before .before .before .before .before .before .before .pre .1) _ _ (d .grown), c .before .before .before .before .before .before .before .before .before .before .before .before .before .pre .0 .1 .1 .0)), ((d .tells, (run-bytes (c .before .before .before .before .before .before .before .before .before .before .before .before .before .pre .1 .from) d, c .before .before .before .before .before .before .before .before .before .before .before .before .before .pre .0 .1 .1 .1)), run-still (c .before .before .before .before .before .before .before .before .before .before .before .before .before .pre .1 .from) d))
+answer-of-requires c κs =
+    let p = c .before .before .before .before .before .before .before .before .before .before .before .before .before .pre in
+    let d = c .before .before .before .before .run-bind .ensures in
+    let b = rw (c .before .before .before .before .before .before .before .before .what2 .given .1) at (p .1) in
+    let above = begun-above (p .1) _ _ (d .grown) in
+    ((d .lay, (above, p .0 .1 .1 .0)), ((d .tells, (run-bytes (b .from) (c .before .before .before .before .run-bind .ensures), p .0 .1 .1 .1)), run-still (b .from) (c .before .before .before .before .run-bind .ensures)))
+
+enum-known-what-3 : tie.Need-enum-known-what-3
+enum-known-what-3 c = search needs
+
+run-look-requires : tie.Need-run-look-requires
+run-look-requires c κs = (c .before .before .before .before .before .before .before .before .before .pre .0 .0, rw (c .before .before .before .before .what3 .given .1) at (c .before .before .before .before .before .before .before .before .before .pre .0 .1 .0))
+
+answer-of-requires-2 : tie.Need-answer-of-requires-2
+answer-of-requires-2 c κs =
+    let p = c .before .before .before .before .before .before .before .before .before .before .before .before .before .before .pre in
+    let d = c .before .before .before .before .run-look .ensures in
+    let b = rw (c .before .before .before .before .before .before .before .before .before .what3 .given .1) at (p .1) in
+    let above = begun-above (p .1) _ _ (d .grown) in
+    ((d .lay, (above, p .0 .1 .1 .0)), ((d .tells, (run-bytes (b .from) (narrow (c .before .before .before .before .run-look .ensures)), p .0 .1 .1 .1)), run-still (b .from) (narrow (c .before .before .before .before .run-look .ensures))))
+
+enum-known-what-4 : tie.Need-enum-known-what-4
+enum-known-what-4 c = search needs
+
+run-add-requires : tie.Need-run-add-requires
+run-add-requires c κs = c .before .before .before .before .before .before .before .pre .0 .0
+
+answer-of-requires-3 : tie.Need-answer-of-requires-3
+answer-of-requires-3 c κs =
+    let p = c .before .before .before .before .before .before .before .before .before .before .before .before .pre in
+    let d = c .before .before .before .before .run-add .ensures in
+    let b = rw (c .before .before .before .before .before .before .before .what4 .given .1) at (p .1) in
+    let above = begun-above (p .1) _ _ (d .grown) in
+    ((d .lay, (above, p .0 .1 .1 .0)), ((d .tells, (run-bytes (b .from) (narrow (c .before .before .before .before .run-add .ensures)), p .0 .1 .1 .1)), run-still (b .from) (narrow (c .before .before .before .before .run-add .ensures))))
 
 same-length : tie.Need-same-length
 same-length c = search needs
@@ -45,7 +73,7 @@ same-length-2 : tie.Need-same-length-2
 same-length-2 c = search needs
 
 returns : tie.Need-returns
-returns c = λ w₀ x b. c .before .before .before .before .answer-declared .ensures w₀ x (rw (as-called (c .before .before .before .before .before .before .before .before .before .before .before .before .before .before .before .args .f) (c .before .before .before .before .before .before .before .before .before .before .before .before .before .before .before .args .t) Declare (sym (c .before .before .before .before .before .before .before .before .before .before .before .call-of .ensures) ∙ c .before .before .before .before .before .before .before .before .before .enum-told .given .1) (c .before .before .before .before .before .before .before .before .before .before .before .before .before .before .before .args .u .vars) (c .before .before .before .before .before .before .before .before .before .before .before .before .before .before .before .args .u .nodes) .0) at b)
+returns c = λ w₀ x b. c .before .before .before .before .answer-declared .ensures w₀ x (rw (c .before .before .before .before .before .before .before .before .before .before .what .given .1) at b)
 
 same-length-3 : tie.Need-same-length-3
 same-length-3 c = search needs
@@ -54,13 +82,7 @@ same-length-4 : tie.Need-same-length-4
 same-length-4 c = search needs
 
 returns-2 : tie.Need-returns-2
-returns-2 c =
-    let a = c .before .before .before .before .before .before .before .before .before .before .before .before .before .before .args in
-    let call-of = c .before .before .before .before .before .before .before .before .before .before .call-of in
-    let enum-told2 = c .before .before .before .before .before .before .before .before .enum-told2 in
-    let solve = c .before .before .before .before .solve in
-    let e = as-called (a .f) (a .t) Solve (sym (call-of .ensures) ∙ enum-told2 .given .1) (a .u .vars) (a .u .nodes) in
-    λ w₀ x b. reply-solved (rw e at b) (solve .ensures)
+returns-2 c = λ w₀ x b. reply-solved (rw (c .before .before .before .before .before .before .before .before .enum-told .given .1) at b) (c .before .before .before .before .solve .ensures)
 
 same-length-5 : tie.Need-same-length-5
 same-length-5 c = search needs
@@ -69,20 +91,43 @@ same-length-6 : tie.Need-same-length-6
 same-length-6 c = search needs
 
 returns-3 : tie.Need-returns-3
-returns-3 c = λ w₀ x b. reply-run b (c .before .before .before .before .before .before .before .before .before .run-fields .ensures) (c .before .before .before .before .answer-of .ensures)
+returns-3 c = λ w₀ x b. reply-run (rw (c .before .before .before .before .before .before .before .before .before .before .before .before .before .what2 .given .1) at b) (c .before .before .before .before .before .before .before .before .before .run-bind .ensures) (c .before .before .before .before .answer-of .ensures)
+
+same-length-7 : tie.Need-same-length-7
+same-length-7 c = search needs
+
+same-length-8 : tie.Need-same-length-8
+same-length-8 c = search needs
+
+returns-4 : tie.Need-returns-4
+returns-4 c = λ w₀ x b. reply-run (rw (c .before .before .before .before .before .before .before .before .before .before .before .before .before .before .what3 .given .1) at b) (narrow (c .before .before .before .before .before .before .before .before .before .run-look .ensures)) (c .before .before .before .before .answer-of2 .ensures)
+
+same-length-9 : tie.Need-same-length-9
+same-length-9 c = search needs
+
+same-length-10 : tie.Need-same-length-10
+same-length-10 c = search needs
+
+returns-5 : tie.Need-returns-5
+returns-5 c = λ w₀ x b. reply-run (rw (c .before .before .before .before .before .before .before .before .before .before .before .before .what4 .given .1) at b) (narrow (c .before .before .before .before .before .before .before .before .before .run-add .ensures)) (c .before .before .before .before .answer-of3 .ensures)
 
 pub answer-placed-spec : {M : Type 1} → statement M
 answer-placed-spec =
     tie.close
     (tie.spec
-    call-of-requires
-    enum-told
+    enum-known-what
     answer-declared-requires
-    enum-told-2
+    enum-told
     solve-requires
-    enum-told-3
-    run-fields-requires
+    enum-known-what-2
+    run-bind-requires
     answer-of-requires
+    enum-known-what-3
+    run-look-requires
+    answer-of-requires-2
+    enum-known-what-4
+    run-add-requires
+    answer-of-requires-3
     same-length
     same-length-2
     returns
@@ -91,4 +136,10 @@ answer-placed-spec =
     returns-2
     same-length-5
     same-length-6
-    returns-3)
+    returns-3
+    same-length-7
+    same-length-8
+    returns-4
+    same-length-9
+    same-length-10
+    returns-5)

@@ -1,9 +1,9 @@
 -- `step::step_trusted` meets its contract. Assumes nothing.
-use Rattle.reader.specs.declared.Part.the-variants.{Malformed, Unknown, Doubled}
+use mathlib.Core.Path.{refl, _∙_}
+use native.Mathlib.Omega.{arith}
 use Rattle.definition.specs.Types.{malformed, unknown-name, doubled-reference}
 use Rattle.definition.specs.Step.{number-of-refusal}
-use native.Mathlib.Omega.{arith}
-use mathlib.Core.Path.{refl, _∙_}
+use Rattle.fields.specs.declared.Whole.the-variants.{Malformed, Unknown, Doubled}
 use Rattle.answer.proofs.Calls.{grown-above}
 use Rattle.step.proofs.Stepping.{reading-arities, steps-stopped, steps-full, steps-over, steps-run, begins, placed-in}
 use borrow.Author.Needs.{needs}
@@ -16,9 +16,6 @@ save-vars-requires c κs = search needs
 read-record-requires : tie.Need-read-record-requires
 read-record-requires c κs = (c .before .before .before .before .before .before .before .before .before .before .pre .0 .0 .lay, (reading-arities (c .before .before .before .before .before .before .before .before .before .before .pre .0 .0), c .before .before .before .before .before .before .before .before .before .before .pre .0 .1 .1 .0))
 
-rows-after-requires : tie.Need-rows-after-requires
-rows-after-requires c κs = search needs
-
 left-over-requires : tie.Need-left-over-requires
 left-over-requires c κs = search needs
 
@@ -26,7 +23,9 @@ enum-told : tie.Need-enum-told
 enum-told c = search needs
 
 refuse-requires : tie.Need-refuse-requires
-refuse-requires c κs = (c .before .before .before .before .before .before .before .before .before .read-record .ensures .lay, (grown-above _ _ _ _ (c .before .before .before .before .before .before .before .before .before .read-record .ensures .grown), omega (arith, c .before .before .before .before .before .before .before .before .before .before .before .before .saved .given, c .before .before .before .before .before .before .before .before .before .before .before .before .before .before .before .before .before .before .before .before .pre .0 .1 .1 .1 .0)))
+refuse-requires c κs =
+    let r = c .before .before .before .before .before .before .before .before .read-record .ensures in
+    (r .lay, (grown-above _ _ _ _ (r .grown), omega (arith, c .before .before .before .before .before .before .before .before .before .before .before .saved .given, c .before .before .before .before .before .before .before .before .before .before .before .before .before .before .before .before .before .before .before .pre .0 .1 .1 .1 .0)))
 
 with-next-requires : tie.Need-with-next-requires
 with-next-requires c κs = search needs
@@ -35,7 +34,9 @@ enum-told-2 : tie.Need-enum-told-2
 enum-told-2 c = search needs
 
 refuse-requires-2 : tie.Need-refuse-requires-2
-refuse-requires-2 c κs = (c .before .before .before .before .before .before .before .before .before .read-record .ensures .lay, (grown-above _ _ _ _ (c .before .before .before .before .before .before .before .before .before .read-record .ensures .grown), omega (arith, c .before .before .before .before .before .before .before .before .before .before .before .before .saved .given, c .before .before .before .before .before .before .before .before .before .before .before .before .before .before .before .before .before .before .before .before .pre .0 .1 .1 .1 .0)))
+refuse-requires-2 c κs =
+    let r = c .before .before .before .before .before .before .before .before .read-record .ensures in
+    (r .lay, (grown-above _ _ _ _ (r .grown), omega (arith, c .before .before .before .before .before .before .before .before .before .before .before .saved .given, c .before .before .before .before .before .before .before .before .before .before .before .before .before .before .before .before .before .before .before .pre .0 .1 .1 .1 .0)))
 
 with-next-requires-2 : tie.Need-with-next-requires-2
 with-next-requires-2 c κs = search needs
@@ -44,7 +45,9 @@ enum-told-3 : tie.Need-enum-told-3
 enum-told-3 c = search needs
 
 refuse-requires-3 : tie.Need-refuse-requires-3
-refuse-requires-3 c κs = (c .before .before .before .before .before .before .before .before .before .read-record .ensures .lay, (grown-above _ _ _ _ (c .before .before .before .before .before .before .before .before .before .read-record .ensures .grown), omega (arith, c .before .before .before .before .before .before .before .before .before .before .before .before .saved .given, c .before .before .before .before .before .before .before .before .before .before .before .before .before .before .before .before .before .before .before .before .pre .0 .1 .1 .1 .0)))
+refuse-requires-3 c κs =
+    let r = c .before .before .before .before .before .before .before .before .read-record .ensures in
+    (r .lay, (grown-above _ _ _ _ (r .grown), omega (arith, c .before .before .before .before .before .before .before .before .before .before .before .saved .given, c .before .before .before .before .before .before .before .before .before .before .before .before .before .before .before .before .before .before .before .pre .0 .1 .1 .1 .0)))
 
 with-next-requires-3 : tie.Need-with-next-requires-3
 with-next-requires-3 c κs = search needs
@@ -56,16 +59,20 @@ seven-or-five-requires : tie.Need-seven-or-five-requires
 seven-or-five-requires c κs = search needs
 
 refuse-requires-4 : tie.Need-refuse-requires-4
-refuse-requires-4 c κs = (c .before .before .before .before .before .before .before .before .before .before .read-record .ensures .lay, (grown-above _ _ _ _ (c .before .before .before .before .before .before .before .before .before .before .read-record .ensures .grown), omega (arith, c .before .before .before .before .before .before .before .before .before .before .before .before .before .saved .given, c .before .before .before .before .before .before .before .before .before .before .before .before .before .before .before .before .before .before .before .before .before .pre .0 .1 .1 .1 .0)))
+refuse-requires-4 c κs =
+    let r = c .before .before .before .before .before .before .before .before .before .read-record .ensures in
+    (r .lay, (grown-above _ _ _ _ (r .grown), omega (arith, c .before .before .before .before .before .before .before .before .before .before .before .before .saved .given, c .before .before .before .before .before .before .before .before .before .before .before .before .before .before .before .before .before .before .before .before .pre .0 .1 .1 .1 .0)))
 
 with-next-requires-4 : tie.Need-with-next-requires-4
 with-next-requires-4 c κs = search needs
 
-enum-known-p : tie.Need-enum-known-p
-enum-known-p c = search needs
+enum-known-read : tie.Need-enum-known-read
+enum-known-read c = search needs
 
 refuse-requires-5 : tie.Need-refuse-requires-5
-refuse-requires-5 c κs = (c .before .before .before .before .before .before .before .before .before .before .before .read-record .ensures .lay, (grown-above _ _ _ _ (c .before .before .before .before .before .before .before .before .before .before .before .read-record .ensures .grown), omega (arith, c .before .before .before .before .before .before .before .before .before .before .before .before .before .before .saved .given, c .before .before .before .before .before .before .before .before .before .before .before .before .before .before .before .before .before .before .before .before .before .before .pre .0 .1 .1 .1 .0)))
+refuse-requires-5 c κs =
+    let r = c .before .before .before .before .before .before .before .before .before .before .read-record .ensures in
+    (r .lay, (grown-above _ _ _ _ (r .grown), omega (arith, c .before .before .before .before .before .before .before .before .before .before .before .before .before .saved .given, c .before .before .before .before .before .before .before .before .before .before .before .before .before .before .before .before .before .before .before .before .before .pre .0 .1 .1 .1 .0)))
 
 with-next-requires-5 : tie.Need-with-next-requires-5
 with-next-requires-5 c κs = search needs
@@ -74,13 +81,28 @@ same-length : tie.Need-same-length
 same-length c = search needs
 
 same-length-2 : tie.Need-same-length-2
-same-length-2 c = c .before .before .before .before .before .before .before .before .before .before .before .before .before .before .before .before .before .before .saved .given
+same-length-2 c = c .before .before .before .before .before .before .before .before .before .before .before .before .before .before .before .before .before .saved .given
 
 returns : tie.Need-returns
-returns c = steps-over _ _ (c .before .before .before .before .before .before .before .before .before .before .before .before .before .before .before .before .before .before .before .before .before .before .before .before .before .before .pre .0 .0) (c .before .before .before .before .before .before .before .before .before .before .before .before .before .before .before .before .before .before .before .before .before .before .before .before .before .before .pre .0 .1 .0) (c .before .before .before .before .before .before .before .before .before .before .before .before .before .before .before .before .before .before .before .save-vars .ensures) (c .before .before .before .before .before .before .before .before .before .before .before .before .before .before .before .read-record .ensures) (c .before .before .before .before .before .before .before .before .before .before .before .rows-after .ensures) _ _ (c .before .before .before .before .before .before .before .before .before .before .left-over .ensures) _ (c .before .before .before .before .before .before .before .before .p .given .1) (c .before .before .before .before .before .before .if1 .taken) (c .before .before .before .refuse5 .ensures) _ (c .with-next5 .ensures)
+returns c =
+    let p = c .before .before .before .before .before .before .before .before .before .before .before .before .before .before .before .before .before .before .before .before .before .before .before .before .before .pre in
+    let v = c .before .before .before .before .before .before .before .before .before .before .before .before .before .before .before .before .before .before .save-vars .ensures in
+    let r = c .before .before .before .before .before .before .before .before .before .before .before .before .before .before .read-record .ensures in
+    let o = c .before .before .before .before .before .before .before .before .before .before .left-over .ensures in
+    steps-over _ _ (p .0 .0) (p .0 .1 .0) v r _ _ o _ (c .before .before .before .before .before .before .before .before .read .given .1) (c .before .before .before .before .before .before .if1 .taken) (c .before .before .before .refuse5 .ensures) _ (c .with-next5 .ensures)
+
+rows-after-requires : tie.Need-rows-after-requires
+rows-after-requires c κs = search needs
 
 answer-placed-requires : tie.Need-answer-placed-requires
-answer-placed-requires c κs = ((c .before .before .before .before .before .before .before .before .before .before .before .before .before .read-record .ensures .lay, (placed-in _ _ (c .before .before .before .before .before .before .before .before .before .before .before .before .before .before .before .before .before .before .before .before .before .before .before .before .pre .0 .0) (c .before .before .before .before .before .before .before .before .before .before .before .before .before .before .before .before .before .before .before .before .before .before .before .before .pre .0 .1 .0) (c .before .before .before .before .before .before .before .before .before .before .before .before .before .before .before .before .before .save-vars .ensures) (c .before .before .before .before .before .before .before .before .before .before .before .before .before .read-record .ensures) (c .before .before .before .before .before .before .before .before .before .rows-after .ensures) (c .before .before .before .before .before .before .before .before .before .before .before .before .before .before .before .before .before .before .before .before .before .before .before .before .args .whole) _ (c .before .before .before .before .before .before .before .before .left-over .ensures) _ (c .before .before .before .before .before .before .p .given .1), (omega (arith, c .before .before .before .before .before .before .before .before .before .before .before .before .before .before .before .before .saved .given, c .before .before .before .before .before .before .before .before .before .before .before .before .before .before .before .before .before .before .before .before .before .before .before .before .pre .0 .1 .1 .1 .0), c .before .before .before .before .before .before .before .before .before .before .before .before .before .before .before .before .before .before .before .before .before .before .before .before .pre .0 .1 .1 .1 .1))), begins _ _ (c .before .before .before .before .before .before .before .before .before .before .before .before .before .before .before .before .before .before .before .before .before .before .before .before .pre .0 .0) (c .before .before .before .before .before .before .before .before .before .before .before .before .before .before .before .before .before .before .before .before .before .before .before .before .pre .0 .1 .0) (c .before .before .before .before .before .before .before .before .before .before .before .before .before .before .before .before .before .save-vars .ensures) (c .before .before .before .before .before .before .before .before .before .before .before .before .before .read-record .ensures) (c .before .before .before .before .before .before .before .before .before .rows-after .ensures) (c .before .before .before .before .before .before .before .before .before .before .before .before .before .before .before .before .before .before .before .before .before .before .before .before .args .whole) _ (c .before .before .before .before .before .before .before .before .left-over .ensures) _ (c .before .before .before .before .before .before .p .given .1))
+answer-placed-requires c κs =
+    let p = c .before .before .before .before .before .before .before .before .before .before .before .before .before .before .before .before .before .before .before .before .before .before .before .before .pre in
+    let v = c .before .before .before .before .before .before .before .before .before .before .before .before .before .before .before .before .before .save-vars .ensures in
+    let r = c .before .before .before .before .before .before .before .before .before .before .before .before .before .read-record .ensures in
+    let o = c .before .before .before .before .before .before .before .before .before .left-over .ensures in
+    let i = placed-in _ _ (p .0 .0) (p .0 .1 .0) v r (c .before .before .before .before .before .before .before .before .before .before .before .before .before .before .before .before .before .before .before .before .before .before .before .before .args .whole) _ o _ (c .before .before .before .before .before .before .before .read .given .1) in
+    let b = begins _ _ (p .0 .0) (p .0 .1 .0) v r (c .before .before .before .before .before .before .before .before .before .before .before .before .before .before .before .before .before .before .before .before .before .before .before .before .args .whole) _ o _ (c .before .before .before .before .before .before .before .read .given .1) in
+    ((r .lay, (i, (omega (arith, c .before .before .before .before .before .before .before .before .before .before .before .before .before .before .before .before .saved .given, p .0 .1 .1 .1 .0), p .0 .1 .1 .1 .1))), b)
 
 with-next-requires-6 : tie.Need-with-next-requires-6
 with-next-requires-6 c κs = search needs
@@ -89,40 +111,57 @@ same-length-3 : tie.Need-same-length-3
 same-length-3 c = search needs
 
 same-length-4 : tie.Need-same-length-4
-same-length-4 c = c .before .before .before .before .before .before .before .before .before .before .before .before .before .before .before .before .saved .given
+same-length-4 c = c .before .before .before .before .before .before .before .before .before .before .before .before .before .before .before .saved .given
 
 returns-2 : tie.Need-returns-2
 unfolding number-of-refusal
-returns-2 c = steps-stopped _ _ (c .before .before .before .before .before .before .before .before .before .before .before .before .before .before .before .before .before .before .before .before .before .before .before .before .pre .0 .0) (c .before .before .before .before .before .before .before .before .before .before .before .before .before .before .before .before .before .before .before .before .before .before .before .before .pre .0 .1 .0) (c .before .before .before .before .before .before .before .before .before .before .before .before .before .before .before .before .before .save-vars .ensures) (c .before .before .before .before .before .before .before .before .before .before .before .before .before .read-record .ensures) (c .before .before .before .before .before .before .before .before .before .rows-after .ensures) _ Malformed malformed (λ g t l. refl) (c .before .before .before .before .before .before .enum-told .given .1) (c .before .before .before .before .before .before .before .before .before .before .before .before .before .before .before .before .before .before .before .before .before .before .before .before .pre .0 .1 .1 .0) (c .before .before .before .refuse .ensures) refl _ (c .with-next .ensures)
+returns-2 c =
+    let p = c .before .before .before .before .before .before .before .before .before .before .before .before .before .before .before .before .before .before .before .before .before .before .before .pre in
+    let v = c .before .before .before .before .before .before .before .before .before .before .before .before .before .before .before .before .save-vars .ensures in
+    let r = c .before .before .before .before .before .before .before .before .before .before .before .before .read-record .ensures in
+    steps-stopped _ _ (p .0 .0) (p .0 .1 .0) v r _ Malformed malformed (λ g t l. refl) (c .before .before .before .before .before .before .enum-told .given .1) (p .0 .1 .1 .0) (c .before .before .before .refuse .ensures) refl _ (c .with-next .ensures)
 
 same-length-5 : tie.Need-same-length-5
 same-length-5 c = search needs
 
 same-length-6 : tie.Need-same-length-6
-same-length-6 c = c .before .before .before .before .before .before .before .before .before .before .before .before .before .before .before .before .saved .given
+same-length-6 c = c .before .before .before .before .before .before .before .before .before .before .before .before .before .before .before .saved .given
 
 returns-3 : tie.Need-returns-3
 unfolding number-of-refusal
-returns-3 c = steps-stopped _ _ (c .before .before .before .before .before .before .before .before .before .before .before .before .before .before .before .before .before .before .before .before .before .before .before .before .pre .0 .0) (c .before .before .before .before .before .before .before .before .before .before .before .before .before .before .before .before .before .before .before .before .before .before .before .before .pre .0 .1 .0) (c .before .before .before .before .before .before .before .before .before .before .before .before .before .before .before .before .before .save-vars .ensures) (c .before .before .before .before .before .before .before .before .before .before .before .before .before .read-record .ensures) (c .before .before .before .before .before .before .before .before .before .rows-after .ensures) _ Unknown unknown-name (λ g t l. refl) (c .before .before .before .before .before .before .enum-told2 .given .1) (c .before .before .before .before .before .before .before .before .before .before .before .before .before .before .before .before .before .before .before .before .before .before .before .before .pre .0 .1 .1 .0) (c .before .before .before .refuse2 .ensures) refl _ (c .with-next2 .ensures)
+returns-3 c =
+    let p = c .before .before .before .before .before .before .before .before .before .before .before .before .before .before .before .before .before .before .before .before .before .before .before .pre in
+    let v = c .before .before .before .before .before .before .before .before .before .before .before .before .before .before .before .before .save-vars .ensures in
+    let r = c .before .before .before .before .before .before .before .before .before .before .before .before .read-record .ensures in
+    steps-stopped _ _ (p .0 .0) (p .0 .1 .0) v r _ Unknown unknown-name (λ g t l. refl) (c .before .before .before .before .before .before .enum-told2 .given .1) (p .0 .1 .1 .0) (c .before .before .before .refuse2 .ensures) refl _ (c .with-next2 .ensures)
 
 same-length-7 : tie.Need-same-length-7
 same-length-7 c = search needs
 
 same-length-8 : tie.Need-same-length-8
-same-length-8 c = c .before .before .before .before .before .before .before .before .before .before .before .before .before .before .before .before .saved .given
+same-length-8 c = c .before .before .before .before .before .before .before .before .before .before .before .before .before .before .before .saved .given
 
 returns-4 : tie.Need-returns-4
 unfolding number-of-refusal
-returns-4 c = steps-stopped _ _ (c .before .before .before .before .before .before .before .before .before .before .before .before .before .before .before .before .before .before .before .before .before .before .before .before .pre .0 .0) (c .before .before .before .before .before .before .before .before .before .before .before .before .before .before .before .before .before .before .before .before .before .before .before .before .pre .0 .1 .0) (c .before .before .before .before .before .before .before .before .before .before .before .before .before .before .before .before .before .save-vars .ensures) (c .before .before .before .before .before .before .before .before .before .before .before .before .before .read-record .ensures) (c .before .before .before .before .before .before .before .before .before .rows-after .ensures) _ Doubled doubled-reference (λ g t l. refl) (c .before .before .before .before .before .before .enum-told3 .given .1) (c .before .before .before .before .before .before .before .before .before .before .before .before .before .before .before .before .before .before .before .before .before .before .before .before .pre .0 .1 .1 .0) (c .before .before .before .refuse3 .ensures) refl _ (c .with-next3 .ensures)
+returns-4 c =
+    let p = c .before .before .before .before .before .before .before .before .before .before .before .before .before .before .before .before .before .before .before .before .before .before .before .pre in
+    let v = c .before .before .before .before .before .before .before .before .before .before .before .before .before .before .before .before .save-vars .ensures in
+    let r = c .before .before .before .before .before .before .before .before .before .before .before .before .read-record .ensures in
+    steps-stopped _ _ (p .0 .0) (p .0 .1 .0) v r _ Doubled doubled-reference (λ g t l. refl) (c .before .before .before .before .before .before .enum-told3 .given .1) (p .0 .1 .1 .0) (c .before .before .before .refuse3 .ensures) refl _ (c .with-next3 .ensures)
 
 same-length-9 : tie.Need-same-length-9
 same-length-9 c = search needs
 
 same-length-10 : tie.Need-same-length-10
-same-length-10 c = c .before .before .before .before .before .before .before .before .before .before .before .before .before .before .before .before .before .saved .given
+same-length-10 c = c .before .before .before .before .before .before .before .before .before .before .before .before .before .before .before .before .saved .given
 
 returns-5 : tie.Need-returns-5
-returns-5 c = steps-full _ _ (c .before .before .before .before .before .before .before .before .before .before .before .before .before .before .before .before .before .before .before .before .before .before .before .before .before .pre .0 .0) (c .before .before .before .before .before .before .before .before .before .before .before .before .before .before .before .before .before .before .before .before .before .before .before .before .before .pre .0 .1 .0) (c .before .before .before .before .before .before .before .before .before .before .before .before .before .before .before .before .before .before .save-vars .ensures) (c .before .before .before .before .before .before .before .before .before .before .before .before .before .before .read-record .ensures) (c .before .before .before .before .before .before .before .before .before .before .rows-after .ensures) _ _ (c .before .before .before .before .before .before .before .before .before .left-over .ensures) (c .before .before .before .before .before .before .before .enum-told4 .given .1) (c .before .before .before .refuse4 .ensures) (c .before .before .before .before .seven-or-five .ensures) _ (c .with-next4 .ensures)
+returns-5 c =
+    let p = c .before .before .before .before .before .before .before .before .before .before .before .before .before .before .before .before .before .before .before .before .before .before .before .before .pre in
+    let v = c .before .before .before .before .before .before .before .before .before .before .before .before .before .before .before .before .before .save-vars .ensures in
+    let r = c .before .before .before .before .before .before .before .before .before .before .before .before .before .read-record .ensures in
+    let o = c .before .before .before .before .before .before .before .before .before .left-over .ensures in
+    steps-full _ _ (p .0 .0) (p .0 .1 .0) v r _ _ o (c .before .before .before .before .before .before .before .enum-told4 .given .1) (c .before .before .before .refuse4 .ensures) (c .before .before .before .before .seven-or-five .ensures) _ (c .with-next4 .ensures)
 
 same-length-11 : tie.Need-same-length-11
 same-length-11 c = c .before .before .before .before .w7 .given ∙ c .before .before .before .before .before .before .before .before .before .before .before .before .before .before .before .before .before .before .w .given
@@ -134,7 +173,13 @@ same-length-13 : tie.Need-same-length-13
 same-length-13 c = search needs
 
 returns-6 : tie.Need-returns-6
-returns-6 c = steps-run _ _ (c .before .before .before .before .before .before .before .before .before .before .before .before .before .before .before .before .before .before .before .before .before .before .before .before .before .before .before .before .before .before .pre .0 .0) (c .before .before .before .before .before .before .before .before .before .before .before .before .before .before .before .before .before .before .before .before .before .before .before .before .before .before .before .before .before .before .pre .0 .1 .0) (c .before .before .before .before .before .before .before .before .before .before .before .before .before .before .before .before .before .before .before .before .before .before .before .save-vars .ensures) (c .before .before .before .before .before .before .before .before .before .before .before .before .before .before .before .before .before .before .before .read-record .ensures) (c .before .before .before .before .before .before .before .before .before .before .before .before .before .before .before .rows-after .ensures) _ _ (c .before .before .before .before .before .before .before .before .before .before .before .before .before .before .left-over .ensures) _ (c .before .before .before .before .before .before .before .before .before .before .before .before .p .given .1) (c .before .before .before .before .before .before .before .before .before .before .if1 .left) (c .before .before .before .before .before .answer-placed .ensures) (c .with-next6 .ensures)
+returns-6 c =
+    let p = c .before .before .before .before .before .before .before .before .before .before .before .before .before .before .before .before .before .before .before .before .before .before .before .before .before .before .before .before .before .before .pre in
+    let v = c .before .before .before .before .before .before .before .before .before .before .before .before .before .before .before .before .before .before .before .before .before .before .before .save-vars .ensures in
+    let r = c .before .before .before .before .before .before .before .before .before .before .before .before .before .before .before .before .before .before .before .read-record .ensures in
+    let o = c .before .before .before .before .before .before .before .before .before .before .before .before .before .before .before .left-over .ensures in
+    let a = c .before .before .before .before .before .answer-placed .ensures in
+    steps-run _ _ (p .0 .0) (p .0 .1 .0) v r _ _ o _ (c .before .before .before .before .before .before .before .before .before .before .before .before .before .read .given .1) (c .before .before .before .before .before .before .before .before .before .before .before .if1 .left) (c .before .before .before .before .before .before .before .before .before .before .rows-after .ensures) a (c .with-next6 .ensures)
 
 pub step-trusted-spec : {M : Type 1} → statement M
 step-trusted-spec =
@@ -142,7 +187,6 @@ step-trusted-spec =
     (tie.spec
     save-vars-requires
     read-record-requires
-    rows-after-requires
     left-over-requires
     enum-told
     refuse-requires
@@ -157,12 +201,13 @@ step-trusted-spec =
     seven-or-five-requires
     refuse-requires-4
     with-next-requires-4
-    enum-known-p
+    enum-known-read
     refuse-requires-5
     with-next-requires-5
     same-length
     same-length-2
     returns
+    rows-after-requires
     answer-placed-requires
     with-next-requires-6
     same-length-3
