@@ -1,4 +1,5 @@
 -- Whether any constraint of a list asks for abilities. Assumes nothing.
+-- By the list. `Searched` is the loop's invariant: the constraints before i ask for none, so the answer is that of the rest.
 use mathlib.Core.Path.{_≡_, refl, sym, ap, _∙_}
 use mathlib.Core.Bool.{Bool, true, false}
 use mathlib.Core.List.{List, [], _∷_}

@@ -1,4 +1,5 @@
 -- 9 and 16 in list order, by the levels and the sets that are kept. Assumes nothing.
+-- First one constraint: 9 where there are no levels, 16 where a mark contradicts, else nothing. Then the list: `Passed` says that the constraints before i hinder nothing.
 use mathlib.Core.Path.{_≡_, refl, sym, ap, _∙_, subst}
 use mathlib.Core.Bool.{Bool, true, false, not}
 use mathlib.Core.List.{List, [], _∷_}

@@ -1,4 +1,5 @@
 -- What a name's declaration and the sets of its arguments come to: which arguments count, the first that lacks, what is granted. Assumes nothing.
+-- First which arguments count, then the loop for the first that lacks (`Searched`: none before i does), then what is granted and the rule that says why not.
 use mathlib.Core.Path.{_≡_, refl, sym, ap, _∙_}
 use mathlib.Core.Bool.{Bool, true, false, not, _&&_, _||_}
 use mathlib.Core.List.{List, [], _∷_}

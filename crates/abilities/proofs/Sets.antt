@@ -1,4 +1,5 @@
 -- The walk that keeps a set for each node: the parts first, then the node's own. Assumes nothing.
+-- First that the parts of a type whose reading ends have readings that end; then the table of sets (`Kept`); then the loop's invariant `Walked`: the sets of the parts before i are known.
 use mathlib.Core.Path.{_≡_, refl, sym, ap, _∙_, subst}
 use mathlib.Core.Bool.{Bool, true, false, not}
 use mathlib.Core.List.{List, []}

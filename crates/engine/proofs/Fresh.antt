@@ -1,4 +1,5 @@
 -- Zeros are the words and the parameter bytes of a fresh state, which is sound. Assumes nothing.
+-- First the words of each table without entries, all zeros; then what the call's test chooses; then the loop that clears words (`Cleared`: the first i are zeros).
 use mathlib.Core.Path.{_≡_, refl, sym, ap, ap₂, _∙_}
 use mathlib.Core.Bool.{Bool, true, false}
 use mathlib.Core.List.{List, [], _∷_, _++_, append-nil, append-assoc}

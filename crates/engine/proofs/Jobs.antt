@@ -1,4 +1,5 @@
 -- The lines of a job, record by record: what the loop over a stream keeps. Assumes nothing.
+-- `Going` is the loop's invariant: where it starts, what one record more does to it, and the returns that stop, end the job or go on.
 use mathlib.Core.Path.{_≡_, refl, sym, ap, ap₂, _∙_}
 use mathlib.Core.Bool.{Bool, true, false, not, _||_, _&&_}
 use mathlib.Core.List.{List, [], _∷_, _++_, append-nil}

@@ -1,4 +1,5 @@
 -- From a state that was tested once to what the public calls give. Assumes nothing.
+-- The words that were tested are a sound state's, so a call on trusted words says what the public one gives; where the test fails, it is 15 and nothing changes.
 use mathlib.Core.Path.{_≡_, refl, sym, ap, ap₂, _∙_}
 use mathlib.Core.Bool.{Bool, true, false, not, _||_, _&&_}
 use mathlib.Core.List.{List, [], _∷_, _++_}
@@ -62,7 +63,10 @@ module _ (w : List ℕ) (u : Used) (p : List (List ℕ)) (st : Stands w u p) (w�
 long : (n : ℕ) (l : List ℕ) → n ≤ length l → length (take n l) ≡ n
 long n l h = length-take n l ∙ omega (arith, h)
 
-module _ (w : List ℕ) (p : List (List ℕ)) (h : lent-sound w p ≡ true) (u : Used) (c : u ≡ used-of w) (bytes buf : Bytes) (k : 4096 ≤ length buf) (w′ : List ℕ) (p′ : List (List ℕ)) (buf′ : Bytes) (r : Stepped) (g : Steps true w u p bytes 0 buf w′ p′ buf′ r) (w″ : List ℕ) (e : (ds : List Struct) → Declares w′ (r .used) ds → w″ ≡ encode (seen w′ (r .used) ds)) where
+module _ (w : List ℕ) (p : List (List ℕ)) (h : lent-sound w p ≡ true) (u : Used) (c : u ≡ used-of w)
+    (bytes buf : Bytes) (k : 4096 ≤ length buf) (w′ : List ℕ) (p′ : List (List ℕ)) (buf′ : Bytes) (r : Stepped)
+    (g : Steps true w u p bytes 0 buf w′ p′ buf′ r) (w″ : List ℕ)
+    (e : (ds : List Struct) → Declares w′ (r .used) ds → w″ ≡ encode (seen w′ (r .used) ds)) where
   steps : step (decode w p) bytes (length buf) ≡ record { number = r .number; payload = take (r .len) buf′; state = held w′ (r .used) p′ }
   unfolding step usable answered max-buffer
   steps =
@@ -138,7 +142,10 @@ module _ (i : ℕ) (b : Bytes) (room : ℕ) (more : Bool) where
 
 -- ---- a job's lines
 
-module _ (w : List ℕ) (p : List (List ℕ)) (h : lent-sound w p ≡ true) (u : Used) (c : u ≡ used-of w) (place : ℕ) (stream : Bytes) (more : Bool) (log : Bytes) (w′ : List ℕ) (p′ : List (List ℕ)) (log′ : Bytes) (r : Lines) (g : Lists w u p place stream more log w′ p′ log′ r) (w″ : List ℕ) (e : (ds : List Struct) → Declares w′ (r .used) ds → w″ ≡ encode (seen w′ (r .used) ds)) where
+module _ (w : List ℕ) (p : List (List ℕ)) (h : lent-sound w p ≡ true) (u : Used) (c : u ≡ used-of w) (place : ℕ)
+    (stream : Bytes) (more : Bool) (log : Bytes) (w′ : List ℕ) (p′ : List (List ℕ)) (log′ : Bytes) (r : Lines)
+    (g : Lists w u p place stream more log w′ p′ log′ r) (w″ : List ℕ)
+    (e : (ds : List Struct) → Declares w′ (r .used) ds → w″ ≡ encode (seen w′ (r .used) ds)) where
   abbrev lines : Lent-piece
   lines = lent-lines w p place stream (length log) more
 
@@ -150,17 +157,29 @@ module _ (w : List ℕ) (p : List (List ℕ)) (h : lent-sound w p ≡ true) (u :
       ∙ ap₂ (λ (x : List ℕ) (y : List (List ℕ)). record { number = 0; text = take (r .written) log′; words = x; params = y; rest = drop (r .read) stream; place = r .place; ended = r .ended }) (sym (written w′ (r .used) p′ (g .stands) w″ e)) (sym (g .stands .bytes))
 
   pub job-gives : length log′ ≡ length log
-      → (p′ ≡ lines .params) × ((w″ ≡ lines .words) × ((0 ≡ lines .number) × ((log′ ≡ in-front (lines .text) log) × ((r .written ≡ length (lines .text)) × ((drop (r .read) stream ≡ lines .rest) × ((r .place ≡ lines .place) × ((r .ended ≡ lines .ended) × ((r .read ≤ length stream) × (r .written ≤ length log)))))))))
+      → (p′ ≡ lines .params) × ((w″ ≡ lines .words) × ((0 ≡ lines .number) × ((log′ ≡ in-front (lines .text) log)
+      × ((r .written ≡ length (lines .text)) × ((drop (r .read) stream ≡ lines .rest) × ((r .place ≡ lines .place)
+      × ((r .ended ≡ lines .ended) × ((r .read ≤ length stream) × (r .written ≤ length log)))))))))
   unfolding in-front
   job-gives l =
       let n : length (take (r .written) log′) ≡ r .written = long (r .written) log′ (omega (arith, l, g .fits)) in
       rw listed (refl, (refl, (refl, (g .others ∙ ap (λ (n : ℕ). take (r .written) log′ ++ drop n log) (sym n), (sym n, (refl, (refl, (refl, (g .within, g .fits)))))))))
 
 pub unsound-lines : (w : List ℕ) (p : List (List ℕ)) (place : ℕ) (stream : Bytes) (more : Bool) (log : Bytes) → lent-sound w p ≡ false
-    → (p ≡ lent-lines w p place stream (length log) more .params) × ((w ≡ lent-lines w p place stream (length log) more .words) × ((15 ≡ lent-lines w p place stream (length log) more .number) × ((log ≡ in-front (lent-lines w p place stream (length log) more .text) log) × ((0 ≡ length (lent-lines w p place stream (length log) more .text)) × ((stream ≡ lent-lines w p place stream (length log) more .rest) × ((place ≡ lent-lines w p place stream (length log) more .place) × ((true ≡ lent-lines w p place stream (length log) more .ended) × ((0 ≤ length stream) × (0 ≤ length log)))))))))
+    → (p ≡ lent-lines w p place stream (length log) more .params)
+    × ((w ≡ lent-lines w p place stream (length log) more .words)
+    × ((15 ≡ lent-lines w p place stream (length log) more .number)
+    × ((log ≡ in-front (lent-lines w p place stream (length log) more .text) log)
+    × ((0 ≡ length (lent-lines w p place stream (length log) more .text))
+    × ((stream ≡ lent-lines w p place stream (length log) more .rest)
+    × ((place ≡ lent-lines w p place stream (length log) more .place)
+    × ((true ≡ lent-lines w p place stream (length log) more .ended)
+    × ((0 ≤ length stream) × (0 ≤ length log)))))))))
 unfolding in-front lent-lines
 unsound-lines w p place stream more log h =
-    let e : lent-lines w p place stream (length log) more ≡ record { number = 15; text = []; words = w; params = p; rest = stream; place = place; ended = true } = ap (λ q. elim q as (λ x. Lent-piece) [ true ↦ lent-piece (next-lines place (decode w p) stream (length log) more) | false ↦ record { number = 15; text = []; words = w; params = p; rest = stream; place = place; ended = true } ]) h in
+    let piece : Lent-piece = record { number = 15; text = []; words = w; params = p; rest = stream; place = place; ended = true } in
+    let e : lent-lines w p place stream (length log) more ≡ piece =
+    ap (λ q. elim q as (λ x. Lent-piece) [ true ↦ lent-piece (next-lines place (decode w p) stream (length log) more) | false ↦ piece ]) h in
     rw e (refl, (refl, (refl, (refl, (refl, (refl, (refl, (refl, (omega arith, omega arith)))))))))
 
 -- ---- the splitter

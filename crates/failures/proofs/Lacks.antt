@@ -1,4 +1,5 @@
 -- The failure for each ability that is missing, and a constraint's failures in four rows. Assumes nothing.
+-- First `_`, which lacks nothing; then a type by what it unfolds to, a node or `_`; then the four rows of a constraint.
 use mathlib.Core.Path.{_≡_, refl, sym, ap, _∙_, subst}
 use mathlib.Core.Bool.{Bool, true, false, not, _&&_}
 use mathlib.Core.List.{List, [], _∷_, _++_, append-nil}

@@ -46,4 +46,14 @@ going-on {h′} g e l d same is = record { count = suc (g .count); input = _; ou
 
 -- the job ended, or no turn is left
 pub ran : {words : List ℕ} {rows : List (List ℕ)} {buf log : List ℕ} {h : Held} {left : ℕ} → length words ≡ 24069 → Going (held words rows buf log first) h left → (h .turn .ended ≡ false → left ≡ 0) → Ran (held words rows buf log first) h
-ran {words} {rows} {buf} {log} s g z = record { count = g .count; input = g .input; output = g .output; turns = g .turns; bytes = g .bytes; all = λ e. omega (arith, g .of-all, z e); front = turns-front words rows buf log s (g .turns) (g .bytes); log = turns-log words rows buf log s (g .turns) (g .bytes) }
+ran {words} {rows} {buf} {log} s g z =
+    record {
+      count = g .count;
+      input = g .input;
+      output = g .output;
+      turns = g .turns;
+      bytes = g .bytes;
+      all = λ e. omega (arith, g .of-all, z e);
+      front = turns-front words rows buf log s (g .turns) (g .bytes);
+      log = turns-log words rows buf log s (g .turns) (g .bytes);
+    }

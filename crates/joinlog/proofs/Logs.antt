@@ -1,4 +1,5 @@
 -- What a run hands to the writer is the log of what it read; where it stopped before the end, it is the log's front. Assumes nothing.
+-- `Stands` is kept turn after turn: the log of all that was read is the text handed over, and then the log from the state that is held. It is carried over filling the buffer and over listing lines.
 use mathlib.Core.Path.{_≡_, refl, sym, ap, ap₂, _∙_}
 use mathlib.Core.Bool.{Bool, true, false, _||_, _&&_}
 use mathlib.Core.List.{List, [], _∷_, _++_, append-nil, append-assoc}
@@ -50,7 +51,9 @@ module _ (s : State) (ok : sound s ≡ true) (i : ℕ) (a : Bytes) (room : ℕ) 
   sound-lines : lent-lines (encode s) (encode-params s) i a room more ≡ lent-piece (next-lines i s a room more)
   unfolding lent-lines
   sound-lines =
-      ap (λ q. elim q as (λ x. Lent-piece) [ true ↦ lent-piece (next-lines i (decode (encode s) (encode-params s)) a room more) | false ↦ record { number = 15; text = []; words = encode s; params = encode-params s; rest = a; place = i; ended = true } ]) (lent-passes (encode s) (encode-params s) (encode-lent s ok))
+      let unlent : Lent-piece = record { number = 15; text = []; words = encode s; params = encode-params s; rest = a; place = i; ended = true } in
+      ap (λ q. elim q as (λ x. Lent-piece) [ true ↦ lent-piece (next-lines i (decode (encode s) (encode-params s)) a room more) | false ↦ unlent ])
+      (lent-passes (encode s) (encode-params s) (encode-lent s ok))
       ∙ ap (λ (x : State). lent-piece (next-lines i x a room more)) (decoded s ok)
 
 -- the same lines are asked for
@@ -149,7 +152,11 @@ module _ (input output : Bytes) (h h′ : Held) (s : Stands input output h) wher
         let r : stream h′ ≡ piece .rest = l .rest ∙ ap (λ (p : Lent-piece). p .rest) lines-are in
         record {
           state = piece .state;
-          asks = λ a room more. same-lines (l .begun) (l .words ∙ ap (λ (p : Lent-piece). p .words) lines-are) (l .rows ∙ ap (λ (p : Lent-piece). p .params) lines-are) n a room more ∙ sound-lines (piece .state) (g .left) (piece .place) a room more ∙ ap (λ (i : ℕ). lent-piece (next-lines i (piece .state) a room more)) (sym n);
+          asks = λ a room more.
+              same-lines (l .begun) (l .words ∙ ap (λ (p : Lent-piece). p .words) lines-are)
+              (l .rows ∙ ap (λ (p : Lent-piece). p .params) lines-are) n a room more
+              ∙ sound-lines (piece .state) (g .left) (piece .place) a room more
+              ∙ ap (λ (i : ℕ). lent-piece (next-lines i (piece .state) a room more)) (sym n);
           is-sound = g .left;
           bytes = rw r (g .bytes);
           logs = λ b q. rw (r, n) (by-lines b q ∙ ap (λ (m : Bytes). (output ++ text-handed h′) ++ m) (goes-on b o));

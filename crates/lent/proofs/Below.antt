@@ -1,4 +1,5 @@
 -- Laws of a test of every number below a bound, and of tests joined. Assumes nothing.
+-- The tests are split and joined by cases of the Booleans, `all-below` by induction on the bound.
 use mathlib.Core.Path.{_≡_, refl, sym, ap, _∙_}
 use mathlib.Core.Logic.{⊎-elim}
 use mathlib.Core.Bool.{Bool, true, false, not, _&&_}

@@ -1,4 +1,5 @@
 -- Laws of following bindings word by word. Assumes nothing.
+-- First the walk's steps, one law for each way to go on; then, by induction on the steps that are left, it ends just where the definition's chain does.
 use mathlib.Core.Path.{_≡_, refl, sym, ap, _∙_}
 use mathlib.Core.Bool.{Bool, true, false}
 use mathlib.Core.List.{List}

@@ -1,4 +1,5 @@
 -- Reading a sound state back from its words and bytes gives it again. Assumes nothing.
+-- First one entry of each table, then each table as a list, then the state. At the end: the encoding passes the test, and so do the words that a call leaves.
 use mathlib.Core.Path.{_≡_, refl, sym, ap, ap₂, _∙_}
 use mathlib.Core.Bool.{Bool, true, false, not, _&&_}
 use mathlib.Core.List.{List, [], _∷_}
@@ -19,7 +20,8 @@ use Rattle.definition.specs.Sound.{sound, is-u32, places-fit, shape-allowed, no
 use Rattle.theorems.proofs.Facts.{of-each, fields, shape}
 use Rattle.theorems.proofs.Soundness.{Is-sound, sound-is}
 use Rattle.table.specs.Tab.{tab}
-use Rattle.table.specs.Rows.{Table, row, words-at, entries, flag, read-mark, mark-word, read-option, option-flag, option-word, read-name, name-tag, name-word, places, read-shape, shape-words, read-node, node-words, read-arg, arg-words, read-cell, cell-words, read-constraint, constraint-words, read-struct, struct-words, node-table, arg-table, var-table, constraint-table, struct-table}
+use Rattle.table.specs.Rows.{Table, row, words-at, entries, flag, read-mark, mark-word, read-option, option-flag, option-word, read-name, name-tag, name-word, places, read-shape, shape-words}
+use Rattle.table.specs.Rows.{read-node, node-words, read-arg, arg-words, read-cell, cell-words, read-constraint, constraint-words, read-struct, struct-words, node-table, arg-table, var-table, constraint-table, struct-table}
 use Rattle.table.specs.State.{view, seen, Lay, Declares}
 use Rattle.table.specs.declared.Used.{Used}
 use Rattle.table.proofs.Tab.{length-tab, getD-tab}

@@ -1,4 +1,5 @@
 -- A state written as words: every row where the layout has it, and words that have those rows are the state's. Assumes nothing.
+-- First how wide rows are, then one table for any kind of row, then all five tables (`Holds`); `encoded` and `holds` are the two directions.
 use mathlib.Core.Path.{_≡_, refl, sym, ap, ap₂, _∙_}
 use mathlib.Core.List.{List, [], _∷_, _++_, append-assoc, append-nil}
 use mathlib.Core.Option.{Option, none, some}

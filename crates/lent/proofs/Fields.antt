@@ -1,4 +1,5 @@
 -- Numbers of a row: which are just what they are read as. Assumes nothing.
+-- By cases of the tag or the number, with omega for ranges: `-back` reads and writes again, `-was` says when that gives the same.
 use mathlib.Core.Path.{_≡_, refl, sym, ap, ap₂, _∙_}
 use mathlib.Core.Bool.{Bool, true, false, not, _&&_, _||_}
 use mathlib.Core.List.{List, [], _∷_}

@@ -1,4 +1,5 @@
 -- The layout that every function asks for follows from the test; words that keep it are the encoding of the state that they show. Assumes nothing.
+-- One way by `encoded`: the rows are those of what the words show. The other by the tests' facts on the decoded state, field by field of `Lay`.
 use mathlib.Core.Path.{_≡_, refl, sym, ap, ap₂, _∙_}
 use mathlib.Core.Bool.{Bool, true, false, not, _&&_}
 use mathlib.Core.List.{List, [], _∷_}

@@ -1,4 +1,5 @@
 -- Rows in use and rows past them, whatever a table's rows mean; the words of each row. Assumes nothing.
+-- For any table: rows in use are read and written alike, those past them are blank, and a blank tail is zeros. Then the words of each table's row.
 use mathlib.Core.Path.{_≡_, refl, sym, ap, ap₂, _∙_}
 use mathlib.Core.Bool.{Bool, true, false}
 use mathlib.Core.List.{List, [], _∷_}

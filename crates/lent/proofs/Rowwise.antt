@@ -1,4 +1,5 @@
 -- The rows of variables, constraints and structs pass their tests just where they are the rows of entries that the state allows. Assumes nothing.
+-- For each kind of row a record says what a good row is; `-good` goes from the test to it, `-was` back. Both by cases of the flag or the kind.
 use mathlib.Core.Path.{_≡_, refl, sym, ap, ap₂, _∙_}
 use mathlib.Core.Bool.{Bool, true, false, not, _&&_, _||_}
 use mathlib.Core.List.{List, [], _∷_}

@@ -1,4 +1,5 @@
 -- A node's row passes its test just where it is the row of a node that the state allows, with smaller parts. Assumes nothing.
+-- By the tag: names first (`Named`), then named types, then the shapes without arguments; `Good` says what a row that passes is.
 use mathlib.Core.Path.{_≡_, refl, sym, ap, ap₂, _∙_}
 use mathlib.Core.Bool.{Bool, true, false, not, _&&_, _||_}
 use mathlib.Core.List.{List, [], _∷_}

@@ -1,4 +1,5 @@
 -- The test word by word passes just where the words and bytes are those of a sound state. Assumes nothing.
+-- From the tests to the state table by table: tails are blank rows, each row is the row of an entry (Rowwise, Shapes), chains end (Chains). Back by the same laws; `no-test` and `last-test` serve the code.
 use mathlib.Core.Path.{_≡_, refl, sym, ap, ap₂, _∙_}
 use mathlib.Core.Bool.{Bool, true, false, not, _&&_}
 use mathlib.Core.List.{List, [], _∷_}
@@ -19,7 +20,8 @@ use Rattle.definition.specs.Trees.{is-set}
 use Rattle.theorems.proofs.Facts as f
 use Rattle.theorems.proofs.Facts.{of-each, at-place}
 use Rattle.table.specs.Tab.{tab}
-use Rattle.table.specs.Rows.{row, words-at, entries, read-node, node-words, shape-words, read-arg, arg-words, read-cell, cell-words, read-constraint, constraint-words, read-struct, struct-words, read-option, option-flag, option-word, read-shape, node-table, arg-table, var-table, constraint-table, struct-table}
+use Rattle.table.specs.Rows.{row, words-at, entries, read-node, node-words, shape-words, read-arg, arg-words, read-cell, cell-words, read-constraint, constraint-words}
+use Rattle.table.specs.Rows.{read-struct, struct-words, read-option, option-flag, option-word, read-shape, node-table, arg-table, var-table, constraint-table, struct-table}
 use Rattle.table.specs.State.{view, seen}
 use Rattle.table.specs.declared.Used.{Used}
 use Rattle.table.proofs.Tab.{length-tab, getD-tab, getD-tab-out}
@@ -281,7 +283,12 @@ module _ (w : List ℕ) (p : List (List ℕ)) (u : Used) (z : Sized w u) (small 
 
     sound-counts : counts-fit S ≡ true
     unfolding counts-fit max-nodes max-args max-vars max-constraints max-structs
-    sound-counts = five-r _ _ _ _ _ (le-leb (count S) 2048 (omega (arith, nodes-count w u ds, z .nodes))) (le-leb (length (S .args)) 4096 (omega (arith, args-count w u ds 0, z .args))) (le-leb (taken S) 1024 (omega (arith, cells-count, z .vars))) (le-leb (length (S .constraints)) 512 (omega (arith, constraints-count, z .constraints))) (le-leb (length (S .structs)) 256 (omega (arith, ap (λ (l : List Struct). length l) decls, structs-count w p u, z .structs)))
+    sound-counts = five-r _ _ _ _ _ (le-leb (count S) 2048 (omega (arith, nodes-count w u ds, z .nodes)))
+        (le-leb (length (S .args)) 4096 (omega (arith, args-count w u ds 0, z .args)))
+        (le-leb (taken S) 1024 (omega (arith, cells-count, z .vars)))
+        (le-leb (length (S .constraints)) 512 (omega (arith, constraints-count, z .constraints)))
+        (le-leb (length (S .structs)) 256
+        (omega (arith, ap (λ (l : List Struct). length l) decls, structs-count w p u, z .structs)))
 
     sound-smaller : sd.parts-smaller S ≡ true
     unfolding sd.parts-smaller
@@ -553,7 +560,13 @@ module _ (w : List ℕ) (p : List (List ℕ)) where
   -- the counts are the first five words
   counts-are : words-at w 0 5 ≡ count-words (decode w p)
   unfolding words-at tab count-words decode used-of
-  counts-are = cc (nodes-count w (used-of w) (structs-of w p (used-of w .structs)), args-count w (used-of w) (structs-of w p (used-of w .structs)) 0, vars-count w (used-of w) (structs-of w p (used-of w .structs)) 0, list-count w (used-of w) (structs-of w p (used-of w .structs)), decl-count w p (used-of w))
+  counts-are = cc (
+    nodes-count w (used-of w) (structs-of w p (used-of w .structs)),
+    args-count w (used-of w) (structs-of w p (used-of w .structs)) 0,
+    vars-count w (used-of w) (structs-of w p (used-of w .structs)) 0,
+    list-count w (used-of w) (structs-of w p (used-of w .structs)),
+    decl-count w p (used-of w),
+  )
 
   pub lent-holds : Lent-sound w p → Holds w (decode w p)
   lent-holds h = rw (← h .words) at (holds (decode w p))

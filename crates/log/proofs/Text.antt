@@ -1,4 +1,5 @@
 -- Numbers as digits, and bytes as two digits each. Assumes nothing.
+-- First digits and how many they are, then two digits a byte, then a line in its pieces; at the end what one step of each function adds.
 use mathlib.Core.Path.{_≡_, refl, sym, ap, _∙_}
 use mathlib.Core.Bool.{Bool, true, false}
 use mathlib.Core.List.{List, [], _∷_, _++_, append-assoc}

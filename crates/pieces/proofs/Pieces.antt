@@ -1,4 +1,5 @@
 -- A job piece by piece: 4,096 bytes answer as the whole stream would, and the lines of the pieces, one after the other, are the log. Assumes nothing.
+-- First a record needs no more than 4,096 bytes; then one piece, by induction on the records in it (`Follows`: its lines, and then the rest of the log); then pieces one after the other.
 use mathlib.Core.Path.{_≡_, refl, sym, ap, _∙_}
 use mathlib.Core.Bool.{Bool, true, false, not, _||_, _&&_}
 use mathlib.Core.List.{List, [], _∷_, _++_, append-nil, append-assoc}
@@ -249,7 +250,10 @@ module _ (i : ℕ) (s : State) (room : ℕ) (more : Bool) where
     unfolding next-lines next-from
     next-goes is h t e =
         let kept = stream-sound-kept s (x ∷ a) max-buffer is h in
-        ap (λ q. cases q (ends-job (next-answer .0 .number))) t ∙ ap (λ q. cases true q) e ∙ (ap (λ (p : Piece). after-line (line (entry-of i next-answer)) p) (next-enough (length a) (length (next-answer .1)) (suc i) (next-answer .0 .state) (next-answer .1) _ more (kept .1) (kept .0) (go (stream-on s h x a)) (omega arith)))
+        ap (λ q. cases q (ends-job (next-answer .0 .number))) t ∙ ap (λ q. cases true q) e
+        ∙ (ap (λ (p : Piece). after-line (line (entry-of i next-answer)) p)
+        (next-enough (length a) (length (next-answer .1)) (suc i) (next-answer .0 .state) (next-answer .1) _
+        more (kept .1) (kept .0) (go (stream-on s h x a)) (omega arith)))
       where
         go : Goes-on a next-answer → length (next-answer .1) ≤ length a
         go (shorter y) = y

@@ -1,4 +1,5 @@
 -- The variables put back: the definition's put-back. Assumes nothing.
+-- The words are followed row by row: saved variables, then blanks for those taken since, then the tables that stay; `putting-back` puts them together.
 use mathlib.Core.Path.{_≡_, refl, sym, ap, ap₂, _∙_, subst}
 use mathlib.Core.List.{List, [], _∷_, _++_}
 use Prim.Native.Nat.{ℕ, zero, suc, _+_, _*_, _-_, _<_, _≤_}

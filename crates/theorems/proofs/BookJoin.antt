@@ -1,4 +1,5 @@
 -- Joins of types without variables come to what the Move Book's rules say, at every depth. Assumes nothing.
+-- First that a node keeps the type of Move's that it is; then what a call comes to; then the join by induction on the depth: its result is the best type (`Gives`).
 use mathlib.Core.Path.{_≡_, refl, sym, ap, _∙_, subst}
 use mathlib.Core.Bool.{Bool, true, false, not, _&&_}
 use mathlib.Core.List.{List, [], _∷_}

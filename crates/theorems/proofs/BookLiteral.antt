@@ -1,4 +1,5 @@
 -- A numeric variable whose type nothing has decided is u64 after solve_constraints; one that is an integer type stays it. Assumes nothing.
+-- First that a named type without arguments stays as it is; then the turn of one variable (`Decided`, `Turned`); then all of them by the list (`Solved`).
 use mathlib.Core.Path.{_≡_, refl, sym, ap, _∙_}
 use mathlib.Core.Logic.{_⊎_, inl, inr}
 use mathlib.Core.Bool.{Bool, true, false}

@@ -1,4 +1,5 @@
 -- With space and depth enough, a join of types without variables is refused only for marks that disagree. Assumes nothing.
+-- `Cost` bounds what a join adds by the size of its types; each arm within it, and then the induction on the depth (`roomy`).
 use mathlib.Core.Path.{_≡_, refl, sym, ap, _∙_}
 use mathlib.Core.Bool.{Bool, true, false, not, _&&_}
 use mathlib.Core.List.{List, [], _∷_}

@@ -1,4 +1,5 @@
 -- The Move Book's relation and core.rs's between trees of types: where they agree, and the least common supertype. Assumes nothing.
+-- By derivations of the two relations: the Book's is part of the deep one, and from a type of the Book's no less. Then what serves two types, and the least that does (`Best`).
 use mathlib.Core.Path.{_≡_, refl, ap, subst}
 use mathlib.Core.Bool.{Bool, true, false}
 use mathlib.Core.Option.{none, some}

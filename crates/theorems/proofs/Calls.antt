@@ -1,4 +1,5 @@
 -- The calls of a join, from the bottom up to join_tvar. Assumes nothing.
+-- For each call a record says what a success leaves (`NewNode`, `NewVar`, `EndType` ..); `-post` shows it, from those below.
 use mathlib.Core.Path.{_≡_, refl, _∙_}
 use mathlib.Core.Bool.{Bool, true, false}
 use mathlib.Core.Option.{Option, none, some}

@@ -1,4 +1,5 @@
 -- The joins and subtypes that a record asks for: each starts in a sound state, and where it must not leave a variable that reaches itself it leaves none. Assumes nothing.
+-- `Fair` is what a join is claimed from. It goes along a run's calls: JN and SU, SV variable by variable, then a record.
 use mathlib.Core.Path.{_≡_, refl, sym, subst}
 use mathlib.Core.Logic.{inl, inr}
 use mathlib.Core.Bool.{Bool, true, false}

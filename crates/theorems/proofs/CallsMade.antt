@@ -1,4 +1,5 @@
 -- The joins that demand 3 speaks of are those that the runs of JN, SU and SV make. Assumes nothing.
+-- By the definitions of the runs: JN and SU make one join, SV one or none for each numeric variable in turn. Each is followed by cases of its results.
 use mathlib.Core.Path.{_≡_, refl}
 use mathlib.Core.Bool.{Bool, true, false}
 use mathlib.Core.List.{List, [], _∷_, _++_}

@@ -1,4 +1,5 @@
 -- Steps after which no variable reaches itself if none did before: bindings that lead to nothing bound. Assumes nothing.
+-- `Calm` goes from step to step. A binding keeps it where what is bound to meets no bound variable (`Dead`); the merge ties two chain ends to an unbound one.
 use mathlib.Core.Path.{_≡_, refl, sym, ap, _∙_, subst}
 use mathlib.Core.Logic.{_⊎_, inl, inr}
 use mathlib.Core.List.{[], List·Memᴰ, List·Memᴰ·not-nil}

@@ -1,4 +1,5 @@
 -- Reading a record takes bytes from the front and looks at no others: the record cut off there is read alike, with nothing left. Assumes nothing.
+-- One relation, `Cuts`, goes through the readers field by field: what is given of the bytes is given of a front of them, whatever follows.
 use mathlib.Core.Path.{_≡_, refl, sym, ap, _∙_}
 use mathlib.Core.Bool.{Bool, true, false, not, _&&_}
 use mathlib.Core.List.{List, [], _∷_, _++_, append-assoc, append-nil}

@@ -1,4 +1,5 @@
 -- Demand 3, of every list of records: what is known only grows, and each join's result ranks at or above both its types. Assumes nothing.
+-- First whole readings: where none reaches itself, what ranks at a depth that is enough ranks whole. Then each join (CallsFair), and any two points of the list (EveryDepth).
 use mathlib.Core.Path.{_≡_, refl, subst}
 use mathlib.Core.Bool.{true}
 use mathlib.Core.List.{List, [], _∷_, List·Memᴰ}

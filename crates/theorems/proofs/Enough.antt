@@ -1,4 +1,5 @@
 -- In a sound state the bounds on chains, substitution and instantiation are enough: more steps give the same, and none is turned down for want of them. Assumes nothing.
+-- First chains: none comes back, so with a mark for each variable they are short. Then walks down a type, whose nodes fall: two runs with enough steps have one outcome (`Settled`).
 use mathlib.Core.Path.{_≡_, refl, sym, ap, _∙_, subst}
 use mathlib.Core.Bool.{Bool, true, false}
 use mathlib.Core.List.{List, [], _∷_}

@@ -1,4 +1,5 @@
 -- A state with every location set to 0, and what the operations of the state do to it. Assumes nothing.
+-- First what is read of an erased state, then each change of the state: erased before or after, it is the same.
 use mathlib.Core.Path.{_≡_, refl, ap}
 use mathlib.Core.Bool.{Bool, true, false}
 use mathlib.Core.List.{List, [], _∷_, _++_, map, map-append}

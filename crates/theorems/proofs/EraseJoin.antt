@@ -1,4 +1,5 @@
 -- Chains, the join, substitution and instantiation do the same with all locations set to 0. Assumes nothing.
+-- Function by function in the order of the definition; the join by induction on the depth, with the inner join taken to be alike (`Alike`).
 use mathlib.Core.Path.{_≡_, refl, ap}
 use mathlib.Core.Bool.{Bool, true, false, not, _&&_, _||_}
 use mathlib.Core.List.{List, [], _∷_}

@@ -1,4 +1,5 @@
 -- A record whose location fields are set to 0 is read as the record, with its locations set to 0: as far, with the same refusal. Assumes nothing.
+-- `Alike` relates two readers, one of the bytes and one of the bytes with locations set to 0. It goes through the readers field by field, row for row by tag and by mark.
 use mathlib.Core.Path.{_≡_, refl, sym, ap}
 use mathlib.Core.Bool.{Bool, true, false, not, _&&_}
 use mathlib.Core.List.{List, [], _∷_, _++_, map, append-assoc}

@@ -1,4 +1,5 @@
 -- A record's run with all locations set to 0 is its run, with locations set to 0 in what it shows and leaves. Assumes nothing.
+-- Placing by the tree, SV by its steps, then record by record (`run-erase`) from EraseJoin and EraseWrite; at the end the answer (`Blanked`).
 use mathlib.Core.Path.{_≡_, refl, sym, ap, _∙_}
 use mathlib.Core.Bool.{Bool, true, false, not, _&&_}
 use mathlib.Core.List.{List, [], _∷_, _++_, map, map-append}

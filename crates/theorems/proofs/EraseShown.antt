@@ -1,4 +1,5 @@
 -- What the answer 0 to a record shows, by the record that is read: as the table of marks tells it. Assumes nothing.
+-- By mark, row for row, through the reader of records: the mark that is read is the one that the table tells.
 use mathlib.Core.Path.{_≡_, refl}
 use mathlib.Core.Bool.{Bool, true, false, _&&_}
 use mathlib.Core.List.{List, [], _∷_}

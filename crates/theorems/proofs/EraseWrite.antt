@@ -1,4 +1,5 @@
 -- What is written with all locations set to 0 is what is written, with its location fields set to 0. Assumes nothing.
+-- By rows of types: what is written is blanked part by part as it is awaited. One type by its node's number, whose parts are smaller; then errors, and SV's failures.
 use mathlib.Core.Path.{_≡_, refl, ap, _∙_}
 use mathlib.Core.Bool.{Bool, true, false}
 use mathlib.Core.List.{List, [], _∷_, _++_, map, append-assoc, append-nil}

@@ -1,4 +1,5 @@
 -- Demand 3 at every depth of unrolling, of every list of records and with no hypothesis. Assumes nothing.
+-- First one record: the state rises, or is as it was (`Up`, `Stepped`). Then the list of records by induction, and each join by the main lemma.
 use mathlib.Core.Path.{_≡_, refl}
 use mathlib.Core.Bool.{Bool, true, false}
 use mathlib.Core.List.{List, [], _∷_, List·Memᴰ}

@@ -1,4 +1,5 @@
 -- What the test for a sound state gives. Assumes nothing.
+-- First laws of tests and of lists that pass a test; then, test by test, what a node, a constraint and a variable of a sound state are.
 use mathlib.Core.Path.{_≡_, refl, sym, ap, _∙_, subst}
 use mathlib.Core.Bool.{Bool, true, false, not, _&&_}
 use mathlib.Core.List.{List, [], _∷_, List·Memᴰ, List·Memᴰ·cases-cons, List·Memᴰ·not-nil}
@@ -12,7 +13,8 @@ use Rattle.definition.specs.Types.{TypeName, Mark, Shape, UnitType, Ref, Param,
 use Rattle.definition.specs.Store.{nowhere, count, taken, node, type-at, with-args, args-at, get, all-of}
 use Rattle.definition.specs.Subst.{is-anything, parts, next-of, forward-tvar}
 use Rattle.definition.specs.Trees.{arity, mark-fits, is-mark, is-name}
-use Rattle.definition.specs.Sound.{all-at, counts-fit, smaller-than, parts-smaller, is-u32, places-fit, shape-allowed, node-allowed, binding-allowed, numeric-allowed, cell-allowed, at-node, constraint-allowed, struct-allowed, fields-allowed, no-anything, no-binding-anything, chain-ends, chains-end, sound}
+use Rattle.definition.specs.Sound.{all-at, counts-fit, smaller-than, parts-smaller, is-u32, places-fit, shape-allowed, node-allowed, binding-allowed, numeric-allowed}
+use Rattle.definition.specs.Sound.{cell-allowed, at-node, constraint-allowed, struct-allowed, fields-allowed, no-anything, no-binding-anything, chain-ends, chains-end, sound}
 use Rattle.theorems.proofs.Laws.{PlacesIn, type-on, get-beyond}
 use Rattle.theorems.proofs.Tracks.{never}
 use Rattle.theorems.proofs.Order.{All, Sound}

@@ -1,4 +1,5 @@
 -- Reading ends, unless it runs into a variable that reaches itself. Assumes nothing.
+-- A walk with a mark for each variable that has been met: by how many are not yet met, reading ends or meets a marked one again, which reaches itself. Then the other way.
 use mathlib.Core.Path.{_≡_, refl, sym, ap, _∙_, subst}
 use mathlib.Core.Logic.{_⊎_, inl, inr}
 use mathlib.Core.Bool.{Bool, true, false}

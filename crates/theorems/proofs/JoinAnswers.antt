@@ -1,4 +1,5 @@
 -- A JN or SU whose join succeeds answers 0: its two types are written in the bytes that they were read from, and the join's result in no more. Assumes nothing.
+-- First the bytes that a value is read from, by a relation through the readers (`Spent`, `Weighs`); then types placed and written; the join's result by JoinWrites.
 use mathlib.Core.Path.{_≡_, refl, sym, subst}
 use mathlib.Core.Bool.{Bool, true, false, not, _&&_}
 use mathlib.Core.List.{List, [], _∷_, _++_, List·Memᴰ, List·Memᴰ·eq-of-singleton, List·Memᴰ·not-nil}

@@ -1,4 +1,5 @@
 -- A join's result is written in no more bytes than its two types are, so a JN or SU whose join succeeds answers 0. Assumes nothing.
+-- First how many bytes a type is written in, by its node; then the arms of a join, each over an inner join whose result is no longer; then the induction on the depth.
 use mathlib.Core.Path.{_≡_, refl, ap, _∙_, subst}
 use mathlib.Core.Bool.{Bool, true, not, _&&_}
 use mathlib.Core.List.{List, [], _∷_}

@@ -1,4 +1,5 @@
 -- What the operations of the state do to what is read of it. Assumes nothing.
+-- Change by change: a new node, then changes that keep nodes and argument places, each with what is read after it.
 use mathlib.Core.Path.{_≡_, refl, ap, _∙_, subst}
 use mathlib.Core.Logic.{_≢_}
 use mathlib.Core.List.{List, [], _∷_, _++_, List·Memᴰ}

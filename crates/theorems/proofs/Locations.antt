@@ -1,5 +1,6 @@
 -- R-4: locations decide nothing. Two jobs from a fresh state that are equal but for location fields get equal numbers, payloads equal but for location fields,
 -- and equal counts. Assumes nothing.
+-- One record: both answers are alike by EraseRun, with the states equal but for locations. Then the list by induction; at the end the table at work, computed.
 use mathlib.Core.Path.{_≡_, refl, sym, ap, _∙_, subst}
 use mathlib.Core.Bool.{Bool, true, false, _&&_}
 use mathlib.Core.List.{List, [], _∷_}

@@ -1,4 +1,5 @@
 -- The arms of join_impl, and the main lemma: a join goes up, and its result is above both its operands. Assumes nothing.
+-- First which arm two types take (`took`), then each arm as a lemma over the inner join, which is taken to be good; at the end the induction on the depth.
 use mathlib.Core.Path.{_≡_, refl, sym, ap, _∙_, subst}
 use mathlib.Core.Bool.{Bool, true, false}
 use mathlib.Core.List.{List, [], _∷_}

@@ -1,4 +1,5 @@
 -- The merge of two variables: both chain ends are bound to a new variable, which takes the join of their types. Assumes nothing.
+-- `Ready` says what holds before the two bindings. From it: which chains change and how, that they still end, that nothing known is lost, and so that the state goes up.
 use mathlib.Core.Path.{_≡_, refl, sym, _∙_, subst}
 use mathlib.Core.Logic.{_≢_, _⊎_, inl, inr}
 use mathlib.Core.Bool.{true}

@@ -1,4 +1,5 @@
 -- RD's run has calls enough: it is turned down with 9 only by the test before it. Assumes nothing.
+-- By the levels in which reading ends, two calls for each: the run adds nodes or is refused with another number. Then, of two numbers of calls, the larger gives the same (`Fuller`).
 use mathlib.Core.Path.{_≡_, refl, sym, ap, _∙_}
 use mathlib.Core.Logic.{_≢_, _↔_}
 use mathlib.Core.Bool.{Bool, true, false}

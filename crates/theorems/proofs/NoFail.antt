@@ -1,4 +1,5 @@
 -- The joins of solve_constraints give none of 1 to 4: core.rs unwraps them. No variable comes to reach itself by them, and one alone of the old ones is bound. Assumes nothing.
+-- First u64, which any open variable takes; then the merge with a variable bound to it; then the list of numeric variables. `Sure`: no error is met, and a success has what is claimed.
 use mathlib.Core.Path.{_≡_, refl, sym, _∙_, subst}
 use mathlib.Core.Logic.{_≢_, _⊎_, inl, inr}
 use mathlib.Core.Bool.{Bool, true, false, not, _||_}

@@ -1,4 +1,5 @@
 -- The joins of instantiate give none of 1 to 4: core.rs unwraps them. They and the steps around them take exactly so much of each table. Assumes nothing.
+-- First the steps, each exact in what it takes (Exact's rules); then a join with an unbound variable; then the arguments of a name, pair by pair with its fresh variable; then instantiate by the depth.
 use mathlib.Core.Path.{_≡_, refl, sym, ap, _∙_, subst}
 use mathlib.Core.Logic.{_≢_, _⊎_, inl, inr}
 use mathlib.Core.Bool.{Bool, true, false, _||_}
@@ -299,11 +300,21 @@ unfolding join-args join max-depth Vars-from
 join-args-exact [] ts {S} s i j ps = exact-ok (more-none S) (record { steady = steady-refl s; only = λ y l c. refl; are = tt })
 join-args-exact (v ∷ vs) [] {S} s i j ps = exact-ok (more-none S) (record { steady = steady-refl s; only = λ y l c. refl; are = tt })
 join-args-exact {ar} (v ∷ vs) (t ∷ ts) {S} {h} {a} {b} s i j (pair {x = x} {b′ = b′} p ps) =
-    exact-as (exact-bind _ (exact-post {R = λ r. Steady ar S (r .0) × (r .1 < count (r .0)) × Left-of S x b b′ r} (join-impl-good 256 S Join v t s (p .v-in) (p .t-in)) (join-exact s 254 h a b v t x i j p) (λ S1 u g q l. (record { before = s; after = q .sound; grown = g; marks = l .marks }, q .t-in, l))) (λ r q.
+    exact-as (exact-bind _
+    (exact-post {R = λ r. Steady ar S (r .0) × (r .1 < count (r .0)) × Left-of S x b b′ r}
+    (join-impl-good 256 S Join v t s (p .v-in) (p .t-in)) (join-exact s 254 h a b v t x i j p)
+    (λ S1 u g q l. (record { before = s; after = q .sound; grown = g; marks = l .marks }, q .t-in, l)))
+    (λ r q.
     let z = q .0 in
     let l = q .2 in
     let up = z .grown .g-vars in
-    exact-bind _ (subst (λ (k : Needs). Exact-and (r .0) k (Args-joined ar (r .0) (suc x)) (join-args (r .0) vs ts)) (merges-keep (z .grown) ps) (join-args-exact vs ts (z .after) (omega (arith, up)) (omega (arith, next-from (p .shape))) (pairs-keep z i (omega (arith, next-from (p .shape))) (λ y k c. l .only y k (apart y c) (side y c)) ps))) (λ r2 w. exact-ok (more-none (r2 .0)) (record {
+    exact-bind _
+    (subst (λ (k : Needs). Exact-and (r .0) k (Args-joined ar (r .0) (suc x)) (join-args (r .0) vs ts))
+    (merges-keep (z .grown) ps)
+    (join-args-exact vs ts (z .after) (omega (arith, up)) (omega (arith, next-from (p .shape)))
+    (pairs-keep z i (omega (arith, next-from (p .shape)))
+    (λ y k c. l .only y k (apart y c) (side y c)) ps)))
+    (λ r2 w. exact-ok (more-none (r2 .0)) (record {
       steady = steady-trans z (w .steady);
       only = λ y k c. w .only y (omega (arith, up)) (omega (arith, p .from)) ∙ l .only y k (λ d. omega (arith, p .from)) (inl (omega (arith, p .from, p .below)));
       are = ((omega (arith, q .1, w .steady .grown .g-nodes), (l .var, w .steady .grown .g-kept (r .1) (q .1) ∙ l .is, late (l .var) (l .which))), All-map (λ u f. (f .0, (f .1 .0, f .1 .1, omega (arith, p .from, f .1 .2)))) (r2 .1) (w .are));

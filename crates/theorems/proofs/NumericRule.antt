@@ -1,4 +1,5 @@
 -- R-2: the numeric rule, of every builtin number b at once. The rule goes by the list `integers` alone, so a number that joins the list joins the rule. Assumes nothing.
+-- `Numeric-rule` is the claim in three parts: join and subtype, NC, marks without drop. Each part is computed from a name that is in the list.
 use mathlib.Core.Path.{_≡_, refl, sym, ap, _∙_}
 use mathlib.Core.Bool.{Bool, true, false, not, _&&_, _||_}
 use mathlib.Core.List.{List, [], _∷_, List·Memᴰ}

@@ -1,4 +1,5 @@
 -- Sound states, and the order between states: S ⊑ S′ where all that S knows S′ knows. Assumes nothing.
+-- First soundness as a record, then the order, then facts of a sound state; at the end, that chains go on in the order and that it is reflexive and transitive.
 use mathlib.Core.Path.{_≡_, refl, _∙_}
 use mathlib.Core.Bool.{true, false}
 use mathlib.Core.List.{List, [], _∷_}

@@ -1,4 +1,5 @@
 -- Counts within limits and fields in range: the part of soundness that no type's structure needs. Each change of the state keeps it. Assumes nothing.
+-- First lists, then the fields of nodes, variables, constraints and declarations, then `Ranges` of a state and one law for each change of it.
 use mathlib.Core.Path.{_≡_, refl, ap, _∙_}
 use mathlib.Core.Bool.{Bool, true, _&&_}
 use mathlib.Core.List.{List, [], _∷_, _++_, append-assoc}

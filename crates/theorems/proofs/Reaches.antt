@@ -1,4 +1,5 @@
 -- The test for no. 9: a type is turned down just where reading it runs into a loop (WholeReading.antt: into a variable that reaches itself). Assumes nothing.
+-- First where reading goes on from a node; then a walk with a mark for each node above (`Way`, a node that is met below itself); then the other way.
 use mathlib.Core.Path.{_≡_, refl, sym, ap, _∙_, subst}
 use mathlib.Core.Logic.{_⊎_, inl, inr, _↔_}
 use mathlib.Core.Bool.{Bool, true, false, not}

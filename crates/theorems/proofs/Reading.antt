@@ -1,4 +1,5 @@
 -- From the order between states to rank. Assumes nothing.
+-- First that rank is reflexive and transitive, by the tree; then that what a type tracks ranks at or above it; then reading n deep, by induction on n.
 use mathlib.Core.Path.{_≡_, refl}
 use mathlib.Core.Logic.{_⊎_, inl, inr}
 use mathlib.Core.Bool.{Bool, true, false}

@@ -1,4 +1,5 @@
 -- Every record's run goes up, or leaves the state as it was, or ends in an error whose nodes are sound. Assumes nothing.
+-- First the runs that give back the state as it was, then constraints, then record by record by the rules of Went and the main lemma.
 use mathlib.Core.Path.{_≡_, refl}
 use mathlib.Core.Bool.{Bool, true}
 use mathlib.Core.List.{List, [], _∷_, _++_}

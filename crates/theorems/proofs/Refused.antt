@@ -1,4 +1,5 @@
 -- 5 and above leave the state as at entry, and no payload. No number has three digits. Assumes nothing.
+-- By cases: the call's test fails, or the record is read and run; each way a number of 5 or more comes from puts the state back.
 use mathlib.Core.Path.{_≡_, refl}
 use mathlib.Core.Bool.{Bool, true, false}
 use mathlib.Core.List.{[], _∷_}
@@ -6,7 +7,8 @@ use Prim.Native.Nat.{ℕ, _≤_, _<_}
 use native.Mathlib.Omega.{arith}
 use lib.ListN.{length}
 use lib.Dec.{leb}
-use Rattle.definition.specs.Types.{State, TypingError, SubtypeError, Incompatible, ArityMismatch, RecursiveType, Refusal, malformed, unknown-name, full, too-deep, runs-into-itself, abilities-disagree, open-variable, no-argument, parameter-twice, answer-too-long, unsound-state, mark-contradicted, doubled-reference, Result, ok, err, refused, if_then_else_}
+use Rattle.definition.specs.Types.{State, TypingError, SubtypeError, Incompatible, ArityMismatch, RecursiveType, Refusal, malformed, unknown-name, full, too-deep, runs-into-itself, abilities-disagree}
+use Rattle.definition.specs.Types.{open-variable, no-argument, parameter-twice, answer-too-long, unsound-state, mark-contradicted, doubled-reference, Result, ok, err, refused, if_then_else_}
 use Rattle.definition.specs.Write.{Bytes}
 use Rattle.definition.specs.Reader.{Read, got, not-read}
 use Rattle.definition.specs.Record.{Record, read-record}

@@ -1,4 +1,5 @@
 -- The types of a record placed, type arguments instantiated, constraints solved: each of these runs only goes up. Assumes nothing.
+-- Placing by the tree, type arguments by the list with the one-deeper run left open, constraints by the list; each step by Went's rules.
 use mathlib.Core.Path.{_≡_, refl, sym, ap, _∙_}
 use mathlib.Core.Bool.{Bool, true, false}
 use mathlib.Core.List.{List, [], _∷_}

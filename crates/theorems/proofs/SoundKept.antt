@@ -1,4 +1,5 @@
 -- Soundness kept: from a sound state every record, whatever bytes it is, leaves a sound state. So a list of records does, and a job never meets 15. Assumes nothing.
+-- From the test to the ranges, through the run by Walk and Records, and from there back to the test. Then the answer, streams, and jobs.
 use mathlib.Core.Path.{_≡_, refl, sym, ap, _∙_}
 use mathlib.Core.Logic.{_≢_}
 use mathlib.Core.Bool.{Bool, true, false, _&&_}

@@ -1,4 +1,5 @@
 -- The test for a sound state passes just where the state is sound. Assumes nothing.
+-- `Is-sound` says it in words. One way each test gives its field, the other each field passes its test; the lists by their members.
 use mathlib.Core.Path.{_≡_, refl, sym, ap, _∙_}
 use mathlib.Core.Logic.{_≢_, _↔_}
 use mathlib.Core.Bool.{Bool, true, false, not, _&&_}
@@ -172,7 +173,11 @@ module _ (s : State) (h : Is-sound s) where
   passes : sound s ≡ true
   unfolding sound counts-fit parts-smaller fields-allowed cell-allowed no-binding-anything chains-end get num-loc type-at node
   passes = and (and (and (and
-      (and (and (and (and (le-test (count s) max-nodes (h .few-nodes)) (le-test (length (s .args)) max-args (h .few-args))) (le-test (taken s) max-vars (h .few-vars))) (le-test (length (s .constraints)) max-constraints (h .few-constraints))) (le-test (length (s .structs)) max-structs (h .few-structs)))
+      (and (and (and (and (le-test (count s) max-nodes (h .few-nodes))
+      (le-test (length (s .args)) max-args (h .few-args)))
+      (le-test (taken s) max-vars (h .few-vars)))
+      (le-test (length (s .constraints)) max-constraints (h .few-constraints)))
+      (le-test (length (s .structs)) max-structs (h .few-structs)))
       (each-at (λ t n. smaller-than t (parts (with-args s (n .value)))) nowhere (s .nodes) (λ t i. smaller-test t (parts (type-at s t)) (λ p m. h .smaller-parts t p i m))))
       (and (and (and (each-of (λ n. node-allowed s n) nowhere (s .nodes) (λ t i. h .node-fields t i))
       (each-of (λ c. cell-allowed s c) unbound (s .vars) (λ v i. and (binding-test v (get s v) refl) (numeric-test v (num-loc s v) refl))))

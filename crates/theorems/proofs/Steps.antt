@@ -1,4 +1,5 @@
 -- The steps of a join that follow no type: a new node, a new variable, a mark, a binding. Each keeps a sound state sound, and goes up. Assumes nothing.
+-- `Quiet`: the state has what it had, with the same chains, so it goes up. Each step is shown to be quiet and to keep soundness, field by field.
 use mathlib.Core.Path.{_≡_, refl, sym, ap, _∙_}
 use mathlib.Core.Logic.{_⊎_, inl, inr}
 use mathlib.Core.Bool.{true, false}

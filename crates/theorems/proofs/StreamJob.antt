@@ -1,4 +1,5 @@
 -- A stream's log is the log of its records, each cut off and lent alone. So R-4 holds of streams. Assumes nothing.
+-- First that a run's answer does not end the job, then one record (Cuts: it is read alike alone), then the log by induction on the records. R-4 is Locations', of these records.
 use mathlib.Core.Path.{_≡_, refl, sym, ap, _∙_, subst}
 use mathlib.Core.Bool.{Bool, true, false}
 use mathlib.Core.List.{List, [], _∷_, map}

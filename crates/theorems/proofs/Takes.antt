@@ -1,4 +1,5 @@
 -- How many nodes and variables a call takes, and that with so much space it is not refused. Assumes nothing.
+-- `Space` and `Took` count nodes and variables; `Takes` says of a run that it takes no more, or is refused with 7. Then the small steps, and rules to put runs together.
 use mathlib.Core.Path.{_≡_, refl}
 use mathlib.Core.List.{[]}
 use mathlib.Core.Option.{Option, none, some}

@@ -1,4 +1,5 @@
 -- The relation `x tracks r`. Assumes nothing.
+-- First the relation, by derivations: chains that end, shapes with one head, parts that track. Then its laws, by recursion on derivations.
 use mathlib.Core.Path.{_≡_, refl}
 use mathlib.Core.Bool.{Bool, true, false}
 use mathlib.Core.List.{List, [], _∷_}

@@ -1,5 +1,6 @@
 -- Every call of a run, walked once: it refuses with 7 to 13 and 16 alone, with 9 only where a walk runs out of steps or SV meets it, with 16 only there, and where a claim H says that the state and the record are in range, so is what it leaves.
 -- Assumes nothing.
+-- `Ends` is the one relation of a run's result, with rules for bind, if and elim. It goes through the definition's calls in their order; joins and walks by their depth.
 use mathlib.Core.Path.{_≡_, refl}
 use mathlib.Core.Bool.{Bool, true, false, not, _&&_}
 use mathlib.Core.List.{List, [], _∷_, map}
@@ -13,7 +14,8 @@ use Rattle.definition.specs.Types.{Constraint, AbilityConstraint}
 use Rattle.definition.specs.Types.{Refusal, full, too-deep, runs-into-itself, abilities-disagree, open-variable, no-argument, parameter-twice, mark-contradicted, Result, ok, err, refused, _>>=_}
 use Rattle.definition.specs.Store.{any-of, count, type-at, loc-of, get, num-loc, sp, next-tvar, add-constraint, declare, map-types}
 use Rattle.definition.specs.Subst.{is-anything, forward-tvar, reaches-itself, ready-value, ready, ready-tvars}
-use Rattle.definition.specs.Join.{integers, TypingCase, Join, Subtype, Join-impl, is-numeric, check-num-tvar, used, join-bind-tvar, type-of, shown, merge-num, join-tvar, join-impl-types, Arm, join-mut, join-loc, join-refs, same-name, is-multiple, same-mark, join-applies, join-unbound, join-arm, join-impl, join, subtype}
+use Rattle.definition.specs.Join.{integers, TypingCase, Join, Subtype, Join-impl, is-numeric, check-num-tvar, used, join-bind-tvar, type-of, shown, merge-num, join-tvar, join-impl-types}
+use Rattle.definition.specs.Join.{Arm, join-mut, join-loc, join-refs, same-name, is-multiple, same-mark, join-applies, join-unbound, join-arm, join-impl, join, subtype}
 use Rattle.definition.specs.TParams.{TParamSubst, arg-of, make-tparam-subst, subst-value, subst-down, subst-tparams}
 use Rattle.definition.specs.Instantiate.{make-tvar, tvar-constraint, builtin-tparams, struct-tparams, tparam-constraints, make-tparams, join-args, instantiate-type-args, instantiate-apply, instantiate-value, instantiate-down, instantiate}
 use Rattle.definition.specs.Constraints.{num-vars, undecided, u64, default-num-var, default-num-vars, solve-constraints}

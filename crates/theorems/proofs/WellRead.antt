@@ -1,4 +1,5 @@
 -- What is read of a record has known names, each name its arguments, and, where its bytes are bytes, fields in range. It takes a byte or more. Assumes nothing.
+-- First what a fine tree is and what fields in range are; then one relation, `Given`, through the readers field by field; by the nesting that is left for types.
 use mathlib.Core.Path.{_≡_, refl, ap}
 use mathlib.Core.Bool.{Bool, true, false, not, _&&_}
 use mathlib.Core.List.{List, [], _∷_, _++_}

@@ -1,4 +1,5 @@
 -- Runs that only go up: from a sound state to a sound state above it. Assumes nothing.
+-- `Went` holds of no step and of one step after another; then rules for bind of runs that give a state, and the small steps.
 use mathlib.Core.Path.{_≡_, refl, sym, ap, _∙_}
 use mathlib.Core.Bool.{Bool}
 use mathlib.Core.List.{List, [], _∷_, _++_, List·Memᴰ, List·Memᴰ·append-cases, List·Memᴰ·eq-of-singleton, List·Memᴰ·not-nil}

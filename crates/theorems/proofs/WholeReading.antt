@@ -1,4 +1,5 @@
 -- Whole readings: there is one at most, and there is one just where no variable that reaches itself is met. Assumes nothing.
+-- First that there is one at most, by derivations; then that what ends within some depth is it, and that what is read whole meets no loop, by its steps; then that there is one else (Finite).
 use mathlib.Core.Path.{_≡_, refl, sym, ap, subst}
 use mathlib.Core.Logic.{inl, inr, _↔_}
 use mathlib.Core.Bool.{true}

@@ -1,4 +1,5 @@
 -- Bytes put one after the other, and lengths with a limit. Assumes nothing.
+-- By lists cut where the bytes are put: what stands before and after is kept, and the lengths add up.
 use mathlib.Core.Path.{_≡_, refl, sym, ap, _∙_}
 use mathlib.Core.Bool.{Bool, true, false}
 use mathlib.Core.List.{List, [], _∷_, _++_, append-assoc, append-nil}

@@ -1,4 +1,5 @@
 -- The turns of the loops over a type's parts: what holds at the head of each, where it begins, a turn, and where it ends. Assumes nothing.
+-- Each loop has a record of what holds at its head (`Sizing`, `Writing`); of each: where it begins, one part more, and where it ends.
 use mathlib.Core.Path.{_≡_, refl, sym, ap, _∙_, subst}
 use mathlib.Core.Bool.{Bool, true, false}
 use mathlib.Core.List.{List, [], _++_}

@@ -1,4 +1,5 @@
 -- A type's bytes part by part, in a state whose parts fall. Assumes nothing.
+-- The bytes of a type are its head and then those of its parts, as a list; by the structure of the parts, which fall.
 use mathlib.Core.Path.{_≡_, refl, sym, ap, _∙_}
 use mathlib.Core.List.{List, [], _∷_, _++_, append-assoc, append-nil}
 use Prim.Native.Nat.{ℕ, zero, suc, _+_, _≤_, _<_}

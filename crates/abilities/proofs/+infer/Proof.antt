@@ -1,4 +1,5 @@
 -- `abilities::infer` meets its contract. Assumes nothing.
+-- By the levels that are left, which fall at a part. Invariant `Walked`: the sets of the parts before i are known, and none is lost; then the node's own set is kept.
 use borrow.Author.Needs.{needs}
 use native.Mathlib.Omega.{arith}
 use mathlib.Core.Path.{sym, _∙_}

@@ -24,7 +24,13 @@ by-argument-requires : tie.Need-by-argument-requires
 by-argument-requires c κs = c .lacking .ensures .0
 
 returns-2 : tie.Need-returns-2
-returns-2 c = (c .by-argument .ensures .0, λ ds k m. c .by-argument .ensures .1 ∙ rule-by _ _ _ _ (c .before .before .before .before .before .declared-abilities .ensures ds (k .rows)) _ (c .before .before .before .before .has .ensures) m _ (c .before .before .before .if1 .left) _ _ (c .before .before .requires-of .ensures) (c .before .lacking .ensures .1 ds k))
+returns-2 c =
+    let declared-abilities = c .before .before .before .before .before .declared-abilities in (
+      c .by-argument .ensures .0,
+      λ ds k m. c .by-argument .ensures .1 ∙ rule-by _ _ _ _ (declared-abilities .ensures ds (k .rows)) _
+          (c .before .before .before .before .has .ensures) m _ (c .before .before .before .if1 .left) _ _
+          (c .before .before .requires-of .ensures) (c .before .lacking .ensures .1 ds k),
+    )
 
 pub apply-rule-spec : {M : Type 1} → statement M
 apply-rule-spec =

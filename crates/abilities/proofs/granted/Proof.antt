@@ -30,11 +30,21 @@ enum-told-2 c = search needs
 
 returns-2 : tie.Need-returns-2
 unfolding is-none
-returns-2 c = λ ds k. ap (λ x. is-none (found x)) (sym (c .enum-told .given .1)) ∙ granted-by _ _ _ _ (c .before .before .before .before .before .before .declared-abilities .ensures ds (k .rows)) _ (c .before .before .before .before .before .has .ensures) _ _ (c .before .before .before .before .if1 .left) _ _ (c .before .before .before .requires-of .ensures) (c .before .before .lacking .ensures .1 ds k)
+returns-2 c =
+    let declared-abilities = c .before .before .before .before .before .before .declared-abilities in
+    let has = c .before .before .before .before .before .has in
+    λ ds k. ap (λ x. is-none (found x)) (sym (c .enum-told .given .1)) ∙ granted-by _ _ _ _
+    (declared-abilities .ensures ds (k .rows)) _ (has .ensures) _ _ (c .before .before .before .before .if1 .left) _
+    _ (c .before .before .before .requires-of .ensures) (c .before .before .lacking .ensures .1 ds k)
 
 returns-3 : tie.Need-returns-3
 unfolding is-none
-returns-3 c = λ ds k. ap (λ x. is-none (found x)) (sym (c .enum-told2 .given .1)) ∙ granted-by _ _ _ _ (c .before .before .before .before .before .before .declared-abilities .ensures ds (k .rows)) _ (c .before .before .before .before .before .has .ensures) _ _ (c .before .before .before .before .if1 .left) _ _ (c .before .before .before .requires-of .ensures) (c .before .before .lacking .ensures .1 ds k)
+returns-3 c =
+    let declared-abilities = c .before .before .before .before .before .before .declared-abilities in
+    let has = c .before .before .before .before .before .has in
+    λ ds k. ap (λ x. is-none (found x)) (sym (c .enum-told2 .given .1)) ∙ granted-by _ _ _ _
+    (declared-abilities .ensures ds (k .rows)) _ (has .ensures) _ _ (c .before .before .before .before .if1 .left) _
+    _ (c .before .before .before .requires-of .ensures) (c .before .before .lacking .ensures .1 ds k)
 
 pub granted-spec : {M : Type 1} → statement M
 granted-spec =

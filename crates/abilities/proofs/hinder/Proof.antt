@@ -10,7 +10,9 @@ enum-known-c : tie.Need-enum-known-c
 enum-known-c c = search needs
 
 ability-hinders-requires : tie.Need-ability-hinders-requires
-ability-hinders-requires c κs = (c .before .before .before .before .before .before .before .before .pre .0, (asked-node _ _ _ _ _ (c .before .before .before .before .before .before .before .before .pre .1 .0) (c .before .before .before .c .given .1), c .before .before .before .before .before .before .before .before .pre .1 .1))
+ability-hinders-requires c κs =
+    let pre = c .before .before .before .before .before .before .before .before .pre in
+    (pre .0, (asked-node _ _ _ _ _ (pre .1 .0) (c .before .before .before .c .given .1), pre .1 .1))
 
 enum-told : tie.Need-enum-told
 enum-told c = search needs

@@ -1,4 +1,5 @@
 -- `abilities::hinders` meets its contract. Assumes nothing.
+-- Invariant `Passed`: the constraints before i hinder nothing. One that hinders gives its number (`passed-stop`), else it is one more (`passed-more`).
 use mathlib.Core.Path.{refl, sym, ap, _∙_}
 use Prim.Native.Nat.{_-_}
 use native.Mathlib.Omega.{arith}
@@ -19,7 +20,16 @@ constraint-at-requires : tie.Need-constraint-at-requires Inv-loop μ-loop
 constraint-at-requires c κs = (c .before .before .before .before .before .pre .0, c .loop-test .taken)
 
 hinder-requires : tie.Need-hinder-requires Inv-loop μ-loop
-hinder-requires c κs = (c .before .before .before .before .before .before .before .before .pre .0, (passed-asked (c .before .before .before .before .loop .inv) (c .before .before .before .loop-test .taken) _ (c .before .before .constraint-at .ensures), (c .before .before .before .before .loop .inv .marked, c .before .before .before .before .loop .inv .kept)))
+hinder-requires c κs =
+    let pre = c .before .before .before .before .before .before .before .before .pre in
+    let loop = c .before .before .before .before .loop in (
+      pre .0,
+      (
+        passed-asked (loop .inv) (c .before .before .before .loop-test .taken) _
+            (c .before .before .constraint-at .ensures),
+        (loop .inv .marked, loop .inv .kept),
+      ),
+    )
 
 same-length : tie.Need-same-length Inv-loop μ-loop
 same-length c = c .before .before .before .before .before .hinder .ensures .0 .size ∙ sym (c .before .before .before .before .before .before .before .before .before .before .before .before .before .before .pre .1 .1 .0 .size)
@@ -28,7 +38,12 @@ same-length-2 : tie.Need-same-length-2 Inv-loop μ-loop
 same-length-2 c = c .before .before .before .before .before .hinder .ensures .1 .kept .size ∙ sym (c .before .before .before .before .before .before .before .before .before .before .before .before .before .before .pre .1 .1 .1 .size)
 
 returns : tie.Need-returns Inv-loop μ-loop
-returns c = passed-stop (c .before .before .before .before .before .before .before .before .before .before .loop .inv) (c .before .before .before .before .before .before .before .before .before .loop-test .taken) _ (c .before .before .before .before .before .before .before .before .constraint-at .ensures) _ _ (c .before .before .before .before .before .hinder .ensures .1) (c .if1 .taken)
+returns c =
+    let loop = c .before .before .before .before .before .before .before .before .before .before .loop in
+    let loop-test = c .before .before .before .before .before .before .before .before .before .loop-test in
+    let constraint-at = c .before .before .before .before .before .before .before .before .constraint-at in
+    let hinder = c .before .before .before .before .before .hinder in
+    passed-stop (loop .inv) (loop-test .taken) _ (constraint-at .ensures) _ _ (hinder .ensures .1) (c .if1 .taken)
 
 add-i : tie.Need-add-i Inv-loop μ-loop
 add-i c = omega (arith, c .before .before .before .before .before .before .before .before .before .before .before .before .before .before .pre .0 .constraints)
@@ -37,7 +52,13 @@ loop-less : tie.Need-loop-less Inv-loop μ-loop
 loop-less c = omega arith
 
 loop-again : tie.Need-loop-again Inv-loop μ-loop
-loop-again c = passed-more (c .before .before .before .before .before .before .before .before .before .before .loop .inv) (c .before .before .before .before .before .before .before .before .before .loop-test .taken) _ (c .before .before .before .before .before .before .before .before .constraint-at .ensures) _ _ (c .before .before .before .before .before .hinder .ensures .1) (omega arith) _ (c .before .before .before .before .before .hinder .ensures .0)
+loop-again c =
+    let loop = c .before .before .before .before .before .before .before .before .before .before .loop in
+    let loop-test = c .before .before .before .before .before .before .before .before .before .loop-test in
+    let constraint-at = c .before .before .before .before .before .before .before .before .constraint-at in
+    let hinder = c .before .before .before .before .before .hinder in
+    passed-more (loop .inv) (loop-test .taken) _ (constraint-at .ensures) _ _ (hinder .ensures .1) (omega arith) _
+    (hinder .ensures .0)
 
 same-length-3 : tie.Need-same-length-3 Inv-loop μ-loop
 same-length-3 c = c .before .loop .inv .marked .size ∙ sym (c .before .before .before .before .before .pre .1 .1 .0 .size)

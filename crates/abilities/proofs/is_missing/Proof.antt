@@ -19,7 +19,10 @@ has-requires-2 : tie.Need-has-requires-2
 has-requires-2 c κs = search needs
 
 returns-2 : tie.Need-returns-2
-returns-2 c = λ ds k. and-so _ _ (c .before .before .before .has .ensures) (c .before .before .if1 .left) _ _ (rw (c .has2 .ensures, c .before .kept .ensures, c .before .before .before .before .before .before .pre .1 .1 .1 .0 .is _ (c .before .before .before .before .before .before .pre .1 .1 .1 .1) ds k) refl)
+returns-2 c =
+    let pre = c .before .before .before .before .before .before .pre in
+    λ ds k. and-so _ _ (c .before .before .before .has .ensures) (c .before .before .if1 .left) _ _
+    (rw (c .has2 .ensures, c .before .kept .ensures, pre .1 .1 .1 .0 .is _ (pre .1 .1 .1 .1) ds k) refl)
 
 pub is-missing-spec : {M : Type 1} → statement M
 is-missing-spec = tie.close (tie.spec has-requires returns kept-requires has-requires-2 returns-2)

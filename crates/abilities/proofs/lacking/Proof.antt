@@ -20,7 +20,17 @@ arg-at-requires : tie.Need-arg-at-requires Inv-loop μ-loop
 arg-at-requires c κs = c .before .loop .inv .ready .lay
 
 lacks-requires : tie.Need-lacks-requires Inv-loop μ-loop
-lacks-requires c κs = (c .before .before .loop .inv .ready .lay, (omega (arith, c .before .before .loop .inv .ready .few), (c .before .before .loop .inv .ready .size, (search-part (c .before .before .loop .inv) (c .before .loop-test .taken) _ (c .arg-at .ensures), c .before .before .loop .inv .some-needed))))
+lacks-requires c κs =
+    let loop = c .before .before .loop in (
+      loop .inv .ready .lay,
+      (
+        omega (arith, loop .inv .ready .few),
+        (
+          loop .inv .ready .size,
+          (search-part (loop .inv) (c .before .loop-test .taken) _ (c .arg-at .ensures), loop .inv .some-needed),
+        ),
+      ),
+    )
 
 returns : tie.Need-returns Inv-loop μ-loop
 returns c = (omega (arith, c .before .before .before .before .loop .inv .ready .few), search-hit (c .before .before .before .before .loop .inv) (c .before .before .before .loop-test .taken) _ (c .before .before .arg-at .ensures) _ (c .before .lacks .ensures) (c .if1 .taken))

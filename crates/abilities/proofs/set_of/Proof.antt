@@ -1,4 +1,5 @@
 -- `abilities::set_of` meets its contract. Assumes nothing.
+-- One return for each shape, and for a named type each mark: the shape is told, and the set computes; `granted_set` says it of a type without a mark.
 use Rattle.abilities.proofs.Sets.{ready-args}
 use mathlib.Core.Path.{refl, sym, ap, _∙_}
 use Rattle.definition.specs.Store.{with-args}

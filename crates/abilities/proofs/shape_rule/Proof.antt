@@ -1,4 +1,5 @@
 -- `abilities::shape_rule` meets its contract. Assumes nothing.
+-- One return for each shape: the shape is told, and the rule computes; for a named type `apply_rule` says it.
 use Rattle.abilities.proofs.Sets.{ready-args}
 use mathlib.Core.Path.{refl, sym, ap, _∙_}
 use Rattle.definition.specs.Store.{with-args}

@@ -18,10 +18,22 @@ same-length : tie.Need-same-length
 same-length c = search needs
 
 returns : tie.Need-returns
-returns c = success-long (c .before .before .before .before .before .before .before .before .before .before .args .w .now) (c .before .before .before .before .before .before .before .before .before .before .args .u) (c .before .before .before .before .before .before .before .before .before .before .args .before) (c .before .before .before .before .before .before .before .before .before .before .args .saved .now) (c .before .before .before .before .before .before .before .before .before .before .args .buf .now) (c .before .before .before .before .before .before .before .before .before .before .args .kept) (c .before .before .before .before .before .before .before .before .before .before .args .show) (c .before .before .before .before .before .before .before .before .before .before .args .t) (c .before .before .before .before .before .shown-size .result) (c .before .before .before .before .before .shown-size .ensures) _ _ _ (c .before .before .before .before .if1 .taken) (c .before .before .refuse .ensures answer-too-long _ number-14)
+returns c =
+    let args = c .before .before .before .before .before .before .before .before .before .before .args in
+    let shown-size = c .before .before .before .before .before .shown-size in
+    success-long (args .w .now) (args .u) (args .before) (args .saved .now) (args .buf .now) (args .kept) (args .show)
+    (args .t) (shown-size .result) (shown-size .ensures) _ _ _ (c .before .before .before .before .if1 .taken)
+    (c .before .before .refuse .ensures answer-too-long _ number-14)
 
 write-shown-requires : tie.Need-write-shown-requires
-write-shown-requires c κs = ((c .before .before .before .before .before .before .before .before .pre .0 .0, (c .before .before .before .before .before .before .before .before .pre .1 .0 .0, c .before .before .before .before .before .before .before .before .pre .1 .0 .1)), success-fits (c .before .before .before .before .before .before .before .before .args .w .now) (c .before .before .before .before .before .before .before .before .args .u) (c .before .before .before .before .before .before .before .before .args .before) (c .before .before .before .before .before .before .before .before .args .saved .now) (c .before .before .before .before .before .before .before .before .args .buf .now) (c .before .before .before .before .before .before .before .before .args .kept) (c .before .before .before .before .before .before .before .before .args .show) (c .before .before .before .before .before .before .before .before .args .t) (c .before .before .before .shown-size .result) (c .before .before .before .shown-size .ensures) (c .before .before .if1 .left))
+write-shown-requires c κs =
+    let args = c .before .before .before .before .before .before .before .before .args in
+    let pre = c .before .before .before .before .before .before .before .before .pre in
+    let shown-size = c .before .before .before .shown-size in (
+      (pre .0 .0, (pre .1 .0 .0, pre .1 .0 .1)),
+      success-fits (args .w .now) (args .u) (args .before) (args .saved .now) (args .buf .now) (args .kept)
+          (args .show) (args .t) (shown-size .result) (shown-size .ensures) (c .before .before .if1 .left),
+    )
 
 same-length-2 : tie.Need-same-length-2
 same-length-2 c = search needs
@@ -30,7 +42,14 @@ same-length-3 : tie.Need-same-length-3
 same-length-3 c = search needs
 
 returns-2 : tie.Need-returns-2
-returns-2 c = success-kept (c .before .before .before .before .before .before .before .before .before .before .before .before .args .w .now) (c .before .before .before .before .before .before .before .before .before .before .before .before .args .u) (c .before .before .before .before .before .before .before .before .before .before .before .before .args .before) (c .before .before .before .before .before .before .before .before .before .before .before .before .args .saved .now) (c .before .before .before .before .before .before .before .before .before .before .before .before .args .buf .now) (c .before .before .before .before .before .before .before .before .before .before .before .before .args .kept) (c .before .before .before .before .before .before .before .before .before .before .before .before .args .show) (c .before .before .before .before .before .before .before .before .before .before .before .before .args .t) (c .before .before .before .before .before .before .before .shown-size .result) (c .before .before .before .before .before .before .before .shown-size .ensures) _ _ (c .before .before .before .before .before .before .if1 .left) (c .before .before .before .write-shown .ensures) (c .if2 .taken) (c .before .before .before .before .before .before .before .before .before .before .before .before .pre .0 .0)
+returns-2 c =
+    let args = c .before .before .before .before .before .before .before .before .before .before .before .before .args in
+    let pre = c .before .before .before .before .before .before .before .before .before .before .before .before .pre in
+    let shown-size = c .before .before .before .before .before .before .before .shown-size in
+    let if1 = c .before .before .before .before .before .before .if1 in
+    success-kept (args .w .now) (args .u) (args .before) (args .saved .now) (args .buf .now) (args .kept) (args .show)
+    (args .t) (shown-size .result) (shown-size .ensures) _ _ (if1 .left)
+    (c .before .before .before .write-shown .ensures) (c .if2 .taken) (pre .0 .0)
 
 give-back-requires : tie.Need-give-back-requires
 give-back-requires c κs = (sized-on _ refl (c .before .before .before .before .before .before .before .before .before .before .before .before .before .pre .0 .0), c .before .before .before .before .before .before .before .before .before .before .before .before .before .pre .0 .1 .0)
@@ -45,7 +64,19 @@ same-length-5 : tie.Need-same-length-5
 same-length-5 c = search needs
 
 returns-3 : tie.Need-returns-3
-returns-3 c = rw (c .as-before .ensures) (success-back (c .before .before .before .before .before .before .before .before .before .before .before .before .before .before .before .before .before .args .w .now) (c .before .before .before .before .before .before .before .before .before .before .before .before .before .before .before .before .before .args .u) (c .before .before .before .before .before .before .before .before .before .before .before .before .before .before .before .before .before .args .before) (c .before .before .before .before .before .before .before .before .before .before .before .before .before .before .before .before .before .args .saved .now) (c .before .before .before .before .before .before .before .before .before .before .before .before .before .before .before .before .before .args .buf .now) (c .before .before .before .before .before .before .before .before .before .before .before .before .before .before .before .before .before .args .kept) (c .before .before .before .before .before .before .before .before .before .before .before .before .before .before .before .before .before .args .show) (c .before .before .before .before .before .before .before .before .before .before .before .before .before .before .before .before .before .args .t) (c .before .before .before .before .before .before .before .before .before .before .before .before .shown-size .result) (c .before .before .before .before .before .before .before .before .before .before .before .before .shown-size .ensures) _ _ (c .before .before .before .before .before .before .before .before .before .before .before .if1 .left) (c .before .before .before .before .before .before .before .before .write-shown .ensures) _ (c .before .before .before .before .before .if2 .left) (given-back _ _ _ _ _ (c .before .before .before .before .before .before .before .before .before .before .before .before .before .before .before .before .before .pre .0 .0) (c .before .before .before .before .before .before .before .before .before .before .before .before .before .before .before .before .before .pre .1 .1 (c .before .before .before .before .before .if2 .left)) (c .before .before .before .give-back .ensures)))
+returns-3 c =
+    let c12 = c .before .before .before .before .before .before .before .before .before .before .before .before in
+    let args = c12 .before .before .before .before .before .args in
+    let pre = c12 .before .before .before .before .before .pre in
+    let shown-size = c12 .shown-size in
+    let if1 = c .before .before .before .before .before .before .before .before .before .before .before .if1 in
+    let write-shown = c .before .before .before .before .before .before .before .before .write-shown in
+    let if2 = c .before .before .before .before .before .if2 in
+    rw (c .as-before .ensures)
+    (success-back (args .w .now) (args .u) (args .before) (args .saved .now) (args .buf .now) (args .kept)
+    (args .show) (args .t) (shown-size .result) (shown-size .ensures) _ _ (if1 .left) (write-shown .ensures)
+    _ (if2 .left)
+    (given-back _ _ _ _ _ (pre .0 .0) (pre .1 .1 (if2 .left)) (c .before .before .before .give-back .ensures)))
 
 pub succeed-spec : {M : Type 1} → statement M
 succeed-spec =

@@ -16,7 +16,10 @@ add-result : tie.Need-add-result
 add-result c = search needs
 
 returns : tie.Need-returns
-returns c = λ ds. two-long (write (seen (c .before .before .before .args .w .now) (c .before .before .before .args .u) ds) (c .before .before .before .args .a)) (write (seen (c .before .before .before .args .w .now) (c .before .before .before .args .u) ds) (c .before .before .before .args .b)) _ (c .before .size-type .ensures ds) (c .if1 .taken)
+returns c =
+    let args = c .before .before .before .args in
+    λ ds. two-long (write (seen (args .w .now) (args .u) ds) (args .a))
+    (write (seen (args .w .now) (args .u) ds) (args .b)) _ (c .before .size-type .ensures ds) (c .if1 .taken)
 
 size-type-requires-2 : tie.Need-size-type-requires-2
 size-type-requires-2 c κs = search needs
@@ -25,7 +28,11 @@ add-result-2 : tie.Need-add-result-2
 add-result-2 c = let k : c .size-type2 .result ≤ 4097 = at-most _ _ _ (c .size-type2 .ensures []) (omega arith) in omega arith
 
 returns-2 : tie.Need-returns-2
-returns-2 c = λ ds. two-short (write (seen (c .before .before .before .before .args .w .now) (c .before .before .before .before .args .u) ds) (c .before .before .before .before .args .a)) (write (seen (c .before .before .before .before .args .w .now) (c .before .before .before .before .args .u) ds) (c .before .before .before .before .args .b)) _ _ (c .before .before .size-type .ensures ds) (c .before .if1 .left) (c .size-type2 .ensures ds)
+returns-2 c =
+    let args = c .before .before .before .before .args in
+    λ ds. two-short (write (seen (args .w .now) (args .u) ds) (args .a))
+    (write (seen (args .w .now) (args .u) ds) (args .b)) _ _ (c .before .before .size-type .ensures ds)
+    (c .before .if1 .left) (c .size-type2 .ensures ds)
 
 pub two-size-spec : {M : Type 1} → statement M
 two-size-spec =

@@ -31,7 +31,13 @@ enum-told-3 : tie.Need-enum-told-3
 enum-told-3 c = search needs
 
 write-type-requires : tie.Need-write-type-requires
-write-type-requires c κs = ((c .before .before .before .before .before .pre .0 .0, (rw (c .before .enum-told3 .given .1) at (c .before .before .before .before .before .pre .0 .1 .0), c .before .before .before .before .before .pre .0 .1 .1 .0)), λ ds. omega (arith, node-fits (c .before .before .before .before .before .args .show) (c .before .before .before .before .before .args .t) _ (c .before .enum-told3 .given .1) (c .before .before .before .before .before .pre .1 ds), c .before .before .before .before .before .pre .0 .1 .1 .1))
+write-type-requires c κs =
+    let args = c .before .before .before .before .before .args in
+    let pre = c .before .before .before .before .before .pre in (
+      (pre .0 .0, (rw (c .before .enum-told3 .given .1) at (pre .0 .1 .0), pre .0 .1 .1 .0)),
+      λ ds.
+          omega (arith, node-fits (args .show) (args .t) _ (c .before .enum-told3 .given .1) (pre .1 ds), pre .0 .1 .1 .1),
+    )
 
 enum-known-show-2 : tie.Need-enum-known-show-2
 enum-known-show-2 c = search needs

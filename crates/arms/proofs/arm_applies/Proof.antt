@@ -24,10 +24,19 @@ is-multiple-requires-2 : tie.Need-is-multiple-requires-2
 is-multiple-requires-2 c κs = search needs
 
 returns-3 : tie.Need-returns-3
-returns-3 c = λ case. applies-arity _ _ _ _ _ _ _ _ case (sym (c .before .before .before .before .before .same-name .ensures) ∙ c .before .before .before .before .if1 .left) (sym (c .before .before .before .is-multiple .ensures) ∙ c .before .before .if3 .taken) (sym (c .before .is-multiple2 .ensures) ∙ c .if4 .taken)
+returns-3 c =
+    let same-name = c .before .before .before .before .before .same-name in
+    λ case. applies-arity _ _ _ _ _ _ _ _ case (sym (same-name .ensures) ∙ c .before .before .before .before .if1 .left)
+    (sym (c .before .before .before .is-multiple .ensures) ∙ c .before .before .if3 .taken)
+    (sym (c .before .is-multiple2 .ensures) ∙ c .if4 .taken)
 
 returns-4 : tie.Need-returns-4
-returns-4 c = λ case. applies-other-right _ _ _ _ _ _ _ _ case (sym (c .before .before .before .before .before .same-name .ensures) ∙ c .before .before .before .before .if1 .left) (sym (c .before .before .before .is-multiple .ensures) ∙ c .before .before .if3 .taken) (sym (c .before .is-multiple2 .ensures) ∙ c .if4 .left)
+returns-4 c =
+    let same-name = c .before .before .before .before .before .same-name in
+    λ case. applies-other-right _ _ _ _ _ _ _ _ case
+    (sym (same-name .ensures) ∙ c .before .before .before .before .if1 .left)
+    (sym (c .before .before .before .is-multiple .ensures) ∙ c .before .before .if3 .taken)
+    (sym (c .before .is-multiple2 .ensures) ∙ c .if4 .left)
 
 returns-5 : tie.Need-returns-5
 returns-5 c = λ case. applies-other-left _ _ _ _ _ _ _ _ case (sym (c .before .before .before .same-name .ensures) ∙ c .before .before .if1 .left) (sym (c .before .is-multiple .ensures) ∙ c .if3 .left)

@@ -1,4 +1,5 @@
 -- `arms::arm_of` meets its contract. Assumes nothing.
+-- One return for each shape on the left: the shape is told, and the callee for it says the arm.
 use Rattle.arms.specs.Arms.{by-arm}
 use Rattle.definition.specs.Store.{with-args}
 use Rattle.definition.specs.Join.{arm, join-arm}

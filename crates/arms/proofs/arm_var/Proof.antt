@@ -1,4 +1,5 @@
 -- `arms::arm_var` meets its contract. Assumes nothing.
+-- One return for each shape on the right: the shape is told, and the arm computes; two variables are compared first.
 use borrow.Author.Tests.{eq-eqb, ne-eqb}
 use Rattle.arms.specs.Arms.{by-arm}
 use Rattle.definition.specs.Store.{with-args}

@@ -1,4 +1,5 @@
 -- `arms::same_name` meets its contract. Assumes nothing.
+-- One return for each pair of kinds of names: both are told, and the comparison computes.
 use Rattle.definition.specs.Join.{same-name}
 use borrow.Author.Needs.{needs}
 use Rattle.arms.proofs.same_name.Statement.{statement}

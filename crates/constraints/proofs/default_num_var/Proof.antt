@@ -28,13 +28,23 @@ same-length : tie.Need-same-length
 same-length c = search needs
 
 returns : tie.Need-returns
-returns c = default-stop _ _ _ _ _ (c .before .before .before .before .before .before .before .before .before .undecided-var .ensures) (c .before .before .before .before .before .before .before .before .if1 .taken) _ _ _ (c .before .before .before .before .before .before .join-u64 .ensures) (c .before .before .done-of .ensures) (c .enum-told2 .given .1)
+returns c =
+    let undecided-var = c .before .before .before .before .before .before .before .before .before .undecided-var in
+    let if1 = c .before .before .before .before .before .before .before .before .if1 in
+    let join-u64 = c .before .before .before .before .before .before .join-u64 in
+    default-stop _ _ _ _ _ (undecided-var .ensures) (if1 .taken) _ _ _ (join-u64 .ensures)
+    (c .before .before .done-of .ensures) (c .enum-told2 .given .1)
 
 same-length-2 : tie.Need-same-length-2
 same-length-2 c = search needs
 
 returns-2 : tie.Need-returns-2
-returns-2 c = default-done _ _ _ _ _ (c .before .before .before .before .before .before .before .before .before .undecided-var .ensures) (c .before .before .before .before .before .before .before .before .if1 .taken) _ _ _ (c .before .before .before .before .before .before .join-u64 .ensures) (c .before .before .done-of .ensures) _ (c .enum-told .given .1)
+returns-2 c =
+    let undecided-var = c .before .before .before .before .before .before .before .before .before .undecided-var in
+    let if1 = c .before .before .before .before .before .before .before .before .if1 in
+    let join-u64 = c .before .before .before .before .before .before .join-u64 in
+    default-done _ _ _ _ _ (undecided-var .ensures) (if1 .taken) _ _ _ (join-u64 .ensures)
+    (c .before .before .done-of .ensures) _ (c .enum-told .given .1)
 
 same-length-3 : tie.Need-same-length-3
 same-length-3 c = search needs

@@ -44,7 +44,15 @@ same-length : tie.Need-same-length Inv-loop μ-loop
 same-length c = c .before .before .before .before .before .before .default-marked .ensures .changed .lay .size ∙ sym (c .before .before .before .before .before .before .before .before .before .before .before .before .before .before .pre .0 .size)
 
 returns : tie.Need-returns Inv-loop μ-loop
-returns c = defaulting-stop _ _ _ _ _ (c .before .before .before .before .before .before .before .before .before .before .before .loop .inv) (c .before .before .before .before .before .before .before .before .before .before .loop-test .taken) _ (c .before .before .before .before .before .before .before .before .before .saved-mark .result) (c .before .before .before .before .before .before .before .before .before .before .before .before .before .before .pre .1 .0) (c .before .before .before .before .before .before .before .before .before .saved-mark .ensures) _ (c .before .before .before .before .before .before .before .before .tvar .ensures) _ _ _ (c .before .before .before .before .before .before .default-marked .ensures) (c .before .before .done-of .ensures) (c .enum-told2 .given .1)
+returns c =
+    let pre = c .before .before .before .before .before .before .before .before .before .before .before .before .before .before .pre in
+    let loop = c .before .before .before .before .before .before .before .before .before .before .before .loop in
+    let loop-test = c .before .before .before .before .before .before .before .before .before .before .loop-test in
+    let saved-mark = c .before .before .before .before .before .before .before .before .before .saved-mark in
+    let tvar = c .before .before .before .before .before .before .before .before .tvar in
+    let default-marked = c .before .before .before .before .before .before .default-marked in
+    defaulting-stop _ _ _ _ _ (loop .inv) (loop-test .taken) _ (saved-mark .result) (pre .1 .0) (saved-mark .ensures) _
+    (tvar .ensures) _ _ _ (default-marked .ensures) (c .before .before .done-of .ensures) (c .enum-told2 .given .1)
 
 add-v : tie.Need-add-v Inv-loop μ-loop
 add-v c = omega (arith, c .before .before .before .before .before .before .before .before .before .before .before .before .before .before .pre .0 .vars)
@@ -53,7 +61,15 @@ loop-less : tie.Need-loop-less Inv-loop μ-loop
 loop-less c = omega arith
 
 loop-again : tie.Need-loop-again Inv-loop μ-loop
-loop-again c = defaulting-more _ _ _ _ _ (c .before .before .before .before .before .before .before .before .before .before .before .loop .inv) (c .before .before .before .before .before .before .before .before .before .before .loop-test .taken) _ (c .before .before .before .before .before .before .before .before .before .saved-mark .result) (c .before .before .before .before .before .before .before .before .before .before .before .before .before .before .pre .1 .0) (c .before .before .before .before .before .before .before .before .before .saved-mark .ensures) _ (c .before .before .before .before .before .before .before .before .tvar .ensures) _ _ _ (c .before .before .before .before .before .before .default-marked .ensures) (c .before .before .done-of .ensures) _ (c .enum-told .given .1)
+loop-again c =
+    let pre = c .before .before .before .before .before .before .before .before .before .before .before .before .before .before .pre in
+    let loop = c .before .before .before .before .before .before .before .before .before .before .before .loop in
+    let loop-test = c .before .before .before .before .before .before .before .before .before .before .loop-test in
+    let saved-mark = c .before .before .before .before .before .before .before .before .before .saved-mark in
+    let tvar = c .before .before .before .before .before .before .before .before .tvar in
+    let default-marked = c .before .before .before .before .before .before .default-marked in
+    defaulting-more _ _ _ _ _ (loop .inv) (loop-test .taken) _ (saved-mark .result) (pre .1 .0) (saved-mark .ensures) _
+    (tvar .ensures) _ _ _ (default-marked .ensures) (c .before .before .done-of .ensures) _ (c .enum-told .given .1)
 
 same-length-2 : tie.Need-same-length-2 Inv-loop μ-loop
 same-length-2 c = c .before .loop .inv .lay .size ∙ sym (c .before .before .before .before .pre .0 .size)

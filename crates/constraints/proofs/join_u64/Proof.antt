@@ -46,16 +46,44 @@ same-length-2 : tie.Need-same-length-2
 same-length-2 c = search needs
 
 returns-2 : tie.Need-returns-2
-returns-2 c = tvar-full _ _ _ _ _ _ _ (c .before .before .before .before .before .before .before .before .before .before .before .before .before .before .before .push-apply .ensures) (c .before .before .before .before .before .before .before .before .before .before .before .done-of .ensures) _ (c .before .before .before .before .before .before .before .before .before .u64- .given .1) _ _ _ (c .before .before .before .before .before .before .push-node .ensures) (c .before .before .done-of2 .ensures) (c .enum-told2 .given .1)
+returns-2 c =
+    let push-apply = c .before .before .before .before .before .before .before .before .before .before .before .before .before .before .before .push-apply in
+    let done-of = c .before .before .before .before .before .before .before .before .before .before .before .done-of in
+    let u64- = c .before .before .before .before .before .before .before .before .before .u64- in
+    let push-node = c .before .before .before .before .before .before .push-node in
+    tvar-full _ _ _ _ _ _ _ (push-apply .ensures) (done-of .ensures) _ (u64- .given .1) _ _ _ (push-node .ensures)
+    (c .before .before .done-of2 .ensures) (c .enum-told2 .given .1)
 
 join-requires : tie.Need-join-requires
-join-requires c κs = (c .before .before .before .before .before .before .before .before .push-node .ensures .changed .lay, (still-in _ _ _ _ _ (c .before .before .before .before .before .before .before .before .push-node .ensures .changed .grown) (node-in _ (c .before .before .before .before .before .before .before .before .before .before .before .before .before .before .before .before .before .push-apply .result .out) _ _ (c .before .before .before .before .before .before .before .before .before .before .before .before .before .before .before .before .before .push-apply .ensures .inside) (c .before .before .before .before .before .before .before .before .before .before .before .before .before .done-of .ensures) (c .before .before .before .before .before .before .before .before .before .before .before .u64- .given .1)), node-in _ (c .before .before .before .before .before .before .before .before .push-node .result .out) _ _ (c .before .before .before .before .before .before .before .before .push-node .ensures .inside) (c .before .before .before .before .done-of2 .ensures) (c .before .before .tvar .given .1)))
+join-requires c κs =
+    let c12 = c .before .before .before .before .before .before .before .before .before .before .before .before in
+    let push-apply = c12 .before .before .before .before .before .push-apply in
+    let done-of = c12 .before .done-of in
+    let u64- = c .before .before .before .before .before .before .before .before .before .before .before .u64- in
+    let push-node = c .before .before .before .before .before .before .before .before .push-node in (
+      push-node .ensures .changed .lay,
+      (
+        still-in _ _ _ _ _ (push-node .ensures .changed .grown)
+            (node-in _ (push-apply .result .out) _ _ (push-apply .ensures .inside) (done-of .ensures) (u64- .given .1)),
+        node-in _ (push-node .result .out) _ _ (push-node .ensures .inside)
+            (c .before .before .before .before .done-of2 .ensures) (c .before .before .tvar .given .1),
+      ),
+    )
 
 same-length-3 : tie.Need-same-length-3
 same-length-3 c = c .before .before .join .ensures .changed .lay .size ∙ sym (c .before .before .before .before .before .before .before .before .before .before .before .before .before .before .before .before .before .before .before .before .before .before .before .pre .size)
 
 returns-3 : tie.Need-returns-3
-returns-3 c = u64-joined _ _ _ _ _ _ _ (c .before .before .before .before .before .before .before .before .before .before .before .before .before .before .before .before .before .before .before .before .push-apply .ensures) (c .before .before .before .before .before .before .before .before .before .before .before .before .before .before .before .before .done-of .ensures) _ (c .before .before .before .before .before .before .before .before .before .before .before .before .before .before .u64- .given .1) _ _ _ (c .before .before .before .before .before .before .before .before .before .before .before .push-node .ensures) (c .before .before .before .before .before .before .before .done-of2 .ensures) _ (c .before .before .before .before .before .tvar .given .1) _ _ (c .before .before .join .ensures)
+returns-3 c =
+    let c12 = c .before .before .before .before .before .before .before .before .before .before .before .before in
+    let push-apply = c12 .before .before .before .before .before .before .before .before .push-apply in
+    let done-of = c12 .before .before .before .before .done-of in
+    let u64- = c12 .before .before .u64- in
+    let push-node = c .before .before .before .before .before .before .before .before .before .before .before .push-node in
+    let done-of2 = c .before .before .before .before .before .before .before .done-of2 in
+    let tvar = c .before .before .before .before .before .tvar in
+    u64-joined _ _ _ _ _ _ _ (push-apply .ensures) (done-of .ensures) _ (u64- .given .1) _ _ _ (push-node .ensures)
+    (done-of2 .ensures) _ (tvar .given .1) _ _ (c .before .before .join .ensures)
 
 pub join-u64-spec : {M : Type 1} → statement M
 join-u64-spec =

@@ -121,7 +121,8 @@ module _ {M : Type 1} (𝓤 : URA M) (H : Heap 𝓤) (A : Atoms 𝓤) (W : Given
         move ! (4 ∷ 2 ∷ 0 ∷ []) $ use3 W (raw (Callee 𝓤 H A at-mem run .pre (to 𝓤 H A W at-mem run κ q h n n-fits l₄ ν δ))) (asked 𝓤 H A W at-mem run κ q h n n-fits l₄ ν δ) $
         -- [pre; the lender's part; held; true; what s owns; the numbers'; _7; …; _6; …; _5; …; …; _3; …; _2; …; _1; …; room for _0; …]
         calls-at ! fm (Callee 𝓤 H A at-mem run) known (to 𝓤 H A W at-mem run κ q h n n-fits l₄ ν δ) (and-then ! (load ! (from ! (stop !)) (look ! 8 refl)) (and-then ! (load ! (from ! (stop !)) (look ! 13 refl)) (no-more !))) (λ u.
-        use1 W (later (some (λ (t : Number). ((‵ (flft (ν ∷ κ) (PosShare·left q)) ⊛ ‵ (flft κ (PosShare·right q)) ⊛ ‵ ftrue) ⊛ ‵ (E.the-row .own t (u ∷ []))) ⊛ raw (ensured 𝓤 H A callee.ended (callee.clauses 𝓤 H A at-mem run) (ν ∷ κ, (κ, tt)) (lent 𝓤 H A W at-mem run κ q h n n-fits l₄ δ, (n, tt)) tt t)))) (id⊢ 𝓤 _) $ await ! tt $ pick ! (λ t.
+        use1 W (later (some (λ (t : Number). ((‵ (flft (ν ∷ κ) (PosShare·left q)) ⊛ ‵ (flft κ (PosShare·right q)) ⊛ ‵ ftrue) ⊛ ‵ (E.the-row .own t (u ∷ [])))
+        ⊛ raw (ensured 𝓤 H A callee.ended (callee.clauses 𝓤 H A at-mem run) (ν ∷ κ, (κ, tt)) (lent 𝓤 H A W at-mem run κ q h n n-fits l₄ δ, (n, tt)) tt t)))) (id⊢ 𝓤 _) $ await ! tt $ pick ! (λ t.
         split ! $ move ! (1 ∷ []) $ use1 W (some (λ (zs : Reader × (Unit {0} × Unit {0})). ‵ (lasts callee.ended (ν ∷ κ, (κ, tt)) (lent 𝓤 H A W at-mem run κ q h n n-fits l₄ δ, (n, tt)) zs) ⊛ raw (fact 𝓤 (Said h n t (zs .0))))) (id⊢ 𝓤 _) $ pick ! (λ zs.
         split ! $ move ! (1 ∷ []) $ heard ! (Said h n t (zs .0)) (λ e. fsplit ! $
         -- [res; true; (the tokens, and what the Number owns); the lender's part; held; true; what s owns; the numbers'; _7; …]
@@ -140,7 +141,8 @@ module _ {M : Type 1} (𝓤 : URA M) (H : Heap 𝓤) (A : Atoms 𝓤) (W : Given
         move ! (1 ∷ []) $ peeks ! (R κ) (Is (R κ)) (shows 𝓤 H A (R κ)) (zs .0) (T′.lowered (zs .0) ∷ []) (λ was. move ! (1 ∷ 0 ∷ []) $
         assigns ! (of-opd ! (load ! (from ! (fld ! refl (stop !))) (look-in ! 0 (sub ! 1 refl (whole !))))) (from ! (stop !)) (init ! 9 refl (tt, LL.lawful (T.the-type (α κ)) (T′.the-laws (α κ)) 𝓤 H A W .typed (zs .0) _ was .0 .1 .1 .0)) $
         let next = LL.owed (T.the-type (α κ)) (T′.the-laws (α κ)) (zs .0) _ was .1 .0 in
-        assigns ! (agg ! (and-then ! (load ! (from ! (stop !)) (look ! 13 refl)) (and-then ! (load ! (from ! (stop !)) (look ! 9 refl)) (no-more !)))) (from ! (stop !)) (init ! 22 refl (LL.lawful G.the-type G′.the-laws 𝓤 H A W .typed (made t (zs .0)) _ (LL.owes G.the-type G′.the-laws (made t (zs .0)) (is₁, (next, tt))) .0)) $
+        assigns ! (agg ! (and-then ! (load ! (from ! (stop !)) (look ! 13 refl)) (and-then ! (load ! (from ! (stop !)) (look ! 9 refl)) (no-more !))))
+        (from ! (stop !)) (init ! 22 refl (LL.lawful G.the-type G′.the-laws 𝓤 H A W .typed (made t (zs .0)) _ (LL.owes G.the-type G′.the-laws (made t (zs .0)) (is₁, (next, tt))) .0)) $
         returns ! (look ! 22 refl) $ forget ! 0 refl $ forget ! 9 refl $ forget ! 11 refl $ forget ! 13 refl $ forget ! 16 refl $ forget ! 18 refl $ forget ! 20 refl $ forget ! 22 refl $
         move ! (22 ∷ 23 ∷ []) $ free1 ! $ move ! (20 ∷ 21 ∷ []) $ free1 ! $ move ! (18 ∷ 19 ∷ []) $ free1 ! $ move ! (16 ∷ 17 ∷ []) $ free1 ! $ move ! (0 ∷ 15 ∷ []) $ free1 ! $
         -- [what the reader owns; the token; true; what the Number owns; true; true; what s owns; the numbers'; _7; …; _6; …; _5; …]
@@ -156,7 +158,10 @@ module _ {M : Type 1} (𝓤 : URA M) (H : Heap 𝓤) (A : Atoms 𝓤) (W : Given
 
 self-meets : {M : Type 1} (𝓤 : URA M) (H : Heap 𝓤) (A : Atoms 𝓤) → Given 𝓤 H A → (at-mem : Memory → SProp 𝓤) (run : Routine → Fun 𝓤) (𝓣 : Tables 𝓤 H) → Triple 𝓤 (𝓣 .C #callee) (Callee 𝓤 H A at-mem run)
     → Meets 𝓤 H A self.signature (WpFn 𝓤 H (𝓣 .C) (𝓣 .Λ) code.function) (self.spec 𝓤 H A at-mem run)
-self-meets 𝓤 H A W at-mem run 𝓣 known = walk-meets 𝓤 H A self.ended stayed W (goes-none-slice 𝓤 H A W 1 (0 ∷ []) tt (plain (λ _. u8)) yes, (goes-none 𝓤 H A W 1 (λ _. usize) yes (λ κs x f. refl), (goes-none 𝓤 H A W 1 (λ _. usize) yes (λ κs x f. refl), tt))) (self.clauses 𝓤 H A at-mem run) (WpFn 𝓤 H (𝓣 .C) (𝓣 .Λ) code.function) (WpFn-mono 𝓤 H (W .laws) 𝓣 code.function)
+self-meets 𝓤 H A W at-mem run 𝓣 known =
+    walk-meets 𝓤 H A self.ended stayed W
+    (goes-none-slice 𝓤 H A W 1 (0 ∷ []) tt (plain (λ _. u8)) yes, (goes-none 𝓤 H A W 1 (λ _. usize) yes (λ κs x f. refl), (goes-none 𝓤 H A W 1 (λ _. usize) yes (λ κs x f. refl), tt)))
+    (self.clauses 𝓤 H A at-mem run) (WpFn 𝓤 H (𝓣 .C) (𝓣 .Λ) code.function) (WpFn-mono 𝓤 H (W .laws) 𝓣 code.function)
     (self-walks 𝓤 H A W at-mem run (𝓣 .C) (𝓣 .Λ) (fmOf 𝓤 H (W .laws) 𝓣) known)
 
 pub read-at-spec : {M : Type 1} → stated.statement M

@@ -103,7 +103,10 @@ module _ {M : Type 1} (𝓤 : URA M) (H : Heap 𝓤) (A : Atoms 𝓤) (W : Given
   exits g u e =
       qed W (‵ (flft κ q) ∷ ‵ ftrue ∷ ‵ (G.the-row .own g (u ∷ [])) ∷ ‵ Own ∷ []) ∵
       suffices ! _ (ends-at 𝓤 H A self.ended stayed (self.clauses 𝓤 H A at-mem run) W (((κ, tt), (q, tt), tt, x, at), tt) u g (tt, (tt, (tt, (tt, tt)))) (tt, (tt, (tt, (tt, tt))))) $ says ! e $
-      join ! $ frame ! $ nothing ! $ owned ! usize (Is usize) (uint-makes 𝓤 H A W w64) m _ (refl, m-fits) $ fjoin ! $ owned ! usize (Is usize) (uint-makes 𝓤 H A W w64) n _ (refl, n-fits) $ fjoin ! $ owned ! usize (Is usize) (uint-makes 𝓤 H A W w64) p _ (refl, p-fits) $ fjoin ! $ move ! (2 ∷ 0 ∷ []) $ fjoin ! $ frame ! $ done !
+      join ! $ frame ! $ nothing ! $ owned ! usize (Is usize) (uint-makes 𝓤 H A W w64) m _ (refl, m-fits) $ fjoin ! $
+      owned ! usize (Is usize) (uint-makes 𝓤 H A W w64) n _ (refl, n-fits) $ fjoin ! $
+      owned ! usize (Is usize) (uint-makes 𝓤 H A W w64) p _ (refl, p-fits) $ fjoin ! $ move ! (2 ∷ 0 ∷ []) $ fjoin ! $
+      frame ! $ done !
 
   module _ (C : Calls 𝓤 H) (Λ : Loops 𝓤 H) (fm : FmC 𝓤 H (W .laws) C) (known : Triple 𝓤 (C #callee) (Callee 𝓤 H A at-mem run)) where
     walk : Is (ShrSlice (named 0) κ u8) s (v ∷ []) → ent 𝓤 (onEntry 𝓤 H A self.signature (κ, tt) (q, tt) x at) (WpFn 𝓤 H C Λ code.function (v ∷ vint w64 p ∷ vint w64 n ∷ vint w64 m ∷ []) Post)
@@ -128,7 +131,8 @@ module _ {M : Type 1} (𝓤 : URA M) (H : Heap 𝓤) (A : Atoms 𝓤) (W : Given
         move ! (4 ∷ 2 ∷ 0 ∷ []) $ use3 W (raw (Callee 𝓤 H A at-mem run .pre (to 𝓤 H A W at-mem run κ q h n n-fits l₅ ν δ))) (asked 𝓤 H A W at-mem run κ q h n n-fits l₅ ν δ) $
         -- [pre; the lender's part; held; true; what s owns; the numbers'; _10; …; _9; …; _8; …; _7; …; _6; …; …; _4; …; _3; …; _2; …; _1; …; room for _0; …]
         calls-at ! fm (Callee 𝓤 H A at-mem run) known (to 𝓤 H A W at-mem run κ q h n n-fits l₅ ν δ) (and-then ! (load ! (from ! (stop !)) (look ! 10 refl)) (and-then ! (load ! (from ! (stop !)) (look ! 19 refl)) (no-more !))) (λ u.
-        use1 W (later (some (λ (t : Number). ((‵ (flft (ν ∷ κ) (PosShare·left q)) ⊛ ‵ (flft κ (PosShare·right q)) ⊛ ‵ ftrue) ⊛ ‵ (E.the-row .own t (u ∷ []))) ⊛ raw (ensured 𝓤 H A callee.ended (callee.clauses 𝓤 H A at-mem run) (ν ∷ κ, (κ, tt)) (lent 𝓤 H A W at-mem run κ q h n n-fits l₅ δ, (n, tt)) tt t)))) (id⊢ 𝓤 _) $ await ! tt $ pick ! (λ t.
+        use1 W (later (some (λ (t : Number). ((‵ (flft (ν ∷ κ) (PosShare·left q)) ⊛ ‵ (flft κ (PosShare·right q)) ⊛ ‵ ftrue) ⊛ ‵ (E.the-row .own t (u ∷ [])))
+        ⊛ raw (ensured 𝓤 H A callee.ended (callee.clauses 𝓤 H A at-mem run) (ν ∷ κ, (κ, tt)) (lent 𝓤 H A W at-mem run κ q h n n-fits l₅ δ, (n, tt)) tt t)))) (id⊢ 𝓤 _) $ await ! tt $ pick ! (λ t.
         split ! $ move ! (1 ∷ []) $ use1 W (some (λ (zs : Reader × (Unit {0} × Unit {0})). ‵ (lasts callee.ended (ν ∷ κ, (κ, tt)) (lent 𝓤 H A W at-mem run κ q h n n-fits l₅ δ, (n, tt)) zs) ⊛ raw (fact 𝓤 (Said h n t (zs .0))))) (id⊢ 𝓤 _) $ pick ! (λ zs.
         split ! $ move ! (1 ∷ []) $ heard ! (Said h n t (zs .0)) (λ e. fsplit ! $
         -- [res; true; (the tokens, and what the Number owns); the lender's part; held; true; what s owns; the numbers'; _10; …]
@@ -152,7 +156,8 @@ module _ {M : Type 1} (𝓤 : URA M) (H : Heap 𝓤) (A : Atoms 𝓤) (W : Given
         move ! (4 ∷ 2 ∷ 0 ∷ []) $ use3 W (raw (Callee 𝓤 H A at-mem run .pre (to 𝓤 H A W at-mem run κ q (zs .0) m m-fits l₅ ν′ δ′))) (asked 𝓤 H A W at-mem run κ q (zs .0) m m-fits l₅ ν′ δ′) $
         -- [pre; the lender's part; held; true; what the first Number owns; true; true; what s owns; the numbers'; _10; …; _9; …; _8; …; _7; …; _6; …; …; _4; …; _3; …; ..]
         calls-at ! fm (Callee 𝓤 H A at-mem run) known (to 𝓤 H A W at-mem run κ q (zs .0) m m-fits l₅ ν′ δ′) (and-then ! (load ! (from ! (stop !)) (look ! 11 refl)) (and-then ! (load ! (from ! (stop !)) (look ! 20 refl)) (no-more !))) (λ u′.
-        use1 W (later (some (λ (y : Number). ((‵ (flft (ν′ ∷ κ) (PosShare·left q)) ⊛ ‵ (flft κ (PosShare·right q)) ⊛ ‵ ftrue) ⊛ ‵ (E.the-row .own y (u′ ∷ []))) ⊛ raw (ensured 𝓤 H A callee.ended (callee.clauses 𝓤 H A at-mem run) (ν′ ∷ κ, (κ, tt)) (lent 𝓤 H A W at-mem run κ q (zs .0) m m-fits l₅ δ′, (m, tt)) tt y)))) (id⊢ 𝓤 _) $ await ! tt $ pick ! (λ y.
+        use1 W (later (some (λ (y : Number). ((‵ (flft (ν′ ∷ κ) (PosShare·left q)) ⊛ ‵ (flft κ (PosShare·right q)) ⊛ ‵ ftrue) ⊛ ‵ (E.the-row .own y (u′ ∷ [])))
+        ⊛ raw (ensured 𝓤 H A callee.ended (callee.clauses 𝓤 H A at-mem run) (ν′ ∷ κ, (κ, tt)) (lent 𝓤 H A W at-mem run κ q (zs .0) m m-fits l₅ δ′, (m, tt)) tt y)))) (id⊢ 𝓤 _) $ await ! tt $ pick ! (λ y.
         split ! $ move ! (1 ∷ []) $ use1 W (some (λ (zs′ : Reader × (Unit {0} × Unit {0})). ‵ (lasts callee.ended (ν′ ∷ κ, (κ, tt)) (lent 𝓤 H A W at-mem run κ q (zs .0) m m-fits l₅ δ′, (m, tt)) zs′) ⊛ raw (fact 𝓤 (Said (zs .0) m y (zs′ .0))))) (id⊢ 𝓤 _) $ pick ! (λ zs′.
         split ! $ move ! (1 ∷ []) $ heard ! (Said (zs .0) m y (zs′ .0)) (λ e′. fsplit ! $
         -- [res; true; (the tokens, and what the second Number owns); the lender's part; held; true; what the first Number owns; true; true; what s owns; the numbers'; _10; …]
@@ -171,7 +176,8 @@ module _ {M : Type 1} (𝓤 : URA M) (H : Heap 𝓤) (A : Atoms 𝓤) (W : Given
         move ! (1 ∷ []) $ peeks ! (R κ) (Is (R κ)) (shows 𝓤 H A (R κ)) (zs′ .0) (T′.lowered (zs′ .0) ∷ []) (λ was. move ! (1 ∷ 0 ∷ []) $
         assigns ! (of-opd ! (load ! (from ! (fld ! refl (stop !))) (look-in ! 0 (sub ! 1 refl (whole !))))) (from ! (stop !)) (init ! 12 refl (tt, LL.lawful (T.the-type (α κ)) (T′.the-laws (α κ)) 𝓤 H A W .typed (zs′ .0) _ was .0 .1 .1 .0)) $
         let next = LL.owed (T.the-type (α κ)) (T′.the-laws (α κ)) (zs′ .0) _ was .1 .0 in
-        assigns ! (agg ! (and-then ! (load ! (from ! (stop !)) (look ! 20 refl)) (and-then ! (load ! (from ! (stop !)) (look ! 18 refl)) (and-then ! (load ! (from ! (stop !)) (look ! 12 refl)) (no-more !))))) (from ! (stop !)) (init ! 31 refl (LL.lawful G.the-type G′.the-laws 𝓤 H A W .typed (made t y (zs′ .0)) _ (LL.owes G.the-type G′.the-laws (made t y (zs′ .0)) (is₁, (is₃, (next, tt)))) .0)) $
+        assigns ! (agg ! (and-then ! (load ! (from ! (stop !)) (look ! 20 refl)) (and-then ! (load ! (from ! (stop !)) (look ! 18 refl)) (and-then ! (load ! (from ! (stop !)) (look ! 12 refl)) (no-more !)))))
+        (from ! (stop !)) (init ! 31 refl (LL.lawful G.the-type G′.the-laws 𝓤 H A W .typed (made t y (zs′ .0)) _ (LL.owes G.the-type G′.the-laws (made t y (zs′ .0)) (is₁, (is₃, (next, tt)))) .0)) $
         returns ! (look ! 31 refl) $ forget ! 0 refl $ forget ! 12 refl $ forget ! 14 refl $ forget ! 16 refl $ forget ! 18 refl $ forget ! 20 refl $ forget ! 23 refl $ forget ! 25 refl $ forget ! 27 refl $ forget ! 29 refl $ forget ! 31 refl $
         move ! (31 ∷ 32 ∷ []) $ free1 ! $ move ! (29 ∷ 30 ∷ []) $ free1 ! $ move ! (27 ∷ 28 ∷ []) $ free1 ! $ move ! (25 ∷ 26 ∷ []) $ free1 ! $ move ! (23 ∷ 24 ∷ []) $ free1 ! $ move ! (0 ∷ 22 ∷ []) $ free1 ! $
         -- [what the reader owns; the token; true; what the second Number owns; true; true; what the first owns; true; true; what s owns; the numbers'; _10; …; _9; …; _8; …; _7; …; _6; …]
@@ -187,7 +193,10 @@ module _ {M : Type 1} (𝓤 : URA M) (H : Heap 𝓤) (A : Atoms 𝓤) (W : Given
 
 self-meets : {M : Type 1} (𝓤 : URA M) (H : Heap 𝓤) (A : Atoms 𝓤) → Given 𝓤 H A → (at-mem : Memory → SProp 𝓤) (run : Routine → Fun 𝓤) (𝓣 : Tables 𝓤 H) → Triple 𝓤 (𝓣 .C #callee) (Callee 𝓤 H A at-mem run)
     → Meets 𝓤 H A self.signature (WpFn 𝓤 H (𝓣 .C) (𝓣 .Λ) code.function) (self.spec 𝓤 H A at-mem run)
-self-meets 𝓤 H A W at-mem run 𝓣 known = walk-meets 𝓤 H A self.ended stayed W (goes-none-slice 𝓤 H A W 1 (0 ∷ []) tt (plain (λ _. u8)) yes, (goes-none 𝓤 H A W 1 (λ _. usize) yes (λ κs x f. refl), (goes-none 𝓤 H A W 1 (λ _. usize) yes (λ κs x f. refl), (goes-none 𝓤 H A W 1 (λ _. usize) yes (λ κs x f. refl), tt)))) (self.clauses 𝓤 H A at-mem run) (WpFn 𝓤 H (𝓣 .C) (𝓣 .Λ) code.function) (WpFn-mono 𝓤 H (W .laws) 𝓣 code.function)
+self-meets 𝓤 H A W at-mem run 𝓣 known =
+    walk-meets 𝓤 H A self.ended stayed W
+    (goes-none-slice 𝓤 H A W 1 (0 ∷ []) tt (plain (λ _. u8)) yes, (goes-none 𝓤 H A W 1 (λ _. usize) yes (λ κs x f. refl), (goes-none 𝓤 H A W 1 (λ _. usize) yes (λ κs x f. refl), (goes-none 𝓤 H A W 1 (λ _. usize) yes (λ κs x f. refl), tt))))
+    (self.clauses 𝓤 H A at-mem run) (WpFn 𝓤 H (𝓣 .C) (𝓣 .Λ) code.function) (WpFn-mono 𝓤 H (W .laws) 𝓣 code.function)
     (self-walks 𝓤 H A W at-mem run (𝓣 .C) (𝓣 .Λ) (fmOf 𝓤 H (W .laws) 𝓣) known)
 
 pub read-two-at-spec : {M : Type 1} → stated.statement M

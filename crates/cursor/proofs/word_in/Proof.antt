@@ -1,4 +1,5 @@
 -- `cursor::word_in` meets its contract. Assumes nothing.
+-- Each return by the tests on the way to it: too few bytes left, a width of 1, 2 or 4 bytes, or another width; `simp` computes `word-at` there.
 use Rattle.cursor.specs.Words.{word-at}
 use borrow.Author.Tests.{lt-ltb, le-ltb, eq-eqb, ne-eqb}
 use borrow.Author.Needs.{needs}
@@ -51,7 +52,18 @@ add-t18 c = search needs
 
 returns-3 : tie.Need-returns-3
 unfolding word-at
-returns-3 c = simp (← c .before .before .before .before .before .before .before .left .ensures, le-ltb _ _ (c .before .before .before .before .before .before .if1 .left), ne-eqb _ _ (c .before .before .before .before .before .if2 .left), eq-eqb _ _ (c .before .before .before .before .if3 .taken), c .before .before .wide2 .ensures .0, c .wide3 .ensures .0)
+returns-3 c =
+    let left = c .before .before .before .before .before .before .before .left in
+    let if1 = c .before .before .before .before .before .before .if1 in
+    let if2 = c .before .before .before .before .before .if2 in
+    simp (
+      ← left .ensures,
+      le-ltb _ _ (if1 .left),
+      ne-eqb _ _ (if2 .left),
+      eq-eqb _ _ (c .before .before .before .before .if3 .taken),
+      c .before .before .wide2 .ensures .0,
+      c .wide3 .ensures .0,
+    )
 
 shared-slice-read-wide-4 : tie.Need-shared-slice-read-wide-4
 shared-slice-read-wide-4 c = search needs
@@ -109,7 +121,24 @@ add-t27 c = search needs
 
 returns-4 : tie.Need-returns-4
 unfolding word-at
-returns-4 c = simp (← c .before .before .before .before .before .before .before .before .before .before .before .before .left .ensures, le-ltb _ _ (c .before .before .before .before .before .before .before .before .before .before .before .if1 .left), ne-eqb _ _ (c .before .before .before .before .before .before .before .before .before .before .if2 .left), ne-eqb _ _ (c .before .before .before .before .before .before .before .before .before .if3 .left), eq-eqb _ _ (c .before .before .before .before .before .before .before .before .if4 .taken), c .before .before .before .before .before .before .wide4 .ensures .0, c .before .before .before .before .wide5 .ensures .0, c .before .before .wide6 .ensures .0, c .wide7 .ensures .0)
+returns-4 c =
+    let left = c .before .before .before .before .before .before .before .before .before .before .before .before .left in
+    let if1 = c .before .before .before .before .before .before .before .before .before .before .before .if1 in
+    let if2 = c .before .before .before .before .before .before .before .before .before .before .if2 in
+    let if3 = c .before .before .before .before .before .before .before .before .before .if3 in
+    let if4 = c .before .before .before .before .before .before .before .before .if4 in
+    let wide4 = c .before .before .before .before .before .before .wide4 in
+    simp (
+      ← left .ensures,
+      le-ltb _ _ (if1 .left),
+      ne-eqb _ _ (if2 .left),
+      ne-eqb _ _ (if3 .left),
+      eq-eqb _ _ (if4 .taken),
+      wide4 .ensures .0,
+      c .before .before .before .before .wide5 .ensures .0,
+      c .before .before .wide6 .ensures .0,
+      c .wide7 .ensures .0,
+    )
 
 returns-5 : tie.Need-returns-5
 unfolding word-at

@@ -42,7 +42,10 @@ same-length-3 c = search needs
 
 returns-3 : tie.Need-returns-3
 unfolding run-of step-of
-returns-3 c = rw (c .before .before .before .before .before .what3 .given .1) (rw (pairs-same (c .before .before .before .before .before .before .before .before .args .ids) (c .before .before .before .before .before .before .before .before .args .nodes) 0 _) at (c .before .before .run-tparams .ensures))
+returns-3 c =
+    let args = c .before .before .before .before .before .before .before .before .args in
+    let what3 = c .before .before .before .before .before .what3 in
+    rw (what3 .given .1) (rw (pairs-same (args .ids) (args .nodes) 0 _) at (c .before .before .run-tparams .ensures))
 
 pub run-look-spec : {M : Type 1} → statement M
 run-look-spec =

@@ -20,8 +20,15 @@ same-length-2 : tie.Need-same-length-2
 same-length-2 c = search needs
 
 returns : tie.Need-returns
-returns c = let zeros = c .before .before .before .before .before .before .before .before .before .before .before .before .before .before .clear .ensures ∙ ap (λ (n : ℕ). replicate n 0) (c .before .before .before .before .before .before .before .before .before .before .before .before .before .before .before .before .if1 .taken) ∙ no-words in
-    rw (from-fresh (c .before .before .before .before .before .before .before .before .before .before .before .before .before .before .before .before .before .before .before .before .args .state .now) (c .before .before .before .before .before .before .before .before .before .before .before .before .before .before .before .before .before .before .before .before .args .params) (c .before .before .before .before .before .before .before .before .before .before .before .before .before .before .before .before .before .before .before .before .args .stream .now) (length (c .before .before .before .before .before .before .before .before .before .before .before .before .before .before .before .before .before .before .before .before .args .log .now)) (c .before .before .before .before .before .before .before .before .before .before .before .before .before .before .before .before .before .before .before .before .args .more) (c .before .before .before .before .before .before .before .before .before .before .before .before .before .before .before .before .if1 .taken) (c .before .before .before .before .before .before .before .before .before .before .before .before .before .before .clear .last .0) (replicate 256 (replicate 8 0)) zeros no-params) (c .before .before .before .before .job-trusted .ensures)
+returns c =
+    let c12 = c .before .before .before .before .before .before .before .before .before .before .before .before in
+    let args = c12 .before .before .before .before .before .before .before .before .args in
+    let if1 = c12 .before .before .before .before .if1 in
+    let clear = c12 .before .before .clear in
+    let zeros = clear .ensures ∙ ap (λ (n : ℕ). replicate n 0) (if1 .taken) ∙ no-words in
+    rw (from-fresh (args .state .now) (args .params) (args .stream .now) (length (args .log .now)) (args .more)
+    (if1 .taken) (clear .last .0) (replicate 256 (replicate 8 0)) zeros no-params)
+    (c .before .before .before .before .job-trusted .ensures)
 
 job-requires : tie.Need-job-requires
 job-requires c κs = search needs
@@ -33,7 +40,11 @@ same-length-4 : tie.Need-same-length-4
 same-length-4 c = search needs
 
 returns-2 : tie.Need-returns-2
-returns-2 c = rw (not-fresh (c .before .before .before .before .before .before .before .before .before .before .before .before .before .before .before .before .args .state .now) (c .before .before .before .before .before .before .before .before .before .before .before .before .before .before .before .before .args .params) (c .before .before .before .before .before .before .before .before .before .before .before .before .before .before .before .before .args .stream .now) (length (c .before .before .before .before .before .before .before .before .before .before .before .before .before .before .before .before .args .log .now)) (c .before .before .before .before .before .before .before .before .before .before .before .before .before .before .before .before .args .more) (c .before .before .before .before .before .before .before .before .before .before .before .before .if1 .left)) (c .before .before .before .before .job .ensures)
+returns-2 c =
+    let args = c .before .before .before .before .before .before .before .before .before .before .before .before .before .before .before .before .args in
+    let if1 = c .before .before .before .before .before .before .before .before .before .before .before .before .if1 in
+    rw (not-fresh (args .state .now) (args .params) (args .stream .now) (length (args .log .now)) (args .more)
+    (if1 .left)) (c .before .before .before .before .job .ensures)
 
 pub fresh-job-spec : {M : Type 1} → statement M
 fresh-job-spec =

@@ -20,7 +20,13 @@ same-length-2 : tie.Need-same-length-2
 same-length-2 c = search needs
 
 returns : tie.Need-returns
-returns c = job-gives _ _ (c .before .before .before .before .before .before .before .before .before .before .before .before .before .before .before .before .before .before .before .pre) _ (c .before .before .before .before .before .before .before .before .before .before .before .before .before .before .used-of .ensures) _ _ _ _ _ _ _ _ (c .before .before .before .before .before .before .before .before .before .lines-trusted .ensures) _ (c .before .before .write-used .ensures) (c .before .before .before .before .before .before .before .before .before .lines-trusted .kept .1 .1 .1 .1 .1 .0)
+returns c =
+    let c12 = c .before .before .before .before .before .before .before .before .before .before .before .before in
+    let pre = c12 .before .before .before .before .before .before .before .pre in
+    let used-of = c12 .before .before .used-of in
+    let lines-trusted = c .before .before .before .before .before .before .before .before .before .lines-trusted in
+    job-gives _ _ (pre) _ (used-of .ensures) _ _ _ _ _ _ _ _ (lines-trusted .ensures) _
+    (c .before .before .write-used .ensures) (lines-trusted .kept .1 .1 .1 .1 .1 .0)
 
 pub job-trusted-spec : {M : Type 1} → statement M
 job-trusted-spec =

@@ -1,4 +1,5 @@
 -- `engine::lines_trusted` meets its contract. Assumes nothing.
+-- Invariant: the words at the head of a turn hold the state after the lines that stand in front of the log (`Going`), and what was saved is part of them. A turn is one record and its line; bytes left fall.
 use mathlib.Core.Path.{_≡_, sym, _∙_}
 use Prim.Native.Nat.{ℕ, _-_}
 use native.Mathlib.Omega.{arith}
@@ -49,16 +50,48 @@ slice-aggregate-step-trusted-2 : tie.Need-slice-aggregate-step-trusted-2 Inv-loo
 slice-aggregate-step-trusted-2 c = sym (c .before .before .before .before .before .before .before .loop .inv .1 .0)
 
 step-trusted-requires : tie.Need-step-trusted-requires Inv-loop μ-loop
-step-trusted-requires c κs = ((c .before .before .before .before .before .before .before .loop .inv .1 .1 .stands, (bytes-of (c .before .before .before .before .before .before .before .before .before .before .before .args .stream .now) (c .before .before .before .before .before .before .before .before .before .shared-slice-known .given), (c .before .before .before .before .before .before .before .loop .inv .1 .1 .within, (omega (arith, c .before .before .before .before .before .before .before .loop .inv .0 .0), omega (arith, c .before .before .before .before .before .before .before .loop .inv .1 .0))))), c .before .before .before .before .before .before .before .loop .inv .0 .1)
+step-trusted-requires c κs =
+    let args = c .before .before .before .before .before .before .before .before .before .before .before .args in
+    let shared-slice-known = c .before .before .before .before .before .before .before .before .before .shared-slice-known in
+    let loop = c .before .before .before .before .before .before .before .loop in (
+      (
+        loop .inv .1 .1 .stands,
+        (
+          bytes-of (args .stream .now) (shared-slice-known .given),
+          (loop .inv .1 .1 .within, (omega (arith, loop .inv .0 .0), omega (arith, loop .inv .1 .0))),
+        ),
+      ),
+      loop .inv .0 .1,
+    )
 
 slice-aggregate-write-line : tie.Need-slice-aggregate-write-line Inv-loop μ-loop
 slice-aggregate-write-line c = sym (c .before .before .before .before .before .step-trusted .kept .1 .1 .1 .1 .1 .1 .1 .1 .0 ∙ c .before .before .before .before .before .before .before .before .before .before .before .before .before .loop .inv .1 .0)
 
 write-line-requires : tie.Need-write-line-requires Inv-loop μ-loop
-write-line-requires c κs = (omega (arith, c .before .before .before .before .before .before .step-trusted .ensures .0 .few, c .before .before .before .before .before .before .step-trusted .kept .1 .1 .1 .1 .1 .1 .1 .1 .0, c .before .before .before .before .before .before .before .before .before .before .before .before .before .before .loop .inv .1 .0), line-room (c .before .before .before .before .before .before .before .before .before .before .before .before .before .before .loop .inv .1 .1) (bytes-of (c .before .before .before .before .before .before .before .before .before .before .before .before .before .before .before .before .before .before .args .stream .now) (c .before .before .before .before .before .before .before .before .before .before .before .before .before .before .before .before .shared-slice-known .given)) (c .before .before .before .before .before .before .before .before .before .before .before .before .before .loop-test .taken) (taken-on (c .before .before .before .before .before .before .before .before .before .before .before .before .before .before .loop .inv .1 .1) (c .before .before .before .before .before .before .before .before .before .before .before .before .takes-on .ensures) (not-false _ (c .before .before .before .before .before .before .before .before .before .before .before .if1 .left))) (c .before .before .before .before .before .before .step-trusted .ensures .0))
+write-line-requires c κs =
+    let c12 = c .before .before .before .before .before .before .before .before .before .before .before .before in
+    let args = c12 .before .before .before .before .before .before .args in
+    let shared-slice-known = c12 .before .before .before .before .shared-slice-known in
+    let loop = c12 .before .before .loop in
+    let loop-test = c12 .before .loop-test in
+    let takes-on = c12 .takes-on in
+    let if1 = c .before .before .before .before .before .before .before .before .before .before .before .if1 in
+    let step-trusted = c .before .before .before .before .before .before .step-trusted in (
+      omega (arith, step-trusted .ensures .0 .few, step-trusted .kept .1 .1 .1 .1 .1 .1 .1 .1 .0, loop .inv .1 .0),
+      line-room (loop .inv .1 .1) (bytes-of (args .stream .now) (shared-slice-known .given)) (loop-test .taken)
+          (taken-on (loop .inv .1 .1) (takes-on .ensures) (not-false _ (if1 .left))) (step-trusted .ensures .0),
+    )
 
 add-i : tie.Need-add-i Inv-loop μ-loop
-add-i c = record { fits = omega (arith, takes-room _ _ _ _ (taken-on (c .before .before .before .before .before .before .before .before .before .before .before .before .before .before .before .before .before .loop .inv .1 .1) (c .before .before .before .before .before .before .before .before .before .before .before .before .before .before .before .takes-on .ensures) (not-false _ (c .before .before .before .before .before .before .before .before .before .before .before .before .before .before .if1 .left))) .1) }
+add-i c =
+    let c12 = c .before .before .before .before .before .before .before .before .before .before .before .before in
+    let loop = c12 .before .before .before .before .before .loop in
+    let takes-on = c12 .before .before .before .takes-on in
+    let if1 = c12 .before .before .if1 in
+    record {
+      fits =
+          omega (arith, takes-room _ _ _ _ (taken-on (loop .inv .1 .1) (takes-on .ensures) (not-false _ (if1 .left))) .1);
+    }
 
 ends-job-requires : tie.Need-ends-job-requires Inv-loop μ-loop
 ends-job-requires c κs = search needs
@@ -67,19 +100,85 @@ lines-at-requires-2 : tie.Need-lines-at-requires-2 Inv-loop μ-loop
 lines-at-requires-2 c κs = search needs
 
 same-length-3 : tie.Need-same-length-3 Inv-loop μ-loop
-same-length-3 c = c .before .before .before .before .before .before .before .before .before .before .before .before .before .step-trusted .ensures .0 .stands .lay .size ∙ sym (c .before .before .before .before .before .before .before .before .before .before .before .before .before .before .before .before .before .before .before .before .before .before .before .before .before .pre .lay .size)
+same-length-3 c =
+    let c12 = c .before .before .before .before .before .before .before .before .before .before .before .before in
+    let c24 = c12 .before .before .before .before .before .before .before .before .before .before .before .before in
+    let pre = c24 .before .pre in
+    let step-trusted = c12 .before .step-trusted in
+    step-trusted .ensures .0 .stands .lay .size ∙ sym (pre .lay .size)
 
 same-length-4 : tie.Need-same-length-4 Inv-loop μ-loop
-same-length-4 c = turned (c .before .before .before .before .before .before .before .before .before .before .before .before .before .before .before .before .before .before .before .before .before .loop .inv .1 .1) (bytes-of (c .before .before .before .before .before .before .before .before .before .before .before .before .before .before .before .before .before .before .before .before .before .before .before .before .before .args .stream .now) (c .before .before .before .before .before .before .before .before .before .before .before .before .before .before .before .before .before .before .before .before .before .before .before .shared-slice-known .given)) (c .before .before .before .before .before .before .before .before .before .before .before .before .before .before .before .before .before .before .before .before .loop-test .taken) (taken-on (c .before .before .before .before .before .before .before .before .before .before .before .before .before .before .before .before .before .before .before .before .before .loop .inv .1 .1) (c .before .before .before .before .before .before .before .before .before .before .before .before .before .before .before .before .before .before .before .takes-on .ensures) (not-false _ (c .before .before .before .before .before .before .before .before .before .before .before .before .before .before .before .before .before .before .if1 .left))) (c .before .before .before .before .before .before .before .before .before .before .before .before .before .step-trusted .ensures .0) (c .before .before .before .before .before .before .write-line .ensures) .size
+same-length-4 c =
+    let c12 = c .before .before .before .before .before .before .before .before .before .before .before .before in
+    let c24 = c12 .before .before .before .before .before .before .before .before .before .before .before .before in
+    let args = c24 .before .args in
+    let shared-slice-known = c12 .before .before .before .before .before .before .before .before .before .before .before .shared-slice-known in
+    let loop = c12 .before .before .before .before .before .before .before .before .before .loop in
+    let loop-test = c12 .before .before .before .before .before .before .before .before .loop-test in
+    let takes-on = c12 .before .before .before .before .before .before .before .takes-on in
+    let if1 = c12 .before .before .before .before .before .before .if1 in
+    let step-trusted = c12 .before .step-trusted in
+    let write-line = c .before .before .before .before .before .before .write-line in
+    turned (loop .inv .1 .1) (bytes-of (args .stream .now) (shared-slice-known .given)) (loop-test .taken)
+    (taken-on (loop .inv .1 .1) (takes-on .ensures) (not-false _ (if1 .left))) (step-trusted .ensures .0)
+    (write-line .ensures) .size
 
 returns-2 : tie.Need-returns-2 Inv-loop μ-loop
-returns-2 c = rw (c .lines-at2 .ensures) (going-last (c .before .before .before .before .before .before .before .before .before .before .before .before .before .before .before .before .before .before .before .before .before .loop .inv .1 .1) (bytes-of (c .before .before .before .before .before .before .before .before .before .before .before .before .before .before .before .before .before .before .before .before .before .before .before .before .before .args .stream .now) (c .before .before .before .before .before .before .before .before .before .before .before .before .before .before .before .before .before .before .before .before .before .before .before .shared-slice-known .given)) (c .before .before .before .before .before .before .before .before .before .before .before .before .before .before .before .before .before .before .before .before .loop-test .taken) (taken-on (c .before .before .before .before .before .before .before .before .before .before .before .before .before .before .before .before .before .before .before .before .before .loop .inv .1 .1) (c .before .before .before .before .before .before .before .before .before .before .before .before .before .before .before .before .before .before .before .takes-on .ensures) (not-false _ (c .before .before .before .before .before .before .before .before .before .before .before .before .before .before .before .before .before .before .if1 .left))) (c .before .before .before .before .before .before .before .before .before .before .before .before .before .step-trusted .ensures .0) (sym (c .before .before .ends-job .ensures) ∙ c .before .if2 .taken) (c .before .before .before .before .before .before .write-line .ensures))
+returns-2 c =
+    let c12 = c .before .before .before .before .before .before .before .before .before .before .before .before in
+    let c24 = c12 .before .before .before .before .before .before .before .before .before .before .before .before in
+    let args = c24 .before .args in
+    let shared-slice-known = c12 .before .before .before .before .before .before .before .before .before .before .before .shared-slice-known in
+    let loop = c12 .before .before .before .before .before .before .before .before .before .loop in
+    let loop-test = c12 .before .before .before .before .before .before .before .before .loop-test in
+    let takes-on = c12 .before .before .before .before .before .before .before .takes-on in
+    let if1 = c12 .before .before .before .before .before .before .if1 in
+    let step-trusted = c12 .before .step-trusted in
+    let write-line = c .before .before .before .before .before .before .write-line in
+    rw (c .lines-at2 .ensures)
+    (going-last (loop .inv .1 .1) (bytes-of (args .stream .now) (shared-slice-known .given)) (loop-test .taken)
+    (taken-on (loop .inv .1 .1) (takes-on .ensures) (not-false _ (if1 .left))) (step-trusted .ensures .0)
+    (sym (c .before .before .ends-job .ensures) ∙ c .before .if2 .taken) (write-line .ensures))
 
 loop-less : tie.Need-loop-less Inv-loop μ-loop
-loop-less c = omega (arith, going-less (c .before .before .before .before .before .before .before .before .before .before .before .before .before .before .before .before .before .before .before .before .loop .inv .1 .1) (bytes-of (c .before .before .before .before .before .before .before .before .before .before .before .before .before .before .before .before .before .before .before .before .before .before .before .before .args .stream .now) (c .before .before .before .before .before .before .before .before .before .before .before .before .before .before .before .before .before .before .before .before .before .before .shared-slice-known .given)) (c .before .before .before .before .before .before .before .before .before .before .before .before .before .before .before .before .before .before .before .loop-test .taken) (taken-on (c .before .before .before .before .before .before .before .before .before .before .before .before .before .before .before .before .before .before .before .before .loop .inv .1 .1) (c .before .before .before .before .before .before .before .before .before .before .before .before .before .before .before .before .before .before .takes-on .ensures) (not-false _ (c .before .before .before .before .before .before .before .before .before .before .before .before .before .before .before .before .before .if1 .left))) (c .before .before .before .before .before .before .before .before .before .before .before .before .step-trusted .ensures .0) (sym (c .before .ends-job .ensures) ∙ c .if2 .left), c .before .before .before .before .before .before .before .before .before .before .before .before .step-trusted .ensures .0 .within)
+loop-less c =
+    let c12 = c .before .before .before .before .before .before .before .before .before .before .before .before in
+    let c24 = c12 .before .before .before .before .before .before .before .before .before .before .before .before in
+    let args = c24 .args in
+    let shared-slice-known = c12 .before .before .before .before .before .before .before .before .before .before .shared-slice-known in
+    let loop = c12 .before .before .before .before .before .before .before .before .loop in
+    let loop-test = c12 .before .before .before .before .before .before .before .loop-test in
+    let takes-on = c12 .before .before .before .before .before .before .takes-on in
+    let if1 = c12 .before .before .before .before .before .if1 in
+    let step-trusted = c12 .step-trusted in
+    omega (
+      arith,
+      going-less (loop .inv .1 .1) (bytes-of (args .stream .now) (shared-slice-known .given)) (loop-test .taken)
+          (taken-on (loop .inv .1 .1) (takes-on .ensures) (not-false _ (if1 .left))) (step-trusted .ensures .0)
+          (sym (c .before .ends-job .ensures) ∙ c .if2 .left),
+      step-trusted .ensures .0 .within,
+    )
 
 loop-again : tie.Need-loop-again Inv-loop μ-loop
-loop-again c = ((c .before .before .before .before .before .before .before .before .before .before .before .before .step-trusted .kept .1 .1 .1 .1 .1 .1 .1 .0 ∙ c .before .before .before .before .before .before .before .before .before .before .before .before .before .before .before .before .before .before .before .before .loop .inv .0 .0, c .before .before .before .before .before .before .before .before .before .before .before .before .step-trusted .ensures .1), (c .before .before .before .before .before .before .before .before .before .before .before .before .step-trusted .kept .1 .1 .1 .1 .1 .1 .1 .1 .0 ∙ c .before .before .before .before .before .before .before .before .before .before .before .before .before .before .before .before .before .before .before .before .loop .inv .1 .0, going-on (c .before .before .before .before .before .before .before .before .before .before .before .before .before .before .before .before .before .before .before .before .loop .inv .1 .1) (bytes-of (c .before .before .before .before .before .before .before .before .before .before .before .before .before .before .before .before .before .before .before .before .before .before .before .before .args .stream .now) (c .before .before .before .before .before .before .before .before .before .before .before .before .before .before .before .before .before .before .before .before .before .before .shared-slice-known .given)) (c .before .before .before .before .before .before .before .before .before .before .before .before .before .before .before .before .before .before .before .loop-test .taken) (taken-on (c .before .before .before .before .before .before .before .before .before .before .before .before .before .before .before .before .before .before .before .before .loop .inv .1 .1) (c .before .before .before .before .before .before .before .before .before .before .before .before .before .before .before .before .before .before .takes-on .ensures) (not-false _ (c .before .before .before .before .before .before .before .before .before .before .before .before .before .before .before .before .before .if1 .left))) (c .before .before .before .before .before .before .before .before .before .before .before .before .step-trusted .ensures .0) (sym (c .before .ends-job .ensures) ∙ c .if2 .left) (c .before .before .before .before .before .write-line .ensures)))
+loop-again c =
+    let c12 = c .before .before .before .before .before .before .before .before .before .before .before .before in
+    let c24 = c12 .before .before .before .before .before .before .before .before .before .before .before .before in
+    let args = c24 .args in
+    let shared-slice-known = c12 .before .before .before .before .before .before .before .before .before .before .shared-slice-known in
+    let loop = c12 .before .before .before .before .before .before .before .before .loop in
+    let loop-test = c12 .before .before .before .before .before .before .before .loop-test in
+    let takes-on = c12 .before .before .before .before .before .before .takes-on in
+    let if1 = c12 .before .before .before .before .before .if1 in
+    let step-trusted = c12 .step-trusted in
+    let write-line = c .before .before .before .before .before .write-line in (
+      (step-trusted .kept .1 .1 .1 .1 .1 .1 .1 .0 ∙ loop .inv .0 .0, step-trusted .ensures .1),
+      (
+        step-trusted .kept .1 .1 .1 .1 .1 .1 .1 .1 .0 ∙ loop .inv .1 .0,
+        going-on (loop .inv .1 .1) (bytes-of (args .stream .now) (shared-slice-known .given)) (loop-test .taken)
+            (taken-on (loop .inv .1 .1) (takes-on .ensures) (not-false _ (if1 .left))) (step-trusted .ensures .0)
+            (sym (c .before .ends-job .ensures) ∙ c .if2 .left) (write-line .ensures),
+      ),
+    )
 
 lines-at-requires-3 : tie.Need-lines-at-requires-3 Inv-loop μ-loop
 lines-at-requires-3 c κs = search needs

@@ -13,7 +13,16 @@ slice-aggregate-step-trusted : tie.Need-slice-aggregate-step-trusted
 slice-aggregate-step-trusted c = search needs
 
 step-trusted-requires : tie.Need-step-trusted-requires
-step-trusted-requires c κs = ((stands-lent _ _ (c .before .before .before .before .before .before .before .before .before .pre .0) _ (c .before .before .before .before .used-of .ensures), (bytes-of (c .before .before .before .before .before .before .before .before .before .args .«record» .now) (c .before .before .before .before .before .before .before .shared-slice-known .given), (omega arith, (omega arith, c .before .before .before .before .before .before .before .before .before .pre .1)))), partly-none _ _ _)
+step-trusted-requires c κs =
+    let args = c .before .before .before .before .before .before .before .before .before .args in
+    let pre = c .before .before .before .before .before .before .before .before .before .pre in
+    let shared-slice-known = c .before .before .before .before .before .before .before .shared-slice-known in (
+      (
+        stands-lent _ _ (pre .0) _ (c .before .before .before .before .used-of .ensures),
+        (bytes-of (args .«record» .now) (shared-slice-known .given), (omega arith, (omega arith, pre .1))),
+      ),
+      partly-none _ _ _,
+    )
 
 write-used-requires : tie.Need-write-used-requires
 write-used-requires c κs = search needs
@@ -28,7 +37,13 @@ same-length-2 : tie.Need-same-length-2
 same-length-2 c = search needs
 
 returns : tie.Need-returns
-returns c = record-gives _ _ (c .before .before .before .before .before .before .before .before .before .before .before .before .before .before .before .before .before .before .before .before .before .pre .0) _ (c .before .before .before .before .before .before .before .before .before .before .before .before .before .before .before .before .used-of .ensures) _ _ (c .before .before .before .before .before .before .before .before .before .before .before .before .before .before .before .before .before .before .before .before .before .pre .1) _ _ _ _ (c .before .before .before .before .before .before .before .before .before .before .before .step-trusted .ensures .0) _ (c .before .before .before .write-used .ensures) (c .before .before .before .before .before .before .before .before .before .before .before .step-trusted .kept .1 .1 .1 .1 .1 .1 .1 .1 .0)
+returns c =
+    let c12 = c .before .before .before .before .before .before .before .before .before .before .before .before in
+    let pre = c12 .before .before .before .before .before .before .before .before .before .pre in
+    let used-of = c12 .before .before .before .before .used-of in
+    let step-trusted = c .before .before .before .before .before .before .before .before .before .before .before .step-trusted in
+    record-gives _ _ (pre .0) _ (used-of .ensures) _ _ (pre .1) _ _ _ _ (step-trusted .ensures .0) _
+    (c .before .before .before .write-used .ensures) (step-trusted .kept .1 .1 .1 .1 .1 .1 .1 .1 .0)
 
 pub record-trusted-spec : {M : Type 1} → statement M
 record-trusted-spec =

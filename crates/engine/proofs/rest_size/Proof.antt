@@ -23,13 +23,30 @@ slice-aggregate-rest-trusted : tie.Need-slice-aggregate-rest-trusted
 slice-aggregate-rest-trusted c = search needs
 
 rest-trusted-requires : tie.Need-rest-trusted-requires
-rest-trusted-requires c κs = (stands-lent _ _ (sym (c .before .before .before .before .before .before .sound-state .ensures) ∙ not-false _ (c .before .before .before .before .before .if1 .left)) _ (c .before .before .before .used-of .ensures), (c .before .before .before .used-of .ensures, omega arith))
+rest-trusted-requires c κs =
+    let sound-state = c .before .before .before .before .before .before .sound-state in
+    let if1 = c .before .before .before .before .before .if1 in
+    let used-of = c .before .before .before .used-of in (
+      stands-lent _ _ (sym (sound-state .ensures) ∙ not-false _ (if1 .left)) _ (used-of .ensures),
+      (used-of .ensures, omega arith),
+    )
 
 same-length-2 : tie.Need-same-length-2
 same-length-2 c = search needs
 
 returns-2 : tie.Need-returns-2
-returns-2 c = (c .before .before .before .rest-trusted .ensures .0, (c .before .before .before .rest-trusted .ensures .1 .0, sound-rest _ _ (sym (c .before .before .before .before .before .before .before .before .before .before .sound-state .ensures) ∙ not-false _ (c .before .before .before .before .before .before .before .before .before .if1 .left)) _ (c .before .before .before .before .before .before .before .used-of .ensures) _ _ (c .before .before .before .rest-trusted .ensures .1 .1)))
+returns-2 c =
+    let sound-state = c .before .before .before .before .before .before .before .before .before .before .sound-state in
+    let if1 = c .before .before .before .before .before .before .before .before .before .if1 in
+    let used-of = c .before .before .before .before .before .before .before .used-of in
+    let rest-trusted = c .before .before .before .rest-trusted in (
+      rest-trusted .ensures .0,
+      (
+        rest-trusted .ensures .1 .0,
+        sound-rest _ _ (sym (sound-state .ensures) ∙ not-false _ (if1 .left)) _ (used-of .ensures) _ _
+            (rest-trusted .ensures .1 .1),
+      ),
+    )
 
 pub rest-size-spec : {M : Type 1} → statement M
 rest-size-spec =

@@ -1,4 +1,5 @@
 -- `failures::failing_of` meets its contract. Assumes nothing.
+-- Five returns: nothing is asked; else the type unfolds to a node or to `_`, and each is fine or fails.
 use Rattle.failures.proofs.Laws.{nothing-asked, node-fine, node-fails, anything-fine, anything-fails}
 use borrow.Author.Needs.{needs}
 use Rattle.failures.proofs.failing_of.Statement.{statement}
@@ -29,7 +30,14 @@ good-requires : tie.Need-good-requires
 good-requires c κs = search needs
 
 returns-2 : tie.Need-returns-2
-returns-2 c = node-fine _ _ (c .before .before .before .before .before .before .before .before .ask-of .result) _ (c .before .before .before .before .before .before .before .before .ask-of .ensures) (c .before .before .before .before .before .before .before .if1 .left) _ (c .before .before .before .before .before .before .unfold-type .ensures) _ (c .before .before .before .before .t .given .1) (c .before .before .node-at .result) (c .before .before .node-at .ensures) _ (c .before .good2 .ensures) (c .if2 .taken)
+returns-2 c =
+    let ask-of = c .before .before .before .before .before .before .before .before .ask-of in
+    let if1 = c .before .before .before .before .before .before .before .if1 in
+    let unfold-type = c .before .before .before .before .before .before .unfold-type in
+    let node-at = c .before .before .node-at in
+    node-fine _ _ (ask-of .result) _ (ask-of .ensures) (if1 .left) _ (unfold-type .ensures) _
+    (c .before .before .before .before .t .given .1) (node-at .result) (node-at .ensures) _
+    (c .before .good2 .ensures) (c .if2 .taken)
 
 enum-known-at : tie.Need-enum-known-at
 enum-known-at c = search needs
@@ -38,13 +46,30 @@ good-requires-2 : tie.Need-good-requires-2
 good-requires-2 c κs = search needs
 
 returns-3 : tie.Need-returns-3
-returns-3 c = anything-fine _ _ (c .before .before .before .before .before .before .before .ask-of .result) _ (c .before .before .before .before .before .before .before .ask-of .ensures) (c .before .before .before .before .before .before .if1 .left) _ (c .before .before .before .before .before .unfold-type .ensures) _ (c .before .before .before .at .given .1) _ (c .before .good3 .ensures) (c .if3 .taken)
+returns-3 c =
+    let ask-of = c .before .before .before .before .before .before .before .ask-of in
+    let if1 = c .before .before .before .before .before .before .if1 in
+    let unfold-type = c .before .before .before .before .before .unfold-type in
+    anything-fine _ _ (ask-of .result) _ (ask-of .ensures) (if1 .left) _ (unfold-type .ensures) _
+    (c .before .before .before .at .given .1) _ (c .before .good3 .ensures) (c .if3 .taken)
 
 returns-4 : tie.Need-returns-4
-returns-4 c = node-fails _ _ (c .before .before .before .before .before .before .before .before .ask-of .result) _ (c .before .before .before .before .before .before .before .before .ask-of .ensures) (c .before .before .before .before .before .before .before .if1 .left) _ (c .before .before .before .before .before .before .unfold-type .ensures) _ (c .before .before .before .before .t .given .1) (c .before .before .node-at .result) (c .before .before .node-at .ensures) _ (c .before .good2 .ensures) (c .if2 .left)
+returns-4 c =
+    let ask-of = c .before .before .before .before .before .before .before .before .ask-of in
+    let if1 = c .before .before .before .before .before .before .before .if1 in
+    let unfold-type = c .before .before .before .before .before .before .unfold-type in
+    let node-at = c .before .before .node-at in
+    node-fails _ _ (ask-of .result) _ (ask-of .ensures) (if1 .left) _ (unfold-type .ensures) _
+    (c .before .before .before .before .t .given .1) (node-at .result) (node-at .ensures) _
+    (c .before .good2 .ensures) (c .if2 .left)
 
 returns-5 : tie.Need-returns-5
-returns-5 c = anything-fails _ _ (c .before .before .before .before .before .before .before .ask-of .result) _ (c .before .before .before .before .before .before .before .ask-of .ensures) (c .before .before .before .before .before .before .if1 .left) _ (c .before .before .before .before .before .unfold-type .ensures) _ (c .before .before .before .at .given .1) _ (c .before .good3 .ensures) (c .if3 .left)
+returns-5 c =
+    let ask-of = c .before .before .before .before .before .before .before .ask-of in
+    let if1 = c .before .before .before .before .before .before .if1 in
+    let unfold-type = c .before .before .before .before .before .unfold-type in
+    anything-fails _ _ (ask-of .result) _ (ask-of .ensures) (if1 .left) _ (unfold-type .ensures) _
+    (c .before .before .before .at .given .1) _ (c .before .good3 .ensures) (c .if3 .left)
 
 pub failing-of-spec : {M : Type 1} → statement M
 failing-of-spec =

@@ -33,7 +33,14 @@ plain-requires : tie.Need-plain-requires Inv-loop μ-loop
 plain-requires c κs = search needs
 
 returns : tie.Need-returns Inv-loop μ-loop
-returns c = λ w known l. rw (c .plain .ensures) (params-stop _ _ _ _ _ _ _ (c .before .before .before .before .before .before .loop .inv) w _ known _ l (c .before .before .before .before .before .loop-test .taken) (c .before .before .before .before .before .before .before .before .pre .1 .0) (rw (c .before .enum-told .given .1) at (c .before .before .before .byte-to .ensures _ _ _ _ (c .before .before .before .before .read-number .ensures _ _ byte-wide) .is)))
+returns c =
+    let pre = c .before .before .before .before .before .before .before .before .pre in
+    let loop = c .before .before .before .before .before .before .loop in
+    let loop-test = c .before .before .before .before .before .loop-test in
+    λ w known l. rw (c .plain .ensures)
+    (params-stop _ _ _ _ _ _ _ (loop .inv) w _ known _ l (loop-test .taken) (pre .1 .0)
+    (rw (c .before .enum-told .given .1) at (c .before .before .before .byte-to .ensures _ _ _ _
+    (c .before .before .before .before .read-number .ensures _ _ byte-wide) .is)))
 
 cast-params : tie.Need-cast-params Inv-loop μ-loop
 cast-params c = omega (arith, rw (c .before .p .given .1) at (c .before .before .before .byte-to .ensures _ _ _ _ (c .before .before .before .before .read-number .ensures _ _ byte-wide) .most))

@@ -122,12 +122,22 @@ instantiate-apply-same-length t c = c .before .before .before .before .before .b
 instantiate-apply-returns : (t : ℕ) → instantiate-apply-lts.Need-returns (instantiate-apply-calls t) (instantiate-apply-at t) instantiate-apply.Post
     instantiate-apply-Inv-loop
     instantiate-apply-μ-loop
-instantiate-apply-returns t c = apply-stop _ _ _ _ _ _ _ _ _ (c .before .before .before .before .before .before .before .before .before .before .before .pre .1 .1 .placed) _ (c .before .before .before .before .before .before .before .before .make-tparams .result) _ (c .before .before .before .before .before .before .before .before .make-tparams .ensures) (c .before .before .before .done-of .ensures) _ (c .stay .ensures) (c .before .enum-told2 .given .1)
+instantiate-apply-returns t c =
+    let pre = c .before .before .before .before .before .before .before .before .before .before .before .pre in
+    let make-tparams = c .before .before .before .before .before .before .before .before .make-tparams in
+    apply-stop _ _ _ _ _ _ _ _ _ (pre .1 .1 .placed) _ (make-tparams .result) _ (make-tparams .ensures)
+    (c .before .before .before .done-of .ensures) _ (c .stay .ensures) (c .before .enum-told2 .given .1)
 
 instantiate-apply-loop-holds : (t : ℕ) → instantiate-apply-lts.Need-loop-holds (instantiate-apply-calls t) (instantiate-apply-at t) instantiate-apply.Post
     instantiate-apply-Inv-loop
     instantiate-apply-μ-loop
-instantiate-apply-loop-holds t c = walk-start _ _ _ _ _ (placed-length _ _ _ _ ((named-kept _ _ _ _ _ (c .before .before .before .before .before .before .before .before .before .before .pre .1 .1) _ _ (c .before .before .before .before .before .before .before .make-tparams .ensures .grown)) .placed)) ((named-kept _ _ _ _ _ (c .before .before .before .before .before .before .before .before .before .before .pre .1 .1) _ _ (c .before .before .before .before .before .before .before .make-tparams .ensures .grown)) .placed .few) _ _ _ (c .before .before .before .before .before .before .before .make-tparams .ensures .lay) refl
+instantiate-apply-loop-holds t c =
+    let pre = c .before .before .before .before .before .before .before .before .before .before .pre in
+    let make-tparams = c .before .before .before .before .before .before .before .make-tparams in
+    walk-start _ _ _ _ _
+    (placed-length _ _ _ _ ((named-kept _ _ _ _ _ (pre .1 .1) _ _ (make-tparams .ensures .grown)) .placed))
+    ((named-kept _ _ _ _ _ (pre .1 .1) _ _ (make-tparams .ensures .grown)) .placed .few) _ _ _
+    (make-tparams .ensures .lay) refl
 
 instantiate-apply-arg-at-requires : (t : ℕ) → instantiate-apply-lts.Need-arg-at-requires (instantiate-apply-calls t) (instantiate-apply-at t) instantiate-apply.Post
     instantiate-apply-Inv-loop
@@ -138,7 +148,24 @@ instantiate-apply-instantiate-down-requires :
     (t : ℕ) → instantiate-apply-lts.Need-instantiate-down-requires (instantiate-apply-calls t) (instantiate-apply-at t) instantiate-apply.Post
     instantiate-apply-Inv-loop
     instantiate-apply-μ-loop
-instantiate-apply-instantiate-down-requires t c κs = (omega (arith, c .before .before .before .before .before .before .before .before .before .before .before .before .before .before .before .pre .0), (c .before .before .before .before .loop .inv .lay, omega (arith, (arg-kept _ _ _ _ ((named-kept _ _ _ _ _ (c .before .before .before .before .before .before .before .before .before .before .before .before .before .before .before .pre .1 .1) _ _ (c .before .before .before .before .before .before .before .before .before .before .before .before .make-tparams .ensures .grown)) .placed) _ _ (c .before .before .before .before .loop .inv .grown) _ _ (c .before .before .before .loop-test .taken) (c .before .arg-at .ensures)), (named-kept _ _ _ _ _ (c .before .before .before .before .before .before .before .before .before .before .before .before .before .before .before .pre .1 .1) _ _ (c .before .before .before .before .before .before .before .before .before .before .before .before .make-tparams .ensures .grown)) .smaller _ (c .before .before .before .loop-test .taken), nodes-grow _ _ _ _ (c .before .before .before .before .before .before .before .before .before .before .before .before .make-tparams .ensures .grown), nodes-grow _ _ _ _ (c .before .before .before .before .loop .inv .grown))))
+instantiate-apply-instantiate-down-requires t c κs =
+    let pre = c .before .before .before .before .before .before .before .before .before .before .before .before .before .before .before .pre in
+    let make-tparams = c .before .before .before .before .before .before .before .before .before .before .before .before .make-tparams in
+    let loop = c .before .before .before .before .loop in
+    let loop-test = c .before .before .before .loop-test in (
+      omega (arith, pre .0),
+      (
+        loop .inv .lay,
+        omega (
+          arith,
+          (arg-kept _ _ _ _ ((named-kept _ _ _ _ _ (pre .1 .1) _ _ (make-tparams .ensures .grown)) .placed) _ _
+              (loop .inv .grown) _ _ (loop-test .taken) (c .before .arg-at .ensures)),
+          (named-kept _ _ _ _ _ (pre .1 .1) _ _ (make-tparams .ensures .grown)) .smaller _ (loop-test .taken),
+          nodes-grow _ _ _ _ (make-tparams .ensures .grown),
+          nodes-grow _ _ _ _ (loop .inv .grown),
+        ),
+      ),
+    )
 
 instantiate-apply-done-of-requires-2 : (t : ℕ) → instantiate-apply-lts.Need-done-of-requires-2 (instantiate-apply-calls t) (instantiate-apply-at t) instantiate-apply.Post
     instantiate-apply-Inv-loop
@@ -158,12 +185,35 @@ instantiate-apply-enum-told-3 t c = search needs
 instantiate-apply-same-length-2 : (t : ℕ) → instantiate-apply-lts.Need-same-length-2 (instantiate-apply-calls t) (instantiate-apply-at t) instantiate-apply.Post
     instantiate-apply-Inv-loop
     instantiate-apply-μ-loop
-instantiate-apply-same-length-2 t c = c .before .before .before .before .before .instantiate-down .ensures .lay .size ∙ sym (c .before .before .before .before .before .before .before .before .before .before .before .before .before .before .before .before .before .before .before .before .before .pre .1 .0 .size)
+instantiate-apply-same-length-2 t c =
+    let c12 = c .before .before .before .before .before .before .before .before .before .before .before .before in
+    let pre = c12 .before .before .before .before .before .before .before .before .before .pre in
+    let instantiate-down = c .before .before .before .before .before .instantiate-down in
+    instantiate-down .ensures .lay .size ∙ sym (pre .1 .0 .size)
 
 instantiate-apply-returns-2 : (t : ℕ) → instantiate-apply-lts.Need-returns-2 (instantiate-apply-calls t) (instantiate-apply-at t) instantiate-apply.Post
     instantiate-apply-Inv-loop
     instantiate-apply-μ-loop
-instantiate-apply-returns-2 t c = apply-then _ _ _ _ _ _ _ _ _ (c .before .before .before .before .before .before .before .before .before .before .before .before .before .before .before .before .before .before .before .before .before .pre .1 .1 .placed) _ (c .before .before .before .before .before .before .before .before .before .before .before .before .before .before .before .before .before .before .make-tparams .result) _ (c .before .before .before .before .before .before .before .before .before .before .before .before .before .before .before .before .before .before .make-tparams .ensures) (c .before .before .before .before .before .before .before .before .before .before .before .before .before .done-of .ensures) _ _ _ (c .before .before .before .before .before .before .before .before .before .before .before .enum-told .given .1) (walk-stop _ _ _ _ _ (placed-length _ _ _ _ ((named-kept _ _ _ _ _ (c .before .before .before .before .before .before .before .before .before .before .before .before .before .before .before .before .before .before .before .before .before .pre .1 .1) _ _ (c .before .before .before .before .before .before .before .before .before .before .before .before .before .before .before .before .before .before .make-tparams .ensures .grown)) .placed)) ((named-kept _ _ _ _ _ (c .before .before .before .before .before .before .before .before .before .before .before .before .before .before .before .before .before .before .before .before .before .pre .1 .1) _ _ (c .before .before .before .before .before .before .before .before .before .before .before .before .before .before .before .before .before .before .make-tparams .ensures .grown)) .placed .few) _ _ _ _ _ _ (c .before .before .before .before .before .before .before .before .before .before .loop .inv) _ (c .before .before .before .before .before .before .before .before .before .loop-test .taken) (arg-kept _ _ _ _ ((named-kept _ _ _ _ _ (c .before .before .before .before .before .before .before .before .before .before .before .before .before .before .before .before .before .before .before .before .before .pre .1 .1) _ _ (c .before .before .before .before .before .before .before .before .before .before .before .before .before .before .before .before .before .before .make-tparams .ensures .grown)) .placed) _ _ (c .before .before .before .before .before .before .before .before .before .before .loop .inv .grown) _ _ (c .before .before .before .before .before .before .before .before .before .loop-test .taken) (c .before .before .before .before .before .before .before .arg-at .ensures)) _ (known-kept _ _ _ _ _ (c .before .before .before .before .before .before .before .before .before .before .loop .inv .structs)) _ _ (c .before .before .before .before .before .instantiate-down .ensures) _ (c .before .before .done-of2 .ensures) (c .enum-told3 .given .1))
+instantiate-apply-returns-2 t c =
+    let c12 = c .before .before .before .before .before .before .before .before .before .before .before .before in
+    let pre = c12 .before .before .before .before .before .before .before .before .before .pre in
+    let make-tparams = c12 .before .before .before .before .before .before .make-tparams in
+    let done-of = c12 .before .done-of in
+    let enum-told = c .before .before .before .before .before .before .before .before .before .before .before .enum-told in
+    let loop = c .before .before .before .before .before .before .before .before .before .before .loop in
+    let loop-test = c .before .before .before .before .before .before .before .before .before .loop-test in
+    let arg-at = c .before .before .before .before .before .before .before .arg-at in
+    let instantiate-down = c .before .before .before .before .before .instantiate-down in
+    apply-then _ _ _ _ _ _ _ _ _ (pre .1 .1 .placed) _ (make-tparams .result) _ (make-tparams .ensures)
+    (done-of .ensures) _ _ _ (enum-told .given .1)
+    (walk-stop _ _ _ _ _
+    (placed-length _ _ _ _ ((named-kept _ _ _ _ _ (pre .1 .1) _ _ (make-tparams .ensures .grown)) .placed))
+    ((named-kept _ _ _ _ _ (pre .1 .1) _ _ (make-tparams .ensures .grown)) .placed .few) _ _ _ _ _ _
+    (loop .inv) _ (loop-test .taken)
+    (arg-kept _ _ _ _ ((named-kept _ _ _ _ _ (pre .1 .1) _ _ (make-tparams .ensures .grown)) .placed) _ _
+    (loop .inv .grown) _ _ (loop-test .taken) (arg-at .ensures)) _
+    (known-kept _ _ _ _ _ (loop .inv .structs)) _ _ (instantiate-down .ensures) _
+    (c .before .before .done-of2 .ensures) (c .enum-told3 .given .1))
 
 instantiate-apply-wide-requires : (t : ℕ) → instantiate-apply-lts.Need-wide-requires (instantiate-apply-calls t) (instantiate-apply-at t) instantiate-apply.Post
     instantiate-apply-Inv-loop
@@ -173,17 +223,30 @@ instantiate-apply-wide-requires t c κs = search needs
 instantiate-apply-mul-parts : (t : ℕ) → instantiate-apply-lts.Need-mul-parts (instantiate-apply-calls t) (instantiate-apply-at t) instantiate-apply.Post
     instantiate-apply-Inv-loop
     instantiate-apply-μ-loop
-instantiate-apply-mul-parts t c = omega (arith, c .wide .ensures, c .before .before .before .before .before .before .before .before .before .before .before .before .before .before .before .before .before .before .before .before .before .before .before .pre .1 .1 .placed .few, c .before .before .before .before .before .before .before .before .before .before .before .loop-test .taken)
+instantiate-apply-mul-parts t c =
+    let c12 = c .before .before .before .before .before .before .before .before .before .before .before .before in
+    let pre = c12 .before .before .before .before .before .before .before .before .before .before .before .pre in
+    let loop-test = c .before .before .before .before .before .before .before .before .before .before .before .loop-test in
+    omega (arith, c .wide .ensures, pre .1 .1 .placed .few, loop-test .taken)
 
 instantiate-apply-array-write-parts : (t : ℕ) → instantiate-apply-lts.Need-array-write-parts (instantiate-apply-calls t) (instantiate-apply-at t) instantiate-apply.Post
     instantiate-apply-Inv-loop
     instantiate-apply-μ-loop
-instantiate-apply-array-write-parts t c = omega (arith, c .wide .ensures, c .before .before .before .before .before .before .before .before .before .before .before .before .before .before .before .before .before .before .before .before .before .before .before .pre .1 .1 .placed .few, c .before .before .before .before .before .before .before .before .before .before .before .loop-test .taken)
+instantiate-apply-array-write-parts t c =
+    let c12 = c .before .before .before .before .before .before .before .before .before .before .before .before in
+    let pre = c12 .before .before .before .before .before .before .before .before .before .before .before .pre in
+    let loop-test = c .before .before .before .before .before .before .before .before .before .before .before .loop-test in
+    omega (arith, c .wide .ensures, pre .1 .1 .placed .few, loop-test .taken)
 
 instantiate-apply-add-i : (t : ℕ) → instantiate-apply-lts.Need-add-i (instantiate-apply-calls t) (instantiate-apply-at t) instantiate-apply.Post
     instantiate-apply-Inv-loop
     instantiate-apply-μ-loop
-instantiate-apply-add-i t c = omega (arith, c .before .before .before .before .before .before .before .before .before .before .before .before .before .before .before .before .before .before .before .before .before .before .before .before .pre .1 .1 .placed .few, c .before .before .before .before .before .before .before .before .before .before .before .before .loop-test .taken)
+instantiate-apply-add-i t c =
+    let c12 = c .before .before .before .before .before .before .before .before .before .before .before .before in
+    let c24 = c12 .before .before .before .before .before .before .before .before .before .before .before .before in
+    let pre = c24 .pre in
+    let loop-test = c12 .loop-test in
+    omega (arith, pre .1 .1 .placed .few, loop-test .taken)
 
 instantiate-apply-loop-less : (t : ℕ) → instantiate-apply-lts.Need-loop-less (instantiate-apply-calls t) (instantiate-apply-at t) instantiate-apply.Post
     instantiate-apply-Inv-loop
@@ -193,12 +256,43 @@ instantiate-apply-loop-less t c = omega (arith, c .before .before .before .befor
 instantiate-apply-loop-again : (t : ℕ) → instantiate-apply-lts.Need-loop-again (instantiate-apply-calls t) (instantiate-apply-at t) instantiate-apply.Post
     instantiate-apply-Inv-loop
     instantiate-apply-μ-loop
-instantiate-apply-loop-again t c = walk-more _ _ _ _ _ (placed-length _ _ _ _ ((named-kept _ _ _ _ _ (c .before .before .before .before .before .before .before .before .before .before .before .before .before .before .before .before .before .before .before .before .before .before .before .before .pre .1 .1) _ _ (c .before .before .before .before .before .before .before .before .before .before .before .before .before .before .before .before .before .before .before .before .before .make-tparams .ensures .grown)) .placed)) ((named-kept _ _ _ _ _ (c .before .before .before .before .before .before .before .before .before .before .before .before .before .before .before .before .before .before .before .before .before .before .before .before .pre .1 .1) _ _ (c .before .before .before .before .before .before .before .before .before .before .before .before .before .before .before .before .before .before .before .before .before .make-tparams .ensures .grown)) .placed .few) _ _ _ _ _ _ (c .before .before .before .before .before .before .before .before .before .before .before .before .before .loop .inv) _ (c .before .before .before .before .before .before .before .before .before .before .before .before .loop-test .taken) (arg-kept _ _ _ _ ((named-kept _ _ _ _ _ (c .before .before .before .before .before .before .before .before .before .before .before .before .before .before .before .before .before .before .before .before .before .before .before .before .pre .1 .1) _ _ (c .before .before .before .before .before .before .before .before .before .before .before .before .before .before .before .before .before .before .before .before .before .make-tparams .ensures .grown)) .placed) _ _ (c .before .before .before .before .before .before .before .before .before .before .before .before .before .loop .inv .grown) _ _ (c .before .before .before .before .before .before .before .before .before .before .before .before .loop-test .taken) (c .before .before .before .before .before .before .before .before .before .before .arg-at .ensures)) _ (known-kept _ _ _ _ _ (c .before .before .before .before .before .before .before .before .before .before .before .before .before .loop .inv .structs)) _ _ (c .before .before .before .before .before .before .before .before .instantiate-down .ensures) _ (c .before .before .before .before .before .done-of2 .ensures) _ _ (c .before .before .before .p .given .1) (c .before .wide .ensures)
+instantiate-apply-loop-again t c =
+    let c12 = c .before .before .before .before .before .before .before .before .before .before .before .before in
+    let c24 = c12 .before .before .before .before .before .before .before .before .before .before .before .before in
+    let pre = c24 .pre in
+    let make-tparams = c12 .before .before .before .before .before .before .before .before .before .make-tparams in
+    let loop = c12 .before .loop in
+    let loop-test = c12 .loop-test in
+    let arg-at = c .before .before .before .before .before .before .before .before .before .before .arg-at in
+    let instantiate-down = c .before .before .before .before .before .before .before .before .instantiate-down in
+    let done-of2 = c .before .before .before .before .before .done-of2 in
+    walk-more _ _ _ _ _
+    (placed-length _ _ _ _ ((named-kept _ _ _ _ _ (pre .1 .1) _ _ (make-tparams .ensures .grown)) .placed))
+    ((named-kept _ _ _ _ _ (pre .1 .1) _ _ (make-tparams .ensures .grown)) .placed .few) _ _ _ _ _ _ (loop .inv) _
+    (loop-test .taken)
+    (arg-kept _ _ _ _ ((named-kept _ _ _ _ _ (pre .1 .1) _ _ (make-tparams .ensures .grown)) .placed) _ _
+    (loop .inv .grown) _ _ (loop-test .taken) (arg-at .ensures)) _
+    (known-kept _ _ _ _ _ (loop .inv .structs)) _ _ (instantiate-down .ensures) _ (done-of2 .ensures) _ _
+    (c .before .before .before .p .given .1) (c .before .wide .ensures)
 
 instantiate-apply-join-args-requires : (t : ℕ) → instantiate-apply-lts.Need-join-args-requires (instantiate-apply-calls t) (instantiate-apply-at t) instantiate-apply.Post
     instantiate-apply-Inv-loop
     instantiate-apply-μ-loop
-instantiate-apply-join-args-requires t c κs = (c .before .before .loop .inv .lay, (parts-grow _ _ _ _ (nodes-grow _ _ _ _ (c .before .before .loop .inv .grown)) (c .before .before .before .before .before .before .before .before .before .before .make-tparams .ensures .below _ (sym (c .before .before .before .before .before .done-of .ensures) ∙ c .before .before .before .enum-told .given .1)), walk-parts _ _ _ _ _ (placed-length _ _ _ _ ((named-kept _ _ _ _ _ (c .before .before .before .before .before .before .before .before .before .before .before .before .before .pre .1 .1) _ _ (c .before .before .before .before .before .before .before .before .before .before .make-tparams .ensures .grown)) .placed)) ((named-kept _ _ _ _ _ (c .before .before .before .before .before .before .before .before .before .before .before .before .before .pre .1 .1) _ _ (c .before .before .before .before .before .before .before .before .before .before .make-tparams .ensures .grown)) .placed .few) _ _ _ _ _ _ (c .before .before .loop .inv) (c .before .loop-test .left)))
+instantiate-apply-join-args-requires t c κs =
+    let pre = c .before .before .before .before .before .before .before .before .before .before .before .before .before .pre in
+    let make-tparams = c .before .before .before .before .before .before .before .before .before .before .make-tparams in
+    let done-of = c .before .before .before .before .before .done-of in
+    let loop = c .before .before .loop in (
+      loop .inv .lay,
+      (
+        parts-grow _ _ _ _ (nodes-grow _ _ _ _ (loop .inv .grown))
+            (make-tparams .ensures .below _ (sym (done-of .ensures) ∙ c .before .before .before .enum-told .given .1)),
+        walk-parts _ _ _ _ _
+            (placed-length _ _ _ _ ((named-kept _ _ _ _ _ (pre .1 .1) _ _ (make-tparams .ensures .grown)) .placed))
+            ((named-kept _ _ _ _ _ (pre .1 .1) _ _ (make-tparams .ensures .grown)) .placed .few) _ _ _ _ _ _
+            (loop .inv) (c .before .loop-test .left),
+      ),
+    )
 
 instantiate-apply-same-length-3 : (t : ℕ) → instantiate-apply-lts.Need-same-length-3 (instantiate-apply-calls t) (instantiate-apply-at t) instantiate-apply.Post
     instantiate-apply-Inv-loop
@@ -209,7 +303,19 @@ instantiate-apply-returns-3 : (t : ℕ) → instantiate-apply-lts.Need-returns-3
     instantiate-apply-Inv-loop
     instantiate-apply-μ-loop
 unfolding Any
-instantiate-apply-returns-3 t c = apply-then _ _ _ _ _ _ _ _ _ (c .before .before .before .before .before .before .before .before .before .before .before .before .before .before .before .before .pre .1 .1 .placed) _ (c .before .before .before .before .before .before .before .before .before .before .before .before .before .make-tparams .result) _ (c .before .before .before .before .before .before .before .before .before .before .before .before .before .make-tparams .ensures) (c .before .before .before .before .before .before .before .before .done-of .ensures) _ _ _ (c .before .before .before .before .before .before .enum-told .given .1) (walk-end _ _ _ _ _ (placed-length _ _ _ _ ((named-kept _ _ _ _ _ (c .before .before .before .before .before .before .before .before .before .before .before .before .before .before .before .before .pre .1 .1) _ _ (c .before .before .before .before .before .before .before .before .before .before .before .before .before .make-tparams .ensures .grown)) .placed)) ((named-kept _ _ _ _ _ (c .before .before .before .before .before .before .before .before .before .before .before .before .before .before .before .before .pre .1 .1) _ _ (c .before .before .before .before .before .before .before .before .before .before .before .before .before .make-tparams .ensures .grown)) .placed .few) _ _ _ _ _ _ (c .before .before .before .before .before .loop .inv) Any (λ ds k. tt) _ _ (c .before .before .before .before .loop-test .left) (when-after Any _ _ _ _ _ (c .before .before .join-args .ensures)))
+instantiate-apply-returns-3 t c =
+    let pre = c .before .before .before .before .before .before .before .before .before .before .before .before .before .before .before .before .pre in
+    let make-tparams = c .before .before .before .before .before .before .before .before .before .before .before .before .before .make-tparams in
+    let done-of = c .before .before .before .before .before .before .before .before .done-of in
+    let enum-told = c .before .before .before .before .before .before .enum-told in
+    let loop = c .before .before .before .before .before .loop in
+    apply-then _ _ _ _ _ _ _ _ _ (pre .1 .1 .placed) _ (make-tparams .result) _ (make-tparams .ensures)
+    (done-of .ensures) _ _ _ (enum-told .given .1)
+    (walk-end _ _ _ _ _
+    (placed-length _ _ _ _ ((named-kept _ _ _ _ _ (pre .1 .1) _ _ (make-tparams .ensures .grown)) .placed))
+    ((named-kept _ _ _ _ _ (pre .1 .1) _ _ (make-tparams .ensures .grown)) .placed .few) _ _ _ _ _ _
+    (loop .inv) Any (λ ds k. tt) _ _ (c .before .before .before .before .loop-test .left)
+    (when-after Any _ _ _ _ _ (c .before .before .join-args .ensures)))
 
 instantiate-down-stay-requires : (t : ℕ) → instantiate-down-lts.Need-stay-requires (instantiate-down-calls t) (instantiate-down-at t) instantiate-down.Post
 instantiate-down-stay-requires t c κs = search needs
@@ -270,14 +376,37 @@ instantiate-down-same-length : (t : ℕ) → instantiate-down-lts.Need-same-leng
 instantiate-down-same-length t c = c .before .before .before .before .before .before .push-constraint .ensures .lay .size ∙ sym (c .before .before .before .before .before .before .before .before .before .before .before .before .before .before .before .pre .1 .0 .size)
 
 instantiate-down-returns-2 : (t : ℕ) → instantiate-down-lts.Need-returns-2 (instantiate-down-calls t) (instantiate-down-at t) instantiate-down.Post
-instantiate-down-returns-2 t c = ref-full _ _ _ _ _ _ (c .before .before .before .before .before .before .before .before .before .before .before .before .before .before .before .pre .1 .0) (c .before .before .before .before .before .before .before .before .before .before .before .before .before .if1 .left) (c .before .before .before .before .before .before .before .before .before .before .before .node-at .ensures) _ _ (c .before .before .before .before .before .before .before .before .before .shape .given .1) _ _ _ (c .before .before .before .before .before .before .push-constraint .ensures) (c .before .before .done-of .ensures) (c .enum-told7 .given .1)
+instantiate-down-returns-2 t c =
+    let pre = c .before .before .before .before .before .before .before .before .before .before .before .before .before .before .before .pre in
+    let if1 = c .before .before .before .before .before .before .before .before .before .before .before .before .before .if1 in
+    let node-at = c .before .before .before .before .before .before .before .before .before .before .before .node-at in
+    let shape = c .before .before .before .before .before .before .before .before .before .shape in
+    let push-constraint = c .before .before .before .before .before .before .push-constraint in
+    ref-full _ _ _ _ _ _ (pre .1 .0) (if1 .left) (node-at .ensures) _ _ (shape .given .1) _ _ _
+    (push-constraint .ensures) (c .before .before .done-of .ensures) (c .enum-told7 .given .1)
 
 instantiate-down-sub-instantiate-down : (t : ℕ) → instantiate-down-lts.Need-sub-instantiate-down (instantiate-down-calls t) (instantiate-down-at t) instantiate-down.Post
 instantiate-down-sub-instantiate-down t c = omega (arith, c .before .before .before .before .before .before .before .before .before .before .before .before .before .before .if1 .left)
 
 instantiate-down-instantiate-down-requires :
     (t : ℕ) → instantiate-down-lts.Need-instantiate-down-requires (instantiate-down-calls t) (instantiate-down-at t) instantiate-down.Post
-instantiate-down-instantiate-down-requires t c κs = (omega (arith, c .before .before .before .before .before .before .before .before .before .before .before .before .before .before .before .before .pre .0, c .before .before .before .before .before .before .before .before .before .before .before .before .before .before .if1 .left), (c .before .before .before .before .before .before .before .push-constraint .ensures .lay, omega (arith, ref-below _ _ _ _ (c .before .before .before .before .before .before .before .before .before .before .before .before .before .before .before .before .pre .1 .0) (c .before .before .before .before .before .before .before .before .before .before .before .before .before .before .before .before .pre .1 .1) (c .before .before .before .before .before .before .before .before .before .before .before .before .node-at .ensures) _ _ (c .before .before .before .before .before .before .before .before .before .before .shape .given .1), c .before .before .before .before .before .before .before .before .before .before .before .before .before .before .before .before .pre .1 .1, nodes-grow _ _ _ _ (c .before .before .before .before .before .before .before .push-constraint .ensures .grown))))
+instantiate-down-instantiate-down-requires t c κs =
+    let pre = c .before .before .before .before .before .before .before .before .before .before .before .before .before .before .before .before .pre in
+    let if1 = c .before .before .before .before .before .before .before .before .before .before .before .before .before .before .if1 in
+    let node-at = c .before .before .before .before .before .before .before .before .before .before .before .before .node-at in
+    let shape = c .before .before .before .before .before .before .before .before .before .before .shape in
+    let push-constraint = c .before .before .before .before .before .before .before .push-constraint in (
+      omega (arith, pre .0, if1 .left),
+      (
+        push-constraint .ensures .lay,
+        omega (
+          arith,
+          ref-below _ _ _ _ (pre .1 .0) (pre .1 .1) (node-at .ensures) _ _ (shape .given .1),
+          pre .1 .1,
+          nodes-grow _ _ _ _ (push-constraint .ensures .grown),
+        ),
+      ),
+    )
 
 instantiate-down-done-of-requires-2 : (t : ℕ) → instantiate-down-lts.Need-done-of-requires-2 (instantiate-down-calls t) (instantiate-down-at t) instantiate-down.Post
 instantiate-down-done-of-requires-2 t c κs = search needs
@@ -289,13 +418,34 @@ instantiate-down-enum-told-8 : (t : ℕ) → instantiate-down-lts.Need-enum-told
 instantiate-down-enum-told-8 t c = search needs
 
 instantiate-down-same-length-2 : (t : ℕ) → instantiate-down-lts.Need-same-length-2 (instantiate-down-calls t) (instantiate-down-at t) instantiate-down.Post
-instantiate-down-same-length-2 t c = c .before .before .before .before .before .before .instantiate-down .ensures .lay .size ∙ sym (c .before .before .before .before .before .before .before .before .before .before .before .before .before .before .before .before .before .before .before .before .before .before .before .pre .1 .0 .size)
+instantiate-down-same-length-2 t c =
+    let c12 = c .before .before .before .before .before .before .before .before .before .before .before .before in
+    let pre = c12 .before .before .before .before .before .before .before .before .before .before .before .pre in
+    let instantiate-down = c .before .before .before .before .before .before .instantiate-down in
+    instantiate-down .ensures .lay .size ∙ sym (pre .1 .0 .size)
 
 instantiate-down-returns-3 : (t : ℕ) → instantiate-down-lts.Need-returns-3 (instantiate-down-calls t) (instantiate-down-at t) instantiate-down.Post
-instantiate-down-returns-3 t c = ref-stop _ _ _ _ _ _ (c .before .before .before .before .before .before .before .before .before .before .before .before .before .before .before .before .before .before .before .before .before .before .before .pre .1 .0) (c .before .before .before .before .before .before .before .before .before .before .before .before .before .before .before .before .before .before .before .before .before .if1 .left) (c .before .before .before .before .before .before .before .before .before .before .before .before .before .before .before .before .before .before .before .node-at .ensures) _ _ (c .before .before .before .before .before .before .before .before .before .before .before .before .before .before .before .before .before .shape .given .1) _ _ _ (c .before .before .before .before .before .before .before .before .before .before .before .before .before .before .push-constraint .ensures) (c .before .before .before .before .before .before .before .before .before .before .done-of .ensures) _ (c .before .before .before .before .before .before .before .before .enum-told6 .given .1) _ _ _ (c .before .before .before .before .before .before .instantiate-down .ensures) (c .before .before .done-of2 .ensures) (c .enum-told8 .given .1)
+instantiate-down-returns-3 t c =
+    let c12 = c .before .before .before .before .before .before .before .before .before .before .before .before in
+    let pre = c12 .before .before .before .before .before .before .before .before .before .before .before .pre in
+    let if1 = c12 .before .before .before .before .before .before .before .before .before .if1 in
+    let node-at = c12 .before .before .before .before .before .before .before .node-at in
+    let shape = c12 .before .before .before .before .before .shape in
+    let push-constraint = c12 .before .before .push-constraint in
+    let done-of = c .before .before .before .before .before .before .before .before .before .before .done-of in
+    let enum-told6 = c .before .before .before .before .before .before .before .before .enum-told6 in
+    let instantiate-down = c .before .before .before .before .before .before .instantiate-down in
+    ref-stop _ _ _ _ _ _ (pre .1 .0) (if1 .left) (node-at .ensures) _ _ (shape .given .1) _ _ _
+    (push-constraint .ensures) (done-of .ensures) _ (enum-told6 .given .1) _ _ _ (instantiate-down .ensures)
+    (c .before .before .done-of2 .ensures) (c .enum-told8 .given .1)
 
 instantiate-down-push-node-requires : (t : ℕ) → instantiate-down-lts.Need-push-node-requires (instantiate-down-calls t) (instantiate-down-at t) instantiate-down.Post
-instantiate-down-push-node-requires t c κs = (c .before .before .before .before .before .before .before .before .instantiate-down .ensures .lay, when-done _ _ _ _ _ _ _ _ (c .before .before .before .before .before .before .before .before .instantiate-down .ensures) (c .before .before .before .before .done-of2 .ensures) (c .before .before .p .given .1))
+instantiate-down-push-node-requires t c κs =
+    let instantiate-down = c .before .before .before .before .before .before .before .before .instantiate-down in (
+      instantiate-down .ensures .lay,
+      when-done _ _ _ _ _ _ _ _ (instantiate-down .ensures) (c .before .before .before .before .done-of2 .ensures)
+          (c .before .before .p .given .1),
+    )
 
 instantiate-down-enum-known-shape-2 : (t : ℕ) → instantiate-down-lts.Need-enum-known-shape-2 (instantiate-down-calls t) (instantiate-down-at t) instantiate-down.Post
 instantiate-down-enum-known-shape-2 t c = search needs
@@ -305,25 +455,47 @@ instantiate-down-sub-instantiate-apply t c = omega (arith, c .before .before .be
 
 instantiate-down-instantiate-apply-requires :
     (t : ℕ) → instantiate-down-lts.Need-instantiate-apply-requires (instantiate-down-calls t) (instantiate-down-at t) instantiate-down.Post
-instantiate-down-instantiate-apply-requires t c κs = (omega (arith, c .before .before .before .before .before .before .before .before .pre .0, c .before .before .before .before .before .before .if1 .left), (c .before .before .before .before .before .before .before .before .pre .1 .0, named-below _ _ _ _ _ _ (c .before .before .before .before .before .before .before .before .pre .1 .1) (named _ _ _ _ (c .before .before .before .before .before .before .before .before .pre .1 .0) (c .before .before .before .before .before .before .before .before .pre .1 .1) (c .before .before .before .before .node-at .ensures) _ _ _ _ (c .before .before .shape2 .given .1))))
+instantiate-down-instantiate-apply-requires t c κs =
+    let pre = c .before .before .before .before .before .before .before .before .pre in
+    let if1 = c .before .before .before .before .before .before .if1 in (
+      omega (arith, pre .0, if1 .left),
+      (
+        pre .1 .0,
+        named-below _ _ _ _ _ _ (pre .1 .1)
+            (named _ _ _ _ (pre .1 .0) (pre .1 .1) (c .before .before .before .before .node-at .ensures) _ _ _ _
+            (c .before .before .shape2 .given .1)),
+      ),
+    )
 
 instantiate-down-same-length-3 : (t : ℕ) → instantiate-down-lts.Need-same-length-3 (instantiate-down-calls t) (instantiate-down-at t) instantiate-down.Post
 instantiate-down-same-length-3 t c = search needs
 
 instantiate-down-returns-4 : (t : ℕ) → instantiate-down-lts.Need-returns-4 (instantiate-down-calls t) (instantiate-down-at t) instantiate-down.Post
-instantiate-down-returns-4 t c = inst-unit _ _ _ _ _ _ (c .before .before .before .before .before .before .before .pre .1 .0) (c .before .before .before .before .before .if1 .left) (c .before .before .before .node-at .ensures) _ (c .before .before .before .before .before .before .before .pre .1 .1) (c .stay2 .ensures) (c .before .enum-told .given .1)
+instantiate-down-returns-4 t c =
+    let pre = c .before .before .before .before .before .before .before .pre in
+    let if1 = c .before .before .before .before .before .if1 in
+    inst-unit _ _ _ _ _ _ (pre .1 .0) (if1 .left) (c .before .before .before .node-at .ensures) _ (pre .1 .1)
+    (c .stay2 .ensures) (c .before .enum-told .given .1)
 
 instantiate-down-same-length-4 : (t : ℕ) → instantiate-down-lts.Need-same-length-4 (instantiate-down-calls t) (instantiate-down-at t) instantiate-down.Post
 instantiate-down-same-length-4 t c = search needs
 
 instantiate-down-returns-5 : (t : ℕ) → instantiate-down-lts.Need-returns-5 (instantiate-down-calls t) (instantiate-down-at t) instantiate-down.Post
-instantiate-down-returns-5 t c = inst-error _ _ _ _ _ _ (c .before .before .before .before .before .before .before .pre .1 .0) (c .before .before .before .before .before .if1 .left) (c .before .before .before .node-at .ensures) _ (c .before .before .before .before .before .before .before .pre .1 .1) (c .stay3 .ensures) (c .before .enum-told2 .given .1)
+instantiate-down-returns-5 t c =
+    let pre = c .before .before .before .before .before .before .before .pre in
+    let if1 = c .before .before .before .before .before .if1 in
+    inst-error _ _ _ _ _ _ (pre .1 .0) (if1 .left) (c .before .before .before .node-at .ensures) _ (pre .1 .1)
+    (c .stay3 .ensures) (c .before .enum-told2 .given .1)
 
 instantiate-down-same-length-5 : (t : ℕ) → instantiate-down-lts.Need-same-length-5 (instantiate-down-calls t) (instantiate-down-at t) instantiate-down.Post
 instantiate-down-same-length-5 t c = search needs
 
 instantiate-down-returns-6 : (t : ℕ) → instantiate-down-lts.Need-returns-6 (instantiate-down-calls t) (instantiate-down-at t) instantiate-down.Post
-instantiate-down-returns-6 t c = inst-param _ _ _ _ _ _ (c .before .before .before .before .before .before .before .pre .1 .0) (c .before .before .before .before .before .if1 .left) (c .before .before .before .node-at .ensures) _ (c .before .before .before .before .before .before .before .pre .1 .1) (c .stay4 .ensures) _ _ (c .before .enum-told3 .given .1)
+instantiate-down-returns-6 t c =
+    let pre = c .before .before .before .before .before .before .before .pre in
+    let if1 = c .before .before .before .before .before .if1 in
+    inst-param _ _ _ _ _ _ (pre .1 .0) (if1 .left) (c .before .before .before .node-at .ensures) _ (pre .1 .1)
+    (c .stay4 .ensures) _ _ (c .before .enum-told3 .given .1)
 
 instantiate-down-same-length-6 : (t : ℕ) → instantiate-down-lts.Need-same-length-6 (instantiate-down-calls t) (instantiate-down-at t) instantiate-down.Post
 instantiate-down-same-length-6 t c = search needs
@@ -335,19 +507,49 @@ instantiate-down-same-length-7 : (t : ℕ) → instantiate-down-lts.Need-same-le
 instantiate-down-same-length-7 t c = c .before .before .make-tvar .ensures .changed .lay .size ∙ sym (c .before .before .before .before .before .before .before .before .before .before .pre .1 .0 .size)
 
 instantiate-down-returns-8 : (t : ℕ) → instantiate-down-lts.Need-returns-8 (instantiate-down-calls t) (instantiate-down-at t) instantiate-down.Post
-instantiate-down-returns-8 t c = inst-anything _ _ _ _ _ _ (c .before .before .before .before .before .before .before .before .before .before .pre .1 .0) (c .before .before .before .before .before .before .before .before .if1 .left) (c .before .before .before .before .before .before .node-at .ensures) _ _ (c .before .before .before .before .enum-told5 .given .1) (c .before .before .make-tvar .ensures)
+instantiate-down-returns-8 t c =
+    let pre = c .before .before .before .before .before .before .before .before .before .before .pre in
+    let if1 = c .before .before .before .before .before .before .before .before .if1 in
+    let node-at = c .before .before .before .before .before .before .node-at in
+    inst-anything _ _ _ _ _ _ (pre .1 .0) (if1 .left) (node-at .ensures) _ _
+    (c .before .before .before .before .enum-told5 .given .1) (c .before .before .make-tvar .ensures)
 
 instantiate-down-same-length-8 : (t : ℕ) → instantiate-down-lts.Need-same-length-8 (instantiate-down-calls t) (instantiate-down-at t) instantiate-down.Post
-instantiate-down-same-length-8 t c = c .before .before .push-node .ensures .changed .lay .size ∙ sym (c .before .before .before .before .before .before .before .before .before .before .before .before .before .before .before .before .before .before .before .before .before .before .before .before .before .before .before .before .pre .1 .0 .size)
+instantiate-down-same-length-8 t c =
+    let c12 = c .before .before .before .before .before .before .before .before .before .before .before .before in
+    let c24 = c12 .before .before .before .before .before .before .before .before .before .before .before .before in
+    let pre = c24 .before .before .before .before .pre in
+    c .before .before .push-node .ensures .changed .lay .size ∙ sym (pre .1 .0 .size)
 
 instantiate-down-returns-9 : (t : ℕ) → instantiate-down-lts.Need-returns-9 (instantiate-down-calls t) (instantiate-down-at t) instantiate-down.Post
-instantiate-down-returns-9 t c = ref-then _ _ _ _ _ _ (c .before .before .before .before .before .before .before .before .before .before .before .before .before .before .before .before .before .before .before .before .before .before .before .before .before .before .before .before .pre .1 .0) (c .before .before .before .before .before .before .before .before .before .before .before .before .before .before .before .before .before .before .before .before .before .before .before .before .before .before .if1 .left) (c .before .before .before .before .before .before .before .before .before .before .before .before .before .before .before .before .before .before .before .before .before .before .before .before .node-at .ensures) _ _ (c .before .before .before .before .before .before .before .before .before .before .before .before .before .before .before .before .before .before .before .before .before .before .shape .given .1) _ _ _ (c .before .before .before .before .before .before .before .before .before .before .before .before .before .before .before .before .before .before .before .push-constraint .ensures) (c .before .before .before .before .before .before .before .before .before .before .before .before .before .before .before .done-of .ensures) _ (c .before .before .before .before .before .before .before .before .before .before .before .before .before .enum-told6 .given .1) _ _ _ (c .before .before .before .before .before .before .before .before .before .before .before .instantiate-down .ensures) (c .before .before .before .before .before .before .before .done-of2 .ensures) _ _ _ (c .before .before .before .before .before .p .given .1) (c .before .before .push-node .ensures)
+instantiate-down-returns-9 t c =
+    let c12 = c .before .before .before .before .before .before .before .before .before .before .before .before in
+    let c24 = c12 .before .before .before .before .before .before .before .before .before .before .before .before in
+    let pre = c24 .before .before .before .before .pre in
+    let if1 = c24 .before .before .if1 in
+    let node-at = c24 .node-at in
+    let shape = c12 .before .before .before .before .before .before .before .before .before .before .shape in
+    let push-constraint = c12 .before .before .before .before .before .before .before .push-constraint in
+    let done-of = c12 .before .before .before .done-of in
+    let enum-told6 = c12 .before .enum-told6 in
+    let instantiate-down = c .before .before .before .before .before .before .before .before .before .before .before .instantiate-down in
+    let done-of2 = c .before .before .before .before .before .before .before .done-of2 in
+    let p = c .before .before .before .before .before .p in
+    ref-then _ _ _ _ _ _ (pre .1 .0) (if1 .left) (node-at .ensures) _ _ (shape .given .1) _ _ _
+    (push-constraint .ensures) (done-of .ensures) _ (enum-told6 .given .1) _ _ _ (instantiate-down .ensures)
+    (done-of2 .ensures) _ _ _ (p .given .1) (c .before .before .push-node .ensures)
 
 instantiate-down-same-length-9 : (t : ℕ) → instantiate-down-lts.Need-same-length-9 (instantiate-down-calls t) (instantiate-down-at t) instantiate-down.Post
 instantiate-down-same-length-9 t c = c .before .before .instantiate-apply .ensures .lay .size ∙ sym (c .before .before .before .before .before .before .before .before .before .before .before .pre .1 .0 .size)
 
 instantiate-down-returns-10 : (t : ℕ) → instantiate-down-lts.Need-returns-10 (instantiate-down-calls t) (instantiate-down-at t) instantiate-down.Post
-instantiate-down-returns-10 t c = apply-by _ _ _ _ _ _ (c .before .before .before .before .before .before .before .before .before .before .before .pre .1 .0) (c .before .before .before .before .before .before .before .before .before .if1 .left) (c .before .before .before .before .before .before .before .node-at .ensures) _ _ _ _ (c .before .before .before .before .before .shape2 .given .1) _ _ (c .before .before .instantiate-apply .ensures)
+instantiate-down-returns-10 t c =
+    let pre = c .before .before .before .before .before .before .before .before .before .before .before .pre in
+    let if1 = c .before .before .before .before .before .before .before .before .before .if1 in
+    let node-at = c .before .before .before .before .before .before .before .node-at in
+    let shape2 = c .before .before .before .before .before .shape2 in
+    apply-by _ _ _ _ _ _ (pre .1 .0) (if1 .left) (node-at .ensures) _ _ _ _ (shape2 .given .1) _ _
+    (c .before .before .instantiate-apply .ensures)
 
 pub +instantiate-apply+instantiate-down-spec : {M : Type 1} → statement M
 +instantiate-apply+instantiate-down-spec =

@@ -53,7 +53,15 @@ array-read-join-2 : tie.Need-array-read-join-2 Inv-loop μ-loop
 array-read-join-2 c = omega (arith, c .before .wide .ensures, c .before .before .before .before .fewer .ensures, c .before .before .before .before .before .before .pre .1 .0 .few, c .before .before .loop-test .taken)
 
 join-requires : tie.Need-join-requires Inv-loop μ-loop
-join-requires c κs = (c .before .before .before .loop .inv .lay, joins-in _ _ _ _ _ _ _ _ _ _ (c .before .before .before .before .before .before .pre .0) (c .before .before .before .before .before .before .pre .1 .0) (c .before .before .before .before .before .before .pre .1 .1) (sizes (c .before .before .before .before) .0) (sizes (c .before .before .before .before) .1) (c .before .before .before .before .fewer .ensures) _ _ _ _ (c .before .before .before .loop .inv) _ (c .before .wide .ensures) (c .before .before .loop-test .taken))
+join-requires c κs =
+    let pre = c .before .before .before .before .before .before .pre in
+    let back = c .before .before .before .before in
+    let loop = c .before .before .before .loop in (
+      loop .inv .lay,
+      joins-in _ _ _ _ _ _ _ _ _ _ (pre .0) (pre .1 .0) (pre .1 .1) (sizes (back) .0) (sizes (back) .1)
+          (c .before .before .before .before .fewer .ensures) _ _ _ _ (loop .inv) _ (c .before .wide .ensures)
+          (c .before .before .loop-test .taken),
+    )
 
 done-of-requires : tie.Need-done-of-requires Inv-loop μ-loop
 done-of-requires c κs = search needs
@@ -68,31 +76,79 @@ same-length : tie.Need-same-length Inv-loop μ-loop
 same-length c = c .before .before .before .before .before .join .ensures .changed .lay .size ∙ sym (c .before .before .before .before .before .before .before .before .before .before .before .before .pre .0 .size)
 
 returns : tie.Need-returns Inv-loop μ-loop
-returns c = joins-stop _ _ _ _ _ _ _ _ _ _ (c .before .before .before .before .before .before .before .before .before .before .before .before .pre .0) (c .before .before .before .before .before .before .before .before .before .before .before .before .pre .1 .0) (c .before .before .before .before .before .before .before .before .before .before .before .before .pre .1 .1) (sizes (c .before .before .before .before .before .before .before .before .before .before) .0) (sizes (c .before .before .before .before .before .before .before .before .before .before) .1) (c .before .before .before .before .before .before .before .before .before .before .fewer .ensures) _ _ _ _ (c .before .before .before .before .before .before .before .before .before .loop .inv) _ (c .before .before .before .before .before .before .before .wide .ensures) (c .before .before .before .before .before .before .before .before .loop-test .taken) _ _ _ (c .before .before .before .before .before .join .ensures) (c .before .before .done-of .ensures) (c .enum-told .given .1)
+returns c =
+    let pre = c .before .before .before .before .before .before .before .before .before .before .before .before .pre in
+    let back = c .before .before .before .before .before .before .before .before .before .before in
+    let fewer = c .before .before .before .before .before .before .before .before .before .before .fewer in
+    let loop = c .before .before .before .before .before .before .before .before .before .loop in
+    let loop-test = c .before .before .before .before .before .before .before .before .loop-test in
+    let wide = c .before .before .before .before .before .before .before .wide in
+    let join = c .before .before .before .before .before .join in
+    joins-stop _ _ _ _ _ _ _ _ _ _ (pre .0) (pre .1 .0) (pre .1 .1) (sizes (back) .0) (sizes (back) .1) (fewer .ensures)
+    _ _ _ _ (loop .inv) _ (wide .ensures) (loop-test .taken) _ _ _ (join .ensures)
+    (c .before .before .done-of .ensures) (c .enum-told .given .1)
 
 mul-parts : tie.Need-mul-parts Inv-loop μ-loop
-mul-parts c = omega (arith, c .before .before .before .before .before .before .before .before .wide .ensures, c .before .before .before .before .before .before .before .before .before .before .before .fewer .ensures, c .before .before .before .before .before .before .before .before .before .before .before .before .before .pre .1 .0 .few, c .before .before .before .before .before .before .before .before .before .loop-test .taken)
+mul-parts c =
+    let pre = c .before .before .before .before .before .before .before .before .before .before .before .before .before .pre in
+    let fewer = c .before .before .before .before .before .before .before .before .before .before .before .fewer in
+    let loop-test = c .before .before .before .before .before .before .before .before .before .loop-test in
+    let wide = c .before .before .before .before .before .before .before .before .wide in
+    omega (arith, wide .ensures, fewer .ensures, pre .1 .0 .few, loop-test .taken)
 
 array-write-parts : tie.Need-array-write-parts Inv-loop μ-loop
-array-write-parts c = omega (arith, c .before .before .before .before .before .before .before .before .wide .ensures, c .before .before .before .before .before .before .before .before .before .before .before .fewer .ensures, c .before .before .before .before .before .before .before .before .before .before .before .before .before .pre .1 .0 .few, c .before .before .before .before .before .before .before .before .before .loop-test .taken)
+array-write-parts c =
+    let pre = c .before .before .before .before .before .before .before .before .before .before .before .before .before .pre in
+    let fewer = c .before .before .before .before .before .before .before .before .before .before .before .fewer in
+    let loop-test = c .before .before .before .before .before .before .before .before .before .loop-test in
+    let wide = c .before .before .before .before .before .before .before .before .wide in
+    omega (arith, wide .ensures, fewer .ensures, pre .1 .0 .few, loop-test .taken)
 
 add-i : tie.Need-add-i Inv-loop μ-loop
-add-i c = omega (arith, c .before .before .before .before .before .before .before .before .before .before .before .before .fewer .ensures, c .before .before .before .before .before .before .before .before .before .before .before .before .before .before .pre .1 .0 .few, c .before .before .before .before .before .before .before .before .before .before .loop-test .taken)
+add-i c =
+    let pre = c .before .before .before .before .before .before .before .before .before .before .before .before .before .before .pre in
+    let fewer = c .before .before .before .before .before .before .before .before .before .before .before .before .fewer in
+    let loop-test = c .before .before .before .before .before .before .before .before .before .before .loop-test in
+    omega (arith, fewer .ensures, pre .1 .0 .few, loop-test .taken)
 
 loop-less : tie.Need-loop-less Inv-loop μ-loop
 loop-less c = search needs
 
 loop-again : tie.Need-loop-again Inv-loop μ-loop
-loop-again c = joins-more _ _ _ _ _ _ _ _ _ _ (c .before .before .before .before .before .before .before .before .before .before .before .before .before .before .pre .0) (c .before .before .before .before .before .before .before .before .before .before .before .before .before .before .pre .1 .0) (c .before .before .before .before .before .before .before .before .before .before .before .before .before .before .pre .1 .1) (sizes (c .before .before .before .before .before .before .before .before .before .before .before .before) .0) (sizes (c .before .before .before .before .before .before .before .before .before .before .before .before) .1) (c .before .before .before .before .before .before .before .before .before .before .before .before .fewer .ensures) _ _ _ _ (c .before .before .before .before .before .before .before .before .before .before .before .loop .inv) _ (c .before .before .before .before .before .before .before .before .before .wide .ensures) (c .before .before .before .before .before .before .before .before .before .before .loop-test .taken) _ _ _ (c .before .before .before .before .before .before .before .join .ensures) (c .before .before .before .before .done-of .ensures) _ (c .before .before .t .given .1)
+loop-again c =
+    let pre = c .before .before .before .before .before .before .before .before .before .before .before .before .before .before .pre in
+    let back = c .before .before .before .before .before .before .before .before .before .before .before .before in
+    let fewer = c .before .before .before .before .before .before .before .before .before .before .before .before .fewer in
+    let loop = c .before .before .before .before .before .before .before .before .before .before .before .loop in
+    let loop-test = c .before .before .before .before .before .before .before .before .before .before .loop-test in
+    let wide = c .before .before .before .before .before .before .before .before .before .wide in
+    let join = c .before .before .before .before .before .before .before .join in
+    joins-more _ _ _ _ _ _ _ _ _ _ (pre .0) (pre .1 .0) (pre .1 .1) (sizes (back) .0) (sizes (back) .1) (fewer .ensures)
+    _ _ _ _ (loop .inv) _ (wide .ensures) (loop-test .taken) _ _ _ (join .ensures)
+    (c .before .before .before .before .done-of .ensures) _ (c .before .before .t .given .1)
 
 push-apply-requires : tie.Need-push-apply-requires Inv-loop μ-loop
-push-apply-requires c κs = (c .before .before .loop .inv .lay, joins-parts _ _ _ _ _ _ _ _ _ _ (c .before .before .before .before .before .pre .0) (c .before .before .before .before .before .pre .1 .0) (c .before .before .before .before .before .pre .1 .1) (sizes (c .before .before .before) .0) (sizes (c .before .before .before) .1) (c .before .before .before .fewer .ensures) _ _ _ _ (c .before .before .loop .inv) (c .before .loop-test .left))
+push-apply-requires c κs =
+    let pre = c .before .before .before .before .before .pre in
+    let back = c .before .before .before in
+    let loop = c .before .before .loop in (
+      loop .inv .lay,
+      joins-parts _ _ _ _ _ _ _ _ _ _ (pre .0) (pre .1 .0) (pre .1 .1) (sizes (back) .0) (sizes (back) .1)
+          (c .before .before .before .fewer .ensures) _ _ _ _ (loop .inv) (c .before .loop-test .left),
+    )
 
 same-length-2 : tie.Need-same-length-2 Inv-loop μ-loop
 same-length-2 c = c .before .before .push-apply .ensures .changed .lay .size ∙ sym (c .before .before .before .before .before .before .before .before .pre .0 .size)
 
 returns-2 : tie.Need-returns-2 Inv-loop μ-loop
-returns-2 c = joins-end _ _ _ _ _ _ _ _ _ _ (c .before .before .before .before .before .before .before .before .pre .0) (c .before .before .before .before .before .before .before .before .pre .1 .0) (c .before .before .before .before .before .before .before .before .pre .1 .1) (sizes (c .before .before .before .before .before .before) .0) (sizes (c .before .before .before .before .before .before) .1) (c .before .before .before .before .before .before .fewer .ensures) _ _ _ _ (c .before .before .before .before .before .loop .inv) _ _ (c .before .before .before .before .loop-test .left) (c .before .before .push-apply .ensures)
+returns-2 c =
+    let pre = c .before .before .before .before .before .before .before .before .pre in
+    let back = c .before .before .before .before .before .before in
+    let fewer = c .before .before .before .before .before .before .fewer in
+    let loop = c .before .before .before .before .before .loop in
+    joins-end _ _ _ _ _ _ _ _ _ _ (pre .0) (pre .1 .0) (pre .1 .1) (sizes (back) .0) (sizes (back) .1) (fewer .ensures)
+    _ _ _ _ (loop .inv) _ _ (c .before .before .before .before .loop-test .left)
+    (c .before .before .push-apply .ensures)
 
 pub join-args-spec : {M : Type 1} → statement M
 join-args-spec =

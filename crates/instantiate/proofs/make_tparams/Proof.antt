@@ -61,25 +61,64 @@ same-length : tie.Need-same-length Inv-loop μ-loop
 same-length c = c .before .before .before .before .before .before .make-tparam .ensures .changed .lay .size ∙ sym (c .before .before .before .before .before .before .before .before .before .before .before .before .before .before .before .before .before .pre .0 .size)
 
 returns : tie.Need-returns Inv-loop μ-loop
-returns c = made-stop _ _ _ _ _ _ _ _ _ (c .before .before .before .before .before .before .before .before .before .before .before .before .before .before .before .before .before .pre .0) (c .before .before .before .before .before .before .before .before .before .before .before .before .before .before .before .before .before .pre .1) (c .before .before .before .before .before .before .before .before .before .before .before .before .before .before .tparam-count .ensures) (c .before .before .before .before .before .before .before .before .before .before .before .before .before .fewer .ensures) _ _ _ _ (c .before .before .before .before .before .before .before .before .before .before .before .before .loop .inv) (c .before .before .before .before .before .before .before .before .before .before .before .loop-test .taken) _ (c .before .before .before .before .before .before .before .before .before .arg-at .ensures) _ (c .before .before .before .before .before .before .before .before .ability-at .ensures) _ _ _ (c .before .before .before .before .before .before .make-tparam .ensures) (c .before .before .done-of .ensures) (c .enum-told .given .1)
+returns c =
+    let c12 = c .before .before .before .before .before .before .before .before .before .before .before .before in
+    let pre = c12 .before .before .before .before .before .pre in
+    let tparam-count = c12 .before .before .tparam-count in
+    let fewer = c12 .before .fewer in
+    let loop = c12 .loop in
+    let loop-test = c .before .before .before .before .before .before .before .before .before .before .before .loop-test in
+    let arg-at = c .before .before .before .before .before .before .before .before .before .arg-at in
+    let ability-at = c .before .before .before .before .before .before .before .before .ability-at in
+    let make-tparam = c .before .before .before .before .before .before .make-tparam in
+    made-stop _ _ _ _ _ _ _ _ _ (pre .0) (pre .1) (tparam-count .ensures) (fewer .ensures) _ _ _ _ (loop .inv)
+    (loop-test .taken) _ (arg-at .ensures) _ (ability-at .ensures) _ _ _ (make-tparam .ensures)
+    (c .before .before .done-of .ensures) (c .enum-told .given .1)
 
 wide-requires : tie.Need-wide-requires Inv-loop μ-loop
 wide-requires c κs = search needs
 
 mul-tvars : tie.Need-mul-tvars Inv-loop μ-loop
-mul-tvars c = omega (arith, c .wide .ensures, c .before .before .before .before .before .before .before .before .before .before .before .before .before .before .before .fewer .ensures, c .before .before .before .before .before .before .before .before .before .before .before .before .before .before .before .before .before .before .before .pre .1 .few, c .before .before .before .before .before .before .before .before .before .before .before .before .before .loop-test .taken)
+mul-tvars c =
+    let c12 = c .before .before .before .before .before .before .before .before .before .before .before .before in
+    let pre = c12 .before .before .before .before .before .before .before .pre in
+    let fewer = c12 .before .before .before .fewer in
+    let loop-test = c12 .before .loop-test in
+    omega (arith, c .wide .ensures, fewer .ensures, pre .1 .few, loop-test .taken)
 
 array-write-tvars : tie.Need-array-write-tvars Inv-loop μ-loop
-array-write-tvars c = omega (arith, c .wide .ensures, c .before .before .before .before .before .before .before .before .before .before .before .before .before .before .before .fewer .ensures, c .before .before .before .before .before .before .before .before .before .before .before .before .before .before .before .before .before .before .before .pre .1 .few, c .before .before .before .before .before .before .before .before .before .before .before .before .before .loop-test .taken)
+array-write-tvars c =
+    let c12 = c .before .before .before .before .before .before .before .before .before .before .before .before in
+    let pre = c12 .before .before .before .before .before .before .before .pre in
+    let fewer = c12 .before .before .before .fewer in
+    let loop-test = c12 .before .loop-test in
+    omega (arith, c .wide .ensures, fewer .ensures, pre .1 .few, loop-test .taken)
 
 add-i : tie.Need-add-i Inv-loop μ-loop
-add-i c = omega (arith, c .before .before .before .before .before .before .before .before .before .before .before .before .before .before .before .fewer .ensures, c .before .before .before .before .before .before .before .before .before .before .before .before .before .before .before .before .before .before .before .pre .1 .few, c .before .before .before .before .before .before .before .before .before .before .before .before .before .loop-test .taken)
+add-i c =
+    let c12 = c .before .before .before .before .before .before .before .before .before .before .before .before in
+    let pre = c12 .before .before .before .before .before .before .before .pre in
+    let fewer = c12 .before .before .before .fewer in
+    let loop-test = c12 .before .loop-test in
+    omega (arith, fewer .ensures, pre .1 .few, loop-test .taken)
 
 loop-less : tie.Need-loop-less Inv-loop μ-loop
 loop-less c = search needs
 
 loop-again : tie.Need-loop-again Inv-loop μ-loop
-loop-again c = made-more _ _ _ _ _ _ _ _ _ (c .before .before .before .before .before .before .before .before .before .before .before .before .before .before .before .before .before .before .before .pre .0) (c .before .before .before .before .before .before .before .before .before .before .before .before .before .before .before .before .before .before .before .pre .1) (c .before .before .before .before .before .before .before .before .before .before .before .before .before .before .before .before .tparam-count .ensures) (c .before .before .before .before .before .before .before .before .before .before .before .before .before .before .before .fewer .ensures) _ _ _ _ (c .before .before .before .before .before .before .before .before .before .before .before .before .before .before .loop .inv) (c .before .before .before .before .before .before .before .before .before .before .before .before .before .loop-test .taken) _ (c .before .before .before .before .before .before .before .before .before .before .before .arg-at .ensures) _ (c .before .before .before .before .before .before .before .before .before .before .ability-at .ensures) _ _ _ (c .before .before .before .before .before .before .before .before .make-tparam .ensures) (c .before .before .before .before .done-of .ensures) _ _ (c .before .before .t .given .1) (c .wide .ensures)
+loop-again c =
+    let c12 = c .before .before .before .before .before .before .before .before .before .before .before .before in
+    let pre = c12 .before .before .before .before .before .before .before .pre in
+    let tparam-count = c12 .before .before .before .before .tparam-count in
+    let fewer = c12 .before .before .before .fewer in
+    let loop = c12 .before .before .loop in
+    let loop-test = c12 .before .loop-test in
+    let arg-at = c .before .before .before .before .before .before .before .before .before .before .before .arg-at in
+    let ability-at = c .before .before .before .before .before .before .before .before .before .before .ability-at in
+    let make-tparam = c .before .before .before .before .before .before .before .before .make-tparam in
+    made-more _ _ _ _ _ _ _ _ _ (pre .0) (pre .1) (tparam-count .ensures) (fewer .ensures) _ _ _ _ (loop .inv)
+    (loop-test .taken) _ (arg-at .ensures) _ (ability-at .ensures) _ _ _ (make-tparam .ensures)
+    (c .before .before .before .before .done-of .ensures) _ _ (c .before .before .t .given .1) (c .wide .ensures)
 
 same-length-2 : tie.Need-same-length-2 Inv-loop μ-loop
 same-length-2 c = c .before .loop .inv .lay .size ∙ sym (c .before .before .before .before .before .before .pre .0 .size)

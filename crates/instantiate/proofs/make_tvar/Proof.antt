@@ -38,7 +38,12 @@ same-length-2 : tie.Need-same-length-2
 same-length-2 c = search needs
 
 returns-2 : tie.Need-returns-2
-returns-2 c = tvar-node _ _ _ _ _ _ _ _ _ _ (c .before .before .before .before .before .before .before .before .before .before .before .before .take-var .ensures .0) (c .before .before .before .before .before .before .before .before .done-of .ensures) (c .before .before .before .before .before .before .x .given .1) (c .before .before .before .before .tvar .ensures) (c .before .before .push-node .ensures)
+returns-2 c =
+    let take-var = c .before .before .before .before .before .before .before .before .before .before .before .before .take-var in
+    let done-of = c .before .before .before .before .before .before .before .before .done-of in
+    let x = c .before .before .before .before .before .before .x in
+    tvar-node _ _ _ _ _ _ _ _ _ _ (take-var .ensures .0) (done-of .ensures) (x .given .1)
+    (c .before .before .before .before .tvar .ensures) (c .before .before .push-node .ensures)
 
 pub make-tvar-spec : {M : Type 1} → statement M
 make-tvar-spec =

@@ -120,7 +120,21 @@ join-impl-sub-join-impl : (t : ℕ) → join-impl-lts.Need-sub-join-impl (join-i
 join-impl-sub-join-impl t c = omega arith
 
 join-impl-join-impl-requires : (t : ℕ) → join-impl-lts.Need-join-impl-requires (join-impl-calls t) (join-impl-at t) join-impl.Post
-join-impl-join-impl-requires t c κs = (omega arith, (c .before .before .before .before .before .before .before .before .before .before .before .before .pre .1 .0, arm-below _ (c .before .before .before .before .before .before .before .before .before .before .before .before .args .case) _ _ _ _ (c .before .before .before .before .before .before .before .before .node-at .result) (c .before .before .before .before .before .before .node-at2 .result) (c .before .before .before .before .before .before .before .before .before .before .if1 .left) (c .before .before .before .before .before .before .before .before .node-at .ensures) (c .before .before .before .before .before .before .node-at2 .ensures) _ (c .before .before .before .before .before .arm-of .ensures) _ (c .before .before .before .before .before .before .before .before .before .before .before .before .pre .1 .0) (c .before .before .before .before .before .before .before .before .before .before .before .before .pre .1 .1 .0) (c .before .before .before .before .before .before .before .before .before .before .before .before .pre .1 .1 .1) (c .before .before .before .side .given .1)))
+join-impl-join-impl-requires t c κs =
+    let args = c .before .before .before .before .before .before .before .before .before .before .before .before .args in
+    let pre = c .before .before .before .before .before .before .before .before .before .before .before .before .pre in
+    let if1 = c .before .before .before .before .before .before .before .before .before .before .if1 in
+    let node-at = c .before .before .before .before .before .before .before .before .node-at in
+    let node-at2 = c .before .before .before .before .before .before .node-at2 in
+    let arm-of = c .before .before .before .before .before .arm-of in (
+      omega arith,
+      (
+        pre .1 .0,
+        arm-below _ (args .case) _ _ _ _ (node-at .result) (node-at2 .result) (if1 .left) (node-at .ensures)
+            (node-at2 .ensures) _ (arm-of .ensures) _ (pre .1 .0) (pre .1 .1 .0) (pre .1 .1 .1)
+            (c .before .before .before .side .given .1),
+      ),
+    )
 
 join-impl-push-ref-requires : (t : ℕ) → join-impl-lts.Need-push-ref-requires (join-impl-calls t) (join-impl-at t) join-impl.Post
 join-impl-push-ref-requires t c κs = (c .before .before .before .join-impl .ensures .changed .lay, c .before .before .before .join-impl .ensures .inside)
@@ -132,7 +146,20 @@ join-impl-sub-join-impl-types : (t : ℕ) → join-impl-lts.Need-sub-join-impl-t
 join-impl-sub-join-impl-types t c = omega arith
 
 join-impl-join-impl-types-requires : (t : ℕ) → join-impl-lts.Need-join-impl-types-requires (join-impl-calls t) (join-impl-at t) join-impl.Post
-join-impl-join-impl-types-requires t c κs = (omega arith, (c .before .before .before .before .before .before .before .before .before .before .before .pre .1 .0, arm-below _ (c .before .before .before .before .before .before .before .before .before .before .before .args .case) _ _ _ _ (c .before .before .before .before .before .before .before .node-at .result) (c .before .before .before .before .before .node-at2 .result) (c .before .before .before .before .before .before .before .before .before .if1 .left) (c .before .before .before .before .before .before .before .node-at .ensures) (c .before .before .before .before .before .node-at2 .ensures) _ (c .before .before .before .before .arm-of .ensures) _ (c .before .before .before .before .before .before .before .before .before .before .before .pre .1 .0) (c .before .before .before .before .before .before .before .before .before .before .before .pre .1 .1 .0) (c .before .before .before .before .before .before .before .before .before .before .before .pre .1 .1 .1) (c .before .before .k .given .1)))
+join-impl-join-impl-types-requires t c κs =
+    let args = c .before .before .before .before .before .before .before .before .before .before .before .args in
+    let pre = c .before .before .before .before .before .before .before .before .before .before .before .pre in
+    let if1 = c .before .before .before .before .before .before .before .before .before .if1 in
+    let node-at = c .before .before .before .before .before .before .before .node-at in
+    let node-at2 = c .before .before .before .before .before .node-at2 in (
+      omega arith,
+      (
+        pre .1 .0,
+        arm-below _ (args .case) _ _ _ _ (node-at .result) (node-at2 .result) (if1 .left) (node-at .ensures)
+            (node-at2 .ensures) _ (c .before .before .before .before .arm-of .ensures) _ (pre .1 .0) (pre .1 .1 .0)
+            (pre .1 .1 .1) (c .before .before .k .given .1),
+      ),
+    )
 
 join-impl-push-types-requires : (t : ℕ) → join-impl-lts.Need-push-types-requires (join-impl-calls t) (join-impl-at t) join-impl.Post
 join-impl-push-types-requires t c κs = (c .before .before .before .join-impl-types .ensures .lay, c .before .before .before .join-impl-types .ensures .types)
@@ -150,7 +177,9 @@ join-impl-enum-known-id : (t : ℕ) → join-impl-lts.Need-enum-known-id (join-i
 join-impl-enum-known-id t c = search needs
 
 join-impl-meet-tvar-requires : (t : ℕ) → join-impl-lts.Need-meet-tvar-requires (join-impl-calls t) (join-impl-at t) join-impl.Post
-join-impl-meet-tvar-requires t c κs = (c .before .before .before .before .before .before .before .before .before .before .before .pre .1 .0, (c .before .before .before .before .before .before .before .before .before .before .before .pre .1 .1 .0, (c .before .before .before .before .before .before .before .before .before .before .before .pre .1 .1 .1, (c .before .before .before .before .before .before .before .before .before .before .before .pre .1 .1 .0, c .before .before .before .before .before .before .before .before .before .before .before .pre .1 .1 .1))))
+join-impl-meet-tvar-requires t c κs =
+    let pre = c .before .before .before .before .before .before .before .before .before .before .before .pre in
+    (pre .1 .0, (pre .1 .1 .0, (pre .1 .1 .1, (pre .1 .1 .0, pre .1 .1 .1))))
 
 join-impl-enum-known-a : (t : ℕ) → join-impl-lts.Need-enum-known-a (join-impl-calls t) (join-impl-at t) join-impl.Post
 join-impl-enum-known-a t c = search needs
@@ -162,13 +191,20 @@ join-impl-sub-join-tvar-2 : (t : ℕ) → join-impl-lts.Need-sub-join-tvar-2 (jo
 join-impl-sub-join-tvar-2 t c = omega arith
 
 join-impl-join-tvar-requires-2 : (t : ℕ) → join-impl-lts.Need-join-tvar-requires-2 (join-impl-calls t) (join-impl-at t) join-impl.Post
-join-impl-join-tvar-requires-2 t c κs = (omega (arith, c .before .before .before .before .before .before .before .before .before .before .before .before .before .before .before .before .before .before .pre .0, c .before .before .before .before .before .before .before .before .before .before .before .before .before .before .before .before .if1 .left), merge-lay _ _ _ _ _ _ _ (c .before .before .before .before .before .before .meet-tvar .ensures) (c .before .before .au .given .1))
+join-impl-join-tvar-requires-2 t c κs =
+    let c12 = c .before .before .before .before .before .before .before .before .before .before .before .before in
+    let pre = c12 .before .before .before .before .before .before .pre in
+    let if1 = c12 .before .before .before .before .if1 in
+    let meet-tvar = c .before .before .before .before .before .before .meet-tvar in
+    (omega (arith, pre .0, if1 .left), merge-lay _ _ _ _ _ _ _ (meet-tvar .ensures) (c .before .before .au .given .1))
 
 join-impl-enum-known-id-2 : (t : ℕ) → join-impl-lts.Need-enum-known-id-2 (join-impl-calls t) (join-impl-at t) join-impl.Post
 join-impl-enum-known-id-2 t c = search needs
 
 join-impl-meet-tvar-requires-2 : (t : ℕ) → join-impl-lts.Need-meet-tvar-requires-2 (join-impl-calls t) (join-impl-at t) join-impl.Post
-join-impl-meet-tvar-requires-2 t c κs = (c .before .before .before .before .before .before .before .before .before .before .before .pre .1 .0, (c .before .before .before .before .before .before .before .before .before .before .before .pre .1 .1 .0, (c .before .before .before .before .before .before .before .before .before .before .before .pre .1 .1 .1, (c .before .before .before .before .before .before .before .before .before .before .before .pre .1 .1 .1, c .before .before .before .before .before .before .before .before .before .before .before .pre .1 .1 .0))))
+join-impl-meet-tvar-requires-2 t c κs =
+    let pre = c .before .before .before .before .before .before .before .before .before .before .before .pre in
+    (pre .1 .0, (pre .1 .1 .0, (pre .1 .1 .1, (pre .1 .1 .1, pre .1 .1 .0))))
 
 join-impl-enum-known-a-2 : (t : ℕ) → join-impl-lts.Need-enum-known-a-2 (join-impl-calls t) (join-impl-at t) join-impl.Post
 join-impl-enum-known-a-2 t c = search needs
@@ -180,7 +216,12 @@ join-impl-sub-join-tvar-3 : (t : ℕ) → join-impl-lts.Need-sub-join-tvar-3 (jo
 join-impl-sub-join-tvar-3 t c = omega arith
 
 join-impl-join-tvar-requires-3 : (t : ℕ) → join-impl-lts.Need-join-tvar-requires-3 (join-impl-calls t) (join-impl-at t) join-impl.Post
-join-impl-join-tvar-requires-3 t c κs = (omega (arith, c .before .before .before .before .before .before .before .before .before .before .before .before .before .before .before .before .before .before .pre .0, c .before .before .before .before .before .before .before .before .before .before .before .before .before .before .before .before .if1 .left), merge-lay _ _ _ _ _ _ _ (c .before .before .before .before .before .before .meet-tvar2 .ensures) (c .before .before .au2 .given .1))
+join-impl-join-tvar-requires-3 t c κs =
+    let c12 = c .before .before .before .before .before .before .before .before .before .before .before .before in
+    let pre = c12 .before .before .before .before .before .before .pre in
+    let if1 = c12 .before .before .before .before .if1 in
+    let meet-tvar2 = c .before .before .before .before .before .before .meet-tvar2 in
+    (omega (arith, pre .0, if1 .left), merge-lay _ _ _ _ _ _ _ (meet-tvar2 .ensures) (c .before .before .au2 .given .1))
 
 join-impl-enum-told-3 : (t : ℕ) → join-impl-lts.Need-enum-told-3 (join-impl-calls t) (join-impl-at t) join-impl.Post
 join-impl-enum-told-3 t c = search needs
@@ -210,79 +251,217 @@ join-impl-same-length : (t : ℕ) → join-impl-lts.Need-same-length (join-impl-
 join-impl-same-length t c = search needs
 
 join-impl-returns-2 : (t : ℕ) → join-impl-lts.Need-returns-2 (join-impl-calls t) (join-impl-at t) join-impl.Post
-join-impl-returns-2 t c = settled-after _ _ _ _ _ _ (c .settled2 .ensures) (arm-left _ (c .before .before .before .before .before .before .before .before .before .before .args .case) _ _ _ _ (c .before .before .before .before .before .before .node-at .result) (c .before .before .before .before .node-at2 .result) (c .before .before .before .before .before .before .before .before .if1 .left) (c .before .before .before .before .before .before .node-at .ensures) (c .before .before .before .before .node-at2 .ensures) _ (c .before .before .before .arm-of .ensures) (c .before .before .before .before .before .before .before .before .before .before .pre .1 .0) (c .before .before .before .before .before .before .before .before .before .before .pre .1 .1 .0) (c .before .enum-told .given .1))
+join-impl-returns-2 t c =
+    let args = c .before .before .before .before .before .before .before .before .before .before .args in
+    let pre = c .before .before .before .before .before .before .before .before .before .before .pre in
+    let if1 = c .before .before .before .before .before .before .before .before .if1 in
+    let node-at = c .before .before .before .before .before .before .node-at in
+    let node-at2 = c .before .before .before .before .node-at2 in
+    settled-after _ _ _ _ _ _ (c .settled2 .ensures)
+    (arm-left _ (args .case) _ _ _ _ (node-at .result) (node-at2 .result) (if1 .left) (node-at .ensures)
+    (node-at2 .ensures) _ (c .before .before .before .arm-of .ensures) (pre .1 .0) (pre .1 .1 .0)
+    (c .before .enum-told .given .1))
 
 join-impl-same-length-2 : (t : ℕ) → join-impl-lts.Need-same-length-2 (join-impl-calls t) (join-impl-at t) join-impl.Post
 join-impl-same-length-2 t c = search needs
 
 join-impl-returns-3 : (t : ℕ) → join-impl-lts.Need-returns-3 (join-impl-calls t) (join-impl-at t) join-impl.Post
-join-impl-returns-3 t c = settled-after _ _ _ _ _ _ (c .settled3 .ensures) (arm-right _ (c .before .before .before .before .before .before .before .before .before .before .args .case) _ _ _ _ (c .before .before .before .before .before .before .node-at .result) (c .before .before .before .before .node-at2 .result) (c .before .before .before .before .before .before .before .before .if1 .left) (c .before .before .before .before .before .before .node-at .ensures) (c .before .before .before .before .node-at2 .ensures) _ (c .before .before .before .arm-of .ensures) (c .before .before .before .before .before .before .before .before .before .before .pre .1 .0) (c .before .before .before .before .before .before .before .before .before .before .pre .1 .1 .1) (c .before .enum-told2 .given .1))
+join-impl-returns-3 t c =
+    let args = c .before .before .before .before .before .before .before .before .before .before .args in
+    let pre = c .before .before .before .before .before .before .before .before .before .before .pre in
+    let if1 = c .before .before .before .before .before .before .before .before .if1 in
+    let node-at = c .before .before .before .before .before .before .node-at in
+    let node-at2 = c .before .before .before .before .node-at2 in
+    settled-after _ _ _ _ _ _ (c .settled3 .ensures)
+    (arm-right _ (args .case) _ _ _ _ (node-at .result) (node-at2 .result) (if1 .left) (node-at .ensures)
+    (node-at2 .ensures) _ (c .before .before .before .arm-of .ensures) (pre .1 .0) (pre .1 .1 .1)
+    (c .before .enum-told2 .given .1))
 
 join-impl-same-length-3 : (t : ℕ) → join-impl-lts.Need-same-length-3 (join-impl-calls t) (join-impl-at t) join-impl.Post
-join-impl-same-length-3 t c = c .before .before .push-ref .ensures .then _ _ _ (c .before .before .before .before .before .before .join-impl .ensures) .changed .lay .size ∙ sym (c .before .before .before .before .before .before .before .before .before .before .before .before .before .before .before .before .before .before .before .pre .1 .0 .size)
+join-impl-same-length-3 t c =
+    let c12 = c .before .before .before .before .before .before .before .before .before .before .before .before in
+    let pre = c12 .before .before .before .before .before .before .before .pre in
+    let join-impl = c .before .before .before .before .before .before .join-impl in
+    c .before .before .push-ref .ensures .then _ _ _ (join-impl .ensures) .changed .lay .size ∙ sym (pre .1 .0 .size)
 
 join-impl-returns-4 : (t : ℕ) → join-impl-lts.Need-returns-4 (join-impl-calls t) (join-impl-at t) join-impl.Post
-join-impl-returns-4 t c = arm-refs _ (c .before .before .before .before .before .before .before .before .before .before .before .before .before .before .before .before .before .before .before .args .case) _ _ _ _ (c .before .before .before .before .before .before .before .before .before .before .before .before .before .before .before .node-at .result) (c .before .before .before .before .before .before .before .before .before .before .before .before .before .node-at2 .result) (c .before .before .before .before .before .before .before .before .before .before .before .before .before .before .before .before .before .if1 .left) (c .before .before .before .before .before .before .before .before .before .before .before .before .before .before .before .node-at .ensures) (c .before .before .before .before .before .before .before .before .before .before .before .before .before .node-at2 .ensures) _ (c .before .before .before .before .before .before .before .before .before .before .before .before .arm-of .ensures) _ _ _ _ _ _ _ _ _ (c .before .before .before .before .before .before .before .before .before .before .side .given .1) (c .before .before .before .before .before .before .before .before .pick-loc .ensures) (c .before .before .before .before .before .before .join-impl .ensures) (c .before .before .push-ref .ensures)
+join-impl-returns-4 t c =
+    let c12 = c .before .before .before .before .before .before .before .before .before .before .before .before in
+    let args = c12 .before .before .before .before .before .before .before .args in
+    let if1 = c12 .before .before .before .before .before .if1 in
+    let node-at = c12 .before .before .before .node-at in
+    let node-at2 = c12 .before .node-at2 in
+    let arm-of = c12 .arm-of in
+    let side = c .before .before .before .before .before .before .before .before .before .before .side in
+    let pick-loc = c .before .before .before .before .before .before .before .before .pick-loc in
+    let join-impl = c .before .before .before .before .before .before .join-impl in
+    arm-refs _ (args .case) _ _ _ _ (node-at .result) (node-at2 .result) (if1 .left) (node-at .ensures)
+    (node-at2 .ensures) _ (arm-of .ensures) _ _ _ _ _ _ _ _ _ (side .given .1) (pick-loc .ensures)
+    (join-impl .ensures) (c .before .before .push-ref .ensures)
 
 join-impl-same-length-4 : (t : ℕ) → join-impl-lts.Need-same-length-4 (join-impl-calls t) (join-impl-at t) join-impl.Post
-join-impl-same-length-4 t c = c .before .before .push-types .ensures .then _ _ _ (c .before .before .before .before .before .before .join-impl-types .ensures) .changed .lay .size ∙ sym (c .before .before .before .before .before .before .before .before .before .before .before .before .before .before .before .before .before .before .pre .1 .0 .size)
+join-impl-same-length-4 t c =
+    let c12 = c .before .before .before .before .before .before .before .before .before .before .before .before in
+    let pre = c12 .before .before .before .before .before .before .pre in
+    let join-impl-types = c .before .before .before .before .before .before .join-impl-types in
+    c .before .before .push-types .ensures .then _ _ _ (join-impl-types .ensures) .changed .lay .size
+    ∙ sym (pre .1 .0 .size)
 
 join-impl-returns-5 : (t : ℕ) → join-impl-lts.Need-returns-5 (join-impl-calls t) (join-impl-at t) join-impl.Post
-join-impl-returns-5 t c = arm-applies _ (c .before .before .before .before .before .before .before .before .before .before .before .before .before .before .before .before .before .before .args .case) _ _ _ _ (c .before .before .before .before .before .before .before .before .before .before .before .before .before .before .node-at .result) (c .before .before .before .before .before .before .before .before .before .before .before .before .node-at2 .result) (c .before .before .before .before .before .before .before .before .before .before .before .before .before .before .before .before .if1 .left) (c .before .before .before .before .before .before .before .before .before .before .before .before .before .before .node-at .ensures) (c .before .before .before .before .before .before .before .before .before .before .before .before .node-at2 .ensures) _ (c .before .before .before .before .before .before .before .before .before .before .before .arm-of .ensures) _ _ _ _ _ _ _ _ _ _ (c .before .before .before .before .before .before .before .before .before .k .given .1) (c .before .before .before .before .before .before .join-impl-types .ensures) (c .before .before .push-types .ensures)
+join-impl-returns-5 t c =
+    let c12 = c .before .before .before .before .before .before .before .before .before .before .before .before in
+    let args = c12 .before .before .before .before .before .before .args in
+    let if1 = c12 .before .before .before .before .if1 in
+    let node-at = c12 .before .before .node-at in
+    let node-at2 = c12 .node-at2 in
+    let arm-of = c .before .before .before .before .before .before .before .before .before .before .before .arm-of in
+    let k = c .before .before .before .before .before .before .before .before .before .k in
+    let join-impl-types = c .before .before .before .before .before .before .join-impl-types in
+    arm-applies _ (args .case) _ _ _ _ (node-at .result) (node-at2 .result) (if1 .left) (node-at .ensures)
+    (node-at2 .ensures) _ (arm-of .ensures) _ _ _ _ _ _ _ _ _ _ (k .given .1) (join-impl-types .ensures)
+    (c .before .before .push-types .ensures)
 
 join-impl-same-length-5 : (t : ℕ) → join-impl-lts.Need-same-length-5 (join-impl-calls t) (join-impl-at t) join-impl.Post
 join-impl-same-length-5 t c = c .before .before .join-tvar .ensures .changed .lay .size ∙ sym (c .before .before .before .before .before .before .before .before .before .before .before .before .before .before .pre .1 .0 .size)
 
 join-impl-returns-6 : (t : ℕ) → join-impl-lts.Need-returns-6 (join-impl-calls t) (join-impl-at t) join-impl.Post
-join-impl-returns-6 t c = arm-vars _ (c .before .before .before .before .before .before .before .before .before .before .before .before .before .before .args .case) _ _ _ _ (c .before .before .before .before .before .before .before .before .before .before .node-at .result) (c .before .before .before .before .before .before .before .before .node-at2 .result) (c .before .before .before .before .before .before .before .before .before .before .before .before .if1 .left) (c .before .before .before .before .before .before .before .before .before .before .node-at .ensures) (c .before .before .before .before .before .before .before .before .node-at2 .ensures) _ (c .before .before .before .before .before .before .before .arm-of .ensures) _ _ _ _ (c .before .before .before .before .before .id1 .given .1) (c .before .before .join-tvar .ensures)
+join-impl-returns-6 t c =
+    let args = c .before .before .before .before .before .before .before .before .before .before .before .before .before .before .args in
+    let if1 = c .before .before .before .before .before .before .before .before .before .before .before .before .if1 in
+    let node-at = c .before .before .before .before .before .before .before .before .before .before .node-at in
+    let node-at2 = c .before .before .before .before .before .before .before .before .node-at2 in
+    let arm-of = c .before .before .before .before .before .before .before .arm-of in
+    let id1 = c .before .before .before .before .before .id1 in
+    arm-vars _ (args .case) _ _ _ _ (node-at .result) (node-at2 .result) (if1 .left) (node-at .ensures)
+    (node-at2 .ensures) _ (arm-of .ensures) _ _ _ _ (id1 .given .1) (c .before .before .join-tvar .ensures)
 
 join-impl-same-length-6 : (t : ℕ) → join-impl-lts.Need-same-length-6 (join-impl-calls t) (join-impl-at t) join-impl.Post
 join-impl-same-length-6 t c = c .before .before .before .before .before .meet-tvar .ensures .lay .size ∙ sym (c .before .before .before .before .before .before .before .before .before .before .before .before .before .before .before .before .before .pre .1 .0 .size)
 
 join-impl-returns-7 : (t : ℕ) → join-impl-lts.Need-returns-7 (join-impl-calls t) (join-impl-at t) join-impl.Post
-join-impl-returns-7 t c = left-is _ (c .before .before .before .before .before .before .before .before .before .before .before .before .before .before .before .before .before .args .case) _ _ _ _ (c .before .before .before .before .before .before .before .before .before .before .before .before .before .node-at .result) (c .before .before .before .before .before .before .before .before .before .before .before .node-at2 .result) (c .before .before .before .before .before .before .before .before .before .before .before .before .before .before .before .if1 .left) (c .before .before .before .before .before .before .before .before .before .before .before .before .before .node-at .ensures) (c .before .before .before .before .before .before .before .before .before .before .before .node-at2 .ensures) _ (c .before .before .before .before .before .before .before .before .before .before .arm-of .ensures) _ _ _ (c .before .before .before .before .before .before .before .before .id .given .1) (c .before .before .before .before .before .meet-tvar .ensures) _ (c .before .a .given .1)
+join-impl-returns-7 t c =
+    let c12 = c .before .before .before .before .before .before .before .before .before .before .before .before in
+    let args = c12 .before .before .before .before .before .args in
+    let if1 = c12 .before .before .before .if1 in
+    let node-at = c12 .before .node-at in
+    let node-at2 = c .before .before .before .before .before .before .before .before .before .before .before .node-at2 in
+    let arm-of = c .before .before .before .before .before .before .before .before .before .before .arm-of in
+    let id = c .before .before .before .before .before .before .before .before .id in
+    let meet-tvar = c .before .before .before .before .before .meet-tvar in
+    left-is _ (args .case) _ _ _ _ (node-at .result) (node-at2 .result) (if1 .left) (node-at .ensures)
+    (node-at2 .ensures) _ (arm-of .ensures) _ _ _ (id .given .1) (meet-tvar .ensures) _ (c .before .a .given .1)
 
 join-impl-same-length-7 : (t : ℕ) → join-impl-lts.Need-same-length-7 (join-impl-calls t) (join-impl-at t) join-impl.Post
 join-impl-same-length-7 t c = c .before .before .join-tvar2 .ensures .changed .lay .size ∙ sym (c .before .before .before .before .before .before .before .before .before .before .before .before .before .before .before .before .before .before .before .before .before .pre .1 .0 .size)
 
 join-impl-returns-8 : (t : ℕ) → join-impl-lts.Need-returns-8 (join-impl-calls t) (join-impl-at t) join-impl.Post
-join-impl-returns-8 t c = left-merge _ (c .before .before .before .before .before .before .before .before .before .before .before .before .before .before .before .before .before .before .before .before .before .args .case) _ _ _ _ (c .before .before .before .before .before .before .before .before .before .before .before .before .before .before .before .before .before .node-at .result) (c .before .before .before .before .before .before .before .before .before .before .before .before .before .before .before .node-at2 .result) (c .before .before .before .before .before .before .before .before .before .before .before .before .before .before .before .before .before .before .before .if1 .left) (c .before .before .before .before .before .before .before .before .before .before .before .before .before .before .before .before .before .node-at .ensures) (c .before .before .before .before .before .before .before .before .before .before .before .before .before .before .before .node-at2 .ensures) _ (c .before .before .before .before .before .before .before .before .before .before .before .before .before .before .arm-of .ensures) _ _ _ (c .before .before .before .before .before .before .before .before .before .before .before .before .id .given .1) (c .before .before .before .before .before .before .before .before .before .meet-tvar .ensures) _ _ _ _ (c .before .before .before .before .before .au .given .1) (c .before .before .join-tvar2 .ensures)
+join-impl-returns-8 t c =
+    let c12 = c .before .before .before .before .before .before .before .before .before .before .before .before in
+    let args = c12 .before .before .before .before .before .before .before .before .before .args in
+    let if1 = c12 .before .before .before .before .before .before .before .if1 in
+    let node-at = c12 .before .before .before .before .before .node-at in
+    let node-at2 = c12 .before .before .before .node-at2 in
+    let arm-of = c12 .before .before .arm-of in
+    let id = c12 .id in
+    let meet-tvar = c .before .before .before .before .before .before .before .before .before .meet-tvar in
+    let au = c .before .before .before .before .before .au in
+    left-merge _ (args .case) _ _ _ _ (node-at .result) (node-at2 .result) (if1 .left) (node-at .ensures)
+    (node-at2 .ensures) _ (arm-of .ensures) _ _ _ (id .given .1) (meet-tvar .ensures) _ _ _ _ (au .given .1)
+    (c .before .before .join-tvar2 .ensures)
 
 join-impl-same-length-8 : (t : ℕ) → join-impl-lts.Need-same-length-8 (join-impl-calls t) (join-impl-at t) join-impl.Post
 join-impl-same-length-8 t c = c .before .before .before .before .before .meet-tvar2 .ensures .lay .size ∙ sym (c .before .before .before .before .before .before .before .before .before .before .before .before .before .before .before .before .before .pre .1 .0 .size)
 
 join-impl-returns-9 : (t : ℕ) → join-impl-lts.Need-returns-9 (join-impl-calls t) (join-impl-at t) join-impl.Post
-join-impl-returns-9 t c = right-is _ (c .before .before .before .before .before .before .before .before .before .before .before .before .before .before .before .before .before .args .case) _ _ _ _ (c .before .before .before .before .before .before .before .before .before .before .before .before .before .node-at .result) (c .before .before .before .before .before .before .before .before .before .before .before .node-at2 .result) (c .before .before .before .before .before .before .before .before .before .before .before .before .before .before .before .if1 .left) (c .before .before .before .before .before .before .before .before .before .before .before .before .before .node-at .ensures) (c .before .before .before .before .before .before .before .before .before .before .before .node-at2 .ensures) _ (c .before .before .before .before .before .before .before .before .before .before .arm-of .ensures) _ _ _ (c .before .before .before .before .before .before .before .before .id2 .given .1) (c .before .before .before .before .before .meet-tvar2 .ensures) _ (c .before .a2 .given .1)
+join-impl-returns-9 t c =
+    let c12 = c .before .before .before .before .before .before .before .before .before .before .before .before in
+    let args = c12 .before .before .before .before .before .args in
+    let if1 = c12 .before .before .before .if1 in
+    let node-at = c12 .before .node-at in
+    let node-at2 = c .before .before .before .before .before .before .before .before .before .before .before .node-at2 in
+    let arm-of = c .before .before .before .before .before .before .before .before .before .before .arm-of in
+    let id2 = c .before .before .before .before .before .before .before .before .id2 in
+    let meet-tvar2 = c .before .before .before .before .before .meet-tvar2 in
+    right-is _ (args .case) _ _ _ _ (node-at .result) (node-at2 .result) (if1 .left) (node-at .ensures)
+    (node-at2 .ensures) _ (arm-of .ensures) _ _ _ (id2 .given .1) (meet-tvar2 .ensures) _ (c .before .a2 .given .1)
 
 join-impl-same-length-9 : (t : ℕ) → join-impl-lts.Need-same-length-9 (join-impl-calls t) (join-impl-at t) join-impl.Post
 join-impl-same-length-9 t c = c .before .before .join-tvar3 .ensures .changed .lay .size ∙ sym (c .before .before .before .before .before .before .before .before .before .before .before .before .before .before .before .before .before .before .before .before .before .pre .1 .0 .size)
 
 join-impl-returns-10 : (t : ℕ) → join-impl-lts.Need-returns-10 (join-impl-calls t) (join-impl-at t) join-impl.Post
-join-impl-returns-10 t c = right-merge _ (c .before .before .before .before .before .before .before .before .before .before .before .before .before .before .before .before .before .before .before .before .before .args .case) _ _ _ _ (c .before .before .before .before .before .before .before .before .before .before .before .before .before .before .before .before .before .node-at .result) (c .before .before .before .before .before .before .before .before .before .before .before .before .before .before .before .node-at2 .result) (c .before .before .before .before .before .before .before .before .before .before .before .before .before .before .before .before .before .before .before .if1 .left) (c .before .before .before .before .before .before .before .before .before .before .before .before .before .before .before .before .before .node-at .ensures) (c .before .before .before .before .before .before .before .before .before .before .before .before .before .before .before .node-at2 .ensures) _ (c .before .before .before .before .before .before .before .before .before .before .before .before .before .before .arm-of .ensures) _ _ _ (c .before .before .before .before .before .before .before .before .before .before .before .before .id2 .given .1) (c .before .before .before .before .before .before .before .before .before .meet-tvar2 .ensures) _ _ _ _ (c .before .before .before .before .before .au2 .given .1) (c .before .before .join-tvar3 .ensures)
+join-impl-returns-10 t c =
+    let c12 = c .before .before .before .before .before .before .before .before .before .before .before .before in
+    let args = c12 .before .before .before .before .before .before .before .before .before .args in
+    let if1 = c12 .before .before .before .before .before .before .before .if1 in
+    let node-at = c12 .before .before .before .before .before .node-at in
+    let node-at2 = c12 .before .before .before .node-at2 in
+    let arm-of = c12 .before .before .arm-of in
+    let id2 = c12 .id2 in
+    let meet-tvar2 = c .before .before .before .before .before .before .before .before .before .meet-tvar2 in
+    let au2 = c .before .before .before .before .before .au2 in
+    right-merge _ (args .case) _ _ _ _ (node-at .result) (node-at2 .result) (if1 .left) (node-at .ensures)
+    (node-at2 .ensures) _ (arm-of .ensures) _ _ _ (id2 .given .1) (meet-tvar2 .ensures) _ _ _ _ (au2 .given .1)
+    (c .before .before .join-tvar3 .ensures)
 
 join-impl-same-length-10 : (t : ℕ) → join-impl-lts.Need-same-length-10 (join-impl-calls t) (join-impl-at t) join-impl.Post
 join-impl-same-length-10 t c = search needs
 
 join-impl-returns-11 : (t : ℕ) → join-impl-lts.Need-returns-11 (join-impl-calls t) (join-impl-at t) join-impl.Post
-join-impl-returns-11 t c = settled-after _ _ _ _ _ _ (c .settled4 .ensures) (arm-subtype _ (c .before .before .before .before .before .before .before .before .before .before .args .case) _ _ _ _ (c .before .before .before .before .before .before .node-at .result) (c .before .before .before .before .node-at2 .result) (c .before .before .before .before .before .before .before .before .if1 .left) (c .before .before .before .before .before .before .node-at .ensures) (c .before .before .before .before .node-at2 .ensures) _ (c .before .before .before .arm-of .ensures) (c .before .before .before .before .before .before .before .before .before .before .pre .1 .0) (c .before .before .before .before .before .before .before .before .before .before .pre .1 .1 .0, c .before .before .before .before .before .before .before .before .before .before .pre .1 .1 .1) (c .before .enum-told3 .given .1))
+join-impl-returns-11 t c =
+    let args = c .before .before .before .before .before .before .before .before .before .before .args in
+    let pre = c .before .before .before .before .before .before .before .before .before .before .pre in
+    let if1 = c .before .before .before .before .before .before .before .before .if1 in
+    let node-at = c .before .before .before .before .before .before .node-at in
+    let node-at2 = c .before .before .before .before .node-at2 in
+    settled-after _ _ _ _ _ _ (c .settled4 .ensures)
+    (arm-subtype _ (args .case) _ _ _ _ (node-at .result) (node-at2 .result) (if1 .left) (node-at .ensures)
+    (node-at2 .ensures) _ (c .before .before .before .arm-of .ensures) (pre .1 .0)
+    (pre .1 .1 .0, pre .1 .1 .1) (c .before .enum-told3 .given .1))
 
 join-impl-same-length-11 : (t : ℕ) → join-impl-lts.Need-same-length-11 (join-impl-calls t) (join-impl-at t) join-impl.Post
 join-impl-same-length-11 t c = search needs
 
 join-impl-returns-12 : (t : ℕ) → join-impl-lts.Need-returns-12 (join-impl-calls t) (join-impl-at t) join-impl.Post
-join-impl-returns-12 t c = settled-after _ _ _ _ _ _ (c .settled5 .ensures) (arm-arity _ (c .before .before .before .before .before .before .before .before .before .before .args .case) _ _ _ _ (c .before .before .before .before .before .before .node-at .result) (c .before .before .before .before .node-at2 .result) (c .before .before .before .before .before .before .before .before .if1 .left) (c .before .before .before .before .before .before .node-at .ensures) (c .before .before .before .before .node-at2 .ensures) _ (c .before .before .before .arm-of .ensures) (c .before .before .before .before .before .before .before .before .before .before .pre .1 .0) (c .before .before .before .before .before .before .before .before .before .before .pre .1 .1 .0, c .before .before .before .before .before .before .before .before .before .before .pre .1 .1 .1) (c .before .enum-told4 .given .1))
+join-impl-returns-12 t c =
+    let args = c .before .before .before .before .before .before .before .before .before .before .args in
+    let pre = c .before .before .before .before .before .before .before .before .before .before .pre in
+    let if1 = c .before .before .before .before .before .before .before .before .if1 in
+    let node-at = c .before .before .before .before .before .before .node-at in
+    let node-at2 = c .before .before .before .before .node-at2 in
+    settled-after _ _ _ _ _ _ (c .settled5 .ensures)
+    (arm-arity _ (args .case) _ _ _ _ (node-at .result) (node-at2 .result) (if1 .left) (node-at .ensures)
+    (node-at2 .ensures) _ (c .before .before .before .arm-of .ensures) (pre .1 .0)
+    (pre .1 .1 .0, pre .1 .1 .1) (c .before .enum-told4 .given .1))
 
 join-impl-same-length-12 : (t : ℕ) → join-impl-lts.Need-same-length-12 (join-impl-calls t) (join-impl-at t) join-impl.Post
 join-impl-same-length-12 t c = search needs
 
 join-impl-returns-13 : (t : ℕ) → join-impl-lts.Need-returns-13 (join-impl-calls t) (join-impl-at t) join-impl.Post
-join-impl-returns-13 t c = settled-after _ _ _ _ _ _ (c .settled6 .ensures) (arm-incompatible _ (c .before .before .before .before .before .before .before .before .before .before .args .case) _ _ _ _ (c .before .before .before .before .before .before .node-at .result) (c .before .before .before .before .node-at2 .result) (c .before .before .before .before .before .before .before .before .if1 .left) (c .before .before .before .before .before .before .node-at .ensures) (c .before .before .before .before .node-at2 .ensures) _ (c .before .before .before .arm-of .ensures) (c .before .before .before .before .before .before .before .before .before .before .pre .1 .0) (c .before .before .before .before .before .before .before .before .before .before .pre .1 .1 .0, c .before .before .before .before .before .before .before .before .before .before .pre .1 .1 .1) (c .before .enum-told5 .given .1))
+join-impl-returns-13 t c =
+    let args = c .before .before .before .before .before .before .before .before .before .before .args in
+    let pre = c .before .before .before .before .before .before .before .before .before .before .pre in
+    let if1 = c .before .before .before .before .before .before .before .before .if1 in
+    let node-at = c .before .before .before .before .before .before .node-at in
+    let node-at2 = c .before .before .before .before .node-at2 in
+    settled-after _ _ _ _ _ _ (c .settled6 .ensures)
+    (arm-incompatible _ (args .case) _ _ _ _ (node-at .result) (node-at2 .result) (if1 .left) (node-at .ensures)
+    (node-at2 .ensures) _ (c .before .before .before .arm-of .ensures) (pre .1 .0)
+    (pre .1 .1 .0, pre .1 .1 .1) (c .before .enum-told5 .given .1))
 
 join-impl-same-length-13 : (t : ℕ) → join-impl-lts.Need-same-length-13 (join-impl-calls t) (join-impl-at t) join-impl.Post
 join-impl-same-length-13 t c = search needs
 
 join-impl-returns-14 : (t : ℕ) → join-impl-lts.Need-returns-14 (join-impl-calls t) (join-impl-at t) join-impl.Post
-join-impl-returns-14 t c = settled-after _ _ _ _ _ _ (c .settled7 .ensures) (arm-disagree _ (c .before .before .before .before .before .before .before .before .before .before .args .case) _ _ _ _ (c .before .before .before .before .before .before .node-at .result) (c .before .before .before .before .node-at2 .result) (c .before .before .before .before .before .before .before .before .if1 .left) (c .before .before .before .before .before .before .node-at .ensures) (c .before .before .before .before .node-at2 .ensures) _ (c .before .before .before .arm-of .ensures) (c .before .before .before .before .before .before .before .before .before .before .pre .1 .0) (c .before .enum-told6 .given .1))
+join-impl-returns-14 t c =
+    let args = c .before .before .before .before .before .before .before .before .before .before .args in
+    let pre = c .before .before .before .before .before .before .before .before .before .before .pre in
+    let if1 = c .before .before .before .before .before .before .before .before .if1 in
+    let node-at = c .before .before .before .before .before .before .node-at in
+    let node-at2 = c .before .before .before .before .node-at2 in
+    settled-after _ _ _ _ _ _ (c .settled7 .ensures)
+    (arm-disagree _ (args .case) _ _ _ _ (node-at .result) (node-at2 .result) (if1 .left) (node-at .ensures)
+    (node-at2 .ensures) _ (c .before .before .before .arm-of .ensures) (pre .1 .0)
+    (c .before .enum-told6 .given .1))
 
 abbrev join-impl-types-Inv-loop : join-impl-types-lts.InvT-loop
 join-impl-types-Inv-loop w₀ case left first1 many1 first2 many2 n tys₀ at₀ i₀ w tys at i = Gathering left (case-of case) w₀ at₀ first1 many1 first2 many2 n w at tys i
@@ -303,7 +482,16 @@ join-impl-types-arg-at-requires-2 : (t : ℕ) → join-impl-types-lts.Need-arg-a
 join-impl-types-arg-at-requires-2 t c κs = c .before .before .before .before .loop .inv .lay
 
 join-impl-types-join-impl-requires : (t : ℕ) → join-impl-types-lts.Need-join-impl-requires (join-impl-types-calls t) (join-impl-types-at t) join-impl-types.Post join-impl-types-Inv-loop join-impl-types-μ-loop
-join-impl-types-join-impl-requires t c κs = (omega arith, (c .before .before .before .before .before .before .loop .inv .lay, gather-in _ _ _ _ _ _ _ _ _ _ _ _ _ (c .before .before .before .before .before .before .loop .inv) (c .before .before .before .before .before .loop-test .taken) _ _ (c .before .before .before .arg-at .ensures) (c .before .arg-at2 .ensures)))
+join-impl-types-join-impl-requires t c κs =
+    let loop = c .before .before .before .before .before .before .loop in
+    let loop-test = c .before .before .before .before .before .loop-test in (
+      omega arith,
+      (
+        loop .inv .lay,
+        gather-in _ _ _ _ _ _ _ _ _ _ _ _ _ (loop .inv) (loop-test .taken) _ _
+            (c .before .before .before .arg-at .ensures) (c .before .arg-at2 .ensures),
+      ),
+    )
 
 join-impl-types-done-of-requires : (t : ℕ) → join-impl-types-lts.Need-done-of-requires (join-impl-types-calls t) (join-impl-types-at t) join-impl-types.Post join-impl-types-Inv-loop join-impl-types-μ-loop
 join-impl-types-done-of-requires t c κs = tt
@@ -318,7 +506,14 @@ join-impl-types-same-length : (t : ℕ) → join-impl-types-lts.Need-same-length
 join-impl-types-same-length t c = c .before .before .before .before .before .before .join-impl .ensures .changed .lay .size ∙ sym (c .before .before .before .before .before .before .before .before .before .before .before .before .before .before .before .before .pre .1 .0 .size)
 
 join-impl-types-returns : (t : ℕ) → join-impl-types-lts.Need-returns (join-impl-types-calls t) (join-impl-types-at t) join-impl-types.Post join-impl-types-Inv-loop join-impl-types-μ-loop
-join-impl-types-returns t c = gather-stop _ _ _ _ _ _ _ _ _ _ _ _ _ (c .before .before .before .before .before .before .before .before .before .before .before .before .before .loop .inv) (c .before .before .before .before .before .before .before .before .before .before .before .before .loop-test .taken) _ _ (c .before .before .before .before .before .before .before .before .before .before .arg-at .ensures) (c .before .before .before .before .before .before .before .before .arg-at2 .ensures) _ _ (c .before .before .before .before .before .before .join-impl .ensures) _ (c .before .before .done-of .ensures) (c .enum-told .given .1)
+join-impl-types-returns t c =
+    let loop = c .before .before .before .before .before .before .before .before .before .before .before .before .before .loop in
+    let loop-test = c .before .before .before .before .before .before .before .before .before .before .before .before .loop-test in
+    let arg-at = c .before .before .before .before .before .before .before .before .before .before .arg-at in
+    let arg-at2 = c .before .before .before .before .before .before .before .before .arg-at2 in
+    let join-impl = c .before .before .before .before .before .before .join-impl in
+    gather-stop _ _ _ _ _ _ _ _ _ _ _ _ _ (loop .inv) (loop-test .taken) _ _ (arg-at .ensures) (arg-at2 .ensures) _ _
+    (join-impl .ensures) _ (c .before .before .done-of .ensures) (c .enum-told .given .1)
 
 join-impl-types-cast-k : (t : ℕ) → join-impl-types-lts.Need-cast-k (join-impl-types-calls t) (join-impl-types-at t) join-impl-types.Post join-impl-types-Inv-loop join-impl-types-μ-loop
 join-impl-types-cast-k t c = search needs
@@ -327,7 +522,15 @@ join-impl-types-mul-tys : (t : ℕ) → join-impl-types-lts.Need-mul-tys (join-i
 join-impl-types-mul-tys t c = search needs
 
 join-impl-types-array-write-tys : (t : ℕ) → join-impl-types-lts.Need-array-write-tys (join-impl-types-calls t) (join-impl-types-at t) join-impl-types.Post join-impl-types-Inv-loop join-impl-types-μ-loop
-join-impl-types-array-write-tys t c = omega (arith, gather-room _ _ _ _ _ _ _ _ _ _ _ _ _ (c .before .before .before .before .before .before .before .before .before .before .before .before .before .before .loop .inv) (c .before .before .before .before .before .before .before .before .before .before .before .before .before .loop-test .taken) _ _ (c .before .before .before .before .before .before .before .before .before .before .before .arg-at .ensures) (c .before .before .before .before .before .before .before .before .before .arg-at2 .ensures))
+join-impl-types-array-write-tys t c =
+    let loop = c .before .before .before .before .before .before .before .before .before .before .before .before .before .before .loop in
+    let loop-test = c .before .before .before .before .before .before .before .before .before .before .before .before .before .loop-test in
+    let arg-at = c .before .before .before .before .before .before .before .before .before .before .before .arg-at in
+    let arg-at2 = c .before .before .before .before .before .before .before .before .before .arg-at2 in
+    omega (
+      arith,
+      gather-room _ _ _ _ _ _ _ _ _ _ _ _ _ (loop .inv) (loop-test .taken) _ _ (arg-at .ensures) (arg-at2 .ensures),
+    )
 
 join-impl-types-add-i : (t : ℕ) → join-impl-types-lts.Need-add-i (join-impl-types-calls t) (join-impl-types-at t) join-impl-types.Post join-impl-types-Inv-loop join-impl-types-μ-loop
 join-impl-types-add-i t c = omega arith
@@ -336,7 +539,14 @@ join-impl-types-loop-less : (t : ℕ) → join-impl-types-lts.Need-loop-less (jo
 join-impl-types-loop-less t c = omega arith
 
 join-impl-types-loop-again : (t : ℕ) → join-impl-types-lts.Need-loop-again (join-impl-types-calls t) (join-impl-types-at t) join-impl-types.Post join-impl-types-Inv-loop join-impl-types-μ-loop
-join-impl-types-loop-again t c = gather-more _ _ _ _ _ _ _ _ _ _ _ _ _ (c .before .before .before .before .before .before .before .before .before .before .before .before .before .before .loop .inv) (c .before .before .before .before .before .before .before .before .before .before .before .before .before .loop-test .taken) _ _ (c .before .before .before .before .before .before .before .before .before .before .before .arg-at .ensures) (c .before .before .before .before .before .before .before .before .before .arg-at2 .ensures) _ _ (c .before .before .before .before .before .before .before .join-impl .ensures) _ (c .before .before .before .done-of .ensures) _ (c .before .t .given .1)
+join-impl-types-loop-again t c =
+    let loop = c .before .before .before .before .before .before .before .before .before .before .before .before .before .before .loop in
+    let loop-test = c .before .before .before .before .before .before .before .before .before .before .before .before .before .loop-test in
+    let arg-at = c .before .before .before .before .before .before .before .before .before .before .before .arg-at in
+    let arg-at2 = c .before .before .before .before .before .before .before .before .before .arg-at2 in
+    let join-impl = c .before .before .before .before .before .before .before .join-impl in
+    gather-more _ _ _ _ _ _ _ _ _ _ _ _ _ (loop .inv) (loop-test .taken) _ _ (arg-at .ensures) (arg-at2 .ensures) _ _
+    (join-impl .ensures) _ (c .before .before .before .done-of .ensures) _ (c .before .t .given .1)
 
 join-impl-types-same-length-2 : (t : ℕ) → join-impl-types-lts.Need-same-length-2 (join-impl-types-calls t) (join-impl-types-at t) join-impl-types.Post join-impl-types-Inv-loop join-impl-types-μ-loop
 join-impl-types-same-length-2 t c = c .before .loop .inv .lay .size ∙ sym (c .before .before .before .before .pre .1 .0 .size)
@@ -354,7 +564,18 @@ join-tvar-enum-known-what-2 : (t : ℕ) → join-tvar-lts.Need-enum-known-what-2
 join-tvar-enum-known-what-2 t c = search needs
 
 join-tvar-join-impl-requires : (t : ℕ) → join-tvar-lts.Need-join-impl-requires (join-tvar-calls t) (join-tvar-at t) join-tvar.Post
-join-tvar-join-impl-requires t c κs = (omega arith, (c .before .before .before .before .before .before .before .open-tvar .ensures .lay, (ready-in _ (c .before .before .before .before .before .before .before .open-tvar .result .what) _ _ _ _ (c .before .before .before .before .before .before .before .open-tvar .ensures .inside) (c .before .before .what2 .given .1) .0, ready-in _ (c .before .before .before .before .before .before .before .open-tvar .result .what) _ _ _ _ (c .before .before .before .before .before .before .before .open-tvar .ensures .inside) (c .before .before .what2 .given .1) .1 .0)))
+join-tvar-join-impl-requires t c κs =
+    let open-tvar = c .before .before .before .before .before .before .before .open-tvar in
+    let what2 = c .before .before .what2 in (
+      omega arith,
+      (
+        open-tvar .ensures .lay,
+        (
+          ready-in _ (open-tvar .result .what) _ _ _ _ (open-tvar .ensures .inside) (what2 .given .1) .0,
+          ready-in _ (open-tvar .result .what) _ _ _ _ (open-tvar .ensures .inside) (what2 .given .1) .1 .0,
+        ),
+      ),
+    )
 
 join-tvar-done-of-requires : (t : ℕ) → join-tvar-lts.Need-done-of-requires (join-tvar-calls t) (join-tvar-at t) join-tvar.Post
 join-tvar-done-of-requires t c κs = tt
@@ -369,10 +590,34 @@ join-tvar-same-length : (t : ℕ) → join-tvar-lts.Need-same-length (join-tvar-
 join-tvar-same-length t c = c .before .before .before .before .before .join-impl .ensures .changed .lay .size ∙ sym (c .before .before .before .before .before .before .before .before .before .before .before .before .before .before .before .before .pre .1 .size)
 
 join-tvar-returns : (t : ℕ) → join-tvar-lts.Need-returns (join-tvar-calls t) (join-tvar-at t) join-tvar.Post
-join-tvar-returns t c = tvar-inner _ _ _ _ _ _ _ _ _ _ (c .before .before .before .before .before .before .before .before .before .before .before .before .before .open-tvar .ensures) _ _ _ _ (c .before .before .before .before .before .before .before .before .what2 .given .1) _ _ _ (c .before .before .before .before .before .join-impl .ensures) (c .before .before .done-of .ensures) (c .enum-told .given .1)
+join-tvar-returns t c =
+    let open-tvar = c .before .before .before .before .before .before .before .before .before .before .before .before .before .open-tvar in
+    let what2 = c .before .before .before .before .before .before .before .before .what2 in
+    let join-impl = c .before .before .before .before .before .join-impl in
+    tvar-inner _ _ _ _ _ _ _ _ _ _ (open-tvar .ensures) _ _ _ _ (what2 .given .1) _ _ _ (join-impl .ensures)
+    (c .before .before .done-of .ensures) (c .enum-told .given .1)
 
 join-tvar-close-tvar-requires : (t : ℕ) → join-tvar-lts.Need-close-tvar-requires (join-tvar-calls t) (join-tvar-at t) join-tvar.Post
-join-tvar-close-tvar-requires t c κs = (c .before .before .before .before .before .before .before .join-impl .ensures .changed .lay, (still-in _ _ _ _ _ (c .before .before .before .before .before .before .before .join-impl .ensures .changed .grown) (ready-in _ (c .before .before .before .before .before .before .before .before .before .before .before .before .before .before .before .open-tvar .result .what) _ _ _ _ (c .before .before .before .before .before .before .before .before .before .before .before .before .before .before .before .open-tvar .ensures .inside) (c .before .before .before .before .before .before .before .before .before .before .what2 .given .1) .0), (still-in _ _ _ _ _ (c .before .before .before .before .before .before .before .join-impl .ensures .changed .grown) (ready-in _ (c .before .before .before .before .before .before .before .before .before .before .before .before .before .before .before .open-tvar .result .what) _ _ _ _ (c .before .before .before .before .before .before .before .before .before .before .before .before .before .before .before .open-tvar .ensures .inside) (c .before .before .before .before .before .before .before .before .before .before .what2 .given .1) .1 .0), (still-in _ _ _ _ _ (c .before .before .before .before .before .before .before .join-impl .ensures .changed .grown) (ready-in _ (c .before .before .before .before .before .before .before .before .before .before .before .before .before .before .before .open-tvar .result .what) _ _ _ _ (c .before .before .before .before .before .before .before .before .before .before .before .before .before .before .before .open-tvar .ensures .inside) (c .before .before .before .before .before .before .before .before .before .before .what2 .given .1) .1 .1), node-in _ (c .before .before .before .before .before .before .before .join-impl .result .out) _ _ (c .before .before .before .before .before .before .before .join-impl .ensures .inside) (c .before .before .before .before .done-of .ensures) (c .before .before .ty .given .1)))))
+join-tvar-close-tvar-requires t c κs =
+    let open-tvar = c .before .before .before .before .before .before .before .before .before .before .before .before .before .before .before .open-tvar in
+    let what2 = c .before .before .before .before .before .before .before .before .before .before .what2 in
+    let join-impl = c .before .before .before .before .before .before .before .join-impl in (
+      join-impl .ensures .changed .lay,
+      (
+        still-in _ _ _ _ _ (join-impl .ensures .changed .grown)
+            (ready-in _ (open-tvar .result .what) _ _ _ _ (open-tvar .ensures .inside) (what2 .given .1) .0),
+        (
+          still-in _ _ _ _ _ (join-impl .ensures .changed .grown)
+              (ready-in _ (open-tvar .result .what) _ _ _ _ (open-tvar .ensures .inside) (what2 .given .1) .1 .0),
+          (
+            still-in _ _ _ _ _ (join-impl .ensures .changed .grown)
+                (ready-in _ (open-tvar .result .what) _ _ _ _ (open-tvar .ensures .inside) (what2 .given .1) .1 .1),
+            node-in _ (join-impl .result .out) _ _ (join-impl .ensures .inside)
+                (c .before .before .before .before .done-of .ensures) (c .before .before .ty .given .1),
+          ),
+        ),
+      ),
+    )
 
 join-tvar-same-length-2 : (t : ℕ) → join-tvar-lts.Need-same-length-2 (join-tvar-calls t) (join-tvar-at t) join-tvar.Post
 join-tvar-same-length-2 t c = c .before .before .before .before .before .before .open-tvar .ensures .lay .size ∙ sym (c .before .before .before .before .before .before .before .before .before .pre .1 .size)
@@ -384,7 +629,15 @@ join-tvar-same-length-3 : (t : ℕ) → join-tvar-lts.Need-same-length-3 (join-t
 join-tvar-same-length-3 t c = c .before .before .close-tvar .ensures .changed .lay .size ∙ sym (c .before .before .before .before .before .before .before .before .before .before .before .before .before .before .before .before .before .before .before .before .before .pre .1 .size)
 
 join-tvar-returns-3 : (t : ℕ) → join-tvar-lts.Need-returns-3 (join-tvar-calls t) (join-tvar-at t) join-tvar.Post
-join-tvar-returns-3 t c = tvar-close _ _ _ _ _ _ _ _ _ _ (c .before .before .before .before .before .before .before .before .before .before .before .before .before .before .before .before .before .before .open-tvar .ensures) _ _ _ _ (c .before .before .before .before .before .before .before .before .before .before .before .before .before .what2 .given .1) _ _ _ (c .before .before .before .before .before .before .before .before .before .before .join-impl .ensures) (c .before .before .before .before .before .before .before .done-of .ensures) _ _ _ (c .before .before .before .before .before .ty .given .1) (c .before .before .close-tvar .ensures)
+join-tvar-returns-3 t c =
+    let c12 = c .before .before .before .before .before .before .before .before .before .before .before .before in
+    let open-tvar = c12 .before .before .before .before .before .before .open-tvar in
+    let what2 = c12 .before .what2 in
+    let join-impl = c .before .before .before .before .before .before .before .before .before .before .join-impl in
+    let done-of = c .before .before .before .before .before .before .before .done-of in
+    let ty = c .before .before .before .before .before .ty in
+    tvar-close _ _ _ _ _ _ _ _ _ _ (open-tvar .ensures) _ _ _ _ (what2 .given .1) _ _ _ (join-impl .ensures)
+    (done-of .ensures) _ _ _ (ty .given .1) (c .before .before .close-tvar .ensures)
 
 pub +join-impl+join-impl-types+join-tvar-spec : {M : Type 1} → statement M
 +join-impl+join-impl-types+join-tvar-spec =

@@ -18,7 +18,13 @@ returns : tie.Need-returns
 returns c = follows-stop _ _ _ _ (c .before .before .done-of .ensures) (c .enum-told .given .1)
 
 push-node-requires : tie.Need-push-node-requires
-push-node-requires c κs = (c .before .before .before .before .before .before .before .pre .0, node-in _ (c .before .before .before .before .before .before .before .args .a .out) _ _ (c .before .before .before .before .before .before .before .pre .1) (c .before .before .before .before .done-of .ensures) (c .before .before .t .given .1))
+push-node-requires c κs =
+    let args = c .before .before .before .before .before .before .before .args in
+    let pre = c .before .before .before .before .before .before .before .pre in (
+      pre .0,
+      node-in _ (args .a .out) _ _ (pre .1) (c .before .before .before .before .done-of .ensures)
+          (c .before .before .t .given .1),
+    )
 
 same-length : tie.Need-same-length
 same-length c = search needs

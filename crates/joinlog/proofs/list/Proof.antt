@@ -37,17 +37,23 @@ same-length-2 : tie.Need-same-length-2
 same-length-2 c = search needs
 
 returns : tie.Need-returns
-returns c = let e = c .before .before .before .before .before .before .before .next-lines .ensures in
-    let t = c .before .before .before .before .before .before .before .before .before .before .before .before .before .before .before .before .before .before .before .before .args .t in
-    let few : t .have - t .from ≤ length (drop (t .from) (c .before .before .before .before .before .before .before .before .before .before .before .before .before .before .before .before .before .before .before .before .args .buf .now)) = simp length-drop (omega (arith, c .before .before .before .before .before .before .before .before .before .before .before .before .before .before .before .before .before .before .before .before .pre .inside)) in
-    let size = length-take-le (t .have - t .from) (drop (t .from) (c .before .before .before .before .before .before .before .before .before .before .before .before .before .before .before .before .before .before .before .before .args .buf .now)) few in
+returns c =
+    let c12 = c .before .before .before .before .before .before .before .before .before .before .before .before in
+    let args = c12 .before .before .before .before .before .before .before .before .args in
+    let pre = c12 .before .before .before .before .before .before .before .before .pre in
+    let next-lines = c .before .before .before .before .before .before .before .next-lines in
+    let e = next-lines .ensures in
+    let t = args .t in
+    let few : t .have - t .from ≤ length (drop (t .from) (args .buf .now)) = simp length-drop
+    (omega (arith, pre .inside)) in
+    let size = length-take-le (t .have - t .from) (drop (t .from) (args .buf .now)) few in
     record {
       words = e .words;
       rows = e .rows;
       text = e .text;
       handed = c .before .hand-over .ensures ∙ e .size;
-      within = record { ordered = omega (arith, e .inside, size, c .before .before .before .before .before .before .before .before .before .before .before .before .before .before .before .before .before .before .before .before .pre .ordered); inside = c .before .before .before .before .before .before .before .before .before .before .before .before .before .before .before .before .before .before .before .before .pre .inside };
-      rest = passed (t .from) _ (t .have) (c .before .before .before .before .before .before .before .before .before .before .before .before .before .before .before .before .before .before .before .before .args .buf .now) ∙ e .rest;
+      within = record { ordered = omega (arith, e .inside, size, pre .ordered); inside = pre .inside };
+      rest = passed (t .from) _ (t .have) (args .buf .now) ∙ e .rest;
       same-bytes = refl;
       none = refl;
       follow = refl;

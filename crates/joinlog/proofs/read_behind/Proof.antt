@@ -32,8 +32,16 @@ same-length c = search needs
 
 returns : tie.Need-returns
 returns c =
-    let z : toZ w64 (ofZ w64 (c .before .before .before .before .before .before .before .read .result)) ≡ c .before .before .before .before .before .before .before .read .result = toZ-ofZ {w = w64} {z = c .before .before .before .before .before .before .before .read .result} (record { sfits = c .before .before .before .before .before .before .before .read .ok }) in
-    record { inside = search needs; kept = front-kept (c .before .before .before .before .before .before .before .before .before .before .before .args .have) (c .before .before .before .before .before .before .before .before .before .before .before .args .have) (c .before .before .before .before .before .before .before .before .before .before .before .args .buf .now) _ (omega arith) (omega arith); none = λ e. (simp z at (c .before .before .before .count .ensures .1)) ∙ none-of (c .before .before .before .before .before .before .before .read .result) _ (simp z at (sym (c .unread .ensures) ∙ e)) }
+    let args = c .before .before .before .before .before .before .before .before .before .before .before .args in
+    let read = c .before .before .before .before .before .before .before .read in
+    let z : toZ w64 (ofZ w64 (read .result)) ≡ read .result = toZ-ofZ {w = w64} {z = read .result}
+    (record { sfits = read .ok }) in
+    record {
+      inside = search needs;
+      kept = front-kept (args .have) (args .have) (args .buf .now) _ (omega arith) (omega arith);
+      none = λ e. (simp z at (c .before .before .before .count .ensures .1)) ∙ none-of (read .result) _
+          (simp z at (sym (c .unread .ensures) ∙ e));
+    }
 
 pub read-behind-spec : {M : Type 1} → statement M
 read-behind-spec =

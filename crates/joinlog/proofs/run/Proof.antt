@@ -1,4 +1,5 @@
 -- `joinlog::run` meets its contract: turn after turn, counted down. Assumes nothing.
+-- Invariant `Going`: as many turns as were counted have been made, with what they read and handed over. It ends where the job has ended or no turn is left.
 use mathlib.Core.Path.{refl, _≡_}
 use native.Mathlib.Omega.{arith}
 use borrow.Author.Needs.{needs}
@@ -41,10 +42,24 @@ loop-less : tie.Need-loop-less Inv-loop μ-loop
 loop-less c = search needs
 
 loop-again : tie.Need-loop-again Inv-loop μ-loop
-loop-again c = let i = c .before .before .before .before .before .before .before .before .before .before .before .before .before .loop .inv in
-    let e = c .before .before .before .before .before .before .one-turn .ensures in
-    let same : length (c .before .before .before .before .before .before .one-turn .last .1 .1 .0) ≡ length (c .before .before .before .before .before .before .before .before .before .before .before .before .before .loop .buf) = search needs in
-    (search needs, (search needs, (search needs, going-on (i .1 .1 .1) (c .before .before .before .before .before .before .before .before .before .before .before .if1 .left) (c .before .before .before .before .before .before .before .before .before .before .before .before .loop-test .taken) e same (bytes-of (c .before .before .before .before .before .before .one-turn .last .1 .1 .0) (c .before .before .slice-known5 .given)))))
+loop-again c =
+    let loop = c .before .before .before .before .before .before .before .before .before .before .before .before .before .loop in
+    let loop-test = c .before .before .before .before .before .before .before .before .before .before .before .before .loop-test in
+    let if1 = c .before .before .before .before .before .before .before .before .before .before .before .if1 in
+    let one-turn = c .before .before .before .before .before .before .one-turn in
+    let i = loop .inv in
+    let e = one-turn .ensures in
+    let same : length (one-turn .last .1 .1 .0) ≡ length (loop .buf) = search needs in (
+      search needs,
+      (
+        search needs,
+        (
+          search needs,
+          going-on (i .1 .1 .1) (if1 .left) (loop-test .taken) e same
+              (bytes-of (one-turn .last .1 .1 .0) (c .before .before .slice-known5 .given)),
+        ),
+      ),
+    )
 
 same-length-4 : tie.Need-same-length-4 Inv-loop μ-loop
 same-length-4 c = search needs

@@ -1,4 +1,5 @@
 -- `lent::apply_fine` meets its contract. Assumes nothing.
+-- Each early return: the first test that fails makes the whole conjunction fail (`fails-l`, `fails-then`), with those before it passed; the last return by `passes`.
 use mathlib.Core.Path.{sym, _∙_}
 use native.Mathlib.Omega.{arith}
 use borrow.Author.Tests.{not-true, not-false, le-leb, lt-leb, eq-eqb, ne-eqb}
@@ -28,14 +29,38 @@ fits-fine-requires c κs = search needs
 
 returns-3 : tie.Need-returns-3
 unfolding apply-fine
-returns-3 c = sym (fails-l _ _ (fails-l _ _ (fails-l _ _ (fails-then _ _ (both _ _ (sym (c .before .before .before .before .before .mark-fine .ensures) ∙ not-false _ (c .before .before .before .before .if1 .left)) (sym (c .before .before .before .name-fine .ensures) ∙ not-false _ (c .before .before .if2 .left))) (sym (c .before .fits-fine .ensures) ∙ not-true _ (c .if3 .taken))))))
+returns-3 c =
+    let mark-fine = c .before .before .before .before .before .mark-fine in
+    sym (fails-l _ _
+    (fails-l _ _
+    (fails-l _ _
+    (fails-then _ _
+    (both _ _
+    (sym (mark-fine .ensures) ∙ not-false _
+    (c .before .before .before .before .if1 .left))
+    (sym (c .before .before .before .name-fine .ensures) ∙ not-false _
+    (c .before .before .if2 .left)))
+    (sym (c .before .fits-fine .ensures) ∙ not-true _ (c .if3 .taken))))))
 
 args-fine-requires : tie.Need-args-fine-requires
 args-fine-requires c κs = (search needs, name-small _ _ _ (omega arith) (sym (c .before .before .before .name-fine .ensures) ∙ not-false _ (c .before .before .if2 .left)))
 
 returns-4 : tie.Need-returns-4
 unfolding apply-fine
-returns-4 c = sym (fails-l _ _ (fails-l _ _ (fails-then _ _ (both _ _ (both _ _ (sym (c .before .before .before .before .before .before .before .mark-fine .ensures) ∙ not-false _ (c .before .before .before .before .before .before .if1 .left)) (sym (c .before .before .before .before .before .name-fine .ensures) ∙ not-false _ (c .before .before .before .before .if2 .left))) (sym (c .before .before .before .fits-fine .ensures) ∙ not-false _ (c .before .before .if3 .left))) (ne-eqb _ _ (λ e. (c .if4 .taken) (e ∙ sym (c .before .args-fine .ensures)))))))
+returns-4 c =
+    let mark-fine = c .before .before .before .before .before .before .before .mark-fine in
+    let if1 = c .before .before .before .before .before .before .if1 in
+    let name-fine = c .before .before .before .before .before .name-fine in
+    sym (fails-l _ _
+    (fails-l _ _
+    (fails-then _ _
+    (both _ _
+    (both _ _ (sym (mark-fine .ensures) ∙ not-false _ (if1 .left))
+    (sym (name-fine .ensures) ∙ not-false _
+    (c .before .before .before .before .if2 .left)))
+    (sym (c .before .before .before .fits-fine .ensures) ∙ not-false _
+    (c .before .before .if3 .left)))
+    (ne-eqb _ _ (λ e. (c .if4 .taken) (e ∙ sym (c .before .args-fine .ensures)))))))
 
 cast-used : tie.Need-cast-used
 cast-used c = search needs
@@ -45,14 +70,45 @@ add-if5 c = search needs
 
 returns-5 : tie.Need-returns-5
 unfolding apply-fine
-returns-5 c = sym (fails-l _ _ (fails-then _ _ (both _ _ (both _ _ (both _ _ (sym (c .before .before .before .before .before .before .before .before .before .mark-fine .ensures) ∙ not-false _ (c .before .before .before .before .before .before .before .before .if1 .left)) (sym (c .before .before .before .before .before .before .before .name-fine .ensures) ∙ not-false _ (c .before .before .before .before .before .before .if2 .left))) (sym (c .before .before .before .before .before .fits-fine .ensures) ∙ not-false _ (c .before .before .before .before .if3 .left))) (eq-eqb _ _ ((c .before .before .if4 .left) ∙ c .before .before .before .args-fine .ensures))) (lt-leb _ _ (c .if5 .taken))))
+returns-5 c =
+    let mark-fine = c .before .before .before .before .before .before .before .before .before .mark-fine in
+    let if1 = c .before .before .before .before .before .before .before .before .if1 in
+    let name-fine = c .before .before .before .before .before .before .before .name-fine in
+    let if2 = c .before .before .before .before .before .before .if2 in
+    let fits-fine = c .before .before .before .before .before .fits-fine in
+    sym (fails-l _ _
+    (fails-then _ _
+    (both _ _
+    (both _ _
+    (both _ _ (sym (mark-fine .ensures) ∙ not-false _ (if1 .left))
+    (sym (name-fine .ensures) ∙ not-false _ (if2 .left)))
+    (sym (fits-fine .ensures) ∙ not-false _ (c .before .before .before .before .if3 .left)))
+    (eq-eqb _ _ ((c .before .before .if4 .left) ∙ c .before .before .before .args-fine .ensures)))
+    (lt-leb _ _ (c .if5 .taken))))
 
 parts-fine-requires : tie.Need-parts-fine-requires
 parts-fine-requires c κs = search needs
 
 returns-6 : tie.Need-returns-6
 unfolding apply-fine
-returns-6 c = c .parts-fine .ensures ∙ passes _ _ (both _ _ (both _ _ (both _ _ (both _ _ (sym (c .before .before .before .before .before .before .before .before .before .before .mark-fine .ensures) ∙ not-false _ (c .before .before .before .before .before .before .before .before .before .if1 .left)) (sym (c .before .before .before .before .before .before .before .before .name-fine .ensures) ∙ not-false _ (c .before .before .before .before .before .before .before .if2 .left))) (sym (c .before .before .before .before .before .before .fits-fine .ensures) ∙ not-false _ (c .before .before .before .before .before .if3 .left))) (eq-eqb _ _ ((c .before .before .before .if4 .left) ∙ c .before .before .before .before .args-fine .ensures))) (le-leb _ _ (c .before .if5 .left)))
+returns-6 c =
+    let mark-fine = c .before .before .before .before .before .before .before .before .before .before .mark-fine in
+    let if1 = c .before .before .before .before .before .before .before .before .before .if1 in
+    let name-fine = c .before .before .before .before .before .before .before .before .name-fine in
+    let if2 = c .before .before .before .before .before .before .before .if2 in
+    let fits-fine = c .before .before .before .before .before .before .fits-fine in
+    let if3 = c .before .before .before .before .before .if3 in
+    c .parts-fine .ensures ∙ passes _ _
+    (both _ _
+    (both _ _
+    (both _ _
+    (both _ _ (sym (mark-fine .ensures) ∙ not-false _ (if1 .left))
+    (sym (name-fine .ensures) ∙ not-false _ (if2 .left)))
+    (sym (fits-fine .ensures) ∙ not-false _ (if3 .left)))
+    (eq-eqb _ _
+    ((c .before .before .before .if4 .left)
+    ∙ c .before .before .before .before .args-fine .ensures)))
+    (le-leb _ _ (c .before .if5 .left)))
 
 pub apply-fine-spec : {M : Type 1} → statement M
 apply-fine-spec =

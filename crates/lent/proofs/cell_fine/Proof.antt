@@ -1,4 +1,5 @@
 -- `lent::cell_fine` meets its contract. Assumes nothing.
+-- Three tests, joined: a return by the first that fails (`fails-l`, `fails-then`), the last one by `passes`.
 use mathlib.Core.Path.{sym, _∙_}
 use borrow.Author.Tests.{not-true, not-false}
 use borrow.Author.Needs.{needs}

@@ -36,7 +36,12 @@ enum-told : tie.Need-enum-told Inv-loop μ-loop
 enum-told c = search needs
 
 returns-2 : tie.Need-returns-2 Inv-loop μ-loop
-returns-2 c = let z : c .before .before .before .before .before .before .loop .n + 0 ≡ c .before .before .before .before .before .before .loop .n = omega arith in rw z at (counted _ _ _ _ (links-from _ _ _ _ _ 0 (c .before .before .before .before .before .before .loop .inv .1) (links-end _ _ _ (sym (c .before .before .next-at .ensures) ∙ ap next (c .enum-told .given .1)))))
+returns-2 c =
+    let loop = c .before .before .before .before .before .before .loop in
+    let z : loop .n + 0 ≡ loop .n = omega arith in
+    rw z at (counted _ _ _ _
+    (links-from _ _ _ _ _ 0 (loop .inv .1)
+    (links-end _ _ _ (sym (c .before .before .next-at .ensures) ∙ ap next (c .enum-told .given .1)))))
 
 enum-known-next : tie.Need-enum-known-next Inv-loop μ-loop
 enum-known-next c = search needs

@@ -1,4 +1,5 @@
 -- `lent::constraint_fine` meets its contract. Assumes nothing.
+-- Each return by the tests on the way to it: `fails-l` where one fails, `passes`, `when-true` and `when-false` else.
 use mathlib.Core.Path.{sym, _∙_}
 use borrow.Author.Tests.{lt-ltb, le-ltb, le-leb, lt-leb, eq-eqb, ne-eqb}
 use borrow.Author.Needs.{needs}

@@ -1,4 +1,5 @@
 -- `lent::given_fine` meets its contract. Assumes nothing.
+-- Invariant: the bytes of the rows before i pass. A row that fails makes the whole test fail (`one-fails`), else it is one row more (`all-more`).
 use mathlib.Core.Path.{_≡_, sym, _∙_, ap}
 use mathlib.Core.List.{[]}
 use mathlib.Core.Bool.{true}
@@ -38,7 +39,13 @@ bytes-fine-requires c κs = search needs
 
 returns : tie.Need-returns Inv-loop μ-loop
 unfolding bytes-fine
-returns c = sym (one-fails _ _ (c .before .before .before .before .before .loop .i) (omega arith) (sym (c .before .bytes-fine .ensures ∙ ap (λ (k : ℕ). all-below 8 (byte-fine (getD (c .before .before .before .before .before .before .before .args .t3) (c .before .before .before .before .before .loop .i) []) k)) (c .before .before .before .params-at .ensures)) ∙ not-true _ (c .if1 .taken)))
+returns c =
+    let args = c .before .before .before .before .before .before .before .args in
+    let loop = c .before .before .before .before .before .loop in
+    sym (one-fails _ _ (loop .i) (omega arith)
+    (sym (c .before .bytes-fine .ensures ∙ ap
+    (λ (k : ℕ). all-below 8 (byte-fine (getD (args .t3) (loop .i) []) k))
+    (c .before .before .before .params-at .ensures)) ∙ not-true _ (c .if1 .taken)))
 
 add-i : tie.Need-add-i Inv-loop μ-loop
 add-i c = omega arith
@@ -48,7 +55,15 @@ loop-less c = omega arith
 
 loop-again : tie.Need-loop-again Inv-loop μ-loop
 unfolding bytes-fine
-loop-again c = (omega arith, all-more _ _ (c .before .before .before .before .before .loop .inv .1) (sym (c .before .bytes-fine .ensures ∙ ap (λ (k : ℕ). all-below 8 (byte-fine (getD (c .before .before .before .before .before .before .before .args .t3) (c .before .before .before .before .before .loop .i) []) k)) (c .before .before .before .params-at .ensures)) ∙ not-false _ (c .if1 .left)))
+loop-again c =
+    let args = c .before .before .before .before .before .before .before .args in
+    let loop = c .before .before .before .before .before .loop in (
+      omega arith,
+      all-more _ _ (loop .inv .1)
+          (sym (c .before .bytes-fine .ensures ∙ ap
+          (λ (k : ℕ). all-below 8 (byte-fine (getD (args .t3) (loop .i) []) k))
+          (c .before .before .before .params-at .ensures)) ∙ not-false _ (c .if1 .left)),
+    )
 
 returns-2 : tie.Need-returns-2 Inv-loop μ-loop
 unfolding bytes-fine

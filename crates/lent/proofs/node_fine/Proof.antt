@@ -1,4 +1,5 @@
 -- `lent::node_fine` meets its contract. Assumes nothing.
+-- The row's words are read, and `shape_fine` is called on them: its contract is the answer.
 use borrow.Author.Needs.{needs}
 use Rattle.lent.specs.Tests.{node-fine}
 use Rattle.lent.proofs.node_fine.Statement.{statement}

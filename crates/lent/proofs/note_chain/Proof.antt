@@ -1,4 +1,5 @@
 -- `lent::note_chain` meets its contract. Assumes nothing.
+-- Invariant: what is noted is right (`Noted`), and from the current variable the chain has `left` bindings more (`Links`). A turn notes one length and goes one binding on.
 use mathlib.Core.Path.{_≡_, refl, ap, sym, _∙_}
 use Prim.Native.Nat.{_≤_}
 use native.Mathlib.Omega.{arith}
@@ -43,7 +44,10 @@ same-length-2 : tie.Need-same-length-2 Inv-loop μ-loop
 same-length-2 c = rw (c .before .before .before .before .before .note .ensures, length-set) (c .before .before .before .before .before .before .before .before .before .before .before .loop .inv .0)
 
 returns-2 : tie.Need-returns-2 Inv-loop μ-loop
-returns-2 c = rw (c .before .before .before .before .before .note .ensures) (noted-more _ _ _ _ _ (c .before .before .before .before .before .before .before .before .before .before .before .loop .inv .1 .0) (c .before .before .before .before .before .before .before .before .before .before .before .loop .inv .1 .1 .0) (c .before .before .before .before .before .before .before .before .before .before .before .loop .inv .1 .1 .1))
+returns-2 c =
+    let loop = c .before .before .before .before .before .before .before .before .before .before .before .loop in
+    let note = c .before .before .before .before .before .note in
+    rw (note .ensures) (noted-more _ _ _ _ _ (loop .inv .1 .0) (loop .inv .1 .1 .0) (loop .inv .1 .1 .1))
 
 enum-known-next : tie.Need-enum-known-next Inv-loop μ-loop
 enum-known-next c = search needs
@@ -55,7 +59,20 @@ loop-less : tie.Need-loop-less Inv-loop μ-loop
 loop-less c = omega arith
 
 loop-again : tie.Need-loop-again Inv-loop μ-loop
-loop-again c = (rw (c .before .before .before .before .before .before .note .ensures, length-set) (c .before .before .before .before .before .before .before .before .before .before .before .before .loop .inv .0), (rw (c .before .before .before .before .before .before .note .ensures) (noted-more _ _ _ _ _ (c .before .before .before .before .before .before .before .before .before .before .before .before .loop .inv .1 .0) (c .before .before .before .before .before .before .before .before .before .before .before .before .loop .inv .1 .1 .0) (c .before .before .before .before .before .before .before .before .before .before .before .before .loop .inv .1 .1 .1)), (omega arith, links-tail _ _ _ _ _ (c .before .before .before .before .before .before .before .before .before .before .before .before .loop .inv .1 .1 .1) (sym (c .before .before .before .next-at .ensures) ∙ ap next (c .before .next .given .1)) (omega arith))))
+loop-again c =
+    let loop = c .before .before .before .before .before .before .before .before .before .before .before .before .loop in
+    let note = c .before .before .before .before .before .before .note in (
+      rw (note .ensures, length-set) (loop .inv .0),
+      (
+        rw (note .ensures) (noted-more _ _ _ _ _ (loop .inv .1 .0) (loop .inv .1 .1 .0) (loop .inv .1 .1 .1)),
+        (
+          omega arith,
+          links-tail _ _ _ _ _ (loop .inv .1 .1 .1)
+              (sym (c .before .before .before .next-at .ensures) ∙ ap next (c .before .next .given .1))
+              (omega arith),
+        ),
+      ),
+    )
 
 same-length-3 : tie.Need-same-length-3 Inv-loop μ-loop
 same-length-3 c = c .before .loop .inv .0

@@ -1,4 +1,5 @@
 -- `lent::tails_fine` meets its contract. Assumes nothing.
+-- Five calls of `zeros`, joined: a return by the first that fails (`fails-l`, `fails-then`), the last one by `passes`.
 use mathlib.Core.Path.{sym, _∙_}
 use borrow.Author.Tests.{not-true, not-false}
 use borrow.Author.Needs.{needs}
@@ -50,7 +51,16 @@ zeros-requires-3 c κs = search needs
 
 returns-3 : tie.Need-returns-3
 unfolding tails-fine
-returns-3 c = sym (fails-l _ _ (fails-l _ _ (fails-then _ _ (both _ _ (sym (c .before .before .before .before .before .before .before .zeros .ensures) ∙ not-false _ (c .before .before .before .before .before .before .if1 .left)) (sym (c .before .before .before .before .zeros2 .ensures) ∙ not-false _ (c .before .before .before .if2 .left))) (sym (c .before .zeros3 .ensures) ∙ not-true _ (c .if3 .taken)))))
+returns-3 c =
+    let zeros = c .before .before .before .before .before .before .before .zeros in
+    let if1 = c .before .before .before .before .before .before .if1 in
+    sym (fails-l _ _
+    (fails-l _ _
+    (fails-then _ _
+    (both _ _ (sym (zeros .ensures) ∙ not-false _ (if1 .left))
+    (sym (c .before .before .before .before .zeros2 .ensures) ∙ not-false _
+    (c .before .before .before .if2 .left)))
+    (sym (c .before .zeros3 .ensures) ∙ not-true _ (c .if3 .taken)))))
 
 cast-zeros-4 : tie.Need-cast-zeros-4
 cast-zeros-4 c = search needs
@@ -66,7 +76,19 @@ zeros-requires-4 c κs = search needs
 
 returns-4 : tie.Need-returns-4
 unfolding tails-fine
-returns-4 c = sym (fails-l _ _ (fails-then _ _ (both _ _ (both _ _ (sym (c .before .before .before .before .before .before .before .before .before .before .zeros .ensures) ∙ not-false _ (c .before .before .before .before .before .before .before .before .before .if1 .left)) (sym (c .before .before .before .before .before .before .before .zeros2 .ensures) ∙ not-false _ (c .before .before .before .before .before .before .if2 .left))) (sym (c .before .before .before .before .zeros3 .ensures) ∙ not-false _ (c .before .before .before .if3 .left))) (sym (c .before .zeros4 .ensures) ∙ not-true _ (c .if4 .taken))))
+returns-4 c =
+    let zeros = c .before .before .before .before .before .before .before .before .before .before .zeros in
+    let if1 = c .before .before .before .before .before .before .before .before .before .if1 in
+    let zeros2 = c .before .before .before .before .before .before .before .zeros2 in
+    let if2 = c .before .before .before .before .before .before .if2 in
+    sym (fails-l _ _
+    (fails-then _ _
+    (both _ _
+    (both _ _ (sym (zeros .ensures) ∙ not-false _ (if1 .left))
+    (sym (zeros2 .ensures) ∙ not-false _ (if2 .left)))
+    (sym (c .before .before .before .before .zeros3 .ensures) ∙ not-false _
+    (c .before .before .before .if3 .left)))
+    (sym (c .before .zeros4 .ensures) ∙ not-true _ (c .if4 .taken))))
 
 cast-zeros-5 : tie.Need-cast-zeros-5
 cast-zeros-5 c = search needs
@@ -82,7 +104,20 @@ zeros-requires-5 c κs = search needs
 
 returns-5 : tie.Need-returns-5
 unfolding tails-fine
-returns-5 c = c .zeros5 .ensures ∙ passes _ _ (both _ _ (both _ _ (both _ _ (sym (c .before .before .before .before .before .before .before .before .before .before .before .before .zeros .ensures) ∙ not-false _ (c .before .before .before .before .before .before .before .before .before .before .before .if1 .left)) (sym (c .before .before .before .before .before .before .before .before .before .zeros2 .ensures) ∙ not-false _ (c .before .before .before .before .before .before .before .before .if2 .left))) (sym (c .before .before .before .before .before .before .zeros3 .ensures) ∙ not-false _ (c .before .before .before .before .before .if3 .left))) (sym (c .before .before .before .zeros4 .ensures) ∙ not-false _ (c .before .before .if4 .left)))
+returns-5 c =
+    let zeros = c .before .before .before .before .before .before .before .before .before .before .before .before .zeros in
+    let if1 = c .before .before .before .before .before .before .before .before .before .before .before .if1 in
+    let zeros2 = c .before .before .before .before .before .before .before .before .before .zeros2 in
+    let if2 = c .before .before .before .before .before .before .before .before .if2 in
+    let zeros3 = c .before .before .before .before .before .before .zeros3 in
+    let if3 = c .before .before .before .before .before .if3 in
+    c .zeros5 .ensures ∙ passes _ _
+    (both _ _
+    (both _ _
+    (both _ _ (sym (zeros .ensures) ∙ not-false _ (if1 .left))
+    (sym (zeros2 .ensures) ∙ not-false _ (if2 .left)))
+    (sym (zeros3 .ensures) ∙ not-false _ (if3 .left)))
+    (sym (c .before .before .before .zeros4 .ensures) ∙ not-false _ (c .before .before .if4 .left)))
 
 pub tails-fine-spec : {M : Type 1} → statement M
 tails-fine-spec =

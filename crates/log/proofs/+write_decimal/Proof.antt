@@ -1,4 +1,5 @@
 -- `log::write_decimal` meets its contract. Assumes nothing.
+-- By the number, which falls with a tenth of it. One digit is put alone; else the tenth is written first and the last digit put after it (`decimal-next`).
 use mathlib.Core.Path.{_≡_, ap, _∙_}
 use Rattle.log.proofs.Put.{wrote-length, wrote-more}
 use Rattle.log.proofs.Text.{decimal-one, decimal-next, decimal-room}
@@ -46,19 +47,42 @@ write-decimal-returns : (t : ℕ) → write-decimal-lts.Need-returns (write-deci
 write-decimal-returns t c = rw (decimal-one _ (c .before .before .before .before .before .if1 .taken), ← c .before .before .before .digit .ensures) (c .before .before .put-byte .ensures)
 
 write-decimal-write-decimal-requires : (t : ℕ) → write-decimal-lts.Need-write-decimal-requires (write-decimal-calls t) (write-decimal-at t) write-decimal.Post
-write-decimal-write-decimal-requires t c κs = let r = decimal-room (c .before .before .before .args .x) (c .before .before .before .args .at) (c .before .before .before .args .log .now) (omega arith) (omega arith) (c .before .before .before .pre .1) in (omega (arith, c .before .before .before .pre .0), omega arith)
+write-decimal-write-decimal-requires t c κs =
+    let args = c .before .before .before .args in
+    let pre = c .before .before .before .pre in
+    let r = decimal-room (args .x) (args .at) (args .log .now) (omega arith) (omega arith) (pre .1) in
+    (omega (arith, pre .0), omega arith)
 
 write-decimal-digit-requires-2 : (t : ℕ) → write-decimal-lts.Need-digit-requires-2 (write-decimal-calls t) (write-decimal-at t) write-decimal.Post
 write-decimal-digit-requires-2 t c κs = omega arith
 
 write-decimal-put-byte-requires-2 : (t : ℕ) → write-decimal-lts.Need-put-byte-requires-2 (write-decimal-calls t) (write-decimal-at t) write-decimal.Post
-write-decimal-put-byte-requires-2 t c κs = let r = decimal-room (c .before .before .before .before .before .before .before .before .args .x) (c .before .before .before .before .before .before .before .before .args .at) (c .before .before .before .before .before .before .before .before .args .log .now) (omega arith) (omega arith) (c .before .before .before .before .before .before .before .before .pre .1) in let l : length (c .before .before .before .before .write-decimal .last .1 .0) ≡ length (c .before .before .before .before .before .before .before .before .args .log .now) = wrote-length (c .before .before .before .before .before .before .before .before .args .log .now) (c .before .before .before .before .before .before .before .before .args .at) _ _ _ (omega arith) (c .before .before .before .before .write-decimal .ensures) in omega (arith, c .before .before .before .before .write-decimal .ensures .next-is)
+write-decimal-put-byte-requires-2 t c κs =
+    let args = c .before .before .before .before .before .before .before .before .args in
+    let pre = c .before .before .before .before .before .before .before .before .pre in
+    let write-decimal = c .before .before .before .before .write-decimal in
+    let r = decimal-room (args .x) (args .at) (args .log .now) (omega arith) (omega arith) (pre .1) in let l : length
+    (write-decimal .last .1 .0) ≡ length (args .log .now) = wrote-length (args .log .now) (args .at) _ _ _
+    (omega arith) (write-decimal .ensures) in omega (arith, write-decimal .ensures .next-is)
 
 write-decimal-same-length-2 : (t : ℕ) → write-decimal-lts.Need-same-length-2 (write-decimal-calls t) (write-decimal-at t) write-decimal.Post
-write-decimal-same-length-2 t c = let r = decimal-room (c .before .before .before .before .before .before .before .before .before .before .before .args .x) (c .before .before .before .before .before .before .before .before .before .before .before .args .at) (c .before .before .before .before .before .before .before .before .before .before .before .args .log .now) (omega arith) (omega arith) (c .before .before .before .before .before .before .before .before .before .before .before .pre .1) in let l : length (c .before .before .before .before .before .before .before .write-decimal .last .1 .0) ≡ length (c .before .before .before .before .before .before .before .before .before .before .before .args .log .now) = wrote-length (c .before .before .before .before .before .before .before .before .before .before .before .args .log .now) (c .before .before .before .before .before .before .before .before .before .before .before .args .at) _ _ _ (omega arith) (c .before .before .before .before .before .before .before .write-decimal .ensures) in wrote-length (c .before .before .before .before .before .before .before .write-decimal .last .1 .0) (c .before .before .before .before .before .before .before .write-decimal .result) _ _ _ (omega (arith, c .before .before .before .before .before .before .before .write-decimal .ensures .next-is)) (c .before .before .put-byte2 .ensures) ∙ l
+write-decimal-same-length-2 t c =
+    let args = c .before .before .before .before .before .before .before .before .before .before .before .args in
+    let pre = c .before .before .before .before .before .before .before .before .before .before .before .pre in
+    let write-decimal = c .before .before .before .before .before .before .before .write-decimal in
+    let r = decimal-room (args .x) (args .at) (args .log .now) (omega arith) (omega arith) (pre .1) in let l : length
+    (write-decimal .last .1 .0) ≡ length (args .log .now) = wrote-length (args .log .now) (args .at) _ _ _
+    (omega arith) (write-decimal .ensures) in wrote-length (write-decimal .last .1 .0) (write-decimal .result) _ _ _
+    (omega (arith, write-decimal .ensures .next-is)) (c .before .before .put-byte2 .ensures) ∙ l
 
 write-decimal-returns-2 : (t : ℕ) → write-decimal-lts.Need-returns-2 (write-decimal-calls t) (write-decimal-at t) write-decimal.Post
-write-decimal-returns-2 t c = let r = decimal-room (c .before .before .before .before .before .before .before .before .before .before .before .args .x) (c .before .before .before .before .before .before .before .before .before .before .before .args .at) (c .before .before .before .before .before .before .before .before .before .before .before .args .log .now) (omega arith) (omega arith) (c .before .before .before .before .before .before .before .before .before .before .before .pre .1) in rw (decimal-next (c .before .before .before .before .before .before .before .before .before .before .before .args .x) (omega arith) (omega arith), ← c .before .before .before .digit2 .ensures) (wrote-more _ _ _ _ _ _ _ _ (omega arith) (c .before .before .before .before .before .before .before .write-decimal .ensures) (c .before .before .put-byte2 .ensures))
+write-decimal-returns-2 t c =
+    let args = c .before .before .before .before .before .before .before .before .before .before .before .args in
+    let pre = c .before .before .before .before .before .before .before .before .before .before .before .pre in
+    let write-decimal = c .before .before .before .before .before .before .before .write-decimal in
+    let r = decimal-room (args .x) (args .at) (args .log .now) (omega arith) (omega arith) (pre .1) in
+    rw (decimal-next (args .x) (omega arith) (omega arith), ← c .before .before .before .digit2 .ensures)
+    (wrote-more _ _ _ _ _ _ _ _ (omega arith) (write-decimal .ensures) (c .before .before .put-byte2 .ensures))
 
 pub +write-decimal-spec : {M : Type 1} → statement M
 +write-decimal-spec = close μ-write-decimal λ t. write-decimal-lts.spec (write-decimal-calls t) (write-decimal-at t) write-decimal.Post

@@ -1,4 +1,5 @@
 -- `log::write_hex` meets its contract. Assumes nothing.
+-- Invariant `Hexing`: two digits for each of the first k bytes stand in the log. A turn puts two more.
 use lib.ListN.{length}
 use mathlib.Core.Path.{_≡_}
 use Rattle.log.proofs.Put.{wrote-length}
@@ -24,13 +25,26 @@ hex-digit-requires : tie.Need-hex-digit-requires Inv-loop μ-loop
 hex-digit-requires c κs = omega (arith, c .before .shared-slice-known2 .given (c .before .before .before .loop .k))
 
 put-byte-requires : tie.Need-put-byte-requires Inv-loop μ-loop
-put-byte-requires c κs = let r = hex-room (c .before .before .before .before .before .before .before .args .payload .now) (c .before .before .before .before .before .before .before .args .len) (c .before .before .before .before .before .before .before .args .log .now) (c .before .before .before .before .before .before .before .args .at) (c .before .before .before .before .before .before .before .pre .0) (c .before .before .before .before .before .before .before .pre .1) in omega (arith, c .before .before .before .before .loop .inv .size, c .before .before .before .before .loop .inv .next-is)
+put-byte-requires c κs =
+    let args = c .before .before .before .before .before .before .before .args in
+    let pre = c .before .before .before .before .before .before .before .pre in
+    let loop = c .before .before .before .before .loop in
+    let r = hex-room (args .payload .now) (args .len) (args .log .now) (args .at) (pre .0) (pre .1) in
+    omega (arith, loop .inv .size, loop .inv .next-is)
 
 hex-digit-requires-2 : tie.Need-hex-digit-requires-2 Inv-loop μ-loop
 hex-digit-requires-2 c κs = omega arith
 
 put-byte-requires-2 : tie.Need-put-byte-requires-2 Inv-loop μ-loop
-put-byte-requires-2 c κs = let r = hex-room (c .before .before .before .before .before .before .before .before .before .before .before .before .args .payload .now) (c .before .before .before .before .before .before .before .before .before .before .before .before .args .len) (c .before .before .before .before .before .before .before .before .before .before .before .before .args .log .now) (c .before .before .before .before .before .before .before .before .before .before .before .before .args .at) (c .before .before .before .before .before .before .before .before .before .before .before .before .pre .0) (c .before .before .before .before .before .before .before .before .before .before .before .before .pre .1) in let l : length (c .before .before .before .before .put-byte .last .0) ≡ length (c .before .before .before .before .before .before .before .before .before .loop .log) = wrote-length (c .before .before .before .before .before .before .before .before .before .loop .log) (c .before .before .before .before .before .before .before .before .before .loop .next) _ _ _ (omega (arith, c .before .before .before .before .before .before .before .before .before .loop .inv .size, c .before .before .before .before .before .before .before .before .before .loop .inv .next-is)) (c .before .before .before .before .put-byte .ensures) in omega (arith, c .before .before .before .before .before .before .before .before .before .loop .inv .size, c .before .before .before .before .before .before .before .before .before .loop .inv .next-is, c .before .before .before .before .put-byte .ensures .next-is)
+put-byte-requires-2 c κs =
+    let args = c .before .before .before .before .before .before .before .before .before .before .before .before .args in
+    let pre = c .before .before .before .before .before .before .before .before .before .before .before .before .pre in
+    let loop = c .before .before .before .before .before .before .before .before .before .loop in
+    let put-byte = c .before .before .before .before .put-byte in
+    let r = hex-room (args .payload .now) (args .len) (args .log .now) (args .at) (pre .0) (pre .1) in let l : length
+    (put-byte .last .0) ≡ length (loop .log) = wrote-length (loop .log) (loop .next) _ _ _
+    (omega (arith, loop .inv .size, loop .inv .next-is)) (put-byte .ensures) in
+    omega (arith, loop .inv .size, loop .inv .next-is, put-byte .ensures .next-is)
 
 add-k : tie.Need-add-k Inv-loop μ-loop
 add-k c = omega arith
@@ -39,7 +53,14 @@ loop-less : tie.Need-loop-less Inv-loop μ-loop
 loop-less c = omega arith
 
 loop-again : tie.Need-loop-again Inv-loop μ-loop
-loop-again c = hex-more _ _ _ _ (c .before .before .before .before .before .before .before .before .before .before .before .before .before .before .before .pre .0) (c .before .before .before .before .before .before .before .before .before .before .before .before .before .before .before .pre .1) _ _ _ _ _ _ _ _ _ (c .before .before .before .before .before .before .before .before .before .before .before .before .loop .inv) (c .before .before .before .before .before .before .before .before .before .before .before .loop-test .taken) (c .before .before .before .before .before .before .before .before .hex-digit .ensures) (c .before .before .before .hex-digit2 .ensures) (c .before .before .before .before .before .before .before .put-byte .ensures) (c .before .before .put-byte2 .ensures)
+loop-again c =
+    let pre = c .before .before .before .before .before .before .before .before .before .before .before .before .before .before .before .pre in
+    let loop = c .before .before .before .before .before .before .before .before .before .before .before .before .loop in
+    let loop-test = c .before .before .before .before .before .before .before .before .before .before .before .loop-test in
+    let hex-digit = c .before .before .before .before .before .before .before .before .hex-digit in
+    let put-byte = c .before .before .before .before .before .before .before .put-byte in
+    hex-more _ _ _ _ (pre .0) (pre .1) _ _ _ _ _ _ _ _ _ (loop .inv) (loop-test .taken) (hex-digit .ensures)
+    (c .before .before .before .hex-digit2 .ensures) (put-byte .ensures) (c .before .before .put-byte2 .ensures)
 
 same-length : tie.Need-same-length Inv-loop μ-loop
 same-length c = c .before .loop .inv .size

@@ -12,16 +12,35 @@ returns : tie.Need-returns
 returns c = rw (no-payload (take (c .before .before .before .args .len) (c .before .before .before .args .payload .now)) (length-take-le _ _ (c .before .before .before .pre .0) ∙ c .if1 .taken)) (wrote-none _ _)
 
 put-byte-requires : tie.Need-put-byte-requires
-put-byte-requires c κs = payload-space (take (c .before .before .before .before .args .len) (c .before .before .before .before .args .payload .now)) (c .before .before .before .before .args .log .now) (c .before .before .before .before .args .at) (λ e. c .before .if1 .left (sym (length-take-le _ _ (c .before .before .before .before .pre .0)) ∙ e)) (c .before .before .before .before .pre .1)
+put-byte-requires c κs =
+    let args = c .before .before .before .before .args in
+    let pre = c .before .before .before .before .pre in
+    payload-space (take (args .len) (args .payload .now)) (args .log .now) (args .at)
+    (λ e. c .before .if1 .left (sym (length-take-le _ _ (pre .0)) ∙ e)) (pre .1)
 
 write-hex-requires : tie.Need-write-hex-requires
-write-hex-requires c κs = (c .before .before .before .before .before .before .before .before .pre .0, payload-rest (take (c .before .before .before .before .before .before .before .before .args .len) (c .before .before .before .before .before .before .before .before .args .payload .now)) (c .before .before .before .before .before .before .before .before .args .log .now) (c .before .before .before .before .before .before .before .before .args .at) (λ e. c .before .before .before .before .before .if1 .left (sym (length-take-le _ _ (c .before .before .before .before .before .before .before .before .pre .0)) ∙ e)) (c .before .before .before .before .before .before .before .before .pre .1) _ _ (c .before .before .before .put-byte .ensures))
+write-hex-requires c κs =
+    let args = c .before .before .before .before .before .before .before .before .args in
+    let pre = c .before .before .before .before .before .before .before .before .pre in
+    let if1 = c .before .before .before .before .before .if1 in (
+      pre .0,
+      payload-rest (take (args .len) (args .payload .now)) (args .log .now) (args .at)
+          (λ e. if1 .left (sym (length-take-le _ _ (pre .0)) ∙ e)) (pre .1) _ _
+          (c .before .before .before .put-byte .ensures),
+    )
 
 same-length : tie.Need-same-length
 same-length c = search needs
 
 returns-2 : tie.Need-returns-2
-returns-2 c = wrote-payload (take (c .before .before .before .before .before .before .before .before .before .before .before .args .len) (c .before .before .before .before .before .before .before .before .before .before .before .args .payload .now)) (c .before .before .before .before .before .before .before .before .before .before .before .args .log .now) (c .before .before .before .before .before .before .before .before .before .before .before .args .at) (λ e. c .before .before .before .before .before .before .before .before .if1 .left (sym (length-take-le _ _ (c .before .before .before .before .before .before .before .before .before .before .before .pre .0)) ∙ e)) (c .before .before .before .before .before .before .before .before .before .before .before .pre .1) _ _ (c .before .before .before .before .before .before .put-byte .ensures) _ _ (c .before .before .write-hex .ensures)
+returns-2 c =
+    let args = c .before .before .before .before .before .before .before .before .before .before .before .args in
+    let pre = c .before .before .before .before .before .before .before .before .before .before .before .pre in
+    let if1 = c .before .before .before .before .before .before .before .before .if1 in
+    let put-byte = c .before .before .before .before .before .before .put-byte in
+    wrote-payload (take (args .len) (args .payload .now)) (args .log .now) (args .at)
+    (λ e. if1 .left (sym (length-take-le _ _ (pre .0)) ∙ e)) (pre .1) _ _ (put-byte .ensures) _ _
+    (c .before .before .write-hex .ensures)
 
 pub write-payload-spec : {M : Type 1} → statement M
 write-payload-spec =

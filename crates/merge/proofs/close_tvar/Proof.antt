@@ -38,25 +38,50 @@ same-length : tie.Need-same-length
 same-length c = search needs
 
 returns : tie.Need-returns
-returns c = after-now _ _ _ _ (c .before .before .before .before .before .before .before .before .pre .0) tt (λ ds. close-bound _ _ _ _ _ _ _ _ _ _ (c .node-at .result) (sym (ap found (c .before .before .before .t .given .1)) ∙ c .before .before .before .before .before .bound-at .ensures ds) (c .node-at .ensures ds))
+returns c =
+    let pre = c .before .before .before .before .before .before .before .before .pre in
+    let bound-at = c .before .before .before .before .before .bound-at in
+    after-now _ _ _ _ (pre .0) tt
+    (λ ds. close-bound _ _ _ _ _ _ _ _ _ _ (c .node-at .result)
+    (sym (ap found (c .before .before .before .t .given .1)) ∙ bound-at .ensures ds)
+    (c .node-at .ensures ds))
 
 same-length-2 : tie.Need-same-length-2
 same-length-2 c = search needs
 
 returns-2 : tie.Need-returns-2
-returns-2 c = bound-after _ _ _ _ _ _ _ _ (c .before .before .before .before .join-bind-tvar .ensures) (c .before .before .before .before .before .before .before .before .before .before .before .pre .1 .1 .1 .0) (λ ds. close-done _ _ _ _ _ _ _ _ _ _ _ (sym (ap found (c .before .before .before .before .before .before .enum-told .given .1)) ∙ c .before .before .before .before .before .before .before .before .bound-at .ensures ds) (c .before .before .before .before .join-bind-tvar .ensures .is ds _) (c .enum-told2 .given .1))
+returns-2 c =
+    let pre = c .before .before .before .before .before .before .before .before .before .before .before .pre in
+    let bound-at = c .before .before .before .before .before .before .before .before .bound-at in
+    let enum-told = c .before .before .before .before .before .before .enum-told in
+    let join-bind-tvar = c .before .before .before .before .join-bind-tvar in
+    bound-after _ _ _ _ _ _ _ _ (join-bind-tvar .ensures) (pre .1 .1 .1 .0)
+    (λ ds. close-done _ _ _ _ _ _ _ _ _ _ _ (sym (ap found (enum-told .given .1)) ∙ bound-at .ensures ds)
+    (join-bind-tvar .ensures .is ds _) (c .enum-told2 .given .1))
 
 same-length-3 : tie.Need-same-length-3
 same-length-3 c = search needs
 
 returns-3 : tie.Need-returns-3
-returns-3 c = bound-then _ _ _ _ _ _ _ _ _ _ (c .before .before .before .before .before .before .before .before .join-bind-tvar .ensures) (c .before .before .show-both .ensures) (λ ds. close-failed _ _ _ _ _ _ _ _ _ _ _ (sym (ap found (c .before .before .before .before .before .before .before .before .before .before .enum-told .given .1)) ∙ c .before .before .before .before .before .before .before .before .before .before .before .before .bound-at .ensures ds) (c .before .before .before .before .before .before .before .before .join-bind-tvar .ensures .is ds _) (c .before .before .before .before .enum-told3 .given .1))
+returns-3 c =
+    let bound-at = c .before .before .before .before .before .before .before .before .before .before .before .before .bound-at in
+    let enum-told = c .before .before .before .before .before .before .before .before .before .before .enum-told in
+    let join-bind-tvar = c .before .before .before .before .before .before .before .before .join-bind-tvar in
+    bound-then _ _ _ _ _ _ _ _ _ _ (join-bind-tvar .ensures) (c .before .before .show-both .ensures)
+    (λ ds. close-failed _ _ _ _ _ _ _ _ _ _ _ (sym (ap found (enum-told .given .1)) ∙ bound-at .ensures ds)
+    (join-bind-tvar .ensures .is ds _) (c .before .before .before .before .enum-told3 .given .1))
 
 same-length-4 : tie.Need-same-length-4
 same-length-4 c = search needs
 
 returns-4 : tie.Need-returns-4
-returns-4 c = bound-after _ _ _ _ _ _ _ _ (c .before .before .before .before .join-bind-tvar .ensures) tt (λ ds. close-recursive _ _ _ _ _ _ _ _ _ _ _ (sym (ap found (c .before .before .before .before .before .before .enum-told .given .1)) ∙ c .before .before .before .before .before .before .before .before .bound-at .ensures ds) (c .before .before .before .before .join-bind-tvar .ensures .is ds _) (c .enum-told4 .given .1))
+returns-4 c =
+    let bound-at = c .before .before .before .before .before .before .before .before .bound-at in
+    let enum-told = c .before .before .before .before .before .before .enum-told in
+    let join-bind-tvar = c .before .before .before .before .join-bind-tvar in
+    bound-after _ _ _ _ _ _ _ _ (join-bind-tvar .ensures) tt
+    (λ ds. close-recursive _ _ _ _ _ _ _ _ _ _ _ (sym (ap found (enum-told .given .1)) ∙ bound-at .ensures ds)
+    (join-bind-tvar .ensures .is ds _) (c .enum-told4 .given .1))
 
 pub close-tvar-spec : {M : Type 1} → statement M
 close-tvar-spec =

@@ -23,19 +23,36 @@ same-length : tie.Need-same-length
 same-length c = search needs
 
 returns : tie.Need-returns
-returns c = bound-after _ _ _ _ _ _ _ _ (c .before .before .before .before .join-bind-tvar .ensures) (c .before .before .before .before .before .before .before .before .before .pre .1 .1 .1 .0) (λ ds. unbound-done _ _ _ _ _ _ _ (c .before .before .before .before .before .before .node-at .result) _ (c .before .before .before .before .before .before .node-at .ensures ds) (λ loc. c .before .before .before .before .join-bind-tvar .ensures .is ds loc) (c .enum-told .given .1))
+returns c =
+    let pre = c .before .before .before .before .before .before .before .before .before .pre in
+    let node-at = c .before .before .before .before .before .before .node-at in
+    let join-bind-tvar = c .before .before .before .before .join-bind-tvar in
+    bound-after _ _ _ _ _ _ _ _ (join-bind-tvar .ensures) (pre .1 .1 .1 .0)
+    (λ ds. unbound-done _ _ _ _ _ _ _ (node-at .result) _ (node-at .ensures ds)
+    (λ loc. join-bind-tvar .ensures .is ds loc) (c .enum-told .given .1))
 
 same-length-2 : tie.Need-same-length-2
 same-length-2 c = search needs
 
 returns-2 : tie.Need-returns-2
-returns-2 c = bound-after _ _ _ _ _ _ _ _ (c .before .before .before .before .join-bind-tvar .ensures) (c .before .before .before .before .before .before .before .before .before .pre .1 .0, c .before .before .before .before .before .before .before .before .before .pre .1 .1 .0) (λ ds. unbound-failed _ _ _ _ _ _ _ (c .before .before .before .before .before .before .node-at .result) _ (c .before .before .before .before .before .before .node-at .ensures ds) (λ loc. c .before .before .before .before .join-bind-tvar .ensures .is ds loc) (c .enum-told2 .given .1))
+returns-2 c =
+    let pre = c .before .before .before .before .before .before .before .before .before .pre in
+    let node-at = c .before .before .before .before .before .before .node-at in
+    let join-bind-tvar = c .before .before .before .before .join-bind-tvar in
+    bound-after _ _ _ _ _ _ _ _ (join-bind-tvar .ensures) (pre .1 .0, pre .1 .1 .0)
+    (λ ds. unbound-failed _ _ _ _ _ _ _ (node-at .result) _ (node-at .ensures ds)
+    (λ loc. join-bind-tvar .ensures .is ds loc) (c .enum-told2 .given .1))
 
 same-length-3 : tie.Need-same-length-3
 same-length-3 c = search needs
 
 returns-3 : tie.Need-returns-3
-returns-3 c = bound-after _ _ _ _ _ _ _ _ (c .before .before .before .before .join-bind-tvar .ensures) tt (λ ds. unbound-recursive _ _ _ _ _ _ _ (c .before .before .before .before .before .before .node-at .result) _ (c .before .before .before .before .before .before .node-at .ensures ds) (λ loc. c .before .before .before .before .join-bind-tvar .ensures .is ds loc) (c .enum-told3 .given .1))
+returns-3 c =
+    let node-at = c .before .before .before .before .before .before .node-at in
+    let join-bind-tvar = c .before .before .before .before .join-bind-tvar in
+    bound-after _ _ _ _ _ _ _ _ (join-bind-tvar .ensures) tt
+    (λ ds. unbound-recursive _ _ _ _ _ _ _ (node-at .result) _ (node-at .ensures ds)
+    (λ loc. join-bind-tvar .ensures .is ds loc) (c .enum-told3 .given .1))
 
 pub join-unbound-spec : {M : Type 1} → statement M
 join-unbound-spec =

@@ -30,10 +30,16 @@ enum-known-n : tie.Need-enum-known-n
 enum-known-n c = search needs
 
 tvar-requires : tie.Need-tvar-requires
-tvar-requires c κs = var-small _ _ (c .before .before .before .before .before .before .before .take-var .result .out) _ _ (c .before .before .before .before .before .before .before .take-var .ensures .0 .lay) (c .before .before .before .before .before .before .before .take-var .ensures .1) (c .before .before .before .done-of .ensures) (c .before .n .given .1)
+tvar-requires c κs =
+    let take-var = c .before .before .before .before .before .before .before .take-var in
+    var-small _ _ (take-var .result .out) _ _ (take-var .ensures .0 .lay) (take-var .ensures .1)
+    (c .before .before .before .done-of .ensures) (c .before .n .given .1)
 
 bind-var-requires : tie.Need-bind-var-requires
-bind-var-requires c κs = (c .before .before .before .before .before .before .before .before .before .take-var .ensures .0 .lay, still-in _ _ _ _ _ (c .before .before .before .before .before .before .before .before .before .take-var .ensures .0 .grown) (c .before .before .before .before .before .before .before .before .before .before .before .before .before .before .before .before .pre .1 .1 .1 .1))
+bind-var-requires c κs =
+    let pre = c .before .before .before .before .before .before .before .before .before .before .before .before .before .before .before .before .pre in
+    let take-var = c .before .before .before .before .before .before .before .before .before .take-var in
+    (take-var .ensures .0 .lay, still-in _ _ _ _ _ (take-var .ensures .0 .grown) (pre .1 .1 .1 .1))
 
 same-length : tie.Need-same-length
 same-length c = search needs
@@ -45,13 +51,26 @@ same-length-2 : tie.Need-same-length-2
 same-length-2 c = search needs
 
 returns-2 : tie.Need-returns-2
-returns-2 c = meets-stop _ _ _ _ _ _ _ _ (c .before .before .before .before .before .before .before .before .before .before .bound-at .ensures) _ (c .before .before .before .before .before .before .before .before .enum-told2 .given .1) _ _ (c .before .before .before .before .before .before .take-var .ensures .0) _ (c .before .before .done-of .ensures) (c .enum-told3 .given .1)
+returns-2 c =
+    let bound-at = c .before .before .before .before .before .before .before .before .before .before .bound-at in
+    let enum-told2 = c .before .before .before .before .before .before .before .before .enum-told2 in
+    let take-var = c .before .before .before .before .before .before .take-var in
+    meets-stop _ _ _ _ _ _ _ _ (bound-at .ensures) _ (enum-told2 .given .1) _ _ (take-var .ensures .0) _
+    (c .before .before .done-of .ensures) (c .enum-told3 .given .1)
 
 same-length-3 : tie.Need-same-length-3
 same-length-3 c = search needs
 
 returns-3 : tie.Need-returns-3
-returns-3 c = meets-fresh _ _ _ _ _ _ _ _ (c .before .before .before .before .before .before .before .before .before .before .before .before .before .before .before .before .bound-at .ensures) _ (c .before .before .before .before .before .before .before .before .before .before .before .before .before .before .enum-told2 .given .1) _ _ (c .before .before .before .before .before .before .before .before .before .before .before .before .take-var .ensures .0) _ (c .before .before .before .before .before .before .before .before .done-of .ensures) _ _ _ (c .before .before .before .before .before .before .n .given .1) (c .before .before .before .before .tvar .ensures) (c .before .before .bind-var .ensures)
+returns-3 c =
+    let bound-at = c .before .before .before .before .before .before .before .before .before .before .before .before .before .before .before .before .bound-at in
+    let enum-told2 = c .before .before .before .before .before .before .before .before .before .before .before .before .before .before .enum-told2 in
+    let take-var = c .before .before .before .before .before .before .before .before .before .before .before .before .take-var in
+    let done-of = c .before .before .before .before .before .before .before .before .done-of in
+    let n = c .before .before .before .before .before .before .n in
+    meets-fresh _ _ _ _ _ _ _ _ (bound-at .ensures) _ (enum-told2 .given .1) _ _ (take-var .ensures .0) _
+    (done-of .ensures) _ _ _ (n .given .1) (c .before .before .before .before .tvar .ensures)
+    (c .before .before .bind-var .ensures)
 
 pub meet-tvar-spec : {M : Type 1} → statement M
 meet-tvar-spec =

@@ -25,7 +25,10 @@ returns : tie.Need-returns
 returns c = ends-no-var _ _ _ _ _ _ _ _ _ _ _ _ _ (c .before .before .before .before .before .before .take-var .ensures .0) (c .before .before .done-of .ensures) (c .enum-told .given .1)
 
 tvar-requires : tie.Need-tvar-requires
-tvar-requires c κs = var-small _ _ (c .before .before .before .before .before .before .before .take-var .result .out) _ _ (c .before .before .before .before .before .before .before .take-var .ensures .0 .lay) (c .before .before .before .before .before .before .before .take-var .ensures .1) (c .before .before .before .done-of .ensures) (c .before .n .given .1)
+tvar-requires c κs =
+    let take-var = c .before .before .before .before .before .before .before .take-var in
+    var-small _ _ (take-var .result .out) _ _ (take-var .ensures .0 .lay) (take-var .ensures .1)
+    (c .before .before .before .done-of .ensures) (c .before .n .given .1)
 
 merge-num-requires : tie.Need-merge-num-requires
 merge-num-requires c κs = search needs
@@ -46,7 +49,16 @@ same-length-2 : tie.Need-same-length-2
 same-length-2 c = search needs
 
 returns-2 : tie.Need-returns-2
-returns-2 c = ends-no-node _ _ _ _ _ _ _ _ _ _ _ _ _ (c .before .before .before .before .before .before .before .before .before .before .before .before .before .before .before .before .before .before .before .before .take-var .ensures .0) (c .before .before .before .before .before .before .before .before .before .before .before .before .before .before .before .before .done-of .ensures) _ _ (c .before .before .before .before .before .before .before .before .before .before .before .before .before .before .n .given .1) (c .before .before .before .before .before .before .before .before .before .before .before .before .tvar .ensures) _ (c .before .before .before .before .before .before .before .before .before .before .merge-num .ensures) _ _ _ (c .before .before .before .before .before .before .push-node .ensures) (c .before .before .done-of2 .ensures) (c .enum-told2 .given .1)
+returns-2 c =
+    let c12 = c .before .before .before .before .before .before .before .before .before .before .before .before in
+    let take-var = c12 .before .before .before .before .before .before .before .before .take-var in
+    let done-of = c12 .before .before .before .before .done-of in
+    let n = c12 .before .before .n in
+    let tvar = c12 .tvar in
+    let merge-num = c .before .before .before .before .before .before .before .before .before .before .merge-num in
+    let push-node = c .before .before .before .before .before .before .push-node in
+    ends-no-node _ _ _ _ _ _ _ _ _ _ _ _ _ (take-var .ensures .0) (done-of .ensures) _ _ (n .given .1) (tvar .ensures) _
+    (merge-num .ensures) _ _ _ (push-node .ensures) (c .before .before .done-of2 .ensures) (c .enum-told2 .given .1)
 
 push-node-requires-2 : tie.Need-push-node-requires-2
 push-node-requires-2 c κs = search needs
@@ -61,22 +73,81 @@ enum-told-3 : tie.Need-enum-told-3
 enum-told-3 c = search needs
 
 same-length-3 : tie.Need-same-length-3
-same-length-3 c = c .before .before .before .before .before .before .push-node2 .ensures .changed .lay .size ∙ sym (c .before .before .before .before .before .before .before .before .before .before .before .before .before .before .before .before .before .before .before .before .before .before .before .before .before .before .before .before .before .before .before .before .pre .0 .size)
+same-length-3 c =
+    let c12 = c .before .before .before .before .before .before .before .before .before .before .before .before in
+    let c24 = c12 .before .before .before .before .before .before .before .before .before .before .before .before in
+    let pre = c24 .before .before .before .before .before .before .before .before .pre in
+    let push-node2 = c .before .before .before .before .before .before .push-node2 in
+    push-node2 .ensures .changed .lay .size ∙ sym (pre .0 .size)
 
 returns-3 : tie.Need-returns-3
-returns-3 c = ends-no-second _ _ _ _ _ _ _ _ _ _ _ _ _ (c .before .before .before .before .before .before .before .before .before .before .before .before .before .before .before .before .before .before .before .before .before .before .before .before .before .before .before .before .before .take-var .ensures .0) (c .before .before .before .before .before .before .before .before .before .before .before .before .before .before .before .before .before .before .before .before .before .before .before .before .before .done-of .ensures) _ _ (c .before .before .before .before .before .before .before .before .before .before .before .before .before .before .before .before .before .before .before .before .before .before .before .n .given .1) (c .before .before .before .before .before .before .before .before .before .before .before .before .before .before .before .before .before .before .before .before .before .tvar .ensures) _ (c .before .before .before .before .before .before .before .before .before .before .before .before .before .before .before .before .before .before .before .merge-num .ensures) _ _ _ (c .before .before .before .before .before .before .before .before .before .before .before .before .before .before .before .push-node .ensures) (c .before .before .before .before .before .before .before .before .before .before .before .done-of2 .ensures) _ (c .before .before .before .before .before .before .before .before .before .var1 .given .1) _ _ _ (c .before .before .before .before .before .before .push-node2 .ensures) (c .before .before .done-of3 .ensures) (c .enum-told3 .given .1)
+returns-3 c =
+    let c12 = c .before .before .before .before .before .before .before .before .before .before .before .before in
+    let c24 = c12 .before .before .before .before .before .before .before .before .before .before .before .before in
+    let take-var = c24 .before .before .before .before .before .take-var in
+    let done-of = c24 .before .done-of in
+    let n = c12 .before .before .before .before .before .before .before .before .before .before .before .n in
+    let tvar = c12 .before .before .before .before .before .before .before .before .before .tvar in
+    let merge-num = c12 .before .before .before .before .before .before .before .merge-num in
+    let push-node = c12 .before .before .before .push-node in
+    let done-of2 = c .before .before .before .before .before .before .before .before .before .before .before .done-of2 in
+    let var1 = c .before .before .before .before .before .before .before .before .before .var1 in
+    let push-node2 = c .before .before .before .before .before .before .push-node2 in
+    ends-no-second _ _ _ _ _ _ _ _ _ _ _ _ _ (take-var .ensures .0) (done-of .ensures) _ _ (n .given .1) (tvar .ensures)
+    _ (merge-num .ensures) _ _ _ (push-node .ensures) (done-of2 .ensures) _ (var1 .given .1) _ _ _
+    (push-node2 .ensures) (c .before .before .done-of3 .ensures) (c .enum-told3 .given .1)
 
 bind-var-requires : tie.Need-bind-var-requires
-bind-var-requires c κs = (c .before .before .before .before .before .before .before .before .push-node2 .ensures .changed .lay, still-in _ _ _ _ _ (c .before .before .before .before .before .before .before .before .push-node2 .ensures .changed .grown) (node-in _ (c .before .before .before .before .before .before .before .before .before .before .before .before .before .before .before .before .before .push-node .result .out) _ _ (c .before .before .before .before .before .before .before .before .before .before .before .before .before .before .before .before .before .push-node .ensures .inside) (c .before .before .before .before .before .before .before .before .before .before .before .before .before .done-of2 .ensures) (c .before .before .before .before .before .before .before .before .before .before .before .var1 .given .1)))
+bind-var-requires c κs =
+    let c12 = c .before .before .before .before .before .before .before .before .before .before .before .before in
+    let push-node = c12 .before .before .before .before .before .push-node in
+    let done-of2 = c12 .before .done-of2 in
+    let var1 = c .before .before .before .before .before .before .before .before .before .before .before .var1 in
+    let push-node2 = c .before .before .before .before .before .before .before .before .push-node2 in (
+      push-node2 .ensures .changed .lay,
+      still-in _ _ _ _ _ (push-node2 .ensures .changed .grown)
+          (node-in _ (push-node .result .out) _ _ (push-node .ensures .inside) (done-of2 .ensures) (var1 .given .1)),
+    )
 
 bind-var-requires-2 : tie.Need-bind-var-requires-2
-bind-var-requires-2 c κs = (c .before .before .before .bind-var .ensures .lay, node-in _ (c .before .before .before .before .before .before .before .before .before .before .before .before .push-node2 .result .out) _ _ (c .before .before .before .before .before .before .before .before .before .before .before .before .push-node2 .ensures .inside) (c .before .before .before .before .before .before .before .before .done-of3 .ensures) (c .before .before .before .before .before .before .var2 .given .1))
+bind-var-requires-2 c κs =
+    let push-node2 = c .before .before .before .before .before .before .before .before .before .before .before .before .push-node2 in
+    let done-of3 = c .before .before .before .before .before .before .before .before .done-of3 in
+    let var2 = c .before .before .before .before .before .before .var2 in (
+      c .before .before .before .bind-var .ensures .lay,
+      node-in _ (push-node2 .result .out) _ _ (push-node2 .ensures .inside) (done-of3 .ensures) (var2 .given .1),
+    )
 
 same-length-4 : tie.Need-same-length-4
-same-length-4 c = c .before .before .bind-var2 .ensures .lay .size ∙ sym (c .before .before .before .before .before .before .before .before .before .before .before .before .before .before .before .before .before .before .before .before .before .before .before .before .before .before .before .before .before .before .before .before .before .before .before .before .before .before .before .before .before .pre .0 .size)
+same-length-4 c =
+    let c12 = c .before .before .before .before .before .before .before .before .before .before .before .before in
+    let c24 = c12 .before .before .before .before .before .before .before .before .before .before .before .before in
+    let c36 = c24 .before .before .before .before .before .before .before .before .before .before .before .before in
+    let pre = c36 .before .before .before .before .before .pre in
+    c .before .before .bind-var2 .ensures .lay .size ∙ sym (pre .0 .size)
 
 returns-4 : tie.Need-returns-4
-returns-4 c = ends-ready _ _ _ _ _ _ _ _ _ _ _ _ _ (c .before .before .before .before .before .before .before .before .before .before .before .before .before .before .before .before .before .before .before .before .before .before .before .before .before .before .before .before .before .before .before .before .before .before .before .before .before .before .take-var .ensures .0) (c .before .before .before .before .before .before .before .before .before .before .before .before .before .before .before .before .before .before .before .before .before .before .before .before .before .before .before .before .before .before .before .before .before .before .done-of .ensures) _ _ (c .before .before .before .before .before .before .before .before .before .before .before .before .before .before .before .before .before .before .before .before .before .before .before .before .before .before .before .before .before .before .before .before .n .given .1) (c .before .before .before .before .before .before .before .before .before .before .before .before .before .before .before .before .before .before .before .before .before .before .before .before .before .before .before .before .before .before .tvar .ensures) _ (c .before .before .before .before .before .before .before .before .before .before .before .before .before .before .before .before .before .before .before .before .before .before .before .before .before .before .before .before .merge-num .ensures) _ _ _ (c .before .before .before .before .before .before .before .before .before .before .before .before .before .before .before .before .before .before .before .before .before .before .before .before .push-node .ensures) (c .before .before .before .before .before .before .before .before .before .before .before .before .before .before .before .before .before .before .before .before .done-of2 .ensures) _ (c .before .before .before .before .before .before .before .before .before .before .before .before .before .before .before .before .before .before .var1 .given .1) _ _ _ (c .before .before .before .before .before .before .before .before .before .before .before .before .before .before .before .push-node2 .ensures) (c .before .before .before .before .before .before .before .before .before .before .before .done-of3 .ensures) _ (c .before .before .before .before .before .before .before .before .before .var2 .given .1) _ _ (c .before .before .before .before .before .before .bind-var .ensures) (c .before .before .bind-var2 .ensures) (c .before .before .before .before .before .before .before .before .before .before .before .before .before .before .before .before .before .before .before .before .before .before .before .before .before .before .before .before .before .before .before .before .before .before .before .before .before .before .before .before .before .pre .1 .0) (c .before .before .before .before .before .before .before .before .before .before .before .before .before .before .before .before .before .before .before .before .before .before .before .before .before .before .before .before .before .before .before .before .before .before .before .before .before .before .before .before .before .pre .1 .1)
+returns-4 c =
+    let c12 = c .before .before .before .before .before .before .before .before .before .before .before .before in
+    let c24 = c12 .before .before .before .before .before .before .before .before .before .before .before .before in
+    let c36 = c24 .before .before .before .before .before .before .before .before .before .before .before .before in
+    let pre = c36 .before .before .before .before .before .pre in
+    let take-var = c36 .before .before .take-var in
+    let done-of = c24 .before .before .before .before .before .before .before .before .before .before .done-of in
+    let n = c24 .before .before .before .before .before .before .before .before .n in
+    let tvar = c24 .before .before .before .before .before .before .tvar in
+    let merge-num = c24 .before .before .before .before .merge-num in
+    let push-node = c24 .push-node in
+    let done-of2 = c12 .before .before .before .before .before .before .before .before .done-of2 in
+    let var1 = c12 .before .before .before .before .before .before .var1 in
+    let push-node2 = c12 .before .before .before .push-node2 in
+    let done-of3 = c .before .before .before .before .before .before .before .before .before .before .before .done-of3 in
+    let var2 = c .before .before .before .before .before .before .before .before .before .var2 in
+    let bind-var = c .before .before .before .before .before .before .bind-var in
+    ends-ready _ _ _ _ _ _ _ _ _ _ _ _ _ (take-var .ensures .0) (done-of .ensures) _ _ (n .given .1) (tvar .ensures) _
+    (merge-num .ensures) _ _ _ (push-node .ensures) (done-of2 .ensures) _ (var1 .given .1) _ _ _
+    (push-node2 .ensures) (done-of3 .ensures) _ (var2 .given .1) _ _ (bind-var .ensures)
+    (c .before .before .bind-var2 .ensures) (pre .1 .0) (pre .1 .1)
 
 pub open-ends-spec : {M : Type 1} → statement M
 open-ends-spec =

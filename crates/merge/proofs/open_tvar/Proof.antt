@@ -34,7 +34,15 @@ same-length : tie.Need-same-length
 same-length c = search needs
 
 returns : tie.Need-returns
-returns c = open-no-first _ _ _ _ _ _ _ _ (c .before .before .before .before .before .before .before .before .before .before .num-loc-at .result) (c .before .before .before .before .before .before .before .before .num-loc-at2 .result) (c .before .before .before .before .before .before .before .before .before .before .before .before .before .before .forward-tvar .ensures) (c .before .before .before .before .before .before .before .before .before .before .before .before .forward-tvar2 .ensures) (c .before .before .before .before .before .before .before .before .before .before .num-loc-at .ensures) (c .before .before .before .before .before .before .before .before .num-loc-at2 .ensures) _ _ _ (c .before .before .before .before .before .before .type-of .ensures) (c .before .before .done-of .ensures) (c .enum-told .given .1)
+returns c =
+    let forward-tvar = c .before .before .before .before .before .before .before .before .before .before .before .before .before .before .forward-tvar in
+    let forward-tvar2 = c .before .before .before .before .before .before .before .before .before .before .before .before .forward-tvar2 in
+    let num-loc-at = c .before .before .before .before .before .before .before .before .before .before .num-loc-at in
+    let num-loc-at2 = c .before .before .before .before .before .before .before .before .num-loc-at2 in
+    let type-of = c .before .before .before .before .before .before .type-of in
+    open-no-first _ _ _ _ _ _ _ _ (num-loc-at .result) (num-loc-at2 .result) (forward-tvar .ensures)
+    (forward-tvar2 .ensures) (num-loc-at .ensures) (num-loc-at2 .ensures) _ _ _ (type-of .ensures)
+    (c .before .before .done-of .ensures) (c .enum-told .given .1)
 
 type-of-requires-2 : tie.Need-type-of-requires-2
 type-of-requires-2 c κs = search needs
@@ -52,16 +60,62 @@ same-length-2 : tie.Need-same-length-2
 same-length-2 c = search needs
 
 returns-2 : tie.Need-returns-2
-returns-2 c = open-no-second _ _ _ _ _ _ _ _ (c .before .before .before .before .before .before .before .before .before .before .before .before .before .before .before .before .before .before .before .num-loc-at .result) (c .before .before .before .before .before .before .before .before .before .before .before .before .before .before .before .before .before .num-loc-at2 .result) (c .before .before .before .before .before .before .before .before .before .before .before .before .before .before .before .before .before .before .before .before .before .before .before .forward-tvar .ensures) (c .before .before .before .before .before .before .before .before .before .before .before .before .before .before .before .before .before .before .before .before .before .forward-tvar2 .ensures) (c .before .before .before .before .before .before .before .before .before .before .before .before .before .before .before .before .before .before .before .num-loc-at .ensures) (c .before .before .before .before .before .before .before .before .before .before .before .before .before .before .before .before .before .num-loc-at2 .ensures) _ _ _ (c .before .before .before .before .before .before .before .before .before .before .before .before .before .before .before .type-of .ensures) (c .before .before .before .before .before .before .before .before .before .before .before .done-of .ensures) _ (c .before .before .before .before .before .before .before .before .before .ty1 .given .1) _ _ _ (c .before .before .before .before .before .before .type-of2 .ensures) (c .before .before .done-of2 .ensures) (c .enum-told2 .given .1)
+returns-2 c =
+    let c12 = c .before .before .before .before .before .before .before .before .before .before .before .before in
+    let forward-tvar = c12 .before .before .before .before .before .before .before .before .before .before .before .forward-tvar in
+    let forward-tvar2 = c12 .before .before .before .before .before .before .before .before .before .forward-tvar2 in
+    let num-loc-at = c12 .before .before .before .before .before .before .before .num-loc-at in
+    let num-loc-at2 = c12 .before .before .before .before .before .num-loc-at2 in
+    let type-of = c12 .before .before .before .type-of in
+    let done-of = c .before .before .before .before .before .before .before .before .before .before .before .done-of in
+    let ty1 = c .before .before .before .before .before .before .before .before .before .ty1 in
+    let type-of2 = c .before .before .before .before .before .before .type-of2 in
+    open-no-second _ _ _ _ _ _ _ _ (num-loc-at .result) (num-loc-at2 .result) (forward-tvar .ensures)
+    (forward-tvar2 .ensures) (num-loc-at .ensures) (num-loc-at2 .ensures) _ _ _ (type-of .ensures)
+    (done-of .ensures) _ (ty1 .given .1) _ _ _ (type-of2 .ensures) (c .before .before .done-of2 .ensures)
+    (c .enum-told2 .given .1)
 
 open-ends-requires : tie.Need-open-ends-requires
-open-ends-requires c κs = (c .before .before .before .before .before .before .before .before .type-of2 .ensures .changed .lay, (still-in _ _ _ _ _ (c .before .before .before .before .before .before .before .before .type-of2 .ensures .changed .grown) (node-in _ (c .before .before .before .before .before .before .before .before .before .before .before .before .before .before .before .before .before .type-of .result .out) _ _ (c .before .before .before .before .before .before .before .before .before .before .before .before .before .before .before .before .before .type-of .ensures .inside) (c .before .before .before .before .before .before .before .before .before .before .before .before .before .done-of .ensures) (c .before .before .before .before .before .before .before .before .before .before .before .ty1 .given .1)), node-in _ (c .before .before .before .before .before .before .before .before .type-of2 .result .out) _ _ (c .before .before .before .before .before .before .before .before .type-of2 .ensures .inside) (c .before .before .before .before .done-of2 .ensures) (c .before .before .ty2 .given .1)))
+open-ends-requires c κs =
+    let c12 = c .before .before .before .before .before .before .before .before .before .before .before .before in
+    let type-of = c12 .before .before .before .before .before .type-of in
+    let done-of = c12 .before .done-of in
+    let ty1 = c .before .before .before .before .before .before .before .before .before .before .before .ty1 in
+    let type-of2 = c .before .before .before .before .before .before .before .before .type-of2 in (
+      type-of2 .ensures .changed .lay,
+      (
+        still-in _ _ _ _ _ (type-of2 .ensures .changed .grown)
+            (node-in _ (type-of .result .out) _ _ (type-of .ensures .inside) (done-of .ensures) (ty1 .given .1)),
+        node-in _ (type-of2 .result .out) _ _ (type-of2 .ensures .inside)
+            (c .before .before .before .before .done-of2 .ensures) (c .before .before .ty2 .given .1),
+      ),
+    )
 
 same-length-3 : tie.Need-same-length-3
-same-length-3 c = c .before .before .open-ends .ensures .lay .size ∙ sym (c .before .before .before .before .before .before .before .before .before .before .before .before .before .before .before .before .before .before .before .before .before .before .before .before .before .before .before .before .before .before .before .pre .size)
+same-length-3 c =
+    let c12 = c .before .before .before .before .before .before .before .before .before .before .before .before in
+    let c24 = c12 .before .before .before .before .before .before .before .before .before .before .before .before in
+    let pre = c24 .before .before .before .before .before .before .before .pre in
+    c .before .before .open-ends .ensures .lay .size ∙ sym (pre .size)
 
 returns-3 : tie.Need-returns-3
-returns-3 c = open-both _ _ _ _ _ _ _ _ (c .before .before .before .before .before .before .before .before .before .before .before .before .before .before .before .before .before .before .before .before .before .before .before .before .num-loc-at .result) (c .before .before .before .before .before .before .before .before .before .before .before .before .before .before .before .before .before .before .before .before .before .before .num-loc-at2 .result) (c .before .before .before .before .before .before .before .before .before .before .before .before .before .before .before .before .before .before .before .before .before .before .before .before .before .before .before .before .forward-tvar .ensures) (c .before .before .before .before .before .before .before .before .before .before .before .before .before .before .before .before .before .before .before .before .before .before .before .before .before .before .forward-tvar2 .ensures) (c .before .before .before .before .before .before .before .before .before .before .before .before .before .before .before .before .before .before .before .before .before .before .before .before .num-loc-at .ensures) (c .before .before .before .before .before .before .before .before .before .before .before .before .before .before .before .before .before .before .before .before .before .before .num-loc-at2 .ensures) _ _ _ (c .before .before .before .before .before .before .before .before .before .before .before .before .before .before .before .before .before .before .before .before .type-of .ensures) (c .before .before .before .before .before .before .before .before .before .before .before .before .before .before .before .before .done-of .ensures) _ (c .before .before .before .before .before .before .before .before .before .before .before .before .before .before .ty1 .given .1) _ _ _ (c .before .before .before .before .before .before .before .before .before .before .before .type-of2 .ensures) (c .before .before .before .before .before .before .before .done-of2 .ensures) _ (c .before .before .before .before .before .ty2 .given .1) _ _ (c .before .before .open-ends .ensures)
+returns-3 c =
+    let c12 = c .before .before .before .before .before .before .before .before .before .before .before .before in
+    let c24 = c12 .before .before .before .before .before .before .before .before .before .before .before .before in
+    let forward-tvar = c24 .before .before .before .before .forward-tvar in
+    let forward-tvar2 = c24 .before .before .forward-tvar2 in
+    let num-loc-at = c24 .num-loc-at in
+    let num-loc-at2 = c12 .before .before .before .before .before .before .before .before .before .before .num-loc-at2 in
+    let type-of = c12 .before .before .before .before .before .before .before .before .type-of in
+    let done-of = c12 .before .before .before .before .done-of in
+    let ty1 = c12 .before .before .ty1 in
+    let type-of2 = c .before .before .before .before .before .before .before .before .before .before .before .type-of2 in
+    let done-of2 = c .before .before .before .before .before .before .before .done-of2 in
+    let ty2 = c .before .before .before .before .before .ty2 in
+    open-both _ _ _ _ _ _ _ _ (num-loc-at .result) (num-loc-at2 .result) (forward-tvar .ensures)
+    (forward-tvar2 .ensures) (num-loc-at .ensures) (num-loc-at2 .ensures) _ _ _ (type-of .ensures)
+    (done-of .ensures) _ (ty1 .given .1) _ _ _ (type-of2 .ensures) (done-of2 .ensures) _ (ty2 .given .1) _ _
+    (c .before .before .open-ends .ensures)
 
 pub open-tvar-spec : {M : Type 1} → statement M
 open-tvar-spec =

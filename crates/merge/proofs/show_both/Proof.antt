@@ -24,7 +24,10 @@ returns : tie.Need-returns
 returns c = show-no-first _ _ _ _ _ _ _ _ _ (c .before .before .before .before .before .before .shown .ensures) (c .before .before .done-of .ensures) (c .enum-told .given .1)
 
 shown-requires-2 : tie.Need-shown-requires-2
-shown-requires-2 c κs = (c .before .before .before .before .before .before .before .before .shown .ensures .changed .lay, still-in _ _ _ _ _ (c .before .before .before .before .before .before .before .before .shown .ensures .changed .grown) (c .before .before .before .before .before .before .before .before .before .before .before .pre .1 .1))
+shown-requires-2 c κs =
+    let pre = c .before .before .before .before .before .before .before .before .before .before .before .pre in
+    let shown = c .before .before .before .before .before .before .before .before .shown in
+    (shown .ensures .changed .lay, still-in _ _ _ _ _ (shown .ensures .changed .grown) (pre .1 .1))
 
 done-of-requires-2 : tie.Need-done-of-requires-2
 done-of-requires-2 c κs = search needs
@@ -39,13 +42,25 @@ same-length-2 : tie.Need-same-length-2
 same-length-2 c = search needs
 
 returns-2 : tie.Need-returns-2
-returns-2 c = show-no-second _ _ _ _ _ _ _ _ _ (c .before .before .before .before .before .before .before .before .before .before .before .before .before .before .before .shown .ensures) (c .before .before .before .before .before .before .before .before .before .before .before .done-of .ensures) _ (c .before .before .before .before .before .before .before .before .before .shown1 .given .1) _ _ _ (c .before .before .before .before .before .before .shown2 .ensures) (c .before .before .done-of2 .ensures) (c .enum-told2 .given .1)
+returns-2 c =
+    let shown = c .before .before .before .before .before .before .before .before .before .before .before .before .before .before .before .shown in
+    let done-of = c .before .before .before .before .before .before .before .before .before .before .before .done-of in
+    let shown1 = c .before .before .before .before .before .before .before .before .before .shown1 in
+    let shown2 = c .before .before .before .before .before .before .shown2 in
+    show-no-second _ _ _ _ _ _ _ _ _ (shown .ensures) (done-of .ensures) _ (shown1 .given .1) _ _ _ (shown2 .ensures)
+    (c .before .before .done-of2 .ensures) (c .enum-told2 .given .1)
 
 same-length-3 : tie.Need-same-length-3
 same-length-3 c = search needs
 
 returns-3 : tie.Need-returns-3
-returns-3 c = show-done _ _ _ _ _ _ _ _ _ (c .before .before .before .before .before .before .before .before .before .before .before .before .before .before .before .before .shown .ensures) (c .before .before .before .before .before .before .before .before .before .before .before .before .done-of .ensures) _ (c .before .before .before .before .before .before .before .before .before .before .shown1 .given .1) _ _ _ (c .before .before .before .before .before .before .before .shown2 .ensures) (c .before .before .before .done-of2 .ensures) _ (c .before .shown22 .given .1)
+returns-3 c =
+    let shown = c .before .before .before .before .before .before .before .before .before .before .before .before .before .before .before .before .shown in
+    let done-of = c .before .before .before .before .before .before .before .before .before .before .before .before .done-of in
+    let shown1 = c .before .before .before .before .before .before .before .before .before .before .shown1 in
+    let shown2 = c .before .before .before .before .before .before .before .shown2 in
+    show-done _ _ _ _ _ _ _ _ _ (shown .ensures) (done-of .ensures) _ (shown1 .given .1) _ _ _ (shown2 .ensures)
+    (c .before .before .before .done-of2 .ensures) _ (c .before .shown22 .given .1)
 
 pub show-both-spec : {M : Type 1} → statement M
 show-both-spec =

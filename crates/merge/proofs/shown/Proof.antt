@@ -18,7 +18,12 @@ same-length : tie.Need-same-length
 same-length c = search needs
 
 returns : tie.Need-returns
-returns c = after-seen _ (λ ds. shown-var _ _ _ (c .before .before .before .before .before .before .node-at .result) _ (c .before .before .before .before .before .before .node-at .ensures ds) (c .before .before .before .before .before .is-anything .ensures) (c .before .before .before .before .if1 .taken)) (c .before .before .push-node .ensures)
+returns c =
+    let node-at = c .before .before .before .before .before .before .node-at in
+    let is-anything = c .before .before .before .before .before .is-anything in
+    after-seen _
+    (λ ds. shown-var _ _ _ (node-at .result) _ (node-at .ensures ds) (is-anything .ensures)
+    (c .before .before .before .before .if1 .taken)) (c .before .before .push-node .ensures)
 
 same-length-2 : tie.Need-same-length-2
 same-length-2 c = search needs

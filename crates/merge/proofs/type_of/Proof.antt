@@ -30,7 +30,11 @@ same-length-2 : tie.Need-same-length-2
 same-length-2 c = search needs
 
 returns-2 : tie.Need-returns-2
-returns-2 c = after-now _ _ _ _ (c .before .before .before .before .before .before .pre) (bound-in _ _ _ _ _ (c .before .before .before .before .before .before .pre) (c .before .before .before .bound-at .ensures) (c .before .t .given .1)) (λ ds. end-bound _ _ _ _ (sym (ap found (c .before .t .given .1)) ∙ c .before .before .before .bound-at .ensures ds))
+returns-2 c =
+    let pre = c .before .before .before .before .before .before .pre in
+    let bound-at = c .before .before .before .bound-at in
+    after-now _ _ _ _ (pre) (bound-in _ _ _ _ _ (pre) (bound-at .ensures) (c .before .t .given .1))
+    (λ ds. end-bound _ _ _ _ (sym (ap found (c .before .t .given .1)) ∙ bound-at .ensures ds))
 
 pub type-of-spec : {M : Type 1} → statement M
 type-of-spec =

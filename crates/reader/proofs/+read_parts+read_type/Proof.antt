@@ -65,7 +65,15 @@ read-parts-loop-holds : (t : ℕ) → read-parts-lts.Need-loop-holds (read-parts
 read-parts-loop-holds t c = go-none _ _ _ _ _ _ _ _ _ _ (c .before .before .before .pre .1 .0 .0) (c .before .before .before .pre .1 .1 .1 .0) refl
 
 read-parts-read-type-requires : (t : ℕ) → read-parts-lts.Need-read-type-requires (read-parts-calls t) (read-parts-at t) read-parts.Post read-parts-Inv-loop read-parts-μ-loop
-read-parts-read-type-requires t c κs = (omega (arith, c .before .before .before .before .before .before .pre .0), ((c .before .before .loop .inv .lay, subst Arities (sym (c .before .before .loop .inv .structs)) (c .before .before .before .before .before .before .pre .1 .0 .1)), (c .before .before .before .before .before .before .pre .1 .1 .0, (c .before .before .loop .inv .within, c .before .before .before .before .before .before .pre .1 .1 .1 .1 .0))))
+read-parts-read-type-requires t c κs =
+    let pre = c .before .before .before .before .before .before .pre in
+    let loop = c .before .before .loop in (
+      omega (arith, pre .0),
+      (
+        (loop .inv .lay, subst Arities (sym (loop .inv .structs)) (pre .1 .0 .1)),
+        (pre .1 .1 .0, (loop .inv .within, pre .1 .1 .1 .1 .0)),
+      ),
+    )
 
 read-parts-stops-requires : (t : ℕ) → read-parts-lts.Need-stops-requires (read-parts-calls t) (read-parts-at t) read-parts.Post read-parts-Inv-loop read-parts-μ-loop
 read-parts-stops-requires t c κs = tt
@@ -74,7 +82,14 @@ read-parts-same-length : (t : ℕ) → read-parts-lts.Need-same-length (read-par
 read-parts-same-length t c = c .before .before .before .before .read-type .ensures .lay .size ∙ sym (c .before .before .before .before .before .before .before .before .before .before .before .pre .1 .0 .0 .size)
 
 read-parts-returns : (t : ℕ) → read-parts-lts.Need-returns (read-parts-calls t) (read-parts-at t) read-parts.Post read-parts-Inv-loop read-parts-μ-loop
-read-parts-returns t c = go-stop _ _ _ _ _ _ _ _ _ _ _ _ _ _ _ (c .before .before .before .before .before .before .before .loop .inv) _ _ (c .before .before .before .before .read-type .ensures) (c .before .before .before .before .before .before .loop-test .taken) (c .before .before .before .before .before .before .before .before .before .before .before .args .loc) (c .before .before .before .before .before .before .before .before .before .before .before .args .shape) (c .before .before .before .before .before .before .before .before .part-count .ensures) (sym (c .before .stops .ensures) ∙ c .if1 .taken)
+read-parts-returns t c =
+    let args = c .before .before .before .before .before .before .before .before .before .before .before .args in
+    let part-count = c .before .before .before .before .before .before .before .before .part-count in
+    let loop = c .before .before .before .before .before .before .before .loop in
+    let loop-test = c .before .before .before .before .before .before .loop-test in
+    go-stop _ _ _ _ _ _ _ _ _ _ _ _ _ _ _ (loop .inv) _ _ (c .before .before .before .before .read-type .ensures)
+    (loop-test .taken) (args .loc) (args .shape) (part-count .ensures)
+    (sym (c .before .stops .ensures) ∙ c .if1 .taken)
 
 read-parts-no-space-requires : (t : ℕ) → read-parts-lts.Need-no-space-requires (read-parts-calls t) (read-parts-at t) read-parts.Post read-parts-Inv-loop read-parts-μ-loop
 read-parts-no-space-requires t c κs = tt
@@ -84,17 +99,23 @@ read-parts-node-of-requires t c κs = tt
 
 read-parts-mul-parts : (t : ℕ) → read-parts-lts.Need-mul-parts (read-parts-calls t) (read-parts-at t) read-parts.Post read-parts-Inv-loop read-parts-μ-loop
 read-parts-mul-parts t c =
-    let few : c .before .before .before .before .before .before .before .before .before .before .before .part-count .result ≤ 8 = rw (c .before .before .before .before .before .before .before .before .before .before .before .part-count .ensures) (c .before .before .before .before .before .before .before .before .before .before .before .before .before .before .pre .1 .1 .1 .1 .1) in
+    let pre = c .before .before .before .before .before .before .before .before .before .before .before .before .before .before .pre in
+    let part-count = c .before .before .before .before .before .before .before .before .before .before .before .part-count in
+    let few : part-count .result ≤ 8 = rw (part-count .ensures) (pre .1 .1 .1 .1 .1) in
     search needs
 
 read-parts-array-write-parts : (t : ℕ) → read-parts-lts.Need-array-write-parts (read-parts-calls t) (read-parts-at t) read-parts.Post read-parts-Inv-loop read-parts-μ-loop
 read-parts-array-write-parts t c =
-    let few : c .before .before .before .before .before .before .before .before .before .before .before .part-count .result ≤ 8 = rw (c .before .before .before .before .before .before .before .before .before .before .before .part-count .ensures) (c .before .before .before .before .before .before .before .before .before .before .before .before .before .before .pre .1 .1 .1 .1 .1) in
+    let pre = c .before .before .before .before .before .before .before .before .before .before .before .before .before .before .pre in
+    let part-count = c .before .before .before .before .before .before .before .before .before .before .before .part-count in
+    let few : part-count .result ≤ 8 = rw (part-count .ensures) (pre .1 .1 .1 .1 .1) in
     omega arith
 
 read-parts-add-i : (t : ℕ) → read-parts-lts.Need-add-i (read-parts-calls t) (read-parts-at t) read-parts.Post read-parts-Inv-loop read-parts-μ-loop
 read-parts-add-i t c =
-    let few : c .before .before .before .before .before .before .before .before .before .before .before .part-count .result ≤ 8 = rw (c .before .before .before .before .before .before .before .before .before .before .before .part-count .ensures) (c .before .before .before .before .before .before .before .before .before .before .before .before .before .before .pre .1 .1 .1 .1 .1) in
+    let pre = c .before .before .before .before .before .before .before .before .before .before .before .before .before .before .pre in
+    let part-count = c .before .before .before .before .before .before .before .before .before .before .before .part-count in
+    let few : part-count .result ≤ 8 = rw (part-count .ensures) (pre .1 .1 .1 .1 .1) in
     omega arith
 
 read-parts-loop-less : (t : ℕ) → read-parts-lts.Need-loop-less (read-parts-calls t) (read-parts-at t) read-parts.Post read-parts-Inv-loop read-parts-μ-loop
@@ -102,8 +123,15 @@ read-parts-loop-less t c = omega arith
 
 read-parts-loop-again : (t : ℕ) → read-parts-lts.Need-loop-again (read-parts-calls t) (read-parts-at t) read-parts.Post read-parts-Inv-loop read-parts-μ-loop
 read-parts-loop-again t c =
-    let few : c .before .before .before .before .before .before .before .before .before .before .before .part-count .result ≤ 8 = rw (c .before .before .before .before .before .before .before .before .before .before .before .part-count .ensures) (c .before .before .before .before .before .before .before .before .before .before .before .before .before .before .pre .1 .1 .1 .1 .1) in
-    rw (c .before .no-space .ensures, c .node-of .ensures) (go-more _ _ _ _ _ _ _ _ _ _ _ _ _ _ _ (c .before .before .before .before .before .before .before .before .before .before .loop .inv) _ _ (c .before .before .before .before .before .before .before .read-type .ensures) (c .before .before .before .before .before .before .before .before .before .loop-test .taken) few (sym (c .before .before .before .before .stops .ensures) ∙ c .before .before .before .if1 .left))
+    let pre = c .before .before .before .before .before .before .before .before .before .before .before .before .before .before .pre in
+    let part-count = c .before .before .before .before .before .before .before .before .before .before .before .part-count in
+    let loop = c .before .before .before .before .before .before .before .before .before .before .loop in
+    let loop-test = c .before .before .before .before .before .before .before .before .before .loop-test in
+    let read-type = c .before .before .before .before .before .before .before .read-type in
+    let few : part-count .result ≤ 8 = rw (part-count .ensures) (pre .1 .1 .1 .1 .1) in
+    rw (c .before .no-space .ensures, c .node-of .ensures)
+    (go-more _ _ _ _ _ _ _ _ _ _ _ _ _ _ _ (loop .inv) _ _ (read-type .ensures) (loop-test .taken) few
+    (sym (c .before .before .before .before .stops .ensures) ∙ c .before .before .before .if1 .left))
 
 read-parts-place-node-requires : (t : ℕ) → read-parts-lts.Need-place-node-requires (read-parts-calls t) (read-parts-at t) read-parts.Post read-parts-Inv-loop read-parts-μ-loop
 read-parts-place-node-requires t c κs =
@@ -119,7 +147,15 @@ read-parts-same-length-2 : (t : ℕ) → read-parts-lts.Need-same-length-2 (read
 read-parts-same-length-2 t c = c .before .before .before .before .before .place-node .ensures .changed .lay .size ∙ sym (c .before .before .before .before .before .before .before .before .before .before .before .before .pre .1 .0 .0 .size)
 
 read-parts-returns-2 : (t : ℕ) → read-parts-lts.Need-returns-2 (read-parts-calls t) (read-parts-at t) read-parts.Post read-parts-Inv-loop read-parts-μ-loop
-read-parts-returns-2 t c = go-all _ _ _ _ _ _ _ _ _ _ _ _ _ _ _ (c .before .before .before .before .before .before .before .before .loop .inv) (c .before .before .before .before .before .before .before .loop-test .left) (c .before .before .before .before .before .before .before .before .before .before .before .before .args .loc) (c .before .before .before .before .before .before .before .before .before .before .before .before .args .shape) (c .before .before .before .before .before .before .before .before .before .part-count .ensures) _ (c .before .before .before .before .before .place-node .result) (c .before .before .before .before .before .place-node .ensures) _ (rw (c .before .before .done-of .ensures) at (c .before .part-found .ensures))
+read-parts-returns-2 t c =
+    let args = c .before .before .before .before .before .before .before .before .before .before .before .before .args in
+    let part-count = c .before .before .before .before .before .before .before .before .before .part-count in
+    let loop = c .before .before .before .before .before .before .before .before .loop in
+    let loop-test = c .before .before .before .before .before .before .before .loop-test in
+    let place-node = c .before .before .before .before .before .place-node in
+    go-all _ _ _ _ _ _ _ _ _ _ _ _ _ _ _ (loop .inv) (loop-test .left) (args .loc) (args .shape) (part-count .ensures) _
+    (place-node .result) (place-node .ensures) _
+    (rw (c .before .before .done-of .ensures) at (c .before .part-found .ensures))
 
 read-type-read-head-requires : (t : ℕ) → read-type-lts.Need-read-head-requires (read-type-calls t) (read-type-at t) read-type.Post
 read-type-read-head-requires t c κs = c .before .before .before .pre .1
@@ -132,9 +168,12 @@ read-type-sub-read-parts t c = rw (c .before .before .h .given .1) at (c .before
 
 read-type-read-parts-requires : (t : ℕ) → read-type-lts.Need-read-parts-requires (read-type-calls t) (read-type-at t) read-type.Post
 read-type-read-parts-requires t c κs =
-    let w = rw (c .before .before .h .given .1) at (c .before .before .before .before .read-head .ensures .1 .0) in
-    let n = rw (c .before .before .h .given .1) at (c .before .before .before .before .read-head .ensures .1 .1) in
-    (omega (arith, n, c .before .before .before .before .before .before .before .before .pre .0), (c .before .before .before .before .before .before .before .before .pre .1 .0, (c .before .before .before .before .before .before .before .before .pre .1 .1 .0, (w .0, (c .before .before .before .before .before .before .before .before .pre .1 .1 .1 .1, w .1)))))
+    let pre = c .before .before .before .before .before .before .before .before .pre in
+    let read-head = c .before .before .before .before .read-head in
+    let h = c .before .before .h in
+    let w = rw (h .given .1) at (read-head .ensures .1 .0) in
+    let n = rw (h .given .1) at (read-head .ensures .1 .1) in
+    (omega (arith, n, pre .0), (pre .1 .0, (pre .1 .1 .0, (w .0, (pre .1 .1 .1 .1, w .1)))))
 
 read-type-enum-told : (t : ℕ) → read-type-lts.Need-enum-told (read-type-calls t) (read-type-at t) read-type.Post
 read-type-enum-told t c = search needs

@@ -53,16 +53,35 @@ var-fields-requires c κs = search needs
 
 returns-7 : tie.Need-returns-7
 unfolding by-tag
-returns-7 c = (λ s ds de kn. tag-begins s _ _ _ _ _ _ _ _ (c .before .if7 .taken) (c .var-fields .ensures s (kn .vars)), c .var-fields .ensures (knowing (c .before .before .before .before .before .before .before .before .before .before .args .known)) (knowing-is (c .before .before .before .before .before .before .before .before .before .before .args .known)) .within)
+returns-7 c =
+    let args = c .before .before .before .before .before .before .before .before .before .before .args in (
+      λ s ds de kn. tag-begins s _ _ _ _ _ _ _ _ (c .before .if7 .taken) (c .var-fields .ensures s (kn .vars)),
+      c .var-fields .ensures (knowing (args .known)) (knowing-is (args .known)) .within,
+    )
 
 returns-8 : tie.Need-returns-8
 unfolding by-tag read-trees go-on give
-returns-8 c = (λ s ds de kn. tag-begins s _ _ _ _ _ _ _ _ (c .if8 .taken) (record { is = λ part. refl; within = (c .before .before .before .before .before .before .before .before .before .before .pre .1 .1 .0, omega arith) }), (c .before .before .before .before .before .before .before .before .before .before .pre .1 .1 .0, omega arith))
+returns-8 c =
+    let pre = c .before .before .before .before .before .before .before .before .before .before .pre in (
+      λ s ds de kn. tag-begins s _ _ _ _ _ _ _ _ (c .if8 .taken)
+          (record { is = λ part. refl; within = (pre .1 .1 .0, omega arith) }),
+      (pre .1 .1 .0, omega arith),
+    )
 
 returns-9 : tie.Need-returns-9
 unfolding by-tag read-trees go-on give
-returns-9 c = let e = last-tag _ (c .before .before .before .before .before .before .before .before .before .before .pre .1 .1 .1 .1) (c .before .before .before .before .before .before .before .if1 .left) (c .before .before .before .before .before .before .if2 .left) (c .before .before .before .before .before .if3 .left) (c .before .before .before .before .if4 .left) (c .before .before .before .if5 .left) (c .before .before .if6 .left) (c .before .if7 .left) (c .if8 .left) in
-    (λ s ds de kn. tag-begins s _ _ _ _ _ _ _ _ e (record { is = λ part. refl; within = (c .before .before .before .before .before .before .before .before .before .before .pre .1 .1 .0, omega arith) }), (c .before .before .before .before .before .before .before .before .before .before .pre .1 .1 .0, omega arith))
+returns-9 c =
+    let pre = c .before .before .before .before .before .before .before .before .before .before .pre in
+    let if1 = c .before .before .before .before .before .before .before .if1 in
+    let if2 = c .before .before .before .before .before .before .if2 in
+    let if3 = c .before .before .before .before .before .if3 in
+    let e = last-tag _ (pre .1 .1 .1 .1) (if1 .left) (if2 .left) (if3 .left)
+    (c .before .before .before .before .if4 .left) (c .before .before .before .if5 .left)
+    (c .before .before .if6 .left) (c .before .if7 .left) (c .if8 .left) in (
+      λ s ds de kn. tag-begins s _ _ _ _ _ _ _ _ e
+          (record { is = λ part. refl; within = (pre .1 .1 .0, omega arith) }),
+      (pre .1 .1 .0, omega arith),
+    )
 
 pub fields-spec : {M : Type 1} → statement M
 fields-spec =

@@ -40,7 +40,15 @@ enum-known-shape-2 : tie.Need-enum-known-shape-2
 enum-known-shape-2 c = search needs
 
 push-apply-requires : tie.Need-push-apply-requires
-push-apply-requires c κs = (c .before .before .before .before .before .before .pre .0, record { few = rw (c .before .before .shape2 .given .1) at (c .before .before .before .before .before .before .pre .1 .0); below = rw (c .before .before .shape2 .given .1) at (c .before .before .before .before .before .before .pre .1 .1 (c .before .before .before .before .if1 .left)) })
+push-apply-requires c κs =
+    let pre = c .before .before .before .before .before .before .pre in
+    let shape2 = c .before .before .shape2 in (
+      pre .0,
+      record {
+        few = rw (shape2 .given .1) at (pre .1 .0);
+        below = rw (shape2 .given .1) at (pre .1 .1 (c .before .before .before .before .if1 .left));
+      },
+    )
 
 enum-told-3 : tie.Need-enum-told-3
 enum-told-3 c = search needs
@@ -72,7 +80,12 @@ same-length-2 c = search needs
 
 returns-3 : tie.Need-returns-3
 unfolding put-node
-returns-3 c = after-is _ _ _ _ _ _ (λ s. rw (c .before .before .before .before .before .shape .given .1, c .before .before .before .before .before .before .before .if1 .left, getD-take 1 (c .before .before .before .before .before .before .before .before .before .args .t6) 0 0 (omega arith)) refl) (c .before .before .push-node2 .ensures)
+returns-3 c =
+    let args = c .before .before .before .before .before .before .before .before .before .args in
+    let if1 = c .before .before .before .before .before .before .before .if1 in
+    let shape = c .before .before .before .before .before .shape in
+    after-is _ _ _ _ _ _ (λ s. rw (shape .given .1, if1 .left, getD-take 1 (args .t6) 0 0 (omega arith)) refl)
+    (c .before .before .push-node2 .ensures)
 
 same-length-3 : tie.Need-same-length-3
 same-length-3 c = search needs

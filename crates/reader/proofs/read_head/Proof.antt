@@ -28,7 +28,23 @@ enum-known-l : tie.Need-enum-known-l
 enum-known-l c = search needs
 
 fields-requires : tie.Need-fields-requires
-fields-requires c κs = let r = c .before .before .before .before .before .before .before .read-numbers .ensures _ _ _ _ byte-wide u32-wide in (c .before .before .before .before .before .before .before .before .before .before .before .pre .0, (c .before .before .before .before .before .before .before .before .before .before .before .pre .1 .0, (r .second .within, (c .before .before .before .before .before .before .before .before .before .before .before .pre .1 .1 .1, rw (c .before .before .before .before .t .given .1) at (c .before .before .before .before .before .before .byte-to .ensures _ _ _ _ (r .first) .most)))))
+fields-requires c κs =
+    let pre = c .before .before .before .before .before .before .before .before .before .before .before .pre in
+    let read-numbers = c .before .before .before .before .before .before .before .read-numbers in
+    let byte-to = c .before .before .before .before .before .before .byte-to in
+    let r = read-numbers .ensures _ _ _ _ byte-wide u32-wide in (
+      pre .0,
+      (
+        pre .1 .0,
+        (
+          r .second .within,
+          (
+            pre .1 .1 .1,
+            rw (c .before .before .before .before .t .given .1) at (byte-to .ensures _ _ _ _ (r .first) .most),
+          ),
+        ),
+      ),
+    )
 
 enum-told : tie.Need-enum-told
 enum-told c = search needs
@@ -38,10 +54,20 @@ enum-told-2 c = search needs
 
 returns-2 : tie.Need-returns-2
 unfolding go-on
-returns-2 c = let p : 0 < c .before .before .before .before .before .before .before .before .before .before .before .before .args .nest = omega (arith, c .before .before .before .before .before .before .before .before .before .if1 .left) in
-    let r = c .before .before .before .before .before .before .before .before .read-numbers .ensures _ _ _ _ byte-wide u32-wide in
-    let t = c .before .before .before .before .before .before .before .byte-to .ensures _ _ _ _ (r .first) in
-    (λ s ds de kn. rw (read-deep (c .before .before .before .before .before .before .before .before .before .before .before .before .args .nest) s _ p, ← t .is, c .before .before .before .before .before .t .given .1, ← r .second .is, c .before .before .l .given .1) (c .fields .ensures .0 s ds de kn .is _), (c .fields .ensures .1, nests (c .fields .result) _ p))
+returns-2 c =
+    let args = c .before .before .before .before .before .before .before .before .before .before .before .before .args in
+    let if1 = c .before .before .before .before .before .before .before .before .before .if1 in
+    let read-numbers = c .before .before .before .before .before .before .before .before .read-numbers in
+    let byte-to = c .before .before .before .before .before .before .before .byte-to in
+    let the-t = c .before .before .before .before .before .t in
+    let p : 0 < args .nest = omega (arith, if1 .left) in
+    let r = read-numbers .ensures _ _ _ _ byte-wide u32-wide in
+    let t = byte-to .ensures _ _ _ _ (r .first) in (
+      λ s ds de kn.
+          rw (read-deep (args .nest) s _ p, ← t .is, the-t .given .1, ← r .second .is, c .before .before .l .given .1)
+          (c .fields .ensures .0 s ds de kn .is _),
+      (c .fields .ensures .1, nests (c .fields .result) _ p),
+    )
 
 returns-3 : tie.Need-returns-3
 unfolding go-on

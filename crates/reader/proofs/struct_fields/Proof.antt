@@ -41,11 +41,28 @@ enum-told-3 c = search needs
 
 returns : tie.Need-returns
 unfolding read-args arity struct-tparams mark-fits is-numeric _>>=_ go-on
-returns c = λ s de.
-    let r = c .before .before .before .before .before .before .before .before .before .read-numbers .ensures _ _ _ _ byte-wide u16-wide in
-    let m = c .before .before .before .before .before .before .before .before .read-mark .ensures _ _ _ _ (r .first) in
+returns c =
+    let pre = c .before .before .before .before .before .before .before .before .before .before .before .before .pre in
+    let read-numbers = c .before .before .before .before .before .before .before .before .before .read-numbers in
+    let read-mark = c .before .before .before .before .before .before .before .before .read-mark in
+    let the-m = c .before .before .before .before .before .before .m in
+    λ s de.
+    let r = read-numbers .ensures _ _ _ _ byte-wide u16-wide in
+    let m = read-mark .ensures _ _ _ _ (r .first) in
     let n = c .before .before .before .before .name-below .ensures _ _ _ _ (r .second) in
-    record { is = λ part. rw (struct-is s part _ _, ← m .is, c .before .before .before .before .before .before .m .given .1, de .many, ← n .is, c .before .before .n .given .1, c .struct-at .ensures (s .structs) de .1) refl; within = (n .within, arity-fits _ _ _ _ (c .before .before .before .before .before .before .before .before .before .before .before .before .pre .0 .1) (c .struct-at .ensures _ (declares-self _ _) .1)) }
+    record {
+      is = λ part.
+          rw (
+            struct-is s part _ _,
+            ← m .is,
+            the-m .given .1,
+            de .many,
+            ← n .is,
+            c .before .before .n .given .1,
+            c .struct-at .ensures (s .structs) de .1,
+          ) refl;
+      within = (n .within, arity-fits _ _ _ _ (pre .0 .1) (c .struct-at .ensures _ (declares-self _ _) .1));
+    }
 
 returns-2 : tie.Need-returns-2
 unfolding read-args arity struct-tparams mark-fits is-numeric _>>=_ go-on

@@ -40,27 +40,47 @@ plain-requires-2 c κs = search needs
 returns-2 : tie.Need-returns-2
 unfolding read-fields _>>=_ go-on
 returns-2 c =
-    let r = c .before .before .before .before .before .before .read-numbers .ensures _ _ _ _ byte-wide byte-wide in
-    rw (c .plain2 .ensures) (malformed-is _ _ _ _ _ _ _ (c .before .before .before .before .before .before .before .before .before .pre .0 .0) (c .before .before .before .before .before .before .before .before .before .pre .1 .1 .0) (λ s ds k. rw (← r .first .is, c .before .before .before .before .f .given .1, ← r .second .is, c .before .enum-told2 .given .1) refl))
+    let pre = c .before .before .before .before .before .before .before .before .before .pre in
+    let read-numbers = c .before .before .before .before .before .before .read-numbers in
+    let r = read-numbers .ensures _ _ _ _ byte-wide byte-wide in
+    rw (c .plain2 .ensures)
+    (malformed-is _ _ _ _ _ _ _ (pre .0 .0) (pre .1 .1 .0)
+    (λ s ds k.
+    rw (
+      ← r .first .is,
+      c .before .before .before .before .f .given .1,
+      ← r .second .is,
+      c .before .enum-told2 .given .1,
+    ) refl))
 
 mark-of-requires : tie.Need-mark-of-requires
 mark-of-requires c κs = search needs
 
 fields-of-requires : tie.Need-fields-of-requires
 fields-of-requires c κs =
-    let r = c .before .before .before .before .before .before .before .before .read-numbers .ensures _ _ _ _ byte-wide byte-wide in
-    let p = byte-past _ _ _ _ _ (c .before .before .before .before .before .before .before .before .before .before .before .pre .1 .0) (r .first .within) (rw (c .before .before .before .before .before .before .f .given .1) at (r .first .is)) in
-    let q = byte-past _ _ _ _ _ (c .before .before .before .before .before .before .before .before .before .before .before .pre .1 .0) (r .second .within) (rw (c .before .before .before .g .given .1) at (r .second .is)) in
-    let e = c .before .before .before .before .before .before .before .before .before .before .before .pre .1 .1 .1 .1 in
-    (c .before .before .before .before .before .before .before .before .before .before .before .pre .0, (c .before .before .before .before .before .before .before .before .before .before .before .pre .1 .0, (r .second .within, (c .before .before .before .before .before .before .before .before .before .before .before .pre .1 .1 .1 .0, omega arith))))
+    let pre = c .before .before .before .before .before .before .before .before .before .before .before .pre in
+    let read-numbers = c .before .before .before .before .before .before .before .before .read-numbers in
+    let f = c .before .before .before .before .before .before .f in
+    let r = read-numbers .ensures _ _ _ _ byte-wide byte-wide in
+    let p = byte-past _ _ _ _ _ (pre .1 .0) (r .first .within) (rw (f .given .1) at (r .first .is)) in
+    let q = byte-past _ _ _ _ _ (pre .1 .0) (r .second .within)
+    (rw (c .before .before .before .g .given .1) at (r .second .is)) in
+    let e = pre .1 .1 .1 .1 in
+    (pre .0, (pre .1 .0, (r .second .within, (pre .1 .1 .1 .0, omega arith))))
 
 same-length : tie.Need-same-length
 same-length c = search needs
 
 returns-3 : tie.Need-returns-3
 returns-3 c =
-    let r = c .before .before .before .before .before .before .before .before .before .before .before .read-numbers .ensures _ _ _ _ byte-wide byte-wide in
-    fields-is _ _ _ _ _ _ _ _ _ (λ ds s d k. mark-there s _ _ _ _ _ (rw (c .before .before .before .before .before .before .before .before .before .f .given .1) at (r .first .is)) (rw (c .before .before .before .before .before .before .g .given .1) at (r .second .is)) _ (c .before .before .before .before .mark-of .ensures s)) (c .before .before .fields-of .ensures)
+    let read-numbers = c .before .before .before .before .before .before .before .before .before .before .before .read-numbers in
+    let f = c .before .before .before .before .before .before .before .before .before .f in
+    let g = c .before .before .before .before .before .before .g in
+    let r = read-numbers .ensures _ _ _ _ byte-wide byte-wide in
+    fields-is _ _ _ _ _ _ _ _ _
+    (λ ds s d k. mark-there s _ _ _ _ _ (rw (f .given .1) at (r .first .is))
+    (rw (g .given .1) at (r .second .is)) _ (c .before .before .before .before .mark-of .ensures s))
+    (c .before .before .fields-of .ensures)
 
 pub read-fields-spec : {M : Type 1} → statement M
 read-fields-spec =

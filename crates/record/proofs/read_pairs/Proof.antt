@@ -71,19 +71,34 @@ mul-ids : tie.Need-mul-ids Inv-loop μ-loop
 mul-ids c = omega (arith, c .before .before .before .before .before .before .before .before .before .before .before .before .before .before .before .before .pre .1 .1 .1 .1, c .before .before .before .before .before .before .before .before .before .before .before .before .loop-test .taken)
 
 array-set-from-ids : tie.Need-array-set-from-ids Inv-loop μ-loop
-array-set-from-ids c = omega (arith, c .before .before .before .before .before .before .before .before .before .before .before .before .before .before .before .before .pre .1 .1 .1 .1, c .before .before .before .before .before .before .before .before .before .before .before .before .loop-test .taken)
+array-set-from-ids c =
+    let pre = c .before .before .before .before .before .before .before .before .before .before .before .before .before .before .before .before .pre in
+    let loop-test = c .before .before .before .before .before .before .before .before .before .before .before .before .loop-test in
+    omega (arith, pre .1 .1 .1 .1, loop-test .taken)
 
 node-of-requires : tie.Need-node-of-requires Inv-loop μ-loop
 node-of-requires c κs = search needs
 
 mul-nodes : tie.Need-mul-nodes Inv-loop μ-loop
-mul-nodes c = omega (arith, c .before .before .before .before .before .before .before .before .before .before .before .before .before .before .before .before .before .pre .1 .1 .1 .1, c .before .before .before .before .before .before .before .before .before .before .before .before .before .loop-test .taken)
+mul-nodes c =
+    let c12 = c .before .before .before .before .before .before .before .before .before .before .before .before in
+    let pre = c12 .before .before .before .before .before .pre in
+    let loop-test = c12 .before .loop-test in
+    omega (arith, pre .1 .1 .1 .1, loop-test .taken)
 
 array-write-nodes : tie.Need-array-write-nodes Inv-loop μ-loop
-array-write-nodes c = omega (arith, c .before .before .before .before .before .before .before .before .before .before .before .before .before .before .before .before .before .pre .1 .1 .1 .1, c .before .before .before .before .before .before .before .before .before .before .before .before .before .loop-test .taken)
+array-write-nodes c =
+    let c12 = c .before .before .before .before .before .before .before .before .before .before .before .before in
+    let pre = c12 .before .before .before .before .before .pre in
+    let loop-test = c12 .before .loop-test in
+    omega (arith, pre .1 .1 .1 .1, loop-test .taken)
 
 add-i : tie.Need-add-i Inv-loop μ-loop
-add-i c = omega (arith, c .before .before .before .before .before .before .before .before .before .before .before .before .before .before .before .before .before .pre .1 .1 .1 .1, c .before .before .before .before .before .before .before .before .before .before .before .before .before .loop-test .taken)
+add-i c =
+    let c12 = c .before .before .before .before .before .before .before .before .before .before .before .before in
+    let pre = c12 .before .before .before .before .before .pre in
+    let loop-test = c12 .before .loop-test in
+    omega (arith, pre .1 .1 .1 .1, loop-test .taken)
 
 loop-less : tie.Need-loop-less Inv-loop μ-loop
 loop-less c = omega arith

@@ -19,8 +19,10 @@ enum-known-n c = search needs
 
 read-pairs-requires : tie.Need-read-pairs-requires
 read-pairs-requires c κs =
-    let n = c .before .before .before .before .byte-to .ensures _ _ _ _ (c .before .before .before .before .before .read-number .ensures _ _ byte-wide) in
-    (c .before .before .before .before .before .before .before .before .pre .0, (c .before .before .before .before .before .before .before .before .pre .1 .0, (n .within, (c .before .before .before .before .before .before .before .before .pre .1 .1 .1, rw (c .before .before .n .given .1) at (n .most)))))
+    let pre = c .before .before .before .before .before .before .before .before .pre in
+    let read-number = c .before .before .before .before .before .read-number in
+    let n = c .before .before .before .before .byte-to .ensures _ _ _ _ (read-number .ensures _ _ byte-wide) in
+    (pre .0, (pre .1 .0, (n .within, (pre .1 .1 .1, rw (c .before .before .n .given .1) at (n .most)))))
 
 enum-told : tie.Need-enum-told
 enum-told c = search needs

@@ -38,7 +38,13 @@ same-length-2 : tie.Need-same-length-2
 same-length-2 c = search needs
 
 returns-2 : tie.Need-returns-2
-returns-2 c = ran-num-tvar _ (c .before .before .before .before .before .before .before .before .before .before .before .before .before .take-var .ensures) _ _ (c .before .before .before .before .before .before .before .before .before .done-of .ensures) (c .before .before .before .before .before .before .before .n .given .1) _ (c .before .before .before .before .before .tvar .ensures) (c .before .before .before .set-num-var .ensures) (c .shown2 .ensures)
+returns-2 c =
+    let take-var = c .before .before .before .before .before .before .before .before .before .before .before .before .before .take-var in
+    let done-of = c .before .before .before .before .before .before .before .before .before .done-of in
+    let n = c .before .before .before .before .before .before .before .n in
+    let tvar = c .before .before .before .before .before .tvar in
+    ran-num-tvar _ (take-var .ensures) _ _ (done-of .ensures) (n .given .1) _ (tvar .ensures)
+    (c .before .before .before .set-num-var .ensures) (c .shown2 .ensures)
 
 pub run-num-tvar-spec : {M : Type 1} → statement M
 run-num-tvar-spec =

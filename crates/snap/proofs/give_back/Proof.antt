@@ -1,4 +1,5 @@
 -- `snap::give_back` meets its contract. Assumes nothing.
+-- Four tails are zeroed one after the other, each within the words; their contracts together are the law that the tables stand as at entry (Tails).
 use native.Mathlib.Omega.{arith}
 use mathlib.Core.Path.{_∙_}
 use Rattle.snap.proofs.Tails.{undoing, times-one}

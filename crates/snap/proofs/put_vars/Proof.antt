@@ -33,7 +33,12 @@ same-length : tie.Need-same-length
 same-length c = c .before .before .zero-words .ensures .size ∙ c .before .before .before .before .before .before .before .copy .ensures .size
 
 returns : tie.Need-returns
-returns c = λ w₀ s. putting-back _ _ _ _ _ _ (c .before .before .before .before .before .before .before .before .before .before .before .before .before .before .pre .0) (c .before .before .before .before .before .before .before .before .before .before .before .before .before .before .pre .1 .0) (rw (c .before .before .before .before .before .before .before .before .before .before .before .wide .ensures) at (c .before .before .before .before .before .before .before .copy .ensures)) (rw (c .before .before .before .before .before .before .before .before .before .before .before .wide .ensures, c .before .before .before .wide2 .ensures) at (c .before .before .zero-words .ensures)) w₀ s
+returns c =
+    let pre = c .before .before .before .before .before .before .before .before .before .before .before .before .before .before .pre in
+    let wide = c .before .before .before .before .before .before .before .before .before .before .before .wide in
+    let copy = c .before .before .before .before .before .before .before .copy in
+    λ w₀ s. putting-back _ _ _ _ _ _ (pre .0) (pre .1 .0) (rw (wide .ensures) at (copy .ensures))
+    (rw (wide .ensures, c .before .before .before .wide2 .ensures) at (c .before .before .zero-words .ensures)) w₀ s
 
 pub put-vars-spec : {M : Type 1} → statement M
 put-vars-spec =

@@ -91,7 +91,11 @@ same-length-6 : tie.Need-same-length-6
 same-length-6 c = search needs
 
 returns-3 : tie.Need-returns-3
-returns-3 c = λ w₀ x b. reply-run (rw (c .before .before .before .before .before .before .before .before .before .before .before .before .before .what2 .given .1) at b) (c .before .before .before .before .before .before .before .before .before .run-bind .ensures) (c .before .before .before .before .answer-of .ensures)
+returns-3 c =
+    let what2 = c .before .before .before .before .before .before .before .before .before .before .before .before .before .what2 in
+    let run-bind = c .before .before .before .before .before .before .before .before .before .run-bind in
+    λ w₀ x b. reply-run (rw (what2 .given .1) at b) (run-bind .ensures)
+    (c .before .before .before .before .answer-of .ensures)
 
 same-length-7 : tie.Need-same-length-7
 same-length-7 c = search needs
@@ -100,7 +104,11 @@ same-length-8 : tie.Need-same-length-8
 same-length-8 c = search needs
 
 returns-4 : tie.Need-returns-4
-returns-4 c = λ w₀ x b. reply-run (rw (c .before .before .before .before .before .before .before .before .before .before .before .before .before .before .what3 .given .1) at b) (narrow (c .before .before .before .before .before .before .before .before .before .run-look .ensures)) (c .before .before .before .before .answer-of2 .ensures)
+returns-4 c =
+    let what3 = c .before .before .before .before .before .before .before .before .before .before .before .before .before .before .what3 in
+    let run-look = c .before .before .before .before .before .before .before .before .before .run-look in
+    λ w₀ x b. reply-run (rw (what3 .given .1) at b) (narrow (run-look .ensures))
+    (c .before .before .before .before .answer-of2 .ensures)
 
 same-length-9 : tie.Need-same-length-9
 same-length-9 c = search needs
@@ -109,7 +117,11 @@ same-length-10 : tie.Need-same-length-10
 same-length-10 c = search needs
 
 returns-5 : tie.Need-returns-5
-returns-5 c = λ w₀ x b. reply-run (rw (c .before .before .before .before .before .before .before .before .before .before .before .before .what4 .given .1) at b) (narrow (c .before .before .before .before .before .before .before .before .before .run-add .ensures)) (c .before .before .before .before .answer-of3 .ensures)
+returns-5 c =
+    let what4 = c .before .before .before .before .before .before .before .before .before .before .before .before .what4 in
+    let run-add = c .before .before .before .before .before .before .before .before .before .run-add in
+    λ w₀ x b. reply-run (rw (what4 .given .1) at b) (narrow (run-add .ensures))
+    (c .before .before .before .before .answer-of3 .ensures)
 
 pub answer-placed-spec : {M : Type 1} → statement M
 answer-placed-spec =

@@ -13,10 +13,22 @@ read-record-requires : tie.Need-read-record-requires
 read-record-requires c κs = (c .before .before .before .before .before .before .before .before .before .pre .0 .lay, (reading-arities (c .before .before .before .before .before .before .before .before .before .pre .0), omega arith))
 
 undo-requires : tie.Need-undo-requires
-undo-requires c κs = (c .before .before .before .before .before .read-record .ensures .lay, (grown-above _ _ _ _ (c .before .before .before .before .before .read-record .ensures .grown), omega (arith, c .before .before .before .before .before .before .before .before .saved .given, c .before .before .before .before .before .before .before .before .before .before .before .before .before .before .before .pre .1 .1)))
+undo-requires c κs =
+    let pre = c .before .before .before .before .before .before .before .before .before .before .before .before .before .before .before .pre in
+    let saved = c .before .before .before .before .before .before .before .before .saved in
+    let read-record = c .before .before .before .before .before .read-record in (
+      read-record .ensures .lay,
+      (grown-above _ _ _ _ (read-record .ensures .grown), omega (arith, saved .given, pre .1 .1)),
+    )
 
 write-used-requires : tie.Need-write-used-requires
-write-used-requires c κs = c .before .before .before .undo .ensures _ (record { lay = c .before .before .before .before .before .before .before .before .before .before .before .before .before .before .before .before .before .before .before .pre .0 .lay; kept = c .before .before .before .before .before .before .before .before .before .before .before .before .before .save-vars .ensures; grown = c .before .before .before .before .before .before .before .before .before .read-record .ensures .grown }) .0
+write-used-requires c κs =
+    let c12 = c .before .before .before .before .before .before .before .before .before .before .before .before in
+    let pre = c12 .before .before .before .before .before .before .before .pre in
+    let save-vars = c12 .before .save-vars in
+    let read-record = c .before .before .before .before .before .before .before .before .before .read-record in
+    c .before .before .before .undo .ensures _
+    (record { lay = pre .0 .lay; kept = save-vars .ensures; grown = read-record .ensures .grown }) .0
 
 place-after-requires : tie.Need-place-after-requires
 place-after-requires c κs = search needs
@@ -28,7 +40,16 @@ same-length-2 : tie.Need-same-length-2
 same-length-2 c = search needs
 
 returns : tie.Need-returns
-returns c = (words-back (c .before .before .before .before .before .before .before .before .before .before .before .before .before .before .before .before .before .before .before .before .before .before .before .pre .0) (c .before .before .before .before .before .before .before .before .before .before .before .before .before .before .before .before .before .before .before .before .before .before .before .pre .1 .0) (c .before .before .before .before .before .before .before .before .before .before .before .before .before .before .before .before .before .save-vars .ensures) (c .before .before .before .before .before .before .before .before .before .before .before .before .before .read-record .ensures .grown) (c .before .before .before .before .before .before .before .undo .ensures) (c .before .before .before .write-used .ensures), splits _ (c .before .before .before .before .before .before .before .before .before .before .before .before .before .read-record .ensures) (c .place-after .ensures))
+returns c =
+    let c12 = c .before .before .before .before .before .before .before .before .before .before .before .before in
+    let pre = c12 .before .before .before .before .before .before .before .before .before .before .before .pre in
+    let save-vars = c12 .before .before .before .before .before .save-vars in
+    let read-record = c12 .before .read-record in
+    let undo = c .before .before .before .before .before .before .before .undo in (
+      words-back (pre .0) (pre .1 .0) (save-vars .ensures) (read-record .ensures .grown) (undo .ensures)
+          (c .before .before .before .write-used .ensures),
+      splits _ (read-record .ensures) (c .place-after .ensures),
+    )
 
 pub rest-trusted-spec : {M : Type 1} → statement M
 rest-trusted-spec =

@@ -14,7 +14,9 @@ save-vars-requires : tie.Need-save-vars-requires
 save-vars-requires c κs = search needs
 
 read-record-requires : tie.Need-read-record-requires
-read-record-requires c κs = (c .before .before .before .before .before .before .before .before .before .before .pre .0 .0 .lay, (reading-arities (c .before .before .before .before .before .before .before .before .before .before .pre .0 .0), c .before .before .before .before .before .before .before .before .before .before .pre .0 .1 .1 .0))
+read-record-requires c κs =
+    let pre = c .before .before .before .before .before .before .before .before .before .before .pre in
+    (pre .0 .0 .lay, (reading-arities (pre .0 .0), pre .0 .1 .1 .0))
 
 left-over-requires : tie.Need-left-over-requires
 left-over-requires c κs = search needs
@@ -24,8 +26,12 @@ enum-told c = search needs
 
 refuse-requires : tie.Need-refuse-requires
 refuse-requires c κs =
-    let r = c .before .before .before .before .before .before .before .before .read-record .ensures in
-    (r .lay, (grown-above _ _ _ _ (r .grown), omega (arith, c .before .before .before .before .before .before .before .before .before .before .before .saved .given, c .before .before .before .before .before .before .before .before .before .before .before .before .before .before .before .before .before .before .before .pre .0 .1 .1 .1 .0)))
+    let c12 = c .before .before .before .before .before .before .before .before .before .before .before .before in
+    let pre = c12 .before .before .before .before .before .before .before .pre in
+    let saved = c .before .before .before .before .before .before .before .before .before .before .before .saved in
+    let read-record = c .before .before .before .before .before .before .before .before .read-record in
+    let r = read-record .ensures in
+    (r .lay, (grown-above _ _ _ _ (r .grown), omega (arith, saved .given, pre .0 .1 .1 .1 .0)))
 
 with-next-requires : tie.Need-with-next-requires
 with-next-requires c κs = search needs
@@ -35,8 +41,12 @@ enum-told-2 c = search needs
 
 refuse-requires-2 : tie.Need-refuse-requires-2
 refuse-requires-2 c κs =
-    let r = c .before .before .before .before .before .before .before .before .read-record .ensures in
-    (r .lay, (grown-above _ _ _ _ (r .grown), omega (arith, c .before .before .before .before .before .before .before .before .before .before .before .saved .given, c .before .before .before .before .before .before .before .before .before .before .before .before .before .before .before .before .before .before .before .pre .0 .1 .1 .1 .0)))
+    let c12 = c .before .before .before .before .before .before .before .before .before .before .before .before in
+    let pre = c12 .before .before .before .before .before .before .before .pre in
+    let saved = c .before .before .before .before .before .before .before .before .before .before .before .saved in
+    let read-record = c .before .before .before .before .before .before .before .before .read-record in
+    let r = read-record .ensures in
+    (r .lay, (grown-above _ _ _ _ (r .grown), omega (arith, saved .given, pre .0 .1 .1 .1 .0)))
 
 with-next-requires-2 : tie.Need-with-next-requires-2
 with-next-requires-2 c κs = search needs
@@ -46,8 +56,12 @@ enum-told-3 c = search needs
 
 refuse-requires-3 : tie.Need-refuse-requires-3
 refuse-requires-3 c κs =
-    let r = c .before .before .before .before .before .before .before .before .read-record .ensures in
-    (r .lay, (grown-above _ _ _ _ (r .grown), omega (arith, c .before .before .before .before .before .before .before .before .before .before .before .saved .given, c .before .before .before .before .before .before .before .before .before .before .before .before .before .before .before .before .before .before .before .pre .0 .1 .1 .1 .0)))
+    let c12 = c .before .before .before .before .before .before .before .before .before .before .before .before in
+    let pre = c12 .before .before .before .before .before .before .before .pre in
+    let saved = c .before .before .before .before .before .before .before .before .before .before .before .saved in
+    let read-record = c .before .before .before .before .before .before .before .before .read-record in
+    let r = read-record .ensures in
+    (r .lay, (grown-above _ _ _ _ (r .grown), omega (arith, saved .given, pre .0 .1 .1 .1 .0)))
 
 with-next-requires-3 : tie.Need-with-next-requires-3
 with-next-requires-3 c κs = search needs
@@ -60,8 +74,12 @@ seven-or-five-requires c κs = search needs
 
 refuse-requires-4 : tie.Need-refuse-requires-4
 refuse-requires-4 c κs =
-    let r = c .before .before .before .before .before .before .before .before .before .read-record .ensures in
-    (r .lay, (grown-above _ _ _ _ (r .grown), omega (arith, c .before .before .before .before .before .before .before .before .before .before .before .before .saved .given, c .before .before .before .before .before .before .before .before .before .before .before .before .before .before .before .before .before .before .before .before .pre .0 .1 .1 .1 .0)))
+    let c12 = c .before .before .before .before .before .before .before .before .before .before .before .before in
+    let pre = c12 .before .before .before .before .before .before .before .before .pre in
+    let saved = c12 .saved in
+    let read-record = c .before .before .before .before .before .before .before .before .before .read-record in
+    let r = read-record .ensures in
+    (r .lay, (grown-above _ _ _ _ (r .grown), omega (arith, saved .given, pre .0 .1 .1 .1 .0)))
 
 with-next-requires-4 : tie.Need-with-next-requires-4
 with-next-requires-4 c κs = search needs
@@ -71,8 +89,12 @@ enum-known-read c = search needs
 
 refuse-requires-5 : tie.Need-refuse-requires-5
 refuse-requires-5 c κs =
-    let r = c .before .before .before .before .before .before .before .before .before .before .read-record .ensures in
-    (r .lay, (grown-above _ _ _ _ (r .grown), omega (arith, c .before .before .before .before .before .before .before .before .before .before .before .before .before .saved .given, c .before .before .before .before .before .before .before .before .before .before .before .before .before .before .before .before .before .before .before .before .before .pre .0 .1 .1 .1 .0)))
+    let c12 = c .before .before .before .before .before .before .before .before .before .before .before .before in
+    let pre = c12 .before .before .before .before .before .before .before .before .before .pre in
+    let saved = c12 .before .saved in
+    let read-record = c .before .before .before .before .before .before .before .before .before .before .read-record in
+    let r = read-record .ensures in
+    (r .lay, (grown-above _ _ _ _ (r .grown), omega (arith, saved .given, pre .0 .1 .1 .1 .0)))
 
 with-next-requires-5 : tie.Need-with-next-requires-5
 with-next-requires-5 c κs = search needs
@@ -96,13 +118,22 @@ rows-after-requires c κs = search needs
 
 answer-placed-requires : tie.Need-answer-placed-requires
 answer-placed-requires c κs =
-    let p = c .before .before .before .before .before .before .before .before .before .before .before .before .before .before .before .before .before .before .before .before .before .before .before .before .pre in
-    let v = c .before .before .before .before .before .before .before .before .before .before .before .before .before .before .before .before .before .save-vars .ensures in
-    let r = c .before .before .before .before .before .before .before .before .before .before .before .before .before .read-record .ensures in
-    let o = c .before .before .before .before .before .before .before .before .before .left-over .ensures in
-    let i = placed-in _ _ (p .0 .0) (p .0 .1 .0) v r (c .before .before .before .before .before .before .before .before .before .before .before .before .before .before .before .before .before .before .before .before .before .before .before .before .args .whole) _ o _ (c .before .before .before .before .before .before .before .read .given .1) in
-    let b = begins _ _ (p .0 .0) (p .0 .1 .0) v r (c .before .before .before .before .before .before .before .before .before .before .before .before .before .before .before .before .before .before .before .before .before .before .before .before .args .whole) _ o _ (c .before .before .before .before .before .before .before .read .given .1) in
-    ((r .lay, (i, (omega (arith, c .before .before .before .before .before .before .before .before .before .before .before .before .before .before .before .before .saved .given, p .0 .1 .1 .1 .0), p .0 .1 .1 .1 .1))), b)
+    let c12 = c .before .before .before .before .before .before .before .before .before .before .before .before in
+    let c24 = c12 .before .before .before .before .before .before .before .before .before .before .before .before in
+    let args = c24 .args in
+    let pre = c24 .pre in
+    let save-vars = c12 .before .before .before .before .before .save-vars in
+    let saved = c12 .before .before .before .before .saved in
+    let read-record = c12 .before .read-record in
+    let left-over = c .before .before .before .before .before .before .before .before .before .left-over in
+    let read = c .before .before .before .before .before .before .before .read in
+    let p = pre in
+    let v = save-vars .ensures in
+    let r = read-record .ensures in
+    let o = left-over .ensures in
+    let i = placed-in _ _ (p .0 .0) (p .0 .1 .0) v r (args .whole) _ o _ (read .given .1) in
+    let b = begins _ _ (p .0 .0) (p .0 .1 .0) v r (args .whole) _ o _ (read .given .1) in
+    ((r .lay, (i, (omega (arith, saved .given, p .0 .1 .1 .1 .0), p .0 .1 .1 .1 .1))), b)
 
 with-next-requires-6 : tie.Need-with-next-requires-6
 with-next-requires-6 c κs = search needs
@@ -174,12 +205,23 @@ same-length-13 c = search needs
 
 returns-6 : tie.Need-returns-6
 returns-6 c =
-    let p = c .before .before .before .before .before .before .before .before .before .before .before .before .before .before .before .before .before .before .before .before .before .before .before .before .before .before .before .before .before .before .pre in
-    let v = c .before .before .before .before .before .before .before .before .before .before .before .before .before .before .before .before .before .before .before .before .before .before .before .save-vars .ensures in
-    let r = c .before .before .before .before .before .before .before .before .before .before .before .before .before .before .before .before .before .before .before .read-record .ensures in
-    let o = c .before .before .before .before .before .before .before .before .before .before .before .before .before .before .before .left-over .ensures in
-    let a = c .before .before .before .before .before .answer-placed .ensures in
-    steps-run _ _ (p .0 .0) (p .0 .1 .0) v r _ _ o _ (c .before .before .before .before .before .before .before .before .before .before .before .before .before .read .given .1) (c .before .before .before .before .before .before .before .before .before .before .before .if1 .left) (c .before .before .before .before .before .before .before .before .before .before .rows-after .ensures) a (c .with-next6 .ensures)
+    let c12 = c .before .before .before .before .before .before .before .before .before .before .before .before in
+    let c24 = c12 .before .before .before .before .before .before .before .before .before .before .before .before in
+    let pre = c24 .before .before .before .before .before .before .pre in
+    let save-vars = c12 .before .before .before .before .before .before .before .before .before .before .before .save-vars in
+    let read-record = c12 .before .before .before .before .before .before .before .read-record in
+    let left-over = c12 .before .before .before .left-over in
+    let read = c12 .before .read in
+    let if1 = c .before .before .before .before .before .before .before .before .before .before .before .if1 in
+    let rows-after = c .before .before .before .before .before .before .before .before .before .before .rows-after in
+    let answer-placed = c .before .before .before .before .before .answer-placed in
+    let p = pre in
+    let v = save-vars .ensures in
+    let r = read-record .ensures in
+    let o = left-over .ensures in
+    let a = answer-placed .ensures in
+    steps-run _ _ (p .0 .0) (p .0 .1 .0) v r _ _ o _ (read .given .1) (if1 .left) (rows-after .ensures) a
+    (c .with-next6 .ensures)
 
 pub step-trusted-spec : {M : Type 1} → statement M
 step-trusted-spec =

@@ -52,10 +52,17 @@ levels-mul-result : (t : ℕ) → levels-lts.Need-mul-result (levels-calls t) (l
 levels-mul-result t c = search needs
 
 levels-slice-read-result : (t : ℕ) → levels-lts.Need-slice-read-result (levels-calls t) (levels-at t) levels.Post levels-Inv-loop levels-μ-loop
-levels-slice-read-result t c = omega (arith, c .before .before .before .wide .ensures, c .before .before .before .before .before .before .before .pre .1 .1 .0, c .before .before .before .before .before .before .before .pre .1 .0 .nodes, c .before .before .before .before .before .before .before .pre .1 .1 .1 .1 .size)
+levels-slice-read-result t c =
+    let pre = c .before .before .before .before .before .before .before .pre in
+    omega (arith, c .before .before .before .wide .ensures, pre .1 .1 .0, pre .1 .0 .nodes, pre .1 .1 .1 .1 .size)
 
 levels-returns-2 : (t : ℕ) → levels-lts.Need-returns-2 (levels-calls t) (levels-at t) levels.Post levels-Inv-loop levels-μ-loop
-levels-returns-2 t c = (rw (c .before .before .before .wide .ensures) (levels-known _ _ _ _ _ (c .before .before .before .before .before .before .before .pre .1 .1 .1 .1) (rw (c .before .before .before .wide .ensures) at (c .before .if2 .taken))), c .before .before .before .before .before .before .before .pre .1 .1 .1 .1)
+levels-returns-2 t c =
+    let pre = c .before .before .before .before .before .before .before .pre in
+    let wide = c .before .before .before .wide in (
+      rw (wide .ensures) (levels-known _ _ _ _ _ (pre .1 .1 .1 .1) (rw (wide .ensures) at (c .before .if2 .taken))),
+      pre .1 .1 .1 .1,
+    )
 
 levels-goes-on-requires : (t : ℕ) → levels-lts.Need-goes-on-requires (levels-calls t) (levels-at t) levels.Post levels-Inv-loop levels-μ-loop
 levels-goes-on-requires t c κs = (c .before .before .before .before .before .before .pre .1 .0, c .before .before .before .before .before .before .pre .1 .1 .0)
@@ -64,7 +71,11 @@ levels-part-count-requires : (t : ℕ) → levels-lts.Need-part-count-requires (
 levels-part-count-requires t c κs = search needs
 
 levels-loop-holds : (t : ℕ) → levels-lts.Need-loop-holds (levels-calls t) (levels-at t) levels.Post levels-Inv-loop levels-μ-loop
-levels-loop-holds t c = read-none _ _ _ _ _ _ _ (c .before .before .before .before .before .before .before .before .pre .1 .0) (c .before .before .before .before .before .before .before .before .pre .1 .1 .0) (c .before .before .before .before .before .before .before .before .pre .1 .1 .1 .0) (c .before .before .before .before .before .if1 .left) (c .before .goes-on .ensures) (c .part-count .ensures) (c .before .before .before .before .before .before .before .before .pre .1 .1 .1 .1)
+levels-loop-holds t c =
+    let pre = c .before .before .before .before .before .before .before .before .pre in
+    let if1 = c .before .before .before .before .before .if1 in
+    read-none _ _ _ _ _ _ _ (pre .1 .0) (pre .1 .1 .0) (pre .1 .1 .1 .0) (if1 .left) (c .before .goes-on .ensures)
+    (c .part-count .ensures) (pre .1 .1 .1 .1)
 
 levels-part-at-requires : (t : ℕ) → levels-lts.Need-part-at-requires (levels-calls t) (levels-at t) levels.Post levels-Inv-loop levels-μ-loop
 levels-part-at-requires t c κs = c .before .loop .inv .lay
@@ -84,7 +95,14 @@ levels-same-length : (t : ℕ) → levels-lts.Need-same-length (levels-calls t) 
 levels-same-length t c = c .before .before .before .levels .ensures .1 .size ∙ sym (c .before .before .before .before .before .before .before .before .before .before .before .before .before .before .before .before .pre .1 .1 .1 .1 .size)
 
 levels-returns-3 : (t : ℕ) → levels-lts.Need-returns-3 (levels-calls t) (levels-at t) levels.Post levels-Inv-loop levels-μ-loop
-levels-returns-3 t c = (levels-out (c .before .before .before .before .before .before .before .loop .inv) _ (c .before .before .before .before .before .before .loop-test .taken) (c .before .before .before .before .before .part-at .ensures) _ (c .before .before .before .levels .ensures .0) (c .if3 .taken), c .before .before .before .levels .ensures .1)
+levels-returns-3 t c =
+    let loop = c .before .before .before .before .before .before .before .loop in
+    let loop-test = c .before .before .before .before .before .before .loop-test in
+    let part-at = c .before .before .before .before .before .part-at in
+    let levels = c .before .before .before .levels in (
+      levels-out (loop .inv) _ (loop-test .taken) (part-at .ensures) _ (levels .ensures .0) (c .if3 .taken),
+      levels .ensures .1,
+    )
 
 levels-higher-requires : (t : ℕ) → levels-lts.Need-higher-requires (levels-calls t) (levels-at t) levels.Post levels-Inv-loop levels-μ-loop
 levels-higher-requires t c κs = search needs
@@ -96,7 +114,13 @@ levels-loop-less : (t : ℕ) → levels-lts.Need-loop-less (levels-calls t) (lev
 levels-loop-less t c = omega arith
 
 levels-loop-again : (t : ℕ) → levels-lts.Need-loop-again (levels-calls t) (levels-at t) levels.Post levels-Inv-loop levels-μ-loop
-levels-loop-again t c = read-more (c .before .before .before .before .before .before .before .before .loop .inv) _ (c .before .before .before .before .before .before .before .loop-test .taken) (c .before .before .before .before .before .before .part-at .ensures) _ (c .before .before .before .before .levels .ensures .0) (c .before .if3 .left) _ (c .higher .ensures) _ (c .before .before .before .before .levels .ensures .1)
+levels-loop-again t c =
+    let loop = c .before .before .before .before .before .before .before .before .loop in
+    let loop-test = c .before .before .before .before .before .before .before .loop-test in
+    let part-at = c .before .before .before .before .before .before .part-at in
+    let levels = c .before .before .before .before .levels in
+    read-more (loop .inv) _ (loop-test .taken) (part-at .ensures) _ (levels .ensures .0) (c .before .if3 .left) _
+    (c .higher .ensures) _ (levels .ensures .1)
 
 levels-same-length-2 : (t : ℕ) → levels-lts.Need-same-length-2 (levels-calls t) (levels-at t) levels.Post levels-Inv-loop levels-μ-loop
 levels-same-length-2 t c = c .before .before .before .loop .inv .marked .size ∙ sym (c .before .before .before .before .before .before .before .before .before .before .before .before .pre .1 .1 .1 .1 .size)
@@ -111,7 +135,10 @@ levels-mul-marks : (t : ℕ) → levels-lts.Need-mul-marks (levels-calls t) (lev
 levels-mul-marks t c = search needs
 
 levels-slice-write-marks : (t : ℕ) → levels-lts.Need-slice-write-marks (levels-calls t) (levels-at t) levels.Post levels-Inv-loop levels-μ-loop
-levels-slice-write-marks t c = omega (arith, c .before .before .before .before .before .before .before .before .wide .ensures, c .before .before .before .before .before .before .before .before .before .before .before .before .pre .1 .1 .0, c .before .before .before .before .before .before .before .before .before .before .before .before .pre .1 .0 .nodes, c .before .before .before .loop .inv .marked .size)
+levels-slice-write-marks t c =
+    let pre = c .before .before .before .before .before .before .before .before .before .before .before .before .pre in
+    let wide = c .before .before .before .before .before .before .before .before .wide in
+    omega (arith, wide .ensures, pre .1 .1 .0, pre .1 .0 .nodes, c .before .before .before .loop .inv .marked .size)
 
 levels-add-result : (t : ℕ) → levels-lts.Need-add-result (levels-calls t) (levels-at t) levels.Post levels-Inv-loop levels-μ-loop
 levels-add-result t c = omega (arith, c .if4 .left, c .before .before .before .before .before .before .before .before .before .before .before .before .pre .1 .0 .nodes)
@@ -121,8 +148,14 @@ levels-same-length-3 t c = simp length-set (c .before .before .before .loop .inv
 
 levels-returns-5 : (t : ℕ) → levels-lts.Need-returns-5 (levels-calls t) (levels-at t) levels.Post levels-Inv-loop levels-μ-loop
 levels-returns-5 t c =
-    let e = ends-here (c .before .before .before .loop .inv) (c .before .before .loop-test .left) (c .if4 .left) in
-    (levels-here (c .before .before .before .loop .inv) (c .before .before .loop-test .left) (c .if4 .left), rw (c .before .before .before .before .before .before .before .before .wide .ensures) (marked-more _ _ _ _ _ (c .before .before .before .loop .inv .marked) (omega (arith, c .before .before .before .before .before .before .before .before .before .before .before .before .pre .1 .1 .0, c .before .before .before .before .before .before .before .before .before .before .before .before .pre .1 .0 .nodes)) e))
+    let pre = c .before .before .before .before .before .before .before .before .before .before .before .before .pre in
+    let wide = c .before .before .before .before .before .before .before .before .wide in
+    let loop = c .before .before .before .loop in
+    let loop-test = c .before .before .loop-test in
+    let e = ends-here (loop .inv) (loop-test .left) (c .if4 .left) in (
+      levels-here (loop .inv) (loop-test .left) (c .if4 .left),
+      rw (wide .ensures) (marked-more _ _ _ _ _ (loop .inv .marked) (omega (arith, pre .1 .1 .0, pre .1 .0 .nodes)) e),
+    )
 
 pub +levels-spec : {M : Type 1} → statement M
 +levels-spec = close μ-levels λ t. levels-lts.spec (levels-calls t) (levels-at t) levels.Post

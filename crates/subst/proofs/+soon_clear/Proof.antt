@@ -58,7 +58,12 @@ soon-clear-sub-rest : (t : ℕ) → soon-clear-lts.Need-sub-rest (soon-clear-cal
 soon-clear-sub-rest t c = let z = c .before .before .before .before .if1 .left in omega arith
 
 soon-clear-loop-holds : (t : ℕ) → soon-clear-lts.Need-loop-holds (soon-clear-calls t) (soon-clear-at t) soon-clear.Post soon-clear-Inv-loop soon-clear-μ-loop
-soon-clear-loop-holds t c = passed-none _ _ _ _ _ _ _ (at-node _ _ _ _ (c .before .before .before .node-at .result) (c .before .before .before .before .before .before .pre .1 .0) (c .before .before .before .before .before .before .pre .1 .1) (c .before .before .before .node-at .ensures) (c .part-count .ensures)) (clear-none _ _ _) _ (c .before .before .is-var .ensures) (c .before .if2 .left)
+soon-clear-loop-holds t c =
+    let pre = c .before .before .before .before .before .before .pre in
+    let node-at = c .before .before .before .node-at in
+    passed-none _ _ _ _ _ _ _
+    (at-node _ _ _ _ (node-at .result) (pre .1 .0) (pre .1 .1) (node-at .ensures) (c .part-count .ensures))
+    (clear-none _ _ _) _ (c .before .before .is-var .ensures) (c .before .if2 .left)
 
 soon-clear-part-at-requires : (t : ℕ) → soon-clear-lts.Need-part-at-requires (soon-clear-calls t) (soon-clear-at t) soon-clear.Post soon-clear-Inv-loop soon-clear-μ-loop
 soon-clear-part-at-requires t c κs = c .before .loop .inv .at .lay
@@ -80,7 +85,10 @@ soon-clear-loop-less : (t : ℕ) → soon-clear-lts.Need-loop-less (soon-clear-c
 soon-clear-loop-less t c = omega arith
 
 soon-clear-loop-again : (t : ℕ) → soon-clear-lts.Need-loop-again (soon-clear-calls t) (soon-clear-at t) soon-clear.Post soon-clear-Inv-loop soon-clear-μ-loop
-soon-clear-loop-again t c = passed-more (c .before .before .before .before .loop .inv) _ (c .before .before .before .loop-test .taken) (c .before .before .part-at .ensures) false (λ ds. sym (c .before .soon-clear .ensures (let z = c .if3 .left in omega arith) ds)) _ (c .before .before .before .before .loop .inv .clear) refl
+soon-clear-loop-again t c =
+    let loop = c .before .before .before .before .loop in
+    passed-more (loop .inv) _ (c .before .before .before .loop-test .taken) (c .before .before .part-at .ensures) false
+    (λ ds. sym (c .before .soon-clear .ensures (let z = c .if3 .left in omega arith) ds)) _ (loop .inv .clear) refl
 
 soon-clear-returns-4 : (t : ℕ) → soon-clear-lts.Need-returns-4 (soon-clear-calls t) (soon-clear-at t) soon-clear.Post soon-clear-Inv-loop soon-clear-μ-loop
 soon-clear-returns-4 t c = λ p ds. sym (passed-all (c .before .loop .inv) (c .loop-test .left) ds)

@@ -52,13 +52,24 @@ used-in-is-var-requires : (t : ℕ) → used-in-lts.Need-is-var-requires (used-i
 used-in-is-var-requires t c κs = search needs
 
 used-in-returns-2 : (t : ℕ) → used-in-lts.Need-returns-2 (used-in-calls t) (used-in-at t) used-in.Post used-in-Inv-loop used-in-μ-loop
-used-in-returns-2 t c = (self-used (at-node _ _ _ _ (c .before .before .node-at .result) (c .before .before .before .before .before .before .before .before .pre .1 .0) (c .before .before .before .before .before .before .before .before .pre .1 .1 .0) (c .before .before .node-at .ensures) refl) _ _ (c .before .is-var .ensures) (c .if2 .taken), c .before .before .before .before .before .before .before .before .pre .1 .1 .1)
+used-in-returns-2 t c =
+    let pre = c .before .before .before .before .before .before .before .before .pre in
+    let node-at = c .before .before .node-at in (
+      self-used (at-node _ _ _ _ (node-at .result) (pre .1 .0) (pre .1 .1 .0) (node-at .ensures) refl) _ _
+          (c .before .is-var .ensures) (c .if2 .taken),
+      pre .1 .1 .1,
+    )
 
 used-in-part-count-requires : (t : ℕ) → used-in-lts.Need-part-count-requires (used-in-calls t) (used-in-at t) used-in.Post used-in-Inv-loop used-in-μ-loop
 used-in-part-count-requires t c κs = search needs
 
 used-in-loop-holds : (t : ℕ) → used-in-lts.Need-loop-holds (used-in-calls t) (used-in-at t) used-in.Post used-in-Inv-loop used-in-μ-loop
-used-in-loop-holds t c = passed-none _ _ _ _ _ _ _ (at-node _ _ _ _ (c .before .before .before .node-at .result) (c .before .before .before .before .before .before .before .before .before .pre .1 .0) (c .before .before .before .before .before .before .before .before .before .pre .1 .1 .0) (c .before .before .before .node-at .ensures) (c .part-count .ensures)) (c .before .before .before .before .before .before .before .before .before .pre .1 .1 .1) _ (c .before .before .is-var .ensures) (c .before .if2 .left)
+used-in-loop-holds t c =
+    let pre = c .before .before .before .before .before .before .before .before .before .pre in
+    let node-at = c .before .before .before .node-at in
+    passed-none _ _ _ _ _ _ _
+    (at-node _ _ _ _ (node-at .result) (pre .1 .0) (pre .1 .1 .0) (node-at .ensures) (c .part-count .ensures))
+    (pre .1 .1 .1) _ (c .before .before .is-var .ensures) (c .before .if2 .left)
 
 used-in-part-at-requires : (t : ℕ) → used-in-lts.Need-part-at-requires (used-in-calls t) (used-in-at t) used-in.Post used-in-Inv-loop used-in-μ-loop
 used-in-part-at-requires t c κs = c .before .loop .inv .at .lay
@@ -74,7 +85,14 @@ used-in-same-length : (t : ℕ) → used-in-lts.Need-same-length (used-in-calls 
 used-in-same-length t c = c .before .before .before .used-in .ensures .1 .size ∙ sym (c .before .before .before .before .before .before .before .before .before .before .before .before .before .before .before .before .before .pre .1 .1 .1 .size)
 
 used-in-returns-3 : (t : ℕ) → used-in-lts.Need-returns-3 (used-in-calls t) (used-in-at t) used-in.Post used-in-Inv-loop used-in-μ-loop
-used-in-returns-3 t c = (part-used (c .before .before .before .before .before .before .before .loop .inv) _ (c .before .before .before .before .before .before .loop-test .taken) (c .before .before .before .before .before .part-at .ensures) _ (c .before .before .before .used-in .ensures .0) (c .if3 .taken), c .before .before .before .used-in .ensures .1)
+used-in-returns-3 t c =
+    let loop = c .before .before .before .before .before .before .before .loop in
+    let loop-test = c .before .before .before .before .before .before .loop-test in
+    let part-at = c .before .before .before .before .before .part-at in
+    let used-in = c .before .before .before .used-in in (
+      part-used (loop .inv) _ (loop-test .taken) (part-at .ensures) _ (used-in .ensures .0) (c .if3 .taken),
+      used-in .ensures .1,
+    )
 
 used-in-add-i : (t : ℕ) → used-in-lts.Need-add-i (used-in-calls t) (used-in-at t) used-in.Post used-in-Inv-loop used-in-μ-loop
 used-in-add-i t c = omega arith
@@ -83,18 +101,32 @@ used-in-loop-less : (t : ℕ) → used-in-lts.Need-loop-less (used-in-calls t) (
 used-in-loop-less t c = omega arith
 
 used-in-loop-again : (t : ℕ) → used-in-lts.Need-loop-again (used-in-calls t) (used-in-at t) used-in.Post used-in-Inv-loop used-in-μ-loop
-used-in-loop-again t c = passed-more (c .before .before .before .before .before .before .before .loop .inv) _ (c .before .before .before .before .before .before .loop-test .taken) (c .before .before .before .before .before .part-at .ensures) _ (c .before .before .before .used-in .ensures .0) _ (c .before .before .before .used-in .ensures .1) (c .if3 .left)
+used-in-loop-again t c =
+    let loop = c .before .before .before .before .before .before .before .loop in
+    let loop-test = c .before .before .before .before .before .before .loop-test in
+    let part-at = c .before .before .before .before .before .part-at in
+    let used-in = c .before .before .before .used-in in
+    passed-more (loop .inv) _ (loop-test .taken) (part-at .ensures) _ (used-in .ensures .0) _ (used-in .ensures .1)
+    (c .if3 .left)
 
 used-in-slice-write-marks : (t : ℕ) → used-in-lts.Need-slice-write-marks (used-in-calls t) (used-in-at t) used-in.Post used-in-Inv-loop used-in-μ-loop
-used-in-slice-write-marks t c = omega (arith, c .before .before .before .before .before .before .before .before .wide .ensures, c .before .before .before .before .before .before .before .before .before .before .before .pre .1 .1 .0, c .before .before .before .before .before .before .before .before .before .before .before .pre .1 .0 .nodes, c .before .loop .inv .clear .size)
+used-in-slice-write-marks t c =
+    let pre = c .before .before .before .before .before .before .before .before .before .before .before .pre in
+    let wide = c .before .before .before .before .before .before .before .before .wide in
+    omega (arith, wide .ensures, pre .1 .1 .0, pre .1 .0 .nodes, c .before .loop .inv .clear .size)
 
 used-in-same-length-2 : (t : ℕ) → used-in-lts.Need-same-length-2 (used-in-calls t) (used-in-at t) used-in.Post used-in-Inv-loop used-in-μ-loop
 used-in-same-length-2 t c = simp length-set (c .before .loop .inv .clear .size ∙ sym (c .before .before .before .before .before .before .before .before .before .before .before .pre .1 .1 .1 .size))
 
 used-in-returns-4 : (t : ℕ) → used-in-lts.Need-returns-4 (used-in-calls t) (used-in-at t) used-in.Post used-in-Inv-loop used-in-μ-loop
 used-in-returns-4 t c =
-    let none = passed-all (c .before .loop .inv) (c .loop-test .left) in
-    (none, rw (c .before .before .before .before .before .before .before .before .wide .ensures) (clear-more _ _ _ _ _ (c .before .loop .inv .clear) (omega (arith, c .before .before .before .before .before .before .before .before .before .before .before .pre .1 .1 .0, c .before .before .before .before .before .before .before .before .before .before .before .pre .1 .0 .nodes)) none))
+    let pre = c .before .before .before .before .before .before .before .before .before .before .before .pre in
+    let wide = c .before .before .before .before .before .before .before .before .wide in
+    let none = passed-all (c .before .loop .inv) (c .loop-test .left) in (
+      none,
+      rw (wide .ensures)
+          (clear-more _ _ _ _ _ (c .before .loop .inv .clear) (omega (arith, pre .1 .1 .0, pre .1 .0 .nodes)) none),
+    )
 
 pub +used-in-spec : {M : Type 1} → statement M
 +used-in-spec = close μ-used-in λ t. used-in-lts.spec (used-in-calls t) (used-in-at t) used-in.Post

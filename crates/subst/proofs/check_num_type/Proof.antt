@@ -42,13 +42,33 @@ num-node-requires : tie.Need-num-node-requires
 num-node-requires c κs = search needs
 
 returns : tie.Need-returns
-returns c = λ ds. c .num-shape .ensures _ ∙ ap num-shape (value-is _ _ (c .before .before .before .before .node-at .result) (c .before .before .before .before .node-at .ensures ds)) ∙ num-plain _ _ (var-of _ _ (c .before .before .before .before .node-at .result) (c .before .before .before .as-var .result) (c .before .before .before .before .node-at .ensures ds) (c .before .before .before .as-var .ensures) ∙ ap next (c .before .enum-told .given .1))
+returns c =
+    let node-at = c .before .before .before .before .node-at in
+    let as-var = c .before .before .before .as-var in
+    λ ds. c .num-shape .ensures _ ∙ ap num-shape (value-is _ _ (node-at .result) (node-at .ensures ds)) ∙ num-plain _ _
+    (var-of _ _ (node-at .result) (as-var .result) (node-at .ensures ds) (as-var .ensures) ∙ ap next
+    (c .before .enum-told .given .1))
 
 returns-2 : tie.Need-returns-2
-returns-2 c = λ ds. c .is-num-var .ensures ds ∙ num-open _ _ _ (var-of _ _ (c .before .before .before .before .before .before .before .before .before .node-at .result) (c .before .before .before .before .before .before .before .before .as-var .result) (c .before .before .before .before .before .before .before .before .before .node-at .ensures ds) (c .before .before .before .before .before .before .before .before .as-var .ensures) ∙ ap next (c .before .before .before .before .before .before .v .given .1)) _ (c .before .before .before .before .forward-tvar .ensures ds) (sym (c .before .before .before .bound-at .ensures ds) ∙ ap found (c .before .enum-told2 .given .1))
+returns-2 c =
+    let node-at = c .before .before .before .before .before .before .before .before .before .node-at in
+    let as-var = c .before .before .before .before .before .before .before .before .as-var in
+    let v = c .before .before .before .before .before .before .v in
+    λ ds. c .is-num-var .ensures ds ∙ num-open _ _ _
+    (var-of _ _ (node-at .result) (as-var .result) (node-at .ensures ds) (as-var .ensures) ∙ ap next (v .given .1))
+    _ (c .before .before .before .before .forward-tvar .ensures ds)
+    (sym (c .before .before .before .bound-at .ensures ds) ∙ ap found (c .before .enum-told2 .given .1))
 
 returns-3 : tie.Need-returns-3
-returns-3 c = λ ds. c .num-node .ensures ds ∙ num-bound _ _ _ (var-of _ _ (c .before .before .before .before .before .before .before .before .before .before .node-at .result) (c .before .before .before .before .before .before .before .before .before .as-var .result) (c .before .before .before .before .before .before .before .before .before .before .node-at .ensures ds) (c .before .before .before .before .before .before .before .before .before .as-var .ensures) ∙ ap next (c .before .before .before .before .before .before .before .v .given .1)) _ _ (c .before .before .before .before .before .forward-tvar .ensures ds) (sym (c .before .before .before .before .bound-at .ensures ds) ∙ ap found (c .before .before .t .given .1))
+returns-3 c =
+    let node-at = c .before .before .before .before .before .before .before .before .before .before .node-at in
+    let as-var = c .before .before .before .before .before .before .before .before .before .as-var in
+    let v = c .before .before .before .before .before .before .before .v in
+    let forward-tvar = c .before .before .before .before .before .forward-tvar in
+    λ ds. c .num-node .ensures ds ∙ num-bound _ _ _
+    (var-of _ _ (node-at .result) (as-var .result) (node-at .ensures ds) (as-var .ensures) ∙ ap next (v .given .1))
+    _ _ (forward-tvar .ensures ds)
+    (sym (c .before .before .before .before .bound-at .ensures ds) ∙ ap found (c .before .before .t .given .1))
 
 pub check-num-type-spec : {M : Type 1} → statement M
 check-num-type-spec =

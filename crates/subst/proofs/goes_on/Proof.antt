@@ -17,7 +17,12 @@ enum-told : tie.Need-enum-told
 enum-told c = search needs
 
 returns : tie.Need-returns
-returns c = goes-node _ _ _ (c .before .before .before .before .unfold-type .result) (c .before .before .before .before .unfold-type .ensures) (c .before .before .before .before .before .before .pre .0) _ (c .before .before .x .given .1) (unfolded-node (c .before .before .before .before .unfold-type .ensures .inside) (c .before .before .x .given .1)) (c .node-at .result) (c .node-at .ensures)
+returns c =
+    let pre = c .before .before .before .before .before .before .pre in
+    let unfold-type = c .before .before .before .before .unfold-type in
+    let x = c .before .before .x in
+    goes-node _ _ _ (unfold-type .result) (unfold-type .ensures) (pre .0) _ (x .given .1)
+    (unfolded-node (unfold-type .ensures .inside) (x .given .1)) (c .node-at .result) (c .node-at .ensures)
 
 returns-2 : tie.Need-returns-2
 returns-2 c = goes-anything _ _ _ (c .before .before .unfold-type .result) (c .before .before .unfold-type .ensures) _ (c .enum-told .given .1)

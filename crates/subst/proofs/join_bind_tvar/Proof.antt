@@ -33,7 +33,15 @@ same-length-3 : tie.Need-same-length-3
 same-length-3 c = search needs
 
 returns-3 : tie.Need-returns-3
-returns-3 c = binds-anything _ _ _ _ _ (c .before .before .before .before .before .before .before .before .check-num-tvar .ensures) (c .before .before .before .before .before .before .before .if1 .left) _ (c .before .before .before .before .before .used-tvars .ensures) (c .before .before .before .before .if2 .left) (c .before .before .node-at .result) (c .before .before .node-at .ensures) _ (c .before .is-anything .ensures) (c .before .before .before .before .before .before .before .before .before .before .before .pre .0) (c .if3 .taken)
+returns-3 c =
+    let pre = c .before .before .before .before .before .before .before .before .before .before .before .pre in
+    let check-num-tvar = c .before .before .before .before .before .before .before .before .check-num-tvar in
+    let if1 = c .before .before .before .before .before .before .before .if1 in
+    let used-tvars = c .before .before .before .before .before .used-tvars in
+    let node-at = c .before .before .node-at in
+    binds-anything _ _ _ _ _ (check-num-tvar .ensures) (if1 .left) _ (used-tvars .ensures)
+    (c .before .before .before .before .if2 .left) (node-at .result) (node-at .ensures) _
+    (c .before .is-anything .ensures) (pre .0) (c .if3 .taken)
 
 bind-var-requires : tie.Need-bind-var-requires
 bind-var-requires c κs = search needs
@@ -42,7 +50,16 @@ same-length-4 : tie.Need-same-length-4
 same-length-4 c = c .before .before .bind-var .ensures .lay .size ∙ sym (c .before .before .before .before .before .before .before .before .before .before .before .before .before .before .before .pre .0 .size)
 
 returns-4 : tie.Need-returns-4
-returns-4 c = binds-stored _ _ _ _ _ (c .before .before .before .before .before .before .before .before .before .before .before .before .check-num-tvar .ensures) (c .before .before .before .before .before .before .before .before .before .before .before .if1 .left) _ (c .before .before .before .before .before .before .before .before .before .used-tvars .ensures) (c .before .before .before .before .before .before .before .before .if2 .left) (c .before .before .before .before .before .before .node-at .result) (c .before .before .before .before .before .before .node-at .ensures) _ (c .before .before .before .before .before .is-anything .ensures) _ (c .before .before .bind-var .ensures) (c .before .before .before .before .if3 .left)
+returns-4 c =
+    let check-num-tvar = c .before .before .before .before .before .before .before .before .before .before .before .before .check-num-tvar in
+    let if1 = c .before .before .before .before .before .before .before .before .before .before .before .if1 in
+    let used-tvars = c .before .before .before .before .before .before .before .before .before .used-tvars in
+    let if2 = c .before .before .before .before .before .before .before .before .if2 in
+    let node-at = c .before .before .before .before .before .before .node-at in
+    let is-anything = c .before .before .before .before .before .is-anything in
+    binds-stored _ _ _ _ _ (check-num-tvar .ensures) (if1 .left) _ (used-tvars .ensures) (if2 .left) (node-at .result)
+    (node-at .ensures) _ (is-anything .ensures) _ (c .before .before .bind-var .ensures)
+    (c .before .before .before .before .if3 .left)
 
 pub join-bind-tvar-spec : {M : Type 1} → statement M
 join-bind-tvar-spec =

@@ -27,13 +27,23 @@ enum-known-many : tie.Need-enum-known-many Inv-loop μ-loop
 enum-known-many c = search needs
 
 returns : tie.Need-returns Inv-loop μ-loop
-returns c = coming-parts (c .before .before .before .before .before .before .loop .inv) (c .before .before .before .before .before .loop-test .taken) (c .before .before .before .before .node-at .result) (c .before .before .before .before .node-at .ensures) _ (c .before .before .before .ready-onward .ensures) _ (c .before .many .given .1)
+returns c =
+    let loop = c .before .before .before .before .before .before .loop in
+    let loop-test = c .before .before .before .before .before .loop-test in
+    let node-at = c .before .before .before .before .node-at in
+    coming-parts (loop .inv) (loop-test .taken) (node-at .result) (node-at .ensures) _
+    (c .before .before .before .ready-onward .ensures) _ (c .before .many .given .1)
 
 enum-known-v : tie.Need-enum-known-v Inv-loop μ-loop
 enum-known-v c = search needs
 
 returns-2 : tie.Need-returns-2 Inv-loop μ-loop
-returns-2 c = coming-open (c .before .before .before .before .before .before .loop .inv) (c .before .before .before .before .before .loop-test .taken) (c .before .before .before .before .node-at .result) (c .before .before .before .before .node-at .ensures) _ (c .before .before .before .ready-onward .ensures) _ (c .before .v .given .1)
+returns-2 c =
+    let loop = c .before .before .before .before .before .before .loop in
+    let loop-test = c .before .before .before .before .before .loop-test in
+    let node-at = c .before .before .before .before .node-at in
+    coming-open (loop .inv) (loop-test .taken) (node-at .result) (node-at .ensures) _
+    (c .before .before .before .ready-onward .ensures) _ (c .before .v .given .1)
 
 enum-known-x : tie.Need-enum-known-x Inv-loop μ-loop
 enum-known-x c = search needs
@@ -42,7 +52,12 @@ loop-less : tie.Need-loop-less Inv-loop μ-loop
 loop-less c = let p = c .before .before .before .before .before .loop-test .taken in omega arith
 
 loop-again : tie.Need-loop-again Inv-loop μ-loop
-loop-again c = coming-on (c .before .before .before .before .before .before .loop .inv) (c .before .before .before .before .before .loop-test .taken) (c .before .before .before .before .node-at .result) (c .before .before .before .before .node-at .ensures) _ (c .before .before .before .ready-onward .ensures) _ (c .before .x .given .1)
+loop-again c =
+    let loop = c .before .before .before .before .before .before .loop in
+    let loop-test = c .before .before .before .before .before .loop-test in
+    let node-at = c .before .before .before .before .node-at in
+    coming-on (loop .inv) (loop-test .taken) (node-at .result) (node-at .ensures) _
+    (c .before .before .before .ready-onward .ensures) _ (c .before .x .given .1)
 
 returns-3 : tie.Need-returns-3 Inv-loop μ-loop
 returns-3 c = coming-none (c .before .loop .inv) (c .loop-test .left)

@@ -25,7 +25,10 @@ returns : tie.Need-returns
 returns c = λ ds. next-none _ _ (c .before .before .bound-at .result) (c .before .before .bound-at .ensures ds) (c .enum-told .given .1)
 
 returns-2 : tie.Need-returns-2
-returns-2 c = λ ds. c .as-var .ensures _ ∙ ap as-var (value-is _ _ (c .before .node-at .result) (c .before .node-at .ensures ds)) ∙ next-some _ _ _ (c .before .before .before .before .before .bound-at .result) (c .before .before .before .before .before .bound-at .ensures ds) (c .before .before .before .t .given .1)
+returns-2 c =
+    let bound-at = c .before .before .before .before .before .bound-at in
+    λ ds. c .as-var .ensures _ ∙ ap as-var (value-is _ _ (c .before .node-at .result) (c .before .node-at .ensures ds))
+    ∙ next-some _ _ _ (bound-at .result) (bound-at .ensures ds) (c .before .before .before .t .given .1)
 
 pub next-of-spec : {M : Type 1} → statement M
 next-of-spec =

@@ -61,7 +61,11 @@ returns-5 : tie.Need-returns-5
 returns-5 c = goes-open _ _ _ _ _ (c .before .before .before .before .before .s2 .given .1) (c .before .before .before .chain-end .ensures) _ (c .before .before .bound-at .ensures) (c .enum-told4 .given .1)
 
 returns-6 : tie.Need-returns-6
-returns-6 c = goes-bound _ _ _ _ _ (c .before .before .before .before .before .before .s2 .given .1) (c .before .before .before .before .chain-end .ensures) _ (c .before .before .before .bound-at .ensures) (c .before .before .before .before .before .before .before .before .before .before .pre .0) _ (c .before .t .given .1)
+returns-6 c =
+    let pre = c .before .before .before .before .before .before .before .before .before .before .pre in
+    let s2 = c .before .before .before .before .before .before .s2 in
+    goes-bound _ _ _ _ _ (s2 .given .1) (c .before .before .before .before .chain-end .ensures) _
+    (c .before .before .before .bound-at .ensures) (pre .0) _ (c .before .t .given .1)
 
 returns-7 : tie.Need-returns-7
 unfolding as-var with-args

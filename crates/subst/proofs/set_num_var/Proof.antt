@@ -28,7 +28,12 @@ same-length : tie.Need-same-length Inv-loop μ-loop
 same-length c = c .before .before .before .before .mark-one .ensures .lay .size ∙ sym (c .before .before .before .before .before .before .before .before .before .before .before .pre .size)
 
 returns : tie.Need-returns Inv-loop μ-loop
-returns c = marking-last (c .before .before .before .before .before .before .before .before .before .loop .inv) (c .before .before .before .before .before .before .before .before .loop-test .taken) _ (c .before .before .before .before .mark-one .ensures) _ (c .before .before .before .before .before .before .next-of .ensures) (c .enum-told .given .1)
+returns c =
+    let loop = c .before .before .before .before .before .before .before .before .before .loop in
+    let loop-test = c .before .before .before .before .before .before .before .before .loop-test in
+    let next-of = c .before .before .before .before .before .before .next-of in
+    marking-last (loop .inv) (loop-test .taken) _ (c .before .before .before .before .mark-one .ensures) _
+    (next-of .ensures) (c .enum-told .given .1)
 
 enum-known-n : tie.Need-enum-known-n Inv-loop μ-loop
 enum-known-n c = search needs
@@ -40,7 +45,12 @@ loop-less : tie.Need-loop-less Inv-loop μ-loop
 loop-less c = omega arith
 
 loop-again : tie.Need-loop-again Inv-loop μ-loop
-loop-again c = marking-on (c .before .before .before .before .before .before .before .before .before .before .loop .inv) (c .before .before .before .before .before .before .before .before .before .loop-test .taken) _ (c .before .before .before .before .before .mark-one .ensures) _ (c .before .before .before .before .before .before .before .next-of .ensures) _ (c .before .n .given .1)
+loop-again c =
+    let loop = c .before .before .before .before .before .before .before .before .before .before .loop in
+    let loop-test = c .before .before .before .before .before .before .before .before .before .loop-test in
+    let next-of = c .before .before .before .before .before .before .before .next-of in
+    let mark-one = c .before .before .before .before .before .mark-one in
+    marking-on (loop .inv) (loop-test .taken) _ (mark-one .ensures) _ (next-of .ensures) _ (c .before .n .given .1)
 
 same-length-2 : tie.Need-same-length-2 Inv-loop μ-loop
 same-length-2 c = c .before .loop .inv .lay .size ∙ sym (c .before .before .before .pre .size)

@@ -27,7 +27,12 @@ shared-slice-read-result : tie.Need-shared-slice-read-result
 shared-slice-read-result c = search needs
 
 returns : tie.Need-returns
-returns c = λ ds many h. rw (c .before .before .before .wide2 .ensures, c .before .before .wide3 .ensures) (sym (arg-read _ _ ds _ many _ h (rw (c .before .before .before .before .wide .ensures, c .before .before .before .wide2 .ensures, c .before .before .wide3 .ensures) at (c .before .if1 .taken))))
+returns c =
+    let wide2 = c .before .before .before .wide2 in
+    let wide3 = c .before .before .wide3 in
+    λ ds many h. rw (wide2 .ensures, wide3 .ensures)
+    (sym (arg-read _ _ ds _ many _ h
+    (rw (c .before .before .before .before .wide .ensures, wide2 .ensures, wide3 .ensures) at (c .before .if1 .taken))))
 
 returns-2 : tie.Need-returns-2
 returns-2 c = λ ds many h. sym (arg-beyond _ _ ds _ many _ h (rw (c .before .before .before .wide .ensures, c .before .before .wide2 .ensures, c .before .wide3 .ensures) at (c .if1 .left)))

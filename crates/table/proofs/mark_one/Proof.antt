@@ -20,7 +20,11 @@ same-length : tie.Need-same-length
 same-length c = search needs
 
 returns : tie.Need-returns
-returns c = mark-cell _ _ _ _ _ (c .before .before .before .before .before .before .before .bound-at .result) (c .before .before .before .before .before .num-loc-at .result) _ (c .before .before .before .before .before .before .before .bound-at .ensures) (c .before .before .before .before .before .num-loc-at .ensures) (c .before .before .before .before .or-insert .ensures) (c .before .before .put-cell .ensures)
+returns c =
+    let bound-at = c .before .before .before .before .before .before .before .bound-at in
+    let num-loc-at = c .before .before .before .before .before .num-loc-at in
+    mark-cell _ _ _ _ _ (bound-at .result) (num-loc-at .result) _ (bound-at .ensures) (num-loc-at .ensures)
+    (c .before .before .before .before .or-insert .ensures) (c .before .before .put-cell .ensures)
 
 pub mark-one-spec : {M : Type 1} → statement M
 mark-one-spec =

@@ -69,7 +69,11 @@ shared-slice-read-t27 : tie.Need-shared-slice-read-t27
 shared-slice-read-t27 c = search needs
 
 returns : tie.Need-returns
-returns c = λ ds. node-made _ _ ds _ _ _ (c .before .before .before .before .before .before .before .before .if1 .taken) (rw (c .before .before .before .before .before .before .before .wide .ensures)) (rw (c .before .before .before .before .before .before .before .wide .ensures) at (c .before .shape-at .ensures))
+returns c =
+    let if1 = c .before .before .before .before .before .before .before .before .if1 in
+    let wide = c .before .before .before .before .before .before .before .wide in
+    λ ds. node-made _ _ ds _ _ _ (if1 .taken) (rw (wide .ensures))
+    (rw (wide .ensures) at (c .before .shape-at .ensures))
 
 returns-2 : tie.Need-returns-2
 returns-2 c = λ ds. sym (node-beyond _ _ ds _ (c .if1 .left))

@@ -29,7 +29,13 @@ same-length : tie.Need-same-length
 same-length c = c .before .before .write-row .ensures .size
 
 returns-2 : tie.Need-returns-2
-returns-2 c = constraint-pushed _ _ _ (c .before .before .before .before .before .before .before .before .pre) _ _ (c .before .before .before .before .before .before .if1 .left) (rw (c .before .before .before .wide .ensures) at (c .before .before .write-row .ensures)) (c .before .before .before .before .before .constraint-row .ensures)
+returns-2 c =
+    let pre = c .before .before .before .before .before .before .before .before .pre in
+    let if1 = c .before .before .before .before .before .before .if1 in
+    let constraint-row = c .before .before .before .before .before .constraint-row in
+    constraint-pushed _ _ _ (pre) _ _ (if1 .left)
+    (rw (c .before .before .before .wide .ensures) at (c .before .before .write-row .ensures))
+    (constraint-row .ensures)
 
 pub push-constraint-spec : {M : Type 1} → statement M
 push-constraint-spec =

@@ -30,7 +30,13 @@ same-length : tie.Need-same-length
 same-length c = c .before .before .write-row .ensures .size
 
 returns-2 : tie.Need-returns-2
-returns-2 c = flat-pushed _ _ _ (c .before .before .before .before .before .before .before .before .args .shape) _ _ _ (c .before .before .before .before .before .before .before .before .pre .0) (c .before .before .before .before .before .before .before .before .pre .1) (c .before .before .before .before .before .before .if1 .left) (c .before .before .before .wide .ensures) (c .before .before .write-row .ensures) (c .before .before .before .before .before .row-of .ensures)
+returns-2 c =
+    let args = c .before .before .before .before .before .before .before .before .args in
+    let pre = c .before .before .before .before .before .before .before .before .pre in
+    let if1 = c .before .before .before .before .before .before .if1 in
+    let row-of = c .before .before .before .before .before .row-of in
+    flat-pushed _ _ _ (args .shape) _ _ _ (pre .0) (pre .1) (if1 .left) (c .before .before .before .wide .ensures)
+    (c .before .before .write-row .ensures) (row-of .ensures)
 
 pub push-node-spec : {M : Type 1} → statement M
 push-node-spec =

@@ -30,7 +30,13 @@ same-length : tie.Need-same-length
 same-length c = c .before .before .write-row .ensures .size
 
 returns-2 : tie.Need-returns-2
-returns-2 c = struct-pushed _ _ _ _ (c .before .before .before .before .before .before .before .before .pre) _ _ (c .before .before .before .before .before .before .if1 .left) (rw (c .before .before .before .wide .ensures) at (c .before .before .write-row .ensures)) (struct-row _ _ _ (c .before .before .before .before .before .bits .ensures .0) (c .before .before .before .before .before .bits .ensures .1))
+returns-2 c =
+    let pre = c .before .before .before .before .before .before .before .before .pre in
+    let if1 = c .before .before .before .before .before .before .if1 in
+    let bits = c .before .before .before .before .before .bits in
+    struct-pushed _ _ _ _ (pre) _ _ (if1 .left)
+    (rw (c .before .before .before .wide .ensures) at (c .before .before .write-row .ensures))
+    (struct-row _ _ _ (bits .ensures .0) (bits .ensures .1))
 
 pub push-struct-spec : {M : Type 1} → statement M
 push-struct-spec =

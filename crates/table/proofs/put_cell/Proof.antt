@@ -27,7 +27,15 @@ same-length : tie.Need-same-length
 same-length c = c .before .before .write-row .ensures .size
 
 returns : tie.Need-returns
-returns c = rw (c .before .before .before .before .before .before .before .number .ensures .0) at (cell-put _ _ _ _ _ (c .before .before .before .before .before .before .before .before .before .pre .0) (found-in _ (c .before .before .before .before .before .before .before .before .before .args .b) (c .before .before .before .before .before .before .before .before .before .pre .1)) _ _ (c .before .before .before .before .before .before .if1 .taken) (rw (c .before .before .before .wide .ensures) at (c .before .before .write-row .ensures)) (c .before .before .before .before .before .cell-row .ensures))
+returns c =
+    let args = c .before .before .before .before .before .before .before .before .before .args in
+    let pre = c .before .before .before .before .before .before .before .before .before .pre in
+    let number = c .before .before .before .before .before .before .before .number in
+    let if1 = c .before .before .before .before .before .before .if1 in
+    let cell-row = c .before .before .before .before .before .cell-row in
+    rw (number .ensures .0) at (cell-put _ _ _ _ _ (pre .0) (found-in _ (args .b) (pre .1)) _ _ (if1 .taken)
+    (rw (c .before .before .before .wide .ensures) at (c .before .before .write-row .ensures))
+    (cell-row .ensures))
 
 returns-2 : tie.Need-returns-2
 returns-2 c = cell-none _ _ _ _ _ (c .before .before .before .pre .0) (found-in _ (c .before .before .before .args .b) (c .before .before .before .pre .1)) (rw (c .before .number .ensures .0) at (c .if1 .left))

@@ -75,7 +75,25 @@ subst-apply-arg-at-requires : (t : ℕ) → subst-apply-lts.Need-arg-at-requires
 subst-apply-arg-at-requires t c κs = search needs
 
 subst-apply-subst-down-requires : (t : ℕ) → subst-apply-lts.Need-subst-down-requires (subst-apply-calls t) (subst-apply-at t) subst-apply.Post subst-apply-Inv-loop subst-apply-μ-loop
-subst-apply-subst-down-requires t c κs = (omega (arith, c .before .before .before .before .before .before .pre .0), (c .before .before .before .before .loop .inv .lay, (omega (arith, (arg-kept _ _ _ _ (c .before .before .before .before .before .before .pre .1 .1 .0 .placed) _ _ (c .before .before .before .before .loop .inv .grown) _ _ (c .before .before .before .loop-test .taken) (c .before .arg-at .ensures)), c .before .before .before .before .before .before .pre .1 .1 .0 .smaller _ (c .before .before .before .loop-test .taken), nodes-grow _ _ _ _ (c .before .before .before .before .loop .inv .grown)), parts-grow _ _ _ _ (nodes-grow _ _ _ _ (c .before .before .before .before .loop .inv .grown)) (c .before .before .before .before .before .before .pre .1 .1 .1))))
+subst-apply-subst-down-requires t c κs =
+    let pre = c .before .before .before .before .before .before .pre in
+    let loop = c .before .before .before .before .loop in
+    let loop-test = c .before .before .before .loop-test in (
+      omega (arith, pre .0),
+      (
+        loop .inv .lay,
+        (
+          omega (
+            arith,
+            (arg-kept _ _ _ _ (pre .1 .1 .0 .placed) _ _ (loop .inv .grown) _ _ (loop-test .taken)
+                (c .before .arg-at .ensures)),
+            pre .1 .1 .0 .smaller _ (loop-test .taken),
+            nodes-grow _ _ _ _ (loop .inv .grown),
+          ),
+          parts-grow _ _ _ _ (nodes-grow _ _ _ _ (loop .inv .grown)) (pre .1 .1 .1),
+        ),
+      ),
+    )
 
 subst-apply-done-of-requires : (t : ℕ) → subst-apply-lts.Need-done-of-requires (subst-apply-calls t) (subst-apply-at t) subst-apply.Post subst-apply-Inv-loop subst-apply-μ-loop
 subst-apply-done-of-requires t c κs = search needs
@@ -90,35 +108,78 @@ subst-apply-same-length : (t : ℕ) → subst-apply-lts.Need-same-length (subst-
 subst-apply-same-length t c = c .before .before .before .before .before .subst-down .ensures .changed .lay .size ∙ sym (c .before .before .before .before .before .before .before .before .before .before .before .before .pre .1 .0 .size)
 
 subst-apply-returns : (t : ℕ) → subst-apply-lts.Need-returns (subst-apply-calls t) (subst-apply-at t) subst-apply.Post subst-apply-Inv-loop subst-apply-μ-loop
-subst-apply-returns t c = apply-walked _ _ _ _ _ _ _ _ _ _ (walk-stop _ _ _ _ _ (placed-length _ _ _ _ (c .before .before .before .before .before .before .before .before .before .before .before .before .pre .1 .1 .0 .placed)) ((c .before .before .before .before .before .before .before .before .before .before .before .before .pre .1 .1 .0 .placed) .few) _ _ _ _ _ _ (c .before .before .before .before .before .before .before .before .before .before .loop .inv) _ (c .before .before .before .before .before .before .before .before .before .loop-test .taken) (arg-kept _ _ _ _ (c .before .before .before .before .before .before .before .before .before .before .before .before .pre .1 .1 .0 .placed) _ _ (c .before .before .before .before .before .before .before .before .before .before .loop .inv .grown) _ _ (c .before .before .before .before .before .before .before .before .before .loop-test .taken) (c .before .before .before .before .before .before .before .arg-at .ensures)) Any (λ ds k. k) _ _ (when-after Any _ _ _ _ _ (c .before .before .before .before .before .subst-down .ensures)) _ (c .before .before .done-of .ensures) (c .enum-told .given .1))
+subst-apply-returns t c =
+    let pre = c .before .before .before .before .before .before .before .before .before .before .before .before .pre in
+    let loop = c .before .before .before .before .before .before .before .before .before .before .loop in
+    let loop-test = c .before .before .before .before .before .before .before .before .before .loop-test in
+    let arg-at = c .before .before .before .before .before .before .before .arg-at in
+    let subst-down = c .before .before .before .before .before .subst-down in
+    apply-walked _ _ _ _ _ _ _ _ _ _
+    (walk-stop _ _ _ _ _ (placed-length _ _ _ _ (pre .1 .1 .0 .placed)) ((pre .1 .1 .0 .placed) .few) _ _ _ _ _ _
+    (loop .inv) _ (loop-test .taken)
+    (arg-kept _ _ _ _ (pre .1 .1 .0 .placed) _ _ (loop .inv .grown) _ _ (loop-test .taken) (arg-at .ensures))
+    Any (λ ds k. k) _ _ (when-after Any _ _ _ _ _ (subst-down .ensures)) _
+    (c .before .before .done-of .ensures) (c .enum-told .given .1))
 
 subst-apply-wide-requires : (t : ℕ) → subst-apply-lts.Need-wide-requires (subst-apply-calls t) (subst-apply-at t) subst-apply.Post subst-apply-Inv-loop subst-apply-μ-loop
 subst-apply-wide-requires t c κs = search needs
 
 subst-apply-mul-parts : (t : ℕ) → subst-apply-lts.Need-mul-parts (subst-apply-calls t) (subst-apply-at t) subst-apply.Post subst-apply-Inv-loop subst-apply-μ-loop
-subst-apply-mul-parts t c = omega (arith, c .wide .ensures, (c .before .before .before .before .before .before .before .before .before .before .before .before .before .before .pre .1 .1 .0 .placed) .few, c .before .before .before .before .before .before .before .before .before .before .before .loop-test .taken)
+subst-apply-mul-parts t c =
+    let pre = c .before .before .before .before .before .before .before .before .before .before .before .before .before .before .pre in
+    let loop-test = c .before .before .before .before .before .before .before .before .before .before .before .loop-test in
+    omega (arith, c .wide .ensures, (pre .1 .1 .0 .placed) .few, loop-test .taken)
 
 subst-apply-array-write-parts : (t : ℕ) → subst-apply-lts.Need-array-write-parts (subst-apply-calls t) (subst-apply-at t) subst-apply.Post subst-apply-Inv-loop subst-apply-μ-loop
-subst-apply-array-write-parts t c = omega (arith, c .wide .ensures, (c .before .before .before .before .before .before .before .before .before .before .before .before .before .before .pre .1 .1 .0 .placed) .few, c .before .before .before .before .before .before .before .before .before .before .before .loop-test .taken)
+subst-apply-array-write-parts t c =
+    let pre = c .before .before .before .before .before .before .before .before .before .before .before .before .before .before .pre in
+    let loop-test = c .before .before .before .before .before .before .before .before .before .before .before .loop-test in
+    omega (arith, c .wide .ensures, (pre .1 .1 .0 .placed) .few, loop-test .taken)
 
 subst-apply-add-i : (t : ℕ) → subst-apply-lts.Need-add-i (subst-apply-calls t) (subst-apply-at t) subst-apply.Post subst-apply-Inv-loop subst-apply-μ-loop
-subst-apply-add-i t c = omega (arith, (c .before .before .before .before .before .before .before .before .before .before .before .before .before .before .before .pre .1 .1 .0 .placed) .few, c .before .before .before .before .before .before .before .before .before .before .before .before .loop-test .taken)
+subst-apply-add-i t c =
+    let pre = c .before .before .before .before .before .before .before .before .before .before .before .before .before .before .before .pre in
+    let loop-test = c .before .before .before .before .before .before .before .before .before .before .before .before .loop-test in
+    omega (arith, (pre .1 .1 .0 .placed) .few, loop-test .taken)
 
 subst-apply-loop-less : (t : ℕ) → subst-apply-lts.Need-loop-less (subst-apply-calls t) (subst-apply-at t) subst-apply.Post subst-apply-Inv-loop subst-apply-μ-loop
 subst-apply-loop-less t c = search needs
 
 subst-apply-loop-again : (t : ℕ) → subst-apply-lts.Need-loop-again (subst-apply-calls t) (subst-apply-at t) subst-apply.Post subst-apply-Inv-loop subst-apply-μ-loop
-subst-apply-loop-again t c = walk-more _ _ _ _ _ (placed-length _ _ _ _ (c .before .before .before .before .before .before .before .before .before .before .before .before .before .before .before .pre .1 .1 .0 .placed)) ((c .before .before .before .before .before .before .before .before .before .before .before .before .before .before .before .pre .1 .1 .0 .placed) .few) _ _ _ _ _ _ (c .before .before .before .before .before .before .before .before .before .before .before .before .before .loop .inv) _ (c .before .before .before .before .before .before .before .before .before .before .before .before .loop-test .taken) (arg-kept _ _ _ _ (c .before .before .before .before .before .before .before .before .before .before .before .before .before .before .before .pre .1 .1 .0 .placed) _ _ (c .before .before .before .before .before .before .before .before .before .before .before .before .before .loop .inv .grown) _ _ (c .before .before .before .before .before .before .before .before .before .before .before .before .loop-test .taken) (c .before .before .before .before .before .before .before .before .before .before .arg-at .ensures)) Any (λ ds k. k) _ _ (when-after Any _ _ _ _ _ (c .before .before .before .before .before .before .before .before .subst-down .ensures)) _ (c .before .before .before .before .before .done-of .ensures) _ _ (c .before .before .before .p .given .1) (c .before .wide .ensures)
+subst-apply-loop-again t c =
+    let pre = c .before .before .before .before .before .before .before .before .before .before .before .before .before .before .before .pre in
+    let loop = c .before .before .before .before .before .before .before .before .before .before .before .before .before .loop in
+    let loop-test = c .before .before .before .before .before .before .before .before .before .before .before .before .loop-test in
+    let arg-at = c .before .before .before .before .before .before .before .before .before .before .arg-at in
+    let subst-down = c .before .before .before .before .before .before .before .before .subst-down in
+    let done-of = c .before .before .before .before .before .done-of in
+    walk-more _ _ _ _ _ (placed-length _ _ _ _ (pre .1 .1 .0 .placed)) ((pre .1 .1 .0 .placed) .few) _ _ _ _ _ _
+    (loop .inv) _ (loop-test .taken)
+    (arg-kept _ _ _ _ (pre .1 .1 .0 .placed) _ _ (loop .inv .grown) _ _ (loop-test .taken) (arg-at .ensures)) Any
+    (λ ds k. k) _ _ (when-after Any _ _ _ _ _ (subst-down .ensures)) _ (done-of .ensures) _ _
+    (c .before .before .before .p .given .1) (c .before .wide .ensures)
 
 subst-apply-push-apply-requires : (t : ℕ) → subst-apply-lts.Need-push-apply-requires (subst-apply-calls t) (subst-apply-at t) subst-apply.Post subst-apply-Inv-loop subst-apply-μ-loop
-subst-apply-push-apply-requires t c κs = (c .before .before .loop .inv .lay, walk-parts _ _ _ _ _ (placed-length _ _ _ _ (c .before .before .before .before .pre .1 .1 .0 .placed)) ((c .before .before .before .before .pre .1 .1 .0 .placed) .few) _ _ _ _ _ _ (c .before .before .loop .inv) (c .before .loop-test .left))
+subst-apply-push-apply-requires t c κs =
+    let pre = c .before .before .before .before .pre in
+    let loop = c .before .before .loop in (
+      loop .inv .lay,
+      walk-parts _ _ _ _ _ (placed-length _ _ _ _ (pre .1 .1 .0 .placed)) ((pre .1 .1 .0 .placed) .few) _ _ _ _ _ _
+          (loop .inv) (c .before .loop-test .left),
+    )
 
 subst-apply-same-length-2 : (t : ℕ) → subst-apply-lts.Need-same-length-2 (subst-apply-calls t) (subst-apply-at t) subst-apply.Post subst-apply-Inv-loop subst-apply-μ-loop
 subst-apply-same-length-2 t c = c .before .before .push-apply .ensures .changed .lay .size ∙ sym (c .before .before .before .before .before .before .before .pre .1 .0 .size)
 
 subst-apply-returns-2 : (t : ℕ) → subst-apply-lts.Need-returns-2 (subst-apply-calls t) (subst-apply-at t) subst-apply.Post subst-apply-Inv-loop subst-apply-μ-loop
 unfolding sp-apply
-subst-apply-returns-2 t c = apply-walked _ _ _ _ _ _ _ _ _ _ (walk-end _ _ _ _ _ (placed-length _ _ _ _ (c .before .before .before .before .before .before .before .pre .1 .1 .0 .placed)) ((c .before .before .before .before .before .before .before .pre .1 .1 .0 .placed) .few) _ _ _ _ _ _ (c .before .before .before .before .before .loop .inv) Any (λ ds k. k) _ _ (c .before .before .before .before .loop-test .left) (when-after Any _ _ _ _ _ (c .before .before .push-apply .ensures)))
+subst-apply-returns-2 t c =
+    let pre = c .before .before .before .before .before .before .before .pre in
+    let loop = c .before .before .before .before .before .loop in
+    apply-walked _ _ _ _ _ _ _ _ _ _
+    (walk-end _ _ _ _ _ (placed-length _ _ _ _ (pre .1 .1 .0 .placed)) ((pre .1 .1 .0 .placed) .few) _ _ _ _ _ _
+    (loop .inv) Any (λ ds k. k) _ _ (c .before .before .before .before .loop-test .left)
+    (when-after Any _ _ _ _ _ (c .before .before .push-apply .ensures)))
 
 subst-down-stay-requires : (t : ℕ) → subst-down-lts.Need-stay-requires (subst-down-calls t) (subst-down-at t) subst-down.Post
 subst-down-stay-requires t c κs = search needs
@@ -169,7 +230,23 @@ subst-down-sub-subst-down : (t : ℕ) → subst-down-lts.Need-sub-subst-down (su
 subst-down-sub-subst-down t c = search needs
 
 subst-down-subst-down-requires : (t : ℕ) → subst-down-lts.Need-subst-down-requires (subst-down-calls t) (subst-down-at t) subst-down.Post
-subst-down-subst-down-requires t c κs = (omega (arith, c .before .before .before .before .before .before .before .before .pre .0, c .before .before .before .before .before .before .if1 .left), (c .before .before .before .before .before .before .before .before .pre .1 .0, (omega (arith, ref-below _ _ _ _ (c .before .before .before .before .before .before .before .before .pre .1 .0) (c .before .before .before .before .before .before .before .before .pre .1 .1 .0) (c .before .before .before .before .node-at .ensures) _ _ (c .before .before .shape2 .given .1), c .before .before .before .before .before .before .before .before .pre .1 .1 .0), c .before .before .before .before .before .before .before .before .pre .1 .1 .1)))
+subst-down-subst-down-requires t c κs =
+    let pre = c .before .before .before .before .before .before .before .before .pre in
+    let if1 = c .before .before .before .before .before .before .if1 in (
+      omega (arith, pre .0, if1 .left),
+      (
+        pre .1 .0,
+        (
+          omega (
+            arith,
+            ref-below _ _ _ _ (pre .1 .0) (pre .1 .1 .0) (c .before .before .before .before .node-at .ensures) _
+                _ (c .before .before .shape2 .given .1),
+            pre .1 .1 .0,
+          ),
+          pre .1 .1 .1,
+        ),
+      ),
+    )
 
 subst-down-done-of-requires : (t : ℕ) → subst-down-lts.Need-done-of-requires (subst-down-calls t) (subst-down-at t) subst-down.Post
 subst-down-done-of-requires t c κs = search needs
@@ -184,10 +261,22 @@ subst-down-same-length : (t : ℕ) → subst-down-lts.Need-same-length (subst-do
 subst-down-same-length t c = c .before .before .before .before .before .before .subst-down .ensures .changed .lay .size ∙ sym (c .before .before .before .before .before .before .before .before .before .before .before .before .before .before .before .pre .1 .0 .size)
 
 subst-down-returns-2 : (t : ℕ) → subst-down-lts.Need-returns-2 (subst-down-calls t) (subst-down-at t) subst-down.Post
-subst-down-returns-2 t c = ref-stop _ _ _ _ _ _ (c .before .before .before .before .before .before .before .before .before .before .before .before .before .before .before .pre .1 .0) (c .before .before .before .before .before .before .before .before .before .before .before .before .before .if1 .left) (c .before .before .before .before .before .before .before .before .before .before .before .node-at .ensures) _ _ (c .before .before .before .before .before .before .before .before .before .shape2 .given .1) _ _ _ (c .before .before .before .before .before .before .subst-down .ensures) (c .before .before .done-of .ensures) (c .enum-told5 .given .1)
+subst-down-returns-2 t c =
+    let pre = c .before .before .before .before .before .before .before .before .before .before .before .before .before .before .before .pre in
+    let if1 = c .before .before .before .before .before .before .before .before .before .before .before .before .before .if1 in
+    let node-at = c .before .before .before .before .before .before .before .before .before .before .before .node-at in
+    let shape2 = c .before .before .before .before .before .before .before .before .before .shape2 in
+    let subst-down = c .before .before .before .before .before .before .subst-down in
+    ref-stop _ _ _ _ _ _ (pre .1 .0) (if1 .left) (node-at .ensures) _ _ (shape2 .given .1) _ _ _ (subst-down .ensures)
+    (c .before .before .done-of .ensures) (c .enum-told5 .given .1)
 
 subst-down-push-node-requires : (t : ℕ) → subst-down-lts.Need-push-node-requires (subst-down-calls t) (subst-down-at t) subst-down.Post
-subst-down-push-node-requires t c κs = (c .before .before .before .before .before .before .before .before .subst-down .ensures .changed .lay, after-done _ _ _ _ _ _ _ (c .before .before .before .before .before .before .before .before .subst-down .ensures) (c .before .before .before .before .done-of .ensures) (c .before .before .p .given .1))
+subst-down-push-node-requires t c κs =
+    let subst-down = c .before .before .before .before .before .before .before .before .subst-down in (
+      subst-down .ensures .changed .lay,
+      after-done _ _ _ _ _ _ _ (subst-down .ensures) (c .before .before .before .before .done-of .ensures)
+          (c .before .before .p .given .1),
+    )
 
 subst-down-enum-known-shape-3 : (t : ℕ) → subst-down-lts.Need-enum-known-shape-3 (subst-down-calls t) (subst-down-at t) subst-down.Post
 subst-down-enum-known-shape-3 t c = search needs
@@ -196,25 +285,50 @@ subst-down-sub-subst-apply : (t : ℕ) → subst-down-lts.Need-sub-subst-apply (
 subst-down-sub-subst-apply t c = search needs
 
 subst-down-subst-apply-requires : (t : ℕ) → subst-down-lts.Need-subst-apply-requires (subst-down-calls t) (subst-down-at t) subst-down.Post
-subst-down-subst-apply-requires t c κs = (omega (arith, c .before .before .before .before .before .before .before .before .pre .0, c .before .before .before .before .before .before .if1 .left), (c .before .before .before .before .before .before .before .before .pre .1 .0, (named-below _ _ _ _ _ _ (c .before .before .before .before .before .before .before .before .pre .1 .1 .0) (named _ _ _ _ (c .before .before .before .before .before .before .before .before .pre .1 .0) (c .before .before .before .before .before .before .before .before .pre .1 .1 .0) (c .before .before .before .before .node-at .ensures) _ _ _ _ (c .before .before .shape3 .given .1)), c .before .before .before .before .before .before .before .before .pre .1 .1 .1)))
+subst-down-subst-apply-requires t c κs =
+    let pre = c .before .before .before .before .before .before .before .before .pre in
+    let if1 = c .before .before .before .before .before .before .if1 in (
+      omega (arith, pre .0, if1 .left),
+      (
+        pre .1 .0,
+        (
+          named-below _ _ _ _ _ _ (pre .1 .1 .0)
+              (named _ _ _ _ (pre .1 .0) (pre .1 .1 .0) (c .before .before .before .before .node-at .ensures) _
+              _ _ _ (c .before .before .shape3 .given .1)),
+          pre .1 .1 .1,
+        ),
+      ),
+    )
 
 subst-down-same-length-2 : (t : ℕ) → subst-down-lts.Need-same-length-2 (subst-down-calls t) (subst-down-at t) subst-down.Post
 subst-down-same-length-2 t c = search needs
 
 subst-down-returns-3 : (t : ℕ) → subst-down-lts.Need-returns-3 (subst-down-calls t) (subst-down-at t) subst-down.Post
-subst-down-returns-3 t c = down-unit _ _ _ _ _ _ (c .before .before .before .before .before .before .before .pre .1 .0) (c .before .before .before .before .before .if1 .left) (c .before .before .before .node-at .ensures) _ (c .before .before .before .before .before .before .before .pre .1 .1 .0) (c .stay2 .ensures) (c .before .enum-told .given .1)
+subst-down-returns-3 t c =
+    let pre = c .before .before .before .before .before .before .before .pre in
+    let if1 = c .before .before .before .before .before .if1 in
+    down-unit _ _ _ _ _ _ (pre .1 .0) (if1 .left) (c .before .before .before .node-at .ensures) _ (pre .1 .1 .0)
+    (c .stay2 .ensures) (c .before .enum-told .given .1)
 
 subst-down-same-length-3 : (t : ℕ) → subst-down-lts.Need-same-length-3 (subst-down-calls t) (subst-down-at t) subst-down.Post
 subst-down-same-length-3 t c = search needs
 
 subst-down-returns-4 : (t : ℕ) → subst-down-lts.Need-returns-4 (subst-down-calls t) (subst-down-at t) subst-down.Post
-subst-down-returns-4 t c = down-error _ _ _ _ _ _ (c .before .before .before .before .before .before .before .pre .1 .0) (c .before .before .before .before .before .if1 .left) (c .before .before .before .node-at .ensures) _ (c .before .before .before .before .before .before .before .pre .1 .1 .0) (c .stay3 .ensures) (c .before .enum-told2 .given .1)
+subst-down-returns-4 t c =
+    let pre = c .before .before .before .before .before .before .before .pre in
+    let if1 = c .before .before .before .before .before .if1 in
+    down-error _ _ _ _ _ _ (pre .1 .0) (if1 .left) (c .before .before .before .node-at .ensures) _ (pre .1 .1 .0)
+    (c .stay3 .ensures) (c .before .enum-told2 .given .1)
 
 subst-down-same-length-4 : (t : ℕ) → subst-down-lts.Need-same-length-4 (subst-down-calls t) (subst-down-at t) subst-down.Post
 subst-down-same-length-4 t c = search needs
 
 subst-down-returns-5 : (t : ℕ) → subst-down-lts.Need-returns-5 (subst-down-calls t) (subst-down-at t) subst-down.Post
-subst-down-returns-5 t c = down-anything _ _ _ _ _ _ (c .before .before .before .before .before .before .before .pre .1 .0) (c .before .before .before .before .before .if1 .left) (c .before .before .before .node-at .ensures) _ (c .before .before .before .before .before .before .before .pre .1 .1 .0) (c .stay4 .ensures) (c .before .enum-told3 .given .1)
+subst-down-returns-5 t c =
+    let pre = c .before .before .before .before .before .before .before .pre in
+    let if1 = c .before .before .before .before .before .if1 in
+    down-anything _ _ _ _ _ _ (pre .1 .0) (if1 .left) (c .before .before .before .node-at .ensures) _ (pre .1 .1 .0)
+    (c .stay4 .ensures) (c .before .enum-told3 .given .1)
 
 subst-down-same-length-5 : (t : ℕ) → subst-down-lts.Need-same-length-5 (subst-down-calls t) (subst-down-at t) subst-down.Post
 subst-down-same-length-5 t c = search needs
@@ -226,19 +340,41 @@ subst-down-same-length-6 : (t : ℕ) → subst-down-lts.Need-same-length-6 (subs
 subst-down-same-length-6 t c = search needs
 
 subst-down-returns-7 : (t : ℕ) → subst-down-lts.Need-returns-7 (subst-down-calls t) (subst-down-at t) subst-down.Post
-subst-down-returns-7 t c = down-param _ _ _ _ _ _ (c .before .before .before .before .before .before .before .before .before .pre .1 .0) (c .before .before .before .before .before .before .before .if1 .left) (c .before .before .before .before .before .node-at .ensures) _ _ _ _ (c .before .before .before .shape .given .1) (c .before .arg-or-none .ensures) (args-in _ _ _ _ _ (c .before .before .before .before .before .before .before .before .before .pre .1 .1 .1)) (c .stay6 .ensures)
+subst-down-returns-7 t c =
+    let pre = c .before .before .before .before .before .before .before .before .before .pre in
+    let if1 = c .before .before .before .before .before .before .before .if1 in
+    let node-at = c .before .before .before .before .before .node-at in
+    down-param _ _ _ _ _ _ (pre .1 .0) (if1 .left) (node-at .ensures) _ _ _ _
+    (c .before .before .before .shape .given .1) (c .before .arg-or-none .ensures)
+    (args-in _ _ _ _ _ (pre .1 .1 .1)) (c .stay6 .ensures)
 
 subst-down-same-length-7 : (t : ℕ) → subst-down-lts.Need-same-length-7 (subst-down-calls t) (subst-down-at t) subst-down.Post
 subst-down-same-length-7 t c = c .before .before .push-node .ensures .changed .lay .size ∙ sym (c .before .before .before .before .before .before .before .before .before .before .before .before .before .before .before .before .before .before .before .before .pre .1 .0 .size)
 
 subst-down-returns-8 : (t : ℕ) → subst-down-lts.Need-returns-8 (subst-down-calls t) (subst-down-at t) subst-down.Post
-subst-down-returns-8 t c = ref-then _ _ _ _ _ _ (c .before .before .before .before .before .before .before .before .before .before .before .before .before .before .before .before .before .before .before .before .pre .1 .0) (c .before .before .before .before .before .before .before .before .before .before .before .before .before .before .before .before .before .before .if1 .left) (c .before .before .before .before .before .before .before .before .before .before .before .before .before .before .before .before .node-at .ensures) _ _ (c .before .before .before .before .before .before .before .before .before .before .before .before .before .before .shape2 .given .1) _ _ _ (c .before .before .before .before .before .before .before .before .before .before .before .subst-down .ensures) (c .before .before .before .before .before .before .before .done-of .ensures) _ _ _ (c .before .before .before .before .before .p .given .1) (c .before .before .push-node .ensures)
+subst-down-returns-8 t c =
+    let c12 = c .before .before .before .before .before .before .before .before .before .before .before .before in
+    let pre = c12 .before .before .before .before .before .before .before .before .pre in
+    let if1 = c12 .before .before .before .before .before .before .if1 in
+    let node-at = c12 .before .before .before .before .node-at in
+    let shape2 = c12 .before .before .shape2 in
+    let subst-down = c .before .before .before .before .before .before .before .before .before .before .before .subst-down in
+    let done-of = c .before .before .before .before .before .before .before .done-of in
+    let p = c .before .before .before .before .before .p in
+    ref-then _ _ _ _ _ _ (pre .1 .0) (if1 .left) (node-at .ensures) _ _ (shape2 .given .1) _ _ _ (subst-down .ensures)
+    (done-of .ensures) _ _ _ (p .given .1) (c .before .before .push-node .ensures)
 
 subst-down-same-length-8 : (t : ℕ) → subst-down-lts.Need-same-length-8 (subst-down-calls t) (subst-down-at t) subst-down.Post
 subst-down-same-length-8 t c = c .before .before .subst-apply .ensures .changed .lay .size ∙ sym (c .before .before .before .before .before .before .before .before .before .before .before .pre .1 .0 .size)
 
 subst-down-returns-9 : (t : ℕ) → subst-down-lts.Need-returns-9 (subst-down-calls t) (subst-down-at t) subst-down.Post
-subst-down-returns-9 t c = apply-by _ _ _ _ _ _ (c .before .before .before .before .before .before .before .before .before .before .before .pre .1 .0) (c .before .before .before .before .before .before .before .before .before .if1 .left) (c .before .before .before .before .before .before .before .node-at .ensures) _ _ _ _ (c .before .before .before .before .before .shape3 .given .1) _ _ (c .before .before .subst-apply .ensures)
+subst-down-returns-9 t c =
+    let pre = c .before .before .before .before .before .before .before .before .before .before .before .pre in
+    let if1 = c .before .before .before .before .before .before .before .before .before .if1 in
+    let node-at = c .before .before .before .before .before .before .before .node-at in
+    let shape3 = c .before .before .before .before .before .shape3 in
+    apply-by _ _ _ _ _ _ (pre .1 .0) (if1 .left) (node-at .ensures) _ _ _ _ (shape3 .given .1) _ _
+    (c .before .before .subst-apply .ensures)
 
 pub +subst-apply+subst-down-spec : {M : Type 1} → statement M
 +subst-apply+subst-down-spec = close μ-subst-apply μ-subst-down (λ t. subst-apply-lts.spec (subst-apply-calls t) (subst-apply-at t) subst-apply.Post

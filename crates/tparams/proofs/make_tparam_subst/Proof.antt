@@ -47,13 +47,23 @@ loop-less : tie.Need-loop-less Inv-loop μ-loop
 loop-less c = search needs
 
 loop-again : tie.Need-loop-again Inv-loop μ-loop
-loop-again c = (omega arith, made-back _ _ _ _ _ (c .before .before .before .before .before .loop-test .taken) (c .before .before .before .before .before .before .loop .inv .0) (c .before .before .before .before .wide .ensures) (c .before .before .before .before .before .before .loop .inv .1) (rw (c .enum-told .given .1) at (c .before .before .arg-from .ensures)))
+loop-again c =
+    let loop = c .before .before .before .before .before .before .loop in
+    let loop-test = c .before .before .before .before .before .loop-test in (
+      omega arith,
+      made-back _ _ _ _ _ (loop-test .taken) (loop .inv .0) (c .before .before .before .before .wide .ensures)
+          (loop .inv .1) (rw (c .enum-told .given .1) at (c .before .before .arg-from .ensures)),
+    )
 
 enum-told-2 : tie.Need-enum-told-2 Inv-loop μ-loop
 enum-told-2 c = search needs
 
 returns : tie.Need-returns Inv-loop μ-loop
-returns c = sym (twice-back _ _ _ _ _ (c .before .before .before .before .before .loop-test .taken) (c .before .before .before .before .before .before .loop .inv .0) (c .before .before .before .before .wide .ensures) (c .before .before .before .before .before .before .loop .inv .1) _ (rw (c .enum-told2 .given .1) at (c .before .before .arg-from .ensures)))
+returns c =
+    let loop = c .before .before .before .before .before .before .loop in
+    let loop-test = c .before .before .before .before .before .loop-test in
+    sym (twice-back _ _ _ _ _ (loop-test .taken) (loop .inv .0) (c .before .before .before .before .wide .ensures)
+    (loop .inv .1) _ (rw (c .enum-told2 .given .1) at (c .before .before .arg-from .ensures)))
 
 returns-2 : tie.Need-returns-2 Inv-loop μ-loop
 returns-2 c = let e : c .before .loop .i ≡ 0 = omega arith in sym (rw (e, sub-zero _) at (c .before .loop .inv .1))

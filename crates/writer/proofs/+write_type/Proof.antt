@@ -1,4 +1,5 @@
 -- `writer::write_type` meets its contract. Assumes nothing.
+-- By the node's number, which falls from a type to its parts. Invariant `Goes-on`: if the head stands in the buffer, so do the parts before i after it.
 use Rattle.writer.proofs.Turns.{at-node, Goes-on, goes-more, write-none, write-all, part-falls, part-room, bytes-at, head-room}
 use mathlib.Core.List.{[]}
 use Prim.Native.Nat.{_-_, ℕ, _<_}
@@ -54,11 +55,24 @@ write-type-part-at-requires t c κs = c .before .before .before .before .before 
 
 write-type-write-type-requires : (t : ℕ) → write-type-lts.Need-write-type-requires (write-type-calls t) (write-type-at t) write-type.Post write-type-Inv-loop write-type-μ-loop
 write-type-write-type-requires t c κs =
-    let E = c .before .before .before .before .before .before .before .before .before .before .before .before .args .buf .now in
-    let a = at-node _ _ _ (c .before .before .before .before .before .before .before .before .before .node-at .result) _ (c .before .before .before .before .before .before .before .before .before .before .before .before .pre .1 .0 .0) (c .before .before .before .before .before .before .before .before .before .before .before .before .pre .1 .0 .1 .0) (c .before .before .before .before .before .before .before .before .before .node-at .ensures) (c .before .before .before .before .before .before .before .before .part-count .ensures) in
-    let base = write-none _ _ _ (c .before .before .before .before .before .before .before .before .before .node-at .result) _ E _ _ _ a (c .before .before .before .before .before .before .before .before .before .before .before .before .pre .1 .1) (c .before .before .before .before .before .before .write-head .ensures) in
-    let f = part-falls _ _ _ (c .before .before .before .before .before .before .before .before .before .node-at .result) _ a [] _ _ (c .before .part-at .ensures []) (c .before .before .loop-test .taken) in
-    (omega (arith, f, c .before .before .before .before .before .before .before .before .before .before .before .before .pre .0), ((c .before .before .before .before .before .before .before .before .before .before .before .before .pre .1 .0 .0, (omega (arith, f, c .before .before .before .before .before .before .before .before .before .before .before .before .pre .1 .0 .1 .0), c .before .before .before .before .before .before .before .before .before .before .before .before .pre .1 .0 .1 .1)), part-room _ _ _ (c .before .before .before .before .before .before .before .before .before .node-at .result) _ E _ _ _ _ _ a (c .before .before .before .before .before .before .before .before .before .before .before .before .pre .1 .1) (c .before .before .before .loop .inv .1 E base) (c .before .before .loop-test .taken) (c .before .part-at .ensures)))
+    let args = c .before .before .before .before .before .before .before .before .before .before .before .before .args in
+    let pre = c .before .before .before .before .before .before .before .before .before .before .before .before .pre in
+    let node-at = c .before .before .before .before .before .before .before .before .before .node-at in
+    let part-count = c .before .before .before .before .before .before .before .before .part-count in
+    let write-head = c .before .before .before .before .before .before .write-head in
+    let loop-test = c .before .before .loop-test in
+    let E = args .buf .now in
+    let a = at-node _ _ _ (node-at .result) _ (pre .1 .0 .0) (pre .1 .0 .1 .0) (node-at .ensures)
+    (part-count .ensures) in
+    let base = write-none _ _ _ (node-at .result) _ E _ _ _ a (pre .1 .1) (write-head .ensures) in
+    let f = part-falls _ _ _ (node-at .result) _ a [] _ _ (c .before .part-at .ensures []) (loop-test .taken) in (
+      omega (arith, f, pre .0),
+      (
+        (pre .1 .0 .0, (omega (arith, f, pre .1 .0 .1 .0), pre .1 .0 .1 .1)),
+        part-room _ _ _ (node-at .result) _ E _ _ _ _ _ a (pre .1 .1)
+            (c .before .before .before .loop .inv .1 E base) (loop-test .taken) (c .before .part-at .ensures),
+      ),
+    )
 
 write-type-add-i : (t : ℕ) → write-type-lts.Need-add-i (write-type-calls t) (write-type-at t) write-type.Post write-type-Inv-loop write-type-μ-loop
 write-type-add-i t c = omega arith
@@ -68,24 +82,45 @@ write-type-loop-less t c = omega arith
 
 write-type-loop-again : (t : ℕ) → write-type-lts.Need-loop-again (write-type-calls t) (write-type-at t) write-type.Post write-type-Inv-loop write-type-μ-loop
 write-type-loop-again t c =
-    let E = c .before .before .before .before .before .before .before .before .before .before .before .before .before .before .before .args .buf .now in
-    let a = at-node _ _ _ (c .before .before .before .before .before .before .before .before .before .before .before .before .node-at .result) _ (c .before .before .before .before .before .before .before .before .before .before .before .before .before .before .before .pre .1 .0 .0) (c .before .before .before .before .before .before .before .before .before .before .before .before .before .before .before .pre .1 .0 .1 .0) (c .before .before .before .before .before .before .before .before .before .before .before .before .node-at .ensures) (c .before .before .before .before .before .before .before .before .before .before .before .part-count .ensures) in
-    let base = write-none _ _ _ (c .before .before .before .before .before .before .before .before .before .before .before .before .node-at .result) _ E _ _ _ a (c .before .before .before .before .before .before .before .before .before .before .before .before .before .before .before .pre .1 .1) (c .before .before .before .before .before .before .before .before .before .write-head .ensures) in
-    goes-more _ _ _ (c .before .before .before .before .before .before .before .before .before .before .before .before .node-at .result) _ E _ _ _ _ _ _ _ _ _ a (c .before .before .before .before .before .before .before .before .before .before .before .before .before .before .before .pre .1 .1) base (c .before .before .before .before .before .before .loop .inv) (c .before .before .before .before .before .loop-test .taken) (c .before .before .before .before .part-at .ensures) (c .before .before .write-type .ensures)
+    let args = c .before .before .before .before .before .before .before .before .before .before .before .before .before .before .before .args in
+    let pre = c .before .before .before .before .before .before .before .before .before .before .before .before .before .before .before .pre in
+    let node-at = c .before .before .before .before .before .before .before .before .before .before .before .before .node-at in
+    let part-count = c .before .before .before .before .before .before .before .before .before .before .before .part-count in
+    let write-head = c .before .before .before .before .before .before .before .before .before .write-head in
+    let loop = c .before .before .before .before .before .before .loop in
+    let loop-test = c .before .before .before .before .before .loop-test in
+    let E = args .buf .now in
+    let a = at-node _ _ _ (node-at .result) _ (pre .1 .0 .0) (pre .1 .0 .1 .0) (node-at .ensures)
+    (part-count .ensures) in
+    let base = write-none _ _ _ (node-at .result) _ E _ _ _ a (pre .1 .1) (write-head .ensures) in
+    goes-more _ _ _ (node-at .result) _ E _ _ _ _ _ _ _ _ _ a (pre .1 .1) base (loop .inv) (loop-test .taken)
+    (c .before .before .before .before .part-at .ensures) (c .before .before .write-type .ensures)
 
 write-type-same-length : (t : ℕ) → write-type-lts.Need-same-length (write-type-calls t) (write-type-at t) write-type.Post write-type-Inv-loop write-type-μ-loop
 write-type-same-length t c =
-    let E = c .before .before .before .before .before .before .before .before .before .before .args .buf .now in
-    let a = at-node _ _ _ (c .before .before .before .before .before .before .before .node-at .result) _ (c .before .before .before .before .before .before .before .before .before .before .pre .1 .0 .0) (c .before .before .before .before .before .before .before .before .before .before .pre .1 .0 .1 .0) (c .before .before .before .before .before .before .before .node-at .ensures) (c .before .before .before .before .before .before .part-count .ensures) in
-    let base = write-none _ _ _ (c .before .before .before .before .before .before .before .node-at .result) _ E _ _ _ a (c .before .before .before .before .before .before .before .before .before .before .pre .1 .1) (c .before .before .before .before .write-head .ensures) in
+    let args = c .before .before .before .before .before .before .before .before .before .before .args in
+    let pre = c .before .before .before .before .before .before .before .before .before .before .pre in
+    let node-at = c .before .before .before .before .before .before .before .node-at in
+    let part-count = c .before .before .before .before .before .before .part-count in
+    let E = args .buf .now in
+    let a = at-node _ _ _ (node-at .result) _ (pre .1 .0 .0) (pre .1 .0 .1 .0) (node-at .ensures)
+    (part-count .ensures) in
+    let base = write-none _ _ _ (node-at .result) _ E _ _ _ a (pre .1 .1)
+    (c .before .before .before .before .write-head .ensures) in
     c .before .loop .inv .1 E base .size
 
 write-type-returns : (t : ℕ) → write-type-lts.Need-returns (write-type-calls t) (write-type-at t) write-type.Post write-type-Inv-loop write-type-μ-loop
 write-type-returns t c =
-    let E = c .before .before .before .before .before .before .before .before .before .before .args .buf .now in
-    let a = at-node _ _ _ (c .before .before .before .before .before .before .before .node-at .result) _ (c .before .before .before .before .before .before .before .before .before .before .pre .1 .0 .0) (c .before .before .before .before .before .before .before .before .before .before .pre .1 .0 .1 .0) (c .before .before .before .before .before .before .before .node-at .ensures) (c .before .before .before .before .before .before .part-count .ensures) in
-    let base = write-none _ _ _ (c .before .before .before .before .before .before .before .node-at .result) _ E _ _ _ a (c .before .before .before .before .before .before .before .before .before .before .pre .1 .1) (c .before .before .before .before .write-head .ensures) in
-    write-all _ _ _ (c .before .before .before .before .before .before .before .node-at .result) _ E _ _ _ _ a (c .before .loop .inv .1 E base) (c .loop-test .left)
+    let args = c .before .before .before .before .before .before .before .before .before .before .args in
+    let pre = c .before .before .before .before .before .before .before .before .before .before .pre in
+    let node-at = c .before .before .before .before .before .before .before .node-at in
+    let part-count = c .before .before .before .before .before .before .part-count in
+    let E = args .buf .now in
+    let a = at-node _ _ _ (node-at .result) _ (pre .1 .0 .0) (pre .1 .0 .1 .0) (node-at .ensures)
+    (part-count .ensures) in
+    let base = write-none _ _ _ (node-at .result) _ E _ _ _ a (pre .1 .1)
+    (c .before .before .before .before .write-head .ensures) in
+    write-all _ _ _ (node-at .result) _ E _ _ _ _ a (c .before .loop .inv .1 E base) (c .loop-test .left)
 
 pub +write-type-spec : {M : Type 1} → statement M
 +write-type-spec = close μ-write-type λ t. write-type-lts.spec (write-type-calls t) (write-type-at t) write-type.Post

@@ -1,4 +1,5 @@
 -- `writer::head_of` meets its contract. Assumes nothing.
+-- One return for each shape: the shape is told, and the callee for that shape has written the head.
 use mathlib.Core.Path.{sym}
 use Rattle.definition.specs.Write.{head}
 use borrow.Author.Needs.{needs}

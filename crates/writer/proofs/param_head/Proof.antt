@@ -32,7 +32,24 @@ low-requires-8 c κs = search needs
 
 returns : tie.Need-returns
 unfolding head u32
-returns c = record { few = omega arith; first = rw (c .before .before .before .before .before .before .before .low .ensures, c .before .before .before .before .before .before .low2 .ensures, c .before .before .before .before .before .low3 .ensures, c .before .before .before .before .low4 .ensures, c .before .before .before .low5 .ensures, c .before .before .low6 .ensures, c .before .low7 .ensures, c .low8 .ensures) refl }
+returns c =
+    let low = c .before .before .before .before .before .before .before .low in
+    let low2 = c .before .before .before .before .before .before .low2 in
+    let low3 = c .before .before .before .before .before .low3 in
+    record {
+      few = omega arith;
+      first =
+          rw (
+            low .ensures,
+            low2 .ensures,
+            low3 .ensures,
+            c .before .before .before .before .low4 .ensures,
+            c .before .before .before .low5 .ensures,
+            c .before .before .low6 .ensures,
+            c .before .low7 .ensures,
+            c .low8 .ensures,
+          ) refl;
+    }
 
 pub param-head-spec : {M : Type 1} → statement M
 param-head-spec =

@@ -1,4 +1,5 @@
 -- `writer::part_at` meets its contract. Assumes nothing.
+-- One return for each shape: a reference has one part, a named type its arguments, the others none.
 use Rattle.table.specs.Rows.{places}
 use Rattle.writer.proofs.Walk.{one-part}
 use Rattle.definition.specs.Store.{with-args}
