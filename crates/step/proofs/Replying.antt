@@ -33,10 +33,10 @@ use Rattle.answer.proofs.Calls.{grown-above}
 use Rattle.table.specs.Known.{Known}
 use Rattle.run.specs.Runs.{Declared, with-row}
 use Rattle.run.proofs.Bytes.{declare-bytes}
-use Rattle.dispatch.specs.Dispatch.{noded-run, step-of, Ran-as}
-use Rattle.dispatch.proofs.Placed.{Shape-in, shape-in, run-placed}
-use Rattle.dispatch.proofs.Bytes as noded
-use Rattle.dispatch.proofs.Inside.{known-structs}
+use Rattle.run.specs.Dispatch.{noded-run, step-of, Ran-as}
+use Rattle.run.proofs.Placed.{Shape-in, shape-in, run-placed}
+use Rattle.run.proofs.PlacedBytes as noded
+use Rattle.run.proofs.Inside.{known-structs}
 use Rattle.solve.specs.Solves.{Holds-sound, solve-answer, Solves}
 use Rattle.step.specs.Trusted.{held, Stands}
 use Rattle.step.specs.Replies.{Replied, Begun, Begins, row-for, padded}

@@ -34,8 +34,8 @@ use Rattle.fields.specs.Noded.{Shape, declares, solves, none, one, both, after-
 use Rattle.answer.specs.declared.Ran.{Ran}
 use Rattle.answer.proofs.Calls.{kept-never}
 use Rattle.run.specs.Runs.{subst-in, unfold-run, ready-run, tparams-run, tvar-run, num-tvar-run, constraint-run, needs-run, declare-run}
-use Rattle.dispatch.specs.Dispatch.{run-of, noded-run, step-of, kept-of}
-use Rattle.dispatch.proofs.Placed.{run-placed}
+use Rattle.run.specs.Dispatch.{run-of, noded-run, step-of, kept-of}
+use Rattle.run.proofs.Placed.{run-placed}
 use Rattle.step.specs.Replies.{binding}
 
 pub data Leaves {A : Type 0} (P : List Cell → Type 0) : Result (State × A) → Type 0 where

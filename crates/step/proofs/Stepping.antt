@@ -37,8 +37,8 @@ use Rattle.fields.specs.declared.Fields.{Fields}
 use Rattle.answer.specs.Ran.{refused-by, Answers}
 use Rattle.answer.specs.declared.Answer.{Answer}
 use Rattle.answer.proofs.Calls.{grown-above}
-use Rattle.dispatch.specs.Dispatch.{noded-run}
-use Rattle.dispatch.proofs.Placed.{run-placed}
+use Rattle.run.specs.Dispatch.{noded-run}
+use Rattle.run.proofs.Placed.{run-placed}
 use Rattle.step.specs.declared.Stepped.{Stepped}
 use Rattle.step.specs.Trusted.{held, Stands, answered, unread, Steps}
 use Rattle.step.specs.Replies.{Replied, Begun, Begins, Ends, binding, rows-after, place-after}

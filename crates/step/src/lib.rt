@@ -147,17 +147,17 @@ fn answer_placed(
         }
         What::SV => solve::solve(w, u, params, saved, buf),
         What::Bind(x) => {
-            let r = dispatch::run_bind(w, u, params, x);
+            let r = run::run_bind(w, u, params, x);
             answer::answer_of(w, before, saved, r, buf)
         }
         What::Look(x) => {
             let ids = f.ids;
             let nodes = f.nodes;
-            let r = dispatch::run_look(w, u, ids, nodes, x);
+            let r = run::run_look(w, u, ids, nodes, x);
             answer::answer_of(w, before, saved, r, buf)
         }
         What::Add(x) => {
-            let r = dispatch::run_add(w, u, x);
+            let r = run::run_add(w, u, x);
             answer::answer_of(w, before, saved, r, buf)
         }
     }

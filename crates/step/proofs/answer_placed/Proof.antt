@@ -1,5 +1,5 @@
 -- `step::answer_placed` meets its contract. Assumes nothing.
-use Rattle.dispatch.proofs.Arms.{narrow}
+use Rattle.run.proofs.Arms.{narrow}
 use Rattle.step.proofs.Replying.{begun-above, run-bytes, run-still, reply-run, solve-saved, solve-sound, reply-solved}
 use borrow.Author.Needs.{needs}
 use Rattle.step.proofs.answer_placed.Statement.{statement}

@@ -17,9 +17,9 @@ use Rattle.answer.specs.Ran.{Settles}
 use Rattle.answer.specs.declared.Ran.{Ran}
 use Rattle.fields.specs.Noded.{unfolded, ready, tparams, Run, binds, looks, adds, Noded, run, Shape, declares, solves, none, one, both, after-pairs, shape, place, place-record}
 use Rattle.table.specs.Known.{Known}
 use Rattle.run.proofs.Bytes.{Leaves, step-bytes, record-bytes, ready-leaves, subst-leaves, unfold-leaves}
-use Rattle.dispatch.specs.Dispatch.{noded-run, step-of, kept-of, Ran-as}
-use Rattle.dispatch.proofs.Placed.{Shape-in, shape-in, run-placed}
+use Rattle.run.specs.Dispatch.{noded-run, step-of, kept-of, Ran-as}
+use Rattle.run.proofs.Placed.{Shape-in, shape-in, run-placed}
 
 -- ---- the state with a record's types placed
 

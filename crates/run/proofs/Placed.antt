@@ -15,8 +15,8 @@ use Rattle.theorems.proofs.Order.{All}
 use Rattle.theorems.proofs.Ranges.{StructIn}
 use Rattle.theorems.proofs.WellRead.{TreeIn, RecordIn}
 use Rattle.fields.specs.Noded.{Run, Noded, run, Shape, declares, solves, none, one, both, after-pairs, shape, place, place-record}
 use Rattle.run.specs.Runs.{join-in, two-run, unfold-run, ready-run, tparams-run, instantiate-run, tvar-run, num-tvar-run, set-num-run, constraint-run, needs-run, declare-run}
-use Rattle.dispatch.specs.Dispatch.{run-of, noded-run}
+use Rattle.run.specs.Dispatch.{run-of, noded-run}
 
 -- ---- mark by mark
 

@@ -1,9 +1,9 @@
--- `dispatch::run_bind` meets its contract. Assumes nothing.
-use Rattle.dispatch.specs.Dispatch.{run-of, step-of}
-use Rattle.dispatch.proofs.Arms.{narrow}
+-- `run::run_bind` meets its contract. Assumes nothing.
+use Rattle.run.specs.Dispatch.{run-of, step-of}
+use Rattle.run.proofs.Arms.{narrow}
 use borrow.Author.Needs.{needs}
-use Rattle.dispatch.proofs.run_bind.Statement.{statement}
-use Rattle.dispatch.proofs.run_bind.Tie as tie
+use Rattle.run.proofs.run_bind.Statement.{statement}
+use Rattle.run.proofs.run_bind.Tie as tie
 
 enum-known-what : tie.Need-enum-known-what
 enum-known-what c = search needs

@@ -1,10 +1,10 @@
--- `dispatch::run_add` meets its contract. Assumes nothing.
+-- `run::run_add` meets its contract. Assumes nothing.
 use Rattle.fields.specs.Noded.{kind}
-use Rattle.dispatch.specs.Dispatch.{run-of, step-of}
-use Rattle.dispatch.proofs.Arms.{unless-is}
+use Rattle.run.specs.Dispatch.{run-of, step-of}
+use Rattle.run.proofs.Arms.{unless-is}
 use borrow.Author.Needs.{needs}
-use Rattle.dispatch.proofs.run_add.Statement.{statement}
-use Rattle.dispatch.proofs.run_add.Tie as tie
+use Rattle.run.proofs.run_add.Statement.{statement}
+use Rattle.run.proofs.run_add.Tie as tie
 
 enum-known-what : tie.Need-enum-known-what
 enum-known-what c = search needs
