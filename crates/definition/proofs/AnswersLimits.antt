@@ -6,10 +6,13 @@ use mathlib.Core.List.{List, [], _∷_, _++_}
 use mathlib.Core.Option.{none, some}
 use Prim.Native.Nat.{ℕ, zero, suc}
 use lib.ListN.{replicate}
-use Rattle.definition.specs.Types.{UnitType, Ref, Param, Node, unbound, BaseTypeConstraint, State}
+use Rattle.definition.specs.Types.{UnitType, Ref, Node, unbound, BaseTypeConstraint, State, fresh, refused, full, max-vars, _>>=_}
+use Rattle.definition.specs.Store.{next-tvar}
+use Rattle.definition.specs.Record as record-of
+use Rattle.definition.specs.Step.{run, answer-with, max-payload}
 use Rattle.definition.specs.Job.{decimal}
 use Rattle.definition.proofs.Computed.{answered}
-use Rattle.definition.proofs.Spelling.{text, unit, vector, var, FV, UF, BC}
+use Rattle.definition.proofs.Spelling.{text, unit, vector, UF, BC}
 
 -- ---- counts
 
@@ -34,8 +37,9 @@ pub argument-4097-is-7 : answered (filled 1 4096 0 0 0) (UF (vector 1 (unit 2)))
 unfolding answered
 argument-4097-is-7 = refl
 
-pub variable-1025-is-7 : answered (filled 0 0 1024 0 0) (FV 1) 4096 ≡ (7, [])
-unfolding answered
+-- the run alone: the test of so many chains, which a whole call begins with, is dear to compute (it is in EdgeLimits)
+pub variable-1025-is-7 : run (filled 0 0 1024 0 0) (record-of.FV 1) ≡ refused full
+unfolding run next-tvar max-vars _>>=_
 variable-1025-is-7 = refl
 
 pub constraint-513-is-7 : answered (filled 1 0 0 512 0) (BC 0 (unit 1)) 4096 ≡ (7, [])
@@ -63,8 +67,9 @@ deep leaf n = record {
   structs = [];
 }
 
-pub payload-4096 : answered (deep (record { loc = 0; value = Param 0 0 }) 681) (UF (var 1 0)) 4096 .0 ≡ 0
-unfolding answered
+-- the test of the length alone; of a type so long, by a whole call, in EdgeLimits
+pub payload-4096 : answer-with fresh 0 (replicate 4096 0) fresh .number ≡ 0
+unfolding answer-with max-payload
 payload-4096 = refl
 
 -- ---- record numbers
