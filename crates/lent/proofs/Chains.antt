@@ -20,8 +20,8 @@ use Rattle.table.specs.Rows.{read-option}
 use Rattle.table.specs.State.{seen}
 use Rattle.table.specs.declared.Used.{Used}
 use Rattle.table.proofs.Fields.{node-beyond, get-read, get-beyond}
-use Rattle.lent.specs.Tests.{var-at, next-at, ends-fine, chain-fine}
-use Rattle.lent.proofs.Below.{when-true, when-false}
+use Rattle.lent.specs.Chains.{var-at, next-at, ends-fine, chain-fine}
+use Rattle.rows.proofs.Below.{when-true, when-false}
 use Rattle.lent.proofs.Fields.{tag-of}
 use Rattle.lent.proofs.Shapes.{as-var-tag, vars-count}
 use Rattle.lent.proofs.Rowwise.{value-at}

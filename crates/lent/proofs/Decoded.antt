@@ -28,7 +28,7 @@ use Rattle.table.proofs.Tab.{length-tab, getD-tab}
 use Rattle.table.proofs.Rows.{length-entries, entry-at}
 use Rattle.table.specs.Encode.{counts as count-words, encode as encode-words}
 use Rattle.lent.specs.Lent.{used-of, bytes-at, struct-of, structs-of, decode, encode-params, Lent-sound}
-use Rattle.lent.proofs.Below.{and-l, and-r, both, when-true, when-false}
+use Rattle.rows.proofs.Below.{and-l, and-r, both, when-true, when-false}
 use Rattle.lent.proofs.Fields.{mod-back}
 use Rattle.lent.proofs.Encode.{Rows, holds}
 use Rattle.lent.proofs.Lays.{lay-encoded}

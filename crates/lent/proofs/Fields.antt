@@ -16,8 +16,8 @@ use Rattle.definition.specs.Join.{is-numeric}
 use Rattle.definition.specs.Trees.{has-drop, is-set, is-mark}
 use Rattle.table.specs.declared.Used.{Used}
 use Rattle.table.specs.Rows.{flag, read-mark, mark-word, read-option, option-flag, option-word}
-use Rattle.lent.specs.Tests.{four-zeros, mark-fine, name-fine}
-use Rattle.lent.proofs.Below.{and-l, and-r, both, when-true, when-false}
+use Rattle.rows.specs.Tests.{four-zeros, mark-fine, name-fine}
+use Rattle.rows.proofs.Below.{and-l, and-r, both, when-true, when-false}
 
 -- ---- tags
 
@@ -149,13 +149,3 @@ mark-was a e h = by (ℕ-discrete a 0) (decLt a 16)
         let m : 16 + (a - 16) % 256 ≡ a = sym (some-word _) ∙ ap mark-word (sym r) ∙ e in
         let s = set-was (a - 16) (omega (arith, m)) (sym (some-mark _) ∙ ap is-mark (sym r) ∙ h) in
         when-false _ _ _ (ne-eqb a 0 p) ∙ both _ _ (le-leb 16 a (omega arith)) (le-leb a 31 (omega (arith, s)))
-
--- a name's number is small
-pub name-small : (u : Used) (tag b : ℕ) → u .structs ≤ 256 → name-fine u tag b ≡ true → b < 256
-unfolding name-fine max-builtin
-name-small u tag b h e = by (ℕ-discrete tag 3) (ℕ-discrete tag 4)
-  where
-    by : Dec (tag ≡ 3) → Dec (tag ≡ 4) → b < 256
-    by (yes p) q = omega (arith, leb-true b max-builtin (sym (when-true (eqb tag 3) (leb b max-builtin) _ (eq-eqb tag 3 p)) ∙ e))
-    by (no p) (yes q) = omega (arith, leb-true b 8 (sym (when-false (eqb tag 3) (leb b max-builtin) _ (ne-eqb tag 3 p) ∙ when-true (eqb tag 4) (leb b 8) _ (eq-eqb tag 4 q)) ∙ e))
-    by (no p) (no q) = omega (arith, ltb-true b (u .structs) (sym (when-false (eqb tag 3) (leb b max-builtin) _ (ne-eqb tag 3 p) ∙ when-false (eqb tag 4) (leb b 8) _ (ne-eqb tag 4 q)) ∙ e))

@@ -29,8 +29,8 @@ use Rattle.table.proofs.Encoded.{encoded}
 use Rattle.table.proofs.Rows.{length-entries, entry-at, entry-out}
 use Rattle.table.specs.Encode.{encode as encode-words}
 use Rattle.lent.specs.Lent.{used-of, struct-of, structs-of, decode, encode-params, Lent-sound}
-use Rattle.lent.specs.Tests.{Sized}
-use Rattle.lent.proofs.Below.{and-l, and-r, both}
+use Rattle.rows.specs.Tests.{Sized}
+use Rattle.rows.proofs.Below.{and-l, and-r, both}
 use Rattle.lent.proofs.Encode.{Holds}
 use Rattle.lent.proofs.Rows.{used-row, past-row}
 use Rattle.lent.proofs.Shapes.{args-count, vars-count}

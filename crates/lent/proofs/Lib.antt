@@ -1,5 +1,4 @@
 -- Laws of the lent state, and of its test. Assumes nothing.
-pub mod Below
 pub mod Fields
 pub mod Joined
 pub mod Encode
@@ -11,5 +10,4 @@ pub mod Tested
 pub mod Owned
 pub mod Lays
 pub mod Decoded
-pub mod Ors
 pub mod Links

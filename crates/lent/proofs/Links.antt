@@ -13,7 +13,7 @@ use lib.ListN.{length, getD, set, length-set, replicate, length-replicate, getD-
 use lib.Seq.{getD-set-same, getD-set-other, set-out}
 use borrow.Author.Tests.{le-leb, lt-leb}
 use Rattle.table.specs.declared.Used.{Used}
-use Rattle.lent.specs.Tests.{next-at, ends-fine, chain-fine, Links, Noted, Counted}
+use Rattle.lent.specs.Chains.{next-at, ends-fine, chain-fine, Links, Noted, Counted}
 use Rattle.lent.proofs.Chains.{ends-none, ends-last, ends-suc, ends-next}
 
 -- equal sides are compared alike

@@ -14,8 +14,8 @@ use Rattle.table.specs.Tab.{tab}
 use Rattle.table.specs.Rows.{Table, words-at, row, entries, node-table, arg-table, var-table, constraint-table, struct-table}
 use Rattle.table.proofs.Tab.{length-tab, getD-tab, tab-ext}
 use Rattle.table.proofs.Rows.{entry-at, entry-out, row-word}
-use Rattle.lent.specs.Tests.{all-below, zero-at, zeros}
-use Rattle.lent.proofs.Below.{all-at, all-from}
+use Rattle.rows.specs.Tests.{all-below, zero-at, zeros}
+use Rattle.rows.proofs.Below.{all-at, all-from}
 use Rattle.lent.proofs.Encode.{Rows}
 
 module _ {A : Type 0} (T : Table A) (w : List ℕ) (n : ℕ) where

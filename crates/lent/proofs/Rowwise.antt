@@ -20,8 +20,8 @@ use Rattle.table.specs.State.{view, seen}
 use Rattle.table.specs.declared.Used.{Used}
 use Rattle.table.proofs.Rows.{length-entries}
 use Rattle.table.proofs.Fields.{node-made}
-use Rattle.lent.specs.Tests.{binding-fine, numeric-fine, constraint-fine}
-use Rattle.lent.proofs.Below.{and-l, and-r, both, when-true, when-false, fails-l}
+use Rattle.rows.specs.Tests.{binding-fine, numeric-fine, constraint-fine}
+use Rattle.rows.proofs.Below.{and-l, and-r, both, when-true, when-false, fails-l}
 use Rattle.lent.proofs.Fields.{Tag, tag-of, t0, t1, t2, t3, t4, t5, t6, t7, t8, beyond, mod-back, set-mod, set-was}
 use Rattle.lent.proofs.Shapes.{anything-tag}
 

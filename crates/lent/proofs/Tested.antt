@@ -1,5 +1,5 @@
 -- The test word by word passes just where the words and bytes are those of a sound state. Assumes nothing.
--- From the tests to the state table by table: tails are blank rows, each row is the row of an entry (Rowwise, Shapes), chains end (Chains). Back by the same laws; `no-test` and `last-test` serve the code.
+-- From the tests to the state table by table: tails are blank rows, each row is the row of an entry (Rowwise, Shapes), chains end (Chains). Back by the same laws; `no-tables` and `last-test` serve the code.
 use mathlib.Core.Path.{_≡_, refl, sym, ap, ap₂, _∙_}
 use mathlib.Core.Bool.{Bool, true, false, not, _&&_}
 use mathlib.Core.List.{List, [], _∷_}
@@ -29,8 +29,10 @@ use Rattle.table.proofs.Rows.{length-entries, entry-at}
 use Rattle.table.proofs.Fields.{node-made, arg-row, get-read, num-read, constraint-read}
 use Rattle.table.specs.Encode.{counts as count-words, encode as encode-words}
 use Rattle.lent.specs.Lent.{used-of, bytes-at, struct-of, structs-of, decode, encode-params, same-words, same-rows, lent-sound, Lent-sound}
-use Rattle.lent.specs.Tests.{Sized, all-below, counts-fine, zeros, tails-fine, struct-fine, params-at, byte-fine, bytes-fine, shape-fine, node-fine, cell-fine, binding-fine, numeric-fine, chain-fine, constraint-fine}
-use Rattle.lent.proofs.Below.{and-l, and-r, both, same-test, not-passed, all-at, all-from, when-true, when-false}
+use Rattle.rows.specs.Tests.{Sized, all-below, counts-fine, zeros, tails-fine, struct-fine, params-at, byte-fine, bytes-fine, shape-fine, node-fine, cell-fine, binding-fine, numeric-fine, constraint-fine, tables-fine}
+use Rattle.lent.specs.Chains.{chain-fine}
+use Rattle.rows.proofs.Tables.{Tables, tables-say, tables-are}
+use Rattle.rows.proofs.Below.{and-l, and-r, both, same-test, not-passed, all-at, all-from, when-true, when-false}
 use Rattle.lent.proofs.Fields.{tag-of, mod-back, set-mod, set-was}
 use Rattle.lent.proofs.Encode.{Rows, Holds, encoded, holds}
 use Rattle.lent.proofs.Rows.{rows-from, used-row, past-row, tail-rows, rows-tail, node-row, var-row, constraint-row, struct-row}
@@ -40,12 +42,7 @@ use Rattle.lent.proofs.Chains.{chain-is}
 
 -- every test of the code passes
 pub record Tests (w : List ℕ) (p : List (List ℕ)) (u : Used) : Type 0 where
-  pub tails : tails-fine w u ≡ true
-  pub structs : all-below (u .structs) (struct-fine w) ≡ true
-  pub bytes : all-below 256 (bytes-fine w u p) ≡ true
-  pub nodes : all-below (u .nodes) (node-fine w u) ≡ true
-  pub cells : all-below (u .vars) (cell-fine w u) ≡ true
-  pub constraints : all-below (u .constraints) (constraint-fine w u) ≡ true
+  pub tables : Tables w u p
   pub chains : all-below (u .vars) (chain-fine w u) ≡ true
 
 -- a table of 256 rows of 8 bytes
@@ -172,7 +169,7 @@ module _ (w : List ℕ) (p : List (List ℕ)) (u : Used) (z : Sized w u) (small 
   module _ (h : Tests w p u) where
     node-good : (t : ℕ) → t < u .nodes → Good-at t
     unfolding node-fine
-    node-good t lt = good w u ds _ (z .vars) (counted w p u) t _ _ _ _ _ (tag-of (getD w (5 + t * 6) 0)) (u32 _) (all-at (u .nodes) (node-fine w u) (h .nodes) t lt)
+    node-good t lt = good w u ds _ (z .vars) (counted w p u) t _ _ _ _ _ (tag-of (getD w (5 + t * 6) 0)) (u32 _) (all-at (u .nodes) (node-fine w u) (h .tables .nodes) t lt)
 
     abbrev Cell-at : ℕ → Type 0
     Cell-at v = Binding-good w u ds (getD w (16389 + v * 5) 0) (getD w (16389 + v * 5 + 1) 0) × (Back (getD w (16389 + v * 5 + 2) 0) (getD w (16389 + v * 5 + 3) 0) × (getD w (16389 + v * 5 + 4) 0 ≡ 0))
@@ -180,7 +177,7 @@ module _ (w : List ℕ) (p : List (List ℕ)) (u : Used) (z : Sized w u) (small 
     cell-good : (v : ℕ) → v < u .vars → Cell-at v
     unfolding cell-fine
     cell-good v lt =
-        let e = all-at (u .vars) (cell-fine w u) (h .cells) v lt in
+        let e = all-at (u .vars) (cell-fine w u) (h .tables .cells) v lt in
         let e2 = and-l (binding-fine w u (getD w (16389 + v * 5) 0) (getD w (16389 + v * 5 + 1) 0) && numeric-fine (getD w (16389 + v * 5 + 2) 0) (getD w (16389 + v * 5 + 3) 0)) (eqb (getD w (16389 + v * 5 + 4) 0) 0) e in (
           binding-good w u ds _ _ (and-l (binding-fine w u (getD w (16389 + v * 5) 0) (getD w (16389 + v * 5 + 1) 0)) (numeric-fine (getD w (16389 + v * 5 + 2) 0) (getD w (16389 + v * 5 + 3) 0)) e2),
           (
@@ -191,12 +188,12 @@ module _ (w : List ℕ) (p : List (List ℕ)) (u : Used) (z : Sized w u) (small 
 
     list-good : (i : ℕ) → i < u .constraints → Constraint-good w u ds (getD w (21509 + i * 4) 0) (getD w (21509 + i * 4 + 1) 0) (getD w (21509 + i * 4 + 2) 0) (getD w (21509 + i * 4 + 3) 0)
     unfolding constraint-fine kind-fine
-    list-good i lt = constraint-good w u ds _ _ (u32 _) _ _ (tag-of (getD w (21509 + i * 4) 0)) (all-at (u .constraints) (constraint-fine w u) (h .constraints) i lt)
+    list-good i lt = constraint-good w u ds _ _ (u32 _) _ _ (tag-of (getD w (21509 + i * 4) 0)) (all-at (u .constraints) (constraint-fine w u) (h .tables .constraints) i lt)
 
     struct-small : (i : ℕ) → i < u .structs → (getD w (23557 + i * 2) 0 ≤ 15) × (getD w (23557 + i * 2 + 1) 0 ≤ 8)
     unfolding struct-fine
     struct-small i lt =
-        let e = all-at (u .structs) (struct-fine w) (h .structs) i lt in
+        let e = all-at (u .structs) (struct-fine w) (h .tables .structs) i lt in
         (leb-true _ 15 (and-l (leb (getD w (23557 + i * 2) 0) 15) (leb (getD w (23557 + i * 2 + 1) 0) 8) e), leb-true _ 8 (and-r (leb (getD w (23557 + i * 2) 0) 15) (leb (getD w (23557 + i * 2 + 1) 0) 8) e))
 
     -- ---- rows
@@ -205,24 +202,24 @@ module _ (w : List ℕ) (p : List (List ℕ)) (u : Used) (z : Sized w u) (small 
     unfolding node-words read-node
     node-rows = rows-from node-table w (u .nodes)
         (λ t lt. ap (λ (r : List ℕ). node-words (read-node r)) (node-row w t) ∙ node-good t lt .back ∙ sym (node-row w t))
-        (λ i p q. tail-rows node-table w (u .nodes) (tails-are w u (h .tails) .t-nodes) i p q ∙ blank-node)
+        (λ i p q. tail-rows node-table w (u .nodes) (tails-are w u (h .tables .tails) .t-nodes) i p q ∙ blank-node)
 
     arg-rows : Rows arg-table w (entries arg-table w (u .args))
     unfolding arg-words read-arg
     arg-rows = rows-from arg-table w (u .args)
         (λ t lt. ap (λ (r : List ℕ). arg-words (read-arg r)) (arg-row w t) ∙ sym (arg-row w t))
-        (λ i p q. tail-rows arg-table w (u .args) (let y : u .args * 1 ≡ u .args = omega arith in rw y (tails-are w u (h .tails) .t-args)) i p q ∙ blank-arg)
+        (λ i p q. tail-rows arg-table w (u .args) (let y : u .args * 1 ≡ u .args = omega arith in rw y (tails-are w u (h .tables .tails) .t-args)) i p q ∙ blank-arg)
 
     var-rows : Rows var-table w (entries var-table w (u .vars))
     unfolding cell-words read-cell
     var-rows = rows-from var-table w (u .vars)
         (λ v lt. let g = cell-good v lt in ap (λ (r : List ℕ). cell-words (read-cell r)) (var-row w v) ∙ cc (g .0 .back .flag, g .0 .back .word, g .1 .0 .flag, g .1 .0 .word, g .1 .1) ∙ sym (var-row w v))
-        (λ i p q. tail-rows var-table w (u .vars) (tails-are w u (h .tails) .t-vars) i p q ∙ blank-var)
+        (λ i p q. tail-rows var-table w (u .vars) (tails-are w u (h .tables .tails) .t-vars) i p q ∙ blank-var)
 
     constraint-rows : Rows constraint-table w (entries constraint-table w (u .constraints))
     constraint-rows = rows-from constraint-table w (u .constraints)
         (λ i lt. ap (λ (r : List ℕ). constraint-words (read-constraint r)) (constraint-row w i) ∙ list-good i lt .back ∙ sym (constraint-row w i))
-        (λ i p q. tail-rows constraint-table w (u .constraints) (tails-are w u (h .tails) .t-constraints) i p q ∙ blank-constraint)
+        (λ i p q. tail-rows constraint-table w (u .constraints) (tails-are w u (h .tables .tails) .t-constraints) i p q ∙ blank-constraint)
 
     struct-rows : Rows struct-table w ds
     unfolding struct-words
@@ -233,7 +230,7 @@ module _ (w : List ℕ) (p : List (List ℕ)) (u : Used) (z : Sized w u) (small 
             let m = mod-back (getD w (23557 + i * 2) 0) 256 (omega (arith, struct-small i lt .0)) in
             let l = bytes-long w p u i (getD w (23557 + i * 2 + 1) 0) in
             struct-row w i ∙ cc (m, l) ∙ ap (λ (x : Struct). struct-words x) (sym (struct-is w p u i (struct-table .blank) lt))
-        by (no ge) = tail-rows struct-table w (u .structs) (tails-are w u (h .tails) .t-structs) i (omega arith) q ∙ blank-struct ∙ ap (λ (x : Struct). struct-words x) (sym (List·getD-eq-default ds (struct-table .blank) (rw (structs-count w p u) (omega arith))))
+        by (no ge) = tail-rows struct-table w (u .structs) (tails-are w u (h .tables .tails) .t-structs) i (omega arith) q ∙ blank-struct ∙ ap (λ (x : Struct). struct-words x) (sym (List·getD-eq-default ds (struct-table .blank) (rw (structs-count w p u) (omega arith))))
 
     holds-words : words-at w 0 5 ≡ count-words S → Holds w S
     unfolding seen view with-structs
@@ -243,7 +240,7 @@ module _ (w : List ℕ) (p : List (List ℕ)) (u : Used) (z : Sized w u) (small 
 
     byte-test : (i k : ℕ) → i < 256 → k < 8 → byte-fine (getD p i []) (params-at w u i) k ≡ true
     unfolding bytes-fine
-    byte-test i k a b = all-at 8 (byte-fine (getD p i []) (params-at w u i)) (all-at 256 (bytes-fine w u p) (h .bytes) i a) k b
+    byte-test i k a b = all-at 8 (byte-fine (getD p i []) (params-at w u i)) (all-at 256 (bytes-fine w u p) (h .tables .bytes) i a) k b
 
     byte-small : (i k : ℕ) → i < 256 → k < 8 → k < params-at w u i → leb (getD (getD p i []) k 0) 31 ≡ true
     unfolding byte-fine
@@ -501,12 +498,14 @@ module _ (w : List ℕ) (p : List (List ℕ)) (u : Used) (z : Sized w u) (small 
     unfolding bytes-fine node-fine
     sound-tests =
         record {
-          tails = are-tails w u was-tails;
-          structs = all-from (u .structs) (struct-fine w) struct-was;
-          bytes = all-from 256 (bytes-fine w u p) (λ i a. all-from 8 (byte-fine (getD p i []) (params-at w u i)) (λ k b. byte-was i k a b));
-          nodes = all-from (u .nodes) (node-fine w u) (λ t lt. fine w u ds _ (z .vars) (counted w p u) t _ _ _ _ _ (tag-of (getD w (5 + t * 6) 0)) (node-was t lt));
-          cells = all-from (u .vars) (cell-fine w u) cell-was;
-          constraints = all-from (u .constraints) (constraint-fine w u) list-was;
+          tables = record {
+            tails = are-tails w u was-tails;
+            structs = all-from (u .structs) (struct-fine w) struct-was;
+            bytes = all-from 256 (bytes-fine w u p) (λ i a. all-from 8 (byte-fine (getD p i []) (params-at w u i)) (λ k b. byte-was i k a b));
+            nodes = all-from (u .nodes) (node-fine w u) (λ t lt. fine w u ds _ (z .vars) (counted w p u) t _ _ _ _ _ (tag-of (getD w (5 + t * 6) 0)) (node-was t lt));
+            cells = all-from (u .vars) (cell-fine w u) cell-was;
+            constraints = all-from (u .constraints) (constraint-fine w u) list-was;
+          };
           chains = all-from (u .vars) (chain-fine w u) (λ v lt. chain-is w u ds v ∙ at-place (λ v c. chain-ends S v) unbound (S .vars) (chain-list (five .1 .1 .1 .1)) v (omega (arith, cells-count)));
         }
 
@@ -639,13 +638,12 @@ module _ (w : List ℕ) (p : List (List ℕ)) (u : Used) (is : u ≡ used-of w) 
     tests : lent-sound w p ≡ true → Tests w p u
     tests e = rw is (tests-of w p small tp e)
 
-    -- one test fails
-    pub no-test : (b : Bool) → (Tests w p u → b ≡ true) → b ≡ false → lent-sound w p ≡ false
-    no-test b g f = not-passed (lent-sound w p) b (λ e. g (tests e)) f
+    -- a table's test fails
+    pub no-tables : tables-fine w u p ≡ false → lent-sound w p ≡ false
+    no-tables f = not-passed (lent-sound w p) (tables-fine w u p) (λ e. tables-are w u p (tests e .tables)) f
 
     -- the last test decides
-    pub last-test : Sized w u → tails-fine w u ≡ true → all-below (u .structs) (struct-fine w) ≡ true → all-below 256 (bytes-fine w u p) ≡ true → all-below (u .nodes) (node-fine w u) ≡ true → all-below (u .vars) (cell-fine w u) ≡ true → all-below (u .constraints) (constraint-fine w u) ≡ true
-        → all-below (u .vars) (chain-fine w u) ≡ lent-sound w p
-    last-test z a b c d e f = same-test _ _
-        (λ g. let t : Tests w p u = record { tails = a; structs = b; bytes = c; nodes = d; cells = e; constraints = f; chains = g } in tested w p small tp (rw is at z) (rw is at t))
+    pub last-test : Sized w u → tables-fine w u p ≡ true → all-below (u .vars) (chain-fine w u) ≡ lent-sound w p
+    last-test z a = same-test _ _
+        (λ g. let t : Tests w p u = record { tables = tables-say w u p a; chains = g } in tested w p small tp (rw is at z) (rw is at t))
         (λ g. tests g .chains)

@@ -56,27 +56,15 @@ decimal-next x h b =
 never : _≡_ {A = ℕ} 0 1 → ⊥
 never e = omega arith
 
--- ---- sizes
-
-pub decimal-size-one : (x : ℕ) → x < 10 → (1 ≡ length (decimal x)) × (1 ≤ 20)
-decimal-size-one x h = (sym (ap length (decimal-one x h)), omega arith)
-
 pub length-hexadecimal : (p : Bytes) → length (hexadecimal p) ≡ 2 * length p
 unfolding hexadecimal
 length-hexadecimal [] = refl
 length-hexadecimal (b ∷ p) = let e = length-hexadecimal p in omega arith
 
-pub length-payload : (p : Bytes) → 0 < length p → length (payload-text p) ≡ 2 * length p + 1
-unfolding payload-text hexadecimal
-length-payload [] h = omega arith
-length-payload (b ∷ p) h = let e = length-hexadecimal p in omega arith
-
 pub no-payload : (p : Bytes) → length p ≡ 0 → payload-text p ≡ []
 unfolding payload-text
 no-payload [] h = refl
 no-payload (b ∷ p) h = let z : _≡_ {A = ℕ} 0 1 = cc in elim (never z) [ ]
-
--- ---- bytes
 
 pub some-payload : (p : Bytes) → (length p ≡ 0 → ⊥) → payload-text p ≡ (32 ∷ []) ++ hexadecimal p
 unfolding payload-text
@@ -98,22 +86,6 @@ unfolding line
 line-is place number p = simp append-assoc
 
 -- ---- steps of the functions
-
-length-digits : (n x : ℕ) → length (digits n x) ≤ n
-unfolding digits
-length-digits zero x = omega arith
-length-digits (suc n) x = either (ltb x 10) (length-digits n (x / 10))
-  where
-    either : (b : Bool) → length (digits n (x / 10)) ≤ n → length ((if b then [] else digits n (x / 10)) ++ ((48 + x % 10) ∷ [])) ≤ suc n
-    either true l = omega arith
-    either false l = simp length-append (omega arith)
-
-pub decimal-size-next : (x r : ℕ) → 10 ≤ x → x < 18446744073709551616 → r ≡ length (decimal (x / 10)) → (r + 1 ≡ length (decimal x)) × (r + 1 ≤ 20)
-unfolding decimal
-decimal-size-next x r h b e =
-    let l : length (decimal x) ≡ length (decimal (x / 10)) + 1 = ap length (decimal-next x h b) ∙ length-append (decimal (x / 10)) ((48 + x % 10) ∷ []) in
-    let few : length (decimal x) ≤ 20 = length-digits 20 x in
-    (omega arith, omega arith)
 
 pub decimal-room : (x at : ℕ) (l : List ℕ) → 10 ≤ x → x < 18446744073709551616 → at + length (decimal x) ≤ length l → at + length (decimal (x / 10)) < length l
 decimal-room x at l h b r =
@@ -160,12 +132,6 @@ module _ (payload : List ℕ) (len : ℕ) (log₀ : List ℕ) (at : ℕ) (inside
 
   pub hex-all : (log : List ℕ) (n k : ℕ) → Hexing payload len log₀ at log n k → len ≤ k → Wrote log₀ at (hexadecimal (take len payload)) log n
   hex-all log n k p h = let e : k ≡ len = (let x = p .left in omega arith) in rw e at (p .is)
-
-pub line-size : (place number len a b c : ℕ) → a ≡ length (decimal place) → b ≡ length (decimal number) → ((p : Bytes) → length p ≡ len → c ≡ length (payload-text p))
-    → (p : Bytes) → length p ≡ len → a + b + c + 2 ≡ length (line-of place number p)
-line-size place number len a b c e f g p h =
-    let k = g p h in
-    rw line-is (simp length-append (omega arith))
 
 -- a payload that is not empty: a space, then the bytes
 module _ (p : Bytes) (log : List ℕ) (at : ℕ) (more : length p ≡ 0 → ⊥) (room : at + length (payload-text p) ≤ length log) where

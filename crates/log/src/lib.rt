@@ -7,46 +7,11 @@ ghost use Rattle.definition.specs.Write.{Bytes};
 ghost use Rattle.definition.specs.Job.{decimal, hex-digit, hexadecimal, payload-text};
 ghost use Rattle.log.specs.Line.{Wrote, line-of};
 
-// ---- sizes
-
-fn decimal_size(x: u64) -> usize
-    ensures { λ r. ⌜ (r ≡ length (decimal x)) × (r ≤ 20) ⌝ }
-{
-    if x < 10 {
-        return 1;
-    }
-    let rest = decimal_size(x / 10);
-    rest + 1
-}
-
-fn payload_size(len: usize) -> usize
-    requires { ⌜ len ≤ 65536 ⌝ }
-    ensures { λ r. ⌜ ((payload : Bytes) → length payload ≡ len → r ≡ length (payload-text payload)) × (r ≤ 131073) ⌝ }
-{
-    if len == 0 {
-        return 0;
-    }
-    2 * len + 1
-}
-
 fn wide(x: u32) -> u64
     ensures { λ r. ⌜ r ≡ x ⌝ }
 {
     x as u64
 }
-
-// How many bytes the line has.
-pub fn line_size(place: u64, number: u32, len: usize) -> usize
-    requires { ⌜ len ≤ 65536 ⌝ }
-    ensures { λ r. ⌜ ((payload : Bytes) → length payload ≡ len → r ≡ length (line-of place number payload)) ⌝ }
-{
-    let a = decimal_size(place);
-    let b = decimal_size(wide(number));
-    let c = payload_size(len);
-    a + b + c + 2
-}
-
-// ---- bytes
 
 fn put_byte(log: &mut [u8], at: usize, b: u8) -> usize
     requires { ⌜ at < length (now log) ⌝ }

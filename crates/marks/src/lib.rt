@@ -27,67 +27,43 @@ pub enum RecordMark {
     Other,
 }
 
-fn same(x: u32, y: u32, a: u32, c: u32) -> bool
+// A mark's two letters, and the mark.
+struct Letters(u8, u8, RecordMark);
+
+const MARKS: [Letters; 15] = [
+    Letters(b'S', b'D', RecordMark::SD),
+    Letters(b'F', b'V', RecordMark::FV),
+    Letters(b'N', b'V', RecordMark::NV),
+    Letters(b'S', b'N', RecordMark::SN),
+    Letters(b'J', b'N', RecordMark::JN),
+    Letters(b'S', b'U', RecordMark::SU),
+    Letters(b'U', b'F', RecordMark::UF),
+    Letters(b'R', b'D', RecordMark::RD),
+    Letters(b'T', b'S', RecordMark::TS),
+    Letters(b'I', b'N', RecordMark::IN),
+    Letters(b'N', b'C', RecordMark::NC),
+    Letters(b'B', b'C', RecordMark::BC),
+    Letters(b'S', b'C', RecordMark::SC),
+    Letters(b'S', b'V', RecordMark::SV),
+    Letters(b'R', b'M', RecordMark::RM),
+];
+
+fn same(x: u32, y: u32, a: u8, c: u8) -> bool
     ensures { λ r. ⌜ r ≡ (eqb x a && eqb y c) ⌝ }
 {
-    if x == a { y == c } else { false }
+    if x == a as u32 { y == c as u32 } else { false }
 }
 
-// The last eight of the marks.
-fn late_mark(x: u32, y: u32) -> RecordMark
-    ensures { λ r. ⌜ ((s : d.State) → reader-of r s ≡ fields-of (drop 7 (by-mark s)) x y) ⌝ }
-{
-    if same(x, y, 82, 68) {
-        return RecordMark::RD;
-    }
-    if same(x, y, 84, 83) {
-        return RecordMark::TS;
-    }
-    if same(x, y, 73, 78) {
-        return RecordMark::IN;
-    }
-    if same(x, y, 78, 67) {
-        return RecordMark::NC;
-    }
-    if same(x, y, 66, 67) {
-        return RecordMark::BC;
-    }
-    if same(x, y, 83, 67) {
-        return RecordMark::SC;
-    }
-    if same(x, y, 83, 86) {
-        return RecordMark::SV;
-    }
-    if same(x, y, 82, 77) {
-        return RecordMark::RM;
-    }
-    RecordMark::Other
-}
-
-// In ASCII.
 pub fn mark_of(x: u32, y: u32) -> RecordMark
     ensures { λ r. ⌜ ((s : d.State) → reader-of r s ≡ fields-of (by-mark s) x y) ⌝ }
 {
-    if same(x, y, 83, 68) {
-        return RecordMark::SD;
+    let mut k: usize = 0;
+    while k < 15 {
+        let row = MARKS[k];
+        if same(x, y, row.0, row.1) {
+            return row.2;
+        }
+        k = k + 1;
     }
-    if same(x, y, 70, 86) {
-        return RecordMark::FV;
-    }
-    if same(x, y, 78, 86) {
-        return RecordMark::NV;
-    }
-    if same(x, y, 83, 78) {
-        return RecordMark::SN;
-    }
-    if same(x, y, 74, 78) {
-        return RecordMark::JN;
-    }
-    if same(x, y, 83, 85) {
-        return RecordMark::SU;
-    }
-    if same(x, y, 85, 70) {
-        return RecordMark::UF;
-    }
-    late_mark(x, y)
+    RecordMark::Other
 }

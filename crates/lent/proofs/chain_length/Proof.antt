@@ -3,7 +3,7 @@ use mathlib.Core.Path.{_≡_, ap, sym, _∙_}
 use Prim.Native.Nat.{suc, _+_, _-_, _≤_}
 use native.Mathlib.Omega.{arith}
 use borrow.Author.Needs.{needs}
-use Rattle.lent.specs.Tests.{next}
+use Rattle.lent.specs.Chains.{next}
 use Rattle.lent.proofs.Links.{Follows, follows-none, follows-next, links-end, links-from, counted, counted-past}
 use Rattle.lent.proofs.chain_length.Statement.{statement}
 use Rattle.lent.proofs.chain_length.Tie as tie

@@ -5,7 +5,7 @@ use Prim.Native.Nat.{_≤_}
 use native.Mathlib.Omega.{arith}
 use lib.ListN.{length, length-set}
 use borrow.Author.Needs.{needs}
-use Rattle.lent.specs.Tests.{next, Links, Noted}
+use Rattle.lent.specs.Chains.{next, Links, Noted}
 use Rattle.lent.proofs.Links.{noted-more, links-tail}
 use Rattle.lent.proofs.note_chain.Statement.{statement}
 use Rattle.lent.proofs.note_chain.Tie as tie

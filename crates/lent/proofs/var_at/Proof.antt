@@ -2,8 +2,8 @@
 use mathlib.Core.Path.{sym, _∙_}
 use borrow.Author.Tests.{lt-ltb, le-ltb, eq-eqb, ne-eqb}
 use borrow.Author.Needs.{needs}
-use Rattle.lent.specs.Tests.{var-at}
-use Rattle.lent.proofs.Below.{when-true, when-false}
+use Rattle.lent.specs.Chains.{var-at}
+use Rattle.rows.proofs.Below.{when-true, when-false}
 use Rattle.lent.proofs.var_at.Statement.{statement}
 use Rattle.lent.proofs.var_at.Tie as tie
 

@@ -1,116 +1,57 @@
 -- `marks::mark_of` meets its contract. Assumes nothing.
 use mathlib.Core.Path.{sym, _∙_}
-use Rattle.definition.specs.Record.{by-mark}
-use Rattle.marks.proofs.Marks.{Onward, hit, pass}
+use Prim.Native.Nat.{_-_}
+use native.Mathlib.Omega.{arith}
+use Rattle.marks.proofs.Marks.{Onward, start, hit, pass, none}
 use borrow.Author.Needs.{needs}
 use Rattle.marks.proofs.mark_of.Statement.{statement}
 use Rattle.marks.proofs.mark_of.Tie as tie
 
--- ---- the first marks passed
+abbrev Inv-loop : tie.InvT-loop
+Inv-loop x y k₀ k = Onward x y k
 
-else-1 : (c : tie.Else1) → Onward by-mark 1 (c .before .before .args .x) (c .before .before .args .y)
-unfolding by-mark
-else-1 c s r e = pass _ _ _ _ _ _ r (sym (c .before .same .ensures) ∙ c .if1 .left) e
+abbrev μ-loop : tie.MeasureT-loop
+μ-loop x y k₀ k = 15 - k
 
-else-2 : (c : tie.Else2) → Onward by-mark 2 (c .before .before .before .before .args .x) (c .before .before .before .before .args .y)
-unfolding by-mark
-else-2 c s r e = else-1 (c .before .before) s r (pass _ _ _ _ _ _ r (sym (c .before .same2 .ensures) ∙ c .if2 .left) e)
+loop-holds : tie.Need-loop-holds Inv-loop μ-loop
+loop-holds c = start _ _
 
-else-3 : (c : tie.Else3) → Onward by-mark 3 (c .before .before .before .before .before .before .args .x) (c .before .before .before .before .before .before .args .y)
-unfolding by-mark
-else-3 c s r e = else-2 (c .before .before) s r (pass _ _ _ _ _ _ r (sym (c .before .same3 .ensures) ∙ c .if3 .left) e)
+mul-row : tie.Need-mul-row Inv-loop μ-loop
+mul-row c = search needs
 
-else-4 : (c : tie.Else4) → Onward by-mark 4 (c .before .before .before .before .before .before .before .before .args .x) (c .before .before .before .before .before .before .before .before .args .y)
-unfolding by-mark
-else-4 c s r e = else-3 (c .before .before) s r (pass _ _ _ _ _ _ r (sym (c .before .same4 .ensures) ∙ c .if4 .left) e)
+array-copy-out-row : tie.Need-array-copy-out-row Inv-loop μ-loop
+array-copy-out-row c = search needs
 
-else-5 : (c : tie.Else5) → Onward by-mark 5 (c .before .before .before .before .before .before .before .before .before .before .args .x) (c .before .before .before .before .before .before .before .before .before .before .args .y)
-unfolding by-mark
-else-5 c s r e = else-4 (c .before .before) s r (pass _ _ _ _ _ _ r (sym (c .before .same5 .ensures) ∙ c .if5 .left) e)
-
-else-6 : (c : tie.Else6) → Onward by-mark 6 (c .before .before .before .before .before .before .before .before .before .before .before .before .args .x) (c .before .before .before .before .before .before .before .before .before .before .before .before .args .y)
-unfolding by-mark
-else-6 c s r e = else-5 (c .before .before) s r (pass _ _ _ _ _ _ r (sym (c .before .same6 .ensures) ∙ c .if6 .left) e)
-
-else-7 : (c : tie.Else7) → Onward by-mark 7 (c .before .before .before .before .before .before .before .before .before .before .before .before .before .before .args .x) (c .before .before .before .before .before .before .before .before .before .before .before .before .before .before .args .y)
-unfolding by-mark
-else-7 c s r e = else-6 (c .before .before) s r (pass _ _ _ _ _ _ r (sym (c .before .same7 .ensures) ∙ c .if7 .left) e)
-
--- ---- the needs
-
-same-requires : tie.Need-same-requires
+same-requires : tie.Need-same-requires Inv-loop μ-loop
 same-requires c κs = search needs
 
-returns : tie.Need-returns
-unfolding by-mark
-returns c = λ s. hit _ _ _ _ _ _ (sym (c .before .same .ensures) ∙ c .if1 .taken)
+returns : tie.Need-returns Inv-loop μ-loop
+returns c = hit _ _ _ (c .before .before .before .before .loop .inv) (omega arith) (sym (c .before .same .ensures) ∙ c .if1 .taken)
 
-same-requires-2 : tie.Need-same-requires-2
-same-requires-2 c κs = search needs
+add-k : tie.Need-add-k Inv-loop μ-loop
+add-k c = search needs
 
-returns-2 : tie.Need-returns-2
-unfolding by-mark
-returns-2 c = λ s. else-1 (c .before .before) s _ (hit _ _ _ _ _ _ (sym (c .before .same2 .ensures) ∙ c .if2 .taken))
+loop-less : tie.Need-loop-less Inv-loop μ-loop
+loop-less c = search needs
 
-same-requires-3 : tie.Need-same-requires-3
-same-requires-3 c κs = search needs
+loop-again : tie.Need-loop-again Inv-loop μ-loop
+loop-again c = pass _ _ _ (c .before .before .before .before .loop .inv) (omega arith) (sym (c .before .same .ensures) ∙ c .if1 .left)
 
-returns-3 : tie.Need-returns-3
-unfolding by-mark
-returns-3 c = λ s. else-2 (c .before .before) s _ (hit _ _ _ _ _ _ (sym (c .before .same3 .ensures) ∙ c .if3 .taken))
-
-same-requires-4 : tie.Need-same-requires-4
-same-requires-4 c κs = search needs
-
-returns-4 : tie.Need-returns-4
-unfolding by-mark
-returns-4 c = λ s. else-3 (c .before .before) s _ (hit _ _ _ _ _ _ (sym (c .before .same4 .ensures) ∙ c .if4 .taken))
-
-same-requires-5 : tie.Need-same-requires-5
-same-requires-5 c κs = search needs
-
-returns-5 : tie.Need-returns-5
-unfolding by-mark
-returns-5 c = λ s. else-4 (c .before .before) s _ (hit _ _ _ _ _ _ (sym (c .before .same5 .ensures) ∙ c .if5 .taken))
-
-same-requires-6 : tie.Need-same-requires-6
-same-requires-6 c κs = search needs
-
-returns-6 : tie.Need-returns-6
-unfolding by-mark
-returns-6 c = λ s. else-5 (c .before .before) s _ (hit _ _ _ _ _ _ (sym (c .before .same6 .ensures) ∙ c .if6 .taken))
-
-same-requires-7 : tie.Need-same-requires-7
-same-requires-7 c κs = search needs
-
-returns-7 : tie.Need-returns-7
-unfolding by-mark
-returns-7 c = λ s. else-6 (c .before .before) s _ (hit _ _ _ _ _ _ (sym (c .before .same7 .ensures) ∙ c .if7 .taken))
-
-late-mark-requires : tie.Need-late-mark-requires
-late-mark-requires c κs = search needs
-
-returns-8 : tie.Need-returns-8
-unfolding by-mark
-returns-8 c = λ s. else-7 (c .before) s _ (c .late-mark .ensures s)
+returns-2 : tie.Need-returns-2 Inv-loop μ-loop
+returns-2 c = none _ _ _ (c .before .loop .inv) (omega arith)
 
 pub mark-of-spec : {M : Type 1} → statement M
 mark-of-spec =
     tie.close
     (tie.spec
+    Inv-loop
+    μ-loop
+    loop-holds
+    mul-row
+    array-copy-out-row
     same-requires
     returns
-    same-requires-2
-    returns-2
-    same-requires-3
-    returns-3
-    same-requires-4
-    returns-4
-    same-requires-5
-    returns-5
-    same-requires-6
-    returns-6
-    same-requires-7
-    returns-7
-    late-mark-requires
-    returns-8)
+    add-k
+    loop-less
+    loop-again
+    returns-2)
