@@ -26,8 +26,8 @@ use Rattle.table.specs.State.{constraint-of, view, seen, Lay}
 use Rattle.table.specs.Known.{Known}
 use Rattle.table.specs.declared.Used.{Used}
 use Rattle.table.proofs.Pushed.{count-view, constraints-view, constraints-seen}
-use Rattle.subst.specs.Itself.{Marked, Levels}
-use Rattle.subst.proofs.Itself.{reaches-is}
+use Rattle.ready.specs.Itself.{Marked, Levels}
+use Rattle.ready.proofs.Itself.{reaches-is}
 use Rattle.abilities.specs.Kept.{Ends, Has-set, Kept, Inferred}
 use Rattle.abilities.specs.Rules.{misses, any-misses, clashes, Asked-in, Asked-kept, All-asked, All-kept, refusal-of, Number, clear, nine, sixteen, Hindered}
 use Rattle.abilities.proofs.Laws.{none-of, is-false}

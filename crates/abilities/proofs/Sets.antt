@@ -22,9 +22,9 @@ use Rattle.table.specs.Known.{Known}
 use Rattle.table.specs.declared.Used.{Used}
 use Rattle.table.specs.declared.Shape.{Shape}
 use Rattle.table.specs.declared.Shape.the-variants.{Apply}
-use Rattle.subst.specs.Itself.{Goes-on}
+use Rattle.ready.specs.Itself.{Goes-on}
 use Rattle.subst.proofs.Laws.{count-seen}
-use Rattle.subst.proofs.Lists.{all-one}
+use Rattle.ready.proofs.Lists.{all-one}
 use Rattle.subst.proofs.Occurs.{zero-at}
 use Rattle.abilities.specs.Kept.{parts-of, part-count, Ends, Has-set, Kept, Parts-kept, Ready, Inferred}
 

@@ -14,7 +14,7 @@ ghost use Rattle.names.specs.Names.{name-of};
 ghost use Rattle.table.specs.Rows.{places};
 ghost use Rattle.table.specs.State.{found, shape-of, constraint-of, view, seen, Lay, Declares};
 ghost use Rattle.table.specs.Known.{Known};
-ghost use Rattle.subst.specs.Itself.{Goes-on, Marked};
+ghost use Rattle.ready.specs.Itself.{Goes-on, Marked};
 ghost use Rattle.abilities.specs.Kept.{Has-set, Kept, Parts-kept, Ready, parts-of, part-count, Inferred, Ends};
 ghost use Rattle.abilities.specs.Rules.{rule-of, Place-in, Rule-in, misses, any-misses, clashes, Asked-in, Asked-kept, All-asked, All-kept, Hindered, asks-abilities, any-asks};
 use names::AbilitySet;
@@ -237,7 +237,7 @@ fn keep_set(w: &[u32], u: Used, params: &[[u8; 8]; 256], t: u32, sets: &mut [u32
     requires { ⌜ Lay (now w) u × ((t < u .nodes) × (Kept (now w) u (now params) (now sets) × Parts-kept (now w) u t (now sets))) ⌝ }
     ensures { λ _. ⌜ Inferred (now (w .entry)) u (now (params .entry)) t (now (sets .entry)) (now (sets .exit)) ⌝ }
 {
-    let s = subst::goes_on(w, u, t);
+    let s = ready::goes_on(w, u, t);
     let a = set_of(w, u, params, s, sets);
     let at = wide(t);
     sets[at] = 256 + table::bits(a);
@@ -253,7 +253,7 @@ pub fn infer(w: &[u32], u: Used, params: &[[u8; 8]; 256], t: u32, left: u32, set
     if 256 <= sets[at] {
         return;
     }
-    let s = subst::goes_on(w, u, t);
+    let s = ready::goes_on(w, u, t);
     let many = subst::part_count(s);
     if many == 0 {
         keep_set(w, u, params, t, sets);
@@ -441,7 +441,7 @@ fn any_contradicts(
     if !any_missing(w, u, params, t, asked, sets) {
         return false;
     }
-    let s = subst::goes_on(w, u, t);
+    let s = ready::goes_on(w, u, t);
     shape_contradicts(w, u, params, t, s, asked, sets)
 }
 
@@ -460,7 +460,7 @@ fn ability_hinders(
     requires { ⌜ Lay (now w) u × ((t < u .nodes) × (Marked (now w) u (now marks) × Kept (now w) u (now params) (now sets))) ⌝ }
     ensures { λ r. ⌜ Marked (now (w .entry)) u (now (marks .exit)) × Hindered (now (w .entry)) u (now (params .entry)) (now (sets .entry)) (now (sets .exit)) r (λ s. ability-hindrance s t (asked .0)) (λ l. Has-set l t) ⌝ }
 {
-    let n = subst::levels(w, u, t, u.nodes, marks);
+    let n = ready::levels(w, u, t, u.nodes, marks);
     if n == 0 {
         return 9;
     }

@@ -92,7 +92,7 @@ pub fn run_ready(w: &mut [u32], u: Used, t: u32) -> Ran
     requires { ⌜ Lay (now w) u × (t < u .nodes) ⌝ }
     ensures { λ r. ⌜ Runs Any (now (w .entry)) u (now (w .exit)) r false (λ s. ready-tvars s t) (ready-run t) ⌝ }
 {
-    let a = subst::ready_tvars(w, u, t);
+    let a = ready::ready_tvars(w, u, t);
     shown(a, Show::Node, false)
 }
 

@@ -3,6 +3,3 @@ pub mod Lists
 pub mod Laws
 pub mod Occurs
 pub mod Unfold
-pub mod Itself
-pub mod Ends
-pub mod Run

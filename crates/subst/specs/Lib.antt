@@ -1,5 +1,2 @@
 -- What the answers of substitution stand for in the definition. Assumes nothing: these are definitions.
 pub mod Answers
-pub mod Ends
-pub mod Itself
-pub mod Ready

@@ -5,7 +5,7 @@ use Rattle.traps.proofs.walks.Statement.{statement}
 use Rattle.traps.proofs.walks.Tie as tie
 use Rattle.traps.proofs.walks.Reads as reads
 use Rattle.traps.proofs.walks.Lts as lts
-use Rattle.subst.proofs.reaches_itself.Reads as reaches-itself-reads
+use Rattle.ready.proofs.reaches_itself.Reads as reaches-itself-reads
 use Rattle.subst.proofs.used_tvars.Reads as used-tvars-reads
 use Rattle.traps.proofs.digit.Reads as digit-reads
 
