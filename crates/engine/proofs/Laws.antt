@@ -30,7 +30,7 @@ use Rattle.lent.proofs.Tested.{lent-says}
 use Rattle.lent.proofs.Lays.{lent-lay, lent-declares}
 use Rattle.step.specs.declared.Stepped.{Stepped}
 use Rattle.engine.specs.declared.Lines.{Lines}
-use Rattle.engine.specs.Public.{Lent-answer, lent-answer, lent-step, in-front, rest-of, Lent-piece, lent-piece, lent-lines}
+use Rattle.engine.specs.Public.{Lent-answer, lent-answer, lent-step, in-front, Gives-answer, rest-of, Lent-piece, lent-piece, lent-lines, Gives-lines}
 use Rattle.step.specs.Trusted.{held, Stands, answered, unread, Steps}
 use Rattle.engine.specs.Lists.{Lists}
 
@@ -80,14 +80,12 @@ module _ (w : List ℕ) (p : List (List ℕ)) (h : lent-sound w p ≡ true) (u :
       ∙ ap lent-answer steps
       ∙ ap₂ (λ (x : List ℕ) (y : List (List ℕ)). record { number = r .number; payload = take (r .len) buf′; words = x; params = y }) (sym (written w′ (r .used) p′ (g .stands) w″ e)) (sym (g .stands .bytes))
 
-  abbrev a : Lent-answer
-  a = lent-step w p bytes (length buf)
-
-  pub record-gives : length buf′ ≡ length buf → (p′ ≡ a .params) × ((w″ ≡ a .words) × ((r .number ≡ a .number) × ((r .len ≡ length (a .payload)) × (buf′ ≡ in-front (a .payload) buf))))
+  pub record-gives : length buf′ ≡ length buf → Gives-answer (lent-step w p bytes (length buf)) buf (r .number) w″ p′ buf′ (r .len)
   unfolding in-front
   record-gives l =
       let n : length (take (r .len) buf′) ≡ r .len = long (r .len) buf′ (omega (arith, l, k, g .few)) in
-      rw recorded (refl, (refl, (refl, (sym n, g .buffer ∙ ap (λ (n : ℕ). take (r .len) buf′ ++ drop n buf) (sym n)))))
+      let front = g .buffer ∙ ap (λ (n : ℕ). take (r .len) buf′ ++ drop n buf) (sym n) in
+      rw recorded (record { told = refl; words = refl; params = refl; front = front; size = sym n })
 
 -- ---- 15
 
@@ -115,9 +113,10 @@ unusable w p bytes buffer e = go (lent-sound w p) refl
         ∙ ap₂ (λ (x : List ℕ) (y : List (List ℕ)). record { number = 15; payload = []; words = x; params = y }) (sym (l .words)) (sym (l .bytes))
 
 pub unusable-gives : (w : List ℕ) (p : List (List ℕ)) (bytes buf : Bytes) → lent-sound w p && leb 4096 (length buf) ≡ false
-    → (p ≡ lent-step w p bytes (length buf) .params) × ((w ≡ lent-step w p bytes (length buf) .words) × ((15 ≡ lent-step w p bytes (length buf) .number) × ((0 ≡ length (lent-step w p bytes (length buf) .payload)) × (buf ≡ in-front (lent-step w p bytes (length buf) .payload) buf))))
+    → Gives-answer (lent-step w p bytes (length buf)) buf 15 w p buf 0
 unfolding in-front
-unusable-gives w p bytes buf e = rw (unusable w p bytes (length buf) e) (refl, (refl, (refl, (refl, refl))))
+unusable-gives w p bytes buf e =
+    rw (unusable w p bytes (length buf) e) (record { told = refl; words = refl; params = refl; front = refl; size = refl })
 
 pub usable-both : (w : List ℕ) (p : List (List ℕ)) (buffer : ℕ) → lent-sound w p && leb 4096 buffer ≡ true → (lent-sound w p ≡ true) × (4096 ≤ buffer)
 usable-both w p buffer e = (and-l (lent-sound w p) (leb 4096 buffer) e, leb→le 4096 buffer (test (and-r (lent-sound w p) (leb 4096 buffer) e)))
@@ -156,31 +155,44 @@ module _ (w : List ℕ) (p : List (List ℕ)) (h : lent-sound w p ≡ true) (u :
       ∙ ap lent-piece (rw (held-lent w p h u c) at (g .is))
       ∙ ap₂ (λ (x : List ℕ) (y : List (List ℕ)). record { number = 0; text = take (r .written) log′; words = x; params = y; rest = drop (r .read) stream; place = r .place; ended = r .ended }) (sym (written w′ (r .used) p′ (g .stands) w″ e)) (sym (g .stands .bytes))
 
-  pub job-gives : length log′ ≡ length log
-      → (p′ ≡ lines .params) × ((w″ ≡ lines .words) × ((0 ≡ lines .number) × ((log′ ≡ in-front (lines .text) log)
-      × ((r .written ≡ length (lines .text)) × ((drop (r .read) stream ≡ lines .rest) × ((r .place ≡ lines .place)
-      × ((r .ended ≡ lines .ended) × ((r .read ≤ length stream) × (r .written ≤ length log)))))))))
+  pub job-gives : length log′ ≡ length log → Gives-lines lines stream log 0 w″ p′ log′ (r .written) (r .read) (r .place) (r .ended)
   unfolding in-front
   job-gives l =
       let n : length (take (r .written) log′) ≡ r .written = long (r .written) log′ (omega (arith, l, g .fits)) in
-      rw listed (refl, (refl, (refl, (g .others ∙ ap (λ (n : ℕ). take (r .written) log′ ++ drop n log) (sym n), (sym n, (refl, (refl, (refl, (g .within, g .fits)))))))))
+      rw listed
+      (record {
+        told = refl;
+        words = refl;
+        params = refl;
+        front = g .others ∙ ap (λ (n : ℕ). take (r .written) log′ ++ drop n log) (sym n);
+        size = sym n;
+        fits = g .fits;
+        rest = refl;
+        inside = g .within;
+        next = refl;
+        ends = refl;
+      })
 
 pub unsound-lines : (w : List ℕ) (p : List (List ℕ)) (place : ℕ) (stream : Bytes) (more : Bool) (log : Bytes) → lent-sound w p ≡ false
-    → (p ≡ lent-lines w p place stream (length log) more .params)
-    × ((w ≡ lent-lines w p place stream (length log) more .words)
-    × ((15 ≡ lent-lines w p place stream (length log) more .number)
-    × ((log ≡ in-front (lent-lines w p place stream (length log) more .text) log)
-    × ((0 ≡ length (lent-lines w p place stream (length log) more .text))
-    × ((stream ≡ lent-lines w p place stream (length log) more .rest)
-    × ((place ≡ lent-lines w p place stream (length log) more .place)
-    × ((true ≡ lent-lines w p place stream (length log) more .ended)
-    × ((0 ≤ length stream) × (0 ≤ length log)))))))))
+    → Gives-lines (lent-lines w p place stream (length log) more) stream log 15 w p log 0 0 place true
 unfolding in-front lent-lines
 unsound-lines w p place stream more log h =
     let piece : Lent-piece = record { number = 15; text = []; words = w; params = p; rest = stream; place = place; ended = true } in
     let e : lent-lines w p place stream (length log) more ≡ piece =
     ap (λ q. elim q as (λ x. Lent-piece) [ true ↦ lent-piece (next-lines place (decode w p) stream (length log) more) | false ↦ piece ]) h in
-    rw e (refl, (refl, (refl, (refl, (refl, (refl, (refl, (refl, (omega arith, omega arith)))))))))
+    rw e
+    (record {
+      told = refl;
+      words = refl;
+      params = refl;
+      front = refl;
+      size = refl;
+      fits = omega arith;
+      rest = refl;
+      inside = omega arith;
+      next = refl;
+      ends = refl;
+    })
 
 -- ---- the splitter
 

@@ -1,7 +1,8 @@
 -- What each public call gives, outright, whatever it is lent. Assumes nothing: these are definitions.
+use mathlib.Core.Path.{_≡_}
 use mathlib.Core.Bool.{Bool, true, false}
 use mathlib.Core.List.{List, [], _++_}
-use Prim.Native.Nat.{ℕ}
+use Prim.Native.Nat.{ℕ, _≤_}
 use lib.Dec.{eqb}
 use lib.ListN.{length, drop}
 use Rattle.definition.specs.Types.{fresh}
@@ -33,6 +34,14 @@ lent-step w params bytes buffer = elim (lent-sound w params) [
 -- bytes in front of a buffer, which is else as it was
 unfoldable pub in-front : Bytes → Bytes → Bytes
 in-front bytes buffer = bytes ++ drop (length bytes) buffer
+
+-- what a call leaves that is to give answer a, its payload in front of the buffer
+pub record Gives-answer (a : Lent-answer) (buffer : Bytes) (number : ℕ) (words′ : List ℕ) (params′ : List (List ℕ)) (buffer′ : Bytes) (written : ℕ) : Type 0 where
+  pub told : number ≡ a .number
+  pub words : words′ ≡ a .words
+  pub params : params′ ≡ a .params
+  pub front : buffer′ ≡ in-front (a .payload) buffer
+  pub size : written ≡ length (a .payload)
 
 -- ---- the splitter: the stream after one record, all of it on 5, 6, 15 and 18
 
@@ -66,3 +75,16 @@ fresh-lines w params stream room more = elim (eqb (length w) 24069) [
   | true ↦ lent-lines (encode fresh) (encode-params fresh) 0 stream room more
   | false ↦ lent-lines w params 0 stream room more
 ]
+
+-- what a call leaves that is to give piece p of a stream's lines, its text in front of the log
+pub record Gives-lines (p : Lent-piece) (stream log : Bytes) (number : ℕ) (words′ : List ℕ) (params′ : List (List ℕ)) (log′ : Bytes) (written read place : ℕ) (ended : Bool) : Type 0 where
+  pub told : number ≡ p .number
+  pub words : words′ ≡ p .words
+  pub params : params′ ≡ p .params
+  pub front : log′ ≡ in-front (p .text) log
+  pub size : written ≡ length (p .text)
+  pub fits : written ≤ length log
+  pub rest : drop read stream ≡ p .rest
+  pub inside : read ≤ length stream
+  pub next : place ≡ p .place
+  pub ends : ended ≡ p .ended

@@ -9,7 +9,7 @@ ghost use Rattle.definition.specs.Write.{Is-bytes};
 ghost use Rattle.definition.specs.Job.{ends-job};
 ghost use Rattle.pieces.specs.Pieces.{takes-on};
 ghost use Rattle.lent.specs.Lent.{lent-sound};
-ghost use Rattle.engine.specs.Public.{lent-step, in-front, rest-of, lent-lines, fresh-lines};
+ghost use Rattle.engine.specs.Public.{lent-step, Gives-answer, rest-of, lent-lines, fresh-lines, Gives-lines};
 ghost use Rattle.engine.specs.Lists.{Lists};
 ghost use Rattle.step.specs.Trusted.{Stands};
 use lent::sound_state;
@@ -48,11 +48,7 @@ fn record_trusted(
     length: &mut u32,
 ) -> [[u8; 8]; 256]
     requires { ⌜ (lent-sound (now state) params ≡ true) × (4096 ≤ size (now answer)) ⌝ }
-    ensures { λ r. ⌜ r ≡ lent-step (now (state .entry)) params (now («record» .entry)) (size (now (answer .entry))) .params ⌝ }
-    ensures { λ r. ⌜ now (state .exit) ≡ lent-step (now (state .entry)) params (now («record» .entry)) (size (now (answer .entry))) .words ⌝ }
-    ensures { λ r. ⌜ now (number .exit) ≡ lent-step (now (state .entry)) params (now («record» .entry)) (size (now (answer .entry))) .number ⌝ }
-    ensures { λ r. ⌜ now (length .exit) ≡ size (lent-step (now (state .entry)) params (now («record» .entry)) (size (now (answer .entry))) .payload) ⌝ }
-    ensures { λ r. ⌜ now (answer .exit) ≡ in-front (lent-step (now (state .entry)) params (now («record» .entry)) (size (now (answer .entry))) .payload) (now (answer .entry)) ⌝ }
+    ensures { λ r. ⌜ Gives-answer (lent-step (now (state .entry)) params (now («record» .entry)) (size (now (answer .entry)))) (now (answer .entry)) (now (number .exit)) (now (state .exit)) r (now (answer .exit)) (now (length .exit)) ⌝ }
 {
     let u = used_of(state);
     let mut rows = params;
@@ -75,11 +71,7 @@ pub fn lent_record(
     number: &mut u32,
     length: &mut u32,
 ) -> [[u8; 8]; 256]
-    ensures { λ r. ⌜ r ≡ lent-step (now (state .entry)) params (now («record» .entry)) (size (now (answer .entry))) .params ⌝ }
-    ensures { λ r. ⌜ now (state .exit) ≡ lent-step (now (state .entry)) params (now («record» .entry)) (size (now (answer .entry))) .words ⌝ }
-    ensures { λ r. ⌜ now (number .exit) ≡ lent-step (now (state .entry)) params (now («record» .entry)) (size (now (answer .entry))) .number ⌝ }
-    ensures { λ r. ⌜ now (length .exit) ≡ size (lent-step (now (state .entry)) params (now («record» .entry)) (size (now (answer .entry))) .payload) ⌝ }
-    ensures { λ r. ⌜ now (answer .exit) ≡ in-front (lent-step (now (state .entry)) params (now («record» .entry)) (size (now (answer .entry))) .payload) (now (answer .entry)) ⌝ }
+    ensures { λ r. ⌜ Gives-answer (lent-step (now (state .entry)) params (now («record» .entry)) (size (now (answer .entry)))) (now (answer .entry)) (now (number .exit)) (now (state .exit)) r (now (answer .exit)) (now (length .exit)) ⌝ }
 {
     if usable(state, params, answer.len()) {
         return record_trusted(state, params, record, answer, number, length);
@@ -200,15 +192,7 @@ fn job_trusted(
     ended: &mut bool,
 ) -> [[u8; 8]; 256]
     requires { ⌜ lent-sound (now state) params ≡ true ⌝ }
-    ensures { λ r. ⌜ r ≡ lent-lines (now (state .entry)) params (now (place .entry)) (now (stream .entry)) (size (now (log .entry))) more .params ⌝ }
-    ensures { λ r. ⌜ now (state .exit) ≡ lent-lines (now (state .entry)) params (now (place .entry)) (now (stream .entry)) (size (now (log .entry))) more .words ⌝ }
-    ensures { λ r. ⌜ now (number .exit) ≡ lent-lines (now (state .entry)) params (now (place .entry)) (now (stream .entry)) (size (now (log .entry))) more .number ⌝ }
-    ensures { λ r. ⌜ now (log .exit) ≡ in-front (lent-lines (now (state .entry)) params (now (place .entry)) (now (stream .entry)) (size (now (log .entry))) more .text) (now (log .entry)) ⌝ }
-    ensures { λ r. ⌜ now (written .exit) ≡ size (lent-lines (now (state .entry)) params (now (place .entry)) (now (stream .entry)) (size (now (log .entry))) more .text) ⌝ }
-    ensures { λ r. ⌜ drop (now (read .exit)) (now (stream .entry)) ≡ lent-lines (now (state .entry)) params (now (place .entry)) (now (stream .entry)) (size (now (log .entry))) more .rest ⌝ }
-    ensures { λ r. ⌜ now (place .exit) ≡ lent-lines (now (state .entry)) params (now (place .entry)) (now (stream .entry)) (size (now (log .entry))) more .place ⌝ }
-    ensures { λ r. ⌜ now (ended .exit) ≡ lent-lines (now (state .entry)) params (now (place .entry)) (now (stream .entry)) (size (now (log .entry))) more .ended ⌝ }
-    ensures { λ r. ⌜ (now (read .exit) ≤ size (now (stream .entry))) × (now (written .exit) ≤ size (now (log .entry))) ⌝ }
+    ensures { λ r. ⌜ Gives-lines (lent-lines (now (state .entry)) params (now (place .entry)) (now (stream .entry)) (size (now (log .entry))) more) (now (stream .entry)) (now (log .entry)) (now (number .exit)) (now (state .exit)) r (now (log .exit)) (now (written .exit)) (now (read .exit)) (now (place .exit)) (now (ended .exit)) ⌝ }
 {
     let u = used_of(state);
     let mut rows = params;
@@ -240,15 +224,7 @@ pub fn job(
     place: &mut u64,
     ended: &mut bool,
 ) -> [[u8; 8]; 256]
-    ensures { λ r. ⌜ r ≡ lent-lines (now (state .entry)) params (now (place .entry)) (now (stream .entry)) (size (now (log .entry))) more .params ⌝ }
-    ensures { λ r. ⌜ now (state .exit) ≡ lent-lines (now (state .entry)) params (now (place .entry)) (now (stream .entry)) (size (now (log .entry))) more .words ⌝ }
-    ensures { λ r. ⌜ now (number .exit) ≡ lent-lines (now (state .entry)) params (now (place .entry)) (now (stream .entry)) (size (now (log .entry))) more .number ⌝ }
-    ensures { λ r. ⌜ now (log .exit) ≡ in-front (lent-lines (now (state .entry)) params (now (place .entry)) (now (stream .entry)) (size (now (log .entry))) more .text) (now (log .entry)) ⌝ }
-    ensures { λ r. ⌜ now (written .exit) ≡ size (lent-lines (now (state .entry)) params (now (place .entry)) (now (stream .entry)) (size (now (log .entry))) more .text) ⌝ }
-    ensures { λ r. ⌜ drop (now (read .exit)) (now (stream .entry)) ≡ lent-lines (now (state .entry)) params (now (place .entry)) (now (stream .entry)) (size (now (log .entry))) more .rest ⌝ }
-    ensures { λ r. ⌜ now (place .exit) ≡ lent-lines (now (state .entry)) params (now (place .entry)) (now (stream .entry)) (size (now (log .entry))) more .place ⌝ }
-    ensures { λ r. ⌜ now (ended .exit) ≡ lent-lines (now (state .entry)) params (now (place .entry)) (now (stream .entry)) (size (now (log .entry))) more .ended ⌝ }
-    ensures { λ r. ⌜ (now (read .exit) ≤ size (now (stream .entry))) × (now (written .exit) ≤ size (now (log .entry))) ⌝ }
+    ensures { λ r. ⌜ Gives-lines (lent-lines (now (state .entry)) params (now (place .entry)) (now (stream .entry)) (size (now (log .entry))) more) (now (stream .entry)) (now (log .entry)) (now (number .exit)) (now (state .exit)) r (now (log .exit)) (now (written .exit)) (now (read .exit)) (now (place .exit)) (now (ended .exit)) ⌝ }
 {
     if sound_state(state, params) {
         return job_trusted(
@@ -296,15 +272,7 @@ pub fn fresh_job(
     place: &mut u64,
     ended: &mut bool,
 ) -> [[u8; 8]; 256]
-    ensures { λ r. ⌜ r ≡ fresh-lines (now (state .entry)) params (now (stream .entry)) (size (now (log .entry))) more .params ⌝ }
-    ensures { λ r. ⌜ now (state .exit) ≡ fresh-lines (now (state .entry)) params (now (stream .entry)) (size (now (log .entry))) more .words ⌝ }
-    ensures { λ r. ⌜ now (number .exit) ≡ fresh-lines (now (state .entry)) params (now (stream .entry)) (size (now (log .entry))) more .number ⌝ }
-    ensures { λ r. ⌜ now (log .exit) ≡ in-front (fresh-lines (now (state .entry)) params (now (stream .entry)) (size (now (log .entry))) more .text) (now (log .entry)) ⌝ }
-    ensures { λ r. ⌜ now (written .exit) ≡ size (fresh-lines (now (state .entry)) params (now (stream .entry)) (size (now (log .entry))) more .text) ⌝ }
-    ensures { λ r. ⌜ drop (now (read .exit)) (now (stream .entry)) ≡ fresh-lines (now (state .entry)) params (now (stream .entry)) (size (now (log .entry))) more .rest ⌝ }
-    ensures { λ r. ⌜ now (place .exit) ≡ fresh-lines (now (state .entry)) params (now (stream .entry)) (size (now (log .entry))) more .place ⌝ }
-    ensures { λ r. ⌜ now (ended .exit) ≡ fresh-lines (now (state .entry)) params (now (stream .entry)) (size (now (log .entry))) more .ended ⌝ }
-    ensures { λ r. ⌜ (now (read .exit) ≤ size (now (stream .entry))) × (now (written .exit) ≤ size (now (log .entry))) ⌝ }
+    ensures { λ r. ⌜ Gives-lines (fresh-lines (now (state .entry)) params (now (stream .entry)) (size (now (log .entry))) more) (now (stream .entry)) (now (log .entry)) (now (number .exit)) (now (state .exit)) r (now (log .exit)) (now (written .exit)) (now (read .exit)) (now (place .exit)) (now (ended .exit)) ⌝ }
 {
     *place = 0;
     if state.len() == 24069 {

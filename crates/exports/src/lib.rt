@@ -2,7 +2,7 @@
 ghost use mathlib.Core.Path.{_≡_};
 ghost use Prim.Native.Nat.{_-_, _≤_};
 ghost use lib.ListN.{length as size, drop};
-ghost use Rattle.engine.specs.Public.{lent-step, in-front, rest-of, lent-lines};
+ghost use Rattle.engine.specs.Public.{lent-step, Gives-answer, rest-of, lent-lines, Gives-lines};
 
 pub mod fresh;
 
@@ -16,11 +16,7 @@ pub extern "C" fn pongiwaru_record(
     answer: &mut [u8],
     length: &mut u32,
 ) -> u32
-    ensures { λ r. ⌜ r ≡ lent-step (now (state .entry)) (now (params .entry)) (now («record» .entry)) (size (now (answer .entry))) .number ⌝ }
-    ensures { λ r. ⌜ now (state .exit) ≡ lent-step (now (state .entry)) (now (params .entry)) (now («record» .entry)) (size (now (answer .entry))) .words ⌝ }
-    ensures { λ r. ⌜ now (params .exit) ≡ lent-step (now (state .entry)) (now (params .entry)) (now («record» .entry)) (size (now (answer .entry))) .params ⌝ }
-    ensures { λ r. ⌜ now (length .exit) ≡ size (lent-step (now (state .entry)) (now (params .entry)) (now («record» .entry)) (size (now (answer .entry))) .payload) ⌝ }
-    ensures { λ r. ⌜ now (answer .exit) ≡ in-front (lent-step (now (state .entry)) (now (params .entry)) (now («record» .entry)) (size (now (answer .entry))) .payload) (now (answer .entry)) ⌝ }
+    ensures { λ r. ⌜ Gives-answer (lent-step (now (state .entry)) (now (params .entry)) (now («record» .entry)) (size (now (answer .entry)))) (now (answer .entry)) r (now (state .exit)) (now (params .exit)) (now (answer .exit)) (now (length .exit)) ⌝ }
 {
     let mut number: u32 = 0;
     let p = *params;
@@ -60,15 +56,7 @@ pub extern "C" fn pongiwaru_job(
     place: &mut u64,
     ended: &mut bool,
 ) -> u32
-    ensures { λ r. ⌜ r ≡ lent-lines (now (state .entry)) (now (params .entry)) (now (place .entry)) (now (stream .entry)) (size (now (log .entry))) more .number ⌝ }
-    ensures { λ r. ⌜ now (state .exit) ≡ lent-lines (now (state .entry)) (now (params .entry)) (now (place .entry)) (now (stream .entry)) (size (now (log .entry))) more .words ⌝ }
-    ensures { λ r. ⌜ now (params .exit) ≡ lent-lines (now (state .entry)) (now (params .entry)) (now (place .entry)) (now (stream .entry)) (size (now (log .entry))) more .params ⌝ }
-    ensures { λ r. ⌜ now (log .exit) ≡ in-front (lent-lines (now (state .entry)) (now (params .entry)) (now (place .entry)) (now (stream .entry)) (size (now (log .entry))) more .text) (now (log .entry)) ⌝ }
-    ensures { λ r. ⌜ now (written .exit) ≡ size (lent-lines (now (state .entry)) (now (params .entry)) (now (place .entry)) (now (stream .entry)) (size (now (log .entry))) more .text) ⌝ }
-    ensures { λ r. ⌜ drop (now (read .exit)) (now (stream .entry)) ≡ lent-lines (now (state .entry)) (now (params .entry)) (now (place .entry)) (now (stream .entry)) (size (now (log .entry))) more .rest ⌝ }
-    ensures { λ r. ⌜ now (place .exit) ≡ lent-lines (now (state .entry)) (now (params .entry)) (now (place .entry)) (now (stream .entry)) (size (now (log .entry))) more .place ⌝ }
-    ensures { λ r. ⌜ now (ended .exit) ≡ lent-lines (now (state .entry)) (now (params .entry)) (now (place .entry)) (now (stream .entry)) (size (now (log .entry))) more .ended ⌝ }
-    ensures { λ r. ⌜ (now (read .exit) ≤ size (now (stream .entry))) × (now (written .exit) ≤ size (now (log .entry))) ⌝ }
+    ensures { λ r. ⌜ Gives-lines (lent-lines (now (state .entry)) (now (params .entry)) (now (place .entry)) (now (stream .entry)) (size (now (log .entry))) more) (now (stream .entry)) (now (log .entry)) r (now (state .exit)) (now (params .exit)) (now (log .exit)) (now (written .exit)) (now (read .exit)) (now (place .exit)) (now (ended .exit)) ⌝ }
 {
     let mut number: u32 = 0;
     let p = *params;

@@ -69,18 +69,6 @@ pub record Filled (buf : List ℕ) (t : Turn) (buf′ : List ℕ) (t′ : Turn) 
 abbrev pub job-lines : Bool → List ℕ → List (List ℕ) → ℕ → List ℕ → ℕ → Bool → Lent-piece
 job-lines begun words rows place bytes room more = elim begun [ true ↦ lent-lines words rows place bytes room more | false ↦ fresh-lines words rows bytes room more ]
 
--- what a call for them gives
-pub record Gave (p : Lent-piece) (bytes log words′ : List ℕ) (rows′ : List (List ℕ)) (log′ : List ℕ) (written read place : ℕ) (ended : Bool) : Type 0 where
-  pub words : words′ ≡ p .words
-  pub rows : rows′ ≡ p .params
-  pub text : log′ ≡ in-front (p .text) log
-  pub size : written ≡ length (p .text)
-  pub fits : written ≤ length log
-  pub rest : drop read bytes ≡ p .rest
-  pub inside : read ≤ length bytes
-  pub next : place ≡ p .place
-  pub ends : ended ≡ p .ended
-
 -- the job's next lines, of the bytes at hand
 abbrev pub lines-of : Held → Lent-piece
 lines-of h = job-lines (h .turn .begun) (h .words) (h .rows) (h .turn .place) (stream h) (length (h .log)) (h .turn .more)

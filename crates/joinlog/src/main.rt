@@ -3,7 +3,8 @@ ghost use Prim.Native.Nat.{_+_, _-_, _≤_, _<_};
 ghost use mathlib.Core.Path.{_≡_};
 ghost use mathlib.Core.Bool.{true, not, _||_};
 ghost use lib.ListN.{length, take};
-ghost use Rattle.joinlog.specs.Turns.{negative, Within, short, at-hand, held, first, Behind, Filled, job-lines, Gave, Listed, Turned, Ran};
+ghost use Rattle.engine.specs.Public.{Gives-lines};
+ghost use Rattle.joinlog.specs.Turns.{negative, Within, short, at-hand, held, first, Behind, Filled, job-lines, Listed, Turned, Ran};
 
 // Where the bytes at hand begin and end in the buffer, whether more may follow them, and the next record's number; how many bytes the last turn read and how much text
 // it handed to the writer; whether the job has begun, whether it ended, and whether that is because a read or a write failed.
@@ -136,7 +137,7 @@ fn next_lines(
     place: &mut u64,
     ended: &mut bool,
 ) -> [[u8; 8]; 256]
-    ensures { λ r. ⌜ Gave (job-lines (t .begun) (now (state .entry)) rows (now (place .entry)) (now (stream .entry)) (length (now (log .entry))) (t .more)) (now (stream .entry)) (now (log .entry)) (now (state .exit)) r (now (log .exit)) (now (written .exit)) (now (read .exit)) (now (place .exit)) (now (ended .exit)) ⌝ }
+    ensures { λ r. ⌜ Gives-lines (job-lines (t .begun) (now (state .entry)) rows (now (place .entry)) (now (stream .entry)) (length (now (log .entry))) (t .more)) (now (stream .entry)) (now (log .entry)) (now (number .exit)) (now (state .exit)) r (now (log .exit)) (now (written .exit)) (now (read .exit)) (now (place .exit)) (now (ended .exit)) ⌝ }
 {
     if t.begun {
         return engine::job(

@@ -13,9 +13,7 @@ same-length-2 : tie.Need-same-length-2
 same-length-2 c = search needs
 
 returns : tie.Need-returns
-returns c =
-    let e = c .before .before .before .before .lent-record .ensures in
-    (e .1 .1 .0, (e .1 .0, (e .0, (e .1 .1 .1 .0, e .1 .1 .1 .1))))
+returns c = c .before .before .before .before .lent-record .ensures
 
 pub pongiwaru-record-spec : {M : Type 1} → statement M
 pongiwaru-record-spec = tie.close (tie.spec lent-record-requires same-length same-length-2 returns)

@@ -49,8 +49,8 @@ returns c =
     let size = length-take-le (t .have - t .from) (drop (t .from) (args .buf .now)) few in
     record {
       words = e .words;
-      rows = e .rows;
-      text = e .text;
+      rows = e .params;
+      text = e .front;
       handed = c .before .hand-over .ensures ∙ e .size;
       within = record { ordered = omega (arith, e .inside, size, pre .ordered); inside = pre .inside };
       rest = passed (t .from) _ (t .have) (args .buf .now) ∙ e .rest;

@@ -15,19 +15,7 @@ same-length-2 c = search needs
 returns : tie.Need-returns
 returns c =
     let if1 = c .before .before .before .before .before .before .before .before .before .before .before .before .if1 in
-    let e = c .before .before .before .before .job .ensures in
-    rw (if1 .taken)
-    (record {
-      words = e .1 .0;
-      rows = e .0;
-      text = e .1 .1 .1 .0;
-      size = e .1 .1 .1 .1 .0;
-      fits = e .1 .1 .1 .1 .1 .1 .1 .1 .1;
-      rest = e .1 .1 .1 .1 .1 .0;
-      inside = e .1 .1 .1 .1 .1 .1 .1 .1 .0;
-      next = e .1 .1 .1 .1 .1 .1 .0;
-      ends = e .1 .1 .1 .1 .1 .1 .1 .0;
-    })
+    rw (if1 .taken) (c .before .before .before .before .job .ensures)
 
 fresh-job-requires : tie.Need-fresh-job-requires
 fresh-job-requires c κs = search needs
@@ -41,19 +29,7 @@ same-length-4 c = search needs
 returns-2 : tie.Need-returns-2
 returns-2 c =
     let if1 = c .before .before .before .before .before .before .before .before .before .before .before .before .if1 in
-    let e = c .before .before .before .before .fresh-job .ensures in
-    rw (if1 .left)
-    (record {
-      words = e .1 .0;
-      rows = e .0;
-      text = e .1 .1 .1 .0;
-      size = e .1 .1 .1 .1 .0;
-      fits = e .1 .1 .1 .1 .1 .1 .1 .1 .1;
-      rest = e .1 .1 .1 .1 .1 .0;
-      inside = e .1 .1 .1 .1 .1 .1 .1 .1 .0;
-      next = e .1 .1 .1 .1 .1 .1 .0;
-      ends = e .1 .1 .1 .1 .1 .1 .1 .0;
-    })
+    rw (if1 .left) (c .before .before .before .before .fresh-job .ensures)
 
 pub next-lines-spec : {M : Type 1} → statement M
 next-lines-spec =

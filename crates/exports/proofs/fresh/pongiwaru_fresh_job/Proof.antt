@@ -13,10 +13,7 @@ same-length-2 : tie.Need-same-length-2
 same-length-2 c = search needs
 
 returns : tie.Need-returns
-returns c =
-    let e = c .before .before .before .before .fresh-job .ensures in
-    let f = e .1 .1 .1 in
-    (e .1 .1 .0, (e .1 .0, (e .0, (f .0, (f .1 .0, (f .1 .1 .0, (f .1 .1 .1 .0, (f .1 .1 .1 .1 .0, f .1 .1 .1 .1 .1))))))))
+returns c = c .before .before .before .before .fresh-job .ensures
 
 pub pongiwaru-fresh-job-spec : {M : Type 1} → statement M
 pongiwaru-fresh-job-spec = tie.close (tie.spec fresh-job-requires same-length same-length-2 returns)
