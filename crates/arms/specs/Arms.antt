@@ -5,6 +5,7 @@ use Prim.Native.Nat.{ℕ, _<_}
 use Rattle.definition.specs.Types as d
 use Rattle.definition.specs.Types.{State, Result, ok, err, refused, _>>=_, if_then_else_, abilities-disagree}
 use Rattle.definition.specs.Store.{loc-of, args-at, with-args, sp}
+use Rattle.definition.specs.Subst.{on-shape}
 use Rattle.definition.specs.Join as j
 use Rattle.definition.specs.Join.{Join-impl, Var-l, Var-r, arm, join-arm, join-tvar, join-impl-types}
 use Rattle.names.specs.Names.{mark-of, name-of}
@@ -56,3 +57,11 @@ pub record Takes (case : j.TypingCase) (lhs rhs : Shape) (a : Arm) : Type 0 wher
   pub is : (join-impl : Join-impl) (subst : State) (l r : ℕ)
       → join-arm join-impl subst case l r (arm (with-args subst (shape-of lhs)) (with-args subst (shape-of rhs))) ≡ by-arm join-impl subst case l r a
   pub below : (args : List ℕ) (n : ℕ) → Below args n (shape-of lhs) → Below args n (shape-of rhs) → Arm-below args n a
+
+-- the arm of a type that is no variable, `_` or error, beside one of another shape
+unfoldable pub other-arm : d.Type-value → j.Arm
+other-arm rhs = on-shape j.Others (λ m t. j.Others) (λ id a. j.Others) (λ k n tys. j.Others) Var-r j.Anything-r j.Error-r rhs
+
+-- lhs is such a type, and rhs is of another shape
+abbrev pub Unlike : Shape → Shape → Type 0
+Unlike lhs rhs = (s : State) → arm (with-args s (shape-of lhs)) (with-args s (shape-of rhs)) ≡ other-arm (with-args s (shape-of rhs))

@@ -3,8 +3,9 @@
 ghost use Rattle.definition.specs.Join as d;
 ghost use mathlib.Core.Path.{_≡_};
 ghost use Rattle.names.specs.Names.{mark-of, name-of};
+ghost use Rattle.table.specs.declared.Shape.{Shape};
 ghost use Rattle.table.specs.declared.Shape.the-variants.{Unit, Ref, Param, Apply, Var, UnresolvedError};
-ghost use Rattle.arms.specs.Arms.{case-of, Takes};
+ghost use Rattle.arms.specs.Arms.{case-of, Takes, Unlike};
 use names::AbilitySet;
 use names::Mark;
 use names::TParamID;
@@ -137,17 +138,24 @@ fn arm_applies(
     Arm::Incompatible
 }
 
+// A type that is no variable, `_` or error, beside one of another shape.
+fn arm_other(rhs: Shape) -> Arm
+    ensures { λ a. ⌜ ((case : d.TypingCase) (lhs : Shape) → Unlike lhs rhs → Takes case lhs rhs a) ⌝ }
+{
+    match rhs {
+        Shape::Var(id) => Arm::VarRight(id),
+        Shape::Anything => Arm::Left,
+        Shape::UnresolvedError => Arm::Left,
+        _ => Arm::Incompatible,
+    }
+}
+
 fn arm_unit(rhs: Shape) -> Arm
     ensures { λ a. ⌜ ((case : d.TypingCase) → Takes case Unit rhs a) ⌝ }
 {
     match rhs {
         Shape::Unit => Arm::Right,
-        Shape::Ref(_, _) => Arm::Incompatible,
-        Shape::Param(_, _) => Arm::Incompatible,
-        Shape::Apply(_, _, _, _) => Arm::Incompatible,
-        Shape::Var(id) => Arm::VarRight(id),
-        Shape::Anything => Arm::Left,
-        Shape::UnresolvedError => Arm::Left,
+        _ => arm_other(rhs),
     }
 }
 
@@ -155,13 +163,8 @@ fn arm_ref(case: TypingCase, mut1: bool, t1: u32, rhs: Shape) -> Arm
     ensures { λ a. ⌜ Takes (case-of case) (Ref mut1 t1) rhs a ⌝ }
 {
     match rhs {
-        Shape::Unit => Arm::Incompatible,
         Shape::Ref(mut2, t2) => arm_refs(case, mut1, t1, mut2, t2),
-        Shape::Param(_, _) => Arm::Incompatible,
-        Shape::Apply(_, _, _, _) => Arm::Incompatible,
-        Shape::Var(id) => Arm::VarRight(id),
-        Shape::Anything => Arm::Left,
-        Shape::UnresolvedError => Arm::Left,
+        _ => arm_other(rhs),
     }
 }
 
@@ -169,8 +172,6 @@ fn arm_param(id1: TParamID, a1: AbilitySet, rhs: Shape) -> Arm
     ensures { λ a. ⌜ ((case : d.TypingCase) → Takes case (Param id1 a1) rhs a) ⌝ }
 {
     match rhs {
-        Shape::Unit => Arm::Incompatible,
-        Shape::Ref(_, _) => Arm::Incompatible,
         Shape::Param(id2, _) => {
             if id1.0 == id2.0 {
                 Arm::Right
@@ -178,10 +179,7 @@ fn arm_param(id1: TParamID, a1: AbilitySet, rhs: Shape) -> Arm
                 Arm::Incompatible
             }
         }
-        Shape::Apply(_, _, _, _) => Arm::Incompatible,
-        Shape::Var(id) => Arm::VarRight(id),
-        Shape::Anything => Arm::Left,
-        Shape::UnresolvedError => Arm::Left,
+        _ => arm_other(rhs),
     }
 }
 
@@ -189,9 +187,6 @@ fn arm_apply(k1: Mark, n1: TypeName, first1: u32, many1: u32, rhs: Shape) -> Arm
     ensures { λ a. ⌜ ((case : d.TypingCase) → Takes case (Apply k1 n1 first1 many1) rhs a) ⌝ }
 {
     match rhs {
-        Shape::Unit => Arm::Incompatible,
-        Shape::Ref(_, _) => Arm::Incompatible,
-        Shape::Param(_, _) => Arm::Incompatible,
         Shape::Apply(k2, n2, first2, many2) => arm_applies(
             k1,
             n1,
@@ -202,9 +197,7 @@ fn arm_apply(k1: Mark, n1: TypeName, first1: u32, many1: u32, rhs: Shape) -> Arm
             first2,
             many2,
         ),
-        Shape::Var(id) => Arm::VarRight(id),
-        Shape::Anything => Arm::Left,
-        Shape::UnresolvedError => Arm::Left,
+        _ => arm_other(rhs),
     }
 }
 
@@ -212,10 +205,6 @@ fn arm_var(id1: TVar, rhs: Shape) -> Arm
     ensures { λ a. ⌜ ((case : d.TypingCase) → Takes case (Var id1) rhs a) ⌝ }
 {
     match rhs {
-        Shape::Unit => Arm::VarLeft(id1),
-        Shape::Ref(_, _) => Arm::VarLeft(id1),
-        Shape::Param(_, _) => Arm::VarLeft(id1),
-        Shape::Apply(_, _, _, _) => Arm::VarLeft(id1),
         Shape::Var(id2) => {
             if id1.0 == id2.0 {
                 Arm::Right
@@ -224,7 +213,7 @@ fn arm_var(id1: TVar, rhs: Shape) -> Arm
             }
         }
         Shape::Anything => Arm::Left,
-        Shape::UnresolvedError => Arm::VarLeft(id1),
+        _ => Arm::VarLeft(id1),
     }
 }
 
@@ -232,13 +221,9 @@ fn arm_error(rhs: Shape) -> Arm
     ensures { λ a. ⌜ ((case : d.TypingCase) → Takes case UnresolvedError rhs a) ⌝ }
 {
     match rhs {
-        Shape::Unit => Arm::Right,
-        Shape::Ref(_, _) => Arm::Right,
-        Shape::Param(_, _) => Arm::Right,
-        Shape::Apply(_, _, _, _) => Arm::Right,
-        Shape::Var(id) => Arm::VarRight(id),
+        Shape::Var(id2) => Arm::VarRight(id2),
         Shape::Anything => Arm::Left,
-        Shape::UnresolvedError => Arm::Right,
+        _ => Arm::Right,
     }
 }
 

@@ -90,19 +90,7 @@ pub fn take<'s, 'a>(r: &'s mut Reader<'a>, n: usize) -> Number
     w.number
 }
 
-// For a caller that has bytes and a position: one reader, and where it stands after a number of n bytes.
-fn read_at(s: &[u8], at: usize, n: usize) -> Word
-    ensures { λ r. ⌜ r ≡ word-at (now (s .entry)) at n ⌝ }
-{
-    let mut r = Reader { src: s, at: at };
-    let x = take(&mut r, n);
-    Word {
-        number: x,
-        next: r.at,
-    }
-}
-
-// .. after a number of n bytes and one of m: the reader goes on where the first ends.
+// For a caller that has bytes and a position: one reader, a number of n bytes and one of m; it goes on where the first ends.
 fn read_two_at(s: &[u8], at: usize, n: usize, m: usize) -> Words
     ensures { λ r. ⌜ r ≡ words-at (now (s .entry)) at n m ⌝ }
 {
@@ -116,12 +104,17 @@ fn read_two_at(s: &[u8], at: usize, n: usize, m: usize) -> Words
     }
 }
 
-// .. in the bytes before `end`.
+// One number in the bytes before `end`: the second has no bytes, and leaves the reader where it is.
 pub fn read_word(b: &[u8], end: usize, at: usize, n: usize) -> Word
     requires { ⌜ end ≤ length (now b) ⌝ }
     ensures { λ r. ⌜ r ≡ word-at (front end (now (b .entry))) at n ⌝ }
 {
-    read_at(&b[0..end], at, n)
+    let r = read_two_at(&b[0..end], at, n, 0);
+    let x = r.first;
+    Word {
+        number: x,
+        next: r.next,
+    }
 }
 
 pub fn read_words(b: &[u8], end: usize, at: usize, n: usize, m: usize) -> Words

@@ -32,7 +32,7 @@ use Rattle.reader.specs.Fields.{rest, Knows}
 use Rattle.reader.specs.Taken.{Placed, placed, place-read, part-of, Part-in, Takes, is-stop, is-over, node-in}
 use Rattle.reader.proofs.Heads.{declares-self}
 use Rattle.reader.proofs.Parts.{at-open}
-use Rattle.reader.proofs.Loop.{declares-kept}
+use Rattle.reader.proofs.Loop.{declares-kept, knowing, knows}
 use Rattle.needs.specs.Counted.{unless, needs-of, as-argument, Tells, Counts}
 use Rattle.needs.specs.declared.Sums.{Sums}
 use Rattle.needs.specs.declared.Counted.{Counted}
@@ -59,13 +59,6 @@ nodes-grow w u w′ u′ g =
     let a = nodes-count w u in
     let b = nodes-count w′ u′ in
     omega arith
-
--- a state that knows so much, whatever the declarations are
-abbrev knowing : ℕ → List Struct → State
-knowing n ds = record { nodes = []; args = []; vars = replicate n unbound; constraints = []; structs = ds }
-
-knows : (n : ℕ) (ds : List Struct) → Knows (knowing n ds) n ds
-knows n ds = record { vars = length-replicate n unbound; structs = refl }
 
 -- a node was placed: space had not ended before
 pub was-open : (w : List ℕ) (u : Used) (b : List ℕ) (end known : ℕ) (over : Bool) (m : State → Read Tree) (w′ : List ℕ) (r : Taken) (t : ℕ) → Takes w u b end known over m w′ r → r .part ≡ At t → over ≡ false

@@ -75,13 +75,11 @@ fn own(shape: Shape) -> Sums
     ensures { λ r. ⌜ r ≡ own shape ⌝ }
 {
     match shape {
-        Shape::Unit => takes(1, 0, 0, 0, false),
         Shape::Ref(_, _) => takes(2, 0, 0, 1, false),
-        Shape::Param(_, _) => takes(1, 0, 0, 0, false),
         Shape::Apply(_, _, _, _) => takes(2, 0, 0, 0, false),
         Shape::Var(_) => takes(0, 0, 0, 0, true),
         Shape::Anything => takes(2, 0, 1, 0, false),
-        Shape::UnresolvedError => takes(1, 0, 0, 0, false),
+        _ => takes(1, 0, 0, 0, false),
     }
 }
 
@@ -91,13 +89,8 @@ fn beside(arg: bool, shape: Shape) -> Sums
 {
     if arg {
         match shape {
-            Shape::Unit => takes(1, 2, 1, 2, false),
-            Shape::Ref(_, _) => takes(1, 2, 1, 2, false),
-            Shape::Param(_, _) => takes(1, 2, 1, 2, false),
-            Shape::Apply(_, _, _, _) => takes(1, 2, 1, 2, false),
-            Shape::Var(_) => takes(1, 2, 1, 2, false),
             Shape::Anything => takes(5, 2, 2, 2, false),
-            Shape::UnresolvedError => takes(1, 2, 1, 2, false),
+            _ => takes(1, 2, 1, 2, false),
         }
     } else {
         takes(0, 0, 0, 0, false)

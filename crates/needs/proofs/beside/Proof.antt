@@ -1,5 +1,7 @@
 -- `needs::beside` meets its contract. Assumes nothing.
+use mathlib.Core.Path.{_∙_}
 use borrow.Author.Needs.{needs}
+use Rattle.needs.proofs.Others.{beside-known}
 use Rattle.needs.proofs.beside.Statement.{statement}
 use Rattle.needs.proofs.beside.Tie as tie
 
@@ -9,68 +11,20 @@ enum-told c = search needs
 takes-requires : tie.Need-takes-requires
 takes-requires c κs = search needs
 
-enum-told-2 : tie.Need-enum-told-2
-enum-told-2 c = search needs
-
 takes-requires-2 : tie.Need-takes-requires-2
 takes-requires-2 c κs = search needs
 
-enum-told-3 : tie.Need-enum-told-3
-enum-told-3 c = search needs
-
 takes-requires-3 : tie.Need-takes-requires-3
 takes-requires-3 c κs = search needs
-
-enum-told-4 : tie.Need-enum-told-4
-enum-told-4 c = search needs
-
-takes-requires-4 : tie.Need-takes-requires-4
-takes-requires-4 c κs = search needs
-
-enum-told-5 : tie.Need-enum-told-5
-enum-told-5 c = search needs
-
-takes-requires-5 : tie.Need-takes-requires-5
-takes-requires-5 c κs = search needs
-
-enum-told-6 : tie.Need-enum-told-6
-enum-told-6 c = search needs
-
-takes-requires-6 : tie.Need-takes-requires-6
-takes-requires-6 c κs = search needs
-
-enum-told-7 : tie.Need-enum-told-7
-enum-told-7 c = search needs
-
-takes-requires-7 : tie.Need-takes-requires-7
-takes-requires-7 c κs = search needs
-
-takes-requires-8 : tie.Need-takes-requires-8
-takes-requires-8 c κs = search needs
 
 returns : tie.Need-returns
 returns c = rw (c .before .before .before .if1 .taken, c .before .enum-told .given .1) (c .takes .ensures)
 
 returns-2 : tie.Need-returns-2
-returns-2 c = rw (c .before .before .before .if1 .taken, c .before .enum-told2 .given .1) (c .takes2 .ensures)
+returns-2 c = rw (c .before .before .if1 .taken) (c .takes2 .ensures ∙ beside-known (c .before .before .before .args .shape) (c .before .match .keys2))
 
 returns-3 : tie.Need-returns-3
-returns-3 c = rw (c .before .before .before .if1 .taken, c .before .enum-told3 .given .1) (c .takes3 .ensures)
-
-returns-4 : tie.Need-returns-4
-returns-4 c = rw (c .before .before .before .if1 .taken, c .before .enum-told4 .given .1) (c .takes4 .ensures)
-
-returns-5 : tie.Need-returns-5
-returns-5 c = rw (c .before .before .before .if1 .taken, c .before .enum-told5 .given .1) (c .takes5 .ensures)
-
-returns-6 : tie.Need-returns-6
-returns-6 c = rw (c .before .before .before .if1 .taken, c .before .enum-told6 .given .1) (c .takes6 .ensures)
-
-returns-7 : tie.Need-returns-7
-returns-7 c = rw (c .before .before .before .if1 .taken, c .before .enum-told7 .given .1) (c .takes7 .ensures)
-
-returns-8 : tie.Need-returns-8
-returns-8 c = rw (c .before .if1 .left) (c .takes8 .ensures)
+returns-3 c = rw (c .before .if1 .left) (c .takes3 .ensures)
 
 pub beside-spec : {M : Type 1} → statement M
 beside-spec =
@@ -78,24 +32,8 @@ beside-spec =
     (tie.spec
     enum-told
     takes-requires
-    enum-told-2
     takes-requires-2
-    enum-told-3
     takes-requires-3
-    enum-told-4
-    takes-requires-4
-    enum-told-5
-    takes-requires-5
-    enum-told-6
-    takes-requires-6
-    enum-told-7
-    takes-requires-7
-    takes-requires-8
     returns
     returns-2
-    returns-3
-    returns-4
-    returns-5
-    returns-6
-    returns-7
-    returns-8)
+    returns-3)

@@ -1,5 +1,7 @@
 -- `needs::own` meets its contract. Assumes nothing.
+use mathlib.Core.Path.{_∙_}
 use borrow.Author.Needs.{needs}
+use Rattle.needs.proofs.Others.{own-plain}
 use Rattle.needs.proofs.own.Statement.{statement}
 use Rattle.needs.proofs.own.Tie as tie
 
@@ -27,23 +29,8 @@ enum-told-4 c = search needs
 takes-requires-4 : tie.Need-takes-requires-4
 takes-requires-4 c κs = search needs
 
-enum-told-5 : tie.Need-enum-told-5
-enum-told-5 c = search needs
-
 takes-requires-5 : tie.Need-takes-requires-5
 takes-requires-5 c κs = search needs
-
-enum-told-6 : tie.Need-enum-told-6
-enum-told-6 c = search needs
-
-takes-requires-6 : tie.Need-takes-requires-6
-takes-requires-6 c κs = search needs
-
-enum-told-7 : tie.Need-enum-told-7
-enum-told-7 c = search needs
-
-takes-requires-7 : tie.Need-takes-requires-7
-takes-requires-7 c κs = search needs
 
 returns : tie.Need-returns
 returns c = rw (c .before .enum-told .given .1) (c .takes .ensures)
@@ -58,13 +45,7 @@ returns-4 : tie.Need-returns-4
 returns-4 c = rw (c .before .enum-told4 .given .1) (c .takes4 .ensures)
 
 returns-5 : tie.Need-returns-5
-returns-5 c = rw (c .before .enum-told5 .given .1) (c .takes5 .ensures)
-
-returns-6 : tie.Need-returns-6
-returns-6 c = rw (c .before .enum-told6 .given .1) (c .takes6 .ensures)
-
-returns-7 : tie.Need-returns-7
-returns-7 c = rw (c .before .enum-told7 .given .1) (c .takes7 .ensures)
+returns-5 c = c .takes5 .ensures ∙ own-plain (c .before .before .args .shape) (c .before .match .keys5)
 
 pub own-spec : {M : Type 1} → statement M
 own-spec =
@@ -78,16 +59,9 @@ own-spec =
     takes-requires-3
     enum-told-4
     takes-requires-4
-    enum-told-5
     takes-requires-5
-    enum-told-6
-    takes-requires-6
-    enum-told-7
-    takes-requires-7
     returns
     returns-2
     returns-3
     returns-4
-    returns-5
-    returns-6
-    returns-7)
+    returns-5)
