@@ -27,38 +27,38 @@ pub enum RecordMark {
     Other,
 }
 
-fn same(x: u32, y: u32, a: u32, c: u32) -> bool
+fn same(x: u32, y: u32, a: u8, c: u8) -> bool
     ensures { λ r. ⌜ r ≡ (eqb x a && eqb y c) ⌝ }
 {
-    if x == a { y == c } else { false }
+    if x == a as u32 { y == c as u32 } else { false }
 }
 
 // The last eight of the marks.
 fn late_mark(x: u32, y: u32) -> RecordMark
     ensures { λ r. ⌜ ((s : d.State) → reader-of r s ≡ fields-of (drop 7 (by-mark s)) x y) ⌝ }
 {
-    if same(x, y, 82, 68) {
+    if same(x, y, b'R', b'D') {
         return RecordMark::RD;
     }
-    if same(x, y, 84, 83) {
+    if same(x, y, b'T', b'S') {
         return RecordMark::TS;
     }
-    if same(x, y, 73, 78) {
+    if same(x, y, b'I', b'N') {
         return RecordMark::IN;
     }
-    if same(x, y, 78, 67) {
+    if same(x, y, b'N', b'C') {
         return RecordMark::NC;
     }
-    if same(x, y, 66, 67) {
+    if same(x, y, b'B', b'C') {
         return RecordMark::BC;
     }
-    if same(x, y, 83, 67) {
+    if same(x, y, b'S', b'C') {
         return RecordMark::SC;
     }
-    if same(x, y, 83, 86) {
+    if same(x, y, b'S', b'V') {
         return RecordMark::SV;
     }
-    if same(x, y, 82, 77) {
+    if same(x, y, b'R', b'M') {
         return RecordMark::RM;
     }
     RecordMark::Other
@@ -68,25 +68,25 @@ fn late_mark(x: u32, y: u32) -> RecordMark
 pub fn mark_of(x: u32, y: u32) -> RecordMark
     ensures { λ r. ⌜ ((s : d.State) → reader-of r s ≡ fields-of (by-mark s) x y) ⌝ }
 {
-    if same(x, y, 83, 68) {
+    if same(x, y, b'S', b'D') {
         return RecordMark::SD;
     }
-    if same(x, y, 70, 86) {
+    if same(x, y, b'F', b'V') {
         return RecordMark::FV;
     }
-    if same(x, y, 78, 86) {
+    if same(x, y, b'N', b'V') {
         return RecordMark::NV;
     }
-    if same(x, y, 83, 78) {
+    if same(x, y, b'S', b'N') {
         return RecordMark::SN;
     }
-    if same(x, y, 74, 78) {
+    if same(x, y, b'J', b'N') {
         return RecordMark::JN;
     }
-    if same(x, y, 83, 85) {
+    if same(x, y, b'S', b'U') {
         return RecordMark::SU;
     }
-    if same(x, y, 85, 70) {
+    if same(x, y, b'U', b'F') {
         return RecordMark::UF;
     }
     late_mark(x, y)
