@@ -23,8 +23,9 @@ use Rattle.lent.proofs.Tested.{lent-passes}
 use Rattle.lent.proofs.Decoded.{decoded, encode-lent}
 use Rattle.engine.specs.Public.{Lent-piece, in-front, lent-piece, lent-lines}
 use Rattle.engine.proofs.Fresh.{from-fresh}
-use Rattle.joinlog.specs.declared.Turn.{Turn}
-use Rattle.joinlog.specs.Turns.{Held, held, stream, Filled, job-lines, lines-of, Listed, Turned, reads, lists, bytes-read, text-handed, Turns, none, and-turn, first}
+use Rattle.turns.specs.declared.Turn.{Turn}
+use Rattle.turns.specs.Filling.{first, Filled}
+use Rattle.joinlog.specs.Turns.{Held, held, stream, job-lines, lines-of, Listed, Turned, reads, lists, bytes-read, text-handed, Turns, none, and-turn}
 use Rattle.joinlog.proofs.Moves.{clash}
 
 -- ---- lists and tests
