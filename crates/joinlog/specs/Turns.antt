@@ -1,14 +1,14 @@
 -- A turn of the program reads on, or lists the records at hand; a run is turn after turn, and what it hands to the writer is the log of what it read. Assumes nothing: these are definitions.
 use mathlib.Core.Path.{_≡_}
-use mathlib.Core.Bool.{Bool, true, false, _||_, _&&_}
+use mathlib.Core.Bool.{Bool, true, false, _||_}
 use mathlib.Core.List.{List, [], _++_}
-use Prim.Native.Nat.{ℕ, suc, _+_, _-_, _≤_, _<_}
+use Prim.Native.Nat.{ℕ, suc, _-_}
 use lib.ListN.{length, take, drop}
 use Rattle.definition.specs.Write.{Is-bytes}
 use Rattle.definition.specs.Job.{joinlog}
 use Rattle.engine.specs.Public.{Lent-piece, in-front, lent-lines, fresh-lines}
 use Rattle.turns.specs.declared.Turn.{Turn}
-use Rattle.turns.specs.Filling.{first, at-hand, Within, short, Filled}
+use Rattle.turns.specs.Filling.{at-hand, Within, short, Filled}
 
 -- all that the program holds between two turns: words, parameter rows, bytes read, log, and where it stands
 pub record Held : Type 0 where
