@@ -21,12 +21,15 @@ use names::Mark;
 use names::TVar;
 use names::TypeName;
 use subst::Unfolded;
+use table::CONSTRAINT_WORDS;
+use table::CONSTRAINTS_AT;
 use table::Constraint;
 use table::Found;
 use table::Out;
 use table::Shape;
 use table::Step;
 use table::Used;
+use table::VAR_WORDS;
 
 // The operators that a type is asked for.
 pub enum NumericKind {
@@ -155,7 +158,7 @@ fn saved_mark(saved: &[u32], v: u32) -> Found
     requires { ⌜ (v < 1024) × (5120 ≤ length (now saved)) ⌝ }
     ensures { λ r. ⌜ found r ≡ read-option (getD (now (saved .entry)) (v * 5 + 2) 0) (getD (now (saved .entry)) (v * 5 + 3) 0) ⌝ }
 {
-    let at = v as usize * 5;
+    let at = v as usize * VAR_WORDS;
     if saved[at + 2] == 1 {
         Found::Just(saved[at + 3])
     } else {
@@ -196,7 +199,7 @@ fn store_row(w: &mut [u32], i: u32, row: [u32; 4])
     requires { ⌜ (i < 512) × (length (now w) ≡ 24069) ⌝ }
     ensures { λ _. ⌜ Wrote (now (w .entry)) (21509 + i * 4) 4 row (now (w .exit)) ⌝ }
 {
-    let at = 21509 + i as usize * 4;
+    let at = CONSTRAINTS_AT + i as usize * CONSTRAINT_WORDS;
     let mut k: usize = 0;
     while k < 4 {
         w[at + k] = row[k];

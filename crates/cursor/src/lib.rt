@@ -5,6 +5,9 @@ ghost use Prim.Native.Nat.{_+_, _-_, _<_, _≤_};
 ghost use lib.ListN.{length, take as front};
 ghost use Rattle.cursor.specs.Words.{word-at, words-at};
 
+// The most bytes that a record has.
+pub const MAX_RECORD: usize = 4096;
+
 // A number, or too few bytes.
 pub enum Number {
     Got(u32),
@@ -129,8 +132,8 @@ pub fn end_of(long: usize, start: usize) -> usize
     requires { ⌜ start ≤ long ⌝ }
     ensures { λ r. ⌜ (r ≤ long) × ((start ≤ r) × ((r ≡ start + 4096) ⊎ ((r ≡ long) × (long ≤ start + 4096)))) ⌝ }
 {
-    if long - start < 4096 {
+    if long - start < MAX_RECORD {
         return long;
     }
-    start + 4096
+    start + MAX_RECORD
 }

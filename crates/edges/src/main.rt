@@ -4,6 +4,8 @@
 ghost use Prim.Native.Nat.{_+_, _≤_, _<_};
 ghost use mathlib.Core.Path.{_≡_};
 ghost use lib.ListN.{length};
+use limits::MAX_BUFFER;
+use table::WORDS;
 
 fn wide(x: u8) -> usize
     ensures { λ r. ⌜ r < 256 ⌝ }
@@ -57,7 +59,7 @@ fn last_lines(log: &[u8], n: usize) -> usize
 fn log_of(stream: &[u8], log: &mut [u8]) -> usize
     ensures { λ r. ⌜ r ≤ length (now (log .entry)) ⌝ }
 {
-    let mut state = [0u32; 24069];
+    let mut state = [0u32; WORDS];
     let rows = [[0u8; 8]; 256];
     let mut number: u32 = 0;
     let mut written: usize = 0;
@@ -216,9 +218,9 @@ fn run_job(job: &[u8], log: &mut [u8]) {
     let n = log_of(&job[at..], log);
     let from = last_lines(log, n);
     io::write_all(1, &log[from..n]);
-    let mut state = [0u32; 24069];
+    let mut state = [0u32; WORDS];
     let mut params = [[0u8; 8]; 256];
-    let mut answer = [0u8; 4096];
+    let mut answer = [0u8; MAX_BUFFER];
     if !agrees(&job[at..], &mut state, &mut params, &mut answer, log, n) {
         io::write_all(1, b"its records one by one give other lines\n");
     }

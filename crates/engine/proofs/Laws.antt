@@ -1,24 +1,22 @@
 -- From a state that was tested once to what the public calls give. Assumes nothing.
 -- The words that were tested are a sound state's, so a call on trusted words says what the public one gives; where the test fails, it is 15 and nothing changes.
 use mathlib.Core.Path.{_≡_, refl, sym, ap, ap₂, _∙_}
-use mathlib.Core.Bool.{Bool, true, false, not, _||_, _&&_}
+use mathlib.Core.Bool.{Bool, true, false, _&&_}
 use mathlib.Core.List.{List, [], _∷_, _++_}
 use Prim.Native.Nat.{ℕ, suc, _-_, _≤_, _<_}
 use native.Mathlib.Omega.{arith}
-use borrow.Author.Tests.{lt-leb, le-leb}
 use mir.Syntax.{w8}
 use mir.Val.{Fits}
-use lib.Dec.{leb, ltb, leb→le}
+use lib.Dec.{leb, leb→le}
 use lib.ListN.{length, getD, take, drop, length-take, length-drop}
 use lib.Seq.{take-all}
 use Rattle.definition.specs.Types.{State, Struct, unsound-state}
 use Rattle.definition.specs.Write.{Bytes, Is-bytes}
-use Rattle.definition.specs.Record.{read-record, max-record}
+use Rattle.definition.specs.Record.{read-record}
 use Rattle.definition.specs.Sound.{sound}
 use Rattle.definition.specs.Step as step
 use Rattle.definition.specs.Step.{lent, step, step-stream, usable, max-buffer}
-use Rattle.definition.specs.Job.{ends-job}
-use Rattle.pieces.specs.Pieces.{max-line, max-place, takes-on, next-lines}
+use Rattle.pieces.specs.Pieces.{next-lines}
 use Rattle.theorems.proofs.Facts.{and-l, and-r, test}
 use Rattle.theorems.proofs.SoundKept.{trusted}
 use Rattle.theorems.proofs.Soundness.{and, le-test}
@@ -89,10 +87,6 @@ module _ (w : List ℕ) (p : List (List ℕ)) (h : lent-sound w p ≡ true) (u :
 
 -- ---- 15
 
-pub fails-r : (a b : Bool) → b ≡ false → a && b ≡ false
-fails-r true b e = e
-fails-r false b e = refl
-
 pub and-true : (a b : Bool) → b ≡ true → a && b ≡ a
 and-true true b e = e
 and-true false b e = refl
@@ -120,24 +114,6 @@ unusable-gives w p bytes buf e =
 
 pub usable-both : (w : List ℕ) (p : List (List ℕ)) (buffer : ℕ) → lent-sound w p && leb 4096 buffer ≡ true → (lent-sound w p ≡ true) × (4096 ≤ buffer)
 usable-both w p buffer e = (and-l (lent-sound w p) (leb 4096 buffer) e, leb→le 4096 buffer (test (and-r (lent-sound w p) (leb 4096 buffer) e)))
-
--- ---- the tests of a job
-
-module _ (i : ℕ) (b : Bytes) (room : ℕ) (more : Bool) where
-  abbrev hand : Bool
-  hand = not more || leb 4096 (length b)
-
-  pub takes-none : hand ≡ false → false ≡ takes-on i b room more
-  unfolding takes-on max-record
-  takes-none e = sym (ap (λ (x : Bool). x && (leb max-line room && ltb i max-place)) e)
-
-  pub takes-little : room < 8217 → false ≡ takes-on i b room more
-  unfolding takes-on max-line
-  takes-little l = sym (fails-r (not more || leb max-record (length b)) _ (ap (λ (x : Bool). x && ltb i max-place) (lt-leb 8217 room l)))
-
-  pub takes-last : hand ≡ true → 8217 ≤ room → ltb i 18446744073709551615 ≡ takes-on i b room more
-  unfolding takes-on max-record max-line max-place
-  takes-last e l = sym (ap (λ (x : Bool). x && (leb 8217 room && ltb i 18446744073709551615)) e ∙ ap (λ (x : Bool). x && ltb i 18446744073709551615) (le-leb 8217 room l))
 
 -- ---- a job's lines
 

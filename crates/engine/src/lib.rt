@@ -1,23 +1,25 @@
 // The public calls: one lent record, the splitter of a stream, a job's first lines and its next ones. Each says outright what it gives, whatever it is lent.
 ghost use mathlib.Core.Path.{_≡_};
-ghost use mathlib.Core.Bool.{Bool, true, false, not, _||_, _&&_};
-ghost use mathlib.Core.List.{List, [], _++_};
-ghost use Prim.Native.Nat.{ℕ, _+_, _-_, _≤_, _<_};
+ghost use mathlib.Core.Bool.{true, _&&_};
+ghost use Prim.Native.Nat.{_≤_};
 ghost use lib.Dec.{leb};
-ghost use lib.ListN.{length as size, take, drop, replicate};
-ghost use Rattle.definition.specs.Write.{Is-bytes};
-ghost use Rattle.definition.specs.Job.{ends-job};
-ghost use Rattle.pieces.specs.Pieces.{takes-on};
+ghost use lib.ListN.{length as size, drop, replicate};
 ghost use Rattle.lent.specs.Lent.{lent-sound};
 ghost use Rattle.engine.specs.Public.{lent-step, Gives-answer, rest-of, lent-lines, fresh-lines, Gives-lines};
 ghost use Rattle.engine.specs.Lists.{Lists};
 ghost use Rattle.step.specs.Trusted.{Stands};
 use lent::sound_state;
 use lent::used_of;
+use limits::MAX_BUFFER;
+use limits::ends_job;
+use limits::fits;
+use limits::takes_on;
 use log::write_line;
+use snap::SAVED;
 use step::rest_trusted;
 use step::step_trusted;
 use table::Used;
+use table::WORDS;
 
 // How much of a stream was read and how much of a log written; the rows in use, the next record's number, and whether the job ended.
 pub struct Lines {
@@ -32,7 +34,7 @@ pub struct Lines {
 fn usable(state: &[u32], params: [[u8; 8]; 256], buffer: usize) -> bool
     ensures { λ r. ⌜ r ≡ lent-sound (now (state .entry)) params && leb 4096 buffer ⌝ }
 {
-    if buffer < 4096 {
+    if !fits(buffer) {
         return false;
     }
     sound_state(state, params)
@@ -52,7 +54,7 @@ fn record_trusted(
 {
     let u = used_of(state);
     let mut rows = params;
-    let mut saved = [0u32; 5120];
+    let mut saved = [0u32; SAVED];
     let r = step_trusted(state, u, &mut rows, record, 0, true, 0, &mut saved, answer);
     let v = r.used;
     table::write_used(state, v);
@@ -62,7 +64,7 @@ fn record_trusted(
 }
 
 // One record, lent whole: bytes left over are 5. Number and length come beside the parameter bytes.
-// Refused (must-fail/): 15 for a buffer of just 4,096 bytes (fifteen_at_4096), a length on 15 (length_on_15), bytes left over let through (left_over_passed).
+// Refused (must-fail/, here and in limits): a length on 15 (length_on_15), bytes left over let through (left_over_passed).
 pub fn lent_record(
     state: &mut [u32],
     params: [[u8; 8]; 256],
@@ -82,42 +84,6 @@ pub fn lent_record(
 }
 
 // ---- a job
-
-// Whether a whole record is surely at hand: 4,096 bytes, or all that there are.
-fn at_hand(left: usize, more: bool) -> bool
-    ensures { λ r. ⌜ r ≡ (not more || leb 4096 left) ⌝ }
-{
-    if more {
-        return 4096 <= left;
-    }
-    true
-}
-
-// Whether record `place` is taken on, with so many bytes at hand and so much room in the log.
-fn takes_on(place: u64, left: usize, room: usize, more: bool) -> bool
-    ensures { λ r. ⌜ ((bytes : List ℕ) → size bytes ≡ left → r ≡ takes-on place bytes room more) ⌝ }
-{
-    if !at_hand(left, more) {
-        return false;
-    }
-    if room < 8217 {
-        return false;
-    }
-    place < 18446744073709551615
-}
-
-// 5, 6 and 18 end a job.
-fn ends_job(number: u32) -> bool
-    ensures { λ r. ⌜ r ≡ ends-job number ⌝ }
-{
-    if number == 5 {
-        return true;
-    }
-    if number == 6 {
-        return true;
-    }
-    number == 18
-}
 
 fn lines_at(used: Used, read: usize, written: usize, place: u64, ended: bool) -> Lines
     ensures { λ r. ⌜ r ≡ record { used = used; read = read; written = written; place = place; ended = ended } ⌝ }
@@ -144,8 +110,8 @@ fn lines_trusted(
     requires { ⌜ Stands (now w) u (now params) ⌝ }
     ensures { λ r. ⌜ Lists (now (w .entry)) u (now (params .entry)) place (now (stream .entry)) more (now (log .entry)) (now (w .exit)) (now (params .exit)) (now (log .exit)) r ⌝ }
 {
-    let mut saved = [0u32; 5120];
-    let mut buf = [0u8; 4096];
+    let mut saved = [0u32; SAVED];
+    let mut buf = [0u8; MAX_BUFFER];
     let mut used = u;
     let mut rows: u32 = 0;
     let mut at: usize = 0;
@@ -210,8 +176,7 @@ fn job_trusted(
 
 // A job's next lines: those of as many records as the bytes at hand hold whole and the log surely has room for. `more`: further bytes follow.
 // The state is tested once. `place` is the next record's number; `read` and `written` say how much of the stream and of the log was used.
-// Refused: the first record right and 0 after (echoes_0), 0 for every record (zero_for_all), a job that goes on after 6 (six_goes_on), after 18
-// (eighteen_goes_on) or from an unsound state (unsound_goes_on), a record begun that may not be whole (cut_one_early).
+// Refused: the first record right and 0 after (echoes_0), 0 for every record (zero_for_all), a job that goes on from an unsound state (unsound_goes_on).
 pub fn job(
     state: &mut [u32],
     params: [[u8; 8]; 256],
@@ -275,7 +240,7 @@ pub fn fresh_job(
     ensures { λ r. ⌜ Gives-lines (fresh-lines (now (state .entry)) params (now (stream .entry)) (size (now (log .entry))) more) (now (stream .entry)) (now (log .entry)) (now (number .exit)) (now (state .exit)) r (now (log .exit)) (now (written .exit)) (now (read .exit)) (now (place .exit)) (now (ended .exit)) ⌝ }
 {
     *place = 0;
-    if state.len() == 24069 {
+    if state.len() == WORDS {
         let rows = [[0u8; 8]; 256];
         clear(state);
         return job_trusted(
@@ -315,7 +280,7 @@ pub fn rest_size(state: &mut [u32], params: [[u8; 8]; 256], stream: &[u8]) -> us
         return 0;
     }
     let u = used_of(state);
-    let mut saved = [0u32; 5120];
+    let mut saved = [0u32; SAVED];
     rest_trusted(state, u, &params, stream, &mut saved)
 }
 

@@ -1,13 +1,14 @@
 -- A run's turns so far, and how they end. Assumes nothing.
-use mathlib.Core.Path.{_≡_, refl, sym, _∙_}
-use mathlib.Core.Bool.{true, false}
+use mathlib.Core.Path.{_≡_, refl}
+use mathlib.Core.Bool.{false}
 use mathlib.Core.List.{List, [], _∷_}
-use Prim.Native.Nat.{ℕ, zero, suc, _+_, _-_, _≤_, _<_}
+use Prim.Native.Nat.{ℕ, zero, suc, _+_, _-_, _<_}
 use native.Mathlib.Omega.{arith}
 use lib.ListN.{length, take, drop}
 use Rattle.definition.specs.Write.{Is-bytes}
 use Rattle.theorems.proofs.WellRead.{bytes-append}
-use Rattle.joinlog.specs.Turns.{Within, Held, held, Turned, reads, lists, bytes-read, first, Turns, none, and-turn, Ran}
+use Rattle.turns.specs.Filling.{first, Within}
+use Rattle.joinlog.specs.Turns.{Held, held, Turned, reads, lists, bytes-read, Turns, none, and-turn, Ran}
 use Rattle.joinlog.proofs.Logs.{turns-log, turns-front}
 
 bytes-take : (n : ℕ) (l : List ℕ) → Is-bytes l → Is-bytes (take n l)

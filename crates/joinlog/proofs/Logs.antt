@@ -1,11 +1,10 @@
 -- What a run hands to the writer is the log of what it read; where it stopped before the end, it is the log's front. Assumes nothing.
 -- `Stands` is kept turn after turn: the log of all that was read is the text handed over, and then the log from the state that is held. It is carried over filling the buffer and over listing lines.
 use mathlib.Core.Path.{_≡_, refl, sym, ap, ap₂, _∙_}
-use mathlib.Core.Bool.{Bool, true, false, _||_, _&&_}
+use mathlib.Core.Bool.{Bool, true, false, _||_}
 use mathlib.Core.List.{List, [], _∷_, _++_, append-nil, append-assoc}
 use Prim.Native.Nat.{ℕ, _+_, _-_}
 use native.Mathlib.Omega.{arith}
-use lib.Dec.{ltb}
 use lib.ListN.{length, take, drop}
 use lib.Seq.{take-at, take-add}
 use Rattle.definition.specs.Types.{State, fresh}
@@ -23,8 +22,9 @@ use Rattle.lent.proofs.Tested.{lent-passes}
 use Rattle.lent.proofs.Decoded.{decoded, encode-lent}
 use Rattle.engine.specs.Public.{Lent-piece, in-front, lent-piece, lent-lines}
 use Rattle.engine.proofs.Fresh.{from-fresh}
-use Rattle.joinlog.specs.declared.Turn.{Turn}
-use Rattle.joinlog.specs.Turns.{Held, held, stream, Filled, job-lines, lines-of, Listed, Turned, reads, lists, bytes-read, text-handed, Turns, none, and-turn, first}
+use Rattle.turns.specs.declared.Turn.{Turn}
+use Rattle.turns.specs.Filling.{first, Filled}
+use Rattle.joinlog.specs.Turns.{Held, held, stream, job-lines, lines-of, Listed, reads, lists, bytes-read, text-handed, Turns, none, and-turn}
 use Rattle.joinlog.proofs.Moves.{clash}
 
 -- ---- lists and tests

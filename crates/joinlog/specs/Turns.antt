@@ -1,34 +1,14 @@
 -- A turn of the program reads on, or lists the records at hand; a run is turn after turn, and what it hands to the writer is the log of what it read. Assumes nothing: these are definitions.
 use mathlib.Core.Path.{_≡_}
-use mathlib.Core.Bool.{Bool, true, false, _||_, _&&_}
+use mathlib.Core.Bool.{Bool, true, false, _||_}
 use mathlib.Core.List.{List, [], _++_}
-use Prim.Native.Nat.{ℕ, suc, _+_, _-_, _≤_, _<_}
-use lib.Dec.{ltb}
-use lib.IntN.{ℤ, pos}
+use Prim.Native.Nat.{ℕ, suc, _-_}
 use lib.ListN.{length, take, drop}
-use lib.Signed.{ltZ}
 use Rattle.definition.specs.Write.{Is-bytes}
 use Rattle.definition.specs.Job.{joinlog}
 use Rattle.engine.specs.Public.{Lent-piece, in-front, lent-lines, fresh-lines}
-use Rattle.joinlog.specs.declared.Turn.{Turn}
-use Rattle.joinlog.specs.declared.Moved.{Moved}
-
--- what a read that failed answers
-abbrev pub negative : ℤ → Bool
-negative got = ltZ got (pos 0)
-
--- the bytes from place `from` up to place `have`
-abbrev pub at-hand : ℕ → ℕ → List ℕ → List ℕ
-at-hand from have buf = take (have - from) (drop from buf)
-
--- the bytes at hand lie within the buffer
-pub record Within (t : Turn) (buf : List ℕ) : Type 0 where
-  pub ordered : t .from ≤ t .have
-  pub inside : t .have ≤ length buf
-
--- more bytes may follow, and those at hand are fewer than a record may have
-abbrev pub short : Turn → Bool
-short t = t .more && ltb (t .have - t .from) 4096
+use Rattle.turns.specs.declared.Turn.{Turn}
+use Rattle.turns.specs.Filling.{at-hand, Within, short, Filled}
 
 -- all that the program holds between two turns: words, parameter rows, bytes read, log, and where it stands
 pub record Held : Type 0 where
@@ -45,25 +25,6 @@ abbrev pub stream : Held → List ℕ
 stream h = at-hand (h .turn .from) (h .turn .have) (h .buf)
 
 -- ---- a turn
-
--- one read: the first `have` bytes are as they were, and those that it brought stand behind them; one that fails brings none
-pub record Behind (buf : List ℕ) (have : ℕ) (buf′ : List ℕ) (m : Moved) : Type 0 where
-  pub inside : have + m .count ≤ length buf
-  pub kept : take have buf′ ≡ take have buf
-  pub none : m .failed ≡ true → m .count ≡ 0
-
--- the bytes at hand now stand in front, those read behind them. More may follow, unless the read brought none; where it failed, the job ends, and what is at hand is not the stream's end
-pub record Filled (buf : List ℕ) (t : Turn) (buf′ : List ℕ) (t′ : Turn) : Type 0 where
-  pub front : t′ .from ≡ 0
-  pub kept : take (t .have - t .from) buf′ ≡ at-hand (t .from) (t .have) buf
-  pub end : t′ .have ≡ (t .have - t .from) + t′ .read
-  pub inside : t′ .have ≤ length buf
-  pub follow : t′ .more ≡ (ltb 0 (t′ .read) || t′ .lost)
-  pub none : t′ .lost ≡ true → t′ .read ≡ 0
-  pub same-place : t′ .place ≡ t .place
-  pub same-begun : t′ .begun ≡ t .begun
-  pub silent : t′ .written ≡ 0
-  pub ends : t′ .ended ≡ t′ .lost
 
 -- a job's first lines are those from a fresh state, whatever the words hold; then it goes on
 abbrev pub job-lines : Bool → List ℕ → List (List ℕ) → ℕ → List ℕ → ℕ → Bool → Lent-piece
@@ -108,10 +69,6 @@ pub data Turns (h₀ : Held) : ℕ → List ℕ → List ℕ → Held → Type 0
   none : Turns h₀ 0 [] [] h₀
   and-turn : {n : ℕ} {input output : List ℕ} {h h′ : Held} → Turns h₀ n input output h → h .turn .ended ≡ false → Turned h h′
       → Turns h₀ (suc n) (input ++ bytes-read h′) (output ++ text-handed h′) h′
-
--- before the first turn: nothing read, record number 0, no line asked for
-abbrev pub first : Turn
-first = record { from = 0; have = 0; more = true; place = 0; begun = false; read = 0; written = 0; ended = false; lost = false }
 
 -- turns until one ended the job, or 2 to the 64, less one, of them. Whatever bytes b may follow those read: the text handed over is a front of the log of all of them, and where the job ended and no read or write failed, it is that log
 pub record Ran (h₀ h : Held) : Type 0 where

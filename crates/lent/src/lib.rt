@@ -8,7 +8,12 @@ ghost use Rattle.lent.specs.Chains.{var-at, next-at, next, Links, Noted,
 use names::TVar;
 use rows::counts_fine;
 use rows::tables_fine;
+use table::NODE_WORDS;
+use table::NODES_AT;
 use table::Used;
+use table::VAR_WORDS;
+use table::VARS_AT;
+use table::WORDS;
 
 // The variable that a binding leads to, if it leads to one.
 enum Next {
@@ -41,7 +46,7 @@ fn var_at(w: &[u32], u: Used, x: u32) -> Next
     if n <= x {
         return Next::Last;
     }
-    let at = 5 + (x as usize) * 6;
+    let at = NODES_AT + (x as usize) * NODE_WORDS;
     if w[at] != 6 {
         return Next::Last;
     }
@@ -57,7 +62,7 @@ fn next_at(w: &[u32], u: Used, v: TVar) -> Next
     if n <= (v.0 as u32) {
         return Next::Last;
     }
-    let at = 16389 + (v.0 as usize) * 5;
+    let at = VARS_AT + (v.0 as usize) * VAR_WORDS;
     if w[at] != 1 {
         return Next::Last;
     }
@@ -170,7 +175,7 @@ fn chains_fine(w: &[u32], u: Used) -> bool
 pub fn sound_state(w: &[u32], params: [[u8; 8]; 256]) -> bool
     ensures { λ r. ⌜ r ≡ lent-sound (now (w .entry)) params ⌝ }
 {
-    if w.len() != 24069 {
+    if w.len() != WORDS {
         return false;
     }
     let u = used_of(w);

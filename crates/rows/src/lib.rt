@@ -17,7 +17,17 @@ use names::MAX_VARS;
 use names::TVar;
 use names::has_drop;
 use names::is_numeric;
+use table::ARGS_AT;
+use table::CONSTRAINT_WORDS;
+use table::CONSTRAINTS_AT;
+use table::NODE_WORDS;
+use table::NODES_AT;
+use table::STRUCT_WORDS;
+use table::STRUCTS_AT;
 use table::Used;
+use table::VAR_WORDS;
+use table::VARS_AT;
+use table::WORDS;
 
 // The tables whose rows are tested one by one.
 enum Table {
@@ -65,19 +75,23 @@ fn tails_fine(w: &[u32], u: Used) -> bool
     requires { ⌜ Sized (now w) u ⌝ }
     ensures { λ r. ⌜ r ≡ tails-fine (now (w .entry)) u ⌝ }
 {
-    if !zeros(w, 5 + (u.nodes as usize) * 6, 12293) {
+    if !zeros(w, NODES_AT + (u.nodes as usize) * NODE_WORDS, ARGS_AT) {
         return false;
     }
-    if !zeros(w, 12293 + (u.args as usize), 16389) {
+    if !zeros(w, ARGS_AT + (u.args as usize), VARS_AT) {
         return false;
     }
-    if !zeros(w, 16389 + (u.vars as usize) * 5, 21509) {
+    if !zeros(w, VARS_AT + (u.vars as usize) * VAR_WORDS, CONSTRAINTS_AT) {
         return false;
     }
-    if !zeros(w, 21509 + (u.constraints as usize) * 4, 23557) {
+    if !zeros(
+        w,
+        CONSTRAINTS_AT + (u.constraints as usize) * CONSTRAINT_WORDS,
+        STRUCTS_AT,
+    ) {
         return false;
     }
-    zeros(w, 23557 + (u.structs as usize) * 2, 24069)
+    zeros(w, STRUCTS_AT + (u.structs as usize) * STRUCT_WORDS, WORDS)
 }
 
 // ---- structs
@@ -86,7 +100,7 @@ fn struct_fine(w: &[u32], i: u32) -> bool
     requires { ⌜ (length (now w) ≡ 24069) × (i < 256) ⌝ }
     ensures { λ r. ⌜ r ≡ struct-fine (now (w .entry)) i ⌝ }
 {
-    let at = 23557 + (i as usize) * 2;
+    let at = STRUCTS_AT + (i as usize) * STRUCT_WORDS;
     if 15 < w[at] {
         return false;
     }
@@ -100,7 +114,7 @@ fn params_at(w: &[u32], u: Used, i: u32) -> u32
 {
     let n = u.structs;
     if i < n {
-        let at = 23557 + (i as usize) * 2;
+        let at = STRUCTS_AT + (i as usize) * STRUCT_WORDS;
         w[at + 1]
     } else {
         0
@@ -273,7 +287,7 @@ fn args_fine(w: &[u32], tag: u32, b: u32) -> u32
     if tag == 4 {
         return b;
     }
-    let at = 23557 + (b as usize) * 2;
+    let at = STRUCTS_AT + (b as usize) * STRUCT_WORDS;
     w[at + 1]
 }
 
@@ -283,7 +297,7 @@ fn parts_fine(w: &[u32], t: u32, c: usize, d: usize) -> bool
 {
     let mut i: usize = 0;
     while i < d {
-        let at = 12293 + (c + i);
+        let at = ARGS_AT + (c + i);
         if t <= w[at] {
             return false;
         }
@@ -347,7 +361,7 @@ fn node_fine(w: &[u32], u: Used, t: u32) -> bool
     requires { ⌜ Sized (now w) u × (t < 2048) ⌝ }
     ensures { λ r. ⌜ r ≡ node-fine (now (w .entry)) u t ⌝ }
 {
-    let at = 5 + (t as usize) * 6;
+    let at = NODES_AT + (t as usize) * NODE_WORDS;
     shape_fine(w, u, t, w[at], w[at + 2], w[at + 3], w[at + 4], w[at + 5])
 }
 
@@ -367,7 +381,7 @@ fn binding_fine(w: &[u32], u: Used, is: u32, x: u32) -> bool
     if n <= x {
         return false;
     }
-    let at = 5 + (x as usize) * 6;
+    let at = NODES_AT + (x as usize) * NODE_WORDS;
     w[at] != 7
 }
 
@@ -384,7 +398,7 @@ fn cell_fine(w: &[u32], u: Used, v: TVar) -> bool
     requires { ⌜ Sized (now w) u × (v .0 < 1024) ⌝ }
     ensures { λ r. ⌜ r ≡ cell-fine (now (w .entry)) u (v .0) ⌝ }
 {
-    let at = 16389 + (v.0 as usize) * 5;
+    let at = VARS_AT + (v.0 as usize) * VAR_WORDS;
     if !binding_fine(w, u, w[at], w[at + 1]) {
         return false;
     }
@@ -401,7 +415,7 @@ fn constraint_fine(w: &[u32], u: Used, i: u32) -> bool
     ensures { λ r. ⌜ r ≡ constraint-fine (now (w .entry)) u i ⌝ }
 {
     let n = u.nodes;
-    let at = 21509 + (i as usize) * 4;
+    let at = CONSTRAINTS_AT + (i as usize) * CONSTRAINT_WORDS;
     if n <= w[at + 2] {
         return false;
     }

@@ -5,7 +5,19 @@ ghost use Prim.Native.Nat.{_+_, _*_, _≤_};
 ghost use lib.ListN.{length};
 ghost use Rattle.table.specs.State.{Lay, Wrote};
 ghost use Rattle.snap.specs.Snap.{Above, Saved-partly, Saved, PutBack, Sized, GivenBack, Undone};
+use table::ARGS_AT;
+use table::CONSTRAINT_WORDS;
+use table::CONSTRAINTS_AT;
+use table::NODE_WORDS;
+use table::NODES_AT;
+use table::STRUCT_WORDS;
+use table::STRUCTS_AT;
 use table::Used;
+use table::VAR_WORDS;
+use table::VARS_AT;
+
+// How many words the variable rows have, all of them.
+pub const SAVED: usize = 5120;
 
 // The number as an index.
 fn wide(x: u32) -> usize
@@ -43,10 +55,10 @@ pub fn save_vars(w: &[u32], u: Used, rows: u32, saved: &mut [u32])
     requires { ⌜ Lay (now w) u × ((5120 ≤ length (now saved)) × Saved-partly (now w) u rows (now saved)) ⌝ }
     ensures { λ _. ⌜ Saved (now (w .entry)) u (now (saved .exit)) ⌝ }
 {
-    let n = wide(u.vars) * 5;
-    let mut k = wide(rows) * 5;
+    let n = wide(u.vars) * VAR_WORDS;
+    let mut k = wide(rows) * VAR_WORDS;
     while k < n {
-        saved[k] = w[16389 + k];
+        saved[k] = w[VARS_AT + k];
         k = k + 1;
     }
 }
@@ -56,10 +68,10 @@ pub fn put_vars(w: &mut [u32], u: Used, before: Used, saved: &[u32])
     requires { ⌜ Lay (now w) u × (Above before u × (5120 ≤ length (now saved))) ⌝ }
     ensures { λ _. ⌜ PutBack (now (w .entry)) u (now (w .exit)) before (now (saved .entry)) ⌝ }
 {
-    let n = wide(before.vars) * 5;
+    let n = wide(before.vars) * VAR_WORDS;
     let more = u.vars - before.vars;
-    copy(w, 16389, saved, n);
-    zero_words(w, 16389 + n, wide(more) * 5);
+    copy(w, VARS_AT, saved, n);
+    zero_words(w, VARS_AT + n, wide(more) * VAR_WORDS);
 }
 
 // What was taken since then is given back; bindings and marks are left as they are.
@@ -68,17 +80,25 @@ pub fn give_back(w: &mut [u32], u: Used, before: Used)
     ensures { λ _. ⌜ GivenBack (now (w .entry)) u (now (w .exit)) before ⌝ }
 {
     let nodes = u.nodes - before.nodes;
-    zero_words(w, 5 + wide(before.nodes) * 6, wide(nodes) * 6);
+    zero_words(
+        w,
+        NODES_AT + wide(before.nodes) * NODE_WORDS,
+        wide(nodes) * NODE_WORDS,
+    );
     let args = u.args - before.args;
-    zero_words(w, 12293 + wide(before.args), wide(args));
+    zero_words(w, ARGS_AT + wide(before.args), wide(args));
     let constraints = u.constraints - before.constraints;
     zero_words(
         w,
-        21509 + wide(before.constraints) * 4,
-        wide(constraints) * 4,
+        CONSTRAINTS_AT + wide(before.constraints) * CONSTRAINT_WORDS,
+        wide(constraints) * CONSTRAINT_WORDS,
     );
     let structs = u.structs - before.structs;
-    zero_words(w, 23557 + wide(before.structs) * 2, wide(structs) * 2);
+    zero_words(
+        w,
+        STRUCTS_AT + wide(before.structs) * STRUCT_WORDS,
+        wide(structs) * STRUCT_WORDS,
+    );
 }
 
 // All is as it was.

@@ -10,6 +10,7 @@ ghost use Rattle.writer.specs.Bytes.{All-bytes};
 ghost use Rattle.report.specs.Report.{Tys-in};
 ghost use Rattle.solve.specs.Solves.{Holds-sound, solved, reported, Reports, Solves};
 use answer::Answer;
+use answer::MAX_PAYLOAD;
 use answer::Ran;
 use answer::Show;
 use table::Found;
@@ -30,7 +31,7 @@ fn report_failures(
     ensures { λ r. ⌜ Reports (now (w .entry)) u before (now (params .entry)) (now (saved .entry)) (now (buf .entry)) (now (w .exit)) (now (buf .exit)) r reported ⌝ }
 {
     let size = report::size_failures(w, u, params, sets);
-    if 4096 < size {
+    if MAX_PAYLOAD < size {
         return answer::refuse(w, u, before, saved, 14);
     }
     let len = report::write_failures(w, u, params, sets, buf);

@@ -1,5 +1,4 @@
 -- What a record leaves of a sound state: its declarations and their bytes, what was placed, what was read, its answer, and the step. Assumes nothing.
-pub mod Padding
 pub mod Rows
 pub mod Placing
 pub mod Standing

@@ -7,7 +7,7 @@ use Prim.Native.Nat.{ℕ, _-_, _≤_, _<_}
 use native.Mathlib.Omega.{arith}
 use lib.Dec.{ltb}
 use lib.ListN.{length, drop}
-use Rattle.definition.specs.Types.{State, Struct, Refusal, malformed, full, Result, ok, refused, _>>=_, if_then_else_}
+use Rattle.definition.specs.Types.{State, Struct, Refusal, malformed, unknown-name, doubled-reference, full, Result, ok, refused, _>>=_, if_then_else_}
 use Rattle.definition.specs.Write.{Bytes, Is-bytes}
 use Rattle.definition.specs.Reader.{Read, got}
 use Rattle.definition.specs.Store.{with-structs}
@@ -41,7 +41,9 @@ use Rattle.run.specs.Dispatch.{noded-run}
 use Rattle.run.proofs.Placed.{run-placed}
 use Rattle.step.specs.declared.Stepped.{Stepped}
 use Rattle.step.specs.Trusted.{held, Stands, answered, unread, Steps}
-use Rattle.step.specs.Replies.{Replied, Begun, Begins, Ends, binding, rows-after, place-after}
+use Rattle.outcome.specs.declared.Outcome.the-variants.{Refused, Run}
+use Rattle.outcome.specs.Outcome.{rows-after, outcome-of, place-after}
+use Rattle.step.specs.Replies.{Replied, Begun, Begins, Ends, binding}
 use Rattle.step.proofs.Reading.{stop-is, Got, got-is, answered-not, unread-not, unread-got, answered-got}
 use Rattle.step.proofs.Keeping.{bytes-after, answered-sound, view-arities, partly-still}
 use Rattle.step.proofs.Standing.{answer-front}
@@ -104,6 +106,18 @@ rest-within Doubled at next n a b = a
 pub splits : {w : List ℕ} {u : Used} (params : List (List ℕ)) {stream : Bytes} {w₁ : List ℕ} {f : Fields} → Record-is w u stream 0 w₁ f → {r : ℕ} → r ≡ place-after (f .read) 0 (f .next) → (r ≤ length stream) × (unread (held w u params) stream ≡ drop r stream)
 splits params {stream} {f = f} c e = rw e (rest-within (f .read) 0 (f .next) (length stream) (omega arith) (c .within), rest-is params c)
 
+number-is : {m n : ℕ} → Refused m ≡ Refused n → m ≡ n
+number-is e = cc
+
+-- what is run was placed, and no bytes are left over
+pub runs : (p : Whole) (over : Bool) (x : What) → Run x ≡ outcome-of p over → (p ≡ Placed x) × (over ≡ false)
+runs Malformed over x e = absurd (let z : _≡_ {A = ℕ} 0 1 = cc in omega arith)
+runs Unknown over x e = absurd (let z : _≡_ {A = ℕ} 0 1 = cc in omega arith)
+runs Doubled over x e = absurd (let z : _≡_ {A = ℕ} 0 1 = cc in omega arith)
+runs Full over x e = absurd (let z : _≡_ {A = ℕ} 0 1 = cc in omega arith)
+runs (Placed y) true x e = absurd (let z : _≡_ {A = ℕ} 0 1 = cc in omega arith)
+runs (Placed y) false x e = (cc, refl)
+
 -- the words as they were, once the counts are written again
 pub words-back : {w : List ℕ} {u : Used} {params : List (List ℕ)} {saved w₁ : List ℕ} {v : Used} {w₂ w₃ : List ℕ} → Stands w u params → u ≡ used-of w → Saved w u saved → Grown (view w u) (view w₁ v) → Undone w₁ v w₂ u saved
     → ((ds : List Struct) → Declares w₂ u ds → w₃ ≡ encode (seen w₂ u ds)) → w₃ ≡ w
@@ -165,38 +179,54 @@ module _ {w : List ℕ} {u : Used} {params : List (List ℕ)} (stream : Bytes) (
     unfolding refusal
     refused-front whole x e = rw e (front-refl (s₀ .vars))
 
-    -- 5, 6, 18
-    pub steps-stopped : (whole : Bool) (p : Whole) (x : Refusal) → ((g : What → Noded) (t : State) (l : Bytes) → whole-with p g t l ≡ stopped x) → f .read ≡ p → at ≤ length stream
-        → {number : ℕ} {w′ : List ℕ} {a : Answer} → Refuses number w′ a → number-of-refusal x ≡ number → (buf : List ℕ) {r : Stepped} → r ≡ gone a at (u .vars) → Leaving whole buf w′ params buf r
-    steps-stopped whole p x h e le g n buf q =
-        let i = stop-is (read-record s₀ bytes) x s₀ (sym (h (noded f) _ _) ∙ read-is params c p e) in
-        let j = answered-not whole s₀ bytes x i in
-        let z = refused-by-x whole x g n j buf in
-        (steps whole z at le (unread-not whole s₀ bytes x i) q, rw q (in-front z (refused-front whole x j)))
+    -- reading stopped
+    stopped-by : (whole : Bool) (x : Refusal) → stopped x ≡ place-read false place-record (read-record s₀ bytes) s₀ → answered whole s₀ bytes ≡ refusal s₀ x
+    stopped-by whole x e = answered-not whole s₀ bytes x (stop-is (read-record s₀ bytes) x s₀ e)
+
+    -- there is no space
+    full-read : f .read ≡ Full → Got (read-record s₀ bytes) (refused full) (drop (f .next) stream) s₀
+    full-read e = got-is (read-record s₀ bytes) (refused full) (drop (f .next) stream) s₀ (read-is params c Full e)
+
+    full-ran : (i : Got (read-record s₀ bytes) (refused full) (drop (f .next) stream) s₀) → run s₀ (i .what) ≡ refused full
+    unfolding _>>=_
+    full-ran i = run-placed s₀ (i .what) ∙ ap (λ (m : Result (State × Noded)). m >>= (λ q. noded-run (q .1) (q .0) s₀)) (i .placed)
+
+    -- the answer, the words and the place where the stream goes on are the step's
+    leaves : (whole : Bool) → at ≤ length stream → {next : ℕ} → next ≡ place-after (f .read) at (f .next)
+        → {rows : ℕ} {buf w′ : List ℕ} {params′ : List (List ℕ)} {buf′ : List ℕ} {a : Answer} {r : Stepped} → Replied buf w′ params′ buf′ a (answered whole s₀ bytes)
+        → Saved-partly w′ (a .used) rows saved → r ≡ gone a next rows → Leaving whole buf w′ params′ buf′ r
+    leaves whole le {next} n p h e = (steps whole p next (rw n (rest-within (f .read) at (f .next) (length stream) le (c .within))) (rest-is params c ∙ ap (λ (k : ℕ). drop k stream) (sym n)) e, rw e h)
 
     module _ (whole over : Bool) (o : over ≡ whole && ltb (f .next) (length stream)) where
       abbrev Read-as : Result (State × Noded) → Type 0
       Read-as q = Got (read-record s₀ bytes) q (drop (f .next) stream) s₀
 
-      got-steps : {q : Result (State × Noded)} → Read-as q → {rows : ℕ} {buf w′ : List ℕ} {params′ : List (List ℕ)} {buf′ : List ℕ} {a : Answer} {r : Stepped} → Replied buf w′ params′ buf′ a (answered whole s₀ bytes)
-          → Saved-partly w′ (a .used) rows saved → r ≡ gone a (f .next) rows → Leaving whole buf w′ params′ buf′ r
-      got-steps i p h e = (steps whole p (f .next) (c .within) (unread-got whole s₀ bytes (i .what) (drop (f .next) stream) (i .read)) e, rw e h)
+      -- what a record that was read is answered with, by what placing it came to
+      told-placed : {q : Result (State × Noded)} (i : Read-as q) (b : Bool) → over ≡ b → answered whole s₀ bytes ≡ (if b then refusal s₀ malformed else answer s₀ (run s₀ (i .what)))
+      told-placed i b e = answered-got whole s₀ bytes (i .what) stream (f .next) (i .read) over o ∙ ap (λ (x : Bool). if x then refusal s₀ malformed else answer s₀ (run s₀ (i .what))) e
 
-      -- 7, but bytes left over are 5
-      pub steps-full : f .read ≡ Full → {number : ℕ} {w′ : List ℕ} {a : Answer} → Refuses number w′ a → number ≡ (if over then 5 else 7) → (buf : List ℕ) {r : Stepped} → r ≡ gone a (f .next) (u .vars)
-          → Leaving whole buf w′ params buf r
-      unfolding _>>=_ answer number-of-refusal
-      steps-full e {number} {w′} {a} g n buf q =
-          let i : Read-as (refused full) = got-is (read-record s₀ bytes) (refused full) (drop (f .next) stream) s₀ (read-is params c Full e) in
-          let ran : run s₀ (i .what) ≡ refused full = run-placed s₀ (i .what) ∙ ap (λ (m : Result (State × Noded)). m >>= (λ q. noded-run (q .1) (q .0) s₀)) (i .placed) in
-          let told = answered-got whole s₀ bytes (i .what) stream (f .next) (i .read) over o ∙ ap (λ (m : Result (State × Bytes)). if over then refusal s₀ malformed else answer s₀ m) ran in
-          let z = go over n told in
-          got-steps i (z .0) (in-front (z .0) (z .1)) q
-        where
-          go : (b : Bool) → number ≡ (if b then 5 else 7) → answered whole s₀ bytes ≡ (if b then refusal s₀ malformed else refusal s₀ full)
-              → Replied buf w′ params buf a (answered whole s₀ bytes) × Front (s₀ .vars) (answered whole s₀ bytes .state .vars)
-          go true n t = (refused-by-x whole malformed g (sym n) t buf, refused-front whole malformed t)
-          go false n t = (refused-by-x whole full g (sym n) t buf, refused-front whole full t)
+      -- the refusal that has this number
+      record Why (number : ℕ) : Type 0 where
+        why : Refusal
+        numbered : number-of-refusal why ≡ number
+        told : answered whole s₀ bytes ≡ refusal s₀ why
+
+      why-refused : (p : Whole) → f .read ≡ p → (b : Bool) → over ≡ b → {number : ℕ} → outcome-of p b ≡ Refused number → Why number
+      unfolding number-of-refusal _>>=_ answer
+      why-refused Malformed e b d n = record { why = malformed; numbered = number-is n; told = stopped-by whole malformed (read-is params c Malformed e) }
+      why-refused Unknown e b d n = record { why = unknown-name; numbered = number-is n; told = stopped-by whole unknown-name (read-is params c Unknown e) }
+      why-refused Doubled e b d n = record { why = doubled-reference; numbered = number-is n; told = stopped-by whole doubled-reference (read-is params c Doubled e) }
+      why-refused Full e true d n = record { why = malformed; numbered = number-is n; told = told-placed (full-read e) true d }
+      why-refused Full e false d n = record { why = full; numbered = number-is n; told = told-placed (full-read e) false d ∙ ap (λ (m : Result (State × Bytes)). answer s₀ m) (full-ran (full-read e)) }
+      why-refused (Placed x) e true d n = record { why = malformed; numbered = number-is n; told = told-placed (got-is (read-record s₀ bytes) _ (drop (f .next) stream) s₀ (read-is params c (Placed x) e)) true d }
+      why-refused (Placed x) e false d n = absurd (let z : _≡_ {A = ℕ} 0 1 = cc in omega arith)
+
+      pub steps-refused : at ≤ length stream → {next : ℕ} → next ≡ place-after (f .read) at (f .next) → {number : ℕ} → Refused number ≡ outcome-of (f .read) over → {w′ : List ℕ} {a : Answer} → Refuses number w′ a
+          → (buf : List ℕ) {r : Stepped} → r ≡ gone a next (u .vars) → Leaving whole buf w′ params buf r
+      steps-refused le n e g buf q =
+          let y = why-refused (f .read) refl over refl (sym e) in
+          let z = refused-by-x whole (y .why) g (y .numbered) (y .told) buf in
+          leaves whole le n z (in-front z (refused-front whole (y .why) (y .told))) q
 
       module _ (what : What) (e : f .read ≡ Placed what) where
         abbrev n : Noded
@@ -204,9 +234,6 @@ module _ {w : List ℕ} {u : Used} {params : List (List ℕ)} (stream : Bytes) (
 
         at-node : Read-as (ok (seen w₁ (f .used) ds, n))
         at-node = got-is (read-record s₀ bytes) (ok (seen w₁ (f .used) ds, n)) (drop (f .next) stream) s₀ (read-is params c (Placed what) e)
-
-        told : answered whole s₀ bytes ≡ (if over then refusal s₀ malformed else answer s₀ (run s₀ (at-node .what)))
-        told = answered-got whole s₀ bytes (at-node .what) stream (f .next) (at-node .read) over o
 
         begun : Begun w u params saved w₁ (f .used) (at-node .what) n
         begun = record { stands = s; since = since; structs = c .structs; fields = record-in s₀ bytes (bytes-after at stream is) _ _ (at-node .read); placed = at-node .placed }
@@ -217,14 +244,6 @@ module _ {w : List ℕ} {u : Used} {params : List (List ℕ)} (stream : Bytes) (
         pub placed-in : What-in (f .used .nodes) f what
         placed-in = subst (λ (p : Whole). Whole-so p (What-in (f .used .nodes) f)) e (c .inside)
 
-        -- bytes left over
-        pub steps-over : over ≡ true → {w′ : List ℕ} {a : Answer} → Refuses 5 w′ a → (buf : List ℕ) {r : Stepped} → r ≡ gone a (f .next) (u .vars) → Leaving whole buf w′ params buf r
-        unfolding number-of-refusal
-        steps-over b g buf q =
-            let j : answered whole s₀ bytes ≡ refusal s₀ malformed = told ∙ ap (λ (x : Bool). if x then refusal s₀ malformed else answer s₀ (run s₀ (at-node .what))) b in
-            let z = refused-by-x whole malformed g refl j buf in
-            got-steps at-node z (in-front z (refused-front whole malformed j)) q
-
         -- what the record says of the saved rows
         rows-stand : {buf w′ : List ℕ} {params′ : List (List ℕ)} {buf′ : List ℕ} {a : Answer} → Replied buf w′ params′ buf′ a (answer s₀ (run s₀ (at-node .what)))
             → Saved-partly w′ (a .used) (rows-after what (u .vars)) saved
@@ -234,9 +253,10 @@ module _ {w : List ℕ} {u : Used} {params : List (List ℕ)} (stream : Bytes) (
             go true k = partly-none w′ (a .used) saved
             go false k = in-front p (answer-front s₀ (at-node .what) _ n (at-node .placed) k)
 
-        pub steps-run : over ≡ false → {rows : ℕ} → rows ≡ rows-after what (u .vars) → {buf w′ : List ℕ} {params′ : List (List ℕ)} {buf′ : List ℕ} {a : Answer} → Ends u params saved w₁ (f .used) n buf w′ params′ buf′ a → {r : Stepped} → r ≡ gone a (f .next) rows
-            → Leaving whole buf w′ params′ buf′ r
-        steps-run b is-rows {buf} {w′} {params′} {buf′} {a} g q =
+        pub steps-run : over ≡ false → at ≤ length stream → {next : ℕ} → next ≡ place-after (f .read) at (f .next)
+            → {rows : ℕ} → rows ≡ rows-after what (u .vars) → {buf w′ : List ℕ} {params′ : List (List ℕ)} {buf′ : List ℕ} {a : Answer} → Ends u params saved w₁ (f .used) n buf w′ params′ buf′ a
+            → {r : Stepped} → r ≡ gone a next rows → Leaving whole buf w′ params′ buf′ r
+        steps-run b le is-next is-rows {buf} {w′} {params′} {buf′} {a} g q =
             let z = g w (at-node .what) begun in
-            let p : Replied buf w′ params′ buf′ a (answered whole s₀ bytes) = rw (told ∙ ap (λ (x : Bool). if x then refusal s₀ malformed else answer s₀ (run s₀ (at-node .what))) b) z in
-            got-steps at-node p (rw is-rows (rows-stand z)) q
+            let p : Replied buf w′ params′ buf′ a (answered whole s₀ bytes) = rw (told-placed at-node false b) z in
+            leaves whole le is-next p (rw is-rows (rows-stand z)) q

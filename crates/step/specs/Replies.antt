@@ -3,23 +3,16 @@ use mathlib.Core.Path.{_≡_}
 use mathlib.Core.Bool.{Bool, true, false}
 use mathlib.Core.List.{List, _++_}
 use Prim.Native.Nat.{ℕ, _≤_}
-use lib.ListN.{getD, take, drop}
+use lib.ListN.{take, drop}
 use Rattle.definition.specs.Types.{ok}
 use Rattle.definition.specs.Record.{Record}
 use Rattle.definition.specs.Step as step
 use Rattle.definition.specs.Step.{answer}
 use Rattle.theorems.proofs.WellRead.{RecordIn}
-use Rattle.table.specs.Tab.{tab}
 use Rattle.table.specs.State.{view, seen, Lay}
 use Rattle.table.specs.declared.Used.{Used}
-use Rattle.table.specs.declared.Found.{Found}
-use Rattle.table.specs.declared.Found.the-variants.{Nothing, Just}
 use Rattle.lent.specs.Lent.{structs-of, encode-params}
 use Rattle.snap.specs.Snap.{Since}
-use Rattle.fields.specs.declared.What.{What}
-use Rattle.fields.specs.declared.What.the-variants as q
-use Rattle.fields.specs.declared.Whole.{Whole}
-use Rattle.fields.specs.declared.Whole.the-variants.{Placed, Full, Malformed, Unknown, Doubled}
 use Rattle.fields.specs.Noded.{binds, looks, adds, Noded, declare, solve, run, place-record}
 use Rattle.answer.specs.declared.Answer.{Answer}
 use Rattle.step.specs.Trusted.{held, Stands}
@@ -51,18 +44,6 @@ abbrev pub Ends : Used → List (List ℕ) → List ℕ → List ℕ → Used �
 Ends before params saved w u n buf w′ params′ buf′ r =
     (w₀ : List ℕ) (x : Record) → Begun w₀ before params saved w u x n → Replied buf w′ params′ buf′ r (answer (held w₀ before params) (step.run (held w₀ before params) x))
 
--- ---- SD's row
-
--- the row of a new struct, if there is one and the state is kept
-abbrev pub row-for : Found → Bool → ℕ → Found
-row-for Nothing kept n = Nothing
-row-for (Just t) true n = Just n
-row-for (Just t) false n = Nothing
-
--- the first n bytes, and zeros
-unfoldable pub padded : List ℕ → ℕ → List ℕ
-padded bytes n = tab 8 (λ k. getD (take n bytes) k 0)
-
 -- ---- the saved rows
 
 -- it may bind or mark a variable that is there
@@ -72,20 +53,3 @@ binding solve = true
 binding (run (binds n)) = true
 binding (run (looks n)) = false
 binding (run (adds n)) = false
-
--- how many of the n saved rows surely stand after a record
-abbrev pub rows-after : What → ℕ → ℕ
-rows-after (q.SD abilities many) n = n
-rows-after q.SV n = 0
-rows-after (q.Bind x) n = 0
-rows-after (q.Look x) n = n
-rows-after (q.Add x) n = n
-
--- ---- the stream after a record
-
-abbrev pub place-after : Whole → ℕ → ℕ → ℕ
-place-after (Placed x) at next = next
-place-after Full at next = next
-place-after Malformed at next = at
-place-after Unknown at next = at
-place-after Doubled at next = at

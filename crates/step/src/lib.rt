@@ -1,23 +1,25 @@
 // One record of a sound state: read, placed, run and answered; a refusal leaves all as at entry.
 ghost use mathlib.Core.Path.{_≡_};
-ghost use mathlib.Core.Bool.{_&&_};
 ghost use Prim.Native.Nat.{_≤_};
-ghost use lib.Dec.{ltb};
 ghost use lib.ListN.{length, take, drop};
-ghost use Rattle.definition.specs.Types.{if_then_else_};
 ghost use Rattle.definition.specs.Write.{Is-bytes};
 ghost use Rattle.table.specs.State.{Lay};
 ghost use Rattle.snap.specs.Snap.{Saved-partly};
 ghost use Rattle.lent.specs.Lent.{used-of};
 ghost use Rattle.fields.specs.Noded.{declare, noded, What-in};
 ghost use Rattle.step.specs.Trusted.{held, Stands, unread, Steps};
-ghost use Rattle.step.specs.Replies.{Begins, Ends, row-for, padded, rows-after, place-after};
+ghost use Rattle.step.specs.Replies.{Begins, Ends};
 use answer::Answer;
 use fields::Fields;
 use fields::What;
-use fields::Whole;
 use names::AbilitySet;
-use table::Found;
+use outcome::Outcome;
+use outcome::left_over;
+use outcome::outcome_of;
+use outcome::padded;
+use outcome::place_after;
+use outcome::row_for;
+use outcome::rows_after;
 use table::Used;
 
 // One record's answer, the rows in use after it, where the rest of the stream begins, and how many of the saved rows still stand.
@@ -44,46 +46,11 @@ fn with_next(a: Answer, next: usize, rows: u32) -> Stepped
 
 // ---- SD
 
-fn wide(x: u32) -> usize
-    ensures { λ r. ⌜ r ≡ x ⌝ }
-{
-    x as usize
-}
-
 fn ability_set(x: u32) -> AbilitySet
     requires { ⌜ x ≤ 15 ⌝ }
     ensures { λ r. ⌜ r .0 ≡ x ⌝ }
 {
     AbilitySet(x as u8)
-}
-
-// A new struct's row, if there is one and the state is kept.
-fn row_for(number: Found, kept: bool, n: u32) -> Found
-    ensures { λ r. ⌜ r ≡ row-for number kept n ⌝ }
-{
-    match number {
-        Found::Nothing => Found::Nothing,
-        Found::Just(_) => {
-            if kept {
-                return Found::Just(n);
-            }
-            Found::Nothing
-        }
-    }
-}
-
-// The first n bytes, and zeros.
-fn padded(bytes: [u8; 8], n: u32) -> [u8; 8]
-    requires { ⌜ n ≤ 8 ⌝ }
-    ensures { λ r. ⌜ (r ≡ padded bytes n) × (length bytes ≡ 8) ⌝ }
-{
-    let mut row = bytes;
-    let mut i = wide(n);
-    while i < 8 {
-        row[i] = 0;
-        i = i + 1;
-    }
-    row
 }
 
 // The bytes go into the row of the struct's number.
@@ -105,25 +72,12 @@ fn answer_declared(
     let r = run::run_declare(w, u, ability_set(abilities), many);
     let o = r.out;
     let a = answer::answer_of(w, before, saved, r, buf);
-    let n = row_for(table::done_of(o), a.kept, u.structs);
+    let n = row_for(table::done_of(o), a, u);
     *params = run::with_row(*params, n, padded(bytes, many));
     a
 }
 
 // ---- what was read
-
-// How many of the n saved rows surely stand after a record: what binds or marks a variable that is there leaves none.
-fn rows_after(what: What, n: u32) -> u32
-    ensures { λ r. ⌜ r ≡ rows-after what n ⌝ }
-{
-    match what {
-        What::SD(_, _) => n,
-        What::SV => 0,
-        What::Bind(_) => 0,
-        What::Look(_) => n,
-        What::Add(_) => n,
-    }
-}
 
 // What was read and placed is run and answered.
 fn answer_placed(
@@ -165,26 +119,6 @@ fn answer_placed(
 
 // ---- the record
 
-// Whether the record is all that is lent, and bytes are left over.
-fn left_over(whole: bool, next: usize, long: usize) -> bool
-    ensures { λ r. ⌜ r ≡ whole && ltb next long ⌝ }
-{
-    if whole {
-        return next < long;
-    }
-    false
-}
-
-// No space is 7, but bytes left over are 5.
-fn seven_or_five(over: bool) -> u32
-    ensures { λ r. ⌜ r ≡ (if over then 5 else 7) ⌝ }
-{
-    if over {
-        return 5;
-    }
-    7
-}
-
 // whole: the record is all that is lent, and bytes left over are 5, which comes before 7. The first `rows` variables are saved already, and the answer
 // says how many are still: so rows are copied once after each record that may change them, not at each record.
 pub fn step_trusted(
@@ -207,22 +141,12 @@ pub fn step_trusted(
     let f = record::read_record(w, u, stream, at);
     let read = f.read;
     let v = f.used;
-    let next = f.next;
     let kept = u.vars;
-    let over = left_over(whole, next, stream.len());
-    match read {
-        Whole::Malformed => with_next(answer::refuse(w, v, u, saved, 5), at, kept),
-        Whole::Unknown => with_next(answer::refuse(w, v, u, saved, 6), at, kept),
-        Whole::Doubled => with_next(answer::refuse(w, v, u, saved, 18), at, kept),
-        Whole::Full => with_next(
-            answer::refuse(w, v, u, saved, seven_or_five(over)),
-            next,
-            kept,
-        ),
-        Whole::Placed(x) => {
-            if over {
-                return with_next(answer::refuse(w, v, u, saved, 5), next, kept);
-            }
+    let next = place_after(read, at, f.next);
+    let o = outcome_of(read, left_over(whole, f.next, stream.len()));
+    match o {
+        Outcome::Refused(number) => with_next(answer::refuse(w, v, u, saved, number), next, kept),
+        Outcome::Run(x) => {
             let rows = rows_after(x, kept);
             with_next(answer_placed(w, v, u, params, saved, f, x, buf), next, rows)
         }
@@ -230,19 +154,6 @@ pub fn step_trusted(
 }
 
 // ---- the splitter
-
-// Where the stream goes on: 5, 6 and 18 leave it as it is.
-fn place_after(read: Whole, at: usize, next: usize) -> usize
-    ensures { λ r. ⌜ r ≡ place-after read at next ⌝ }
-{
-    match read {
-        Whole::Placed(_) => next,
-        Whole::Full => next,
-        Whole::Malformed => at,
-        Whole::Unknown => at,
-        Whole::Doubled => at,
-    }
-}
 
 // How many bytes the record at the head of the stream has, none on 5, 6 and 18; the words are as they were.
 pub fn rest_trusted(

@@ -22,6 +22,28 @@ use names::TParamID;
 use names::TVar;
 use names::TypeName;
 
+// Where each table begins in the words, and how many words a row of it has. Contracts have the numbers themselves: a wrong one here is refused.
+pub const NODES_AT: usize = 5;
+
+pub const NODE_WORDS: usize = 6;
+
+pub const ARGS_AT: usize = 12293;
+
+pub const VARS_AT: usize = 16389;
+
+pub const VAR_WORDS: usize = 5;
+
+pub const CONSTRAINTS_AT: usize = 21509;
+
+pub const CONSTRAINT_WORDS: usize = 4;
+
+pub const STRUCTS_AT: usize = 23557;
+
+pub const STRUCT_WORDS: usize = 2;
+
+// How many words there are.
+pub const WORDS: usize = 24069;
+
 // Type_, as a node row has it: arguments are places, the first and how many.
 pub enum Shape {
     Unit,
@@ -312,7 +334,7 @@ pub fn node_at(w: &[u32], u: Used, t: u32) -> Node
 {
     let n = u.nodes;
     if t < n {
-        let at = 5 + wide(t) * 6;
+        let at = NODES_AT + wide(t) * NODE_WORDS;
         let shape = shape_at(w[at], w[at + 2], w[at + 3], w[at + 4], w[at + 5]);
         Node {
             loc: w[at + 1],
@@ -334,7 +356,7 @@ pub fn arg_at(w: &[u32], u: Used, first: u32, i: u32) -> u32
     let n = wide(u.args);
     let k = wide(first) + wide(i);
     if k < n {
-        let at = 12293 + k;
+        let at = ARGS_AT + k;
         w[at]
     } else {
         0
@@ -354,7 +376,7 @@ pub fn push_node(w: &mut [u32], u: Used, loc: u32, shape: Shape) -> Step
         };
     }
     let row = row_of(loc, shape);
-    write_row(w, 5 + wide(n) * 6, row, 6);
+    write_row(w, NODES_AT + wide(n) * NODE_WORDS, row, NODE_WORDS);
     Step {
         out: Out::Done(n),
         used: Used {
@@ -394,9 +416,9 @@ pub fn push_apply(
             used: u,
         };
     }
-    write_row(w, 12293 + wide(first), parts, wide(n));
+    write_row(w, ARGS_AT + wide(first), parts, wide(n));
     let row = row_of(loc, Shape::Apply(k, name, first, n));
-    write_row(w, 5 + wide(t) * 6, row, 6);
+    write_row(w, NODES_AT + wide(t) * NODE_WORDS, row, NODE_WORDS);
     Step {
         out: Out::Done(t),
         used: Used {
@@ -419,7 +441,7 @@ pub fn bound_at(w: &[u32], u: Used, v: TVar) -> Found
     let n = u.vars;
     let i = number(v);
     if i < n {
-        let at = 16389 + wide(i) * 5;
+        let at = VARS_AT + wide(i) * VAR_WORDS;
         option_at(w[at], w[at + 1])
     } else {
         Found::Nothing
@@ -434,7 +456,7 @@ pub fn num_loc_at(w: &[u32], u: Used, v: TVar) -> Found
     let n = u.vars;
     let i = number(v);
     if i < n {
-        let at = 16389 + wide(i) * 5;
+        let at = VARS_AT + wide(i) * VAR_WORDS;
         option_at(w[at + 2], w[at + 3])
     } else {
         Found::Nothing
@@ -528,7 +550,7 @@ fn put_cell(w: &mut [u32], u: Used, v: TVar, b: Found, m: Found)
     let i = number(v);
     if i < n {
         let row = cell_row(b, m);
-        write_row(w, 16389 + wide(i) * 5, row, 5);
+        write_row(w, VARS_AT + wide(i) * VAR_WORDS, row, VAR_WORDS);
     }
 }
 
@@ -613,7 +635,12 @@ pub fn push_constraint(w: &mut [u32], u: Used, c: Constraint) -> Step
         };
     }
     let row = constraint_row(c);
-    write_row(w, 21509 + wide(n) * 4, row, 4);
+    write_row(
+        w,
+        CONSTRAINTS_AT + wide(n) * CONSTRAINT_WORDS,
+        row,
+        CONSTRAINT_WORDS,
+    );
     Step {
         out: Out::Done(0),
         used: Used {
@@ -631,7 +658,7 @@ pub fn constraint_at(w: &[u32], u: Used, i: u32) -> Constraint
     requires { ⌜ Lay (now w) u × (i < u .constraints) ⌝ }
     ensures { λ r. ⌜ ((ds : List d.Struct) → constraint-of r ≡ getD (seen (now (w .entry)) u ds .constraints) i (constraint-table .blank)) ⌝ }
 {
-    let at = 21509 + wide(i) * 4;
+    let at = CONSTRAINTS_AT + wide(i) * CONSTRAINT_WORDS;
     constraint_of(w[at], w[at + 1], w[at + 2], w[at + 3])
 }
 
@@ -650,7 +677,12 @@ pub fn push_struct(w: &mut [u32], u: Used, abilities: AbilitySet, params: u32) -
         };
     }
     let a = bits(abilities);
-    write_row(w, 23557 + wide(n) * 2, [a, params, 0, 0, 0, 0, 0, 0], 2);
+    write_row(
+        w,
+        STRUCTS_AT + wide(n) * STRUCT_WORDS,
+        [a, params, 0, 0, 0, 0, 0, 0],
+        STRUCT_WORDS,
+    );
     Step {
         out: Out::Done(n),
         used: Used {
@@ -670,7 +702,7 @@ pub fn struct_at(w: &[u32], u: Used, n: u32) -> StructRow
 {
     let k = u.structs;
     if n < k {
-        let at = 23557 + wide(n) * 2;
+        let at = STRUCTS_AT + wide(n) * STRUCT_WORDS;
         StructRow {
             abilities: set_at(w[at]),
             params: w[at + 1],

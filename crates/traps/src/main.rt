@@ -3,7 +3,13 @@
 ghost use Prim.Native.Nat.{_<_};
 ghost use Rattle.table.specs.State.{Lay};
 use names::TVar;
+use table::ARGS_AT;
+use table::NODE_WORDS;
+use table::NODES_AT;
 use table::Used;
+use table::VAR_WORDS;
+use table::VARS_AT;
+use table::WORDS;
 
 fn put(w: &mut [u32], i: usize, x: u32) {
     if i < w.len() {
@@ -15,7 +21,7 @@ fn put(w: &mut [u32], i: usize, x: u32) {
 fn put_list(w: &mut [u32], t: u32, part: u32, node: u32)
     requires { ⌜ (t < 400) × (node < 2048) ⌝ }
 {
-    let at = 5 + node as usize * 6;
+    let at = NODES_AT + node as usize * NODE_WORDS;
     let first = t * 8;
     put(w, at, 4);
     put(w, at + 3, 8);
@@ -23,7 +29,7 @@ fn put_list(w: &mut [u32], t: u32, part: u32, node: u32)
     put(w, at + 5, 8);
     let mut i: usize = 0;
     while i < 8 {
-        put(w, 12293 + first as usize + i, part);
+        put(w, ARGS_AT + first as usize + i, part);
         i = i + 1;
     }
 }
@@ -47,11 +53,11 @@ fn tower(w: &mut [u32]) {
     put(w, 2, 31);
     let mut i: u32 = 0;
     while i < 30 {
-        let at = 5 + i as usize * 12;
+        let at = NODES_AT + i as usize * 12;
         put(w, at, 6);
         put(w, at + 2, i + 1);
         put_list(w, i, i * 2, i * 2 + 1);
-        let row = 16389 + i as usize * 5;
+        let row = VARS_AT + i as usize * VAR_WORDS;
         put(w, row, 1);
         put(w, row + 1, i * 2 + 1);
         i = i + 1;
@@ -92,8 +98,8 @@ fn ask(w: &[u32]) -> [u8; 6] {
 }
 
 fn main() {
-    let mut one = [0u32; 24069];
-    let mut two = [0u32; 24069];
+    let mut one = [0u32; WORDS];
+    let mut two = [0u32; WORDS];
     ladder(&mut one);
     tower(&mut two);
     let line = ask(&one);

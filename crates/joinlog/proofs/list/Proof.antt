@@ -1,11 +1,7 @@
 -- `joinlog::list` meets its contract: words, rows, rest and lines are those of `engine::job`. Assumes nothing.
-use mathlib.Core.Path.{_≡_, refl, _∙_}
-use Prim.Native.Nat.{_-_, _≤_}
-use native.Mathlib.Omega.{arith}
+use mathlib.Core.Path.{refl, _∙_}
 use borrow.Author.Needs.{needs}
-use lib.Seq.{length-take-le}
-use lib.ListN.{length, drop, length-drop}
-use Rattle.joinlog.proofs.Moves.{passed}
+use Rattle.joinlog.proofs.Moves.{passed, passed-within}
 use Rattle.joinlog.proofs.list.Statement.{statement}
 use Rattle.joinlog.proofs.list.Tie as tie
 
@@ -24,11 +20,11 @@ next-lines-requires c κs = search needs
 hand-over-requires : tie.Need-hand-over-requires
 hand-over-requires c κs = search needs
 
-add-t31 : tie.Need-add-t31
-add-t31 c = search needs
-
-either-requires : tie.Need-either-requires
-either-requires c κs = search needs
+after-lines-requires : tie.Need-after-lines-requires
+after-lines-requires c κs =
+    let start = c .before .before .before .before .before .before .before .before .before .before .before .before .before .before .before .before .before .before .before in
+    let e = c .before .before .before .before .before .before .next-lines .ensures in
+    passed-within _ _ _ (start .args .buf .now) (start .pre .ordered) (start .pre .inside) (e .inside)
 
 same-length : tie.Need-same-length
 same-length c = search needs
@@ -44,23 +40,24 @@ returns c =
     let next-lines = c .before .before .before .before .before .before .before .next-lines in
     let e = next-lines .ensures in
     let t = args .t in
-    let few : t .have - t .from ≤ length (drop (t .from) (args .buf .now)) = simp length-drop
-    (omega (arith, pre .inside)) in
-    let size = length-take-le (t .have - t .from) (drop (t .from) (args .buf .now)) few in
-    record {
+    rw (c .after-lines .ensures)
+    (record {
       words = e .words;
       rows = e .params;
       text = e .front;
       handed = c .before .hand-over .ensures ∙ e .size;
-      within = record { ordered = omega (arith, e .inside, size, pre .ordered); inside = pre .inside };
+      within = record {
+        ordered = passed-within _ _ _ (args .buf .now) (pre .ordered) (pre .inside) (e .inside);
+        inside = pre .inside;
+      };
       rest = passed (t .from) _ (t .have) (args .buf .now) ∙ e .rest;
       same-bytes = refl;
       none = refl;
       follow = refl;
       next = e .next;
       begun = refl;
-      ends = rw (← e .ends) (c .either .ensures);
-    }
+      ends = rw (← e .ends) refl;
+    })
 
 pub list-spec : {M : Type 1} → statement M
 list-spec =
@@ -71,8 +68,7 @@ list-spec =
     part-next-lines-end
     next-lines-requires
     hand-over-requires
-    add-t31
-    either-requires
+    after-lines-requires
     same-length
     same-length-2
     returns)

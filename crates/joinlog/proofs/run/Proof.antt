@@ -5,7 +5,8 @@ use native.Mathlib.Omega.{arith}
 use borrow.Author.Needs.{needs}
 use lib.ListN.{length}
 use Rattle.engine.proofs.Laws.{bytes-of}
-use Rattle.joinlog.specs.Turns.{held, first}
+use Rattle.turns.specs.Filling.{first}
+use Rattle.joinlog.specs.Turns.{held}
 use Rattle.joinlog.proofs.Moves.{clash}
 use Rattle.joinlog.proofs.Chain.{Going, going-none, going-on, ran}
 use Rattle.joinlog.proofs.run.Statement.{statement}
@@ -17,8 +18,11 @@ Inv-loop state₀ rows₀ buf₀ log₀ t₀ turns₀ state rows buf log t turns
 abbrev μ-loop : tie.MeasureT-loop
 μ-loop state₀ rows₀ buf₀ log₀ t₀ turns₀ state rows buf log t turns = turns
 
+first-requires : tie.Need-first-requires Inv-loop μ-loop
+first-requires c κs = search needs
+
 loop-holds : tie.Need-loop-holds Inv-loop μ-loop
-loop-holds c = (refl, (refl, (refl, going-none _ _ _ _)))
+loop-holds c = rw (c .first .ensures) (refl, (refl, (refl, going-none _ _ _ _)))
 
 same-length : tie.Need-same-length Inv-loop μ-loop
 same-length c = search needs
@@ -30,7 +34,7 @@ same-length-3 : tie.Need-same-length-3 Inv-loop μ-loop
 same-length-3 c = search needs
 
 returns : tie.Need-returns Inv-loop μ-loop
-returns c = ran (c .before .before .before .before .before .before .pre .0) (c .before .before .loop .inv .1 .1 .1) (λ e. clash (c .if1 .taken) e)
+returns c = ran (c .before .before .before .before .before .before .before .pre .0) (c .before .before .loop .inv .1 .1 .1) (λ e. clash (c .if1 .taken) e)
 
 one-turn-requires : tie.Need-one-turn-requires Inv-loop μ-loop
 one-turn-requires c κs = (c .before .before .before .before .before .before .loop .inv .1 .1 .1 .within, omega arith)
@@ -71,7 +75,7 @@ same-length-6 : tie.Need-same-length-6 Inv-loop μ-loop
 same-length-6 c = search needs
 
 returns-2 : tie.Need-returns-2 Inv-loop μ-loop
-returns-2 c = ran (c .before .before .before .before .before .pre .0) (c .before .loop .inv .1 .1 .1) (λ e. omega arith)
+returns-2 c = ran (c .before .before .before .before .before .before .pre .0) (c .before .loop .inv .1 .1 .1) (λ e. omega arith)
 
 pub run-spec : {M : Type 1} → statement M
 run-spec =
@@ -79,6 +83,7 @@ run-spec =
     (tie.spec
     Inv-loop
     μ-loop
+    first-requires
     loop-holds
     same-length
     same-length-2

@@ -1,11 +1,8 @@
--- `step::step_trusted` meets its contract. Assumes nothing.
-use mathlib.Core.Path.{refl, _∙_}
+-- `step::step_trusted` meets its contract: rows are saved, the record is read, and what it comes to is a refusal or a run. Assumes nothing.
+use mathlib.Core.Path.{sym, _∙_}
 use native.Mathlib.Omega.{arith}
-use Rattle.definition.specs.Types.{malformed, unknown-name, doubled-reference}
-use Rattle.definition.specs.Step.{number-of-refusal}
-use Rattle.fields.specs.declared.Whole.the-variants.{Malformed, Unknown, Doubled}
 use Rattle.answer.proofs.Calls.{grown-above}
-use Rattle.step.proofs.Stepping.{reading-arities, steps-stopped, steps-full, steps-over, steps-run, begins, placed-in}
+use Rattle.step.proofs.Stepping.{reading-arities, runs, steps-refused, steps-run, begins, placed-in}
 use borrow.Author.Needs.{needs}
 use Rattle.step.proofs.step_trusted.Statement.{statement}
 use Rattle.step.proofs.step_trusted.Tie as tie
@@ -18,210 +15,91 @@ read-record-requires c κs =
     let pre = c .before .before .before .before .before .before .before .before .before .before .pre in
     (pre .0 .0 .lay, (reading-arities (pre .0 .0), pre .0 .1 .1 .0))
 
+place-after-requires : tie.Need-place-after-requires
+place-after-requires c κs = search needs
+
 left-over-requires : tie.Need-left-over-requires
 left-over-requires c κs = search needs
 
-enum-told : tie.Need-enum-told
-enum-told c = search needs
+outcome-of-requires : tie.Need-outcome-of-requires
+outcome-of-requires c κs = search needs
+
+enum-known-o : tie.Need-enum-known-o
+enum-known-o c = search needs
 
 refuse-requires : tie.Need-refuse-requires
 refuse-requires c κs =
-    let c12 = c .before .before .before .before .before .before .before .before .before .before .before .before in
-    let pre = c12 .before .before .before .before .before .before .before .pre in
-    let saved = c .before .before .before .before .before .before .before .before .before .before .before .saved in
-    let read-record = c .before .before .before .before .before .before .before .before .read-record in
-    let r = read-record .ensures in
+    let pre = c .before .before .before .before .before .before .before .before .before .before .before .before .before .before .before .before .before .before .before .before .before .before .pre in
+    let saved = c .before .before .before .before .before .before .before .before .before .before .before .before .before .before .saved in
+    let r = c .before .before .before .before .before .before .before .before .before .before .before .read-record .ensures in
     (r .lay, (grown-above _ _ _ _ (r .grown), omega (arith, saved .given, pre .0 .1 .1 .1 .0)))
 
 with-next-requires : tie.Need-with-next-requires
 with-next-requires c κs = search needs
 
-enum-told-2 : tie.Need-enum-told-2
-enum-told-2 c = search needs
-
-refuse-requires-2 : tie.Need-refuse-requires-2
-refuse-requires-2 c κs =
-    let c12 = c .before .before .before .before .before .before .before .before .before .before .before .before in
-    let pre = c12 .before .before .before .before .before .before .before .pre in
-    let saved = c .before .before .before .before .before .before .before .before .before .before .before .saved in
-    let read-record = c .before .before .before .before .before .before .before .before .read-record in
-    let r = read-record .ensures in
-    (r .lay, (grown-above _ _ _ _ (r .grown), omega (arith, saved .given, pre .0 .1 .1 .1 .0)))
-
-with-next-requires-2 : tie.Need-with-next-requires-2
-with-next-requires-2 c κs = search needs
-
-enum-told-3 : tie.Need-enum-told-3
-enum-told-3 c = search needs
-
-refuse-requires-3 : tie.Need-refuse-requires-3
-refuse-requires-3 c κs =
-    let c12 = c .before .before .before .before .before .before .before .before .before .before .before .before in
-    let pre = c12 .before .before .before .before .before .before .before .pre in
-    let saved = c .before .before .before .before .before .before .before .before .before .before .before .saved in
-    let read-record = c .before .before .before .before .before .before .before .before .read-record in
-    let r = read-record .ensures in
-    (r .lay, (grown-above _ _ _ _ (r .grown), omega (arith, saved .given, pre .0 .1 .1 .1 .0)))
-
-with-next-requires-3 : tie.Need-with-next-requires-3
-with-next-requires-3 c κs = search needs
-
-enum-told-4 : tie.Need-enum-told-4
-enum-told-4 c = search needs
-
-seven-or-five-requires : tie.Need-seven-or-five-requires
-seven-or-five-requires c κs = search needs
-
-refuse-requires-4 : tie.Need-refuse-requires-4
-refuse-requires-4 c κs =
-    let c12 = c .before .before .before .before .before .before .before .before .before .before .before .before in
-    let pre = c12 .before .before .before .before .before .before .before .before .pre in
-    let saved = c12 .saved in
-    let read-record = c .before .before .before .before .before .before .before .before .before .read-record in
-    let r = read-record .ensures in
-    (r .lay, (grown-above _ _ _ _ (r .grown), omega (arith, saved .given, pre .0 .1 .1 .1 .0)))
-
-with-next-requires-4 : tie.Need-with-next-requires-4
-with-next-requires-4 c κs = search needs
-
-enum-known-read : tie.Need-enum-known-read
-enum-known-read c = search needs
-
-refuse-requires-5 : tie.Need-refuse-requires-5
-refuse-requires-5 c κs =
-    let c12 = c .before .before .before .before .before .before .before .before .before .before .before .before in
-    let pre = c12 .before .before .before .before .before .before .before .before .before .pre in
-    let saved = c12 .before .saved in
-    let read-record = c .before .before .before .before .before .before .before .before .before .before .read-record in
-    let r = read-record .ensures in
-    (r .lay, (grown-above _ _ _ _ (r .grown), omega (arith, saved .given, pre .0 .1 .1 .1 .0)))
-
-with-next-requires-5 : tie.Need-with-next-requires-5
-with-next-requires-5 c κs = search needs
-
-same-length : tie.Need-same-length
-same-length c = search needs
-
-same-length-2 : tie.Need-same-length-2
-same-length-2 c = c .before .before .before .before .before .before .before .before .before .before .before .before .before .before .before .before .before .saved .given
-
-returns : tie.Need-returns
-returns c =
-    let p = c .before .before .before .before .before .before .before .before .before .before .before .before .before .before .before .before .before .before .before .before .before .before .before .before .before .pre in
-    let v = c .before .before .before .before .before .before .before .before .before .before .before .before .before .before .before .before .before .before .save-vars .ensures in
-    let r = c .before .before .before .before .before .before .before .before .before .before .before .before .before .before .read-record .ensures in
-    let o = c .before .before .before .before .before .before .before .before .before .before .left-over .ensures in
-    steps-over _ _ (p .0 .0) (p .0 .1 .0) v r _ _ o _ (c .before .before .before .before .before .before .before .before .read .given .1) (c .before .before .before .before .before .before .if1 .taken) (c .before .before .before .refuse5 .ensures) _ (c .with-next5 .ensures)
+enum-known-o-2 : tie.Need-enum-known-o-2
+enum-known-o-2 c = search needs
 
 rows-after-requires : tie.Need-rows-after-requires
 rows-after-requires c κs = search needs
 
 answer-placed-requires : tie.Need-answer-placed-requires
 answer-placed-requires c κs =
-    let c12 = c .before .before .before .before .before .before .before .before .before .before .before .before in
-    let c24 = c12 .before .before .before .before .before .before .before .before .before .before .before .before in
-    let args = c24 .args in
-    let pre = c24 .pre in
-    let save-vars = c12 .before .before .before .before .before .save-vars in
-    let saved = c12 .before .before .before .before .saved in
-    let read-record = c12 .before .read-record in
-    let left-over = c .before .before .before .before .before .before .before .before .before .left-over in
-    let read = c .before .before .before .before .before .before .before .read in
-    let p = pre in
-    let v = save-vars .ensures in
+    let start = c .before .before .before .before .before .before .before .before .before .before .before .before .before .before .before .before .before .before .before .before .before .before .before .before .before in
+    let p = start .pre in
+    let v = c .before .before .before .before .before .before .before .before .before .before .before .before .before .before .before .before .before .before .save-vars .ensures in
+    let saved = c .before .before .before .before .before .before .before .before .before .before .before .before .before .before .before .before .before .saved in
+    let read-record = c .before .before .before .before .before .before .before .before .before .before .before .before .before .before .read-record in
     let r = read-record .ensures in
+    let left-over = c .before .before .before .before .before .before .before .before .before .left-over in
     let o = left-over .ensures in
-    let i = placed-in _ _ (p .0 .0) (p .0 .1 .0) v r (args .whole) _ o _ (read .given .1) in
-    let b = begins _ _ (p .0 .0) (p .0 .1 .0) v r (args .whole) _ o _ (read .given .1) in
-    ((r .lay, (i, (omega (arith, saved .given, p .0 .1 .1 .1 .0), p .0 .1 .1 .1 .1))), b)
+    let e = sym (c .before .before .before .before .before .before .o2 .given .1) ∙ c .before .before .before .before .before .before .before .before .outcome-of .ensures in
+    let k = runs (read-record .result .read) (left-over .result) _ e in
+    let i = placed-in _ _ (p .0 .0) (p .0 .1 .0) v r (start .args .whole) _ o _ (k .0) in
+    let n = begins _ _ (p .0 .0) (p .0 .1 .0) v r (start .args .whole) _ o _ (k .0) in
+    ((r .lay, (i, (omega (arith, saved .given, p .0 .1 .1 .1 .0), p .0 .1 .1 .1 .1))), n)
 
-with-next-requires-6 : tie.Need-with-next-requires-6
-with-next-requires-6 c κs = search needs
+with-next-requires-2 : tie.Need-with-next-requires-2
+with-next-requires-2 c κs = search needs
+
+same-length : tie.Need-same-length
+same-length c = c .before .before .w2 .given ∙ c .before .before .before .before .before .before .before .before .before .before .before .before .before .before .w .given
+
+same-length-2 : tie.Need-same-length-2
+same-length-2 c = c .before .before .before .before .before .before .before .before .before .before .before .before .before .before .before .before .before .before .saved .given
+
+returns : tie.Need-returns
+returns c =
+    let p = c .before .before .before .before .before .before .before .before .before .before .before .before .before .before .before .before .before .before .before .before .before .before .before .before .before .before .pre in
+    let v = c .before .before .before .before .before .before .before .before .before .before .before .before .before .before .before .before .before .before .before .save-vars .ensures in
+    let r = c .before .before .before .before .before .before .before .before .before .before .before .before .before .before .before .read-record .ensures in
+    let n = c .before .before .before .before .before .before .before .before .before .before .before .place-after .ensures in
+    let o = c .before .before .before .before .before .before .before .before .before .before .left-over .ensures in
+    let e = sym (c .before .before .before .before .before .before .before .o .given .1) ∙ c .before .before .before .before .before .before .before .before .before .outcome-of .ensures in
+    steps-refused _ _ (p .0 .0) (p .0 .1 .0) v r _ _ o (p .0 .1 .1 .0) n e (c .before .before .before .refuse .ensures) _ (c .with-next .ensures)
 
 same-length-3 : tie.Need-same-length-3
-same-length-3 c = search needs
+same-length-3 c = c .before .before .before .before .w3 .given ∙ c .before .before .before .before .before .before .before .before .before .before .before .before .before .before .before .before .before .before .before .w .given
 
 same-length-4 : tie.Need-same-length-4
-same-length-4 c = c .before .before .before .before .before .before .before .before .before .before .before .before .before .before .before .saved .given
-
-returns-2 : tie.Need-returns-2
-unfolding number-of-refusal
-returns-2 c =
-    let p = c .before .before .before .before .before .before .before .before .before .before .before .before .before .before .before .before .before .before .before .before .before .before .before .pre in
-    let v = c .before .before .before .before .before .before .before .before .before .before .before .before .before .before .before .before .save-vars .ensures in
-    let r = c .before .before .before .before .before .before .before .before .before .before .before .before .read-record .ensures in
-    steps-stopped _ _ (p .0 .0) (p .0 .1 .0) v r _ Malformed malformed (λ g t l. refl) (c .before .before .before .before .before .before .enum-told .given .1) (p .0 .1 .1 .0) (c .before .before .before .refuse .ensures) refl _ (c .with-next .ensures)
+same-length-4 c = c .before .before .before .before .before .before .before .before .before .before .before .before .before .before .before .before .before .before .before .before .before .before .before .saved .given
 
 same-length-5 : tie.Need-same-length-5
 same-length-5 c = search needs
 
-same-length-6 : tie.Need-same-length-6
-same-length-6 c = c .before .before .before .before .before .before .before .before .before .before .before .before .before .before .before .saved .given
-
-returns-3 : tie.Need-returns-3
-unfolding number-of-refusal
-returns-3 c =
-    let p = c .before .before .before .before .before .before .before .before .before .before .before .before .before .before .before .before .before .before .before .before .before .before .before .pre in
-    let v = c .before .before .before .before .before .before .before .before .before .before .before .before .before .before .before .before .save-vars .ensures in
-    let r = c .before .before .before .before .before .before .before .before .before .before .before .before .read-record .ensures in
-    steps-stopped _ _ (p .0 .0) (p .0 .1 .0) v r _ Unknown unknown-name (λ g t l. refl) (c .before .before .before .before .before .before .enum-told2 .given .1) (p .0 .1 .1 .0) (c .before .before .before .refuse2 .ensures) refl _ (c .with-next2 .ensures)
-
-same-length-7 : tie.Need-same-length-7
-same-length-7 c = search needs
-
-same-length-8 : tie.Need-same-length-8
-same-length-8 c = c .before .before .before .before .before .before .before .before .before .before .before .before .before .before .before .saved .given
-
-returns-4 : tie.Need-returns-4
-unfolding number-of-refusal
-returns-4 c =
-    let p = c .before .before .before .before .before .before .before .before .before .before .before .before .before .before .before .before .before .before .before .before .before .before .before .pre in
-    let v = c .before .before .before .before .before .before .before .before .before .before .before .before .before .before .before .before .save-vars .ensures in
-    let r = c .before .before .before .before .before .before .before .before .before .before .before .before .read-record .ensures in
-    steps-stopped _ _ (p .0 .0) (p .0 .1 .0) v r _ Doubled doubled-reference (λ g t l. refl) (c .before .before .before .before .before .before .enum-told3 .given .1) (p .0 .1 .1 .0) (c .before .before .before .refuse3 .ensures) refl _ (c .with-next3 .ensures)
-
-same-length-9 : tie.Need-same-length-9
-same-length-9 c = search needs
-
-same-length-10 : tie.Need-same-length-10
-same-length-10 c = c .before .before .before .before .before .before .before .before .before .before .before .before .before .before .before .before .saved .given
-
-returns-5 : tie.Need-returns-5
-returns-5 c =
-    let p = c .before .before .before .before .before .before .before .before .before .before .before .before .before .before .before .before .before .before .before .before .before .before .before .before .pre in
-    let v = c .before .before .before .before .before .before .before .before .before .before .before .before .before .before .before .before .before .save-vars .ensures in
-    let r = c .before .before .before .before .before .before .before .before .before .before .before .before .before .read-record .ensures in
-    let o = c .before .before .before .before .before .before .before .before .before .left-over .ensures in
-    steps-full _ _ (p .0 .0) (p .0 .1 .0) v r _ _ o (c .before .before .before .before .before .before .before .enum-told4 .given .1) (c .before .before .before .refuse4 .ensures) (c .before .before .before .before .seven-or-five .ensures) _ (c .with-next4 .ensures)
-
-same-length-11 : tie.Need-same-length-11
-same-length-11 c = c .before .before .before .before .w7 .given ∙ c .before .before .before .before .before .before .before .before .before .before .before .before .before .before .before .before .before .before .w .given
-
-same-length-12 : tie.Need-same-length-12
-same-length-12 c = c .before .before .before .before .before .before .before .before .before .before .before .before .before .before .before .before .before .before .before .before .before .before .saved .given
-
-same-length-13 : tie.Need-same-length-13
-same-length-13 c = search needs
-
-returns-6 : tie.Need-returns-6
-returns-6 c =
-    let c12 = c .before .before .before .before .before .before .before .before .before .before .before .before in
-    let c24 = c12 .before .before .before .before .before .before .before .before .before .before .before .before in
-    let pre = c24 .before .before .before .before .before .before .pre in
-    let save-vars = c12 .before .before .before .before .before .before .before .before .before .before .before .save-vars in
-    let read-record = c12 .before .before .before .before .before .before .before .read-record in
-    let left-over = c12 .before .before .before .left-over in
-    let read = c12 .before .read in
-    let if1 = c .before .before .before .before .before .before .before .before .before .before .before .if1 in
-    let rows-after = c .before .before .before .before .before .before .before .before .before .before .rows-after in
-    let answer-placed = c .before .before .before .before .before .answer-placed in
-    let p = pre in
-    let v = save-vars .ensures in
+returns-2 : tie.Need-returns-2
+returns-2 c =
+    let p = c .before .before .before .before .before .before .before .before .before .before .before .before .before .before .before .before .before .before .before .before .before .before .before .before .before .before .before .before .before .before .before .pre in
+    let v = c .before .before .before .before .before .before .before .before .before .before .before .before .before .before .before .before .before .before .before .before .before .before .before .before .save-vars .ensures in
+    let read-record = c .before .before .before .before .before .before .before .before .before .before .before .before .before .before .before .before .before .before .before .before .read-record in
     let r = read-record .ensures in
+    let n = c .before .before .before .before .before .before .before .before .before .before .before .before .before .before .before .before .place-after .ensures in
+    let left-over = c .before .before .before .before .before .before .before .before .before .before .before .before .before .before .before .left-over in
     let o = left-over .ensures in
-    let a = answer-placed .ensures in
-    steps-run _ _ (p .0 .0) (p .0 .1 .0) v r _ _ o _ (read .given .1) (if1 .left) (rows-after .ensures) a
-    (c .with-next6 .ensures)
+    let e = sym (c .before .before .before .before .before .before .before .before .before .before .before .before .o2 .given .1) ∙ c .before .before .before .before .before .before .before .before .before .before .before .before .before .before .outcome-of .ensures in
+    let k = runs (read-record .result .read) (left-over .result) _ e in
+    steps-run _ _ (p .0 .0) (p .0 .1 .0) v r _ _ o _ (k .0) (k .1) (p .0 .1 .1 .0) n (c .before .before .before .before .before .before .before .before .before .before .rows-after .ensures)
+    (c .before .before .before .before .before .answer-placed .ensures) (c .with-next2 .ensures)
 
 pub step-trusted-spec : {M : Type 1} → statement M
 step-trusted-spec =
@@ -229,42 +107,20 @@ step-trusted-spec =
     (tie.spec
     save-vars-requires
     read-record-requires
+    place-after-requires
     left-over-requires
-    enum-told
+    outcome-of-requires
+    enum-known-o
     refuse-requires
     with-next-requires
-    enum-told-2
-    refuse-requires-2
+    enum-known-o-2
+    rows-after-requires
+    answer-placed-requires
     with-next-requires-2
-    enum-told-3
-    refuse-requires-3
-    with-next-requires-3
-    enum-told-4
-    seven-or-five-requires
-    refuse-requires-4
-    with-next-requires-4
-    enum-known-read
-    refuse-requires-5
-    with-next-requires-5
     same-length
     same-length-2
     returns
-    rows-after-requires
-    answer-placed-requires
-    with-next-requires-6
     same-length-3
     same-length-4
-    returns-2
     same-length-5
-    same-length-6
-    returns-3
-    same-length-7
-    same-length-8
-    returns-4
-    same-length-9
-    same-length-10
-    returns-5
-    same-length-11
-    same-length-12
-    same-length-13
-    returns-6)
+    returns-2)

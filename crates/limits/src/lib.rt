@@ -1,0 +1,63 @@
+// What a call's buffer, bytes and log allow, and the numbers that end a job.
+ghost use mathlib.Core.Path.{_≡_};
+ghost use mathlib.Core.Bool.{not, _||_};
+ghost use mathlib.Core.List.{List};
+ghost use Prim.Native.Nat.{ℕ};
+ghost use lib.Dec.{leb};
+ghost use lib.ListN.{length};
+ghost use Rattle.definition.specs.Job.{ends-job};
+ghost use Rattle.pieces.specs.Pieces.{takes-on};
+use cursor::MAX_RECORD;
+
+// The fewest bytes that an answer's buffer has, the most that a line has, and the number that no record has.
+pub const MAX_BUFFER: usize = 4096;
+
+const MAX_LINE: usize = 8217;
+
+const MAX_PLACE: u64 = 18446744073709551615;
+
+// Whether an answer's buffer is long enough: else the call is 15.
+// Refused (must-fail/): 15 for a buffer of just 4,096 bytes (fifteen_at_4096).
+pub fn fits(buffer: usize) -> bool
+    ensures { λ r. ⌜ r ≡ leb 4096 buffer ⌝ }
+{
+    MAX_BUFFER <= buffer
+}
+
+// Whether a whole record is surely at hand: 4,096 bytes, or all that there are.
+// Refused: a record begun that may not be whole (cut_one_early).
+fn at_hand(left: usize, more: bool) -> bool
+    ensures { λ r. ⌜ r ≡ (not more || leb 4096 left) ⌝ }
+{
+    if more {
+        return MAX_RECORD <= left;
+    }
+    true
+}
+
+// Whether record `place` is taken on, with so many bytes at hand and so much room in the log.
+pub fn takes_on(place: u64, left: usize, room: usize, more: bool) -> bool
+    ensures { λ r. ⌜ ((bytes : List ℕ) → length bytes ≡ left → r ≡ takes-on place bytes room more) ⌝ }
+{
+    if !at_hand(left, more) {
+        return false;
+    }
+    if room < MAX_LINE {
+        return false;
+    }
+    place < MAX_PLACE
+}
+
+// 5, 6 and 18 end a job.
+// Refused: a job that goes on after 6 (six_goes_on) or after 18 (eighteen_goes_on).
+pub fn ends_job(number: u32) -> bool
+    ensures { λ r. ⌜ r ≡ ends-job number ⌝ }
+{
+    if number == 5 {
+        return true;
+    }
+    if number == 6 {
+        return true;
+    }
+    number == 18
+}
