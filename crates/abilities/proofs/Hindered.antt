@@ -13,6 +13,8 @@ use lib.Dec.{eqb}
 use borrow.Author.Tests.{eq-eqb, ne-eqb}
 use lib.ListN.{length, getD, drop, drop-of-length-le}
 use lib.Seq.{drop-cons}
+use denote.Enum.Declared.{tagOf}
+use types.Run.{OneOf}
 use Rattle.definition.specs.Types as d
 use Rattle.definition.specs.Types.{State, Struct, Constraint, Refusal, runs-into-itself, mark-contradicted, if_then_else_}
 use Rattle.definition.specs.Store.{any-of, with-structs}
@@ -25,7 +27,9 @@ use Rattle.table.specs.declared.Constraint.the-variants.{Ability}
 use Rattle.table.specs.State.{constraint-of, view, seen, Lay}
 use Rattle.table.specs.Known.{Known}
 use Rattle.table.specs.declared.Used.{Used}
+use Rattle.table.proofs.Constraint.{the-type}
 use Rattle.table.proofs.Pushed.{count-view, constraints-view, constraints-seen}
+use Rattle.shapes.proofs.Tags.{plain-tags, other-constraints}
 use Rattle.ready.specs.Itself.{Marked, Levels}
 use Rattle.ready.proofs.Itself.{reaches-is}
 use Rattle.abilities.specs.Kept.{Ends, Has-set, Kept, Inferred}
@@ -76,8 +80,17 @@ module _ {w : List ℕ} {u : Used} {t n : ℕ} (l : Levels w u t (u .nodes) n) w
 -- ---- any constraint
 
 -- one that asks for no abilities
-pub hindered-none : (w : List ℕ) (u : Used) (params : List (List ℕ)) (sets : List ℕ) (o : State → Option Refusal) (whole : List ℕ → Type 0) → Kept w u params sets → ((s : State) → o s ≡ none) → whole sets → Hindered w u params sets sets 0 o whole
+hindered-none : (w : List ℕ) (u : Used) (params : List (List ℕ)) (sets : List ℕ) (o : State → Option Refusal) (whole : List ℕ → Type 0) → Kept w u params sets → ((s : State) → o s ≡ none) → whole sets → Hindered w u params sets sets 0 o whole
 hindered-none w u params sets o whole k e x = record { kept = k; still = λ x y. y; number = clear; is = λ ds kn. e (seen w u ds); all = λ z. x }
+
+pub hindered-plain : (w : List ℕ) (u : Used) (params : List (List ℕ)) (sets : List ℕ) → Kept w u params sets → (c : table.Constraint) → OneOf plain-tags (tagOf the-type c)
+    → Hindered w u params sets sets 0 (λ s. constraint-hindrance s (constraint-of c)) (λ l. Asked-kept l (constraint-of c))
+unfolding constraint-hindrance
+hindered-plain w u params sets k = other-constraints (λ c. Hindered w u params sets sets 0 (λ s. constraint-hindrance s (constraint-of c)) (λ l. Asked-kept l (constraint-of c)))
+    (λ loc ty. none-asked) (λ loc ty. none-asked) (λ loc ty. none-asked) (λ loc ty. none-asked) (λ loc ty. none-asked)
+  where
+    none-asked : Hindered w u params sets sets 0 (λ s. none) (λ l. Unit {0})
+    none-asked = hindered-none w u params sets (λ s. none) (λ l. Unit {0}) k (λ s. refl) tt
 
 pub asked-node : (n : ℕ) (c : table.Constraint) (loc t : ℕ) (a : AbilitySet) → Asked-in n (constraint-of c) → c ≡ Ability loc t a → t < n
 asked-node n c loc t a h e = subst (λ (x : table.Constraint). Asked-in n (constraint-of x)) e h

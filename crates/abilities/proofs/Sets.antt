@@ -2,17 +2,19 @@
 -- First that the parts of a type whose reading ends have readings that end; then the table of sets (`Kept`); then the loop's invariant `Walked`: the sets of the parts before i are known.
 use mathlib.Core.Path.{_≡_, refl, sym, ap, _∙_, subst}
 use mathlib.Core.Bool.{Bool, true, false, not}
-use mathlib.Core.List.{List, []}
+use mathlib.Core.List.{List, [], _∷_}
 use Prim.Native.Nat.{ℕ, zero, suc, _+_, _-_, _≤_, _<_, _%_}
 use native.Mathlib.Nat.{not-suc-le-zero}
 use native.Mathlib.Decide.{ℕ-discrete, decLt}
 use native.Mathlib.Omega.{arith}
 use lib.ListN.{length, getD, set, length-set, replicate, length-replicate}
 use lib.Seq.{getD-set-same, getD-set-other}
+use denote.Enum.Declared.{tagOf}
+use types.Run.{OneOf}
 use Rattle.definition.specs.Types.{State, Struct}
 use Rattle.definition.specs.Store.{count, args-at, with-args, spanned, all-of}
 use Rattle.definition.specs.Subst.{parts, unfold-type, goes-on-to, ends-in, reaches-itself}
-use Rattle.definition.specs.Abilities.{infer-value, infer-abilities}
+use Rattle.definition.specs.Abilities.{infer-value, infer-abilities, declaration, rule}
 use Rattle.theorems.proofs.Inferred.{infer-is}
 use Rattle.names.specs.declared.Mark.{Mark}
 use Rattle.names.specs.declared.TypeName.{TypeName}
@@ -22,6 +24,8 @@ use Rattle.table.specs.Known.{Known}
 use Rattle.table.specs.declared.Used.{Used}
 use Rattle.table.specs.declared.Shape.{Shape}
 use Rattle.table.specs.declared.Shape.the-variants.{Apply}
+use Rattle.table.proofs.Shape.{the-type}
+use Rattle.shapes.proofs.Tags.{other-shapes}
 use Rattle.ready.specs.Itself.{Goes-on}
 use Rattle.subst.proofs.Laws.{count-seen}
 use Rattle.ready.proofs.Lists.{all-one}
@@ -188,3 +192,10 @@ module _ {w : List ℕ} {u : Used} {params : List (List ℕ)} {t : ℕ} {sets : 
         below-at : (x : ℕ) → Has-set (set sets t (256 + a)) x → (ds : List Struct) (j : ℕ) → j < length (goes-on-to (seen w u ds) x) → Dec (x ≡ t) → Has-set sets (getD (goes-on-to (seen w u ds) x) j 0)
         below-at x y ds j q (yes e) = rw e (p .known ds j (rw e at q))
         below-at x y ds j q (no e) = k .below x (was-known x e y) ds j q
+
+-- ---- the rule of a type that has no name
+
+pub rule-plain : (s : Shape) → OneOf (0 ∷ 1 ∷ 2 ∷ 4 ∷ 5 ∷ 6 ∷ []) (tagOf the-type s) → (st : State) (ability : ℕ) → declaration ≡ rule st ability (with-args st (shape-of s))
+unfolding rule with-args
+rule-plain = other-shapes (0 ∷ 1 ∷ 2 ∷ 4 ∷ 5 ∷ 6 ∷ []) (λ s. (st : State) (ability : ℕ) → declaration ≡ rule st ability (with-args st (shape-of s))) (λ st b. refl) (λ m t st b. refl)
+    (λ id a st b. refl) tt (λ v st b. refl) (λ st b. refl) (λ st b. refl)

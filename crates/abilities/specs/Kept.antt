@@ -12,13 +12,13 @@ use Rattle.table.specs.State.{shape-of, seen, Lay}
 use Rattle.table.specs.Known.{Known}
 use Rattle.table.specs.declared.Used.{Used}
 use Rattle.table.specs.declared.Shape.{Shape}
-use Rattle.subst.specs.Answers as subst
+use Rattle.shapes.specs.Parts as shapes
 
 abbrev pub parts-of : Shape → State → List ℕ
 parts-of sh s = parts (with-args s (shape-of sh))
 
 abbrev pub part-count : Shape → ℕ
-part-count sh = subst.part-count (shape-of sh)
+part-count sh = shapes.part-count (shape-of sh)
 
 -- reading node t is over in so many levels
 pub record Ends (w : List ℕ) (u : Used) (left t : ℕ) : Type 0 where

@@ -14,6 +14,7 @@ ghost use Rattle.names.specs.Names.{name-of};
 ghost use Rattle.table.specs.Rows.{places};
 ghost use Rattle.table.specs.State.{found, shape-of, constraint-of, view, seen, Lay, Declares};
 ghost use Rattle.table.specs.Known.{Known};
+ghost use Rattle.ready.specs.Ends.{Ends-known};
 ghost use Rattle.ready.specs.Itself.{Goes-on, Marked};
 ghost use Rattle.abilities.specs.Kept.{Has-set, Kept, Parts-kept, Ready, parts-of, part-count, Inferred, Ends};
 ghost use Rattle.abilities.specs.Rules.{rule-of, Place-in, Rule-in, misses, any-misses, clashes, Asked-in, Asked-kept, All-asked, All-kept, Hindered, asks-abilities, any-asks};
@@ -32,18 +33,12 @@ pub enum Rule {
     Contradicted,
 }
 
-fn wide(x: u32) -> usize
-    ensures { λ r. ⌜ r ≡ x ⌝ }
-{
-    x as usize
-}
-
 // The set kept for node t: 256 is added to a set that is known.
 fn kept(sets: &[u32], t: u32) -> AbilitySet
     requires { ⌜ (length (now sets) ≡ 2048) × (t < 2048) ⌝ }
     ensures { λ r. ⌜ r .0 ≡ getD (now (sets .entry)) t 0 % 256 ⌝ }
 {
-    let at = wide(t);
+    let at = shapes::wide(t);
     AbilitySet((sets[at] % 256) as u8)
 }
 
@@ -73,8 +68,8 @@ fn struct_counts(w: &[u32], u: Used, params: &[[u8; 8]; 256], s: u32, i: u32) ->
     if n <= i {
         return true;
     }
-    let at = wide(s);
-    let k = wide(i);
+    let at = shapes::wide(s);
+    let k = shapes::wide(i);
     if 256 <= at {
         return true;
     }
@@ -233,39 +228,49 @@ fn set_of(w: &[u32], u: Used, params: &[[u8; 8]; 256], s: Shape, sets: &[u32]) -
 }
 
 // The set of node t, the sets of whose parts are kept, is kept.
-fn keep_set(w: &[u32], u: Used, params: &[[u8; 8]; 256], t: u32, sets: &mut [u32])
+fn keep_set(w: &[u32], u: Used, params: &[[u8; 8]; 256], t: u32, ends: &[u32], sets: &mut [u32])
     requires { ⌜ Lay (now w) u × ((t < u .nodes) × (Kept (now w) u (now params) (now sets) × Parts-kept (now w) u t (now sets))) ⌝ }
+    requires { ⌜ Ends-known (now w) u (now ends) ⌝ }
     ensures { λ _. ⌜ Inferred (now (w .entry)) u (now (params .entry)) t (now (sets .entry)) (now (sets .exit)) ⌝ }
 {
-    let s = ready::goes_on(w, u, t);
+    let s = ready::goes_on(w, u, t, ends);
     let a = set_of(w, u, params, s, sets);
-    let at = wide(t);
+    let at = shapes::wide(t);
     sets[at] = 256 + table::bits(a);
 }
 
 // The set of node t, whose reading is over in `left` levels, is kept, and those of its parts. A level is a frame of the stack: keep_set is called
 // at two places so that it is not inlined, which keeps the frame small.
-pub fn infer(w: &[u32], u: Used, params: &[[u8; 8]; 256], t: u32, left: u32, sets: &mut [u32])
+fn infer(
+    w: &[u32],
+    u: Used,
+    params: &[[u8; 8]; 256],
+    t: u32,
+    left: u32,
+    ends: &[u32],
+    sets: &mut [u32],
+)
     requires { ⌜ Lay (now w) u × ((t < u .nodes) × (Ends (now w) u left t × Kept (now w) u (now params) (now sets))) ⌝ }
+    requires { ⌜ Ends-known (now w) u (now ends) ⌝ }
     ensures { λ _. ⌜ Inferred (now (w .entry)) u (now (params .entry)) t (now (sets .entry)) (now (sets .exit)) ⌝ }
 {
-    let at = wide(t);
+    let at = shapes::wide(t);
     if 256 <= sets[at] {
         return;
     }
-    let s = ready::goes_on(w, u, t);
-    let many = subst::part_count(s);
+    let s = ready::goes_on(w, u, t, ends);
+    let many = shapes::part_count(s);
     if many == 0 {
-        keep_set(w, u, params, t, sets);
+        keep_set(w, u, params, t, ends, sets);
         return;
     }
     let mut i: u32 = 0;
     while i < many {
-        let p = subst::part_at(w, u, s, i);
-        infer(w, u, params, p, left - 1, sets);
+        let p = shapes::part_at(w, u, s, i);
+        infer(w, u, params, p, left - 1, ends, sets);
         i = i + 1;
     }
-    keep_set(w, u, params, t, sets);
+    keep_set(w, u, params, t, ends, sets);
 }
 
 // ---- the rule that decided
@@ -315,13 +320,8 @@ pub fn shape_rule(
     ensures { λ r. ⌜ Rule-in r × ((ds : List d.Struct) → Known (now (w .entry)) u (now (params .entry)) ds → rule-of r ≡ rule (seen (now (w .entry)) u ds) ability (with-args (seen (now (w .entry)) u ds) (shape-of s))) ⌝ }
 {
     match s {
-        Shape::Unit => Rule::Declaration,
-        Shape::Ref(_, _) => Rule::Declaration,
-        Shape::Param(_, _) => Rule::Declaration,
         Shape::Apply(_, n, first, many) => apply_rule(w, u, params, n, first, many, ability, sets),
-        Shape::Var(_) => Rule::Declaration,
-        Shape::Anything => Rule::Declaration,
-        Shape::UnresolvedError => Rule::Declaration,
+        _ => Rule::Declaration,
     }
 }
 
@@ -433,15 +433,17 @@ fn any_contradicts(
     params: &[[u8; 8]; 256],
     t: u32,
     asked: AbilitySet,
+    ends: &[u32],
     sets: &[u32],
 ) -> bool
     requires { ⌜ Lay (now w) u × ((t < u .nodes) × (Kept (now w) u (now params) (now sets) × Has-set (now sets) t)) ⌝ }
+    requires { ⌜ Ends-known (now w) u (now ends) ⌝ }
     ensures { λ r. ⌜ ((ds : List d.Struct) → Known (now (w .entry)) u (now (params .entry)) ds → r ≡ any-of (clashes (seen (now (w .entry)) u ds) t) (missing (seen (now (w .entry)) u ds) t (asked .0))) ⌝ }
 {
     if !any_missing(w, u, params, t, asked, sets) {
         return false;
     }
-    let s = ready::goes_on(w, u, t);
+    let s = ready::goes_on(w, u, t, ends);
     shape_contradicts(w, u, params, t, s, asked, sets)
 }
 
@@ -454,18 +456,20 @@ fn ability_hinders(
     params: &[[u8; 8]; 256],
     t: u32,
     asked: AbilitySet,
-    marks: &mut [u32],
+    ends: &[u32],
+    marks: &mut [u16],
     sets: &mut [u32],
 ) -> u32
     requires { ⌜ Lay (now w) u × ((t < u .nodes) × (Marked (now w) u (now marks) × Kept (now w) u (now params) (now sets))) ⌝ }
+    requires { ⌜ Ends-known (now w) u (now ends) ⌝ }
     ensures { λ r. ⌜ Marked (now (w .entry)) u (now (marks .exit)) × Hindered (now (w .entry)) u (now (params .entry)) (now (sets .entry)) (now (sets .exit)) r (λ s. ability-hindrance s t (asked .0)) (λ l. Has-set l t) ⌝ }
 {
-    let n = ready::levels(w, u, t, u.nodes, marks);
+    let n = ready::levels(w, u, t, u.nodes, ends, marks);
     if n == 0 {
         return 9;
     }
-    infer(w, u, params, t, n, sets);
-    if any_contradicts(w, u, params, t, asked, sets) {
+    infer(w, u, params, t, n, ends, sets);
+    if any_contradicts(w, u, params, t, asked, ends, sets) {
         return 16;
     }
     0
@@ -476,44 +480,60 @@ fn hinder(
     u: Used,
     params: &[[u8; 8]; 256],
     c: Constraint,
-    marks: &mut [u32],
+    ends: &[u32],
+    marks: &mut [u16],
     sets: &mut [u32],
 ) -> u32
     requires { ⌜ Lay (now w) u × (Asked-in (u .nodes) (constraint-of c) × (Marked (now w) u (now marks) × Kept (now w) u (now params) (now sets))) ⌝ }
+    requires { ⌜ Ends-known (now w) u (now ends) ⌝ }
     ensures { λ r. ⌜ Marked (now (w .entry)) u (now (marks .exit)) × Hindered (now (w .entry)) u (now (params .entry)) (now (sets .entry)) (now (sets .exit)) r (λ s. constraint-hindrance s (constraint-of c)) (λ l. Asked-kept l (constraint-of c)) ⌝ }
 {
     match c {
-        Constraint::Ability(_, t, a) => ability_hinders(w, u, params, t, a, marks, sets),
-        Constraint::Numeric(_, _) => 0,
-        Constraint::Bits(_, _) => 0,
-        Constraint::Ordered(_, _) => 0,
-        Constraint::BaseType(_, _) => 0,
-        Constraint::SingleType(_, _) => 0,
+        Constraint::Ability(_, t, a) => ability_hinders(w, u, params, t, a, ends, marks, sets),
+        _ => 0,
     }
 }
 
 // The first 9 or 16 in list order, or 0. With 0 the set of each type that is asked for abilities is kept.
-pub fn hinders(
+fn first_hindrance(
     w: &[u32],
     u: Used,
     params: &[[u8; 8]; 256],
-    marks: &mut [u32],
+    ends: &[u32],
+    marks: &mut [u16],
     sets: &mut [u32],
 ) -> u32
     requires { ⌜ Lay (now w) u × (All-asked (view (now w) u) × (Marked (now w) u (now marks) × Kept (now w) u (now params) (now sets))) ⌝ }
+    requires { ⌜ Ends-known (now w) u (now ends) ⌝ }
     ensures { λ r. ⌜ Hindered (now (w .entry)) u (now (params .entry)) (now (sets .entry)) (now (sets .exit)) r (λ s. hindrance s (s .constraints)) (λ l. All-kept l (view (now (w .entry)) u .constraints)) ⌝ }
 {
     let n = u.constraints;
     let mut i: u32 = 0;
     while i < n {
         let c = table::constraint_at(w, u, i);
-        let h = hinder(w, u, params, c, marks, sets);
+        let h = hinder(w, u, params, c, ends, marks, sets);
         if 0 < h {
             return h;
         }
         i = i + 1;
     }
     0
+}
+
+// .. The ends of all chains are noted first.
+pub fn hinders(
+    w: &[u32],
+    u: Used,
+    params: &[[u8; 8]; 256],
+    marks: &mut [u16],
+    sets: &mut [u32],
+) -> u32
+    requires { ⌜ Lay (now w) u × (All-asked (view (now w) u) × (Marked (now w) u (now marks) × Kept (now w) u (now params) (now sets))) ⌝ }
+    ensures { λ r. ⌜ Hindered (now (w .entry)) u (now (params .entry)) (now (sets .entry)) (now (sets .exit)) r (λ s. hindrance s (s .constraints)) (λ l. All-kept l (view (now (w .entry)) u .constraints)) ⌝ }
+{
+    let mut ends: [u32; 1024] = [0; 1024];
+    ready::note_ends(w, u, &mut ends);
+    first_hindrance(w, u, params, &ends, marks, sets)
 }
 
 // ---- whether any of this is asked
@@ -523,11 +543,7 @@ fn asks_abilities(c: Constraint) -> bool
 {
     match c {
         Constraint::Ability(_, _, _) => true,
-        Constraint::Numeric(_, _) => false,
-        Constraint::Bits(_, _) => false,
-        Constraint::Ordered(_, _) => false,
-        Constraint::BaseType(_, _) => false,
-        Constraint::SingleType(_, _) => false,
+        _ => false,
     }
 }
 

@@ -6,12 +6,11 @@ ghost use Prim.Native.Nat.{ℕ, _+_, _*_, _≤_, _<_};
 ghost use lib.ListN.{length, getD};
 ghost use Rattle.definition.specs.Types as d;
 ghost use Rattle.definition.specs.Types.{BaseTypeConstraint, SingleTypeConstraint};
-ghost use Rattle.definition.specs.Store.{with-args};
 ghost use Rattle.definition.specs.Subst.{unfold-type};
 ghost use Rattle.definition.specs.Constraints.{undecided, num-vars, default-num-var, default-num-vars};
 ghost use Rattle.definition.specs.Step.{numeric-constraint};
 ghost use Rattle.table.specs.Rows.{read-option};
-ghost use Rattle.table.specs.State.{shape-of, constraint-of, found, seen, Lay, Changed, After, Wrote, pushed-constraint};
+ghost use Rattle.table.specs.State.{constraint-of, found, seen, Lay, Changed, After, Wrote, pushed-constraint};
 ghost use Rattle.subst.specs.Answers.{var-at};
 ghost use Rattle.snap.specs.Snap.{Saved};
 ghost use Rattle.constraints.specs.Emptied.{First, Emptied};
@@ -67,21 +66,6 @@ pub fn single_type_constraint(w: &mut [u32], u: Used, loc: u32, ty: u32) -> Step
 
 // ---- numeric variables that nothing decides become u64
 
-// UnresolvedError | Anything
-fn undecided(s: Shape) -> bool
-    ensures { λ r. ⌜ ((st : d.State) → r ≡ undecided (with-args st (shape-of s))) ⌝ }
-{
-    match s {
-        Shape::Unit => false,
-        Shape::Ref(_, _) => false,
-        Shape::Param(_, _) => false,
-        Shape::Apply(_, _, _, _) => false,
-        Shape::Var(_) => false,
-        Shape::Anything => true,
-        Shape::UnresolvedError => true,
-    }
-}
-
 fn undecided_var(w: &[u32], u: Used, num_var: TVar, loc: u32) -> bool
     requires { ⌜ Lay (now w) u ⌝ }
     ensures { λ r. ⌜ ((ds : List d.Struct) → r ≡ undecided (unfold-type (seen (now (w .entry)) u ds) (var-at loc («num_var» .0)) .value)) ⌝ }
@@ -90,7 +74,7 @@ fn undecided_var(w: &[u32], u: Used, num_var: TVar, loc: u32) -> bool
         Unfolded::Node(t) => {
             let n = table::node_at(w, u, t);
             let s = n.shape;
-            undecided(s)
+            shapes::undecided(s)
         }
         Unfolded::Anything(_) => true,
     }

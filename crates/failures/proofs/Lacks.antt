@@ -18,6 +18,7 @@ use Rattle.definition.specs.Write.{Bytes, each}
 use Rattle.names.specs.declared.AbilitySet.{AbilitySet}
 use Rattle.table.specs.declared.Constraint.{Constraint}
 use Rattle.table.proofs.Constraint.{the-type}
+use Rattle.shapes.proofs.Tags.{plain-tags}
 use Rattle.table.specs.declared.Constraint.the-variants.{Ability, Numeric, Bits, Ordered, BaseType, SingleType}
 use Rattle.table.specs.State.{node-of, shape-of, constraint-of, seen, Lay}
 use Rattle.table.specs.Known.{Known}
@@ -122,10 +123,6 @@ row-first s c r ability h e = rw (eq-eqb ability 1 e) h
 
 pub row-after : (s : State) (c : d.Constraint) (ability : ℕ) → (ability ≡ 1 → ⊥) → [] ≡ (if eqb ability 1 then plain s c else [])
 row-after s c ability e = rw (ne-eqb ability 1 e) refl
-
--- the tags of the constraints that ask for no abilities
-abbrev pub plain-tags : List ℕ
-plain-tags = 1 ∷ 2 ∷ 3 ∷ 4 ∷ 5 ∷ []
 
 -- a constraint that asks for no abilities
 module _ (w : List ℕ) (u : Used) (params : List (List ℕ)) (r : Failing) where

@@ -8,8 +8,8 @@ ghost use lib.Dec.{eqb};
 ghost use Rattle.definition.specs.Types as d;
 ghost use Rattle.definition.specs.Types.{if_then_else_};
 ghost use Rattle.definition.specs.Store.{with-args, spanned};
-ghost use Rattle.definition.specs.Join.{is-numeric, is-multiple};
-ghost use Rattle.definition.specs.Constraints.{is-integer, is-base, is-single, by-rule};
+ghost use Rattle.definition.specs.Join.{is-multiple};
+ghost use Rattle.definition.specs.Constraints.{is-base, is-single, by-rule};
 ghost use Rattle.names.specs.Names.{name-of};
 ghost use Rattle.table.specs.State.{shape-of, constraint-of, seen, Lay};
 ghost use Rattle.abilities.specs.Kept.{Has-set, Kept};
@@ -40,51 +40,12 @@ pub enum Failing {
     Lacks(u32, u8, u32, Found),
 }
 
-fn is_numeric(n: TypeName) -> bool
-    ensures { λ r. ⌜ r ≡ is-numeric (name-of n) ⌝ }
-{
-    match n {
-        TypeName::Multiple(_) => false,
-        TypeName::Builtin(b) => names::is_numeric(b),
-        TypeName::ModuleType(_) => false,
-    }
-}
-
 fn not_multiple(n: TypeName) -> bool
     ensures { λ r. ⌜ r ≡ not (is-multiple (name-of n)) ⌝ }
 {
     match n {
         TypeName::Multiple(_) => false,
-        TypeName::Builtin(_) => true,
-        TypeName::ModuleType(_) => true,
-    }
-}
-
-fn is_integer(s: Shape) -> bool
-    ensures { λ r. ⌜ ((st : d.State) → r ≡ is-integer (with-args st (shape-of s))) ⌝ }
-{
-    match s {
-        Shape::Unit => false,
-        Shape::Ref(_, _) => false,
-        Shape::Param(_, _) => false,
-        Shape::Apply(_, n, _, _) => is_numeric(n),
-        Shape::Var(_) => false,
-        Shape::Anything => false,
-        Shape::UnresolvedError => false,
-    }
-}
-
-fn is_base(s: Shape) -> bool
-    ensures { λ r. ⌜ ((st : d.State) → r ≡ is-base (with-args st (shape-of s))) ⌝ }
-{
-    match s {
-        Shape::Unit => false,
-        Shape::Ref(_, _) => false,
-        Shape::Param(_, _) => true,
-        Shape::Apply(_, n, _, _) => not_multiple(n),
-        Shape::Var(_) => true,
-        Shape::Anything => true,
-        Shape::UnresolvedError => true,
+        _ => true,
     }
 }
 
@@ -93,12 +54,17 @@ fn is_single(s: Shape) -> bool
 {
     match s {
         Shape::Unit => false,
-        Shape::Ref(_, _) => true,
-        Shape::Param(_, _) => true,
         Shape::Apply(_, n, _, _) => not_multiple(n),
-        Shape::Var(_) => true,
-        Shape::Anything => true,
-        Shape::UnresolvedError => true,
+        _ => true,
+    }
+}
+
+fn is_base(s: Shape) -> bool
+    ensures { λ r. ⌜ ((st : d.State) → r ≡ is-base (with-args st (shape-of s))) ⌝ }
+{
+    match s {
+        Shape::Ref(_, _) => false,
+        _ => is_single(s),
     }
 }
 
@@ -106,7 +72,7 @@ fn good(code: u32, s: Shape) -> bool
     ensures { λ r. ⌜ ((st : d.State) → r ≡ good code (with-args st (shape-of s))) ⌝ }
 {
     if code == 1 {
-        return is_integer(s);
+        return shapes::is_integer(s);
     }
     if code == 2 {
         return is_base(s);

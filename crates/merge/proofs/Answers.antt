@@ -8,14 +8,11 @@ use lib.Dec.{ltb}
 use lib.ListN.{length, length-append}
 use Rattle.definition.specs.Types.{State, Struct, Result, ok, err, refused, _>>=_, if_then_else_, max-vars}
 use Rattle.definition.specs.Store.{count, taken, get, node, loc-of, type-at, with-args, with-structs, next-tvar}
-use Rattle.definition.specs.Subst.{is-anything}
 use Rattle.table.specs.Rows.{node-table}
-use Rattle.table.specs.State.{Lay, Grown, Changed, Nodes-in, Var-in, outcome, seen, view, done, found, node-of, shape-of, value-of}
+use Rattle.table.specs.State.{Lay, Grown, Changed, Nodes-in, Var-in, outcome, seen, view, done, found, node-of, shape-of}
 use Rattle.table.specs.declared.Step.{Step}
 use Rattle.table.specs.declared.Used.{Used}
 use Rattle.table.specs.declared.Node.{Node}
-use Rattle.table.specs.declared.Shape.{Shape}
-use Rattle.table.specs.declared.Shape.the-variants.{Unit as UnitS, Ref, Param, Apply, Var, Anything, UnresolvedError}
 use Rattle.table.specs.declared.Out.{Out}
 use Rattle.table.specs.declared.Out.the-variants.{Done}
 use Rattle.table.specs.declared.Found.{Found}
@@ -91,13 +88,3 @@ loc-is s t n e = ap (λ (m : _). m .loc) e
 pub value-is : (s : State) (t : ℕ) (n : Node) → node-of n ≡ node s t → with-args s (shape-of (n .shape)) ≡ type-at s t
 unfolding type-at
 value-is s t n e = ap (λ (m : _). with-args s (m .value)) e
-
-pub anything-is : (s : State) (x : Shape) → is-anything (with-args s (shape-of x)) ≡ is-anything (value-of x)
-unfolding is-anything with-args
-anything-is s UnitS = refl
-anything-is s (Ref m t) = refl
-anything-is s (Param id a) = refl
-anything-is s (Apply k n first many) = refl
-anything-is s (Var v) = refl
-anything-is s Anything = refl
-anything-is s UnresolvedError = refl

@@ -7,14 +7,14 @@ use Prim.Native.Nat.{ℕ, _+_, _≤_, _<_}
 use native.Mathlib.Omega.{arith}
 use Rattle.definition.specs.Types as d
 use Rattle.definition.specs.Types.{State, Struct, Result, ok, err, _>>=_, if_then_else_}
-use Rattle.definition.specs.Store.{get, node, num-loc, insert, sp, next-tvar}
+use Rattle.definition.specs.Store.{get, node, with-args, num-loc, insert, sp, next-tvar}
 use Rattle.definition.specs.Subst.{is-anything, forward-tvar, set-num-var}
 use Rattle.definition.specs.Join.{type-of, merge-num, shown, join-bind-tvar, join-unbound}
 use Rattle.names.specs.declared.TVar.{TVar}
 use Rattle.subst.specs.Answers.{bound, Binds}
 use Rattle.subst.specs.declared.Binding.{Binding}
 use Rattle.subst.specs.declared.Binding.the-variants.{Bound, Failed as FailedB, Recursive as RecursiveB}
-use Rattle.table.specs.State.{Lay, Changed, After, Stored, Nodes-in, outcome, seen, view, done, found, node-of, value-of}
+use Rattle.table.specs.State.{Lay, Changed, After, Stored, Nodes-in, outcome, seen, view, done, found, node-of, shape-of}
 use Rattle.table.specs.declared.Step.{Step}
 use Rattle.table.specs.declared.Used.{Used}
 use Rattle.table.specs.declared.Node.{Node}
@@ -28,7 +28,7 @@ use Rattle.merge.specs.Merge.{Inner, open-ends, open-types, open-tvar, o
 use Rattle.merge.specs.declared.Open.{Open}
 use Rattle.merge.specs.declared.Opened.the-variants.{Ready, Stop}
 use Rattle.merge.specs.declared.Meet.the-variants.{Is, Merge}
-use Rattle.merge.proofs.Answers.{then-is, node-in, next-stop-in, nodes-grow, loc-is, value-is, anything-is}
+use Rattle.merge.proofs.Answers.{then-is, node-in, next-stop-in, nodes-grow, loc-is, value-is}
 
 -- what f says of the words at hand, said otherwise
 pub after-seen : {w : List ℕ} {u : Used} {w′ : List ℕ} {r : Step} {f : State → Result (State × ℕ)} (g : State → Result (State × ℕ))
@@ -194,13 +194,13 @@ module _ (w : List ℕ) (u : Used) (n1 n2 : Found) (v : ℕ) where
 
 -- ---- showing
 
-pub shown-var : (s : State) (ty id : ℕ) (n : Node) (b : Bool) → node-of n ≡ node s ty → b ≡ is-anything (value-of (n .shape)) → b ≡ true → sp s (n .loc) (d.Var id) ≡ shown s ty id
+pub shown-var : (s : State) (ty id : ℕ) (n : Node) (b : Bool) → node-of n ≡ node s ty → ((st : State) → b ≡ is-anything (with-args st (shape-of (n .shape)))) → b ≡ true → sp s (n .loc) (d.Var id) ≡ shown s ty id
 unfolding shown
-shown-var s ty id n b e p q = rw (← value-is s ty n e, anything-is s (n .shape), ← p, q, ← loc-is s ty n e)
+shown-var s ty id n b e p q = rw (← value-is s ty n e, ← p s, q, ← loc-is s ty n e)
 
-pub shown-same : (s : State) (ty id : ℕ) (n : Node) (b : Bool) → node-of n ≡ node s ty → b ≡ is-anything (value-of (n .shape)) → b ≡ false → outcome (Done ty) s ≡ shown s ty id
+pub shown-same : (s : State) (ty id : ℕ) (n : Node) (b : Bool) → node-of n ≡ node s ty → ((st : State) → b ≡ is-anything (with-args st (shape-of (n .shape)))) → b ≡ false → outcome (Done ty) s ≡ shown s ty id
 unfolding shown outcome
-shown-same s ty id n b e p q = rw (← value-is s ty n e, anything-is s (n .shape), ← p, q)
+shown-same s ty id n b e p q = rw (← value-is s ty n e, ← p s, q)
 
 module _ (ty1 id1 ty2 id2 : ℕ) where
   abbrev show-second : ℕ → State × ℕ → Result (State × ℕ)

@@ -3,8 +3,7 @@
 ghost use mathlib.Core.Path.{_≡_};
 ghost use Prim.Native.Nat.{ℕ, _<_};
 ghost use Rattle.definition.specs.Join.{type-of, merge-num, shown, join-unbound};
-ghost use Rattle.definition.specs.Subst.{is-anything};
-ghost use Rattle.table.specs.State.{Lay, After, Stored, found, value-of};
+ghost use Rattle.table.specs.State.{Lay, After, Stored, found};
 ghost use Rattle.merge.specs.Merge.{open-ends, open-tvar, show-both, close-tvar, meet-tvar, Opens, Meets};
 use names::TVar;
 use subst::Binding;
@@ -155,20 +154,6 @@ pub fn open_tvar(w: &mut [u32], u: Used, loc1: u32, id1: TVar, loc2: u32, id2: T
     )
 }
 
-fn is_anything(s: Shape) -> bool
-    ensures { λ r. ⌜ r ≡ is-anything (value-of s) ⌝ }
-{
-    match s {
-        Shape::Unit => false,
-        Shape::Ref(_, _) => false,
-        Shape::Param(_, _) => false,
-        Shape::Apply(_, _, _, _) => false,
-        Shape::Var(_) => false,
-        Shape::Anything => true,
-        Shape::UnresolvedError => false,
-    }
-}
-
 // An operand's type as an error shows it: the variable where it is `_`.
 fn shown(w: &mut [u32], u: Used, ty: u32, id: TVar) -> Step
     requires { ⌜ Lay (now w) u × (ty < u .nodes) ⌝ }
@@ -176,7 +161,7 @@ fn shown(w: &mut [u32], u: Used, ty: u32, id: TVar) -> Step
 {
     let n = table::node_at(w, u, ty);
     let s = n.shape;
-    if is_anything(s) {
+    if shapes::is_anything(s) {
         return table::push_node(w, u, n.loc, Shape::Var(id));
     }
     Step {

@@ -410,15 +410,7 @@ pub fn read_head(w: &[u32], u: Used, b: &[u8], end: usize, at: usize, known: u32
 pub fn part_count(shape: Shape) -> usize
     ensures { λ r. ⌜ r ≡ many-parts shape ⌝ }
 {
-    match shape {
-        Shape::Unit => 0,
-        Shape::Ref(_, _) => 1,
-        Shape::Param(_, _) => 0,
-        Shape::Apply(_, _, _, many) => many as usize,
-        Shape::Var(_) => 0,
-        Shape::Anything => 0,
-        Shape::UnresolvedError => 0,
-    }
+    shapes::wide(shapes::part_count(shape))
 }
 
 // The node of a type whose parts are placed, unless space has ended.

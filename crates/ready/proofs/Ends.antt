@@ -15,10 +15,10 @@ use Rattle.table.specs.State.{seen, Lay}
 use Rattle.table.specs.declared.Used.{Used}
 use Rattle.table.specs.declared.Step.{Step}
 use Rattle.table.specs.declared.Out.{Out}
-use Rattle.subst.specs.Answers.{next}
-use Rattle.ready.specs.Ends.{Ends-by, Noted, Meets, Known}
-use Rattle.subst.specs.declared.Next.{Next}
-use Rattle.subst.specs.declared.Next.the-variants.{Last, To}
+use Rattle.shapes.specs.Parts.{next}
+use Rattle.ready.specs.Ends.{Ends-by, Noted, Meets, Ends-known}
+use Rattle.shapes.specs.declared.Next.{Next}
+use Rattle.shapes.specs.declared.Next.the-variants.{Last, To}
 use Rattle.ready.specs.declared.Meeting.{Meeting}
 use Rattle.ready.specs.declared.Meeting.the-variants.{End, Never}
 use Rattle.subst.proofs.Laws.{taken-seen, forward-none, forward-some}
@@ -80,7 +80,7 @@ module _ {w : List ℕ} {u : Used} where
       by y p (yes e) (no l) = let z = set-out ends v x (omega arith) in rw z (t .ends-by y (rw z at p))
       by y p (no e) l = let z = getD-set-other ends v y x 0 e in rw z (t .ends-by y (rw z at p))
 
-  pub known-all : (n : ℕ) (ends : List ℕ) → Noted w u n ends → n ≤ u .vars → Known w u ends
+  pub known-all : (n : ℕ) (ends : List ℕ) → Noted w u n ends → n ≤ u .vars → Ends-known w u ends
   unfolding forward-tvar
   known-all n ends t h = record { short = λ v. low v (decLt 0 (getD ends v 0)); is = λ v p ds. whole v p ds }
     where
@@ -91,7 +91,7 @@ module _ {w : List ℕ} {u : Used} where
       whole : (v : ℕ) → 0 < getD ends v 0 → (ds : List Struct) → getD ends v 0 - 1 ≡ forward-tvar (seen w u ds) v
       whole v p ds = sym (rw (taken-seen w u ds) (by-more (u .vars) (t .ends-by v p) h .is ds))
 
-  pub known-none : (n : ℕ) → Known w u (replicate n 0)
+  pub known-none : (n : ℕ) → Ends-known w u (replicate n 0)
   known-none n = record { short = λ v. let z = zero-at n v (decLt v n) in omega arith; is = λ v p ds. absurd (let z = zero-at n v (decLt v n) in omega arith) }
 
 -- ---- going along a chain

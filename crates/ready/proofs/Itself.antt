@@ -19,7 +19,8 @@ use Rattle.table.specs.declared.Used.{Used}
 use Rattle.table.specs.declared.Node.{Node}
 use Rattle.table.specs.declared.Shape.{Shape}
 use Rattle.table.specs.declared.Shape.the-variants.{Anything as AnythingS}
-use Rattle.subst.specs.Answers.{part-count, unfolded, Unfolded-in, Unfolds}
+use Rattle.shapes.specs.Parts.{part-count}
+use Rattle.subst.specs.Answers.{unfolded, Unfolded-in, Unfolds}
 use Rattle.ready.specs.Itself.{Goes-on, Higher, Ends-at, Marked, Levels, Soon}
 use Rattle.subst.specs.declared.Unfolded.{Unfolded}
 use Rattle.subst.specs.declared.Unfolded.the-variants.{Node as NodeU, Anything}

@@ -11,6 +11,8 @@ use native.Mathlib.Omega.{arith}
 use lib.Dec.{ltb, leb}
 use lib.ListN.{length, getD, set, take, drop, length-set, length-take, length-drop, length-append, drop-of-length-le, List·getD-append}
 use lib.Seq.{take-append-le, drop-append-le, drop-cons, take-suc-set, getD-take, getD-set-same, getD-set-other}
+use denote.Enum.Declared.{tagOf}
+use types.Run.{OneOf}
 use Rattle.definition.specs.Types as d
 use Rattle.definition.specs.Types.{State, Struct, Places, Result, ok, err, refused, full, _>>=_, if_then_else_, max-nodes, max-args}
 use Rattle.definition.specs.Store.{count, taken, node, nowhere, args-at, with-args, type-at, loc-of, get, sp, map-types, with-structs, with-node, args-of}
@@ -31,10 +33,12 @@ use Rattle.table.specs.declared.Found.the-variants.{Nothing, Just}
 use Rattle.table.specs.declared.Out.{Out}
 use Rattle.table.specs.declared.Out.the-variants.{Done, Refused}
 use Rattle.table.specs.declared.Refusal.the-variants.{RunsIntoItself}
+use Rattle.table.proofs.Shape.{the-type}
 use Rattle.table.proofs.Rows.{length-entries}
 use Rattle.table.proofs.Steps.{grown-refl, grown-trans, after-now, after-stop, done-is}
-use Rattle.subst.specs.Answers.{part-count}
-use Rattle.ready.specs.Ends.{Known}
+use Rattle.shapes.specs.Parts.{part-count}
+use Rattle.shapes.proofs.Tags.{other-shapes}
+use Rattle.ready.specs.Ends.{Ends-known}
 use Rattle.ready.specs.Ready.{rebuilt, rebuilt-at, by-parts, by-parts-at, Has-parts, onward-of, Onward-in, Goes, landed, Landing-in, Lands}
 use Rattle.ready.specs.declared.Onward.{Onward}
 use Rattle.ready.specs.declared.Onward.the-variants.{Parts, Open, Bound}
@@ -193,6 +197,11 @@ module _ {w : List ℕ} {u : Used} {t calls at left : ℕ} (c : Coming w u t cal
         }
 
 -- ---- the type anew
+
+pub rebuilt-plain : (s : Shape) → OneOf (0 ∷ 2 ∷ 4 ∷ 5 ∷ 6 ∷ []) (tagOf the-type s) → (t : ℕ) (tys : List ℕ) (st : State) (loc : ℕ) → ok (st, t) ≡ rebuilt st t loc (with-args st (shape-of s)) tys
+unfolding rebuilt with-args
+rebuilt-plain = other-shapes (0 ∷ 2 ∷ 4 ∷ 5 ∷ 6 ∷ []) (λ s. (t : ℕ) (tys : List ℕ) (st : State) (loc : ℕ) → ok (st, t) ≡ rebuilt st t loc (with-args st (shape-of s)) tys)
+    (λ t tys st loc. refl) tt (λ id a t tys st loc. refl) tt (λ v t tys st loc. refl) (λ t tys st loc. refl) (λ t tys st loc. refl)
 
 module _ (w : List ℕ) (u : Used) (t : ℕ) (h : Lay w u) (i : t < u .nodes) (n : Node) (e : (ds : List Struct) → node-of n ≡ node (seen w u ds) t) where
   pub part-of : (j r : ℕ) → ((ds : List Struct) → j < part-count (shape-of (n .shape)) → r ≡ getD (parts (with-args (seen w u ds) (shape-of (n .shape)))) j 0)
@@ -359,7 +368,7 @@ module _ (w₀ : List ℕ) (u : Used) (w : List ℕ) (cur : Used) (h : Lay w₀ 
   unfolding forward-tvar
   end-kept ds v = ap (λ (n : ℕ). forward n (seen w cur ds) v) (ap (λ (l : List d.Cell). length l) (k ds)) ∙ forward-kept (taken (seen w₀ u ds)) ds v
 
-  known-kept : (ends : List ℕ) → Known w₀ u ends → Known w cur ends
+  known-kept : (ends : List ℕ) → Ends-known w₀ u ends → Ends-known w cur ends
   known-kept ends t = record { short = t .short; is = λ v p ds. t .is v p ds ∙ sym (end-kept ds v) }
 
 -- ---- the parts, one after the other
@@ -582,7 +591,7 @@ module _ {w₀ : List ℕ} {u : Used} {t many left : ℕ} {w tys : List ℕ} {cu
           below-more j k (no q) = rw (getD-set-other tys i j x 0 q) (let p = g .done-parts .below j (omega arith) in let m = nodes-grow w cur w₁ (a .used) (f .changed .grown) in omega arith)
 
       -- what is noted of the ends still holds
-      pub going-known : (x : ℕ) → b ≡ Just x → (ends : List ℕ) → Known w cur ends → Known w₁ (a .used) ends
+      pub going-known : (x : ℕ) → b ≡ Just x → (ends : List ℕ) → Ends-known w cur ends → Ends-known w₁ (a .used) ends
       going-known x y ends = known-kept w cur w₁ (a .used) (g .lay) (f .changed .grown) (λ ds. vars-same left (seen w cur ds) (seen w₁ (a .used) ds) p x (made x y ds)) ends
 
 -- ---- a landing

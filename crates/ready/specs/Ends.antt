@@ -28,6 +28,6 @@ Meets w u v longest (End x long) = (longest ≤ long) × ((long ≤ u .vars) × 
 Meets w u v longest Never = Unit {0}
 
 -- a number that is noted is one more than what forward-tvar gives
-pub record Known (w : List ℕ) (u : Used) (ends : List ℕ) : Type 0 where
+pub record Ends-known (w : List ℕ) (u : Used) (ends : List ℕ) : Type 0 where
   pub short : (v : ℕ) → getD ends v 0 ≤ 65536
   pub is : (v : ℕ) → 0 < getD ends v 0 → (ds : List Struct) → getD ends v 0 - 1 ≡ forward-tvar (seen w u ds) v

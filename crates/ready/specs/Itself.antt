@@ -10,7 +10,7 @@ use Rattle.definition.specs.Subst.{parts, unfold-type, goes-on-to, ends-in}
 use Rattle.table.specs.State.{shape-of, seen}
 use Rattle.table.specs.declared.Used.{Used}
 use Rattle.table.specs.declared.Shape.{Shape}
-use Rattle.subst.specs.Answers.{part-count}
+use Rattle.shapes.specs.Parts.{part-count}
 
 -- node t unfolds to this shape, and reading goes on to its parts, at most eight, all of them nodes
 pub record Goes-on (w : List ℕ) (u : Used) (t : ℕ) (sh : Shape) : Type 0 where

@@ -10,7 +10,7 @@ use Rattle.definition.specs.Subst.{parts, ready-value, ready}
 use Rattle.table.specs.State.{shape-of, seen}
 use Rattle.table.specs.declared.Used.{Used}
 use Rattle.table.specs.declared.Shape.{Shape}
-use Rattle.subst.specs.Answers.{part-count}
+use Rattle.shapes.specs.Parts.{part-count}
 use Rattle.ready.specs.declared.Onward.{Onward}
 use Rattle.ready.specs.declared.Onward.the-variants.{Parts, Open, Bound}
 use Rattle.ready.specs.declared.Landing.{Landing}

@@ -1,19 +1,21 @@
 // typing/core.rs: types that run into themselves, the ends of all chains, ready_tvars.
 // Changed from the source that NOTICE names: ported to Rattle.
 ghost use mathlib.Core.Path.{_≡_};
+ghost use mathlib.Core.Bool.{true, false};
 ghost use mathlib.Core.List.{List, []};
 ghost use Prim.Native.Nat.{ℕ, _*_, _<_, _≤_};
 ghost use lib.ListN.{length, getD, set, take};
 ghost use Rattle.definition.specs.Types as d;
-ghost use Rattle.definition.specs.Store.{type-at};
+ghost use Rattle.definition.specs.Store.{type-at, spanned};
 ghost use Rattle.definition.specs.Subst.{parts, forward-tvar, reaches-itself, ready, ready-tvars};
 ghost use Rattle.table.specs.State.{seen, Lay, After, Parts};
 ghost use Rattle.table.specs.declared.Out.the-variants.{Done};
-ghost use Rattle.ready.specs.Ends.{Ends-by, Noted, Meets, Known};
+ghost use Rattle.subst.specs.Answers.{Unfolds};
+ghost use Rattle.ready.specs.Ends.{Ends-by, Noted, Meets, Ends-known};
 ghost use Rattle.ready.specs.Itself.{Goes-on, Higher, Levels, Marked, Soon};
 ghost use Rattle.ready.specs.Ready.{Goes, Lands, Has-parts, rebuilt-at, by-parts-at};
 use names::TVar;
-use subst::Next;
+use shapes::Next;
 use subst::Unfolded;
 use table::Found;
 use table::Out;
@@ -42,108 +44,11 @@ enum Landing {
     Spent,
 }
 
-// ---- a type that reaches a variable that reaches itself
-
-// The shape that reading node t goes on with.
-pub fn goes_on(w: &[u32], u: Used, t: u32) -> Shape
-    requires { ⌜ Lay (now w) u × (t < u .nodes) ⌝ }
-    ensures { λ r. ⌜ Goes-on (now (w .entry)) u t r ⌝ }
+fn narrow(x: u32) -> u16
+    requires { ⌜ x < 65536 ⌝ }
+    ensures { λ r. ⌜ r ≡ x ⌝ }
 {
-    match subst::unfold_type(w, u, t) {
-        Unfolded::Node(x) => {
-            let n = table::node_at(w, u, x);
-            n.shape
-        }
-        Unfolded::Anything(_) => Shape::Anything,
-    }
-}
-
-fn higher(a: u32, b: u32) -> u32
-    ensures { λ r. ⌜ Higher a b r ⌝ }
-{
-    if a < b {
-        return b;
-    }
-    a
-}
-
-// In how many levels reading node t is over; 0 if not in `left`. A node's answer is marked, so that each node is read once.
-pub fn levels(w: &[u32], u: Used, t: u32, left: u32, marks: &mut [u32]) -> u32
-    requires { ⌜ Lay (now w) u × ((t < u .nodes) × ((left ≤ u .nodes) × Marked (now w) u (now marks))) ⌝ }
-    ensures { λ r. ⌜ Levels (now (w .entry)) u t left r × Marked (now (w .entry)) u (now (marks .exit)) ⌝ }
-{
-    if left == 0 {
-        return 0;
-    }
-    let at = subst::wide(t);
-    if 0 < marks[at] {
-        return marks[at];
-    }
-    let s = goes_on(w, u, t);
-    let many = subst::part_count(s);
-    let mut high: u32 = 0;
-    let mut i: u32 = 0;
-    while i < many {
-        let p = subst::part_at(w, u, s, i);
-        let n = levels(w, u, p, left - 1, marks);
-        if n == 0 {
-            return 0;
-        }
-        high = higher(high, n);
-        i = i + 1;
-    }
-    if u.nodes <= high {
-        return 0;
-    }
-    marks[at] = high + 1;
-    high + 1
-}
-
-// How many of `budget` parts are left once reading node t is over, in at most `left` levels; 0 if it is not over so soon.
-fn soon_over(w: &[u32], u: Used, t: u32, left: u32, budget: u32) -> u32
-    requires { ⌜ Lay (now w) u × (t < u .nodes) ⌝ }
-    ensures { λ r. ⌜ Soon (now (w .entry)) u t left r ⌝ }
-{
-    if left == 0 {
-        return 0;
-    }
-    if budget == 0 {
-        return 0;
-    }
-    let s = goes_on(w, u, t);
-    let many = subst::part_count(s);
-    let mut rest = budget - 1;
-    let mut i: u32 = 0;
-    while i < many {
-        let p = subst::part_at(w, u, s, i);
-        rest = soon_over(w, u, p, left - 1, rest);
-        if rest == 0 {
-            return 0;
-        }
-        i = i + 1;
-    }
-    rest
-}
-
-// The test with marks, for a type of any size.
-fn never_over(w: &[u32], u: Used, t: u32) -> bool
-    requires { ⌜ Lay (now w) u × (t < u .nodes) ⌝ }
-    ensures { λ r. ⌜ ((ds : List d.Struct) → r ≡ reaches-itself (seen (now (w .entry)) u ds) t) ⌝ }
-{
-    let mut marks: [u32; 2048] = [0; 2048];
-    let n = levels(w, u, t, u.nodes, &mut marks);
-    n == 0
-}
-
-// A type of fewer than 64 parts needs no marks.
-pub fn reaches_itself(w: &[u32], u: Used, t: u32) -> bool
-    requires { ⌜ Lay (now w) u × (t < u .nodes) ⌝ }
-    ensures { λ r. ⌜ ((ds : List d.Struct) → r ≡ reaches-itself (seen (now (w .entry)) u ds) t) ⌝ }
-{
-    if 0 < soon_over(w, u, t, u.nodes, 64) {
-        return false;
-    }
-    never_over(w, u, t)
+    x as u16
 }
 
 // ---- the ends of all chains
@@ -231,9 +136,9 @@ fn note_end(w: &[u32], u: Used, v: TVar, longest: u32, ends: &mut [u32]) -> u32
 }
 
 // Notes the end of every variable's chain. Each binding is followed twice at most.
-fn note_ends(w: &[u32], u: Used, ends: &mut [u32])
+pub fn note_ends(w: &[u32], u: Used, ends: &mut [u32])
     requires { ⌜ Lay (now w) u × Noted (now w) u 0 (now ends) ⌝ }
-    ensures { λ _. ⌜ Known (now (w .entry)) u (now (ends .exit)) × (length (now (ends .exit)) ≡ 1024) ⌝ }
+    ensures { λ _. ⌜ Ends-known (now (w .entry)) u (now (ends .exit)) × (length (now (ends .exit)) ≡ 1024) ⌝ }
 {
     let n = u.vars;
     let mut longest: u32 = 0;
@@ -246,7 +151,7 @@ fn note_ends(w: &[u32], u: Used, ends: &mut [u32])
 
 // The end of v's chain; what is noted is not looked for again.
 fn chain_end(w: &[u32], u: Used, v: TVar, ends: &[u32]) -> TVar
-    requires { ⌜ Lay (now w) u × Known (now w) u (now ends) ⌝ }
+    requires { ⌜ Lay (now w) u × Ends-known (now w) u (now ends) ⌝ }
     ensures { λ r. ⌜ ((ds : List d.Struct) → r .0 ≡ forward-tvar (seen (now (w .entry)) u ds) (v .0)) ⌝ }
 {
     let known = noted(ends, v);
@@ -256,17 +161,151 @@ fn chain_end(w: &[u32], u: Used, v: TVar, ends: &[u32]) -> TVar
     subst::forward_tvar(w, u, v)
 }
 
+// ---- a type that reaches a variable that reaches itself
+
+// unfold_type, by the ends that are noted.
+fn unfold_by(w: &[u32], u: Used, t: u32, ends: &[u32]) -> Unfolded
+    requires { ⌜ Lay (now w) u × (t < u .nodes) ⌝ }
+    requires { ⌜ Ends-known (now w) u (now ends) ⌝ }
+    ensures { λ r. ⌜ Unfolds (now (w .entry)) u r (λ s. spanned s t) ⌝ }
+{
+    let n = table::node_at(w, u, t);
+    let s = n.shape;
+    let loc = n.loc;
+    match shapes::as_var(s) {
+        Next::Last => Unfolded::Node(t),
+        Next::To(v) => {
+            let last = chain_end(w, u, v, ends);
+            subst::unfold_end(w, u, loc, last)
+        }
+    }
+}
+
+// The shape that reading node t goes on with.
+pub fn goes_on(w: &[u32], u: Used, t: u32, ends: &[u32]) -> Shape
+    requires { ⌜ Lay (now w) u × (t < u .nodes) ⌝ }
+    requires { ⌜ Ends-known (now w) u (now ends) ⌝ }
+    ensures { λ r. ⌜ Goes-on (now (w .entry)) u t r ⌝ }
+{
+    match unfold_by(w, u, t, ends) {
+        Unfolded::Node(x) => {
+            let n = table::node_at(w, u, x);
+            n.shape
+        }
+        Unfolded::Anything(_) => Shape::Anything,
+    }
+}
+
+fn higher(a: u32, b: u32) -> u32
+    ensures { λ r. ⌜ Higher a b r ⌝ }
+{
+    if a < b {
+        return b;
+    }
+    a
+}
+
+// In how many levels reading node t is over; 0 if not in `left`. A node's answer is marked, so that each node is read once.
+pub fn levels(w: &[u32], u: Used, t: u32, left: u32, ends: &[u32], marks: &mut [u16]) -> u32
+    requires { ⌜ Lay (now w) u × ((t < u .nodes) × ((left ≤ u .nodes) × Marked (now w) u (now marks))) ⌝ }
+    requires { ⌜ Ends-known (now w) u (now ends) ⌝ }
+    ensures { λ r. ⌜ Levels (now (w .entry)) u t left r × Marked (now (w .entry)) u (now (marks .exit)) ⌝ }
+{
+    if left == 0 {
+        return 0;
+    }
+    let at = shapes::wide(t);
+    let known = marks[at];
+    if 0 < known {
+        return known as u32;
+    }
+    let s = goes_on(w, u, t, ends);
+    let many = shapes::part_count(s);
+    let mut high: u32 = 0;
+    let mut i: u32 = 0;
+    while i < many {
+        let p = shapes::part_at(w, u, s, i);
+        let n = levels(w, u, p, left - 1, ends, marks);
+        if n == 0 {
+            return 0;
+        }
+        high = higher(high, n);
+        i = i + 1;
+    }
+    if u.nodes <= high {
+        return 0;
+    }
+    marks[at] = narrow(high + 1);
+    high + 1
+}
+
+// How many of `budget` parts are left once reading node t is over, in at most `left` levels; 0 if it is not over so soon.
+fn soon_over(w: &[u32], u: Used, t: u32, left: u32, budget: u32, ends: &[u32]) -> u32
+    requires { ⌜ Lay (now w) u × (t < u .nodes) ⌝ }
+    requires { ⌜ Ends-known (now w) u (now ends) ⌝ }
+    ensures { λ r. ⌜ Soon (now (w .entry)) u t left r ⌝ }
+{
+    if left == 0 {
+        return 0;
+    }
+    if budget == 0 {
+        return 0;
+    }
+    let shape = goes_on(w, u, t, ends);
+    let many = shapes::part_count(shape);
+    let mut rest = budget - 1;
+    let mut i: u32 = 0;
+    while i < many {
+        let p = shapes::part_at(w, u, shape, i);
+        rest = soon_over(w, u, p, left - 1, rest, ends);
+        if rest == 0 {
+            return 0;
+        }
+        i = i + 1;
+    }
+    rest
+}
+
+// The test with marks, for a type of any size.
+fn never_over(w: &[u32], u: Used, t: u32, ends: &[u32]) -> bool
+    requires { ⌜ Lay (now w) u × (t < u .nodes) ⌝ }
+    requires { ⌜ Ends-known (now w) u (now ends) ⌝ }
+    ensures { λ r. ⌜ ((ds : List d.Struct) → r ≡ reaches-itself (seen (now (w .entry)) u ds) t) ⌝ }
+{
+    let mut marks: [u16; 2048] = [0; 2048];
+    let n = levels(w, u, t, u.nodes, ends, &mut marks);
+    n == 0
+}
+
+// A type of fewer than 64 parts needs no marks, and no ends are noted for it.
+fn near_over(w: &[u32], u: Used, t: u32) -> bool
+    requires { ⌜ Lay (now w) u × (t < u .nodes) ⌝ }
+    ensures { λ r. ⌜ (r ≡ true → (ds : List d.Struct) → false ≡ reaches-itself (seen (now (w .entry)) u ds) t) ⌝ }
+{
+    let none: [u32; 1] = [0; 1];
+    let rest = soon_over(w, u, t, u.nodes, 64, &none);
+    0 < rest
+}
+
+pub fn reaches_itself(w: &[u32], u: Used, t: u32) -> bool
+    requires { ⌜ Lay (now w) u × (t < u .nodes) ⌝ }
+    ensures { λ r. ⌜ ((ds : List d.Struct) → r ≡ reaches-itself (seen (now (w .entry)) u ds) t) ⌝ }
+{
+    if near_over(w, u, t) {
+        return false;
+    }
+    let mut ends: [u32; 1024] = [0; 1024];
+    note_ends(w, u, &mut ends);
+    never_over(w, u, t, &ends)
+}
+
 // ---- ready_tvars
 
 fn ready_onward(w: &[u32], u: Used, s: Shape, ends: &[u32]) -> Onward
-    requires { ⌜ Lay (now w) u × Known (now w) u (now ends) ⌝ }
+    requires { ⌜ Lay (now w) u × Ends-known (now w) u (now ends) ⌝ }
     ensures { λ r. ⌜ Goes (now (w .entry)) u s r ⌝ }
 {
     match s {
-        Shape::Unit => Onward::Parts(0),
-        Shape::Ref(_, _) => Onward::Parts(1),
-        Shape::Param(_, _) => Onward::Parts(0),
-        Shape::Apply(_, _, _, many) => Onward::Parts(many),
         Shape::Var(v) => {
             let last = chain_end(w, u, v, ends);
             match table::bound_at(w, u, last) {
@@ -274,14 +313,13 @@ fn ready_onward(w: &[u32], u: Used, s: Shape, ends: &[u32]) -> Onward
                 Found::Just(t) => Onward::Bound(t),
             }
         }
-        Shape::Anything => Onward::Parts(0),
-        Shape::UnresolvedError => Onward::Parts(0),
+        _ => Onward::Parts(shapes::part_count(s)),
     }
 }
 
 // A call for each bound variable on the way.
 fn land(w: &[u32], u: Used, t: u32, left: u32, ends: &[u32]) -> Landing
-    requires { ⌜ Lay (now w) u × ((t < u .nodes) × Known (now w) u (now ends)) ⌝ }
+    requires { ⌜ Lay (now w) u × ((t < u .nodes) × Ends-known (now w) u (now ends)) ⌝ }
     ensures { λ r. ⌜ Lands (now (w .entry)) u t left r ⌝ }
 {
     let mut at = t;
@@ -313,14 +351,7 @@ fn part_of(w: &[u32], u: Used, t: u32, i: u32) -> u32
 {
     let n = table::node_at(w, u, t);
     let s = n.shape;
-    subst::part_at(w, u, s, i)
-}
-
-fn narrow(x: u32) -> u16
-    requires { ⌜ x < 65536 ⌝ }
-    ensures { λ r. ⌜ r ≡ x ⌝ }
-{
-    x as u16
+    shapes::part_at(w, u, s, i)
 }
 
 fn widened(t: [u16; 8]) -> [u32; 8]
@@ -371,13 +402,9 @@ fn rebuild(w: &mut [u32], u: Used, t: u32, ready: [u16; 8], many: u32) -> Step
     let loc = n.loc;
     let s = n.shape;
     match s {
-        Shape::Unit => stays(u, t),
         Shape::Ref(m, _) => table::push_node(w, u, loc, Shape::Ref(m, tys[0])),
-        Shape::Param(_, _) => stays(u, t),
         Shape::Apply(k, name, _, _) => table::push_apply(w, u, loc, k, name, tys, many),
-        Shape::Var(_) => stays(u, t),
-        Shape::Anything => stays(u, t),
-        Shape::UnresolvedError => stays(u, t),
+        _ => stays(u, t),
     }
 }
 
@@ -391,7 +418,7 @@ fn rebuild_bare(w: &mut [u32], u: Used, t: u32) -> Step
 
 // The parts of node t, one after the other; then the node. The call for a part is the only one that a level waits for: 224 bytes of stack.
 fn ready_types(w: &mut [u32], u: Used, t: u32, many: u32, left: u32, ends: &[u32]) -> Step
-    requires { ⌜ Lay (now w) u × ((t < u .nodes) × (Has-parts (now w) u t many × Known (now w) u (now ends))) ⌝ }
+    requires { ⌜ Lay (now w) u × ((t < u .nodes) × (Has-parts (now w) u t many × Ends-known (now w) u (now ends))) ⌝ }
     ensures { λ r. ⌜ After (now (w .entry)) u (now (w .exit)) r (λ s. by-parts-at (λ s t. ready left s t) s t) ⌝ }
 {
     let mut tys: [u16; 8] = [0; 8];
@@ -407,7 +434,7 @@ fn ready_types(w: &mut [u32], u: Used, t: u32, many: u32, left: u32, ends: &[u32
                 return anew(a);
             }
             Found::Just(x) => {
-                let at = subst::wide(i);
+                let at = shapes::wide(i);
                 tys[at] = narrow(x);
                 cur = next;
                 i = i + 1;
@@ -420,7 +447,7 @@ fn ready_types(w: &mut [u32], u: Used, t: u32, many: u32, left: u32, ends: &[u32
 
 // ready_tvars, at most `left` calls deep.
 fn ready(w: &mut [u32], u: Used, t: u32, left: u32, ends: &[u32]) -> Step
-    requires { ⌜ Lay (now w) u × ((t < u .nodes) × Known (now w) u (now ends)) ⌝ }
+    requires { ⌜ Lay (now w) u × ((t < u .nodes) × Ends-known (now w) u (now ends)) ⌝ }
     ensures { λ r. ⌜ After (now (w .entry)) u (now (w .exit)) r (λ s. ready left s t) ⌝ }
 {
     match land(w, u, t, left, ends) {
@@ -448,13 +475,19 @@ fn ready_near(w: &mut [u32], u: Used, t: u32) -> Step
     ready(w, u, t, n * 2, &none)
 }
 
-// A type of any size: every end is noted first.
+// A type of any size: every end is noted first, for the test and for the run.
 fn ready_far(w: &mut [u32], u: Used, t: u32) -> Step
     requires { ⌜ Lay (now w) u × (t < u .nodes) ⌝ }
-    ensures { λ r. ⌜ After (now (w .entry)) u (now (w .exit)) r (λ s. ready (u .nodes * 2) s t) ⌝ }
+    ensures { λ r. ⌜ After (now (w .entry)) u (now (w .exit)) r (λ s. ready-tvars s t) ⌝ }
 {
     let mut ends: [u32; 1024] = [0; 1024];
     note_ends(w, u, &mut ends);
+    if never_over(w, u, t, &ends) {
+        return Step {
+            out: Out::Refused(Refusal::RunsIntoItself),
+            used: u,
+        };
+    }
     let n = u.nodes;
     ready(w, u, t, n * 2, &ends)
 }
@@ -464,15 +497,8 @@ pub fn ready_tvars(w: &mut [u32], u: Used, t: u32) -> Step
     requires { ⌜ Lay (now w) u × (t < u .nodes) ⌝ }
     ensures { λ r. ⌜ After (now (w .entry)) u (now (w .exit)) r (λ s. ready-tvars s t) ⌝ }
 {
-    let rest = soon_over(w, u, t, u.nodes, 64);
-    if 0 < rest {
+    if near_over(w, u, t) {
         return ready_near(w, u, t);
-    }
-    if never_over(w, u, t) {
-        return Step {
-            out: Out::Refused(Refusal::RunsIntoItself),
-            used: u,
-        };
     }
     ready_far(w, u, t)
 }

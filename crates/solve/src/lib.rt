@@ -57,7 +57,7 @@ fn solve_abilities(
     requires { ⌜ Tys-in (view (now w) u) × (All-bytes (view (now w) u) × (Declared (now w) u (now params) × (4096 ≤ length (now buf)))) ⌝ }
     ensures { λ r. ⌜ Reports (now (w .entry)) u before (now (params .entry)) (now (saved .entry)) (now (buf .entry)) (now (w .exit)) (now (buf .exit)) r solved ⌝ }
 {
-    let mut marks: [u32; 2048] = [0; 2048];
+    let mut marks: [u16; 2048] = [0; 2048];
     let mut sets: [u32; 2048] = [0; 2048];
     let h = abilities::hinders(w, u, params, &mut marks, &mut sets);
     if 0 < h {

@@ -6,29 +6,24 @@ use mathlib.Core.Option.{Option, none, some}
 use Prim.Native.Nat.{ℕ, zero, suc, _-_, _<_, _≤_}
 use native.Mathlib.Nat.{not-suc-le-zero}
 use native.Mathlib.Numerals.{sub-one}
-use native.Mathlib.Omega.{arith}
-use lib.ListN.{getD}
 use Rattle.definition.specs.Types as d
 use Rattle.definition.specs.Types.{State, Struct, ok, err, RecursiveType}
-use Rattle.definition.specs.Store.{count, taken, node, args-at, with-args, type-at, loc-of, get, num-loc, insert, with-structs}
-use Rattle.definition.specs.Subst.{as-var, is-anything, parts, next-in, next-of, forward, forward-tvar}
+use Rattle.definition.specs.Store.{count, taken, node, with-args, type-at, loc-of, get, num-loc, insert, with-structs}
+use Rattle.definition.specs.Subst.{as-var, is-anything, next-in, next-of, forward, forward-tvar}
 use Rattle.definition.specs.Join.{is-num-var, num-shape, check-num-tvar′, check-num-tvar, used, join-bind-tvar}
-use Rattle.table.specs.Rows.{node-table, var-table, places}
+use Rattle.table.specs.Rows.{node-table, var-table}
 use Rattle.table.specs.State.{found, shape-of, node-of, view, seen, Lay, Stored, Inside}
 use Rattle.table.specs.declared.Used.{Used}
 use Rattle.table.specs.declared.Node.{Node}
-use Rattle.table.specs.declared.Shape.{Shape}
-use Rattle.table.specs.declared.Shape.the-variants.{Ref, Apply}
-use Rattle.names.specs.declared.Mark.{Mark}
-use Rattle.names.specs.declared.TypeName.{TypeName}
 use Rattle.table.specs.declared.Found.{Found}
 use Rattle.table.specs.declared.Found.the-variants.{Nothing, Just}
 use Rattle.table.proofs.Rows.{length-entries}
 use Rattle.table.proofs.Steps.{grown-refl}
 use Rattle.names.specs.declared.TVar.{TVar}
-use Rattle.subst.specs.Answers.{next, part-count, bound, Binds}
-use Rattle.subst.specs.declared.Next.{Next}
-use Rattle.subst.specs.declared.Next.the-variants.{Last, To}
+use Rattle.shapes.specs.Parts.{next, part-count}
+use Rattle.subst.specs.Answers.{bound, Binds}
+use Rattle.shapes.specs.declared.Next.{Next}
+use Rattle.shapes.specs.declared.Next.the-variants.{Last, To}
 use Rattle.subst.specs.declared.Binding.{Binding}
 use Rattle.subst.specs.declared.Binding.the-variants.{Bound, Failed, Recursive}
 
@@ -202,18 +197,3 @@ module _ (w : List ℕ) (u : Used) (tvar ty : ℕ) where
         structs = h .structs;
         is = λ ds loc. ap (λ (s : State). ok (s, true)) (h .is ds) ∙ bind-stored (seen w u ds) loc tvar ty (sym (c ds) ∙ bt) (sym (e ds) ∙ ot) (is-any ds ∙ z);
       }
-
--- ---- parts of a shape
-
-ref-at : (s : State) (m : Bool) (t i : ℕ) → i < 1 → t ≡ getD (parts (with-args s (d.Ref m t))) i 0
-unfolding parts with-args
-ref-at s m t zero h = refl
-ref-at s m t (suc i) h = absurd (omega arith)
-
-pub part-ref : (s : State) (sh : Shape) (m : Bool) (t i : ℕ) → sh ≡ Ref m t → i < part-count (shape-of sh) → t ≡ getD (parts (with-args s (shape-of sh))) i 0
-part-ref s sh m t i e h = rw e (ref-at s m t i (rw e at h))
-
-pub part-apply : (s : State) (sh : Shape) (k : Mark) (n : TypeName) (first many i r : ℕ) → sh ≡ Apply k n first many → i < part-count (shape-of sh)
-    → ((m : ℕ) → i < m → r ≡ getD (args-at s (places first m)) i 0) → r ≡ getD (parts (with-args s (shape-of sh))) i 0
-unfolding parts with-args places
-part-apply s sh k n first many i r e h f = rw e (f many (rw e at h))

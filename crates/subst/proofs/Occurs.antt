@@ -17,7 +17,8 @@ use Rattle.table.specs.State.{shape-of, node-of, seen, Lay, Below, Inside}
 use Rattle.table.specs.declared.Used.{Used}
 use Rattle.table.specs.declared.Shape.{Shape}
 use Rattle.table.specs.declared.Node.{Node}
-use Rattle.subst.specs.Answers.{part-count, Clear}
+use Rattle.shapes.specs.Parts.{part-count}
+use Rattle.subst.specs.Answers.{Clear}
 use Rattle.subst.proofs.Lists.{any-same, any-none, any-one, or-true}
 use Rattle.subst.proofs.Laws.{count-seen, inside-seen, value-is}
 

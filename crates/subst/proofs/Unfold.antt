@@ -15,9 +15,10 @@ use Rattle.table.specs.declared.Found.{Found}
 use Rattle.table.specs.declared.Found.the-variants.{Nothing, Just}
 use Rattle.table.proofs.Steps.{grown-refl, grown-trans}
 use Rattle.names.specs.declared.TVar.{TVar}
-use Rattle.subst.specs.Answers.{next, var-at, Unfolds}
-use Rattle.subst.specs.declared.Next.{Next}
-use Rattle.subst.specs.declared.Next.the-variants.{Last, To}
+use Rattle.shapes.specs.Parts.{next}
+use Rattle.subst.specs.Answers.{var-at, Unfolds}
+use Rattle.shapes.specs.declared.Next.{Next}
+use Rattle.shapes.specs.declared.Next.the-variants.{Last, To}
 use Rattle.subst.specs.declared.Unfolded.{Unfolded}
 use Rattle.subst.specs.declared.Unfolded.the-variants.{Node as NodeU, Anything}
 use Rattle.subst.proofs.Laws.{taken-seen, count-seen, inside-seen, loc-is, var-of}

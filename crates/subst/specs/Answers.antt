@@ -2,27 +2,19 @@
 use mathlib.Core.Path.{_≡_}
 use mathlib.Core.Bool.{Bool, true, false}
 use mathlib.Core.List.{List}
-use mathlib.Core.Option.{Option, none, some}
 use Prim.Native.Nat.{ℕ, suc, _<_}
 use lib.ListN.{length, getD}
 use Rattle.definition.specs.Types as d
-use Rattle.definition.specs.Types.{State, Struct, Places, Spanned, Type-value, Result, ok, err, RecursiveType}
+use Rattle.definition.specs.Types.{State, Struct, Spanned, Type-value, Result, ok, err, RecursiveType}
 use Rattle.definition.specs.Store.{spanned}
 use Rattle.definition.specs.Subst.{unfold-type}
 use Rattle.definition.specs.Join.{used, join-bind-tvar}
 use Rattle.table.specs.State.{view, seen, Lay, Grown}
 use Rattle.table.specs.declared.Used.{Used}
-use Rattle.subst.specs.declared.Next.{Next}
-use Rattle.subst.specs.declared.Next.the-variants.{Last, To}
 use Rattle.subst.specs.declared.Unfolded.{Unfolded}
 use Rattle.subst.specs.declared.Unfolded.the-variants.{Node, Anything}
 use Rattle.subst.specs.declared.Binding.{Binding}
 use Rattle.subst.specs.declared.Binding.the-variants.{Bound, Failed, Recursive}
-
--- the variable that a type is
-abbrev pub next : Next → Option ℕ
-next Last = none
-next (To v) = some (v .0)
 
 -- what a type unfolds to
 abbrev pub unfolded : Unfolded → State → Spanned Type-value
@@ -41,16 +33,6 @@ var-at loc v = record { loc = loc; value = d.Var v }
 pub record Unfolds (w : List ℕ) (u : Used) (r : Unfolded) (ty : State → Spanned Type-value) : Type 0 where
   pub is : (ds : List Struct) → unfolded r (seen w u ds) ≡ unfold-type (seen w u ds) (ty (seen w u ds))
   pub inside : Unfolded-in (u .nodes) r
-
--- how many parts a type has
-abbrev pub part-count : d.Shape Places → ℕ
-part-count d.UnitType = 0
-part-count (d.Ref m t) = 1
-part-count (d.Param id a) = 0
-part-count (d.Apply k n p) = p .many
-part-count (d.Var v) = 0
-part-count d.Anything = 0
-part-count d.UnresolvedError = 0
 
 -- the occurs walk's table: a node marked there is known not to have the variable in it
 pub record Clear (w : List ℕ) (u : Used) (v : ℕ) (marks : List ℕ) : Type 0 where

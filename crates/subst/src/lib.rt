@@ -4,25 +4,17 @@ ghost use mathlib.Core.Path.{_≡_};
 ghost use mathlib.Core.Bool.{false};
 ghost use mathlib.Core.List.{List};
 ghost use Prim.Native.Nat.{ℕ, suc, _<_};
-ghost use lib.ListN.{getD};
 ghost use Rattle.definition.specs.Types as d;
-ghost use Rattle.definition.specs.Store.{type-at, with-args, spanned};
-ghost use Rattle.definition.specs.Subst.{as-var, is-anything, parts, next-of, forward-tvar, set-num-var};
-ghost use Rattle.definition.specs.Join.{is-numeric, is-num-var, num-shape, check-num-tvar′, check-num-tvar, is-var, used};
-ghost use Rattle.names.specs.Names.{name-of};
-ghost use Rattle.table.specs.State.{shape-of, seen, Lay, Stored};
-ghost use Rattle.subst.specs.Answers.{next, part-count, Unfolds, var-at, Clear, Binds};
+ghost use Rattle.definition.specs.Store.{type-at, spanned};
+ghost use Rattle.definition.specs.Subst.{next-of, forward-tvar, set-num-var};
+ghost use Rattle.definition.specs.Join.{is-num-var, num-shape, check-num-tvar′, check-num-tvar, used};
+ghost use Rattle.table.specs.State.{seen, Lay, Stored};
+ghost use Rattle.shapes.specs.Parts.{next};
+ghost use Rattle.subst.specs.Answers.{Unfolds, var-at, Clear, Binds};
 use names::TVar;
-use names::TypeName;
+use shapes::Next;
 use table::Found;
-use table::Shape;
 use table::Used;
-
-// The variable that a type is, if it is one.
-pub enum Next {
-    Last,
-    To(TVar),
-}
 
 // What binding a variable comes to: it succeeds, the numeric check fails, or the variable occurs in the type.
 pub enum Binding {
@@ -37,80 +29,6 @@ pub enum Unfolded {
     Anything(u32),
 }
 
-// ---- shapes
-
-fn as_var(s: Shape) -> Next
-    ensures { λ r. ⌜ ((st : d.State) → next r ≡ as-var (with-args st (shape-of s))) ⌝ }
-{
-    match s {
-        Shape::Unit => Next::Last,
-        Shape::Ref(_, _) => Next::Last,
-        Shape::Param(_, _) => Next::Last,
-        Shape::Apply(_, _, _, _) => Next::Last,
-        Shape::Var(v) => Next::To(v),
-        Shape::Anything => Next::Last,
-        Shape::UnresolvedError => Next::Last,
-    }
-}
-
-fn is_anything(s: Shape) -> bool
-    ensures { λ r. ⌜ ((st : d.State) → r ≡ is-anything (with-args st (shape-of s))) ⌝ }
-{
-    match s {
-        Shape::Unit => false,
-        Shape::Ref(_, _) => false,
-        Shape::Param(_, _) => false,
-        Shape::Apply(_, _, _, _) => false,
-        Shape::Var(_) => false,
-        Shape::Anything => true,
-        Shape::UnresolvedError => false,
-    }
-}
-
-fn is_var(v: TVar, s: Shape) -> bool
-    ensures { λ r. ⌜ ((st : d.State) → r ≡ is-var (v .0) (with-args st (shape-of s))) ⌝ }
-{
-    match s {
-        Shape::Unit => false,
-        Shape::Ref(_, _) => false,
-        Shape::Param(_, _) => false,
-        Shape::Apply(_, _, _, _) => false,
-        Shape::Var(x) => x.0 == v.0,
-        Shape::Anything => false,
-        Shape::UnresolvedError => false,
-    }
-}
-
-pub fn part_count(s: Shape) -> u32
-    ensures { λ r. ⌜ r ≡ part-count (shape-of s) ⌝ }
-{
-    match s {
-        Shape::Unit => 0,
-        Shape::Ref(_, _) => 1,
-        Shape::Param(_, _) => 0,
-        Shape::Apply(_, _, _, many) => many,
-        Shape::Var(_) => 0,
-        Shape::Anything => 0,
-        Shape::UnresolvedError => 0,
-    }
-}
-
-// Part i of a type.
-pub fn part_at(w: &[u32], u: Used, s: Shape, i: u32) -> u32
-    requires { ⌜ Lay (now w) u ⌝ }
-    ensures { λ r. ⌜ ((ds : List d.Struct) → i < part-count (shape-of s) → r ≡ getD (parts (with-args (seen (now (w .entry)) u ds) (shape-of s))) i 0) ⌝ }
-{
-    match s {
-        Shape::Unit => 0,
-        Shape::Ref(_, t) => t,
-        Shape::Param(_, _) => 0,
-        Shape::Apply(_, _, first, _) => table::arg_at(w, u, first, i),
-        Shape::Var(_) => 0,
-        Shape::Anything => 0,
-        Shape::UnresolvedError => 0,
-    }
-}
-
 // ---- forward_tvar
 
 // The variable that cur is bound to, if that is what it is bound to.
@@ -123,7 +41,7 @@ pub fn next_of(w: &[u32], u: Used, cur: TVar) -> Next
         Found::Just(t) => {
             let n = table::node_at(w, u, t);
             let s = n.shape;
-            as_var(s)
+            shapes::as_var(s)
         }
     }
 }
@@ -151,16 +69,24 @@ pub fn forward_tvar(w: &[u32], u: Used, id: TVar) -> TVar
 
 // ---- unfold_type
 
+// The type at the end of a chain, at the location loc.
+pub fn unfold_end(w: &[u32], u: Used, loc: u32, last: TVar) -> Unfolded
+    requires { ⌜ Lay (now w) u ⌝ }
+    ensures { λ r. ⌜ ((v : ℕ) → ((ds : List d.Struct) → last .0 ≡ forward-tvar (seen (now (w .entry)) u ds) v) → Unfolds (now (w .entry)) u r (λ s. var-at loc v)) ⌝ }
+{
+    match table::bound_at(w, u, last) {
+        Found::Nothing => Unfolded::Anything(loc),
+        Found::Just(t) => Unfolded::Node(t),
+    }
+}
+
 // The type of the variable v, at the location loc.
 pub fn unfold_tvar(w: &[u32], u: Used, loc: u32, v: TVar) -> Unfolded
     requires { ⌜ Lay (now w) u ⌝ }
     ensures { λ r. ⌜ Unfolds (now (w .entry)) u r (λ s. var-at loc (v .0)) ⌝ }
 {
     let last = forward_tvar(w, u, v);
-    match table::bound_at(w, u, last) {
-        Found::Nothing => Unfolded::Anything(loc),
-        Found::Just(t) => Unfolded::Node(t),
-    }
+    unfold_end(w, u, loc, last)
 }
 
 // Of a variable, the type at its end; of any other type, itself.
@@ -171,7 +97,7 @@ pub fn unfold_type(w: &[u32], u: Used, t: u32) -> Unfolded
     let n = table::node_at(w, u, t);
     let s = n.shape;
     let loc = n.loc;
-    match as_var(s) {
+    match shapes::as_var(s) {
         Next::Last => Unfolded::Node(t),
         Next::To(v) => unfold_tvar(w, u, loc, v),
     }
@@ -213,38 +139,13 @@ fn is_num_var(w: &[u32], u: Used, v: TVar) -> bool
     }
 }
 
-fn is_numeric(n: TypeName) -> bool
-    ensures { λ r. ⌜ r ≡ is-numeric (name-of n) ⌝ }
-{
-    match n {
-        TypeName::Multiple(_) => false,
-        TypeName::Builtin(b) => names::is_numeric(b),
-        TypeName::ModuleType(_) => false,
-    }
-}
-
-// A type that is no variable: what a numeric variable takes.
-fn num_shape(s: Shape) -> bool
-    ensures { λ r. ⌜ ((st : d.State) → r ≡ num-shape (with-args st (shape-of s))) ⌝ }
-{
-    match s {
-        Shape::Unit => false,
-        Shape::Ref(_, _) => false,
-        Shape::Param(_, _) => false,
-        Shape::Apply(_, n, _, _) => is_numeric(n),
-        Shape::Var(_) => false,
-        Shape::Anything => true,
-        Shape::UnresolvedError => true,
-    }
-}
-
 fn num_node(w: &[u32], u: Used, t: u32) -> bool
     requires { ⌜ Lay (now w) u ⌝ }
     ensures { λ r. ⌜ ((ds : List d.Struct) → r ≡ num-shape (type-at (seen (now (w .entry)) u ds) t)) ⌝ }
 {
     let n = table::node_at(w, u, t);
     let s = n.shape;
-    num_shape(s)
+    shapes::num_shape(s)
 }
 
 // check_num_tvar_: a variable is followed to its end first.
@@ -254,8 +155,8 @@ fn check_num_type(w: &[u32], u: Used, ty: u32) -> bool
 {
     let n = table::node_at(w, u, ty);
     let s = n.shape;
-    match as_var(s) {
-        Next::Last => num_shape(s),
+    match shapes::as_var(s) {
+        Next::Last => shapes::num_shape(s),
         Next::To(v) => {
             let last = forward_tvar(w, u, v);
             match table::bound_at(w, u, last) {
@@ -279,30 +180,24 @@ pub fn check_num_tvar(w: &[u32], u: Used, tvar: TVar, ty: u32) -> bool
 
 // ---- the occurs walk
 
-pub fn wide(x: u32) -> usize
-    ensures { λ r. ⌜ r ≡ x ⌝ }
-{
-    x as usize
-}
-
 // Whether tvar is in node t: down into every part, following no binding. A node without it is marked, so each is looked at once.
 fn used_in(w: &[u32], u: Used, tvar: TVar, t: u32, marks: &mut [u8]) -> bool
     requires { ⌜ Lay (now w) u × ((t < u .nodes) × Clear (now w) u (tvar .0) (now marks)) ⌝ }
     ensures { λ r. ⌜ ((ds : List d.Struct) → r ≡ used (suc t) (seen (now (w .entry)) u ds) (tvar .0) t) × Clear (now (w .entry)) u (tvar .0) (now (marks .exit)) ⌝ }
 {
-    let at = wide(t);
+    let at = shapes::wide(t);
     if marks[at] == 1 {
         return false;
     }
     let n = table::node_at(w, u, t);
     let s = n.shape;
-    if is_var(tvar, s) {
+    if shapes::is_var(tvar, s) {
         return true;
     }
-    let many = part_count(s);
+    let many = shapes::part_count(s);
     let mut i: u32 = 0;
     while i < many {
-        let p = part_at(w, u, s, i);
+        let p = shapes::part_at(w, u, s, i);
         if used_in(w, u, tvar, p, marks) {
             return true;
         }
@@ -322,14 +217,14 @@ fn soon_clear(w: &[u32], u: Used, tvar: TVar, t: u32, budget: u32) -> u32
     }
     let n = table::node_at(w, u, t);
     let s = n.shape;
-    if is_var(tvar, s) {
+    if shapes::is_var(tvar, s) {
         return 0;
     }
-    let many = part_count(s);
+    let many = shapes::part_count(s);
     let mut rest = budget - 1;
     let mut i: u32 = 0;
     while i < many {
-        let p = part_at(w, u, s, i);
+        let p = shapes::part_at(w, u, s, i);
         rest = soon_clear(w, u, tvar, p, rest);
         if rest == 0 {
             return 0;
@@ -366,7 +261,7 @@ pub fn join_bind_tvar(w: &mut [u32], u: Used, tvar: TVar, ty: u32) -> Binding
     }
     let n = table::node_at(w, u, ty);
     let s = n.shape;
-    if is_anything(s) {
+    if shapes::is_anything(s) {
         return Binding::Bound;
     }
     table::bind_var(w, u, tvar, ty);

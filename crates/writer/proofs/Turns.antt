@@ -21,7 +21,8 @@ use Rattle.table.specs.declared.Node.{Node}
 use Rattle.table.specs.declared.Used.{Used}
 use Rattle.table.proofs.Rows.{length-entries}
 use Rattle.table.proofs.States.{inside-structs}
-use Rattle.writer.specs.Bytes.{put, Wrote, capped, Byte-fields, All-bytes, part-count}
+use Rattle.shapes.specs.Parts.{part-count}
+use Rattle.writer.specs.Bytes.{put, Wrote, capped, Byte-fields, All-bytes}
 use Rattle.writer.proofs.Put.{length-put, put-put, capped-is, capped-over, capped-within, capped-beyond, capped-more}
 use Rattle.writer.proofs.Walk.{parts-length, part-below, front, front-none, front-more, front-all, front-fits}
 

@@ -13,7 +13,7 @@ use Rattle.definition.specs.Store.{count, node, type-at, loc-of, spanned, with-
 use Rattle.definition.specs.Subst.{parts}
 use Rattle.definition.specs.Write.{Bytes, head, each, write-down, write-spanned, write}
 use Rattle.table.specs.State.{Inside, Below}
-use Rattle.writer.specs.Bytes.{part-count}
+use Rattle.shapes.specs.Parts.{part-count}
 
 -- ---- parts
 
@@ -110,7 +110,3 @@ front-fits s inside t i l =
     ∙ sym (append-assoc (head (loc-of s t) (type-at s t)) (each (write s) (take i ps)) (each (write s) (drop i ps)))
     in
     rw (e, length-append (head (loc-of s t) (type-at s t) ++ each (write s) (take i ps)) (each (write s) (drop i ps))) (omega arith)
-
-pub one-part : (p i : ℕ) → i < 1 → p ≡ getD (p ∷ []) i 0
-one-part p zero h = refl
-one-part p (suc i) h = absurd (omega arith)

@@ -4,7 +4,7 @@ use mathlib.Core.List.{List, _++_}
 use Prim.Native.Nat.{ℕ, suc, _+_, _<_, _≤_}
 use lib.ListN.{length, take, drop}
 use lib.Dec.{leb}
-use Rattle.definition.specs.Types.{TypeName, Multiple, Builtin, ModuleType, Shape, UnitType, Ref, Param, Apply, Var, Anything, UnresolvedError, Places, State, if_then_else_}
+use Rattle.definition.specs.Types.{TypeName, Multiple, Builtin, ModuleType, Shape, UnitType, Ref, Param, Apply, Var, Anything, UnresolvedError, State, if_then_else_}
 use Rattle.definition.specs.Store.{count, node}
 use Rattle.definition.specs.Write.{Bytes, mark}
 
@@ -45,13 +45,3 @@ Byte-fields UnresolvedError = Unit {0}
 -- so in every node, as in a sound state
 unfoldable pub All-bytes : State → Type 0
 All-bytes s = (t : ℕ) → t < count s → Byte-fields (node s t .value)
-
--- how many parts a stored shape has
-abbrev pub part-count : Shape Places → ℕ
-part-count UnitType = 0
-part-count (Ref m t) = 1
-part-count (Param id a) = 0
-part-count (Apply k n p) = p .many
-part-count (Var v) = 0
-part-count Anything = 0
-part-count UnresolvedError = 0

@@ -2,19 +2,16 @@
 ghost use mathlib.Core.Path.{_≡_};
 ghost use mathlib.Core.List.{List, [], _∷_, _++_};
 ghost use Prim.Native.Nat.{ℕ, _+_, _≤_, _<_, _%_};
-ghost use lib.ListN.{length, getD, take};
+ghost use lib.ListN.{length, take};
 ghost use Rattle.definition.specs.Types as d;
-ghost use Rattle.definition.specs.Store.{with-args};
-ghost use Rattle.definition.specs.Subst.{parts};
 ghost use Rattle.definition.specs.Write.{bool, mark, u16, u32 as bytes-u32, apply-head, head, write};
 ghost use Rattle.names.specs.Names.{mark-of, name-of};
 ghost use Rattle.table.specs.State.{shape-of, value-of, view, seen, Lay};
-ghost use Rattle.writer.specs.Bytes.{Wrote, Few-is, capped, Name-byte, Byte-fields, All-bytes, part-count};
+ghost use Rattle.writer.specs.Bytes.{Wrote, Few-is, capped, Name-byte, Byte-fields, All-bytes};
 use names::Mark;
 use names::TypeName;
 use table::Shape;
 use table::Used;
-use table::arg_at;
 use table::node_at;
 use table::number;
 
@@ -234,35 +231,6 @@ pub fn write_head(loc: u32, shape: Shape, buf: &mut [u8], at: usize) -> usize
 
 // ---- a type with its parts
 
-fn part_count(shape: Shape) -> u32
-    ensures { λ r. ⌜ r ≡ part-count (shape-of shape) ⌝ }
-{
-    match shape {
-        Shape::Unit => 0,
-        Shape::Ref(_, _) => 1,
-        Shape::Param(_, _) => 0,
-        Shape::Apply(_, _, _, many) => many,
-        Shape::Var(_) => 0,
-        Shape::Anything => 0,
-        Shape::UnresolvedError => 0,
-    }
-}
-
-fn part_at(w: &[u32], u: Used, shape: Shape, i: u32) -> u32
-    requires { ⌜ Lay (now w) u ⌝ }
-    ensures { λ r. ⌜ ((ds : List d.Struct) → i < part-count (shape-of shape) → r ≡ getD (parts (with-args (seen (now (w .entry)) u ds) (shape-of shape))) i 0) ⌝ }
-{
-    match shape {
-        Shape::Unit => 0,
-        Shape::Ref(_, p) => p,
-        Shape::Param(_, _) => 0,
-        Shape::Apply(_, _, first, _) => arg_at(w, u, first, i),
-        Shape::Var(_) => 0,
-        Shape::Anything => 0,
-        Shape::UnresolvedError => 0,
-    }
-}
-
 // How many bytes the type t has, if no more than `room`; else one more than `room`. Types share parts, so the walk stops there.
 pub fn size_type(w: &[u32], u: Used, t: u32, room: u32) -> u32
     requires { ⌜ Lay (now w) u × ((t < u .nodes) × (room ≤ 65536)) ⌝ }
@@ -270,14 +238,14 @@ pub fn size_type(w: &[u32], u: Used, t: u32, room: u32) -> u32
 {
     let node = node_at(w, u, t);
     let shape = node.shape;
-    let n = part_count(shape);
+    let n = shapes::part_count(shape);
     let mut size = head_size(shape);
     let mut i: u32 = 0;
     while i < n {
         if room < size {
             return room + 1;
         }
-        let p = part_at(w, u, shape, i);
+        let p = shapes::part_at(w, u, shape, i);
         size = size + size_type(w, u, p, room - size);
         i = i + 1;
     }
@@ -296,11 +264,11 @@ pub fn write_type(w: &[u32], u: Used, t: u32, buf: &mut [u8], at: usize) -> usiz
     let node = node_at(w, u, t);
     let loc = node.loc;
     let shape = node.shape;
-    let n = part_count(shape);
+    let n = shapes::part_count(shape);
     let mut next = write_head(loc, shape, buf, at);
     let mut i: u32 = 0;
     while i < n {
-        let p = part_at(w, u, shape, i);
+        let p = shapes::part_at(w, u, shape, i);
         next = write_type(w, u, p, buf, next);
         i = i + 1;
     }

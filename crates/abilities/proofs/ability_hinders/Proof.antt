@@ -14,30 +14,27 @@ same-length : tie.Need-same-length
 same-length c = search needs
 
 returns : tie.Need-returns
-returns c = (c .before .before .before .levels .ensures .1, hindered-nine (c .before .before .before .levels .ensures .0) _ _ _ (c .if1 .taken) (c .before .before .before .before .before .before .before .before .pre .1 .1 .1))
+returns c = (c .before .before .before .levels .ensures .1, hindered-nine (c .before .before .before .levels .ensures .0) _ _ _ (c .if1 .taken) (c .before .before .before .before .before .before .before .before .before .pre .0 .1 .1 .1))
 
 infer-requires : tie.Need-infer-requires
 infer-requires c κs =
-    let start = c .before .before .before .before .before .before .before .before .before in
+    let start = c .before .before .before .before .before .before .before .before .before .before in
     let levels = c .before .before .before .before .levels in (
-      start .pre .0,
-      (
-        start .pre .1 .0,
-        (ends-of (levels .ensures .0) (c .before .if1 .left), start .pre .1 .1 .1),
-      ),
+      (start .pre .0 .0, (start .pre .0 .1 .0, (ends-of (levels .ensures .0) (c .before .if1 .left), start .pre .0 .1 .1 .1))),
+      start .pre .1,
     )
 
 any-contradicts-requires : tie.Need-any-contradicts-requires
 any-contradicts-requires c κs =
-    let pre = c .before .before .before .before .before .before .before .before .before .before .before .before .before .pre in
+    let pre = c .before .before .before .before .before .before .before .before .before .before .before .before .before .before .pre in
     let infer = c .before .before .before .infer in
-    (pre .0, (pre .1 .0, (infer .ensures .kept, infer .ensures .here)))
+    ((pre .0 .0, (pre .0 .1 .0, (infer .ensures .kept, infer .ensures .here))), pre .1)
 
 same-length-2 : tie.Need-same-length-2
-same-length-2 c = c .before .before .before .before .before .before .before .before .before .before .levels .ensures .1 .size ∙ sym (c .before .before .before .before .before .before .before .before .before .before .before .before .before .before .before .pre .1 .1 .0 .size)
+same-length-2 c = c .before .before .before .before .before .before .before .before .before .before .levels .ensures .1 .size ∙ sym (c .before .before .before .before .before .before .before .before .before .before .before .before .before .before .before .before .pre .0 .1 .1 .0 .size)
 
 same-length-3 : tie.Need-same-length-3
-same-length-3 c = c .before .before .before .before .before .infer .ensures .kept .size ∙ sym (c .before .before .before .before .before .before .before .before .before .before .before .before .before .before .before .pre .1 .1 .1 .size)
+same-length-3 c = c .before .before .before .before .before .infer .ensures .kept .size ∙ sym (c .before .before .before .before .before .before .before .before .before .before .before .before .before .before .before .before .pre .0 .1 .1 .1 .size)
 
 returns-2 : tie.Need-returns-2
 returns-2 c =
@@ -52,10 +49,10 @@ returns-2 c =
     )
 
 same-length-4 : tie.Need-same-length-4
-same-length-4 c = c .before .before .before .before .before .before .before .before .before .before .levels .ensures .1 .size ∙ sym (c .before .before .before .before .before .before .before .before .before .before .before .before .before .before .before .pre .1 .1 .0 .size)
+same-length-4 c = c .before .before .before .before .before .before .before .before .before .before .levels .ensures .1 .size ∙ sym (c .before .before .before .before .before .before .before .before .before .before .before .before .before .before .before .before .pre .0 .1 .1 .0 .size)
 
 same-length-5 : tie.Need-same-length-5
-same-length-5 c = c .before .before .before .before .before .infer .ensures .kept .size ∙ sym (c .before .before .before .before .before .before .before .before .before .before .before .before .before .before .before .pre .1 .1 .1 .size)
+same-length-5 c = c .before .before .before .before .before .infer .ensures .kept .size ∙ sym (c .before .before .before .before .before .before .before .before .before .before .before .before .before .before .before .before .pre .0 .1 .1 .1 .size)
 
 returns-3 : tie.Need-returns-3
 returns-3 c =

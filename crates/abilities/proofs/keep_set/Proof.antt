@@ -11,7 +11,7 @@ goes-on-requires c κs = search needs
 
 set-of-requires : tie.Need-set-of-requires
 set-of-requires c κs =
-    let pre = c .before .before .before .before .pre in
+    let pre = c .before .before .before .before .before .pre .0 in
     kept-ready _ _ _ _ _ _ (pre .0) (c .before .goes-on .ensures) (pre .1 .1 .0) (pre .1 .1 .1 .known)
 
 wide-requires : tie.Need-wide-requires
@@ -28,7 +28,7 @@ mul-sets c = search needs
 
 slice-write-sets : tie.Need-slice-write-sets
 slice-write-sets c =
-    let pre = c .before .before .before .before .before .before .before .pre in
+    let pre = c .before .before .before .before .before .before .before .before .pre .0 in
     omega (arith, c .before .wide .ensures, pre .1 .0, pre .0 .nodes, pre .1 .1 .0 .size)
 
 same-length : tie.Need-same-length
@@ -36,7 +36,7 @@ same-length c = search needs
 
 returns : tie.Need-returns
 returns c =
-    let pre = c .before .before .before .before .before .before .before .pre in
+    let pre = c .before .before .before .before .before .before .before .before .pre .0 in
     let goes = c .before .before .before .before .goes-on .ensures in
     let set = c .before .before .set-of .ensures in
     rw (c .before .wide .ensures) (inferred-here (pre .0) (pre .1 .0) (pre .1 .1 .0) (pre .1 .1 .1) goes _ (c .bits .ensures .1) (λ ds k. c .bits .ensures .0 ∙ set ds k))

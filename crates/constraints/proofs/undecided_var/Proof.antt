@@ -3,11 +3,6 @@ use Rattle.constraints.proofs.Defaults.{undecided-node, undecided-anyth
 use borrow.Author.Needs.{needs}
 use Rattle.constraints.proofs.undecided_var.Statement.{statement}
 use Rattle.constraints.proofs.undecided_var.Tie as tie
-use Rattle.constraints.proofs.undecided_var.Reads as reads
-use Rattle.constraints.proofs.undecided_var.Lts as lts
-use Rattle.constraints.proofs.undecided.Reads as undecided-reads
-use Rattle.subst.proofs.unfold_tvar.Reads as unfold-tvar-reads
-use Rattle.table.proofs.node_at.Reads as node-at-reads
 
 unfold-tvar-requires : tie.Need-unfold-tvar-requires
 unfold-tvar-requires c κs = search needs

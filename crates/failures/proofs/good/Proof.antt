@@ -5,11 +5,6 @@ use Rattle.failures.specs.Failing.{good}
 use borrow.Author.Needs.{needs}
 use Rattle.failures.proofs.good.Statement.{statement}
 use Rattle.failures.proofs.good.Tie as tie
-use Rattle.failures.proofs.good.Reads as reads
-use Rattle.failures.proofs.good.Lts as lts
-use Rattle.failures.proofs.is_base.Reads as is-base-reads
-use Rattle.failures.proofs.is_integer.Reads as is-integer-reads
-use Rattle.failures.proofs.is_single.Reads as is-single-reads
 
 is-integer-requires : tie.Need-is-integer-requires
 is-integer-requires c κs = search needs

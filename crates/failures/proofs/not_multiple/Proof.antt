@@ -1,20 +1,16 @@
 -- `failures::not_multiple` meets its contract. Assumes nothing.
-use mathlib.Core.Path.{refl}
+use mathlib.Core.Path.{_≡_, refl}
+use mathlib.Core.Bool.{true, not}
+use mathlib.Core.List.{[], _∷_}
 use Rattle.definition.specs.Join.{is-multiple}
+use Rattle.names.specs.Names.{name-of}
+use Rattle.shapes.proofs.Tags.{other-names}
 use borrow.Author.Needs.{needs}
 use Rattle.failures.proofs.not_multiple.Statement.{statement}
 use Rattle.failures.proofs.not_multiple.Tie as tie
-use Rattle.failures.proofs.not_multiple.Reads as reads
-use Rattle.failures.proofs.not_multiple.Lts as lts
 
 enum-told : tie.Need-enum-told
 enum-told c = search needs
-
-enum-told-2 : tie.Need-enum-told-2
-enum-told-2 c = search needs
-
-enum-told-3 : tie.Need-enum-told-3
-enum-told-3 c = search needs
 
 returns : tie.Need-returns
 unfolding is-multiple
@@ -22,12 +18,7 @@ returns c = rw (c .enum-told .given .1) refl
 
 returns-2 : tie.Need-returns-2
 unfolding is-multiple
-returns-2 c = rw (c .enum-told2 .given .1) refl
-
-returns-3 : tie.Need-returns-3
-unfolding is-multiple
-returns-3 c = rw (c .enum-told3 .given .1) refl
+returns-2 c = other-names (1 ∷ 2 ∷ []) (λ n. true ≡ not (is-multiple (name-of n))) tt (λ b. refl) (λ m. refl) (c .before .args .n) (c .match .keys2)
 
 pub not-multiple-spec : {M : Type 1} → statement M
-not-multiple-spec =
-    tie.close (tie.spec enum-told enum-told-2 enum-told-3 returns returns-2 returns-3)
+not-multiple-spec = tie.close (tie.spec enum-told returns returns-2)

@@ -12,70 +12,65 @@ use Rattle.ready.proofs.levels.Kinds as levels-kinds
 use Rattle.ready.proofs.+levels.Lts-levels as levels-lts
 use Rattle.ready.proofs.goes_on.Reads as goes-on-reads
 use Rattle.ready.proofs.higher.Reads as higher-reads
-use Rattle.subst.proofs.part_at.Reads as part-at-reads
-use Rattle.subst.proofs.part_count.Reads as part-count-reads
-use Rattle.subst.proofs.wide.Reads as wide-reads
+use Rattle.ready.proofs.narrow.Reads as narrow-reads
+use Rattle.shapes.proofs.part_at.Reads as part-at-reads
+use Rattle.shapes.proofs.part_count.Reads as part-count-reads
+use Rattle.shapes.proofs.wide.Reads as wide-reads
 use Rattle.ready.proofs.+levels.{statement}
 use Rattle.ready.proofs.+levels.Tie.{close}
 
-abbrev μ-levels : Measures 2 levels-kinds.ps ℕ
+abbrev μ-levels : Measures 3 levels-kinds.ps ℕ
 μ-levels κs a = a .1 .1 .1 .0
 
-abbrev levels-at : ℕ → In 2 levels-kinds.ps
-levels-at t = and 2 levels-kinds.ps (is 2 levels-kinds.ps μ-levels t) levels.Pre
+abbrev levels-at : ℕ → In 3 levels-kinds.ps
+levels-at t = and 3 levels-kinds.ps (is 3 levels-kinds.ps μ-levels t) levels.Pre
 
-abbrev levels-below : ℕ → In 2 levels-kinds.ps
-levels-below t = and 2 levels-kinds.ps (falls 2 levels-kinds.ps _<_ μ-levels t) levels.Pre
+abbrev levels-below : ℕ → In 3 levels-kinds.ps
+levels-below t = and 3 levels-kinds.ps (falls 3 levels-kinds.ps _<_ μ-levels t) levels.Pre
 
 abbrev levels-calls : ℕ → levels-lts.Claims
-levels-calls t = (wide-reads.Asked, wide-reads.Learnt, goes-on-reads.Asked, goes-on-reads.Learnt, part-count-reads.Asked, part-count-reads.Learnt, part-at-reads.Asked, part-at-reads.Learnt, levels-below t, levels.Post, higher-reads.Asked, higher-reads.Learnt)
+levels-calls t = (wide-reads.Asked, wide-reads.Learnt, goes-on-reads.Asked, goes-on-reads.Learnt, part-count-reads.Asked, part-count-reads.Learnt, part-at-reads.Asked, part-at-reads.Learnt, levels-below t, levels.Post, higher-reads.Asked, higher-reads.Learnt, narrow-reads.Asked, narrow-reads.Learnt)
 
 abbrev levels-Inv-loop : levels-lts.InvT-loop
-levels-Inv-loop w u t left marks₀ at s many high₀ i₀ marks high i = Read w u t left s many marks high i
+levels-Inv-loop w u t left ends marks₀ at known s many high₀ i₀ marks high i = Read w u t left s many marks high i
 
 abbrev levels-μ-loop : levels-lts.MeasureT-loop
-levels-μ-loop w u t left marks₀ at s many high₀ i₀ marks high i = many - i
+levels-μ-loop w u t left ends marks₀ at known s many high₀ i₀ marks high i = many - i
 
 levels-returns : (t : ℕ) → levels-lts.Need-returns (levels-calls t) (levels-at t) levels.Post levels-Inv-loop levels-μ-loop
-levels-returns t c = (levels-none _ _ _ _ (c .if1 .taken), c .before .before .before .pre .1 .1 .1 .1)
+levels-returns t c = (levels-none _ _ _ _ (c .if1 .taken), c .before .before .before .before .pre .1 .0 .1 .1 .1)
 
 levels-wide-requires : (t : ℕ) → levels-lts.Need-wide-requires (levels-calls t) (levels-at t) levels.Post levels-Inv-loop levels-μ-loop
 levels-wide-requires t c κs = search needs
 
-levels-mul-if2 : (t : ℕ) → levels-lts.Need-mul-if2 (levels-calls t) (levels-at t) levels.Post levels-Inv-loop levels-μ-loop
-levels-mul-if2 t c = search needs
+levels-mul-known : (t : ℕ) → levels-lts.Need-mul-known (levels-calls t) (levels-at t) levels.Post levels-Inv-loop levels-μ-loop
+levels-mul-known t c = search needs
 
-levels-slice-read-if2 : (t : ℕ) → levels-lts.Need-slice-read-if2 (levels-calls t) (levels-at t) levels.Post levels-Inv-loop levels-μ-loop
-levels-slice-read-if2 t c = omega (arith, c .before .wide .ensures, c .before .before .before .before .before .pre .1 .1 .0, c .before .before .before .before .before .pre .1 .0 .nodes, c .before .before .before .before .before .pre .1 .1 .1 .1 .size)
+levels-slice-read-known : (t : ℕ) → levels-lts.Need-slice-read-known (levels-calls t) (levels-at t) levels.Post levels-Inv-loop levels-μ-loop
+levels-slice-read-known t c = omega (arith, c .before .wide .ensures, c .before .before .before .before .before .before .pre .1 .0 .1 .0, c .before .before .before .before .before .before .pre .1 .0 .0 .nodes, c .before .before .before .before .before .before .pre .1 .0 .1 .1 .1 .size)
 
-levels-mul-result : (t : ℕ) → levels-lts.Need-mul-result (levels-calls t) (levels-at t) levels.Post levels-Inv-loop levels-μ-loop
-levels-mul-result t c = search needs
-
-levels-slice-read-result : (t : ℕ) → levels-lts.Need-slice-read-result (levels-calls t) (levels-at t) levels.Post levels-Inv-loop levels-μ-loop
-levels-slice-read-result t c =
-    let pre = c .before .before .before .before .before .before .before .pre in
-    omega (arith, c .before .before .before .wide .ensures, pre .1 .1 .0, pre .1 .0 .nodes, pre .1 .1 .1 .1 .size)
+levels-cast-result : (t : ℕ) → levels-lts.Need-cast-result (levels-calls t) (levels-at t) levels.Post levels-Inv-loop levels-μ-loop
+levels-cast-result t c = let pre = c .before .before .before .before .before .before .before .pre .1 .0 in omega (arith, pre .1 .1 .1 .ends (c .before .before .wide .result) (c .if2 .taken) .few, pre .0 .nodes)
 
 levels-returns-2 : (t : ℕ) → levels-lts.Need-returns-2 (levels-calls t) (levels-at t) levels.Post levels-Inv-loop levels-μ-loop
-levels-returns-2 t c =
-    let pre = c .before .before .before .before .before .before .before .pre in
-    let wide = c .before .before .before .wide in (
-      rw (wide .ensures) (levels-known _ _ _ _ _ (pre .1 .1 .1 .1) (rw (wide .ensures) at (c .before .if2 .taken))),
-      pre .1 .1 .1 .1,
+levels-returns-2 t c = let pre = c .before .before .before .before .before .before .before .pre in
+    let wide = c .before .before .wide in (
+      rw (wide .ensures) (levels-known _ _ _ _ _ (pre .1 .0 .1 .1 .1) (rw (wide .ensures) at (c .if2 .taken))),
+      pre .1 .0 .1 .1 .1,
     )
 
 levels-goes-on-requires : (t : ℕ) → levels-lts.Need-goes-on-requires (levels-calls t) (levels-at t) levels.Post levels-Inv-loop levels-μ-loop
-levels-goes-on-requires t c κs = (c .before .before .before .before .before .before .pre .1 .0, c .before .before .before .before .before .before .pre .1 .1 .0)
+levels-goes-on-requires t c κs = let pre = c .before .before .before .before .before .before .before .pre in
+    ((pre .1 .0 .0, pre .1 .0 .1 .0), pre .1 .1)
 
 levels-part-count-requires : (t : ℕ) → levels-lts.Need-part-count-requires (levels-calls t) (levels-at t) levels.Post levels-Inv-loop levels-μ-loop
 levels-part-count-requires t c κs = search needs
 
 levels-loop-holds : (t : ℕ) → levels-lts.Need-loop-holds (levels-calls t) (levels-at t) levels.Post levels-Inv-loop levels-μ-loop
-levels-loop-holds t c =
-    let pre = c .before .before .before .before .before .before .before .before .pre in
+levels-loop-holds t c = let pre = c .before .before .before .before .before .before .before .before .before .pre in
     let if1 = c .before .before .before .before .before .if1 in
-    read-none _ _ _ _ _ _ _ (pre .1 .0) (pre .1 .1 .0) (pre .1 .1 .1 .0) (if1 .left) (c .before .goes-on .ensures)
-    (c .part-count .ensures) (pre .1 .1 .1 .1)
+    read-none _ _ _ _ _ _ _ (pre .1 .0 .0) (pre .1 .0 .1 .0) (pre .1 .0 .1 .1 .0) (if1 .left) (c .before .goes-on .ensures)
+    (c .part-count .ensures) (pre .1 .0 .1 .1 .1)
 
 levels-part-at-requires : (t : ℕ) → levels-lts.Need-part-at-requires (levels-calls t) (levels-at t) levels.Post levels-Inv-loop levels-μ-loop
 levels-part-at-requires t c κs = c .before .loop .inv .lay
@@ -84,19 +79,17 @@ levels-sub-levels : (t : ℕ) → levels-lts.Need-sub-levels (levels-calls t) (l
 levels-sub-levels t c = omega (arith, c .before .before .loop .inv .some-left)
 
 levels-levels-requires : (t : ℕ) → levels-lts.Need-levels-requires (levels-calls t) (levels-at t) levels.Post levels-Inv-loop levels-μ-loop
-levels-levels-requires t c κs =
-    let f = read-part (c .before .before .before .loop .inv) _ (c .before .before .loop-test .taken) (c .before .part-at .ensures) in
+levels-levels-requires t c κs = let f = read-part (c .before .before .before .loop .inv) _ (c .before .before .loop-test .taken) (c .before .part-at .ensures) in
     let l = c .before .before .before .loop .inv .some-left in
     let r = c .before .before .before .loop .inv .room in
-    let m = c .before .before .before .before .before .before .before .before .before .before .before .before .pre .0 in
-    (omega (arith, l, m), (c .before .before .before .loop .inv .lay, (f, (omega (arith, l, r), c .before .before .before .loop .inv .marked))))
+    let pre = c .before .before .before .before .before .before .before .before .before .before .before .before .before .pre in
+    (omega (arith, l, pre .0), ((c .before .before .before .loop .inv .lay, (f, (omega (arith, l, r), c .before .before .before .loop .inv .marked))), pre .1 .1))
 
 levels-same-length : (t : ℕ) → levels-lts.Need-same-length (levels-calls t) (levels-at t) levels.Post levels-Inv-loop levels-μ-loop
-levels-same-length t c = c .before .before .before .levels .ensures .1 .size ∙ sym (c .before .before .before .before .before .before .before .before .before .before .before .before .before .before .before .before .pre .1 .1 .1 .1 .size)
+levels-same-length t c = c .before .before .before .levels .ensures .1 .size ∙ sym (c .before .before .before .before .before .before .before .before .before .before .before .before .before .before .before .before .before .pre .1 .0 .1 .1 .1 .size)
 
 levels-returns-3 : (t : ℕ) → levels-lts.Need-returns-3 (levels-calls t) (levels-at t) levels.Post levels-Inv-loop levels-μ-loop
-levels-returns-3 t c =
-    let loop = c .before .before .before .before .before .before .before .loop in
+levels-returns-3 t c = let loop = c .before .before .before .before .before .before .before .loop in
     let loop-test = c .before .before .before .before .before .before .loop-test in
     let part-at = c .before .before .before .before .before .part-at in
     let levels = c .before .before .before .levels in (
@@ -114,8 +107,7 @@ levels-loop-less : (t : ℕ) → levels-lts.Need-loop-less (levels-calls t) (lev
 levels-loop-less t c = omega arith
 
 levels-loop-again : (t : ℕ) → levels-lts.Need-loop-again (levels-calls t) (levels-at t) levels.Post levels-Inv-loop levels-μ-loop
-levels-loop-again t c =
-    let loop = c .before .before .before .before .before .before .before .before .loop in
+levels-loop-again t c = let loop = c .before .before .before .before .before .before .before .before .loop in
     let loop-test = c .before .before .before .before .before .before .before .loop-test in
     let part-at = c .before .before .before .before .before .before .part-at in
     let levels = c .before .before .before .before .levels in
@@ -123,38 +115,39 @@ levels-loop-again t c =
     (c .higher .ensures) _ (levels .ensures .1)
 
 levels-same-length-2 : (t : ℕ) → levels-lts.Need-same-length-2 (levels-calls t) (levels-at t) levels.Post levels-Inv-loop levels-μ-loop
-levels-same-length-2 t c = c .before .before .before .loop .inv .marked .size ∙ sym (c .before .before .before .before .before .before .before .before .before .before .before .before .pre .1 .1 .1 .1 .size)
+levels-same-length-2 t c = c .before .before .before .loop .inv .marked .size ∙ sym (c .before .before .before .before .before .before .before .before .before .before .before .before .before .pre .1 .0 .1 .1 .1 .size)
 
 levels-returns-4 : (t : ℕ) → levels-lts.Need-returns-4 (levels-calls t) (levels-at t) levels.Post levels-Inv-loop levels-μ-loop
 levels-returns-4 t c = (levels-over (c .before .before .before .loop .inv) (c .before .before .loop-test .left) (c .if4 .taken), c .before .before .before .loop .inv .marked)
 
-levels-add-marks : (t : ℕ) → levels-lts.Need-add-marks (levels-calls t) (levels-at t) levels.Post levels-Inv-loop levels-μ-loop
-levels-add-marks t c = omega (arith, c .if4 .left, c .before .before .before .before .before .before .before .before .before .before .before .before .pre .1 .0 .nodes)
+levels-add-narrow : (t : ℕ) → levels-lts.Need-add-narrow (levels-calls t) (levels-at t) levels.Post levels-Inv-loop levels-μ-loop
+levels-add-narrow t c = omega (arith, c .if4 .left, c .before .before .before .before .before .before .before .before .before .before .before .before .before .pre .1 .0 .0 .nodes)
+
+levels-narrow-requires : (t : ℕ) → levels-lts.Need-narrow-requires (levels-calls t) (levels-at t) levels.Post levels-Inv-loop levels-μ-loop
+levels-narrow-requires t c κs = omega (arith, c .if4 .left, c .before .before .before .before .before .before .before .before .before .before .before .before .before .pre .1 .0 .0 .nodes)
 
 levels-mul-marks : (t : ℕ) → levels-lts.Need-mul-marks (levels-calls t) (levels-at t) levels.Post levels-Inv-loop levels-μ-loop
 levels-mul-marks t c = search needs
 
 levels-slice-write-marks : (t : ℕ) → levels-lts.Need-slice-write-marks (levels-calls t) (levels-at t) levels.Post levels-Inv-loop levels-μ-loop
-levels-slice-write-marks t c =
-    let pre = c .before .before .before .before .before .before .before .before .before .before .before .before .pre in
-    let wide = c .before .before .before .before .before .before .before .before .wide in
-    omega (arith, wide .ensures, pre .1 .1 .0, pre .1 .0 .nodes, c .before .before .before .loop .inv .marked .size)
+levels-slice-write-marks t c = let pre = c .before .before .before .before .before .before .before .before .before .before .before .before .before .before .pre in
+    let wide = c .before .before .before .before .before .before .before .before .before .wide in
+    omega (arith, wide .ensures, pre .1 .0 .1 .0, pre .1 .0 .0 .nodes, c .before .before .before .before .loop .inv .marked .size)
 
 levels-add-result : (t : ℕ) → levels-lts.Need-add-result (levels-calls t) (levels-at t) levels.Post levels-Inv-loop levels-μ-loop
-levels-add-result t c = omega (arith, c .if4 .left, c .before .before .before .before .before .before .before .before .before .before .before .before .pre .1 .0 .nodes)
+levels-add-result t c = omega (arith, c .before .if4 .left, c .before .before .before .before .before .before .before .before .before .before .before .before .before .before .pre .1 .0 .0 .nodes)
 
 levels-same-length-3 : (t : ℕ) → levels-lts.Need-same-length-3 (levels-calls t) (levels-at t) levels.Post levels-Inv-loop levels-μ-loop
-levels-same-length-3 t c = simp length-set (c .before .before .before .loop .inv .marked .size ∙ sym (c .before .before .before .before .before .before .before .before .before .before .before .before .pre .1 .1 .1 .1 .size))
+levels-same-length-3 t c = simp length-set (c .before .before .before .before .loop .inv .marked .size ∙ sym (c .before .before .before .before .before .before .before .before .before .before .before .before .before .before .pre .1 .0 .1 .1 .1 .size))
 
 levels-returns-5 : (t : ℕ) → levels-lts.Need-returns-5 (levels-calls t) (levels-at t) levels.Post levels-Inv-loop levels-μ-loop
-levels-returns-5 t c =
-    let pre = c .before .before .before .before .before .before .before .before .before .before .before .before .pre in
-    let wide = c .before .before .before .before .before .before .before .before .wide in
-    let loop = c .before .before .before .loop in
-    let loop-test = c .before .before .loop-test in
-    let e = ends-here (loop .inv) (loop-test .left) (c .if4 .left) in (
-      levels-here (loop .inv) (loop-test .left) (c .if4 .left),
-      rw (wide .ensures) (marked-more _ _ _ _ _ (loop .inv .marked) (omega (arith, pre .1 .1 .0, pre .1 .0 .nodes)) e),
+levels-returns-5 t c = let pre = c .before .before .before .before .before .before .before .before .before .before .before .before .before .before .pre in
+    let wide = c .before .before .before .before .before .before .before .before .before .wide in
+    let loop = c .before .before .before .before .loop in
+    let loop-test = c .before .before .before .loop-test in
+    let e = ends-here (loop .inv) (loop-test .left) (c .before .if4 .left) in (
+      levels-here (loop .inv) (loop-test .left) (c .before .if4 .left),
+      rw (wide .ensures) (rw (c .narrow .ensures) (marked-more _ _ _ _ _ (loop .inv .marked) (omega (arith, pre .1 .0 .1 .0, pre .1 .0 .0 .nodes)) e)),
     )
 
 pub +levels-spec : {M : Type 1} → statement M
@@ -163,10 +156,9 @@ pub +levels-spec : {M : Type 1} → statement M
     levels-μ-loop
     (levels-returns t)
     (levels-wide-requires t)
-    (levels-mul-if2 t)
-    (levels-slice-read-if2 t)
-    (levels-mul-result t)
-    (levels-slice-read-result t)
+    (levels-mul-known t)
+    (levels-slice-read-known t)
+    (levels-cast-result t)
     (levels-returns-2 t)
     (levels-goes-on-requires t)
     (levels-part-count-requires t)
@@ -182,7 +174,8 @@ pub +levels-spec : {M : Type 1} → statement M
     (levels-loop-again t)
     (levels-same-length-2 t)
     (levels-returns-4 t)
-    (levels-add-marks t)
+    (levels-add-narrow t)
+    (levels-narrow-requires t)
     (levels-mul-marks t)
     (levels-slice-write-marks t)
     (levels-add-result t)

@@ -4,7 +4,7 @@ use borrow.Author.Needs.{needs}
 use native.Mathlib.Omega.{arith}
 use Rattle.ready.proofs.Run.{lands-in, lands-bare, lands-parts, lands-open, lands-spent, Going, going-start, going-node, going-has, going-parts, going-in, going-stop, going-short, going-on, going-known, going-done}
 use mathlib.Core.Path.{sym, _∙_}
-use Rattle.ready.specs.Ends.{Known}
+use Rattle.ready.specs.Ends.{Ends-known}
 use Prim.Native.Nat.{ℕ, _<_, _-_, _+_, _*_}
 use borrow.Fn.Kinds.{In}
 use borrow.Fn.PlainCycle.{Measures, is, falls, and}
@@ -19,7 +19,7 @@ use Rattle.ready.proofs.part_of.Reads as part-of-reads
 use Rattle.ready.proofs.rebuild.Reads as rebuild-reads
 use Rattle.ready.proofs.rebuild_bare.Reads as rebuild-bare-reads
 use Rattle.ready.proofs.anew.Reads as anew-reads
-use Rattle.subst.proofs.wide.Reads as wide-reads
+use Rattle.shapes.proofs.wide.Reads as wide-reads
 use Rattle.ready.proofs.narrow.Reads as narrow-reads
 use Rattle.table.proofs.done_of.Reads as done-of-reads
 use Rattle.table.proofs.push_node.Reads as push-node-reads
@@ -120,7 +120,7 @@ ready-returns-4 t c =
     lands-spent _ _ _ _ h _ g (c .enum-told .given .1)
 
 abbrev ready-types-Inv-loop : ready-types-lts.InvT-loop
-ready-types-Inv-loop w₀ t many left ends tys₀ cur₀ i₀ w tys cur i = Going w₀ cur₀ t many left w tys cur i × Known w cur ends
+ready-types-Inv-loop w₀ t many left ends tys₀ cur₀ i₀ w tys cur i = Going w₀ cur₀ t many left w tys cur i × Ends-known w cur ends
 
 abbrev ready-types-μ-loop : ready-types-lts.MeasureT-loop
 ready-types-μ-loop w₀ t many left ends tys₀ cur₀ i₀ w tys cur i = many - i

@@ -9,29 +9,29 @@ use Rattle.ready.proofs.soon_over.Reads as soon-over
 use Rattle.ready.proofs.soon_over.Kinds as soon-over-kinds
 use Rattle.ready.proofs.+soon_over.Lts-soon_over as soon-over-lts
 use Rattle.ready.proofs.goes_on.Reads as goes-on-reads
-use Rattle.subst.proofs.part_at.Reads as part-at-reads
-use Rattle.subst.proofs.part_count.Reads as part-count-reads
+use Rattle.shapes.proofs.part_at.Reads as part-at-reads
+use Rattle.shapes.proofs.part_count.Reads as part-count-reads
 use Rattle.ready.proofs.+soon_over.{statement}
 use Rattle.ready.proofs.+soon_over.Tie.{close}
 
-abbrev μ-soon-over : Measures 1 soon-over-kinds.ps ℕ
+abbrev μ-soon-over : Measures 2 soon-over-kinds.ps ℕ
 μ-soon-over κs a = a .1 .1 .1 .0
 
-abbrev soon-over-at : ℕ → In 1 soon-over-kinds.ps
-soon-over-at t = and 1 soon-over-kinds.ps (is 1 soon-over-kinds.ps μ-soon-over t) soon-over.Pre
+abbrev soon-over-at : ℕ → In 2 soon-over-kinds.ps
+soon-over-at t = and 2 soon-over-kinds.ps (is 2 soon-over-kinds.ps μ-soon-over t) soon-over.Pre
 
-abbrev soon-over-below : ℕ → In 1 soon-over-kinds.ps
+abbrev soon-over-below : ℕ → In 2 soon-over-kinds.ps
 soon-over-below t =
-    and 1 soon-over-kinds.ps (falls 1 soon-over-kinds.ps _<_ μ-soon-over t) soon-over.Pre
+    and 2 soon-over-kinds.ps (falls 2 soon-over-kinds.ps _<_ μ-soon-over t) soon-over.Pre
 
 abbrev soon-over-calls : ℕ → soon-over-lts.Claims
 soon-over-calls t = (goes-on-reads.Asked, goes-on-reads.Learnt, part-count-reads.Asked, part-count-reads.Learnt, part-at-reads.Asked, part-at-reads.Learnt, soon-over-below t, soon-over.Post)
 
 abbrev soon-over-Inv-loop : soon-over-lts.InvT-loop
-soon-over-Inv-loop w u t left budget s many rest₀ i₀ rest i = Few w u t left s many i
+soon-over-Inv-loop w u t left budget ends shape many rest₀ i₀ rest i = Few w u t left shape many i
 
 abbrev soon-over-μ-loop : soon-over-lts.MeasureT-loop
-soon-over-μ-loop w u t left budget s many rest₀ i₀ rest i = many - i
+soon-over-μ-loop w u t left budget ends shape many rest₀ i₀ rest i = many - i
 
 soon-over-returns : (t : ℕ) → soon-over-lts.Need-returns (soon-over-calls t) (soon-over-at t) soon-over.Post soon-over-Inv-loop soon-over-μ-loop
 soon-over-returns t c = soon-none _ _ _ _
@@ -40,7 +40,7 @@ soon-over-returns-2 : (t : ℕ) → soon-over-lts.Need-returns-2 (soon-over-call
 soon-over-returns-2 t c = soon-none _ _ _ _
 
 soon-over-goes-on-requires : (t : ℕ) → soon-over-lts.Need-goes-on-requires (soon-over-calls t) (soon-over-at t) soon-over.Post soon-over-Inv-loop soon-over-μ-loop
-soon-over-goes-on-requires t c κs = c .before .before .before .pre .1
+soon-over-goes-on-requires t c κs = c .before .before .before .before .pre .1
 
 soon-over-part-count-requires : (t : ℕ) → soon-over-lts.Need-part-count-requires (soon-over-calls t) (soon-over-at t) soon-over.Post soon-over-Inv-loop soon-over-μ-loop
 soon-over-part-count-requires t c κs = search needs
@@ -49,7 +49,7 @@ soon-over-sub-rest : (t : ℕ) → soon-over-lts.Need-sub-rest (soon-over-calls 
 soon-over-sub-rest t c = let z = c .before .before .if2 .left in omega arith
 
 soon-over-loop-holds : (t : ℕ) → soon-over-lts.Need-loop-holds (soon-over-calls t) (soon-over-at t) soon-over.Post soon-over-Inv-loop soon-over-μ-loop
-soon-over-loop-holds t c = few-none _ _ _ _ _ _ (c .before .before .before .before .before .pre .1 .0) (c .before .before .before .if1 .left) (c .before .goes-on .ensures) (c .part-count .ensures)
+soon-over-loop-holds t c = few-none _ _ _ _ _ _ (c .before .before .before .before .before .before .pre .1 .0 .0) (c .before .before .before .if1 .left) (c .before .goes-on .ensures) (c .part-count .ensures)
 
 soon-over-part-at-requires : (t : ℕ) → soon-over-lts.Need-part-at-requires (soon-over-calls t) (soon-over-at t) soon-over.Post soon-over-Inv-loop soon-over-μ-loop
 soon-over-part-at-requires t c κs = c .before .loop .inv .lay
@@ -61,8 +61,8 @@ soon-over-soon-over-requires : (t : ℕ) → soon-over-lts.Need-soon-over-requir
 soon-over-soon-over-requires t c κs =
     let f = few-part (c .before .before .loop .inv) _ (c .before .loop-test .taken) (c .part-at .ensures) in
     let l = c .before .before .loop .inv .some-left in
-    let m = c .before .before .before .before .before .before .before .before .pre .0 in
-    (omega (arith, l, m), (c .before .before .loop .inv .lay, f))
+    let pre = c .before .before .before .before .before .before .before .before .before .pre in
+    (omega (arith, l, pre .0), ((c .before .before .loop .inv .lay, f), pre .1 .1))
 
 soon-over-returns-3 : (t : ℕ) → soon-over-lts.Need-returns-3 (soon-over-calls t) (soon-over-at t) soon-over.Post soon-over-Inv-loop soon-over-μ-loop
 soon-over-returns-3 t c = soon-none _ _ _ _

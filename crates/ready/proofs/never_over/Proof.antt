@@ -9,7 +9,9 @@ slice-aggregate-levels : tie.Need-slice-aggregate-levels
 slice-aggregate-levels c = search needs
 
 levels-requires : tie.Need-levels-requires
-levels-requires c κs = (c .before .before .pre .0, (c .before .before .pre .1, (omega arith, marked-none _ _)))
+levels-requires c κs =
+    let pre = c .before .before .before .pre in
+    ((pre .0 .0, (pre .0 .1, (omega arith, marked-none _ _))), pre .1)
 
 returns : tie.Need-returns
 returns c = reaches-is _ _ _ _ (c .before .levels .ensures .0)

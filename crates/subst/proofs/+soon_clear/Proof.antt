@@ -12,9 +12,9 @@ use borrow.Fn.PlainCycle.{Measures, is, falls, and}
 use Rattle.subst.proofs.soon_clear.Reads as soon-clear
 use Rattle.subst.proofs.soon_clear.Kinds as soon-clear-kinds
 use Rattle.subst.proofs.+soon_clear.Lts-soon_clear as soon-clear-lts
-use Rattle.subst.proofs.is_var.Reads as is-var-reads
-use Rattle.subst.proofs.part_at.Reads as part-at-reads
-use Rattle.subst.proofs.part_count.Reads as part-count-reads
+use Rattle.shapes.proofs.is_var.Reads as is-var-reads
+use Rattle.shapes.proofs.part_at.Reads as part-at-reads
+use Rattle.shapes.proofs.part_count.Reads as part-count-reads
 use Rattle.table.proofs.node_at.Reads as node-at-reads
 use Rattle.subst.proofs.+soon_clear.{statement}
 use Rattle.subst.proofs.+soon_clear.Tie.{close}

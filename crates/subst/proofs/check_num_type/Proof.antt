@@ -1,5 +1,5 @@
 -- `subst::check_num_type` meets its contract. Assumes nothing.
-use Rattle.subst.specs.Answers.{next}
+use Rattle.shapes.specs.Parts.{next}
 use Rattle.table.specs.State.{found}
 use Rattle.definition.specs.Join.{num-shape}
 use Rattle.subst.proofs.Laws.{value-is, var-of, num-plain, num-open, num-bound}

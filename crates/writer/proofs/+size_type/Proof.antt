@@ -11,8 +11,8 @@ use Rattle.writer.proofs.size_type.Kinds as size-type-kinds
 use Rattle.writer.proofs.+size_type.Lts-size_type as size-type-lts
 use Rattle.table.proofs.node_at.Reads as node-at-reads
 use Rattle.writer.proofs.head_size.Reads as head-size-reads
-use Rattle.writer.proofs.part_at.Reads as part-at-reads
-use Rattle.writer.proofs.part_count.Reads as part-count-reads
+use Rattle.shapes.proofs.part_at.Reads as part-at-reads
+use Rattle.shapes.proofs.part_count.Reads as part-count-reads
 use Rattle.writer.proofs.+size_type.{statement}
 use Rattle.writer.proofs.+size_type.Tie.{close}
 

@@ -10,8 +10,8 @@ use Rattle.writer.proofs.write_type.Reads as write-type
 use Rattle.writer.proofs.write_type.Kinds as write-type-kinds
 use Rattle.writer.proofs.+write_type.Lts-write_type as write-type-lts
 use Rattle.table.proofs.node_at.Reads as node-at-reads
-use Rattle.writer.proofs.part_at.Reads as part-at-reads
-use Rattle.writer.proofs.part_count.Reads as part-count-reads
+use Rattle.shapes.proofs.part_at.Reads as part-at-reads
+use Rattle.shapes.proofs.part_count.Reads as part-count-reads
 use Rattle.writer.proofs.write_head.Reads as write-head-reads
 use Rattle.writer.proofs.+write_type.{statement}
 use Rattle.writer.proofs.+write_type.Tie.{close}
