@@ -2,3 +2,5 @@
 pub mod Defaults
 pub mod Emptied
 pub mod Solved
+pub mod Laws
+pub mod Lacks

@@ -28,9 +28,9 @@ use Rattle.table.specs.declared.Out.the-variants.{Done, Failed, Refused}
 use Rattle.table.proofs.Known.{known-kept}
 use Rattle.merge.proofs.Answers.{done-out}
 use Rattle.constraints.specs.Solve.{numbered, Answered}
-use Rattle.failures.specs.Failing.{ty-of}
+use Rattle.constraints.specs.Failing.{ty-of}
 use Rattle.writer.specs.Bytes.{All-bytes}
-use Rattle.report.specs.Report.{Tys-in}
+use Rattle.solve.specs.Report.{Tys-in}
 use Rattle.answer.specs.Ran.{Tells, Settles}
 use Rattle.answer.specs.declared.Show.the-variants as show
 use Rattle.answer.proofs.Calls.{ranges-bytes, seen-bytes}

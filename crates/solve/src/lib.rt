@@ -1,20 +1,293 @@
 // SV: solve_constraints. Numeric variables that nothing decides become u64, the failures are the payload, and no constraint stays.
 // Changed from the source that NOTICE names: ported to Rattle.
-ghost use Prim.Native.Nat.{_≤_};
-ghost use lib.ListN.{length};
-ghost use Rattle.table.specs.State.{Lay, view};
-ghost use Rattle.table.specs.Known.{Declared};
+ghost use Prim.Native.Nat.{_≤_, ℕ, _+_, _<_, _%_};
+ghost use lib.ListN.{length, getD};
+ghost use Rattle.table.specs.State.{Lay, view, constraint-of, seen};
+ghost use Rattle.table.specs.Known.{Declared, Known};
 ghost use Rattle.snap.specs.Snap.{Above, Saved};
-ghost use Rattle.failures.specs.Failing.{All-ready};
-ghost use Rattle.writer.specs.Bytes.{All-bytes};
-ghost use Rattle.report.specs.Report.{Tys-in};
+ghost use Rattle.constraints.specs.Failing.{All-ready, Is-ability, Asked-ready, why, failing, Failing-in, Ty-in};
+ghost use Rattle.writer.specs.Bytes.{All-bytes, capped, Few-is, Wrote};
+ghost use Rattle.solve.specs.Report.{Tys-in, row-count};
 ghost use Rattle.solve.specs.Solves.{Holds-sound, solved, reported, Reports, Solves};
+ghost use mathlib.Core.Path.{_≡_};
+ghost use mathlib.Core.List.{List, [], _∷_, _++_};
+ghost use Rattle.definition.specs.Types as d;
+ghost use Rattle.definition.specs.Store.{spanned};
+ghost use Rattle.definition.specs.Constraints.{ability-failure, solve-constraint, failures};
+ghost use Rattle.definition.specs.Write.{u32 as bytes-u32};
+ghost use Rattle.abilities.specs.Rules.{Place-in};
 use answer::Answer;
 use answer::MAX_PAYLOAD;
 use answer::Ran;
 use answer::Show;
+use constraints::Failing;
+use table::Constraint;
 use table::Found;
+use table::Shape;
 use table::Used;
+use writer::Few;
+
+// ---- the payload: the failures in bytes, sized first and then written
+
+// copy, drop, store, key
+fn ability_at(k: usize) -> u8
+    requires { ⌜ k < 4 ⌝ }
+    ensures { λ r. ⌜ Is-ability r × (r ≡ getD (1 ∷ 2 ∷ 4 ∷ 8 ∷ []) k 0) ⌝ }
+{
+    let abilities: [u8; 4] = [1, 2, 4, 8];
+    abilities[k]
+}
+
+// How many rows may hold a failure: a constraint that asks for no abilities has its own in the first.
+fn row_count(c: Constraint) -> usize
+    ensures { λ r. ⌜ (r ≡ row-count (constraint-of c)) × (r ≤ 4) ⌝ }
+{
+    match c {
+        Constraint::Ability(_, _, _) => 4,
+        Constraint::Numeric(_, _) => 1,
+        Constraint::Bits(_, _) => 1,
+        Constraint::Ordered(_, _) => 1,
+        Constraint::BaseType(_, _) => 1,
+        Constraint::SingleType(_, _) => 1,
+    }
+}
+
+// How many bytes a rule has.
+fn why_size(place: Found) -> u32
+    ensures { λ r. ⌜ (r ≡ length (why place)) × (r ≤ 2) ⌝ }
+{
+    match place {
+        Found::Nothing => 1,
+        Found::Just(_) => 2,
+    }
+}
+
+// .. of the failure for an ability: code, location, ability, type and rule.
+fn size_lacks(w: &[u32], u: Used, t: u32, place: Found, room: u32) -> u32
+    requires { ⌜ Lay (now w) u × ((t < u .nodes) × (room ≤ 4096)) ⌝ }
+    ensures { λ r. ⌜ (r ≤ room + 1) × ((ds : List d.Struct) (loc ability : ℕ) → r ≡ capped room (length (ability-failure (seen (now (w .entry)) u ds) loc ability (spanned (seen (now (w .entry)) u ds) t) (why place)))) ⌝ }
+{
+    let around = 6 + why_size(place);
+    if room < around {
+        return room + 1;
+    }
+    around + writer::size_type(w, u, t, room - around)
+}
+
+// How many bytes a failure has, if no more than `room`; else one more than `room`.
+fn size_failing(w: &[u32], u: Used, f: Failing, room: u32) -> u32
+    requires { ⌜ Lay (now w) u × (Failing-in (u .nodes) f × (room ≤ 4096)) ⌝ }
+    ensures { λ r. ⌜ ((ds : List d.Struct) → r ≡ capped room (length (failing f (seen (now (w .entry)) u ds)))) ⌝ }
+{
+    match f {
+        Failing::Fine => 0,
+        Failing::Node(_, _, t) => {
+            if room < 5 {
+                return room + 1;
+            }
+            5 + writer::size_type(w, u, t, room - 5)
+        }
+        Failing::Anything(_, _, _) => {
+            if room < 10 {
+                return room + 1;
+            }
+            10
+        }
+        Failing::Lacks(_, _, t, place) => size_lacks(w, u, t, place, room),
+    }
+}
+
+// How many bytes the failures of a constraint have, if no more than `room`; else one more than `room`.
+fn size_constraint(
+    w: &[u32],
+    u: Used,
+    params: &[[u8; 8]; 256],
+    sets: &[u32],
+    c: Constraint,
+    room: u32,
+) -> u32
+    requires { ⌜ Lay (now w) u × (Ty-in (u .nodes) (constraint-of c) × (Asked-ready (now w) u (now params) (now sets) (constraint-of c) × (room ≤ 4096))) ⌝ }
+    ensures { λ r. ⌜ (r ≤ room + 1) × ((ds : List d.Struct) → Known (now (w .entry)) u (now (params .entry)) ds → r ≡ capped room (length (solve-constraint (seen (now (w .entry)) u ds) (constraint-of c)))) ⌝ }
+{
+    let n = row_count(c);
+    let mut size: u32 = 0;
+    let mut k: usize = 0;
+    while k < n {
+        let f = constraints::row_of(w, u, params, sets, c, ability_at(k));
+        size = size + size_failing(w, u, f, room - size);
+        if room < size {
+            return room + 1;
+        }
+        k = k + 1;
+    }
+    size
+}
+
+// How many bytes the failures have, if no more than 4,096; else 4,097.
+fn size_failures(w: &[u32], u: Used, params: &[[u8; 8]; 256], sets: &[u32]) -> u32
+    requires { ⌜ Lay (now w) u × (Tys-in (view (now w) u) × All-ready (now w) u (now params) (now sets) (view (now w) u .constraints)) ⌝ }
+    ensures { λ r. ⌜ ((ds : List d.Struct) → Known (now (w .entry)) u (now (params .entry)) ds → r ≡ capped 4096 (length (failures (seen (now (w .entry)) u ds) (seen (now (w .entry)) u ds .constraints)))) ⌝ }
+{
+    let n = u.constraints;
+    let mut size: u32 = 0;
+    let mut i: u32 = 0;
+    while i < n {
+        let c = table::constraint_at(w, u, i);
+        size = size + size_constraint(w, u, params, sets, c, 4096 - size);
+        if 4096 < size {
+            return 4097;
+        }
+        i = i + 1;
+    }
+    size
+}
+
+fn low(x: u32) -> u8
+    ensures { λ r. ⌜ r ≡ x % 256 ⌝ }
+{
+    (x % 256) as u8
+}
+
+// A failure's code and location.
+fn code_head(code: u32, loc: u32) -> Few
+    requires { ⌜ code < 4 ⌝ }
+    ensures { λ r. ⌜ Few-is (r .n) (r .bytes) (code ∷ bytes-u32 loc) ⌝ }
+{
+    let k = low(code);
+    let a = low(loc);
+    let b = low(loc / 256);
+    let c = low(loc / 65536);
+    let e = low(loc / 16777216);
+    Few {
+        bytes: [k, a, b, c, e, 0, 0, 0, 0, 0],
+        n: 5,
+    }
+}
+
+// Code, location and ability.
+fn ability_head(loc: u32, ability: u8) -> Few
+    ensures { λ r. ⌜ Few-is (r .n) (r .bytes) (4 ∷ bytes-u32 loc ++ (ability ∷ [])) ⌝ }
+{
+    let a = low(loc);
+    let b = low(loc / 256);
+    let c = low(loc / 65536);
+    let e = low(loc / 16777216);
+    Few {
+        bytes: [4, a, b, c, e, ability, 0, 0, 0, 0],
+        n: 6,
+    }
+}
+
+fn why_of(place: Found) -> Few
+    requires { ⌜ Place-in place ⌝ }
+    ensures { λ r. ⌜ Few-is (r .n) (r .bytes) (why place) ⌝ }
+{
+    match place {
+        Found::Nothing => Few {
+            bytes: [1, 0, 0, 0, 0, 0, 0, 0, 0, 0],
+            n: 1,
+        },
+        Found::Just(i) => Few {
+            bytes: [2, low(i), 0, 0, 0, 0, 0, 0, 0, 0],
+            n: 2,
+        },
+    }
+}
+
+// The failure for an ability: code, location, ability, type and rule.
+fn write_lacks(
+    w: &[u32],
+    u: Used,
+    loc: u32,
+    ability: u8,
+    t: u32,
+    place: Found,
+    buf: &mut [u8],
+    at: usize,
+) -> usize
+    requires { ⌜ Lay (now w) u × ((t < u .nodes) × (Place-in place × All-bytes (view (now w) u))) ⌝ }
+    requires { ⌜ ((ds : List d.Struct) → at + length (ability-failure (seen (now w) u ds) loc ability (spanned (seen (now w) u ds) t) (why place)) ≤ length (now buf)) ⌝ }
+    ensures { λ r. ⌜ ((ds : List d.Struct) → Wrote (now (buf .entry)) at (ability-failure (seen (now (w .entry)) u ds) loc ability (spanned (seen (now (w .entry)) u ds) t) (why place)) (now (buf .exit)) r) ⌝ }
+{
+    let few = ability_head(loc, ability);
+    let next = writer::put_few(buf, at, few);
+    let end = writer::write_type(w, u, t, buf, next);
+    let why = why_of(place);
+    writer::put_few(buf, end, why)
+}
+
+fn write_failing(w: &[u32], u: Used, f: Failing, buf: &mut [u8], at: usize) -> usize
+    requires { ⌜ Lay (now w) u × (Failing-in (u .nodes) f × All-bytes (view (now w) u)) ⌝ }
+    requires { ⌜ ((ds : List d.Struct) → at + length (failing f (seen (now w) u ds)) ≤ length (now buf)) ⌝ }
+    ensures { λ r. ⌜ ((ds : List d.Struct) → Wrote (now (buf .entry)) at (failing f (seen (now (w .entry)) u ds)) (now (buf .exit)) r) ⌝ }
+{
+    match f {
+        Failing::Fine => at,
+        Failing::Node(code, loc, t) => {
+            let few = code_head(code, loc);
+            let next = writer::put_few(buf, at, few);
+            writer::write_type(w, u, t, buf, next)
+        }
+        Failing::Anything(code, loc, l) => {
+            let few = code_head(code, loc);
+            let next = writer::put_few(buf, at, few);
+            writer::write_head(l, Shape::Anything, buf, next)
+        }
+        Failing::Lacks(loc, ability, t, place) => {
+            write_lacks(w, u, loc, ability, t, place, buf, at)
+        }
+    }
+}
+
+// The failures of a constraint, which fit, from byte `at` on.
+fn write_constraint(
+    w: &[u32],
+    u: Used,
+    params: &[[u8; 8]; 256],
+    sets: &[u32],
+    c: Constraint,
+    buf: &mut [u8],
+    at: usize,
+) -> usize
+    requires { ⌜ Lay (now w) u × (Ty-in (u .nodes) (constraint-of c) × (Asked-ready (now w) u (now params) (now sets) (constraint-of c) × (All-bytes (view (now w) u) × Declared (now w) u (now params)))) ⌝ }
+    requires { ⌜ ((ds : List d.Struct) → Known (now w) u (now params) ds → at + length (solve-constraint (seen (now w) u ds) (constraint-of c)) ≤ length (now buf)) ⌝ }
+    ensures { λ r. ⌜ ((ds : List d.Struct) → Known (now (w .entry)) u (now (params .entry)) ds → Wrote (now (buf .entry)) at (solve-constraint (seen (now (w .entry)) u ds) (constraint-of c)) (now (buf .exit)) r) ⌝ }
+{
+    let n = row_count(c);
+    let mut next = at;
+    let mut k: usize = 0;
+    while k < n {
+        let f = constraints::row_of(w, u, params, sets, c, ability_at(k));
+        next = write_failing(w, u, f, buf, next);
+        k = k + 1;
+    }
+    next
+}
+
+// The failures, which fit, from byte 0 on; how many bytes they are.
+fn write_failures(
+    w: &[u32],
+    u: Used,
+    params: &[[u8; 8]; 256],
+    sets: &[u32],
+    buf: &mut [u8],
+) -> usize
+    requires { ⌜ Lay (now w) u × (Tys-in (view (now w) u) × (All-ready (now w) u (now params) (now sets) (view (now w) u .constraints) × (All-bytes (view (now w) u) × Declared (now w) u (now params)))) ⌝ }
+    requires { ⌜ ((ds : List d.Struct) → Known (now w) u (now params) ds → length (failures (seen (now w) u ds) (seen (now w) u ds .constraints)) ≤ length (now buf)) ⌝ }
+    ensures { λ r. ⌜ ((ds : List d.Struct) → Known (now (w .entry)) u (now (params .entry)) ds → Wrote (now (buf .entry)) 0 (failures (seen (now (w .entry)) u ds) (seen (now (w .entry)) u ds .constraints)) (now (buf .exit)) r) ⌝ }
+{
+    let n = u.constraints;
+    let mut next: usize = 0;
+    let mut i: u32 = 0;
+    while i < n {
+        let c = table::constraint_at(w, u, i);
+        next = write_constraint(w, u, params, sets, c, buf, next);
+        i = i + 1;
+    }
+    next
+}
+
+// ---- SV
 
 // The failures as payload, if they fit, and no constraint.
 fn report_failures(
@@ -30,11 +303,11 @@ fn report_failures(
     requires { ⌜ Tys-in (view (now w) u) × (All-ready (now w) u (now params) (now sets) (view (now w) u .constraints) × (All-bytes (view (now w) u) × (Declared (now w) u (now params) × (4096 ≤ length (now buf))))) ⌝ }
     ensures { λ r. ⌜ Reports (now (w .entry)) u before (now (params .entry)) (now (saved .entry)) (now (buf .entry)) (now (w .exit)) (now (buf .exit)) r reported ⌝ }
 {
-    let size = report::size_failures(w, u, params, sets);
+    let size = size_failures(w, u, params, sets);
     if MAX_PAYLOAD < size {
         return answer::refuse(w, u, before, saved, 14);
     }
-    let len = report::write_failures(w, u, params, sets, buf);
+    let len = write_failures(w, u, params, sets, buf);
     let left = constraints::take_constraints(w, u);
     Answer {
         number: 0,

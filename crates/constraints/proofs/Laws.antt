@@ -1,0 +1,70 @@
+-- A constraint's failure, as laws that follow the code. Assumes nothing.
+use mathlib.Core.Path.{_≡_, refl, sym, ap, _∙_, subst}
+use mathlib.Core.Bool.{Bool, true, false}
+use mathlib.Core.List.{List, []}
+use Prim.Native.Nat.{ℕ, _<_}
+use lib.Dec.{eqb}
+use borrow.Author.Tests.{eq-eqb, ne-eqb}
+use Rattle.definition.specs.Types as d
+use Rattle.definition.specs.Types.{State, Struct, Spanned, Type-value, if_then_else_}
+use Rattle.definition.specs.Store.{node, with-args, spanned}
+use Rattle.definition.specs.Subst.{unfold-type}
+use Rattle.definition.specs.Constraints.{failure, solve}
+use Rattle.definition.specs.Write.{Bytes}
+use Rattle.table.specs.State.{seen, node-of, shape-of}
+use Rattle.table.specs.declared.Used.{Used}
+use Rattle.table.specs.declared.Node.{Node}
+use Rattle.subst.specs.Answers.{unfolded, Unfolds}
+use Rattle.subst.specs.declared.Unfolded.{Unfolded}
+use Rattle.subst.specs.declared.Unfolded.the-variants.{Node as NodeU, Anything as AnythingU}
+use Rattle.subst.proofs.Laws.{value-is}
+use Rattle.constraints.specs.Failing.{good, ask, plain, Asks, failing, Fails}
+use Rattle.constraints.specs.declared.Ask.{Ask}
+use Rattle.constraints.specs.declared.Failing.the-variants.{Fine, Node as NodeF, Anything as AnythingF}
+
+-- nothing is asked
+ask-none : (s : State) (code loc ty : ℕ) → code ≡ 0 → [] ≡ ask s code loc ty
+unfolding ask
+ask-none s code loc ty e = simp (eq-eqb _ _ e)
+
+-- what is asked, of the type as it unfolds
+ask-good : (s : State) (code loc ty : ℕ) (x : Spanned Type-value) → (code ≡ 0 → ⊥) → x ≡ unfold-type s (spanned s ty) → good code (x .value) ≡ true → [] ≡ ask s code loc ty
+unfolding ask solve
+ask-good s code loc ty x ne e g = rw (ne-eqb code 0 ne, ← e, g) refl
+
+ask-fails : (s : State) (code loc ty : ℕ) (x : Spanned Type-value) → (code ≡ 0 → ⊥) → x ≡ unfold-type s (spanned s ty) → good code (x .value) ≡ false → failure s code loc x ≡ ask s code loc ty
+unfolding ask solve
+ask-fails s code loc ty x ne e g = rw (ne-eqb code 0 ne, ← e, g) refl
+
+module _ (w : List ℕ) (u : Used) (r : Ask) (c : d.Constraint) (a : Asks r c) where
+  pub nothing-asked : r .code ≡ 0 → Fails w u Fine c
+  nothing-asked e = record { is = λ ds. ask-none (seen w u ds) (r .code) (r .loc) (r .ty) e ∙ a .is (seen w u ds); inside = tt }
+
+  module _ (ne : r .code ≡ 0 → ⊥) (f : Unfolded) (h : Unfolds w u f (λ s. spanned s (r .ty))) where
+    fine : ((ds : List Struct) → good (r .code) (unfolded f (seen w u ds) .value) ≡ true) → Fails w u Fine c
+    fine g = record { is = λ ds. ask-good (seen w u ds) (r .code) (r .loc) (r .ty) (unfolded f (seen w u ds)) ne (h .is ds) (g ds) ∙ a .is (seen w u ds); inside = tt }
+
+    failed : (ds : List Struct) → good (r .code) (unfolded f (seen w u ds) .value) ≡ false → failure (seen w u ds) (r .code) (r .loc) (unfolded f (seen w u ds)) ≡ plain (seen w u ds) c
+    failed ds g = ask-fails (seen w u ds) (r .code) (r .loc) (r .ty) (unfolded f (seen w u ds)) ne (h .is ds) g ∙ a .is (seen w u ds)
+
+    module _ (t : ℕ) (p : f ≡ NodeU t) (n : Node) (k : (ds : List Struct) → node-of n ≡ node (seen w u ds) t) (b : Bool) (is : (st : State) → b ≡ good (r .code) (with-args st (shape-of (n .shape)))) where
+      node-good : (ds : List Struct) → good (r .code) (unfolded f (seen w u ds) .value) ≡ b
+      unfolding spanned
+      node-good ds = ap (λ (g : Unfolded). good (r .code) (unfolded g (seen w u ds) .value)) p ∙ ap (good (r .code)) (sym (value-is (seen w u ds) t n (k ds))) ∙ sym (is (seen w u ds))
+
+      pub node-fine : b ≡ true → Fails w u Fine c
+      node-fine q = fine (λ ds. node-good ds ∙ q)
+
+      pub node-fails : b ≡ false → Fails w u (NodeF (r .code) (r .loc) t) c
+      node-fails q = record { is = λ ds. ap (λ (g : Unfolded). failure (seen w u ds) (r .code) (r .loc) (unfolded g (seen w u ds))) (sym p) ∙ failed ds (node-good ds ∙ q); inside = (a .few, rw p at (h .inside)) }
+
+    module _ (at : ℕ) (p : f ≡ AnythingU at) (b : Bool) (is : (st : State) → b ≡ good (r .code) (with-args st d.Anything)) where
+      anything-good : (ds : List Struct) → good (r .code) (unfolded f (seen w u ds) .value) ≡ b
+      unfolding with-args
+      anything-good ds = ap (λ (g : Unfolded). good (r .code) (unfolded g (seen w u ds) .value)) p ∙ sym (is (seen w u ds))
+
+      pub anything-fine : b ≡ true → Fails w u Fine c
+      anything-fine q = fine (λ ds. anything-good ds ∙ q)
+
+      pub anything-fails : b ≡ false → Fails w u (AnythingF (r .code) (r .loc) at) c
+      anything-fails q = record { is = λ ds. ap (λ (g : Unfolded). failure (seen w u ds) (r .code) (r .loc) (unfolded g (seen w u ds))) (sym p) ∙ failed ds (anything-good ds ∙ q); inside = a .few }

@@ -1,3 +1,0 @@
--- Laws of failures. Assumes nothing.
-pub mod Laws
-pub mod Lacks
