@@ -1,8 +1,7 @@
 // A record that is read and placed is run, by its mark. SD, whose bytes stand beside the words, and SV, whose payload is no type's, have calls of their own.
-ghost use Rattle.table.specs.State.{Lay};
+ghost use Rattle.table.specs.State.{Lay, Any};
 ghost use Rattle.table.specs.Known.{Known};
 ghost use Rattle.fields.specs.Noded.{binds, looks, adds, bind-of, look-of, add-of, Bind-in, Look-in};
-ghost use Rattle.run.specs.Runs.{Any};
 ghost use Rattle.dispatch.specs.Dispatch.{Ran-as};
 use answer::Ran;
 use arms::TypingCase;
