@@ -127,7 +127,7 @@ module _ (w : List ℕ) (u before : Used) (saved : List ℕ) where
       puts-back back h =
           settles u true
           (λ w₀ s. back w₀ s .lay)
-          (λ w₀ s ds₀ ds. h (seen w u ds) (seen w₀ before ds₀) ∙ sym (back w₀ s .is ds ∙ put-back-same w₀ before ds₀ (seen w u ds .structs) (seen w u ds)))
+          (λ w₀ s ds₀ ds. h (seen w u ds) (seen w₀ before ds₀) ∙ sym (back w₀ s .is ds tt ∙ put-back-same w₀ before ds₀ (seen w u ds .structs) (seen w u ds)))
           (λ w₀ s ds₀ ds a b. declares-same w w′ u ds (back w₀ s .structs) b)
 
 -- what was taken is given back where the variables stand

@@ -15,20 +15,20 @@ use Rattle.definition.specs.Subst.{unfold-type}
 use Rattle.definition.specs.Join.{join}
 use Rattle.definition.specs.Constraints.{undecided, u64, num-vars, default-num-var, default-num-vars}
 use Rattle.table.specs.Rows.{read-option}
-use Rattle.table.specs.State.{Lay, Grown, Changed, After, Nodes-in, outcome, seen, view, done, found, node-of, shape-of}
+use Rattle.table.specs.State.{Lay, Any, Refines, Changed, After, Nodes-in, outcome, seen, view, done, found, node-of, shape-of}
 use Rattle.table.specs.declared.Step.{Step}
 use Rattle.table.specs.declared.Used.{Used}
 use Rattle.table.specs.declared.Node.{Node}
 use Rattle.table.specs.declared.Out.the-variants.{Done}
 use Rattle.table.specs.declared.Found.{Found}
 use Rattle.table.specs.declared.Found.the-variants.{Nothing, Just}
-use Rattle.table.proofs.Steps.{grown-refl, grown-trans, after-stop, after-then, changed-now, changed-is, changed-stop, changed-then}
+use Rattle.table.proofs.Steps.{bind-assoc, refines-now, refines-is, refines-on, refines-as, refines-stop, refines-then, after-stop, after-then}
+use Rattle.table.proofs.Grown.{value-is}
 use Rattle.table.proofs.Fields.{num-read}
 use Rattle.table.proofs.Pushed.{taken-view}
 use Rattle.subst.specs.Answers.{unfolded, var-at, Unfolds}
 use Rattle.subst.specs.declared.Unfolded.{Unfolded}
 use Rattle.subst.specs.declared.Unfolded.the-variants.{Node as NodeU, Anything as AnythingU}
-use Rattle.merge.proofs.Answers.{then-is, value-is}
 use Rattle.snap.specs.Snap.{Saved}
 use Rattle.constraints.specs.Solve.{numbered, Answered, join-u64, default-marked, defaults}
 
@@ -44,12 +44,6 @@ module _ (s : State) (f : Unfolded) (ty : Spanned Type-value) (e : unfolded f s 
   undecided-anything loc p = ap (λ (g : Unfolded). undecided (unfolded g s .value)) (sym p) ∙ ap (λ (x : Spanned Type-value). undecided (x .value)) e
 
 -- ---- answers without a number
-
-bind-assoc : {A B C : Type 0} (r : Result A) (f : A → Result B) (g : B → Result C) → ((r >>= f) >>= g) ≡ (r >>= (λ a. f a >>= g))
-unfolding _>>=_
-bind-assoc (ok a) f g = refl
-bind-assoc (err s e) f g = refl
-bind-assoc (refused x) f g = refl
 
 numbered-bind : (r : Result State) (f : State → Result State) → numbered (r >>= f) ≡ (numbered r >>= (λ x. numbered (f (x .0))))
 unfolding numbered _>>=_
@@ -68,25 +62,25 @@ from-tvar t x = join (x .0) t (x .1)
 abbrev from-u64 : ℕ → ℕ → State × ℕ → Result (State × ℕ)
 from-u64 v loc x = sp (x .0) loc (d.Var v) >>= from-tvar (x .1)
 
-from-start : (v loc : ℕ) (w : List ℕ) (u : Used) (w′ : List ℕ) (r : Step) → After w u w′ r (λ s. sp s loc u64 >>= from-u64 v loc) → After w u w′ r (λ s. join-u64 s v loc)
+from-start : (v loc : ℕ) {w : List ℕ} {u : Used} {w′ : List ℕ} {r : Step} → After w u w′ r (λ s. sp s loc u64 >>= from-u64 v loc) → After w u w′ r (λ s. join-u64 s v loc)
 unfolding join-u64
-from-start v loc w u w′ r a = a
+from-start v loc a = a
 
 module _ (v loc : ℕ) (w : List ℕ) (u : Used) (w₁ : List ℕ) (a : Step) (b : Found) (ta : After w u w₁ a (λ s. sp s loc (d.Apply (some 7) (d.Builtin 3) []))) (da : b ≡ done (a .out)) where
   pub u64-full : b ≡ Nothing → After w u w₁ a (λ s. join-u64 s v loc)
   unfolding u64
-  u64-full q = from-start v loc w u w₁ a (after-stop w u w₁ a (λ s. sp s loc u64) (from-u64 v loc) b ta da q)
+  u64-full q = from-start v loc (after-stop (from-u64 v loc) ta da q)
 
   module _ (t : ℕ) (is : b ≡ Just t) (w₂ : List ℕ) (r₂ : Step) (b₂ : Found) (tb : After w₁ (a .used) w₂ r₂ (λ s. sp s loc (d.Var v))) (db : b₂ ≡ done (r₂ .out)) where
-    u64-then : (w₃ : List ℕ) (r₃ : Step) → After w₁ (a .used) w₃ r₃ (λ s. sp s loc (d.Var v) >>= from-tvar t) → After w u w₃ r₃ (λ s. join-u64 s v loc)
+    u64-then : {w₃ : List ℕ} {r₃ : Step} → After w₁ (a .used) w₃ r₃ (λ s. sp s loc (d.Var v) >>= from-tvar t) → After w u w₃ r₃ (λ s. join-u64 s v loc)
     unfolding u64
-    u64-then w₃ r₃ n = from-start v loc w u w₃ r₃ (after-then w u w₁ a (λ s. sp s loc u64) (from-u64 v loc) b t w₃ r₃ (ta .changed) da is n)
+    u64-then n = from-start v loc (after-then (a .out) (from-u64 v loc) (ta .changed) da is n)
 
     pub tvar-full : b₂ ≡ Nothing → After w u w₂ r₂ (λ s. join-u64 s v loc)
-    tvar-full q = u64-then w₂ r₂ (after-stop w₁ (a .used) w₂ r₂ (λ s. sp s loc (d.Var v)) (from-tvar t) b₂ tb db q)
+    tvar-full q = u64-then (after-stop (from-tvar t) tb db q)
 
     pub u64-joined : (x : ℕ) → b₂ ≡ Just x → (w₃ : List ℕ) (r₃ : Step) → After w₂ (r₂ .used) w₃ r₃ (λ s. join s t x) → After w u w₃ r₃ (λ s. join-u64 s v loc)
-    u64-joined x q w₃ r₃ n = u64-then w₃ r₃ (after-then w₁ (a .used) w₂ r₂ (λ s. sp s loc (d.Var v)) (from-tvar t) b₂ x w₃ r₃ (tb .changed) db q n)
+    u64-joined x q w₃ r₃ n = u64-then (after-then (r₂ .out) (from-tvar t) (tb .changed) db q n)
 
 -- ---- default_num_var
 
@@ -113,38 +107,32 @@ unfolding numbered default-num-var _>>=_
 default-stays s v loc e = rw (e, default-num-var) refl
 
 -- nothing was written
-still : (w : List ℕ) (u : Used) (f : State → Result (State × ℕ)) → Lay w u → ((ds : List Struct) → ok (seen w u ds, 0) ≡ f (seen w u ds)) → Changed w u w (record { out = Done 0; used = u }) f
+still : {w : List ℕ} {u : Used} {f : State → Result (State × ℕ)} → Lay w u → ((ds : List Struct) → ok (seen w u ds, 0) ≡ f (seen w u ds)) → Changed w u w (record { out = Done 0; used = u }) f
 unfolding outcome
-still w u f h e = changed-now w u (Done 0) f h e
+still h e = refines-now h (λ ds k. e ds)
 
 done-others : (u : Used) → done (Done 0) ≡ Nothing → Nodes-in (u .nodes) (Done 0)
 done-others u e = let z : _≡_ {A = ℕ} 0 1 = cc in absurd (omega arith)
 
-answered-seen : (w : List ℕ) (u : Used) (w′ : List ℕ) (r : Step) (f g : State → Result (State × ℕ)) → ((ds : List Struct) → f (seen w u ds) ≡ g (seen w u ds)) → Changed w u w′ r f → (done (r .out) ≡ Nothing → Nodes-in (r .used .nodes) (r .out)) → Answered w u w′ r g
-answered-seen w u w′ r f g e a i = record { changed = record { lay = a .lay; grown = a .grown; structs = a .structs; is = λ ds. a .is ds ∙ e ds }; others = i }
-
 module _ (w : List ℕ) (u : Used) (v loc : ℕ) (r : Bool) (is : (ds : List Struct) → r ≡ undecided (unfold-type (seen w u ds) (var-at loc v) .value)) where
   pub default-decided : Lay w u → r ≡ false → Answered w u w (record { out = Done 0; used = u }) (λ s. numbered (default-num-var s v loc))
-  default-decided h q = record { changed = still w u _ h (λ ds. default-stays (seen w u ds) v loc (sym (is ds) ∙ q)); others = done-others u }
+  default-decided h q = record { changed = still h (λ ds. default-stays (seen w u ds) v loc (sym (is ds) ∙ q)); others = done-others u }
 
   module _ (q : r ≡ true) (w₁ : List ℕ) (a : Step) (b : Found) (ta : After w u w₁ a (λ s. join-u64 s v loc)) (da : b ≡ done (a .out)) where
+    joins : (ds : List Struct) → Any ds → (join-u64 (seen w u ds) v loc >>= no-number) ≡ numbered (default-num-var (seen w u ds) v loc)
+    joins ds k = default-joins (seen w u ds) v loc (sym (is ds) ∙ q)
+
     pub default-stop : b ≡ Nothing → Answered w u w₁ a (λ s. numbered (default-num-var s v loc))
-    default-stop n =
-        answered-seen w u w₁ a (λ s. join-u64 s v loc >>= no-number) _ (λ ds. default-joins (seen w u ds) v loc (sym (is ds) ∙ q))
-        (changed-stop w u w₁ a (λ s. join-u64 s v loc) no-number b (ta .changed) da n)
-        (λ e. ta .inside)
+    default-stop n = record { changed = refines-is joins (refines-stop (a .out) no-number (ta .changed) da n); others = λ e. ta .inside }
 
     pub default-done : (t : ℕ) → b ≡ Just t → Answered w u w₁ (record { out = Done 0; used = a .used }) (λ s. numbered (default-num-var s v loc))
-    default-done t n =
-        answered-seen w u w₁ (record { out = Done 0; used = a .used }) (λ s. join-u64 s v loc >>= no-number) _ (λ ds. default-joins (seen w u ds) v loc (sym (is ds) ∙ q))
-        (changed-then w u w₁ a (λ s. join-u64 s v loc) no-number b t w₁ (record { out = Done 0; used = a .used }) (ta .changed) da n (still w₁ (a .used) (λ s. ok (s, 0)) (ta .changed .lay) (λ ds. refl)))
-        (done-others (a .used))
+    default-done t n = record { changed = refines-is joins (refines-then (a .out) no-number (ta .changed) da n (still (ta .changed .lay) (λ ds. refl))); others = done-others (a .used) }
 
 -- ---- a variable with a mark, or without
 
 pub marked-none : (w : List ℕ) (u : Used) (v : ℕ) (m : Found) → Lay w u → m ≡ Nothing → Answered w u w (record { out = Done 0; used = u }) (λ s. numbered (default-marked s v (found m)))
 unfolding numbered default-marked _>>=_
-marked-none w u v m h e = rw e (record { changed = still w u _ h (λ ds. refl); others = done-others u })
+marked-none w u v m h e = rw e (record { changed = still h (λ ds. refl); others = done-others u })
 
 pub marked-some : (w : List ℕ) (u : Used) (v : ℕ) (m : Found) (w′ : List ℕ) (r : Step) (loc : ℕ) → m ≡ Just loc → Answered w u w′ r (λ s. numbered (default-num-var s v loc)) → Answered w u w′ r (λ s. numbered (default-marked s v (found m)))
 unfolding default-marked
@@ -196,13 +184,10 @@ module _ (w₀ : List ℕ) (u : Used) where
   -- the variables below v are done
   pub record Defaulting (w : List ℕ) (at : Used) (v : ℕ) : Type 0 where
     pub within : v ≤ u .vars
-    pub lay : Lay w at
-    pub grown : Grown (view w₀ u) (view w at)
-    pub structs : view w at .structs ≡ view w₀ u .structs
-    pub is : (ds : List Struct) → rest v (seen w at ds) ≡ rest 0 (seen w₀ u ds)
+    pub changed : Refines Any w₀ u w at (rest v) (rest 0)
 
   pub defaulting-none : Lay w₀ u → Defaulting w₀ u 0
-  defaulting-none h = record { within = omega arith; lay = h; grown = grown-refl (view w₀ u); structs = refl; is = λ ds. refl }
+  defaulting-none h = record { within = omega arith; changed = refines-now h (λ ds k. refl) }
 
   whole : (ds : List Struct) → rest 0 (seen w₀ u ds) ≡ numbered (default-num-vars (seen w₀ u ds) (num-vars 0 (seen w₀ u ds .vars)))
   unfolding seen with-structs
@@ -211,7 +196,7 @@ module _ (w₀ : List ℕ) (u : Used) where
   module _ (w : List ℕ) (at : Used) (v : ℕ) (h : Defaulting w at v) where
     pub defaulting-all : u .vars ≤ v → Answered w₀ u w (record { out = Done 0; used = at }) (λ s. numbered (default-num-vars s (num-vars 0 (s .vars))))
     unfolding outcome
-    defaulting-all le = record { changed = record { lay = h .lay; grown = h .grown; structs = h .structs; is = λ ds. rest-none (seen w at ds) v le ∙ h .is ds ∙ whole ds }; others = done-others at }
+    defaulting-all le = record { changed = refines-is (λ ds k. whole ds) (refines-as (λ m. m) (h .changed) (λ s. rest-none s v le)); others = done-others at }
 
     module _ (lt : v < u .vars) (saved : List ℕ) (m : Found) (kept : Saved w₀ u saved) (is : found m ≡ read-option (getD saved (v * 5 + 2) 0) (getD saved (v * 5 + 3) 0)) (x : ℕ) (e : x ≡ v)
         (w₁ : List ℕ) (a : Step) (b : Found) (ta : Answered w at w₁ a (λ s. numbered (default-marked s x (found m)))) (da : b ≡ done (a .out)) where
@@ -221,24 +206,11 @@ module _ (w₀ : List ℕ) (u : Used) where
       one-more : (s : State) → (numbered (default-marked s x (found m)) >>= onward) ≡ rest v s
       one-more s = rw e (rest-more s v (found m) lt (saved-is w₀ u saved v m kept lt is))
 
+      stepped : {w₂ : List ℕ} {u₂ : Used} {answer : State → Result (State × ℕ)} → Refines Any w at w₂ u₂ answer (λ s. numbered (default-marked s x (found m)) >>= onward) → Refines Any w₀ u w₂ u₂ answer (rest 0)
+      stepped r = refines-on (λ m. m) (h .changed) (refines-is (λ ds k. one-more (seen w at ds)) r)
+
       pub defaulting-stop : b ≡ Nothing → Answered w₀ u w₁ a (λ s. numbered (default-num-vars s (num-vars 0 (s .vars))))
-      defaulting-stop q =
-          record {
-            changed = record {
-              lay = ta .changed .lay;
-              grown = grown-trans _ _ _ (h .grown) (ta .changed .grown);
-              structs = ta .changed .structs ∙ h .structs;
-              is = λ ds. changed-stop w at w₁ a (λ s. numbered (default-marked s x (found m))) onward b (ta .changed) da q .is ds ∙ one-more (seen w at ds) ∙ h .is ds ∙ whole ds;
-            };
-            others = ta .others;
-          }
+      defaulting-stop q = record { changed = refines-is (λ ds k. whole ds) (stepped (refines-stop (a .out) onward (ta .changed) da q)); others = ta .others }
 
       pub defaulting-more : (t : ℕ) → b ≡ Just t → Defaulting w₁ (a .used) (v + 1)
-      defaulting-more t q =
-          record {
-            within = omega arith;
-            lay = ta .changed .lay;
-            grown = grown-trans _ _ _ (h .grown) (ta .changed .grown);
-            structs = ta .changed .structs ∙ h .structs;
-            is = λ ds. then-is (a .out) b t (seen w₁ (a .used) ds) onward da q ∙ ap (λ (r : Result (State × ℕ)). r >>= onward) (ta .changed .is ds) ∙ one-more (seen w at ds) ∙ h .is ds;
-          }
+      defaulting-more t q = record { within = omega arith; changed = stepped (refines-then (a .out) onward (ta .changed) da q (refines-now (ta .changed .lay) (λ ds k. refl))) }

@@ -12,7 +12,6 @@ use Rattle.table.specs.declared.Out.{Out}
 use Rattle.table.specs.declared.Found.{Found}
 use Rattle.table.specs.declared.Found.the-variants.{Nothing, Just}
 use Rattle.table.proofs.Steps.{stop-same}
-use Rattle.merge.proofs.Answers.{then-is}
 use Rattle.constraints.specs.Solve.{numbered, Answered}
 
 numbered-then : {B : Type 0} (r : Result State) (h : State → Result B) → (numbered r >>= (λ x. h (x .0))) ≡ (r >>= h)
@@ -24,7 +23,7 @@ numbered-then (refused x) h = refl
 module _ (w : List ℕ) (u : Used) (w₁ : List ℕ) (r : Step) (b : Found) (a : Answered w u w₁ r (λ s. numbered (default-num-vars s (num-vars 0 (s .vars))))) (p : b ≡ done (r .out)) where
   pub goes-on : (ds : List Struct) → (outcome (r .out) (seen w₁ (r .used) ds) >>= (λ x. solve-all (x .0))) ≡ solve-constraints (seen w u ds)
   unfolding solve-constraints
-  goes-on ds = ap (λ (y : Result (State × ℕ)). y >>= (λ x. solve-all (x .0))) (a .changed .is ds) ∙ numbered-then (default-num-vars (seen w u ds) (num-vars 0 (seen w u ds .vars))) solve-all
+  goes-on ds = ap (λ (y : Result (State × ℕ)). y >>= (λ x. solve-all (x .0))) (a .changed .is ds tt) ∙ numbered-then (default-num-vars (seen w u ds) (num-vars 0 (seen w u ds .vars))) solve-all
 
   pub unsolved : b ≡ Nothing → (ds : List Struct) → (outcome (r .out) (seen w₁ (r .used) ds) >>= (λ x. ok (x .0, []))) ≡ solve-constraints (seen w u ds)
   unsolved q ds = stop-same (r .out) (seen w₁ (r .used) ds) (λ x. ok (x .0, [])) (λ x. solve-all (x .0)) (sym p ∙ q) ∙ goes-on ds

@@ -5,7 +5,7 @@ use mathlib.Core.List.{List, [], _∷_}
 use Prim.Native.Nat.{ℕ, zero, suc, _+_, _-_, _≤_, _<_}
 use native.Mathlib.Nat.{zero-add, suc-add}
 use native.Mathlib.Omega.{arith}
-use lib.ListN.{length, take, drop, replicate, length-append, length-replicate}
+use lib.ListN.{length, take, drop, replicate, length-replicate}
 use lib.Seq.{take-take, drop-drop}
 use Rattle.definition.specs.Types.{State, Struct, BaseTypeConstraint, SingleTypeConstraint, unbound, malformed, unknown-name, Result, ok, _>>=_}
 use Rattle.definition.specs.Store.{taken}
@@ -20,11 +20,10 @@ use Rattle.definition.specs.Needs.{takes}
 use Rattle.definition.specs.Record as d
 use Rattle.definition.specs.Record.{Record, read-SD, read-pair, read-TS, read-kind}
 use Rattle.names.specs.declared.TVar.{TVar}
-use Rattle.table.specs.Rows.{node-table}
 use Rattle.table.specs.State.{Lay, Grown, Declares, view, seen}
 use Rattle.table.specs.declared.Used.{Used}
-use Rattle.table.proofs.Rows.{length-entries}
 use Rattle.table.proofs.Steps.{grown-refl, grown-trans}
+use Rattle.table.proofs.Grown.{nodes-grow}
 use Rattle.reader.specs.declared.Part.{Part}
 use Rattle.reader.specs.declared.Part.the-variants.{At, Full, Malformed, Unknown, Doubled}
 use Rattle.reader.specs.declared.Taken.{Taken}
@@ -46,19 +45,6 @@ use Rattle.fields.specs.declared.Fields.{Fields}
 use Rattle.fields.specs.Noded.{Noded, place-record, noded, part-with, whole-with, fields-as, Whole-so, What-in, Fields-in, Fields-are, plain-fields, whole-of, both-of, made-fields, One, Two, Loc}
 use Rattle.fields.specs.Noded as n
 use Rattle.fields.proofs.Placing.{is-not, not-is, last-type, first-type, type-stops}
-
--- ---- counts
-
-nodes-count : (w : List ℕ) (u : Used) → length (view w u .nodes) ≡ u .nodes
-unfolding view
-nodes-count w u = length-entries node-table w (u .nodes)
-
-pub nodes-grow : (w : List ℕ) (u : Used) (w′ : List ℕ) (u′ : Used) → Grown (view w u) (view w′ u′) → u .nodes ≤ u′ .nodes
-nodes-grow w u w′ u′ g =
-    let e : length (view w′ u′ .nodes) ≡ length (view w u .nodes) + length (g .nodes .rest) = ap length (g .nodes .is) ∙ length-append (view w u .nodes) (g .nodes .rest) in
-    let a = nodes-count w u in
-    let b = nodes-count w′ u′ in
-    omega arith
 
 -- a node was placed: space had not ended before
 pub was-open : (w : List ℕ) (u : Used) (b : List ℕ) (end known : ℕ) (over : Bool) (m : State → Read Tree) (w′ : List ℕ) (r : Taken) (t : ℕ) → Takes w u b end known over m w′ r → r .part ≡ At t → over ≡ false

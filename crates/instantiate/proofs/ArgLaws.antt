@@ -18,8 +18,8 @@ use Rattle.table.specs.Rows.{struct-table}
 use Rattle.table.specs.State.{view, seen, Declares}
 use Rattle.table.specs.declared.Used.{Used}
 use Rattle.table.proofs.Rows.{length-entries}
-use Rattle.walk.proofs.Steps.{bind-ok}
-use Rattle.walk.proofs.Walk.{range, rest, sp-apply}
+use Rattle.table.proofs.Steps.{bind-ok}
+use Rattle.table.proofs.Walk.{range, rest, just-list, zip-types, zip-is, sp-apply}
 use Rattle.table.specs.Known.{Known}
 use Rattle.instantiate.specs.Known.{Numbered, ability-at}
 use Rattle.instantiate.specs.Args.{make-tparam, made, joined}
@@ -58,59 +58,37 @@ tparam-then s loc n ty c g = by (make-tvar s (loc-of s ty))
     by (err s e) = refl
     by (refused x) = refl
 
--- both lists are gone through together, from place j of tys on
-tparams-walk : (loc : ℕ) (n : d.TypeName) (tys : List ℕ) (params : List (List ℕ)) (k : ℕ) (l m : List ℕ) (j : ℕ) (s : State) → k ≡ min (length l) (length m)
-    → ((i : ℕ) → i < length l → getD l i 0 ≡ getD tys (j + i) 0) → ((i : ℕ) → i < length m → getD m i 0 ≡ ability-at params n (j + i))
-    → make-tparams s loc n l m ≡ map-types (tparam-by loc n tys params) s (range j k)
-unfolding make-tparams map-types range tparam-by
-tparams-walk loc n tys params zero [] m j s e p q = refl
-tparams-walk loc n tys params zero (x ∷ l) [] j s e p q = refl
-tparams-walk loc n tys params zero (x ∷ l) (y ∷ m) j s e p q = absurd (omega arith)
-tparams-walk loc n tys params (suc k) [] m j s e p q = absurd (omega arith)
-tparams-walk loc n tys params (suc k) (x ∷ l) [] j s e p q = absurd (omega arith)
-tparams-walk loc n tys params (suc k) (x ∷ l) (y ∷ m) j s e p q =
-    sym (tparam-then s loc n x y (λ r. make-tparams (r .0) loc n l m >>= cons (r .1)))
-    ∙ ap (λ (g : State × ℕ → Result (State × List ℕ)). make-tparam s loc n x y >>= g)
-    (λ i r. tparams-walk loc n tys params k l m (suc j) (r .0) (omega arith) (λ i lt. p (suc i) (omega arith) ∙ ap (λ (z : ℕ). getD tys z 0) (omega arith)) (λ i lt. q (suc i) (omega arith) ∙ ap (λ (z : ℕ). ability-at params n z) (omega arith)) i >>= cons (r .1))
-    ∙ ap (λ (z : ℕ). make-tparam s loc n z y >>= (λ r. map-types (tparam-by loc n tys params) (r .0) (range (suc j) k) >>= cons (r .1))) (p 0 (omega arith) ∙ ap (λ (z : ℕ). getD tys z 0) (omega arith))
-    ∙ ap (λ (z : ℕ). make-tparam s loc n (getD tys j 0) z >>= (λ r. map-types (tparam-by loc n tys params) (r .0) (range (suc j) k) >>= cons (r .1))) (q 0 (omega arith) ∙ ap (λ (z : ℕ). ability-at params n z) (omega arith))
+-- both lists are gone through together
+tparams-zip : (loc : ℕ) (n : d.TypeName) (l m : List ℕ) (s : State) → zip-types (λ s ty c. make-tparam s loc n ty c) s l m ≡ make-tparams s loc n l m
+unfolding zip-types make-tparams
+tparams-zip loc n [] m s = refl
+tparams-zip loc n (x ∷ l) [] s = refl
+tparams-zip loc n (x ∷ l) (y ∷ m) s =
+    ap (λ (g : State × ℕ → Result (State × List ℕ)). make-tparam s loc n x y >>= g) (λ i r. tparams-zip loc n l m (r .0) i >>= cons (r .1))
+    ∙ tparam-then s loc n x y (λ r. make-tparams (r .0) loc n l m >>= cons (r .1))
 
-joins-walk : (tvars tys : List ℕ) (k : ℕ) (l m : List ℕ) (j : ℕ) (s : State) → k ≡ min (length l) (length m)
-    → ((i : ℕ) → i < length l → getD l i 0 ≡ getD tvars (j + i) 0) → ((i : ℕ) → i < length m → getD m i 0 ≡ getD tys (j + i) 0)
-    → join-args s l m ≡ map-types (join-by tvars tys) s (range j k)
-unfolding join-args map-types range join-by
-joins-walk tvars tys zero [] m j s e p q = refl
-joins-walk tvars tys zero (x ∷ l) [] j s e p q = refl
-joins-walk tvars tys zero (x ∷ l) (y ∷ m) j s e p q = absurd (omega arith)
-joins-walk tvars tys (suc k) [] m j s e p q = absurd (omega arith)
-joins-walk tvars tys (suc k) (x ∷ l) [] j s e p q = absurd (omega arith)
-joins-walk tvars tys (suc k) (x ∷ l) (y ∷ m) j s e p q =
-    ap (λ (g : State × ℕ → Result (State × List ℕ)). join s x y >>= g)
-    (λ i r. joins-walk tvars tys k l m (suc j) (r .0) (omega arith) (λ i lt. p (suc i) (omega arith) ∙ ap (λ (z : ℕ). getD tvars z 0) (omega arith)) (λ i lt. q (suc i) (omega arith) ∙ ap (λ (z : ℕ). getD tys z 0) (omega arith)) i >>= cons (r .1))
-    ∙ ap (λ (z : ℕ). join s z y >>= (λ r. map-types (join-by tvars tys) (r .0) (range (suc j) k) >>= cons (r .1))) (p 0 (omega arith) ∙ ap (λ (z : ℕ). getD tvars z 0) (omega arith))
-    ∙ ap (λ (z : ℕ). join s (getD tvars j 0) z >>= (λ r. map-types (join-by tvars tys) (r .0) (range (suc j) k) >>= cons (r .1))) (q 0 (omega arith) ∙ ap (λ (z : ℕ). getD tys z 0) (omega arith))
-
--- what follows the variables: nothing
-abbrev pub just-list : List ℕ → State → Result (State × List ℕ)
-just-list l s = ok (s, l)
+joins-zip : (l m : List ℕ) (s : State) → zip-types join s l m ≡ join-args s l m
+unfolding zip-types join-args
+joins-zip [] m s = refl
+joins-zip (x ∷ l) [] s = refl
+joins-zip (x ∷ l) (y ∷ m) s = ap (λ (g : State × ℕ → Result (State × List ℕ)). join s x y >>= g) (λ i r. joins-zip l m (r .0) i >>= cons (r .1))
 
 pub tparams-are : (loc : ℕ) (n : d.TypeName) (tys abilities : List ℕ) (params : List (List ℕ)) (k : ℕ) (s : State) → k ≡ min (length tys) (length abilities) → ((i : ℕ) → i < length abilities → getD abilities i 0 ≡ ability-at params n i)
     → rest (tparam-by loc n tys params) just-list [] (range 0 k) s ≡ make-tparams s loc n tys abilities
-unfolding rest
+unfolding tparam-by
 tparams-are loc n tys abilities params k s e q =
-    bind-ok (map-types (tparam-by loc n tys params) s (range 0 k))
-    ∙ sym (tparams-walk loc n tys params k tys abilities 0 s e (λ i lt. ap (λ (z : ℕ). getD tys z 0) (omega arith)) (λ i lt. q i lt ∙ ap (λ (z : ℕ). ability-at params n z) (omega arith)))
+    zip-is (λ s ty c. make-tparam s loc n ty c) (tparam-by loc n tys params) just-list k tys abilities s e (λ i s lt. ap (λ (c : ℕ). make-tparam s loc n (getD tys i 0) c) (q i (omega arith)))
+    ∙ bind-ok (zip-types (λ s ty c. make-tparam s loc n ty c) s tys abilities)
+    ∙ tparams-zip loc n tys abilities s
 
 -- the joins of the first a of tvars and the first b of tys, then the node
 pub joins-are : (loc : ℕ) (k : d.Mark) (n : d.TypeName) (tvars tys : List ℕ) (a b c : ℕ) (s : State) → a ≤ length tvars → b ≤ length tys → c ≡ min a b
     → rest (join-by tvars tys) (sp-apply loc k n) [] (range 0 c) s ≡ joined loc k n (take a tvars) (take b tys) s
-unfolding rest joined sp-apply
+unfolding joined sp-apply join-by
 joins-are loc k n tvars tys a b c s p q e =
-    ap (λ (m : Result (State × List ℕ)). m >>= (λ r. sp (r .0) loc (d.Apply k n (r .1))))
-    (sym (joins-walk tvars tys c (take a tvars) (take b tys) 0 s (rw (length-take, length-take) (omega arith)) (λ i lt. front tvars a i lt ∙ ap (λ (z : ℕ). getD tvars z 0) (omega arith)) (λ i lt. front tys b i lt ∙ ap (λ (z : ℕ). getD tys z 0) (omega arith))))
-  where
-    front : (l : List ℕ) (n i : ℕ) → i < length (take n l) → getD (take n l) i 0 ≡ getD l i 0
-    front l n i lt = getD-take n l i 0 (omega (arith, length-take n l))
+    zip-is join (join-by tvars tys) (sp-apply loc k n) c (take a tvars) (take b tys) s (rw (length-take, length-take) (omega arith))
+    (λ i s lt. rw (getD-take a tvars i 0 (omega arith), getD-take b tys i 0 (omega arith)) refl)
+    ∙ ap (λ (m : Result (State × List ℕ)). m >>= (λ r. sp (r .0) loc (d.Apply k n (r .1)))) (joins-zip (take a tvars) (take b tys) s)
 
 -- ---- the declarations that words and bytes hold
 

@@ -8,48 +8,42 @@ use Rattle.definition.specs.Types as d
 use Rattle.definition.specs.Types.{State, Struct, Result}
 use Rattle.definition.specs.Store.{sp}
 use Rattle.definition.specs.Join.{join}
-use Rattle.table.specs.State.{seen, Lay, After, Parts, done}
+use Rattle.table.specs.State.{seen, Lay, Any, After, Parts, done}
 use Rattle.table.specs.declared.Step.{Step}
 use Rattle.table.specs.declared.Used.{Used}
 use Rattle.table.specs.declared.Found.{Found}
 use Rattle.table.specs.declared.Found.the-variants.{Nothing, Just}
-use Rattle.walk.specs.When.{When}
-use Rattle.walk.proofs.Steps.{Any, any-after, after-at, when-at, when-after, nodes-grow}
-use Rattle.walk.proofs.Walk.{rest, sp-apply, range, range-length, range-at, Walked, walk-start, walk-stop, walk-more, walk-end, walk-parts}
+use Rattle.table.proofs.Steps.{after-is}
+use Rattle.table.proofs.Grown.{nodes-grow}
+use Rattle.table.proofs.Walk.{rest, sp-apply, range, range-length, range-at, Walked, walk-start, walk-stop, walk-more, walk-end}
 use Rattle.instantiate.specs.Args.{joined}
 use Rattle.instantiate.proofs.ArgLaws.{join-by, joins-are}
 
 module _ (w₀ : List ℕ) (u₀ : Used) (loc : ℕ) (k : d.Mark) (n : d.TypeName) (tvars tys : List ℕ) (a b c : ℕ) (lay₀ : Lay w₀ u₀) (pa : Parts (u₀ .nodes) tvars a) (pb : Parts (u₀ .nodes) tys b)
     (size-a : length tvars ≡ 8) (size-b : length tys ≡ 8) (c-is : c ≡ min a b) where
-  few : c ≤ 8
-  few = omega (arith, c-is, pa .few)
+  all-joined : {w′ : List ℕ} {r : Step} → After w₀ u₀ w′ r (rest (join-by tvars tys) (sp-apply loc k n) [] (range 0 c)) → After w₀ u₀ w′ r (joined loc k n (take a tvars) (take b tys))
+  all-joined x = after-is (λ ds z. joins-are loc k n tvars tys a b c (seen w₀ u₀ ds) (omega (arith, pa .few, size-a)) (omega (arith, pb .few, size-b)) c-is) x
 
-  all-joined : (w′ : List ℕ) (r : Step) → When Any w₀ u₀ w′ r (rest (join-by tvars tys) (sp-apply loc k n) [] (range 0 c)) → After w₀ u₀ w′ r (joined loc k n (take a tvars) (take b tys))
-  all-joined w′ r x = after-at w₀ u₀ w′ r _ _ (λ ds. joins-are loc k n tvars tys a b c (seen w₀ u₀ ds) (omega (arith, pa .few, size-a)) (omega (arith, pb .few, size-b)) c-is) (any-after w₀ u₀ w′ r _ x)
+  pub joins-start : {parts : List ℕ} → length parts ≡ 8 → Walked Any (join-by tvars tys) (sp-apply loc k n) (range 0 c) c w₀ u₀ w₀ u₀ parts 0
+  joins-start e = walk-start lay₀ (range-length 0 c) (omega (arith, c-is, pa .few)) e
 
-  pub joins-start : (parts : List ℕ) → length parts ≡ 8 → Walked Any (join-by tvars tys) (sp-apply loc k n) (range 0 c) w₀ u₀ w₀ u₀ parts 0
-  joins-start parts e = walk-start Any (join-by tvars tys) (sp-apply loc k n) (range 0 c) c (range-length 0 c) few w₀ u₀ parts lay₀ e
-
-  module _ (w : List ℕ) (u : Used) (parts : List ℕ) (i : ℕ) (wk : Walked Any (join-by tvars tys) (sp-apply loc k n) (range 0 c) w₀ u₀ w u parts i) where
+  module _ {w : List ℕ} {u : Used} {parts : List ℕ} {i : ℕ} (wk : Walked Any (join-by tvars tys) (sp-apply loc k n) (range 0 c) c w₀ u₀ w u parts i) where
     pub joins-in : (at : ℕ) → at ≡ i → i < c → (getD tvars at 0 < u .nodes) × (getD tys at 0 < u .nodes)
     joins-in at e lt =
-        let g = nodes-grow w₀ u₀ w u (wk .grown) in
+        let g = nodes-grow w₀ u₀ w u (wk .changed .grown) in
         (omega (arith, pa .below at (omega (arith, c-is))), omega (arith, pb .below at (omega (arith, c-is))))
 
-    module _ (at : ℕ) (at-is : at ≡ i) (lt : i < c) (w′ : List ℕ) (r : Step) (b₁ : Found) (step : After w u w′ r (λ s. join s (getD tvars at 0) (getD tys at 0))) (b₁-is : b₁ ≡ done (r .out)) where
-      join-step : When Any w u w′ r (λ s. join-by tvars tys s i)
+    module _ {at : ℕ} (at-is : at ≡ i) (lt : i < c) {w′ : List ℕ} {r : Step} {b₁ : Found} (step : After w u w′ r (λ s. join s (getD tvars at 0) (getD tys at 0))) (b₁-is : b₁ ≡ done (r .out)) where
+      join-step : After w u w′ r (λ s. join-by tvars tys s i)
       unfolding join-by
-      join-step = when-at Any w u w′ r _ _ (λ ds k. ap (λ (x : ℕ). join (seen w u ds) (getD tvars x 0) (getD tys x 0)) at-is) (when-after Any w u w′ r _ step)
+      join-step = after-is (λ ds z. ap (λ (x : ℕ). join (seen w u ds) (getD tvars x 0) (getD tys x 0)) at-is) step
 
       pub joins-stop : b₁ ≡ Nothing → After w₀ u₀ w′ r (joined loc k n (take a tvars) (take b tys))
-      joins-stop q = all-joined w′ r (walk-stop Any (join-by tvars tys) (sp-apply loc k n) (range 0 c) c (range-length 0 c) few w₀ u₀ w u parts i wk i lt (range-at c i lt) Any (λ ds k. k) w′ r join-step b₁ b₁-is q)
+      joins-stop q = all-joined (walk-stop wk lt (range-at c i lt) join-step b₁-is q)
 
-      pub joins-more : (t : ℕ) → b₁ ≡ Just t → Walked Any (join-by tvars tys) (sp-apply loc k n) (range 0 c) w₀ u₀ w′ (r .used) (set parts at t) (i + 1)
-      joins-more t q = walk-more Any (join-by tvars tys) (sp-apply loc k n) (range 0 c) c (range-length 0 c) few w₀ u₀ w u parts i wk i lt (range-at c i lt) Any (λ ds k. k) w′ r join-step b₁ b₁-is t at q at-is
+      pub joins-more : {t : ℕ} → b₁ ≡ Just t → Walked Any (join-by tvars tys) (sp-apply loc k n) (range 0 c) c w₀ u₀ w′ (r .used) (set parts at t) (i + 1)
+      joins-more q = walk-more wk lt (range-at c i lt) join-step b₁-is q at-is
 
-    pub joins-end : (w′ : List ℕ) (r : Step) → c ≤ i → After w u w′ r (λ s. sp s loc (d.Apply k n (take c parts))) → After w₀ u₀ w′ r (joined loc k n (take a tvars) (take b tys))
+    pub joins-end : {w′ : List ℕ} {r : Step} → c ≤ i → After w u w′ r (λ s. sp s loc (d.Apply k n (take c parts))) → After w₀ u₀ w′ r (joined loc k n (take a tvars) (take b tys))
     unfolding sp-apply
-    joins-end w′ r q x = all-joined w′ r (walk-end Any (join-by tvars tys) (sp-apply loc k n) (range 0 c) c (range-length 0 c) few w₀ u₀ w u parts i wk Any (λ ds k. k) w′ r q (when-after Any w u w′ r _ x))
-
-    pub joins-parts : c ≤ i → Parts (u .nodes) parts c
-    joins-parts q = walk-parts Any (join-by tvars tys) (sp-apply loc k n) (range 0 c) c (range-length 0 c) few w₀ u₀ w u parts i wk q
+    joins-end q x = all-joined (walk-end wk q x)

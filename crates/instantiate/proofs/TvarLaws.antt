@@ -21,19 +21,10 @@ use Rattle.table.specs.declared.Out.{Out}
 use Rattle.table.specs.declared.Out.the-variants.{Done}
 use Rattle.table.specs.declared.Found.{Found}
 use Rattle.table.specs.declared.Found.the-variants.{Nothing, Just}
-use Rattle.table.proofs.Steps.{changed-stop, after-now, after-stop, after-then, No-error, done-is, none-in}
-use Rattle.walk.proofs.Steps.{after-at, after-done, nodes-grow}
+use Rattle.table.proofs.Steps.{refines-stop, plain-in, done-is, after-now, after-is, after-stop, after-then, after-done}
+use Rattle.table.proofs.States.{tvar-plain, constraint-plain}
+use Rattle.table.proofs.Grown.{nodes-grow}
 use Rattle.instantiate.specs.Args.{make-tparam}
-
--- ---- steps that meet no error
-
-either : {A : Type 0} (b : Bool) (x y : Result A) → No-error x → No-error y → No-error (if b then x else y)
-either true x y p q = p
-either false x y p q = q
-
-tvar-plain : (s : State) → No-error (next-tvar s)
-unfolding next-tvar
-tvar-plain s = either (ltb (taken s) max-vars) (ok (with-var s, taken s)) (refused full) tt tt
 
 -- the state, with a number beside it
 abbrev numbered : State → Result (State × ℕ)
@@ -45,22 +36,10 @@ with-number t s = ok (s, t)
 abbrev number-put : ℕ → State × ℕ → Result (State × ℕ)
 number-put t r = ok (r .0, t)
 
-constraint-plain : (c : d.Constraint) (s : State) → No-error (pushed-constraint c s)
-unfolding pushed-constraint add-constraint _>>=_
-constraint-plain c s = by (ltb (length (s .constraints)) max-constraints)
-  where
-    by : (b : Bool) → No-error ((if b then ok (with-constraints s (s .constraints ++ (c ∷ []))) else refused full) >>= numbered)
-    by true = tt
-    by false = tt
-
 -- a constraint that finds no room
 pub constraint-stop : (w : List ℕ) (u : Used) (w′ : List ℕ) (r : Step) (c : d.Constraint) (h : State × ℕ → Result (State × ℕ)) (b : Found)
     → Changed w u w′ r (pushed-constraint c) → b ≡ done (r .out) → b ≡ Nothing → After w u w′ r (λ s. pushed-constraint c s >>= h)
-constraint-stop w u w′ r c h b a p q =
-    record {
-      changed = changed-stop w u w′ r (pushed-constraint c) h b a p q;
-      inside = none-in (r .used .nodes) (r .out) (seen w′ (r .used) []) (pushed-constraint c (seen w u [])) (a .is []) (constraint-plain c (seen w u [])) (sym p ∙ q);
-    }
+constraint-stop w u w′ r c h b a p q = record { changed = refines-stop (r .out) h a p q; inside = plain-in (r .out) a (constraint-plain c) p q }
 
 -- a constraint is listed, and h follows
 pub constraint-then : (c : d.Constraint) (s : State) (h : State × ℕ → Result (State × ℕ)) → (pushed-constraint c s >>= h) ≡ (add-constraint s c >>= (λ t. h (t, 0)))
@@ -76,23 +55,13 @@ constraint-then c s h = by (add-constraint s c)
 
 pub tvar-stop : (w : List ℕ) (u : Used) (w′ : List ℕ) (a : Step) (loc : ℕ) (b : Found) → Changed w u w′ a (λ s. next-tvar s) → b ≡ done (a .out) → b ≡ Nothing → After w u w′ a (λ s. make-tvar s loc)
 unfolding make-tvar
-tvar-stop w u w′ a loc b c p q =
-    record {
-      changed = changed-stop w u w′ a (λ s. next-tvar s) (λ p. sp (p .0) loc (d.Var (p .1))) b c p q;
-      inside = none-in (a .used .nodes) (a .out) (seen w′ (a .used) []) (next-tvar (seen w u [])) (c .is []) (tvar-plain (seen w u [])) (sym p ∙ q);
-    }
-
-pub tvar-small : (w : List ℕ) (u : Used) (w′ : List ℕ) (a : Step) (b : Found) (x : ℕ) → Changed w u w′ a (λ s. next-tvar s) → Var-in (a .used .vars) (a .out) → b ≡ done (a .out) → b ≡ Just x → x < 65536
-tvar-small w u w′ a b x c i p q = omega (arith, c .lay .vars, var-in (a .out) (a .used .vars) x (sym p ∙ q) i)
-  where
-    var-in : (o : Out) (n t : ℕ) → done o ≡ Just t → Var-in n o → t < n
-    var-in o n t e h = rw (done-is o t e) at h
+tvar-stop w u w′ a loc b c p q = record { changed = refines-stop (a .out) (λ p. sp (p .0) loc (d.Var (p .1))) c p q; inside = plain-in (a .out) c tvar-plain p q }
 
 pub tvar-node : (w : List ℕ) (u : Used) (w′ : List ℕ) (a : Step) (loc : ℕ) (b : Found) (x : ℕ) (id : TVar) (w₂ : List ℕ) (r : Step) → Changed w u w′ a (λ s. next-tvar s) → b ≡ done (a .out) → b ≡ Just x
     → id .0 ≡ x → After w′ (a .used) w₂ r (λ s. sp s loc (value-of (Var id))) → After w u w₂ r (λ s. make-tvar s loc)
 unfolding make-tvar
 tvar-node w u w′ a loc b x id w₂ r c p q e n =
-    after-then w u w′ a (λ s. next-tvar s) (λ p. sp (p .0) loc (d.Var (p .1))) b x w₂ r c p q (after-at w′ (a .used) w₂ r _ _ (λ ds. ap (λ (v : ℕ). sp (seen w′ (a .used) ds) loc (d.Var v)) e) n)
+    after-then (a .out) (λ p. sp (p .0) loc (d.Var (p .1))) c p q (after-is (λ ds k. ap (λ (v : ℕ). sp (seen w′ (a .used) ds) loc (d.Var v)) e) n)
 
 -- ---- make_tparams, for one argument
 
@@ -111,40 +80,34 @@ tparam-is s loc n ty c l e = ap (λ (x : ℕ). make-tvar s x >>= (λ p. pushed-c
     by (refused x) = refl
 
 module _ (w : List ℕ) (u : Used) (loc : ℕ) (n : d.TypeName) (ty c l : ℕ) (l-is : (ds : List Struct) → l ≡ loc-of (seen w u ds) ty) (w₁ : List ℕ) (a : Step) (b : Found) (tvar-made : After w u w₁ a (λ s. make-tvar s l)) (b-is : b ≡ done (a .out)) where
-  by-steps : (w′ : List ℕ) (r : Step) → After w u w′ r (λ s. make-tvar s l >>= (λ p. pushed-constraint (AbilityConstraint loc (p .1) c) (p .0) >>= (λ q. pushed-constraint (tvar-constraint n loc (p .1)) (q .0) >>= number-put (p .1))))
+  by-steps : {w′ : List ℕ} {r : Step} → After w u w′ r (λ s. make-tvar s l >>= (λ p. pushed-constraint (AbilityConstraint loc (p .1) c) (p .0) >>= (λ q. pushed-constraint (tvar-constraint n loc (p .1)) (q .0) >>= number-put (p .1))))
       → After w u w′ r (λ s. make-tparam s loc n ty c)
-  by-steps w′ r x = after-at w u w′ r _ _ (λ ds. tparam-is (seen w u ds) loc n ty c l (l-is ds)) x
+  by-steps x = after-is (λ ds k. tparam-is (seen w u ds) loc n ty c l (l-is ds)) x
 
   pub tparam-stop : b ≡ Nothing → After w u w₁ a (λ s. make-tparam s loc n ty c)
-  tparam-stop q = by-steps w₁ a (after-stop w u w₁ a _ _ b tvar-made b-is q)
+  tparam-stop q = by-steps (after-stop _ tvar-made b-is q)
 
   module _ (t : ℕ) (b-at : b ≡ Just t) (w₂ : List ℕ) (r₂ : Step) (b₂ : Found) (first : Changed w₁ (a .used) w₂ r₂ (pushed-constraint (AbilityConstraint loc t c))) (b₂-is : b₂ ≡ done (r₂ .out)) where
-    then-this : (w′ : List ℕ) (r : Step) → After w₁ (a .used) w′ r (λ s. pushed-constraint (AbilityConstraint loc t c) s >>= (λ q. pushed-constraint (tvar-constraint n loc t) (q .0) >>= (number-put t)))
+    then-this : {w′ : List ℕ} {r : Step} → After w₁ (a .used) w′ r (λ s. pushed-constraint (AbilityConstraint loc t c) s >>= (λ q. pushed-constraint (tvar-constraint n loc t) (q .0) >>= (number-put t)))
         → After w u w′ r (λ s. make-tparam s loc n ty c)
-    then-this w′ r x = by-steps w′ r (after-then w u w₁ a _ _ b t w′ r (tvar-made .changed) b-is b-at x)
+    then-this x = by-steps (after-then (a .out) _ (tvar-made .changed) b-is b-at x)
 
     pub tparam-stop2 : b₂ ≡ Nothing → After w u w₂ r₂ (λ s. make-tparam s loc n ty c)
-    tparam-stop2 q = then-this w₂ r₂ (constraint-stop w₁ (a .used) w₂ r₂ _ _ b₂ first b₂-is q)
+    tparam-stop2 q = then-this (constraint-stop w₁ (a .used) w₂ r₂ _ _ b₂ first b₂-is q)
 
     module _ (y : ℕ) (b₂-at : b₂ ≡ Just y) (k : Constraint) (k-is : constraint-of k ≡ tvar-constraint n loc t) (w₃ : List ℕ) (r₃ : Step) (b₃ : Found) (second : Changed w₂ (r₂ .used) w₃ r₃ (pushed-constraint (constraint-of k))) (b₃-is : b₃ ≡ done (r₃ .out)) where
       second-is : Changed w₂ (r₂ .used) w₃ r₃ (pushed-constraint (tvar-constraint n loc t))
       second-is = rw (← k-is) second
 
       pub tparam-stop3 : b₃ ≡ Nothing → After w u w₃ r₃ (λ s. make-tparam s loc n ty c)
-      tparam-stop3 q = then-this w₃ r₃ (after-then w₁ (a .used) w₂ r₂ _ _ b₂ y w₃ r₃ first b₂-is b₂-at (constraint-stop w₂ (r₂ .used) w₃ r₃ _ _ b₃ second-is b₃-is q))
+      tparam-stop3 q = then-this (after-then (r₂ .out) _ first b₂-is b₂-at (constraint-stop w₂ (r₂ .used) w₃ r₃ _ _ b₃ second-is b₃-is q))
 
       pub tparam-made : (z : ℕ) (r : Step) → b₃ ≡ Just z → r ≡ record { out = a .out; used = r₃ .used } → After w u w₃ r (λ s. make-tparam s loc n ty c)
       unfolding outcome
       tparam-made z r q e =
           let o : a .out ≡ Done t = done-is (a .out) t (sym b-is ∙ b-at) in
           rw (e, o)
-          (then-this w₃ (record { out = Done t; used = r₃ .used }) (after-then w₁ (a .used) w₂ r₂ _ _ b₂ y w₃ _ first b₂-is b₂-at
-          (after-then w₂ (r₂ .used) w₃ r₃ (pushed-constraint (tvar-constraint n loc t)) (number-put t) b₃ z w₃ _ second-is b₃-is q
-          (after-now w₃ (r₃ .used) (Done t) (with-number t) (second .lay) t-in (λ ds. refl)))))
+          (then-this (after-then (r₂ .out) _ first b₂-is b₂-at (after-then (r₃ .out) (number-put t) second-is b₃-is q (after-now (second .lay) t-in (λ ds k. refl)))))
         where
           t-in : t < r₃ .used .nodes
-          t-in = omega (arith, after-done w u w₁ a (λ s. make-tvar s l) b t tvar-made b-is b-at, nodes-grow w₁ (a .used) w₂ (r₂ .used) (first .grown), nodes-grow w₂ (r₂ .used) w₃ (r₃ .used) (second .grown))
-
-pub loc-is : (s : State) (t : ℕ) (n : Node) → node-of n ≡ node s t → n .loc ≡ loc-of s t
-unfolding loc-of
-loc-is s t n e = ap (λ (x : d.Node). x .loc) e
+          t-in = omega (arith, after-done tvar-made b-is b-at, nodes-grow w₁ (a .used) w₂ (r₂ .used) (first .grown), nodes-grow w₂ (r₂ .used) w₃ (r₃ .used) (second .grown))

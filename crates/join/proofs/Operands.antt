@@ -9,7 +9,7 @@ use native.Mathlib.Omega.{arith}
 use lib.ListN.{take}
 use Rattle.definition.specs.Types as d
 use Rattle.definition.specs.Types.{State, Struct, Places, Result, ok, _>>=_, if_then_else_}
-use Rattle.definition.specs.Store.{count, node, type-at, loc-of, args-at, with-structs, with-vars, with-var, get}
+use Rattle.definition.specs.Store.{count, sp, node, type-at, loc-of, args-at, with-structs, with-vars, with-var, get}
 use Rattle.definition.specs.Join as j
 use Rattle.definition.specs.Join.{Var-l, Var-r, arm, join-arm, join-impl, join-impl-types, join-tvar}
 use Rattle.names.specs.Names.{mark-of, name-of}
@@ -17,7 +17,7 @@ use Rattle.names.specs.declared.Mark.{Mark}
 use Rattle.names.specs.declared.TypeName.{TypeName}
 use Rattle.names.specs.declared.TVar.{TVar}
 use Rattle.table.specs.Rows.{places}
-use Rattle.table.specs.State.{Lay, After, outcome, seen, view, done, node-of, shape-of, Below}
+use Rattle.table.specs.State.{Lay, After, Parts, Listed-in, outcome, listed, seen, view, done, node-of, shape-of, Below}
 use Rattle.table.specs.declared.Step.{Step}
 use Rattle.table.specs.declared.Used.{Used}
 use Rattle.table.specs.declared.Node.{Node}
@@ -27,109 +27,62 @@ use Rattle.table.specs.declared.TypingError.the-variants as error
 use Rattle.table.specs.declared.Refusal.the-variants.{TooDeep, AbilitiesDisagree}
 use Rattle.table.specs.declared.Found.{Found}
 use Rattle.table.specs.declared.Found.the-variants.{Nothing, Just}
-use Rattle.table.proofs.Steps.{grown-trans, after-now, after-stop, after-then}
+use Rattle.table.proofs.Steps.{done-is, listed-then, refines-as, after-now, after-is, after-stop, after-on, after-then}
+use Rattle.table.proofs.Pushed.{count-view}
+use Rattle.table.proofs.Grown.{loc-is, value-is}
 use Rattle.arms.specs.Arms.{case-of, by-arm, Arm-below, Takes}
 use Rattle.arms.specs.declared.TypingCase.{TypingCase}
 use Rattle.arms.specs.declared.Arm.{Arm}
 use Rattle.arms.specs.declared.Arm.the-variants.{Left, Right, Refs, Applies, Vars, VarLeft, VarRight, SubtypeError, ArityMismatch, Incompatible, Disagree}
-use Rattle.merge.specs.Merge.{Inner, open-tvar, open-types, open-ends, opened, Opened-in, Opens, show-both, close-tvar, meet-tvar, met, Meets}
+use Rattle.merge.specs.Merge.{Inner, Merging, open-tvar, open-types, open-ends, opened, Opened-in, Opens, show-both, close-tvar, meet-tvar, met, Meets}
 use Rattle.merge.specs.declared.Open.{Open}
 use Rattle.merge.specs.declared.Opened.{Opened}
 use Rattle.merge.specs.declared.Opened.the-variants.{Ready, Stop}
 use Rattle.merge.specs.declared.Meet.{Meet}
 use Rattle.merge.specs.declared.Meet.the-variants.{Is, Merge}
-use Rattle.merge.proofs.Answers.{then-is, count-is, loc-is, value-is}
-use Rattle.merge.proofs.Laws.{after-seen}
-use Rattle.join.specs.Join.{Joined, step, ref-at, apply-at, Follows, Follows-types}
+use Rattle.join.specs.Join.{Joined, number, step, ref-at, apply-at, then-ref, then-apply}
 use Rattle.join.specs.declared.Types.{Types}
-use Rattle.join.proofs.Binds.{stop-any, bind-ok, next-same}
+use Rattle.join.proofs.Binds.{next-same}
 use Rattle.join.proofs.Args.{inner}
 
 -- ---- answers that are handed on
 
-module _ (w : List ℕ) (u : Used) (w′ : List ℕ) (m : Meet) (f : (State → ℕ → Result (State × ℕ)) → State → Result (State × ℕ)) (a : Meets w u w′ m f) (k : State → ℕ → Result (State × ℕ)) where
-  met-is : (x : Step) → m ≡ Is x → After w u w′ x (λ s. f k s)
+module _ {w : List ℕ} {u : Used} {w′ : List ℕ} {m : Meet} {f : State → Merging → Result (State × ℕ)} (a : Meets w u w′ m f) (k : Merging) where
+  met-is : {x : Step} → m ≡ Is x → After w u w′ x (λ s. f s k)
   unfolding met
-  met-is x e =
-      let b : Meets w u w′ (Is x) f = rw e at a in
-      record { changed = record { lay = b .lay; grown = b .grown; structs = b .structs; is = λ ds. b .is k ds }; inside = b .inside }
+  met-is {x} e = let b : Meets w u w′ (Is x) f = rw e at a in record { changed = refines-as (λ g. g k) (b .changed) (λ s. refl); inside = b .inside }
 
-  met-merge : (u′ : Used) (v : TVar) (w₂ : List ℕ) (r : Step) → m ≡ Merge u′ v → After w′ u′ w₂ r (λ s. k s (v .0)) → After w u w₂ r (λ s. f k s)
+  met-merge : {u′ : Used} {v : TVar} {w₂ : List ℕ} {r : Step} → m ≡ Merge u′ v → After w′ u′ w₂ r (λ s. k s (v .0)) → After w u w₂ r (λ s. f s k)
   unfolding met
-  met-merge u′ v w₂ r e n =
-      let b : Meets w u w′ (Merge u′ v) f = rw e at a in
-      record {
-        changed = record {
-          lay = n .changed .lay;
-          grown = grown-trans _ _ _ (b .grown) (n .changed .grown);
-          structs = n .changed .structs ∙ b .structs;
-          is = λ ds. n .changed .is ds ∙ b .is k ds;
-        };
-        inside = n .inside;
-      }
+  met-merge {u′} {v} e n = let b : Meets w u w′ (Merge u′ v) f = rw e at a in after-on (λ g. g k) (b .changed) n
 
-pub merge-lay : (w : List ℕ) (u : Used) (w′ : List ℕ) (m : Meet) (f : (State → ℕ → Result (State × ℕ)) → State → Result (State × ℕ)) (u′ : Used) (v : TVar) → Meets w u w′ m f → m ≡ Merge u′ v → Lay w′ u′
-merge-lay w u w′ m f u′ v a e = let b : Meets w u w′ (Merge u′ v) f = rw e at a in b .lay
+pub merge-lay : (w : List ℕ) (u : Used) (w′ : List ℕ) (m : Meet) (f : State → Merging → Result (State × ℕ)) (u′ : Used) (v : TVar) → Meets w u w′ m f → m ≡ Merge u′ v → Lay w′ u′
+merge-lay w u w′ m f u′ v a e = let b : Meets w u w′ (Merge u′ v) f = rw e at a in b .changed .lay
 
-module _ (w : List ℕ) (u : Used) (w′ : List ℕ) (m : Open) (f : Inner → State → Result (State × ℕ)) (a : Opens w u w′ m f) (k : Inner) where
-  open-is : (o : Out) → m .what ≡ Stop o → After w u w′ (record { out = o; used = m .used }) (λ s. f k s)
+module _ {w : List ℕ} {u : Used} {w′ : List ℕ} {m : Open} {f : State → Inner → Result (State × ℕ)} (a : Opens w u w′ m f) (k : Inner) where
+  open-is : {o : Out} → m .what ≡ Stop o → After w u w′ (record { out = o; used = m .used }) (λ s. f s k)
   unfolding opened
-  open-is o e = record { changed = record { lay = a .lay; grown = a .grown; structs = a .structs; is = λ ds. rw e at (a .is k ds) }; inside = rw e at (a .inside) }
+  open-is {o} e = record { changed = refines-as (λ g. g k) (a .changed) (λ s. rw e refl); inside = rw e at (a .inside) }
 
-  open-ready : (ty1 ty2 : ℕ) (v : TVar) (var2 : ℕ) (w₂ : List ℕ) (r : Step) → m .what ≡ Ready ty1 ty2 v var2 → After w′ (m .used) w₂ r (λ s. k s ty1 ty2 (v .0) var2) → After w u w₂ r (λ s. f k s)
+  open-ready : {ty1 ty2 : ℕ} {v : TVar} {var2 : ℕ} {w₂ : List ℕ} {r : Step} → m .what ≡ Ready ty1 ty2 v var2 → After w′ (m .used) w₂ r (λ s. k s ty1 ty2 (v .0) var2) → After w u w₂ r (λ s. f s k)
   unfolding opened
-  open-ready ty1 ty2 v var2 w₂ r e n =
-      record {
-        changed = record {
-          lay = n .changed .lay;
-          grown = grown-trans _ _ _ (a .grown) (n .changed .grown);
-          structs = n .changed .structs ∙ a .structs;
-          is = λ ds. n .changed .is ds ∙ (rw e at (a .is k ds));
-        };
-        inside = n .inside;
-      }
-
-module _ (w : List ℕ) (u : Used) (w′ : List ℕ) (t : Types) (f : State → Result (State × List ℕ)) (h : State × List ℕ → Result (State × ℕ)) (b : Found) (a : Joined w u w′ t f) (p : b ≡ done (t .out)) where
-  types-stop : b ≡ Nothing → After w u w′ (record { out = t .out; used = t .used }) (λ s. f s >>= h)
-  types-stop q =
-      record {
-        changed = record {
-          lay = a .lay;
-          grown = a .grown;
-          structs = a .structs;
-          is = λ ds. bind-ok (outcome (t .out) (seen w′ (t .used) ds)) ∙ stop-any (t .out) (seen w′ (t .used) ds) (λ x. ok x) (λ x. ok (x .0, take (x .1) (t .tys))) h (sym p ∙ q) ∙ ap (λ (m : Result (State × List ℕ)). m >>= h) (a .is ds);
-        };
-        inside = a .types .inside (sym p ∙ q);
-      }
-
-  types-then : (n : ℕ) (w₂ : List ℕ) (r : Step) → b ≡ Just n → After w′ (t .used) w₂ r (λ s. h (s, take n (t .tys))) → After w u w₂ r (λ s. f s >>= h)
-  unfolding _>>=_
-  types-then n w₂ r q x =
-      record {
-        changed = record {
-          lay = x .changed .lay;
-          grown = grown-trans _ _ _ (a .grown) (x .changed .grown);
-          structs = x .changed .structs ∙ a .structs;
-          is = λ ds. x .changed .is ds ∙ ap (λ (m : Result (State × List ℕ)). m >>= h) (then-is (t .out) b n (seen w′ (t .used) ds) (λ x. ok (x .0, take (x .1) (t .tys))) p q ∙ a .is ds);
-        };
-        inside = x .inside;
-      }
+  open-ready e n = after-on (λ g. g k) (a .changed) (after-is (λ ds x. rw e refl) n)
 
 -- an answer at once
 pub settled-after : (w : List ℕ) (u : Used) (w′ : List ℕ) (r x : Step) (f : State → Result (State × ℕ)) → r ≡ x → After w u w′ x f → After w u w′ r f
 settled-after w u w′ r x f e a = rw e a
 
-pub follows-stop : (w : List ℕ) (a : Step) (b : Found) (h : State × ℕ → Result (State × ℕ)) → b ≡ done (a .out) → b ≡ Nothing → Follows w a w a h
-follows-stop w a b h p q = record { then = λ w₀ u₀ f x. after-stop w₀ u₀ w a f h b x p q }
+-- the types that were joined, and their node
+module _ (o : Out) {b : Found} {m : ℕ} (tys : List ℕ) (p : b ≡ done o) (q : b ≡ Just m) where
+  number-is : number o ≡ m
+  number-is = rw (done-is o m (sym p ∙ q)) refl
 
-pub follows-then : (w : List ℕ) (a : Step) (b : Found) (t : ℕ) (h : State × ℕ → Result (State × ℕ)) (w₂ : List ℕ) (r : Step) → b ≡ done (a .out) → b ≡ Just t → After w (a .used) w₂ r (λ s. h (s, t)) → Follows w a w₂ r h
-follows-then w a b t h w₂ r p q n = record { then = λ w₀ u₀ f x. after-then w₀ u₀ w a f h b t w₂ r (x .changed) p q n }
+  pub types-parts : {n : ℕ} → Listed-in n o tys (number o) → Parts n tys m
+  types-parts h = rw number-is at (h .below m (sym p ∙ q))
 
-pub follows-types-stop : (w : List ℕ) (a : Types) (b : Found) (h : State × List ℕ → Result (State × ℕ)) → b ≡ done (a .out) → b ≡ Nothing → Follows-types w a w (step (a .out) (a .used)) h
-follows-types-stop w a b h p q = record { then = λ w₀ u₀ f x. types-stop w₀ u₀ w a f h b x p q }
-
-pub follows-types-then : (w : List ℕ) (a : Types) (b : Found) (m : ℕ) (h : State × List ℕ → Result (State × ℕ)) (w₂ : List ℕ) (r : Step) → b ≡ done (a .out) → b ≡ Just m → After w (a .used) w₂ r (λ s. h (s, take m (a .tys))) → Follows-types w a w₂ r h
-follows-types-then w a b m h w₂ r p q n = record { then = λ w₀ u₀ f x. types-then w₀ u₀ w a f h b x p m w₂ r q n }
+  pub types-then : {w : List ℕ} {u : Used} {w′ : List ℕ} {r : Step} (loc : ℕ) (k : d.Mark) (n : d.TypeName) → After w u w′ r (λ s. sp s loc (d.Apply k n (take m tys))) → After w u w′ r (then-apply o tys loc k n)
+  types-then {w} {u} loc k n x =
+      after-is (λ ds z. listed-then o (take m tys) (seen w u ds) (apply-at loc k n) m (sym p ∙ q) ∙ ap (λ (l : ℕ). listed o (take l tys) (seen w u ds) >>= apply-at loc k n) (sym number-is)) x
 
 -- ---- the merge
 
@@ -143,26 +96,22 @@ tvar-is : (left : ℕ) (case : j.TypingCase) (s : State) (loc1 id1 loc2 id2 : �
 unfolding open-tvar open-types open-ends close-tvar show-both join-tvar
 tvar-is left case s loc1 id1 loc2 id2 = refl
 
-module _ (left : ℕ) (case : j.TypingCase) (w : List ℕ) (u : Used) (loc1 id1 loc2 id2 : ℕ) (w₁ : List ℕ) (m : Open) (a : Opens w u w₁ m (λ k s. open-tvar k s loc1 id1 loc2 id2)) where
+module _ (left : ℕ) (case : j.TypingCase) (w : List ℕ) (u : Used) (loc1 id1 loc2 id2 : ℕ) (w₁ : List ℕ) (m : Open) (a : Opens w u w₁ m (λ s k. open-tvar k s loc1 id1 loc2 id2)) where
   pub tvar-stop : (o : Out) → m .what ≡ Stop o → After w u w₁ (record { out = o; used = m .used }) (λ s. join-tvar (inner left) s case loc1 id1 loc2 id2)
   tvar-stop o e =
-      after-seen (λ s. join-tvar (inner left) s case loc1 id1 loc2 id2) (λ ds. tvar-is left case (seen w u ds) loc1 id1 loc2 id2)
-      (open-is w u w₁ m (λ k s. open-tvar k s loc1 id1 loc2 id2) a (then-close left case id1 loc2 id2) o e)
+      after-is (λ ds k. tvar-is left case (seen w u ds) loc1 id1 loc2 id2) (open-is a (then-close left case id1 loc2 id2) e)
 
   module _ (ty1 ty2 : ℕ) (v : TVar) (var2 : ℕ) (e : m .what ≡ Ready ty1 ty2 v var2) where
     module _ (w₂ : List ℕ) (x : Step) (b : Found) (after : After w₁ (m .used) w₂ x (λ s. join-impl left s case ty1 ty2)) (p : b ≡ done (x .out)) where
-      from-open : (w′ : List ℕ) (r : Step) → After w₁ (m .used) w′ r (λ s. then-close left case id1 loc2 id2 s ty1 ty2 (v .0) var2) → After w u w′ r (λ s. join-tvar (inner left) s case loc1 id1 loc2 id2)
-      from-open w′ r n =
-          after-seen (λ s. join-tvar (inner left) s case loc1 id1 loc2 id2) (λ ds. tvar-is left case (seen w u ds) loc1 id1 loc2 id2)
-          (open-ready w u w₁ m (λ k s. open-tvar k s loc1 id1 loc2 id2) a (then-close left case id1 loc2 id2) ty1 ty2 v var2 w′ r e n)
+      from-open : {w′ : List ℕ} {r : Step} → After w₁ (m .used) w′ r (λ s. then-close left case id1 loc2 id2 s ty1 ty2 (v .0) var2) → After w u w′ r (λ s. join-tvar (inner left) s case loc1 id1 loc2 id2)
+      from-open n = after-is (λ ds k. tvar-is left case (seen w u ds) loc1 id1 loc2 id2) (open-ready a (then-close left case id1 loc2 id2) e n)
 
       pub tvar-inner : b ≡ Nothing → After w u w₂ x (λ s. join-tvar (inner left) s case loc1 id1 loc2 id2)
-      tvar-inner q =
-          from-open w₂ x (after-stop w₁ (m .used) w₂ x (λ s. join-impl left s case ty1 ty2) (λ y. close-tvar (y .0) ty1 id1 ty2 loc2 id2 (v .0) var2 (y .1)) b after p q)
+      tvar-inner q = from-open (after-stop (λ y. close-tvar (y .0) ty1 id1 ty2 loc2 id2 (v .0) var2 (y .1)) after p q)
 
       pub tvar-close : (ty : ℕ) (w₃ : List ℕ) (r : Step) → b ≡ Just ty → After w₂ (x .used) w₃ r (λ s. close-tvar s ty1 id1 ty2 loc2 id2 (v .0) var2 ty) → After w u w₃ r (λ s. join-tvar (inner left) s case loc1 id1 loc2 id2)
       tvar-close ty w₃ r q n =
-          from-open w₃ r (after-then w₁ (m .used) w₂ x (λ s. join-impl left s case ty1 ty2) (λ y. close-tvar (y .0) ty1 id1 ty2 loc2 id2 (v .0) var2 (y .1)) b ty w₃ r (after .changed) p q n)
+          from-open (after-then (x .out) (λ y. close-tvar (y .0) ty1 id1 ty2 loc2 id2 (v .0) var2 (y .1)) (after .changed) p q n)
 
 -- ---- the operand walk
 
@@ -194,7 +143,7 @@ fresh-loc s t = refl
 
 node-below : (w : List ℕ) (u : Used) (t : ℕ) (n : Node) → Lay w u → t < u .nodes → ((ds : List Struct) → node-of n ≡ node (seen w u ds) t) → Below (view w u .args) (u .nodes) (shape-of (n .shape))
 node-below w u t n h lt e =
-    let x : t < count (view w u) = rw (count-is w u) lt in
+    let x : t < count (view w u) = rw (count-view w u) lt in
     below-more (view w u .args) t (u .nodes) (shape-of (n .shape)) (omega arith)
     (subst (λ (m : d.Node). Below (view w u .args) t (m .value)) (sym (e [] ∙ node-seen w u t [])) (h .inside .parts t x))
 
@@ -207,8 +156,8 @@ module _ (left : ℕ) (case : TypingCase) (w : List ℕ) (u : Used) (lhs rhs : �
       (sym (takes .is (inner (left - 1)) (seen w u ds) lhs rhs)
       ∙ (rw (value-is (seen w u ds) lhs l (el ds), value-is (seen w u ds) rhs r (er ds)) (impl-more left (case-of case) (seen w u ds) lhs rhs more)))
 
-  by : (b : Arm) (w′ : List ℕ) (x : Step) → a ≡ b → After w u w′ x (λ s. by-arm (inner (left - 1)) s (case-of case) lhs rhs b) → After w u w′ x (λ s. join-impl left s (case-of case) lhs rhs)
-  by b w′ x e n = after-seen (λ s. join-impl left s (case-of case) lhs rhs) (chosen b e) n
+  by : (b : Arm) {w′ : List ℕ} {x : Step} → a ≡ b → After w u w′ x (λ s. by-arm (inner (left - 1)) s (case-of case) lhs rhs b) → After w u w′ x (λ s. join-impl left s (case-of case) lhs rhs)
+  by b e n = after-is (λ ds k. chosen b e ds) n
 
   -- what an arm goes on to are nodes
   pub arm-below : (b : Arm) → Lay w u → lhs < u .nodes → rhs < u .nodes → a ≡ b → Arm-below (view w u .args) (u .nodes) b
@@ -217,54 +166,49 @@ module _ (left : ℕ) (case : TypingCase) (w : List ℕ) (u : Used) (lhs rhs : �
   -- the arms that go on to nothing
   pub arm-left : Lay w u → lhs < u .nodes → a ≡ Left → After w u w (step (Done lhs) u) (λ s. join-impl left s (case-of case) lhs rhs)
   unfolding by-arm outcome
-  arm-left h i e = by Left w _ e (after-now w u (Done lhs) (λ s. by-arm (inner (left - 1)) s (case-of case) lhs rhs Left) h i (λ ds. refl))
+  arm-left h i e = by Left e (after-now h i (λ ds k. refl))
 
   pub arm-right : Lay w u → rhs < u .nodes → a ≡ Right → After w u w (step (Done rhs) u) (λ s. join-impl left s (case-of case) lhs rhs)
   unfolding by-arm outcome
-  arm-right h i e = by Right w _ e (after-now w u (Done rhs) (λ s. by-arm (inner (left - 1)) s (case-of case) lhs rhs Right) h i (λ ds. refl))
+  arm-right h i e = by Right e (after-now h i (λ ds k. refl))
 
   pub arm-subtype : Lay w u → (lhs < u .nodes) × (rhs < u .nodes) → a ≡ SubtypeError → After w u w (step (Failed (error.SubtypeError lhs rhs)) u) (λ s. join-impl left s (case-of case) lhs rhs)
   unfolding by-arm outcome
-  arm-subtype h i e = by SubtypeError w _ e (after-now w u (Failed (error.SubtypeError lhs rhs)) (λ s. by-arm (inner (left - 1)) s (case-of case) lhs rhs SubtypeError) h i (λ ds. refl))
+  arm-subtype h i e = by SubtypeError e (after-now h i (λ ds k. refl))
 
   pub arm-arity : Lay w u → (lhs < u .nodes) × (rhs < u .nodes) → a ≡ ArityMismatch → After w u w (step (Failed (error.ArityMismatch lhs rhs)) u) (λ s. join-impl left s (case-of case) lhs rhs)
   unfolding by-arm outcome
-  arm-arity h i e = by ArityMismatch w _ e (after-now w u (Failed (error.ArityMismatch lhs rhs)) (λ s. by-arm (inner (left - 1)) s (case-of case) lhs rhs ArityMismatch) h i (λ ds. refl))
+  arm-arity h i e = by ArityMismatch e (after-now h i (λ ds k. refl))
 
   pub arm-incompatible : Lay w u → (lhs < u .nodes) × (rhs < u .nodes) → a ≡ Incompatible → After w u w (step (Failed (error.Incompatible lhs rhs)) u) (λ s. join-impl left s (case-of case) lhs rhs)
   unfolding by-arm outcome
-  arm-incompatible h i e = by Incompatible w _ e (after-now w u (Failed (error.Incompatible lhs rhs)) (λ s. by-arm (inner (left - 1)) s (case-of case) lhs rhs Incompatible) h i (λ ds. refl))
+  arm-incompatible h i e = by Incompatible e (after-now h i (λ ds k. refl))
 
   pub arm-disagree : Lay w u → a ≡ Disagree → After w u w (step (Refused AbilitiesDisagree) u) (λ s. join-impl left s (case-of case) lhs rhs)
   unfolding by-arm outcome
-  arm-disagree h e = by Disagree w _ e (after-now w u (Refused AbilitiesDisagree) (λ s. by-arm (inner (left - 1)) s (case-of case) lhs rhs Disagree) h tt (λ ds. refl))
+  arm-disagree h e = by Disagree e (after-now h tt (λ ds k. refl))
 
   -- references
   pub arm-refs : (side mut : Bool) (t1 t2 loc : ℕ) (w₁ : List ℕ) (x : Step) (w₂ : List ℕ) (y : Step) → a ≡ Refs side mut t1 t2 → loc ≡ (if side then l .loc else r .loc)
-      → After w u w₁ x (λ s. join-impl (left - 1) s (case-of case) t1 t2) → Follows w₁ x w₂ y (ref-at loc mut) → After w u w₂ y (λ s. join-impl left s (case-of case) lhs rhs)
+      → After w u w₁ x (λ s. join-impl (left - 1) s (case-of case) t1 t2) → After w₁ (x .used) w₂ y (then-ref (x .out) loc mut) → After w u w₂ y (λ s. join-impl left s (case-of case) lhs rhs)
   unfolding by-arm
   arm-refs side mut t1 t2 loc w₁ x w₂ y e q after n =
-      by (Refs side mut t1 t2) w₂ y e
-      (after-seen (λ s. by-arm (inner (left - 1)) s (case-of case) lhs rhs (Refs side mut t1 t2))
-      (λ ds. rw (q, loc-is (seen w u ds) lhs l (el ds), loc-is (seen w u ds) rhs r (er ds)))
-      (n .then w u (λ s. join-impl (left - 1) s (case-of case) t1 t2) after))
+      by (Refs side mut t1 t2) e
+      (after-is (λ ds k. rw (q, loc-is (seen w u ds) lhs l (el ds), loc-is (seen w u ds) rhs r (er ds))) (after-on (λ m. m >>= ref-at loc mut) (after .changed) n))
 
   -- named types
   pub arm-applies : (k : Mark) (n : TypeName) (first1 many1 first2 many2 : ℕ) (w₁ : List ℕ) (x : Types) (w₂ : List ℕ) (y : Step) → a ≡ Applies k n first1 many1 first2 many2
       → Joined w u w₁ x (λ s. join-impl-types (inner (left - 1)) s (case-of case) (args-at s (places first1 many1)) (args-at s (places first2 many2)))
-      → Follows-types w₁ x w₂ y (apply-at (r .loc) (mark-of k) (name-of n)) → After w u w₂ y (λ s. join-impl left s (case-of case) lhs rhs)
+      → After w₁ (x .used) w₂ y (then-apply (x .out) (x .tys) (r .loc) (mark-of k) (name-of n)) → After w u w₂ y (λ s. join-impl left s (case-of case) lhs rhs)
   unfolding by-arm
   arm-applies k n first1 many1 first2 many2 w₁ x w₂ y e joined m =
-      by (Applies k n first1 many1 first2 many2) w₂ y e
-      (after-seen (λ s. by-arm (inner (left - 1)) s (case-of case) lhs rhs (Applies k n first1 many1 first2 many2)) (λ ds. rw (loc-is (seen w u ds) rhs r (er ds)))
-      (m .then w u (λ s. join-impl-types (inner (left - 1)) s (case-of case) (args-at s (places first1 many1)) (args-at s (places first2 many2))) joined))
+      by (Applies k n first1 many1 first2 many2) e
+      (after-is (λ ds k. rw (loc-is (seen w u ds) rhs r (er ds))) (after-on (λ c. c >>= apply-at (r .loc) (mark-of k) (name-of n)) (joined .changed) m))
 
   -- two variables
   pub arm-vars : (id1 id2 : TVar) (w₁ : List ℕ) (x : Step) → a ≡ Vars id1 id2 → After w u w₁ x (λ s. join-tvar (inner (left - 1)) s (case-of case) (l .loc) (id1 .0) (r .loc) (id2 .0)) → After w u w₁ x (λ s. join-impl left s (case-of case) lhs rhs)
   unfolding by-arm
-  arm-vars id1 id2 w₁ x e n =
-      by (Vars id1 id2) w₁ x e
-      (after-seen (λ s. by-arm (inner (left - 1)) s (case-of case) lhs rhs (Vars id1 id2)) (λ ds. rw (loc-is (seen w u ds) lhs l (el ds), loc-is (seen w u ds) rhs r (er ds))) n)
+  arm-vars id1 id2 w₁ x e n = by (Vars id1 id2) e (after-is (λ ds k. rw (loc-is (seen w u ds) lhs l (el ds), loc-is (seen w u ds) rhs r (er ds))) n)
 
   -- one variable
   abbrev merge-left : ℕ → State → ℕ → Result (State × ℕ)
@@ -288,28 +232,24 @@ module _ (left : ℕ) (case : TypingCase) (w : List ℕ) (u : Used) (lhs rhs : �
       (next-same (seen w u ds) _ _ (rw (fresh-loc (seen w u ds) lhs, fresh-loc (seen w u ds) rhs, loc-is (seen w u ds) lhs l (el ds), loc-is (seen w u ds) rhs r (er ds))))
 
   module _ (id : TVar) (w₁ : List ℕ) (m : Meet) where
-    from-left : (w′ : List ℕ) (x : Step) → a ≡ VarLeft id → After w u w′ x (λ s. meet-tvar (merge-left (id .0)) s lhs rhs lhs (id .0) rhs) → After w u w′ x (λ s. join-impl left s (case-of case) lhs rhs)
+    from-left : {w′ : List ℕ} {x : Step} → a ≡ VarLeft id → After w u w′ x (λ s. meet-tvar (merge-left (id .0)) s lhs rhs lhs (id .0) rhs) → After w u w′ x (λ s. join-impl left s (case-of case) lhs rhs)
     unfolding by-arm
-    from-left w′ x e n =
-        by (VarLeft id) w′ x e
-        (after-seen (λ s. by-arm (inner (left - 1)) s (case-of case) lhs rhs (VarLeft id)) (λ ds. left-by (id .0) ds (get (seen w u ds) (id .0)) refl) n)
+    from-left e n = by (VarLeft id) e (after-is (λ ds k. left-by (id .0) ds (get (seen w u ds) (id .0)) refl) n)
 
-    from-right : (w′ : List ℕ) (x : Step) → a ≡ VarRight id → After w u w′ x (λ s. meet-tvar (merge-right (id .0)) s lhs rhs rhs (id .0) lhs) → After w u w′ x (λ s. join-impl left s (case-of case) lhs rhs)
+    from-right : {w′ : List ℕ} {x : Step} → a ≡ VarRight id → After w u w′ x (λ s. meet-tvar (merge-right (id .0)) s lhs rhs rhs (id .0) lhs) → After w u w′ x (λ s. join-impl left s (case-of case) lhs rhs)
     unfolding by-arm
-    from-right w′ x e n =
-        by (VarRight id) w′ x e
-        (after-seen (λ s. by-arm (inner (left - 1)) s (case-of case) lhs rhs (VarRight id)) (λ ds. right-by (id .0) ds (get (seen w u ds) (id .0)) refl) n)
+    from-right e n = by (VarRight id) e (after-is (λ ds k. right-by (id .0) ds (get (seen w u ds) (id .0)) refl) n)
 
-    module _ (e : a ≡ VarLeft id) (meets : Meets w u w₁ m (λ k s. meet-tvar k s lhs rhs lhs (id .0) rhs)) where
+    module _ (e : a ≡ VarLeft id) (meets : Meets w u w₁ m (λ s k. meet-tvar k s lhs rhs lhs (id .0) rhs)) where
       pub left-is : (x : Step) → m ≡ Is x → After w u w₁ x (λ s. join-impl left s (case-of case) lhs rhs)
-      left-is x q = from-left w₁ x e (met-is w u w₁ m (λ k s. meet-tvar k s lhs rhs lhs (id .0) rhs) meets (merge-left (id .0)) x q)
+      left-is x q = from-left e (met-is meets (merge-left (id .0)) q)
 
       pub left-merge : (u₁ : Used) (v : TVar) (w₂ : List ℕ) (x : Step) → m ≡ Merge u₁ v → After w₁ u₁ w₂ x (λ s. join-tvar (inner (left - 1)) s (case-of case) (l .loc) (id .0) (r .loc) (v .0)) → After w u w₂ x (λ s. join-impl left s (case-of case) lhs rhs)
-      left-merge u₁ v w₂ x q n = from-left w₂ x e (met-merge w u w₁ m (λ k s. meet-tvar k s lhs rhs lhs (id .0) rhs) meets (merge-left (id .0)) u₁ v w₂ x q n)
+      left-merge u₁ v w₂ x q n = from-left e (met-merge meets (merge-left (id .0)) q n)
 
-    module _ (e : a ≡ VarRight id) (meets : Meets w u w₁ m (λ k s. meet-tvar k s lhs rhs rhs (id .0) lhs)) where
+    module _ (e : a ≡ VarRight id) (meets : Meets w u w₁ m (λ s k. meet-tvar k s lhs rhs rhs (id .0) lhs)) where
       pub right-is : (x : Step) → m ≡ Is x → After w u w₁ x (λ s. join-impl left s (case-of case) lhs rhs)
-      right-is x q = from-right w₁ x e (met-is w u w₁ m (λ k s. meet-tvar k s lhs rhs rhs (id .0) lhs) meets (merge-right (id .0)) x q)
+      right-is x q = from-right e (met-is meets (merge-right (id .0)) q)
 
       pub right-merge : (u₁ : Used) (v : TVar) (w₂ : List ℕ) (x : Step) → m ≡ Merge u₁ v → After w₁ u₁ w₂ x (λ s. join-tvar (inner (left - 1)) s (case-of case) (l .loc) (v .0) (r .loc) (id .0)) → After w u w₂ x (λ s. join-impl left s (case-of case) lhs rhs)
-      right-merge u₁ v w₂ x q n = from-right w₂ x e (met-merge w u w₁ m (λ k s. meet-tvar k s lhs rhs rhs (id .0) lhs) meets (merge-right (id .0)) u₁ v w₂ x q n)
+      right-merge u₁ v w₂ x q n = from-right e (met-merge meets (merge-right (id .0)) q n)

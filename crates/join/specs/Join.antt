@@ -1,43 +1,33 @@
 -- What the argument walk asks of its places, and what its answer stands for. Assumes nothing: these are definitions.
-use mathlib.Core.Path.{_≡_}
 use mathlib.Core.Bool.{Bool}
 use mathlib.Core.List.{List}
 use mathlib.Core.Option.{none}
-use Prim.Native.Nat.{ℕ, _≤_, _<_}
+use Prim.Native.Nat.{ℕ}
 use lib.ListN.{take}
 use Rattle.definition.specs.Types as d
-use Rattle.definition.specs.Types.{State, Struct, Result, ok, _>>=_}
+use Rattle.definition.specs.Types.{State, Result, _>>=_}
 use Rattle.definition.specs.Store.{sp}
 use Rattle.table.specs.Rows.{places}
-use Rattle.table.specs.State.{Lay, Grown, After, view, seen, outcome, done, Nodes-in, Below, Parts}
+use Rattle.table.specs.State.{Any, Lists, Below, view, outcome, listed}
 use Rattle.table.specs.declared.Used.{Used}
 use Rattle.table.specs.declared.Out.{Out}
 use Rattle.table.specs.declared.Step.{Step}
-use Rattle.table.specs.declared.Found.the-variants.{Nothing, Just}
+use Rattle.table.specs.declared.Out.the-variants.{Done, Failed, Refused}
 use Rattle.join.specs.declared.Types.{Types}
 
 -- so many places from `first` on are in use, and each holds a node
 abbrev pub Args-in : List ℕ → Used → ℕ → ℕ → Type 0
 Args-in w u first many = Below (view w u .args) (u .nodes) (d.Apply none (d.Multiple 0) (places first many))
 
--- r is the lesser of the two
-pub record Fewer (a b r : ℕ) : Type 0 where
-  pub left : r ≤ a
-  pub right : r ≤ b
-  pub is : r < a → b ≤ r
-
--- the types that an answer has are nodes, and so are those that it names
-pub record Types-in (r : Types) : Type 0 where
-  pub parts : (m : ℕ) → done (r .out) ≡ Just m → Parts (r .used .nodes) (r .tys) m
-  pub inside : done (r .out) ≡ Nothing → Nodes-in (r .used .nodes) (r .out)
+-- the number that an answer is, or 0
+abbrev pub number : Out → ℕ
+number (Done n) = n
+number (Failed e) = 0
+number (Refused x) = 0
 
 -- the words w with u in use became w′ and the answer r, as f says: the types are the first of `tys`, as many as the number
-pub record Joined (w : List ℕ) (u : Used) (w′ : List ℕ) (r : Types) (f : State → Result (State × List ℕ)) : Type 0 where
-  pub lay : Lay w′ (r .used)
-  pub grown : Grown (view w u) (view w′ (r .used))
-  pub structs : view w′ (r .used) .structs ≡ view w u .structs
-  pub is : (ds : List Struct) → (outcome (r .out) (seen w′ (r .used) ds) >>= (λ x. ok (x .0, take (x .1) (r .tys)))) ≡ f (seen w u ds)
-  pub types : Types-in r
+abbrev pub Joined : List ℕ → Used → List ℕ → Types → (State → Result (State × List ℕ)) → Type 0
+Joined w u w′ r f = Lists Any w u w′ (r .used) (r .out) (r .tys) (number (r .out)) f
 
 -- ---- what follows a step
 
@@ -50,9 +40,10 @@ ref-at loc mut x = sp (x .0) loc (d.Ref mut (x .1))
 abbrev pub apply-at : ℕ → d.Mark → d.TypeName → State × List ℕ → Result (State × ℕ)
 apply-at loc k n x = sp (x .0) loc (d.Apply k n (x .1))
 
--- after whatever left w and the step a, the words became w′ and the answer r, as h says of what a gave
-pub record Follows (w : List ℕ) (a : Step) (w′ : List ℕ) (r : Step) (h : State × ℕ → Result (State × ℕ)) : Type 0 where
-  pub then : (w₀ : List ℕ) (u₀ : Used) (f : State → Result (State × ℕ)) → After w₀ u₀ w a f → After w₀ u₀ w′ r (λ s. f s >>= h)
+-- .. if its answer o is a type
+abbrev pub then-ref : Out → ℕ → Bool → State → Result (State × ℕ)
+then-ref o loc mut s = outcome o s >>= ref-at loc mut
 
-pub record Follows-types (w : List ℕ) (a : Types) (w′ : List ℕ) (r : Step) (h : State × List ℕ → Result (State × ℕ)) : Type 0 where
-  pub then : (w₀ : List ℕ) (u₀ : Used) (f : State → Result (State × List ℕ)) → Joined w₀ u₀ w a f → After w₀ u₀ w′ r (λ s. f s >>= h)
+-- .. if o is the number of the types
+abbrev pub then-apply : Out → List ℕ → ℕ → d.Mark → d.TypeName → State → Result (State × ℕ)
+then-apply o tys loc k n s = listed o (take (number o) tys) s >>= apply-at loc k n

@@ -1,15 +1,15 @@
 // typing/core.rs: join, subtype, join_impl, join_impl_types, join_tvar. What calls no join is in `arms` and `merge`.
 // Changed from the source that NOTICE names: ported to Rattle.
 ghost use mathlib.Core.Path.{_≡_};
-ghost use Prim.Native.Nat.{ℕ, _≤_, _<_};
+ghost use Prim.Native.Nat.{ℕ, _<_, min};
 ghost use Rattle.definition.specs.Types.{if_then_else_};
 ghost use Rattle.definition.specs.Store.{args-at};
 ghost use Rattle.definition.specs.Join.{join, subtype, join-impl, join-impl-types, join-tvar};
 ghost use Rattle.table.specs.Rows.{places};
-ghost use Rattle.table.specs.State.{Lay, After, Nodes-in};
+ghost use Rattle.table.specs.State.{Lay, After, Nodes-in, Listed-in};
 ghost use Rattle.arms.specs.Arms.{case-of};
 ghost use Rattle.names.specs.Names.{mark-of, name-of};
-ghost use Rattle.join.specs.Join.{Args-in, Joined, Fewer, step, Follows, Follows-types, Types-in, ref-at, apply-at};
+ghost use Rattle.join.specs.Join.{Args-in, Joined, number, step, then-ref, then-apply};
 use arms::Arm;
 use arms::TypingCase;
 use merge::Meet;
@@ -48,7 +48,7 @@ fn pick_loc(left: bool, loc1: u32, loc2: u32) -> u32
 // The reference to the type that was joined, if one was.
 fn push_ref(w: &mut [u32], a: Step, loc: u32, mutable: bool) -> Step
     requires { ⌜ Lay (now w) (a .used) × Nodes-in (a .used .nodes) (a .out) ⌝ }
-    ensures { λ r. ⌜ Follows (now (w .entry)) a (now (w .exit)) r (ref-at loc mutable) ⌝ }
+    ensures { λ r. ⌜ After (now (w .entry)) (a .used) (now (w .exit)) r (then-ref (a .out) loc mutable) ⌝ }
 {
     let o = a.out;
     let u = a.used;
@@ -60,8 +60,8 @@ fn push_ref(w: &mut [u32], a: Step, loc: u32, mutable: bool) -> Step
 
 // The named type of the arguments that were joined, if they were.
 fn push_types(w: &mut [u32], a: Types, loc: u32, k: Mark, n: TypeName) -> Step
-    requires { ⌜ Lay (now w) (a .used) × Types-in a ⌝ }
-    ensures { λ r. ⌜ Follows-types (now (w .entry)) a (now (w .exit)) r (apply-at loc (mark-of k) (name-of n)) ⌝ }
+    requires { ⌜ Lay (now w) (a .used) × Listed-in (a .used .nodes) (a .out) (a .tys) (number (a .out)) ⌝ }
+    ensures { λ r. ⌜ After (now (w .entry)) (a .used) (now (w .exit)) r (then-apply (a .out) (a .tys) loc (mark-of k) (name-of n)) ⌝ }
 {
     let o = a.out;
     let u = a.used;
@@ -73,7 +73,7 @@ fn push_types(w: &mut [u32], a: Types, loc: u32, k: Mark, n: TypeName) -> Step
 }
 
 fn fewer(a: u32, b: u32) -> u32
-    ensures { λ r. ⌜ Fewer a b r ⌝ }
+    ensures { λ r. ⌜ r ≡ min a b ⌝ }
 {
     if a < b { a } else { b }
 }

@@ -14,7 +14,7 @@ use Rattle.names.specs.declared.TVar.{TVar}
 use Rattle.subst.specs.Answers.{bound, Binds}
 use Rattle.subst.specs.declared.Binding.{Binding}
 use Rattle.subst.specs.declared.Binding.the-variants.{Bound, Failed as FailedB, Recursive as RecursiveB}
-use Rattle.table.specs.State.{Lay, Changed, After, Stored, Nodes-in, outcome, seen, view, done, found, node-of, shape-of}
+use Rattle.table.specs.State.{Lay, Any, Refines, Changed, After, Stored, Nodes-in, outcome, seen, done, found, node-of, shape-of}
 use Rattle.table.specs.declared.Step.{Step}
 use Rattle.table.specs.declared.Used.{Used}
 use Rattle.table.specs.declared.Node.{Node}
@@ -23,18 +23,14 @@ use Rattle.table.specs.declared.Out.the-variants.{Done, Failed}
 use Rattle.table.specs.declared.TypingError.the-variants.{Incompatible, RecursiveType}
 use Rattle.table.specs.declared.Found.{Found}
 use Rattle.table.specs.declared.Found.the-variants.{Nothing, Just}
-use Rattle.table.proofs.Steps.{grown-refl, grown-trans, after-now, after-stop, after-then, changed-stop}
-use Rattle.merge.specs.Merge.{Inner, open-ends, open-types, open-tvar, opened, Opens, show-both, close-tvar, meet-tvar, met, Meets}
+use Rattle.table.proofs.Steps.{refines-now, refines-is, refines-on, refines-as, refines-number, stop-is, node-in, plain-in, after-now, after-is, after-stop, after-on, after-then}
+use Rattle.table.proofs.States.{tvar-plain}
+use Rattle.table.proofs.Grown.{nodes-grow, loc-is, value-is}
+use Rattle.merge.specs.Merge.{Inner, Merging, open-ends, open-types, open-tvar, opened, Opens, show-both, close-tvar, meet-tvar, met, Meets}
 use Rattle.merge.specs.declared.Open.{Open}
 use Rattle.merge.specs.declared.Opened.the-variants.{Ready, Stop}
+use Rattle.merge.specs.declared.Meet.{Meet}
 use Rattle.merge.specs.declared.Meet.the-variants.{Is, Merge}
-use Rattle.merge.proofs.Answers.{then-is, node-in, next-stop-in, nodes-grow, loc-is, value-is}
-
--- what f says of the words at hand, said otherwise
-pub after-seen : {w : List ℕ} {u : Used} {w′ : List ℕ} {r : Step} {f : State → Result (State × ℕ)} (g : State → Result (State × ℕ))
-    → ((ds : List Struct) → f (seen w u ds) ≡ g (seen w u ds)) → After w u w′ r f → After w u w′ r g
-after-seen g e a =
-    record { changed = record { lay = a .changed .lay; grown = a .changed .grown; structs = a .changed .structs; is = λ ds. a .changed .is ds ∙ e ds }; inside = a .inside }
 
 -- ---- the type of a chain's end
 
@@ -48,55 +44,32 @@ end-bound s loc v t e = rw (← e, type-of)
 
 -- ---- opening a merge
 
-pub open-seen : {w : List ℕ} {u : Used} {w′ : List ℕ} {r : Open} {f : Inner → State → Result (State × ℕ)} (g : Inner → State → Result (State × ℕ))
-    → ((k : Inner) (ds : List Struct) → f k (seen w u ds) ≡ g k (seen w u ds)) → Opens w u w′ r f → Opens w u w′ r g
-open-seen g e a = record { lay = a .lay; grown = a .grown; structs = a .structs; is = λ k ds. a .is k ds ∙ e k ds; inside = a .inside }
+module _ {w : List ℕ} {u : Used} {w′ : List ℕ} where
+  pub open-seen : {r : Open} {f g : State → Inner → Result (State × ℕ)} → ((ds : List Struct) (k : Inner) → f (seen w u ds) k ≡ g (seen w u ds) k) → Opens w u w′ r f → Opens w u w′ r g
+  open-seen e a = record { changed = refines-is (λ ds x i k. e ds k i) (a .changed); inside = a .inside }
 
-pub open-stop : (w : List ℕ) (u : Used) (w′ : List ℕ) (r : Step) (f : State → Result (State × ℕ)) (h : Inner → State × ℕ → Result (State × ℕ)) (b : Found)
-    → Changed w u w′ r f → Nodes-in (r .used .nodes) (r .out) → b ≡ done (r .out) → b ≡ Nothing
-    → Opens w u w′ (record { what = Stop (r .out); used = r .used }) (λ k s. f s >>= h k)
-unfolding opened
-open-stop w u w′ r f h b a i p q =
-    record { lay = a .lay; grown = a .grown; structs = a .structs; is = λ k ds. changed-stop w u w′ r f (h k) b a p q .is ds; inside = i }
+  -- h follows, given what follows the opening
+  module _ {u′ : Used} (o : Out) {f : State → Result (State × ℕ)} {b : Found} (h : Inner → State × ℕ → Result (State × ℕ)) (a : Refines Any w u w′ u′ (outcome o) f) (p : b ≡ done o) where
+    pub open-stop : Nodes-in (u′ .nodes) o → b ≡ Nothing → Opens w u w′ (record { what = Stop o; used = u′ }) (λ s k. f s >>= h k)
+    unfolding opened
+    open-stop i q = record { changed = refines-as (λ m k. m >>= h k) a (λ s i k. stop-is o s (h k) (sym p ∙ q) i); inside = i }
 
-pub open-then : (w : List ℕ) (u : Used) (w′ : List ℕ) (r : Step) (f : State → Result (State × ℕ)) (h : Inner → State × ℕ → Result (State × ℕ)) (b : Found) (t : ℕ) (w₂ : List ℕ) (r₂ : Open)
-    → Changed w u w′ r f → b ≡ done (r .out) → b ≡ Just t → Opens w′ (r .used) w₂ r₂ (λ k s. h k (s, t))
-    → Opens w u w₂ r₂ (λ k s. f s >>= h k)
-open-then w u w′ r f h b t w₂ r₂ a p q n =
-    record {
-      lay = n .lay;
-      grown = grown-trans _ _ _ (a .grown) (n .grown);
-      structs = n .structs ∙ a .structs;
-      is = λ k ds. n .is k ds ∙ then-is (r .out) b t (seen w′ (r .used) ds) (h k) p q ∙ ap (λ (x : Result (State × ℕ)). x >>= h k) (a .is ds);
-      inside = n .inside;
-    }
+    pub open-then : {t : ℕ} {w₂ : List ℕ} {r : Open} → b ≡ Just t → Opens w′ u′ w₂ r (λ s k. h k (s, t)) → Opens w u w₂ r (λ s k. f s >>= h k)
+    unfolding _>>=_
+    open-then q n = record { changed = refines-number o (λ m k. m >>= h k) a p q (n .changed); inside = n .inside }
 
-pub open-stored : (w : List ℕ) (u : Used) (w′ : List ℕ) (f : State → State) (h : Inner → State → Result (State × ℕ)) (w₂ : List ℕ) (r₂ : Open)
-    → Stored w u w′ f → Opens w′ u w₂ r₂ h → Opens w u w₂ r₂ (λ k s. h k (f s))
-open-stored w u w′ f h w₂ r₂ a n =
-    record {
-      lay = n .lay;
-      grown = grown-trans _ _ _ (a .grown) (n .grown);
-      structs = n .structs ∙ a .structs;
-      is = λ k ds. n .is k ds ∙ ap (h k) (a .is ds);
-      inside = n .inside;
-    }
+  pub open-stored : {f : State → State} {w₂ : List ℕ} {r : Open} (h : State → Inner → Result (State × ℕ)) → Stored w u w′ f → Opens w′ u w₂ r h → Opens w u w₂ r (λ s. h (f s))
+  open-stored h a n = record { changed = refines-on h a (n .changed); inside = n .inside }
 
 pub open-ready : (w : List ℕ) (u : Used) (ty1 ty2 : ℕ) (v : TVar) (var2 : ℕ) → Lay w u → ty1 < u .nodes → ty2 < u .nodes → var2 < u .nodes
-    → Opens w u w (record { what = Ready ty1 ty2 v var2; used = u }) (λ k s. k s ty1 ty2 (v .0) var2)
+    → Opens w u w (record { what = Ready ty1 ty2 v var2; used = u }) (λ s k. k s ty1 ty2 (v .0) var2)
 unfolding opened
-open-ready w u ty1 ty2 v var2 h a b c = record { lay = h; grown = grown-refl (view w u); structs = refl; is = λ k ds. refl; inside = (a, (b, c)) }
+open-ready w u ty1 ty2 v var2 h a b c = record { changed = refines-now h (λ ds k. refl); inside = (a, (b, c)) }
 
 pub open-is : (k : Inner) (s : State) (loc1 id1 loc2 id2 e1 e2 : ℕ) (num1 num2 : Option ℕ) → e1 ≡ forward-tvar s id1 → e2 ≡ forward-tvar s id2 → num1 ≡ num-loc s e1 → num2 ≡ num-loc s e2
     → open-types k s loc1 e1 num1 loc2 e2 num2 ≡ open-tvar k s loc1 id1 loc2 id2
 unfolding open-tvar
 open-is k s loc1 id1 loc2 id2 e1 e2 num1 num2 p q a b = rw (a, b, p, q)
-
--- TVar::next, the number wrapped
-open-fresh : (w : List ℕ) (u : Used) (w′ : List ℕ) (r : Step) (h : Inner → State × ℕ → Result (State × ℕ)) (b : Found) (n : ℕ) (v : TVar) (w₂ : List ℕ) (r₂ : Open)
-    → Changed w u w′ r (λ s. next-tvar s) → b ≡ done (r .out) → b ≡ Just n → v .0 ≡ n → Opens w′ (r .used) w₂ r₂ (λ k s. h k (s, v .0))
-    → Opens w u w₂ r₂ (λ k s. next-tvar s >>= h k)
-open-fresh w u w′ r h b n v w₂ r₂ a p q e o = open-then w u w′ r (λ s. next-tvar s) h b (v .0) w₂ r₂ a p (q ∙ ap Just (sym e)) o
 
 -- both ends are bound to the fresh variable v
 module _ (loc1 id1 : ℕ) (num1 : Option ℕ) (ty1 loc2 id2 : ℕ) (num2 : Option ℕ) (ty2 : ℕ) where
@@ -109,44 +82,41 @@ module _ (loc1 id1 : ℕ) (num1 : Option ℕ) (ty1 loc2 id2 : ℕ) (num2 : Optio
   abbrev from-new : Inner → State × ℕ → Result (State × ℕ)
   from-new k x = sp (merge-num (x .0) num1 num2 (x .1)) loc1 (d.Var (x .1)) >>= from-var1 (x .1) k
 
-  from-start : (w : List ℕ) (u : Used) (w′ : List ℕ) (r : Open) → Opens w u w′ r (λ k s. next-tvar s >>= from-new k) → Opens w u w′ r (λ k s. open-ends k s loc1 id1 num1 ty1 loc2 id2 num2 ty2)
+  from-start : {w : List ℕ} {u : Used} {w′ : List ℕ} {r : Open} → Opens w u w′ r (λ s k. next-tvar s >>= from-new k) → Opens w u w′ r (λ s k. open-ends k s loc1 id1 num1 ty1 loc2 id2 num2 ty2)
   unfolding open-ends
-  from-start w u w′ r o = o
+  from-start o = o
 
   module _ (w : List ℕ) (u : Used) (w₁ : List ℕ) (a : Step) (b : Found) (ta : Changed w u w₁ a (λ s. next-tvar s)) (da : b ≡ done (a .out)) where
-    pub ends-no-var : b ≡ Nothing → Opens w u w₁ (record { what = Stop (a .out); used = a .used }) (λ k s. open-ends k s loc1 id1 num1 ty1 loc2 id2 num2 ty2)
-    ends-no-var q = from-start w u w₁ _ (open-stop w u w₁ a (λ s. next-tvar s) from-new b ta (next-stop-in w u w₁ a b ta da q) da q)
+    pub ends-no-var : b ≡ Nothing → Opens w u w₁ (record { what = Stop (a .out); used = a .used }) (λ s k. open-ends k s loc1 id1 num1 ty1 loc2 id2 num2 ty2)
+    ends-no-var q = from-start (open-stop (a .out) from-new ta da (plain-in (a .out) ta tvar-plain da q) q)
 
     module _ (n : ℕ) (v : TVar) (is : b ≡ Just n) (e : v .0 ≡ n) (w₂ : List ℕ) (m : Stored w₁ (a .used) w₂ (λ s. merge-num s num1 num2 (v .0)))
         (w₃ : List ℕ) (p : Step) (bp : Found) (tp : After w₂ (a .used) w₃ p (λ s. sp s loc1 (d.Var (v .0)))) (dp : bp ≡ done (p .out)) where
-      from-mark : (w′ : List ℕ) (r : Open) → Opens w₂ (a .used) w′ r (λ k s. sp s loc1 (d.Var (v .0)) >>= from-var1 (v .0) k) → Opens w u w′ r (λ k s. open-ends k s loc1 id1 num1 ty1 loc2 id2 num2 ty2)
-      from-mark w′ r o =
-          from-start w u w′ r
-          (open-fresh w u w₁ a from-new b n v w′ r ta da is e
-          (open-stored w₁ (a .used) w₂ (λ s. merge-num s num1 num2 (v .0)) (λ k s. sp s loc1 (d.Var (v .0)) >>= from-var1 (v .0) k) w′ r m o))
+      from-mark : {w′ : List ℕ} {r : Open} → Opens w₂ (a .used) w′ r (λ s k. sp s loc1 (d.Var (v .0)) >>= from-var1 (v .0) k) → Opens w u w′ r (λ s k. open-ends k s loc1 id1 num1 ty1 loc2 id2 num2 ty2)
+      from-mark o = from-start (open-then (a .out) from-new ta da (is ∙ ap Just (sym e)) (open-stored (λ s k. sp s loc1 (d.Var (v .0)) >>= from-var1 (v .0) k) m o))
 
-      pub ends-no-node : bp ≡ Nothing → Opens w u w₃ (record { what = Stop (p .out); used = p .used }) (λ k s. open-ends k s loc1 id1 num1 ty1 loc2 id2 num2 ty2)
-      ends-no-node q = from-mark w₃ _ (open-stop w₂ (a .used) w₃ p (λ s. sp s loc1 (d.Var (v .0))) (from-var1 (v .0)) bp (tp .changed) (tp .inside) dp q)
+      pub ends-no-node : bp ≡ Nothing → Opens w u w₃ (record { what = Stop (p .out); used = p .used }) (λ s k. open-ends k s loc1 id1 num1 ty1 loc2 id2 num2 ty2)
+      ends-no-node q = from-mark (open-stop (p .out) (from-var1 (v .0)) (tp .changed) dp (tp .inside) q)
 
       module _ (var1 : ℕ) (is1 : bp ≡ Just var1) (w₄ : List ℕ) (q : Step) (bq : Found) (tq : After w₃ (p .used) w₄ q (λ s. sp s loc2 (d.Var (v .0)))) (dq : bq ≡ done (q .out)) where
-        from-node : (w′ : List ℕ) (r : Open) → Opens w₃ (p .used) w′ r (λ k s. sp s loc2 (d.Var (v .0)) >>= from-var2 (v .0) var1 k) → Opens w u w′ r (λ k s. open-ends k s loc1 id1 num1 ty1 loc2 id2 num2 ty2)
-        from-node w′ r o = from-mark w′ r (open-then w₂ (a .used) w₃ p (λ s. sp s loc1 (d.Var (v .0))) (from-var1 (v .0)) bp var1 w′ r (tp .changed) dp is1 o)
+        from-node : {w′ : List ℕ} {r : Open} → Opens w₃ (p .used) w′ r (λ s k. sp s loc2 (d.Var (v .0)) >>= from-var2 (v .0) var1 k) → Opens w u w′ r (λ s k. open-ends k s loc1 id1 num1 ty1 loc2 id2 num2 ty2)
+        from-node o = from-mark (open-then (p .out) (from-var1 (v .0)) (tp .changed) dp is1 o)
 
-        pub ends-no-second : bq ≡ Nothing → Opens w u w₄ (record { what = Stop (q .out); used = q .used }) (λ k s. open-ends k s loc1 id1 num1 ty1 loc2 id2 num2 ty2)
-        ends-no-second x = from-node w₄ _ (open-stop w₃ (p .used) w₄ q (λ s. sp s loc2 (d.Var (v .0))) (from-var2 (v .0) var1) bq (tq .changed) (tq .inside) dq x)
+        pub ends-no-second : bq ≡ Nothing → Opens w u w₄ (record { what = Stop (q .out); used = q .used }) (λ s k. open-ends k s loc1 id1 num1 ty1 loc2 id2 num2 ty2)
+        ends-no-second x = from-node (open-stop (q .out) (from-var2 (v .0) var1) (tq .changed) dq (tq .inside) x)
 
         pub ends-ready : (var2 : ℕ) → bq ≡ Just var2 → (w₅ w₆ : List ℕ) → Stored w₄ (q .used) w₅ (λ s. insert s id1 var1) → Stored w₅ (q .used) w₆ (λ s. insert s id2 var2) → ty1 < u .nodes → ty2 < u .nodes
-            → Opens w u w₆ (record { what = Ready ty1 ty2 v var2; used = q .used }) (λ k s. open-ends k s loc1 id1 num1 ty1 loc2 id2 num2 ty2)
+            → Opens w u w₆ (record { what = Ready ty1 ty2 v var2; used = q .used }) (λ s k. open-ends k s loc1 id1 num1 ty1 loc2 id2 num2 ty2)
         ends-ready var2 is2 w₅ w₆ x y in1 in2 =
             let g1 = nodes-grow w u w₁ (a .used) (ta .grown) in
             let g2 = nodes-grow w₂ (a .used) w₃ (p .used) (tp .changed .grown) in
             let g3 = nodes-grow w₃ (p .used) w₄ (q .used) (tq .changed .grown) in
             let below1 : ty1 < q .used .nodes = omega arith in
             let below2 : ty2 < q .used .nodes = omega arith in
-            from-node w₆ _
-            (open-then w₃ (p .used) w₄ q (λ s. sp s loc2 (d.Var (v .0))) (from-var2 (v .0) var1) bq var2 w₆ _ (tq .changed) dq is2
-            (open-stored w₄ (q .used) w₅ (λ s. insert s id1 var1) (λ k s. k (insert s id2 var2) ty1 ty2 (v .0) var2) w₆ _ x
-            (open-stored w₅ (q .used) w₆ (λ s. insert s id2 var2) (λ k s. k s ty1 ty2 (v .0) var2) w₆ _ y
+            from-node
+            (open-then (q .out) (from-var2 (v .0) var1) (tq .changed) dq is2
+            (open-stored (λ s k. k (insert s id2 var2) ty1 ty2 (v .0) var2) x
+            (open-stored (λ s k. k s ty1 ty2 (v .0) var2) y
             (open-ready w₆ (q .used) ty1 ty2 v var2 (y .lay) below1 below2 (node-in (q .used .nodes) (q .out) bq var2 (tq .inside) dq is2)))))
 
 -- the ends e1 and e2 of both chains
@@ -159,23 +129,23 @@ module _ (w : List ℕ) (u : Used) (loc1 id1 loc2 id2 : ℕ) (e1 e2 : TVar) (n1 
   abbrev from-ty1 : Inner → State × ℕ → Result (State × ℕ)
   from-ty1 k x = type-of (x .0) loc2 (e2 .0) >>= from-ty2 (x .1) k
 
-  from-ends : (w′ : List ℕ) (r : Open) → Opens w u w′ r (λ k s. type-of s loc1 (e1 .0) >>= from-ty1 k) → Opens w u w′ r (λ k s. open-tvar k s loc1 id1 loc2 id2)
+  from-ends : {w′ : List ℕ} {r : Open} → Opens w u w′ r (λ s k. type-of s loc1 (e1 .0) >>= from-ty1 k) → Opens w u w′ r (λ s k. open-tvar k s loc1 id1 loc2 id2)
   unfolding open-types
-  from-ends w′ r o = open-seen (λ k s. open-tvar k s loc1 id1 loc2 id2) (λ k ds. open-is k (seen w u ds) loc1 id1 loc2 id2 (e1 .0) (e2 .0) (found n1) (found n2) (p1 ds) (p2 ds) (q1 ds) (q2 ds)) o
+  from-ends o = open-seen (λ ds k. open-is k (seen w u ds) loc1 id1 loc2 id2 (e1 .0) (e2 .0) (found n1) (found n2) (p1 ds) (p2 ds) (q1 ds) (q2 ds)) o
 
   module _ (w₁ : List ℕ) (a : Step) (b : Found) (ta : After w u w₁ a (λ s. type-of s loc1 (e1 .0))) (da : b ≡ done (a .out)) where
-    pub open-no-first : b ≡ Nothing → Opens w u w₁ (record { what = Stop (a .out); used = a .used }) (λ k s. open-tvar k s loc1 id1 loc2 id2)
-    open-no-first q = from-ends w₁ _ (open-stop w u w₁ a (λ s. type-of s loc1 (e1 .0)) from-ty1 b (ta .changed) (ta .inside) da q)
+    pub open-no-first : b ≡ Nothing → Opens w u w₁ (record { what = Stop (a .out); used = a .used }) (λ s k. open-tvar k s loc1 id1 loc2 id2)
+    open-no-first q = from-ends (open-stop (a .out) from-ty1 (ta .changed) da (ta .inside) q)
 
     module _ (ty1 : ℕ) (is : b ≡ Just ty1) (w₂ : List ℕ) (r : Step) (br : Found) (tr : After w₁ (a .used) w₂ r (λ s. type-of s loc2 (e2 .0))) (dr : br ≡ done (r .out)) where
-      from-first : (w′ : List ℕ) (o : Open) → Opens w₁ (a .used) w′ o (λ k s. type-of s loc2 (e2 .0) >>= from-ty2 ty1 k) → Opens w u w′ o (λ k s. open-tvar k s loc1 id1 loc2 id2)
-      from-first w′ o x = from-ends w′ o (open-then w u w₁ a (λ s. type-of s loc1 (e1 .0)) from-ty1 b ty1 w′ o (ta .changed) da is x)
+      from-first : {w′ : List ℕ} {o : Open} → Opens w₁ (a .used) w′ o (λ s k. type-of s loc2 (e2 .0) >>= from-ty2 ty1 k) → Opens w u w′ o (λ s k. open-tvar k s loc1 id1 loc2 id2)
+      from-first x = from-ends (open-then (a .out) from-ty1 (ta .changed) da is x)
 
-      pub open-no-second : br ≡ Nothing → Opens w u w₂ (record { what = Stop (r .out); used = r .used }) (λ k s. open-tvar k s loc1 id1 loc2 id2)
-      open-no-second q = from-first w₂ _ (open-stop w₁ (a .used) w₂ r (λ s. type-of s loc2 (e2 .0)) (from-ty2 ty1) br (tr .changed) (tr .inside) dr q)
+      pub open-no-second : br ≡ Nothing → Opens w u w₂ (record { what = Stop (r .out); used = r .used }) (λ s k. open-tvar k s loc1 id1 loc2 id2)
+      open-no-second q = from-first (open-stop (r .out) (from-ty2 ty1) (tr .changed) dr (tr .inside) q)
 
-      pub open-both : (ty2 : ℕ) → br ≡ Just ty2 → (w₃ : List ℕ) (o : Open) → Opens w₂ (r .used) w₃ o (λ k s. open-ends k s loc1 (e1 .0) (found n1) ty1 loc2 (e2 .0) (found n2) ty2) → Opens w u w₃ o (λ k s. open-tvar k s loc1 id1 loc2 id2)
-      open-both ty2 is2 w₃ o x = from-first w₃ o (open-then w₁ (a .used) w₂ r (λ s. type-of s loc2 (e2 .0)) (from-ty2 ty1) br ty2 w₃ o (tr .changed) dr is2 x)
+      pub open-both : (ty2 : ℕ) → br ≡ Just ty2 → (w₃ : List ℕ) (o : Open) → Opens w₂ (r .used) w₃ o (λ s k. open-ends k s loc1 (e1 .0) (found n1) ty1 loc2 (e2 .0) (found n2) ty2) → Opens w u w₃ o (λ s k. open-tvar k s loc1 id1 loc2 id2)
+      open-both ty2 is2 w₃ o x = from-first (open-then (r .out) (from-ty2 ty1) (tr .changed) dr is2 x)
 
 -- ---- the numeric mark of a merge
 
@@ -190,7 +160,7 @@ module _ (w : List ℕ) (u : Used) (n1 n2 : Found) (v : ℕ) where
 
   pub marks-none : n2 ≡ Nothing → n1 ≡ Nothing → Lay w u → Stored w u w (λ s. merge-num s (found n1) (found n2) v)
   unfolding merge-num
-  marks-none e p h = rw (e, p) (record { lay = h; grown = grown-refl (view w u); structs = refl; is = λ ds. refl })
+  marks-none e p h = rw (e, p) (refines-now h (λ ds k. refl))
 
 -- ---- showing
 
@@ -215,14 +185,14 @@ module _ (ty1 id1 ty2 id2 : ℕ) where
 
   module _ (w : List ℕ) (u : Used) (w₁ : List ℕ) (a : Step) (b : Found) (ta : After w u w₁ a (λ s. shown s ty1 id1)) (da : b ≡ done (a .out)) where
     pub show-no-first : b ≡ Nothing → After w u w₁ a (λ s. show-both s ty1 id1 ty2 id2)
-    show-no-first q = after-seen (λ s. show-both s ty1 id1 ty2 id2) (λ ds. show-is (seen w u ds)) (after-stop w u w₁ a (λ s. shown s ty1 id1) show-first b ta da q)
+    show-no-first q = after-is (λ ds k. show-is (seen w u ds)) (after-stop show-first ta da q)
 
     module _ (t1 : ℕ) (is : b ≡ Just t1) (w₂ : List ℕ) (r : Step) (br : Found) (tr : After w₁ (a .used) w₂ r (λ s. shown s ty2 id2)) (dr : br ≡ done (r .out)) where
-      from-shown : (w′ : List ℕ) (x : Step) → After w₁ (a .used) w′ x (λ s. shown s ty2 id2 >>= show-second t1) → After w u w′ x (λ s. show-both s ty1 id1 ty2 id2)
-      from-shown w′ x o = after-seen (λ s. show-both s ty1 id1 ty2 id2) (λ ds. show-is (seen w u ds)) (after-then w u w₁ a (λ s. shown s ty1 id1) show-first b t1 w′ x (ta .changed) da is o)
+      from-shown : {w′ : List ℕ} {x : Step} → After w₁ (a .used) w′ x (λ s. shown s ty2 id2 >>= show-second t1) → After w u w′ x (λ s. show-both s ty1 id1 ty2 id2)
+      from-shown o = after-is (λ ds k. show-is (seen w u ds)) (after-then (a .out) show-first (ta .changed) da is o)
 
       pub show-no-second : br ≡ Nothing → After w u w₂ r (λ s. show-both s ty1 id1 ty2 id2)
-      show-no-second q = from-shown w₂ r (after-stop w₁ (a .used) w₂ r (λ s. shown s ty2 id2) (show-second t1) br tr dr q)
+      show-no-second q = from-shown (after-stop (show-second t1) tr dr q)
 
       pub show-done : (t2 : ℕ) → br ≡ Just t2 → After w u w₂ (record { out = Failed (Incompatible t1 t2); used = r .used }) (λ s. show-both s ty1 id1 ty2 id2)
       unfolding outcome
@@ -230,9 +200,9 @@ module _ (ty1 id1 ty2 id2 : ℕ) where
           let x = node-in (a .used .nodes) (a .out) b t1 (ta .inside) da is in
           let y = nodes-grow w₁ (a .used) w₂ (r .used) (tr .changed .grown) in
           let below1 : t1 < r .used .nodes = omega arith in
-          from-shown w₂ _
-          (after-then w₁ (a .used) w₂ r (λ s. shown s ty2 id2) (show-second t1) br t2 w₂ _ (tr .changed) dr q
-          (after-now w₂ (r .used) (Failed (Incompatible t1 t2)) (λ s. show-second t1 (s, t2)) (tr .changed .lay) (below1, node-in (r .used .nodes) (r .out) br t2 (tr .inside) dr q) (λ ds. refl)))
+          from-shown
+          (after-then (r .out) (show-second t1) (tr .changed) dr q
+          (after-now (tr .changed .lay) (below1, node-in (r .used .nodes) (r .out) br t2 (tr .inside) dr q) (λ ds k. refl)))
 
 -- ---- closing a merge
 
@@ -282,21 +252,14 @@ pub bound-after : (w : List ℕ) (u : Used) (w′ : List ℕ) (b : Binding) (tva
     → Binds w u w′ b tvar ty → Nodes-in (u .nodes) o → ((ds : List Struct) → outcome o (seen w′ u ds) ≡ f (seen w u ds))
     → After w u w′ (record { out = o; used = u }) f
 bound-after w u w′ b tvar ty o f a i e =
-    record { changed = record { lay = a .lay; grown = a .grown; structs = a .structs; is = e }; inside = i }
+    record { changed = record { lay = a .lay; grown = a .grown; structs = a .structs; is = λ ds k. e ds }; inside = i }
 
 -- .. and what follows it
 pub bound-then : (w : List ℕ) (u : Used) (w′ : List ℕ) (b : Binding) (tvar ty : ℕ) (w₂ : List ℕ) (r : Step) (f g : State → Result (State × ℕ))
     → Binds w u w′ b tvar ty → After w′ u w₂ r f → ((ds : List Struct) → f (seen w′ u ds) ≡ g (seen w u ds)) → After w u w₂ r g
 bound-then w u w′ b tvar ty w₂ r f g a n e =
-    record {
-      changed = record {
-        lay = n .changed .lay;
-        grown = grown-trans _ _ _ (a .grown) (n .changed .grown);
-        structs = n .changed .structs ∙ a .structs;
-        is = λ ds. n .changed .is ds ∙ e ds;
-      };
-      inside = n .inside;
-    }
+    let first : Refines Any w u w′ u f g = record { lay = a .lay; grown = a .grown; structs = a .structs; is = λ ds k. e ds } in
+    after-on (λ m. m) first n
 
 -- ---- a variable meets another type
 
@@ -312,42 +275,31 @@ module _ (lhs rhs var id other : ℕ) where
 
   module _ (w : List ℕ) (u : Used) (f : Found) (is : (ds : List Struct) → found f ≡ get (seen w u ds) id) where
     pub meets-free : (w′ : List ℕ) (r : Step) → f ≡ Nothing → After w u w′ r (λ s. join-unbound s lhs rhs var id other)
-        → Meets w u w′ (Is r) (λ k s. meet-tvar k s lhs rhs var id other)
+        → Meets w u w′ (Is r) (λ s k. meet-tvar k s lhs rhs var id other)
     unfolding met
     meets-free w′ r e a =
-        record {
-          lay = a .changed .lay;
-          grown = a .changed .grown;
-          structs = a .changed .structs;
-          is = λ k ds. a .changed .is ds ∙ meet-free k (seen w u ds) (sym (ap found e) ∙ is ds);
-          inside = a .inside;
-        }
+        record { changed = refines-is (λ ds x i k. meet-free k (seen w u ds) (sym (ap found e) ∙ is ds) i) (refines-as (λ m (k : Merging). m) (a .changed) (λ s. refl)); inside = a .inside }
 
     module _ (t : ℕ) (to : f ≡ Just t) (w′ : List ℕ) (r : Step) (a : Changed w u w′ r (λ s. next-tvar s)) (b : Found) (p : b ≡ done (r .out)) where
-      pub meets-stop : b ≡ Nothing → Meets w u w′ (Is r) (λ k s. meet-tvar k s lhs rhs var id other)
+      abbrev fresh : Result (State × ℕ) → Merging → Result (State × ℕ)
+      fresh m k = m >>= (λ y. k (insert (y .0) (y .1) other) (y .1))
+
+      from-next : {w₂ : List ℕ} {u₂ : Used} {answer : State → Merging → Result (State × ℕ)} → Refines Any w u w₂ u₂ answer (λ s. fresh (next-tvar s)) → Refines Any w u w₂ u₂ answer (λ s k. meet-tvar k s lhs rhs var id other)
+      from-next x = refines-is (λ ds z i k. meet-bound k (seen w u ds) t (sym (ap found to) ∙ is ds) i) x
+
+      pub meets-stop : b ≡ Nothing → Meets w u w′ (Is r) (λ s k. meet-tvar k s lhs rhs var id other)
       unfolding met
       meets-stop q =
           record {
-            lay = a .lay;
-            grown = a .grown;
-            structs = a .structs;
-            is = λ k ds. changed-stop w u w′ r (λ s. next-tvar s) (λ y. k (insert (y .0) (y .1) other) (y .1)) b a p q .is ds ∙ meet-bound k (seen w u ds) t (sym (ap found to) ∙ is ds);
-            inside = next-stop-in w u w′ r b a p q;
+            changed = from-next (refines-as fresh a (λ s i k. stop-is (r .out) s (λ y. k (insert (y .0) (y .1) other) (y .1)) (sym p ∙ q) i));
+            inside = plain-in (r .out) a tvar-plain p q;
           }
 
       pub meets-fresh : (n : ℕ) (v : TVar) (w₂ : List ℕ) → b ≡ Just n → v .0 ≡ n → Stored w′ (r .used) w₂ (λ s. insert s (v .0) other)
-          → Meets w u w₂ (Merge (r .used) v) (λ k s. meet-tvar k s lhs rhs var id other)
-      unfolding met
+          → Meets w u w₂ (Merge (r .used) v) (λ s k. meet-tvar k s lhs rhs var id other)
+      unfolding met _>>=_
       meets-fresh n v w₂ q e h =
           record {
-            lay = h .lay;
-            grown = grown-trans _ _ _ (a .grown) (h .grown);
-            structs = h .structs ∙ a .structs;
-            is = λ k ds.
-                ap (λ (s : State). k s (v .0)) (h .is ds)
-                ∙ ap (λ (m : ℕ). k (insert (seen w′ (r .used) ds) m other) m) e
-                ∙ then-is (r .out) b n (seen w′ (r .used) ds) (λ y. k (insert (y .0) (y .1) other) (y .1)) p q
-                ∙ ap (λ (x : Result (State × ℕ)). x >>= (λ y. k (insert (y .0) (y .1) other) (y .1))) (a .is ds)
-                ∙ meet-bound k (seen w u ds) t (sym (ap found to) ∙ is ds);
+            changed = from-next (refines-number (r .out) fresh a p (q ∙ ap Just (sym e)) (refines-as (λ s (k : Merging). k s (v .0)) h (λ s. refl)));
             inside = tt;
           }

@@ -1,14 +1,13 @@
 -- The definition's join_tvar cut at its inner join, given what follows, and the answers of the cuts. Assumes nothing: these are definitions.
-use mathlib.Core.Path.{_≡_}
 use mathlib.Core.List.{List}
 use mathlib.Core.Option.{Option, none, some}
 use Prim.Native.Nat.{ℕ, _<_}
 use Rattle.definition.specs.Types as d
-use Rattle.definition.specs.Types.{State, Struct, Result, ok, err, _>>=_, if_then_else_, RecursiveType}
+use Rattle.definition.specs.Types.{State, Result, ok, err, _>>=_, if_then_else_, RecursiveType}
 use Rattle.definition.specs.Store.{loc-of, get, num-loc, insert, sp, next-tvar}
 use Rattle.definition.specs.Subst.{forward-tvar}
 use Rattle.definition.specs.Join.{type-of, merge-num, shown, join-bind-tvar, join-unbound}
-use Rattle.table.specs.State.{Lay, Grown, view, seen, outcome, Nodes-in}
+use Rattle.table.specs.State.{Any, Refines, outcome, Nodes-in}
 use Rattle.table.specs.declared.Used.{Used}
 use Rattle.merge.specs.declared.Opened.{Opened}
 use Rattle.merge.specs.declared.Opened.the-variants.{Ready, Stop}
@@ -41,9 +40,10 @@ open-tvar inner subst loc1 id1 loc2 id2 =
     loc1 (forward-tvar subst id1) (num-loc subst (forward-tvar subst id1))
     loc2 (forward-tvar subst id2) (num-loc subst (forward-tvar subst id2))
 
-unfoldable pub opened : Inner → Opened → State → Result (State × ℕ)
-opened inner (Ready ty1 ty2 new-tvar var2) subst = inner subst ty1 ty2 (new-tvar .0) var2
-opened inner (Stop o) subst = outcome o subst
+-- an answer, given what follows
+unfoldable pub opened : Opened → State → Inner → Result (State × ℕ)
+opened (Ready ty1 ty2 new-tvar var2) subst inner = inner subst ty1 ty2 (new-tvar .0) var2
+opened (Stop o) subst inner = outcome o subst
 
 -- the nodes that it names are below n
 abbrev pub Opened-in : ℕ → Opened → Type 0
@@ -51,11 +51,8 @@ Opened-in n (Ready ty1 ty2 new-tvar var2) = (ty1 < n) × ((ty2 < n) × (var2 < n
 Opened-in n (Stop o) = Nodes-in n o
 
 -- the words w with u in use became w′ and the answer r, as f says of whatever follows
-pub record Opens (w : List ℕ) (u : Used) (w′ : List ℕ) (r : Open) (f : Inner → State → Result (State × ℕ)) : Type 0 where
-  pub lay : Lay w′ (r .used)
-  pub grown : Grown (view w u) (view w′ (r .used))
-  pub structs : view w′ (r .used) .structs ≡ view w u .structs
-  pub is : (inner : Inner) (ds : List Struct) → opened inner (r .what) (seen w′ (r .used) ds) ≡ f inner (seen w u ds)
+pub record Opens (w : List ℕ) (u : Used) (w′ : List ℕ) (r : Open) (f : State → Inner → Result (State × ℕ)) : Type 0 where
+  pub changed : Refines Any w u w′ (r .used) (opened (r .what)) f
   pub inside : Opened-in (r .used .nodes) (r .what)
 
 -- ---- after the inner join
@@ -76,8 +73,12 @@ close-tvar subst ty1 id1 ty2 loc2 id2 new-tvar var2 new-ty = elim (get subst new
 
 -- ---- a variable meets another type
 
--- join_impl's arms of one variable; where it is bound, `merge` follows, with the fresh variable
-unfoldable pub meet-tvar : (State → ℕ → Result (State × ℕ)) → State → ℕ → ℕ → ℕ → ℕ → ℕ → Result (State × ℕ)
+-- what follows gets the state and the fresh variable
+abbrev pub Merging : Type 0
+Merging = State → ℕ → Result (State × ℕ)
+
+-- join_impl's arms of one variable; where it is bound, `merge` follows
+unfoldable pub meet-tvar : Merging → State → ℕ → ℕ → ℕ → ℕ → ℕ → Result (State × ℕ)
 meet-tvar merge subst lhs rhs var id other = elim (get subst id) [
   | none ↦ join-unbound subst lhs rhs var id other
   | some t ↦ do
@@ -90,17 +91,16 @@ abbrev pub used-then : Meet → Used
 used-then (Is a) = a .used
 used-then (Merge u new-tvar) = u
 
-unfoldable pub met : (State → ℕ → Result (State × ℕ)) → Meet → State → Result (State × ℕ)
-met merge (Is a) subst = outcome (a .out) subst
-met merge (Merge u new-tvar) subst = merge subst (new-tvar .0)
+-- an answer, given what follows
+unfoldable pub met : Meet → State → Merging → Result (State × ℕ)
+met (Is a) subst merge = outcome (a .out) subst
+met (Merge u new-tvar) subst merge = merge subst (new-tvar .0)
 
 abbrev pub Meet-in : Meet → Type 0
 Meet-in (Is a) = Nodes-in (a .used .nodes) (a .out)
 Meet-in (Merge u new-tvar) = Unit {0}
 
-pub record Meets (w : List ℕ) (u : Used) (w′ : List ℕ) (r : Meet) (f : (State → ℕ → Result (State × ℕ)) → State → Result (State × ℕ)) : Type 0 where
-  pub lay : Lay w′ (used-then r)
-  pub grown : Grown (view w u) (view w′ (used-then r))
-  pub structs : view w′ (used-then r) .structs ≡ view w u .structs
-  pub is : (merge : State → ℕ → Result (State × ℕ)) (ds : List Struct) → met merge r (seen w′ (used-then r) ds) ≡ f merge (seen w u ds)
+-- the words w with u in use became w′ and the answer r, as f says of whatever follows
+pub record Meets (w : List ℕ) (u : Used) (w′ : List ℕ) (r : Meet) (f : State → Merging → Result (State × ℕ)) : Type 0 where
+  pub changed : Refines Any w u w′ (used-then r) (met r) f
   pub inside : Meet-in r

@@ -74,7 +74,7 @@ fn open_ends(
     ty2: u32,
 ) -> Open
     requires { ⌜ Lay (now w) u × ((ty1 < u .nodes) × (ty2 < u .nodes)) ⌝ }
-    ensures { λ r. ⌜ Opens (now (w .entry)) u (now (w .exit)) r (λ k s. open-ends k s loc1 («last_id1» .0) (found «num_loc_1») ty1 loc2 («last_id2» .0) (found «num_loc_2») ty2) ⌝ }
+    ensures { λ r. ⌜ Opens (now (w .entry)) u (now (w .exit)) r (λ s k. open-ends k s loc1 («last_id1» .0) (found «num_loc_1») ty1 loc2 («last_id2» .0) (found «num_loc_2») ty2) ⌝ }
 {
     let a = table::take_var(w, u);
     let ao = a.out;
@@ -116,7 +116,7 @@ fn open_ends(
 // The ends of both chains, with their types and numeric marks.
 pub fn open_tvar(w: &mut [u32], u: Used, loc1: u32, id1: TVar, loc2: u32, id2: TVar) -> Open
     requires { ⌜ Lay (now w) u ⌝ }
-    ensures { λ r. ⌜ Opens (now (w .entry)) u (now (w .exit)) r (λ k s. open-tvar k s loc1 (id1 .0) loc2 (id2 .0)) ⌝ }
+    ensures { λ r. ⌜ Opens (now (w .entry)) u (now (w .exit)) r (λ s k. open-tvar k s loc1 (id1 .0) loc2 (id2 .0)) ⌝ }
 {
     let last_id1 = subst::forward_tvar(w, u, id1);
     let last_id2 = subst::forward_tvar(w, u, id2);
@@ -256,7 +256,7 @@ fn join_unbound(w: &mut [u32], u: Used, lhs: u32, rhs: u32, var: u32, id: TVar, 
 // The variable at node `var` meets another type: not bound, it takes the type; else a fresh variable does.
 pub fn meet_tvar(w: &mut [u32], u: Used, lhs: u32, rhs: u32, var: u32, id: TVar, other: u32) -> Meet
     requires { ⌜ Lay (now w) u × ((lhs < u .nodes) × ((rhs < u .nodes) × ((var < u .nodes) × (other < u .nodes)))) ⌝ }
-    ensures { λ r. ⌜ Meets (now (w .entry)) u (now (w .exit)) r (λ k s. meet-tvar k s lhs rhs var (id .0) other) ⌝ }
+    ensures { λ r. ⌜ Meets (now (w .entry)) u (now (w .exit)) r (λ s k. meet-tvar k s lhs rhs var (id .0) other) ⌝ }
 {
     match table::bound_at(w, u, id) {
         Found::Nothing => Meet::Is(join_unbound(w, u, lhs, rhs, var, id, other)),

@@ -8,19 +8,20 @@ use native.Mathlib.Nat.{sub-zero}
 use native.Mathlib.Numerals.{add-one}
 use native.Mathlib.Decide.{ℕ-discrete}
 use native.Mathlib.Omega.{arith}
-use lib.ListN.{length, getD, set, take, replicate, length-append, length-set, length-replicate}
+use lib.ListN.{length, getD, set, take, replicate, length-set, length-replicate}
 use lib.Seq.{take-suc-set, getD-set-same, getD-set-other}
 use Rattle.definition.specs.Types.{State, Struct, unbound}
 use Rattle.definition.specs.Reader.{Read}
 use Rattle.definition.specs.Trees.{Tree, read-trees, read-nested}
 use Rattle.definition.specs.Build.{build, build-all}
-use Rattle.table.specs.Rows.{node-table, struct-table}
+use Rattle.table.specs.Rows.{struct-table}
 use Rattle.table.specs.State.{Lay, Grown, After, Declares, view, seen, done}
 use Rattle.table.specs.declared.Used.{Used}
 use Rattle.table.specs.declared.Step.{Step}
 use Rattle.table.specs.declared.Shape.{Shape}
 use Rattle.table.proofs.Rows.{length-entries}
 use Rattle.table.proofs.Steps.{grown-refl, grown-trans}
+use Rattle.table.proofs.Grown.{nodes-grow}
 use Rattle.reader.specs.declared.Head.the-variants.{Begun}
 use Rattle.reader.specs.declared.Part.{Part}
 use Rattle.reader.specs.declared.Part.the-variants.{At, Full, Malformed, Unknown, Doubled}
@@ -36,10 +37,6 @@ structs-count : (w : List ℕ) (u : Used) → length (view w u .structs) ≡ u .
 unfolding view
 structs-count w u = length-entries struct-table w (u .structs)
 
-nodes-count : (w : List ℕ) (u : Used) → length (view w u .nodes) ≡ u .nodes
-unfolding view
-nodes-count w u = length-entries node-table w (u .nodes)
-
 pub declares-kept : (w : List ℕ) (u : Used) (w′ : List ℕ) (u′ : Used) (ds : List Struct) → view w′ u′ .structs ≡ view w u .structs → Declares w u ds → Declares w′ u′ ds
 declares-kept w u w′ u′ ds e d =
     let n : u .structs ≡ u′ .structs = sym (structs-count w u) ∙ ap length (sym e) ∙ structs-count w′ u′ in
@@ -48,13 +45,6 @@ declares-kept w u w′ u′ ds e d =
       abilities = λ i l. rw e (d .abilities i (omega arith));
       params = λ i l. rw e (d .params i (omega arith));
     }
-
-nodes-grow : (w : List ℕ) (u : Used) (w′ : List ℕ) (u′ : Used) → Grown (view w u) (view w′ u′) → u .nodes ≤ u′ .nodes
-nodes-grow w u w′ u′ g =
-    let e : length (view w′ u′ .nodes) ≡ length (view w u .nodes) + length (g .nodes .rest) = ap length (g .nodes .is) ∙ length-append (view w u .nodes) (g .nodes .rest) in
-    let a = nodes-count w u in
-    let b = nodes-count w′ u′ in
-    omega arith
 
 -- a state that knows so much, whatever the declarations are
 abbrev pub knowing : ℕ → List Struct → State
@@ -195,7 +185,7 @@ go-all w₀ u₀ b end known nest over₀ n at w u next over parts i g l loc h m
       within = g .within;
       is = λ ds s d k.
           ap (λ (p : Part). part-of p (seen w′ (x .used) ds) (rest b end next)) q
-          ∙ found-is (x .out) over loc h (take (many-parts h) parts) (seen w u ds) (seen w′ (x .used) ds) (rest b end next) (a .changed .is ds)
+          ∙ found-is (x .out) over loc h (take (many-parts h) parts) (seen w u ds) (seen w′ (x .used) ds) (rest b end next) (a .changed .is ds tt)
           ∙ sym (none-left (read-nested nest s) (rest b end next) over (seen w u ds) (take (many-parts h) parts) loc h)
           ∙ ap (λ (j : ℕ). then-node loc h (onward (take (many-parts h) parts) (place-read over build-all (read-trees j (read-nested nest s) (rest b end next)) (seen w u ds)))) (sym none)
           ∙ ap (λ (j : ℕ). then-node loc h (onward (take j parts) (place-read over build-all (read-trees (n - i) (read-nested nest s) (rest b end next)) (seen w u ds)))) (sym (z ∙ m))

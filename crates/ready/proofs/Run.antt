@@ -69,7 +69,7 @@ done-in o n t f h e z = subst (λ (x : Out). Nodes-in n x) (done-is o t (sym e �
 
 pub after-at : (w : List ℕ) (u : Used) (w′ : List ℕ) (r : Step) (f g : State → Result (State × ℕ)) → ((ds : List Struct) → f (seen w u ds) ≡ g (seen w u ds)) → After w u w′ r f → After w u w′ r g
 after-at w u w′ r f g e a = record {
-  changed = record { lay = a .changed .lay; grown = a .changed .grown; structs = a .changed .structs; is = λ ds. a .changed .is ds ∙ e ds };
+  changed = record { lay = a .changed .lay; grown = a .changed .grown; structs = a .changed .structs; is = λ ds k. a .changed .is ds k ∙ e ds };
   inside = a .inside;
 }
 
@@ -218,7 +218,7 @@ module _ (w : List ℕ) (u : Used) (t : ℕ) (h : Lay w u) (i : t < u .nodes) (n
 
   pub anew-stays : (tys : List ℕ) → ((s : State) (loc : ℕ) → ok (s, t) ≡ rebuilt s t loc (with-args s (shape-of (n .shape))) tys) → After w u w (record { out = Done t; used = u }) (λ s. rebuilt-at s t tys)
   unfolding outcome
-  anew-stays tys f = after-now w u (Done t) (λ s. rebuilt-at s t tys) h i (λ ds. f (seen w u ds) (n .loc) ∙ anew tys ds)
+  anew-stays tys f = after-now h i (λ ds k. f (seen w u ds) (n .loc) ∙ anew tys ds)
 
   module _ (many : ℕ) (p : Has-parts w u t many) where
     module _ (m : Bool) (x : ℕ) (z : n .shape ≡ RefS m x) where
@@ -502,8 +502,8 @@ module _ {w₀ : List ℕ} {u : Used} {t many left : ℕ} {w tys : List ℕ} {cu
       lay = a .changed .lay;
       grown = grown-trans _ _ _ (g .grown) (a .changed .grown);
       structs = a .changed .structs ∙ g .structs;
-      is = λ ds.
-          a .changed .is ds
+      is = λ ds k.
+          a .changed .is ds k
           ∙ rebuilt-kept w₀ u w cur t (g .start) (g .in-nodes) (g .grown) (take many tys) ds
           ∙ ap (λ (m : Result (State × List ℕ)). m >>= finish ds) (sym (map-end (λ s t. ready left s t) (seen w cur ds) (take many tys))
           ∙ sym (ap₂ (λ (a : List ℕ) (b : List ℕ). onto a (map-types (λ s t. ready left s t) (seen w cur ds) b)) (ap (λ (k : ℕ). take k tys) (end l)) (none-left ds))
@@ -543,8 +543,8 @@ module _ {w₀ : List ℕ} {u : Used} {t many left : ℕ} {w tys : List ℕ} {cu
           lay = f .changed .lay;
           grown = grown-trans _ _ _ (g .grown) (f .changed .grown);
           structs = f .changed .structs ∙ g .structs;
-          is = λ ds.
-              after-stop w cur w₁ a (λ s. ready left s p) (λ x. then-all (take i tys) (finish ds) (x .1) (map-types (λ s t. ready left s t) (x .0) (drop (i + 1) (all ds)))) b f z y .changed .is ds
+          is = λ ds k.
+              after-stop (λ x. then-all (take i tys) (finish ds) (x .1) (map-types (λ s t. ready left s t) (x .0) (drop (i + 1) (all ds)))) f z y .changed .is ds k
               ∙ map-first (λ s t. ready left s t) (seen w cur ds) p (drop (i + 1) (all ds)) (take i tys) (finish ds)
               ∙ ap (λ (m : Result (State × List ℕ)). m >>= finish ds) (from-here ds)
               ∙ by-list ds;
@@ -553,7 +553,7 @@ module _ {w₀ : List ℕ} {u : Used} {t many left : ℕ} {w tys : List ℕ} {cu
       }
 
       made : (x : ℕ) → b ≡ Just x → (ds : List Struct) → ready left (seen w cur ds) p ≡ ok (seen w₁ (a .used) ds, x)
-      made x y ds = sym (f .changed .is ds) ∙ ap (λ (o : Out). outcome o (seen w₁ (a .used) ds)) (done-is (a .out) x (sym z ∙ y)) ∙ done-ok x (seen w₁ (a .used) ds)
+      made x y ds = sym (f .changed .is ds tt) ∙ ap (λ (o : Out). outcome o (seen w₁ (a .used) ds)) (done-is (a .out) x (sym z ∙ y)) ∙ done-ok x (seen w₁ (a .used) ds)
 
       -- the part's number is short
       pub going-short : (x : ℕ) → b ≡ Just x → x < 65536
@@ -602,7 +602,7 @@ module _ (w : List ℕ) (u : Used) (t calls : ℕ) (h : Lay w u) (r : Landing) (
 
   pub lands-spent : r ≡ Spent → After w u w (record { out = Refused RunsIntoItself; used = u }) (λ s. ready calls s t)
   unfolding outcome
-  lands-spent z = after-now w u (Refused RunsIntoItself) (λ s. ready calls s t) h tt (lands-at Spent z)
+  lands-spent z = after-now h tt (λ ds k. lands-at Spent z ds)
 
   pub lands-open : (loc : ℕ) (v : TVar) → r ≡ OpenL loc v → (w′ : List ℕ) (a : Step) → After w u w′ a (λ s. sp s loc (d.Var (v .0))) → After w u w′ a (λ s. ready calls s t)
   lands-open loc v z w′ a f = after-at w u w′ a _ _ (lands-at (OpenL loc v) z) f
@@ -627,7 +627,7 @@ module _ (w : List ℕ) (u : Used) (t calls : ℕ) (h : Lay w u) (r : Landing) (
 module _ (w : List ℕ) (u : Used) (t : ℕ) (h : Lay w u) (b : Bool) (e : (ds : List Struct) → b ≡ reaches-itself (seen w u ds) t) where
   pub run-stop : b ≡ true → After w u w (record { out = Refused RunsIntoItself; used = u }) (λ s. ready-tvars s t)
   unfolding outcome ready-tvars
-  run-stop z = after-now w u (Refused RunsIntoItself) (λ s. ready-tvars s t) h tt (λ ds. sym (let y = sym (e ds) ∙ z in rw (y, ready-tvars) refl))
+  run-stop z = after-now h tt (λ ds k. sym (let y = sym (e ds) ∙ z in rw (y, ready-tvars) refl))
 
   pub run-on : b ≡ false → (w′ : List ℕ) (r : Step) → After w u w′ r (λ s. ready (u .nodes * 2) s t) → After w u w′ r (λ s. ready-tvars s t)
   unfolding ready-tvars

@@ -21,6 +21,7 @@ use Rattle.names.specs.declared.TParamID.{TParamID}
 use Rattle.table.specs.State.{Lay, Grown, Declares, Parts, view, seen}
 use Rattle.table.specs.declared.Used.{Used}
 use Rattle.table.proofs.Steps.{grown-refl, grown-trans}
+use Rattle.table.proofs.Grown.{nodes-grow}
 use Rattle.reader.specs.declared.Part.{Part}
 use Rattle.reader.specs.declared.Part.the-variants.{At, Full, Malformed, Unknown, Doubled}
 use Rattle.reader.specs.declared.Taken.{Taken}
@@ -33,7 +34,7 @@ use Rattle.fields.specs.declared.Whole.the-variants as h
 use Rattle.fields.specs.declared.Fields.{Fields}
 use Rattle.fields.specs.Noded.{Noded, run, looks, tparams, solve, place-record, id-at, pairs, noded, Fields-are, plain-fields, paired-fields, whole-of}
 use Rattle.fields.proofs.Placing.{is-not, last-type, first-type, type-stops}
-use Rattle.fields.proofs.Forms.{nodes-grow, was-open, made-with, made-so, stop-so, first-in}
+use Rattle.fields.proofs.Forms.{was-open, made-with, made-so, stop-so, first-in}
 
 -- ---- pairs in two arrays
 

@@ -14,7 +14,9 @@ use Rattle.answer.specs.declared.Ran.{Ran}
 use Rattle.fields.specs.Noded as record-of
 use Rattle.names.specs.declared.TParamID.{TParamID}
 use Rattle.tparams.specs.Pairs.{id-at, pairs}
-use Rattle.run.specs.Runs.{Any, Runs}
+use Rattle.table.specs.State.{Any}
+use Rattle.table.proofs.Steps.{refines-among}
+use Rattle.run.specs.Runs.{Runs}
 
 pub pairs-same : (ids : List TParamID) (nodes : List ℕ) (i n : ℕ) → pairs ids nodes i n ≡ record-of.pairs ids nodes i n
 unfolding pairs record-of.pairs
@@ -22,7 +24,7 @@ pairs-same ids nodes i zero = refl
 pairs-same ids nodes i (suc n) = ap (λ (l : List (ℕ × ℕ)). (id-at ids i, getD nodes i 0) ∷ l) (pairs-same ids nodes (suc i) n)
 
 pub narrow : {w : List ℕ} {u : Used} {w′ : List ℕ} {r : Ran} {K : List Struct → Type 0} {kept : Bool} {step : State → Result (State × ℕ)} {run : State → State → Result (State × Bytes)} → Runs Any w u w′ r kept step run → Runs K w u w′ r kept step run
-narrow c = record { lay = c .lay; grown = c .grown; structs = c .structs; tells = c .tells; kept-is = c .kept-is; left = λ ds k. c .left ds tt; is = λ ds k before. c .is ds tt before }
+narrow c = record { left = refines-among (λ ds k. tt) (c .left); tells = c .tells; kept-is = c .kept-is; is = λ ds k before. c .is ds tt before }
 
 pub unless-is : (met : Bool) (n : Option Needs) → (if met then none else n) ≡ unless met n
 unless-is true n = refl

@@ -61,7 +61,7 @@ in-words b w u ds r = seen-bytes w u ds (ranges-bytes b (seen w u ds) r)
 module _ {K : List Struct → Type 0} {w : List ℕ} {u : Used} {w′ : List ℕ} {r : Ran} {kept : Bool} {step : State → Result (State × ℕ)} {f : State → State → Result (State × Bytes)} (c : Runs K w u w′ r kept step f) (ds : List Struct) (k : K ds) (b : State) where
   -- by its step
   pub step-bytes : Leaves b (step (seen w u ds)) → Settles (r .out) → All-bytes (view w′ (r .used))
-  step-bytes l h = in-words b w′ (r .used) ds (outcome-in b (r .out) _ (subst (λ (m : Result (State × ℕ)). Leaves b m) (sym (c .left ds k)) l) h)
+  step-bytes l h = in-words b w′ (r .used) ds (outcome-in b (r .out) _ (subst (λ (m : Result (State × ℕ)). Leaves b m) (sym (c .left .is ds k)) l) h)
 
   -- where the state is kept, by the run of its record, which is f once the types are placed
   pub record-bytes : kept ≡ true → Ranges b b → (x : Record) → RecordIn b x → run b x ≡ f (seen w u ds) b → Settles (r .out) → All-bytes (view w′ (r .used))

@@ -17,7 +17,7 @@ use Rattle.definition.specs.TParams.{make-tparam-subst, subst-tparams}
 use Rattle.definition.specs.Instantiate.{instantiate}
 use Rattle.definition.specs.Record.{Numeric}
 use Rattle.definition.specs.Write.{Bytes, head, write, write-spanned}
-use Rattle.table.specs.State.{outcome, done, view, seen, Lay, Grown, Changed, After, Stored, Var-in, pushed-constraint, Found-in, more}
+use Rattle.table.specs.State.{outcome, done, view, seen, Lay, Any, Refines, Changed, When, After, Stored, Var-in, pushed-constraint, Found-in, more}
 use Rattle.table.specs.State as table
 use Rattle.theorems.proofs.Facts.{test}
 use Rattle.table.specs.declared.Used.{Used}
@@ -27,14 +27,15 @@ use Rattle.table.specs.declared.Found.the-variants.{Nothing, Just}
 use Rattle.table.specs.declared.Out.{Out}
 use Rattle.table.specs.declared.Out.the-variants.{Done, Failed, Refused}
 use Rattle.table.specs.declared.Refusal.the-variants.{OpenVariable, ParameterTwice}
-use Rattle.table.proofs.Steps.{grown-refl, changed-is, after-is, changed-stop, changed-then, No-error, done-is}
+use Rattle.table.proofs.Steps.{No-error, done-is, done-ok, refines-now, refines-is, refines-as, refines-stop, refines-then, after-is}
+use Rattle.table.proofs.States.{plain-if, tvar-plain, constraint-plain}
+use Rattle.table.proofs.Grown.{var-small}
 use Rattle.arms.specs.Arms.{case-of}
 use Rattle.arms.specs.declared.TypingCase.{TypingCase}
 use Rattle.arms.specs.declared.TypingCase.the-variants.{Join as CaseJoin, Subtype as CaseSubtype}
 use Rattle.subst.specs.Answers.{Unfolds}
 use Rattle.subst.specs.declared.Unfolded.{Unfolded}
 use Rattle.subst.specs.declared.Unfolded.the-variants.{Node as NodeU, Anything as AnythingU}
-use Rattle.walk.specs.When.{When}
 use Rattle.tparams.specs.Pairs.{made}
 use Rattle.answer.specs.Ran.{shown, ran, Shows, Tells}
 use Rattle.answer.specs.declared.Ran.{Ran}
@@ -43,7 +44,7 @@ use Rattle.answer.specs.declared.Show.{Show}
 use Rattle.answer.specs.declared.Show.the-variants.{Nothing as NothingS, Number, Variable, Node, Anything, Four}
 use Rattle.definition.specs.Needs.{Needs, takes, write-needs}
 use Rattle.definition.specs.Step.{tell}
-use Rattle.run.specs.Runs.{join-in, two-run, unfold-run, ready-run, subst-in, tparams-run, instantiate-run, tvar-run, num-tvar-in, num-tvar-run, set-num-in, set-num-run, kind-at, constraint-run, needs-run, declare-run, Any, Runs, with-row, Declared}
+use Rattle.run.specs.Runs.{join-in, two-run, unfold-run, ready-run, subst-in, tparams-run, instantiate-run, tvar-run, num-tvar-in, num-tvar-run, set-num-in, set-num-run, kind-at, constraint-run, needs-run, declare-run, Runs, with-row, Declared}
 
 -- ---- what an answer tells
 
@@ -53,22 +54,6 @@ unfolding outcome
 tells-plain u show (Done t) s n f = f t refl
 tells-plain u show (Failed x) s n f = absurd n
 tells-plain u show (Refused x) s n f = tt
-
-either-no-error : {A : Type 0} (b : Bool) (x : A) (y : d.Refusal) → No-error (if b then ok x else refused y)
-either-no-error true x y = tt
-either-no-error false x y = tt
-
-tvar-no-error : (s : State) → No-error (next-tvar s)
-unfolding next-tvar
-tvar-no-error s = either-no-error (ltb (taken s) max-vars) _ _
-
-constraint-no-error : (c : d.Constraint) (s : State) → No-error (pushed-constraint c s)
-unfolding pushed-constraint add-constraint _>>=_
-constraint-no-error c s = go (ltb (length (s .constraints)) max-constraints) _
-  where
-    go : (b : Bool) (x : State) → No-error {A = State × ℕ} ((if b then ok x else refused full) >>= (λ (t : State). ok (t, 0)))
-    go true x = tt
-    go false x = tt
 
 -- ---- a step, and what its answer shows
 
@@ -80,29 +65,22 @@ shows kept show before x = ok (if kept then x .0 else before, shown show (x .1) 
 abbrev as-run : Step → Show → Bool → Ran
 as-run a show kept = record { out = a .out; used = a .used; show = show; kept = kept }
 
-module _ {w : List ℕ} {u : Used} {w′ : List ℕ} {a : Step} (step : State → Result (State × ℕ)) (f : State → State → Result (State × Bytes)) (show : Show) (kept : Bool) (follows : (s before : State) → (step s >>= shows kept show before) ≡ f s before) where
+module _ {w : List ℕ} {u : Used} {w′ : List ℕ} (a : Step) (step : State → Result (State × ℕ)) (f : State → State → Result (State × Bytes)) (show : Show) (kept : Bool) (follows : (s before : State) → (step s >>= shows kept show before) ≡ f s before) where
   -- for the declarations in K
-  run-when : (K : List Struct → Type 0) → Lay w′ (a .used) → Grown (view w u) (view w′ (a .used)) → view w′ (a .used) .structs ≡ view w u .structs → ((ds : List Struct) → K ds → outcome (a .out) (seen w′ (a .used) ds) ≡ step (seen w u ds))
-      → Tells (a .used) show (a .out) → {r : Ran} → r ≡ as-run a show kept → Runs K w u w′ r kept step f
+  run-changed : {K : List Struct → Type 0} → Refines K w u w′ (a .used) (outcome (a .out)) step → Tells (a .used) show (a .out) → {r : Ran} → r ≡ as-run a show kept → Runs K w u w′ r kept step f
   unfolding ran
-  run-when K l g n i t {r} e =
+  run-changed {K} c t {r} e =
       subst (λ (x : Ran). Runs K w u w′ x kept step f) (sym e)
       (record {
-        lay = l;
-        grown = g;
-        structs = n;
+        left = c;
         tells = t;
         kept-is = refl;
-        left = i;
-        is = λ ds k before. ap (λ (x : Result (State × ℕ)). x >>= shows kept show before) (i ds k) ∙ follows (seen w u ds) before;
+        is = λ ds k before. ap (λ (x : Result (State × ℕ)). x >>= shows kept show before) (c .is ds k) ∙ follows (seen w u ds) before;
       })
 
-  run-changed : Changed w u w′ a step → Tells (a .used) show (a .out) → {r : Ran} → r ≡ as-run a show kept → Runs Any w u w′ r kept step f
-  run-changed c t e = run-when Any (c .lay) (c .grown) (c .structs) (λ ds k. c .is ds) t e
-
 module _ {w : List ℕ} {u : Used} {w′ : List ℕ} {a : Step} (step : State → Result (State × ℕ)) (f : State → State → Result (State × Bytes)) (kept : Bool) (follows : (s before : State) → (step s >>= shows kept Node before) ≡ f s before) where
-  run-after : After w u w′ a step → {r : Ran} → r ≡ as-run a Node kept → Runs Any w u w′ r kept step f
-  run-after c e = run-changed step f Node kept follows (c .changed) (tells-node (a .used) (a .out) (c .inside)) e
+  run-after : {K : List Struct → Type 0} → When K w u w′ a step → {r : Ran} → r ≡ as-run a Node kept → Runs K w u w′ r kept step f
+  run-after c e = run-changed a step f Node kept follows (c .changed) (tells-node (a .used) (a .out) (c .inside)) e
 
 -- ---- JN, SU
 
@@ -126,7 +104,7 @@ module _ {w : List ℕ} {u : Used} (h : Lay w u) where
   ran-now : (o : Out) (show : Show) (kept : Bool) (step : State → Result (State × ℕ)) (f : State → State → Result (State × Bytes)) → Tells u show o → ((ds : List Struct) → outcome o (seen w u ds) ≡ step (seen w u ds))
       → ((ds : List Struct) (before : State) → (outcome o (seen w u ds) >>= shows kept show before) ≡ f (seen w u ds) before) → Runs Any w u w (record { out = o; used = u; show = show; kept = kept }) kept step f
   unfolding ran
-  ran-now o show kept step f t l i = record { lay = h; grown = grown-refl (view w u); structs = refl; tells = t; kept-is = refl; left = λ ds k. l ds; is = λ ds k before. i ds before }
+  ran-now o show kept step f t l i = record { left = refines-now h (λ ds k. l ds); tells = t; kept-is = refl; is = λ ds k before. i ds before }
 
   pub ran-unfolded : (t x : ℕ) (y : Unfolded) → Unfolds w u y (λ s. spanned s t) → y ≡ NodeU x → Runs Any w u w (record { out = Done x; used = u; show = Node; kept = false }) false (λ s. outcome (Done x) s) (unfold-run t)
   unfolding unfold-run outcome shown _>>=_ write
@@ -195,7 +173,7 @@ tells-var loc v o s n i = tells-plain v (Variable loc) o s n (λ t q. rw q at i)
 module _ {w : List ℕ} {u : Used} {w′ : List ℕ} {a : Step} where
   pub ran-tparams : (ps : List (ℕ × ℕ)) (t : ℕ) (b : Bool) → made b ps ≡ make-tparam-subst ps → b ≡ true → After w u w′ a (λ s. subst-tparams ps s t) → {r : Ran} → r ≡ as-run a Node false → Runs Any w u w′ r false (subst-in ps t) (tparams-run ps t)
   unfolding subst-in tparams-run shown _>>=_
-  ran-tparams ps t b m q c e = run-after (subst-in ps t) (tparams-run ps t) false follows (after-is w u w′ a _ _ substitutes c) e
+  ran-tparams ps t b m q c e = run-after (subst-in ps t) (tparams-run ps t) false follows (after-is (λ ds k. substitutes (seen w u ds)) c) e
     where
       is-made : make-tparam-subst ps ≡ ok ps
       is-made = sym m ∙ ap (λ (x : Bool). made x ps) q
@@ -214,43 +192,39 @@ module _ {w : List ℕ} {u : Used} {w′ : List ℕ} {a : Step} where
   -- ---- IN
 
   pub ran-instantiate : (K : List Struct → Type 0) (t : ℕ) → When K w u w′ a (λ s. instantiate s t) → {r : Ran} → r ≡ as-run a Node true → Runs K w u w′ r true (λ s. instantiate s t) (instantiate-run t)
-  ran-instantiate K t c e = run-when _ _ Node true (instantiate-follows t) K (c .lay) (c .grown) (c .structs) (c .is) (tells-node (a .used) (a .out) (c .inside)) e
+  ran-instantiate K t c e = run-after _ _ true (instantiate-follows t) c e
 
-  -- ---- FV, NV
+-- ---- FV, NV
 
+module _ {w : List ℕ} {u : Used} {w′ : List ℕ} (a : Step) where
   pub ran-tvar : (loc : ℕ) → Changed w u w′ a (λ s. next-tvar s) × Var-in (a .used .vars) (a .out) → {r : Ran} → r ≡ as-run a (Variable loc) true → Runs Any w u w′ r true (λ s. next-tvar s) (tvar-run loc)
-  ran-tvar loc c e = run-changed _ _ (Variable loc) true (tvar-follows loc) (c .0) (tells-var loc (a .used) (a .out) (seen w′ (a .used) []) (subst (λ (x : Result (State × ℕ)). No-error x) (sym (c .0 .is [])) (tvar-no-error (seen w u []))) (c .1)) e
+  ran-tvar loc c e = run-changed a _ _ (Variable loc) true (tvar-follows loc) (c .0) (tells-var loc (a .used) (a .out) (seen w′ (a .used) []) (subst (λ (x : Result (State × ℕ)). No-error x) (sym (c .0 .is [] tt)) (tvar-plain (seen w u []))) (c .1)) e
 
   pub var-number : (b : Found) (n : ℕ) → Changed w u w′ a (λ s. next-tvar s) × Var-in (a .used .vars) (a .out) → b ≡ done (a .out) → b ≡ Just n → n < 65536
-  var-number b n c p q = omega (arith, c .0 .lay .vars, let i = c .1 in rw (done-is (a .out) n (sym p ∙ q)) at i)
+  var-number b n c p q = var-small (a .out) (c .0 .lay) (c .1) p q
 
   module _ (loc : ℕ) (c : Changed w u w′ a (λ s. next-tvar s) × Var-in (a .used .vars) (a .out)) where
     tells : Tells (a .used) (Variable loc) (a .out)
-    tells = tells-var loc (a .used) (a .out) (seen w′ (a .used) []) (subst (λ (x : Result (State × ℕ)). No-error x) (sym (c .0 .is [])) (tvar-no-error (seen w u []))) (c .1)
+    tells = tells-var loc (a .used) (a .out) (seen w′ (a .used) []) (subst (λ (x : Result (State × ℕ)). No-error x) (sym (c .0 .is [] tt)) (tvar-plain (seen w u []))) (c .1)
 
     pub ran-no-tvar : (b : Found) → b ≡ done (a .out) → b ≡ Nothing → {r : Ran} → r ≡ as-run a (Variable loc) true → Runs Any w u w′ r true (num-tvar-in loc) (num-tvar-run loc)
-    ran-no-tvar b p q e = run-changed _ _ (Variable loc) true (num-follows loc) (changed-is w u w′ a _ _ (in-is loc) (changed-stop w u w′ a (λ s. next-tvar s) (mark loc) b (c .0) p q)) tells e
+    ran-no-tvar b p q e = run-changed a _ _ (Variable loc) true (num-follows loc) (refines-is (λ ds k. in-is loc (seen w u ds)) (refines-stop (a .out) (mark loc) (c .0) p q)) tells e
 
     pub ran-num-tvar : (b : Found) (n : ℕ) → b ≡ done (a .out) → b ≡ Just n → {w₂ : List ℕ} (v : ℕ) → v ≡ n → Stored w′ (a .used) w₂ (λ s. set-num-var s v loc) → {r : Ran} → r ≡ as-run a (Variable loc) true → Runs Any w u w₂ r true (num-tvar-in loc) (num-tvar-run loc)
     unfolding outcome
     ran-num-tvar b n p q {w₂} v same st e =
-        run-changed _ _ (Variable loc) true (num-follows loc) (changed-is w u w₂ a _ _ (in-is loc) (changed-then w u w′ a (λ s. next-tvar s) (mark loc) b n w₂ a (c .0) p q marked)) tells e
+        run-changed a _ _ (Variable loc) true (num-follows loc) (refines-is (λ ds k. in-is loc (seen w u ds)) (refines-then (a .out) (mark loc) (c .0) p q marked)) tells e
       where
         marked : Changed w′ (a .used) w₂ a (λ s. mark loc (s, n))
-        marked = record {
-          lay = st .lay;
-          grown = st .grown;
-          structs = st .structs;
-          is = λ ds. ap (λ (o : Out). outcome o (seen w₂ (a .used) ds)) (done-is (a .out) n (sym p ∙ q)) ∙ ap {B = Result (State × ℕ)} (λ (s : State). ok (s, n)) (st .is ds ∙ ap (λ (x : ℕ). set-num-var (seen w′ (a .used) ds) x loc) same);
-        }
+        marked = refines-is (λ ds k. ap (λ (x : ℕ). ok (set-num-var (seen w′ (a .used) ds) x loc, n)) same) (refines-as (λ s. ok (s, n)) st (λ s. sym (done-ok (a .out) s n (sym p ∙ q))))
 
   -- ---- NC, BC, SC
 
   pub ran-constraint : (k : d.Constraint) → Changed w u w′ a (pushed-constraint k) → {r : Ran} → r ≡ as-run a NothingS true → Runs Any w u w′ r true (pushed-constraint k) (constraint-run k)
   unfolding pushed-constraint constraint-run _>>=_ shown
   ran-constraint k c e =
-      run-changed _ _ NothingS true follows c
-      (tells-plain (a .used) NothingS (a .out) (seen w′ (a .used) []) (subst (λ (x : Result (State × ℕ)). No-error x) (sym (c .is [])) (constraint-no-error k (seen w u []))) (λ t q. tt)) e
+      run-changed a _ _ NothingS true follows c
+      (tells-plain (a .used) NothingS (a .out) (seen w′ (a .used) []) (subst (λ (x : Result (State × ℕ)). No-error x) (sym (c .is [] tt)) (constraint-plain k (seen w u []))) (λ t q. tt)) e
     where
       go : (before : State) (m : Result State) → ((m >>= (λ (t : State). ok (t, 0))) >>= shows true NothingS before) ≡ (m >>= (λ (t : State). ok (t, [])))
       go before (ok x) = refl
@@ -271,21 +245,13 @@ kind-numeric (suc (suc (suc b))) p q = refl
 
 pub ran-set-num : (w : List ℕ) (u : Used) (w′ : List ℕ) (v loc : ℕ) → Stored w u w′ (λ s. set-num-var s v loc) → Runs Any w u w′ (record { out = Done 0; used = u; show = NothingS; kept = true }) true (set-num-in v loc) (set-num-run v loc)
 unfolding set-num-in set-num-run ran outcome shown _>>=_
-ran-set-num w u w′ v loc c = record {
-  lay = c .lay;
-  grown = c .grown;
-  structs = c .structs;
-  tells = tt;
-  kept-is = refl;
-  left = λ ds k. ap (λ (s : State). ok (s, 0)) (c .is ds);
-  is = λ ds k before. ap (λ (s : State). ok (s, [])) (c .is ds);
-}
+ran-set-num w u w′ v loc c = record { left = refines-as (λ s. ok (s, 0)) c (λ s. refl); tells = tt; kept-is = refl; is = λ ds k before. ap (λ (s : State). ok (s, [])) (c .is ds k) }
 
 -- ---- SD
 
 declare-no-error : (s : State) (abilities : ℕ) (params : List ℕ) → No-error (declare s abilities params)
 unfolding declare
-declare-no-error s abilities params = either-no-error (ltb (length (s .structs)) max-structs) _ _
+declare-no-error s abilities params = plain-if (ltb (length (s .structs)) max-structs) _ _
 
 abbrev answered : Result (State × ℕ) → ℕ
 answered (ok x) = x .1

@@ -17,7 +17,7 @@ use Rattle.definition.specs.Record.{NumericKind, Numeric, Bits, Ordered}
 use Rattle.definition.specs.Write.{Bytes, u16, head, write, write-spanned}
 use Rattle.definition.specs.Needs.{Needs}
 use Rattle.definition.specs.Step.{tell}
-use Rattle.table.specs.State.{outcome, done, more, view, seen, Lay, Grown, Found-in, Declares}
+use Rattle.table.specs.State.{outcome, done, more, view, seen, Lay, Grown, Refines, Found-in, Declares}
 use Rattle.table.specs.declared.Used.{Used}
 use Rattle.table.specs.declared.Found.{Found}
 use Rattle.table.specs.declared.Found.the-variants.{Nothing, Just}
@@ -110,18 +110,11 @@ declare-run abilities params s before = do
 
 -- ---- what a run leaves
 
--- whatever the declarations are
-abbrev pub Any : List Struct → Type 0
-Any ds = Unit {0}
-
 -- the words w with u in use became w′ and the answer r: as f says, and r's number and state as `step` says, for the declarations in K. On success the state is kept, or not
 pub record Runs (K : List Struct → Type 0) (w : List ℕ) (u : Used) (w′ : List ℕ) (r : Ran) (kept : Bool) (step : State → Result (State × ℕ)) (f : State → State → Result (State × Bytes)) : Type 0 where
-  pub lay : Lay w′ (r .used)
-  pub grown : Grown (view w u) (view w′ (r .used))
-  pub structs : view w′ (r .used) .structs ≡ view w u .structs
+  pub left : Refines K w u w′ (r .used) (outcome (r .out)) step
   pub tells : Tells (r .used) (r .show) (r .out)
   pub kept-is : r .kept ≡ kept
-  pub left : (ds : List Struct) → K ds → outcome (r .out) (seen w′ (r .used) ds) ≡ step (seen w u ds)
   pub is : (ds : List Struct) → K ds → (before : State) → ran r (seen w′ (r .used) ds) before ≡ f (seen w u ds) before
 
 -- the words hold one struct row more, if there is room; its bytes ps stand beside them

@@ -18,7 +18,7 @@ use Rattle.table.proofs.Tab.{tab-ext}
 use Rattle.table.proofs.Rows.{length-entries, entry-at, entry-out, row-same, Same, same-entries, same-clean, apart}
 use Rattle.table.proofs.Written.{cell-again}
 use Rattle.table.proofs.States.{grown-vars}
-use Rattle.table.proofs.Steps.{stored-by}
+use Rattle.table.proofs.Steps.{refines-by}
 use Rattle.table.proofs.Pushed.{count-view, taken-view}
 use Rattle.snap.specs.Snap.{Above, Since}
 
@@ -162,7 +162,7 @@ module _ (w : List ℕ) (u : Used) (before : Used) (saved w₁ w′ : List ℕ) 
   unfolding with-vars
   putting-back =
       let x = above .vars in
-      stored-by w u w′ _ (with-vars (view w u) back) back-lay back-view
+      refines-by (with-vars (view w u) back) back-lay back-view
       (grown-vars (view w u) back (omega (arith, taken-view w u, length-append (entries var-table w₀ (before .vars)) (replicate more unbound), length-entries var-table w₀ (before .vars), length-replicate more unbound)))
       refl
-      back-is
+      (λ ds k. back-is ds)

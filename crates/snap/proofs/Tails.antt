@@ -221,7 +221,7 @@ unfolding seen with-structs put-back with-vars
 put-stood w₀ before saved w u w₁ s a = record { lay = s .lay; now = a .lay; grown = grown-trans _ _ _ (s .grown) (a .grown); blanks = taken (view w u) - taken (view w₀ before); vars = back }
   where
     back : view w₁ u .vars ≡ view w₀ before .vars ++ replicate (taken (view w u) - taken (view w₀ before)) unbound
-    back = ap (λ (x : State). x .vars) (a .is [])
+    back = ap (λ (x : State). x .vars) (a .is [] tt)
 
 -- where the snapshot is still that of the words
 module _ (w₀ : List ℕ) (before : Used) (saved w : List ℕ) (u : Used) (s : Since w₀ before saved w u) (h : Lay w u) (now : Saved w u saved) (many : u .vars ≡ before .vars) where

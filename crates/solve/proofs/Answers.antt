@@ -21,7 +21,7 @@ use Rattle.table.specs.declared.Found.the-variants.{Nothing, Just}
 use Rattle.table.proofs.Known.{known-kept}
 use Rattle.reader.proofs.Loop.{declares-kept}
 use Rattle.snap.specs.Snap.{Saved}
-use Rattle.merge.proofs.Answers.{then-is}
+use Rattle.table.proofs.Steps.{then-is}
 use Rattle.constraints.specs.Solve.{numbered, Answered}
 use Rattle.constraints.specs.Emptied.{Emptied}
 use Rattle.constraints.proofs.Solved.{goes-on, unsolved}
@@ -163,7 +163,7 @@ module _ (w : List ℕ) (u : Used) (params : List (List ℕ)) (saved buf w₁ : 
   pub solved-done : (t : ℕ) → b ≡ Just t → (w′ buf′ : List ℕ) (x : Answer) → Reports w₁ (r .used) u params saved buf w′ buf′ x solved → Solves w u params buf w′ buf′ x
   unfolding solve-answer solved
   solved-done t q w′ buf′ x c =
-      solves w′ buf′ x solved (λ ds before. ap (answer before) (sym (then-is (r .out) b t (seen w₁ (r .used) ds) (λ y. solve-all (y .0)) p q ∙ goes-on w u w₁ r b a p ds))) c
+      solves w′ buf′ x solved (λ ds before. ap (answer before) (sym (then-is (r .out) (seen w₁ (r .used) ds) (λ y. solve-all (y .0)) t (sym p ∙ q) ∙ goes-on w u w₁ r b a p ds))) c
 
   pub solved-stop : b ≡ Nothing → (w′ buf′ : List ℕ) (x : Answer) → Answers w₁ (r .used) u saved buf w′ buf′ x (answered (record { out = r .out; used = r .used; show = show.Nothing; kept = true })) → Solves w u params buf w′ buf′ x
   unfolding solve-answer ran shown

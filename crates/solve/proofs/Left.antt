@@ -26,7 +26,7 @@ use Rattle.table.specs.declared.Found.the-variants.{Nothing, Just}
 use Rattle.table.specs.declared.Out.{Out}
 use Rattle.table.specs.declared.Out.the-variants.{Done, Failed, Refused}
 use Rattle.table.proofs.Known.{known-kept}
-use Rattle.merge.proofs.Answers.{done-out}
+use Rattle.table.proofs.Steps.{done-is}
 use Rattle.constraints.specs.Solve.{numbered, Answered}
 use Rattle.constraints.specs.Failing.{ty-of}
 use Rattle.writer.specs.Bytes.{All-bytes}
@@ -104,7 +104,7 @@ module _ {w : List ℕ} {u : Used} {w′ : List ℕ} {r : Step} (a : Answered w 
   pub fits : {params : List (List ℕ)} → Holds-sound w u params → Settles (r .out) → Fit (view w′ (r .used))
   fits h k =
       let ds = h .structs in
-      let x : Fit (seen w′ (r .used) ds) = met Fit (r .out) _ (subst (λ (m : Result (State × ℕ)). Met Fit m) (sym (a .changed .is ds)) (left (seen w u ds) (h .is-sound))) k in
+      let x : Fit (seen w′ (r .used) ds) = met Fit (r .out) _ (subst (λ (m : Result (State × ℕ)). Met Fit m) (sym (a .changed .is ds tt)) (left (seen w u ds) (h .is-sound))) k in
       (seen-tys w′ (r .used) ds (x .0), seen-bytes w′ (r .used) ds (x .1))
 
   -- the declarations stay
@@ -113,7 +113,7 @@ module _ {w : List ℕ} {u : Used} {w′ : List ℕ} {r : Step} (a : Answered w 
 
   module _ (b : Found) (p : b ≡ done (r .out)) where
     pub done-fits : {params : List (List ℕ)} → Holds-sound w u params → (t : ℕ) → b ≡ Just t → Fit (view w′ (r .used))
-    done-fits h t q = fits h (subst (λ (o : Out). Settles o) (sym (done-out (r .out) b t p q)) tt)
+    done-fits h t q = fits h (subst (λ (o : Out). Settles o) (sym (done-is (r .out) t (sym p ∙ q))) tt)
 
     pub tells : b ≡ Nothing → Tells (r .used) show.Nothing (r .out)
     tells q = tells-nothing (r .used) (r .out) (a .others (sym p ∙ q))

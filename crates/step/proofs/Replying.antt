@@ -137,13 +137,13 @@ module _ {w₀ : List ℕ} {before : Used} {params : List (List ℕ)} {saved w :
     unfolding held seen with-structs outcome
     run-still t e q =
         let read : view w u .vars ≡ view w₀ before .vars = leaves-ok (subst (Leaves (λ v. v ≡ (s₀ b) .vars)) (b .placed) (place-leaves x (s₀ b) refl)) in
-        let left : ok (seen w₁ (r₁ .used) (ds b), t) ≡ step-of r₁ n (seen w u (ds b)) = sym (ap (λ (o : Out). outcome o (seen w₁ (r₁ .used) (ds b))) e) ∙ c .left (ds b) (then-known b) in
-        saved-still w₀ before w₁ (r₁ .used) (b .since .lay) (c .lay) (leaves-ok (subst (Leaves (λ v. v ≡ (s₀ b) .vars)) (sym left) (unkept-leaves r₁ n (seen w u (ds b)) (sym (c .kept-is) ∙ q) read))) saved (b .since .kept)
+        let left : ok (seen w₁ (r₁ .used) (ds b), t) ≡ step-of r₁ n (seen w u (ds b)) = sym (ap (λ (o : Out). outcome o (seen w₁ (r₁ .used) (ds b))) e) ∙ c .left .is (ds b) (then-known b) in
+        saved-still w₀ before w₁ (r₁ .used) (b .since .lay) (c .left .lay) (leaves-ok (subst (Leaves (λ v. v ≡ (s₀ b) .vars)) (sym left) (unkept-leaves r₁ n (seen w u (ds b)) (sym (c .kept-is) ∙ q) read))) saved (b .since .kept)
 
     pub reply-run : {buf w′ buf′ : List ℕ} {r : Answer} → Answers w₁ (r₁ .used) before saved buf w′ buf′ r (answered r₁) → Replied buf w′ params buf′ r (answer (s₀ b) (step.run (s₀ b) x))
     unfolding held noded-run
     reply-run {buf} a =
-        replied-same (a .settled w₀ (then-since b (c .grown))) (ds b) (lent-declares w₀ params before) (declares-kept w u w₁ (r₁ .used) (ds b) (c .structs) (then-declares b)) params
+        replied-same (a .settled w₀ (then-since b (c .left .grown))) (ds b) (lent-declares w₀ params before) (declares-kept w u w₁ (r₁ .used) (ds b) (c .left .structs) (then-declares b)) params
         (stands-arities (b .stands)) (stands-rows (b .stands)) buf (a .few) (a .rest) _ (ap (answer (s₀ b)) (run-is b ∙ sym (c .is (ds b) (then-known b) (s₀ b))))
 
 -- so many rows or more are in use

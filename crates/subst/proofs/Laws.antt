@@ -195,5 +195,5 @@ module _ (w : List ℕ) (u : Used) (tvar ty : ℕ) where
         lay = h .lay;
         grown = h .grown;
         structs = h .structs;
-        is = λ ds loc. ap (λ (s : State). ok (s, true)) (h .is ds) ∙ bind-stored (seen w u ds) loc tvar ty (sym (c ds) ∙ bt) (sym (e ds) ∙ ot) (is-any ds ∙ z);
+        is = λ ds loc. ap (λ (s : State). ok (s, true)) (h .is ds tt) ∙ bind-stored (seen w u ds) loc tvar ty (sym (c ds) ∙ bt) (sym (e ds) ∙ ot) (is-any ds ∙ z);
       }

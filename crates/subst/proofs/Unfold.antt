@@ -95,7 +95,7 @@ module _ {w₀ : List ℕ} {u : Used} {cur₀ loc : ℕ} {w : List ℕ} {cur lef
   all-marked ds = rw (taken-seen w₀ u ds) refl
 
   pub marking-out : left ≤ 0 → Stored w₀ u w (λ s. set-num-var s cur₀ loc)
-  marking-out z = record { lay = m .lay; grown = m .grown; structs = m .structs; is = λ ds. sym (chain-none left (seen w u ds) cur loc z) ∙ m .is ds ∙ all-marked ds }
+  marking-out z = record { lay = m .lay; grown = m .grown; structs = m .structs; is = λ ds k. sym (chain-none left (seen w u ds) cur loc z) ∙ m .is ds ∙ all-marked ds }
 
   module _ (p : 0 < left) (w′ : List ℕ) (h : Stored w u w′ (λ s. mark-one s cur loc)) (r : Next) (e : (ds : List Struct) → next r ≡ next-of (seen w u ds) cur) where
     pub marking-last : r ≡ Last → Stored w₀ u w′ (λ s. set-num-var s cur₀ loc)
@@ -103,7 +103,7 @@ module _ {w₀ : List ℕ} {u : Used} {cur₀ loc : ℕ} {w : List ℕ} {cur lef
       lay = h .lay;
       grown = grown-trans _ _ _ (m .grown) (h .grown);
       structs = h .structs ∙ m .structs;
-      is = λ ds. h .is ds ∙ sym (chain-last left (seen w u ds) cur loc p (sym (e ds) ∙ ap next z)) ∙ m .is ds ∙ all-marked ds;
+      is = λ ds k. h .is ds k ∙ sym (chain-last left (seen w u ds) cur loc p (sym (e ds) ∙ ap next z)) ∙ m .is ds ∙ all-marked ds;
     }
 
     pub marking-on : (v : TVar) → r ≡ To v → Marking w₀ u cur₀ loc (u .vars) w′ (v .0) (left - 1)
@@ -111,5 +111,5 @@ module _ {w₀ : List ℕ} {u : Used} {cur₀ loc : ℕ} {w : List ℕ} {cur lef
       lay = h .lay;
       grown = grown-trans _ _ _ (m .grown) (h .grown);
       structs = h .structs ∙ m .structs;
-      is = λ ds. ap (λ (s : State). mark-chain (left - 1) s (v .0) loc) (h .is ds) ∙ sym (chain-next left (seen w u ds) cur (v .0) loc p (sym (e ds) ∙ ap next z)) ∙ m .is ds;
+      is = λ ds. ap (λ (s : State). mark-chain (left - 1) s (v .0) loc) (h .is ds tt) ∙ sym (chain-next left (seen w u ds) cur (v .0) loc p (sym (e ds) ∙ ap next z)) ∙ m .is ds;
     }

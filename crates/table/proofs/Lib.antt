@@ -1,4 +1,4 @@
--- Laws of the tables in words, of growing states, and of steps that follow one another. Assumes nothing.
+-- Laws of the tables in words, of growing states, of steps that follow one another, and of a walk over a list of types. Assumes nothing.
 pub mod Tab
 pub mod Rows
 pub mod Written
@@ -10,3 +10,6 @@ pub mod Primitives
 pub mod Encoded
 pub mod Laws
 pub mod Known
+pub mod Grown
+pub mod Parts
+pub mod Walk

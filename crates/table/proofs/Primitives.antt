@@ -22,6 +22,7 @@ use Rattle.table.specs.declared.Found.the-variants.{Nothing, Just}
 use Rattle.table.specs.declared.Out.the-variants.{Done, Refused}
 use Rattle.table.specs.declared.Refusal.the-variants.{Full}
 use Rattle.table.proofs.Rows.{wrote-none}
+use Rattle.table.proofs.Steps.{refines-is}
 use Rattle.table.proofs.Pushed.{count-view, args-view, node-pushed, places-full}
 
 -- ---- a node without arguments
@@ -120,19 +121,13 @@ bound-in w u v (Just t) h e = subst (λ (n : ℕ). t < n) (count-view w u) (h .i
 -- insert and mark_one are this store, at what the state says of the variable
 pub insert-cell : (w : List ℕ) (u : Used) (v t : ℕ) (m : Found) (w′ : List ℕ) → ((ds : List d.Struct) → found m ≡ num-loc (seen w u ds) v) → Stored w u w′ (with-cell v (some t) (found m)) → Stored w u w′ (λ s. insert s v t)
 unfolding insert with-cell
-insert-cell w u v t m w′ e a = record { lay = a .lay; grown = a .grown; structs = a .structs; is = λ ds. a .is ds ∙ ap (λ (x : Option ℕ). with-cell v (some t) x (seen w u ds)) (e ds) }
+insert-cell w u v t m w′ e a = refines-is (λ ds k. ap (λ (x : Option ℕ). with-cell v (some t) x (seen w u ds)) (e ds)) a
 
 pub mark-cell : (w : List ℕ) (u : Used) (v loc l : ℕ) (b m : Found) (w′ : List ℕ) → ((ds : List d.Struct) → found b ≡ get (seen w u ds) v) → ((ds : List d.Struct) → found m ≡ num-loc (seen w u ds) v) → l ≡ or-insert (found m) loc
     → Stored w u w′ (with-cell v (found b) (some l)) → Stored w u w′ (λ s. mark-one s v loc)
 unfolding mark-one with-cell
 mark-cell w u v loc l b m w′ e f g a =
-    record {
-      lay = a .lay;
-      grown = a .grown;
-      structs = a .structs;
-      is =
-          λ ds.
-          a .is ds
-          ∙ ap (λ (x : Option ℕ). with-cell v x (some l) (seen w u ds)) (e ds)
-          ∙ ap (λ (x : ℕ). with-cell v (get (seen w u ds) v) (some x) (seen w u ds)) (g ∙ ap (λ (x : Option ℕ). or-insert x loc) (f ds));
-    }
+    refines-is
+    (λ ds k. ap (λ (x : Option ℕ). with-cell v x (some l) (seen w u ds)) (e ds)
+    ∙ ap (λ (x : ℕ). with-cell v (get (seen w u ds) v) (some x) (seen w u ds)) (g ∙ ap (λ (x : Option ℕ). or-insert x loc) (f ds)))
+    a

@@ -19,7 +19,7 @@ use Rattle.table.proofs.Rows.{length-entries, entry-at, entry-out, Same
 use Rattle.table.proofs.Written.{node-long, cell-again, cell-long, constraint-long, struct-long}
 use Rattle.table.proofs.Fields.{arg-row}
 use Rattle.table.proofs.States.{sp-room, sp-no-node, sp-no-place, tvar-room, tvar-full, constraint-room, constraint-full, declare-room, declare-full, inside-node, inside-cell, inside-var, inside-constraints, inside-structs, grown-node, grown-vars, grown-constraint, grown-struct}
-use Rattle.table.proofs.Steps.{grown-refl, changed-now, after-now, changed-by, stored-by}
+use Rattle.table.proofs.Steps.{grown-refl, refines-now, refines-by, after-now}
 
 -- ---- as many rows as are in use
 
@@ -106,11 +106,11 @@ module _ (w : List ℕ) (m k : ℕ) (parts w′ : List ℕ) (h : Wrote w (12293 
 module _ (w : List ℕ) (u : Used) (loc : ℕ) (v : Type-value) (h : Lay w u) where
   pub node-full : 2048 ≤ u .nodes → After w u w (record { out = Refused Full; used = u }) (λ s. sp s loc v)
   unfolding outcome
-  node-full le = after-now w u (Refused Full) _ h tt (λ ds. sym (sp-no-node (seen w u ds) loc v (rw (count-seen w u ds) le)))
+  node-full le = after-now h tt (λ ds k. sym (sp-no-node (seen w u ds) loc v (rw (count-seen w u ds) le)))
 
   pub places-full : u .nodes < 2048 → 4096 < u .args + length (args-of v) → After w u w (record { out = Refused Full; used = u }) (λ s. sp s loc v)
   unfolding outcome
-  places-full lt le = after-now w u (Refused Full) _ h tt (λ ds. sym (sp-no-place (seen w u ds) loc v (rw (count-seen w u ds) lt) (rw (args-seen w u ds) le)))
+  places-full lt le = after-now h tt (λ ds k. sym (sp-no-place (seen w u ds) loc v (rw (count-seen w u ds) lt) (rw (args-seen w u ds) le)))
 
   module _ (parts : List ℕ) (n m : ℕ) (w₁ r w′ : List ℕ) (sh : Shape Places)
       (lt : u .nodes < 2048) (room : u .args + n ≤ 4096) (long : n ≤ length parts) (many : m ≡ u .args + n)
@@ -182,14 +182,14 @@ module _ (w : List ℕ) (u : Used) (loc : ℕ) (v : Type-value) (h : Lay w u) wh
 
     pub node-pushed : After w u w′ (record { out = Done (u .nodes); used = u′ }) (λ s. sp s loc v)
     unfolding with-node
-    node-pushed = record { changed = changed-by w u w′ u′ (Done (u .nodes)) _ (with-node (view w u) loc v) node-lay node-view (grown-node (view w u) loc v) refl node-room; inside = omega arith }
+    node-pushed = record { changed = refines-by (with-node (view w u) loc v) node-lay node-view (grown-node (view w u) loc v) refl (λ ds k. node-room ds); inside = omega arith }
 
 -- ---- a variable is taken: its row is blank already
 
 module _ (w : List ℕ) (u : Used) (h : Lay w u) where
   var-full : 1024 ≤ u .vars → Changed w u w (record { out = Refused Full; used = u }) (λ s. next-tvar s)
   unfolding outcome
-  var-full le = changed-now w u (Refused Full) _ h (λ ds. sym (tvar-full (seen w u ds) (rw (taken-seen w u ds) le)))
+  var-full le = refines-now h (λ ds k. sym (tvar-full (seen w u ds) (rw (taken-seen w u ds) le)))
 
   module _ (lt : u .vars < 1024) where
     abbrev one-more : Used
@@ -232,7 +232,7 @@ module _ (w : List ℕ) (u : Used) (h : Lay w u) where
 
     var-taken : Changed w u w (record { out = Done (u .vars); used = one-more }) (λ s. next-tvar s) × Var-in (u .vars + 1) (Done (u .vars))
     unfolding with-var with-vars
-    var-taken = (changed-by w u w one-more (Done (u .vars)) _ (with-var (view w u)) var-lay var-view (grown-vars (view w u) _ (rw (length-append (view w u .vars) (unbound ∷ [])) (omega arith))) refl var-room, omega arith)
+    var-taken = (refines-by (with-var (view w u)) var-lay var-view (grown-vars (view w u) _ (rw (length-append (view w u .vars) (unbound ∷ [])) (omega arith))) refl (λ ds k. var-room ds), omega arith)
 
   pub var-stepped : Changed w u w (one-var u) (λ s. next-tvar s) × Var-in (one-var u .used .vars) (one-var u .out)
   unfolding one-var
@@ -272,7 +272,7 @@ module _ (w : List ℕ) (u : Used) (v : ℕ) (b m : Option ℕ) (h : Lay w u) (n
       }
 
   pub cell-none : u .vars ≤ v → Stored w u w (with-cell v b m)
-  cell-none le = stored-by w u w _ (with-cell v b m (view w u)) h (none-view le) cell-grown cell-structs cell-seen
+  cell-none le = refines-by (with-cell v b m (view w u)) h (none-view le) cell-grown cell-structs (λ ds k. cell-seen ds)
 
   module _ (r w′ : List ℕ) (lt : v < u .vars) (wrote : Wrote w (16389 + v * 5) 5 r w′) (q : Written var-table r c) where
     put-c : Put var-table w v c w′
@@ -319,14 +319,14 @@ module _ (w : List ℕ) (u : Used) (v : ℕ) (b m : Option ℕ) (h : Lay w u) (n
         }
 
     pub cell-put : Stored w u w′ (with-cell v b m)
-    cell-put = stored-by w u w′ _ (with-cell v b m (view w u)) cell-lay cell-view cell-grown cell-structs cell-seen
+    cell-put = refines-by (with-cell v b m (view w u)) cell-lay cell-view cell-grown cell-structs (λ ds k. cell-seen ds)
 
 -- ---- a constraint is listed
 
 module _ (w : List ℕ) (u : Used) (x : Constraint) (h : Lay w u) where
   pub constraints-full : 512 ≤ u .constraints → Changed w u w (record { out = Refused Full; used = u }) (pushed-constraint x)
   unfolding outcome
-  constraints-full le = changed-now w u (Refused Full) _ h (λ ds. sym (constraint-full (seen w u ds) x (rw (constraints-seen w u ds) le)))
+  constraints-full le = refines-now h (λ ds k. sym (constraint-full (seen w u ds) x (rw (constraints-seen w u ds) le)))
 
   module _ (r w′ : List ℕ) (lt : u .constraints < 512) (wrote : Wrote w (21509 + u .constraints * 4) 4 r w′) (q : Written constraint-table r x) where
     abbrev listed : Used
@@ -381,7 +381,7 @@ module _ (w : List ℕ) (u : Used) (x : Constraint) (h : Lay w u) where
 
     pub constraint-pushed : Changed w u w′ (record { out = Done 0; used = listed }) (pushed-constraint x)
     unfolding with-constraints
-    constraint-pushed = changed-by w u w′ listed (Done 0) _ (with-constraints (view w u) (view w u .constraints ++ (x ∷ []))) constraint-lay constraint-view (grown-constraint (view w u) x) refl listed-room
+    constraint-pushed = refines-by (with-constraints (view w u) (view w u .constraints ++ (x ∷ []))) constraint-lay constraint-view (grown-constraint (view w u) x) refl (λ ds k. listed-room ds)
 
 -- ---- a struct is declared
 

@@ -1,19 +1,21 @@
 -- What the steps of a state keep: parts below their node, bindings that are nodes, rows only added. Assumes nothing.
 use mathlib.Core.Path.{_≡_, refl, sym, ap, _∙_}
 use mathlib.Core.List.{List, [], _∷_, _++_}
+use mathlib.Core.Bool.{Bool, true, false}
 use mathlib.Core.Option.{Option, some}
 use Prim.Native.Nat.{ℕ, _+_, _≤_, _<_}
 use native.Mathlib.Omega.{arith}
 use native.Mathlib.Decide.{decLt}
 use lib.ListN.{length, getD, set, length-append, List·getD-append, List·getD-eq-default}
 use lib.Seq.{getD-at, getD-set-same, getD-set-other, set-out}
+use lib.Dec.{ltb}
 use borrow.Author.Tests.{lt-ltb, le-ltb, le-leb, lt-leb}
 use native.Mathlib.Decide.{ℕ-discrete}
 use Rattle.definition.specs.Types as d
-use Rattle.definition.specs.Types.{State, Shape, UnitType, Ref, Param, Apply, Var, Anything, UnresolvedError, Places, Type-value, Cell, unbound, Constraint, max-nodes, max-args, max-vars, max-constraints, max-structs, full, ok, refused}
+use Rattle.definition.specs.Types.{State, Shape, UnitType, Ref, Param, Apply, Var, Anything, UnresolvedError, Places, Type-value, Cell, unbound, Constraint, max-nodes, max-args, max-vars, max-constraints, max-structs, full, ok, refused, Refusal, _>>=_, if_then_else_}
 use Rattle.definition.specs.Store.{count, taken, nowhere, node, get, with-vars, with-var, with-constraints, with-structs, with-node, args-of, stored, sp, next-tvar, add-constraint, declare}
 use Rattle.table.specs.State.{Below, Inside, Grown, with-cell, pushed-constraint}
-use Rattle.table.proofs.Steps.{front-refl}
+use Rattle.table.proofs.Steps.{front-refl, No-error}
 
 -- ---- the definition's steps, with room and without
 
@@ -53,6 +55,24 @@ declare-room s abilities params a = simp (lt-ltb _ _ a)
 pub declare-full : (s : State) (abilities : ℕ) (params : List ℕ) → 256 ≤ length (s .structs) → declare s abilities params ≡ refused full
 unfolding declare max-structs
 declare-full s abilities params a = simp (le-ltb _ _ a)
+
+-- ---- steps that meet no error
+
+pub plain-if : {A : Type 0} (b : Bool) (a : A) (x : Refusal) → No-error (if b then ok a else refused x)
+plain-if true a x = tt
+plain-if false a x = tt
+
+pub tvar-plain : (s : State) → No-error (next-tvar s)
+unfolding next-tvar
+tvar-plain s = plain-if (ltb (taken s) max-vars) _ _
+
+pub constraint-plain : (c : Constraint) (s : State) → No-error (pushed-constraint c s)
+unfolding pushed-constraint add-constraint d._>>=_
+constraint-plain c s = by (ltb (length (s .constraints)) max-constraints) _
+  where
+    by : (b : Bool) (x : State) → No-error {A = State × ℕ} ((if b then ok x else refused full) >>= (λ t. ok (t, 0)))
+    by true x = tt
+    by false x = tt
 
 -- ---- what is kept inside
 

@@ -1,11 +1,12 @@
--- How answers follow one another: what a caller knows of the words after one step and the next. Assumes nothing.
+-- How steps follow one another: the laws of Refines, and of the answers that are nodes. Nothing written is a step (refines-now); a step goes on to another (refines-on), where
+-- the answer is a number (refines-then) or ends there (refines-stop); what f says may be said otherwise (refines-is). Assumes nothing.
 use mathlib.Core.Path.{_≡_, refl, sym, ap, _∙_, subst}
 use mathlib.Core.List.{List, [], _++_, append-nil, append-assoc}
-use Prim.Native.Nat.{ℕ}
+use Prim.Native.Nat.{ℕ, _<_}
 use native.Mathlib.Omega.{arith}
 use Rattle.definition.specs.Types.{State, Struct, Result, ok, err, refused, _>>=_}
 use Rattle.definition.specs.Store.{with-structs}
-use Rattle.table.specs.State.{Lay, Front, Grown, Changed, After, Stored, Nodes-in, outcome, seen, view, done}
+use Rattle.table.specs.State.{Lay, Front, Grown, Any, Refines, When, After, Nodes-in, Var-in, outcome, listed, seen, view, done}
 use Rattle.table.specs.declared.Step.{Step}
 use Rattle.table.specs.declared.Used.{Used}
 use Rattle.table.specs.declared.Out.{Out}
@@ -39,36 +40,6 @@ grown-trans s t v a b =
       structs = front-trans (a .structs) (b .structs);
     }
 
--- ---- nothing was written
-
-pub changed-now : (w : List ℕ) (u : Used) (o : Out) (f : State → Result (State × ℕ)) → Lay w u → ((ds : List Struct) → outcome o (seen w u ds) ≡ f (seen w u ds)) → Changed w u w (record { out = o; used = u }) f
-changed-now w u o f h e = record { lay = h; grown = grown-refl (view w u); structs = refl; is = e }
-
-pub after-now : (w : List ℕ) (u : Used) (o : Out) (f : State → Result (State × ℕ)) → Lay w u → Nodes-in (u .nodes) o → ((ds : List Struct) → outcome o (seen w u ds) ≡ f (seen w u ds)) → After w u w (record { out = o; used = u }) f
-after-now w u o f h i e = record { changed = changed-now w u o f h e; inside = i }
-
--- ---- the words hold the state t
-
-pub changed-by : (w : List ℕ) (u : Used) (w′ : List ℕ) (u′ : Used) (o : Out) (f : State → Result (State × ℕ)) (t : State) → Lay w′ u′ → view w′ u′ ≡ t → Grown (view w u) t → t .structs ≡ view w u .structs
-    → ((ds : List Struct) → outcome o (with-structs t ds) ≡ f (seen w u ds)) → Changed w u w′ (record { out = o; used = u′ }) f
-unfolding seen
-changed-by w u w′ u′ o f t l e g s q =
-    record { lay = l; grown = subst (λ (x : State). Grown (view w u) x) (sym e) g; structs = ap (λ (x : State). x .structs) e ∙ s; is = λ ds. ap (λ (x : State). outcome o (with-structs x ds)) e ∙ q ds }
-
-pub stored-by : (w : List ℕ) (u : Used) (w′ : List ℕ) (f : State → State) (t : State) → Lay w′ u → view w′ u ≡ t → Grown (view w u) t → t .structs ≡ view w u .structs
-    → ((ds : List Struct) → with-structs t ds ≡ f (seen w u ds)) → Stored w u w′ f
-unfolding seen
-stored-by w u w′ f t l e g s q =
-    record { lay = l; grown = subst (λ (x : State). Grown (view w u) x) (sym e) g; structs = ap (λ (x : State). x .structs) e ∙ s; is = λ ds. ap (λ (x : State). with-structs x ds) e ∙ q ds }
-
--- ---- what f says, said otherwise
-
-pub changed-is : (w : List ℕ) (u : Used) (w′ : List ℕ) (r : Step) (f g : State → Result (State × ℕ)) → ((s : State) → f s ≡ g s) → Changed w u w′ r f → Changed w u w′ r g
-changed-is w u w′ r f g e a = record { lay = a .lay; grown = a .grown; structs = a .structs; is = λ ds. a .is ds ∙ e (seen w u ds) }
-
-pub after-is : (w : List ℕ) (u : Used) (w′ : List ℕ) (r : Step) (f g : State → Result (State × ℕ)) → ((s : State) → f s ≡ g s) → After w u w′ r f → After w u w′ r g
-after-is w u w′ r f g e a = record { changed = changed-is w u w′ r f g e (a .changed); inside = a .inside }
-
 -- ---- what an answer is
 
 never : {A : Type 0} → _≡_ {A = ℕ} 0 1 → A
@@ -91,65 +62,128 @@ none-in n (Done t) s m e q d = never (cc)
 none-in n (Failed x) s m e q d = absurd (rw (← e) at q)
 none-in n (Refused x) s m e q d = tt
 
--- ---- f is no number, so nothing follows it
+-- a node that an answer is, and a variable
+pub node-in : (n : ℕ) (o : Out) (b : Found) (t : ℕ) → Nodes-in n o → b ≡ done o → b ≡ Just t → t < n
+node-in n o b t i p q = rw (done-is o t (sym p ∙ q)) at i
 
-stop-is : (o : Out) (s : State) (h : State × ℕ → Result (State × ℕ)) → done o ≡ Nothing → outcome o s ≡ (outcome o s >>= h)
-unfolding outcome _>>=_
-stop-is (Done t) s h e = never (cc)
-stop-is (Failed x) s h e = refl
-stop-is (Refused x) s h e = refl
+pub var-in : (n : ℕ) (o : Out) (b : Found) (t : ℕ) → Var-in n o → b ≡ done o → b ≡ Just t → t < n
+var-in n o b t i p q = rw (done-is o t (sym p ∙ q)) at i
 
--- .. whatever it were
+-- ---- what follows a result
+
+pub bind-ok : {A : Type 0} (m : Result A) → (m >>= (λ a. ok a)) ≡ m
+unfolding _>>=_
+bind-ok (ok a) = refl
+bind-ok (err s e) = refl
+bind-ok (refused x) = refl
+
+pub bind-assoc : {A B C : Type 0} (m : Result A) (f : A → Result B) (g : B → Result C) → (m >>= f >>= g) ≡ (m >>= (λ a. f a >>= g))
+unfolding _>>=_
+bind-assoc (ok a) f g = refl
+bind-assoc (err s e) f g = refl
+bind-assoc (refused x) f g = refl
+
+-- an answer that is the number t, and what follows it
+pub done-ok : (o : Out) (s : State) (t : ℕ) → done o ≡ Just t → ok (s, t) ≡ outcome o s
+unfolding outcome
+done-ok o s t e = rw (done-is o t e)
+
+pub then-is : {A : Type 0} (o : Out) (s : State) (h : State × ℕ → Result A) (t : ℕ) → done o ≡ Just t → h (s, t) ≡ (outcome o s >>= h)
+unfolding _>>=_
+then-is o s h t e = ap (λ (m : Result (State × ℕ)). m >>= h) (done-ok o s t e)
+
+-- nothing follows one that is no number, whatever it were
 pub stop-same : {A : Type 0} (o : Out) (s : State) (h k : State × ℕ → Result A) → done o ≡ Nothing → (outcome o s >>= h) ≡ (outcome o s >>= k)
 unfolding outcome _>>=_
 stop-same (Done t) s h k e = never (cc)
 stop-same (Failed x) s h k e = refl
 stop-same (Refused x) s h k e = refl
 
-pub changed-stop : (w : List ℕ) (u : Used) (w′ : List ℕ) (r : Step) (f : State → Result (State × ℕ)) (h : State × ℕ → Result (State × ℕ)) (b : Found)
-    → Changed w u w′ r f → b ≡ done (r .out) → b ≡ Nothing → Changed w u w′ r (λ s. f s >>= h)
-changed-stop w u w′ r f h b a p q =
-    record { lay = a .lay; grown = a .grown; structs = a .structs; is = λ ds. stop-is (r .out) (seen w′ (r .used) ds) h (sym p ∙ q) ∙ ap (λ (x : Result (State × ℕ)). x >>= h) (a .is ds) }
+pub stop-is : (o : Out) (s : State) (h : State × ℕ → Result (State × ℕ)) → done o ≡ Nothing → outcome o s ≡ (outcome o s >>= h)
+stop-is o s h e = sym (bind-ok (outcome o s)) ∙ stop-same o s (λ x. ok x) h e
 
-pub after-stop : (w : List ℕ) (u : Used) (w′ : List ℕ) (r : Step) (f : State → Result (State × ℕ)) (h : State × ℕ → Result (State × ℕ)) (b : Found)
-    → After w u w′ r f → b ≡ done (r .out) → b ≡ Nothing → After w u w′ r (λ s. f s >>= h)
-after-stop w u w′ r f h b a p q = record { changed = changed-stop w u w′ r f h b (a .changed) p q; inside = a .inside }
+-- .. with a list
+pub listed-stop : (o : Out) (l : List ℕ) (s : State) (h : State × List ℕ → Result (State × ℕ)) → done o ≡ Nothing → outcome o s ≡ (listed o l s >>= h)
+unfolding listed
+listed-stop o l s h e = stop-is o s (λ x. ok (x .0, l) >>= h) e ∙ sym (bind-assoc (outcome o s) (λ x. ok (x .0, l)) h)
 
--- ---- f is the number t, and what follows it is h
+pub listed-then : (o : Out) (l : List ℕ) (s : State) (h : State × List ℕ → Result (State × ℕ)) (t : ℕ) → done o ≡ Just t → h (s, l) ≡ (listed o l s >>= h)
+unfolding listed _>>=_
+listed-then o l s h t e = ap (λ (m : Result (State × ℕ)). m >>= (λ x. ok (x .0, l)) >>= h) (done-ok o s t e)
 
-pub then-is : {A : Type 0} (o : Out) (s : State) (h : State × ℕ → Result A) (t : ℕ) → done o ≡ Just t → h (s, t) ≡ (outcome o s >>= h)
-unfolding outcome _>>=_
-then-is o s h t e = rw (done-is o t e)
+-- ---- the laws
 
-pub changed-then : (w : List ℕ) (u : Used) (w′ : List ℕ) (r : Step) (f : State → Result (State × ℕ)) (h : State × ℕ → Result (State × ℕ)) (b : Found) (t : ℕ) (w₂ : List ℕ) (r₂ : Step)
-    → Changed w u w′ r f → b ≡ done (r .out) → b ≡ Just t → Changed w′ (r .used) w₂ r₂ (λ s. h (s, t)) → Changed w u w₂ r₂ (λ s. f s >>= h)
-changed-then w u w′ r f h b t w₂ r₂ a p q n =
-    record {
-      lay = n .lay;
-      grown = grown-trans _ _ _ (a .grown) (n .grown);
-      structs = n .structs ∙ a .structs;
-      is = λ ds. n .is ds ∙ then-is (r .out) (seen w′ (r .used) ds) h t (sym p ∙ q) ∙ ap (λ (x : Result (State × ℕ)). x >>= h) (a .is ds);
-    }
+module _ {A : Type 0} {K : List Struct → Type 0} {w : List ℕ} {u : Used} where
+  pub refines-now : {answer f : State → A} → Lay w u → ((ds : List Struct) → K ds → answer (seen w u ds) ≡ f (seen w u ds)) → Refines K w u w u answer f
+  refines-now h e = record { lay = h; grown = grown-refl (view w u); structs = refl; is = e }
 
-pub after-then : (w : List ℕ) (u : Used) (w′ : List ℕ) (r : Step) (f : State → Result (State × ℕ)) (h : State × ℕ → Result (State × ℕ)) (b : Found) (t : ℕ) (w₂ : List ℕ) (r₂ : Step)
-    → Changed w u w′ r f → b ≡ done (r .out) → b ≡ Just t → After w′ (r .used) w₂ r₂ (λ s. h (s, t)) → After w u w₂ r₂ (λ s. f s >>= h)
-after-then w u w′ r f h b t w₂ r₂ a p q n = record { changed = changed-then w u w′ r f h b t w₂ r₂ a p q (n .changed); inside = n .inside }
+  module _ {w′ : List ℕ} {u′ : Used} {answer f : State → A} where
+    -- the words hold the state t
+    pub refines-by : (t : State) → Lay w′ u′ → view w′ u′ ≡ t → Grown (view w u) t → t .structs ≡ view w u .structs → ((ds : List Struct) → K ds → answer (with-structs t ds) ≡ f (seen w u ds)) → Refines K w u w′ u′ answer f
+    unfolding seen
+    refines-by t l e g s q =
+        record { lay = l; grown = subst (λ (x : State). Grown (view w u) x) (sym e) g; structs = ap (λ (x : State). x .structs) e ∙ s; is = λ ds k. ap (λ (x : State). answer (with-structs x ds)) e ∙ q ds k }
 
--- ---- after a store
+    pub refines-is : {g : State → A} → ((ds : List Struct) → K ds → f (seen w u ds) ≡ g (seen w u ds)) → Refines K w u w′ u′ answer f → Refines K w u w′ u′ answer g
+    refines-is e a = record { lay = a .lay; grown = a .grown; structs = a .structs; is = λ ds k. a .is ds k ∙ e ds k }
 
-pub stored-then : (w : List ℕ) (u : Used) (w′ : List ℕ) (f : State → State) (h : State → Result (State × ℕ)) (w₂ : List ℕ) (r₂ : Step)
-    → Stored w u w′ f → After w′ u w₂ r₂ h → After w u w₂ r₂ (λ s. h (f s))
-stored-then w u w′ f h w₂ r₂ a n =
-    record {
-      changed = record {
-        lay = n .changed .lay;
-        grown = grown-trans _ _ _ (a .grown) (n .changed .grown);
-        structs = n .changed .structs ∙ a .structs;
-        is = λ ds. n .changed .is ds ∙ ap h (a .is ds);
-      };
-      inside = n .inside;
-    }
+    -- fewer declarations
+    pub refines-among : {K′ : List Struct → Type 0} → ((ds : List Struct) → K′ ds → K ds) → Refines K w u w′ u′ answer f → Refines K′ w u w′ u′ answer f
+    refines-among z a = record { lay = a .lay; grown = a .grown; structs = a .structs; is = λ ds k. a .is ds (z ds k) }
 
-pub stored-stored : (w : List ℕ) (u : Used) (w′ : List ℕ) (f h : State → State) (w₂ : List ℕ) → Stored w u w′ f → Stored w′ u w₂ h → Stored w u w₂ (λ s. h (f s))
-stored-stored w u w′ f h w₂ a n =
-    record { lay = n .lay; grown = grown-trans _ _ _ (a .grown) (n .grown); structs = n .structs ∙ a .structs; is = λ ds. n .is ds ∙ ap h (a .is ds) }
+    module _ {B : Type 0} {answer₂ : State → B} (j : A → B) (a : Refines K w u w′ u′ answer f) where
+      -- another step makes j of the answer
+      pub refines-on : {w₂ : List ℕ} {u₂ : Used} → Refines K w′ u′ w₂ u₂ answer₂ (λ s. j (answer s)) → Refines K w u w₂ u₂ answer₂ (λ s. j (f s))
+      refines-on n =
+          record { lay = n .lay; grown = grown-trans _ _ _ (a .grown) (n .grown); structs = n .structs ∙ a .structs; is = λ ds k. n .is ds k ∙ ap j (a .is ds k) }
+
+      -- the answer is j of what it was
+      pub refines-as : ((s : State) → answer₂ s ≡ j (answer s)) → Refines K w u w′ u′ answer₂ (λ s. j (f s))
+      refines-as e = record { lay = a .lay; grown = a .grown; structs = a .structs; is = λ ds k. e (seen w′ u′ ds) ∙ ap j (a .is ds k) }
+
+module _ {K : List Struct → Type 0} {w : List ℕ} {u : Used} {w′ : List ℕ} {u′ : Used} (o : Out) {f : State → Result (State × ℕ)} {b : Found} where
+  -- no number, so nothing follows
+  pub refines-stop : (h : State × ℕ → Result (State × ℕ)) → Refines K w u w′ u′ (outcome o) f → b ≡ done o → b ≡ Nothing → Refines K w u w′ u′ (outcome o) (λ s. f s >>= h)
+  refines-stop h a p q = refines-as (λ m. m >>= h) a (λ s. stop-is o s h (sym p ∙ q))
+
+  module _ {w₂ : List ℕ} {u₂ : Used} {t : ℕ} where
+    -- the number t, and j of it follows
+    pub refines-number : {B : Type 0} {answer₂ : State → B} (j : Result (State × ℕ) → B) → Refines K w u w′ u′ (outcome o) f → b ≡ done o → b ≡ Just t → Refines K w′ u′ w₂ u₂ answer₂ (λ s. j (ok (s, t))) → Refines K w u w₂ u₂ answer₂ (λ s. j (f s))
+    refines-number j a p q n = refines-on j a (refines-is (λ ds k. ap j (done-ok o (seen w′ u′ ds) t (sym p ∙ q))) n)
+
+    pub refines-then : {B : Type 0} {answer₂ : State → Result B} (h : State × ℕ → Result B) → Refines K w u w′ u′ (outcome o) f → b ≡ done o → b ≡ Just t → Refines K w′ u′ w₂ u₂ answer₂ (λ s. h (s, t)) → Refines K w u w₂ u₂ answer₂ (λ s. f s >>= h)
+    unfolding _>>=_
+    refines-then h a p q n = refines-number (λ m. m >>= h) a p q n
+
+-- ---- the same, where the answer is a node
+
+module _ {K : List Struct → Type 0} {w : List ℕ} {u : Used} where
+  pub after-now : {o : Out} {f : State → Result (State × ℕ)} → Lay w u → Nodes-in (u .nodes) o → ((ds : List Struct) → K ds → outcome o (seen w u ds) ≡ f (seen w u ds)) → When K w u w (record { out = o; used = u }) f
+  after-now h i e = record { changed = refines-now h e; inside = i }
+
+  module _ {w′ : List ℕ} {r : Step} {f : State → Result (State × ℕ)} where
+    pub after-is : {g : State → Result (State × ℕ)} → ((ds : List Struct) → K ds → f (seen w u ds) ≡ g (seen w u ds)) → When K w u w′ r f → When K w u w′ r g
+    after-is e a = record { changed = refines-is e (a .changed); inside = a .inside }
+
+    pub after-among : {K′ : List Struct → Type 0} → ((ds : List Struct) → K′ ds → K ds) → When K w u w′ r f → When K′ w u w′ r f
+    after-among z a = record { changed = refines-among z (a .changed); inside = a .inside }
+
+    pub after-any : After w u w′ r f → When K w u w′ r f
+    after-any a = record { changed = refines-among (λ ds k. tt) (a .changed); inside = a .inside }
+
+    pub after-stop : {b : Found} (h : State × ℕ → Result (State × ℕ)) → When K w u w′ r f → b ≡ done (r .out) → b ≡ Nothing → When K w u w′ r (λ s. f s >>= h)
+    after-stop h a p q = record { changed = refines-stop (r .out) h (a .changed) p q; inside = a .inside }
+
+    pub after-done : {b : Found} {t : ℕ} → When K w u w′ r f → b ≡ done (r .out) → b ≡ Just t → t < r .used .nodes
+    after-done {b} {t} a p q = node-in (r .used .nodes) (r .out) b t (a .inside) p q
+
+  module _ {w′ : List ℕ} {u′ : Used} {w₂ : List ℕ} {r : Step} where
+    pub after-on : {A : Type 0} {answer f : State → A} (j : A → Result (State × ℕ)) → Refines K w u w′ u′ answer f → When K w′ u′ w₂ r (λ s. j (answer s)) → When K w u w₂ r (λ s. j (f s))
+    after-on j a n = record { changed = refines-on j a (n .changed); inside = n .inside }
+
+    pub after-then : (o : Out) {f : State → Result (State × ℕ)} {b : Found} {t : ℕ} (h : State × ℕ → Result (State × ℕ)) → Refines K w u w′ u′ (outcome o) f → b ≡ done o → b ≡ Just t → When K w′ u′ w₂ r (λ s. h (s, t)) → When K w u w₂ r (λ s. f s >>= h)
+    after-then o h a p q n = record { changed = refines-then o h a p q (n .changed); inside = n .inside }
+
+-- a step that meets no error names no types where it ends
+pub plain-in : {w : List ℕ} {u : Used} {w′ : List ℕ} {u′ : Used} (o : Out) {f : State → Result (State × ℕ)} {b : Found} → Refines Any w u w′ u′ (outcome o) f → ((s : State) → No-error (f s)) → b ≡ done o → b ≡ Nothing → Nodes-in (u′ .nodes) o
+plain-in {w} {u} {w′} {u′} o {f} a e p q = none-in (u′ .nodes) o (seen w′ u′ []) (f (seen w u [])) (a .is [] tt) (e (seen w u [])) (sym p ∙ q)

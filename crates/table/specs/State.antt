@@ -5,11 +5,11 @@ use mathlib.Core.List.{List, [], _∷_, _++_}
 use mathlib.Core.Option.{Option, none, some}
 use Prim.Native.Nat.{ℕ, _+_, _≤_, _<_}
 use lib.Dec.{ltb}
-use lib.ListN.{length, getD, set}
+use lib.ListN.{length, getD, set, take}
 use Rattle.definition.specs.Types as d
 use Rattle.definition.specs.Types.{State, Struct, Places, Cell, Result, ok, err, refused, _>>=_, if_then_else_}
 use Rattle.definition.specs.Types.{full, too-deep, runs-into-itself, abilities-disagree, open-variable, no-argument, parameter-twice}
-use Rattle.definition.specs.Store.{count, taken, node, with-vars, with-structs, get, add-constraint, declare}
+use Rattle.definition.specs.Store.{count, taken, node, args-at, with-vars, with-structs, get, add-constraint, declare}
 use Rattle.names.specs.Names.{mark-of, name-of}
 use Rattle.table.specs.Rows.{entries, Clean, node-table, arg-table, var-table, constraint-table, struct-table, places}
 use Rattle.table.specs.declared.Shape.{Shape}
@@ -91,6 +91,10 @@ outcome (Done t) s = ok (s, t)
 outcome (Failed e) s = err s (error-of e)
 outcome (Refused x) s = refused (refusal-of x)
 
+-- .. and the list l, if it is a number
+unfoldable pub listed : Out → List ℕ → State → Result (State × List ℕ)
+listed o l s = outcome o s >>= (λ x. ok (x .0, l))
+
 -- the number that an answer is, if it is one
 abbrev pub done : Out → Found
 done (Done t) = Just t
@@ -170,12 +174,25 @@ one-var u =
     then record { out = Done (u .vars); used = record { nodes = u .nodes; args = u .args; vars = u .vars + 1; constraints = u .constraints; structs = u .structs } }
     else record { out = Refused Full; used = u }
 
--- the words w with u in use became w′ and the answer r, as f says, whatever the declarations are
-pub record Changed (w : List ℕ) (u : Used) (w′ : List ℕ) (r : Step) (f : State → Result (State × ℕ)) : Type 0 where
-  pub lay : Lay w′ (r .used)
-  pub grown : Grown (view w u) (view w′ (r .used))
-  pub structs : view w′ (r .used) .structs ≡ view w u .structs
-  pub is : (ds : List Struct) → outcome (r .out) (seen w′ (r .used) ds) ≡ f (seen w u ds)
+-- all declarations
+abbrev pub Any : List Struct → Type 0
+Any ds = Unit {0}
+
+-- the words held w with u in use and hold w′ with u′; rows were only added, and the declarations' rows are as they were. What `answer` makes of the new
+-- state is what f makes of the old one, for the declarations in K
+pub record Refines {A : Type 0} (K : List Struct → Type 0) (w : List ℕ) (u : Used) (w′ : List ℕ) (u′ : Used) (answer f : State → A) : Type 0 where
+  pub lay : Lay w′ u′
+  pub grown : Grown (view w u) (view w′ u′)
+  pub structs : view w′ u′ .structs ≡ view w u .structs
+  pub is : (ds : List Struct) → K ds → answer (seen w′ u′ ds) ≡ f (seen w u ds)
+
+-- .. and the answer is r
+abbrev pub Changed : List ℕ → Used → List ℕ → Step → (State → Result (State × ℕ)) → Type 0
+Changed w u w′ r f = Refines Any w u w′ (r .used) (outcome (r .out)) f
+
+-- .. and no row was taken
+abbrev pub Stored : List ℕ → Used → List ℕ → (State → State) → Type 0
+Stored w u w′ f = Refines Any w u w′ u (λ s. s) f
 
 -- the nodes that an error names are below n
 abbrev pub Types-in : ℕ → TypingError → Type 0
@@ -196,17 +213,14 @@ Var-in n (Done v) = v < n
 Var-in n (Failed e) = Unit {0}
 Var-in n (Refused x) = Unit {0}
 
--- .. and the answer is a node
-pub record After (w : List ℕ) (u : Used) (w′ : List ℕ) (r : Step) (f : State → Result (State × ℕ)) : Type 0 where
-  pub changed : Changed w u w′ r f
+-- the answer is r, a node, for the declarations in K
+pub record When (K : List Struct → Type 0) (w : List ℕ) (u : Used) (w′ : List ℕ) (r : Step) (f : State → Result (State × ℕ)) : Type 0 where
+  pub changed : Refines K w u w′ (r .used) (outcome (r .out)) f
   pub inside : Nodes-in (r .used .nodes) (r .out)
 
--- the words w with u in use became w′, as f says; no row was taken
-pub record Stored (w : List ℕ) (u : Used) (w′ : List ℕ) (f : State → State) : Type 0 where
-  pub lay : Lay w′ u
-  pub grown : Grown (view w u) (view w′ u)
-  pub structs : view w′ u .structs ≡ view w u .structs
-  pub is : (ds : List Struct) → seen w′ u ds ≡ f (seen w u ds)
+-- .. for all
+abbrev pub After : List ℕ → Used → List ℕ → Step → (State → Result (State × ℕ)) → Type 0
+After w u w′ r f = When Any w u w′ r f
 
 -- w′ is w, but for n words of row from place `at` on
 pub record Wrote (w : List ℕ) (at n : ℕ) (row : List ℕ) (w′ : List ℕ) : Type 0 where
@@ -263,3 +277,23 @@ Found-in n (Just t) = t < n
 pub record Parts (nodes : ℕ) (parts : List ℕ) (n : ℕ) : Type 0 where
   pub few : n ≤ 8
   pub below : (i : ℕ) → i < n → getD parts i 0 < nodes
+
+-- if o is a number, the first `many` of parts are below n; else the nodes that it names are
+pub record Listed-in (n : ℕ) (o : Out) (parts : List ℕ) (many : ℕ) : Type 0 where
+  pub below : (t : ℕ) → done o ≡ Just t → Parts n parts many
+  pub inside : done o ≡ Nothing → Nodes-in n o
+
+-- the answer is the first `many` of parts, nodes all, if o is a number; for the declarations in K
+pub record Lists (K : List Struct → Type 0) (w : List ℕ) (u : Used) (w′ : List ℕ) (u′ : Used) (o : Out) (parts : List ℕ) (many : ℕ) (f : State → Result (State × List ℕ)) : Type 0 where
+  pub changed : Refines K w u w′ u′ (listed o (take many parts)) f
+  pub inside : Listed-in (u′ .nodes) o parts many
+
+-- many argument places from `first` on are in use
+pub record Placed (w : List ℕ) (u : Used) (first many : ℕ) : Type 0 where
+  pub few : many ≤ 8
+  pub inside : first + many ≤ length (view w u .args)
+
+-- the places of a named type are in use, and its arguments are below n
+pub record Named (w : List ℕ) (u : Used) (first many n : ℕ) : Type 0 where
+  pub placed : Placed w u first many
+  pub smaller : (i : ℕ) → i < many → getD (args-at (view w u) (places first many)) i 0 < n

@@ -29,17 +29,15 @@ use Rattle.table.specs.declared.Out.the-variants.{Done, Refused}
 use Rattle.table.specs.declared.Refusal.the-variants.{RunsIntoItself, OpenVariable}
 use Rattle.table.specs.declared.Found.{Found}
 use Rattle.table.specs.declared.Found.the-variants.{Nothing, Just}
-use Rattle.table.proofs.Steps.{after-now, after-stop, after-then}
+use Rattle.table.proofs.Steps.{after-now, after-is, after-stop, after-then}
+use Rattle.table.proofs.Walk.{rest, sp-apply}
 use Rattle.tparams.specs.Pairs.{pairs, answer}
-use Rattle.walk.specs.When.{When}
-use Rattle.walk.proofs.Steps.{after-at, Any, any-after}
-use Rattle.walk.proofs.Walk.{rest, sp-apply}
 
 -- ---- one level
 
 pub down-zero : (w : List ℕ) (u : Used) (ps : TParamSubst) (left ty : ℕ) (r : Step) → Lay w u → left ≡ 0 → r ≡ record { out = Refused RunsIntoItself; used = u } → After w u w r (λ s. subst-down left ps s ty)
 unfolding subst-down outcome
-down-zero w u ps left ty r lay z e = rw (z, e) (after-now w u (Refused RunsIntoItself) (λ s. subst-down 0 ps s ty) lay tt (λ ds. refl))
+down-zero w u ps left ty r lay z e = rw (z, e) (after-now lay tt (λ ds k. refl))
 
 module _ (w : List ℕ) (u : Used) (ps : TParamSubst) (left ty : ℕ) (nd : Node) (lay : Lay w u) (left-some : left ≡ 0 → ⊥) (node-is : (ds : List Struct) → node-of nd ≡ node (seen w u ds) ty) where
   down-is : (sh : Shape) → nd .shape ≡ sh → (ds : List Struct)
@@ -53,7 +51,7 @@ module _ (w : List ℕ) (u : Used) (ps : TParamSubst) (left ty : ℕ) (nd : Node
 
   stays : (sh : Shape) (o : Out) (r : Step) → nd .shape ≡ sh → r ≡ record { out = o; used = u } → Nodes-in (u .nodes) o
       → ((s : State) → outcome o s ≡ subst-value (subst-down (left - 1) ps) ps s ty (nd .loc) (with-args s (shape-of sh))) → After w u w r (λ s. subst-down left ps s ty)
-  stays sh o r e f i q = rw f (after-now w u o (λ s. subst-down left ps s ty) lay i (λ ds. q (seen w u ds) ∙ down-is sh e ds))
+  stays sh o r e f i q = rw f (after-now lay i (λ ds k. q (seen w u ds) ∙ down-is sh e ds))
 
   module _ (r : Step) (in-use : ty < u .nodes) (r-is : r ≡ record { out = Done ty; used = u }) where
     pub down-unit : nd .shape ≡ UnitS → After w u w r (λ s. subst-down left ps s ty)
@@ -85,23 +83,23 @@ module _ (w : List ℕ) (u : Used) (ps : TParamSubst) (left ty : ℕ) (nd : Node
   module _ (m : _) (t : ℕ) (e : nd .shape ≡ Ref m t) (w′ : List ℕ) (a : Step) (b : Found) (inner : After w u w′ a (λ s. subst-down (left - 1) ps s t)) (b-is : b ≡ done (a .out)) where
     pub ref-stop : b ≡ Nothing → After w u w′ a (λ s. subst-down left ps s ty)
     unfolding subst-value with-args
-    ref-stop q = after-at w u w′ a _ _ (down-is (Ref m t) e) (after-stop w u w′ a (λ s. subst-down (left - 1) ps s t) (λ p. sp (p .0) (nd .loc) (d.Ref m (p .1))) b inner b-is q)
+    ref-stop q = after-is (λ ds k. down-is (Ref m t) e ds) (after-stop (λ p. sp (p .0) (nd .loc) (d.Ref m (p .1))) inner b-is q)
 
     pub ref-then : (p : ℕ) (w₂ : List ℕ) (r : Step) → b ≡ Just p → After w′ (a .used) w₂ r (λ s. sp s (nd .loc) (value-of (Ref m p))) → After w u w₂ r (λ s. subst-down left ps s ty)
     unfolding subst-value with-args
-    ref-then p w₂ r q x = after-at w u w₂ r _ _ (down-is (Ref m t) e) (after-then w u w′ a (λ s. subst-down (left - 1) ps s t) (λ p. sp (p .0) (nd .loc) (d.Ref m (p .1))) b p w₂ r (inner .changed) b-is q x)
+    ref-then p w₂ r q x = after-is (λ ds k. down-is (Ref m t) e ds) (after-then (a .out) (λ p. sp (p .0) (nd .loc) (d.Ref m (p .1))) (inner .changed) b-is q x)
 
   pub apply-by : (k : Mark) (n : TypeName) (first many : ℕ) → nd .shape ≡ Apply k n first many → (w′ : List ℕ) (r : Step)
       → After w u w′ r (λ s. subst-value (subst-down (left - 1) ps) ps s 0 (nd .loc) (d.Apply (mark-of k) (name-of n) (args-at (view w u) (places first many)))) → After w u w′ r (λ s. subst-down left ps s ty)
   unfolding subst-value with-args seen with-structs args-at
-  apply-by k n first many e w′ r a = after-at w u w′ r _ _ (down-is (Apply k n first many) e) a
+  apply-by k n first many e w′ r a = after-is (λ ds x. down-is (Apply k n first many) e ds) a
 
 -- a named type: the walk over its arguments, then its node
 pub apply-walked : (w : List ℕ) (u : Used) (ps : TParamSubst) (left loc : ℕ) (k : d.Mark) (n : d.TypeName) (tys : List ℕ) (w′ : List ℕ) (r : Step)
-    → When Any w u w′ r (rest (subst-down left ps) (sp-apply loc k n) [] tys) → After w u w′ r (λ s. subst-value (subst-down left ps) ps s 0 loc (d.Apply k n tys))
+    → After w u w′ r (rest (subst-down left ps) (sp-apply loc k n) [] tys) → After w u w′ r (λ s. subst-value (subst-down left ps) ps s 0 loc (d.Apply k n tys))
 unfolding subst-value rest sp-apply
-apply-walked w u ps left loc k n tys w′ r a = any-after w u w′ r _ a
+apply-walked w u ps left loc k n tys w′ r a = a
 
 pub tparams-is : (w : List ℕ) (u : Used) (ps : TParamSubst) (ty : ℕ) (w′ : List ℕ) (r : Step) → After w u w′ r (λ s. subst-down (ty + 1) ps s ty) → After w u w′ r (λ s. subst-tparams ps s ty)
 unfolding subst-tparams
-tparams-is w u ps ty w′ r a = after-at w u w′ r _ _ (λ ds. ap (λ (k : ℕ). subst-down k ps (seen w u ds) ty) (add-one ty)) a
+tparams-is w u ps ty w′ r a = after-is (λ ds k. ap (λ (k : ℕ). subst-down k ps (seen w u ds) ty) (add-one ty)) a

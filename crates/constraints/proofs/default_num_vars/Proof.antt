@@ -29,7 +29,7 @@ tvar-requires : tie.Need-tvar-requires Inv-loop μ-loop
 tvar-requires c κs = omega (arith, c .before .before .before .before .before .pre .0 .vars)
 
 default-marked-requires : tie.Need-default-marked-requires Inv-loop μ-loop
-default-marked-requires c κs = c .before .before .before .before .loop .inv .lay
+default-marked-requires c κs = c .before .before .before .before .loop .inv .changed .lay
 
 done-of-requires : tie.Need-done-of-requires Inv-loop μ-loop
 done-of-requires c κs = search needs
@@ -72,7 +72,7 @@ loop-again c =
     (tvar .ensures) _ _ _ (default-marked .ensures) (c .before .before .done-of .ensures) _ (c .enum-told .given .1)
 
 same-length-2 : tie.Need-same-length-2 Inv-loop μ-loop
-same-length-2 c = c .before .loop .inv .lay .size ∙ sym (c .before .before .before .before .pre .0 .size)
+same-length-2 c = c .before .loop .inv .changed .lay .size ∙ sym (c .before .before .before .before .pre .0 .size)
 
 returns-2 : tie.Need-returns-2 Inv-loop μ-loop
 returns-2 c = defaulting-all _ _ _ _ _ (c .before .loop .inv) (omega arith)

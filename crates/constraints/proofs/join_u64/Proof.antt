@@ -1,6 +1,7 @@
 -- `constraints::join_u64` meets its contract. Assumes nothing.
 use Rattle.constraints.proofs.Defaults.{u64-full, tvar-full, u64-joined}
-use Rattle.merge.proofs.Answers.{still-in, node-in}
+use Rattle.table.proofs.Steps.{node-in}
+use Rattle.table.proofs.Grown.{still-in}
 use mathlib.Core.Path.{sym, _∙_}
 use borrow.Author.Needs.{needs}
 use Rattle.constraints.proofs.join_u64.Statement.{statement}

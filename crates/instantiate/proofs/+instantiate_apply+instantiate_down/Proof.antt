@@ -8,9 +8,10 @@ use Rattle.definition.specs.Store.{args-at}
 use Rattle.names.specs.Names.{mark-of, name-of}
 use Rattle.table.specs.Rows.{places}
 use Rattle.table.specs.State.{view}
-use Rattle.walk.proofs.Steps.{nodes-grow, parts-grow, when-done, when-after, Any}
-use Rattle.walk.proofs.Parts.{ref-below, named}
-use Rattle.walk.proofs.Walk.{Walked, placed-length, named-kept, named-below, arg-kept, walk-start, walk-stop, walk-more, walk-end, walk-parts}
+use Rattle.table.proofs.Steps.{after-any, after-among, after-done}
+use Rattle.table.proofs.Grown.{nodes-grow, parts-grow}
+use Rattle.table.proofs.Parts.{ref-below, named}
+use Rattle.table.proofs.Walk.{Walked, placed-length, named-kept, named-below, arg-kept, walk-start, walk-stop, walk-more, walk-end, walk-parts}
 use Rattle.table.specs.Known.{Known}
 use Rattle.instantiate.specs.Args.{joined}
 use Rattle.table.proofs.Known.{known-kept}
@@ -83,7 +84,7 @@ instantiate-down-calls t = (stay-reads.Asked, stay-reads.Learnt, node-at-reads.A
 
 abbrev instantiate-apply-Inv-loop : instantiate-apply-lts.InvT-loop
 instantiate-apply-Inv-loop w₀ params left loc k n first many tvars count parts₀ v₀ i₀ w parts v i =
-    Walked (Known w₀ v₀ params) (D.instantiate-down left) (joined loc (mark-of k) (name-of n) (take count tvars)) (args-at (view w₀ v₀) (places first many)) w₀ v₀ w v parts i
+    Walked (Known w₀ v₀ params) (D.instantiate-down left) (joined loc (mark-of k) (name-of n) (take count tvars)) (args-at (view w₀ v₀) (places first many)) many w₀ v₀ w v parts i
 
 abbrev instantiate-apply-μ-loop : instantiate-apply-lts.MeasureT-loop
 instantiate-apply-μ-loop w₀ params left loc k n first many tvars count parts₀ v₀ i₀ w parts v i = many - i
@@ -117,7 +118,7 @@ instantiate-apply-stay-requires t c κs = search needs
 instantiate-apply-same-length : (t : ℕ) → instantiate-apply-lts.Need-same-length (instantiate-apply-calls t) (instantiate-apply-at t) instantiate-apply.Post
     instantiate-apply-Inv-loop
     instantiate-apply-μ-loop
-instantiate-apply-same-length t c = c .before .before .before .before .before .before .before .before .make-tparams .ensures .lay .size ∙ sym (c .before .before .before .before .before .before .before .before .before .before .before .pre .1 .0 .size)
+instantiate-apply-same-length t c = c .before .before .before .before .before .before .before .before .make-tparams .ensures .changed .lay .size ∙ sym (c .before .before .before .before .before .before .before .before .before .before .before .pre .1 .0 .size)
 
 instantiate-apply-returns : (t : ℕ) → instantiate-apply-lts.Need-returns (instantiate-apply-calls t) (instantiate-apply-at t) instantiate-apply.Post
     instantiate-apply-Inv-loop
@@ -134,15 +135,13 @@ instantiate-apply-loop-holds : (t : ℕ) → instantiate-apply-lts.Need-loop-hol
 instantiate-apply-loop-holds t c =
     let pre = c .before .before .before .before .before .before .before .before .before .before .pre in
     let make-tparams = c .before .before .before .before .before .before .before .make-tparams in
-    walk-start _ _ _ _ _
-    (placed-length _ _ _ _ ((named-kept _ _ _ _ _ (pre .1 .1) _ _ (make-tparams .ensures .grown)) .placed))
-    ((named-kept _ _ _ _ _ (pre .1 .1) _ _ (make-tparams .ensures .grown)) .placed .few) _ _ _
-    (make-tparams .ensures .lay) refl
+    let placed = named-kept _ _ _ _ _ (pre .1 .1) _ _ (make-tparams .ensures .changed .grown) .placed in
+    walk-start (make-tparams .ensures .changed .lay) (placed-length _ _ _ _ placed) (placed .few) refl
 
 instantiate-apply-arg-at-requires : (t : ℕ) → instantiate-apply-lts.Need-arg-at-requires (instantiate-apply-calls t) (instantiate-apply-at t) instantiate-apply.Post
     instantiate-apply-Inv-loop
     instantiate-apply-μ-loop
-instantiate-apply-arg-at-requires t c κs = c .before .before .loop .inv .lay
+instantiate-apply-arg-at-requires t c κs = c .before .before .loop .inv .changed .lay
 
 instantiate-apply-instantiate-down-requires :
     (t : ℕ) → instantiate-apply-lts.Need-instantiate-down-requires (instantiate-apply-calls t) (instantiate-apply-at t) instantiate-apply.Post
@@ -155,14 +154,14 @@ instantiate-apply-instantiate-down-requires t c κs =
     let loop-test = c .before .before .before .loop-test in (
       omega (arith, pre .0),
       (
-        loop .inv .lay,
+        loop .inv .changed .lay,
         omega (
           arith,
-          (arg-kept _ _ _ _ ((named-kept _ _ _ _ _ (pre .1 .1) _ _ (make-tparams .ensures .grown)) .placed) _ _
-              (loop .inv .grown) _ _ (loop-test .taken) (c .before .arg-at .ensures)),
-          (named-kept _ _ _ _ _ (pre .1 .1) _ _ (make-tparams .ensures .grown)) .smaller _ (loop-test .taken),
-          nodes-grow _ _ _ _ (make-tparams .ensures .grown),
-          nodes-grow _ _ _ _ (loop .inv .grown),
+          (arg-kept _ _ _ _ ((named-kept _ _ _ _ _ (pre .1 .1) _ _ (make-tparams .ensures .changed .grown)) .placed) _ _
+              (loop .inv .changed .grown) _ _ (loop-test .taken) (c .before .arg-at .ensures)),
+          (named-kept _ _ _ _ _ (pre .1 .1) _ _ (make-tparams .ensures .changed .grown)) .smaller _ (loop-test .taken),
+          nodes-grow _ _ _ _ (make-tparams .ensures .changed .grown),
+          nodes-grow _ _ _ _ (loop .inv .changed .grown),
         ),
       ),
     )
@@ -189,7 +188,7 @@ instantiate-apply-same-length-2 t c =
     let c12 = c .before .before .before .before .before .before .before .before .before .before .before .before in
     let pre = c12 .before .before .before .before .before .before .before .before .before .pre in
     let instantiate-down = c .before .before .before .before .before .instantiate-down in
-    instantiate-down .ensures .lay .size ∙ sym (pre .1 .0 .size)
+    instantiate-down .ensures .changed .lay .size ∙ sym (pre .1 .0 .size)
 
 instantiate-apply-returns-2 : (t : ℕ) → instantiate-apply-lts.Need-returns-2 (instantiate-apply-calls t) (instantiate-apply-at t) instantiate-apply.Post
     instantiate-apply-Inv-loop
@@ -206,13 +205,10 @@ instantiate-apply-returns-2 t c =
     let instantiate-down = c .before .before .before .before .before .instantiate-down in
     apply-then _ _ _ _ _ _ _ _ _ (pre .1 .1 .placed) _ (make-tparams .result) _ (make-tparams .ensures)
     (done-of .ensures) _ _ _ (enum-told .given .1)
-    (walk-stop _ _ _ _ _
-    (placed-length _ _ _ _ ((named-kept _ _ _ _ _ (pre .1 .1) _ _ (make-tparams .ensures .grown)) .placed))
-    ((named-kept _ _ _ _ _ (pre .1 .1) _ _ (make-tparams .ensures .grown)) .placed .few) _ _ _ _ _ _
-    (loop .inv) _ (loop-test .taken)
-    (arg-kept _ _ _ _ ((named-kept _ _ _ _ _ (pre .1 .1) _ _ (make-tparams .ensures .grown)) .placed) _ _
-    (loop .inv .grown) _ _ (loop-test .taken) (arg-at .ensures)) _
-    (known-kept _ _ _ _ _ (loop .inv .structs)) _ _ (instantiate-down .ensures) _
+    (walk-stop (loop .inv) (loop-test .taken)
+    (arg-kept _ _ _ _ ((named-kept _ _ _ _ _ (pre .1 .1) _ _ (make-tparams .ensures .changed .grown)) .placed) _ _
+    (loop .inv .changed .grown) _ _ (loop-test .taken) (arg-at .ensures))
+    (after-among (known-kept _ _ _ _ _ (loop .inv .changed .structs)) (instantiate-down .ensures))
     (c .before .before .done-of2 .ensures) (c .enum-told3 .given .1))
 
 instantiate-apply-wide-requires : (t : ℕ) → instantiate-apply-lts.Need-wide-requires (instantiate-apply-calls t) (instantiate-apply-at t) instantiate-apply.Post
@@ -266,31 +262,24 @@ instantiate-apply-loop-again t c =
     let arg-at = c .before .before .before .before .before .before .before .before .before .before .arg-at in
     let instantiate-down = c .before .before .before .before .before .before .before .before .instantiate-down in
     let done-of2 = c .before .before .before .before .before .done-of2 in
-    walk-more _ _ _ _ _
-    (placed-length _ _ _ _ ((named-kept _ _ _ _ _ (pre .1 .1) _ _ (make-tparams .ensures .grown)) .placed))
-    ((named-kept _ _ _ _ _ (pre .1 .1) _ _ (make-tparams .ensures .grown)) .placed .few) _ _ _ _ _ _ (loop .inv) _
-    (loop-test .taken)
-    (arg-kept _ _ _ _ ((named-kept _ _ _ _ _ (pre .1 .1) _ _ (make-tparams .ensures .grown)) .placed) _ _
-    (loop .inv .grown) _ _ (loop-test .taken) (arg-at .ensures)) _
-    (known-kept _ _ _ _ _ (loop .inv .structs)) _ _ (instantiate-down .ensures) _ (done-of2 .ensures) _ _
+    walk-more (loop .inv) (loop-test .taken)
+    (arg-kept _ _ _ _ ((named-kept _ _ _ _ _ (pre .1 .1) _ _ (make-tparams .ensures .changed .grown)) .placed) _ _
+    (loop .inv .changed .grown) _ _ (loop-test .taken) (arg-at .ensures))
+    (after-among (known-kept _ _ _ _ _ (loop .inv .changed .structs)) (instantiate-down .ensures)) (done-of2 .ensures)
     (c .before .before .before .p .given .1) (c .before .wide .ensures)
 
 instantiate-apply-join-args-requires : (t : ℕ) → instantiate-apply-lts.Need-join-args-requires (instantiate-apply-calls t) (instantiate-apply-at t) instantiate-apply.Post
     instantiate-apply-Inv-loop
     instantiate-apply-μ-loop
 instantiate-apply-join-args-requires t c κs =
-    let pre = c .before .before .before .before .before .before .before .before .before .before .before .before .before .pre in
     let make-tparams = c .before .before .before .before .before .before .before .before .before .before .make-tparams in
     let done-of = c .before .before .before .before .before .done-of in
     let loop = c .before .before .loop in (
-      loop .inv .lay,
+      loop .inv .changed .lay,
       (
-        parts-grow _ _ _ _ (nodes-grow _ _ _ _ (loop .inv .grown))
-            (make-tparams .ensures .below _ (sym (done-of .ensures) ∙ c .before .before .before .enum-told .given .1)),
-        walk-parts _ _ _ _ _
-            (placed-length _ _ _ _ ((named-kept _ _ _ _ _ (pre .1 .1) _ _ (make-tparams .ensures .grown)) .placed))
-            ((named-kept _ _ _ _ _ (pre .1 .1) _ _ (make-tparams .ensures .grown)) .placed .few) _ _ _ _ _ _
-            (loop .inv) (c .before .loop-test .left),
+        parts-grow _ _ _ _ (nodes-grow _ _ _ _ (loop .inv .changed .grown))
+            (make-tparams .ensures .inside .below _ (sym (done-of .ensures) ∙ c .before .before .before .enum-told .given .1)),
+        walk-parts (loop .inv) (c .before .loop-test .left),
       ),
     )
 
@@ -302,7 +291,6 @@ instantiate-apply-same-length-3 t c = c .before .before .join-args .ensures .cha
 instantiate-apply-returns-3 : (t : ℕ) → instantiate-apply-lts.Need-returns-3 (instantiate-apply-calls t) (instantiate-apply-at t) instantiate-apply.Post
     instantiate-apply-Inv-loop
     instantiate-apply-μ-loop
-unfolding Any
 instantiate-apply-returns-3 t c =
     let pre = c .before .before .before .before .before .before .before .before .before .before .before .before .before .before .before .before .pre in
     let make-tparams = c .before .before .before .before .before .before .before .before .before .before .before .before .before .make-tparams in
@@ -311,11 +299,8 @@ instantiate-apply-returns-3 t c =
     let loop = c .before .before .before .before .before .loop in
     apply-then _ _ _ _ _ _ _ _ _ (pre .1 .1 .placed) _ (make-tparams .result) _ (make-tparams .ensures)
     (done-of .ensures) _ _ _ (enum-told .given .1)
-    (walk-end _ _ _ _ _
-    (placed-length _ _ _ _ ((named-kept _ _ _ _ _ (pre .1 .1) _ _ (make-tparams .ensures .grown)) .placed))
-    ((named-kept _ _ _ _ _ (pre .1 .1) _ _ (make-tparams .ensures .grown)) .placed .few) _ _ _ _ _ _
-    (loop .inv) Any (λ ds k. tt) _ _ (c .before .before .before .before .loop-test .left)
-    (when-after Any _ _ _ _ _ (c .before .before .join-args .ensures)))
+    (walk-end (loop .inv) (c .before .before .before .before .loop-test .left)
+    (after-any (c .before .before .join-args .ensures)))
 
 instantiate-down-stay-requires : (t : ℕ) → instantiate-down-lts.Need-stay-requires (instantiate-down-calls t) (instantiate-down-at t) instantiate-down.Post
 instantiate-down-stay-requires t c κs = search needs
@@ -422,7 +407,7 @@ instantiate-down-same-length-2 t c =
     let c12 = c .before .before .before .before .before .before .before .before .before .before .before .before in
     let pre = c12 .before .before .before .before .before .before .before .before .before .before .before .pre in
     let instantiate-down = c .before .before .before .before .before .before .instantiate-down in
-    instantiate-down .ensures .lay .size ∙ sym (pre .1 .0 .size)
+    instantiate-down .ensures .changed .lay .size ∙ sym (pre .1 .0 .size)
 
 instantiate-down-returns-3 : (t : ℕ) → instantiate-down-lts.Need-returns-3 (instantiate-down-calls t) (instantiate-down-at t) instantiate-down.Post
 instantiate-down-returns-3 t c =
@@ -442,8 +427,8 @@ instantiate-down-returns-3 t c =
 instantiate-down-push-node-requires : (t : ℕ) → instantiate-down-lts.Need-push-node-requires (instantiate-down-calls t) (instantiate-down-at t) instantiate-down.Post
 instantiate-down-push-node-requires t c κs =
     let instantiate-down = c .before .before .before .before .before .before .before .before .instantiate-down in (
-      instantiate-down .ensures .lay,
-      when-done _ _ _ _ _ _ _ _ (instantiate-down .ensures) (c .before .before .before .before .done-of2 .ensures)
+      instantiate-down .ensures .changed .lay,
+      after-done (instantiate-down .ensures) (c .before .before .before .before .done-of2 .ensures)
           (c .before .before .p .given .1),
     )
 
@@ -540,7 +525,7 @@ instantiate-down-returns-9 t c =
     (done-of2 .ensures) _ _ _ (p .given .1) (c .before .before .push-node .ensures)
 
 instantiate-down-same-length-9 : (t : ℕ) → instantiate-down-lts.Need-same-length-9 (instantiate-down-calls t) (instantiate-down-at t) instantiate-down.Post
-instantiate-down-same-length-9 t c = c .before .before .instantiate-apply .ensures .lay .size ∙ sym (c .before .before .before .before .before .before .before .before .before .before .before .pre .1 .0 .size)
+instantiate-down-same-length-9 t c = c .before .before .instantiate-apply .ensures .changed .lay .size ∙ sym (c .before .before .before .before .before .before .before .before .before .before .before .pre .1 .0 .size)
 
 instantiate-down-returns-10 : (t : ℕ) → instantiate-down-lts.Need-returns-10 (instantiate-down-calls t) (instantiate-down-at t) instantiate-down.Post
 instantiate-down-returns-10 t c =

@@ -5,10 +5,10 @@ use native.Mathlib.Omega.{arith}
 use borrow.Author.Needs.{needs}
 use lib.ListN.{length}
 use Rattle.names.specs.Names.{mark-of, name-of}
-use Rattle.walk.proofs.Steps.{Any}
-use Rattle.walk.proofs.Walk.{sp-apply, range, Walked}
+use Rattle.table.specs.State.{Any}
+use Rattle.table.proofs.Walk.{sp-apply, range, Walked, walk-parts}
 use Rattle.instantiate.proofs.ArgLaws.{join-by}
-use Rattle.instantiate.proofs.JoinLaws.{joins-start, joins-in, joins-stop, joins-more, joins-end, joins-parts}
+use Rattle.instantiate.proofs.JoinLaws.{joins-start, joins-in, joins-stop, joins-more, joins-end}
 use Rattle.instantiate.proofs.join_args.Statement.{statement}
 use Rattle.instantiate.proofs.join_args.Tie as tie
 use Rattle.instantiate.proofs.join_args.Reads as reads
@@ -21,7 +21,7 @@ use Rattle.table.proofs.push_apply.Reads as push-apply-reads
 
 abbrev Inv-loop : tie.InvT-loop
 Inv-loop w₀ loc k n count many tvars tys c parts₀ v₀ i₀ w parts v i =
-    Walked Any (join-by tvars tys) (sp-apply loc (mark-of k) (name-of n)) (range 0 c) w₀ v₀ w v parts i
+    Walked Any (join-by tvars tys) (sp-apply loc (mark-of k) (name-of n)) (range 0 c) c w₀ v₀ w v parts i
 
 abbrev μ-loop : tie.MeasureT-loop
 μ-loop w₀ loc k n count many tvars tys c parts₀ v₀ i₀ w parts v i = c - i
@@ -35,7 +35,7 @@ sizes : (c : lts.After-fewer (fewer-reads.Asked, fewer-reads.Learnt, wide-reads.
 sizes c = search needs
 
 loop-holds : tie.Need-loop-holds Inv-loop μ-loop
-loop-holds c = joins-start _ _ _ _ _ _ _ _ _ _ (c .before .before .pre .0) (c .before .before .pre .1 .0) (c .before .before .pre .1 .1) (sizes (c) .0) (sizes (c) .1) (c .fewer .ensures) _ refl
+loop-holds c = joins-start _ _ _ _ _ _ _ _ _ _ (c .before .before .pre .0) (c .before .before .pre .1 .0) (c .before .before .pre .1 .1) (sizes (c) .0) (sizes (c) .1) (c .fewer .ensures) refl
 
 wide-requires : tie.Need-wide-requires Inv-loop μ-loop
 wide-requires c κs = search needs
@@ -57,9 +57,9 @@ join-requires c κs =
     let pre = c .before .before .before .before .before .before .pre in
     let back = c .before .before .before .before in
     let loop = c .before .before .before .loop in (
-      loop .inv .lay,
+      loop .inv .changed .lay,
       joins-in _ _ _ _ _ _ _ _ _ _ (pre .0) (pre .1 .0) (pre .1 .1) (sizes (back) .0) (sizes (back) .1)
-          (c .before .before .before .before .fewer .ensures) _ _ _ _ (loop .inv) _ (c .before .wide .ensures)
+          (c .before .before .before .before .fewer .ensures) (loop .inv) _ (c .before .wide .ensures)
           (c .before .before .loop-test .taken),
     )
 
@@ -85,7 +85,7 @@ returns c =
     let wide = c .before .before .before .before .before .before .before .wide in
     let join = c .before .before .before .before .before .join in
     joins-stop _ _ _ _ _ _ _ _ _ _ (pre .0) (pre .1 .0) (pre .1 .1) (sizes (back) .0) (sizes (back) .1) (fewer .ensures)
-    _ _ _ _ (loop .inv) _ (wide .ensures) (loop-test .taken) _ _ _ (join .ensures)
+    (loop .inv) (wide .ensures) (loop-test .taken) (join .ensures)
     (c .before .before .done-of .ensures) (c .enum-told .given .1)
 
 mul-parts : tie.Need-mul-parts Inv-loop μ-loop
@@ -124,18 +124,11 @@ loop-again c =
     let wide = c .before .before .before .before .before .before .before .before .before .wide in
     let join = c .before .before .before .before .before .before .before .join in
     joins-more _ _ _ _ _ _ _ _ _ _ (pre .0) (pre .1 .0) (pre .1 .1) (sizes (back) .0) (sizes (back) .1) (fewer .ensures)
-    _ _ _ _ (loop .inv) _ (wide .ensures) (loop-test .taken) _ _ _ (join .ensures)
-    (c .before .before .before .before .done-of .ensures) _ (c .before .before .t .given .1)
+    (loop .inv) (wide .ensures) (loop-test .taken) (join .ensures)
+    (c .before .before .before .before .done-of .ensures) (c .before .before .t .given .1)
 
 push-apply-requires : tie.Need-push-apply-requires Inv-loop μ-loop
-push-apply-requires c κs =
-    let pre = c .before .before .before .before .before .pre in
-    let back = c .before .before .before in
-    let loop = c .before .before .loop in (
-      loop .inv .lay,
-      joins-parts _ _ _ _ _ _ _ _ _ _ (pre .0) (pre .1 .0) (pre .1 .1) (sizes (back) .0) (sizes (back) .1)
-          (c .before .before .before .fewer .ensures) _ _ _ _ (loop .inv) (c .before .loop-test .left),
-    )
+push-apply-requires c κs = (c .before .before .loop .inv .changed .lay, walk-parts (c .before .before .loop .inv) (c .before .loop-test .left))
 
 same-length-2 : tie.Need-same-length-2 Inv-loop μ-loop
 same-length-2 c = c .before .before .push-apply .ensures .changed .lay .size ∙ sym (c .before .before .before .before .before .before .before .before .pre .0 .size)
@@ -147,7 +140,7 @@ returns-2 c =
     let fewer = c .before .before .before .before .before .before .fewer in
     let loop = c .before .before .before .before .before .loop in
     joins-end _ _ _ _ _ _ _ _ _ _ (pre .0) (pre .1 .0) (pre .1 .1) (sizes (back) .0) (sizes (back) .1) (fewer .ensures)
-    _ _ _ _ (loop .inv) _ _ (c .before .before .before .before .loop-test .left)
+    (loop .inv) (c .before .before .before .before .loop-test .left)
     (c .before .before .push-apply .ensures)
 
 pub join-args-spec : {M : Type 1} → statement M

@@ -1,5 +1,6 @@
 -- `instantiate::make_tparam` meets its contract. Assumes nothing.
-use Rattle.instantiate.proofs.TvarLaws.{tparam-stop, tparam-stop2, tparam-stop3, tparam-made, loc-is}
+use Rattle.instantiate.proofs.TvarLaws.{tparam-stop, tparam-stop2, tparam-stop3, tparam-made}
+use Rattle.table.proofs.Grown.{loc-is}
 use mathlib.Core.Path.{sym, _∙_}
 use borrow.Author.Needs.{needs}
 use Rattle.instantiate.proofs.make_tparam.Statement.{statement}

@@ -7,9 +7,9 @@ use Rattle.definition.specs.Store.{args-at}
 use Rattle.names.specs.Names.{name-of}
 use Rattle.table.specs.Rows.{places}
 use Rattle.table.specs.State.{view}
-use Rattle.walk.proofs.Walk.{range, Walked}
+use Rattle.table.proofs.Walk.{just-list, range, Walked}
 use Rattle.table.specs.Known.{Known}
-use Rattle.instantiate.proofs.ArgLaws.{tparam-by, just-list}
+use Rattle.instantiate.proofs.ArgLaws.{tparam-by}
 use Rattle.instantiate.proofs.MadeLaws.{made-start, made-stop, made-more, made-end}
 use Rattle.instantiate.proofs.make_tparams.Statement.{statement}
 use Rattle.instantiate.proofs.make_tparams.Tie as tie
@@ -25,7 +25,7 @@ use Rattle.table.proofs.done_of.Reads as done-of-reads
 
 abbrev Inv-loop : tie.InvT-loop
 Inv-loop w₀ params loc n first many count tvars₀ v₀ i₀ w tvars v i =
-    Walked (Known w₀ v₀ params) (tparam-by loc (name-of n) (args-at (view w₀ v₀) (places first many)) params) just-list (range 0 count) w₀ v₀ w v tvars i
+    Walked (Known w₀ v₀ params) (tparam-by loc (name-of n) (args-at (view w₀ v₀) (places first many)) params) just-list (range 0 count) count w₀ v₀ w v tvars i
 
 abbrev μ-loop : tie.MeasureT-loop
 μ-loop w₀ params loc n first many count tvars₀ v₀ i₀ w tvars v i = count - i
@@ -37,16 +37,16 @@ fewer-requires : tie.Need-fewer-requires Inv-loop μ-loop
 fewer-requires c κs = search needs
 
 loop-holds : tie.Need-loop-holds Inv-loop μ-loop
-loop-holds c = made-start _ _ _ _ _ _ _ _ _ (c .before .before .before .before .pre .0) (c .before .before .before .before .pre .1) (c .before .tparam-count .ensures) (c .fewer .ensures) _ refl
+loop-holds c = made-start _ _ _ _ _ _ _ _ _ (c .before .before .before .before .pre .0) (c .before .before .before .before .pre .1) (c .before .tparam-count .ensures) (c .fewer .ensures) refl
 
 arg-at-requires : tie.Need-arg-at-requires Inv-loop μ-loop
-arg-at-requires c κs = c .before .before .loop .inv .lay
+arg-at-requires c κs = c .before .before .loop .inv .changed .lay
 
 ability-at-requires : tie.Need-ability-at-requires Inv-loop μ-loop
 ability-at-requires c κs = omega (arith, c .before .before .before .before .fewer .ensures, c .before .before .before .before .before .before .before .before .pre .1 .few, c .before .before .loop-test .taken)
 
 make-tparam-requires : tie.Need-make-tparam-requires Inv-loop μ-loop
-make-tparam-requires c κs = c .before .before .before .before .before .loop .inv .lay
+make-tparam-requires c κs = c .before .before .before .before .before .loop .inv .changed .lay
 
 done-of-requires : tie.Need-done-of-requires Inv-loop μ-loop
 done-of-requires c κs = search needs
@@ -71,8 +71,8 @@ returns c =
     let arg-at = c .before .before .before .before .before .before .before .before .before .arg-at in
     let ability-at = c .before .before .before .before .before .before .before .before .ability-at in
     let make-tparam = c .before .before .before .before .before .before .make-tparam in
-    made-stop _ _ _ _ _ _ _ _ _ (pre .0) (pre .1) (tparam-count .ensures) (fewer .ensures) _ _ _ _ (loop .inv)
-    (loop-test .taken) _ (arg-at .ensures) _ (ability-at .ensures) _ _ _ (make-tparam .ensures)
+    made-stop _ _ _ _ _ _ _ _ _ (pre .0) (pre .1) (tparam-count .ensures) (fewer .ensures) (loop .inv)
+    (loop-test .taken) (arg-at .ensures) _ (ability-at .ensures) (make-tparam .ensures)
     (c .before .before .done-of .ensures) (c .enum-told .given .1)
 
 wide-requires : tie.Need-wide-requires Inv-loop μ-loop
@@ -116,15 +116,15 @@ loop-again c =
     let arg-at = c .before .before .before .before .before .before .before .before .before .before .before .arg-at in
     let ability-at = c .before .before .before .before .before .before .before .before .before .before .ability-at in
     let make-tparam = c .before .before .before .before .before .before .before .before .make-tparam in
-    made-more _ _ _ _ _ _ _ _ _ (pre .0) (pre .1) (tparam-count .ensures) (fewer .ensures) _ _ _ _ (loop .inv)
-    (loop-test .taken) _ (arg-at .ensures) _ (ability-at .ensures) _ _ _ (make-tparam .ensures)
-    (c .before .before .before .before .done-of .ensures) _ _ (c .before .before .t .given .1) (c .wide .ensures)
+    made-more _ _ _ _ _ _ _ _ _ (pre .0) (pre .1) (tparam-count .ensures) (fewer .ensures) (loop .inv)
+    (loop-test .taken) (arg-at .ensures) _ (ability-at .ensures) (make-tparam .ensures)
+    (c .before .before .before .before .done-of .ensures) (c .before .before .t .given .1) (c .wide .ensures)
 
 same-length-2 : tie.Need-same-length-2 Inv-loop μ-loop
-same-length-2 c = c .before .loop .inv .lay .size ∙ sym (c .before .before .before .before .before .before .pre .0 .size)
+same-length-2 c = c .before .loop .inv .changed .lay .size ∙ sym (c .before .before .before .before .before .before .pre .0 .size)
 
 returns-2 : tie.Need-returns-2 Inv-loop μ-loop
-returns-2 c = made-end _ _ _ _ _ _ _ _ _ (c .before .before .before .before .before .before .pre .0) (c .before .before .before .before .before .before .pre .1) (c .before .before .before .tparam-count .ensures) (c .before .before .fewer .ensures) _ _ _ _ (c .before .loop .inv) (c .loop-test .left)
+returns-2 c = made-end _ _ _ _ _ _ _ _ _ (c .before .before .before .before .before .before .pre .0) (c .before .before .before .before .before .before .pre .1) (c .before .before .before .tparam-count .ensures) (c .before .before .fewer .ensures) (c .before .loop .inv) (c .loop-test .left)
 
 pub make-tparams-spec : {M : Type 1} → statement M
 make-tparams-spec =

@@ -1,5 +1,6 @@
 -- `instantiate::make_tvar` meets its contract. Assumes nothing.
-use Rattle.instantiate.proofs.TvarLaws.{tvar-stop, tvar-small, tvar-node}
+use Rattle.instantiate.proofs.TvarLaws.{tvar-stop, tvar-node}
+use Rattle.table.proofs.Grown.{var-small}
 use borrow.Author.Needs.{needs}
 use Rattle.instantiate.proofs.make_tvar.Statement.{statement}
 use Rattle.instantiate.proofs.make_tvar.Tie as tie
@@ -29,7 +30,9 @@ returns : tie.Need-returns
 returns c = tvar-stop _ _ _ _ _ _ (c .before .before .before .before .before .before .take-var .ensures .0) (c .before .before .done-of .ensures) (c .enum-told .given .1)
 
 tvar-requires : tie.Need-tvar-requires
-tvar-requires c κs = tvar-small _ _ _ _ _ _ (c .before .before .before .before .before .before .before .take-var .ensures .0) (c .before .before .before .before .before .before .before .take-var .ensures .1) (c .before .before .before .done-of .ensures) (c .before .x .given .1)
+tvar-requires c κs =
+    let take-var = c .before .before .before .before .before .before .before .take-var in
+    var-small (take-var .result .out) (take-var .ensures .0 .lay) (take-var .ensures .1) (c .before .before .before .done-of .ensures) (c .before .x .given .1)
 
 push-node-requires : tie.Need-push-node-requires
 push-node-requires c κs = search needs

@@ -1,8 +1,9 @@
 -- `join::join_impl`, `join_impl_types` and `join_tvar` meet their contracts, as one cycle of calls. Twice the depth left falls, and stands one higher where
 -- the argument walk and the merge call the operand walk at the same depth. Assumes nothing.
 use Rattle.join.proofs.Operands.{merge-lay, settled-after, ready-in, tvar-stop, tvar-inner, tvar-close, impl-deep, arm-below, arm-left, arm-right, arm-subtype, arm-arity, arm-incompatible, arm-disagree, arm-refs, arm-applies, arm-vars, left-is, left-merge, right-is, right-merge}
-use Rattle.join.proofs.Args.{Gathering, gather-none, gather-room, gather-in, gather-stop, gather-more, gathered}
-use Rattle.merge.proofs.Answers.{node-in, still-in}
+use Rattle.join.proofs.Args.{Gathering, gather-none, gather-in, gather-stop, gather-more, gathered}
+use Rattle.table.proofs.Steps.{node-in}
+use Rattle.table.proofs.Grown.{still-in}
 use Rattle.arms.specs.Arms.{case-of}
 use Rattle.table.proofs.Steps.{after-now}
 use mathlib.Core.Path.{refl, sym, _∙_}
@@ -87,7 +88,7 @@ join-impl-settled-requires : (t : ℕ) → join-impl-lts.Need-settled-requires (
 join-impl-settled-requires t c κs = tt
 
 join-impl-returns : (t : ℕ) → join-impl-lts.Need-returns (join-impl-calls t) (join-impl-at t) join-impl.Post
-join-impl-returns t c = settled-after _ _ _ _ _ _ (c .settled .ensures) (after-now _ _ _ _ (c .before .before .before .pre .1 .0) tt (λ ds. impl-deep _ _ _ _ _ (c .before .if1 .taken)))
+join-impl-returns t c = settled-after _ _ _ _ _ _ (c .settled .ensures) (after-now (c .before .before .before .pre .1 .0) tt (λ ds k. impl-deep _ _ _ _ _ (c .before .if1 .taken)))
 
 join-impl-node-at-requires : (t : ℕ) → join-impl-lts.Need-node-at-requires (join-impl-calls t) (join-impl-at t) join-impl.Post
 join-impl-node-at-requires t c κs = c .before .before .before .pre .1 .0
@@ -162,7 +163,7 @@ join-impl-join-impl-types-requires t c κs =
     )
 
 join-impl-push-types-requires : (t : ℕ) → join-impl-lts.Need-push-types-requires (join-impl-calls t) (join-impl-at t) join-impl.Post
-join-impl-push-types-requires t c κs = (c .before .before .before .join-impl-types .ensures .lay, c .before .before .before .join-impl-types .ensures .types)
+join-impl-push-types-requires t c κs = (c .before .before .before .join-impl-types .ensures .changed .lay, c .before .before .before .join-impl-types .ensures .inside)
 
 join-impl-enum-known-id1 : (t : ℕ) → join-impl-lts.Need-enum-known-id1 (join-impl-calls t) (join-impl-at t) join-impl.Post
 join-impl-enum-known-id1 t c = search needs
@@ -282,7 +283,7 @@ join-impl-same-length-3 t c =
     let c12 = c .before .before .before .before .before .before .before .before .before .before .before .before in
     let pre = c12 .before .before .before .before .before .before .before .pre in
     let join-impl = c .before .before .before .before .before .before .join-impl in
-    c .before .before .push-ref .ensures .then _ _ _ (join-impl .ensures) .changed .lay .size ∙ sym (pre .1 .0 .size)
+    c .before .before .push-ref .ensures .changed .lay .size ∙ sym (pre .1 .0 .size)
 
 join-impl-returns-4 : (t : ℕ) → join-impl-lts.Need-returns-4 (join-impl-calls t) (join-impl-at t) join-impl.Post
 join-impl-returns-4 t c =
@@ -304,7 +305,7 @@ join-impl-same-length-4 t c =
     let c12 = c .before .before .before .before .before .before .before .before .before .before .before .before in
     let pre = c12 .before .before .before .before .before .before .pre in
     let join-impl-types = c .before .before .before .before .before .before .join-impl-types in
-    c .before .before .push-types .ensures .then _ _ _ (join-impl-types .ensures) .changed .lay .size
+    c .before .before .push-types .ensures .changed .lay .size
     ∙ sym (pre .1 .0 .size)
 
 join-impl-returns-5 : (t : ℕ) → join-impl-lts.Need-returns-5 (join-impl-calls t) (join-impl-at t) join-impl.Post
@@ -336,7 +337,7 @@ join-impl-returns-6 t c =
     (node-at2 .ensures) _ (arm-of .ensures) _ _ _ _ (id1 .given .1) (c .before .before .join-tvar .ensures)
 
 join-impl-same-length-6 : (t : ℕ) → join-impl-lts.Need-same-length-6 (join-impl-calls t) (join-impl-at t) join-impl.Post
-join-impl-same-length-6 t c = c .before .before .before .before .before .meet-tvar .ensures .lay .size ∙ sym (c .before .before .before .before .before .before .before .before .before .before .before .before .before .before .before .before .before .pre .1 .0 .size)
+join-impl-same-length-6 t c = c .before .before .before .before .before .meet-tvar .ensures .changed .lay .size ∙ sym (c .before .before .before .before .before .before .before .before .before .before .before .before .before .before .before .before .before .pre .1 .0 .size)
 
 join-impl-returns-7 : (t : ℕ) → join-impl-lts.Need-returns-7 (join-impl-calls t) (join-impl-at t) join-impl.Post
 join-impl-returns-7 t c =
@@ -370,7 +371,7 @@ join-impl-returns-8 t c =
     (c .before .before .join-tvar2 .ensures)
 
 join-impl-same-length-8 : (t : ℕ) → join-impl-lts.Need-same-length-8 (join-impl-calls t) (join-impl-at t) join-impl.Post
-join-impl-same-length-8 t c = c .before .before .before .before .before .meet-tvar2 .ensures .lay .size ∙ sym (c .before .before .before .before .before .before .before .before .before .before .before .before .before .before .before .before .before .pre .1 .0 .size)
+join-impl-same-length-8 t c = c .before .before .before .before .before .meet-tvar2 .ensures .changed .lay .size ∙ sym (c .before .before .before .before .before .before .before .before .before .before .before .before .before .before .before .before .before .pre .1 .0 .size)
 
 join-impl-returns-9 : (t : ℕ) → join-impl-lts.Need-returns-9 (join-impl-calls t) (join-impl-at t) join-impl.Post
 join-impl-returns-9 t c =
@@ -473,13 +474,13 @@ join-impl-types-fewer-requires : (t : ℕ) → join-impl-types-lts.Need-fewer-re
 join-impl-types-fewer-requires t c κs = tt
 
 join-impl-types-loop-holds : (t : ℕ) → join-impl-types-lts.Need-loop-holds (join-impl-types-calls t) (join-impl-types-at t) join-impl-types.Post join-impl-types-Inv-loop join-impl-types-μ-loop
-join-impl-types-loop-holds t c = gather-none _ _ _ _ _ _ _ _ _ _ (c .before .before .pre .1 .0) (c .before .before .pre .1 .1 .0) (c .before .before .pre .1 .1 .1) (c .fewer .ensures) refl
+join-impl-types-loop-holds t c = gather-none (c .before .before .pre .1 .0) (c .before .before .pre .1 .1 .0) (c .before .before .pre .1 .1 .1) (c .fewer .ensures) refl
 
 join-impl-types-arg-at-requires : (t : ℕ) → join-impl-types-lts.Need-arg-at-requires (join-impl-types-calls t) (join-impl-types-at t) join-impl-types.Post join-impl-types-Inv-loop join-impl-types-μ-loop
-join-impl-types-arg-at-requires t c κs = c .before .before .loop .inv .lay
+join-impl-types-arg-at-requires t c κs = c .before .before .loop .inv .walked .changed .lay
 
 join-impl-types-arg-at-requires-2 : (t : ℕ) → join-impl-types-lts.Need-arg-at-requires-2 (join-impl-types-calls t) (join-impl-types-at t) join-impl-types.Post join-impl-types-Inv-loop join-impl-types-μ-loop
-join-impl-types-arg-at-requires-2 t c κs = c .before .before .before .before .loop .inv .lay
+join-impl-types-arg-at-requires-2 t c κs = c .before .before .before .before .loop .inv .walked .changed .lay
 
 join-impl-types-join-impl-requires : (t : ℕ) → join-impl-types-lts.Need-join-impl-requires (join-impl-types-calls t) (join-impl-types-at t) join-impl-types.Post join-impl-types-Inv-loop join-impl-types-μ-loop
 join-impl-types-join-impl-requires t c κs =
@@ -487,8 +488,8 @@ join-impl-types-join-impl-requires t c κs =
     let loop-test = c .before .before .before .before .before .loop-test in (
       omega arith,
       (
-        loop .inv .lay,
-        gather-in _ _ _ _ _ _ _ _ _ _ _ _ _ (loop .inv) (loop-test .taken) _ _
+        loop .inv .walked .changed .lay,
+        gather-in (loop .inv) (loop-test .taken)
             (c .before .before .before .arg-at .ensures) (c .before .arg-at2 .ensures),
       ),
     )
@@ -512,8 +513,8 @@ join-impl-types-returns t c =
     let arg-at = c .before .before .before .before .before .before .before .before .before .before .arg-at in
     let arg-at2 = c .before .before .before .before .before .before .before .before .arg-at2 in
     let join-impl = c .before .before .before .before .before .before .join-impl in
-    gather-stop _ _ _ _ _ _ _ _ _ _ _ _ _ (loop .inv) (loop-test .taken) _ _ (arg-at .ensures) (arg-at2 .ensures) _ _
-    (join-impl .ensures) _ (c .before .before .done-of .ensures) (c .enum-told .given .1)
+    gather-stop (loop .inv) (loop-test .taken) (arg-at .ensures) (arg-at2 .ensures)
+    (join-impl .ensures) (c .before .before .done-of .ensures) (c .enum-told .given .1)
 
 join-impl-types-cast-k : (t : ℕ) → join-impl-types-lts.Need-cast-k (join-impl-types-calls t) (join-impl-types-at t) join-impl-types.Post join-impl-types-Inv-loop join-impl-types-μ-loop
 join-impl-types-cast-k t c = search needs
@@ -525,12 +526,7 @@ join-impl-types-array-write-tys : (t : ℕ) → join-impl-types-lts.Need-array-w
 join-impl-types-array-write-tys t c =
     let loop = c .before .before .before .before .before .before .before .before .before .before .before .before .before .before .loop in
     let loop-test = c .before .before .before .before .before .before .before .before .before .before .before .before .before .loop-test in
-    let arg-at = c .before .before .before .before .before .before .before .before .before .before .before .arg-at in
-    let arg-at2 = c .before .before .before .before .before .before .before .before .before .arg-at2 in
-    omega (
-      arith,
-      gather-room _ _ _ _ _ _ _ _ _ _ _ _ _ (loop .inv) (loop-test .taken) _ _ (arg-at .ensures) (arg-at2 .ensures),
-    )
+    omega (arith, loop .inv .walked .few, loop-test .taken)
 
 join-impl-types-add-i : (t : ℕ) → join-impl-types-lts.Need-add-i (join-impl-types-calls t) (join-impl-types-at t) join-impl-types.Post join-impl-types-Inv-loop join-impl-types-μ-loop
 join-impl-types-add-i t c = omega arith
@@ -545,14 +541,14 @@ join-impl-types-loop-again t c =
     let arg-at = c .before .before .before .before .before .before .before .before .before .before .before .arg-at in
     let arg-at2 = c .before .before .before .before .before .before .before .before .before .arg-at2 in
     let join-impl = c .before .before .before .before .before .before .before .join-impl in
-    gather-more _ _ _ _ _ _ _ _ _ _ _ _ _ (loop .inv) (loop-test .taken) _ _ (arg-at .ensures) (arg-at2 .ensures) _ _
-    (join-impl .ensures) _ (c .before .before .before .done-of .ensures) _ (c .before .t .given .1)
+    gather-more (loop .inv) (loop-test .taken) (arg-at .ensures) (arg-at2 .ensures)
+    (join-impl .ensures) (c .before .before .before .done-of .ensures) (c .before .t .given .1) refl
 
 join-impl-types-same-length-2 : (t : ℕ) → join-impl-types-lts.Need-same-length-2 (join-impl-types-calls t) (join-impl-types-at t) join-impl-types.Post join-impl-types-Inv-loop join-impl-types-μ-loop
-join-impl-types-same-length-2 t c = c .before .loop .inv .lay .size ∙ sym (c .before .before .before .before .pre .1 .0 .size)
+join-impl-types-same-length-2 t c = c .before .loop .inv .walked .changed .lay .size ∙ sym (c .before .before .before .before .pre .1 .0 .size)
 
 join-impl-types-returns-2 : (t : ℕ) → join-impl-types-lts.Need-returns-2 (join-impl-types-calls t) (join-impl-types-at t) join-impl-types.Post join-impl-types-Inv-loop join-impl-types-μ-loop
-join-impl-types-returns-2 t c = gathered _ _ _ _ _ _ _ _ _ _ _ _ _ (c .before .loop .inv) (c .loop-test .left)
+join-impl-types-returns-2 t c = gathered (c .before .loop .inv) (c .loop-test .left)
 
 join-tvar-open-tvar-requires : (t : ℕ) → join-tvar-lts.Need-open-tvar-requires (join-tvar-calls t) (join-tvar-at t) join-tvar.Post
 join-tvar-open-tvar-requires t c κs = c .before .before .pre .1
@@ -569,7 +565,7 @@ join-tvar-join-impl-requires t c κs =
     let what2 = c .before .before .what2 in (
       omega arith,
       (
-        open-tvar .ensures .lay,
+        open-tvar .ensures .changed .lay,
         (
           ready-in _ (open-tvar .result .what) _ _ _ _ (open-tvar .ensures .inside) (what2 .given .1) .0,
           ready-in _ (open-tvar .result .what) _ _ _ _ (open-tvar .ensures .inside) (what2 .given .1) .1 .0,
@@ -620,7 +616,7 @@ join-tvar-close-tvar-requires t c κs =
     )
 
 join-tvar-same-length-2 : (t : ℕ) → join-tvar-lts.Need-same-length-2 (join-tvar-calls t) (join-tvar-at t) join-tvar.Post
-join-tvar-same-length-2 t c = c .before .before .before .before .before .before .open-tvar .ensures .lay .size ∙ sym (c .before .before .before .before .before .before .before .before .before .pre .1 .size)
+join-tvar-same-length-2 t c = c .before .before .before .before .before .before .open-tvar .ensures .changed .lay .size ∙ sym (c .before .before .before .before .before .before .before .before .before .pre .1 .size)
 
 join-tvar-returns-2 : (t : ℕ) → join-tvar-lts.Need-returns-2 (join-tvar-calls t) (join-tvar-at t) join-tvar.Post
 join-tvar-returns-2 t c = tvar-stop _ _ _ _ _ _ _ _ _ _ (c .before .before .before .before .before .before .open-tvar .ensures) _ (c .before .what .given .1)

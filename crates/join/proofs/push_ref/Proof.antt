@@ -1,6 +1,6 @@
 -- `join::push_ref` meets its contract. Assumes nothing.
-use Rattle.merge.proofs.Answers.{node-in}
-use Rattle.join.proofs.Operands.{follows-stop, follows-then}
+use mathlib.Core.Path.{sym, _∙_}
+use Rattle.table.proofs.Steps.{node-in, stop-is, then-is, after-now, after-is}
 use borrow.Author.Needs.{needs}
 use Rattle.join.proofs.push_ref.Statement.{statement}
 use Rattle.join.proofs.push_ref.Tie as tie
@@ -15,7 +15,7 @@ enum-told : tie.Need-enum-told
 enum-told c = search needs
 
 returns : tie.Need-returns
-returns c = follows-stop _ _ _ _ (c .before .before .done-of .ensures) (c .enum-told .given .1)
+returns c = after-now (c .before .before .before .before .before .pre .0) (c .before .before .before .before .before .pre .1) (λ ds k. stop-is _ _ _ (sym (c .before .before .done-of .ensures) ∙ c .enum-told .given .1))
 
 push-node-requires : tie.Need-push-node-requires
 push-node-requires c κs =
@@ -30,7 +30,7 @@ same-length : tie.Need-same-length
 same-length c = search needs
 
 returns-2 : tie.Need-returns-2
-returns-2 c = follows-then _ _ _ _ _ _ _ (c .before .before .before .before .before .before .before .done-of .ensures) (c .before .before .before .before .before .t .given .1) (c .before .before .push-node .ensures)
+returns-2 c = after-is (λ ds k. then-is _ _ _ _ (sym (c .before .before .before .before .before .before .before .done-of .ensures) ∙ c .before .before .before .before .before .t .given .1)) (c .before .before .push-node .ensures)
 
 pub push-ref-spec : {M : Type 1} → statement M
 push-ref-spec =

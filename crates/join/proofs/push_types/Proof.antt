@@ -1,6 +1,7 @@
 -- `join::push_types` meets its contract. Assumes nothing.
 use mathlib.Core.Path.{sym, _∙_}
-use Rattle.join.proofs.Operands.{follows-types-stop, follows-types-then}
+use Rattle.table.proofs.Steps.{listed-stop, after-now}
+use Rattle.join.proofs.Operands.{types-parts, types-then}
 use borrow.Author.Needs.{needs}
 use Rattle.join.proofs.push_types.Statement.{statement}
 use Rattle.join.proofs.push_types.Tie as tie
@@ -18,16 +19,20 @@ settled-requires : tie.Need-settled-requires
 settled-requires c κs = search needs
 
 returns : tie.Need-returns
-returns c = rw (c .settled .ensures) (follows-types-stop _ _ _ _ (c .before .before .before .done-of .ensures) (c .before .enum-told .given .1))
+returns c =
+    let none = sym (c .before .before .before .done-of .ensures) ∙ c .before .enum-told .given .1 in
+    rw (c .settled .ensures) (after-now (c .before .before .before .before .before .before .before .pre .0) (c .before .before .before .before .before .before .before .pre .1 .inside none) (λ ds k. listed-stop _ _ _ _ none))
 
 push-apply-requires : tie.Need-push-apply-requires
-push-apply-requires c κs = (c .before .before .before .before .before .before .before .before .pre .0, c .before .before .before .before .before .before .before .before .pre .1 .parts _ (sym (c .before .before .before .before .done-of .ensures) ∙ c .before .before .m .given .1))
+push-apply-requires c κs =
+    let pre = c .before .before .before .before .before .before .before .before .pre in
+    (pre .0, types-parts _ _ (c .before .before .before .before .done-of .ensures) (c .before .before .m .given .1) (pre .1))
 
 same-length : tie.Need-same-length
 same-length c = search needs
 
 returns-2 : tie.Need-returns-2
-returns-2 c = follows-types-then _ _ _ _ _ _ _ (c .before .before .before .before .before .before .before .done-of .ensures) (c .before .before .before .before .before .m .given .1) (c .before .before .push-apply .ensures)
+returns-2 c = types-then _ _ (c .before .before .before .before .before .before .before .done-of .ensures) (c .before .before .before .before .before .m .given .1) _ _ _ (c .before .before .push-apply .ensures)
 
 pub push-types-spec : {M : Type 1} → statement M
 push-types-spec =

@@ -41,8 +41,8 @@ returns : tie.Need-returns
 returns c =
     let pre = c .before .before .before .before .before .before .before .before .pre in
     let bound-at = c .before .before .before .before .before .bound-at in
-    after-now _ _ _ _ (pre .0) tt
-    (λ ds. close-bound _ _ _ _ _ _ _ _ _ _ (c .node-at .result)
+    after-now (pre .0) tt
+    (λ ds k. close-bound _ _ _ _ _ _ _ _ _ _ (c .node-at .result)
     (sym (ap found (c .before .before .before .t .given .1)) ∙ bound-at .ensures ds)
     (c .node-at .ensures ds))
 

@@ -1,5 +1,5 @@
 -- `merge::meet_tvar` meets its contract. Assumes nothing.
-use Rattle.merge.proofs.Answers.{var-small, still-in}
+use Rattle.table.proofs.Grown.{var-small, still-in}
 use Rattle.merge.proofs.Laws.{meets-free, meets-stop, meets-fresh}
 use borrow.Author.Needs.{needs}
 use Rattle.merge.proofs.meet_tvar.Statement.{statement}
@@ -32,7 +32,7 @@ enum-known-n c = search needs
 tvar-requires : tie.Need-tvar-requires
 tvar-requires c κs =
     let take-var = c .before .before .before .before .before .before .before .take-var in
-    var-small _ _ (take-var .result .out) _ _ (take-var .ensures .0 .lay) (take-var .ensures .1)
+    var-small (take-var .result .out) (take-var .ensures .0 .lay) (take-var .ensures .1)
     (c .before .before .before .done-of .ensures) (c .before .n .given .1)
 
 bind-var-requires : tie.Need-bind-var-requires

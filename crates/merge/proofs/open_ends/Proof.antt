@@ -1,6 +1,7 @@
 -- `merge::open_ends` meets its contract. Assumes nothing.
 use mathlib.Core.Path.{sym, _∙_}
-use Rattle.merge.proofs.Answers.{var-small, still-in, node-in}
+use Rattle.table.proofs.Steps.{node-in}
+use Rattle.table.proofs.Grown.{var-small, still-in}
 use Rattle.merge.proofs.Laws.{ends-no-var, ends-no-node, ends-no-second, ends-ready}
 use borrow.Author.Needs.{needs}
 use Rattle.merge.proofs.open_ends.Statement.{statement}
@@ -27,7 +28,7 @@ returns c = ends-no-var _ _ _ _ _ _ _ _ _ _ _ _ _ (c .before .before .before .be
 tvar-requires : tie.Need-tvar-requires
 tvar-requires c κs =
     let take-var = c .before .before .before .before .before .before .before .take-var in
-    var-small _ _ (take-var .result .out) _ _ (take-var .ensures .0 .lay) (take-var .ensures .1)
+    var-small (take-var .result .out) (take-var .ensures .0 .lay) (take-var .ensures .1)
     (c .before .before .before .done-of .ensures) (c .before .n .given .1)
 
 merge-num-requires : tie.Need-merge-num-requires

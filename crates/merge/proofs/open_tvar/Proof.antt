@@ -1,5 +1,6 @@
 -- `merge::open_tvar` meets its contract. Assumes nothing.
-use Rattle.merge.proofs.Answers.{still-in, node-in}
+use Rattle.table.proofs.Steps.{node-in}
+use Rattle.table.proofs.Grown.{still-in}
 use mathlib.Core.Path.{sym, _∙_}
 use Rattle.merge.proofs.Laws.{open-no-first, open-no-second, open-both}
 use borrow.Author.Needs.{needs}
@@ -96,7 +97,7 @@ same-length-3 c =
     let c12 = c .before .before .before .before .before .before .before .before .before .before .before .before in
     let c24 = c12 .before .before .before .before .before .before .before .before .before .before .before .before in
     let pre = c24 .before .before .before .before .before .before .before .pre in
-    c .before .before .open-ends .ensures .lay .size ∙ sym (pre .size)
+    c .before .before .open-ends .ensures .changed .lay .size ∙ sym (pre .size)
 
 returns-3 : tie.Need-returns-3
 returns-3 c =

@@ -1,5 +1,5 @@
 -- `merge::show_both` meets its contract. Assumes nothing.
-use Rattle.merge.proofs.Answers.{still-in}
+use Rattle.table.proofs.Grown.{still-in}
 use Rattle.merge.proofs.Laws.{show-no-first, show-no-second, show-done}
 use borrow.Author.Needs.{needs}
 use Rattle.merge.proofs.show_both.Statement.{statement}

@@ -13,7 +13,7 @@ use Rattle.reader.proofs.place_node.Tie as tie
 
 returns : tie.Need-returns
 unfolding put-node outcome
-returns c = after-now _ _ (Refused Full) _ (c .before .before .pre .0) tt (λ ds. rw (c .if1 .taken) refl)
+returns c = after-now (c .before .before .pre .0) tt (λ ds k. rw (c .if1 .taken) refl)
 
 enum-told : tie.Need-enum-told
 enum-told c = search needs
@@ -73,7 +73,7 @@ same-length c = search needs
 
 returns-2 : tie.Need-returns-2
 unfolding put-node
-returns-2 c = after-is _ _ _ _ _ _ (λ s. rw (c .before .before .before .before .enum-told .given .1, c .before .before .before .before .before .before .if1 .left) refl) (c .before .before .push-node .ensures)
+returns-2 c = after-is (λ ds k. rw (c .before .before .before .before .enum-told .given .1, c .before .before .before .before .before .before .if1 .left) refl) (c .before .before .push-node .ensures)
 
 same-length-2 : tie.Need-same-length-2
 same-length-2 c = search needs
@@ -84,7 +84,7 @@ returns-3 c =
     let args = c .before .before .before .before .before .before .before .before .before .args in
     let if1 = c .before .before .before .before .before .before .before .if1 in
     let shape = c .before .before .before .before .before .shape in
-    after-is _ _ _ _ _ _ (λ s. rw (shape .given .1, if1 .left, getD-take 1 (args .t6) 0 0 (omega arith)) refl)
+    after-is (λ ds k. rw (shape .given .1, if1 .left, getD-take 1 (args .t6) 0 0 (omega arith)) refl)
     (c .before .before .push-node2 .ensures)
 
 same-length-3 : tie.Need-same-length-3
@@ -92,35 +92,35 @@ same-length-3 c = search needs
 
 returns-4 : tie.Need-returns-4
 unfolding put-node
-returns-4 c = after-is _ _ _ _ _ _ (λ s. rw (c .before .before .before .before .enum-told2 .given .1, c .before .before .before .before .before .before .if1 .left) refl) (c .before .before .push-node3 .ensures)
+returns-4 c = after-is (λ ds k. rw (c .before .before .before .before .enum-told2 .given .1, c .before .before .before .before .before .before .if1 .left) refl) (c .before .before .push-node3 .ensures)
 
 same-length-4 : tie.Need-same-length-4
 same-length-4 c = search needs
 
 returns-5 : tie.Need-returns-5
 unfolding put-node
-returns-5 c = after-is _ _ _ _ _ _ (λ s. rw (c .before .before .before .before .before .shape2 .given .1, c .before .before .before .before .before .before .before .if1 .left) refl) (c .before .before .push-apply .ensures)
+returns-5 c = after-is (λ ds k. rw (c .before .before .before .before .before .shape2 .given .1, c .before .before .before .before .before .before .before .if1 .left) refl) (c .before .before .push-apply .ensures)
 
 same-length-5 : tie.Need-same-length-5
 same-length-5 c = search needs
 
 returns-6 : tie.Need-returns-6
 unfolding put-node
-returns-6 c = after-is _ _ _ _ _ _ (λ s. rw (c .before .before .before .before .enum-told3 .given .1, c .before .before .before .before .before .before .if1 .left) refl) (c .before .before .push-node4 .ensures)
+returns-6 c = after-is (λ ds k. rw (c .before .before .before .before .enum-told3 .given .1, c .before .before .before .before .before .before .if1 .left) refl) (c .before .before .push-node4 .ensures)
 
 same-length-6 : tie.Need-same-length-6
 same-length-6 c = search needs
 
 returns-7 : tie.Need-returns-7
 unfolding put-node
-returns-7 c = after-is _ _ _ _ _ _ (λ s. rw (c .before .before .before .before .enum-told4 .given .1, c .before .before .before .before .before .before .if1 .left) refl) (c .before .before .push-node5 .ensures)
+returns-7 c = after-is (λ ds k. rw (c .before .before .before .before .enum-told4 .given .1, c .before .before .before .before .before .before .if1 .left) refl) (c .before .before .push-node5 .ensures)
 
 same-length-7 : tie.Need-same-length-7
 same-length-7 c = search needs
 
 returns-8 : tie.Need-returns-8
 unfolding put-node
-returns-8 c = after-is _ _ _ _ _ _ (λ s. rw (c .before .before .before .before .enum-told5 .given .1, c .before .before .before .before .before .before .if1 .left) refl) (c .before .before .push-node6 .ensures)
+returns-8 c = after-is (λ ds k. rw (c .before .before .before .before .enum-told5 .given .1, c .before .before .before .before .before .before .if1 .left) refl) (c .before .before .push-node6 .ensures)
 
 pub place-node-spec : {M : Type 1} → statement M
 place-node-spec =

@@ -14,7 +14,7 @@ same-length : tie.Need-same-length
 same-length c = search needs
 
 returns : tie.Need-returns
-returns c = ran-constraint _ (c .before .before .before .base-type-constraint .ensures) (c .shown .ensures)
+returns c = ran-constraint _ _ (c .before .before .before .base-type-constraint .ensures) (c .shown .ensures)
 
 pub run-base-type-spec : {M : Type 1} → statement M
 run-base-type-spec =

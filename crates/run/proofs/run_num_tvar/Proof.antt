@@ -20,7 +20,7 @@ enum-known-n : tie.Need-enum-known-n
 enum-known-n c = search needs
 
 tvar-requires : tie.Need-tvar-requires
-tvar-requires c κs = var-number _ _ (c .before .before .before .before .before .before .before .take-var .ensures) (c .before .before .before .done-of .ensures) (c .before .n .given .1)
+tvar-requires c κs = var-number _ _ _ (c .before .before .before .before .before .before .before .take-var .ensures) (c .before .before .before .done-of .ensures) (c .before .n .given .1)
 
 set-num-var-requires : tie.Need-set-num-var-requires
 set-num-var-requires c κs = search needs
@@ -32,7 +32,7 @@ same-length : tie.Need-same-length
 same-length c = search needs
 
 returns : tie.Need-returns
-returns c = ran-no-tvar _ (c .before .before .before .before .before .before .before .take-var .ensures) _ (c .before .before .before .done-of .ensures) (c .before .enum-told .given .1) (c .shown .ensures)
+returns c = ran-no-tvar _ _ (c .before .before .before .before .before .before .before .take-var .ensures) _ (c .before .before .before .done-of .ensures) (c .before .enum-told .given .1) (c .shown .ensures)
 
 same-length-2 : tie.Need-same-length-2
 same-length-2 c = search needs
@@ -43,7 +43,7 @@ returns-2 c =
     let done-of = c .before .before .before .before .before .before .before .before .before .done-of in
     let n = c .before .before .before .before .before .before .before .n in
     let tvar = c .before .before .before .before .before .tvar in
-    ran-num-tvar _ (take-var .ensures) _ _ (done-of .ensures) (n .given .1) _ (tvar .ensures)
+    ran-num-tvar _ _ (take-var .ensures) _ _ (done-of .ensures) (n .given .1) _ (tvar .ensures)
     (c .before .before .before .set-num-var .ensures) (c .shown2 .ensures)
 
 pub run-num-tvar-spec : {M : Type 1} → statement M

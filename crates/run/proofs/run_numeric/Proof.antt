@@ -17,7 +17,7 @@ same-length : tie.Need-same-length
 same-length c = search needs
 
 returns : tie.Need-returns
-returns c = rw (← c .before .before .before .before .before .kind-of .ensures) (ran-constraint _ (c .before .before .before .numeric-constraint .ensures) (c .shown .ensures))
+returns c = rw (← c .before .before .before .before .before .kind-of .ensures) (ran-constraint _ _ (c .before .before .before .numeric-constraint .ensures) (c .shown .ensures))
 
 pub run-numeric-spec : {M : Type 1} → statement M
 run-numeric-spec =

@@ -14,7 +14,7 @@ same-length : tie.Need-same-length
 same-length c = search needs
 
 returns : tie.Need-returns
-returns c = ran-constraint _ (c .before .before .before .single-type-constraint .ensures) (c .shown .ensures)
+returns c = ran-constraint _ _ (c .before .before .before .single-type-constraint .ensures) (c .shown .ensures)
 
 pub run-single-type-spec : {M : Type 1} → statement M
 run-single-type-spec =

@@ -14,7 +14,7 @@ same-length : tie.Need-same-length
 same-length c = search needs
 
 returns : tie.Need-returns
-returns c = ran-tvar _ (c .before .before .before .take-var .ensures) (c .shown .ensures)
+returns c = ran-tvar _ _ (c .before .before .before .take-var .ensures) (c .shown .ensures)
 
 pub run-tvar-spec : {M : Type 1} → statement M
 run-tvar-spec = tie.close (tie.spec take-var-requires shown-requires same-length returns)

@@ -35,8 +35,8 @@ answer-of-requires c κs =
     let p = c .before .before .before .before .before .before .before .before .before .before .before .before .before .pre in
     let d = c .before .before .before .before .run-bind .ensures in
     let b = rw (c .before .before .before .before .before .before .before .before .what2 .given .1) at (p .1) in
-    let above = begun-above (p .1) _ _ (d .grown) in
-    ((d .lay, (above, p .0 .1 .1 .0)), ((d .tells, (run-bytes (b .from) (c .before .before .before .before .run-bind .ensures), p .0 .1 .1 .1)), run-still (b .from) (c .before .before .before .before .run-bind .ensures)))
+    let above = begun-above (p .1) _ _ (d .left .grown) in
+    ((d .left .lay, (above, p .0 .1 .1 .0)), ((d .tells, (run-bytes (b .from) (c .before .before .before .before .run-bind .ensures), p .0 .1 .1 .1)), run-still (b .from) (c .before .before .before .before .run-bind .ensures)))
 
 enum-known-what-3 : tie.Need-enum-known-what-3
 enum-known-what-3 c = search needs
@@ -49,8 +49,8 @@ answer-of-requires-2 c κs =
     let p = c .before .before .before .before .before .before .before .before .before .before .before .before .before .before .pre in
     let d = c .before .before .before .before .run-look .ensures in
     let b = rw (c .before .before .before .before .before .before .before .before .before .what3 .given .1) at (p .1) in
-    let above = begun-above (p .1) _ _ (d .grown) in
-    ((d .lay, (above, p .0 .1 .1 .0)), ((d .tells, (run-bytes (b .from) (narrow (c .before .before .before .before .run-look .ensures)), p .0 .1 .1 .1)), run-still (b .from) (narrow (c .before .before .before .before .run-look .ensures))))
+    let above = begun-above (p .1) _ _ (d .left .grown) in
+    ((d .left .lay, (above, p .0 .1 .1 .0)), ((d .tells, (run-bytes (b .from) (narrow (c .before .before .before .before .run-look .ensures)), p .0 .1 .1 .1)), run-still (b .from) (narrow (c .before .before .before .before .run-look .ensures))))
 
 enum-known-what-4 : tie.Need-enum-known-what-4
 enum-known-what-4 c = search needs
@@ -63,8 +63,8 @@ answer-of-requires-3 c κs =
     let p = c .before .before .before .before .before .before .before .before .before .before .before .before .pre in
     let d = c .before .before .before .before .run-add .ensures in
     let b = rw (c .before .before .before .before .before .before .before .what4 .given .1) at (p .1) in
-    let above = begun-above (p .1) _ _ (d .grown) in
-    ((d .lay, (above, p .0 .1 .1 .0)), ((d .tells, (run-bytes (b .from) (narrow (c .before .before .before .before .run-add .ensures)), p .0 .1 .1 .1)), run-still (b .from) (narrow (c .before .before .before .before .run-add .ensures))))
+    let above = begun-above (p .1) _ _ (d .left .grown) in
+    ((d .left .lay, (above, p .0 .1 .1 .0)), ((d .tells, (run-bytes (b .from) (narrow (c .before .before .before .before .run-add .ensures)), p .0 .1 .1 .1)), run-still (b .from) (narrow (c .before .before .before .before .run-add .ensures))))
 
 same-length : tie.Need-same-length
 same-length c = search needs

@@ -8,10 +8,11 @@ use Rattle.tparams.specs.Pairs.{pairs}
 use Rattle.tparams.proofs.PairLaws.{args-in}
 use Rattle.definition.specs.Store.{args-at}
 use Rattle.table.specs.Rows.{places}
-use Rattle.table.specs.State.{view}
-use Rattle.walk.proofs.Steps.{nodes-grow, parts-grow, after-done, when-after, Any}
-use Rattle.walk.proofs.Parts.{ref-below, named}
-use Rattle.walk.proofs.Walk.{sp-apply, Walked, placed-length, arg-kept, named-below, walk-start, walk-stop, walk-more, walk-end, walk-parts}
+use Rattle.table.specs.State.{Any, view}
+use Rattle.table.proofs.Steps.{after-done}
+use Rattle.table.proofs.Grown.{nodes-grow, parts-grow}
+use Rattle.table.proofs.Parts.{ref-below, named}
+use Rattle.table.proofs.Walk.{sp-apply, Walked, placed-length, arg-kept, named-below, walk-start, walk-stop, walk-more, walk-end, walk-parts}
 use Rattle.tparams.proofs.DownLaws.{down-zero, down-unit, down-anything, down-error, down-var, down-param, ref-stop, ref-then, apply-walked, apply-by}
 use Prim.Native.Nat.{ℕ, _+_, _*_, _-_, _<_}
 use borrow.Fn.Kinds.{In}
@@ -63,13 +64,13 @@ subst-down-calls t = (stay-reads.Asked, stay-reads.Learnt, node-at-reads.Asked, 
 
 abbrev subst-apply-Inv-loop : subst-apply-lts.InvT-loop
 subst-apply-Inv-loop w₀ left ids args n loc k name first many parts₀ v₀ i₀ w parts v i =
-    Walked Any (D.subst-down left (pairs ids args 0 n)) (sp-apply loc (mark-of k) (name-of name)) (args-at (view w₀ v₀) (places first many)) w₀ v₀ w v parts i
+    Walked Any (D.subst-down left (pairs ids args 0 n)) (sp-apply loc (mark-of k) (name-of name)) (args-at (view w₀ v₀) (places first many)) many w₀ v₀ w v parts i
 
 abbrev subst-apply-μ-loop : subst-apply-lts.MeasureT-loop
 subst-apply-μ-loop w₀ left ids args n loc k name first many parts₀ v₀ i₀ w parts v i = many - i
 
 subst-apply-loop-holds : (t : ℕ) → subst-apply-lts.Need-loop-holds (subst-apply-calls t) (subst-apply-at t) subst-apply.Post subst-apply-Inv-loop subst-apply-μ-loop
-subst-apply-loop-holds t c = walk-start _ _ _ _ _ (placed-length _ _ _ _ (c .before .pre .1 .1 .0 .placed)) ((c .before .pre .1 .1 .0 .placed) .few) _ _ _ (c .before .pre .1 .0) refl
+subst-apply-loop-holds t c = walk-start (c .before .pre .1 .0) (placed-length _ _ _ _ (c .before .pre .1 .1 .0 .placed)) (c .before .pre .1 .1 .0 .placed .few) refl
 
 subst-apply-arg-at-requires : (t : ℕ) → subst-apply-lts.Need-arg-at-requires (subst-apply-calls t) (subst-apply-at t) subst-apply.Post subst-apply-Inv-loop subst-apply-μ-loop
 subst-apply-arg-at-requires t c κs = search needs
@@ -81,16 +82,16 @@ subst-apply-subst-down-requires t c κs =
     let loop-test = c .before .before .before .loop-test in (
       omega (arith, pre .0),
       (
-        loop .inv .lay,
+        loop .inv .changed .lay,
         (
           omega (
             arith,
-            (arg-kept _ _ _ _ (pre .1 .1 .0 .placed) _ _ (loop .inv .grown) _ _ (loop-test .taken)
+            (arg-kept _ _ _ _ (pre .1 .1 .0 .placed) _ _ (loop .inv .changed .grown) _ _ (loop-test .taken)
                 (c .before .arg-at .ensures)),
             pre .1 .1 .0 .smaller _ (loop-test .taken),
-            nodes-grow _ _ _ _ (loop .inv .grown),
+            nodes-grow _ _ _ _ (loop .inv .changed .grown),
           ),
-          parts-grow _ _ _ _ (nodes-grow _ _ _ _ (loop .inv .grown)) (pre .1 .1 .1),
+          parts-grow _ _ _ _ (nodes-grow _ _ _ _ (loop .inv .changed .grown)) (pre .1 .1 .1),
         ),
       ),
     )
@@ -115,11 +116,9 @@ subst-apply-returns t c =
     let arg-at = c .before .before .before .before .before .before .before .arg-at in
     let subst-down = c .before .before .before .before .before .subst-down in
     apply-walked _ _ _ _ _ _ _ _ _ _
-    (walk-stop _ _ _ _ _ (placed-length _ _ _ _ (pre .1 .1 .0 .placed)) ((pre .1 .1 .0 .placed) .few) _ _ _ _ _ _
-    (loop .inv) _ (loop-test .taken)
-    (arg-kept _ _ _ _ (pre .1 .1 .0 .placed) _ _ (loop .inv .grown) _ _ (loop-test .taken) (arg-at .ensures))
-    Any (λ ds k. k) _ _ (when-after Any _ _ _ _ _ (subst-down .ensures)) _
-    (c .before .before .done-of .ensures) (c .enum-told .given .1))
+    (walk-stop (loop .inv) (loop-test .taken)
+    (arg-kept _ _ _ _ (pre .1 .1 .0 .placed) _ _ (loop .inv .changed .grown) _ _ (loop-test .taken) (arg-at .ensures))
+    (subst-down .ensures) (c .before .before .done-of .ensures) (c .enum-told .given .1))
 
 subst-apply-wide-requires : (t : ℕ) → subst-apply-lts.Need-wide-requires (subst-apply-calls t) (subst-apply-at t) subst-apply.Post subst-apply-Inv-loop subst-apply-μ-loop
 subst-apply-wide-requires t c κs = search needs
@@ -153,20 +152,13 @@ subst-apply-loop-again t c =
     let arg-at = c .before .before .before .before .before .before .before .before .before .before .arg-at in
     let subst-down = c .before .before .before .before .before .before .before .before .subst-down in
     let done-of = c .before .before .before .before .before .done-of in
-    walk-more _ _ _ _ _ (placed-length _ _ _ _ (pre .1 .1 .0 .placed)) ((pre .1 .1 .0 .placed) .few) _ _ _ _ _ _
-    (loop .inv) _ (loop-test .taken)
-    (arg-kept _ _ _ _ (pre .1 .1 .0 .placed) _ _ (loop .inv .grown) _ _ (loop-test .taken) (arg-at .ensures)) Any
-    (λ ds k. k) _ _ (when-after Any _ _ _ _ _ (subst-down .ensures)) _ (done-of .ensures) _ _
-    (c .before .before .before .p .given .1) (c .before .wide .ensures)
+    walk-more (loop .inv) (loop-test .taken)
+    (arg-kept _ _ _ _ (pre .1 .1 .0 .placed) _ _ (loop .inv .changed .grown) _ _ (loop-test .taken) (arg-at .ensures))
+    (subst-down .ensures) (done-of .ensures) (c .before .before .before .p .given .1) (c .before .wide .ensures)
 
 subst-apply-push-apply-requires : (t : ℕ) → subst-apply-lts.Need-push-apply-requires (subst-apply-calls t) (subst-apply-at t) subst-apply.Post subst-apply-Inv-loop subst-apply-μ-loop
 subst-apply-push-apply-requires t c κs =
-    let pre = c .before .before .before .before .pre in
-    let loop = c .before .before .loop in (
-      loop .inv .lay,
-      walk-parts _ _ _ _ _ (placed-length _ _ _ _ (pre .1 .1 .0 .placed)) ((pre .1 .1 .0 .placed) .few) _ _ _ _ _ _
-          (loop .inv) (c .before .loop-test .left),
-    )
+    let loop = c .before .before .loop in (loop .inv .changed .lay, walk-parts (loop .inv) (c .before .loop-test .left))
 
 subst-apply-same-length-2 : (t : ℕ) → subst-apply-lts.Need-same-length-2 (subst-apply-calls t) (subst-apply-at t) subst-apply.Post subst-apply-Inv-loop subst-apply-μ-loop
 subst-apply-same-length-2 t c = c .before .before .push-apply .ensures .changed .lay .size ∙ sym (c .before .before .before .before .before .before .before .pre .1 .0 .size)
@@ -174,12 +166,9 @@ subst-apply-same-length-2 t c = c .before .before .push-apply .ensures .changed 
 subst-apply-returns-2 : (t : ℕ) → subst-apply-lts.Need-returns-2 (subst-apply-calls t) (subst-apply-at t) subst-apply.Post subst-apply-Inv-loop subst-apply-μ-loop
 unfolding sp-apply
 subst-apply-returns-2 t c =
-    let pre = c .before .before .before .before .before .before .before .pre in
-    let loop = c .before .before .before .before .before .loop in
     apply-walked _ _ _ _ _ _ _ _ _ _
-    (walk-end _ _ _ _ _ (placed-length _ _ _ _ (pre .1 .1 .0 .placed)) ((pre .1 .1 .0 .placed) .few) _ _ _ _ _ _
-    (loop .inv) Any (λ ds k. k) _ _ (c .before .before .before .before .loop-test .left)
-    (when-after Any _ _ _ _ _ (c .before .before .push-apply .ensures)))
+    (walk-end (c .before .before .before .before .before .loop .inv) (c .before .before .before .before .loop-test .left)
+    (c .before .before .push-apply .ensures))
 
 subst-down-stay-requires : (t : ℕ) → subst-down-lts.Need-stay-requires (subst-down-calls t) (subst-down-at t) subst-down.Post
 subst-down-stay-requires t c κs = search needs
@@ -274,7 +263,7 @@ subst-down-push-node-requires : (t : ℕ) → subst-down-lts.Need-push-node-requ
 subst-down-push-node-requires t c κs =
     let subst-down = c .before .before .before .before .before .before .before .before .subst-down in (
       subst-down .ensures .changed .lay,
-      after-done _ _ _ _ _ _ _ (subst-down .ensures) (c .before .before .before .before .done-of .ensures)
+      after-done (subst-down .ensures) (c .before .before .before .before .done-of .ensures)
           (c .before .before .p .given .1),
     )
 
