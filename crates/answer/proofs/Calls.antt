@@ -11,7 +11,7 @@ use Rattle.definition.specs.Types.{State, Struct, TypeName, Multiple, Builtin, 
 use Rattle.definition.specs.Store.{nowhere, node, with-structs}
 use Rattle.definition.specs.Subst.{parts}
 use Rattle.definition.specs.Write.{mark, each, head, write-down, write-spanned}
-use Rattle.definition.specs.Trees.{mark-fits, is-set, is-mark, is-name}
+use Rattle.definition.specs.Trees.{mark-fits, is-mark, is-name}
 use Rattle.definition.specs.Sound.{is-u32}
 use Rattle.theorems.proofs.Ranges.{ShapeIn, NodeIn, Ranges, all-get}
 use Rattle.table.specs.Rows.{Table, entries, node-table, arg-table, var-table, constraint-table, struct-table}

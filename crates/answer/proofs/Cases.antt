@@ -5,13 +5,11 @@ use mathlib.Core.List.{List, _++_}
 use Prim.Native.Nat.{ℕ, _≤_, _<_}
 use native.Mathlib.Omega.{arith}
 use lib.ListN.{length}
-use Rattle.definition.specs.Types as d
 use Rattle.definition.specs.Types.{State, Struct, _>>=_, if_then_else_, TypingError, RecursiveType, answer-too-long}
 use Rattle.definition.specs.Write.{Bytes, u32, write, write-error}
 use Rattle.definition.specs.Step.{answer, answer-with, put-back, number-of-error}
 use Rattle.table.specs.State.{outcome, error-of, refusal-of, seen, Lay}
 use Rattle.table.specs.declared.Used.{Used}
-use Rattle.table.specs.declared.Out.{Out}
 use Rattle.table.specs.declared.Out.the-variants.{Done, Failed, Refused}
 use Rattle.table.specs.declared.TypingError as table
 use Rattle.table.specs.declared.Refusal.{Refusal}

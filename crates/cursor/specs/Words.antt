@@ -4,7 +4,6 @@ use Prim.Native.Nat.{ℕ, _+_, _*_, _-_}
 use lib.Dec.{ltb, eqb}
 use lib.ListN.{length, getD}
 use Rattle.definition.specs.Types.{if_then_else_}
-use Rattle.cursor.specs.declared.Number.{Number}
 use Rattle.cursor.specs.declared.Number.the-variants.{Got, Missing}
 use Rattle.cursor.specs.declared.Word.{Word}
 use Rattle.cursor.specs.declared.Words.{Words}

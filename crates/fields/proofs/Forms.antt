@@ -5,18 +5,17 @@ use mathlib.Core.List.{List, [], _∷_}
 use Prim.Native.Nat.{ℕ, zero, suc, _+_, _-_, _≤_, _<_}
 use native.Mathlib.Nat.{zero-add, suc-add}
 use native.Mathlib.Omega.{arith}
-use lib.ListN.{length, take, drop, replicate, length-replicate}
+use lib.ListN.{length, take, drop}
 use lib.Seq.{take-take, drop-drop}
-use Rattle.definition.specs.Types.{State, Struct, BaseTypeConstraint, SingleTypeConstraint, unbound, malformed, unknown-name, Result, ok, _>>=_}
+use Rattle.definition.specs.Types.{State, Struct, BaseTypeConstraint, SingleTypeConstraint, malformed, unknown-name, Result, ok, _>>=_}
 use Rattle.definition.specs.Store.{taken}
 use Rattle.definition.specs.Write.{Bytes}
 use Rattle.definition.specs.Reader as rd
-use Rattle.definition.specs.Reader.{Read, Reader, give, go-on, read-u32, read-one, read-two, read-three, name-below}
+use Rattle.definition.specs.Reader.{Read, give, go-on, read-u32, read-one, read-two, read-three, name-below}
 use Rattle.definition.specs.Trees.{Tree, read-nested, read-type}
 use Rattle.definition.specs.Build.{build}
 use Rattle.definition.specs.Join.{Join, Subtype}
 use Rattle.definition.specs.Step.{numeric-constraint}
-use Rattle.definition.specs.Needs.{takes}
 use Rattle.definition.specs.Record as d
 use Rattle.definition.specs.Record.{Record, read-SD, read-pair, read-TS, read-kind}
 use Rattle.names.specs.declared.TVar.{TVar}
@@ -32,8 +31,7 @@ use Rattle.reader.specs.Taken.{Placed, placed, place-read, part-of, Part-in, Ta
 use Rattle.reader.proofs.Heads.{declares-self}
 use Rattle.reader.proofs.Parts.{at-open}
 use Rattle.reader.proofs.Loop.{declares-kept, knowing, knows}
-use Rattle.needs.specs.Counted.{unless, needs-of, as-argument, Tells, Counts}
-use Rattle.needs.specs.declared.Sums.{Sums}
+use Rattle.needs.specs.Counted.{as-argument, Tells, Counts}
 use Rattle.needs.specs.declared.Counted.{Counted}
 use Rattle.fields.specs.declared.Bind.the-variants as c
 use Rattle.fields.specs.declared.Look.the-variants as k
@@ -42,7 +40,7 @@ use Rattle.fields.specs.declared.What.{What}
 use Rattle.fields.specs.declared.What.the-variants as q
 use Rattle.fields.specs.declared.Whole.the-variants as h
 use Rattle.fields.specs.declared.Fields.{Fields}
-use Rattle.fields.specs.Noded.{Noded, place-record, noded, part-with, whole-with, fields-as, Whole-so, What-in, Fields-in, Fields-are, plain-fields, whole-of, both-of, made-fields, One, Two, Loc}
+use Rattle.fields.specs.Noded.{Noded, place-record, noded, part-with, whole-with, fields-as, Whole-so, Fields-in, Fields-are, plain-fields, whole-of, both-of, made-fields, One, Two, Loc}
 use Rattle.fields.specs.Noded as n
 use Rattle.fields.proofs.Placing.{is-not, not-is, last-type, first-type, type-stops}
 

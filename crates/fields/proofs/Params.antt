@@ -6,10 +6,9 @@ use Prim.Native.Nat.{ℕ, suc, _+_, _-_, _≤_, _<_}
 use native.Mathlib.Nat.{sub-zero}
 use native.Mathlib.Numerals.{add-one}
 use native.Mathlib.Omega.{arith}
-use lib.ListN.{length, getD, set, take, replicate, length-set}
+use lib.ListN.{length, set, take, replicate, length-set}
 use lib.Seq.{take-suc-set}
-use Rattle.definition.specs.Types.{State, Struct, malformed}
-use Rattle.definition.specs.Write.{Bytes}
+use Rattle.definition.specs.Types.{State, malformed}
 use Rattle.definition.specs.Reader.{Read, got, not-read, give, go-on, _>>=_, byte-to, times}
 use Rattle.definition.specs.Record as d
 use Rattle.definition.specs.Record.{Record}

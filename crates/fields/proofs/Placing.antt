@@ -3,7 +3,7 @@ use mathlib.Core.Path.{_≡_, refl, sym, ap, _∙_}
 use mathlib.Core.Bool.{Bool, true, false}
 use Prim.Native.Nat.{ℕ}
 use native.Mathlib.Omega.{arith}
-use Rattle.definition.specs.Types.{State, full, Result, ok, err, refused, _>>=_, if_then_else_}
+use Rattle.definition.specs.Types.{State, full, Result, ok, refused, _>>=_, if_then_else_}
 use Rattle.definition.specs.Write.{Bytes}
 use Rattle.definition.specs.Reader.{Read, got, not-read, Reader, give, go-on}
 use Rattle.definition.specs.Trees.{Tree}

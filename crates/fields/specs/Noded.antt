@@ -1,12 +1,11 @@
 -- A record whose types are placed: their nodes stand in the trees' stead. What the code's answer is as one. Assumes nothing: these are definitions.
 use mathlib.Core.Path.{_≡_}
-use mathlib.Core.Bool.{Bool, true, false}
+use mathlib.Core.Bool.{false}
 use mathlib.Core.List.{List, [], _∷_}
 use mathlib.Core.Option.{Option}
 use Prim.Native.Nat.{ℕ, zero, suc, _≤_, _<_}
 use lib.ListN.{length, getD, take, drop, replicate}
-use lib.Dec.{ltb}
-use Rattle.definition.specs.Types.{State, Struct, Constraint, BaseTypeConstraint, SingleTypeConstraint, malformed, unknown-name, doubled-reference, full, Result, ok, refused, _>>=_, if_then_else_}
+use Rattle.definition.specs.Types.{State, Struct, Constraint, BaseTypeConstraint, SingleTypeConstraint, malformed, unknown-name, doubled-reference, full, Result, ok, refused, _>>=_}
 use Rattle.definition.specs.Write.{Bytes}
 use Rattle.definition.specs.Reader.{Read}
 use Rattle.definition.specs.Record as d
@@ -17,7 +16,6 @@ use Rattle.definition.specs.Join.{TypingCase, Join, Subtype}
 use Rattle.definition.specs.Step.{numeric-constraint}
 use Rattle.definition.specs.Needs.{Needs, needs}
 use Rattle.names.specs.declared.TParamID.{TParamID}
-use Rattle.names.specs.declared.TVar.{TVar}
 use Rattle.table.specs.State.{Lay, Grown, Declares, Parts, view, seen}
 use Rattle.table.specs.declared.Used.{Used}
 use Rattle.reader.specs.declared.Part.{Part}

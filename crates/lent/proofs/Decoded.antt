@@ -1,37 +1,35 @@
 -- Reading a sound state back from its words and bytes gives it again. Assumes nothing.
--- First one entry of each table, then each table as a list, then the state. At the end: the encoding passes the test, and so do the words that a call leaves.
+-- First one entry of each table, then each table as a list, then the state. At the end: the encoding passes the test.
 use mathlib.Core.Path.{_≡_, refl, sym, ap, ap₂, _∙_}
-use mathlib.Core.Bool.{Bool, true, false, not, _&&_}
+use mathlib.Core.Bool.{Bool, true, false, _&&_}
 use mathlib.Core.List.{List, [], _∷_}
 use mathlib.Core.Option.{Option, none, some}
-use Prim.Native.Nat.{ℕ, zero, suc, _+_, _*_, _-_, _≤_, _<_, _%_}
+use Prim.Native.Nat.{ℕ, _+_, _-_, _≤_, _<_, _%_}
 use native.Mathlib.Omega.{arith}
-use native.Mathlib.Decide.{decLt}
 use lib.Dec.{eqb, leb, ltb}
-use lib.ListN.{length, getD, replicate, length-replicate, List·getD-eq-default}
+use lib.ListN.{length, getD, length-replicate}
 use lib.Seq.{ext-getD}
-use borrow.Author.Tests.{ltb-true, leb-true, eqb-true, le-ltb, lt-ltb}
-use Rattle.definition.specs.Types.{State, Struct, Cell, Node, Shape, TypeName, Multiple, Builtin, ModuleType, Mark, UnitType, Ref, Param, Apply, Var, Anything, UnresolvedError, Places, unbound, if_then_else_}
+use borrow.Author.Tests.{ltb-true, leb-true, le-ltb}
+use Rattle.definition.specs.Types.{State, Cell, Shape, TypeName, Multiple, Builtin, ModuleType, Mark, UnitType, Ref, Param, Apply, Var, Anything, UnresolvedError, Places, unbound}
 use Rattle.definition.specs.Types.{Constraint, AbilityConstraint, NumericConstraint, BitsConstraint, OrderedConstraint, BaseTypeConstraint, SingleTypeConstraint}
-use Rattle.definition.specs.Store.{count, taken, node, nowhere, with-structs, all-of}
+use Rattle.definition.specs.Store.{count, taken, with-structs, all-of}
 use Rattle.definition.specs.Trees.{mark-fits, is-set, is-mark, is-name}
 use Rattle.definition.specs.Sound as sd
 use Rattle.definition.specs.Sound.{sound, is-u32, places-fit, shape-allowed, node-allowed, at-node, constraint-allowed, struct-allowed}
-use Rattle.theorems.proofs.Facts.{of-each, fields, shape}
+use Rattle.theorems.proofs.Facts.{of-each, fields}
 use Rattle.theorems.proofs.Soundness.{Is-sound, sound-is}
 use Rattle.table.specs.Tab.{tab}
-use Rattle.table.specs.Rows.{Table, row, words-at, entries, flag, read-mark, mark-word, read-option, option-flag, option-word, read-name, name-tag, name-word, places, read-shape, shape-words}
+use Rattle.table.specs.Rows.{Table, row, entries, flag, read-mark, mark-word, read-option, option-flag, option-word, read-name, name-tag, name-word, places, read-shape, shape-words}
 use Rattle.table.specs.Rows.{read-node, node-words, read-arg, arg-words, read-cell, cell-words, read-constraint, constraint-words, read-struct, struct-words, node-table, arg-table, var-table, constraint-table, struct-table}
-use Rattle.table.specs.State.{view, seen, Lay, Declares}
+use Rattle.table.specs.State.{view, seen}
 use Rattle.table.specs.declared.Used.{Used}
 use Rattle.table.proofs.Tab.{length-tab, getD-tab}
 use Rattle.table.proofs.Rows.{length-entries, entry-at}
 use Rattle.table.specs.Encode.{counts as count-words, encode as encode-words}
 use Rattle.lent.specs.Lent.{used-of, bytes-at, struct-of, structs-of, decode, encode-params, Lent-sound}
-use Rattle.rows.proofs.Below.{and-l, and-r, both, when-true, when-false}
+use Rattle.rows.proofs.Below.{and-l, and-r, when-false}
 use Rattle.lent.proofs.Fields.{mod-back}
 use Rattle.lent.proofs.Encode.{Rows, holds}
-use Rattle.lent.proofs.Lays.{lay-encoded}
 
 -- ---- each entry is read as it was written
 
@@ -175,10 +173,3 @@ module _ (s : State) (ok : sound s ≡ true) where
 -- the encoding of a sound state passes the test
 pub encode-lent : (s : State) → sound s ≡ true → Lent-sound (encode-words s) (encode-params s)
 encode-lent s ok = record { words = ap (λ (x : State). encode-words x) (sym (decoded s ok)); bytes = ap (λ (x : State). encode-params x) (sym (decoded s ok)); is-sound = ap (λ (x : State). sound x) (decoded s ok) ∙ ok }
-
--- where a call ends: the words keep the layout, the counts are written, and the bytes are those of the declarations
-pub lay-lent : (w : List ℕ) (p : List (List ℕ)) (u : Used) (ds : List Struct) → Lay w u → Declares w u ds → used-of w ≡ u → p ≡ encode-params (seen w u ds) → sound (seen w u ds) ≡ true → Lent-sound w p
-lay-lent w p u ds lay dec e b ok = rw (lay-encoded w u ds lay dec e, b) (encode-lent (seen w u ds) ok)
-
-pub lay-decoded : (w : List ℕ) (p : List (List ℕ)) (u : Used) (ds : List Struct) → Lay w u → Declares w u ds → used-of w ≡ u → p ≡ encode-params (seen w u ds) → sound (seen w u ds) ≡ true → decode w p ≡ seen w u ds
-lay-decoded w p u ds lay dec e b ok = ap₂ (λ (x : List ℕ) (y : List (List ℕ)). decode x y) (lay-encoded w u ds lay dec e) b ∙ decoded (seen w u ds) ok

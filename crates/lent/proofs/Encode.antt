@@ -1,10 +1,8 @@
 -- A state written as words: every row where the layout has it, and words that have those rows are the state's. Assumes nothing.
 -- First how wide rows are, then one table for any kind of row, then all five tables (`Holds`); `encoded` and `holds` are the two directions.
 use mathlib.Core.Path.{_≡_, refl, sym, ap, ap₂, _∙_}
-use mathlib.Core.List.{List, [], _∷_, _++_, append-assoc, append-nil}
-use mathlib.Core.Option.{Option, none, some}
-use Prim.Native.Nat.{ℕ, zero, suc, _+_, _*_, _<_, _≤_}
-use native.Mathlib.Omega.{arith}
+use mathlib.Core.List.{List, [], _++_, append-assoc, append-nil}
+use Prim.Native.Nat.{ℕ, _+_, _*_, _<_}
 use lib.ListN.{length, getD, length-append}
 use Rattle.definition.specs.Types.{State, Node, Shape, UnitType, Ref, Param, Apply, Var, Anything, UnresolvedError, Places, Cell, Struct}
 use Rattle.definition.specs.Types.{Constraint, AbilityConstraint, NumericConstraint, BitsConstraint, OrderedConstraint, BaseTypeConstraint, SingleTypeConstraint}

@@ -1,22 +1,18 @@
 -- Numbers of a row: which are just what they are read as. Assumes nothing.
 -- By cases of the tag or the number, with omega for ranges: `-back` reads and writes again, `-was` says when that gives the same.
-use mathlib.Core.Path.{_≡_, refl, sym, ap, ap₂, _∙_}
-use mathlib.Core.Bool.{Bool, true, false, not, _&&_, _||_}
-use mathlib.Core.List.{List, [], _∷_}
-use mathlib.Core.Option.{Option, none, some}
+use mathlib.Core.Path.{_≡_, refl, sym, ap, _∙_}
+use mathlib.Core.Bool.{Bool, true, false, _&&_}
+use mathlib.Core.Option.{none, some}
 use Prim.Native.Nat.{ℕ, zero, suc, _+_, _-_, _≤_, _<_, _%_}
-use native.Mathlib.Nat.{mod-eq-of-lt, mod-lt}
+use native.Mathlib.Nat.{mod-eq-of-lt}
 use native.Mathlib.Omega.{arith}
 use native.Mathlib.Decide.{ℕ-discrete, decLt}
-use lib.Dec.{eqb, leb, ltb}
-use lib.ListN.{length}
-use borrow.Author.Tests.{ltb-true, leb-true, leb-false, eqb-true, lt-ltb, le-ltb, le-leb, lt-leb, eq-eqb, ne-eqb}
-use Rattle.definition.specs.Types.{Mark, Builtin, max-builtin, if_then_else_}
-use Rattle.definition.specs.Join.{is-numeric}
-use Rattle.definition.specs.Trees.{has-drop, is-set, is-mark}
-use Rattle.table.specs.declared.Used.{Used}
-use Rattle.table.specs.Rows.{flag, read-mark, mark-word, read-option, option-flag, option-word}
-use Rattle.rows.specs.Tests.{four-zeros, mark-fine, name-fine}
+use lib.Dec.{eqb, leb}
+use borrow.Author.Tests.{leb-true, eqb-true, lt-ltb, le-ltb, le-leb, eq-eqb, ne-eqb}
+use Rattle.definition.specs.Types.{if_then_else_}
+use Rattle.definition.specs.Trees.{is-set, is-mark}
+use Rattle.table.specs.Rows.{flag, read-mark, mark-word}
+use Rattle.rows.specs.Tests.{four-zeros, mark-fine}
 use Rattle.rows.proofs.Below.{and-l, and-r, both, when-true, when-false}
 
 -- ---- tags

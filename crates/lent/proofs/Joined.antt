@@ -2,14 +2,14 @@
 use mathlib.Core.Path.{_≡_, refl, sym, ap, ap₂, _∙_}
 use mathlib.Core.Logic.{⊎-elim}
 use mathlib.Core.List.{List, [], _∷_, _++_, append-assoc, append-nil}
-use Prim.Native.Nat.{ℕ, zero, suc, _+_, _*_, _<_, _≤_}
-use native.Mathlib.Nat.{not-suc-le-zero, eq-or-lt-of-le, le-of-suc-le-suc, lt-suc-self, lt-trans, suc-mul, zero-mul, mul-le-mul-right}
+use Prim.Native.Nat.{ℕ, zero, suc, _+_, _*_, _<_}
+use native.Mathlib.Nat.{not-suc-le-zero, eq-or-lt-of-le, le-of-suc-le-suc, suc-mul, zero-mul, mul-le-mul-right}
 use native.Mathlib.Omega.{arith}
 use lib.ListN.{length, getD, length-append, List·getD-append}
 use lib.Seq.{getD-append-add, ext-getD}
 use Rattle.table.specs.Tab.{tab}
-use Rattle.table.specs.Rows.{Table, words-at, row}
-use Rattle.table.proofs.Tab.{length-tab, getD-tab, tab-ext}
+use Rattle.table.specs.Rows.{words-at}
+use Rattle.table.proofs.Tab.{length-tab, getD-tab}
 use Rattle.table.specs.Encode.{flat}
 
 -- f 0, f 1, .., f (n - 1), one after the other

@@ -1,52 +1,32 @@
--- The layout that every function asks for follows from the test; words that keep it are the encoding of the state that they show. Assumes nothing.
--- One way by `encoded`: the rows are those of what the words show. The other by the tests' facts on the decoded state, field by field of `Lay`.
-use mathlib.Core.Path.{_≡_, refl, sym, ap, ap₂, _∙_}
-use mathlib.Core.Bool.{Bool, true, false, not, _&&_}
+-- The layout that every function asks for follows from the test. Assumes nothing.
+-- By the tests' facts on the decoded state, field by field of `Lay`.
+use mathlib.Core.Path.{_≡_, sym, ap, _∙_}
+use mathlib.Core.Bool.{Bool, true, false, _&&_}
 use mathlib.Core.List.{List, [], _∷_}
-use mathlib.Core.Option.{Option, none, some}
-use Prim.Native.Nat.{ℕ, zero, suc, _+_, _*_, _≤_, _<_}
+use Prim.Native.Nat.{ℕ, _+_, _≤_, _<_}
 use native.Mathlib.Omega.{arith}
 use native.Mathlib.Decide.{decLt}
 use lib.Dec.{eqb, leb, ltb}
-use lib.ListN.{length, getD, take, drop, length-take, length-drop, List·getD-eq-default}
+use lib.ListN.{length, getD, take, drop, length-take, length-drop}
 use lib.Seq.{getD-take, getD-drop}
 use borrow.Author.Tests.{ltb-true, leb-true, eqb-true}
-use Rattle.definition.specs.Types.{State, Struct, Shape, TypeName, Multiple, Builtin, ModuleType, UnitType, Ref, Param, Apply, Var, Anything, UnresolvedError, Places, Node, if_then_else_}
-use Rattle.definition.specs.Store.{count, taken, node, nowhere, get, with-args, args-at, with-structs, all-of}
+use Rattle.definition.specs.Types.{State, Struct, Shape, TypeName, Multiple, Builtin, ModuleType, UnitType, Ref, Param, Apply, Var, Anything, UnresolvedError, Places, if_then_else_}
+use Rattle.definition.specs.Store.{node, nowhere, get, with-args, args-at, with-structs, all-of}
 use Rattle.definition.specs.Subst.{parts}
 use Rattle.definition.specs.Instantiate.{builtin-tparams, struct-tparams}
 use Rattle.definition.specs.Trees.{arity, mark-fits, is-set, is-mark, is-name}
 use Rattle.definition.specs.Sound as sd
-use Rattle.definition.specs.Sound.{sound, smaller-than, is-u32, places-fit, shape-allowed, node-allowed, struct-allowed}
-use Rattle.theorems.proofs.Facts.{of-each, at-place, smaller, shape, fields, in-nodes, cell, bound-taken}
-use Rattle.theorems.proofs.Soundness.{Is-sound, sound-is}
-use Rattle.table.specs.Tab.{tab}
-use Rattle.table.specs.Rows.{row, words-at, entries, Clean, struct-words, read-struct, node-table, arg-table, var-table, constraint-table, struct-table}
+use Rattle.definition.specs.Sound.{sound, smaller-than, places-fit, shape-allowed, node-allowed, struct-allowed}
+use Rattle.theorems.proofs.Facts.{of-each, at-place, smaller, shape, fields}
+use Rattle.theorems.proofs.Soundness.{sound-is}
+use Rattle.table.specs.Rows.{row, entries, Clean, struct-words, struct-table}
 use Rattle.table.specs.State.{view, seen, Below, Inside, Lay, Declares}
 use Rattle.table.specs.declared.Used.{Used}
 use Rattle.table.proofs.Tab.{length-tab, getD-tab, getD-tab-out}
-use Rattle.table.proofs.Encoded.{encoded}
-use Rattle.table.proofs.Rows.{length-entries, entry-at, entry-out}
-use Rattle.table.specs.Encode.{encode as encode-words}
-use Rattle.lent.specs.Lent.{used-of, struct-of, structs-of, decode, encode-params, Lent-sound}
-use Rattle.rows.specs.Tests.{Sized}
-use Rattle.rows.proofs.Below.{and-l, and-r, both}
-use Rattle.lent.proofs.Encode.{Holds}
-use Rattle.lent.proofs.Rows.{used-row, past-row}
-use Rattle.lent.proofs.Shapes.{args-count, vars-count}
-use Rattle.lent.proofs.Rowwise.{nodes-count}
-use Rattle.lent.proofs.Tested.{bytes-long, lent-holds, lent-sized, list-count}
-
--- ---- words that keep the layout are the encoding of what they show
-
-counts-kept : (w : List ℕ) (u : Used) → used-of w ≡ u → words-at w 0 5 ≡ u .nodes ∷ u .args ∷ u .vars ∷ u .constraints ∷ u .structs ∷ []
-unfolding words-at tab used-of
-counts-kept w u e = ap (λ (x : Used). x .nodes ∷ x .args ∷ x .vars ∷ x .constraints ∷ x .structs ∷ []) e
-
-pub lay-encoded : (w : List ℕ) (u : Used) (ds : List Struct) → Lay w u → Declares w u ds → used-of w ≡ u → w ≡ encode-words (seen w u ds)
-lay-encoded w u ds lay dec e = encoded w u ds lay dec (counts-kept w u e)
-
--- ---- the layout follows from the test
+use Rattle.table.proofs.Rows.{entry-at, entry-out}
+use Rattle.lent.specs.Lent.{used-of, struct-of, structs-of, decode, Lent-sound}
+use Rattle.rows.proofs.Below.{and-l, and-r}
+use Rattle.lent.proofs.Tested.{bytes-long, lent-holds, lent-sized}
 
 list-of : (t : ℕ) (l : List ℕ) → smaller-than t l ≡ true → all-of (λ q. ltb q t) l ≡ true
 unfolding smaller-than

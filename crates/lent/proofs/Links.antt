@@ -1,7 +1,7 @@
 -- The lengths of chains: counted from a variable on, noted, and taken from what is noted. Assumes nothing.
 -- `Follows` says that one variable is n bindings on from another; a counted length (`Links`) is put together of such a walk and what is noted at its end.
 use mathlib.Core.Path.{_≡_, sym, ap, _∙_, subst}
-use mathlib.Core.Bool.{Bool, true, false}
+use mathlib.Core.Bool.{true, false}
 use mathlib.Core.List.{List}
 use mathlib.Core.Option.{none, some}
 use Prim.Native.Nat.{ℕ, suc, _+_, _-_, _≤_, _<_}

@@ -1,20 +1,19 @@
 -- Rows in use and rows past them, whatever a table's rows mean; the words of each row. Assumes nothing.
 -- For any table: rows in use are read and written alike, those past them are blank, and a blank tail is zeros. Then the words of each table's row.
-use mathlib.Core.Path.{_≡_, refl, sym, ap, ap₂, _∙_}
-use mathlib.Core.Bool.{Bool, true, false}
+use mathlib.Core.Path.{_≡_, sym, ap, _∙_}
+use mathlib.Core.Bool.{true}
 use mathlib.Core.List.{List, [], _∷_}
-use Prim.Native.Nat.{ℕ, zero, suc, _+_, _*_, _-_, _<_, _≤_, _/_, _%_}
-use native.Mathlib.Nat.{mul-le-mul-right, suc-mul, add-mul, div-add-mod', mod-lt, div-lt-iff-lt-mul}
+use Prim.Native.Nat.{ℕ, _+_, _*_, _-_, _<_, _≤_, _/_, _%_}
+use native.Mathlib.Nat.{mul-le-mul-right, suc-mul, add-mul, div-add-mod', mod-lt}
 use native.Mathlib.Omega.{arith}
 use native.Mathlib.Decide.{decLt}
-use lib.Dec.{eqb}
-use lib.ListN.{length, getD}
+use lib.ListN.{getD}
 use borrow.Author.Tests.{eqb-true, eq-eqb}
 use Rattle.table.specs.Tab.{tab}
-use Rattle.table.specs.Rows.{Table, words-at, row, entries, node-table, arg-table, var-table, constraint-table, struct-table}
-use Rattle.table.proofs.Tab.{length-tab, getD-tab, tab-ext}
+use Rattle.table.specs.Rows.{Table, words-at, row, entries, node-table, var-table, constraint-table, struct-table}
+use Rattle.table.proofs.Tab.{getD-tab, tab-ext}
 use Rattle.table.proofs.Rows.{entry-at, entry-out, row-word}
-use Rattle.rows.specs.Tests.{all-below, zero-at, zeros}
+use Rattle.rows.specs.Tests.{zero-at, zeros}
 use Rattle.rows.proofs.Below.{all-at, all-from}
 use Rattle.lent.proofs.Encode.{Rows}
 

@@ -1,27 +1,26 @@
 -- The rows of variables, constraints and structs pass their tests just where they are the rows of entries that the state allows. Assumes nothing.
 -- For each kind of row a record says what a good row is; `-good` goes from the test to it, `-was` back. Both by cases of the flag or the kind.
-use mathlib.Core.Path.{_≡_, refl, sym, ap, ap₂, _∙_}
-use mathlib.Core.Bool.{Bool, true, false, not, _&&_, _||_}
+use mathlib.Core.Path.{_≡_, refl, sym, ap, _∙_}
+use mathlib.Core.Bool.{Bool, true, false, not, _&&_}
 use mathlib.Core.List.{List, [], _∷_}
-use mathlib.Core.Option.{Option, none, some}
-use Prim.Native.Nat.{ℕ, zero, suc, _+_, _*_, _-_, _≤_, _<_, _%_}
+use mathlib.Core.Option.{none, some}
+use Prim.Native.Nat.{ℕ, zero, suc, _+_, _*_, _<_, _%_}
 use native.Mathlib.Omega.{arith}
-use native.Mathlib.Decide.{decLt}
 use lib.Dec.{eqb, leb, ltb}
-use lib.ListN.{length, getD}
-use borrow.Author.Tests.{ltb-true, leb-true, eqb-true, lt-ltb, le-ltb, le-leb, lt-leb, eq-eqb, ne-eqb}
-use Rattle.definition.specs.Types.{State, Struct, Node, Cell, Constraint, AbilityConstraint, NumericConstraint, BitsConstraint, OrderedConstraint, BaseTypeConstraint, SingleTypeConstraint, Shape, Places, if_then_else_}
-use Rattle.definition.specs.Store.{count, taken, node, type-at, with-args, with-structs}
+use lib.ListN.{getD}
+use borrow.Author.Tests.{ltb-true, leb-true, eqb-true, lt-ltb, le-leb, eq-eqb, ne-eqb}
+use Rattle.definition.specs.Types.{Struct, Node, if_then_else_}
+use Rattle.definition.specs.Store.{count, type-at, with-args, with-structs}
 use Rattle.definition.specs.Subst.{is-anything}
 use Rattle.definition.specs.Sound.{is-u32, at-node, constraint-allowed, binding-allowed, numeric-allowed, no-anything}
 use Rattle.definition.specs.Trees.{is-set}
-use Rattle.table.specs.Rows.{read-option, option-flag, option-word, read-shape, read-constraint, constraint-words, entries, node-table}
+use Rattle.table.specs.Rows.{read-option, option-flag, option-word, read-shape, read-constraint, constraint-words, node-table}
 use Rattle.table.specs.State.{view, seen}
 use Rattle.table.specs.declared.Used.{Used}
 use Rattle.table.proofs.Rows.{length-entries}
 use Rattle.table.proofs.Fields.{node-made}
-use Rattle.rows.specs.Tests.{binding-fine, numeric-fine, constraint-fine}
-use Rattle.rows.proofs.Below.{and-l, and-r, both, when-true, when-false, fails-l}
+use Rattle.rows.specs.Tests.{binding-fine, numeric-fine}
+use Rattle.rows.proofs.Below.{and-l, and-r, both, when-false}
 use Rattle.lent.proofs.Fields.{Tag, tag-of, t0, t1, t2, t3, t4, t5, t6, t7, t8, beyond, mod-back, set-mod, set-was}
 use Rattle.lent.proofs.Shapes.{anything-tag}
 

@@ -1,17 +1,16 @@
 -- A node's row passes its test just where it is the row of a node that the state allows, with smaller parts. Assumes nothing.
 -- By the tag: names first (`Named`), then named types, then the shapes without arguments; `Good` says what a row that passes is.
-use mathlib.Core.Path.{_≡_, refl, sym, ap, ap₂, _∙_}
+use mathlib.Core.Path.{_≡_, refl, sym, ap, _∙_}
 use mathlib.Core.Bool.{Bool, true, false, not, _&&_, _||_}
 use mathlib.Core.List.{List, [], _∷_}
-use mathlib.Core.Option.{Option, none, some}
-use Prim.Native.Nat.{ℕ, zero, suc, _+_, _*_, _-_, _≤_, _<_, _%_}
+use mathlib.Core.Option.{none, some}
+use Prim.Native.Nat.{ℕ, suc, _+_, _*_, _≤_, _<_, _%_}
 use native.Mathlib.Omega.{arith}
-use native.Mathlib.Decide.{decLt}
 use lib.Dec.{eqb, leb, ltb}
-use lib.ListN.{length, getD, take, drop, length-take, length-drop, length-replicate}
-use borrow.Author.Tests.{ltb-true, leb-true, leb-false, eqb-true, lt-ltb, le-ltb, le-leb, lt-leb, eq-eqb, ne-eqb}
-use Rattle.definition.specs.Types.{State, Struct, Shape, TypeName, Multiple, Builtin, ModuleType, Mark, UnitType, Ref, Param, Apply, Var, Anything, UnresolvedError, Places, if_then_else_}
-use Rattle.definition.specs.Store.{count, taken, node, with-args, args-at, with-structs, all-of}
+use lib.ListN.{length, getD, drop, length-take, length-drop}
+use borrow.Author.Tests.{ltb-true, leb-true, eqb-true, lt-ltb, le-ltb, le-leb, lt-leb, eq-eqb, ne-eqb}
+use Rattle.definition.specs.Types.{State, Struct, Shape, TypeName, Multiple, Builtin, ModuleType, Apply, UnresolvedError, Places, if_then_else_}
+use Rattle.definition.specs.Store.{taken, with-args, args-at, with-structs, all-of}
 use Rattle.definition.specs.Subst.{parts, as-var, is-anything}
 use Rattle.definition.specs.Join.{is-numeric}
 use Rattle.definition.specs.Instantiate.{builtin-tparams, struct-tparams}
@@ -24,8 +23,8 @@ use Rattle.table.specs.declared.Used.{Used}
 use Rattle.table.proofs.Rows.{length-entries}
 use Rattle.table.proofs.Fields.{arg-read}
 use Rattle.rows.specs.Tests.{all-below, four-zeros, ref-fine, param-fine, var-fine, mark-fine, name-fine, fits-fine, args-fine, part-fine, apply-fine, shape-fine}
-use Rattle.rows.proofs.Below.{and-l, and-r, both, same-test, when-true, when-false, all-at, all-from, fails-l}
-use Rattle.lent.proofs.Fields.{Tag, t0, t1, t2, t3, t4, t5, t6, t7, t8, beyond, Zeros, zeros-are, are-zeros, flag-back, flag-was, mod-back, set-mod, set-was, Mark-good, mark-good, mark-was}
+use Rattle.rows.proofs.Below.{and-l, and-r, both, same-test, when-false, all-at, all-from, fails-l}
+use Rattle.lent.proofs.Fields.{Tag, t0, t1, t2, t3, t4, t5, t6, t7, t8, beyond, zeros-are, are-zeros, flag-back, flag-was, mod-back, set-mod, set-was, mark-good, mark-was}
 
 -- ---- a test of every element
 

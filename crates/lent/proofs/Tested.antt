@@ -1,35 +1,34 @@
 -- The test word by word passes just where the words and bytes are those of a sound state. Assumes nothing.
 -- From the tests to the state table by table: tails are blank rows, each row is the row of an entry (Rowwise, Shapes), chains end (Chains). Back by the same laws; `no-tables` and `last-test` serve the code.
 use mathlib.Core.Path.{_≡_, refl, sym, ap, ap₂, _∙_}
-use mathlib.Core.Bool.{Bool, true, false, not, _&&_}
+use mathlib.Core.Bool.{Bool, true, false, _&&_}
 use mathlib.Core.List.{List, [], _∷_}
-use mathlib.Core.Option.{Option, none, some}
-use Prim.Native.Nat.{ℕ, zero, suc, _+_, _*_, _-_, _≤_, _<_, _%_}
+use mathlib.Core.Option.{Option}
+use Prim.Native.Nat.{ℕ, suc, _+_, _*_, _≤_, _<_, _%_}
 use native.Mathlib.Omega.{arith}
 use native.Mathlib.Decide.{decLt}
-use lib.Dec.{eqb, leb, ltb}
-use lib.ListN.{length, getD, replicate, length-replicate, List·getD-eq-default}
+use lib.Dec.{eqb, leb}
+use lib.ListN.{length, getD, length-replicate, List·getD-eq-default}
 use lib.Seq.{ext-getD}
-use borrow.Author.Tests.{ltb-true, leb-true, eqb-true, lt-ltb, le-ltb, le-leb, eq-eqb}
-use Rattle.definition.specs.Types.{State, Struct, Node, Cell, Shape, Places, Constraint, unbound, max-nodes, max-args, max-vars, max-constraints, max-structs, if_then_else_}
-use Rattle.definition.specs.Store.{nowhere, count, taken, node, type-at, get, num-loc, with-args, with-structs, all-of}
+use borrow.Author.Tests.{leb-true, eqb-true, lt-ltb, le-ltb, le-leb, eq-eqb}
+use Rattle.definition.specs.Types.{State, Struct, Node, Constraint, unbound, max-nodes, max-args, max-vars, max-constraints, max-structs}
+use Rattle.definition.specs.Store.{nowhere, count, taken, node, get, num-loc, with-args, with-structs, all-of}
 use Rattle.definition.specs.Subst.{parts}
 use Rattle.definition.specs.Sound as sd
-use Rattle.definition.specs.Sound.{sound, counts-fit, smaller-than, is-u32, node-allowed, shape-allowed, binding-allowed, numeric-allowed, cell-allowed, constraint-allowed, struct-allowed, fields-allowed, no-anything, no-binding-anything, chain-ends, chains-end}
+use Rattle.definition.specs.Sound.{sound, counts-fit, smaller-than, is-u32, node-allowed, binding-allowed, numeric-allowed, cell-allowed, constraint-allowed, struct-allowed, fields-allowed, no-anything, no-binding-anything, chain-ends, chains-end}
 use Rattle.definition.specs.Trees.{is-set}
-use Rattle.theorems.proofs.Facts as f
 use Rattle.theorems.proofs.Facts.{of-each, at-place}
 use Rattle.table.specs.Tab.{tab}
 use Rattle.table.specs.Rows.{row, words-at, entries, read-node, node-words, shape-words, read-arg, arg-words, read-cell, cell-words, read-constraint, constraint-words}
-use Rattle.table.specs.Rows.{read-struct, struct-words, read-option, option-flag, option-word, read-shape, node-table, arg-table, var-table, constraint-table, struct-table}
+use Rattle.table.specs.Rows.{read-struct, struct-words, option-flag, option-word, read-shape, node-table, arg-table, var-table, constraint-table, struct-table}
 use Rattle.table.specs.State.{view, seen}
 use Rattle.table.specs.declared.Used.{Used}
 use Rattle.table.proofs.Tab.{length-tab, getD-tab, getD-tab-out}
-use Rattle.table.proofs.Rows.{length-entries, entry-at}
+use Rattle.table.proofs.Rows.{length-entries}
 use Rattle.table.proofs.Fields.{node-made, arg-row, get-read, num-read, constraint-read}
 use Rattle.table.specs.Encode.{counts as count-words, encode as encode-words}
 use Rattle.lent.specs.Lent.{used-of, bytes-at, struct-of, structs-of, decode, encode-params, same-words, same-rows, lent-sound, Lent-sound}
-use Rattle.rows.specs.Tests.{Sized, all-below, counts-fine, zeros, tails-fine, struct-fine, params-at, byte-fine, bytes-fine, shape-fine, node-fine, cell-fine, binding-fine, numeric-fine, constraint-fine, tables-fine}
+use Rattle.rows.specs.Tests.{Sized, all-below, counts-fine, zeros, tails-fine, struct-fine, params-at, byte-fine, bytes-fine, node-fine, cell-fine, binding-fine, numeric-fine, constraint-fine, tables-fine}
 use Rattle.lent.specs.Chains.{chain-fine}
 use Rattle.rows.proofs.Tables.{Tables, tables-say, tables-are}
 use Rattle.rows.proofs.Below.{and-l, and-r, both, same-test, not-passed, all-at, all-from, when-true, when-false}
@@ -37,7 +36,7 @@ use Rattle.lent.proofs.Fields.{tag-of, mod-back, set-mod, set-was}
 use Rattle.lent.proofs.Encode.{Rows, Holds, encoded, holds}
 use Rattle.lent.proofs.Rows.{rows-from, used-row, past-row, tail-rows, rows-tail, node-row, var-row, constraint-row, struct-row}
 use Rattle.lent.proofs.Shapes.{each-of, Good, good, fine, args-count, vars-count}
-use Rattle.lent.proofs.Rowwise.{Back, numeric-good, numeric-was, numeric-u32, nodes-count, value-at, Binding-good, binding-good, binding-was, Constraint-good, kind-fine, constraint-good, constraint-was}
+use Rattle.lent.proofs.Rowwise.{Back, numeric-good, numeric-was, numeric-u32, nodes-count, Binding-good, binding-good, binding-was, Constraint-good, kind-fine, constraint-good, constraint-was}
 use Rattle.lent.proofs.Chains.{chain-is}
 
 -- every test of the code passes

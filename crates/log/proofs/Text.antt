@@ -10,7 +10,6 @@ use borrow.Author.Tests.{lt-ltb, le-ltb, ltb-true, ltb-false}
 use lib.Dec.{ltb}
 use lib.ListN.{length, getD, take, length-append}
 use lib.Seq.{take-suc, length-take-le}
-use Rattle.definition.specs.Types.{if_then_else_}
 use Rattle.definition.specs.Write.{Bytes}
 use Rattle.definition.specs.Job.{digits, decimal, hex-digit, hexadecimal, payload-text, line}
 use Rattle.log.specs.Line.{Wrote, line-of}

@@ -1,9 +1,8 @@
 // The log's lines: record number, answer number and payload, as text.
 ghost use mathlib.Core.Path.{_≡_};
-ghost use mathlib.Core.List.{List, [], _∷_};
-ghost use Prim.Native.Nat.{ℕ, _+_, _*_, _≤_, _<_};
+ghost use mathlib.Core.List.{[], _∷_};
+ghost use Prim.Native.Nat.{_+_, _≤_, _<_};
 ghost use lib.ListN.{length, take};
-ghost use Rattle.definition.specs.Write.{Bytes};
 ghost use Rattle.definition.specs.Job.{decimal, hex-digit, hexadecimal, payload-text};
 ghost use Rattle.log.specs.Line.{Wrote, line-of};
 

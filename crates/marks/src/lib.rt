@@ -1,7 +1,6 @@
 // A record's mark: two letters, in ASCII.
 ghost use mathlib.Core.Path.{_≡_};
 ghost use mathlib.Core.Bool.{_&&_};
-ghost use lib.ListN.{drop};
 ghost use lib.Dec.{eqb};
 ghost use Rattle.definition.specs.Types as d;
 ghost use Rattle.definition.specs.Record.{by-mark, fields-of};

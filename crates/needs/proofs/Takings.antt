@@ -1,14 +1,14 @@
 -- Takings added up: of a type and its parts, and how few they are. First the laws of sums, then trees in a row, then a type as its own takings and its parts' (`whole`), then the bounds. Assumes nothing.
 use mathlib.Core.Path.{_≡_, refl, sym, ap, _∙_}
-use mathlib.Core.Bool.{Bool, true, false, _&&_, _||_}
+use mathlib.Core.Bool.{Bool, true, false}
 use mathlib.Core.Option.{Option, none, some}
-use Prim.Native.Nat.{ℕ, zero, suc, _+_, _*_, _≤_}
+use Prim.Native.Nat.{ℕ, suc, _+_, _≤_}
 use native.Mathlib.Omega.{arith}
 use lib.Dec.{leb}
 use borrow.Author.Tests.{leb-true}
 use Rattle.definition.specs.Types.{TypeName, Multiple, Builtin, ModuleType}
-use Rattle.definition.specs.Trees.{Tree, unit-tree, anything-tree, error-tree, ref-tree, param-tree, apply-tree, var-tree, Trees, no-trees, _then_}
-use Rattle.definition.specs.Needs.{Needs, takes, _plus_, merge, needs, needs-args}
+use Rattle.definition.specs.Trees.{Tree, Trees, no-trees, _then_}
+use Rattle.definition.specs.Needs.{Needs, takes, _plus_, merge, needs-args, needs}
 use Rattle.theorems.proofs.JoinAnswers.{tree-size, trees-size}
 use Rattle.theorems.proofs.JoinWrites.{name-size}
 use Rattle.names.specs.Names.{name-of}
@@ -16,7 +16,7 @@ use Rattle.table.specs.declared.Shape.{Shape}
 use Rattle.table.specs.declared.Shape.the-variants.{Unit as UnitS, Ref, Param, Apply, Var, Anything, UnresolvedError}
 use Rattle.reader.specs.Fields.{many-parts, first-tree, tree-of}
 use Rattle.needs.specs.declared.Sums.{Sums}
-use Rattle.needs.specs.Counted.{sums, both, unless, needs-of, Most, own, beside, is-apply, as-argument}
+use Rattle.needs.specs.Counted.{sums, both, needs-of, Most, own, beside, is-apply, as-argument}
 
 -- ---- laws of sums
 

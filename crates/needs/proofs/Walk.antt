@@ -12,7 +12,7 @@ use Rattle.definition.specs.Write.{Bytes}
 use Rattle.definition.specs.Reader.{Read, got, not-read, Reader, give, go-on, _>>=_}
 use Rattle.definition.specs.Trees.{Tree, Trees, no-trees, _then_, read-trees, read-nested}
 use Rattle.definition.specs.Needs.{Needs, _plus_}
-use Rattle.theorems.proofs.JoinAnswers.{tree-size, trees-size, Spent, spent, unread, pays-nested}
+use Rattle.theorems.proofs.JoinAnswers.{tree-size, trees-size, Spent, spent, pays-nested}
 use Rattle.table.specs.State.{Declares, view}
 use Rattle.table.specs.declared.Used.{Used}
 use Rattle.table.specs.declared.Shape.{Shape}
@@ -27,8 +27,8 @@ use Rattle.reader.proofs.Parts.{never}
 use Rattle.reader.proofs.Loop.{knowing, knows}
 use Rattle.needs.specs.declared.Sums.{Sums}
 use Rattle.needs.specs.declared.Counted.{Counted}
-use Rattle.needs.specs.Counted.{both, needs-of, Most, own, beside, is-apply, as-argument, Told, Tells, Counts}
-use Rattle.needs.proofs.Takings.{plus-assoc, plus-nothing, of-both, size, append, snoc, sum-of, append-snoc, append-none, size-snoc, trees-size-snoc, sum-snoc, whole, more, both-most, head-most, size-least}
+use Rattle.needs.specs.Counted.{both, needs-of, Most, own, beside, is-apply, as-argument, Tells, Counts}
+use Rattle.needs.proofs.Takings.{plus-assoc, plus-nothing, of-both, size, append, snoc, sum-of, append-snoc, append-none, size-snoc, trees-size-snoc, sum-snoc, whole, more, both-most, size-least}
 
 -- ---- what the definition reads
 

@@ -1,8 +1,7 @@
 -- The loop over the parts of a type in the words: where it begins, a turn, an early end, and the node at the end. Assumes nothing.
-use mathlib.Core.Path.{_≡_, refl, sym, ap, _∙_, subst}
+use mathlib.Core.Path.{_≡_, refl, sym, ap, _∙_}
 use mathlib.Core.Bool.{Bool, true, false}
 use mathlib.Core.List.{List, [], _∷_, _++_}
-use mathlib.Core.Logic.{⊎-elim}
 use Prim.Native.Nat.{ℕ, suc, _+_, _-_, _≤_, _<_}
 use native.Mathlib.Nat.{sub-zero}
 use native.Mathlib.Numerals.{add-one}
@@ -27,7 +26,7 @@ use Rattle.reader.specs.declared.Part.{Part}
 use Rattle.reader.specs.declared.Part.the-variants.{At, Full, Malformed, Unknown, Doubled}
 use Rattle.reader.specs.declared.Taken.{Taken}
 use Rattle.reader.specs.Fields.{rest, Knows, many-parts, tree-read}
-use Rattle.reader.specs.Taken.{Placed, place-read, part-of, Part-in, Arities, Takes, put-node, found-part, is-stop, is-over, node-in}
+use Rattle.reader.specs.Taken.{Placed, place-read, part-of, Part-in, Takes, put-node, found-part, is-stop, is-over, node-in}
 use Rattle.reader.proofs.Heads.{declares-self}
 use Rattle.reader.proofs.Parts.{never, then-node, onward, onward-none, node-after, turn, stop, at-open, none-left, found-is, found-in}
 

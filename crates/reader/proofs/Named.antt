@@ -3,11 +3,10 @@ use mathlib.Core.Path.{_≡_, refl}
 use mathlib.Core.Bool.{Bool, true, false, not}
 use Prim.Native.Nat.{ℕ}
 use lib.ListN.{length}
-use lib.Dec.{leb, ltb}
 use Rattle.definition.specs.Types.{TypeName, Multiple, Builtin, ModuleType, Mark, max-builtin, State, Refusal, malformed, unknown-name, if_then_else_}
 use Rattle.definition.specs.Write.{Bytes}
 use Rattle.definition.specs.Reader.{Read, got, not-read, Reader, give, refuse, go-on, _>>=_, byte, read-u16, byte-if, byte-to, name-below}
-use Rattle.definition.specs.Trees.{Tree, is-name, mark-fits, read-mark, read-apply}
+use Rattle.definition.specs.Trees.{Tree, is-name, read-mark, read-apply}
 use Rattle.reader.specs.Fields.{read-args}
 
 -- the number m reads, where it is allowed

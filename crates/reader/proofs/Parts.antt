@@ -2,7 +2,7 @@
 use mathlib.Core.Path.{_≡_, refl, sym, ap, _∙_, subst}
 use mathlib.Core.Bool.{Bool, true, false}
 use mathlib.Core.List.{List, [], _∷_, _++_, append-nil, append-assoc}
-use Prim.Native.Nat.{ℕ, zero, suc, _+_, _-_, _≤_, _<_}
+use Prim.Native.Nat.{ℕ, suc, _+_}
 use native.Mathlib.Omega.{arith}
 use lib.ListN.{length, getD}
 use lib.Dec.{ltb, leb}
@@ -12,7 +12,7 @@ use Rattle.definition.specs.Store.{count, args-of, with-node, sp}
 use Rattle.definition.specs.Write.{Bytes}
 use Rattle.definition.specs.Reader.{Read, got, not-read, Reader, give, go-on}
 use Rattle.definition.specs.Reader as r
-use Rattle.definition.specs.Trees.{Tree, apply-tree, Trees, no-trees, _then_, read-trees}
+use Rattle.definition.specs.Trees.{Tree, apply-tree, Trees, _then_, read-trees}
 use Rattle.names.specs.Names.{mark-of, name-of}
 use Rattle.definition.specs.Build.{build, build-all}
 use Rattle.table.specs.declared.Shape.{Shape}

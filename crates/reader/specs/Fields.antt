@@ -1,10 +1,10 @@
 -- What is left of the caller's bytes, and the fields of a type as read. Assumes nothing: these are definitions.
 use mathlib.Core.Path.{_≡_}
 use mathlib.Core.Bool.{not}
-use mathlib.Core.List.{List, []}
+use mathlib.Core.List.{List}
 use mathlib.Core.Option.{Option, none, some}
-use Prim.Native.Nat.{ℕ, _+_, _≤_, _<_}
-use lib.ListN.{length, take, drop}
+use Prim.Native.Nat.{ℕ, _≤_, _<_}
+use lib.ListN.{take, drop}
 use Rattle.definition.specs.Types as d
 use Rattle.definition.specs.Types.{State, Struct, malformed, unknown-name, doubled-reference, if_then_else_}
 use Rattle.definition.specs.Store.{taken}

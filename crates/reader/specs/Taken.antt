@@ -1,7 +1,7 @@
 -- A type read and placed at once: 5, 6 or 18 wins over 7, so that reading goes on when space has ended. Assumes nothing: these are definitions.
 use mathlib.Core.Path.{_≡_}
 use mathlib.Core.Bool.{Bool, true, false}
-use mathlib.Core.List.{List, [], _∷_}
+use mathlib.Core.List.{List, []}
 use Prim.Native.Nat.{ℕ, _≤_, _<_}
 use lib.ListN.{length, getD}
 use Rattle.definition.specs.Types as d

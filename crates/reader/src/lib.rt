@@ -1,7 +1,7 @@
 // One record from the caller's bytes: read from left to right (5, 6, 18), its types placed as nodes (7).
 ghost use mathlib.Core.Path.{_≡_};
 ghost use mathlib.Core.Bool.{false, _&&_};
-ghost use mathlib.Core.List.{List, []};
+ghost use mathlib.Core.List.{List};
 ghost use Prim.Native.Nat.{ℕ, _+_, _-_, _≤_, _<_};
 ghost use lib.Dec.{ltb, eqb};
 ghost use lib.ListN.{length, getD, take};
@@ -11,8 +11,8 @@ ghost use Rattle.definition.specs.Store.{taken};
 ghost use Rattle.definition.specs.Instantiate.{builtin-tparams};
 ghost use Rattle.definition.specs.Reader.{refuse, byte, byte-to, read-u16, read-u32, name-below, read-one, read-two, byte-if, read-bool, Reader};
 ghost use Rattle.definition.specs.Trees.{mark-of, mark-fits, read-apply, by-tag, read-nested, ref-tree, param-tree, var-tree, is-set, under-ref};
-ghost use Rattle.names.specs.Names.{mark-of as mark-is, name-of};
-ghost use Rattle.table.specs.State.{view, seen, Lay, After, Declares};
+ghost use Rattle.names.specs.Names.{mark-of as mark-is};
+ghost use Rattle.table.specs.State.{view, Lay, After, Declares};
 ghost use Rattle.reader.specs.declared.Head.the-variants.{Begun};
 ghost use Rattle.reader.specs.Fields.{rest, read-args, Reads, Names, marked, Marks, Begins, Knows, Head-within, Head-nests, tree-read, many-parts, Width, Reads-two};
 ghost use Rattle.reader.specs.Taken.{Arities, Takes, Parts-below, put-node, found-part, is-stop, is-over, node-in};

@@ -7,7 +7,7 @@ use native.Mathlib.Omega.{arith}
 use lib.ListN.{length}
 use Rattle.definition.specs.Types.{State}
 use Rattle.definition.specs.Write.{Bytes}
-use Rattle.definition.specs.Reader.{got, not-read, Reader, go-on, _>>=_, byte}
+use Rattle.definition.specs.Reader.{got, Reader, go-on, _>>=_, byte}
 use Rattle.definition.specs.Record.{Record, by-mark, fields-of, read-fields}
 use Rattle.reader.specs.Fields.{rest}
 use Rattle.reader.proofs.Rest.{rest-length}

@@ -7,7 +7,7 @@ use native.Mathlib.Nat.{sub-zero}
 use native.Mathlib.Numerals.{add-one}
 use native.Mathlib.Decide.{ℕ-discrete}
 use native.Mathlib.Omega.{arith}
-use lib.ListN.{length, getD, set, take, replicate, length-set}
+use lib.ListN.{length, getD, set, length-set}
 use lib.Seq.{getD-set-same, getD-set-other}
 use Rattle.definition.specs.Types.{State, Struct, malformed, Result, ok, err, refused, _>>=_}
 use Rattle.definition.specs.Write.{Bytes}
@@ -18,7 +18,7 @@ use Rattle.definition.specs.Build.{build, build-pairs}
 use Rattle.definition.specs.Record as d
 use Rattle.definition.specs.Record.{Record, read-pair}
 use Rattle.names.specs.declared.TParamID.{TParamID}
-use Rattle.table.specs.State.{Lay, Grown, Declares, Parts, view, seen}
+use Rattle.table.specs.State.{Lay, Grown, Declares, view, seen}
 use Rattle.table.specs.declared.Used.{Used}
 use Rattle.table.proofs.Steps.{grown-refl, grown-trans}
 use Rattle.table.proofs.Grown.{nodes-grow}
@@ -26,7 +26,7 @@ use Rattle.reader.specs.declared.Part.{Part}
 use Rattle.reader.specs.declared.Part.the-variants.{At, Full, Malformed, Unknown, Doubled}
 use Rattle.reader.specs.declared.Taken.{Taken}
 use Rattle.reader.specs.Fields.{rest, Knows}
-use Rattle.reader.specs.Taken.{Placed, stopped, placed, place-read, part-of, Part-in, Takes, is-stop, is-over, node-in}
+use Rattle.reader.specs.Taken.{place-read, Takes, is-stop, is-over, node-in}
 use Rattle.reader.proofs.Loop.{declares-kept}
 use Rattle.fields.specs.declared.Look.the-variants as k
 use Rattle.fields.specs.declared.What.the-variants as q

@@ -1,9 +1,9 @@
 -- A record among the caller's bytes: no more than 4,096 are its own, and those left over are handed back. Assumes nothing.
 use mathlib.Core.Path.{_≡_, refl, sym, ap, _∙_}
 use mathlib.Core.Bool.{false}
-use mathlib.Core.List.{List, [], _++_}
+use mathlib.Core.List.{List, _++_}
 use mathlib.Core.Logic.{_⊎_, inl, inr}
-use Prim.Native.Nat.{ℕ, _+_, _-_, _≤_, _<_}
+use Prim.Native.Nat.{ℕ, _+_, _≤_}
 use native.Mathlib.Omega.{arith}
 use lib.ListN.{length, take, drop, length-drop, drop-of-length-le, take-append-drop}
 use lib.Seq.{length-take-le, take-all, take-length, take-add, drop-at, drop-drop, drop-append-le}
@@ -12,7 +12,7 @@ use Rattle.definition.specs.Write.{Bytes}
 use Rattle.definition.specs.Reader.{Read, got, not-read}
 use Rattle.definition.specs.Store.{with-structs}
 use Rattle.definition.specs.Record.{Record, max-record, hand-back, read-fields, read-record}
-use Rattle.table.specs.State.{Declares, seen}
+use Rattle.table.specs.State.{seen}
 use Rattle.table.specs.declared.Used.{Used}
 use Rattle.table.proofs.Pushed.{taken-seen}
 use Rattle.reader.specs.Fields.{rest, Knows}

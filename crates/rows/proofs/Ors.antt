@@ -1,13 +1,13 @@
 -- `|` is zero just where both sides are; a run of tests one further. Assumes nothing.
 use mathlib.Core.Path.{_≡_, refl, sym, ap, _∙_}
-use mathlib.Core.Bool.{Bool, true, false, _&&_}
+use mathlib.Core.Bool.{Bool, true, _&&_}
 use mathlib.Core.List.{List, []}
 use Prim.Native.Nat.{ℕ, zero, suc, _+_, _-_, _≤_, _<_}
 use native.Mathlib.Omega.{arith}
 use native.Mathlib.Numerals.{add-one}
 use lib.Dec.{eqb}
 use lib.ListN.{getD}
-use lib.Bits.{bitOr, bitAnd, or-add-and, and-le-r}
+use lib.Bits.{bitOr, or-add-and, and-le-r}
 use borrow.Author.Tests.{ne-eqb, le-ltb}
 use Rattle.table.specs.declared.Used.{Used}
 use Rattle.rows.specs.Tests.{all-below, zero-at, params-at, byte-fine, bytes-fine}

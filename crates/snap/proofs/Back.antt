@@ -8,7 +8,7 @@ use native.Mathlib.Decide.{decLt}
 use lib.ListN.{length, getD, replicate, length-append, length-replicate}
 use lib.Seq.{ext-getD}
 use Rattle.definition.specs.Types.{Struct, Cell, unbound}
-use Rattle.definition.specs.Store.{count, taken, node, get, with-vars, with-structs}
+use Rattle.definition.specs.Store.{count, node, get, with-vars, with-structs}
 use Rattle.definition.specs.Step.{put-back}
 use Rattle.table.specs.Tab.{tab}
 use Rattle.table.specs.Rows.{Table, row, words-at, entries, Clean, read-cell, cell-words, option-flag, option-word, node-table, arg-table, var-table, constraint-table, struct-table}

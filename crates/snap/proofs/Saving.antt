@@ -29,6 +29,3 @@ saving-more w saved₀ saved n k h lt le =
 
 pub partly-none : (w : List ℕ) (u : Used) (saved : List ℕ) → Saved-partly w u 0 saved
 partly-none w u saved = record { few = omega arith; rows = record { word = λ k h. absurd (omega arith) } }
-
-pub partly-fewer : {w : List ℕ} {u : Used} {n : ℕ} {saved : List ℕ} (m : ℕ) → m ≤ n → Saved-partly w u n saved → Saved-partly w u m saved
-partly-fewer m le h = let f = h .few in record { few = omega arith; rows = record { word = λ k l. h .rows .word k (omega arith) } }

@@ -11,7 +11,7 @@ use Rattle.definition.specs.Store.{taken, with-vars, with-structs}
 use Rattle.definition.specs.Step.{put-back}
 use Rattle.table.specs.Tab.{tab}
 use Rattle.table.specs.Rows.{Table, row, entries, Clean, cell-words, node-words, shape-words, arg-words, constraint-words, struct-words, node-table, arg-table, var-table, constraint-table, struct-table}
-use Rattle.table.specs.State.{view, seen, Lay, Inside, Front, Grown, Stored, Wrote}
+use Rattle.table.specs.State.{view, seen, Lay, Inside, Front, Stored, Wrote}
 use Rattle.table.specs.declared.Used.{Used}
 use Rattle.table.proofs.Tab.{tab-ext}
 use Rattle.table.proofs.Rows.{length-entries, entry-out, row-same, Same, same-entries, same-clean, apart}

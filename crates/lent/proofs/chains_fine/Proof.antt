@@ -1,11 +1,9 @@
 -- `lent::chains_fine` meets its contract. Assumes nothing.
-use mathlib.Core.Bool.{true}
 use mathlib.Core.Path.{_≡_, sym, _∙_}
-use Prim.Native.Nat.{_≤_, _-_}
+use Prim.Native.Nat.{_-_}
 use native.Mathlib.Omega.{arith}
 use borrow.Author.Tests.{not-true, not-false}
 use borrow.Author.Needs.{needs}
-use Rattle.rows.specs.Tests.{all-below}
 use Rattle.lent.specs.Chains.{chain-fine, Noted}
 use Rattle.rows.proofs.Below.{Passed, passed-none, passed-more, passed-all, one-fails}
 use Rattle.lent.proofs.Links.{noted-none}

@@ -1,7 +1,6 @@
 -- `marks::same` meets its contract. Assumes nothing.
 use mathlib.Core.Path.{refl}
 use borrow.Author.Tests.{eq-eqb, ne-eqb}
-use borrow.Author.Needs.{needs}
 use Rattle.marks.proofs.same.Statement.{statement}
 use Rattle.marks.proofs.same.Tie as tie
 

@@ -5,7 +5,7 @@ use borrow.Author.Needs.{needs}
 use Rattle.reader.specs.declared.Part.the-variants.{Malformed, Unknown, Doubled}
 use Rattle.needs.proofs.Takings.{few-own, few-beside, head-most}
 use Rattle.needs.proofs.Walk.{Going, go-none, go-few, part-few, go-more, go-stop, go-all, counts-is, counts-none}
-use Prim.Native.Nat.{ℕ, _+_, _*_, _-_, _<_, _≤_}
+use Prim.Native.Nat.{ℕ, _+_, _*_, _-_, _<_}
 use borrow.Fn.Kinds.{In}
 use borrow.Fn.PlainCycle.{Measures, is, falls, and}
 use Rattle.needs.proofs.count_parts.Reads as count-parts

@@ -2,7 +2,7 @@
 use mathlib.Core.Path.{refl, _∙_}
 use Rattle.definition.specs.Types.{max-builtin}
 use Rattle.definition.specs.Reader.{_>>=_, go-on}
-use Rattle.reader.specs.Fields.{read-args, byte-wide}
+use Rattle.reader.specs.Fields.{byte-wide}
 use Rattle.reader.proofs.Named.{builtin-is}
 use borrow.Author.Needs.{needs}
 use Rattle.reader.proofs.builtin_fields.Statement.{statement}

@@ -2,7 +2,7 @@
 use mathlib.Core.Path.{refl}
 use native.Mathlib.Omega.{arith}
 use Rattle.definition.specs.Trees.{read-trees}
-use Rattle.definition.specs.Reader.{_>>=_, go-on, give, read-two, read-u32}
+use Rattle.definition.specs.Reader.{_>>=_, go-on, give, read-two}
 use Rattle.reader.specs.Fields.{byte-wide, u32-wide}
 use borrow.Author.Needs.{needs}
 use Rattle.reader.proofs.param_fields.Statement.{statement}

@@ -1,9 +1,8 @@
 -- `rows::given_fine` meets its contract. Assumes nothing.
 -- Invariant: the bytes of the rows before i pass. A row that fails makes the whole test fail (`one-fails`), else it is one row more (`passed-more`).
-use mathlib.Core.Path.{_≡_, sym, _∙_, ap}
+use mathlib.Core.Path.{sym, _∙_, ap}
 use mathlib.Core.List.{[]}
-use mathlib.Core.Bool.{true}
-use Prim.Native.Nat.{ℕ, _≤_, _-_}
+use Prim.Native.Nat.{ℕ, _-_}
 use native.Mathlib.Omega.{arith}
 use lib.ListN.{getD}
 use borrow.Author.Tests.{not-true, not-false}

@@ -1,7 +1,6 @@
 -- `rows::row_fine` meets its contract. Assumes nothing.
-use mathlib.Core.Path.{_≡_, ap}
+use mathlib.Core.Path.{_≡_}
 use Prim.Native.Nat.{ℕ, _<_}
-use native.Mathlib.Omega.{arith}
 use borrow.Author.Needs.{needs}
 use Rattle.table.specs.declared.Used.{Used}
 use Rattle.rows.specs.declared.Table.{Table}

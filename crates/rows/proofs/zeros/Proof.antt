@@ -1,10 +1,8 @@
 -- `rows::zeros` meets its contract. Assumes nothing.
-use mathlib.Core.Bool.{true}
 use mathlib.Core.Path.{_≡_, sym, ap, _∙_}
 use Prim.Native.Nat.{ℕ, _≤_, _-_}
 use lib.Dec.{eqb}
 use native.Mathlib.Omega.{arith}
-use borrow.Author.Tests.{eq-eqb, ne-eqb}
 use borrow.Author.Needs.{needs}
 use Rattle.rows.specs.Tests.{all-below, zero-at, zeros}
 use Rattle.rows.proofs.Ors.{one-more, none-yet}
