@@ -11,12 +11,12 @@ import os, sys
 ROOT = os.path.join(os.path.dirname(os.path.abspath(__file__)), '..')
 KIT = ('io', 'libc')
 GROUPS = [
-    ('believed', '#f5d76e', 'definition theorems pieces replay'),
-    ('the lent words', '#aed6f1', 'names table snap lent'),
-    ("core.rs's functions", '#a9dfbf', 'subst arms merge join walk tparams instantiate abilities constraints failures'),
-    ('bytes in and out', '#d7bde2', 'cursor marks reader needs fields record writer report log answer'),
-    ('a record', '#f5b7b1', 'run solve dispatch step'),
-    ('calls, programs', '#d5dbdb', 'engine joinlog exports edges traps'),
+    ('believed', '#f5d76e', 'definition theorems pieces test_replay'),
+    ('the lent words', '#aed6f1', 'names table snapshot sound_rows sound'),
+    ("core.rs's functions", '#a9dfbf', 'shapes subst ready arms merge join tparams instantiate abilities constraints'),
+    ('bytes in and out', '#d7bde2', 'cursor marks reader needs fields record writer log answer'),
+    ('a record', '#f5b7b1', 'run solve outcome step'),
+    ('calls, programs', '#d5dbdb', 'limits engine turns joinlog exports test_edges test_traps'),
 ]
 WIDE, HIGH, COLUMN, ROW = 94, 28, 112, 74
 
