@@ -1,10 +1,10 @@
 #!/usr/bin/env python3
-"""The jobs of the program crates/edges, and what it must print.
+"""The jobs of the program crates/test_edges, and what it must print.
 
-  tools/edges.py             crates/edges/stdin and stdout
+  tools/edges.py             crates/test_edges/stdin and stdout
   tools/edges.py --check     says whether they are as made here, and writes nothing
 
-The marked calls have 01's logs (oracle/marked.txt), the streams of crates/replay/proofs/EdgeStreams.antt the logs that the definition
+The marked calls have 01's logs (oracle/marked.txt), the streams of crates/test_replay/proofs/EdgeStreams.antt the logs that the definition
 computes. The jobs below stand at 01's limits: their answers 0 to 4 are core.rs's (oracle log), and each refusal is given here by the rule
 that it stands beside. A refused record leaves the state as it was, so core.rs is run without it. Wants oracle and rust/joblog built.
 """
@@ -35,7 +35,7 @@ def marked():
 
 
 def computed():
-    text = open(os.path.join(ROOT, 'crates/replay/proofs/EdgeStreams.antt')).read()
+    text = open(os.path.join(ROOT, 'crates/test_replay/proofs/EdgeStreams.antt')).read()
     for name, stream, log in re.findall(r'^edge-(\S+) : log-of \(hex "([0-9a-f]*)"\) ≡ text "(.*)"$', text, re.M):
         yield name, bytes.fromhex(stream), log.replace('\\n', '\n').strip().split('\n')
 
@@ -204,7 +204,7 @@ def marks():
 
 
 def main():
-    where = os.path.join(ROOT, 'crates/edges')
+    where = os.path.join(ROOT, 'crates/test_edges')
     jobs = [j for made in (marked, computed, limits, told, abilities, ends, marks) for j in made()]
     behind = [(len(name) + 1 + len(stream), name.encode() + b'\n' + stream) for name, stream, _ in jobs]
     texts = {
@@ -214,7 +214,7 @@ def main():
     if '--check' in sys.argv[1:]:
         stale = [name for name, text in texts.items() if open(os.path.join(where, name), 'rb').read() != text]
         if stale:
-            sys.exit('crates/edges, stale, run tools/edges.py: ' + ' '.join(stale))
+            sys.exit('crates/test_edges, stale, run tools/edges.py: ' + ' '.join(stale))
     else:
         for name, text in texts.items():
             open(os.path.join(where, name), 'wb').write(text)

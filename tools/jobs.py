@@ -1,7 +1,7 @@
 #!/usr/bin/env python3
 """oracle/replay.list (core.rs's answers) as checks of the definition and as a program's input.
 
-  tools/jobs.py antt [DIR]       Jobs1.antt, Jobs2.antt, .. of sixty jobs each in crates/replay/proofs, or in DIR
+  tools/jobs.py antt [DIR]       Jobs1.antt, Jobs2.antt, .. of sixty jobs each in crates/test_replay/proofs, or in DIR
   tools/jobs.py antt --check     says whether they are as made here, and writes nothing
   tools/jobs.py program DIR      DIR/stdin: each job behind its length, u32 little-endian; DIR/stdout: for each
                                  job a line `= NAME`, then its log
@@ -65,7 +65,7 @@ def program(jobs, where):
 def main():
     jobs = read_list(os.path.join(ROOT, 'oracle/replay.list'))
     what, where = (sys.argv[1:] + [None, None])[:2]
-    proofs = os.path.join(ROOT, 'crates/replay/proofs')
+    proofs = os.path.join(ROOT, 'crates/test_replay/proofs')
     if what == 'antt' and where == '--check':
         stale = [name for name, text in antt(jobs) if open(os.path.join(proofs, name)).read() != text]
         if stale:

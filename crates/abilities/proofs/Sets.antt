@@ -15,7 +15,7 @@ use Rattle.definition.specs.Types.{State, Struct}
 use Rattle.definition.specs.Store.{count, args-at, with-args, spanned, all-of}
 use Rattle.definition.specs.Subst.{parts, unfold-type, goes-on-to, ends-in, reaches-itself}
 use Rattle.definition.specs.Abilities.{infer-value, infer-abilities, declaration, rule}
-use Rattle.theorems.proofs.Inferred.{infer-is}
+use Rattle.theorems.proofs.SolveInferred.{infer-is}
 use Rattle.names.specs.declared.Mark.{Mark}
 use Rattle.names.specs.declared.TypeName.{TypeName}
 use Rattle.table.specs.Rows.{places}

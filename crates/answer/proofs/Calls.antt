@@ -13,11 +13,11 @@ use Rattle.definition.specs.Subst.{parts}
 use Rattle.definition.specs.Write.{mark, each, head, write-down, write-spanned}
 use Rattle.definition.specs.Trees.{mark-fits, is-mark, is-name}
 use Rattle.definition.specs.Sound.{is-u32}
-use Rattle.theorems.proofs.Ranges.{ShapeIn, NodeIn, Ranges, all-get}
+use Rattle.theorems.proofs.SoundRanges.{ShapeIn, NodeIn, Ranges, all-get}
 use Rattle.table.specs.Rows.{Table, entries, node-table, arg-table, var-table, constraint-table, struct-table}
 use Rattle.table.specs.State.{seen, view, Nodes-in, Front, Grown}
 use Rattle.table.proofs.Rows.{length-entries}
-use Rattle.snap.specs.Snap.{Above}
+use Rattle.snapshot.specs.Snap.{Above}
 use Rattle.table.specs.declared.Used.{Used}
 use Rattle.table.specs.declared.Out.{Out}
 use Rattle.table.specs.declared.Out.the-variants.{Done, Failed, Refused}

@@ -13,7 +13,7 @@ use Rattle.table.specs.declared.Used.{Used}
 use Rattle.table.specs.declared.Out.the-variants.{Done, Failed, Refused}
 use Rattle.table.specs.declared.TypingError as table
 use Rattle.table.specs.declared.Refusal.{Refusal}
-use Rattle.snap.specs.Snap.{PutBack, Undone}
+use Rattle.snapshot.specs.Snap.{PutBack, Undone}
 use Rattle.writer.specs.Bytes.{Wrote, capped}
 use Rattle.answer.specs.Ran.{shown, ran, answered, success, failure, refused-by, Answers}
 use Rattle.answer.specs.declared.Show.{Show}

@@ -13,8 +13,8 @@ use Rattle.definition.specs.Step as step
 use Rattle.definition.specs.Step.{answer, answer-with, refusal, put-back, max-payload, number-of-error, number-of-refusal}
 use Rattle.table.specs.State.{view, seen, Lay, Declares}
 use Rattle.table.specs.declared.Used.{Used}
-use Rattle.snap.specs.Snap.{Since, PutBack, GivenBack, Undone}
-use Rattle.snap.proofs.Tails.{saved-stood}
+use Rattle.snapshot.specs.Snap.{Since, PutBack, GivenBack, Undone}
+use Rattle.snapshot.proofs.Tails.{saved-stood}
 use Rattle.writer.specs.Bytes.{Wrote}
 use Rattle.answer.specs.Ran.{shown, success, failure, refused-by, Still, Answers}
 use Rattle.answer.specs.declared.Show.{Show}

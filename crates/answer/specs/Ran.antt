@@ -13,7 +13,7 @@ use Rattle.table.specs.State.{outcome, seen, Lay, Declares, Types-in}
 use Rattle.table.specs.declared.Used.{Used}
 use Rattle.table.specs.declared.Out.{Out}
 use Rattle.table.specs.declared.Out.the-variants.{Done, Failed, Refused}
-use Rattle.snap.specs.Snap.{Saved, Since}
+use Rattle.snapshot.specs.Snap.{Saved, Since}
 use Rattle.answer.specs.declared.Show.{Show}
 use Rattle.answer.specs.declared.Show.the-variants.{Nothing, Number, Variable, Node, Anything, Four}
 use Rattle.answer.specs.declared.Ran.{Ran}

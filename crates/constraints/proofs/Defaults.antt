@@ -29,7 +29,7 @@ use Rattle.table.proofs.Pushed.{taken-view}
 use Rattle.subst.specs.Answers.{unfolded, var-at, Unfolds}
 use Rattle.subst.specs.declared.Unfolded.{Unfolded}
 use Rattle.subst.specs.declared.Unfolded.the-variants.{Node as NodeU, Anything as AnythingU}
-use Rattle.snap.specs.Snap.{Saved}
+use Rattle.snapshot.specs.Snap.{Saved}
 use Rattle.constraints.specs.Solve.{numbered, Answered, join-u64, default-marked, defaults}
 
 -- ---- what nothing decides

@@ -13,7 +13,7 @@ ghost use Rattle.definition.specs.Step.{numeric-constraint};
 ghost use Rattle.table.specs.Rows.{read-option};
 ghost use Rattle.table.specs.State.{constraint-of, found, seen, Lay, Changed, After, Wrote, pushed-constraint, shape-of};
 ghost use Rattle.subst.specs.Answers.{var-at};
-ghost use Rattle.snap.specs.Snap.{Saved};
+ghost use Rattle.snapshot.specs.Snap.{Saved};
 ghost use Rattle.constraints.specs.Emptied.{First, Emptied};
 ghost use Rattle.constraints.specs.Solve.{kind-of, numbered, join-u64, default-marked, Answered};
 ghost use mathlib.Core.Bool.{not};

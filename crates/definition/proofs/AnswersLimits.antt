@@ -1,5 +1,5 @@
 -- 01's limits, computed in states written down: each line is false under an edit of must-fail/ (docs/CLAIMS.md, 'Edits of the definition'). The other side of each
--- limit is in crates/replay, EdgeLimits. Assumes nothing.
+-- limit is in crates/test_replay, EdgeLimits. Assumes nothing.
 use mathlib.Core.Path.{_≡_, refl}
 use mathlib.Core.Bool.{false}
 use mathlib.Core.List.{List, [], _∷_, _++_}

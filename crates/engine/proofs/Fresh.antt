@@ -17,9 +17,9 @@ use Rattle.theorems.proofs.SoundKept.{fresh-sound}
 use Rattle.table.specs.Tab.{tab}
 use Rattle.table.specs.Rows.{node-table, arg-table, var-table, constraint-table, struct-table, node-words, shape-words, arg-words, cell-words, constraint-words, struct-words, option-flag, option-word, flag}
 use Rattle.table.specs.Encode.{flat, table-words, counts, encode}
-use Rattle.lent.specs.Lent.{encode-params, lent-sound}
-use Rattle.lent.proofs.Tested.{lent-passes}
-use Rattle.lent.proofs.Decoded.{encode-lent}
+use Rattle.sound.specs.Lent.{encode-params, lent-sound}
+use Rattle.sound.proofs.Tested.{lent-passes}
+use Rattle.sound.proofs.Decoded.{encode-lent}
 use Rattle.engine.specs.Public.{Lent-piece, lent-lines, fresh-lines}
 
 zeros : ℕ → List ℕ

@@ -15,9 +15,9 @@ use Rattle.definition.specs.Step as step
 use Rattle.definition.specs.Step.{step-stream, max-buffer}
 use Rattle.definition.specs.Job.{ends-job, line}
 use Rattle.pieces.specs.Pieces.{Piece, max-line, max-place, takes-on, halt, after-line, next-lines}
-use Rattle.theorems.proofs.Facts.{and-l, and-r, test}
+use Rattle.theorems.proofs.SoundFacts.{and-l, and-r, test}
 use Rattle.theorems.proofs.SoundKept.{trusted}
-use Rattle.theorems.proofs.Refused.{stream-two-digits}
+use Rattle.theorems.proofs.SoundRefusals.{stream-two-digits}
 use Rattle.theorems.proofs.Stream.{Goes-on, shorter, over, stream-on}
 use Rattle.pieces.proofs.Pieces.{entry-of, next-spent, next-stops, next-last, next-goes, no-line, two-lines, line-size}
 use Rattle.table.specs.declared.Used.{Used}

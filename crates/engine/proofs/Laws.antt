@@ -17,15 +17,15 @@ use Rattle.definition.specs.Sound.{sound}
 use Rattle.definition.specs.Step as step
 use Rattle.definition.specs.Step.{lent, step, step-stream, usable, max-buffer}
 use Rattle.pieces.specs.Pieces.{next-lines}
-use Rattle.theorems.proofs.Facts.{and-l, and-r, test}
+use Rattle.theorems.proofs.SoundFacts.{and-l, and-r, test}
 use Rattle.theorems.proofs.SoundKept.{trusted}
 use Rattle.theorems.proofs.Soundness.{and, le-test}
 use Rattle.table.specs.Encode.{encode}
 use Rattle.table.specs.State.{seen, Declares}
 use Rattle.table.specs.declared.Used.{Used}
-use Rattle.lent.specs.Lent.{used-of, structs-of, decode, lent-sound}
-use Rattle.lent.proofs.Tested.{lent-says}
-use Rattle.lent.proofs.Lays.{lent-lay, lent-declares}
+use Rattle.sound.specs.Lent.{used-of, structs-of, decode, lent-sound}
+use Rattle.sound.proofs.Tested.{lent-says}
+use Rattle.sound.proofs.Lays.{lent-lay, lent-declares}
 use Rattle.step.specs.declared.Stepped.{Stepped}
 use Rattle.engine.specs.declared.Lines.{Lines}
 use Rattle.engine.specs.Public.{Lent-answer, lent-answer, lent-step, in-front, Gives-answer, rest-of, Lent-piece, lent-piece, lent-lines, Gives-lines}

@@ -10,7 +10,7 @@ use Rattle.definition.specs.Write.{Bytes}
 use Rattle.definition.specs.Step.{Answer, step, step-stream, max-buffer}
 use Rattle.pieces.specs.Pieces.{Piece, next-lines}
 use Rattle.table.specs.Encode.{encode}
-use Rattle.lent.specs.Lent.{decode, encode-params, lent-sound}
+use Rattle.sound.specs.Lent.{decode, encode-params, lent-sound}
 
 -- ---- one lent record
 

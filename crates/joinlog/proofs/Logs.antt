@@ -12,14 +12,14 @@ use Rattle.definition.specs.Write.{Bytes, Is-bytes}
 use Rattle.definition.specs.Sound.{sound}
 use Rattle.definition.specs.Job.{job-from, job-log, lines, joinlog}
 use Rattle.pieces.specs.Pieces.{Piece, next-lines}
-use Rattle.theorems.proofs.Facts.{and-l}
-use Rattle.theorems.proofs.WellRead.{bytes-append}
+use Rattle.theorems.proofs.SoundFacts.{and-l}
+use Rattle.theorems.proofs.SoundRead.{bytes-append}
 use Rattle.theorems.proofs.SoundKept.{fresh-sound}
 use Rattle.pieces.proofs.Pieces.{log-from, onward, piece-follows}
 use Rattle.table.specs.Encode.{encode}
-use Rattle.lent.specs.Lent.{decode, encode-params}
-use Rattle.lent.proofs.Tested.{lent-passes}
-use Rattle.lent.proofs.Decoded.{decoded, encode-lent}
+use Rattle.sound.specs.Lent.{decode, encode-params}
+use Rattle.sound.proofs.Tested.{lent-passes}
+use Rattle.sound.proofs.Decoded.{decoded, encode-lent}
 use Rattle.engine.specs.Public.{Lent-piece, in-front, lent-piece, lent-lines}
 use Rattle.engine.proofs.Fresh.{from-fresh}
 use Rattle.turns.specs.declared.Turn.{Turn}

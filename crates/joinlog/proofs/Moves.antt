@@ -7,7 +7,7 @@ use native.Mathlib.Omega.{arith}
 use lib.Dec.{ltb, ltb→lt}
 use lib.ListN.{length, take, drop, length-drop}
 use lib.Seq.{take-nil, drop-drop, length-take-le}
-use Rattle.theorems.proofs.Facts.{and-r, test}
+use Rattle.theorems.proofs.SoundFacts.{and-r, test}
 use Rattle.turns.specs.declared.Turn.{Turn}
 use Rattle.turns.specs.Filling.{at-hand, short}
 

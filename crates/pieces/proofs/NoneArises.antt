@@ -7,7 +7,7 @@ use Rattle.definition.specs.Types.{State}
 use Rattle.definition.specs.Write.{Bytes}
 use Rattle.definition.specs.Step.{Answer, max-buffer, step-stream}
 use Rattle.definition.specs.Job.{ends-job, line}
-use Rattle.theorems.proofs.NoneArises.{No-doubled-state, none-arises-streamed}
+use Rattle.theorems.proofs.DoubledNone.{No-doubled-state, none-arises-streamed}
 use Rattle.pieces.specs.Pieces.{takes-on, halt, after-line, next-from, next-lines}
 use Rattle.pieces.proofs.Pieces.{entry-of, piece-after}
 

@@ -15,13 +15,13 @@ use Rattle.definition.specs.Sound.{sound}
 use Rattle.definition.specs.Step.{run, Answer, refusal, answer, max-buffer, usable, streamed, step-stream}
 use Rattle.definition.specs.Job.{Entry, ends-job, job-from, job-log, digits, decimal, hexadecimal, payload-text, line, lines, joinlog}
 use Rattle.pieces.specs.Pieces.{Piece, max-line, max-place, takes-on, halt, after-line, next-from, next-lines}
-use Rattle.theorems.proofs.Decimal.{digits-same}
-use Rattle.theorems.proofs.Facts.{and-l, test}
+use Rattle.theorems.proofs.StreamDecimal.{digits-same}
+use Rattle.theorems.proofs.SoundFacts.{and-l, test}
 use Rattle.theorems.proofs.Soundness.{and, le-test, lt-test}
-use Rattle.theorems.proofs.WellRead.{bytes-append}
+use Rattle.theorems.proofs.SoundRead.{bytes-append}
 use Rattle.theorems.proofs.SoundKept.{stream-sound-kept, fresh-sound}
 use Rattle.theorems.proofs.Stream.{Goes-on, shorter, over, stream-on, job-enough}
-use Rattle.theorems.proofs.Tracks.{never}
+use Rattle.theorems.proofs.DemandTracks.{never}
 
 -- ---- a record never reads past 4,096 bytes
 

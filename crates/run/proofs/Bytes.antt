@@ -10,9 +10,9 @@ use Rattle.definition.specs.TParams.{make-tparam-subst, subst-tparams}
 use Rattle.definition.specs.Write.{Bytes}
 use Rattle.definition.specs.Record.{Record, SD}
 use Rattle.definition.specs.Step.{run}
-use Rattle.theorems.proofs.Ranges.{StructIn, Ranges}
-use Rattle.theorems.proofs.WellRead.{RecordIn}
-use Rattle.theorems.proofs.Walk.{Ends, e-ok, e-err, e-refused, Run, ready-tvars-run, make-run, subst-run, run-walk}
+use Rattle.theorems.proofs.SoundRanges.{StructIn, Ranges}
+use Rattle.theorems.proofs.SoundRead.{RecordIn}
+use Rattle.theorems.proofs.TotalWalk.{Ends, e-ok, e-err, e-refused, Run, ready-tvars-run, make-run, subst-run, run-walk}
 use Rattle.table.specs.State.{outcome, view, seen}
 use Rattle.table.specs.declared.Used.{Used}
 use Rattle.table.specs.declared.Out.{Out}

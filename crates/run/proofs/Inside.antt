@@ -9,8 +9,8 @@ use Rattle.definition.specs.Types.{Struct}
 use Rattle.table.specs.Rows.{row, struct-table}
 use Rattle.table.specs.declared.Used.{Used}
 use Rattle.table.proofs.Tab.{length-tab, getD-tab, getD-tab-out}
-use Rattle.lent.specs.Lent.{bytes-at, struct-of, structs-of}
-use Rattle.lent.proofs.Lays.{lent-declares}
+use Rattle.sound.specs.Lent.{bytes-at, struct-of, structs-of}
+use Rattle.sound.proofs.Lays.{lent-declares}
 use Rattle.table.specs.Known.{Known}
 
 -- their bytes are the first of their rows

@@ -19,7 +19,7 @@ use Rattle.definition.specs.Record.{Numeric}
 use Rattle.definition.specs.Write.{Bytes, head, write, write-spanned}
 use Rattle.table.specs.State.{outcome, done, view, seen, Lay, Any, Refines, Changed, When, After, Stored, Var-in, pushed-constraint, Found-in, more}
 use Rattle.table.specs.State as table
-use Rattle.theorems.proofs.Facts.{test}
+use Rattle.theorems.proofs.SoundFacts.{test}
 use Rattle.table.specs.declared.Used.{Used}
 use Rattle.table.specs.declared.Step.{Step}
 use Rattle.table.specs.declared.Found.{Found}

@@ -11,9 +11,9 @@ use Rattle.definition.specs.Record as d
 use Rattle.definition.specs.Record.{Record}
 use Rattle.definition.specs.Step.{constrain, two-types}
 use Rattle.definition.specs.Step as definition
-use Rattle.theorems.proofs.Order.{All}
-use Rattle.theorems.proofs.Ranges.{StructIn}
-use Rattle.theorems.proofs.WellRead.{TreeIn, RecordIn}
+use Rattle.theorems.proofs.DemandOrder.{All}
+use Rattle.theorems.proofs.SoundRanges.{StructIn}
+use Rattle.theorems.proofs.SoundRead.{TreeIn, RecordIn}
 use Rattle.fields.specs.Noded.{Run, Noded, run, Shape, declares, solves, none, one, both, after-pairs, shape, place, place-record}
 use Rattle.run.specs.Runs.{join-in, two-run, unfold-run, ready-run, tparams-run, instantiate-run, tvar-run, num-tvar-run, set-num-run, constraint-run, needs-run, declare-run}
 use Rattle.run.specs.Dispatch.{run-of, noded-run}

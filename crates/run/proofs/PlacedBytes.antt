@@ -7,9 +7,9 @@ use Rattle.definition.specs.Types.{State, Struct, Result, ok, _>>=_}
 use Rattle.definition.specs.Trees.{Tree}
 use Rattle.definition.specs.Build.{build}
 use Rattle.definition.specs.Record.{Record}
-use Rattle.theorems.proofs.Ranges.{Ranges}
-use Rattle.theorems.proofs.WellRead.{TreeIn, RecordIn}
-use Rattle.theorems.proofs.Walk.{e-ok, bind, place-run, pairs-run}
+use Rattle.theorems.proofs.SoundRanges.{Ranges}
+use Rattle.theorems.proofs.SoundRead.{TreeIn, RecordIn}
+use Rattle.theorems.proofs.TotalWalk.{e-ok, bind, place-run, pairs-run}
 use Rattle.table.specs.State.{view, seen}
 use Rattle.table.specs.declared.Used.{Used}
 use Rattle.writer.specs.Bytes.{All-bytes}

@@ -20,7 +20,7 @@ use Rattle.table.specs.declared.Found.{Found}
 use Rattle.table.specs.declared.Found.the-variants.{Nothing, Just}
 use Rattle.table.proofs.Known.{known-kept}
 use Rattle.reader.proofs.Loop.{declares-kept}
-use Rattle.snap.specs.Snap.{Saved}
+use Rattle.snapshot.specs.Snap.{Saved}
 use Rattle.table.proofs.Steps.{then-is}
 use Rattle.constraints.specs.Solve.{numbered, Answered}
 use Rattle.constraints.specs.Emptied.{Emptied}

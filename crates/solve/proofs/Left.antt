@@ -11,10 +11,10 @@ use Rattle.definition.specs.Constraints.{num-vars, default-num-vars}
 use Rattle.definition.specs.Trees.{arity}
 use Rattle.definition.specs.Sound.{sound}
 use Rattle.theorems.proofs.Laws.{type-on, OnNodes}
-use Rattle.theorems.proofs.Facts.{facts}
-use Rattle.theorems.proofs.Went.{Went, PostS, ps-ok, ps-err}
-use Rattle.theorems.proofs.Runs.{num-vars-below, defaults-went}
-use Rattle.theorems.proofs.Walk.{e-ok, e-err, Ends, In, starts-run}
+use Rattle.theorems.proofs.SoundFacts.{facts}
+use Rattle.theorems.proofs.DemandWent.{Went, PostS, ps-ok, ps-err}
+use Rattle.theorems.proofs.DemandRuns.{num-vars-below, defaults-went}
+use Rattle.theorems.proofs.TotalWalk.{e-ok, e-err, Ends, In, starts-run}
 use Rattle.theorems.proofs.SoundKept.{ranges-of}
 use Rattle.table.specs.Rows.{constraint-table}
 use Rattle.table.specs.State.{outcome, done, view, seen, Nodes-in}

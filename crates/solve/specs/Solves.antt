@@ -13,7 +13,7 @@ use Rattle.definition.specs.Step.{answer}
 use Rattle.table.specs.State.{seen, Lay, Declares}
 use Rattle.table.specs.Known.{Known}
 use Rattle.table.specs.declared.Used.{Used}
-use Rattle.snap.specs.Snap.{Since}
+use Rattle.snapshot.specs.Snap.{Since}
 use Rattle.answer.specs.declared.Answer.{Answer}
 
 -- the words hold a sound state, with the declarations that words and bytes hold

@@ -4,7 +4,7 @@ ghost use Prim.Native.Nat.{_≤_, ℕ, _+_, _<_, _%_};
 ghost use lib.ListN.{length, getD};
 ghost use Rattle.table.specs.State.{Lay, view, constraint-of, seen};
 ghost use Rattle.table.specs.Known.{Declared, Known};
-ghost use Rattle.snap.specs.Snap.{Above, Saved};
+ghost use Rattle.snapshot.specs.Snap.{Above, Saved};
 ghost use Rattle.constraints.specs.Failing.{All-ready, Is-ability, Asked-ready, why, failing, Failing-in, Ty-in};
 ghost use Rattle.writer.specs.Bytes.{All-bytes, capped, Few-is, Wrote};
 ghost use Rattle.solve.specs.Report.{Tys-in, row-count};

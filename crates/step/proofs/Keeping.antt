@@ -15,9 +15,9 @@ use Rattle.definition.specs.Sound.{sound, struct-allowed}
 use Rattle.definition.specs.Trees.{is-set}
 use Rattle.definition.specs.Step as step
 use Rattle.definition.specs.Step.{lent, usable, max-buffer}
-use Rattle.theorems.proofs.Order.{All}
-use Rattle.theorems.proofs.Facts.{and-l, and-r, test}
-use Rattle.theorems.proofs.Ranges.{StructIn}
+use Rattle.theorems.proofs.DemandOrder.{All}
+use Rattle.theorems.proofs.SoundFacts.{and-l, and-r, test}
+use Rattle.theorems.proofs.SoundRanges.{StructIn}
 use Rattle.theorems.proofs.Soundness.{and, le-test}
 use Rattle.theorems.proofs.SoundKept.{ranges-of, sound-kept, stream-sound-kept, trusted}
 use Rattle.table.specs.Rows.{row, entries, Clean, var-table, struct-table}
@@ -25,7 +25,7 @@ use Rattle.table.specs.State.{view, Lay, Front, Declares}
 use Rattle.table.specs.declared.Used.{Used}
 use Rattle.table.proofs.Rows.{length-entries, row-word}
 use Rattle.table.proofs.Steps.{front-is}
-use Rattle.snap.specs.Snap.{Saved, Saved-partly}
+use Rattle.snapshot.specs.Snap.{Saved, Saved-partly}
 use Rattle.answer.specs.Ran.{Still}
 use Rattle.reader.specs.Taken.{Arities}
 use Rattle.step.specs.Trusted.{answered}

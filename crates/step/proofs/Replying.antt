@@ -11,7 +11,7 @@ use Rattle.definition.specs.Record.{Record}
 use Rattle.definition.specs.Sound.{sound}
 use Rattle.definition.specs.Step as step
 use Rattle.definition.specs.Step.{answer, refusal}
-use Rattle.theorems.proofs.Ranges.{Ranges, StructIn}
+use Rattle.theorems.proofs.SoundRanges.{Ranges, StructIn}
 use Rattle.theorems.proofs.SoundKept.{ranges-of}
 use Rattle.table.specs.State.{outcome, done, more, view, seen, Lay, Grown, Found-in, Declares}
 use Rattle.table.specs.declared.Used.{Used}
@@ -19,9 +19,9 @@ use Rattle.table.specs.declared.Found.{Found}
 use Rattle.table.specs.declared.Out.{Out}
 use Rattle.table.specs.declared.Out.the-variants.{Done}
 use Rattle.table.proofs.Steps.{grown-trans}
-use Rattle.snap.specs.Snap.{Above, Saved, Since}
-use Rattle.lent.specs.Lent.{structs-of, encode-params}
-use Rattle.lent.proofs.Lays.{lent-declares}
+use Rattle.snapshot.specs.Snap.{Above, Saved, Since}
+use Rattle.sound.specs.Lent.{structs-of, encode-params}
+use Rattle.sound.proofs.Lays.{lent-declares}
 use Rattle.reader.specs.Taken.{Arities}
 use Rattle.reader.proofs.Loop.{declares-kept}
 use Rattle.fields.specs.Noded.{Run, Noded, declare, solve, run, Shape}

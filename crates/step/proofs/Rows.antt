@@ -17,7 +17,7 @@ use Rattle.table.specs.declared.Found.{Found}
 use Rattle.table.specs.declared.Found.the-variants.{Nothing, Just}
 use Rattle.table.proofs.Tab.{length-tab, getD-tab, tab-set}
 use Rattle.table.proofs.Rows.{entry-at}
-use Rattle.lent.specs.Lent.{bytes-at, struct-of, structs-of, encode-params}
+use Rattle.sound.specs.Lent.{bytes-at, struct-of, structs-of, encode-params}
 use Rattle.reader.specs.Taken.{Arities}
 use Rattle.table.specs.Known.{Known}
 use Rattle.run.specs.Runs.{with-row}

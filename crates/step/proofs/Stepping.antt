@@ -15,18 +15,18 @@ use Rattle.definition.specs.Record.{Record, read-record}
 use Rattle.definition.specs.Sound.{sound}
 use Rattle.definition.specs.Step as step
 use Rattle.definition.specs.Step.{run, answer, refusal, number-of-refusal}
-use Rattle.theorems.proofs.WellRead.{RecordIn, ReadWell, given, well-read}
+use Rattle.theorems.proofs.SoundRead.{RecordIn, ReadWell, given, well-read}
 use Rattle.table.specs.Tab.{tab}
 use Rattle.table.specs.Rows.{words-at}
 use Rattle.table.specs.Encode.{encode}
 use Rattle.table.specs.State.{view, seen, Front, Grown, Declares}
 use Rattle.table.specs.declared.Used.{Used}
-use Rattle.snap.specs.Snap.{Above, Saved, Saved-partly, Since, Undone}
-use Rattle.snap.proofs.Saving.{partly-none}
+use Rattle.snapshot.specs.Snap.{Above, Saved, Saved-partly, Since, Undone}
+use Rattle.snapshot.proofs.Saving.{partly-none}
 use Rattle.table.proofs.Steps.{front-refl}
-use Rattle.snap.proofs.Exact.{declares-still, word-for-word}
-use Rattle.lent.specs.Lent.{used-of}
-use Rattle.lent.proofs.Lays.{lent-declares}
+use Rattle.snapshot.proofs.Exact.{declares-still, word-for-word}
+use Rattle.sound.specs.Lent.{used-of}
+use Rattle.sound.proofs.Lays.{lent-declares}
 use Rattle.reader.specs.Taken.{Arities, stopped, placed, place-read}
 use Rattle.fields.specs.declared.What.{What}
 use Rattle.fields.specs.declared.What.the-variants as q

@@ -8,11 +8,11 @@ use Rattle.definition.specs.Types.{ok}
 use Rattle.definition.specs.Record.{Record}
 use Rattle.definition.specs.Step as step
 use Rattle.definition.specs.Step.{answer}
-use Rattle.theorems.proofs.WellRead.{RecordIn}
+use Rattle.theorems.proofs.SoundRead.{RecordIn}
 use Rattle.table.specs.State.{view, seen, Lay}
 use Rattle.table.specs.declared.Used.{Used}
-use Rattle.lent.specs.Lent.{structs-of, encode-params}
-use Rattle.snap.specs.Snap.{Since}
+use Rattle.sound.specs.Lent.{structs-of, encode-params}
+use Rattle.snapshot.specs.Snap.{Since}
 use Rattle.fields.specs.Noded.{binds, looks, adds, Noded, declare, solve, run, place-record}
 use Rattle.answer.specs.declared.Answer.{Answer}
 use Rattle.step.specs.Trusted.{held, Stands}

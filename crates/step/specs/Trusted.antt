@@ -12,7 +12,7 @@ use Rattle.definition.specs.Step as step
 use Rattle.definition.specs.Step.{lent, streamed}
 use Rattle.table.specs.State.{seen, Lay}
 use Rattle.table.specs.declared.Used.{Used}
-use Rattle.lent.specs.Lent.{structs-of, encode-params}
+use Rattle.sound.specs.Lent.{structs-of, encode-params}
 use Rattle.step.specs.declared.Stepped.{Stepped}
 
 -- the state that words and bytes hold, with so many rows in use

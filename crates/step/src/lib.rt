@@ -4,8 +4,8 @@ ghost use Prim.Native.Nat.{_≤_};
 ghost use lib.ListN.{length, take, drop};
 ghost use Rattle.definition.specs.Write.{Is-bytes};
 ghost use Rattle.table.specs.State.{Lay};
-ghost use Rattle.snap.specs.Snap.{Saved-partly};
-ghost use Rattle.lent.specs.Lent.{used-of};
+ghost use Rattle.snapshot.specs.Snap.{Saved-partly};
+ghost use Rattle.sound.specs.Lent.{used-of};
 ghost use Rattle.fields.specs.Noded.{declare, noded, What-in};
 ghost use Rattle.step.specs.Trusted.{held, Stands, unread, Steps};
 ghost use Rattle.step.specs.Replies.{Begins, Ends};
@@ -137,7 +137,7 @@ pub fn step_trusted(
     ensures { λ r. ⌜ Steps whole (now (w .entry)) u (now (params .entry)) (now (stream .entry)) at (now (buf .entry)) (now (w .exit)) (now (params .exit)) (now (buf .exit)) r ⌝ }
     ensures { λ r. ⌜ Saved-partly (now (w .exit)) (r .used) (r .rows) (now (saved .exit)) ⌝ }
 {
-    snap::save_vars(w, u, rows, saved);
+    snapshot::save_vars(w, u, rows, saved);
     let f = record::read_record(w, u, stream, at);
     let read = f.read;
     let v = f.used;
@@ -166,11 +166,11 @@ pub fn rest_trusted(
     requires { ⌜ Stands (now w) u (now params) × ((u ≡ used-of (now w)) × (5120 ≤ length (now saved))) ⌝ }
     ensures { λ r. ⌜ (now (w .exit) ≡ now (w .entry)) × ((r ≤ length (now (stream .entry))) × (unread (held (now (w .entry)) u (now (params .entry))) (now (stream .entry)) ≡ drop r (now (stream .entry)))) ⌝ }
 {
-    snap::save_vars(w, u, 0, saved);
+    snapshot::save_vars(w, u, 0, saved);
     let f = record::read_record(w, u, stream, 0);
     let read = f.read;
     let v = f.used;
-    snap::undo(w, v, u, saved);
+    snapshot::undo(w, v, u, saved);
     table::write_used(w, u);
     place_after(read, 0, f.next)
 }

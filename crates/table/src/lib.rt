@@ -298,20 +298,6 @@ fn row_of(loc: u32, shape: Shape) -> [u32; 8]
 
 // ---- the counts
 
-// The counts as the words have them.
-pub fn used_of(w: &[u32]) -> Used
-    requires { ⌜ 5 ≤ length (now w) ⌝ }
-    ensures { λ r. ⌜ r ≡ used-at (now (w .entry)) ⌝ }
-{
-    Used {
-        nodes: w[0],
-        args: w[1],
-        vars: w[2],
-        constraints: w[3],
-        structs: w[4],
-    }
-}
-
 // The counts are written: the words are the state's, outright.
 pub fn write_used(w: &mut [u32], u: Used)
     requires { ⌜ Lay (now w) u ⌝ }

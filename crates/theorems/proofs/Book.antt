@@ -8,7 +8,7 @@ use Rattle.definition.specs.Trees.{arity}
 use Rattle.definition.specs.Sound.{sound}
 use Rattle.definition.specs.Book.{MoveType, Book-subtype, Book-type, Denotes, Subtype-rule, Join-rule, The-Book}
 use Rattle.theorems.proofs.BookDeep.{Deep-subtype, Join-room, Deep-book}
-use Rattle.theorems.proofs.Facts.{facts}
+use Rattle.theorems.proofs.SoundFacts.{facts}
 use Rattle.theorems.proofs.BookTypes.{book-deep, deep-book as deep-is-book, from-subtype, serves-subtype, from-join, best-least, least-book}
 use Rattle.theorems.proofs.BookJoin.{Judges, judged, map-to}
 use Rattle.theorems.proofs.BookRoom.{roomy}

@@ -20,13 +20,13 @@ use Rattle.definition.specs.Rank.{Runs-into-itself}
 use Rattle.definition.specs.Abilities.{all, primitives, references, signer, collection, has, select, those, from-abilities, requires, builtin-abilities, declared-abilities, counts, first-lacking, is-none, lacking, granted, infer-value, infer, infer-abilities}
 use Rattle.definition.specs.Book.{Ability, copy, drop, store, key, bit, In-set, needed, Not-key, is-copy, is-drop, is-store, Declares, list-declares, signer-declares, builtin-declares, struct-declares, Phantom, is-phantom}
 use Rattle.definition.specs.Book.{Has, unit-has, reference-copy, reference-drop, parameter-has, named-has, bound-has, marked-has, open-has, any-has, error-has}
-use Rattle.theorems.proofs.Tracks.{never, Ends, here, hop, Kind, k-any, k-var, k-solid, kind}
-use Rattle.theorems.proofs.Order.{All, Sound, next-bound, chain}
+use Rattle.theorems.proofs.DemandTracks.{never, Ends, here, hop, Kind, k-any, k-var, k-solid, kind}
+use Rattle.theorems.proofs.DemandOrder.{All, Sound, next-bound, chain}
 use Rattle.theorems.proofs.Soundness.{and}
-use Rattle.theorems.proofs.Facts.{and-l, and-r, elim-l, elim-r, not-false, facts}
-use Rattle.theorems.proofs.Reading.{any-plain}
-use Rattle.theorems.proofs.WholeReading.{type-is-in, reaches-is-runs}
-use Rattle.theorems.proofs.Inferred.{more}
+use Rattle.theorems.proofs.SoundFacts.{and-l, and-r, elim-l, elim-r, not-false, facts}
+use Rattle.theorems.proofs.DemandReading.{any-plain}
+use Rattle.theorems.proofs.TotalReading.{type-is-in, reaches-is-runs}
+use Rattle.theorems.proofs.SolveInferred.{more}
 
 -- ---- sets
 

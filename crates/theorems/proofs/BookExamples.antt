@@ -6,7 +6,7 @@ use Prim.Native.Nat.{ℕ}
 use Rattle.definition.specs.Types.{Builtin}
 use Rattle.definition.specs.Write.{Bytes}
 use Rattle.definition.specs.Book.{MoveType, reference, tuple, named, no-types, _and_, Book-subtype, itself, mut-as-imm, tuples, no-more, each}
-use Rattle.theorems.proofs.Tracks.{never}
+use Rattle.theorems.proofs.DemandTracks.{never}
 use Rattle.definition.proofs.Computed.{answers-of}
 use Rattle.definition.proofs.Spelling.{imm, mut, builtin, u8, default-u64, list, var, NV, SU, UF, SV}
 

@@ -15,13 +15,13 @@ use Rattle.definition.specs.Store.{nowhere, count, node, type-at, with-args, sp
 use Rattle.definition.specs.Join.{TypingCase, Join-impl, join-impl-types, join-mut, join-refs, same-name, is-multiple, same-mark, join-applies, arm, join-arm, join-impl}
 use Rattle.definition.specs.Book.{MoveType, unit, reference, parameter, tuple, named, MoveTypes, no-types, _and_, Denotes, is-unit, is-reference, is-parameter, is-tuple, is-named, Denote, are-none, are-each}
 use Rattle.definition.specs.Book.{no-subtype, incompatible, other-count, no-space, no-depth, other-marks, Comes-to, succeeds, fails, cut-short}
-use Rattle.theorems.proofs.Tracks.{never}
-use Rattle.theorems.proofs.Order.{All, Sound}
-use Rattle.theorems.proofs.Steps.{Quiet, quiet-refl, quiet-trans, NodeOk}
-use Rattle.theorems.proofs.Room.{with-room, sp-room}
-use Rattle.theorems.proofs.Calls.{NewNode, new-node}
-use Rattle.theorems.proofs.Main.{eq-of, name-of}
-use Rattle.theorems.proofs.Went.{ref-ok, apply-ok}
+use Rattle.theorems.proofs.DemandTracks.{never}
+use Rattle.theorems.proofs.DemandOrder.{All, Sound}
+use Rattle.theorems.proofs.DemandSteps.{Quiet, quiet-refl, quiet-trans, NodeOk}
+use Rattle.theorems.proofs.SoundRoom.{with-room, sp-room}
+use Rattle.theorems.proofs.DemandCalls.{NewNode, new-node}
+use Rattle.theorems.proofs.DemandMain.{eq-of, name-of}
+use Rattle.theorems.proofs.DemandWent.{ref-ok, apply-ok}
 use Rattle.theorems.proofs.BookTypes.{Best, Bests, mut-best, mut-none, best-unit, best-parameter, best-reference, best-tuple, best-named, bests-none, bests-each}
 use Rattle.theorems.proofs.BookTypes.{Apart, Aparts, head-of, many, apart-heads, apart-mut, apart-inner, apart-ids, apart-names, apart-arguments, apart-elements, aparts-first, aparts-rest, aparts-many, served-many}
 

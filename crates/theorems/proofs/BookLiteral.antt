@@ -21,21 +21,21 @@ use Rattle.definition.specs.Trees.{arity}
 use Rattle.definition.specs.Sound.{sound}
 use Rattle.definition.specs.Book.{Literal-rule, sv-full, sv-itself, sv-contradicted}
 use Rattle.theorems.proofs.Laws.{get-beyond}
-use Rattle.theorems.proofs.Chains.{next-none}
-use Rattle.theorems.proofs.Tracks.{never, Ends, here, ends-det, solid-var, nonvar-var, any-var, Head, h-unit, h-ref, h-param, h-apply, r-self, r-var, fits-solid-l, Tracks, t-any, t-var, t-fit, Fits, f-err, f-node, TracksAll, ta-nil, ta-cons}
-use Rattle.theorems.proofs.Order.{Sound, _⊑_, chain, ends-in, ends-keep}
-use Rattle.theorems.proofs.Steps.{quiet-⊑}
-use Rattle.theorems.proofs.Post.{Grown, grown-refl}
-use Rattle.theorems.proofs.Calls.{sp-post, var-ok}
-use Rattle.theorems.proofs.Main.{eq-of, join-impl-good}
-use Rattle.theorems.proofs.Hindered.{solve-cases}
-use Rattle.theorems.proofs.Went.{Went, went-refl, went-trans, went-quiet, quiet-list, sound-cleared, PostS, ps-ok, ps-refused, bind-postS}
-use Rattle.theorems.proofs.Runs.{Declared, declared-on, Below, below-on, num-vars-below, u64-ok, defaults-went}
-use Rattle.theorems.proofs.Facts.{facts}
+use Rattle.theorems.proofs.LawsChains.{next-none}
+use Rattle.theorems.proofs.DemandTracks.{never, Ends, here, ends-det, solid-var, nonvar-var, any-var, Head, h-unit, h-ref, h-param, h-apply, r-self, r-var, fits-solid-l, Tracks, t-any, t-var, t-fit, Fits, f-err, f-node, TracksAll, ta-nil, ta-cons}
+use Rattle.theorems.proofs.DemandOrder.{Sound, _⊑_, chain, ends-in, ends-keep}
+use Rattle.theorems.proofs.DemandSteps.{quiet-⊑}
+use Rattle.theorems.proofs.LawsPost.{Grown, grown-refl}
+use Rattle.theorems.proofs.DemandCalls.{sp-post, var-ok}
+use Rattle.theorems.proofs.DemandMain.{eq-of, join-impl-good}
+use Rattle.theorems.proofs.SolveHindered.{solve-cases}
+use Rattle.theorems.proofs.DemandWent.{Went, went-refl, went-trans, went-quiet, quiet-list, sound-cleared, PostS, ps-ok, ps-refused, bind-postS}
+use Rattle.theorems.proofs.DemandRuns.{Declared, declared-on, Below, below-on, num-vars-below, u64-ok, defaults-went}
+use Rattle.theorems.proofs.SoundFacts.{facts}
 use Rattle.theorems.proofs.Soundness.{sound-is}
-use Rattle.theorems.proofs.Takes.{Takes, takes-ok, takes-full}
-use Rattle.theorems.proofs.NoFail.{Sure, sure-ok, sure-refused, sure-bind, sure-map, CalmAt, default-sure, defaults-take, no-defaults}
-use Rattle.theorems.proofs.Records.{NoErr, no-ok, no-refused}
+use Rattle.theorems.proofs.TotalTakes.{Takes, takes-ok, takes-full}
+use Rattle.theorems.proofs.TotalNoFail.{Sure, sure-ok, sure-refused, sure-bind, sure-map, CalmAt, default-sure, defaults-take, no-defaults}
+use Rattle.theorems.proofs.DemandRecords.{NoErr, no-ok, no-refused}
 use Rattle.theorems.proofs.BookDeep.{numeric}
 
 -- ---- what is a named type without arguments stays it

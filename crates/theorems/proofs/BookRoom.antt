@@ -15,11 +15,11 @@ use Rattle.definition.specs.Join.{TypingCase, Join-impl, join-impl-types, join-
 use Rattle.definition.specs.Book.{MoveType, unit, reference, parameter, tuple, named, MoveTypes, no-types, _and_, Denotes, is-unit, is-reference, is-parameter, is-tuple, is-named, Denote, are-none, are-each, Comes-to, succeeds, fails, cut-short}
 use Rattle.theorems.proofs.BookDeep.{size, sizes, Levels, unit-level, reference-level, parameter-level, tuple-level, named-level, All-levels, each-level, Join-room}
 use Rattle.theorems.proofs.Laws.{count-with-node}
-use Rattle.theorems.proofs.Tracks.{never}
-use Rattle.theorems.proofs.Order.{Sound}
+use Rattle.theorems.proofs.DemandTracks.{never}
+use Rattle.theorems.proofs.DemandOrder.{Sound}
 use Rattle.theorems.proofs.BookTypes.{many}
 use Rattle.theorems.proofs.BookJoin.{Counts, Judges, judged, denotes-in, denote-keep}
-use Rattle.theorems.proofs.Main.{name-of}
+use Rattle.theorems.proofs.DemandMain.{name-of}
 
 -- an error, disagreeing marks, or a success with P
 data Fine-with {B : Type 0} (P : State → B → Type 0) : Result (State × B) → Type 0 where

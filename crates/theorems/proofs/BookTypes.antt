@@ -10,7 +10,7 @@ use Rattle.definition.specs.Book.{MoveType, unit, reference, parameter, tuple, 
 use Rattle.definition.specs.Book.{Base, base-parameter, base-named, Bases, base-none, base-each, Single, single-base, single-reference, Singles, single-none, single-each, Book-type, book-unit, book-single, book-tuple}
 use Rattle.definition.specs.Book.{Least}
 use Rattle.theorems.proofs.BookDeep.{Mut-as, as-itself, as-imm, Deep-subtype, units, references, parameters, in-tuples, in-arguments, Deep-subtypes, deep-no-more, deep-each}
-use Rattle.theorems.proofs.Tracks.{never}
+use Rattle.theorems.proofs.DemandTracks.{never}
 
 -- ---- the Book's rules hold at every depth
 

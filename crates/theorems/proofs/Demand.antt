@@ -14,16 +14,16 @@ use Rattle.definition.specs.Sound.{sound}
 use Rattle.definition.specs.Step.{step}
 use Rattle.definition.specs.Rank.{any, Rank, None-reaches-itself, Runs-into-itself}
 use Rattle.definition.specs.Demand.{Join-call, outcome, On-success, after, at, calls-at, At-or-below, None-sinks, Result-above-operands, No-loops, Demand-3}
-use Rattle.theorems.proofs.Depth.{unrolled, Ends-within}
-use Rattle.theorems.proofs.Tracks.{Tracks}
-use Rattle.theorems.proofs.Order.{Sound}
-use Rattle.theorems.proofs.Post.{p-ok}
-use Rattle.theorems.proofs.Reading.{tracks-rank}
-use Rattle.theorems.proofs.Loops.{deep-enough}
-use Rattle.theorems.proofs.WholeReading.{ends-below, In, var-is-in, type-is-in, ends-read, type-ends, var-ends}
-use Rattle.theorems.proofs.Facts.{facts}
-use Rattle.theorems.proofs.CallsFair.{Fair, step-fair}
-use Rattle.theorems.proofs.EveryDepth.{Rises, Up, up-above, Somehow, Gave, gave, between}
+use Rattle.theorems.proofs.DemandDepth.{unrolled, Ends-within}
+use Rattle.theorems.proofs.DemandTracks.{Tracks}
+use Rattle.theorems.proofs.DemandOrder.{Sound}
+use Rattle.theorems.proofs.LawsPost.{p-ok}
+use Rattle.theorems.proofs.DemandReading.{tracks-rank}
+use Rattle.theorems.proofs.DemandLoops.{deep-enough}
+use Rattle.theorems.proofs.TotalReading.{ends-below, In, var-is-in, type-is-in, ends-read, type-ends, var-ends}
+use Rattle.theorems.proofs.SoundFacts.{facts}
+use Rattle.theorems.proofs.DemandFair.{Fair, step-fair}
+use Rattle.theorems.proofs.DemandEveryDepth.{Rises, Up, up-above, Somehow, Gave, gave, between}
 
 -- ---- whole readings
 

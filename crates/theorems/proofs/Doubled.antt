@@ -13,7 +13,7 @@ use Rattle.definition.specs.Write.{Bytes}
 use Rattle.definition.specs.Reader.{Reader, give, refuse, _>>=_, read-one, read-two, read-three, byte, read-u16, read-u32, byte-if, byte-to, read-bool, name-below, times}
 use Rattle.definition.specs.Trees.{Tree, unit-tree, anything-tree, error-tree, ref-tree, param-tree, apply-tree, var-tree, Trees, no-trees, _then_, is-set, under-ref, read-apply, by-tag, read-nested, read-type}
 use Rattle.definition.specs.Record.{Record, SD, FV, NV, SN, JN, SU, UF, RD, IN, TS, NC, BC, SC, SV, RM, read-kind, read-SD, read-pair, read-TS, by-mark, fields-of, read-fields, max-record, hand-back, read-record}
-use Rattle.theorems.proofs.Tracks.{never}
+use Rattle.theorems.proofs.DemandTracks.{never}
 
 -- ---- doubled references
 

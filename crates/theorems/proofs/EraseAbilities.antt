@@ -11,7 +11,7 @@ use Rattle.definition.specs.Abilities.{infer, infer-abilities, rule}
 use Rattle.definition.specs.Constraints.{missing, is-contradicted, ability-hindrance, constraint-hindrance, hindrance}
 use Rattle.theorems.proofs.Erase.{erase-constraint, erase, count-erase, structs-erase, spanned-erase, bool-same, opt-same, any-erase}
 use Rattle.theorems.proofs.EraseJoin.{unfold-type-erase, itself-erase}
-use Rattle.theorems.proofs.Inferred.{those-on, value-same, rule-same}
+use Rattle.theorems.proofs.SolveInferred.{those-on, value-same, rule-same}
 
 module _ (s : State) where
   infer-erase : (n t : ℕ) → infer n (erase s) t ≡ infer n s t

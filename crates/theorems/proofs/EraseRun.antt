@@ -25,13 +25,13 @@ use Rattle.definition.specs.Sound.{sound}
 use Rattle.definition.specs.Step.{numeric-constraint, constrain, two-types, tell, run, Answer, number-of-error, refusal, put-back, max-payload, answer-with, answer, lent}
 use Rattle.definition.specs.Locations.{Part, types, failures, blank, shown-fields}
 use Rattle.theorems.proofs.EraseShown.{success-fields, Shows, shows, shows-none}
-use Rattle.theorems.proofs.Tracks.{never}
-use Rattle.theorems.proofs.Order.{All, All-map, Sound}
-use Rattle.theorems.proofs.Facts.{and-l, and-r, test, facts}
-use Rattle.theorems.proofs.Ranges.{ShapeIn, Ranges, value-in}
-use Rattle.theorems.proofs.Went.{Went, PostS, ps-ok}
-use Rattle.theorems.proofs.Runs.{num-vars-below, defaults-went}
-use Rattle.theorems.proofs.Walk.{Ends, e-ok, In, starts-run}
+use Rattle.theorems.proofs.DemandTracks.{never}
+use Rattle.theorems.proofs.DemandOrder.{All, All-map, Sound}
+use Rattle.theorems.proofs.SoundFacts.{and-l, and-r, test, facts}
+use Rattle.theorems.proofs.SoundRanges.{ShapeIn, Ranges, value-in}
+use Rattle.theorems.proofs.DemandWent.{Went, PostS, ps-ok}
+use Rattle.theorems.proofs.DemandRuns.{num-vars-below, defaults-went}
+use Rattle.theorems.proofs.TotalWalk.{Ends, e-ok, In, starts-run}
 use Rattle.theorems.proofs.SoundKept.{ranges-of}
 use Rattle.theorems.proofs.Erase.{erase-mark, erase-cell, erase-constraint, erase-error, erase, taken-erase, spanned-erase, vars-erase, constraints-erased}
 use Rattle.theorems.proofs.Erase.{Erased, er-ok, er-err, er-refused, with-state, er-bind, er-elim, er-opt, sp-erase, next-erase, add-erase, declare-erase}

@@ -17,11 +17,11 @@ use Rattle.definition.specs.Constraints.{is-integer, is-base, is-single, failur
 use Rattle.definition.specs.Abilities.{Rule, declaration, argument, contradicted, rule}
 use Rattle.definition.specs.Step.{number-of-error}
 use Rattle.definition.specs.Locations.{Part, location, type, types, failures, rule as rule-part, loc-field, u32-field, tag-fields, tag-widths, expand, blank, shown-fields}
-use Rattle.theorems.proofs.Order.{All, All-map}
+use Rattle.theorems.proofs.DemandOrder.{All, All-map}
 use Rattle.theorems.proofs.Erase.{erase-spanned, erase-constraint, erase-error, erase, count-erase, spanned-erase}
 use Rattle.theorems.proofs.EraseJoin.{unfold-type-erase}
 use Rattle.theorems.proofs.EraseAbilities.{rule-erase, missing-erase}
-use Rattle.theorems.proofs.Inferred.{unfolded as as-unfolded}
+use Rattle.theorems.proofs.SolveInferred.{unfolded as as-unfolded}
 
 -- a struct's number is two bytes
 abbrev pub NameFits : TypeName → Type 0

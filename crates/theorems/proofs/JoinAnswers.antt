@@ -21,14 +21,14 @@ use Rattle.definition.specs.Build.{build, build-all}
 use Rattle.definition.specs.Sound.{sound}
 use Rattle.definition.specs.Step.{Answer, refusal, max-payload, answer-with, answer, max-buffer, usable, two-types, lent, run, step}
 use Rattle.definition.specs.Demand.{Join-call, outcome, run-calls, lent-calls, step-calls}
-use Rattle.theorems.proofs.Order.{All, Sound}
-use Rattle.theorems.proofs.Post.{grown-refl, Post, p-ok, post-map, bind-post}
-use Rattle.theorems.proofs.Facts.{and-r, facts}
+use Rattle.theorems.proofs.DemandOrder.{All, Sound}
+use Rattle.theorems.proofs.LawsPost.{grown-refl, Post, p-ok, post-map, bind-post}
+use Rattle.theorems.proofs.SoundFacts.{and-r, facts}
 use Rattle.theorems.proofs.Soundness.{le-test}
-use Rattle.theorems.proofs.CallsMade.{One-join, not-placed, joined, JN-calls, SU-calls}
-use Rattle.theorems.proofs.WellRead.{Fine, fine-unit, fine-anything, fine-error, fine-ref, fine-param, fine-apply, fine-var, Fines, fine-none, fine-then, FineRecord, ReadWell, given, well-read}
-use Rattle.theorems.proofs.Went.{WentTo}
-use Rattle.theorems.proofs.Runs.{place-went}
+use Rattle.theorems.proofs.DemandMade.{One-join, not-placed, joined, JN-calls, SU-calls}
+use Rattle.theorems.proofs.SoundRead.{Fine, fine-unit, fine-anything, fine-error, fine-ref, fine-param, fine-apply, fine-var, Fines, fine-none, fine-then, FineRecord, ReadWell, given, well-read}
+use Rattle.theorems.proofs.DemandWent.{WentTo}
+use Rattle.theorems.proofs.DemandRuns.{place-went}
 use Rattle.theorems.proofs.JoinWrites.{wrote, wrote-all, name-size, head-size, wrote-of, ref-wrote, apply-wrote, wrote-kept, wrote-all-kept, post-both, post-is, sp-value, join-impl-slim}
 
 -- ---- the bytes that a type is read from

@@ -15,15 +15,15 @@ use Rattle.definition.specs.Join.{TypingCase, Join-impl, join-impl-types, join-
 use Rattle.definition.specs.Write.{u16, u32, apply-head, head, each, write}
 use Rattle.definition.specs.Sound.{sound}
 use Rattle.theorems.proofs.Laws.{value-new, structs-node}
-use Rattle.theorems.proofs.Tracks.{Tracks, t-any, t-var, t-fit, fits-solid-l, solid-var, any-var}
-use Rattle.theorems.proofs.Order.{All, All-map, Sound, nodes-of}
-use Rattle.theorems.proofs.Steps.{quiet-node}
-use Rattle.theorems.proofs.Post.{Grown, grown-refl, Post, p-ok, p-err, p-refused, post-map, bind-post, if-post}
-use Rattle.theorems.proofs.Room.{with-room, sp-room}
-use Rattle.theorems.proofs.Calls.{quiet-grown, Joined, Good}
-use Rattle.theorems.proofs.Main.{Took, took-any-l, took-any-r, took-units, took-refs, took-params, took-applies, took-vars, took-var-l, took-var-r, took-error-l, took-error-r, took-others, took, in-later, join-impl-good}
-use Rattle.theorems.proofs.Facts.{facts}
-use Rattle.theorems.proofs.Fuel.{write-at}
+use Rattle.theorems.proofs.DemandTracks.{Tracks, t-any, t-var, t-fit, fits-solid-l, solid-var, any-var}
+use Rattle.theorems.proofs.DemandOrder.{All, All-map, Sound, nodes-of}
+use Rattle.theorems.proofs.DemandSteps.{quiet-node}
+use Rattle.theorems.proofs.LawsPost.{Grown, grown-refl, Post, p-ok, p-err, p-refused, post-map, bind-post, if-post}
+use Rattle.theorems.proofs.SoundRoom.{with-room, sp-room}
+use Rattle.theorems.proofs.DemandCalls.{quiet-grown, Joined, Good}
+use Rattle.theorems.proofs.DemandMain.{Took, took-any-l, took-any-r, took-units, took-refs, took-params, took-applies, took-vars, took-var-l, took-var-r, took-error-l, took-error-r, took-others, took, in-later, join-impl-good}
+use Rattle.theorems.proofs.SoundFacts.{facts}
+use Rattle.theorems.proofs.TotalFuel.{write-at}
 
 -- ---- how many bytes a type is written in
 

@@ -16,14 +16,14 @@ use Rattle.definition.specs.Record.{IN}
 use Rattle.definition.specs.Needs.{Needs, takes, _plus_, merge, needs, needs-args}
 use Rattle.definition.specs.Sound.{sound}
 use Rattle.definition.specs.Step.{run}
-use Rattle.theorems.proofs.Tracks.{never}
-use Rattle.theorems.proofs.Facts.{facts}
+use Rattle.theorems.proofs.DemandTracks.{never}
+use Rattle.theorems.proofs.SoundFacts.{facts}
 use Rattle.theorems.proofs.Soundness.{sound-is}
-use Rattle.theorems.proofs.WellRead.{size, Fine, fine-unit, fine-anything, fine-error, fine-ref, fine-param, fine-apply, fine-var, Fines, fine-none, fine-then}
-use Rattle.theorems.proofs.Runs.{declared-on}
+use Rattle.theorems.proofs.SoundRead.{size, Fine, fine-unit, fine-anything, fine-error, fine-ref, fine-param, fine-apply, fine-var, Fines, fine-none, fine-then}
+use Rattle.theorems.proofs.DemandRuns.{declared-on}
 use Rattle.theorems.proofs.JoinWrites.{wrote, name-size}
 use Rattle.theorems.proofs.JoinAnswers.{tree-size, trees-size}
-use Rattle.theorems.proofs.Exact.{four, sum, Same, Fits, Within, More, exact-ok, exact-full, Exact-and, more-none, exact-as, exact-bind}
+use Rattle.theorems.proofs.NeedsExact.{four, sum, Same, Fits, Within, More, exact-ok, exact-full, Exact-and, more-none, exact-as, exact-bind}
 use Rattle.theorems.proofs.NeedsIn.{placed, placed-all, merging, merging-all, made, made-all, shown, build-exact, inst-exact}
 
 -- ---- a variable inside

@@ -15,15 +15,15 @@ use Rattle.definition.specs.Build.{build, build-all}
 use Rattle.definition.specs.Instantiate.{tparam-constraints, join-args, instantiate-type-args, instantiate-apply, instantiate-value, instantiate-down}
 use Rattle.definition.specs.Needs.{Needs}
 use Rattle.theorems.proofs.Laws.{get-beyond}
-use Rattle.theorems.proofs.Order.{All, All-map, Sound}
-use Rattle.theorems.proofs.Post.{Grown, grown-refl, grown-trans}
-use Rattle.theorems.proofs.Calls.{var-ok}
-use Rattle.theorems.proofs.WellRead.{size, Fine, fine-unit, fine-anything, fine-error, fine-ref, fine-param, fine-apply, fine-var, Fines, fine-none, fine-then}
-use Rattle.theorems.proofs.Went.{ref-ok, apply-ok, unit-ok, any-ok, error-ok, param-ok}
-use Rattle.theorems.proofs.Runs.{WentAll, Declared, declared-on, tparams-many, make-tparams-went, type-args-went, instantiate-down-went}
+use Rattle.theorems.proofs.DemandOrder.{All, All-map, Sound}
+use Rattle.theorems.proofs.LawsPost.{Grown, grown-refl, grown-trans}
+use Rattle.theorems.proofs.DemandCalls.{var-ok}
+use Rattle.theorems.proofs.SoundRead.{size, Fine, fine-unit, fine-anything, fine-error, fine-ref, fine-param, fine-apply, fine-var, Fines, fine-none, fine-then}
+use Rattle.theorems.proofs.DemandWent.{ref-ok, apply-ok, unit-ok, any-ok, error-ok, param-ok}
+use Rattle.theorems.proofs.DemandRuns.{WentAll, Declared, declared-on, tparams-many, make-tparams-went, type-args-went, instantiate-down-went}
 use Rattle.theorems.proofs.JoinWrites.{wrote, wrote-all, name-size, head-size, wrote-of, var-wrote, ref-wrote, apply-wrote, wrote-kept, wrote-all-kept}
-use Rattle.theorems.proofs.Exact.{four, sum, Exact-and, exact-ok, more-none, exact-as, exact-map, exact-with, exact-post, exact-bind}
-use Rattle.theorems.proofs.NoFailIn.{Node-at, sp-exact, merged, merges, Vars-from, join-args-exact, add-exact, make-exact, Tparams, pairs-in, for-each, tparams-exact, Fresh, Freshes, map-sure, pairs-of, inst-sure, num-beyond}
+use Rattle.theorems.proofs.NeedsExact.{four, sum, Exact-and, exact-ok, more-none, exact-as, exact-map, exact-with, exact-post, exact-bind}
+use Rattle.theorems.proofs.TotalNoFailIn.{Node-at, sp-exact, merged, merges, Vars-from, join-args-exact, add-exact, make-exact, Tparams, pairs-in, for-each, tparams-exact, Fresh, Freshes, map-sure, pairs-of, inst-sure, num-beyond}
 
 -- ---- what each takes
 

@@ -15,13 +15,13 @@ use Rattle.definition.specs.Record.{IN}
 use Rattle.definition.specs.Needs.{Needs}
 use Rattle.definition.specs.Sound.{sound}
 use Rattle.definition.specs.Step.{run}
-use Rattle.theorems.proofs.Tracks.{never}
-use Rattle.theorems.proofs.Order.{All, All-map, Sound}
-use Rattle.theorems.proofs.Facts.{facts}
-use Rattle.theorems.proofs.WellRead.{Fine, fine-ref, fine-apply, Fines, fine-then}
-use Rattle.theorems.proofs.Runs.{Declared, declared-on}
-use Rattle.theorems.proofs.Exact.{Exact, exact-ok, exact-full}
-use Rattle.theorems.proofs.NoFailIn.{add-exact, tparams-exact}
+use Rattle.theorems.proofs.DemandTracks.{never}
+use Rattle.theorems.proofs.DemandOrder.{All, All-map, Sound}
+use Rattle.theorems.proofs.SoundFacts.{facts}
+use Rattle.theorems.proofs.SoundRead.{Fine, fine-ref, fine-apply, Fines, fine-then}
+use Rattle.theorems.proofs.DemandRuns.{Declared, declared-on}
+use Rattle.theorems.proofs.NeedsExact.{Exact, exact-ok, exact-full}
+use Rattle.theorems.proofs.TotalNoFailIn.{add-exact, tparams-exact}
 use Rattle.theorems.proofs.NeedsIn.{Holds, holds-ref, holds-apply, holds-var, Hold, hold-then, holds-keep, hold-keep, build-exact, inst-full, inst-exact}
 use Rattle.theorems.proofs.Needs.{Var-in, var-under, var-among, Vars-in, var-first, var-later, closed, Told, told-none, told-some, leaf, not-leaf, not-none, needs-told}
 

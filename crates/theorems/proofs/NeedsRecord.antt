@@ -21,15 +21,15 @@ use Rattle.definition.specs.Record.{IN, RM, by-mark, fields-of, read-fields, ma
 use Rattle.definition.specs.Needs.{Needs, needs, write-needs}
 use Rattle.definition.specs.Sound.{struct-allowed, sound}
 use Rattle.definition.specs.Step.{tell, run, Answer, number-of-refusal, refusal, max-payload, answer-with, answer, max-buffer, usable, lent, step}
-use Rattle.theorems.proofs.Tracks.{never}
-use Rattle.theorems.proofs.Facts.{and-l, and-r, not-false, test}
+use Rattle.theorems.proofs.DemandTracks.{never}
+use Rattle.theorems.proofs.SoundFacts.{and-l, and-r, not-false, test}
 use Rattle.theorems.proofs.Soundness.{le-test, and}
-use Rattle.theorems.proofs.Ranges.{all-get, StructIn}
+use Rattle.theorems.proofs.SoundRanges.{all-get, StructIn}
 use Rattle.theorems.proofs.SoundKept.{ranges-of}
-use Rattle.theorems.proofs.WellRead.{size, Fine, Read-time, five, six, eighteen, Given, given, not-given, Gives, gives-then, gives-give, gives-refuse, gives-if, gives-byte, gives-u16, gives-u32, gives-byte-if, gives-bool, gives-mark, gives-name, gives-under, Good-tree, gives-type}
+use Rattle.theorems.proofs.SoundRead.{size, Fine, Read-time, five, six, eighteen, Given, given, not-given, Gives, gives-then, gives-give, gives-refuse, gives-if, gives-byte, gives-u16, gives-u32, gives-byte-if, gives-bool, gives-mark, gives-name, gives-under, Good-tree, gives-type}
 use Rattle.theorems.proofs.JoinWrites.{name-size}
 use Rattle.theorems.proofs.JoinAnswers.{tree-size, Spent, spent, unread as not-spent, pays-type, fitting}
-use Rattle.theorems.proofs.Exact.{Fits, More}
+use Rattle.theorems.proofs.NeedsExact.{Fits, More}
 use Rattle.theorems.proofs.NeedsIn.{shown}
 use Rattle.theorems.proofs.Needs.{Var-in, Few, needs-few, needs-none, Foretold, it-fits, it-does-not, foretold}
 use Rattle.theorems.proofs.NeedsOpen.{Seven-or-eleven, is-seven, is-eleven, IN-of-a-variable}

@@ -6,11 +6,11 @@ use Rattle.definition.specs.Types.{TypeName, Type-value, State}
 use Rattle.definition.specs.Store.{count, taken, type-at}
 use Rattle.definition.specs.Subst.{as-var, forward-tvar}
 use Rattle.definition.specs.Join.{TypingCase, Var-l, Var-r, arm, Arm, num-shape, check-num-tvar′, type-of, join-impl}
-use Rattle.theorems.proofs.Tracks.{never, solid-nonvar}
-use Rattle.theorems.proofs.Order.{Sound}
-use Rattle.theorems.proofs.Post.{Post, post-map}
-use Rattle.theorems.proofs.Calls.{type-of-post}
-use Rattle.theorems.proofs.Main.{Took, took, took-any-l, took-any-r, took-units, took-refs, took-params, took-applies, took-vars, took-var-l, took-var-r, took-error-l, took-error-r, took-others, join-impl-good}
+use Rattle.theorems.proofs.DemandTracks.{never, solid-nonvar}
+use Rattle.theorems.proofs.DemandOrder.{Sound}
+use Rattle.theorems.proofs.LawsPost.{Post, post-map}
+use Rattle.theorems.proofs.DemandCalls.{type-of-post}
+use Rattle.theorems.proofs.DemandMain.{Took, took, took-any-l, took-any-r, took-units, took-refs, took-params, took-applies, took-vars, took-var-l, took-var-r, took-error-l, took-error-r, took-others, join-impl-good}
 
 -- of what is no variable the check looks at the type alone
 pub check-plain : (S : State) (ty : ℕ) → as-var (type-at S ty) ≡ none → check-num-tvar′ S ty ≡ num-shape (type-at S ty)

@@ -15,7 +15,7 @@ use Rattle.definition.specs.Reader as reader
 use Rattle.definition.specs.Reader.{Read, got, not-read, Reader, give, refuse, go-on, byte}
 use Rattle.definition.specs.Trees.{Tree, apply-tree, is-mark, is-name, has-drop, mark-fits, arity, read-trees, read-mark, read-apply}
 use Rattle.definition.specs.Sound.{sound, places-fit, shape-allowed}
-use Rattle.theorems.proofs.Facts.{facts}
+use Rattle.theorems.proofs.SoundFacts.{facts}
 use Rattle.theorems.proofs.NumericCheck.{check-plain}
 use Rattle.theorems.proofs.BookLiteral.{no-arguments}
 

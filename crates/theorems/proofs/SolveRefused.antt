@@ -17,19 +17,19 @@ use Rattle.definition.specs.Write.{Bytes}
 use Rattle.definition.specs.Sound.{sound}
 use Rattle.definition.specs.Rank.{Runs-into-itself}
 use Rattle.definition.specs.Book.{Ability, bit, In-set, Has}
-use Rattle.theorems.proofs.Tracks.{never}
+use Rattle.theorems.proofs.DemandTracks.{never}
 use Rattle.theorems.proofs.Laws.{type-on}
-use Rattle.theorems.proofs.Order.{Sound}
+use Rattle.theorems.proofs.DemandOrder.{Sound}
 use Rattle.theorems.proofs.Soundness.{and}
-use Rattle.theorems.proofs.Facts.{and-l, and-r, unnot, facts}
-use Rattle.theorems.proofs.WholeReading.{reaches-is-runs}
-use Rattle.theorems.proofs.Takes.{Takes, takes-full}
-use Rattle.theorems.proofs.Went.{Went, PostS, ps-ok, ps-err, ps-refused}
-use Rattle.theorems.proofs.Runs.{Below, num-vars-below, defaults-went}
-use Rattle.theorems.proofs.NoFail.{defaults-take}
-use Rattle.theorems.proofs.Hindered.{Hinders, clear, nine, sixteen, one-hinders}
+use Rattle.theorems.proofs.SoundFacts.{and-l, and-r, unnot, facts}
+use Rattle.theorems.proofs.TotalReading.{reaches-is-runs}
+use Rattle.theorems.proofs.TotalTakes.{Takes, takes-full}
+use Rattle.theorems.proofs.DemandWent.{Went, PostS, ps-ok, ps-err, ps-refused}
+use Rattle.theorems.proofs.DemandRuns.{Below, num-vars-below, defaults-went}
+use Rattle.theorems.proofs.TotalNoFail.{defaults-take}
+use Rattle.theorems.proofs.SolveHindered.{Hinders, clear, nine, sixteen, one-hinders}
 use Rattle.theorems.proofs.BookAbilities.{not-itself, abilities-agree}
-use Rattle.theorems.proofs.Rules.{Decides, rule-is, those-any, sixteen-of}
+use Rattle.theorems.proofs.SolveRules.{Decides, rule-is, those-any, sixteen-of}
 
 -- ---- one constraint
 

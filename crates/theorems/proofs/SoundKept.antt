@@ -23,16 +23,16 @@ use Rattle.definition.specs.Step.{run, Answer, number-of-error, number-of-refus
 use Rattle.definition.specs.Demand.{after}
 use Rattle.definition.specs.Job.{Entry, ends-job, job-from, job-log}
 use Rattle.theorems.proofs.Laws.{PlacesIn, type-on}
-use Rattle.theorems.proofs.Order.{All, Sound}
-use Rattle.theorems.proofs.Finite.{all-at as each}
-use Rattle.theorems.proofs.Facts.{and-l, and-r, test, length-args, cell, facts}
+use Rattle.theorems.proofs.DemandOrder.{All, Sound}
+use Rattle.theorems.proofs.TotalFinite.{all-at as each}
+use Rattle.theorems.proofs.SoundFacts.{and-l, and-r, test, length-args, cell, facts}
 use Rattle.theorems.proofs.Soundness.{untest, and, lt-test, le-test, not-anything, numeric-u32, sound-is}
-use Rattle.theorems.proofs.PutBack.{sound-put-back}
-use Rattle.theorems.proofs.Ranges.{all-append, ShapeIn, NodeIn, CellIn, ConstraintIn, StructIn, Ranges, unbound-in, node-in, cell-in, vars-ranges}
-use Rattle.theorems.proofs.WellRead.{Read-time, five, six, eighteen, ReadWell, given, not-given, well-read}
-use Rattle.theorems.proofs.Refused.{error-number, step-cases, stream-cases}
-use Rattle.theorems.proofs.Records.{Leaves, l-ok, l-err, l-refused, run-leaves}
-use Rattle.theorems.proofs.Walk.{Run-time, seven, eight, nine, ten, eleven, twelve, thirteen, sixteen, e-ok, e-err, e-refused, Run, run-walk}
+use Rattle.theorems.proofs.DemandPutBack.{sound-put-back}
+use Rattle.theorems.proofs.SoundRanges.{all-append, ShapeIn, NodeIn, CellIn, ConstraintIn, StructIn, Ranges, unbound-in, node-in, cell-in, vars-ranges}
+use Rattle.theorems.proofs.SoundRead.{Read-time, five, six, eighteen, ReadWell, given, not-given, well-read}
+use Rattle.theorems.proofs.SoundRefusals.{error-number, step-cases, stream-cases}
+use Rattle.theorems.proofs.DemandRecords.{Leaves, l-ok, l-err, l-refused, run-leaves}
+use Rattle.theorems.proofs.TotalWalk.{Run-time, seven, eight, nine, ten, eleven, twelve, thirteen, sixteen, e-ok, e-err, e-refused, Run, run-walk}
 
 -- ---- from the test to the ranges
 

@@ -13,9 +13,9 @@ use Rattle.definition.specs.Types.{Anything, UnitType, Ref, Param, Apply, Var, 
 use Rattle.definition.specs.Store.{nowhere, count, taken, node, type-at, with-args, get, num-loc, all-of}
 use Rattle.definition.specs.Subst.{is-anything, parts, next-of, forward-tvar}
 use Rattle.definition.specs.Sound.{all-at, counts-fit, smaller-than, parts-smaller, is-u32, node-allowed, binding-allowed, numeric-allowed, cell-allowed, constraint-allowed, struct-allowed, fields-allowed, no-anything, no-binding-anything, chain-ends, chains-end, sound}
-use Rattle.theorems.proofs.Tracks.{never}
-use Rattle.theorems.proofs.Finite.{all-at as at-member}
-use Rattle.theorems.proofs.Facts.{and-l, and-r, test, of-member, of-each, at-place, all-below, smaller, fields, bindings, ends, cell, bound-taken, in-nodes, not-any, stops}
+use Rattle.theorems.proofs.DemandTracks.{never}
+use Rattle.theorems.proofs.TotalFinite.{all-at as at-member}
+use Rattle.theorems.proofs.SoundFacts.{and-l, and-r, test, of-member, of-each, at-place, all-below, smaller, fields, bindings, ends, cell, bound-taken, in-nodes, not-any, stops}
 
 -- ---- a sound state in words
 

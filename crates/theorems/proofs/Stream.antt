@@ -12,8 +12,8 @@ use Rattle.definition.specs.Record.{Record, read-record}
 use Rattle.definition.specs.Sound.{sound}
 use Rattle.definition.specs.Step.{Answer, refusal, number-of-refusal, max-buffer, streamed, step-stream}
 use Rattle.definition.specs.Job.{Entry, ends-job, job-from, job-log}
-use Rattle.theorems.proofs.Tracks.{never}
-use Rattle.theorems.proofs.WellRead.{Read-time, five, six, eighteen, ReadWell, given, not-given, well-read}
+use Rattle.theorems.proofs.DemandTracks.{never}
+use Rattle.theorems.proofs.SoundRead.{Read-time, five, six, eighteen, ReadWell, given, not-given, well-read}
 use Rattle.theorems.proofs.SoundKept.{stream-sound-kept, trusted, fresh-sound}
 
 -- the rest has fewer bytes, or the job is over

@@ -15,13 +15,13 @@ use Rattle.definition.specs.Step.{run, Answer, number-of-error, number-of-refus
 use Rattle.definition.specs.Job.{Entry, ends-job, job-from, job-log}
 use Rattle.theorems.proofs.StreamRecords.{front, records-from, records-of, entries}
 use Rattle.definition.specs.Locations.{blank-job, Seen, seen, blank-log, Locations-decide-nothing}
-use Rattle.theorems.proofs.Walk.{Run-time, seven, eight, nine, ten, eleven, twelve, thirteen, sixteen}
-use Rattle.theorems.proofs.Late.{Late, fine, wrong, down, run-late}
-use Rattle.theorems.proofs.WellRead.{bytes-take, Read-time, ReadWell, not-given, well-read}
+use Rattle.theorems.proofs.TotalWalk.{Run-time, seven, eight, nine, ten, eleven, twelve, thirteen, sixteen}
+use Rattle.theorems.proofs.TotalLate.{Late, fine, wrong, down, run-late}
+use Rattle.theorems.proofs.SoundRead.{bytes-take, Read-time, ReadWell, not-given, well-read}
 use Rattle.theorems.proofs.SoundKept.{stream-sound-kept, usable-sound, trusted, fresh-sound}
 use Rattle.theorems.proofs.Stream.{ends}
-use Rattle.theorems.proofs.Cuts.{Fronted, fronted, not-fronted, fronts}
-use Rattle.theorems.proofs.Locations.{Job-of-bytes, locations-decide-nothing}
+use Rattle.theorems.proofs.StreamCuts.{Fronted, fronted, not-fronted, fronts}
+use Rattle.theorems.proofs.EraseLocations.{Job-of-bytes, locations-decide-nothing}
 
 -- ---- a run's answer does not end the job
 

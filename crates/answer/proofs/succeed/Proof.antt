@@ -1,6 +1,6 @@
 -- `answer::succeed` meets its contract. Assumes nothing.
 use mathlib.Core.Path.{refl}
-use Rattle.snap.proofs.Tails.{sized-on}
+use Rattle.snapshot.proofs.Tails.{sized-on}
 use Rattle.answer.proofs.Settle.{number-14, given-back}
 use Rattle.answer.proofs.Cases.{success-fits, success-long, success-kept, success-back}
 use Rattle.definition.specs.Types.{answer-too-long}

@@ -4,8 +4,8 @@ use mathlib.Core.Path.{_≡_, sym, _∙_}
 use Prim.Native.Nat.{ℕ, _-_}
 use native.Mathlib.Omega.{arith}
 use lib.ListN.{length, length-replicate}
-use Rattle.snap.specs.Snap.{Saved-partly}
-use Rattle.snap.proofs.Saving.{partly-none}
+use Rattle.snapshot.specs.Snap.{Saved-partly}
+use Rattle.snapshot.proofs.Saving.{partly-none}
 use borrow.Author.Needs.{needs}
 use borrow.Author.Tests.{not-true, not-false}
 use Rattle.engine.proofs.Laws.{bytes-of}

@@ -1,6 +1,6 @@
 -- `engine::record_trusted` meets its contract. Assumes nothing.
 use native.Mathlib.Omega.{arith}
-use Rattle.snap.proofs.Saving.{partly-none}
+use Rattle.snapshot.proofs.Saving.{partly-none}
 use borrow.Author.Needs.{needs}
 use Rattle.engine.proofs.Laws.{bytes-of, stands-lent, lent-size, record-gives}
 use Rattle.engine.proofs.record_trusted.Statement.{statement}

@@ -2,7 +2,7 @@
 use mathlib.Core.Path.{sym, _∙_}
 use borrow.Author.Tests.{not-true, not-false}
 use borrow.Author.Needs.{needs}
-use Rattle.lent.specs.Lent.{lent-sound}
+use Rattle.sound.specs.Lent.{lent-sound}
 use Rattle.limits.proofs.Laws.{fails-r}
 use Rattle.engine.proofs.Laws.{and-true}
 use Rattle.engine.proofs.usable.Statement.{statement}
