@@ -75,24 +75,24 @@ void pongiwaru_split(uint32_t *state, size_t state_length, uint8_t params[PONGIW
                      const uint8_t *stream, size_t stream_length, size_t *rest);
 
 /* A job's next lines, those of as many records as the bytes hold whole and the log has room for. more: further bytes follow these,
- * so a record is taken only where 4,096 bytes are at hand. *place is the next record's number, from 0. The result is 0, or 15 for a
+ * so a record is taken only where 4,096 bytes are at hand. *index is the next record's number, from 0. The result is 0, or 15 for a
  * state that is not sound. *read and *written say how much of stream and log was used. *ended: nothing follows, after a 5, a 6, a 15,
  * an 18 or the last record.
  * A call that has not ended is made again, on the bytes that were not read. Where it read nothing it waits: with more, for the bytes
- * that follow; for a log of PONGIWARU_LINE_BYTES; or for ever, where *place is UINT64_MAX, since record numbers end one below it.
- * A caller that lends a *place of its own tests for that and stops; a count from 0 does not come so far. */
+ * that follow; for a log of PONGIWARU_LINE_BYTES; or for ever, where *index is UINT64_MAX, since record numbers end one below it.
+ * A caller that lends an *index of its own tests for that and stops; a count from 0 does not come so far. */
 uint32_t pongiwaru_job(uint32_t *state, size_t state_length, uint8_t params[PONGIWARU_ROWS][PONGIWARU_ROW_BYTES],
                        const uint8_t *stream, size_t stream_length, bool more,
                        uint8_t *log, size_t log_length, size_t *written, size_t *read,
-                       uint64_t *place, bool *ended);
+                       uint64_t *index, bool *ended);
 
 /* A job's first lines, from a fresh state and record number 0: state and params may hold anything, and are cleared by the call, so the
- * state is not tested. Else as pongiwaru_job, which goes on from what this leaves; *place is only written. The result is 0, or 15 where
+ * state is not tested. Else as pongiwaru_job, which goes on from what this leaves; *index is only written. The result is 0, or 15 where
  * state_length is not PONGIWARU_WORDS. */
 uint32_t pongiwaru_fresh_job(uint32_t *state, size_t state_length, uint8_t params[PONGIWARU_ROWS][PONGIWARU_ROW_BYTES],
                              const uint8_t *stream, size_t stream_length, bool more,
                              uint8_t *log, size_t log_length, size_t *written, size_t *read,
-                             uint64_t *place, bool *ended);
+                             uint64_t *index, bool *ended);
 
 #ifdef __cplusplus
 }

@@ -22,7 +22,7 @@ pub trait Calls {
         -> u32;
     /// How many bytes of the stream are left after one record.
     fn split(&self, state: &mut [u32], params: &mut Params, stream: &[u8], rest: &mut usize);
-    /// A job's next lines, `lines.place` on: 0, or 15.
+    /// A job's next lines, `lines.index` on: 0, or 15.
     fn job(
         &self,
         state: &mut [u32],
@@ -156,7 +156,7 @@ impl Calls for Mimic {
         log: &mut [u8],
         lines: &mut Lines,
     ) -> u32 {
-        *lines = Lines { place: lines.place, ..Lines::default() };
+        *lines = Lines { index: lines.index, ..Lines::default() };
         if sound(state, params).is_err() {
             lines.ended = true;
             return 15;
@@ -168,9 +168,9 @@ impl Calls for Mimic {
                 return 0;
             }
             let (outcome, n) = job.next(&stream[lines.read..]);
-            let line = format!("{} {}\n", lines.place, answer_text(&outcome));
+            let line = format!("{} {}\n", lines.index, answer_text(&outcome));
             log[lines.written..lines.written + line.len()].copy_from_slice(line.as_bytes());
-            (lines.written, lines.read, lines.place) = (lines.written + line.len(), lines.read + n, lines.place + 1);
+            (lines.written, lines.read, lines.index) = (lines.written + line.len(), lines.read + n, lines.index + 1);
             lines.ended = n == 0
         }
         lines.ended |= !more;

@@ -244,7 +244,7 @@ struct Run<'a> {
     job: Job,
     log: String,
     at: usize,
-    place: usize,
+    index: usize,
 }
 
 impl Run<'_> {
@@ -281,10 +281,10 @@ impl Run<'_> {
             tally.count_shown(r, mark, &types_shown(r, &answer, self.job.known()))
         }
         self.log += &match answer.payload.is_empty() {
-            true => format!("{} {}\n", self.place, answer.number),
-            false => format!("{} {}\n", self.place, shown(&answer)),
+            true => format!("{} {}\n", self.index, answer.number),
+            false => format!("{} {}\n", self.index, shown(&answer)),
         };
-        (self.at, self.place) = (self.at + n, self.place + 1);
+        (self.at, self.index) = (self.at + n, self.index + 1);
         Ok(n > 0)
     }
 }
@@ -298,22 +298,22 @@ pub fn stream(
     tally: &mut Tally,
 ) -> Result<(), Disagreement> {
     let (lender, job) = (Lender::new(calls, start), job_of(start.view()));
-    let mut run = Run { lender, job, log: String::new(), at: 0, place: 0 };
+    let mut run = Run { lender, job, log: String::new(), at: 0, index: 0 };
     let room = MIN_ANSWER + if chance.percent(20) { chance.below(100) } else { 0 };
     let mut refused = false;
     while run.at < stream.len() {
-        let place = run.place;
+        let index = run.index;
         match run.step(stream, room, tally) {
             Ok(true) => (),
             Ok(false) => {
-                refused = run.place > place;
+                refused = run.index > index;
                 break;
             }
-            Err(what) => return Err(Disagreement { record: place, what }),
+            Err(what) => return Err(Disagreement { record: index, what }),
         }
     }
     tally.jobs += 1;
-    tally.lines += run.place;
+    tally.lines += run.index;
     let followed = if refused { stream } else { &stream[..run.at] };
     let end = run.lender.lent();
     run.lender.lend(start);
@@ -322,26 +322,26 @@ pub fn stream(
             true => Ok(()),
             false => Err("the job leaves another state than its records".into()),
         })
-        .map_err(|what| Disagreement { record: run.place, what })
+        .map_err(|what| Disagreement { record: run.index, what })
 }
 
 /// The stream handed over in pieces gives the same lines.
 fn in_pieces(lender: &mut Lender, stream: &[u8], wanted: &str, chance: &mut Chance) -> Result<(), Fault> {
     let piece = chance.one(&[usize::MAX, usize::MAX, 4096, 5000, 9000]);
     let room = LINE + chance.one(&[0, 1, 20_000]);
-    let (mut log, mut at, mut have, mut place) = (vec![], 0, 0usize, 0);
+    let (mut log, mut at, mut have, mut index) = (vec![], 0, 0usize, 0);
     let mut over = false;
     while !over {
         have = stream.len().min(have.saturating_add(piece));
         let more = have < stream.len();
-        let (number, Lines { read, place: next, ended, .. }, text) =
-            lender.job(&stream[at..have], more, room, place)?;
+        let (number, Lines { read, index: next, ended, .. }, text) =
+            lender.job(&stream[at..have], more, room, index)?;
         log.extend(text);
         if number != 0 {
             return Err(format!("the job answers {}", number));
         }
-        let stuck = read == 0 && next == place && !more;
-        (at, place, over) = (at + read, next, ended);
+        let stuck = read == 0 && next == index && !more;
+        (at, index, over) = (at + read, next, ended);
         if stuck && !over {
             return Err("the job does not go on".into());
         }

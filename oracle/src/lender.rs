@@ -197,9 +197,9 @@ impl<'a> Lender<'a> {
     }
 
     /// A job's next lines.
-    pub fn job(&mut self, stream: &[u8], more: bool, room: usize, place: u64) -> Result<(u32, Lines, Vec<u8>), Fault> {
+    pub fn job(&mut self, stream: &[u8], more: bool, room: usize, index: u64) -> Result<(u32, Lines, Vec<u8>), Fault> {
         self.prepare(stream, room);
-        let mut lines = Lines { written: usize::MAX, read: usize::MAX, place, ended: false };
+        let mut lines = Lines { written: usize::MAX, read: usize::MAX, index, ended: false };
         let params: &mut Params = self.params.get_mut().try_into().unwrap();
         let number =
             self.calls.job(self.words.get_mut(), params, self.input.get(), more, self.output.get_mut(), &mut lines);
@@ -207,7 +207,7 @@ impl<'a> Lender<'a> {
         if lines.read > stream.len() {
             return fault("job read more than there is");
         }
-        if number == 15 && !(self.unchanged() && lines == Lines { place, ended: true, ..Lines::default() }) {
+        if number == 15 && !(self.unchanged() && lines == Lines { index, ended: true, ..Lines::default() }) {
             return fault("job refused the state and left something else");
         }
         Ok((number, lines, self.output.get()[..lines.written].to_vec()))

@@ -124,7 +124,7 @@ fn tower(calls: &dyn Calls, closed: bool) -> Lent {
     let stream = assemble(&("FV\n".repeat(31) + &joins.concat() + &last), true).unwrap();
     let mut lender = Lender::new(calls, &fresh());
     let (number, lines, _) = lender.job(&stream, false, 1 << 20, 0).unwrap();
-    assert_eq!((number, lines.place), (0, 62));
+    assert_eq!((number, lines.index), (0, 62));
     lender.lent()
 }
 

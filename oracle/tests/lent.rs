@@ -259,7 +259,7 @@ fn eighteen_ends_a_job() {
                 let bytes = if more { [&all[..], &[0; 5000]].concat() } else { all.clone() };
                 let (_, lines, log) = lender.job(&bytes, more, 100_000, 7).unwrap();
                 assert_eq!(String::from_utf8(log).unwrap(), format!("7 0\n8 {}\n", number));
-                assert_eq!((lines.read, lines.place, lines.ended), (2, 9, true));
+                assert_eq!((lines.read, lines.index, lines.ended), (2, 9, true));
             }
         }
     }

@@ -14,7 +14,7 @@ use Rattle.definition.specs.Sound.{sound}
 use Rattle.definition.specs.Step as step
 use Rattle.definition.specs.Step.{step-stream, max-buffer}
 use Rattle.definition.specs.Job.{ends-job, line}
-use Rattle.pieces.specs.Pieces.{Piece, max-line, max-place, takes-on, halt, after-line, next-lines}
+use Rattle.pieces.specs.Pieces.{Piece, max-line, max-index, takes-on, halt, after-line, next-lines}
 use Rattle.theorems.proofs.SoundFacts.{and-l, and-r, test}
 use Rattle.theorems.proofs.SoundKept.{trusted}
 use Rattle.theorems.proofs.SoundRefusals.{stream-two-digits}
@@ -28,25 +28,25 @@ use Rattle.step.specs.Trusted.{held, Stands, answered, unread, Steps}
 use Rattle.engine.specs.Lists.{Lists}
 
 -- so far: the words hold the state after the lines in front of the log, and the piece goes on from there
-pub record Going (w₀ : List ℕ) (u₀ : Used) (p₀ : List (List ℕ)) (place : ℕ) (stream : Bytes) (more : Bool) (log₀ w : List ℕ) (u : Used) (p : List (List ℕ)) (log : Bytes) (at n i : ℕ) : Type 0 where
+pub record Going (w₀ : List ℕ) (u₀ : Used) (p₀ : List (List ℕ)) (index : ℕ) (stream : Bytes) (more : Bool) (log₀ w : List ℕ) (u : Used) (p : List (List ℕ)) (log : Bytes) (at n i : ℕ) : Type 0 where
   pub stands : Stands w u p
   pub size : length log ≡ length log₀
   pub within : at ≤ length stream
   pub fits : n ≤ length log₀
   pub others : log ≡ take n log ++ drop n log₀
-  pub is : after-line (take n log) (next-lines i (held w u p) (drop at stream) (length log₀ - n) more) ≡ next-lines place (held w₀ u₀ p₀) stream (length log₀) more
+  pub is : after-line (take n log) (next-lines i (held w u p) (drop at stream) (length log₀ - n) more) ≡ next-lines index (held w₀ u₀ p₀) stream (length log₀) more
 
 abbrev lines-at : Used → ℕ → ℕ → ℕ → Bool → Lines
-lines-at u at n i ended = record { used = u; read = at; written = n; place = i; ended = ended }
+lines-at u at n i ended = record { used = u; read = at; written = n; index = i; ended = ended }
 
-pub going-start : (w₀ : List ℕ) (u₀ : Used) (p₀ : List (List ℕ)) (place : ℕ) (stream : Bytes) (more : Bool) (log₀ : Bytes) → Stands w₀ u₀ p₀ → Going w₀ u₀ p₀ place stream more log₀ w₀ u₀ p₀ log₀ 0 0 place
-going-start w₀ u₀ p₀ place stream more log₀ st =
+pub going-start : (w₀ : List ℕ) (u₀ : Used) (p₀ : List (List ℕ)) (index : ℕ) (stream : Bytes) (more : Bool) (log₀ : Bytes) → Stands w₀ u₀ p₀ → Going w₀ u₀ p₀ index stream more log₀ w₀ u₀ p₀ log₀ 0 0 index
+going-start w₀ u₀ p₀ index stream more log₀ st =
     let e : length log₀ - 0 ≡ length log₀ = omega arith in
     record { stands = st; size = refl; within = omega arith; fits = omega arith; others = refl; is = rw e (no-line _) }
 
-module _ {w₀ : List ℕ} {u₀ : Used} {p₀ : List (List ℕ)} {place : ℕ} {stream : Bytes} {more : Bool} {log₀ w : List ℕ} {u : Used} {p : List (List ℕ)} {log : Bytes} {at n i : ℕ} (g : Going w₀ u₀ p₀ place stream more log₀ w u p log at n i) where
+module _ {w₀ : List ℕ} {u₀ : Used} {p₀ : List (List ℕ)} {index : ℕ} {stream : Bytes} {more : Bool} {log₀ w : List ℕ} {u : Used} {p : List (List ℕ)} {log : Bytes} {at n i : ℕ} (g : Going w₀ u₀ p₀ index stream more log₀ w u p log at n i) where
   -- the loop's end: the piece from here on is nothing but a halt
-  halts : (o : Bool) → next-lines i (held w u p) (drop at stream) (length log₀ - n) more ≡ halt i (held w u p) (drop at stream) o → Lists w₀ u₀ p₀ place stream more log₀ w p log (lines-at u at n i o)
+  halts : (o : Bool) → next-lines i (held w u p) (drop at stream) (length log₀ - n) more ≡ halt i (held w u p) (drop at stream) o → Lists w₀ u₀ p₀ index stream more log₀ w p log (lines-at u at n i o)
   unfolding after-line halt
   halts o e = record { stands = g .stands; fits = g .fits; within = g .within; others = g .others; is = sym (g .is) ∙ ap (λ (q : Piece). after-line (take n log) q) e ∙ rw (append-nil (take n log)) refl }
 
@@ -55,13 +55,13 @@ module _ {w₀ : List ℕ} {u₀ : Used} {p₀ : List (List ℕ)} {place : ℕ} 
   taken-on f e = rw (← g .size) (sym (f (drop at stream) (length-drop at stream)) ∙ e)
 
   -- no bytes are left
-  pub going-spent : length stream ≤ at → Lists w₀ u₀ p₀ place stream more log₀ w p log (lines-at u at n i (not more))
+  pub going-spent : length stream ≤ at → Lists w₀ u₀ p₀ index stream more log₀ w p log (lines-at u at n i (not more))
   going-spent l =
       let e : drop at stream ≡ [] = drop-of-length-le stream l in
       halts (not more) (rw e (next-spent i (held w u p) (length log₀ - n) more))
 
   -- the next record is not taken on
-  pub going-stops : at < length stream → takes-on i (drop at stream) (length log₀ - n) more ≡ false → Lists w₀ u₀ p₀ place stream more log₀ w p log (lines-at u at n i false)
+  pub going-stops : at < length stream → takes-on i (drop at stream) (length log₀ - n) more ≡ false → Lists w₀ u₀ p₀ index stream more log₀ w p log (lines-at u at n i false)
   going-stops l t = halts false (go (drop at stream) t (omega (arith, length-drop at stream)))
     where
       go : (b : Bytes) → takes-on i b (length log₀ - n) more ≡ false → 0 < length b → next-lines i (held w u p) b (length log₀ - n) more ≡ halt i (held w u p) b false
@@ -142,12 +142,12 @@ longer log₀ log n text log′ n′ z l o q =
 -- ---- the loop's turn
 
 pub takes-room : (i : ℕ) (b : Bytes) (room : ℕ) (more : Bool) → takes-on i b room more ≡ true → (8217 ≤ room) × (i < 18446744073709551615)
-unfolding takes-on max-line max-place
+unfolding takes-on max-line max-index
 takes-room i b room more t =
     let q = and-r (not more || leb max-record (length b)) (leb 8217 room && ltb i 18446744073709551615) t in
     (leb→le 8217 room (test (and-l (leb 8217 room) (ltb i 18446744073709551615) q)), ltb→lt i 18446744073709551615 (test (and-r (leb 8217 room) (ltb i 18446744073709551615) q)))
 
-module _ {w₀ : List ℕ} {u₀ : Used} {p₀ : List (List ℕ)} {place : ℕ} {stream : Bytes} {more : Bool} {log₀ w : List ℕ} {u : Used} {p : List (List ℕ)} {log : Bytes} {at n i : ℕ} (g : Going w₀ u₀ p₀ place stream more log₀ w u p log at n i)
+module _ {w₀ : List ℕ} {u₀ : Used} {p₀ : List (List ℕ)} {index : ℕ} {stream : Bytes} {more : Bool} {log₀ w : List ℕ} {u : Used} {p : List (List ℕ)} {log : Bytes} {at n i : ℕ} (g : Going w₀ u₀ p₀ index stream more log₀ w u p log at n i)
     (is : Is-bytes stream) (l : at < length stream) (t : takes-on i (drop at stream) (length log₀ - n) more ≡ true)
     {w′ : List ℕ} {p′ : List (List ℕ)} {buf buf′ : Bytes} {r : Stepped} (st : Steps false w u p stream at buf w′ p′ buf′ r) where
   abbrev text : Bytes
@@ -177,13 +177,13 @@ module _ {w₀ : List ℕ} {u₀ : Used} {p₀ : List (List ℕ)} {place : ℕ} 
   turned {log′} {n′} q = longer log₀ log n text log′ n′ (g .size) (omega (arith, line-room, g .size)) (g .others) q
 
   -- after this record's line the piece is q
-  piece-is : {log′ : Bytes} {n′ : ℕ} → Wrote log n text log′ n′ → (q : Piece) → next-lines i (held w u p) (drop at stream) (length log₀ - n) more ≡ after-line text q → after-line (take n′ log′) q ≡ next-lines place (held w₀ u₀ p₀) stream (length log₀) more
+  piece-is : {log′ : Bytes} {n′ : ℕ} → Wrote log n text log′ n′ → (q : Piece) → next-lines i (held w u p) (drop at stream) (length log₀ - n) more ≡ after-line text q → after-line (take n′ log′) q ≡ next-lines index (held w₀ u₀ p₀) stream (length log₀) more
   piece-is q x e = ap (λ (m : Bytes). after-line m x) (turned q .front) ∙ sym (two-lines (take n log) text x) ∙ ap (λ (y : Piece). after-line (take n log) y) (sym e) ∙ g .is
 
   pub going-less : ends-job (r .number) ≡ false → at < r .next
   going-less d = omega (arith, one-shorter i (held w u p) 0 more (g .stands .is-sound) answer (drop at stream) left answer-is d, length-drop at stream, length-drop (r .next) stream)
 
-  pub going-last : {log′ : Bytes} {n′ : ℕ} → ends-job (r .number) ≡ true → Wrote log n text log′ n′ → Lists w₀ u₀ p₀ place stream more log₀ w′ p′ log′ (lines-at (r .used) (r .next) n′ (i + 1) true)
+  pub going-last : {log′ : Bytes} {n′ : ℕ} → ends-job (r .number) ≡ true → Wrote log n text log′ n′ → Lists w₀ u₀ p₀ index stream more log₀ w′ p′ log′ (lines-at (r .used) (r .next) n′ (i + 1) true)
   unfolding halt after-line
   going-last {log′} {n′} d q =
       let z = turned q in
@@ -196,7 +196,7 @@ module _ {w₀ : List ℕ} {u₀ : Used} {p₀ : List (List ℕ)} {place : ℕ} 
         is = rw e (sym (piece-is q _ (one-last i (held w u p) (length log₀ - n) more (g .stands .is-sound) answer (drop at stream) left t answer-is d)) ∙ rw (append-nil (take n′ log′)) refl);
       }
 
-  pub going-on : {log′ : Bytes} {n′ : ℕ} → ends-job (r .number) ≡ false → Wrote log n text log′ n′ → Going w₀ u₀ p₀ place stream more log₀ w′ (r .used) p′ log′ (r .next) n′ (i + 1)
+  pub going-on : {log′ : Bytes} {n′ : ℕ} → ends-job (r .number) ≡ false → Wrote log n text log′ n′ → Going w₀ u₀ p₀ index stream more log₀ w′ (r .used) p′ log′ (r .next) n′ (i + 1)
   going-on {log′} {n′} d q =
       let z = turned q in
       let e : i + 1 ≡ suc i = omega arith in

@@ -117,21 +117,21 @@ usable-both w p buffer e = (and-l (lent-sound w p) (leb 4096 buffer) e, leb→le
 
 -- ---- a job's lines
 
-module _ (w : List ℕ) (p : List (List ℕ)) (h : lent-sound w p ≡ true) (u : Used) (c : u ≡ used-of w) (place : ℕ)
+module _ (w : List ℕ) (p : List (List ℕ)) (h : lent-sound w p ≡ true) (u : Used) (c : u ≡ used-of w) (index : ℕ)
     (stream : Bytes) (more : Bool) (log : Bytes) (w′ : List ℕ) (p′ : List (List ℕ)) (log′ : Bytes) (r : Lines)
-    (g : Lists w u p place stream more log w′ p′ log′ r) (w″ : List ℕ)
+    (g : Lists w u p index stream more log w′ p′ log′ r) (w″ : List ℕ)
     (e : (ds : List Struct) → Declares w′ (r .used) ds → w″ ≡ encode (seen w′ (r .used) ds)) where
   abbrev lines : Lent-piece
-  lines = lent-lines w p place stream (length log) more
+  lines = lent-lines w p index stream (length log) more
 
-  listed : lines ≡ record { number = 0; text = take (r .written) log′; words = w″; params = p′; rest = drop (r .read) stream; place = r .place; ended = r .ended }
+  listed : lines ≡ record { number = 0; text = take (r .written) log′; words = w″; params = p′; rest = drop (r .read) stream; index = r .index; ended = r .ended }
   unfolding lent-lines lent-piece
   listed =
-      ap (λ q. elim q as (λ x. Lent-piece) [ true ↦ lent-piece (next-lines place (decode w p) stream (length log) more) | false ↦ record { number = 15; text = []; words = w; params = p; rest = stream; place = place; ended = true } ]) h
+      ap (λ q. elim q as (λ x. Lent-piece) [ true ↦ lent-piece (next-lines index (decode w p) stream (length log) more) | false ↦ record { number = 15; text = []; words = w; params = p; rest = stream; index = index; ended = true } ]) h
       ∙ ap lent-piece (rw (held-lent w p h u c) at (g .is))
-      ∙ ap₂ (λ (x : List ℕ) (y : List (List ℕ)). record { number = 0; text = take (r .written) log′; words = x; params = y; rest = drop (r .read) stream; place = r .place; ended = r .ended }) (sym (written w′ (r .used) p′ (g .stands) w″ e)) (sym (g .stands .bytes))
+      ∙ ap₂ (λ (x : List ℕ) (y : List (List ℕ)). record { number = 0; text = take (r .written) log′; words = x; params = y; rest = drop (r .read) stream; index = r .index; ended = r .ended }) (sym (written w′ (r .used) p′ (g .stands) w″ e)) (sym (g .stands .bytes))
 
-  pub job-gives : length log′ ≡ length log → Gives-lines lines stream log 0 w″ p′ log′ (r .written) (r .read) (r .place) (r .ended)
+  pub job-gives : length log′ ≡ length log → Gives-lines lines stream log 0 w″ p′ log′ (r .written) (r .read) (r .index) (r .ended)
   unfolding in-front
   job-gives l =
       let n : length (take (r .written) log′) ≡ r .written = long (r .written) log′ (omega (arith, l, g .fits)) in
@@ -149,13 +149,13 @@ module _ (w : List ℕ) (p : List (List ℕ)) (h : lent-sound w p ≡ true) (u :
         ends = refl;
       })
 
-pub unsound-lines : (w : List ℕ) (p : List (List ℕ)) (place : ℕ) (stream : Bytes) (more : Bool) (log : Bytes) → lent-sound w p ≡ false
-    → Gives-lines (lent-lines w p place stream (length log) more) stream log 15 w p log 0 0 place true
+pub unsound-lines : (w : List ℕ) (p : List (List ℕ)) (index : ℕ) (stream : Bytes) (more : Bool) (log : Bytes) → lent-sound w p ≡ false
+    → Gives-lines (lent-lines w p index stream (length log) more) stream log 15 w p log 0 0 index true
 unfolding in-front lent-lines
-unsound-lines w p place stream more log h =
-    let piece : Lent-piece = record { number = 15; text = []; words = w; params = p; rest = stream; place = place; ended = true } in
-    let e : lent-lines w p place stream (length log) more ≡ piece =
-    ap (λ q. elim q as (λ x. Lent-piece) [ true ↦ lent-piece (next-lines place (decode w p) stream (length log) more) | false ↦ piece ]) h in
+unsound-lines w p index stream more log h =
+    let piece : Lent-piece = record { number = 15; text = []; words = w; params = p; rest = stream; index = index; ended = true } in
+    let e : lent-lines w p index stream (length log) more ≡ piece =
+    ap (λ q. elim q as (λ x. Lent-piece) [ true ↦ lent-piece (next-lines index (decode w p) stream (length log) more) | false ↦ piece ]) h in
     rw e
     (record {
       told = refl;

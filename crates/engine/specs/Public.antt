@@ -57,16 +57,16 @@ pub record Lent-piece : Type 0 where
   pub words : List ℕ
   pub params : List (List ℕ)
   pub rest : Bytes
-  pub place : ℕ
+  pub index : ℕ
   pub ended : Bool
 
 unfoldable pub lent-piece : Piece → Lent-piece
-lent-piece p = record { number = 0; text = p .text; words = encode (p .state); params = encode-params (p .state); rest = p .rest; place = p .place; ended = p .ended }
+lent-piece p = record { number = 0; text = p .text; words = encode (p .state); params = encode-params (p .state); rest = p .rest; index = p .index; ended = p .ended }
 
 unfoldable pub lent-lines : List ℕ → List (List ℕ) → ℕ → Bytes → ℕ → Bool → Lent-piece
-lent-lines w params place stream room more = elim (lent-sound w params) [
-  | true ↦ lent-piece (next-lines place (decode w params) stream room more)
-  | false ↦ record { number = 15; text = []; words = w; params = params; rest = stream; place = place; ended = true }
+lent-lines w params index stream room more = elim (lent-sound w params) [
+  | true ↦ lent-piece (next-lines index (decode w params) stream room more)
+  | false ↦ record { number = 15; text = []; words = w; params = params; rest = stream; index = index; ended = true }
 ]
 
 -- a job's first lines, from a fresh state whatever the words hold; words of another length are those of no state, 15
@@ -77,7 +77,7 @@ fresh-lines w params stream room more = elim (eqb (length w) 24069) [
 ]
 
 -- what a call leaves that is to give piece p of a stream's lines, its text in front of the log
-pub record Gives-lines (p : Lent-piece) (stream log : Bytes) (number : ℕ) (words′ : List ℕ) (params′ : List (List ℕ)) (log′ : Bytes) (written read place : ℕ) (ended : Bool) : Type 0 where
+pub record Gives-lines (p : Lent-piece) (stream log : Bytes) (number : ℕ) (words′ : List ℕ) (params′ : List (List ℕ)) (log′ : Bytes) (written read index : ℕ) (ended : Bool) : Type 0 where
   pub told : number ≡ p .number
   pub words : words′ ≡ p .words
   pub params : params′ ≡ p .params
@@ -86,5 +86,5 @@ pub record Gives-lines (p : Lent-piece) (stream log : Bytes) (number : ℕ) (wor
   pub fits : written ≤ length log
   pub rest : drop read stream ≡ p .rest
   pub inside : read ≤ length stream
-  pub next : place ≡ p .place
+  pub next : index ≡ p .index
   pub ends : ended ≡ p .ended

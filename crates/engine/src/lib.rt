@@ -26,7 +26,7 @@ pub struct Lines {
     pub used: Used,
     pub read: usize,
     pub written: usize,
-    pub place: u64,
+    pub index: u64,
     pub ended: bool,
 }
 
@@ -85,14 +85,14 @@ pub fn lent_record(
 
 // ---- a job
 
-fn lines_at(used: Used, read: usize, written: usize, place: u64, ended: bool) -> Lines
-    ensures { λ r. ⌜ r ≡ record { used = used; read = read; written = written; place = place; ended = ended } ⌝ }
+fn lines_at(used: Used, read: usize, written: usize, index: u64, ended: bool) -> Lines
+    ensures { λ r. ⌜ r ≡ record { used = used; read = read; written = written; index = index; ended = ended } ⌝ }
 {
     Lines {
         used: used,
         read: read,
         written: written,
-        place: place,
+        index: index,
         ended: ended,
     }
 }
@@ -105,10 +105,10 @@ fn lines_trusted(
     stream: &[u8],
     more: bool,
     log: &mut [u8],
-    place: u64,
+    index: u64,
 ) -> Lines
     requires { ⌜ Stands (now w) u (now params) ⌝ }
-    ensures { λ r. ⌜ Lists (now (w .entry)) u (now (params .entry)) place (now (stream .entry)) more (now (log .entry)) (now (w .exit)) (now (params .exit)) (now (log .exit)) r ⌝ }
+    ensures { λ r. ⌜ Lists (now (w .entry)) u (now (params .entry)) index (now (stream .entry)) more (now (log .entry)) (now (w .exit)) (now (params .exit)) (now (log .exit)) r ⌝ }
 {
     let mut saved = [0u32; SAVED];
     let mut buf = [0u8; MAX_BUFFER];
@@ -116,7 +116,7 @@ fn lines_trusted(
     let mut rows: u32 = 0;
     let mut at: usize = 0;
     let mut n: usize = 0;
-    let mut i = place;
+    let mut i = index;
     while at < stream.len() {
         if !takes_on(i, stream.len() - at, log.len() - n, more) {
             return lines_at(used, at, n, i, false);
@@ -154,28 +154,28 @@ fn job_trusted(
     number: &mut u32,
     written: &mut usize,
     read: &mut usize,
-    place: &mut u64,
+    index: &mut u64,
     ended: &mut bool,
 ) -> [[u8; 8]; 256]
     requires { ⌜ lent-sound (now state) params ≡ true ⌝ }
-    ensures { λ r. ⌜ Gives-lines (lent-lines (now (state .entry)) params (now (place .entry)) (now (stream .entry)) (size (now (log .entry))) more) (now (stream .entry)) (now (log .entry)) (now (number .exit)) (now (state .exit)) r (now (log .exit)) (now (written .exit)) (now (read .exit)) (now (place .exit)) (now (ended .exit)) ⌝ }
+    ensures { λ r. ⌜ Gives-lines (lent-lines (now (state .entry)) params (now (index .entry)) (now (stream .entry)) (size (now (log .entry))) more) (now (stream .entry)) (now (log .entry)) (now (number .exit)) (now (state .exit)) r (now (log .exit)) (now (written .exit)) (now (read .exit)) (now (index .exit)) (now (ended .exit)) ⌝ }
 {
     let u = used_of(state);
     let mut rows = params;
-    let first = *place;
+    let first = *index;
     let r = lines_trusted(state, u, &mut rows, stream, more, log, first);
     let v = r.used;
     table::write_used(state, v);
     *number = 0;
     *written = r.written;
     *read = r.read;
-    *place = r.place;
+    *index = r.index;
     *ended = r.ended;
     rows
 }
 
 // A job's next lines: those of as many records as the bytes at hand hold whole and the log surely has room for. `more`: further bytes follow.
-// The state is tested once. `place` is the next record's number; `read` and `written` say how much of the stream and of the log was used.
+// The state is tested once. `index` is the next record's number; `read` and `written` say how much of the stream and of the log was used.
 // Refused: the first record right and 0 after (echoes_0), 0 for every record (zero_for_all), a job that goes on from an unsound state (unsound_goes_on).
 pub fn job(
     state: &mut [u32],
@@ -186,10 +186,10 @@ pub fn job(
     number: &mut u32,
     written: &mut usize,
     read: &mut usize,
-    place: &mut u64,
+    index: &mut u64,
     ended: &mut bool,
 ) -> [[u8; 8]; 256]
-    ensures { λ r. ⌜ Gives-lines (lent-lines (now (state .entry)) params (now (place .entry)) (now (stream .entry)) (size (now (log .entry))) more) (now (stream .entry)) (now (log .entry)) (now (number .exit)) (now (state .exit)) r (now (log .exit)) (now (written .exit)) (now (read .exit)) (now (place .exit)) (now (ended .exit)) ⌝ }
+    ensures { λ r. ⌜ Gives-lines (lent-lines (now (state .entry)) params (now (index .entry)) (now (stream .entry)) (size (now (log .entry))) more) (now (stream .entry)) (now (log .entry)) (now (number .exit)) (now (state .exit)) r (now (log .exit)) (now (written .exit)) (now (read .exit)) (now (index .exit)) (now (ended .exit)) ⌝ }
 {
     if sound_state(state, params) {
         return job_trusted(
@@ -201,7 +201,7 @@ pub fn job(
             number,
             written,
             read,
-            place,
+            index,
             ended,
         );
     }
@@ -234,12 +234,12 @@ pub fn fresh_job(
     number: &mut u32,
     written: &mut usize,
     read: &mut usize,
-    place: &mut u64,
+    index: &mut u64,
     ended: &mut bool,
 ) -> [[u8; 8]; 256]
-    ensures { λ r. ⌜ Gives-lines (fresh-lines (now (state .entry)) params (now (stream .entry)) (size (now (log .entry))) more) (now (stream .entry)) (now (log .entry)) (now (number .exit)) (now (state .exit)) r (now (log .exit)) (now (written .exit)) (now (read .exit)) (now (place .exit)) (now (ended .exit)) ⌝ }
+    ensures { λ r. ⌜ Gives-lines (fresh-lines (now (state .entry)) params (now (stream .entry)) (size (now (log .entry))) more) (now (stream .entry)) (now (log .entry)) (now (number .exit)) (now (state .exit)) r (now (log .exit)) (now (written .exit)) (now (read .exit)) (now (index .exit)) (now (ended .exit)) ⌝ }
 {
-    *place = 0;
+    *index = 0;
     if state.len() == WORDS {
         let rows = [[0u8; 8]; 256];
         clear(state);
@@ -252,7 +252,7 @@ pub fn fresh_job(
             number,
             written,
             read,
-            place,
+            index,
             ended,
         );
     }
@@ -265,7 +265,7 @@ pub fn fresh_job(
         number,
         written,
         read,
-        place,
+        index,
         ended,
     )
 }

@@ -36,8 +36,8 @@ static uint32_t record(const uint8_t *bytes, size_t size, size_t room, uint32_t 
     return pongiwaru_record(state, PONGIWARU_WORDS, params, bytes, size, answer, room, length);
 }
 
-static uint32_t job(const uint8_t *stream, size_t size, bool more, size_t room, size_t *written, size_t *read, uint64_t *place, bool *ended) {
-    return pongiwaru_job(state, PONGIWARU_WORDS, params, stream, size, more, log_bytes, room, written, read, place, ended);
+static uint32_t job(const uint8_t *stream, size_t size, bool more, size_t room, size_t *written, size_t *read, uint64_t *index, bool *ended) {
+    return pongiwaru_job(state, PONGIWARU_WORDS, params, stream, size, more, log_bytes, room, written, read, index, ended);
 }
 
 static const uint8_t fv[] = {'F', 'V', 1, 0, 0, 0};
@@ -107,29 +107,29 @@ static void splits(void) {
 
 static void jobs(void) {
     size_t written = 9, read = 9;
-    uint64_t place = 0;
+    uint64_t index = 0;
     bool ended = false;
     fresh();
-    expect("a job is 0", job(worked, sizeof worked, false, sizeof log_bytes, &written, &read, &place, &ended) == 0);
+    expect("a job is 0", job(worked, sizeof worked, false, sizeof log_bytes, &written, &read, &index, &ended) == 0);
     expect("its log", written == sizeof worked_log - 1 && memcmp(log_bytes, worked_log, written) == 0 && untouched(log_bytes, written, sizeof log_bytes));
-    expect("its end", read == sizeof worked && place == 3 && ended);
+    expect("its end", read == sizeof worked && index == 3 && ended);
     fresh();
-    place = 0;
-    job(worked, sizeof worked, true, sizeof log_bytes, &written, &read, &place, &ended);
-    expect("too few bytes wait for more", written == 0 && read == 0 && place == 0 && !ended);
-    job(worked, sizeof worked, false, PONGIWARU_LINE_BYTES - 1, &written, &read, &place, &ended);
-    expect("a short log waits for room", written == 0 && read == 0 && place == 0 && !ended);
-    job(worked, sizeof worked, false, PONGIWARU_LINE_BYTES, &written, &read, &place, &ended);
-    expect("room for one line takes one record", written == 19 && read == 6 && place == 1 && !ended);
-    place = UINT64_MAX;
-    job(worked + 6, sizeof worked - 6, false, sizeof log_bytes, &written, &read, &place, &ended);
-    expect("no record has the number 2^64 - 1", written == 0 && read == 0 && place == UINT64_MAX && !ended);
-    expect("a job on no state is 15", pongiwaru_job(state, 0, params, worked, sizeof worked, false, log_bytes, sizeof log_bytes, &written, &read, &place, &ended) == 15 && written == 0 && read == 0 && ended);
+    index = 0;
+    job(worked, sizeof worked, true, sizeof log_bytes, &written, &read, &index, &ended);
+    expect("too few bytes wait for more", written == 0 && read == 0 && index == 0 && !ended);
+    job(worked, sizeof worked, false, PONGIWARU_LINE_BYTES - 1, &written, &read, &index, &ended);
+    expect("a short log waits for room", written == 0 && read == 0 && index == 0 && !ended);
+    job(worked, sizeof worked, false, PONGIWARU_LINE_BYTES, &written, &read, &index, &ended);
+    expect("room for one line takes one record", written == 19 && read == 6 && index == 1 && !ended);
+    index = UINT64_MAX;
+    job(worked + 6, sizeof worked - 6, false, sizeof log_bytes, &written, &read, &index, &ended);
+    expect("no record has the number 2^64 - 1", written == 0 && read == 0 && index == UINT64_MAX && !ended);
+    expect("a job on no state is 15", pongiwaru_job(state, 0, params, worked, sizeof worked, false, log_bytes, sizeof log_bytes, &written, &read, &index, &ended) == 15 && written == 0 && read == 0 && ended);
     memset(state, 0xa5, sizeof state);
     memset(params, 0xa5, sizeof params);
-    place = 7;
-    expect("a fresh job takes words that are no state", pongiwaru_fresh_job(state, PONGIWARU_WORDS, params, worked, sizeof worked, false, log_bytes, sizeof log_bytes, &written, &read, &place, &ended) == 0 && read == sizeof worked && ended && place == 3);
-    expect("a fresh job of another length is 15", pongiwaru_fresh_job(state, 0, params, worked, sizeof worked, false, log_bytes, sizeof log_bytes, &written, &read, &place, &ended) == 15 && written == 0 && read == 0 && ended);
+    index = 7;
+    expect("a fresh job takes words that are no state", pongiwaru_fresh_job(state, PONGIWARU_WORDS, params, worked, sizeof worked, false, log_bytes, sizeof log_bytes, &written, &read, &index, &ended) == 0 && read == sizeof worked && ended && index == 3);
+    expect("a fresh job of another length is 15", pongiwaru_fresh_job(state, 0, params, worked, sizeof worked, false, log_bytes, sizeof log_bytes, &written, &read, &index, &ended) == 15 && written == 0 && read == 0 && ended);
 }
 
 /* ---- each answer under its name: streams whose last record has it, by pongiwaru_split and pongiwaru_record, and by pongiwaru_job */
@@ -212,11 +212,11 @@ static uint32_t one_by_one(char *text, size_t *used) {
     uint32_t number = PONGIWARU_TYPED, length;
     size_t at = 0, rest;
     *used = 0;
-    for (uint64_t place = 0; at < size; place++) {
+    for (uint64_t index = 0; at < size; index++) {
         pongiwaru_split(state, PONGIWARU_WORDS, params, stream + at, size - at, &rest);
         size_t end = rest == size - at ? size : size - rest;
         number = record(stream + at, end - at, sizeof answer, &length);
-        *used += (size_t)sprintf(text + *used, "%" PRIu64 " %" PRIu32, place, number);
+        *used += (size_t)sprintf(text + *used, "%" PRIu64 " %" PRIu32, index, number);
         for (uint32_t i = 0; i < length; i++) *used += (size_t)sprintf(text + *used, i == 0 ? " %02x" : "%02x", answer[i]);
         text[(*used)++] = '\n';
         at = end;
@@ -229,7 +229,7 @@ static void numbers(void) {
     char what[80];
     for (int number = PONGIWARU_TYPED; number <= PONGIWARU_DOUBLED_REFERENCE; number++) {
         size_t used, written, read;
-        uint64_t place = 0;
+        uint64_t index = 0;
         bool ended;
         stream_of((enum pongiwaru_number)number);
         if (size == 0) continue; /* 15 is no record's, and 17 is no answer */
@@ -238,7 +238,7 @@ static void numbers(void) {
         expect(what, one_by_one(text, &used) == (uint32_t)number);
         memcpy(before, state, sizeof state);
         fresh();
-        job(stream, size, false, sizeof log_bytes, &written, &read, &place, &ended);
+        job(stream, size, false, sizeof log_bytes, &written, &read, &index, &ended);
         sprintf(what, "a job to answer %d is its records one by one", number);
         expect(what, written == used && memcmp(log_bytes, text, used) == 0 && ended && memcmp(before, state, sizeof state) == 0);
     }

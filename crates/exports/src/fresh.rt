@@ -12,10 +12,10 @@ pub extern "C" fn pongiwaru_fresh_job(
     log: &mut [u8],
     written: &mut usize,
     read: &mut usize,
-    place: &mut u64,
+    index: &mut u64,
     ended: &mut bool,
 ) -> u32
-    ensures { λ r. ⌜ Gives-lines (fresh-lines (now (state .entry)) (now (params .entry)) (now (stream .entry)) (size (now (log .entry))) more) (now (stream .entry)) (now (log .entry)) r (now (state .exit)) (now (params .exit)) (now (log .exit)) (now (written .exit)) (now (read .exit)) (now (place .exit)) (now (ended .exit)) ⌝ }
+    ensures { λ r. ⌜ Gives-lines (fresh-lines (now (state .entry)) (now (params .entry)) (now (stream .entry)) (size (now (log .entry))) more) (now (stream .entry)) (now (log .entry)) r (now (state .exit)) (now (params .exit)) (now (log .exit)) (now (written .exit)) (now (read .exit)) (now (index .exit)) (now (ended .exit)) ⌝ }
 {
     let mut number: u32 = 0;
     let p = *params;
@@ -28,7 +28,7 @@ pub extern "C" fn pongiwaru_fresh_job(
         &mut number,
         written,
         read,
-        place,
+        index,
         ended,
     );
     number

@@ -43,7 +43,7 @@ pub extern "C" fn pongiwaru_split(
 }
 
 // A job's next lines. The result is 0, or 15 for a state that is not sound.
-// Refused: bytes waited for that don't follow (always_more), a record number that begins again (place_from_zero), an end that the lines don't give (ended_at_once).
+// Refused: bytes waited for that don't follow (always_more), a record number that begins again (index_from_zero), an end that the lines don't give (ended_at_once).
 #[no_mangle]
 pub extern "C" fn pongiwaru_job(
     state: &mut [u32],
@@ -53,10 +53,10 @@ pub extern "C" fn pongiwaru_job(
     log: &mut [u8],
     written: &mut usize,
     read: &mut usize,
-    place: &mut u64,
+    index: &mut u64,
     ended: &mut bool,
 ) -> u32
-    ensures { λ r. ⌜ Gives-lines (lent-lines (now (state .entry)) (now (params .entry)) (now (place .entry)) (now (stream .entry)) (size (now (log .entry))) more) (now (stream .entry)) (now (log .entry)) r (now (state .exit)) (now (params .exit)) (now (log .exit)) (now (written .exit)) (now (read .exit)) (now (place .exit)) (now (ended .exit)) ⌝ }
+    ensures { λ r. ⌜ Gives-lines (lent-lines (now (state .entry)) (now (params .entry)) (now (index .entry)) (now (stream .entry)) (size (now (log .entry))) more) (now (stream .entry)) (now (log .entry)) r (now (state .exit)) (now (params .exit)) (now (log .exit)) (now (written .exit)) (now (read .exit)) (now (index .exit)) (now (ended .exit)) ⌝ }
 {
     let mut number: u32 = 0;
     let p = *params;
@@ -69,7 +69,7 @@ pub extern "C" fn pongiwaru_job(
         &mut number,
         written,
         read,
-        place,
+        index,
         ended,
     );
     number

@@ -51,7 +51,7 @@ module _ (s : State) (ok : sound s ≡ true) (i : ℕ) (a : Bytes) (room : ℕ) 
   sound-lines : lent-lines (encode s) (encode-params s) i a room more ≡ lent-piece (next-lines i s a room more)
   unfolding lent-lines
   sound-lines =
-      let unlent : Lent-piece = record { number = 15; text = []; words = encode s; params = encode-params s; rest = a; place = i; ended = true } in
+      let unlent : Lent-piece = record { number = 15; text = []; words = encode s; params = encode-params s; rest = a; index = i; ended = true } in
       ap (λ q. elim q as (λ x. Lent-piece) [ true ↦ lent-piece (next-lines i (decode (encode s) (encode-params s)) a room more) | false ↦ unlent ])
       (lent-passes (encode s) (encode-params s) (encode-lent s ok))
       ∙ ap (λ (x : State). lent-piece (next-lines i x a room more)) (decoded s ok)
@@ -71,10 +71,10 @@ record Later (t : Turn) (b : Bytes) : Type 0 where
 -- a sound state, from which the next lines come, and the log of all that was read and of b after it is the text handed to the writer, and then the log from here on
 record Stands (input output : Bytes) (h : Held) : Type 0 where
   pub state : State
-  pub asks : (a : Bytes) (room : ℕ) (more : Bool) → job-lines (h .turn .begun) (h .words) (h .rows) (h .turn .place) a room more ≡ lent-piece (next-lines (h .turn .place) state a room more)
+  pub asks : (a : Bytes) (room : ℕ) (more : Bool) → job-lines (h .turn .begun) (h .words) (h .rows) (h .turn .index) a room more ≡ lent-piece (next-lines (h .turn .index) state a room more)
   pub is-sound : sound state ≡ true
   pub bytes : Is-bytes (stream h)
-  pub logs : (b : Bytes) → Later (h .turn) b → log-from 0 fresh (input ++ b) ≡ output ++ log-from (h .turn .place) state (stream h ++ b)
+  pub logs : (b : Bytes) → Later (h .turn) b → log-from 0 fresh (input ++ b) ≡ output ++ log-from (h .turn .index) state (stream h ++ b)
 
 stands-first : (words : Bytes) (rows : List Bytes) (buf log : Bytes) → length words ≡ 24069 → Stands [] [] (held words rows buf log first)
 stands-first words rows buf log n = record {
@@ -104,14 +104,14 @@ module _ (input output : Bytes) (h h′ : Held) (s : Stands input output h) wher
     unfolding bytes-read lines job-from
     stands-read ew er is = record {
       state = s .state;
-      asks = λ a room more. same-lines (f .same-begun) ew er (f .same-place) a room more ∙ s .asks a room more ∙ ap (λ (i : ℕ). lent-piece (next-lines i (s .state) a room more)) (sym (f .same-place));
+      asks = λ a room more. same-lines (f .same-begun) ew er (f .same-index) a room more ∙ s .asks a room more ∙ ap (λ (i : ℕ). lent-piece (next-lines i (s .state) a room more)) (sym (f .same-index));
       is-sound = s .is-sound;
       bytes = rw rest-read (bytes-append (stream h) (bytes-read h′) (s .bytes) is);
-      logs = λ b l. rw (append-assoc input (bytes-read h′) b, none-handed, append-nil output, rest-read, f .same-place, append-assoc (stream h) (bytes-read h′) b) (s .logs (bytes-read h′ ++ b) (record { are = bytes-append (bytes-read h′) b is (l .are); none = λ z. clash more z }));
+      logs = λ b l. rw (append-assoc input (bytes-read h′) b, none-handed, append-nil output, rest-read, f .same-index, append-assoc (stream h) (bytes-read h′) b) (s .logs (bytes-read h′ ++ b) (record { are = bytes-append (bytes-read h′) b is (l .are); none = λ z. clash more z }));
     }
 
   abbrev piece : Piece
-  piece = next-lines (h .turn .place) (s .state) (stream h) (length (h .log)) (h .turn .more)
+  piece = next-lines (h .turn .index) (s .state) (stream h) (length (h .log)) (h .turn .more)
 
   lines-are : lines-of h ≡ lent-piece piece
   lines-are = s .asks (stream h) (length (h .log)) (h .turn .more)
@@ -133,10 +133,10 @@ module _ (input output : Bytes) (h h′ : Held) (s : Stands input output h) wher
     by-lines : (b : Bytes) → Later (h′ .turn) b → log-from 0 fresh ((input ++ bytes-read h′) ++ b) ≡ (output ++ text-handed h′) ++ onward piece b
     by-lines b q =
         let none : h .turn .more ≡ false → b ≡ [] = λ z. q .none (l .follow ∙ z) in
-        let g = piece-follows (h .turn .place) (s .state) (stream h) b (length (h .log)) (h .turn .more) (s .bytes) (q .are) (s .is-sound) none in
+        let g = piece-follows (h .turn .index) (s .state) (stream h) b (length (h .log)) (h .turn .more) (s .bytes) (q .are) (s .is-sound) none in
         rw (none-read, append-nil input, text-is, append-assoc output (piece .text) (onward piece b)) (s .logs b (record { are = q .are; none = none }) ∙ ap (λ (m : Bytes). output ++ m) (g .is))
 
-    goes-on : (b : Bytes) → piece .ended ≡ false → onward piece b ≡ log-from (piece .place) (piece .state) (piece .rest ++ b)
+    goes-on : (b : Bytes) → piece .ended ≡ false → onward piece b ≡ log-from (piece .index) (piece .state) (piece .rest ++ b)
     goes-on b e = rw e refl
 
     -- where the lines end the job, they end the log
@@ -146,16 +146,16 @@ module _ (input output : Bytes) (h h′ : Held) (s : Stands input output h) wher
     stands-listed : h′ .turn .ended ≡ false → Stands (input ++ bytes-read h′) (output ++ text-handed h′) h′
     unfolding lent-piece bytes-read text-handed
     stands-listed e =
-        let g = piece-follows (h .turn .place) (s .state) (stream h) [] (length (h .log)) (h .turn .more) (s .bytes) tt (s .is-sound) (λ z. refl) in
+        let g = piece-follows (h .turn .index) (s .state) (stream h) [] (length (h .log)) (h .turn .more) (s .bytes) tt (s .is-sound) (λ z. refl) in
         let o : piece .ended ≡ false = sym ended-is ∙ or-false _ (h′ .turn .lost) (sym (l .ends) ∙ e) in
-        let n : h′ .turn .place ≡ piece .place = l .next ∙ ap (λ (p : Lent-piece). p .place) lines-are in
+        let n : h′ .turn .index ≡ piece .index = l .next ∙ ap (λ (p : Lent-piece). p .index) lines-are in
         let r : stream h′ ≡ piece .rest = l .rest ∙ ap (λ (p : Lent-piece). p .rest) lines-are in
         record {
           state = piece .state;
           asks = λ a room more.
               same-lines (l .begun) (l .words ∙ ap (λ (p : Lent-piece). p .words) lines-are)
               (l .rows ∙ ap (λ (p : Lent-piece). p .params) lines-are) n a room more
-              ∙ sound-lines (piece .state) (g .left) (piece .place) a room more
+              ∙ sound-lines (piece .state) (g .left) (piece .index) a room more
               ∙ ap (λ (i : ℕ). lent-piece (next-lines i (piece .state) a room more)) (sym n);
           is-sound = g .left;
           bytes = rw r (g .bytes);

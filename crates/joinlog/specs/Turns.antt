@@ -28,11 +28,11 @@ stream h = at-hand (h .turn .from) (h .turn .have) (h .buf)
 
 -- a job's first lines are those from a fresh state, whatever the words hold; then it goes on
 abbrev pub job-lines : Bool → List ℕ → List (List ℕ) → ℕ → List ℕ → ℕ → Bool → Lent-piece
-job-lines begun words rows place bytes room more = elim begun [ true ↦ lent-lines words rows place bytes room more | false ↦ fresh-lines words rows bytes room more ]
+job-lines begun words rows index bytes room more = elim begun [ true ↦ lent-lines words rows index bytes room more | false ↦ fresh-lines words rows bytes room more ]
 
 -- the job's next lines, of the bytes at hand
 abbrev pub lines-of : Held → Lent-piece
-lines-of h = job-lines (h .turn .begun) (h .words) (h .rows) (h .turn .place) (stream h) (length (h .log)) (h .turn .more)
+lines-of h = job-lines (h .turn .begun) (h .words) (h .rows) (h .turn .index) (stream h) (length (h .log)) (h .turn .more)
 
 -- words, rows, log, bytes left and next number are those of the job's next lines, and these were handed to the writer; the job ends just where they end it, or where they could not be written
 pub record Listed (h h′ : Held) : Type 0 where
@@ -45,7 +45,7 @@ pub record Listed (h h′ : Held) : Type 0 where
   pub same-bytes : h′ .buf ≡ h .buf
   pub none : h′ .turn .read ≡ 0
   pub follow : h′ .turn .more ≡ h .turn .more
-  pub next : h′ .turn .place ≡ lines-of h .place
+  pub next : h′ .turn .index ≡ lines-of h .index
   pub begun : h′ .turn .begun ≡ true
   pub ends : h′ .turn .ended ≡ (lines-of h .ended || h′ .turn .lost)
 

@@ -23,10 +23,10 @@ fn next_lines(
     number: &mut u32,
     written: &mut usize,
     read: &mut usize,
-    place: &mut u64,
+    index: &mut u64,
     ended: &mut bool,
 ) -> [[u8; 8]; 256]
-    ensures { λ r. ⌜ Gives-lines (job-lines (t .begun) (now (state .entry)) rows (now (place .entry)) (now (stream .entry)) (length (now (log .entry))) (t .more)) (now (stream .entry)) (now (log .entry)) (now (number .exit)) (now (state .exit)) r (now (log .exit)) (now (written .exit)) (now (read .exit)) (now (place .exit)) (now (ended .exit)) ⌝ }
+    ensures { λ r. ⌜ Gives-lines (job-lines (t .begun) (now (state .entry)) rows (now (index .entry)) (now (stream .entry)) (length (now (log .entry))) (t .more)) (now (stream .entry)) (now (log .entry)) (now (number .exit)) (now (state .exit)) r (now (log .exit)) (now (written .exit)) (now (read .exit)) (now (index .exit)) (now (ended .exit)) ⌝ }
 {
     if t.begun {
         return engine::job(
@@ -38,7 +38,7 @@ fn next_lines(
             number,
             written,
             read,
-            place,
+            index,
             ended,
         );
     }
@@ -51,7 +51,7 @@ fn next_lines(
         number,
         written,
         read,
-        place,
+        index,
         ended,
     )
 }
@@ -64,7 +64,7 @@ fn list(state: &mut [u32], rows: &mut [[u8; 8]; 256], buf: &[u8], log: &mut [u8]
     let mut number: u32 = 0;
     let mut written: usize = 0;
     let mut read: usize = 0;
-    let mut place = t.place;
+    let mut index = t.index;
     let mut ended = false;
     let from = t.from;
     let have = t.have;
@@ -78,11 +78,11 @@ fn list(state: &mut [u32], rows: &mut [[u8; 8]; 256], buf: &[u8], log: &mut [u8]
         &mut number,
         &mut written,
         &mut read,
-        &mut place,
+        &mut index,
         &mut ended,
     );
     let handed = hand_over(log, written);
-    after_lines(t, read, place, ended, handed)
+    after_lines(t, read, index, ended, handed)
 }
 
 // ---- turns
@@ -107,7 +107,7 @@ fn one_turn(
 // Turn after turn until one ends the job. Nothing says that the input ends, so turns are counted: more than any machine makes.
 // No contract can say what `libc::read` put or `io::write_all` took: that bytes read are those that `read_behind` counts, behind those at hand, and text handed over those
 // that `hand_over` counts, in front of the log, is to be seen in these two, in turns.
-// Refused (must-fail/, here and in turns): numbers from 0 anew (place_from_zero), two turns (two_turns), lines that are not handed over (nothing_handed_over).
+// Refused (must-fail/, here and in turns): numbers from 0 anew (index_from_zero), two turns (two_turns), lines that are not handed over (nothing_handed_over).
 fn run(state: &mut [u32], rows: &mut [[u8; 8]; 256], buf: &mut [u8], log: &mut [u8]) -> Turn
     requires { ⌜ (length (now state) ≡ 24069) × (4096 ≤ length (now buf)) ⌝ }
     ensures { λ r. ⌜ Ran (held (now (state .entry)) (now (rows .entry)) (now (buf .entry)) (now (log .entry)) first) (held (now (state .exit)) (now (rows .exit)) (now (buf .exit)) (now (log .exit)) r) ⌝ }

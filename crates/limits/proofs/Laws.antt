@@ -7,7 +7,7 @@ use lib.Dec.{leb, ltb}
 use lib.ListN.{length}
 use Rattle.definition.specs.Write.{Bytes}
 use Rattle.definition.specs.Record.{max-record}
-use Rattle.pieces.specs.Pieces.{max-line, max-place, takes-on}
+use Rattle.pieces.specs.Pieces.{max-line, max-index, takes-on}
 
 pub fails-r : (a b : Bool) → b ≡ false → a && b ≡ false
 fails-r true b e = e
@@ -19,12 +19,12 @@ module _ (i : ℕ) (b : Bytes) (room : ℕ) (more : Bool) where
 
   pub takes-none : hand ≡ false → false ≡ takes-on i b room more
   unfolding takes-on max-record
-  takes-none e = sym (ap (λ (x : Bool). x && (leb max-line room && ltb i max-place)) e)
+  takes-none e = sym (ap (λ (x : Bool). x && (leb max-line room && ltb i max-index)) e)
 
   pub takes-little : room < 8217 → false ≡ takes-on i b room more
   unfolding takes-on max-line
-  takes-little l = sym (fails-r (not more || leb max-record (length b)) _ (ap (λ (x : Bool). x && ltb i max-place) (lt-leb 8217 room l)))
+  takes-little l = sym (fails-r (not more || leb max-record (length b)) _ (ap (λ (x : Bool). x && ltb i max-index) (lt-leb 8217 room l)))
 
   pub takes-last : hand ≡ true → 8217 ≤ room → ltb i 18446744073709551615 ≡ takes-on i b room more
-  unfolding takes-on max-record max-line max-place
+  unfolding takes-on max-record max-line max-index
   takes-last e l = sym (ap (λ (x : Bool). x && (leb 8217 room && ltb i 18446744073709551615)) e ∙ ap (λ (x : Bool). x && ltb i 18446744073709551615) (le-leb 8217 room l))

@@ -14,7 +14,7 @@ pub const MAX_BUFFER: usize = 4096;
 
 const MAX_LINE: usize = 8217;
 
-const MAX_PLACE: u64 = 18446744073709551615;
+const MAX_INDEX: u64 = 18446744073709551615;
 
 // Whether an answer's buffer is long enough: else the call is 15.
 // Refused (must-fail/): 15 for a buffer of just 4,096 bytes (fifteen_at_4096).
@@ -35,9 +35,9 @@ fn at_hand(left: usize, more: bool) -> bool
     true
 }
 
-// Whether record `place` is taken on, with so many bytes at hand and so much room in the log.
-pub fn takes_on(place: u64, left: usize, room: usize, more: bool) -> bool
-    ensures { λ r. ⌜ ((bytes : List ℕ) → length bytes ≡ left → r ≡ takes-on place bytes room more) ⌝ }
+// Whether record `index` is taken on, with so many bytes at hand and so much room in the log.
+pub fn takes_on(index: u64, left: usize, room: usize, more: bool) -> bool
+    ensures { λ r. ⌜ ((bytes : List ℕ) → length bytes ≡ left → r ≡ takes-on index bytes room more) ⌝ }
 {
     if !at_hand(left, more) {
         return false;
@@ -45,7 +45,7 @@ pub fn takes_on(place: u64, left: usize, room: usize, more: bool) -> bool
     if room < MAX_LINE {
         return false;
     }
-    place < MAX_PLACE
+    index < MAX_INDEX
 }
 
 // 5, 6 and 18 end a job.

@@ -80,9 +80,9 @@ pub hexadecimal-next : (p : Bytes) (k : ℕ) → k < length p
 unfolding hexadecimal
 hexadecimal-next p k h = rw (add-one k, take-suc p k 0 h, hexadecimal-append) (sym (append-assoc (hexadecimal (take k p)) _ _))
 
-pub line-is : (place number : ℕ) (p : Bytes) → line-of place number p ≡ (((decimal place ++ (32 ∷ [])) ++ decimal number) ++ payload-text p) ++ (10 ∷ [])
+pub line-is : (index number : ℕ) (p : Bytes) → line-of index number p ≡ (((decimal index ++ (32 ∷ [])) ++ decimal number) ++ payload-text p) ++ (10 ∷ [])
 unfolding line
-line-is place number p = simp append-assoc
+line-is index number p = simp append-assoc
 
 -- ---- steps of the functions
 
@@ -148,9 +148,9 @@ module _ (p : Bytes) (log : List ℕ) (at : ℕ) (more : length p ≡ 0 → ⊥)
       rw (some-payload p more) (wrote-more log at (32 ∷ []) (hexadecimal p) l₁ l₂ a b (room-front at (32 ∷ []) (hexadecimal p) log whole-room) w v)
 
 -- the parts of a line, each after the last
-module _ (place number : ℕ) (p : Bytes) (log : List ℕ) (at : ℕ) (room : at + length (line-of place number p) ≤ length log) where
+module _ (index number : ℕ) (p : Bytes) (log : List ℕ) (at : ℕ) (room : at + length (line-of index number p) ≤ length log) where
   abbrev pub first : Bytes
-  first = decimal place
+  first = decimal index
 
   abbrev pub second : Bytes
   second = first ++ (32 ∷ [])
@@ -201,5 +201,5 @@ module _ (place number : ℕ) (p : Bytes) (log : List ℕ) (at : ℕ) (room : at
           pub room-end : d < length l₄
           room-end = let r = room-more log at fourth (10 ∷ []) l₄ d room-5 wrote-4 in omega arith
 
-          pub wrote-line : (l₅ : List ℕ) (e : ℕ) → Wrote l₄ d (10 ∷ []) l₅ e → Wrote log at (line-of place number p) l₅ e
+          pub wrote-line : (l₅ : List ℕ) (e : ℕ) → Wrote l₄ d (10 ∷ []) l₅ e → Wrote log at (line-of index number p) l₅ e
           wrote-line l₅ e w₅ = rw line-is (wrote-more log at fourth (10 ∷ []) l₄ l₅ d e room-4 wrote-4 w₅)

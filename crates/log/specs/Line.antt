@@ -12,8 +12,8 @@ pub record Wrote (log : List ℕ) (at : ℕ) (bytes : Bytes) (log′ : List ℕ)
   pub is : log′ ≡ take at log ++ bytes ++ drop (at + length bytes) log
 
 abbrev pub entry : ℕ → ℕ → Bytes → Entry
-entry place number payload = record { place = place; number = number; payload = payload }
+entry index number payload = record { index = index; number = number; payload = payload }
 
--- the line of record `place`, answered by `number` with this payload
+-- the line of record `index`, answered by `number` with this payload
 abbrev pub line-of : ℕ → ℕ → Bytes → Bytes
-line-of place number payload = line (entry place number payload)
+line-of index number payload = line (entry index number payload)

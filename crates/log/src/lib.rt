@@ -72,19 +72,19 @@ fn write_payload(payload: &[u8], len: usize, log: &mut [u8], at: usize) -> usize
     write_hex(payload, len, log, next)
 }
 
-// The line of record `place`, answered by `number` with the first `len` bytes of `payload`; the place after it.
+// The line of record `index`, answered by `number` with the first `len` bytes of `payload`; the place after it.
 pub fn write_line(
-    place: u64,
+    index: u64,
     number: u32,
     payload: &[u8],
     len: usize,
     log: &mut [u8],
     at: usize,
 ) -> usize
-    requires { ⌜ (len ≤ length (now payload)) × (at + length (line-of place number (take len (now payload))) ≤ length (now log)) ⌝ }
-    ensures { λ r. ⌜ Wrote (now (log .entry)) at (line-of place number (take len (now (payload .entry)))) (now (log .exit)) r ⌝ }
+    requires { ⌜ (len ≤ length (now payload)) × (at + length (line-of index number (take len (now payload))) ≤ length (now log)) ⌝ }
+    ensures { λ r. ⌜ Wrote (now (log .entry)) at (line-of index number (take len (now (payload .entry)))) (now (log .exit)) r ⌝ }
 {
-    let a = write_decimal(place, log, at);
+    let a = write_decimal(index, log, at);
     let b = put_byte(log, a, b' ');
     let c = write_decimal(wide(number), log, b);
     let d = write_payload(payload, len, log, c);

@@ -6,13 +6,13 @@ use Prim.Native.Nat.{ℕ}
 use lib.ListN.{replicate}
 use Rattle.definition.specs.Types.{fresh}
 use Rattle.definition.specs.Write.{Bytes}
-use Rattle.pieces.specs.Pieces.{Piece, max-line, max-place, takes-on, halt, after-line, next-from, next-lines}
+use Rattle.pieces.specs.Pieces.{Piece, max-line, max-index, takes-on, halt, after-line, next-from, next-lines}
 use Rattle.definition.proofs.Computed.{log-of}
 use Rattle.definition.proofs.Spelling.{text, unit, param, u8, bool, list, FV, JN, UF}
 
 -- a piece of a job from a fresh state, every name unfolded
 unfoldable pub piece : Bytes → ℕ → Bool → Piece
-unfolding log-of max-line max-place takes-on halt after-line next-from next-lines
+unfolding log-of max-line max-index takes-on halt after-line next-from next-lines
 piece bytes room more = next-lines 0 fresh bytes room more
 
 -- ---- what is taken on

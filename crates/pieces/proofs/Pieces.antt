@@ -14,7 +14,7 @@ use Rattle.definition.specs.Record.{Record, max-record, hand-back, read-fields,
 use Rattle.definition.specs.Sound.{sound}
 use Rattle.definition.specs.Step.{run, Answer, refusal, answer, max-buffer, usable, streamed, step-stream}
 use Rattle.definition.specs.Job.{Entry, ends-job, job-from, job-log, digits, decimal, hexadecimal, payload-text, line, lines, joinlog}
-use Rattle.pieces.specs.Pieces.{Piece, max-line, max-place, takes-on, halt, after-line, next-from, next-lines}
+use Rattle.pieces.specs.Pieces.{Piece, max-line, max-index, takes-on, halt, after-line, next-from, next-lines}
 use Rattle.theorems.proofs.StreamDecimal.{digits-same}
 use Rattle.theorems.proofs.SoundFacts.{and-l, test}
 use Rattle.theorems.proofs.Soundness.{and, le-test, lt-test}
@@ -66,7 +66,7 @@ log-from i s bytes = lines (job-from (length bytes) i s bytes)
 
 -- what the log has after a piece, with b to come
 abbrev pub onward : Piece → Bytes → Bytes
-onward p b = elim (p .ended) as (λ x. Bytes) [ true ↦ [] | false ↦ log-from (p .place) (p .state) (p .rest ++ b) ]
+onward p b = elim (p .ended) as (λ x. Bytes) [ true ↦ [] | false ↦ log-from (p .index) (p .state) (p .rest ++ b) ]
 
 -- the log is the piece's lines, and then goes on from where the piece stopped
 pub record Follows (log : Bytes) (p : Piece) (b : Bytes) : Type 0 where
@@ -101,7 +101,7 @@ at-hand i s a b room true f t = stream-front s a b max-buffer (leb→le 4096 (le
 at-hand i s a b room false f t = rw (f refl, append-nil a, append-nil (step-stream s a max-buffer .1)) refl
 
 abbrev pub entry-of : ℕ → Answer × Bytes → Entry
-entry-of i r = record { place = i; number = r .0 .number; payload = r .0 .payload }
+entry-of i r = record { index = i; number = r .0 .number; payload = r .0 .payload }
 
 -- what a job and a piece make of record i, answered by r
 abbrev job-after : ℕ → ℕ → Answer × Bytes → List Entry
@@ -162,7 +162,7 @@ pub data Logged : ℕ → State → Bytes → Bytes → Type 0 where
       → Logged i s stream (next-lines i s a room more .text)
   call : {i : ℕ} {s : State} {stream : Bytes} (a b : Bytes) (room : ℕ) (more : Bool) {text : Bytes} → stream ≡ a ++ b → (more ≡ false → b ≡ [])
       → next-lines i s a room more .ended ≡ false
-      → Logged (next-lines i s a room more .place) (next-lines i s a room more .state) (next-lines i s a room more .rest ++ b) text
+      → Logged (next-lines i s a room more .index) (next-lines i s a room more .state) (next-lines i s a room more .rest ++ b) text
       → Logged i s stream (next-lines i s a room more .text ++ text)
 
 bytes-front : (a b : Bytes) → Is-bytes (a ++ b) → Is-bytes a
@@ -176,7 +176,7 @@ bytes-back (x ∷ a) b is = bytes-back a b (is .1)
 ends-onward : (p : Piece) (b : Bytes) → p .ended ≡ true → onward p b ≡ []
 ends-onward p b e = rw e refl
 
-goes-onward : (p : Piece) (b : Bytes) → p .ended ≡ false → onward p b ≡ log-from (p .place) (p .state) (p .rest ++ b)
+goes-onward : (p : Piece) (b : Bytes) → p .ended ≡ false → onward p b ≡ log-from (p .index) (p .state) (p .rest ++ b)
 goes-onward p b e = rw e refl
 
 -- whatever the calls' rooms, and wherever the stream was cut, the texts are the log
@@ -190,7 +190,7 @@ logged i s stream text is h (call a b room more {text = later} e f o c) =
     let is′ : Is-bytes (a ++ b) = rw e at is in
     let p = next-lines i s a room more in
     let g = piece-follows i s a b room more (bytes-front a b is′) (bytes-back a b is′) h f in
-    let d = logged (p .place) (p .state) (p .rest ++ b) later (bytes-append (p .rest) b (g .bytes) (bytes-back a b is′)) (g .left) c in
+    let d = logged (p .index) (p .state) (p .rest ++ b) later (bytes-append (p .rest) b (g .bytes) (bytes-back a b is′)) (g .left) c in
     rw e (ap (λ (m : Bytes). p .text ++ m) (d ∙ sym (goes-onward p b o)) ∙ sym (g .is))
 
 pub pieces-joinlog : (stream text : Bytes) → Is-bytes stream → Logged 0 fresh stream text → text ≡ joinlog stream
@@ -295,20 +295,20 @@ line-size e n l =
     omega (
       arith,
       two,
-      digits-few 20 (e .place),
+      digits-few 20 (e .index),
       payload-size (e .payload),
       l,
-      length-append (digits 20 (e .place)) ((32 ∷ digits 20 (e .number)) ++ payload-text (e .payload) ++ (10 ∷ [])),
-      length-append (digits 20 (e .place)) (32 ∷ digits 20 (e .number)),
-      length-append (digits 20 (e .place) ++ (32 ∷ digits 20 (e .number))) (payload-text (e .payload)),
-      length-append (digits 20 (e .place) ++ (32 ∷ digits 20 (e .number)) ++ payload-text (e .payload)) (10 ∷ []),
+      length-append (digits 20 (e .index)) ((32 ∷ digits 20 (e .number)) ++ payload-text (e .payload) ++ (10 ∷ [])),
+      length-append (digits 20 (e .index)) (32 ∷ digits 20 (e .number)),
+      length-append (digits 20 (e .index) ++ (32 ∷ digits 20 (e .number))) (payload-text (e .payload)),
+      length-append (digits 20 (e .index) ++ (32 ∷ digits 20 (e .number)) ++ payload-text (e .payload)) (10 ∷ []),
     )
 
 -- ---- calls with room for a line come to an end
 
 -- the job ended, or no more bytes are left than there were, and every record took one or more
 data Nearer (i n : ℕ) (p : Piece) : Type 0 where
-  nearer : p .place + length (p .rest) ≤ i + n → length (p .rest) ≤ n → Nearer i n p
+  nearer : p .index + length (p .rest) ≤ i + n → length (p .rest) ≤ n → Nearer i n p
   at-end : p .ended ≡ true → Nearer i n p
 
 near-line : (text : Bytes) {i n j k : ℕ} {p : Piece} → j + k ≤ i + n → k ≤ n → Nearer j k p → Nearer i n (after-line text p)
@@ -359,7 +359,7 @@ near-next i s x a room more is h t = rw e (go (ends-job (r .0 .number)) refl (st
     go false d (shorter y) = near-line (line (entry-of i r)) (omega arith) (omega arith) (near-from (length a) (suc i) (r .0 .state) (r .1) _ more (kept .1) (kept .0))
 
 -- the whole stream at hand, and room for a line in every call: its log is printed
-calls-end : (k i : ℕ) (s : State) (stream : Bytes) (room : ℕ) → length stream < k → max-line ≤ room → i + length stream < max-place → Is-bytes stream → sound s ≡ true → (text : Bytes) × Logged i s stream text
+calls-end : (k i : ℕ) (s : State) (stream : Bytes) (room : ℕ) → length stream < k → max-line ≤ room → i + length stream < max-index → Is-bytes stream → sound s ≡ true → (text : Bytes) × Logged i s stream text
 unfolding next-lines next-from halt takes-on
 calls-end zero i s stream room l r m is h = absurd (omega arith)
 calls-end (suc k) i s [] room l r m is h = ([], last [] [] room false refl (λ e. refl) refl)
@@ -369,20 +369,20 @@ calls-end (suc k) i s (x ∷ a) room l r m is h = go (p .ended) refl (near-next 
     p = next-lines i s (x ∷ a) room false
 
     on : takes-on i (x ∷ a) room false ≡ true
-    on = and (le-test max-line room r) (lt-test i max-place (omega (arith, m)))
+    on = and (le-test max-line room r) (lt-test i max-index (omega (arith, m)))
 
     f : Follows (log-from i s ((x ∷ a) ++ [])) p []
     f = piece-follows i s (x ∷ a) [] room false is tt h (λ e. refl)
 
     go : (o : Bool) → p .ended ≡ o → Nearer (suc i) (length a) p
-        → ((i : ℕ) (stream : Bytes) (s : State) → length stream < k → i + length stream < max-place → Is-bytes stream → sound s ≡ true → (text : Bytes) × Logged i s stream text)
+        → ((i : ℕ) (stream : Bytes) (s : State) → length stream < k → i + length stream < max-index → Is-bytes stream → sound s ≡ true → (text : Bytes) × Logged i s stream text)
         → (text : Bytes) × Logged i s (x ∷ a) text
     go true e n c = (p .text, last (x ∷ a) [] room false (sym (append-nil (x ∷ a))) (λ e. refl) e)
     go false e (at-end y) c = never (cc)
     go false e (nearer y z) c =
         let q = append-nil (p .rest) in
-        let t = c (p .place) (p .rest ++ []) (p .state) (rw q (omega (arith, l))) (rw q (omega (arith, m))) (rw q (f .bytes)) (f .left) in
+        let t = c (p .index) (p .rest ++ []) (p .state) (rw q (omega (arith, l))) (rw q (omega (arith, m))) (rw q (f .bytes)) (f .left) in
         (p .text ++ t .0, call (x ∷ a) [] room false (sym (append-nil (x ∷ a))) (λ e. refl) e (t .1))
 
-pub calls-log : (stream : Bytes) (room : ℕ) → max-line ≤ room → length stream < max-place → Is-bytes stream → (text : Bytes) × Logged 0 fresh stream text
+pub calls-log : (stream : Bytes) (room : ℕ) → max-line ≤ room → length stream < max-index → Is-bytes stream → (text : Bytes) × Logged 0 fresh stream text
 calls-log stream room r m is = calls-end (suc (length stream)) 0 fresh stream room (omega arith) r (omega (arith, m)) is fresh-sound

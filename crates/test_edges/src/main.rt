@@ -64,7 +64,7 @@ fn log_of(stream: &[u8], log: &mut [u8]) -> usize
     let mut number: u32 = 0;
     let mut written: usize = 0;
     let mut read: usize = 0;
-    let mut place: u64 = 0;
+    let mut index: u64 = 0;
     let mut ended = false;
     engine::job(
         &mut state,
@@ -75,7 +75,7 @@ fn log_of(stream: &[u8], log: &mut [u8]) -> usize
         &mut number,
         &mut written,
         &mut read,
-        &mut place,
+        &mut index,
         &mut ended,
     );
     if ended { written } else { 0 }

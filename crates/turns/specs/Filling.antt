@@ -12,7 +12,7 @@ use Rattle.turns.specs.declared.Moved.{Moved}
 
 -- before the first turn: nothing read, record number 0, no line asked for
 abbrev pub first : Turn
-first = record { from = 0; have = 0; more = true; place = 0; begun = false; read = 0; written = 0; ended = false; lost = false }
+first = record { from = 0; have = 0; more = true; index = 0; begun = false; read = 0; written = 0; ended = false; lost = false }
 
 -- what a read that failed answers
 abbrev pub negative : ℤ → Bool
@@ -47,7 +47,7 @@ pub record Filled (buf : List ℕ) (t : Turn) (buf′ : List ℕ) (t′ : Turn) 
   pub inside : t′ .have ≤ length buf
   pub follow : t′ .more ≡ (ltb 0 (t′ .read) || t′ .lost)
   pub none : t′ .lost ≡ true → t′ .read ≡ 0
-  pub same-place : t′ .place ≡ t .place
+  pub same-index : t′ .index ≡ t .index
   pub same-begun : t′ .begun ≡ t .begun
   pub silent : t′ .written ≡ 0
   pub ends : t′ .ended ≡ t′ .lost
@@ -56,12 +56,12 @@ pub record Filled (buf : List ℕ) (t : Turn) (buf′ : List ℕ) (t′ : Turn) 
 
 -- after lines that read so many bytes, of which the writer was handed so many: the job goes on behind them, from this record number, unless they end it or could not be written
 abbrev pub after-lines : Turn → ℕ → ℕ → Bool → Moved → Turn
-after-lines t read place ended handed =
+after-lines t read index ended handed =
     record {
       from = t .from + read;
       have = t .have;
       more = t .more;
-      place = place;
+      index = index;
       begun = true;
       read = 0;
       written = handed .count;

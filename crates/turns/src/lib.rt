@@ -12,7 +12,7 @@ pub struct Turn {
     pub from: usize,
     pub have: usize,
     pub more: bool,
-    pub place: u64,
+    pub index: u64,
     pub begun: bool,
     pub read: usize,
     pub written: usize,
@@ -45,7 +45,7 @@ pub fn first() -> Turn
         from: 0,
         have: 0,
         more: true,
-        place: 0,
+        index: 0,
         begun: false,
         read: 0,
         written: 0,
@@ -122,7 +122,7 @@ pub fn fill(buf: &mut [u8], t: Turn) -> Turn
         from: front,
         have: left + n,
         more: either(0 < n, got.failed),
-        place: t.place,
+        index: t.index,
         begun: t.begun,
         read: n,
         written: 0,
@@ -158,15 +158,15 @@ pub fn hand_over(log: &[u8], n: usize) -> Moved
 
 // Where the job stands after lines that read so many bytes, and that the writer was handed.
 // Refused: a fresh state for each piece (begun_anew), no more after the first bytes (no_more), an end after the first lines (ends_at_once) or none after 5, 6 or 18 (six_goes_on).
-pub fn after_lines(t: Turn, read: usize, place: u64, ended: bool, handed: Moved) -> Turn
+pub fn after_lines(t: Turn, read: usize, index: u64, ended: bool, handed: Moved) -> Turn
     requires { ⌜ t .from + read ≤ t .have ⌝ }
-    ensures { λ r. ⌜ r ≡ after-lines t read place ended handed ⌝ }
+    ensures { λ r. ⌜ r ≡ after-lines t read index ended handed ⌝ }
 {
     Turn {
         from: t.from + read,
         have: t.have,
         more: t.more,
-        place: place,
+        index: index,
         begun: true,
         read: 0,
         written: handed.count,

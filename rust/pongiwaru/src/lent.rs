@@ -12,7 +12,7 @@ use crate::{header, ROW_BYTES};
 pub struct Progress {
     pub written: usize,
     pub read: usize,
-    pub place: u64,
+    pub index: u64,
     pub ended: bool,
 }
 
@@ -76,7 +76,7 @@ fn lines(
     progress: &mut Progress,
 ) -> u32 {
     let (words, bytes, room) = (state.len(), stream.len(), log.len());
-    let Progress { written, read, place, ended } = progress;
+    let Progress { written, read, index, ended } = progress;
     unsafe {
         call(
             state.as_mut_ptr(),
@@ -89,13 +89,13 @@ fn lines(
             room,
             written,
             read,
-            place,
+            index,
             ended,
         )
     }
 }
 
-/// A job's next lines, from `progress.place` on: 0, or 15.
+/// A job's next lines, from `progress.index` on: 0, or 15.
 #[cfg(linked)]
 pub fn job(
     state: &mut [u32],

@@ -67,29 +67,29 @@ impl State {
     }
 
     /// The job's next lines into `log`, for as many records as the bytes hold whole and the log has room for
-    /// (`LINE_BYTES` for each). `place` is the next record's number. With `more`, further bytes follow these, and a
+    /// (`LINE_BYTES` for each). `index` is the next record's number. With `more`, further bytes follow these, and a
     /// record is taken only where `RECORD_BYTES` are at hand.
-    pub fn job(&mut self, stream: &[u8], more: bool, log: &mut [u8], place: &mut u64) -> Lines {
-        let mut p = Progress { place: *place, ..Progress::default() };
+    pub fn job(&mut self, stream: &[u8], more: bool, log: &mut [u8], index: &mut u64) -> Lines {
+        let mut p = Progress { index: *index, ..Progress::default() };
         let number = lent::job(&mut self.words, &mut self.rows, stream, more, log, &mut p);
-        *place = p.place;
+        *index = p.index;
         Lines { answer: answer(number), read: p.read, written: p.written, ended: p.ended }
     }
 
     /// A job's first lines, from a fresh state and record number 0, whatever this one holds; `job` goes on from them.
-    pub fn fresh_job(&mut self, stream: &[u8], more: bool, log: &mut [u8], place: &mut u64) -> Lines {
+    pub fn fresh_job(&mut self, stream: &[u8], more: bool, log: &mut [u8], index: &mut u64) -> Lines {
         let mut p = Progress::default();
         let number = lent::fresh_job(&mut self.words, &mut self.rows, stream, more, log, &mut p);
-        *place = p.place;
+        *index = p.index;
         Lines { answer: answer(number), read: p.read, written: p.written, ended: p.ended }
     }
 
     /// The log of a whole stream, record numbers from 0; None where the state is unsound.
     pub fn log(&mut self, stream: &[u8]) -> Option<Vec<u8>> {
-        let (mut out, mut rest, mut place) = (vec![], stream, 0);
+        let (mut out, mut rest, mut index) = (vec![], stream, 0);
         let mut log = vec![0; 8 * LINE_BYTES];
         loop {
-            let lines = self.job(rest, false, &mut log, &mut place);
+            let lines = self.job(rest, false, &mut log, &mut index);
             out.extend_from_slice(&log[..lines.written]);
             rest = &rest[lines.read..];
             match (lines.answer, lines.ended) {

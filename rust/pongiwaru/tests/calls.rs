@@ -49,18 +49,18 @@ fn a_job_at_once_by_records_and_in_pieces() {
     }
     assert_eq!(log, LOG);
 
-    let (mut pieces, mut place, mut out, mut text) = (State::fresh(), 0, vec![0; LINE_BYTES], vec![]);
-    let lines = pieces.job(&STREAM[..6], true, &mut out, &mut place);
-    assert_eq!((lines.answer, lines.read, lines.written, lines.ended, place), (Answer::Typed, 0, 0, false, 0));
+    let (mut pieces, mut index, mut out, mut text) = (State::fresh(), 0, vec![0; LINE_BYTES], vec![]);
+    let lines = pieces.job(&STREAM[..6], true, &mut out, &mut index);
+    assert_eq!((lines.answer, lines.read, lines.written, lines.ended, index), (Answer::Typed, 0, 0, false, 0));
     let mut read = 0;
     for ended in [false, false, true] {
         // room for one line
-        let lines = pieces.job(&STREAM[read..], false, &mut out, &mut place);
+        let lines = pieces.job(&STREAM[read..], false, &mut out, &mut index);
         assert_eq!((lines.answer, lines.ended), (Answer::Typed, ended));
         text.extend_from_slice(&out[..lines.written]);
         read += lines.read
     }
-    assert_eq!((text, read, place), (LOG.into(), STREAM.len(), 3));
+    assert_eq!((text, read, index), (LOG.into(), STREAM.len(), 3));
     assert!(pieces == state)
 }
 
@@ -123,11 +123,11 @@ fn numbers_and_answers() {
 #[test]
 fn a_fresh_job_from_words_that_hold_anything() {
     let mut log = vec![0; 8 * LINE_BYTES];
-    let (mut state, mut place) = (State::fresh(), 7);
+    let (mut state, mut index) = (State::fresh(), 7);
     assert!(state.log(STREAM).is_some());
     for _ in 0..2 {
-        let lines = state.fresh_job(STREAM, false, &mut log, &mut place);
-        assert_eq!((lines.answer, lines.read, lines.ended, place), (Answer::Typed, STREAM.len(), true, 3));
+        let lines = state.fresh_job(STREAM, false, &mut log, &mut index);
+        assert_eq!((lines.answer, lines.read, lines.ended, index), (Answer::Typed, STREAM.len(), true, 3));
         assert_eq!(&log[..lines.written], LOG.as_bytes());
     }
 }

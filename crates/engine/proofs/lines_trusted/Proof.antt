@@ -14,10 +14,10 @@ use Rattle.engine.proofs.lines_trusted.Statement.{statement}
 use Rattle.engine.proofs.lines_trusted.Tie as tie
 
 abbrev Inv-loop : tie.InvT-loop
-Inv-loop w₀ params₀ stream more log₀ place saved₀ buf₀ used₀ rows₀ at₀ n₀ i₀ w params log saved buf used rows at n i = ((length saved ≡ 5120) × Saved-partly w used rows saved) × ((length buf ≡ 4096) × Going w₀ used₀ params₀ place stream more log₀ w used params log at n i)
+Inv-loop w₀ params₀ stream more log₀ index saved₀ buf₀ used₀ rows₀ at₀ n₀ i₀ w params log saved buf used rows at n i = ((length saved ≡ 5120) × Saved-partly w used rows saved) × ((length buf ≡ 4096) × Going w₀ used₀ params₀ index stream more log₀ w used params log at n i)
 
 abbrev μ-loop : tie.MeasureT-loop
-μ-loop w₀ params₀ stream more log₀ place saved₀ buf₀ used₀ rows₀ at₀ n₀ i₀ w params log saved buf used rows at n i = length stream - at
+μ-loop w₀ params₀ stream more log₀ index saved₀ buf₀ used₀ rows₀ at₀ n₀ i₀ w params log saved buf used rows at n i = length stream - at
 
 loop-holds : tie.Need-loop-holds Inv-loop μ-loop
 loop-holds c = ((length-replicate {A = ℕ} 5120 0, partly-none _ _ _), (length-replicate {A = ℕ} 4096 0, going-start _ _ _ _ _ _ _ (c .before .before .before .pre)))

@@ -9,14 +9,14 @@ use Rattle.log.proofs.write_line.Tie as tie
 write-decimal-requires : tie.Need-write-decimal-requires
 write-decimal-requires c κs =
     let args = c .before .before .before .args in
-    room-1 (args .place) (args .number) (take (args .len) (args .payload .now)) (args .log .now) (args .at)
+    room-1 (args .index) (args .number) (take (args .len) (args .payload .now)) (args .log .now) (args .at)
     (c .before .before .before .pre .1)
 
 put-byte-requires : tie.Need-put-byte-requires
 put-byte-requires c κs =
     let args = c .before .before .before .before .before .before .before .args in
     let pre = c .before .before .before .before .before .before .before .pre in
-    room-space (args .place) (args .number) (take (args .len) (args .payload .now)) (args .log .now) (args .at) (pre .1)
+    room-space (args .index) (args .number) (take (args .len) (args .payload .now)) (args .log .now) (args .at) (pre .1)
     _ _ (c .before .before .before .write-decimal .ensures)
 
 wide-requires : tie.Need-wide-requires
@@ -28,7 +28,7 @@ write-decimal-requires-2 c κs =
     let pre = c .before .before .before .before .before .before .before .before .before .before .before .before .pre in
     let write-decimal = c .before .before .before .before .before .before .before .before .write-decimal in
     rw (c .before .wide .ensures)
-    (room-number (args .place) (args .number) (take (args .len) (args .payload .now)) (args .log .now) (args .at)
+    (room-number (args .index) (args .number) (take (args .len) (args .payload .now)) (args .log .now) (args .at)
     (pre .1) _ _ (write-decimal .ensures) _ _ (c .before .before .before .before .put-byte .ensures))
 
 write-payload-requires : tie.Need-write-payload-requires
@@ -39,7 +39,7 @@ write-payload-requires c κs =
     let put-byte = c .before .before .before .before .before .before .before .before .put-byte in
     let wide = c .before .before .before .before .before .wide in (
       pre .0,
-      room-payload (args .place) (args .number) (take (args .len) (args .payload .now)) (args .log .now) (args .at)
+      room-payload (args .index) (args .number) (take (args .len) (args .payload .now)) (args .log .now) (args .at)
           (pre .1) _ _ (write-decimal .ensures) _ _ (put-byte .ensures) _ _
           (rw (wide .ensures) at (c .before .before .before .write-decimal2 .ensures)),
     )
@@ -53,7 +53,7 @@ put-byte-requires-2 c κs =
     let put-byte = c12 .put-byte in
     let wide = c .before .before .before .before .before .before .before .before .before .wide in
     let write-decimal2 = c .before .before .before .before .before .before .before .write-decimal2 in
-    room-end (args .place) (args .number) (take (args .len) (args .payload .now)) (args .log .now) (args .at) (pre .1) _
+    room-end (args .index) (args .number) (take (args .len) (args .payload .now)) (args .log .now) (args .at) (pre .1) _
     _ (write-decimal .ensures) _ _ (put-byte .ensures) _ _ (rw (wide .ensures) at (write-decimal2 .ensures)) _ _
     (c .before .before .before .write-payload .ensures)
 
@@ -70,7 +70,7 @@ returns c =
     let wide = c12 .wide in
     let write-decimal2 = c .before .before .before .before .before .before .before .before .before .before .write-decimal2 in
     let write-payload = c .before .before .before .before .before .before .write-payload in
-    wrote-line (args .place) (args .number) (take (args .len) (args .payload .now)) (args .log .now) (args .at) (pre .1)
+    wrote-line (args .index) (args .number) (take (args .len) (args .payload .now)) (args .log .now) (args .at) (pre .1)
     _ _ (write-decimal .ensures) _ _ (put-byte .ensures) _ _ (rw (wide .ensures) at (write-decimal2 .ensures)) _ _
     (write-payload .ensures) _ _ (c .before .before .put-byte2 .ensures)
 

@@ -33,7 +33,7 @@ returns c = let m = c .before .before .before .before .before .before .before .s
       inside = search needs;
       follow = c .either .ensures;
       none = e .none;
-      same-place = refl;
+      same-index = refl;
       same-begun = refl;
       silent = refl;
       ends = refl;
