@@ -53,7 +53,7 @@ job-enough (suc n) (suc m) i s (b ∷ bytes) is h l k = go (ends-job (step-strea
     kept = stream-sound-kept s (b ∷ bytes) max-buffer is h
 
     e : Entry
-    e = record { place = i; number = r .0 .number; payload = r .0 .payload }
+    e = record { index = i; number = r .0 .number; payload = r .0 .payload }
 
     go : (o : Bool) → ends-job (r .0 .number) ≡ o → Goes-on bytes r
         → ((state : State) (rest : Bytes) → Is-bytes rest → sound state ≡ true → length rest ≤ n → length rest ≤ m → job-from n (suc i) state rest ≡ job-from m (suc i) state rest)

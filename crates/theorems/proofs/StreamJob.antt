@@ -64,7 +64,7 @@ unfolding step
 step-lent s bytes h = rw (usable-sound s h, step) refl
 
 abbrev entry : ℕ → Answer → Entry
-entry i a = record { place = i; number = a .number; payload = a .payload }
+entry i a = record { index = i; number = a .number; payload = a .payload }
 
 entries-step : (i : ℕ) (s : State) (bytes : Bytes) (records : List (Bytes × ℕ)) (a : Answer) → step s bytes max-buffer ≡ a → entries i s ((bytes, max-buffer) ∷ records) ≡ entry i a ∷ entries (suc i) (a .state) records
 unfolding entries

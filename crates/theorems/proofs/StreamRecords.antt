@@ -28,4 +28,4 @@ records-of bytes = records-from (length bytes) fresh bytes
 -- the log of a job, its records numbered from i on (proofs/StreamJob.antt: a stream's log is that of its records)
 unfoldable pub entries : ℕ → State → List (Bytes × ℕ) → List Entry
 entries i s [] = []
-entries i s ((bytes, buffer) ∷ records) = let a = step s bytes buffer in record { place = i; number = a .number; payload = a .payload } ∷ entries (suc i) (a .state) records
+entries i s ((bytes, buffer) ∷ records) = let a = step s bytes buffer in record { index = i; number = a .number; payload = a .payload } ∷ entries (suc i) (a .state) records
