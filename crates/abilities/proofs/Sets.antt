@@ -27,7 +27,7 @@ use Rattle.table.specs.declared.Shape.the-variants.{Apply}
 use Rattle.table.proofs.Shape.{the-type}
 use Rattle.shapes.proofs.Tags.{other-shapes}
 use Rattle.ready.specs.Itself.{Goes-on}
-use Rattle.subst.proofs.Laws.{count-seen}
+use Rattle.table.proofs.Pushed.{count-seen}
 use Rattle.ready.proofs.Lists.{all-one}
 use Rattle.subst.proofs.Occurs.{zero-at}
 use Rattle.abilities.specs.Kept.{parts-of, part-count, Ends, Has-set, Kept, Parts-kept, Ready, Inferred}

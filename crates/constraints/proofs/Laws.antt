@@ -17,7 +17,7 @@ use Rattle.table.specs.declared.Node.{Node}
 use Rattle.subst.specs.Answers.{unfolded, Unfolds}
 use Rattle.subst.specs.declared.Unfolded.{Unfolded}
 use Rattle.subst.specs.declared.Unfolded.the-variants.{Node as NodeU, Anything as AnythingU}
-use Rattle.subst.proofs.Laws.{value-is}
+use Rattle.table.proofs.Grown.{value-is}
 use Rattle.constraints.specs.Failing.{good, ask, plain, Asks, failing, Fails}
 use Rattle.constraints.specs.declared.Ask.{Ask}
 use Rattle.constraints.specs.declared.Failing.the-variants.{Fine, Node as NodeF, Anything as AnythingF}

@@ -3,7 +3,7 @@ use mathlib.Core.Path.{_≡_, refl, sym, ap, _∙_}
 use mathlib.Core.Bool.{Bool, true, false}
 use mathlib.Core.List.{List, []}
 use mathlib.Core.Option.{Option, none, some}
-use Prim.Native.Nat.{ℕ, _+_, _≤_, _<_}
+use Prim.Native.Nat.{ℕ, _<_}
 use native.Mathlib.Omega.{arith}
 use Rattle.definition.specs.Types as d
 use Rattle.definition.specs.Types.{State, Struct, Result, ok, err, _>>=_, if_then_else_}
@@ -29,7 +29,6 @@ use Rattle.table.proofs.Grown.{nodes-grow, loc-is, value-is}
 use Rattle.merge.specs.Merge.{Inner, Merging, open-ends, open-types, open-tvar, opened, Opens, show-both, close-tvar, meet-tvar, met, Meets}
 use Rattle.merge.specs.declared.Open.{Open}
 use Rattle.merge.specs.declared.Opened.the-variants.{Ready, Stop}
-use Rattle.merge.specs.declared.Meet.{Meet}
 use Rattle.merge.specs.declared.Meet.the-variants.{Is, Merge}
 
 -- ---- the type of a chain's end
@@ -204,62 +203,48 @@ module _ (ty1 id1 ty2 id2 : ℕ) where
           (after-then (r .out) (show-second t1) (tr .changed) dr q
           (after-now (tr .changed .lay) (below1, node-in (r .used .nodes) (r .out) br t2 (tr .inside) dr q) (λ ds k. refl)))
 
+-- ---- what follows a binding: `var` is the answer, or what `otherwise` says
+
+abbrev bind-then : ℕ → (State → Result (State × ℕ)) → Result (State × Bool) → Result (State × ℕ)
+bind-then var otherwise m = m >>= (λ r. if r .1 then ok (r .0, var) else otherwise (r .0))
+
+module _ {w : List ℕ} {u : Used} {w′ : List ℕ} (b : Binding) (tvar ty loc var : ℕ) (otherwise f : State → Result (State × ℕ)) (x : Binds w u w′ b tvar ty)
+    (is : (ds : List Struct) → bind-then var otherwise (join-bind-tvar (seen w u ds) loc tvar ty) ≡ f (seen w u ds)) where
+  binds-as : {w₂ : List ℕ} {r : Step} (g : State → Result (State × ℕ)) → ((s : State) → g s ≡ bind-then var otherwise (bound b loc s)) → After w′ u w₂ r g → After w u w₂ r f
+  binds-as g e n = after-is (λ ds k. is ds) (after-on (λ m. bind-then var otherwise (m loc)) x (after-is (λ ds k. e (seen w′ u ds)) n))
+
+  pub binds-done : b ≡ Bound → var < u .nodes → After w u w′ (record { out = Done var; used = u }) f
+  unfolding outcome _>>=_
+  binds-done e i = binds-as (λ s. ok (s, var)) (λ s. rw e refl) (after-now (x .lay) i (λ ds k. refl))
+
+  pub binds-failed : {w₂ : List ℕ} {r : Step} → b ≡ FailedB → After w′ u w₂ r otherwise → After w u w₂ r f
+  unfolding _>>=_
+  binds-failed e n = binds-as otherwise (λ s. rw e refl) n
+
+  pub binds-recursive : b ≡ RecursiveB → After w u w′ (record { out = Failed (RecursiveType loc); used = u }) f
+  unfolding outcome _>>=_
+  binds-recursive e = binds-as (λ s. err s (d.RecursiveType loc)) (λ s. rw e refl) (after-now (x .lay) tt (λ ds k. refl))
+
 -- ---- closing a merge
 
-module _ (ty1 id1 ty2 loc2 id2 new var2 new-ty : ℕ) where
-  pub close-bound : (s : State) (t : ℕ) (n : Node) → some t ≡ get s new → node-of n ≡ node s t → outcome (Failed (RecursiveType (n .loc))) s ≡ close-tvar s ty1 id1 ty2 loc2 id2 new var2 new-ty
+module _ (ty1 id1 ty2 loc2 id2 new var2 new-ty : ℕ) (s : State) where
+  pub close-bound : (t : ℕ) (n : Node) → some t ≡ get s new → node-of n ≡ node s t → outcome (Failed (RecursiveType (n .loc))) s ≡ close-tvar s ty1 id1 ty2 loc2 id2 new var2 new-ty
   unfolding close-tvar outcome
-  close-bound s t n e p = rw (← e, close-tvar, loc-is s t n p)
+  close-bound t n e p = rw (← e, close-tvar, loc-is s t n p)
 
-  module _ (s s′ : State) (b : Binding) (free : none ≡ get s new) (bind : bound b loc2 s′ ≡ join-bind-tvar s loc2 new new-ty) where
-    close-free : (bound b loc2 s′ >>= (λ r. if r .1 then ok (r .0, var2) else show-both (r .0) ty1 id1 ty2 id2)) ≡ close-tvar s ty1 id1 ty2 loc2 id2 new var2 new-ty
-    unfolding close-tvar
-    close-free = rw (← free, close-tvar, bind)
-
-    pub close-done : b ≡ Bound → outcome (Done var2) s′ ≡ close-tvar s ty1 id1 ty2 loc2 id2 new var2 new-ty
-    unfolding outcome _>>=_
-    close-done e = rw (← close-free, e)
-
-    pub close-failed : b ≡ FailedB → show-both s′ ty1 id1 ty2 id2 ≡ close-tvar s ty1 id1 ty2 loc2 id2 new var2 new-ty
-    unfolding _>>=_
-    close-failed e = rw (← close-free, e)
-
-    pub close-recursive : b ≡ RecursiveB → outcome (Failed (RecursiveType loc2)) s′ ≡ close-tvar s ty1 id1 ty2 loc2 id2 new var2 new-ty
-    unfolding outcome _>>=_
-    close-recursive e = rw (← close-free, e)
+  pub close-free : none ≡ get s new → bind-then var2 (λ s. show-both s ty1 id1 ty2 id2) (join-bind-tvar s loc2 new new-ty) ≡ close-tvar s ty1 id1 ty2 loc2 id2 new var2 new-ty
+  unfolding close-tvar
+  close-free e = rw (← e, close-tvar)
 
 -- ---- a variable that is not bound takes a type
 
-module _ (s s′ : State) (lhs rhs var id other : ℕ) (n : Node) (b : Binding) (at : node-of n ≡ node s var) (bind : (loc : ℕ) → bound b loc s′ ≡ join-bind-tvar s loc id other) where
-  unbound-is : (bound b (n .loc) s′ >>= (λ r. if r .1 then ok (r .0, var) else err (r .0) (d.Incompatible lhs rhs))) ≡ join-unbound s lhs rhs var id other
-  unfolding join-unbound
-  unbound-is = rw (bind (n .loc), loc-is s var n at)
+pub unbound-is : (s : State) (lhs rhs var id other : ℕ) (n : Node) → node-of n ≡ node s var → bind-then var (λ s. err s (d.Incompatible lhs rhs)) (join-bind-tvar s (n .loc) id other) ≡ join-unbound s lhs rhs var id other
+unfolding join-unbound
+unbound-is s lhs rhs var id other n at = rw (loc-is s var n at) refl
 
-  pub unbound-done : b ≡ Bound → outcome (Done var) s′ ≡ join-unbound s lhs rhs var id other
-  unfolding outcome _>>=_
-  unbound-done e = rw (← unbound-is, e)
-
-  pub unbound-failed : b ≡ FailedB → outcome (Failed (Incompatible lhs rhs)) s′ ≡ join-unbound s lhs rhs var id other
-  unfolding outcome _>>=_
-  unbound-failed e = rw (← unbound-is, e)
-
-  pub unbound-recursive : b ≡ RecursiveB → outcome (Failed (RecursiveType (n .loc))) s′ ≡ join-unbound s lhs rhs var id other
-  unfolding outcome _>>=_
-  unbound-recursive e = rw (← unbound-is, e)
-
--- what a binding did, as an answer
-pub bound-after : (w : List ℕ) (u : Used) (w′ : List ℕ) (b : Binding) (tvar ty : ℕ) (o : Out) (f : State → Result (State × ℕ))
-    → Binds w u w′ b tvar ty → Nodes-in (u .nodes) o → ((ds : List Struct) → outcome o (seen w′ u ds) ≡ f (seen w u ds))
-    → After w u w′ (record { out = o; used = u }) f
-bound-after w u w′ b tvar ty o f a i e =
-    record { changed = record { lay = a .lay; grown = a .grown; structs = a .structs; is = λ ds k. e ds }; inside = i }
-
--- .. and what follows it
-pub bound-then : (w : List ℕ) (u : Used) (w′ : List ℕ) (b : Binding) (tvar ty : ℕ) (w₂ : List ℕ) (r : Step) (f g : State → Result (State × ℕ))
-    → Binds w u w′ b tvar ty → After w′ u w₂ r f → ((ds : List Struct) → f (seen w′ u ds) ≡ g (seen w u ds)) → After w u w₂ r g
-bound-then w u w′ b tvar ty w₂ r f g a n e =
-    let first : Refines Any w u w′ u f g = record { lay = a .lay; grown = a .grown; structs = a .structs; is = λ ds k. e ds } in
-    after-on (λ m. m) first n
+pub unbound-incompatible : {w : List ℕ} {u : Used} (lhs rhs : ℕ) → Lay w u → lhs < u .nodes → rhs < u .nodes → After w u w (record { out = Failed (Incompatible lhs rhs); used = u }) (λ s. err s (d.Incompatible lhs rhs))
+unfolding outcome
+unbound-incompatible lhs rhs h i j = after-now h (i, j) (λ ds k. refl)
 
 -- ---- a variable meets another type
 

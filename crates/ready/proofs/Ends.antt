@@ -3,15 +3,14 @@ use mathlib.Core.Path.{_≡_, refl, sym, ap, _∙_}
 use mathlib.Core.List.{List}
 use mathlib.Core.Option.{Option, none, some}
 use Prim.Native.Nat.{ℕ, zero, suc, _+_, _-_, _<_, _≤_}
-use native.Mathlib.Nat.{not-suc-le-zero}
 use native.Mathlib.Decide.{ℕ-discrete, decLt}
 use native.Mathlib.Omega.{arith}
 use lib.ListN.{length, getD, set, replicate, length-replicate, length-set}
 use lib.Seq.{getD-set-same, getD-set-other, set-out}
-use Rattle.definition.specs.Types.{State, Struct, Result, ok, err, refused, _>>=_}
+use Rattle.definition.specs.Types.{State, Struct}
 use Rattle.definition.specs.Subst.{next-of, forward, forward-tvar}
 use Rattle.names.specs.declared.TVar.{TVar}
-use Rattle.table.specs.State.{seen, Lay}
+use Rattle.table.specs.State.{seen}
 use Rattle.table.specs.declared.Used.{Used}
 use Rattle.table.specs.declared.Step.{Step}
 use Rattle.table.specs.declared.Out.{Out}
@@ -20,8 +19,9 @@ use Rattle.ready.specs.Ends.{Ends-by, Noted, Meets, Ends-known}
 use Rattle.shapes.specs.declared.Next.{Next}
 use Rattle.shapes.specs.declared.Next.the-variants.{Last, To}
 use Rattle.ready.specs.declared.Meeting.{Meeting}
-use Rattle.ready.specs.declared.Meeting.the-variants.{End, Never}
-use Rattle.subst.proofs.Laws.{taken-seen, forward-none, forward-some}
+use Rattle.ready.specs.declared.Meeting.the-variants.{End}
+use Rattle.table.proofs.Pushed.{taken-seen}
+use Rattle.subst.proofs.Laws.{forward-none, forward-some}
 use Rattle.subst.proofs.Occurs.{zero-at}
 
 -- ---- a chain that ends

@@ -1,6 +1,6 @@
 -- The test for a type that runs into itself, by the levels of the nodes that reading goes on to. Assumes nothing.
 use mathlib.Core.Path.{_≡_, refl, sym, ap, _∙_, subst}
-use mathlib.Core.Bool.{true, false, not}
+use mathlib.Core.Bool.{true, false}
 use mathlib.Core.List.{List, []}
 use Prim.Native.Nat.{ℕ, zero, suc, _+_, _-_, _<_, _≤_}
 use native.Mathlib.Nat.{not-suc-le-zero}
@@ -12,7 +12,7 @@ use lib.ListN.{length, getD, set, length-set, replicate, length-replicate}
 use lib.Seq.{getD-set-same, getD-set-other}
 use Rattle.definition.specs.Types as d
 use Rattle.definition.specs.Types.{State, Struct, Places, Spanned, Type-value}
-use Rattle.definition.specs.Store.{count, node, with-args, type-at, spanned, all-of}
+use Rattle.definition.specs.Store.{count, node, with-args, spanned, all-of}
 use Rattle.definition.specs.Subst.{parts, unfold-type, goes-on-to, ends-in, reaches-itself}
 use Rattle.table.specs.State.{shape-of, node-of, seen, Lay, Below}
 use Rattle.table.specs.declared.Used.{Used}
@@ -25,12 +25,14 @@ use Rattle.ready.specs.Itself.{Goes-on, Higher, Ends-at, Marked, Levels,
 use Rattle.subst.specs.declared.Unfolded.{Unfolded}
 use Rattle.subst.specs.declared.Unfolded.the-variants.{Node as NodeU, Anything}
 use Rattle.ready.proofs.Lists.{all-all, all-one}
-use Rattle.subst.proofs.Laws.{count-seen, inside-seen, value-is}
+use Rattle.table.proofs.Grown.{value-is}
+use Rattle.table.proofs.Pushed.{count-seen}
+use Rattle.subst.proofs.Laws.{inside-seen}
 use Rattle.subst.proofs.Occurs.{Low, below-low, zero-at}
 
 -- ---- where reading goes on
 
-few-parts : (args : List ℕ) (t : ℕ) (sh : d.Shape Places) → Below args t sh → part-count sh ≤ 8
+pub few-parts : (args : List ℕ) (t : ℕ) (sh : d.Shape Places) → Below args t sh → part-count sh ≤ 8
 few-parts args t d.UnitType b = omega arith
 few-parts args t (d.Ref m p) b = omega arith
 few-parts args t (d.Param id a) b = omega arith

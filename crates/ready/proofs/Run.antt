@@ -1,16 +1,14 @@
--- ready_tvars: one level, the parts one after the other, and the whole run, as the code goes about them. Assumes nothing.
+-- ready_tvars: one level, the parts one after the other (table's walk, over the parts of a node as it was), and the whole run, as the code goes about them. Assumes nothing.
 use mathlib.Core.Path.{_≡_, refl, sym, ap, ap₂, _∙_, subst}
 use mathlib.Core.Bool.{Bool, true, false}
-use mathlib.Core.List.{List, [], _∷_, _++_, append-assoc, append-nil}
+use mathlib.Core.List.{List, [], _∷_}
 use mathlib.Core.Option.{Option, none, some}
 use Prim.Native.Nat.{ℕ, zero, suc, _+_, _-_, _*_, _<_, _≤_}
 use native.Mathlib.Nat.{not-suc-le-zero}
-use native.Mathlib.Numerals.{add-one}
-use native.Mathlib.Decide.{ℕ-discrete}
 use native.Mathlib.Omega.{arith}
 use lib.Dec.{ltb, leb}
-use lib.ListN.{length, getD, set, take, drop, length-set, length-take, length-drop, length-append, drop-of-length-le, List·getD-append}
-use lib.Seq.{take-append-le, drop-append-le, drop-cons, take-suc-set, getD-take, getD-set-same, getD-set-other}
+use lib.ListN.{length, getD, take, List·getD-append}
+use lib.Seq.{getD-take}
 use denote.Enum.Declared.{tagOf}
 use types.Run.{OneOf}
 use Rattle.definition.specs.Types as d
@@ -21,8 +19,7 @@ use Rattle.names.specs.Names.{mark-of, name-of}
 use Rattle.names.specs.declared.TVar.{TVar}
 use Rattle.names.specs.declared.Mark.{Mark}
 use Rattle.names.specs.declared.TypeName.{TypeName}
-use Rattle.table.specs.Rows.{node-table}
-use Rattle.table.specs.State.{found, shape-of, node-of, done, outcome, view, seen, Lay, Below, Grown, Front, After, Nodes-in, Parts as Parts-in}
+use Rattle.table.specs.State.{found, shape-of, node-of, done, outcome, view, seen, Lay, Below, Grown, Front, Any, After, Parts as Parts-in}
 use Rattle.table.specs.declared.Used.{Used}
 use Rattle.table.specs.declared.Node.{Node}
 use Rattle.table.specs.declared.Step.{Step}
@@ -30,12 +27,13 @@ use Rattle.table.specs.declared.Shape.{Shape}
 use Rattle.table.specs.declared.Shape.the-variants.{Ref as RefS, Apply as ApplyS, Var as VarS}
 use Rattle.table.specs.declared.Found.{Found}
 use Rattle.table.specs.declared.Found.the-variants.{Nothing, Just}
-use Rattle.table.specs.declared.Out.{Out}
 use Rattle.table.specs.declared.Out.the-variants.{Done, Refused}
 use Rattle.table.specs.declared.Refusal.the-variants.{RunsIntoItself}
 use Rattle.table.proofs.Shape.{the-type}
-use Rattle.table.proofs.Rows.{length-entries}
-use Rattle.table.proofs.Steps.{grown-refl, grown-trans, after-now, after-stop, done-is}
+use Rattle.table.proofs.Steps.{after-now, after-is, done-ok}
+use Rattle.table.proofs.Grown.{still-in, args-kept, loc-is, value-is}
+use Rattle.table.proofs.Walk.{rest, Walked, walk-start}
+use Rattle.table.proofs.Pushed.{count-view, count-seen}
 use Rattle.shapes.specs.Parts.{part-count}
 use Rattle.shapes.proofs.Tags.{other-shapes}
 use Rattle.ready.specs.Ends.{Ends-known}
@@ -44,34 +42,9 @@ use Rattle.ready.specs.declared.Onward.{Onward}
 use Rattle.ready.specs.declared.Onward.the-variants.{Parts, Open, Bound}
 use Rattle.ready.specs.declared.Landing.{Landing}
 use Rattle.ready.specs.declared.Landing.the-variants.{Parts as PartsL, Open as OpenL, Spent}
-use Rattle.subst.proofs.Laws.{count-seen, inside-seen, value-is, loc-is}
-use Rattle.subst.proofs.Occurs.{at-node, many-parts, part-is, parts-low}
-
--- ---- answers
-
-clash : {A : Type 0} → _≡_ {A = ℕ} 0 1 → A
-clash z = absurd (omega arith)
-
-done-ok : (t : ℕ) (s : State) → outcome (Done t) s ≡ ok (s, t)
-unfolding outcome
-done-ok t s = refl
-
-bind-bind : {A B C : Type 0} (m : Result A) (g : A → Result B) (h : B → Result C) → ((m >>= g) >>= h) ≡ (m >>= (λ x. g x >>= h))
-unfolding _>>=_
-bind-bind (ok a) g h = refl
-bind-bind (err s e) g h = refl
-bind-bind (refused x) g h = refl
-
-pub done-in : (o : Out) (n t : ℕ) (f : Found) → Nodes-in n o → f ≡ done o → f ≡ Just t → t < n
-done-in o n t f h e z = subst (λ (x : Out). Nodes-in n x) (done-is o t (sym e ∙ z)) h
-
--- ---- steps
-
-pub after-at : (w : List ℕ) (u : Used) (w′ : List ℕ) (r : Step) (f g : State → Result (State × ℕ)) → ((ds : List Struct) → f (seen w u ds) ≡ g (seen w u ds)) → After w u w′ r f → After w u w′ r g
-after-at w u w′ r f g e a = record {
-  changed = record { lay = a .changed .lay; grown = a .changed .grown; structs = a .changed .structs; is = λ ds k. a .changed .is ds k ∙ e ds };
-  inside = a .inside;
-}
+use Rattle.ready.proofs.Itself.{few-parts}
+use Rattle.subst.proofs.Laws.{inside-seen}
+use Rattle.subst.proofs.Occurs.{Low, below-low, at-node, many-parts, part-is}
 
 -- ---- one level
 
@@ -92,7 +65,7 @@ plain f s ty loc d.UnitType e = refl
 plain f s ty loc (d.Ref m t) e = one-part (f s t) loc m
 plain f s ty loc (d.Param id a) e = refl
 plain f s ty loc (d.Apply k n tys) e = refl
-plain f s ty loc (d.Var v) e = clash (cc)
+plain f s ty loc (d.Var v) e = let z : _≡_ {A = ℕ} 0 1 = cc in absurd (omega arith)
 plain f s ty loc d.Anything e = refl
 plain f s ty loc d.UnresolvedError e = refl
 
@@ -136,10 +109,6 @@ one-level zero s ty p = absurd (not-suc-le-zero p)
 one-level (suc n) s ty p =
     let e : suc n - 1 ≡ n = omega arith in
     ap (λ (k : ℕ). ready-value (λ s t. ready k s t) s ty (loc-of s ty) (type-at s ty)) e
-
-pub nodes-count : (w : List ℕ) (u : Used) → length (view w u .nodes) ≡ u .nodes
-unfolding view
-nodes-count w u = length-entries node-table w (u .nodes)
 
 -- where the loop stands: from here on all comes to what it comes to from the start
 pub record Coming (w : List ℕ) (u : Used) (t calls at left : ℕ) : Type 0 where
@@ -231,7 +200,7 @@ module _ (w : List ℕ) (u : Used) (t : ℕ) (h : Lay w u) (i : t < u .nodes) (n
 
       pub anew-ref : (tys : List ℕ) (w′ : List ℕ) (r : Step) → After w u w′ r (λ s. sp s (n .loc) (d.Ref m (getD tys 0 0))) → After w u w′ r (λ s. rebuilt-at s t (take many tys))
       unfolding rebuilt with-args
-      anew-ref tys w′ r a = after-at w u w′ r _ _ (λ ds.
+      anew-ref tys w′ r a = after-is (λ ds k.
           let o = ref-one in
           let l : 0 < many = omega arith in
           sym (rw (z, getD-take many tys 0 0 l) refl) ∙ anew (take many tys) ds) a
@@ -239,53 +208,47 @@ module _ (w : List ℕ) (u : Used) (t : ℕ) (h : Lay w u) (i : t < u .nodes) (n
     pub anew-apply : (k : Mark) (name : TypeName) (first old : ℕ) → n .shape ≡ ApplyS k name first old → (tys w′ : List ℕ) (r : Step) → After w u w′ r (λ s. sp s (n .loc) (d.Apply (mark-of k) (name-of name) (take many tys)))
         → After w u w′ r (λ s. rebuilt-at s t (take many tys))
     unfolding rebuilt with-args
-    anew-apply k name first old z tys w′ r a = after-at w u w′ r _ _ (λ ds. sym (rw z refl) ∙ anew (take many tys) ds) a
+    anew-apply k name first old z tys w′ r a = after-is (λ ds x. sym (rw z refl) ∙ anew (take many tys) ds) a
 
 -- ---- a node of a state that has grown
 
 front-at : {A : Type 0} (l m : List A) (a : A) (i : ℕ) → Front l m → i < length l → getD m i a ≡ getD l i a
 front-at l m a i f h = rw (f .is) (List·getD-append l (f .rest) a i h)
 
-args-kept : {s t : State} (p : Places) → Grown s t → p .first + p .many ≤ length (s .args) → args-at t p ≡ args-at s p
-unfolding args-at
-args-kept {s} {t} p g h =
-    let e = g .args .is in
-    let l : p .first ≤ length (s .args) = omega arith in
-    let k : p .many ≤ length (drop (p .first) (s .args)) = rw (length-drop (p .first) (s .args)) (omega arith) in
-    rw (e, drop-append-le (p .first) (s .args) (g .args .rest) l) (take-append-le (p .many) (drop (p .first) (s .args)) (g .args .rest) k)
-
 shape-kept : {s t : State} (x : ℕ) (sh : d.Shape Places) → Grown s t → Below (s .args) x sh → with-args t sh ≡ with-args s sh
 unfolding with-args
 shape-kept x d.UnitType g b = refl
 shape-kept x (d.Ref m p) g b = refl
 shape-kept x (d.Param id a) g b = refl
-shape-kept x (d.Apply k n p) g b = ap (d.Apply k n) (args-kept p g (b .1 .0))
+shape-kept x (d.Apply k n p) g b = ap (d.Apply k n) (args-kept _ _ p g (b .1 .0))
 shape-kept x (d.Var v) g b = refl
 shape-kept x d.Anything g b = refl
 shape-kept x d.UnresolvedError g b = refl
 
+type-view : (w : List ℕ) (u : Used) (t : ℕ) (ds : List Struct) → type-at (seen w u ds) t ≡ type-at (view w u) t
+unfolding type-at with-args args-at node seen with-structs
+type-view w u t ds = refl
+
+-- the parts of node t, and the node anew with other parts, whatever the state is by then
+abbrev pub parts-of : List ℕ → Used → ℕ → List ℕ
+parts-of w u t = parts (type-at (view w u) t)
+
+unfoldable pub anew-with : List ℕ → Used → ℕ → List ℕ → State → Result (State × ℕ)
+anew-with w u t tys s = rebuilt s t (loc-of (view w u) t) (type-at (view w u) t) tys
+
 module _ (w₀ : List ℕ) (u : Used) (w : List ℕ) (cur : Used) (t : ℕ) (h : Lay w₀ u) (i : t < u .nodes) (g : Grown (view w₀ u) (view w cur)) where
-  node-kept : (ds : List Struct) → node (seen w cur ds) t ≡ node (seen w₀ u ds) t
+  node-kept : (ds : List Struct) → node (seen w cur ds) t ≡ node (view w₀ u) t
   unfolding node seen with-structs
-  node-kept ds = front-at (view w₀ u .nodes) (view w cur .nodes) nowhere t (g .nodes) (rw (nodes-count w₀ u) i)
+  node-kept ds = front-at (view w₀ u .nodes) (view w cur .nodes) nowhere t (g .nodes) (omega (arith, count-view w₀ u))
 
-  loc-kept : (ds : List Struct) → loc-of (seen w cur ds) t ≡ loc-of (seen w₀ u ds) t
-  unfolding loc-of
-  loc-kept ds = ap (λ (x : d.Node). x .loc) (node-kept ds)
-
-  seen-grown : (ds : List Struct) → Grown (seen w₀ u ds) (seen w cur ds)
-  unfolding seen with-structs
-  seen-grown ds = record { nodes = g .nodes; args = g .args; vars = g .vars; constraints = g .constraints; structs = record { rest = []; is = sym (append-nil ds) } }
-
-  pub value-kept : (ds : List Struct) → type-at (seen w cur ds) t ≡ type-at (seen w₀ u ds) t
-  unfolding type-at
+  value-kept : (ds : List Struct) → type-at (seen w cur ds) t ≡ type-at (view w₀ u) t
+  unfolding type-at with-args args-at seen with-structs
   value-kept ds =
-      ap (λ (x : d.Node). with-args (seen w cur ds) (x .value)) (node-kept ds)
-      ∙ shape-kept t (node (seen w₀ u ds) t .value) (seen-grown ds) (inside-seen w₀ u ds h .parts t (rw (count-seen w₀ u ds) i))
+      ap (λ (x : d.Node). with-args (view w cur) (x .value)) (node-kept ds) ∙ shape-kept t (node (view w₀ u) t .value) g (h .inside .parts t (omega (arith, count-view w₀ u)))
 
-  pub rebuilt-kept : (tys : List ℕ) (ds : List Struct) → rebuilt-at (seen w cur ds) t tys ≡ rebuilt (seen w cur ds) t (loc-of (seen w₀ u ds) t) (type-at (seen w₀ u ds) t) tys
-  unfolding rebuilt-at
-  rebuilt-kept tys ds = ap₂ (λ (l : ℕ) (x : d.Type-value). rebuilt (seen w cur ds) t l x tys) (loc-kept ds) (value-kept ds)
+  pub anew-kept : {w′ : List ℕ} {r : Step} (tys : List ℕ) → After w cur w′ r (λ s. rebuilt-at s t tys) → After w cur w′ r (anew-with w₀ u t tys)
+  unfolding rebuilt-at anew-with loc-of
+  anew-kept tys a = after-is (λ ds k. ap₂ (λ (x : d.Node) (y : d.Type-value). rebuilt (seen w cur ds) t (x .loc) y tys) (node-kept ds) (value-kept ds)) a
 
 -- ---- the table of ends, in a state that has grown
 
@@ -353,7 +316,7 @@ module _ (w₀ : List ℕ) (u : Used) (w : List ℕ) (cur : Used) (h : Lay w₀ 
     where
       go : (o : Option ℕ) → get (seen w₀ u ds) v ≡ o → next-in (seen w cur ds) o ≡ next-in (seen w₀ u ds) o
       go none e = refl
-      go (some t) e = ap as-var (value-kept w₀ u w cur t h (rw (count-seen w₀ u ds) at (inside-seen w₀ u ds h .bindings v t e)) g ds)
+      go (some t) e = ap as-var (value-kept w₀ u w cur t h (rw (count-seen w₀ u ds) at (inside-seen w₀ u ds h .bindings v t e)) g ds ∙ sym (type-view w₀ u t ds))
 
   forward-kept : (n : ℕ) (ds : List Struct) (v : ℕ) → forward n (seen w cur ds) v ≡ forward n (seen w₀ u ds) v
   unfolding forward
@@ -371,228 +334,48 @@ module _ (w₀ : List ℕ) (u : Used) (w : List ℕ) (cur : Used) (h : Lay w₀ 
   known-kept : (ends : List ℕ) → Ends-known w₀ u ends → Ends-known w cur ends
   known-kept ends t = record { short = t .short; is = λ v p ds. t .is v p ds ∙ sym (end-kept ds v) }
 
+-- the ends stay known while a type is made ready
+pub known-after : {w : List ℕ} {cur : Used} (left t : ℕ) {w₁ : List ℕ} {a : Step} {b : Found} {x : ℕ} {ends : List ℕ} → Lay w cur → After w cur w₁ a (λ s. ready left s t) → b ≡ done (a .out) → b ≡ Just x → Ends-known w cur ends
+    → Ends-known w₁ (a .used) ends
+known-after {w} {cur} left t {w₁} {a} {b} {x} {ends} h f p q =
+    known-kept w cur w₁ (a .used) h (f .changed .grown) (λ ds. vars-same left (seen w cur ds) (seen w₁ (a .used) ds) t x (sym (done-ok (a .out) (seen w₁ (a .used) ds) x (sym p ∙ q) ∙ f .changed .is ds tt))) ends
+
 -- ---- the parts, one after the other
 
-few-parts : (s : State) (t : ℕ) (sh : d.Shape Places) → Below (s .args) t sh → length (parts (with-args s sh)) ≤ 8
-unfolding parts with-args args-at
-few-parts s t d.UnitType b = omega arith
-few-parts s t (d.Ref m p) b = omega arith
-few-parts s t (d.Param id a) b = omega arith
-few-parts s t (d.Apply k n p) b = simp (length-take, length-drop) (let l = b .0 in omega arith)
-few-parts s t (d.Var v) b = omega arith
-few-parts s t d.Anything b = omega arith
-few-parts s t d.UnresolvedError b = omega arith
+module _ (w₀ : List ℕ) (u : Used) (t many : ℕ) (h : Lay w₀ u) (i : t < u .nodes) (p : Has-parts w₀ u t many) where
+  below : Below (view w₀ u .args) t (node (view w₀ u) t .value)
+  below = h .inside .parts t (omega (arith, count-view w₀ u))
 
-map-cons : (f : Ready) (s : State) (t : ℕ) (ts : List ℕ) → map-types f s (t ∷ ts) ≡ (f s t >>= (λ x. map-types f (x .0) ts >>= (λ y. ok (y .0, x .1 ∷ y .1))))
-unfolding map-types
-map-cons f s t ts = refl
+  low : Low (view w₀ u) t (node (view w₀ u) t .value)
+  low = below-low (view w₀ u) t (node (view w₀ u) t .value) below
 
--- what was made ready, before what comes
-unfoldable pub onto : List ℕ → Result (State × List ℕ) → Result (State × List ℕ)
-onto l r = r >>= (λ y. ok (y .0, l ++ y .1))
+  long : length (parts-of w₀ u t) ≡ many
+  long = sym (ap (λ (x : d.Type-value). length (parts x)) (type-view w₀ u t [])) ∙ p []
 
-onto-next : (l : List ℕ) (x : ℕ) (r : Result (State × List ℕ)) → onto l (r >>= (λ y. ok (y .0, x ∷ y .1))) ≡ onto (l ++ (x ∷ [])) r
-unfolding onto _>>=_
-onto-next l x (ok y) = ap (λ (z : List ℕ). ok (y .0, z)) (sym (append-assoc l (x ∷ []) (y .1)))
-onto-next l x (err s e) = refl
-onto-next l x (refused y) = refl
+  counted : many ≡ part-count (node (view w₀ u) t .value)
+  unfolding type-at
+  counted = sym long ∙ low .many
 
-map-next : (f : Ready) (s s₁ : State) (t x : ℕ) (ts l : List ℕ) → f s t ≡ ok (s₁, x) → onto l (map-types f s (t ∷ ts)) ≡ onto (l ++ (x ∷ [])) (map-types f s₁ ts)
-unfolding map-types _>>=_
-map-next f s s₁ t x ts l e = ap (onto l) (rw (e, map-types) refl) ∙ onto-next l x (map-types f s₁ ts)
+  pub parts-start : (left : ℕ) {tys : List ℕ} → length tys ≡ 8 → Walked Any (ready left) (anew-with w₀ u t) (parts-of w₀ u t) many w₀ u w₀ u tys 0
+  parts-start left e = walk-start h long (rw counted (few-parts (view w₀ u .args) t (node (view w₀ u) t .value) below)) e
 
--- what was made ready with one more, and what follows all
-then-all : List ℕ → (State × List ℕ → Result (State × ℕ)) → ℕ → Result (State × List ℕ) → Result (State × ℕ)
-then-all l k x m = _>>=_ {A = State × List ℕ} (m >>= (λ y. ok (y .0, x ∷ y .1))) (λ y. k (y .0, l ++ y .1))
+  -- the walk over the parts is a level of ready_tvars
+  pub parts-walked : (left : ℕ) {w′ : List ℕ} {r : Step} → After w₀ u w′ r (rest (ready left) (anew-with w₀ u t) [] (parts-of w₀ u t)) → After w₀ u w′ r (λ s. by-parts-at (λ s t. ready left s t) s t)
+  unfolding by-parts-at by-parts rest anew-with type-at loc-of with-args args-at node seen with-structs
+  parts-walked left a = after-is (λ ds k. refl) a
 
-onto-then : (l : List ℕ) (k : State × List ℕ → Result (State × ℕ)) (m : Result (State × List ℕ)) → (onto l m >>= k) ≡ (m >>= (λ y. k (y .0, l ++ y .1)))
-unfolding onto _>>=_
-onto-then l k (ok y) = refl
-onto-then l k (err s e) = refl
-onto-then l k (refused x) = refl
+  -- when rows were added
+  module _ (w : List ℕ) (cur : Used) (g : Grown (view w₀ u) (view w cur)) where
+    pub parts-kept : Has-parts w cur t many
+    parts-kept ds = ap (λ (x : d.Type-value). length (parts x)) (value-kept w₀ u w cur t h i g ds) ∙ long
 
--- .. after its first part
-map-first : (f : Ready) (s : State) (t : ℕ) (ts l : List ℕ) (k : State × List ℕ → Result (State × ℕ)) → (f s t >>= (λ x. then-all l k (x .1) (map-types f (x .0) ts))) ≡ (onto l (map-types f s (t ∷ ts)) >>= k)
-unfolding then-all
-map-first f s t ts l k =
-    sym (onto-then l k (map-types f s (t ∷ ts))
-    ∙ ap (λ (m : Result (State × List ℕ)). m >>= (λ y. k (y .0, l ++ y .1))) (map-cons f s t ts)
-    ∙ bind-bind (f s t) (λ x. map-types f (x .0) ts >>= (λ y. ok (y .0, x .1 ∷ y .1))) (λ y. k (y .0, l ++ y .1)))
+    module _ {j r : ℕ} (l : j < many) (e : (ds : List Struct) → j < length (parts (type-at (seen w cur ds) t)) → r ≡ getD (parts (type-at (seen w cur ds) t)) j 0) where
+      pub part-kept : r ≡ getD (parts-of w₀ u t) j 0
+      part-kept = e [] (rw (parts-kept []) l) ∙ ap (λ (x : d.Type-value). getD (parts x) j 0) (value-kept w₀ u w cur t h i g [])
 
-map-end : (f : Ready) (s : State) (l : List ℕ) → onto l (map-types f s []) ≡ ok (s, l)
-unfolding onto map-types _>>=_
-map-end f s l = ap (λ (z : List ℕ). ok (s, z)) (append-nil l)
-
-map-start : (r : Result (State × List ℕ)) → onto [] r ≡ r
-unfolding onto _>>=_
-map-start (ok y) = refl
-map-start (err s e) = refl
-map-start (refused y) = refl
-
--- where the loop stands: i parts are ready, and the rest comes to what all come to
-pub record Going (w₀ : List ℕ) (u : Used) (t many left : ℕ) (w tys : List ℕ) (cur : Used) (i : ℕ) : Type 0 where
-  pub start : Lay w₀ u
-  pub in-nodes : t < u .nodes
-  pub has : Has-parts w₀ u t many
-  pub lay : Lay w cur
-  pub grown : Grown (view w₀ u) (view w cur)
-  pub structs : view w cur .structs ≡ view w₀ u .structs
-  pub le : i ≤ many
-  pub few : many ≤ 8
-  pub size : length tys ≡ 8
-  pub done-parts : Parts-in (cur .nodes) tys i
-  pub is : (ds : List Struct) → onto (take i tys) (map-types (λ s t. ready left s t) (seen w cur ds) (drop i (parts (type-at (seen w₀ u ds) t))))
-      ≡ map-types (λ s t. ready left s t) (seen w₀ u ds) (parts (type-at (seen w₀ u ds) t))
-
-pub going-start : (w : List ℕ) (u : Used) (t many left : ℕ) (tys : List ℕ) → Lay w u → t < u .nodes → Has-parts w u t many → length tys ≡ 8 → Going w u t many left w tys u 0
-unfolding type-at
-going-start w u t many left tys h i p z = record {
-  start = h;
-  in-nodes = i;
-  has = p;
-  lay = h;
-  grown = grown-refl (view w u);
-  structs = refl;
-  le = omega arith;
-  few = rw (p []) at (few-parts (seen w u []) t (node (seen w u []) t .value) (inside-seen w u [] h .parts t (rw (count-seen w u []) i)));
-  size = z;
-  done-parts = record { few = omega arith; below = λ j l. absurd (not-suc-le-zero l) };
-  is = λ ds. map-start _;
-}
-
-length-front : {A : Type 0} {l m : List A} → Front l m → length l ≤ length m
-length-front {l = l} f = rw (f .is, length-append l (f .rest)) (omega arith)
-
-nodes-grow : (w : List ℕ) (u : Used) (w′ : List ℕ) (u′ : Used) → Grown (view w u) (view w′ u′) → u .nodes ≤ u′ .nodes
-nodes-grow w u w′ u′ g =
-    let c = length-front (g .nodes) in
-    let k = nodes-count w u in
-    let n = nodes-count w′ u′ in
-    omega arith
-
-module _ {w₀ : List ℕ} {u : Used} {t many left : ℕ} {w tys : List ℕ} {cur : Used} {i : ℕ} (g : Going w₀ u t many left w tys cur i) where
-  -- the parts
-  abbrev all : List Struct → List ℕ
-  all ds = parts (type-at (seen w₀ u ds) t)
-
-  -- node t, once its parts are ready
-  abbrev finish : List Struct → State × List ℕ → Result (State × ℕ)
-  finish ds y = rebuilt (y .0) t (loc-of (seen w₀ u ds) t) (type-at (seen w₀ u ds) t) (y .1)
-
-  pub going-node : t < cur .nodes
-  going-node = let a = nodes-grow w₀ u w cur (g .grown) in let b = g .in-nodes in omega arith
-
-  pub going-has : Has-parts w cur t many
-  going-has ds = ap (λ (x : d.Type-value). length (parts x)) (value-kept w₀ u w cur t (g .start) (g .in-nodes) (g .grown) ds) ∙ g .has ds
-
-  by-list : (ds : List Struct) → (map-types (λ s t. ready left s t) (seen w₀ u ds) (all ds) >>= finish ds) ≡ by-parts-at (λ s t. ready left s t) (seen w₀ u ds) t
-  unfolding by-parts-at by-parts
-  by-list ds = refl
-
-  end : many ≤ i → i ≡ many
-  end l = let a = g .le in omega arith
-
-  pub going-parts : many ≤ i → Parts-in (cur .nodes) tys many
-  going-parts l = subst (λ (k : ℕ). Parts-in (cur .nodes) tys k) (end l) (g .done-parts)
-
-  pub going-done : many ≤ i → (w′ : List ℕ) (r : Step) → After w cur w′ r (λ s. rebuilt-at s t (take many tys)) → After w₀ u w′ r (λ s. by-parts-at (λ s t. ready left s t) s t)
-  unfolding _>>=_
-  going-done l w′ r a = record {
-    changed = record {
-      lay = a .changed .lay;
-      grown = grown-trans _ _ _ (g .grown) (a .changed .grown);
-      structs = a .changed .structs ∙ g .structs;
-      is = λ ds k.
-          a .changed .is ds k
-          ∙ rebuilt-kept w₀ u w cur t (g .start) (g .in-nodes) (g .grown) (take many tys) ds
-          ∙ ap (λ (m : Result (State × List ℕ)). m >>= finish ds) (sym (map-end (λ s t. ready left s t) (seen w cur ds) (take many tys))
-          ∙ sym (ap₂ (λ (a : List ℕ) (b : List ℕ). onto a (map-types (λ s t. ready left s t) (seen w cur ds) b)) (ap (λ (k : ℕ). take k tys) (end l)) (none-left ds))
-          ∙ g .is ds)
-          ∙ by-list ds;
-    };
-    inside = a .inside;
-  }
-    where
-      none-left : (ds : List Struct) → drop i (all ds) ≡ []
-      none-left ds = drop-of-length-le (all ds) {i = i} (rw (g .has ds) l)
-
-  module _ (p : ℕ) (l : i < many) (e : (ds : List Struct) → i < length (parts (type-at (seen w cur ds) t)) → p ≡ getD (parts (type-at (seen w cur ds) t)) i 0) where
-    part : (ds : List Struct) → p ≡ getD (all ds) i 0
-    part ds = e ds (rw (going-has ds) l) ∙ ap (λ (x : d.Type-value). getD (parts x) i 0) (value-kept w₀ u w cur t (g .start) (g .in-nodes) (g .grown) ds)
-
-    pub going-in : p < cur .nodes
-    going-in =
-        let a = part [] in
-        let k : i < length (all []) = rw (g .has []) l in
-        let b = parts-low (seen w₀ u []) (inside-seen w₀ u [] (g .start)) t (rw (count-seen w₀ u []) (g .in-nodes)) i k in
-        let c = going-node in
-        omega arith
-
-    split : (ds : List Struct) → drop i (all ds) ≡ p ∷ drop (i + 1) (all ds)
-    split ds =
-        let k : i < length (all ds) = rw (g .has ds) l in
-        rw (add-one i) (drop-cons (all ds) i 0 k ∙ ap (λ (x : ℕ). x ∷ drop (suc i) (all ds)) (sym (part ds)))
-
-    from-here : (ds : List Struct) → onto (take i tys) (map-types (λ s t. ready left s t) (seen w cur ds) (p ∷ drop (i + 1) (all ds))) ≡ map-types (λ s t. ready left s t) (seen w₀ u ds) (all ds)
-    from-here ds = ap (λ (x : List ℕ). onto (take i tys) (map-types (λ s t. ready left s t) (seen w cur ds) x)) (sym (split ds)) ∙ g .is ds
-
-    module _ (w₁ : List ℕ) (a : Step) (f : After w cur w₁ a (λ s. ready left s p)) (b : Found) (z : b ≡ done (a .out)) where
-      pub going-stop : b ≡ Nothing → After w₀ u w₁ a (λ s. by-parts-at (λ s t. ready left s t) s t)
-      going-stop y = record {
-        changed = record {
-          lay = f .changed .lay;
-          grown = grown-trans _ _ _ (g .grown) (f .changed .grown);
-          structs = f .changed .structs ∙ g .structs;
-          is = λ ds k.
-              after-stop (λ x. then-all (take i tys) (finish ds) (x .1) (map-types (λ s t. ready left s t) (x .0) (drop (i + 1) (all ds)))) f z y .changed .is ds k
-              ∙ map-first (λ s t. ready left s t) (seen w cur ds) p (drop (i + 1) (all ds)) (take i tys) (finish ds)
-              ∙ ap (λ (m : Result (State × List ℕ)). m >>= finish ds) (from-here ds)
-              ∙ by-list ds;
-        };
-        inside = f .inside;
-      }
-
-      made : (x : ℕ) → b ≡ Just x → (ds : List Struct) → ready left (seen w cur ds) p ≡ ok (seen w₁ (a .used) ds, x)
-      made x y ds = sym (f .changed .is ds tt) ∙ ap (λ (o : Out). outcome o (seen w₁ (a .used) ds)) (done-is (a .out) x (sym z ∙ y)) ∙ done-ok x (seen w₁ (a .used) ds)
-
-      -- the part's number is short
-      pub going-short : (x : ℕ) → b ≡ Just x → x < 65536
-      going-short x y = let k = done-in (a .out) (a .used .nodes) x b (f .inside) z y in let n = f .changed .lay .nodes in omega arith
-
-      pub going-on : (x : ℕ) → b ≡ Just x → Going w₀ u t many left w₁ (set tys i x) (a .used) (i + 1)
-      going-on x y = record {
-        start = g .start;
-        in-nodes = g .in-nodes;
-        has = g .has;
-        lay = f .changed .lay;
-        grown = grown-trans _ _ _ (g .grown) (f .changed .grown);
-        structs = f .changed .structs ∙ g .structs;
-        le = omega arith;
-        few = g .few;
-        size = length-set tys i x ∙ g .size;
-        done-parts = record { few = let n = g .few in omega arith; below = λ j k. below-more j k (ℕ-discrete j i) };
-        is = λ ds. sym (next ds) ∙ from-here ds;
-      }
-        where
-          short : i < length tys
-          short = let n = g .few in let k = g .size in omega arith
-
-          fronts : take (i + 1) (set tys i x) ≡ take i tys ++ (x ∷ [])
-          fronts = rw (add-one i) (take-suc-set tys i x short)
-
-          next : (ds : List Struct) → onto (take i tys) (map-types (λ s t. ready left s t) (seen w cur ds) (p ∷ drop (i + 1) (all ds)))
-              ≡ onto (take (i + 1) (set tys i x)) (map-types (λ s t. ready left s t) (seen w₁ (a .used) ds) (drop (i + 1) (all ds)))
-          next ds =
-              map-next (λ s t. ready left s t) (seen w cur ds) (seen w₁ (a .used) ds) p x (drop (i + 1) (all ds)) (take i tys) (made x y ds)
-              ∙ ap (λ (k : List ℕ). onto k (map-types (λ s t. ready left s t) (seen w₁ (a .used) ds) (drop (i + 1) (all ds)))) (sym fronts)
-
-          below-more : (j : ℕ) → j < i + 1 → Dec (j ≡ i) → getD (set tys i x) j 0 < a .used .nodes
-          below-more j k (yes q) = rw (q, getD-set-same tys i x 0 short) (done-in (a .out) (a .used .nodes) x b (f .inside) z y)
-          below-more j k (no q) = rw (getD-set-other tys i j x 0 q) (let p = g .done-parts .below j (omega arith) in let m = nodes-grow w cur w₁ (a .used) (f .changed .grown) in omega arith)
-
-      -- what is noted of the ends still holds
-      pub going-known : (x : ℕ) → b ≡ Just x → (ends : List ℕ) → Ends-known w cur ends → Ends-known w₁ (a .used) ends
-      going-known x y ends = known-kept w cur w₁ (a .used) (g .lay) (f .changed .grown) (λ ds. vars-same left (seen w cur ds) (seen w₁ (a .used) ds) p x (made x y ds)) ends
+      pub part-in : r < cur .nodes
+      unfolding type-at
+      part-in = still-in w₀ u w cur r g (omega (arith, i, part-kept, low .low j (rw counted at l)))
 
 -- ---- a landing
 
@@ -605,14 +388,14 @@ module _ (w : List ℕ) (u : Used) (t calls : ℕ) (h : Lay w u) (r : Landing) (
   lands-spent z = after-now h tt (λ ds k. lands-at Spent z ds)
 
   pub lands-open : (loc : ℕ) (v : TVar) → r ≡ OpenL loc v → (w′ : List ℕ) (a : Step) → After w u w′ a (λ s. sp s loc (d.Var (v .0))) → After w u w′ a (λ s. ready calls s t)
-  lands-open loc v z w′ a f = after-at w u w′ a _ _ (lands-at (OpenL loc v) z) f
+  lands-open loc v z w′ a f = after-is (λ ds k. lands-at (OpenL loc v) z ds) f
 
   module _ (x many left : ℕ) (z : r ≡ PartsL x many left) where
     pub lands-in : Landing-in w u calls (PartsL x many left)
     lands-in = subst (Landing-in w u calls) z (g .inside)
 
     pub lands-parts : (w′ : List ℕ) (a : Step) → After w u w′ a (λ s. by-parts-at (λ s t. ready left s t) s x) → After w u w′ a (λ s. ready calls s t)
-    lands-parts w′ a f = after-at w u w′ a _ _ (lands-at (PartsL x many left) z) f
+    lands-parts w′ a f = after-is (λ ds k. lands-at (PartsL x many left) z ds) f
 
     bare : (s : State) (l : List ℕ) → parts (type-at s x) ≡ l → length l ≡ 0 → rebuilt-at s x [] ≡ by-parts-at (λ s t. ready left s t) s x
     unfolding rebuilt-at by-parts-at by-parts map-types _>>=_
@@ -620,7 +403,7 @@ module _ (w : List ℕ) (u : Used) (t calls : ℕ) (h : Lay w u) (r : Landing) (
     bare s (y ∷ ys) e m = absurd (omega arith)
 
     pub lands-bare : many ≡ 0 → (w′ : List ℕ) (a : Step) → After w u w′ a (λ s. rebuilt-at s x []) → After w u w′ a (λ s. ready calls s t)
-    lands-bare m w′ a f = lands-parts w′ a (after-at w u w′ a _ _ (λ ds. bare (seen w u ds) (parts (type-at (seen w u ds) x)) refl (lands-in .1 .1 ds ∙ m)) f)
+    lands-bare m w′ a f = lands-parts w′ a (after-is (λ ds k. bare (seen w u ds) (parts (type-at (seen w u ds) x)) refl (lands-in .1 .1 ds ∙ m)) f)
 
 -- ---- the whole run
 
@@ -631,7 +414,7 @@ module _ (w : List ℕ) (u : Used) (t : ℕ) (h : Lay w u) (b : Bool) (e : (ds :
 
   pub run-on : b ≡ false → (w′ : List ℕ) (r : Step) → After w u w′ r (λ s. ready (u .nodes * 2) s t) → After w u w′ r (λ s. ready-tvars s t)
   unfolding ready-tvars
-  run-on z w′ r a = after-at w u w′ r _ _ (λ ds.
+  run-on z w′ r a = after-is (λ ds k.
       let y = sym (e ds) ∙ z in
       let n : u .nodes * 2 ≡ 2 * count (seen w u ds) = rw (count-seen w u ds) (omega arith) in
       ap (λ (k : ℕ). ready k (seen w u ds) t) n ∙ sym (rw (y, ready-tvars) refl)) a

@@ -6,21 +6,20 @@ use mathlib.Core.Option.{Option, none, some}
 use Prim.Native.Nat.{ℕ, zero, suc, _-_, _<_, _≤_}
 use native.Mathlib.Nat.{not-suc-le-zero}
 use native.Mathlib.Numerals.{sub-one}
-use Rattle.definition.specs.Types as d
 use Rattle.definition.specs.Types.{State, Struct, ok, err, RecursiveType}
-use Rattle.definition.specs.Store.{count, taken, node, with-args, type-at, loc-of, get, num-loc, insert, with-structs}
+use Rattle.definition.specs.Store.{node, with-args, type-at, get, num-loc, insert, with-structs}
 use Rattle.definition.specs.Subst.{as-var, is-anything, next-in, next-of, forward, forward-tvar}
 use Rattle.definition.specs.Join.{is-num-var, num-shape, check-num-tvar′, check-num-tvar, used, join-bind-tvar}
-use Rattle.table.specs.Rows.{node-table, var-table}
-use Rattle.table.specs.State.{found, shape-of, node-of, view, seen, Lay, Stored, Inside}
+use Rattle.table.specs.State.{found, shape-of, node-of, seen, Lay, Stored, Inside}
 use Rattle.table.specs.declared.Used.{Used}
 use Rattle.table.specs.declared.Node.{Node}
 use Rattle.table.specs.declared.Found.{Found}
 use Rattle.table.specs.declared.Found.the-variants.{Nothing, Just}
-use Rattle.table.proofs.Rows.{length-entries}
-use Rattle.table.proofs.Steps.{grown-refl}
+use Rattle.table.proofs.Steps.{refines-now, refines-is, refines-as}
+use Rattle.table.proofs.Grown.{value-is}
+use Rattle.table.proofs.Pushed.{taken-seen}
 use Rattle.names.specs.declared.TVar.{TVar}
-use Rattle.shapes.specs.Parts.{next, part-count}
+use Rattle.shapes.specs.Parts.{next}
 use Rattle.subst.specs.Answers.{bound, Binds}
 use Rattle.shapes.specs.declared.Next.{Next}
 use Rattle.shapes.specs.declared.Next.the-variants.{Last, To}
@@ -29,25 +28,9 @@ use Rattle.subst.specs.declared.Binding.the-variants.{Bound, Failed, Rec
 
 -- ---- the state that the words hold
 
-pub taken-seen : (w : List ℕ) (u : Used) (ds : List Struct) → taken (seen w u ds) ≡ u .vars
-unfolding seen view with-structs
-taken-seen w u ds = length-entries var-table w (u .vars)
-
-pub count-seen : (w : List ℕ) (u : Used) (ds : List Struct) → count (seen w u ds) ≡ u .nodes
-unfolding seen view with-structs
-count-seen w u ds = length-entries node-table w (u .nodes)
-
 pub inside-seen : (w : List ℕ) (u : Used) (ds : List Struct) → Lay w u → Inside (seen w u ds)
 unfolding seen with-structs node get
 inside-seen w u ds h = record { parts = h .inside .parts; bindings = h .inside .bindings }
-
-pub value-is : (s : State) (t : ℕ) (n : Node) → node-of n ≡ node s t → with-args s (shape-of (n .shape)) ≡ type-at s t
-unfolding type-at
-value-is s t n e = ap (λ (x : d.Node). with-args s (x .value)) e
-
-pub loc-is : (s : State) (t : ℕ) (n : Node) → node-of n ≡ node s t → n .loc ≡ loc-of s t
-unfolding loc-of
-loc-is s t n e = ap (λ (x : d.Node). x .loc) e
 
 pub var-of : (s : State) (t : ℕ) (n : Node) (r : Next) → node-of n ≡ node s t → ((st : State) → next r ≡ as-var (with-args st (shape-of (n .shape)))) → as-var (type-at s t) ≡ next r
 var-of s t n r e f = sym (f s ∙ ap as-var (value-is s t n e))
@@ -170,7 +153,7 @@ All w u P = (ds : List Struct) → P (seen w u ds)
 
 module _ (w : List ℕ) (u : Used) (tvar ty : ℕ) where
   stays : (r : Binding) → Lay w u → ((ds : List Struct) (loc : ℕ) → bound r loc (seen w u ds) ≡ join-bind-tvar (seen w u ds) loc tvar ty) → Binds w u w r tvar ty
-  stays r h e = record { lay = h; grown = grown-refl (view w u); structs = refl; is = e }
+  stays r h e = refines-now h (λ ds k i loc. e ds loc i)
 
   pub binds-failed : Lay w u → (b : Bool) → All w u (λ s. b ≡ check-num-tvar s tvar ty) → not b ≡ true → Binds w u w Failed tvar ty
   binds-failed h b c z = stays Failed h (λ ds loc. bind-failed (seen w u ds) loc tvar ty (sym (c ds) ∙ is-not b true z))
@@ -191,9 +174,5 @@ module _ (w : List ℕ) (u : Used) (tvar ty : ℕ) where
       binds-anything h z = stays Bound h (λ ds loc. bind-anything (seen w u ds) loc tvar ty (sym (c ds) ∙ bt) (sym (e ds) ∙ ot) (is-any ds ∙ z))
 
       pub binds-stored : (w′ : List ℕ) → Stored w u w′ (λ s. insert s tvar ty) → a ≡ false → Binds w u w′ Bound tvar ty
-      binds-stored w′ h z = record {
-        lay = h .lay;
-        grown = h .grown;
-        structs = h .structs;
-        is = λ ds loc. ap (λ (s : State). ok (s, true)) (h .is ds tt) ∙ bind-stored (seen w u ds) loc tvar ty (sym (c ds) ∙ bt) (sym (e ds) ∙ ot) (is-any ds ∙ z);
-      }
+      binds-stored w′ h z =
+          refines-is (λ ds k i loc. bind-stored (seen w u ds) loc tvar ty (sym (c ds) ∙ bt) (sym (e ds) ∙ ot) (is-any ds ∙ z) i) (refines-as (λ s loc. ok (s, true)) h (λ s. refl))

@@ -17,10 +17,12 @@ use Rattle.table.specs.State.{shape-of, node-of, seen, Lay, Below, Inside}
 use Rattle.table.specs.declared.Used.{Used}
 use Rattle.table.specs.declared.Shape.{Shape}
 use Rattle.table.specs.declared.Node.{Node}
+use Rattle.table.proofs.Grown.{value-is}
+use Rattle.table.proofs.Pushed.{count-seen}
 use Rattle.shapes.specs.Parts.{part-count}
 use Rattle.subst.specs.Answers.{Clear}
 use Rattle.subst.proofs.Lists.{any-same, any-none, any-one, or-true}
-use Rattle.subst.proofs.Laws.{count-seen, inside-seen, value-is}
+use Rattle.subst.proofs.Laws.{inside-seen}
 
 -- ---- the parts of node t
 
@@ -49,7 +51,7 @@ module _ (s : State) (inside : Inside s) (t : ℕ) (h : t < count s) where
   node-low : Low s t (node s t .value)
   node-low = below-low s t (node s t .value) (inside .parts t h)
 
-  pub parts-low : (i : ℕ) → i < length (parts (type-at s t)) → getD (parts (type-at s t)) i 0 < t
+  parts-low : (i : ℕ) → i < length (parts (type-at s t)) → getD (parts (type-at s t)) i 0 < t
   unfolding type-at
   parts-low i p = node-low .low i (rw (node-low .many) at p)
 

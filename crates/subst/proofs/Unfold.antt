@@ -8,12 +8,14 @@ use native.Mathlib.Numerals.{sub-one}
 use Rattle.definition.specs.Types.{State, Struct}
 use Rattle.definition.specs.Store.{node, type-at, loc-of, spanned, get, with-args}
 use Rattle.definition.specs.Subst.{as-var, next-of, forward-tvar, unfold-var, unfold-type, mark-one, mark-chain, set-num-var}
-use Rattle.table.specs.State.{found, shape-of, node-of, view, seen, Lay, Grown, Stored}
+use Rattle.table.specs.State.{found, shape-of, node-of, seen, Lay, Any, Refines, Stored}
 use Rattle.table.specs.declared.Used.{Used}
 use Rattle.table.specs.declared.Node.{Node}
 use Rattle.table.specs.declared.Found.{Found}
 use Rattle.table.specs.declared.Found.the-variants.{Nothing, Just}
-use Rattle.table.proofs.Steps.{grown-refl, grown-trans}
+use Rattle.table.proofs.Steps.{refines-is, refines-on, refines-as}
+use Rattle.table.proofs.Grown.{loc-is}
+use Rattle.table.proofs.Pushed.{taken-seen, count-seen}
 use Rattle.names.specs.declared.TVar.{TVar}
 use Rattle.shapes.specs.Parts.{next}
 use Rattle.subst.specs.Answers.{var-at, Unfolds}
@@ -21,7 +23,7 @@ use Rattle.shapes.specs.declared.Next.{Next}
 use Rattle.shapes.specs.declared.Next.the-variants.{Last, To}
 use Rattle.subst.specs.declared.Unfolded.{Unfolded}
 use Rattle.subst.specs.declared.Unfolded.the-variants.{Node as NodeU, Anything}
-use Rattle.subst.proofs.Laws.{taken-seen, count-seen, inside-seen, loc-is, var-of}
+use Rattle.subst.proofs.Laws.{inside-seen, var-of}
 
 -- ---- unfold_type
 
@@ -80,36 +82,20 @@ chain-none zero s v loc p = refl
 chain-none (suc n) s v loc p = absurd (not-suc-le-zero p)
 
 -- where the loop stands: what is left to mark comes to what was to be marked at the start
-pub record Marking (w₀ : List ℕ) (u : Used) (cur₀ loc left₀ : ℕ) (w : List ℕ) (cur left : ℕ) : Type 0 where
-  pub lay : Lay w u
-  pub grown : Grown (view w₀ u) (view w u)
-  pub structs : view w u .structs ≡ view w₀ u .structs
-  pub is : (ds : List Struct) → mark-chain left (seen w u ds) cur loc ≡ mark-chain left₀ (seen w₀ u ds) cur₀ loc
+abbrev pub Marking : List ℕ → Used → ℕ → ℕ → ℕ → List ℕ → ℕ → ℕ → Type 0
+Marking w₀ u cur₀ loc left₀ w cur left = Refines Any w₀ u w u (λ s. mark-chain left s cur loc) (λ s. mark-chain left₀ s cur₀ loc)
 
-pub marking-start : (w : List ℕ) (u : Used) (cur loc left : ℕ) → Lay w u → Marking w u cur loc left w cur left
-marking-start w u cur loc left h = record { lay = h; grown = grown-refl (view w u); structs = refl; is = λ ds. refl }
-
-module _ {w₀ : List ℕ} {u : Used} {cur₀ loc : ℕ} {w : List ℕ} {cur left : ℕ} (m : Marking w₀ u cur₀ loc (u .vars) w cur left) where
-  all-marked : (ds : List Struct) → mark-chain (u .vars) (seen w₀ u ds) cur₀ loc ≡ set-num-var (seen w₀ u ds) cur₀ loc
+module _ {w₀ : List ℕ} {u : Used} {w : List ℕ} (cur₀ loc cur left : ℕ) (m : Marking w₀ u cur₀ loc (u .vars) w cur left) where
+  all-marked : {w′ : List ℕ} → Stored w₀ u w′ (λ s. mark-chain (u .vars) s cur₀ loc) → Stored w₀ u w′ (λ s. set-num-var s cur₀ loc)
   unfolding set-num-var
-  all-marked ds = rw (taken-seen w₀ u ds) refl
+  all-marked a = refines-is (λ ds k. rw (taken-seen w₀ u ds) refl) a
 
   pub marking-out : left ≤ 0 → Stored w₀ u w (λ s. set-num-var s cur₀ loc)
-  marking-out z = record { lay = m .lay; grown = m .grown; structs = m .structs; is = λ ds k. sym (chain-none left (seen w u ds) cur loc z) ∙ m .is ds ∙ all-marked ds }
+  marking-out z = all-marked (refines-as (λ s. s) m (λ s. sym (chain-none left s cur loc z)))
 
   module _ (p : 0 < left) (w′ : List ℕ) (h : Stored w u w′ (λ s. mark-one s cur loc)) (r : Next) (e : (ds : List Struct) → next r ≡ next-of (seen w u ds) cur) where
     pub marking-last : r ≡ Last → Stored w₀ u w′ (λ s. set-num-var s cur₀ loc)
-    marking-last z = record {
-      lay = h .lay;
-      grown = grown-trans _ _ _ (m .grown) (h .grown);
-      structs = h .structs ∙ m .structs;
-      is = λ ds k. h .is ds k ∙ sym (chain-last left (seen w u ds) cur loc p (sym (e ds) ∙ ap next z)) ∙ m .is ds ∙ all-marked ds;
-    }
+    marking-last z = all-marked (refines-on (λ s. s) m (refines-is (λ ds k. sym (chain-last left (seen w u ds) cur loc p (sym (e ds) ∙ ap next z))) h))
 
     pub marking-on : (v : TVar) → r ≡ To v → Marking w₀ u cur₀ loc (u .vars) w′ (v .0) (left - 1)
-    marking-on v z = record {
-      lay = h .lay;
-      grown = grown-trans _ _ _ (m .grown) (h .grown);
-      structs = h .structs ∙ m .structs;
-      is = λ ds. ap (λ (s : State). mark-chain (left - 1) s (v .0) loc) (h .is ds tt) ∙ sym (chain-next left (seen w u ds) cur (v .0) loc p (sym (e ds) ∙ ap next z)) ∙ m .is ds;
-    }
+    marking-on v z = refines-on (λ s. s) m (refines-is (λ ds k. sym (chain-next left (seen w u ds) cur (v .0) loc p (sym (e ds) ∙ ap next z))) (refines-as (λ s. mark-chain (left - 1) s (v .0) loc) h (λ s. refl)))

@@ -9,7 +9,7 @@ use Rattle.definition.specs.Types.{State, Struct, Spanned, Type-value, Result, 
 use Rattle.definition.specs.Store.{spanned}
 use Rattle.definition.specs.Subst.{unfold-type}
 use Rattle.definition.specs.Join.{used, join-bind-tvar}
-use Rattle.table.specs.State.{view, seen, Lay, Grown}
+use Rattle.table.specs.State.{seen, Any, Refines}
 use Rattle.table.specs.declared.Used.{Used}
 use Rattle.subst.specs.declared.Unfolded.{Unfolded}
 use Rattle.subst.specs.declared.Unfolded.the-variants.{Node, Anything}
@@ -46,8 +46,5 @@ bound Failed loc s = ok (s, false)
 bound Recursive loc s = err s (RecursiveType loc)
 
 -- the words w became w′ and the answer r, as join-bind-tvar says, whatever the location and the declarations are
-pub record Binds (w : List ℕ) (u : Used) (w′ : List ℕ) (r : Binding) (tvar ty : ℕ) : Type 0 where
-  pub lay : Lay w′ u
-  pub grown : Grown (view w u) (view w′ u)
-  pub structs : view w′ u .structs ≡ view w u .structs
-  pub is : (ds : List Struct) (loc : ℕ) → bound r loc (seen w′ u ds) ≡ join-bind-tvar (seen w u ds) loc tvar ty
+abbrev pub Binds : List ℕ → Used → List ℕ → Binding → ℕ → ℕ → Type 0
+Binds w u w′ r tvar ty = Refines {A = ℕ → Result (State × Bool)} Any w u w′ u (λ s loc. bound r loc s) (λ s loc. join-bind-tvar s loc tvar ty)

@@ -2,7 +2,7 @@
 use Rattle.table.specs.State.{found}
 use Rattle.table.proofs.Steps.{after-now}
 use mathlib.Core.Path.{sym, ap, _∙_}
-use Rattle.merge.proofs.Laws.{close-bound, close-done, close-failed, close-recursive, bound-after, bound-then}
+use Rattle.merge.proofs.Laws.{close-bound, close-free, binds-done, binds-failed, binds-recursive}
 use borrow.Author.Needs.{needs}
 use Rattle.merge.proofs.close_tvar.Statement.{statement}
 use Rattle.merge.proofs.close_tvar.Tie as tie
@@ -55,9 +55,9 @@ returns-2 c =
     let bound-at = c .before .before .before .before .before .before .before .before .bound-at in
     let enum-told = c .before .before .before .before .before .before .enum-told in
     let join-bind-tvar = c .before .before .before .before .join-bind-tvar in
-    bound-after _ _ _ _ _ _ _ _ (join-bind-tvar .ensures) (pre .1 .1 .1 .0)
-    (λ ds. close-done _ _ _ _ _ _ _ _ _ _ _ (sym (ap found (enum-told .given .1)) ∙ bound-at .ensures ds)
-    (join-bind-tvar .ensures .is ds _) (c .enum-told2 .given .1))
+    binds-done _ _ _ _ _ _ _ (join-bind-tvar .ensures)
+    (λ ds. close-free _ _ _ _ _ _ _ _ _ (sym (ap found (enum-told .given .1)) ∙ bound-at .ensures ds))
+    (c .enum-told2 .given .1) (pre .1 .1 .1 .0)
 
 same-length-3 : tie.Need-same-length-3
 same-length-3 c = search needs
@@ -67,9 +67,9 @@ returns-3 c =
     let bound-at = c .before .before .before .before .before .before .before .before .before .before .before .before .bound-at in
     let enum-told = c .before .before .before .before .before .before .before .before .before .before .enum-told in
     let join-bind-tvar = c .before .before .before .before .before .before .before .before .join-bind-tvar in
-    bound-then _ _ _ _ _ _ _ _ _ _ (join-bind-tvar .ensures) (c .before .before .show-both .ensures)
-    (λ ds. close-failed _ _ _ _ _ _ _ _ _ _ _ (sym (ap found (enum-told .given .1)) ∙ bound-at .ensures ds)
-    (join-bind-tvar .ensures .is ds _) (c .before .before .before .before .enum-told3 .given .1))
+    binds-failed _ _ _ _ _ _ _ (join-bind-tvar .ensures)
+    (λ ds. close-free _ _ _ _ _ _ _ _ _ (sym (ap found (enum-told .given .1)) ∙ bound-at .ensures ds))
+    (c .before .before .before .before .enum-told3 .given .1) (c .before .before .show-both .ensures)
 
 same-length-4 : tie.Need-same-length-4
 same-length-4 c = search needs
@@ -79,9 +79,9 @@ returns-4 c =
     let bound-at = c .before .before .before .before .before .before .before .before .bound-at in
     let enum-told = c .before .before .before .before .before .before .enum-told in
     let join-bind-tvar = c .before .before .before .before .join-bind-tvar in
-    bound-after _ _ _ _ _ _ _ _ (join-bind-tvar .ensures) tt
-    (λ ds. close-recursive _ _ _ _ _ _ _ _ _ _ _ (sym (ap found (enum-told .given .1)) ∙ bound-at .ensures ds)
-    (join-bind-tvar .ensures .is ds _) (c .enum-told4 .given .1))
+    binds-recursive _ _ _ _ _ _ _ (join-bind-tvar .ensures)
+    (λ ds. close-free _ _ _ _ _ _ _ _ _ (sym (ap found (enum-told .given .1)) ∙ bound-at .ensures ds))
+    (c .enum-told4 .given .1)
 
 pub close-tvar-spec : {M : Type 1} → statement M
 close-tvar-spec =

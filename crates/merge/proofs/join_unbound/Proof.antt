@@ -1,5 +1,5 @@
 -- `merge::join_unbound` meets its contract. Assumes nothing.
-use Rattle.merge.proofs.Laws.{bound-after, unbound-done, unbound-failed, unbound-recursive}
+use Rattle.merge.proofs.Laws.{binds-done, binds-failed, binds-recursive, unbound-is, unbound-incompatible}
 use borrow.Author.Needs.{needs}
 use Rattle.merge.proofs.join_unbound.Statement.{statement}
 use Rattle.merge.proofs.join_unbound.Tie as tie
@@ -27,9 +27,8 @@ returns c =
     let pre = c .before .before .before .before .before .before .before .before .before .pre in
     let node-at = c .before .before .before .before .before .before .node-at in
     let join-bind-tvar = c .before .before .before .before .join-bind-tvar in
-    bound-after _ _ _ _ _ _ _ _ (join-bind-tvar .ensures) (pre .1 .1 .1 .0)
-    (λ ds. unbound-done _ _ _ _ _ _ _ (node-at .result) _ (node-at .ensures ds)
-    (λ loc. join-bind-tvar .ensures .is ds loc) (c .enum-told .given .1))
+    binds-done _ _ _ _ _ _ _ (join-bind-tvar .ensures)
+    (λ ds. unbound-is _ _ _ _ _ _ (node-at .result) (node-at .ensures ds)) (c .enum-told .given .1) (pre .1 .1 .1 .0)
 
 same-length-2 : tie.Need-same-length-2
 same-length-2 c = search needs
@@ -39,9 +38,9 @@ returns-2 c =
     let pre = c .before .before .before .before .before .before .before .before .before .pre in
     let node-at = c .before .before .before .before .before .before .node-at in
     let join-bind-tvar = c .before .before .before .before .join-bind-tvar in
-    bound-after _ _ _ _ _ _ _ _ (join-bind-tvar .ensures) (pre .1 .0, pre .1 .1 .0)
-    (λ ds. unbound-failed _ _ _ _ _ _ _ (node-at .result) _ (node-at .ensures ds)
-    (λ loc. join-bind-tvar .ensures .is ds loc) (c .enum-told2 .given .1))
+    binds-failed _ _ _ _ _ _ _ (join-bind-tvar .ensures)
+    (λ ds. unbound-is _ _ _ _ _ _ (node-at .result) (node-at .ensures ds)) (c .enum-told2 .given .1)
+    (unbound-incompatible _ _ (join-bind-tvar .ensures .lay) (pre .1 .0) (pre .1 .1 .0))
 
 same-length-3 : tie.Need-same-length-3
 same-length-3 c = search needs
@@ -50,9 +49,8 @@ returns-3 : tie.Need-returns-3
 returns-3 c =
     let node-at = c .before .before .before .before .before .before .node-at in
     let join-bind-tvar = c .before .before .before .before .join-bind-tvar in
-    bound-after _ _ _ _ _ _ _ _ (join-bind-tvar .ensures) tt
-    (λ ds. unbound-recursive _ _ _ _ _ _ _ (node-at .result) _ (node-at .ensures ds)
-    (λ loc. join-bind-tvar .ensures .is ds loc) (c .enum-told3 .given .1))
+    binds-recursive _ _ _ _ _ _ _ (join-bind-tvar .ensures)
+    (λ ds. unbound-is _ _ _ _ _ _ (node-at .result) (node-at .ensures ds)) (c .enum-told3 .given .1)
 
 pub join-unbound-spec : {M : Type 1} → statement M
 join-unbound-spec =

@@ -2,7 +2,12 @@
 use lib.ListN.{length-replicate}
 use borrow.Author.Needs.{needs}
 use native.Mathlib.Omega.{arith}
-use Rattle.ready.proofs.Run.{lands-in, lands-bare, lands-parts, lands-open, lands-spent, Going, going-start, going-node, going-has, going-parts, going-in, going-stop, going-short, going-on, going-known, going-done}
+use Rattle.ready.proofs.Run.{lands-in, lands-bare, lands-parts, lands-open, lands-spent, parts-of, anew-with, anew-kept, known-after, parts-start, parts-walked, parts-kept, part-kept, part-in}
+use Rattle.definition.specs.Subst as D
+use Rattle.table.specs.State.{Any}
+use Rattle.table.proofs.Steps.{after-done}
+use Rattle.table.proofs.Grown.{still-in}
+use Rattle.table.proofs.Walk.{Walked, walk-stop, walk-more, walk-end, walk-parts}
 use mathlib.Core.Path.{sym, _∙_}
 use Rattle.ready.specs.Ends.{Ends-known}
 use Prim.Native.Nat.{ℕ, _<_, _-_, _+_, _*_}
@@ -120,7 +125,8 @@ ready-returns-4 t c =
     lands-spent _ _ _ _ h _ g (c .enum-told .given .1)
 
 abbrev ready-types-Inv-loop : ready-types-lts.InvT-loop
-ready-types-Inv-loop w₀ t many left ends tys₀ cur₀ i₀ w tys cur i = Going w₀ cur₀ t many left w tys cur i × Ends-known w cur ends
+ready-types-Inv-loop w₀ t many left ends tys₀ cur₀ i₀ w tys cur i =
+    Walked Any (D.ready left) (anew-with w₀ cur₀ t) (parts-of w₀ cur₀ t) many w₀ cur₀ w cur tys i × Ends-known w cur ends
 
 abbrev ready-types-μ-loop : ready-types-lts.MeasureT-loop
 ready-types-μ-loop w₀ t many left ends tys₀ cur₀ i₀ w tys cur i = many - i
@@ -128,18 +134,19 @@ ready-types-μ-loop w₀ t many left ends tys₀ cur₀ i₀ w tys cur i = many 
 ready-types-loop-holds : (t : ℕ) → ready-types-lts.Need-loop-holds (ready-types-calls t) (ready-types-at t) ready-types.Post ready-types-Inv-loop ready-types-μ-loop
 ready-types-loop-holds t c =
     let p = c .before .before .pre .1 in
-    (going-start _ _ _ _ _ _ (p .0) (p .1 .0) (p .1 .1 .0) (length-replicate {A = ℕ} 8 0), p .1 .1 .1)
+    (parts-start _ _ _ _ (p .0) (p .1 .0) (p .1 .1 .0) _ (length-replicate {A = ℕ} 8 0), p .1 .1 .1)
 
 ready-types-part-of-requires : (t : ℕ) → ready-types-lts.Need-part-of-requires (ready-types-calls t) (ready-types-at t) ready-types.Post ready-types-Inv-loop ready-types-μ-loop
 ready-types-part-of-requires t c κs =
     let g = c .before .before .loop .inv .0 in
-    (g .lay, going-node g)
+    (g .changed .lay, still-in _ _ _ _ _ (g .changed .grown) (c .before .before .before .before .before .pre .1 .1 .0))
 
 ready-types-ready-requires : (t : ℕ) → ready-types-lts.Need-ready-requires (ready-types-calls t) (ready-types-at t) ready-types.Post ready-types-Inv-loop ready-types-μ-loop
 ready-types-ready-requires t c κs =
     let g = c .before .before .before .before .loop .inv .0 in
-    let m = c .before .before .before .before .before .before .before .pre .0 in
-    (omega arith, (g .lay, (going-in g _ (c .before .before .before .loop-test .taken) (c .before .part-of .ensures), c .before .before .before .before .loop .inv .1)))
+    let m = c .before .before .before .before .before .before .before .pre in
+    let q = m .1 in
+    (omega (arith, m .0), (g .changed .lay, (part-in _ _ _ _ (q .0) (q .1 .0) (q .1 .1 .0) _ _ (g .changed .grown) (c .before .before .before .loop-test .taken) (c .before .part-of .ensures), c .before .before .before .before .loop .inv .1)))
 
 ready-types-done-of-requires : (t : ℕ) → ready-types-lts.Need-done-of-requires (ready-types-calls t) (ready-types-at t) ready-types.Post ready-types-Inv-loop ready-types-μ-loop
 ready-types-done-of-requires t c κs = search needs
@@ -160,7 +167,10 @@ ready-types-returns t c =
     let p = c .before .before .before .before .before .before .before .before .before .part-of .ensures in
     let a = c .before .before .before .before .before .before .before .ready .ensures in
     let d = c .before .before .before .done-of .ensures in
-    rw (c .anew .ensures) (going-stop g _ l p _ _ a _ d (c .before .enum-told .given .1))
+    let q = c .before .before .before .before .before .before .before .before .before .before .before .before .before .before .before .pre .1 in
+    rw (c .anew .ensures)
+    (parts-walked _ _ _ _ (q .0) (q .1 .0) (q .1 .1 .0) _
+    (walk-stop g l (part-kept _ _ _ _ (q .0) (q .1 .0) (q .1 .1 .0) _ _ (g .changed .grown) l p) a d (c .before .enum-told .given .1)))
 
 ready-types-enum-known-x : (t : ℕ) → ready-types-lts.Need-enum-known-x (ready-types-calls t) (ready-types-at t) ready-types.Post ready-types-Inv-loop ready-types-μ-loop
 ready-types-enum-known-x t c = search needs
@@ -170,12 +180,8 @@ ready-types-wide-requires t c κs = search needs
 
 ready-types-narrow-requires : (t : ℕ) → ready-types-lts.Need-narrow-requires (ready-types-calls t) (ready-types-at t) ready-types.Post ready-types-Inv-loop ready-types-μ-loop
 ready-types-narrow-requires t c κs =
-    let g = c .before .before .before .before .before .before .before .before .before .before .before .before .before .loop .inv .0 in
-    let l = c .before .before .before .before .before .before .before .before .before .before .before .before .loop-test .taken in
-    let p = c .before .before .before .before .before .before .before .before .before .before .part-of .ensures in
     let a = c .before .before .before .before .before .before .before .before .ready .ensures in
-    let d = c .before .before .before .before .done-of .ensures in
-    going-short g _ l p _ _ a _ d _ (c .before .before .x .given .1)
+    omega (arith, after-done a (c .before .before .before .before .done-of .ensures) (c .before .before .x .given .1), a .changed .lay .nodes)
 
 ready-types-mul-tys : (t : ℕ) → ready-types-lts.Need-mul-tys (ready-types-calls t) (ready-types-at t) ready-types.Post ready-types-Inv-loop ready-types-μ-loop
 ready-types-mul-tys t c = search needs
@@ -202,12 +208,17 @@ ready-types-loop-again t c =
     let a = c .before .before .before .before .before .before .before .before .before .ready .ensures in
     let d = c .before .before .before .before .before .done-of .ensures in
     let x = c .before .before .before .x .given .1 in
-    rw (c .narrow .ensures, c .before .wide .ensures) (going-on g _ l p _ _ a _ d _ x, going-known g _ l p _ _ a _ d _ x _ (c .before .before .before .before .before .before .before .before .before .before .before .before .before .before .loop .inv .1))
+    let q = c .before .before .before .before .before .before .before .before .before .before .before .before .before .before .before .before .before .pre .1 in
+    rw (c .narrow .ensures) (
+      walk-more g l (part-kept _ _ _ _ (q .0) (q .1 .0) (q .1 .1 .0) _ _ (g .changed .grown) l p) a d x (c .before .wide .ensures),
+      known-after _ _ (g .changed .lay) a d x (c .before .before .before .before .before .before .before .before .before .before .before .before .before .before .loop .inv .1),
+    )
 
 ready-types-rebuild-requires : (t : ℕ) → ready-types-lts.Need-rebuild-requires (ready-types-calls t) (ready-types-at t) ready-types.Post ready-types-Inv-loop ready-types-μ-loop
 ready-types-rebuild-requires t c κs =
     let g = c .before .before .loop .inv .0 in
-    (g .lay, (going-node g, (going-has g, going-parts g (c .before .loop-test .left))))
+    let q = c .before .before .before .before .before .pre .1 in
+    (g .changed .lay, (still-in _ _ _ _ _ (g .changed .grown) (q .1 .0), (parts-kept _ _ _ _ (q .0) (q .1 .0) (q .1 .1 .0) _ _ (g .changed .grown), walk-parts g (c .before .loop-test .left))))
 
 ready-types-anew-requires-2 : (t : ℕ) → ready-types-lts.Need-anew-requires-2 (ready-types-calls t) (ready-types-at t) ready-types.Post ready-types-Inv-loop ready-types-μ-loop
 ready-types-anew-requires-2 t c κs = search needs
@@ -218,7 +229,10 @@ ready-types-same-length-2 t c = c .before .before .before .rebuild .ensures .cha
 ready-types-returns-2 : (t : ℕ) → ready-types-lts.Need-returns-2 (ready-types-calls t) (ready-types-at t) ready-types.Post ready-types-Inv-loop ready-types-μ-loop
 ready-types-returns-2 t c =
     let g = c .before .before .before .before .before .before .loop .inv .0 in
-    rw (c .anew2 .ensures) (going-done g (c .before .before .before .before .before .loop-test .left) _ _ (c .before .before .before .rebuild .ensures))
+    let q = c .before .before .before .before .before .before .before .before .before .pre .1 in
+    rw (c .anew2 .ensures)
+    (parts-walked _ _ _ _ (q .0) (q .1 .0) (q .1 .1 .0) _
+    (walk-end g (c .before .before .before .before .before .loop-test .left) (anew-kept _ _ _ _ _ (q .0) (q .1 .0) (g .changed .grown) _ (c .before .before .before .rebuild .ensures))))
 
 pub +ready+ready-types-spec : {M : Type 1} → statement M
 +ready+ready-types-spec = close μ-ready μ-ready-types (λ t. ready-lts.spec (ready-calls t) (ready-at t) ready.Post

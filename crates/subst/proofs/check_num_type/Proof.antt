@@ -2,8 +2,9 @@
 use Rattle.shapes.specs.Parts.{next}
 use Rattle.table.specs.State.{found}
 use Rattle.definition.specs.Join.{num-shape}
-use Rattle.subst.proofs.Laws.{value-is, var-of, num-plain, num-open, num-bound}
+use Rattle.subst.proofs.Laws.{var-of, num-plain, num-open, num-bound}
 use mathlib.Core.Path.{sym, ap, _∙_}
+use Rattle.table.proofs.Grown.{value-is}
 use borrow.Author.Needs.{needs}
 use Rattle.subst.proofs.check_num_type.Statement.{statement}
 use Rattle.subst.proofs.check_num_type.Tie as tie

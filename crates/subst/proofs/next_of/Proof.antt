@@ -1,7 +1,8 @@
 -- `subst::next_of` meets its contract. Assumes nothing.
 use mathlib.Core.Path.{ap, _∙_}
 use Rattle.definition.specs.Subst.{as-var}
-use Rattle.subst.proofs.Laws.{next-none, next-some, value-is}
+use Rattle.subst.proofs.Laws.{next-none, next-some}
+use Rattle.table.proofs.Grown.{value-is}
 use borrow.Author.Needs.{needs}
 use Rattle.subst.proofs.next_of.Statement.{statement}
 use Rattle.subst.proofs.next_of.Tie as tie

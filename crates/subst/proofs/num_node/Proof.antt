@@ -1,7 +1,7 @@
 -- `subst::num_node` meets its contract. Assumes nothing.
 use mathlib.Core.Path.{ap, _∙_}
 use Rattle.definition.specs.Join.{num-shape}
-use Rattle.subst.proofs.Laws.{value-is}
+use Rattle.table.proofs.Grown.{value-is}
 use borrow.Author.Needs.{needs}
 use Rattle.subst.proofs.num_node.Statement.{statement}
 use Rattle.subst.proofs.num_node.Tie as tie
