@@ -4,7 +4,7 @@ use mathlib.Core.Bool.{Bool, true, false, _&&_}
 use mathlib.Core.List.{List, [], _∷_}
 use Prim.Native.Nat.{ℕ}
 use denote.Enum.Declared.{tagOf}
-use types.Run.{OneOf, miss}
+use types.Run.{OneOf}
 use Rattle.definition.specs.Types.{State}
 use Rattle.definition.specs.Store.{with-args}
 use Rattle.definition.specs.Join as j
@@ -19,6 +19,7 @@ use Rattle.table.specs.State.{shape-of}
 use Rattle.table.specs.declared.Shape.{Shape}
 use Rattle.table.specs.declared.Shape.the-variants.{Unit as UnitS, Ref, Param, Apply, Var, Anything, UnresolvedError}
 use Rattle.table.proofs.Shape.{the-type}
+use Rattle.shapes.proofs.Tags.{other-shapes}
 use Rattle.arms.specs.Arms.{by-arm, Arm-below, Takes, other-arm, Unlike}
 use Rattle.arms.specs.declared.Arm.{Arm}
 use Rattle.arms.specs.declared.Arm.the-variants.{Left, Right, Refs, Applies, VarLeft, VarRight, SubtypeError, ArityMismatch, Incompatible, Disagree}
@@ -81,100 +82,71 @@ module _ (k1 k2 : Mark) (n1 n2 : TypeName) (first1 many1 first2 many2 : ℕ) (ca
 
 -- ---- the other shapes beside a variable or an error
 
+-- types of these shapes take the definition's arm x
+abbrev Arm-is : Shape → Shape → j.Arm → Type 0
+Arm-is lhs rhs x = (s : State) → arm (with-args s (shape-of lhs)) (with-args s (shape-of rhs)) ≡ x
+
+by-own : (case : j.TypingCase) (lhs rhs : Shape) (a : Arm) (x : j.Arm) → Arm-is lhs rhs x → ((J : j.Join-impl) (s : State) (l r : ℕ) → join-arm J s case l r x ≡ by-arm J s case l r a)
+    → ((args : List ℕ) (n : ℕ) → Arm-below args n a) → Takes case lhs rhs a
+by-own case lhs rhs a x u f g = record { is = λ J s l r. ap (λ (x : j.Arm). join-arm J s case l r x) (u s) ∙ f J s l r; below = λ args n p q. g args n }
+
 abbrev other-tags : List ℕ
 other-tags = 0 ∷ 1 ∷ 2 ∷ 3 ∷ 6 ∷ []
 
 module _ (case : j.TypingCase) where
   pub var-other : (id : TVar) (rhs : Shape) → OneOf other-tags (tagOf the-type rhs) → Takes case (Var id) rhs (VarLeft id)
   unfolding arm join-arm by-arm with-args
-  var-other id UnitS k = record { is = λ J s l r. refl; below = λ args n a b. tt }
-  var-other id (Ref m t) k = record { is = λ J s l r. refl; below = λ args n a b. tt }
-  var-other id (Param p c) k = record { is = λ J s l r. refl; below = λ args n a b. tt }
-  var-other id (Apply c t first many) k = record { is = λ J s l r. refl; below = λ args n a b. tt }
-  var-other id (Var v) k = absurd (miss other-tags 4 tt k)
-  var-other id Anything k = absurd (miss other-tags 5 tt k)
-  var-other id UnresolvedError k = record { is = λ J s l r. refl; below = λ args n a b. tt }
+  var-other id rhs k =
+      by-own case (Var id) rhs (VarLeft id) (j.Var-l (id .0))
+      (other-shapes other-tags (λ rhs. Arm-is (Var id) rhs (j.Var-l (id .0))) (λ s. refl) (λ m t s. refl) (λ p c s. refl) (λ c t first many s. refl) tt tt (λ s. refl) rhs k)
+      (λ J s l r. refl) (λ args n. tt)
 
   pub error-other : (rhs : Shape) → OneOf other-tags (tagOf the-type rhs) → Takes case UnresolvedError rhs Right
   unfolding arm join-arm by-arm with-args
-  error-other UnitS k = record { is = λ J s l r. refl; below = λ args n a b. tt }
-  error-other (Ref m t) k = record { is = λ J s l r. refl; below = λ args n a b. tt }
-  error-other (Param p c) k = record { is = λ J s l r. refl; below = λ args n a b. tt }
-  error-other (Apply c t first many) k = record { is = λ J s l r. refl; below = λ args n a b. tt }
-  error-other (Var v) k = absurd (miss other-tags 4 tt k)
-  error-other Anything k = absurd (miss other-tags 5 tt k)
-  error-other UnresolvedError k = record { is = λ J s l r. refl; below = λ args n a b. tt }
+  error-other rhs k =
+      by-own case UnresolvedError rhs Right j.Error-l
+      (other-shapes other-tags (λ rhs. Arm-is UnresolvedError rhs j.Error-l) (λ s. refl) (λ m t s. refl) (λ p c s. refl) (λ c t first many s. refl) tt tt (λ s. refl) rhs k)
+      (λ J s l r. refl) (λ args n. tt)
 
 -- ---- a type that is no variable, `_` or error, beside one of another shape
-
-by-other : (case : j.TypingCase) (lhs rhs : Shape) (a : Arm) → Unlike lhs rhs
-    → ((J : j.Join-impl) (s : State) (l r : ℕ) → join-arm J s case l r (other-arm (with-args s (shape-of rhs))) ≡ by-arm J s case l r a)
-    → ((args : List ℕ) (n : ℕ) → Arm-below args n a) → Takes case lhs rhs a
-by-other case lhs rhs a u f g = record { is = λ J s l r. ap (λ (x : j.Arm). join-arm J s case l r x) (u s) ∙ f J s l r; below = λ args n p q. g args n }
 
 -- the shapes that are no variable, `_` or error
 abbrev plain-tags : List ℕ
 plain-tags = 0 ∷ 1 ∷ 2 ∷ 3 ∷ []
 
+plain-arm : (rhs : Shape) → OneOf plain-tags (tagOf the-type rhs) → (s : State) → other-arm (with-args s (shape-of rhs)) ≡ j.Others
+unfolding with-args other-arm
+plain-arm = other-shapes plain-tags (λ rhs. (s : State) → other-arm (with-args s (shape-of rhs)) ≡ j.Others) (λ s. refl) (λ m t s. refl) (λ p c s. refl) (λ c t first many s. refl) tt tt tt
+
 module _ (case : j.TypingCase) (lhs : Shape) where
   pub other-var : (id : TVar) → Unlike lhs (Var id) → Takes case lhs (Var id) (VarRight id)
   unfolding join-arm by-arm with-args other-arm
-  other-var id u = by-other case lhs (Var id) (VarRight id) u (λ J s l r. refl) (λ args n. tt)
+  other-var id u = by-own case lhs (Var id) (VarRight id) (j.Var-r (id .0)) u (λ J s l r. refl) (λ args n. tt)
 
   pub other-anything : Unlike lhs Anything → Takes case lhs Anything Left
   unfolding join-arm by-arm with-args other-arm
-  other-anything u = by-other case lhs Anything Left u (λ J s l r. refl) (λ args n. tt)
+  other-anything u = by-own case lhs Anything Left j.Anything-r u (λ J s l r. refl) (λ args n. tt)
 
   pub other-error : Unlike lhs UnresolvedError → Takes case lhs UnresolvedError Left
   unfolding join-arm by-arm with-args other-arm
-  other-error u = by-other case lhs UnresolvedError Left u (λ J s l r. refl) (λ args n. tt)
+  other-error u = by-own case lhs UnresolvedError Left j.Error-r u (λ J s l r. refl) (λ args n. tt)
 
   pub other-plain : (rhs : Shape) → OneOf plain-tags (tagOf the-type rhs) → Unlike lhs rhs → Takes case lhs rhs Incompatible
-  unfolding join-arm by-arm with-args other-arm
-  other-plain UnitS k u = by-other case lhs UnitS Incompatible u (λ J s l r. refl) (λ args n. tt)
-  other-plain (Ref m t) k u = by-other case lhs (Ref m t) Incompatible u (λ J s l r. refl) (λ args n. tt)
-  other-plain (Param p c) k u = by-other case lhs (Param p c) Incompatible u (λ J s l r. refl) (λ args n. tt)
-  other-plain (Apply c t first many) k u = by-other case lhs (Apply c t first many) Incompatible u (λ J s l r. refl) (λ args n. tt)
-  other-plain (Var v) k u = absurd (miss plain-tags 4 tt k)
-  other-plain Anything k u = absurd (miss plain-tags 5 tt k)
-  other-plain UnresolvedError k u = absurd (miss plain-tags 6 tt k)
+  unfolding join-arm by-arm
+  other-plain rhs k u = by-own case lhs rhs Incompatible j.Others (λ s. u s ∙ plain-arm rhs k s) (λ J s l r. refl) (λ args n. tt)
 
 pub unit-unlike : (rhs : Shape) → OneOf (1 ∷ 2 ∷ 3 ∷ 4 ∷ 5 ∷ 6 ∷ []) (tagOf the-type rhs) → Unlike UnitS rhs
 unfolding arm with-args other-arm
-unit-unlike UnitS k s = absurd (miss (1 ∷ 2 ∷ 3 ∷ 4 ∷ 5 ∷ 6 ∷ []) 0 tt k)
-unit-unlike (Ref m t) k s = refl
-unit-unlike (Param p c) k s = refl
-unit-unlike (Apply c t first many) k s = refl
-unit-unlike (Var v) k s = refl
-unit-unlike Anything k s = refl
-unit-unlike UnresolvedError k s = refl
+unit-unlike = other-shapes (1 ∷ 2 ∷ 3 ∷ 4 ∷ 5 ∷ 6 ∷ []) (Unlike UnitS) tt (λ m t s. refl) (λ p c s. refl) (λ c t first many s. refl) (λ v s. refl) (λ s. refl) (λ s. refl)
 
 pub ref-unlike : (mut1 : Bool) (t1 : ℕ) (rhs : Shape) → OneOf (0 ∷ 2 ∷ 3 ∷ 4 ∷ 5 ∷ 6 ∷ []) (tagOf the-type rhs) → Unlike (Ref mut1 t1) rhs
 unfolding arm with-args other-arm
-ref-unlike mut1 t1 UnitS k s = refl
-ref-unlike mut1 t1 (Ref m t) k s = absurd (miss (0 ∷ 2 ∷ 3 ∷ 4 ∷ 5 ∷ 6 ∷ []) 1 tt k)
-ref-unlike mut1 t1 (Param p c) k s = refl
-ref-unlike mut1 t1 (Apply c t first many) k s = refl
-ref-unlike mut1 t1 (Var v) k s = refl
-ref-unlike mut1 t1 Anything k s = refl
-ref-unlike mut1 t1 UnresolvedError k s = refl
+ref-unlike mut1 t1 = other-shapes (0 ∷ 2 ∷ 3 ∷ 4 ∷ 5 ∷ 6 ∷ []) (Unlike (Ref mut1 t1)) (λ s. refl) tt (λ p c s. refl) (λ c t first many s. refl) (λ v s. refl) (λ s. refl) (λ s. refl)
 
 pub param-unlike : (id1 : TParamID) (a1 : AbilitySet) (rhs : Shape) → OneOf (0 ∷ 1 ∷ 3 ∷ 4 ∷ 5 ∷ 6 ∷ []) (tagOf the-type rhs) → Unlike (Param id1 a1) rhs
 unfolding arm with-args other-arm
-param-unlike id1 a1 UnitS k s = refl
-param-unlike id1 a1 (Ref m t) k s = refl
-param-unlike id1 a1 (Param p c) k s = absurd (miss (0 ∷ 1 ∷ 3 ∷ 4 ∷ 5 ∷ 6 ∷ []) 2 tt k)
-param-unlike id1 a1 (Apply c t first many) k s = refl
-param-unlike id1 a1 (Var v) k s = refl
-param-unlike id1 a1 Anything k s = refl
-param-unlike id1 a1 UnresolvedError k s = refl
+param-unlike id1 a1 = other-shapes (0 ∷ 1 ∷ 3 ∷ 4 ∷ 5 ∷ 6 ∷ []) (Unlike (Param id1 a1)) (λ s. refl) (λ m t s. refl) tt (λ c t first many s. refl) (λ v s. refl) (λ s. refl) (λ s. refl)
 
 pub apply-unlike : (k1 : Mark) (n1 : TypeName) (first1 many1 : ℕ) (rhs : Shape) → OneOf (0 ∷ 1 ∷ 2 ∷ 4 ∷ 5 ∷ 6 ∷ []) (tagOf the-type rhs) → Unlike (Apply k1 n1 first1 many1) rhs
 unfolding arm with-args other-arm
-apply-unlike k1 n1 first1 many1 UnitS k s = refl
-apply-unlike k1 n1 first1 many1 (Ref m t) k s = refl
-apply-unlike k1 n1 first1 many1 (Param p c) k s = refl
-apply-unlike k1 n1 first1 many1 (Apply c t first many) k s = absurd (miss (0 ∷ 1 ∷ 2 ∷ 4 ∷ 5 ∷ 6 ∷ []) 3 tt k)
-apply-unlike k1 n1 first1 many1 (Var v) k s = refl
-apply-unlike k1 n1 first1 many1 Anything k s = refl
-apply-unlike k1 n1 first1 many1 UnresolvedError k s = refl
+apply-unlike k1 n1 first1 many1 = other-shapes (0 ∷ 1 ∷ 2 ∷ 4 ∷ 5 ∷ 6 ∷ []) (Unlike (Apply k1 n1 first1 many1)) (λ s. refl) (λ m t s. refl) (λ p c s. refl) tt (λ v s. refl) (λ s. refl) (λ s. refl)

@@ -43,18 +43,15 @@ fn same_name(n1: TypeName, n2: TypeName) -> bool
     match n1 {
         TypeName::Multiple(a) => match n2 {
             TypeName::Multiple(b) => a == b,
-            TypeName::Builtin(_) => false,
-            TypeName::ModuleType(_) => false,
+            _ => false,
         },
         TypeName::Builtin(a) => match n2 {
-            TypeName::Multiple(_) => false,
             TypeName::Builtin(b) => a == b,
-            TypeName::ModuleType(_) => false,
+            _ => false,
         },
         TypeName::ModuleType(a) => match n2 {
-            TypeName::Multiple(_) => false,
-            TypeName::Builtin(_) => false,
             TypeName::ModuleType(b) => a == b,
+            _ => false,
         },
     }
 }
@@ -64,8 +61,7 @@ fn is_multiple(n: TypeName) -> bool
 {
     match n {
         TypeName::Multiple(_) => true,
-        TypeName::Builtin(_) => false,
-        TypeName::ModuleType(_) => false,
+        _ => false,
     }
 }
 

@@ -17,6 +17,7 @@ ghost use Rattle.instantiate.specs.Args.{make-tparam, made, Listed, join
 use names::AbilitySet;
 use names::Mark;
 use names::TypeName;
+use shapes::wide;
 use table::Constraint;
 use table::Found;
 use table::Out;
@@ -31,12 +32,6 @@ pub struct Tparams {
     pub used: Used,
     pub tvars: [u32; 8],
     pub many: u32,
-}
-
-fn wide(x: u32) -> usize
-    ensures { λ r. ⌜ r ≡ x ⌝ }
-{
-    x as usize
 }
 
 fn stay(o: Out, u: Used) -> Step

@@ -5,6 +5,7 @@ ghost use Prim.Native.Nat.{_+_, _*_, _≤_};
 ghost use lib.ListN.{length};
 ghost use Rattle.table.specs.State.{Lay, Wrote};
 ghost use Rattle.snapshot.specs.Snap.{Above, Saved-partly, Saved, PutBack, Sized, GivenBack, Undone};
+use shapes::wide;
 use table::ARGS_AT;
 use table::CONSTRAINT_WORDS;
 use table::CONSTRAINTS_AT;
@@ -18,13 +19,6 @@ use table::VARS_AT;
 
 // How many words the variable rows have, all of them.
 pub const SAVED: usize = 5120;
-
-// The number as an index.
-fn wide(x: u32) -> usize
-    ensures { λ r. ⌜ r ≡ x ⌝ }
-{
-    x as usize
-}
 
 // n words of `from`, from place `at` on.
 fn copy(w: &mut [u32], at: usize, from: &[u32], n: usize)

@@ -12,18 +12,13 @@ ghost use Rattle.tparams.specs.Pairs.{pairs, made, answer};
 use names::Mark;
 use names::TParamID;
 use names::TypeName;
+use shapes::wide;
 use table::Found;
 use table::Out;
 use table::Refusal;
 use table::Shape;
 use table::Step;
 use table::Used;
-
-fn wide(x: u32) -> usize
-    ensures { λ r. ⌜ r ≡ x ⌝ }
-{
-    x as usize
-}
 
 // The argument of an id, from place i on.
 fn arg_from(ids: [TParamID; 8], args: [u32; 8], i: u32, n: u32, id: TParamID) -> Found

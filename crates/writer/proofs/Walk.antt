@@ -6,37 +6,14 @@ use Prim.Native.Nat.{ℕ, zero, suc, _+_, _≤_, _<_}
 use native.Mathlib.Nat.{not-suc-le-zero}
 use native.Mathlib.Numerals.{add-one}
 use native.Mathlib.Omega.{arith}
-use lib.ListN.{length, getD, take, drop, length-append, length-drop, take-append-drop}
-use lib.Seq.{take-suc, take-all, getD-take, getD-drop, length-take-le}
-use Rattle.definition.specs.Types.{Shape, UnitType, Ref, Param, Apply, Var, Anything, UnresolvedError, Places, State}
-use Rattle.definition.specs.Store.{count, node, type-at, loc-of, spanned, with-args, args-at}
+use lib.ListN.{length, getD, take, drop, length-append, take-append-drop}
+use lib.Seq.{take-suc, take-all}
+use Rattle.definition.specs.Types.{State}
+use Rattle.definition.specs.Store.{count, type-at, loc-of, spanned}
 use Rattle.definition.specs.Subst.{parts}
 use Rattle.definition.specs.Write.{Bytes, head, each, write-down, write-spanned, write}
-use Rattle.table.specs.State.{Inside, Below}
-use Rattle.shapes.specs.Parts.{part-count}
-
--- ---- parts
-
-pub parts-length : (s : State) (t : ℕ) (h : Shape Places) → Below (s .args) t h → length (parts (with-args s h)) ≡ part-count h
-unfolding parts with-args args-at
-parts-length s t UnitType b = refl
-parts-length s t (Ref m p) b = refl
-parts-length s t (Param id a) b = refl
-parts-length s t (Apply k n p) b = length-take-le (p .many) (drop (p .first) (s .args)) (let x = b .1 .0 in simp length-drop (omega arith))
-parts-length s t (Var v) b = refl
-parts-length s t Anything b = refl
-parts-length s t UnresolvedError b = refl
-
-pub part-below : (s : State) (t : ℕ) (h : Shape Places) → Below (s .args) t h → (i : ℕ) → i < part-count h → getD (parts (with-args s h)) i 0 < t
-unfolding parts with-args args-at
-part-below s t UnitType b i l = absurd (not-suc-le-zero l)
-part-below s t (Ref m p) b zero l = b
-part-below s t (Ref m p) b (suc i) l = absurd (omega arith)
-part-below s t (Param id a) b i l = absurd (not-suc-le-zero l)
-part-below s t (Apply k n p) b i l = rw (getD-take (p .many) (drop (p .first) (s .args)) i 0 l, getD-drop (p .first) (s .args) i 0) (b .1 .1 i l)
-part-below s t (Var v) b i l = absurd (not-suc-le-zero l)
-part-below s t Anything b i l = absurd (not-suc-le-zero l)
-part-below s t UnresolvedError b i l = absurd (not-suc-le-zero l)
+use Rattle.table.specs.State.{Inside}
+use Rattle.shapes.proofs.Nodes.{parts-low}
 
 -- ---- the bytes of parts
 
@@ -55,12 +32,6 @@ unfolding each
 each-one f t = append-nil (f t)
 
 module _ (s : State) (inside : Inside s) where
-  falls : (t : ℕ) → t < count s → (i : ℕ) → i < length (parts (type-at s t)) → getD (parts (type-at s t)) i 0 < t
-  unfolding type-at
-  falls t l i h =
-      let b = inside .parts t l in
-      part-below s t (node s t .value) b i (rw (parts-length s t (node s t .value) b) at h)
-
   levels : (n m t : ℕ) → t < count s → t < n → t < m → write-down n s (spanned s t) ≡ write-down m s (spanned s t)
   unfolding write-down spanned
   levels zero m t h i j = absurd (not-suc-le-zero i)
@@ -68,7 +39,7 @@ module _ (s : State) (inside : Inside s) where
   levels (suc n) (suc m) t h i j =
       ap (λ (b : Bytes). head (loc-of s t) (type-at s t) ++ b)
       (each-same (λ p. write-down n s (spanned s p)) (λ p. write-down m s (spanned s p)) (parts (type-at s t))
-      (λ k l. let f : getD (parts (type-at s t)) k 0 < t = falls t h k l in levels n m (getD (parts (type-at s t)) k 0) (omega arith) (omega arith) (omega arith)))
+      (λ k l. let f : getD (parts (type-at s t)) k 0 < t = parts-low s inside t h k l in levels n m (getD (parts (type-at s t)) k 0) (omega arith) (omega arith) (omega arith)))
 
   -- the bytes of a type: tag, location and fields, then those of its parts
   pub write-is : (t : ℕ) → t < count s → write s t ≡ head (loc-of s t) (type-at s t) ++ each (write s) (parts (type-at s t))
@@ -76,7 +47,7 @@ module _ (s : State) (inside : Inside s) where
   write-is t h =
       ap (λ (b : Bytes). head (loc-of s t) (type-at s t) ++ b)
       (each-same (λ p. write-down (count s) s (spanned s p)) (write s) (parts (type-at s t))
-      (λ k l. let f : getD (parts (type-at s t)) k 0 < t = falls t h k l in levels (count s) (suc (count s)) (getD (parts (type-at s t)) k 0) (omega arith) (omega arith) (omega arith)))
+      (λ k l. let f : getD (parts (type-at s t)) k 0 < t = parts-low s inside t h k l in levels (count s) (suc (count s)) (getD (parts (type-at s t)) k 0) (omega arith) (omega arith) (omega arith)))
 
 -- the bytes of a type up to its part i
 unfoldable pub front : State → ℕ → ℕ → Bytes

@@ -29,7 +29,7 @@ use Rattle.instantiate.proofs.join_args.Reads as join-args-reads
 use Rattle.instantiate.proofs.make_tparams.Reads as make-tparams-reads
 use Rattle.instantiate.proofs.make_tvar.Reads as make-tvar-reads
 use Rattle.instantiate.proofs.stay.Reads as stay-reads
-use Rattle.instantiate.proofs.wide.Reads as wide-reads
+use Rattle.shapes.proofs.wide.Reads as wide-reads
 use Rattle.table.proofs.arg_at.Reads as arg-at-reads
 use Rattle.table.proofs.done_of.Reads as done-of-reads
 use Rattle.table.proofs.node_at.Reads as node-at-reads
@@ -77,10 +77,42 @@ instantiate-down-below t =
     instantiate-down.Pre
 
 abbrev instantiate-apply-calls : ℕ → instantiate-apply-lts.Claims
-instantiate-apply-calls t = (make-tparams-reads.Asked, make-tparams-reads.Learnt, done-of-reads.Asked, done-of-reads.Learnt, stay-reads.Asked, stay-reads.Learnt, arg-at-reads.Asked, arg-at-reads.Learnt, instantiate-down-below t, instantiate-down.Post, wide-reads.Asked, wide-reads.Learnt, join-args-reads.Asked, join-args-reads.Learnt)
+instantiate-apply-calls t = (
+  make-tparams-reads.Asked,
+  make-tparams-reads.Learnt,
+  done-of-reads.Asked,
+  done-of-reads.Learnt,
+  stay-reads.Asked,
+  stay-reads.Learnt,
+  arg-at-reads.Asked,
+  arg-at-reads.Learnt,
+  instantiate-down-below t,
+  instantiate-down.Post,
+  wide-reads.Asked,
+  wide-reads.Learnt,
+  join-args-reads.Asked,
+  join-args-reads.Learnt,
+)
 
 abbrev instantiate-down-calls : ℕ → instantiate-down-lts.Claims
-instantiate-down-calls t = (stay-reads.Asked, stay-reads.Learnt, node-at-reads.Asked, node-at-reads.Learnt, make-tvar-reads.Asked, make-tvar-reads.Learnt, push-constraint-reads.Asked, push-constraint-reads.Learnt, done-of-reads.Asked, done-of-reads.Learnt, instantiate-down-below t, instantiate-down.Post, push-node-reads.Asked, push-node-reads.Learnt, instantiate-apply-below t, instantiate-apply.Post)
+instantiate-down-calls t = (
+  stay-reads.Asked,
+  stay-reads.Learnt,
+  node-at-reads.Asked,
+  node-at-reads.Learnt,
+  make-tvar-reads.Asked,
+  make-tvar-reads.Learnt,
+  push-constraint-reads.Asked,
+  push-constraint-reads.Learnt,
+  done-of-reads.Asked,
+  done-of-reads.Learnt,
+  instantiate-down-below t,
+  instantiate-down.Post,
+  push-node-reads.Asked,
+  push-node-reads.Learnt,
+  instantiate-apply-below t,
+  instantiate-apply.Post,
+)
 
 abbrev instantiate-apply-Inv-loop : instantiate-apply-lts.InvT-loop
 instantiate-apply-Inv-loop w₀ params left loc k n first many tvars count parts₀ v₀ i₀ w parts v i =

@@ -14,7 +14,7 @@ use Rattle.instantiate.proofs.join_args.Tie as tie
 use Rattle.instantiate.proofs.join_args.Reads as reads
 use Rattle.instantiate.proofs.join_args.Lts as lts
 use Rattle.instantiate.proofs.fewer.Reads as fewer-reads
-use Rattle.instantiate.proofs.wide.Reads as wide-reads
+use Rattle.shapes.proofs.wide.Reads as wide-reads
 use Rattle.join.proofs.join.Reads as join-reads
 use Rattle.table.proofs.done_of.Reads as done-of-reads
 use Rattle.table.proofs.push_apply.Reads as push-apply-reads

@@ -19,7 +19,7 @@ use Rattle.instantiate.proofs.ability_at.Reads as ability-at-reads
 use Rattle.instantiate.proofs.fewer.Reads as fewer-reads
 use Rattle.instantiate.proofs.make_tparam.Reads as make-tparam-reads
 use Rattle.instantiate.proofs.tparam_count.Reads as tparam-count-reads
-use Rattle.instantiate.proofs.wide.Reads as wide-reads
+use Rattle.shapes.proofs.wide.Reads as wide-reads
 use Rattle.table.proofs.arg_at.Reads as arg-at-reads
 use Rattle.table.proofs.done_of.Reads as done-of-reads
 

@@ -5,7 +5,7 @@ use Rattle.instantiate.proofs.struct_ability.Statement.{statement}
 use Rattle.instantiate.proofs.struct_ability.Tie as tie
 use Rattle.instantiate.proofs.struct_ability.Reads as reads
 use Rattle.instantiate.proofs.struct_ability.Lts as lts
-use Rattle.instantiate.proofs.wide.Reads as wide-reads
+use Rattle.shapes.proofs.wide.Reads as wide-reads
 
 wide-requires : tie.Need-wide-requires
 wide-requires c κs = search needs

@@ -76,7 +76,28 @@ join-tvar-below t =
     and 1 join-tvar-kinds.ps (falls 1 join-tvar-kinds.ps _<_ μ-join-tvar t) join-tvar.Pre
 
 abbrev join-impl-calls : ℕ → join-impl-lts.Claims
-join-impl-calls t = (settled-reads.Asked, settled-reads.Learnt, node-at-reads.Asked, node-at-reads.Learnt, arm-of-reads.Asked, arm-of-reads.Learnt, pick-loc-reads.Asked, pick-loc-reads.Learnt, join-impl-below t, join-impl.Post, push-ref-reads.Asked, push-ref-reads.Learnt, join-impl-types-below t, join-impl-types.Post, push-types-reads.Asked, push-types-reads.Learnt, join-tvar-below t, join-tvar.Post, meet-tvar-reads.Asked, meet-tvar-reads.Learnt)
+join-impl-calls t = (
+  settled-reads.Asked,
+  settled-reads.Learnt,
+  node-at-reads.Asked,
+  node-at-reads.Learnt,
+  arm-of-reads.Asked,
+  arm-of-reads.Learnt,
+  pick-loc-reads.Asked,
+  pick-loc-reads.Learnt,
+  join-impl-below t,
+  join-impl.Post,
+  push-ref-reads.Asked,
+  push-ref-reads.Learnt,
+  join-impl-types-below t,
+  join-impl-types.Post,
+  push-types-reads.Asked,
+  push-types-reads.Learnt,
+  join-tvar-below t,
+  join-tvar.Post,
+  meet-tvar-reads.Asked,
+  meet-tvar-reads.Learnt,
+)
 
 abbrev join-impl-types-calls : ℕ → join-impl-types-lts.Claims
 join-impl-types-calls t = (fewer-reads.Asked, fewer-reads.Learnt, arg-at-reads.Asked, arg-at-reads.Learnt, join-impl-below t, join-impl.Post, done-of-reads.Asked, done-of-reads.Learnt)

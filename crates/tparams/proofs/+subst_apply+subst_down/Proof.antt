@@ -30,7 +30,7 @@ use Rattle.table.proofs.push_apply.Reads as push-apply-reads
 use Rattle.table.proofs.push_node.Reads as push-node-reads
 use Rattle.tparams.proofs.arg_or_none.Reads as arg-or-none-reads
 use Rattle.tparams.proofs.stay.Reads as stay-reads
-use Rattle.tparams.proofs.wide.Reads as wide-reads
+use Rattle.shapes.proofs.wide.Reads as wide-reads
 use Rattle.tparams.proofs.+subst_apply+subst_down.{statement}
 use Rattle.tparams.proofs.+subst_apply+subst_down.Tie.{close}
 
@@ -60,7 +60,22 @@ abbrev subst-apply-calls : ℕ → subst-apply-lts.Claims
 subst-apply-calls t = (arg-at-reads.Asked, arg-at-reads.Learnt, subst-down-below t, subst-down.Post, done-of-reads.Asked, done-of-reads.Learnt, wide-reads.Asked, wide-reads.Learnt, push-apply-reads.Asked, push-apply-reads.Learnt)
 
 abbrev subst-down-calls : ℕ → subst-down-lts.Claims
-subst-down-calls t = (stay-reads.Asked, stay-reads.Learnt, node-at-reads.Asked, node-at-reads.Learnt, arg-or-none-reads.Asked, arg-or-none-reads.Learnt, subst-down-below t, subst-down.Post, done-of-reads.Asked, done-of-reads.Learnt, push-node-reads.Asked, push-node-reads.Learnt, subst-apply-below t, subst-apply.Post)
+subst-down-calls t = (
+  stay-reads.Asked,
+  stay-reads.Learnt,
+  node-at-reads.Asked,
+  node-at-reads.Learnt,
+  arg-or-none-reads.Asked,
+  arg-or-none-reads.Learnt,
+  subst-down-below t,
+  subst-down.Post,
+  done-of-reads.Asked,
+  done-of-reads.Learnt,
+  push-node-reads.Asked,
+  push-node-reads.Learnt,
+  subst-apply-below t,
+  subst-apply.Post,
+)
 
 abbrev subst-apply-Inv-loop : subst-apply-lts.InvT-loop
 subst-apply-Inv-loop w₀ left ids args n loc k name first many parts₀ v₀ i₀ w parts v i =

@@ -1,7 +1,7 @@
 -- `writer::size_type` meets its contract. Assumes nothing.
 -- By the node's number, which falls from a type to its parts. Invariant `Sizing`: the sizes of the parts before i are added up; over the limit it stays over.
-use Rattle.writer.proofs.Turns.{Sizing, size-none, size-more, size-over, size-all, part-falls, part-small}
-use mathlib.Core.List.{[]}
+use Rattle.writer.proofs.Turns.{Sizing, size-none, size-more, size-over, size-all, part-small}
+use Rattle.shapes.proofs.Nodes.{at-node, part-low}
 use Prim.Native.Nat.{_-_, ℕ, _<_}
 use native.Mathlib.Omega.{arith}
 use borrow.Fn.Kinds.{In}
@@ -48,9 +48,8 @@ size-type-loop-holds : (t : ℕ) → size-type-lts.Need-loop-holds (size-type-ca
 size-type-loop-holds t c =
     let pre = c .before .before .before .before .pre in
     let node-at = c .before .before .node-at in
-    size-none _ _ _ _ (node-at .result) _ _
-    (record { lay = pre .1 .0; below = pre .1 .1 .0; is = node-at .ensures; many = c .before .part-count .ensures })
-    (λ loc. c .head-size .ensures .0 loc) (c .head-size .ensures .1)
+    size-none (at-node _ _ _ _ (node-at .result) (pre .1 .0) (pre .1 .1 .0) (node-at .ensures) (c .before .part-count .ensures))
+    _ _ (c .head-size .ensures .0) (c .head-size .ensures .1)
 
 size-type-add-result : (t : ℕ) → size-type-lts.Need-add-result (size-type-calls t) (size-type-at t) size-type.Post size-type-Inv-loop size-type-μ-loop
 size-type-add-result t c = omega (arith, c .before .before .before .before .before .before .before .pre)
@@ -59,13 +58,7 @@ size-type-returns : (t : ℕ) → size-type-lts.Need-returns (size-type-calls t)
 size-type-returns t c =
     let pre = c .before .before .before .before .before .before .before .pre in
     let node-at = c .before .before .before .before .before .node-at in
-    size-over _ _ _ _ (node-at .result) _ _ _
-    (record {
-      lay = pre .1 .0;
-      below = pre .1 .1 .0;
-      is = node-at .ensures;
-      many = c .before .before .before .before .part-count .ensures;
-    }) (c .before .before .loop .inv)
+    size-over (at-node _ _ _ _ (node-at .result) (pre .1 .0) (pre .1 .1 .0) (node-at .ensures) (c .before .before .before .before .part-count .ensures)) (c .before .before .loop .inv)
     (c .if1 .taken)
 
 size-type-part-at-requires : (t : ℕ) → size-type-lts.Need-part-at-requires (size-type-calls t) (size-type-at t) size-type.Post size-type-Inv-loop size-type-μ-loop
@@ -76,9 +69,7 @@ size-type-size-type-requires t c κs =
     let pre = c .before .before .before .before .before .before .before .before .pre in
     let node-at = c .before .before .before .before .before .before .node-at in
     let part-count = c .before .before .before .before .before .part-count in
-    let f = part-falls _ _ _ (node-at .result) _
-    (record { lay = pre .1 .0; below = pre .1 .1 .0; is = node-at .ensures; many = part-count .ensures }) [] _ _
-    (c .part-at .ensures []) (c .before .before .loop-test .taken) in
+    let f = part-low (at-node _ _ _ _ (node-at .result) (pre .1 .0) (pre .1 .1 .0) (node-at .ensures) (part-count .ensures)) _ _ (c .before .before .loop-test .taken) (c .part-at .ensures) in
     (omega (arith, f, pre .0), (pre .1 .0, (omega (arith, f, pre .1 .1 .0), omega (arith, pre .1 .1 .1))))
 
 size-type-add-size : (t : ℕ) → size-type-lts.Need-add-size (size-type-calls t) (size-type-at t) size-type.Post size-type-Inv-loop size-type-μ-loop
@@ -95,9 +86,8 @@ size-type-loop-again t c =
     let pre = c .before .before .before .before .before .before .before .before .before .pre in
     let node-at = c .before .before .before .before .before .before .before .node-at in
     let part-count = c .before .before .before .before .before .before .part-count in
-    size-more _ _ _ _ (node-at .result) _ _ _ _ _
-    (record { lay = pre .1 .0; below = pre .1 .1 .0; is = node-at .ensures; many = part-count .ensures })
-    (c .before .before .before .before .loop .inv) (c .before .before .before .loop-test .taken)
+    size-more (at-node _ _ _ _ (node-at .result) (pre .1 .0) (pre .1 .1 .0) (node-at .ensures) (part-count .ensures))
+    (c .before .before .before .before .loop .inv) _ _ (c .before .before .before .loop-test .taken)
     (c .before .before .if1 .left) (c .before .part-at .ensures) (c .size-type .ensures)
 
 size-type-add-result-2 : (t : ℕ) → size-type-lts.Need-add-result-2 (size-type-calls t) (size-type-at t) size-type.Post size-type-Inv-loop size-type-μ-loop
@@ -107,26 +97,14 @@ size-type-returns-2 : (t : ℕ) → size-type-lts.Need-returns-2 (size-type-call
 size-type-returns-2 t c =
     let pre = c .before .before .before .before .before .before .before .pre in
     let node-at = c .before .before .before .before .before .node-at in
-    size-over _ _ _ _ (node-at .result) _ _ _
-    (record {
-      lay = pre .1 .0;
-      below = pre .1 .1 .0;
-      is = node-at .ensures;
-      many = c .before .before .before .before .part-count .ensures;
-    }) (c .before .before .loop .inv)
+    size-over (at-node _ _ _ _ (node-at .result) (pre .1 .0) (pre .1 .1 .0) (node-at .ensures) (c .before .before .before .before .part-count .ensures)) (c .before .before .loop .inv)
     (c .if2 .taken)
 
 size-type-returns-3 : (t : ℕ) → size-type-lts.Need-returns-3 (size-type-calls t) (size-type-at t) size-type.Post size-type-Inv-loop size-type-μ-loop
 size-type-returns-3 t c =
     let pre = c .before .before .before .before .before .before .before .pre in
     let node-at = c .before .before .before .before .before .node-at in
-    size-all _ _ _ _ (node-at .result) _ _ _
-    (record {
-      lay = pre .1 .0;
-      below = pre .1 .1 .0;
-      is = node-at .ensures;
-      many = c .before .before .before .before .part-count .ensures;
-    }) (c .before .before .loop .inv)
+    size-all (at-node _ _ _ _ (node-at .result) (pre .1 .0) (pre .1 .1 .0) (node-at .ensures) (c .before .before .before .before .part-count .ensures)) (c .before .before .loop .inv)
     (c .before .loop-test .left) (c .if2 .left)
 
 pub +size-type-spec : {M : Type 1} → statement M

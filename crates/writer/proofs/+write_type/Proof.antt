@@ -1,7 +1,8 @@
 -- `writer::write_type` meets its contract. Assumes nothing.
 -- By the node's number, which falls from a type to its parts. Invariant `Goes-on`: if the head stands in the buffer, so do the parts before i after it.
-use Rattle.writer.proofs.Turns.{at-node, Goes-on, goes-more, write-none, write-all, part-falls, part-room, bytes-at, head-room}
-use mathlib.Core.List.{[]}
+use Rattle.writer.proofs.Turns.{Goes-on, goes-more, write-none, write-all, part-room, bytes-at, head-room}
+use Rattle.table.proofs.Grown.{loc-is}
+use Rattle.shapes.proofs.Nodes.{at-node, part-low}
 use Prim.Native.Nat.{_-_, ℕ, _<_}
 use native.Mathlib.Omega.{arith}
 use borrow.Fn.Kinds.{In}
@@ -44,8 +45,11 @@ write-type-part-count-requires t c κs = tt
 
 write-type-write-head-requires : (t : ℕ) → write-type-lts.Need-write-head-requires (write-type-calls t) (write-type-at t) write-type.Post write-type-Inv-loop write-type-μ-loop
 write-type-write-head-requires t c κs =
-    let a = at-node _ _ _ (c .before .before .node-at .result) _ (c .before .before .before .before .before .pre .1 .0 .0) (c .before .before .before .before .before .pre .1 .0 .1 .0) (c .before .before .node-at .ensures) (c .before .part-count .ensures) in
-    (bytes-at _ _ _ (c .before .before .node-at .result) _ a (c .before .before .before .before .before .pre .1 .0 .1 .1), head-room _ _ _ (c .before .before .node-at .result) _ (c .before .before .before .before .before .args .buf .now) _ a (c .before .before .before .before .before .pre .1 .1))
+    let args = c .before .before .before .before .before .args in
+    let pre = c .before .before .before .before .before .pre in
+    let node-at = c .before .before .node-at in
+    let a = at-node _ _ _ _ (node-at .result) (pre .1 .0 .0) (pre .1 .0 .1 .0) (node-at .ensures) (c .before .part-count .ensures) in
+    (bytes-at a (pre .1 .0 .1 .1), head-room a (args .buf .now) _ (pre .1 .1) _ (λ ds. loc-is _ _ (node-at .result) (node-at .ensures ds)))
 
 write-type-loop-holds : (t : ℕ) → write-type-lts.Need-loop-holds (write-type-calls t) (write-type-at t) write-type.Post write-type-Inv-loop write-type-μ-loop
 write-type-loop-holds t c = (omega arith, λ E h. h)
@@ -62,14 +66,14 @@ write-type-write-type-requires t c κs =
     let write-head = c .before .before .before .before .before .before .write-head in
     let loop-test = c .before .before .loop-test in
     let E = args .buf .now in
-    let a = at-node _ _ _ (node-at .result) _ (pre .1 .0 .0) (pre .1 .0 .1 .0) (node-at .ensures)
+    let a = at-node _ _ _ _ (node-at .result) (pre .1 .0 .0) (pre .1 .0 .1 .0) (node-at .ensures)
     (part-count .ensures) in
-    let base = write-none _ _ _ (node-at .result) _ E _ _ _ a (pre .1 .1) (write-head .ensures) in
-    let f = part-falls _ _ _ (node-at .result) _ a [] _ _ (c .before .part-at .ensures []) (loop-test .taken) in (
+    let base = write-none a E _ (pre .1 .1) _ (λ ds. loc-is _ _ (node-at .result) (node-at .ensures ds)) _ _ (write-head .ensures) in
+    let f = part-low a _ _ (loop-test .taken) (c .before .part-at .ensures) in (
       omega (arith, f, pre .0),
       (
         (pre .1 .0 .0, (omega (arith, f, pre .1 .0 .1 .0), pre .1 .0 .1 .1)),
-        part-room _ _ _ (node-at .result) _ E _ _ _ _ _ a (pre .1 .1)
+        part-room a E _ (pre .1 .1) _ _ _ _
             (c .before .before .before .loop .inv .1 E base) (loop-test .taken) (c .before .part-at .ensures),
       ),
     )
@@ -90,10 +94,10 @@ write-type-loop-again t c =
     let loop = c .before .before .before .before .before .before .loop in
     let loop-test = c .before .before .before .before .before .loop-test in
     let E = args .buf .now in
-    let a = at-node _ _ _ (node-at .result) _ (pre .1 .0 .0) (pre .1 .0 .1 .0) (node-at .ensures)
+    let a = at-node _ _ _ _ (node-at .result) (pre .1 .0 .0) (pre .1 .0 .1 .0) (node-at .ensures)
     (part-count .ensures) in
-    let base = write-none _ _ _ (node-at .result) _ E _ _ _ a (pre .1 .1) (write-head .ensures) in
-    goes-more _ _ _ (node-at .result) _ E _ _ _ _ _ _ _ _ _ a (pre .1 .1) base (loop .inv) (loop-test .taken)
+    let base = write-none a E _ (pre .1 .1) _ (λ ds. loc-is _ _ (node-at .result) (node-at .ensures ds)) _ _ (write-head .ensures) in
+    goes-more a E _ (pre .1 .1) _ _ _ _ _ _ _ _ base (loop .inv) (loop-test .taken)
     (c .before .before .before .before .part-at .ensures) (c .before .before .write-type .ensures)
 
 write-type-same-length : (t : ℕ) → write-type-lts.Need-same-length (write-type-calls t) (write-type-at t) write-type.Post write-type-Inv-loop write-type-μ-loop
@@ -103,9 +107,9 @@ write-type-same-length t c =
     let node-at = c .before .before .before .before .before .before .before .node-at in
     let part-count = c .before .before .before .before .before .before .part-count in
     let E = args .buf .now in
-    let a = at-node _ _ _ (node-at .result) _ (pre .1 .0 .0) (pre .1 .0 .1 .0) (node-at .ensures)
+    let a = at-node _ _ _ _ (node-at .result) (pre .1 .0 .0) (pre .1 .0 .1 .0) (node-at .ensures)
     (part-count .ensures) in
-    let base = write-none _ _ _ (node-at .result) _ E _ _ _ a (pre .1 .1)
+    let base = write-none a E _ (pre .1 .1) _ (λ ds. loc-is _ _ (node-at .result) (node-at .ensures ds)) _ _
     (c .before .before .before .before .write-head .ensures) in
     c .before .loop .inv .1 E base .size
 
@@ -116,11 +120,11 @@ write-type-returns t c =
     let node-at = c .before .before .before .before .before .before .before .node-at in
     let part-count = c .before .before .before .before .before .before .part-count in
     let E = args .buf .now in
-    let a = at-node _ _ _ (node-at .result) _ (pre .1 .0 .0) (pre .1 .0 .1 .0) (node-at .ensures)
+    let a = at-node _ _ _ _ (node-at .result) (pre .1 .0 .0) (pre .1 .0 .1 .0) (node-at .ensures)
     (part-count .ensures) in
-    let base = write-none _ _ _ (node-at .result) _ E _ _ _ a (pre .1 .1)
+    let base = write-none a E _ (pre .1 .1) _ (λ ds. loc-is _ _ (node-at .result) (node-at .ensures ds)) _ _
     (c .before .before .before .before .write-head .ensures) in
-    write-all _ _ _ (node-at .result) _ E _ _ _ _ a (c .before .loop .inv .1 E base) (c .loop-test .left)
+    write-all a E _ _ _ _ (c .before .loop .inv .1 E base) (c .loop-test .left)
 
 pub +write-type-spec : {M : Type 1} → statement M
 +write-type-spec = close μ-write-type λ t. write-type-lts.spec (write-type-calls t) (write-type-at t) write-type.Post
