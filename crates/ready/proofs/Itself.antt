@@ -87,6 +87,18 @@ module _ (w : List ℕ) (u : Used) (t : ℕ) (r : Unfolded) (f : Unfolds w u r (
 pub unfolded-node : {n x : ℕ} {r : Unfolded} → Unfolded-in n r → r ≡ NodeU x → x < n
 unfolded-node {n} h z = subst (λ (y : Unfolded). Unfolded-in n y) z h
 
+-- part i, as part_at gives it
+module _ {w : List ℕ} {u : Used} {t : ℕ} {sh : Shape} {many i : ℕ} (g : Goes-on w u t sh) (many-is : many ≡ part-count (shape-of sh)) (p : ℕ) (l : i < many)
+    (e : (ds : List Struct) → i < part-count (shape-of sh) → p ≡ getD (parts (with-args (seen w u ds) (shape-of sh))) i 0) where
+  counted : i < part-count (shape-of sh)
+  counted = rw (← many-is) l
+
+  part-is : (ds : List Struct) → p ≡ getD (goes-on-to (seen w u ds) t) i 0
+  part-is ds = e ds counted ∙ ap (λ (x : List ℕ). getD x i 0) (g .is ds)
+
+  pub goes-part : p < u .nodes
+  goes-part = rw (part-is []) (g .inside [] i counted)
+
 -- ---- one level
 
 ends-suc : (m : ℕ) (s : State) (t : ℕ) → ends-in (suc m) s t ≡ all-of (λ p. ends-in m s p) (goes-on-to s t)
@@ -143,20 +155,14 @@ module _ {w : List ℕ} {u : Used} {t left : ℕ} {sh : Shape} {many : ℕ} {mar
   all-parts ds = ap (λ (n : ℕ). ends-in n (seen w u ds) t) (one-less left (h .some-left)) ∙ ends-suc (left - 1) (seen w u ds) t
 
   module _ (p : ℕ) (l : i < many) (e : (ds : List Struct) → i < part-count (shape-of sh) → p ≡ getD (parts (with-args (seen w u ds) (shape-of sh))) i 0) where
-    counted : i < part-count (shape-of sh)
-    counted = rw (← h .many-is) l
-
-    part-is : (ds : List Struct) → p ≡ getD (goes-on-to (seen w u ds) t) i 0
-    part-is ds = e ds counted ∙ ap (λ (x : List ℕ). getD x i 0) (h .goes .is ds)
-
-    pub read-part : p < u .nodes
-    read-part = rw (part-is []) (h .goes .inside [] i counted)
+    is-part : (ds : List Struct) → p ≡ getD (goes-on-to (seen w u ds) t) i 0
+    is-part = part-is (h .goes) (h .many-is) p l e
 
     in-list : (ds : List Struct) → i < length (goes-on-to (seen w u ds) t)
-    in-list ds = rw (h .goes .many ds) counted
+    in-list ds = rw (h .goes .many ds) (counted (h .goes) (h .many-is) p l e)
 
     part-out : (ds : List Struct) (m : ℕ) → ends-in m (seen w u ds) p ≡ false → all-of (λ q. ends-in m (seen w u ds) q) (goes-on-to (seen w u ds) t) ≡ false
-    part-out ds m f = all-one (λ q. ends-in m (seen w u ds) q) (goes-on-to (seen w u ds) t) i (in-list ds) (sym (ap (λ (q : ℕ). ends-in m (seen w u ds) q) (part-is ds)) ∙ f)
+    part-out ds m f = all-one (λ q. ends-in m (seen w u ds) q) (goes-on-to (seen w u ds) t) i (in-list ds) (sym (ap (λ (q : ℕ). ends-in m (seen w u ds) q) (is-part ds)) ∙ f)
 
     module _ (n : ℕ) (r : Levels w u p (left - 1) n) where
       -- this part is not over
@@ -181,7 +187,7 @@ module _ {w : List ℕ} {u : Used} {t left : ℕ} {sh : Shape} {many : ℕ} {mar
           ends = r .over (omega arith)
 
           over-more : (ds : List Struct) (j : ℕ) → j < i + 1 → (m : ℕ) → high′ ≤ m → Dec (j ≡ i) → ends-in m (seen w u ds) (getD (goes-on-to (seen w u ds) t) j 0) ≡ true
-          over-more ds j q m b (yes y) = rw (y, ← part-is ds) (ends .ends ds m (let a = k .second in omega arith))
+          over-more ds j q m b (yes y) = rw (y, ← is-part ds) (ends .ends ds m (let a = k .second in omega arith))
           over-more ds j q m b (no y) = h .over ds j (omega arith) m (let a = k .first in omega arith)
 
           fewer : (ds : List Struct) (m : ℕ) → m < high′ → Dec (m < high) → all-of (λ q. ends-in m (seen w u ds) q) (goes-on-to (seen w u ds) t) ≡ false
@@ -254,17 +260,11 @@ few-none w u t left sh many h n g e = record { lay = h; some-left = omega arith;
 
 module _ {w : List ℕ} {u : Used} {t left : ℕ} {sh : Shape} {many i : ℕ} (h : Few w u t left sh many i) where
   module _ (p : ℕ) (l : i < many) (e : (ds : List Struct) → i < part-count (shape-of sh) → p ≡ getD (parts (with-args (seen w u ds) (shape-of sh))) i 0) where
-    few-is : (ds : List Struct) → p ≡ getD (goes-on-to (seen w u ds) t) i 0
-    few-is ds = e ds (rw (← h .many-is) l) ∙ ap (λ (x : List ℕ). getD x i 0) (h .goes .is ds)
-
-    pub few-part : p < u .nodes
-    few-part = rw (few-is []) (h .goes .inside [] i (rw (← h .many-is) l))
-
     pub few-more : (r : ℕ) → Soon w u p (left - 1) r → (r ≡ 0 → ⊥) → Few w u t left sh many (i + 1)
     few-more r s z = record { lay = h .lay; some-left = h .some-left; goes = h .goes; many-is = h .many-is; le = omega arith; over = λ ds j k. by ds j k (ℕ-discrete j i) }
       where
         by : (ds : List Struct) (j : ℕ) → j < i + 1 → Dec (j ≡ i) → ends-in (left - 1) (seen w u ds) (getD (goes-on-to (seen w u ds) t) j 0) ≡ true
-        by ds j k (yes y) = rw (y, ← few-is ds) (s .over (omega arith) ds)
+        by ds j k (yes y) = rw (y, ← part-is (h .goes) (h .many-is) p l e ds) (s .over (omega arith) ds)
         by ds j k (no y) = h .over ds j (omega arith)
 
   pub few-all : many ≤ i → (r : ℕ) → Soon w u t left r

@@ -2,7 +2,7 @@
 use borrow.Author.Needs.{needs}
 use native.Mathlib.Omega.{arith}
 use lib.ListN.{length-set}
-use Rattle.ready.proofs.Itself.{Read, read-none, read-part, read-more, levels-none, levels-known, levels-out, levels-over, levels-here, ends-here, marked-more}
+use Rattle.ready.proofs.Itself.{Read, read-none, goes-part, read-more, levels-none, levels-known, levels-out, levels-over, levels-here, ends-here, marked-more}
 use mathlib.Core.Path.{sym, _∙_}
 use Prim.Native.Nat.{ℕ, _<_, _-_}
 use borrow.Fn.Kinds.{In}
@@ -79,7 +79,7 @@ levels-sub-levels : (t : ℕ) → levels-lts.Need-sub-levels (levels-calls t) (l
 levels-sub-levels t c = omega (arith, c .before .before .loop .inv .some-left)
 
 levels-levels-requires : (t : ℕ) → levels-lts.Need-levels-requires (levels-calls t) (levels-at t) levels.Post levels-Inv-loop levels-μ-loop
-levels-levels-requires t c κs = let f = read-part (c .before .before .before .loop .inv) _ (c .before .before .loop-test .taken) (c .before .part-at .ensures) in
+levels-levels-requires t c κs = let f = goes-part (c .before .before .before .loop .inv .goes) (c .before .before .before .loop .inv .many-is) _ (c .before .before .loop-test .taken) (c .before .part-at .ensures) in
     let l = c .before .before .before .loop .inv .some-left in
     let r = c .before .before .before .loop .inv .room in
     let pre = c .before .before .before .before .before .before .before .before .before .before .before .before .before .pre in

@@ -1,7 +1,7 @@
 -- `ready::soon_over` meets its contract. Assumes nothing.
 use borrow.Author.Needs.{needs}
 use native.Mathlib.Omega.{arith}
-use Rattle.ready.proofs.Itself.{Few, soon-none, few-none, few-part, few-more, few-all}
+use Rattle.ready.proofs.Itself.{Few, soon-none, few-none, goes-part, few-more, few-all}
 use Prim.Native.Nat.{ℕ, _<_, _-_}
 use borrow.Fn.Kinds.{In}
 use borrow.Fn.PlainCycle.{Measures, is, falls, and}
@@ -59,7 +59,7 @@ soon-over-sub-soon-over t c = omega (arith, c .before .before .loop .inv .some-l
 
 soon-over-soon-over-requires : (t : ℕ) → soon-over-lts.Need-soon-over-requires (soon-over-calls t) (soon-over-at t) soon-over.Post soon-over-Inv-loop soon-over-μ-loop
 soon-over-soon-over-requires t c κs =
-    let f = few-part (c .before .before .loop .inv) _ (c .before .loop-test .taken) (c .part-at .ensures) in
+    let f = goes-part (c .before .before .loop .inv .goes) (c .before .before .loop .inv .many-is) _ (c .before .loop-test .taken) (c .part-at .ensures) in
     let l = c .before .before .loop .inv .some-left in
     let pre = c .before .before .before .before .before .before .before .before .before .pre in
     (omega (arith, l, pre .0), ((c .before .before .loop .inv .lay, f), pre .1 .1))
