@@ -197,7 +197,9 @@ module _ (w : List ℕ) (u : Used) (b : List ℕ) (end known at : ℕ) (w₁ : L
         structs = t .structs;
         inside = stop-so (r .part) _ _ e;
         within = t .within;
-        is = λ ds s d k. made-with (r .part) _ _ (λ (x : ℕ). noded stopped-at (mk 0 (node-in (r .part)))) (seen w₁ (r .used) ds) (rest b end (r .next)) refl ∙ type-stops place-record make second (λ t1 t2 s. o .places t1 t2 s) (read-nested 64 s) (r .part) false _ (seen w u ds) (seen w₁ (r .used) ds) _ (t .is ds s d k) e _;
+        is = λ ds s d k.
+            made-with (r .part) _ _ (λ (x : ℕ). noded stopped-at (mk 0 (node-in (r .part)))) (seen w₁ (r .used) ds) (rest b end (r .next)) refl
+            ∙ type-stops place-record make second (λ t1 t2 s. o .places t1 t2 s) (read-nested 64 s) (r .part) false _ (seen w u ds) (seen w₁ (r .used) ds) _ (t .is ds s d k) e _;
       }
 
   module _ (q : Taken) where

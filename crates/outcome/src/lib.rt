@@ -9,16 +9,11 @@ ghost use Rattle.outcome.specs.Outcome.{row-for, padded, rows-after, out
 use answer::Answer;
 use fields::What;
 use fields::Whole;
+use shapes::wide;
 use table::Found;
 use table::Used;
 
 // ---- SD
-
-fn wide(x: u32) -> usize
-    ensures { λ r. ⌜ r ≡ x ⌝ }
-{
-    x as usize
-}
 
 // A new struct's row, the first that is free, if there is one and the state is kept.
 // Refused (must-fail/): another table's row (row_of_another), a row for a struct that is refused (row_when_refused).

@@ -425,13 +425,9 @@ fn place_node(w: &mut [u32], u: Used, over: bool, loc: u32, shape: Shape, parts:
         };
     }
     match shape {
-        Shape::Unit => push_node(w, u, loc, shape),
         Shape::Ref(m, _) => push_node(w, u, loc, Shape::Ref(m, parts[0])),
-        Shape::Param(_, _) => push_node(w, u, loc, shape),
         Shape::Apply(k, name, _, many) => push_apply(w, u, loc, k, name, parts, many),
-        Shape::Var(_) => push_node(w, u, loc, shape),
-        Shape::Anything => push_node(w, u, loc, shape),
-        Shape::UnresolvedError => push_node(w, u, loc, shape),
+        _ => push_node(w, u, loc, shape),
     }
 }
 

@@ -47,7 +47,24 @@ read-type-below t =
     and 2 read-type-kinds.ps (falls 2 read-type-kinds.ps _<_ μ-read-type t) read-type.Pre
 
 abbrev read-parts-calls : ℕ → read-parts-lts.Claims
-read-parts-calls t = (part-count-reads.Asked, part-count-reads.Learnt, read-type-below t, read-type.Post, stops-reads.Asked, stops-reads.Learnt, no-space-reads.Asked, no-space-reads.Learnt, node-of-reads.Asked, node-of-reads.Learnt, place-node-reads.Asked, place-node-reads.Learnt, done-of-reads.Asked, done-of-reads.Learnt, part-found-reads.Asked, part-found-reads.Learnt)
+read-parts-calls t = (
+  part-count-reads.Asked,
+  part-count-reads.Learnt,
+  read-type-below t,
+  read-type.Post,
+  stops-reads.Asked,
+  stops-reads.Learnt,
+  no-space-reads.Asked,
+  no-space-reads.Learnt,
+  node-of-reads.Asked,
+  node-of-reads.Learnt,
+  place-node-reads.Asked,
+  place-node-reads.Learnt,
+  done-of-reads.Asked,
+  done-of-reads.Learnt,
+  part-found-reads.Asked,
+  part-found-reads.Learnt,
+)
 
 abbrev read-type-calls : ℕ → read-type-lts.Claims
 read-type-calls t = (read-head-reads.Asked, read-head-reads.Learnt, read-parts-below t, read-parts.Post)
