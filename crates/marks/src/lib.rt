@@ -56,9 +56,10 @@ fn same(x: u32, y: u32, a: u8, c: u8) -> bool
 pub fn mark_of(x: u32, y: u32) -> RecordMark
     ensures { λ r. ⌜ ((s : d.State) → reader-of r s ≡ fields-of (by-mark s) x y) ⌝ }
 {
+    let marks = MARKS;
     let mut k: usize = 0;
     while k < 15 {
-        let row = MARKS[k];
+        let row = marks[k];
         if same(x, y, row.0, row.1) {
             return row.2;
         }

@@ -8,10 +8,10 @@ use Rattle.marks.proofs.mark_of.Statement.{statement}
 use Rattle.marks.proofs.mark_of.Tie as tie
 
 abbrev Inv-loop : tie.InvT-loop
-Inv-loop x y k₀ k = Onward x y k
+Inv-loop x y marks k₀ k = Onward x y k
 
 abbrev μ-loop : tie.MeasureT-loop
-μ-loop x y k₀ k = 15 - k
+μ-loop x y marks k₀ k = 15 - k
 
 loop-holds : tie.Need-loop-holds Inv-loop μ-loop
 loop-holds c = start _ _
