@@ -23,7 +23,7 @@ use Rattle.table.specs.declared.Out.{Out}
 use Rattle.table.specs.declared.Out.the-variants.{Done, Failed, Refused}
 use Rattle.writer.specs.Bytes.{Name-byte, Byte-fields, All-bytes}
 use Rattle.answer.specs.Ran.{Tells}
-use Rattle.answer.specs.declared.Show.the-variants as show
+use Rattle.payload.specs.declared.Show.the-variants as show
 
 -- ---- fields that are bytes, in every state that a run leaves
 

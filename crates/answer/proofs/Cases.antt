@@ -15,11 +15,12 @@ use Rattle.table.specs.declared.TypingError as table
 use Rattle.table.specs.declared.Refusal.{Refusal}
 use Rattle.snapshot.specs.Snap.{PutBack, Undone}
 use Rattle.writer.specs.Bytes.{Wrote, capped}
-use Rattle.answer.specs.Ran.{shown, ran, answered, success, failure, refused-by, Answers}
-use Rattle.answer.specs.declared.Show.{Show}
+use Rattle.payload.specs.Payload.{shown}
+use Rattle.answer.specs.Ran.{ran, answered, success, failure, refused-by, Answers}
+use Rattle.payload.specs.declared.Show.{Show}
 use Rattle.answer.specs.declared.Ran.{Ran}
-use Rattle.answer.specs.declared.Answer.{Answer}
-use Rattle.answer.proofs.Payload.{within, beyond, length-location}
+use Rattle.payload.specs.declared.Answer.{Answer}
+use Rattle.payload.proofs.Payload.{within, beyond, length-location}
 use Rattle.answer.proofs.Settle.{success-with, failure-with, long, keeps, goes-back, puts-back}
 
 module _ (w : List ℕ) (u before : Used) (saved buf : List ℕ) where

@@ -1,5 +1,4 @@
 -- Laws of the answers. Assumes nothing.
-pub mod Payload
 pub mod Settle
 pub mod Cases
 pub mod Calls

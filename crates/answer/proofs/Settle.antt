@@ -16,10 +16,11 @@ use Rattle.table.specs.declared.Used.{Used}
 use Rattle.snapshot.specs.Snap.{Since, PutBack, GivenBack, Undone}
 use Rattle.snapshot.proofs.Tails.{saved-stood}
 use Rattle.writer.specs.Bytes.{Wrote}
-use Rattle.answer.specs.Ran.{shown, success, failure, refused-by, Still, Answers}
-use Rattle.answer.specs.declared.Show.{Show}
-use Rattle.answer.specs.declared.Answer.{Answer}
-use Rattle.answer.proofs.Payload.{wrote-payload, wrote-rest, wrote-few}
+use Rattle.payload.specs.Payload.{shown}
+use Rattle.answer.specs.Ran.{success, failure, refused-by, Still, Answers}
+use Rattle.payload.specs.declared.Show.{Show}
+use Rattle.payload.specs.declared.Answer.{Answer}
+use Rattle.payload.proofs.Payload.{wrote-payload, wrote-rest, wrote-few}
 
 -- ---- the definition's answers
 

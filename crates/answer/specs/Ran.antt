@@ -1,12 +1,12 @@
 -- What a run left, as the definition's result, and what its answer leaves in the words and in the buffer. Assumes nothing: these are definitions.
 use mathlib.Core.Path.{_≡_}
 use mathlib.Core.Bool.{Bool}
-use mathlib.Core.List.{List, [], _++_}
-use Prim.Native.Nat.{ℕ, _≤_, _<_}
+use mathlib.Core.List.{List, _++_}
+use Prim.Native.Nat.{ℕ, _≤_}
 use lib.ListN.{take, drop}
 use Rattle.definition.specs.Types as d
 use Rattle.definition.specs.Types.{State, Struct, Result, ok, err, _>>=_, if_then_else_}
-use Rattle.definition.specs.Write.{Bytes, u16, u32, head, write}
+use Rattle.definition.specs.Write.{Bytes}
 use Rattle.definition.specs.Step as step
 use Rattle.definition.specs.Step.{answer, refusal}
 use Rattle.table.specs.State.{outcome, seen, Lay, Declares, Types-in}
@@ -14,36 +14,18 @@ use Rattle.table.specs.declared.Used.{Used}
 use Rattle.table.specs.declared.Out.{Out}
 use Rattle.table.specs.declared.Out.the-variants.{Done, Failed, Refused}
 use Rattle.snapshot.specs.Snap.{Saved, Since}
-use Rattle.answer.specs.declared.Show.{Show}
-use Rattle.answer.specs.declared.Show.the-variants.{Nothing, Number, Variable, Node, Anything, Four}
+use Rattle.payload.specs.declared.Show.{Show}
+use Rattle.payload.specs.Payload.{shown, Shows}
 use Rattle.answer.specs.declared.Ran.{Ran}
-use Rattle.answer.specs.declared.Answer.{Answer}
+use Rattle.payload.specs.declared.Answer.{Answer}
 
 -- ---- what a run left
-
--- the payload of a success with the number t
-unfoldable pub shown : Show → ℕ → State → Bytes
-shown Nothing t s = []
-shown Number n s = u16 n
-shown (Variable loc) v s = head loc (d.Var v)
-shown Node t s = write s t
-shown (Anything loc) t s = head loc d.Anything
-shown (Four a b c e) t s = u32 a ++ u32 b ++ u32 c ++ u32 e
 
 -- the result of a run that left the state `after`: on success it is kept, or the state goes back to `before`
 unfoldable pub ran : Ran → State → State → Result (State × Bytes)
 ran r after before = do
   (s, t) ← outcome (r .out) after
   ok (if r .kept then s else before, shown (r .show) t s)
-
--- the node or the variable that is shown is in use
-abbrev pub Shows : Used → Show → ℕ → Type 0
-Shows u Nothing t = Unit {0}
-Shows u Number n = Unit {0}
-Shows u (Variable loc) v = v < u .vars
-Shows u Node t = t < u .nodes
-Shows u (Anything loc) t = Unit {0}
-Shows u (Four a b c e) t = Unit {0}
 
 abbrev pub Tells : Used → Show → Out → Type 0
 Tells u show (Done t) = Shows u show t
@@ -78,9 +60,6 @@ pub record Still (w : List ℕ) (u before : Used) (saved : List ℕ) : Type 0 wh
   pub rows : Saved w u saved
 
 -- ---- what an answer leaves
-
-abbrev pub reply : ℕ → ℕ → Used → Bool → Answer
-reply number len used kept = record { number = number; len = len; used = used; kept = kept }
 
 -- before the run there were the words w₀, of which `before` was in use, and after it w and u
 pub record Settled (w₀ : List ℕ) (before : Used) (w : List ℕ) (u : Used) (w′ buf′ : List ℕ) (r : Answer) (f : State → State → step.Answer) : Type 0 where

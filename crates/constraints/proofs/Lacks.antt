@@ -33,9 +33,10 @@ use Rattle.ready.proofs.Itself.{goes-node, unfolded-node}
 use Rattle.abilities.specs.Kept.{Has-set, Kept}
 use Rattle.abilities.specs.Rules.{rule-of, misses}
 use Rattle.abilities.specs.declared.Rule.{Rule}
-use Rattle.constraints.specs.Failing.{plain, lack, row, Is-ability, failing, Failing-in, Ty-in, Lacking, Asked-ready}
-use Rattle.constraints.specs.declared.Failing.{Failing}
-use Rattle.constraints.specs.declared.Failing.the-variants.{Fine}
+use Rattle.failing.specs.Failing.{plain, failing, Failing-in, Ty-in}
+use Rattle.constraints.specs.Lacking.{lack, row, Is-ability, Lacking, Asked-ready}
+use Rattle.failing.specs.declared.Failing.{Failing}
+use Rattle.failing.specs.declared.Failing.the-variants.{Fine}
 
 -- ---- `_` has every ability
 

@@ -18,9 +18,9 @@ use Rattle.subst.specs.Answers.{unfolded, Unfolds}
 use Rattle.subst.specs.declared.Unfolded.{Unfolded}
 use Rattle.subst.specs.declared.Unfolded.the-variants.{Node as NodeU, Anything as AnythingU}
 use Rattle.table.proofs.Grown.{value-is}
-use Rattle.constraints.specs.Failing.{good, ask, plain, Asks, failing, Fails}
-use Rattle.constraints.specs.declared.Ask.{Ask}
-use Rattle.constraints.specs.declared.Failing.the-variants.{Fine, Node as NodeF, Anything as AnythingF}
+use Rattle.failing.specs.Failing.{good, ask, plain, Asks, failing, Fails}
+use Rattle.failing.specs.declared.Ask.{Ask}
+use Rattle.failing.specs.declared.Failing.the-variants.{Fine, Node as NodeF, Anything as AnythingF}
 
 -- nothing is asked
 ask-none : (s : State) (code loc ty : ℕ) → code ≡ 0 → [] ≡ ask s code loc ty

@@ -2,36 +2,37 @@
 // what the Rust reports as a message (solve_ability_constraint, solve_builtin_type_constraint, solve_base_type_constraint, solve_single_type_constraint).
 // Changed from the source that NOTICE names: ported to Rattle.
 ghost use mathlib.Core.Path.{_≡_};
-ghost use mathlib.Core.List.{List, [], _∷_};
+ghost use mathlib.Core.List.{List, []};
 ghost use Prim.Native.Nat.{ℕ, _+_, _*_, _≤_, _<_};
 ghost use lib.ListN.{length, getD};
 ghost use Rattle.definition.specs.Types as d;
 ghost use Rattle.definition.specs.Types.{BaseTypeConstraint, SingleTypeConstraint, if_then_else_};
 ghost use Rattle.definition.specs.Subst.{unfold-type};
-ghost use Rattle.definition.specs.Constraints.{undecided, num-vars, default-num-var, default-num-vars, is-base, is-single, by-rule};
+ghost use Rattle.definition.specs.Constraints.{undecided, num-vars, default-num-var, default-num-vars, by-rule};
 ghost use Rattle.definition.specs.Step.{numeric-constraint};
 ghost use Rattle.table.specs.Rows.{read-option};
-ghost use Rattle.table.specs.State.{constraint-of, found, seen, Lay, Changed, After, Wrote, pushed-constraint, shape-of};
+ghost use Rattle.table.specs.State.{constraint-of, found, seen, Lay, Changed, After, Wrote, pushed-constraint};
 ghost use Rattle.subst.specs.Answers.{var-at};
 ghost use Rattle.snapshot.specs.Snap.{Saved};
 ghost use Rattle.constraints.specs.Emptied.{First, Emptied};
 ghost use Rattle.constraints.specs.Solve.{kind-of, numbered, join-u64, default-marked, Answered};
-ghost use mathlib.Core.Bool.{not};
 ghost use lib.Dec.{eqb};
-ghost use Rattle.definition.specs.Store.{with-args, spanned};
-ghost use Rattle.definition.specs.Join.{is-multiple};
-ghost use Rattle.names.specs.Names.{name-of};
+ghost use Rattle.definition.specs.Store.{spanned};
 ghost use Rattle.abilities.specs.Kept.{Has-set, Kept};
 ghost use Rattle.abilities.specs.Rules.{rule-of, Rule-in};
-ghost use Rattle.constraints.specs.Failing.{good, plain, lack, row, Is-ability, Asks, failing, Failing-in, Ty-in, Fails, Lacking, Asked-ready};
+ghost use Rattle.failing.specs.Failing.{good, plain, failing, Failing-in, Ty-in, Fails};
+ghost use Rattle.constraints.specs.Lacking.{lack, row, Is-ability, Lacking, Asked-ready};
 use abilities::Rule;
+use failing::Failing;
+use failing::ask_of;
+use failing::good;
 use names::AbilitySet;
 use names::Mark;
 use names::TVar;
 use names::TypeName;
 use subst::Unfolded;
-use table::CONSTRAINT_WORDS;
 use table::CONSTRAINTS_AT;
+use table::CONSTRAINT_WORDS;
 use table::Constraint;
 use table::Found;
 use table::Out;
@@ -227,101 +228,6 @@ pub fn take_constraints(w: &mut [u32], u: Used) -> Used
         at = pop_constraint(w, at);
     }
     at
-}
-
-// ---- which constraints fail, and how
-
-// What a constraint asks: an integer type 1, a base type 2, a single type 3; 0, nothing that is asked here.
-pub struct Ask {
-    pub code: u32,
-    pub loc: u32,
-    pub ty: u32,
-}
-
-// A failure: its code, its location, and the type as a node or `_` at a location. Of an ability that is missing: the location, the ability,
-// the type as a node, and the argument that lacks, if it is not the declaration.
-pub enum Failing {
-    Fine,
-    Node(u32, u32, u32),
-    Anything(u32, u32, u32),
-    Lacks(u32, u8, u32, Found),
-}
-
-fn not_multiple(n: TypeName) -> bool
-    ensures { λ r. ⌜ r ≡ not (is-multiple (name-of n)) ⌝ }
-{
-    match n {
-        TypeName::Multiple(_) => false,
-        _ => true,
-    }
-}
-
-fn is_single(s: Shape) -> bool
-    ensures { λ r. ⌜ ((st : d.State) → r ≡ is-single (with-args st (shape-of s))) ⌝ }
-{
-    match s {
-        Shape::Unit => false,
-        Shape::Apply(_, n, _, _) => not_multiple(n),
-        _ => true,
-    }
-}
-
-fn is_base(s: Shape) -> bool
-    ensures { λ r. ⌜ ((st : d.State) → r ≡ is-base (with-args st (shape-of s))) ⌝ }
-{
-    match s {
-        Shape::Ref(_, _) => false,
-        _ => is_single(s),
-    }
-}
-
-fn good(code: u32, s: Shape) -> bool
-    ensures { λ r. ⌜ ((st : d.State) → r ≡ good code (with-args st (shape-of s))) ⌝ }
-{
-    if code == 1 {
-        return shapes::is_integer(s);
-    }
-    if code == 2 {
-        return is_base(s);
-    }
-    is_single(s)
-}
-
-fn ask_of(c: Constraint) -> Ask
-    ensures { λ r. ⌜ Asks r (constraint-of c) ⌝ }
-{
-    match c {
-        Constraint::Ability(loc, ty, _) => Ask {
-            code: 0,
-            loc: loc,
-            ty: ty,
-        },
-        Constraint::Numeric(loc, ty) => Ask {
-            code: 1,
-            loc: loc,
-            ty: ty,
-        },
-        Constraint::Bits(loc, ty) => Ask {
-            code: 1,
-            loc: loc,
-            ty: ty,
-        },
-        Constraint::Ordered(loc, ty) => Ask {
-            code: 1,
-            loc: loc,
-            ty: ty,
-        },
-        Constraint::BaseType(loc, ty) => Ask {
-            code: 2,
-            loc: loc,
-            ty: ty,
-        },
-        Constraint::SingleType(loc, ty) => Ask {
-            code: 3,
-            loc: loc,
-            ty: ty,
-        },
-    }
 }
 
 // The failure of a constraint that asks for no abilities, if it fails.

@@ -6,7 +6,7 @@ ghost use lib.Dec.{ltb};
 ghost use lib.ListN.{length};
 ghost use Rattle.definition.specs.Types.{if_then_else_};
 ghost use Rattle.outcome.specs.Outcome.{row-for, padded, rows-after, outcome-of, place-after};
-use answer::Answer;
+use payload::Answer;
 use fields::What;
 use fields::Whole;
 use shapes::wide;

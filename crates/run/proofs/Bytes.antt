@@ -18,9 +18,10 @@ use Rattle.table.specs.declared.Used.{Used}
 use Rattle.table.specs.declared.Out.{Out}
 use Rattle.table.specs.declared.Out.the-variants.{Done, Failed, Refused}
 use Rattle.writer.specs.Bytes.{All-bytes}
-use Rattle.answer.specs.Ran.{shown, ran, Settles}
+use Rattle.payload.specs.Payload.{shown}
+use Rattle.answer.specs.Ran.{ran, Settles}
 use Rattle.answer.specs.declared.Ran.{Ran}
-use Rattle.answer.specs.declared.Show.{Show}
+use Rattle.payload.specs.declared.Show.{Show}
 use Rattle.answer.proofs.Calls.{ranges-bytes, seen-bytes}
 use Rattle.run.specs.Runs.{subst-in, declare-run, Runs, Declared}
 

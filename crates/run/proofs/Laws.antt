@@ -37,11 +37,12 @@ use Rattle.subst.specs.Answers.{Unfolds}
 use Rattle.subst.specs.declared.Unfolded.{Unfolded}
 use Rattle.subst.specs.declared.Unfolded.the-variants.{Node as NodeU, Anything as AnythingU}
 use Rattle.tparams.specs.Pairs.{made}
-use Rattle.answer.specs.Ran.{shown, ran, Shows, Tells}
+use Rattle.payload.specs.Payload.{shown, Shows}
+use Rattle.answer.specs.Ran.{ran, Tells}
 use Rattle.answer.specs.declared.Ran.{Ran}
 use Rattle.answer.proofs.Calls.{tells-node, write-anything}
-use Rattle.answer.specs.declared.Show.{Show}
-use Rattle.answer.specs.declared.Show.the-variants.{Nothing as NothingS, Number, Variable, Node, Anything, Four}
+use Rattle.payload.specs.declared.Show.{Show}
+use Rattle.payload.specs.declared.Show.the-variants.{Nothing as NothingS, Number, Variable, Node, Anything, Four}
 use Rattle.definition.specs.Needs.{Needs, takes, write-needs}
 use Rattle.definition.specs.Step.{tell}
 use Rattle.run.specs.Runs.{join-in, two-run, unfold-run, ready-run, subst-in, tparams-run, instantiate-run, tvar-run, num-tvar-in, num-tvar-run, set-num-in, set-num-run, kind-at, constraint-run, needs-run, declare-run, Runs, with-row, Declared}

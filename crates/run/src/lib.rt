@@ -18,7 +18,7 @@ ghost use Rattle.run.specs.Runs.{join-in, two-run, unfold-run, ready-run
 ghost use Rattle.fields.specs.Noded.{binds, looks, adds, bind-of, look-of, add-of, Bind-in, Look-in};
 ghost use Rattle.run.specs.Dispatch.{Ran-as};
 use answer::Ran;
-use answer::Show;
+use payload::Show;
 use arms::TypingCase;
 use constraints::NumericKind;
 use fields::Add;

@@ -28,10 +28,11 @@ use Rattle.constraints.proofs.Solved.{goes-on, unsolved}
 use Rattle.abilities.specs.Rules.{All-kept, any-asks, refusal-of, Number, clear, nine, sixteen, Hindered}
 use Rattle.abilities.proofs.Asking.{asks-clear}
 use Rattle.writer.specs.Bytes.{Wrote, capped}
-use Rattle.answer.specs.Ran.{shown, ran, answered, refused-by, Answers}
-use Rattle.answer.specs.declared.Answer.{Answer}
-use Rattle.answer.specs.declared.Show.the-variants as show
-use Rattle.answer.proofs.Payload.{within, beyond, wrote-payload, wrote-rest, wrote-few}
+use Rattle.payload.specs.Payload.{shown}
+use Rattle.answer.specs.Ran.{ran, answered, refused-by, Answers}
+use Rattle.payload.specs.declared.Answer.{Answer}
+use Rattle.payload.specs.declared.Show.the-variants as show
+use Rattle.payload.proofs.Payload.{within, beyond, wrote-payload, wrote-rest, wrote-few}
 use Rattle.answer.proofs.Settle.{number-14}
 use Rattle.solve.specs.Solves.{reported, solved, solve-answer, Known-settled, Reports, Solves}
 

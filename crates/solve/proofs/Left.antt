@@ -28,11 +28,11 @@ use Rattle.table.specs.declared.Out.the-variants.{Done, Failed, Refused}
 use Rattle.table.proofs.Known.{known-kept}
 use Rattle.table.proofs.Steps.{done-is}
 use Rattle.constraints.specs.Solve.{numbered, Answered}
-use Rattle.constraints.specs.Failing.{ty-of}
+use Rattle.failing.specs.Failing.{ty-of}
 use Rattle.writer.specs.Bytes.{All-bytes}
 use Rattle.solve.specs.Report.{Tys-in}
 use Rattle.answer.specs.Ran.{Tells, Settles}
-use Rattle.answer.specs.declared.Show.the-variants as show
+use Rattle.payload.specs.declared.Show.the-variants as show
 use Rattle.answer.proofs.Calls.{ranges-bytes, seen-bytes}
 use Rattle.solve.specs.Solves.{Holds-sound}
 

@@ -2,7 +2,4 @@
 pub mod Left
 pub mod Ready
 pub mod Answers
-pub mod Series
 pub mod Rows
-pub mod Sizes
-pub mod Report

@@ -13,7 +13,8 @@ use Rattle.table.specs.declared.Used.{Used}
 use Rattle.abilities.specs.Kept.{Kept}
 use Rattle.abilities.specs.Rules.{Asked-in, Asked-kept, All-asked, All-kept, asks-abilities, any-asks}
 use Rattle.abilities.proofs.Asking.{asks-not}
-use Rattle.constraints.specs.Failing.{Ty-in, Asked-ready, All-ready}
+use Rattle.failing.specs.Failing.{Ty-in}
+use Rattle.constraints.specs.Lacking.{Asked-ready, All-ready}
 use Rattle.solve.specs.Report.{Tys-in}
 
 -- ---- the types that are asked for abilities are nodes

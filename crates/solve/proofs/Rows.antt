@@ -18,11 +18,12 @@ use Rattle.table.specs.State.{view, seen}
 use Rattle.table.specs.Known.{Known}
 use Rattle.table.specs.declared.Used.{Used}
 use Rattle.table.proofs.Pushed.{count-view, constraints-view, constraints-seen}
-use Rattle.constraints.specs.Failing.{row, Is-ability, failing, Ty-in, Lacking, Asked-ready, All-ready}
-use Rattle.constraints.specs.declared.Failing.{Failing}
+use Rattle.failing.specs.Failing.{failing, Ty-in}
+use Rattle.constraints.specs.Lacking.{row, Is-ability, Lacking, Asked-ready, All-ready}
+use Rattle.failing.specs.declared.Failing.{Failing}
 use Rattle.constraints.proofs.Lacks.{four-rows}
 use Rattle.solve.specs.Report.{Tys-in, row-count}
-use Rattle.solve.proofs.Series.{Pieces}
+use Rattle.failing.proofs.Series.{Pieces}
 
 abbrev blank : Constraint
 blank = constraint-table .blank

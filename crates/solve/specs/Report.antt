@@ -5,7 +5,7 @@ use Rattle.definition.specs.Types as d
 use Rattle.definition.specs.Types.{State}
 use Rattle.definition.specs.Store.{count}
 use Rattle.table.specs.Rows.{constraint-table}
-use Rattle.constraints.specs.Failing.{Ty-in}
+use Rattle.failing.specs.Failing.{Ty-in}
 
 -- the type of each constraint is a node, as in a sound state
 unfoldable pub Tys-in : State → Type 0

@@ -14,7 +14,7 @@ use Rattle.table.specs.State.{seen, Lay, Declares}
 use Rattle.table.specs.Known.{Known}
 use Rattle.table.specs.declared.Used.{Used}
 use Rattle.snapshot.specs.Snap.{Since}
-use Rattle.answer.specs.declared.Answer.{Answer}
+use Rattle.payload.specs.declared.Answer.{Answer}
 
 -- the words hold a sound state, with the declarations that words and bytes hold
 pub record Holds-sound (w : List ℕ) (u : Used) (params : List (List ℕ)) : Type 0 where

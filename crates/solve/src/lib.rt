@@ -1,31 +1,29 @@
 // SV: solve_constraints. Numeric variables that nothing decides become u64, the failures are the payload, and no constraint stays.
 // Changed from the source that NOTICE names: ported to Rattle.
-ghost use Prim.Native.Nat.{_≤_, ℕ, _+_, _<_, _%_};
+ghost use Prim.Native.Nat.{_≤_, _+_, _<_};
 ghost use lib.ListN.{length, getD};
 ghost use Rattle.table.specs.State.{Lay, view, constraint-of, seen};
 ghost use Rattle.table.specs.Known.{Declared, Known};
 ghost use Rattle.snapshot.specs.Snap.{Above, Saved};
-ghost use Rattle.constraints.specs.Failing.{All-ready, Is-ability, Asked-ready, why, failing, Failing-in, Ty-in};
-ghost use Rattle.writer.specs.Bytes.{All-bytes, capped, Few-is, Wrote};
+ghost use Rattle.failing.specs.Failing.{Ty-in};
+ghost use Rattle.constraints.specs.Lacking.{All-ready, Is-ability, Asked-ready};
+ghost use Rattle.writer.specs.Bytes.{All-bytes, capped, Wrote};
 ghost use Rattle.solve.specs.Report.{Tys-in, row-count};
 ghost use Rattle.solve.specs.Solves.{Holds-sound, solved, reported, Reports, Solves};
 ghost use mathlib.Core.Path.{_≡_};
-ghost use mathlib.Core.List.{List, [], _∷_, _++_};
+ghost use mathlib.Core.List.{List, [], _∷_};
 ghost use Rattle.definition.specs.Types as d;
-ghost use Rattle.definition.specs.Store.{spanned};
-ghost use Rattle.definition.specs.Constraints.{ability-failure, solve-constraint, failures};
-ghost use Rattle.definition.specs.Write.{u32 as bytes-u32};
-ghost use Rattle.abilities.specs.Rules.{Place-in};
-use answer::Answer;
-use answer::MAX_PAYLOAD;
+ghost use Rattle.definition.specs.Constraints.{solve-constraint, failures};
+use payload::Answer;
+use payload::MAX_PAYLOAD;
+use payload::as_left;
 use answer::Ran;
-use answer::Show;
-use constraints::Failing;
+use payload::Show;
+use failing::size_failing;
+use failing::write_failing;
 use table::Constraint;
 use table::Found;
-use table::Shape;
 use table::Used;
-use writer::Few;
 
 // ---- the payload: the failures in bytes, sized first and then written
 
@@ -49,51 +47,6 @@ fn row_count(c: Constraint) -> usize
         Constraint::Ordered(_, _) => 1,
         Constraint::BaseType(_, _) => 1,
         Constraint::SingleType(_, _) => 1,
-    }
-}
-
-// How many bytes a rule has.
-fn why_size(place: Found) -> u32
-    ensures { λ r. ⌜ (r ≡ length (why place)) × (r ≤ 2) ⌝ }
-{
-    match place {
-        Found::Nothing => 1,
-        Found::Just(_) => 2,
-    }
-}
-
-// .. of the failure for an ability: code, location, ability, type and rule.
-fn size_lacks(w: &[u32], u: Used, t: u32, place: Found, room: u32) -> u32
-    requires { ⌜ Lay (now w) u × ((t < u .nodes) × (room ≤ 4096)) ⌝ }
-    ensures { λ r. ⌜ (r ≤ room + 1) × ((ds : List d.Struct) (loc ability : ℕ) → r ≡ capped room (length (ability-failure (seen (now (w .entry)) u ds) loc ability (spanned (seen (now (w .entry)) u ds) t) (why place)))) ⌝ }
-{
-    let around = 6 + why_size(place);
-    if room < around {
-        return room + 1;
-    }
-    around + writer::size_type(w, u, t, room - around)
-}
-
-// How many bytes a failure has, if no more than `room`; else one more than `room`.
-fn size_failing(w: &[u32], u: Used, f: Failing, room: u32) -> u32
-    requires { ⌜ Lay (now w) u × (Failing-in (u .nodes) f × (room ≤ 4096)) ⌝ }
-    ensures { λ r. ⌜ ((ds : List d.Struct) → r ≡ capped room (length (failing f (seen (now (w .entry)) u ds)))) ⌝ }
-{
-    match f {
-        Failing::Fine => 0,
-        Failing::Node(_, _, t) => {
-            if room < 5 {
-                return room + 1;
-            }
-            5 + writer::size_type(w, u, t, room - 5)
-        }
-        Failing::Anything(_, _, _) => {
-            if room < 10 {
-                return room + 1;
-            }
-            10
-        }
-        Failing::Lacks(_, _, t, place) => size_lacks(w, u, t, place, room),
     }
 }
 
@@ -140,103 +93,6 @@ fn size_failures(w: &[u32], u: Used, params: &[[u8; 8]; 256], sets: &[u32]) -> u
         i = i + 1;
     }
     size
-}
-
-fn low(x: u32) -> u8
-    ensures { λ r. ⌜ r ≡ x % 256 ⌝ }
-{
-    (x % 256) as u8
-}
-
-// A failure's code and location.
-fn code_head(code: u32, loc: u32) -> Few
-    requires { ⌜ code < 4 ⌝ }
-    ensures { λ r. ⌜ Few-is (r .n) (r .bytes) (code ∷ bytes-u32 loc) ⌝ }
-{
-    let k = low(code);
-    let a = low(loc);
-    let b = low(loc / 256);
-    let c = low(loc / 65536);
-    let e = low(loc / 16777216);
-    Few {
-        bytes: [k, a, b, c, e, 0, 0, 0, 0, 0],
-        n: 5,
-    }
-}
-
-// Code, location and ability.
-fn ability_head(loc: u32, ability: u8) -> Few
-    ensures { λ r. ⌜ Few-is (r .n) (r .bytes) (4 ∷ bytes-u32 loc ++ (ability ∷ [])) ⌝ }
-{
-    let a = low(loc);
-    let b = low(loc / 256);
-    let c = low(loc / 65536);
-    let e = low(loc / 16777216);
-    Few {
-        bytes: [4, a, b, c, e, ability, 0, 0, 0, 0],
-        n: 6,
-    }
-}
-
-fn why_of(place: Found) -> Few
-    requires { ⌜ Place-in place ⌝ }
-    ensures { λ r. ⌜ Few-is (r .n) (r .bytes) (why place) ⌝ }
-{
-    match place {
-        Found::Nothing => Few {
-            bytes: [1, 0, 0, 0, 0, 0, 0, 0, 0, 0],
-            n: 1,
-        },
-        Found::Just(i) => Few {
-            bytes: [2, low(i), 0, 0, 0, 0, 0, 0, 0, 0],
-            n: 2,
-        },
-    }
-}
-
-// The failure for an ability: code, location, ability, type and rule.
-fn write_lacks(
-    w: &[u32],
-    u: Used,
-    loc: u32,
-    ability: u8,
-    t: u32,
-    place: Found,
-    buf: &mut [u8],
-    at: usize,
-) -> usize
-    requires { ⌜ Lay (now w) u × ((t < u .nodes) × (Place-in place × All-bytes (view (now w) u))) ⌝ }
-    requires { ⌜ ((ds : List d.Struct) → at + length (ability-failure (seen (now w) u ds) loc ability (spanned (seen (now w) u ds) t) (why place)) ≤ length (now buf)) ⌝ }
-    ensures { λ r. ⌜ ((ds : List d.Struct) → Wrote (now (buf .entry)) at (ability-failure (seen (now (w .entry)) u ds) loc ability (spanned (seen (now (w .entry)) u ds) t) (why place)) (now (buf .exit)) r) ⌝ }
-{
-    let few = ability_head(loc, ability);
-    let next = writer::put_few(buf, at, few);
-    let end = writer::write_type(w, u, t, buf, next);
-    let why = why_of(place);
-    writer::put_few(buf, end, why)
-}
-
-fn write_failing(w: &[u32], u: Used, f: Failing, buf: &mut [u8], at: usize) -> usize
-    requires { ⌜ Lay (now w) u × (Failing-in (u .nodes) f × All-bytes (view (now w) u)) ⌝ }
-    requires { ⌜ ((ds : List d.Struct) → at + length (failing f (seen (now w) u ds)) ≤ length (now buf)) ⌝ }
-    ensures { λ r. ⌜ ((ds : List d.Struct) → Wrote (now (buf .entry)) at (failing f (seen (now (w .entry)) u ds)) (now (buf .exit)) r) ⌝ }
-{
-    match f {
-        Failing::Fine => at,
-        Failing::Node(code, loc, t) => {
-            let few = code_head(code, loc);
-            let next = writer::put_few(buf, at, few);
-            writer::write_type(w, u, t, buf, next)
-        }
-        Failing::Anything(code, loc, l) => {
-            let few = code_head(code, loc);
-            let next = writer::put_few(buf, at, few);
-            writer::write_head(l, Shape::Anything, buf, next)
-        }
-        Failing::Lacks(loc, ability, t, place) => {
-            write_lacks(w, u, loc, ability, t, place, buf, at)
-        }
-    }
 }
 
 // The failures of a constraint, which fit, from byte `at` on.
@@ -309,12 +165,7 @@ fn report_failures(
     }
     let len = write_failures(w, u, params, sets, buf);
     let left = constraints::take_constraints(w, u);
-    Answer {
-        number: 0,
-        len: len,
-        used: left,
-        kept: true,
-    }
+    as_left(left, 0, len)
 }
 
 // 9 or 16 before anything is sized. Levels and sets are kept for each node, so that each is looked at once for all constraints.

@@ -28,7 +28,7 @@ use Rattle.fields.specs.Noded.{Run, Noded, declare, solve, run, Shape}
 use Rattle.writer.specs.Bytes.{All-bytes}
 use Rattle.answer.specs.Ran.{Settles, Still, answered, refused-by, Settled, Answers}
 use Rattle.answer.specs.declared.Ran.{Ran}
-use Rattle.answer.specs.declared.Answer.{Answer}
+use Rattle.payload.specs.declared.Answer.{Answer}
 use Rattle.answer.proofs.Calls.{grown-above}
 use Rattle.table.specs.Known.{Known}
 use Rattle.run.specs.Runs.{Declared, with-row}

@@ -35,7 +35,7 @@ use Rattle.fields.specs.declared.Whole.the-variants.{Placed, Full, Malformed, U
 use Rattle.fields.specs.Noded.{Noded, place-record, noded, Whole-so, What-in, whole-with, Record-is}
 use Rattle.fields.specs.declared.Fields.{Fields}
 use Rattle.answer.specs.Ran.{refused-by, Answers}
-use Rattle.answer.specs.declared.Answer.{Answer}
+use Rattle.payload.specs.declared.Answer.{Answer}
 use Rattle.answer.proofs.Calls.{grown-above}
 use Rattle.run.specs.Dispatch.{noded-run}
 use Rattle.run.proofs.Placed.{run-placed}

@@ -14,7 +14,7 @@ use Rattle.table.specs.declared.Used.{Used}
 use Rattle.sound.specs.Lent.{structs-of, encode-params}
 use Rattle.snapshot.specs.Snap.{Since}
 use Rattle.fields.specs.Noded.{binds, looks, adds, Noded, declare, solve, run, place-record}
-use Rattle.answer.specs.declared.Answer.{Answer}
+use Rattle.payload.specs.declared.Answer.{Answer}
 use Rattle.step.specs.Trusted.{held, Stands}
 
 -- the answer a is r: the payload stands in front of the buffer, and its state is what words and bytes hold, the bytes being just its declarations'

@@ -9,7 +9,7 @@ ghost use Rattle.sound.specs.Lent.{used-of};
 ghost use Rattle.fields.specs.Noded.{declare, noded, What-in};
 ghost use Rattle.step.specs.Trusted.{held, Stands, unread, Steps};
 ghost use Rattle.step.specs.Replies.{Begins, Ends};
-use answer::Answer;
+use payload::Answer;
 use fields::Fields;
 use fields::What;
 use names::AbilitySet;

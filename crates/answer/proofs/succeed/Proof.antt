@@ -41,15 +41,19 @@ same-length-2 c = search needs
 same-length-3 : tie.Need-same-length-3
 same-length-3 c = search needs
 
+as-left-requires : tie.Need-as-left-requires
+as-left-requires c κs = search needs
+
 returns-2 : tie.Need-returns-2
 returns-2 c =
-    let args = c .before .before .before .before .before .before .before .before .before .before .before .before .args in
-    let pre = c .before .before .before .before .before .before .before .before .before .before .before .before .pre in
-    let shown-size = c .before .before .before .before .before .before .before .shown-size in
-    let if1 = c .before .before .before .before .before .before .if1 in
-    success-kept (args .w .now) (args .u) (args .before) (args .saved .now) (args .buf .now) (args .kept) (args .show)
+    let args = c .before .before .before .before .before .before .before .before .before .before .before .before .before .args in
+    let pre = c .before .before .before .before .before .before .before .before .before .before .before .before .before .pre in
+    let shown-size = c .before .before .before .before .before .before .before .before .shown-size in
+    let if1 = c .before .before .before .before .before .before .before .if1 in
+    rw (c .as-left .ensures)
+    (success-kept (args .w .now) (args .u) (args .before) (args .saved .now) (args .buf .now) (args .kept) (args .show)
     (args .t) (shown-size .result) (shown-size .ensures) _ _ (if1 .left)
-    (c .before .before .before .write-shown .ensures) (c .if2 .taken) (pre .0 .0)
+    (c .before .before .before .before .write-shown .ensures) (c .before .if2 .taken) (pre .0 .0))
 
 give-back-requires : tie.Need-give-back-requires
 give-back-requires c κs = (sized-on _ refl (c .before .before .before .before .before .before .before .before .before .before .before .before .before .pre .0 .0), c .before .before .before .before .before .before .before .before .before .before .before .before .before .pre .0 .1 .0)
@@ -87,6 +91,7 @@ succeed-spec =
     same-length
     returns
     write-shown-requires
+    as-left-requires
     same-length-2
     same-length-3
     returns-2

@@ -6,8 +6,8 @@ use Rattle.constraints.proofs.failing_of.Statement.{statement}
 use Rattle.constraints.proofs.failing_of.Tie as tie
 use Rattle.constraints.proofs.failing_of.Reads as reads
 use Rattle.constraints.proofs.failing_of.Lts as lts
-use Rattle.constraints.proofs.ask_of.Reads as ask-of-reads
-use Rattle.constraints.proofs.good.Reads as good-reads
+use Rattle.failing.proofs.ask_of.Reads as ask-of-reads
+use Rattle.failing.proofs.good.Reads as good-reads
 use Rattle.subst.proofs.unfold_type.Reads as unfold-type-reads
 use Rattle.table.proofs.node_at.Reads as node-at-reads
 

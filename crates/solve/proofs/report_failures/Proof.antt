@@ -39,14 +39,18 @@ same-length-2 c = search needs
 same-length-3 : tie.Need-same-length-3
 same-length-3 c = search needs
 
+as-left-requires : tie.Need-as-left-requires
+as-left-requires c κs = search needs
+
 returns-2 : tie.Need-returns-2
 returns-2 c =
-    let size-failures = c .before .before .before .before .before .before .before .before .before .before .size-failures in
-    let p = c .before .before .before .before .before .before .before .before .before .before .before .before .before .before .before .before .pre in
-    let if1 = c .before .before .before .before .before .before .before .before .before .if1 in
-    let write-failures = c .before .before .before .before .before .before .write-failures in
-    let take-constraints = c .before .before .take-constraints in
-    report-kept _ _ _ _ (size-failures .ensures) _ _ _ _ _ (p .1 .1 .1 .1 .0) _ _ (if1 .left) (write-failures .ensures) (take-constraints .ensures)
+    let size-failures = c .before .before .before .before .before .before .before .before .before .before .before .size-failures in
+    let p = c .before .before .before .before .before .before .before .before .before .before .before .before .before .before .before .before .before .pre in
+    let if1 = c .before .before .before .before .before .before .before .before .before .before .if1 in
+    let write-failures = c .before .before .before .before .before .before .before .write-failures in
+    let take-constraints = c .before .before .before .take-constraints in
+    rw (c .as-left .ensures)
+    (report-kept _ _ _ _ (size-failures .ensures) _ _ _ _ _ (p .1 .1 .1 .1 .0) _ _ (if1 .left) (write-failures .ensures) (take-constraints .ensures))
 
 pub report-failures-spec : {M : Type 1} → statement M
 report-failures-spec =
@@ -58,6 +62,7 @@ report-failures-spec =
     returns
     write-failures-requires
     take-constraints-requires
+    as-left-requires
     same-length-2
     same-length-3
     returns-2)

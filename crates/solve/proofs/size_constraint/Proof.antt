@@ -5,9 +5,9 @@ use native.Mathlib.Omega.{arith}
 use borrow.Author.Needs.{needs}
 use Rattle.table.specs.Known.{Known}
 use Rattle.table.specs.State.{constraint-of}
-use Rattle.solve.proofs.Series.{Sized, sized-none, sized-all, sized-more, sized-over}
+use Rattle.failing.proofs.Series.{Sized, sized-none, sized-all, sized-more, sized-over}
 use Rattle.solve.proofs.Rows.{all-rows, rows-from, row-pieces, row-is}
-use Rattle.solve.proofs.Sizes.{capped-small}
+use Rattle.failing.proofs.Sizes.{capped-small}
 use Rattle.solve.proofs.size_constraint.Statement.{statement}
 use Rattle.solve.proofs.size_constraint.Tie as tie
 

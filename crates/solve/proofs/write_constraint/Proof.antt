@@ -4,9 +4,9 @@ use native.Mathlib.Omega.{arith}
 use borrow.Author.Needs.{needs}
 use Rattle.table.specs.Known.{Known}
 use Rattle.table.specs.State.{constraint-of}
-use Rattle.solve.proofs.Series.{Written, written-none, written-all, one-fits, written-more}
+use Rattle.failing.proofs.Series.{Written, written-none, written-all, one-fits, written-more}
 use Rattle.solve.proofs.Rows.{all-rows, rows-from, row-pieces, row-is}
-use Rattle.solve.proofs.Report.{fits-same}
+use Rattle.failing.proofs.Report.{fits-same}
 use Rattle.solve.proofs.write_constraint.Statement.{statement}
 use Rattle.solve.proofs.write_constraint.Tie as tie
 

@@ -1,0 +1,4 @@
+-- Laws. Assumes nothing.
+pub mod Series
+pub mod Sizes
+pub mod Report

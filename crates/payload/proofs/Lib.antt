@@ -1,0 +1,2 @@
+-- Payloads in the buffer, and their lengths. Assumes nothing.
+pub mod Payload
