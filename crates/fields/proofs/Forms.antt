@@ -26,9 +26,9 @@ use Rattle.table.proofs.Grown.{nodes-grow}
 use Rattle.reader.specs.declared.Part.{Part}
 use Rattle.reader.specs.declared.Part.the-variants.{At, Full, Malformed, Unknown, Doubled}
 use Rattle.reader.specs.declared.Taken.{Taken}
-use Rattle.reader.specs.Fields.{rest, Knows}
+use Rattle.heads.specs.Fields.{rest, Knows}
 use Rattle.reader.specs.Taken.{Placed, placed, place-read, part-of, Part-in, Takes, is-stop, is-over, node-in}
-use Rattle.reader.proofs.Heads.{declares-self}
+use Rattle.heads.proofs.Heads.{declares-self}
 use Rattle.reader.proofs.Parts.{at-open}
 use Rattle.reader.proofs.Loop.{declares-kept, knowing, knows}
 use Rattle.needs.specs.Counted.{as-argument, Tells, Counts}

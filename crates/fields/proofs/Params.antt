@@ -14,7 +14,7 @@ use Rattle.definition.specs.Record as d
 use Rattle.definition.specs.Record.{Record}
 use Rattle.table.specs.State.{Lay}
 use Rattle.table.specs.declared.Used.{Used}
-use Rattle.reader.specs.Fields.{rest}
+use Rattle.heads.specs.Fields.{rest}
 use Rattle.reader.specs.Taken.{place-read}
 use Rattle.fields.specs.declared.What.the-variants as q
 use Rattle.fields.specs.declared.Whole.the-variants as h

@@ -20,7 +20,7 @@ use Rattle.table.specs.State.{Lay, Grown, Declares, Parts, view, seen}
 use Rattle.table.specs.declared.Used.{Used}
 use Rattle.reader.specs.declared.Part.{Part}
 use Rattle.reader.specs.declared.Part.the-variants.{At, Full, Malformed, Unknown, Doubled}
-use Rattle.reader.specs.Fields.{rest, Knows}
+use Rattle.heads.specs.Fields.{rest, Knows}
 use Rattle.reader.specs.Taken.{Placed, stopped, placed, place-read, node-in}
 use Rattle.needs.specs.Counted.{needs-of}
 use Rattle.fields.specs.declared.Bind.{Bind}

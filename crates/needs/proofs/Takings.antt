@@ -14,7 +14,7 @@ use Rattle.theorems.proofs.JoinWrites.{name-size}
 use Rattle.names.specs.Names.{name-of}
 use Rattle.table.specs.declared.Shape.{Shape}
 use Rattle.table.specs.declared.Shape.the-variants.{Unit as UnitS, Ref, Param, Apply, Var, Anything, UnresolvedError}
-use Rattle.reader.specs.Fields.{many-parts, first-tree, tree-of}
+use Rattle.heads.specs.Fields.{many-parts, first-tree, tree-of}
 use Rattle.needs.specs.declared.Sums.{Sums}
 use Rattle.needs.specs.Counted.{sums, both, needs-of, Most, own, beside, is-apply, as-argument}
 

@@ -16,13 +16,13 @@ use Rattle.theorems.proofs.JoinAnswers.{tree-size, trees-size, Spent, spent, pa
 use Rattle.table.specs.State.{Declares, view}
 use Rattle.table.specs.declared.Used.{Used}
 use Rattle.table.specs.declared.Shape.{Shape}
-use Rattle.reader.specs.declared.Head.the-variants.{Begun}
+use Rattle.heads.specs.declared.Head.the-variants.{Begun}
 use Rattle.reader.specs.declared.Part.{Part}
 use Rattle.reader.specs.declared.Part.the-variants.{At, Full, Malformed, Unknown, Doubled}
-use Rattle.reader.specs.Fields.{rest, Knows, many-parts, tree-of, tree-read}
+use Rattle.heads.specs.Fields.{rest, Knows, many-parts, tree-of, tree-read}
 use Rattle.reader.specs.Taken.{is-stop}
-use Rattle.reader.proofs.Rest.{rest-length}
-use Rattle.reader.proofs.Heads.{declares-self}
+use Rattle.heads.proofs.Rest.{rest-length}
+use Rattle.heads.proofs.Heads.{declares-self}
 use Rattle.reader.proofs.Parts.{never}
 use Rattle.reader.proofs.Loop.{knowing, knows}
 use Rattle.needs.specs.declared.Sums.{Sums}

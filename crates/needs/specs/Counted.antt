@@ -16,7 +16,7 @@ use Rattle.table.specs.declared.Shape.{Shape}
 use Rattle.table.specs.declared.Shape.the-variants.{Unit as UnitS, Ref, Param, Apply, Var, Anything, UnresolvedError}
 use Rattle.reader.specs.declared.Part.{Part}
 use Rattle.reader.specs.declared.Part.the-variants.{At, Full, Malformed, Unknown, Doubled}
-use Rattle.reader.specs.Fields.{rest, Knows}
+use Rattle.heads.specs.Fields.{rest, Knows}
 use Rattle.needs.specs.declared.Sums.{Sums}
 use Rattle.needs.specs.declared.Counted.{Counted}
 

@@ -21,13 +21,13 @@ use Rattle.table.specs.declared.Shape.{Shape}
 use Rattle.table.proofs.Rows.{length-entries}
 use Rattle.table.proofs.Steps.{grown-refl, grown-trans}
 use Rattle.table.proofs.Grown.{nodes-grow}
-use Rattle.reader.specs.declared.Head.the-variants.{Begun}
+use Rattle.heads.specs.declared.Head.the-variants.{Begun}
 use Rattle.reader.specs.declared.Part.{Part}
 use Rattle.reader.specs.declared.Part.the-variants.{At, Full, Malformed, Unknown, Doubled}
 use Rattle.reader.specs.declared.Taken.{Taken}
-use Rattle.reader.specs.Fields.{rest, Knows, many-parts, tree-read}
+use Rattle.heads.specs.Fields.{rest, Knows, many-parts, tree-read}
 use Rattle.reader.specs.Taken.{Placed, place-read, part-of, Part-in, Takes, put-node, found-part, is-stop, is-over, node-in}
-use Rattle.reader.proofs.Heads.{declares-self}
+use Rattle.heads.proofs.Heads.{declares-self}
 use Rattle.reader.proofs.Parts.{never, then-node, onward, onward-none, node-after, turn, stop, at-open, none-left, found-is, found-in}
 
 -- ---- declarations and counts

@@ -22,7 +22,7 @@ use Rattle.table.specs.declared.Out.{Out}
 use Rattle.table.specs.declared.Out.the-variants.{Done, Failed, Refused}
 use Rattle.reader.specs.declared.Part.{Part}
 use Rattle.reader.specs.declared.Part.the-variants.{At, Full, Malformed, Unknown, Doubled}
-use Rattle.reader.specs.Fields.{many-parts, tree-of}
+use Rattle.heads.specs.Fields.{many-parts, tree-of}
 use Rattle.reader.specs.Taken.{Placed, stopped, placed, place-read, part-of, Part-in, found-part, is-stop, is-over, node-in, with-parts, put-node}
 
 pub never : {A : Type 0} → _≡_ {A = ℕ} 0 1 → A

@@ -1,3 +1,2 @@
 -- What the reader's answers stand for in the definition. Assumes nothing: these are definitions.
-pub mod Fields
 pub mod Taken

@@ -21,7 +21,7 @@ use Rattle.table.specs.declared.Shape.the-variants.{Unit as UnitS, Ref, Param, 
 use Rattle.reader.specs.declared.Part.{Part}
 use Rattle.reader.specs.declared.Part.the-variants.{At, Full, Malformed, Unknown, Doubled}
 use Rattle.reader.specs.declared.Taken.{Taken}
-use Rattle.reader.specs.Fields.{rest, Knows}
+use Rattle.heads.specs.Fields.{rest, Knows}
 
 -- 5, 6 or 18; or what was placed, or 7, and the bytes after it
 pub data Placed (A : Type 0) : Type 0 where
@@ -46,10 +46,6 @@ Part-in n Full = Unit {0}
 Part-in n Malformed = Unit {0}
 Part-in n Unknown = Unit {0}
 Part-in n Doubled = Unit {0}
-
--- no struct has more than eight parameters, as in a sound state
-unfoldable pub Arities : List Struct → Type 0
-Arities ds = (n : ℕ) → length (getD ds n (record { abilities = 0; params = [] }) .params) ≤ 8
 
 -- the words w became w′, and the answer r is the type that m reads; s knows as many variables and structs as the record began with
 pub record Takes (w : List ℕ) (u : Used) (b : List ℕ) (end known : ℕ) (over : Bool) (m : State → Read Tree) (w′ : List ℕ) (r : Taken) : Type 0 where

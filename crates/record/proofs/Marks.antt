@@ -9,8 +9,8 @@ use Rattle.definition.specs.Types.{State}
 use Rattle.definition.specs.Write.{Bytes}
 use Rattle.definition.specs.Reader.{got, Reader, go-on, _>>=_, byte}
 use Rattle.definition.specs.Record.{Record, by-mark, fields-of, read-fields}
-use Rattle.reader.specs.Fields.{rest}
-use Rattle.reader.proofs.Rest.{rest-length}
+use Rattle.heads.specs.Fields.{rest}
+use Rattle.heads.proofs.Rest.{rest-length}
 
 module _ (s : State) (x y : ℕ) (l l₁ l₂ : Bytes) where
   pub mark-there : got x l₁ ≡ byte l → got y l₂ ≡ byte l₁ → (f : Reader Record) → f ≡ fields-of (by-mark s) x y → f l₂ ≡ read-fields s l

@@ -25,7 +25,7 @@ use Rattle.table.proofs.Grown.{nodes-grow}
 use Rattle.reader.specs.declared.Part.{Part}
 use Rattle.reader.specs.declared.Part.the-variants.{At, Full, Malformed, Unknown, Doubled}
 use Rattle.reader.specs.declared.Taken.{Taken}
-use Rattle.reader.specs.Fields.{rest, Knows}
+use Rattle.heads.specs.Fields.{rest, Knows}
 use Rattle.reader.specs.Taken.{place-read, Takes, is-stop, is-over, node-in}
 use Rattle.reader.proofs.Loop.{declares-kept}
 use Rattle.fields.specs.declared.Look.the-variants as k

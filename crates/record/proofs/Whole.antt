@@ -15,7 +15,7 @@ use Rattle.definition.specs.Record.{Record, max-record, hand-back, read-fields,
 use Rattle.table.specs.State.{seen}
 use Rattle.table.specs.declared.Used.{Used}
 use Rattle.table.proofs.Pushed.{taken-seen}
-use Rattle.reader.specs.Fields.{rest, Knows}
+use Rattle.heads.specs.Fields.{rest, Knows}
 use Rattle.reader.specs.Taken as taken
 use Rattle.reader.specs.Taken.{stopped, placed, place-read}
 use Rattle.fields.specs.declared.What.{What}

@@ -27,7 +27,7 @@ use Rattle.table.proofs.Rows.{length-entries, row-word}
 use Rattle.table.proofs.Steps.{front-is}
 use Rattle.snapshot.specs.Snap.{Saved, Saved-partly}
 use Rattle.answer.specs.Ran.{Still}
-use Rattle.reader.specs.Taken.{Arities}
+use Rattle.heads.specs.Fields.{Arities}
 use Rattle.step.specs.Trusted.{answered}
 use Rattle.step.proofs.Rows.{none}
 

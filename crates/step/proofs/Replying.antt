@@ -22,7 +22,7 @@ use Rattle.table.proofs.Steps.{grown-trans}
 use Rattle.snapshot.specs.Snap.{Above, Saved, Since}
 use Rattle.sound.specs.Lent.{structs-of, encode-params}
 use Rattle.sound.proofs.Lays.{lent-declares}
-use Rattle.reader.specs.Taken.{Arities}
+use Rattle.heads.specs.Fields.{Arities}
 use Rattle.reader.proofs.Loop.{declares-kept}
 use Rattle.fields.specs.Noded.{Run, Noded, declare, solve, run, Shape}
 use Rattle.writer.specs.Bytes.{All-bytes}

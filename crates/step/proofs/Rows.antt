@@ -18,7 +18,7 @@ use Rattle.table.specs.declared.Found.the-variants.{Nothing, Just}
 use Rattle.table.proofs.Tab.{length-tab, getD-tab, tab-set}
 use Rattle.table.proofs.Rows.{entry-at}
 use Rattle.sound.specs.Lent.{bytes-at, struct-of, structs-of, encode-params}
-use Rattle.reader.specs.Taken.{Arities}
+use Rattle.heads.specs.Fields.{Arities}
 use Rattle.table.specs.Known.{Known}
 use Rattle.run.specs.Runs.{with-row}
 use Rattle.step.specs.Trusted.{held}

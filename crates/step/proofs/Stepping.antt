@@ -27,7 +27,8 @@ use Rattle.table.proofs.Steps.{front-refl}
 use Rattle.snapshot.proofs.Exact.{declares-still, word-for-word}
 use Rattle.sound.specs.Lent.{used-of}
 use Rattle.sound.proofs.Lays.{lent-declares}
-use Rattle.reader.specs.Taken.{Arities, stopped, placed, place-read}
+use Rattle.heads.specs.Fields.{Arities}
+use Rattle.reader.specs.Taken.{stopped, placed, place-read}
 use Rattle.fields.specs.declared.What.{What}
 use Rattle.fields.specs.declared.What.the-variants as q
 use Rattle.fields.specs.declared.Whole.{Whole}

@@ -1,7 +1,7 @@
 -- `fields::read_loc` meets its contract. Assumes nothing.
 use mathlib.Core.Path.{refl}
 use Rattle.definition.specs.Reader.{_>>=_, go-on, read-one}
-use Rattle.reader.specs.Fields.{u32-wide}
+use Rattle.heads.specs.Fields.{u32-wide}
 use Rattle.fields.proofs.Forms.{loc-is, malformed-is}
 use borrow.Author.Needs.{needs}
 use Rattle.fields.proofs.read_loc.Statement.{statement}

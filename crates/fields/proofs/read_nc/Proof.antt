@@ -2,7 +2,7 @@
 use mathlib.Core.Path.{refl, sym, _∙_}
 use Rattle.definition.specs.Record.{read-kind}
 use Rattle.definition.specs.Reader.{_>>=_, go-on, read-one, read-three}
-use Rattle.reader.specs.Fields.{byte-wide, u32-wide}
+use Rattle.heads.specs.Fields.{byte-wide, u32-wide}
 use Rattle.fields.proofs.Forms.{nc-is, malformed-is, one-NC}
 use borrow.Author.Needs.{needs}
 use Rattle.fields.proofs.read_nc.Statement.{statement}

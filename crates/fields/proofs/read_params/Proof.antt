@@ -4,7 +4,7 @@ use mathlib.Core.Path.{refl}
 use Rattle.fields.proofs.Params.{Params, params-none, params-more, params-stop, params-all}
 use native.Mathlib.Omega.{arith}
 use borrow.Author.Needs.{needs}
-use Rattle.reader.specs.Fields.{byte-wide}
+use Rattle.heads.specs.Fields.{byte-wide}
 use Rattle.fields.proofs.read_params.Statement.{statement}
 use Rattle.fields.proofs.read_params.Tie as tie
 

@@ -2,7 +2,7 @@
 use Rattle.definition.specs.Record.{read-SD}
 use Rattle.definition.specs.Reader.{_>>=_, go-on}
 use mathlib.Core.Path.{refl}
-use Rattle.reader.specs.Fields.{byte-wide}
+use Rattle.heads.specs.Fields.{byte-wide}
 use Rattle.fields.proofs.Forms.{sd-is, malformed-is}
 use borrow.Author.Needs.{needs}
 use Rattle.fields.proofs.read_sd.Statement.{statement}

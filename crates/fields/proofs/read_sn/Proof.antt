@@ -2,7 +2,7 @@
 use mathlib.Core.Path.{refl}
 use native.Mathlib.Omega.{arith}
 use Rattle.definition.specs.Reader.{_>>=_, go-on, read-two, name-below}
-use Rattle.reader.specs.Fields.{u16-wide, u32-wide}
+use Rattle.heads.specs.Fields.{u16-wide, u32-wide}
 use Rattle.fields.proofs.Forms.{sn-is, malformed-is, unknown-is}
 use borrow.Author.Needs.{needs}
 use Rattle.fields.proofs.read_sn.Statement.{statement}

@@ -1,6 +1,6 @@
 -- `fields::read_two` meets its contract. Assumes nothing.
 use mathlib.Core.Path.{sym, _∙_, subst}
-use Rattle.reader.specs.Taken.{Arities}
+use Rattle.heads.specs.Fields.{Arities}
 use Rattle.fields.proofs.Forms.{two-is, two-stop}
 use borrow.Author.Needs.{needs}
 use Rattle.fields.proofs.read_two.Statement.{statement}

@@ -20,7 +20,7 @@ use Rattle.needs.proofs.is_apply.Reads as is-apply-reads
 use Rattle.needs.proofs.own.Reads as own-reads
 use Rattle.needs.proofs.stopped.Reads as stopped-reads
 use Rattle.reader.proofs.part_count.Reads as part-count-reads
-use Rattle.reader.proofs.read_head.Reads as read-head-reads
+use Rattle.heads.proofs.read_head.Reads as read-head-reads
 use Rattle.reader.proofs.stops.Reads as stops-reads
 use Rattle.needs.proofs.+count_parts+count_type.{statement}
 use Rattle.needs.proofs.+count_parts+count_type.Tie.{close}

@@ -1,7 +1,8 @@
 -- `reader::read_parts` and `reader::read_type` meet their contracts. Assumes nothing.
 use Rattle.reader.proofs.Loop.{Going, go-none, go-more, go-stop, go-all, takes-is, takes-none}
 use Rattle.reader.specs.declared.Part.the-variants.{Malformed, Unknown, Doubled}
-use Rattle.reader.specs.Taken.{Arities, place-read}
+use Rattle.heads.specs.Fields.{Arities}
+use Rattle.reader.specs.Taken.{place-read}
 use borrow.Author.Needs.{needs}
 use mathlib.Core.Path.{refl, sym, _∙_, subst}
 use native.Mathlib.Omega.{arith}
@@ -19,7 +20,7 @@ use Rattle.reader.proofs.node_of.Reads as node-of-reads
 use Rattle.reader.proofs.part_count.Reads as part-count-reads
 use Rattle.reader.proofs.part_found.Reads as part-found-reads
 use Rattle.reader.proofs.place_node.Reads as place-node-reads
-use Rattle.reader.proofs.read_head.Reads as read-head-reads
+use Rattle.heads.proofs.read_head.Reads as read-head-reads
 use Rattle.reader.proofs.stops.Reads as stops-reads
 use Rattle.table.proofs.done_of.Reads as done-of-reads
 use Rattle.reader.proofs.+read_parts+read_type.{statement}

@@ -5,7 +5,7 @@ use Rattle.table.specs.State.{shape-of}
 use Rattle.table.specs.declared.Shape.{Shape}
 use Rattle.table.specs.declared.Shape.the-variants.{Unit as UnitS, Ref, Param, Apply, Var, Anything, UnresolvedError}
 use Rattle.shapes.specs.Parts.{part-count}
-use Rattle.reader.specs.Fields.{many-parts}
+use Rattle.heads.specs.Fields.{many-parts}
 use borrow.Author.Needs.{needs}
 use Rattle.reader.proofs.part_count.Statement.{statement}
 use Rattle.reader.proofs.part_count.Tie as tie

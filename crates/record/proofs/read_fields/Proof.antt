@@ -3,7 +3,7 @@ use Rattle.record.proofs.Marks.{mark-there, byte-past}
 use native.Mathlib.Omega.{arith}
 use Rattle.fields.proofs.Forms.{malformed-is, fields-is}
 use borrow.Author.Needs.{needs}
-use Rattle.reader.specs.Fields.{byte-wide}
+use Rattle.heads.specs.Fields.{byte-wide}
 use mathlib.Core.Path.{refl}
 use Rattle.definition.specs.Reader.{_>>=_, go-on}
 use Rattle.definition.specs.Record.{read-fields}

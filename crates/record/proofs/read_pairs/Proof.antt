@@ -1,9 +1,8 @@
 -- `record::read_pairs` meets its contract. Assumes nothing.
-use Rattle.reader.specs.Taken.{Arities}
+use Rattle.heads.specs.Fields.{Arities, u32-wide}
 use Prim.Native.Nat.{_-_}
 use mathlib.Core.Path.{refl, sym, _∙_, subst}
 use native.Mathlib.Omega.{arith}
-use Rattle.reader.specs.Fields.{u32-wide}
 use Rattle.record.proofs.Pairs.{Pairs-go, pairs-none, pairs-cut, pairs-stop, pairs-turn, pairs-all}
 use borrow.Author.Needs.{needs}
 use Rattle.record.proofs.read_pairs.Statement.{statement}

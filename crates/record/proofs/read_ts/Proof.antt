@@ -2,7 +2,7 @@
 use Rattle.definition.specs.Record.{read-TS}
 use Rattle.definition.specs.Reader.{_>>=_, go-on}
 use mathlib.Core.Path.{refl, sym, _∙_}
-use Rattle.reader.specs.Fields.{byte-wide}
+use Rattle.heads.specs.Fields.{byte-wide}
 use Rattle.fields.proofs.Forms.{ts-is, malformed-is}
 use borrow.Author.Needs.{needs}
 use Rattle.record.proofs.read_ts.Statement.{statement}
