@@ -13,8 +13,8 @@ KIT = ('io', 'libc')
 GROUPS = [
     ('believed', '#f5d76e', 'definition theorems pieces test_replay'),
     ('the lent words', '#aed6f1', 'names table snapshot sound_rows sound'),
-    ("core.rs's functions", '#a9dfbf', 'shapes subst ready arms merge join tparams instantiate abilities constraints'),
-    ('bytes in and out', '#d7bde2', 'cursor marks reader needs fields record writer log answer'),
+    ("core.rs's functions", '#a9dfbf', 'shapes subst ready arms merge join tparams instantiate abilities failing constraints'),
+    ('bytes in and out', '#d7bde2', 'cursor marks heads reader needs fields record writer log payload answer'),
     ('a record', '#f5b7b1', 'run solve outcome step'),
     ('calls, programs', '#d5dbdb', 'limits engine turns joinlog exports test_edges test_traps'),
 ]

@@ -11,6 +11,8 @@ ghost use Rattle.step.specs.Trusted.{Stands};
 use limits::MAX_BUFFER;
 use limits::ends_job;
 use limits::fits;
+use limits::refuse_job;
+use limits::refuse_record;
 use limits::takes_on;
 use log::write_line;
 use snapshot::SAVED;
@@ -64,7 +66,7 @@ fn record_trusted(
 }
 
 // One record, lent whole: bytes left over are 5. Number and length come beside the parameter bytes.
-// Refused (must-fail/, here and in limits): a length on 15 (length_on_15), bytes left over let through (left_over_passed).
+// Refused (must-fail/, here and in limits): bytes left over let through (left_over_passed).
 pub fn lent_record(
     state: &mut [u32],
     params: [[u8; 8]; 256],
@@ -78,8 +80,7 @@ pub fn lent_record(
     if usable(state, params, answer.len()) {
         return record_trusted(state, params, record, answer, number, length);
     }
-    *number = 15;
-    *length = 0;
+    refuse_record(number, length);
     params
 }
 
@@ -176,7 +177,7 @@ fn job_trusted(
 
 // A job's next lines: those of as many records as the bytes at hand hold whole and the log surely has room for. `more`: further bytes follow.
 // The state is tested once. `index` is the next record's number; `read` and `written` say how much of the stream and of the log was used.
-// Refused: the first record right and 0 after (echoes_0), 0 for every record (zero_for_all), a job that goes on from an unsound state (unsound_goes_on).
+// Refused: the first record right and 0 after (echoes_0), 0 for every record (zero_for_all).
 pub fn job(
     state: &mut [u32],
     params: [[u8; 8]; 256],
@@ -205,10 +206,7 @@ pub fn job(
             ended,
         );
     }
-    *number = 15;
-    *written = 0;
-    *read = 0;
-    *ended = true;
+    refuse_job(number, written, read, ended);
     params
 }
 

@@ -25,7 +25,7 @@ pub extern "C" fn pongiwaru_record(
 }
 
 // How many bytes of the stream are left after one record; all of them on 5, 6, 15 and 18. The state is as it was.
-// Refused: the bytes read in place of those left (rest_from_the_front), all of them always (all_left).
+// Refused: the bytes read in place of those left (rest_from_the_front).
 #[no_mangle]
 pub extern "C" fn pongiwaru_split(
     state: &mut [u32],

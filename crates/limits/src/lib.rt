@@ -1,6 +1,6 @@
 // What a call's buffer, bytes and log allow, and the numbers that end a job.
 ghost use mathlib.Core.Path.{_≡_};
-ghost use mathlib.Core.Bool.{not, _||_};
+ghost use mathlib.Core.Bool.{true, not, _||_};
 ghost use mathlib.Core.List.{List};
 ghost use Prim.Native.Nat.{ℕ};
 ghost use lib.Dec.{leb};
@@ -60,4 +60,24 @@ pub fn ends_job(number: u32) -> bool
         return true;
     }
     number == 18
+}
+
+// ---- 15: a state that is not sound, or a buffer that is too short
+
+// Refused: a length on 15 (length_on_15).
+pub fn refuse_record(number: &mut u32, length: &mut u32)
+    ensures { λ _. ⌜ (now (number .exit) ≡ 15) × (now (length .exit) ≡ 0) ⌝ }
+{
+    *number = 15;
+    *length = 0;
+}
+
+// Refused: a job that goes on from an unsound state (unsound_goes_on).
+pub fn refuse_job(number: &mut u32, written: &mut usize, read: &mut usize, ended: &mut bool)
+    ensures { λ _. ⌜ (now (number .exit) ≡ 15) × ((now (written .exit) ≡ 0) × ((now (read .exit) ≡ 0) × (now (ended .exit) ≡ true))) ⌝ }
+{
+    *number = 15;
+    *written = 0;
+    *read = 0;
+    *ended = true;
 }

@@ -20,11 +20,17 @@ same-length-2 c = search needs
 returns : tie.Need-returns
 returns c = search needs
 
+refuse-job-requires : tie.Need-refuse-job-requires
+refuse-job-requires c κs = search needs
+
 same-length-3 : tie.Need-same-length-3
 same-length-3 c = search needs
 
 returns-2 : tie.Need-returns-2
-returns-2 c = unsound-lines _ _ _ _ _ _ (sym (c .before .sound-state .ensures) ∙ c .if1 .left)
+returns-2 c =
+    let told = c .refuse-job .ensures in
+    rw (told .0, told .1 .0, told .1 .1 .0, told .1 .1 .1)
+    (unsound-lines _ _ _ _ _ _ (sym (c .before .before .before .before .before .before .sound-state .ensures) ∙ c .before .before .before .before .before .if1 .left))
 
 pub job-spec : {M : Type 1} → statement M
 job-spec =
@@ -35,5 +41,6 @@ job-spec =
     same-length
     same-length-2
     returns
+    refuse-job-requires
     same-length-3
     returns-2)

@@ -20,11 +20,16 @@ same-length-2 c = search needs
 returns : tie.Need-returns
 returns c = search needs
 
+refuse-record-requires : tie.Need-refuse-record-requires
+refuse-record-requires c κs = search needs
+
 same-length-3 : tie.Need-same-length-3
 same-length-3 c = search needs
 
 returns-2 : tie.Need-returns-2
-returns-2 c = unusable-gives _ _ _ _ (sym (c .before .usable .ensures) ∙ c .if1 .left)
+returns-2 c =
+    let told = c .refuse-record .ensures in
+    rw (told .0, told .1) (unusable-gives _ _ _ _ (sym (c .before .before .before .before .usable .ensures) ∙ c .before .before .before .if1 .left))
 
 pub lent-record-spec : {M : Type 1} → statement M
 lent-record-spec =
@@ -35,5 +40,6 @@ lent-record-spec =
     same-length
     same-length-2
     returns
+    refuse-record-requires
     same-length-3
     returns-2)
