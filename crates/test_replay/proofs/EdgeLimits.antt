@@ -4,8 +4,9 @@ use mathlib.Core.Path.{_≡_, refl}
 use mathlib.Core.List.{[], _∷_}
 use Rattle.definition.specs.Types.{Param}
 use Rattle.definition.proofs.Computed.{answered}
-use Rattle.definition.proofs.Spelling.{text, unit, vector, var, FV, UF, BC}
+use Rattle.definition.proofs.Spelling.{text, unit, u8, vector, var, FV, UF, BC, RM}
 use Rattle.definition.proofs.AnswersLimits.{unit-node, filled, deep}
+use Rattle.definition.proofs.AnswersSpace.{told}
 
 node-2048 : answered (filled 2047 0 0 0 0) (UF (unit 1)) 4096 ≡ (0, unit 1)
 unfolding answered
@@ -38,3 +39,8 @@ payload-4096 = refl
 payload-4097-is-14 : answered (deep unit-node 682) (UF (var 1 0)) 4096 ≡ (14, [])
 unfolding answered
 payload-4097-is-14 = refl
+
+-- RM places nothing
+RM-needs-no-room : answered (filled 2048 4096 1024 512 256) (RM (u8 1)) 4096 ≡ told 2 0 0 0
+unfolding answered
+RM-needs-no-room = refl
