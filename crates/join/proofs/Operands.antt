@@ -13,10 +13,7 @@ use Rattle.definition.specs.Store.{count, sp, node, type-at, loc-of, args-at, w
 use Rattle.definition.specs.Join as j
 use Rattle.definition.specs.Join.{Var-l, Var-r, arm, join-arm, join-impl, join-impl-types, join-tvar}
 use Rattle.names.specs.Names.{mark-of, name-of}
-use Rattle.names.specs.declared.Mark.{Mark}
-use Rattle.names.specs.declared.TypeName.{TypeName}
 use Rattle.names.specs.declared.TVar.{TVar}
-use Rattle.table.specs.Rows.{places}
 use Rattle.table.specs.State.{Lay, After, Parts, Listed-in, outcome, listed, seen, view, done, node-of, shape-of, Below}
 use Rattle.table.specs.declared.Step.{Step}
 use Rattle.table.specs.declared.Used.{Used}
@@ -30,6 +27,8 @@ use Rattle.table.specs.declared.Found.the-variants.{Nothing, Just}
 use Rattle.table.proofs.Steps.{done-is, listed-then, refines-as, after-now, after-is, after-stop, after-on, after-then}
 use Rattle.table.proofs.Pushed.{count-view}
 use Rattle.table.proofs.Grown.{loc-is, value-is}
+use Rattle.shapes.specs.Applied.{args-of}
+use Rattle.shapes.specs.declared.Applied.{Applied}
 use Rattle.arms.specs.Arms.{case-of, by-arm, Arm-below, Takes}
 use Rattle.arms.specs.declared.TypingCase.{TypingCase}
 use Rattle.arms.specs.declared.Arm.{Arm}
@@ -197,13 +196,13 @@ module _ (left : ℕ) (case : TypingCase) (w : List ℕ) (u : Used) (lhs rhs : �
       (after-is (λ ds k. rw (q, loc-is (seen w u ds) lhs l (el ds), loc-is (seen w u ds) rhs r (er ds))) (after-on (λ m. m >>= ref-at loc mut) (after .changed) n))
 
   -- named types
-  pub arm-applies : (k : Mark) (n : TypeName) (first1 many1 first2 many2 : ℕ) (w₁ : List ℕ) (x : Types) (w₂ : List ℕ) (y : Step) → a ≡ Applies k n first1 many1 first2 many2
-      → Joined w u w₁ x (λ s. join-impl-types (inner (left - 1)) s (case-of case) (args-at s (places first1 many1)) (args-at s (places first2 many2)))
-      → After w₁ (x .used) w₂ y (then-apply (x .out) (x .tys) (r .loc) (mark-of k) (name-of n)) → After w u w₂ y (λ s. join-impl left s (case-of case) lhs rhs)
+  pub arm-applies : (t1 t2 : Applied) (w₁ : List ℕ) (x : Types) (w₂ : List ℕ) (y : Step) → a ≡ Applies t1 t2
+      → Joined w u w₁ x (λ s. join-impl-types (inner (left - 1)) s (case-of case) (args-at s (args-of t1)) (args-at s (args-of t2)))
+      → After w₁ (x .used) w₂ y (then-apply (x .out) (x .tys) (r .loc) (mark-of (t2 .k)) (name-of (t2 .n))) → After w u w₂ y (λ s. join-impl left s (case-of case) lhs rhs)
   unfolding by-arm
-  arm-applies k n first1 many1 first2 many2 w₁ x w₂ y e joined m =
-      by (Applies k n first1 many1 first2 many2) e
-      (after-is (λ ds k. rw (loc-is (seen w u ds) rhs r (er ds))) (after-on (λ c. c >>= apply-at (r .loc) (mark-of k) (name-of n)) (joined .changed) m))
+  arm-applies t1 t2 w₁ x w₂ y e joined m =
+      by (Applies t1 t2) e
+      (after-is (λ ds k. rw (loc-is (seen w u ds) rhs r (er ds))) (after-on (λ c. c >>= apply-at (r .loc) (mark-of (t2 .k)) (name-of (t2 .n))) (joined .changed) m))
 
   -- two variables
   pub arm-vars : (id1 id2 : TVar) (w₁ : List ℕ) (x : Step) → a ≡ Vars id1 id2 → After w u w₁ x (λ s. join-tvar (inner (left - 1)) s (case-of case) (l .loc) (id1 .0) (r .loc) (id2 .0)) → After w u w₁ x (λ s. join-impl left s (case-of case) lhs rhs)

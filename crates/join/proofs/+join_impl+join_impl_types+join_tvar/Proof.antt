@@ -161,8 +161,8 @@ join-impl-join-impl-requires t c κs =
 join-impl-push-ref-requires : (t : ℕ) → join-impl-lts.Need-push-ref-requires (join-impl-calls t) (join-impl-at t) join-impl.Post
 join-impl-push-ref-requires t c κs = (c .before .before .before .join-impl .ensures .changed .lay, c .before .before .before .join-impl .ensures .inside)
 
-join-impl-enum-known-k : (t : ℕ) → join-impl-lts.Need-enum-known-k (join-impl-calls t) (join-impl-at t) join-impl.Post
-join-impl-enum-known-k t c = search needs
+join-impl-enum-known-t1 : (t : ℕ) → join-impl-lts.Need-enum-known-t1 (join-impl-calls t) (join-impl-at t) join-impl.Post
+join-impl-enum-known-t1 t c = search needs
 
 join-impl-sub-join-impl-types : (t : ℕ) → join-impl-lts.Need-sub-join-impl-types (join-impl-calls t) (join-impl-at t) join-impl.Post
 join-impl-sub-join-impl-types t c = omega arith
@@ -179,7 +179,7 @@ join-impl-join-impl-types-requires t c κs =
         pre .1 .0,
         arm-below _ (args .case) _ _ _ _ (node-at .result) (node-at2 .result) (if1 .left) (node-at .ensures)
             (node-at2 .ensures) _ (c .before .before .before .before .arm-of .ensures) _ (pre .1 .0) (pre .1 .1 .0)
-            (pre .1 .1 .1) (c .before .before .k .given .1),
+            (pre .1 .1 .1) (c .before .before .t1 .given .1),
       ),
     )
 
@@ -337,10 +337,10 @@ join-impl-returns-5 t c =
     let node-at = c12 .before .before .node-at in
     let node-at2 = c12 .node-at2 in
     let arm-of = c .before .before .before .before .before .before .before .before .before .before .before .arm-of in
-    let k = c .before .before .before .before .before .before .before .before .before .k in
+    let t1 = c .before .before .before .before .before .before .before .before .before .t1 in
     let join-impl-types = c .before .before .before .before .before .before .join-impl-types in
     arm-applies _ (args .case) _ _ _ _ (node-at .result) (node-at2 .result) (if1 .left) (node-at .ensures)
-    (node-at2 .ensures) _ (arm-of .ensures) _ _ _ _ _ _ _ _ _ _ (k .given .1) (join-impl-types .ensures)
+    (node-at2 .ensures) _ (arm-of .ensures) _ _ _ _ _ _ (t1 .given .1) (join-impl-types .ensures)
     (c .before .before .push-types .ensures)
 
 join-impl-same-length-5 : (t : ℕ) → join-impl-lts.Need-same-length-5 (join-impl-calls t) (join-impl-at t) join-impl.Post
@@ -486,10 +486,10 @@ join-impl-returns-14 t c =
     (c .before .enum-told6 .given .1))
 
 abbrev join-impl-types-Inv-loop : join-impl-types-lts.InvT-loop
-join-impl-types-Inv-loop w₀ case left first1 many1 first2 many2 n tys₀ at₀ i₀ w tys at i = Gathering left (case-of case) w₀ at₀ first1 many1 first2 many2 n w at tys i
+join-impl-types-Inv-loop w₀ case left t1 t2 n tys₀ at₀ i₀ w tys at i = Gathering left (case-of case) w₀ at₀ t1 t2 n w at tys i
 
 abbrev join-impl-types-μ-loop : join-impl-types-lts.MeasureT-loop
-join-impl-types-μ-loop w₀ case left first1 many1 first2 many2 n tys₀ at₀ i₀ w tys at i = n - i
+join-impl-types-μ-loop w₀ case left t1 t2 n tys₀ at₀ i₀ w tys at i = n - i
 
 join-impl-types-fewer-requires : (t : ℕ) → join-impl-types-lts.Need-fewer-requires (join-impl-types-calls t) (join-impl-types-at t) join-impl-types.Post join-impl-types-Inv-loop join-impl-types-μ-loop
 join-impl-types-fewer-requires t c κs = tt
@@ -673,7 +673,7 @@ pub +join-impl+join-impl-types+join-tvar-spec : {M : Type 1} → statement M
     (join-impl-sub-join-impl t)
     (join-impl-join-impl-requires t)
     (join-impl-push-ref-requires t)
-    (join-impl-enum-known-k t)
+    (join-impl-enum-known-t1 t)
     (join-impl-sub-join-impl-types t)
     (join-impl-join-impl-types-requires t)
     (join-impl-push-types-requires t)
