@@ -14,8 +14,8 @@ use arms::Arm;
 use arms::TypingCase;
 use merge::Meet;
 use merge::Opened;
+use merge::VarAt;
 use names::MAX_DEPTH;
-use names::TVar;
 use shapes::Applied;
 use table::Found;
 use table::Out;
@@ -101,6 +101,7 @@ fn join_impl(w: &mut [u32], u: Used, case: TypingCase, left: u32, lhs: u32, rhs:
     if left == 0 {
         return settled(u, Out::Refused(Refusal::TooDeep));
     }
+    let less = left - 1;
     let l = table::node_at(w, u, lhs);
     let r = table::node_at(w, u, rhs);
     let ls = l.shape;
@@ -110,21 +111,21 @@ fn join_impl(w: &mut [u32], u: Used, case: TypingCase, left: u32, lhs: u32, rhs:
         Arm::Right => settled(u, Out::Done(rhs)),
         Arm::Refs(side, mutable, t1, t2) => {
             let loc = pick_loc(side, l.loc, r.loc);
-            let a = join_impl(w, u, case, left - 1, t1, t2);
+            let a = join_impl(w, u, case, less, t1, t2);
             push_ref(w, a, loc, mutable)
         }
         Arm::Applies(t1, t2) => {
-            let a = join_impl_types(w, u, case, left - 1, t1, t2);
+            let a = join_impl_types(w, u, case, less, t1, t2);
             push_types(w, a, r.loc, t2)
         }
-        Arm::Vars(id1, id2) => join_tvar(w, u, case, left - 1, l.loc, id1, r.loc, id2),
+        Arm::Vars(id1, id2) => join_tvar(w, u, case, less, VarAt(l.loc, id1), VarAt(r.loc, id2)),
         Arm::VarLeft(id) => match merge::meet_tvar(w, u, lhs, rhs, lhs, id, rhs) {
             Meet::Is(a) => a,
-            Meet::Merge(au, new) => join_tvar(w, au, case, left - 1, l.loc, id, r.loc, new),
+            Meet::Merge(au, v) => join_tvar(w, au, case, less, VarAt(l.loc, id), VarAt(r.loc, v)),
         },
         Arm::VarRight(id) => match merge::meet_tvar(w, u, lhs, rhs, rhs, id, lhs) {
             Meet::Is(a) => a,
-            Meet::Merge(au, new) => join_tvar(w, au, case, left - 1, l.loc, new, r.loc, id),
+            Meet::Merge(au, v) => join_tvar(w, au, case, less, VarAt(l.loc, v), VarAt(r.loc, id)),
         },
         Arm::SubtypeError => settled(u, Out::Failed(TypingError::SubtypeError(lhs, rhs))),
         Arm::ArityMismatch => settled(u, Out::Failed(TypingError::ArityMismatch(lhs, rhs))),
@@ -175,31 +176,22 @@ fn join_impl_types(
 }
 
 // The variable merge.
-fn join_tvar(
-    w: &mut [u32],
-    u: Used,
-    case: TypingCase,
-    left: u32,
-    loc1: u32,
-    id1: TVar,
-    loc2: u32,
-    id2: TVar,
-) -> Step
+fn join_tvar(w: &mut [u32], u: Used, case: TypingCase, left: u32, v1: VarAt, v2: VarAt) -> Step
     requires { ⌜ Lay (now w) u ⌝ }
-    ensures { λ r. ⌜ After (now (w .entry)) u (now (w .exit)) r (λ s. join-tvar (λ s c l r. join-impl left s c l r) s (case-of case) loc1 (id1 .0) loc2 (id2 .0)) ⌝ }
+    ensures { λ r. ⌜ After (now (w .entry)) u (now (w .exit)) r (λ s. join-tvar (λ s c l r. join-impl left s c l r) s (case-of case) (v1 .0) (v1 .1 .0) (v2 .0) (v2 .1 .0)) ⌝ }
 {
-    let a = merge::open_tvar(w, u, loc1, id1, loc2, id2);
+    let a = merge::open_tvar(w, u, v1, v2);
     let what = a.what;
     let au = a.used;
     match what {
         Opened::Stop(o) => Step { out: o, used: au },
-        Opened::Ready(ty1, ty2, fresh, var2) => {
-            let b = join_impl(w, au, case, left, ty1, ty2);
+        Opened::Ready(m) => {
+            let b = join_impl(w, au, case, left, m.ty1, m.ty2);
             let bo = b.out;
             let Found::Just(ty) = table::done_of(bo) else {
                 return b;
             };
-            merge::close_tvar(w, b.used, ty1, id1, ty2, loc2, id2, fresh, var2, ty)
+            merge::close_tvar(w, b.used, v1, v2, m, ty)
         }
     }
 }
