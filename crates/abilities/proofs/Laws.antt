@@ -15,11 +15,15 @@ use Rattle.definition.specs.Types.{State, Struct, if_then_else_}
 use Rattle.definition.specs.Store.{args-at, with-structs, any-of}
 use Rattle.definition.specs.Instantiate.{struct-tparams}
 use Rattle.definition.specs.Abilities.{has, select, those, from-abilities, requires, declared-abilities, counts, first-lacking, is-none, lacking, granted, infer-abilities, declaration, by-argument, rule}
+use Rattle.names.specs.Names.{name-of}
 use Rattle.table.specs.Rows.{struct-table, places}
 use Rattle.table.specs.State.{seen, Declares}
 use Rattle.table.specs.Known.{Known}
 use Rattle.table.specs.declared.Used.{Used}
-use Rattle.abilities.specs.Kept.{Ready}
+use Rattle.shapes.specs.Applied.{args-of}
+use Rattle.shapes.specs.declared.Applied.{Applied}
+use Rattle.abilities.specs.Kept.{Args-ready}
+use Rattle.abilities.specs.Rules.{lacks-at}
 
 -- ---- which arguments count
 
@@ -60,50 +64,52 @@ first-none : (c f : ℕ → Bool) (i : ℕ) → none ≡ first-lacking c f i []
 unfolding first-lacking
 first-none c f i = refl
 
+-- argument i, read at its place
+module _ {w : List ℕ} {u : Used} {params : List (List ℕ)} {sets : List ℕ} (a : Applied) {i : ℕ} (r : Args-ready w u params sets a) (l : i < a .many) (p : ℕ)
+    (e : (ds : List Struct) (m : ℕ) → i < m → p ≡ getD (args-at (seen w u ds) (places (a .first) m)) i 0) where
+  pub arg-small : p < 2048
+  arg-small = rw (e [] (a .many) l) (r .inside [] i l)
+
+  pub arg-set : (ds : List Struct) → Known w u params ds → getD sets p 0 % 256 ≡ infer-abilities (seen w u ds) (getD (args-at (seen w u ds) (args-of a)) i 0)
+  arg-set ds k = rw (e ds (a .many) l) (r .is ds k i l)
+
 -- the arguments before i do not lack
-pub record Searched (w : List ℕ) (u : Used) (params : List (List ℕ)) (sets : List ℕ) (n : d.TypeName) (first many needed i : ℕ) : Type 0 where
-  pub ready : Ready w u params sets (λ s. args-at s (places first many)) many
+pub record Searched (w : List ℕ) (u : Used) (params : List (List ℕ)) (sets : List ℕ) (a : Applied) (needed i : ℕ) : Type 0 where
+  pub ready : Args-ready w u params sets a
   pub some-needed : 0 < needed
-  pub le : i ≤ many
-  pub is : (ds : List Struct) → Known w u params ds → first-lacking (counts (seen w u ds) n) (λ ty. not (has (infer-abilities (seen w u ds) ty) needed)) i (drop i (args-at (seen w u ds) (places first many)))
-      ≡ lacking (λ t. infer-abilities (seen w u ds) t) (seen w u ds) n (args-at (seen w u ds) (places first many)) needed
+  pub le : i ≤ a .many
+  pub is : (ds : List Struct) → Known w u params ds → first-lacking (counts (seen w u ds) (name-of (a .n))) (λ ty. not (has (infer-abilities (seen w u ds) ty) needed)) i (drop i (args-at (seen w u ds) (args-of a)))
+      ≡ lacking (λ t. infer-abilities (seen w u ds) t) (seen w u ds) (name-of (a .n)) (args-at (seen w u ds) (args-of a)) needed
 
-pub search-none : (w : List ℕ) (u : Used) (params : List (List ℕ)) (sets : List ℕ) (n : d.TypeName) (first many needed : ℕ) → Ready w u params sets (λ s. args-at s (places first many)) many → 0 < needed
-    → Searched w u params sets n first many needed 0
+pub search-none : (w : List ℕ) (u : Used) (params : List (List ℕ)) (sets : List ℕ) (a : Applied) (needed : ℕ) → Args-ready w u params sets a → 0 < needed
+    → Searched w u params sets a needed 0
 unfolding lacking
-search-none w u params sets n first many needed r p = record { ready = r; some-needed = p; le = omega arith; is = λ ds k. refl }
+search-none w u params sets a needed r p = record { ready = r; some-needed = p; le = omega arith; is = λ ds k. refl }
 
-module _ {w : List ℕ} {u : Used} {params : List (List ℕ)} {sets : List ℕ} {n : d.TypeName} {first many needed i : ℕ} (h : Searched w u params sets n first many needed i) where
-  pub search-all : many ≤ i → (ds : List Struct) → Known w u params ds → none ≡ lacking (λ t. infer-abilities (seen w u ds) t) (seen w u ds) n (args-at (seen w u ds) (places first many)) needed
+module _ {w : List ℕ} {u : Used} {params : List (List ℕ)} {sets : List ℕ} {a : Applied} {needed i : ℕ} (h : Searched w u params sets a needed i) where
+  pub search-all : a .many ≤ i → (ds : List Struct) → Known w u params ds → none ≡ lacking (λ t. infer-abilities (seen w u ds) t) (seen w u ds) (name-of (a .n)) (args-at (seen w u ds) (args-of a)) needed
   search-all l ds k =
-      first-none (counts (seen w u ds) n) (λ ty. not (has (infer-abilities (seen w u ds) ty) needed)) i
-      ∙ ap (first-lacking (counts (seen w u ds) n) (λ ty. not (has (infer-abilities (seen w u ds) ty) needed)) i)
-      (sym (drop-of-length-le (args-at (seen w u ds) (places first many)) {i = i} (rw (h .ready .many-is ds) l)))
+      first-none (counts (seen w u ds) (name-of (a .n))) (λ ty. not (has (infer-abilities (seen w u ds) ty) needed)) i
+      ∙ ap (first-lacking (counts (seen w u ds) (name-of (a .n))) (λ ty. not (has (infer-abilities (seen w u ds) ty) needed)) i)
+      (sym (drop-of-length-le (args-at (seen w u ds) (args-of a)) {i = i} (rw (h .ready .many-is ds) l)))
       ∙ h .is ds k
 
-  module _ (l : i < many) (p : ℕ) (e : (ds : List Struct) (m : ℕ) → i < m → p ≡ getD (args-at (seen w u ds) (places first m)) i 0) where
-    pub search-part : p < 2048
-    search-part = rw (e [] many l) (h .ready .inside [] i l)
+  module _ (l : i < a .many) (b : Bool) (f : (ds : List Struct) → Known w u params ds → b ≡ lacks-at (seen w u ds) a needed i) where
+    split : (ds : List Struct) → drop i (args-at (seen w u ds) (args-of a)) ≡ getD (args-at (seen w u ds) (args-of a)) i 0 ∷ drop (suc i) (args-at (seen w u ds) (args-of a))
+    split ds = drop-cons (args-at (seen w u ds) (args-of a)) i 0 (rw (h .ready .many-is ds) l)
 
-    module _ (b : Bool) (f : (ds : List Struct) → Known w u params ds → b ≡ (counts (seen w u ds) n i && not (has (getD sets p 0 % 256) needed))) where
-      test-is : (ds : List Struct) → Known w u params ds → b ≡ (counts (seen w u ds) n i && not (has (infer-abilities (seen w u ds) (getD (args-at (seen w u ds) (places first many)) i 0)) needed))
-      test-is ds k = f ds k ∙ rw (e ds many l, h .ready .is ds k i l) refl
+    pub search-hit : b ≡ true → (ds : List Struct) → Known w u params ds → some i ≡ lacking (λ t. infer-abilities (seen w u ds) t) (seen w u ds) (name-of (a .n)) (args-at (seen w u ds) (args-of a)) needed
+    search-hit z ds k = sym (first-hit _ _ i _ _ (sym (f ds k) ∙ z)) ∙ sym (ap (first-lacking (counts (seen w u ds) (name-of (a .n))) (λ ty. not (has (infer-abilities (seen w u ds) ty) needed)) i) (split ds)) ∙ h .is ds k
 
-      split : (ds : List Struct) → drop i (args-at (seen w u ds) (places first many)) ≡ getD (args-at (seen w u ds) (places first many)) i 0 ∷ drop (suc i) (args-at (seen w u ds) (places first many))
-      split ds = drop-cons (args-at (seen w u ds) (places first many)) i 0 (rw (h .ready .many-is ds) l)
-
-      pub search-hit : b ≡ true → (ds : List Struct) → Known w u params ds → some i ≡ lacking (λ t. infer-abilities (seen w u ds) t) (seen w u ds) n (args-at (seen w u ds) (places first many)) needed
-      search-hit z ds k = sym (first-hit _ _ i _ _ (sym (test-is ds k) ∙ z)) ∙ sym (ap (first-lacking (counts (seen w u ds) n) (λ ty. not (has (infer-abilities (seen w u ds) ty) needed)) i) (split ds)) ∙ h .is ds k
-
-      pub search-more : b ≡ false → Searched w u params sets n first many needed (i + 1)
-      search-more z = record {
-        ready = h .ready;
-        some-needed = h .some-needed;
-        le = omega arith;
-        is = λ ds k. rw (add-one i)
-            (sym (first-miss (counts (seen w u ds) n) (λ ty. not (has (infer-abilities (seen w u ds) ty) needed)) i (getD (args-at (seen w u ds) (places first many)) i 0) (drop (suc i) (args-at (seen w u ds) (places first many))) (sym (test-is ds k) ∙ z))
-            ∙ sym (ap (first-lacking (counts (seen w u ds) n) (λ ty. not (has (infer-abilities (seen w u ds) ty) needed)) i) (split ds)) ∙ h .is ds k);
-      }
+    pub search-more : b ≡ false → Searched w u params sets a needed (i + 1)
+    search-more z = record {
+      ready = h .ready;
+      some-needed = h .some-needed;
+      le = omega arith;
+      is = λ ds k. rw (add-one i)
+          (sym (first-miss (counts (seen w u ds) (name-of (a .n))) (λ ty. not (has (infer-abilities (seen w u ds) ty) needed)) i (getD (args-at (seen w u ds) (args-of a)) i 0) (drop (suc i) (args-at (seen w u ds) (args-of a))) (sym (f ds k) ∙ z))
+          ∙ sym (ap (first-lacking (counts (seen w u ds) (name-of (a .n))) (λ ty. not (has (infer-abilities (seen w u ds) ty) needed)) i) (split ds)) ∙ h .is ds k);
+    }
 
 -- ---- what is granted, and the rule
 

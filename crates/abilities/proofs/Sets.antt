@@ -16,21 +16,20 @@ use Rattle.definition.specs.Store.{count, args-at, with-args, spanned, all-of}
 use Rattle.definition.specs.Subst.{parts, unfold-type, goes-on-to, ends-in, reaches-itself}
 use Rattle.definition.specs.Abilities.{infer-value, infer-abilities, declaration, rule}
 use Rattle.theorems.proofs.SolveInferred.{infer-is}
-use Rattle.names.specs.declared.Mark.{Mark}
-use Rattle.names.specs.declared.TypeName.{TypeName}
 use Rattle.table.specs.Rows.{places}
 use Rattle.table.specs.State.{shape-of, seen, Lay}
 use Rattle.table.specs.Known.{Known}
 use Rattle.table.specs.declared.Used.{Used}
 use Rattle.table.specs.declared.Shape.{Shape}
-use Rattle.table.specs.declared.Shape.the-variants.{Apply}
 use Rattle.table.proofs.Shape.{the-type}
+use Rattle.shapes.specs.Applied.{as-shape}
+use Rattle.shapes.specs.declared.Applied.{Applied}
 use Rattle.shapes.proofs.Tags.{other-shapes}
 use Rattle.ready.specs.Itself.{Goes-on}
 use Rattle.table.proofs.Pushed.{count-seen}
 use Rattle.ready.proofs.Lists.{all-one}
 use Rattle.subst.proofs.Occurs.{zero-at}
-use Rattle.abilities.specs.Kept.{parts-of, part-count, Ends, Has-set, Kept, Parts-kept, Ready, Inferred}
+use Rattle.abilities.specs.Kept.{parts-of, part-count, Ends, Has-set, Kept, Parts-kept, Ready, Args-ready, Inferred}
 
 -- ---- the parts of a type whose reading is over
 
@@ -80,10 +79,9 @@ kept-ready w u params sets t sh lay g k h = record {
 }
 
 -- .. of a name: its arguments
-pub ready-args : (w : List ℕ) (u : Used) (params : List (List ℕ)) (sets : List ℕ) (sh : Shape) (k : Mark) (n : TypeName) (first many : ℕ) → Ready w u params sets (parts-of sh) (part-count sh) → sh ≡ Apply k n first many
-    → Ready w u params sets (λ s. args-at s (places first many)) many
+pub ready-args : (w : List ℕ) (u : Used) (params : List (List ℕ)) (sets : List ℕ) (sh : Shape) (a : Applied) → Ready w u params sets (parts-of sh) (part-count sh) → sh ≡ as-shape a → Args-ready w u params sets a
 unfolding parts with-args places
-ready-args w u params sets sh k n first many r e = subst (λ (x : Shape). Ready w u params sets (parts-of x) (part-count x)) e r
+ready-args w u params sets sh a r e = subst (λ (x : Shape). Ready w u params sets (parts-of x) (part-count x)) e r
 
 -- ---- the loop over the parts
 

@@ -5,7 +5,7 @@ use mathlib.Core.List.{List}
 use Prim.Native.Nat.{ℕ, _≤_, _<_, _%_}
 use lib.ListN.{length, getD}
 use Rattle.definition.specs.Types.{State, Struct}
-use Rattle.definition.specs.Store.{with-args}
+use Rattle.definition.specs.Store.{args-at, with-args}
 use Rattle.definition.specs.Subst.{parts, goes-on-to, ends-in, reaches-itself}
 use Rattle.definition.specs.Abilities.{infer-abilities}
 use Rattle.table.specs.State.{shape-of, seen, Lay}
@@ -13,6 +13,8 @@ use Rattle.table.specs.Known.{Known}
 use Rattle.table.specs.declared.Used.{Used}
 use Rattle.table.specs.declared.Shape.{Shape}
 use Rattle.shapes.specs.Parts as shapes
+use Rattle.shapes.specs.Applied.{args-of}
+use Rattle.shapes.specs.declared.Applied.{Applied}
 
 abbrev pub parts-of : Shape → State → List ℕ
 parts-of sh s = parts (with-args s (shape-of sh))
@@ -48,6 +50,10 @@ pub record Ready (w : List ℕ) (u : Used) (params : List (List ℕ)) (sets : Li
   pub many-is : (ds : List Struct) → length (ps (seen w u ds)) ≡ many
   pub inside : (ds : List Struct) (i : ℕ) → i < many → getD (ps (seen w u ds)) i 0 < 2048
   pub is : (ds : List Struct) → Known w u params ds → (i : ℕ) → i < many → getD sets (getD (ps (seen w u ds)) i 0) 0 % 256 ≡ infer-abilities (seen w u ds) (getD (ps (seen w u ds)) i 0)
+
+-- .. the arguments of a named type
+abbrev pub Args-ready : List ℕ → Used → List (List ℕ) → List ℕ → Applied → Type 0
+Args-ready w u params sets a = Ready w u params sets (λ s. args-at s (args-of a)) (a .many)
 
 -- the set of node t is known now, and what was known is
 pub record Inferred (w : List ℕ) (u : Used) (params : List (List ℕ)) (t : ℕ) (sets sets′ : List ℕ) : Type 0 where

@@ -8,17 +8,20 @@ use lib.Dec.{eqb}
 use lib.ListN.{length, getD}
 use Rattle.definition.specs.Types as t
 use Rattle.definition.specs.Types.{State, Struct, Refusal, runs-into-itself, mark-contradicted, if_then_else_}
-use Rattle.definition.specs.Store.{count, spanned}
+use Rattle.definition.specs.Store.{count, args-at, spanned}
 use Rattle.definition.specs.Subst.{unfold-type}
 use Rattle.definition.specs.Abilities as d
-use Rattle.definition.specs.Abilities.{has, infer-abilities, rule}
+use Rattle.definition.specs.Abilities.{has, counts, infer-abilities, rule}
 use Rattle.definition.specs.Constraints.{is-contradicted}
+use Rattle.names.specs.Names.{name-of}
 use Rattle.table.specs.Rows.{constraint-table}
 use Rattle.table.specs.State.{seen}
 use Rattle.table.specs.Known.{Known}
 use Rattle.table.specs.declared.Used.{Used}
 use Rattle.table.specs.declared.Found.{Found}
 use Rattle.table.specs.declared.Found.the-variants.{Nothing, Just}
+use Rattle.shapes.specs.Applied.{args-of}
+use Rattle.shapes.specs.declared.Applied.{Applied}
 use Rattle.abilities.specs.Kept.{Has-set, Kept}
 use Rattle.abilities.specs.declared.Rule.{Rule}
 use Rattle.abilities.specs.declared.Rule.the-variants.{Declaration, Argument, Contradicted}
@@ -37,6 +40,10 @@ abbrev pub Rule-in : Rule → Type 0
 Rule-in Declaration = Unit {0}
 Rule-in (Argument i) = i < 8
 Rule-in Contradicted = Unit {0}
+
+-- argument i counts and lacks what is needed
+abbrev pub lacks-at : State → Applied → ℕ → ℕ → Bool
+lacks-at s a needed i = counts s (name-of (a .n)) i && not (has (infer-abilities s (getD (args-at s (args-of a)) i 0)) needed)
 
 -- the ability is asked for, and the type has it not
 abbrev pub misses : State → ℕ → ℕ → ℕ → Bool

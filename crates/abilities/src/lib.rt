@@ -11,16 +11,17 @@ ghost use Rattle.definition.specs.Store.{args-at, with-args, any-of};
 ghost use Rattle.definition.specs.Abilities.{has, declared-abilities, counts, lacking, granted, those, from-abilities, infer-value, infer-abilities, by-argument, rule};
 ghost use Rattle.definition.specs.Constraints.{missing, is-contradicted, ability-hindrance, constraint-hindrance, hindrance};
 ghost use Rattle.names.specs.Names.{name-of};
-ghost use Rattle.table.specs.Rows.{places};
 ghost use Rattle.table.specs.State.{found, shape-of, constraint-of, view, seen, Lay, Declares};
 ghost use Rattle.table.specs.Known.{Known};
+ghost use Rattle.shapes.specs.Applied.{args-of};
 ghost use Rattle.ready.specs.Ends.{Ends-known};
 ghost use Rattle.ready.specs.Itself.{Goes-on, Marked};
-ghost use Rattle.abilities.specs.Kept.{Has-set, Kept, Parts-kept, Ready, parts-of, part-count, Inferred, Ends};
-ghost use Rattle.abilities.specs.Rules.{rule-of, Place-in, Rule-in, misses, any-misses, clashes, Asked-in, Asked-kept, All-asked, All-kept, Hindered, asks-abilities, any-asks};
+ghost use Rattle.abilities.specs.Kept.{Has-set, Kept, Parts-kept, Ready, Args-ready, parts-of, part-count, Inferred, Ends};
+ghost use Rattle.abilities.specs.Rules.{rule-of, Place-in, Rule-in, lacks-at, misses, any-misses, clashes, Asked-in, Asked-kept, All-asked, All-kept, Hindered, asks-abilities, any-asks};
 use names::AbilitySet;
 use names::Mark;
 use names::TypeName;
+use shapes::Applied;
 use table::Constraint;
 use table::Found;
 use table::Shape;
@@ -31,6 +32,13 @@ pub enum Rule {
     Declaration,
     Argument(u32),
     Contradicted,
+}
+
+// What Constraint::Ability holds, to pass it on whole.
+pub struct Asked {
+    pub loc: u32,
+    pub ty: u32,
+    pub set: AbilitySet,
 }
 
 // The set kept for node t: 256 is added to a set that is known.
@@ -88,25 +96,26 @@ fn counts(w: &[u32], u: Used, params: &[[u8; 8]; 256], n: TypeName, i: u32) -> b
     }
 }
 
-// Argument i, which is node p, counts and lacks what is needed.
+// Argument i counts and lacks what is needed.
 fn lacks(
     w: &[u32],
     u: Used,
     params: &[[u8; 8]; 256],
-    n: TypeName,
+    a: Applied,
     i: u32,
-    p: u32,
     needed: u8,
     sets: &[u32],
 ) -> bool
-    requires { ⌜ Lay (now w) u × ((i < 8) × ((length (now sets) ≡ 2048) × ((p < 2048) × (0 < needed)))) ⌝ }
-    ensures { λ r. ⌜ ((ds : List d.Struct) → Known (now (w .entry)) u (now (params .entry)) ds → r ≡ (counts (seen (now (w .entry)) u ds) (name-of n) i && not (has (getD (now (sets .entry)) p 0 % 256) needed))) ⌝ }
+    requires { ⌜ Args-ready (now w) u (now params) (now sets) a × ((i < a .many) × (0 < needed)) ⌝ }
+    ensures { λ r. ⌜ ((ds : List d.Struct) → Known (now (w .entry)) u (now (params .entry)) ds → r ≡ lacks-at (seen (now (w .entry)) u ds) a needed i) ⌝ }
 {
+    let n = a.n;
     if !counts(w, u, params, n, i) {
         return false;
     }
-    let a = kept(sets, p);
-    !names::has(a, needed)
+    let p = table::arg_at(w, u, a.first, i);
+    let set = kept(sets, p);
+    !names::has(set, needed)
 }
 
 // The place of the first argument that counts and lacks what is needed.
@@ -114,19 +123,16 @@ fn lacking(
     w: &[u32],
     u: Used,
     params: &[[u8; 8]; 256],
-    n: TypeName,
-    first: u32,
-    many: u32,
+    a: Applied,
     needed: u8,
     sets: &[u32],
 ) -> Found
-    requires { ⌜ Ready (now w) u (now params) (now sets) (λ s. args-at s (places first many)) many × (0 < needed) ⌝ }
-    ensures { λ r. ⌜ Place-in r × ((ds : List d.Struct) → Known (now (w .entry)) u (now (params .entry)) ds → found r ≡ lacking (λ t. infer-abilities (seen (now (w .entry)) u ds) t) (seen (now (w .entry)) u ds) (name-of n) (args-at (seen (now (w .entry)) u ds) (places first many)) needed) ⌝ }
+    requires { ⌜ Args-ready (now w) u (now params) (now sets) a × (0 < needed) ⌝ }
+    ensures { λ r. ⌜ Place-in r × ((ds : List d.Struct) → Known (now (w .entry)) u (now (params .entry)) ds → found r ≡ lacking (λ t. infer-abilities (seen (now (w .entry)) u ds) t) (seen (now (w .entry)) u ds) (name-of (a .n)) (args-at (seen (now (w .entry)) u ds) (args-of a)) needed) ⌝ }
 {
     let mut i: u32 = 0;
-    while i < many {
-        let p = table::arg_at(w, u, first, i);
-        if lacks(w, u, params, n, i, p, needed, sets) {
+    while i < a.many {
+        if lacks(w, u, params, a, i, needed, sets) {
             return Found::Just(i);
         }
         i = i + 1;
@@ -141,29 +147,19 @@ fn granted(
     w: &[u32],
     u: Used,
     params: &[[u8; 8]; 256],
-    n: TypeName,
-    first: u32,
-    many: u32,
+    a: Applied,
     ability: u8,
     sets: &[u32],
 ) -> bool
-    requires { ⌜ Ready (now w) u (now params) (now sets) (λ s. args-at s (places first many)) many × (0 < ability) ⌝ }
-    ensures { λ r. ⌜ ((ds : List d.Struct) → Known (now (w .entry)) u (now (params .entry)) ds → r ≡ granted (λ t. infer-abilities (seen (now (w .entry)) u ds) t) (seen (now (w .entry)) u ds) (name-of n) (args-at (seen (now (w .entry)) u ds) (places first many)) ability) ⌝ }
+    requires { ⌜ Args-ready (now w) u (now params) (now sets) a × (0 < ability) ⌝ }
+    ensures { λ r. ⌜ ((ds : List d.Struct) → Known (now (w .entry)) u (now (params .entry)) ds → r ≡ granted (λ t. infer-abilities (seen (now (w .entry)) u ds) t) (seen (now (w .entry)) u ds) (name-of (a .n)) (args-at (seen (now (w .entry)) u ds) (args-of a)) ability) ⌝ }
 {
+    let n = a.n;
     let d = declared_abilities(w, u, n);
     if !names::has(d, ability) {
         return false;
     }
-    match lacking(
-        w,
-        u,
-        params,
-        n,
-        first,
-        many,
-        names::requires_of(ability),
-        sets,
-    ) {
+    match lacking(w, u, params, a, names::requires_of(ability), sets) {
         Found::Nothing => true,
         Found::Just(_) => false,
     }
@@ -174,37 +170,27 @@ fn granted_bit(
     w: &[u32],
     u: Used,
     params: &[[u8; 8]; 256],
-    n: TypeName,
-    first: u32,
-    many: u32,
+    a: Applied,
     ability: u8,
     sets: &[u32],
 ) -> u8
-    requires { ⌜ Ready (now w) u (now params) (now sets) (λ s. args-at s (places first many)) many × (0 < ability) ⌝ }
-    ensures { λ r. ⌜ (r ≤ ability) × ((ds : List d.Struct) → Known (now (w .entry)) u (now (params .entry)) ds → r ≡ (if granted (λ t. infer-abilities (seen (now (w .entry)) u ds) t) (seen (now (w .entry)) u ds) (name-of n) (args-at (seen (now (w .entry)) u ds) (places first many)) ability then ability else 0)) ⌝ }
+    requires { ⌜ Args-ready (now w) u (now params) (now sets) a × (0 < ability) ⌝ }
+    ensures { λ r. ⌜ (r ≤ ability) × ((ds : List d.Struct) → Known (now (w .entry)) u (now (params .entry)) ds → r ≡ (if granted (λ t. infer-abilities (seen (now (w .entry)) u ds) t) (seen (now (w .entry)) u ds) (name-of (a .n)) (args-at (seen (now (w .entry)) u ds) (args-of a)) ability then ability else 0)) ⌝ }
 {
-    if granted(w, u, params, n, first, many, ability, sets) {
+    if granted(w, u, params, a, ability, sets) {
         return ability;
     }
     0
 }
 
-fn granted_set(
-    w: &[u32],
-    u: Used,
-    params: &[[u8; 8]; 256],
-    n: TypeName,
-    first: u32,
-    many: u32,
-    sets: &[u32],
-) -> AbilitySet
-    requires { ⌜ Ready (now w) u (now params) (now sets) (λ s. args-at s (places first many)) many ⌝ }
-    ensures { λ r. ⌜ ((ds : List d.Struct) → Known (now (w .entry)) u (now (params .entry)) ds → r .0 ≡ from-abilities (those (granted (λ t. infer-abilities (seen (now (w .entry)) u ds) t) (seen (now (w .entry)) u ds) (name-of n) (args-at (seen (now (w .entry)) u ds) (places first many))))) ⌝ }
+fn granted_set(w: &[u32], u: Used, params: &[[u8; 8]; 256], a: Applied, sets: &[u32]) -> AbilitySet
+    requires { ⌜ Args-ready (now w) u (now params) (now sets) a ⌝ }
+    ensures { λ r. ⌜ ((ds : List d.Struct) → Known (now (w .entry)) u (now (params .entry)) ds → r .0 ≡ from-abilities (those (granted (λ t. infer-abilities (seen (now (w .entry)) u ds) t) (seen (now (w .entry)) u ds) (name-of (a .n)) (args-at (seen (now (w .entry)) u ds) (args-of a))))) ⌝ }
 {
-    let copy = granted_bit(w, u, params, n, first, many, 1, sets);
-    let drop = granted_bit(w, u, params, n, first, many, 2, sets);
-    let store = granted_bit(w, u, params, n, first, many, 4, sets);
-    let key = granted_bit(w, u, params, n, first, many, 8, sets);
+    let copy = granted_bit(w, u, params, a, 1, sets);
+    let drop = granted_bit(w, u, params, a, 2, sets);
+    let store = granted_bit(w, u, params, a, 4, sets);
+    let key = granted_bit(w, u, params, a, 8, sets);
     AbilitySet(copy + drop + store + key)
 }
 
@@ -218,7 +204,15 @@ fn set_of(w: &[u32], u: Used, params: &[[u8; 8]; 256], s: Shape, sets: &[u32]) -
         Shape::Ref(_, _) => AbilitySet::REFERENCES,
         Shape::Param(_, a) => a,
         Shape::Apply(k, n, first, many) => match k {
-            Mark::Absent => granted_set(w, u, params, n, first, many, sets),
+            Mark::Absent => {
+                let a = Applied {
+                    k: k,
+                    n: n,
+                    first: first,
+                    many: many,
+                };
+                granted_set(w, u, params, a, sets)
+            }
             Mark::Set(a) => a,
         },
         Shape::Var(_) => AbilitySet::ALL,
@@ -289,21 +283,20 @@ fn apply_rule(
     w: &[u32],
     u: Used,
     params: &[[u8; 8]; 256],
-    n: TypeName,
-    first: u32,
-    many: u32,
+    a: Applied,
     ability: u8,
     sets: &[u32],
 ) -> Rule
-    requires { ⌜ Ready (now w) u (now params) (now sets) (λ s. args-at s (places first many)) many × (0 < ability) ⌝ }
-    ensures { λ r. ⌜ Rule-in r × ((ds : List d.Struct) → Known (now (w .entry)) u (now (params .entry)) ds → (k : d.Mark) → rule-of r ≡ rule (seen (now (w .entry)) u ds) ability (d.Apply k (name-of n) (args-at (seen (now (w .entry)) u ds) (places first many)))) ⌝ }
+    requires { ⌜ Args-ready (now w) u (now params) (now sets) a × (0 < ability) ⌝ }
+    ensures { λ r. ⌜ Rule-in r × ((ds : List d.Struct) → Known (now (w .entry)) u (now (params .entry)) ds → (k : d.Mark) → rule-of r ≡ rule (seen (now (w .entry)) u ds) ability (d.Apply k (name-of (a .n)) (args-at (seen (now (w .entry)) u ds) (args-of a)))) ⌝ }
 {
+    let n = a.n;
     let d = declared_abilities(w, u, n);
     if !names::has(d, ability) {
         return Rule::Declaration;
     }
     let needed = names::requires_of(ability);
-    let o = lacking(w, u, params, n, first, many, needed, sets);
+    let o = lacking(w, u, params, a, needed, sets);
     by_argument(o)
 }
 
@@ -320,31 +313,38 @@ pub fn shape_rule(
     ensures { λ r. ⌜ Rule-in r × ((ds : List d.Struct) → Known (now (w .entry)) u (now (params .entry)) ds → rule-of r ≡ rule (seen (now (w .entry)) u ds) ability (with-args (seen (now (w .entry)) u ds) (shape-of s))) ⌝ }
 {
     match s {
-        Shape::Apply(_, n, first, many) => apply_rule(w, u, params, n, first, many, ability, sets),
+        Shape::Apply(k, n, first, many) => {
+            let a = Applied {
+                k: k,
+                n: n,
+                first: first,
+                many: many,
+            };
+            apply_rule(w, u, params, a, ability, sets)
+        }
         _ => Rule::Declaration,
     }
 }
 
 // ---- what is missing
 
-// The ability is asked for, and node t, whose set is kept, has it not.
+// The ability is asked for, and the type, whose set is kept, has it not.
 pub fn is_missing(
     w: &[u32],
     u: Used,
     params: &[[u8; 8]; 256],
-    t: u32,
-    asked: AbilitySet,
+    a: Asked,
     ability: u8,
     sets: &[u32],
 ) -> bool
-    requires { ⌜ Lay (now w) u × ((t < u .nodes) × ((0 < ability) × (Kept (now w) u (now params) (now sets) × Has-set (now sets) t))) ⌝ }
-    ensures { λ r. ⌜ ((ds : List d.Struct) → Known (now (w .entry)) u (now (params .entry)) ds → r ≡ misses (seen (now (w .entry)) u ds) t (asked .0) ability) ⌝ }
+    requires { ⌜ Lay (now w) u × ((a .ty < u .nodes) × ((0 < ability) × (Kept (now w) u (now params) (now sets) × Has-set (now sets) (a .ty)))) ⌝ }
+    ensures { λ r. ⌜ ((ds : List d.Struct) → Known (now (w .entry)) u (now (params .entry)) ds → r ≡ misses (seen (now (w .entry)) u ds) (a .ty) (a .set .0) ability) ⌝ }
 {
-    if !names::has(asked, ability) {
+    if !names::has(a.set, ability) {
         return false;
     }
-    let a = kept(sets, t);
-    !names::has(a, ability)
+    let set = kept(sets, a.ty);
+    !names::has(set, ability)
 }
 
 fn is_contradicted(r: Rule) -> bool
@@ -358,44 +358,36 @@ fn is_contradicted(r: Rule) -> bool
 }
 
 // Some ability that is asked for is missing.
-fn any_missing(
-    w: &[u32],
-    u: Used,
-    params: &[[u8; 8]; 256],
-    t: u32,
-    asked: AbilitySet,
-    sets: &[u32],
-) -> bool
-    requires { ⌜ Lay (now w) u × ((t < u .nodes) × (Kept (now w) u (now params) (now sets) × Has-set (now sets) t)) ⌝ }
-    ensures { λ r. ⌜ ((ds : List d.Struct) → Known (now (w .entry)) u (now (params .entry)) ds → r ≡ any-misses (seen (now (w .entry)) u ds) t (asked .0)) ⌝ }
+fn any_missing(w: &[u32], u: Used, params: &[[u8; 8]; 256], a: Asked, sets: &[u32]) -> bool
+    requires { ⌜ Lay (now w) u × ((a .ty < u .nodes) × (Kept (now w) u (now params) (now sets) × Has-set (now sets) (a .ty))) ⌝ }
+    ensures { λ r. ⌜ ((ds : List d.Struct) → Known (now (w .entry)) u (now (params .entry)) ds → r ≡ any-misses (seen (now (w .entry)) u ds) (a .ty) (a .set .0)) ⌝ }
 {
-    if is_missing(w, u, params, t, asked, 1, sets) {
+    if is_missing(w, u, params, a, 1, sets) {
         return true;
     }
-    if is_missing(w, u, params, t, asked, 2, sets) {
+    if is_missing(w, u, params, a, 2, sets) {
         return true;
     }
-    if is_missing(w, u, params, t, asked, 4, sets) {
+    if is_missing(w, u, params, a, 4, sets) {
         return true;
     }
-    is_missing(w, u, params, t, asked, 8, sets)
+    is_missing(w, u, params, a, 8, sets)
 }
 
-// The ability is missing, and nothing but a mark takes it away. Reading node t goes on with s.
+// The ability is missing, and nothing but a mark takes it away. Reading the type goes on with s.
 fn contradicts(
     w: &[u32],
     u: Used,
     params: &[[u8; 8]; 256],
-    t: u32,
+    a: Asked,
     s: Shape,
-    asked: AbilitySet,
     ability: u8,
     sets: &[u32],
 ) -> bool
-    requires { ⌜ Lay (now w) u × ((t < u .nodes) × ((0 < ability) × (Goes-on (now w) u t s × (Kept (now w) u (now params) (now sets) × Has-set (now sets) t)))) ⌝ }
-    ensures { λ r. ⌜ ((ds : List d.Struct) → Known (now (w .entry)) u (now (params .entry)) ds → r ≡ (misses (seen (now (w .entry)) u ds) t (asked .0) ability && clashes (seen (now (w .entry)) u ds) t ability)) ⌝ }
+    requires { ⌜ Lay (now w) u × ((a .ty < u .nodes) × ((0 < ability) × (Goes-on (now w) u (a .ty) s × (Kept (now w) u (now params) (now sets) × Has-set (now sets) (a .ty))))) ⌝ }
+    ensures { λ r. ⌜ ((ds : List d.Struct) → Known (now (w .entry)) u (now (params .entry)) ds → r ≡ (misses (seen (now (w .entry)) u ds) (a .ty) (a .set .0) ability && clashes (seen (now (w .entry)) u ds) (a .ty) ability)) ⌝ }
 {
-    if !is_missing(w, u, params, t, asked, ability, sets) {
+    if !is_missing(w, u, params, a, ability, sets) {
         return false;
     }
     let r = shape_rule(w, u, params, s, ability, sets);
@@ -406,24 +398,23 @@ fn shape_contradicts(
     w: &[u32],
     u: Used,
     params: &[[u8; 8]; 256],
-    t: u32,
+    a: Asked,
     s: Shape,
-    asked: AbilitySet,
     sets: &[u32],
 ) -> bool
-    requires { ⌜ Lay (now w) u × ((t < u .nodes) × (Goes-on (now w) u t s × (Kept (now w) u (now params) (now sets) × Has-set (now sets) t))) ⌝ }
-    ensures { λ r. ⌜ ((ds : List d.Struct) → Known (now (w .entry)) u (now (params .entry)) ds → r ≡ any-of (clashes (seen (now (w .entry)) u ds) t) (missing (seen (now (w .entry)) u ds) t (asked .0))) ⌝ }
+    requires { ⌜ Lay (now w) u × ((a .ty < u .nodes) × (Goes-on (now w) u (a .ty) s × (Kept (now w) u (now params) (now sets) × Has-set (now sets) (a .ty)))) ⌝ }
+    ensures { λ r. ⌜ ((ds : List d.Struct) → Known (now (w .entry)) u (now (params .entry)) ds → r ≡ any-of (clashes (seen (now (w .entry)) u ds) (a .ty)) (missing (seen (now (w .entry)) u ds) (a .ty) (a .set .0))) ⌝ }
 {
-    if contradicts(w, u, params, t, s, asked, 1, sets) {
+    if contradicts(w, u, params, a, s, 1, sets) {
         return true;
     }
-    if contradicts(w, u, params, t, s, asked, 2, sets) {
+    if contradicts(w, u, params, a, s, 2, sets) {
         return true;
     }
-    if contradicts(w, u, params, t, s, asked, 4, sets) {
+    if contradicts(w, u, params, a, s, 4, sets) {
         return true;
     }
-    contradicts(w, u, params, t, s, asked, 8, sets)
+    contradicts(w, u, params, a, s, 8, sets)
 }
 
 // A chain of variables is walked once, and only if something is missing.
@@ -431,45 +422,43 @@ fn any_contradicts(
     w: &[u32],
     u: Used,
     params: &[[u8; 8]; 256],
-    t: u32,
-    asked: AbilitySet,
+    a: Asked,
     ends: &[u32],
     sets: &[u32],
 ) -> bool
-    requires { ⌜ Lay (now w) u × ((t < u .nodes) × (Kept (now w) u (now params) (now sets) × Has-set (now sets) t)) ⌝ }
+    requires { ⌜ Lay (now w) u × ((a .ty < u .nodes) × (Kept (now w) u (now params) (now sets) × Has-set (now sets) (a .ty))) ⌝ }
     requires { ⌜ Ends-known (now w) u (now ends) ⌝ }
-    ensures { λ r. ⌜ ((ds : List d.Struct) → Known (now (w .entry)) u (now (params .entry)) ds → r ≡ any-of (clashes (seen (now (w .entry)) u ds) t) (missing (seen (now (w .entry)) u ds) t (asked .0))) ⌝ }
+    ensures { λ r. ⌜ ((ds : List d.Struct) → Known (now (w .entry)) u (now (params .entry)) ds → r ≡ any-of (clashes (seen (now (w .entry)) u ds) (a .ty)) (missing (seen (now (w .entry)) u ds) (a .ty) (a .set .0))) ⌝ }
 {
-    if !any_missing(w, u, params, t, asked, sets) {
+    if !any_missing(w, u, params, a, sets) {
         return false;
     }
-    let s = ready::goes_on(w, u, t, ends);
-    shape_contradicts(w, u, params, t, s, asked, sets)
+    let s = ready::goes_on(w, u, a.ty, ends);
+    shape_contradicts(w, u, params, a, s, sets)
 }
 
 // ---- 9 and 16
 
-// 9, 16 or 0, for node t and the set that is asked for. With 0 its set is kept.
+// 9, 16 or 0. With 0 the set of the type is kept.
 fn ability_hinders(
     w: &[u32],
     u: Used,
     params: &[[u8; 8]; 256],
-    t: u32,
-    asked: AbilitySet,
+    a: Asked,
     ends: &[u32],
     marks: &mut [u16],
     sets: &mut [u32],
 ) -> u32
-    requires { ⌜ Lay (now w) u × ((t < u .nodes) × (Marked (now w) u (now marks) × Kept (now w) u (now params) (now sets))) ⌝ }
+    requires { ⌜ Lay (now w) u × ((a .ty < u .nodes) × (Marked (now w) u (now marks) × Kept (now w) u (now params) (now sets))) ⌝ }
     requires { ⌜ Ends-known (now w) u (now ends) ⌝ }
-    ensures { λ r. ⌜ Marked (now (w .entry)) u (now (marks .exit)) × Hindered (now (w .entry)) u (now (params .entry)) (now (sets .entry)) (now (sets .exit)) r (λ s. ability-hindrance s t (asked .0)) (λ l. Has-set l t) ⌝ }
+    ensures { λ r. ⌜ Marked (now (w .entry)) u (now (marks .exit)) × Hindered (now (w .entry)) u (now (params .entry)) (now (sets .entry)) (now (sets .exit)) r (λ s. ability-hindrance s (a .ty) (a .set .0)) (λ l. Has-set l (a .ty)) ⌝ }
 {
-    let n = ready::levels(w, u, t, u.nodes, ends, marks);
+    let n = ready::levels(w, u, a.ty, u.nodes, ends, marks);
     if n == 0 {
         return 9;
     }
-    infer(w, u, params, t, n, ends, sets);
-    if any_contradicts(w, u, params, t, asked, ends, sets) {
+    infer(w, u, params, a.ty, n, ends, sets);
+    if any_contradicts(w, u, params, a, ends, sets) {
         return 16;
     }
     0
@@ -489,7 +478,14 @@ fn hinder(
     ensures { λ r. ⌜ Marked (now (w .entry)) u (now (marks .exit)) × Hindered (now (w .entry)) u (now (params .entry)) (now (sets .entry)) (now (sets .exit)) r (λ s. constraint-hindrance s (constraint-of c)) (λ l. Asked-kept l (constraint-of c)) ⌝ }
 {
     match c {
-        Constraint::Ability(_, t, a) => ability_hinders(w, u, params, t, a, ends, marks, sets),
+        Constraint::Ability(loc, ty, set) => {
+            let a = Asked {
+                loc: loc,
+                ty: ty,
+                set: set,
+            };
+            ability_hinders(w, u, params, a, ends, marks, sets)
+        }
         _ => 0,
     }
 }

@@ -10,15 +10,15 @@ use Rattle.definition.specs.Store.{with-args}
 use Rattle.definition.specs.Join as j
 use Rattle.definition.specs.Join.{arm, join-arm, join-refs, join-mut, join-loc, join-applies, same-name, same-mark, is-multiple}
 use Rattle.names.specs.Names.{mark-of, name-of}
-use Rattle.names.specs.declared.Mark.{Mark}
-use Rattle.names.specs.declared.TypeName.{TypeName}
 use Rattle.names.specs.declared.TVar.{TVar}
 use Rattle.names.specs.declared.TParamID.{TParamID}
 use Rattle.names.specs.declared.AbilitySet.{AbilitySet}
 use Rattle.table.specs.State.{shape-of}
 use Rattle.table.specs.declared.Shape.{Shape}
-use Rattle.table.specs.declared.Shape.the-variants.{Unit as UnitS, Ref, Param, Apply, Var, Anything, UnresolvedError}
+use Rattle.table.specs.declared.Shape.the-variants.{Unit as UnitS, Ref, Param, Var, Anything, UnresolvedError}
 use Rattle.table.proofs.Shape.{the-type}
+use Rattle.shapes.specs.Applied.{as-shape}
+use Rattle.shapes.specs.declared.Applied.{Applied}
 use Rattle.shapes.proofs.Tags.{other-shapes}
 use Rattle.arms.specs.Arms.{by-arm, Arm-below, Takes, other-arm, Unlike}
 use Rattle.arms.specs.declared.Arm.{Arm}
@@ -54,29 +54,29 @@ and-false true true = refl
 and-false true false = refl
 and-false false b = refl
 
-module _ (k1 k2 : Mark) (n1 n2 : TypeName) (first1 many1 first2 many2 : ℕ) (case : j.TypingCase) where
-  pub applies-same : same-name (name-of n1) (name-of n2) ≡ true → same-mark (mark-of k1) (mark-of k2) ≡ true
-      → Takes case (Apply k1 n1 first1 many1) (Apply k2 n2 first2 many2) (Applies k2 n2 first1 many1 first2 many2)
+module _ (a1 a2 : Applied) (case : j.TypingCase) where
+  pub applies-same : same-name (name-of (a1 .n)) (name-of (a2 .n)) ≡ true → same-mark (mark-of (a1 .k)) (mark-of (a2 .k)) ≡ true
+      → Takes case (as-shape a1) (as-shape a2) (Applies a1 a2)
   unfolding arm join-arm by-arm with-args join-applies
   applies-same p q = record { is = λ J s l r. rw (p, q, and-false); below = λ args n a b. (a, b) }
 
-  pub applies-disagree : same-name (name-of n1) (name-of n2) ≡ true → same-mark (mark-of k1) (mark-of k2) ≡ false
-      → Takes case (Apply k1 n1 first1 many1) (Apply k2 n2 first2 many2) Disagree
+  pub applies-disagree : same-name (name-of (a1 .n)) (name-of (a2 .n)) ≡ true → same-mark (mark-of (a1 .k)) (mark-of (a2 .k)) ≡ false
+      → Takes case (as-shape a1) (as-shape a2) Disagree
   unfolding arm join-arm by-arm with-args join-applies
   applies-disagree p q = record { is = λ J s l r. rw (p, q, and-false); below = λ args n a b. tt }
 
-  pub applies-arity : same-name (name-of n1) (name-of n2) ≡ false → is-multiple (name-of n1) ≡ true → is-multiple (name-of n2) ≡ true
-      → Takes case (Apply k1 n1 first1 many1) (Apply k2 n2 first2 many2) ArityMismatch
+  pub applies-arity : same-name (name-of (a1 .n)) (name-of (a2 .n)) ≡ false → is-multiple (name-of (a1 .n)) ≡ true → is-multiple (name-of (a2 .n)) ≡ true
+      → Takes case (as-shape a1) (as-shape a2) ArityMismatch
   unfolding arm join-arm by-arm with-args join-applies
   applies-arity p q1 q2 = record { is = λ J s l r. rw (p, q1, q2); below = λ args n a b. tt }
 
-  pub applies-other-left : same-name (name-of n1) (name-of n2) ≡ false → is-multiple (name-of n1) ≡ false
-      → Takes case (Apply k1 n1 first1 many1) (Apply k2 n2 first2 many2) Incompatible
+  pub applies-other-left : same-name (name-of (a1 .n)) (name-of (a2 .n)) ≡ false → is-multiple (name-of (a1 .n)) ≡ false
+      → Takes case (as-shape a1) (as-shape a2) Incompatible
   unfolding arm join-arm by-arm with-args join-applies
   applies-other-left p q = record { is = λ J s l r. rw (p, q); below = λ args n a b. tt }
 
-  pub applies-other-right : same-name (name-of n1) (name-of n2) ≡ false → is-multiple (name-of n1) ≡ true → is-multiple (name-of n2) ≡ false
-      → Takes case (Apply k1 n1 first1 many1) (Apply k2 n2 first2 many2) Incompatible
+  pub applies-other-right : same-name (name-of (a1 .n)) (name-of (a2 .n)) ≡ false → is-multiple (name-of (a1 .n)) ≡ true → is-multiple (name-of (a2 .n)) ≡ false
+      → Takes case (as-shape a1) (as-shape a2) Incompatible
   unfolding arm join-arm by-arm with-args join-applies
   applies-other-right p q1 q2 = record { is = λ J s l r. rw (p, q1, q2); below = λ args n a b. tt }
 
@@ -147,6 +147,6 @@ pub param-unlike : (id1 : TParamID) (a1 : AbilitySet) (rhs : Shape) → OneOf (0
 unfolding arm with-args other-arm
 param-unlike id1 a1 = other-shapes (0 ∷ 1 ∷ 3 ∷ 4 ∷ 5 ∷ 6 ∷ []) (Unlike (Param id1 a1)) (λ s. refl) (λ m t s. refl) tt (λ c t first many s. refl) (λ v s. refl) (λ s. refl) (λ s. refl)
 
-pub apply-unlike : (k1 : Mark) (n1 : TypeName) (first1 many1 : ℕ) (rhs : Shape) → OneOf (0 ∷ 1 ∷ 2 ∷ 4 ∷ 5 ∷ 6 ∷ []) (tagOf the-type rhs) → Unlike (Apply k1 n1 first1 many1) rhs
+pub apply-unlike : (a1 : Applied) (rhs : Shape) → OneOf (0 ∷ 1 ∷ 2 ∷ 4 ∷ 5 ∷ 6 ∷ []) (tagOf the-type rhs) → Unlike (as-shape a1) rhs
 unfolding arm with-args other-arm
-apply-unlike k1 n1 first1 many1 = other-shapes (0 ∷ 1 ∷ 2 ∷ 4 ∷ 5 ∷ 6 ∷ []) (Unlike (Apply k1 n1 first1 many1)) (λ s. refl) (λ m t s. refl) (λ p c s. refl) tt (λ v s. refl) (λ s. refl) (λ s. refl)
+apply-unlike a1 = other-shapes (0 ∷ 1 ∷ 2 ∷ 4 ∷ 5 ∷ 6 ∷ []) (Unlike (as-shape a1)) (λ s. refl) (λ m t s. refl) (λ p c s. refl) tt (λ v s. refl) (λ s. refl) (λ s. refl)

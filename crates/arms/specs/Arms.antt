@@ -9,9 +9,9 @@ use Rattle.definition.specs.Subst.{on-shape}
 use Rattle.definition.specs.Join as j
 use Rattle.definition.specs.Join.{Join-impl, Var-l, Var-r, arm, join-arm, join-tvar, join-impl-types}
 use Rattle.names.specs.Names.{mark-of, name-of}
-use Rattle.table.specs.Rows.{places}
 use Rattle.table.specs.State.{shape-of, Below}
 use Rattle.table.specs.declared.Shape.{Shape}
+use Rattle.shapes.specs.Applied.{as-shape, args-of}
 use Rattle.arms.specs.declared.TypingCase.{TypingCase}
 use Rattle.arms.specs.declared.TypingCase.the-variants.{Join, Subtype}
 use Rattle.arms.specs.declared.Arm.{Arm}
@@ -27,9 +27,9 @@ by-arm join-impl subst case lhs rhs Left = ok (subst, lhs)
 by-arm join-impl subst case lhs rhs Right = ok (subst, rhs)
 by-arm join-impl subst case lhs rhs (Refs left mut t1 t2) =
     join-impl subst case t1 t2 >>= (λ r. sp (r .0) (if left then loc-of subst lhs else loc-of subst rhs) (d.Ref mut (r .1)))
-by-arm join-impl subst case lhs rhs (Applies k n first1 many1 first2 many2) =
-    join-impl-types join-impl subst case (args-at subst (places first1 many1)) (args-at subst (places first2 many2))
-    >>= (λ r. sp (r .0) (loc-of subst rhs) (d.Apply (mark-of k) (name-of n) (r .1)))
+by-arm join-impl subst case lhs rhs (Applies a1 a2) =
+    join-impl-types join-impl subst case (args-at subst (args-of a1)) (args-at subst (args-of a2))
+    >>= (λ r. sp (r .0) (loc-of subst rhs) (d.Apply (mark-of (a2 .k)) (name-of (a2 .n)) (r .1)))
 by-arm join-impl subst case lhs rhs (Vars id1 id2) = join-tvar join-impl subst case (loc-of subst lhs) (id1 .0) (loc-of subst rhs) (id2 .0)
 by-arm join-impl subst case lhs rhs (VarLeft id) = join-arm join-impl subst case lhs rhs (Var-l (id .0))
 by-arm join-impl subst case lhs rhs (VarRight id) = join-arm join-impl subst case lhs rhs (Var-r (id .0))
@@ -43,7 +43,7 @@ abbrev pub Arm-below : List ℕ → ℕ → Arm → Type 0
 Arm-below args n Left = Unit {0}
 Arm-below args n Right = Unit {0}
 Arm-below args n (Refs left mut t1 t2) = (t1 < n) × (t2 < n)
-Arm-below args n (Applies k c first1 many1 first2 many2) = Below args n (d.Apply (mark-of k) (name-of c) (places first1 many1)) × Below args n (d.Apply (mark-of k) (name-of c) (places first2 many2))
+Arm-below args n (Applies a1 a2) = Below args n (shape-of (as-shape a1)) × Below args n (shape-of (as-shape a2))
 Arm-below args n (Vars id1 id2) = Unit {0}
 Arm-below args n (VarLeft id) = Unit {0}
 Arm-below args n (VarRight id) = Unit {0}

@@ -4,13 +4,15 @@ ghost use Rattle.definition.specs.Join as d;
 ghost use mathlib.Core.Path.{_≡_};
 ghost use Rattle.names.specs.Names.{mark-of, name-of};
 ghost use Rattle.table.specs.declared.Shape.{Shape};
-ghost use Rattle.table.specs.declared.Shape.the-variants.{Unit, Ref, Param, Apply, Var, UnresolvedError};
+ghost use Rattle.table.specs.declared.Shape.the-variants.{Unit, Ref, Param, Var, UnresolvedError};
+ghost use Rattle.shapes.specs.Applied.{as-shape};
 ghost use Rattle.arms.specs.Arms.{case-of, Takes, Unlike};
 use names::AbilitySet;
 use names::Mark;
 use names::TParamID;
 use names::TVar;
 use names::TypeName;
+use shapes::Applied;
 use table::Shape;
 
 pub enum TypingCase {
@@ -24,8 +26,8 @@ pub enum Arm {
     Right,
     // Whether the result is at the left location, whether it is mutable, and the two inner types.
     Refs(bool, bool, u32, u32),
-    // The result's mark and name, and the argument places of both: the first and how many.
-    Applies(Mark, TypeName, u32, u32, u32, u32),
+    // Both types, of one name and mark.
+    Applies(Applied, Applied),
     Vars(TVar, TVar),
     // That operand is the variable.
     VarLeft(TVar),
@@ -108,21 +110,16 @@ fn arm_refs(case: TypingCase, mut1: bool, t1: u32, mut2: bool, t2: u32) -> Arm
 }
 
 // Names are compared before marks.
-fn arm_applies(
-    k1: Mark,
-    n1: TypeName,
-    first1: u32,
-    many1: u32,
-    k2: Mark,
-    n2: TypeName,
-    first2: u32,
-    many2: u32,
-) -> Arm
-    ensures { λ a. ⌜ ((case : d.TypingCase) → Takes case (Apply k1 n1 first1 many1) (Apply k2 n2 first2 many2) a) ⌝ }
+fn arm_applies(a1: Applied, a2: Applied) -> Arm
+    ensures { λ a. ⌜ ((case : d.TypingCase) → Takes case (as-shape a1) (as-shape a2) a) ⌝ }
 {
+    let k1 = a1.k;
+    let k2 = a2.k;
+    let n1 = a1.n;
+    let n2 = a2.n;
     if same_name(n1, n2) {
         if same_mark(k1, k2) {
-            return Arm::Applies(k2, n2, first1, many1, first2, many2);
+            return Arm::Applies(a1, a2);
         }
         return Arm::Disagree;
     }
@@ -179,20 +176,19 @@ fn arm_param(id1: TParamID, a1: AbilitySet, rhs: Shape) -> Arm
     }
 }
 
-fn arm_apply(k1: Mark, n1: TypeName, first1: u32, many1: u32, rhs: Shape) -> Arm
-    ensures { λ a. ⌜ ((case : d.TypingCase) → Takes case (Apply k1 n1 first1 many1) rhs a) ⌝ }
+fn arm_apply(a1: Applied, rhs: Shape) -> Arm
+    ensures { λ a. ⌜ ((case : d.TypingCase) → Takes case (as-shape a1) rhs a) ⌝ }
 {
     match rhs {
-        Shape::Apply(k2, n2, first2, many2) => arm_applies(
-            k1,
-            n1,
-            first1,
-            many1,
-            k2,
-            n2,
-            first2,
-            many2,
-        ),
+        Shape::Apply(k, n, first, many) => {
+            let a2 = Applied {
+                k: k,
+                n: n,
+                first: first,
+                many: many,
+            };
+            arm_applies(a1, a2)
+        }
         _ => arm_other(rhs),
     }
 }
@@ -231,7 +227,15 @@ pub fn arm_of(case: TypingCase, lhs: Shape, rhs: Shape) -> Arm
         Shape::Unit => arm_unit(rhs),
         Shape::Ref(mut1, t1) => arm_ref(case, mut1, t1, rhs),
         Shape::Param(id1, a1) => arm_param(id1, a1, rhs),
-        Shape::Apply(k1, n1, first1, many1) => arm_apply(k1, n1, first1, many1, rhs),
+        Shape::Apply(k, n, first, many) => {
+            let a1 = Applied {
+                k: k,
+                n: n,
+                first: first,
+                many: many,
+            };
+            arm_apply(a1, rhs)
+        }
         Shape::Var(id1) => arm_var(id1, rhs),
         Shape::Anything => Arm::Right,
         Shape::UnresolvedError => arm_error(rhs),

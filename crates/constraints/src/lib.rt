@@ -22,6 +22,7 @@ ghost use Rattle.abilities.specs.Kept.{Has-set, Kept};
 ghost use Rattle.abilities.specs.Rules.{rule-of, Rule-in};
 ghost use Rattle.failing.specs.Failing.{good, plain, failing, Failing-in, Ty-in, Fails};
 ghost use Rattle.constraints.specs.Lacking.{lack, row, Is-ability, Lacking, Asked-ready};
+use abilities::Asked;
 use abilities::Rule;
 use failing::Failing;
 use failing::ask_of;
@@ -274,29 +275,27 @@ fn by_rule(loc: u32, ability: u8, t: u32, r: Rule) -> Failing
     }
 }
 
-// The failure for one ability, of type ty, whose set is kept. `_` has every ability. A chain of variables is walked only if the ability is missing.
+// The failure for one ability, of a type whose set is kept. `_` has every ability. A chain of variables is walked only if the ability is missing.
 fn lack_of(
     w: &[u32],
     u: Used,
     params: &[[u8; 8]; 256],
     sets: &[u32],
-    loc: u32,
-    ty: u32,
-    asked: AbilitySet,
+    a: Asked,
     ability: u8,
 ) -> Failing
-    requires { ⌜ Lay (now w) u × ((ty < u .nodes) × (Is-ability ability × (Kept (now w) u (now params) (now sets) × Has-set (now sets) ty))) ⌝ }
-    ensures { λ r. ⌜ Lacking (now (w .entry)) u (now (params .entry)) r (λ s. lack s loc ty (asked .0) ability) ⌝ }
+    requires { ⌜ Lay (now w) u × ((a .ty < u .nodes) × (Is-ability ability × (Kept (now w) u (now params) (now sets) × Has-set (now sets) (a .ty)))) ⌝ }
+    ensures { λ r. ⌜ Lacking (now (w .entry)) u (now (params .entry)) r (λ s. lack s (a .loc) (a .ty) (a .set .0) ability) ⌝ }
 {
-    if !abilities::is_missing(w, u, params, ty, asked, ability, sets) {
+    if !abilities::is_missing(w, u, params, a, ability, sets) {
         return Failing::Fine;
     }
-    match subst::unfold_type(w, u, ty) {
+    match subst::unfold_type(w, u, a.ty) {
         Unfolded::Node(t) => {
             let n = table::node_at(w, u, t);
             let s = n.shape;
             let r = abilities::shape_rule(w, u, params, s, ability, sets);
-            by_rule(loc, ability, t, r)
+            by_rule(a.loc, ability, t, r)
         }
         Unfolded::Anything(_) => Failing::Fine,
     }
@@ -325,7 +324,14 @@ pub fn row_of(
     ensures { λ r. ⌜ Lacking (now (w .entry)) u (now (params .entry)) r (λ s. row s (constraint-of c) ability) ⌝ }
 {
     match c {
-        Constraint::Ability(loc, ty, a) => lack_of(w, u, params, sets, loc, ty, a, ability),
+        Constraint::Ability(loc, ty, set) => {
+            let a = Asked {
+                loc: loc,
+                ty: ty,
+                set: set,
+            };
+            lack_of(w, u, params, sets, a, ability)
+        }
         _ => first_row(w, u, c, ability),
     }
 }

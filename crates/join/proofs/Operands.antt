@@ -13,10 +13,7 @@ use Rattle.definition.specs.Store.{count, sp, node, type-at, loc-of, args-at, w
 use Rattle.definition.specs.Join as j
 use Rattle.definition.specs.Join.{Var-l, Var-r, arm, join-arm, join-impl, join-impl-types, join-tvar}
 use Rattle.names.specs.Names.{mark-of, name-of}
-use Rattle.names.specs.declared.Mark.{Mark}
-use Rattle.names.specs.declared.TypeName.{TypeName}
 use Rattle.names.specs.declared.TVar.{TVar}
-use Rattle.table.specs.Rows.{places}
 use Rattle.table.specs.State.{Lay, After, Parts, Listed-in, outcome, listed, seen, view, done, node-of, shape-of, Below}
 use Rattle.table.specs.declared.Step.{Step}
 use Rattle.table.specs.declared.Used.{Used}
@@ -30,13 +27,16 @@ use Rattle.table.specs.declared.Found.the-variants.{Nothing, Just}
 use Rattle.table.proofs.Steps.{done-is, listed-then, refines-as, after-now, after-is, after-stop, after-on, after-then}
 use Rattle.table.proofs.Pushed.{count-view}
 use Rattle.table.proofs.Grown.{loc-is, value-is}
+use Rattle.shapes.specs.Applied.{args-of}
+use Rattle.shapes.specs.declared.Applied.{Applied}
 use Rattle.arms.specs.Arms.{case-of, by-arm, Arm-below, Takes}
 use Rattle.arms.specs.declared.TypingCase.{TypingCase}
 use Rattle.arms.specs.declared.Arm.{Arm}
 use Rattle.arms.specs.declared.Arm.the-variants.{Left, Right, Refs, Applies, Vars, VarLeft, VarRight, SubtypeError, ArityMismatch, Incompatible, Disagree}
-use Rattle.merge.specs.Merge.{Inner, Merging, open-tvar, open-types, open-ends, opened, Opened-in, Opens, show-both, close-tvar, meet-tvar, met, Meets}
+use Rattle.merge.specs.Merge.{Inner, Then-merge, open-tvar, open-types, open-ends, opened, Opened-in, Opens, show-both, close-tvar, meet-tvar, met, Meets}
 use Rattle.merge.specs.declared.Open.{Open}
 use Rattle.merge.specs.declared.Opened.{Opened}
+use Rattle.merge.specs.declared.Merging.{Merging}
 use Rattle.merge.specs.declared.Opened.the-variants.{Ready, Stop}
 use Rattle.merge.specs.declared.Meet.{Meet}
 use Rattle.merge.specs.declared.Meet.the-variants.{Is, Merge}
@@ -47,7 +47,7 @@ use Rattle.join.proofs.Args.{inner}
 
 -- ---- answers that are handed on
 
-module _ {w : List ℕ} {u : Used} {w′ : List ℕ} {m : Meet} {f : State → Merging → Result (State × ℕ)} (a : Meets w u w′ m f) (k : Merging) where
+module _ {w : List ℕ} {u : Used} {w′ : List ℕ} {m : Meet} {f : State → Then-merge → Result (State × ℕ)} (a : Meets w u w′ m f) (k : Then-merge) where
   met-is : {x : Step} → m ≡ Is x → After w u w′ x (λ s. f s k)
   unfolding met
   met-is {x} e = let b : Meets w u w′ (Is x) f = rw e at a in record { changed = refines-as (λ g. g k) (b .changed) (λ s. refl); inside = b .inside }
@@ -56,7 +56,7 @@ module _ {w : List ℕ} {u : Used} {w′ : List ℕ} {m : Meet} {f : State → M
   unfolding met
   met-merge {u′} {v} e n = let b : Meets w u w′ (Merge u′ v) f = rw e at a in after-on (λ g. g k) (b .changed) n
 
-pub merge-lay : (w : List ℕ) (u : Used) (w′ : List ℕ) (m : Meet) (f : State → Merging → Result (State × ℕ)) (u′ : Used) (v : TVar) → Meets w u w′ m f → m ≡ Merge u′ v → Lay w′ u′
+pub merge-lay : (w : List ℕ) (u : Used) (w′ : List ℕ) (m : Meet) (f : State → Then-merge → Result (State × ℕ)) (u′ : Used) (v : TVar) → Meets w u w′ m f → m ≡ Merge u′ v → Lay w′ u′
 merge-lay w u w′ m f u′ v a e = let b : Meets w u w′ (Merge u′ v) f = rw e at a in b .changed .lay
 
 module _ {w : List ℕ} {u : Used} {w′ : List ℕ} {m : Open} {f : State → Inner → Result (State × ℕ)} (a : Opens w u w′ m f) (k : Inner) where
@@ -64,7 +64,7 @@ module _ {w : List ℕ} {u : Used} {w′ : List ℕ} {m : Open} {f : State → I
   unfolding opened
   open-is {o} e = record { changed = refines-as (λ g. g k) (a .changed) (λ s. rw e refl); inside = rw e at (a .inside) }
 
-  open-ready : {ty1 ty2 : ℕ} {v : TVar} {var2 : ℕ} {w₂ : List ℕ} {r : Step} → m .what ≡ Ready ty1 ty2 v var2 → After w′ (m .used) w₂ r (λ s. k s ty1 ty2 (v .0) var2) → After w u w₂ r (λ s. f s k)
+  open-ready : {x : Merging} {w₂ : List ℕ} {r : Step} → m .what ≡ Ready x → After w′ (m .used) w₂ r (λ s. k s (x .ty1) (x .ty2) (x .«new_tvar» .0) (x .var2)) → After w u w₂ r (λ s. f s k)
   unfolding opened
   open-ready e n = after-on (λ g. g k) (a .changed) (after-is (λ ds x. rw e refl) n)
 
@@ -86,8 +86,8 @@ module _ (o : Out) {b : Found} {m : ℕ} (tys : List ℕ) (p : b ≡ done o) (q 
 
 -- ---- the merge
 
-pub ready-in : (n : ℕ) (o : Opened) (ty1 ty2 : ℕ) (v : TVar) (var2 : ℕ) → Opened-in n o → o ≡ Ready ty1 ty2 v var2 → (ty1 < n) × ((ty2 < n) × (var2 < n))
-ready-in n o ty1 ty2 v var2 i e = rw e at i
+pub ready-in : (n : ℕ) (o : Opened) (m : Merging) → Opened-in n o → o ≡ Ready m → Opened-in n (Ready m)
+ready-in n o m i e = rw e at i
 
 abbrev then-close : ℕ → j.TypingCase → ℕ → ℕ → ℕ → Inner
 then-close left case id1 loc2 id2 = λ s ty1 ty2 new var2. join-impl left s case ty1 ty2 >>= (λ x. close-tvar (x .0) ty1 id1 ty2 loc2 id2 new var2 (x .1))
@@ -101,17 +101,17 @@ module _ (left : ℕ) (case : j.TypingCase) (w : List ℕ) (u : Used) (loc1 id1 
   tvar-stop o e =
       after-is (λ ds k. tvar-is left case (seen w u ds) loc1 id1 loc2 id2) (open-is a (then-close left case id1 loc2 id2) e)
 
-  module _ (ty1 ty2 : ℕ) (v : TVar) (var2 : ℕ) (e : m .what ≡ Ready ty1 ty2 v var2) where
-    module _ (w₂ : List ℕ) (x : Step) (b : Found) (after : After w₁ (m .used) w₂ x (λ s. join-impl left s case ty1 ty2)) (p : b ≡ done (x .out)) where
-      from-open : {w′ : List ℕ} {r : Step} → After w₁ (m .used) w′ r (λ s. then-close left case id1 loc2 id2 s ty1 ty2 (v .0) var2) → After w u w′ r (λ s. join-tvar (inner left) s case loc1 id1 loc2 id2)
+  module _ (h : Merging) (e : m .what ≡ Ready h) where
+    module _ (w₂ : List ℕ) (x : Step) (b : Found) (after : After w₁ (m .used) w₂ x (λ s. join-impl left s case (h .ty1) (h .ty2))) (p : b ≡ done (x .out)) where
+      from-open : {w′ : List ℕ} {r : Step} → After w₁ (m .used) w′ r (λ s. then-close left case id1 loc2 id2 s (h .ty1) (h .ty2) (h .«new_tvar» .0) (h .var2)) → After w u w′ r (λ s. join-tvar (inner left) s case loc1 id1 loc2 id2)
       from-open n = after-is (λ ds k. tvar-is left case (seen w u ds) loc1 id1 loc2 id2) (open-ready a (then-close left case id1 loc2 id2) e n)
 
       pub tvar-inner : b ≡ Nothing → After w u w₂ x (λ s. join-tvar (inner left) s case loc1 id1 loc2 id2)
-      tvar-inner q = from-open (after-stop (λ y. close-tvar (y .0) ty1 id1 ty2 loc2 id2 (v .0) var2 (y .1)) after p q)
+      tvar-inner q = from-open (after-stop (λ y. close-tvar (y .0) (h .ty1) id1 (h .ty2) loc2 id2 (h .«new_tvar» .0) (h .var2) (y .1)) after p q)
 
-      pub tvar-close : (ty : ℕ) (w₃ : List ℕ) (r : Step) → b ≡ Just ty → After w₂ (x .used) w₃ r (λ s. close-tvar s ty1 id1 ty2 loc2 id2 (v .0) var2 ty) → After w u w₃ r (λ s. join-tvar (inner left) s case loc1 id1 loc2 id2)
+      pub tvar-close : (ty : ℕ) (w₃ : List ℕ) (r : Step) → b ≡ Just ty → After w₂ (x .used) w₃ r (λ s. close-tvar s (h .ty1) id1 (h .ty2) loc2 id2 (h .«new_tvar» .0) (h .var2) ty) → After w u w₃ r (λ s. join-tvar (inner left) s case loc1 id1 loc2 id2)
       tvar-close ty w₃ r q n =
-          from-open (after-then (x .out) (λ y. close-tvar (y .0) ty1 id1 ty2 loc2 id2 (v .0) var2 (y .1)) (after .changed) p q n)
+          from-open (after-then (x .out) (λ y. close-tvar (y .0) (h .ty1) id1 (h .ty2) loc2 id2 (h .«new_tvar» .0) (h .var2) (y .1)) (after .changed) p q n)
 
 -- ---- the operand walk
 
@@ -197,13 +197,13 @@ module _ (left : ℕ) (case : TypingCase) (w : List ℕ) (u : Used) (lhs rhs : �
       (after-is (λ ds k. rw (q, loc-is (seen w u ds) lhs l (el ds), loc-is (seen w u ds) rhs r (er ds))) (after-on (λ m. m >>= ref-at loc mut) (after .changed) n))
 
   -- named types
-  pub arm-applies : (k : Mark) (n : TypeName) (first1 many1 first2 many2 : ℕ) (w₁ : List ℕ) (x : Types) (w₂ : List ℕ) (y : Step) → a ≡ Applies k n first1 many1 first2 many2
-      → Joined w u w₁ x (λ s. join-impl-types (inner (left - 1)) s (case-of case) (args-at s (places first1 many1)) (args-at s (places first2 many2)))
-      → After w₁ (x .used) w₂ y (then-apply (x .out) (x .tys) (r .loc) (mark-of k) (name-of n)) → After w u w₂ y (λ s. join-impl left s (case-of case) lhs rhs)
+  pub arm-applies : (t1 t2 : Applied) (w₁ : List ℕ) (x : Types) (w₂ : List ℕ) (y : Step) → a ≡ Applies t1 t2
+      → Joined w u w₁ x (λ s. join-impl-types (inner (left - 1)) s (case-of case) (args-at s (args-of t1)) (args-at s (args-of t2)))
+      → After w₁ (x .used) w₂ y (then-apply (x .out) (x .tys) (r .loc) (mark-of (t2 .k)) (name-of (t2 .n))) → After w u w₂ y (λ s. join-impl left s (case-of case) lhs rhs)
   unfolding by-arm
-  arm-applies k n first1 many1 first2 many2 w₁ x w₂ y e joined m =
-      by (Applies k n first1 many1 first2 many2) e
-      (after-is (λ ds k. rw (loc-is (seen w u ds) rhs r (er ds))) (after-on (λ c. c >>= apply-at (r .loc) (mark-of k) (name-of n)) (joined .changed) m))
+  arm-applies t1 t2 w₁ x w₂ y e joined m =
+      by (Applies t1 t2) e
+      (after-is (λ ds k. rw (loc-is (seen w u ds) rhs r (er ds))) (after-on (λ c. c >>= apply-at (r .loc) (mark-of (t2 .k)) (name-of (t2 .n))) (joined .changed) m))
 
   -- two variables
   pub arm-vars : (id1 id2 : TVar) (w₁ : List ℕ) (x : Step) → a ≡ Vars id1 id2 → After w u w₁ x (λ s. join-tvar (inner (left - 1)) s (case-of case) (l .loc) (id1 .0) (r .loc) (id2 .0)) → After w u w₁ x (λ s. join-impl left s (case-of case) lhs rhs)

@@ -1,23 +1,23 @@
 -- What the argument walk asks of its places, and what its answer stands for. Assumes nothing: these are definitions.
 use mathlib.Core.Bool.{Bool}
 use mathlib.Core.List.{List}
-use mathlib.Core.Option.{none}
 use Prim.Native.Nat.{ℕ}
 use lib.ListN.{take}
 use Rattle.definition.specs.Types as d
 use Rattle.definition.specs.Types.{State, Result, _>>=_}
 use Rattle.definition.specs.Store.{sp}
-use Rattle.table.specs.Rows.{places}
-use Rattle.table.specs.State.{Any, Lists, Below, view, outcome, listed}
+use Rattle.table.specs.State.{Any, Lists, Below, view, shape-of, outcome, listed}
 use Rattle.table.specs.declared.Used.{Used}
 use Rattle.table.specs.declared.Out.{Out}
 use Rattle.table.specs.declared.Step.{Step}
 use Rattle.table.specs.declared.Out.the-variants.{Done, Failed, Refused}
+use Rattle.shapes.specs.Applied.{as-shape}
+use Rattle.shapes.specs.declared.Applied.{Applied}
 use Rattle.join.specs.declared.Types.{Types}
 
--- so many places from `first` on are in use, and each holds a node
-abbrev pub Args-in : List ℕ → Used → ℕ → ℕ → Type 0
-Args-in w u first many = Below (view w u .args) (u .nodes) (d.Apply none (d.Multiple 0) (places first many))
+-- the argument places are in use, and each holds a node
+abbrev pub Args-in : List ℕ → Used → Applied → Type 0
+Args-in w u t = Below (view w u .args) (u .nodes) (shape-of (as-shape t))
 
 -- the number that an answer is, or 0
 abbrev pub number : Out → ℕ

@@ -5,8 +5,8 @@ ghost use Prim.Native.Nat.{ℕ, _<_, min};
 ghost use Rattle.definition.specs.Types.{if_then_else_};
 ghost use Rattle.definition.specs.Store.{args-at};
 ghost use Rattle.definition.specs.Join.{join, subtype, join-impl, join-impl-types, join-tvar};
-ghost use Rattle.table.specs.Rows.{places};
 ghost use Rattle.table.specs.State.{Lay, After, Nodes-in, Listed-in};
+ghost use Rattle.shapes.specs.Applied.{args-of};
 ghost use Rattle.arms.specs.Arms.{case-of};
 ghost use Rattle.names.specs.Names.{mark-of, name-of};
 ghost use Rattle.join.specs.Join.{Args-in, Joined, number, step, then-ref, then-apply};
@@ -14,10 +14,9 @@ use arms::Arm;
 use arms::TypingCase;
 use merge::Meet;
 use merge::Opened;
+use merge::VarAt;
 use names::MAX_DEPTH;
-use names::Mark;
-use names::TVar;
-use names::TypeName;
+use shapes::Applied;
 use table::Found;
 use table::Out;
 use table::Refusal;
@@ -58,14 +57,16 @@ fn push_ref(w: &mut [u32], a: Step, loc: u32, mutable: bool) -> Step
     table::push_node(w, u, loc, Shape::Ref(mutable, t))
 }
 
-// The named type of the arguments that were joined, if they were.
-fn push_types(w: &mut [u32], a: Types, loc: u32, k: Mark, n: TypeName) -> Step
+// A type of the name and mark of `t` and the arguments that were joined, if they were.
+fn push_types(w: &mut [u32], a: Types, loc: u32, t: Applied) -> Step
     requires { ⌜ Lay (now w) (a .used) × Listed-in (a .used .nodes) (a .out) (a .tys) (number (a .out)) ⌝ }
-    ensures { λ r. ⌜ After (now (w .entry)) (a .used) (now (w .exit)) r (then-apply (a .out) (a .tys) loc (mark-of k) (name-of n)) ⌝ }
+    ensures { λ r. ⌜ After (now (w .entry)) (a .used) (now (w .exit)) r (then-apply (a .out) (a .tys) loc (mark-of (t .k)) (name-of (t .n))) ⌝ }
 {
     let o = a.out;
     let u = a.used;
     let tys = a.tys;
+    let k = t.k;
+    let n = t.n;
     let Found::Just(m) = table::done_of(o) else {
         return settled(u, o);
     };
@@ -100,6 +101,7 @@ fn join_impl(w: &mut [u32], u: Used, case: TypingCase, left: u32, lhs: u32, rhs:
     if left == 0 {
         return settled(u, Out::Refused(Refusal::TooDeep));
     }
+    let less = left - 1;
     let l = table::node_at(w, u, lhs);
     let r = table::node_at(w, u, rhs);
     let ls = l.shape;
@@ -109,21 +111,21 @@ fn join_impl(w: &mut [u32], u: Used, case: TypingCase, left: u32, lhs: u32, rhs:
         Arm::Right => settled(u, Out::Done(rhs)),
         Arm::Refs(side, mutable, t1, t2) => {
             let loc = pick_loc(side, l.loc, r.loc);
-            let a = join_impl(w, u, case, left - 1, t1, t2);
+            let a = join_impl(w, u, case, less, t1, t2);
             push_ref(w, a, loc, mutable)
         }
-        Arm::Applies(k, n, first1, many1, first2, many2) => {
-            let a = join_impl_types(w, u, case, left - 1, first1, many1, first2, many2);
-            push_types(w, a, r.loc, k, n)
+        Arm::Applies(t1, t2) => {
+            let a = join_impl_types(w, u, case, less, t1, t2);
+            push_types(w, a, r.loc, t2)
         }
-        Arm::Vars(id1, id2) => join_tvar(w, u, case, left - 1, l.loc, id1, r.loc, id2),
+        Arm::Vars(id1, id2) => join_tvar(w, u, case, less, VarAt(l.loc, id1), VarAt(r.loc, id2)),
         Arm::VarLeft(id) => match merge::meet_tvar(w, u, lhs, rhs, lhs, id, rhs) {
             Meet::Is(a) => a,
-            Meet::Merge(au, new) => join_tvar(w, au, case, left - 1, l.loc, id, r.loc, new),
+            Meet::Merge(au, v) => join_tvar(w, au, case, less, VarAt(l.loc, id), VarAt(r.loc, v)),
         },
         Arm::VarRight(id) => match merge::meet_tvar(w, u, lhs, rhs, rhs, id, lhs) {
             Meet::Is(a) => a,
-            Meet::Merge(au, new) => join_tvar(w, au, case, left - 1, l.loc, new, r.loc, id),
+            Meet::Merge(au, v) => join_tvar(w, au, case, less, VarAt(l.loc, v), VarAt(r.loc, id)),
         },
         Arm::SubtypeError => settled(u, Out::Failed(TypingError::SubtypeError(lhs, rhs))),
         Arm::ArityMismatch => settled(u, Out::Failed(TypingError::ArityMismatch(lhs, rhs))),
@@ -138,21 +140,19 @@ fn join_impl_types(
     u: Used,
     case: TypingCase,
     left: u32,
-    first1: u32,
-    many1: u32,
-    first2: u32,
-    many2: u32,
+    t1: Applied,
+    t2: Applied,
 ) -> Types
-    requires { ⌜ Lay (now w) u × (Args-in (now w) u first1 many1 × Args-in (now w) u first2 many2) ⌝ }
-    ensures { λ r. ⌜ Joined (now (w .entry)) u (now (w .exit)) r (λ s. join-impl-types (λ s c l r. join-impl left s c l r) s (case-of case) (args-at s (places first1 many1)) (args-at s (places first2 many2))) ⌝ }
+    requires { ⌜ Lay (now w) u × (Args-in (now w) u t1 × Args-in (now w) u t2) ⌝ }
+    ensures { λ r. ⌜ Joined (now (w .entry)) u (now (w .exit)) r (λ s. join-impl-types (λ s c l r. join-impl left s c l r) s (case-of case) (args-at s (args-of t1)) (args-at s (args-of t2))) ⌝ }
 {
-    let n = fewer(many1, many2);
+    let n = fewer(t1.many, t2.many);
     let mut tys = [0u32; 8];
     let mut at = u;
     let mut i = 0;
     while i < n {
-        let ty1 = table::arg_at(w, at, first1, i);
-        let ty2 = table::arg_at(w, at, first2, i);
+        let ty1 = table::arg_at(w, at, t1.first, i);
+        let ty2 = table::arg_at(w, at, t2.first, i);
         let s = join_impl(w, at, case, left, ty1, ty2);
         let o = s.out;
         let su = s.used;
@@ -176,31 +176,22 @@ fn join_impl_types(
 }
 
 // The variable merge.
-fn join_tvar(
-    w: &mut [u32],
-    u: Used,
-    case: TypingCase,
-    left: u32,
-    loc1: u32,
-    id1: TVar,
-    loc2: u32,
-    id2: TVar,
-) -> Step
+fn join_tvar(w: &mut [u32], u: Used, case: TypingCase, left: u32, v1: VarAt, v2: VarAt) -> Step
     requires { ⌜ Lay (now w) u ⌝ }
-    ensures { λ r. ⌜ After (now (w .entry)) u (now (w .exit)) r (λ s. join-tvar (λ s c l r. join-impl left s c l r) s (case-of case) loc1 (id1 .0) loc2 (id2 .0)) ⌝ }
+    ensures { λ r. ⌜ After (now (w .entry)) u (now (w .exit)) r (λ s. join-tvar (λ s c l r. join-impl left s c l r) s (case-of case) (v1 .0) (v1 .1 .0) (v2 .0) (v2 .1 .0)) ⌝ }
 {
-    let a = merge::open_tvar(w, u, loc1, id1, loc2, id2);
+    let a = merge::open_tvar(w, u, v1, v2);
     let what = a.what;
     let au = a.used;
     match what {
         Opened::Stop(o) => Step { out: o, used: au },
-        Opened::Ready(ty1, ty2, fresh, var2) => {
-            let b = join_impl(w, au, case, left, ty1, ty2);
+        Opened::Ready(m) => {
+            let b = join_impl(w, au, case, left, m.ty1, m.ty2);
             let bo = b.out;
             let Found::Just(ty) = table::done_of(bo) else {
                 return b;
             };
-            merge::close_tvar(w, b.used, ty1, id1, ty2, loc2, id2, fresh, var2, ty)
+            merge::close_tvar(w, b.used, v1, v2, m, ty)
         }
     }
 }

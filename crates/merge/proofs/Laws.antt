@@ -26,8 +26,9 @@ use Rattle.table.specs.declared.Found.the-variants.{Nothing, Just}
 use Rattle.table.proofs.Steps.{refines-now, refines-is, refines-on, refines-as, refines-number, stop-is, node-in, plain-in, after-now, after-is, after-stop, after-on, after-then}
 use Rattle.table.proofs.States.{tvar-plain}
 use Rattle.table.proofs.Grown.{nodes-grow, loc-is, value-is}
-use Rattle.merge.specs.Merge.{Inner, Merging, open-ends, open-types, open-tvar, opened, Opens, show-both, close-tvar, meet-tvar, met, Meets}
+use Rattle.merge.specs.Merge.{Inner, Then-merge, open-ends, open-types, open-tvar, opened, Opens, show-both, close-tvar, meet-tvar, met, Meets}
 use Rattle.merge.specs.declared.Open.{Open}
+use Rattle.merge.specs.declared.Merging.{Merging}
 use Rattle.merge.specs.declared.Opened.the-variants.{Ready, Stop}
 use Rattle.merge.specs.declared.Meet.the-variants.{Is, Merge}
 
@@ -60,10 +61,10 @@ module _ {w : List ℕ} {u : Used} {w′ : List ℕ} where
   pub open-stored : {f : State → State} {w₂ : List ℕ} {r : Open} (h : State → Inner → Result (State × ℕ)) → Stored w u w′ f → Opens w′ u w₂ r h → Opens w u w₂ r (λ s. h (f s))
   open-stored h a n = record { changed = refines-on h a (n .changed); inside = n .inside }
 
-pub open-ready : (w : List ℕ) (u : Used) (ty1 ty2 : ℕ) (v : TVar) (var2 : ℕ) → Lay w u → ty1 < u .nodes → ty2 < u .nodes → var2 < u .nodes
-    → Opens w u w (record { what = Ready ty1 ty2 v var2; used = u }) (λ s k. k s ty1 ty2 (v .0) var2)
+pub open-ready : (w : List ℕ) (u : Used) (m : Merging) → Lay w u → m .ty1 < u .nodes → m .ty2 < u .nodes → m .var2 < u .nodes
+    → Opens w u w (record { what = Ready m; used = u }) (λ s k. k s (m .ty1) (m .ty2) (m .«new_tvar» .0) (m .var2))
 unfolding opened
-open-ready w u ty1 ty2 v var2 h a b c = record { changed = refines-now h (λ ds k. refl); inside = (a, (b, c)) }
+open-ready w u m h a b c = record { changed = refines-now h (λ ds k. refl); inside = (a, (b, c)) }
 
 pub open-is : (k : Inner) (s : State) (loc1 id1 loc2 id2 e1 e2 : ℕ) (num1 num2 : Option ℕ) → e1 ≡ forward-tvar s id1 → e2 ≡ forward-tvar s id2 → num1 ≡ num-loc s e1 → num2 ≡ num-loc s e2
     → open-types k s loc1 e1 num1 loc2 e2 num2 ≡ open-tvar k s loc1 id1 loc2 id2
@@ -105,7 +106,7 @@ module _ (loc1 id1 : ℕ) (num1 : Option ℕ) (ty1 loc2 id2 : ℕ) (num2 : Optio
         ends-no-second x = from-node (open-stop (q .out) (from-var2 (v .0) var1) (tq .changed) dq (tq .inside) x)
 
         pub ends-ready : (var2 : ℕ) → bq ≡ Just var2 → (w₅ w₆ : List ℕ) → Stored w₄ (q .used) w₅ (λ s. insert s id1 var1) → Stored w₅ (q .used) w₆ (λ s. insert s id2 var2) → ty1 < u .nodes → ty2 < u .nodes
-            → Opens w u w₆ (record { what = Ready ty1 ty2 v var2; used = q .used }) (λ s k. open-ends k s loc1 id1 num1 ty1 loc2 id2 num2 ty2)
+            → Opens w u w₆ (record { what = Ready (record { ty1 = ty1; ty2 = ty2; «new_tvar» = v; var2 = var2 }); used = q .used }) (λ s k. open-ends k s loc1 id1 num1 ty1 loc2 id2 num2 ty2)
         ends-ready var2 is2 w₅ w₆ x y in1 in2 =
             let g1 = nodes-grow w u w₁ (a .used) (ta .grown) in
             let g2 = nodes-grow w₂ (a .used) w₃ (p .used) (tp .changed .grown) in
@@ -116,7 +117,7 @@ module _ (loc1 id1 : ℕ) (num1 : Option ℕ) (ty1 loc2 id2 : ℕ) (num2 : Optio
             (open-then (q .out) (from-var2 (v .0) var1) (tq .changed) dq is2
             (open-stored (λ s k. k (insert s id2 var2) ty1 ty2 (v .0) var2) x
             (open-stored (λ s k. k s ty1 ty2 (v .0) var2) y
-            (open-ready w₆ (q .used) ty1 ty2 v var2 (y .lay) below1 below2 (node-in (q .used .nodes) (q .out) bq var2 (tq .inside) dq is2)))))
+            (open-ready w₆ (q .used) (record { ty1 = ty1; ty2 = ty2; «new_tvar» = v; var2 = var2 }) (y .lay) below1 below2 (node-in (q .used .nodes) (q .out) bq var2 (tq .inside) dq is2)))))
 
 -- the ends e1 and e2 of both chains
 module _ (w : List ℕ) (u : Used) (loc1 id1 loc2 id2 : ℕ) (e1 e2 : TVar) (n1 n2 : Found)
@@ -263,13 +264,13 @@ module _ (lhs rhs var id other : ℕ) where
         → Meets w u w′ (Is r) (λ s k. meet-tvar k s lhs rhs var id other)
     unfolding met
     meets-free w′ r e a =
-        record { changed = refines-is (λ ds x i k. meet-free k (seen w u ds) (sym (ap found e) ∙ is ds) i) (refines-as (λ m (k : Merging). m) (a .changed) (λ s. refl)); inside = a .inside }
+        record { changed = refines-is (λ ds x i k. meet-free k (seen w u ds) (sym (ap found e) ∙ is ds) i) (refines-as (λ m (k : Then-merge). m) (a .changed) (λ s. refl)); inside = a .inside }
 
     module _ (t : ℕ) (to : f ≡ Just t) (w′ : List ℕ) (r : Step) (a : Changed w u w′ r (λ s. next-tvar s)) (b : Found) (p : b ≡ done (r .out)) where
-      abbrev fresh : Result (State × ℕ) → Merging → Result (State × ℕ)
+      abbrev fresh : Result (State × ℕ) → Then-merge → Result (State × ℕ)
       fresh m k = m >>= (λ y. k (insert (y .0) (y .1) other) (y .1))
 
-      from-next : {w₂ : List ℕ} {u₂ : Used} {answer : State → Merging → Result (State × ℕ)} → Refines Any w u w₂ u₂ answer (λ s. fresh (next-tvar s)) → Refines Any w u w₂ u₂ answer (λ s k. meet-tvar k s lhs rhs var id other)
+      from-next : {w₂ : List ℕ} {u₂ : Used} {answer : State → Then-merge → Result (State × ℕ)} → Refines Any w u w₂ u₂ answer (λ s. fresh (next-tvar s)) → Refines Any w u w₂ u₂ answer (λ s k. meet-tvar k s lhs rhs var id other)
       from-next x = refines-is (λ ds z i k. meet-bound k (seen w u ds) t (sym (ap found to) ∙ is ds) i) x
 
       pub meets-stop : b ≡ Nothing → Meets w u w′ (Is r) (λ s k. meet-tvar k s lhs rhs var id other)
@@ -285,6 +286,6 @@ module _ (lhs rhs var id other : ℕ) where
       unfolding met _>>=_
       meets-fresh n v w₂ q e h =
           record {
-            changed = from-next (refines-number (r .out) fresh a p (q ∙ ap Just (sym e)) (refines-as (λ s (k : Merging). k s (v .0)) h (λ s. refl)));
+            changed = from-next (refines-number (r .out) fresh a p (q ∙ ap Just (sym e)) (refines-as (λ s (k : Then-merge). k s (v .0)) h (λ s. refl)));
             inside = tt;
           }

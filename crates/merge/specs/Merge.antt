@@ -9,6 +9,7 @@ use Rattle.definition.specs.Subst.{forward-tvar}
 use Rattle.definition.specs.Join.{type-of, merge-num, shown, join-bind-tvar, join-unbound}
 use Rattle.table.specs.State.{Any, Refines, outcome, Nodes-in}
 use Rattle.table.specs.declared.Used.{Used}
+use Rattle.table.specs.declared.Step.{Step}
 use Rattle.merge.specs.declared.Opened.{Opened}
 use Rattle.merge.specs.declared.Opened.the-variants.{Ready, Stop}
 use Rattle.merge.specs.declared.Open.{Open}
@@ -40,14 +41,17 @@ open-tvar inner subst loc1 id1 loc2 id2 =
     loc1 (forward-tvar subst id1) (num-loc subst (forward-tvar subst id1))
     loc2 (forward-tvar subst id2) (num-loc subst (forward-tvar subst id2))
 
+abbrev pub stopped : Step → Open
+stopped a = record { what = Stop (a .out); used = a .used }
+
 -- an answer, given what follows
 unfoldable pub opened : Opened → State → Inner → Result (State × ℕ)
-opened (Ready ty1 ty2 new-tvar var2) subst inner = inner subst ty1 ty2 (new-tvar .0) var2
+opened (Ready m) subst inner = inner subst (m .ty1) (m .ty2) (m .«new_tvar» .0) (m .var2)
 opened (Stop o) subst inner = outcome o subst
 
 -- the nodes that it names are below n
 abbrev pub Opened-in : ℕ → Opened → Type 0
-Opened-in n (Ready ty1 ty2 new-tvar var2) = (ty1 < n) × ((ty2 < n) × (var2 < n))
+Opened-in n (Ready m) = (m .ty1 < n) × ((m .ty2 < n) × (m .var2 < n))
 Opened-in n (Stop o) = Nodes-in n o
 
 -- the words w with u in use became w′ and the answer r, as f says of whatever follows
@@ -74,11 +78,11 @@ close-tvar subst ty1 id1 ty2 loc2 id2 new-tvar var2 new-ty = elim (get subst new
 -- ---- a variable meets another type
 
 -- what follows gets the state and the fresh variable
-abbrev pub Merging : Type 0
-Merging = State → ℕ → Result (State × ℕ)
+abbrev pub Then-merge : Type 0
+Then-merge = State → ℕ → Result (State × ℕ)
 
 -- join_impl's arms of one variable; where it is bound, `merge` follows
-unfoldable pub meet-tvar : Merging → State → ℕ → ℕ → ℕ → ℕ → ℕ → Result (State × ℕ)
+unfoldable pub meet-tvar : Then-merge → State → ℕ → ℕ → ℕ → ℕ → ℕ → Result (State × ℕ)
 meet-tvar merge subst lhs rhs var id other = elim (get subst id) [
   | none ↦ join-unbound subst lhs rhs var id other
   | some t ↦ do
@@ -92,7 +96,7 @@ used-then (Is a) = a .used
 used-then (Merge u new-tvar) = u
 
 -- an answer, given what follows
-unfoldable pub met : Meet → State → Merging → Result (State × ℕ)
+unfoldable pub met : Meet → State → Then-merge → Result (State × ℕ)
 met (Is a) subst merge = outcome (a .out) subst
 met (Merge u new-tvar) subst merge = merge subst (new-tvar .0)
 
@@ -101,6 +105,6 @@ Meet-in (Is a) = Nodes-in (a .used .nodes) (a .out)
 Meet-in (Merge u new-tvar) = Unit {0}
 
 -- the words w with u in use became w′ and the answer r, as f says of whatever follows
-pub record Meets (w : List ℕ) (u : Used) (w′ : List ℕ) (r : Meet) (f : State → Merging → Result (State × ℕ)) : Type 0 where
+pub record Meets (w : List ℕ) (u : Used) (w′ : List ℕ) (r : Meet) (f : State → Then-merge → Result (State × ℕ)) : Type 0 where
   pub changed : Refines Any w u w′ (used-then r) (met r) f
   pub inside : Meet-in r

@@ -25,7 +25,7 @@ enum-told-3 : tie.Need-enum-told-3
 enum-told-3 c = search needs
 
 granted-set-requires : tie.Need-granted-set-requires
-granted-set-requires c κs = ready-args _ _ _ _ _ _ _ _ _ (c .before .before .before .before .before .before .before .pre) (c .before .before .before .s2 .given .1)
+granted-set-requires c κs = ready-args _ _ _ _ _ _ (c .before .before .before .before .before .before .before .pre) (c .before .before .before .s2 .given .1)
 
 enum-known-k : tie.Need-enum-known-k
 enum-known-k c = search needs

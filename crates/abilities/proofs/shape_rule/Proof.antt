@@ -9,7 +9,7 @@ enum-known-s : tie.Need-enum-known-s
 enum-known-s c = search needs
 
 apply-rule-requires : tie.Need-apply-rule-requires
-apply-rule-requires c κs = (ready-args _ _ _ _ _ _ _ _ _ (c .before .before .before .before .before .pre .0) (c .before .s .given .1), c .before .before .before .before .before .pre .1)
+apply-rule-requires c κs = (ready-args _ _ _ _ _ _ (c .before .before .before .before .before .pre .0) (c .before .s .given .1), c .before .before .before .before .before .pre .1)
 
 returns : tie.Need-returns
 unfolding with-args

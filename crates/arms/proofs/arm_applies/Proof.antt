@@ -12,10 +12,10 @@ same-mark-requires : tie.Need-same-mark-requires
 same-mark-requires c κs = search needs
 
 returns : tie.Need-returns
-returns c = λ case. applies-same _ _ _ _ _ _ _ _ case (sym (c .before .before .before .same-name .ensures) ∙ c .before .before .if1 .taken) (sym (c .before .same-mark .ensures) ∙ c .if2 .taken)
+returns c = λ case. applies-same _ _ case (sym (c .before .before .before .same-name .ensures) ∙ c .before .before .if1 .taken) (sym (c .before .same-mark .ensures) ∙ c .if2 .taken)
 
 returns-2 : tie.Need-returns-2
-returns-2 c = λ case. applies-disagree _ _ _ _ _ _ _ _ case (sym (c .before .before .before .same-name .ensures) ∙ c .before .before .if1 .taken) (sym (c .before .same-mark .ensures) ∙ c .if2 .left)
+returns-2 c = λ case. applies-disagree _ _ case (sym (c .before .before .before .same-name .ensures) ∙ c .before .before .if1 .taken) (sym (c .before .same-mark .ensures) ∙ c .if2 .left)
 
 is-multiple-requires : tie.Need-is-multiple-requires
 is-multiple-requires c κs = search needs
@@ -26,20 +26,20 @@ is-multiple-requires-2 c κs = search needs
 returns-3 : tie.Need-returns-3
 returns-3 c =
     let same-name = c .before .before .before .before .before .same-name in
-    λ case. applies-arity _ _ _ _ _ _ _ _ case (sym (same-name .ensures) ∙ c .before .before .before .before .if1 .left)
+    λ case. applies-arity _ _ case (sym (same-name .ensures) ∙ c .before .before .before .before .if1 .left)
     (sym (c .before .before .before .is-multiple .ensures) ∙ c .before .before .if3 .taken)
     (sym (c .before .is-multiple2 .ensures) ∙ c .if4 .taken)
 
 returns-4 : tie.Need-returns-4
 returns-4 c =
     let same-name = c .before .before .before .before .before .same-name in
-    λ case. applies-other-right _ _ _ _ _ _ _ _ case
+    λ case. applies-other-right _ _ case
     (sym (same-name .ensures) ∙ c .before .before .before .before .if1 .left)
     (sym (c .before .before .before .is-multiple .ensures) ∙ c .before .before .if3 .taken)
     (sym (c .before .is-multiple2 .ensures) ∙ c .if4 .left)
 
 returns-5 : tie.Need-returns-5
-returns-5 c = λ case. applies-other-left _ _ _ _ _ _ _ _ case (sym (c .before .before .before .same-name .ensures) ∙ c .before .before .if1 .left) (sym (c .before .is-multiple .ensures) ∙ c .if3 .left)
+returns-5 c = λ case. applies-other-left _ _ case (sym (c .before .before .before .same-name .ensures) ∙ c .before .before .if1 .left) (sym (c .before .is-multiple .ensures) ∙ c .if3 .left)
 
 pub arm-applies-spec : {M : Type 1} → statement M
 arm-applies-spec =

@@ -17,7 +17,7 @@ returns : tie.Need-returns
 returns c = rw (c .before .before .rhs .given .1) (c .arm-applies .ensures)
 
 returns-2 : tie.Need-returns-2
-returns-2 c = let a = c .before .before .args in λ case. c .arm-other .ensures case _ (apply-unlike (a .k1) (a .n1) (a .first1) (a .many1) (a .rhs) (c .before .match .keys2))
+returns-2 c = let a = c .before .before .args in λ case. c .arm-other .ensures case _ (apply-unlike (a .a1) (a .rhs) (c .before .match .keys2))
 
 pub arm-apply-spec : {M : Type 1} → statement M
 arm-apply-spec =

@@ -111,6 +111,9 @@ join-impl-settled-requires t c κs = tt
 join-impl-returns : (t : ℕ) → join-impl-lts.Need-returns (join-impl-calls t) (join-impl-at t) join-impl.Post
 join-impl-returns t c = settled-after _ _ _ _ _ _ (c .settled .ensures) (after-now (c .before .before .before .pre .1 .0) tt (λ ds k. impl-deep _ _ _ _ _ (c .before .if1 .taken)))
 
+join-impl-sub-less : (t : ℕ) → join-impl-lts.Need-sub-less (join-impl-calls t) (join-impl-at t) join-impl.Post
+join-impl-sub-less t c = omega arith
+
 join-impl-node-at-requires : (t : ℕ) → join-impl-lts.Need-node-at-requires (join-impl-calls t) (join-impl-at t) join-impl.Post
 join-impl-node-at-requires t c κs = c .before .before .before .pre .1 .0
 
@@ -138,9 +141,6 @@ join-impl-enum-known-side t c = search needs
 join-impl-pick-loc-requires : (t : ℕ) → join-impl-lts.Need-pick-loc-requires (join-impl-calls t) (join-impl-at t) join-impl.Post
 join-impl-pick-loc-requires t c κs = tt
 
-join-impl-sub-join-impl : (t : ℕ) → join-impl-lts.Need-sub-join-impl (join-impl-calls t) (join-impl-at t) join-impl.Post
-join-impl-sub-join-impl t c = omega arith
-
 join-impl-join-impl-requires : (t : ℕ) → join-impl-lts.Need-join-impl-requires (join-impl-calls t) (join-impl-at t) join-impl.Post
 join-impl-join-impl-requires t c κs =
     let args = c .before .before .before .before .before .before .before .before .before .before .before .before .args in
@@ -161,11 +161,8 @@ join-impl-join-impl-requires t c κs =
 join-impl-push-ref-requires : (t : ℕ) → join-impl-lts.Need-push-ref-requires (join-impl-calls t) (join-impl-at t) join-impl.Post
 join-impl-push-ref-requires t c κs = (c .before .before .before .join-impl .ensures .changed .lay, c .before .before .before .join-impl .ensures .inside)
 
-join-impl-enum-known-k : (t : ℕ) → join-impl-lts.Need-enum-known-k (join-impl-calls t) (join-impl-at t) join-impl.Post
-join-impl-enum-known-k t c = search needs
-
-join-impl-sub-join-impl-types : (t : ℕ) → join-impl-lts.Need-sub-join-impl-types (join-impl-calls t) (join-impl-at t) join-impl.Post
-join-impl-sub-join-impl-types t c = omega arith
+join-impl-enum-known-t1 : (t : ℕ) → join-impl-lts.Need-enum-known-t1 (join-impl-calls t) (join-impl-at t) join-impl.Post
+join-impl-enum-known-t1 t c = search needs
 
 join-impl-join-impl-types-requires : (t : ℕ) → join-impl-lts.Need-join-impl-types-requires (join-impl-calls t) (join-impl-at t) join-impl.Post
 join-impl-join-impl-types-requires t c κs =
@@ -179,7 +176,7 @@ join-impl-join-impl-types-requires t c κs =
         pre .1 .0,
         arm-below _ (args .case) _ _ _ _ (node-at .result) (node-at2 .result) (if1 .left) (node-at .ensures)
             (node-at2 .ensures) _ (c .before .before .before .before .arm-of .ensures) _ (pre .1 .0) (pre .1 .1 .0)
-            (pre .1 .1 .1) (c .before .before .k .given .1),
+            (pre .1 .1 .1) (c .before .before .t1 .given .1),
       ),
     )
 
@@ -188,9 +185,6 @@ join-impl-push-types-requires t c κs = (c .before .before .before .join-impl-ty
 
 join-impl-enum-known-id1 : (t : ℕ) → join-impl-lts.Need-enum-known-id1 (join-impl-calls t) (join-impl-at t) join-impl.Post
 join-impl-enum-known-id1 t c = search needs
-
-join-impl-sub-join-tvar : (t : ℕ) → join-impl-lts.Need-sub-join-tvar (join-impl-calls t) (join-impl-at t) join-impl.Post
-join-impl-sub-join-tvar t c = omega arith
 
 join-impl-join-tvar-requires : (t : ℕ) → join-impl-lts.Need-join-tvar-requires (join-impl-calls t) (join-impl-at t) join-impl.Post
 join-impl-join-tvar-requires t c κs = (omega arith, c .before .before .before .before .before .before .before .before .before .before .before .pre .1 .0)
@@ -208,9 +202,6 @@ join-impl-enum-known-a t c = search needs
 
 join-impl-enum-known-au : (t : ℕ) → join-impl-lts.Need-enum-known-au (join-impl-calls t) (join-impl-at t) join-impl.Post
 join-impl-enum-known-au t c = search needs
-
-join-impl-sub-join-tvar-2 : (t : ℕ) → join-impl-lts.Need-sub-join-tvar-2 (join-impl-calls t) (join-impl-at t) join-impl.Post
-join-impl-sub-join-tvar-2 t c = omega arith
 
 join-impl-join-tvar-requires-2 : (t : ℕ) → join-impl-lts.Need-join-tvar-requires-2 (join-impl-calls t) (join-impl-at t) join-impl.Post
 join-impl-join-tvar-requires-2 t c κs =
@@ -233,9 +224,6 @@ join-impl-enum-known-a-2 t c = search needs
 
 join-impl-enum-known-au-2 : (t : ℕ) → join-impl-lts.Need-enum-known-au-2 (join-impl-calls t) (join-impl-at t) join-impl.Post
 join-impl-enum-known-au-2 t c = search needs
-
-join-impl-sub-join-tvar-3 : (t : ℕ) → join-impl-lts.Need-sub-join-tvar-3 (join-impl-calls t) (join-impl-at t) join-impl.Post
-join-impl-sub-join-tvar-3 t c = omega arith
 
 join-impl-join-tvar-requires-3 : (t : ℕ) → join-impl-lts.Need-join-tvar-requires-3 (join-impl-calls t) (join-impl-at t) join-impl.Post
 join-impl-join-tvar-requires-3 t c κs =
@@ -301,8 +289,7 @@ join-impl-returns-3 t c =
 
 join-impl-same-length-3 : (t : ℕ) → join-impl-lts.Need-same-length-3 (join-impl-calls t) (join-impl-at t) join-impl.Post
 join-impl-same-length-3 t c =
-    let c12 = c .before .before .before .before .before .before .before .before .before .before .before .before in
-    let pre = c12 .before .before .before .before .before .before .before .pre in
+    let pre = c .before .before .before .before .before .before .before .before .before .before .before .before .before .before .before .before .before .before .before .pre in
     let join-impl = c .before .before .before .before .before .before .join-impl in
     c .before .before .push-ref .ensures .changed .lay .size ∙ sym (pre .1 .0 .size)
 
@@ -323,8 +310,7 @@ join-impl-returns-4 t c =
 
 join-impl-same-length-4 : (t : ℕ) → join-impl-lts.Need-same-length-4 (join-impl-calls t) (join-impl-at t) join-impl.Post
 join-impl-same-length-4 t c =
-    let c12 = c .before .before .before .before .before .before .before .before .before .before .before .before in
-    let pre = c12 .before .before .before .before .before .before .pre in
+    let pre = c .before .before .before .before .before .before .before .before .before .before .before .before .before .before .before .before .before .before .pre in
     let join-impl-types = c .before .before .before .before .before .before .join-impl-types in
     c .before .before .push-types .ensures .changed .lay .size
     ∙ sym (pre .1 .0 .size)
@@ -337,10 +323,10 @@ join-impl-returns-5 t c =
     let node-at = c12 .before .before .node-at in
     let node-at2 = c12 .node-at2 in
     let arm-of = c .before .before .before .before .before .before .before .before .before .before .before .arm-of in
-    let k = c .before .before .before .before .before .before .before .before .before .k in
+    let t1 = c .before .before .before .before .before .before .before .before .before .t1 in
     let join-impl-types = c .before .before .before .before .before .before .join-impl-types in
     arm-applies _ (args .case) _ _ _ _ (node-at .result) (node-at2 .result) (if1 .left) (node-at .ensures)
-    (node-at2 .ensures) _ (arm-of .ensures) _ _ _ _ _ _ _ _ _ _ (k .given .1) (join-impl-types .ensures)
+    (node-at2 .ensures) _ (arm-of .ensures) _ _ _ _ _ _ (t1 .given .1) (join-impl-types .ensures)
     (c .before .before .push-types .ensures)
 
 join-impl-same-length-5 : (t : ℕ) → join-impl-lts.Need-same-length-5 (join-impl-calls t) (join-impl-at t) join-impl.Post
@@ -486,10 +472,10 @@ join-impl-returns-14 t c =
     (c .before .enum-told6 .given .1))
 
 abbrev join-impl-types-Inv-loop : join-impl-types-lts.InvT-loop
-join-impl-types-Inv-loop w₀ case left first1 many1 first2 many2 n tys₀ at₀ i₀ w tys at i = Gathering left (case-of case) w₀ at₀ first1 many1 first2 many2 n w at tys i
+join-impl-types-Inv-loop w₀ case left t1 t2 n tys₀ at₀ i₀ w tys at i = Gathering left (case-of case) w₀ at₀ t1 t2 n w at tys i
 
 abbrev join-impl-types-μ-loop : join-impl-types-lts.MeasureT-loop
-join-impl-types-μ-loop w₀ case left first1 many1 first2 many2 n tys₀ at₀ i₀ w tys at i = n - i
+join-impl-types-μ-loop w₀ case left t1 t2 n tys₀ at₀ i₀ w tys at i = n - i
 
 join-impl-types-fewer-requires : (t : ℕ) → join-impl-types-lts.Need-fewer-requires (join-impl-types-calls t) (join-impl-types-at t) join-impl-types.Post join-impl-types-Inv-loop join-impl-types-μ-loop
 join-impl-types-fewer-requires t c κs = tt
@@ -588,8 +574,8 @@ join-tvar-join-impl-requires t c κs =
       (
         open-tvar .ensures .changed .lay,
         (
-          ready-in _ (open-tvar .result .what) _ _ _ _ (open-tvar .ensures .inside) (what2 .given .1) .0,
-          ready-in _ (open-tvar .result .what) _ _ _ _ (open-tvar .ensures .inside) (what2 .given .1) .1 .0,
+          ready-in _ (open-tvar .result .what) _ (open-tvar .ensures .inside) (what2 .given .1) .0,
+          ready-in _ (open-tvar .result .what) _ (open-tvar .ensures .inside) (what2 .given .1) .1 .0,
         ),
       ),
     )
@@ -611,7 +597,7 @@ join-tvar-returns t c =
     let open-tvar = c .before .before .before .before .before .before .before .before .before .before .before .before .before .open-tvar in
     let what2 = c .before .before .before .before .before .before .before .before .what2 in
     let join-impl = c .before .before .before .before .before .join-impl in
-    tvar-inner _ _ _ _ _ _ _ _ _ _ (open-tvar .ensures) _ _ _ _ (what2 .given .1) _ _ _ (join-impl .ensures)
+    tvar-inner _ _ _ _ _ _ _ _ _ _ (open-tvar .ensures) _ (what2 .given .1) _ _ _ (join-impl .ensures)
     (c .before .before .done-of .ensures) (c .enum-told .given .1)
 
 join-tvar-close-tvar-requires : (t : ℕ) → join-tvar-lts.Need-close-tvar-requires (join-tvar-calls t) (join-tvar-at t) join-tvar.Post
@@ -622,13 +608,13 @@ join-tvar-close-tvar-requires t c κs =
       join-impl .ensures .changed .lay,
       (
         still-in _ _ _ _ _ (join-impl .ensures .changed .grown)
-            (ready-in _ (open-tvar .result .what) _ _ _ _ (open-tvar .ensures .inside) (what2 .given .1) .0),
+            (ready-in _ (open-tvar .result .what) _ (open-tvar .ensures .inside) (what2 .given .1) .0),
         (
           still-in _ _ _ _ _ (join-impl .ensures .changed .grown)
-              (ready-in _ (open-tvar .result .what) _ _ _ _ (open-tvar .ensures .inside) (what2 .given .1) .1 .0),
+              (ready-in _ (open-tvar .result .what) _ (open-tvar .ensures .inside) (what2 .given .1) .1 .0),
           (
             still-in _ _ _ _ _ (join-impl .ensures .changed .grown)
-                (ready-in _ (open-tvar .result .what) _ _ _ _ (open-tvar .ensures .inside) (what2 .given .1) .1 .1),
+                (ready-in _ (open-tvar .result .what) _ (open-tvar .ensures .inside) (what2 .given .1) .1 .1),
             node-in _ (join-impl .result .out) _ _ (join-impl .ensures .inside)
                 (c .before .before .before .before .done-of .ensures) (c .before .before .ty .given .1),
           ),
@@ -653,7 +639,7 @@ join-tvar-returns-3 t c =
     let join-impl = c .before .before .before .before .before .before .before .before .before .before .join-impl in
     let done-of = c .before .before .before .before .before .before .before .done-of in
     let ty = c .before .before .before .before .before .ty in
-    tvar-close _ _ _ _ _ _ _ _ _ _ (open-tvar .ensures) _ _ _ _ (what2 .given .1) _ _ _ (join-impl .ensures)
+    tvar-close _ _ _ _ _ _ _ _ _ _ (open-tvar .ensures) _ (what2 .given .1) _ _ _ (join-impl .ensures)
     (done-of .ensures) _ _ _ (ty .given .1) (c .before .before .close-tvar .ensures)
 
 pub +join-impl+join-impl-types+join-tvar-spec : {M : Type 1} → statement M
@@ -661,6 +647,7 @@ pub +join-impl+join-impl-types+join-tvar-spec : {M : Type 1} → statement M
     close μ-join-impl μ-join-impl-types μ-join-tvar (λ t. join-impl-lts.spec (join-impl-calls t) (join-impl-at t) join-impl.Post
     (join-impl-settled-requires t)
     (join-impl-returns t)
+    (join-impl-sub-less t)
     (join-impl-node-at-requires t)
     (join-impl-node-at-requires-2 t)
     (join-impl-arm-of-requires t)
@@ -670,27 +657,22 @@ pub +join-impl+join-impl-types+join-tvar-spec : {M : Type 1} → statement M
     (join-impl-settled-requires-3 t)
     (join-impl-enum-known-side t)
     (join-impl-pick-loc-requires t)
-    (join-impl-sub-join-impl t)
     (join-impl-join-impl-requires t)
     (join-impl-push-ref-requires t)
-    (join-impl-enum-known-k t)
-    (join-impl-sub-join-impl-types t)
+    (join-impl-enum-known-t1 t)
     (join-impl-join-impl-types-requires t)
     (join-impl-push-types-requires t)
     (join-impl-enum-known-id1 t)
-    (join-impl-sub-join-tvar t)
     (join-impl-join-tvar-requires t)
     (join-impl-enum-known-id t)
     (join-impl-meet-tvar-requires t)
     (join-impl-enum-known-a t)
     (join-impl-enum-known-au t)
-    (join-impl-sub-join-tvar-2 t)
     (join-impl-join-tvar-requires-2 t)
     (join-impl-enum-known-id-2 t)
     (join-impl-meet-tvar-requires-2 t)
     (join-impl-enum-known-a-2 t)
     (join-impl-enum-known-au-2 t)
-    (join-impl-sub-join-tvar-3 t)
     (join-impl-join-tvar-requires-3 t)
     (join-impl-enum-told-3 t)
     (join-impl-settled-requires-4 t)

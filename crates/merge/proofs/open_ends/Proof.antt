@@ -19,11 +19,14 @@ enum-known-n c = search needs
 enum-told : tie.Need-enum-told
 enum-told c = search needs
 
+stopped-requires : tie.Need-stopped-requires
+stopped-requires c κs = search needs
+
 same-length : tie.Need-same-length
 same-length c = search needs
 
 returns : tie.Need-returns
-returns c = ends-no-var _ _ _ _ _ _ _ _ _ _ _ _ _ (c .before .before .before .before .before .before .take-var .ensures .0) (c .before .before .done-of .ensures) (c .enum-told .given .1)
+returns c = rw (c .stopped .ensures) (ends-no-var _ _ _ _ _ _ _ _ _ _ _ _ _ (c .before .before .before .before .before .before .before .take-var .ensures .0) (c .before .before .before .done-of .ensures) (c .before .enum-told .given .1))
 
 tvar-requires : tie.Need-tvar-requires
 tvar-requires c κs =
@@ -46,20 +49,26 @@ enum-known-var1 c = search needs
 enum-told-2 : tie.Need-enum-told-2
 enum-told-2 c = search needs
 
+stopped-requires-2 : tie.Need-stopped-requires-2
+stopped-requires-2 c κs = search needs
+
 same-length-2 : tie.Need-same-length-2
-same-length-2 c = search needs
+same-length-2 c =
+    let c12 = c .before .before .before .before .before .before .before .before .before .before .before .before in
+    let pre = c12 .before .before .before .before .before .before .before .before .before .before .before .before .pre in
+    c .before .before .before .before .before .before .before .push-node .ensures .changed .lay .size ∙ sym (pre .0 .size)
 
 returns-2 : tie.Need-returns-2
 returns-2 c =
     let c12 = c .before .before .before .before .before .before .before .before .before .before .before .before in
-    let take-var = c12 .before .before .before .before .before .before .before .before .take-var in
-    let done-of = c12 .before .before .before .before .done-of in
-    let n = c12 .before .before .n in
-    let tvar = c12 .tvar in
-    let merge-num = c .before .before .before .before .before .before .before .before .before .before .merge-num in
-    let push-node = c .before .before .before .before .before .before .push-node in
-    ends-no-node _ _ _ _ _ _ _ _ _ _ _ _ _ (take-var .ensures .0) (done-of .ensures) _ _ (n .given .1) (tvar .ensures) _
-    (merge-num .ensures) _ _ _ (push-node .ensures) (c .before .before .done-of2 .ensures) (c .enum-told2 .given .1)
+    let take-var = c12 .before .before .before .before .before .before .before .before .before .take-var in
+    let done-of = c12 .before .before .before .before .before .done-of in
+    let n = c12 .before .before .before .n in
+    let tvar = c12 .before .tvar in
+    let merge-num = c .before .before .before .before .before .before .before .before .before .before .before .merge-num in
+    let push-node = c .before .before .before .before .before .before .before .push-node in
+    rw (c .stopped2 .ensures) (ends-no-node _ _ _ _ _ _ _ _ _ _ _ _ _ (take-var .ensures .0) (done-of .ensures) _ _ (n .given .1) (tvar .ensures) _
+    (merge-num .ensures) _ _ _ (push-node .ensures) (c .before .before .before .done-of2 .ensures) (c .before .enum-told2 .given .1))
 
 push-node-requires-2 : tie.Need-push-node-requires-2
 push-node-requires-2 c κs = search needs
@@ -73,30 +82,31 @@ enum-known-var2 c = search needs
 enum-told-3 : tie.Need-enum-told-3
 enum-told-3 c = search needs
 
+stopped-requires-3 : tie.Need-stopped-requires-3
+stopped-requires-3 c κs = search needs
+
 same-length-3 : tie.Need-same-length-3
 same-length-3 c =
-    let c12 = c .before .before .before .before .before .before .before .before .before .before .before .before in
-    let c24 = c12 .before .before .before .before .before .before .before .before .before .before .before .before in
-    let pre = c24 .before .before .before .before .before .before .before .before .pre in
-    let push-node2 = c .before .before .before .before .before .before .push-node2 in
+    let pre = c .before .before .before .before .before .before .before .before .before .before .before .before .before .before .before .before .before .before .before .before .before .before .before .before .before .before .before .before .before .before .before .before .before .pre in
+    let push-node2 = c .before .before .before .before .before .before .before .push-node2 in
     push-node2 .ensures .changed .lay .size ∙ sym (pre .0 .size)
 
 returns-3 : tie.Need-returns-3
 returns-3 c =
     let c12 = c .before .before .before .before .before .before .before .before .before .before .before .before in
     let c24 = c12 .before .before .before .before .before .before .before .before .before .before .before .before in
-    let take-var = c24 .before .before .before .before .before .take-var in
-    let done-of = c24 .before .done-of in
-    let n = c12 .before .before .before .before .before .before .before .before .before .before .before .n in
-    let tvar = c12 .before .before .before .before .before .before .before .before .before .tvar in
-    let merge-num = c12 .before .before .before .before .before .before .before .merge-num in
-    let push-node = c12 .before .before .before .push-node in
-    let done-of2 = c .before .before .before .before .before .before .before .before .before .before .before .done-of2 in
-    let var1 = c .before .before .before .before .before .before .before .before .before .var1 in
-    let push-node2 = c .before .before .before .before .before .before .push-node2 in
-    ends-no-second _ _ _ _ _ _ _ _ _ _ _ _ _ (take-var .ensures .0) (done-of .ensures) _ _ (n .given .1) (tvar .ensures)
+    let take-var = c24 .before .before .before .before .before .before .take-var in
+    let done-of = c24 .before .before .done-of in
+    let n = c24 .n in
+    let tvar = c12 .before .before .before .before .before .before .before .before .before .before .tvar in
+    let merge-num = c12 .before .before .before .before .before .before .before .before .merge-num in
+    let push-node = c12 .before .before .before .before .push-node in
+    let done-of2 = c12 .done-of2 in
+    let var1 = c .before .before .before .before .before .before .before .before .before .before .var1 in
+    let push-node2 = c .before .before .before .before .before .before .before .push-node2 in
+    rw (c .stopped3 .ensures) (ends-no-second _ _ _ _ _ _ _ _ _ _ _ _ _ (take-var .ensures .0) (done-of .ensures) _ _ (n .given .1) (tvar .ensures)
     _ (merge-num .ensures) _ _ _ (push-node .ensures) (done-of2 .ensures) _ (var1 .given .1) _ _ _
-    (push-node2 .ensures) (c .before .before .done-of3 .ensures) (c .enum-told3 .given .1)
+    (push-node2 .ensures) (c .before .before .before .done-of3 .ensures) (c .before .enum-told3 .given .1))
 
 bind-var-requires : tie.Need-bind-var-requires
 bind-var-requires c κs =
@@ -121,10 +131,7 @@ bind-var-requires-2 c κs =
 
 same-length-4 : tie.Need-same-length-4
 same-length-4 c =
-    let c12 = c .before .before .before .before .before .before .before .before .before .before .before .before in
-    let c24 = c12 .before .before .before .before .before .before .before .before .before .before .before .before in
-    let c36 = c24 .before .before .before .before .before .before .before .before .before .before .before .before in
-    let pre = c36 .before .before .before .before .before .pre in
+    let pre = c .before .before .before .before .before .before .before .before .before .before .before .before .before .before .before .before .before .before .before .before .before .before .before .before .before .before .before .before .before .before .before .before .before .before .before .before .before .before .before .before .before .pre in
     c .before .before .bind-var2 .ensures .lay .size ∙ sym (pre .0 .size)
 
 returns-4 : tie.Need-returns-4
@@ -158,6 +165,7 @@ open-ends-spec =
     done-of-requires
     enum-known-n
     enum-told
+    stopped-requires
     same-length
     returns
     tvar-requires
@@ -166,12 +174,14 @@ open-ends-spec =
     done-of-requires-2
     enum-known-var1
     enum-told-2
+    stopped-requires-2
     same-length-2
     returns-2
     push-node-requires-2
     done-of-requires-3
     enum-known-var2
     enum-told-3
+    stopped-requires-3
     same-length-3
     returns-3
     bind-var-requires

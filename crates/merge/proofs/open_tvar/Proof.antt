@@ -31,19 +31,23 @@ enum-known-ty1 c = search needs
 enum-told : tie.Need-enum-told
 enum-told c = search needs
 
+stopped-requires : tie.Need-stopped-requires
+stopped-requires c κs = search needs
+
 same-length : tie.Need-same-length
 same-length c = search needs
 
 returns : tie.Need-returns
 returns c =
-    let forward-tvar = c .before .before .before .before .before .before .before .before .before .before .before .before .before .before .forward-tvar in
-    let forward-tvar2 = c .before .before .before .before .before .before .before .before .before .before .before .before .forward-tvar2 in
-    let num-loc-at = c .before .before .before .before .before .before .before .before .before .before .num-loc-at in
-    let num-loc-at2 = c .before .before .before .before .before .before .before .before .num-loc-at2 in
-    let type-of = c .before .before .before .before .before .before .type-of in
-    open-no-first _ _ _ _ _ _ _ _ (num-loc-at .result) (num-loc-at2 .result) (forward-tvar .ensures)
+    let c12 = c .before .before .before .before .before .before .before .before .before .before .before .before in
+    let forward-tvar = c12 .before .before .before .forward-tvar in
+    let forward-tvar2 = c12 .before .forward-tvar2 in
+    let num-loc-at = c .before .before .before .before .before .before .before .before .before .before .before .num-loc-at in
+    let num-loc-at2 = c .before .before .before .before .before .before .before .before .before .num-loc-at2 in
+    let type-of = c .before .before .before .before .before .before .before .type-of in
+    rw (c .stopped .ensures) (open-no-first _ _ _ _ _ _ _ _ (num-loc-at .result) (num-loc-at2 .result) (forward-tvar .ensures)
     (forward-tvar2 .ensures) (num-loc-at .ensures) (num-loc-at2 .ensures) _ _ _ (type-of .ensures)
-    (c .before .before .done-of .ensures) (c .enum-told .given .1)
+    (c .before .before .before .done-of .ensures) (c .before .enum-told .given .1))
 
 type-of-requires-2 : tie.Need-type-of-requires-2
 type-of-requires-2 c κs = search needs
@@ -57,24 +61,28 @@ enum-known-ty2 c = search needs
 enum-told-2 : tie.Need-enum-told-2
 enum-told-2 c = search needs
 
+stopped-requires-2 : tie.Need-stopped-requires-2
+stopped-requires-2 c κs = search needs
+
 same-length-2 : tie.Need-same-length-2
 same-length-2 c = search needs
 
 returns-2 : tie.Need-returns-2
 returns-2 c =
     let c12 = c .before .before .before .before .before .before .before .before .before .before .before .before in
-    let forward-tvar = c12 .before .before .before .before .before .before .before .before .before .before .before .forward-tvar in
-    let forward-tvar2 = c12 .before .before .before .before .before .before .before .before .before .forward-tvar2 in
-    let num-loc-at = c12 .before .before .before .before .before .before .before .num-loc-at in
-    let num-loc-at2 = c12 .before .before .before .before .before .num-loc-at2 in
-    let type-of = c12 .before .before .before .type-of in
-    let done-of = c .before .before .before .before .before .before .before .before .before .before .before .done-of in
-    let ty1 = c .before .before .before .before .before .before .before .before .before .ty1 in
-    let type-of2 = c .before .before .before .before .before .before .type-of2 in
-    open-no-second _ _ _ _ _ _ _ _ (num-loc-at .result) (num-loc-at2 .result) (forward-tvar .ensures)
+    let c24 = c12 .before .before .before .before .before .before .before .before .before .before .before .before in
+    let forward-tvar = c24 .forward-tvar in
+    let forward-tvar2 = c12 .before .before .before .before .before .before .before .before .before .before .forward-tvar2 in
+    let num-loc-at = c12 .before .before .before .before .before .before .before .before .num-loc-at in
+    let num-loc-at2 = c12 .before .before .before .before .before .before .num-loc-at2 in
+    let type-of = c12 .before .before .before .before .type-of in
+    let done-of = c12 .done-of in
+    let ty1 = c .before .before .before .before .before .before .before .before .before .before .ty1 in
+    let type-of2 = c .before .before .before .before .before .before .before .type-of2 in
+    rw (c .stopped2 .ensures) (open-no-second _ _ _ _ _ _ _ _ (num-loc-at .result) (num-loc-at2 .result) (forward-tvar .ensures)
     (forward-tvar2 .ensures) (num-loc-at .ensures) (num-loc-at2 .ensures) _ _ _ (type-of .ensures)
-    (done-of .ensures) _ (ty1 .given .1) _ _ _ (type-of2 .ensures) (c .before .before .done-of2 .ensures)
-    (c .enum-told2 .given .1)
+    (done-of .ensures) _ (ty1 .given .1) _ _ _ (type-of2 .ensures) (c .before .before .before .done-of2 .ensures)
+    (c .before .enum-told2 .given .1))
 
 open-ends-requires : tie.Need-open-ends-requires
 open-ends-requires c κs =
@@ -94,9 +102,7 @@ open-ends-requires c κs =
 
 same-length-3 : tie.Need-same-length-3
 same-length-3 c =
-    let c12 = c .before .before .before .before .before .before .before .before .before .before .before .before in
-    let c24 = c12 .before .before .before .before .before .before .before .before .before .before .before .before in
-    let pre = c24 .before .before .before .before .before .before .before .pre in
+    let pre = c .before .before .before .before .before .before .before .before .before .before .before .before .before .before .before .before .before .before .before .before .before .before .before .before .before .before .before .before .before .before .before .pre in
     c .before .before .open-ends .ensures .changed .lay .size ∙ sym (pre .size)
 
 returns-3 : tie.Need-returns-3
@@ -130,12 +136,14 @@ open-tvar-spec =
     done-of-requires
     enum-known-ty1
     enum-told
+    stopped-requires
     same-length
     returns
     type-of-requires-2
     done-of-requires-2
     enum-known-ty2
     enum-told-2
+    stopped-requires-2
     same-length-2
     returns-2
     open-ends-requires
