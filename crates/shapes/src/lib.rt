@@ -12,6 +12,7 @@ ghost use Rattle.definition.specs.Constraints.{undecided, is-integer};
 ghost use Rattle.names.specs.Names.{name-of};
 ghost use Rattle.table.specs.State.{shape-of, seen, Lay};
 ghost use Rattle.shapes.specs.Parts.{next, part-count};
+use names::Mark;
 use names::TVar;
 use names::TypeName;
 use table::Shape;
@@ -21,6 +22,14 @@ use table::Used;
 pub enum Next {
     Last,
     To(TVar),
+}
+
+// What Shape::Apply holds, to pass it on whole.
+pub struct Applied {
+    pub k: Mark,
+    pub n: TypeName,
+    pub first: u32,
+    pub many: u32,
 }
 
 pub fn wide(x: u32) -> usize
