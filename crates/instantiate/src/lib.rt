@@ -15,8 +15,8 @@ ghost use Rattle.table.specs.Known.{Known};
 ghost use Rattle.instantiate.specs.Known.{Numbered, ability-at};
 ghost use Rattle.instantiate.specs.Args.{make-tparam, made, Listed, joined};
 use names::AbilitySet;
-use names::Mark;
 use names::TypeName;
+use shapes::Applied;
 use shapes::wide;
 use table::Constraint;
 use table::Found;
@@ -156,29 +156,22 @@ fn fewer(a: u32, b: u32) -> u32
 }
 
 // make_tparams: a variable for each argument that has a parameter.
-fn make_tparams(
-    w: &mut [u32],
-    u: Used,
-    params: &[[u8; 8]; 256],
-    loc: u32,
-    n: TypeName,
-    first: u32,
-    many: u32,
-) -> Tparams
-    requires { ⌜ Lay (now w) u × Placed (now w) u first many ⌝ }
-    ensures { λ r. ⌜ Listed (Known (now (w .entry)) u (now (params .entry))) (now (w .entry)) u (now (w .exit)) r (made loc (name-of n) (args-at (view (now (w .entry)) u) (places first many))) ⌝ }
+fn make_tparams(w: &mut [u32], u: Used, params: &[[u8; 8]; 256], loc: u32, ty: Applied) -> Tparams
+    requires { ⌜ Lay (now w) u × Placed (now w) u (ty .first) (ty .many) ⌝ }
+    ensures { λ r. ⌜ Listed (Known (now (w .entry)) u (now (params .entry))) (now (w .entry)) u (now (w .exit)) r (made loc (name-of (ty .n)) (args-at (view (now (w .entry)) u) (places (ty .first) (ty .many)))) ⌝ }
 {
-    let count = fewer(many, tparam_count(w, u, n));
+    let n = ty.n;
+    let count = fewer(ty.many, tparam_count(w, u, n));
     let mut tvars: [u32; 8] = [0; 8];
     let mut v = u;
     let mut i: u32 = 0;
     while i < count {
-        let ty = table::arg_at(w, v, first, i);
+        let t = table::arg_at(w, v, ty.first, i);
         let abilities = ability_at(params, n, i);
-        let a = make_tparam(w, v, loc, n, ty, abilities);
+        let a = make_tparam(w, v, loc, n, t, abilities);
         let o = a.out;
         let x = a.used;
-        let Found::Just(t) = table::done_of(o) else {
+        let Found::Just(tvar) = table::done_of(o) else {
             return Tparams {
                 out: o,
                 used: x,
@@ -187,7 +180,7 @@ fn make_tparams(
             };
         };
         let at = wide(i);
-        tvars[at] = t;
+        tvars[at] = tvar;
         v = x;
         i = i + 1;
     }
@@ -200,21 +193,12 @@ fn make_tparams(
 }
 
 // The variables joined with the arguments, in order; then the node.
-fn join_args(
-    w: &mut [u32],
-    u: Used,
-    loc: u32,
-    k: Mark,
-    n: TypeName,
-    tvars: [u32; 8],
-    count: u32,
-    tys: [u32; 8],
-    many: u32,
-) -> Step
-    requires { ⌜ Lay (now w) u × (Parts (u .nodes) tvars count × Parts (u .nodes) tys many) ⌝ }
-    ensures { λ r. ⌜ After (now (w .entry)) u (now (w .exit)) r (joined loc (mark-of k) (name-of n) (take count tvars) (take many tys)) ⌝ }
+fn join_args(w: &mut [u32], u: Used, loc: u32, ty: Applied, tparams: Tparams, tys: [u32; 8]) -> Step
+    requires { ⌜ Lay (now w) u × (Parts (u .nodes) (tparams .tvars) (tparams .many) × Parts (u .nodes) tys (ty .many)) ⌝ }
+    ensures { λ r. ⌜ After (now (w .entry)) u (now (w .exit)) r (joined loc (mark-of (ty .k)) (name-of (ty .n)) (take (tparams .many) (tparams .tvars)) (take (ty .many) tys)) ⌝ }
 {
-    let c = fewer(count, many);
+    let tvars = tparams.tvars;
+    let c = fewer(tparams.many, ty.many);
     let mut parts: [u32; 8] = [0; 8];
     let mut v = u;
     let mut i: u32 = 0;
@@ -229,6 +213,8 @@ fn join_args(
         v = a.used;
         i = i + 1;
     }
+    let k = ty.k;
+    let n = ty.n;
     table::push_apply(w, v, loc, k, n, parts, c)
 }
 
@@ -239,27 +225,22 @@ fn instantiate_apply(
     params: &[[u8; 8]; 256],
     left: u32,
     loc: u32,
-    k: Mark,
-    n: TypeName,
-    first: u32,
-    many: u32,
+    ty: Applied,
 ) -> Step
-    requires { ⌜ Lay (now w) u × Named (now w) u first many (u .nodes) ⌝ }
-    ensures { λ r. ⌜ When (Known (now (w .entry)) u (now (params .entry))) (now (w .entry)) u (now (w .exit)) r (λ s. instantiate-apply (instantiate-down left) s loc (mark-of k) (name-of n) (args-at (view (now (w .entry)) u) (places first many))) ⌝ }
+    requires { ⌜ Lay (now w) u × Named (now w) u (ty .first) (ty .many) (u .nodes) ⌝ }
+    ensures { λ r. ⌜ When (Known (now (w .entry)) u (now (params .entry))) (now (w .entry)) u (now (w .exit)) r (λ s. instantiate-apply (instantiate-down left) s loc (mark-of (ty .k)) (name-of (ty .n)) (args-at (view (now (w .entry)) u) (places (ty .first) (ty .many)))) ⌝ }
 {
-    let b = make_tparams(w, u, params, loc, n, first, many);
+    let b = make_tparams(w, u, params, loc, ty);
     let bo = b.out;
     let bv = b.used;
-    let tvars = b.tvars;
-    let count = b.many;
     let Found::Just(_) = table::done_of(bo) else {
         return stay(bo, bv);
     };
     let mut parts: [u32; 8] = [0; 8];
     let mut v = bv;
     let mut i: u32 = 0;
-    while i < many {
-        let t = table::arg_at(w, v, first, i);
+    while i < ty.many {
+        let t = table::arg_at(w, v, ty.first, i);
         let a = instantiate_down(w, v, params, left, t);
         let o = a.out;
         let Found::Just(p) = table::done_of(o) else {
@@ -270,7 +251,7 @@ fn instantiate_apply(
         v = a.used;
         i = i + 1;
     }
-    join_args(w, v, loc, k, n, tvars, count, parts, many)
+    join_args(w, v, loc, ty, b, parts)
 }
 
 // At most `left` levels of instantiate; parts are built before their node.
@@ -306,7 +287,13 @@ fn instantiate_down(w: &mut [u32], u: Used, params: &[[u8; 8]; 256], left: u32, 
             table::push_node(w, v, loc, Shape::Ref(m, p))
         }
         Shape::Apply(k, n, first, many) => {
-            instantiate_apply(w, u, params, left - 1, loc, k, n, first, many)
+            let t = Applied {
+                k: k,
+                n: n,
+                first: first,
+                many: many,
+            };
+            instantiate_apply(w, u, params, left - 1, loc, t)
         }
     }
 }

@@ -34,6 +34,7 @@ use table::Out;
 use table::Refusal;
 use table::Step;
 use table::Used;
+use tparams::TParamSubst;
 
 // What a step's answer is as a run's.
 fn shown(a: Step, show: Show, kept: bool) -> Ran
@@ -108,8 +109,13 @@ pub fn run_tparams(
     requires { ⌜ Lay (now w) u × ((t < u .nodes) × Parts (u .nodes) args n) ⌝ }
     ensures { λ r. ⌜ Runs Any (now (w .entry)) u (now (w .exit)) r false (subst-in (pairs ids args 0 n) t) (tparams-run (pairs ids args 0 n) t) ⌝ }
 {
-    if tparams::make_tparam_subst(ids, args, n) {
-        let a = tparams::subst_tparams(w, u, ids, args, n, t);
+    let subst = TParamSubst {
+        ids: ids,
+        args: args,
+        many: n,
+    };
+    if tparams::make_tparam_subst(subst) {
+        let a = tparams::subst_tparams(w, u, subst, t);
         return shown(a, Show::Node, false);
     }
     Ran {

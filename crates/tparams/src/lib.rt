@@ -1,4 +1,4 @@
-// typing/core.rs: make_tparam_subst, subst_tparams. A TParamSubst is n ids and n arguments, in two arrays.
+// typing/core.rs: make_tparam_subst, subst_tparams.
 // Changed from the source that NOTICE names: ported to Rattle.
 ghost use mathlib.Core.Path.{_≡_};
 ghost use Prim.Native.Nat.{ℕ, _-_, _≤_, _<_};
@@ -8,10 +8,9 @@ ghost use Rattle.definition.specs.TParams.{arg-of, make-tparam-subst, subst-val
 ghost use Rattle.names.specs.Names.{mark-of, name-of};
 ghost use Rattle.table.specs.Rows.{places};
 ghost use Rattle.table.specs.State.{found, view, Lay, After, Parts, Named};
-ghost use Rattle.tparams.specs.Pairs.{pairs, made, answer};
-use names::Mark;
+ghost use Rattle.tparams.specs.Pairs.{pairs, subst-of, made, answer};
 use names::TParamID;
-use names::TypeName;
+use shapes::Applied;
 use shapes::wide;
 use table::Found;
 use table::Out;
@@ -20,17 +19,24 @@ use table::Shape;
 use table::Step;
 use table::Used;
 
+// The first `many` ids, each with its argument.
+pub struct TParamSubst {
+    pub ids: [TParamID; 8],
+    pub args: [u32; 8],
+    pub many: u32,
+}
+
 // The argument of an id, from place i on.
-fn arg_from(ids: [TParamID; 8], args: [u32; 8], i: u32, n: u32, id: TParamID) -> Found
-    requires { ⌜ (i ≤ n) × (n ≤ 8) ⌝ }
-    ensures { λ r. ⌜ found r ≡ arg-of (pairs ids args i (n - i)) (id .0) ⌝ }
+fn arg_from(subst: TParamSubst, i: u32, id: TParamID) -> Found
+    requires { ⌜ (i ≤ subst .many) × (subst .many ≤ 8) ⌝ }
+    ensures { λ r. ⌜ found r ≡ arg-of (pairs (subst .ids) (subst .args) i (subst .many - i)) (id .0) ⌝ }
 {
     let mut k = i;
-    while k < n {
+    while k < subst.many {
         let at = wide(k);
-        let x = ids[at];
+        let x = subst.ids[at];
         if x.0 == id.0 {
-            return Found::Just(args[at]);
+            return Found::Just(subst.args[at]);
         }
         k = k + 1;
     }
@@ -38,24 +44,24 @@ fn arg_from(ids: [TParamID; 8], args: [u32; 8], i: u32, n: u32, id: TParamID) ->
 }
 
 // subst.get(id)
-pub fn arg_of(ids: [TParamID; 8], args: [u32; 8], n: u32, id: TParamID) -> Found
-    requires { ⌜ n ≤ 8 ⌝ }
-    ensures { λ r. ⌜ found r ≡ arg-of (pairs ids args 0 n) (id .0) ⌝ }
+pub fn arg_of(subst: TParamSubst, id: TParamID) -> Found
+    requires { ⌜ subst .many ≤ 8 ⌝ }
+    ensures { λ r. ⌜ found r ≡ arg-of (subst-of subst) (id .0) ⌝ }
 {
-    arg_from(ids, args, 0, n, id)
+    arg_from(subst, 0, id)
 }
 
 // Whether no id stands twice: the Rust asserts it.
-pub fn make_tparam_subst(ids: [TParamID; 8], args: [u32; 8], n: u32) -> bool
-    requires { ⌜ n ≤ 8 ⌝ }
-    ensures { λ r. ⌜ made r (pairs ids args 0 n) ≡ make-tparam-subst (pairs ids args 0 n) ⌝ }
+pub fn make_tparam_subst(subst: TParamSubst) -> bool
+    requires { ⌜ subst .many ≤ 8 ⌝ }
+    ensures { λ r. ⌜ made r (subst-of subst) ≡ make-tparam-subst (subst-of subst) ⌝ }
 {
-    let mut i = n;
+    let mut i = subst.many;
     while 0 < i {
         i = i - 1;
         let at = wide(i);
-        let id = ids[at];
-        match arg_from(ids, args, i + 1, n, id) {
+        let id = subst.ids[at];
+        match arg_from(subst, i + 1, id) {
             Found::Nothing => {}
             Found::Just(_) => {
                 return false;
@@ -66,11 +72,11 @@ pub fn make_tparam_subst(ids: [TParamID; 8], args: [u32; 8], n: u32) -> bool
 }
 
 // A parameter's argument, as an answer.
-fn arg_or_none(ids: [TParamID; 8], args: [u32; 8], n: u32, id: TParamID) -> Out
-    requires { ⌜ n ≤ 8 ⌝ }
-    ensures { λ r. ⌜ r ≡ answer (arg-of (pairs ids args 0 n) (id .0)) ⌝ }
+fn arg_or_none(subst: TParamSubst, id: TParamID) -> Out
+    requires { ⌜ subst .many ≤ 8 ⌝ }
+    ensures { λ r. ⌜ r ≡ answer (arg-of (subst-of subst) (id .0)) ⌝ }
 {
-    match arg_of(ids, args, n, id) {
+    match arg_of(subst, id) {
         Found::Nothing => Out::Refused(Refusal::NoArgument),
         Found::Just(t) => Out::Done(t),
     }
@@ -83,28 +89,16 @@ fn stay(o: Out, u: Used) -> Step
 }
 
 // A named type: at most `left` levels of its arguments, in order; then its node.
-fn subst_apply(
-    w: &mut [u32],
-    u: Used,
-    left: u32,
-    ids: [TParamID; 8],
-    args: [u32; 8],
-    n: u32,
-    loc: u32,
-    k: Mark,
-    name: TypeName,
-    first: u32,
-    many: u32,
-) -> Step
-    requires { ⌜ Lay (now w) u × (Named (now w) u first many (u .nodes) × Parts (u .nodes) args n) ⌝ }
-    ensures { λ r. ⌜ After (now (w .entry)) u (now (w .exit)) r (λ s. subst-value (subst-down left (pairs ids args 0 n)) (pairs ids args 0 n) s 0 loc (Apply (mark-of k) (name-of name) (args-at (view (now (w .entry)) u) (places first many)))) ⌝ }
+fn subst_apply(w: &mut [u32], u: Used, left: u32, subst: TParamSubst, loc: u32, ty: Applied) -> Step
+    requires { ⌜ Lay (now w) u × (Named (now w) u (ty .first) (ty .many) (u .nodes) × Parts (u .nodes) (subst .args) (subst .many)) ⌝ }
+    ensures { λ r. ⌜ After (now (w .entry)) u (now (w .exit)) r (λ s. subst-value (subst-down left (subst-of subst)) (subst-of subst) s 0 loc (Apply (mark-of (ty .k)) (name-of (ty .n)) (args-at (view (now (w .entry)) u) (places (ty .first) (ty .many))))) ⌝ }
 {
     let mut parts: [u32; 8] = [0; 8];
     let mut v = u;
     let mut i: u32 = 0;
-    while i < many {
-        let t = table::arg_at(w, v, first, i);
-        let a = subst_down(w, v, left, ids, args, n, t);
+    while i < ty.many {
+        let t = table::arg_at(w, v, ty.first, i);
+        let a = subst_down(w, v, left, subst, t);
         let o = a.out;
         let Found::Just(p) = table::done_of(o) else {
             return a;
@@ -114,21 +108,15 @@ fn subst_apply(
         v = a.used;
         i = i + 1;
     }
-    table::push_apply(w, v, loc, k, name, parts, many)
+    let k = ty.k;
+    let n = ty.n;
+    table::push_apply(w, v, loc, k, n, parts, ty.many)
 }
 
 // At most `left` levels of subst_tparams; parts are built before their node.
-fn subst_down(
-    w: &mut [u32],
-    u: Used,
-    left: u32,
-    ids: [TParamID; 8],
-    args: [u32; 8],
-    n: u32,
-    ty: u32,
-) -> Step
-    requires { ⌜ Lay (now w) u × ((ty < u .nodes) × Parts (u .nodes) args n) ⌝ }
-    ensures { λ r. ⌜ After (now (w .entry)) u (now (w .exit)) r (λ s. subst-down left (pairs ids args 0 n) s ty) ⌝ }
+fn subst_down(w: &mut [u32], u: Used, left: u32, subst: TParamSubst, ty: u32) -> Step
+    requires { ⌜ Lay (now w) u × ((ty < u .nodes) × Parts (u .nodes) (subst .args) (subst .many)) ⌝ }
+    ensures { λ r. ⌜ After (now (w .entry)) u (now (w .exit)) r (λ s. subst-down left (subst-of subst) s ty) ⌝ }
 {
     if left == 0 {
         return stay(Out::Refused(Refusal::RunsIntoItself), u);
@@ -142,11 +130,11 @@ fn subst_down(
         Shape::Anything => stay(Out::Done(ty), u),
         Shape::Var(_) => stay(Out::Refused(Refusal::OpenVariable), u),
         Shape::Param(id, _) => {
-            let o = arg_or_none(ids, args, n, id);
+            let o = arg_or_none(subst, id);
             stay(o, u)
         }
         Shape::Ref(m, t) => {
-            let a = subst_down(w, u, left - 1, ids, args, n, t);
+            let a = subst_down(w, u, left - 1, subst, t);
             let o = a.out;
             let v = a.used;
             let Found::Just(p) = table::done_of(o) else {
@@ -154,22 +142,21 @@ fn subst_down(
             };
             table::push_node(w, v, loc, Shape::Ref(m, p))
         }
-        Shape::Apply(k, name, first, many) => {
-            subst_apply(w, u, left - 1, ids, args, n, loc, k, name, first, many)
+        Shape::Apply(k, n, first, many) => {
+            let t = Applied {
+                k: k,
+                n: n,
+                first: first,
+                many: many,
+            };
+            subst_apply(w, u, left - 1, subst, loc, t)
         }
     }
 }
 
-pub fn subst_tparams(
-    w: &mut [u32],
-    u: Used,
-    ids: [TParamID; 8],
-    args: [u32; 8],
-    n: u32,
-    ty: u32,
-) -> Step
-    requires { ⌜ Lay (now w) u × ((ty < u .nodes) × Parts (u .nodes) args n) ⌝ }
-    ensures { λ r. ⌜ After (now (w .entry)) u (now (w .exit)) r (λ s. subst-tparams (pairs ids args 0 n) s ty) ⌝ }
+pub fn subst_tparams(w: &mut [u32], u: Used, subst: TParamSubst, ty: u32) -> Step
+    requires { ⌜ Lay (now w) u × ((ty < u .nodes) × Parts (u .nodes) (subst .args) (subst .many)) ⌝ }
+    ensures { λ r. ⌜ After (now (w .entry)) u (now (w .exit)) r (λ s. subst-tparams (subst-of subst) s ty) ⌝ }
 {
-    subst_down(w, u, ty + 1, ids, args, n, ty)
+    subst_down(w, u, ty + 1, subst, ty)
 }

@@ -115,11 +115,11 @@ instantiate-down-calls t = (
 )
 
 abbrev instantiate-apply-Inv-loop : instantiate-apply-lts.InvT-loop
-instantiate-apply-Inv-loop w₀ params left loc k n first many tvars count parts₀ v₀ i₀ w parts v i =
-    Walked (Known w₀ v₀ params) (D.instantiate-down left) (joined loc (mark-of k) (name-of n) (take count tvars)) (args-at (view w₀ v₀) (places first many)) many w₀ v₀ w v parts i
+instantiate-apply-Inv-loop w₀ params left loc ty b parts₀ v₀ i₀ w parts v i =
+    Walked (Known w₀ v₀ params) (D.instantiate-down left) (joined loc (mark-of (ty .k)) (name-of (ty .n)) (take (b .many) (b .tvars))) (args-at (view w₀ v₀) (places (ty .first) (ty .many))) (ty .many) w₀ v₀ w v parts i
 
 abbrev instantiate-apply-μ-loop : instantiate-apply-lts.MeasureT-loop
-instantiate-apply-μ-loop w₀ params left loc k n first many tvars count parts₀ v₀ i₀ w parts v i = many - i
+instantiate-apply-μ-loop w₀ params left loc ty b parts₀ v₀ i₀ w parts v i = ty .many - i
 
 instantiate-apply-make-tparams-requires :
     (t : ℕ) → instantiate-apply-lts.Need-make-tparams-requires (instantiate-apply-calls t) (instantiate-apply-at t) instantiate-apply.Post
@@ -150,14 +150,14 @@ instantiate-apply-stay-requires t c κs = search needs
 instantiate-apply-same-length : (t : ℕ) → instantiate-apply-lts.Need-same-length (instantiate-apply-calls t) (instantiate-apply-at t) instantiate-apply.Post
     instantiate-apply-Inv-loop
     instantiate-apply-μ-loop
-instantiate-apply-same-length t c = c .before .before .before .before .before .before .before .before .make-tparams .ensures .changed .lay .size ∙ sym (c .before .before .before .before .before .before .before .before .before .before .before .pre .1 .0 .size)
+instantiate-apply-same-length t c = c .before .before .before .before .before .before .before .make-tparams .ensures .changed .lay .size ∙ sym (c .before .before .before .before .before .before .before .before .before .before .pre .1 .0 .size)
 
 instantiate-apply-returns : (t : ℕ) → instantiate-apply-lts.Need-returns (instantiate-apply-calls t) (instantiate-apply-at t) instantiate-apply.Post
     instantiate-apply-Inv-loop
     instantiate-apply-μ-loop
 instantiate-apply-returns t c =
-    let pre = c .before .before .before .before .before .before .before .before .before .before .before .pre in
-    let make-tparams = c .before .before .before .before .before .before .before .before .make-tparams in
+    let pre = c .before .before .before .before .before .before .before .before .before .before .pre in
+    let make-tparams = c .before .before .before .before .before .before .before .make-tparams in
     apply-stop _ _ _ _ _ _ _ _ _ (pre .1 .1 .placed) _ (make-tparams .result) _ (make-tparams .ensures)
     (c .before .before .before .done-of .ensures) _ (c .stay .ensures) (c .before .enum-told2 .given .1)
 
@@ -165,15 +165,15 @@ instantiate-apply-loop-holds : (t : ℕ) → instantiate-apply-lts.Need-loop-hol
     instantiate-apply-Inv-loop
     instantiate-apply-μ-loop
 instantiate-apply-loop-holds t c =
-    let pre = c .before .before .before .before .before .before .before .before .before .before .pre in
-    let make-tparams = c .before .before .before .before .before .before .before .make-tparams in
+    let pre = c .before .before .before .before .before .before .before .before .before .pre in
+    let make-tparams = c .before .before .before .before .before .before .make-tparams in
     let placed = named-kept _ _ _ _ _ (pre .1 .1) _ _ (make-tparams .ensures .changed .grown) .placed in
     walk-start (make-tparams .ensures .changed .lay) (placed-length _ _ _ _ placed) (placed .few) refl
 
 instantiate-apply-arg-at-requires : (t : ℕ) → instantiate-apply-lts.Need-arg-at-requires (instantiate-apply-calls t) (instantiate-apply-at t) instantiate-apply.Post
     instantiate-apply-Inv-loop
     instantiate-apply-μ-loop
-instantiate-apply-arg-at-requires t c κs = c .before .before .loop .inv .changed .lay
+instantiate-apply-arg-at-requires t c κs = c .before .before .before .loop .inv .changed .lay
 
 instantiate-apply-instantiate-down-requires :
     (t : ℕ) → instantiate-apply-lts.Need-instantiate-down-requires (instantiate-apply-calls t) (instantiate-apply-at t) instantiate-apply.Post
@@ -182,8 +182,8 @@ instantiate-apply-instantiate-down-requires :
 instantiate-apply-instantiate-down-requires t c κs =
     let pre = c .before .before .before .before .before .before .before .before .before .before .before .before .before .before .before .pre in
     let make-tparams = c .before .before .before .before .before .before .before .before .before .before .before .before .make-tparams in
-    let loop = c .before .before .before .before .loop in
-    let loop-test = c .before .before .before .loop-test in (
+    let loop = c .before .before .before .before .before .loop in
+    let loop-test = c .before .before .before .if1 in (
       omega (arith, pre .0),
       (
         loop .inv .changed .lay,
@@ -217,8 +217,7 @@ instantiate-apply-same-length-2 : (t : ℕ) → instantiate-apply-lts.Need-same-
     instantiate-apply-Inv-loop
     instantiate-apply-μ-loop
 instantiate-apply-same-length-2 t c =
-    let c12 = c .before .before .before .before .before .before .before .before .before .before .before .before in
-    let pre = c12 .before .before .before .before .before .before .before .before .before .pre in
+    let pre = c .before .before .before .before .before .before .before .before .before .before .before .before .before .before .before .before .before .before .before .before .before .pre in
     let instantiate-down = c .before .before .before .before .before .instantiate-down in
     instantiate-down .ensures .changed .lay .size ∙ sym (pre .1 .0 .size)
 
@@ -226,13 +225,12 @@ instantiate-apply-returns-2 : (t : ℕ) → instantiate-apply-lts.Need-returns-2
     instantiate-apply-Inv-loop
     instantiate-apply-μ-loop
 instantiate-apply-returns-2 t c =
-    let c12 = c .before .before .before .before .before .before .before .before .before .before .before .before in
-    let pre = c12 .before .before .before .before .before .before .before .before .before .pre in
-    let make-tparams = c12 .before .before .before .before .before .before .make-tparams in
-    let done-of = c12 .before .done-of in
-    let enum-told = c .before .before .before .before .before .before .before .before .before .before .before .enum-told in
-    let loop = c .before .before .before .before .before .before .before .before .before .before .loop in
-    let loop-test = c .before .before .before .before .before .before .before .before .before .loop-test in
+    let pre = c .before .before .before .before .before .before .before .before .before .before .before .before .before .before .before .before .before .before .before .before .before .pre in
+    let make-tparams = c .before .before .before .before .before .before .before .before .before .before .before .before .before .before .before .before .before .before .make-tparams in
+    let done-of = c .before .before .before .before .before .before .before .before .before .before .before .before .before .before .done-of in
+    let enum-told = c .before .before .before .before .before .before .before .before .before .before .before .before .enum-told in
+    let loop = c .before .before .before .before .before .before .before .before .before .before .before .loop in
+    let loop-test = c .before .before .before .before .before .before .before .before .before .if1 in
     let arg-at = c .before .before .before .before .before .before .before .arg-at in
     let instantiate-down = c .before .before .before .before .before .instantiate-down in
     apply-then _ _ _ _ _ _ _ _ _ (pre .1 .1 .placed) _ (make-tparams .result) _ (make-tparams .ensures)
@@ -252,45 +250,39 @@ instantiate-apply-mul-parts : (t : ℕ) → instantiate-apply-lts.Need-mul-parts
     instantiate-apply-Inv-loop
     instantiate-apply-μ-loop
 instantiate-apply-mul-parts t c =
-    let c12 = c .before .before .before .before .before .before .before .before .before .before .before .before in
-    let pre = c12 .before .before .before .before .before .before .before .before .before .before .before .pre in
-    let loop-test = c .before .before .before .before .before .before .before .before .before .before .before .loop-test in
+    let pre = c .before .before .before .before .before .before .before .before .before .before .before .before .before .before .before .before .before .before .before .before .before .before .before .pre in
+    let loop-test = c .before .before .before .before .before .before .before .before .before .before .before .if1 in
     omega (arith, c .wide .ensures, pre .1 .1 .placed .few, loop-test .taken)
 
 instantiate-apply-array-write-parts : (t : ℕ) → instantiate-apply-lts.Need-array-write-parts (instantiate-apply-calls t) (instantiate-apply-at t) instantiate-apply.Post
     instantiate-apply-Inv-loop
     instantiate-apply-μ-loop
 instantiate-apply-array-write-parts t c =
-    let c12 = c .before .before .before .before .before .before .before .before .before .before .before .before in
-    let pre = c12 .before .before .before .before .before .before .before .before .before .before .before .pre in
-    let loop-test = c .before .before .before .before .before .before .before .before .before .before .before .loop-test in
+    let pre = c .before .before .before .before .before .before .before .before .before .before .before .before .before .before .before .before .before .before .before .before .before .before .before .pre in
+    let loop-test = c .before .before .before .before .before .before .before .before .before .before .before .if1 in
     omega (arith, c .wide .ensures, pre .1 .1 .placed .few, loop-test .taken)
 
 instantiate-apply-add-i : (t : ℕ) → instantiate-apply-lts.Need-add-i (instantiate-apply-calls t) (instantiate-apply-at t) instantiate-apply.Post
     instantiate-apply-Inv-loop
     instantiate-apply-μ-loop
 instantiate-apply-add-i t c =
-    let c12 = c .before .before .before .before .before .before .before .before .before .before .before .before in
-    let c24 = c12 .before .before .before .before .before .before .before .before .before .before .before .before in
-    let pre = c24 .pre in
-    let loop-test = c12 .loop-test in
+    let pre = c .before .before .before .before .before .before .before .before .before .before .before .before .before .before .before .before .before .before .before .before .before .before .before .before .pre in
+    let loop-test = c .before .before .before .before .before .before .before .before .before .before .before .before .if1 in
     omega (arith, pre .1 .1 .placed .few, loop-test .taken)
 
 instantiate-apply-loop-less : (t : ℕ) → instantiate-apply-lts.Need-loop-less (instantiate-apply-calls t) (instantiate-apply-at t) instantiate-apply.Post
     instantiate-apply-Inv-loop
     instantiate-apply-μ-loop
-instantiate-apply-loop-less t c = omega (arith, c .before .before .before .before .before .before .before .before .before .before .before .before .loop-test .taken)
+instantiate-apply-loop-less t c = omega (arith, c .before .before .before .before .before .before .before .before .before .before .before .before .if1 .taken)
 
 instantiate-apply-loop-again : (t : ℕ) → instantiate-apply-lts.Need-loop-again (instantiate-apply-calls t) (instantiate-apply-at t) instantiate-apply.Post
     instantiate-apply-Inv-loop
     instantiate-apply-μ-loop
 instantiate-apply-loop-again t c =
-    let c12 = c .before .before .before .before .before .before .before .before .before .before .before .before in
-    let c24 = c12 .before .before .before .before .before .before .before .before .before .before .before .before in
-    let pre = c24 .pre in
-    let make-tparams = c12 .before .before .before .before .before .before .before .before .before .make-tparams in
-    let loop = c12 .before .loop in
-    let loop-test = c12 .loop-test in
+    let pre = c .before .before .before .before .before .before .before .before .before .before .before .before .before .before .before .before .before .before .before .before .before .before .before .before .pre in
+    let make-tparams = c .before .before .before .before .before .before .before .before .before .before .before .before .before .before .before .before .before .before .before .before .before .make-tparams in
+    let loop = c .before .before .before .before .before .before .before .before .before .before .before .before .before .before .loop in
+    let loop-test = c .before .before .before .before .before .before .before .before .before .before .before .before .if1 in
     let arg-at = c .before .before .before .before .before .before .before .before .before .before .arg-at in
     let instantiate-down = c .before .before .before .before .before .before .before .before .instantiate-down in
     let done-of2 = c .before .before .before .before .before .done-of2 in
@@ -305,13 +297,13 @@ instantiate-apply-join-args-requires : (t : ℕ) → instantiate-apply-lts.Need-
     instantiate-apply-μ-loop
 instantiate-apply-join-args-requires t c κs =
     let make-tparams = c .before .before .before .before .before .before .before .before .before .before .make-tparams in
-    let done-of = c .before .before .before .before .before .done-of in
-    let loop = c .before .before .loop in (
+    let done-of = c .before .before .before .before .before .before .done-of in
+    let loop = c .before .before .before .loop in (
       loop .inv .changed .lay,
       (
         parts-grow _ _ _ _ (nodes-grow _ _ _ _ (loop .inv .changed .grown))
-            (make-tparams .ensures .inside .below _ (sym (done-of .ensures) ∙ c .before .before .before .enum-told .given .1)),
-        walk-parts (loop .inv) (c .before .loop-test .left),
+            (make-tparams .ensures .inside .below _ (sym (done-of .ensures) ∙ c .before .before .before .before .enum-told .given .1)),
+        walk-parts (loop .inv) (c .before .if1 .left),
       ),
     )
 
@@ -326,12 +318,12 @@ instantiate-apply-returns-3 : (t : ℕ) → instantiate-apply-lts.Need-returns-3
 instantiate-apply-returns-3 t c =
     let pre = c .before .before .before .before .before .before .before .before .before .before .before .before .before .before .before .before .pre in
     let make-tparams = c .before .before .before .before .before .before .before .before .before .before .before .before .before .make-tparams in
-    let done-of = c .before .before .before .before .before .before .before .before .done-of in
-    let enum-told = c .before .before .before .before .before .before .enum-told in
-    let loop = c .before .before .before .before .before .loop in
+    let done-of = c .before .before .before .before .before .before .before .before .before .done-of in
+    let enum-told = c .before .before .before .before .before .before .before .enum-told in
+    let loop = c .before .before .before .before .before .before .loop in
     apply-then _ _ _ _ _ _ _ _ _ (pre .1 .1 .placed) _ (make-tparams .result) _ (make-tparams .ensures)
     (done-of .ensures) _ _ _ (enum-told .given .1)
-    (walk-end (loop .inv) (c .before .before .before .before .loop-test .left)
+    (walk-end (loop .inv) (c .before .before .before .before .if1 .left)
     (after-any (c .before .before .join-args .ensures)))
 
 instantiate-down-stay-requires : (t : ℕ) → instantiate-down-lts.Need-stay-requires (instantiate-down-calls t) (instantiate-down-at t) instantiate-down.Post
@@ -436,19 +428,17 @@ instantiate-down-enum-told-8 t c = search needs
 
 instantiate-down-same-length-2 : (t : ℕ) → instantiate-down-lts.Need-same-length-2 (instantiate-down-calls t) (instantiate-down-at t) instantiate-down.Post
 instantiate-down-same-length-2 t c =
-    let c12 = c .before .before .before .before .before .before .before .before .before .before .before .before in
-    let pre = c12 .before .before .before .before .before .before .before .before .before .before .before .pre in
+    let pre = c .before .before .before .before .before .before .before .before .before .before .before .before .before .before .before .before .before .before .before .before .before .before .before .pre in
     let instantiate-down = c .before .before .before .before .before .before .instantiate-down in
     instantiate-down .ensures .changed .lay .size ∙ sym (pre .1 .0 .size)
 
 instantiate-down-returns-3 : (t : ℕ) → instantiate-down-lts.Need-returns-3 (instantiate-down-calls t) (instantiate-down-at t) instantiate-down.Post
 instantiate-down-returns-3 t c =
-    let c12 = c .before .before .before .before .before .before .before .before .before .before .before .before in
-    let pre = c12 .before .before .before .before .before .before .before .before .before .before .before .pre in
-    let if1 = c12 .before .before .before .before .before .before .before .before .before .if1 in
-    let node-at = c12 .before .before .before .before .before .before .before .node-at in
-    let shape = c12 .before .before .before .before .before .shape in
-    let push-constraint = c12 .before .before .push-constraint in
+    let pre = c .before .before .before .before .before .before .before .before .before .before .before .before .before .before .before .before .before .before .before .before .before .before .before .pre in
+    let if1 = c .before .before .before .before .before .before .before .before .before .before .before .before .before .before .before .before .before .before .before .before .before .if1 in
+    let node-at = c .before .before .before .before .before .before .before .before .before .before .before .before .before .before .before .before .before .before .before .node-at in
+    let shape = c .before .before .before .before .before .before .before .before .before .before .before .before .before .before .before .before .before .shape in
+    let push-constraint = c .before .before .before .before .before .before .before .before .before .before .before .before .before .before .push-constraint in
     let done-of = c .before .before .before .before .before .before .before .before .before .before .done-of in
     let enum-told6 = c .before .before .before .before .before .before .before .before .enum-told6 in
     let instantiate-down = c .before .before .before .before .before .before .instantiate-down in
@@ -533,22 +523,18 @@ instantiate-down-returns-8 t c =
 
 instantiate-down-same-length-8 : (t : ℕ) → instantiate-down-lts.Need-same-length-8 (instantiate-down-calls t) (instantiate-down-at t) instantiate-down.Post
 instantiate-down-same-length-8 t c =
-    let c12 = c .before .before .before .before .before .before .before .before .before .before .before .before in
-    let c24 = c12 .before .before .before .before .before .before .before .before .before .before .before .before in
-    let pre = c24 .before .before .before .before .pre in
+    let pre = c .before .before .before .before .before .before .before .before .before .before .before .before .before .before .before .before .before .before .before .before .before .before .before .before .before .before .before .before .pre in
     c .before .before .push-node .ensures .changed .lay .size ∙ sym (pre .1 .0 .size)
 
 instantiate-down-returns-9 : (t : ℕ) → instantiate-down-lts.Need-returns-9 (instantiate-down-calls t) (instantiate-down-at t) instantiate-down.Post
 instantiate-down-returns-9 t c =
-    let c12 = c .before .before .before .before .before .before .before .before .before .before .before .before in
-    let c24 = c12 .before .before .before .before .before .before .before .before .before .before .before .before in
-    let pre = c24 .before .before .before .before .pre in
-    let if1 = c24 .before .before .if1 in
-    let node-at = c24 .node-at in
-    let shape = c12 .before .before .before .before .before .before .before .before .before .before .shape in
-    let push-constraint = c12 .before .before .before .before .before .before .before .push-constraint in
-    let done-of = c12 .before .before .before .done-of in
-    let enum-told6 = c12 .before .enum-told6 in
+    let pre = c .before .before .before .before .before .before .before .before .before .before .before .before .before .before .before .before .before .before .before .before .before .before .before .before .before .before .before .before .pre in
+    let if1 = c .before .before .before .before .before .before .before .before .before .before .before .before .before .before .before .before .before .before .before .before .before .before .before .before .before .before .if1 in
+    let node-at = c .before .before .before .before .before .before .before .before .before .before .before .before .before .before .before .before .before .before .before .before .before .before .before .before .node-at in
+    let shape = c .before .before .before .before .before .before .before .before .before .before .before .before .before .before .before .before .before .before .before .before .before .before .shape in
+    let push-constraint = c .before .before .before .before .before .before .before .before .before .before .before .before .before .before .before .before .before .before .before .push-constraint in
+    let done-of = c .before .before .before .before .before .before .before .before .before .before .before .before .before .before .before .done-of in
+    let enum-told6 = c .before .before .before .before .before .before .before .before .before .before .before .before .before .enum-told6 in
     let instantiate-down = c .before .before .before .before .before .before .before .before .before .before .before .instantiate-down in
     let done-of2 = c .before .before .before .before .before .before .before .done-of2 in
     let p = c .before .before .before .before .before .p in

@@ -24,11 +24,11 @@ use Rattle.table.proofs.arg_at.Reads as arg-at-reads
 use Rattle.table.proofs.done_of.Reads as done-of-reads
 
 abbrev Inv-loop : tie.InvT-loop
-Inv-loop w₀ params loc n first many count tvars₀ v₀ i₀ w tvars v i =
-    Walked (Known w₀ v₀ params) (tparam-by loc (name-of n) (args-at (view w₀ v₀) (places first many)) params) just-list (range 0 count) count w₀ v₀ w v tvars i
+Inv-loop w₀ params loc ty n count tvars₀ v₀ i₀ w tvars v i =
+    Walked (Known w₀ v₀ params) (tparam-by loc (name-of n) (args-at (view w₀ v₀) (places (ty .first) (ty .many))) params) just-list (range 0 count) count w₀ v₀ w v tvars i
 
 abbrev μ-loop : tie.MeasureT-loop
-μ-loop w₀ params loc n first many count tvars₀ v₀ i₀ w tvars v i = count - i
+μ-loop w₀ params loc ty n count tvars₀ v₀ i₀ w tvars v i = count - i
 
 tparam-count-requires : tie.Need-tparam-count-requires Inv-loop μ-loop
 tparam-count-requires c κs = search needs
@@ -51,8 +51,8 @@ make-tparam-requires c κs = c .before .before .before .before .before .loop .in
 done-of-requires : tie.Need-done-of-requires Inv-loop μ-loop
 done-of-requires c κs = search needs
 
-enum-known-t : tie.Need-enum-known-t Inv-loop μ-loop
-enum-known-t c = search needs
+enum-known-tvar : tie.Need-enum-known-tvar Inv-loop μ-loop
+enum-known-tvar c = search needs
 
 enum-told : tie.Need-enum-told Inv-loop μ-loop
 enum-told c = search needs
@@ -62,11 +62,10 @@ same-length c = c .before .before .before .before .before .before .make-tparam .
 
 returns : tie.Need-returns Inv-loop μ-loop
 returns c =
-    let c12 = c .before .before .before .before .before .before .before .before .before .before .before .before in
-    let pre = c12 .before .before .before .before .before .pre in
-    let tparam-count = c12 .before .before .tparam-count in
-    let fewer = c12 .before .fewer in
-    let loop = c12 .loop in
+    let pre = c .before .before .before .before .before .before .before .before .before .before .before .before .before .before .before .before .before .pre in
+    let tparam-count = c .before .before .before .before .before .before .before .before .before .before .before .before .before .before .tparam-count in
+    let fewer = c .before .before .before .before .before .before .before .before .before .before .before .before .before .fewer in
+    let loop = c .before .before .before .before .before .before .before .before .before .before .before .before .loop in
     let loop-test = c .before .before .before .before .before .before .before .before .before .before .before .loop-test in
     let arg-at = c .before .before .before .before .before .before .before .before .before .arg-at in
     let ability-at = c .before .before .before .before .before .before .before .before .ability-at in
@@ -80,26 +79,23 @@ wide-requires c κs = search needs
 
 mul-tvars : tie.Need-mul-tvars Inv-loop μ-loop
 mul-tvars c =
-    let c12 = c .before .before .before .before .before .before .before .before .before .before .before .before in
-    let pre = c12 .before .before .before .before .before .before .before .pre in
-    let fewer = c12 .before .before .before .fewer in
-    let loop-test = c12 .before .loop-test in
+    let pre = c .before .before .before .before .before .before .before .before .before .before .before .before .before .before .before .before .before .before .before .pre in
+    let fewer = c .before .before .before .before .before .before .before .before .before .before .before .before .before .before .before .fewer in
+    let loop-test = c .before .before .before .before .before .before .before .before .before .before .before .before .before .loop-test in
     omega (arith, c .wide .ensures, fewer .ensures, pre .1 .few, loop-test .taken)
 
 array-write-tvars : tie.Need-array-write-tvars Inv-loop μ-loop
 array-write-tvars c =
-    let c12 = c .before .before .before .before .before .before .before .before .before .before .before .before in
-    let pre = c12 .before .before .before .before .before .before .before .pre in
-    let fewer = c12 .before .before .before .fewer in
-    let loop-test = c12 .before .loop-test in
+    let pre = c .before .before .before .before .before .before .before .before .before .before .before .before .before .before .before .before .before .before .before .pre in
+    let fewer = c .before .before .before .before .before .before .before .before .before .before .before .before .before .before .before .fewer in
+    let loop-test = c .before .before .before .before .before .before .before .before .before .before .before .before .before .loop-test in
     omega (arith, c .wide .ensures, fewer .ensures, pre .1 .few, loop-test .taken)
 
 add-i : tie.Need-add-i Inv-loop μ-loop
 add-i c =
-    let c12 = c .before .before .before .before .before .before .before .before .before .before .before .before in
-    let pre = c12 .before .before .before .before .before .before .before .pre in
-    let fewer = c12 .before .before .before .fewer in
-    let loop-test = c12 .before .loop-test in
+    let pre = c .before .before .before .before .before .before .before .before .before .before .before .before .before .before .before .before .before .before .before .pre in
+    let fewer = c .before .before .before .before .before .before .before .before .before .before .before .before .before .before .before .fewer in
+    let loop-test = c .before .before .before .before .before .before .before .before .before .before .before .before .before .loop-test in
     omega (arith, fewer .ensures, pre .1 .few, loop-test .taken)
 
 loop-less : tie.Need-loop-less Inv-loop μ-loop
@@ -107,18 +103,17 @@ loop-less c = search needs
 
 loop-again : tie.Need-loop-again Inv-loop μ-loop
 loop-again c =
-    let c12 = c .before .before .before .before .before .before .before .before .before .before .before .before in
-    let pre = c12 .before .before .before .before .before .before .before .pre in
-    let tparam-count = c12 .before .before .before .before .tparam-count in
-    let fewer = c12 .before .before .before .fewer in
-    let loop = c12 .before .before .loop in
-    let loop-test = c12 .before .loop-test in
+    let pre = c .before .before .before .before .before .before .before .before .before .before .before .before .before .before .before .before .before .before .before .pre in
+    let tparam-count = c .before .before .before .before .before .before .before .before .before .before .before .before .before .before .before .before .tparam-count in
+    let fewer = c .before .before .before .before .before .before .before .before .before .before .before .before .before .before .before .fewer in
+    let loop = c .before .before .before .before .before .before .before .before .before .before .before .before .before .before .loop in
+    let loop-test = c .before .before .before .before .before .before .before .before .before .before .before .before .before .loop-test in
     let arg-at = c .before .before .before .before .before .before .before .before .before .before .before .arg-at in
     let ability-at = c .before .before .before .before .before .before .before .before .before .before .ability-at in
     let make-tparam = c .before .before .before .before .before .before .before .before .make-tparam in
     made-more _ _ _ _ _ _ _ _ _ (pre .0) (pre .1) (tparam-count .ensures) (fewer .ensures) (loop .inv)
     (loop-test .taken) (arg-at .ensures) _ (ability-at .ensures) (make-tparam .ensures)
-    (c .before .before .before .before .done-of .ensures) (c .before .before .t .given .1) (c .wide .ensures)
+    (c .before .before .before .before .done-of .ensures) (c .before .before .tvar .given .1) (c .wide .ensures)
 
 same-length-2 : tie.Need-same-length-2 Inv-loop μ-loop
 same-length-2 c = c .before .loop .inv .changed .lay .size ∙ sym (c .before .before .before .before .before .before .pre .0 .size)
@@ -139,7 +134,7 @@ make-tparams-spec =
     ability-at-requires
     make-tparam-requires
     done-of-requires
-    enum-known-t
+    enum-known-tvar
     enum-told
     same-length
     returns

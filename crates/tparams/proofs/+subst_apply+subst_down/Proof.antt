@@ -4,7 +4,7 @@ use native.Mathlib.Omega.{arith}
 use borrow.Author.Needs.{needs}
 use Rattle.definition.specs.TParams as D
 use Rattle.names.specs.Names.{mark-of, name-of}
-use Rattle.tparams.specs.Pairs.{pairs}
+use Rattle.tparams.specs.Pairs.{subst-of}
 use Rattle.tparams.proofs.PairLaws.{args-in}
 use Rattle.definition.specs.Store.{args-at}
 use Rattle.table.specs.Rows.{places}
@@ -78,11 +78,11 @@ subst-down-calls t = (
 )
 
 abbrev subst-apply-Inv-loop : subst-apply-lts.InvT-loop
-subst-apply-Inv-loop w₀ left ids args n loc k name first many parts₀ v₀ i₀ w parts v i =
-    Walked Any (D.subst-down left (pairs ids args 0 n)) (sp-apply loc (mark-of k) (name-of name)) (args-at (view w₀ v₀) (places first many)) many w₀ v₀ w v parts i
+subst-apply-Inv-loop w₀ left subst loc ty parts₀ v₀ i₀ w parts v i =
+    Walked Any (D.subst-down left (subst-of subst)) (sp-apply loc (mark-of (ty .k)) (name-of (ty .n))) (args-at (view w₀ v₀) (places (ty .first) (ty .many))) (ty .many) w₀ v₀ w v parts i
 
 abbrev subst-apply-μ-loop : subst-apply-lts.MeasureT-loop
-subst-apply-μ-loop w₀ left ids args n loc k name first many parts₀ v₀ i₀ w parts v i = many - i
+subst-apply-μ-loop w₀ left subst loc ty parts₀ v₀ i₀ w parts v i = ty .many - i
 
 subst-apply-loop-holds : (t : ℕ) → subst-apply-lts.Need-loop-holds (subst-apply-calls t) (subst-apply-at t) subst-apply.Post subst-apply-Inv-loop subst-apply-μ-loop
 subst-apply-loop-holds t c = walk-start (c .before .pre .1 .0) (placed-length _ _ _ _ (c .before .pre .1 .1 .0 .placed)) (c .before .pre .1 .1 .0 .placed .few) refl
@@ -92,9 +92,9 @@ subst-apply-arg-at-requires t c κs = search needs
 
 subst-apply-subst-down-requires : (t : ℕ) → subst-apply-lts.Need-subst-down-requires (subst-apply-calls t) (subst-apply-at t) subst-apply.Post subst-apply-Inv-loop subst-apply-μ-loop
 subst-apply-subst-down-requires t c κs =
-    let pre = c .before .before .before .before .before .before .pre in
-    let loop = c .before .before .before .before .loop in
-    let loop-test = c .before .before .before .loop-test in (
+    let pre = c .before .before .before .before .before .before .before .pre in
+    let loop = c .before .before .before .before .before .loop in
+    let loop-test = c .before .before .before .if1 in (
       omega (arith, pre .0),
       (
         loop .inv .changed .lay,
@@ -121,13 +121,13 @@ subst-apply-enum-told : (t : ℕ) → subst-apply-lts.Need-enum-told (subst-appl
 subst-apply-enum-told t c = search needs
 
 subst-apply-same-length : (t : ℕ) → subst-apply-lts.Need-same-length (subst-apply-calls t) (subst-apply-at t) subst-apply.Post subst-apply-Inv-loop subst-apply-μ-loop
-subst-apply-same-length t c = c .before .before .before .before .before .subst-down .ensures .changed .lay .size ∙ sym (c .before .before .before .before .before .before .before .before .before .before .before .before .pre .1 .0 .size)
+subst-apply-same-length t c = c .before .before .before .before .before .subst-down .ensures .changed .lay .size ∙ sym (c .before .before .before .before .before .before .before .before .before .before .before .before .before .pre .1 .0 .size)
 
 subst-apply-returns : (t : ℕ) → subst-apply-lts.Need-returns (subst-apply-calls t) (subst-apply-at t) subst-apply.Post subst-apply-Inv-loop subst-apply-μ-loop
 subst-apply-returns t c =
-    let pre = c .before .before .before .before .before .before .before .before .before .before .before .before .pre in
-    let loop = c .before .before .before .before .before .before .before .before .before .before .loop in
-    let loop-test = c .before .before .before .before .before .before .before .before .before .loop-test in
+    let pre = c .before .before .before .before .before .before .before .before .before .before .before .before .before .pre in
+    let loop = c .before .before .before .before .before .before .before .before .before .before .before .loop in
+    let loop-test = c .before .before .before .before .before .before .before .before .before .if1 in
     let arg-at = c .before .before .before .before .before .before .before .arg-at in
     let subst-down = c .before .before .before .before .before .subst-down in
     apply-walked _ _ _ _ _ _ _ _ _ _
@@ -140,20 +140,20 @@ subst-apply-wide-requires t c κs = search needs
 
 subst-apply-mul-parts : (t : ℕ) → subst-apply-lts.Need-mul-parts (subst-apply-calls t) (subst-apply-at t) subst-apply.Post subst-apply-Inv-loop subst-apply-μ-loop
 subst-apply-mul-parts t c =
-    let pre = c .before .before .before .before .before .before .before .before .before .before .before .before .before .before .pre in
-    let loop-test = c .before .before .before .before .before .before .before .before .before .before .before .loop-test in
+    let pre = c .before .before .before .before .before .before .before .before .before .before .before .before .before .before .before .pre in
+    let loop-test = c .before .before .before .before .before .before .before .before .before .before .before .if1 in
     omega (arith, c .wide .ensures, (pre .1 .1 .0 .placed) .few, loop-test .taken)
 
 subst-apply-array-write-parts : (t : ℕ) → subst-apply-lts.Need-array-write-parts (subst-apply-calls t) (subst-apply-at t) subst-apply.Post subst-apply-Inv-loop subst-apply-μ-loop
 subst-apply-array-write-parts t c =
-    let pre = c .before .before .before .before .before .before .before .before .before .before .before .before .before .before .pre in
-    let loop-test = c .before .before .before .before .before .before .before .before .before .before .before .loop-test in
+    let pre = c .before .before .before .before .before .before .before .before .before .before .before .before .before .before .before .pre in
+    let loop-test = c .before .before .before .before .before .before .before .before .before .before .before .if1 in
     omega (arith, c .wide .ensures, (pre .1 .1 .0 .placed) .few, loop-test .taken)
 
 subst-apply-add-i : (t : ℕ) → subst-apply-lts.Need-add-i (subst-apply-calls t) (subst-apply-at t) subst-apply.Post subst-apply-Inv-loop subst-apply-μ-loop
 subst-apply-add-i t c =
-    let pre = c .before .before .before .before .before .before .before .before .before .before .before .before .before .before .before .pre in
-    let loop-test = c .before .before .before .before .before .before .before .before .before .before .before .before .loop-test in
+    let pre = c .before .before .before .before .before .before .before .before .before .before .before .before .before .before .before .before .pre in
+    let loop-test = c .before .before .before .before .before .before .before .before .before .before .before .before .if1 in
     omega (arith, (pre .1 .1 .0 .placed) .few, loop-test .taken)
 
 subst-apply-loop-less : (t : ℕ) → subst-apply-lts.Need-loop-less (subst-apply-calls t) (subst-apply-at t) subst-apply.Post subst-apply-Inv-loop subst-apply-μ-loop
@@ -161,9 +161,9 @@ subst-apply-loop-less t c = search needs
 
 subst-apply-loop-again : (t : ℕ) → subst-apply-lts.Need-loop-again (subst-apply-calls t) (subst-apply-at t) subst-apply.Post subst-apply-Inv-loop subst-apply-μ-loop
 subst-apply-loop-again t c =
-    let pre = c .before .before .before .before .before .before .before .before .before .before .before .before .before .before .before .pre in
-    let loop = c .before .before .before .before .before .before .before .before .before .before .before .before .before .loop in
-    let loop-test = c .before .before .before .before .before .before .before .before .before .before .before .before .loop-test in
+    let pre = c .before .before .before .before .before .before .before .before .before .before .before .before .before .before .before .before .pre in
+    let loop = c .before .before .before .before .before .before .before .before .before .before .before .before .before .before .loop in
+    let loop-test = c .before .before .before .before .before .before .before .before .before .before .before .before .if1 in
     let arg-at = c .before .before .before .before .before .before .before .before .before .before .arg-at in
     let subst-down = c .before .before .before .before .before .before .before .before .subst-down in
     let done-of = c .before .before .before .before .before .done-of in
@@ -173,16 +173,16 @@ subst-apply-loop-again t c =
 
 subst-apply-push-apply-requires : (t : ℕ) → subst-apply-lts.Need-push-apply-requires (subst-apply-calls t) (subst-apply-at t) subst-apply.Post subst-apply-Inv-loop subst-apply-μ-loop
 subst-apply-push-apply-requires t c κs =
-    let loop = c .before .before .loop in (loop .inv .changed .lay, walk-parts (loop .inv) (c .before .loop-test .left))
+    let loop = c .before .before .before .loop in (loop .inv .changed .lay, walk-parts (loop .inv) (c .before .if1 .left))
 
 subst-apply-same-length-2 : (t : ℕ) → subst-apply-lts.Need-same-length-2 (subst-apply-calls t) (subst-apply-at t) subst-apply.Post subst-apply-Inv-loop subst-apply-μ-loop
-subst-apply-same-length-2 t c = c .before .before .push-apply .ensures .changed .lay .size ∙ sym (c .before .before .before .before .before .before .before .pre .1 .0 .size)
+subst-apply-same-length-2 t c = c .before .before .push-apply .ensures .changed .lay .size ∙ sym (c .before .before .before .before .before .before .before .before .pre .1 .0 .size)
 
 subst-apply-returns-2 : (t : ℕ) → subst-apply-lts.Need-returns-2 (subst-apply-calls t) (subst-apply-at t) subst-apply.Post subst-apply-Inv-loop subst-apply-μ-loop
 unfolding sp-apply
 subst-apply-returns-2 t c =
     apply-walked _ _ _ _ _ _ _ _ _ _
-    (walk-end (c .before .before .before .before .before .loop .inv) (c .before .before .before .before .loop-test .left)
+    (walk-end (c .before .before .before .before .before .before .loop .inv) (c .before .before .before .before .if1 .left)
     (c .before .before .push-apply .ensures))
 
 subst-down-stay-requires : (t : ℕ) → subst-down-lts.Need-stay-requires (subst-down-calls t) (subst-down-at t) subst-down.Post
@@ -357,11 +357,10 @@ subst-down-same-length-7 t c = c .before .before .push-node .ensures .changed .l
 
 subst-down-returns-8 : (t : ℕ) → subst-down-lts.Need-returns-8 (subst-down-calls t) (subst-down-at t) subst-down.Post
 subst-down-returns-8 t c =
-    let c12 = c .before .before .before .before .before .before .before .before .before .before .before .before in
-    let pre = c12 .before .before .before .before .before .before .before .before .pre in
-    let if1 = c12 .before .before .before .before .before .before .if1 in
-    let node-at = c12 .before .before .before .before .node-at in
-    let shape2 = c12 .before .before .shape2 in
+    let pre = c .before .before .before .before .before .before .before .before .before .before .before .before .before .before .before .before .before .before .before .before .pre in
+    let if1 = c .before .before .before .before .before .before .before .before .before .before .before .before .before .before .before .before .before .before .if1 in
+    let node-at = c .before .before .before .before .before .before .before .before .before .before .before .before .before .before .before .before .node-at in
+    let shape2 = c .before .before .before .before .before .before .before .before .before .before .before .before .before .before .shape2 in
     let subst-down = c .before .before .before .before .before .before .before .before .before .before .before .subst-down in
     let done-of = c .before .before .before .before .before .before .before .done-of in
     let p = c .before .before .before .before .before .p in

@@ -12,10 +12,12 @@ use Rattle.tparams.proofs.arg_from.Statement.{statement}
 use Rattle.tparams.proofs.arg_from.Tie as tie
 
 abbrev Inv-loop : tie.InvT-loop
-Inv-loop i n id ids args k₀ k = (i ≤ k) × ((k ≤ n) × (arg-of (pairs ids args k (n - k)) (id .0) ≡ arg-of (pairs ids args i (n - i)) (id .0)))
+Inv-loop i id subst k₀ k =
+    let n = subst .many in
+    (i ≤ k) × ((k ≤ n) × (arg-of (pairs (subst .ids) (subst .args) k (n - k)) (id .0) ≡ arg-of (pairs (subst .ids) (subst .args) i (n - i)) (id .0)))
 
 abbrev μ-loop : tie.MeasureT-loop
-μ-loop i n id ids args k₀ k = n - k
+μ-loop i id subst k₀ k = subst .many - k
 
 loop-holds : tie.Need-loop-holds Inv-loop μ-loop
 loop-holds c = search needs
@@ -26,17 +28,17 @@ wide-requires c κs = search needs
 mul-x : tie.Need-mul-x Inv-loop μ-loop
 mul-x c = search needs
 
-array-copy-out-x : tie.Need-array-copy-out-x Inv-loop μ-loop
-array-copy-out-x c = search needs
+element-copy-out-x : tie.Need-element-copy-out-x Inv-loop μ-loop
+element-copy-out-x c = search needs
 
-mul-t16 : tie.Need-mul-t16 Inv-loop μ-loop
-mul-t16 c = search needs
+mul-t14 : tie.Need-mul-t14 Inv-loop μ-loop
+mul-t14 c = search needs
 
-array-read-t19 : tie.Need-array-read-t19 Inv-loop μ-loop
-array-read-t19 c = search needs
+element-copy-out-t17 : tie.Need-element-copy-out-t17 Inv-loop μ-loop
+element-copy-out-t17 c = search needs
 
 returns : tie.Need-returns Inv-loop μ-loop
-returns c = arg-here _ _ _ _ _ _ (c .before .before .before .before .wide .ensures) (c .before .before .before .before .before .loop-test .taken) (c .if1 .taken) ∙ c .before .before .before .before .before .before .loop .inv .1 .1
+returns c = arg-here _ _ _ _ _ _ (c .before .before .before .before .before .wide .ensures) (c .before .before .before .before .before .before .loop-test .taken) (c .before .if1 .taken) ∙ c .before .before .before .before .before .before .before .loop .inv .1 .1
 
 add-k : tie.Need-add-k Inv-loop μ-loop
 add-k c = search needs
@@ -59,9 +61,9 @@ arg-from-spec =
     loop-holds
     wide-requires
     mul-x
-    array-copy-out-x
-    mul-t16
-    array-read-t19
+    element-copy-out-x
+    mul-t14
+    element-copy-out-t17
     returns
     add-k
     loop-less

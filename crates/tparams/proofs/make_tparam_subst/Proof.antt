@@ -14,10 +14,12 @@ use Rattle.tparams.proofs.make_tparam_subst.Statement.{statement}
 use Rattle.tparams.proofs.make_tparam_subst.Tie as tie
 
 abbrev Inv-loop : tie.InvT-loop
-Inv-loop args n ids i₀ i = (i ≤ n) × (make-tparam-subst (pairs ids args i (n - i)) ≡ ok (pairs ids args i (n - i)))
+Inv-loop subst i₀ i =
+    let ps = pairs (subst .ids) (subst .args) i (subst .many - i) in
+    (i ≤ subst .many) × (make-tparam-subst ps ≡ ok ps)
 
 abbrev μ-loop : tie.MeasureT-loop
-μ-loop args n ids i₀ i = i
+μ-loop subst i₀ i = i
 
 loop-holds : tie.Need-loop-holds Inv-loop μ-loop
 loop-holds c = (omega arith, made-none _ _ _ _ (omega arith))
@@ -31,8 +33,8 @@ wide-requires c κs = search needs
 mul-id : tie.Need-mul-id Inv-loop μ-loop
 mul-id c = search needs
 
-array-copy-out-id : tie.Need-array-copy-out-id Inv-loop μ-loop
-array-copy-out-id c = search needs
+element-copy-out-id : tie.Need-element-copy-out-id Inv-loop μ-loop
+element-copy-out-id c = search needs
 
 add-arg-from : tie.Need-add-arg-from Inv-loop μ-loop
 add-arg-from c = search needs
@@ -78,7 +80,7 @@ make-tparam-subst-spec =
     sub-i
     wide-requires
     mul-id
-    array-copy-out-id
+    element-copy-out-id
     add-arg-from
     arg-from-requires
     enum-told
