@@ -13,8 +13,8 @@ use Rattle.table.specs.Tab.{tab}
 use Rattle.table.specs.Rows.{Table, words-at, row, entries, node-table, var-table, constraint-table, struct-table}
 use Rattle.table.proofs.Tab.{getD-tab, tab-ext}
 use Rattle.table.proofs.Rows.{entry-at, entry-out, row-word}
-use Rattle.sound_rows.specs.Tests.{zero-at, zeros}
-use Rattle.sound_rows.proofs.Below.{all-at, all-from}
+use Rattle.sound_tables.specs.Tables.{zero-at, zeros}
+use Rattle.sound_fields.proofs.Below.{all-at, all-from}
 use Rattle.sound.proofs.Encode.{Rows}
 
 module _ {A : Type 0} (T : Table A) (w : List ℕ) (n : ℕ) where

@@ -28,10 +28,12 @@ use Rattle.table.proofs.Rows.{length-entries}
 use Rattle.table.proofs.Fields.{node-made, arg-row, get-read, num-read, constraint-read}
 use Rattle.table.specs.Encode.{counts as count-words, encode as encode-words}
 use Rattle.sound.specs.Lent.{used-of, bytes-at, struct-of, structs-of, decode, encode-params, same-words, same-rows, lent-sound, Lent-sound}
-use Rattle.sound_rows.specs.Tests.{Sized, all-below, counts-fine, zeros, tails-fine, struct-fine, params-at, byte-fine, bytes-fine, node-fine, cell-fine, binding-fine, numeric-fine, constraint-fine, tables-fine}
+use Rattle.sound_fields.specs.Fields.{all-below, byte-fine, numeric-fine}
+use Rattle.sound_rows.specs.Rows.{Sized, struct-fine, node-fine, cell-fine, binding-fine, constraint-fine}
+use Rattle.sound_tables.specs.Tables.{counts-fine, zeros, tails-fine, params-at, bytes-fine, tables-fine}
 use Rattle.sound.specs.Chains.{chain-fine}
-use Rattle.sound_rows.proofs.Tables.{Tables, tables-say, tables-are}
-use Rattle.sound_rows.proofs.Below.{and-l, and-r, both, same-test, not-passed, all-at, all-from, when-true, when-false}
+use Rattle.sound_tables.proofs.Tables.{Tables, tables-say, tables-are}
+use Rattle.sound_fields.proofs.Below.{and-l, and-r, both, same-test, not-passed, all-at, all-from, when-true, when-false}
 use Rattle.sound.proofs.Fields.{tag-of, mod-back, set-mod, set-was}
 use Rattle.sound.proofs.Encode.{Rows, Holds, encoded, holds}
 use Rattle.sound.proofs.Rows.{rows-from, used-row, past-row, tail-rows, rows-tail, node-row, var-row, constraint-row, struct-row}

@@ -1,13 +1,14 @@
-// The test for a sound state, made once where a lent state enters: words and parameter bytes, whatever they hold. The tests of single rows stand in `sound_rows`.
+// The test for a sound state, made once where a lent state enters: words and parameter bytes, whatever they hold. The tests of fields, rows and tables stand in `sound_fields`, `sound_rows` and `sound_tables`.
 ghost use mathlib.Core.Path.{_≡_};
 ghost use Prim.Native.Nat.{_≤_};
 ghost use lib.ListN.{length, getD, set};
-ghost use Rattle.sound_rows.specs.Tests.{Sized, all-below};
+ghost use Rattle.sound_fields.specs.Fields.{all-below};
+ghost use Rattle.sound_rows.specs.Rows.{Sized};
 ghost use Rattle.sound.specs.Lent.{used-of, lent-sound};
 ghost use Rattle.sound.specs.Chains.{var-at, next-at, next, Links, Noted, Counted, chain-fine};
 use names::TVar;
-use sound_rows::counts_fine;
-use sound_rows::tables_fine;
+use sound_tables::counts_fine;
+use sound_tables::tables_fine;
 use table::NODE_WORDS;
 use table::NODES_AT;
 use table::Used;

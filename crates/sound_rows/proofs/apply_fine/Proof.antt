@@ -4,9 +4,9 @@ use mathlib.Core.Path.{sym, _∙_}
 use native.Mathlib.Omega.{arith}
 use borrow.Author.Tests.{not-true, not-false, le-leb, lt-leb, eq-eqb, ne-eqb}
 use borrow.Author.Needs.{needs}
-use Rattle.sound_rows.specs.Tests.{apply-fine}
-use Rattle.sound_rows.proofs.Below.{name-small}
-use Rattle.sound_rows.proofs.Below.{passes, both, fails-l, fails-then}
+use Rattle.sound_rows.specs.Rows.{apply-fine}
+use Rattle.sound_fields.proofs.Below.{name-small}
+use Rattle.sound_fields.proofs.Below.{passes, both, fails-l, fails-then}
 use Rattle.sound_rows.proofs.apply_fine.Statement.{statement}
 use Rattle.sound_rows.proofs.apply_fine.Tie as tie
 

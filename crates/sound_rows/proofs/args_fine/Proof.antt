@@ -2,8 +2,8 @@
 use mathlib.Core.Path.{sym, _∙_}
 use borrow.Author.Tests.{eq-eqb, ne-eqb}
 use borrow.Author.Needs.{needs}
-use Rattle.sound_rows.specs.Tests.{args-fine}
-use Rattle.sound_rows.proofs.Below.{when-true, when-false}
+use Rattle.sound_rows.specs.Rows.{args-fine}
+use Rattle.sound_fields.proofs.Below.{when-true, when-false}
 use Rattle.sound_rows.proofs.args_fine.Statement.{statement}
 use Rattle.sound_rows.proofs.args_fine.Tie as tie
 

@@ -2,8 +2,8 @@
 use mathlib.Core.Path.{sym, _∙_}
 use borrow.Author.Tests.{lt-ltb, le-ltb, eq-eqb, ne-eqb}
 use borrow.Author.Needs.{needs}
-use Rattle.sound_rows.specs.Tests.{binding-fine}
-use Rattle.sound_rows.proofs.Below.{passes, both, fails-l, fails-then, when-true, when-false}
+use Rattle.sound_rows.specs.Rows.{binding-fine}
+use Rattle.sound_fields.proofs.Below.{passes, both, fails-l, fails-then, when-true, when-false}
 use Rattle.sound_rows.proofs.binding_fine.Statement.{statement}
 use Rattle.sound_rows.proofs.binding_fine.Tie as tie
 

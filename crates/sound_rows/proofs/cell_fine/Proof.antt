@@ -3,8 +3,8 @@
 use mathlib.Core.Path.{sym, _∙_}
 use borrow.Author.Tests.{not-true, not-false}
 use borrow.Author.Needs.{needs}
-use Rattle.sound_rows.specs.Tests.{cell-fine}
-use Rattle.sound_rows.proofs.Below.{passes, both, fails-l, fails-then}
+use Rattle.sound_rows.specs.Rows.{cell-fine}
+use Rattle.sound_fields.proofs.Below.{passes, both, fails-l, fails-then}
 use Rattle.sound_rows.proofs.cell_fine.Statement.{statement}
 use Rattle.sound_rows.proofs.cell_fine.Tie as tie
 

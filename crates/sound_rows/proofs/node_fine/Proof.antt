@@ -1,7 +1,7 @@
 -- `sound_rows::node_fine` meets its contract. Assumes nothing.
 -- The row's words are read, and `shape_fine` is called on them: its contract is the answer.
 use borrow.Author.Needs.{needs}
-use Rattle.sound_rows.specs.Tests.{node-fine}
+use Rattle.sound_rows.specs.Rows.{node-fine}
 use Rattle.sound_rows.proofs.node_fine.Statement.{statement}
 use Rattle.sound_rows.proofs.node_fine.Tie as tie
 

@@ -2,8 +2,8 @@
 use mathlib.Core.Path.{sym}
 use borrow.Author.Tests.{le-leb, lt-leb}
 use borrow.Author.Needs.{needs}
-use Rattle.sound_rows.specs.Tests.{struct-fine}
-use Rattle.sound_rows.proofs.Below.{passes, fails-l}
+use Rattle.sound_rows.specs.Rows.{struct-fine}
+use Rattle.sound_fields.proofs.Below.{passes, fails-l}
 use Rattle.sound_rows.proofs.struct_fine.Statement.{statement}
 use Rattle.sound_rows.proofs.struct_fine.Tie as tie
 
