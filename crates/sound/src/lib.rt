@@ -9,12 +9,10 @@ ghost use Rattle.sound.specs.Chains.{var-at, next-at, next, Links, Noted
 use names::TVar;
 use sound_tables::counts_fine;
 use sound_tables::tables_fine;
-use table::NODE_WORDS;
-use table::NODES_AT;
 use table::Used;
-use table::VAR_WORDS;
-use table::VARS_AT;
 use table::WORDS;
+use table::cell_words_at;
+use table::node_words_at;
 
 // The variable that a binding leads to, if it leads to one.
 enum Next {
@@ -47,11 +45,13 @@ fn var_at(w: &[u32], u: Used, x: u32) -> Next
     if n <= x {
         return Next::Last;
     }
-    let at = NODES_AT + (x as usize) * NODE_WORDS;
-    if w[at] != 6 {
+    let r = node_words_at(w, x);
+    let tag = r.tag;
+    let a = r.a;
+    if tag != 6 {
         return Next::Last;
     }
-    Next::To(TVar((w[at + 2] % 65536) as u16))
+    Next::To(TVar((a % 65536) as u16))
 }
 
 // The variable that v is bound to.
@@ -60,14 +60,16 @@ fn next_at(w: &[u32], u: Used, v: TVar) -> Next
     ensures { λ r. ⌜ next r ≡ next-at (now (w .entry)) u (v .0) ⌝ }
 {
     let n = u.vars;
-    if n <= (v.0 as u32) {
+    let i = v.0 as u32;
+    if n <= i {
         return Next::Last;
     }
-    let at = VARS_AT + (v.0 as usize) * VAR_WORDS;
-    if w[at] != 1 {
+    let r = cell_words_at(w, i);
+    let bound = r.bound;
+    if bound != 1 {
         return Next::Last;
     }
-    var_at(w, u, w[at + 1])
+    var_at(w, u, r.binding)
 }
 
 // One more than the length of v's chain, if it is noted; else 0.

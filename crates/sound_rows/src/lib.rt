@@ -4,7 +4,6 @@ ghost use Prim.Native.Nat.{_+_, _≤_, _<_};
 ghost use lib.ListN.{length};
 ghost use Rattle.sound_fields.specs.Fields.{all-below};
 ghost use Rattle.sound_rows.specs.Rows.{Sized, struct-fine, args-fine, part-fine, apply-fine, shape-fine, node-fine, binding-fine, cell-fine, constraint-fine};
-use names::TVar;
 use sound_fields::fits_fine;
 use sound_fields::four_zeros;
 use sound_fields::mark_fine;
@@ -14,25 +13,24 @@ use sound_fields::param_fine;
 use sound_fields::ref_fine;
 use sound_fields::var_fine;
 use table::ARGS_AT;
-use table::CONSTRAINT_WORDS;
-use table::CONSTRAINTS_AT;
-use table::NODE_WORDS;
-use table::NODES_AT;
-use table::STRUCT_WORDS;
-use table::STRUCTS_AT;
+use table::NodeWords;
 use table::Used;
-use table::VAR_WORDS;
-use table::VARS_AT;
+use table::cell_words_at;
+use table::constraint_words_at;
+use table::node_words_at;
+use table::struct_words_at;
 
 pub fn struct_fine(w: &[u32], i: u32) -> bool
     requires { ⌜ (length (now w) ≡ 24069) × (i < 256) ⌝ }
     ensures { λ r. ⌜ r ≡ struct-fine (now (w .entry)) i ⌝ }
 {
-    let at = STRUCTS_AT + (i as usize) * STRUCT_WORDS;
-    if 15 < w[at] {
+    let r = struct_words_at(w, i);
+    let abilities = r.abilities;
+    let params = r.params;
+    if 15 < abilities {
         return false;
     }
-    w[at + 1] <= 8
+    params <= 8
 }
 
 // ---- nodes
@@ -51,8 +49,8 @@ fn args_fine(w: &[u32], tag: u32, b: u32) -> u32
     if tag == 4 {
         return b;
     }
-    let at = STRUCTS_AT + (b as usize) * STRUCT_WORDS;
-    w[at + 1]
+    let r = struct_words_at(w, b);
+    r.params
 }
 
 fn parts_fine(w: &[u32], t: u32, c: usize, d: usize) -> bool
@@ -70,21 +68,23 @@ fn parts_fine(w: &[u32], t: u32, c: usize, d: usize) -> bool
     true
 }
 
-fn apply_fine(w: &[u32], u: Used, t: u32, tag: u32, a: u32, b: u32, c: u32, d: u32) -> bool
+fn apply_fine(w: &[u32], u: Used, t: u32, n: NodeWords) -> bool
     requires { ⌜ Sized (now w) u ⌝ }
-    ensures { λ r. ⌜ r ≡ apply-fine (now (w .entry)) u t tag a b c d ⌝ }
+    ensures { λ r. ⌜ r ≡ apply-fine (now (w .entry)) u t (n .tag) (n .a) (n .b) (n .c) (n .d) ⌝ }
 {
-    if !mark_fine(a) {
+    if !mark_fine(n.a) {
         return false;
     }
-    if !name_fine(u, tag, b) {
+    if !name_fine(u, n.tag, n.b) {
         return false;
     }
-    if !fits_fine(tag, a, b) {
+    if !fits_fine(n.tag, n.a, n.b) {
         return false;
     }
-    let n = args_fine(w, tag, b);
-    if d != n {
+    let args = args_fine(w, n.tag, n.b);
+    let c = n.c;
+    let d = n.d;
+    if d != args {
         return false;
     }
     let first = c as usize;
@@ -96,37 +96,38 @@ fn apply_fine(w: &[u32], u: Used, t: u32, tag: u32, a: u32, b: u32, c: u32, d: u
     parts_fine(w, t, first, many)
 }
 
-fn shape_fine(w: &[u32], u: Used, t: u32, tag: u32, a: u32, b: u32, c: u32, d: u32) -> bool
+fn shape_fine(w: &[u32], u: Used, t: u32, n: NodeWords) -> bool
     requires { ⌜ Sized (now w) u ⌝ }
-    ensures { λ r. ⌜ r ≡ shape-fine (now (w .entry)) u t tag a b c d ⌝ }
+    ensures { λ r. ⌜ r ≡ shape-fine (now (w .entry)) u t (n .tag) (n .a) (n .b) (n .c) (n .d) ⌝ }
 {
+    let tag = n.tag;
     if tag == 0 {
-        return four_zeros(a, b, c, d);
+        return four_zeros(n.a, n.b, n.c, n.d);
     }
     if tag == 1 {
-        return ref_fine(t, a, b, c, d);
+        return ref_fine(t, n.a, n.b, n.c, n.d);
     }
     if tag == 2 {
-        return param_fine(b, c, d);
+        return param_fine(n.b, n.c, n.d);
     }
     if tag < 6 {
-        return apply_fine(w, u, t, tag, a, b, c, d);
+        return apply_fine(w, u, t, n);
     }
     if tag == 6 {
-        return var_fine(u, a, b, c, d);
+        return var_fine(u, n.a, n.b, n.c, n.d);
     }
     if 8 < tag {
         return false;
     }
-    four_zeros(a, b, c, d)
+    four_zeros(n.a, n.b, n.c, n.d)
 }
 
 pub fn node_fine(w: &[u32], u: Used, t: u32) -> bool
     requires { ⌜ Sized (now w) u × (t < 2048) ⌝ }
     ensures { λ r. ⌜ r ≡ node-fine (now (w .entry)) u t ⌝ }
 {
-    let at = NODES_AT + (t as usize) * NODE_WORDS;
-    shape_fine(w, u, t, w[at], w[at + 2], w[at + 3], w[at + 4], w[at + 5])
+    let n = node_words_at(w, t);
+    shape_fine(w, u, t, n)
 }
 
 // ---- variables
@@ -145,22 +146,24 @@ fn binding_fine(w: &[u32], u: Used, is: u32, x: u32) -> bool
     if n <= x {
         return false;
     }
-    let at = NODES_AT + (x as usize) * NODE_WORDS;
-    w[at] != 7
+    let r = node_words_at(w, x);
+    let tag = r.tag;
+    tag != 7
 }
 
-pub fn cell_fine(w: &[u32], u: Used, v: TVar) -> bool
-    requires { ⌜ Sized (now w) u × (v .0 < 1024) ⌝ }
-    ensures { λ r. ⌜ r ≡ cell-fine (now (w .entry)) u (v .0) ⌝ }
+pub fn cell_fine(w: &[u32], u: Used, v: u32) -> bool
+    requires { ⌜ Sized (now w) u × (v < 1024) ⌝ }
+    ensures { λ r. ⌜ r ≡ cell-fine (now (w .entry)) u v ⌝ }
 {
-    let at = VARS_AT + (v.0 as usize) * VAR_WORDS;
-    if !binding_fine(w, u, w[at], w[at + 1]) {
+    let c = cell_words_at(w, v);
+    if !binding_fine(w, u, c.bound, c.binding) {
         return false;
     }
-    if !numeric_fine(w[at + 2], w[at + 3]) {
+    if !numeric_fine(c.numeric, c.loc) {
         return false;
     }
-    w[at + 4] == 0
+    let spare = c.spare;
+    spare == 0
 }
 
 // ---- constraints
@@ -170,15 +173,18 @@ pub fn constraint_fine(w: &[u32], u: Used, i: u32) -> bool
     ensures { λ r. ⌜ r ≡ constraint-fine (now (w .entry)) u i ⌝ }
 {
     let n = u.nodes;
-    let at = CONSTRAINTS_AT + (i as usize) * CONSTRAINT_WORDS;
-    if n <= w[at + 2] {
+    let c = constraint_words_at(w, i);
+    let kind = c.kind;
+    let ty = c.ty;
+    let abilities = c.abilities;
+    if n <= ty {
         return false;
     }
-    if w[at] == 0 {
-        return w[at + 3] <= 15;
+    if kind == 0 {
+        return abilities <= 15;
     }
-    if 5 < w[at] {
+    if 5 < kind {
         return false;
     }
-    w[at + 3] == 0
+    abilities == 0
 }

@@ -10,7 +10,6 @@ use names::MAX_CONSTRAINTS;
 use names::MAX_NODES;
 use names::MAX_STRUCTS;
 use names::MAX_VARS;
-use names::TVar;
 use sound_fields::any_of;
 use sound_fields::bytes_fine;
 use sound_rows::cell_fine;
@@ -28,6 +27,7 @@ use table::Used;
 use table::VAR_WORDS;
 use table::VARS_AT;
 use table::WORDS;
+use table::struct_words_at;
 
 // The tables whose rows are tested one by one.
 enum Table {
@@ -103,8 +103,8 @@ fn params_at(w: &[u32], u: Used, i: u32) -> u32
 {
     let n = u.structs;
     if i < n {
-        let at = STRUCTS_AT + (i as usize) * STRUCT_WORDS;
-        w[at + 1]
+        let r = struct_words_at(w, i);
+        r.params
     } else {
         0
     }
@@ -167,7 +167,7 @@ fn row_fine(w: &[u32], u: Used, table: Table, i: u32) -> bool
     match table {
         Table::Structs => struct_fine(w, i),
         Table::Nodes => node_fine(w, u, i),
-        Table::Cells => cell_fine(w, u, TVar(i as u16)),
+        Table::Cells => cell_fine(w, u, i),
         Table::Constraints => constraint_fine(w, u, i),
     }
 }

@@ -27,9 +27,6 @@ node-fine-requires c κs = let h = in-table _ _ _ _ (c .enum-told2 .given .1) (c
 enum-told-3 : tie.Need-enum-told-3
 enum-told-3 c = search needs
 
-cast-t6 : tie.Need-cast-t6
-cast-t6 c = let h = in-table _ _ _ _ (c .enum-told3 .given .1) (c .before .before .before .pre .1) in search needs
-
 cell-fine-requires : tie.Need-cell-fine-requires
 cell-fine-requires c κs = let h = in-table _ _ _ _ (c .enum-told3 .given .1) (c .before .before .before .pre .1) in search needs
 
@@ -60,7 +57,6 @@ row-fine-spec =
     enum-told-2
     node-fine-requires
     enum-told-3
-    cast-t6
     cell-fine-requires
     enum-told-4
     constraint-fine-requires
