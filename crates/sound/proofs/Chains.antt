@@ -21,7 +21,7 @@ use Rattle.table.specs.State.{seen}
 use Rattle.table.specs.declared.Used.{Used}
 use Rattle.table.proofs.Fields.{node-beyond, get-read, get-beyond}
 use Rattle.sound.specs.Chains.{var-at, next-at, ends-fine, chain-fine}
-use Rattle.sound_rows.proofs.Below.{when-true, when-false}
+use Rattle.sound_fields.proofs.Below.{when-true, when-false}
 use Rattle.sound.proofs.Fields.{tag-of}
 use Rattle.sound.proofs.Shapes.{as-var-tag, vars-count}
 use Rattle.sound.proofs.Rowwise.{value-at}

@@ -27,7 +27,7 @@ use Rattle.table.proofs.Tab.{length-tab, getD-tab}
 use Rattle.table.proofs.Rows.{length-entries, entry-at}
 use Rattle.table.specs.Encode.{counts as count-words, encode as encode-words}
 use Rattle.sound.specs.Lent.{used-of, bytes-at, struct-of, structs-of, decode, encode-params, Lent-sound}
-use Rattle.sound_rows.proofs.Below.{and-l, and-r, when-false}
+use Rattle.sound_fields.proofs.Below.{and-l, and-r, when-false}
 use Rattle.sound.proofs.Fields.{mod-back}
 use Rattle.sound.proofs.Encode.{Rows, holds}
 

@@ -12,8 +12,8 @@ use borrow.Author.Tests.{leb-true, eqb-true, lt-ltb, le-ltb, le-leb, eq-eqb, ne-
 use Rattle.definition.specs.Types.{if_then_else_}
 use Rattle.definition.specs.Trees.{is-set, is-mark}
 use Rattle.table.specs.Rows.{flag, read-mark, mark-word}
-use Rattle.sound_rows.specs.Tests.{four-zeros, mark-fine}
-use Rattle.sound_rows.proofs.Below.{and-l, and-r, both, when-true, when-false}
+use Rattle.sound_fields.specs.Fields.{four-zeros, mark-fine}
+use Rattle.sound_fields.proofs.Below.{and-l, and-r, both, when-true, when-false}
 
 -- ---- tags
 

@@ -25,7 +25,7 @@ use Rattle.table.specs.declared.Used.{Used}
 use Rattle.table.proofs.Tab.{length-tab, getD-tab, getD-tab-out}
 use Rattle.table.proofs.Rows.{entry-at, entry-out}
 use Rattle.sound.specs.Lent.{used-of, struct-of, structs-of, decode, Lent-sound}
-use Rattle.sound_rows.proofs.Below.{and-l, and-r}
+use Rattle.sound_fields.proofs.Below.{and-l, and-r}
 use Rattle.sound.proofs.Tested.{bytes-long, lent-holds, lent-sized}
 
 list-of : (t : ℕ) (l : List ℕ) → smaller-than t l ≡ true → all-of (λ q. ltb q t) l ≡ true

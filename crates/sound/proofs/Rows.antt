@@ -1,8 +1,8 @@
--- Rows in use and rows past them, whatever a table's rows mean; the words of each row. Assumes nothing.
--- For any table: rows in use are read and written alike, those past them are blank, and a blank tail is zeros. Then the words of each table's row.
+-- Rows in use and rows past them, whatever a table's rows mean. Assumes nothing.
+-- For any table: rows in use are read and written alike, those past them are blank, and a blank tail is zeros.
 use mathlib.Core.Path.{_≡_, sym, ap, _∙_}
 use mathlib.Core.Bool.{true}
-use mathlib.Core.List.{List, [], _∷_}
+use mathlib.Core.List.{List}
 use Prim.Native.Nat.{ℕ, _+_, _*_, _-_, _<_, _≤_, _/_, _%_}
 use native.Mathlib.Nat.{mul-le-mul-right, suc-mul, add-mul, div-add-mod', mod-lt}
 use native.Mathlib.Omega.{arith}
@@ -10,11 +10,11 @@ use native.Mathlib.Decide.{decLt}
 use lib.ListN.{getD}
 use borrow.Author.Tests.{eqb-true, eq-eqb}
 use Rattle.table.specs.Tab.{tab}
-use Rattle.table.specs.Rows.{Table, words-at, row, entries, node-table, var-table, constraint-table, struct-table}
+use Rattle.table.specs.Rows.{Table, words-at, row, entries}
 use Rattle.table.proofs.Tab.{getD-tab, tab-ext}
 use Rattle.table.proofs.Rows.{entry-at, entry-out, row-word}
-use Rattle.sound_rows.specs.Tests.{zero-at, zeros}
-use Rattle.sound_rows.proofs.Below.{all-at, all-from}
+use Rattle.sound_tables.specs.Tables.{zero-at, zeros}
+use Rattle.sound_fields.proofs.Below.{all-at, all-from}
 use Rattle.sound.proofs.Encode.{Rows}
 
 module _ {A : Type 0} (T : Table A) (w : List ℕ) (n : ℕ) where
@@ -68,22 +68,3 @@ module _ {A : Type 0} (T : Table A) (w : List ℕ) (n : ℕ) where
           by (no q) =
               let m = mul-le-mul-right {m = T .rows} {n = n + j / T .width} (T .width) (omega arith) in
               absurd (omega (arith, m, a, add-mul n (j / T .width) (T .width), div-add-mod' j (T .width)))
-
--- ---- the words of a row
-
-module _ (w : List ℕ) where
-  pub node-row : (t : ℕ) → row node-table w t ≡ getD w (5 + t * 6) 0 ∷ getD w (5 + t * 6 + 1) 0 ∷ getD w (5 + t * 6 + 2) 0 ∷ getD w (5 + t * 6 + 3) 0 ∷ getD w (5 + t * 6 + 4) 0 ∷ getD w (5 + t * 6 + 5) 0 ∷ []
-  unfolding row words-at tab
-  node-row t = let e : 5 + t * 6 + 0 ≡ 5 + t * 6 = omega arith in rw e
-
-  pub var-row : (v : ℕ) → row var-table w v ≡ getD w (16389 + v * 5) 0 ∷ getD w (16389 + v * 5 + 1) 0 ∷ getD w (16389 + v * 5 + 2) 0 ∷ getD w (16389 + v * 5 + 3) 0 ∷ getD w (16389 + v * 5 + 4) 0 ∷ []
-  unfolding row words-at tab
-  var-row v = let e : 16389 + v * 5 + 0 ≡ 16389 + v * 5 = omega arith in rw e
-
-  pub constraint-row : (i : ℕ) → row constraint-table w i ≡ getD w (21509 + i * 4) 0 ∷ getD w (21509 + i * 4 + 1) 0 ∷ getD w (21509 + i * 4 + 2) 0 ∷ getD w (21509 + i * 4 + 3) 0 ∷ []
-  unfolding row words-at tab
-  constraint-row i = let e : 21509 + i * 4 + 0 ≡ 21509 + i * 4 = omega arith in rw e
-
-  pub struct-row : (i : ℕ) → row struct-table w i ≡ getD w (23557 + i * 2) 0 ∷ getD w (23557 + i * 2 + 1) 0 ∷ []
-  unfolding row words-at tab
-  struct-row i = let e : 23557 + i * 2 + 0 ≡ 23557 + i * 2 = omega arith in rw e

@@ -19,8 +19,9 @@ use Rattle.table.specs.State.{view, seen}
 use Rattle.table.specs.declared.Used.{Used}
 use Rattle.table.proofs.Rows.{length-entries}
 use Rattle.table.proofs.Fields.{node-made}
-use Rattle.sound_rows.specs.Tests.{binding-fine, numeric-fine}
-use Rattle.sound_rows.proofs.Below.{and-l, and-r, both, when-false}
+use Rattle.sound_fields.specs.Fields.{numeric-fine}
+use Rattle.sound_rows.specs.Rows.{binding-fine}
+use Rattle.sound_fields.proofs.Below.{and-l, and-r, both, when-false}
 use Rattle.sound.proofs.Fields.{Tag, tag-of, t0, t1, t2, t3, t4, t5, t6, t7, t8, beyond, mod-back, set-mod, set-was}
 use Rattle.sound.proofs.Shapes.{anything-tag}
 

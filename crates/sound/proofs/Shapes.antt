@@ -22,8 +22,9 @@ use Rattle.table.specs.State.{view, seen}
 use Rattle.table.specs.declared.Used.{Used}
 use Rattle.table.proofs.Rows.{length-entries}
 use Rattle.table.proofs.Fields.{arg-read}
-use Rattle.sound_rows.specs.Tests.{all-below, four-zeros, ref-fine, param-fine, var-fine, mark-fine, name-fine, fits-fine, args-fine, part-fine, apply-fine, shape-fine}
-use Rattle.sound_rows.proofs.Below.{and-l, and-r, both, same-test, when-false, all-at, all-from, fails-l}
+use Rattle.sound_fields.specs.Fields.{all-below, four-zeros, ref-fine, param-fine, var-fine, mark-fine, name-fine, fits-fine}
+use Rattle.sound_rows.specs.Rows.{args-fine, part-fine, apply-fine, shape-fine}
+use Rattle.sound_fields.proofs.Below.{and-l, and-r, both, same-test, when-false, all-at, all-from, fails-l}
 use Rattle.sound.proofs.Fields.{Tag, t0, t1, t2, t3, t4, t5, t6, t7, t8, beyond, zeros-are, are-zeros, flag-back, flag-was, mod-back, set-mod, set-was, mark-good, mark-was}
 
 -- ---- a test of every element

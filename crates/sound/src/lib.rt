@@ -1,19 +1,18 @@
-// The test for a sound state, made once where a lent state enters: words and parameter bytes, whatever they hold. The tests of single rows stand in `sound_rows`.
+// The test for a sound state, made once where a lent state enters: words and parameter bytes, whatever they hold. The tests of fields, rows and tables stand in `sound_fields`, `sound_rows` and `sound_tables`.
 ghost use mathlib.Core.Path.{_≡_};
 ghost use Prim.Native.Nat.{_≤_};
 ghost use lib.ListN.{length, getD, set};
-ghost use Rattle.sound_rows.specs.Tests.{Sized, all-below};
+ghost use Rattle.sound_fields.specs.Fields.{all-below};
+ghost use Rattle.sound_rows.specs.Rows.{Sized};
 ghost use Rattle.sound.specs.Lent.{used-of, lent-sound};
 ghost use Rattle.sound.specs.Chains.{var-at, next-at, next, Links, Noted, Counted, chain-fine};
 use names::TVar;
-use sound_rows::counts_fine;
-use sound_rows::tables_fine;
-use table::NODE_WORDS;
-use table::NODES_AT;
+use sound_tables::counts_fine;
+use sound_tables::tables_fine;
 use table::Used;
-use table::VAR_WORDS;
-use table::VARS_AT;
 use table::WORDS;
+use table::cell_words_at;
+use table::node_words_at;
 
 // The variable that a binding leads to, if it leads to one.
 enum Next {
@@ -46,11 +45,13 @@ fn var_at(w: &[u32], u: Used, x: u32) -> Next
     if n <= x {
         return Next::Last;
     }
-    let at = NODES_AT + (x as usize) * NODE_WORDS;
-    if w[at] != 6 {
+    let r = node_words_at(w, x);
+    let tag = r.tag;
+    let a = r.a;
+    if tag != 6 {
         return Next::Last;
     }
-    Next::To(TVar((w[at + 2] % 65536) as u16))
+    Next::To(TVar((a % 65536) as u16))
 }
 
 // The variable that v is bound to.
@@ -59,14 +60,16 @@ fn next_at(w: &[u32], u: Used, v: TVar) -> Next
     ensures { λ r. ⌜ next r ≡ next-at (now (w .entry)) u (v .0) ⌝ }
 {
     let n = u.vars;
-    if n <= (v.0 as u32) {
+    let i = v.0 as u32;
+    if n <= i {
         return Next::Last;
     }
-    let at = VARS_AT + (v.0 as usize) * VAR_WORDS;
-    if w[at] != 1 {
+    let r = cell_words_at(w, i);
+    let bound = r.bound;
+    if bound != 1 {
         return Next::Last;
     }
-    var_at(w, u, w[at + 1])
+    var_at(w, u, r.binding)
 }
 
 // One more than the length of v's chain, if it is noted; else 0.

@@ -1,2 +1,2 @@
--- The tests of counts, tails and rows. Assumes nothing: these are definitions.
-pub mod Tests
+-- The tests of rows. Assumes nothing: these are definitions.
+pub mod Rows

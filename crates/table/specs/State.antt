@@ -3,7 +3,7 @@
 use mathlib.Core.Path.{_≡_}
 use mathlib.Core.List.{List, [], _∷_, _++_}
 use mathlib.Core.Option.{Option, none, some}
-use Prim.Native.Nat.{ℕ, _+_, _≤_, _<_}
+use Prim.Native.Nat.{ℕ, _+_, _*_, _≤_, _<_}
 use lib.Dec.{ltb}
 use lib.ListN.{length, getD, set, take}
 use Rattle.definition.specs.Types as d
@@ -16,6 +16,10 @@ use Rattle.table.specs.declared.Shape.{Shape}
 use Rattle.table.specs.declared.Shape.the-variants.{Unit as UnitS, Ref, Param, Apply, Var, Anything, UnresolvedError}
 use Rattle.table.specs.declared.Node.{Node}
 use Rattle.table.specs.declared.Used.{Used}
+use Rattle.table.specs.declared.NodeWords.{NodeWords}
+use Rattle.table.specs.declared.CellWords.{CellWords}
+use Rattle.table.specs.declared.ConstraintWords.{ConstraintWords}
+use Rattle.table.specs.declared.StructWords.{StructWords}
 use Rattle.table.specs.declared.Found.{Found}
 use Rattle.table.specs.declared.Found.the-variants.{Nothing, Just}
 use Rattle.table.specs.declared.Constraint.{Constraint}
@@ -106,6 +110,19 @@ done (Refused x) = Nothing
 -- the counts that the words have
 abbrev pub used-at : List ℕ → Used
 used-at w = record { nodes = getD w 0 0; args = getD w 1 0; vars = getD w 2 0; constraints = getD w 3 0; structs = getD w 4 0 }
+
+-- the words of a row
+abbrev pub node-words-at : List ℕ → ℕ → NodeWords
+node-words-at w t = record { tag = getD w (5 + t * 6) 0; loc = getD w (5 + t * 6 + 1) 0; a = getD w (5 + t * 6 + 2) 0; b = getD w (5 + t * 6 + 3) 0; c = getD w (5 + t * 6 + 4) 0; d = getD w (5 + t * 6 + 5) 0 }
+
+abbrev pub cell-words-at : List ℕ → ℕ → CellWords
+cell-words-at w v = record { bound = getD w (16389 + v * 5) 0; binding = getD w (16389 + v * 5 + 1) 0; numeric = getD w (16389 + v * 5 + 2) 0; loc = getD w (16389 + v * 5 + 3) 0; spare = getD w (16389 + v * 5 + 4) 0 }
+
+abbrev pub constraint-words-at : List ℕ → ℕ → ConstraintWords
+constraint-words-at w i = record { kind = getD w (21509 + i * 4) 0; loc = getD w (21509 + i * 4 + 1) 0; ty = getD w (21509 + i * 4 + 2) 0; abilities = getD w (21509 + i * 4 + 3) 0 }
+
+abbrev pub struct-words-at : List ℕ → ℕ → StructWords
+struct-words-at w i = record { abilities = getD w (23557 + i * 2) 0; params = getD w (23557 + i * 2 + 1) 0 }
 
 -- what the words hold. The structs' parameter bytes stand beside them: here they are zeros
 unfoldable pub view : List ℕ → Used → State

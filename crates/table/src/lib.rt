@@ -10,7 +10,7 @@ ghost use Rattle.definition.specs.Subst.{or-insert, mark-one};
 ghost use Rattle.names.specs.Names.{mark-of, name-of};
 ghost use Rattle.table.specs.Rows.{flag, read-shape, read-mark, read-name, read-option, mark-word, name-word, name-tag, option-flag, option-word, read-constraint, node-table, var-table, constraint-table, struct-table, places, Written};
 ghost use Rattle.table.specs.Encode.{encode};
-ghost use Rattle.table.specs.State.{used-at, found, shape-of, node-of, node-at, cell, value-of, constraint-of, done, view, seen, Lay, Changed, After, Stored, Wrote, with-cell, Declares, Declared, Flat, Found-in, Parts, Var-in, one-var, pushed-constraint};
+ghost use Rattle.table.specs.State.{used-at, found, shape-of, node-of, node-at, cell, value-of, constraint-of, done, view, seen, Lay, Changed, After, Stored, Wrote, with-cell, node-words-at, cell-words-at, constraint-words-at, struct-words-at, Declares, Declared, Flat, Found-in, Parts, Var-in, one-var, pushed-constraint};
 use names::AbilitySet;
 use names::MAX_ARGS;
 use names::MAX_CONSTRAINTS;
@@ -72,6 +72,39 @@ pub enum Constraint {
 // A struct row: declared abilities, and how many parameters.
 pub struct StructRow {
     pub abilities: AbilitySet,
+    pub params: u32,
+}
+
+// The words of a node's row: tag, location, four fields.
+pub struct NodeWords {
+    pub tag: u32,
+    pub loc: u32,
+    pub a: u32,
+    pub b: u32,
+    pub c: u32,
+    pub d: u32,
+}
+
+// .. of a variable's: whether bound, the node; whether numeric, the location; a spare word.
+pub struct CellWords {
+    pub bound: u32,
+    pub binding: u32,
+    pub numeric: u32,
+    pub loc: u32,
+    pub spare: u32,
+}
+
+// .. of a constraint's.
+pub struct ConstraintWords {
+    pub kind: u32,
+    pub loc: u32,
+    pub ty: u32,
+    pub abilities: u32,
+}
+
+// .. of a struct's.
+pub struct StructWords {
+    pub abilities: u32,
     pub params: u32,
 }
 
@@ -187,6 +220,59 @@ fn write_row(w: &mut [u32], at: usize, row: [u32; 8], n: usize)
     }
 }
 
+pub fn node_words_at(w: &[u32], t: u32) -> NodeWords
+    requires { ⌜ (length (now w) ≡ 24069) × (t < 2048) ⌝ }
+    ensures { λ r. ⌜ r ≡ node-words-at (now (w .entry)) t ⌝ }
+{
+    let at = NODES_AT + (t as usize) * NODE_WORDS;
+    NodeWords {
+        tag: w[at],
+        loc: w[at + 1],
+        a: w[at + 2],
+        b: w[at + 3],
+        c: w[at + 4],
+        d: w[at + 5],
+    }
+}
+
+pub fn cell_words_at(w: &[u32], v: u32) -> CellWords
+    requires { ⌜ (length (now w) ≡ 24069) × (v < 1024) ⌝ }
+    ensures { λ r. ⌜ r ≡ cell-words-at (now (w .entry)) v ⌝ }
+{
+    let at = VARS_AT + (v as usize) * VAR_WORDS;
+    CellWords {
+        bound: w[at],
+        binding: w[at + 1],
+        numeric: w[at + 2],
+        loc: w[at + 3],
+        spare: w[at + 4],
+    }
+}
+
+pub fn constraint_words_at(w: &[u32], i: u32) -> ConstraintWords
+    requires { ⌜ (length (now w) ≡ 24069) × (i < 512) ⌝ }
+    ensures { λ r. ⌜ r ≡ constraint-words-at (now (w .entry)) i ⌝ }
+{
+    let at = CONSTRAINTS_AT + (i as usize) * CONSTRAINT_WORDS;
+    ConstraintWords {
+        kind: w[at],
+        loc: w[at + 1],
+        ty: w[at + 2],
+        abilities: w[at + 3],
+    }
+}
+
+pub fn struct_words_at(w: &[u32], i: u32) -> StructWords
+    requires { ⌜ (length (now w) ≡ 24069) × (i < 256) ⌝ }
+    ensures { λ r. ⌜ r ≡ struct-words-at (now (w .entry)) i ⌝ }
+{
+    let at = STRUCTS_AT + (i as usize) * STRUCT_WORDS;
+    StructWords {
+        abilities: w[at],
+        params: w[at + 1],
+    }
+}
+
 fn flag_of(b: bool) -> u32
     ensures { λ r. ⌜ r ≡ flag b ⌝ }
 {
@@ -234,23 +320,24 @@ fn name_at(tag: u32, x: u32) -> TypeName
     TypeName::ModuleType(x)
 }
 
-fn shape_at(tag: u32, a: u32, b: u32, c: u32, d: u32) -> Shape
-    ensures { λ r. ⌜ shape-of r ≡ read-shape tag a b c d ⌝ }
+fn shape_at(r: NodeWords) -> Shape
+    ensures { λ s. ⌜ shape-of s ≡ read-shape (r .tag) (r .a) (r .b) (r .c) (r .d) ⌝ }
 {
+    let tag = r.tag;
     if tag == 0 {
         return Shape::Unit;
     }
     if tag == 1 {
-        return Shape::Ref(a == 1, b);
+        return Shape::Ref(r.a == 1, r.b);
     }
     if tag == 2 {
-        return Shape::Param(TParamID(a), set_at(b));
+        return Shape::Param(TParamID(r.a), set_at(r.b));
     }
     if tag < 6 {
-        return Shape::Apply(mark_at(a), name_at(tag, b), c, d);
+        return Shape::Apply(mark_at(r.a), name_at(tag, r.b), r.c, r.d);
     }
     if tag == 6 {
-        return Shape::Var(tvar_at(a));
+        return Shape::Var(tvar_at(r.a));
     }
     if tag == 7 {
         return Shape::Anything;
@@ -320,10 +407,10 @@ pub fn node_at(w: &[u32], u: Used, t: u32) -> Node
 {
     let n = u.nodes;
     if t < n {
-        let at = NODES_AT + wide(t) * NODE_WORDS;
-        let shape = shape_at(w[at], w[at + 2], w[at + 3], w[at + 4], w[at + 5]);
+        let r = node_words_at(w, t);
+        let shape = shape_at(r);
         Node {
-            loc: w[at + 1],
+            loc: r.loc,
             shape: shape,
         }
     } else {
@@ -427,8 +514,8 @@ pub fn bound_at(w: &[u32], u: Used, v: TVar) -> Found
     let n = u.vars;
     let i = number(v);
     if i < n {
-        let at = VARS_AT + wide(i) * VAR_WORDS;
-        option_at(w[at], w[at + 1])
+        let r = cell_words_at(w, i);
+        option_at(r.bound, r.binding)
     } else {
         Found::Nothing
     }
@@ -442,8 +529,8 @@ pub fn num_loc_at(w: &[u32], u: Used, v: TVar) -> Found
     let n = u.vars;
     let i = number(v);
     if i < n {
-        let at = VARS_AT + wide(i) * VAR_WORDS;
-        option_at(w[at + 2], w[at + 3])
+        let r = cell_words_at(w, i);
+        option_at(r.numeric, r.loc)
     } else {
         Found::Nothing
     }
@@ -587,25 +674,26 @@ fn constraint_row(c: Constraint) -> [u32; 8]
     }
 }
 
-fn constraint_of(kind: u32, loc: u32, ty: u32, a: u32) -> Constraint
-    ensures { λ r. ⌜ constraint-of r ≡ read-constraint (kind ∷ loc ∷ ty ∷ a ∷ []) ⌝ }
+fn constraint_of(r: ConstraintWords) -> Constraint
+    ensures { λ c. ⌜ constraint-of c ≡ read-constraint (r .kind ∷ r .loc ∷ r .ty ∷ r .abilities ∷ []) ⌝ }
 {
+    let kind = r.kind;
     if kind == 0 {
-        return Constraint::Ability(loc, ty, set_at(a));
+        return Constraint::Ability(r.loc, r.ty, set_at(r.abilities));
     }
     if kind == 1 {
-        return Constraint::Numeric(loc, ty);
+        return Constraint::Numeric(r.loc, r.ty);
     }
     if kind == 2 {
-        return Constraint::Bits(loc, ty);
+        return Constraint::Bits(r.loc, r.ty);
     }
     if kind == 3 {
-        return Constraint::Ordered(loc, ty);
+        return Constraint::Ordered(r.loc, r.ty);
     }
     if kind == 4 {
-        return Constraint::BaseType(loc, ty);
+        return Constraint::BaseType(r.loc, r.ty);
     }
-    Constraint::SingleType(loc, ty)
+    Constraint::SingleType(r.loc, r.ty)
 }
 
 // context.constraints.push; the answer is 0.
@@ -644,8 +732,8 @@ pub fn constraint_at(w: &[u32], u: Used, i: u32) -> Constraint
     requires { ⌜ Lay (now w) u × (i < u .constraints) ⌝ }
     ensures { λ r. ⌜ ((ds : List d.Struct) → constraint-of r ≡ getD (seen (now (w .entry)) u ds .constraints) i (constraint-table .blank)) ⌝ }
 {
-    let at = CONSTRAINTS_AT + wide(i) * CONSTRAINT_WORDS;
-    constraint_of(w[at], w[at + 1], w[at + 2], w[at + 3])
+    let r = constraint_words_at(w, i);
+    constraint_of(r)
 }
 
 // ---- structs
@@ -688,10 +776,10 @@ pub fn struct_at(w: &[u32], u: Used, n: u32) -> StructRow
 {
     let k = u.structs;
     if n < k {
-        let at = STRUCTS_AT + wide(n) * STRUCT_WORDS;
+        let r = struct_words_at(w, n);
         StructRow {
-            abilities: set_at(w[at]),
-            params: w[at + 1],
+            abilities: set_at(r.abilities),
+            params: r.params,
         }
     } else {
         StructRow {

@@ -5,7 +5,7 @@ use native.Mathlib.Omega.{arith}
 use borrow.Author.Tests.{not-true, not-false}
 use borrow.Author.Needs.{needs}
 use Rattle.sound.specs.Chains.{chain-fine, Noted}
-use Rattle.sound_rows.proofs.Below.{Passed, passed-none, passed-more, passed-all, one-fails}
+use Rattle.sound_fields.proofs.Below.{Passed, passed-none, passed-more, passed-all, one-fails}
 use Rattle.sound.proofs.Links.{noted-none}
 use Rattle.sound.proofs.chains_fine.Statement.{statement}
 use Rattle.sound.proofs.chains_fine.Tie as tie

@@ -4,9 +4,8 @@ use mathlib.Core.Path.{sym, _∙_}
 use native.Mathlib.Omega.{arith}
 use borrow.Author.Tests.{not-true, not-false, le-leb, lt-leb, eq-eqb, ne-eqb}
 use borrow.Author.Needs.{needs}
-use Rattle.sound_rows.specs.Tests.{apply-fine}
-use Rattle.sound_rows.proofs.Below.{name-small}
-use Rattle.sound_rows.proofs.Below.{passes, both, fails-l, fails-then}
+use Rattle.sound_rows.specs.Rows.{apply-fine}
+use Rattle.sound_fields.proofs.Below.{name-small, passes, both, fails-l, fails-then}
 use Rattle.sound_rows.proofs.apply_fine.Statement.{statement}
 use Rattle.sound_rows.proofs.apply_fine.Tie as tie
 
@@ -61,6 +60,12 @@ returns-4 c =
     (sym (c .before .before .before .fits-fine .ensures) ∙ not-false _
     (c .before .before .if3 .left)))
     (ne-eqb _ _ (λ e. (c .if4 .taken) (e ∙ sym (c .before .args-fine .ensures)))))))
+
+cast-first : tie.Need-cast-first
+cast-first c = search needs
+
+cast-many : tie.Need-cast-many
+cast-many c = search needs
 
 cast-used : tie.Need-cast-used
 cast-used c = search needs
@@ -122,6 +127,8 @@ apply-fine-spec =
     returns-3
     args-fine-requires
     returns-4
+    cast-first
+    cast-many
     cast-used
     add-if5
     returns-5

@@ -2,8 +2,8 @@
 use mathlib.Core.Path.{sym, _∙_}
 use borrow.Author.Tests.{eq-eqb, ne-eqb}
 use borrow.Author.Needs.{needs}
-use Rattle.sound_rows.specs.Tests.{args-fine}
-use Rattle.sound_rows.proofs.Below.{when-true, when-false}
+use Rattle.sound_rows.specs.Rows.{args-fine}
+use Rattle.sound_fields.proofs.Below.{when-true, when-false}
 use Rattle.sound_rows.proofs.args_fine.Statement.{statement}
 use Rattle.sound_rows.proofs.args_fine.Tie as tie
 
@@ -19,35 +19,13 @@ returns-3 : tie.Need-returns-3
 unfolding args-fine
 returns-3 c = sym (when-false _ _ _ (ne-eqb _ _ (c .before .if1 .left)) ∙ when-true _ _ _ (eq-eqb _ _ (c .if3 .taken)))
 
-mul-at : tie.Need-mul-at
-mul-at c = search needs
-
-add-at : tie.Need-add-at
-add-at c = search needs
-
-add-result : tie.Need-add-result
-add-result c = search needs
-
-mul-result : tie.Need-mul-result
-mul-result c = search needs
-
-shared-slice-read-result : tie.Need-shared-slice-read-result
-shared-slice-read-result c = search needs
+struct-words-at-requires : tie.Need-struct-words-at-requires
+struct-words-at-requires c κs = search needs
 
 returns-4 : tie.Need-returns-4
 unfolding args-fine
-returns-4 c = sym (when-false _ _ _ (ne-eqb _ _ (c .before .before .if1 .left)) ∙ when-false _ _ _ (ne-eqb _ _ (c .before .if3 .left)))
+returns-4 c = rw (c .struct-words-at .ensures) (sym (when-false _ _ _ (ne-eqb _ _ (c .before .before .if1 .left)) ∙ when-false _ _ _ (ne-eqb _ _ (c .before .if3 .left))))
 
 pub args-fine-spec : {M : Type 1} → statement M
 args-fine-spec =
-    tie.close
-    (tie.spec
-    returns
-    returns-2
-    returns-3
-    mul-at
-    add-at
-    add-result
-    mul-result
-    shared-slice-read-result
-    returns-4)
+    tie.close (tie.spec returns returns-2 returns-3 struct-words-at-requires returns-4)

@@ -4,8 +4,8 @@ use Prim.Native.Nat.{_-_}
 use native.Mathlib.Omega.{arith}
 use borrow.Author.Tests.{lt-ltb, le-ltb}
 use borrow.Author.Needs.{needs}
-use Rattle.sound_rows.specs.Tests.{part-fine}
-use Rattle.sound_rows.proofs.Below.{Passed, passed-none, passed-more, passed-all, one-fails}
+use Rattle.sound_rows.specs.Rows.{part-fine}
+use Rattle.sound_fields.proofs.Below.{Passed, passed-none, passed-more, passed-all, one-fails}
 use Rattle.sound_rows.proofs.parts_fine.Statement.{statement}
 use Rattle.sound_rows.proofs.parts_fine.Tie as tie
 

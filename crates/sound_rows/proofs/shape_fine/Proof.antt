@@ -3,8 +3,8 @@
 use mathlib.Core.Path.{sym, _∙_}
 use borrow.Author.Tests.{lt-ltb, le-ltb, le-leb, lt-leb, eq-eqb, ne-eqb}
 use borrow.Author.Needs.{needs}
-use Rattle.sound_rows.specs.Tests.{shape-fine}
-use Rattle.sound_rows.proofs.Below.{passes, fails-l, when-true, when-false}
+use Rattle.sound_rows.specs.Rows.{shape-fine}
+use Rattle.sound_fields.proofs.Below.{passes, fails-l, when-true, when-false}
 use Rattle.sound_rows.proofs.shape_fine.Statement.{statement}
 use Rattle.sound_rows.proofs.shape_fine.Tie as tie
 

@@ -1,0 +1,2 @@
+-- The tests of fields. Assumes nothing: these are definitions.
+pub mod Fields

@@ -1,0 +1,2 @@
+-- The tests of tables. Assumes nothing: these are definitions.
+pub mod Tables
