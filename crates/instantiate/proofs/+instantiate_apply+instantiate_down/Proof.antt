@@ -123,15 +123,6 @@ instantiate-apply-Inv-loop w₀ params left loc ty b parts₀ v₀ i₀ w parts 
 abbrev instantiate-apply-μ-loop : instantiate-apply-lts.MeasureT-loop
 instantiate-apply-μ-loop w₀ params left loc ty b parts₀ v₀ i₀ w parts v i = ty .many - i
 
-instantiate-apply-make-tparams-requires : (t : ℕ) → instantiate-apply-lts.Need-make-tparams-requires (instantiate-apply-calls t) (instantiate-apply-at t) instantiate-apply.Post instantiate-apply-Inv-loop instantiate-apply-μ-loop
-instantiate-apply-make-tparams-requires t c κs = (c .before .before .pre .1 .0, c .before .before .pre .1 .1 .placed)
-
-instantiate-apply-same-length : (t : ℕ) → instantiate-apply-lts.Need-same-length (instantiate-apply-calls t) (instantiate-apply-at t) instantiate-apply.Post instantiate-apply-Inv-loop instantiate-apply-μ-loop
-instantiate-apply-same-length t c =
-    let make-tparams = c .before .before .before .before .before .before .before .make-tparams in
-    let pre = c .before .before .before .before .before .before .before .before .before .before .pre in
-    make-tparams .ensures .changed .lay .size ∙ sym (pre .1 .0 .size)
-
 instantiate-apply-returns : (t : ℕ) → instantiate-apply-lts.Need-returns (instantiate-apply-calls t) (instantiate-apply-at t) instantiate-apply.Post instantiate-apply-Inv-loop instantiate-apply-μ-loop
 instantiate-apply-returns t c =
     let pre = c .before .before .before .before .before .before .before .before .before .before .pre in
@@ -144,9 +135,6 @@ instantiate-apply-loop-holds t c =
     let make-tparams = c .before .before .before .before .before .before .make-tparams in
     let pre = c .before .before .before .before .before .before .before .before .before .pre in
     through-start (make-tparams .ensures .changed .lay) (named-on _ _ (pre .1 .1) (make-tparams .ensures .changed .grown)) refl
-
-instantiate-apply-arg-at-requires : (t : ℕ) → instantiate-apply-lts.Need-arg-at-requires (instantiate-apply-calls t) (instantiate-apply-at t) instantiate-apply.Post instantiate-apply-Inv-loop instantiate-apply-μ-loop
-instantiate-apply-arg-at-requires t c κs = c .before .before .before .loop .inv .walked .changed .lay
 
 instantiate-apply-instantiate-down-requires : (t : ℕ) → instantiate-apply-lts.Need-instantiate-down-requires (instantiate-apply-calls t) (instantiate-apply-at t) instantiate-apply.Post instantiate-apply-Inv-loop instantiate-apply-μ-loop
 instantiate-apply-instantiate-down-requires t c κs =
@@ -174,29 +162,6 @@ instantiate-apply-returns-2 t c =
     _ _ _ (enum-told .given .1)
     (through-stop (loop .inv) (if1 .taken) (arg-at .ensures)
     (after-among (known-kept _ _ _ _ _ (loop .inv .walked .changed .structs)) (instantiate-down .ensures)) (c .before .before .done-of2 .ensures) (c .enum-told3 .given .1))
-
-instantiate-apply-mul-parts : (t : ℕ) → instantiate-apply-lts.Need-mul-parts (instantiate-apply-calls t) (instantiate-apply-at t) instantiate-apply.Post instantiate-apply-Inv-loop instantiate-apply-μ-loop
-instantiate-apply-mul-parts t c =
-    let loop = c .before .before .before .before .before .before .before .before .before .before .before .before .before .loop in
-    let if1 = c .before .before .before .before .before .before .before .before .before .before .before .if1 in
-    omega (arith, c .wide .ensures, loop .inv .walked .few, if1 .taken)
-
-instantiate-apply-array-write-parts : (t : ℕ) → instantiate-apply-lts.Need-array-write-parts (instantiate-apply-calls t) (instantiate-apply-at t) instantiate-apply.Post instantiate-apply-Inv-loop instantiate-apply-μ-loop
-instantiate-apply-array-write-parts t c =
-    let loop = c .before .before .before .before .before .before .before .before .before .before .before .before .before .loop in
-    let if1 = c .before .before .before .before .before .before .before .before .before .before .before .if1 in
-    omega (arith, c .wide .ensures, loop .inv .walked .few, if1 .taken)
-
-instantiate-apply-add-i : (t : ℕ) → instantiate-apply-lts.Need-add-i (instantiate-apply-calls t) (instantiate-apply-at t) instantiate-apply.Post instantiate-apply-Inv-loop instantiate-apply-μ-loop
-instantiate-apply-add-i t c =
-    let loop = c .before .before .before .before .before .before .before .before .before .before .before .before .before .before .loop in
-    let if1 = c .before .before .before .before .before .before .before .before .before .before .before .before .if1 in
-    omega (arith, loop .inv .walked .few, if1 .taken)
-
-instantiate-apply-loop-less : (t : ℕ) → instantiate-apply-lts.Need-loop-less (instantiate-apply-calls t) (instantiate-apply-at t) instantiate-apply.Post instantiate-apply-Inv-loop instantiate-apply-μ-loop
-instantiate-apply-loop-less t c =
-    let if1 = c .before .before .before .before .before .before .before .before .before .before .before .before .if1 in
-    omega (arith, if1 .taken)
 
 instantiate-apply-loop-again : (t : ℕ) → instantiate-apply-lts.Need-loop-again (instantiate-apply-calls t) (instantiate-apply-at t) instantiate-apply.Post instantiate-apply-Inv-loop instantiate-apply-μ-loop
 instantiate-apply-loop-again t c =
@@ -237,12 +202,6 @@ instantiate-apply-returns-3 t c =
 instantiate-down-returns : (t : ℕ) → instantiate-down-lts.Need-returns (instantiate-down-calls t) (instantiate-down-at t) instantiate-down.Post
 instantiate-down-returns t c = level-none levels _ _ _ _ (c .before .before .before .pre .1 .0) (c .before .if1 .taken) (c .stay .ensures)
 
-instantiate-down-same-length : (t : ℕ) → instantiate-down-lts.Need-same-length (instantiate-down-calls t) (instantiate-down-at t) instantiate-down.Post
-instantiate-down-same-length t c =
-    let push-constraint = c .before .before .before .before .before .before .push-constraint in
-    let pre = c .before .before .before .before .before .before .before .before .before .before .before .before .before .before .before .pre in
-    push-constraint .ensures .lay .size ∙ sym (pre .1 .0 .size)
-
 instantiate-down-returns-2 : (t : ℕ) → instantiate-down-lts.Need-returns-2 (instantiate-down-calls t) (instantiate-down-at t) instantiate-down.Post
 unfolding with-args
 instantiate-down-returns-2 t c =
@@ -253,11 +212,6 @@ instantiate-down-returns-2 t c =
     let push-constraint = c .before .before .before .before .before .before .push-constraint in
     level-by levels _ _ _ _ (pre .1 .0) (node-at .result) (if1 .left) (node-at .ensures) (shape .given .1) (λ ds. ref-is _ _ _ _ _ _)
     (after-any (constraint-stop _ _ _ _ _ _ _ (push-constraint .ensures) (c .before .before .done-of .ensures) (c .enum-told4 .given .1)))
-
-instantiate-down-sub-instantiate-down : (t : ℕ) → instantiate-down-lts.Need-sub-instantiate-down (instantiate-down-calls t) (instantiate-down-at t) instantiate-down.Post
-instantiate-down-sub-instantiate-down t c =
-    let if1 = c .before .before .before .before .before .before .before .before .before .before .before .before .before .before .if1 in
-    omega (arith, if1 .left)
 
 instantiate-down-instantiate-down-requires : (t : ℕ) → instantiate-down-lts.Need-instantiate-down-requires (instantiate-down-calls t) (instantiate-down-at t) instantiate-down.Post
 instantiate-down-instantiate-down-requires t c κs =
@@ -278,12 +232,6 @@ instantiate-down-instantiate-down-requires t c κs =
       ),
     )
 
-instantiate-down-same-length-2 : (t : ℕ) → instantiate-down-lts.Need-same-length-2 (instantiate-down-calls t) (instantiate-down-at t) instantiate-down.Post
-instantiate-down-same-length-2 t c =
-    let instantiate-down = c .before .before .before .before .before .before .instantiate-down in
-    let pre = c .before .before .before .before .before .before .before .before .before .before .before .before .before .before .before .before .before .before .before .before .before .before .before .pre in
-    instantiate-down .ensures .changed .lay .size ∙ sym (pre .1 .0 .size)
-
 instantiate-down-returns-3 : (t : ℕ) → instantiate-down-lts.Need-returns-3 (instantiate-down-calls t) (instantiate-down-at t) instantiate-down.Post
 unfolding with-args
 instantiate-down-returns-3 t c =
@@ -303,11 +251,6 @@ instantiate-down-push-node-requires : (t : ℕ) → instantiate-down-lts.Need-pu
 instantiate-down-push-node-requires t c κs =
     let instantiate-down = c .before .before .before .before .before .before .before .before .instantiate-down in
     (instantiate-down .ensures .changed .lay, after-done (instantiate-down .ensures) (c .before .before .before .before .done-of2 .ensures) (c .before .before .p .given .1))
-
-instantiate-down-sub-instantiate-apply : (t : ℕ) → instantiate-down-lts.Need-sub-instantiate-apply (instantiate-down-calls t) (instantiate-down-at t) instantiate-down.Post
-instantiate-down-sub-instantiate-apply t c =
-    let if1 = c .before .before .before .before .before .before .if1 in
-    omega (arith, if1 .left)
 
 instantiate-down-instantiate-apply-requires : (t : ℕ) → instantiate-down-lts.Need-instantiate-apply-requires (instantiate-down-calls t) (instantiate-down-at t) instantiate-down.Post
 instantiate-down-instantiate-apply-requires t c κs =
@@ -331,11 +274,6 @@ instantiate-down-returns-5 t c =
     let if1 = c .before .before .before .before .before .if1 in
     level-stays levels _ _ _ _ (pre .1 .0) (c .before .before .before .node-at .result) (if1 .left) (c .before .before .before .node-at .ensures) _ (c .before .enum-told .given .1) (c .stay3 .ensures) tt
     (λ s. refl)
-
-instantiate-down-same-length-5 : (t : ℕ) → instantiate-down-lts.Need-same-length-5 (instantiate-down-calls t) (instantiate-down-at t) instantiate-down.Post
-instantiate-down-same-length-5 t c =
-    let pre = c .before .before .before .before .before .before .before .before .before .before .pre in
-    c .before .before .make-tvar .ensures .changed .lay .size ∙ sym (pre .1 .0 .size)
 
 instantiate-down-returns-6 : (t : ℕ) → instantiate-down-lts.Need-returns-6 (instantiate-down-calls t) (instantiate-down-at t) instantiate-down.Post
 unfolding instantiate-value with-args
@@ -367,11 +305,6 @@ instantiate-down-returns-7 t c =
     (constraint-on _ _ (push-constraint .ensures) (done-of .ensures) (enum-told3 .given .1)
     (ref-then _ _ (instantiate-down .ensures) (done-of2 .ensures) (p .given .1) (c .before .before .push-node .ensures)))
 
-instantiate-down-same-length-7 : (t : ℕ) → instantiate-down-lts.Need-same-length-7 (instantiate-down-calls t) (instantiate-down-at t) instantiate-down.Post
-instantiate-down-same-length-7 t c =
-    let pre = c .before .before .before .before .before .before .before .before .before .before .before .pre in
-    c .before .before .instantiate-apply .ensures .changed .lay .size ∙ sym (pre .1 .0 .size)
-
 instantiate-down-returns-8 : (t : ℕ) → instantiate-down-lts.Need-returns-8 (instantiate-down-calls t) (instantiate-down-at t) instantiate-down.Post
 unfolding instantiate-value with-args seen with-structs args-at
 instantiate-down-returns-8 t c =
@@ -386,15 +319,15 @@ pub +instantiate-apply+instantiate-down-spec : {M : Type 1} → statement M
     close μ-instantiate-apply μ-instantiate-down (λ t. instantiate-apply-lts.spec (instantiate-apply-calls t) (instantiate-apply-at t) instantiate-apply.Post
     instantiate-apply-Inv-loop
     instantiate-apply-μ-loop
-    (instantiate-apply-make-tparams-requires t)
+    (λ c κs. search needs)
     (λ c κs. search needs)
     (λ c. search needs)
     (λ c. search needs)
     (λ c κs. search needs)
-    (instantiate-apply-same-length t)
+    (λ c. search needs)
     (instantiate-apply-returns t)
     (instantiate-apply-loop-holds t)
-    (instantiate-apply-arg-at-requires t)
+    (λ c κs. search needs)
     (instantiate-apply-instantiate-down-requires t)
     (λ c κs. search needs)
     (λ c. search needs)
@@ -402,10 +335,10 @@ pub +instantiate-apply+instantiate-down-spec : {M : Type 1} → statement M
     (instantiate-apply-same-length-2 t)
     (instantiate-apply-returns-2 t)
     (λ c κs. search needs)
-    (instantiate-apply-mul-parts t)
-    (instantiate-apply-array-write-parts t)
-    (instantiate-apply-add-i t)
-    (instantiate-apply-loop-less t)
+    (λ c. search needs)
+    (λ c. search needs)
+    (λ c. search needs)
+    (λ c. search needs)
     (instantiate-apply-loop-again t)
     (instantiate-apply-join-args-requires t)
     (instantiate-apply-same-length-3 t)
@@ -424,26 +357,26 @@ pub +instantiate-apply+instantiate-down-spec : {M : Type 1} → statement M
     (λ c κs. search needs)
     (λ c. search needs)
     (λ c. search needs)
-    (instantiate-down-same-length t)
+    (λ c. search needs)
     (instantiate-down-returns-2 t)
-    (instantiate-down-sub-instantiate-down t)
+    (λ c. search needs)
     (instantiate-down-instantiate-down-requires t)
     (λ c κs. search needs)
     (λ c. search needs)
     (λ c. search needs)
-    (instantiate-down-same-length-2 t)
+    (λ c. search needs)
     (instantiate-down-returns-3 t)
     (instantiate-down-push-node-requires t)
     (λ c. search needs)
-    (instantiate-down-sub-instantiate-apply t)
+    (λ c. search needs)
     (instantiate-down-instantiate-apply-requires t)
     (λ c. search needs)
     (instantiate-down-returns-4 t)
     (λ c. search needs)
     (instantiate-down-returns-5 t)
-    (instantiate-down-same-length-5 t)
+    (λ c. search needs)
     (instantiate-down-returns-6 t)
     (instantiate-down-same-length-6 t)
     (instantiate-down-returns-7 t)
-    (instantiate-down-same-length-7 t)
+    (λ c. search needs)
     (instantiate-down-returns-8 t)

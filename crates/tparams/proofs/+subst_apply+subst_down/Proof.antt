@@ -1,5 +1,5 @@
 -- `tparams::subst_apply` and `tparams::subst_down` meet their contracts. Assumes nothing.
-use mathlib.Core.Path.{refl, sym, _∙_}
+use mathlib.Core.Path.{refl}
 use native.Mathlib.Omega.{arith}
 use borrow.Author.Needs.{needs}
 use Rattle.definition.specs.TParams as D
@@ -102,9 +102,6 @@ subst-apply-subst-down-requires t c κs =
       ),
     )
 
-subst-apply-same-length : (t : ℕ) → subst-apply-lts.Need-same-length (subst-apply-calls t) (subst-apply-at t) subst-apply.Post subst-apply-Inv-loop subst-apply-μ-loop
-subst-apply-same-length t c = c .before .before .before .before .before .subst-down .ensures .changed .lay .size ∙ sym (c .before .before .before .before .before .before .before .before .before .before .before .before .before .pre .1 .0 .size)
-
 subst-apply-returns : (t : ℕ) → subst-apply-lts.Need-returns (subst-apply-calls t) (subst-apply-at t) subst-apply.Post subst-apply-Inv-loop subst-apply-μ-loop
 unfolding subst-value rest sp-apply
 subst-apply-returns t c =
@@ -113,24 +110,6 @@ subst-apply-returns t c =
     let arg-at = c .before .before .before .before .before .before .before .arg-at in
     let subst-down = c .before .before .before .before .before .subst-down in
     through-stop (loop .inv) (if1 .taken) (arg-at .ensures) (subst-down .ensures) (c .before .before .done-of .ensures) (c .enum-told .given .1)
-
-subst-apply-mul-parts : (t : ℕ) → subst-apply-lts.Need-mul-parts (subst-apply-calls t) (subst-apply-at t) subst-apply.Post subst-apply-Inv-loop subst-apply-μ-loop
-subst-apply-mul-parts t c =
-    let loop = c .before .before .before .before .before .before .before .before .before .before .before .before .before .loop in
-    let if1 = c .before .before .before .before .before .before .before .before .before .before .before .if1 in
-    omega (arith, c .wide .ensures, loop .inv .walked .few, if1 .taken)
-
-subst-apply-array-write-parts : (t : ℕ) → subst-apply-lts.Need-array-write-parts (subst-apply-calls t) (subst-apply-at t) subst-apply.Post subst-apply-Inv-loop subst-apply-μ-loop
-subst-apply-array-write-parts t c =
-    let loop = c .before .before .before .before .before .before .before .before .before .before .before .before .before .loop in
-    let if1 = c .before .before .before .before .before .before .before .before .before .before .before .if1 in
-    omega (arith, c .wide .ensures, loop .inv .walked .few, if1 .taken)
-
-subst-apply-add-i : (t : ℕ) → subst-apply-lts.Need-add-i (subst-apply-calls t) (subst-apply-at t) subst-apply.Post subst-apply-Inv-loop subst-apply-μ-loop
-subst-apply-add-i t c =
-    let loop = c .before .before .before .before .before .before .before .before .before .before .before .before .before .before .loop in
-    let if1 = c .before .before .before .before .before .before .before .before .before .before .before .before .if1 in
-    omega (arith, loop .inv .walked .few, if1 .taken)
 
 subst-apply-loop-again : (t : ℕ) → subst-apply-lts.Need-loop-again (subst-apply-calls t) (subst-apply-at t) subst-apply.Post subst-apply-Inv-loop subst-apply-μ-loop
 subst-apply-loop-again t c =
@@ -143,9 +122,6 @@ subst-apply-loop-again t c =
 
 subst-apply-push-apply-requires : (t : ℕ) → subst-apply-lts.Need-push-apply-requires (subst-apply-calls t) (subst-apply-at t) subst-apply.Post subst-apply-Inv-loop subst-apply-μ-loop
 subst-apply-push-apply-requires t c κs = (c .before .before .before .loop .inv .walked .changed .lay, through-parts (c .before .before .before .loop .inv) (c .before .if1 .left))
-
-subst-apply-same-length-2 : (t : ℕ) → subst-apply-lts.Need-same-length-2 (subst-apply-calls t) (subst-apply-at t) subst-apply.Post subst-apply-Inv-loop subst-apply-μ-loop
-subst-apply-same-length-2 t c = c .before .before .push-apply .ensures .changed .lay .size ∙ sym (c .before .before .before .before .before .before .before .before .pre .1 .0 .size)
 
 subst-apply-returns-2 : (t : ℕ) → subst-apply-lts.Need-returns-2 (subst-apply-calls t) (subst-apply-at t) subst-apply.Post subst-apply-Inv-loop subst-apply-μ-loop
 unfolding subst-value rest sp-apply
@@ -169,12 +145,6 @@ subst-down-subst-down-requires t c κs =
         ),
       ),
     )
-
-subst-down-same-length : (t : ℕ) → subst-down-lts.Need-same-length (subst-down-calls t) (subst-down-at t) subst-down.Post
-subst-down-same-length t c =
-    let subst-down = c .before .before .before .before .before .before .subst-down in
-    let pre = c .before .before .before .before .before .before .before .before .before .before .before .before .before .before .before .pre in
-    subst-down .ensures .changed .lay .size ∙ sym (pre .1 .0 .size)
 
 subst-down-returns-2 : (t : ℕ) → subst-down-lts.Need-returns-2 (subst-down-calls t) (subst-down-at t) subst-down.Post
 unfolding subst-value with-args
@@ -230,11 +200,6 @@ subst-down-returns-5 t c =
     level-stays (levels _) _ _ _ _ (pre .1 .0) (node-at .result) (if1 .left) (node-at .ensures) _ (c .before .before .before .shape .given .1)
     (rw (c .before .arg-or-none .ensures) at (c .stay4 .ensures)) (args-in _ _ _ _ _ (pre .1 .1 .1)) (λ s. answered s (D.arg-of _ _))
 
-subst-down-same-length-5 : (t : ℕ) → subst-down-lts.Need-same-length-5 (subst-down-calls t) (subst-down-at t) subst-down.Post
-subst-down-same-length-5 t c =
-    let pre = c .before .before .before .before .before .before .before .before .before .before .before .before .before .before .before .before .before .before .before .before .pre in
-    c .before .before .push-node .ensures .changed .lay .size ∙ sym (pre .1 .0 .size)
-
 subst-down-returns-6 : (t : ℕ) → subst-down-lts.Need-returns-6 (subst-down-calls t) (subst-down-at t) subst-down.Post
 unfolding subst-value with-args
 subst-down-returns-6 t c =
@@ -247,11 +212,6 @@ subst-down-returns-6 t c =
     let p = c .before .before .before .before .before .p in
     level-by (levels _) _ _ _ _ (pre .1 .0) (node-at .result) (if1 .left) (node-at .ensures) (shape2 .given .1) (λ ds. refl)
     (ref-then _ _ (subst-down .ensures) (done-of .ensures) (p .given .1) (c .before .before .push-node .ensures))
-
-subst-down-same-length-6 : (t : ℕ) → subst-down-lts.Need-same-length-6 (subst-down-calls t) (subst-down-at t) subst-down.Post
-subst-down-same-length-6 t c =
-    let pre = c .before .before .before .before .before .before .before .before .before .before .before .pre in
-    c .before .before .subst-apply .ensures .changed .lay .size ∙ sym (pre .1 .0 .size)
 
 subst-down-returns-7 : (t : ℕ) → subst-down-lts.Need-returns-7 (subst-down-calls t) (subst-down-at t) subst-down.Post
 unfolding subst-value with-args seen with-structs args-at
@@ -272,16 +232,16 @@ pub +subst-apply+subst-down-spec : {M : Type 1} → statement M
     (λ c κs. search needs)
     (λ c. search needs)
     (λ c. search needs)
-    (subst-apply-same-length t)
+    (λ c. search needs)
     (subst-apply-returns t)
     (λ c κs. search needs)
-    (subst-apply-mul-parts t)
-    (subst-apply-array-write-parts t)
-    (subst-apply-add-i t)
+    (λ c. search needs)
+    (λ c. search needs)
+    (λ c. search needs)
     (λ c. search needs)
     (subst-apply-loop-again t)
     (subst-apply-push-apply-requires t)
-    (subst-apply-same-length-2 t)
+    (λ c. search needs)
     (subst-apply-returns-2 t))
     λ t. subst-down-lts.spec (subst-down-calls t) (subst-down-at t) subst-down.Post
     (λ c κs. search needs)
@@ -299,7 +259,7 @@ pub +subst-apply+subst-down-spec : {M : Type 1} → statement M
     (λ c κs. search needs)
     (λ c. search needs)
     (λ c. search needs)
-    (subst-down-same-length t)
+    (λ c. search needs)
     (subst-down-returns-2 t)
     (subst-down-push-node-requires t)
     (λ c. search needs)
@@ -311,7 +271,7 @@ pub +subst-apply+subst-down-spec : {M : Type 1} → statement M
     (subst-down-returns-4 t)
     (λ c. search needs)
     (subst-down-returns-5 t)
-    (subst-down-same-length-5 t)
+    (λ c. search needs)
     (subst-down-returns-6 t)
-    (subst-down-same-length-6 t)
+    (λ c. search needs)
     (subst-down-returns-7 t)
