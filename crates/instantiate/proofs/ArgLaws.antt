@@ -1,8 +1,8 @@
 -- make_tparams and the joins as walks over places, and the declarations that words and bytes hold. Assumes nothing.
 use mathlib.Core.Path.{_≡_, refl, sym, ap, _∙_}
 use mathlib.Core.Bool.{Bool, true, false}
-use mathlib.Core.List.{List, [], _∷_, map}
-use Prim.Native.Nat.{ℕ, zero, suc, _+_, _-_, _≤_, _<_, _%_, min}
+use mathlib.Core.List.{List, [], _∷_}
+use Prim.Native.Nat.{ℕ, zero, suc, _-_, _≤_, _<_, _%_, min}
 use native.Mathlib.Omega.{arith}
 use native.Mathlib.Decide.{decLt}
 use lib.ListN.{length, getD, take, length-take, length-map, length-replicate, getD-replicate, List·getD-map, List·getD-eq-default}
@@ -10,19 +10,18 @@ use lib.Seq.{getD-take}
 use lib.Dec.{eqb}
 use borrow.Author.Tests.{eq-eqb, ne-eqb}
 use Rattle.definition.specs.Types as d
-use Rattle.definition.specs.Types.{State, Struct, Result, ok, err, refused, AbilityConstraint, Multiple, Builtin, ModuleType, _>>=_, if_then_else_}
-use Rattle.definition.specs.Store.{loc-of, sp, map-types, add-constraint, with-structs}
+use Rattle.definition.specs.Types.{State, Struct, Result, ok, AbilityConstraint, Multiple, Builtin, ModuleType, _>>=_, if_then_else_}
+use Rattle.definition.specs.Store.{loc-of, sp, add-constraint, with-structs}
 use Rattle.definition.specs.Join.{join}
 use Rattle.definition.specs.Instantiate.{make-tvar, tvar-constraint, builtin-tparams, struct-tparams, tparam-constraints, make-tparams, join-args}
 use Rattle.table.specs.Rows.{struct-table}
-use Rattle.table.specs.State.{view, seen, Declares}
+use Rattle.table.specs.State.{seen}
 use Rattle.table.specs.declared.Used.{Used}
-use Rattle.table.proofs.Rows.{length-entries}
-use Rattle.table.proofs.Steps.{bind-ok}
+use Rattle.table.proofs.Steps.{bind-ok, bind-assoc}
 use Rattle.table.proofs.Walk.{range, rest, just-list, zip-types, zip-is, sp-apply}
 use Rattle.table.specs.Known.{Known}
 use Rattle.instantiate.specs.Known.{Numbered, ability-at}
-use Rattle.instantiate.specs.Args.{make-tparam, made, joined}
+use Rattle.instantiate.specs.Args.{make-tparam, joined}
 
 -- ---- as walks over places
 
@@ -40,23 +39,15 @@ cons t p = ok (p .0, t ∷ p .1)
 tparam-then : {A : Type 0} (s : State) (loc : ℕ) (n : d.TypeName) (ty c : ℕ) (g : State × ℕ → Result A)
     → (make-tparam s loc n ty c >>= g) ≡ (make-tvar s (loc-of s ty) >>= (λ p. add-constraint (p .0) (AbilityConstraint loc (p .1) c) >>= (λ s. add-constraint s (tvar-constraint n loc (p .1)) >>= (λ s. g (s, p .1)))))
 unfolding make-tparam _>>=_
-tparam-then s loc n ty c g = by (make-tvar s (loc-of s ty))
+tparam-then s loc n ty c g =
+    bind-assoc (make-tvar s (loc-of s ty)) _ g
+    ∙ ap (λ (h : State × ℕ → Result _). make-tvar s (loc-of s ty) >>= h) (λ i p. listed (p .0) (p .1) i)
   where
-    third : (t : ℕ) (m : Result State) → (m >>= (λ s. ok (s, t)) >>= g) ≡ (m >>= (λ s. g (s, t)))
-    third t (ok s) = refl
-    third t (err s e) = refl
-    third t (refused x) = refl
-
-    second : (t : ℕ) (m : Result State) → (m >>= (λ s. add-constraint s (tvar-constraint n loc t) >>= (λ s. ok (s, t))) >>= g) ≡ (m >>= (λ s. add-constraint s (tvar-constraint n loc t) >>= (λ s. g (s, t))))
-    second t (ok s) = third t (add-constraint s (tvar-constraint n loc t))
-    second t (err s e) = refl
-    second t (refused x) = refl
-
-    by : (m : Result (State × ℕ)) → (m >>= (λ p. add-constraint (p .0) (AbilityConstraint loc (p .1) c) >>= (λ s. add-constraint s (tvar-constraint n loc (p .1)) >>= (λ s. ok (s, p .1)))) >>= g)
-        ≡ (m >>= (λ p. add-constraint (p .0) (AbilityConstraint loc (p .1) c) >>= (λ s. add-constraint s (tvar-constraint n loc (p .1)) >>= (λ s. g (s, p .1)))))
-    by (ok (s, t)) = second t (add-constraint s (AbilityConstraint loc t c))
-    by (err s e) = refl
-    by (refused x) = refl
+    listed : (s : State) (t : ℕ) → (add-constraint s (AbilityConstraint loc t c) >>= (λ s. add-constraint s (tvar-constraint n loc t) >>= (λ s. ok (s, t))) >>= g)
+        ≡ (add-constraint s (AbilityConstraint loc t c) >>= (λ s. add-constraint s (tvar-constraint n loc t) >>= (λ s. g (s, t))))
+    listed s t =
+        bind-assoc (add-constraint s (AbilityConstraint loc t c)) _ g
+        ∙ ap (λ (h : State → Result _). add-constraint s (AbilityConstraint loc t c) >>= h) (λ i s. bind-assoc (add-constraint s (tvar-constraint n loc t)) (λ s. ok (s, t)) g i)
 
 -- both lists are gone through together
 tparams-zip : (loc : ℕ) (n : d.TypeName) (l m : List ℕ) (s : State) → zip-types (λ s ty c. make-tparam s loc n ty c) s l m ≡ make-tparams s loc n l m

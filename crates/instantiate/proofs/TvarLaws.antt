@@ -1,38 +1,27 @@
 -- A fresh variable as a node, alone and with its two constraints, as the code makes them. Assumes nothing.
 use mathlib.Core.Path.{_≡_, refl, sym, ap, _∙_}
-use mathlib.Core.Bool.{Bool, true, false}
-use mathlib.Core.List.{List, [], _∷_, _++_}
-use Prim.Native.Nat.{ℕ, _≤_, _<_}
+use mathlib.Core.List.{List}
+use Prim.Native.Nat.{ℕ, _<_}
 use native.Mathlib.Omega.{arith}
-use lib.ListN.{length}
-use lib.Dec.{ltb}
 use Rattle.definition.specs.Types as d
-use Rattle.definition.specs.Types.{State, Struct, Result, ok, err, refused, full, max-vars, max-constraints, AbilityConstraint, _>>=_, if_then_else_}
-use Rattle.definition.specs.Store.{taken, node, loc-of, sp, with-var, with-constraints, next-tvar, add-constraint}
+use Rattle.definition.specs.Types.{State, Struct, Result, ok, AbilityConstraint, _>>=_}
+use Rattle.definition.specs.Store.{loc-of, sp, next-tvar, add-constraint}
 use Rattle.definition.specs.Instantiate.{make-tvar, tvar-constraint}
 use Rattle.names.specs.declared.TVar.{TVar}
-use Rattle.table.specs.State.{node-of, value-of, constraint-of, view, seen, Lay, Changed, After, Nodes-in, Var-in, outcome, done, pushed-constraint}
+use Rattle.table.specs.State.{value-of, constraint-of, seen, Changed, After, outcome, done, pushed-constraint}
 use Rattle.table.specs.declared.Constraint.{Constraint}
 use Rattle.table.specs.declared.Shape.the-variants.{Var}
-use Rattle.table.specs.declared.Node.{Node}
 use Rattle.table.specs.declared.Step.{Step}
 use Rattle.table.specs.declared.Used.{Used}
-use Rattle.table.specs.declared.Out.{Out}
 use Rattle.table.specs.declared.Out.the-variants.{Done}
 use Rattle.table.specs.declared.Found.{Found}
 use Rattle.table.specs.declared.Found.the-variants.{Nothing, Just}
-use Rattle.table.proofs.Steps.{refines-stop, plain-in, done-is, after-now, after-is, after-stop, after-then, after-done}
+use Rattle.table.proofs.Steps.{bind-assoc, refines-stop, plain-in, done-is, after-now, after-is, after-stop, after-then, after-done}
 use Rattle.table.proofs.States.{tvar-plain, constraint-plain}
 use Rattle.table.proofs.Grown.{nodes-grow}
 use Rattle.instantiate.specs.Args.{make-tparam}
 
--- the state, with a number beside it
-abbrev numbered : State → Result (State × ℕ)
-numbered t = ok (t, 0)
-
-abbrev with-number : ℕ → State → Result (State × ℕ)
-with-number t s = ok (s, t)
-
+-- the state, with the number t beside it
 abbrev number-put : ℕ → State × ℕ → Result (State × ℕ)
 number-put t r = ok (r .0, t)
 
@@ -44,12 +33,7 @@ constraint-stop w u w′ r c h b a p q = record { changed = refines-stop (r .out
 -- a constraint is listed, and h follows
 pub constraint-then : (c : d.Constraint) (s : State) (h : State × ℕ → Result (State × ℕ)) → (pushed-constraint c s >>= h) ≡ (add-constraint s c >>= (λ t. h (t, 0)))
 unfolding pushed-constraint _>>=_
-constraint-then c s h = by (add-constraint s c)
-  where
-    by : (m : Result State) → (m >>= numbered >>= h) ≡ (m >>= (λ t. h (t, 0)))
-    by (ok t) = refl
-    by (err t e) = refl
-    by (refused x) = refl
+constraint-then c s h = bind-assoc (add-constraint s c) (λ t. ok (t, 0)) h
 
 -- ---- make_tvar
 
@@ -69,15 +53,15 @@ tvar-node w u w′ a loc b x id w₂ r c p q e n =
 tparam-is : (s : State) (loc : ℕ) (n : d.TypeName) (ty c l : ℕ) → l ≡ loc-of s ty
     → (make-tvar s l >>= (λ p. pushed-constraint (AbilityConstraint loc (p .1) c) (p .0) >>= (λ q. pushed-constraint (tvar-constraint n loc (p .1)) (q .0) >>= number-put (p .1)))) ≡ make-tparam s loc n ty c
 unfolding make-tparam _>>=_
-tparam-is s loc n ty c l e = ap (λ (x : ℕ). make-tvar s x >>= (λ p. pushed-constraint (AbilityConstraint loc (p .1) c) (p .0) >>= (λ q. pushed-constraint (tvar-constraint n loc (p .1)) (q .0) >>= number-put (p .1)))) e ∙ by (make-tvar s (loc-of s ty))
+tparam-is s loc n ty c l e =
+    ap (λ (x : ℕ). make-tvar s x >>= (λ p. pushed-constraint (AbilityConstraint loc (p .1) c) (p .0) >>= (λ q. pushed-constraint (tvar-constraint n loc (p .1)) (q .0) >>= number-put (p .1)))) e
+    ∙ ap (λ (g : State × ℕ → Result (State × ℕ)). make-tvar s (loc-of s ty) >>= g) (λ i p. listed (p .0) (p .1) i)
   where
-    by : (m : Result (State × ℕ)) → (m >>= (λ p. pushed-constraint (AbilityConstraint loc (p .1) c) (p .0) >>= (λ q. pushed-constraint (tvar-constraint n loc (p .1)) (q .0) >>= number-put (p .1))))
-        ≡ (m >>= (λ p. add-constraint (p .0) (AbilityConstraint loc (p .1) c) >>= (λ s. add-constraint s (tvar-constraint n loc (p .1)) >>= with-number (p .1))))
-    by (ok (s, t)) =
-        constraint-then (AbilityConstraint loc t c) s (λ q. pushed-constraint (tvar-constraint n loc t) (q .0) >>= (number-put t))
+    listed : (s : State) (t : ℕ) → (pushed-constraint (AbilityConstraint loc t c) s >>= (λ q. pushed-constraint (tvar-constraint n loc t) (q .0) >>= number-put t))
+        ≡ (add-constraint s (AbilityConstraint loc t c) >>= (λ s. add-constraint s (tvar-constraint n loc t) >>= (λ s. ok (s, t))))
+    listed s t =
+        constraint-then (AbilityConstraint loc t c) s (λ q. pushed-constraint (tvar-constraint n loc t) (q .0) >>= number-put t)
         ∙ ap (λ (g : State → Result (State × ℕ)). add-constraint s (AbilityConstraint loc t c) >>= g) (λ i s′. constraint-then (tvar-constraint n loc t) s′ (number-put t) i)
-    by (err s x) = refl
-    by (refused x) = refl
 
 module _ (w : List ℕ) (u : Used) (loc : ℕ) (n : d.TypeName) (ty c l : ℕ) (l-is : (ds : List Struct) → l ≡ loc-of (seen w u ds) ty) (w₁ : List ℕ) (a : Step) (b : Found) (tvar-made : After w u w₁ a (λ s. make-tvar s l)) (b-is : b ≡ done (a .out)) where
   by-steps : {w′ : List ℕ} {r : Step} → After w u w′ r (λ s. make-tvar s l >>= (λ p. pushed-constraint (AbilityConstraint loc (p .1) c) (p .0) >>= (λ q. pushed-constraint (tvar-constraint n loc (p .1)) (q .0) >>= number-put (p .1))))

@@ -266,9 +266,7 @@ fn instantiate_down(w: &mut [u32], u: Used, params: &[[u8; 8]; 256], left: u32, 
     let loc = node.loc;
     let shape = node.shape;
     match shape {
-        Shape::Unit => stay(Out::Done(ty), u),
-        Shape::UnresolvedError => stay(Out::Done(ty), u),
-        Shape::Param(_, _) => stay(Out::Done(ty), u),
+        Shape::Unit | Shape::UnresolvedError | Shape::Param(_, _) => stay(Out::Done(ty), u),
         Shape::Var(_) => stay(Out::Refused(Refusal::OpenVariable), u),
         Shape::Anything => make_tvar(w, u, loc),
         Shape::Ref(m, t) => {

@@ -125,9 +125,7 @@ fn subst_down(w: &mut [u32], u: Used, left: u32, subst: TParamSubst, ty: u32) ->
     let loc = node.loc;
     let shape = node.shape;
     match shape {
-        Shape::Unit => stay(Out::Done(ty), u),
-        Shape::UnresolvedError => stay(Out::Done(ty), u),
-        Shape::Anything => stay(Out::Done(ty), u),
+        Shape::Unit | Shape::UnresolvedError | Shape::Anything => stay(Out::Done(ty), u),
         Shape::Var(_) => stay(Out::Refused(Refusal::OpenVariable), u),
         Shape::Param(id, _) => {
             let o = arg_or_none(subst, id);

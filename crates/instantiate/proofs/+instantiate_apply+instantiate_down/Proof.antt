@@ -1,21 +1,23 @@
 -- `instantiate::instantiate_apply` and `instantiate::instantiate_down` meet their contracts. Assumes nothing.
-use mathlib.Core.Path.{_≡_, refl, sym, _∙_}
+use mathlib.Core.Path.{refl, sym, _∙_}
 use native.Mathlib.Omega.{arith}
 use borrow.Author.Needs.{needs}
 use lib.ListN.{take}
 use Rattle.definition.specs.Instantiate as D
-use Rattle.definition.specs.Store.{args-at}
+use Rattle.definition.specs.Instantiate.{instantiate-value}
+use Rattle.definition.specs.Store.{args-at, with-args, with-structs}
 use Rattle.names.specs.Names.{mark-of, name-of}
-use Rattle.table.specs.Rows.{places}
-use Rattle.table.specs.State.{view}
+use Rattle.table.specs.State.{seen, outcome}
 use Rattle.table.proofs.Steps.{after-any, after-among, after-done}
 use Rattle.table.proofs.Grown.{nodes-grow, parts-grow}
 use Rattle.table.proofs.Parts.{ref-below, named}
-use Rattle.table.proofs.Walk.{Walked, placed-length, named-kept, named-below, arg-kept, walk-start, walk-stop, walk-more, walk-end, walk-parts}
+use Rattle.table.proofs.Walk.{named-below}
+use Rattle.shapes.proofs.Levels.{level-none, level-by, level-stays, ref-stop, ref-then, Through, through-start, through-in, through-stop, through-more, through-end, through-parts}
 use Rattle.table.specs.Known.{Known}
 use Rattle.instantiate.specs.Args.{joined}
 use Rattle.table.proofs.Known.{known-kept}
-use Rattle.instantiate.proofs.DownLaws.{inst-zero, inst-unit, inst-error, inst-param, inst-var, inst-anything, ref-full, ref-stop, ref-then, apply-by, apply-stop, apply-then}
+use Rattle.instantiate.proofs.DownLaws.{levels, whole, ref-is, constraint-on, named-on, apply-stop, apply-then}
+use Rattle.instantiate.proofs.TvarLaws.{constraint-stop}
 use Prim.Native.Nat.{ℕ, _+_, _*_, _-_, _<_}
 use borrow.Fn.Kinds.{In}
 use borrow.Fn.PlainCycle.{Measures, is, falls, and}
@@ -116,295 +118,108 @@ instantiate-down-calls t = (
 
 abbrev instantiate-apply-Inv-loop : instantiate-apply-lts.InvT-loop
 instantiate-apply-Inv-loop w₀ params left loc ty b parts₀ v₀ i₀ w parts v i =
-    Walked (Known w₀ v₀ params) (D.instantiate-down left) (joined loc (mark-of (ty .k)) (name-of (ty .n)) (take (b .many) (b .tvars))) (args-at (view w₀ v₀) (places (ty .first) (ty .many))) (ty .many) w₀ v₀ w v parts i
+    Through (Known w₀ v₀ params) (D.instantiate-down left) (joined loc (mark-of (ty .k)) (name-of (ty .n)) (take (b .many) (b .tvars))) (ty .first) (ty .many) w₀ v₀ w v parts i
 
 abbrev instantiate-apply-μ-loop : instantiate-apply-lts.MeasureT-loop
 instantiate-apply-μ-loop w₀ params left loc ty b parts₀ v₀ i₀ w parts v i = ty .many - i
 
-instantiate-apply-make-tparams-requires :
-    (t : ℕ) → instantiate-apply-lts.Need-make-tparams-requires (instantiate-apply-calls t) (instantiate-apply-at t) instantiate-apply.Post
-    instantiate-apply-Inv-loop
-    instantiate-apply-μ-loop
-instantiate-apply-make-tparams-requires t c κs = (c .before .before .pre .1 .0, c .before .before .pre .1 .1 .placed)
-
-instantiate-apply-done-of-requires : (t : ℕ) → instantiate-apply-lts.Need-done-of-requires (instantiate-apply-calls t) (instantiate-apply-at t) instantiate-apply.Post
-    instantiate-apply-Inv-loop
-    instantiate-apply-μ-loop
-instantiate-apply-done-of-requires t c κs = search needs
-
-instantiate-apply-enum-told : (t : ℕ) → instantiate-apply-lts.Need-enum-told (instantiate-apply-calls t) (instantiate-apply-at t) instantiate-apply.Post
-    instantiate-apply-Inv-loop
-    instantiate-apply-μ-loop
-instantiate-apply-enum-told t c = search needs
-
-instantiate-apply-enum-told-2 : (t : ℕ) → instantiate-apply-lts.Need-enum-told-2 (instantiate-apply-calls t) (instantiate-apply-at t) instantiate-apply.Post
-    instantiate-apply-Inv-loop
-    instantiate-apply-μ-loop
-instantiate-apply-enum-told-2 t c = search needs
-
-instantiate-apply-stay-requires : (t : ℕ) → instantiate-apply-lts.Need-stay-requires (instantiate-apply-calls t) (instantiate-apply-at t) instantiate-apply.Post
-    instantiate-apply-Inv-loop
-    instantiate-apply-μ-loop
-instantiate-apply-stay-requires t c κs = search needs
-
-instantiate-apply-same-length : (t : ℕ) → instantiate-apply-lts.Need-same-length (instantiate-apply-calls t) (instantiate-apply-at t) instantiate-apply.Post
-    instantiate-apply-Inv-loop
-    instantiate-apply-μ-loop
-instantiate-apply-same-length t c = c .before .before .before .before .before .before .before .make-tparams .ensures .changed .lay .size ∙ sym (c .before .before .before .before .before .before .before .before .before .before .pre .1 .0 .size)
-
-instantiate-apply-returns : (t : ℕ) → instantiate-apply-lts.Need-returns (instantiate-apply-calls t) (instantiate-apply-at t) instantiate-apply.Post
-    instantiate-apply-Inv-loop
-    instantiate-apply-μ-loop
+instantiate-apply-returns : (t : ℕ) → instantiate-apply-lts.Need-returns (instantiate-apply-calls t) (instantiate-apply-at t) instantiate-apply.Post instantiate-apply-Inv-loop instantiate-apply-μ-loop
 instantiate-apply-returns t c =
     let pre = c .before .before .before .before .before .before .before .before .before .before .pre in
     let make-tparams = c .before .before .before .before .before .before .before .make-tparams in
-    apply-stop _ _ _ _ _ _ _ _ _ (pre .1 .1 .placed) _ (make-tparams .result) _ (make-tparams .ensures)
-    (c .before .before .before .done-of .ensures) _ (c .stay .ensures) (c .before .enum-told2 .given .1)
+    apply-stop _ _ _ _ _ _ _ _ _ (pre .1 .1 .placed) _ (make-tparams .result) _ (make-tparams .ensures) (c .before .before .before .done-of .ensures)
+    _ (c .stay .ensures) (c .before .enum-told2 .given .1)
 
-instantiate-apply-loop-holds : (t : ℕ) → instantiate-apply-lts.Need-loop-holds (instantiate-apply-calls t) (instantiate-apply-at t) instantiate-apply.Post
-    instantiate-apply-Inv-loop
-    instantiate-apply-μ-loop
+instantiate-apply-loop-holds : (t : ℕ) → instantiate-apply-lts.Need-loop-holds (instantiate-apply-calls t) (instantiate-apply-at t) instantiate-apply.Post instantiate-apply-Inv-loop instantiate-apply-μ-loop
 instantiate-apply-loop-holds t c =
-    let pre = c .before .before .before .before .before .before .before .before .before .pre in
     let make-tparams = c .before .before .before .before .before .before .make-tparams in
-    let placed = named-kept _ _ _ _ _ (pre .1 .1) _ _ (make-tparams .ensures .changed .grown) .placed in
-    walk-start (make-tparams .ensures .changed .lay) (placed-length _ _ _ _ placed) (placed .few) refl
+    let pre = c .before .before .before .before .before .before .before .before .before .pre in
+    through-start (make-tparams .ensures .changed .lay) (named-on _ _ (pre .1 .1) (make-tparams .ensures .changed .grown)) refl
 
-instantiate-apply-arg-at-requires : (t : ℕ) → instantiate-apply-lts.Need-arg-at-requires (instantiate-apply-calls t) (instantiate-apply-at t) instantiate-apply.Post
-    instantiate-apply-Inv-loop
-    instantiate-apply-μ-loop
-instantiate-apply-arg-at-requires t c κs = c .before .before .before .loop .inv .changed .lay
-
-instantiate-apply-instantiate-down-requires :
-    (t : ℕ) → instantiate-apply-lts.Need-instantiate-down-requires (instantiate-apply-calls t) (instantiate-apply-at t) instantiate-apply.Post
-    instantiate-apply-Inv-loop
-    instantiate-apply-μ-loop
+instantiate-apply-instantiate-down-requires : (t : ℕ) → instantiate-apply-lts.Need-instantiate-down-requires (instantiate-apply-calls t) (instantiate-apply-at t) instantiate-apply.Post instantiate-apply-Inv-loop instantiate-apply-μ-loop
 instantiate-apply-instantiate-down-requires t c κs =
     let pre = c .before .before .before .before .before .before .before .before .before .before .before .before .before .before .before .pre in
-    let make-tparams = c .before .before .before .before .before .before .before .before .before .before .before .before .make-tparams in
     let loop = c .before .before .before .before .before .loop in
-    let loop-test = c .before .before .before .if1 in (
-      omega (arith, pre .0),
-      (
-        loop .inv .changed .lay,
-        omega (
-          arith,
-          (arg-kept _ _ _ _ ((named-kept _ _ _ _ _ (pre .1 .1) _ _ (make-tparams .ensures .changed .grown)) .placed) _ _
-              (loop .inv .changed .grown) _ _ (loop-test .taken) (c .before .arg-at .ensures)),
-          (named-kept _ _ _ _ _ (pre .1 .1) _ _ (make-tparams .ensures .changed .grown)) .smaller _ (loop-test .taken),
-          nodes-grow _ _ _ _ (make-tparams .ensures .changed .grown),
-          nodes-grow _ _ _ _ (loop .inv .changed .grown),
-        ),
-      ),
-    )
+    (omega (arith, pre .0), (loop .inv .walked .changed .lay, through-in (loop .inv) (c .before .before .before .if1 .taken) (c .before .arg-at .ensures)))
 
-instantiate-apply-done-of-requires-2 : (t : ℕ) → instantiate-apply-lts.Need-done-of-requires-2 (instantiate-apply-calls t) (instantiate-apply-at t) instantiate-apply.Post
-    instantiate-apply-Inv-loop
-    instantiate-apply-μ-loop
-instantiate-apply-done-of-requires-2 t c κs = search needs
-
-instantiate-apply-enum-known-p : (t : ℕ) → instantiate-apply-lts.Need-enum-known-p (instantiate-apply-calls t) (instantiate-apply-at t) instantiate-apply.Post
-    instantiate-apply-Inv-loop
-    instantiate-apply-μ-loop
-instantiate-apply-enum-known-p t c = search needs
-
-instantiate-apply-enum-told-3 : (t : ℕ) → instantiate-apply-lts.Need-enum-told-3 (instantiate-apply-calls t) (instantiate-apply-at t) instantiate-apply.Post
-    instantiate-apply-Inv-loop
-    instantiate-apply-μ-loop
-instantiate-apply-enum-told-3 t c = search needs
-
-instantiate-apply-same-length-2 : (t : ℕ) → instantiate-apply-lts.Need-same-length-2 (instantiate-apply-calls t) (instantiate-apply-at t) instantiate-apply.Post
-    instantiate-apply-Inv-loop
-    instantiate-apply-μ-loop
+instantiate-apply-same-length-2 : (t : ℕ) → instantiate-apply-lts.Need-same-length-2 (instantiate-apply-calls t) (instantiate-apply-at t) instantiate-apply.Post instantiate-apply-Inv-loop instantiate-apply-μ-loop
 instantiate-apply-same-length-2 t c =
-    let pre = c .before .before .before .before .before .before .before .before .before .before .before .before .before .before .before .before .before .before .before .before .before .pre in
     let instantiate-down = c .before .before .before .before .before .instantiate-down in
+    let pre = c .before .before .before .before .before .before .before .before .before .before .before .before .before .before .before .before .before .before .before .before .before .pre in
     instantiate-down .ensures .changed .lay .size ∙ sym (pre .1 .0 .size)
 
-instantiate-apply-returns-2 : (t : ℕ) → instantiate-apply-lts.Need-returns-2 (instantiate-apply-calls t) (instantiate-apply-at t) instantiate-apply.Post
-    instantiate-apply-Inv-loop
-    instantiate-apply-μ-loop
+instantiate-apply-returns-2 : (t : ℕ) → instantiate-apply-lts.Need-returns-2 (instantiate-apply-calls t) (instantiate-apply-at t) instantiate-apply.Post instantiate-apply-Inv-loop instantiate-apply-μ-loop
 instantiate-apply-returns-2 t c =
     let pre = c .before .before .before .before .before .before .before .before .before .before .before .before .before .before .before .before .before .before .before .before .before .pre in
     let make-tparams = c .before .before .before .before .before .before .before .before .before .before .before .before .before .before .before .before .before .before .make-tparams in
     let done-of = c .before .before .before .before .before .before .before .before .before .before .before .before .before .before .done-of in
     let enum-told = c .before .before .before .before .before .before .before .before .before .before .before .before .enum-told in
     let loop = c .before .before .before .before .before .before .before .before .before .before .before .loop in
-    let loop-test = c .before .before .before .before .before .before .before .before .before .if1 in
+    let if1 = c .before .before .before .before .before .before .before .before .before .if1 in
     let arg-at = c .before .before .before .before .before .before .before .arg-at in
     let instantiate-down = c .before .before .before .before .before .instantiate-down in
-    apply-then _ _ _ _ _ _ _ _ _ (pre .1 .1 .placed) _ (make-tparams .result) _ (make-tparams .ensures)
-    (done-of .ensures) _ _ _ (enum-told .given .1)
-    (walk-stop (loop .inv) (loop-test .taken)
-    (arg-kept _ _ _ _ ((named-kept _ _ _ _ _ (pre .1 .1) _ _ (make-tparams .ensures .changed .grown)) .placed) _ _
-    (loop .inv .changed .grown) _ _ (loop-test .taken) (arg-at .ensures))
-    (after-among (known-kept _ _ _ _ _ (loop .inv .changed .structs)) (instantiate-down .ensures))
-    (c .before .before .done-of2 .ensures) (c .enum-told3 .given .1))
+    apply-then _ _ _ _ _ _ _ _ _ (pre .1 .1 .placed) _ (make-tparams .result) _ (make-tparams .ensures) (done-of .ensures)
+    _ _ _ (enum-told .given .1)
+    (through-stop (loop .inv) (if1 .taken) (arg-at .ensures)
+    (after-among (known-kept _ _ _ _ _ (loop .inv .walked .changed .structs)) (instantiate-down .ensures)) (c .before .before .done-of2 .ensures) (c .enum-told3 .given .1))
 
-instantiate-apply-wide-requires : (t : ℕ) → instantiate-apply-lts.Need-wide-requires (instantiate-apply-calls t) (instantiate-apply-at t) instantiate-apply.Post
-    instantiate-apply-Inv-loop
-    instantiate-apply-μ-loop
-instantiate-apply-wide-requires t c κs = search needs
-
-instantiate-apply-mul-parts : (t : ℕ) → instantiate-apply-lts.Need-mul-parts (instantiate-apply-calls t) (instantiate-apply-at t) instantiate-apply.Post
-    instantiate-apply-Inv-loop
-    instantiate-apply-μ-loop
-instantiate-apply-mul-parts t c =
-    let pre = c .before .before .before .before .before .before .before .before .before .before .before .before .before .before .before .before .before .before .before .before .before .before .before .pre in
-    let loop-test = c .before .before .before .before .before .before .before .before .before .before .before .if1 in
-    omega (arith, c .wide .ensures, pre .1 .1 .placed .few, loop-test .taken)
-
-instantiate-apply-array-write-parts : (t : ℕ) → instantiate-apply-lts.Need-array-write-parts (instantiate-apply-calls t) (instantiate-apply-at t) instantiate-apply.Post
-    instantiate-apply-Inv-loop
-    instantiate-apply-μ-loop
-instantiate-apply-array-write-parts t c =
-    let pre = c .before .before .before .before .before .before .before .before .before .before .before .before .before .before .before .before .before .before .before .before .before .before .before .pre in
-    let loop-test = c .before .before .before .before .before .before .before .before .before .before .before .if1 in
-    omega (arith, c .wide .ensures, pre .1 .1 .placed .few, loop-test .taken)
-
-instantiate-apply-add-i : (t : ℕ) → instantiate-apply-lts.Need-add-i (instantiate-apply-calls t) (instantiate-apply-at t) instantiate-apply.Post
-    instantiate-apply-Inv-loop
-    instantiate-apply-μ-loop
-instantiate-apply-add-i t c =
-    let pre = c .before .before .before .before .before .before .before .before .before .before .before .before .before .before .before .before .before .before .before .before .before .before .before .before .pre in
-    let loop-test = c .before .before .before .before .before .before .before .before .before .before .before .before .if1 in
-    omega (arith, pre .1 .1 .placed .few, loop-test .taken)
-
-instantiate-apply-loop-less : (t : ℕ) → instantiate-apply-lts.Need-loop-less (instantiate-apply-calls t) (instantiate-apply-at t) instantiate-apply.Post
-    instantiate-apply-Inv-loop
-    instantiate-apply-μ-loop
-instantiate-apply-loop-less t c = omega (arith, c .before .before .before .before .before .before .before .before .before .before .before .before .if1 .taken)
-
-instantiate-apply-loop-again : (t : ℕ) → instantiate-apply-lts.Need-loop-again (instantiate-apply-calls t) (instantiate-apply-at t) instantiate-apply.Post
-    instantiate-apply-Inv-loop
-    instantiate-apply-μ-loop
+instantiate-apply-loop-again : (t : ℕ) → instantiate-apply-lts.Need-loop-again (instantiate-apply-calls t) (instantiate-apply-at t) instantiate-apply.Post instantiate-apply-Inv-loop instantiate-apply-μ-loop
 instantiate-apply-loop-again t c =
-    let pre = c .before .before .before .before .before .before .before .before .before .before .before .before .before .before .before .before .before .before .before .before .before .before .before .before .pre in
-    let make-tparams = c .before .before .before .before .before .before .before .before .before .before .before .before .before .before .before .before .before .before .before .before .before .make-tparams in
     let loop = c .before .before .before .before .before .before .before .before .before .before .before .before .before .before .loop in
-    let loop-test = c .before .before .before .before .before .before .before .before .before .before .before .before .if1 in
+    let if1 = c .before .before .before .before .before .before .before .before .before .before .before .before .if1 in
     let arg-at = c .before .before .before .before .before .before .before .before .before .before .arg-at in
     let instantiate-down = c .before .before .before .before .before .before .before .before .instantiate-down in
     let done-of2 = c .before .before .before .before .before .done-of2 in
-    walk-more (loop .inv) (loop-test .taken)
-    (arg-kept _ _ _ _ ((named-kept _ _ _ _ _ (pre .1 .1) _ _ (make-tparams .ensures .changed .grown)) .placed) _ _
-    (loop .inv .changed .grown) _ _ (loop-test .taken) (arg-at .ensures))
-    (after-among (known-kept _ _ _ _ _ (loop .inv .changed .structs)) (instantiate-down .ensures)) (done-of2 .ensures)
-    (c .before .before .before .p .given .1) (c .before .wide .ensures)
+    through-more (loop .inv) (if1 .taken) (arg-at .ensures)
+    (after-among (known-kept _ _ _ _ _ (loop .inv .walked .changed .structs)) (instantiate-down .ensures)) (done-of2 .ensures) (c .before .before .before .p .given .1) (c .before .wide .ensures)
 
-instantiate-apply-join-args-requires : (t : ℕ) → instantiate-apply-lts.Need-join-args-requires (instantiate-apply-calls t) (instantiate-apply-at t) instantiate-apply.Post
-    instantiate-apply-Inv-loop
-    instantiate-apply-μ-loop
+instantiate-apply-join-args-requires : (t : ℕ) → instantiate-apply-lts.Need-join-args-requires (instantiate-apply-calls t) (instantiate-apply-at t) instantiate-apply.Post instantiate-apply-Inv-loop instantiate-apply-μ-loop
 instantiate-apply-join-args-requires t c κs =
     let make-tparams = c .before .before .before .before .before .before .before .before .before .before .make-tparams in
-    let done-of = c .before .before .before .before .before .before .done-of in
-    let loop = c .before .before .before .loop in (
-      loop .inv .changed .lay,
+    let done-of = c .before .before .before .before .before .before .done-of in (
+      c .before .before .before .loop .inv .walked .changed .lay,
       (
-        parts-grow _ _ _ _ (nodes-grow _ _ _ _ (loop .inv .changed .grown))
-            (make-tparams .ensures .inside .below _ (sym (done-of .ensures) ∙ c .before .before .before .before .enum-told .given .1)),
-        walk-parts (loop .inv) (c .before .if1 .left),
+        parts-grow _ _ _ _ (nodes-grow _ _ _ _ (c .before .before .before .loop .inv .walked .changed .grown)) (make-tparams .ensures .inside .below _ (sym (done-of .ensures) ∙ c .before .before .before .before .enum-told .given .1)),
+        through-parts (c .before .before .before .loop .inv) (c .before .if1 .left),
       ),
     )
 
-instantiate-apply-same-length-3 : (t : ℕ) → instantiate-apply-lts.Need-same-length-3 (instantiate-apply-calls t) (instantiate-apply-at t) instantiate-apply.Post
-    instantiate-apply-Inv-loop
-    instantiate-apply-μ-loop
-instantiate-apply-same-length-3 t c = c .before .before .join-args .ensures .changed .lay .size ∙ sym (c .before .before .before .before .before .before .before .before .before .before .before .before .before .before .before .before .pre .1 .0 .size)
+instantiate-apply-same-length-3 : (t : ℕ) → instantiate-apply-lts.Need-same-length-3 (instantiate-apply-calls t) (instantiate-apply-at t) instantiate-apply.Post instantiate-apply-Inv-loop instantiate-apply-μ-loop
+instantiate-apply-same-length-3 t c =
+    let pre = c .before .before .before .before .before .before .before .before .before .before .before .before .before .before .before .before .pre in
+    c .before .before .join-args .ensures .changed .lay .size ∙ sym (pre .1 .0 .size)
 
-instantiate-apply-returns-3 : (t : ℕ) → instantiate-apply-lts.Need-returns-3 (instantiate-apply-calls t) (instantiate-apply-at t) instantiate-apply.Post
-    instantiate-apply-Inv-loop
-    instantiate-apply-μ-loop
+instantiate-apply-returns-3 : (t : ℕ) → instantiate-apply-lts.Need-returns-3 (instantiate-apply-calls t) (instantiate-apply-at t) instantiate-apply.Post instantiate-apply-Inv-loop instantiate-apply-μ-loop
 instantiate-apply-returns-3 t c =
     let pre = c .before .before .before .before .before .before .before .before .before .before .before .before .before .before .before .before .pre in
     let make-tparams = c .before .before .before .before .before .before .before .before .before .before .before .before .before .make-tparams in
     let done-of = c .before .before .before .before .before .before .before .before .before .done-of in
     let enum-told = c .before .before .before .before .before .before .before .enum-told in
     let loop = c .before .before .before .before .before .before .loop in
-    apply-then _ _ _ _ _ _ _ _ _ (pre .1 .1 .placed) _ (make-tparams .result) _ (make-tparams .ensures)
-    (done-of .ensures) _ _ _ (enum-told .given .1)
-    (walk-end (loop .inv) (c .before .before .before .before .if1 .left)
-    (after-any (c .before .before .join-args .ensures)))
-
-instantiate-down-stay-requires : (t : ℕ) → instantiate-down-lts.Need-stay-requires (instantiate-down-calls t) (instantiate-down-at t) instantiate-down.Post
-instantiate-down-stay-requires t c κs = search needs
+    apply-then _ _ _ _ _ _ _ _ _ (pre .1 .1 .placed) _ (make-tparams .result) _ (make-tparams .ensures) (done-of .ensures)
+    _ _ _ (enum-told .given .1) (through-end (loop .inv) (c .before .before .before .before .if1 .left) (after-any (c .before .before .join-args .ensures)))
 
 instantiate-down-returns : (t : ℕ) → instantiate-down-lts.Need-returns (instantiate-down-calls t) (instantiate-down-at t) instantiate-down.Post
-instantiate-down-returns t c = inst-zero _ _ _ _ _ _ (c .before .before .before .pre .1 .0) (c .before .if1 .taken) (c .stay .ensures)
-
-instantiate-down-node-at-requires : (t : ℕ) → instantiate-down-lts.Need-node-at-requires (instantiate-down-calls t) (instantiate-down-at t) instantiate-down.Post
-instantiate-down-node-at-requires t c κs = search needs
-
-instantiate-down-enum-told : (t : ℕ) → instantiate-down-lts.Need-enum-told (instantiate-down-calls t) (instantiate-down-at t) instantiate-down.Post
-instantiate-down-enum-told t c = search needs
-
-instantiate-down-stay-requires-2 : (t : ℕ) → instantiate-down-lts.Need-stay-requires-2 (instantiate-down-calls t) (instantiate-down-at t) instantiate-down.Post
-instantiate-down-stay-requires-2 t c κs = search needs
-
-instantiate-down-enum-told-2 : (t : ℕ) → instantiate-down-lts.Need-enum-told-2 (instantiate-down-calls t) (instantiate-down-at t) instantiate-down.Post
-instantiate-down-enum-told-2 t c = search needs
-
-instantiate-down-stay-requires-3 : (t : ℕ) → instantiate-down-lts.Need-stay-requires-3 (instantiate-down-calls t) (instantiate-down-at t) instantiate-down.Post
-instantiate-down-stay-requires-3 t c κs = search needs
-
-instantiate-down-enum-told-3 : (t : ℕ) → instantiate-down-lts.Need-enum-told-3 (instantiate-down-calls t) (instantiate-down-at t) instantiate-down.Post
-instantiate-down-enum-told-3 t c = search needs
-
-instantiate-down-stay-requires-4 : (t : ℕ) → instantiate-down-lts.Need-stay-requires-4 (instantiate-down-calls t) (instantiate-down-at t) instantiate-down.Post
-instantiate-down-stay-requires-4 t c κs = search needs
-
-instantiate-down-enum-told-4 : (t : ℕ) → instantiate-down-lts.Need-enum-told-4 (instantiate-down-calls t) (instantiate-down-at t) instantiate-down.Post
-instantiate-down-enum-told-4 t c = search needs
-
-instantiate-down-stay-requires-5 : (t : ℕ) → instantiate-down-lts.Need-stay-requires-5 (instantiate-down-calls t) (instantiate-down-at t) instantiate-down.Post
-instantiate-down-stay-requires-5 t c κs = search needs
-
-instantiate-down-enum-told-5 : (t : ℕ) → instantiate-down-lts.Need-enum-told-5 (instantiate-down-calls t) (instantiate-down-at t) instantiate-down.Post
-instantiate-down-enum-told-5 t c = search needs
-
-instantiate-down-make-tvar-requires : (t : ℕ) → instantiate-down-lts.Need-make-tvar-requires (instantiate-down-calls t) (instantiate-down-at t) instantiate-down.Post
-instantiate-down-make-tvar-requires t c κs = search needs
-
-instantiate-down-enum-known-shape : (t : ℕ) → instantiate-down-lts.Need-enum-known-shape (instantiate-down-calls t) (instantiate-down-at t) instantiate-down.Post
-instantiate-down-enum-known-shape t c = search needs
-
-instantiate-down-push-constraint-requires :
-    (t : ℕ) → instantiate-down-lts.Need-push-constraint-requires (instantiate-down-calls t) (instantiate-down-at t) instantiate-down.Post
-instantiate-down-push-constraint-requires t c κs = search needs
-
-instantiate-down-done-of-requires : (t : ℕ) → instantiate-down-lts.Need-done-of-requires (instantiate-down-calls t) (instantiate-down-at t) instantiate-down.Post
-instantiate-down-done-of-requires t c κs = search needs
-
-instantiate-down-enum-told-6 : (t : ℕ) → instantiate-down-lts.Need-enum-told-6 (instantiate-down-calls t) (instantiate-down-at t) instantiate-down.Post
-instantiate-down-enum-told-6 t c = search needs
-
-instantiate-down-enum-told-7 : (t : ℕ) → instantiate-down-lts.Need-enum-told-7 (instantiate-down-calls t) (instantiate-down-at t) instantiate-down.Post
-instantiate-down-enum-told-7 t c = search needs
-
-instantiate-down-same-length : (t : ℕ) → instantiate-down-lts.Need-same-length (instantiate-down-calls t) (instantiate-down-at t) instantiate-down.Post
-instantiate-down-same-length t c = c .before .before .before .before .before .before .push-constraint .ensures .lay .size ∙ sym (c .before .before .before .before .before .before .before .before .before .before .before .before .before .before .before .pre .1 .0 .size)
+instantiate-down-returns t c = level-none levels _ _ _ _ (c .before .before .before .pre .1 .0) (c .before .if1 .taken) (c .stay .ensures)
 
 instantiate-down-returns-2 : (t : ℕ) → instantiate-down-lts.Need-returns-2 (instantiate-down-calls t) (instantiate-down-at t) instantiate-down.Post
+unfolding with-args
 instantiate-down-returns-2 t c =
     let pre = c .before .before .before .before .before .before .before .before .before .before .before .before .before .before .before .pre in
-    let if1 = c .before .before .before .before .before .before .before .before .before .before .before .before .before .if1 in
     let node-at = c .before .before .before .before .before .before .before .before .before .before .before .node-at in
+    let if1 = c .before .before .before .before .before .before .before .before .before .before .before .before .before .if1 in
     let shape = c .before .before .before .before .before .before .before .before .before .shape in
     let push-constraint = c .before .before .before .before .before .before .push-constraint in
-    ref-full _ _ _ _ _ _ (pre .1 .0) (if1 .left) (node-at .ensures) _ _ (shape .given .1) _ _ _
-    (push-constraint .ensures) (c .before .before .done-of .ensures) (c .enum-told7 .given .1)
+    level-by levels _ _ _ _ (pre .1 .0) (node-at .result) (if1 .left) (node-at .ensures) (shape .given .1) (λ ds. ref-is _ _ _ _ _ _)
+    (after-any (constraint-stop _ _ _ _ _ _ _ (push-constraint .ensures) (c .before .before .done-of .ensures) (c .enum-told4 .given .1)))
 
-instantiate-down-sub-instantiate-down : (t : ℕ) → instantiate-down-lts.Need-sub-instantiate-down (instantiate-down-calls t) (instantiate-down-at t) instantiate-down.Post
-instantiate-down-sub-instantiate-down t c = omega (arith, c .before .before .before .before .before .before .before .before .before .before .before .before .before .before .if1 .left)
-
-instantiate-down-instantiate-down-requires :
-    (t : ℕ) → instantiate-down-lts.Need-instantiate-down-requires (instantiate-down-calls t) (instantiate-down-at t) instantiate-down.Post
+instantiate-down-instantiate-down-requires : (t : ℕ) → instantiate-down-lts.Need-instantiate-down-requires (instantiate-down-calls t) (instantiate-down-at t) instantiate-down.Post
 instantiate-down-instantiate-down-requires t c κs =
     let pre = c .before .before .before .before .before .before .before .before .before .before .before .before .before .before .before .before .pre in
     let if1 = c .before .before .before .before .before .before .before .before .before .before .before .before .before .before .if1 in
+    let push-constraint = c .before .before .before .before .before .before .before .push-constraint in
     let node-at = c .before .before .before .before .before .before .before .before .before .before .before .before .node-at in
-    let shape = c .before .before .before .before .before .before .before .before .before .before .shape in
-    let push-constraint = c .before .before .before .before .before .before .before .push-constraint in (
+    let shape = c .before .before .before .before .before .before .before .before .before .before .shape in (
       omega (arith, pre .0, if1 .left),
       (
         push-constraint .ensures .lay,
@@ -417,215 +232,151 @@ instantiate-down-instantiate-down-requires t c κs =
       ),
     )
 
-instantiate-down-done-of-requires-2 : (t : ℕ) → instantiate-down-lts.Need-done-of-requires-2 (instantiate-down-calls t) (instantiate-down-at t) instantiate-down.Post
-instantiate-down-done-of-requires-2 t c κs = search needs
-
-instantiate-down-enum-known-p : (t : ℕ) → instantiate-down-lts.Need-enum-known-p (instantiate-down-calls t) (instantiate-down-at t) instantiate-down.Post
-instantiate-down-enum-known-p t c = search needs
-
-instantiate-down-enum-told-8 : (t : ℕ) → instantiate-down-lts.Need-enum-told-8 (instantiate-down-calls t) (instantiate-down-at t) instantiate-down.Post
-instantiate-down-enum-told-8 t c = search needs
-
-instantiate-down-same-length-2 : (t : ℕ) → instantiate-down-lts.Need-same-length-2 (instantiate-down-calls t) (instantiate-down-at t) instantiate-down.Post
-instantiate-down-same-length-2 t c =
-    let pre = c .before .before .before .before .before .before .before .before .before .before .before .before .before .before .before .before .before .before .before .before .before .before .before .pre in
-    let instantiate-down = c .before .before .before .before .before .before .instantiate-down in
-    instantiate-down .ensures .changed .lay .size ∙ sym (pre .1 .0 .size)
-
 instantiate-down-returns-3 : (t : ℕ) → instantiate-down-lts.Need-returns-3 (instantiate-down-calls t) (instantiate-down-at t) instantiate-down.Post
+unfolding with-args
 instantiate-down-returns-3 t c =
     let pre = c .before .before .before .before .before .before .before .before .before .before .before .before .before .before .before .before .before .before .before .before .before .before .before .pre in
-    let if1 = c .before .before .before .before .before .before .before .before .before .before .before .before .before .before .before .before .before .before .before .before .before .if1 in
     let node-at = c .before .before .before .before .before .before .before .before .before .before .before .before .before .before .before .before .before .before .before .node-at in
+    let if1 = c .before .before .before .before .before .before .before .before .before .before .before .before .before .before .before .before .before .before .before .before .before .if1 in
     let shape = c .before .before .before .before .before .before .before .before .before .before .before .before .before .before .before .before .before .shape in
     let push-constraint = c .before .before .before .before .before .before .before .before .before .before .before .before .before .before .push-constraint in
     let done-of = c .before .before .before .before .before .before .before .before .before .before .done-of in
-    let enum-told6 = c .before .before .before .before .before .before .before .before .enum-told6 in
+    let enum-told3 = c .before .before .before .before .before .before .before .before .enum-told3 in
     let instantiate-down = c .before .before .before .before .before .before .instantiate-down in
-    ref-stop _ _ _ _ _ _ (pre .1 .0) (if1 .left) (node-at .ensures) _ _ (shape .given .1) _ _ _
-    (push-constraint .ensures) (done-of .ensures) _ (enum-told6 .given .1) _ _ _ (instantiate-down .ensures)
-    (c .before .before .done-of2 .ensures) (c .enum-told8 .given .1)
+    level-by levels _ _ _ _ (pre .1 .0) (node-at .result) (if1 .left) (node-at .ensures) (shape .given .1) (λ ds. ref-is _ _ _ _ _ _)
+    (constraint-on _ _ (push-constraint .ensures) (done-of .ensures) (enum-told3 .given .1)
+    (ref-stop _ _ (instantiate-down .ensures) (c .before .before .done-of2 .ensures) (c .enum-told5 .given .1)))
 
 instantiate-down-push-node-requires : (t : ℕ) → instantiate-down-lts.Need-push-node-requires (instantiate-down-calls t) (instantiate-down-at t) instantiate-down.Post
 instantiate-down-push-node-requires t c κs =
-    let instantiate-down = c .before .before .before .before .before .before .before .before .instantiate-down in (
-      instantiate-down .ensures .changed .lay,
-      after-done (instantiate-down .ensures) (c .before .before .before .before .done-of2 .ensures)
-          (c .before .before .p .given .1),
-    )
+    let instantiate-down = c .before .before .before .before .before .before .before .before .instantiate-down in
+    (instantiate-down .ensures .changed .lay, after-done (instantiate-down .ensures) (c .before .before .before .before .done-of2 .ensures) (c .before .before .p .given .1))
 
-instantiate-down-enum-known-shape-2 : (t : ℕ) → instantiate-down-lts.Need-enum-known-shape-2 (instantiate-down-calls t) (instantiate-down-at t) instantiate-down.Post
-instantiate-down-enum-known-shape-2 t c = search needs
-
-instantiate-down-sub-instantiate-apply : (t : ℕ) → instantiate-down-lts.Need-sub-instantiate-apply (instantiate-down-calls t) (instantiate-down-at t) instantiate-down.Post
-instantiate-down-sub-instantiate-apply t c = omega (arith, c .before .before .before .before .before .before .if1 .left)
-
-instantiate-down-instantiate-apply-requires :
-    (t : ℕ) → instantiate-down-lts.Need-instantiate-apply-requires (instantiate-down-calls t) (instantiate-down-at t) instantiate-down.Post
+instantiate-down-instantiate-apply-requires : (t : ℕ) → instantiate-down-lts.Need-instantiate-apply-requires (instantiate-down-calls t) (instantiate-down-at t) instantiate-down.Post
 instantiate-down-instantiate-apply-requires t c κs =
     let pre = c .before .before .before .before .before .before .before .before .pre in
     let if1 = c .before .before .before .before .before .before .if1 in (
       omega (arith, pre .0, if1 .left),
-      (
-        pre .1 .0,
-        named-below _ _ _ _ _ _ (pre .1 .1)
-            (named _ _ _ _ (pre .1 .0) (pre .1 .1) (c .before .before .before .before .node-at .ensures) _ _ _ _
-            (c .before .before .shape2 .given .1)),
-      ),
+      (pre .1 .0, named-below _ _ _ _ _ _ (pre .1 .1) (named _ _ _ _ (pre .1 .0) (pre .1 .1) (c .before .before .before .before .node-at .ensures) _ _ _ _ (c .before .before .shape2 .given .1))),
     )
 
-instantiate-down-same-length-3 : (t : ℕ) → instantiate-down-lts.Need-same-length-3 (instantiate-down-calls t) (instantiate-down-at t) instantiate-down.Post
-instantiate-down-same-length-3 t c = search needs
-
 instantiate-down-returns-4 : (t : ℕ) → instantiate-down-lts.Need-returns-4 (instantiate-down-calls t) (instantiate-down-at t) instantiate-down.Post
+unfolding outcome
 instantiate-down-returns-4 t c =
-    let pre = c .before .before .before .before .before .before .before .pre in
-    let if1 = c .before .before .before .before .before .if1 in
-    inst-unit _ _ _ _ _ _ (pre .1 .0) (if1 .left) (c .before .before .before .node-at .ensures) _ (pre .1 .1)
-    (c .stay2 .ensures) (c .before .enum-told .given .1)
-
-instantiate-down-same-length-4 : (t : ℕ) → instantiate-down-lts.Need-same-length-4 (instantiate-down-calls t) (instantiate-down-at t) instantiate-down.Post
-instantiate-down-same-length-4 t c = search needs
+    let pre = c .before .before .before .before .before .before .pre in
+    level-stays levels _ _ _ _ (pre .1 .0) (c .before .before .node-at .result) (c .before .before .before .before .if1 .left) (c .before .before .node-at .ensures) _ refl (c .stay2 .ensures) (pre .1 .1)
+    (λ s. whole (c .before .before .node-at .result .shape) (c .before .match .keys1) _ s _ _)
 
 instantiate-down-returns-5 : (t : ℕ) → instantiate-down-lts.Need-returns-5 (instantiate-down-calls t) (instantiate-down-at t) instantiate-down.Post
+unfolding outcome instantiate-value with-args
 instantiate-down-returns-5 t c =
     let pre = c .before .before .before .before .before .before .before .pre in
     let if1 = c .before .before .before .before .before .if1 in
-    inst-error _ _ _ _ _ _ (pre .1 .0) (if1 .left) (c .before .before .before .node-at .ensures) _ (pre .1 .1)
-    (c .stay3 .ensures) (c .before .enum-told2 .given .1)
-
-instantiate-down-same-length-5 : (t : ℕ) → instantiate-down-lts.Need-same-length-5 (instantiate-down-calls t) (instantiate-down-at t) instantiate-down.Post
-instantiate-down-same-length-5 t c = search needs
+    level-stays levels _ _ _ _ (pre .1 .0) (c .before .before .before .node-at .result) (if1 .left) (c .before .before .before .node-at .ensures) _ (c .before .enum-told .given .1) (c .stay3 .ensures) tt
+    (λ s. refl)
 
 instantiate-down-returns-6 : (t : ℕ) → instantiate-down-lts.Need-returns-6 (instantiate-down-calls t) (instantiate-down-at t) instantiate-down.Post
+unfolding instantiate-value with-args
 instantiate-down-returns-6 t c =
-    let pre = c .before .before .before .before .before .before .before .pre in
-    let if1 = c .before .before .before .before .before .if1 in
-    inst-param _ _ _ _ _ _ (pre .1 .0) (if1 .left) (c .before .before .before .node-at .ensures) _ (pre .1 .1)
-    (c .stay4 .ensures) _ _ (c .before .enum-told3 .given .1)
+    let pre = c .before .before .before .before .before .before .before .before .before .before .pre in
+    let node-at = c .before .before .before .before .before .before .node-at in
+    let if1 = c .before .before .before .before .before .before .before .before .if1 in
+    level-by levels _ _ _ _ (pre .1 .0) (node-at .result) (if1 .left) (node-at .ensures) (c .before .before .before .before .enum-told2 .given .1) (λ ds. refl) (after-any (c .before .before .make-tvar .ensures))
 
 instantiate-down-same-length-6 : (t : ℕ) → instantiate-down-lts.Need-same-length-6 (instantiate-down-calls t) (instantiate-down-at t) instantiate-down.Post
-instantiate-down-same-length-6 t c = search needs
-
-instantiate-down-returns-7 : (t : ℕ) → instantiate-down-lts.Need-returns-7 (instantiate-down-calls t) (instantiate-down-at t) instantiate-down.Post
-instantiate-down-returns-7 t c = inst-var _ _ _ _ _ _ (c .before .before .before .before .before .before .before .pre .1 .0) (c .before .before .before .before .before .if1 .left) (c .before .before .before .node-at .ensures) _ _ (c .before .enum-told4 .given .1) (c .stay5 .ensures)
-
-instantiate-down-same-length-7 : (t : ℕ) → instantiate-down-lts.Need-same-length-7 (instantiate-down-calls t) (instantiate-down-at t) instantiate-down.Post
-instantiate-down-same-length-7 t c = c .before .before .make-tvar .ensures .changed .lay .size ∙ sym (c .before .before .before .before .before .before .before .before .before .before .pre .1 .0 .size)
-
-instantiate-down-returns-8 : (t : ℕ) → instantiate-down-lts.Need-returns-8 (instantiate-down-calls t) (instantiate-down-at t) instantiate-down.Post
-instantiate-down-returns-8 t c =
-    let pre = c .before .before .before .before .before .before .before .before .before .before .pre in
-    let if1 = c .before .before .before .before .before .before .before .before .if1 in
-    let node-at = c .before .before .before .before .before .before .node-at in
-    inst-anything _ _ _ _ _ _ (pre .1 .0) (if1 .left) (node-at .ensures) _ _
-    (c .before .before .before .before .enum-told5 .given .1) (c .before .before .make-tvar .ensures)
-
-instantiate-down-same-length-8 : (t : ℕ) → instantiate-down-lts.Need-same-length-8 (instantiate-down-calls t) (instantiate-down-at t) instantiate-down.Post
-instantiate-down-same-length-8 t c =
+instantiate-down-same-length-6 t c =
     let pre = c .before .before .before .before .before .before .before .before .before .before .before .before .before .before .before .before .before .before .before .before .before .before .before .before .before .before .before .before .pre in
     c .before .before .push-node .ensures .changed .lay .size ∙ sym (pre .1 .0 .size)
 
-instantiate-down-returns-9 : (t : ℕ) → instantiate-down-lts.Need-returns-9 (instantiate-down-calls t) (instantiate-down-at t) instantiate-down.Post
-instantiate-down-returns-9 t c =
+instantiate-down-returns-7 : (t : ℕ) → instantiate-down-lts.Need-returns-7 (instantiate-down-calls t) (instantiate-down-at t) instantiate-down.Post
+unfolding with-args
+instantiate-down-returns-7 t c =
     let pre = c .before .before .before .before .before .before .before .before .before .before .before .before .before .before .before .before .before .before .before .before .before .before .before .before .before .before .before .before .pre in
-    let if1 = c .before .before .before .before .before .before .before .before .before .before .before .before .before .before .before .before .before .before .before .before .before .before .before .before .before .before .if1 in
     let node-at = c .before .before .before .before .before .before .before .before .before .before .before .before .before .before .before .before .before .before .before .before .before .before .before .before .node-at in
+    let if1 = c .before .before .before .before .before .before .before .before .before .before .before .before .before .before .before .before .before .before .before .before .before .before .before .before .before .before .if1 in
     let shape = c .before .before .before .before .before .before .before .before .before .before .before .before .before .before .before .before .before .before .before .before .before .before .shape in
     let push-constraint = c .before .before .before .before .before .before .before .before .before .before .before .before .before .before .before .before .before .before .before .push-constraint in
     let done-of = c .before .before .before .before .before .before .before .before .before .before .before .before .before .before .before .done-of in
-    let enum-told6 = c .before .before .before .before .before .before .before .before .before .before .before .before .before .enum-told6 in
+    let enum-told3 = c .before .before .before .before .before .before .before .before .before .before .before .before .before .enum-told3 in
     let instantiate-down = c .before .before .before .before .before .before .before .before .before .before .before .instantiate-down in
     let done-of2 = c .before .before .before .before .before .before .before .done-of2 in
     let p = c .before .before .before .before .before .p in
-    ref-then _ _ _ _ _ _ (pre .1 .0) (if1 .left) (node-at .ensures) _ _ (shape .given .1) _ _ _
-    (push-constraint .ensures) (done-of .ensures) _ (enum-told6 .given .1) _ _ _ (instantiate-down .ensures)
-    (done-of2 .ensures) _ _ _ (p .given .1) (c .before .before .push-node .ensures)
+    level-by levels _ _ _ _ (pre .1 .0) (node-at .result) (if1 .left) (node-at .ensures) (shape .given .1) (λ ds. ref-is _ _ _ _ _ _)
+    (constraint-on _ _ (push-constraint .ensures) (done-of .ensures) (enum-told3 .given .1)
+    (ref-then _ _ (instantiate-down .ensures) (done-of2 .ensures) (p .given .1) (c .before .before .push-node .ensures)))
 
-instantiate-down-same-length-9 : (t : ℕ) → instantiate-down-lts.Need-same-length-9 (instantiate-down-calls t) (instantiate-down-at t) instantiate-down.Post
-instantiate-down-same-length-9 t c = c .before .before .instantiate-apply .ensures .changed .lay .size ∙ sym (c .before .before .before .before .before .before .before .before .before .before .before .pre .1 .0 .size)
-
-instantiate-down-returns-10 : (t : ℕ) → instantiate-down-lts.Need-returns-10 (instantiate-down-calls t) (instantiate-down-at t) instantiate-down.Post
-instantiate-down-returns-10 t c =
+instantiate-down-returns-8 : (t : ℕ) → instantiate-down-lts.Need-returns-8 (instantiate-down-calls t) (instantiate-down-at t) instantiate-down.Post
+unfolding instantiate-value with-args seen with-structs args-at
+instantiate-down-returns-8 t c =
     let pre = c .before .before .before .before .before .before .before .before .before .before .before .pre in
-    let if1 = c .before .before .before .before .before .before .before .before .before .if1 in
     let node-at = c .before .before .before .before .before .before .before .node-at in
+    let if1 = c .before .before .before .before .before .before .before .before .before .if1 in
     let shape2 = c .before .before .before .before .before .shape2 in
-    apply-by _ _ _ _ _ _ (pre .1 .0) (if1 .left) (node-at .ensures) _ _ _ _ (shape2 .given .1) _ _
-    (c .before .before .instantiate-apply .ensures)
+    level-by levels _ _ _ _ (pre .1 .0) (node-at .result) (if1 .left) (node-at .ensures) (shape2 .given .1) (λ ds. refl) (c .before .before .instantiate-apply .ensures)
 
 pub +instantiate-apply+instantiate-down-spec : {M : Type 1} → statement M
 +instantiate-apply+instantiate-down-spec =
     close μ-instantiate-apply μ-instantiate-down (λ t. instantiate-apply-lts.spec (instantiate-apply-calls t) (instantiate-apply-at t) instantiate-apply.Post
     instantiate-apply-Inv-loop
     instantiate-apply-μ-loop
-    (instantiate-apply-make-tparams-requires t)
-    (instantiate-apply-done-of-requires t)
-    (instantiate-apply-enum-told t)
-    (instantiate-apply-enum-told-2 t)
-    (instantiate-apply-stay-requires t)
-    (instantiate-apply-same-length t)
+    (λ c κs. search needs)
+    (λ c κs. search needs)
+    (λ c. search needs)
+    (λ c. search needs)
+    (λ c κs. search needs)
+    (λ c. search needs)
     (instantiate-apply-returns t)
     (instantiate-apply-loop-holds t)
-    (instantiate-apply-arg-at-requires t)
+    (λ c κs. search needs)
     (instantiate-apply-instantiate-down-requires t)
-    (instantiate-apply-done-of-requires-2 t)
-    (instantiate-apply-enum-known-p t)
-    (instantiate-apply-enum-told-3 t)
+    (λ c κs. search needs)
+    (λ c. search needs)
+    (λ c. search needs)
     (instantiate-apply-same-length-2 t)
     (instantiate-apply-returns-2 t)
-    (instantiate-apply-wide-requires t)
-    (instantiate-apply-mul-parts t)
-    (instantiate-apply-array-write-parts t)
-    (instantiate-apply-add-i t)
-    (instantiate-apply-loop-less t)
+    (λ c κs. search needs)
+    (λ c. search needs)
+    (λ c. search needs)
+    (λ c. search needs)
+    (λ c. search needs)
     (instantiate-apply-loop-again t)
     (instantiate-apply-join-args-requires t)
     (instantiate-apply-same-length-3 t)
     (instantiate-apply-returns-3 t))
     λ t. instantiate-down-lts.spec (instantiate-down-calls t) (instantiate-down-at t) instantiate-down.Post
-    (instantiate-down-stay-requires t)
+    (λ c κs. search needs)
     (instantiate-down-returns t)
-    (instantiate-down-node-at-requires t)
-    (instantiate-down-enum-told t)
-    (instantiate-down-stay-requires-2 t)
-    (instantiate-down-enum-told-2 t)
-    (instantiate-down-stay-requires-3 t)
-    (instantiate-down-enum-told-3 t)
-    (instantiate-down-stay-requires-4 t)
-    (instantiate-down-enum-told-4 t)
-    (instantiate-down-stay-requires-5 t)
-    (instantiate-down-enum-told-5 t)
-    (instantiate-down-make-tvar-requires t)
-    (instantiate-down-enum-known-shape t)
-    (instantiate-down-push-constraint-requires t)
-    (instantiate-down-done-of-requires t)
-    (instantiate-down-enum-told-6 t)
-    (instantiate-down-enum-told-7 t)
-    (instantiate-down-same-length t)
+    (λ c κs. search needs)
+    (λ c κs. search needs)
+    (λ c. search needs)
+    (λ c κs. search needs)
+    (λ c. search needs)
+    (λ c κs. search needs)
+    (λ c. search needs)
+    (λ c κs. search needs)
+    (λ c κs. search needs)
+    (λ c. search needs)
+    (λ c. search needs)
+    (λ c. search needs)
     (instantiate-down-returns-2 t)
-    (instantiate-down-sub-instantiate-down t)
+    (λ c. search needs)
     (instantiate-down-instantiate-down-requires t)
-    (instantiate-down-done-of-requires-2 t)
-    (instantiate-down-enum-known-p t)
-    (instantiate-down-enum-told-8 t)
-    (instantiate-down-same-length-2 t)
+    (λ c κs. search needs)
+    (λ c. search needs)
+    (λ c. search needs)
+    (λ c. search needs)
     (instantiate-down-returns-3 t)
     (instantiate-down-push-node-requires t)
-    (instantiate-down-enum-known-shape-2 t)
-    (instantiate-down-sub-instantiate-apply t)
+    (λ c. search needs)
+    (λ c. search needs)
     (instantiate-down-instantiate-apply-requires t)
-    (instantiate-down-same-length-3 t)
+    (λ c. search needs)
     (instantiate-down-returns-4 t)
-    (instantiate-down-same-length-4 t)
+    (λ c. search needs)
     (instantiate-down-returns-5 t)
-    (instantiate-down-same-length-5 t)
+    (λ c. search needs)
     (instantiate-down-returns-6 t)
     (instantiate-down-same-length-6 t)
     (instantiate-down-returns-7 t)
-    (instantiate-down-same-length-7 t)
+    (λ c. search needs)
     (instantiate-down-returns-8 t)
-    (instantiate-down-same-length-8 t)
-    (instantiate-down-returns-9 t)
-    (instantiate-down-same-length-9 t)
-    (instantiate-down-returns-10 t)

@@ -4,21 +4,6 @@ use mathlib.Core.Path.{refl}
 use borrow.Author.Needs.{needs}
 use Rattle.instantiate.proofs.ability_at.Statement.{statement}
 use Rattle.instantiate.proofs.ability_at.Tie as tie
-use Rattle.instantiate.proofs.ability_at.Reads as reads
-use Rattle.instantiate.proofs.ability_at.Lts as lts
-use Rattle.instantiate.proofs.struct_ability.Reads as struct-ability-reads
-
-enum-told : tie.Need-enum-told
-enum-told c = search needs
-
-enum-told-2 : tie.Need-enum-told-2
-enum-told-2 c = search needs
-
-enum-known-n : tie.Need-enum-known-n
-enum-known-n c = search needs
-
-struct-ability-requires : tie.Need-struct-ability-requires
-struct-ability-requires c κs = search needs
 
 returns : tie.Need-returns
 unfolding ability-at
@@ -36,10 +21,10 @@ pub ability-at-spec : {M : Type 1} → statement M
 ability-at-spec =
     tie.close
     (tie.spec
-    enum-told
-    enum-told-2
-    enum-known-n
-    struct-ability-requires
+    (λ c. search needs)
+    (λ c. search needs)
+    (λ c. search needs)
+    (λ c κs. search needs)
     returns
     returns-2
     returns-3)

@@ -1,24 +1,14 @@
 -- `instantiate::instantiate` meets its contract. Assumes nothing.
-use Rattle.instantiate.proofs.DownLaws.{instantiate-is}
+use native.Mathlib.Numerals.{add-one}
+use Rattle.definition.specs.Instantiate as D
 use borrow.Author.Needs.{needs}
 use Rattle.instantiate.proofs.instantiate.Statement.{statement}
 use Rattle.instantiate.proofs.instantiate.Tie as tie
-use Rattle.instantiate.proofs.instantiate.Reads as reads
-use Rattle.instantiate.proofs.instantiate.Lts as lts
-use Rattle.instantiate.proofs.instantiate_down.Reads as instantiate-down-reads
-
-add-instantiate-down : tie.Need-add-instantiate-down
-add-instantiate-down c = search needs
-
-instantiate-down-requires : tie.Need-instantiate-down-requires
-instantiate-down-requires c κs = search needs
-
-same-length : tie.Need-same-length
-same-length c = search needs
 
 returns : tie.Need-returns
-returns c = instantiate-is _ _ _ _ _ _ (c .before .before .instantiate-down .ensures)
+unfolding D.instantiate
+returns c = rw add-one at (c .before .before .instantiate-down .ensures)
 
 pub instantiate-spec : {M : Type 1} → statement M
 instantiate-spec =
-    tie.close (tie.spec add-instantiate-down instantiate-down-requires same-length returns)
+    tie.close (tie.spec (λ c. search needs) (λ c κs. search needs) (λ c. search needs) returns)

@@ -5,32 +5,6 @@ use mathlib.Core.Path.{sym, _∙_}
 use borrow.Author.Needs.{needs}
 use Rattle.instantiate.proofs.make_tparam.Statement.{statement}
 use Rattle.instantiate.proofs.make_tparam.Tie as tie
-use Rattle.instantiate.proofs.make_tparam.Reads as reads
-use Rattle.instantiate.proofs.make_tparam.Lts as lts
-use Rattle.instantiate.proofs.make_tvar.Reads as make-tvar-reads
-use Rattle.instantiate.proofs.stay.Reads as stay-reads
-use Rattle.instantiate.proofs.tvar_constraint.Reads as tvar-constraint-reads
-use Rattle.table.proofs.done_of.Reads as done-of-reads
-use Rattle.table.proofs.node_at.Reads as node-at-reads
-use Rattle.table.proofs.push_constraint.Reads as push-constraint-reads
-
-node-at-requires : tie.Need-node-at-requires
-node-at-requires c κs = search needs
-
-make-tvar-requires : tie.Need-make-tvar-requires
-make-tvar-requires c κs = search needs
-
-done-of-requires : tie.Need-done-of-requires
-done-of-requires c κs = search needs
-
-enum-known-tvar : tie.Need-enum-known-tvar
-enum-known-tvar c = search needs
-
-enum-told : tie.Need-enum-told
-enum-told c = search needs
-
-same-length : tie.Need-same-length
-same-length c = search needs
 
 returns : tie.Need-returns
 returns c =
@@ -38,21 +12,6 @@ returns c =
     let make-tvar = c .before .before .before .before .before .before .make-tvar in
     tparam-stop _ _ _ _ _ _ _ (λ ds. loc-is _ _ (node-at .result) (node-at .ensures ds)) _ _ _ (make-tvar .ensures)
     (c .before .before .done-of .ensures) (c .enum-told .given .1)
-
-push-constraint-requires : tie.Need-push-constraint-requires
-push-constraint-requires c κs = search needs
-
-done-of-requires-2 : tie.Need-done-of-requires-2
-done-of-requires-2 c κs = search needs
-
-enum-told-2 : tie.Need-enum-told-2
-enum-told-2 c = search needs
-
-enum-told-3 : tie.Need-enum-told-3
-enum-told-3 c = search needs
-
-same-length-2 : tie.Need-same-length-2
-same-length-2 c = search needs
 
 returns-2 : tie.Need-returns-2
 returns-2 c =
@@ -65,21 +24,6 @@ returns-2 c =
     tparam-stop2 _ _ _ _ _ _ _ (λ ds. loc-is _ _ (node-at .result) (node-at .ensures ds)) _ _ _ (make-tvar .ensures)
     (done-of .ensures) _ (tvar .given .1) _ _ _ (push-constraint .ensures) (c .before .before .done-of2 .ensures)
     (c .enum-told3 .given .1)
-
-tvar-constraint-requires : tie.Need-tvar-constraint-requires
-tvar-constraint-requires c κs = search needs
-
-push-constraint-requires-2 : tie.Need-push-constraint-requires-2
-push-constraint-requires-2 c κs = search needs
-
-done-of-requires-3 : tie.Need-done-of-requires-3
-done-of-requires-3 c κs = search needs
-
-enum-told-4 : tie.Need-enum-told-4
-enum-told-4 c = search needs
-
-enum-told-5 : tie.Need-enum-told-5
-enum-told-5 c = search needs
 
 same-length-3 : tie.Need-same-length-3
 same-length-3 c =
@@ -106,9 +50,6 @@ returns-3 c =
     (done-of .ensures) _ (tvar .given .1) _ _ _ (push-constraint .ensures) (done-of2 .ensures) _
     (enum-told2 .given .1) (tvar-constraint .result) (tvar-constraint .ensures) _ _ _ (push-constraint2 .ensures)
     (c .before .before .done-of3 .ensures) (c .enum-told5 .given .1)
-
-stay-requires : tie.Need-stay-requires
-stay-requires c κs = search needs
 
 same-length-4 : tie.Need-same-length-4
 same-length-4 c =
@@ -140,26 +81,26 @@ pub make-tparam-spec : {M : Type 1} → statement M
 make-tparam-spec =
     tie.close
     (tie.spec
-    node-at-requires
-    make-tvar-requires
-    done-of-requires
-    enum-known-tvar
-    enum-told
-    same-length
+    (λ c κs. search needs)
+    (λ c κs. search needs)
+    (λ c κs. search needs)
+    (λ c. search needs)
+    (λ c. search needs)
+    (λ c. search needs)
     returns
-    push-constraint-requires
-    done-of-requires-2
-    enum-told-2
-    enum-told-3
-    same-length-2
+    (λ c κs. search needs)
+    (λ c κs. search needs)
+    (λ c. search needs)
+    (λ c. search needs)
+    (λ c. search needs)
     returns-2
-    tvar-constraint-requires
-    push-constraint-requires-2
-    done-of-requires-3
-    enum-told-4
-    enum-told-5
+    (λ c κs. search needs)
+    (λ c κs. search needs)
+    (λ c κs. search needs)
+    (λ c. search needs)
+    (λ c. search needs)
     same-length-3
     returns-3
-    stay-requires
+    (λ c κs. search needs)
     same-length-4
     returns-4)

@@ -3,25 +3,6 @@ use Rattle.instantiate.proofs.ArgLaws.{count-multiple, count-builtin, c
 use borrow.Author.Needs.{needs}
 use Rattle.instantiate.proofs.tparam_count.Statement.{statement}
 use Rattle.instantiate.proofs.tparam_count.Tie as tie
-use Rattle.instantiate.proofs.tparam_count.Reads as reads
-use Rattle.instantiate.proofs.tparam_count.Lts as lts
-use Rattle.instantiate.proofs.builtin_tparams.Reads as builtin-tparams-reads
-use Rattle.table.proofs.struct_at.Reads as struct-at-reads
-
-enum-known-n : tie.Need-enum-known-n
-enum-known-n c = search needs
-
-enum-known-n-2 : tie.Need-enum-known-n-2
-enum-known-n-2 c = search needs
-
-builtin-tparams-requires : tie.Need-builtin-tparams-requires
-builtin-tparams-requires c κs = search needs
-
-enum-known-n-3 : tie.Need-enum-known-n-3
-enum-known-n-3 c = search needs
-
-struct-at-requires : tie.Need-struct-at-requires
-struct-at-requires c κs = search needs
 
 returns : tie.Need-returns
 returns c = λ ds k. rw (c .before .n .given .1) (count-multiple _ _ ds _)
@@ -36,11 +17,11 @@ pub tparam-count-spec : {M : Type 1} → statement M
 tparam-count-spec =
     tie.close
     (tie.spec
-    enum-known-n
-    enum-known-n-2
-    builtin-tparams-requires
-    enum-known-n-3
-    struct-at-requires
+    (λ c. search needs)
+    (λ c. search needs)
+    (λ c κs. search needs)
+    (λ c. search needs)
+    (λ c κs. search needs)
     returns
     returns-2
     returns-3)

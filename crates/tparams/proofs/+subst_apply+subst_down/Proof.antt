@@ -1,19 +1,20 @@
 -- `tparams::subst_apply` and `tparams::subst_down` meet their contracts. Assumes nothing.
-use mathlib.Core.Path.{_≡_, refl, sym, _∙_}
+use mathlib.Core.Path.{refl}
 use native.Mathlib.Omega.{arith}
 use borrow.Author.Needs.{needs}
 use Rattle.definition.specs.TParams as D
+use Rattle.definition.specs.TParams.{subst-value}
 use Rattle.names.specs.Names.{mark-of, name-of}
 use Rattle.tparams.specs.Pairs.{subst-of}
 use Rattle.tparams.proofs.PairLaws.{args-in}
-use Rattle.definition.specs.Store.{args-at}
-use Rattle.table.specs.Rows.{places}
-use Rattle.table.specs.State.{Any, view}
+use Rattle.definition.specs.Store.{args-at, with-args, with-structs}
+use Rattle.table.specs.State.{Any, seen, outcome}
 use Rattle.table.proofs.Steps.{after-done}
 use Rattle.table.proofs.Grown.{nodes-grow, parts-grow}
 use Rattle.table.proofs.Parts.{ref-below, named}
-use Rattle.table.proofs.Walk.{sp-apply, Walked, placed-length, arg-kept, named-below, walk-start, walk-stop, walk-more, walk-end, walk-parts}
-use Rattle.tparams.proofs.DownLaws.{down-zero, down-unit, down-anything, down-error, down-var, down-param, ref-stop, ref-then, apply-walked, apply-by}
+use Rattle.table.proofs.Walk.{rest, sp-apply, named-below}
+use Rattle.shapes.proofs.Levels.{level-none, level-by, level-stays, ref-stop, ref-then, Through, through-start, through-in, through-stop, through-more, through-end, through-parts}
+use Rattle.tparams.proofs.DownLaws.{levels, whole, answered}
 use Prim.Native.Nat.{ℕ, _+_, _*_, _-_, _<_}
 use borrow.Fn.Kinds.{In}
 use borrow.Fn.PlainCycle.{Measures, is, falls, and}
@@ -79,159 +80,57 @@ subst-down-calls t = (
 
 abbrev subst-apply-Inv-loop : subst-apply-lts.InvT-loop
 subst-apply-Inv-loop w₀ left subst loc ty parts₀ v₀ i₀ w parts v i =
-    Walked Any (D.subst-down left (subst-of subst)) (sp-apply loc (mark-of (ty .k)) (name-of (ty .n))) (args-at (view w₀ v₀) (places (ty .first) (ty .many))) (ty .many) w₀ v₀ w v parts i
+    Through Any (D.subst-down left (subst-of subst)) (sp-apply loc (mark-of (ty .k)) (name-of (ty .n))) (ty .first) (ty .many) w₀ v₀ w v parts i
 
 abbrev subst-apply-μ-loop : subst-apply-lts.MeasureT-loop
 subst-apply-μ-loop w₀ left subst loc ty parts₀ v₀ i₀ w parts v i = ty .many - i
 
 subst-apply-loop-holds : (t : ℕ) → subst-apply-lts.Need-loop-holds (subst-apply-calls t) (subst-apply-at t) subst-apply.Post subst-apply-Inv-loop subst-apply-μ-loop
-subst-apply-loop-holds t c = walk-start (c .before .pre .1 .0) (placed-length _ _ _ _ (c .before .pre .1 .1 .0 .placed)) (c .before .pre .1 .1 .0 .placed .few) refl
-
-subst-apply-arg-at-requires : (t : ℕ) → subst-apply-lts.Need-arg-at-requires (subst-apply-calls t) (subst-apply-at t) subst-apply.Post subst-apply-Inv-loop subst-apply-μ-loop
-subst-apply-arg-at-requires t c κs = search needs
+subst-apply-loop-holds t c = through-start (c .before .pre .1 .0) (c .before .pre .1 .1 .0) refl
 
 subst-apply-subst-down-requires : (t : ℕ) → subst-apply-lts.Need-subst-down-requires (subst-apply-calls t) (subst-apply-at t) subst-apply.Post subst-apply-Inv-loop subst-apply-μ-loop
 subst-apply-subst-down-requires t c κs =
     let pre = c .before .before .before .before .before .before .before .pre in
-    let loop = c .before .before .before .before .before .loop in
-    let loop-test = c .before .before .before .if1 in (
+    let loop = c .before .before .before .before .before .loop in (
       omega (arith, pre .0),
       (
-        loop .inv .changed .lay,
+        loop .inv .walked .changed .lay,
         (
-          omega (
-            arith,
-            (arg-kept _ _ _ _ (pre .1 .1 .0 .placed) _ _ (loop .inv .changed .grown) _ _ (loop-test .taken)
-                (c .before .arg-at .ensures)),
-            pre .1 .1 .0 .smaller _ (loop-test .taken),
-            nodes-grow _ _ _ _ (loop .inv .changed .grown),
-          ),
-          parts-grow _ _ _ _ (nodes-grow _ _ _ _ (loop .inv .changed .grown)) (pre .1 .1 .1),
+          through-in (loop .inv) (c .before .before .before .if1 .taken) (c .before .arg-at .ensures),
+          parts-grow _ _ _ _ (nodes-grow _ _ _ _ (loop .inv .walked .changed .grown)) (pre .1 .1 .1),
         ),
       ),
     )
 
-subst-apply-done-of-requires : (t : ℕ) → subst-apply-lts.Need-done-of-requires (subst-apply-calls t) (subst-apply-at t) subst-apply.Post subst-apply-Inv-loop subst-apply-μ-loop
-subst-apply-done-of-requires t c κs = search needs
-
-subst-apply-enum-known-p : (t : ℕ) → subst-apply-lts.Need-enum-known-p (subst-apply-calls t) (subst-apply-at t) subst-apply.Post subst-apply-Inv-loop subst-apply-μ-loop
-subst-apply-enum-known-p t c = search needs
-
-subst-apply-enum-told : (t : ℕ) → subst-apply-lts.Need-enum-told (subst-apply-calls t) (subst-apply-at t) subst-apply.Post subst-apply-Inv-loop subst-apply-μ-loop
-subst-apply-enum-told t c = search needs
-
-subst-apply-same-length : (t : ℕ) → subst-apply-lts.Need-same-length (subst-apply-calls t) (subst-apply-at t) subst-apply.Post subst-apply-Inv-loop subst-apply-μ-loop
-subst-apply-same-length t c = c .before .before .before .before .before .subst-down .ensures .changed .lay .size ∙ sym (c .before .before .before .before .before .before .before .before .before .before .before .before .before .pre .1 .0 .size)
-
 subst-apply-returns : (t : ℕ) → subst-apply-lts.Need-returns (subst-apply-calls t) (subst-apply-at t) subst-apply.Post subst-apply-Inv-loop subst-apply-μ-loop
+unfolding subst-value rest sp-apply
 subst-apply-returns t c =
-    let pre = c .before .before .before .before .before .before .before .before .before .before .before .before .before .pre in
     let loop = c .before .before .before .before .before .before .before .before .before .before .before .loop in
-    let loop-test = c .before .before .before .before .before .before .before .before .before .if1 in
+    let if1 = c .before .before .before .before .before .before .before .before .before .if1 in
     let arg-at = c .before .before .before .before .before .before .before .arg-at in
     let subst-down = c .before .before .before .before .before .subst-down in
-    apply-walked _ _ _ _ _ _ _ _ _ _
-    (walk-stop (loop .inv) (loop-test .taken)
-    (arg-kept _ _ _ _ (pre .1 .1 .0 .placed) _ _ (loop .inv .changed .grown) _ _ (loop-test .taken) (arg-at .ensures))
-    (subst-down .ensures) (c .before .before .done-of .ensures) (c .enum-told .given .1))
-
-subst-apply-wide-requires : (t : ℕ) → subst-apply-lts.Need-wide-requires (subst-apply-calls t) (subst-apply-at t) subst-apply.Post subst-apply-Inv-loop subst-apply-μ-loop
-subst-apply-wide-requires t c κs = search needs
-
-subst-apply-mul-parts : (t : ℕ) → subst-apply-lts.Need-mul-parts (subst-apply-calls t) (subst-apply-at t) subst-apply.Post subst-apply-Inv-loop subst-apply-μ-loop
-subst-apply-mul-parts t c =
-    let pre = c .before .before .before .before .before .before .before .before .before .before .before .before .before .before .before .pre in
-    let loop-test = c .before .before .before .before .before .before .before .before .before .before .before .if1 in
-    omega (arith, c .wide .ensures, (pre .1 .1 .0 .placed) .few, loop-test .taken)
-
-subst-apply-array-write-parts : (t : ℕ) → subst-apply-lts.Need-array-write-parts (subst-apply-calls t) (subst-apply-at t) subst-apply.Post subst-apply-Inv-loop subst-apply-μ-loop
-subst-apply-array-write-parts t c =
-    let pre = c .before .before .before .before .before .before .before .before .before .before .before .before .before .before .before .pre in
-    let loop-test = c .before .before .before .before .before .before .before .before .before .before .before .if1 in
-    omega (arith, c .wide .ensures, (pre .1 .1 .0 .placed) .few, loop-test .taken)
-
-subst-apply-add-i : (t : ℕ) → subst-apply-lts.Need-add-i (subst-apply-calls t) (subst-apply-at t) subst-apply.Post subst-apply-Inv-loop subst-apply-μ-loop
-subst-apply-add-i t c =
-    let pre = c .before .before .before .before .before .before .before .before .before .before .before .before .before .before .before .before .pre in
-    let loop-test = c .before .before .before .before .before .before .before .before .before .before .before .before .if1 in
-    omega (arith, (pre .1 .1 .0 .placed) .few, loop-test .taken)
-
-subst-apply-loop-less : (t : ℕ) → subst-apply-lts.Need-loop-less (subst-apply-calls t) (subst-apply-at t) subst-apply.Post subst-apply-Inv-loop subst-apply-μ-loop
-subst-apply-loop-less t c = search needs
+    through-stop (loop .inv) (if1 .taken) (arg-at .ensures) (subst-down .ensures) (c .before .before .done-of .ensures) (c .enum-told .given .1)
 
 subst-apply-loop-again : (t : ℕ) → subst-apply-lts.Need-loop-again (subst-apply-calls t) (subst-apply-at t) subst-apply.Post subst-apply-Inv-loop subst-apply-μ-loop
 subst-apply-loop-again t c =
-    let pre = c .before .before .before .before .before .before .before .before .before .before .before .before .before .before .before .before .pre in
     let loop = c .before .before .before .before .before .before .before .before .before .before .before .before .before .before .loop in
-    let loop-test = c .before .before .before .before .before .before .before .before .before .before .before .before .if1 in
+    let if1 = c .before .before .before .before .before .before .before .before .before .before .before .before .if1 in
     let arg-at = c .before .before .before .before .before .before .before .before .before .before .arg-at in
     let subst-down = c .before .before .before .before .before .before .before .before .subst-down in
     let done-of = c .before .before .before .before .before .done-of in
-    walk-more (loop .inv) (loop-test .taken)
-    (arg-kept _ _ _ _ (pre .1 .1 .0 .placed) _ _ (loop .inv .changed .grown) _ _ (loop-test .taken) (arg-at .ensures))
-    (subst-down .ensures) (done-of .ensures) (c .before .before .before .p .given .1) (c .before .wide .ensures)
+    through-more (loop .inv) (if1 .taken) (arg-at .ensures) (subst-down .ensures) (done-of .ensures) (c .before .before .before .p .given .1) (c .before .wide .ensures)
 
 subst-apply-push-apply-requires : (t : ℕ) → subst-apply-lts.Need-push-apply-requires (subst-apply-calls t) (subst-apply-at t) subst-apply.Post subst-apply-Inv-loop subst-apply-μ-loop
-subst-apply-push-apply-requires t c κs =
-    let loop = c .before .before .before .loop in (loop .inv .changed .lay, walk-parts (loop .inv) (c .before .if1 .left))
-
-subst-apply-same-length-2 : (t : ℕ) → subst-apply-lts.Need-same-length-2 (subst-apply-calls t) (subst-apply-at t) subst-apply.Post subst-apply-Inv-loop subst-apply-μ-loop
-subst-apply-same-length-2 t c = c .before .before .push-apply .ensures .changed .lay .size ∙ sym (c .before .before .before .before .before .before .before .before .pre .1 .0 .size)
+subst-apply-push-apply-requires t c κs = (c .before .before .before .loop .inv .walked .changed .lay, through-parts (c .before .before .before .loop .inv) (c .before .if1 .left))
 
 subst-apply-returns-2 : (t : ℕ) → subst-apply-lts.Need-returns-2 (subst-apply-calls t) (subst-apply-at t) subst-apply.Post subst-apply-Inv-loop subst-apply-μ-loop
-unfolding sp-apply
+unfolding subst-value rest sp-apply
 subst-apply-returns-2 t c =
-    apply-walked _ _ _ _ _ _ _ _ _ _
-    (walk-end (c .before .before .before .before .before .before .loop .inv) (c .before .before .before .before .if1 .left)
-    (c .before .before .push-apply .ensures))
-
-subst-down-stay-requires : (t : ℕ) → subst-down-lts.Need-stay-requires (subst-down-calls t) (subst-down-at t) subst-down.Post
-subst-down-stay-requires t c κs = search needs
+    let loop = c .before .before .before .before .before .before .loop in
+    through-end (loop .inv) (c .before .before .before .before .if1 .left) (c .before .before .push-apply .ensures)
 
 subst-down-returns : (t : ℕ) → subst-down-lts.Need-returns (subst-down-calls t) (subst-down-at t) subst-down.Post
-subst-down-returns t c = down-zero _ _ _ _ _ _ (c .before .before .before .pre .1 .0) (c .before .if1 .taken) (c .stay .ensures)
-
-subst-down-node-at-requires : (t : ℕ) → subst-down-lts.Need-node-at-requires (subst-down-calls t) (subst-down-at t) subst-down.Post
-subst-down-node-at-requires t c κs = search needs
-
-subst-down-enum-told : (t : ℕ) → subst-down-lts.Need-enum-told (subst-down-calls t) (subst-down-at t) subst-down.Post
-subst-down-enum-told t c = search needs
-
-subst-down-stay-requires-2 : (t : ℕ) → subst-down-lts.Need-stay-requires-2 (subst-down-calls t) (subst-down-at t) subst-down.Post
-subst-down-stay-requires-2 t c κs = search needs
-
-subst-down-enum-told-2 : (t : ℕ) → subst-down-lts.Need-enum-told-2 (subst-down-calls t) (subst-down-at t) subst-down.Post
-subst-down-enum-told-2 t c = search needs
-
-subst-down-stay-requires-3 : (t : ℕ) → subst-down-lts.Need-stay-requires-3 (subst-down-calls t) (subst-down-at t) subst-down.Post
-subst-down-stay-requires-3 t c κs = search needs
-
-subst-down-enum-told-3 : (t : ℕ) → subst-down-lts.Need-enum-told-3 (subst-down-calls t) (subst-down-at t) subst-down.Post
-subst-down-enum-told-3 t c = search needs
-
-subst-down-stay-requires-4 : (t : ℕ) → subst-down-lts.Need-stay-requires-4 (subst-down-calls t) (subst-down-at t) subst-down.Post
-subst-down-stay-requires-4 t c κs = search needs
-
-subst-down-enum-told-4 : (t : ℕ) → subst-down-lts.Need-enum-told-4 (subst-down-calls t) (subst-down-at t) subst-down.Post
-subst-down-enum-told-4 t c = search needs
-
-subst-down-stay-requires-5 : (t : ℕ) → subst-down-lts.Need-stay-requires-5 (subst-down-calls t) (subst-down-at t) subst-down.Post
-subst-down-stay-requires-5 t c κs = search needs
-
-subst-down-enum-known-shape : (t : ℕ) → subst-down-lts.Need-enum-known-shape (subst-down-calls t) (subst-down-at t) subst-down.Post
-subst-down-enum-known-shape t c = search needs
-
-subst-down-arg-or-none-requires : (t : ℕ) → subst-down-lts.Need-arg-or-none-requires (subst-down-calls t) (subst-down-at t) subst-down.Post
-subst-down-arg-or-none-requires t c κs = search needs
-
-subst-down-stay-requires-6 : (t : ℕ) → subst-down-lts.Need-stay-requires-6 (subst-down-calls t) (subst-down-at t) subst-down.Post
-subst-down-stay-requires-6 t c κs = search needs
-
-subst-down-enum-known-shape-2 : (t : ℕ) → subst-down-lts.Need-enum-known-shape-2 (subst-down-calls t) (subst-down-at t) subst-down.Post
-subst-down-enum-known-shape-2 t c = search needs
-
-subst-down-sub-subst-down : (t : ℕ) → subst-down-lts.Need-sub-subst-down (subst-down-calls t) (subst-down-at t) subst-down.Post
-subst-down-sub-subst-down t c = search needs
+subst-down-returns t c = level-none (levels _) _ _ _ _ (c .before .before .before .pre .1 .0) (c .before .if1 .taken) (c .stay .ensures)
 
 subst-down-subst-down-requires : (t : ℕ) → subst-down-lts.Need-subst-down-requires (subst-down-calls t) (subst-down-at t) subst-down.Post
 subst-down-subst-down-requires t c κs =
@@ -241,52 +140,27 @@ subst-down-subst-down-requires t c κs =
       (
         pre .1 .0,
         (
-          omega (
-            arith,
-            ref-below _ _ _ _ (pre .1 .0) (pre .1 .1 .0) (c .before .before .before .before .node-at .ensures) _
-                _ (c .before .before .shape2 .given .1),
-            pre .1 .1 .0,
-          ),
+          omega (arith, ref-below _ _ _ _ (pre .1 .0) (pre .1 .1 .0) (c .before .before .before .before .node-at .ensures) _ _ (c .before .before .shape2 .given .1), pre .1 .1 .0),
           pre .1 .1 .1,
         ),
       ),
     )
 
-subst-down-done-of-requires : (t : ℕ) → subst-down-lts.Need-done-of-requires (subst-down-calls t) (subst-down-at t) subst-down.Post
-subst-down-done-of-requires t c κs = search needs
-
-subst-down-enum-known-p : (t : ℕ) → subst-down-lts.Need-enum-known-p (subst-down-calls t) (subst-down-at t) subst-down.Post
-subst-down-enum-known-p t c = search needs
-
-subst-down-enum-told-5 : (t : ℕ) → subst-down-lts.Need-enum-told-5 (subst-down-calls t) (subst-down-at t) subst-down.Post
-subst-down-enum-told-5 t c = search needs
-
-subst-down-same-length : (t : ℕ) → subst-down-lts.Need-same-length (subst-down-calls t) (subst-down-at t) subst-down.Post
-subst-down-same-length t c = c .before .before .before .before .before .before .subst-down .ensures .changed .lay .size ∙ sym (c .before .before .before .before .before .before .before .before .before .before .before .before .before .before .before .pre .1 .0 .size)
-
 subst-down-returns-2 : (t : ℕ) → subst-down-lts.Need-returns-2 (subst-down-calls t) (subst-down-at t) subst-down.Post
+unfolding subst-value with-args
 subst-down-returns-2 t c =
     let pre = c .before .before .before .before .before .before .before .before .before .before .before .before .before .before .before .pre in
-    let if1 = c .before .before .before .before .before .before .before .before .before .before .before .before .before .if1 in
     let node-at = c .before .before .before .before .before .before .before .before .before .before .before .node-at in
+    let if1 = c .before .before .before .before .before .before .before .before .before .before .before .before .before .if1 in
     let shape2 = c .before .before .before .before .before .before .before .before .before .shape2 in
     let subst-down = c .before .before .before .before .before .before .subst-down in
-    ref-stop _ _ _ _ _ _ (pre .1 .0) (if1 .left) (node-at .ensures) _ _ (shape2 .given .1) _ _ _ (subst-down .ensures)
-    (c .before .before .done-of .ensures) (c .enum-told5 .given .1)
+    level-by (levels _) _ _ _ _ (pre .1 .0) (node-at .result) (if1 .left) (node-at .ensures) (shape2 .given .1) (λ ds. refl)
+    (ref-stop _ _ (subst-down .ensures) (c .before .before .done-of .ensures) (c .enum-told2 .given .1))
 
 subst-down-push-node-requires : (t : ℕ) → subst-down-lts.Need-push-node-requires (subst-down-calls t) (subst-down-at t) subst-down.Post
 subst-down-push-node-requires t c κs =
-    let subst-down = c .before .before .before .before .before .before .before .before .subst-down in (
-      subst-down .ensures .changed .lay,
-      after-done (subst-down .ensures) (c .before .before .before .before .done-of .ensures)
-          (c .before .before .p .given .1),
-    )
-
-subst-down-enum-known-shape-3 : (t : ℕ) → subst-down-lts.Need-enum-known-shape-3 (subst-down-calls t) (subst-down-at t) subst-down.Post
-subst-down-enum-known-shape-3 t c = search needs
-
-subst-down-sub-subst-apply : (t : ℕ) → subst-down-lts.Need-sub-subst-apply (subst-down-calls t) (subst-down-at t) subst-down.Post
-subst-down-sub-subst-apply t c = search needs
+    let subst-down = c .before .before .before .before .before .before .before .before .subst-down in
+    (subst-down .ensures .changed .lay, after-done (subst-down .ensures) (c .before .before .before .before .done-of .ensures) (c .before .before .p .given .1))
 
 subst-down-subst-apply-requires : (t : ℕ) → subst-down-lts.Need-subst-apply-requires (subst-down-calls t) (subst-down-at t) subst-down.Post
 subst-down-subst-apply-requires t c κs =
@@ -296,148 +170,108 @@ subst-down-subst-apply-requires t c κs =
       (
         pre .1 .0,
         (
-          named-below _ _ _ _ _ _ (pre .1 .1 .0)
-              (named _ _ _ _ (pre .1 .0) (pre .1 .1 .0) (c .before .before .before .before .node-at .ensures) _
-              _ _ _ (c .before .before .shape3 .given .1)),
+          named-below _ _ _ _ _ _ (pre .1 .1 .0) (named _ _ _ _ (pre .1 .0) (pre .1 .1 .0) (c .before .before .before .before .node-at .ensures) _ _ _ _ (c .before .before .shape3 .given .1)),
           pre .1 .1 .1,
         ),
       ),
     )
 
-subst-down-same-length-2 : (t : ℕ) → subst-down-lts.Need-same-length-2 (subst-down-calls t) (subst-down-at t) subst-down.Post
-subst-down-same-length-2 t c = search needs
-
 subst-down-returns-3 : (t : ℕ) → subst-down-lts.Need-returns-3 (subst-down-calls t) (subst-down-at t) subst-down.Post
+unfolding outcome
 subst-down-returns-3 t c =
-    let pre = c .before .before .before .before .before .before .before .pre in
-    let if1 = c .before .before .before .before .before .if1 in
-    down-unit _ _ _ _ _ _ (pre .1 .0) (if1 .left) (c .before .before .before .node-at .ensures) _ (pre .1 .1 .0)
-    (c .stay2 .ensures) (c .before .enum-told .given .1)
-
-subst-down-same-length-3 : (t : ℕ) → subst-down-lts.Need-same-length-3 (subst-down-calls t) (subst-down-at t) subst-down.Post
-subst-down-same-length-3 t c = search needs
+    let pre = c .before .before .before .before .before .before .pre in
+    level-stays (levels _) _ _ _ _ (pre .1 .0) (c .before .before .node-at .result) (c .before .before .before .before .if1 .left) (c .before .before .node-at .ensures) _ refl (c .stay2 .ensures) (pre .1 .1 .0)
+    (λ s. whole (c .before .before .node-at .result .shape) (c .before .match .keys1) _ _ s _ _)
 
 subst-down-returns-4 : (t : ℕ) → subst-down-lts.Need-returns-4 (subst-down-calls t) (subst-down-at t) subst-down.Post
+unfolding outcome subst-value with-args
 subst-down-returns-4 t c =
     let pre = c .before .before .before .before .before .before .before .pre in
     let if1 = c .before .before .before .before .before .if1 in
-    down-error _ _ _ _ _ _ (pre .1 .0) (if1 .left) (c .before .before .before .node-at .ensures) _ (pre .1 .1 .0)
-    (c .stay3 .ensures) (c .before .enum-told2 .given .1)
-
-subst-down-same-length-4 : (t : ℕ) → subst-down-lts.Need-same-length-4 (subst-down-calls t) (subst-down-at t) subst-down.Post
-subst-down-same-length-4 t c = search needs
+    level-stays (levels _) _ _ _ _ (pre .1 .0) (c .before .before .before .node-at .result) (if1 .left) (c .before .before .before .node-at .ensures) _ (c .before .enum-told .given .1) (c .stay3 .ensures) tt
+    (λ s. refl)
 
 subst-down-returns-5 : (t : ℕ) → subst-down-lts.Need-returns-5 (subst-down-calls t) (subst-down-at t) subst-down.Post
+unfolding subst-value with-args
 subst-down-returns-5 t c =
-    let pre = c .before .before .before .before .before .before .before .pre in
-    let if1 = c .before .before .before .before .before .if1 in
-    down-anything _ _ _ _ _ _ (pre .1 .0) (if1 .left) (c .before .before .before .node-at .ensures) _ (pre .1 .1 .0)
-    (c .stay4 .ensures) (c .before .enum-told3 .given .1)
-
-subst-down-same-length-5 : (t : ℕ) → subst-down-lts.Need-same-length-5 (subst-down-calls t) (subst-down-at t) subst-down.Post
-subst-down-same-length-5 t c = search needs
+    let pre = c .before .before .before .before .before .before .before .before .before .pre in
+    let node-at = c .before .before .before .before .before .node-at in
+    let if1 = c .before .before .before .before .before .before .before .if1 in
+    level-stays (levels _) _ _ _ _ (pre .1 .0) (node-at .result) (if1 .left) (node-at .ensures) _ (c .before .before .before .shape .given .1)
+    (rw (c .before .arg-or-none .ensures) at (c .stay4 .ensures)) (args-in _ _ _ _ _ (pre .1 .1 .1)) (λ s. answered s (D.arg-of _ _))
 
 subst-down-returns-6 : (t : ℕ) → subst-down-lts.Need-returns-6 (subst-down-calls t) (subst-down-at t) subst-down.Post
-subst-down-returns-6 t c = down-var _ _ _ _ _ _ (c .before .before .before .before .before .before .before .pre .1 .0) (c .before .before .before .before .before .if1 .left) (c .before .before .before .node-at .ensures) _ _ (c .before .enum-told4 .given .1) (c .stay5 .ensures)
-
-subst-down-same-length-6 : (t : ℕ) → subst-down-lts.Need-same-length-6 (subst-down-calls t) (subst-down-at t) subst-down.Post
-subst-down-same-length-6 t c = search needs
-
-subst-down-returns-7 : (t : ℕ) → subst-down-lts.Need-returns-7 (subst-down-calls t) (subst-down-at t) subst-down.Post
-subst-down-returns-7 t c =
-    let pre = c .before .before .before .before .before .before .before .before .before .pre in
-    let if1 = c .before .before .before .before .before .before .before .if1 in
-    let node-at = c .before .before .before .before .before .node-at in
-    down-param _ _ _ _ _ _ (pre .1 .0) (if1 .left) (node-at .ensures) _ _ _ _
-    (c .before .before .before .shape .given .1) (c .before .arg-or-none .ensures)
-    (args-in _ _ _ _ _ (pre .1 .1 .1)) (c .stay6 .ensures)
-
-subst-down-same-length-7 : (t : ℕ) → subst-down-lts.Need-same-length-7 (subst-down-calls t) (subst-down-at t) subst-down.Post
-subst-down-same-length-7 t c = c .before .before .push-node .ensures .changed .lay .size ∙ sym (c .before .before .before .before .before .before .before .before .before .before .before .before .before .before .before .before .before .before .before .before .pre .1 .0 .size)
-
-subst-down-returns-8 : (t : ℕ) → subst-down-lts.Need-returns-8 (subst-down-calls t) (subst-down-at t) subst-down.Post
-subst-down-returns-8 t c =
+unfolding subst-value with-args
+subst-down-returns-6 t c =
     let pre = c .before .before .before .before .before .before .before .before .before .before .before .before .before .before .before .before .before .before .before .before .pre in
-    let if1 = c .before .before .before .before .before .before .before .before .before .before .before .before .before .before .before .before .before .before .if1 in
     let node-at = c .before .before .before .before .before .before .before .before .before .before .before .before .before .before .before .before .node-at in
+    let if1 = c .before .before .before .before .before .before .before .before .before .before .before .before .before .before .before .before .before .before .if1 in
     let shape2 = c .before .before .before .before .before .before .before .before .before .before .before .before .before .before .shape2 in
     let subst-down = c .before .before .before .before .before .before .before .before .before .before .before .subst-down in
     let done-of = c .before .before .before .before .before .before .before .done-of in
     let p = c .before .before .before .before .before .p in
-    ref-then _ _ _ _ _ _ (pre .1 .0) (if1 .left) (node-at .ensures) _ _ (shape2 .given .1) _ _ _ (subst-down .ensures)
-    (done-of .ensures) _ _ _ (p .given .1) (c .before .before .push-node .ensures)
+    level-by (levels _) _ _ _ _ (pre .1 .0) (node-at .result) (if1 .left) (node-at .ensures) (shape2 .given .1) (λ ds. refl)
+    (ref-then _ _ (subst-down .ensures) (done-of .ensures) (p .given .1) (c .before .before .push-node .ensures))
 
-subst-down-same-length-8 : (t : ℕ) → subst-down-lts.Need-same-length-8 (subst-down-calls t) (subst-down-at t) subst-down.Post
-subst-down-same-length-8 t c = c .before .before .subst-apply .ensures .changed .lay .size ∙ sym (c .before .before .before .before .before .before .before .before .before .before .before .pre .1 .0 .size)
-
-subst-down-returns-9 : (t : ℕ) → subst-down-lts.Need-returns-9 (subst-down-calls t) (subst-down-at t) subst-down.Post
-subst-down-returns-9 t c =
+subst-down-returns-7 : (t : ℕ) → subst-down-lts.Need-returns-7 (subst-down-calls t) (subst-down-at t) subst-down.Post
+unfolding subst-value with-args seen with-structs args-at
+subst-down-returns-7 t c =
     let pre = c .before .before .before .before .before .before .before .before .before .before .before .pre in
-    let if1 = c .before .before .before .before .before .before .before .before .before .if1 in
     let node-at = c .before .before .before .before .before .before .before .node-at in
+    let if1 = c .before .before .before .before .before .before .before .before .before .if1 in
     let shape3 = c .before .before .before .before .before .shape3 in
-    apply-by _ _ _ _ _ _ (pre .1 .0) (if1 .left) (node-at .ensures) _ _ _ _ (shape3 .given .1) _ _
-    (c .before .before .subst-apply .ensures)
+    level-by (levels _) _ _ _ _ (pre .1 .0) (node-at .result) (if1 .left) (node-at .ensures) (shape3 .given .1) (λ ds. refl) (c .before .before .subst-apply .ensures)
 
 pub +subst-apply+subst-down-spec : {M : Type 1} → statement M
 +subst-apply+subst-down-spec = close μ-subst-apply μ-subst-down (λ t. subst-apply-lts.spec (subst-apply-calls t) (subst-apply-at t) subst-apply.Post
     subst-apply-Inv-loop
     subst-apply-μ-loop
     (subst-apply-loop-holds t)
-    (subst-apply-arg-at-requires t)
+    (λ c κs. search needs)
     (subst-apply-subst-down-requires t)
-    (subst-apply-done-of-requires t)
-    (subst-apply-enum-known-p t)
-    (subst-apply-enum-told t)
-    (subst-apply-same-length t)
+    (λ c κs. search needs)
+    (λ c. search needs)
+    (λ c. search needs)
+    (λ c. search needs)
     (subst-apply-returns t)
-    (subst-apply-wide-requires t)
-    (subst-apply-mul-parts t)
-    (subst-apply-array-write-parts t)
-    (subst-apply-add-i t)
-    (subst-apply-loop-less t)
+    (λ c κs. search needs)
+    (λ c. search needs)
+    (λ c. search needs)
+    (λ c. search needs)
+    (λ c. search needs)
     (subst-apply-loop-again t)
     (subst-apply-push-apply-requires t)
-    (subst-apply-same-length-2 t)
+    (λ c. search needs)
     (subst-apply-returns-2 t))
     λ t. subst-down-lts.spec (subst-down-calls t) (subst-down-at t) subst-down.Post
-    (subst-down-stay-requires t)
+    (λ c κs. search needs)
     (subst-down-returns t)
-    (subst-down-node-at-requires t)
-    (subst-down-enum-told t)
-    (subst-down-stay-requires-2 t)
-    (subst-down-enum-told-2 t)
-    (subst-down-stay-requires-3 t)
-    (subst-down-enum-told-3 t)
-    (subst-down-stay-requires-4 t)
-    (subst-down-enum-told-4 t)
-    (subst-down-stay-requires-5 t)
-    (subst-down-enum-known-shape t)
-    (subst-down-arg-or-none-requires t)
-    (subst-down-stay-requires-6 t)
-    (subst-down-enum-known-shape-2 t)
-    (subst-down-sub-subst-down t)
+    (λ c κs. search needs)
+    (λ c κs. search needs)
+    (λ c. search needs)
+    (λ c κs. search needs)
+    (λ c. search needs)
+    (λ c κs. search needs)
+    (λ c κs. search needs)
+    (λ c. search needs)
+    (λ c. search needs)
     (subst-down-subst-down-requires t)
-    (subst-down-done-of-requires t)
-    (subst-down-enum-known-p t)
-    (subst-down-enum-told-5 t)
-    (subst-down-same-length t)
+    (λ c κs. search needs)
+    (λ c. search needs)
+    (λ c. search needs)
+    (λ c. search needs)
     (subst-down-returns-2 t)
     (subst-down-push-node-requires t)
-    (subst-down-enum-known-shape-3 t)
-    (subst-down-sub-subst-apply t)
+    (λ c. search needs)
+    (λ c. search needs)
     (subst-down-subst-apply-requires t)
-    (subst-down-same-length-2 t)
+    (λ c. search needs)
     (subst-down-returns-3 t)
-    (subst-down-same-length-3 t)
+    (λ c. search needs)
     (subst-down-returns-4 t)
-    (subst-down-same-length-4 t)
+    (λ c. search needs)
     (subst-down-returns-5 t)
-    (subst-down-same-length-5 t)
+    (λ c. search needs)
     (subst-down-returns-6 t)
-    (subst-down-same-length-6 t)
+    (λ c. search needs)
     (subst-down-returns-7 t)
-    (subst-down-same-length-7 t)
-    (subst-down-returns-8 t)
-    (subst-down-same-length-8 t)
-    (subst-down-returns-9 t)

@@ -3,15 +3,9 @@ use native.Mathlib.Nat.{sub-zero}
 use borrow.Author.Needs.{needs}
 use Rattle.tparams.proofs.arg_of.Statement.{statement}
 use Rattle.tparams.proofs.arg_of.Tie as tie
-use Rattle.tparams.proofs.arg_of.Reads as reads
-use Rattle.tparams.proofs.arg_of.Lts as lts
-use Rattle.tparams.proofs.arg_from.Reads as arg-from-reads
-
-arg-from-requires : tie.Need-arg-from-requires
-arg-from-requires c κs = search needs
 
 returns : tie.Need-returns
 returns c = rw (sub-zero _) at (c .arg-from .ensures)
 
 pub arg-of-spec : {M : Type 1} → statement M
-arg-of-spec = tie.close (tie.spec arg-from-requires returns)
+arg-of-spec = tie.close (tie.spec (λ c κs. search needs) returns)

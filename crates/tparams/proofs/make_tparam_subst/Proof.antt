@@ -2,9 +2,8 @@
 use native.Mathlib.Nat.{sub-zero}
 use mathlib.Core.Path.{sym}
 use native.Mathlib.Omega.{arith}
-use Prim.Native.Nat.{_≤_, _<_, _-_, _+_}
+use Prim.Native.Nat.{_≤_, _-_}
 use mathlib.Core.Path.{_≡_}
-use lib.ListN.{length}
 use Rattle.definition.specs.Types.{ok}
 use Rattle.definition.specs.TParams.{make-tparam-subst}
 use Rattle.tparams.specs.Pairs.{pairs}
@@ -24,30 +23,6 @@ abbrev μ-loop : tie.MeasureT-loop
 loop-holds : tie.Need-loop-holds Inv-loop μ-loop
 loop-holds c = (omega arith, made-none _ _ _ _ (omega arith))
 
-sub-i : tie.Need-sub-i Inv-loop μ-loop
-sub-i c = search needs
-
-wide-requires : tie.Need-wide-requires Inv-loop μ-loop
-wide-requires c κs = search needs
-
-mul-id : tie.Need-mul-id Inv-loop μ-loop
-mul-id c = search needs
-
-element-copy-out-id : tie.Need-element-copy-out-id Inv-loop μ-loop
-element-copy-out-id c = search needs
-
-add-arg-from : tie.Need-add-arg-from Inv-loop μ-loop
-add-arg-from c = search needs
-
-arg-from-requires : tie.Need-arg-from-requires Inv-loop μ-loop
-arg-from-requires c κs = search needs
-
-enum-told : tie.Need-enum-told Inv-loop μ-loop
-enum-told c = search needs
-
-loop-less : tie.Need-loop-less Inv-loop μ-loop
-loop-less c = search needs
-
 loop-again : tie.Need-loop-again Inv-loop μ-loop
 loop-again c =
     let loop = c .before .before .before .before .before .before .loop in
@@ -56,9 +31,6 @@ loop-again c =
       made-back _ _ _ _ _ (loop-test .taken) (loop .inv .0) (c .before .before .before .before .wide .ensures)
           (loop .inv .1) (rw (c .enum-told .given .1) at (c .before .before .arg-from .ensures)),
     )
-
-enum-told-2 : tie.Need-enum-told-2 Inv-loop μ-loop
-enum-told-2 c = search needs
 
 returns : tie.Need-returns Inv-loop μ-loop
 returns c =
@@ -77,15 +49,15 @@ make-tparam-subst-spec =
     Inv-loop
     μ-loop
     loop-holds
-    sub-i
-    wide-requires
-    mul-id
-    element-copy-out-id
-    add-arg-from
-    arg-from-requires
-    enum-told
-    loop-less
+    (λ c. search needs)
+    (λ c κs. search needs)
+    (λ c. search needs)
+    (λ c. search needs)
+    (λ c. search needs)
+    (λ c κs. search needs)
+    (λ c. search needs)
+    (λ c. search needs)
     loop-again
-    enum-told-2
+    (λ c. search needs)
     returns
     returns-2)
