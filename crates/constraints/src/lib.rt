@@ -23,7 +23,7 @@ ghost use Rattle.definition.specs.Join.{is-multiple};
 ghost use Rattle.names.specs.Names.{name-of};
 ghost use Rattle.abilities.specs.Kept.{Has-set, Kept};
 ghost use Rattle.abilities.specs.Rules.{rule-of, Rule-in};
-ghost use Rattle.constraints.specs.Failing.{good, plain, lack, row, Is-ability, Asks, failing, Failing-in, Ty-in, Fails, Lacking, Asked-ready};
+ghost use Rattle.constraints.specs.Failing.{good, plain, lack, row, Is-ability, Asks, failing, Failing-in, Ty-in, Fails, Lacking, Asked-ready, unless};
 use abilities::Asked;
 use abilities::Rule;
 use names::AbilitySet;
@@ -325,6 +325,15 @@ fn ask_of(c: Constraint) -> Ask
     }
 }
 
+fn unless(fine: bool, f: Failing) -> Failing
+    ensures { λ r. ⌜ r ≡ unless fine f ⌝ }
+{
+    if fine {
+        return Failing::Fine;
+    }
+    f
+}
+
 // The failure of a constraint that asks for no abilities, if it fails.
 fn failing_of(w: &[u32], u: Used, c: Constraint) -> Failing
     requires { ⌜ Lay (now w) u × Ty-in (u .nodes) (constraint-of c) ⌝ }
@@ -341,16 +350,13 @@ fn failing_of(w: &[u32], u: Used, c: Constraint) -> Failing
         Unfolded::Node(t) => {
             let n = table::node_at(w, u, t);
             let s = n.shape;
-            if good(code, s) {
-                return Failing::Fine;
-            }
-            Failing::Node(code, loc, t)
+            unless(good(code, s), Failing::Node(code, loc, t))
         }
         Unfolded::Anything(at) => {
-            if good(code, Shape::Anything) {
-                return Failing::Fine;
-            }
-            Failing::Anything(code, loc, at)
+            unless(
+                good(code, Shape::Anything),
+                Failing::Anything(code, loc, at),
+            )
         }
     }
 }
