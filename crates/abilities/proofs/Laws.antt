@@ -15,6 +15,7 @@ use Rattle.definition.specs.Types.{State, Struct, if_then_else_}
 use Rattle.definition.specs.Store.{args-at, with-structs, any-of}
 use Rattle.definition.specs.Instantiate.{struct-tparams}
 use Rattle.definition.specs.Abilities.{has, select, those, from-abilities, requires, declared-abilities, counts, first-lacking, is-none, lacking, granted, infer-abilities, declaration, by-argument, rule}
+use Rattle.definition.specs.Constraints.{is-contradicted}
 use Rattle.names.specs.Names.{name-of}
 use Rattle.table.specs.Rows.{struct-table, places}
 use Rattle.table.specs.State.{seen, Declares}
@@ -137,14 +138,6 @@ module _ (s : State) (n : d.TypeName) (ability set : ℕ) (e : set ≡ declared-
   has-it : not b ≡ false → has (declared-abilities s n) ability ≡ true
   has-it z = ap (λ (x : ℕ). has x ability) (sym e) ∙ sym f ∙ is-true b z
 
-  pub granted-not : (infer : ℕ → ℕ) (tys : List ℕ) → not b ≡ true → false ≡ granted infer s n tys ability
-  unfolding granted
-  granted-not infer tys z = rw (lacks-it z) refl
-
-  pub granted-by : (infer : ℕ → ℕ) (tys : List ℕ) → not b ≡ false → (o : Option ℕ) (needed : ℕ) → needed ≡ requires ability → o ≡ lacking infer s n tys needed → is-none o ≡ granted infer s n tys ability
-  unfolding granted
-  granted-by infer tys z o needed r g = rw (has-it z) (ap is-none (g ∙ ap (lacking infer s n tys) r))
-
   pub rule-not : (k : d.Mark) (tys : List ℕ) → not b ≡ true → declaration ≡ rule s ability (d.Apply k n tys)
   unfolding rule
   rule-not k tys z = rw (lacks-it z, rule) refl
@@ -152,6 +145,16 @@ module _ (s : State) (n : d.TypeName) (ability set : ℕ) (e : set ≡ declared-
   pub rule-by : (k : d.Mark) (tys : List ℕ) → not b ≡ false → (o : Option ℕ) (needed : ℕ) → needed ≡ requires ability → o ≡ lacking (λ t. infer-abilities s t) s n tys needed → by-argument o ≡ rule s ability (d.Apply k n tys)
   unfolding rule
   rule-by k tys z o needed r g = rw (has-it z, rule) (ap by-argument (g ∙ ap (lacking (λ t. infer-abilities s t) s n tys) r))
+
+-- what neither the declaration nor an argument takes away is granted
+pub granted-is : (s : State) (k : d.Mark) (n : d.TypeName) (tys : List ℕ) (ability : ℕ) → is-contradicted (rule s ability (d.Apply k n tys)) ≡ granted (λ t. infer-abilities s t) s n tys ability
+unfolding is-contradicted rule by-argument granted is-none
+granted-is s k n tys ability = by (has (declared-abilities s n) ability) (lacking (λ t. infer-abilities s t) s n tys (requires ability))
+  where
+    by : (b : Bool) (o : Option ℕ) → is-contradicted (elim b [ false ↦ declaration | true ↦ by-argument o ]) ≡ (b && is-none o)
+    by false o = refl
+    by true none = refl
+    by true (some i) = refl
 
 -- ---- the sum of what passes a test
 

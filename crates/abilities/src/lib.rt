@@ -140,9 +140,52 @@ fn lacking(
     Found::Nothing
 }
 
+// ---- the rule of a named type
+
+fn by_argument(o: Found) -> Rule
+    requires { ⌜ Place-in o ⌝ }
+    ensures { λ r. ⌜ Rule-in r × (rule-of r ≡ by-argument (found o)) ⌝ }
+{
+    match o {
+        Found::Nothing => Rule::Contradicted,
+        Found::Just(i) => Rule::Argument(i),
+    }
+}
+
+fn apply_rule(
+    w: &[u32],
+    u: Used,
+    params: &[[u8; 8]; 256],
+    a: Applied,
+    ability: u8,
+    sets: &[u32],
+) -> Rule
+    requires { ⌜ Args-ready (now w) u (now params) (now sets) a × (0 < ability) ⌝ }
+    ensures { λ r. ⌜ Rule-in r × ((ds : List d.Struct) → Known (now (w .entry)) u (now (params .entry)) ds → (k : d.Mark) → rule-of r ≡ rule (seen (now (w .entry)) u ds) ability (d.Apply k (name-of (a .n)) (args-at (seen (now (w .entry)) u ds) (args-of a)))) ⌝ }
+{
+    let n = a.n;
+    let d = declared_abilities(w, u, n);
+    if !names::has(d, ability) {
+        return Rule::Declaration;
+    }
+    let needed = names::requires_of(ability);
+    let o = lacking(w, u, params, a, needed, sets);
+    by_argument(o)
+}
+
+fn is_contradicted(r: Rule) -> bool
+    ensures { λ b. ⌜ b ≡ is-contradicted (rule-of r) ⌝ }
+{
+    match r {
+        Rule::Declaration => false,
+        Rule::Argument(_) => false,
+        Rule::Contradicted => true,
+    }
+}
+
 // ---- infer_abilities
 
-// What is declared and no argument that counts takes away.
+// What is declared and no argument that counts takes away: only a mark could.
 fn granted(
     w: &[u32],
     u: Used,
@@ -154,15 +197,8 @@ fn granted(
     requires { ⌜ Args-ready (now w) u (now params) (now sets) a × (0 < ability) ⌝ }
     ensures { λ r. ⌜ ((ds : List d.Struct) → Known (now (w .entry)) u (now (params .entry)) ds → r ≡ granted (λ t. infer-abilities (seen (now (w .entry)) u ds) t) (seen (now (w .entry)) u ds) (name-of (a .n)) (args-at (seen (now (w .entry)) u ds) (args-of a)) ability) ⌝ }
 {
-    let n = a.n;
-    let d = declared_abilities(w, u, n);
-    if !names::has(d, ability) {
-        return false;
-    }
-    match lacking(w, u, params, a, names::requires_of(ability), sets) {
-        Found::Nothing => true,
-        Found::Just(_) => false,
-    }
+    let r = apply_rule(w, u, params, a, ability, sets);
+    is_contradicted(r)
 }
 
 // The ability, if it is granted.
@@ -269,37 +305,6 @@ fn infer(
 
 // ---- the rule that decided
 
-fn by_argument(o: Found) -> Rule
-    requires { ⌜ Place-in o ⌝ }
-    ensures { λ r. ⌜ Rule-in r × (rule-of r ≡ by-argument (found o)) ⌝ }
-{
-    match o {
-        Found::Nothing => Rule::Contradicted,
-        Found::Just(i) => Rule::Argument(i),
-    }
-}
-
-fn apply_rule(
-    w: &[u32],
-    u: Used,
-    params: &[[u8; 8]; 256],
-    a: Applied,
-    ability: u8,
-    sets: &[u32],
-) -> Rule
-    requires { ⌜ Args-ready (now w) u (now params) (now sets) a × (0 < ability) ⌝ }
-    ensures { λ r. ⌜ Rule-in r × ((ds : List d.Struct) → Known (now (w .entry)) u (now (params .entry)) ds → (k : d.Mark) → rule-of r ≡ rule (seen (now (w .entry)) u ds) ability (d.Apply k (name-of (a .n)) (args-at (seen (now (w .entry)) u ds) (args-of a)))) ⌝ }
-{
-    let n = a.n;
-    let d = declared_abilities(w, u, n);
-    if !names::has(d, ability) {
-        return Rule::Declaration;
-    }
-    let needed = names::requires_of(ability);
-    let o = lacking(w, u, params, a, needed, sets);
-    by_argument(o)
-}
-
 // ability_not_satisified_tips, of an unfolded type whose parts' sets are kept.
 pub fn shape_rule(
     w: &[u32],
@@ -345,16 +350,6 @@ pub fn is_missing(
     }
     let set = kept(sets, a.ty);
     !names::has(set, ability)
-}
-
-fn is_contradicted(r: Rule) -> bool
-    ensures { λ b. ⌜ b ≡ is-contradicted (rule-of r) ⌝ }
-{
-    match r {
-        Rule::Declaration => false,
-        Rule::Argument(_) => false,
-        Rule::Contradicted => true,
-    }
 }
 
 // Some ability that is asked for is missing.

@@ -27,6 +27,7 @@ use abilities::Rule;
 use failing::Failing;
 use failing::ask_of;
 use failing::good;
+use failing::unless;
 use names::AbilitySet;
 use names::Mark;
 use names::TVar;
@@ -247,16 +248,13 @@ fn failing_of(w: &[u32], u: Used, c: Constraint) -> Failing
         Unfolded::Node(t) => {
             let n = table::node_at(w, u, t);
             let s = n.shape;
-            if good(code, s) {
-                return Failing::Fine;
-            }
-            Failing::Node(code, loc, t)
+            unless(good(code, s), Failing::Node(code, loc, t))
         }
         Unfolded::Anything(at) => {
-            if good(code, Shape::Anything) {
-                return Failing::Fine;
-            }
-            Failing::Anything(code, loc, at)
+            unless(
+                good(code, Shape::Anything),
+                Failing::Anything(code, loc, at),
+            )
         }
     }
 }

@@ -71,6 +71,9 @@ Failing-in n (Node code loc t) = (code < 4) × (t < n)
 Failing-in n (Anything code loc at) = code < 4
 Failing-in n (Lacks loc ability t place) = (t < n) × Found-in 8 place
 
+abbrev pub unless : Bool → Failing → Failing
+unless fine f = if fine then Fine else f
+
 -- the constraint fails so, whatever the declarations are
 pub record Fails (w : List ℕ) (u : Used) (r : Failing) (c : d.Constraint) : Type 0 where
   pub is : (ds : List Struct) → failing r (seen w u ds) ≡ plain (seen w u ds) c

@@ -8,7 +8,7 @@ ghost use mathlib.Core.Bool.{not};
 ghost use Rattle.definition.specs.Store.{with-args, spanned};
 ghost use Rattle.definition.specs.Join.{is-multiple};
 ghost use Rattle.names.specs.Names.{name-of};
-ghost use Rattle.failing.specs.Failing.{good, Asks, why, failing, Failing-in};
+ghost use Rattle.failing.specs.Failing.{good, Asks, why, failing, Failing-in, unless};
 ghost use Prim.Native.Nat.{_≤_, ℕ, _+_, _<_, _%_};
 ghost use lib.ListN.{length};
 ghost use Rattle.writer.specs.Bytes.{All-bytes, capped, Few-is, Wrote};
@@ -115,6 +115,17 @@ pub fn ask_of(c: Constraint) -> Ask
         },
     }
 }
+
+pub fn unless(fine: bool, f: Failing) -> Failing
+    ensures { λ r. ⌜ r ≡ unless fine f ⌝ }
+{
+    if fine {
+        return Failing::Fine;
+    }
+    f
+}
+
+// ---- in bytes
 
 // How many bytes a rule has.
 fn why_size(place: Found) -> u32

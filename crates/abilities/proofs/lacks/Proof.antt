@@ -18,7 +18,7 @@ arg-at-requires c κs = search needs
 kept-requires : tie.Need-kept-requires
 kept-requires c κs =
     let pre = c .before .before .before .before .before .pre in
-    (pre .0 .size, arg-small (c .before .before .before .before .before .args .a) (pre .0) (pre .1 .0) _ (c .arg-at .ensures))
+    (pre .0 .size, omega (arith, arg-small (c .before .before .before .before .before .args .a) (pre .0) (pre .1 .0) _ (c .arg-at .ensures), pre .0 .few, pre .1 .0))
 
 has-requires : tie.Need-has-requires
 has-requires c κs = search needs

@@ -1,6 +1,6 @@
 -- `constraints::failing_of` meets its contract. Assumes nothing.
--- Five returns: nothing is asked; else the type unfolds to a node or to `_`, and each is fine or fails.
-use Rattle.constraints.proofs.Laws.{nothing-asked, node-fine, node-fails, anything-fine, anything-fails}
+-- Three returns: nothing is asked; else the type unfolds to a node or to `_`.
+use Rattle.constraints.proofs.Laws.{nothing-asked, node-fails, anything-fails}
 use borrow.Author.Needs.{needs}
 use Rattle.constraints.proofs.failing_of.Statement.{statement}
 use Rattle.constraints.proofs.failing_of.Tie as tie
@@ -29,15 +29,8 @@ node-at-requires c κs = search needs
 good-requires : tie.Need-good-requires
 good-requires c κs = search needs
 
-returns-2 : tie.Need-returns-2
-returns-2 c =
-    let ask-of = c .before .before .before .before .before .before .before .before .ask-of in
-    let if1 = c .before .before .before .before .before .before .before .if1 in
-    let unfold-type = c .before .before .before .before .before .before .unfold-type in
-    let node-at = c .before .before .node-at in
-    node-fine _ _ (ask-of .result) _ (ask-of .ensures) (if1 .left) _ (unfold-type .ensures) _
-    (c .before .before .before .before .t .given .1) (node-at .result) (node-at .ensures) _
-    (c .before .good2 .ensures) (c .if2 .taken)
+unless-requires : tie.Need-unless-requires
+unless-requires c κs = search needs
 
 enum-known-at : tie.Need-enum-known-at
 enum-known-at c = search needs
@@ -45,31 +38,27 @@ enum-known-at c = search needs
 good-requires-2 : tie.Need-good-requires-2
 good-requires-2 c κs = search needs
 
+unless-requires-2 : tie.Need-unless-requires-2
+unless-requires-2 c κs = search needs
+
+returns-2 : tie.Need-returns-2
+returns-2 c =
+    let ask-of = c .before .before .before .before .before .before .before .before .ask-of in
+    let if1 = c .before .before .before .before .before .before .before .if1 in
+    let unfold-type = c .before .before .before .before .before .before .unfold-type in
+    let node-at = c .before .before .node-at in
+    rw (c .unless .ensures)
+    (node-fails _ _ (ask-of .result) _ (ask-of .ensures) (if1 .left) _ (unfold-type .ensures) _
+    (c .before .before .before .before .t .given .1) (node-at .result) (node-at .ensures) _ (c .before .good2 .ensures))
+
 returns-3 : tie.Need-returns-3
 returns-3 c =
     let ask-of = c .before .before .before .before .before .before .before .ask-of in
     let if1 = c .before .before .before .before .before .before .if1 in
     let unfold-type = c .before .before .before .before .before .unfold-type in
-    anything-fine _ _ (ask-of .result) _ (ask-of .ensures) (if1 .left) _ (unfold-type .ensures) _
-    (c .before .before .before .at .given .1) _ (c .before .good3 .ensures) (c .if3 .taken)
-
-returns-4 : tie.Need-returns-4
-returns-4 c =
-    let ask-of = c .before .before .before .before .before .before .before .before .ask-of in
-    let if1 = c .before .before .before .before .before .before .before .if1 in
-    let unfold-type = c .before .before .before .before .before .before .unfold-type in
-    let node-at = c .before .before .node-at in
-    node-fails _ _ (ask-of .result) _ (ask-of .ensures) (if1 .left) _ (unfold-type .ensures) _
-    (c .before .before .before .before .t .given .1) (node-at .result) (node-at .ensures) _
-    (c .before .good2 .ensures) (c .if2 .left)
-
-returns-5 : tie.Need-returns-5
-returns-5 c =
-    let ask-of = c .before .before .before .before .before .before .before .ask-of in
-    let if1 = c .before .before .before .before .before .before .if1 in
-    let unfold-type = c .before .before .before .before .before .unfold-type in
-    anything-fails _ _ (ask-of .result) _ (ask-of .ensures) (if1 .left) _ (unfold-type .ensures) _
-    (c .before .before .before .at .given .1) _ (c .before .good3 .ensures) (c .if3 .left)
+    rw (c .unless2 .ensures)
+    (anything-fails _ _ (ask-of .result) _ (ask-of .ensures) (if1 .left) _ (unfold-type .ensures) _
+    (c .before .before .before .at .given .1) _ (c .before .good3 .ensures))
 
 pub failing-of-spec : {M : Type 1} → statement M
 failing-of-spec =
@@ -81,9 +70,9 @@ failing-of-spec =
     enum-known-t
     node-at-requires
     good-requires
-    returns-2
+    unless-requires
     enum-known-at
     good-requires-2
-    returns-3
-    returns-4
-    returns-5)
+    unless-requires-2
+    returns-2
+    returns-3)

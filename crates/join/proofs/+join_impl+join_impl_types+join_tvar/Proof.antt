@@ -1,9 +1,8 @@
 -- `join::join_impl`, `join_impl_types` and `join_tvar` meet their contracts, as one cycle of calls. Twice the depth left falls, and stands one higher where
 -- the argument walk and the merge call the operand walk at the same depth. Assumes nothing.
-use Rattle.join.proofs.Operands.{merge-lay, settled-after, ready-in, tvar-stop, tvar-inner, tvar-close, impl-deep, arm-below, arm-left, arm-right, arm-subtype, arm-arity, arm-incompatible, arm-disagree, arm-refs, arm-applies, arm-vars, left-is, left-merge, right-is, right-merge}
+use Rattle.join.proofs.Operands.{merge-lay, settled-after, ready-in, close-in, tvar-stop, tvar-inner, tvar-close}
+use Rattle.join.proofs.Operands.{Chosen, impl-deep, arm-below, arm-left, arm-right, arm-subtype, arm-arity, arm-incompatible, arm-disagree, arm-refs, arm-applies, arm-vars, left-is, left-merge, right-is, right-merge}
 use Rattle.join.proofs.Args.{Gathering, gather-none, gather-in, gather-stop, gather-more, gathered}
-use Rattle.table.proofs.Steps.{node-in}
-use Rattle.table.proofs.Grown.{still-in}
 use Rattle.arms.specs.Arms.{case-of}
 use Rattle.table.proofs.Steps.{after-now}
 use mathlib.Core.Path.{refl, sym, _∙_}
@@ -109,7 +108,7 @@ join-impl-settled-requires : (t : ℕ) → join-impl-lts.Need-settled-requires (
 join-impl-settled-requires t c κs = tt
 
 join-impl-returns : (t : ℕ) → join-impl-lts.Need-returns (join-impl-calls t) (join-impl-at t) join-impl.Post
-join-impl-returns t c = settled-after _ _ _ _ _ _ (c .settled .ensures) (after-now (c .before .before .before .pre .1 .0) tt (λ ds k. impl-deep _ _ _ _ _ (c .before .if1 .taken)))
+join-impl-returns t c = settled-after (c .settled .ensures) (after-now (c .before .before .before .pre .1 .0) tt (λ ds k. impl-deep _ _ _ _ _ (c .before .if1 .taken)))
 
 join-impl-sub-less : (t : ℕ) → join-impl-lts.Need-sub-less (join-impl-calls t) (join-impl-at t) join-impl.Post
 join-impl-sub-less t c = omega arith
@@ -122,6 +121,22 @@ join-impl-node-at-requires-2 t c κs = c .before .before .before .before .before
 
 join-impl-arm-of-requires : (t : ℕ) → join-impl-lts.Need-arm-of-requires (join-impl-calls t) (join-impl-at t) join-impl.Post
 join-impl-arm-of-requires t c κs = tt
+
+-- what is known where the arm is chosen
+chosen : (t : ℕ) (c : join-impl-lts.After-arm-of (join-impl-calls t) (join-impl-at t) join-impl.Post)
+    → let args = c .before .before .before .before .before .before .before .args in
+    Chosen (args .left) (args .case) (args .w .now) (args .u) (args .lhs) (args .rhs) (c .before .before .before .node-at .result) (c .before .node-at2 .result) (c .arm-of .result)
+chosen t c =
+    let pre = c .before .before .before .before .before .before .before .pre in
+    record {
+      lay = pre .1 .0;
+      lhs-in = pre .1 .1 .0;
+      rhs-in = pre .1 .1 .1;
+      more = c .before .before .before .before .before .if1 .left;
+      lhs-is = c .before .before .before .node-at .ensures;
+      rhs-is = c .before .node-at2 .ensures;
+      takes = c .arm-of .ensures;
+    }
 
 join-impl-enum-told : (t : ℕ) → join-impl-lts.Need-enum-told (join-impl-calls t) (join-impl-at t) join-impl.Post
 join-impl-enum-told t c = search needs
@@ -142,21 +157,7 @@ join-impl-pick-loc-requires : (t : ℕ) → join-impl-lts.Need-pick-loc-requires
 join-impl-pick-loc-requires t c κs = tt
 
 join-impl-join-impl-requires : (t : ℕ) → join-impl-lts.Need-join-impl-requires (join-impl-calls t) (join-impl-at t) join-impl.Post
-join-impl-join-impl-requires t c κs =
-    let args = c .before .before .before .before .before .before .before .before .before .before .before .before .args in
-    let pre = c .before .before .before .before .before .before .before .before .before .before .before .before .pre in
-    let if1 = c .before .before .before .before .before .before .before .before .before .before .if1 in
-    let node-at = c .before .before .before .before .before .before .before .before .node-at in
-    let node-at2 = c .before .before .before .before .before .before .node-at2 in
-    let arm-of = c .before .before .before .before .before .arm-of in (
-      omega arith,
-      (
-        pre .1 .0,
-        arm-below _ (args .case) _ _ _ _ (node-at .result) (node-at2 .result) (if1 .left) (node-at .ensures)
-            (node-at2 .ensures) _ (arm-of .ensures) _ (pre .1 .0) (pre .1 .1 .0) (pre .1 .1 .1)
-            (c .before .before .before .side .given .1),
-      ),
-    )
+join-impl-join-impl-requires t c κs = (omega arith, (c .before .before .before .before .before .before .before .before .before .before .before .before .pre .1 .0, arm-below (chosen t (c .before .before .before .before .before)) (c .before .before .before .side .given .1)))
 
 join-impl-push-ref-requires : (t : ℕ) → join-impl-lts.Need-push-ref-requires (join-impl-calls t) (join-impl-at t) join-impl.Post
 join-impl-push-ref-requires t c κs = (c .before .before .before .join-impl .ensures .changed .lay, c .before .before .before .join-impl .ensures .inside)
@@ -165,20 +166,7 @@ join-impl-enum-known-t1 : (t : ℕ) → join-impl-lts.Need-enum-known-t1 (join-i
 join-impl-enum-known-t1 t c = search needs
 
 join-impl-join-impl-types-requires : (t : ℕ) → join-impl-lts.Need-join-impl-types-requires (join-impl-calls t) (join-impl-at t) join-impl.Post
-join-impl-join-impl-types-requires t c κs =
-    let args = c .before .before .before .before .before .before .before .before .before .before .before .args in
-    let pre = c .before .before .before .before .before .before .before .before .before .before .before .pre in
-    let if1 = c .before .before .before .before .before .before .before .before .before .if1 in
-    let node-at = c .before .before .before .before .before .before .before .node-at in
-    let node-at2 = c .before .before .before .before .before .node-at2 in (
-      omega arith,
-      (
-        pre .1 .0,
-        arm-below _ (args .case) _ _ _ _ (node-at .result) (node-at2 .result) (if1 .left) (node-at .ensures)
-            (node-at2 .ensures) _ (c .before .before .before .before .arm-of .ensures) _ (pre .1 .0) (pre .1 .1 .0)
-            (pre .1 .1 .1) (c .before .before .t1 .given .1),
-      ),
-    )
+join-impl-join-impl-types-requires t c κs = (omega arith, (c .before .before .before .before .before .before .before .before .before .before .before .pre .1 .0, arm-below (chosen t (c .before .before .before .before)) (c .before .before .t1 .given .1)))
 
 join-impl-push-types-requires : (t : ℕ) → join-impl-lts.Need-push-types-requires (join-impl-calls t) (join-impl-at t) join-impl.Post
 join-impl-push-types-requires t c κs = (c .before .before .before .join-impl-types .ensures .changed .lay, c .before .before .before .join-impl-types .ensures .inside)
@@ -209,7 +197,7 @@ join-impl-join-tvar-requires-2 t c κs =
     let pre = c12 .before .before .before .before .before .before .pre in
     let if1 = c12 .before .before .before .before .if1 in
     let meet-tvar = c .before .before .before .before .before .before .meet-tvar in
-    (omega (arith, pre .0, if1 .left), merge-lay _ _ _ _ _ _ _ (meet-tvar .ensures) (c .before .before .au .given .1))
+    (omega (arith, pre .0, if1 .left), merge-lay (meet-tvar .ensures) (c .before .before .au .given .1))
 
 join-impl-enum-known-id-2 : (t : ℕ) → join-impl-lts.Need-enum-known-id-2 (join-impl-calls t) (join-impl-at t) join-impl.Post
 join-impl-enum-known-id-2 t c = search needs
@@ -231,7 +219,7 @@ join-impl-join-tvar-requires-3 t c κs =
     let pre = c12 .before .before .before .before .before .before .pre in
     let if1 = c12 .before .before .before .before .if1 in
     let meet-tvar2 = c .before .before .before .before .before .before .meet-tvar2 in
-    (omega (arith, pre .0, if1 .left), merge-lay _ _ _ _ _ _ _ (meet-tvar2 .ensures) (c .before .before .au2 .given .1))
+    (omega (arith, pre .0, if1 .left), merge-lay (meet-tvar2 .ensures) (c .before .before .au2 .given .1))
 
 join-impl-enum-told-3 : (t : ℕ) → join-impl-lts.Need-enum-told-3 (join-impl-calls t) (join-impl-at t) join-impl.Post
 join-impl-enum-told-3 t c = search needs
@@ -261,120 +249,58 @@ join-impl-same-length : (t : ℕ) → join-impl-lts.Need-same-length (join-impl-
 join-impl-same-length t c = search needs
 
 join-impl-returns-2 : (t : ℕ) → join-impl-lts.Need-returns-2 (join-impl-calls t) (join-impl-at t) join-impl.Post
-join-impl-returns-2 t c =
-    let args = c .before .before .before .before .before .before .before .before .before .before .args in
-    let pre = c .before .before .before .before .before .before .before .before .before .before .pre in
-    let if1 = c .before .before .before .before .before .before .before .before .if1 in
-    let node-at = c .before .before .before .before .before .before .node-at in
-    let node-at2 = c .before .before .before .before .node-at2 in
-    settled-after _ _ _ _ _ _ (c .settled2 .ensures)
-    (arm-left _ (args .case) _ _ _ _ (node-at .result) (node-at2 .result) (if1 .left) (node-at .ensures)
-    (node-at2 .ensures) _ (c .before .before .before .arm-of .ensures) (pre .1 .0) (pre .1 .1 .0)
-    (c .before .enum-told .given .1))
+join-impl-returns-2 t c = settled-after (c .settled2 .ensures) (arm-left (chosen t (c .before .before .before)) (c .before .enum-told .given .1))
 
 join-impl-same-length-2 : (t : ℕ) → join-impl-lts.Need-same-length-2 (join-impl-calls t) (join-impl-at t) join-impl.Post
 join-impl-same-length-2 t c = search needs
 
 join-impl-returns-3 : (t : ℕ) → join-impl-lts.Need-returns-3 (join-impl-calls t) (join-impl-at t) join-impl.Post
-join-impl-returns-3 t c =
-    let args = c .before .before .before .before .before .before .before .before .before .before .args in
-    let pre = c .before .before .before .before .before .before .before .before .before .before .pre in
-    let if1 = c .before .before .before .before .before .before .before .before .if1 in
-    let node-at = c .before .before .before .before .before .before .node-at in
-    let node-at2 = c .before .before .before .before .node-at2 in
-    settled-after _ _ _ _ _ _ (c .settled3 .ensures)
-    (arm-right _ (args .case) _ _ _ _ (node-at .result) (node-at2 .result) (if1 .left) (node-at .ensures)
-    (node-at2 .ensures) _ (c .before .before .before .arm-of .ensures) (pre .1 .0) (pre .1 .1 .1)
-    (c .before .enum-told2 .given .1))
+join-impl-returns-3 t c = settled-after (c .settled3 .ensures) (arm-right (chosen t (c .before .before .before)) (c .before .enum-told2 .given .1))
 
 join-impl-same-length-3 : (t : ℕ) → join-impl-lts.Need-same-length-3 (join-impl-calls t) (join-impl-at t) join-impl.Post
-join-impl-same-length-3 t c =
-    let pre = c .before .before .before .before .before .before .before .before .before .before .before .before .before .before .before .before .before .before .before .pre in
-    let join-impl = c .before .before .before .before .before .before .join-impl in
-    c .before .before .push-ref .ensures .changed .lay .size ∙ sym (pre .1 .0 .size)
+join-impl-same-length-3 t c = c .before .before .push-ref .ensures .changed .lay .size ∙ sym (c .before .before .before .before .before .before .before .before .before .before .before .before .before .before .before .before .before .before .before .pre .1 .0 .size)
 
 join-impl-returns-4 : (t : ℕ) → join-impl-lts.Need-returns-4 (join-impl-calls t) (join-impl-at t) join-impl.Post
 join-impl-returns-4 t c =
-    let c12 = c .before .before .before .before .before .before .before .before .before .before .before .before in
-    let args = c12 .before .before .before .before .before .before .before .args in
-    let if1 = c12 .before .before .before .before .before .if1 in
-    let node-at = c12 .before .before .before .node-at in
-    let node-at2 = c12 .before .node-at2 in
-    let arm-of = c12 .arm-of in
+    let back = c .before .before .before .before .before .before .before .before .before .before .before .before in
     let side = c .before .before .before .before .before .before .before .before .before .before .side in
     let pick-loc = c .before .before .before .before .before .before .before .before .pick-loc in
     let join-impl = c .before .before .before .before .before .before .join-impl in
-    arm-refs _ (args .case) _ _ _ _ (node-at .result) (node-at2 .result) (if1 .left) (node-at .ensures)
-    (node-at2 .ensures) _ (arm-of .ensures) _ _ _ _ _ _ _ _ _ (side .given .1) (pick-loc .ensures)
-    (join-impl .ensures) (c .before .before .push-ref .ensures)
+    arm-refs (chosen t back) (side .given .1) (pick-loc .ensures) (join-impl .ensures)
+    (c .before .before .push-ref .ensures)
 
 join-impl-same-length-4 : (t : ℕ) → join-impl-lts.Need-same-length-4 (join-impl-calls t) (join-impl-at t) join-impl.Post
-join-impl-same-length-4 t c =
-    let pre = c .before .before .before .before .before .before .before .before .before .before .before .before .before .before .before .before .before .before .pre in
-    let join-impl-types = c .before .before .before .before .before .before .join-impl-types in
-    c .before .before .push-types .ensures .changed .lay .size
-    ∙ sym (pre .1 .0 .size)
+join-impl-same-length-4 t c = c .before .before .push-types .ensures .changed .lay .size ∙ sym (c .before .before .before .before .before .before .before .before .before .before .before .before .before .before .before .before .before .before .pre .1 .0 .size)
 
 join-impl-returns-5 : (t : ℕ) → join-impl-lts.Need-returns-5 (join-impl-calls t) (join-impl-at t) join-impl.Post
 join-impl-returns-5 t c =
-    let c12 = c .before .before .before .before .before .before .before .before .before .before .before .before in
-    let args = c12 .before .before .before .before .before .before .args in
-    let if1 = c12 .before .before .before .before .if1 in
-    let node-at = c12 .before .before .node-at in
-    let node-at2 = c12 .node-at2 in
-    let arm-of = c .before .before .before .before .before .before .before .before .before .before .before .arm-of in
+    let back = c .before .before .before .before .before .before .before .before .before .before .before in
     let t1 = c .before .before .before .before .before .before .before .before .before .t1 in
     let join-impl-types = c .before .before .before .before .before .before .join-impl-types in
-    arm-applies _ (args .case) _ _ _ _ (node-at .result) (node-at2 .result) (if1 .left) (node-at .ensures)
-    (node-at2 .ensures) _ (arm-of .ensures) _ _ _ _ _ _ (t1 .given .1) (join-impl-types .ensures)
-    (c .before .before .push-types .ensures)
+    arm-applies (chosen t back) (t1 .given .1) (join-impl-types .ensures) (c .before .before .push-types .ensures)
 
 join-impl-same-length-5 : (t : ℕ) → join-impl-lts.Need-same-length-5 (join-impl-calls t) (join-impl-at t) join-impl.Post
 join-impl-same-length-5 t c = c .before .before .join-tvar .ensures .changed .lay .size ∙ sym (c .before .before .before .before .before .before .before .before .before .before .before .before .before .before .pre .1 .0 .size)
 
 join-impl-returns-6 : (t : ℕ) → join-impl-lts.Need-returns-6 (join-impl-calls t) (join-impl-at t) join-impl.Post
-join-impl-returns-6 t c =
-    let args = c .before .before .before .before .before .before .before .before .before .before .before .before .before .before .args in
-    let if1 = c .before .before .before .before .before .before .before .before .before .before .before .before .if1 in
-    let node-at = c .before .before .before .before .before .before .before .before .before .before .node-at in
-    let node-at2 = c .before .before .before .before .before .before .before .before .node-at2 in
-    let arm-of = c .before .before .before .before .before .before .before .arm-of in
-    let id1 = c .before .before .before .before .before .id1 in
-    arm-vars _ (args .case) _ _ _ _ (node-at .result) (node-at2 .result) (if1 .left) (node-at .ensures)
-    (node-at2 .ensures) _ (arm-of .ensures) _ _ _ _ (id1 .given .1) (c .before .before .join-tvar .ensures)
+join-impl-returns-6 t c = arm-vars (chosen t (c .before .before .before .before .before .before .before)) (c .before .before .before .before .before .id1 .given .1) (c .before .before .join-tvar .ensures)
 
 join-impl-same-length-6 : (t : ℕ) → join-impl-lts.Need-same-length-6 (join-impl-calls t) (join-impl-at t) join-impl.Post
 join-impl-same-length-6 t c = c .before .before .before .before .before .meet-tvar .ensures .changed .lay .size ∙ sym (c .before .before .before .before .before .before .before .before .before .before .before .before .before .before .before .before .before .pre .1 .0 .size)
 
 join-impl-returns-7 : (t : ℕ) → join-impl-lts.Need-returns-7 (join-impl-calls t) (join-impl-at t) join-impl.Post
-join-impl-returns-7 t c =
-    let c12 = c .before .before .before .before .before .before .before .before .before .before .before .before in
-    let args = c12 .before .before .before .before .before .args in
-    let if1 = c12 .before .before .before .if1 in
-    let node-at = c12 .before .node-at in
-    let node-at2 = c .before .before .before .before .before .before .before .before .before .before .before .node-at2 in
-    let arm-of = c .before .before .before .before .before .before .before .before .before .before .arm-of in
-    let id = c .before .before .before .before .before .before .before .before .id in
-    let meet-tvar = c .before .before .before .before .before .meet-tvar in
-    left-is _ (args .case) _ _ _ _ (node-at .result) (node-at2 .result) (if1 .left) (node-at .ensures)
-    (node-at2 .ensures) _ (arm-of .ensures) _ _ _ (id .given .1) (meet-tvar .ensures) _ (c .before .a .given .1)
+join-impl-returns-7 t c = left-is (chosen t (c .before .before .before .before .before .before .before .before .before .before)) (c .before .before .before .before .before .before .before .before .id .given .1) (c .before .before .before .before .before .meet-tvar .ensures) (c .before .a .given .1)
 
 join-impl-same-length-7 : (t : ℕ) → join-impl-lts.Need-same-length-7 (join-impl-calls t) (join-impl-at t) join-impl.Post
 join-impl-same-length-7 t c = c .before .before .join-tvar2 .ensures .changed .lay .size ∙ sym (c .before .before .before .before .before .before .before .before .before .before .before .before .before .before .before .before .before .before .before .before .before .pre .1 .0 .size)
 
 join-impl-returns-8 : (t : ℕ) → join-impl-lts.Need-returns-8 (join-impl-calls t) (join-impl-at t) join-impl.Post
 join-impl-returns-8 t c =
-    let c12 = c .before .before .before .before .before .before .before .before .before .before .before .before in
-    let args = c12 .before .before .before .before .before .before .before .before .before .args in
-    let if1 = c12 .before .before .before .before .before .before .before .if1 in
-    let node-at = c12 .before .before .before .before .before .node-at in
-    let node-at2 = c12 .before .before .before .node-at2 in
-    let arm-of = c12 .before .before .arm-of in
-    let id = c12 .id in
+    let back = c .before .before .before .before .before .before .before .before .before .before .before .before .before .before in
+    let id = c .before .before .before .before .before .before .before .before .before .before .before .before .id in
     let meet-tvar = c .before .before .before .before .before .before .before .before .before .meet-tvar in
     let au = c .before .before .before .before .before .au in
-    left-merge _ (args .case) _ _ _ _ (node-at .result) (node-at2 .result) (if1 .left) (node-at .ensures)
-    (node-at2 .ensures) _ (arm-of .ensures) _ _ _ (id .given .1) (meet-tvar .ensures) _ _ _ _ (au .given .1)
+    left-merge (chosen t back) (id .given .1) (meet-tvar .ensures) (au .given .1)
     (c .before .before .join-tvar2 .ensures)
 
 join-impl-same-length-8 : (t : ℕ) → join-impl-lts.Need-same-length-8 (join-impl-calls t) (join-impl-at t) join-impl.Post
@@ -382,94 +308,46 @@ join-impl-same-length-8 t c = c .before .before .before .before .before .meet-tv
 
 join-impl-returns-9 : (t : ℕ) → join-impl-lts.Need-returns-9 (join-impl-calls t) (join-impl-at t) join-impl.Post
 join-impl-returns-9 t c =
-    let c12 = c .before .before .before .before .before .before .before .before .before .before .before .before in
-    let args = c12 .before .before .before .before .before .args in
-    let if1 = c12 .before .before .before .if1 in
-    let node-at = c12 .before .node-at in
-    let node-at2 = c .before .before .before .before .before .before .before .before .before .before .before .node-at2 in
-    let arm-of = c .before .before .before .before .before .before .before .before .before .before .arm-of in
+    let back = c .before .before .before .before .before .before .before .before .before .before in
     let id2 = c .before .before .before .before .before .before .before .before .id2 in
     let meet-tvar2 = c .before .before .before .before .before .meet-tvar2 in
-    right-is _ (args .case) _ _ _ _ (node-at .result) (node-at2 .result) (if1 .left) (node-at .ensures)
-    (node-at2 .ensures) _ (arm-of .ensures) _ _ _ (id2 .given .1) (meet-tvar2 .ensures) _ (c .before .a2 .given .1)
+    right-is (chosen t back) (id2 .given .1) (meet-tvar2 .ensures) (c .before .a2 .given .1)
 
 join-impl-same-length-9 : (t : ℕ) → join-impl-lts.Need-same-length-9 (join-impl-calls t) (join-impl-at t) join-impl.Post
 join-impl-same-length-9 t c = c .before .before .join-tvar3 .ensures .changed .lay .size ∙ sym (c .before .before .before .before .before .before .before .before .before .before .before .before .before .before .before .before .before .before .before .before .before .pre .1 .0 .size)
 
 join-impl-returns-10 : (t : ℕ) → join-impl-lts.Need-returns-10 (join-impl-calls t) (join-impl-at t) join-impl.Post
 join-impl-returns-10 t c =
-    let c12 = c .before .before .before .before .before .before .before .before .before .before .before .before in
-    let args = c12 .before .before .before .before .before .before .before .before .before .args in
-    let if1 = c12 .before .before .before .before .before .before .before .if1 in
-    let node-at = c12 .before .before .before .before .before .node-at in
-    let node-at2 = c12 .before .before .before .node-at2 in
-    let arm-of = c12 .before .before .arm-of in
-    let id2 = c12 .id2 in
+    let back = c .before .before .before .before .before .before .before .before .before .before .before .before .before .before in
+    let id2 = c .before .before .before .before .before .before .before .before .before .before .before .before .id2 in
     let meet-tvar2 = c .before .before .before .before .before .before .before .before .before .meet-tvar2 in
     let au2 = c .before .before .before .before .before .au2 in
-    right-merge _ (args .case) _ _ _ _ (node-at .result) (node-at2 .result) (if1 .left) (node-at .ensures)
-    (node-at2 .ensures) _ (arm-of .ensures) _ _ _ (id2 .given .1) (meet-tvar2 .ensures) _ _ _ _ (au2 .given .1)
+    right-merge (chosen t back) (id2 .given .1) (meet-tvar2 .ensures) (au2 .given .1)
     (c .before .before .join-tvar3 .ensures)
 
 join-impl-same-length-10 : (t : ℕ) → join-impl-lts.Need-same-length-10 (join-impl-calls t) (join-impl-at t) join-impl.Post
 join-impl-same-length-10 t c = search needs
 
 join-impl-returns-11 : (t : ℕ) → join-impl-lts.Need-returns-11 (join-impl-calls t) (join-impl-at t) join-impl.Post
-join-impl-returns-11 t c =
-    let args = c .before .before .before .before .before .before .before .before .before .before .args in
-    let pre = c .before .before .before .before .before .before .before .before .before .before .pre in
-    let if1 = c .before .before .before .before .before .before .before .before .if1 in
-    let node-at = c .before .before .before .before .before .before .node-at in
-    let node-at2 = c .before .before .before .before .node-at2 in
-    settled-after _ _ _ _ _ _ (c .settled4 .ensures)
-    (arm-subtype _ (args .case) _ _ _ _ (node-at .result) (node-at2 .result) (if1 .left) (node-at .ensures)
-    (node-at2 .ensures) _ (c .before .before .before .arm-of .ensures) (pre .1 .0)
-    (pre .1 .1 .0, pre .1 .1 .1) (c .before .enum-told3 .given .1))
+join-impl-returns-11 t c = settled-after (c .settled4 .ensures) (arm-subtype (chosen t (c .before .before .before)) (c .before .enum-told3 .given .1))
 
 join-impl-same-length-11 : (t : ℕ) → join-impl-lts.Need-same-length-11 (join-impl-calls t) (join-impl-at t) join-impl.Post
 join-impl-same-length-11 t c = search needs
 
 join-impl-returns-12 : (t : ℕ) → join-impl-lts.Need-returns-12 (join-impl-calls t) (join-impl-at t) join-impl.Post
-join-impl-returns-12 t c =
-    let args = c .before .before .before .before .before .before .before .before .before .before .args in
-    let pre = c .before .before .before .before .before .before .before .before .before .before .pre in
-    let if1 = c .before .before .before .before .before .before .before .before .if1 in
-    let node-at = c .before .before .before .before .before .before .node-at in
-    let node-at2 = c .before .before .before .before .node-at2 in
-    settled-after _ _ _ _ _ _ (c .settled5 .ensures)
-    (arm-arity _ (args .case) _ _ _ _ (node-at .result) (node-at2 .result) (if1 .left) (node-at .ensures)
-    (node-at2 .ensures) _ (c .before .before .before .arm-of .ensures) (pre .1 .0)
-    (pre .1 .1 .0, pre .1 .1 .1) (c .before .enum-told4 .given .1))
+join-impl-returns-12 t c = settled-after (c .settled5 .ensures) (arm-arity (chosen t (c .before .before .before)) (c .before .enum-told4 .given .1))
 
 join-impl-same-length-12 : (t : ℕ) → join-impl-lts.Need-same-length-12 (join-impl-calls t) (join-impl-at t) join-impl.Post
 join-impl-same-length-12 t c = search needs
 
 join-impl-returns-13 : (t : ℕ) → join-impl-lts.Need-returns-13 (join-impl-calls t) (join-impl-at t) join-impl.Post
-join-impl-returns-13 t c =
-    let args = c .before .before .before .before .before .before .before .before .before .before .args in
-    let pre = c .before .before .before .before .before .before .before .before .before .before .pre in
-    let if1 = c .before .before .before .before .before .before .before .before .if1 in
-    let node-at = c .before .before .before .before .before .before .node-at in
-    let node-at2 = c .before .before .before .before .node-at2 in
-    settled-after _ _ _ _ _ _ (c .settled6 .ensures)
-    (arm-incompatible _ (args .case) _ _ _ _ (node-at .result) (node-at2 .result) (if1 .left) (node-at .ensures)
-    (node-at2 .ensures) _ (c .before .before .before .arm-of .ensures) (pre .1 .0)
-    (pre .1 .1 .0, pre .1 .1 .1) (c .before .enum-told5 .given .1))
+join-impl-returns-13 t c = settled-after (c .settled6 .ensures) (arm-incompatible (chosen t (c .before .before .before)) (c .before .enum-told5 .given .1))
 
 join-impl-same-length-13 : (t : ℕ) → join-impl-lts.Need-same-length-13 (join-impl-calls t) (join-impl-at t) join-impl.Post
 join-impl-same-length-13 t c = search needs
 
 join-impl-returns-14 : (t : ℕ) → join-impl-lts.Need-returns-14 (join-impl-calls t) (join-impl-at t) join-impl.Post
-join-impl-returns-14 t c =
-    let args = c .before .before .before .before .before .before .before .before .before .before .args in
-    let pre = c .before .before .before .before .before .before .before .before .before .before .pre in
-    let if1 = c .before .before .before .before .before .before .before .before .if1 in
-    let node-at = c .before .before .before .before .before .before .node-at in
-    let node-at2 = c .before .before .before .before .node-at2 in
-    settled-after _ _ _ _ _ _ (c .settled7 .ensures)
-    (arm-disagree _ (args .case) _ _ _ _ (node-at .result) (node-at2 .result) (if1 .left) (node-at .ensures)
-    (node-at2 .ensures) _ (c .before .before .before .arm-of .ensures) (pre .1 .0)
-    (c .before .enum-told6 .given .1))
+join-impl-returns-14 t c = settled-after (c .settled7 .ensures) (arm-disagree (chosen t (c .before .before .before)) (c .before .enum-told6 .given .1))
 
 abbrev join-impl-types-Inv-loop : join-impl-types-lts.InvT-loop
 join-impl-types-Inv-loop w₀ case left t1 t2 n tys₀ at₀ i₀ w tys at i = Gathering left (case-of case) w₀ at₀ t1 t2 n w at tys i
@@ -568,17 +446,9 @@ join-tvar-enum-known-what-2 t c = search needs
 
 join-tvar-join-impl-requires : (t : ℕ) → join-tvar-lts.Need-join-impl-requires (join-tvar-calls t) (join-tvar-at t) join-tvar.Post
 join-tvar-join-impl-requires t c κs =
-    let open-tvar = c .before .before .before .before .before .before .before .open-tvar in
-    let what2 = c .before .before .what2 in (
-      omega arith,
-      (
-        open-tvar .ensures .changed .lay,
-        (
-          ready-in _ (open-tvar .result .what) _ (open-tvar .ensures .inside) (what2 .given .1) .0,
-          ready-in _ (open-tvar .result .what) _ (open-tvar .ensures .inside) (what2 .given .1) .1 .0,
-        ),
-      ),
-    )
+    let open-tvar = c .before .before .before .before .before .before .before .open-tvar .ensures in
+    let inside = ready-in (open-tvar .inside) (c .before .before .what2 .given .1) in
+    (omega arith, (open-tvar .changed .lay, (inside .0, inside .1 .0)))
 
 join-tvar-done-of-requires : (t : ℕ) → join-tvar-lts.Need-done-of-requires (join-tvar-calls t) (join-tvar-at t) join-tvar.Post
 join-tvar-done-of-requires t c κs = tt
@@ -597,36 +467,22 @@ join-tvar-returns t c =
     let open-tvar = c .before .before .before .before .before .before .before .before .before .before .before .before .before .open-tvar in
     let what2 = c .before .before .before .before .before .before .before .before .what2 in
     let join-impl = c .before .before .before .before .before .join-impl in
-    tvar-inner _ _ _ _ _ _ _ _ _ _ (open-tvar .ensures) _ (what2 .given .1) _ _ _ (join-impl .ensures)
+    tvar-inner _ _ _ _ _ _ (open-tvar .ensures) (what2 .given .1) (join-impl .ensures)
     (c .before .before .done-of .ensures) (c .enum-told .given .1)
 
 join-tvar-close-tvar-requires : (t : ℕ) → join-tvar-lts.Need-close-tvar-requires (join-tvar-calls t) (join-tvar-at t) join-tvar.Post
 join-tvar-close-tvar-requires t c κs =
     let open-tvar = c .before .before .before .before .before .before .before .before .before .before .before .before .before .before .before .open-tvar in
     let what2 = c .before .before .before .before .before .before .before .before .before .before .what2 in
-    let join-impl = c .before .before .before .before .before .before .before .join-impl in (
-      join-impl .ensures .changed .lay,
-      (
-        still-in _ _ _ _ _ (join-impl .ensures .changed .grown)
-            (ready-in _ (open-tvar .result .what) _ (open-tvar .ensures .inside) (what2 .given .1) .0),
-        (
-          still-in _ _ _ _ _ (join-impl .ensures .changed .grown)
-              (ready-in _ (open-tvar .result .what) _ (open-tvar .ensures .inside) (what2 .given .1) .1 .0),
-          (
-            still-in _ _ _ _ _ (join-impl .ensures .changed .grown)
-                (ready-in _ (open-tvar .result .what) _ (open-tvar .ensures .inside) (what2 .given .1) .1 .1),
-            node-in _ (join-impl .result .out) _ _ (join-impl .ensures .inside)
-                (c .before .before .before .before .done-of .ensures) (c .before .before .ty .given .1),
-          ),
-        ),
-      ),
-    )
+    let join-impl = c .before .before .before .before .before .before .before .join-impl in
+    close-in _ _ _ _ _ _ (open-tvar .ensures) (what2 .given .1) (join-impl .ensures)
+    (c .before .before .before .before .done-of .ensures) (c .before .before .ty .given .1)
 
 join-tvar-same-length-2 : (t : ℕ) → join-tvar-lts.Need-same-length-2 (join-tvar-calls t) (join-tvar-at t) join-tvar.Post
 join-tvar-same-length-2 t c = c .before .before .before .before .before .before .open-tvar .ensures .changed .lay .size ∙ sym (c .before .before .before .before .before .before .before .before .before .pre .1 .size)
 
 join-tvar-returns-2 : (t : ℕ) → join-tvar-lts.Need-returns-2 (join-tvar-calls t) (join-tvar-at t) join-tvar.Post
-join-tvar-returns-2 t c = tvar-stop _ _ _ _ _ _ _ _ _ _ (c .before .before .before .before .before .before .open-tvar .ensures) _ (c .before .what .given .1)
+join-tvar-returns-2 t c = tvar-stop _ _ _ _ _ _ (c .before .before .before .before .before .before .open-tvar .ensures) (c .before .what .given .1)
 
 join-tvar-same-length-3 : (t : ℕ) → join-tvar-lts.Need-same-length-3 (join-tvar-calls t) (join-tvar-at t) join-tvar.Post
 join-tvar-same-length-3 t c = c .before .before .close-tvar .ensures .changed .lay .size ∙ sym (c .before .before .before .before .before .before .before .before .before .before .before .before .before .before .before .before .before .before .before .before .before .pre .1 .size)
@@ -639,8 +495,8 @@ join-tvar-returns-3 t c =
     let join-impl = c .before .before .before .before .before .before .before .before .before .before .join-impl in
     let done-of = c .before .before .before .before .before .before .before .done-of in
     let ty = c .before .before .before .before .before .ty in
-    tvar-close _ _ _ _ _ _ _ _ _ _ (open-tvar .ensures) _ (what2 .given .1) _ _ _ (join-impl .ensures)
-    (done-of .ensures) _ _ _ (ty .given .1) (c .before .before .close-tvar .ensures)
+    tvar-close _ _ _ _ _ _ (open-tvar .ensures) (what2 .given .1) (join-impl .ensures) (done-of .ensures) (ty .given .1)
+    (c .before .before .close-tvar .ensures)
 
 pub +join-impl+join-impl-types+join-tvar-spec : {M : Type 1} → statement M
 +join-impl+join-impl-types+join-tvar-spec =

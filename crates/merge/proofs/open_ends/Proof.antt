@@ -131,7 +131,11 @@ bind-var-requires-2 c κs =
 
 same-length-4 : tie.Need-same-length-4
 same-length-4 c =
-    let pre = c .before .before .before .before .before .before .before .before .before .before .before .before .before .before .before .before .before .before .before .before .before .before .before .before .before .before .before .before .before .before .before .before .before .before .before .before .before .before .before .before .before .pre in
+    let c12 = c .before .before .before .before .before .before .before .before .before .before .before .before in
+    let c24 = c12 .before .before .before .before .before .before .before .before .before .before .before .before in
+    let c36 = c24 .before .before .before .before .before .before .before .before .before .before .before .before in
+    let the-pre = c36 .before .before .before .before .before .pre in
+    let pre = the-pre in
     c .before .before .bind-var2 .ensures .lay .size ∙ sym (pre .0 .size)
 
 returns-4 : tie.Need-returns-4
