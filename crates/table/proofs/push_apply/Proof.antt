@@ -45,11 +45,12 @@ same-length c = c .before .before .put-row .ensures .size ∙ c .before .before 
 
 returns-3 : tie.Need-returns-3
 returns-3 c =
-    let args = c .before .before .before .before .before .before .before .before .before .before .before .before .before .before .args in
-    let pre = c .before .before .before .before .before .before .before .before .before .before .before .before .before .before .pre in
-    let fits = c .before .before .before .before .before .before .before .before .before .before .before .if2 .left in
-    apply-pushed _ _ _ (args .k) (args .name) _ _ (pre .0) (pre .1) (search needs) (c .before .before .before .before .before .before .before .before .before .before .before .before .if1 .left) _ _ _ _ _ _ (λ q. omega (arith, fits)) refl
-    (c .before .before .before .before .before .before .before .before .before .wide .ensures) (c .before .before .before .before .before .before .before .before .wide2 .ensures) (c .before .before .before .before .before .before .before .write-row .ensures) (c .before .before .put-row .ensures) (c .before .before .before .before .row-of .ensures)
+    let c7 = c .before .before .before .before .before .before .before in
+    let start = c7 .before .before .before .before .before .before .before in
+    let fits = c7 .before .before .before .before .if2 .left in
+    let room = c7 .before .before .before .before .before .if1 .left in
+    apply-pushed _ _ _ (start .args .k) (start .args .name) _ _ (start .pre .0) (start .pre .1) (search needs) room _ _ _ _ _ _ (λ q. omega (arith, fits)) refl
+    (c7 .before .before .wide .ensures) (c7 .before .wide2 .ensures) (c7 .write-row .ensures) (c .before .before .put-row .ensures) (c .before .before .before .before .row-of .ensures)
 
 pub push-apply-spec : {M : Type 1} → statement M
 push-apply-spec =

@@ -19,8 +19,9 @@ same-length c = c .before .before .put-row .ensures .size
 
 returns : tie.Need-returns
 returns c =
-    let pre = c .before .before .before .before .before .before .before .before .pre in
-    rw (c .before .before .before .before .before .before .number .ensures .0) at (cell-put _ _ _ _ _ (pre .0) (found-in _ (c .before .before .before .before .before .before .before .before .args .b) (pre .1)) _ _ (c .before .before .before .before .before .if1 .taken) (c .before .before .put-row .ensures) (c .before .before .before .before .cell-row .ensures))
+    let c4 = c .before .before .before .before in
+    let start = c4 .before .before .before .before in
+    rw (c4 .before .before .number .ensures .0) at (cell-put _ _ _ _ _ (start .pre .0) (found-in _ (start .args .b) (start .pre .1)) _ _ (c4 .before .if1 .taken) (c .before .before .put-row .ensures) (c4 .cell-row .ensures))
 
 returns-2 : tie.Need-returns-2
 returns-2 c = cell-none _ _ _ _ _ (c .before .before .before .pre .0) (found-in _ (c .before .before .before .args .b) (c .before .before .before .pre .1)) (rw (c .before .number .ensures .0) at (c .if1 .left))
