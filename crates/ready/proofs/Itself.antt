@@ -27,8 +27,8 @@ use Rattle.subst.specs.declared.Unfolded.the-variants.{Node as NodeU, Anything}
 use Rattle.ready.proofs.Lists.{all-all, all-one}
 use Rattle.table.proofs.Grown.{value-is}
 use Rattle.table.proofs.Pushed.{count-seen}
-use Rattle.subst.proofs.Laws.{inside-seen}
-use Rattle.subst.proofs.Occurs.{Low, below-low, zero-at}
+use Rattle.shapes.proofs.Nodes.{Low, below-low, inside-seen}
+use Rattle.subst.proofs.Occurs.{zero-at}
 
 -- ---- where reading goes on
 

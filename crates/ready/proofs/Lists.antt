@@ -8,6 +8,7 @@ use native.Mathlib.Omega.{arith}
 use lib.ListN.{length, getD}
 use lib.Seq.{ext-getD}
 use Rattle.definition.specs.Store.{all-of}
+use Rattle.ready.specs.Ready.{eight}
 
 all-cons : (f : ℕ → Bool) (t : ℕ) (ts : List ℕ) (b : Bool) → f t ≡ b → all-of f (t ∷ ts) ≡ (b && all-of f ts)
 unfolding all-of
@@ -30,11 +31,11 @@ all-one f (t ∷ ts) zero h e = all-cons f t ts false e
 all-one f (t ∷ ts) (suc i) h e =
     all-cons f t ts (f t) refl ∙ ap (λ (b : Bool). f t && b) (all-one f ts i (omega arith) e) ∙ and-false (f t)
 
--- a list of eight, written out
-pub eight : (l : List ℕ) → length l ≡ 8 → getD l 0 0 ∷ getD l 1 0 ∷ getD l 2 0 ∷ getD l 3 0 ∷ getD l 4 0 ∷ getD l 5 0 ∷ getD l 6 0 ∷ getD l 7 0 ∷ [] ≡ l
-eight l e = ext-getD 0 _ l (sym e) at
+-- a list of eight is the first eight of it
+pub all-eight : (l : List ℕ) → length l ≡ 8 → eight l ≡ l
+all-eight l e = ext-getD 0 _ l (sym e) at
   where
-    at : (i : ℕ) → i < 8 → getD (getD l 0 0 ∷ getD l 1 0 ∷ getD l 2 0 ∷ getD l 3 0 ∷ getD l 4 0 ∷ getD l 5 0 ∷ getD l 6 0 ∷ getD l 7 0 ∷ []) i 0 ≡ getD l i 0
+    at : (i : ℕ) → i < 8 → getD (eight l) i 0 ≡ getD l i 0
     at zero h = refl
     at (suc zero) h = refl
     at (suc (suc zero)) h = refl

@@ -43,8 +43,7 @@ use Rattle.ready.specs.declared.Onward.the-variants.{Parts, Open, Bound}
 use Rattle.ready.specs.declared.Landing.{Landing}
 use Rattle.ready.specs.declared.Landing.the-variants.{Parts as PartsL, Open as OpenL, Spent}
 use Rattle.ready.proofs.Itself.{few-parts}
-use Rattle.subst.proofs.Laws.{inside-seen}
-use Rattle.subst.proofs.Occurs.{Low, below-low, at-node, many-parts, part-is}
+use Rattle.shapes.proofs.Nodes.{Low, at-node, below-low, inside-seen, many-parts, part-is}
 
 -- ---- one level
 

@@ -1,6 +1,6 @@
 -- ready_tvars: how it goes on from a type, and what its steps answer. Assumes nothing: these are definitions.
 use mathlib.Core.Path.{_≡_}
-use mathlib.Core.List.{List}
+use mathlib.Core.List.{List, [], _∷_}
 use Prim.Native.Nat.{ℕ, _<_}
 use lib.ListN.{length, getD}
 use Rattle.definition.specs.Types as d
@@ -15,6 +15,10 @@ use Rattle.ready.specs.declared.Onward.{Onward}
 use Rattle.ready.specs.declared.Onward.the-variants.{Parts, Open, Bound}
 use Rattle.ready.specs.declared.Landing.{Landing}
 use Rattle.ready.specs.declared.Landing.the-variants.{Parts as PartsL, Open as OpenL, Spent}
+
+-- the first eight, written out
+abbrev pub eight : List ℕ → List ℕ
+eight l = getD l 0 0 ∷ getD l 1 0 ∷ getD l 2 0 ∷ getD l 3 0 ∷ getD l 4 0 ∷ getD l 5 0 ∷ getD l 6 0 ∷ getD l 7 0 ∷ []
 
 -- the type ty anew, with the parts tys; one without parts and without a name stays
 unfoldable pub rebuilt : State → ℕ → ℕ → d.Type-value → List ℕ → Result (State × ℕ)

@@ -13,7 +13,7 @@ ghost use Rattle.table.specs.declared.Out.the-variants.{Done};
 ghost use Rattle.subst.specs.Answers.{Unfolds};
 ghost use Rattle.ready.specs.Ends.{Ends-by, Noted, Meets, Ends-known};
 ghost use Rattle.ready.specs.Itself.{Goes-on, Higher, Levels, Marked, Soon};
-ghost use Rattle.ready.specs.Ready.{Goes, Lands, Has-parts, rebuilt-at, by-parts-at};
+ghost use Rattle.ready.specs.Ready.{Goes, Lands, Has-parts, eight, rebuilt-at, by-parts-at};
 use names::TVar;
 use shapes::Next;
 use subst::Unfolded;
@@ -53,22 +53,7 @@ fn narrow(x: u32) -> u16
 
 // ---- the ends of all chains
 
-// One more than the number of the variable at the end of v's chain, if it is noted; else 0.
-fn noted(ends: &[u32], v: TVar) -> u32
-    ensures { λ r. ⌜ r ≡ getD (now (ends .entry)) (v .0) 0 ⌝ }
-{
-    let at = v.0 as usize;
-    if at < ends.len() { ends[at] } else { 0 }
-}
-
-fn note(ends: &mut [u32], v: TVar, x: u32)
-    ensures { λ _. ⌜ now (ends .exit) ≡ set (now (ends .entry)) (v .0) x ⌝ }
-{
-    let at = v.0 as usize;
-    if at < ends.len() {
-        ends[at] = x;
-    }
-}
+// What is noted of a variable is one more than the number of the variable at its chain's end.
 
 // Goes from v to its end, or to a variable whose end is noted. The chains that are noted have at most `longest` bindings:
 // counted, since forward_tvar takes no more steps than there are variables.
@@ -79,7 +64,7 @@ fn meet(w: &[u32], u: Used, v: TVar, longest: u32, ends: &[u32]) -> Meeting
     let mut cur = v;
     let mut long = longest;
     while long <= u.vars {
-        let known = noted(ends, cur);
+        let known = table::noted(ends, cur);
         if 0 < known {
             return Meeting::End(known, long);
         }
@@ -104,11 +89,11 @@ fn note_chain(w: &[u32], u: Used, v: TVar, x: u32, long: u32, ends: &mut [u32])
     let mut cur = v;
     let mut links = u.vars;
     while 0 < links {
-        let known = noted(ends, cur);
+        let known = table::noted(ends, cur);
         if 0 < known {
             return;
         }
-        note(ends, cur, x);
+        table::note(ends, cur, x);
         match subst::next_of(w, u, cur) {
             Next::Last => {
                 return;
@@ -154,7 +139,7 @@ fn chain_end(w: &[u32], u: Used, v: TVar, ends: &[u32]) -> TVar
     requires { ⌜ Lay (now w) u × Ends-known (now w) u (now ends) ⌝ }
     ensures { λ r. ⌜ ((ds : List d.Struct) → r .0 ≡ forward-tvar (seen (now (w .entry)) u ds) (v .0)) ⌝ }
 {
-    let known = noted(ends, v);
+    let known = table::noted(ends, v);
     if 0 < known {
         return table::tvar(known - 1);
     }
@@ -355,7 +340,7 @@ fn part_of(w: &[u32], u: Used, t: u32, i: u32) -> u32
 }
 
 fn widened(t: [u16; 8]) -> [u32; 8]
-    ensures { λ r. ⌜ r ≡ t ⌝ }
+    ensures { λ r. ⌜ r ≡ eight t ⌝ }
 {
     [
         t[0] as u32,

@@ -1,5 +1,5 @@
 -- A state written as words: every row where the layout has it, and words that have those rows are the state's. Assumes nothing.
--- First how wide rows are, then one table for any kind of row, then all five tables (`Holds`); `encoded` and `holds` are the two directions.
+-- First one table for any kind of row, then all five tables (`Holds`); `encoded` and `holds` are the two directions.
 use mathlib.Core.Path.{_≡_, refl, sym, ap, ap₂, _∙_}
 use mathlib.Core.List.{List, [], _++_, append-assoc, append-nil}
 use Prim.Native.Nat.{ℕ, _+_, _*_, _<_}
@@ -9,45 +9,13 @@ use Rattle.definition.specs.Types.{Constraint, AbilityConstraint, NumericConstr
 use Rattle.table.specs.Tab.{tab}
 use Rattle.table.specs.Rows.{Table, words-at, row, node-words, shape-words, arg-words, cell-words, constraint-words, struct-words, node-table, arg-table, var-table, constraint-table, struct-table}
 use Rattle.table.specs.Encode.{table-words, counts as count-words, encode as encode-words}
+use Rattle.table.proofs.Written.{node-long, cell-long, constraint-long, struct-long}
 use Rattle.table.proofs.Encoded.{encoded-as}
 use Rattle.sound.proofs.Joined.{joined, flat-joined, length-joined, joined-row}
-
--- ---- rows are as wide as their table says
-
-shape-long : (loc : ℕ) (x : Shape Places) → length (shape-words loc x) ≡ 6
-unfolding shape-words
-shape-long loc UnitType = refl
-shape-long loc (Ref m t) = refl
-shape-long loc (Param id a) = refl
-shape-long loc (Apply k n p) = refl
-shape-long loc (Var v) = refl
-shape-long loc Anything = refl
-shape-long loc UnresolvedError = refl
-
-node-long : (n : Node) → length (node-table .write n) ≡ 6
-unfolding node-words
-node-long n = shape-long (n .loc) (n .value)
 
 arg-long : (t : ℕ) → length (arg-table .write t) ≡ 1
 unfolding arg-words
 arg-long t = refl
-
-cell-long : (c : Cell) → length (var-table .write c) ≡ 5
-unfolding cell-words
-cell-long c = refl
-
-constraint-long : (c : Constraint) → length (constraint-table .write c) ≡ 4
-unfolding constraint-words
-constraint-long (AbilityConstraint loc ty abilities) = refl
-constraint-long (NumericConstraint loc ty) = refl
-constraint-long (BitsConstraint loc ty) = refl
-constraint-long (OrderedConstraint loc ty) = refl
-constraint-long (BaseTypeConstraint loc ty) = refl
-constraint-long (SingleTypeConstraint loc ty) = refl
-
-struct-long : (d : Struct) → length (struct-table .write d) ≡ 2
-unfolding struct-words
-struct-long d = refl
 
 -- ---- one table
 

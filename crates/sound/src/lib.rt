@@ -1,7 +1,7 @@
 // The test for a sound state, made once where a lent state enters: words and parameter bytes, whatever they hold. The tests of fields, rows and tables stand in `sound_fields`, `sound_rows` and `sound_tables`.
 ghost use mathlib.Core.Path.{_≡_};
 ghost use Prim.Native.Nat.{_≤_};
-ghost use lib.ListN.{length, getD, set};
+ghost use lib.ListN.{length};
 ghost use Rattle.sound_fields.specs.Fields.{all-below};
 ghost use Rattle.sound_rows.specs.Rows.{Sized};
 ghost use Rattle.sound.specs.Lent.{used-of, lent-sound};
@@ -13,6 +13,8 @@ use table::Used;
 use table::WORDS;
 use table::cell_words_at;
 use table::node_words_at;
+use table::note;
+use table::noted;
 
 // The variable that a binding leads to, if it leads to one.
 enum Next {
@@ -72,15 +74,7 @@ fn next_at(w: &[u32], u: Used, v: TVar) -> Next
     var_at(w, u, r.binding)
 }
 
-// One more than the length of v's chain, if it is noted; else 0.
-fn noted(lengths: &[u32], v: TVar) -> u32
-    ensures { λ r. ⌜ r ≡ getD (now (lengths .entry)) (v .0) 0 ⌝ }
-{
-    let at = v.0 as usize;
-    if at < lengths.len() { lengths[at] } else { 0 }
-}
-
-// How many bindings lead from v to its chain's end; more than there are variables where none is met. A length that is noted is not counted again.
+// How many bindings lead from v to its chain's end; more than there are variables where none is met. One more than a length is noted, and that is not counted again.
 fn chain_length(w: &[u32], u: Used, v: TVar, lengths: &[u32]) -> u32
     requires { ⌜ Sized (now w) u × Noted (now w) u (now lengths) ⌝ }
     ensures { λ r. ⌜ Counted (now (w .entry)) u (v .0) r ⌝ }
@@ -105,15 +99,6 @@ fn chain_length(w: &[u32], u: Used, v: TVar, lengths: &[u32]) -> u32
         n = n + 1;
     }
     n
-}
-
-fn note(lengths: &mut [u32], v: TVar, n: u32)
-    ensures { λ r. ⌜ now (lengths .exit) ≡ set (now (lengths .entry)) (v .0) n ⌝ }
-{
-    let at = v.0 as usize;
-    if at < lengths.len() {
-        lengths[at] = n;
-    }
 }
 
 // Notes the lengths of v's chain, which has n bindings, and of its links, up to one that is noted.

@@ -7,10 +7,10 @@ use Prim.Native.Nat.{ℕ, zero, suc, _-_, _<_, _≤_}
 use native.Mathlib.Nat.{not-suc-le-zero}
 use native.Mathlib.Numerals.{sub-one}
 use Rattle.definition.specs.Types.{State, Struct, ok, err, RecursiveType}
-use Rattle.definition.specs.Store.{node, with-args, type-at, get, num-loc, insert, with-structs}
+use Rattle.definition.specs.Store.{node, with-args, type-at, get, num-loc, insert}
 use Rattle.definition.specs.Subst.{as-var, is-anything, next-in, next-of, forward, forward-tvar}
 use Rattle.definition.specs.Join.{is-num-var, num-shape, check-num-tvar′, check-num-tvar, used, join-bind-tvar}
-use Rattle.table.specs.State.{found, shape-of, node-of, seen, Lay, Stored, Inside}
+use Rattle.table.specs.State.{found, shape-of, node-of, seen, Lay, Stored}
 use Rattle.table.specs.declared.Used.{Used}
 use Rattle.table.specs.declared.Node.{Node}
 use Rattle.table.specs.declared.Found.{Found}
@@ -25,12 +25,6 @@ use Rattle.shapes.specs.declared.Next.{Next}
 use Rattle.shapes.specs.declared.Next.the-variants.{Last, To}
 use Rattle.subst.specs.declared.Binding.{Binding}
 use Rattle.subst.specs.declared.Binding.the-variants.{Bound, Failed, Recursive}
-
--- ---- the state that the words hold
-
-pub inside-seen : (w : List ℕ) (u : Used) (ds : List Struct) → Lay w u → Inside (seen w u ds)
-unfolding seen with-structs node get
-inside-seen w u ds h = record { parts = h .inside .parts; bindings = h .inside .bindings }
 
 pub var-of : (s : State) (t : ℕ) (n : Node) (r : Next) → node-of n ≡ node s t → ((st : State) → next r ≡ as-var (with-args st (shape-of (n .shape)))) → as-var (type-at s t) ≡ next r
 var-of s t n r e f = sym (f s ∙ ap as-var (value-is s t n e))

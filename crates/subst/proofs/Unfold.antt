@@ -23,7 +23,8 @@ use Rattle.shapes.specs.declared.Next.{Next}
 use Rattle.shapes.specs.declared.Next.the-variants.{Last, To}
 use Rattle.subst.specs.declared.Unfolded.{Unfolded}
 use Rattle.subst.specs.declared.Unfolded.the-variants.{Node as NodeU, Anything}
-use Rattle.subst.proofs.Laws.{inside-seen, var-of}
+use Rattle.shapes.proofs.Nodes.{inside-seen}
+use Rattle.subst.proofs.Laws.{var-of}
 
 -- ---- unfold_type
 

@@ -1,11 +1,11 @@
 -- What a grown state keeps, and what is read from a node of one. Assumes nothing.
-use mathlib.Core.Path.{_≡_, sym, ap, _∙_}
-use mathlib.Core.List.{List, []}
+use mathlib.Core.Path.{_≡_, ap, _∙_}
+use mathlib.Core.List.{List}
 use Prim.Native.Nat.{ℕ, _+_, _≤_, _<_}
 use native.Mathlib.Omega.{arith}
 use lib.ListN.{length, take, drop, length-append, length-take, length-drop}
 use lib.Seq.{take-append-le, drop-append-le}
-use Rattle.definition.specs.Types.{State, Struct, Places}
+use Rattle.definition.specs.Types.{State, Places}
 use Rattle.definition.specs.Store.{node, loc-of, type-at, with-args, args-at}
 use Rattle.table.specs.State.{view, Lay, Front, Grown, Parts, Var-in, done, node-of, shape-of}
 use Rattle.table.specs.declared.Node.{Node}

@@ -10,7 +10,7 @@ use lib.ListN.{length, getD, take, length-append, List·getD-append, length-set,
 use lib.Seq.{ext-getD, getD-append-add, getD-take, length-take-le, set-out, getD-at}
 use Rattle.definition.specs.Types.{State, Struct, Shape, Places, Node, Type-value, Cell, unbound, Constraint, ok}
 use Rattle.definition.specs.Store.{count, taken, with-vars, with-var, with-constraints, with-structs, with-node, args-of, stored, sp, next-tvar, declare}
-use Rattle.table.specs.Rows.{row, entries, Clean, Written, arg-words, read-arg, node-table, arg-table, var-table, constraint-table, struct-table, places}
+use Rattle.table.specs.Rows.{row, entries, Clean, Written, arg-words, read-arg, node-table, arg-table, var-table, constraint-table, struct-table}
 use Rattle.table.specs.State.{view, seen, Below, Inside, Lay, Grown, Wrote, Changed, After, Stored, Declared, Var-in, one-var, outcome, with-cell, pushed-constraint}
 use Rattle.table.specs.declared.Used.{Used}
 use Rattle.table.specs.declared.Out.the-variants.{Done, Refused}

@@ -10,6 +10,7 @@ use lib.ListN.{length, take, replicate, length-replicate}
 use borrow.Author.Tests.{le-ltb}
 use Rattle.definition.specs.Types.{TypeName, Multiple, Builtin, ModuleType, Mark, Shape, UnitType, Ref, Param, Apply, Var, Anything, UnresolvedError, Places, Node, Cell}
 use Rattle.definition.specs.Types.{Constraint, AbilityConstraint, NumericConstraint, BitsConstraint, OrderedConstraint, BaseTypeConstraint, SingleTypeConstraint, Struct}
+use Rattle.definition.specs.Subst.{or-insert}
 use Rattle.table.specs.Rows.{flag, read-mark, mark-word, read-option, option-flag, option-word, places, read-name, read-shape, read-node, name-tag, name-word, shape-words, node-words, node-table}
 use Rattle.table.specs.Rows.{read-cell, cell-words, var-table, read-constraint, constraint-words, constraint-table, read-struct, struct-words, struct-table, Written}
 
@@ -94,6 +95,11 @@ option-again (some x) = refl
 pub cell-again : (c : Cell) → read-cell (cell-words c) ≡ c
 unfolding read-cell cell-words
 cell-again c = λ i. record { binding = option-again (c .binding) i; numeric = option-again (c .numeric) i }
+
+pub word-is : (o : Option ℕ) → or-insert o 0 ≡ option-word o
+unfolding or-insert option-word
+word-is none = refl
+word-is (some x) = refl
 
 pub cell-row : (b m : Option ℕ) (bf bw mf mw : ℕ) → bf ≡ option-flag b → bw ≡ option-word b → mf ≡ option-flag m → mw ≡ option-word m
     → Written var-table (bf ∷ bw ∷ mf ∷ mw ∷ 0 ∷ 0 ∷ 0 ∷ 0 ∷ []) (record { binding = b; numeric = m })

@@ -2,15 +2,16 @@
 // Five counts, then 2,048 node rows of six, 4,096 argument places, 1,024 variable rows of five, 512 constraint rows of four, 256 struct rows of two.
 ghost use mathlib.Core.Path.{_≡_};
 ghost use mathlib.Core.List.{List, [], _∷_};
-ghost use Prim.Native.Nat.{ℕ, _+_, _≤_, _<_, _%_};
-ghost use lib.ListN.{length, getD, take};
+ghost use Prim.Native.Nat.{ℕ, _+_, _*_, _≤_, _<_, _%_};
+ghost use lib.ListN.{length, getD, set, take};
 ghost use Rattle.definition.specs.Types as d;
 ghost use Rattle.definition.specs.Store.{node, get, num-loc, args-at, sp, next-tvar, insert, add-constraint};
 ghost use Rattle.definition.specs.Subst.{or-insert, mark-one};
 ghost use Rattle.names.specs.Names.{mark-of, name-of};
-ghost use Rattle.table.specs.Rows.{flag, read-shape, read-mark, read-name, read-option, mark-word, name-word, name-tag, option-flag, option-word, read-constraint, node-table, var-table, constraint-table, struct-table, places, Written};
+ghost use Rattle.table.specs.Rows.{flag, read-shape, read-mark, read-name, read-option, mark-word, name-word, name-tag, option-flag, read-constraint, node-table, var-table, constraint-table, struct-table, places, Written};
 ghost use Rattle.table.specs.Encode.{encode};
-ghost use Rattle.table.specs.State.{used-at, found, shape-of, node-of, node-at, cell, value-of, constraint-of, done, view, seen, Lay, Changed, After, Stored, Wrote, with-cell, node-words-at, cell-words-at, constraint-words-at, struct-words-at, Declares, Declared, Flat, Found-in, Parts, Var-in, one-var, pushed-constraint};
+ghost use Rattle.table.specs.State.{used-at, found, shape-of, node-of, node-at, cell, value-of, constraint-of, done, view, seen, Lay, Changed, After, Stored, Wrote, with-cell, Declares, Declared, Flat, Found-in, Parts, Var-in, one-var, pushed-constraint};
+ghost use Rattle.table.specs.State.{node-words-at, cell-words-at, constraint-words-at, struct-words-at};
 use names::AbilitySet;
 use names::MAX_ARGS;
 use names::MAX_CONSTRAINTS;
@@ -206,6 +207,23 @@ fn tvar_at(x: u32) -> TVar
     TVar((x % 65536) as u16)
 }
 
+// What is noted of v; 0 past the last.
+pub fn noted(notes: &[u32], v: TVar) -> u32
+    ensures { λ r. ⌜ r ≡ getD (now (notes .entry)) (v .0) 0 ⌝ }
+{
+    let at = v.0 as usize;
+    if at < notes.len() { notes[at] } else { 0 }
+}
+
+pub fn note(notes: &mut [u32], v: TVar, x: u32)
+    ensures { λ _. ⌜ now (notes .exit) ≡ set (now (notes .entry)) (v .0) x ⌝ }
+{
+    let at = v.0 as usize;
+    if at < notes.len() {
+        notes[at] = x;
+    }
+}
+
 // ---- rows
 
 // n words of a row, from place `at` on.
@@ -218,6 +236,14 @@ fn write_row(w: &mut [u32], at: usize, row: [u32; 8], n: usize)
         w[at + k] = row[k];
         k = k + 1;
     }
+}
+
+// Row i of a table.
+fn put_row(w: &mut [u32], base: usize, width: usize, i: u32, row: [u32; 8])
+    requires { ⌜ (width ≤ 8) × (base + i * width + width ≤ length (now w)) ⌝ }
+    ensures { λ _. ⌜ Wrote (now (w .entry)) (base + i * width) width row (now (w .exit)) ⌝ }
+{
+    write_row(w, base + (i as usize) * width, row, width);
 }
 
 pub fn node_words_at(w: &[u32], t: u32) -> NodeWords
@@ -449,7 +475,7 @@ pub fn push_node(w: &mut [u32], u: Used, loc: u32, shape: Shape) -> Step
         };
     }
     let row = row_of(loc, shape);
-    write_row(w, NODES_AT + wide(n) * NODE_WORDS, row, NODE_WORDS);
+    put_row(w, NODES_AT, NODE_WORDS, n, row);
     Step {
         out: Out::Done(n),
         used: Used {
@@ -491,7 +517,7 @@ pub fn push_apply(
     }
     write_row(w, ARGS_AT + wide(first), parts, wide(n));
     let row = row_of(loc, Shape::Apply(k, name, first, n));
-    write_row(w, NODES_AT + wide(t) * NODE_WORDS, row, NODE_WORDS);
+    put_row(w, NODES_AT, NODE_WORDS, t, row);
     Step {
         out: Out::Done(t),
         used: Used {
@@ -594,12 +620,13 @@ fn flag_found(f: Found) -> u32
     }
 }
 
-fn word_found(f: Found) -> u32
-    ensures { λ r. ⌜ r ≡ option-word (found f) ⌝ }
+// The number, or x where there is none.
+fn unwrap_or(f: Found, x: u32) -> u32
+    ensures { λ r. ⌜ r ≡ or-insert (found f) x ⌝ }
 {
     match f {
-        Found::Nothing => 0,
-        Found::Just(x) => x,
+        Found::Nothing => x,
+        Found::Just(y) => y,
     }
 }
 
@@ -608,9 +635,9 @@ fn cell_row(b: Found, m: Found) -> [u32; 8]
     ensures { λ r. ⌜ Written var-table r (cell b m) ⌝ }
 {
     let bf = flag_found(b);
-    let bw = word_found(b);
+    let bw = unwrap_or(b, 0);
     let mf = flag_found(m);
-    let mw = word_found(m);
+    let mw = unwrap_or(m, 0);
     [bf, bw, mf, mw, 0, 0, 0, 0]
 }
 
@@ -623,7 +650,7 @@ fn put_cell(w: &mut [u32], u: Used, v: TVar, b: Found, m: Found)
     let i = number(v);
     if i < n {
         let row = cell_row(b, m);
-        write_row(w, VARS_AT + wide(i) * VAR_WORDS, row, VAR_WORDS);
+        put_row(w, VARS_AT, VAR_WORDS, i, row);
     }
 }
 
@@ -636,15 +663,6 @@ pub fn bind_var(w: &mut [u32], u: Used, v: TVar, t: u32)
     put_cell(w, u, v, Found::Just(t), m);
 }
 
-fn or_insert(m: Found, loc: u32) -> u32
-    ensures { λ r. ⌜ r ≡ or-insert (found m) loc ⌝ }
-{
-    match m {
-        Found::Nothing => loc,
-        Found::Just(older) => older,
-    }
-}
-
 // num_vars.entry(v).or_insert(loc)
 pub fn mark_one(w: &mut [u32], u: Used, v: TVar, loc: u32)
     requires { ⌜ Lay (now w) u ⌝ }
@@ -652,7 +670,7 @@ pub fn mark_one(w: &mut [u32], u: Used, v: TVar, loc: u32)
 {
     let b = bound_at(w, u, v);
     let m = num_loc_at(w, u, v);
-    let l = or_insert(m, loc);
+    let l = unwrap_or(m, loc);
     put_cell(w, u, v, b, Found::Just(l));
 }
 
@@ -709,12 +727,7 @@ pub fn push_constraint(w: &mut [u32], u: Used, c: Constraint) -> Step
         };
     }
     let row = constraint_row(c);
-    write_row(
-        w,
-        CONSTRAINTS_AT + wide(n) * CONSTRAINT_WORDS,
-        row,
-        CONSTRAINT_WORDS,
-    );
+    put_row(w, CONSTRAINTS_AT, CONSTRAINT_WORDS, n, row);
     Step {
         out: Out::Done(0),
         used: Used {
@@ -751,11 +764,12 @@ pub fn push_struct(w: &mut [u32], u: Used, abilities: AbilitySet, params: u32) -
         };
     }
     let a = bits(abilities);
-    write_row(
+    put_row(
         w,
-        STRUCTS_AT + wide(n) * STRUCT_WORDS,
-        [a, params, 0, 0, 0, 0, 0, 0],
+        STRUCTS_AT,
         STRUCT_WORDS,
+        n,
+        [a, params, 0, 0, 0, 0, 0, 0],
     );
     Step {
         out: Out::Done(n),

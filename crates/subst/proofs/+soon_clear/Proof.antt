@@ -5,7 +5,8 @@ use native.Mathlib.Nat.{not-suc-le-zero}
 use mathlib.Core.Path.{refl, sym}
 use mathlib.Core.Bool.{false}
 use lib.ListN.{replicate}
-use Rattle.subst.proofs.Occurs.{Passed, at-node, part-low, passed-none, passed-more, passed-all, clear-none}
+use Rattle.shapes.proofs.Nodes.{at-node, part-low}
+use Rattle.subst.proofs.Occurs.{Passed, passed-none, passed-more, passed-all, clear-none}
 use Prim.Native.Nat.{ℕ, _<_, _-_}
 use borrow.Fn.Kinds.{In}
 use borrow.Fn.PlainCycle.{Measures, is, falls, and}

@@ -3,7 +3,8 @@ use borrow.Author.Needs.{needs}
 use native.Mathlib.Omega.{arith}
 use lib.ListN.{length-set}
 use mathlib.Core.Path.{refl, sym, _∙_}
-use Rattle.subst.proofs.Occurs.{Passed, at-node, self-used, part-low, passed-none, part-used, passed-more, passed-all, clear-more, clear-marked}
+use Rattle.shapes.proofs.Nodes.{at-node, part-low}
+use Rattle.subst.proofs.Occurs.{Passed, self-used, passed-none, part-used, passed-more, passed-all, clear-more, clear-marked}
 use Prim.Native.Nat.{ℕ, _<_, _-_}
 use borrow.Fn.Kinds.{In}
 use borrow.Fn.PlainCycle.{Measures, is, falls, and}

@@ -10,8 +10,8 @@ bound-at-requires c κs = search needs
 num-loc-at-requires : tie.Need-num-loc-at-requires
 num-loc-at-requires c κs = search needs
 
-or-insert-requires : tie.Need-or-insert-requires
-or-insert-requires c κs = search needs
+unwrap-or-requires : tie.Need-unwrap-or-requires
+unwrap-or-requires c κs = search needs
 
 put-cell-requires : tie.Need-put-cell-requires
 put-cell-requires c κs = (c .before .before .before .before .before .before .before .pre, bound-in _ _ _ (c .before .before .before .before .bound-at .result) (c .before .before .before .before .before .before .before .pre) (c .before .before .before .before .bound-at .ensures))
@@ -24,7 +24,7 @@ returns c =
     let bound-at = c .before .before .before .before .before .before .before .bound-at in
     let num-loc-at = c .before .before .before .before .before .num-loc-at in
     mark-cell _ _ _ _ _ (bound-at .result) (num-loc-at .result) _ (bound-at .ensures) (num-loc-at .ensures)
-    (c .before .before .before .before .or-insert .ensures) (c .before .before .put-cell .ensures)
+    (c .before .before .before .before .unwrap-or .ensures) (c .before .before .put-cell .ensures)
 
 pub mark-one-spec : {M : Type 1} → statement M
 mark-one-spec =
@@ -32,7 +32,7 @@ mark-one-spec =
     (tie.spec
     bound-at-requires
     num-loc-at-requires
-    or-insert-requires
+    unwrap-or-requires
     put-cell-requires
     same-length
     returns)

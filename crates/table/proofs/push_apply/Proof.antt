@@ -1,6 +1,6 @@
 -- `table::push_apply` meets its contract. Assumes nothing.
 use native.Mathlib.Omega.{arith}
-use mathlib.Core.Path.{_∙_}
+use mathlib.Core.Path.{refl, _∙_}
 use Rattle.table.proofs.Primitives.{apply-full, apply-pushed}
 use Rattle.table.proofs.Pushed.{node-full}
 use borrow.Author.Needs.{needs}
@@ -31,17 +31,8 @@ write-row-requires c κs = search needs
 row-of-requires : tie.Need-row-of-requires
 row-of-requires c κs = search needs
 
-wide-requires-3 : tie.Need-wide-requires-3
-wide-requires-3 c κs = search needs
-
-mul-write-row : tie.Need-mul-write-row
-mul-write-row c = search needs
-
-add-write-row-2 : tie.Need-add-write-row-2
-add-write-row-2 c = search needs
-
-write-row-requires-2 : tie.Need-write-row-requires-2
-write-row-requires-2 c κs = search needs
+put-row-requires : tie.Need-put-row-requires
+put-row-requires c κs = search needs
 
 add-t14 : tie.Need-add-t14
 add-t14 c = search needs
@@ -50,10 +41,16 @@ add-t27 : tie.Need-add-t27
 add-t27 c = search needs
 
 same-length : tie.Need-same-length
-same-length c = c .before .before .write-row2 .ensures .size ∙ c .before .before .before .before .before .before .before .before .write-row .ensures .size
+same-length c = c .before .before .put-row .ensures .size ∙ c .before .before .before .before .before .before .before .write-row .ensures .size
 
 returns-3 : tie.Need-returns-3
-returns-3 c = apply-pushed _ _ _ (c .before .before .before .before .before .before .before .before .before .before .before .before .before .before .before .args .k) (c .before .before .before .before .before .before .before .before .before .before .before .before .before .before .before .args .name) _ _ (c .before .before .before .before .before .before .before .before .before .before .before .before .before .before .before .pre .0) (c .before .before .before .before .before .before .before .before .before .before .before .before .before .before .before .pre .1) (search needs) (c .before .before .before .before .before .before .before .before .before .before .before .before .before .if1 .left) _ _ _ _ _ _ (λ q. omega (arith, c .before .before .before .before .before .before .before .before .before .before .before .before .if2 .left)) (c .before .before .before .wide3 .ensures) (c .before .before .before .before .before .before .before .before .before .before .wide .ensures) (c .before .before .before .before .before .before .before .before .before .wide2 .ensures) (c .before .before .before .before .before .before .before .before .write-row .ensures) (c .before .before .write-row2 .ensures) (c .before .before .before .before .before .row-of .ensures)
+returns-3 c =
+    let c7 = c .before .before .before .before .before .before .before in
+    let start = c7 .before .before .before .before .before .before .before in
+    let fits = c7 .before .before .before .before .if2 .left in
+    let room = c7 .before .before .before .before .before .if1 .left in
+    apply-pushed _ _ _ (start .args .k) (start .args .name) _ _ (start .pre .0) (start .pre .1) (search needs) room _ _ _ _ _ _ (λ q. omega (arith, fits)) refl
+    (c7 .before .before .wide .ensures) (c7 .before .wide2 .ensures) (c7 .write-row .ensures) (c .before .before .put-row .ensures) (c .before .before .before .before .row-of .ensures)
 
 pub push-apply-spec : {M : Type 1} → statement M
 push-apply-spec =
@@ -67,10 +64,7 @@ push-apply-spec =
     wide-requires-2
     write-row-requires
     row-of-requires
-    wide-requires-3
-    mul-write-row
-    add-write-row-2
-    write-row-requires-2
+    put-row-requires
     add-t14
     add-t27
     same-length

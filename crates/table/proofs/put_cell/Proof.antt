@@ -11,31 +11,17 @@ number-requires c κs = search needs
 cell-row-requires : tie.Need-cell-row-requires
 cell-row-requires c κs = search needs
 
-wide-requires : tie.Need-wide-requires
-wide-requires c κs = search needs
-
-mul-write-row : tie.Need-mul-write-row
-mul-write-row c = search needs
-
-add-write-row : tie.Need-add-write-row
-add-write-row c = search needs
-
-write-row-requires : tie.Need-write-row-requires
-write-row-requires c κs = search needs
+put-row-requires : tie.Need-put-row-requires
+put-row-requires c κs = search needs
 
 same-length : tie.Need-same-length
-same-length c = c .before .before .write-row .ensures .size
+same-length c = c .before .before .put-row .ensures .size
 
 returns : tie.Need-returns
 returns c =
-    let args = c .before .before .before .before .before .before .before .before .before .args in
-    let pre = c .before .before .before .before .before .before .before .before .before .pre in
-    let number = c .before .before .before .before .before .before .before .number in
-    let if1 = c .before .before .before .before .before .before .if1 in
-    let cell-row = c .before .before .before .before .before .cell-row in
-    rw (number .ensures .0) at (cell-put _ _ _ _ _ (pre .0) (found-in _ (args .b) (pre .1)) _ _ (if1 .taken)
-    (rw (c .before .before .before .wide .ensures) at (c .before .before .write-row .ensures))
-    (cell-row .ensures))
+    let c4 = c .before .before .before .before in
+    let start = c4 .before .before .before .before in
+    rw (c4 .before .before .number .ensures .0) at (cell-put _ _ _ _ _ (start .pre .0) (found-in _ (start .args .b) (start .pre .1)) _ _ (c4 .before .if1 .taken) (c .before .before .put-row .ensures) (c4 .cell-row .ensures))
 
 returns-2 : tie.Need-returns-2
 returns-2 c = cell-none _ _ _ _ _ (c .before .before .before .pre .0) (found-in _ (c .before .before .before .args .b) (c .before .before .before .pre .1)) (rw (c .before .number .ensures .0) at (c .if1 .left))
@@ -46,10 +32,7 @@ put-cell-spec =
     (tie.spec
     number-requires
     cell-row-requires
-    wide-requires
-    mul-write-row
-    add-write-row
-    write-row-requires
+    put-row-requires
     same-length
     returns
     returns-2)
