@@ -18,8 +18,6 @@ use Rattle.table.specs.Rows.{constraint-table}
 use Rattle.table.specs.State.{seen}
 use Rattle.table.specs.Known.{Known}
 use Rattle.table.specs.declared.Used.{Used}
-use Rattle.table.specs.declared.Found.{Found}
-use Rattle.table.specs.declared.Found.the-variants.{Nothing, Just}
 use Rattle.shapes.specs.Applied.{args-of}
 use Rattle.shapes.specs.declared.Applied.{Applied}
 use Rattle.abilities.specs.Kept.{Has-set, Kept}
@@ -30,11 +28,6 @@ abbrev pub rule-of : Rule → d.Rule
 rule-of Declaration = d.declaration
 rule-of (Argument i) = d.argument i
 rule-of Contradicted = d.contradicted
-
--- a place is one of eight
-abbrev pub Place-in : Found → Type 0
-Place-in Nothing = Unit {0}
-Place-in (Just i) = i < 8
 
 abbrev pub Rule-in : Rule → Type 0
 Rule-in Declaration = Unit {0}

@@ -11,13 +11,13 @@ ghost use Rattle.definition.specs.Store.{args-at, with-args, any-of};
 ghost use Rattle.definition.specs.Abilities.{has, declared-abilities, counts, lacking, granted, those, from-abilities, infer-value, infer-abilities, by-argument, rule};
 ghost use Rattle.definition.specs.Constraints.{missing, is-contradicted, ability-hindrance, constraint-hindrance, hindrance};
 ghost use Rattle.names.specs.Names.{name-of};
-ghost use Rattle.table.specs.State.{found, shape-of, constraint-of, view, seen, Lay, Declares};
+ghost use Rattle.table.specs.State.{found, shape-of, constraint-of, view, seen, Lay, Declares, Found-in};
 ghost use Rattle.table.specs.Known.{Known};
 ghost use Rattle.shapes.specs.Applied.{args-of};
 ghost use Rattle.ready.specs.Ends.{Ends-known};
 ghost use Rattle.ready.specs.Itself.{Goes-on, Marked};
 ghost use Rattle.abilities.specs.Kept.{Has-set, Kept, Parts-kept, Ready, Args-ready, parts-of, part-count, Inferred, Ends};
-ghost use Rattle.abilities.specs.Rules.{rule-of, Place-in, Rule-in, lacks-at, misses, any-misses, clashes, Asked-in, Asked-kept, All-asked, All-kept, Hindered, asks-abilities, any-asks};
+ghost use Rattle.abilities.specs.Rules.{rule-of, Rule-in, lacks-at, misses, any-misses, clashes, Asked-in, Asked-kept, All-asked, All-kept, Hindered, asks-abilities, any-asks};
 use names::AbilitySet;
 use names::Mark;
 use names::TypeName;
@@ -128,7 +128,7 @@ fn lacking(
     sets: &[u32],
 ) -> Found
     requires { ⌜ Args-ready (now w) u (now params) (now sets) a × (0 < needed) ⌝ }
-    ensures { λ r. ⌜ Place-in r × ((ds : List d.Struct) → Known (now (w .entry)) u (now (params .entry)) ds → found r ≡ lacking (λ t. infer-abilities (seen (now (w .entry)) u ds) t) (seen (now (w .entry)) u ds) (name-of (a .n)) (args-at (seen (now (w .entry)) u ds) (args-of a)) needed) ⌝ }
+    ensures { λ r. ⌜ Found-in 8 r × ((ds : List d.Struct) → Known (now (w .entry)) u (now (params .entry)) ds → found r ≡ lacking (λ t. infer-abilities (seen (now (w .entry)) u ds) t) (seen (now (w .entry)) u ds) (name-of (a .n)) (args-at (seen (now (w .entry)) u ds) (args-of a)) needed) ⌝ }
 {
     let mut i: u32 = 0;
     while i < a.many {
@@ -143,7 +143,7 @@ fn lacking(
 // ---- the rule of a named type
 
 fn by_argument(o: Found) -> Rule
-    requires { ⌜ Place-in o ⌝ }
+    requires { ⌜ Found-in 8 o ⌝ }
     ensures { λ r. ⌜ Rule-in r × (rule-of r ≡ by-argument (found o)) ⌝ }
 {
     match o {

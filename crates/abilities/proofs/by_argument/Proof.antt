@@ -1,6 +1,6 @@
 -- `abilities::by_argument` meets its contract. Assumes nothing.
 use mathlib.Core.Path.{subst}
-use Rattle.abilities.specs.Rules.{Place-in}
+use Rattle.table.specs.State.{Found-in}
 use mathlib.Core.Path.{refl}
 use Rattle.definition.specs.Abilities.{by-argument}
 use borrow.Author.Needs.{needs}
@@ -19,7 +19,7 @@ returns c = rw (c .enum-told .given .1) (tt, refl)
 
 returns-2 : tie.Need-returns-2
 unfolding by-argument
-returns-2 c = (subst Place-in (c .before .o .given .1) (c .before .before .before .pre), rw (c .before .o .given .1) refl)
+returns-2 c = (subst (Found-in 8) (c .before .o .given .1) (c .before .before .before .pre), rw (c .before .o .given .1) refl)
 
 pub by-argument-spec : {M : Type 1} → statement M
 by-argument-spec = tie.close (tie.spec enum-told enum-known-o returns returns-2)
