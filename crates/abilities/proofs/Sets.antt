@@ -12,7 +12,7 @@ use lib.Seq.{getD-set-same, getD-set-other}
 use denote.Enum.Declared.{tagOf}
 use types.Run.{OneOf}
 use Rattle.definition.specs.Types.{State, Struct}
-use Rattle.definition.specs.Store.{count, args-at, with-args, spanned, all-of}
+use Rattle.definition.specs.Store.{count, with-args, spanned, all-of}
 use Rattle.definition.specs.Subst.{parts, unfold-type, goes-on-to, ends-in, reaches-itself}
 use Rattle.definition.specs.Abilities.{infer-value, infer-abilities, declaration, rule}
 use Rattle.theorems.proofs.SolveInferred.{infer-is}

@@ -240,15 +240,7 @@ fn set_of(w: &[u32], u: Used, params: &[[u8; 8]; 256], s: Shape, sets: &[u32]) -
         Shape::Ref(_, _) => AbilitySet::REFERENCES,
         Shape::Param(_, a) => a,
         Shape::Apply(k, n, first, many) => match k {
-            Mark::Absent => {
-                let a = Applied {
-                    k: k,
-                    n: n,
-                    first: first,
-                    many: many,
-                };
-                granted_set(w, u, params, a, sets)
-            }
+            Mark::Absent => granted_set(w, u, params, Applied { k, n, first, many }, sets),
             Mark::Set(a) => a,
         },
         Shape::Var(_) => AbilitySet::ALL,
@@ -319,12 +311,7 @@ pub fn shape_rule(
 {
     match s {
         Shape::Apply(k, n, first, many) => {
-            let a = Applied {
-                k: k,
-                n: n,
-                first: first,
-                many: many,
-            };
+            let a = Applied { k, n, first, many };
             apply_rule(w, u, params, a, ability, sets)
         }
         _ => Rule::Declaration,
@@ -474,11 +461,7 @@ fn hinder(
 {
     match c {
         Constraint::Ability(loc, ty, set) => {
-            let a = Asked {
-                loc: loc,
-                ty: ty,
-                set: set,
-            };
+            let a = Asked { loc, ty, set };
             ability_hinders(w, u, params, a, ends, marks, sets)
         }
         _ => 0,

@@ -180,15 +180,7 @@ fn arm_apply(a1: Applied, rhs: Shape) -> Arm
     ensures { λ a. ⌜ ((case : d.TypingCase) → Takes case (as-shape a1) rhs a) ⌝ }
 {
     match rhs {
-        Shape::Apply(k, n, first, many) => {
-            let a2 = Applied {
-                k: k,
-                n: n,
-                first: first,
-                many: many,
-            };
-            arm_applies(a1, a2)
-        }
+        Shape::Apply(k, n, first, many) => arm_applies(a1, Applied { k, n, first, many }),
         _ => arm_other(rhs),
     }
 }
@@ -227,15 +219,7 @@ pub fn arm_of(case: TypingCase, lhs: Shape, rhs: Shape) -> Arm
         Shape::Unit => arm_unit(rhs),
         Shape::Ref(mut1, t1) => arm_ref(case, mut1, t1, rhs),
         Shape::Param(id1, a1) => arm_param(id1, a1, rhs),
-        Shape::Apply(k, n, first, many) => {
-            let a1 = Applied {
-                k: k,
-                n: n,
-                first: first,
-                many: many,
-            };
-            arm_apply(a1, rhs)
-        }
+        Shape::Apply(k, n, first, many) => arm_apply(Applied { k, n, first, many }, rhs),
         Shape::Var(id1) => arm_var(id1, rhs),
         Shape::Anything => Arm::Right,
         Shape::UnresolvedError => arm_error(rhs),

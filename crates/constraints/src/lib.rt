@@ -323,11 +323,7 @@ pub fn row_of(
 {
     match c {
         Constraint::Ability(loc, ty, set) => {
-            let a = Asked {
-                loc: loc,
-                ty: ty,
-                set: set,
-            };
+            let a = Asked { loc, ty, set };
             lack_of(w, u, params, sets, a, ability)
         }
         _ => first_row(w, u, c, ability),

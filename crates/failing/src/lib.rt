@@ -83,36 +83,12 @@ pub fn ask_of(c: Constraint) -> Ask
     ensures { λ r. ⌜ Asks r (constraint-of c) ⌝ }
 {
     match c {
-        Constraint::Ability(loc, ty, _) => Ask {
-            code: 0,
-            loc: loc,
-            ty: ty,
-        },
-        Constraint::Numeric(loc, ty) => Ask {
-            code: 1,
-            loc: loc,
-            ty: ty,
-        },
-        Constraint::Bits(loc, ty) => Ask {
-            code: 1,
-            loc: loc,
-            ty: ty,
-        },
-        Constraint::Ordered(loc, ty) => Ask {
-            code: 1,
-            loc: loc,
-            ty: ty,
-        },
-        Constraint::BaseType(loc, ty) => Ask {
-            code: 2,
-            loc: loc,
-            ty: ty,
-        },
-        Constraint::SingleType(loc, ty) => Ask {
-            code: 3,
-            loc: loc,
-            ty: ty,
-        },
+        Constraint::Ability(loc, ty, _) => Ask { code: 0, loc, ty },
+        Constraint::Numeric(loc, ty) => Ask { code: 1, loc, ty },
+        Constraint::Bits(loc, ty) => Ask { code: 1, loc, ty },
+        Constraint::Ordered(loc, ty) => Ask { code: 1, loc, ty },
+        Constraint::BaseType(loc, ty) => Ask { code: 2, loc, ty },
+        Constraint::SingleType(loc, ty) => Ask { code: 3, loc, ty },
     }
 }
 

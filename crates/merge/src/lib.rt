@@ -121,8 +121,8 @@ fn open_ends(w: &mut [u32], u: Used, e1: End, e2: End) -> Open
     let m = Merging {
         ty1: e1.ty,
         ty2: e2.ty,
-        new_tvar: new_tvar,
-        var2: var2,
+        new_tvar,
+        var2,
     };
     Open {
         what: Opened::Ready(m),
