@@ -90,11 +90,11 @@ fn lines_at(used: Used, read: usize, written: usize, index: u64, ended: bool) ->
     ensures { λ r. ⌜ r ≡ record { used = used; read = read; written = written; index = index; ended = ended } ⌝ }
 {
     Lines {
-        used: used,
-        read: read,
-        written: written,
-        index: index,
-        ended: ended,
+        used,
+        read,
+        written,
+        index,
+        ended,
     }
 }
 

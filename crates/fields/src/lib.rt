@@ -10,20 +10,20 @@ ghost use Rattle.definition.specs.Record.{Record, SD, SN, NC, RM, read-SD, read
 ghost use Rattle.table.specs.State.{view, Lay};
 ghost use Rattle.heads.specs.Fields.{rest, Arities};
 ghost use Rattle.fields.specs.Noded.{Fields-are, plain-fields, whole-of, both-of, made-fields, One, Two, Loc};
+use cursor::Number;
+use heads::Name;
+use heads::byte_to;
+use heads::name_below;
+use heads::read_number;
+use heads::read_numbers;
 use names::TParamID;
 use names::TVar;
 use needs::Sums;
 use needs::count_type;
-use heads::Name;
-use cursor::Number;
 use reader::Part;
 use reader::Taken;
-use heads::byte_to;
-use heads::name_below;
 use reader::no_space;
 use reader::node_of;
-use heads::read_number;
-use heads::read_numbers;
 use reader::read_type;
 use reader::stops;
 use table::Used;
@@ -90,11 +90,11 @@ pub fn plain(read: Whole, u: Used, next: usize) -> Fields
     let none = TParamID(0);
     let ids = [none; 8];
     Fields {
-        read: read,
+        read,
         used: u,
-        next: next,
+        next,
         params: [0; 8],
-        ids: ids,
+        ids,
         nodes: [0; 8],
     }
 }
@@ -125,10 +125,10 @@ fn with_first(part: Part, u: Used, next: usize, first: u32) -> Both
     ensures { λ r. ⌜ r ≡ both-of part u next first ⌝ }
 {
     Both {
-        part: part,
+        part,
         used: u,
-        next: next,
-        first: first,
+        next,
+        first,
         last: node_of(part),
     }
 }
@@ -294,9 +294,9 @@ fn read_params(u: Used, b: &[u8], end: usize, at: usize, abilities: u32, many: u
     Fields {
         read: Whole::Placed(What::SD(abilities, many)),
         used: u,
-        next: next,
-        params: params,
-        ids: ids,
+        next,
+        params,
+        ids,
         nodes: [0; 8],
     }
 }

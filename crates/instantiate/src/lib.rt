@@ -175,7 +175,7 @@ fn make_tparams(w: &mut [u32], u: Used, params: &[[u8; 8]; 256], loc: u32, ty: A
             return Tparams {
                 out: o,
                 used: x,
-                tvars: tvars,
+                tvars,
                 many: count,
             };
         };
@@ -187,7 +187,7 @@ fn make_tparams(w: &mut [u32], u: Used, params: &[[u8; 8]; 256], loc: u32, ty: A
     Tparams {
         out: Out::Done(0),
         used: v,
-        tvars: tvars,
+        tvars,
         many: count,
     }
 }
@@ -285,12 +285,7 @@ fn instantiate_down(w: &mut [u32], u: Used, params: &[[u8; 8]; 256], left: u32, 
             table::push_node(w, v, loc, Shape::Ref(m, p))
         }
         Shape::Apply(k, n, first, many) => {
-            let t = Applied {
-                k: k,
-                n: n,
-                first: first,
-                many: many,
-            };
+            let t = Applied { k, n, first, many };
             instantiate_apply(w, u, params, left - 1, loc, t)
         }
     }

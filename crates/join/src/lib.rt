@@ -160,7 +160,7 @@ fn join_impl_types(
             return Types {
                 out: o,
                 used: su,
-                tys: tys,
+                tys,
             };
         };
         let k = i as usize;
@@ -171,7 +171,7 @@ fn join_impl_types(
     Types {
         out: Out::Done(n),
         used: at,
-        tys: tys,
+        tys,
     }
 }
 

@@ -9,9 +9,9 @@ ghost use Rattle.heads.specs.declared.Head.the-variants.{Begun};
 ghost use Rattle.heads.specs.Fields.{rest, many-parts, tree-read, Arities};
 ghost use Rattle.needs.specs.Counted.{Counts, Most, beside, both, is-apply, own, sums};
 use heads::Head;
+use heads::read_head;
 use reader::Part;
 use reader::part_count;
-use heads::read_head;
 use reader::stops;
 use table::Shape;
 use table::Used;
@@ -38,11 +38,11 @@ fn takes(nodes: u32, places: u32, variables: u32, constraints: u32, met: bool) -
     ensures { λ r. ⌜ r ≡ sums nodes places variables constraints met ⌝ }
 {
     Sums {
-        nodes: nodes,
-        places: places,
-        variables: variables,
-        constraints: constraints,
-        met: met,
+        nodes,
+        places,
+        variables,
+        constraints,
+        met,
     }
 }
 
@@ -118,7 +118,7 @@ fn stopped(part: Part, at: usize) -> Counted
 {
     let none = takes(0, 0, 0, 0, false);
     Counted {
-        part: part,
+        part,
         sums: none,
         next: at,
     }
@@ -183,6 +183,6 @@ fn count_parts(
     Counted {
         part: Part::At(0),
         sums: all,
-        next: next,
+        next,
     }
 }

@@ -115,8 +115,8 @@ pub fn as_before(before: Used, number: u32, len: usize) -> Answer
     ensures { λ r. ⌜ r ≡ reply number len before false ⌝ }
 {
     Answer {
-        number: number,
-        len: len,
+        number,
+        len,
         used: before,
         kept: false,
     }
@@ -128,9 +128,9 @@ pub fn as_left(used: Used, number: u32, written: usize) -> Answer
     ensures { λ r. ⌜ r ≡ reply number written used true ⌝ }
 {
     Answer {
-        number: number,
+        number,
         len: written,
-        used: used,
+        used,
         kept: true,
     }
 }

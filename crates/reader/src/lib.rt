@@ -196,6 +196,6 @@ fn read_parts(
     Taken {
         part: p,
         used: v,
-        next: next,
+        next,
     }
 }

@@ -9,6 +9,7 @@ ghost use Rattle.table.specs.State.{view, Lay};
 ghost use Rattle.heads.specs.Fields.{rest, Arities};
 ghost use Rattle.marks.specs.Marks.{reader-of};
 ghost use Rattle.fields.specs.Noded.{Fields-are, Record-is, paired-fields};
+use cursor::Number;
 use cursor::end_of;
 use fields::Add;
 use fields::Bind;
@@ -27,16 +28,15 @@ use fields::read_sd;
 use fields::read_sn;
 use fields::read_two;
 use fields::whole_of;
+use heads::byte_to;
+use heads::read_number;
+use heads::read_numbers;
 use marks::RecordMark;
 use marks::mark_of;
 use names::TParamID;
-use cursor::Number;
 use reader::Taken;
-use heads::byte_to;
 use reader::no_space;
 use reader::node_of;
-use heads::read_number;
-use heads::read_numbers;
 use reader::read_type;
 use reader::stops;
 use table::Used;
@@ -47,12 +47,12 @@ fn paired(read: Whole, u: Used, next: usize, ids: [TParamID; 8], nodes: [u32; 8]
     ensures { λ r. ⌜ r ≡ paired-fields read u next ids nodes ⌝ }
 {
     Fields {
-        read: read,
+        read,
         used: u,
-        next: next,
+        next,
         params: [0; 8],
-        ids: ids,
-        nodes: nodes,
+        ids,
+        nodes,
     }
 }
 

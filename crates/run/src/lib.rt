@@ -18,7 +18,6 @@ ghost use Rattle.run.specs.Runs.{join-in, two-run, unfold-run, ready-run
 ghost use Rattle.fields.specs.Noded.{binds, looks, adds, bind-of, look-of, add-of, Bind-in, Look-in};
 ghost use Rattle.run.specs.Dispatch.{Ran-as};
 use answer::Ran;
-use payload::Show;
 use arms::TypingCase;
 use constraints::NumericKind;
 use fields::Add;
@@ -28,6 +27,7 @@ use names::AbilitySet;
 use names::TParamID;
 use names::TVar;
 use needs::Sums;
+use payload::Show;
 use subst::Unfolded;
 use table::Found;
 use table::Out;
@@ -45,8 +45,8 @@ fn shown(a: Step, show: Show, kept: bool) -> Ran
     Ran {
         out: o,
         used: u,
-        show: show,
-        kept: kept,
+        show,
+        kept,
     }
 }
 
@@ -109,11 +109,7 @@ pub fn run_tparams(
     requires { ⌜ Lay (now w) u × ((t < u .nodes) × Parts (u .nodes) args n) ⌝ }
     ensures { λ r. ⌜ Runs Any (now (w .entry)) u (now (w .exit)) r false (subst-in (pairs ids args 0 n) t) (tparams-run (pairs ids args 0 n) t) ⌝ }
 {
-    let subst = TParamSubst {
-        ids: ids,
-        args: args,
-        many: n,
-    };
+    let subst = TParamSubst { ids, args, many: n };
     if tparams::make_tparam_subst(subst) {
         let a = tparams::subst_tparams(w, u, subst, t);
         return shown(a, Show::Node, false);

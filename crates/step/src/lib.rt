@@ -9,7 +9,6 @@ ghost use Rattle.sound.specs.Lent.{used-of};
 ghost use Rattle.fields.specs.Noded.{declare, noded, What-in};
 ghost use Rattle.step.specs.Trusted.{held, Stands, unread, Steps};
 ghost use Rattle.step.specs.Replies.{Begins, Ends};
-use payload::Answer;
 use fields::Fields;
 use fields::What;
 use names::AbilitySet;
@@ -20,6 +19,7 @@ use outcome::padded;
 use outcome::place_after;
 use outcome::row_for;
 use outcome::rows_after;
+use payload::Answer;
 use table::Used;
 
 // One record's answer, the rows in use after it, where the rest of the stream begins, and how many of the saved rows still stand.
@@ -39,8 +39,8 @@ fn with_next(a: Answer, next: usize, rows: u32) -> Stepped
         number: a.number,
         len: a.len,
         used: u,
-        next: next,
-        rows: rows,
+        next,
+        rows,
     }
 }
 

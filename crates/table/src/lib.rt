@@ -435,10 +435,7 @@ pub fn node_at(w: &[u32], u: Used, t: u32) -> Node
     if t < n {
         let r = node_words_at(w, t);
         let shape = shape_at(r);
-        Node {
-            loc: r.loc,
-            shape: shape,
-        }
+        Node { loc: r.loc, shape }
     } else {
         Node {
             loc: 0,

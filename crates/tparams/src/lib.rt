@@ -141,12 +141,7 @@ fn subst_down(w: &mut [u32], u: Used, left: u32, subst: TParamSubst, ty: u32) ->
             table::push_node(w, v, loc, Shape::Ref(m, p))
         }
         Shape::Apply(k, n, first, many) => {
-            let t = Applied {
-                k: k,
-                n: n,
-                first: first,
-                many: many,
-            };
+            let t = Applied { k, n, first, many };
             subst_apply(w, u, left - 1, subst, loc, t)
         }
     }

@@ -166,7 +166,7 @@ pub fn after_lines(t: Turn, read: usize, index: u64, ended: bool, handed: Moved)
         from: t.from + read,
         have: t.have,
         more: t.more,
-        index: index,
+        index,
         begun: true,
         read: 0,
         written: handed.count,
