@@ -30,7 +30,7 @@ use Rattle.table.specs.declared.Used.{Used}
 use Rattle.table.proofs.Constraint.{the-type}
 use Rattle.table.proofs.Pushed.{count-view, constraints-view, constraints-seen}
 use Rattle.shapes.proofs.Tags.{plain-tags, other-constraints}
-use Rattle.ready.specs.Itself.{Marked, Levels}
+use Rattle.ready.specs.Itself.{Measured, Levels}
 use Rattle.ready.proofs.Itself.{reaches-is}
 use Rattle.abilities.specs.Kept.{Ends, Has-set, Kept, Inferred}
 use Rattle.abilities.specs.Rules.{misses, any-misses, clashes, Asked-in, Asked-kept, All-asked, All-kept, refusal-of, Number, clear, nine, sixteen, Hindered}
@@ -132,20 +132,20 @@ stops s c cs r p e = by (eqb r 9) refl
 -- ---- the list
 
 -- the constraints before i hinder nothing, and the sets of their types are known
-pub record Passed (w : List ℕ) (u : Used) (params : List (List ℕ)) (sets₀ marks sets : List ℕ) (i : ℕ) : Type 0 where
+pub record Passed (w : List ℕ) (u : Used) (params : List (List ℕ)) (sets₀ heights sets : List ℕ) (i : ℕ) : Type 0 where
   pub lay : Lay w u
   pub asked : All-asked (view w u)
-  pub marked : Marked w u marks
+  pub measured : Measured w u heights
   pub kept : Kept w u params sets
   pub still : (x : ℕ) → Has-set sets₀ x → Has-set sets x
   pub le : i ≤ u .constraints
   pub is : (ds : List Struct) → Known w u params ds → hindrance (seen w u ds) (seen w u ds .constraints) ≡ hindrance (seen w u ds) (drop i (seen w u ds .constraints))
   pub known : (j : ℕ) → j < i → Asked-kept sets (getD (view w u .constraints) j blank)
 
-pub passed-none : (w : List ℕ) (u : Used) (params : List (List ℕ)) (sets marks : List ℕ) → Lay w u → All-asked (view w u) → Marked w u marks → Kept w u params sets → Passed w u params sets marks sets 0
-passed-none w u params sets marks h a m k = record { lay = h; asked = a; marked = m; kept = k; still = λ x y. y; le = omega arith; is = λ ds kn. refl; known = λ j p. absurd (not-suc-le-zero p) }
+pub passed-none : (w : List ℕ) (u : Used) (params : List (List ℕ)) (sets heights : List ℕ) → Lay w u → All-asked (view w u) → Measured w u heights → Kept w u params sets → Passed w u params sets heights sets 0
+passed-none w u params sets heights h a m k = record { lay = h; asked = a; measured = m; kept = k; still = λ x y. y; le = omega arith; is = λ ds kn. refl; known = λ j p. absurd (not-suc-le-zero p) }
 
-module _ {w : List ℕ} {u : Used} {params : List (List ℕ)} {sets₀ marks sets : List ℕ} {i : ℕ} (h : Passed w u params sets₀ marks sets i) where
+module _ {w : List ℕ} {u : Used} {params : List (List ℕ)} {sets₀ heights sets : List ℕ} {i : ℕ} (h : Passed w u params sets₀ heights sets i) where
   -- none is left
   pub passed-all : u .constraints ≤ i → Hindered w u params sets₀ sets 0 (λ s. hindrance s (s .constraints)) (λ l. All-kept l (view w u .constraints))
   unfolding All-kept
@@ -179,11 +179,11 @@ module _ {w : List ℕ} {u : Used} {params : List (List ℕ)} {sets₀ marks set
         all = λ z. absurd (omega arith);
       }
 
-      pub passed-more : r ≡ 0 → (marks′ : List ℕ) → Marked w u marks′ → Passed w u params sets₀ marks′ sets′ (i + 1)
-      passed-more z marks′ m = record {
+      pub passed-more : r ≡ 0 → (heights′ : List ℕ) → Measured w u heights′ → Passed w u params sets₀ heights′ sets′ (i + 1)
+      passed-more z heights′ m = record {
         lay = h .lay;
         asked = h .asked;
-        marked = m;
+        measured = m;
         kept = f .kept;
         still = λ x y. f .still x (h .still x y);
         le = omega arith;

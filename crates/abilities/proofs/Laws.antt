@@ -138,16 +138,16 @@ module _ (s : State) (n : d.TypeName) (ability set : ℕ) (e : set ≡ declared-
   has-it : not b ≡ false → has (declared-abilities s n) ability ≡ true
   has-it z = ap (λ (x : ℕ). has x ability) (sym e) ∙ sym f ∙ is-true b z
 
-  pub rule-not : (k : d.Mark) (tys : List ℕ) → not b ≡ true → declaration ≡ rule s ability (d.Apply k n tys)
+  pub rule-not : (k : d.AbilityMark) (tys : List ℕ) → not b ≡ true → declaration ≡ rule s ability (d.Apply k n tys)
   unfolding rule
   rule-not k tys z = rw (lacks-it z, rule) refl
 
-  pub rule-by : (k : d.Mark) (tys : List ℕ) → not b ≡ false → (o : Option ℕ) (needed : ℕ) → needed ≡ requires ability → o ≡ lacking (λ t. infer-abilities s t) s n tys needed → by-argument o ≡ rule s ability (d.Apply k n tys)
+  pub rule-by : (k : d.AbilityMark) (tys : List ℕ) → not b ≡ false → (o : Option ℕ) (needed : ℕ) → needed ≡ requires ability → o ≡ lacking (λ t. infer-abilities s t) s n tys needed → by-argument o ≡ rule s ability (d.Apply k n tys)
   unfolding rule
   rule-by k tys z o needed r g = rw (has-it z, rule) (ap by-argument (g ∙ ap (lacking (λ t. infer-abilities s t) s n tys) r))
 
 -- what neither the declaration nor an argument takes away is granted
-pub granted-is : (s : State) (k : d.Mark) (n : d.TypeName) (tys : List ℕ) (ability : ℕ) → is-contradicted (rule s ability (d.Apply k n tys)) ≡ granted (λ t. infer-abilities s t) s n tys ability
+pub granted-is : (s : State) (k : d.AbilityMark) (n : d.TypeName) (tys : List ℕ) (ability : ℕ) → is-contradicted (rule s ability (d.Apply k n tys)) ≡ granted (λ t. infer-abilities s t) s n tys ability
 unfolding is-contradicted rule by-argument granted is-none
 granted-is s k n tys ability = by (has (declared-abilities s n) ability) (lacking (λ t. infer-abilities s t) s n tys (requires ability))
   where

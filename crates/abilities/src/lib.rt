@@ -15,11 +15,11 @@ ghost use Rattle.table.specs.State.{found, shape-of, constraint-of, view, seen,
 ghost use Rattle.table.specs.Known.{Known};
 ghost use Rattle.shapes.specs.Applied.{args-of};
 ghost use Rattle.ready.specs.Ends.{Ends-known};
-ghost use Rattle.ready.specs.Itself.{Goes-on, Marked};
+ghost use Rattle.ready.specs.Itself.{Goes-on, Measured};
 ghost use Rattle.abilities.specs.Kept.{Has-set, Kept, Parts-kept, Ready, Args-ready, parts-of, part-count, Inferred, Ends};
 ghost use Rattle.abilities.specs.Rules.{rule-of, Rule-in, lacks-at, misses, any-misses, clashes, Asked-in, Asked-kept, All-asked, All-kept, Hindered, asks-abilities, any-asks};
+use names::AbilityMark;
 use names::AbilitySet;
-use names::Mark;
 use names::TypeName;
 use shapes::Applied;
 use table::Constraint;
@@ -161,7 +161,7 @@ fn apply_rule(
     sets: &[u32],
 ) -> Rule
     requires { ⌜ Args-ready (now w) u (now params) (now sets) a × (0 < ability) ⌝ }
-    ensures { λ r. ⌜ Rule-in r × ((ds : List d.Struct) → Known (now (w .entry)) u (now (params .entry)) ds → (k : d.Mark) → rule-of r ≡ rule (seen (now (w .entry)) u ds) ability (d.Apply k (name-of (a .n)) (args-at (seen (now (w .entry)) u ds) (args-of a)))) ⌝ }
+    ensures { λ r. ⌜ Rule-in r × ((ds : List d.Struct) → Known (now (w .entry)) u (now (params .entry)) ds → (k : d.AbilityMark) → rule-of r ≡ rule (seen (now (w .entry)) u ds) ability (d.Apply k (name-of (a .n)) (args-at (seen (now (w .entry)) u ds) (args-of a)))) ⌝ }
 {
     let n = a.n;
     let d = declared_abilities(w, u, n);
@@ -240,8 +240,8 @@ fn set_of(w: &[u32], u: Used, params: &[[u8; 8]; 256], s: Shape, sets: &[u32]) -
         Shape::Ref(_, _) => AbilitySet::REFERENCES,
         Shape::Param(_, a) => a,
         Shape::Apply(k, n, first, many) => match k {
-            Mark::Absent => granted_set(w, u, params, Applied { k, n, first, many }, sets),
-            Mark::Set(a) => a,
+            AbilityMark::Absent => granted_set(w, u, params, Applied { k, n, first, many }, sets),
+            AbilityMark::Set(a) => a,
         },
         Shape::Var(_) => AbilitySet::ALL,
         Shape::Anything => AbilitySet::ALL,
@@ -428,14 +428,14 @@ fn ability_hinders(
     params: &[[u8; 8]; 256],
     a: Asked,
     ends: &[u32],
-    marks: &mut [u16],
+    heights: &mut [u16],
     sets: &mut [u32],
 ) -> u32
-    requires { ⌜ Lay (now w) u × ((a .ty < u .nodes) × (Marked (now w) u (now marks) × Kept (now w) u (now params) (now sets))) ⌝ }
+    requires { ⌜ Lay (now w) u × ((a .ty < u .nodes) × (Measured (now w) u (now heights) × Kept (now w) u (now params) (now sets))) ⌝ }
     requires { ⌜ Ends-known (now w) u (now ends) ⌝ }
-    ensures { λ r. ⌜ Marked (now (w .entry)) u (now (marks .exit)) × Hindered (now (w .entry)) u (now (params .entry)) (now (sets .entry)) (now (sets .exit)) r (λ s. ability-hindrance s (a .ty) (a .set .0)) (λ l. Has-set l (a .ty)) ⌝ }
+    ensures { λ r. ⌜ Measured (now (w .entry)) u (now (heights .exit)) × Hindered (now (w .entry)) u (now (params .entry)) (now (sets .entry)) (now (sets .exit)) r (λ s. ability-hindrance s (a .ty) (a .set .0)) (λ l. Has-set l (a .ty)) ⌝ }
 {
-    let n = ready::levels(w, u, a.ty, u.nodes, ends, marks);
+    let n = ready::levels(w, u, a.ty, u.nodes, ends, heights);
     if n == 0 {
         return 9;
     }
@@ -452,17 +452,17 @@ fn hinder(
     params: &[[u8; 8]; 256],
     c: Constraint,
     ends: &[u32],
-    marks: &mut [u16],
+    heights: &mut [u16],
     sets: &mut [u32],
 ) -> u32
-    requires { ⌜ Lay (now w) u × (Asked-in (u .nodes) (constraint-of c) × (Marked (now w) u (now marks) × Kept (now w) u (now params) (now sets))) ⌝ }
+    requires { ⌜ Lay (now w) u × (Asked-in (u .nodes) (constraint-of c) × (Measured (now w) u (now heights) × Kept (now w) u (now params) (now sets))) ⌝ }
     requires { ⌜ Ends-known (now w) u (now ends) ⌝ }
-    ensures { λ r. ⌜ Marked (now (w .entry)) u (now (marks .exit)) × Hindered (now (w .entry)) u (now (params .entry)) (now (sets .entry)) (now (sets .exit)) r (λ s. constraint-hindrance s (constraint-of c)) (λ l. Asked-kept l (constraint-of c)) ⌝ }
+    ensures { λ r. ⌜ Measured (now (w .entry)) u (now (heights .exit)) × Hindered (now (w .entry)) u (now (params .entry)) (now (sets .entry)) (now (sets .exit)) r (λ s. constraint-hindrance s (constraint-of c)) (λ l. Asked-kept l (constraint-of c)) ⌝ }
 {
     match c {
         Constraint::Ability(loc, ty, set) => {
             let a = Asked { loc, ty, set };
-            ability_hinders(w, u, params, a, ends, marks, sets)
+            ability_hinders(w, u, params, a, ends, heights, sets)
         }
         _ => 0,
     }
@@ -474,10 +474,10 @@ fn first_hindrance(
     u: Used,
     params: &[[u8; 8]; 256],
     ends: &[u32],
-    marks: &mut [u16],
+    heights: &mut [u16],
     sets: &mut [u32],
 ) -> u32
-    requires { ⌜ Lay (now w) u × (All-asked (view (now w) u) × (Marked (now w) u (now marks) × Kept (now w) u (now params) (now sets))) ⌝ }
+    requires { ⌜ Lay (now w) u × (All-asked (view (now w) u) × (Measured (now w) u (now heights) × Kept (now w) u (now params) (now sets))) ⌝ }
     requires { ⌜ Ends-known (now w) u (now ends) ⌝ }
     ensures { λ r. ⌜ Hindered (now (w .entry)) u (now (params .entry)) (now (sets .entry)) (now (sets .exit)) r (λ s. hindrance s (s .constraints)) (λ l. All-kept l (view (now (w .entry)) u .constraints)) ⌝ }
 {
@@ -485,7 +485,7 @@ fn first_hindrance(
     let mut i: u32 = 0;
     while i < n {
         let c = table::constraint_at(w, u, i);
-        let h = hinder(w, u, params, c, ends, marks, sets);
+        let h = hinder(w, u, params, c, ends, heights, sets);
         if 0 < h {
             return h;
         }
@@ -499,15 +499,15 @@ pub fn hinders(
     w: &[u32],
     u: Used,
     params: &[[u8; 8]; 256],
-    marks: &mut [u16],
+    heights: &mut [u16],
     sets: &mut [u32],
 ) -> u32
-    requires { ⌜ Lay (now w) u × (All-asked (view (now w) u) × (Marked (now w) u (now marks) × Kept (now w) u (now params) (now sets))) ⌝ }
+    requires { ⌜ Lay (now w) u × (All-asked (view (now w) u) × (Measured (now w) u (now heights) × Kept (now w) u (now params) (now sets))) ⌝ }
     ensures { λ r. ⌜ Hindered (now (w .entry)) u (now (params .entry)) (now (sets .entry)) (now (sets .exit)) r (λ s. hindrance s (s .constraints)) (λ l. All-kept l (view (now (w .entry)) u .constraints)) ⌝ }
 {
     let mut ends: [u32; 1024] = [0; 1024];
     ready::note_ends(w, u, &mut ends);
-    first_hindrance(w, u, params, &ends, marks, sets)
+    first_hindrance(w, u, params, &ends, heights, sets)
 }
 
 // ---- whether any of this is asked

@@ -7,7 +7,7 @@ use Prim.Native.Nat.{ℕ, _+_, _≤_, _<_}
 use native.Mathlib.Omega.{arith}
 use borrow.Author.Tests.{leb-true}
 use lib.ListN.{length, getD, length-append}
-use Rattle.definition.specs.Types.{State, Struct, TypeName, Multiple, Builtin, ModuleType, Mark, Shape, UnitType, Param, Ref, Apply, Var, Anything, UnresolvedError, Places, max-builtin}
+use Rattle.definition.specs.Types.{State, Struct, TypeName, Multiple, Builtin, ModuleType, AbilityMark, Shape, UnitType, Param, Ref, Apply, Var, Anything, UnresolvedError, Places, max-builtin}
 use Rattle.definition.specs.Store.{nowhere, node, with-structs}
 use Rattle.definition.specs.Subst.{parts}
 use Rattle.definition.specs.Write.{mark, each, head, write-down, write-spanned}
@@ -36,7 +36,7 @@ and-right true b e = e
 and-right false true e = refl
 and-right false false e = e
 
-mark-byte : (k : Mark) → is-mark k ≡ true → mark k < 256
+mark-byte : (k : AbilityMark) → is-mark k ≡ true → mark k < 256
 unfolding is-mark mark
 mark-byte none e = omega arith
 mark-byte (some x) e = let h = leb-true x 15 e in omega arith

@@ -22,7 +22,7 @@ use Rattle.shapes.specs.declared.Applied.{Applied}
 use Rattle.shapes.proofs.Tags.{other-shapes}
 use Rattle.arms.specs.Arms.{by-arm, Arm-below, Takes, other-arm, Unlike}
 use Rattle.arms.specs.declared.Arm.{Arm}
-use Rattle.arms.specs.declared.Arm.the-variants.{Left, Right, Refs, Applies, VarLeft, VarRight, SubtypeError, ArityMismatch, Incompatible, Disagree}
+use Rattle.arms.specs.declared.Arm.the-variants.{Lhs, Rhs, Refs, Applies, VarLhs, VarRhs, SubtypeError, ArityMismatch, Incompatible, Disagree}
 
 -- ---- references
 
@@ -94,17 +94,17 @@ abbrev other-tags : List ℕ
 other-tags = 0 ∷ 1 ∷ 2 ∷ 3 ∷ 6 ∷ []
 
 module _ (case : j.TypingCase) where
-  pub var-other : (id : TVar) (rhs : Shape) → OneOf other-tags (tagOf the-type rhs) → Takes case (Var id) rhs (VarLeft id)
+  pub var-other : (id : TVar) (rhs : Shape) → OneOf other-tags (tagOf the-type rhs) → Takes case (Var id) rhs (VarLhs id)
   unfolding arm join-arm by-arm with-args
   var-other id rhs k =
-      by-own case (Var id) rhs (VarLeft id) (j.Var-l (id .0))
+      by-own case (Var id) rhs (VarLhs id) (j.Var-l (id .0))
       (other-shapes other-tags (λ rhs. Arm-is (Var id) rhs (j.Var-l (id .0))) (λ s. refl) (λ m t s. refl) (λ p c s. refl) (λ c t first many s. refl) tt tt (λ s. refl) rhs k)
       (λ J s l r. refl) (λ args n. tt)
 
-  pub error-other : (rhs : Shape) → OneOf other-tags (tagOf the-type rhs) → Takes case UnresolvedError rhs Right
+  pub error-other : (rhs : Shape) → OneOf other-tags (tagOf the-type rhs) → Takes case UnresolvedError rhs Rhs
   unfolding arm join-arm by-arm with-args
   error-other rhs k =
-      by-own case UnresolvedError rhs Right j.Error-l
+      by-own case UnresolvedError rhs Rhs j.Error-l
       (other-shapes other-tags (λ rhs. Arm-is UnresolvedError rhs j.Error-l) (λ s. refl) (λ m t s. refl) (λ p c s. refl) (λ c t first many s. refl) tt tt (λ s. refl) rhs k)
       (λ J s l r. refl) (λ args n. tt)
 
@@ -119,17 +119,17 @@ unfolding with-args other-arm
 plain-arm = other-shapes plain-tags (λ rhs. (s : State) → other-arm (with-args s (shape-of rhs)) ≡ j.Others) (λ s. refl) (λ m t s. refl) (λ p c s. refl) (λ c t first many s. refl) tt tt tt
 
 module _ (case : j.TypingCase) (lhs : Shape) where
-  pub other-var : (id : TVar) → Unlike lhs (Var id) → Takes case lhs (Var id) (VarRight id)
+  pub other-var : (id : TVar) → Unlike lhs (Var id) → Takes case lhs (Var id) (VarRhs id)
   unfolding join-arm by-arm with-args other-arm
-  other-var id u = by-own case lhs (Var id) (VarRight id) (j.Var-r (id .0)) u (λ J s l r. refl) (λ args n. tt)
+  other-var id u = by-own case lhs (Var id) (VarRhs id) (j.Var-r (id .0)) u (λ J s l r. refl) (λ args n. tt)
 
-  pub other-anything : Unlike lhs Anything → Takes case lhs Anything Left
+  pub other-anything : Unlike lhs Anything → Takes case lhs Anything Lhs
   unfolding join-arm by-arm with-args other-arm
-  other-anything u = by-own case lhs Anything Left j.Anything-r u (λ J s l r. refl) (λ args n. tt)
+  other-anything u = by-own case lhs Anything Lhs j.Anything-r u (λ J s l r. refl) (λ args n. tt)
 
-  pub other-error : Unlike lhs UnresolvedError → Takes case lhs UnresolvedError Left
+  pub other-error : Unlike lhs UnresolvedError → Takes case lhs UnresolvedError Lhs
   unfolding join-arm by-arm with-args other-arm
-  other-error u = by-own case lhs UnresolvedError Left j.Error-r u (λ J s l r. refl) (λ args n. tt)
+  other-error u = by-own case lhs UnresolvedError Lhs j.Error-r u (λ J s l r. refl) (λ args n. tt)
 
   pub other-plain : (rhs : Shape) → OneOf plain-tags (tagOf the-type rhs) → Unlike lhs rhs → Takes case lhs rhs Incompatible
   unfolding join-arm by-arm

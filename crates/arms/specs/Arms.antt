@@ -15,7 +15,7 @@ use Rattle.shapes.specs.Applied.{as-shape, args-of}
 use Rattle.arms.specs.declared.TypingCase.{TypingCase}
 use Rattle.arms.specs.declared.TypingCase.the-variants.{Join, Subtype}
 use Rattle.arms.specs.declared.Arm.{Arm}
-use Rattle.arms.specs.declared.Arm.the-variants.{Left, Right, Refs, Applies, Vars, VarLeft, VarRight, SubtypeError, ArityMismatch, Incompatible, Disagree}
+use Rattle.arms.specs.declared.Arm.the-variants.{Lhs, Rhs, Refs, Applies, Vars, VarLhs, VarRhs, SubtypeError, ArityMismatch, Incompatible, Disagree}
 
 abbrev pub case-of : TypingCase → j.TypingCase
 case-of Join = j.Join
@@ -23,16 +23,16 @@ case-of Subtype = j.Subtype
 
 -- what join_impl answers by this arm
 unfoldable pub by-arm : Join-impl → State → j.TypingCase → ℕ → ℕ → Arm → Result (State × ℕ)
-by-arm join-impl subst case lhs rhs Left = ok (subst, lhs)
-by-arm join-impl subst case lhs rhs Right = ok (subst, rhs)
+by-arm join-impl subst case lhs rhs Lhs = ok (subst, lhs)
+by-arm join-impl subst case lhs rhs Rhs = ok (subst, rhs)
 by-arm join-impl subst case lhs rhs (Refs left mut t1 t2) =
     join-impl subst case t1 t2 >>= (λ r. sp (r .0) (if left then loc-of subst lhs else loc-of subst rhs) (d.Ref mut (r .1)))
 by-arm join-impl subst case lhs rhs (Applies a1 a2) =
     join-impl-types join-impl subst case (args-at subst (args-of a1)) (args-at subst (args-of a2))
     >>= (λ r. sp (r .0) (loc-of subst rhs) (d.Apply (mark-of (a2 .k)) (name-of (a2 .n)) (r .1)))
 by-arm join-impl subst case lhs rhs (Vars id1 id2) = join-tvar join-impl subst case (loc-of subst lhs) (id1 .0) (loc-of subst rhs) (id2 .0)
-by-arm join-impl subst case lhs rhs (VarLeft id) = join-arm join-impl subst case lhs rhs (Var-l (id .0))
-by-arm join-impl subst case lhs rhs (VarRight id) = join-arm join-impl subst case lhs rhs (Var-r (id .0))
+by-arm join-impl subst case lhs rhs (VarLhs id) = join-arm join-impl subst case lhs rhs (Var-l (id .0))
+by-arm join-impl subst case lhs rhs (VarRhs id) = join-arm join-impl subst case lhs rhs (Var-r (id .0))
 by-arm join-impl subst case lhs rhs SubtypeError = err subst (d.SubtypeError lhs rhs)
 by-arm join-impl subst case lhs rhs ArityMismatch = err subst (d.ArityMismatch lhs rhs)
 by-arm join-impl subst case lhs rhs Incompatible = err subst (d.Incompatible lhs rhs)
@@ -40,13 +40,13 @@ by-arm join-impl subst case lhs rhs Disagree = refused abilities-disagree
 
 -- the types that an arm goes on to are below n
 abbrev pub Arm-below : List ℕ → ℕ → Arm → Type 0
-Arm-below args n Left = Unit {0}
-Arm-below args n Right = Unit {0}
+Arm-below args n Lhs = Unit {0}
+Arm-below args n Rhs = Unit {0}
 Arm-below args n (Refs left mut t1 t2) = (t1 < n) × (t2 < n)
 Arm-below args n (Applies a1 a2) = Below args n (shape-of (as-shape a1)) × Below args n (shape-of (as-shape a2))
 Arm-below args n (Vars id1 id2) = Unit {0}
-Arm-below args n (VarLeft id) = Unit {0}
-Arm-below args n (VarRight id) = Unit {0}
+Arm-below args n (VarLhs id) = Unit {0}
+Arm-below args n (VarRhs id) = Unit {0}
 Arm-below args n SubtypeError = Unit {0}
 Arm-below args n ArityMismatch = Unit {0}
 Arm-below args n Incompatible = Unit {0}

@@ -7,8 +7,8 @@ ghost use Rattle.table.specs.declared.Shape.{Shape};
 ghost use Rattle.table.specs.declared.Shape.the-variants.{Unit, Ref, Param, Var, UnresolvedError};
 ghost use Rattle.shapes.specs.Applied.{as-shape};
 ghost use Rattle.arms.specs.Arms.{case-of, Takes, Unlike};
+use names::AbilityMark;
 use names::AbilitySet;
-use names::Mark;
 use names::TParamID;
 use names::TVar;
 use names::TypeName;
@@ -22,16 +22,16 @@ pub enum TypingCase {
 
 pub enum Arm {
     // The answer is that operand.
-    Left,
-    Right,
+    Lhs,
+    Rhs,
     // Whether the result is at the left location, whether it is mutable, and the two inner types.
     Refs(bool, bool, u32, u32),
     // Both types, of one name and mark.
     Applies(Applied, Applied),
     Vars(TVar, TVar),
     // That operand is the variable.
-    VarLeft(TVar),
-    VarRight(TVar),
+    VarLhs(TVar),
+    VarRhs(TVar),
     SubtypeError,
     ArityMismatch,
     Incompatible,
@@ -68,17 +68,17 @@ fn is_multiple(n: TypeName) -> bool
 }
 
 // k1 == k2
-fn same_mark(k1: Mark, k2: Mark) -> bool
+fn same_mark(k1: AbilityMark, k2: AbilityMark) -> bool
     ensures { λ r. ⌜ r ≡ d.same-mark (mark-of k1) (mark-of k2) ⌝ }
 {
     match k1 {
-        Mark::Absent => match k2 {
-            Mark::Absent => true,
-            Mark::Set(_) => false,
+        AbilityMark::Absent => match k2 {
+            AbilityMark::Absent => true,
+            AbilityMark::Set(_) => false,
         },
-        Mark::Set(a) => match k2 {
-            Mark::Absent => false,
-            Mark::Set(b) => a.0 == b.0,
+        AbilityMark::Set(a) => match k2 {
+            AbilityMark::Absent => false,
+            AbilityMark::Set(b) => a.0 == b.0,
         },
     }
 }
@@ -136,9 +136,9 @@ fn arm_other(rhs: Shape) -> Arm
     ensures { λ a. ⌜ ((case : d.TypingCase) (lhs : Shape) → Unlike lhs rhs → Takes case lhs rhs a) ⌝ }
 {
     match rhs {
-        Shape::Var(id) => Arm::VarRight(id),
-        Shape::Anything => Arm::Left,
-        Shape::UnresolvedError => Arm::Left,
+        Shape::Var(id) => Arm::VarRhs(id),
+        Shape::Anything => Arm::Lhs,
+        Shape::UnresolvedError => Arm::Lhs,
         _ => Arm::Incompatible,
     }
 }
@@ -147,7 +147,7 @@ fn arm_unit(rhs: Shape) -> Arm
     ensures { λ a. ⌜ ((case : d.TypingCase) → Takes case Unit rhs a) ⌝ }
 {
     match rhs {
-        Shape::Unit => Arm::Right,
+        Shape::Unit => Arm::Rhs,
         _ => arm_other(rhs),
     }
 }
@@ -167,7 +167,7 @@ fn arm_param(id1: TParamID, a1: AbilitySet, rhs: Shape) -> Arm
     match rhs {
         Shape::Param(id2, _) => {
             if id1.0 == id2.0 {
-                Arm::Right
+                Arm::Rhs
             } else {
                 Arm::Incompatible
             }
@@ -191,13 +191,13 @@ fn arm_var(id1: TVar, rhs: Shape) -> Arm
     match rhs {
         Shape::Var(id2) => {
             if id1.0 == id2.0 {
-                Arm::Right
+                Arm::Rhs
             } else {
                 Arm::Vars(id1, id2)
             }
         }
-        Shape::Anything => Arm::Left,
-        _ => Arm::VarLeft(id1),
+        Shape::Anything => Arm::Lhs,
+        _ => Arm::VarLhs(id1),
     }
 }
 
@@ -205,9 +205,9 @@ fn arm_error(rhs: Shape) -> Arm
     ensures { λ a. ⌜ ((case : d.TypingCase) → Takes case UnresolvedError rhs a) ⌝ }
 {
     match rhs {
-        Shape::Var(id2) => Arm::VarRight(id2),
-        Shape::Anything => Arm::Left,
-        _ => Arm::Right,
+        Shape::Var(id2) => Arm::VarRhs(id2),
+        Shape::Anything => Arm::Lhs,
+        _ => Arm::Rhs,
     }
 }
 
@@ -221,7 +221,7 @@ pub fn arm_of(case: TypingCase, lhs: Shape, rhs: Shape) -> Arm
         Shape::Param(id1, a1) => arm_param(id1, a1, rhs),
         Shape::Apply(k, n, first, many) => arm_apply(Applied { k, n, first, many }, rhs),
         Shape::Var(id1) => arm_var(id1, rhs),
-        Shape::Anything => Arm::Right,
+        Shape::Anything => Arm::Rhs,
         Shape::UnresolvedError => arm_error(rhs),
     }
 }

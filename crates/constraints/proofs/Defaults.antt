@@ -16,7 +16,7 @@ use Rattle.definition.specs.Join.{join}
 use Rattle.definition.specs.Constraints.{undecided, u64, num-vars, default-num-var, default-num-vars}
 use Rattle.table.specs.Rows.{read-option}
 use Rattle.table.specs.State.{Lay, Any, Refines, Changed, After, Nodes-in, outcome, seen, view, done, found, node-of, shape-of}
-use Rattle.table.specs.declared.Step.{Step}
+use Rattle.table.specs.declared.Outcome.{Outcome}
 use Rattle.table.specs.declared.Used.{Used}
 use Rattle.table.specs.declared.Node.{Node}
 use Rattle.table.specs.declared.Out.the-variants.{Done}
@@ -62,24 +62,24 @@ from-tvar t x = join (x .0) t (x .1)
 abbrev from-u64 : ℕ → ℕ → State × ℕ → Result (State × ℕ)
 from-u64 v loc x = sp (x .0) loc (d.Var v) >>= from-tvar (x .1)
 
-from-start : (v loc : ℕ) {w : List ℕ} {u : Used} {w′ : List ℕ} {r : Step} → After w u w′ r (λ s. sp s loc u64 >>= from-u64 v loc) → After w u w′ r (λ s. join-u64 s v loc)
+from-start : (v loc : ℕ) {w : List ℕ} {u : Used} {w′ : List ℕ} {r : Outcome} → After w u w′ r (λ s. sp s loc u64 >>= from-u64 v loc) → After w u w′ r (λ s. join-u64 s v loc)
 unfolding join-u64
 from-start v loc a = a
 
-module _ (v loc : ℕ) (w : List ℕ) (u : Used) (w₁ : List ℕ) (a : Step) (b : Found) (ta : After w u w₁ a (λ s. sp s loc (d.Apply (some 7) (d.Builtin 3) []))) (da : b ≡ done (a .out)) where
+module _ (v loc : ℕ) (w : List ℕ) (u : Used) (w₁ : List ℕ) (a : Outcome) (b : Found) (ta : After w u w₁ a (λ s. sp s loc (d.Apply (some 7) (d.Builtin 3) []))) (da : b ≡ done (a .out)) where
   pub u64-full : b ≡ Nothing → After w u w₁ a (λ s. join-u64 s v loc)
   unfolding u64
   u64-full q = from-start v loc (after-stop (from-u64 v loc) ta da q)
 
-  module _ (t : ℕ) (is : b ≡ Just t) (w₂ : List ℕ) (r₂ : Step) (b₂ : Found) (tb : After w₁ (a .used) w₂ r₂ (λ s. sp s loc (d.Var v))) (db : b₂ ≡ done (r₂ .out)) where
-    u64-then : {w₃ : List ℕ} {r₃ : Step} → After w₁ (a .used) w₃ r₃ (λ s. sp s loc (d.Var v) >>= from-tvar t) → After w u w₃ r₃ (λ s. join-u64 s v loc)
+  module _ (t : ℕ) (is : b ≡ Just t) (w₂ : List ℕ) (r₂ : Outcome) (b₂ : Found) (tb : After w₁ (a .used) w₂ r₂ (λ s. sp s loc (d.Var v))) (db : b₂ ≡ done (r₂ .out)) where
+    u64-then : {w₃ : List ℕ} {r₃ : Outcome} → After w₁ (a .used) w₃ r₃ (λ s. sp s loc (d.Var v) >>= from-tvar t) → After w u w₃ r₃ (λ s. join-u64 s v loc)
     unfolding u64
     u64-then n = from-start v loc (after-then (a .out) (from-u64 v loc) (ta .changed) da is n)
 
     pub tvar-full : b₂ ≡ Nothing → After w u w₂ r₂ (λ s. join-u64 s v loc)
     tvar-full q = u64-then (after-stop (from-tvar t) tb db q)
 
-    pub u64-joined : (x : ℕ) → b₂ ≡ Just x → (w₃ : List ℕ) (r₃ : Step) → After w₂ (r₂ .used) w₃ r₃ (λ s. join s t x) → After w u w₃ r₃ (λ s. join-u64 s v loc)
+    pub u64-joined : (x : ℕ) → b₂ ≡ Just x → (w₃ : List ℕ) (r₃ : Outcome) → After w₂ (r₂ .used) w₃ r₃ (λ s. join s t x) → After w u w₃ r₃ (λ s. join-u64 s v loc)
     u64-joined x q w₃ r₃ n = u64-then (after-then (r₂ .out) (from-tvar t) (tb .changed) db q n)
 
 -- ---- default_num_var
@@ -118,7 +118,7 @@ module _ (w : List ℕ) (u : Used) (v loc : ℕ) (r : Bool) (is : (ds : List Str
   pub default-decided : Lay w u → r ≡ false → Answered w u w (record { out = Done 0; used = u }) (λ s. numbered (default-num-var s v loc))
   default-decided h q = record { changed = still h (λ ds. default-stays (seen w u ds) v loc (sym (is ds) ∙ q)); others = done-others u }
 
-  module _ (q : r ≡ true) (w₁ : List ℕ) (a : Step) (b : Found) (ta : After w u w₁ a (λ s. join-u64 s v loc)) (da : b ≡ done (a .out)) where
+  module _ (q : r ≡ true) (w₁ : List ℕ) (a : Outcome) (b : Found) (ta : After w u w₁ a (λ s. join-u64 s v loc)) (da : b ≡ done (a .out)) where
     joins : (ds : List Struct) → Any ds → (join-u64 (seen w u ds) v loc >>= no-number) ≡ numbered (default-num-var (seen w u ds) v loc)
     joins ds k = default-joins (seen w u ds) v loc (sym (is ds) ∙ q)
 
@@ -134,7 +134,7 @@ pub marked-none : (w : List ℕ) (u : Used) (v : ℕ) (m : Found) → Lay w u �
 unfolding numbered default-marked _>>=_
 marked-none w u v m h e = rw e (record { changed = still h (λ ds. refl); others = done-others u })
 
-pub marked-some : (w : List ℕ) (u : Used) (v : ℕ) (m : Found) (w′ : List ℕ) (r : Step) (loc : ℕ) → m ≡ Just loc → Answered w u w′ r (λ s. numbered (default-num-var s v loc)) → Answered w u w′ r (λ s. numbered (default-marked s v (found m)))
+pub marked-some : (w : List ℕ) (u : Used) (v : ℕ) (m : Found) (w′ : List ℕ) (r : Outcome) (loc : ℕ) → m ≡ Just loc → Answered w u w′ r (λ s. numbered (default-num-var s v loc)) → Answered w u w′ r (λ s. numbered (default-marked s v (found m)))
 unfolding default-marked
 marked-some w u v m w′ r loc e a = rw e a
 
@@ -199,7 +199,7 @@ module _ (w₀ : List ℕ) (u : Used) where
     defaulting-all le = record { changed = refines-is (λ ds k. whole ds) (refines-as (λ m. m) (h .changed) (λ s. rest-none s v le)); others = done-others at }
 
     module _ (lt : v < u .vars) (saved : List ℕ) (m : Found) (kept : Saved w₀ u saved) (is : found m ≡ read-option (getD saved (v * 5 + 2) 0) (getD saved (v * 5 + 3) 0)) (x : ℕ) (e : x ≡ v)
-        (w₁ : List ℕ) (a : Step) (b : Found) (ta : Answered w at w₁ a (λ s. numbered (default-marked s x (found m)))) (da : b ≡ done (a .out)) where
+        (w₁ : List ℕ) (a : Outcome) (b : Found) (ta : Answered w at w₁ a (λ s. numbered (default-marked s x (found m)))) (da : b ≡ done (a .out)) where
       abbrev onward : State × ℕ → Result (State × ℕ)
       onward y = rest (v + 1) (y .0)
 

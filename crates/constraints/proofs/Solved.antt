@@ -6,7 +6,7 @@ use native.Mathlib.Omega.{arith}
 use Rattle.definition.specs.Types.{State, Struct, Result, ok, err, refused, _>>=_}
 use Rattle.definition.specs.Constraints.{num-vars, default-num-vars, solve-all, solve-constraints}
 use Rattle.table.specs.State.{outcome, seen, done}
-use Rattle.table.specs.declared.Step.{Step}
+use Rattle.table.specs.declared.Outcome.{Outcome}
 use Rattle.table.specs.declared.Used.{Used}
 use Rattle.table.specs.declared.Out.{Out}
 use Rattle.table.specs.declared.Found.{Found}
@@ -20,7 +20,7 @@ numbered-then (ok s) h = refl
 numbered-then (err s e) h = refl
 numbered-then (refused x) h = refl
 
-module _ (w : List ℕ) (u : Used) (w₁ : List ℕ) (r : Step) (b : Found) (a : Answered w u w₁ r (λ s. numbered (default-num-vars s (num-vars 0 (s .vars))))) (p : b ≡ done (r .out)) where
+module _ (w : List ℕ) (u : Used) (w₁ : List ℕ) (r : Outcome) (b : Found) (a : Answered w u w₁ r (λ s. numbered (default-num-vars s (num-vars 0 (s .vars))))) (p : b ≡ done (r .out)) where
   pub goes-on : (ds : List Struct) → (outcome (r .out) (seen w₁ (r .used) ds) >>= (λ x. solve-all (x .0))) ≡ solve-constraints (seen w u ds)
   unfolding solve-constraints
   goes-on ds = ap (λ (y : Result (State × ℕ)). y >>= (λ x. solve-all (x .0))) (a .changed .is ds tt) ∙ numbered-then (default-num-vars (seen w u ds) (num-vars 0 (seen w u ds .vars))) solve-all

@@ -11,7 +11,7 @@ use Rattle.definition.specs.Constraints.{u64, default-num-var}
 use Rattle.definition.specs.Record as record-of
 use Rattle.table.specs.State.{Changed, Nodes-in, done}
 use Rattle.table.specs.declared.Used.{Used}
-use Rattle.table.specs.declared.Step.{Step}
+use Rattle.table.specs.declared.Outcome.{Outcome}
 use Rattle.table.specs.declared.Found.the-variants.{Nothing}
 use Rattle.constraints.specs.declared.NumericKind.{NumericKind}
 use Rattle.constraints.specs.declared.NumericKind.the-variants.{Numeric, Bits, Ordered}
@@ -26,7 +26,7 @@ unfoldable pub numbered : Result State → Result (State × ℕ)
 numbered r = r >>= (λ s. ok (s, 0))
 
 -- the words w with u in use became w′ and the answer r, as f says; the types of an error are nodes
-pub record Answered (w : List ℕ) (u : Used) (w′ : List ℕ) (r : Step) (f : State → Result (State × ℕ)) : Type 0 where
+pub record Answered (w : List ℕ) (u : Used) (w′ : List ℕ) (r : Outcome) (f : State → Result (State × ℕ)) : Type 0 where
   pub changed : Changed w u w′ r f
   pub others : done (r .out) ≡ Nothing → Nodes-in (r .used .nodes) (r .out)
 

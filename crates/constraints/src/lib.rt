@@ -28,8 +28,8 @@ use failing::Failing;
 use failing::ask_of;
 use failing::good;
 use failing::unless;
+use names::AbilityMark;
 use names::AbilitySet;
-use names::Mark;
 use names::TVar;
 use names::TypeName;
 use subst::Unfolded;
@@ -38,8 +38,8 @@ use table::CONSTRAINTS_AT;
 use table::Constraint;
 use table::Found;
 use table::Out;
+use table::Outcome;
 use table::Shape;
-use table::Step;
 use table::Used;
 use table::VAR_WORDS;
 
@@ -52,7 +52,7 @@ pub enum NumericKind {
 
 // ---- a constraint is listed; the answer is 0
 
-pub fn numeric_constraint(w: &mut [u32], u: Used, kind: NumericKind, loc: u32, ty: u32) -> Step
+pub fn numeric_constraint(w: &mut [u32], u: Used, kind: NumericKind, loc: u32, ty: u32) -> Outcome
     requires { ⌜ Lay (now w) u ⌝ }
     ensures { λ r. ⌜ Changed (now (w .entry)) u (now (w .exit)) r (pushed-constraint (numeric-constraint (kind-of kind) loc ty)) ⌝ }
 {
@@ -63,14 +63,14 @@ pub fn numeric_constraint(w: &mut [u32], u: Used, kind: NumericKind, loc: u32, t
     }
 }
 
-pub fn base_type_constraint(w: &mut [u32], u: Used, loc: u32, ty: u32) -> Step
+pub fn base_type_constraint(w: &mut [u32], u: Used, loc: u32, ty: u32) -> Outcome
     requires { ⌜ Lay (now w) u ⌝ }
     ensures { λ r. ⌜ Changed (now (w .entry)) u (now (w .exit)) r (pushed-constraint (BaseTypeConstraint loc ty)) ⌝ }
 {
     table::push_constraint(w, u, Constraint::BaseType(loc, ty))
 }
 
-pub fn single_type_constraint(w: &mut [u32], u: Used, loc: u32, ty: u32) -> Step
+pub fn single_type_constraint(w: &mut [u32], u: Used, loc: u32, ty: u32) -> Outcome
     requires { ⌜ Lay (now w) u ⌝ }
     ensures { λ r. ⌜ Changed (now (w .entry)) u (now (w .exit)) r (pushed-constraint (SingleTypeConstraint loc ty)) ⌝ }
 {
@@ -94,11 +94,11 @@ fn undecided_var(w: &[u32], u: Used, num_var: TVar, loc: u32) -> bool
 }
 
 // The join with u64, which has the abilities copy, drop and store.
-fn join_u64(w: &mut [u32], u: Used, num_var: TVar, loc: u32) -> Step
+fn join_u64(w: &mut [u32], u: Used, num_var: TVar, loc: u32) -> Outcome
     requires { ⌜ Lay (now w) u ⌝ }
     ensures { λ r. ⌜ After (now (w .entry)) u (now (w .exit)) r (λ s. join-u64 s («num_var» .0) loc) ⌝ }
 {
-    let k = Mark::Set(AbilitySet::PRIMITIVES);
+    let k = AbilityMark::Set(AbilitySet::PRIMITIVES);
     let a = table::push_apply(w, u, loc, k, TypeName::Builtin(3), [0; 8], 0);
     let ao = a.out;
     let au = a.used;
@@ -114,7 +114,7 @@ fn join_u64(w: &mut [u32], u: Used, num_var: TVar, loc: u32) -> Step
     join::join(w, bu, u64_, tvar)
 }
 
-fn default_num_var(w: &mut [u32], u: Used, num_var: TVar, loc: u32) -> Step
+fn default_num_var(w: &mut [u32], u: Used, num_var: TVar, loc: u32) -> Outcome
     requires { ⌜ Lay (now w) u ⌝ }
     ensures { λ r. ⌜ Answered (now (w .entry)) u (now (w .exit)) r (λ s. numbered (default-num-var s («num_var» .0) loc)) ⌝ }
 {
@@ -125,24 +125,24 @@ fn default_num_var(w: &mut [u32], u: Used, num_var: TVar, loc: u32) -> Step
         let Found::Just(_) = table::done_of(ao) else {
             return a;
         };
-        return Step {
+        return Outcome {
             out: Out::Done(0),
             used: au,
         };
     }
-    Step {
+    Outcome {
         out: Out::Done(0),
         used: u,
     }
 }
 
 // A variable that has a mark, at the mark's location.
-fn default_marked(w: &mut [u32], u: Used, num_var: TVar, mark: Found) -> Step
+fn default_marked(w: &mut [u32], u: Used, num_var: TVar, mark: Found) -> Outcome
     requires { ⌜ Lay (now w) u ⌝ }
     ensures { λ r. ⌜ Answered (now (w .entry)) u (now (w .exit)) r (λ s. numbered (default-marked s («num_var» .0) (found mark))) ⌝ }
 {
     match mark {
-        Found::Nothing => Step {
+        Found::Nothing => Outcome {
             out: Out::Done(0),
             used: u,
         },
@@ -164,7 +164,7 @@ fn saved_mark(saved: &[u32], v: u32) -> Found
 }
 
 // The marks are read as they were at the start: a join marks variables, and the list is fixed before the first.
-pub fn default_num_vars(w: &mut [u32], u: Used, saved: &[u32]) -> Step
+pub fn default_num_vars(w: &mut [u32], u: Used, saved: &[u32]) -> Outcome
     requires { ⌜ Lay (now w) u × (Saved (now w) u (now saved) × (5120 ≤ length (now saved))) ⌝ }
     ensures { λ r. ⌜ Answered (now (w .entry)) u (now (w .exit)) r (λ s. numbered (default-num-vars s (num-vars 0 (s .vars)))) ⌝ }
 {
@@ -183,7 +183,7 @@ pub fn default_num_vars(w: &mut [u32], u: Used, saved: &[u32]) -> Step
         at = au;
         v = v + 1;
     }
-    Step {
+    Outcome {
         out: Out::Done(0),
         used: at,
     }

@@ -1,7 +1,7 @@
 -- What the Move Book says of subtyping, of integer literals and of abilities, in its own terms, and what that claims of subtype, join and SV. Assumes nothing: these are definitions.
 use mathlib.Core.Logic.{_≢_, _↔_}
 use Prim.Native.Nat.{_≤_}
-use Rattle.definition.specs.Types.{_≡_, Bool, true, false, List, [], _∷_, none, some, ℕ, _<_, length, getD, TypeName, Multiple, Builtin, ModuleType, Mark, Type-value, UnitType, Ref, Param, Apply, Var, Anything, UnresolvedError, State, TypingError, SubtypeError, Incompatible, ArityMismatch, Refusal, full, too-deep, runs-into-itself, abilities-disagree, mark-contradicted, Result, ok, err, refused}
+use Rattle.definition.specs.Types.{_≡_, Bool, true, false, List, [], _∷_, none, some, ℕ, _<_, length, getD, TypeName, Multiple, Builtin, ModuleType, AbilityMark, Type-value, UnitType, Ref, Param, Apply, Var, Anything, UnresolvedError, State, TypingError, SubtypeError, Incompatible, ArityMismatch, Refusal, full, too-deep, runs-into-itself, abilities-disagree, mark-contradicted, Result, ok, err, refused}
 use Rattle.definition.specs.Store.{count, type-at, get, num-loc}
 use Rattle.definition.specs.Subst.{forward-tvar, unfold-type}
 use Rattle.definition.specs.Join.{is-multiple, join, subtype}
@@ -71,8 +71,8 @@ mutual
     is-unit : {t : ℕ} → type-at s t ≡ UnitType → Denotes s t unit
     is-reference : {t p : ℕ} {m : Bool} {T : MoveType} → type-at s t ≡ Ref m p → Denotes s p T → Denotes s t (reference m T)
     is-parameter : {t id a : ℕ} → type-at s t ≡ Param id a → Denotes s t (parameter id)
-    is-tuple : {t n : ℕ} {k : Mark} {ps : List ℕ} {Ts : MoveTypes} → type-at s t ≡ Apply k (Multiple n) ps → Denote s ps Ts → Denotes s t (tuple Ts)
-    is-named : {t : ℕ} {k : Mark} {n : TypeName} {ps : List ℕ} {Ts : MoveTypes} → type-at s t ≡ Apply k n ps → is-multiple n ≡ false → Denote s ps Ts → Denotes s t (named n Ts)
+    is-tuple : {t n : ℕ} {k : AbilityMark} {ps : List ℕ} {Ts : MoveTypes} → type-at s t ≡ Apply k (Multiple n) ps → Denote s ps Ts → Denotes s t (tuple Ts)
+    is-named : {t : ℕ} {k : AbilityMark} {n : TypeName} {ps : List ℕ} {Ts : MoveTypes} → type-at s t ≡ Apply k n ps → is-multiple n ≡ false → Denote s ps Ts → Denotes s t (named n Ts)
 
   pub data Denote (s : State) : List ℕ → MoveTypes → Type 0 where
     are-none : Denote s [] no-types

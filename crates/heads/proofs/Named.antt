@@ -3,7 +3,7 @@ use mathlib.Core.Path.{_≡_, refl}
 use mathlib.Core.Bool.{Bool, true, false, not}
 use Prim.Native.Nat.{ℕ}
 use lib.ListN.{length}
-use Rattle.definition.specs.Types.{TypeName, Multiple, Builtin, ModuleType, Mark, max-builtin, State, Refusal, malformed, unknown-name, if_then_else_}
+use Rattle.definition.specs.Types.{TypeName, Multiple, Builtin, ModuleType, AbilityMark, max-builtin, State, Refusal, malformed, unknown-name, if_then_else_}
 use Rattle.definition.specs.Write.{Bytes}
 use Rattle.definition.specs.Reader.{Read, got, not-read, Reader, give, refuse, go-on, _>>=_, byte, read-u16, byte-if, byte-to, name-below}
 use Rattle.definition.specs.Trees.{Tree, is-name, read-mark, read-apply}
@@ -21,7 +21,7 @@ module _ (s : State) (part : Reader Tree) (loc : ℕ) where
   unfolding read-apply read-args _>>=_ go-on give refuse
   named-is number name x l = go (read-mark l)
     where
-      go : (r : Read Mark) → go-on r (λ k. number >>= (λ n. if not (is-name s (name n)) then refuse x else read-args s part loc k (name n))) ≡ go-on r (λ k. tested number (λ n. is-name s (name n)) x >>= (λ n. read-args s part loc k (name n)))
+      go : (r : Read AbilityMark) → go-on r (λ k. number >>= (λ n. if not (is-name s (name n)) then refuse x else read-args s part loc k (name n))) ≡ go-on r (λ k. tested number (λ n. is-name s (name n)) x >>= (λ n. read-args s part loc k (name n)))
       go (not-read y) = refl
       go (got k m) = at (number m)
         where

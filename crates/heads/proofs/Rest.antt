@@ -93,7 +93,7 @@ module _ (b : List ℕ) (end : ℕ) (fits : end ≤ length b) where
 
 -- ---- ability marks
 
-abbrev pick : Option d.Mark → Reader d.Mark
+abbrev pick : Option d.AbilityMark → Reader d.AbilityMark
 pick o = elim o [ none ↦ refuse malformed | some k ↦ give k ]
 
 picked : (r : Marked) (m : Bytes) → mark-read r m ≡ pick (marked r) m
@@ -111,7 +111,7 @@ set-past x l = lt-leb (x - 16) 15 (omega (arith, l))
 -- the byte x is read as the mark r
 pub mark-step : (r : Marked) (x : ℕ) (l m : Bytes) → marked r ≡ mark-of x → byte l ≡ got x m → mark-read r m ≡ read-mark l
 unfolding read-mark _>>=_ go-on
-mark-step r x l m e f = picked r m ∙ ap (λ (o : Option d.Mark). pick o m) e ∙ rw f
+mark-step r x l m e f = picked r m ∙ ap (λ (o : Option d.AbilityMark). pick o m) e ∙ rw f
 
 -- ---- one part
 

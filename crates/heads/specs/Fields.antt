@@ -12,7 +12,7 @@ use Rattle.definition.specs.Write.{Bytes}
 use Rattle.definition.specs.Reader.{Read, got, not-read, Reader, give, refuse, go-on, _>>=_, name-below, byte, read-u16, read-u32}
 use Rattle.definition.specs.Trees.{Tree, unit-tree, anything-tree, error-tree, ref-tree, param-tree, apply-tree, var-tree, Trees, no-trees, _then_, read-trees, read-mark, mark-fits, arity}
 use Rattle.names.specs.Names.{mark-of, name-of}
-use Rattle.names.specs.declared.Mark.{Mark}
+use Rattle.names.specs.declared.AbilityMark.{AbilityMark}
 use Rattle.table.specs.declared.Shape.{Shape}
 use Rattle.table.specs.declared.Shape.the-variants.{Unit as UnitS, Ref, Param, Apply, Var, Anything, UnresolvedError}
 use Rattle.cursor.specs.declared.Number.{Number}
@@ -73,11 +73,11 @@ pub record Names (known : ℕ) (b : List ℕ) (end at : ℕ) (f : Name) (next : 
   pub below : Name-in f (λ x. x < known)
   pub within : next ≤ end
 
-abbrev pub marked : Marked → Option d.Mark
+abbrev pub marked : Marked → Option d.AbilityMark
 marked (With k) = some (mark-of k)
 marked Wrong = none
 
-abbrev pub mark-read : Marked → Bytes → Read d.Mark
+abbrev pub mark-read : Marked → Bytes → Read d.AbilityMark
 mark-read (With k) bytes = got (mark-of k) bytes
 mark-read Wrong bytes = not-read malformed
 
@@ -112,7 +112,7 @@ tree-of loc Anything ts = anything-tree loc
 tree-of loc UnresolvedError ts = error-tree loc
 
 -- what stands after an ability mark and a name
-unfoldable pub read-args : State → Reader Tree → ℕ → d.Mark → d.TypeName → Reader Tree
+unfoldable pub read-args : State → Reader Tree → ℕ → d.AbilityMark → d.TypeName → Reader Tree
 read-args s part loc k n = if not (mark-fits k n) then refuse malformed else do
   ts ← read-trees (arity s n) part
   give (apply-tree loc k n ts)

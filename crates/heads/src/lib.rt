@@ -20,9 +20,9 @@ use cursor::Word;
 use cursor::Words;
 use cursor::read_word;
 use cursor::read_words;
+use names::AbilityMark;
 use names::AbilitySet;
 use names::MAX_BUILTIN;
-use names::Mark;
 use names::TParamID;
 use names::TVar;
 use names::TypeName;
@@ -41,7 +41,7 @@ pub enum Name {
 
 // An ability mark.
 pub enum Marked {
-    With(Mark),
+    With(AbilityMark),
     Wrong,
 }
 
@@ -121,13 +121,13 @@ fn mark_of(x: u32) -> Marked
     ensures { λ r. ⌜ marked r ≡ mark-of x ⌝ }
 {
     if x == 0 {
-        return Marked::With(Mark::Absent);
+        return Marked::With(AbilityMark::Absent);
     }
     if x < 16 {
         return Marked::Wrong;
     }
     if x <= 31 {
-        return Marked::With(Mark::Set(AbilitySet((x - 16) as u8)));
+        return Marked::With(AbilityMark::Set(AbilitySet((x - 16) as u8)));
     }
     Marked::Wrong
 }
@@ -198,12 +198,12 @@ fn param_fields(b: &[u8], end: usize, at: usize, loc: u32) -> Head
 }
 
 // On an integer type a set must contain drop.
-fn fits(k: Mark, b: u32) -> bool
+fn fits(k: AbilityMark, b: u32) -> bool
     ensures { λ r. ⌜ r ≡ mark-fits (mark-is k) (d.Builtin b) ⌝ }
 {
     match k {
-        Mark::Absent => true,
-        Mark::Set(a) => { if is_numeric(b) { has_drop(a) } else { true } }
+        AbilityMark::Absent => true,
+        AbilityMark::Set(a) => { if is_numeric(b) { has_drop(a) } else { true } }
     }
 }
 
@@ -213,7 +213,7 @@ fn builtin_arity(b: u32) -> u32
     if b == 5 { 1 } else { 0 }
 }
 
-fn builtin_head(k: Mark, n: u32, loc: u32, next: usize) -> Head
+fn builtin_head(k: AbilityMark, n: u32, loc: u32, next: usize) -> Head
     ensures { λ r. ⌜ ((s : d.State) (b : List ℕ) (end : ℕ) → next ≤ end → Begins (λ part. read-args s part loc (mark-is k) (d.Builtin n) (rest b end next)) b end r) ⌝ }
 {
     if fits(k, n) {

@@ -73,7 +73,7 @@ tparams-are loc n tys abilities params k s e q =
     ∙ tparams-zip loc n tys abilities s
 
 -- the joins of the first a of tvars and the first b of tys, then the node
-pub joins-are : (loc : ℕ) (k : d.Mark) (n : d.TypeName) (tvars tys : List ℕ) (a b c : ℕ) (s : State) → a ≤ length tvars → b ≤ length tys → c ≡ min a b
+pub joins-are : (loc : ℕ) (k : d.AbilityMark) (n : d.TypeName) (tvars tys : List ℕ) (a b c : ℕ) (s : State) → a ≤ length tvars → b ≤ length tys → c ≡ min a b
     → rest (join-by tvars tys) (sp-apply loc k n) [] (range 0 c) s ≡ joined loc k n (take a tvars) (take b tys) s
 unfolding joined sp-apply join-by
 joins-are loc k n tvars tys a b c s p q e =

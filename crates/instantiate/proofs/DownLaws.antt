@@ -15,7 +15,7 @@ use Rattle.table.specs.Rows.{places}
 use Rattle.table.specs.State.{shape-of, view, seen, Grown, Changed, When, Placed, Named, done, pushed-constraint}
 use Rattle.table.specs.Known.{Known}
 use Rattle.table.specs.declared.Shape.{Shape}
-use Rattle.table.specs.declared.Step.{Step}
+use Rattle.table.specs.declared.Outcome.{Outcome}
 use Rattle.table.specs.declared.Used.{Used}
 use Rattle.table.specs.declared.Found.{Found}
 use Rattle.table.specs.declared.Found.the-variants.{Nothing, Just}
@@ -51,14 +51,14 @@ unfolding instantiate-value
 ref-is f s ty loc m t = constraint-then (BaseTypeConstraint loc t) s (ref-on f t loc m)
 
 -- a constraint is listed, and f follows
-pub constraint-on : {params : List (List ℕ)} {w : List ℕ} {u : Used} {w₁ : List ℕ} (b : Step) {b₁ : Found} {y : ℕ} (c : d.Constraint) {f : State → Result (State × ℕ)} {w′ : List ℕ} {r : Step} → Changed w u w₁ b (pushed-constraint c) → b₁ ≡ done (b .out) → b₁ ≡ Just y
+pub constraint-on : {params : List (List ℕ)} {w : List ℕ} {u : Used} {w₁ : List ℕ} (b : Outcome) {b₁ : Found} {y : ℕ} (c : d.Constraint) {f : State → Result (State × ℕ)} {w′ : List ℕ} {r : Outcome} → Changed w u w₁ b (pushed-constraint c) → b₁ ≡ done (b .out) → b₁ ≡ Just y
     → When (Known w₁ (b .used) params) w₁ (b .used) w′ r f → When (Known w u params) w u w′ r (λ s. pushed-constraint c s >>= (λ q. f (q .0)))
 constraint-on {params} {w} {u} {w₁} b c {f} first p q x =
     after-then (b .out) (λ y. f (y .0)) (refines-among (λ ds k. tt) first) p q (after-among (known-kept w u w₁ (b .used) params (first .structs)) x)
 
 -- ---- a named type: its variables, its arguments, the joins, the node
 
-apply-is : (inst : Walk) (s : State) (loc : ℕ) (k : d.Mark) (n : d.TypeName) (tys : List ℕ)
+apply-is : (inst : Walk) (s : State) (loc : ℕ) (k : d.AbilityMark) (n : d.TypeName) (tys : List ℕ)
     → (made loc n tys s >>= (λ p. rest inst (joined loc k n (p .1)) [] tys (p .0))) ≡ instantiate-apply inst s loc k n tys
 unfolding made rest joined instantiate-apply instantiate-type-args
 apply-is inst s loc k n tys =
@@ -71,7 +71,7 @@ named-on {w} {u} first many {w′} {u′} nm g =
     let k = named-kept w u first many (u .nodes) nm w′ u′ g in
     record { placed = k .placed; smaller = λ i h. omega (arith, k .smaller i h, nodes-grow w u w′ u′ g) }
 
-module _ (w : List ℕ) (u : Used) (params : List (List ℕ)) (left loc : ℕ) (k : d.Mark) (n : d.TypeName) (first many : ℕ) (pl : Placed w u first many) (w₁ : List ℕ) (b : Tparams) (b₁ : Found)
+module _ (w : List ℕ) (u : Used) (params : List (List ℕ)) (left loc : ℕ) (k : d.AbilityMark) (n : d.TypeName) (first many : ℕ) (pl : Placed w u first many) (w₁ : List ℕ) (b : Tparams) (b₁ : Found)
     (made-all : Listed (Known w u params) w u w₁ b (made loc n (args-at (view w u) (places first many)))) (b₁-is : b₁ ≡ done (b .out)) where
   abbrev tys : List ℕ
   tys = args-at (view w u) (places first many)
@@ -83,14 +83,14 @@ module _ (w : List ℕ) (u : Used) (params : List (List ℕ)) (left loc : ℕ) (
   unfolding go
   all-is s = apply-is (instantiate-down left) s loc k n tys
 
-  pub apply-stop : (r : Step) → r ≡ record { out = b .out; used = b .used } → b₁ ≡ Nothing → When (Known w u params) w u w₁ r (λ s. instantiate-apply (instantiate-down left) s loc k n (args-at (view w u) (places first many)))
+  pub apply-stop : (r : Outcome) → r ≡ record { out = b .out; used = b .used } → b₁ ≡ Nothing → When (Known w u params) w u w₁ r (λ s. instantiate-apply (instantiate-down left) s loc k n (args-at (view w u) (places first many)))
   apply-stop r f q =
       rw f record {
         changed = refines-is (λ ds kn. all-is (seen w u ds)) (refines-as (λ m. m >>= go) (made-all .changed) (λ s. listed-stop (b .out) (take (b .many) (b .tvars)) s go (sym b₁-is ∙ q)));
         inside = made-all .inside .inside (sym b₁-is ∙ q);
       }
 
-  pub apply-then : (y : ℕ) (w₂ : List ℕ) (r : Step) → b₁ ≡ Just y
+  pub apply-then : (y : ℕ) (w₂ : List ℕ) (r : Outcome) → b₁ ≡ Just y
       → When (Known w₁ (b .used) params) w₁ (b .used) w₂ r (rest (instantiate-down left) (joined loc k n (take (b .many) (b .tvars))) [] (args-at (view w₁ (b .used)) (places first many)))
       → When (Known w u params) w u w₂ r (λ s. instantiate-apply (instantiate-down left) s loc k n (args-at (view w u) (places first many)))
   unfolding go places

@@ -11,7 +11,7 @@ use Rattle.definition.specs.Instantiate.{tparam-constraints}
 use Rattle.names.specs.declared.AbilitySet.{AbilitySet}
 use Rattle.table.specs.Rows.{places}
 use Rattle.table.specs.State.{view, seen, Lay, When, After, Declares, Placed, done}
-use Rattle.table.specs.declared.Step.{Step}
+use Rattle.table.specs.declared.Outcome.{Outcome}
 use Rattle.table.specs.declared.Used.{Used}
 use Rattle.table.specs.declared.Out.the-variants.{Done}
 use Rattle.table.specs.declared.Found.{Found}
@@ -52,7 +52,7 @@ module _ {params : List (List ℕ)} {loc : ℕ} {n : d.TypeName} {first many cou
       tparams-are loc n tys (tparam-constraints (seen w₀ u₀ ds) n) params count (seen w₀ u₀ ds) (omega (arith, g .counted ds (k .rows), placed-length w₀ u₀ first many (g .placed))) (ability-is w₀ u₀ params ds k n)
 
   module _ (lt : i < count) {ty : ℕ} (ty-is : (ds : List Struct) (n : ℕ) → i < n → ty ≡ getD (args-at (seen w u ds) (places first n)) i 0) (ab : AbilitySet) (ab-is : Numbered n → ab .0 ≡ ability-at params n i)
-      {w′ : List ℕ} {a : Step} {b : Found} (step : After w u w′ a (λ s. make-tparam s loc n ty (ab .0))) (b-is : b ≡ done (a .out)) where
+      {w′ : List ℕ} {a : Outcome} {b : Found} (step : After w u w′ a (λ s. make-tparam s loc n ty (ab .0))) (b-is : b ≡ done (a .out)) where
     made-step : When (Known w₀ u₀ params) w u w′ a (λ s. tparam-by loc n tys params s i)
     unfolding tparam-by
     made-step =

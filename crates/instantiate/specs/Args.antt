@@ -1,7 +1,7 @@
 -- The steps of instantiate_type_args that the code takes one by one. Assumes nothing: these are definitions.
 use mathlib.Core.List.{List}
 use Prim.Native.Nat.{ℕ}
-use Rattle.definition.specs.Types.{Mark, TypeName, Apply, AbilityConstraint, State, Struct, Result, ok, _>>=_}
+use Rattle.definition.specs.Types.{AbilityMark, TypeName, Apply, AbilityConstraint, State, Struct, Result, ok, _>>=_}
 use Rattle.definition.specs.Store.{loc-of, sp, add-constraint}
 use Rattle.definition.specs.Instantiate.{make-tvar, tvar-constraint, tparam-constraints, make-tparams, join-args}
 use Rattle.table.specs.State.{Lists}
@@ -25,7 +25,7 @@ abbrev pub Listed : (List Struct → Type 0) → List ℕ → Used → List ℕ 
 Listed K w u w′ r f = Lists K w u w′ (r .used) (r .out) (r .tvars) (r .many) f
 
 -- the joins of the variables with the arguments, then the node
-unfoldable pub joined : ℕ → Mark → TypeName → List ℕ → List ℕ → State → Result (State × ℕ)
+unfoldable pub joined : ℕ → AbilityMark → TypeName → List ℕ → List ℕ → State → Result (State × ℕ)
 joined loc k n tvars tys s = do
   (s, tys) ← join-args s tvars tys
   sp s loc (Apply k n tys)

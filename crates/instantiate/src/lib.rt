@@ -21,9 +21,9 @@ use shapes::wide;
 use table::Constraint;
 use table::Found;
 use table::Out;
+use table::Outcome;
 use table::Refusal;
 use table::Shape;
-use table::Step;
 use table::Used;
 
 // A variable for each argument.
@@ -34,14 +34,14 @@ pub struct Tparams {
     pub many: u32,
 }
 
-fn stay(o: Out, u: Used) -> Step
+fn stay(o: Out, u: Used) -> Outcome
     ensures { λ r. ⌜ r ≡ record { out = o; used = u } ⌝ }
 {
-    Step { out: o, used: u }
+    Outcome { out: o, used: u }
 }
 
 // A fresh variable, as a node.
-fn make_tvar(w: &mut [u32], u: Used, loc: u32) -> Step
+fn make_tvar(w: &mut [u32], u: Used, loc: u32) -> Outcome
     requires { ⌜ Lay (now w) u ⌝ }
     ensures { λ r. ⌜ After (now (w .entry)) u (now (w .exit)) r (λ s. make-tvar s loc) ⌝ }
 {
@@ -122,7 +122,7 @@ fn make_tparam(
     n: TypeName,
     ty: u32,
     abilities: AbilitySet,
-) -> Step
+) -> Outcome
     requires { ⌜ Lay (now w) u ⌝ }
     ensures { λ r. ⌜ After (now (w .entry)) u (now (w .exit)) r (λ s. make-tparam s loc (name-of n) ty (abilities .0)) ⌝ }
 {
@@ -193,7 +193,14 @@ fn make_tparams(w: &mut [u32], u: Used, params: &[[u8; 8]; 256], loc: u32, ty: A
 }
 
 // The variables joined with the arguments, in order; then the node.
-fn join_args(w: &mut [u32], u: Used, loc: u32, ty: Applied, tparams: Tparams, tys: [u32; 8]) -> Step
+fn join_args(
+    w: &mut [u32],
+    u: Used,
+    loc: u32,
+    ty: Applied,
+    tparams: Tparams,
+    tys: [u32; 8],
+) -> Outcome
     requires { ⌜ Lay (now w) u × (Parts (u .nodes) (tparams .tvars) (tparams .many) × Parts (u .nodes) tys (ty .many)) ⌝ }
     ensures { λ r. ⌜ After (now (w .entry)) u (now (w .exit)) r (joined loc (mark-of (ty .k)) (name-of (ty .n)) (take (tparams .many) (tparams .tvars)) (take (ty .many) tys)) ⌝ }
 {
@@ -226,7 +233,7 @@ fn instantiate_apply(
     left: u32,
     loc: u32,
     ty: Applied,
-) -> Step
+) -> Outcome
     requires { ⌜ Lay (now w) u × Named (now w) u (ty .first) (ty .many) (u .nodes) ⌝ }
     ensures { λ r. ⌜ When (Known (now (w .entry)) u (now (params .entry))) (now (w .entry)) u (now (w .exit)) r (λ s. instantiate-apply (instantiate-down left) s loc (mark-of (ty .k)) (name-of (ty .n)) (args-at (view (now (w .entry)) u) (places (ty .first) (ty .many)))) ⌝ }
 {
@@ -255,7 +262,7 @@ fn instantiate_apply(
 }
 
 // At most `left` levels of instantiate; parts are built before their node.
-fn instantiate_down(w: &mut [u32], u: Used, params: &[[u8; 8]; 256], left: u32, ty: u32) -> Step
+fn instantiate_down(w: &mut [u32], u: Used, params: &[[u8; 8]; 256], left: u32, ty: u32) -> Outcome
     requires { ⌜ Lay (now w) u × (ty < u .nodes) ⌝ }
     ensures { λ r. ⌜ When (Known (now (w .entry)) u (now (params .entry))) (now (w .entry)) u (now (w .exit)) r (λ s. instantiate-down left s ty) ⌝ }
 {
@@ -292,7 +299,7 @@ fn instantiate_down(w: &mut [u32], u: Used, params: &[[u8; 8]; 256], left: u32, 
 }
 
 // For the declarations that the struct rows and the bytes hold.
-pub fn instantiate(w: &mut [u32], u: Used, params: &[[u8; 8]; 256], ty: u32) -> Step
+pub fn instantiate(w: &mut [u32], u: Used, params: &[[u8; 8]; 256], ty: u32) -> Outcome
     requires { ⌜ Lay (now w) u × (ty < u .nodes) ⌝ }
     ensures { λ r. ⌜ When (Known (now (w .entry)) u (now (params .entry))) (now (w .entry)) u (now (w .exit)) r (λ s. instantiate s ty) ⌝ }
 {

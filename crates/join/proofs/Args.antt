@@ -11,7 +11,7 @@ use Rattle.definition.specs.Join.{join-impl, join-impl-types}
 use Rattle.names.specs.Names.{mark-of, name-of}
 use Rattle.table.specs.Rows.{places}
 use Rattle.table.specs.State.{Lay, Grown, Any, After, Named, view, seen, done}
-use Rattle.table.specs.declared.Step.{Step}
+use Rattle.table.specs.declared.Outcome.{Outcome}
 use Rattle.table.specs.declared.Used.{Used}
 use Rattle.table.specs.declared.Out.the-variants.{Done}
 use Rattle.table.specs.declared.Found.{Found}
@@ -83,7 +83,7 @@ module _ {left : ℕ} {case : j.TypingCase} {w₀ : List ℕ} {u₀ : Used} {t1 
           let n = nodes-grow w₀ u₀ w u (g .walked .changed .grown) in
           (omega (arith, is1, g .args1 .smaller i (omega (arith, g .fewer))), omega (arith, is2, g .args2 .smaller i (omega (arith, g .fewer))))
 
-      module _ {w₂ : List ℕ} {x : Step} {b : Found} (after : After w u w₂ x (λ s. join-impl left s case ty1 ty2)) (p : b ≡ done (x .out)) where
+      module _ {w₂ : List ℕ} {x : Outcome} {b : Found} (after : After w u w₂ x (λ s. join-impl left s case ty1 ty2)) (p : b ≡ done (x .out)) where
         at-place : After w u w₂ x (λ s. join-at left case (args-at (view w₀ u₀) (args-of t1)) (args-at (view w₀ u₀) (args-of t2)) s i)
         unfolding join-at
         at-place = after-is (λ ds k. rw (is1, is2) refl) after

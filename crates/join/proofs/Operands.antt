@@ -15,7 +15,7 @@ use Rattle.definition.specs.Join.{Var-l, Var-r, arm, join-arm, join-impl, join-
 use Rattle.names.specs.Names.{mark-of, name-of}
 use Rattle.names.specs.declared.TVar.{TVar}
 use Rattle.table.specs.State.{Lay, After, Parts, Listed-in, outcome, listed, seen, view, done, node-of, shape-of, Below}
-use Rattle.table.specs.declared.Step.{Step}
+use Rattle.table.specs.declared.Outcome.{Outcome}
 use Rattle.table.specs.declared.Used.{Used}
 use Rattle.table.specs.declared.Node.{Node}
 use Rattle.table.specs.declared.Out.{Out}
@@ -32,7 +32,7 @@ use Rattle.shapes.specs.declared.Applied.{Applied}
 use Rattle.arms.specs.Arms.{case-of, by-arm, Arm-below, Takes}
 use Rattle.arms.specs.declared.TypingCase.{TypingCase}
 use Rattle.arms.specs.declared.Arm.{Arm}
-use Rattle.arms.specs.declared.Arm.the-variants.{Left, Right, Refs, Applies, Vars, VarLeft, VarRight, SubtypeError, ArityMismatch, Incompatible, Disagree}
+use Rattle.arms.specs.declared.Arm.the-variants.{Lhs, Rhs, Refs, Applies, Vars, VarLhs, VarRhs, SubtypeError, ArityMismatch, Incompatible, Disagree}
 use Rattle.merge.specs.Merge.{Inner, Then-merge, open-tvar, open-types, open-ends, opened, Opened-in, Opens, show-both, close-tvar, meet-tvar, met, Meets}
 use Rattle.merge.specs.declared.Open.{Open}
 use Rattle.merge.specs.declared.Opened.{Opened}
@@ -48,11 +48,11 @@ use Rattle.join.proofs.Args.{inner}
 -- ---- answers that are handed on
 
 module _ {w : List ℕ} {u : Used} {w′ : List ℕ} {m : Meet} {f : State → Then-merge → Result (State × ℕ)} (a : Meets w u w′ m f) (k : Then-merge) where
-  met-is : {x : Step} → m ≡ Is x → After w u w′ x (λ s. f s k)
+  met-is : {x : Outcome} → m ≡ Is x → After w u w′ x (λ s. f s k)
   unfolding met
   met-is {x} e = let b : Meets w u w′ (Is x) f = rw e at a in record { changed = refines-as (λ g. g k) (b .changed) (λ s. refl); inside = b .inside }
 
-  met-merge : {u′ : Used} {v : TVar} {w₂ : List ℕ} {r : Step} → m ≡ Merge u′ v → After w′ u′ w₂ r (λ s. k s (v .0)) → After w u w₂ r (λ s. f s k)
+  met-merge : {u′ : Used} {v : TVar} {w₂ : List ℕ} {r : Outcome} → m ≡ Merge u′ v → After w′ u′ w₂ r (λ s. k s (v .0)) → After w u w₂ r (λ s. f s k)
   unfolding met
   met-merge {u′} {v} e n = let b : Meets w u w′ (Merge u′ v) f = rw e at a in after-on (λ g. g k) (b .changed) n
 
@@ -64,12 +64,12 @@ module _ {w : List ℕ} {u : Used} {w′ : List ℕ} {m : Open} {f : State → I
   unfolding opened
   open-is {o} e = record { changed = refines-as (λ g. g k) (a .changed) (λ s. rw e refl); inside = rw e at (a .inside) }
 
-  open-ready : {x : Merging} {w₂ : List ℕ} {r : Step} → m .what ≡ Ready x → After w′ (m .used) w₂ r (λ s. k s (x .ty1) (x .ty2) (x .«new_tvar» .0) (x .var2)) → After w u w₂ r (λ s. f s k)
+  open-ready : {x : Merging} {w₂ : List ℕ} {r : Outcome} → m .what ≡ Ready x → After w′ (m .used) w₂ r (λ s. k s (x .ty1) (x .ty2) (x .«new_tvar» .0) (x .var2)) → After w u w₂ r (λ s. f s k)
   unfolding opened
   open-ready e n = after-on (λ g. g k) (a .changed) (after-is (λ ds x. rw e refl) n)
 
 -- an answer at once
-pub settled-after : {w : List ℕ} {u : Used} {w′ : List ℕ} {r x : Step} {f : State → Result (State × ℕ)} → r ≡ x → After w u w′ x f → After w u w′ r f
+pub settled-after : {w : List ℕ} {u : Used} {w′ : List ℕ} {r x : Outcome} {f : State → Result (State × ℕ)} → r ≡ x → After w u w′ x f → After w u w′ r f
 settled-after e a = rw e a
 
 -- the types that were joined, and their node
@@ -80,7 +80,7 @@ module _ (o : Out) {b : Found} {m : ℕ} (tys : List ℕ) (p : b ≡ done o) (q 
   pub types-parts : {n : ℕ} → Listed-in n o tys (number o) → Parts n tys m
   types-parts h = rw number-is at (h .below m (sym p ∙ q))
 
-  pub types-then : {w : List ℕ} {u : Used} {w′ : List ℕ} {r : Step} (loc : ℕ) (k : d.Mark) (n : d.TypeName) → After w u w′ r (λ s. sp s loc (d.Apply k n (take m tys))) → After w u w′ r (then-apply o tys loc k n)
+  pub types-then : {w : List ℕ} {u : Used} {w′ : List ℕ} {r : Outcome} (loc : ℕ) (k : d.AbilityMark) (n : d.TypeName) → After w u w′ r (λ s. sp s loc (d.Apply k n (take m tys))) → After w u w′ r (then-apply o tys loc k n)
   types-then {w} {u} loc k n x =
       after-is (λ ds z. listed-then o (take m tys) (seen w u ds) (apply-at loc k n) m (sym p ∙ q) ∙ ap (λ (l : ℕ). listed o (take l tys) (seen w u ds) >>= apply-at loc k n) (sym number-is)) x
 
@@ -101,8 +101,8 @@ module _ (left : ℕ) (case : j.TypingCase) (loc1 id1 loc2 id2 : ℕ) {w : List 
   tvar-stop e =
       after-is (λ ds k. tvar-is left case (seen w u ds) loc1 id1 loc2 id2) (open-is a (then-close left case id1 loc2 id2) e)
 
-  module _ {h : Merging} (e : m .what ≡ Ready h) {w₂ : List ℕ} {x : Step} {b : Found} (after : After w₁ (m .used) w₂ x (λ s. join-impl left s case (h .ty1) (h .ty2))) (p : b ≡ done (x .out)) where
-    from-open : {w′ : List ℕ} {r : Step} → After w₁ (m .used) w′ r (λ s. then-close left case id1 loc2 id2 s (h .ty1) (h .ty2) (h .«new_tvar» .0) (h .var2)) → After w u w′ r (λ s. join-tvar (inner left) s case loc1 id1 loc2 id2)
+  module _ {h : Merging} (e : m .what ≡ Ready h) {w₂ : List ℕ} {x : Outcome} {b : Found} (after : After w₁ (m .used) w₂ x (λ s. join-impl left s case (h .ty1) (h .ty2))) (p : b ≡ done (x .out)) where
+    from-open : {w′ : List ℕ} {r : Outcome} → After w₁ (m .used) w′ r (λ s. then-close left case id1 loc2 id2 s (h .ty1) (h .ty2) (h .«new_tvar» .0) (h .var2)) → After w u w′ r (λ s. join-tvar (inner left) s case loc1 id1 loc2 id2)
     from-open n = after-is (λ ds k. tvar-is left case (seen w u ds) loc1 id1 loc2 id2) (open-ready a (then-close left case id1 loc2 id2) e n)
 
     pub tvar-inner : b ≡ Nothing → After w u w₂ x (λ s. join-tvar (inner left) s case loc1 id1 loc2 id2)
@@ -116,7 +116,7 @@ module _ (left : ℕ) (case : j.TypingCase) (loc1 id1 loc2 id2 : ℕ) {w : List 
           let g = after .changed .grown in
           (after .changed .lay, (still-in _ _ _ _ _ g (i .0), (still-in _ _ _ _ _ g (i .1 .0), (still-in _ _ _ _ _ g (i .1 .1), node-in _ (x .out) _ _ (after .inside) p q))))
 
-      pub tvar-close : {w₃ : List ℕ} {r : Step} → After w₂ (x .used) w₃ r (λ s. close-tvar s (h .ty1) id1 (h .ty2) loc2 id2 (h .«new_tvar» .0) (h .var2) ty) → After w u w₃ r (λ s. join-tvar (inner left) s case loc1 id1 loc2 id2)
+      pub tvar-close : {w₃ : List ℕ} {r : Outcome} → After w₂ (x .used) w₃ r (λ s. close-tvar s (h .ty1) id1 (h .ty2) loc2 id2 (h .«new_tvar» .0) (h .var2) ty) → After w u w₃ r (λ s. join-tvar (inner left) s case loc1 id1 loc2 id2)
       tvar-close n =
           from-open (after-then (x .out) (λ y. close-tvar (y .0) (h .ty1) id1 (h .ty2) loc2 id2 (h .«new_tvar» .0) (h .var2) (y .1)) (after .changed) p q n)
 
@@ -171,7 +171,7 @@ module _ {left : ℕ} {case : TypingCase} {w : List ℕ} {u : Used} {lhs rhs : �
       (sym (h .takes .is (inner (left - 1)) (seen w u ds) lhs rhs)
       ∙ (rw (value-is (seen w u ds) lhs l (h .lhs-is ds), value-is (seen w u ds) rhs r (h .rhs-is ds)) (impl-more left (case-of case) (seen w u ds) lhs rhs (h .more))))
 
-  by : (b : Arm) {w′ : List ℕ} {x : Step} → a ≡ b → After w u w′ x (λ s. by-arm (inner (left - 1)) s (case-of case) lhs rhs b) → After w u w′ x (λ s. join-impl left s (case-of case) lhs rhs)
+  by : (b : Arm) {w′ : List ℕ} {x : Outcome} → a ≡ b → After w u w′ x (λ s. by-arm (inner (left - 1)) s (case-of case) lhs rhs b) → After w u w′ x (λ s. join-impl left s (case-of case) lhs rhs)
   by b e n = after-is (λ ds k. chosen b e ds) n
 
   -- what an arm goes on to are nodes
@@ -179,13 +179,13 @@ module _ {left : ℕ} {case : TypingCase} {w : List ℕ} {u : Used} {lhs rhs : �
   arm-below e = rw e at (h .takes .below (view w u .args) (u .nodes) (node-below w u lhs l (h .lay) (h .lhs-in) (h .lhs-is)) (node-below w u rhs r (h .lay) (h .rhs-in) (h .rhs-is)))
 
   -- the arms that go on to nothing
-  pub arm-left : a ≡ Left → After w u w (step (Done lhs) u) (λ s. join-impl left s (case-of case) lhs rhs)
+  pub arm-left : a ≡ Lhs → After w u w (step (Done lhs) u) (λ s. join-impl left s (case-of case) lhs rhs)
   unfolding by-arm outcome
-  arm-left e = by Left e (after-now (h .lay) (h .lhs-in) (λ ds k. refl))
+  arm-left e = by Lhs e (after-now (h .lay) (h .lhs-in) (λ ds k. refl))
 
-  pub arm-right : a ≡ Right → After w u w (step (Done rhs) u) (λ s. join-impl left s (case-of case) lhs rhs)
+  pub arm-right : a ≡ Rhs → After w u w (step (Done rhs) u) (λ s. join-impl left s (case-of case) lhs rhs)
   unfolding by-arm outcome
-  arm-right e = by Right e (after-now (h .lay) (h .rhs-in) (λ ds k. refl))
+  arm-right e = by Rhs e (after-now (h .lay) (h .rhs-in) (λ ds k. refl))
 
   pub arm-subtype : a ≡ SubtypeError → After w u w (step (Failed (error.SubtypeError lhs rhs)) u) (λ s. join-impl left s (case-of case) lhs rhs)
   unfolding by-arm outcome
@@ -204,7 +204,7 @@ module _ {left : ℕ} {case : TypingCase} {w : List ℕ} {u : Used} {lhs rhs : �
   arm-disagree e = by Disagree e (after-now (h .lay) tt (λ ds k. refl))
 
   -- references
-  pub arm-refs : {side mut : Bool} {t1 t2 loc : ℕ} {w₁ : List ℕ} {x : Step} {w₂ : List ℕ} {y : Step} → a ≡ Refs side mut t1 t2 → loc ≡ (if side then l .loc else r .loc)
+  pub arm-refs : {side mut : Bool} {t1 t2 loc : ℕ} {w₁ : List ℕ} {x : Outcome} {w₂ : List ℕ} {y : Outcome} → a ≡ Refs side mut t1 t2 → loc ≡ (if side then l .loc else r .loc)
       → After w u w₁ x (λ s. join-impl (left - 1) s (case-of case) t1 t2) → After w₁ (x .used) w₂ y (then-ref (x .out) loc mut) → After w u w₂ y (λ s. join-impl left s (case-of case) lhs rhs)
   unfolding by-arm
   arm-refs {side} {mut} {t1} {t2} {loc} e q after n =
@@ -212,7 +212,7 @@ module _ {left : ℕ} {case : TypingCase} {w : List ℕ} {u : Used} {lhs rhs : �
       (after-is (λ ds k. rw (q, loc-is (seen w u ds) lhs l (h .lhs-is ds), loc-is (seen w u ds) rhs r (h .rhs-is ds))) (after-on (λ m. m >>= ref-at loc mut) (after .changed) n))
 
   -- named types
-  pub arm-applies : {t1 t2 : Applied} {w₁ : List ℕ} {x : Types} {w₂ : List ℕ} {y : Step} → a ≡ Applies t1 t2
+  pub arm-applies : {t1 t2 : Applied} {w₁ : List ℕ} {x : Types} {w₂ : List ℕ} {y : Outcome} → a ≡ Applies t1 t2
       → Joined w u w₁ x (λ s. join-impl-types (inner (left - 1)) s (case-of case) (args-at s (args-of t1)) (args-at s (args-of t2)))
       → After w₁ (x .used) w₂ y (then-apply (x .out) (x .tys) (r .loc) (mark-of (t2 .k)) (name-of (t2 .n))) → After w u w₂ y (λ s. join-impl left s (case-of case) lhs rhs)
   unfolding by-arm
@@ -221,7 +221,7 @@ module _ {left : ℕ} {case : TypingCase} {w : List ℕ} {u : Used} {lhs rhs : �
       (after-is (λ ds k. rw (loc-is (seen w u ds) rhs r (h .rhs-is ds))) (after-on (λ c. c >>= apply-at (r .loc) (mark-of (t2 .k)) (name-of (t2 .n))) (joined .changed) m))
 
   -- two variables
-  pub arm-vars : {id1 id2 : TVar} {w₁ : List ℕ} {x : Step} → a ≡ Vars id1 id2 → After w u w₁ x (λ s. join-tvar (inner (left - 1)) s (case-of case) (l .loc) (id1 .0) (r .loc) (id2 .0)) → After w u w₁ x (λ s. join-impl left s (case-of case) lhs rhs)
+  pub arm-vars : {id1 id2 : TVar} {w₁ : List ℕ} {x : Outcome} → a ≡ Vars id1 id2 → After w u w₁ x (λ s. join-tvar (inner (left - 1)) s (case-of case) (l .loc) (id1 .0) (r .loc) (id2 .0)) → After w u w₁ x (λ s. join-impl left s (case-of case) lhs rhs)
   unfolding by-arm
   arm-vars {id1} {id2} e n = by (Vars id1 id2) e (after-is (λ ds k. rw (loc-is (seen w u ds) lhs l (h .lhs-is ds), loc-is (seen w u ds) rhs r (h .rhs-is ds))) n)
 
@@ -247,24 +247,24 @@ module _ {left : ℕ} {case : TypingCase} {w : List ℕ} {u : Used} {lhs rhs : �
       (next-same (seen w u ds) _ _ (rw (fresh-loc (seen w u ds) lhs, fresh-loc (seen w u ds) rhs, loc-is (seen w u ds) lhs l (h .lhs-is ds), loc-is (seen w u ds) rhs r (h .rhs-is ds))))
 
   module _ {id : TVar} where
-    from-left : {w′ : List ℕ} {x : Step} → a ≡ VarLeft id → After w u w′ x (λ s. meet-tvar (merge-left (id .0)) s lhs rhs lhs (id .0) rhs) → After w u w′ x (λ s. join-impl left s (case-of case) lhs rhs)
+    from-left : {w′ : List ℕ} {x : Outcome} → a ≡ VarLhs id → After w u w′ x (λ s. meet-tvar (merge-left (id .0)) s lhs rhs lhs (id .0) rhs) → After w u w′ x (λ s. join-impl left s (case-of case) lhs rhs)
     unfolding by-arm
-    from-left e n = by (VarLeft id) e (after-is (λ ds k. left-by (id .0) ds (get (seen w u ds) (id .0)) refl) n)
+    from-left e n = by (VarLhs id) e (after-is (λ ds k. left-by (id .0) ds (get (seen w u ds) (id .0)) refl) n)
 
-    from-right : {w′ : List ℕ} {x : Step} → a ≡ VarRight id → After w u w′ x (λ s. meet-tvar (merge-right (id .0)) s lhs rhs rhs (id .0) lhs) → After w u w′ x (λ s. join-impl left s (case-of case) lhs rhs)
+    from-right : {w′ : List ℕ} {x : Outcome} → a ≡ VarRhs id → After w u w′ x (λ s. meet-tvar (merge-right (id .0)) s lhs rhs rhs (id .0) lhs) → After w u w′ x (λ s. join-impl left s (case-of case) lhs rhs)
     unfolding by-arm
-    from-right e n = by (VarRight id) e (after-is (λ ds k. right-by (id .0) ds (get (seen w u ds) (id .0)) refl) n)
+    from-right e n = by (VarRhs id) e (after-is (λ ds k. right-by (id .0) ds (get (seen w u ds) (id .0)) refl) n)
 
-    module _ {w₁ : List ℕ} {m : Meet} (e : a ≡ VarLeft id) (meets : Meets w u w₁ m (λ s k. meet-tvar k s lhs rhs lhs (id .0) rhs)) where
-      pub left-is : {x : Step} → m ≡ Is x → After w u w₁ x (λ s. join-impl left s (case-of case) lhs rhs)
+    module _ {w₁ : List ℕ} {m : Meet} (e : a ≡ VarLhs id) (meets : Meets w u w₁ m (λ s k. meet-tvar k s lhs rhs lhs (id .0) rhs)) where
+      pub left-is : {x : Outcome} → m ≡ Is x → After w u w₁ x (λ s. join-impl left s (case-of case) lhs rhs)
       left-is q = from-left e (met-is meets (merge-left (id .0)) q)
 
-      pub left-merge : {u₁ : Used} {v : TVar} {w₂ : List ℕ} {x : Step} → m ≡ Merge u₁ v → After w₁ u₁ w₂ x (λ s. join-tvar (inner (left - 1)) s (case-of case) (l .loc) (id .0) (r .loc) (v .0)) → After w u w₂ x (λ s. join-impl left s (case-of case) lhs rhs)
+      pub left-merge : {u₁ : Used} {v : TVar} {w₂ : List ℕ} {x : Outcome} → m ≡ Merge u₁ v → After w₁ u₁ w₂ x (λ s. join-tvar (inner (left - 1)) s (case-of case) (l .loc) (id .0) (r .loc) (v .0)) → After w u w₂ x (λ s. join-impl left s (case-of case) lhs rhs)
       left-merge q n = from-left e (met-merge meets (merge-left (id .0)) q n)
 
-    module _ {w₁ : List ℕ} {m : Meet} (e : a ≡ VarRight id) (meets : Meets w u w₁ m (λ s k. meet-tvar k s lhs rhs rhs (id .0) lhs)) where
-      pub right-is : {x : Step} → m ≡ Is x → After w u w₁ x (λ s. join-impl left s (case-of case) lhs rhs)
+    module _ {w₁ : List ℕ} {m : Meet} (e : a ≡ VarRhs id) (meets : Meets w u w₁ m (λ s k. meet-tvar k s lhs rhs rhs (id .0) lhs)) where
+      pub right-is : {x : Outcome} → m ≡ Is x → After w u w₁ x (λ s. join-impl left s (case-of case) lhs rhs)
       right-is q = from-right e (met-is meets (merge-right (id .0)) q)
 
-      pub right-merge : {u₁ : Used} {v : TVar} {w₂ : List ℕ} {x : Step} → m ≡ Merge u₁ v → After w₁ u₁ w₂ x (λ s. join-tvar (inner (left - 1)) s (case-of case) (l .loc) (v .0) (r .loc) (id .0)) → After w u w₂ x (λ s. join-impl left s (case-of case) lhs rhs)
+      pub right-merge : {u₁ : Used} {v : TVar} {w₂ : List ℕ} {x : Outcome} → m ≡ Merge u₁ v → After w₁ u₁ w₂ x (λ s. join-tvar (inner (left - 1)) s (case-of case) (l .loc) (v .0) (r .loc) (id .0)) → After w u w₂ x (λ s. join-impl left s (case-of case) lhs rhs)
       right-merge q n = from-right e (met-merge meets (merge-right (id .0)) q n)

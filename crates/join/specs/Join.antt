@@ -9,7 +9,7 @@ use Rattle.definition.specs.Store.{sp}
 use Rattle.table.specs.State.{Any, Lists, Below, view, shape-of, outcome, listed}
 use Rattle.table.specs.declared.Used.{Used}
 use Rattle.table.specs.declared.Out.{Out}
-use Rattle.table.specs.declared.Step.{Step}
+use Rattle.table.specs.declared.Outcome.{Outcome}
 use Rattle.table.specs.declared.Out.the-variants.{Done, Failed, Refused}
 use Rattle.shapes.specs.Applied.{as-shape}
 use Rattle.shapes.specs.declared.Applied.{Applied}
@@ -31,13 +31,13 @@ Joined w u w′ r f = Lists Any w u w′ (r .used) (r .out) (r .tys) (number (r 
 
 -- ---- what follows a step
 
-abbrev pub step : Out → Used → Step
+abbrev pub step : Out → Used → Outcome
 step o u = record { out = o; used = u }
 
 abbrev pub ref-at : ℕ → Bool → State × ℕ → Result (State × ℕ)
 ref-at loc mut x = sp (x .0) loc (d.Ref mut (x .1))
 
-abbrev pub apply-at : ℕ → d.Mark → d.TypeName → State × List ℕ → Result (State × ℕ)
+abbrev pub apply-at : ℕ → d.AbilityMark → d.TypeName → State × List ℕ → Result (State × ℕ)
 apply-at loc k n x = sp (x .0) loc (d.Apply k n (x .1))
 
 -- .. if its answer o is a type
@@ -45,5 +45,5 @@ abbrev pub then-ref : Out → ℕ → Bool → State → Result (State × ℕ)
 then-ref o loc mut s = outcome o s >>= ref-at loc mut
 
 -- .. if o is the number of the types
-abbrev pub then-apply : Out → List ℕ → ℕ → d.Mark → d.TypeName → State → Result (State × ℕ)
+abbrev pub then-apply : Out → List ℕ → ℕ → d.AbilityMark → d.TypeName → State → Result (State × ℕ)
 then-apply o tys loc k n s = listed o (take (number o) tys) s >>= apply-at loc k n

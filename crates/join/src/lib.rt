@@ -19,9 +19,9 @@ use names::MAX_DEPTH;
 use shapes::Applied;
 use table::Found;
 use table::Out;
+use table::Outcome;
 use table::Refusal;
 use table::Shape;
-use table::Step;
 use table::TypingError;
 use table::Used;
 
@@ -32,20 +32,20 @@ struct Types {
     tys: [u32; 8],
 }
 
-fn settled(u: Used, o: Out) -> Step
+fn settled(u: Used, o: Out) -> Outcome
     ensures { λ r. ⌜ r ≡ step o u ⌝ }
 {
-    Step { out: o, used: u }
+    Outcome { out: o, used: u }
 }
 
-fn pick_loc(left: bool, loc1: u32, loc2: u32) -> u32
-    ensures { λ r. ⌜ r ≡ (if left then loc1 else loc2) ⌝ }
+fn pick_loc(side: bool, loc1: u32, loc2: u32) -> u32
+    ensures { λ r. ⌜ r ≡ (if side then loc1 else loc2) ⌝ }
 {
-    if left { loc1 } else { loc2 }
+    if side { loc1 } else { loc2 }
 }
 
 // The reference to the type that was joined, if one was.
-fn push_ref(w: &mut [u32], a: Step, loc: u32, mutable: bool) -> Step
+fn push_ref(w: &mut [u32], a: Outcome, loc: u32, mutable: bool) -> Outcome
     requires { ⌜ Lay (now w) (a .used) × Nodes-in (a .used .nodes) (a .out) ⌝ }
     ensures { λ r. ⌜ After (now (w .entry)) (a .used) (now (w .exit)) r (then-ref (a .out) loc mutable) ⌝ }
 {
@@ -58,7 +58,7 @@ fn push_ref(w: &mut [u32], a: Step, loc: u32, mutable: bool) -> Step
 }
 
 // A type of the name and mark of `t` and the arguments that were joined, if they were.
-fn push_types(w: &mut [u32], a: Types, loc: u32, t: Applied) -> Step
+fn push_types(w: &mut [u32], a: Types, loc: u32, t: Applied) -> Outcome
     requires { ⌜ Lay (now w) (a .used) × Listed-in (a .used .nodes) (a .out) (a .tys) (number (a .out)) ⌝ }
     ensures { λ r. ⌜ After (now (w .entry)) (a .used) (now (w .exit)) r (then-apply (a .out) (a .tys) loc (mark-of (t .k)) (name-of (t .n))) ⌝ }
 {
@@ -79,14 +79,14 @@ fn fewer(a: u32, b: u32) -> u32
     if a < b { a } else { b }
 }
 
-pub fn join(w: &mut [u32], u: Used, lhs: u32, rhs: u32) -> Step
+pub fn join(w: &mut [u32], u: Used, lhs: u32, rhs: u32) -> Outcome
     requires { ⌜ Lay (now w) u × ((lhs < u .nodes) × (rhs < u .nodes)) ⌝ }
     ensures { λ r. ⌜ After (now (w .entry)) u (now (w .exit)) r (λ s. join s lhs rhs) ⌝ }
 {
     join_impl(w, u, TypingCase::Join, MAX_DEPTH, lhs, rhs)
 }
 
-pub fn subtype(w: &mut [u32], u: Used, lhs: u32, rhs: u32) -> Step
+pub fn subtype(w: &mut [u32], u: Used, lhs: u32, rhs: u32) -> Outcome
     requires { ⌜ Lay (now w) u × ((lhs < u .nodes) × (rhs < u .nodes)) ⌝ }
     ensures { λ r. ⌜ After (now (w .entry)) u (now (w .exit)) r (λ s. subtype s lhs rhs) ⌝ }
 {
@@ -94,7 +94,7 @@ pub fn subtype(w: &mut [u32], u: Used, lhs: u32, rhs: u32) -> Step
 }
 
 // The operand walk; `left` is how many calls deep it may still go.
-fn join_impl(w: &mut [u32], u: Used, case: TypingCase, left: u32, lhs: u32, rhs: u32) -> Step
+fn join_impl(w: &mut [u32], u: Used, case: TypingCase, left: u32, lhs: u32, rhs: u32) -> Outcome
     requires { ⌜ Lay (now w) u × ((lhs < u .nodes) × (rhs < u .nodes)) ⌝ }
     ensures { λ r. ⌜ After (now (w .entry)) u (now (w .exit)) r (λ s. join-impl left s (case-of case) lhs rhs) ⌝ }
 {
@@ -107,8 +107,8 @@ fn join_impl(w: &mut [u32], u: Used, case: TypingCase, left: u32, lhs: u32, rhs:
     let ls = l.shape;
     let rs = r.shape;
     match arms::arm_of(case, ls, rs) {
-        Arm::Left => settled(u, Out::Done(lhs)),
-        Arm::Right => settled(u, Out::Done(rhs)),
+        Arm::Lhs => settled(u, Out::Done(lhs)),
+        Arm::Rhs => settled(u, Out::Done(rhs)),
         Arm::Refs(side, mutable, t1, t2) => {
             let loc = pick_loc(side, l.loc, r.loc);
             let a = join_impl(w, u, case, less, t1, t2);
@@ -119,11 +119,11 @@ fn join_impl(w: &mut [u32], u: Used, case: TypingCase, left: u32, lhs: u32, rhs:
             push_types(w, a, r.loc, t2)
         }
         Arm::Vars(id1, id2) => join_tvar(w, u, case, less, VarAt(l.loc, id1), VarAt(r.loc, id2)),
-        Arm::VarLeft(id) => match merge::meet_tvar(w, u, lhs, rhs, lhs, id, rhs) {
+        Arm::VarLhs(id) => match merge::meet_tvar(w, u, lhs, rhs, lhs, id, rhs) {
             Meet::Is(a) => a,
             Meet::Merge(au, v) => join_tvar(w, au, case, less, VarAt(l.loc, id), VarAt(r.loc, v)),
         },
-        Arm::VarRight(id) => match merge::meet_tvar(w, u, lhs, rhs, rhs, id, lhs) {
+        Arm::VarRhs(id) => match merge::meet_tvar(w, u, lhs, rhs, rhs, id, lhs) {
             Meet::Is(a) => a,
             Meet::Merge(au, v) => join_tvar(w, au, case, less, VarAt(l.loc, v), VarAt(r.loc, id)),
         },
@@ -176,7 +176,7 @@ fn join_impl_types(
 }
 
 // The variable merge.
-fn join_tvar(w: &mut [u32], u: Used, case: TypingCase, left: u32, v1: VarAt, v2: VarAt) -> Step
+fn join_tvar(w: &mut [u32], u: Used, case: TypingCase, left: u32, v1: VarAt, v2: VarAt) -> Outcome
     requires { ⌜ Lay (now w) u ⌝ }
     ensures { λ r. ⌜ After (now (w .entry)) u (now (w .exit)) r (λ s. join-tvar (λ s c l r. join-impl left s c l r) s (case-of case) (v1 .0) (v1 .1 .0) (v2 .0) (v2 .1 .0)) ⌝ }
 {
@@ -184,7 +184,7 @@ fn join_tvar(w: &mut [u32], u: Used, case: TypingCase, left: u32, v1: VarAt, v2:
     let what = a.what;
     let au = a.used;
     match what {
-        Opened::Stop(o) => Step { out: o, used: au },
+        Opened::Stop(o) => Outcome { out: o, used: au },
         Opened::Ready(m) => {
             let b = join_impl(w, au, case, left, m.ty1, m.ty2);
             let bo = b.out;

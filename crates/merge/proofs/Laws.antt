@@ -15,7 +15,7 @@ use Rattle.subst.specs.Answers.{bound, Binds}
 use Rattle.subst.specs.declared.Binding.{Binding}
 use Rattle.subst.specs.declared.Binding.the-variants.{Bound, Failed as FailedB, Recursive as RecursiveB}
 use Rattle.table.specs.State.{Lay, Any, Refines, Changed, After, Stored, Nodes-in, outcome, seen, done, found, node-of, shape-of}
-use Rattle.table.specs.declared.Step.{Step}
+use Rattle.table.specs.declared.Outcome.{Outcome}
 use Rattle.table.specs.declared.Used.{Used}
 use Rattle.table.specs.declared.Node.{Node}
 use Rattle.table.specs.declared.Out.{Out}
@@ -86,19 +86,19 @@ module _ (loc1 id1 : ℕ) (num1 : Option ℕ) (ty1 loc2 id2 : ℕ) (num2 : Optio
   unfolding open-ends
   from-start o = o
 
-  module _ (w : List ℕ) (u : Used) (w₁ : List ℕ) (a : Step) (b : Found) (ta : Changed w u w₁ a (λ s. next-tvar s)) (da : b ≡ done (a .out)) where
+  module _ (w : List ℕ) (u : Used) (w₁ : List ℕ) (a : Outcome) (b : Found) (ta : Changed w u w₁ a (λ s. next-tvar s)) (da : b ≡ done (a .out)) where
     pub ends-no-var : b ≡ Nothing → Opens w u w₁ (record { what = Stop (a .out); used = a .used }) (λ s k. open-ends k s loc1 id1 num1 ty1 loc2 id2 num2 ty2)
     ends-no-var q = from-start (open-stop (a .out) from-new ta da (plain-in (a .out) ta tvar-plain da q) q)
 
     module _ (n : ℕ) (v : TVar) (is : b ≡ Just n) (e : v .0 ≡ n) (w₂ : List ℕ) (m : Stored w₁ (a .used) w₂ (λ s. merge-num s num1 num2 (v .0)))
-        (w₃ : List ℕ) (p : Step) (bp : Found) (tp : After w₂ (a .used) w₃ p (λ s. sp s loc1 (d.Var (v .0)))) (dp : bp ≡ done (p .out)) where
+        (w₃ : List ℕ) (p : Outcome) (bp : Found) (tp : After w₂ (a .used) w₃ p (λ s. sp s loc1 (d.Var (v .0)))) (dp : bp ≡ done (p .out)) where
       from-mark : {w′ : List ℕ} {r : Open} → Opens w₂ (a .used) w′ r (λ s k. sp s loc1 (d.Var (v .0)) >>= from-var1 (v .0) k) → Opens w u w′ r (λ s k. open-ends k s loc1 id1 num1 ty1 loc2 id2 num2 ty2)
       from-mark o = from-start (open-then (a .out) from-new ta da (is ∙ ap Just (sym e)) (open-stored (λ s k. sp s loc1 (d.Var (v .0)) >>= from-var1 (v .0) k) m o))
 
       pub ends-no-node : bp ≡ Nothing → Opens w u w₃ (record { what = Stop (p .out); used = p .used }) (λ s k. open-ends k s loc1 id1 num1 ty1 loc2 id2 num2 ty2)
       ends-no-node q = from-mark (open-stop (p .out) (from-var1 (v .0)) (tp .changed) dp (tp .inside) q)
 
-      module _ (var1 : ℕ) (is1 : bp ≡ Just var1) (w₄ : List ℕ) (q : Step) (bq : Found) (tq : After w₃ (p .used) w₄ q (λ s. sp s loc2 (d.Var (v .0)))) (dq : bq ≡ done (q .out)) where
+      module _ (var1 : ℕ) (is1 : bp ≡ Just var1) (w₄ : List ℕ) (q : Outcome) (bq : Found) (tq : After w₃ (p .used) w₄ q (λ s. sp s loc2 (d.Var (v .0)))) (dq : bq ≡ done (q .out)) where
         from-node : {w′ : List ℕ} {r : Open} → Opens w₃ (p .used) w′ r (λ s k. sp s loc2 (d.Var (v .0)) >>= from-var2 (v .0) var1 k) → Opens w u w′ r (λ s k. open-ends k s loc1 id1 num1 ty1 loc2 id2 num2 ty2)
         from-node o = from-mark (open-then (p .out) (from-var1 (v .0)) (tp .changed) dp is1 o)
 
@@ -133,11 +133,11 @@ module _ (w : List ℕ) (u : Used) (loc1 id1 loc2 id2 : ℕ) (e1 e2 : TVar) (n1 
   unfolding open-types
   from-ends o = open-seen (λ ds k. open-is k (seen w u ds) loc1 id1 loc2 id2 (e1 .0) (e2 .0) (found n1) (found n2) (p1 ds) (p2 ds) (q1 ds) (q2 ds)) o
 
-  module _ (w₁ : List ℕ) (a : Step) (b : Found) (ta : After w u w₁ a (λ s. type-of s loc1 (e1 .0))) (da : b ≡ done (a .out)) where
+  module _ (w₁ : List ℕ) (a : Outcome) (b : Found) (ta : After w u w₁ a (λ s. type-of s loc1 (e1 .0))) (da : b ≡ done (a .out)) where
     pub open-no-first : b ≡ Nothing → Opens w u w₁ (record { what = Stop (a .out); used = a .used }) (λ s k. open-tvar k s loc1 id1 loc2 id2)
     open-no-first q = from-ends (open-stop (a .out) from-ty1 (ta .changed) da (ta .inside) q)
 
-    module _ (ty1 : ℕ) (is : b ≡ Just ty1) (w₂ : List ℕ) (r : Step) (br : Found) (tr : After w₁ (a .used) w₂ r (λ s. type-of s loc2 (e2 .0))) (dr : br ≡ done (r .out)) where
+    module _ (ty1 : ℕ) (is : b ≡ Just ty1) (w₂ : List ℕ) (r : Outcome) (br : Found) (tr : After w₁ (a .used) w₂ r (λ s. type-of s loc2 (e2 .0))) (dr : br ≡ done (r .out)) where
       from-first : {w′ : List ℕ} {o : Open} → Opens w₁ (a .used) w′ o (λ s k. type-of s loc2 (e2 .0) >>= from-ty2 ty1 k) → Opens w u w′ o (λ s k. open-tvar k s loc1 id1 loc2 id2)
       from-first x = from-ends (open-then (a .out) from-ty1 (ta .changed) da is x)
 
@@ -183,12 +183,12 @@ module _ (ty1 id1 ty2 id2 : ℕ) where
   unfolding show-both
   show-is s = refl
 
-  module _ (w : List ℕ) (u : Used) (w₁ : List ℕ) (a : Step) (b : Found) (ta : After w u w₁ a (λ s. shown s ty1 id1)) (da : b ≡ done (a .out)) where
+  module _ (w : List ℕ) (u : Used) (w₁ : List ℕ) (a : Outcome) (b : Found) (ta : After w u w₁ a (λ s. shown s ty1 id1)) (da : b ≡ done (a .out)) where
     pub show-no-first : b ≡ Nothing → After w u w₁ a (λ s. show-both s ty1 id1 ty2 id2)
     show-no-first q = after-is (λ ds k. show-is (seen w u ds)) (after-stop show-first ta da q)
 
-    module _ (t1 : ℕ) (is : b ≡ Just t1) (w₂ : List ℕ) (r : Step) (br : Found) (tr : After w₁ (a .used) w₂ r (λ s. shown s ty2 id2)) (dr : br ≡ done (r .out)) where
-      from-shown : {w′ : List ℕ} {x : Step} → After w₁ (a .used) w′ x (λ s. shown s ty2 id2 >>= show-second t1) → After w u w′ x (λ s. show-both s ty1 id1 ty2 id2)
+    module _ (t1 : ℕ) (is : b ≡ Just t1) (w₂ : List ℕ) (r : Outcome) (br : Found) (tr : After w₁ (a .used) w₂ r (λ s. shown s ty2 id2)) (dr : br ≡ done (r .out)) where
+      from-shown : {w′ : List ℕ} {x : Outcome} → After w₁ (a .used) w′ x (λ s. shown s ty2 id2 >>= show-second t1) → After w u w′ x (λ s. show-both s ty1 id1 ty2 id2)
       from-shown o = after-is (λ ds k. show-is (seen w u ds)) (after-then (a .out) show-first (ta .changed) da is o)
 
       pub show-no-second : br ≡ Nothing → After w u w₂ r (λ s. show-both s ty1 id1 ty2 id2)
@@ -211,14 +211,14 @@ bind-then var otherwise m = m >>= (λ r. if r .1 then ok (r .0, var) else otherw
 
 module _ {w : List ℕ} {u : Used} {w′ : List ℕ} (b : Binding) (tvar ty loc var : ℕ) (otherwise f : State → Result (State × ℕ)) (x : Binds w u w′ b tvar ty)
     (is : (ds : List Struct) → bind-then var otherwise (join-bind-tvar (seen w u ds) loc tvar ty) ≡ f (seen w u ds)) where
-  binds-as : {w₂ : List ℕ} {r : Step} (g : State → Result (State × ℕ)) → ((s : State) → g s ≡ bind-then var otherwise (bound b loc s)) → After w′ u w₂ r g → After w u w₂ r f
+  binds-as : {w₂ : List ℕ} {r : Outcome} (g : State → Result (State × ℕ)) → ((s : State) → g s ≡ bind-then var otherwise (bound b loc s)) → After w′ u w₂ r g → After w u w₂ r f
   binds-as g e n = after-is (λ ds k. is ds) (after-on (λ m. bind-then var otherwise (m loc)) x (after-is (λ ds k. e (seen w′ u ds)) n))
 
   pub binds-done : b ≡ Bound → var < u .nodes → After w u w′ (record { out = Done var; used = u }) f
   unfolding outcome _>>=_
   binds-done e i = binds-as (λ s. ok (s, var)) (λ s. rw e refl) (after-now (x .lay) i (λ ds k. refl))
 
-  pub binds-failed : {w₂ : List ℕ} {r : Step} → b ≡ FailedB → After w′ u w₂ r otherwise → After w u w₂ r f
+  pub binds-failed : {w₂ : List ℕ} {r : Outcome} → b ≡ FailedB → After w′ u w₂ r otherwise → After w u w₂ r f
   unfolding _>>=_
   binds-failed e n = binds-as otherwise (λ s. rw e refl) n
 
@@ -260,13 +260,13 @@ module _ (lhs rhs var id other : ℕ) where
   meet-bound k s t e = rw (← e, meet-tvar)
 
   module _ (w : List ℕ) (u : Used) (f : Found) (is : (ds : List Struct) → found f ≡ get (seen w u ds) id) where
-    pub meets-free : (w′ : List ℕ) (r : Step) → f ≡ Nothing → After w u w′ r (λ s. join-unbound s lhs rhs var id other)
+    pub meets-free : (w′ : List ℕ) (r : Outcome) → f ≡ Nothing → After w u w′ r (λ s. join-unbound s lhs rhs var id other)
         → Meets w u w′ (Is r) (λ s k. meet-tvar k s lhs rhs var id other)
     unfolding met
     meets-free w′ r e a =
         record { changed = refines-is (λ ds x i k. meet-free k (seen w u ds) (sym (ap found e) ∙ is ds) i) (refines-as (λ m (k : Then-merge). m) (a .changed) (λ s. refl)); inside = a .inside }
 
-    module _ (t : ℕ) (to : f ≡ Just t) (w′ : List ℕ) (r : Step) (a : Changed w u w′ r (λ s. next-tvar s)) (b : Found) (p : b ≡ done (r .out)) where
+    module _ (t : ℕ) (to : f ≡ Just t) (w′ : List ℕ) (r : Outcome) (a : Changed w u w′ r (λ s. next-tvar s)) (b : Found) (p : b ≡ done (r .out)) where
       abbrev fresh : Result (State × ℕ) → Then-merge → Result (State × ℕ)
       fresh m k = m >>= (λ y. k (insert (y .0) (y .1) other) (y .1))
 

@@ -9,7 +9,7 @@ use Rattle.definition.specs.Subst.{forward-tvar}
 use Rattle.definition.specs.Join.{type-of, merge-num, shown, join-bind-tvar, join-unbound}
 use Rattle.table.specs.State.{Any, Refines, outcome, Nodes-in}
 use Rattle.table.specs.declared.Used.{Used}
-use Rattle.table.specs.declared.Step.{Step}
+use Rattle.table.specs.declared.Outcome.{Outcome}
 use Rattle.merge.specs.declared.Opened.{Opened}
 use Rattle.merge.specs.declared.Opened.the-variants.{Ready, Stop}
 use Rattle.merge.specs.declared.Open.{Open}
@@ -41,7 +41,7 @@ open-tvar inner subst loc1 id1 loc2 id2 =
     loc1 (forward-tvar subst id1) (num-loc subst (forward-tvar subst id1))
     loc2 (forward-tvar subst id2) (num-loc subst (forward-tvar subst id2))
 
-abbrev pub stopped : Step → Open
+abbrev pub stopped : Outcome → Open
 stopped a = record { what = Stop (a .out); used = a .used }
 
 -- an answer, given what follows

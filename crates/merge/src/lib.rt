@@ -10,8 +10,8 @@ use subst::Binding;
 use table::Found;
 use table::Node;
 use table::Out;
+use table::Outcome;
 use table::Shape;
-use table::Step;
 use table::TypingError;
 use table::Used;
 
@@ -44,7 +44,7 @@ pub struct Open {
     pub used: Used,
 }
 
-fn stopped(a: Step) -> Open
+fn stopped(a: Outcome) -> Open
     ensures { λ r. ⌜ r ≡ stopped a ⌝ }
 {
     let o = a.out;
@@ -57,18 +57,18 @@ fn stopped(a: Step) -> Open
 
 // A variable met another type: the answer, or a fresh variable that took the type, to merge with.
 pub enum Meet {
-    Is(Step),
+    Is(Outcome),
     Merge(Used, TVar),
 }
 
 // The type of a chain's end: a new `_` where it is not bound.
-fn type_of(w: &mut [u32], u: Used, loc: u32, id: TVar) -> Step
+fn type_of(w: &mut [u32], u: Used, loc: u32, id: TVar) -> Outcome
     requires { ⌜ Lay (now w) u ⌝ }
     ensures { λ r. ⌜ After (now (w .entry)) u (now (w .exit)) r (λ s. type-of s loc (id .0)) ⌝ }
 {
     match table::bound_at(w, u, id) {
         Found::Nothing => table::push_node(w, u, loc, Shape::Anything),
-        Found::Just(t) => Step {
+        Found::Just(t) => Outcome {
             out: Out::Done(t),
             used: u,
         },
@@ -167,7 +167,7 @@ pub fn open_tvar(w: &mut [u32], u: Used, v1: VarAt, v2: VarAt) -> Open
 }
 
 // An operand's type as an error shows it: the variable where it is `_`.
-fn shown(w: &mut [u32], u: Used, ty: u32, id: TVar) -> Step
+fn shown(w: &mut [u32], u: Used, ty: u32, id: TVar) -> Outcome
     requires { ⌜ Lay (now w) u × (ty < u .nodes) ⌝ }
     ensures { λ r. ⌜ After (now (w .entry)) u (now (w .exit)) r (λ s. shown s ty (id .0)) ⌝ }
 {
@@ -176,14 +176,14 @@ fn shown(w: &mut [u32], u: Used, ty: u32, id: TVar) -> Step
     if shapes::is_anything(s) {
         return table::push_node(w, u, n.loc, Shape::Var(id));
     }
-    Step {
+    Outcome {
         out: Out::Done(ty),
         used: u,
     }
 }
 
 // The numeric check failed.
-fn show_both(w: &mut [u32], u: Used, ty1: u32, id1: TVar, ty2: u32, id2: TVar) -> Step
+fn show_both(w: &mut [u32], u: Used, ty1: u32, id1: TVar, ty2: u32, id2: TVar) -> Outcome
     requires { ⌜ Lay (now w) u × ((ty1 < u .nodes) × (ty2 < u .nodes)) ⌝ }
     ensures { λ r. ⌜ After (now (w .entry)) u (now (w .exit)) r (λ s. show-both s ty1 (id1 .0) ty2 (id2 .0)) ⌝ }
 {
@@ -199,14 +199,14 @@ fn show_both(w: &mut [u32], u: Used, ty1: u32, id1: TVar, ty2: u32, id2: TVar) -
     let Found::Just(shown2) = table::done_of(bo) else {
         return b;
     };
-    Step {
+    Outcome {
         out: Out::Failed(TypingError::Incompatible(shown1, shown2)),
         used: bu,
     }
 }
 
 // After the inner join: the fresh variable takes the joined type.
-pub fn close_tvar(w: &mut [u32], u: Used, v1: VarAt, v2: VarAt, m: Merging, new_ty: u32) -> Step
+pub fn close_tvar(w: &mut [u32], u: Used, v1: VarAt, v2: VarAt, m: Merging, new_ty: u32) -> Outcome
     requires { ⌜ Lay (now w) u × ((m .ty1 < u .nodes) × ((m .ty2 < u .nodes) × ((m .var2 < u .nodes) × («new_ty» < u .nodes)))) ⌝ }
     ensures { λ r. ⌜ After (now (w .entry)) u (now (w .exit)) r (λ s. close-tvar s (m .ty1) (v1 .1 .0) (m .ty2) (v2 .0) (v2 .1 .0) (m .«new_tvar» .0) (m .var2) «new_ty») ⌝ }
 {
@@ -215,18 +215,18 @@ pub fn close_tvar(w: &mut [u32], u: Used, v1: VarAt, v2: VarAt, m: Merging, new_
     match table::bound_at(w, u, m.new_tvar) {
         Found::Just(t) => {
             let n = table::node_at(w, u, t);
-            Step {
+            Outcome {
                 out: Out::Failed(TypingError::RecursiveType(n.loc)),
                 used: u,
             }
         }
         Found::Nothing => match subst::join_bind_tvar(w, u, m.new_tvar, new_ty) {
-            Binding::Bound => Step {
+            Binding::Bound => Outcome {
                 out: Out::Done(var2),
                 used: u,
             },
             Binding::Failed => show_both(w, u, m.ty1, v1.1, m.ty2, v2.1),
-            Binding::Recursive => Step {
+            Binding::Recursive => Outcome {
                 out: Out::Failed(TypingError::RecursiveType(loc2)),
                 used: u,
             },
@@ -235,21 +235,29 @@ pub fn close_tvar(w: &mut [u32], u: Used, v1: VarAt, v2: VarAt, m: Merging, new_
 }
 
 // The variable at node `var`, not bound, takes the other type.
-fn join_unbound(w: &mut [u32], u: Used, lhs: u32, rhs: u32, var: u32, id: TVar, other: u32) -> Step
+fn join_unbound(
+    w: &mut [u32],
+    u: Used,
+    lhs: u32,
+    rhs: u32,
+    var: u32,
+    id: TVar,
+    other: u32,
+) -> Outcome
     requires { ⌜ Lay (now w) u × ((lhs < u .nodes) × ((rhs < u .nodes) × ((var < u .nodes) × (other < u .nodes)))) ⌝ }
     ensures { λ r. ⌜ After (now (w .entry)) u (now (w .exit)) r (λ s. join-unbound s lhs rhs var (id .0) other) ⌝ }
 {
     let n = table::node_at(w, u, var);
     match subst::join_bind_tvar(w, u, id, other) {
-        Binding::Bound => Step {
+        Binding::Bound => Outcome {
             out: Out::Done(var),
             used: u,
         },
-        Binding::Failed => Step {
+        Binding::Failed => Outcome {
             out: Out::Failed(TypingError::Incompatible(lhs, rhs)),
             used: u,
         },
-        Binding::Recursive => Step {
+        Binding::Recursive => Outcome {
             out: Out::Failed(TypingError::RecursiveType(n.loc)),
             used: u,
         },

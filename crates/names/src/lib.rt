@@ -46,7 +46,7 @@ impl AbilitySet {
 }
 
 // An ability mark on a named type.
-pub enum Mark {
+pub enum AbilityMark {
     Absent,
     Set(AbilitySet),
 }

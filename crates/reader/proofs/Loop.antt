@@ -16,7 +16,7 @@ use Rattle.definition.specs.Build.{build, build-all}
 use Rattle.table.specs.Rows.{struct-table}
 use Rattle.table.specs.State.{Lay, Grown, After, Declares, view, seen, done}
 use Rattle.table.specs.declared.Used.{Used}
-use Rattle.table.specs.declared.Step.{Step}
+use Rattle.table.specs.declared.Outcome.{Outcome}
 use Rattle.table.specs.declared.Shape.{Shape}
 use Rattle.table.proofs.Rows.{length-entries}
 use Rattle.table.proofs.Steps.{grown-refl, grown-trans}
@@ -171,7 +171,7 @@ module _ (w₀ : List ℕ) (u₀ : Used) (b : List ℕ) (end known nest : ℕ) (
 
 pub go-all : (w₀ : List ℕ) (u₀ : Used) (b : List ℕ) (end known nest : ℕ) (over₀ : Bool) (n at : ℕ) (w : List ℕ) (u : Used) (next : ℕ) (over : Bool) (parts : List ℕ) (i : ℕ)
     → Going w₀ u₀ b end known nest over₀ n at w u next over parts i → n ≤ i → (loc : ℕ) (h : Shape) → n ≡ many-parts h
-    → (w′ : List ℕ) (x : Step) → After w u w′ x (put-node over loc h (take (many-parts h) parts)) → (p : Part) → p ≡ found-part (done (x .out))
+    → (w′ : List ℕ) (x : Outcome) → After w u w′ x (put-node over loc h (take (many-parts h) parts)) → (p : Part) → p ≡ found-part (done (x .out))
     → Takes w₀ u₀ b end known over₀ (λ s. tree-read (Begun h loc at) b end (read-nested nest s)) w′ (record { part = p; used = x .used; next = next })
 go-all w₀ u₀ b end known nest over₀ n at w u next over parts i g l loc h m w′ x a p q =
     let z : i ≡ n = (let y = g .left in omega arith) in

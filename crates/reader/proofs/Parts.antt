@@ -60,7 +60,7 @@ ref-is loc m t over part l s = by (part l) over
     by (got x k) false = placing (build x s) k
     by (not-read y) over = refl
 
-apply-is : (loc : ℕ) (h : Shape) (k : d.Mark) (n : d.TypeName) (over : Bool) (x : Read Trees) (s : State) → ((tys : List ℕ) → with-parts h tys ≡ d.Apply k n tys)
+apply-is : (loc : ℕ) (h : Shape) (k : d.AbilityMark) (n : d.TypeName) (over : Bool) (x : Read Trees) (s : State) → ((tys : List ℕ) → with-parts h tys ≡ d.Apply k n tys)
     → place-read over build (go-on x (λ ts. give (apply-tree loc k n ts))) s ≡ then-node loc h (place-read over build-all x s)
 unfolding _>>=_ go-on give place-read build
 apply-is loc h k n true (got ts l) s e = refl

@@ -12,9 +12,9 @@ use heads::Head;
 use heads::read_head;
 use table::Found;
 use table::Out;
+use table::Outcome;
 use table::Refusal;
 use table::Shape;
-use table::Step;
 use table::Used;
 use table::done_of;
 use table::push_apply;
@@ -45,12 +45,19 @@ pub fn part_count(shape: Shape) -> usize
 }
 
 // The node of a type whose parts are placed, unless space has ended.
-fn place_node(w: &mut [u32], u: Used, over: bool, loc: u32, shape: Shape, parts: [u32; 8]) -> Step
+fn place_node(
+    w: &mut [u32],
+    u: Used,
+    over: bool,
+    loc: u32,
+    shape: Shape,
+    parts: [u32; 8],
+) -> Outcome
     requires { ⌜ Lay (now w) u × ((many-parts shape ≤ 8) × (over ≡ false → Parts-below (u .nodes) parts (many-parts shape))) ⌝ }
     ensures { λ r. ⌜ After (now (w .entry)) u (now (w .exit)) r (put-node over loc shape (take (many-parts shape) parts)) ⌝ }
 {
     if over {
-        return Step {
+        return Outcome {
             out: Out::Refused(Refusal::Full),
             used: u,
         };

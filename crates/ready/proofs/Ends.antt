@@ -12,7 +12,7 @@ use Rattle.definition.specs.Subst.{next-of, forward, forward-tvar}
 use Rattle.names.specs.declared.TVar.{TVar}
 use Rattle.table.specs.State.{seen}
 use Rattle.table.specs.declared.Used.{Used}
-use Rattle.table.specs.declared.Step.{Step}
+use Rattle.table.specs.declared.Outcome.{Outcome}
 use Rattle.table.specs.declared.Out.{Out}
 use Rattle.shapes.specs.Parts.{next}
 use Rattle.ready.specs.Ends.{Ends-by, Noted, Meets, Ends-known}
@@ -138,5 +138,5 @@ meets-end {w} {u} {v} {longest} r m x long z = rw z at m
 
 -- ---- an answer anew
 
-pub same-step : (s : Step) (o : Out) → s .out ≡ o → record { out = o; used = s .used } ≡ s
+pub same-step : (s : Outcome) (o : Out) → s .out ≡ o → record { out = o; used = s .used } ≡ s
 same-step s o e = ap (λ (x : Out). record { out = x; used = s .used }) (sym e)

@@ -21,7 +21,7 @@ use Rattle.table.specs.declared.Shape.{Shape}
 use Rattle.table.specs.declared.Shape.the-variants.{Anything as AnythingS}
 use Rattle.shapes.specs.Parts.{part-count}
 use Rattle.subst.specs.Answers.{unfolded, Unfolded-in, Unfolds}
-use Rattle.ready.specs.Itself.{Goes-on, Higher, Ends-at, Marked, Levels, Soon}
+use Rattle.ready.specs.Itself.{Goes-on, Higher, Ends-at, Measured, Levels, Soon}
 use Rattle.subst.specs.declared.Unfolded.{Unfolded}
 use Rattle.subst.specs.declared.Unfolded.the-variants.{Node as NodeU, Anything}
 use Rattle.ready.proofs.Lists.{all-all, all-one}
@@ -112,7 +112,7 @@ ends-zero s t = refl
 -- ---- the loop over the parts
 
 -- the parts before i are over in `high` levels, and the parts together not in fewer
-pub record Read (w : List ℕ) (u : Used) (t left : ℕ) (sh : Shape) (many : ℕ) (marks : List ℕ) (high i : ℕ) : Type 0 where
+pub record Read (w : List ℕ) (u : Used) (t left : ℕ) (sh : Shape) (many : ℕ) (heights : List ℕ) (high i : ℕ) : Type 0 where
   pub lay : Lay w u
   pub in-nodes : t < u .nodes
   pub room : left ≤ u .nodes
@@ -120,13 +120,13 @@ pub record Read (w : List ℕ) (u : Used) (t left : ℕ) (sh : Shape) (many : �
   pub goes : Goes-on w u t sh
   pub many-is : many ≡ part-count (shape-of sh)
   pub le : i ≤ many
-  pub marked : Marked w u marks
+  pub marked : Measured w u heights
   pub over : (ds : List Struct) (j : ℕ) → j < i → (m : ℕ) → high ≤ m → ends-in m (seen w u ds) (getD (goes-on-to (seen w u ds) t) j 0) ≡ true
   pub no-fewer : (ds : List Struct) (m : ℕ) → m < high → all-of (λ p. ends-in m (seen w u ds) p) (goes-on-to (seen w u ds) t) ≡ false
 
-pub read-none : (w : List ℕ) (u : Used) (t left : ℕ) (sh : Shape) (many : ℕ) (marks : List ℕ) → Lay w u → t < u .nodes → left ≤ u .nodes → (left ≡ 0 → ⊥) → Goes-on w u t sh → many ≡ part-count (shape-of sh) → Marked w u marks
-    → Read w u t left sh many marks 0 0
-read-none w u t left sh many marks h i r n g e m = record {
+pub read-none : (w : List ℕ) (u : Used) (t left : ℕ) (sh : Shape) (many : ℕ) (heights : List ℕ) → Lay w u → t < u .nodes → left ≤ u .nodes → (left ≡ 0 → ⊥) → Goes-on w u t sh → many ≡ part-count (shape-of sh) → Measured w u heights
+    → Read w u t left sh many heights 0 0
+read-none w u t left sh many heights h i r n g e m = record {
   lay = h;
   in-nodes = i;
   room = r;
@@ -140,14 +140,14 @@ read-none w u t left sh many marks h i r n g e m = record {
 }
 
 -- an answer that is known already
-pub levels-known : (w : List ℕ) (u : Used) (t left : ℕ) (marks : List ℕ) → Marked w u marks → 0 < getD marks t 0 → Levels w u t left (getD marks t 0)
-levels-known w u t left marks m p = record { over = λ q. m .ends t p; not-over = λ z. absurd (omega arith) }
+pub levels-known : (w : List ℕ) (u : Used) (t left : ℕ) (heights : List ℕ) → Measured w u heights → 0 < getD heights t 0 → Levels w u t left (getD heights t 0)
+levels-known w u t left heights m p = record { over = λ q. m .ends t p; not-over = λ z. absurd (omega arith) }
 
 -- no levels are left
 pub levels-none : (w : List ℕ) (u : Used) (t left : ℕ) → left ≡ 0 → Levels w u t left 0
 levels-none w u t left z = record { over = λ q. absurd (not-suc-le-zero q); not-over = λ y ds. ap (λ (n : ℕ). ends-in n (seen w u ds) t) z ∙ ends-zero (seen w u ds) t }
 
-module _ {w : List ℕ} {u : Used} {t left : ℕ} {sh : Shape} {many : ℕ} {marks : List ℕ} {high i : ℕ} (h : Read w u t left sh many marks high i) where
+module _ {w : List ℕ} {u : Used} {t left : ℕ} {sh : Shape} {many : ℕ} {heights : List ℕ} {high i : ℕ} (h : Read w u t left sh many heights high i) where
   one-less : (n : ℕ) → 0 < n → n ≡ suc (n - 1)
   one-less n p = omega arith
 
@@ -169,8 +169,8 @@ module _ {w : List ℕ} {u : Used} {t left : ℕ} {sh : Shape} {many : ℕ} {mar
       pub levels-out : n ≡ 0 → Levels w u t left 0
       levels-out z = record { over = λ q. absurd (not-suc-le-zero q); not-over = λ y ds. all-parts ds ∙ part-out ds (left - 1) (r .not-over z ds) }
 
-      pub read-more : (n ≡ 0 → ⊥) → (high′ : ℕ) → Higher high n high′ → (marks′ : List ℕ) → Marked w u marks′ → Read w u t left sh many marks′ high′ (i + 1)
-      read-more z high′ k marks′ c = record {
+      pub read-more : (n ≡ 0 → ⊥) → (high′ : ℕ) → Higher high n high′ → (heights′ : List ℕ) → Measured w u heights′ → Read w u t left sh many heights′ high′ (i + 1)
+      read-more z high′ k heights′ c = record {
         lay = h .lay;
         in-nodes = h .in-nodes;
         room = h .room;
@@ -219,18 +219,18 @@ module _ {w : List ℕ} {u : Used} {t left : ℕ} {sh : Shape} {many : ℕ} {mar
     pub levels-here : high < u .nodes → Levels w u t left (high + 1)
     levels-here b = record { over = λ q. ends-here b; not-over = λ z. absurd (omega arith) }
 
--- ---- the marks
+-- ---- the heights
 
-pub marked-more : (w : List ℕ) (u : Used) (t n : ℕ) (marks : List ℕ) → Marked w u marks → t < 2048 → Ends-at w u t n → Marked w u (set marks t n)
-marked-more w u t n marks m l e = record { size = length-set marks t n ∙ m .size; ends = λ x p. by x p (ℕ-discrete x t) }
+pub marked-more : (w : List ℕ) (u : Used) (t n : ℕ) (heights : List ℕ) → Measured w u heights → t < 2048 → Ends-at w u t n → Measured w u (set heights t n)
+marked-more w u t n heights m l e = record { size = length-set heights t n ∙ m .size; ends = λ x p. by x p (ℕ-discrete x t) }
   where
-    by : (x : ℕ) → 0 < getD (set marks t n) x 0 → Dec (x ≡ t) → Ends-at w u x (getD (set marks t n) x 0)
-    by x p (yes y) = rw (y, getD-set-same marks t n 0 (rw (m .size) l)) e
+    by : (x : ℕ) → 0 < getD (set heights t n) x 0 → Dec (x ≡ t) → Ends-at w u x (getD (set heights t n) x 0)
+    by x p (yes y) = rw (y, getD-set-same heights t n 0 (rw (m .size) l)) e
     by x p (no y) =
-        let z = getD-set-other marks t x n 0 y in
+        let z = getD-set-other heights t x n 0 y in
         rw z (m .ends x (rw z at p))
 
-pub marked-none : (w : List ℕ) (u : Used) → Marked w u (replicate 2048 0)
+pub marked-none : (w : List ℕ) (u : Used) → Measured w u (replicate 2048 0)
 marked-none w u = record { size = length-replicate {A = ℕ} 2048 0; ends = λ t p. absurd (let z = zero-at 2048 t (decLt t 2048) in omega arith) }
 
 -- ---- the whole test

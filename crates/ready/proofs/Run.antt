@@ -17,12 +17,12 @@ use Rattle.definition.specs.Store.{count, taken, node, nowhere, args-at, with-a
 use Rattle.definition.specs.Subst.{as-var, parts, next-in, next-of, forward, forward-tvar, reaches-itself, ready-value, ready, ready-tvars}
 use Rattle.names.specs.Names.{mark-of, name-of}
 use Rattle.names.specs.declared.TVar.{TVar}
-use Rattle.names.specs.declared.Mark.{Mark}
+use Rattle.names.specs.declared.AbilityMark.{AbilityMark}
 use Rattle.names.specs.declared.TypeName.{TypeName}
 use Rattle.table.specs.State.{found, shape-of, node-of, done, outcome, view, seen, Lay, Below, Grown, Front, Any, After, Parts as Parts-in}
 use Rattle.table.specs.declared.Used.{Used}
 use Rattle.table.specs.declared.Node.{Node}
-use Rattle.table.specs.declared.Step.{Step}
+use Rattle.table.specs.declared.Outcome.{Outcome}
 use Rattle.table.specs.declared.Shape.{Shape}
 use Rattle.table.specs.declared.Shape.the-variants.{Ref as RefS, Apply as ApplyS, Var as VarS}
 use Rattle.table.specs.declared.Found.{Found}
@@ -197,14 +197,14 @@ module _ (w : List ℕ) (u : Used) (t : ℕ) (h : Lay w u) (i : t < u .nodes) (n
       pub ref-in : (tys : List ℕ) → Parts-in (u .nodes) tys many → getD tys 0 0 < u .nodes
       ref-in tys k = k .below 0 (let o = ref-one in omega arith)
 
-      pub anew-ref : (tys : List ℕ) (w′ : List ℕ) (r : Step) → After w u w′ r (λ s. sp s (n .loc) (d.Ref m (getD tys 0 0))) → After w u w′ r (λ s. rebuilt-at s t (take many tys))
+      pub anew-ref : (tys : List ℕ) (w′ : List ℕ) (r : Outcome) → After w u w′ r (λ s. sp s (n .loc) (d.Ref m (getD tys 0 0))) → After w u w′ r (λ s. rebuilt-at s t (take many tys))
       unfolding rebuilt with-args
       anew-ref tys w′ r a = after-is (λ ds k.
           let o = ref-one in
           let l : 0 < many = omega arith in
           sym (rw (z, getD-take many tys 0 0 l) refl) ∙ anew (take many tys) ds) a
 
-    pub anew-apply : (k : Mark) (name : TypeName) (first old : ℕ) → n .shape ≡ ApplyS k name first old → (tys w′ : List ℕ) (r : Step) → After w u w′ r (λ s. sp s (n .loc) (d.Apply (mark-of k) (name-of name) (take many tys)))
+    pub anew-apply : (k : AbilityMark) (name : TypeName) (first old : ℕ) → n .shape ≡ ApplyS k name first old → (tys w′ : List ℕ) (r : Outcome) → After w u w′ r (λ s. sp s (n .loc) (d.Apply (mark-of k) (name-of name) (take many tys)))
         → After w u w′ r (λ s. rebuilt-at s t (take many tys))
     unfolding rebuilt with-args
     anew-apply k name first old z tys w′ r a = after-is (λ ds x. sym (rw z refl) ∙ anew (take many tys) ds) a
@@ -245,7 +245,7 @@ module _ (w₀ : List ℕ) (u : Used) (w : List ℕ) (cur : Used) (t : ℕ) (h :
   value-kept ds =
       ap (λ (x : d.Node). with-args (view w cur) (x .value)) (node-kept ds) ∙ shape-kept t (node (view w₀ u) t .value) g (h .inside .parts t (omega (arith, count-view w₀ u)))
 
-  pub anew-kept : {w′ : List ℕ} {r : Step} (tys : List ℕ) → After w cur w′ r (λ s. rebuilt-at s t tys) → After w cur w′ r (anew-with w₀ u t tys)
+  pub anew-kept : {w′ : List ℕ} {r : Outcome} (tys : List ℕ) → After w cur w′ r (λ s. rebuilt-at s t tys) → After w cur w′ r (anew-with w₀ u t tys)
   unfolding rebuilt-at anew-with loc-of
   anew-kept tys a = after-is (λ ds k. ap₂ (λ (x : d.Node) (y : d.Type-value). rebuilt (seen w cur ds) t (x .loc) y tys) (node-kept ds) (value-kept ds)) a
 
@@ -334,7 +334,7 @@ module _ (w₀ : List ℕ) (u : Used) (w : List ℕ) (cur : Used) (h : Lay w₀ 
   known-kept ends t = record { short = t .short; is = λ v p ds. t .is v p ds ∙ sym (end-kept ds v) }
 
 -- the ends stay known while a type is made ready
-pub known-after : {w : List ℕ} {cur : Used} (left t : ℕ) {w₁ : List ℕ} {a : Step} {b : Found} {x : ℕ} {ends : List ℕ} → Lay w cur → After w cur w₁ a (λ s. ready left s t) → b ≡ done (a .out) → b ≡ Just x → Ends-known w cur ends
+pub known-after : {w : List ℕ} {cur : Used} (left t : ℕ) {w₁ : List ℕ} {a : Outcome} {b : Found} {x : ℕ} {ends : List ℕ} → Lay w cur → After w cur w₁ a (λ s. ready left s t) → b ≡ done (a .out) → b ≡ Just x → Ends-known w cur ends
     → Ends-known w₁ (a .used) ends
 known-after {w} {cur} left t {w₁} {a} {b} {x} {ends} h f p q =
     known-kept w cur w₁ (a .used) h (f .changed .grown) (λ ds. vars-same left (seen w cur ds) (seen w₁ (a .used) ds) t x (sym (done-ok (a .out) (seen w₁ (a .used) ds) x (sym p ∙ q) ∙ f .changed .is ds tt))) ends
@@ -359,7 +359,7 @@ module _ (w₀ : List ℕ) (u : Used) (t many : ℕ) (h : Lay w₀ u) (i : t < u
   parts-start left e = walk-start h long (rw counted (few-parts (view w₀ u .args) t (node (view w₀ u) t .value) below)) e
 
   -- the walk over the parts is a level of ready_tvars
-  pub parts-walked : (left : ℕ) {w′ : List ℕ} {r : Step} → After w₀ u w′ r (rest (ready left) (anew-with w₀ u t) [] (parts-of w₀ u t)) → After w₀ u w′ r (λ s. by-parts-at (λ s t. ready left s t) s t)
+  pub parts-walked : (left : ℕ) {w′ : List ℕ} {r : Outcome} → After w₀ u w′ r (rest (ready left) (anew-with w₀ u t) [] (parts-of w₀ u t)) → After w₀ u w′ r (λ s. by-parts-at (λ s t. ready left s t) s t)
   unfolding by-parts-at by-parts rest anew-with type-at loc-of with-args args-at node seen with-structs
   parts-walked left a = after-is (λ ds k. refl) a
 
@@ -386,14 +386,14 @@ module _ (w : List ℕ) (u : Used) (t calls : ℕ) (h : Lay w u) (r : Landing) (
   unfolding outcome
   lands-spent z = after-now h tt (λ ds k. lands-at Spent z ds)
 
-  pub lands-open : (loc : ℕ) (v : TVar) → r ≡ OpenL loc v → (w′ : List ℕ) (a : Step) → After w u w′ a (λ s. sp s loc (d.Var (v .0))) → After w u w′ a (λ s. ready calls s t)
+  pub lands-open : (loc : ℕ) (v : TVar) → r ≡ OpenL loc v → (w′ : List ℕ) (a : Outcome) → After w u w′ a (λ s. sp s loc (d.Var (v .0))) → After w u w′ a (λ s. ready calls s t)
   lands-open loc v z w′ a f = after-is (λ ds k. lands-at (OpenL loc v) z ds) f
 
   module _ (x many left : ℕ) (z : r ≡ PartsL x many left) where
     pub lands-in : Landing-in w u calls (PartsL x many left)
     lands-in = subst (Landing-in w u calls) z (g .inside)
 
-    pub lands-parts : (w′ : List ℕ) (a : Step) → After w u w′ a (λ s. by-parts-at (λ s t. ready left s t) s x) → After w u w′ a (λ s. ready calls s t)
+    pub lands-parts : (w′ : List ℕ) (a : Outcome) → After w u w′ a (λ s. by-parts-at (λ s t. ready left s t) s x) → After w u w′ a (λ s. ready calls s t)
     lands-parts w′ a f = after-is (λ ds k. lands-at (PartsL x many left) z ds) f
 
     bare : (s : State) (l : List ℕ) → parts (type-at s x) ≡ l → length l ≡ 0 → rebuilt-at s x [] ≡ by-parts-at (λ s t. ready left s t) s x
@@ -401,7 +401,7 @@ module _ (w : List ℕ) (u : Used) (t calls : ℕ) (h : Lay w u) (r : Landing) (
     bare s [] e m = sym (rw (e, map-types) refl)
     bare s (y ∷ ys) e m = absurd (omega arith)
 
-    pub lands-bare : many ≡ 0 → (w′ : List ℕ) (a : Step) → After w u w′ a (λ s. rebuilt-at s x []) → After w u w′ a (λ s. ready calls s t)
+    pub lands-bare : many ≡ 0 → (w′ : List ℕ) (a : Outcome) → After w u w′ a (λ s. rebuilt-at s x []) → After w u w′ a (λ s. ready calls s t)
     lands-bare m w′ a f = lands-parts w′ a (after-is (λ ds k. bare (seen w u ds) (parts (type-at (seen w u ds) x)) refl (lands-in .1 .1 ds ∙ m)) f)
 
 -- ---- the whole run
@@ -411,7 +411,7 @@ module _ (w : List ℕ) (u : Used) (t : ℕ) (h : Lay w u) (b : Bool) (e : (ds :
   unfolding outcome ready-tvars
   run-stop z = after-now h tt (λ ds k. sym (let y = sym (e ds) ∙ z in rw (y, ready-tvars) refl))
 
-  pub run-on : b ≡ false → (w′ : List ℕ) (r : Step) → After w u w′ r (λ s. ready (u .nodes * 2) s t) → After w u w′ r (λ s. ready-tvars s t)
+  pub run-on : b ≡ false → (w′ : List ℕ) (r : Outcome) → After w u w′ r (λ s. ready (u .nodes * 2) s t) → After w u w′ r (λ s. ready-tvars s t)
   unfolding ready-tvars
   run-on z w′ r a = after-is (λ ds k.
       let y = sym (e ds) ∙ z in

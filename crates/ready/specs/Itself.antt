@@ -33,9 +33,9 @@ pub record Ends-at (w : List ℕ) (u : Used) (t n : ℕ) : Type 0 where
   pub no-fewer : (ds : List Struct) (m : ℕ) → m < n → ends-in m (seen w u ds) t ≡ false
 
 -- a number that is marked says so of its node
-pub record Marked (w : List ℕ) (u : Used) (marks : List ℕ) : Type 0 where
-  pub size : length marks ≡ 2048
-  pub ends : (t : ℕ) → 0 < getD marks t 0 → Ends-at w u t (getD marks t 0)
+pub record Measured (w : List ℕ) (u : Used) (heights : List ℕ) : Type 0 where
+  pub size : length heights ≡ 2048
+  pub ends : (t : ℕ) → 0 < getD heights t 0 → Ends-at w u t (getD heights t 0)
 
 -- so says any answer but 0, which says that it is not over in `left` levels
 pub record Levels (w : List ℕ) (u : Used) (t left r : ℕ) : Type 0 where

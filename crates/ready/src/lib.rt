@@ -12,16 +12,16 @@ ghost use Rattle.table.specs.State.{seen, Lay, After, Parts};
 ghost use Rattle.table.specs.declared.Out.the-variants.{Done};
 ghost use Rattle.subst.specs.Answers.{Unfolds};
 ghost use Rattle.ready.specs.Ends.{Ends-by, Noted, Meets, Ends-known};
-ghost use Rattle.ready.specs.Itself.{Goes-on, Higher, Levels, Marked, Soon};
+ghost use Rattle.ready.specs.Itself.{Goes-on, Higher, Levels, Measured, Soon};
 ghost use Rattle.ready.specs.Ready.{Goes, Lands, Has-parts, eight, rebuilt-at, by-parts-at};
 use names::TVar;
 use shapes::Next;
 use subst::Unfolded;
 use table::Found;
 use table::Out;
+use table::Outcome;
 use table::Refusal;
 use table::Shape;
-use table::Step;
 use table::Used;
 
 // How ready_tvars goes on from a type: to so many parts, to an open variable's end, or to what a variable is bound to.
@@ -191,16 +191,16 @@ fn higher(a: u32, b: u32) -> u32
 }
 
 // In how many levels reading node t is over; 0 if not in `left`. A node's answer is marked, so that each node is read once.
-pub fn levels(w: &[u32], u: Used, t: u32, left: u32, ends: &[u32], marks: &mut [u16]) -> u32
-    requires { ⌜ Lay (now w) u × ((t < u .nodes) × ((left ≤ u .nodes) × Marked (now w) u (now marks))) ⌝ }
+pub fn levels(w: &[u32], u: Used, t: u32, left: u32, ends: &[u32], heights: &mut [u16]) -> u32
+    requires { ⌜ Lay (now w) u × ((t < u .nodes) × ((left ≤ u .nodes) × Measured (now w) u (now heights))) ⌝ }
     requires { ⌜ Ends-known (now w) u (now ends) ⌝ }
-    ensures { λ r. ⌜ Levels (now (w .entry)) u t left r × Marked (now (w .entry)) u (now (marks .exit)) ⌝ }
+    ensures { λ r. ⌜ Levels (now (w .entry)) u t left r × Measured (now (w .entry)) u (now (heights .exit)) ⌝ }
 {
     if left == 0 {
         return 0;
     }
     let at = shapes::wide(t);
-    let known = marks[at];
+    let known = heights[at];
     if 0 < known {
         return known as u32;
     }
@@ -210,7 +210,7 @@ pub fn levels(w: &[u32], u: Used, t: u32, left: u32, ends: &[u32], marks: &mut [
     let mut i: u32 = 0;
     while i < many {
         let p = shapes::part_at(w, u, s, i);
-        let n = levels(w, u, p, left - 1, ends, marks);
+        let n = levels(w, u, p, left - 1, ends, heights);
         if n == 0 {
             return 0;
         }
@@ -220,7 +220,7 @@ pub fn levels(w: &[u32], u: Used, t: u32, left: u32, ends: &[u32], marks: &mut [
     if u.nodes <= high {
         return 0;
     }
-    marks[at] = narrow(high + 1);
+    heights[at] = narrow(high + 1);
     high + 1
 }
 
@@ -251,18 +251,18 @@ fn soon_over(w: &[u32], u: Used, t: u32, left: u32, budget: u32, ends: &[u32]) -
     rest
 }
 
-// The test with marks, for a type of any size.
+// The test with heights, for a type of any size.
 fn never_over(w: &[u32], u: Used, t: u32, ends: &[u32]) -> bool
     requires { ⌜ Lay (now w) u × (t < u .nodes) ⌝ }
     requires { ⌜ Ends-known (now w) u (now ends) ⌝ }
     ensures { λ r. ⌜ ((ds : List d.Struct) → r ≡ reaches-itself (seen (now (w .entry)) u ds) t) ⌝ }
 {
-    let mut marks: [u16; 2048] = [0; 2048];
-    let n = levels(w, u, t, u.nodes, ends, &mut marks);
+    let mut heights: [u16; 2048] = [0; 2048];
+    let n = levels(w, u, t, u.nodes, ends, &mut heights);
     n == 0
 }
 
-// A type of fewer than 64 parts needs no marks, and no ends are noted for it.
+// A type of fewer than 64 parts needs no heights, and no ends are noted for it.
 fn near_over(w: &[u32], u: Used, t: u32) -> bool
     requires { ⌜ Lay (now w) u × (t < u .nodes) ⌝ }
     ensures { λ r. ⌜ (r ≡ true → (ds : List d.Struct) → false ≡ reaches-itself (seen (now (w .entry)) u ds) t) ⌝ }
@@ -354,17 +354,17 @@ fn widened(t: [u16; 8]) -> [u32; 8]
     ]
 }
 
-fn stays(u: Used, t: u32) -> Step
+fn stays(u: Used, t: u32) -> Outcome
     ensures { λ r. ⌜ r ≡ record { out = Done t; used = u } ⌝ }
 {
-    Step {
+    Outcome {
         out: Out::Done(t),
         used: u,
     }
 }
 
 // An answer, field by field: copied whole, its padding would take 16 bytes more of each level's stack.
-fn anew(s: Step) -> Step
+fn anew(s: Outcome) -> Outcome
     ensures { λ r. ⌜ r ≡ s ⌝ }
 {
     let u = s.used;
@@ -374,11 +374,11 @@ fn anew(s: Step) -> Step
         Out::Failed(e) => Out::Failed(e),
         Out::Refused(r) => Out::Refused(r),
     };
-    Step { out: x, used: u }
+    Outcome { out: x, used: u }
 }
 
 // Node t anew, with these parts; a type without parts and without a name stays.
-fn rebuild(w: &mut [u32], u: Used, t: u32, ready: [u16; 8], many: u32) -> Step
+fn rebuild(w: &mut [u32], u: Used, t: u32, ready: [u16; 8], many: u32) -> Outcome
     requires { ⌜ Lay (now w) u × ((t < u .nodes) × (Has-parts (now w) u t many × Parts (u .nodes) ready many)) ⌝ }
     ensures { λ r. ⌜ After (now (w .entry)) u (now (w .exit)) r (λ s. rebuilt-at s t (take many ready)) ⌝ }
 {
@@ -393,7 +393,7 @@ fn rebuild(w: &mut [u32], u: Used, t: u32, ready: [u16; 8], many: u32) -> Step
     }
 }
 
-fn rebuild_bare(w: &mut [u32], u: Used, t: u32) -> Step
+fn rebuild_bare(w: &mut [u32], u: Used, t: u32) -> Outcome
     requires { ⌜ Lay (now w) u × ((t < u .nodes) × Has-parts (now w) u t 0) ⌝ }
     ensures { λ r. ⌜ After (now (w .entry)) u (now (w .exit)) r (λ s. rebuilt-at s t []) ⌝ }
 {
@@ -402,7 +402,7 @@ fn rebuild_bare(w: &mut [u32], u: Used, t: u32) -> Step
 }
 
 // The parts of node t, one after the other; then the node. The call for a part is the only one that a level waits for: 224 bytes of stack.
-fn ready_types(w: &mut [u32], u: Used, t: u32, many: u32, left: u32, ends: &[u32]) -> Step
+fn ready_types(w: &mut [u32], u: Used, t: u32, many: u32, left: u32, ends: &[u32]) -> Outcome
     requires { ⌜ Lay (now w) u × ((t < u .nodes) × (Has-parts (now w) u t many × Ends-known (now w) u (now ends))) ⌝ }
     ensures { λ r. ⌜ After (now (w .entry)) u (now (w .exit)) r (λ s. by-parts-at (λ s t. ready left s t) s t) ⌝ }
 {
@@ -431,7 +431,7 @@ fn ready_types(w: &mut [u32], u: Used, t: u32, many: u32, left: u32, ends: &[u32
 }
 
 // ready_tvars, at most `left` calls deep.
-fn ready(w: &mut [u32], u: Used, t: u32, left: u32, ends: &[u32]) -> Step
+fn ready(w: &mut [u32], u: Used, t: u32, left: u32, ends: &[u32]) -> Outcome
     requires { ⌜ Lay (now w) u × ((t < u .nodes) × Ends-known (now w) u (now ends)) ⌝ }
     ensures { λ r. ⌜ After (now (w .entry)) u (now (w .exit)) r (λ s. ready left s t) ⌝ }
 {
@@ -443,7 +443,7 @@ fn ready(w: &mut [u32], u: Used, t: u32, left: u32, ends: &[u32]) -> Step
             ready_types(w, u, x, many, calls, ends)
         }
         Landing::Open(loc, v) => table::push_node(w, u, loc, Shape::Var(v)),
-        Landing::Spent => Step {
+        Landing::Spent => Outcome {
             out: Out::Refused(Refusal::RunsIntoItself),
             used: u,
         },
@@ -451,7 +451,7 @@ fn ready(w: &mut [u32], u: Used, t: u32, left: u32, ends: &[u32]) -> Step
 }
 
 // A type of fewer than 64 parts: no ends are noted.
-fn ready_near(w: &mut [u32], u: Used, t: u32) -> Step
+fn ready_near(w: &mut [u32], u: Used, t: u32) -> Outcome
     requires { ⌜ Lay (now w) u × (t < u .nodes) ⌝ }
     ensures { λ r. ⌜ After (now (w .entry)) u (now (w .exit)) r (λ s. ready (u .nodes * 2) s t) ⌝ }
 {
@@ -461,14 +461,14 @@ fn ready_near(w: &mut [u32], u: Used, t: u32) -> Step
 }
 
 // A type of any size: every end is noted first, for the test and for the run.
-fn ready_far(w: &mut [u32], u: Used, t: u32) -> Step
+fn ready_far(w: &mut [u32], u: Used, t: u32) -> Outcome
     requires { ⌜ Lay (now w) u × (t < u .nodes) ⌝ }
     ensures { λ r. ⌜ After (now (w .entry)) u (now (w .exit)) r (λ s. ready-tvars s t) ⌝ }
 {
     let mut ends: [u32; 1024] = [0; 1024];
     note_ends(w, u, &mut ends);
     if never_over(w, u, t, &ends) {
-        return Step {
+        return Outcome {
             out: Out::Refused(Refusal::RunsIntoItself),
             used: u,
         };
@@ -478,7 +478,7 @@ fn ready_far(w: &mut [u32], u: Used, t: u32) -> Step
 }
 
 // Replaces every bound variable by its binding, in every part.
-pub fn ready_tvars(w: &mut [u32], u: Used, t: u32) -> Step
+pub fn ready_tvars(w: &mut [u32], u: Used, t: u32) -> Outcome
     requires { ⌜ Lay (now w) u × (t < u .nodes) ⌝ }
     ensures { λ r. ⌜ After (now (w .entry)) u (now (w .exit)) r (λ s. ready-tvars s t) ⌝ }
 {

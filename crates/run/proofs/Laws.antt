@@ -21,7 +21,7 @@ use Rattle.table.specs.State.{outcome, done, view, seen, Lay, Any, Refines, Cha
 use Rattle.table.specs.State as table
 use Rattle.theorems.proofs.SoundFacts.{test}
 use Rattle.table.specs.declared.Used.{Used}
-use Rattle.table.specs.declared.Step.{Step}
+use Rattle.table.specs.declared.Outcome.{Outcome}
 use Rattle.table.specs.declared.Found.{Found}
 use Rattle.table.specs.declared.Found.the-variants.{Nothing, Just}
 use Rattle.table.specs.declared.Out.{Out}
@@ -63,10 +63,10 @@ abbrev shows : Bool → Show → State → State × ℕ → Result (State × Byt
 shows kept show before x = ok (if kept then x .0 else before, shown show (x .1) (x .0))
 
 -- a step's answer as a run's
-abbrev as-run : Step → Show → Bool → Ran
+abbrev as-run : Outcome → Show → Bool → Ran
 as-run a show kept = record { out = a .out; used = a .used; show = show; kept = kept }
 
-module _ {w : List ℕ} {u : Used} {w′ : List ℕ} (a : Step) (step : State → Result (State × ℕ)) (f : State → State → Result (State × Bytes)) (show : Show) (kept : Bool) (follows : (s before : State) → (step s >>= shows kept show before) ≡ f s before) where
+module _ {w : List ℕ} {u : Used} {w′ : List ℕ} (a : Outcome) (step : State → Result (State × ℕ)) (f : State → State → Result (State × Bytes)) (show : Show) (kept : Bool) (follows : (s before : State) → (step s >>= shows kept show before) ≡ f s before) where
   -- for the declarations in K
   run-changed : {K : List Struct → Type 0} → Refines K w u w′ (a .used) (outcome (a .out)) step → Tells (a .used) show (a .out) → {r : Ran} → r ≡ as-run a show kept → Runs K w u w′ r kept step f
   unfolding ran
@@ -79,7 +79,7 @@ module _ {w : List ℕ} {u : Used} {w′ : List ℕ} (a : Step) (step : State �
         is = λ ds k before. ap (λ (x : Result (State × ℕ)). x >>= shows kept show before) (c .is ds k) ∙ follows (seen w u ds) before;
       })
 
-module _ {w : List ℕ} {u : Used} {w′ : List ℕ} {a : Step} (step : State → Result (State × ℕ)) (f : State → State → Result (State × Bytes)) (kept : Bool) (follows : (s before : State) → (step s >>= shows kept Node before) ≡ f s before) where
+module _ {w : List ℕ} {u : Used} {w′ : List ℕ} {a : Outcome} (step : State → Result (State × ℕ)) (f : State → State → Result (State × Bytes)) (kept : Bool) (follows : (s before : State) → (step s >>= shows kept Node before) ≡ f s before) where
   run-after : {K : List Struct → Type 0} → When K w u w′ a step → {r : Ran} → r ≡ as-run a Node kept → Runs K w u w′ r kept step f
   run-after c e = run-changed a step f Node kept follows (c .changed) (tells-node (a .used) (a .out) (c .inside)) e
 
@@ -89,7 +89,7 @@ two-follows : (case : j.TypingCase) (lhs rhs : ℕ) (s before : State) → (join
 unfolding two-run shown
 two-follows case lhs rhs s before = refl
 
-module _ {w : List ℕ} {u : Used} {w′ : List ℕ} {a : Step} (lhs rhs : ℕ) where
+module _ {w : List ℕ} {u : Used} {w′ : List ℕ} {a : Outcome} (lhs rhs : ℕ) where
   pub ran-join : (case : TypingCase) → case ≡ CaseJoin → After w u w′ a (λ s. join s lhs rhs) → {r : Ran} → r ≡ as-run a Node true → Runs Any w u w′ r true (λ s. join-in (case-of case) s lhs rhs) (two-run (case-of case) lhs rhs)
   unfolding join-in
   ran-join case q c e = rw q (run-after _ _ true (two-follows j.Join lhs rhs) c e)
@@ -171,7 +171,7 @@ num-follows loc s before = go (next-tvar s)
 tells-var : (loc : ℕ) (v : Used) (o : Out) (s : State) → No-error (outcome o s) → Var-in (v .vars) o → Tells v (Variable loc) o
 tells-var loc v o s n i = tells-plain v (Variable loc) o s n (λ t q. rw q at i)
 
-module _ {w : List ℕ} {u : Used} {w′ : List ℕ} {a : Step} where
+module _ {w : List ℕ} {u : Used} {w′ : List ℕ} {a : Outcome} where
   pub ran-tparams : (ps : List (ℕ × ℕ)) (t : ℕ) (b : Bool) → made b ps ≡ make-tparam-subst ps → b ≡ true → After w u w′ a (λ s. subst-tparams ps s t) → {r : Ran} → r ≡ as-run a Node false → Runs Any w u w′ r false (subst-in ps t) (tparams-run ps t)
   unfolding subst-in tparams-run shown _>>=_
   ran-tparams ps t b m q c e = run-after (subst-in ps t) (tparams-run ps t) false follows (after-is (λ ds k. substitutes (seen w u ds)) c) e
@@ -197,7 +197,7 @@ module _ {w : List ℕ} {u : Used} {w′ : List ℕ} {a : Step} where
 
 -- ---- FV, NV
 
-module _ {w : List ℕ} {u : Used} {w′ : List ℕ} (a : Step) where
+module _ {w : List ℕ} {u : Used} {w′ : List ℕ} (a : Outcome) where
   pub ran-tvar : (loc : ℕ) → Changed w u w′ a (λ s. next-tvar s) × Var-in (a .used .vars) (a .out) → {r : Ran} → r ≡ as-run a (Variable loc) true → Runs Any w u w′ r true (λ s. next-tvar s) (tvar-run loc)
   ran-tvar loc c e = run-changed a _ _ (Variable loc) true (tvar-follows loc) (c .0) (tells-var loc (a .used) (a .out) (seen w′ (a .used) []) (subst (λ (x : Result (State × ℕ)). No-error x) (sym (c .0 .is [] tt)) (tvar-plain (seen w u []))) (c .1)) e
 
@@ -267,7 +267,7 @@ declare-number s abilities params = go (ltb (length (s .structs)) 256) _ refl
     go true x e = ltb→lt _ _ (test e)
     go false x e = omega arith
 
-module _ {w : List ℕ} {u : Used} {w′ : List ℕ} {a : Step} {abilities n : ℕ} (c : table.Declared w u w′ a abilities n) where
+module _ {w : List ℕ} {u : Used} {w′ : List ℕ} {a : Outcome} {abilities n : ℕ} (c : table.Declared w u w′ a abilities n) where
   blanks : List Struct
   blanks = replicate (u .structs) (record { abilities = 0; params = [] })
 

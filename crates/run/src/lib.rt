@@ -31,13 +31,13 @@ use payload::Show;
 use subst::Unfolded;
 use table::Found;
 use table::Out;
+use table::Outcome;
 use table::Refusal;
-use table::Step;
 use table::Used;
 use tparams::TParamSubst;
 
 // What a step's answer is as a run's.
-fn shown(a: Step, show: Show, kept: bool) -> Ran
+fn shown(a: Outcome, show: Show, kept: bool) -> Ran
     ensures { λ r. ⌜ r ≡ record { out = a .out; used = a .used; show = show; kept = kept } ⌝ }
 {
     let o = a.out;

@@ -13,7 +13,7 @@ use Rattle.table.specs.State.{node-of, shape-of, value-of, view, seen, Lay, Whe
 use Rattle.table.specs.declared.Shape.{Shape}
 use Rattle.table.specs.declared.Shape.the-variants.{Ref}
 use Rattle.table.specs.declared.Node.{Node}
-use Rattle.table.specs.declared.Step.{Step}
+use Rattle.table.specs.declared.Outcome.{Outcome}
 use Rattle.table.specs.declared.Used.{Used}
 use Rattle.table.specs.declared.Out.{Out}
 use Rattle.table.specs.declared.Out.the-variants.{Refused}
@@ -36,7 +36,7 @@ pub record Levels (down : ℕ → Walk) (value : Walk → State → ℕ → ℕ 
   pub level : (n : ℕ) (s : State) (ty : ℕ) → value (down n) s ty (loc-of s ty) (type-at s ty) ≡ down (suc n) s ty
 
 module _ {down : ℕ → Walk} {value : Walk → State → ℕ → ℕ → d.Type-value → Result (State × ℕ)} (levels : Levels down value) (w : List ℕ) (u : Used) (left ty : ℕ) (lay : Lay w u) where
-  pub level-none : {K : List Struct → Type 0} {r : Step} → left ≡ 0 → r ≡ record { out = Refused RunsIntoItself; used = u } → When K w u w r (λ s. down left s ty)
+  pub level-none : {K : List Struct → Type 0} {r : Outcome} → left ≡ 0 → r ≡ record { out = Refused RunsIntoItself; used = u } → When K w u w r (λ s. down left s ty)
   unfolding outcome
   level-none z e = rw (z, e) (after-now lay tt (λ ds k. levels .none-left (seen w u ds) ty))
 
@@ -51,12 +51,12 @@ module _ {down : ℕ → Walk} {value : Walk → State → ℕ → ℕ → d.Typ
         ∙ ap (λ (n : ℕ). down n (seen w u ds) ty) z
 
     -- what is done for the shape sh, f, is what value says of it
-    pub level-by : {K : List Struct → Type 0} {sh : Shape} {w′ : List ℕ} {r : Step} {f : State → Result (State × ℕ)} → nd .shape ≡ sh
+    pub level-by : {K : List Struct → Type 0} {sh : Shape} {w′ : List ℕ} {r : Outcome} {f : State → Result (State × ℕ)} → nd .shape ≡ sh
         → ((ds : List Struct) → f (seen w u ds) ≡ value (down (left - 1)) (seen w u ds) ty (nd .loc) (with-args (seen w u ds) (shape-of sh))) → When K w u w′ r f → When K w u w′ r (λ s. down left s ty)
     level-by e q a = after-is (λ ds k. q ds ∙ level-is e ds) a
 
     -- .. is to answer o
-    pub level-stays : {K : List Struct → Type 0} {sh : Shape} (o : Out) {r : Step} → nd .shape ≡ sh → r ≡ record { out = o; used = u } → Nodes-in (u .nodes) o
+    pub level-stays : {K : List Struct → Type 0} {sh : Shape} (o : Out) {r : Outcome} → nd .shape ≡ sh → r ≡ record { out = o; used = u } → Nodes-in (u .nodes) o
         → ((s : State) → outcome o s ≡ value (down (left - 1)) s ty (nd .loc) (with-args s (shape-of sh))) → When K w u w r (λ s. down left s ty)
     level-stays o e f i q = rw f (after-now lay i (λ ds k. q (seen w u ds) ∙ level-is e ds))
 
@@ -65,11 +65,11 @@ module _ {down : ℕ → Walk} {value : Walk → State → ℕ → ℕ → d.Typ
 abbrev pub then-ref : (State → Result (State × ℕ)) → ℕ → Bool → State → Result (State × ℕ)
 then-ref f loc m s = f s >>= (λ p. sp (p .0) loc (d.Ref m (p .1)))
 
-module _ {K : List Struct → Type 0} {f : State → Result (State × ℕ)} (loc : ℕ) (m : Bool) {w : List ℕ} {u : Used} {w′ : List ℕ} {a : Step} {b : Found} (inner : When K w u w′ a f) (b-is : b ≡ done (a .out)) where
+module _ {K : List Struct → Type 0} {f : State → Result (State × ℕ)} (loc : ℕ) (m : Bool) {w : List ℕ} {u : Used} {w′ : List ℕ} {a : Outcome} {b : Found} (inner : When K w u w′ a f) (b-is : b ≡ done (a .out)) where
   pub ref-stop : b ≡ Nothing → When K w u w′ a (then-ref f loc m)
   ref-stop q = after-stop (λ p. sp (p .0) loc (d.Ref m (p .1))) inner b-is q
 
-  pub ref-then : {p : ℕ} {w₂ : List ℕ} {r : Step} → b ≡ Just p → After w′ (a .used) w₂ r (λ s. sp s loc (value-of (Ref m p))) → When K w u w₂ r (then-ref f loc m)
+  pub ref-then : {p : ℕ} {w₂ : List ℕ} {r : Outcome} → b ≡ Just p → After w′ (a .used) w₂ r (λ s. sp s loc (value-of (Ref m p))) → When K w u w₂ r (then-ref f loc m)
   ref-then q x = after-then (a .out) (λ p. sp (p .0) loc (d.Ref m (p .1))) (inner .changed) b-is q (after-any x)
 
 -- ---- a named type's arguments gone through
@@ -92,14 +92,14 @@ module _ {K : List Struct → Type 0} {f : Walk} {h : List ℕ → State → Res
       pub through-in : t < u .nodes
       through-in = omega (arith, t-is, g .named .smaller i lt, nodes-grow w₀ u₀ w u (g .walked .changed .grown))
 
-      module _ {w′ : List ℕ} {a : Step} {b : Found} (step : When K w u w′ a (λ s. f s t)) (b-is : b ≡ done (a .out)) where
+      module _ {w′ : List ℕ} {a : Outcome} {b : Found} (step : When K w u w′ a (λ s. f s t)) (b-is : b ≡ done (a .out)) where
         pub through-stop : b ≡ Nothing → When K w₀ u₀ w′ a (rest f h [] (args-at (view w₀ u₀) (places first many)))
         through-stop q = walk-stop (g .walked) lt t-is step b-is q
 
         pub through-more : {p at : ℕ} → b ≡ Just p → at ≡ i → Through K f h first many w₀ u₀ w′ (a .used) (set parts at p) (i + 1)
         through-more q e = record { walked = walk-more (g .walked) lt t-is step b-is q e; named = g .named }
 
-    pub through-end : {w′ : List ℕ} {r : Step} → many ≤ i → When K w u w′ r (h (take many parts)) → When K w₀ u₀ w′ r (rest f h [] (args-at (view w₀ u₀) (places first many)))
+    pub through-end : {w′ : List ℕ} {r : Outcome} → many ≤ i → When K w u w′ r (h (take many parts)) → When K w₀ u₀ w′ r (rest f h [] (args-at (view w₀ u₀) (places first many)))
     through-end no-more x = walk-end (g .walked) no-more x
 
     pub through-parts : many ≤ i → Parts (u .nodes) parts many

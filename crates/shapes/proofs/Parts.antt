@@ -14,7 +14,7 @@ use Rattle.definition.specs.Types.{State}
 use Rattle.definition.specs.Store.{args-at, with-args}
 use Rattle.definition.specs.Subst.{as-var, parts}
 use Rattle.definition.specs.Join.{is-var}
-use Rattle.names.specs.declared.Mark.{Mark}
+use Rattle.names.specs.declared.AbilityMark.{AbilityMark}
 use Rattle.names.specs.declared.TypeName.{TypeName}
 use Rattle.table.specs.Rows.{places}
 use Rattle.table.specs.State.{shape-of}
@@ -40,7 +40,7 @@ ref-at s m t (suc i) h = absurd (omega arith)
 pub part-ref : (s : State) (sh : Shape) (m : Bool) (t i : ℕ) → sh ≡ Ref m t → i < part-count (shape-of sh) → t ≡ getD (parts (with-args s (shape-of sh))) i 0
 part-ref s sh m t i e h = rw e (ref-at s m t i (rw e at h))
 
-pub part-apply : (s : State) (sh : Shape) (k : Mark) (n : TypeName) (first many i r : ℕ) → sh ≡ Apply k n first many → i < part-count (shape-of sh)
+pub part-apply : (s : State) (sh : Shape) (k : AbilityMark) (n : TypeName) (first many i r : ℕ) → sh ≡ Apply k n first many → i < part-count (shape-of sh)
     → ((m : ℕ) → i < m → r ≡ getD (args-at s (places first m)) i 0) → r ≡ getD (parts (with-args s (shape-of sh))) i 0
 unfolding parts with-args places
 part-apply s sh k n first many i r e h f = rw e (f many (rw e at h))

@@ -12,7 +12,7 @@ ghost use Rattle.definition.specs.Constraints.{undecided, is-integer};
 ghost use Rattle.names.specs.Names.{name-of};
 ghost use Rattle.table.specs.State.{shape-of, seen, Lay};
 ghost use Rattle.shapes.specs.Parts.{next, part-count};
-use names::Mark;
+use names::AbilityMark;
 use names::TVar;
 use names::TypeName;
 use table::Shape;
@@ -26,7 +26,7 @@ pub enum Next {
 
 // What Shape::Apply holds, to pass it on whole.
 pub struct Applied {
-    pub k: Mark,
+    pub k: AbilityMark,
     pub n: TypeName,
     pub first: u32,
     pub many: u32,

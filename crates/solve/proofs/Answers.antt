@@ -15,7 +15,7 @@ use Rattle.definition.specs.Step.{answer, answer-with, refusal, max-payload, nu
 use Rattle.table.specs.State.{done, view, seen, Lay}
 use Rattle.table.specs.Known.{Known, Declared}
 use Rattle.table.specs.declared.Used.{Used}
-use Rattle.table.specs.declared.Step.{Step}
+use Rattle.table.specs.declared.Outcome.{Outcome}
 use Rattle.table.specs.declared.Found.{Found}
 use Rattle.table.specs.declared.Found.the-variants.{Nothing, Just}
 use Rattle.table.proofs.Known.{known-kept}
@@ -146,7 +146,7 @@ module _ {w : List ℕ} {u before : Used} {params : List (List ℕ)} {saved w′
 
 -- ---- from the state at entry
 
-module _ (w : List ℕ) (u : Used) (params : List (List ℕ)) (saved buf w₁ : List ℕ) (r : Step) (b : Found) (a : Answered w u w₁ r (λ s. numbered (default-num-vars s (num-vars 0 (s .vars))))) (p : b ≡ done (r .out)) (lay : Lay w u) (kept : Saved w u saved) where
+module _ (w : List ℕ) (u : Used) (params : List (List ℕ)) (saved buf w₁ : List ℕ) (r : Outcome) (b : Found) (a : Answered w u w₁ r (λ s. numbered (default-num-vars s (num-vars 0 (s .vars))))) (p : b ≡ done (r .out)) (lay : Lay w u) (kept : Saved w u saved) where
   solves : (w′ buf′ : List ℕ) (x : Answer) (f : State → State → step.Answer) → ((ds : List Struct) (before : State) → solve-answer (seen w u ds) before ≡ f (seen w₁ (r .used) ds) before)
       → Reports w₁ (r .used) u params saved buf w′ buf′ x f → Solves w u params buf w′ buf′ x
   solves w′ buf′ x f e c =

@@ -20,7 +20,7 @@ use Rattle.table.specs.Rows.{constraint-table}
 use Rattle.table.specs.State.{outcome, done, view, seen, Nodes-in}
 use Rattle.table.specs.Known.{Declared}
 use Rattle.table.specs.declared.Used.{Used}
-use Rattle.table.specs.declared.Step.{Step}
+use Rattle.table.specs.declared.Outcome.{Outcome}
 use Rattle.table.specs.declared.Found.{Found}
 use Rattle.table.specs.declared.Found.the-variants.{Nothing, Just}
 use Rattle.table.specs.declared.Out.{Out}
@@ -100,7 +100,7 @@ tells-nothing u (Done t) h = tt
 tells-nothing u (Failed x) h = h
 tells-nothing u (Refused x) h = tt
 
-module _ {w : List ℕ} {u : Used} {w′ : List ℕ} {r : Step} (a : Answered w u w′ r (λ s. numbered (default-num-vars s (num-vars 0 (s .vars))))) where
+module _ {w : List ℕ} {u : Used} {w′ : List ℕ} {r : Outcome} (a : Answered w u w′ r (λ s. numbered (default-num-vars s (num-vars 0 (s .vars))))) where
   pub fits : {params : List (List ℕ)} → Holds-sound w u params → Settles (r .out) → Fit (view w′ (r .used))
   fits h k =
       let ds = h .structs in

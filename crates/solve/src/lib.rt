@@ -181,9 +181,9 @@ fn solve_abilities(
     requires { ⌜ Tys-in (view (now w) u) × (All-bytes (view (now w) u) × (Declared (now w) u (now params) × (4096 ≤ length (now buf)))) ⌝ }
     ensures { λ r. ⌜ Reports (now (w .entry)) u before (now (params .entry)) (now (saved .entry)) (now (buf .entry)) (now (w .exit)) (now (buf .exit)) r solved ⌝ }
 {
-    let mut marks: [u16; 2048] = [0; 2048];
+    let mut heights: [u16; 2048] = [0; 2048];
     let mut sets: [u32; 2048] = [0; 2048];
-    let h = abilities::hinders(w, u, params, &mut marks, &mut sets);
+    let h = abilities::hinders(w, u, params, &mut heights, &mut sets);
     if 0 < h {
         return answer::refuse(w, u, before, saved, h);
     }

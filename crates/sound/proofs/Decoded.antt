@@ -10,7 +10,7 @@ use lib.Dec.{eqb, leb, ltb}
 use lib.ListN.{length, getD, length-replicate}
 use lib.Seq.{ext-getD}
 use borrow.Author.Tests.{ltb-true, leb-true, le-ltb}
-use Rattle.definition.specs.Types.{State, Cell, Shape, TypeName, Multiple, Builtin, ModuleType, Mark, UnitType, Ref, Param, Apply, Var, Anything, UnresolvedError, Places, unbound}
+use Rattle.definition.specs.Types.{State, Cell, Shape, TypeName, Multiple, Builtin, ModuleType, AbilityMark, UnitType, Ref, Param, Apply, Var, Anything, UnresolvedError, Places, unbound}
 use Rattle.definition.specs.Types.{Constraint, AbilityConstraint, NumericConstraint, BitsConstraint, OrderedConstraint, BaseTypeConstraint, SingleTypeConstraint}
 use Rattle.definition.specs.Store.{count, taken, with-structs, all-of}
 use Rattle.definition.specs.Trees.{mark-fits, is-set, is-mark, is-name}
@@ -41,7 +41,7 @@ unfolding flag
 flag-read true = refl
 flag-read false = refl
 
-mark-read : (k : Mark) → is-mark k ≡ true → read-mark (mark-word k) ≡ k
+mark-read : (k : AbilityMark) → is-mark k ≡ true → read-mark (mark-word k) ≡ k
 unfolding read-mark mark-word is-mark
 mark-read none e = refl
 mark-read (some x) e =
@@ -53,12 +53,12 @@ unfolding read-option option-flag option-word
 option-read none = refl
 option-read (some x) = refl
 
-apply-read : (loc : ℕ) (k : Mark) (n : TypeName) (p : Places) → is-mark k ≡ true
+apply-read : (loc : ℕ) (k : AbilityMark) (n : TypeName) (p : Places) → is-mark k ≡ true
     → read-shape (name-tag n) (mark-word k) (name-word n) (p .first) (p .many) ≡ Apply k n p
 unfolding read-shape name-tag name-word read-name places
-apply-read loc k (Multiple n) p e = ap (λ (m : Mark). Apply m (Multiple n) p) (mark-read k e)
-apply-read loc k (Builtin n) p e = ap (λ (m : Mark). Apply m (Builtin n) p) (mark-read k e)
-apply-read loc k (ModuleType n) p e = ap (λ (m : Mark). Apply m (ModuleType n) p) (mark-read k e)
+apply-read loc k (Multiple n) p e = ap (λ (m : AbilityMark). Apply m (Multiple n) p) (mark-read k e)
+apply-read loc k (Builtin n) p e = ap (λ (m : AbilityMark). Apply m (Builtin n) p) (mark-read k e)
+apply-read loc k (ModuleType n) p e = ap (λ (m : AbilityMark). Apply m (ModuleType n) p) (mark-read k e)
 
 shape-read : (s : State) → taken s ≤ 1024 → (loc : ℕ) (x : Shape Places) → shape-allowed s x ≡ true → read-node (shape-words loc x) ≡ record { loc = loc; value = x }
 unfolding read-node shape-words read-shape shape-allowed

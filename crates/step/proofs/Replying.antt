@@ -39,7 +39,7 @@ use Rattle.run.proofs.PlacedBytes as noded
 use Rattle.run.proofs.Inside.{known-structs}
 use Rattle.solve.specs.Solves.{Holds-sound, solve-answer, Solves}
 use Rattle.step.specs.Trusted.{held, Stands}
-use Rattle.outcome.specs.Outcome.{row-for, padded}
+use Rattle.verdict.specs.Verdict.{row-for, padded}
 use Rattle.step.specs.Replies.{Replied, Begun, Begins}
 use Rattle.step.proofs.Rows.{rows-of, rows-seen, held-known, known-rows, row-in, row-kept, arities-kept}
 use Rattle.step.proofs.Placing.{placed-SD, placed-SV}

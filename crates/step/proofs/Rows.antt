@@ -22,7 +22,7 @@ use Rattle.heads.specs.Fields.{Arities}
 use Rattle.table.specs.Known.{Known}
 use Rattle.run.specs.Runs.{with-row}
 use Rattle.step.specs.Trusted.{held}
-use Rattle.outcome.specs.Outcome.{row-for, padded}
+use Rattle.verdict.specs.Verdict.{row-for, padded}
 
 abbrev pub none : Struct
 none = struct-table .blank

@@ -42,8 +42,8 @@ use Rattle.run.specs.Dispatch.{noded-run}
 use Rattle.run.proofs.Placed.{run-placed}
 use Rattle.step.specs.declared.Stepped.{Stepped}
 use Rattle.step.specs.Trusted.{held, Stands, answered, unread, Steps}
-use Rattle.outcome.specs.declared.Outcome.the-variants.{Refused, Run}
-use Rattle.outcome.specs.Outcome.{rows-after, outcome-of, place-after}
+use Rattle.verdict.specs.declared.Verdict.the-variants.{Refused, Run}
+use Rattle.verdict.specs.Verdict.{rows-after, verdict-of, place-after}
 use Rattle.step.specs.Replies.{Replied, Begun, Begins, Ends, binding}
 use Rattle.step.proofs.Reading.{stop-is, Got, got-is, answered-not, unread-not, unread-got, answered-got}
 use Rattle.step.proofs.Keeping.{bytes-after, answered-sound, view-arities, partly-still}
@@ -111,7 +111,7 @@ number-is : {m n : ℕ} → Refused m ≡ Refused n → m ≡ n
 number-is e = cc
 
 -- what is run was placed, and no bytes are left over
-pub runs : (p : Whole) (over : Bool) (x : What) → Run x ≡ outcome-of p over → (p ≡ Placed x) × (over ≡ false)
+pub runs : (p : Whole) (over : Bool) (x : What) → Run x ≡ verdict-of p over → (p ≡ Placed x) × (over ≡ false)
 runs Malformed over x e = absurd (let z : _≡_ {A = ℕ} 0 1 = cc in omega arith)
 runs Unknown over x e = absurd (let z : _≡_ {A = ℕ} 0 1 = cc in omega arith)
 runs Doubled over x e = absurd (let z : _≡_ {A = ℕ} 0 1 = cc in omega arith)
@@ -212,7 +212,7 @@ module _ {w : List ℕ} {u : Used} {params : List (List ℕ)} (stream : Bytes) (
         numbered : number-of-refusal why ≡ number
         told : answered whole s₀ bytes ≡ refusal s₀ why
 
-      why-refused : (p : Whole) → f .read ≡ p → (b : Bool) → over ≡ b → {number : ℕ} → outcome-of p b ≡ Refused number → Why number
+      why-refused : (p : Whole) → f .read ≡ p → (b : Bool) → over ≡ b → {number : ℕ} → verdict-of p b ≡ Refused number → Why number
       unfolding number-of-refusal _>>=_ answer
       why-refused Malformed e b d n = record { why = malformed; numbered = number-is n; told = stopped-by whole malformed (read-is params c Malformed e) }
       why-refused Unknown e b d n = record { why = unknown-name; numbered = number-is n; told = stopped-by whole unknown-name (read-is params c Unknown e) }
@@ -222,7 +222,7 @@ module _ {w : List ℕ} {u : Used} {params : List (List ℕ)} (stream : Bytes) (
       why-refused (Placed x) e true d n = record { why = malformed; numbered = number-is n; told = told-placed (got-is (read-record s₀ bytes) _ (drop (f .next) stream) s₀ (read-is params c (Placed x) e)) true d }
       why-refused (Placed x) e false d n = absurd (let z : _≡_ {A = ℕ} 0 1 = cc in omega arith)
 
-      pub steps-refused : at ≤ length stream → {next : ℕ} → next ≡ place-after (f .read) at (f .next) → {number : ℕ} → Refused number ≡ outcome-of (f .read) over → {w′ : List ℕ} {a : Answer} → Refuses number w′ a
+      pub steps-refused : at ≤ length stream → {next : ℕ} → next ≡ place-after (f .read) at (f .next) → {number : ℕ} → Refused number ≡ verdict-of (f .read) over → {w′ : List ℕ} {a : Answer} → Refuses number w′ a
           → (buf : List ℕ) {r : Stepped} → r ≡ gone a next (u .vars) → Leaving whole buf w′ params buf r
       steps-refused le n e g buf q =
           let y = why-refused (f .read) refl over refl (sym e) in

@@ -12,15 +12,15 @@ ghost use Rattle.step.specs.Replies.{Begins, Ends};
 use fields::Fields;
 use fields::What;
 use names::AbilitySet;
-use outcome::Outcome;
-use outcome::left_over;
-use outcome::outcome_of;
-use outcome::padded;
-use outcome::place_after;
-use outcome::row_for;
-use outcome::rows_after;
 use payload::Answer;
 use table::Used;
+use verdict::Verdict;
+use verdict::left_over;
+use verdict::padded;
+use verdict::place_after;
+use verdict::row_for;
+use verdict::rows_after;
+use verdict::verdict_of;
 
 // One record's answer, the rows in use after it, where the rest of the stream begins, and how many of the saved rows still stand.
 pub struct Stepped {
@@ -143,10 +143,10 @@ pub fn step_trusted(
     let v = f.used;
     let kept = u.vars;
     let next = place_after(read, at, f.next);
-    let o = outcome_of(read, left_over(whole, f.next, stream.len()));
+    let o = verdict_of(read, left_over(whole, f.next, stream.len()));
     match o {
-        Outcome::Refused(number) => with_next(answer::refuse(w, v, u, saved, number), next, kept),
-        Outcome::Run(x) => {
+        Verdict::Refused(number) => with_next(answer::refuse(w, v, u, saved, number), next, kept),
+        Verdict::Run(x) => {
             let rows = rows_after(x, kept);
             with_next(answer_placed(w, v, u, params, saved, f, x, buf), next, rows)
         }

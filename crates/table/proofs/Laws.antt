@@ -28,7 +28,7 @@ module _ (w : List ℕ) (u : Used) (t : ℕ) (n : Node) (is : (ds : List Struct)
   parts-below h lt = subst (λ (x : d.Node). Below (view w u .args) t (x .value)) (sym (is [])) (h .inside .parts t (subst (λ (c : ℕ). t < c) (sym (count-view w u)) lt))
 
 -- what arg_at answers for such a node is below it
-pub arg-below : (w : List ℕ) (u : Used) (t first many i r : ℕ) (k : d.Mark) (c : d.TypeName) → Below (view w u .args) t (d.Apply k c (places first many)) → i < many
+pub arg-below : (w : List ℕ) (u : Used) (t first many i r : ℕ) (k : d.AbilityMark) (c : d.TypeName) → Below (view w u .args) t (d.Apply k c (places first many)) → i < many
     → ((ds : List Struct) (m : ℕ) → i < m → r ≡ getD (args-at (seen w u ds) (places first m)) i 0) → r < t
 unfolding places args-at seen with-structs
 arg-below w u t first many i r k c b lt is =

@@ -10,7 +10,7 @@ use Rattle.definition.specs.Types as d
 use Rattle.definition.specs.Store.{args-of, stored, sp, insert, get, num-loc, with-structs}
 use Rattle.definition.specs.Subst.{mark-one, or-insert}
 use Rattle.names.specs.Names.{mark-of, name-of}
-use Rattle.names.specs.declared.Mark.{Mark}
+use Rattle.names.specs.declared.AbilityMark.{AbilityMark}
 use Rattle.names.specs.declared.TypeName.{TypeName}
 use Rattle.table.specs.Rows.{Written, node-table, places}
 use Rattle.table.specs.State.{view, seen, Lay, Wrote, After, Stored, Flat, Found-in, Parts, Below, shape-of, value-of, node-at, found, with-cell}
@@ -68,7 +68,7 @@ flat-pushed w u loc s at r w′ h flat lt e wrote row =
 
 -- ---- a named type
 
-module _ (w : List ℕ) (u : Used) (loc : ℕ) (k : Mark) (name : TypeName) (parts : List ℕ) (n : ℕ) (h : Lay w u) (p : Parts (u .nodes) parts n) (long : length parts ≡ 8) (lt : u .nodes < 2048) where
+module _ (w : List ℕ) (u : Used) (loc : ℕ) (k : AbilityMark) (name : TypeName) (parts : List ℕ) (n : ℕ) (h : Lay w u) (p : Parts (u .nodes) parts n) (long : length parts ≡ 8) (lt : u .nodes < 2048) where
   abbrev v : d.Type-value
   v = d.Apply (mark-of k) (name-of name) (take n parts)
 

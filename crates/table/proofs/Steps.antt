@@ -7,7 +7,7 @@ use native.Mathlib.Omega.{arith}
 use Rattle.definition.specs.Types.{State, Struct, Result, ok, err, refused, _>>=_}
 use Rattle.definition.specs.Store.{with-structs}
 use Rattle.table.specs.State.{Lay, Front, Grown, Any, Refines, When, After, Nodes-in, Var-in, outcome, listed, seen, view, done}
-use Rattle.table.specs.declared.Step.{Step}
+use Rattle.table.specs.declared.Outcome.{Outcome}
 use Rattle.table.specs.declared.Used.{Used}
 use Rattle.table.specs.declared.Out.{Out}
 use Rattle.table.specs.declared.Out.the-variants.{Done, Failed, Refused}
@@ -161,7 +161,7 @@ module _ {K : List Struct → Type 0} {w : List ℕ} {u : Used} where
   pub after-now : {o : Out} {f : State → Result (State × ℕ)} → Lay w u → Nodes-in (u .nodes) o → ((ds : List Struct) → K ds → outcome o (seen w u ds) ≡ f (seen w u ds)) → When K w u w (record { out = o; used = u }) f
   after-now h i e = record { changed = refines-now h e; inside = i }
 
-  module _ {w′ : List ℕ} {r : Step} {f : State → Result (State × ℕ)} where
+  module _ {w′ : List ℕ} {r : Outcome} {f : State → Result (State × ℕ)} where
     pub after-is : {g : State → Result (State × ℕ)} → ((ds : List Struct) → K ds → f (seen w u ds) ≡ g (seen w u ds)) → When K w u w′ r f → When K w u w′ r g
     after-is e a = record { changed = refines-is e (a .changed); inside = a .inside }
 
@@ -177,7 +177,7 @@ module _ {K : List Struct → Type 0} {w : List ℕ} {u : Used} where
     pub after-done : {b : Found} {t : ℕ} → When K w u w′ r f → b ≡ done (r .out) → b ≡ Just t → t < r .used .nodes
     after-done {b} {t} a p q = node-in (r .used .nodes) (r .out) b t (a .inside) p q
 
-  module _ {w′ : List ℕ} {u′ : Used} {w₂ : List ℕ} {r : Step} where
+  module _ {w′ : List ℕ} {u′ : Used} {w₂ : List ℕ} {r : Outcome} where
     pub after-on : {A : Type 0} {answer f : State → A} (j : A → Result (State × ℕ)) → Refines K w u w′ u′ answer f → When K w′ u′ w₂ r (λ s. j (answer s)) → When K w u w₂ r (λ s. j (f s))
     after-on j a n = record { changed = refines-on j a (n .changed); inside = n .inside }
 

@@ -7,11 +7,11 @@ use native.Mathlib.Omega.{arith}
 use native.Mathlib.Decide.{decLt}
 use lib.ListN.{length, getD, set, take, drop, length-set, drop-of-length-le}
 use lib.Seq.{take-suc-set, drop-cons, getD-set-same, getD-set-other}
-use Rattle.definition.specs.Types.{Mark, TypeName, Apply, State, Struct, Result, ok, err, refused, _>>=_}
+use Rattle.definition.specs.Types.{AbilityMark, TypeName, Apply, State, Struct, Result, ok, err, refused, _>>=_}
 use Rattle.definition.specs.Store.{args-at, map-types, with-structs, sp}
 use Rattle.table.specs.Rows.{places}
 use Rattle.table.specs.State.{view, seen, Lay, Grown, Refines, When, Lists, Parts, Placed, Named, outcome, listed, done}
-use Rattle.table.specs.declared.Step.{Step}
+use Rattle.table.specs.declared.Outcome.{Outcome}
 use Rattle.table.specs.declared.Used.{Used}
 use Rattle.table.specs.declared.Out.the-variants.{Done}
 use Rattle.table.specs.declared.Found.{Found}
@@ -65,7 +65,7 @@ module _ {B : Type 0} {K : List Struct → Type 0} {f : State → ℕ → Result
 
   module _ {w : List ℕ} {u : Used} {parts : List ℕ} {i : ℕ} (wk : Walked K f h tys many w₀ u₀ w u parts i) where
     -- the step of type i
-    module _ {t : ℕ} {w′ : List ℕ} {r : Step} {b : Found} (lt : i < many) (t-is : t ≡ getD tys i 0) (a : When K w u w′ r (λ s. f s t)) (b-is : b ≡ done (r .out)) where
+    module _ {t : ℕ} {w′ : List ℕ} {r : Outcome} {b : Found} (lt : i < many) (t-is : t ≡ getD tys i 0) (a : When K w u w′ r (λ s. f s t)) (b-is : b ≡ done (r .out)) where
       next : State × ℕ → Result B
       next p = rest f h (take i parts ++ (p .1 ∷ [])) (drop (suc i) tys) (p .0)
 
@@ -113,7 +113,7 @@ module _ {B : Type 0} {K : List Struct → Type 0} {f : State → ℕ → Result
 -- ---- the same, where h answers a node
 
 module _ {K : List Struct → Type 0} {f : State → ℕ → Result (State × ℕ)} {h : List ℕ → State → Result (State × ℕ)} {tys : List ℕ} {many : ℕ} {w₀ : List ℕ} {u₀ : Used} {w : List ℕ} {u : Used} {parts : List ℕ} {i : ℕ} (wk : Walked K f h tys many w₀ u₀ w u parts i)
-    {w′ : List ℕ} {r : Step} where
+    {w′ : List ℕ} {r : Outcome} where
   pub walk-stop : {t : ℕ} {b : Found} → i < many → t ≡ getD tys i 0 → When K w u w′ r (λ s. f s t) → b ≡ done (r .out) → b ≡ Nothing → When K w₀ u₀ w′ r (rest f h [] tys)
   walk-stop lt t-is a p q = record { changed = refines-as (λ x. x) (walk-stops wk lt t-is a p q (λ x. ok x)) (λ s. sym (bind-ok (outcome (r .out) s))); inside = a .inside }
 
@@ -126,7 +126,7 @@ abbrev pub just-list : List ℕ → State → Result (State × List ℕ)
 just-list l s = ok (s, l)
 
 module _ {K : List Struct → Type 0} {f : State → ℕ → Result (State × ℕ)} {tys : List ℕ} {many : ℕ} {w₀ : List ℕ} {u₀ : Used} {w : List ℕ} {u : Used} {parts : List ℕ} {i : ℕ} (wk : Walked K f just-list tys many w₀ u₀ w u parts i) where
-  pub list-stop : {t : ℕ} {w′ : List ℕ} {r : Step} {b : Found} (n : ℕ) → i < many → t ≡ getD tys i 0 → When K w u w′ r (λ s. f s t) → b ≡ done (r .out) → b ≡ Nothing → Lists K w₀ u₀ w′ (r .used) (r .out) parts n (rest f just-list [] tys)
+  pub list-stop : {t : ℕ} {w′ : List ℕ} {r : Outcome} {b : Found} (n : ℕ) → i < many → t ≡ getD tys i 0 → When K w u w′ r (λ s. f s t) → b ≡ done (r .out) → b ≡ Nothing → Lists K w₀ u₀ w′ (r .used) (r .out) parts n (rest f just-list [] tys)
   unfolding listed
   list-stop n lt t-is a p q =
       record {
@@ -216,5 +216,5 @@ module _ (g : State → ℕ → ℕ → Result (State × ℕ)) (f : State → �
 
 -- ---- what follows a named type's arguments: its node
 
-unfoldable pub sp-apply : ℕ → Mark → TypeName → List ℕ → State → Result (State × ℕ)
+unfoldable pub sp-apply : ℕ → AbilityMark → TypeName → List ℕ → State → Result (State × ℕ)
 sp-apply loc k n tys s = sp s loc (Apply k n tys)

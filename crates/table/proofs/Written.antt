@@ -8,7 +8,7 @@ use native.Mathlib.Omega.{arith}
 use lib.Dec.{eqb}
 use lib.ListN.{length, take, replicate, length-replicate}
 use borrow.Author.Tests.{le-ltb}
-use Rattle.definition.specs.Types.{TypeName, Multiple, Builtin, ModuleType, Mark, Shape, UnitType, Ref, Param, Apply, Var, Anything, UnresolvedError, Places, Node, Cell}
+use Rattle.definition.specs.Types.{TypeName, Multiple, Builtin, ModuleType, AbilityMark, Shape, UnitType, Ref, Param, Apply, Var, Anything, UnresolvedError, Places, Node, Cell}
 use Rattle.definition.specs.Types.{Constraint, AbilityConstraint, NumericConstraint, BitsConstraint, OrderedConstraint, BaseTypeConstraint, SingleTypeConstraint, Struct}
 use Rattle.definition.specs.Subst.{or-insert}
 use Rattle.table.specs.Rows.{flag, read-mark, mark-word, read-option, option-flag, option-word, places, read-name, read-shape, read-node, name-tag, name-word, shape-words, node-words, node-table}
@@ -47,14 +47,14 @@ apply-again loc k (Multiple n) first many = refl
 apply-again loc k (Builtin b) first many = refl
 apply-again loc k (ModuleType n) first many = refl
 
-pub apply-row : (loc k : ℕ) (mark : Mark) (n : TypeName) (first many : ℕ) (r : List ℕ)
+pub apply-row : (loc k : ℕ) (mark : AbilityMark) (n : TypeName) (first many : ℕ) (r : List ℕ)
     → take 6 r ≡ name-tag n ∷ loc ∷ k ∷ name-word n ∷ first ∷ many ∷ [] → k ≡ mark-word mark → read-mark k ≡ mark
     → Written node-table r (record { loc = loc; value = Apply mark n (places first many) })
 unfolding node-words shape-words places
 apply-row loc k mark n first many r e f g =
     record {
       is = e ∙ ap (λ (x : ℕ). name-tag n ∷ loc ∷ x ∷ name-word n ∷ first ∷ many ∷ []) f;
-      again = ap (λ (x : ℕ). read-node (name-tag n ∷ loc ∷ x ∷ name-word n ∷ first ∷ many ∷ [])) (sym f) ∙ apply-again loc k n first many ∙ ap (λ (x : Mark). record { loc = loc; value = Apply x n (places first many) }) g;
+      again = ap (λ (x : ℕ). read-node (name-tag n ∷ loc ∷ x ∷ name-word n ∷ first ∷ many ∷ [])) (sym f) ∙ apply-again loc k n first many ∙ ap (λ (x : AbilityMark). record { loc = loc; value = Apply x n (places first many) }) g;
     }
 
 pub var-row : (loc v i : ℕ) → i ≡ v → i < 65536 → Written node-table (6 ∷ loc ∷ i ∷ 0 ∷ 0 ∷ 0 ∷ 0 ∷ 0 ∷ []) (record { loc = loc; value = Var v })

@@ -6,7 +6,7 @@ use mathlib.Core.Option.{Option, none, some}
 use Prim.Native.Nat.{ℕ, _+_, _*_, _-_, _<_, _%_}
 use lib.Dec.{eqb, ltb}
 use lib.ListN.{length, getD, take, replicate}
-use Rattle.definition.specs.Types.{TypeName, Multiple, Builtin, ModuleType, Mark, Shape, UnitType, Ref, Param, Apply, Var, Anything, UnresolvedError, Places, Node, Cell, unbound}
+use Rattle.definition.specs.Types.{TypeName, Multiple, Builtin, ModuleType, AbilityMark, Shape, UnitType, Ref, Param, Apply, Var, Anything, UnresolvedError, Places, Node, Cell, unbound}
 use Rattle.definition.specs.Types.{Constraint, AbilityConstraint, NumericConstraint, BitsConstraint, OrderedConstraint, BaseTypeConstraint, SingleTypeConstraint, Struct, if_then_else_}
 use Rattle.table.specs.Tab.{tab}
 
@@ -42,10 +42,10 @@ flag true = 1
 flag false = 0
 
 -- 0, or 16 and the set
-unfoldable pub read-mark : ℕ → Mark
+unfoldable pub read-mark : ℕ → AbilityMark
 read-mark x = if ltb x 16 then none else some ((x - 16) % 256)
 
-unfoldable pub mark-word : Mark → ℕ
+unfoldable pub mark-word : AbilityMark → ℕ
 mark-word none = 0
 mark-word (some set) = 16 + set
 

@@ -30,7 +30,7 @@ use Rattle.table.specs.declared.TypingError.{TypingError}
 use Rattle.table.specs.declared.TypingError.the-variants.{SubtypeError, Incompatible, ArityMismatch, RecursiveType}
 use Rattle.table.specs.declared.Refusal.{Refusal}
 use Rattle.table.specs.declared.Refusal.the-variants.{Full, TooDeep, RunsIntoItself, AbilitiesDisagree, OpenVariable, NoArgument, ParameterTwice}
-use Rattle.table.specs.declared.Step.{Step}
+use Rattle.table.specs.declared.Outcome.{Outcome}
 
 -- ---- answers as the definition has them
 
@@ -185,7 +185,7 @@ pub record Grown (s t : State) : Type 0 where
 -- ---- what a function does
 
 -- the counts after one more variable, and its number; or none is left
-unfoldable pub one-var : Used → Step
+unfoldable pub one-var : Used → Outcome
 one-var u =
     if ltb (u .vars) 1024
     then record { out = Done (u .vars); used = record { nodes = u .nodes; args = u .args; vars = u .vars + 1; constraints = u .constraints; structs = u .structs } }
@@ -204,7 +204,7 @@ pub record Refines {A : Type 0} (K : List Struct → Type 0) (w : List ℕ) (u :
   pub is : (ds : List Struct) → K ds → answer (seen w′ u′ ds) ≡ f (seen w u ds)
 
 -- .. and the answer is r
-abbrev pub Changed : List ℕ → Used → List ℕ → Step → (State → Result (State × ℕ)) → Type 0
+abbrev pub Changed : List ℕ → Used → List ℕ → Outcome → (State → Result (State × ℕ)) → Type 0
 Changed w u w′ r f = Refines Any w u w′ (r .used) (outcome (r .out)) f
 
 -- .. and no row was taken
@@ -231,12 +231,12 @@ Var-in n (Failed e) = Unit {0}
 Var-in n (Refused x) = Unit {0}
 
 -- the answer is r, a node, for the declarations in K
-pub record When (K : List Struct → Type 0) (w : List ℕ) (u : Used) (w′ : List ℕ) (r : Step) (f : State → Result (State × ℕ)) : Type 0 where
+pub record When (K : List Struct → Type 0) (w : List ℕ) (u : Used) (w′ : List ℕ) (r : Outcome) (f : State → Result (State × ℕ)) : Type 0 where
   pub changed : Refines K w u w′ (r .used) (outcome (r .out)) f
   pub inside : Nodes-in (r .used .nodes) (r .out)
 
 -- .. for all
-abbrev pub After : List ℕ → Used → List ℕ → Step → (State → Result (State × ℕ)) → Type 0
+abbrev pub After : List ℕ → Used → List ℕ → Outcome → (State → Result (State × ℕ)) → Type 0
 After w u w′ r f = When Any w u w′ r f
 
 -- w′ is w, but for n words of row from place `at` on
@@ -265,7 +265,7 @@ more Nothing ds x = ds
 more (Just n) ds x = ds ++ (x ∷ [])
 
 -- the words hold one struct row more, if there is room; its bytes ps stand beside them
-pub record Declared (w : List ℕ) (u : Used) (w′ : List ℕ) (r : Step) (abilities params : ℕ) : Type 0 where
+pub record Declared (w : List ℕ) (u : Used) (w′ : List ℕ) (r : Outcome) (abilities params : ℕ) : Type 0 where
   pub lay : Lay w′ (r .used)
   pub grown : Grown (view w u) (view w′ (r .used))
   pub is : (ds : List Struct) (ps : List ℕ) → length ds ≡ u .structs

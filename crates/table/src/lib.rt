@@ -12,13 +12,13 @@ ghost use Rattle.table.specs.Rows.{flag, read-shape, read-mark, read-nam
 ghost use Rattle.table.specs.Encode.{encode};
 ghost use Rattle.table.specs.State.{used-at, found, shape-of, node-of, node-at, cell, value-of, constraint-of, done, view, seen, Lay, Changed, After, Stored, Wrote, with-cell, Declares, Declared, Flat, Found-in, Parts, Var-in, one-var, pushed-constraint};
 ghost use Rattle.table.specs.State.{node-words-at, cell-words-at, constraint-words-at, struct-words-at};
+use names::AbilityMark;
 use names::AbilitySet;
 use names::MAX_ARGS;
 use names::MAX_CONSTRAINTS;
 use names::MAX_NODES;
 use names::MAX_STRUCTS;
 use names::MAX_VARS;
-use names::Mark;
 use names::TParamID;
 use names::TVar;
 use names::TypeName;
@@ -50,7 +50,7 @@ pub enum Shape {
     Unit,
     Ref(bool, u32),
     Param(TParamID, AbilitySet),
-    Apply(Mark, TypeName, u32, u32),
+    Apply(AbilityMark, TypeName, u32, u32),
     Var(TVar),
     Anything,
     UnresolvedError,
@@ -150,7 +150,7 @@ pub enum Out {
     Refused(Refusal),
 }
 
-pub struct Step {
+pub struct Outcome {
     pub out: Out,
     pub used: Used,
 }
@@ -305,22 +305,22 @@ fn flag_of(b: bool) -> u32
     if b { 1 } else { 0 }
 }
 
-fn mark_at(x: u32) -> Mark
+fn mark_at(x: u32) -> AbilityMark
     ensures { λ r. ⌜ mark-of r ≡ read-mark x ⌝ }
 {
     if x < 16 {
-        Mark::Absent
+        AbilityMark::Absent
     } else {
-        Mark::Set(set_at(x - 16))
+        AbilityMark::Set(set_at(x - 16))
     }
 }
 
-fn mark_word(m: Mark) -> u32
+fn mark_word(m: AbilityMark) -> u32
     ensures { λ r. ⌜ (r ≡ mark-word (mark-of m)) × (read-mark r ≡ mark-of m) ⌝ }
 {
     match m {
-        Mark::Absent => 0,
-        Mark::Set(a) => 16 + bits(a),
+        AbilityMark::Absent => 0,
+        AbilityMark::Set(a) => 16 + bits(a),
     }
 }
 
@@ -460,20 +460,20 @@ pub fn arg_at(w: &[u32], u: Used, first: u32, i: u32) -> u32
 }
 
 // sp of a type without arguments: a new node, if there is room for it.
-pub fn push_node(w: &mut [u32], u: Used, loc: u32, shape: Shape) -> Step
+pub fn push_node(w: &mut [u32], u: Used, loc: u32, shape: Shape) -> Outcome
     requires { ⌜ Lay (now w) u × Flat (u .nodes) shape ⌝ }
     ensures { λ r. ⌜ After (now (w .entry)) u (now (w .exit)) r (λ s. sp s loc (value-of shape)) ⌝ }
 {
     let n = u.nodes;
     if MAX_NODES <= n {
-        return Step {
+        return Outcome {
             out: Out::Refused(Refusal::Full),
             used: u,
         };
     }
     let row = row_of(loc, shape);
     put_row(w, NODES_AT, NODE_WORDS, n, row);
-    Step {
+    Outcome {
         out: Out::Done(n),
         used: Used {
             nodes: n + 1,
@@ -490,24 +490,24 @@ pub fn push_apply(
     w: &mut [u32],
     u: Used,
     loc: u32,
-    k: Mark,
+    k: AbilityMark,
     name: TypeName,
     parts: [u32; 8],
     n: u32,
-) -> Step
+) -> Outcome
     requires { ⌜ Lay (now w) u × Parts (u .nodes) parts n ⌝ }
     ensures { λ r. ⌜ After (now (w .entry)) u (now (w .exit)) r (λ s. sp s loc (d.Apply (mark-of k) (name-of name) (take n parts))) ⌝ }
 {
     let t = u.nodes;
     let first = u.args;
     if MAX_NODES <= t {
-        return Step {
+        return Outcome {
             out: Out::Refused(Refusal::Full),
             used: u,
         };
     }
     if MAX_ARGS - first < n {
-        return Step {
+        return Outcome {
             out: Out::Refused(Refusal::Full),
             used: u,
         };
@@ -515,7 +515,7 @@ pub fn push_apply(
     write_row(w, ARGS_AT + wide(first), parts, wide(n));
     let row = row_of(loc, Shape::Apply(k, name, first, n));
     put_row(w, NODES_AT, NODE_WORDS, t, row);
-    Step {
+    Outcome {
         out: Out::Done(t),
         used: Used {
             nodes: t + 1,
@@ -560,17 +560,17 @@ pub fn num_loc_at(w: &[u32], u: Used, v: TVar) -> Found
 }
 
 // The counts after one more variable, and its number; or none is left.
-fn var_taken(u: Used) -> Step
+fn var_taken(u: Used) -> Outcome
     ensures { λ r. ⌜ r ≡ one-var u ⌝ }
 {
     let n = u.vars;
     if MAX_VARS <= n {
-        return Step {
+        return Outcome {
             out: Out::Refused(Refusal::Full),
             used: u,
         };
     }
-    Step {
+    Outcome {
         out: Out::Done(n),
         used: Used {
             nodes: u.nodes,
@@ -592,16 +592,16 @@ fn next_tvar(used: &mut Used) -> Out
 }
 
 // The same for a caller that has the counts by value.
-fn one_var(u: Used) -> Step
+fn one_var(u: Used) -> Outcome
     ensures { λ r. ⌜ r ≡ one-var u ⌝ }
 {
     let mut v = u;
     let out = next_tvar(&mut v);
-    Step { out: out, used: v }
+    Outcome { out: out, used: v }
 }
 
 // A fresh variable. Its row is zero already.
-pub fn take_var(w: &mut [u32], u: Used) -> Step
+pub fn take_var(w: &mut [u32], u: Used) -> Outcome
     requires { ⌜ Lay (now w) u ⌝ }
     ensures { λ r. ⌜ Changed (now (w .entry)) u (now (w .exit)) r (λ s. next-tvar s) × Var-in (r .used .vars) (r .out) ⌝ }
 {
@@ -712,20 +712,20 @@ fn constraint_of(r: ConstraintWords) -> Constraint
 }
 
 // context.constraints.push; the answer is 0.
-pub fn push_constraint(w: &mut [u32], u: Used, c: Constraint) -> Step
+pub fn push_constraint(w: &mut [u32], u: Used, c: Constraint) -> Outcome
     requires { ⌜ Lay (now w) u ⌝ }
     ensures { λ r. ⌜ Changed (now (w .entry)) u (now (w .exit)) r (pushed-constraint (constraint-of c)) ⌝ }
 {
     let n = u.constraints;
     if MAX_CONSTRAINTS <= n {
-        return Step {
+        return Outcome {
             out: Out::Refused(Refusal::Full),
             used: u,
         };
     }
     let row = constraint_row(c);
     put_row(w, CONSTRAINTS_AT, CONSTRAINT_WORDS, n, row);
-    Step {
+    Outcome {
         out: Out::Done(0),
         used: Used {
             nodes: u.nodes,
@@ -749,13 +749,13 @@ pub fn constraint_at(w: &[u32], u: Used, i: u32) -> Constraint
 // ---- structs
 
 // A struct is declared: its row, without the parameter bytes, which stand beside the words.
-pub fn push_struct(w: &mut [u32], u: Used, abilities: AbilitySet, params: u32) -> Step
+pub fn push_struct(w: &mut [u32], u: Used, abilities: AbilitySet, params: u32) -> Outcome
     requires { ⌜ Lay (now w) u ⌝ }
     ensures { λ r. ⌜ Declared (now (w .entry)) u (now (w .exit)) r (abilities .0) params ⌝ }
 {
     let n = u.structs;
     if MAX_STRUCTS <= n {
-        return Step {
+        return Outcome {
             out: Out::Refused(Refusal::Full),
             used: u,
         };
@@ -768,7 +768,7 @@ pub fn push_struct(w: &mut [u32], u: Used, abilities: AbilitySet, params: u32) -
         n,
         [a, params, 0, 0, 0, 0, 0, 0],
     );
-    Step {
+    Outcome {
         out: Out::Done(n),
         used: Used {
             nodes: u.nodes,

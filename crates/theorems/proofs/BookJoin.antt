@@ -9,7 +9,7 @@ use native.Mathlib.Omega.{arith}
 use lib.ListN.{length, List·getD-eq-default}
 use lib.Dec.{eqb}
 use borrow.Author.Tests.{eqb-false, not-true, not-false, eq-eqb}
-use Rattle.definition.specs.Types.{TypeName, Multiple, Builtin, ModuleType, Mark, Type-value, Ref, Apply, UnresolvedError, Node, State}
+use Rattle.definition.specs.Types.{TypeName, Multiple, Builtin, ModuleType, AbilityMark, Type-value, Ref, Apply, UnresolvedError, Node, State}
 use Rattle.definition.specs.Types.{Incompatible, Result, err, _>>=_, if_then_else_}
 use Rattle.definition.specs.Store.{nowhere, count, node, type-at, with-args, sp}
 use Rattle.definition.specs.Join.{TypingCase, Join-impl, join-impl-types, join-mut, join-refs, same-name, is-multiple, same-mark, join-applies, arm, join-arm, join-impl}
@@ -154,7 +154,7 @@ module _ {ar : TypeName → ℕ} (join : Join-impl) (g : Judges ar join) (c : Ty
         }) (λ x. x) (sp-to (j .sound) _ (Ref m t) (ref-ok m t (denotes-in (j .is)))))
 
     -- lists, builtins and structs: apart where the names are, and else as their arguments are
-    applies-to : (k1 : Mark) (n1 : TypeName) (tys1 : List ℕ) (k2 : Mark) (n2 : TypeName) (tys2 : List ℕ) (Ls Rs : MoveTypes) (L R : MoveType) → Denote S tys1 Ls → Denote S tys2 Rs
+    applies-to : (k1 : AbilityMark) (n1 : TypeName) (tys1 : List ℕ) (k2 : AbilityMark) (n2 : TypeName) (tys2 : List ℕ) (Ls Rs : MoveTypes) (L R : MoveType) → Denote S tys1 Ls → Denote S tys2 Rs
         → (n1 ≡ n2 → length tys1 ≡ length tys2) → length tys2 ≡ ar n2 → (same-name n1 n2 ≡ false → Apart c L R) → (Aparts c Ls Rs → Apart c L R)
         → ((S′ : State) (t : ℕ) (ts : List ℕ) (Ts : MoveTypes) → n1 ≡ n2 → type-at S′ t ≡ Apply k2 n2 ts → Denote S′ ts Ts → Bests c Ls Rs Ts → (T : MoveType) × Denotes S′ t T × Best c L R T)
         → Judged ar c S L R (join-applies join S c l r k1 n1 tys1 k2 n2 tys2)

@@ -10,7 +10,7 @@ use native.Mathlib.Decide.{ℕ-discrete}
 use native.Mathlib.Omega.{arith}
 use lib.Dec.{eqb}
 use lib.ListN.{length, getD, List·getD-eq-default}
-use Rattle.definition.specs.Types.{TypeName, Multiple, Builtin, ModuleType, Mark, Type-value, UnitType, Ref, Param, Apply, Var, Anything, UnresolvedError, Cell, unbound, State, max-nodes, max-vars, max-depth, full, Result, ok, refused, _>>=_, if_then_else_}
+use Rattle.definition.specs.Types.{TypeName, Multiple, Builtin, ModuleType, AbilityMark, Type-value, UnitType, Ref, Param, Apply, Var, Anything, UnresolvedError, Cell, unbound, State, max-nodes, max-vars, max-depth, full, Result, ok, refused, _>>=_, if_then_else_}
 use Rattle.definition.specs.Store.{any-of, count, taken, type-at, spanned, get, num-loc, with-constraints, sp}
 use Rattle.definition.specs.Subst.{parts, as-var, forward, forward-tvar, unfold-var, unfold-type}
 use Rattle.definition.specs.Join.{integers, is-numeric, join}
@@ -40,7 +40,7 @@ use Rattle.theorems.proofs.BookDeep.{numeric}
 
 -- ---- what is a named type without arguments stays it
 
-head-leaf : {k : Mark} {n : TypeName} {L R : Type-value} {S : State} → Head L R → TracksAll S (parts L) (parts R) → L ≡ Apply k n [] → R ≡ Apply k n []
+head-leaf : {k : AbilityMark} {n : TypeName} {L R : Type-value} {S : State} → Head L R → TracksAll S (parts L) (parts R) → L ≡ Apply k n [] → R ≡ Apply k n []
 unfolding parts
 head-leaf h-unit ts e = never (cc)
 head-leaf (h-ref l) ts e = never (cc)
@@ -54,7 +54,7 @@ head-leaf {S = S} (h-apply {k = k} {n = n} {ps = ps} {qs = qs}) ts e =
     go ta-nil e = refl
     go (ta-cons t ts) e = never (cc)
 
-fits-leaf : {k : Mark} {n : TypeName} {S : State} {x t : ℕ} → Fits S x t → type-at S x ≡ Apply k n [] → type-at S t ≡ Apply k n []
+fits-leaf : {k : AbilityMark} {n : TypeName} {S : State} {x t : ℕ} → Fits S x t → type-at S x ≡ Apply k n [] → type-at S t ≡ Apply k n []
 fits-leaf (f-err e h) u = never (cc)
 fits-leaf (f-node h ts) u = head-leaf h ts u
 
@@ -66,7 +66,7 @@ Is-u64 : State → ℕ → Type 0
 Is-u64 S v = Is S v u64
 
 module _ {ar : TypeName → ℕ} {S S′ : State} (s : Sound ar S) (s′ : Sound ar S′) (x : S ⊑ S′) where
-  leaf-on : (k : Mark) (n : TypeName) (v : ℕ) → v < taken S → Is S v (Apply k n []) → Is S′ v (Apply k n [])
+  leaf-on : (k : AbilityMark) (n : TypeName) (v : ℕ) → v < taken S → Is S v (Apply k n []) → Is S′ v (Apply k n [])
   unfolding Is
   leaf-on k n v h (t, g, u) =
       let l = x .lands (forward-tvar S v) t g (s .chains v h) in
@@ -209,7 +209,7 @@ solved {ar} ((w, loc) ∷ l) {S} s d b v v-in f n = sure-bind _ (turn s w loc v 
     next x i (inr (inr m)) = inr m
 
 -- SV's new list of constraints changes no variable
-unfolds-leaf : {ar : TypeName → ℕ} {S : State} → Sound ar S → (k : Mark) (n : TypeName) (v loc : ℕ) → v < taken S → Is S v (Apply k n []) → unfold-type (with-constraints S []) (record { loc = loc; value = Var v }) .value ≡ Apply k n []
+unfolds-leaf : {ar : TypeName → ℕ} {S : State} → Sound ar S → (k : AbilityMark) (n : TypeName) (v loc : ℕ) → v < taken S → Is S v (Apply k n []) → unfold-type (with-constraints S []) (record { loc = loc; value = Var v }) .value ≡ Apply k n []
 unfolding unfold-type unfold-var as-var spanned Is
 unfolds-leaf s k n v loc h u = let s′ = sound-cleared s in let r = leaf-on s s′ (quiet-⊑ s s′ (quiet-list s _)) k n v h u in rw (r .1) (r .2)
 
@@ -264,7 +264,7 @@ module _ (S : State) (h : sound S ≡ true) where
       go (ok S′) (takes-ok t u) e = solve-cases S′ (λ m. m ≡ refused full → ⊥) (λ d. never (cc)) (λ d. never (cc)) (λ d. never (cc)) e
       go (refused y) (takes-full f) e = f (record { nodes-left = a; vars-left = b; places-fit = sound-is S .0 h .few-args })
 
-  literal-by : (k : Mark) (n : TypeName) (v : ℕ) → v < taken S → Sure (λ S′. Sound (arity S) S′ × (taken S ≤ taken S′) × Is S′ v (Apply k n [])) (default-num-vars S (num-vars 0 (S .vars)))
+  literal-by : (k : AbilityMark) (n : TypeName) (v : ℕ) → v < taken S → Sure (λ S′. Sound (arity S) S′ × (taken S ≤ taken S′) × Is S′ v (Apply k n [])) (default-num-vars S (num-vars 0 (S .vars)))
       → Literal-rule v (Apply k n []) (solve-constraints S)
   unfolding solve-constraints Literal-rule _>>=_
   literal-by k n v v-in r = go (default-num-vars S (num-vars 0 (S .vars))) r default-all

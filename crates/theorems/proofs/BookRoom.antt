@@ -9,7 +9,7 @@ use native.Mathlib.Omega.{arith}
 use lib.ListN.{length, length-append}
 use lib.Dec.{eqb}
 use borrow.Author.Tests.{lt-ltb, le-leb}
-use Rattle.definition.specs.Types.{TypeName, Multiple, Mark, Type-value, Ref, Apply, State, max-nodes, max-args, TypingError, Incompatible, Refusal, abilities-disagree, Result, ok, err, refused, _>>=_, if_then_else_}
+use Rattle.definition.specs.Types.{TypeName, Multiple, AbilityMark, Type-value, Ref, Apply, State, max-nodes, max-args, TypingError, Incompatible, Refusal, abilities-disagree, Result, ok, err, refused, _>>=_, if_then_else_}
 use Rattle.definition.specs.Store.{count, type-at, loc-of, with-node, args-of, sp}
 use Rattle.definition.specs.Join.{TypingCase, Join-impl, join-impl-types, join-mut, join-refs, same-name, is-multiple, same-mark, join-applies, arm, join-arm, join-impl}
 use Rattle.definition.specs.Book.{MoveType, unit, reference, parameter, tuple, named, MoveTypes, no-types, _and_, Denotes, is-unit, is-reference, is-parameter, is-tuple, is-named, Denote, are-none, are-each, Comes-to, succeeds, fails, cut-short}
@@ -99,7 +99,7 @@ module _ {ar : TypeName → ℕ} (counts : Counts ar) {d : ℕ} (h : Rooms ar d)
       below : {d : ℕ} → Levels (suc d) (reference m1 L) → Levels d L
       below (reference-level v) = v
 
-  applies-room : (S : State) (l r : ℕ) (k1 : Mark) (n1 : TypeName) (tys1 : List ℕ) (k2 : Mark) (n2 : TypeName) (tys2 : List ℕ) (Ls Rs : MoveTypes) → Sound ar S → Denote S tys1 Ls → Denote S tys2 Rs
+  applies-room : (S : State) (l r : ℕ) (k1 : AbilityMark) (n1 : TypeName) (tys1 : List ℕ) (k2 : AbilityMark) (n2 : TypeName) (tys2 : List ℕ) (Ls Rs : MoveTypes) → Sound ar S → Denote S tys1 Ls → Denote S tys2 Rs
       → (n1 ≡ n2 → length tys1 ≡ length tys2) → count S + suc (sizes Ls) ≤ max-nodes → length (S .args) + suc (sizes Ls) ≤ max-args → All-levels d Ls → Fine-with (Cost S (suc (sizes Ls))) (join-applies J S c l r k1 n1 tys1 k2 n2 tys2)
   unfolding join-applies args-of
   applies-room S l r k1 n1 tys1 k2 n2 tys2 Ls Rs s e e′ long n p v =
@@ -122,7 +122,7 @@ no-level v = go v refl
     go (named-level v) e = absurd (omega arith)
 
 -- equal names have equally many arguments
-same-long : {ar : TypeName → ℕ} {S : State} {k1 k2 : Mark} {n1 n2 : TypeName} {ps1 ps2 : List ℕ} → Sound ar S → (l r : ℕ) → type-at S l ≡ Apply k1 n1 ps1 → type-at S r ≡ Apply k2 n2 ps2 → l < count S → r < count S → n1 ≡ n2 → length ps1 ≡ length ps2
+same-long : {ar : TypeName → ℕ} {S : State} {k1 k2 : AbilityMark} {n1 n2 : TypeName} {ps1 ps2 : List ℕ} → Sound ar S → (l r : ℕ) → type-at S l ≡ Apply k1 n1 ps1 → type-at S r ≡ Apply k2 n2 ps2 → l < count S → r < count S → n1 ≡ n2 → length ps1 ≡ length ps2
 same-long {ar} {k1 = k1} {k2 = k2} {n1 = n1} {n2 = n2} {ps1 = ps1} {ps2 = ps2} s l r e e′ i j h = s .arity l k1 n1 ps1 i e ∙ ap ar h ∙ sym (s .arity r k2 n2 ps2 j e′)
 
 tuple-levels : {d : ℕ} {Ts : MoveTypes} → Levels (suc d) (tuple Ts) → All-levels d Ts

@@ -7,7 +7,7 @@ use mathlib.Core.Option.{Option, none, some}
 use Prim.Native.Nat.{ℕ, zero, suc, _≤_, _<_}
 use native.Mathlib.Omega.{arith}
 use lib.ListN.{length}
-use Rattle.definition.specs.Types.{TypeName, Mark, Type-value, UnitType, Ref, Param, Apply, Var, Anything, UnresolvedError}
+use Rattle.definition.specs.Types.{TypeName, AbilityMark, Type-value, UnitType, Ref, Param, Apply, Var, Anything, UnresolvedError}
 use Rattle.definition.specs.Types.{State}
 use Rattle.definition.specs.Store.{count, type-at, get}
 use Rattle.definition.specs.Subst.{as-var, parts}
@@ -37,7 +37,7 @@ pub data Took (L R : Type-value) : Arm → Type 0 where
   took-units : L ≡ UnitType → R ≡ UnitType → Took L R Units
   took-refs : {m1 m2 : Bool} {t1 t2 : ℕ} → L ≡ Ref m1 t1 → R ≡ Ref m2 t2 → Took L R (Refs m1 t1 m2 t2)
   took-params : {id1 a1 id2 a2 : ℕ} → L ≡ Param id1 a1 → R ≡ Param id2 a2 → Took L R (Params id1 id2)
-  took-applies : {k1 k2 : Mark} {n1 n2 : TypeName} {tys1 tys2 : List ℕ} → L ≡ Apply k1 n1 tys1 → R ≡ Apply k2 n2 tys2 → Took L R (Applies k1 n1 tys1 k2 n2 tys2)
+  took-applies : {k1 k2 : AbilityMark} {n1 n2 : TypeName} {tys1 tys2 : List ℕ} → L ≡ Apply k1 n1 tys1 → R ≡ Apply k2 n2 tys2 → Took L R (Applies k1 n1 tys1 k2 n2 tys2)
   took-vars : {id1 id2 : ℕ} → L ≡ Var id1 → R ≡ Var id2 → Took L R (Vars id1 id2)
   took-var-l : {id : ℕ} → L ≡ Var id → solid R ≡ true → Took L R (Var-l id)
   took-var-r : {id : ℕ} → solid L ≡ true → R ≡ Var id → Took L R (Var-r id)
@@ -108,12 +108,12 @@ name-of (ModuleType a) (Multiple b) e = never (cc)
 name-of (ModuleType a) (Builtin b) e = never (cc)
 name-of (ModuleType a) (ModuleType b) e = ap ModuleType (eq-of a b e)
 
-mark-of : (k1 k2 : Mark) → same-mark k1 k2 ≡ true → k1 ≡ k2
+mark-of : (k1 k2 : AbilityMark) → same-mark k1 k2 ≡ true → k1 ≡ k2
 unfolding same-mark
 mark-of none none e = refl
 mark-of none (some b) e = never (cc)
 mark-of (some a) none e = never (cc)
-mark-of (some a) (some b) e = ap {B = Mark} some (eq-of a b e)
+mark-of (some a) (some b) e = ap {B = AbilityMark} some (eq-of a b e)
 
 mut-of : (c : TypingCase) (m1 m2 m : Bool) → join-mut c m1 m2 ≡ some m → LeMut m1 m × LeMut m2 m
 unfolding join-mut
@@ -140,7 +140,7 @@ tracks-of {S} x t {L} {R} ex et h ts = t-fit (r-self {r = t} (rw et (solid-nonva
 head-param : (i j a b : ℕ) → i ≡ j → Head (Param i a) (Param j b)
 head-param i j a b e = rw e h-param
 
-head-apply : (k k′ : Mark) (n n′ : TypeName) (ps qs : List ℕ) → k ≡ k′ → n ≡ n′ → Head (Apply k n ps) (Apply k′ n′ qs)
+head-apply : (k k′ : AbilityMark) (n n′ : TypeName) (ps qs : List ℕ) → k ≡ k′ → n ≡ n′ → Head (Apply k n ps) (Apply k′ n′ qs)
 head-apply k k′ n n′ ps qs e d = rw (e, d) h-apply
 
 all-length : {S : State} {xs rs : List ℕ} → TracksAll S xs rs → length xs ≡ length rs
@@ -207,7 +207,7 @@ module _ {ar : TypeName → ℕ} (join : Join-impl) (g : Good ar join) {S : Stat
       })
       (sp-post (j .sound) (join-loc c m1 m2 (loc-of S l) (loc-of S r)) (Ref m t) (record { ok-parts = (j .t-in, tt); ok-var = λ v e. never (cc); ok-arity = λ k n ps e. never (cc) })))
 
-  applies-post : (k1 : Mark) (n1 : TypeName) (tys1 : List ℕ) (k2 : Mark) (n2 : TypeName) (tys2 : List ℕ) → type-at S l ≡ Apply k1 n1 tys1 → type-at S r ≡ Apply k2 n2 tys2
+  applies-post : (k1 : AbilityMark) (n1 : TypeName) (tys1 : List ℕ) (k2 : AbilityMark) (n2 : TypeName) (tys2 : List ℕ) → type-at S l ≡ Apply k1 n1 tys1 → type-at S r ≡ Apply k2 n2 tys2
       → Post ar S (Joined ar S l r) (join-applies join S c l r k1 n1 tys1 k2 n2 tys2)
   unfolding join-applies parts as-var
   applies-post k1 n1 tys1 k2 n2 tys2 el er =

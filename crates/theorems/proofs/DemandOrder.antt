@@ -7,7 +7,7 @@ use mathlib.Core.Option.{Option, none, some}
 use Prim.Native.Nat.{ℕ, zero, suc, _≤_, _<_}
 use native.Mathlib.Omega.{arith}
 use lib.ListN.{length}
-use Rattle.definition.specs.Types.{TypeName, Mark, Type-value, UnitType, Ref, Param, Apply, Var, Anything, UnresolvedError}
+use Rattle.definition.specs.Types.{TypeName, AbilityMark, Type-value, UnitType, Ref, Param, Apply, Var, Anything, UnresolvedError}
 use Rattle.definition.specs.Types.{State}
 use Rattle.definition.specs.Store.{count, taken, node, type-at, get}
 use Rattle.theorems.proofs.Laws.{PlacesIn, OnNodes}
@@ -25,7 +25,7 @@ pub record Sound (ar : TypeName → ℕ) (S : State) : Type 0 where
   pub places-in : (i : ℕ) → i < count S → PlacesIn S (node S i .value)
   pub parts-below : (i : ℕ) → i < count S → All (λ p. p < i) (parts (type-at S i))
   pub var-in : (i v : ℕ) → i < count S → type-at S i ≡ Var v → v < taken S
-  pub arity : (i : ℕ) (k : Mark) (n : TypeName) (ps : List ℕ) → i < count S → type-at S i ≡ Apply k n ps → length ps ≡ ar n
+  pub arity : (i : ℕ) (k : AbilityMark) (n : TypeName) (ps : List ℕ) → i < count S → type-at S i ≡ Apply k n ps → length ps ≡ ar n
   pub bind-in : (v t : ℕ) → get S v ≡ some t → t < count S
   pub bind-known : (v t : ℕ) → get S v ≡ some t → is-anything (type-at S t) ≡ false
   pub chains : (v : ℕ) → v < taken S → next-of S (forward-tvar S v) ≡ none
@@ -36,7 +36,7 @@ pub record Nodes (ar : TypeName → ℕ) (S : State) : Type 0 where
   pub n-places : (i : ℕ) → i < count S → PlacesIn S (node S i .value)
   pub n-parts : (i : ℕ) → i < count S → All (λ p. p < i) (parts (type-at S i))
   pub n-var : (i v : ℕ) → i < count S → type-at S i ≡ Var v → v < taken S
-  pub n-arity : (i : ℕ) (k : Mark) (n : TypeName) (ps : List ℕ) → i < count S → type-at S i ≡ Apply k n ps → length ps ≡ ar n
+  pub n-arity : (i : ℕ) (k : AbilityMark) (n : TypeName) (ps : List ℕ) → i < count S → type-at S i ≡ Apply k n ps → length ps ≡ ar n
   pub n-constraints : OnNodes S
 
 pub nodes-of : {ar : TypeName → ℕ} {S : State} → Sound ar S → Nodes ar S

@@ -9,7 +9,7 @@ use Prim.Native.Nat.{ℕ, suc, _≤_, _<_}
 use native.Mathlib.Decide.{ℕ-discrete}
 use native.Mathlib.Omega.{arith}
 use lib.ListN.{length}
-use Rattle.definition.specs.Types.{TypeName, Mark, Type-value, UnitType, Ref, Param, Apply, Var, Anything, UnresolvedError}
+use Rattle.definition.specs.Types.{TypeName, AbilityMark, Type-value, UnitType, Ref, Param, Apply, Var, Anything, UnresolvedError}
 use Rattle.definition.specs.Types.{State}
 use Rattle.definition.specs.Store.{count, taken, node, type-at, get, insert, with-node, with-var}
 use Rattle.definition.specs.Subst.{next-of, as-var, is-anything, forward-tvar, parts}
@@ -66,7 +66,7 @@ chains-from S n l f v h = ends-stop (within-ends (within-more (f v h) (taken S) 
 pub record NodeOk (ar : TypeName → ℕ) (S : State) (sh : Type-value) : Type 0 where
   pub ok-parts : All (λ p. p < count S) (parts sh)
   pub ok-var : (v : ℕ) → sh ≡ Var v → v < taken S
-  pub ok-arity : (k : Mark) (n : TypeName) (ps : List ℕ) → sh ≡ Apply k n ps → length ps ≡ ar n
+  pub ok-arity : (k : AbilityMark) (n : TypeName) (ps : List ℕ) → sh ≡ Apply k n ps → length ps ≡ ar n
 
 pub quiet-node : {ar : TypeName → ℕ} {S : State} → Sound ar S → (l : ℕ) (sh : Type-value) → Quiet S (with-node S l sh)
 quiet-node {S = S} s l sh = record {
@@ -126,7 +126,7 @@ sound-node {ar} {S} s l sh o = record {
     p2 i v (inl h) e = omega (arith, k, s .var-in i v h (sym (old i h) ∙ e))
     p2 i v (inr d) e = omega (arith, k, o .ok-var v (sym (new i d) ∙ e))
 
-    p3 : (i : ℕ) (k : Mark) (n : TypeName) (ps : List ℕ) → (i < count S) ⊎ (i ≡ count S) → type-at S′ i ≡ Apply k n ps → length ps ≡ ar n
+    p3 : (i : ℕ) (k : AbilityMark) (n : TypeName) (ps : List ℕ) → (i < count S) ⊎ (i ≡ count S) → type-at S′ i ≡ Apply k n ps → length ps ≡ ar n
     p3 i m n ps (inl h) e = s .arity i m n ps h (sym (old i h) ∙ e)
     p3 i m n ps (inr d) e = o .ok-arity m n ps (sym (new i d) ∙ e)
 

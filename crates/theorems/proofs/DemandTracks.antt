@@ -6,7 +6,7 @@ use mathlib.Core.List.{List, [], _∷_}
 use mathlib.Core.Option.{Option, none, some}
 use Prim.Native.Nat.{ℕ}
 use native.Mathlib.Omega.{arith}
-use Rattle.definition.specs.Types.{TypeName, Mark, Type-value, UnitType, Ref, Param, Apply, Var, Anything, UnresolvedError}
+use Rattle.definition.specs.Types.{TypeName, AbilityMark, Type-value, UnitType, Ref, Param, Apply, Var, Anything, UnresolvedError}
 use Rattle.definition.specs.Types.{State}
 use Rattle.definition.specs.Store.{type-at, get}
 use Rattle.definition.specs.Subst.{next-of, as-var, parts}
@@ -26,7 +26,7 @@ pub data Head : Type-value → Type-value → Type 0 where
   h-unit : Head UnitType UnitType
   h-ref : {m m′ : Bool} {p p′ : ℕ} → LeMut m m′ → Head (Ref m p) (Ref m′ p′)
   h-param : {i a a′ : ℕ} → Head (Param i a) (Param i a′)
-  h-apply : {k : Mark} {n : TypeName} {ps qs : List ℕ} → Head (Apply k n ps) (Apply k n qs)
+  h-apply : {k : AbilityMark} {n : TypeName} {ps qs : List ℕ} → Head (Apply k n ps) (Apply k n qs)
 
 abbrev pub solid : Type-value → Bool
 solid UnitType = true

@@ -7,7 +7,7 @@ use mathlib.Core.Logic.{inl, inr}
 use Prim.Native.Nat.{ℕ, _<_}
 use native.Mathlib.Omega.{arith}
 use lib.ListN.{length}
-use Rattle.definition.specs.Types.{TypeName, Mark, Type-value, UnitType, Ref, Param, Apply, Var, Anything, UnresolvedError, Constraint, State}
+use Rattle.definition.specs.Types.{TypeName, AbilityMark, Type-value, UnitType, Ref, Param, Apply, Var, Anything, UnresolvedError, Constraint, State}
 use Rattle.definition.specs.Store.{count, get, with-constraints, sp, add-constraint}
 use Rattle.definition.specs.Types.{TypingError, Refusal, Result, ok, err, refused, _>>=_}
 use Rattle.definition.specs.Subst.{parts}
@@ -123,7 +123,7 @@ module _ {ar : TypeName → ℕ} where
   unfolding parts
   ref-ok m t h = record { ok-parts = (h, tt); ok-var = λ v e. never (cc); ok-arity = λ k n ps e. never (cc) }
 
-  pub apply-ok : {S : State} (k : Mark) (n : TypeName) (ts : List ℕ) → All (λ t. t < count S) ts → length ts ≡ ar n → NodeOk ar S (Apply k n ts)
+  pub apply-ok : {S : State} (k : AbilityMark) (n : TypeName) (ts : List ℕ) → All (λ t. t < count S) ts → length ts ≡ ar n → NodeOk ar S (Apply k n ts)
   unfolding parts
   apply-ok k n ts h e = record { ok-parts = h; ok-var = λ v e. never (cc); ok-arity = λ k′ n′ ps d. let c : n ≡ n′ = cc in let c2 : ts ≡ ps = cc in sym (ap length c2) ∙ e ∙ ap ar c }
 

@@ -10,7 +10,7 @@ use Prim.Native.Nat.{ℕ, zero, suc, _<_}
 use native.Mathlib.Omega.{arith}
 use lib.ListN.{length, getD}
 use lib.Dec.{eqb}
-use Rattle.definition.specs.Types.{TypeName, Mark, Shape, UnitType, Ref, Param, Apply, Var, Anything, UnresolvedError, Type-value, Node, State, Result, ok, _>>=_}
+use Rattle.definition.specs.Types.{TypeName, AbilityMark, Shape, UnitType, Ref, Param, Apply, Var, Anything, UnresolvedError, Type-value, Node, State, Result, ok, _>>=_}
 use Rattle.definition.specs.Store.{nowhere, count, map-args, node, type-at, loc-of, with-args, stored, get, num-loc, insert, with-node, sp, next-tvar}
 use Rattle.definition.specs.Subst.{is-anything, forward-tvar}
 use Rattle.definition.specs.Join.{TypingCase, Join-impl, check-num-tvar, used, join-bind-tvar, type-of, shown, join-tvar, join-impl-types, Arm, join-mut, join-refs, same-name, is-multiple, same-mark, join-applies, join-unbound, join-arm, join-impl}
@@ -225,7 +225,7 @@ module _ (J : Join-impl) (h : (s : State) → Single s → (c : TypingCase) (l r
     refs-goes m1 t1 m2 t2 e d (some m) =
         goes _ (h s i c t1 t2) (λ x l p. goes-map (λ a l p q r. plain-no-ref q m1 t1 e) (sp-goes (x .0) (l .single) _ (Ref m (x .1)) (p (under i lhs m1 t1 e) (under i rhs m2 t2 d))))
 
-    applies-goes : (k1 : Mark) (n1 : TypeName) (tys1 : List ℕ) (k2 : Mark) (n2 : TypeName) (tys2 : List ℕ) → Goes s IsPlain (join-applies J s c lhs rhs k1 n1 tys1 k2 n2 tys2)
+    applies-goes : (k1 : AbilityMark) (n1 : TypeName) (tys1 : List ℕ) (k2 : AbilityMark) (n2 : TypeName) (tys2 : List ℕ) → Goes s IsPlain (join-applies J s c lhs rhs k1 n1 tys1 k2 n2 tys2)
     unfolding join-applies
     applies-goes k1 n1 tys1 k2 n2 tys2 =
         either (is-multiple n1 && is-multiple n2 && not (same-name n1 n2)) (λ t. e-err i) (λ t.

@@ -9,7 +9,7 @@ use mathlib.Core.Option.{Option, none, some}
 use Prim.Native.Nat.{ℕ, zero, suc}
 use lib.ListN.{getD, take, drop}
 use lib.Dec.{eqb, ltb, eqb→eq}
-use Rattle.definition.specs.Types.{TypeName, Multiple, Builtin, ModuleType, Mark, State, Refusal, malformed, unknown-name, doubled-reference, if_then_else_}
+use Rattle.definition.specs.Types.{TypeName, Multiple, Builtin, ModuleType, AbilityMark, State, Refusal, malformed, unknown-name, doubled-reference, if_then_else_}
 use Rattle.definition.specs.Store.{taken}
 use Rattle.definition.specs.Write.{Bytes}
 use Rattle.definition.specs.Reader.{Read, got, not-read, Reader, give, refuse, go-on, _>>=_, read-one, read-two, read-three, byte, read-u16, read-u32, byte-if, read-bool, name-below, times}
@@ -158,7 +158,7 @@ x-mark : Both read-mark read-mark
 unfolding read-mark
 x-mark = x-bind x-byte (λ b. go (mark-of b))
   where
-    go : (o : Option Mark) → Both {A = Mark} (elim o [ none ↦ refuse malformed | some k ↦ give k ]) (elim o [ none ↦ refuse malformed | some k ↦ give k ])
+    go : (o : Option AbilityMark) → Both {A = AbilityMark} (elim o [ none ↦ refuse malformed | some k ↦ give k ]) (elim o [ none ↦ refuse malformed | some k ↦ give k ])
     go none = x-refuse malformed no-5
     go (some k) = x-give k
 

@@ -6,7 +6,7 @@ use mathlib.Core.List.{List, [], _∷_}
 use mathlib.Core.Option.{Option, none, some}
 use Prim.Native.Nat.{ℕ, zero, suc, _*_}
 use lib.Dec.{eqb}
-use Rattle.definition.specs.Types.{TypeName, Multiple, Builtin, ModuleType, Mark, UnitType, Ref, Param, Apply, Var, Anything, UnresolvedError, Type-value, Spanned, State}
+use Rattle.definition.specs.Types.{TypeName, Multiple, Builtin, ModuleType, AbilityMark, UnitType, Ref, Param, Apply, Var, Anything, UnresolvedError, Type-value, Spanned, State}
 use Rattle.definition.specs.Types.{AbilityConstraint, BaseTypeConstraint, RecursiveType, Result, if_then_else_}
 use Rattle.definition.specs.Store.{count, taken, type-at, loc-of, spanned, get, num-loc, insert, sp}
 use Rattle.definition.specs.Subst.{as-var, is-anything, parts, next-in, next-of, forward, forward-tvar, or-insert, mark-one, mark-chain, set-num-var, unfold-var, unfold-type, goes-on-to, ends-in, reaches-itself, ready-value, ready, ready-tvars}
@@ -216,7 +216,7 @@ module _ (j : Join-impl) (r : Alike j) where
     refs-erase m1 t1 m2 t2 none = er-err refl refl
     refs-erase m1 t1 m2 t2 (some m) = er-bind _ _ (r s c t1 t2) (λ x. sp-erase (x .0) _ _ (Ref m (x .1)) (join-loc-0 c m1 m2 _ _ (loc-erase s lhs) (loc-erase s rhs)))
 
-    applies-erase : (k1 : Mark) (n1 : TypeName) (ts1 : List ℕ) (k2 : Mark) (n2 : TypeName) (ts2 : List ℕ) → Erased with-state (join-applies j s c lhs rhs k1 n1 ts1 k2 n2 ts2) (join-applies j (erase s) c lhs rhs k1 n1 ts1 k2 n2 ts2)
+    applies-erase : (k1 : AbilityMark) (n1 : TypeName) (ts1 : List ℕ) (k2 : AbilityMark) (n2 : TypeName) (ts2 : List ℕ) → Erased with-state (join-applies j s c lhs rhs k1 n1 ts1 k2 n2 ts2) (join-applies j (erase s) c lhs rhs k1 n1 ts1 k2 n2 ts2)
     unfolding join-applies
     applies-erase k1 n1 ts1 k2 n2 ts2 =
         er-if (is-multiple n1 && is-multiple n2 && not (same-name n1 n2)) _ refl (er-err refl refl)

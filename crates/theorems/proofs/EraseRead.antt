@@ -7,7 +7,7 @@ use mathlib.Core.Option.{Option, none, some}
 use Prim.Native.Nat.{ℕ, zero, suc, _+_, _*_}
 use lib.ListN.{length, getD, take, drop, replicate, length-append, length-drop}
 use lib.Dec.{eqb, ltb}
-use Rattle.definition.specs.Types.{TypeName, Multiple, Builtin, ModuleType, Mark, State, Refusal, malformed, unknown-name, doubled-reference, if_then_else_}
+use Rattle.definition.specs.Types.{TypeName, Multiple, Builtin, ModuleType, AbilityMark, State, Refusal, malformed, unknown-name, doubled-reference, if_then_else_}
 use Rattle.definition.specs.Store.{taken}
 use Rattle.definition.specs.Write.{Bytes}
 use Rattle.definition.specs.Instantiate.{struct-tparams}
@@ -182,7 +182,7 @@ module _ {S : State} where
   unfolding read-mark
   al-mark more = al-bind _ _ (al-plain more) (λ b. go (mark-of b))
     where
-      go : (o : Option Mark) → Alike {A = Mark} {B = Mark} same S more (λ k. more) (elim o [ none ↦ refuse malformed | some k ↦ give k ]) (elim o [ none ↦ refuse malformed | some k ↦ give k ])
+      go : (o : Option AbilityMark) → Alike {A = AbilityMark} {B = AbilityMark} same S more (λ k. more) (elim o [ none ↦ refuse malformed | some k ↦ give k ]) (elim o [ none ↦ refuse malformed | some k ↦ give k ])
       go none = al-refuse _
       go (some k) = al-give k refl
 

@@ -8,7 +8,7 @@ use Prim.Native.Nat.{ℕ, zero, suc, _+_, _-_, _≤_, _<_}
 use native.Mathlib.Omega.{arith}
 use lib.ListN.{length, getD, take, drop, length-take}
 use lib.Dec.{ltb, leb, eqb}
-use Rattle.definition.specs.Types.{TypeName, Multiple, Builtin, ModuleType, Mark, Type-value, UnitType, Ref, Param, Apply, Var, Anything, UnresolvedError, State, Refusal, malformed, unknown-name, doubled-reference, unsound-state, max-depth, Result, ok, _>>=_ as _then-run_, if_then_else_}
+use Rattle.definition.specs.Types.{TypeName, Multiple, Builtin, ModuleType, AbilityMark, Type-value, UnitType, Ref, Param, Apply, Var, Anything, UnresolvedError, State, Refusal, malformed, unknown-name, doubled-reference, unsound-state, max-depth, Result, ok, _>>=_ as _then-run_, if_then_else_}
 use Rattle.definition.specs.Store.{count, taken, sp}
 use Rattle.definition.specs.Subst.{parts}
 use Rattle.definition.specs.Join.{TypingCase, Join, Subtype, join-impl, join, subtype}
@@ -107,7 +107,7 @@ pays-mark : Pays 0 (λ k. 1) read-mark
 unfolding read-mark mark-of
 pays-mark = pays-then (λ b. 1) (λ k. 1) 0 byte _ pays-byte (λ b. go b (eqb b 0) (leb 16 b && is-set (b - 16)))
   where
-    go : (b : ℕ) (z m : Bool) → Pays {A = Mark} 1 (λ k. 1) (elim (if z then some none else if m then some (some (b - 16)) else none) as (λ o. Reader Mark) [ none ↦ refuse malformed | some k ↦ give k ])
+    go : (b : ℕ) (z m : Bool) → Pays {A = AbilityMark} 1 (λ k. 1) (elim (if z then some none else if m then some (some (b - 16)) else none) as (λ o. Reader AbilityMark) [ none ↦ refuse malformed | some k ↦ give k ])
     go b true m = pays-give (λ k. 1) 1 none (omega arith)
     go b false true = pays-give (λ k. 1) 1 (some (b - 16)) (omega arith)
     go b false false = pays-refuse (λ k. 1) 1 malformed

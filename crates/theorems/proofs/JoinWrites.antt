@@ -8,7 +8,7 @@ use Prim.Native.Nat.{ℕ, zero, suc, _+_, _≤_, _<_}
 use native.Mathlib.Omega.{arith}
 use lib.ListN.{length, length-append}
 use lib.Dec.{eqb}
-use Rattle.definition.specs.Types.{TypeName, Multiple, Builtin, ModuleType, Mark, Type-value, UnitType, Ref, Param, Apply, Var, Anything, UnresolvedError, State, Result, ok}
+use Rattle.definition.specs.Types.{TypeName, Multiple, Builtin, ModuleType, AbilityMark, Type-value, UnitType, Ref, Param, Apply, Var, Anything, UnresolvedError, State, Result, ok}
 use Rattle.definition.specs.Store.{count, type-at, loc-of, sp}
 use Rattle.definition.specs.Subst.{parts}
 use Rattle.definition.specs.Join.{TypingCase, Join-impl, join-impl-types, join-mut, join-loc, join-refs, same-name, same-mark, is-multiple, join-applies, join-arm, join-impl, Arm}
@@ -48,7 +48,7 @@ head-size (Var v) = 7
 head-size Anything = 5
 head-size UnresolvedError = 5
 
-apply-length : (loc : ℕ) (k : Mark) (n : TypeName) → length (apply-head loc k n) ≡ name-size n
+apply-length : (loc : ℕ) (k : AbilityMark) (n : TypeName) → length (apply-head loc k n) ≡ name-size n
 unfolding apply-head u32 u16 name-size
 apply-length loc k (Multiple n) = refl
 apply-length loc k (Builtin b) = refl
@@ -88,7 +88,7 @@ module _ {ar : TypeName → ℕ} {S : State} (s : Sound ar S) where
   unfolding parts wrote-all head-size
   ref-wrote t m p e h = omega (arith, wrote-of t (Ref m p) e h)
 
-  pub apply-wrote : (t : ℕ) (k : Mark) (n : TypeName) (ps : List ℕ) → type-at S t ≡ Apply k n ps → t < count S → wrote S t ≡ name-size n + wrote-all S ps
+  pub apply-wrote : (t : ℕ) (k : AbilityMark) (n : TypeName) (ps : List ℕ) → type-at S t ≡ Apply k n ps → t < count S → wrote S t ≡ name-size n + wrote-all S ps
   unfolding parts head-size
   apply-wrote t k n ps e h = wrote-of t (Apply k n ps) e h
 
@@ -181,7 +181,7 @@ module _ {ar : TypeName → ℕ} (join : Join-impl) (g : Good ar join) (w : Slim
         post-map (λ S2 n g2 e s2 i. omega (arith, j .1, ref-wrote s l m1 t1 el l-in, ref-wrote s r m2 t2 er r-in, ref-wrote s2 n m t e i, wrote-kept (j .0 .sound) s2 g2 t (j .0 .t-in)))
         (sp-value (j .0 .sound) (join-loc c m1 m2 (loc-of S l) (loc-of S r)) (Ref m t)))
 
-    applies-slim : (k1 : Mark) (n1 : TypeName) (tys1 : List ℕ) (k2 : Mark) (n2 : TypeName) (tys2 : List ℕ) → type-at S l ≡ Apply k1 n1 tys1 → type-at S r ≡ Apply k2 n2 tys2
+    applies-slim : (k1 : AbilityMark) (n1 : TypeName) (tys1 : List ℕ) (k2 : AbilityMark) (n2 : TypeName) (tys2 : List ℕ) → type-at S l ≡ Apply k1 n1 tys1 → type-at S r ≡ Apply k2 n2 tys2
         → Post ar S (NarrowIn ar S l r) (join-applies join S c l r k1 n1 tys1 k2 n2 tys2)
     unfolding join-applies parts
     applies-slim k1 n1 tys1 k2 n2 tys2 el er =

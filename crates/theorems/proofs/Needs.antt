@@ -7,7 +7,7 @@ use mathlib.Core.Option.{Option, none, some}
 use Prim.Native.Nat.{ℕ, suc, _*_, _≤_, _<_}
 use native.Mathlib.Omega.{arith}
 use lib.ListN.{length}
-use Rattle.definition.specs.Types.{TypeName, Multiple, Builtin, ModuleType, Mark, State, full, Result, ok, refused}
+use Rattle.definition.specs.Types.{TypeName, Multiple, Builtin, ModuleType, AbilityMark, State, full, Result, ok, refused}
 use Rattle.definition.specs.Store.{taken}
 use Rattle.definition.specs.Instantiate.{instantiate}
 use Rattle.definition.specs.Write.{Bytes, write}
@@ -32,7 +32,7 @@ mutual
   pub data Var-in : Tree → Type 0 where
     var-here : {loc v : ℕ} → Var-in (var-tree loc v)
     var-under : {loc : ℕ} {mut : Bool} {t : Tree} → Var-in t → Var-in (ref-tree loc mut t)
-    var-among : {loc : ℕ} {k : Mark} {n : TypeName} {ts : Trees} → Vars-in ts → Var-in (apply-tree loc k n ts)
+    var-among : {loc : ℕ} {k : AbilityMark} {n : TypeName} {ts : Trees} → Vars-in ts → Var-in (apply-tree loc k n ts)
 
   pub data Vars-in : Trees → Type 0 where
     var-first : {t : Tree} {ts : Trees} → Var-in t → Vars-in (_then_ t ts)
@@ -100,7 +100,7 @@ ref-told loc mut t (told-some n c e) = told-some (sum (four 2 0 0 1) n) (λ v. c
     inside : Var-in (ref-tree loc mut t) → Var-in t
     inside (var-under v) = v
 
-apply-told : (loc : ℕ) (k : Mark) (n : TypeName) (ts : Trees) {o : Option Needs} → Told-args ts o → Told (apply-tree loc k n ts) (takes 2 0 0 0 plus o)
+apply-told : (loc : ℕ) (k : AbilityMark) (n : TypeName) (ts : Trees) {o : Option Needs} → Told-args ts o → Told (apply-tree loc k n ts) (takes 2 0 0 0 plus o)
 unfolding _plus_ placed made
 apply-told loc k n ts (args-none v) = told-none (var-among v)
 apply-told loc k n ts (args-some m c e) = told-some (sum (four 2 0 0 0) m) (λ v. c (inside v)) (omega (arith, e .same-nodes, e .same-places, e .same-variables, e .same-constraints))

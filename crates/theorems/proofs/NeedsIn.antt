@@ -7,7 +7,7 @@ use mathlib.Core.List.{List, [], _∷_}
 use Prim.Native.Nat.{ℕ, zero, suc, _+_, _*_, _≤_, _<_}
 use native.Mathlib.Omega.{arith}
 use lib.ListN.{length}
-use Rattle.definition.specs.Types.{TypeName, Mark, Type-value, UnitType, Ref, Param, Apply, Var, Anything, UnresolvedError, State}
+use Rattle.definition.specs.Types.{TypeName, AbilityMark, Type-value, UnitType, Ref, Param, Apply, Var, Anything, UnresolvedError, State}
 use Rattle.definition.specs.Store.{count, taken, type-at, loc-of, args-of, map-types}
 use Rattle.definition.specs.Subst.{as-var, parts}
 use Rattle.definition.specs.Trees.{Tree, unit-tree, anything-tree, error-tree, ref-tree, param-tree, apply-tree, var-tree, Trees, no-trees, _then_}
@@ -90,7 +90,7 @@ mutual
     holds-error : {x loc : ℕ} → type-at S x ≡ UnresolvedError → Holds S x (error-tree loc)
     holds-ref : {x y loc : ℕ} {mut : Bool} {t : Tree} → type-at S x ≡ Ref mut y → Holds S y t → Holds S x (ref-tree loc mut t)
     holds-param : {x loc id abilities : ℕ} → type-at S x ≡ Param id abilities → Holds S x (param-tree loc id abilities)
-    holds-apply : {x loc : ℕ} {k : Mark} {n : TypeName} {ys : List ℕ} {ts : Trees} → type-at S x ≡ Apply k n ys → Hold S ys ts → Holds S x (apply-tree loc k n ts)
+    holds-apply : {x loc : ℕ} {k : AbilityMark} {n : TypeName} {ys : List ℕ} {ts : Trees} → type-at S x ≡ Apply k n ys → Hold S ys ts → Holds S x (apply-tree loc k n ts)
     holds-var : {x loc v : ℕ} → type-at S x ≡ Var v → Holds S x (var-tree loc v)
 
   pub data Hold (S : State) : List ℕ → Trees → Type 0 where
@@ -270,7 +270,7 @@ module _ (ar : TypeName → ℕ) where
       (exact-map (λ r w. w .are) (join-args-exact (A .1) (B .1) (y .after) (y .grown .g-vars) (omega arith)
       (pairs-of (y .grown) refl (λ v l k. q .0 .olds v k ∙ a .1 .gets v ∙ get-beyond S v l) (λ v l. y .marks v ∙ z .marks v ∙ num-beyond S v l) (a .1 .tvars) (q .0 .shapes))))))) (omega arith)
 
-  apply-level : (loc : ℕ) (k : Mark) (name : TypeName) (ts : Trees) → Map-at ts → Level-at (apply-tree loc k name ts)
+  apply-level : (loc : ℕ) (k : AbilityMark) (name : TypeName) (ts : Trees) → Map-at ts → Level-at (apply-tree loc k name ts)
   unfolding instantiate-value instantiate-apply made merging as-var shown args-of parts
   apply-level loc k name ts fs n S x s d i j (holds-apply {ys = ys} e hs) =
       let b : All (λ p. p < x) ys = rw e at (s .parts-below x i) in

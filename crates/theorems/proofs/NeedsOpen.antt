@@ -6,7 +6,7 @@ use mathlib.Core.List.{List, _∷_}
 use mathlib.Core.Option.{Option}
 use Prim.Native.Nat.{ℕ, zero, suc, _<_}
 use native.Mathlib.Omega.{arith}
-use Rattle.definition.specs.Types.{TypeName, Mark, State, full, open-variable, Result, refused, _>>=_}
+use Rattle.definition.specs.Types.{TypeName, AbilityMark, State, full, open-variable, Result, refused, _>>=_}
 use Rattle.definition.specs.Store.{count, taken, loc-of, map-types}
 use Rattle.definition.specs.Subst.{parts}
 use Rattle.definition.specs.Trees.{Tree, unit-tree, anything-tree, error-tree, ref-tree, param-tree, apply-tree, var-tree, Trees, no-trees, _then_, arity}
@@ -64,7 +64,7 @@ module _ (ar : TypeName → ℕ) (vars : ℕ) where
       let z = a .steady in
       stop-here _ (stops f v n A y (z .after) (declared-on d (z .grown)) (omega (arith, z .grown .g-nodes)) (omega arith) (holds-keep s (z .grown) (omega arith) h))))
 
-  apply-stops : (loc : ℕ) (k : Mark) (name : TypeName) (ts : Trees) → All-stop ts → Stops (apply-tree loc k name ts)
+  apply-stops : (loc : ℕ) (k : AbilityMark) (name : TypeName) (ts : Trees) → All-stop ts → Stops (apply-tree loc k name ts)
   unfolding instantiate-down instantiate-value instantiate-apply instantiate-type-args parts
   apply-stops loc k name ts stops (fine-apply fs m) (var-among v) zero S x s d i j h = absurd (omega arith)
   apply-stops loc k name ts stops (fine-apply fs m) (var-among v) (suc n) S x s d i j (holds-apply {ys = ys} e hs) =

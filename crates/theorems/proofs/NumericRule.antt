@@ -5,7 +5,7 @@ use mathlib.Core.Bool.{Bool, true, false, not, _&&_, _||_}
 use mathlib.Core.List.{List, [], _∷_, List·Memᴰ}
 use mathlib.Core.Option.{none, some}
 use Prim.Native.Nat.{ℕ, suc, _<_}
-use Rattle.definition.specs.Types.{Builtin, Mark, Apply, Var, Places, State, Type-value, if_then_else_, Constraint, NumericConstraint, BitsConstraint, OrderedConstraint, Incompatible, malformed, Result, ok, err, _>>=_}
+use Rattle.definition.specs.Types.{Builtin, AbilityMark, Apply, Var, Places, State, Type-value, if_then_else_, Constraint, NumericConstraint, BitsConstraint, OrderedConstraint, Incompatible, malformed, Result, ok, err, _>>=_}
 use Rattle.definition.specs.Store.{count, type-at, loc-of, spanned, get, num-loc, insert, any-of}
 use Rattle.definition.specs.Subst.{as-var, is-anything, parts, unfold-type}
 use Rattle.definition.specs.Join.{TypingCase, integers, is-numeric, is-num-var, num-shape, check-num-tvar′, check-num-tvar, is-var, used, join-bind-tvar, arm, join-unbound, join-arm, join-impl}
@@ -33,22 +33,22 @@ pub data Numeric : Constraint → ℕ → ℕ → Type 0 where
   ordered : {loc ty : ℕ} → Numeric (OrderedConstraint loc ty) loc ty
 
 -- what stands after a builtin's mark and number
-abbrev pub read-arguments : State → Reader Tree → ℕ → Mark → ℕ → Reader Tree
+abbrev pub read-arguments : State → Reader Tree → ℕ → AbilityMark → ℕ → Reader Tree
 read-arguments s read-type loc k b = reader._>>=_ (read-trees (arity s (Builtin b)) read-type) (λ ts. give (apply-tree loc k (Builtin b) ts))
 
 pub record Numeric-rule (s : State) (b : ℕ) : Type 0 where
   -- (1) join and subtype, the variable on either side
-  pub on-the-left : (depth : ℕ) (case : TypingCase) (v loc var other : ℕ) (k : Mark) (tys : List ℕ) → num-loc s v ≡ some loc → get s v ≡ none → other < count s → type-at s var ≡ Var v → type-at s other ≡ Apply k (Builtin b) tys
+  pub on-the-left : (depth : ℕ) (case : TypingCase) (v loc var other : ℕ) (k : AbilityMark) (tys : List ℕ) → num-loc s v ≡ some loc → get s v ≡ none → other < count s → type-at s var ≡ Var v → type-at s other ≡ Apply k (Builtin b) tys
       → join-impl (suc depth) s case var other ≡ taken-or-shown s v var other var other (is-numeric (Builtin b))
-  pub on-the-right : (depth : ℕ) (case : TypingCase) (v loc var other : ℕ) (k : Mark) (tys : List ℕ) → num-loc s v ≡ some loc → get s v ≡ none → other < count s → type-at s var ≡ Var v → type-at s other ≡ Apply k (Builtin b) tys
+  pub on-the-right : (depth : ℕ) (case : TypingCase) (v loc var other : ℕ) (k : AbilityMark) (tys : List ℕ) → num-loc s v ≡ some loc → get s v ≡ none → other < count s → type-at s var ≡ Var v → type-at s other ≡ Apply k (Builtin b) tys
       → join-impl (suc depth) s case other var ≡ taken-or-shown s v var other other var (is-numeric (Builtin b))
   -- (2) NC, of every kind
-  pub constrained : (c : Constraint) (loc ty : ℕ) (k : Mark) (tys : List ℕ) → Numeric c loc ty → unfold-type s (spanned s ty) .value ≡ Apply k (Builtin b) tys
+  pub constrained : (c : Constraint) (loc ty : ℕ) (k : AbilityMark) (tys : List ℕ) → Numeric c loc ty → unfold-type s (spanned s ty) .value ≡ Apply k (Builtin b) tys
       → solve-constraint s c ≡ (if is-numeric (Builtin b) then [] else failure s 1 loc (unfold-type s (spanned s ty)))
   -- (3) a mark without drop, in a record and in a state
-  pub read : (read-type : Reader Tree) (loc : ℕ) (k : Mark) (bytes after-mark after-number : Bytes) → read-mark bytes ≡ got k after-mark → byte after-mark ≡ got b after-number → is-name s (Builtin b) ≡ true → has-drop k ≡ false
+  pub read : (read-type : Reader Tree) (loc : ℕ) (k : AbilityMark) (bytes after-mark after-number : Bytes) → read-mark bytes ≡ got k after-mark → byte after-mark ≡ got b after-number → is-name s (Builtin b) ≡ true → has-drop k ≡ false
       → read-apply s read-type loc byte Builtin malformed bytes ≡ (if is-numeric (Builtin b) then not-read malformed else read-arguments s read-type loc k b after-number)
-  pub kept : (k : Mark) (places : Places) → has-drop k ≡ false
+  pub kept : (k : AbilityMark) (places : Places) → has-drop k ≡ false
       → shape-allowed s (Apply k (Builtin b) places) ≡ is-mark k && is-name s (Builtin b) && not (is-numeric (Builtin b)) && places-fit s (Builtin b) places
 
 -- ---- the list
@@ -64,7 +64,7 @@ numbered : (s : State) (v loc : ℕ) → num-loc s v ≡ some loc → is-num-var
 unfolding is-num-var
 numbered s v loc e = rw (e, is-num-var) refl
 
-module _ (s : State) (v loc other b : ℕ) (k : Mark) (tys : List ℕ) (marked : num-loc s v ≡ some loc) (is : type-at s other ≡ Apply k (Builtin b) tys) where
+module _ (s : State) (v loc other b : ℕ) (k : AbilityMark) (tys : List ℕ) (marked : num-loc s v ≡ some loc) (is : type-at s other ≡ Apply k (Builtin b) tys) where
   checked : check-num-tvar s v other ≡ is-numeric (Builtin b)
   unfolding check-num-tvar as-var num-shape
   checked = ap (λ (x : Bool). not x || check-num-tvar′ s other) (numbered s v loc marked) ∙ check-plain s other (ap as-var is) ∙ ap num-shape is
@@ -95,12 +95,12 @@ module _ (s : State) (v loc other b : ℕ) (k : Mark) (tys : List ℕ) (marked :
 
 -- ---- (2)
 
-integer : (s : State) (loc ty b : ℕ) (k : Mark) (tys : List ℕ) → unfold-type s (spanned s ty) .value ≡ Apply k (Builtin b) tys
+integer : (s : State) (loc ty b : ℕ) (k : AbilityMark) (tys : List ℕ) → unfold-type s (spanned s ty) .value ≡ Apply k (Builtin b) tys
     → solve s is-integer 1 loc ty ≡ (if is-numeric (Builtin b) then [] else failure s 1 loc (unfold-type s (spanned s ty)))
 unfolding solve is-integer
 integer s loc ty b k tys e = ap (λ (x : Type-value). if is-integer x then [] else failure s 1 loc (unfold-type s (spanned s ty))) e
 
-solved : (s : State) (c : Constraint) (loc ty b : ℕ) (k : Mark) (tys : List ℕ) → Numeric c loc ty → unfold-type s (spanned s ty) .value ≡ Apply k (Builtin b) tys
+solved : (s : State) (c : Constraint) (loc ty b : ℕ) (k : AbilityMark) (tys : List ℕ) → Numeric c loc ty → unfold-type s (spanned s ty) .value ≡ Apply k (Builtin b) tys
     → solve-constraint s c ≡ (if is-numeric (Builtin b) then [] else failure s 1 loc (unfold-type s (spanned s ty)))
 unfolding solve-constraint
 solved s c loc ty b k tys numeric e = integer s loc ty b k tys e
@@ -110,7 +110,7 @@ solved s c loc ty b k tys ordered e = integer s loc ty b k tys e
 -- ---- (3)
 
 -- without drop a mark fits just where the name is no integer type's
-without-drop : (b : ℕ) (k : Mark) → has-drop k ≡ false → mark-fits k (Builtin b) ≡ not (is-numeric (Builtin b))
+without-drop : (b : ℕ) (k : AbilityMark) → has-drop k ≡ false → mark-fits k (Builtin b) ≡ not (is-numeric (Builtin b))
 unfolding mark-fits
 without-drop b k e = rw e (by (is-numeric (Builtin b)))
   where
@@ -118,7 +118,7 @@ without-drop b k e = rw e (by (is-numeric (Builtin b)))
     by true = refl
     by false = refl
 
-module _ (s : State) (m : Reader Tree) (loc b : ℕ) (k : Mark) (bytes after-mark after-number : Bytes) (e : read-mark bytes ≡ got k after-mark) (f : byte after-mark ≡ got b after-number) (n : is-name s (Builtin b) ≡ true) where
+module _ (s : State) (m : Reader Tree) (loc b : ℕ) (k : AbilityMark) (bytes after-mark after-number : Bytes) (e : read-mark bytes ≡ got k after-mark) (f : byte after-mark ≡ got b after-number) (n : is-name s (Builtin b) ≡ true) where
   tested : read-apply s m loc byte Builtin malformed bytes ≡ (if not (mark-fits k (Builtin b)) then refuse malformed else read-arguments s m loc k b) after-number
   unfolding read-apply reader._>>=_ go-on
   tested = rw (e, f, n) refl
@@ -141,5 +141,5 @@ numeric-rule s h b = record {
 }
   where
     -- an integer type has no arguments
-    plain : (other : ℕ) (k : Mark) (tys : List ℕ) → other < count s → type-at s other ≡ Apply k (Builtin b) tys → is-numeric (Builtin b) ≡ true → tys ≡ []
+    plain : (other : ℕ) (k : AbilityMark) (tys : List ℕ) → other < count s → type-at s other ≡ Apply k (Builtin b) tys → is-numeric (Builtin b) ≡ true → tys ≡ []
     plain other k tys l is e = no-arguments s (Builtin b) tys e (facts s h .arity other k (Builtin b) tys l is)

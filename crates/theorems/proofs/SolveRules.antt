@@ -11,7 +11,7 @@ use native.Mathlib.Decide.{decLt}
 use native.Mathlib.Omega.{arith}
 use lib.ListN.{length, getD}
 use borrow.Author.Tests.{leb-true}
-use Rattle.definition.specs.Types.{TypeName, Mark, UnitType, Ref, Param, Apply, Var, Anything, UnresolvedError, Type-value, Refusal, runs-into-itself, mark-contradicted, State, if_then_else_}
+use Rattle.definition.specs.Types.{TypeName, AbilityMark, UnitType, Ref, Param, Apply, Var, Anything, UnresolvedError, Type-value, Refusal, runs-into-itself, mark-contradicted, State, if_then_else_}
 use Rattle.definition.specs.Store.{count, type-at, spanned, any-of}
 use Rattle.definition.specs.Subst.{parts, unfold-type, reaches-itself}
 use Rattle.definition.specs.Trees.{is-set, is-mark, is-name, mark-fits}
@@ -31,7 +31,7 @@ use Rattle.theorems.proofs.BookAbilities.{requires-bit, some-lack, decl
 -- ---- the rule in the Book's words
 
 pub data Grants (s : State) (a : Ability) : Type-value → Type 0 where
-  grants : {k : Mark} {n : TypeName} {tys : List ℕ} → Declares s n a → Grants s a (Apply k n tys)
+  grants : {k : AbilityMark} {n : TypeName} {tys : List ℕ} → Declares s n a → Grants s a (Apply k n tys)
 
 abbrev is-name-shape : Type-value → Bool
 is-name-shape UnitType = false
@@ -52,9 +52,9 @@ no-grant x e g = let n = name-of g in never (cc)
 pub data Decides (s : State) (a : Ability) : Type-value → Rule → Type 0 where
   by-declaration : {x : Type-value} → ¬ Grants s a x → Decides s a x declaration
   -- argument i is the first that counts and has not what is needed
-  by-place : {k : Mark} {n : TypeName} {tys : List ℕ} {i : ℕ} → Declares s n a → i < length tys → ¬ Phantom s n i → ¬ Has s (needed a) (type-at s (getD tys i 0))
+  by-place : {k : AbilityMark} {n : TypeName} {tys : List ℕ} {i : ℕ} → Declares s n a → i < length tys → ¬ Phantom s n i → ¬ Has s (needed a) (type-at s (getD tys i 0))
       → ((j : ℕ) → j < i → ¬ Phantom s n j → Has s (needed a) (type-at s (getD tys j 0))) → Decides s a (Apply k n tys) (argument i)
-  by-none : {k : Mark} {n : TypeName} {tys : List ℕ} → Declares s n a → ((i : ℕ) → i < length tys → ¬ Phantom s n i → Has s (needed a) (type-at s (getD tys i 0))) → Decides s a (Apply k n tys) contradicted
+  by-none : {k : AbilityMark} {n : TypeName} {tys : List ℕ} → Declares s n a → ((i : ℕ) → i < length tys → ¬ Phantom s n i → Has s (needed a) (type-at s (getD tys i 0))) → Decides s a (Apply k n tys) contradicted
 
 -- one rule at most
 once : {s : State} {a : Ability} {x : Type-value} {r r′ : Rule} → Decides s a x r → Decides s a x r′ → r ≡ r′
@@ -75,7 +75,7 @@ module _ (S : State) where
   abbrev sets : ℕ → ℕ
   sets p = infer-abilities S p
 
-  placed : {k : Mark} (n : TypeName) (tys : List ℕ) → All (Agrees S sets) tys → (a : Ability) → Declares S n a → (p : ℕ) → lacking sets S n tys (bit (needed a)) ≡ some p → Decides S a (Apply k n tys) (argument p)
+  placed : {k : AbilityMark} (n : TypeName) (tys : List ℕ) → All (Agrees S sets) tys → (a : Ability) → Declares S n a → (p : ℕ) → lacking sets S n tys (bit (needed a)) ≡ some p → Decides S a (Apply k n tys) (argument p)
   unfolding lacking
   placed {k} n tys h a d p e =
       let w : ℕ → Bool = λ ty. not (has (sets ty) (bit (needed a))) in

@@ -9,7 +9,7 @@ use Prim.Native.Nat.{ℕ, zero, suc, _+_, _≤_, _<_}
 use native.Mathlib.Omega.{arith}
 use lib.ListN.{length, getD, drop, length-take, length-drop}
 use lib.Dec.{T, leb, ltb, eqb, leb→le, ltb→lt, eqb→eq}
-use Rattle.definition.specs.Types.{TypeName, Mark, Shape, UnitType, Ref, Param, Apply, Var, Anything, UnresolvedError, Places, unbound, State, Constraint, AbilityConstraint, NumericConstraint, BitsConstraint, OrderedConstraint, BaseTypeConstraint, SingleTypeConstraint}
+use Rattle.definition.specs.Types.{TypeName, AbilityMark, Shape, UnitType, Ref, Param, Apply, Var, Anything, UnresolvedError, Places, unbound, State, Constraint, AbilityConstraint, NumericConstraint, BitsConstraint, OrderedConstraint, BaseTypeConstraint, SingleTypeConstraint}
 use Rattle.definition.specs.Store.{nowhere, count, taken, node, type-at, with-args, args-at, get, all-of}
 use Rattle.definition.specs.Subst.{is-anything, parts, next-of, forward-tvar}
 use Rattle.definition.specs.Trees.{arity, mark-fits, is-mark, is-name}
@@ -100,7 +100,7 @@ shape-var s (Var w) e v d = let c : w ≡ v = cc in omega (arith, ltb→lt w (ta
 shape-var s Anything e v d = never (cc)
 shape-var s UnresolvedError e v d = never (cc)
 
-shape-arity : (s : State) (x : Shape Places) → shape-allowed s x ≡ true → (k : Mark) (n : TypeName) (ps : List ℕ) → with-args s x ≡ Apply k n ps → length ps ≡ arity s n
+shape-arity : (s : State) (x : Shape Places) → shape-allowed s x ≡ true → (k : AbilityMark) (n : TypeName) (ps : List ℕ) → with-args s x ≡ Apply k n ps → length ps ≡ arity s n
 unfolding shape-allowed places-fit with-args
 shape-arity s UnitType e k n ps d = never (cc)
 shape-arity s (Ref m t) e k n ps d = never (cc)

@@ -7,7 +7,7 @@ use mathlib.Core.Option.{Option, none, some}
 use Prim.Native.Nat.{ℕ, zero, suc, _+_, _≤_, _<_}
 use native.Mathlib.Omega.{arith}
 use lib.ListN.{length, getD, set, length-append, length-set}
-use Rattle.definition.specs.Types.{TypeName, Mark, Shape, UnitType, Ref, Param, Apply, Var, Anything, UnresolvedError, Type-value, Places, Node, Cell, unbound, Struct, State, max-nodes, max-args, max-vars, max-constraints, max-structs}
+use Rattle.definition.specs.Types.{TypeName, AbilityMark, Shape, UnitType, Ref, Param, Apply, Var, Anything, UnresolvedError, Type-value, Places, Node, Cell, unbound, Struct, State, max-nodes, max-args, max-vars, max-constraints, max-structs}
 use Rattle.definition.specs.Types.{Constraint, AbilityConstraint, NumericConstraint, BitsConstraint, OrderedConstraint, BaseTypeConstraint, SingleTypeConstraint}
 use Rattle.definition.specs.Store.{nowhere, count, taken, with-args, node, type-at, loc-of, num-loc, with-vars, with-constraints, with-structs, insert, args-of, stored, with-node, with-var, all-of}
 use Rattle.definition.specs.Subst.{next-of, or-insert, mark-one, mark-chain, set-num-var}
@@ -45,7 +45,7 @@ abbrev pub U32 : ℕ → Type 0
 U32 x = is-u32 x ≡ true
 
 -- a name with its mark, by the declarations of s
-abbrev pub Named : State → Mark → TypeName → Type 0
+abbrev pub Named : State → AbilityMark → TypeName → Type 0
 Named s k n = is-mark k && is-name s n && mark-fits k n ≡ true
 
 abbrev pub ShapeIn : {A : Type 0} → State → Shape A → Type 0
@@ -132,7 +132,7 @@ module _ {b s : State} (r : Ranges b s) where
   unfolding type-at
   value-in t = read-in b s (node s t .value) (node-in t .shape-in)
 
-  pub name-in : (t : ℕ) (k : Mark) (n : TypeName) (ts : List ℕ) → type-at s t ≡ Apply k n ts → Named b k n
+  pub name-in : (t : ℕ) (k : AbilityMark) (n : TypeName) (ts : List ℕ) → type-at s t ≡ Apply k n ts → Named b k n
   name-in t k n ts e = let h = value-in t in rw e at h
 
   pub cell-in : (v : ℕ) → numeric-allowed (num-loc s v) ≡ true

@@ -8,7 +8,7 @@ use Prim.Native.Nat.{ℕ, zero, suc, _+_, _*_, _-_, _≤_, _<_}
 use native.Mathlib.Omega.{arith}
 use lib.ListN.{length, getD, take, drop, length-append, length-take, length-drop}
 use lib.Dec.{ltb, leb, eqb, ltb→lt}
-use Rattle.definition.specs.Types.{TypeName, Mark, State, Refusal, malformed, unknown-name, doubled-reference, if_then_else_}
+use Rattle.definition.specs.Types.{TypeName, AbilityMark, State, Refusal, malformed, unknown-name, doubled-reference, if_then_else_}
 use Rattle.definition.specs.Store.{taken}
 use Rattle.definition.specs.Write.{Bytes, Is-bytes}
 use Rattle.definition.specs.Reader.{Read, got, not-read, Reader, give, refuse, go-on, _>>=_, byte, read-u16, read-u32, byte-if, byte-to, read-bool, name-below, times, read-one, read-two, read-three}
@@ -34,7 +34,7 @@ mutual
     fine-error : {loc : ℕ} → Fine ar vars (error-tree loc)
     fine-ref : {loc : ℕ} {mut : Bool} {t : Tree} → Fine ar vars t → Fine ar vars (ref-tree loc mut t)
     fine-param : {loc id abilities : ℕ} → Fine ar vars (param-tree loc id abilities)
-    fine-apply : {loc : ℕ} {k : Mark} {n : TypeName} {ts : Trees} → Fines ar vars ts → size ts ≡ ar n → Fine ar vars (apply-tree loc k n ts)
+    fine-apply : {loc : ℕ} {k : AbilityMark} {n : TypeName} {ts : Trees} → Fines ar vars ts → size ts ≡ ar n → Fine ar vars (apply-tree loc k n ts)
     fine-var : {loc v : ℕ} → v < vars → Fine ar vars (var-tree loc v)
 
   pub data Fines (ar : TypeName → ℕ) (vars : ℕ) : Trees → Type 0 where
@@ -183,7 +183,7 @@ module _ (H : Type 0) where
   gives-mark = gives-then byte _ gives-byte (λ b p. go b (eqb b 0) (leb 16 b && is-set (b - 16)) refl)
     where
       go : (b : ℕ) (z m : Bool) → leb 16 b && is-set (b - 16) ≡ m
-          → Gives (λ k. is-mark k ≡ true) (elim (if z then some none else if m then some (some (b - 16)) else none) as (λ o. Reader Mark) [ none ↦ refuse malformed | some k ↦ give k ])
+          → Gives (λ k. is-mark k ≡ true) (elim (if z then some none else if m then some (some (b - 16)) else none) as (λ o. Reader AbilityMark) [ none ↦ refuse malformed | some k ↦ give k ])
       go b true m e = gives-give none refl
       go b false true e = gives-give (some (b - 16)) (and-r (leb 16 b) _ e)
       go b false false e = gives-refuse five

@@ -9,7 +9,7 @@ use native.Mathlib.Omega.{arith}
 use lib.ListN.{length, getD, take, drop, length-append, length-take, take-append-drop, drop-of-length-le}
 use lib.Seq.{take-all, take-at}
 use lib.Dec.{eqb, ltb}
-use Rattle.definition.specs.Types.{TypeName, Mark, State, Refusal, malformed, doubled-reference, if_then_else_}
+use Rattle.definition.specs.Types.{TypeName, AbilityMark, State, Refusal, malformed, doubled-reference, if_then_else_}
 use Rattle.definition.specs.Store.{taken}
 use Rattle.definition.specs.Write.{Bytes}
 use Rattle.definition.specs.Reader.{Read, got, not-read, Reader, give, refuse, go-on, _>>=_, byte, read-u16, read-u32, byte-if, read-bool, name-below, times, read-one, read-two, read-three}
@@ -98,7 +98,7 @@ c-mark : Cuts read-mark
 unfolding read-mark
 c-mark = c-bind _ _ c-byte (λ b. go (mark-of b))
   where
-    go : (o : Option Mark) → Cuts {A = Mark} (elim o [ none ↦ refuse malformed | some k ↦ give k ])
+    go : (o : Option AbilityMark) → Cuts {A = AbilityMark} (elim o [ none ↦ refuse malformed | some k ↦ give k ])
     go none = c-refuse _
     go (some k) = c-give k
 

@@ -9,7 +9,7 @@ use native.Mathlib.Decide.{ℕ-discrete}
 use native.Mathlib.Omega.{arith}
 use lib.ListN.{length, getD, set, replicate, getD-replicate}
 use lib.Seq.{getD-set-other}
-use Rattle.definition.specs.Types.{TypeName, Mark, Type-value, UnitType, Ref, Param, Apply, Var, Anything, UnresolvedError, State, TypingError, Refusal, no-argument, Result, ok, err, refused, _>>=_}
+use Rattle.definition.specs.Types.{TypeName, AbilityMark, Type-value, UnitType, Ref, Param, Apply, Var, Anything, UnresolvedError, State, TypingError, Refusal, no-argument, Result, ok, err, refused, _>>=_}
 use Rattle.definition.specs.Store.{count, taken, type-at, loc-of, sp, map-types}
 use Rattle.definition.specs.Subst.{parts, next-of, forward, forward-tvar, mark-one, mark-chain, set-num-var}
 use Rattle.definition.specs.TParams.{TParamSubst, arg-of, subst-value, subst-down, subst-tparams}
@@ -201,7 +201,7 @@ module _ {ar : TypeName → ℕ} {S₀ : State} (s₀ : Sound ar S₀) where
   unfolding parts
   ref-below t p m h e = (rw e at (s₀ .parts-below t h)) .0
 
-  args-below : (t : ℕ) {k : Mark} {n : TypeName} (ps : List ℕ) → t < count S₀ → type-at S₀ t ≡ Apply k n ps → All (λ p. p < t) ps
+  args-below : (t : ℕ) {k : AbilityMark} {n : TypeName} (ps : List ℕ) → t < count S₀ → type-at S₀ t ≡ Apply k n ps → All (λ p. p < t) ps
   unfolding parts
   args-below t ps h e = rw e at (s₀ .parts-below t h)
 

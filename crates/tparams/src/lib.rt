@@ -14,9 +14,9 @@ use shapes::Applied;
 use shapes::wide;
 use table::Found;
 use table::Out;
+use table::Outcome;
 use table::Refusal;
 use table::Shape;
-use table::Step;
 use table::Used;
 
 // The first `many` ids, each with its argument.
@@ -82,14 +82,21 @@ fn arg_or_none(subst: TParamSubst, id: TParamID) -> Out
     }
 }
 
-fn stay(o: Out, u: Used) -> Step
+fn stay(o: Out, u: Used) -> Outcome
     ensures { λ r. ⌜ r ≡ record { out = o; used = u } ⌝ }
 {
-    Step { out: o, used: u }
+    Outcome { out: o, used: u }
 }
 
 // A named type: at most `left` levels of its arguments, in order; then its node.
-fn subst_apply(w: &mut [u32], u: Used, left: u32, subst: TParamSubst, loc: u32, ty: Applied) -> Step
+fn subst_apply(
+    w: &mut [u32],
+    u: Used,
+    left: u32,
+    subst: TParamSubst,
+    loc: u32,
+    ty: Applied,
+) -> Outcome
     requires { ⌜ Lay (now w) u × (Named (now w) u (ty .first) (ty .many) (u .nodes) × Parts (u .nodes) (subst .args) (subst .many)) ⌝ }
     ensures { λ r. ⌜ After (now (w .entry)) u (now (w .exit)) r (λ s. subst-value (subst-down left (subst-of subst)) (subst-of subst) s 0 loc (Apply (mark-of (ty .k)) (name-of (ty .n)) (args-at (view (now (w .entry)) u) (places (ty .first) (ty .many))))) ⌝ }
 {
@@ -114,7 +121,7 @@ fn subst_apply(w: &mut [u32], u: Used, left: u32, subst: TParamSubst, loc: u32, 
 }
 
 // At most `left` levels of subst_tparams; parts are built before their node.
-fn subst_down(w: &mut [u32], u: Used, left: u32, subst: TParamSubst, ty: u32) -> Step
+fn subst_down(w: &mut [u32], u: Used, left: u32, subst: TParamSubst, ty: u32) -> Outcome
     requires { ⌜ Lay (now w) u × ((ty < u .nodes) × Parts (u .nodes) (subst .args) (subst .many)) ⌝ }
     ensures { λ r. ⌜ After (now (w .entry)) u (now (w .exit)) r (λ s. subst-down left (subst-of subst) s ty) ⌝ }
 {
@@ -147,7 +154,7 @@ fn subst_down(w: &mut [u32], u: Used, left: u32, subst: TParamSubst, ty: u32) ->
     }
 }
 
-pub fn subst_tparams(w: &mut [u32], u: Used, subst: TParamSubst, ty: u32) -> Step
+pub fn subst_tparams(w: &mut [u32], u: Used, subst: TParamSubst, ty: u32) -> Outcome
     requires { ⌜ Lay (now w) u × ((ty < u .nodes) × Parts (u .nodes) (subst .args) (subst .many)) ⌝ }
     ensures { λ r. ⌜ After (now (w .entry)) u (now (w .exit)) r (λ s. subst-tparams (subst-of subst) s ty) ⌝ }
 {

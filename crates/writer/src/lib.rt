@@ -8,7 +8,7 @@ ghost use Rattle.definition.specs.Write.{bool, mark, u16, u32 as bytes-u32, app
 ghost use Rattle.names.specs.Names.{mark-of, name-of};
 ghost use Rattle.table.specs.State.{shape-of, value-of, view, seen, Lay};
 ghost use Rattle.writer.specs.Bytes.{Wrote, Few-is, capped, Name-byte, Byte-fields, All-bytes};
-use names::Mark;
+use names::AbilityMark;
 use names::TypeName;
 use table::Shape;
 use table::Used;
@@ -41,13 +41,13 @@ fn bool_byte(b: bool) -> u8
 }
 
 // An ability mark: 0, or 16 plus the set.
-fn mark_byte(k: Mark) -> u8
+fn mark_byte(k: AbilityMark) -> u8
     requires { ⌜ mark (mark-of k) < 256 ⌝ }
     ensures { λ r. ⌜ r ≡ mark (mark-of k) ⌝ }
 {
     match k {
-        Mark::Absent => 0,
-        Mark::Set(a) => {
+        AbilityMark::Absent => 0,
+        AbilityMark::Set(a) => {
             let x = a.0;
             16 + x
         }
@@ -93,7 +93,7 @@ fn row(tag: u8, loc: u32, x: u8, y: u8, z: u8) -> [u8; 10]
 
 fn apply_head(loc: u32, k: u8, n: TypeName) -> Few
     requires { ⌜ Name-byte (name-of n) ⌝ }
-    ensures { λ r. ⌜ ((m : d.Mark) → mark m ≡ k → Few-is (r .n) (r .bytes) (apply-head loc m (name-of n))) ⌝ }
+    ensures { λ r. ⌜ ((m : d.AbilityMark) → mark m ≡ k → Few-is (r .n) (r .bytes) (apply-head loc m (name-of n))) ⌝ }
 {
     match n {
         TypeName::Multiple(count) => {
@@ -179,7 +179,7 @@ pub fn head_of(loc: u32, shape: Shape) -> Few
 }
 
 fn name_size(n: TypeName) -> u32
-    ensures { λ r. ⌜ ((loc : ℕ) (k : d.Mark) → r ≡ length (apply-head loc k (name-of n))) × (r ≤ 10) ⌝ }
+    ensures { λ r. ⌜ ((loc : ℕ) (k : d.AbilityMark) → r ≡ length (apply-head loc k (name-of n))) × (r ≤ 10) ⌝ }
 {
     match n {
         TypeName::Multiple(_) => 7,

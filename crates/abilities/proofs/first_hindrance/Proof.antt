@@ -8,10 +8,10 @@ use Rattle.abilities.proofs.first_hindrance.Statement.{statement}
 use Rattle.abilities.proofs.first_hindrance.Tie as tie
 
 abbrev Inv-loop : tie.InvT-loop
-Inv-loop w u params ends marks₀ sets₀ n i₀ marks sets i = Passed w u params sets₀ marks sets i
+Inv-loop w u params ends heights₀ sets₀ n i₀ heights sets i = Passed w u params sets₀ heights sets i
 
 abbrev μ-loop : tie.MeasureT-loop
-μ-loop w u params ends marks₀ sets₀ n i₀ marks sets i = n - i
+μ-loop w u params ends heights₀ sets₀ n i₀ heights sets i = n - i
 
 loop-holds : tie.Need-loop-holds Inv-loop μ-loop
 loop-holds c = passed-none _ _ _ _ _ (c .before .before .before .before .pre .0 .0) (c .before .before .before .before .pre .0 .1 .0) (c .before .before .before .before .pre .0 .1 .1 .0) (c .before .before .before .before .pre .0 .1 .1 .1)
@@ -25,7 +25,7 @@ hinder-requires c κs =
     let loop = c .before .before .before .before .loop in (
       (
         pre .0 .0,
-        (passed-asked (loop .inv) (c .before .before .before .loop-test .taken) _ (c .before .before .constraint-at .ensures), (loop .inv .marked, loop .inv .kept)),
+        (passed-asked (loop .inv) (c .before .before .before .loop-test .taken) _ (c .before .before .constraint-at .ensures), (loop .inv .measured, loop .inv .kept)),
       ),
       pre .1,
     )
@@ -60,7 +60,7 @@ loop-again c =
     (hinder .ensures .0)
 
 same-length-3 : tie.Need-same-length-3 Inv-loop μ-loop
-same-length-3 c = c .before .loop .inv .marked .size ∙ sym (c .before .before .before .before .before .before .pre .0 .1 .1 .0 .size)
+same-length-3 c = c .before .loop .inv .measured .size ∙ sym (c .before .before .before .before .before .before .pre .0 .1 .1 .0 .size)
 
 same-length-4 : tie.Need-same-length-4 Inv-loop μ-loop
 same-length-4 c = c .before .loop .inv .kept .size ∙ sym (c .before .before .before .before .before .before .pre .0 .1 .1 .1 .size)

@@ -32,10 +32,10 @@ abbrev levels-calls : ℕ → levels-lts.Claims
 levels-calls t = (wide-reads.Asked, wide-reads.Learnt, goes-on-reads.Asked, goes-on-reads.Learnt, part-count-reads.Asked, part-count-reads.Learnt, part-at-reads.Asked, part-at-reads.Learnt, levels-below t, levels.Post, higher-reads.Asked, higher-reads.Learnt, narrow-reads.Asked, narrow-reads.Learnt)
 
 abbrev levels-Inv-loop : levels-lts.InvT-loop
-levels-Inv-loop w u t left ends marks₀ at known s many high₀ i₀ marks high i = Read w u t left s many marks high i
+levels-Inv-loop w u t left ends heights₀ at known s many high₀ i₀ heights high i = Read w u t left s many heights high i
 
 abbrev levels-μ-loop : levels-lts.MeasureT-loop
-levels-μ-loop w u t left ends marks₀ at known s many high₀ i₀ marks high i = many - i
+levels-μ-loop w u t left ends heights₀ at known s many high₀ i₀ heights high i = many - i
 
 levels-returns : (t : ℕ) → levels-lts.Need-returns (levels-calls t) (levels-at t) levels.Post levels-Inv-loop levels-μ-loop
 levels-returns t c = (levels-none _ _ _ _ (c .if1 .taken), c .before .before .before .before .pre .1 .0 .1 .1 .1)
@@ -83,7 +83,7 @@ levels-levels-requires t c κs = let f = goes-part (c .before .before .before .l
     let l = c .before .before .before .loop .inv .some-left in
     let r = c .before .before .before .loop .inv .room in
     let pre = c .before .before .before .before .before .before .before .before .before .before .before .before .before .pre in
-    (omega (arith, l, pre .0), ((c .before .before .before .loop .inv .lay, (f, (omega (arith, l, r), c .before .before .before .loop .inv .marked))), pre .1 .1))
+    (omega (arith, l, pre .0), ((c .before .before .before .loop .inv .lay, (f, (omega (arith, l, r), c .before .before .before .loop .inv .measured))), pre .1 .1))
 
 levels-same-length : (t : ℕ) → levels-lts.Need-same-length (levels-calls t) (levels-at t) levels.Post levels-Inv-loop levels-μ-loop
 levels-same-length t c = c .before .before .before .levels .ensures .1 .size ∙ sym (c .before .before .before .before .before .before .before .before .before .before .before .before .before .before .before .before .before .pre .1 .0 .1 .1 .1 .size)
@@ -115,10 +115,10 @@ levels-loop-again t c = let loop = c .before .before .before .before .before .be
     (c .higher .ensures) _ (levels .ensures .1)
 
 levels-same-length-2 : (t : ℕ) → levels-lts.Need-same-length-2 (levels-calls t) (levels-at t) levels.Post levels-Inv-loop levels-μ-loop
-levels-same-length-2 t c = c .before .before .before .loop .inv .marked .size ∙ sym (c .before .before .before .before .before .before .before .before .before .before .before .before .before .pre .1 .0 .1 .1 .1 .size)
+levels-same-length-2 t c = c .before .before .before .loop .inv .measured .size ∙ sym (c .before .before .before .before .before .before .before .before .before .before .before .before .before .pre .1 .0 .1 .1 .1 .size)
 
 levels-returns-4 : (t : ℕ) → levels-lts.Need-returns-4 (levels-calls t) (levels-at t) levels.Post levels-Inv-loop levels-μ-loop
-levels-returns-4 t c = (levels-over (c .before .before .before .loop .inv) (c .before .before .loop-test .left) (c .if4 .taken), c .before .before .before .loop .inv .marked)
+levels-returns-4 t c = (levels-over (c .before .before .before .loop .inv) (c .before .before .loop-test .left) (c .if4 .taken), c .before .before .before .loop .inv .measured)
 
 levels-add-narrow : (t : ℕ) → levels-lts.Need-add-narrow (levels-calls t) (levels-at t) levels.Post levels-Inv-loop levels-μ-loop
 levels-add-narrow t c = omega (arith, c .if4 .left, c .before .before .before .before .before .before .before .before .before .before .before .before .before .pre .1 .0 .0 .nodes)
@@ -126,19 +126,19 @@ levels-add-narrow t c = omega (arith, c .if4 .left, c .before .before .before .b
 levels-narrow-requires : (t : ℕ) → levels-lts.Need-narrow-requires (levels-calls t) (levels-at t) levels.Post levels-Inv-loop levels-μ-loop
 levels-narrow-requires t c κs = omega (arith, c .if4 .left, c .before .before .before .before .before .before .before .before .before .before .before .before .before .pre .1 .0 .0 .nodes)
 
-levels-mul-marks : (t : ℕ) → levels-lts.Need-mul-marks (levels-calls t) (levels-at t) levels.Post levels-Inv-loop levels-μ-loop
-levels-mul-marks t c = search needs
+levels-mul-heights : (t : ℕ) → levels-lts.Need-mul-heights (levels-calls t) (levels-at t) levels.Post levels-Inv-loop levels-μ-loop
+levels-mul-heights t c = search needs
 
-levels-slice-write-marks : (t : ℕ) → levels-lts.Need-slice-write-marks (levels-calls t) (levels-at t) levels.Post levels-Inv-loop levels-μ-loop
-levels-slice-write-marks t c = let pre = c .before .before .before .before .before .before .before .before .before .before .before .before .before .before .pre in
+levels-slice-write-heights : (t : ℕ) → levels-lts.Need-slice-write-heights (levels-calls t) (levels-at t) levels.Post levels-Inv-loop levels-μ-loop
+levels-slice-write-heights t c = let pre = c .before .before .before .before .before .before .before .before .before .before .before .before .before .before .pre in
     let wide = c .before .before .before .before .before .before .before .before .before .wide in
-    omega (arith, wide .ensures, pre .1 .0 .1 .0, pre .1 .0 .0 .nodes, c .before .before .before .before .loop .inv .marked .size)
+    omega (arith, wide .ensures, pre .1 .0 .1 .0, pre .1 .0 .0 .nodes, c .before .before .before .before .loop .inv .measured .size)
 
 levels-add-result : (t : ℕ) → levels-lts.Need-add-result (levels-calls t) (levels-at t) levels.Post levels-Inv-loop levels-μ-loop
 levels-add-result t c = omega (arith, c .before .if4 .left, c .before .before .before .before .before .before .before .before .before .before .before .before .before .before .pre .1 .0 .0 .nodes)
 
 levels-same-length-3 : (t : ℕ) → levels-lts.Need-same-length-3 (levels-calls t) (levels-at t) levels.Post levels-Inv-loop levels-μ-loop
-levels-same-length-3 t c = simp length-set (c .before .before .before .before .loop .inv .marked .size ∙ sym (c .before .before .before .before .before .before .before .before .before .before .before .before .before .before .pre .1 .0 .1 .1 .1 .size))
+levels-same-length-3 t c = simp length-set (c .before .before .before .before .loop .inv .measured .size ∙ sym (c .before .before .before .before .before .before .before .before .before .before .before .before .before .before .pre .1 .0 .1 .1 .1 .size))
 
 levels-returns-5 : (t : ℕ) → levels-lts.Need-returns-5 (levels-calls t) (levels-at t) levels.Post levels-Inv-loop levels-μ-loop
 levels-returns-5 t c = let pre = c .before .before .before .before .before .before .before .before .before .before .before .before .before .before .pre in
@@ -147,7 +147,7 @@ levels-returns-5 t c = let pre = c .before .before .before .before .before .befo
     let loop-test = c .before .before .before .loop-test in
     let e = ends-here (loop .inv) (loop-test .left) (c .before .if4 .left) in (
       levels-here (loop .inv) (loop-test .left) (c .before .if4 .left),
-      rw (wide .ensures) (rw (c .narrow .ensures) (marked-more _ _ _ _ _ (loop .inv .marked) (omega (arith, pre .1 .0 .1 .0, pre .1 .0 .0 .nodes)) e)),
+      rw (wide .ensures) (rw (c .narrow .ensures) (marked-more _ _ _ _ _ (loop .inv .measured) (omega (arith, pre .1 .0 .1 .0, pre .1 .0 .0 .nodes)) e)),
     )
 
 pub +levels-spec : {M : Type 1} → statement M
@@ -176,8 +176,8 @@ pub +levels-spec : {M : Type 1} → statement M
     (levels-returns-4 t)
     (levels-add-narrow t)
     (levels-narrow-requires t)
-    (levels-mul-marks t)
-    (levels-slice-write-marks t)
+    (levels-mul-heights t)
+    (levels-slice-write-heights t)
     (levels-add-result t)
     (levels-same-length-3 t)
     (levels-returns-5 t)

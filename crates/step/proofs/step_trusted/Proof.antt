@@ -21,8 +21,8 @@ place-after-requires c κs = search needs
 left-over-requires : tie.Need-left-over-requires
 left-over-requires c κs = search needs
 
-outcome-of-requires : tie.Need-outcome-of-requires
-outcome-of-requires c κs = search needs
+verdict-of-requires : tie.Need-verdict-of-requires
+verdict-of-requires c κs = search needs
 
 enum-known-o : tie.Need-enum-known-o
 enum-known-o c = search needs
@@ -53,7 +53,7 @@ answer-placed-requires c κs =
     let r = read-record .ensures in
     let left-over = c .before .before .before .before .before .before .before .before .before .left-over in
     let o = left-over .ensures in
-    let e = sym (c .before .before .before .before .before .before .o2 .given .1) ∙ c .before .before .before .before .before .before .before .before .outcome-of .ensures in
+    let e = sym (c .before .before .before .before .before .before .o2 .given .1) ∙ c .before .before .before .before .before .before .before .before .verdict-of .ensures in
     let k = runs (read-record .result .read) (left-over .result) _ e in
     let i = placed-in _ _ (p .0 .0) (p .0 .1 .0) v r (start .args .whole) _ o _ (k .0) in
     let n = begins _ _ (p .0 .0) (p .0 .1 .0) v r (start .args .whole) _ o _ (k .0) in
@@ -75,7 +75,7 @@ returns c =
     let r = c .before .before .before .before .before .before .before .before .before .before .before .before .before .before .before .read-record .ensures in
     let n = c .before .before .before .before .before .before .before .before .before .before .before .place-after .ensures in
     let o = c .before .before .before .before .before .before .before .before .before .before .left-over .ensures in
-    let e = sym (c .before .before .before .before .before .before .before .o .given .1) ∙ c .before .before .before .before .before .before .before .before .before .outcome-of .ensures in
+    let e = sym (c .before .before .before .before .before .before .before .o .given .1) ∙ c .before .before .before .before .before .before .before .before .before .verdict-of .ensures in
     steps-refused _ _ (p .0 .0) (p .0 .1 .0) v r _ _ o (p .0 .1 .1 .0) n e (c .before .before .before .refuse .ensures) _ (c .with-next .ensures)
 
 same-length-3 : tie.Need-same-length-3
@@ -96,7 +96,7 @@ returns-2 c =
     let n = c .before .before .before .before .before .before .before .before .before .before .before .before .before .before .before .before .place-after .ensures in
     let left-over = c .before .before .before .before .before .before .before .before .before .before .before .before .before .before .before .left-over in
     let o = left-over .ensures in
-    let e = sym (c .before .before .before .before .before .before .before .before .before .before .before .before .o2 .given .1) ∙ c .before .before .before .before .before .before .before .before .before .before .before .before .before .before .outcome-of .ensures in
+    let e = sym (c .before .before .before .before .before .before .before .before .before .before .before .before .o2 .given .1) ∙ c .before .before .before .before .before .before .before .before .before .before .before .before .before .before .verdict-of .ensures in
     let k = runs (read-record .result .read) (left-over .result) _ e in
     steps-run _ _ (p .0 .0) (p .0 .1 .0) v r _ _ o _ (k .0) (k .1) (p .0 .1 .1 .0) n (c .before .before .before .before .before .before .before .before .before .before .rows-after .ensures)
     (c .before .before .before .before .before .answer-placed .ensures) (c .with-next2 .ensures)
@@ -109,7 +109,7 @@ step-trusted-spec =
     read-record-requires
     place-after-requires
     left-over-requires
-    outcome-of-requires
+    verdict-of-requires
     enum-known-o
     refuse-requires
     with-next-requires

@@ -40,7 +40,7 @@ use denote.Triple.Walked.{says, Stays, stay-ref, walkOf, goes-ref, Walks, ends-a
 use Rattle.table.specs.State.{one-var}
 use Rattle.table.specs.declared.Used.{Used}
 use Rattle.table.specs.declared.Out.{Out}
-use Rattle.table.specs.declared.Step.{Step}
+use Rattle.table.specs.declared.Outcome.{Outcome}
 use Rattle.table.proofs.Used as T
 use Rattle.table.proofs.Used.Laws as T′
 use Rattle.table.proofs.Out as E
@@ -64,7 +64,7 @@ module _ {M : Type 1} (𝓤 : URA M) (H : Heap 𝓤) (A : Atoms 𝓤) (at-mem : 
   abbrev Callee : Contract 𝓤
   Callee = tripleOf 𝓤 H A callee.signature (callee.spec 𝓤 H A at-mem run)
 
-  said : (h : Used) (r : Step) → ent 𝓤 (ensured 𝓤 H A callee.ended (callee.clauses 𝓤 H A at-mem run) tt (h, tt) tt r) (fact 𝓤 (r ≡ one-var h))
+  said : (h : Used) (r : Outcome) → ent 𝓤 (ensured 𝓤 H A callee.ended (callee.clauses 𝓤 H A at-mem run) tt (h, tt) tt r) (fact 𝓤 (r ≡ one-var h))
   said h r = exE 𝓤 _ (λ ws. snd∗ 𝓤 (sem 𝓤 H A (lasts callee.ended tt (h, tt) ws)) (fact 𝓤 (r ≡ one-var h)))
 
 module _ {M : Type 1} (𝓤 : URA M) (H : Heap 𝓤) (A : Atoms 𝓤) (W : Given 𝓤 H A) (at-mem : Memory → SProp 𝓤) (run : Routine → Fun 𝓤) (κ : Lft) (q : Share) (b o : ℕ) (γ : GName) (h : Used) where
@@ -83,10 +83,10 @@ module _ {M : Type 1} (𝓤 : URA M) (H : Heap 𝓤) (A : Atoms 𝓤) (W : Given
   goes-callee : ent 𝓤 (sem 𝓤 H A (T.the-row .own h (T′.lowered h ∷ []))) (Callee 𝓤 H A at-mem run .pre to-callee)
   goes-callee = qed W (‵ (T.the-row .own h (T′.lowered h ∷ [])) ∷ []) ∵ nothing ! $ move ! (1 ∷ 0 ∷ []) $ join ! $ nothing ! $ join ! $ frame ! $ done !
 
-  exits : (r : Step) → r ≡ one-var h → ent 𝓤 (⋆ 𝓤 H A (‵ (fobs γ (T.the-row .coded .code (r .used))) ∷ ‵ (fbor κ (Body (mem T.the-row) b o γ)) ∷ ‵ (flft κ q) ∷ ‵ (E.the-row .own (r .out) (EL.val E.the-type E′.the-laws (r .out) ∷ [])) ∷ [])) (Post (EL.val E.the-type E′.the-laws (r .out)))
+  exits : (r : Outcome) → r ≡ one-var h → ent 𝓤 (⋆ 𝓤 H A (‵ (fobs γ (T.the-row .coded .code (r .used))) ∷ ‵ (fbor κ (Body (mem T.the-row) b o γ)) ∷ ‵ (flft κ q) ∷ ‵ (E.the-row .own (r .out) (EL.val E.the-type E′.the-laws (r .out) ∷ [])) ∷ [])) (Post (EL.val E.the-type E′.the-laws (r .out)))
   exits r e =
       qed W (‵ (fobs γ (T.the-row .coded .code (r .used))) ∷ ‵ (fbor κ (Body (mem T.the-row) b o γ)) ∷ ‵ (flft κ q) ∷ ‵ (E.the-row .own (r .out) (EL.val E.the-type E′.the-laws (r .out) ∷ [])) ∷ []) ∵
-      suffices ! _ (ends-at 𝓤 H A self.ended stayed (self.clauses 𝓤 H A at-mem run) W (((κ, tt), (q, tt), tt, x, at), tt) (EL.val E.the-type E′.the-laws (r .out)) (r .out) (r .used, tt) (tt, tt)) $ says ! (ap (λ (s : Step). s .out) e, ap (λ (s : Step). s .used) e) $
+      suffices ! _ (ends-at 𝓤 H A self.ended stayed (self.clauses 𝓤 H A at-mem run) W (((κ, tt), (q, tt), tt, x, at), tt) (EL.val E.the-type E′.the-laws (r .out)) (r .out) (r .used, tt) (tt, tt)) $ says ! (ap (λ (s : Outcome). s .out) e, ap (λ (s : Outcome). s .used) e) $
       nothing ! $ move ! (3 ∷ 0 ∷ []) $ join ! $ frame ! $ feqI ! (List Val) (vptr b o ∷ []) (vptr b o ∷ []) refl $ fjoin3 ! $ nothing ! $ move ! (1 ∷ 0 ∷ []) $ fjoin ! $ frame ! $ done !
 
   module _ (C : Calls 𝓤 H) (Λ : Loops 𝓤 H) (fm : FmC 𝓤 H (W .laws) C) (known : Triple 𝓤 (C #callee) (Callee 𝓤 H A at-mem run)) where
@@ -103,10 +103,10 @@ module _ {M : Type 1} (𝓤 : URA M) (H : Heap 𝓤) (A : Atoms 𝓤) (W : Given
         assigns ! (of-opd ! (load ! (from ! (hop ! (look ! 9 refl) (stop !))) (look ! 0 refl))) (from ! (stop !)) (init ! 5 refl (LL.lawful T.the-type T′.the-laws 𝓤 H A W .typed h _ was .0)) $
         move ! (1 ∷ []) $ use1 W (raw (Callee 𝓤 H A at-mem run .pre to-callee)) goes-callee $
         calls-at ! fm (Callee 𝓤 H A at-mem run) known to-callee (and-then ! (load ! (from ! (stop !)) (look ! 5 refl)) (no-more !)) (λ u.
-        use1 W (later (some (λ (r : Step). (‵ ftrue ⊛ ‵ (S.the-row .own r (u ∷ []))) ⊛ raw (ensured 𝓤 H A callee.ended (callee.clauses 𝓤 H A at-mem run) tt (h, tt) tt r)))) (id⊢ 𝓤 _) $ await ! tt $ pick ! (λ r.
+        use1 W (later (some (λ (r : Outcome). (‵ ftrue ⊛ ‵ (S.the-row .own r (u ∷ []))) ⊛ raw (ensured 𝓤 H A callee.ended (callee.clauses 𝓤 H A at-mem run) tt (h, tt) tt r)))) (id⊢ 𝓤 _) $ await ! tt $ pick ! (λ r.
         split ! $ move ! (1 ∷ []) $ use1 W (raw (fact 𝓤 (r ≡ one-var h))) (said 𝓤 H A at-mem run h r) $ heard ! (r ≡ one-var h) (λ e. split ! $ drop ! $
         peeks ! S.the-row (Is S.the-row) (shows 𝓤 H A S.the-row) r (u ∷ []) (λ is.
-        -- [what the Step owns; the struct's cell; the open borrow; obs; auth; _3; …; room for _2; …; _1; …; room for _0; …]
+        -- [what the Outcome owns; the struct's cell; the open borrow; obs; auth; _3; …; room for _2; …; _1; …; room for _0; …]
         land ! (from ! (stop !)) (init ! 7 refl (LL.lawful S.the-type S′.the-laws 𝓤 H A W .typed r _ is .0)) $
         use1 W (given (u ∷ [] ≡ LL.val S.the-type S′.the-laws r ∷ []) (‵ (all-own (S.the-type .parts) S′.the-laws (r .out, (r .used, tt))))) (own-open 𝓤 H A W S.the-type S′.the-laws (r .out, (r .used, tt)) u) $ learn ! (λ eq.
         rewrite ! 7 (λ (v : Val). ‵ (fat fullShare S′.mir l₂ 0 v)) (ap only eq) refl $

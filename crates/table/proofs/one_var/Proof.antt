@@ -42,7 +42,7 @@ use denote.Exit.{yes}
 use Rattle.table.specs.State.{one-var}
 use Rattle.table.specs.declared.Used.{Used}
 use Rattle.table.specs.declared.Out.{Out}
-use Rattle.table.specs.declared.Step.{Step}
+use Rattle.table.specs.declared.Outcome.{Outcome}
 use Rattle.table.proofs.Used as T
 use Rattle.table.proofs.Used.Laws as T′
 use Rattle.table.proofs.Out as E
@@ -99,7 +99,7 @@ module _ {M : Type 1} (𝓤 : URA M) (H : Heap 𝓤) (A : Atoms 𝓤) (W : Given
   goes-callee : (l ν : ℕ) (δ : GName) → ent 𝓤 (sep 𝓤 (A .lft (ν ∷ []) fullShare) (sem 𝓤 H A (MutRef (named 0) (ν ∷ []) T.the-row .own (lent l δ) (vptr l 0 ∷ [])))) (Callee 𝓤 H A at-mem run .pre (to-callee l ν δ))
   goes-callee l ν δ = qed W (‵ (flft (ν ∷ []) fullShare) ∷ ‵ (MutRef (named 0) (ν ∷ []) T.the-row .own (lent l δ) (vptr l 0 ∷ [])) ∷ []) ∵ nothing ! $ move ! (1 ∷ 0 ∷ []) $ join ! $ nothing ! $ move ! (2 ∷ 0 ∷ []) $ fjoin ! $ move ! (1 ∷ 0 ∷ []) $ join ! $ frame ! $ done !
 
-  abbrev made : Used → Out → Step
+  abbrev made : Used → Out → Outcome
   made z t = record { out = t; used = z }
 
   exits : Is T.the-row h (mach ∷ []) → (z : Used) (t : Out) → (t ≡ one-var h .out) × (z ≡ one-var h .used) → ent 𝓤 (⋆ 𝓤 H A (‵ (S.the-row .own (made z t) (LL.val S.the-type S′.the-laws (made z t) ∷ [])) ∷ [])) (Post (LL.val S.the-type S′.the-laws (made z t)))

@@ -11,8 +11,8 @@ use Rattle.fields.specs.declared.What.{What}
 use Rattle.fields.specs.declared.What.the-variants as q
 use Rattle.fields.specs.declared.Whole.{Whole}
 use Rattle.fields.specs.declared.Whole.the-variants.{Placed, Full, Malformed, Unknown, Doubled}
-use Rattle.outcome.specs.declared.Outcome.{Outcome}
-use Rattle.outcome.specs.declared.Outcome.the-variants.{Refused, Run}
+use Rattle.verdict.specs.declared.Verdict.{Verdict}
+use Rattle.verdict.specs.declared.Verdict.the-variants.{Refused, Run}
 
 -- ---- SD's row
 
@@ -39,13 +39,13 @@ rows-after (q.Add x) n = n
 -- ---- what it comes to
 
 -- 5, 6 and 18 where reading stopped, 7 where there is no space. Bytes left over are 5, which comes before 7
-abbrev pub outcome-of : Whole → Bool → Outcome
-outcome-of Malformed over = Refused 5
-outcome-of Unknown over = Refused 6
-outcome-of Doubled over = Refused 18
-outcome-of Full over = Refused (if over then 5 else 7)
-outcome-of (Placed x) true = Refused 5
-outcome-of (Placed x) false = Run x
+abbrev pub verdict-of : Whole → Bool → Verdict
+verdict-of Malformed over = Refused 5
+verdict-of Unknown over = Refused 6
+verdict-of Doubled over = Refused 18
+verdict-of Full over = Refused (if over then 5 else 7)
+verdict-of (Placed x) true = Refused 5
+verdict-of (Placed x) false = Run x
 
 -- ---- the stream after a record
 

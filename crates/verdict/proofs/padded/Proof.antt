@@ -1,10 +1,10 @@
--- `outcome::padded` meets its contract. The loop's invariant: the bytes before n are as they were, and those from n to i are zero. Assumes nothing.
+-- `verdict::padded` meets its contract. The loop's invariant: the bytes before n are as they were, and those from n to i are zero. Assumes nothing.
 use Prim.Native.Nat.{_-_}
 use native.Mathlib.Omega.{arith}
 use borrow.Author.Needs.{needs}
-use Rattle.outcome.proofs.Padding.{Padding, padding-none, padding-more, padding-all}
-use Rattle.outcome.proofs.padded.Statement.{statement}
-use Rattle.outcome.proofs.padded.Tie as tie
+use Rattle.verdict.proofs.Padding.{Padding, padding-none, padding-more, padding-all}
+use Rattle.verdict.proofs.padded.Statement.{statement}
+use Rattle.verdict.proofs.padded.Tie as tie
 
 abbrev Inv-loop : tie.InvT-loop
 Inv-loop n row₀ i₀ row i = Padding row₀ n row i

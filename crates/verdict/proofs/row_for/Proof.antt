@@ -1,7 +1,7 @@
--- `outcome::row_for` meets its contract. Assumes nothing.
+-- `verdict::row_for` meets its contract. Assumes nothing.
 use borrow.Author.Needs.{needs}
-use Rattle.outcome.proofs.row_for.Statement.{statement}
-use Rattle.outcome.proofs.row_for.Tie as tie
+use Rattle.verdict.proofs.row_for.Statement.{statement}
+use Rattle.verdict.proofs.row_for.Tie as tie
 
 enum-told : tie.Need-enum-told
 enum-told c = search needs

@@ -1,7 +1,7 @@
--- `outcome::left_over` meets its contract. Assumes nothing.
+-- `verdict::left_over` meets its contract. Assumes nothing.
 use borrow.Author.Needs.{needs}
-use Rattle.outcome.proofs.left_over.Statement.{statement}
-use Rattle.outcome.proofs.left_over.Tie as tie
+use Rattle.verdict.proofs.left_over.Statement.{statement}
+use Rattle.verdict.proofs.left_over.Tie as tie
 
 returns : tie.Need-returns
 returns c = rw (c .if1 .taken)

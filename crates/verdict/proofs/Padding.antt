@@ -8,7 +8,7 @@ use lib.ListN.{length, getD, set, take, length-set, length-take, List·getD-eq-d
 use lib.Seq.{ext-getD, getD-take, getD-set-same, getD-set-other}
 use Rattle.table.specs.Tab.{tab}
 use Rattle.table.proofs.Tab.{length-tab, getD-tab}
-use Rattle.outcome.specs.Outcome.{padded}
+use Rattle.verdict.specs.Verdict.{padded}
 
 pub record Padding (bytes : List ℕ) (n : ℕ) (row : List ℕ) (i : ℕ) : Type 0 where
   pub from : n ≤ i

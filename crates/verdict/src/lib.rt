@@ -5,7 +5,7 @@ ghost use Prim.Native.Nat.{_≤_};
 ghost use lib.Dec.{ltb};
 ghost use lib.ListN.{length};
 ghost use Rattle.definition.specs.Types.{if_then_else_};
-ghost use Rattle.outcome.specs.Outcome.{row-for, padded, rows-after, outcome-of, place-after};
+ghost use Rattle.verdict.specs.Verdict.{row-for, padded, rows-after, verdict-of, place-after};
 use fields::What;
 use fields::Whole;
 use payload::Answer;
@@ -65,7 +65,7 @@ pub fn rows_after(what: What, n: u32) -> u32
 // ---- what it comes to
 
 // Refused with this number, or to run.
-pub enum Outcome {
+pub enum Verdict {
     Refused(u32),
     Run(What),
 }
@@ -92,19 +92,19 @@ fn seven_or_five(over: bool) -> u32
 
 // 5, 6 and 18 where reading stopped, 7 where there is no space; bytes left over are 5, which comes before 7.
 // Refused: 5 for an unknown name (unknown_is_five).
-pub fn outcome_of(read: Whole, over: bool) -> Outcome
-    ensures { λ r. ⌜ r ≡ outcome-of read over ⌝ }
+pub fn verdict_of(read: Whole, over: bool) -> Verdict
+    ensures { λ r. ⌜ r ≡ verdict-of read over ⌝ }
 {
     match read {
-        Whole::Malformed => Outcome::Refused(5),
-        Whole::Unknown => Outcome::Refused(6),
-        Whole::Doubled => Outcome::Refused(18),
-        Whole::Full => Outcome::Refused(seven_or_five(over)),
+        Whole::Malformed => Verdict::Refused(5),
+        Whole::Unknown => Verdict::Refused(6),
+        Whole::Doubled => Verdict::Refused(18),
+        Whole::Full => Verdict::Refused(seven_or_five(over)),
         Whole::Placed(x) => {
             if over {
-                return Outcome::Refused(5);
+                return Verdict::Refused(5);
             }
-            Outcome::Run(x)
+            Verdict::Run(x)
         }
     }
 }

@@ -1,8 +1,8 @@
--- `outcome::outcome_of` meets its contract. Assumes nothing.
+-- `verdict::verdict_of` meets its contract. Assumes nothing.
 use mathlib.Core.Path.{refl}
 use borrow.Author.Needs.{needs}
-use Rattle.outcome.proofs.outcome_of.Statement.{statement}
-use Rattle.outcome.proofs.outcome_of.Tie as tie
+use Rattle.verdict.proofs.verdict_of.Statement.{statement}
+use Rattle.verdict.proofs.verdict_of.Tie as tie
 
 enum-told : tie.Need-enum-told
 enum-told c = search needs
@@ -40,8 +40,8 @@ returns-5 c = rw (c .seven-or-five .ensures, c .before .enum-told4 .given .1) re
 returns-6 : tie.Need-returns-6
 returns-6 c = rw (c .before .before .read .given .1, c .if1 .left) refl
 
-pub outcome-of-spec : {M : Type 1} → statement M
-outcome-of-spec =
+pub verdict-of-spec : {M : Type 1} → statement M
+verdict-of-spec =
     tie.close
     (tie.spec
     enum-told

@@ -1,2 +1,2 @@
 -- What follows from what a record was read into. Assumes nothing: these are definitions.
-pub mod Outcome
+pub mod Verdict
