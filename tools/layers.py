@@ -13,7 +13,7 @@ KIT = ('io', 'libc')
 GROUPS = [
     ('believed', '#f5d76e', 'definition theorems pieces test_replay'),
     ('the lent words', '#aed6f1', 'names table snapshot sound_fields sound_rows sound_tables sound'),
-    ("core.rs's functions", '#a9dfbf', 'shapes subst ready arms merge join tparams instantiate abilities failing constraints'),
+    ("core.rs's functions", '#a9dfbf', 'shapes subst ends ready arms merge join tparams instantiate abilities failing constraints'),
     ('bytes in and out', '#d7bde2', 'cursor marks heads reader needs fields record writer log payload answer'),
     ('a record', '#f5b7b1', 'run solve verdict step'),
     ('calls, programs', '#d5dbdb', 'limits engine turns joinlog exports test_edges test_traps'),

@@ -30,8 +30,8 @@ use Rattle.table.specs.declared.Used.{Used}
 use Rattle.table.proofs.Constraint.{the-type}
 use Rattle.table.proofs.Pushed.{count-view, constraints-view, constraints-seen}
 use Rattle.shapes.proofs.Tags.{plain-tags, other-constraints}
-use Rattle.ready.specs.Itself.{Measured, Levels}
-use Rattle.ready.proofs.Itself.{reaches-is}
+use Rattle.ends.specs.Itself.{Measured, Levels}
+use Rattle.ends.proofs.Itself.{reaches-is}
 use Rattle.abilities.specs.Kept.{Ends, Has-set, Kept, Inferred}
 use Rattle.abilities.specs.Rules.{misses, any-misses, clashes, Asked-in, Asked-kept, All-asked, All-kept, refusal-of, Number, clear, nine, sixteen, Hindered}
 use Rattle.abilities.proofs.Laws.{none-of, is-false}

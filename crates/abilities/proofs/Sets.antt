@@ -25,9 +25,9 @@ use Rattle.table.proofs.Shape.{the-type}
 use Rattle.shapes.specs.Applied.{as-shape}
 use Rattle.shapes.specs.declared.Applied.{Applied}
 use Rattle.shapes.proofs.Tags.{other-shapes}
-use Rattle.ready.specs.Itself.{Goes-on}
+use Rattle.ends.specs.Itself.{Goes-on}
 use Rattle.table.proofs.Pushed.{count-seen}
-use Rattle.ready.proofs.Lists.{all-one}
+use Rattle.ends.proofs.Lists.{all-one}
 use Rattle.subst.proofs.Occurs.{zero-at}
 use Rattle.abilities.specs.Kept.{parts-of, part-count, Ends, Has-set, Kept, Parts-kept, Ready, Args-ready, Inferred}
 

@@ -14,8 +14,8 @@ ghost use Rattle.names.specs.Names.{name-of};
 ghost use Rattle.table.specs.State.{found, shape-of, constraint-of, view, seen, Lay, Declares, Found-in};
 ghost use Rattle.table.specs.Known.{Known};
 ghost use Rattle.shapes.specs.Applied.{args-of};
-ghost use Rattle.ready.specs.Ends.{Ends-known};
-ghost use Rattle.ready.specs.Itself.{Goes-on, Measured};
+ghost use Rattle.ends.specs.Ends.{Ends-known};
+ghost use Rattle.ends.specs.Itself.{Goes-on, Measured};
 ghost use Rattle.abilities.specs.Kept.{Has-set, Kept, Parts-kept, Ready, Args-ready, parts-of, part-count, Inferred, Ends};
 ghost use Rattle.abilities.specs.Rules.{rule-of, Rule-in, lacks-at, misses, any-misses, clashes, Asked-in, Asked-kept, All-asked, All-kept, Hindered, asks-abilities, any-asks};
 use names::AbilityMark;
@@ -255,7 +255,7 @@ fn keep_set(w: &[u32], u: Used, params: &[[u8; 8]; 256], t: u32, ends: &[u32], s
     requires { ⌜ Ends-known (now w) u (now ends) ⌝ }
     ensures { λ _. ⌜ Inferred (now (w .entry)) u (now (params .entry)) t (now (sets .entry)) (now (sets .exit)) ⌝ }
 {
-    let s = ready::goes_on(w, u, t, ends);
+    let s = ends::goes_on(w, u, t, ends);
     let a = set_of(w, u, params, s, sets);
     let at = shapes::wide(t);
     sets[at] = 256 + table::bits(a);
@@ -280,7 +280,7 @@ fn infer(
     if 256 <= sets[at] {
         return;
     }
-    let s = ready::goes_on(w, u, t, ends);
+    let s = ends::goes_on(w, u, t, ends);
     let many = shapes::part_count(s);
     if many == 0 {
         keep_set(w, u, params, t, ends, sets);
@@ -415,7 +415,7 @@ fn any_contradicts(
     if !any_missing(w, u, params, a, sets) {
         return false;
     }
-    let s = ready::goes_on(w, u, a.ty, ends);
+    let s = ends::goes_on(w, u, a.ty, ends);
     shape_contradicts(w, u, params, a, s, sets)
 }
 
@@ -435,7 +435,7 @@ fn ability_hinders(
     requires { ⌜ Ends-known (now w) u (now ends) ⌝ }
     ensures { λ r. ⌜ Measured (now (w .entry)) u (now (heights .exit)) × Hindered (now (w .entry)) u (now (params .entry)) (now (sets .entry)) (now (sets .exit)) r (λ s. ability-hindrance s (a .ty) (a .set .0)) (λ l. Has-set l (a .ty)) ⌝ }
 {
-    let n = ready::levels(w, u, a.ty, u.nodes, ends, heights);
+    let n = ends::levels(w, u, a.ty, u.nodes, ends, heights);
     if n == 0 {
         return 9;
     }
@@ -506,7 +506,7 @@ pub fn hinders(
     ensures { λ r. ⌜ Hindered (now (w .entry)) u (now (params .entry)) (now (sets .entry)) (now (sets .exit)) r (λ s. hindrance s (s .constraints)) (λ l. All-kept l (view (now (w .entry)) u .constraints)) ⌝ }
 {
     let mut ends: [u32; 1024] = [0; 1024];
-    ready::note_ends(w, u, &mut ends);
+    ends::note_ends(w, u, &mut ends);
     first_hindrance(w, u, params, &ends, heights, sets)
 }
 

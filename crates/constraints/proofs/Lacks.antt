@@ -26,10 +26,10 @@ use Rattle.table.specs.declared.Node.{Node}
 use Rattle.table.specs.declared.Shape.{Shape}
 use Rattle.table.specs.declared.Used.{Used}
 use Rattle.subst.specs.Answers.{Unfolds, unfolded}
-use Rattle.ready.specs.Itself.{Goes-on}
+use Rattle.ends.specs.Itself.{Goes-on}
 use Rattle.subst.specs.declared.Unfolded.{Unfolded}
 use Rattle.subst.specs.declared.Unfolded.the-variants.{Node as NodeU, Anything as AnythingU}
-use Rattle.ready.proofs.Itself.{goes-node, unfolded-node}
+use Rattle.ends.proofs.Itself.{goes-node, unfolded-node}
 use Rattle.abilities.specs.Kept.{Has-set, Kept}
 use Rattle.abilities.specs.Rules.{rule-of, misses}
 use Rattle.abilities.specs.declared.Rule.{Rule}

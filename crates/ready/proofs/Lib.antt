@@ -1,5 +1,3 @@
 -- Laws of the definition's test for types that run into themselves, and of ready_tvars, as the code's proofs cite them. Assumes nothing.
-pub mod Lists
-pub mod Itself
-pub mod Ends
 pub mod Run
+pub mod Eight

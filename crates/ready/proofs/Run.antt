@@ -36,13 +36,13 @@ use Rattle.table.proofs.Walk.{rest, Walked, walk-start}
 use Rattle.table.proofs.Pushed.{count-view, count-seen}
 use Rattle.shapes.specs.Parts.{part-count}
 use Rattle.shapes.proofs.Tags.{other-shapes}
-use Rattle.ready.specs.Ends.{Ends-known}
+use Rattle.ends.specs.Ends.{Ends-known}
 use Rattle.ready.specs.Ready.{rebuilt, rebuilt-at, by-parts, by-parts-at, Has-parts, onward-of, Onward-in, Goes, landed, Landing-in, Lands}
 use Rattle.ready.specs.declared.Onward.{Onward}
 use Rattle.ready.specs.declared.Onward.the-variants.{Parts, Open, Bound}
 use Rattle.ready.specs.declared.Landing.{Landing}
 use Rattle.ready.specs.declared.Landing.the-variants.{Parts as PartsL, Open as OpenL, Spent}
-use Rattle.ready.proofs.Itself.{few-parts}
+use Rattle.ends.proofs.Itself.{few-parts}
 use Rattle.shapes.proofs.Nodes.{Low, at-node, below-low, inside-seen, many-parts, part-is}
 
 -- ---- one level

@@ -79,7 +79,7 @@ fn walks(w: &[u32], u: Used, t: u32) -> [u8; 6]
     let mut turns: u32 = 0;
     while turns < 10000 {
         used = subst::used_tvars(w, u, TVar(0), t);
-        itself = ready::reaches_itself(w, u, t);
+        itself = ends::reaches_itself(w, u, t);
         turns = turns + 1;
     }
     [b'1', b' ', digit(used), b' ', digit(itself), b'\n']

@@ -1,6 +1,6 @@
 -- `abilities::hinders` meets its contract. Assumes nothing.
 use mathlib.Core.Path.{sym}
-use Rattle.ready.proofs.Ends.{noted-none}
+use Rattle.ends.proofs.Ends.{noted-none}
 use borrow.Author.Needs.{needs}
 use Rattle.abilities.proofs.hinders.Statement.{statement}
 use Rattle.abilities.proofs.hinders.Tie as tie

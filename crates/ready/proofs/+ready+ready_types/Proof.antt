@@ -9,7 +9,7 @@ use Rattle.table.proofs.Steps.{after-done}
 use Rattle.table.proofs.Grown.{still-in}
 use Rattle.table.proofs.Walk.{Walked, walk-stop, walk-more, walk-end, walk-parts}
 use mathlib.Core.Path.{sym, _∙_}
-use Rattle.ready.specs.Ends.{Ends-known}
+use Rattle.ends.specs.Ends.{Ends-known}
 use Prim.Native.Nat.{ℕ, _<_, _-_, _+_, _*_}
 use borrow.Fn.Kinds.{In}
 use borrow.Fn.PlainCycle.{Measures, is, falls, and}
@@ -25,7 +25,7 @@ use Rattle.ready.proofs.rebuild.Reads as rebuild-reads
 use Rattle.ready.proofs.rebuild_bare.Reads as rebuild-bare-reads
 use Rattle.ready.proofs.anew.Reads as anew-reads
 use Rattle.shapes.proofs.wide.Reads as wide-reads
-use Rattle.ready.proofs.narrow.Reads as narrow-reads
+use Rattle.ends.proofs.narrow.Reads as narrow-reads
 use Rattle.table.proofs.done_of.Reads as done-of-reads
 use Rattle.table.proofs.push_node.Reads as push-node-reads
 use Rattle.ready.proofs.+ready+ready_types.{statement}

@@ -1,5 +1,5 @@
 -- `ready::anew` meets its contract. Assumes nothing.
-use Rattle.ready.proofs.Ends.{same-step}
+use Rattle.ends.proofs.Ends.{same-step}
 use borrow.Author.Needs.{needs}
 use Rattle.ready.proofs.anew.Statement.{statement}
 use Rattle.ready.proofs.anew.Tie as tie

@@ -1,6 +1,6 @@
 -- `ready::ready_far` meets its contract. Assumes nothing.
 use mathlib.Core.Path.{sym, _∙_}
-use Rattle.ready.proofs.Ends.{noted-none}
+use Rattle.ends.proofs.Ends.{noted-none}
 use Rattle.ready.proofs.Run.{run-stop, run-on}
 use borrow.Author.Needs.{needs}
 use Rattle.ready.proofs.ready_far.Statement.{statement}

@@ -1,5 +1,5 @@
 -- `ready::ready_near` meets its contract. Assumes nothing.
-use Rattle.ready.proofs.Ends.{known-none}
+use Rattle.ends.proofs.Ends.{known-none}
 use borrow.Author.Needs.{needs}
 use Rattle.ready.proofs.ready_near.Statement.{statement}
 use Rattle.ready.proofs.ready_near.Tie as tie

@@ -1,6 +1,6 @@
 -- `ready::rebuild` meets its contract. Assumes nothing.
 use mathlib.Core.Path.{sym, _∙_}
-use Rattle.ready.proofs.Lists.{all-eight}
+use Rattle.ready.proofs.Eight.{all-eight}
 use Rattle.ready.proofs.Run.{ref-in, rebuilt-plain, anew-stays, anew-ref, anew-apply}
 use borrow.Author.Needs.{needs}
 use Rattle.ready.proofs.rebuild.Statement.{statement}

@@ -1,6 +1,6 @@
 -- `solve::solve_abilities` meets its contract. Assumes nothing.
 use native.Mathlib.Omega.{arith}
-use Rattle.ready.proofs.Itself.{marked-none}
+use Rattle.ends.proofs.Itself.{marked-none}
 use Rattle.abilities.proofs.Sets.{kept-none}
 use Rattle.solve.proofs.Ready.{all-asked, all-ready}
 use Rattle.solve.proofs.Answers.{abilities-refused, abilities-clear}

@@ -5,7 +5,7 @@ use Rattle.test_traps.proofs.walks.Statement.{statement}
 use Rattle.test_traps.proofs.walks.Tie as tie
 use Rattle.test_traps.proofs.walks.Reads as reads
 use Rattle.test_traps.proofs.walks.Lts as lts
-use Rattle.ready.proofs.reaches_itself.Reads as reaches-itself-reads
+use Rattle.ends.proofs.reaches_itself.Reads as reaches-itself-reads
 use Rattle.subst.proofs.used_tvars.Reads as used-tvars-reads
 use Rattle.test_traps.proofs.digit.Reads as digit-reads
 
