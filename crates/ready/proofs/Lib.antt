@@ -1,3 +1,3 @@
--- Laws of the definition's test for types that run into themselves, and of ready_tvars, as the code's proofs cite them. Assumes nothing.
+-- Laws of ready_tvars, as the proofs of the code cite them. Assumes nothing.
 pub mod Run
 pub mod Eight
