@@ -45,8 +45,8 @@ use Rattle.table.proofs.Used as T
 use Rattle.table.proofs.Used.Laws as T′
 use Rattle.table.proofs.Out as E
 use Rattle.table.proofs.Out.Laws as E′
-use Rattle.table.proofs.Step as S
-use Rattle.table.proofs.Step.Laws as S′
+use Rattle.table.proofs.Outcome as S
+use Rattle.table.proofs.Outcome.Laws as S′
 use Rattle.table.proofs.var_taken as callee
 use Rattle.table.proofs.var_taken.Symbol as callee-def
 use Rattle.table.proofs.var_taken.Symbol.{name as #callee}
