@@ -7,14 +7,13 @@ use native.Mathlib.Nat.{zero-add, suc-add}
 use native.Mathlib.Omega.{arith}
 use lib.ListN.{length, take, drop}
 use lib.Seq.{take-take, drop-drop}
-use Rattle.definition.specs.Types.{State, Struct, BaseTypeConstraint, SingleTypeConstraint, malformed, unknown-name, Result, ok, _>>=_}
+use Rattle.definition.specs.Types.{State, Struct, malformed, unknown-name, Result, ok, _>>=_}
 use Rattle.definition.specs.Store.{taken}
 use Rattle.definition.specs.Write.{Bytes}
 use Rattle.definition.specs.Reader as rd
 use Rattle.definition.specs.Reader.{Read, give, go-on, read-u32, read-one, read-two, read-three, name-below}
 use Rattle.definition.specs.Trees.{Tree, read-nested, read-type}
 use Rattle.definition.specs.Build.{build}
-use Rattle.definition.specs.Join.{Join, Subtype}
 use Rattle.definition.specs.Step.{numeric-constraint}
 use Rattle.definition.specs.Record as d
 use Rattle.definition.specs.Record.{Record, read-SD, read-pair, read-TS, read-kind}
@@ -31,6 +30,15 @@ use Rattle.reader.specs.Taken.{Placed, placed, place-read, part-of, Part-in, Ta
 use Rattle.heads.proofs.Heads.{declares-self}
 use Rattle.reader.proofs.Parts.{at-open}
 use Rattle.reader.proofs.Loop.{declares-kept, knowing, knows}
+use Rattle.marks.specs.declared.LocMark.{LocMark}
+use Rattle.marks.specs.declared.LocMark.the-variants.{FV, NV}
+use Rattle.marks.specs.declared.LookMark.{LookMark}
+use Rattle.marks.specs.declared.LookMark.the-variants.{UF, RD}
+use Rattle.marks.specs.declared.TwoMark.{TwoMark}
+use Rattle.marks.specs.declared.TwoMark.the-variants.{JN, SU}
+use Rattle.marks.specs.declared.LocTypeMark.{LocTypeMark}
+use Rattle.marks.specs.declared.LocTypeMark.the-variants.{BC, SC}
+use Rattle.marks.specs.Marks.{loc-record, look-record, two-record, loc-type-record}
 use Rattle.needs.specs.Counted.{as-argument, Tells, Counts}
 use Rattle.needs.specs.declared.Counted.{Counted}
 use Rattle.fields.specs.declared.Bind.the-variants as c
@@ -40,9 +48,29 @@ use Rattle.fields.specs.declared.What.{What}
 use Rattle.fields.specs.declared.What.the-variants as q
 use Rattle.fields.specs.declared.Whole.the-variants as h
 use Rattle.fields.specs.declared.Fields.{Fields}
-use Rattle.fields.specs.Noded.{Noded, place-record, noded, part-with, whole-with, fields-as, Whole-so, Fields-in, Fields-are, plain-fields, whole-of, both-of, made-fields, One, Two, Loc}
+use Rattle.fields.specs.Noded.{Noded, Shape, shape, place, place-record, noded, part-with, whole-with, fields-as, What-in, Whole-so, Fields-in, Fields-are, plain-fields, whole-of, made-fields}
 use Rattle.fields.specs.Noded as n
 use Rattle.fields.proofs.Placing.{is-not, not-is, last-type, first-type, type-stops}
+
+-- ---- the marks of each form
+
+loc-shaped : (m : LocMark) (loc : ℕ) → shape (loc-record m loc) ≡ n.loc-shape m loc
+loc-shaped FV loc = refl
+loc-shaped NV loc = refl
+
+look-shaped : (m : LookMark) (t : Tree) → shape (look-record m t) ≡ n.look-shape m t
+look-shaped UF t = refl
+look-shaped RD t = refl
+
+two-shaped : (m : TwoMark) (t1 t2 : Tree) → shape (two-record m t1 t2) ≡ n.two-shape m t1 t2
+two-shaped JN t1 t2 = refl
+two-shaped SU t1 t2 = refl
+
+loc-type-shaped : (m : LocTypeMark) (loc : ℕ) (t : Tree) → shape (loc-type-record m loc t) ≡ n.loc-type-shape m loc t
+loc-type-shaped BC loc t = refl
+loc-type-shaped SC loc t = refl
+
+-- ---- what was read and placed
 
 -- a node was placed: space had not ended before
 pub was-open : (w : List ℕ) (u : Used) (b : List ℕ) (end known : ℕ) (over : Bool) (m : State → Read Tree) (w′ : List ℕ) (r : Taken) (t : ℕ) → Takes w u b end known over m w′ r → r .part ≡ At t → over ≡ false
@@ -102,14 +130,21 @@ stop-so Doubled x P e = tt
 
 -- ---- one type
 
-module _ (w : List ℕ) (u : Used) (b : List ℕ) (end known at : ℕ) (w′ : List ℕ) (r : Taken) (first : ℕ) (mk : ℕ → What) (make : Tree → Record) where
-  abbrev one-made : Fields
-  one-made = made-fields (mk (node-in (r .part))) (both-of (r .part) (r .used) (r .next) first)
+-- make gives the record of its last type's tree, mk what the code has of that type's node
+pub record One (mk : ℕ → What) (make : Tree → Record) : Type 0 where
+  pub nodes : ℕ → Noded
+  pub places : (t : Tree) (s : State) → place-record (make t) s ≡ (build t s >>= (λ (s, ty). ok (s, nodes ty)))
+  pub shows : (r : Fields) (t : ℕ) → noded r (mk t) ≡ nodes t
+  pub inside : (r : Fields) (n t : ℕ) → t < n → What-in n r (mk t)
 
-  pub one-is : Takes w u b end known false (λ s. read-nested 64 s (rest b end at)) w′ r → (o : One mk make)
-      → Fields-are w u b end known (λ s. go-on (read-type s (rest b end at)) (λ t. give (make t))) w′ one-made
-  unfolding read-type
-  one-is t o =
+module _ (w : List ℕ) (u : Used) (b : List ℕ) (end known at : ℕ) (w′ : List ℕ) (r : Taken) (mk : ℕ → What) (make : Tree → Record) where
+  abbrev one-made : Fields
+  one-made = made-fields (mk (node-in (r .part))) r
+
+  pub one-is : (o : One mk make) → Takes w u b end known false (λ s. read-nested 64 s (rest b end at)) w′ r
+      → Fields-are w u b end known (λ s. read-one make (read-type s) (rest b end at)) w′ one-made
+  unfolding read-one read-type rd._>>=_
+  one-is o t =
       record {
         lay = t .lay;
         grown = t .grown;
@@ -181,14 +216,21 @@ first-in Malformed n n′ l e o i = is-not e
 first-in Unknown n n′ l e o i = is-not e
 first-in Doubled n n′ l e o i = is-not e
 
-module _ (w : List ℕ) (u : Used) (b : List ℕ) (end known at : ℕ) (w₁ : List ℕ) (r : Taken) (mk : ℕ → ℕ → What) (make : Tree → Tree → Record) (t : Takes w u b end known false (λ s. read-nested 64 s (rest b end at)) w₁ r) (o : Two mk make) where
+module _ (w : List ℕ) (u : Used) (b : List ℕ) (end known at : ℕ) (w₁ : List ℕ) (r : Taken) (m : TwoMark) (t : Takes w u b end known false (λ s. read-nested 64 s (rest b end at)) w₁ r) where
+  abbrev nodes : ℕ → ℕ → Noded
+  nodes lhs rhs = n.run (n.binds (n.two (n.two-case m) lhs rhs))
+
   abbrev second : ℕ → Tree → State → Result (State × Noded)
-  second lhs t2 s = build t2 s >>= (λ (s, rhs). ok (s, o .nodes lhs rhs))
+  second lhs t2 s = build t2 s >>= (λ (s, rhs). ok (s, nodes lhs rhs))
+
+  places : (t1 t2 : Tree) (s : State) → place-record (two-record m t1 t2) s ≡ (build t1 s >>= (λ (s, lhs). second lhs t2 s))
+  unfolding place-record
+  places t1 t2 s = ap (λ (h : Shape). place h s) (two-shaped m t1 t2)
 
   abbrev stopped-at : Fields
-  stopped-at = made-fields (mk 0 (node-in (r .part))) (both-of (r .part) (r .used) (r .next) 0)
+  stopped-at = made-fields q.SV r
 
-  pub two-stop : is-stop (r .part) ≡ true → Fields-are w u b end known (λ s. read-two make (read-type s) (read-type s) (rest b end at)) w₁ stopped-at
+  pub two-stop : is-stop (r .part) ≡ true → Fields-are w u b end known (λ s. read-two (two-record m) (read-type s) (read-type s) (rest b end at)) w₁ stopped-at
   unfolding read-two read-type rd._>>=_
   two-stop e =
       record {
@@ -198,29 +240,29 @@ module _ (w : List ℕ) (u : Used) (b : List ℕ) (end known at : ℕ) (w₁ : L
         inside = stop-so (r .part) _ _ e;
         within = t .within;
         is = λ ds s d k.
-            made-with (r .part) _ _ (λ (x : ℕ). noded stopped-at (mk 0 (node-in (r .part)))) (seen w₁ (r .used) ds) (rest b end (r .next)) refl
-            ∙ type-stops place-record make second (λ t1 t2 s. o .places t1 t2 s) (read-nested 64 s) (r .part) false _ (seen w u ds) (seen w₁ (r .used) ds) _ (t .is ds s d k) e _;
+            made-with (r .part) _ _ (λ (x : ℕ). n.solve) (seen w₁ (r .used) ds) (rest b end (r .next)) refl
+            ∙ type-stops place-record (two-record m) second places (read-nested 64 s) (r .part) false _ (seen w u ds) (seen w₁ (r .used) ds) _ (t .is ds s d k) e _;
       }
 
-  module _ (q : Taken) where
+  module _ (k : Taken) where
     abbrev two-made : Fields
-    two-made = made-fields (mk (node-in (r .part)) (node-in (q .part))) (both-of (q .part) (q .used) (q .next) (node-in (r .part)))
+    two-made = made-fields (q.Bind (c.Two m (node-in (r .part)) (node-in (k .part)))) k
 
   pub two-is : is-stop (r .part) ≡ false → (w₂ : List ℕ) (q : Taken) → Takes w₁ (r .used) b end known (is-over (r .part)) (λ s. read-nested 64 s (rest b end (r .next))) w₂ q
-      → Fields-are w u b end known (λ s. read-two make (read-type s) (read-type s) (rest b end at)) w₂ (two-made q)
+      → Fields-are w u b end known (λ s. read-two (two-record m) (read-type s) (read-type s) (rest b end at)) w₂ (two-made q)
   unfolding read-two read-type rd._>>=_ go-on give
   two-is e w₂ q t′ =
       record {
         lay = t′ .lay;
         grown = grown-trans _ _ _ (t .grown) (t′ .grown);
         structs = t′ .structs ∙ t .structs;
-        inside = made-so (q .part) (q .used .nodes) _ _ (t′ .inside) (λ x f l. o .inside _ (q .used .nodes) _ _
-            (first-in (r .part) (r .used .nodes) (q .used .nodes) (nodes-grow w₁ (r .used) w₂ (q .used) (t′ .grown)) e (was-open _ _ _ _ _ _ _ _ _ _ t′ f) (t .inside)) l);
+        inside = made-so (q .part) (q .used .nodes) _ _ (t′ .inside) (λ x f l.
+            (first-in (r .part) (r .used .nodes) (q .used .nodes) (nodes-grow w₁ (r .used) w₂ (q .used) (t′ .grown)) e (was-open _ _ _ _ _ _ _ _ _ _ t′ f) (t .inside), l));
         within = t′ .within;
         is = λ ds s d k.
-            made-with (q .part) (noded (two-made q)) _ (o .nodes (node-in (r .part))) (seen w₂ (q .used) ds) (rest b end (q .next)) (o .shows (two-made q) _ _)
+            made-with (q .part) (noded (two-made q)) _ (nodes (node-in (r .part))) (seen w₂ (q .used) ds) (rest b end (q .next)) refl
             ∙ alone (q .part) _ (read-nested 64 s (rest b end (r .next))) (seen w₁ (r .used) ds) _ _ (t′ .is ds s (declares-kept w u w₁ (r .used) ds (t .structs) d) k)
-            ∙ sym (first-type place-record make second (λ t1 t2 s. o .places t1 t2 s) (read-nested 64 s) (r .part) false _ (seen w u ds) (seen w₁ (r .used) ds) _ (t .is ds s d k) e);
+            ∙ sym (first-type place-record (two-record m) second places (read-nested 64 s) (r .part) false _ (seen w u ds) (seen w₁ (r .used) ds) _ (t .is ds s d k) e);
       }
     where
       read-same : (x : Read Tree) (over : Bool) (s : State) → place-read over (second (node-in (r .part))) (go-on x (λ t. give t)) s ≡ place-read over (second (node-in (r .part))) x s
@@ -228,8 +270,8 @@ module _ (w : List ℕ) (u : Used) (b : List ℕ) (end known at : ℕ) (w₁ : L
       read-same (rd.not-read y) over s = refl
 
       alone : (p : Part) (over : Bool) (x : Read Tree) (s s′ : State) (l : Bytes) → part-of p s′ l ≡ place-read over build x s
-          → part-with p (o .nodes (node-in (r .part))) s′ l ≡ place-read over (second (node-in (r .part))) x s
-      alone p over x s s′ l f = last-type (second (node-in (r .part))) (λ t. t) (o .nodes (node-in (r .part))) (λ t s. refl) p over x s s′ l f ∙ read-same x over s
+          → part-with p (nodes (node-in (r .part))) s′ l ≡ place-read over (second (node-in (r .part))) x s
+      alone p over x s s′ l f = last-type (second (node-in (r .part))) (λ t. t) (nodes (node-in (r .part))) (λ t s. refl) p over x s s′ l f ∙ read-same x over s
 
 -- ---- 5 or 6 in the numbers
 
@@ -246,13 +288,13 @@ unknown-is w u b end known at m l a e = fields-none w u b end known m _ l refl a
 -- ---- numbers, and a type or none
 
 module _ (w : List ℕ) (u : Used) (b : List ℕ) (end known at next : ℕ) where
-  pub loc-is : (loc : ℕ) (mk : ℕ → What) (make : ℕ → Record) → Loc mk make → Lay w u → next ≤ end → rd.got loc (rest b end next) ≡ read-u32 (rest b end at)
-      → Fields-are w u b end known (λ s. read-one make read-u32 (rest b end at)) w (made-fields (mk loc) (both-of (At 0) u next loc))
-  unfolding place-read read-one rd._>>=_ go-on give
-  loc-is loc mk make o l a e =
-      fields-none w u b end known _ _ l refl a (o .inside _ _ _)
-      (λ s s′ ds k. ap (λ (x : Noded). placed (ok (s′, x)) (rest b end next)) (o .shows _ _) ∙ ap (λ (q : Result (State × Noded)). placed q (rest b end next)) (sym (o .places loc s′))
-      ∙ ap (λ (x : Read ℕ). place-read false place-record (go-on x (λ loc. give (make loc))) s′) e)
+  pub loc-is : (loc : ℕ) (m : LocMark) → Lay w u → next ≤ end → rd.got loc (rest b end next) ≡ read-u32 (rest b end at)
+      → Fields-are w u b end known (λ s. read-one (loc-record m) read-u32 (rest b end at)) w (plain-fields (h.Placed (q.Add (a.Loc m loc))) u next)
+  unfolding place-read place-record read-one rd._>>=_ go-on give
+  loc-is loc m l f e =
+      fields-none w u b end known _ _ l refl f tt
+      (λ s s′ ds k. ap (λ (h : Shape). placed (place h s′) (rest b end next)) (sym (loc-shaped m loc))
+      ∙ ap (λ (x : Read ℕ). place-read false place-record (go-on x (λ loc. give (loc-record m loc))) s′) e)
 
   pub sn-is : (v : TVar) (loc middle : ℕ) → Lay w u → next ≤ end → rd.got (v .0) (rest b end middle) ≡ rd.name-below known (rest b end at) → rd.got loc (rest b end next) ≡ read-u32 (rest b end middle)
       → Fields-are w u b end known (λ s. read-two d.SN (name-below (taken s)) read-u32 (rest b end at)) w (plain-fields (h.Placed (q.Bind (c.SN v loc))) u next)
@@ -260,12 +302,12 @@ module _ (w : List ℕ) (u : Used) (b : List ℕ) (end known at next : ℕ) wher
   sn-is v loc middle l a e f = fields-none w u b end known _ _ l refl a tt (λ s s′ ds k. rw (k .vars, ← e, ← f) refl)
 
   pub loc-type-is : (w′ : List ℕ) (r : Fields) (loc : ℕ) (make : ℕ → Tree → Record) → rd.got loc (rest b end next) ≡ read-u32 (rest b end at)
-      → Fields-are w u b end known (λ s. go-on (read-type s (rest b end next)) (λ t. give (make loc t))) w′ r → Fields-are w u b end known (λ s. read-two make read-u32 (read-type s) (rest b end at)) w′ r
-  unfolding read-two rd._>>=_ go-on
+      → Fields-are w u b end known (λ s. read-one (make loc) (read-type s) (rest b end next)) w′ r → Fields-are w u b end known (λ s. read-two make read-u32 (read-type s) (rest b end at)) w′ r
+  unfolding read-one read-two rd._>>=_ go-on
   loc-type-is w′ r loc make e f = fields-is w u b end known _ _ w′ r (λ ds s d k. rw (← e) refl) f
 
   pub nc-is : (w′ : List ℕ) (r : Fields) (loc x middle : ℕ) → rd.got loc (rest b end middle) ≡ read-u32 (rest b end at) → rd.got x (rest b end next) ≡ rd.byte-to 2 (rest b end middle)
-      → Fields-are w u b end known (λ s. go-on (read-type s (rest b end next)) (λ t. give (d.NC loc (n.kind x) t))) w′ r → Fields-are w u b end known (λ s. read-three d.NC read-u32 read-kind (read-type s) (rest b end at)) w′ r
+      → Fields-are w u b end known (λ s. read-one (d.NC loc (n.kind x)) (read-type s) (rest b end next)) w′ r → Fields-are w u b end known (λ s. read-three d.NC read-u32 read-kind (read-type s) (rest b end at)) w′ r
   unfolding read-three d.read-kind read-one n.kind rd._>>=_ go-on give
   nc-is w′ r loc x middle e g f = fields-is w u b end known _ _ w′ r (λ ds s d k. rw (← e, ← g) refl) f
 
@@ -286,44 +328,21 @@ pub sv-is : (w : List ℕ) (u : Used) (b : List ℕ) (end known at : ℕ) → La
 unfolding place-read place-record give
 sv-is w u b end known at l a = fields-none w u b end known _ _ l refl a tt (λ s s′ ds k. refl)
 
--- ---- the marks of each form
+-- ---- the records with one type
 
-pub one-UF : One (λ t. q.Look (k.UF t)) d.UF
+pub one-look : (m : LookMark) → One (λ t. q.Look (k.One m t)) (look-record m)
 unfolding place-record
-one-UF = record { nodes = λ t. n.run (n.looks (n.unfolded t)); places = λ t s. refl; shows = λ r t. refl; inside = λ r n t l. l }
-
-pub one-RD : One (λ t. q.Look (k.RD t)) d.RD
-unfolding place-record
-one-RD = record { nodes = λ t. n.run (n.looks (n.ready t)); places = λ t s. refl; shows = λ r t. refl; inside = λ r n t l. l }
+one-look m = record { nodes = λ t. n.run (n.looks (n.one-looks m t)); places = λ t s. ap (λ (h : Shape). place h s) (look-shaped m t); shows = λ r t. refl; inside = λ r n t l. l }
 
 pub one-IN : One (λ t. q.Bind (c.IN t)) d.IN
 unfolding place-record
 one-IN = record { nodes = λ t. n.run (n.binds (n.instantiate t)); places = λ t s. refl; shows = λ r t. refl; inside = λ r n t l. l }
 
-pub one-BC : (loc : ℕ) → One (λ t. q.Add (a.BC loc t)) (d.BC loc)
+pub one-loc-type : (m : LocTypeMark) (loc : ℕ) → One (λ t. q.Add (a.LocType m loc t)) (loc-type-record m loc)
 unfolding place-record
-one-BC loc = record { nodes = λ t. n.run (n.adds (n.constrain (BaseTypeConstraint loc t))); places = λ t s. refl; shows = λ r t. refl; inside = λ r n t l. tt }
-
-pub one-SC : (loc : ℕ) → One (λ t. q.Add (a.SC loc t)) (d.SC loc)
-unfolding place-record
-one-SC loc = record { nodes = λ t. n.run (n.adds (n.constrain (SingleTypeConstraint loc t))); places = λ t s. refl; shows = λ r t. refl; inside = λ r n t l. tt }
+one-loc-type m loc =
+    record { nodes = λ t. n.run (n.adds (n.constrain (n.loc-type-constraint m loc t))); places = λ t s. ap (λ (h : Shape). place h s) (loc-type-shaped m loc t); shows = λ r t. refl; inside = λ r n t l. tt }
 
 pub one-NC : (loc b : ℕ) → One (λ t. q.Add (a.NC loc b t)) (d.NC loc (n.kind b))
 unfolding place-record
 one-NC loc b = record { nodes = λ t. n.run (n.adds (n.constrain (numeric-constraint (n.kind b) loc t))); places = λ t s. refl; shows = λ r t. refl; inside = λ r n t l. tt }
-
-pub two-JN : Two (λ a t. q.Bind (c.JN a t)) d.JN
-unfolding place-record
-two-JN = record { nodes = λ a t. n.run (n.binds (n.two Join a t)); places = λ t1 t2 s. refl; shows = λ r a t. refl; inside = λ r n a t l l′. (l, l′) }
-
-pub two-SU : Two (λ a t. q.Bind (c.SU a t)) d.SU
-unfolding place-record
-two-SU = record { nodes = λ a t. n.run (n.binds (n.two Subtype a t)); places = λ t1 t2 s. refl; shows = λ r a t. refl; inside = λ r n a t l l′. (l, l′) }
-
-pub loc-FV : Loc (λ loc. q.Add (a.FV loc)) d.FV
-unfolding place-record
-loc-FV = record { nodes = λ loc. n.run (n.adds (n.tvar loc)); places = λ loc s. refl; shows = λ r loc. refl; inside = λ r n loc. tt }
-
-pub loc-NV : Loc (λ loc. q.Add (a.NV loc)) d.NV
-unfolding place-record
-loc-NV = record { nodes = λ loc. n.run (n.adds (n.num-tvar loc)); places = λ loc s. refl; shows = λ r loc. refl; inside = λ r n loc. tt }

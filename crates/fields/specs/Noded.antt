@@ -20,9 +20,18 @@ use Rattle.table.specs.State.{Lay, Grown, Declares, Parts, view, seen}
 use Rattle.table.specs.declared.Used.{Used}
 use Rattle.reader.specs.declared.Part.{Part}
 use Rattle.reader.specs.declared.Part.the-variants.{At, Full, Malformed, Unknown, Doubled}
+use Rattle.reader.specs.declared.Taken.{Taken}
 use Rattle.heads.specs.Fields.{rest, Knows}
-use Rattle.reader.specs.Taken.{Placed, stopped, placed, place-read, node-in}
+use Rattle.reader.specs.Taken.{Placed, stopped, placed, place-read}
 use Rattle.needs.specs.Counted.{needs-of}
+use Rattle.marks.specs.declared.LocMark.{LocMark}
+use Rattle.marks.specs.declared.LocMark.the-variants.{FV, NV}
+use Rattle.marks.specs.declared.LookMark.{LookMark}
+use Rattle.marks.specs.declared.LookMark.the-variants.{UF, RD}
+use Rattle.marks.specs.declared.TwoMark.{TwoMark}
+use Rattle.marks.specs.declared.TwoMark.the-variants.{JN, SU}
+use Rattle.marks.specs.declared.LocTypeMark.{LocTypeMark}
+use Rattle.marks.specs.declared.LocTypeMark.the-variants.{BC, SC}
 use Rattle.fields.specs.declared.Bind.{Bind}
 use Rattle.fields.specs.declared.Bind.the-variants as c
 use Rattle.fields.specs.declared.Look.{Look}
@@ -33,7 +42,6 @@ use Rattle.fields.specs.declared.What.{What}
 use Rattle.fields.specs.declared.What.the-variants as q
 use Rattle.fields.specs.declared.Whole.{Whole}
 use Rattle.fields.specs.declared.Whole.the-variants as h
-use Rattle.fields.specs.declared.Both.{Both}
 use Rattle.fields.specs.declared.Fields.{Fields}
 
 -- may bind or mark a variable that is there
@@ -73,20 +81,50 @@ pub data Shape : Type 0 where
   both : Tree → Tree → (ℕ → ℕ → Run) → Shape
   after-pairs : List (ℕ × Tree) → Tree → (List (ℕ × ℕ) → ℕ → Run) → Shape
 
+-- what is run of each mark of a form
+
+abbrev pub loc-adds : LocMark → ℕ → Adds
+loc-adds FV loc = tvar loc
+loc-adds NV loc = num-tvar loc
+
+abbrev pub one-looks : LookMark → ℕ → Looks
+one-looks UF t = unfolded t
+one-looks RD t = ready t
+
+abbrev pub two-case : TwoMark → TypingCase
+two-case JN = Join
+two-case SU = Subtype
+
+abbrev pub loc-type-constraint : LocTypeMark → ℕ → ℕ → Constraint
+loc-type-constraint BC loc t = BaseTypeConstraint loc t
+loc-type-constraint SC loc t = SingleTypeConstraint loc t
+
+abbrev pub loc-shape : LocMark → ℕ → Shape
+loc-shape m loc = none (adds (loc-adds m loc))
+
+abbrev pub look-shape : LookMark → Tree → Shape
+look-shape m t = one t (λ ty. looks (one-looks m ty))
+
+abbrev pub two-shape : TwoMark → Tree → Tree → Shape
+two-shape m t1 t2 = both t1 t2 (λ lhs rhs. binds (two (two-case m) lhs rhs))
+
+abbrev pub loc-type-shape : LocTypeMark → ℕ → Tree → Shape
+loc-type-shape m loc t = one t (λ ty. adds (constrain (loc-type-constraint m loc ty)))
+
 abbrev pub shape : Record → Shape
 shape (d.SD abilities params) = declares abilities params
-shape (d.FV loc) = none (adds (tvar loc))
-shape (d.NV loc) = none (adds (num-tvar loc))
+shape (d.FV loc) = loc-shape FV loc
+shape (d.NV loc) = loc-shape NV loc
 shape (d.SN v loc) = none (binds (set-num v loc))
-shape (d.JN t1 t2) = both t1 t2 (λ lhs rhs. binds (two Join lhs rhs))
-shape (d.SU t1 t2) = both t1 t2 (λ lhs rhs. binds (two Subtype lhs rhs))
-shape (d.UF t) = one t (λ ty. looks (unfolded ty))
-shape (d.RD t) = one t (λ ty. looks (ready ty))
+shape (d.JN t1 t2) = two-shape JN t1 t2
+shape (d.SU t1 t2) = two-shape SU t1 t2
+shape (d.UF t) = look-shape UF t
+shape (d.RD t) = look-shape RD t
 shape (d.IN t) = one t (λ ty. binds (instantiate ty))
 shape (d.TS pairs t) = after-pairs pairs t (λ pairs ty. looks (tparams pairs ty))
 shape (d.NC loc kind t) = one t (λ ty. adds (constrain (numeric-constraint kind loc ty)))
-shape (d.BC loc t) = one t (λ ty. adds (constrain (BaseTypeConstraint loc ty)))
-shape (d.SC loc t) = one t (λ ty. adds (constrain (SingleTypeConstraint loc ty)))
+shape (d.BC loc t) = loc-type-shape BC loc t
+shape (d.SC loc t) = loc-type-shape SC loc t
 shape d.SV = solves
 shape (d.RM t) = none (adds (tell (needs t)))
 
@@ -124,21 +162,17 @@ kind b = getD (Numeric ∷ Bits ∷ Ordered ∷ []) b Numeric
 
 abbrev pub bind-of : Bind → Binds
 bind-of (c.SN v loc) = set-num (v .0) loc
-bind-of (c.JN lhs rhs) = two Join lhs rhs
-bind-of (c.SU lhs rhs) = two Subtype lhs rhs
+bind-of (c.Two m lhs rhs) = two (two-case m) lhs rhs
 bind-of (c.IN t) = instantiate t
 
 abbrev pub look-of : Look → List TParamID → List ℕ → Looks
-look-of (l.UF t) ids nodes = unfolded t
-look-of (l.RD t) ids nodes = ready t
+look-of (l.One m t) ids nodes = one-looks m t
 look-of (l.TS many t) ids nodes = tparams (pairs ids nodes 0 many) t
 
 abbrev pub add-of : Add → Adds
-add-of (a.FV loc) = tvar loc
-add-of (a.NV loc) = num-tvar loc
+add-of (a.Loc m loc) = loc-adds m loc
 add-of (a.NC loc b t) = constrain (numeric-constraint (kind b) loc t)
-add-of (a.BC loc t) = constrain (BaseTypeConstraint loc t)
-add-of (a.SC loc t) = constrain (SingleTypeConstraint loc t)
+add-of (a.LocType m loc t) = constrain (loc-type-constraint m loc t)
 add-of (a.RM c) = tell (needs-of c)
 
 abbrev pub noded : Fields → What → Noded
@@ -169,13 +203,11 @@ fields-as r s bytes = whole-with (r .read) (noded r) s bytes
 -- nodes below n
 abbrev pub Bind-in : ℕ → Bind → Type 0
 Bind-in n (c.SN v loc) = Unit {0}
-Bind-in n (c.JN lhs rhs) = (lhs < n) × (rhs < n)
-Bind-in n (c.SU lhs rhs) = (lhs < n) × (rhs < n)
+Bind-in n (c.Two m lhs rhs) = (lhs < n) × (rhs < n)
 Bind-in n (c.IN t) = t < n
 
 abbrev pub Look-in : ℕ → List ℕ → Look → Type 0
-Look-in n nodes (l.UF t) = t < n
-Look-in n nodes (l.RD t) = t < n
+Look-in n nodes (l.One m t) = t < n
 Look-in n nodes (l.TS many t) = Parts n nodes many × (t < n)
 
 abbrev pub What-in : ℕ → Fields → What → Type 0
@@ -231,31 +263,5 @@ whole-of Malformed x = h.Malformed
 whole-of Unknown x = h.Unknown
 whole-of Doubled x = h.Doubled
 
-abbrev pub both-of : Part → Used → ℕ → ℕ → Both
-both-of part u next first = record { part = part; used = u; next = next; first = first; last = node-in part }
-
-abbrev pub made-fields : What → Both → Fields
+abbrev pub made-fields : What → Taken → Fields
 made-fields x r = plain-fields (whole-of (r .part) x) (r .used) (r .next)
-
--- ---- the forms that several marks share
-
--- a last type
-pub record One (mk : ℕ → What) (make : Tree → Record) : Type 0 where
-  pub nodes : ℕ → Noded
-  pub places : (t : Tree) (s : State) → place-record (make t) s ≡ (build t s >>= (λ (s, ty). ok (s, nodes ty)))
-  pub shows : (r : Fields) (t : ℕ) → noded r (mk t) ≡ nodes t
-  pub inside : (r : Fields) (n t : ℕ) → t < n → What-in n r (mk t)
-
--- two types
-pub record Two (mk : ℕ → ℕ → What) (make : Tree → Tree → Record) : Type 0 where
-  pub nodes : ℕ → ℕ → Noded
-  pub places : (t1 t2 : Tree) (s : State) → place-record (make t1 t2) s ≡ (build t1 s >>= (λ (s, lhs). build t2 s >>= (λ (s, rhs). ok (s, nodes lhs rhs))))
-  pub shows : (r : Fields) (a t : ℕ) → noded r (mk a t) ≡ nodes a t
-  pub inside : (r : Fields) (n a t : ℕ) → a < n → t < n → What-in n r (mk a t)
-
--- a location
-pub record Loc (mk : ℕ → What) (make : ℕ → Record) : Type 0 where
-  pub nodes : ℕ → Noded
-  pub places : (loc : ℕ) (s : State) → place-record (make loc) s ≡ ok (s, nodes loc)
-  pub shows : (r : Fields) (loc : ℕ) → noded r (mk loc) ≡ nodes loc
-  pub inside : (r : Fields) (n loc : ℕ) → What-in n r (mk loc)

@@ -5,17 +5,22 @@ ghost use Prim.Native.Nat.{ℕ, _+_, _≤_};
 ghost use lib.ListN.{length};
 ghost use Rattle.definition.specs.Store.{taken};
 ghost use Rattle.definition.specs.Reader.{give, go-on, byte-to, times, read-one, read-two, read-three, name-below, read-u32};
-ghost use Rattle.definition.specs.Trees.{Tree, read-type};
-ghost use Rattle.definition.specs.Record.{Record, SD, SN, NC, RM, read-SD, read-kind};
+ghost use Rattle.definition.specs.Trees.{read-type};
+ghost use Rattle.definition.specs.Record.{SD, SN, IN, NC, RM, read-SD, read-kind};
 ghost use Rattle.table.specs.State.{view, Lay};
 ghost use Rattle.heads.specs.Fields.{rest, Arities};
-ghost use Rattle.fields.specs.Noded.{Fields-are, plain-fields, whole-of, both-of, made-fields, One, Two, Loc};
+ghost use Rattle.marks.specs.Marks.{loc-record, look-record, two-record, loc-type-record};
+ghost use Rattle.fields.specs.Noded.{Fields-are, plain-fields, whole-of, made-fields};
 use cursor::Number;
 use heads::Name;
 use heads::byte_to;
 use heads::name_below;
 use heads::read_number;
 use heads::read_numbers;
+use marks::LocMark;
+use marks::LocTypeMark;
+use marks::LookMark;
+use marks::TwoMark;
 use names::TParamID;
 use names::TVar;
 use needs::Sums;
@@ -33,25 +38,21 @@ use table::Used;
 // It may bind or mark a variable that is there.
 pub enum Bind {
     SN(TVar, u32),
-    JN(u32, u32),
-    SU(u32, u32),
+    Two(TwoMark, u32, u32),
     IN(u32),
 }
 
 // It only shows, the state stays as at entry. TS says how many pairs stand beside it.
 pub enum Look {
-    UF(u32),
-    RD(u32),
+    One(LookMark, u32),
     TS(u32, u32),
 }
 
 // It takes new rows at most.
 pub enum Add {
-    FV(u32),
-    NV(u32),
+    Loc(LocMark, u32),
     NC(u32, u32, u32),
-    BC(u32, u32),
-    SC(u32, u32),
+    LocType(LocTypeMark, u32, u32),
     RM(Sums),
 }
 
@@ -112,28 +113,7 @@ pub fn whole_of(p: Part, what: What) -> Whole
     }
 }
 
-// A number or a node, and the last type: its node, 0 if there is none.
-pub struct Both {
-    pub part: Part,
-    pub used: Used,
-    pub next: usize,
-    pub first: u32,
-    pub last: u32,
-}
-
-fn with_first(part: Part, u: Used, next: usize, first: u32) -> Both
-    ensures { λ r. ⌜ r ≡ both-of part u next first ⌝ }
-{
-    Both {
-        part,
-        used: u,
-        next,
-        first,
-        last: node_of(part),
-    }
-}
-
-pub fn made(what: What, r: Both) -> Fields
+fn made(what: What, r: Taken) -> Fields
     ensures { λ x. ⌜ x ≡ made-fields what r ⌝ }
 {
     let p = r.part;
@@ -141,44 +121,58 @@ pub fn made(what: What, r: Both) -> Fields
     plain(whole_of(p, what), u, r.next)
 }
 
-// ---- one type, after the number first
+// ---- one type, two
 
-pub fn read_one(
+pub fn read_look(
     w: &mut [u32],
     u: Used,
     b: &[u8],
     end: usize,
     at: usize,
     known: u32,
-    first: u32,
-) -> Both
+    m: LookMark,
+) -> Fields
     requires { ⌜ Lay (now w) u × Arities (view (now w) u .structs) ⌝ }
     requires { ⌜ (end ≤ length (now b)) × ((at ≤ end) × (known ≤ 1024)) ⌝ }
-    ensures { λ r. ⌜ ((make : Tree → Record) (mk : ℕ → What) → One mk make → Fields-are (now (w .entry)) u (now (b .entry)) end known (λ s. go-on (read-type s (rest (now (b .entry)) end at)) (λ t. give (make t))) (now (w .exit)) (made-fields (mk (r .last)) r)) × (r .first ≡ first) ⌝ }
+    ensures { λ r. ⌜ Fields-are (now (w .entry)) u (now (b .entry)) end known (λ s. read-one (look-record m) (read-type s) (rest (now (b .entry)) end at)) (now (w .exit)) r ⌝ }
 {
     let r = read_type(w, u, b, end, at, known, 64, false);
     let p = r.part;
-    let v = r.used;
-    with_first(p, v, r.next, first)
+    made(What::Look(Look::One(m, node_of(p))), r)
 }
 
-// JN, SU.
-pub fn read_two(w: &mut [u32], u: Used, b: &[u8], end: usize, at: usize, known: u32) -> Both
+pub fn read_in(w: &mut [u32], u: Used, b: &[u8], end: usize, at: usize, known: u32) -> Fields
     requires { ⌜ Lay (now w) u × Arities (view (now w) u .structs) ⌝ }
     requires { ⌜ (end ≤ length (now b)) × ((at ≤ end) × (known ≤ 1024)) ⌝ }
-    ensures { λ r. ⌜ ((make : Tree → Tree → Record) (mk : ℕ → ℕ → What) → Two mk make → Fields-are (now (w .entry)) u (now (b .entry)) end known (λ s. read-two make (read-type s) (read-type s) (rest (now (b .entry)) end at)) (now (w .exit)) (made-fields (mk (r .first) (r .last)) r)) ⌝ }
+    ensures { λ r. ⌜ Fields-are (now (w .entry)) u (now (b .entry)) end known (λ s. read-one IN (read-type s) (rest (now (b .entry)) end at)) (now (w .exit)) r ⌝ }
 {
     let r = read_type(w, u, b, end, at, known, 64, false);
     let p = r.part;
-    let v = r.used;
-    let next = r.next;
+    made(What::Bind(Bind::IN(node_of(p))), r)
+}
+
+pub fn read_two(
+    w: &mut [u32],
+    u: Used,
+    b: &[u8],
+    end: usize,
+    at: usize,
+    known: u32,
+    m: TwoMark,
+) -> Fields
+    requires { ⌜ Lay (now w) u × Arities (view (now w) u .structs) ⌝ }
+    requires { ⌜ (end ≤ length (now b)) × ((at ≤ end) × (known ≤ 1024)) ⌝ }
+    ensures { λ r. ⌜ Fields-are (now (w .entry)) u (now (b .entry)) end known (λ s. read-two (two-record m) (read-type s) (read-type s) (rest (now (b .entry)) end at)) (now (w .exit)) r ⌝ }
+{
+    let r = read_type(w, u, b, end, at, known, 64, false);
+    let p = r.part;
     if stops(p) {
-        return with_first(p, v, next, 0);
+        return made(What::SV, r);
     }
-    let q = read_type(w, v, b, end, next, known, 64, no_space(p));
+    let v = r.used;
+    let q = read_type(w, v, b, end, r.next, known, 64, no_space(p));
     let p2 = q.part;
-    let v2 = q.used;
-    with_first(p2, v2, q.next, node_of(p))
+    made(What::Bind(Bind::Two(m, node_of(p), node_of(p2))), q)
 }
 
 // ---- one type, counted and not placed
@@ -196,16 +190,15 @@ pub fn read_rm(w: &[u32], u: Used, b: &[u8], end: usize, at: usize, known: u32) 
 
 // ---- numbers, and a type or none
 
-// FV, NV.
-pub fn read_loc(u: Used, b: &[u8], end: usize, at: usize) -> Both
+pub fn read_loc(u: Used, b: &[u8], end: usize, at: usize, m: LocMark) -> Fields
     requires { ⌜ (end ≤ length (now b)) × (at ≤ end) ⌝ }
-    ensures { λ r. ⌜ ((make : ℕ → Record) (mk : ℕ → What) → Loc mk make → (w : List ℕ) (known : ℕ) → Lay w u → Fields-are w u (now (b .entry)) end known (λ s. read-one make read-u32 (rest (now (b .entry)) end at)) w (made-fields (mk (r .first)) r)) ⌝ }
+    ensures { λ r. ⌜ ((w : List ℕ) (known : ℕ) → Lay w u → Fields-are w u (now (b .entry)) end known (λ s. read-one (loc-record m) read-u32 (rest (now (b .entry)) end at)) w r) ⌝ }
 {
     let r = read_number(b, end, at, 4);
     let l = r.number;
     match l {
-        Number::Got(loc) => with_first(Part::At(0), u, r.next, loc),
-        Number::Missing => with_first(Part::Malformed, u, at, 0),
+        Number::Got(loc) => plain(Whole::Placed(What::Add(Add::Loc(m, loc))), u, r.next),
+        Number::Missing => plain(Whole::Malformed, u, at),
     }
 }
 
@@ -231,17 +224,28 @@ pub fn read_sn(u: Used, b: &[u8], end: usize, at: usize, known: u32) -> Fields
     }
 }
 
-// BC, SC.
-pub fn read_loc_type(w: &mut [u32], u: Used, b: &[u8], end: usize, at: usize, known: u32) -> Both
+pub fn read_loc_type(
+    w: &mut [u32],
+    u: Used,
+    b: &[u8],
+    end: usize,
+    at: usize,
+    known: u32,
+    m: LocTypeMark,
+) -> Fields
     requires { ⌜ Lay (now w) u × Arities (view (now w) u .structs) ⌝ }
     requires { ⌜ (end ≤ length (now b)) × ((at ≤ end) × (known ≤ 1024)) ⌝ }
-    ensures { λ r. ⌜ ((make : ℕ → Tree → Record) (mk : ℕ → ℕ → What) → ((loc : ℕ) → One (mk loc) (make loc)) → Fields-are (now (w .entry)) u (now (b .entry)) end known (λ s. read-two make read-u32 (read-type s) (rest (now (b .entry)) end at)) (now (w .exit)) (made-fields (mk (r .first) (r .last)) r)) ⌝ }
+    ensures { λ r. ⌜ Fields-are (now (w .entry)) u (now (b .entry)) end known (λ s. read-two (loc-type-record m) read-u32 (read-type s) (rest (now (b .entry)) end at)) (now (w .exit)) r ⌝ }
 {
     let r = read_number(b, end, at, 4);
     let l = r.number;
     match l {
-        Number::Got(loc) => read_one(w, u, b, end, r.next, known, loc),
-        Number::Missing => with_first(Part::Malformed, u, at, 0),
+        Number::Got(loc) => {
+            let t = read_type(w, u, b, end, r.next, known, 64, false);
+            let p = t.part;
+            made(What::Add(Add::LocType(m, loc, node_of(p))), t)
+        }
+        Number::Missing => plain(Whole::Malformed, u, at),
     }
 }
 
@@ -258,8 +262,9 @@ pub fn read_nc(w: &mut [u32], u: Used, b: &[u8], end: usize, at: usize, known: u
             let k = byte_to(f, 2);
             match k {
                 Number::Got(kind) => {
-                    let t = read_one(w, u, b, end, r.next, known, loc);
-                    made(What::Add(Add::NC(loc, kind, t.last)), t)
+                    let t = read_type(w, u, b, end, r.next, known, 64, false);
+                    let p = t.part;
+                    made(What::Add(Add::NC(loc, kind, node_of(p))), t)
                 }
                 Number::Missing => plain(Whole::Malformed, u, at),
             }

@@ -6,43 +6,65 @@ ghost use Rattle.definition.specs.Types as d;
 ghost use Rattle.definition.specs.Record.{by-mark, fields-of};
 ghost use Rattle.marks.specs.Marks.{reader-of};
 
+// Marks that have their fields and what becomes of them alike, a form each. A location, and rows are taken.
+pub enum LocMark {
+    FV,
+    NV,
+}
+
+// A type, only looked at.
+pub enum LookMark {
+    UF,
+    RD,
+}
+
+// Two types, joined.
+pub enum TwoMark {
+    JN,
+    SU,
+}
+
+// A location and a type, a constraint that is listed.
+pub enum LocTypeMark {
+    BC,
+    SC,
+}
+
 // The two bytes that a record begins with, or others.
 pub enum RecordMark {
     SD,
-    FV,
-    NV,
     SN,
-    JN,
-    SU,
-    UF,
-    RD,
     TS,
     IN,
     NC,
-    BC,
-    SC,
     SV,
     RM,
+    Loc(LocMark),
+    Look(LookMark),
+    Two(TwoMark),
+    LocType(LocTypeMark),
     Other,
 }
 
 // A mark's two letters, and the mark.
 struct Letters(u8, u8, RecordMark);
 
-const MARKS: [Letters; 15] = [
+const COUNT: usize = 15;
+
+const MARKS: [Letters; COUNT] = [
     Letters(b'S', b'D', RecordMark::SD),
-    Letters(b'F', b'V', RecordMark::FV),
-    Letters(b'N', b'V', RecordMark::NV),
+    Letters(b'F', b'V', RecordMark::Loc(LocMark::FV)),
+    Letters(b'N', b'V', RecordMark::Loc(LocMark::NV)),
     Letters(b'S', b'N', RecordMark::SN),
-    Letters(b'J', b'N', RecordMark::JN),
-    Letters(b'S', b'U', RecordMark::SU),
-    Letters(b'U', b'F', RecordMark::UF),
-    Letters(b'R', b'D', RecordMark::RD),
+    Letters(b'J', b'N', RecordMark::Two(TwoMark::JN)),
+    Letters(b'S', b'U', RecordMark::Two(TwoMark::SU)),
+    Letters(b'U', b'F', RecordMark::Look(LookMark::UF)),
+    Letters(b'R', b'D', RecordMark::Look(LookMark::RD)),
     Letters(b'T', b'S', RecordMark::TS),
     Letters(b'I', b'N', RecordMark::IN),
     Letters(b'N', b'C', RecordMark::NC),
-    Letters(b'B', b'C', RecordMark::BC),
-    Letters(b'S', b'C', RecordMark::SC),
+    Letters(b'B', b'C', RecordMark::LocType(LocTypeMark::BC)),
+    Letters(b'S', b'C', RecordMark::LocType(LocTypeMark::SC)),
     Letters(b'S', b'V', RecordMark::SV),
     Letters(b'R', b'M', RecordMark::RM),
 ];
@@ -58,7 +80,7 @@ pub fn mark_of(x: u32, y: u32) -> RecordMark
 {
     let marks = MARKS;
     let mut k: usize = 0;
-    while k < 15 {
+    while k < COUNT {
         let row = marks[k];
         if same(x, y, row.0, row.1) {
             return row.2;

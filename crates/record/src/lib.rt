@@ -11,18 +11,16 @@ ghost use Rattle.marks.specs.Marks.{reader-of};
 ghost use Rattle.fields.specs.Noded.{Fields-are, Record-is, paired-fields};
 use cursor::Number;
 use cursor::end_of;
-use fields::Add;
-use fields::Bind;
 use fields::Fields;
 use fields::Look;
 use fields::What;
 use fields::Whole;
-use fields::made;
 use fields::plain;
+use fields::read_in;
 use fields::read_loc;
 use fields::read_loc_type;
+use fields::read_look;
 use fields::read_nc;
-use fields::read_one;
 use fields::read_rm;
 use fields::read_sd;
 use fields::read_sn;
@@ -139,47 +137,16 @@ fn fields_of(
 {
     match mark {
         RecordMark::SD => read_sd(u, b, end, at),
-        RecordMark::FV => {
-            let r = read_loc(u, b, end, at);
-            made(What::Add(Add::FV(r.first)), r)
-        }
-        RecordMark::NV => {
-            let r = read_loc(u, b, end, at);
-            made(What::Add(Add::NV(r.first)), r)
-        }
         RecordMark::SN => read_sn(u, b, end, at, known),
-        RecordMark::JN => {
-            let r = read_two(w, u, b, end, at, known);
-            made(What::Bind(Bind::JN(r.first, r.last)), r)
-        }
-        RecordMark::SU => {
-            let r = read_two(w, u, b, end, at, known);
-            made(What::Bind(Bind::SU(r.first, r.last)), r)
-        }
-        RecordMark::UF => {
-            let r = read_one(w, u, b, end, at, known, 0);
-            made(What::Look(Look::UF(r.last)), r)
-        }
-        RecordMark::RD => {
-            let r = read_one(w, u, b, end, at, known, 0);
-            made(What::Look(Look::RD(r.last)), r)
-        }
         RecordMark::TS => read_ts(w, u, b, end, at, known),
-        RecordMark::IN => {
-            let r = read_one(w, u, b, end, at, known, 0);
-            made(What::Bind(Bind::IN(r.last)), r)
-        }
+        RecordMark::IN => read_in(w, u, b, end, at, known),
         RecordMark::NC => read_nc(w, u, b, end, at, known),
-        RecordMark::BC => {
-            let r = read_loc_type(w, u, b, end, at, known);
-            made(What::Add(Add::BC(r.first, r.last)), r)
-        }
-        RecordMark::SC => {
-            let r = read_loc_type(w, u, b, end, at, known);
-            made(What::Add(Add::SC(r.first, r.last)), r)
-        }
         RecordMark::SV => plain(Whole::Placed(What::SV), u, at),
         RecordMark::RM => read_rm(w, u, b, end, at, known),
+        RecordMark::Loc(m) => read_loc(u, b, end, at, m),
+        RecordMark::Look(m) => read_look(w, u, b, end, at, known, m),
+        RecordMark::Two(m) => read_two(w, u, b, end, at, known, m),
+        RecordMark::LocType(m) => read_loc_type(w, u, b, end, at, known, m),
         RecordMark::Other => plain(Whole::Malformed, u, at),
     }
 }

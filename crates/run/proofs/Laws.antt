@@ -30,9 +30,9 @@ use Rattle.table.specs.declared.Refusal.the-variants.{OpenVariable, ParameterTw
 use Rattle.table.proofs.Steps.{No-error, done-is, done-ok, refines-now, refines-is, refines-as, refines-stop, refines-then, after-is}
 use Rattle.table.proofs.States.{plain-if, tvar-plain, constraint-plain}
 use Rattle.table.proofs.Grown.{var-small}
-use Rattle.arms.specs.Arms.{case-of}
-use Rattle.arms.specs.declared.TypingCase.{TypingCase}
-use Rattle.arms.specs.declared.TypingCase.the-variants.{Join as CaseJoin, Subtype as CaseSubtype}
+use Rattle.marks.specs.declared.TwoMark.{TwoMark}
+use Rattle.marks.specs.declared.TwoMark.the-variants.{JN, SU}
+use Rattle.fields.specs.Noded.{two-case}
 use Rattle.subst.specs.Answers.{Unfolds}
 use Rattle.subst.specs.declared.Unfolded.{Unfolded}
 use Rattle.subst.specs.declared.Unfolded.the-variants.{Node as NodeU, Anything as AnythingU}
@@ -90,13 +90,13 @@ unfolding two-run shown
 two-follows case lhs rhs s before = refl
 
 module _ {w : List ℕ} {u : Used} {w′ : List ℕ} {a : Outcome} (lhs rhs : ℕ) where
-  pub ran-join : (case : TypingCase) → case ≡ CaseJoin → After w u w′ a (λ s. join s lhs rhs) → {r : Ran} → r ≡ as-run a Node true → Runs Any w u w′ r true (λ s. join-in (case-of case) s lhs rhs) (two-run (case-of case) lhs rhs)
+  pub ran-join : (m : TwoMark) → m ≡ JN → After w u w′ a (λ s. join s lhs rhs) → {r : Ran} → r ≡ as-run a Node true → Runs Any w u w′ r true (λ s. join-in (two-case m) s lhs rhs) (two-run (two-case m) lhs rhs)
   unfolding join-in
-  ran-join case q c e = rw q (run-after _ _ true (two-follows j.Join lhs rhs) c e)
+  ran-join m q c e = rw q (run-after _ _ true (two-follows j.Join lhs rhs) c e)
 
-  pub ran-subtype : (case : TypingCase) → case ≡ CaseSubtype → After w u w′ a (λ s. subtype s lhs rhs) → {r : Ran} → r ≡ as-run a Node true → Runs Any w u w′ r true (λ s. join-in (case-of case) s lhs rhs) (two-run (case-of case) lhs rhs)
+  pub ran-subtype : (m : TwoMark) → m ≡ SU → After w u w′ a (λ s. subtype s lhs rhs) → {r : Ran} → r ≡ as-run a Node true → Runs Any w u w′ r true (λ s. join-in (two-case m) s lhs rhs) (two-run (two-case m) lhs rhs)
   unfolding join-in
-  ran-subtype case q c e = rw q (run-after _ _ true (two-follows j.Subtype lhs rhs) c e)
+  ran-subtype m q c e = rw q (run-after _ _ true (two-follows j.Subtype lhs rhs) c e)
 
 -- ---- UF
 

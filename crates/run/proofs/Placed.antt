@@ -28,24 +28,6 @@ run-shape (one t f) s = build t s >>= (λ p. run-of (f (p .1)) (p .0) s)
 run-shape (both t u f) s = build t s >>= (λ p. build u (p .0) >>= (λ q. run-of (f (p .1) (q .1)) (q .0) s))
 run-shape (after-pairs ps t f) s = build-pairs ps s >>= (λ p. build t (p .0) >>= (λ q. run-of (f (p .1) (q .1)) (q .0) s))
 
-run-is : (s : State) (x : Record) → definition.run s x ≡ run-shape (shape x) s
-unfolding definition.run constrain two-types run-of join-in two-run unfold-run ready-run tparams-run instantiate-run tvar-run num-tvar-run set-num-run constraint-run needs-run declare-run
-run-is s (d.SD abilities params) = refl
-run-is s (d.FV loc) = refl
-run-is s (d.NV loc) = refl
-run-is s (d.SN v loc) = refl
-run-is s (d.JN t1 t2) = refl
-run-is s (d.SU t1 t2) = refl
-run-is s (d.UF t) = refl
-run-is s (d.RD t) = refl
-run-is s (d.IN t) = refl
-run-is s (d.TS pairs t) = refl
-run-is s (d.NC loc kind t) = refl
-run-is s (d.BC loc t) = refl
-run-is s (d.SC loc t) = refl
-run-is s d.SV = refl
-run-is s (d.RM t) = refl
-
 -- what was read well
 abbrev pub Shape-in : State → Shape → Type 0
 Shape-in s (declares abilities params) = StructIn (record { abilities = abilities; params = params })
@@ -55,22 +37,27 @@ Shape-in s (one t f) = TreeIn s t
 Shape-in s (both t u f) = TreeIn s t × TreeIn s u
 Shape-in s (after-pairs ps t f) = All (λ (p : ℕ × Tree). TreeIn s (p .1)) ps × TreeIn s t
 
+-- the definition's run is the shape's, and what was read well is of a good shape
+by-record : (s : State) (x : Record) → (definition.run s x ≡ run-shape (shape x) s) × (RecordIn s x → Shape-in s (shape x))
+unfolding definition.run constrain two-types run-of join-in two-run unfold-run ready-run tparams-run instantiate-run tvar-run num-tvar-run set-num-run constraint-run needs-run declare-run
+by-record s (d.SD abilities params) = (refl, λ g. g)
+by-record s (d.FV loc) = (refl, λ g. tt)
+by-record s (d.NV loc) = (refl, λ g. tt)
+by-record s (d.SN v loc) = (refl, λ g. tt)
+by-record s (d.JN t1 t2) = (refl, λ g. g)
+by-record s (d.SU t1 t2) = (refl, λ g. g)
+by-record s (d.UF t) = (refl, λ g. g)
+by-record s (d.RD t) = (refl, λ g. g)
+by-record s (d.IN t) = (refl, λ g. g)
+by-record s (d.TS pairs t) = (refl, λ g. g)
+by-record s (d.NC loc kind t) = (refl, λ g. g .1)
+by-record s (d.BC loc t) = (refl, λ g. g .1)
+by-record s (d.SC loc t) = (refl, λ g. g .1)
+by-record s d.SV = (refl, λ g. tt)
+by-record s (d.RM t) = (refl, λ g. tt)
+
 pub shape-in : (s : State) (x : Record) → RecordIn s x → Shape-in s (shape x)
-shape-in s (d.SD abilities params) g = g
-shape-in s (d.FV loc) g = tt
-shape-in s (d.NV loc) g = tt
-shape-in s (d.SN v loc) g = tt
-shape-in s (d.JN t1 t2) g = g
-shape-in s (d.SU t1 t2) g = g
-shape-in s (d.UF t) g = g
-shape-in s (d.RD t) g = g
-shape-in s (d.IN t) g = g
-shape-in s (d.TS pairs t) g = g
-shape-in s (d.NC loc kind t) g = g .1
-shape-in s (d.BC loc t) g = g .1
-shape-in s (d.SC loc t) g = g .1
-shape-in s d.SV g = tt
-shape-in s (d.RM t) g = tt
+shape-in s x g = by-record s x .1 g
 
 -- ---- by shape
 
@@ -103,4 +90,4 @@ module _ (s : State) where
 
 pub run-placed : (s : State) (x : Record) → definition.run s x ≡ (place-record x s >>= (λ (s′, n). noded-run n s′ s))
 unfolding place-record
-run-placed s x = run-is s x ∙ placed-is s (shape x)
+run-placed s x = by-record s x .0 ∙ placed-is s (shape x)

@@ -10,19 +10,21 @@ ghost use Rattle.definition.specs.Instantiate.{instantiate};
 ghost use Rattle.definition.specs.Needs.{takes};
 ghost use Rattle.definition.specs.Step.{numeric-constraint};
 ghost use Rattle.table.specs.State.{outcome, Lay, Any, Parts, Found-in, pushed-constraint};
-ghost use Rattle.arms.specs.Arms.{case-of};
 ghost use Rattle.tparams.specs.Pairs.{pairs};
 ghost use Rattle.table.specs.Known.{Known};
 ghost use Rattle.constraints.specs.Solve.{kind-of};
 ghost use Rattle.run.specs.Runs.{join-in, two-run, unfold-run, ready-run, subst-in, tparams-run, instantiate-run, tvar-run, num-tvar-in, num-tvar-run, set-num-in, set-num-run, kind-at, constraint-run, needs-run, Runs, with-row, Declared};
-ghost use Rattle.fields.specs.Noded.{binds, looks, adds, bind-of, look-of, add-of, Bind-in, Look-in};
+ghost use Rattle.fields.specs.Noded.{two-case, binds, looks, adds, bind-of, look-of, add-of, Bind-in, Look-in};
 ghost use Rattle.run.specs.Dispatch.{Ran-as};
 use answer::Ran;
-use arms::TypingCase;
 use constraints::NumericKind;
 use fields::Add;
 use fields::Bind;
 use fields::Look;
+use marks::LocMark;
+use marks::LocTypeMark;
+use marks::LookMark;
+use marks::TwoMark;
 use names::AbilitySet;
 use names::TParamID;
 use names::TVar;
@@ -51,16 +53,16 @@ fn shown(a: Outcome, show: Show, kept: bool) -> Ran
 }
 
 // JN, SU: the join of two types.
-pub fn run_two(w: &mut [u32], u: Used, case: TypingCase, lhs: u32, rhs: u32) -> Ran
+pub fn run_two(w: &mut [u32], u: Used, m: TwoMark, lhs: u32, rhs: u32) -> Ran
     requires { ⌜ Lay (now w) u × ((lhs < u .nodes) × (rhs < u .nodes)) ⌝ }
-    ensures { λ r. ⌜ Runs Any (now (w .entry)) u (now (w .exit)) r true (λ s. join-in (case-of case) s lhs rhs) (two-run (case-of case) lhs rhs) ⌝ }
+    ensures { λ r. ⌜ Runs Any (now (w .entry)) u (now (w .exit)) r true (λ s. join-in (two-case m) s lhs rhs) (two-run (two-case m) lhs rhs) ⌝ }
 {
-    match case {
-        TypingCase::Join => {
+    match m {
+        TwoMark::JN => {
             let a = join::join(w, u, lhs, rhs);
             shown(a, Show::Node, true)
         }
-        TypingCase::Subtype => {
+        TwoMark::SU => {
             let a = join::subtype(w, u, lhs, rhs);
             shown(a, Show::Node, true)
         }
@@ -285,8 +287,7 @@ pub fn run_bind(w: &mut [u32], u: Used, params: &[[u8; 8]; 256], what: Bind) -> 
 {
     match what {
         Bind::SN(v, loc) => run_set_num(w, u, v, loc),
-        Bind::JN(lhs, rhs) => run_two(w, u, TypingCase::Join, lhs, rhs),
-        Bind::SU(lhs, rhs) => run_two(w, u, TypingCase::Subtype, lhs, rhs),
+        Bind::Two(m, lhs, rhs) => run_two(w, u, m, lhs, rhs),
         Bind::IN(t) => run_instantiate(w, u, params, t),
     }
 }
@@ -297,8 +298,10 @@ pub fn run_look(w: &mut [u32], u: Used, ids: [TParamID; 8], nodes: [u32; 8], wha
     ensures { λ r. ⌜ Ran-as Any (now (w .entry)) u (now (w .exit)) r (looks (look-of what ids nodes)) ⌝ }
 {
     match what {
-        Look::UF(t) => run_unfold(w, u, t),
-        Look::RD(t) => run_ready(w, u, t),
+        Look::One(m, t) => match m {
+            LookMark::UF => run_unfold(w, u, t),
+            LookMark::RD => run_ready(w, u, t),
+        },
         Look::TS(many, t) => run_tparams(w, u, ids, nodes, many, t),
     }
 }
@@ -308,11 +311,15 @@ pub fn run_add(w: &mut [u32], u: Used, what: Add) -> Ran
     ensures { λ r. ⌜ Ran-as Any (now (w .entry)) u (now (w .exit)) r (adds (add-of what)) ⌝ }
 {
     match what {
-        Add::FV(loc) => run_tvar(w, u, loc),
-        Add::NV(loc) => run_num_tvar(w, u, loc),
+        Add::Loc(m, loc) => match m {
+            LocMark::FV => run_tvar(w, u, loc),
+            LocMark::NV => run_num_tvar(w, u, loc),
+        },
         Add::NC(loc, kind, t) => run_numeric(w, u, kind, loc, t),
-        Add::BC(loc, t) => run_base_type(w, u, loc, t),
-        Add::SC(loc, t) => run_single_type(w, u, loc, t),
+        Add::LocType(m, loc, t) => match m {
+            LocTypeMark::BC => run_base_type(w, u, loc, t),
+            LocTypeMark::SC => run_single_type(w, u, loc, t),
+        },
         Add::RM(n) => run_needs(w, u, n.met, n.nodes, n.places, n.variables, n.constraints),
     }
 }

@@ -3,7 +3,7 @@ use mathlib.Core.Path.{refl, sym, _∙_}
 use Rattle.definition.specs.Record.{read-kind}
 use Rattle.definition.specs.Reader.{_>>=_, go-on, read-one, read-three}
 use Rattle.heads.specs.Fields.{byte-wide, u32-wide}
-use Rattle.fields.proofs.Forms.{nc-is, malformed-is, one-NC}
+use Rattle.fields.proofs.Forms.{one-is, one-NC, nc-is, malformed-is}
 use borrow.Author.Needs.{needs}
 use Rattle.fields.proofs.read_nc.Statement.{statement}
 use Rattle.fields.proofs.read_nc.Tie as tie
@@ -20,11 +20,14 @@ byte-to-requires c κs = search needs
 enum-known-k : tie.Need-enum-known-k
 enum-known-k c = search needs
 
-read-one-requires : tie.Need-read-one-requires
-read-one-requires c κs =
+read-type-requires : tie.Need-read-type-requires
+read-type-requires c κs =
     let p = c .before .before .before .before .before .before .before .before .before .before .before .pre in
     let r = c .before .before .before .before .before .before .before .before .read-numbers .ensures _ _ _ _ u32-wide byte-wide in
     (p .0, (p .1 .0, (r .second .within, p .1 .1 .1)))
+
+node-of-requires : tie.Need-node-of-requires
+node-of-requires c κs = search needs
 
 made-requires : tie.Need-made-requires
 made-requires c κs = search needs
@@ -42,15 +45,15 @@ plain-requires-2 : tie.Need-plain-requires-2
 plain-requires-2 c κs = search needs
 
 same-length : tie.Need-same-length
-same-length c = c .before .before .before .read-one .ensures .0 _ _ (one-NC 0 0) .lay .size ∙ sym (c .before .before .before .before .before .before .before .before .before .before .before .before .before .before .before .pre .0 .0 .size)
+same-length c = c .before .before .before .before .read-type .ensures .lay .size ∙ sym (c .before .before .before .before .before .before .before .before .before .before .before .before .before .before .before .before .pre .0 .0 .size)
 
 returns : tie.Need-returns
 returns c =
-    let r = c .before .before .before .before .before .before .before .before .before .before .before .before .read-numbers .ensures _ _ _ _ u32-wide byte-wide in
-    let k = c .before .before .before .before .before .before .before .before .byte-to .ensures _ _ _ _ (r .second) in
-    let e = rw (c .before .before .before .before .before .before .before .before .before .before .l .given .1) at (r .first .is) in
-    let g = rw (c .before .before .before .before .before .before .k .given .1) at (k .is) in
-    rw (c .made .ensures) (nc-is _ _ _ _ _ _ _ _ _ _ _ _ e g (c .before .before .before .read-one .ensures .0 _ _ (one-NC _ _)))
+    let r = c .before .before .before .before .before .before .before .before .before .before .before .before .before .read-numbers .ensures _ _ _ _ u32-wide byte-wide in
+    let k = c .before .before .before .before .before .before .before .before .before .byte-to .ensures _ _ _ _ (r .second) in
+    let e = rw (c .before .before .before .before .before .before .before .before .before .before .before .l .given .1) at (r .first .is) in
+    let g = rw (c .before .before .before .before .before .before .before .k .given .1) at (k .is) in
+    rw (c .made .ensures, c .before .node-of .ensures) (nc-is _ _ _ _ _ _ _ _ _ _ _ _ e g (one-is _ _ _ _ _ _ _ _ _ _ (one-NC _ _) (c .before .before .before .before .read-type .ensures)))
 
 returns-2 : tie.Need-returns-2
 unfolding read-three read-kind read-one _>>=_ go-on
@@ -75,7 +78,8 @@ read-nc-spec =
     enum-known-l
     byte-to-requires
     enum-known-k
-    read-one-requires
+    read-type-requires
+    node-of-requires
     made-requires
     enum-told
     plain-requires

@@ -12,16 +12,16 @@ read-type-requires c κs = search needs
 stops-requires : tie.Need-stops-requires
 stops-requires c κs = search needs
 
-with-first-requires : tie.Need-with-first-requires
-with-first-requires c κs = search needs
+made-requires : tie.Need-made-requires
+made-requires c κs = search needs
 
 same-length : tie.Need-same-length
 same-length c = search needs
 
 returns : tie.Need-returns
-returns c = λ make mk o.
+returns c =
     let e = sym (c .before .before .stops .ensures) ∙ c .before .if1 .taken in
-    rw (c .with-first .ensures) (two-stop _ _ _ _ _ _ _ _ mk make (c .before .before .before .before .before .before .read-type .ensures) o e)
+    rw (c .made .ensures) (two-stop _ _ _ _ _ _ _ _ (c .before .before .before .before .before .before .before .before .before .args .m) (c .before .before .before .before .before .read-type .ensures) e)
 
 no-space-requires : tie.Need-no-space-requires
 no-space-requires c κs = search needs
@@ -35,18 +35,21 @@ read-type-requires-2 c κs =
 node-of-requires : tie.Need-node-of-requires
 node-of-requires c κs = search needs
 
-with-first-requires-2 : tie.Need-with-first-requires-2
-with-first-requires-2 c κs = search needs
+node-of-requires-2 : tie.Need-node-of-requires-2
+node-of-requires-2 c κs = search needs
+
+made-requires-2 : tie.Need-made-requires-2
+made-requires-2 c κs = search needs
 
 same-length-2 : tie.Need-same-length-2
 same-length-2 c = c .before .before .before .before .before .read-type2 .ensures .lay .size ∙ sym (c .before .before .before .before .before .before .before .before .before .before .before .before .before .before .before .before .before .pre .0 .0 .size)
 
 returns-2 : tie.Need-returns-2
-returns-2 c = λ make mk o.
+returns-2 c =
     let r = c .before .before .before .before .before .before .before .before .before .before .before .before .before .read-type .ensures in
-    let e = sym (c .before .before .before .before .before .before .before .before .before .stops .ensures) ∙ c .before .before .before .before .before .before .before .before .if1 .left in
+    let e = sym (c .before .before .before .before .before .before .before .before .before .before .stops .ensures) ∙ c .before .before .before .before .before .before .before .before .before .if1 .left in
     let q = rw (c .before .before .before .before .before .before .no-space .ensures) at (c .before .before .before .before .before .read-type2 .ensures) in
-    rw (c .with-first2 .ensures, c .before .node-of .ensures) (two-is _ _ _ _ _ _ _ _ mk make r o e _ _ q)
+    rw (c .made2 .ensures, c .before .before .node-of .ensures, c .before .node-of2 .ensures) (two-is _ _ _ _ _ _ _ _ _ r e _ _ q)
 
 pub read-two-spec : {M : Type 1} → statement M
 read-two-spec =
@@ -54,12 +57,13 @@ read-two-spec =
     (tie.spec
     read-type-requires
     stops-requires
-    with-first-requires
+    made-requires
     same-length
     returns
     no-space-requires
     read-type-requires-2
     node-of-requires
-    with-first-requires-2
+    node-of-requires-2
+    made-requires-2
     same-length-2
     returns-2)

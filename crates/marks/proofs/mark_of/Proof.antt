@@ -1,20 +1,22 @@
 -- `marks::mark_of` meets its contract. Assumes nothing.
-use mathlib.Core.Path.{sym, _∙_}
+use mathlib.Core.Path.{refl, sym, _∙_}
 use Prim.Native.Nat.{_-_}
 use native.Mathlib.Omega.{arith}
-use Rattle.marks.proofs.Marks.{Onward, start, hit, pass, none}
+use Rattle.definition.specs.Record.{by-mark}
+use Rattle.marks.proofs.Marks.{count, Onward, start, hit, pass, none}
 use borrow.Author.Needs.{needs}
 use Rattle.marks.proofs.mark_of.Statement.{statement}
 use Rattle.marks.proofs.mark_of.Tie as tie
 
 abbrev Inv-loop : tie.InvT-loop
-Inv-loop x y marks k₀ k = Onward x y k
+Inv-loop x y marks k₀ k = Onward x y marks k
 
 abbrev μ-loop : tie.MeasureT-loop
-μ-loop x y marks k₀ k = 15 - k
+μ-loop x y marks k₀ k = count - k
 
 loop-holds : tie.Need-loop-holds Inv-loop μ-loop
-loop-holds c = start _ _
+unfolding by-mark
+loop-holds c = start _ _ _ (λ s. refl)
 
 mul-row : tie.Need-mul-row Inv-loop μ-loop
 mul-row c = search needs
@@ -26,7 +28,7 @@ same-requires : tie.Need-same-requires Inv-loop μ-loop
 same-requires c κs = search needs
 
 returns : tie.Need-returns Inv-loop μ-loop
-returns c = hit _ _ _ (c .before .before .before .before .loop .inv) (omega arith) (sym (c .before .same .ensures) ∙ c .if1 .taken)
+returns c = hit _ _ _ _ (c .before .before .before .before .loop .inv) (omega arith) (sym (c .before .same .ensures) ∙ c .if1 .taken)
 
 add-k : tie.Need-add-k Inv-loop μ-loop
 add-k c = search needs
@@ -35,10 +37,10 @@ loop-less : tie.Need-loop-less Inv-loop μ-loop
 loop-less c = search needs
 
 loop-again : tie.Need-loop-again Inv-loop μ-loop
-loop-again c = pass _ _ _ (c .before .before .before .before .loop .inv) (omega arith) (sym (c .before .same .ensures) ∙ c .if1 .left)
+loop-again c = pass _ _ _ _ (c .before .before .before .before .loop .inv) (omega arith) (sym (c .before .same .ensures) ∙ c .if1 .left)
 
 returns-2 : tie.Need-returns-2 Inv-loop μ-loop
-returns-2 c = none _ _ _ (c .before .loop .inv) (omega arith)
+returns-2 c = none _ _ _ _ (c .before .loop .inv) (omega arith)
 
 pub mark-of-spec : {M : Type 1} → statement M
 mark-of-spec =

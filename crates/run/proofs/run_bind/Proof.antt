@@ -20,14 +20,8 @@ run-two-requires c κs = (c .before .before .before .before .before .pre .0, rw 
 enum-known-what-3 : tie.Need-enum-known-what-3
 enum-known-what-3 c = search needs
 
-run-two-requires-2 : tie.Need-run-two-requires-2
-run-two-requires-2 c κs = (c .before .before .before .before .before .pre .0, rw (c .before .before .what3 .given .1) at (c .before .before .before .before .before .pre .1))
-
-enum-known-what-4 : tie.Need-enum-known-what-4
-enum-known-what-4 c = search needs
-
 run-instantiate-requires : tie.Need-run-instantiate-requires
-run-instantiate-requires c κs = (c .before .before .before .before .before .pre .0, rw (c .before .before .what4 .given .1) at (c .before .before .before .before .before .pre .1))
+run-instantiate-requires c κs = (c .before .before .before .before .before .pre .0, rw (c .before .before .what3 .given .1) at (c .before .before .before .before .before .pre .1))
 
 same-length : tie.Need-same-length
 same-length c = search needs
@@ -48,14 +42,7 @@ same-length-3 c = search needs
 
 returns-3 : tie.Need-returns-3
 unfolding run-of step-of
-returns-3 c = rw (c .before .before .before .before .before .what3 .given .1) (narrow (c .before .before .run-two2 .ensures))
-
-same-length-4 : tie.Need-same-length-4
-same-length-4 c = search needs
-
-returns-4 : tie.Need-returns-4
-unfolding run-of step-of
-returns-4 c = rw (c .before .before .before .before .before .what4 .given .1) (c .before .before .run-instantiate .ensures)
+returns-3 c = rw (c .before .before .before .before .before .what3 .given .1) (c .before .before .run-instantiate .ensures)
 
 pub run-bind-spec : {M : Type 1} → statement M
 run-bind-spec =
@@ -66,14 +53,10 @@ run-bind-spec =
     enum-known-what-2
     run-two-requires
     enum-known-what-3
-    run-two-requires-2
-    enum-known-what-4
     run-instantiate-requires
     same-length
     returns
     same-length-2
     returns-2
     same-length-3
-    returns-3
-    same-length-4
-    returns-4)
+    returns-3)
