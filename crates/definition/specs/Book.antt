@@ -1,7 +1,8 @@
 -- What the Move Book says of subtyping, of integer literals and of abilities, in its own terms, and what that claims of subtype, join and SV. Assumes nothing: these are definitions.
 use mathlib.Core.Logic.{_≢_, _↔_}
 use Prim.Native.Nat.{_≤_}
-use Rattle.definition.specs.Types.{_≡_, Bool, true, false, List, [], _∷_, none, some, ℕ, _<_, length, getD, TypeName, Multiple, Builtin, ModuleType, AbilityMark, Type-value, UnitType, Ref, Param, Apply, Var, Anything, UnresolvedError, State, TypingError, SubtypeError, Incompatible, ArityMismatch, Refusal, full, too-deep, runs-into-itself, abilities-disagree, mark-contradicted, Result, ok, err, refused}
+use Rattle.definition.specs.Types.{_≡_, Bool, true, false, List, [], _∷_, none, some, ℕ, _<_, length, getD, TypeName, Multiple, Builtin, ModuleType, AbilityMark, Type-value, UnitType, Ref, Param, Apply, Var, Anything, UnresolvedError}
+use Rattle.definition.specs.Types.{State, TypingError, SubtypeError, Incompatible, ArityMismatch, Refusal, full, too-deep, runs-into-itself, abilities-disagree, mark-contradicted, Result, ok, err, refused}
 use Rattle.definition.specs.Store.{count, type-at, get, num-loc}
 use Rattle.definition.specs.Subst.{forward-tvar, unfold-type}
 use Rattle.definition.specs.Join.{is-multiple, join, subtype}
