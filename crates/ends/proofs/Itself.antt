@@ -120,7 +120,7 @@ pub record Read (w : List ℕ) (u : Used) (t left : ℕ) (sh : Shape) (many : �
   pub goes : Goes-on w u t sh
   pub many-is : many ≡ part-count (shape-of sh)
   pub le : i ≤ many
-  pub marked : Measured w u heights
+  pub measured : Measured w u heights
   pub over : (ds : List Struct) (j : ℕ) → j < i → (m : ℕ) → high ≤ m → ends-in m (seen w u ds) (getD (goes-on-to (seen w u ds) t) j 0) ≡ true
   pub no-fewer : (ds : List Struct) (m : ℕ) → m < high → all-of (λ p. ends-in m (seen w u ds) p) (goes-on-to (seen w u ds) t) ≡ false
 
@@ -134,7 +134,7 @@ read-none w u t left sh many heights h i r n g e m = record {
   goes = g;
   many-is = e;
   le = omega arith;
-  marked = m;
+  measured = m;
   over = λ ds j p. absurd (not-suc-le-zero p);
   no-fewer = λ ds m p. absurd (not-suc-le-zero p);
 }
@@ -178,7 +178,7 @@ module _ {w : List ℕ} {u : Used} {t left : ℕ} {sh : Shape} {many : ℕ} {hei
         goes = h .goes;
         many-is = h .many-is;
         le = omega arith;
-        marked = c;
+        measured = c;
         over = λ ds j q m b. over-more ds j q m b (ℕ-discrete j i);
         no-fewer = λ ds m q. fewer ds m q (decLt m high);
       }
@@ -221,8 +221,8 @@ module _ {w : List ℕ} {u : Used} {t left : ℕ} {sh : Shape} {many : ℕ} {hei
 
 -- ---- the heights
 
-pub marked-more : (w : List ℕ) (u : Used) (t n : ℕ) (heights : List ℕ) → Measured w u heights → t < 2048 → Ends-at w u t n → Measured w u (set heights t n)
-marked-more w u t n heights m l e = record { size = length-set heights t n ∙ m .size; ends = λ x p. by x p (ℕ-discrete x t) }
+pub measured-more : (w : List ℕ) (u : Used) (t n : ℕ) (heights : List ℕ) → Measured w u heights → t < 2048 → Ends-at w u t n → Measured w u (set heights t n)
+measured-more w u t n heights m l e = record { size = length-set heights t n ∙ m .size; ends = λ x p. by x p (ℕ-discrete x t) }
   where
     by : (x : ℕ) → 0 < getD (set heights t n) x 0 → Dec (x ≡ t) → Ends-at w u x (getD (set heights t n) x 0)
     by x p (yes y) = rw (y, getD-set-same heights t n 0 (rw (m .size) l)) e
@@ -230,8 +230,8 @@ marked-more w u t n heights m l e = record { size = length-set heights t n ∙ m
         let z = getD-set-other heights t x n 0 y in
         rw z (m .ends x (rw z at p))
 
-pub marked-none : (w : List ℕ) (u : Used) → Measured w u (replicate 2048 0)
-marked-none w u = record { size = length-replicate {A = ℕ} 2048 0; ends = λ t p. absurd (let z = zero-at 2048 t (decLt t 2048) in omega arith) }
+pub measured-none : (w : List ℕ) (u : Used) → Measured w u (replicate 2048 0)
+measured-none w u = record { size = length-replicate {A = ℕ} 2048 0; ends = λ t p. absurd (let z = zero-at 2048 t (decLt t 2048) in omega arith) }
 
 -- ---- the whole test
 

@@ -32,7 +32,7 @@ pub record Ends-at (w : List ℕ) (u : Used) (t n : ℕ) : Type 0 where
   pub ends : (ds : List Struct) (m : ℕ) → n ≤ m → ends-in m (seen w u ds) t ≡ true
   pub no-fewer : (ds : List Struct) (m : ℕ) → m < n → ends-in m (seen w u ds) t ≡ false
 
--- a number that is marked says so of its node
+-- a height other than 0 says so of its node
 pub record Measured (w : List ℕ) (u : Used) (heights : List ℕ) : Type 0 where
   pub size : length heights ≡ 2048
   pub ends : (t : ℕ) → 0 < getD heights t 0 → Ends-at w u t (getD heights t 0)

@@ -170,7 +170,7 @@ fn higher(a: u32, b: u32) -> u32
     a
 }
 
-// In how many levels reading node t is over; 0 if not in `left`. A node's answer is marked, so that each node is read once.
+// In how many levels reading node t is over; 0 if not in `left`. A node's answer is noted, so that each node is read once.
 pub fn levels(w: &[u32], u: Used, t: u32, left: u32, ends: &[u32], heights: &mut [u16]) -> u32
     requires { ⌜ Lay (now w) u × ((t < u .nodes) × ((left ≤ u .nodes) × Measured (now w) u (now heights))) ⌝ }
     requires { ⌜ Ends-known (now w) u (now ends) ⌝ }

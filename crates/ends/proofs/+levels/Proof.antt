@@ -2,7 +2,7 @@
 use borrow.Author.Needs.{needs}
 use native.Mathlib.Omega.{arith}
 use lib.ListN.{length-set}
-use Rattle.ends.proofs.Itself.{Read, read-none, goes-part, read-more, levels-none, levels-known, levels-out, levels-over, levels-here, ends-here, marked-more}
+use Rattle.ends.proofs.Itself.{Read, read-none, goes-part, read-more, levels-none, levels-known, levels-out, levels-over, levels-here, ends-here, measured-more}
 use mathlib.Core.Path.{sym, _∙_}
 use Prim.Native.Nat.{ℕ, _<_, _-_}
 use borrow.Fn.Kinds.{In}
@@ -147,7 +147,7 @@ levels-returns-5 t c = let pre = c .before .before .before .before .before .befo
     let loop-test = c .before .before .before .loop-test in
     let e = ends-here (loop .inv) (loop-test .left) (c .before .if4 .left) in (
       levels-here (loop .inv) (loop-test .left) (c .before .if4 .left),
-      rw (wide .ensures) (rw (c .narrow .ensures) (marked-more _ _ _ _ _ (loop .inv .measured) (omega (arith, pre .1 .0 .1 .0, pre .1 .0 .0 .nodes)) e)),
+      rw (wide .ensures) (rw (c .narrow .ensures) (measured-more _ _ _ _ _ (loop .inv .measured) (omega (arith, pre .1 .0 .1 .0, pre .1 .0 .0 .nodes)) e)),
     )
 
 pub +levels-spec : {M : Type 1} → statement M
