@@ -9,14 +9,15 @@ ghost use Rattle.definition.specs.Types as d;
 ghost use Rattle.definition.specs.Store.{args-at};
 ghost use Rattle.definition.specs.Instantiate.{make-tvar, tvar-constraint, builtin-tparams, tparam-constraints, instantiate-apply, instantiate-down, instantiate};
 ghost use Rattle.names.specs.Names.{mark-of, name-of};
-ghost use Rattle.table.specs.Rows.{places};
 ghost use Rattle.table.specs.State.{constraint-of, view, seen, Lay, When, After, Parts, Declares, Placed, Named};
 ghost use Rattle.table.specs.Known.{Known};
+ghost use Rattle.shapes.specs.Applied.{args-of};
 ghost use Rattle.instantiate.specs.Known.{Numbered, ability-at};
 ghost use Rattle.instantiate.specs.Args.{make-tparam, made, Listed, joined};
 use names::AbilitySet;
 use names::TypeName;
 use shapes::Applied;
+use shapes::stay;
 use shapes::wide;
 use table::Constraint;
 use table::Found;
@@ -32,12 +33,6 @@ pub struct Tparams {
     pub used: Used,
     pub tvars: [u32; 8],
     pub many: u32,
-}
-
-fn stay(o: Out, u: Used) -> Outcome
-    ensures { λ r. ⌜ r ≡ record { out = o; used = u } ⌝ }
-{
-    Outcome { out: o, used: u }
 }
 
 // A fresh variable, as a node.
@@ -158,7 +153,7 @@ fn fewer(a: u32, b: u32) -> u32
 // make_tparams: a variable for each argument that has a parameter.
 fn make_tparams(w: &mut [u32], u: Used, params: &[[u8; 8]; 256], loc: u32, ty: Applied) -> Tparams
     requires { ⌜ Lay (now w) u × Placed (now w) u (ty .first) (ty .many) ⌝ }
-    ensures { λ r. ⌜ Listed (Known (now (w .entry)) u (now (params .entry))) (now (w .entry)) u (now (w .exit)) r (made loc (name-of (ty .n)) (args-at (view (now (w .entry)) u) (places (ty .first) (ty .many)))) ⌝ }
+    ensures { λ r. ⌜ Listed (Known (now (w .entry)) u (now (params .entry))) (now (w .entry)) u (now (w .exit)) r (made loc (name-of (ty .n)) (args-at (view (now (w .entry)) u) (args-of ty))) ⌝ }
 {
     let n = ty.n;
     let count = fewer(ty.many, tparam_count(w, u, n));
@@ -235,7 +230,7 @@ fn instantiate_apply(
     ty: Applied,
 ) -> Outcome
     requires { ⌜ Lay (now w) u × Named (now w) u (ty .first) (ty .many) (u .nodes) ⌝ }
-    ensures { λ r. ⌜ When (Known (now (w .entry)) u (now (params .entry))) (now (w .entry)) u (now (w .exit)) r (λ s. instantiate-apply (instantiate-down left) s loc (mark-of (ty .k)) (name-of (ty .n)) (args-at (view (now (w .entry)) u) (places (ty .first) (ty .many)))) ⌝ }
+    ensures { λ r. ⌜ When (Known (now (w .entry)) u (now (params .entry))) (now (w .entry)) u (now (w .exit)) r (λ s. instantiate-apply (instantiate-down left) s loc (mark-of (ty .k)) (name-of (ty .n)) (args-at (view (now (w .entry)) u) (args-of ty))) ⌝ }
 {
     let b = make_tparams(w, u, params, loc, ty);
     let bo = b.out;

@@ -15,6 +15,8 @@ ghost use Rattle.shapes.specs.Parts.{next, part-count};
 use names::AbilityMark;
 use names::TVar;
 use names::TypeName;
+use table::Out;
+use table::Outcome;
 use table::Shape;
 use table::Used;
 
@@ -36,6 +38,13 @@ pub fn wide(x: u32) -> usize
     ensures { λ r. ⌜ r ≡ x ⌝ }
 {
     x as usize
+}
+
+// The answer o, with no row taken.
+pub fn stay(o: Out, u: Used) -> Outcome
+    ensures { λ r. ⌜ r ≡ record { out = o; used = u } ⌝ }
+{
+    Outcome { out: o, used: u }
 }
 
 // ---- tests

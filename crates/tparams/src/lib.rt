@@ -6,11 +6,12 @@ ghost use Rattle.definition.specs.Types.{Apply};
 ghost use Rattle.definition.specs.Store.{args-at};
 ghost use Rattle.definition.specs.TParams.{arg-of, make-tparam-subst, subst-value, subst-down, subst-tparams};
 ghost use Rattle.names.specs.Names.{mark-of, name-of};
-ghost use Rattle.table.specs.Rows.{places};
 ghost use Rattle.table.specs.State.{found, view, Lay, After, Parts, Named};
+ghost use Rattle.shapes.specs.Applied.{args-of};
 ghost use Rattle.tparams.specs.Pairs.{pairs, subst-of, made, answer};
 use names::TParamID;
 use shapes::Applied;
+use shapes::stay;
 use shapes::wide;
 use table::Found;
 use table::Out;
@@ -82,12 +83,6 @@ fn arg_or_none(subst: TParamSubst, id: TParamID) -> Out
     }
 }
 
-fn stay(o: Out, u: Used) -> Outcome
-    ensures { λ r. ⌜ r ≡ record { out = o; used = u } ⌝ }
-{
-    Outcome { out: o, used: u }
-}
-
 // A named type: at most `left` levels of its arguments, in order; then its node.
 fn subst_apply(
     w: &mut [u32],
@@ -98,7 +93,7 @@ fn subst_apply(
     ty: Applied,
 ) -> Outcome
     requires { ⌜ Lay (now w) u × (Named (now w) u (ty .first) (ty .many) (u .nodes) × Parts (u .nodes) (subst .args) (subst .many)) ⌝ }
-    ensures { λ r. ⌜ After (now (w .entry)) u (now (w .exit)) r (λ s. subst-value (subst-down left (subst-of subst)) (subst-of subst) s 0 loc (Apply (mark-of (ty .k)) (name-of (ty .n)) (args-at (view (now (w .entry)) u) (places (ty .first) (ty .many))))) ⌝ }
+    ensures { λ r. ⌜ After (now (w .entry)) u (now (w .exit)) r (λ s. subst-value (subst-down left (subst-of subst)) (subst-of subst) s 0 loc (Apply (mark-of (ty .k)) (name-of (ty .n)) (args-at (view (now (w .entry)) u) (args-of ty)))) ⌝ }
 {
     let mut parts: [u32; 8] = [0; 8];
     let mut v = u;

@@ -30,7 +30,7 @@ use Rattle.table.proofs.node_at.Reads as node-at-reads
 use Rattle.table.proofs.push_apply.Reads as push-apply-reads
 use Rattle.table.proofs.push_node.Reads as push-node-reads
 use Rattle.tparams.proofs.arg_or_none.Reads as arg-or-none-reads
-use Rattle.tparams.proofs.stay.Reads as stay-reads
+use Rattle.shapes.proofs.stay.Reads as stay-reads
 use Rattle.shapes.proofs.wide.Reads as wide-reads
 use Rattle.tparams.proofs.+subst_apply+subst_down.{statement}
 use Rattle.tparams.proofs.+subst_apply+subst_down.Tie.{close}
@@ -160,7 +160,18 @@ subst-down-returns-2 t c =
 subst-down-push-node-requires : (t : ℕ) → subst-down-lts.Need-push-node-requires (subst-down-calls t) (subst-down-at t) subst-down.Post
 subst-down-push-node-requires t c κs =
     let subst-down = c .before .before .before .before .before .before .before .before .subst-down in
-    (subst-down .ensures .changed .lay, after-done (subst-down .ensures) (c .before .before .before .before .done-of .ensures) (c .before .before .p .given .1))
+    let pre = c .before .before .before .before .before .before .before .before .before .before .before .before .before .before .before .before .before .pre in
+    let node-at = c .before .before .before .before .before .before .before .before .before .before .before .before .before .node-at in
+    let shape2 = c .before .before .before .before .before .before .before .before .before .before .before .shape2 in (
+      subst-down .ensures .changed .lay,
+      omega (
+        arith,
+        after-done (subst-down .ensures) (c .before .before .before .before .done-of .ensures) (c .before .before .p .given .1),
+        ref-below _ _ _ _ (pre .1 .0) (pre .1 .1 .0) (node-at .ensures) _ _ (shape2 .given .1),
+        pre .1 .1 .0,
+        nodes-grow _ _ _ _ (subst-down .ensures .changed .grown),
+      ),
+    )
 
 subst-down-subst-apply-requires : (t : ℕ) → subst-down-lts.Need-subst-apply-requires (subst-down-calls t) (subst-down-at t) subst-down.Post
 subst-down-subst-apply-requires t c κs =
