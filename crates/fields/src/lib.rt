@@ -121,7 +121,7 @@ fn made(what: What, r: Taken) -> Fields
     plain(whole_of(p, what), u, r.next)
 }
 
-// ---- one type, two
+// ---- one type, or two
 
 pub fn read_look(
     w: &mut [u32],

@@ -6,7 +6,9 @@ ghost use Rattle.definition.specs.Types as d;
 ghost use Rattle.definition.specs.Record.{by-mark, fields-of};
 ghost use Rattle.marks.specs.Marks.{reader-of};
 
-// Marks that have their fields and what becomes of them alike, a form each. A location, and rows are taken.
+// ---- marks by form: those of one form have the same fields, put to the same use
+
+// A location; rows are taken.
 pub enum LocMark {
     FV,
     NV,
@@ -24,11 +26,13 @@ pub enum TwoMark {
     SU,
 }
 
-// A location and a type, a constraint that is listed.
+// A location and a type; a constraint is listed.
 pub enum LocTypeMark {
     BC,
     SC,
 }
+
+// ---- a record's mark
 
 // The two bytes that a record begins with, or others.
 pub enum RecordMark {

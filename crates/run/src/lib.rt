@@ -3,7 +3,7 @@ ghost use mathlib.Core.Path.{_≡_};
 ghost use mathlib.Core.Bool.{true, false};
 ghost use mathlib.Core.Option.{none};
 ghost use Prim.Native.Nat.{_<_};
-ghost use Rattle.definition.specs.Types.{BaseTypeConstraint, SingleTypeConstraint, if_then_else_};
+ghost use Rattle.definition.specs.Types.{if_then_else_};
 ghost use Rattle.definition.specs.Store.{next-tvar};
 ghost use Rattle.definition.specs.Subst.{ready-tvars};
 ghost use Rattle.definition.specs.Instantiate.{instantiate};
@@ -14,7 +14,7 @@ ghost use Rattle.tparams.specs.Pairs.{pairs};
 ghost use Rattle.table.specs.Known.{Known};
 ghost use Rattle.constraints.specs.Solve.{kind-of};
 ghost use Rattle.run.specs.Runs.{join-in, two-run, unfold-run, ready-run, subst-in, tparams-run, instantiate-run, tvar-run, num-tvar-in, num-tvar-run, set-num-in, set-num-run, kind-at, constraint-run, needs-run, Runs, with-row, Declared};
-ghost use Rattle.fields.specs.Noded.{two-case, binds, looks, adds, bind-of, look-of, add-of, Bind-in, Look-in};
+ghost use Rattle.fields.specs.Noded.{two-case, loc-type-constraint, binds, looks, adds, bind-of, look-of, add-of, Bind-in, Look-in};
 ghost use Rattle.run.specs.Dispatch.{Ran-as};
 use answer::Ran;
 use constraints::NumericKind;
@@ -197,26 +197,22 @@ pub fn run_numeric(w: &mut [u32], u: Used, kind: u32, loc: u32, ty: u32) -> Ran
     shown(a, Show::Nothing, true)
 }
 
-pub fn run_base_type(w: &mut [u32], u: Used, loc: u32, ty: u32) -> Ran
+pub fn run_loc_type(w: &mut [u32], u: Used, m: LocTypeMark, loc: u32, ty: u32) -> Ran
     requires { ⌜ Lay (now w) u ⌝ }
-    ensures { λ r. ⌜ Runs Any (now (w .entry)) u (now (w .exit)) r true (pushed-constraint (BaseTypeConstraint loc ty)) (constraint-run (BaseTypeConstraint loc ty)) ⌝ }
+    ensures { λ r. ⌜ Runs Any (now (w .entry)) u (now (w .exit)) r true (pushed-constraint (loc-type-constraint m loc ty)) (constraint-run (loc-type-constraint m loc ty)) ⌝ }
 {
-    shown(
-        constraints::base_type_constraint(w, u, loc, ty),
-        Show::Nothing,
-        true,
-    )
-}
-
-pub fn run_single_type(w: &mut [u32], u: Used, loc: u32, ty: u32) -> Ran
-    requires { ⌜ Lay (now w) u ⌝ }
-    ensures { λ r. ⌜ Runs Any (now (w .entry)) u (now (w .exit)) r true (pushed-constraint (SingleTypeConstraint loc ty)) (constraint-run (SingleTypeConstraint loc ty)) ⌝ }
-{
-    shown(
-        constraints::single_type_constraint(w, u, loc, ty),
-        Show::Nothing,
-        true,
-    )
+    match m {
+        LocTypeMark::BC => shown(
+            constraints::base_type_constraint(w, u, loc, ty),
+            Show::Nothing,
+            true,
+        ),
+        LocTypeMark::SC => shown(
+            constraints::single_type_constraint(w, u, loc, ty),
+            Show::Nothing,
+            true,
+        ),
+    }
 }
 
 // RM: the four numbers that IN of the type would take, or 11 if a variable was met in it.
@@ -316,10 +312,7 @@ pub fn run_add(w: &mut [u32], u: Used, what: Add) -> Ran
             LocMark::NV => run_num_tvar(w, u, loc),
         },
         Add::NC(loc, kind, t) => run_numeric(w, u, kind, loc, t),
-        Add::LocType(m, loc, t) => match m {
-            LocTypeMark::BC => run_base_type(w, u, loc, t),
-            LocTypeMark::SC => run_single_type(w, u, loc, t),
-        },
+        Add::LocType(m, loc, t) => run_loc_type(w, u, m, loc, t),
         Add::RM(n) => run_needs(w, u, n.met, n.nodes, n.places, n.variables, n.constraints),
     }
 }

@@ -30,17 +30,8 @@ run-numeric-requires c κs = search needs
 enum-known-what-3 : tie.Need-enum-known-what-3
 enum-known-what-3 c = search needs
 
-enum-told-3 : tie.Need-enum-told-3
-enum-told-3 c = search needs
-
-run-base-type-requires : tie.Need-run-base-type-requires
-run-base-type-requires c κs = search needs
-
-enum-told-4 : tie.Need-enum-told-4
-enum-told-4 c = search needs
-
-run-single-type-requires : tie.Need-run-single-type-requires
-run-single-type-requires c κs = search needs
+run-loc-type-requires : tie.Need-run-loc-type-requires
+run-loc-type-requires c κs = search needs
 
 enum-known-what-4 : tie.Need-enum-known-what-4
 enum-known-what-4 c = search needs
@@ -74,21 +65,14 @@ same-length-4 c = search needs
 
 returns-4 : tie.Need-returns-4
 unfolding run-of step-of
-returns-4 c = rw (c .before .before .before .before .before .before .before .what3 .given .1, c .before .before .before .before .enum-told3 .given .1) (c .before .before .run-base-type .ensures)
+returns-4 c = rw (c .before .before .before .before .before .what3 .given .1) (c .before .before .run-loc-type .ensures)
 
 same-length-5 : tie.Need-same-length-5
 same-length-5 c = search needs
 
 returns-5 : tie.Need-returns-5
 unfolding run-of step-of
-returns-5 c = rw (c .before .before .before .before .before .before .before .what3 .given .1, c .before .before .before .before .enum-told4 .given .1) (c .before .before .run-single-type .ensures)
-
-same-length-6 : tie.Need-same-length-6
-same-length-6 c = search needs
-
-returns-6 : tie.Need-returns-6
-unfolding run-of step-of
-returns-6 c = rw (c .before .before .before .what4 .given .1) (rw (unless-is _ _) at (c .run-needs .ensures))
+returns-5 c = rw (c .before .before .before .what4 .given .1) (rw (unless-is _ _) at (c .run-needs .ensures))
 
 pub run-add-spec : {M : Type 1} → statement M
 run-add-spec =
@@ -102,10 +86,7 @@ run-add-spec =
     enum-known-what-2
     run-numeric-requires
     enum-known-what-3
-    enum-told-3
-    run-base-type-requires
-    enum-told-4
-    run-single-type-requires
+    run-loc-type-requires
     enum-known-what-4
     run-needs-requires
     same-length
@@ -117,6 +98,4 @@ run-add-spec =
     same-length-4
     returns-4
     same-length-5
-    returns-5
-    same-length-6
-    returns-6)
+    returns-5)
