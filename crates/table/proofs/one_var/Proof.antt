@@ -138,7 +138,7 @@ module _ {M : Type 1} (𝓤 : URA M) (H : Heap 𝓤) (A : Atoms 𝓤) (W : Given
         -- [_2; what the Used owns; true; what the Out owns; true; true; _5; …; _4; …; _3; …; …; _1; …; room for _0; …]
         assigns ! (of-opd ! (load ! (from ! (stop !)) (look ! 0 refl))) (from ! (stop !)) (init ! 6 refl (LL.lawful T.the-type T′.the-laws 𝓤 H A W .typed (zs .0) _ is₂ .0)) $
         assigns ! (agg ! (and-then ! (load ! (from ! (stop !)) (look ! 10 refl)) (and-then ! (load ! (from ! (stop !)) (look ! 6 refl)) (no-more !))))
-            (from ! (stop !)) (init ! 15 refl (LL.lawful S.the-type S′.the-laws 𝓤 H A W .typed (made (zs .0) t) _ (LL.owes S.the-type S′.the-laws (made (zs .0) t) (is₁, (is₂, tt))) .0)) $
+        (from ! (stop !)) (init ! 15 refl (LL.lawful S.the-type S′.the-laws 𝓤 H A W .typed (made (zs .0) t) _ (LL.owes S.the-type S′.the-laws (made (zs .0) t) (is₁, (is₂, tt))) .0)) $
         returns ! (look ! 15 refl) $ forget ! 0 refl $ forget ! 6 refl $ forget ! 8 refl $ forget ! 10 refl $ forget ! 13 refl $ forget ! 15 refl $
         move ! (15 ∷ 16 ∷ []) $ free1 ! $ move ! (13 ∷ 14 ∷ []) $ free1 ! $ move ! (0 ∷ 12 ∷ []) $ free1 ! $
         -- [what the Used owns; true; what the Out owns; true; true; _5; …; _4; …; _3; …]
