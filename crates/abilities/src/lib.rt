@@ -46,7 +46,7 @@ fn kept(sets: &[u32], t: u32) -> AbilitySet
     requires { ⌜ (length (now sets) ≡ 2048) × (t < 2048) ⌝ }
     ensures { λ r. ⌜ r .0 ≡ getD (now (sets .entry)) t 0 % 256 ⌝ }
 {
-    let at = shapes::wide(t);
+    let at = table::wide(t);
     AbilitySet((sets[at] % 256) as u8)
 }
 
@@ -76,8 +76,8 @@ fn struct_counts(w: &[u32], u: Used, params: &[[u8; 8]; 256], s: u32, i: u32) ->
     if n <= i {
         return true;
     }
-    let at = shapes::wide(s);
-    let k = shapes::wide(i);
+    let at = table::wide(s);
+    let k = table::wide(i);
     if 256 <= at {
         return true;
     }
@@ -257,7 +257,7 @@ fn keep_set(w: &[u32], u: Used, params: &[[u8; 8]; 256], t: u32, ends: &[u32], s
 {
     let s = ends::goes_on(w, u, t, ends);
     let a = set_of(w, u, params, s, sets);
-    let at = shapes::wide(t);
+    let at = table::wide(t);
     sets[at] = 256 + table::bits(a);
 }
 
@@ -276,7 +276,7 @@ fn infer(
     requires { ⌜ Ends-known (now w) u (now ends) ⌝ }
     ensures { λ _. ⌜ Inferred (now (w .entry)) u (now (params .entry)) t (now (sets .entry)) (now (sets .exit)) ⌝ }
 {
-    let at = shapes::wide(t);
+    let at = table::wide(t);
     if 256 <= sets[at] {
         return;
     }

@@ -179,7 +179,7 @@ pub fn levels(w: &[u32], u: Used, t: u32, left: u32, ends: &[u32], heights: &mut
     if left == 0 {
         return 0;
     }
-    let at = shapes::wide(t);
+    let at = table::wide(t);
     let known = heights[at];
     if 0 < known {
         return known as u32;

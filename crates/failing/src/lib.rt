@@ -9,7 +9,7 @@ ghost use Rattle.definition.specs.Store.{with-args, spanned};
 ghost use Rattle.definition.specs.Join.{is-multiple};
 ghost use Rattle.names.specs.Names.{name-of};
 ghost use Rattle.failing.specs.Failing.{good, Asks, why, failing, Failing-in, unless};
-ghost use Prim.Native.Nat.{_≤_, ℕ, _+_, _<_, _%_};
+ghost use Prim.Native.Nat.{_≤_, ℕ, _+_, _<_};
 ghost use lib.ListN.{length};
 ghost use Rattle.writer.specs.Bytes.{All-bytes, capped, Few-is, Wrote};
 ghost use mathlib.Core.List.{List, [], _∷_, _++_};
@@ -20,6 +20,7 @@ use table::Found;
 use table::Shape;
 use table::Used;
 use writer::Few;
+use writer::low;
 
 // ---- which constraints fail, and how
 
@@ -146,12 +147,6 @@ pub fn size_failing(w: &[u32], u: Used, f: Failing, room: u32) -> u32
         }
         Failing::Lacks(_, _, t, place) => size_lacks(w, u, t, place, room),
     }
-}
-
-fn low(x: u32) -> u8
-    ensures { λ r. ⌜ r ≡ x % 256 ⌝ }
-{
-    (x % 256) as u8
 }
 
 // A failure's code and location.

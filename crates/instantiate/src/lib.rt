@@ -3,7 +3,7 @@
 // Changed from the source that NOTICE names: ported to Rattle.
 ghost use mathlib.Core.Path.{_≡_};
 ghost use mathlib.Core.List.{List, []};
-ghost use Prim.Native.Nat.{ℕ, _<_, _≤_, _%_, min};
+ghost use Prim.Native.Nat.{ℕ, _<_, _≤_, _%_};
 ghost use lib.ListN.{length, getD, take};
 ghost use Rattle.definition.specs.Types as d;
 ghost use Rattle.definition.specs.Store.{args-at};
@@ -17,8 +17,8 @@ ghost use Rattle.instantiate.specs.Args.{make-tparam, made, Listed, join
 use names::AbilitySet;
 use names::TypeName;
 use shapes::Applied;
+use shapes::fewer;
 use shapes::stay;
-use shapes::wide;
 use table::Constraint;
 use table::Found;
 use table::Out;
@@ -26,6 +26,7 @@ use table::Outcome;
 use table::Refusal;
 use table::Shape;
 use table::Used;
+use table::wide;
 
 // A variable for each argument.
 pub struct Tparams {
@@ -142,12 +143,6 @@ fn make_tparam(
         return c;
     };
     stay(o, cv)
-}
-
-fn fewer(a: u32, b: u32) -> u32
-    ensures { λ r. ⌜ r ≡ min a b ⌝ }
-{
-    if a < b { a } else { b }
 }
 
 // make_tparams: a variable for each argument that has a parameter.

@@ -1,7 +1,7 @@
 // typing/core.rs: join, subtype, join_impl, join_impl_types, join_tvar. What calls no join is in `arms` and `merge`.
 // Changed from the source that NOTICE names: ported to Rattle.
 ghost use mathlib.Core.Path.{_≡_};
-ghost use Prim.Native.Nat.{ℕ, _<_, min};
+ghost use Prim.Native.Nat.{ℕ, _<_};
 ghost use Rattle.definition.specs.Types.{if_then_else_};
 ghost use Rattle.definition.specs.Store.{args-at};
 ghost use Rattle.definition.specs.Join.{join, subtype, join-impl, join-impl-types, join-tvar};
@@ -17,6 +17,7 @@ use merge::Opened;
 use merge::VarAt;
 use names::MAX_DEPTH;
 use shapes::Applied;
+use shapes::fewer;
 use table::Found;
 use table::Out;
 use table::Outcome;
@@ -71,12 +72,6 @@ fn push_types(w: &mut [u32], a: Types, loc: u32, t: Applied) -> Outcome
         return settled(u, o);
     };
     table::push_apply(w, u, loc, k, n, tys, m)
-}
-
-fn fewer(a: u32, b: u32) -> u32
-    ensures { λ r. ⌜ r ≡ min a b ⌝ }
-{
-    if a < b { a } else { b }
 }
 
 pub fn join(w: &mut [u32], u: Used, lhs: u32, rhs: u32) -> Outcome

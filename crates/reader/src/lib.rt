@@ -41,7 +41,7 @@ pub struct Taken {
 pub fn part_count(shape: Shape) -> usize
     ensures { λ r. ⌜ r ≡ many-parts shape ⌝ }
 {
-    shapes::wide(shapes::part_count(shape))
+    table::wide(shapes::part_count(shape))
 }
 
 // The node of a type whose parts are placed, unless space has ended.

@@ -173,7 +173,7 @@ fn ready_types(w: &mut [u32], u: Used, t: u32, many: u32, left: u32, ends: &[u32
                 return anew(a);
             }
             Found::Just(x) => {
-                let at = shapes::wide(i);
+                let at = table::wide(i);
                 tys[at] = narrow(x);
                 cur = next;
                 i = i + 1;

@@ -253,12 +253,6 @@ pub fn run_declare(w: &mut [u32], u: Used, abilities: AbilitySet, params: u32) -
     shown(a, Show::Number, true)
 }
 
-fn wide(x: u32) -> usize
-    ensures { λ r. ⌜ r ≡ x ⌝ }
-{
-    x as usize
-}
-
 // Its parameter bytes, zero past their count, in the row of its number, if it has one.
 pub fn with_row(params: [[u8; 8]; 256], n: Found, bytes: [u8; 8]) -> [[u8; 8]; 256]
     requires { ⌜ Found-in 256 n ⌝ }
@@ -268,7 +262,7 @@ pub fn with_row(params: [[u8; 8]; 256], n: Found, bytes: [u8; 8]) -> [[u8; 8]; 2
         Found::Nothing => params,
         Found::Just(k) => {
             let mut rows = params;
-            let at = wide(k);
+            let at = table::wide(k);
             rows[at] = bytes;
             rows
         }

@@ -2,7 +2,7 @@
 // Changed from the source that NOTICE names: ported to Rattle.
 ghost use mathlib.Core.Path.{_≡_};
 ghost use mathlib.Core.List.{List};
-ghost use Prim.Native.Nat.{ℕ, _<_};
+ghost use Prim.Native.Nat.{ℕ, _<_, min};
 ghost use lib.ListN.{getD};
 ghost use Rattle.definition.specs.Types as d;
 ghost use Rattle.definition.specs.Store.{with-args};
@@ -34,10 +34,10 @@ pub struct Applied {
     pub many: u32,
 }
 
-pub fn wide(x: u32) -> usize
-    ensures { λ r. ⌜ r ≡ x ⌝ }
+pub fn fewer(a: u32, b: u32) -> u32
+    ensures { λ r. ⌜ r ≡ min a b ⌝ }
 {
-    x as usize
+    if a < b { a } else { b }
 }
 
 // The answer o, with no row taken.

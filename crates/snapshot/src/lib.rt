@@ -5,7 +5,6 @@ ghost use Prim.Native.Nat.{_+_, _*_, _≤_};
 ghost use lib.ListN.{length};
 ghost use Rattle.table.specs.State.{Lay, Wrote};
 ghost use Rattle.snapshot.specs.Snap.{Above, Saved-partly, Saved, PutBack, Sized, GivenBack, Undone};
-use shapes::wide;
 use table::ARGS_AT;
 use table::CONSTRAINT_WORDS;
 use table::CONSTRAINTS_AT;
@@ -16,6 +15,7 @@ use table::STRUCTS_AT;
 use table::Used;
 use table::VAR_WORDS;
 use table::VARS_AT;
+use table::wide;
 
 // How many words the variable rows have, all of them.
 pub const SAVED: usize = 5120;

@@ -185,7 +185,7 @@ fn used_in(w: &[u32], u: Used, tvar: TVar, t: u32, marks: &mut [u8]) -> bool
     requires { ⌜ Lay (now w) u × ((t < u .nodes) × Clear (now w) u (tvar .0) (now marks)) ⌝ }
     ensures { λ r. ⌜ ((ds : List d.Struct) → r ≡ used (suc t) (seen (now (w .entry)) u ds) (tvar .0) t) × Clear (now (w .entry)) u (tvar .0) (now (marks .exit)) ⌝ }
 {
-    let at = shapes::wide(t);
+    let at = table::wide(t);
     if marks[at] == 1 {
         return false;
     }

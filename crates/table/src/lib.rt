@@ -167,7 +167,7 @@ pub fn done_of(o: Out) -> Found
 }
 
 // The number as an index.
-fn wide(x: u32) -> usize
+pub fn wide(x: u32) -> usize
     ensures { λ r. ⌜ r ≡ x ⌝ }
 {
     x as usize

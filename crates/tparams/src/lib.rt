@@ -12,13 +12,13 @@ ghost use Rattle.tparams.specs.Pairs.{pairs, subst-of, made, answer};
 use names::TParamID;
 use shapes::Applied;
 use shapes::stay;
-use shapes::wide;
 use table::Found;
 use table::Out;
 use table::Outcome;
 use table::Refusal;
 use table::Shape;
 use table::Used;
+use table::wide;
 
 // The first `many` ids, each with its argument.
 pub struct TParamSubst {

@@ -9,9 +9,9 @@ ghost use Rattle.verdict.specs.Verdict.{row-for, padded, rows-after, ver
 use fields::What;
 use fields::Whole;
 use payload::Answer;
-use shapes::wide;
 use table::Found;
 use table::Used;
+use table::wide;
 
 // ---- SD
 

@@ -21,7 +21,7 @@ pub struct Few {
     pub n: usize,
 }
 
-fn low(x: u32) -> u8
+pub fn low(x: u32) -> u8
     ensures { λ r. ⌜ r ≡ x % 256 ⌝ }
 {
     (x % 256) as u8

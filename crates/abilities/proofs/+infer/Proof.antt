@@ -12,7 +12,7 @@ use Rattle.abilities.proofs.infer.Reads as infer
 use Rattle.abilities.proofs.infer.Kinds as infer-kinds
 use Rattle.abilities.proofs.+infer.Lts-infer as infer-lts
 use Rattle.abilities.proofs.keep_set.Reads as keep-set-reads
-use Rattle.shapes.proofs.wide.Reads as wide-reads
+use Rattle.table.proofs.wide.Reads as wide-reads
 use Rattle.ends.proofs.goes_on.Reads as goes-on-reads
 use Rattle.shapes.proofs.part_at.Reads as part-at-reads
 use Rattle.shapes.proofs.part_count.Reads as part-count-reads

@@ -15,7 +15,7 @@ use Rattle.ends.proofs.higher.Reads as higher-reads
 use Rattle.ends.proofs.narrow.Reads as narrow-reads
 use Rattle.shapes.proofs.part_at.Reads as part-at-reads
 use Rattle.shapes.proofs.part_count.Reads as part-count-reads
-use Rattle.shapes.proofs.wide.Reads as wide-reads
+use Rattle.table.proofs.wide.Reads as wide-reads
 use Rattle.ends.proofs.+levels.{statement}
 use Rattle.ends.proofs.+levels.Tie.{close}
 

@@ -31,7 +31,7 @@ use Rattle.instantiate.proofs.join_args.Reads as join-args-reads
 use Rattle.instantiate.proofs.make_tparams.Reads as make-tparams-reads
 use Rattle.instantiate.proofs.make_tvar.Reads as make-tvar-reads
 use Rattle.shapes.proofs.stay.Reads as stay-reads
-use Rattle.shapes.proofs.wide.Reads as wide-reads
+use Rattle.table.proofs.wide.Reads as wide-reads
 use Rattle.table.proofs.arg_at.Reads as arg-at-reads
 use Rattle.table.proofs.done_of.Reads as done-of-reads
 use Rattle.table.proofs.node_at.Reads as node-at-reads

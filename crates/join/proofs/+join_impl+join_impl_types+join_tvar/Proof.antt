@@ -21,7 +21,7 @@ use Rattle.join.proofs.join_tvar.Reads as join-tvar
 use Rattle.join.proofs.join_tvar.Kinds as join-tvar-kinds
 use Rattle.join.proofs.+join_impl+join_impl_types+join_tvar.Lts-join_tvar as join-tvar-lts
 use Rattle.arms.proofs.arm_of.Reads as arm-of-reads
-use Rattle.join.proofs.fewer.Reads as fewer-reads
+use Rattle.shapes.proofs.fewer.Reads as fewer-reads
 use Rattle.join.proofs.pick_loc.Reads as pick-loc-reads
 use Rattle.join.proofs.push_ref.Reads as push-ref-reads
 use Rattle.join.proofs.push_types.Reads as push-types-reads

@@ -24,7 +24,7 @@ use Rattle.ready.proofs.part_of.Reads as part-of-reads
 use Rattle.ready.proofs.rebuild.Reads as rebuild-reads
 use Rattle.ready.proofs.rebuild_bare.Reads as rebuild-bare-reads
 use Rattle.ready.proofs.anew.Reads as anew-reads
-use Rattle.shapes.proofs.wide.Reads as wide-reads
+use Rattle.table.proofs.wide.Reads as wide-reads
 use Rattle.ends.proofs.narrow.Reads as narrow-reads
 use Rattle.table.proofs.done_of.Reads as done-of-reads
 use Rattle.table.proofs.push_node.Reads as push-node-reads

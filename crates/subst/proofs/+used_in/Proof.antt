@@ -14,7 +14,7 @@ use Rattle.subst.proofs.+used_in.Lts-used_in as used-in-lts
 use Rattle.shapes.proofs.is_var.Reads as is-var-reads
 use Rattle.shapes.proofs.part_at.Reads as part-at-reads
 use Rattle.shapes.proofs.part_count.Reads as part-count-reads
-use Rattle.shapes.proofs.wide.Reads as wide-reads
+use Rattle.table.proofs.wide.Reads as wide-reads
 use Rattle.table.proofs.node_at.Reads as node-at-reads
 use Rattle.subst.proofs.+used_in.{statement}
 use Rattle.subst.proofs.+used_in.Tie.{close}

@@ -31,7 +31,7 @@ use Rattle.table.proofs.push_apply.Reads as push-apply-reads
 use Rattle.table.proofs.push_node.Reads as push-node-reads
 use Rattle.tparams.proofs.arg_or_none.Reads as arg-or-none-reads
 use Rattle.shapes.proofs.stay.Reads as stay-reads
-use Rattle.shapes.proofs.wide.Reads as wide-reads
+use Rattle.table.proofs.wide.Reads as wide-reads
 use Rattle.tparams.proofs.+subst_apply+subst_down.{statement}
 use Rattle.tparams.proofs.+subst_apply+subst_down.Tie.{close}
 
