@@ -2,8 +2,9 @@
 use mathlib.Core.Path.{refl, sym, _∙_}
 use Prim.Native.Nat.{_-_}
 use native.Mathlib.Omega.{arith}
+use lib.ListN.{length}
 use Rattle.definition.specs.Record.{by-mark}
-use Rattle.marks.proofs.Marks.{count, Onward, start, hit, pass, none}
+use Rattle.marks.proofs.Marks.{Onward, start, hit, pass, none}
 use borrow.Author.Needs.{needs}
 use Rattle.marks.proofs.mark_of.Statement.{statement}
 use Rattle.marks.proofs.mark_of.Tie as tie
@@ -12,7 +13,7 @@ abbrev Inv-loop : tie.InvT-loop
 Inv-loop x y marks k₀ k = Onward x y marks k
 
 abbrev μ-loop : tie.MeasureT-loop
-μ-loop x y marks k₀ k = count - k
+μ-loop x y marks k₀ k = length marks - k
 
 loop-holds : tie.Need-loop-holds Inv-loop μ-loop
 unfolding by-mark
