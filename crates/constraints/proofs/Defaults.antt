@@ -130,9 +130,9 @@ module _ (w : List ℕ) (u : Used) (v loc : ℕ) (r : Bool) (is : (ds : List Str
 
 -- ---- a variable with a mark, or without
 
-pub marked-none : (w : List ℕ) (u : Used) (v : ℕ) (m : Found) → Lay w u → m ≡ Nothing → Answered w u w (record { out = Done 0; used = u }) (λ s. numbered (default-marked s v (found m)))
+pub measured-none : (w : List ℕ) (u : Used) (v : ℕ) (m : Found) → Lay w u → m ≡ Nothing → Answered w u w (record { out = Done 0; used = u }) (λ s. numbered (default-marked s v (found m)))
 unfolding numbered default-marked _>>=_
-marked-none w u v m h e = rw e (record { changed = still h (λ ds. refl); others = done-others u })
+measured-none w u v m h e = rw e (record { changed = still h (λ ds. refl); others = done-others u })
 
 pub marked-some : (w : List ℕ) (u : Used) (v : ℕ) (m : Found) (w′ : List ℕ) (r : Outcome) (loc : ℕ) → m ≡ Just loc → Answered w u w′ r (λ s. numbered (default-num-var s v loc)) → Answered w u w′ r (λ s. numbered (default-marked s v (found m)))
 unfolding default-marked

@@ -1,5 +1,5 @@
 -- `constraints::default_marked` meets its contract. Assumes nothing.
-use Rattle.constraints.proofs.Defaults.{marked-none, marked-some}
+use Rattle.constraints.proofs.Defaults.{measured-none, marked-some}
 use borrow.Author.Needs.{needs}
 use Rattle.constraints.proofs.default_marked.Statement.{statement}
 use Rattle.constraints.proofs.default_marked.Tie as tie
@@ -17,7 +17,7 @@ default-num-var-requires : tie.Need-default-num-var-requires
 default-num-var-requires c κs = search needs
 
 returns : tie.Need-returns
-returns c = marked-none _ _ _ _ (c .before .before .before .pre) (c .enum-told .given .1)
+returns c = measured-none _ _ _ _ (c .before .before .before .pre) (c .enum-told .given .1)
 
 same-length : tie.Need-same-length
 same-length c = search needs

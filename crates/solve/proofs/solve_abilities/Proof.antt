@@ -1,6 +1,6 @@
 -- `solve::solve_abilities` meets its contract. Assumes nothing.
 use native.Mathlib.Omega.{arith}
-use Rattle.ends.proofs.Itself.{marked-none}
+use Rattle.ends.proofs.Itself.{measured-none}
 use Rattle.abilities.proofs.Sets.{kept-none}
 use Rattle.solve.proofs.Ready.{all-asked, all-ready}
 use Rattle.solve.proofs.Answers.{abilities-refused, abilities-clear}
@@ -17,7 +17,7 @@ slice-aggregate-hinders-2 c = search needs
 hinders-requires : tie.Need-hinders-requires
 hinders-requires c κs =
     let p = c .before .before .before .before .before .before .pre in
-    (p .0 .0, (all-asked _ (p .1 .0), (marked-none _ _, kept-none _ _ _)))
+    (p .0 .0, (all-asked _ (p .1 .0), (measured-none _ _, kept-none _ _ _)))
 
 refuse-requires : tie.Need-refuse-requires
 refuse-requires c κs = search needs
