@@ -232,6 +232,8 @@ pub fn take_constraints(w: &mut [u32], u: Used) -> Used
     at
 }
 
+// ---- which constraints fail, and how
+
 // The failure of a constraint that asks for no abilities, if it fails.
 fn failing_of(w: &[u32], u: Used, c: Constraint) -> Failing
     requires { ⌜ Lay (now w) u × Ty-in (u .nodes) (constraint-of c) ⌝ }

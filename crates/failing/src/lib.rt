@@ -22,7 +22,7 @@ use table::Used;
 use writer::Few;
 use writer::low;
 
-// ---- which constraints fail, and how
+// ---- what a constraint asks
 
 // What a constraint asks: an integer type 1, a base type 2, a single type 3; 0, nothing that is asked here.
 pub struct Ask {
