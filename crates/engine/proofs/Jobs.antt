@@ -21,7 +21,7 @@ use Rattle.theorems.proofs.SoundRefusals.{stream_two_digits}
 use Rattle.theorems.proofs.Stream.{Goes_on, shorter, over, stream_on}
 use Rattle.pieces.proofs.Pieces.{entry_of, next_spent, next_stops, next_last, next_goes, no_line, two_lines, line_size}
 use Rattle.table.specs.declared.Used.{Used}
-use Rattle.log.specs.Line.{Wrote, line_of}
+use Rattle.log_lines.specs.Line.{Wrote, line_of}
 use Rattle.step.specs.declared.Stepped.{Stepped}
 use Rattle.engine.specs.declared.Lines.{Lines}
 use Rattle.step.specs.Trusted.{held, Stands, answered, unread, Steps}

@@ -6,7 +6,7 @@ ghost use Rattle.engine.specs.Lists.{Lists};
 ghost use Rattle.step.specs.Trusted.{Stands};
 
 use limits::{MAX_BUFFER, ends_job, fits, refuse_job, refuse_record, takes_on};
-use log::write_line;
+use log_lines::write_line;
 use snapshot::SAVED;
 use sound::{sound_state, used_of};
 use step::{rest_trusted, step_trusted};

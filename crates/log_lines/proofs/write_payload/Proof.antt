@@ -1,12 +1,12 @@
--- `log::write_payload` meets its contract. Assumes nothing.
+-- `log_lines::write_payload` meets its contract. Assumes nothing.
 use mathlib.Core.Path.{sym, ◌∙◌}
 use lib.ListN.{take}
 use lib.Seq.{length-take-le}
-use Rattle.log.proofs.Put.{wrote_none}
-use Rattle.log.proofs.Text.{no_payload, payload_space, payload_rest, wrote_payload}
+use Rattle.log_lines.proofs.Put.{wrote_none}
+use Rattle.log_lines.proofs.Text.{no_payload, payload_space, payload_rest, wrote_payload}
 use borrow.Author.Rules.{rules}
-use Rattle.log.proofs.write_payload.Statement.{statement}
-use Rattle.log.proofs.write_payload.Tie as tie
+use Rattle.log_lines.proofs.write_payload.Statement.{statement}
+use Rattle.log_lines.proofs.write_payload.Tie as tie
 
 returns : tie.Need-returns
 returns c = rw (no_payload (take c.before.before.before.args.len c.before.before.before.args.payload.now) (length-take-le _ _ c.before.before.before.requires.0 ∙ c.if1.true)) (wrote_none _ _)

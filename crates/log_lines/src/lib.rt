@@ -1,7 +1,7 @@
 // The log's lines: record number, answer number and payload, as text.
 ghost use Rattle.std.specs.Prelude.{◌≡◌, [], ◌∷◌, ◌+◌, ◌≤◌, ◌<◌, length, take};
 ghost use Rattle.definition.specs.Job.{decimal, hex_digit, hexadecimal, payload_text};
-ghost use Rattle.log.specs.Line.{Wrote, line_of};
+ghost use Rattle.log_lines.specs.Line.{Wrote, line_of};
 
 fn wide(x: u32) -> u64
     ensures { result ≡ x }

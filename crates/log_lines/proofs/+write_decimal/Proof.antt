@@ -1,20 +1,20 @@
--- `log::write_decimal` meets its contract. Assumes nothing.
+-- `log_lines::write_decimal` meets its contract. Assumes nothing.
 -- By the number, which falls with a tenth of it. One digit is put alone; else the tenth is written first and the last digit put after it (`decimal_next`).
 use mathlib.Core.Path.{◌≡◌, ap, ◌∙◌}
-use Rattle.log.proofs.Put.{wrote_length, wrote_more}
-use Rattle.log.proofs.Text.{decimal_one, decimal_next, decimal_room}
+use Rattle.log_lines.proofs.Put.{wrote_length, wrote_more}
+use Rattle.log_lines.proofs.Text.{decimal_one, decimal_next, decimal_room}
 use lib.ListN.{length}
 use native.Mathlib.Omega.{arith}
 use Prim.Native.Nat.{ℕ, ◌<◌}
 use borrow.Fn.Kinds.{In}
 use borrow.Fn.PlainCycle.{Measures, is, falls, and}
-use Rattle.log.proofs.write_decimal.Reads as write-decimal
-use Rattle.log.proofs.write_decimal.Kinds as write-decimal-kinds
-use Rattle.log.proofs.+write_decimal.Lts-write_decimal as write-decimal-lts
-use Rattle.log.proofs.digit.Reads as digit-reads
-use Rattle.log.proofs.put_byte.Reads as put-byte-reads
-use Rattle.log.proofs.+write_decimal.{statement}
-use Rattle.log.proofs.+write_decimal.Tie.{close}
+use Rattle.log_lines.proofs.write_decimal.Reads as write-decimal
+use Rattle.log_lines.proofs.write_decimal.Kinds as write-decimal-kinds
+use Rattle.log_lines.proofs.+write_decimal.Lts-write_decimal as write-decimal-lts
+use Rattle.log_lines.proofs.digit.Reads as digit-reads
+use Rattle.log_lines.proofs.put_byte.Reads as put-byte-reads
+use Rattle.log_lines.proofs.+write_decimal.{statement}
+use Rattle.log_lines.proofs.+write_decimal.Tie.{close}
 
 abbrev μ-write-decimal : Measures 1 write-decimal-kinds.ps ℕ
 μ-write-decimal κs a = a.0

@@ -1,8 +1,8 @@
--- `log::put_byte` meets its contract. Assumes nothing.
-use Rattle.log.proofs.Put.{wrote_one}
+-- `log_lines::put_byte` meets its contract. Assumes nothing.
+use Rattle.log_lines.proofs.Put.{wrote_one}
 use borrow.Author.Rules.{rules}
-use Rattle.log.proofs.put_byte.Statement.{statement}
-use Rattle.log.proofs.put_byte.Tie as tie
+use Rattle.log_lines.proofs.put_byte.Statement.{statement}
+use Rattle.log_lines.proofs.put_byte.Tie as tie
 
 slice-write-log : tie.Need-slice-write-log
 slice-write-log c = search rules

@@ -1,10 +1,10 @@
--- `log::hex_digit` meets its contract. Assumes nothing.
+-- `log_lines::hex_digit` meets its contract. Assumes nothing.
 use native.Mathlib.Omega.{arith}
 use Rattle.definition.specs.Job.{hex_digit}
 use borrow.Author.Tests.{lt-ltb, le-ltb}
 use borrow.Author.Rules.{rules}
-use Rattle.log.proofs.hex_digit.Statement.{statement}
-use Rattle.log.proofs.hex_digit.Tie as tie
+use Rattle.log_lines.proofs.hex_digit.Statement.{statement}
+use Rattle.log_lines.proofs.hex_digit.Tie as tie
 
 add-result : tie.Need-overflow-add-result
 add-result c = search rules

@@ -1,10 +1,10 @@
--- `log::write_line` meets its contract. Assumes nothing.
+-- `log_lines::write_line` meets its contract. Assumes nothing.
 -- Five pieces are put one after the other; after each, a law says that there is room for the next (`room_1`, `room_space` ..), and `wrote_line` puts them together.
 use lib.ListN.{take}
-use Rattle.log.proofs.Text.{room_1, room_space, room_number, room_payload, room_end, wrote_line}
+use Rattle.log_lines.proofs.Text.{room_1, room_space, room_number, room_payload, room_end, wrote_line}
 use borrow.Author.Rules.{rules}
-use Rattle.log.proofs.write_line.Statement.{statement}
-use Rattle.log.proofs.write_line.Tie as tie
+use Rattle.log_lines.proofs.write_line.Statement.{statement}
+use Rattle.log_lines.proofs.write_line.Tie as tie
 
 write-decimal-requires : tie.Need-write-decimal-requires
 write-decimal-requires c κs =

@@ -12,8 +12,8 @@ use lib.ListN.{length, get_or, take, length-append}
 use lib.Seq.{take-suc, length-take-le}
 use Rattle.definition.specs.Write.{Bytes}
 use Rattle.definition.specs.Job.{digits, decimal, hex_digit, hexadecimal, payload_text, line}
-use Rattle.log.specs.Line.{Wrote, line_of}
-use Rattle.log.proofs.Put.{wrote_length, wrote_none, wrote_more, room_front, room_more}
+use Rattle.log_lines.specs.Line.{Wrote, line_of}
+use Rattle.log_lines.proofs.Put.{wrote_length, wrote_none, wrote_more, room_front, room_more}
 
 -- 10 to the n
 unfoldable power : ℕ → ℕ

@@ -1,13 +1,13 @@
--- `log::write_hex` meets its contract. Assumes nothing.
+-- `log_lines::write_hex` meets its contract. Assumes nothing.
 -- Invariant `Hexing`: two digits for each of the first k bytes stand in the log. A turn puts two more.
 use lib.ListN.{length}
 use mathlib.Core.Path.{◌≡◌}
-use Rattle.log.proofs.Put.{wrote_length}
-use Rattle.log.proofs.Text.{Hexing, hex_room, hex_none, hex_more, hex_all}
+use Rattle.log_lines.proofs.Put.{wrote_length}
+use Rattle.log_lines.proofs.Text.{Hexing, hex_room, hex_none, hex_more, hex_all}
 use Prim.Native.Nat.{◌-◌}
 use native.Mathlib.Omega.{arith}
-use Rattle.log.proofs.write_hex.Statement.{statement}
-use Rattle.log.proofs.write_hex.Tie as tie
+use Rattle.log_lines.proofs.write_hex.Statement.{statement}
+use Rattle.log_lines.proofs.write_hex.Tie as tie
 
 abbrev invariant-loop : tie.invariant-loop
 invariant-loop payload len log₀ at next₀ k₀ log next k = Hexing payload len log₀ at log next k

@@ -8,7 +8,7 @@ use native.Mathlib.Numerals.{add-one}
 use lib.ListN.{length, set, take, drop, length-append, length-drop, take-append-drop}
 use lib.Seq.{take_at, drop-drop, drop-append-add, length-take-le, set_split, append_snoc}
 use Rattle.definition.specs.Write.{Bytes}
-use Rattle.log.specs.Line.{Wrote}
+use Rattle.log_lines.specs.Line.{Wrote}
 
 pub wrote_length : (l : List ℕ) (at : ℕ) (bytes : Bytes) (l' : List ℕ) (n : ℕ) → at + length bytes ≤ length l → Wrote l at bytes l' n → length l' ≡ length l
 wrote_length l at bytes l' n h w = rw w.is (simp (length-append, length-drop, length-take-le at l (omega arith)) (omega arith))
