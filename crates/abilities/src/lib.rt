@@ -20,7 +20,7 @@ use shapes::Applied;
 use table::{Constraint, Found, Shape, Used};
 
 // The declaration lacks it; the argument at a place lacks what is needed; neither, so that a mark is contradicted.
-#[derive(Drop)]
+#[derive(Clone, Copy)]
 pub enum Rule {
     Declaration,
     Argument(u32),
@@ -28,7 +28,7 @@ pub enum Rule {
 }
 
 // What Constraint::Ability holds, to pass it on whole.
-#[derive(Drop)]
+#[derive(Clone, Copy)]
 pub struct Asked {
     pub loc: u32,
     pub ty: u32,

@@ -19,7 +19,7 @@ use snapshot::{give_back, put_vars, undo};
 use table::{Out, Refusal, TypingError, Used};
 
 // What a run left: on success its state is kept, or goes back to that at entry.
-#[derive(Drop)]
+#[derive(Clone, Copy)]
 pub struct Ran {
     pub out: Out,
     pub used: Used,

@@ -12,13 +12,13 @@ use names::{AbilityMark, AbilitySet, TParamID, TVar, TypeName};
 use shapes::Applied;
 use table::Shape;
 
-#[derive(Drop)]
+#[derive(Clone, Copy)]
 pub enum TypingCase {
     Join,
     Subtype,
 }
 
-#[derive(Drop)]
+#[derive(Clone, Copy)]
 pub enum Arm {
     // The answer is that operand.
     Lhs,

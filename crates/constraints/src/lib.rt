@@ -28,7 +28,7 @@ use table::{
 };
 
 // The operators that a type is asked for.
-#[derive(Drop)]
+#[derive(Clone, Copy)]
 pub enum NumericKind {
     Numeric,
     Bits,

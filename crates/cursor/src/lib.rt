@@ -6,27 +6,27 @@ ghost use Rattle.cursor.specs.Words.{word_at, words_at};
 pub const MAX_RECORD: usize = 4096;
 
 // A number, or too few bytes.
-#[derive(Drop)]
+#[derive(Clone, Copy)]
 pub enum Number {
     Got(u32),
     Missing,
 }
 
-#[derive(Drop)]
+#[derive(Clone, Copy)]
 pub struct Reader<'a> {
     pub src: &'a [u8],
     pub at: usize,
 }
 
 // A number, and the position after it.
-#[derive(Drop)]
+#[derive(Clone, Copy)]
 pub struct Word {
     pub number: Number,
     pub next: usize,
 }
 
 // Two numbers, one after the other, and the position after them.
-#[derive(Drop)]
+#[derive(Clone, Copy)]
 pub struct Words {
     pub first: Number,
     pub second: Number,

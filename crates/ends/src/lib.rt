@@ -15,7 +15,7 @@ use subst::Unfolded;
 use table::{Shape, Used};
 
 // Where following a chain led to: one more than the number of its end, and how many bindings it and the noted chains have at most.
-#[derive(Drop)]
+#[derive(Clone, Copy)]
 enum Meeting {
     End(u32, u32),
     Never,

@@ -13,7 +13,7 @@ use step::{rest_trusted, step_trusted};
 use table::{Used, WORDS};
 
 // How much of a stream was read and how much of a log written; the rows in use, the next record's number, and whether the job ended.
-#[derive(Drop)]
+#[derive(Clone, Copy)]
 pub struct Lines {
     pub used: Used,
     pub read: usize,

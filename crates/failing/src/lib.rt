@@ -18,7 +18,7 @@ use writer::{Few, low};
 // ---- what a constraint asks
 
 // What a constraint asks: an integer type 1, a base type 2, a single type 3; 0, nothing that is asked here.
-#[derive(Drop)]
+#[derive(Clone, Copy)]
 pub struct Ask {
     pub code: u32,
     pub loc: u32,
@@ -27,7 +27,7 @@ pub struct Ask {
 
 // A failure: its code, its location, and the type as a node or `_` at a location. Of an ability that is missing: the location, the ability,
 // the type as a node, and the argument that lacks, if it is not the declaration.
-#[derive(Drop)]
+#[derive(Clone, Copy)]
 pub enum Failing {
     Fine,
     Node(u32, u32, u32),

@@ -20,7 +20,7 @@ use table::Used;
 // ---- a record that is read, its types placed as nodes
 
 // It may bind or mark a variable that is there.
-#[derive(Drop)]
+#[derive(Clone, Copy)]
 pub enum Bind {
     SN(TVar, u32),
     Two(TwoMark, u32, u32),
@@ -28,14 +28,14 @@ pub enum Bind {
 }
 
 // It only shows, the state stays as at entry. TS says how many pairs stand beside it.
-#[derive(Drop)]
+#[derive(Clone, Copy)]
 pub enum Look {
     One(LookMark, u32),
     TS(u32, u32),
 }
 
 // It takes new rows at most.
-#[derive(Drop)]
+#[derive(Clone, Copy)]
 pub enum Add {
     Loc(LocMark, u32),
     NC(u32, u32, u32),
@@ -44,7 +44,7 @@ pub enum Add {
 }
 
 // SD says how many parameter bytes stand beside it.
-#[derive(Drop)]
+#[derive(Clone, Copy)]
 pub enum What {
     SD(u32, u32),
     SV,
@@ -54,7 +54,7 @@ pub enum What {
 }
 
 // .. or 7, 5, 6 or 18.
-#[derive(Drop)]
+#[derive(Clone, Copy)]
 pub enum Whole {
     Placed(What),
     Full,
@@ -64,7 +64,7 @@ pub enum Whole {
 }
 
 // What was read, the rows in use then, and the place after it. SD's parameter bytes; TS's ids and their nodes.
-#[derive(Drop)]
+#[derive(Clone, Copy)]
 pub struct Fields {
     pub read: Whole,
     pub used: Used,

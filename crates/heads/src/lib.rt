@@ -16,7 +16,7 @@ use names::{AbilityMark, AbilitySet, MAX_BUILTIN, TParamID, TVar, TypeName, has_
 use table::{Shape, Used, struct_at};
 
 // A variable or a struct that there is; too few bytes; or one that there is not.
-#[derive(Drop)]
+#[derive(Clone, Copy)]
 pub enum Name {
     Known(u32),
     Cut,
@@ -24,14 +24,14 @@ pub enum Name {
 }
 
 // An ability mark.
-#[derive(Drop)]
+#[derive(Clone, Copy)]
 pub enum Marked {
     With(AbilityMark),
     Wrong,
 }
 
 // A type's tag, location and fields without its parts, and the place after them; or 5; or 6; or 18.
-#[derive(Drop)]
+#[derive(Clone, Copy)]
 pub enum Head {
     Begun(Shape, u32, usize),
     Broken,

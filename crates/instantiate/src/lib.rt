@@ -17,7 +17,7 @@ use shapes::{Applied, fewer, stay};
 use table::{Constraint, Found, Out, Outcome, Refusal, Shape, Used, wide};
 
 // A variable for each argument.
-#[derive(Drop)]
+#[derive(Clone, Copy)]
 pub struct Tparams {
     pub out: Out,
     pub used: Used,

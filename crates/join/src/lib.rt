@@ -17,7 +17,7 @@ use shapes::{Applied, fewer};
 use table::{Found, Out, Outcome, Refusal, Shape, TypingError, Used};
 
 // The joins of two argument lists: the answer is how many, and they stand in `tys`.
-#[derive(Drop)]
+#[derive(Clone, Copy)]
 struct Types {
     out: Out,
     used: Used,

@@ -7,28 +7,28 @@ ghost use Rattle.marks.specs.Marks.{reader_of};
 // ---- marks by form: those of one form have the same fields, put to the same use
 
 // A location; rows are taken.
-#[derive(Drop)]
+#[derive(Clone, Copy)]
 pub enum LocMark {
     FV,
     NV,
 }
 
 // A type, only looked at.
-#[derive(Drop)]
+#[derive(Clone, Copy)]
 pub enum LookMark {
     UF,
     RD,
 }
 
 // Two types, joined.
-#[derive(Drop)]
+#[derive(Clone, Copy)]
 pub enum TwoMark {
     JN,
     SU,
 }
 
 // A location and a type; a constraint is listed.
-#[derive(Drop)]
+#[derive(Clone, Copy)]
 pub enum LocTypeMark {
     BC,
     SC,
@@ -37,7 +37,7 @@ pub enum LocTypeMark {
 // ---- a record's mark
 
 // The two bytes that a record begins with, or others.
-#[derive(Drop)]
+#[derive(Clone, Copy)]
 pub enum RecordMark {
     SD,
     SN,
@@ -54,7 +54,7 @@ pub enum RecordMark {
 }
 
 // A mark's two letters, and the mark.
-#[derive(Drop)]
+#[derive(Clone, Copy)]
 struct Letters(u8, u8, RecordMark);
 
 const COUNT: usize = 15;

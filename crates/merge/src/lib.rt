@@ -10,11 +10,11 @@ use subst::Binding;
 use table::{Found, Node, Out, Outcome, Shape, TypingError, Used};
 
 // A location, and the variable there.
-#[derive(Drop)]
+#[derive(Clone, Copy)]
 pub struct VarAt(pub u32, pub TVar);
 
 // The end of a chain that began with a variable at `loc`: the last variable, its numeric mark and its type.
-#[derive(Drop)]
+#[derive(Clone, Copy)]
 struct End {
     loc: u32,
     last_id: TVar,
@@ -23,7 +23,7 @@ struct End {
 }
 
 // A merge before its inner join: the types of both ends, the fresh variable, and the result's node.
-#[derive(Drop)]
+#[derive(Clone, Copy)]
 pub struct Merging {
     pub ty1: u32,
     pub ty2: u32,
@@ -31,13 +31,13 @@ pub struct Merging {
     pub var2: u32,
 }
 
-#[derive(Drop)]
+#[derive(Clone, Copy)]
 pub enum Opened {
     Ready(Merging),
     Stop(Out),
 }
 
-#[derive(Drop)]
+#[derive(Clone, Copy)]
 pub struct Open {
     pub what: Opened,
     pub used: Used,
@@ -55,7 +55,7 @@ fn stopped(a: Outcome) -> Open
 }
 
 // A variable met another type: the answer, or a fresh variable that took the type, to merge with.
-#[derive(Drop)]
+#[derive(Clone, Copy)]
 pub enum Meet {
     Is(Outcome),
     Merge(Used, TVar),

@@ -23,15 +23,15 @@ pub const MAX_DEPTH: u32 = 256;
 pub const MAX_BUILTIN: u32 = 9;
 
 // An inference variable's number.
-#[derive(Drop)]
+#[derive(Clone, Copy)]
 pub struct TVar(pub u16);
 
 // A type parameter's id. No variable, so never looked up as one.
-#[derive(Drop)]
+#[derive(Clone, Copy)]
 pub struct TParamID(pub u32);
 
 // copy 1, drop 2, store 4, key 8
-#[derive(Drop)]
+#[derive(Clone, Copy)]
 pub struct AbilitySet(pub u8);
 
 // What the Rust gives a type by its kind.
@@ -48,14 +48,14 @@ impl AbilitySet {
 }
 
 // An ability mark on a named type.
-#[derive(Drop)]
+#[derive(Clone, Copy)]
 pub enum AbilityMark {
     Absent,
     Set(AbilitySet),
 }
 
 // An expression list's name is its count; a builtin and a struct have numbers.
-#[derive(Drop)]
+#[derive(Clone, Copy)]
 pub enum TypeName {
     Multiple(u32),
     Builtin(u32),

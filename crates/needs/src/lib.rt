@@ -11,7 +11,7 @@ use reader::{Part, part_count, stops};
 use table::{Shape, Used};
 
 // Nodes, argument places, variables and constraints. met: a variable was met; the sums go on and mean nothing.
-#[derive(Drop)]
+#[derive(Clone, Copy)]
 pub struct Sums {
     pub nodes: u32,
     pub places: u32,
@@ -21,7 +21,7 @@ pub struct Sums {
 }
 
 // A type counted, or 5, 6 or 18; and the place after it.
-#[derive(Drop)]
+#[derive(Clone, Copy)]
 pub struct Counted {
     pub part: Part,
     pub sums: Sums,

@@ -10,7 +10,7 @@ use table::{Shape, Used, tvar};
 use writer::{put_few, size_type, u16_of, u32_of, write_head, write_type};
 
 // What the payload of a success shows of its number: nothing, the number, the variable at a location, the type of the node, `_` at a location, or four other numbers.
-#[derive(Drop)]
+#[derive(Clone, Copy)]
 pub enum Show {
     Nothing,
     Number,
@@ -21,7 +21,7 @@ pub enum Show {
 }
 
 // The number, how many bytes the payload has, and the rows in use; whether the state is the one that the run left.
-#[derive(Drop)]
+#[derive(Clone, Copy)]
 pub struct Answer {
     pub number: u32,
     pub len: usize,

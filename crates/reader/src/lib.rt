@@ -10,7 +10,7 @@ use heads::{Head, read_head};
 use table::{Found, Out, Outcome, Refusal, Shape, Used, done_of, push_apply, push_node};
 
 // A type read and placed: its node; no space was left for it (7); 5; 6; or 18.
-#[derive(Drop)]
+#[derive(Clone, Copy)]
 pub enum Part {
     At(u32),
     Full,
@@ -20,7 +20,7 @@ pub enum Part {
 }
 
 // .. with the rows in use then, and the place after the type.
-#[derive(Drop)]
+#[derive(Clone, Copy)]
 pub struct Taken {
     pub part: Part,
     pub used: Used,

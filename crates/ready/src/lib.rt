@@ -14,7 +14,7 @@ use names::TVar;
 use table::{Found, Out, Outcome, Refusal, Shape, Used};
 
 // How ready_tvars goes on from a type: to so many parts, to an open variable's end, or to what a variable is bound to.
-#[derive(Drop)]
+#[derive(Clone, Copy)]
 enum Onward {
     Parts(u32),
     Open(TVar),
@@ -22,7 +22,7 @@ enum Onward {
 }
 
 // Where the bound variables from a type on lead: to a node with its parts and the calls that are left; to an open variable; or the calls are used up.
-#[derive(Drop)]
+#[derive(Clone, Copy)]
 enum Landing {
     Parts(u32, u32, u32),
     Open(u32, TVar),

@@ -14,14 +14,14 @@ use names::{AbilityMark, TVar, TypeName};
 use table::{Out, Outcome, Shape, Used};
 
 // The variable that a type is, if it is one.
-#[derive(Drop)]
+#[derive(Clone, Copy)]
 pub enum Next {
     Last,
     To(TVar),
 }
 
 // What Shape::Apply holds, to pass it on whole.
-#[derive(Drop)]
+#[derive(Clone, Copy)]
 pub struct Applied {
     pub k: AbilityMark,
     pub n: TypeName,

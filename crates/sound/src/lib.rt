@@ -10,7 +10,7 @@ use sound_tables::{counts_fine, tables_fine};
 use table::{Used, WORDS, cell_words_at, node_words_at, note, noted};
 
 // The variable that a binding leads to, if it leads to one.
-#[derive(Drop)]
+#[derive(Clone, Copy)]
 enum Next {
     Last,
     To(TVar),

@@ -13,7 +13,7 @@ use table::{
 };
 
 // The tables whose rows are tested one by one.
-#[derive(Drop)]
+#[derive(Clone, Copy)]
 enum Table {
     Structs,
     Nodes,

@@ -15,7 +15,7 @@ use table::Used;
 use verdict::{Verdict, left_over, padded, place_after, row_for, rows_after, verdict_of};
 
 // One record's answer, the rows in use after it, where the rest of the stream begins, and how many of the saved rows still stand.
-#[derive(Drop)]
+#[derive(Clone, Copy)]
 pub struct Stepped {
     pub number: u32,
     pub len: usize,

@@ -14,7 +14,7 @@ use shapes::Next;
 use table::{Found, Used};
 
 // What binding a variable comes to: it succeeds, the numeric check fails, or the variable occurs in the type.
-#[derive(Drop)]
+#[derive(Clone, Copy)]
 pub enum Binding {
     Bound,
     Failed,
@@ -22,7 +22,7 @@ pub enum Binding {
 }
 
 // What a type unfolds to: a node, or `_` at a location, which stands in no table.
-#[derive(Drop)]
+#[derive(Clone, Copy)]
 pub enum Unfolded {
     Node(u32),
     Anything(u32),

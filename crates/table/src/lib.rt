@@ -38,7 +38,7 @@ pub const STRUCT_WORDS: usize = 2;
 pub const WORDS: usize = 24069;
 
 // Type_, as a node row has it: arguments are places, the first and how many.
-#[derive(Drop)]
+#[derive(Clone, Copy)]
 pub enum Shape {
     Unit,
     Ref(bool, u32),
@@ -49,13 +49,13 @@ pub enum Shape {
     UnresolvedError,
 }
 
-#[derive(Drop)]
+#[derive(Clone, Copy)]
 pub struct Node {
     pub loc: u32,
     pub shape: Shape,
 }
 
-#[derive(Drop)]
+#[derive(Clone, Copy)]
 pub enum Constraint {
     Ability(u32, u32, AbilitySet),
     Numeric(u32, u32),
@@ -66,14 +66,14 @@ pub enum Constraint {
 }
 
 // A struct row: declared abilities, and how many parameters.
-#[derive(Drop)]
+#[derive(Clone, Copy)]
 pub struct StructRow {
     pub abilities: AbilitySet,
     pub params: u32,
 }
 
 // The words of a node's row: tag, location, four fields.
-#[derive(Drop)]
+#[derive(Clone, Copy)]
 pub struct NodeWords {
     pub tag: u32,
     pub loc: u32,
@@ -84,7 +84,7 @@ pub struct NodeWords {
 }
 
 // .. of a variable's: whether bound, the node; whether numeric, the location; a spare word.
-#[derive(Drop)]
+#[derive(Clone, Copy)]
 pub struct CellWords {
     pub bound: u32,
     pub binding: u32,
@@ -94,7 +94,7 @@ pub struct CellWords {
 }
 
 // .. of a constraint's.
-#[derive(Drop)]
+#[derive(Clone, Copy)]
 pub struct ConstraintWords {
     pub kind: u32,
     pub loc: u32,
@@ -103,21 +103,21 @@ pub struct ConstraintWords {
 }
 
 // .. of a struct's.
-#[derive(Drop)]
+#[derive(Clone, Copy)]
 pub struct StructWords {
     pub abilities: u32,
     pub params: u32,
 }
 
 // A binding, a mark's location, an answer's number: or none.
-#[derive(Drop)]
+#[derive(Clone, Copy)]
 pub enum Found {
     Nothing,
     Just(u32),
 }
 
 // How many rows of each table are in use.
-#[derive(Drop)]
+#[derive(Clone, Copy)]
 pub struct Used {
     pub nodes: u32,
     pub args: u32,
@@ -127,7 +127,7 @@ pub struct Used {
 }
 
 // TypingError: the two types, or the location of a type that would contain itself.
-#[derive(Drop)]
+#[derive(Clone, Copy)]
 pub enum TypingError {
     SubtypeError(u32, u32),
     Incompatible(u32, u32),
@@ -136,7 +136,7 @@ pub enum TypingError {
 }
 
 // The definition's refusals that a step can meet.
-#[derive(Drop)]
+#[derive(Clone, Copy)]
 pub enum Refusal {
     Full,
     TooDeep,
@@ -148,14 +148,14 @@ pub enum Refusal {
 }
 
 // What a step answers: success with a number, an error or a refusal.
-#[derive(Drop)]
+#[derive(Clone, Copy)]
 pub enum Out {
     Done(u32),
     Failed(TypingError),
     Refused(Refusal),
 }
 
-#[derive(Drop)]
+#[derive(Clone, Copy)]
 pub struct Outcome {
     pub out: Out,
     pub used: Used,

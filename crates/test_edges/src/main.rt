@@ -155,7 +155,7 @@ fn record_end(size: usize, at: usize, rest: usize) -> usize
 }
 
 // Where a record ends in the stream, and its line in the log.
-#[derive(Drop)]
+#[derive(Clone, Copy)]
 struct Ends {
     record: usize,
     line: usize,

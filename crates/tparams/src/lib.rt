@@ -14,7 +14,7 @@ use shapes::{Applied, stay};
 use table::{Found, Out, Outcome, Refusal, Shape, Used, wide};
 
 // The first `many` ids, each with its argument.
-#[derive(Drop)]
+#[derive(Clone, Copy)]
 pub struct TParamSubst {
     pub ids: [TParamID; 8],
     pub args: [u32; 8],

@@ -6,7 +6,7 @@ use cursor::MAX_RECORD;
 
 // Where the bytes at hand begin and end in the buffer, whether more may follow them, and the next record's number; how many bytes the last turn read and how much text
 // it handed to the writer; whether the job has begun, whether it ended, and whether that is because a read or a write failed.
-#[derive(Drop)]
+#[derive(Clone, Copy)]
 pub struct Turn {
     pub from: usize,
     pub have: usize,
@@ -20,7 +20,7 @@ pub struct Turn {
 }
 
 // How many bytes a read brought or a writer was handed, and whether it failed.
-#[derive(Drop)]
+#[derive(Clone, Copy)]
 pub struct Moved {
     pub count: usize,
     pub failed: bool,

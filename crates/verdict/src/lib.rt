@@ -59,7 +59,7 @@ pub fn rows_after(what: What, n: u32) -> u32
 // ---- what it comes to
 
 // Refused with this number, or to run.
-#[derive(Drop)]
+#[derive(Clone, Copy)]
 pub enum Verdict {
     Refused(u32),
     Run(What),

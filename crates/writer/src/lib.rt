@@ -10,7 +10,7 @@ use names::{AbilityMark, TypeName};
 use table::{Shape, Used, node_at, number};
 
 // A few bytes: the first n.
-#[derive(Drop)]
+#[derive(Clone, Copy)]
 pub struct Few {
     pub bytes: [u8; 10],
     pub n: usize,
