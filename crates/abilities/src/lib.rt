@@ -1,5 +1,7 @@
 // typing/core.rs: infer_abilities, and the rule that decided that an ability is missing. One set is kept for each node, so that each is looked at once.
 // Changed from the source that NOTICE names: ported to Rattle.
+#![tactic(auto)]
+
 ghost use Rattle.std.specs.Prelude.{◌≡◌, true, ◌&&◌, not, List, ℕ, ◌≤◌, ◌<◌, ◌%◌, length, get_or};
 ghost use Rattle.definition.specs.Types as d;
 ghost use Rattle.definition.specs.Types.{if◌then◌else◌};

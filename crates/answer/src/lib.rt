@@ -1,4 +1,6 @@
 // From what a run left to its answer: the payload written, and the state kept, put back or as it was at entry.
+#![tactic(auto)]
+
 ghost use Rattle.std.specs.Prelude.{◌≡◌, true, false, List, ◌++◌, ℕ, ◌≤◌, ◌<◌, length};
 ghost use Rattle.definition.specs.Types as d;
 ghost use Rattle.definition.specs.Types.{State};

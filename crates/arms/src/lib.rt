@@ -1,5 +1,7 @@
 // Which arm of join_impl two types take: the match of typing/core.rs on both operands, with its guards.
 // Changed from the source that NOTICE names: ported to Rattle.
+#![tactic(auto)]
+
 ghost use Rattle.definition.specs.Join as d;
 ghost use Rattle.std.specs.Prelude.{◌≡◌};
 ghost use Rattle.names.specs.Names.{mark_of, name_of};

@@ -1,6 +1,8 @@
 // typing/core.rs: a constraint is listed; solve_constraints: numeric variables that nothing decides become u64; the list is emptied; which constraints fail, and how,
 // what the Rust reports as a message (solve_ability_constraint, solve_builtin_type_constraint, solve_base_type_constraint, solve_single_type_constraint).
 // Changed from the source that NOTICE names: ported to Rattle.
+#![tactic(auto)]
+
 ghost use Rattle.std.specs.Prelude.{◌≡◌, ℕ, ◌+◌, ◌*◌, ◌<◌, ◌≤◌, List, [], length, nat_eq, slice_index};
 ghost use Rattle.definition.specs.Types as d;
 ghost use Rattle.definition.specs.Types.{BaseTypeConstraint, SingleTypeConstraint, if◌then◌else◌};

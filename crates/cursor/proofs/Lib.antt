@@ -1,2 +1,1 @@
 -- What the proofs by hand share. Assumes nothing.
-pub mod Loan

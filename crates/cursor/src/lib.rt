@@ -1,4 +1,6 @@
 // A record's bytes and a position in them: a number of one, two or four bytes is read, the least byte first, and the position moves on.
+#![tactic(auto)]
+
 ghost use Rattle.std.specs.Prelude.{◌≡◌, ◌⊎◌, ◌+◌, ◌-◌, ◌<◌, ◌≤◌, length, take as front};
 ghost use Rattle.cursor.specs.Words.{word_at, words_at};
 

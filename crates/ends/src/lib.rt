@@ -1,5 +1,7 @@
 // typing/core.rs: the ends of all chains, and the test for a type that runs into itself.
 // Changed from the source that NOTICE names: ported to Rattle.
+#![tactic(auto)]
+
 ghost use Rattle.std.specs.Prelude.{◌≡◌, true, false, List, ◌<◌, ◌≤◌, length};
 ghost use Rattle.definition.specs.Types as d;
 ghost use Rattle.definition.specs.Store.{spanned};

@@ -1,4 +1,6 @@
 // The public calls: one lent record, the splitter of a stream, a job's first lines and its next ones. Each says outright what it gives, whatever it is lent.
+#![tactic(auto)]
+
 ghost use Rattle.std.specs.Prelude.{◌≡◌, true, ◌&&◌, ◌≤◌, leb, length as size, drop, replicate};
 ghost use Rattle.sound.specs.Lent.{lent_sound};
 ghost use Rattle.engine.specs.Public.{lent_step, GivesAnswer, rest_of, lent_lines, fresh_lines, GivesLines};

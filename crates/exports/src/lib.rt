@@ -1,4 +1,6 @@
 // The public calls for C and Rust, over pointers and lengths: pongiwaru.h beside src/ declares them. Each says outright what it gives, whatever it is lent.
+#![tactic(auto)]
+
 ghost use Rattle.std.specs.Prelude.{◌≡◌, ◌-◌, ◌≤◌, length as size, drop};
 ghost use Rattle.engine.specs.Public.{lent_step, GivesAnswer, rest_of, lent_lines, GivesLines};
 

@@ -1,5 +1,7 @@
 // One failure of a constraint: what the constraint asks, and the failure in bytes, sized first and then written.
 // Changed from the source that NOTICE names: ported to Rattle.
+#![tactic(auto)]
+
 ghost use Rattle.std.specs.Prelude.{◌≡◌, not, ◌≤◌, ℕ, ◌+◌, ◌<◌, length, List, [], ◌∷◌, ◌++◌};
 ghost use Rattle.definition.specs.Types as d;
 ghost use Rattle.definition.specs.Constraints.{is_base, is_single, ability_failure};

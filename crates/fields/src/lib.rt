@@ -1,4 +1,6 @@
 // The fields of a record after its mark, read from left to right (5, 6, 18), its types placed as nodes (7).
+#![tactic(auto)]
+
 ghost use Rattle.std.specs.Prelude.{◌≡◌, List, ℕ, ◌+◌, ◌≤◌, length};
 ghost use Rattle.definition.specs.Store.{taken};
 ghost use Rattle.definition.specs.Reader.{give, go_on, byte_to, times, read_one, read_two, read_three, name_below, read_u32};

@@ -1,4 +1,6 @@
 // A type's tag, location and fields from the caller's bytes, without its parts (5, 6, 18); numbers and names.
+#![tactic(auto)]
+
 ghost use Rattle.std.specs.Prelude.{◌≡◌, false, ◌&&◌, List, ℕ, ◌+◌, ◌-◌, ◌≤◌, ◌<◌, ltb, eqb, length, get_or};
 ghost use Rattle.definition.specs.Types as d;
 ghost use Rattle.definition.specs.Types.{malformed};

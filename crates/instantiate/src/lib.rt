@@ -1,6 +1,8 @@
 // typing/core.rs: make_tvar, instantiate, instantiate_apply, instantiate_type_args, make_tparams.
 // The declarations' parameter bytes stand beside the words, eight to a struct.
 // Changed from the source that NOTICE names: ported to Rattle.
+#![tactic(auto)]
+
 ghost use Rattle.std.specs.Prelude.{◌≡◌, List, [], ℕ, ◌<◌, ◌≤◌, ◌%◌, length, get_or, take};
 ghost use Rattle.definition.specs.Types as d;
 ghost use Rattle.definition.specs.Store.{args_at};

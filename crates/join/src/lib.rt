@@ -1,5 +1,7 @@
 // typing/core.rs: join, subtype, join_impl, join_impl_types, join_tvar. What calls no join is in `arms` and `merge`.
 // Changed from the source that NOTICE names: ported to Rattle.
+#![tactic(auto)]
+
 ghost use Rattle.std.specs.Prelude.{◌≡◌, ℕ, ◌<◌};
 ghost use Rattle.definition.specs.Types.{if◌then◌else◌};
 ghost use Rattle.definition.specs.Store.{args_at};

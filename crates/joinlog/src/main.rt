@@ -1,4 +1,6 @@
 // Reads a stream of records from standard input, starts from a fresh state, and writes the log: a line for each record.
+#![tactic(auto)]
+
 ghost use Rattle.std.specs.Prelude.{◌≤◌, ◌≡◌, length};
 ghost use Rattle.engine.specs.Public.{GivesLines};
 ghost use Rattle.turns.specs.Filling.{Within, first};

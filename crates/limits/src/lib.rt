@@ -1,4 +1,6 @@
 // What a call's buffer, bytes and log allow, and the numbers that end a job.
+#![tactic(auto)]
+
 ghost use Rattle.std.specs.Prelude.{◌≡◌, true, not, ◌||◌, List, ℕ, leb, length};
 ghost use Rattle.definition.specs.Job.{ends_job};
 ghost use Rattle.pieces.specs.Pieces.{takes_on};

@@ -1,4 +1,6 @@
 // The log's lines: record number, answer number and payload, as text.
+#![tactic(auto)]
+
 ghost use Rattle.std.specs.Prelude.{◌≡◌, [], ◌∷◌, ◌+◌, ◌≤◌, ◌<◌, length, take};
 ghost use Rattle.definition.specs.Job.{decimal, hex_digit, hexadecimal, payload_text};
 ghost use Rattle.log_lines.specs.Line.{Wrote, line_of};

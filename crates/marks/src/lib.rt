@@ -1,4 +1,6 @@
 // A record's mark: two letters, in ASCII.
+#![tactic(auto)]
+
 ghost use Rattle.std.specs.Prelude.{◌≡◌, ◌&&◌, eqb};
 ghost use Rattle.definition.specs.Types as d;
 ghost use Rattle.definition.specs.Record.{by_mark, fields_of};

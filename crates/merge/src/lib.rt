@@ -1,5 +1,7 @@
 // The variable merge around its inner join, and a variable that meets another type: what of join_tvar and join_impl calls no join.
 // Changed from the source that NOTICE names: ported to Rattle.
+#![tactic(auto)]
+
 ghost use Rattle.std.specs.Prelude.{◌≡◌, ℕ, ◌<◌};
 ghost use Rattle.definition.specs.Join.{type_of, merge_num, shown, join_unbound};
 ghost use Rattle.table.specs.State.{Lay, After, Stored, found};

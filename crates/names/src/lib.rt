@@ -1,5 +1,7 @@
 // Wrapped numbers, ability sets and marks, names of types, and the limits.
 // Changed from the source that NOTICE names: ported to Rattle.
+#![tactic(auto)]
+
 ghost use Rattle.std.specs.Prelude.{◌≡◌, ◌<◌};
 ghost use Rattle.std.proofs.Math.Option.{some};
 ghost use Rattle.definition.specs.Types.{Builtin};

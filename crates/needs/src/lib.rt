@@ -1,4 +1,6 @@
 // R-3: what IN of a type takes of each table, counted from the type's bytes by the reader's own heads. Nothing is placed.
+#![tactic(auto)]
+
 ghost use Rattle.std.specs.Prelude.{◌≡◌, ◌||◌, false, ℕ, ◌≤◌, length};
 ghost use Rattle.definition.specs.Trees.{read_nested};
 ghost use Rattle.table.specs.State.{view, Lay};

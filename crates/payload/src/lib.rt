@@ -1,4 +1,6 @@
 // What an answer is: its number, its payload in bytes, the rows in use, and whether the state is the one that the run left.
+#![tactic(auto)]
+
 ghost use Rattle.std.specs.Prelude.{◌≡◌, true, false, List, ◌++◌, ◌≤◌, ◌<◌, length};
 ghost use Rattle.definition.specs.Types as d;
 ghost use Rattle.definition.specs.Write.{u32 as bytes-u32, write};

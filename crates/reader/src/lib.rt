@@ -1,4 +1,6 @@
 // A type from the caller's bytes: read from left to right (5, 6, 18), and placed as nodes (7).
+#![tactic(auto)]
+
 ghost use Rattle.std.specs.Prelude.{◌≡◌, false, ◌+◌, ◌-◌, ◌≤◌, ◌<◌, length, take};
 ghost use Rattle.definition.specs.Trees.{read_nested};
 ghost use Rattle.table.specs.State.{view, Lay, After};

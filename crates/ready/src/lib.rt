@@ -1,5 +1,7 @@
 // typing/core.rs: ready_tvars.
 // Changed from the source that NOTICE names: ported to Rattle.
+#![tactic(auto)]
+
 ghost use Rattle.std.specs.Prelude.{◌≡◌, List, [], ◌*◌, ◌<◌, length, get_or, take};
 ghost use Rattle.definition.specs.Types as d;
 ghost use Rattle.definition.specs.Store.{type_at};

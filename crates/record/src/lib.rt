@@ -1,4 +1,6 @@
 // One record from the caller's bytes: its mark and fields read from left to right (5, 6, 18), its types placed as nodes (7).
+#![tactic(auto)]
+
 ghost use Rattle.std.specs.Prelude.{◌≡◌, ◌+◌, ◌≤◌, length};
 ghost use Rattle.definition.specs.Reader.{give, go_on, times};
 ghost use Rattle.definition.specs.Trees.{read_type};

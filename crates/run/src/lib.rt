@@ -1,4 +1,6 @@
 // The run of each record from its placed types on: what it leaves, and what its answer shows.
+#![tactic(auto)]
+
 ghost use Rattle.std.specs.Prelude.{◌≡◌, true, false, ◌<◌};
 ghost use Rattle.std.proofs.Math.Option.{none};
 ghost use Rattle.definition.specs.Types.{if◌then◌else◌};

@@ -1,5 +1,7 @@
 // typing/core.rs: what kind of type a node's shape is, and its parts.
 // Changed from the source that NOTICE names: ported to Rattle.
+#![tactic(auto)]
+
 ghost use Rattle.std.specs.Prelude.{◌≡◌, List, ℕ, ◌<◌, min, get_or};
 ghost use Rattle.definition.specs.Types as d;
 ghost use Rattle.definition.specs.Store.{with_args};

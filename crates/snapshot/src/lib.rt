@@ -1,4 +1,6 @@
 // A snapshot of the variables in use, and its return: after an error bindings and marks are put back, after a refusal all that was taken too.
+#![tactic(auto)]
+
 ghost use Rattle.std.specs.Prelude.{◌≡◌, [], ◌+◌, ◌*◌, ◌≤◌, length};
 ghost use Rattle.table.specs.State.{Lay, Wrote};
 ghost use Rattle.snapshot.specs.Snap.{Above, SavedPartly, Saved, PutBack, Sized, GivenBack, Undone};

@@ -1,5 +1,7 @@
 // SV: solve_constraints. Numeric variables that nothing decides become u64, the failures are the payload, and no constraint stays.
 // Changed from the source that NOTICE names: ported to Rattle.
+#![tactic(auto)]
+
 ghost use Rattle.std.specs.Prelude.{◌≤◌, ◌+◌, ◌<◌, length, get_or, ◌≡◌, List, [], ◌∷◌};
 ghost use Rattle.table.specs.State.{Lay, view, constraint_of, seen};
 ghost use Rattle.table.specs.Known.{Declared, Known};

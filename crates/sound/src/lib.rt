@@ -1,4 +1,6 @@
 // The test for a sound state, made once where a lent state enters: words and parameter bytes, whatever they hold. The tests of fields, rows and tables stand in `sound_fields`, `sound_rows` and `sound_tables`.
+#![tactic(auto)]
+
 ghost use Rattle.std.specs.Prelude.{◌≡◌, ◌≤◌, length};
 ghost use Rattle.sound_fields.specs.Fields.{all_below};
 ghost use Rattle.sound_rows.specs.Rows.{Sized};

@@ -1,4 +1,6 @@
 // The test for a sound state, field by field: parameter bytes, the fields of a node and of a variable's cell.
+#![tactic(auto)]
+
 ghost use Rattle.std.specs.Prelude.{◌≡◌, ◌&&◌, ◌<◌, eqb};
 ghost use Rattle.definition.specs.Trees.{has_drop};
 ghost use Rattle.table.specs.Rows.{read_mark};

@@ -1,4 +1,6 @@
 // The test for a sound state, row by row: a declaration, a node, a variable's cell, a constraint.
+#![tactic(auto)]
+
 ghost use Rattle.std.specs.Prelude.{◌≡◌, ◌+◌, ◌≤◌, ◌<◌, length};
 ghost use Rattle.sound_fields.specs.Fields.{all_below};
 ghost use Rattle.sound_rows.specs.Rows.{Sized, struct_fine, args_fine, part_fine, apply_fine, shape_fine, node_fine, binding_fine, cell_fine, constraint_fine};

@@ -1,4 +1,6 @@
 // The test for a sound state, table by table: counts, what stands past them, parameter bytes, every row.
+#![tactic(auto)]
+
 ghost use Rattle.std.specs.Prelude.{◌≡◌, ◌≤◌, ◌<◌, length};
 ghost use Rattle.sound_fields.specs.Fields.{all_below};
 ghost use Rattle.sound_rows.specs.Rows.{Sized};

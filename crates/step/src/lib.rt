@@ -1,4 +1,6 @@
 // One record of a sound state: read, placed, run and answered; a refusal leaves all as at entry.
+#![tactic(auto)]
+
 ghost use Rattle.std.specs.Prelude.{◌≡◌, ◌≤◌, length, take, drop};
 ghost use Rattle.definition.specs.Write.{IsBytes};
 ghost use Rattle.table.specs.State.{Lay};

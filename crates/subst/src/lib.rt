@@ -1,5 +1,7 @@
 // typing/core.rs: chain ends, unfolding, numeric marks, the numeric check, the occurs walk, binding.
 // Changed from the source that NOTICE names: ported to Rattle.
+#![tactic(auto)]
+
 ghost use Rattle.std.specs.Prelude.{◌≡◌, false, List, ℕ, suc, ◌<◌};
 ghost use Rattle.definition.specs.Types as d;
 ghost use Rattle.definition.specs.Store.{type_at, spanned};

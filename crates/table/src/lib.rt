@@ -1,5 +1,7 @@
 // The state of a job in words that the caller lends (docs/STATE.md), and the few functions that touch those words.
 // Five counts, then 2,048 node rows of six, 4,096 argument places, 1,024 variable rows of five, 512 constraint rows of four, 256 struct rows of two.
+#![tactic(auto)]
+
 ghost use Rattle.std.specs.Prelude.{◌≡◌, List, [], ◌∷◌, ℕ, ◌+◌, ◌*◌, ◌≤◌, ◌<◌, ◌%◌, length, get_or, set, take};
 ghost use Rattle.definition.specs.Types as d;
 ghost use Rattle.definition.specs.Store.{node, get, num_loc, args_at, sp, next_tvar, insert, add_constraint};

@@ -1,6 +1,8 @@
 // Runs each job of standard input from a fresh state, and prints its name and the last lines of its log. tools/edges.py makes the jobs and what is to be printed.
 // The records are also split off and lent one by one: a line more is printed where the log does not have just their numbers and payloads.
 // A job is its size (four bytes, little-endian), then so many bytes: a name, a line end, the stream.
+#![tactic(auto)]
+
 ghost use Rattle.std.specs.Prelude.{◌≡◌, ◌+◌, ◌<◌, ◌≤◌, length};
 
 use limits::MAX_BUFFER;

@@ -1,1 +1,3 @@
 // Edges of 01, and jobs with the answers of core.rs, replayed on the definition, in proofs/: no code.
+#![tactic(auto)]
+

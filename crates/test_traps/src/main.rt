@@ -1,5 +1,7 @@
 // Two lent states whose types have far more parts than nodes: each walk over them answers at once.
 // Prints, for each, whether the state is sound, whether variable 0 occurs in its last node, and whether that node runs into itself.
+#![tactic(auto)]
+
 ghost use Rattle.std.specs.Prelude.{◌<◌};
 ghost use Rattle.table.specs.State.{Lay};
 

@@ -1,5 +1,7 @@
 // typing/core.rs: make_tparam_subst, subst_tparams.
 // Changed from the source that NOTICE names: ported to Rattle.
+#![tactic(auto)]
+
 ghost use Rattle.std.specs.Prelude.{◌≡◌, ℕ, ◌-◌, ◌≤◌, ◌<◌};
 ghost use Rattle.definition.specs.Types.{Apply};
 ghost use Rattle.definition.specs.Store.{args_at};

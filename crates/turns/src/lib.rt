@@ -1,4 +1,6 @@
 // A turn of the program joinlog: where it stands in the bytes read, reading on, and handing over the log.
+#![tactic(auto)]
+
 ghost use Rattle.std.specs.Prelude.{◌+◌, ◌-◌, ◌≤◌, ◌<◌, ◌≡◌, not, ◌||◌, length, take};
 ghost use Rattle.turns.specs.Filling.{first, negative, Within, short, at_hand, Behind, Filled, after_lines};
 

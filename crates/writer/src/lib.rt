@@ -1,4 +1,6 @@
 // Types and numbers as bytes, in the form in which a record has them. A payload is sized before it is written: on 14 the answer buffer stays as it was.
+#![tactic(auto)]
+
 ghost use Rattle.std.specs.Prelude.{◌≡◌, List, [], ◌∷◌, ◌++◌, ℕ, ◌+◌, ◌≤◌, ◌<◌, ◌%◌, length, take};
 ghost use Rattle.definition.specs.Types as d;
 ghost use Rattle.definition.specs.Write.{bool, mark, u16, u32 as bytes-u32, apply_head, head, write};
