@@ -1,0 +1,36 @@
+-- `abilities::ability_hinders` meets its contract. Assumes nothing.
+-- Three returns: no levels (9), a mark that contradicts (16), and neither; between them the set is inferred within the levels found.
+use Rattle.abilities.proofs.Hindered.{ends_of, hindered_nine, hindered_sixteen, hindered_clear}
+use Rattle.abilities.proofs.ability_hinders.Goals as goal
+
+pub returns-then-n-eq0 : goal.returns-then-n-eq0
+returns-then-n-eq0 c = (c.levels-n.ensures.1, hindered_nine c.levels-n.ensures.0 _ _ _ c.if-n-eq0.true c.requires.0.1.1.1)
+
+pub infer-requires : goal.infer-requires
+infer-requires c = let levels = c.levels-n in (
+  (c.requires.0.0, (c.requires.0.1.0, (ends_of levels.ensures.0 c.if-n-eq0.false, c.requires.0.1.1.1))),
+  c.requires.1,
+)
+
+pub any_contradicts-requires : goal.any_contradicts-requires
+any_contradicts-requires c = let pre = c.requires in
+    let infer = c.infer in
+    ((pre.0.0, (pre.0.1.0, (infer.ensures.kept, infer.ensures.here))), pre.1)
+
+pub returns-then-any_contradicts : goal.returns-then-any_contradicts
+returns-then-any_contradicts c = (
+  c.levels-n.ensures.1,
+  hindered_sixteen c.levels-n.ensures.0 _ _ _ _ c.if-n-eq0.false
+      c.infer.ensures _
+      c.any_contradicts.ensures
+      c.if-any_contradicts.true,
+)
+
+pub returns : goal.returns
+returns c = let levels = c.levels-n in
+    let if1 = c.if-n-eq0 in
+    let infer = c.infer in (
+      levels.ensures.1,
+      hindered_clear levels.ensures.0 _ _ _ _ if1.false infer.ensures _ c.any_contradicts.ensures
+          c.if-any_contradicts.false,
+    )

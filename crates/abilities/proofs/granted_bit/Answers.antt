@@ -1,0 +1,10 @@
+-- `abilities::granted_bit` meets its contract. Assumes nothing.
+use mathlib.Core.Path.{refl, sym}
+use native.Mathlib.Omega.{arith}
+use Rattle.abilities.proofs.granted_bit.Goals as goal
+
+pub returns-then-granted : goal.returns-then-granted
+returns-then-granted c = (omega arith, λ ds k. rw (sym (c.granted.ensures ds k), c.if-granted.true) refl)
+
+pub returns : goal.returns
+returns c = (omega arith, λ ds k. rw (sym (c.granted.ensures ds k), c.if-granted.false) refl)

@@ -1,0 +1,23 @@
+-- `arms::arm_var` meets its contract. Assumes nothing.
+use mathlib.Core.Path.{refl}
+use borrow.Author.Tests.{eq-eqb, ne_eqb}
+use Rattle.definition.specs.Store.{with_args}
+use Rattle.definition.specs.Join.{arm, join_arm}
+use Rattle.arms.specs.Arms.{by_arm}
+use Rattle.arms.proofs.Guards.{var_other}
+use Rattle.arms.proofs.arm_var.Goals as goal
+
+pub returns-then-id1-id2 : goal.returns-then-id1-id2
+unfolding arm join_arm by_arm with_args
+returns-then-id1-id2 c = rw c.in-Var.is (λ case. record { is = λ J s l r. rw (eq-eqb _ _ c.if-id1-id2.true); below = λ args n a b. tt })
+
+pub returns-else-id1-id2 : goal.returns-else-id1-id2
+unfolding arm join_arm by_arm with_args
+returns-else-id1-id2 c = rw c.in-Var.is (λ case. record { is = λ J s l r. rw (ne_eqb _ _ c.if-id1-id2.false); below = λ args n a b. tt })
+
+pub returns-in-Anything : goal.returns-in-Anything
+unfolding arm join_arm by_arm with_args
+returns-in-Anything c = rw c.in-Anything.is (λ case. record { is = λ J s l r. refl; below = λ args n a b. tt })
+
+pub returns-in_default : goal.returns-in_default
+returns-in_default c = λ case. var_other case _ c.args.rhs c.in_default.keys3

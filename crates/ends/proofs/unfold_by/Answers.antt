@@ -1,0 +1,11 @@
+-- `ends::unfold_by` meets its contract. Assumes nothing.
+use Rattle.subst.proofs.Unfold.{unfolds_plain, unfolds_var}
+use Rattle.ends.proofs.unfold_by.Goals as goal
+
+pub returns-in-Last : goal.returns-in-Last
+returns-in-Last c = unfolds_plain _ _ _ c.node_at-n.result c.node_at-n.ensures _ c.as_var.ensures c.requires.0.1 c.in-Last.is
+
+pub returns-in-To : goal.returns-in-To
+returns-in-To c = let as_var = c.as_var in
+    let node_at = c.node_at-n in
+    unfolds_var _ _ _ node_at.result node_at.ensures _ as_var.ensures _ c.in-To.is _ (c.unfold_end.ensures _ c.chain_end-last.ensures)

@@ -1,0 +1,26 @@
+-- `engine::record_trusted` meets its contract. Assumes nothing.
+use native.Mathlib.Omega.{arith}
+use Rattle.snapshot.proofs.Saving.{partly_none}
+use Rattle.engine.proofs.Laws.{bytes_of, stands_lent, lent_size, record_gives}
+use Rattle.engine.proofs.record_trusted.Goals as goal
+
+pub used_of-u-requires : goal.used_of-u-requires
+used_of-u-requires c = lent_size _ _ c.requires.0
+
+pub step_trusted-r-requires : goal.step_trusted-r-requires
+step_trusted-r-requires c = let args = c.args in
+    let pre = c.requires in
+    let shared-slice-known = c.shared_slice_known-1 in (
+      (
+        stands_lent _ _ pre.0 _ c.used_of-u.ensures,
+        (bytes_of args.«record».now shared-slice-known.given, (omega arith, (omega arith, pre.1))),
+      ),
+      partly_none _ _ _,
+    )
+
+pub returns : goal.returns
+returns c = let pre = c.requires in
+    let used_of = c.used_of-u in
+    let step-trusted = c.step_trusted-r in
+    record_gives _ _ pre.0 _ used_of.ensures _ _ pre.1 _ _ _ _ step-trusted.ensures.0 _
+    c.write_used.ensures step-trusted.auto.1.1.1.1.1.1.1.1.0

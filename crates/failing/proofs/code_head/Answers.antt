@@ -1,0 +1,10 @@
+-- `failing::code_head` meets its contract. Assumes nothing.
+use mathlib.Core.Path.{refl}
+use native.Mathlib.Omega.{arith}
+use Rattle.definition.specs.Write.{u32}
+use Rattle.failing.proofs.Report.{small}
+use Rattle.failing.proofs.code_head.Goals as goal
+
+pub returns : goal.returns
+unfolding u32
+returns c = record { few = omega arith; first = rw (c.low-k.ensures, c.low-a.ensures, c.low-b.ensures, c.low-c.ensures, c.low-e.ensures, small _ c.requires) refl }

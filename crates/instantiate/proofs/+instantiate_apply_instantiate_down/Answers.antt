@@ -1,0 +1,172 @@
+use mathlib.Core.Path.{refl, sym, ◌∙◌}
+use native.Mathlib.Omega.{arith}
+use Rattle.definition.specs.Instantiate.{instantiate_value}
+use Rattle.definition.specs.Store.{args_at, with_args, with_structs}
+use Rattle.table.specs.State.{seen, outcome}
+use Rattle.table.proofs.Steps.{after_any, after_among, after_done}
+use Rattle.table.proofs.Grown.{nodes_grow, parts_grow}
+use Rattle.table.proofs.Parts.{ref_below, named}
+use Rattle.table.proofs.Walk.{named_below}
+use Rattle.shapes.proofs.Levels.{level_none, level_by, level_stays, ref_stop, ref_then, through_start, through_in, through_stop, through_more, through_end, through_parts}
+use Rattle.table.proofs.Known.{known_kept}
+use Rattle.instantiate.proofs.DownLaws.{levels, whole, ref_is, constraint_on, named_on, apply_stop, apply_then}
+use Rattle.instantiate.proofs.TvarLaws.{constraint_stop}
+use Rattle.instantiate.proofs.+instantiate_apply_instantiate_down.Goals as goal
+
+pub returns-in_default : goal.returns-in_default
+returns-in_default t c = let pre = c.requires in
+    let make_tparams = c.make_tparams-b in
+    apply_stop _ _ _ _ _ _ _ _ _ pre.1.placed _ make_tparams.result _ make_tparams.ensures c.done_of.ensures
+    _ c.stay.ensures c.in_default.is
+
+pub loop-i-init : goal.loop-i-init
+loop-i-init t c = let make_tparams = c.make_tparams-b in
+    let pre = c.requires in
+    through_start make_tparams.ensures.changed.lay (named_on _ _ pre.1 make_tparams.ensures.changed.grown) refl
+
+pub instantiate_down-a-requires : goal.instantiate_down-a-requires
+instantiate_down-a-requires t c = let pre = c.requires in
+    let loop = c.loop-i in
+    (omega (arith, c.decreases), (loop.invariant.walked.changed.lay, through_in loop.invariant c.loop-i-test.true c.arg_at-t.ensures))
+
+pub returns-in_default-done_of : goal.returns-in_default-done_of
+returns-in_default-done_of t c = let pre = c.requires in
+    let make_tparams = c.make_tparams-b in
+    let done-of = c.done_of in
+    let enum_told = c.enum_told-1 in
+    let loop = c.loop-i in
+    let if1 = c.loop-i-test in
+    let arg_at = c.arg_at-t in
+    let instantiate_down = c.instantiate_down-a in
+    apply_then _ _ _ _ _ _ _ _ _ pre.1.placed _ make_tparams.result _ make_tparams.ensures done-of.ensures
+    _ _ _ enum_told.given.1
+    (through_stop loop.invariant if1.true arg_at.ensures
+    (after_among (known_kept _ _ _ _ _ loop.invariant.walked.changed.structs) instantiate_down.ensures) c.done_of-in-loop-i.ensures c.in_default-done_of.is)
+
+pub loop-i-preserved : goal.loop-i-preserved
+loop-i-preserved t c = let loop = c.loop-i in
+    let if1 = c.loop-i-test in
+    let arg_at = c.arg_at-t in
+    let instantiate_down = c.instantiate_down-a in
+    let done-of2 = c.done_of-in-loop-i in
+    through_more loop.invariant if1.true arg_at.ensures
+    (after_among (known_kept _ _ _ _ _ loop.invariant.walked.changed.structs) instantiate_down.ensures) done-of2.ensures c.in-Just-done_of.is c.wide-at.ensures
+
+pub join_args-requires : goal.join_args-requires
+join_args-requires t c = let make_tparams = c.make_tparams-b in
+    let done-of = c.done_of in (
+      c.loop-i.invariant.walked.changed.lay,
+      (
+        parts_grow _ _ _ _ (nodes_grow _ _ _ _ c.loop-i.invariant.walked.changed.grown) (make_tparams.ensures.inside.below _ (sym done-of.ensures ∙ c.in-Just.is)),
+        through_parts c.loop-i.invariant c.loop-i-test.false,
+      ),
+    )
+
+pub returns : goal.returns
+returns t c = let pre = c.requires in
+    let make_tparams = c.make_tparams-b in
+    let done-of = c.done_of in
+    let enum_told = c.enum_told-1 in
+    let loop = c.loop-i in
+    apply_then _ _ _ _ _ _ _ _ _ pre.1.placed _ make_tparams.result _ make_tparams.ensures done-of.ensures
+    _ _ _ enum_told.given.1 (through_end loop.invariant c.loop-i-test.false (after_any c.join_args.ensures))
+
+pub returns-then-left-eq0 : goal.returns-then-left-eq0
+returns-then-left-eq0 t c = level_none levels _ _ _ _ c.requires.0 c.if-left-eq0.true c.stay.ensures
+
+pub returns-in_default : goal.returns-in_default
+unfolding with_args
+returns-in_default t c = let pre = c.requires in
+    let node_at = c.node_at-node in
+    let if1 = c.if-left-eq0 in
+    let shape = c.shape-1 in
+    let push-constraint = c.push_constraint-b in
+    level_by levels _ _ _ _ pre.0 node_at.result if1.false node_at.ensures shape.given.1 (λ ds. ref_is _ _ _ _ _ _)
+    (after_any (constraint_stop _ _ _ _ _ _ _ push-constraint.ensures c.done_of.ensures c.in_default.is))
+
+pub instantiate_down-a-requires : goal.instantiate_down-a-requires
+instantiate_down-a-requires t c = let pre = c.requires in
+    let if1 = c.if-left-eq0 in
+    let push-constraint = c.push_constraint-b in
+    let node_at = c.node_at-node in
+    let shape = c.shape-1 in (
+      omega (arith, c.decreases, if1.false),
+      (
+        push-constraint.ensures.lay,
+        omega (
+          arith,
+          ref_below _ _ _ _ pre.0 pre.1 node_at.ensures _ _ shape.given.1,
+          pre.1,
+          nodes_grow _ _ _ _ push-constraint.ensures.grown,
+        ),
+      ),
+    )
+
+pub returns-in_default-done_of : goal.returns-in_default-done_of
+unfolding with_args
+returns-in_default-done_of t c = let pre = c.requires in
+    let node_at = c.node_at-node in
+    let if1 = c.if-left-eq0 in
+    let shape = c.shape-1 in
+    let push-constraint = c.push_constraint-b in
+    let done-of = c.done_of in
+    let enum-told3 = c.enum_told-in-Just-1 in
+    let instantiate_down = c.instantiate_down-a in
+    level_by levels _ _ _ _ pre.0 node_at.result if1.false node_at.ensures shape.given.1 (λ ds. ref_is _ _ _ _ _ _)
+    (constraint_on _ _ push-constraint.ensures done-of.ensures enum-told3.given.1
+    (ref_stop _ _ instantiate_down.ensures c.done_of-in-Ref.ensures c.in_default-done_of.is))
+
+pub push_node-requires : goal.push_node-requires
+push_node-requires t c = let instantiate_down = c.instantiate_down-a in
+    (instantiate_down.ensures.changed.lay, after_done instantiate_down.ensures c.done_of-in-Ref.ensures c.in-Just-done_of.is)
+
+pub instantiate_apply-requires : goal.instantiate_apply-requires
+instantiate_apply-requires t c = let pre = c.requires in
+    let if1 = c.if-left-eq0 in (
+      omega (arith, c.decreases, if1.false),
+      (pre.0, named_below _ _ _ _ _ _ pre.1 (named _ _ _ _ pre.0 pre.1 c.node_at-node.ensures _ _ _ _ c.in-Apply.is)),
+    )
+
+pub returns-in-Unit : goal.returns-in-Unit
+unfolding outcome
+returns-in-Unit t c = let pre = c.requires in
+    level_stays levels _ _ _ _ pre.0 c.node_at-node.result c.if-left-eq0.false c.node_at-node.ensures _ refl c.stay-in-Unit.ensures pre.1
+    (λ s. whole c.node_at-node.result.shape c.in-Unit.keys1 _ s _ _)
+
+pub returns-in-Var : goal.returns-in-Var
+unfolding outcome instantiate_value with_args
+returns-in-Var t c = let pre = c.requires in
+    let if1 = c.if-left-eq0 in
+    level_stays levels _ _ _ _ pre.0 c.node_at-node.result if1.false c.node_at-node.ensures _ c.in-Var.is c.stay-in-Var.ensures tt
+    (λ s. refl)
+
+pub returns-in-Anything : goal.returns-in-Anything
+unfolding instantiate_value with_args
+returns-in-Anything t c = let pre = c.requires in
+    let node_at = c.node_at-node in
+    let if1 = c.if-left-eq0 in
+    level_by levels _ _ _ _ pre.0 node_at.result if1.false node_at.ensures c.in-Anything.is (λ ds. refl) (after_any c.make_tvar.ensures)
+
+pub returns-in-Just-done_of : goal.returns-in-Just-done_of
+unfolding with_args
+returns-in-Just-done_of t c = let pre = c.requires in
+    let node_at = c.node_at-node in
+    let if1 = c.if-left-eq0 in
+    let shape = c.shape-1 in
+    let push-constraint = c.push_constraint-b in
+    let done-of = c.done_of in
+    let enum-told3 = c.enum_told-in-Just-1 in
+    let instantiate_down = c.instantiate_down-a in
+    let done-of2 = c.done_of-in-Ref in
+    let p = c.p-1 in
+    level_by levels _ _ _ _ pre.0 node_at.result if1.false node_at.ensures shape.given.1 (λ ds. ref_is _ _ _ _ _ _)
+    (constraint_on _ _ push-constraint.ensures done-of.ensures enum-told3.given.1
+    (ref_then _ _ instantiate_down.ensures done-of2.ensures p.given.1 c.push_node.ensures))
+
+pub returns-in-Apply : goal.returns-in-Apply
+unfolding instantiate_value with_args seen with_structs args_at
+returns-in-Apply t c = let pre = c.requires in
+    let node_at = c.node_at-node in
+    let if1 = c.if-left-eq0 in
+    let shape2 = c.shape-in-Apply-1 in
+    level_by levels _ _ _ _ pre.0 node_at.result if1.false node_at.ensures shape2.given.1 (λ ds. refl) c.instantiate_apply.ensures

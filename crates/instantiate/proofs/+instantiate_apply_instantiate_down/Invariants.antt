@@ -1,0 +1,21 @@
+-- `instantiate::instantiate_apply` and `instantiate::instantiate_down` meet their contracts. Assumes nothing.
+use lib.ListN.{take}
+use Rattle.definition.specs.Instantiate as D
+use Rattle.names.specs.Names.{mark_of, name_of}
+use Rattle.shapes.proofs.Levels.{Through}
+use Rattle.table.specs.Known.{Known}
+use Rattle.instantiate.specs.Args.{joined}
+use Prim.Native.Nat.{◌+◌, ◌*◌, ◌-◌}
+use Rattle.instantiate.proofs.+instantiate_apply_instantiate_down.Given as goal
+
+abbrev pub decreases-instantiate_apply : goal.decreases-instantiate_apply
+decreases-instantiate_apply l = 2 * l.left + 1
+
+abbrev pub decreases-instantiate_down : goal.decreases-instantiate_down
+decreases-instantiate_down l = 2 * l.left
+
+abbrev pub invariant-loop-i : goal.invariant-loop-i
+invariant-loop-i l = Through (Known l.initial.w l.initial.v l.params) (D.instantiate_down l.left) (joined l.loc (mark_of l.ty.k) (name_of l.ty.n) (take l.b.many l.b.tvars)) l.ty.first l.ty.many l.initial.w l.initial.v l.w l.v l.parts l.i
+
+abbrev pub decreases-loop-i : goal.decreases-loop-i
+decreases-loop-i l = l.ty.many - l.i

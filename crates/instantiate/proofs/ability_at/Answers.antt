@@ -1,0 +1,16 @@
+-- `instantiate::ability_at` meets its contract. Assumes nothing.
+use Rattle.instantiate.specs.Known.{ability_at}
+use mathlib.Core.Path.{refl}
+use Rattle.instantiate.proofs.ability_at.Goals as goal
+
+pub returns-in-Multiple : goal.returns-in-Multiple
+unfolding ability_at
+returns-in-Multiple c = rw c.in-Multiple.is (λ h. refl)
+
+pub returns-in-Builtin : goal.returns-in-Builtin
+unfolding ability_at
+returns-in-Builtin c = rw c.in-Builtin.is (λ h. refl)
+
+pub returns-in-ModuleType : goal.returns-in-ModuleType
+unfolding ability_at
+returns-in-ModuleType c = rw c.in-ModuleType.is (λ h. c.struct_ability.ensures h)

@@ -1,0 +1,18 @@
+-- `instantiate::make_tvar` meets its contract. Assumes nothing.
+use Rattle.instantiate.proofs.TvarLaws.{tvar_stop, tvar_node}
+use Rattle.table.proofs.Grown.{var_small}
+use Rattle.instantiate.proofs.make_tvar.Goals as goal
+
+pub returns-in_default : goal.returns-in_default
+returns-in_default c = tvar_stop _ _ _ _ _ _ c.take_var-a.ensures.0 c.done_of.ensures c.in_default.is
+
+pub tvar-id-requires : goal.tvar-id-requires
+tvar-id-requires c = let take-var = c.take_var-a in
+    var_small take-var.result.out take-var.ensures.0.lay take-var.ensures.1 c.done_of.ensures c.in-Just.is
+
+pub returns : goal.returns
+returns c = let take-var = c.take_var-a in
+    let done-of = c.done_of in
+    let x = c.x-1 in
+    tvar_node _ _ _ _ _ _ _ _ _ _ take-var.ensures.0 done-of.ensures x.given.1
+    c.tvar-id.ensures c.push_node.ensures

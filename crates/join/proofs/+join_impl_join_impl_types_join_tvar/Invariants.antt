@@ -1,0 +1,21 @@
+-- `join::join_impl`, `join_impl_types` and `join_tvar` meet their contracts, as one cycle of calls. Twice the depth left falls, and stands one higher where
+-- the argument walk and the merge call the operand walk at the same depth. Assumes nothing.
+use Rattle.join.proofs.Args.{Gathering}
+use Rattle.arms.specs.Arms.{case_of}
+use Prim.Native.Nat.{◌+◌, ◌-◌}
+use Rattle.join.proofs.+join_impl_join_impl_types_join_tvar.Given as goal
+
+abbrev pub decreases-join_impl : goal.decreases-join_impl
+decreases-join_impl l = l.left + l.left
+
+abbrev pub decreases-join_impl_types : goal.decreases-join_impl_types
+decreases-join_impl_types l = l.left + l.left + 1
+
+abbrev pub decreases-join_tvar : goal.decreases-join_tvar
+decreases-join_tvar l = l.left + l.left + 1
+
+abbrev pub invariant-loop-i : goal.invariant-loop-i
+invariant-loop-i l = Gathering l.left (case_of l.case) l.initial.w l.initial.at l.t1 l.t2 l.n l.w l.at l.tys l.i
+
+abbrev pub decreases-loop-i : goal.decreases-loop-i
+decreases-loop-i l = l.n - l.i

@@ -1,0 +1,8 @@
+-- `join::subtype` meets its contract. Assumes nothing.
+use Rattle.definition.specs.Types.{max_depth}
+use Rattle.definition.specs.Join.{subtype}
+use Rattle.join.proofs.subtype.Goals as goal
+
+pub returns : goal.returns
+unfolding subtype max_depth
+returns c = c.join_impl.ensures

@@ -1,0 +1,16 @@
+-- `needs::count_parts` and `needs::count_type` meet their contracts. The measure is twice the nesting that is left, one more for the parts; each need cites a law of Walk. Assumes nothing.
+use Rattle.needs.proofs.Walk.{Going}
+use Prim.Native.Nat.{◌+◌, ◌*◌, ◌-◌}
+use Rattle.needs.proofs.+count_parts_count_type.Given as goal
+
+abbrev pub decreases-count_parts : goal.decreases-count_parts
+decreases-count_parts l = 2 * l.nest + 1
+
+abbrev pub decreases-count_type : goal.decreases-count_type
+decreases-count_type l = 2 * l.nest
+
+abbrev pub invariant-loop-i : goal.invariant-loop-i
+invariant-loop-i l = Going l.w l.u l.b l.end l.known l.nest l.args l.initial.all l.n l.at l.next l.all l.i
+
+abbrev pub decreases-loop-i : goal.decreases-loop-i
+decreases-loop-i l = l.n - l.i

@@ -1,0 +1,22 @@
+-- `payload::two_size` meets its contract. Assumes nothing.
+use Rattle.table.specs.State.{seen}
+use Rattle.definition.specs.Write.{write}
+use Prim.Native.Nat.{◌≤◌}
+use mathlib.Core.List.{[]}
+use native.Mathlib.Omega.{arith}
+use Rattle.payload.proofs.Payload.{two_long, two_short, at_most}
+use Rattle.payload.proofs.two_size.Goals as goal
+
+pub returns-then-n-gt-MAX_PAYLOAD : goal.returns-then-n-gt-MAX_PAYLOAD
+returns-then-n-gt-MAX_PAYLOAD c = let args = c.args in
+    λ ds. two_long (write (seen args.w.now args.u ds) args.a)
+    (write (seen args.w.now args.u ds) args.b) _ (c.size_type-n.ensures ds) c.if-n-gt-MAX_PAYLOAD.true
+
+pub overflow_add-result-2 : goal.overflow_add-result-2
+overflow_add-result-2 c = let k : c.size_type-m.result ≤ 4097 = at_most _ _ _ (c.size_type-m.ensures []) (omega arith) in omega arith
+
+pub returns : goal.returns
+returns c = let args = c.args in
+    λ ds. two_short (write (seen args.w.now args.u ds) args.a)
+    (write (seen args.w.now args.u ds) args.b) _ _ (c.size_type-n.ensures ds)
+    c.if-n-gt-MAX_PAYLOAD.false (c.size_type-m.ensures ds)

@@ -1,0 +1,46 @@
+-- `payload::write_shown` meets its contract. Assumes nothing.
+use Rattle.payload.proofs.Payload.{wrote_nothing, length_variable, length_anything, node_fits}
+use Rattle.payload.specs.Payload.{shown}
+use native.Mathlib.Omega.{arith}
+use Rattle.payload.proofs.write_shown.Goals as goal
+
+pub tvar-requires : goal.tvar-requires
+tvar-requires c = omega (arith, rw c.in-Variable.is at c.requires.0.1.0, c.requires.0.0.vars)
+
+pub write_head-requires : goal.write_head-requires
+write_head-requires c = (tt, omega (arith, length_variable c.in-Variable.loc c.tvar.result.0, c.requires.0.1.1.1))
+
+pub write_type-requires : goal.write_type-requires
+write_type-requires c = let args = c.args in
+    let pre = c.requires in (
+      (pre.0.0, (rw c.in-Node.is at pre.0.1.0, pre.0.1.1.0)),
+      λ ds.
+          omega (arith, node_fits args.show args.t _ c.in-Node.is (pre.1 ds), pre.0.1.1.1),
+    )
+
+pub write_head-requires-in-Anything : goal.write_head-requires-in-Anything
+write_head-requires-in-Anything c = (tt, omega (arith, length_anything c.in-Anything.loc, c.requires.0.1.1.1))
+
+pub returns-in-Nothing : goal.returns-in-Nothing
+unfolding shown
+returns-in-Nothing c = λ ds. rw c.in-Nothing.is (wrote_nothing _)
+
+pub returns-in-Number : goal.returns-in-Number
+unfolding shown
+returns-in-Number c = λ ds. rw c.in-Number.is (rw c.u16_of.ensures.first at c.put_few.ensures)
+
+pub returns-in-Variable : goal.returns-in-Variable
+unfolding shown
+returns-in-Variable c = λ ds. rw c.in-Variable.is (rw c.tvar.ensures at c.write_head.ensures)
+
+pub returns-in-Node : goal.returns-in-Node
+unfolding shown
+returns-in-Node c = λ ds. rw c.in-Node.is (c.write_type.ensures ds)
+
+pub returns-in-Anything : goal.returns-in-Anything
+unfolding shown
+returns-in-Anything c = λ ds. rw c.in-Anything.is c.write_head-in-Anything.ensures
+
+pub returns-in-Four : goal.returns-in-Four
+unfolding shown
+returns-in-Four c = λ ds. rw c.in-Four.is c.write_four.ensures

@@ -1,0 +1,36 @@
+-- `payload::write_two` meets its contract. Assumes nothing.
+use Rattle.payload.proofs.Payload.{first_room, two_room, wrote_two}
+use Rattle.table.specs.State.{seen}
+use Rattle.definition.specs.Write.{write}
+use native.Mathlib.Omega.{arith}
+use Rattle.payload.proofs.write_two.Goals as goal
+
+pub write_type-next-requires : goal.write_type-next-requires
+write_type-next-requires c = let args = c.args in
+    let pre = c.requires in (
+      (pre.0.0, (pre.0.1.0, pre.0.1.1.1.0)),
+      λ ds.
+          omega (
+            arith,
+            first_room (write (seen args.w.now args.u ds) args.a)
+                (write (seen args.w.now args.u ds) args.b) 4096 (pre.1 ds),
+            pre.0.1.1.1.1,
+          ),
+    )
+
+pub write_type-requires : goal.write_type-requires
+write_type-requires c = let args = c.args in
+    let pre = c.requires in (
+      (pre.0.0, (pre.0.1.1.0, pre.0.1.1.1.0)),
+      λ ds. two_room args.buf.now (write (seen args.w.now args.u ds) args.a)
+          (write (seen args.w.now args.u ds) args.b) _ _ (omega (arith, pre.1 ds, pre.0.1.1.1.1))
+          (c.write_type-next.ensures ds),
+    )
+
+pub returns : goal.returns
+returns c = let args = c.args in
+    let pre = c.requires in
+    let write-type = c.write_type-next in
+    λ ds. wrote_two args.buf.now (write (seen args.w.now args.u ds) args.a)
+    (write (seen args.w.now args.u ds) args.b) _ _ _ _ (omega (arith, pre.1 ds, pre.0.1.1.1.1))
+    (write-type.ensures ds) (c.write_type.ensures ds)

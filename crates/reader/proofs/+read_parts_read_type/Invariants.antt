@@ -1,0 +1,16 @@
+-- `reader::read_parts` and `reader::read_type` meet their contracts. Assumes nothing.
+use Rattle.reader.proofs.Loop.{Going}
+use Prim.Native.Nat.{◌+◌, ◌*◌, ◌-◌}
+use Rattle.reader.proofs.+read_parts_read_type.Given as goal
+
+abbrev pub decreases-read_parts : goal.decreases-read_parts
+decreases-read_parts l = 2 * l.nest + 1
+
+abbrev pub decreases-read_type : goal.decreases-read_type
+decreases-read_type l = 2 * l.nest
+
+abbrev pub invariant-loop-i : goal.invariant-loop-i
+invariant-loop-i l = Going l.initial.w l.initial.used l.b l.end l.known l.nest l.initial.over l.n l.at l.w l.used l.next l.over l.parts l.i
+
+abbrev pub decreases-loop-i : goal.decreases-loop-i
+decreases-loop-i l = l.n - l.i

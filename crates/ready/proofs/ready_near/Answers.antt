@@ -1,0 +1,6 @@
+-- `ready::ready_near` meets its contract. Assumes nothing.
+use Rattle.ends.proofs.Ends.{known_none}
+use Rattle.ready.proofs.ready_near.Goals as goal
+
+pub ready-requires : goal.ready-requires
+ready-requires c = (c.requires.0, (c.requires.1, known_none 1))

@@ -1,0 +1,27 @@
+-- `run::run_look` meets its contract. Assumes nothing.
+use Rattle.run.specs.Dispatch.{run_of, step_of}
+use Rattle.run.proofs.Arms.{pairs_same}
+use Rattle.run.proofs.run_look.Goals as goal
+
+pub run_unfold-requires : goal.run_unfold-requires
+run_unfold-requires c = (c.requires.0, rw c.in-One.is at c.requires.1)
+
+pub run_ready-requires : goal.run_ready-requires
+run_ready-requires c = (c.requires.0, rw c.in-One.is at c.requires.1)
+
+pub run_tparams-requires : goal.run_tparams-requires
+run_tparams-requires c = let h = rw c.in-TS.is at c.requires.1 in (c.requires.0, (h.1, h.0))
+
+pub returns-in-UF : goal.returns-in-UF
+unfolding run_of step_of
+returns-in-UF c = rw (c.in-One.is, c.in-UF.is) c.run_unfold.ensures
+
+pub returns-in-RD : goal.returns-in-RD
+unfolding run_of step_of
+returns-in-RD c = rw (c.in-One.is, c.in-RD.is) c.run_ready.ensures
+
+pub returns-in-TS : goal.returns-in-TS
+unfolding run_of step_of
+returns-in-TS c = let args = c.args in
+    let what2 = c.what-in-TS-1 in
+    rw what2.given.1 (rw (pairs_same args.ids args.nodes 0 _) at c.run_tparams.ensures)

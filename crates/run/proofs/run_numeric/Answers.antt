@@ -1,0 +1,6 @@
+-- `run::run_numeric` meets its contract. Assumes nothing.
+use Rattle.run.proofs.Laws.{ran_constraint}
+use Rattle.run.proofs.run_numeric.Goals as goal
+
+pub returns : goal.returns
+returns c = rw (← c.kind_of-k.ensures) (ran_constraint _ _ c.numeric_constraint-a.ensures c.shown.ensures)

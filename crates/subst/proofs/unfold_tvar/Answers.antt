@@ -1,0 +1,5 @@
+-- `subst::unfold_tvar` meets its contract. Assumes nothing.
+use Rattle.subst.proofs.unfold_tvar.Goals as goal
+
+pub returns : goal.returns
+returns c = c.unfold_end.ensures _ c.forward_tvar-last.ensures
