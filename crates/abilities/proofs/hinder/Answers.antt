@@ -1,4 +1,5 @@
 -- `abilities::hinder` meets its contract. Assumes nothing.
+use borrow.Enum.Refused.{opened}
 use Rattle.definition.specs.Constraints.{constraint_hindrance}
 use Rattle.abilities.proofs.Hindered.{hindered_plain, asked_node}
 use Rattle.abilities.proofs.hinder.Goals as goal
@@ -12,4 +13,4 @@ unfolding constraint_hindrance
 returns-in-Ability c = rw c.in-Ability.is c.ability_hinders.ensures
 
 pub returns-in_default : goal.returns-in_default
-returns-in_default c = (c.requires.0.1.1.0, hindered_plain _ _ _ _ c.requires.0.1.1.1 c.args.c c.in_default.keys2)
+returns-in_default c = (c.requires.0.1.1.0, hindered_plain _ _ _ _ c.requires.0.1.1.1 c.args.c (opened c.in_default.in_default-own.keys2))

@@ -1,4 +1,5 @@
 -- `abilities::shape_rule` meets its contract. Assumes nothing.
+use borrow.Enum.Refused.{opened}
 use Rattle.definition.specs.Store.{with_args}
 use Rattle.abilities.proofs.Sets.{ready_args, rule_plain}
 use Rattle.abilities.proofs.shape_rule.Goals as goal
@@ -11,4 +12,4 @@ unfolding with_args
 returns-in-Apply c = (c.apply_rule.ensures.0, rw c.in-Apply.is (λ ds k. c.apply_rule.ensures.1 ds k _))
 
 pub returns-in_default : goal.returns-in_default
-returns-in_default c = (tt, λ ds k. rule_plain c.args.s c.in_default.keys2 _ _)
+returns-in_default c = (tt, λ ds k. rule_plain c.args.s (opened c.in_default.in_default-own.keys2) _ _)

@@ -1,4 +1,5 @@
 -- `arms::arm_var` meets its contract. Assumes nothing.
+use borrow.Enum.Refused.{opened}
 use mathlib.Core.Path.{refl}
 use borrow.Author.Tests.{eq-eqb, ne_eqb}
 use Rattle.definition.specs.Store.{with_args}
@@ -20,4 +21,4 @@ unfolding arm join_arm by_arm with_args
 returns-in-Anything c = rw c.in-Anything.is (λ case. record { is = λ J s l r. refl; below = λ args n a b. tt })
 
 pub returns-in_default : goal.returns-in_default
-returns-in_default c = λ case. var_other case _ c.args.rhs c.in_default.keys3
+returns-in_default c = λ case. var_other case _ c.args.rhs (opened c.in_default.in_default-own.keys3)

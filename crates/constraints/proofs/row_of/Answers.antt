@@ -1,4 +1,5 @@
 -- `constraints::row_of` meets its contract. Assumes nothing.
+use borrow.Enum.Refused.{opened}
 use Rattle.constraints.proofs.Lacks.{asked_ty, row_ability, row_plain}
 use Rattle.constraints.proofs.row_of.Goals as goal
 
@@ -12,4 +13,4 @@ returns-in-Ability c = row_ability _ _ _ _ _ _ _ _ _ c.lack_of.ensures c.in-Abil
 
 pub returns-in_default : goal.returns-in_default
 returns-in_default c = let args = c.args in
-    row_plain _ _ _ c.first_row.result args.c args.ability c.first_row.ensures c.in_default.keys2
+    row_plain _ _ _ c.first_row.result args.c args.ability c.first_row.ensures (opened c.in_default.in_default-own.keys2)

@@ -18,7 +18,7 @@ pub overflow_sub-log : goal.overflow_sub-log
 overflow_sub-log c = omega (arith, c.loop-at.invariant.1.1.fits, c.loop-at.invariant.1.1.size)
 
 pub returns-then-not-takes_on : goal.returns-then-not-takes_on
-returns-then-not-takes_on c = rw c.lines_at.ensures (going_stops c.loop-at.invariant.1.1 c.loop-at-test.true (taken_on c.loop-at.invariant.1.1 c.takes_on.ensures (not-true _ c.if-not-takes_on.true)))
+returns-then-not-takes_on c = rw c.lines_at.ensures (going_stops c.loop-at.invariant.1.1 c.loop-at-test.true (taken_on c.loop-at.invariant.1.1 c.takes_on.ensures (c.if-not-takes_on.true)))
 
 pub slice_bounds-step_trusted-end : goal.slice_bounds-step_trusted-end
 slice_bounds-step_trusted-end c = sym c.loop-at.invariant.0.0

@@ -6,10 +6,10 @@ use Rattle.engine.proofs.Laws.{stands_lent, lent_size, unsound_rest, sound_rest}
 use Rattle.engine.proofs.rest_size.Goals as goal
 
 pub returns-then-not-sound_state : goal.returns-then-not-sound_state
-returns-then-not-sound_state c = (refl, (omega arith, unsound_rest _ _ _ (sym c.sound_state.ensures ∙ not-true _ c.if-not-sound_state.true)))
+returns-then-not-sound_state c = (refl, (omega arith, unsound_rest _ _ _ (sym c.sound_state.ensures ∙ c.if-not-sound_state.true)))
 
 pub used_of-u-requires : goal.used_of-u-requires
-used_of-u-requires c = lent_size _ _ (sym c.sound_state.ensures ∙ not-false _ c.if-not-sound_state.false)
+used_of-u-requires c = lent_size _ _ (sym c.sound_state.ensures ∙ c.if-not-sound_state.false)
 
 pub rest_trusted-requires : goal.rest_trusted-requires
 rest_trusted-requires c = let sound-state = c.sound_state in

@@ -1,4 +1,5 @@
 -- `failing::is_single` meets its contract. Assumes nothing.
+use borrow.Enum.Refused.{opened}
 use mathlib.Core.Path.{◌≡◌, refl, ◌∙◌}
 use mathlib.Core.Bool.{true}
 use mathlib.Core.List.{[], ◌∷◌}
@@ -19,4 +20,4 @@ returns-in-Apply c = λ st. c.not_multiple.ensures ∙ rw c.in-Apply.is refl
 
 pub returns-in_default : goal.returns-in_default
 unfolding is_single with_args
-returns-in_default c = other_shapes (1 ∷ 2 ∷ 4 ∷ 5 ∷ 6 ∷ []) (λ s. (st : State) → true ≡ is_single (with_args st (shape_of s))) tt (λ m t st. refl) (λ id a st. refl) tt (λ v st. refl) (λ st. refl) (λ st. refl) c.args.s c.in_default.keys3
+returns-in_default c = other_shapes (1 ∷ 2 ∷ 4 ∷ 5 ∷ 6 ∷ []) (λ s. (st : State) → true ≡ is_single (with_args st (shape_of s))) tt (λ m t st. refl) (λ id a st. refl) tt (λ v st. refl) (λ st. refl) (λ st. refl) c.args.s (opened c.in_default.in_default-own.keys3)

@@ -1,4 +1,5 @@
 -- `failing::not_multiple` meets its contract. Assumes nothing.
+use borrow.Enum.Refused.{opened}
 use mathlib.Core.Path.{◌≡◌, refl}
 use mathlib.Core.Bool.{true, not}
 use mathlib.Core.List.{[], ◌∷◌}
@@ -13,4 +14,4 @@ returns-in-Multiple c = rw c.in-Multiple.is refl
 
 pub returns-in_default : goal.returns-in_default
 unfolding is_multiple
-returns-in_default c = other_names (1 ∷ 2 ∷ []) (λ n. true ≡ not (is_multiple (name_of n))) tt (λ b. refl) (λ m. refl) c.args.n c.in_default.keys2
+returns-in_default c = other_names (1 ∷ 2 ∷ []) (λ n. true ≡ not (is_multiple (name_of n))) tt (λ b. refl) (λ m. refl) c.args.n (opened c.in_default.in_default-own.keys2)

@@ -1,4 +1,5 @@
 -- `reader::place_node` meets its contract. Assumes nothing.
+use borrow.Enum.Refused.{opened}
 use lib.Seq.{get_or-take}
 use native.Mathlib.Omega.{arith}
 use mathlib.Core.Path.{◌≡◌, refl, ap}
@@ -49,7 +50,7 @@ push_apply-requires c = let pre = c.requires in
     )
 
 pub push_node-requires-in_default : goal.push_node-requires-in_default
-push_node-requires-in_default c = (c.requires.0, bare-flat _ c.args.shape c.in_default.keys3)
+push_node-requires-in_default c = (c.requires.0, bare-flat _ c.args.shape (opened c.in_default.in_default-own.keys3))
 
 pub returns-in-Ref : goal.returns-in-Ref
 unfolding put_node
@@ -66,4 +67,4 @@ returns-in-Apply c = after_is (λ ds k. rw (c.in-Apply.is, c.if-over.false) refl
 pub returns-in_default : goal.returns-in_default
 returns-in_default c = let args = c.args in
     let if1 = c.if-over in
-    after_is (λ ds k. bare-put _ args.shape _ _ _ if1.false c.in_default.keys3) c.push_node-in_default.ensures
+    after_is (λ ds k. bare-put _ args.shape _ _ _ if1.false (opened c.in_default.in_default-own.keys3)) c.push_node-in_default.ensures

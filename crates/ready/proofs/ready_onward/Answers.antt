@@ -1,4 +1,5 @@
 -- `ready::ready_onward` meets its contract. Assumes nothing.
+use borrow.Enum.Refused.{opened}
 use Rattle.shapes.proofs.Parts.{no_var}
 use Rattle.ready.proofs.Run.{goes_plain, goes_open, goes_bound}
 use Rattle.ready.proofs.ready_onward.Goals as goal
@@ -13,4 +14,4 @@ returns-in-Just c = let chain_end = c.chain_end-last in
     goes_bound _ _ _ _ _ c.in-Var.is chain_end.ensures _ bound_at.ensures pre.0 _ c.in-Just.is
 
 pub returns-in_default : goal.returns-in_default
-returns-in_default c = goes_plain _ _ c.args.s _ (no_var c.args.s c.in_default.keys2) c.part_count.ensures
+returns-in_default c = goes_plain _ _ c.args.s _ (no_var c.args.s (opened c.in_default.in_default-own.keys2)) c.part_count.ensures

@@ -1,4 +1,5 @@
 -- `ready::rebuild` meets its contract. Assumes nothing.
+use borrow.Enum.Refused.{opened}
 use mathlib.Core.Path.{◌∙◌}
 use Rattle.ready.proofs.Eight.{all_eight}
 use Rattle.ready.proofs.Run.{ref_in, rebuilt_plain, anew_stays, anew_ref, anew_apply}
@@ -38,4 +39,4 @@ returns-in-Apply c = let pre = c.requires in
 pub returns-in_default : goal.returns-in_default
 returns-in_default c = let pre = c.requires in
     let node_at = c.node_at-n in
-    rw c.stays.ensures (anew_stays _ _ _ pre.0 pre.1.0 node_at.result node_at.ensures _ (rebuilt_plain node_at.result.shape c.in_default.keys3 _ _))
+    rw c.stays.ensures (anew_stays _ _ _ pre.0 pre.1.0 node_at.result node_at.ensures _ (rebuilt_plain node_at.result.shape (opened c.in_default.in_default-own.keys3) _ _))

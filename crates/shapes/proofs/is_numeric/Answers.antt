@@ -1,4 +1,5 @@
 -- `shapes::is_numeric` meets its contract. Assumes nothing.
+use borrow.Enum.Refused.{opened}
 use mathlib.Core.Path.{◌≡◌, refl, ◌∙◌}
 use mathlib.Core.Bool.{false}
 use mathlib.Core.List.{[], ◌∷◌}
@@ -12,4 +13,4 @@ returns-in-Builtin c = c.is_numeric.ensures ∙ rw c.in-Builtin.is refl
 
 pub returns-in_default : goal.returns-in_default
 unfolding is_numeric
-returns-in_default c = other_names (0 ∷ 2 ∷ []) (λ n. false ≡ is_numeric (name_of n)) (λ n. refl) tt (λ m. refl) c.args.n c.in_default.keys2
+returns-in_default c = other_names (0 ∷ 2 ∷ []) (λ n. false ≡ is_numeric (name_of n)) (λ n. refl) tt (λ m. refl) c.args.n (opened c.in_default.in_default-own.keys2)

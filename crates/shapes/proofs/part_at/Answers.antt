@@ -1,4 +1,5 @@
 -- `shapes::part_at` meets its contract. Assumes nothing.
+use borrow.Enum.Refused.{opened}
 use mathlib.Core.List.{List}
 use mathlib.Core.Path.{ap}
 use Prim.Native.Nat.{ℕ}
@@ -13,4 +14,4 @@ pub returns-in-Apply : goal.returns-in-Apply
 returns-in-Apply c = λ ds l. part_apply _ _ _ _ _ _ _ _ c.in-Apply.is l (c.arg_at.ensures ds)
 
 pub returns-in_default : goal.returns-in_default
-returns-in_default c = λ ds l. ap (λ (x : List ℕ). get_or x c.args.i 0) (no_parts c.args.s c.in_default.keys3 _)
+returns-in_default c = λ ds l. ap (λ (x : List ℕ). get_or x c.args.i 0) (no_parts c.args.s (opened c.in_default.in_default-own.keys3) _)

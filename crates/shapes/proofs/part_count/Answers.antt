@@ -1,4 +1,5 @@
 -- `shapes::part_count` meets its contract. Assumes nothing.
+use borrow.Enum.Refused.{opened}
 use mathlib.Core.Path.{◌≡◌, refl}
 use mathlib.Core.List.{[], ◌∷◌}
 use Rattle.table.specs.Rows.{places}
@@ -12,4 +13,4 @@ unfolding places
 returns-in-Apply c = rw c.in-Apply.is refl
 
 pub returns-in_default : goal.returns-in_default
-returns-in_default c = other_shapes (0 ∷ 2 ∷ 4 ∷ 5 ∷ 6 ∷ []) (λ s. 0 ≡ part_count (shape_of s)) refl tt (λ id a. refl) tt (λ v. refl) refl refl c.args.s c.in_default.keys3
+returns-in_default c = other_shapes (0 ∷ 2 ∷ 4 ∷ 5 ∷ 6 ∷ []) (λ s. 0 ≡ part_count (shape_of s)) refl tt (λ id a. refl) tt (λ v. refl) refl refl c.args.s (opened c.in_default.in_default-own.keys3)

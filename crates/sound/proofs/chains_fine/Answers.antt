@@ -16,7 +16,7 @@ pub chain_fine-requires : goal.chain_fine-requires
 chain_fine-requires c = (c.requires, c.loop-i.invariant.1)
 
 pub returns-then-not-chain_fine : goal.returns-then-not-chain_fine
-returns-then-not-chain_fine c = sym (one_fails _ _ c.loop-i.i (omega arith) (sym c.chain_fine.ensures.0 ∙ not-true _ c.if-not-chain_fine.true))
+returns-then-not-chain_fine c = sym (one_fails _ _ c.loop-i.i (omega arith) (sym c.chain_fine.ensures.0 ∙ c.if-not-chain_fine.true))
 
 pub overflow_add-i : goal.overflow_add-i
 overflow_add-i c = omega arith
@@ -25,7 +25,7 @@ pub loop-i-smaller : goal.loop-i-smaller
 loop-i-smaller c = omega arith
 
 pub loop-i-preserved : goal.loop-i-preserved
-loop-i-preserved c = (passed_more _ _ _ c.loop-i.invariant.0 (omega arith) (sym c.chain_fine.ensures.0 ∙ not-false _ c.if-not-chain_fine.false), c.chain_fine.ensures.1)
+loop-i-preserved c = (passed_more _ _ _ c.loop-i.invariant.0 (omega arith) (sym c.chain_fine.ensures.0 ∙ c.if-not-chain_fine.false), c.chain_fine.ensures.1)
 
 pub returns : goal.returns
 returns c = passed_all _ _ _ c.loop-i.invariant.0 (omega arith)

@@ -10,11 +10,11 @@ use Rattle.sound_rows.proofs.apply_fine.Goals as goal
 
 pub returns-then-not-mark_fine : goal.returns-then-not-mark_fine
 unfolding apply_fine
-returns-then-not-mark_fine c = sym (fails_l _ _ (fails_l _ _ (fails_l _ _ (fails_l _ _ (fails_l _ _ (sym c.mark_fine.ensures ∙ not-true _ c.if-not-mark_fine.true))))))
+returns-then-not-mark_fine c = sym (fails_l _ _ (fails_l _ _ (fails_l _ _ (fails_l _ _ (fails_l _ _ (sym c.mark_fine.ensures ∙ c.if-not-mark_fine.true))))))
 
 pub returns-then-not-name_fine : goal.returns-then-not-name_fine
 unfolding apply_fine
-returns-then-not-name_fine c = sym (fails_l _ _ (fails_l _ _ (fails_l _ _ (fails_l _ _ (fails_then _ _ (sym c.mark_fine.ensures ∙ not-false _ c.if-not-mark_fine.false) (sym c.name_fine.ensures ∙ not-true _ c.if-not-name_fine.true))))))
+returns-then-not-name_fine c = sym (fails_l _ _ (fails_l _ _ (fails_l _ _ (fails_l _ _ (fails_then _ _ (sym c.mark_fine.ensures ∙ c.if-not-mark_fine.false) (sym c.name_fine.ensures ∙ c.if-not-name_fine.true))))))
 
 pub returns-then-not-fits_fine : goal.returns-then-not-fits_fine
 unfolding apply_fine
@@ -28,10 +28,10 @@ returns-then-not-fits_fine c = let mark_fine = c.mark_fine in
     c.if-not-mark_fine.false)
     (sym c.name_fine.ensures ∙ not-false _
     c.if-not-name_fine.false))
-    (sym c.fits_fine.ensures ∙ not-true _ c.if-not-fits_fine.true)))))
+    (sym c.fits_fine.ensures ∙ c.if-not-fits_fine.true)))))
 
 pub args_fine-args-requires : goal.args_fine-args-requires
-args_fine-args-requires c = (search rules, name_small _ _ _ (omega arith) (sym c.name_fine.ensures ∙ not-false _ c.if-not-name_fine.false))
+args_fine-args-requires c = (search rules, name_small _ _ _ (omega arith) (sym c.name_fine.ensures ∙ c.if-not-name_fine.false))
 
 pub returns-then-d-args : goal.returns-then-d-args
 unfolding apply_fine
@@ -62,7 +62,7 @@ returns-then-used-first c = let mark_fine = c.mark_fine in
     (both _ _
     (both _ _ (sym mark_fine.ensures ∙ not-false _ if1.false)
     (sym name_fine.ensures ∙ not-false _ if2.false))
-    (sym fits_fine.ensures ∙ not-false _ c.if-not-fits_fine.false))
+    (sym fits_fine.ensures ∙ c.if-not-fits_fine.false))
     (eq-eqb _ _ (c.if-d-args.false ∙ c.args_fine-args.ensures)))
     (lt-leb _ _ c.if-used-first.true)))
 

@@ -19,7 +19,7 @@ returns-then-not-bytes_fine c = let args = c.args in
     sym (one_fails _ _ loop.i (omega arith)
     (sym (c.bytes_fine.ensures ∙ ap
     (λ (k : ℕ). all_below 8 (byte_fine (get_or args.t3 loop.i []) k))
-    c.params_at-many.ensures) ∙ not-true _ c.if-not-bytes_fine.true))
+    c.params_at-many.ensures) ∙ c.if-not-bytes_fine.true))
 
 pub overflow_add-i : goal.overflow_add-i
 overflow_add-i c = omega arith
@@ -34,7 +34,7 @@ loop-i-preserved c = let args = c.args in
     passed_more _ _ _ loop.invariant (omega arith)
     (sym (c.bytes_fine.ensures ∙ ap
     (λ (k : ℕ). all_below 8 (byte_fine (get_or args.t3 loop.i []) k))
-    c.params_at-many.ensures) ∙ not-false _ c.if-not-bytes_fine.false)
+    c.params_at-many.ensures) ∙ c.if-not-bytes_fine.false)
 
 pub returns : goal.returns
 unfolding bytes_fine

@@ -9,7 +9,7 @@ pub loop-i-init : goal.loop-i-init
 loop-i-init c = passed_none _ _
 
 pub returns-then-not-row_fine : goal.returns-then-not-row_fine
-returns-then-not-row_fine c = sym (one_fails _ _ c.loop-i.i (omega arith) (sym c.row_fine.ensures ∙ not-true _ c.if-not-row_fine.true))
+returns-then-not-row_fine c = sym (one_fails _ _ c.loop-i.i (omega arith) (sym c.row_fine.ensures ∙ c.if-not-row_fine.true))
 
 pub overflow_add-i : goal.overflow_add-i
 overflow_add-i c = omega arith
@@ -18,7 +18,7 @@ pub loop-i-smaller : goal.loop-i-smaller
 loop-i-smaller c = omega arith
 
 pub loop-i-preserved : goal.loop-i-preserved
-loop-i-preserved c = passed_more _ _ _ c.loop-i.invariant (omega arith) (sym c.row_fine.ensures ∙ not-false _ c.if-not-row_fine.false)
+loop-i-preserved c = passed_more _ _ _ c.loop-i.invariant (omega arith) (sym c.row_fine.ensures ∙ c.if-not-row_fine.false)
 
 pub returns : goal.returns
 returns c = passed_all _ _ _ c.loop-i.invariant (omega arith)

@@ -8,11 +8,11 @@ use Rattle.sound_tables.proofs.tails_fine.Goals as goal
 
 pub returns-then-not-zeros : goal.returns-then-not-zeros
 unfolding tails_fine
-returns-then-not-zeros c = sym (fails_l _ _ (fails_l _ _ (fails_l _ _ (fails_l _ _ (sym c.zeros.ensures ∙ not-true _ c.if-not-zeros.true)))))
+returns-then-not-zeros c = sym (fails_l _ _ (fails_l _ _ (fails_l _ _ (fails_l _ _ (sym c.zeros.ensures ∙ c.if-not-zeros.true)))))
 
 pub returns-then-not-zeros-2 : goal.returns-then-not-zeros-2
 unfolding tails_fine
-returns-then-not-zeros-2 c = sym (fails_l _ _ (fails_l _ _ (fails_l _ _ (fails_then _ _ (sym c.zeros.ensures ∙ not-false _ c.if-not-zeros.false) (sym c.zeros-2.ensures ∙ not-true _ c.if-not-zeros-2.true)))))
+returns-then-not-zeros-2 c = sym (fails_l _ _ (fails_l _ _ (fails_l _ _ (fails_then _ _ (sym c.zeros.ensures ∙ c.if-not-zeros.false) (sym c.zeros-2.ensures ∙ c.if-not-zeros-2.true)))))
 
 pub returns-then-not-zeros-3 : goal.returns-then-not-zeros-3
 unfolding tails_fine
@@ -24,7 +24,7 @@ returns-then-not-zeros-3 c = let zeros = c.zeros in
     (both _ _ (sym zeros.ensures ∙ not-false _ if1.false)
     (sym c.zeros-2.ensures ∙ not-false _
     c.if-not-zeros-2.false))
-    (sym c.zeros-3.ensures ∙ not-true _ c.if-not-zeros-3.true))))
+    (sym c.zeros-3.ensures ∙ c.if-not-zeros-3.true))))
 
 pub returns-then-not-zeros-4 : goal.returns-then-not-zeros-4
 unfolding tails_fine
@@ -39,7 +39,7 @@ returns-then-not-zeros-4 c = let zeros = c.zeros in
     (sym zeros2.ensures ∙ not-false _ if2.false))
     (sym c.zeros-3.ensures ∙ not-false _
     c.if-not-zeros-3.false))
-    (sym c.zeros-4.ensures ∙ not-true _ c.if-not-zeros-4.true)))
+    (sym c.zeros-4.ensures ∙ c.if-not-zeros-4.true)))
 
 pub returns : goal.returns
 unfolding tails_fine
@@ -55,4 +55,4 @@ returns c = let zeros = c.zeros in
     (both _ _ (sym zeros.ensures ∙ not-false _ if1.false)
     (sym zeros2.ensures ∙ not-false _ if2.false))
     (sym zeros3.ensures ∙ not-false _ if3.false))
-    (sym c.zeros-4.ensures ∙ not-false _ c.if-not-zeros-4.false))
+    (sym c.zeros-4.ensures ∙ c.if-not-zeros-4.false))
