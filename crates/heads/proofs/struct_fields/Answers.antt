@@ -15,7 +15,6 @@ unfolding read_args arity struct_tparams mark_fits is_numeric ◌>>=◌ go_on
 returns-in-Known c = let pre = c.requires in
     let read-numbers = c.read_numbers-r in
     let read_mark = c.read_mark-m in
-    let the-m = c.m-1 in
     λ s de.
     let r = read-numbers.ensures _ _ _ _ byte_wide u16_wide in
     let m = read_mark.ensures _ _ _ _ r.first in
@@ -25,13 +24,13 @@ returns-in-Known c = let pre = c.requires in
           rw (
             struct_is s part _ _,
             ← m.is,
-            the-m.given.1,
+            c.in-With.is,
             de.many,
             ← n.is,
             c.in-Known.is,
             (c.struct_at-row.ensures s.structs de).1,
           ) refl;
-      within = (n.within, arity_fits _ _ _ _ pre.0.1 (c.struct_at-row.ensures _ (declares_self _ _)).1);
+      within = (n.within, arity_fits _ _ _ _ pre.lay.1 (c.struct_at-row.ensures _ (declares_self _ _)).1);
     }
 
 pub returns-in-Cut : goal.returns-in-Cut

@@ -17,18 +17,16 @@ returns-in-Last c = let node_at = c.node_at-n in
 pub returns-in-Nothing : goal.returns-in-Nothing
 returns-in-Nothing c = let node_at = c.node_at-n in
     let as_var = c.as_var in
-    let v = c.v-1 in
     λ ds. c.is_num_var.ensures ds ∙ num_open _ _ _
-    (var_of _ _ node_at.result as_var.result (node_at.ensures ds) as_var.ensures ∙ ap next v.given.1)
+    (var_of _ _ node_at.result as_var.result (node_at.ensures ds) as_var.ensures ∙ ap next c.in-To.is)
     _ (c.forward_tvar-last.ensures ds)
     (sym (c.bound_at.ensures ds) ∙ ap found c.in-Nothing.is)
 
 pub returns-in-Just : goal.returns-in-Just
 returns-in-Just c = let node_at = c.node_at-n in
     let as_var = c.as_var in
-    let v = c.v-1 in
     let forward_tvar = c.forward_tvar-last in
     λ ds. c.num_node.ensures ds ∙ num_bound _ _ _
-    (var_of _ _ node_at.result as_var.result (node_at.ensures ds) as_var.ensures ∙ ap next v.given.1)
+    (var_of _ _ node_at.result as_var.result (node_at.ensures ds) as_var.ensures ∙ ap next c.in-To.is)
     _ _ (forward_tvar.ensures ds)
     (sym (c.bound_at.ensures ds) ∙ ap found c.in-Just.is)

@@ -1,12 +1,14 @@
 -- `subst::join_bind_tvar` meets its contract. Assumes nothing.
+use mathlib.Core.Path.{ap}
+use mathlib.Core.Bool.{not}
 use Rattle.subst.proofs.Laws.{binds_failed, binds_used, binds_anything, binds_stored}
 use Rattle.subst.proofs.join_bind_tvar.Goals as goal
 
 pub returns-then-not-check_num_tvar : goal.returns-then-not-check_num_tvar
-returns-then-not-check_num_tvar c = binds_failed _ _ _ _ c.requires.0 _ c.check_num_tvar.ensures c.if-not-check_num_tvar.true
+returns-then-not-check_num_tvar c = binds_failed _ _ _ _ c.requires.0 _ c.check_num_tvar.ensures (ap not c.if-not-check_num_tvar.true)
 
 pub returns-then-used_tvars : goal.returns-then-used_tvars
-returns-then-used_tvars c = binds_used _ _ _ _ _ c.check_num_tvar.ensures c.if-not-check_num_tvar.false c.requires.0 _ c.used_tvars.ensures c.if-used_tvars.true
+returns-then-used_tvars c = binds_used _ _ _ _ _ c.check_num_tvar.ensures (ap not c.if-not-check_num_tvar.false) c.requires.0 _ c.used_tvars.ensures c.if-used_tvars.true
 
 pub returns-then-is_anything : goal.returns-then-is_anything
 returns-then-is_anything c = let pre = c.requires in
