@@ -125,8 +125,12 @@ module _ {ar : TypeName → ℕ} (join : JoinImpl) (g : Judges ar join) (c : Typ
   types_to : (ls rs : List ℕ) (S : State) (Ls Rs : MoveTypes) → Sound ar S → Denote S ls Ls → Denote S rs Rs → length ls ≡ length rs → ComesTo (Give ar c S Ls Rs) (Aparts c Ls Rs) (join_impl_types join S c ls rs)
   unfolding join_impl_types
   types_to [] [] S no_types no_types s are_none are_none e = succeeds (record { sound = s; quiet = quiet_refl S; types = no_types; are = are_none; the_bests = bests_none })
+  types_to [] [] S no_types (◌and◌ R Rs) s d d' e = elim d' [ ]
+  types_to [] [] S (◌and◌ L Ls) Rs s d d' e = elim d [ ]
   types_to [] (r ∷ rs) S Ls Rs s d d' e = absurd (omega arith)
   types_to (l ∷ ls) [] S Ls Rs s d d' e = absurd (omega arith)
+  types_to (l ∷ ls) (r ∷ rs) S no_types Rs s d d' e = elim d [ ]
+  types_to (l ∷ ls) (r ∷ rs) S (◌and◌ L Ls) no_types s d d' e = elim d' [ ]
   types_to (l ∷ ls) (r ∷ rs) S (◌and◌ L Ls) (◌and◌ R Rs) s (are_each d ds) (are_each d' ds') e =
       bind_to _ (g c S l r L R s d d') aparts_first (λ S1 t j.
       bind_to _ (types_to ls rs S1 Ls Rs j.sound (denote_keep ds j.quiet) (denote_keep ds' j.quiet) (omega arith)) aparts_rest (λ S2 ts k. succeeds (record {

@@ -10,7 +10,7 @@ use native.Mathlib.Decide.{ℕ_discrete}
 use native.Mathlib.Omega.{arith}
 use lib.Dec.{eqb}
 use lib.ListN.{length, get_or, get_or-eq_default}
-use Rattle.definition.specs.Types.{TypeName, Multiple, Builtin, ModuleType, AbilityMark, TypeValue, UnitType, Ref, Param, Apply, Var, Anything, UnresolvedError, Cell, unbound, State, max_nodes, max_vars, max_depth, full, Result, ok, refused, ◌>>=◌, if◌then◌else◌}
+use Rattle.definition.specs.Types.{TypeName, Multiple, Builtin, ModuleType, AbilityMark, TypeValue, UnitType, Ref, Param, Apply, Var, Anything, UnresolvedError, Cell, unbound, State, max_nodes, max_vars, max_depth, full, Result, ok, err, refused, ◌>>=◌, if◌then◌else◌}
 use Rattle.definition.specs.Store.{any_of, count, taken, type_at, spanned, get, num_loc, with_constraints, sp}
 use Rattle.definition.specs.Subst.{parts, as_var, forward, forward_tvar, unfold_var, unfold_type}
 use Rattle.definition.specs.Join.{integers, is_numeric, join}
@@ -29,7 +29,7 @@ use Rattle.theorems.proofs.LawsPost.{Grown, grown_refl}
 use Rattle.theorems.proofs.DemandCalls.{sp_post, var_ok}
 use Rattle.theorems.proofs.DemandMain.{eq_of, join_impl_good}
 use Rattle.theorems.proofs.SolveHindered.{solve_cases}
-use Rattle.theorems.proofs.DemandWent.{Went, went_refl, went_trans, went_quiet, quiet_list, sound_cleared, PostS, ps_ok, ps_refused, bind_postS}
+use Rattle.theorems.proofs.DemandWent.{Went, went_refl, went_trans, went_quiet, quiet_list, sound_cleared, PostS, ps_ok, ps_err, ps_refused, bind_postS}
 use Rattle.theorems.proofs.DemandRuns.{Declared, declared_on, Below, below_on, num_vars_below, u64_ok, defaults_went}
 use Rattle.theorems.proofs.SoundFacts.{facts}
 use Rattle.theorems.proofs.Soundness.{sound_is}
@@ -167,6 +167,7 @@ module _ {ar : TypeName → ℕ} {S : State} (s : Sound ar S) (w loc v : ℕ) (w
     where
       go : {m : Result State} → PostS ar S (Decided ar S w loc) m → Sure (CalmAt S (forward_tvar S w)) m → Sure (Turned ar S w v) m
       go (ps_ok g p) (sure_ok o) = sure_ok (turned f g p o)
+      go (ps_err g p) s = elim s [ ]
       go ps_refused sure_refused = sure_refused
 
 -- ---- all of them
@@ -262,6 +263,7 @@ module _ (S : State) (h : sound S ≡ true) where
     where
       go : (m : Result State) → Takes S (5 * numeric S) (2 * numeric S) (λ s. s) (λ s. Unit {0}) m → (m >>= rest) ≡ refused full → ⊥
       go (ok S') (takes_ok t u) e = solve_cases S' (λ m. m ≡ refused full → ⊥) (λ d. never (cc)) (λ d. never (cc)) (λ d. never (cc)) e
+      go (err s x) t e = elim t [ ]
       go (refused y) (takes_full f) e = f (record { nodes_left = a; vars_left = b; places_fit = ((sound_is S).0 h).few_args })
 
   literal_by : (k : AbilityMark) (n : TypeName) (v : ℕ) → v < taken S → Sure (λ S'. Sound (arity S) S' × (taken S ≤ taken S') × Is S' v (Apply k n [])) (default_num_vars S (num_vars 0 S.vars))
@@ -271,6 +273,7 @@ module _ (S : State) (h : sound S ≡ true) where
     where
       go : (m : Result State) → Sure (λ S'. Sound (arity S) S' × (taken S ≤ taken S') × Is S' v (Apply k n [])) m → Takes S (5 * numeric S) (2 * numeric S) (λ s. s) (λ s. Unit {0}) m → LiteralRule v (Apply k n []) (m >>= rest)
       go (ok S') (sure_ok p) t = solve_cases S' (LiteralRule v (Apply k n [])) (λ loc. unfolds_leaf p.0 k n v loc (omega (arith, v_in, p.1)) p.2) sv_itself sv_contradicted
+      go (err s x) p t = elim p [ ]
       go (refused x) p (takes_full f) = sv_full
 
   pub literal : (v loc : ℕ) → num_loc S v ≡ some loc → get S (forward_tvar S v) ≡ none → LiteralRule v (Apply (some 7) (Builtin 3) []) (solve_constraints S)

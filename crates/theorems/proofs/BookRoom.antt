@@ -82,7 +82,10 @@ module _ {ar : TypeName → ℕ} (counts : Counts ar) {d : ℕ} (h : Rooms ar d)
       → FineWith (Costs S (sizes Ls) (many Ls)) (join_impl_types J S c ls rs)
   unfolding join_impl_types
   types_room [] rs S no_types Rs s are_none ds e n p v = f_ok {s = S} {b = []} (record { nodes = omega arith; places = omega arith; few = omega arith })
+  types_room [] rs S (◌and◌ L Ls) Rs s es ds e n p v = elim es [ ]
   types_room (l ∷ ls) [] S Ls Rs s es ds e n p v = absurd (omega arith)
+  types_room (l ∷ ls) (r ∷ rs) S no_types Rs s es ds q n p v = elim es [ ]
+  types_room (l ∷ ls) (r ∷ rs) S (◌and◌ L Ls) no_types s es ds q n p v = elim ds [ ]
   types_room (l ∷ ls) (r ∷ rs) S (◌and◌ L Ls) (◌and◌ R Rs) s (are_each e es) (are_each e' es') q n p (each_level v vs) =
       f_bind _ (g c S l r L R s e e') (h c S l r L R s e e' (record { nodes_left = omega arith; places_left = omega arith; levels = v })) (λ S1 t j k.
       f_then _ (types_room ls rs S1 Ls Rs j.sound (denote_keep es j.quiet) (denote_keep es' j.quiet) (omega arith) (omega (arith, k.nodes)) (omega (arith, k.places)) vs) (λ S2 ts w.

@@ -225,7 +225,7 @@ module _ {c : TypingCase} where
   pub best_parameter : {id : ℕ} → Best c (parameter id) (parameter id) (parameter id)
   best_parameter {id} = record { serves = s_parameter; best = λ U s. go s }
     where
-      go : {U : MoveType} → Serves c (parameter id) (parameter id) U → DeepSubtype (parameter id) U
+      go : {i j : ℕ} {U : MoveType} → Serves c (parameter i) (parameter j) U → DeepSubtype (parameter i) U
       go s_parameter = parameters
 
   pub best_reference : {m1 m2 m : Bool} {L R T : MoveType} → ServesMut c m1 m2 m → ((m' : Bool) → ServesMut c m1 m2 m' → MutAs m m') → Best c L R T → Best c (reference m1 L) (reference m2 R) (reference m T)
@@ -243,7 +243,7 @@ module _ {c : TypingCase} where
   pub best_named : {n : TypeName} {Ls Rs Ts : MoveTypes} → Bests c Ls Rs Ts → Best c (named n Ls) (named n Rs) (named n Ts)
   best_named {n} {Ls} {Rs} {Ts} b = record { serves = s_named b.serve; best = λ U s. go s }
     where
-      go : {U : MoveType} → Serves c (named n Ls) (named n Rs) U → DeepSubtype (named n Ts) U
+      go : {m : TypeName} {U : MoveType} → Serves c (named n Ls) (named m Rs) U → DeepSubtype (named n Ts) U
       go (s_named {Ts = Us} r) = in_arguments (b.bests Us r)
 
   pub bests_none : Bests c no_types no_types no_types

@@ -116,6 +116,7 @@ module _ {E : Type 0} where
       go : (m : Result State) → PostS ar S (Went ar S) m → Sure (CalmAt S (forward_tvar S v)) m → ((S' : State) → Sound ar S' → Declared ar S' → Below (taken S') l → (E → NoneReachesItself S') → AllFair E (default_num_vars_calls S' l))
           → AllFair E (elim m [ ok s ↦ default_num_vars_calls s l | err s e ↦ [] | refused x ↦ [] ])
       go (ok S') (ps_ok g w) (sure_ok c) f = f S' w.sound (declared_on d g) (below_on w.above.more_vars l h.1) (λ x. c.calm.none_still (z x))
+      go (err s x) p c f = elim c [ ]
       go (refused x) p c f = none_fair
 
   -- ---- a record, where none reaches itself before it or in the state that it leaves

@@ -29,11 +29,13 @@ two_types_made c S t1 t2 = first (build t1 S) (no_place t1 S)
     second : (l : ℕ) (m : Result (State × ℕ)) → NoErr m → OneJoin (m >>= λ (y : State × ℕ). join_impl max_depth y.0 c l y.1 >>= λ (x : State × ℕ). ok (x.0, write x.0 x.1))
         (if_reached (m >>= λ (y : State × ℕ). ok (record { before = y.0; case = c; lhs = l; rhs = y.1 } ∷ [])))
     second l (ok (s, r)) e = joined (record { before = s; case = c; lhs = l; rhs = r })
+    second l (err s x) e = elim e [ ]
     second l (refused x) e = not_placed
 
     first : (m : Result (State × ℕ)) → NoErr m → OneJoin (m >>= λ (z : State × ℕ). build t2 z.0 >>= λ (y : State × ℕ). join_impl max_depth y.0 c z.1 y.1 >>= λ (x : State × ℕ). ok (x.0, write x.0 x.1))
         (if_reached (m >>= λ (z : State × ℕ). build t2 z.0 >>= λ (y : State × ℕ). ok (record { before = y.0; case = c; lhs = z.1; rhs = y.1 } ∷ [])))
     first (ok (s, l)) e = second l (build t2 s) (no_place t2 s)
+    first (err s x) e = elim e [ ]
     first (refused x) e = not_placed
 
 pub JN_calls : (s : State) (t1 t2 : Tree) → OneJoin (run s (JN t1 t2)) (run_calls s (JN t1 t2))
@@ -58,11 +60,13 @@ num_made S v loc = go (undecided _)
     second : (l : ℕ) (m : Result (State × ℕ)) → NoErr m → Default S (m >>= λ (y : State × ℕ). join y.0 l y.1 >>= λ (x : State × ℕ). ok x.0)
         (if_reached (m >>= λ (y : State × ℕ). ok (record { before = y.0; case = Join; lhs = l; rhs = y.1 } ∷ [])))
     second l (ok (s, r)) e = defaulted (record { before = s; case = Join; lhs = l; rhs = r })
+    second l (err s x) e = elim e [ ]
     second l (refused x) e = no_room
 
     first : (m : Result (State × ℕ)) → NoErr m → Default S (m >>= λ (z : State × ℕ). sp z.0 loc (Var v) >>= λ (y : State × ℕ). join y.0 z.1 y.1 >>= λ (x : State × ℕ). ok x.0)
         (if_reached (m >>= λ (z : State × ℕ). sp z.0 loc (Var v) >>= λ (y : State × ℕ). ok (record { before = y.0; case = Join; lhs = z.1; rhs = y.1 } ∷ [])))
     first (ok (s, l)) e = second l (sp s loc (Var v)) (no_sp s loc (Var v))
+    first (err s x) e = elim e [ ]
     first (refused x) e = no_room
 
     go : (b : Bool) → Default S (elim b [

@@ -12,7 +12,7 @@ use Rattle.definition.specs.Needs.{Needs}
 use Rattle.theorems.proofs.Laws.{count_with_node, taken_with_node, taken_with_var, taken_insert}
 use Rattle.theorems.proofs.DemandTracks.{never}
 use Rattle.theorems.proofs.SoundRoom.{Room, room, no_room}
-use Rattle.theorems.proofs.LawsPost.{Grown, Post, p_ok, p_refused}
+use Rattle.theorems.proofs.LawsPost.{Grown, Post, p_ok, p_err, p_refused}
 use Rattle.theorems.proofs.TotalNoFail.{Sure, sure_ok, sure_refused}
 
 abbrev pub four : ℕ → ℕ → ℕ → ℕ → Needs
@@ -155,6 +155,7 @@ module _ {A : Type 0} {after : A → State} {P : A → Type 0} where
 pub exact_post : {B : Type 0} {ar : TypeName → ℕ} {S : State} {n : Needs} {P : State → B → Type 0} {Q R : State × B → Type 0} {m : Result (State × B)} → Post ar S P m → ExactAnd S n Q m
     → ((s : State) (b : B) → Grown S s → P s b → Q (s, b) → R (s, b)) → ExactAnd S n R m
 exact_post (p_ok g p) (exact_ok t q) f = exact_ok t (f _ _ g p q)
+exact_post (p_err g p) e f = elim e [ ]
 exact_post p_refused (exact_full h) f = exact_full h
 
 -- `?`: if the sum does not fit, the first does not, or the rest does not after it

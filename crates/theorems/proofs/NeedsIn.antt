@@ -248,9 +248,11 @@ module _ (ar : TypeName → ℕ) where
   no_args : MapAt no_trees
   unfolding map_types made_all
   no_args n S [] s d i j hold_none = exact_ok (more_none S) opens_none
+  no_args n S (x ∷ xs) s d i j h = elim h [ ]
 
   then_args : (t : Tree) (ts : Trees) → InstAt t → MapAt ts → MapAt (◌then◌ t ts)
   unfolding map_types made_all
+  then_args t ts f fs n S [] s d i j h = elim h [ ]
   then_args t ts f fs n S (x ∷ xs) s d i j (hold_then h hs) = exact_as (
       exact_bind _ (inst_full t f n S x s d i.0 j.0 h) (λ A a.
       let z = a.0.steady in

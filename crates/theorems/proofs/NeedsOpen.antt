@@ -2,7 +2,7 @@
 -- By the tree that stands at a node: what comes before the variable takes exactly so much, or 7 is given (NeedsIn); at the variable 11 is.
 use mathlib.Core.Path.{◌≡◌, refl}
 use mathlib.Core.Bool.{Bool, true}
-use mathlib.Core.List.{List, ◌∷◌}
+use mathlib.Core.List.{List, [], ◌∷◌}
 use mathlib.Core.Option.{Option}
 use Prim.Native.Nat.{ℕ, zero, suc, ◌<◌}
 use native.Mathlib.Omega.{arith}
@@ -78,6 +78,7 @@ module _ (ar : TypeName → ℕ) (vars : ℕ) where
 
   then_stop : (t : Tree) (ts : Trees) → Stops t → AllStop ts → AllStop (◌then◌ t ts)
   unfolding map_types
+  then_stop t ts stops all (fine_then f fs) v n S [] s d i j h = elim h [ ]
   then_stop t ts stops all (fine_then f fs) v n S (x ∷ xs) s d i j (hold_then h hs) = go (needs_told t)
     where
       later : (VarIn t → ⊥) → VarsIn (◌then◌ t ts) → VarsIn ts

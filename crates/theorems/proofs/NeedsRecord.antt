@@ -197,6 +197,7 @@ module _ (s : State) (h : sound s ≡ true) where
       of_reading malformed five d = omega arith
       of_reading unknown_name six d = omega arith
       of_reading doubled_reference eighteen d = omega arith
+      of_reading x t d = elim t [ ]
 
       go : {a b : Answer} → Foretells s a b → b.number ≢ 14
       go (unread x r p q) d = of_reading x r (ap (λ (a : Answer). a.number) (sym q) ∙ d)

@@ -7,7 +7,7 @@ use mathlib.Core.List.{List, [], ◌∷◌, Memᴰ}
 use mathlib.Core.Option.{Option, none, some}
 use Prim.Native.Nat.{ℕ, ◌<◌}
 use native.Mathlib.Omega.{arith}
-use Rattle.definition.specs.Types.{TypeName, Constraint, AbilityConstraint, NumericConstraint, BitsConstraint, OrderedConstraint, BaseTypeConstraint, SingleTypeConstraint, State, Refusal, full, runs_into_itself, mark_contradicted, Result, ok, refused, ◌>>=◌, if◌then◌else◌}
+use Rattle.definition.specs.Types.{TypeName, Constraint, AbilityConstraint, NumericConstraint, BitsConstraint, OrderedConstraint, BaseTypeConstraint, SingleTypeConstraint, State, Refusal, full, runs_into_itself, mark_contradicted, Result, ok, err, refused, ◌>>=◌, if◌then◌else◌}
 use Rattle.definition.specs.Store.{count, taken, type_at, spanned, with_constraints, any_of}
 use Rattle.definition.specs.Subst.{unfold_type, reaches_itself}
 use Rattle.definition.specs.Abilities.{has, infer_abilities, contradicted, rule}
@@ -200,6 +200,7 @@ module _ (S : State) (sd : sound S ≡ true) where
 
       there : {a b : ℕ} (m : Result State) → default_num_vars S (num_vars 0 S.vars) ≡ m → PostS (arity S) S (Went (arity S) S) m → Takes S a b (λ s. s) (λ s. Unit {0}) m → (m >>= λ (s : State). solve_all s) ≡ refused x → Stops S P
       there (ok s) d (ps_ok g w) t e = record { left = s; numeric = d; at = found w.sound x (P s) (h s w.sound) s.constraints w.sound.constraints_on.on ((all_is s x).0 e) }
+      there (err s e) d p t q = elim t [ ]
       there (refused y) d p (takes_full f) e = absurd (n (let z : full ≡ x = cc in z))
 
       sound_left : {m : Result State} {s : State} → PostS (arity S) S (Went (arity S) S) m → m ≡ ok s → Sound (arity S) s

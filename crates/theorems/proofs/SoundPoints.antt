@@ -45,6 +45,7 @@ goes_back s (TS ps t) substitutes =
     bind _ (pairs_run ⊥ s true ps (λ h. absurd h) s (λ h. absurd h)) (λ x i. bind _ (place_run ⊥ s true t (λ h. absurd h) x.0 i)
     (λ r j. bind _ (make_run ⊥ s true x.1) (λ subst p. bind _ (subst_run ⊥ s true refl _ subst r.0 j r.1) (λ y k. e_ok refl))))
 goes_back s (RM t) tells = tell_back s (needs t)
+goes_back s x l = elim l [ ]
 
 with_back : (s after : State) (payload : Bytes) → after ≡ s → (answer_with s 0 payload after).state ≡ s
 unfolding answer_with refusal

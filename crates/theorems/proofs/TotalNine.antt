@@ -81,11 +81,13 @@ module _ {ar : TypeName → ℕ} where
       where
         second : (S1 : State) (u : ℕ) → Added ar S S1 → u < count S1 → (m : Result (State × List ℕ)) → ReadsOn ar S1 (length ts) m → ReadsOn ar S (suc (length ts)) (m >>= (λ (x : State × List ℕ). ok (x.0, u ∷ x.1)))
         second S1 u a1 i (ok (S2, us)) (ons a2 js e) = ons {ts = u ∷ us} (added_trans a1 a2) (omega (arith, a2.quiet.q_nodes), js) (ap suc e)
+        second S1 u a1 i (err s x) r = elim r [ ]
         second S1 u a1 i (refused x) (offs d) = offs d
 
         first : (m : Result (State × ℕ)) → ReadOn ar S m → ((S1 : State) → Added ar S S1 → ReadsOn ar S1 (length ts) (map_types f S1 ts))
             → ReadsOn ar S (suc (length ts)) (m >>= (λ (x : State × ℕ). map_types f x.0 ts >>= (λ (y : State × List ℕ). ok (y.0, x.1 ∷ y.1))))
         first (ok (S1, u)) (on a1 i) k = second S1 u a1 i (map_types f S1 ts) (k S1 a1)
+        first (err s x) r k = elim r [ ]
         first (refused x) (off d) k = offs d
 
     -- one level: a type that is no variable, whose parts end in n levels
@@ -164,6 +166,7 @@ ready_nine S h t i = (there (reaches_itself S t) refl, λ l. back ((reaches_is_r
   where
     other : (m : Result (State × ℕ)) → ReadOn (arity S) S m → m ≡ refused runs_into_itself → ⊥
     other (ok x) (on a j) e = never (cc)
+    other (err s x) r e = elim r [ ]
     other (refused x) (off d) e = d (cc)
 
     there : (b : Bool) → reaches_itself S t ≡ b → ◌≡◌ {A = Result (State × ℕ)} (elim b [ true ↦ refused runs_into_itself | false ↦ ready (2 * count S) S t ]) (refused runs_into_itself) → RunsIntoItself S (type_at S t)

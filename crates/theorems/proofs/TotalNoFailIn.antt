@@ -27,7 +27,7 @@ use Rattle.theorems.proofs.DemandTracks.{never, here, ends_det, solid, nonvar_va
 use Rattle.theorems.proofs.DemandOrder.{All, All_map, Sound, chain}
 use Rattle.theorems.proofs.DemandSteps.{NodeOk, quiet_node, sound_node, quiet_var, sound_var}
 use Rattle.theorems.proofs.SoundRoom.{with_room, sp_room, tvar_room, constraint_room}
-use Rattle.theorems.proofs.LawsPost.{Grown, grown_refl, grown_trans, Post, p_ok, p_refused}
+use Rattle.theorems.proofs.LawsPost.{Grown, grown_refl, grown_trans, Post, p_ok, p_err, p_refused}
 use Rattle.theorems.proofs.DemandCalls.{quiet_grown, NewNode, new_node, var_ok}
 use Rattle.theorems.proofs.DemandWent.{any_ok, ref_ok, quiet_list, sound_added}
 use Rattle.theorems.proofs.DemandRuns.{Declared, declared_on, tvar_on, instantiate_down_went}
@@ -282,6 +282,7 @@ pub record ArgsJoined (ar : TypeName → ℕ) (S : State) (a : ℕ) (r : State �
 
 both : {B : Type 0} {ar : TypeName → ℕ} {S : State} {P : State → B → Type 0} {Q R : State × B → Type 0} {m : Result (State × B)} → Post ar S P m → Sure Q m → ((s : State) (b : B) → Grown S s → P s b → Q (s, b) → R (s, b)) → Sure R m
 both (p_ok g p) (sure_ok q) f = sure_ok (f _ _ g p q)
+both (p_err g p) s f = elim s [ ]
 both p_refused sure_refused f = sure_refused
 
 -- what the joins of the pairs take

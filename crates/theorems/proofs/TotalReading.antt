@@ -56,14 +56,17 @@ module _ (f g : ℕ → ReadType) (P Q : ℕ → Type 0) (h : (p q : ℕ) → Ra
   list_below : (ps qs : List ℕ) → Ranks (read_all f ps) (read_all g qs) → All Q qs → All P ps
   unfolding read_all
   list_below [] qs rs ws = tt
+  list_below (p ∷ ps) [] rs ws = elim rs [ ]
   list_below (p ∷ ps) (q ∷ qs) (each r rs) ws = (h p q r ws.0, list_below ps qs rs ws.1)
 
   shape_below : (L R : TypeValue) → Rank (read_shape f L) (read_shape g R) → All Q (parts R) → All P (parts L)
   unfolding read_shape parts
   shape_below UnitType R r ws = tt
   shape_below (Ref m p) (Ref m' q) (references l r) ws = (h p q r ws.0, tt)
+  shape_below (Ref m p) R r ws = elim r [ ]
   shape_below (Param id a) R r ws = tt
   shape_below (Apply k n ps) (Apply k' n' qs) (same_named rs) ws = list_below ps qs rs ws
+  shape_below (Apply k n ps) R r ws = elim r [ ]
   shape_below (Var v) R r ws = tt
   shape_below Anything R r ws = tt
   shape_below UnresolvedError R r ws = tt
@@ -238,11 +241,11 @@ mutual
       let n = a.0 + b.0 in
       (n, λ p i. elim (mathlib.Core.List.Memᴰ.cases_cons i) [ inl e ↦ subst (λ (x : ℕ). Ended S n (type_at S x)) (sym e) (ended_more a.1 n (omega arith)) | inr j ↦ ended_more (b.1 p j) n (omega arith) ])
 
-meets_ended : {S : State} {n v : ℕ} {L : TypeValue} → Meets S v L → Ended S n L → Ended S n (Var v)
+meets_ended : {S : State} {v n : ℕ} {L : TypeValue} → Meets S v L → Ended S n L → Ended S n (Var v)
 unfolding parts
 meets_ended meets_it d = d
 meets_ended (meets_bound g m) (e_open g') = never (cc)
-meets_ended {S} (meets_bound {t = t} g m) (e_bound {n = n} {t = t'} g' d) = let e : t' ≡ t = cc in ended_more (meets_ended m (subst (λ (x : ℕ). Ended S n (type_at S x)) e d)) (suc n) (omega arith)
+meets_ended {S} (meets_bound {t = t} g m) (e_bound {n = n} {t = t'} g' d) = let e : t' ≡ t = cc in ended_more (meets_ended {n = n} m (subst (λ (x : ℕ). Ended S n (type_at S x)) e d)) (suc n) (omega arith)
 meets_ended (meets_bound {w = w} g m) (e_plain e f) = nonvar_var {v = w} e refl
 meets_ended (meets_part i m) (e_open g) = absurd (mathlib.Core.List.Memᴰ.not-nil i)
 meets_ended (meets_part i m) (e_bound g d) = absurd (mathlib.Core.List.Memᴰ.not-nil i)
