@@ -1,6 +1,5 @@
 -- `limits::takes_on` meets its contract. Assumes nothing.
 use mathlib.Core.Path.{sym, ◌∙◌}
-use borrow.Author.Tests.{not-true, not-false}
 use Rattle.limits.proofs.Laws.{takes_none, takes_little, takes_last}
 use Rattle.limits.proofs.takes_on.Goals as goal
 
