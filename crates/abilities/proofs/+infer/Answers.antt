@@ -3,26 +3,26 @@ use Rattle.abilities.proofs.Sets.{some_left, walk_none, inferred_known, walk_par
 use Rattle.abilities.proofs.+infer.Goals as goal
 
 pub bounds-sets-at : goal.bounds-sets-at
-bounds-sets-at t c = omega (arith, c.wide-at.ensures, c.requires.0.1.0, c.requires.0.0.nodes, c.requires.0.1.1.1.size)
+bounds-sets-at t c = omega (arith, c.wide-at.ensures, c.requires.lay.1.0, c.requires.lay.0.nodes, c.requires.lay.1.1.1.size)
 
 pub returns-then-sets-at-ge256 : goal.returns-then-sets-at-ge256
-returns-then-sets-at-ge256 t c = inferred_known _ _ _ _ _ c.requires.0.1.1.1 (rw c.wide-at.ensures at c.if-sets-at-ge256.true)
+returns-then-sets-at-ge256 t c = inferred_known _ _ _ _ _ c.requires.lay.1.1.1 (rw c.wide-at.ensures at c.if-sets-at-ge256.true)
 
 pub goes_on-s-requires : goal.goes_on-s-requires
 goes_on-s-requires t c = let pre = c.requires in
-    ((pre.0.0, pre.0.1.0), pre)
+    ((pre.lay.0, pre.lay.1.0), pre)
 
 pub keep_set-requires : goal.keep_set-requires
 keep_set-requires t c = let pre = c.requires in
-    let h = walk_none _ _ _ _ _ _ _ _ pre.0.0 pre.0.1.0 pre.0.1.1.0 c.goes_on-s.ensures c.part_count-many.ensures pre.0.1.1.1 in
-    ((pre.0.0, (pre.0.1.0, (pre.0.1.1.1, walk_parts h (omega arith)))), pre)
+    let h = walk_none _ _ _ _ _ _ _ _ pre.lay.0 pre.lay.1.0 pre.lay.1.1.0 c.goes_on-s.ensures c.part_count-many.ensures pre.lay.1.1.1 in
+    ((pre.lay.0, (pre.lay.1.0, (pre.lay.1.1.1, walk_parts h (omega arith)))), pre)
 
 pub returns-then-many-eq0 : goal.returns-then-many-eq0
 returns-then-many-eq0 t c = c.keep_set.ensures
 
 pub loop-i-init : goal.loop-i-init
-loop-i-init t c = let pre = c.requires.0 in
-    walk_none _ _ _ _ _ _ _ _ pre.0 pre.1.0 pre.1.1.0 c.goes_on-s.ensures c.part_count-many.ensures pre.1.1.1
+loop-i-init t c = let pre = c.requires.lay in
+    walk_none _ _ _ _ _ _ _ _ pre.lay pre.ends_known.0 pre.ends_known.1.0 c.goes_on-s.ensures c.part_count-many.ensures pre.ends_known.1.1
 
 pub part_at-p-requires : goal.part_at-p-requires
 part_at-p-requires t c = c.loop-i.invariant.lay
@@ -36,7 +36,7 @@ infer-requires t c = let h = c.loop-i.invariant in
     let part = c.part_at-p.ensures in
     let l = some_left _ _ _ _ h.ends in
     let pre = c.requires in
-    (omega (arith, l, c.decreases), ((h.lay, (walk_part h more _ part, (walk_ends h more _ part, h.kept))), pre.1))
+    (omega (arith, l, c.decreases), ((h.lay, (walk_part h more _ part, (walk_ends h more _ part, h.kept))), pre.ends_known))
 
 pub overflow_add-i : goal.overflow_add-i
 overflow_add-i t c = omega arith
@@ -49,7 +49,7 @@ loop-i-preserved t c = walk_more c.loop-i.invariant c.loop-i-test.true _ c.part_
 
 pub keep_set-requires-2 : goal.keep_set-requires-2
 keep_set-requires-2 t c = let h = c.loop-i.invariant in
-    ((h.lay, (h.in_nodes, (h.kept, walk_parts h c.loop-i-test.false))), c.requires.1)
+    ((h.lay, (h.in_nodes, (h.kept, walk_parts h c.loop-i-test.false))), c.requires.ends_known)
 
 pub returns : goal.returns
 returns t c = walk_done c.loop-i.invariant _ c.keep_set-2.ensures

@@ -4,18 +4,14 @@ use Rattle.abilities.proofs.Hindered.{ends_of, hindered_nine, hindered_sixteen, 
 use Rattle.abilities.proofs.ability_hinders.Goals as goal
 
 pub returns-then-n-eq0 : goal.returns-then-n-eq0
-returns-then-n-eq0 c = (c.levels-n.ensures.1, hindered_nine c.levels-n.ensures.0 _ _ _ c.if-n-eq0.true c.requires.0.1.1.1)
+returns-then-n-eq0 c = (c.levels-n.ensures.1, hindered_nine c.levels-n.ensures.0 _ _ _ c.if-n-eq0.true c.requires.lay.1.1.1)
 
 pub infer-requires : goal.infer-requires
-infer-requires c = let levels = c.levels-n in (
-  (c.requires.0.0, (c.requires.0.1.0, (ends_of levels.ensures.0 c.if-n-eq0.false, c.requires.0.1.1.1))),
-  c.requires.1,
-)
+infer-requires c = let levels = c.levels-n in record { lay = (c.requires.lay.0, (c.requires.lay.1.0, (ends_of levels.ensures.0 c.if-n-eq0.false, c.requires.lay.1.1.1))); ends_known = c.requires.ends_known }
 
 pub any_contradicts-requires : goal.any_contradicts-requires
 any_contradicts-requires c = let pre = c.requires in
-    let infer = c.infer in
-    ((pre.0.0, (pre.0.1.0, (infer.ensures.kept, infer.ensures.here))), pre.1)
+    let infer = c.infer in record { lay = (pre.lay.0, (pre.lay.1.0, (infer.ensures.kept, infer.ensures.here))); ends_known = pre.ends_known }
 
 pub returns-then-any_contradicts : goal.returns-then-any_contradicts
 returns-then-any_contradicts c = (

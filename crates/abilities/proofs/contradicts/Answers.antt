@@ -1,4 +1,5 @@
 -- `abilities::contradicts` meets its contract. Assumes nothing.
+use mathlib.Core.Bool.{not}
 use mathlib.Core.Path.{ap, ◌∙◌}
 use Rattle.definition.specs.Abilities.{rule}
 use Rattle.definition.specs.Constraints.{is_contradicted}
@@ -11,7 +12,7 @@ is_missing-requires c = let pre = c.requires in
     (pre.0, (pre.1.0, (pre.1.1.0, pre.1.1.1.1)))
 
 pub returns-then-not-is_missing : goal.returns-then-not-is_missing
-returns-then-not-is_missing c = λ ds k. and_not _ _ _ (c.is_missing.ensures ds k) c.if-not-is_missing.true
+returns-then-not-is_missing c = λ ds k. and_not _ _ _ (c.is_missing.ensures ds k) (ap not c.if-not-is_missing.true)
 
 pub shape_rule-r-requires : goal.shape_rule-r-requires
 shape_rule-r-requires c = let pre = c.requires in
@@ -22,4 +23,4 @@ pub returns : goal.returns
 returns c = let pre = c.requires in
     let missing = c.is_missing.ensures in
     let why = c.shape_rule-r.ensures.1 in
-    λ ds k. and_so _ _ (missing ds k) c.if-not-is_missing.false _ _ (c.is_contradicted.ensures ∙ ap is_contradicted (why ds k ∙ ap (rule _ _) (pre.1.1.1.0.value ds)))
+    λ ds k. and_so _ _ (missing ds k) (ap not c.if-not-is_missing.false) _ _ (c.is_contradicted.ensures ∙ ap is_contradicted (why ds k ∙ ap (rule _ _) (pre.1.1.1.0.value ds)))

@@ -10,7 +10,7 @@ pub slice_bounds-first_hindrance-end : goal.slice_bounds-first_hindrance-end
 slice_bounds-first_hindrance-end c = sym c.note_ends.ensures.1
 
 pub first_hindrance-requires : goal.first_hindrance-requires
-first_hindrance-requires c = (c.requires, c.note_ends.ensures.0)
+first_hindrance-requires c = record { lay = c.requires; ends_known = c.note_ends.ensures.0 }
 
 pub returns : goal.returns
 returns c = c.first_hindrance.ensures

@@ -7,13 +7,11 @@ use Rattle.answer.proofs.answer_of.Goals as goal
 
 pub succeed-requires : goal.succeed-requires
 succeed-requires c = let p = c.requires in
-    let e = c.in-Done.is in
-    (p.0, ((rw e at p.1.0.0, ((rw e at p.1.0.1.0) tt, p.1.0.1.1)), p.1.1 _ e))
+    let e = c.in-Done.is in record { lay = p.lay; shows = (rw e at p.tells.0, ((rw e at p.tells.1.0) tt, p.tells.1.1)); still = p.by_index _ e }
 
 pub fail-requires : goal.fail-requires
 fail-requires c = let p = c.requires in
-    let e = c.in-Failed.is in
-    (p.0, (rw e at p.1.0.0, ((rw e at p.1.0.1.0) tt, p.1.0.1.1)))
+    let e = c.in-Failed.is in record { lay = p.lay; types_in = (rw e at p.tells.0, ((rw e at p.tells.1.0) tt, p.tells.1.1)) }
 
 pub returns-in-Done : goal.returns-in-Done
 returns-in-Done c = let r = c.args.ran in

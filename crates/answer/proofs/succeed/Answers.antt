@@ -16,11 +16,7 @@ returns-then-size-gt-MAX_PAYLOAD c = let args = c.args in
 pub write_shown-len-requires : goal.write_shown-len-requires
 write_shown-len-requires c = let args = c.args in
     let pre = c.requires in
-    let shown-size = c.shown_size-size in (
-      (pre.0.0, (pre.1.0.0, pre.1.0.1)),
-      success_fits args.w.now args.u args.before args.saved.now args.buf.now args.kept
-          args.show args.t shown-size.result shown-size.ensures c.if-size-gt-MAX_PAYLOAD.false,
-    )
+    let shown-size = c.shown_size-size in record { lay = (pre.lay.0, (pre.shows.0, pre.shows.1)); ds_len_bound = success_fits args.w.now args.u args.before args.saved.now args.buf.now args.kept args.show args.t shown-size.result shown-size.ensures c.if-size-gt-MAX_PAYLOAD.false }
 
 pub returns-then-kept : goal.returns-then-kept
 returns-then-kept c = let args = c.args in
@@ -30,10 +26,10 @@ returns-then-kept c = let args = c.args in
     rw c.as_left.ensures
     (success_kept args.w.now args.u args.before args.saved.now args.buf.now args.kept args.show
     args.t shown-size.result shown-size.ensures _ _ if1.false
-    c.write_shown-len.ensures c.if-kept.true pre.0.0)
+    c.write_shown-len.ensures c.if-kept.true pre.lay.0)
 
 pub give_back-requires : goal.give_back-requires
-give_back-requires c = (sized_on _ refl c.requires.0.0, c.requires.0.1.0)
+give_back-requires c = (sized_on _ refl c.requires.lay.0, c.requires.lay.1.0)
 
 pub returns : goal.returns
 returns c = let args = c.args in
@@ -46,4 +42,4 @@ returns c = let args = c.args in
     (success_back args.w.now args.u args.before args.saved.now args.buf.now args.kept
     args.show args.t shown-size.result shown-size.ensures _ _ if1.false write-shown.ensures
     _ if2.false
-    (given_back _ _ _ _ _ pre.0.0 (pre.1.1 if2.false) c.give_back.ensures))
+    (given_back _ _ _ _ _ pre.lay.0 (pre.still if2.false) c.give_back.ensures))

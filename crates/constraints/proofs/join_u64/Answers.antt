@@ -10,20 +10,18 @@ returns-in_default c = u64_full _ _ _ _ _ _ _ c.push_apply-a.ensures c.done_of.e
 pub returns-in_default-done_of : goal.returns-in_default-done_of
 returns-in_default-done_of c = let push-apply = c.push_apply-a in
     let done-of = c.done_of in
-    let u64- = c.u64_-1 in
     let push-node = c.push_node-b in
-    tvar_full _ _ _ _ _ _ _ push-apply.ensures done-of.ensures _ u64-.given.1 _ _ _ push-node.ensures
+    tvar_full _ _ _ _ _ _ _ push-apply.ensures done-of.ensures _ c.in-Just.is _ _ _ push-node.ensures
     c.done_of-2.ensures c.in_default-done_of.is
 
 pub join-requires : goal.join-requires
 join-requires c = let push-apply = c.push_apply-a in
     let done-of = c.done_of in
-    let u64- = c.u64_-1 in
     let push-node = c.push_node-b in (
       push-node.ensures.changed.lay,
       (
         still_in _ _ _ _ _ push-node.ensures.changed.grown
-            (node_in _ push-apply.result.out _ _ push-apply.ensures.inside done-of.ensures u64-.given.1),
+            (node_in _ push-apply.result.out _ _ push-apply.ensures.inside done-of.ensures c.in-Just.is),
         node_in _ push-node.result.out _ _ push-node.ensures.inside
             c.done_of-2.ensures c.in-Just-done_of.is,
       ),
@@ -32,9 +30,7 @@ join-requires c = let push-apply = c.push_apply-a in
 pub returns : goal.returns
 returns c = let push-apply = c.push_apply-a in
     let done-of = c.done_of in
-    let u64- = c.u64_-1 in
     let push-node = c.push_node-b in
     let done-of2 = c.done_of-2 in
-    let tvar = c.tvar-1 in
-    u64_joined _ _ _ _ _ _ _ push-apply.ensures done-of.ensures _ u64-.given.1 _ _ _ push-node.ensures
-    done-of2.ensures _ tvar.given.1 _ _ c.join.ensures
+    u64_joined _ _ _ _ _ _ _ push-apply.ensures done-of.ensures _ c.in-Just.is _ _ _ push-node.ensures
+    done-of2.ensures _ c.in-Just-done_of.is _ _ c.join.ensures

@@ -1,4 +1,6 @@
 -- `constraints::lack_of` meets its contract. Assumes nothing.
+use mathlib.Core.Bool.{not}
+use mathlib.Core.Path.{ap}
 use Rattle.abilities.proofs.Sets.{kept_ready}
 use Rattle.constraints.proofs.Lacks.{is_false, is_true, lack_not, node_goes, node_lacks, to_anything}
 use Rattle.constraints.proofs.lack_of.Goals as goal
@@ -8,7 +10,7 @@ is_missing-requires c = let pre = c.requires in
     (pre.0, (pre.1.0, (pre.1.1.0.some_bit, pre.1.1.1)))
 
 pub returns-then-not-is_missing : goal.returns-then-not-is_missing
-returns-then-not-is_missing c = record { is = λ ds k. lack_not _ _ _ _ _ _ (c.is_missing.ensures ds k) (is_false _ c.if-not-is_missing.true); inside = tt }
+returns-then-not-is_missing c = record { is = λ ds k. lack_not _ _ _ _ _ _ (c.is_missing.ensures ds k) (is_false _ (ap not c.if-not-is_missing.true)); inside = tt }
 
 pub shape_rule-r-requires : goal.shape_rule-r-requires
 shape_rule-r-requires c = let pre = c.requires in
@@ -26,7 +28,7 @@ returns-in-Node c = let pre = c.requires in
     let unfolds = c.unfold_type.ensures in
     let goes = node_goes _ _ c.unfold_type.result _ unfolds _ to pre.0 c.node_at-n.result c.node_at-n.ensures in
     let missing = c.is_missing.ensures in
-    let is-missing = is_true _ c.if-not-is_missing.false in
+    let is-missing = is_true _ (ap not c.if-not-is_missing.false) in
     node_lacks _ _ c.unfold_type.result _ unfolds _ to _ _ _ _ _ missing is-missing _ goes c.shape_rule-r.result c.shape_rule-r.ensures.1 c.by_rule.result c.by_rule.ensures
 
 pub returns-in-Anything : goal.returns-in-Anything

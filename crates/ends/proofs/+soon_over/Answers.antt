@@ -15,7 +15,7 @@ pub overflow_sub-rest : goal.overflow_sub-rest
 overflow_sub-rest t c = let z = c.if-budget-eq0.false in omega arith
 
 pub loop-i-init : goal.loop-i-init
-loop-i-init t c = few_none _ _ _ _ _ _ c.requires.0.0 c.if-left-eq0.false c.goes_on-shape.ensures c.part_count-many.ensures
+loop-i-init t c = few_none _ _ _ _ _ _ c.requires.lay.0 c.if-left-eq0.false c.goes_on-shape.ensures c.part_count-many.ensures
 
 pub part_at-p-requires : goal.part_at-p-requires
 part_at-p-requires t c = c.loop-i.invariant.lay
@@ -27,7 +27,7 @@ pub soon_over-rest-requires : goal.soon_over-rest-requires
 soon_over-rest-requires t c = let f = goes_part c.loop-i.invariant.goes c.loop-i.invariant.many_is _ c.loop-i-test.true c.part_at-p.ensures in
     let l = c.loop-i.invariant.some_left in
     let pre = c.requires in
-    (omega (arith, l, c.decreases), ((c.loop-i.invariant.lay, f), pre.1))
+    (omega (arith, l, c.decreases), ((c.loop-i.invariant.lay, f), pre.ends_known))
 
 pub returns-then-rest-eq0 : goal.returns-then-rest-eq0
 returns-then-rest-eq0 t c = soon_none _ _ _ _

@@ -4,8 +4,7 @@ use Rattle.ends.proofs.Itself.{measured_none, reaches_is}
 use Rattle.ends.proofs.never_over.Goals as goal
 
 pub levels-n-requires : goal.levels-n-requires
-levels-n-requires c = let pre = c.requires in
-    ((pre.0.0, (pre.0.1, (omega arith, measured_none _ _))), pre.1)
+levels-n-requires c = let pre = c.requires in record { lay = (pre.lay.0, (pre.lay.1, (omega arith, measured_none _ _))); ends_known = pre.ends_known }
 
 pub returns : goal.returns
 returns c = reaches_is _ _ _ _ c.levels-n.ensures.0

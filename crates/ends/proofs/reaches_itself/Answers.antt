@@ -13,7 +13,7 @@ pub slice_bounds-never_over-end : goal.slice_bounds-never_over-end
 slice_bounds-never_over-end c = sym c.note_ends.ensures.1
 
 pub never_over-requires : goal.never_over-requires
-never_over-requires c = (c.requires, c.note_ends.ensures.0)
+never_over-requires c = record { lay = c.requires; ends_known = c.note_ends.ensures.0 }
 
 pub returns : goal.returns
 returns c = c.never_over.ensures

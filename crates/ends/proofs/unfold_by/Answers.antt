@@ -3,7 +3,7 @@ use Rattle.subst.proofs.Unfold.{unfolds_plain, unfolds_var}
 use Rattle.ends.proofs.unfold_by.Goals as goal
 
 pub returns-in-Last : goal.returns-in-Last
-returns-in-Last c = unfolds_plain _ _ _ c.node_at-n.result c.node_at-n.ensures _ c.as_var.ensures c.requires.0.1 c.in-Last.is
+returns-in-Last c = unfolds_plain _ _ _ c.node_at-n.result c.node_at-n.ensures _ c.as_var.ensures c.requires.lay.1 c.in-Last.is
 
 pub returns-in-To : goal.returns-in-To
 returns-in-To c = let as_var = c.as_var in

@@ -29,16 +29,7 @@ slice_bounds-step_trusted-end-in-loop-at c = sym c.loop-at.invariant.1.0
 pub step_trusted-r-requires : goal.step_trusted-r-requires
 step_trusted-r-requires c = let args = c.args in
     let shared-slice-known = c.shared_slice_known-1 in
-    let loop = c.loop-at in (
-      (
-        loop.invariant.1.1.stands,
-        (
-          bytes_of args.stream.now shared-slice-known.given,
-          (loop.invariant.1.1.within, (omega (arith, loop.invariant.0.0), omega (arith, loop.invariant.1.0))),
-        ),
-      ),
-      loop.invariant.0.1,
-    )
+    let loop = c.loop-at in record { stands = (loop.invariant.1.1.stands, (bytes_of args.stream.now shared-slice-known.given, (loop.invariant.1.1.within, (omega (arith, loop.invariant.0.0), omega (arith, loop.invariant.1.0))))); saved_partly = loop.invariant.0.1 }
 
 pub slice_bounds-write_line-end : goal.slice_bounds-write_line-end
 slice_bounds-write_line-end c = sym (c.step_trusted-r.auto.1.1.1.1.1.1.1.1.0 ∙ c.loop-at.invariant.1.0)
@@ -51,9 +42,9 @@ write_line-n-requires c = let args = c.args in
     let takes_on = c.takes_on in
     let if1 = c.if-not-takes_on in
     let step-trusted = c.step_trusted-r in (
-      omega (arith, step-trusted.ensures.0.few, step-trusted.auto.1.1.1.1.1.1.1.1.0, loop.invariant.1.0),
+      omega (arith, step-trusted.ensures.steps.few, step-trusted.auto.1.1.1.1.1.1.1.1.0, loop.invariant.1.0),
       line_room loop.invariant.1.1 (bytes_of args.stream.now shared-slice-known.given) loop-test.true
-          (taken_on loop.invariant.1.1 takes_on.ensures (not-false _ if1.false)) step-trusted.ensures.0,
+          (taken_on loop.invariant.1.1 takes_on.ensures (if1.false)) step-trusted.ensures.steps,
     )
 
 pub overflow_add-i : goal.overflow_add-i
@@ -62,7 +53,7 @@ overflow_add-i c = let loop = c.loop-at in
     let if1 = c.if-not-takes_on in
     record {
       fits =
-          omega (arith, (takes_room _ _ _ _ (taken_on loop.invariant.1.1 takes_on.ensures (not-false _ if1.false))).1);
+          omega (arith, (takes_room _ _ _ _ (taken_on loop.invariant.1.1 takes_on.ensures (if1.false))).1);
     }
 
 pub returns-then-ends_job : goal.returns-then-ends_job
@@ -76,7 +67,7 @@ returns-then-ends_job c = let args = c.args in
     let write-line = c.write_line-n in
     rw c.lines_at-then-ends_job.ensures
     (going_last loop.invariant.1.1 (bytes_of args.stream.now shared-slice-known.given) loop-test.true
-    (taken_on loop.invariant.1.1 takes_on.ensures (not-false _ if1.false)) step-trusted.ensures.0
+    (taken_on loop.invariant.1.1 takes_on.ensures (if1.false)) step-trusted.ensures.steps
     (sym c.ends_job.ensures ∙ c.if-ends_job.true) write-line.ensures)
 
 pub loop-at-smaller : goal.loop-at-smaller
@@ -90,9 +81,9 @@ loop-at-smaller c = let args = c.args in
     omega (
       arith,
       going_less loop.invariant.1.1 (bytes_of args.stream.now shared-slice-known.given) loop-test.true
-          (taken_on loop.invariant.1.1 takes_on.ensures (not-false _ if1.false)) step-trusted.ensures.0
+          (taken_on loop.invariant.1.1 takes_on.ensures (if1.false)) step-trusted.ensures.steps
           (sym c.ends_job.ensures ∙ c.if-ends_job.false),
-      step-trusted.ensures.0.within,
+      step-trusted.ensures.steps.within,
     )
 
 pub loop-at-preserved : goal.loop-at-preserved
@@ -104,11 +95,11 @@ loop-at-preserved c = let args = c.args in
     let if1 = c.if-not-takes_on in
     let step-trusted = c.step_trusted-r in
     let write-line = c.write_line-n in (
-      (step-trusted.auto.1.1.1.1.1.1.1.0 ∙ loop.invariant.0.0, step-trusted.ensures.1),
+      (step-trusted.auto.1.1.1.1.1.1.1.0 ∙ loop.invariant.0.0, step-trusted.ensures.saved_partly_2),
       (
         step-trusted.auto.1.1.1.1.1.1.1.1.0 ∙ loop.invariant.1.0,
         going_on loop.invariant.1.1 (bytes_of args.stream.now shared-slice-known.given) loop-test.true
-            (taken_on loop.invariant.1.1 takes_on.ensures (not-false _ if1.false)) step-trusted.ensures.0
+            (taken_on loop.invariant.1.1 takes_on.ensures (if1.false)) step-trusted.ensures.steps
             (sym c.ends_job.ensures ∙ c.if-ends_job.false) write-line.ensures,
       ),
     )

@@ -15,7 +15,7 @@ pub rest_trusted-requires : goal.rest_trusted-requires
 rest_trusted-requires c = let sound-state = c.sound_state in
     let if1 = c.if-not-sound_state in
     let used_of = c.used_of-u in (
-      stands_lent _ _ (sym sound-state.ensures ∙ not-false _ if1.false) _ used_of.ensures,
+      stands_lent _ _ (sym sound-state.ensures ∙ if1.false) _ used_of.ensures,
       (used_of.ensures, omega arith),
     )
 
@@ -27,7 +27,7 @@ returns c = let sound-state = c.sound_state in
       rest-trusted.ensures.0,
       (
         rest-trusted.ensures.1.0,
-        sound_rest _ _ (sym sound-state.ensures ∙ not-false _ if1.false) _ used_of.ensures _ _
+        sound_rest _ _ (sym sound-state.ensures ∙ if1.false) _ used_of.ensures _ _
             rest-trusted.ensures.1.1,
       ),
     )

@@ -11,5 +11,4 @@ last : (l after : List ℕ) (n left : ℕ) → drop n l ≡ after → length l -
 last l after n left e h = ap (λ (k : ℕ). drop k l) h ∙ e
 
 pub returns : goal.returns
-returns c = let e = c.rest_size-n.ensures in
-    (e.0, (omega arith, last _ _ c.rest_size-n.result _ e.1.1 (omega arith)))
+returns c = let e = c.rest_size-n.ensures in record { state_unchanged = e.0; rest_bound = omega arith; stream_after = last _ _ c.rest_size-n.result _ e.1.1 (omega arith) }

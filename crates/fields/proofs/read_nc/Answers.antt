@@ -8,8 +8,7 @@ use Rattle.fields.proofs.read_nc.Goals as goal
 
 pub read_type-t-requires : goal.read_type-t-requires
 read_type-t-requires c = let p = c.requires in
-    let r = c.read_numbers-r.ensures _ _ _ _ u32_wide byte_wide in
-    (p.0, (p.1.0, (r.second.within, p.1.1.1)))
+    let r = c.read_numbers-r.ensures _ _ _ _ u32_wide byte_wide in record { lay = p.lay; end_in_bounds = (p.end_in_bounds.0, (r.second.within, p.end_in_bounds.1.1)) }
 
 pub returns-in-Got-k : goal.returns-in-Got-k
 returns-in-Got-k c = let r = c.read_numbers-r.ensures _ _ _ _ u32_wide byte_wide in
@@ -23,10 +22,10 @@ unfolding read_three read_kind read_one ◌>>=◌ go_on
 returns-in-Missing-k c = let p = c.requires in
     let r = c.read_numbers-r.ensures _ _ _ _ u32_wide byte_wide in
     let k = c.byte_to-k.ensures _ _ _ _ r.second in
-    rw c.plain.ensures (malformed_is _ _ _ _ _ _ _ p.0.0 p.1.1.0 (λ s ds h. rw (← r.first.is, c.in-Got.is, ← k.is, c.in-Missing-k.is) refl))
+    rw c.plain.ensures (malformed_is _ _ _ _ _ _ _ p.lay.0 p.end_in_bounds.1.0 (λ s ds h. rw (← r.first.is, c.in-Got.is, ← k.is, c.in-Missing-k.is) refl))
 
 pub returns-in-Missing : goal.returns-in-Missing
 unfolding read_three read_kind read_one ◌>>=◌ go_on
 returns-in-Missing c = let p = c.requires in
     let r = c.read_numbers-r.ensures _ _ _ _ u32_wide byte_wide in
-    rw c.plain-in-Missing.ensures (malformed_is _ _ _ _ _ _ _ p.0.0 p.1.1.0 (λ s ds h. rw (← r.first.is, c.in-Missing.is) refl))
+    rw c.plain-in-Missing.ensures (malformed_is _ _ _ _ _ _ _ p.lay.0 p.end_in_bounds.1.0 (λ s ds h. rw (← r.first.is, c.in-Missing.is) refl))

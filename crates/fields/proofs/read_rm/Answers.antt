@@ -5,4 +5,4 @@ use Rattle.fields.proofs.read_rm.Goals as goal
 
 pub returns : goal.returns
 returns c = let p = c.requires in
-    rw (c.plain.ensures, c.whole_of.ensures) (rm_is _ _ _ _ _ _ _ _ refl p.0.0 p.1.1.0 c.count_type-r.ensures)
+    rw (c.plain.ensures, c.whole_of.ensures) (rm_is _ _ _ _ _ _ _ _ refl p.lay.0 p.end_in_bounds.1.0 c.count_type-r.ensures)

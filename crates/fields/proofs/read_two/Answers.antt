@@ -10,8 +10,7 @@ returns-then-stops c = let e = sym c.stops.ensures ∙ c.if-stops.true in
 
 pub read_type-q-requires : goal.read_type-q-requires
 read_type-q-requires c = let p = c.requires in
-    let r = c.read_type-r.ensures in
-    ((r.lay, subst Arities (sym r.structs) p.0.1), (p.1.0, (r.within, p.1.1.1)))
+    let r = c.read_type-r.ensures in record { lay = (r.lay, subst Arities (sym r.structs) p.lay.1); end_in_bounds = (p.end_in_bounds.0, (r.within, p.end_in_bounds.1.1)) }
 
 pub returns : goal.returns
 returns c = let r = c.read_type-r.ensures in

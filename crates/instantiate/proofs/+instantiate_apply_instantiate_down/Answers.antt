@@ -34,13 +34,12 @@ pub returns-in_default-done_of : goal.returns-in_default-done_of
 returns-in_default-done_of t c = let pre = c.requires in
     let make_tparams = c.make_tparams-b in
     let done-of = c.done_of in
-    let enum_told = c.enum_told-1 in
     let loop = c.loop-i in
     let if1 = c.loop-i-test in
     let arg_at = c.arg_at-t in
     let instantiate_down = c.instantiate_down-a in
     apply_then _ _ _ _ _ _ _ _ _ pre.1.placed _ make_tparams.result _ make_tparams.ensures done-of.ensures
-    _ _ _ enum_told.given.1
+    _ _ _ c.in-Var.is
     (through_stop loop.invariant if1.true arg_at.ensures
     (after_among (known_kept _ _ _ _ _ loop.invariant.walked.changed.structs) instantiate_down.ensures) c.done_of-in-loop-i.ensures c.in_default-done_of.is)
 
@@ -67,10 +66,9 @@ pub returns : goal.returns
 returns t c = let pre = c.requires in
     let make_tparams = c.make_tparams-b in
     let done-of = c.done_of in
-    let enum_told = c.enum_told-1 in
     let loop = c.loop-i in
     apply_then _ _ _ _ _ _ _ _ _ pre.1.placed _ make_tparams.result _ make_tparams.ensures done-of.ensures
-    _ _ _ enum_told.given.1 (through_end loop.invariant c.loop-i-test.false (after_any c.join_args.ensures))
+    _ _ _ c.in-Var.is (through_end loop.invariant c.loop-i-test.false (after_any c.join_args.ensures))
 
 pub returns-then-left-eq0 : goal.returns-then-left-eq0
 returns-then-left-eq0 t c = level_none levels _ _ _ _ c.requires.0 c.if-left-eq0.true c.stay.ensures
@@ -80,23 +78,21 @@ unfolding with_args
 returns-in_default t c = let pre = c.requires in
     let node_at = c.node_at-node in
     let if1 = c.if-left-eq0 in
-    let shape = c.shape-1 in
     let push-constraint = c.push_constraint-b in
-    level_by levels _ _ _ _ pre.0 node_at.result if1.false node_at.ensures shape.given.1 (λ ds. ref_is _ _ _ _ _ _)
+    level_by levels _ _ _ _ pre.0 node_at.result if1.false node_at.ensures c.in-Ref.is (λ ds. ref_is _ _ _ _ _ _)
     (after_any (constraint_stop _ _ _ _ _ _ _ push-constraint.ensures c.done_of.ensures c.in_default.is))
 
 pub instantiate_down-a-requires : goal.instantiate_down-a-requires
 instantiate_down-a-requires t c = let pre = c.requires in
     let if1 = c.if-left-eq0 in
     let push-constraint = c.push_constraint-b in
-    let node_at = c.node_at-node in
-    let shape = c.shape-1 in (
+    let node_at = c.node_at-node in (
       omega (arith, c.decreases, if1.false),
       (
         push-constraint.ensures.lay,
         omega (
           arith,
-          ref_below _ _ _ _ pre.0 pre.1 node_at.ensures _ _ shape.given.1,
+          ref_below _ _ _ _ pre.0 pre.1 node_at.ensures _ _ c.in-Ref.is,
           pre.1,
           nodes_grow _ _ _ _ push-constraint.ensures.grown,
         ),
@@ -108,13 +104,11 @@ unfolding with_args
 returns-in_default-done_of t c = let pre = c.requires in
     let node_at = c.node_at-node in
     let if1 = c.if-left-eq0 in
-    let shape = c.shape-1 in
     let push-constraint = c.push_constraint-b in
     let done-of = c.done_of in
-    let enum-told3 = c.enum_told-in-Just-1 in
     let instantiate_down = c.instantiate_down-a in
-    level_by levels _ _ _ _ pre.0 node_at.result if1.false node_at.ensures shape.given.1 (λ ds. ref_is _ _ _ _ _ _)
-    (constraint_on _ _ push-constraint.ensures done-of.ensures enum-told3.given.1
+    level_by levels _ _ _ _ pre.0 node_at.result if1.false node_at.ensures c.in-Ref.is (λ ds. ref_is _ _ _ _ _ _)
+    (constraint_on _ _ push-constraint.ensures done-of.ensures c.in-Just.is
     (ref_stop _ _ instantiate_down.ensures c.done_of-in-Ref.ensures c.in_default-done_of.is))
 
 pub push_node-requires : goal.push_node-requires
@@ -153,21 +147,17 @@ unfolding with_args
 returns-in-Just-done_of t c = let pre = c.requires in
     let node_at = c.node_at-node in
     let if1 = c.if-left-eq0 in
-    let shape = c.shape-1 in
     let push-constraint = c.push_constraint-b in
     let done-of = c.done_of in
-    let enum-told3 = c.enum_told-in-Just-1 in
     let instantiate_down = c.instantiate_down-a in
     let done-of2 = c.done_of-in-Ref in
-    let p = c.p-1 in
-    level_by levels _ _ _ _ pre.0 node_at.result if1.false node_at.ensures shape.given.1 (λ ds. ref_is _ _ _ _ _ _)
-    (constraint_on _ _ push-constraint.ensures done-of.ensures enum-told3.given.1
-    (ref_then _ _ instantiate_down.ensures done-of2.ensures p.given.1 c.push_node.ensures))
+    level_by levels _ _ _ _ pre.0 node_at.result if1.false node_at.ensures c.in-Ref.is (λ ds. ref_is _ _ _ _ _ _)
+    (constraint_on _ _ push-constraint.ensures done-of.ensures c.in-Just.is
+    (ref_then _ _ instantiate_down.ensures done-of2.ensures c.in-Just-done_of.is c.push_node.ensures))
 
 pub returns-in-Apply : goal.returns-in-Apply
 unfolding instantiate_value with_args seen with_structs args_at
 returns-in-Apply t c = let pre = c.requires in
     let node_at = c.node_at-node in
     let if1 = c.if-left-eq0 in
-    let shape2 = c.shape-in-Apply-1 in
-    level_by levels _ _ _ _ pre.0 node_at.result if1.false node_at.ensures shape2.given.1 (λ ds. refl) c.instantiate_apply.ensures
+    level_by levels _ _ _ _ pre.0 node_at.result if1.false node_at.ensures c.in-Apply.is (λ ds. refl) c.instantiate_apply.ensures

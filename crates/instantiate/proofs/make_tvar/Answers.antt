@@ -13,6 +13,5 @@ tvar-id-requires c = let take-var = c.take_var-a in
 pub returns : goal.returns
 returns c = let take-var = c.take_var-a in
     let done-of = c.done_of in
-    let x = c.x-1 in
-    tvar_node _ _ _ _ _ _ _ _ _ _ take-var.ensures.0 done-of.ensures x.given.1
+    tvar_node _ _ _ _ _ _ _ _ _ _ take-var.ensures.0 done-of.ensures c.in-Just.is
     c.tvar-id.ensures c.push_node.ensures

@@ -104,16 +104,14 @@ pub returns-in-Rhs : goal.returns-in-Rhs
 returns-in-Rhs t c = settled_after c.settled-in-Rhs.ensures (arm_right (chosen t c.NOSTEP_before) c.in-Rhs.is)
 
 pub returns-in-Refs : goal.returns-in-Refs
-returns-in-Refs t c = let side = c.side-1 in
-    let pick-loc = c.pick_loc-loc in
+returns-in-Refs t c = let pick-loc = c.pick_loc-loc in
     let join_impl = c.join_impl-a in
-    arm_refs (chosen t back) side.given.1 pick-loc.ensures join_impl.ensures
+    arm_refs (chosen t back) c.in-Refs.is pick-loc.ensures join_impl.ensures
     c.push_ref.ensures
 
 pub returns-in-Applies : goal.returns-in-Applies
-returns-in-Applies t c = let t1 = c.t1-1 in
-    let join_impl_types = c.join_impl_types-a in
-    arm_applies (chosen t back) t1.given.1 join_impl_types.ensures c.push_types.ensures
+returns-in-Applies t c = let join_impl_types = c.join_impl_types-a in
+    arm_applies (chosen t back) c.in-Applies.is join_impl_types.ensures c.push_types.ensures
 
 pub returns-in-Vars : goal.returns-in-Vars
 returns-in-Vars t c = arm_vars (chosen t c.NOSTEP_before) c.in-Vars.is c.join_tvar.ensures
@@ -122,22 +120,17 @@ pub returns-in-Is : goal.returns-in-Is
 returns-in-Is t c = left_is (chosen t c.NOSTEP_before) c.in-VarLhs.is c.meet_tvar.ensures c.in-Is.is
 
 pub returns-in-Merge : goal.returns-in-Merge
-returns-in-Merge t c = let id = c.id-1 in
-    let meet_tvar = c.meet_tvar in
-    let au = c.au-1 in
-    left_merge (chosen t back) id.given.1 meet_tvar.ensures au.given.1
+returns-in-Merge t c = let meet_tvar = c.meet_tvar in
+    left_merge (chosen t back) c.in-VarLhs.is meet_tvar.ensures c.in-Merge.is
     c.join_tvar-in-Merge.ensures
 
 pub returns-in-Is-meet_tvar : goal.returns-in-Is-meet_tvar
-returns-in-Is-meet_tvar t c = let id2 = c.id-in-VarRhs-1 in
-    let meet-tvar2 = c.meet_tvar-in-VarRhs in
-    right_is (chosen t back) id2.given.1 meet-tvar2.ensures c.in-Is-meet_tvar.is
+returns-in-Is-meet_tvar t c = let meet-tvar2 = c.meet_tvar-in-VarRhs in
+    right_is (chosen t back) c.in-VarRhs.is meet-tvar2.ensures c.in-Is-meet_tvar.is
 
 pub returns-in-Merge-meet_tvar : goal.returns-in-Merge-meet_tvar
-returns-in-Merge-meet_tvar t c = let id2 = c.id-in-VarRhs-1 in
-    let meet-tvar2 = c.meet_tvar-in-VarRhs in
-    let au2 = c.au-in-Merge-meet_tvar-2-1 in
-    right_merge (chosen t back) id2.given.1 meet-tvar2.ensures au2.given.1
+returns-in-Merge-meet_tvar t c = let meet-tvar2 = c.meet_tvar-in-VarRhs in
+    right_merge (chosen t back) c.in-VarRhs.is meet-tvar2.ensures c.in-Merge-meet_tvar.is
     c.join_tvar-in-Merge-meet_tvar.ensures
 
 pub returns-in-SubtypeError : goal.returns-in-SubtypeError
@@ -223,16 +216,14 @@ done_of-requires t c = tt
 
 pub returns-in_default : goal.returns-in_default
 returns-in_default t c = let open_tvar = c.open_tvar-a in
-    let what2 = c.what-in-Ready-1 in
     let join_impl = c.join_impl-b in
-    tvar_inner _ _ _ _ _ _ open_tvar.ensures what2.given.1 join_impl.ensures
+    tvar_inner _ _ _ _ _ _ open_tvar.ensures c.in-Ready.is join_impl.ensures
     c.done_of.ensures c.in_default.is
 
 pub close_tvar-requires : goal.close_tvar-requires
 close_tvar-requires t c = let open_tvar = c.open_tvar-a in
-    let what2 = c.what-in-Ready-1 in
     let join_impl = c.join_impl-b in
-    close_in _ _ _ _ _ _ open_tvar.ensures what2.given.1 join_impl.ensures
+    close_in _ _ _ _ _ _ open_tvar.ensures c.in-Ready.is join_impl.ensures
     c.done_of.ensures c.in-Just.is
 
 pub returns-in-Stop : goal.returns-in-Stop
@@ -240,9 +231,7 @@ returns-in-Stop t c = tvar_stop _ _ _ _ _ _ c.open_tvar-a.ensures c.in-Stop.is
 
 pub returns-in-Just : goal.returns-in-Just
 returns-in-Just t c = let open_tvar = c.open_tvar-a in
-    let what2 = c.what-in-Ready-1 in
     let join_impl = c.join_impl-b in
     let done-of = c.done_of in
-    let ty = c.ty-1 in
-    tvar_close _ _ _ _ _ _ open_tvar.ensures what2.given.1 join_impl.ensures done-of.ensures ty.given.1
+    tvar_close _ _ _ _ _ _ open_tvar.ensures c.in-Ready.is join_impl.ensures done-of.ensures c.in-Just.is
     c.close_tvar.ensures

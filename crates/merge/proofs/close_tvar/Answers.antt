@@ -16,24 +16,21 @@ returns-in-Just c = let pre = c.requires in
 pub returns-in-Bound : goal.returns-in-Bound
 returns-in-Bound c = let pre = c.requires in
     let bound_at = c.bound_at in
-    let enum_told = c.enum_told-1 in
     let join_bind_tvar = c.join_bind_tvar in
     binds_done _ _ _ _ _ _ _ join_bind_tvar.ensures
-    (λ ds. close_free _ _ _ _ _ _ _ _ _ (sym (ap found enum_told.given.1) ∙ bound_at.ensures ds))
+    (λ ds. close_free _ _ _ _ _ _ _ _ _ (sym (ap found c.in-Nothing.is) ∙ bound_at.ensures ds))
     c.in-Bound.is pre.1.1.1.0
 
 pub returns-in-Failed : goal.returns-in-Failed
 returns-in-Failed c = let bound_at = c.bound_at in
-    let enum_told = c.enum_told-1 in
     let join_bind_tvar = c.join_bind_tvar in
     binds_failed _ _ _ _ _ _ _ join_bind_tvar.ensures
-    (λ ds. close_free _ _ _ _ _ _ _ _ _ (sym (ap found enum_told.given.1) ∙ bound_at.ensures ds))
+    (λ ds. close_free _ _ _ _ _ _ _ _ _ (sym (ap found c.in-Nothing.is) ∙ bound_at.ensures ds))
     c.in-Failed.is c.show_both.ensures
 
 pub returns-in-Recursive : goal.returns-in-Recursive
 returns-in-Recursive c = let bound_at = c.bound_at in
-    let enum_told = c.enum_told-1 in
     let join_bind_tvar = c.join_bind_tvar in
     binds_recursive _ _ _ _ _ _ _ join_bind_tvar.ensures
-    (λ ds. close_free _ _ _ _ _ _ _ _ _ (sym (ap found enum_told.given.1) ∙ bound_at.ensures ds))
+    (λ ds. close_free _ _ _ _ _ _ _ _ _ (sym (ap found c.in-Nothing.is) ∙ bound_at.ensures ds))
     c.in-Recursive.is

@@ -18,17 +18,14 @@ returns-in-Nothing c = meets_free _ _ _ _ _ _ _ _ c.bound_at.ensures _ _ c.in-No
 
 pub returns-in-Nothing-done_of : goal.returns-in-Nothing-done_of
 returns-in-Nothing-done_of c = let bound_at = c.bound_at in
-    let enum-told2 = c.enum_told-in-Just-1 in
     let take-var = c.take_var-a in
-    meets_stop _ _ _ _ _ _ _ _ bound_at.ensures _ enum-told2.given.1 _ _ take-var.ensures.0 _
+    meets_stop _ _ _ _ _ _ _ _ bound_at.ensures _ c.in-Just.is _ _ take-var.ensures.0 _
     c.done_of.ensures c.in-Nothing-done_of.is
 
 pub returns-in-Just-done_of : goal.returns-in-Just-done_of
 returns-in-Just-done_of c = let bound_at = c.bound_at in
-    let enum-told2 = c.enum_told-in-Just-1 in
     let take-var = c.take_var-a in
     let done-of = c.done_of in
-    let n = c.n-1 in
-    meets_fresh _ _ _ _ _ _ _ _ bound_at.ensures _ enum-told2.given.1 _ _ take-var.ensures.0 _
-    done-of.ensures _ _ _ n.given.1 c.tvar-new_tvar.ensures
+    meets_fresh _ _ _ _ _ _ _ _ bound_at.ensures _ c.in-Just.is _ _ take-var.ensures.0 _
+    done-of.ensures _ _ _ c.in-Just-done_of.is c.tvar-new_tvar.ensures
     c.bind_var.ensures

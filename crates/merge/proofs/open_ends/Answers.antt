@@ -15,60 +15,52 @@ tvar-new_tvar-requires c = let take-var = c.take_var-a in
 pub returns-in_default-done_of : goal.returns-in_default-done_of
 returns-in_default-done_of c = let take-var = c.take_var-a in
     let done-of = c.done_of in
-    let n = c.n-1 in
     let tvar = c.tvar-new_tvar in
     let merge_num = c.merge_num in
     let push-node = c.push_node-b in
-    rw c.stopped-in_default-done_of.ensures (ends_no_node _ _ _ _ _ _ _ _ _ _ _ _ _ take-var.ensures.0 done-of.ensures _ _ n.given.1 tvar.ensures _
+    rw c.stopped-in_default-done_of.ensures (ends_no_node _ _ _ _ _ _ _ _ _ _ _ _ _ take-var.ensures.0 done-of.ensures _ _ c.in-Just.is tvar.ensures _
     merge_num.ensures _ _ _ push-node.ensures c.done_of-2.ensures c.in_default-done_of.is)
 
 pub returns-in_default-done_of-2 : goal.returns-in_default-done_of-2
 returns-in_default-done_of-2 c = let take-var = c.take_var-a in
     let done-of = c.done_of in
-    let n = c.n-1 in
     let tvar = c.tvar-new_tvar in
     let merge_num = c.merge_num in
     let push-node = c.push_node-b in
     let done-of2 = c.done_of-2 in
-    let var1 = c.var1-1 in
     let push-node2 = c.push_node-d in
-    rw c.stopped-in_default-done_of-2.ensures (ends_no_second _ _ _ _ _ _ _ _ _ _ _ _ _ take-var.ensures.0 done-of.ensures _ _ n.given.1 tvar.ensures
-    _ merge_num.ensures _ _ _ push-node.ensures done-of2.ensures _ var1.given.1 _ _ _
+    rw c.stopped-in_default-done_of-2.ensures (ends_no_second _ _ _ _ _ _ _ _ _ _ _ _ _ take-var.ensures.0 done-of.ensures _ _ c.in-Just.is tvar.ensures
+    _ merge_num.ensures _ _ _ push-node.ensures done-of2.ensures _ c.in-Just-done_of.is _ _ _
     push-node2.ensures c.done_of-3.ensures c.in_default-done_of-2.is)
 
 pub bind_var-requires : goal.bind_var-requires
 bind_var-requires c = let push-node = c.push_node-b in
     let done-of2 = c.done_of-2 in
-    let var1 = c.var1-1 in
     let push-node2 = c.push_node-d in (
       push-node2.ensures.changed.lay,
       still_in _ _ _ _ _ push-node2.ensures.changed.grown
-          (node_in _ push-node.result.out _ _ push-node.ensures.inside done-of2.ensures var1.given.1),
+          (node_in _ push-node.result.out _ _ push-node.ensures.inside done-of2.ensures c.in-Just-done_of.is),
     )
 
 pub bind_var-requires-2 : goal.bind_var-requires-2
 bind_var-requires-2 c = let push-node2 = c.push_node-d in
-    let done-of3 = c.done_of-3 in
-    let var2 = c.var2-1 in (
+    let done-of3 = c.done_of-3 in (
       c.bind_var.ensures.lay,
-      node_in _ push-node2.result.out _ _ push-node2.ensures.inside done-of3.ensures var2.given.1,
+      node_in _ push-node2.result.out _ _ push-node2.ensures.inside done-of3.ensures c.in-Just-done_of-2.is,
     )
 
 pub returns : goal.returns
 returns c = let pre = c.requires in
     let take-var = c.take_var-a in
     let done-of = c.done_of in
-    let n = c.n-1 in
     let tvar = c.tvar-new_tvar in
     let merge_num = c.merge_num in
     let push-node = c.push_node-b in
     let done-of2 = c.done_of-2 in
-    let var1 = c.var1-1 in
     let push-node2 = c.push_node-d in
     let done-of3 = c.done_of-3 in
-    let var2 = c.var2-1 in
     let bind-var = c.bind_var in
-    ends_ready _ _ _ _ _ _ _ _ _ _ _ _ _ take-var.ensures.0 done-of.ensures _ _ n.given.1 tvar.ensures _
-    merge_num.ensures _ _ _ push-node.ensures done-of2.ensures _ var1.given.1 _ _ _
-    push-node2.ensures done-of3.ensures _ var2.given.1 _ _ bind-var.ensures
+    ends_ready _ _ _ _ _ _ _ _ _ _ _ _ _ take-var.ensures.0 done-of.ensures _ _ c.in-Just.is tvar.ensures _
+    merge_num.ensures _ _ _ push-node.ensures done-of2.ensures _ c.in-Just-done_of.is _ _ _
+    push-node2.ensures done-of3.ensures _ c.in-Just-done_of-2.is _ _ bind-var.ensures
     c.bind_var-2.ensures pre.1.0 pre.1.1

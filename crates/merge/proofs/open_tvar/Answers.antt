@@ -21,22 +21,20 @@ returns-in_default-done_of c = let forward_tvar = c.forward_tvar-last_id1 in
     let num-loc-at2 = c.num_loc_at-num_loc_2 in
     let type_of = c.type_of-a in
     let done-of = c.done_of in
-    let ty1 = c.ty1-1 in
     let type-of2 = c.type_of-b in
     rw c.stopped-in_default-done_of.ensures (open_no_second _ _ _ _ _ _ _ _ num-loc-at.result num-loc-at2.result forward_tvar.ensures
     forward-tvar2.ensures num-loc-at.ensures num-loc-at2.ensures _ _ _ type_of.ensures
-    done-of.ensures _ ty1.given.1 _ _ _ type-of2.ensures c.done_of-2.ensures
+    done-of.ensures _ c.in-Just.is _ _ _ type-of2.ensures c.done_of-2.ensures
     c.in_default-done_of.is)
 
 pub open_ends-requires : goal.open_ends-requires
 open_ends-requires c = let type_of = c.type_of-a in
     let done-of = c.done_of in
-    let ty1 = c.ty1-1 in
     let type-of2 = c.type_of-b in (
       type-of2.ensures.changed.lay,
       (
         still_in _ _ _ _ _ type-of2.ensures.changed.grown
-            (node_in _ type_of.result.out _ _ type_of.ensures.inside done-of.ensures ty1.given.1),
+            (node_in _ type_of.result.out _ _ type_of.ensures.inside done-of.ensures c.in-Just.is),
         node_in _ type-of2.result.out _ _ type-of2.ensures.inside
             c.done_of-2.ensures c.in-Just-done_of.is,
       ),
@@ -49,11 +47,9 @@ returns c = let forward_tvar = c.forward_tvar-last_id1 in
     let num-loc-at2 = c.num_loc_at-num_loc_2 in
     let type_of = c.type_of-a in
     let done-of = c.done_of in
-    let ty1 = c.ty1-1 in
     let type-of2 = c.type_of-b in
     let done-of2 = c.done_of-2 in
-    let ty2 = c.ty2-1 in
     open_both _ _ _ _ _ _ _ _ num-loc-at.result num-loc-at2.result forward_tvar.ensures
     forward-tvar2.ensures num-loc-at.ensures num-loc-at2.ensures _ _ _ type_of.ensures
-    done-of.ensures _ ty1.given.1 _ _ _ type-of2.ensures done-of2.ensures _ ty2.given.1 _ _
+    done-of.ensures _ c.in-Just.is _ _ _ type-of2.ensures done-of2.ensures _ c.in-Just-done_of.is _ _
     c.open_ends.ensures

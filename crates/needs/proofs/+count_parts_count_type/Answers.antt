@@ -75,10 +75,10 @@ pub read_head-h-requires : goal.read_head-h-requires
 read_head-h-requires t c = (c.requires.0, c.requires.1.1)
 
 pub overflow_sub-nest : goal.overflow_sub-nest
-overflow_sub-nest t c = rw c.in-Begun.is at c.read_head-h.ensures.1.1
+overflow_sub-nest t c = rw c.in-Begun.is at c.read_head-h.ensures.head_within.1
 
 pub count_parts-requires : goal.count_parts-requires
-count_parts-requires t c = let a = rw c.in-Begun.is at c.read_head-h.ensures.1.0 in let n = rw c.in-Begun.is at c.read_head-h.ensures.1.1 in (
+count_parts-requires t c = let a = rw c.in-Begun.is at c.read_head-h.ensures.head_within.0 in let n = rw c.in-Begun.is at c.read_head-h.ensures.head_within.1 in (
   omega (arith, n, c.decreases),
   (c.requires.0, (c.requires.1.0, (c.requires.1.1.0, (a.0, (c.requires.1.1.1.1, a.1))))),
 )
@@ -93,13 +93,13 @@ pub stopped-requires-in-Doubled : goal.stopped-requires-in-Doubled
 stopped-requires-in-Doubled t c = tt
 
 pub returns-in-Begun : goal.returns-in-Begun
-returns-in-Begun t c = counts_is _ _ _ _ _ _ _ _ _ (λ ds s d k. rw c.in-Begun.is at (c.read_head-h.ensures.0 s ds d k)) (c.count_parts.ensures _)
+returns-in-Begun t c = counts_is _ _ _ _ _ _ _ _ _ (λ ds s d k. rw c.in-Begun.is at (c.read_head-h.ensures.s_value s ds d k)) (c.count_parts.ensures _)
 
 pub returns-in-Broken : goal.returns-in-Broken
-returns-in-Broken t c = counts_none _ _ _ _ _ _ _ _ Malformed _ c.requires.1.1.1.0 (λ ds s d k. sym (c.read_head-h.ensures.0 s ds d k) ∙ rw c.in-Broken.is refl) _ c.stopped.ensures
+returns-in-Broken t c = counts_none _ _ _ _ _ _ _ _ Malformed _ c.requires.1.1.1.0 (λ ds s d k. sym (c.read_head-h.ensures.s_value s ds d k) ∙ rw c.in-Broken.is refl) _ c.stopped.ensures
 
 pub returns-in-Unnamed : goal.returns-in-Unnamed
-returns-in-Unnamed t c = counts_none _ _ _ _ _ _ _ _ Unknown _ c.requires.1.1.1.0 (λ ds s d k. sym (c.read_head-h.ensures.0 s ds d k) ∙ rw c.in-Unnamed.is refl) _ c.stopped-in-Unnamed.ensures
+returns-in-Unnamed t c = counts_none _ _ _ _ _ _ _ _ Unknown _ c.requires.1.1.1.0 (λ ds s d k. sym (c.read_head-h.ensures.s_value s ds d k) ∙ rw c.in-Unnamed.is refl) _ c.stopped-in-Unnamed.ensures
 
 pub returns-in-Doubled : goal.returns-in-Doubled
-returns-in-Doubled t c = counts_none _ _ _ _ _ _ _ _ Doubled _ c.requires.1.1.1.0 (λ ds s d k. sym (c.read_head-h.ensures.0 s ds d k) ∙ rw c.in-Doubled.is refl) _ c.stopped-in-Doubled.ensures
+returns-in-Doubled t c = counts_none _ _ _ _ _ _ _ _ Doubled _ c.requires.1.1.1.0 (λ ds s d k. sym (c.read_head-h.ensures.s_value s ds d k) ∙ rw c.in-Doubled.is refl) _ c.stopped-in-Doubled.ensures

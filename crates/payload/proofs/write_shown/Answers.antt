@@ -5,21 +5,17 @@ use native.Mathlib.Omega.{arith}
 use Rattle.payload.proofs.write_shown.Goals as goal
 
 pub tvar-requires : goal.tvar-requires
-tvar-requires c = omega (arith, rw c.in-Variable.is at c.requires.0.1.0, c.requires.0.0.vars)
+tvar-requires c = omega (arith, rw c.in-Variable.is at c.requires.lay.1.0, c.requires.lay.0.vars)
 
 pub write_head-requires : goal.write_head-requires
-write_head-requires c = (tt, omega (arith, length_variable c.in-Variable.loc c.tvar.result.0, c.requires.0.1.1.1))
+write_head-requires c = (tt, omega (arith, length_variable c.in-Variable.loc c.tvar.result.0, c.requires.lay.1.1.1))
 
 pub write_type-requires : goal.write_type-requires
 write_type-requires c = let args = c.args in
-    let pre = c.requires in (
-      (pre.0.0, (rw c.in-Node.is at pre.0.1.0, pre.0.1.1.0)),
-      λ ds.
-          omega (arith, node_fits args.show args.t _ c.in-Node.is (pre.1 ds), pre.0.1.1.1),
-    )
+    let pre = c.requires in record { lay = (pre.lay.0, (rw c.in-Node.is at pre.lay.1.0, pre.lay.1.1.0)); t_in_bounds = λ ds. omega (arith, node_fits args.show args.t _ c.in-Node.is (pre.ds_len_bound ds), pre.lay.1.1.1) }
 
 pub write_head-requires-in-Anything : goal.write_head-requires-in-Anything
-write_head-requires-in-Anything c = (tt, omega (arith, length_anything c.in-Anything.loc, c.requires.0.1.1.1))
+write_head-requires-in-Anything c = (tt, omega (arith, length_anything c.in-Anything.loc, c.requires.lay.1.1.1))
 
 pub returns-in-Nothing : goal.returns-in-Nothing
 unfolding shown

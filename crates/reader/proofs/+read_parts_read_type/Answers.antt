@@ -97,27 +97,26 @@ pub read_head-h-requires : goal.read_head-h-requires
 read_head-h-requires t c = c.requires
 
 pub overflow_sub-nest : goal.overflow_sub-nest
-overflow_sub-nest t c = rw c.in-Begun.is at c.read_head-h.ensures.1.1
+overflow_sub-nest t c = rw c.in-Begun.is at c.read_head-h.ensures.head_within.1
 
 pub read_parts-requires : goal.read_parts-requires
 read_parts-requires t c = let pre = c.requires in
     let read_head = c.read_head-h in
-    let h = c.h-1 in
-    let w = rw h.given.1 at read_head.ensures.1.0 in
-    let n = rw h.given.1 at read_head.ensures.1.1 in
+    let w = rw c.in-Begun.is at read_head.ensures.head_within.0 in
+    let n = rw c.in-Begun.is at read_head.ensures.head_within.1 in
     (omega (arith, n, c.decreases), (pre.0, (pre.1.0, (w.0, (pre.1.1.1, w.1)))))
 
 pub returns-in-Begun : goal.returns-in-Begun
-returns-in-Begun t c = takes_is _ _ _ _ _ _ _ _ _ _ (λ ds s d k. rw c.in-Begun.is at (c.read_head-h.ensures.0 s ds d k)) c.read_parts.ensures
+returns-in-Begun t c = takes_is _ _ _ _ _ _ _ _ _ _ (λ ds s d k. rw c.in-Begun.is at (c.read_head-h.ensures.s_value s ds d k)) c.read_parts.ensures
 
 pub returns-in-Broken : goal.returns-in-Broken
 unfolding place_read
-returns-in-Broken t c = takes_none _ _ _ _ _ _ _ _ Malformed c.requires.0.0 c.requires.1.1.0 tt (λ ds s d k. rw (← c.read_head-h.ensures.0 s ds d k, c.in-Broken.is) refl)
+returns-in-Broken t c = takes_none _ _ _ _ _ _ _ _ Malformed c.requires.0.0 c.requires.1.1.0 tt (λ ds s d k. rw (← c.read_head-h.ensures.s_value s ds d k, c.in-Broken.is) refl)
 
 pub returns-in-Unnamed : goal.returns-in-Unnamed
 unfolding place_read
-returns-in-Unnamed t c = takes_none _ _ _ _ _ _ _ _ Unknown c.requires.0.0 c.requires.1.1.0 tt (λ ds s d k. rw (← c.read_head-h.ensures.0 s ds d k, c.in-Unnamed.is) refl)
+returns-in-Unnamed t c = takes_none _ _ _ _ _ _ _ _ Unknown c.requires.0.0 c.requires.1.1.0 tt (λ ds s d k. rw (← c.read_head-h.ensures.s_value s ds d k, c.in-Unnamed.is) refl)
 
 pub returns-in-Doubled : goal.returns-in-Doubled
 unfolding place_read
-returns-in-Doubled t c = takes_none _ _ _ _ _ _ _ _ Doubled c.requires.0.0 c.requires.1.1.0 tt (λ ds s d k. rw (← c.read_head-h.ensures.0 s ds d k, c.in-Doubled.is) refl)
+returns-in-Doubled t c = takes_none _ _ _ _ _ _ _ _ Doubled c.requires.0.0 c.requires.1.1.0 tt (λ ds s d k. rw (← c.read_head-h.ensures.s_value s ds d k, c.in-Doubled.is) refl)

@@ -40,14 +40,13 @@ pub push_node-requires : goal.push_node-requires
 push_node-requires c = (c.requires.0, c.requires.1.1 c.if-over.false 0 (rw c.in-Ref.is (omega arith)))
 
 pub push_apply-requires : goal.push_apply-requires
-push_apply-requires c = let pre = c.requires in
-    let shape2 = c.shape-in-Apply-1 in (
-      pre.0,
-      record {
-        few = rw shape2.given.1 at pre.1.0;
-        below = rw shape2.given.1 at (pre.1.1 c.if-over.false);
-      },
-    )
+push_apply-requires c = let pre = c.requires in (
+  pre.0,
+  record {
+    few = rw c.in-Apply.is at pre.1.0;
+    below = rw c.in-Apply.is at (pre.1.1 c.if-over.false);
+  },
+)
 
 pub push_node-requires-in_default : goal.push_node-requires-in_default
 push_node-requires-in_default c = (c.requires.0, bare-flat _ c.args.shape (opened c.in_default.in_default-own.keys3))
@@ -56,8 +55,7 @@ pub returns-in-Ref : goal.returns-in-Ref
 unfolding put_node
 returns-in-Ref c = let args = c.args in
     let if1 = c.if-over in
-    let shape = c.shape-1 in
-    after_is (λ ds k. rw (shape.given.1, if1.false, get_or-take 1 args.t6 0 0 (omega arith)) refl)
+    after_is (λ ds k. rw (c.in-Ref.is, if1.false, get_or-take 1 args.t6 0 0 (omega arith)) refl)
     c.push_node.ensures
 
 pub returns-in-Apply : goal.returns-in-Apply

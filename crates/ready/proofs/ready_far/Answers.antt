@@ -11,7 +11,7 @@ pub slice_bounds-never_over-end : goal.slice_bounds-never_over-end
 slice_bounds-never_over-end c = sym c.note_ends.ensures.1
 
 pub never_over-requires : goal.never_over-requires
-never_over-requires c = (c.requires, c.note_ends.ensures.0)
+never_over-requires c = record { lay = c.requires; ends_known = c.note_ends.ensures.0 }
 
 pub returns-then-never_over : goal.returns-then-never_over
 returns-then-never_over c = run_stop _ _ _ c.requires.0 _ c.never_over.ensures c.if-never_over.true

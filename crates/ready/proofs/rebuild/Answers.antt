@@ -24,16 +24,14 @@ pub returns-in-Ref : goal.returns-in-Ref
 returns-in-Ref c = let pre = c.requires in
     let tys = c.widened-tys.ensures ∙ all_eight c.args.ready c.well_formed.1.1.1.0.1.0.1 in
     let node_at = c.node_at-n in
-    let s = c.s-1 in
-    anew_ref _ _ _ pre.0 pre.1.0 node_at.result node_at.ensures _ pre.1.1.0 _ _ s.given.1 _ _ _
+    anew_ref _ _ _ pre.0 pre.1.0 node_at.result node_at.ensures _ pre.1.1.0 _ _ c.in-Ref.is _ _ _
     (rw tys at c.push_node.ensures)
 
 pub returns-in-Apply : goal.returns-in-Apply
 returns-in-Apply c = let pre = c.requires in
     let tys = c.widened-tys.ensures ∙ all_eight c.args.ready c.well_formed.1.1.1.0.1.0.1 in
     let node_at = c.node_at-n in
-    let s2 = c.s-in-Apply-1 in
-    anew_apply _ _ _ pre.0 pre.1.0 node_at.result node_at.ensures _ pre.1.1.0 _ _ _ _ s2.given.1 _
+    anew_apply _ _ _ pre.0 pre.1.0 node_at.result node_at.ensures _ pre.1.1.0 _ _ _ _ c.in-Apply.is _
     _ _ (rw tys at c.push_apply.ensures)
 
 pub returns-in_default : goal.returns-in_default

@@ -5,10 +5,10 @@ use Rattle.fields.proofs.Forms.{malformed_is, sv_is}
 use Rattle.record.proofs.fields_of.Goals as goal
 
 pub returns-in-SD : goal.returns-in-SD
-returns-in-SD c = rw c.in-SD.is (c.read_sd.ensures _ _ c.requires.0.0)
+returns-in-SD c = rw c.in-SD.is (c.read_sd.ensures _ _ c.requires.lay.0)
 
 pub returns-in-SN : goal.returns-in-SN
-returns-in-SN c = rw c.in-SN.is (c.read_sn.ensures _ c.requires.0.0)
+returns-in-SN c = rw c.in-SN.is (c.read_sn.ensures _ c.requires.lay.0)
 
 pub returns-in-TS : goal.returns-in-TS
 returns-in-TS c = rw c.in-TS.is c.read_ts.ensures
@@ -20,13 +20,13 @@ pub returns-in-NC : goal.returns-in-NC
 returns-in-NC c = rw c.in-NC.is c.read_nc.ensures
 
 pub returns-in-SV : goal.returns-in-SV
-returns-in-SV c = rw (c.plain.ensures, c.in-SV.is) (sv_is _ _ _ _ _ _ c.requires.0.0 c.requires.1.1.0)
+returns-in-SV c = rw (c.plain.ensures, c.in-SV.is) (sv_is _ _ _ _ _ _ c.requires.lay.0 c.requires.end_in_bounds.1.0)
 
 pub returns-in-RM : goal.returns-in-RM
 returns-in-RM c = rw c.in-RM.is c.read_rm.ensures
 
 pub returns-in-Loc : goal.returns-in-Loc
-returns-in-Loc c = rw c.in-Loc.is (c.read_loc.ensures _ _ c.requires.0.0)
+returns-in-Loc c = rw c.in-Loc.is (c.read_loc.ensures _ _ c.requires.lay.0)
 
 pub returns-in-Look : goal.returns-in-Look
 returns-in-Look c = rw c.in-Look.is c.read_look.ensures
@@ -39,4 +39,4 @@ returns-in-LocType c = rw c.in-LocType.is c.read_loc_type.ensures
 
 pub returns-in-Other : goal.returns-in-Other
 unfolding refuse
-returns-in-Other c = rw (c.plain-in-Other.ensures, c.in-Other.is) (malformed_is _ _ _ _ _ _ _ c.requires.0.0 c.requires.1.1.0 (λ s ds k. refl))
+returns-in-Other c = rw (c.plain-in-Other.ensures, c.in-Other.is) (malformed_is _ _ _ _ _ _ _ c.requires.lay.0 c.requires.end_in_bounds.1.0 (λ s ds k. refl))

@@ -9,8 +9,7 @@ use Rattle.record.proofs.read_ts.Goals as goal
 pub read_pairs-requires : goal.read_pairs-requires
 read_pairs-requires c = let pre = c.requires in
     let read_number = c.read_number-r in
-    let n = c.byte_to-n.ensures _ _ _ _ (read_number.ensures _ _ byte_wide) in
-    (pre.0, (pre.1.0, (n.within, (pre.1.1.1, rw c.in-Got.is at n.most))))
+    let n = c.byte_to-n.ensures _ _ _ _ (read_number.ensures _ _ byte_wide) in record { lay = pre.lay; end_in_bounds = (pre.end_in_bounds.0, (n.within, (pre.end_in_bounds.1.1, rw c.in-Got.is at n.most))) }
 
 pub returns-in-Got : goal.returns-in-Got
 returns-in-Got c = let n = c.byte_to-n.ensures _ _ _ _ (c.read_number-r.ensures _ _ byte_wide) in
@@ -19,4 +18,4 @@ returns-in-Got c = let n = c.byte_to-n.ensures _ _ _ _ (c.read_number-r.ensures 
 pub returns-in-Missing : goal.returns-in-Missing
 unfolding read_TS ◌>>=◌ go_on
 returns-in-Missing c = let n = c.byte_to-n.ensures _ _ _ _ (c.read_number-r.ensures _ _ byte_wide) in
-    rw c.plain.ensures (malformed_is _ _ _ _ _ _ _ c.requires.0.0 c.requires.1.1.0 (λ s ds k. rw (← n.is, c.in-Missing.is) refl))
+    rw c.plain.ensures (malformed_is _ _ _ _ _ _ _ c.requires.lay.0 c.requires.end_in_bounds.1.0 (λ s ds k. rw (← n.is, c.in-Missing.is) refl))

@@ -23,5 +23,4 @@ returns-in-RD c = rw (c.in-One.is, c.in-RD.is) c.run_ready.ensures
 pub returns-in-TS : goal.returns-in-TS
 unfolding run_of step_of
 returns-in-TS c = let args = c.args in
-    let what2 = c.what-in-TS-1 in
-    rw what2.given.1 (rw (pairs_same args.ids args.nodes 0 _) at c.run_tparams.ensures)
+    rw c.in-TS.is (rw (pairs_same args.ids args.nodes 0 _) at c.run_tparams.ensures)

@@ -11,7 +11,6 @@ returns-in-Nothing c = ran_no_tvar _ _ c.take_var-a.ensures _ c.done_of.ensures 
 pub returns-in-Just : goal.returns-in-Just
 returns-in-Just c = let take-var = c.take_var-a in
     let done-of = c.done_of in
-    let n = c.n-1 in
     let tvar = c.tvar-x in
-    ran_num_tvar _ _ take-var.ensures _ _ done-of.ensures n.given.1 _ tvar.ensures
+    ran_num_tvar _ _ take-var.ensures _ _ done-of.ensures c.in-Just.is _ tvar.ensures
     c.set_num_var.ensures c.shown-in-Just.ensures

@@ -8,7 +8,7 @@ use Rattle.solve.proofs.solve_abilities.Goals as goal
 
 pub hinders-h-requires : goal.hinders-h-requires
 hinders-h-requires c = let p = c.requires in
-    (p.0.0, (all_asked _ p.1.0, (measured_none _ _, kept_none _ _ _)))
+    (p.lay.0, (all_asked _ p.tys_in.0, (measured_none _ _, kept_none _ _ _)))
 
 pub returns-then-h-gt0 : goal.returns-then-h-gt0
 returns-then-h-gt0 c = let hinders = c.hinders-h in
@@ -19,8 +19,7 @@ returns-then-h-gt0 c = let hinders = c.hinders-h in
 pub report_failures-requires : goal.report_failures-requires
 report_failures-requires c = let p = c.requires in
     let hinders = c.hinders-h in
-    let if1 = c.if-h-gt0 in
-    (p.0, (p.1.0, (all_ready _ _ _ _ _ hinders.ensures.kept (hinders.ensures.all (omega (arith, if1.false))), p.1.1)))
+    let if1 = c.if-h-gt0 in record { lay = p.lay; tys_in = (p.tys_in.0, (all_ready _ _ _ _ _ hinders.ensures.kept (hinders.ensures.all (omega (arith, if1.false))), p.tys_in.1)) }
 
 pub returns : goal.returns
 returns c = let hinders = c.hinders-h in

@@ -7,8 +7,7 @@ use Rattle.solve.proofs.solve_all.Goals as goal
 pub report_failures-requires : goal.report_failures-requires
 report_failures-requires c = let p = c.requires in
     let if1 = c.if-any_asks in
-    let any_asks = c.any_asks in
-    (p.0, (p.1.0, (none_asked _ _ _ _ _ (sym if1.false ∙ any_asks.ensures), p.1.1)))
+    let any_asks = c.any_asks in record { lay = p.lay; tys_in = (p.tys_in.0, (none_asked _ _ _ _ _ (sym if1.false ∙ any_asks.ensures), p.tys_in.1)) }
 
 pub returns : goal.returns
 returns c = let any_asks = c.any_asks in

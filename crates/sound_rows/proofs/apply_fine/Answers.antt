@@ -1,7 +1,6 @@
 -- `sound_rows::apply_fine` meets its contract. Assumes nothing.
 -- Each early return: the first test that fails makes the whole conjunction fail (`fails_l`, `fails_then`), with those before it passed; the last return by `passes`.
-use mathlib.Core.Bool.{not}
-use mathlib.Core.Path.{ap, sym, ◌∙◌}
+use mathlib.Core.Path.{sym, ◌∙◌}
 use native.Mathlib.Omega.{arith}
 use borrow.Author.Tests.{not-true, not-false, le-leb, lt-leb, eq-eqb, ne_eqb}
 use borrow.Author.Rules.{rules}
@@ -11,11 +10,11 @@ use Rattle.sound_rows.proofs.apply_fine.Goals as goal
 
 pub returns-then-not-mark_fine : goal.returns-then-not-mark_fine
 unfolding apply_fine
-returns-then-not-mark_fine c = sym (fails_l _ _ (fails_l _ _ (fails_l _ _ (fails_l _ _ (fails_l _ _ (sym c.mark_fine.ensures ∙ (ap not c.if-not-mark_fine.true)))))))
+returns-then-not-mark_fine c = sym (fails_l _ _ (fails_l _ _ (fails_l _ _ (fails_l _ _ (fails_l _ _ (sym c.mark_fine.ensures ∙ c.if-not-mark_fine.true))))))
 
 pub returns-then-not-name_fine : goal.returns-then-not-name_fine
 unfolding apply_fine
-returns-then-not-name_fine c = sym (fails_l _ _ (fails_l _ _ (fails_l _ _ (fails_l _ _ (fails_then _ _ (sym c.mark_fine.ensures ∙ (ap not c.if-not-mark_fine.false)) (sym c.name_fine.ensures ∙ (ap not c.if-not-name_fine.true)))))))
+returns-then-not-name_fine c = sym (fails_l _ _ (fails_l _ _ (fails_l _ _ (fails_l _ _ (fails_then _ _ (sym c.mark_fine.ensures ∙ c.if-not-mark_fine.false) (sym c.name_fine.ensures ∙ c.if-not-name_fine.true))))))
 
 pub returns-then-not-fits_fine : goal.returns-then-not-fits_fine
 unfolding apply_fine
@@ -25,14 +24,12 @@ returns-then-not-fits_fine c = let mark_fine = c.mark_fine in
     (fails_l _ _
     (fails_then _ _
     (both _ _
-    (sym mark_fine.ensures ∙ not-false _
-    (ap not c.if-not-mark_fine.false))
-    (sym c.name_fine.ensures ∙ not-false _
-    (ap not c.if-not-name_fine.false)))
-    (sym c.fits_fine.ensures ∙ (ap not c.if-not-fits_fine.true))))))
+    (sym mark_fine.ensures ∙ c.if-not-mark_fine.false)
+    (sym c.name_fine.ensures ∙ c.if-not-name_fine.false))
+    (sym c.fits_fine.ensures ∙ c.if-not-fits_fine.true)))))
 
 pub args_fine-args-requires : goal.args_fine-args-requires
-args_fine-args-requires c = (search rules, name_small _ _ _ (omega arith) (sym c.name_fine.ensures ∙ (ap not c.if-not-name_fine.false)))
+args_fine-args-requires c = (search rules, name_small _ _ _ (omega arith) (sym c.name_fine.ensures ∙ c.if-not-name_fine.false))
 
 pub returns-then-d-args : goal.returns-then-d-args
 unfolding apply_fine
@@ -43,11 +40,9 @@ returns-then-d-args c = let mark_fine = c.mark_fine in
     (fails_l _ _
     (fails_then _ _
     (both _ _
-    (both _ _ (sym mark_fine.ensures ∙ not-false _ if1.false)
-    (sym name_fine.ensures ∙ not-false _
-    (ap not c.if-not-name_fine.false)))
-    (sym c.fits_fine.ensures ∙ not-false _
-    (ap not c.if-not-fits_fine.false)))
+    (both _ _ (sym mark_fine.ensures ∙ if1.false)
+    (sym name_fine.ensures ∙ c.if-not-name_fine.false))
+    (sym c.fits_fine.ensures ∙ c.if-not-fits_fine.false))
     (ne_eqb _ _ (λ e. c.if-d-args.true (e ∙ sym c.args_fine-args.ensures))))))
 
 pub returns-then-used-first : goal.returns-then-used-first
@@ -61,9 +56,9 @@ returns-then-used-first c = let mark_fine = c.mark_fine in
     (fails_then _ _
     (both _ _
     (both _ _
-    (both _ _ (sym mark_fine.ensures ∙ not-false _ if1.false)
-    (sym name_fine.ensures ∙ not-false _ if2.false))
-    (sym fits_fine.ensures ∙ (ap not c.if-not-fits_fine.false)))
+    (both _ _ (sym mark_fine.ensures ∙ if1.false)
+    (sym name_fine.ensures ∙ if2.false))
+    (sym fits_fine.ensures ∙ c.if-not-fits_fine.false))
     (eq-eqb _ _ (c.if-d-args.false ∙ c.args_fine-args.ensures)))
     (lt-leb _ _ c.if-used-first.true)))
 
@@ -79,9 +74,9 @@ returns c = let mark_fine = c.mark_fine in
     (both _ _
     (both _ _
     (both _ _
-    (both _ _ (sym mark_fine.ensures ∙ not-false _ if1.false)
-    (sym name_fine.ensures ∙ not-false _ if2.false))
-    (sym fits_fine.ensures ∙ not-false _ if3.false))
+    (both _ _ (sym mark_fine.ensures ∙ if1.false)
+    (sym name_fine.ensures ∙ if2.false))
+    (sym fits_fine.ensures ∙ if3.false))
     (eq-eqb _ _
     (c.if-d-args.false
     ∙ c.args_fine-args.ensures)))

@@ -21,9 +21,8 @@ returns-then-not-zeros-3 c = let zeros = c.zeros in
     sym (fails_l _ _
     (fails_l _ _
     (fails_then _ _
-    (both _ _ (sym zeros.ensures ∙ not-false _ if1.false)
-    (sym c.zeros-2.ensures ∙ not-false _
-    c.if-not-zeros-2.false))
+    (both _ _ (sym zeros.ensures ∙ if1.false)
+    (sym c.zeros-2.ensures ∙ c.if-not-zeros-2.false))
     (sym c.zeros-3.ensures ∙ c.if-not-zeros-3.true))))
 
 pub returns-then-not-zeros-4 : goal.returns-then-not-zeros-4
@@ -35,10 +34,9 @@ returns-then-not-zeros-4 c = let zeros = c.zeros in
     sym (fails_l _ _
     (fails_then _ _
     (both _ _
-    (both _ _ (sym zeros.ensures ∙ not-false _ if1.false)
-    (sym zeros2.ensures ∙ not-false _ if2.false))
-    (sym c.zeros-3.ensures ∙ not-false _
-    c.if-not-zeros-3.false))
+    (both _ _ (sym zeros.ensures ∙ if1.false)
+    (sym zeros2.ensures ∙ if2.false))
+    (sym c.zeros-3.ensures ∙ c.if-not-zeros-3.false))
     (sym c.zeros-4.ensures ∙ c.if-not-zeros-4.true)))
 
 pub returns : goal.returns
@@ -52,7 +50,7 @@ returns c = let zeros = c.zeros in
     c.zeros-5.ensures ∙ passes _ _
     (both _ _
     (both _ _
-    (both _ _ (sym zeros.ensures ∙ not-false _ if1.false)
-    (sym zeros2.ensures ∙ not-false _ if2.false))
-    (sym zeros3.ensures ∙ not-false _ if3.false))
+    (both _ _ (sym zeros.ensures ∙ if1.false)
+    (sym zeros2.ensures ∙ if2.false))
+    (sym zeros3.ensures ∙ if3.false))
     (sym c.zeros-4.ensures ∙ c.if-not-zeros-4.false))

@@ -7,13 +7,13 @@ use Rattle.step.proofs.step_trusted.Goals as goal
 
 pub read_record-f-requires : goal.read_record-f-requires
 read_record-f-requires c = let pre = c.requires in
-    (pre.0.0.lay, (reading_arities pre.0.0, pre.0.1.1.0))
+    (pre.stands.0.lay, (reading_arities pre.stands.0, pre.stands.1.1.0))
 
 pub refuse-requires : goal.refuse-requires
 refuse-requires c = let pre = c.requires in
     let saved = c.saved-1 in
     let r = c.read_record-f.ensures in
-    (r.lay, (grown_above _ _ _ _ r.grown, omega (arith, saved.given, pre.0.1.1.1.0)))
+    (r.lay, (grown_above _ _ _ _ r.grown, omega (arith, saved.given, pre.stands.1.1.1.0)))
 
 pub answer_placed-requires : goal.answer_placed-requires
 answer_placed-requires c = let p = c.requires in
@@ -25,9 +25,8 @@ answer_placed-requires c = let p = c.requires in
     let o = left_over.ensures in
     let e = sym c.in-Run.is ∙ c.verdict_of-o.ensures in
     let k = runs read_record.result.read left_over.result _ e in
-    let i = placed_in _ _ p.0.0 p.0.1.0 v r c.args.whole _ o _ k.0 in
-    let n = begins _ _ p.0.0 p.0.1.0 v r c.args.whole _ o _ k.0 in
-    ((r.lay, (i, (omega (arith, saved.given, p.0.1.1.1.0), p.0.1.1.1.1))), n)
+    let i = placed_in _ _ p.stands.0 p.stands.1.0 v r c.args.whole _ o _ k.0 in
+    let n = begins _ _ p.stands.0 p.stands.1.0 v r c.args.whole _ o _ k.0 in record { lay = (r.lay, (i, (omega (arith, saved.given, p.stands.1.1.1.0), p.stands.1.1.1.1))); begins = n }
 
 pub returns-in-Refused : goal.returns-in-Refused
 returns-in-Refused c = let p = c.requires in
@@ -36,7 +35,7 @@ returns-in-Refused c = let p = c.requires in
     let n = c.place_after-next.ensures in
     let o = c.left_over.ensures in
     let e = sym c.in-Refused.is ∙ c.verdict_of-o.ensures in
-    steps_refused _ _ p.0.0 p.0.1.0 v r _ _ o p.0.1.1.0 n e c.refuse.ensures _ c.with_next.ensures
+    steps_refused _ _ p.stands.0 p.stands.1.0 v r _ _ o p.stands.1.1.0 n e c.refuse.ensures _ c.with_next.ensures
 
 pub returns-in-Run : goal.returns-in-Run
 returns-in-Run c = let p = c.requires in
@@ -48,5 +47,5 @@ returns-in-Run c = let p = c.requires in
     let o = left_over.ensures in
     let e = sym c.in-Run.is ∙ c.verdict_of-o.ensures in
     let k = runs read_record.result.read left_over.result _ e in
-    steps_run _ _ p.0.0 p.0.1.0 v r _ _ o _ k.0 k.1 p.0.1.1.0 n c.rows_after-rows.ensures
+    steps_run _ _ p.stands.0 p.stands.1.0 v r _ _ o _ k.0 k.1 p.stands.1.1.0 n c.rows_after-rows.ensures
     c.answer_placed.ensures c.with_next-in-Run.ensures

@@ -1,6 +1,6 @@
 -- `subst::join_bind_tvar` meets its contract. Assumes nothing.
-use mathlib.Core.Path.{ap}
 use mathlib.Core.Bool.{not}
+use mathlib.Core.Path.{ap}
 use Rattle.subst.proofs.Laws.{binds_failed, binds_used, binds_anything, binds_stored}
 use Rattle.subst.proofs.join_bind_tvar.Goals as goal
 
@@ -16,7 +16,7 @@ returns-then-is_anything c = let pre = c.requires in
     let if1 = c.if-not-check_num_tvar in
     let used-tvars = c.used_tvars in
     let node_at = c.node_at-n in
-    binds_anything _ _ _ _ _ check_num_tvar.ensures if1.false _ used-tvars.ensures
+    binds_anything _ _ _ _ _ check_num_tvar.ensures (ap not if1.false) _ used-tvars.ensures
     c.if-used_tvars.false node_at.result node_at.ensures _
     c.is_anything.ensures pre.0 c.if-is_anything.true
 
@@ -27,6 +27,6 @@ returns c = let check_num_tvar = c.check_num_tvar in
     let if2 = c.if-used_tvars in
     let node_at = c.node_at-n in
     let is_anything = c.is_anything in
-    binds_stored _ _ _ _ _ check_num_tvar.ensures if1.false _ used-tvars.ensures if2.false node_at.result
+    binds_stored _ _ _ _ _ check_num_tvar.ensures (ap not if1.false) _ used-tvars.ensures if2.false node_at.result
     node_at.ensures _ is_anything.ensures _ c.bind_var.ensures
     c.if-is_anything.false

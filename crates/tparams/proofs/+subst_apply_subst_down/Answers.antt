@@ -75,21 +75,19 @@ unfolding subst_value with_args
 returns-in_default t c = let pre = c.requires in
     let node_at = c.node_at-node in
     let if1 = c.if-left-eq0 in
-    let shape2 = c.shape-in-Ref-1 in
     let subst_down = c.subst_down-a in
-    level_by (levels _) _ _ _ _ pre.0 node_at.result if1.false node_at.ensures shape2.given.1 (λ ds. refl)
+    level_by (levels _) _ _ _ _ pre.0 node_at.result if1.false node_at.ensures c.in-Ref.is (λ ds. refl)
     (ref_stop _ _ subst_down.ensures c.done_of.ensures c.in_default.is)
 
 pub push_node-requires : goal.push_node-requires
 push_node-requires t c = let subst_down = c.subst_down-a in
     let pre = c.requires in
-    let node_at = c.node_at-node in
-    let shape2 = c.shape-in-Ref-1 in (
+    let node_at = c.node_at-node in (
       subst_down.ensures.changed.lay,
       omega (
         arith,
         after_done subst_down.ensures c.done_of.ensures c.in-Just.is,
-        ref_below _ _ _ _ pre.0 pre.1.0 node_at.ensures _ _ shape2.given.1,
+        ref_below _ _ _ _ pre.0 pre.1.0 node_at.ensures _ _ c.in-Ref.is,
         pre.1.0,
         nodes_grow _ _ _ _ subst_down.ensures.changed.grown,
       ),
@@ -134,17 +132,14 @@ unfolding subst_value with_args
 returns-in-Just t c = let pre = c.requires in
     let node_at = c.node_at-node in
     let if1 = c.if-left-eq0 in
-    let shape2 = c.shape-in-Ref-1 in
     let subst_down = c.subst_down-a in
     let done-of = c.done_of in
-    let p = c.p-1 in
-    level_by (levels _) _ _ _ _ pre.0 node_at.result if1.false node_at.ensures shape2.given.1 (λ ds. refl)
-    (ref_then _ _ subst_down.ensures done-of.ensures p.given.1 c.push_node.ensures)
+    level_by (levels _) _ _ _ _ pre.0 node_at.result if1.false node_at.ensures c.in-Ref.is (λ ds. refl)
+    (ref_then _ _ subst_down.ensures done-of.ensures c.in-Just.is c.push_node.ensures)
 
 pub returns-in-Apply : goal.returns-in-Apply
 unfolding subst_value with_args seen with_structs args_at
 returns-in-Apply t c = let pre = c.requires in
     let node_at = c.node_at-node in
     let if1 = c.if-left-eq0 in
-    let shape3 = c.shape-in-Apply-1 in
-    level_by (levels _) _ _ _ _ pre.0 node_at.result if1.false node_at.ensures shape3.given.1 (λ ds. refl) c.subst_apply.ensures
+    level_by (levels _) _ _ _ _ pre.0 node_at.result if1.false node_at.ensures c.in-Apply.is (λ ds. refl) c.subst_apply.ensures

@@ -5,7 +5,7 @@ use native.Mathlib.Omega.{arith}
 use Rattle.writer.proofs.+write_type.Goals as goal
 
 pub node_at-node-requires : goal.node_at-node-requires
-node_at-node-requires t c = c.requires.0.0
+node_at-node-requires t c = c.requires.lay.0
 
 pub part_count-n-requires : goal.part_count-n-requires
 part_count-n-requires t c = tt
@@ -14,14 +14,14 @@ pub write_head-next-requires : goal.write_head-next-requires
 write_head-next-requires t c = let args = c.args in
     let pre = c.requires in
     let node_at = c.node_at-node in
-    let a = at_node _ _ _ _ node_at.result pre.0.0 pre.0.1.0 node_at.ensures c.part_count-n.ensures in
-    (bytes_at a pre.0.1.1, head_room a args.buf.now _ pre.1 _ (λ ds. loc_is _ _ node_at.result (node_at.ensures ds)))
+    let a = at_node _ _ _ _ node_at.result pre.lay.0 pre.lay.1.0 node_at.ensures c.part_count-n.ensures in
+    (bytes_at a pre.lay.1.1, head_room a args.buf.now _ pre.t_in_bounds _ (λ ds. loc_is _ _ node_at.result (node_at.ensures ds)))
 
 pub loop-i-init : goal.loop-i-init
 loop-i-init t c = (omega arith, λ E h. h)
 
 pub part_at-p-requires : goal.part_at-p-requires
-part_at-p-requires t c = c.requires.0.0
+part_at-p-requires t c = c.requires.lay.0
 
 pub write_type-next-requires : goal.write_type-next-requires
 write_type-next-requires t c = let args = c.args in
@@ -31,14 +31,14 @@ write_type-next-requires t c = let args = c.args in
     let write-head = c.write_head-next in
     let loop-test = c.loop-i-test in
     let E = args.buf.now in
-    let a = at_node _ _ _ _ node_at.result pre.0.0 pre.0.1.0 node_at.ensures
+    let a = at_node _ _ _ _ node_at.result pre.lay.0 pre.lay.1.0 node_at.ensures
     part_count.ensures in
-    let base = write_none a E _ pre.1 _ (λ ds. loc_is _ _ node_at.result (node_at.ensures ds)) _ _ write-head.ensures in
+    let base = write_none a E _ pre.t_in_bounds _ (λ ds. loc_is _ _ node_at.result (node_at.ensures ds)) _ _ write-head.ensures in
     let f = part_low a _ _ loop-test.true c.part_at-p.ensures in (
       omega (arith, f, c.decreases),
       (
-        (pre.0.0, (omega (arith, f, pre.0.1.0), pre.0.1.1)),
-        part_room a E _ pre.1 _ _ _ _
+        (pre.lay.0, (omega (arith, f, pre.lay.1.0), pre.lay.1.1)),
+        part_room a E _ pre.t_in_bounds _ _ _ _
             (c.loop-i.invariant.1 E base) loop-test.true c.part_at-p.ensures,
       ),
     )
@@ -58,10 +58,10 @@ loop-i-preserved t c = let args = c.args in
     let loop = c.loop-i in
     let loop-test = c.loop-i-test in
     let E = args.buf.now in
-    let a = at_node _ _ _ _ node_at.result pre.0.0 pre.0.1.0 node_at.ensures
+    let a = at_node _ _ _ _ node_at.result pre.lay.0 pre.lay.1.0 node_at.ensures
     part_count.ensures in
-    let base = write_none a E _ pre.1 _ (λ ds. loc_is _ _ node_at.result (node_at.ensures ds)) _ _ write-head.ensures in
-    goes_more a E _ pre.1 _ _ _ _ _ _ _ _ base loop.invariant loop-test.true
+    let base = write_none a E _ pre.t_in_bounds _ (λ ds. loc_is _ _ node_at.result (node_at.ensures ds)) _ _ write-head.ensures in
+    goes_more a E _ pre.t_in_bounds _ _ _ _ _ _ _ _ base loop.invariant loop-test.true
     c.part_at-p.ensures c.write_type-next.ensures
 
 pub returns : goal.returns
@@ -70,8 +70,8 @@ returns t c = let args = c.args in
     let node_at = c.node_at-node in
     let part_count = c.part_count-n in
     let E = args.buf.now in
-    let a = at_node _ _ _ _ node_at.result pre.0.0 pre.0.1.0 node_at.ensures
+    let a = at_node _ _ _ _ node_at.result pre.lay.0 pre.lay.1.0 node_at.ensures
     part_count.ensures in
-    let base = write_none a E _ pre.1 _ (λ ds. loc_is _ _ node_at.result (node_at.ensures ds)) _ _
+    let base = write_none a E _ pre.t_in_bounds _ (λ ds. loc_is _ _ node_at.result (node_at.ensures ds)) _ _
     c.write_head-next.ensures in
     write_all a E _ _ _ _ (c.loop-i.invariant.1 E base) c.loop-i-test.false
