@@ -14,8 +14,8 @@ decreases-instantiate_apply l = 2 * l.left + 1
 abbrev pub decreases-instantiate_down : goal.decreases-instantiate_down
 decreases-instantiate_down l = 2 * l.left
 
-abbrev pub invariant-loop-i : goal.invariant-loop-i
-invariant-loop-i l = Through (Known l.initial.w l.initial.v l.params) (D.instantiate_down l.left) (joined l.loc (mark_of l.ty.k) (name_of l.ty.n) (take l.b.many l.b.tvars)) l.ty.first l.ty.many l.initial.w l.initial.v l.w l.v l.parts l.i
+abbrev pub invariant-instantiate_apply-loop-i : goal.invariant-instantiate_apply-loop-i
+invariant-instantiate_apply-loop-i l = Through (Known l.initial.w l.initial.v l.params) (D.instantiate_down l.left) (joined l.loc (mark_of l.ty.k) (name_of l.ty.n) (take l.b.many l.b.tvars)) l.ty.first l.ty.many l.initial.w l.initial.v l.w l.v l.parts l.i
 
-abbrev pub decreases-loop-i : goal.decreases-loop-i
-decreases-loop-i l = l.ty.many - l.i
+abbrev pub decreases-instantiate_apply-loop-i : goal.decreases-instantiate_apply-loop-i
+decreases-instantiate_apply-loop-i l = l.ty.many - l.i

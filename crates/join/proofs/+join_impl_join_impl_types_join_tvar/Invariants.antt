@@ -14,8 +14,8 @@ decreases-join_impl_types l = l.left + l.left + 1
 abbrev pub decreases-join_tvar : goal.decreases-join_tvar
 decreases-join_tvar l = l.left + l.left + 1
 
-abbrev pub invariant-loop-i : goal.invariant-loop-i
-invariant-loop-i l = Gathering l.left (case_of l.case) l.initial.w l.initial.at l.t1 l.t2 l.n l.w l.at l.tys l.i
+abbrev pub invariant-join_impl_types-loop-i : goal.invariant-join_impl_types-loop-i
+invariant-join_impl_types-loop-i l = Gathering l.left (case_of l.case) l.initial.w l.initial.at l.t1 l.t2 l.n l.w l.at l.tys l.i
 
-abbrev pub decreases-loop-i : goal.decreases-loop-i
-decreases-loop-i l = l.n - l.i
+abbrev pub decreases-join_impl_types-loop-i : goal.decreases-join_impl_types-loop-i
+decreases-join_impl_types-loop-i l = l.n - l.i

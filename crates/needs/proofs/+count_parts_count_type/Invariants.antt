@@ -9,8 +9,8 @@ decreases-count_parts l = 2 * l.nest + 1
 abbrev pub decreases-count_type : goal.decreases-count_type
 decreases-count_type l = 2 * l.nest
 
-abbrev pub invariant-loop-i : goal.invariant-loop-i
-invariant-loop-i l = Going l.w l.u l.b l.end l.known l.nest l.args l.initial.all l.n l.at l.next l.all l.i
+abbrev pub invariant-count_parts-loop-i : goal.invariant-count_parts-loop-i
+invariant-count_parts-loop-i l = Going l.w l.u l.b l.end l.known l.nest l.args l.initial.all l.n l.at l.next l.all l.i
 
-abbrev pub decreases-loop-i : goal.decreases-loop-i
-decreases-loop-i l = l.n - l.i
+abbrev pub decreases-count_parts-loop-i : goal.decreases-count_parts-loop-i
+decreases-count_parts-loop-i l = l.n - l.i

@@ -8,14 +8,14 @@ use native.Mathlib.Omega.{arith}
 use Prim.Native.Nat.{◌≤◌}
 use Rattle.reader.proofs.+read_parts_read_type.Goals as goal
 
-pub part_count-n-requires : goal.part_count-n-requires
-part_count-n-requires t c = tt
+pub read_parts-part_count-n-requires : goal.read_parts-part_count-n-requires
+read_parts-part_count-n-requires t c = tt
 
-pub loop-i-init : goal.loop-i-init
-loop-i-init t c = go_none _ _ _ _ _ _ _ _ _ _ c.requires.0.0 c.requires.1.1.0 refl
+pub read_parts-loop-i-init : goal.read_parts-loop-i-init
+read_parts-loop-i-init t c = go_none _ _ _ _ _ _ _ _ _ _ c.requires.0.0 c.requires.1.1.0 refl
 
-pub read_type-r-requires : goal.read_type-r-requires
-read_type-r-requires t c = let pre = c.requires in
+pub read_parts-read_type-r-requires : goal.read_parts-read_type-r-requires
+read_parts-read_type-r-requires t c = let pre = c.requires in
     let loop = c.loop-i in (
       omega (arith, c.decreases),
       (
@@ -24,11 +24,11 @@ read_type-r-requires t c = let pre = c.requires in
       ),
     )
 
-pub stops-requires : goal.stops-requires
-stops-requires t c = tt
+pub read_parts-stops-requires : goal.read_parts-stops-requires
+read_parts-stops-requires t c = tt
 
-pub returns-then-stops : goal.returns-then-stops
-returns-then-stops t c = let args = c.args in
+pub read_parts-returns-then-stops : goal.read_parts-returns-then-stops
+read_parts-returns-then-stops t c = let args = c.args in
     let part_count = c.part_count-n in
     let loop = c.loop-i in
     let loop-test = c.loop-i-test in
@@ -36,35 +36,35 @@ returns-then-stops t c = let args = c.args in
     loop-test.true args.loc args.shape part_count.ensures
     (sym c.stops.ensures ∙ c.if-stops.true)
 
-pub no_space-over-requires : goal.no_space-over-requires
-no_space-over-requires t c = tt
+pub read_parts-no_space-over-requires : goal.read_parts-no_space-over-requires
+read_parts-no_space-over-requires t c = tt
 
-pub node_of-requires : goal.node_of-requires
-node_of-requires t c = tt
+pub read_parts-node_of-requires : goal.read_parts-node_of-requires
+read_parts-node_of-requires t c = tt
 
-pub offset_bounds-parts-i : goal.offset_bounds-parts-i
-offset_bounds-parts-i t c = let pre = c.requires in
+pub read_parts-offset_bounds-parts-i : goal.read_parts-offset_bounds-parts-i
+read_parts-offset_bounds-parts-i t c = let pre = c.requires in
     let part_count = c.part_count-n in
     let few : part_count.result ≤ 8 = rw part_count.ensures pre.1.1.1.1 in
     search rules
 
-pub bounds-parts-i : goal.bounds-parts-i
-bounds-parts-i t c = let pre = c.requires in
+pub read_parts-bounds-parts-i : goal.read_parts-bounds-parts-i
+read_parts-bounds-parts-i t c = let pre = c.requires in
     let part_count = c.part_count-n in
     let few : part_count.result ≤ 8 = rw part_count.ensures pre.1.1.1.1 in
     omega arith
 
-pub overflow_add-i : goal.overflow_add-i
-overflow_add-i t c = let pre = c.requires in
+pub read_parts-overflow_add-i : goal.read_parts-overflow_add-i
+read_parts-overflow_add-i t c = let pre = c.requires in
     let part_count = c.part_count-n in
     let few : part_count.result ≤ 8 = rw part_count.ensures pre.1.1.1.1 in
     omega arith
 
-pub loop-i-smaller : goal.loop-i-smaller
-loop-i-smaller t c = omega arith
+pub read_parts-loop-i-smaller : goal.read_parts-loop-i-smaller
+read_parts-loop-i-smaller t c = omega arith
 
-pub loop-i-preserved : goal.loop-i-preserved
-loop-i-preserved t c = let pre = c.requires in
+pub read_parts-loop-i-preserved : goal.read_parts-loop-i-preserved
+read_parts-loop-i-preserved t c = let pre = c.requires in
     let part_count = c.part_count-n in
     let loop = c.loop-i in
     let loop-test = c.loop-i-test in
@@ -74,17 +74,17 @@ loop-i-preserved t c = let pre = c.requires in
     (go_more _ _ _ _ _ _ _ _ _ _ _ _ _ _ _ loop.invariant _ _ read_type.ensures loop-test.true few
     (sym c.stops.ensures ∙ c.if-stops.false))
 
-pub place_node-step-requires : goal.place_node-step-requires
-place_node-step-requires t c = (c.loop-i.invariant.lay, (c.requires.1.1.1.1, λ o j l. let m = c.part_count-n.ensures in let z = c.loop-i-test.false in c.loop-i.invariant.below o j (omega arith)))
+pub read_parts-place_node-step-requires : goal.read_parts-place_node-step-requires
+read_parts-place_node-step-requires t c = (c.loop-i.invariant.lay, (c.requires.1.1.1.1, λ o j l. let m = c.part_count-n.ensures in let z = c.loop-i-test.false in c.loop-i.invariant.below o j (omega arith)))
 
-pub done_of-requires : goal.done_of-requires
-done_of-requires t c = tt
+pub read_parts-done_of-requires : goal.read_parts-done_of-requires
+read_parts-done_of-requires t c = tt
 
-pub part_found-p-requires : goal.part_found-p-requires
-part_found-p-requires t c = tt
+pub read_parts-part_found-p-requires : goal.read_parts-part_found-p-requires
+read_parts-part_found-p-requires t c = tt
 
-pub returns : goal.returns
-returns t c = let args = c.args in
+pub read_parts-returns : goal.read_parts-returns
+read_parts-returns t c = let args = c.args in
     let part_count = c.part_count-n in
     let loop = c.loop-i in
     let loop-test = c.loop-i-test in
@@ -93,30 +93,30 @@ returns t c = let args = c.args in
     place-node.result place-node.ensures _
     (rw c.done_of.ensures at c.part_found-p.ensures)
 
-pub read_head-h-requires : goal.read_head-h-requires
-read_head-h-requires t c = c.requires
+pub read_type-read_head-h-requires : goal.read_type-read_head-h-requires
+read_type-read_head-h-requires t c = c.requires
 
-pub overflow_sub-nest : goal.overflow_sub-nest
-overflow_sub-nest t c = rw c.in-Begun.is at c.read_head-h.ensures.head_within.1
+pub read_type-overflow_sub-nest : goal.read_type-overflow_sub-nest
+read_type-overflow_sub-nest t c = rw c.in-Begun.is at c.read_head-h.ensures.head_within.1
 
-pub read_parts-requires : goal.read_parts-requires
-read_parts-requires t c = let pre = c.requires in
+pub read_type-read_parts-requires : goal.read_type-read_parts-requires
+read_type-read_parts-requires t c = let pre = c.requires in
     let read_head = c.read_head-h in
     let w = rw c.in-Begun.is at read_head.ensures.head_within.0 in
     let n = rw c.in-Begun.is at read_head.ensures.head_within.1 in
     (omega (arith, n, c.decreases), (pre.0, (pre.1.0, (w.0, (pre.1.1.1, w.1)))))
 
-pub returns-in-Begun : goal.returns-in-Begun
-returns-in-Begun t c = takes_is _ _ _ _ _ _ _ _ _ _ (λ ds s d k. rw c.in-Begun.is at (c.read_head-h.ensures.s_value s ds d k)) c.read_parts.ensures
+pub read_type-returns-in-Begun : goal.read_type-returns-in-Begun
+read_type-returns-in-Begun t c = takes_is _ _ _ _ _ _ _ _ _ _ (λ ds s d k. rw c.in-Begun.is at (c.read_head-h.ensures.s_value s ds d k)) c.read_parts.ensures
 
-pub returns-in-Broken : goal.returns-in-Broken
+pub read_type-returns-in-Broken : goal.read_type-returns-in-Broken
 unfolding place_read
-returns-in-Broken t c = takes_none _ _ _ _ _ _ _ _ Malformed c.requires.0.0 c.requires.1.1.0 tt (λ ds s d k. rw (← c.read_head-h.ensures.s_value s ds d k, c.in-Broken.is) refl)
+read_type-returns-in-Broken t c = takes_none _ _ _ _ _ _ _ _ Malformed c.requires.0.0 c.requires.1.1.0 tt (λ ds s d k. rw (← c.read_head-h.ensures.s_value s ds d k, c.in-Broken.is) refl)
 
-pub returns-in-Unnamed : goal.returns-in-Unnamed
+pub read_type-returns-in-Unnamed : goal.read_type-returns-in-Unnamed
 unfolding place_read
-returns-in-Unnamed t c = takes_none _ _ _ _ _ _ _ _ Unknown c.requires.0.0 c.requires.1.1.0 tt (λ ds s d k. rw (← c.read_head-h.ensures.s_value s ds d k, c.in-Unnamed.is) refl)
+read_type-returns-in-Unnamed t c = takes_none _ _ _ _ _ _ _ _ Unknown c.requires.0.0 c.requires.1.1.0 tt (λ ds s d k. rw (← c.read_head-h.ensures.s_value s ds d k, c.in-Unnamed.is) refl)
 
-pub returns-in-Doubled : goal.returns-in-Doubled
+pub read_type-returns-in-Doubled : goal.read_type-returns-in-Doubled
 unfolding place_read
-returns-in-Doubled t c = takes_none _ _ _ _ _ _ _ _ Doubled c.requires.0.0 c.requires.1.1.0 tt (λ ds s d k. rw (← c.read_head-h.ensures.s_value s ds d k, c.in-Doubled.is) refl)
+read_type-returns-in-Doubled t c = takes_none _ _ _ _ _ _ _ _ Doubled c.requires.0.0 c.requires.1.1.0 tt (λ ds s d k. rw (← c.read_head-h.ensures.s_value s ds d k, c.in-Doubled.is) refl)

@@ -9,8 +9,8 @@ decreases-read_parts l = 2 * l.nest + 1
 abbrev pub decreases-read_type : goal.decreases-read_type
 decreases-read_type l = 2 * l.nest
 
-abbrev pub invariant-loop-i : goal.invariant-loop-i
-invariant-loop-i l = Going l.initial.w l.initial.used l.b l.end l.known l.nest l.initial.over l.n l.at l.w l.used l.next l.over l.parts l.i
+abbrev pub invariant-read_parts-loop-i : goal.invariant-read_parts-loop-i
+invariant-read_parts-loop-i l = Going l.initial.w l.initial.used l.b l.end l.known l.nest l.initial.over l.n l.at l.w l.used l.next l.over l.parts l.i
 
-abbrev pub decreases-loop-i : goal.decreases-loop-i
-decreases-loop-i l = l.n - l.i
+abbrev pub decreases-read_parts-loop-i : goal.decreases-read_parts-loop-i
+decreases-read_parts-loop-i l = l.n - l.i

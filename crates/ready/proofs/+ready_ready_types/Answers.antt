@@ -8,62 +8,62 @@ use mathlib.Core.Path.{◌∙◌}
 use Prim.Native.Nat.{ℕ}
 use Rattle.ready.proofs.+ready_ready_types.Goals as goal
 
-pub land-requires : goal.land-requires
-land-requires t c = c.requires
+pub ready-land-requires : goal.ready-land-requires
+ready-land-requires t c = c.requires
 
-pub rebuild_bare-requires : goal.rebuild_bare-requires
-rebuild_bare-requires t c = let h = c.requires.0 in
+pub ready-rebuild_bare-requires : goal.ready-rebuild_bare-requires
+ready-rebuild_bare-requires t c = let h = c.requires.0 in
     let g = c.land.ensures in
     let l = lands_in _ _ _ _ h _ g _ _ _ c.in-Parts.is in
     (h, (l.0, λ ds. l.1.1 ds ∙ c.if-many-eq0.true))
 
-pub returns-then-many-eq0 : goal.returns-then-many-eq0
-returns-then-many-eq0 t c = let h = c.requires.0 in
+pub ready-returns-then-many-eq0 : goal.ready-returns-then-many-eq0
+ready-returns-then-many-eq0 t c = let h = c.requires.0 in
     let g = c.land.ensures in
     lands_bare _ _ _ _ h _ g _ _ _ c.in-Parts.is c.if-many-eq0.true _ _ c.rebuild_bare.ensures
 
-pub ready_types-requires : goal.ready_types-requires
-ready_types-requires t c = let h = c.requires.0 in
+pub ready-ready_types-requires : goal.ready-ready_types-requires
+ready-ready_types-requires t c = let h = c.requires.0 in
     let g = c.land.ensures in
     let l = lands_in _ _ _ _ h _ g _ _ _ c.in-Parts.is in
     let k = l.1.0 in
     let m = c.decreases in
     (omega arith, (h, (l.0, (l.1.1, c.requires.1.1))))
 
-pub push_node-requires : goal.push_node-requires
-push_node-requires t c = (c.requires.0, tt)
+pub ready-push_node-requires : goal.ready-push_node-requires
+ready-push_node-requires t c = (c.requires.0, tt)
 
-pub returns-else-many-eq0 : goal.returns-else-many-eq0
-returns-else-many-eq0 t c = let h = c.requires.0 in
+pub ready-returns-else-many-eq0 : goal.ready-returns-else-many-eq0
+ready-returns-else-many-eq0 t c = let h = c.requires.0 in
     let g = c.land.ensures in
     lands_parts _ _ _ _ h _ g _ _ _ c.in-Parts.is _ _ c.ready_types.ensures
 
-pub returns-in-Open : goal.returns-in-Open
-returns-in-Open t c = let h = c.requires.0 in
+pub ready-returns-in-Open : goal.ready-returns-in-Open
+ready-returns-in-Open t c = let h = c.requires.0 in
     let g = c.land.ensures in
     lands_open _ _ _ _ h _ g _ _ c.in-Open.is _ _ c.push_node.ensures
 
-pub returns-in-Spent : goal.returns-in-Spent
-returns-in-Spent t c = let h = c.requires.0 in
+pub ready-returns-in-Spent : goal.ready-returns-in-Spent
+ready-returns-in-Spent t c = let h = c.requires.0 in
     let g = c.land.ensures in
     lands_spent _ _ _ _ h _ g c.in-Spent.is
 
-pub loop-i-init : goal.loop-i-init
-loop-i-init t c = let p = c.requires in
+pub ready_types-loop-i-init : goal.ready_types-loop-i-init
+ready_types-loop-i-init t c = let p = c.requires in
     (parts_start _ _ _ _ c.decreases p.0 p.1.0 _ (length-replicate {A = ℕ} 8 0), p.1.1)
 
-pub part_of-p-requires : goal.part_of-p-requires
-part_of-p-requires t c = let g = c.loop-i.invariant.0 in
+pub ready_types-part_of-p-requires : goal.ready_types-part_of-p-requires
+ready_types-part_of-p-requires t c = let g = c.loop-i.invariant.0 in
     (g.changed.lay, still_in _ _ _ _ _ g.changed.grown c.requires.1.0)
 
-pub ready-a-requires : goal.ready-a-requires
-ready-a-requires t c = let g = c.loop-i.invariant.0 in
+pub ready_types-ready-a-requires : goal.ready_types-ready-a-requires
+ready_types-ready-a-requires t c = let g = c.loop-i.invariant.0 in
     let m = c.requires in
     let q = m in
     (omega (arith, c.decreases), (g.changed.lay, (part_in _ _ _ _ q.0 q.1.0 q.1.1.0 _ _ g.changed.grown c.loop-i-test.true c.part_of-p.ensures, c.loop-i.invariant.1)))
 
-pub returns-in-Nothing : goal.returns-in-Nothing
-returns-in-Nothing t c = let g = c.loop-i.invariant.0 in
+pub ready_types-returns-in-Nothing : goal.ready_types-returns-in-Nothing
+ready_types-returns-in-Nothing t c = let g = c.loop-i.invariant.0 in
     let l = c.loop-i-test.true in
     let p = c.part_of-p.ensures in
     let a = c.ready-a.ensures in
@@ -73,25 +73,25 @@ returns-in-Nothing t c = let g = c.loop-i.invariant.0 in
     (parts_walked _ _ _ _ c.decreases q.0 q.1.0 _
     (walk_stop g l (part_kept _ _ _ _ c.decreases q.0 q.1.0 _ _ g.changed.grown l p) a d c.in-Nothing.is))
 
-pub narrow-requires : goal.narrow-requires
-narrow-requires t c = let a = c.ready-a.ensures in
+pub ready_types-narrow-requires : goal.ready_types-narrow-requires
+ready_types-narrow-requires t c = let a = c.ready-a.ensures in
     omega (arith, after_done a c.done_of.ensures c.in-Just.is, a.changed.lay.nodes)
 
-pub bounds-tys-at : goal.bounds-tys-at
-bounds-tys-at t c = let g = c.loop-i.invariant.0 in
+pub ready_types-bounds-tys-at : goal.ready_types-bounds-tys-at
+ready_types-bounds-tys-at t c = let g = c.loop-i.invariant.0 in
     let e = c.wide-at.ensures in
     let f = g.few in
     let l = c.loop-i-test.true in
     omega arith
 
-pub overflow_add-i : goal.overflow_add-i
-overflow_add-i t c = omega arith
+pub ready_types-overflow_add-i : goal.ready_types-overflow_add-i
+ready_types-overflow_add-i t c = omega arith
 
-pub loop-i-smaller : goal.loop-i-smaller
-loop-i-smaller t c = omega arith
+pub ready_types-loop-i-smaller : goal.ready_types-loop-i-smaller
+ready_types-loop-i-smaller t c = omega arith
 
-pub loop-i-preserved : goal.loop-i-preserved
-loop-i-preserved t c = let g = c.loop-i.invariant.0 in
+pub ready_types-loop-i-preserved : goal.ready_types-loop-i-preserved
+ready_types-loop-i-preserved t c = let g = c.loop-i.invariant.0 in
     let l = c.loop-i-test.true in
     let p = c.part_of-p.ensures in
     let a = c.ready-a.ensures in
@@ -103,13 +103,13 @@ loop-i-preserved t c = let g = c.loop-i.invariant.0 in
       known_after _ _ g.changed.lay a d x c.loop-i.invariant.1,
     )
 
-pub rebuild-b-requires : goal.rebuild-b-requires
-rebuild-b-requires t c = let g = c.loop-i.invariant.0 in
+pub ready_types-rebuild-b-requires : goal.ready_types-rebuild-b-requires
+ready_types-rebuild-b-requires t c = let g = c.loop-i.invariant.0 in
     let q = c.requires in
     (g.changed.lay, (still_in _ _ _ _ _ g.changed.grown q.0, (parts_kept _ _ _ _ c.decreases q.0 q.1.0 _ _ g.changed.grown, walk_parts g c.loop-i-test.false)))
 
-pub returns : goal.returns
-returns t c = let g = c.loop-i.invariant.0 in
+pub ready_types-returns : goal.ready_types-returns
+ready_types-returns t c = let g = c.loop-i.invariant.0 in
     let q = c.requires in
     rw c.anew-2.ensures
     (parts_walked _ _ _ _ c.decreases q.0 q.1.0 _

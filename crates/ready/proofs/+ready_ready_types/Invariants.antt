@@ -13,8 +13,8 @@ decreases-ready l = 2 * l.left
 abbrev pub decreases-ready_types : goal.decreases-ready_types
 decreases-ready_types l = 2 * l.left + 1
 
-abbrev pub invariant-loop-i : goal.invariant-loop-i
-invariant-loop-i l = Walked Any (D.ready l.left) (anew_with l.initial.w l.initial.cur l.t) (parts_of l.initial.w l.initial.cur l.t) l.many l.initial.w l.initial.cur l.w l.cur l.tys l.i × EndsKnown l.w l.cur l.ends
+abbrev pub invariant-ready_types-loop-i : goal.invariant-ready_types-loop-i
+invariant-ready_types-loop-i l = Walked Any (D.ready l.left) (anew_with l.initial.w l.initial.cur l.t) (parts_of l.initial.w l.initial.cur l.t) l.many l.initial.w l.initial.cur l.w l.cur l.tys l.i × EndsKnown l.w l.cur l.ends
 
-abbrev pub decreases-loop-i : goal.decreases-loop-i
-decreases-loop-i l = l.many - l.i
+abbrev pub decreases-ready_types-loop-i : goal.decreases-ready_types-loop-i
+decreases-ready_types-loop-i l = l.many - l.i

@@ -14,11 +14,11 @@ use Rattle.shapes.proofs.Levels.{level_none, level_by, level_stays, ref_stop, re
 use Rattle.tparams.proofs.DownLaws.{levels, whole, answered}
 use Rattle.tparams.proofs.+subst_apply_subst_down.Goals as goal
 
-pub loop-i-init : goal.loop-i-init
-loop-i-init t c = through_start c.requires.0 c.requires.1.0 refl
+pub subst_apply-loop-i-init : goal.subst_apply-loop-i-init
+subst_apply-loop-i-init t c = through_start c.requires.0 c.requires.1.0 refl
 
-pub subst_down-a-requires : goal.subst_down-a-requires
-subst_down-a-requires t c = let pre = c.requires in
+pub subst_apply-subst_down-a-requires : goal.subst_apply-subst_down-a-requires
+subst_apply-subst_down-a-requires t c = let pre = c.requires in
     let loop = c.loop-i in (
       omega (arith, c.decreases),
       (
@@ -30,35 +30,35 @@ subst_down-a-requires t c = let pre = c.requires in
       ),
     )
 
-pub returns-in_default : goal.returns-in_default
+pub subst_apply-returns-in_default : goal.subst_apply-returns-in_default
 unfolding subst_value rest sp_apply
-returns-in_default t c = let loop = c.loop-i in
+subst_apply-returns-in_default t c = let loop = c.loop-i in
     let if1 = c.loop-i-test in
     let arg_at = c.arg_at-t in
     let subst_down = c.subst_down-a in
     through_stop loop.invariant if1.true arg_at.ensures subst_down.ensures c.done_of.ensures c.in_default.is
 
-pub loop-i-preserved : goal.loop-i-preserved
-loop-i-preserved t c = let loop = c.loop-i in
+pub subst_apply-loop-i-preserved : goal.subst_apply-loop-i-preserved
+subst_apply-loop-i-preserved t c = let loop = c.loop-i in
     let if1 = c.loop-i-test in
     let arg_at = c.arg_at-t in
     let subst_down = c.subst_down-a in
     let done-of = c.done_of in
     through_more loop.invariant if1.true arg_at.ensures subst_down.ensures done-of.ensures c.in-Just.is c.wide-at.ensures
 
-pub push_apply-requires : goal.push_apply-requires
-push_apply-requires t c = (c.loop-i.invariant.walked.changed.lay, through_parts c.loop-i.invariant c.loop-i-test.false)
+pub subst_apply-push_apply-requires : goal.subst_apply-push_apply-requires
+subst_apply-push_apply-requires t c = (c.loop-i.invariant.walked.changed.lay, through_parts c.loop-i.invariant c.loop-i-test.false)
 
-pub returns : goal.returns
+pub subst_apply-returns : goal.subst_apply-returns
 unfolding subst_value rest sp_apply
-returns t c = let loop = c.loop-i in
+subst_apply-returns t c = let loop = c.loop-i in
     through_end loop.invariant c.loop-i-test.false c.push_apply.ensures
 
-pub returns-then-left-eq0 : goal.returns-then-left-eq0
-returns-then-left-eq0 t c = level_none (levels _) _ _ _ _ c.requires.0 c.if-left-eq0.true c.stay.ensures
+pub subst_down-returns-then-left-eq0 : goal.subst_down-returns-then-left-eq0
+subst_down-returns-then-left-eq0 t c = level_none (levels _) _ _ _ _ c.requires.0 c.if-left-eq0.true c.stay.ensures
 
-pub subst_down-a-requires : goal.subst_down-a-requires
-subst_down-a-requires t c = let pre = c.requires in
+pub subst_down-subst_down-a-requires : goal.subst_down-subst_down-a-requires
+subst_down-subst_down-a-requires t c = let pre = c.requires in
     let if1 = c.if-left-eq0 in (
       omega (arith, c.decreases, if1.false),
       (
@@ -70,17 +70,17 @@ subst_down-a-requires t c = let pre = c.requires in
       ),
     )
 
-pub returns-in_default : goal.returns-in_default
+pub subst_down-returns-in_default : goal.subst_down-returns-in_default
 unfolding subst_value with_args
-returns-in_default t c = let pre = c.requires in
+subst_down-returns-in_default t c = let pre = c.requires in
     let node_at = c.node_at-node in
     let if1 = c.if-left-eq0 in
     let subst_down = c.subst_down-a in
     level_by (levels _) _ _ _ _ pre.0 node_at.result if1.false node_at.ensures c.in-Ref.is (λ ds. refl)
     (ref_stop _ _ subst_down.ensures c.done_of.ensures c.in_default.is)
 
-pub push_node-requires : goal.push_node-requires
-push_node-requires t c = let subst_down = c.subst_down-a in
+pub subst_down-push_node-requires : goal.subst_down-push_node-requires
+subst_down-push_node-requires t c = let subst_down = c.subst_down-a in
     let pre = c.requires in
     let node_at = c.node_at-node in (
       subst_down.ensures.changed.lay,
@@ -93,8 +93,8 @@ push_node-requires t c = let subst_down = c.subst_down-a in
       ),
     )
 
-pub subst_apply-requires : goal.subst_apply-requires
-subst_apply-requires t c = let pre = c.requires in
+pub subst_down-subst_apply-requires : goal.subst_down-subst_apply-requires
+subst_down-subst_apply-requires t c = let pre = c.requires in
     let if1 = c.if-left-eq0 in (
       omega (arith, c.decreases, if1.false),
       (
@@ -106,30 +106,30 @@ subst_apply-requires t c = let pre = c.requires in
       ),
     )
 
-pub returns-in-Unit : goal.returns-in-Unit
+pub subst_down-returns-in-Unit : goal.subst_down-returns-in-Unit
 unfolding outcome
-returns-in-Unit t c = let pre = c.requires in
+subst_down-returns-in-Unit t c = let pre = c.requires in
     level_stays (levels _) _ _ _ _ pre.0 c.node_at-node.result c.if-left-eq0.false c.node_at-node.ensures _ refl c.stay-in-Unit.ensures pre.1.0
     (λ s. whole c.node_at-node.result.shape (opened c.in-Unit.in-Unit-own.keys1) _ _ s _ _)
 
-pub returns-in-Var : goal.returns-in-Var
+pub subst_down-returns-in-Var : goal.subst_down-returns-in-Var
 unfolding outcome subst_value with_args
-returns-in-Var t c = let pre = c.requires in
+subst_down-returns-in-Var t c = let pre = c.requires in
     let if1 = c.if-left-eq0 in
     level_stays (levels _) _ _ _ _ pre.0 c.node_at-node.result if1.false c.node_at-node.ensures _ c.in-Var.is c.stay-in-Var.ensures tt
     (λ s. refl)
 
-pub returns-in-Param : goal.returns-in-Param
+pub subst_down-returns-in-Param : goal.subst_down-returns-in-Param
 unfolding subst_value with_args
-returns-in-Param t c = let pre = c.requires in
+subst_down-returns-in-Param t c = let pre = c.requires in
     let node_at = c.node_at-node in
     let if1 = c.if-left-eq0 in
     level_stays (levels _) _ _ _ _ pre.0 node_at.result if1.false node_at.ensures _ c.in-Param.is
     (rw c.arg_or_none-o.ensures at c.stay-in-Param.ensures) (args_in _ _ _ _ _ pre.1.1) (λ s. answered s (D.arg_of _ _))
 
-pub returns-in-Just : goal.returns-in-Just
+pub subst_down-returns-in-Just : goal.subst_down-returns-in-Just
 unfolding subst_value with_args
-returns-in-Just t c = let pre = c.requires in
+subst_down-returns-in-Just t c = let pre = c.requires in
     let node_at = c.node_at-node in
     let if1 = c.if-left-eq0 in
     let subst_down = c.subst_down-a in
@@ -137,9 +137,9 @@ returns-in-Just t c = let pre = c.requires in
     level_by (levels _) _ _ _ _ pre.0 node_at.result if1.false node_at.ensures c.in-Ref.is (λ ds. refl)
     (ref_then _ _ subst_down.ensures done-of.ensures c.in-Just.is c.push_node.ensures)
 
-pub returns-in-Apply : goal.returns-in-Apply
+pub subst_down-returns-in-Apply : goal.subst_down-returns-in-Apply
 unfolding subst_value with_args seen with_structs args_at
-returns-in-Apply t c = let pre = c.requires in
+subst_down-returns-in-Apply t c = let pre = c.requires in
     let node_at = c.node_at-node in
     let if1 = c.if-left-eq0 in
     level_by (levels _) _ _ _ _ pre.0 node_at.result if1.false node_at.ensures c.in-Apply.is (λ ds. refl) c.subst_apply.ensures

@@ -14,8 +14,8 @@ decreases-subst_apply l = 2 * l.left + 1
 abbrev pub decreases-subst_down : goal.decreases-subst_down
 decreases-subst_down l = 2 * l.left
 
-abbrev pub invariant-loop-i : goal.invariant-loop-i
-invariant-loop-i l = Through Any (D.subst_down l.left (subst_of l.subst)) (sp_apply l.loc (mark_of l.ty.k) (name_of l.ty.n)) l.ty.first l.ty.many l.initial.w l.initial.v l.w l.v l.parts l.i
+abbrev pub invariant-subst_apply-loop-i : goal.invariant-subst_apply-loop-i
+invariant-subst_apply-loop-i l = Through Any (D.subst_down l.left (subst_of l.subst)) (sp_apply l.loc (mark_of l.ty.k) (name_of l.ty.n)) l.ty.first l.ty.many l.initial.w l.initial.v l.w l.v l.parts l.i
 
-abbrev pub decreases-loop-i : goal.decreases-loop-i
-decreases-loop-i l = l.ty.many - l.i
+abbrev pub decreases-subst_apply-loop-i : goal.decreases-subst_apply-loop-i
+decreases-subst_apply-loop-i l = l.ty.many - l.i
