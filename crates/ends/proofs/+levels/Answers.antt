@@ -9,7 +9,7 @@ pub bounds-heights-at : goal.bounds-heights-at
 bounds-heights-at t c = omega (arith, c.wide-at.ensures, c.requires.lay.1.0, c.requires.lay.0.nodes, c.requires.lay.1.1.1.size)
 
 pub overflow_cast-result : goal.overflow_cast-result
-overflow_cast-result t c = let pre = c.requires.lay in omega (arith, (pre.ends_known.1.1.ends c.wide-at.result c.if-known-gt0.true).few, pre.lay.nodes)
+overflow_cast-result t c = let pre = c.requires.lay in omega (arith, (pre.1.1.1.ends c.wide-at.result c.if-known-gt0.true).few, pre.0.nodes)
 
 pub returns-then-known-gt0 : goal.returns-then-known-gt0
 returns-then-known-gt0 t c = let pre = c.requires in
@@ -20,7 +20,7 @@ returns-then-known-gt0 t c = let pre = c.requires in
 
 pub goes_on-s-requires : goal.goes_on-s-requires
 goes_on-s-requires t c = let pre = c.requires in
-    ((pre.lay.0, pre.lay.1.0), pre.ends_known)
+    record { lay = (pre.lay.0, pre.lay.1.0); ends_known = pre.ends_known }
 
 pub loop-i-init : goal.loop-i-init
 loop-i-init t c = let pre = c.requires in

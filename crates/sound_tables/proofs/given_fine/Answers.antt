@@ -18,7 +18,7 @@ returns-then-not-bytes_fine c = let args = c.args in
     let loop = c.loop-i in
     sym (one_fails _ _ loop.i (omega arith)
     (sym (c.bytes_fine.ensures ∙ ap
-    (λ (k : ℕ). all_below 8 (byte_fine (get_or args.t3 loop.i []) k))
+    (λ (k : ℕ). all_below 8 (byte_fine (get_or args.params loop.i []) k))
     c.params_at-many.ensures) ∙ c.if-not-bytes_fine.true))
 
 pub overflow_add-i : goal.overflow_add-i
@@ -33,7 +33,7 @@ loop-i-preserved c = let args = c.args in
     let loop = c.loop-i in
     passed_more _ _ _ loop.invariant (omega arith)
     (sym (c.bytes_fine.ensures ∙ ap
-    (λ (k : ℕ). all_below 8 (byte_fine (get_or args.t3 loop.i []) k))
+    (λ (k : ℕ). all_below 8 (byte_fine (get_or args.params loop.i []) k))
     c.params_at-many.ensures) ∙ c.if-not-bytes_fine.false)
 
 pub returns : goal.returns

@@ -12,16 +12,16 @@ in_table : (u : Used) (i : ℕ) (table t : Table) → table ≡ t → i < count_
 in_table u i table t e h = rw e at h
 
 pub struct_fine-requires : goal.struct_fine-requires
-struct_fine-requires c = let h = in_table _ _ _ _ c.in-Structs.is c.requires.1 in search rules
+struct_fine-requires c = let h = in_table c.args.u c.args.i c.args.table _ c.in-Structs.is c.requires.1 in search rules
 
 pub node_fine-requires : goal.node_fine-requires
-node_fine-requires c = let h = in_table _ _ _ _ c.in-Nodes.is c.requires.1 in search rules
+node_fine-requires c = let h = in_table c.args.u c.args.i c.args.table _ c.in-Nodes.is c.requires.1 in search rules
 
 pub cell_fine-requires : goal.cell_fine-requires
-cell_fine-requires c = let h = in_table _ _ _ _ c.in-Cells.is c.requires.1 in search rules
+cell_fine-requires c = let h = in_table c.args.u c.args.i c.args.table _ c.in-Cells.is c.requires.1 in search rules
 
 pub constraint_fine-requires : goal.constraint_fine-requires
-constraint_fine-requires c = let h = in_table _ _ _ _ c.in-Constraints.is c.requires.1 in search rules
+constraint_fine-requires c = let h = in_table c.args.u c.args.i c.args.table _ c.in-Constraints.is c.requires.1 in search rules
 
 pub returns-in-Structs : goal.returns-in-Structs
 returns-in-Structs c = rw c.in-Structs.is c.struct_fine.ensures
