@@ -164,6 +164,11 @@ pub record Chosen (left : ℕ) (case : TypingCase) (w : List ℕ) (u : Used) (lh
   pub rhs_is : (ds : List Struct) → node_of r ≡ node (seen w u ds) rhs
   pub takes : Takes (case_of case) l.shape r.shape a
 
+-- what is known where the arm is chosen
+pub choice : (left : ℕ) (case : TypingCase) (w : List ℕ) (u : Used) (lhs rhs : ℕ) (l r : Node) (a : Arm) → Lay w u × ((lhs < u.nodes) × (rhs < u.nodes)) → (left ≡ 0 → ⊥)
+    → ((ds : List Struct) → node_of l ≡ node (seen w u ds) lhs) → ((ds : List Struct) → node_of r ≡ node (seen w u ds) rhs) → Takes (case_of case) l.shape r.shape a → Chosen left case w u lhs rhs l r a
+choice left case w u lhs rhs l r a pre more lhs_is rhs_is takes = record { lay = pre.0; lhs_in = pre.1.0; rhs_in = pre.1.1; more = more; lhs_is = lhs_is; rhs_is = rhs_is; takes = takes }
+
 module _ {left : ℕ} {case : TypingCase} {w : List ℕ} {u : Used} {lhs rhs : ℕ} {l r : Node} {a : Arm} (h : Chosen left case w u lhs rhs l r a) where
   chosen : (b : Arm) → a ≡ b → (ds : List Struct) → by_arm (inner (left - 1)) (seen w u ds) (case_of case) lhs rhs b ≡ join_impl left (seen w u ds) (case_of case) lhs rhs
   chosen b e ds =

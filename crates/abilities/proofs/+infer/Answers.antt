@@ -9,20 +9,18 @@ pub returns-then-sets-at-ge256 : goal.returns-then-sets-at-ge256
 returns-then-sets-at-ge256 t c = inferred_known _ _ _ _ _ c.requires.lay.1.1.1 (rw c.wide-at.ensures at c.if-sets-at-ge256.true)
 
 pub goes_on-s-requires : goal.goes_on-s-requires
-goes_on-s-requires t c = let pre = c.requires in
-    ((pre.lay.0, pre.lay.1.0), pre)
+goes_on-s-requires t c = let pre = c.requires in record { lay = (pre.lay.0, pre.lay.1.0); ends_known = pre }
 
 pub keep_set-requires : goal.keep_set-requires
 keep_set-requires t c = let pre = c.requires in
-    let h = walk_none _ _ _ _ _ _ _ _ pre.lay.0 pre.lay.1.0 pre.lay.1.1.0 c.goes_on-s.ensures c.part_count-many.ensures pre.lay.1.1.1 in
-    ((pre.lay.0, (pre.lay.1.0, (pre.lay.1.1.1, walk_parts h (omega arith)))), pre)
+    let h = walk_none _ _ _ _ _ _ _ _ pre.lay.0 pre.lay.1.0 pre.lay.1.1.0 c.goes_on-s.ensures c.part_count-many.ensures pre.lay.1.1.1 in record { lay = (pre.lay.0, (pre.lay.1.0, (pre.lay.1.1.1, walk_parts h (omega arith)))); ends_known = pre }
 
 pub returns-then-many-eq0 : goal.returns-then-many-eq0
 returns-then-many-eq0 t c = c.keep_set.ensures
 
 pub loop-i-init : goal.loop-i-init
 loop-i-init t c = let pre = c.requires.lay in
-    walk_none _ _ _ _ _ _ _ _ pre.lay pre.ends_known.0 pre.ends_known.1.0 c.goes_on-s.ensures c.part_count-many.ensures pre.ends_known.1.1
+    walk_none _ _ _ _ _ _ _ _ pre.0 pre.1.0 pre.1.1.0 c.goes_on-s.ensures c.part_count-many.ensures pre.1.1.1
 
 pub part_at-p-requires : goal.part_at-p-requires
 part_at-p-requires t c = c.loop-i.invariant.lay
@@ -48,8 +46,7 @@ pub loop-i-preserved : goal.loop-i-preserved
 loop-i-preserved t c = walk_more c.loop-i.invariant c.loop-i-test.true _ c.part_at-p.ensures _ c.infer.ensures
 
 pub keep_set-requires-2 : goal.keep_set-requires-2
-keep_set-requires-2 t c = let h = c.loop-i.invariant in
-    ((h.lay, (h.in_nodes, (h.kept, walk_parts h c.loop-i-test.false))), c.requires.ends_known)
+keep_set-requires-2 t c = let h = c.loop-i.invariant in record { lay = (h.lay, (h.in_nodes, (h.kept, walk_parts h c.loop-i-test.false))); ends_known = c.requires.ends_known }
 
 pub returns : goal.returns
 returns t c = walk_done c.loop-i.invariant _ c.keep_set-2.ensures

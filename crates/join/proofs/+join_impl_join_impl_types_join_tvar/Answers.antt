@@ -1,27 +1,11 @@
 use Rattle.join.proofs.Operands.{merge_lay, settled_after, ready_in, close_in, tvar_stop, tvar_inner, tvar_close}
-use Rattle.join.proofs.Operands.{Chosen, impl_deep, arm_below, arm_left, arm_right, arm_subtype, arm_arity, arm_incompatible, arm_disagree, arm_refs, arm_applies, arm_vars, left_is, left_merge, right_is, right_merge}
+use Rattle.join.proofs.Operands.{choice, impl_deep, arm_below, arm_left, arm_right, arm_subtype, arm_arity, arm_incompatible, arm_disagree, arm_refs, arm_applies, arm_vars, left_is, left_merge, right_is, right_merge}
 use Rattle.join.proofs.Args.{gather_none, gather_in, gather_stop, gather_more, gathered}
 use Rattle.table.proofs.Steps.{after_now}
 use mathlib.Core.Path.{refl}
 use native.Mathlib.Omega.{arith}
 use Prim.Native.Nat.{ℕ}
 use Rattle.join.proofs.+join_impl_join_impl_types_join_tvar.Goals as goal
-
--- what is known where the arm is chosen
-chosen : (t : ℕ) (c : join-impl-lts.After-arm-of (join-impl-calls t) (join-impl-at t) join_impl.Post)
-    → let args = c.before.before.before.before.before.before.before.args in
-    Chosen args.left args.case args.w.now args.u args.lhs args.rhs c.before.before.before.node_at.result c.before.node-at2.result c.arm-of.result
-chosen t c =
-    let pre = c.before.before.before.before.before.before.before.requires in
-    record {
-      lay = pre.1.0;
-      lhs_in = pre.1.1.0;
-      rhs_in = pre.1.1.1;
-      more = c.before.before.before.before.before.if1.false;
-      lhs_is = c.before.before.before.node_at.ensures;
-      rhs_is = c.before.node-at2.ensures;
-      takes = c.arm-of.ensures;
-    }
 
 pub join_impl-settled-requires : goal.join_impl-settled-requires
 join_impl-settled-requires t c = tt
@@ -51,13 +35,13 @@ pub join_impl-pick_loc-loc-requires : goal.join_impl-pick_loc-loc-requires
 join_impl-pick_loc-loc-requires t c = tt
 
 pub join_impl-join_impl-a-requires : goal.join_impl-join_impl-a-requires
-join_impl-join_impl-a-requires t c = (omega arith, (c.requires.0, arm_below (chosen t c.NOSTEP_before) c.in-Refs.is))
+join_impl-join_impl-a-requires t c = (omega arith, (c.requires.0, arm_below (choice _ _ _ _ _ _ c.node_at-l.result c.node_at-r.result c.arm_of.result c.requires c.if-left-eq0.false c.node_at-l.ensures c.node_at-r.ensures c.arm_of.ensures) c.in-Refs.is))
 
 pub join_impl-push_ref-requires : goal.join_impl-push_ref-requires
 join_impl-push_ref-requires t c = (c.join_impl-a.ensures.changed.lay, c.join_impl-a.ensures.inside)
 
 pub join_impl-join_impl_types-a-requires : goal.join_impl-join_impl_types-a-requires
-join_impl-join_impl_types-a-requires t c = (omega arith, (c.requires.0, arm_below (chosen t c.NOSTEP_before) c.in-Applies.is))
+join_impl-join_impl_types-a-requires t c = (omega arith, (c.requires.0, arm_below (choice _ _ _ _ _ _ c.node_at-l.result c.node_at-r.result c.arm_of.result c.requires c.if-left-eq0.false c.node_at-l.ensures c.node_at-r.ensures c.arm_of.ensures) c.in-Applies.is))
 
 pub join_impl-push_types-requires : goal.join_impl-push_types-requires
 join_impl-push_types-requires t c = (c.join_impl_types-a.ensures.changed.lay, c.join_impl_types-a.ensures.inside)
@@ -98,52 +82,52 @@ pub join_impl-settled-requires-in-Disagree : goal.join_impl-settled-requires-in-
 join_impl-settled-requires-in-Disagree t c = tt
 
 pub join_impl-returns-in-Lhs : goal.join_impl-returns-in-Lhs
-join_impl-returns-in-Lhs t c = settled_after c.settled-in-Lhs.ensures (arm_left (chosen t c.NOSTEP_before) c.in-Lhs.is)
+join_impl-returns-in-Lhs t c = settled_after c.settled-in-Lhs.ensures (arm_left (choice _ _ _ _ _ _ c.node_at-l.result c.node_at-r.result c.arm_of.result c.requires c.if-left-eq0.false c.node_at-l.ensures c.node_at-r.ensures c.arm_of.ensures) c.in-Lhs.is)
 
 pub join_impl-returns-in-Rhs : goal.join_impl-returns-in-Rhs
-join_impl-returns-in-Rhs t c = settled_after c.settled-in-Rhs.ensures (arm_right (chosen t c.NOSTEP_before) c.in-Rhs.is)
+join_impl-returns-in-Rhs t c = settled_after c.settled-in-Rhs.ensures (arm_right (choice _ _ _ _ _ _ c.node_at-l.result c.node_at-r.result c.arm_of.result c.requires c.if-left-eq0.false c.node_at-l.ensures c.node_at-r.ensures c.arm_of.ensures) c.in-Rhs.is)
 
 pub join_impl-returns-in-Refs : goal.join_impl-returns-in-Refs
 join_impl-returns-in-Refs t c = let pick-loc = c.pick_loc-loc in
     let join_impl = c.join_impl-a in
-    arm_refs (chosen t back) c.in-Refs.is pick-loc.ensures join_impl.ensures
+    arm_refs (choice _ _ _ _ _ _ c.node_at-l.result c.node_at-r.result c.arm_of.result c.requires c.if-left-eq0.false c.node_at-l.ensures c.node_at-r.ensures c.arm_of.ensures) c.in-Refs.is pick-loc.ensures join_impl.ensures
     c.push_ref.ensures
 
 pub join_impl-returns-in-Applies : goal.join_impl-returns-in-Applies
 join_impl-returns-in-Applies t c = let join_impl_types = c.join_impl_types-a in
-    arm_applies (chosen t back) c.in-Applies.is join_impl_types.ensures c.push_types.ensures
+    arm_applies (choice _ _ _ _ _ _ c.node_at-l.result c.node_at-r.result c.arm_of.result c.requires c.if-left-eq0.false c.node_at-l.ensures c.node_at-r.ensures c.arm_of.ensures) c.in-Applies.is join_impl_types.ensures c.push_types.ensures
 
 pub join_impl-returns-in-Vars : goal.join_impl-returns-in-Vars
-join_impl-returns-in-Vars t c = arm_vars (chosen t c.NOSTEP_before) c.in-Vars.is c.join_tvar.ensures
+join_impl-returns-in-Vars t c = arm_vars (choice _ _ _ _ _ _ c.node_at-l.result c.node_at-r.result c.arm_of.result c.requires c.if-left-eq0.false c.node_at-l.ensures c.node_at-r.ensures c.arm_of.ensures) c.in-Vars.is c.join_tvar.ensures
 
 pub join_impl-returns-in-Is : goal.join_impl-returns-in-Is
-join_impl-returns-in-Is t c = left_is (chosen t c.NOSTEP_before) c.in-VarLhs.is c.meet_tvar.ensures c.in-Is.is
+join_impl-returns-in-Is t c = left_is (choice _ _ _ _ _ _ c.node_at-l.result c.node_at-r.result c.arm_of.result c.requires c.if-left-eq0.false c.node_at-l.ensures c.node_at-r.ensures c.arm_of.ensures) c.in-VarLhs.is c.meet_tvar.ensures c.in-Is.is
 
 pub join_impl-returns-in-Merge : goal.join_impl-returns-in-Merge
 join_impl-returns-in-Merge t c = let meet_tvar = c.meet_tvar in
-    left_merge (chosen t back) c.in-VarLhs.is meet_tvar.ensures c.in-Merge.is
+    left_merge (choice _ _ _ _ _ _ c.node_at-l.result c.node_at-r.result c.arm_of.result c.requires c.if-left-eq0.false c.node_at-l.ensures c.node_at-r.ensures c.arm_of.ensures) c.in-VarLhs.is meet_tvar.ensures c.in-Merge.is
     c.join_tvar-in-Merge.ensures
 
 pub join_impl-returns-in-Is-meet_tvar : goal.join_impl-returns-in-Is-meet_tvar
 join_impl-returns-in-Is-meet_tvar t c = let meet-tvar2 = c.meet_tvar-in-VarRhs in
-    right_is (chosen t back) c.in-VarRhs.is meet-tvar2.ensures c.in-Is-meet_tvar.is
+    right_is (choice _ _ _ _ _ _ c.node_at-l.result c.node_at-r.result c.arm_of.result c.requires c.if-left-eq0.false c.node_at-l.ensures c.node_at-r.ensures c.arm_of.ensures) c.in-VarRhs.is meet-tvar2.ensures c.in-Is-meet_tvar.is
 
 pub join_impl-returns-in-Merge-meet_tvar : goal.join_impl-returns-in-Merge-meet_tvar
 join_impl-returns-in-Merge-meet_tvar t c = let meet-tvar2 = c.meet_tvar-in-VarRhs in
-    right_merge (chosen t back) c.in-VarRhs.is meet-tvar2.ensures c.in-Merge-meet_tvar.is
+    right_merge (choice _ _ _ _ _ _ c.node_at-l.result c.node_at-r.result c.arm_of.result c.requires c.if-left-eq0.false c.node_at-l.ensures c.node_at-r.ensures c.arm_of.ensures) c.in-VarRhs.is meet-tvar2.ensures c.in-Merge-meet_tvar.is
     c.join_tvar-in-Merge-meet_tvar.ensures
 
 pub join_impl-returns-in-SubtypeError : goal.join_impl-returns-in-SubtypeError
-join_impl-returns-in-SubtypeError t c = settled_after c.settled-in-SubtypeError.ensures (arm_subtype (chosen t c.NOSTEP_before) c.in-SubtypeError.is)
+join_impl-returns-in-SubtypeError t c = settled_after c.settled-in-SubtypeError.ensures (arm_subtype (choice _ _ _ _ _ _ c.node_at-l.result c.node_at-r.result c.arm_of.result c.requires c.if-left-eq0.false c.node_at-l.ensures c.node_at-r.ensures c.arm_of.ensures) c.in-SubtypeError.is)
 
 pub join_impl-returns-in-ArityMismatch : goal.join_impl-returns-in-ArityMismatch
-join_impl-returns-in-ArityMismatch t c = settled_after c.settled-in-ArityMismatch.ensures (arm_arity (chosen t c.NOSTEP_before) c.in-ArityMismatch.is)
+join_impl-returns-in-ArityMismatch t c = settled_after c.settled-in-ArityMismatch.ensures (arm_arity (choice _ _ _ _ _ _ c.node_at-l.result c.node_at-r.result c.arm_of.result c.requires c.if-left-eq0.false c.node_at-l.ensures c.node_at-r.ensures c.arm_of.ensures) c.in-ArityMismatch.is)
 
 pub join_impl-returns-in-Incompatible : goal.join_impl-returns-in-Incompatible
-join_impl-returns-in-Incompatible t c = settled_after c.settled-in-Incompatible.ensures (arm_incompatible (chosen t c.NOSTEP_before) c.in-Incompatible.is)
+join_impl-returns-in-Incompatible t c = settled_after c.settled-in-Incompatible.ensures (arm_incompatible (choice _ _ _ _ _ _ c.node_at-l.result c.node_at-r.result c.arm_of.result c.requires c.if-left-eq0.false c.node_at-l.ensures c.node_at-r.ensures c.arm_of.ensures) c.in-Incompatible.is)
 
 pub join_impl-returns-in-Disagree : goal.join_impl-returns-in-Disagree
-join_impl-returns-in-Disagree t c = settled_after c.settled-in-Disagree.ensures (arm_disagree (chosen t c.NOSTEP_before) c.in-Disagree.is)
+join_impl-returns-in-Disagree t c = settled_after c.settled-in-Disagree.ensures (arm_disagree (choice _ _ _ _ _ _ c.node_at-l.result c.node_at-r.result c.arm_of.result c.requires c.if-left-eq0.false c.node_at-l.ensures c.node_at-r.ensures c.arm_of.ensures) c.in-Disagree.is)
 
 pub join_impl_types-fewer-n-requires : goal.join_impl_types-fewer-n-requires
 join_impl_types-fewer-n-requires t c = tt

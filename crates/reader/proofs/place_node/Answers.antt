@@ -55,7 +55,7 @@ pub returns-in-Ref : goal.returns-in-Ref
 unfolding put_node
 returns-in-Ref c = let args = c.args in
     let if1 = c.if-over in
-    after_is (λ ds k. rw (c.in-Ref.is, if1.false, get_or-take 1 args.t6 0 0 (omega arith)) refl)
+    after_is (λ ds k. rw (c.in-Ref.is, if1.false, get_or-take 1 args.parts 0 0 (omega arith)) refl)
     c.push_node.ensures
 
 pub returns-in-Apply : goal.returns-in-Apply
