@@ -134,7 +134,7 @@ fn join_impl_types(
     t2: Applied,
 ) -> Types
     requires { Lay w.old u × (ArgsIn w.old u t1 × ArgsIn w.old u t2) }
-    ensures* { λ r. ⌜ Joined w.old u w.new r (λ s. join_impl_types (λ s c l r. join_impl left s c l r) s (case_of case) (args_at s (args_of t1)) (args_at s (args_of t2))) ⌝ }
+    ensures { Joined w.old u w.new result (λ s. join_impl_types (λ s c l r. join_impl left s c l r) s (case_of case) (args_at s (args_of t1)) (args_at s (args_of t2))) }
 {
     let n = fewer(t1.many, t2.many);
     let mut tys = [0u32; 8];
@@ -169,7 +169,7 @@ fn join_impl_types(
 #[cycle(join_impl_join_impl_types_join_tvar)]
 fn join_tvar(w: &mut [u32], u: Used, case: TypingCase, left: u32, v1: VarAt, v2: VarAt) -> Outcome
     requires { Lay w.old u }
-    ensures* { λ r. ⌜ After w.old u w.new r (λ s. join_tvar (λ s c l r. join_impl left s c l r) s (case_of case) v1.0 v1.1.0 v2.0 v2.1.0) ⌝ }
+    ensures { After w.old u w.new result (λ s. join_tvar (λ s c l r. join_impl left s c l r) s (case_of case) v1.0 v1.1.0 v2.0 v2.1.0) }
 {
     let a = merge::open_tvar(w, u, v1, v2);
     let what = a.what;

@@ -9,11 +9,11 @@ pub returns-then-sets-at-ge256 : goal.returns-then-sets-at-ge256
 returns-then-sets-at-ge256 t c = inferred_known _ _ _ _ _ c.requires.lay.1.1.1 (rw c.wide-at.ensures at c.if-sets-at-ge256.true)
 
 pub goes_on-s-requires : goal.goes_on-s-requires
-goes_on-s-requires t c = let pre = c.requires in record { lay = (pre.lay.0, pre.lay.1.0); ends_known = pre }
+goes_on-s-requires t c = let pre = c.requires in record { lay = (pre.lay.0, pre.lay.1.0); ends_known = pre.ends_known }
 
 pub keep_set-requires : goal.keep_set-requires
 keep_set-requires t c = let pre = c.requires in
-    let h = walk_none _ _ _ _ _ _ _ _ pre.lay.0 pre.lay.1.0 pre.lay.1.1.0 c.goes_on-s.ensures c.part_count-many.ensures pre.lay.1.1.1 in record { lay = (pre.lay.0, (pre.lay.1.0, (pre.lay.1.1.1, walk_parts h (omega arith)))); ends_known = pre }
+    let h = walk_none _ _ _ _ _ _ _ _ pre.lay.0 pre.lay.1.0 pre.lay.1.1.0 c.goes_on-s.ensures c.part_count-many.ensures pre.lay.1.1.1 in record { lay = (pre.lay.0, (pre.lay.1.0, (pre.lay.1.1.1, walk_parts h (omega arith)))); ends_known = pre.ends_known }
 
 pub returns-then-many-eq0 : goal.returns-then-many-eq0
 returns-then-many-eq0 t c = c.keep_set.ensures

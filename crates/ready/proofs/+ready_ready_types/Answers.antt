@@ -50,7 +50,7 @@ ready-returns-in-Spent t c = let h = c.requires.0 in
 
 pub ready_types-loop-i-init : goal.ready_types-loop-i-init
 ready_types-loop-i-init t c = let p = c.requires in
-    (parts_start _ _ _ _ c.decreases p.0 p.1.0 _ (length-replicate {A = ℕ} 8 0), p.1.1)
+    (parts_start _ _ _ _ p.0 p.1.0 p.1.1.0 _ (length-replicate {A = ℕ} 8 0), p.1.1.1)
 
 pub ready_types-part_of-p-requires : goal.ready_types-part_of-p-requires
 ready_types-part_of-p-requires t c = let g = c.loop-i.invariant.0 in
@@ -70,8 +70,8 @@ ready_types-returns-in-Nothing t c = let g = c.loop-i.invariant.0 in
     let d = c.done_of.ensures in
     let q = c.requires in
     rw c.anew.ensures
-    (parts_walked _ _ _ _ c.decreases q.0 q.1.0 _
-    (walk_stop g l (part_kept _ _ _ _ c.decreases q.0 q.1.0 _ _ g.changed.grown l p) a d c.in-Nothing.is))
+    (parts_walked _ _ _ _ q.0 q.1.0 q.1.1.0 _
+    (walk_stop g l (part_kept _ _ _ _ q.0 q.1.0 q.1.1.0 _ _ g.changed.grown l p) a d c.in-Nothing.is))
 
 pub ready_types-narrow-requires : goal.ready_types-narrow-requires
 ready_types-narrow-requires t c = let a = c.ready-a.ensures in
@@ -99,18 +99,18 @@ ready_types-loop-i-preserved t c = let g = c.loop-i.invariant.0 in
     let x = c.in-Just.is in
     let q = c.requires in
     rw c.narrow.ensures (
-      walk_more g l (part_kept _ _ _ _ c.decreases q.0 q.1.0 _ _ g.changed.grown l p) a d x c.wide-at.ensures,
+      walk_more g l (part_kept _ _ _ _ q.0 q.1.0 q.1.1.0 _ _ g.changed.grown l p) a d x c.wide-at.ensures,
       known_after _ _ g.changed.lay a d x c.loop-i.invariant.1,
     )
 
 pub ready_types-rebuild-b-requires : goal.ready_types-rebuild-b-requires
 ready_types-rebuild-b-requires t c = let g = c.loop-i.invariant.0 in
     let q = c.requires in
-    (g.changed.lay, (still_in _ _ _ _ _ g.changed.grown q.0, (parts_kept _ _ _ _ c.decreases q.0 q.1.0 _ _ g.changed.grown, walk_parts g c.loop-i-test.false)))
+    (g.changed.lay, (still_in _ _ _ _ _ g.changed.grown q.1.0, (parts_kept _ _ _ _ q.0 q.1.0 q.1.1.0 _ _ g.changed.grown, walk_parts g c.loop-i-test.false)))
 
 pub ready_types-returns : goal.ready_types-returns
 ready_types-returns t c = let g = c.loop-i.invariant.0 in
     let q = c.requires in
     rw c.anew-2.ensures
-    (parts_walked _ _ _ _ c.decreases q.0 q.1.0 _
-    (walk_end g c.loop-i-test.false (anew_kept _ _ _ _ _ c.decreases q.0 g.changed.grown _ c.rebuild-b.ensures)))
+    (parts_walked _ _ _ _ q.0 q.1.0 q.1.1.0 _
+    (walk_end g c.loop-i-test.false (anew_kept _ _ _ _ _ q.0 q.1.0 g.changed.grown _ c.rebuild-b.ensures)))
