@@ -39,7 +39,7 @@ instantiate_apply-returns-in_default-done_of t c = let pre = c.requires in
     let arg_at = c.arg_at-t in
     let instantiate_down = c.instantiate_down-a in
     apply_then _ _ _ _ _ _ _ _ _ pre.1.placed _ make_tparams.result _ make_tparams.ensures done-of.ensures
-    _ _ _ c.in-Var.is
+    _ _ _ c.in-Just.is
     (through_stop loop.invariant if1.true arg_at.ensures
     (after_among (known_kept _ _ _ _ _ loop.invariant.walked.changed.structs) instantiate_down.ensures) c.done_of-in-loop-i.ensures c.in_default-done_of.is)
 
@@ -68,7 +68,7 @@ instantiate_apply-returns t c = let pre = c.requires in
     let done-of = c.done_of in
     let loop = c.loop-i in
     apply_then _ _ _ _ _ _ _ _ _ pre.1.placed _ make_tparams.result _ make_tparams.ensures done-of.ensures
-    _ _ _ c.in-Var.is (through_end loop.invariant c.loop-i-test.false (after_any c.join_args.ensures))
+    _ _ _ c.in-Just.is (through_end loop.invariant c.loop-i-test.false (after_any c.join_args.ensures))
 
 pub instantiate_down-returns-then-left-eq0 : goal.instantiate_down-returns-then-left-eq0
 instantiate_down-returns-then-left-eq0 t c = level_none levels _ _ _ _ c.requires.0 c.if-left-eq0.true c.stay.ensures
@@ -126,7 +126,7 @@ pub instantiate_down-returns-in-Unit : goal.instantiate_down-returns-in-Unit
 unfolding outcome
 instantiate_down-returns-in-Unit t c = let pre = c.requires in
     level_stays levels _ _ _ _ pre.0 c.node_at-node.result c.if-left-eq0.false c.node_at-node.ensures _ refl c.stay-in-Unit.ensures pre.1
-    (λ s. whole c.node_at-node.result.shape (opened c.in-Unit.in-Unit-own.keys1) _ s _ _)
+    (λ s. whole c.node_at-node.result.shape c.in-Unit.in-Unit-own.keys1 _ s _ _)
 
 pub instantiate_down-returns-in-Var : goal.instantiate_down-returns-in-Var
 unfolding outcome instantiate_value with_args

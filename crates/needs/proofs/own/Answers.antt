@@ -17,4 +17,4 @@ pub returns-in-Anything : goal.returns-in-Anything
 returns-in-Anything c = rw c.in-Anything.is c.takes-in-Anything.ensures
 
 pub returns-in_default : goal.returns-in_default
-returns-in_default c = c.takes-in_default.ensures ∙ own_plain c.args.shape (opened c.in_default.in_default-own.keys5)
+returns-in_default c = c.takes-in_default.ensures ∙ own_plain c.args.shape c.in_default.in_default-own.keys5
