@@ -35,7 +35,14 @@ fn next_lines(
 }
 
 // Writes the lines of the records at hand, as many as the log takes.
-fn list(state: &mut [u32], rows: &mut [[u8; 8]; 256], buf: &[u8], log: &mut [u8], t: Turn) -> Turn
+fn list(
+    rt: &HostRuntime,
+    state: &mut [u32],
+    rows: &mut [[u8; 8]; 256],
+    buf: &[u8],
+    log: &mut [u8],
+    t: Turn,
+) -> Turn
     requires { Within t buf.now }
     ensures { Listed (held state.old rows.old buf.now log.old t) (held state.new rows.new buf.now log.new result) }
 {
@@ -59,7 +66,7 @@ fn list(state: &mut [u32], rows: &mut [[u8; 8]; 256], buf: &[u8], log: &mut [u8]
         &mut index,
         &mut ended,
     );
-    let handed = hand_over(log, written);
+    let handed = hand_over(rt, log, written);
     after_lines(t, read, index, ended, handed)
 }
 
@@ -67,6 +74,7 @@ fn list(state: &mut [u32], rows: &mut [[u8; 8]; 256], buf: &[u8], log: &mut [u8]
 
 // Reads on where a record may not be whole, else writes lines.
 fn one_turn(
+    rt: &HostRuntime,
     state: &mut [u32],
     rows: &mut [[u8; 8]; 256],
     buf: &mut [u8],
@@ -77,16 +85,22 @@ fn one_turn(
     ensures { Turned (held state.old rows.old buf.old log.old t) (held state.new rows.new buf.new log.new result) }
 {
     if short(t) {
-        return fill(buf, t);
+        return fill(rt, buf, t);
     }
-    list(state, rows, buf, log, t)
+    list(rt, state, rows, buf, log, t)
 }
 
 // Turn after turn until one ends the job. Nothing says that the input ends, so turns are counted: more than any machine makes.
-// No contract can say what `libc::read` put or `io::write_all` took: that bytes read are those that `read_behind` counts, behind those at hand, and text handed over those
+// No contract can say what a read put or a write took: that bytes read are those that `read_behind` counts, behind those at hand, and text handed over those
 // that `hand_over` counts, in front of the log, is to be seen in these two, in turns.
 // Refused (must-fail/, here and in turns): numbers from 0 anew (index_from_zero), two turns (two_turns), lines that are not handed over (nothing_handed_over).
-fn run(state: &mut [u32], rows: &mut [[u8; 8]; 256], buf: &mut [u8], log: &mut [u8]) -> Turn
+fn run(
+    rt: &HostRuntime,
+    state: &mut [u32],
+    rows: &mut [[u8; 8]; 256],
+    buf: &mut [u8],
+    log: &mut [u8],
+) -> Turn
     requires { (length state.old ≡ 24069) × (4096 ≤ length buf.old) }
     ensures { Ran (held state.old rows.old buf.old log.old first) (held state.new rows.new buf.new log.new result) }
 {
@@ -96,7 +110,7 @@ fn run(state: &mut [u32], rows: &mut [[u8; 8]; 256], buf: &mut [u8], log: &mut [
         if t.ended {
             return t;
         }
-        t = one_turn(state, rows, buf, log, t);
+        t = one_turn(rt, state, rows, buf, log, t);
         turns = turns - 1;
     }
     t
@@ -109,10 +123,10 @@ fn room() -> [u8; 262144]
     [0; 262144]
 }
 
-fn main() {
+fn main(rt: HostRuntime) {
     let mut state = [0u32; WORDS];
     let mut rows = [[0u8; 8]; 256];
     let mut buf = room();
     let mut log = room();
-    run(&mut state, &mut rows, &mut buf, &mut log);
+    run(&rt, &mut state, &mut rows, &mut buf, &mut log);
 }

@@ -3,9 +3,11 @@
 // A job is its size (four bytes, little-endian), then so many bytes: a name, a line end, the stream.
 #![tactic(auto)]
 
-ghost use Rattle.std.specs.Prelude.{◌≡◌, ◌+◌, ◌<◌, ◌≤◌, length};
+ghost use Rattle.std.specs.Prelude.{◌≡◌, ◌+◌, ◌<◌, ◌≤◌, length, IfOk};
 
 use limits::MAX_BUFFER;
+use std::io;
+use std::io::{Read, Write};
 use table::WORDS;
 
 fn wide(x: u8) -> usize
@@ -213,33 +215,35 @@ fn agrees(
 
 // ---- jobs
 
-fn run_job(job: &[u8], log: &mut [u8]) {
+fn run_job(mut out: io::Stdout, job: &[u8], log: &mut [u8]) -> io::Result<()> {
     let at = after_line(job);
-    io::write_all(1, b"= ");
-    io::write_all(1, &job[0..at]);
+    out.write_all(b"= ")?;
+    out.write_all(&job[0..at])?;
     let n = log_of(&job[at..], log);
     let from = last_lines(log, n);
-    io::write_all(1, &log[from..n]);
+    out.write_all(&log[from..n])?;
     let mut state = [0u32; WORDS];
     let mut params = [[0u8; 8]; 256];
     let mut answer = [0u8; MAX_BUFFER];
     if !agrees(&job[at..], &mut state, &mut params, &mut answer, log, n) {
-        io::write_all(1, b"its records one by one give other lines\n");
+        out.write_all(b"its records one by one give other lines\n")?;
     }
+    Ok(())
 }
 
-fn run_jobs(jobs: &[u8], log: &mut [u8]) {
+fn run_jobs(out: io::Stdout, jobs: &[u8], log: &mut [u8]) -> io::Result<()> {
     let mut at: usize = 0;
     while 4 <= jobs.len() - at {
         let size = size_at(jobs, at);
         at = at + 4;
         if jobs.len() - at < size {
-            return;
+            return Ok(());
         }
         let end = at + size;
-        run_job(&jobs[at..end], log);
+        run_job(out, &jobs[at..end], log)?;
         at = end;
     }
+    Ok(())
 }
 
 fn room() -> [u8; 262144]
@@ -248,9 +252,24 @@ fn room() -> [u8; 262144]
     [0; 262144]
 }
 
-fn main() {
+// Fills the buffer as far as the input goes; how many bytes that is.
+fn read_full(mut input: io::Stdin, buf: &mut [u8]) -> io::Result<usize>
+    ensures { IfOk result (λ n. n ≤ length buf.old) }
+{
+    let mut n: usize = 0;
+    while n < buf.len() {
+        let got = input.read(&mut buf[n..])?;
+        if got == 0 {
+            return Ok(n);
+        }
+        n = n + got;
+    }
+    Ok(n)
+}
+
+fn main(rt: HostRuntime) -> io::Result<()> {
     let mut buf = room();
     let mut log = room();
-    let n = io::read_full(0, &mut buf);
-    run_jobs(&buf[0..n], &mut log);
+    let n = read_full(rt.stdin(), &mut buf)?;
+    run_jobs(rt.stdout(), &buf[0..n], &mut log)
 }

@@ -6,6 +6,8 @@ ghost use Rattle.std.specs.Prelude.{◌<◌};
 ghost use Rattle.table.specs.State.{Lay};
 
 use names::TVar;
+use std::io;
+use std::io::Write;
 use table::{ARGS_AT, NODE_WORDS, NODES_AT, Used, VAR_WORDS, VARS_AT, WORDS};
 
 fn put(w: &mut [u32], i: usize, x: u32) {
@@ -94,13 +96,13 @@ fn ask(w: &[u32]) -> [u8; 6] {
     [b'0', b' ', b'-', b' ', b'-', b'\n']
 }
 
-fn main() {
+fn main(rt: HostRuntime) -> io::Result<()> {
     let mut one = [0u32; WORDS];
     let mut two = [0u32; WORDS];
     ladder(&mut one);
     tower(&mut two);
     let line = ask(&one);
-    io::write_all(1, &line);
+    rt.stdout().write_all(&line)?;
     let next = ask(&two);
-    io::write_all(1, &next);
+    rt.stdout().write_all(&next)
 }

@@ -1,16 +1,11 @@
 -- Where a turn stands in the bytes read, what a read leaves there, and what listing lines makes of it. Assumes nothing: these are definitions.
-use Rattle.std.specs.Prelude.{◌≡◌, Bool, true, false, ◌||◌, ◌&&◌, List, ℕ, ◌+◌, ◌-◌, ◌≤◌, ltb, ℤ, pos, length, take, drop}
-use Rattle.std.specs.Int.Signed.{lt_z}
+use Rattle.std.specs.Prelude.{◌≡◌, Bool, true, false, ◌||◌, ◌&&◌, List, ℕ, ◌+◌, ◌-◌, ◌≤◌, ltb, length, take, drop}
 use Rattle.turns.specs.declared.Turn.{Turn}
 use Rattle.turns.specs.declared.Moved.{Moved}
 
 -- before the first turn: nothing read, record number 0, no line asked for
 abbrev pub first : Turn
 first = record { from = 0; have = 0; more = true; index = 0; begun = false; read = 0; written = 0; ended = false; lost = false }
-
--- what a read that failed answers
-abbrev pub negative : ℤ → Bool
-negative got = lt_z got (pos 0)
 
 -- the bytes from place `from` up to place `have`
 abbrev pub at_hand : ℕ → ℕ → List ℕ → List ℕ

@@ -1,10 +1,13 @@
 // A turn of the program joinlog: where it stands in the bytes read, reading on, and handing over the log.
 #![tactic(auto)]
 
-ghost use Rattle.std.specs.Prelude.{◌+◌, ◌-◌, ◌≤◌, ◌<◌, ◌≡◌, not, ◌||◌, length, take};
-ghost use Rattle.turns.specs.Filling.{first, negative, Within, short, at_hand, Behind, Filled, after_lines};
+ghost use Rattle.std.specs.Prelude.{◌+◌, ◌-◌, ◌≤◌, ◌<◌, ◌≡◌, not, ◌||◌, length, take, is_err};
+ghost use Rattle.std.specs.Result.{result_unwrap_or};
+ghost use Rattle.turns.specs.Filling.{first, Within, short, at_hand, Behind, Filled, after_lines};
 
 use cursor::MAX_RECORD;
+use std::io;
+use std::io::{Read, Write};
 
 // Where the bytes at hand begin and end in the buffer, whether more may follow them, and the next record's number; how many bytes the last turn read and how much text
 // it handed to the writer; whether the job has begun, whether it ended, and whether that is because a read or a write failed.
@@ -86,38 +89,49 @@ fn shift(buf: &mut [u8], from: usize, have: usize) -> usize
 }
 
 // A read that fails ends the job, and not in silence.
-fn unread(got: isize) -> bool
-    ensures { result ≡ negative got }
+fn unread(rt: &HostRuntime, got: &io::Result<usize>) -> bool
+    ensures { result ≡ is_err got.now }
 {
-    if got < 0 {
-        io::write_all(2, b"joinlog: standard input cannot be read\n");
+    if got.is_err() {
+        let _ = rt
+            .stderr()
+            .write_all(b"joinlog: standard input cannot be read\n");
         return true;
     }
     false
 }
 
+// How many bytes a read brought; none where it failed.
+fn brought(got: &io::Result<usize>) -> usize
+    ensures { result ≡ result_unwrap_or got.now 0 }
+{
+    match got {
+        Ok(n) => *n,
+        Err(_) => 0,
+    }
+}
+
 // One read, behind the first `have` bytes. It needs room: into none a read brings nothing, as at the stream's end.
-fn read_behind(buf: &mut [u8], have: usize) -> Moved
+fn read_behind(rt: &HostRuntime, buf: &mut [u8], have: usize) -> Moved
     requires { have < length buf.old }
     ensures { Behind buf.old have buf.new result }
 {
     let part = &mut buf[have..];
-    let got = libc::read(0, part);
-    let n = io::count(got, part);
+    let got = rt.stdin().read(part);
     Moved {
-        count: n,
-        failed: unread(got),
+        count: brought(&got),
+        failed: unread(rt, &got),
     }
 }
 
 // What is left goes to the front, and one read brings what is there behind it. A read that brings nothing, and did not fail, is the stream's end.
 // Refused: more for ever (always_more), a failed read passed over (unread_goes_on) or taken for the end (unread_is_the_end).
-pub fn fill(buf: &mut [u8], t: Turn) -> Turn
+pub fn fill(rt: &HostRuntime, buf: &mut [u8], t: Turn) -> Turn
     requires { Within t buf.old × (t.have - t.from < length buf.old) }
     ensures { Filled buf.old t buf.new result }
 {
     let left = shift(buf, t.from, t.have);
-    let got = read_behind(buf, left);
+    let got = read_behind(rt, buf, left);
     let n = got.count;
     let front: usize = 0;
     Turn {
@@ -136,25 +150,27 @@ pub fn fill(buf: &mut [u8], t: Turn) -> Turn
 // ---- writing
 
 // A log that cannot be written ends the job.
-fn unwritten(done: bool) -> bool
+fn unwritten(rt: &HostRuntime, done: bool) -> bool
     ensures { result ≡ not done }
 {
     if done {
         return false;
     }
-    io::write_all(2, b"joinlog: the log cannot be written\n");
+    let _ = rt
+        .stderr()
+        .write_all(b"joinlog: the log cannot be written\n");
     true
 }
 
 // Hands the first n bytes of the log to the writer.
-pub fn hand_over(log: &[u8], n: usize) -> Moved
+pub fn hand_over(rt: &HostRuntime, log: &[u8], n: usize) -> Moved
     requires { n ≤ length log.now }
     ensures { result.count ≡ n }
 {
-    let done = io::write_all(1, &log[0..n]);
+    let done = rt.stdout().write_all(&log[0..n]);
     Moved {
         count: n,
-        failed: unwritten(done),
+        failed: unwritten(rt, done.is_ok()),
     }
 }
 
