@@ -149,7 +149,7 @@ module _ (w : List ℕ) (u : Used) (b : List ℕ) (end known at : ℕ) (w' : Lis
         lay = t.lay;
         grown = t.grown;
         structs = t.structs;
-        inside = made_so r.part r.used.nodes _ _ t.inside (λ x e l. o.inside _ r.used.nodes (node_in r.part) l);
+        inside = made_so r.part r.used.nodes _ _ t.inside (λ x e l. o.inside one_made r.used.nodes (node_in r.part) l);
         within = t.within;
         is = λ ds s d k.
             made_with r.part (noded one_made) _ o.nodes (seen w' r.used ds) (rest b end r.next) (o.shows one_made _)
