@@ -1,4 +1,3 @@
-use borrow.Enum.Refused.{opened}
 use mathlib.Core.Path.{refl, sym, ◌∙◌}
 use native.Mathlib.Omega.{arith}
 use Rattle.definition.specs.Instantiate.{instantiate_value}

@@ -1,5 +1,4 @@
 -- `needs::own` meets its contract. Assumes nothing.
-use borrow.Enum.Refused.{opened}
 use mathlib.Core.Path.{◌∙◌}
 use Rattle.needs.proofs.Others.{own_plain}
 use Rattle.needs.proofs.own.Goals as goal

@@ -1,4 +1,3 @@
-use borrow.Enum.Refused.{opened}
 use mathlib.Core.Path.{refl}
 use native.Mathlib.Omega.{arith}
 use Rattle.definition.specs.TParams as D
@@ -110,7 +109,7 @@ pub subst_down-returns-in-Unit : goal.subst_down-returns-in-Unit
 unfolding outcome
 subst_down-returns-in-Unit t c = let pre = c.requires in
     level_stays (levels _) _ _ _ _ pre.0 c.node_at-node.result c.if-left-eq0.false c.node_at-node.ensures _ refl c.stay-in-Unit.ensures pre.1.0
-    (λ s. whole c.node_at-node.result.shape (opened c.in-Unit.in-Unit-own.keys1) _ _ s _ _)
+    (λ s. whole c.node_at-node.result.shape c.in-Unit.in-Unit-own.keys1 _ _ s _ _)
 
 pub subst_down-returns-in-Var : goal.subst_down-returns-in-Var
 unfolding outcome subst_value with_args
