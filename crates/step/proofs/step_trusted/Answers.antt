@@ -35,7 +35,8 @@ returns-in-Refused c = let p = c.requires in
     let n = c.place_after-next.ensures in
     let o = c.left_over.ensures in
     let e = sym c.in-Refused.is ∙ c.verdict_of-o.ensures in
-    steps_refused _ _ p.stands.0 p.stands.1.0 v r _ _ o p.stands.1.1.0 n e c.refuse.ensures _ c.with_next.ensures
+    let both = steps_refused _ _ p.stands.0 p.stands.1.0 v r c.args.whole _ o p.stands.1.1.0 n e c.refuse.ensures _ c.with_next.ensures in
+    record { steps = both.0; saved_partly_2 = both.1 }
 
 pub returns-in-Run : goal.returns-in-Run
 returns-in-Run c = let p = c.requires in
@@ -47,5 +48,5 @@ returns-in-Run c = let p = c.requires in
     let o = left_over.ensures in
     let e = sym c.in-Run.is ∙ c.verdict_of-o.ensures in
     let k = runs read_record.result.read left_over.result _ e in
-    steps_run _ _ p.stands.0 p.stands.1.0 v r _ _ o _ k.0 k.1 p.stands.1.1.0 n c.rows_after-rows.ensures
-    c.answer_placed.ensures c.with_next-in-Run.ensures
+    let both = steps_run _ _ p.stands.0 p.stands.1.0 v r c.args.whole _ o _ k.0 k.1 p.stands.1.1.0 n c.rows_after-rows.ensures c.answer_placed.ensures c.with_next-in-Run.ensures in
+    record { steps = both.0; saved_partly_2 = both.1 }
