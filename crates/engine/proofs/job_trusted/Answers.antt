@@ -13,4 +13,4 @@ returns c = let pre = c.requires in
     let used_of = c.used_of-u in
     let lines-trusted = c.lines_trusted-r in
     job_gives _ _ (pre) _ used_of.ensures _ _ _ _ _ _ _ _ lines-trusted.ensures _
-    c.write_used.ensures lines-trusted.auto.1.1.1.1.1.0
+    c.write_used.ensures lines-trusted.auto.log

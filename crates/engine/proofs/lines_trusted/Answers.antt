@@ -32,7 +32,7 @@ step_trusted-r-requires c = let args = c.args in
     let loop = c.loop-at in record { stands = (loop.invariant.1.1.stands, (bytes_of args.stream.now shared-slice-known.given, (loop.invariant.1.1.within, (omega (arith, loop.invariant.0.0), omega (arith, loop.invariant.1.0))))); saved_partly = loop.invariant.0.1 }
 
 pub slice_bounds-write_line-end : goal.slice_bounds-write_line-end
-slice_bounds-write_line-end c = sym (c.step_trusted-r.auto.1.1.1.1.1.1.1.1.0 ∙ c.loop-at.invariant.1.0)
+slice_bounds-write_line-end c = sym (c.step_trusted-r.auto.buf ∙ c.loop-at.invariant.1.0)
 
 pub write_line-n-requires : goal.write_line-n-requires
 write_line-n-requires c = let args = c.args in
@@ -42,7 +42,7 @@ write_line-n-requires c = let args = c.args in
     let takes_on = c.takes_on in
     let if1 = c.if-not-takes_on in
     let step-trusted = c.step_trusted-r in (
-      omega (arith, step-trusted.ensures.steps.few, step-trusted.auto.1.1.1.1.1.1.1.1.0, loop.invariant.1.0),
+      omega (arith, step-trusted.ensures.steps.few, step-trusted.auto.buf, loop.invariant.1.0),
       line_room loop.invariant.1.1 (bytes_of args.stream.now shared-slice-known.given) loop-test.true
           (taken_on loop.invariant.1.1 takes_on.ensures (if1.false)) step-trusted.ensures.steps,
     )
@@ -95,9 +95,9 @@ loop-at-preserved c = let args = c.args in
     let if1 = c.if-not-takes_on in
     let step-trusted = c.step_trusted-r in
     let write-line = c.write_line-n in (
-      (step-trusted.auto.1.1.1.1.1.1.1.0 ∙ loop.invariant.0.0, step-trusted.ensures.saved_partly_2),
+      (step-trusted.auto.saved ∙ loop.invariant.0.0, step-trusted.ensures.saved_partly_2),
       (
-        step-trusted.auto.1.1.1.1.1.1.1.1.0 ∙ loop.invariant.1.0,
+        step-trusted.auto.buf ∙ loop.invariant.1.0,
         going_on loop.invariant.1.1 (bytes_of args.stream.now shared-slice-known.given) loop-test.true
             (taken_on loop.invariant.1.1 takes_on.ensures (if1.false)) step-trusted.ensures.steps
             (sym c.ends_job.ensures ∙ c.if-ends_job.false) write-line.ensures,

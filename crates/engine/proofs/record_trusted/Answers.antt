@@ -17,4 +17,4 @@ returns c = let pre = c.requires in
     let used_of = c.used_of-u in
     let step-trusted = c.step_trusted-r in
     record_gives _ _ pre.0 _ used_of.ensures _ _ pre.1 _ _ _ _ step-trusted.ensures.steps _
-    c.write_used.ensures step-trusted.auto.1.1.1.1.1.1.1.1.0
+    c.write_used.ensures step-trusted.auto.buf
