@@ -2,18 +2,16 @@
 # joinlog over a stream of records; `./joinlog.sh -h` says how.
 set -u
 root=$(cd "$(dirname "$0")" && pwd)
-# from nothing, on two idle cores
-estimate="some eight minutes"
 
 usage() {
   cat << 'END'
 ./joinlog.sh [--quick] [FILE]      the log of FILE, a stream of records, or of standard input
 ./joinlog.sh [--quick] --example   the log of the bundled job, the worked example of docs/RECORDS.md
-./joinlog.sh [--quick] --build     only build joinlog, and print where it is
+./joinlog.sh --build               only build joinlog, and print where it is
 
 Without FILE, a terminal as standard input is taken for --example.
 What is not built yet is proved and built first, which takes minutes and needs rt, the Rattle kit's command.
-  --quick         build without proofs, in seconds; rt is needed for that too
+  --quick         no proof and no program: rt tries the sources on the job, in half a minute, for a log of at most 1 MiB
   --program PATH  run this joinlog, and build none
   -h, --help      this
 
@@ -29,39 +27,16 @@ die() { # STATUS MESSAGE
   exit "$1"
 }
 
-stale() { # PROGRAM PART..: it is missing, or a file of such a part of a crate is newer
-  local program=$1 part
-  shift
-  [ -x "$program" ] || return 0
-  for part; do
-    [ -z "$(find "$root"/crates.txt "$root"/crates/*/"$part" -newer "$program" -print -quit 2> /dev/null)" ] || return 0
-  done
-  return 1
-}
+build_proved() { program=$(bash "$root/tools/build.sh" joinlog) || die 2 "joinlog cannot be built"; }
+
+# Under --quick rt tries the sources in the program's place, without proofs. Where that ends well, rt's own words are left out.
+try_unproved() { cd "$root/crates/joinlog" && rt try --steps 1 --seconds 600; }
+own_words='^(interpreter|checked): |^run='
 
 need_rt() {
-  command -v rt > /dev/null ||
-    die 2 "joinlog is not built, and rt is not on the PATH. rt is the command of the Rattle kit, the language's prover and compiler; README.md says more"
-}
-
-build_quick() {
-  program=$root/target/quick/joinlog
-  echo "joinlog.sh: unproved build" >&2
-  stale "$program" src || return 0
-  need_rt
-  bash "$root/tools/quick_build.sh" joinlog > /dev/null || die 2 "joinlog cannot be compiled"
-}
-
-build_proved() {
-  program=$root/target/bin/joinlog
-  stale "$program" src specs proofs || return 0
-  need_rt
-  local talk=target/joinlog-check.txt
-  mkdir -p "$root/target"
-  echo "joinlog.sh: joinlog and the crates that it stands on are proved first: from nothing $estimate. --quick builds without proofs." >&2
-  (cd "$root" && rt check joinlog < /dev/null 2>&1 | tee "$talk" | grep --line-buffered '^rt: ' >&2 && exit "${PIPESTATUS[0]}") ||
-    die 2 "joinlog is not proved; $talk has what the prover says"
-  touch "$program" # where rt found that nothing had changed
+  echo "joinlog.sh: unproved run" >&2
+  command -v rt > /dev/null || die 2 "rt is not on the PATH. rt is the command of the Rattle kit, the language's prover and compiler; README.md says more"
+  program=try_unproved
 }
 
 # Runs the program; it has no exit status of its own, so the log's last line and what it says on standard error decide.
@@ -74,8 +49,9 @@ run() {
   "$program" 2> "$tmp/said" | tee "$tmp/copy"
   ended=("${PIPESTATUS[@]}")
   wait
-  cat "$tmp/said" >&2
-  # where nobody reads the log any more, tee and then joinlog are stopped in silence
+  if [ "$program" = try_unproved ] && [ "${ended[0]}" -eq 0 ]; then sed -i -E "/$own_words/d" "$tmp/said"; fi
+  # where nobody reads the log any more, tee is stopped by a signal, and what joinlog says of that is left out
+  [ "${ended[1]}" -gt 128 ] || cat "$tmp/said" >&2
   if [ "${ended[1]}" -ne 0 ] || [ -s "$tmp/said" ]; then exit 1; fi
   [ "${ended[0]}" -eq 0 ] || die 1 "joinlog was stopped (status ${ended[0]})"
   if grep -Eq '^[0-9]+ (5|6|18)$' "$tmp/last"; then exit 3; fi
@@ -86,7 +62,7 @@ build=build_proved program='' file='' example=no only_build=no
 while [ $# -gt 0 ]; do
   case $1 in
     -h | --help) usage && exit 0 ;;
-    --quick) build=build_quick ;;
+    --quick) build=need_rt ;;
     --example) example=yes ;;
     --build) only_build=yes ;;
     --program)
@@ -109,6 +85,7 @@ if [ -n "$program" ]; then
 fi
 if [ "$only_build" = yes ]; then
   [ -z "$file" ] && [ "$example" = no ] || die 2 "--build runs nothing"
+  [ "$build" != need_rt ] || die 2 "--quick builds nothing"
   $build
   echo "$program"
   exit 0

@@ -12,7 +12,7 @@ JOBS/NAME to LOGS/NAME.log. A summary ends it: jobs, records, answers by number,
 A log is written as NAME.log.part and renamed when it is whole. A run that was stopped goes on where it stopped: a job is
 run again only where its log is missing or older than the job.
 
-  --quick      joinlog built without proofs (./joinlog.sh -h)
+  --quick      without proofs, each job in half a minute (./joinlog.sh -h)
   -h, --help   this
 
 Exit status: 0 all answers are 0; 1 some answer is not; 2 bad usage, or a job has no log: it could not be read, or written
@@ -33,7 +33,7 @@ one() { # JOBS LOGS NAME
   local job=$1/$3 log=$2/$3.log
   if [ -f "$log" ] && [ ! "$job" -nt "$log" ]; then return 0; fi
   mkdir -p "$(dirname "$log")" && rm -f "$log" || return 2
-  "$root/joinlog.sh" ${program:+--program "$program"} "$job" > "$log.part"
+  "$root/joinlog.sh" $quick ${program:+--program "$program"} "$job" > "$log.part"
   case $? in
     0 | 3) mv "$log.part" "$log" || return 2 ;;
     *) echo "release.sh: $3: no log" >&2 && return 2 ;;
@@ -75,7 +75,7 @@ summary() { # LOGS, names on standard input
 
 if [ "${1-}" = --one ]; then
   [ $# -eq 4 ] || die "--one wants JOBS LOGS NAME"
-  program=${RELEASE_PROGRAM-}
+  program=${RELEASE_PROGRAM-} quick=${RELEASE_QUICK-}
   one "$2" "$3" "$4"
   exit $?
 fi
@@ -107,8 +107,8 @@ names=$(mktemp) && trap 'rm -f "$names"' EXIT
 (cd "$jobs" && find . -type f | sed 's,^\./,,' | LC_ALL=C sort) > "$names"
 count=$(wc -l < "$names")
 [ "$count" -gt 0 ] || die "${folders[0]}: no jobs"
-RELEASE_PROGRAM=$("$root/joinlog.sh" $quick --build) || exit 2
-export RELEASE_PROGRAM
+if [ -z "$quick" ]; then RELEASE_PROGRAM=$("$root/joinlog.sh" --build) || exit 2; fi
+export RELEASE_PROGRAM RELEASE_QUICK=$quick
 # shellcheck disable=SC2016
 tr '\n' '\0' < "$names" |
   xargs -0 -n 1 -P "$at_once" sh -c '"$0" --one "$1" "$2" "$3"; echo' "$root/release.sh" "$jobs" "$logs" |

@@ -1,6 +1,6 @@
 #!/bin/bash
-# All tests: the documents, the scripts, the Rust crates (rust/test.sh), the gate (.ci/run: proofs, must-fail edits, programs), the exports called
-# from C and Rust, then core.rs's side (oracle/test.sh).
+# All tests: the documents, the gate (.ci/run: proofs, must-fail edits, programs), then over what it proved the scripts, the Rust crates (rust/test.sh), the exports
+# called from C and Rust, core.rs's side (oracle/test.sh).
 # Each part's last line is 'N passed, M failed', and so is the last line here, for all of them; it exits non-zero where M is not 0.
 cd "$(dirname "$0")" || exit 1
 passed=0 failed=0
@@ -18,9 +18,9 @@ part() { # NAME CMD..: a part that ends without its last line counts as one fail
 }
 
 part "the documents" bash tests/docs.sh
+part "the gate" bash .ci/run
 part "the scripts" bash tests/scripts.sh
 part "the Rust crates" bash rust/test.sh
-part "the gate" bash .ci/run
 part "the exports" bash crates/exports/host/test.sh
 part "core.rs's side" bash oracle/test.sh
 echo "$passed passed, $failed failed"

@@ -2,7 +2,7 @@
 # 20,000 random jobs through core.rs and through the engine in one process: answers, payloads, bindings, marks, constraints. Then joinlog over streams of 600 KiB, beside
 # one call of the engine over the whole stream. Exits non-zero on a disagreement, and where cargo is missing, unless WITHOUT_CORE_RS=yes: so a green gate has made the
 # comparison, or says that it was told not to.
-# Engine and joinlog are compiled from the sources that the gate proves after this, without their proofs: seconds instead of minutes.
+# Engine and joinlog are the proved ones (tools/build.sh): after `rt ci`, as in the gate, they are there in seconds.
 cd "$(dirname "$0")" || exit 1
 if [ "${WITHOUT_CORE_RS-}" = yes ]; then
   echo "told to leave out the comparison with core.rs"
@@ -12,8 +12,8 @@ if ! command -v cargo > /dev/null; then
   echo "no cargo, so no comparison with core.rs: WITHOUT_CORE_RS=yes leaves it out"
   exit 1
 fi
-PONGIWARU_LIB=$(bash ../tools/quick_build.sh exports) || exit 1
+PONGIWARU_LIB=$(bash ../tools/build.sh exports) || exit 1
 export PONGIWARU_LIB
-joinlog=$(bash ../tools/quick_build.sh joinlog) || exit 1
+joinlog=$(bash ../tools/build.sh joinlog) || exit 1
 cargo build --release --offline -j2 || exit 1
 target/release/oracle compare 1 20000 && target/release/oracle joinlog "$joinlog"

@@ -40,8 +40,8 @@ altered() { # a changed answer is seen
   ! target/release/oracle check "$tmp/altered"
 }
 
-archive() { # the engine's functions, proved, in ../target/staticlib
-  if [ -n "$PONGIWARU_LIB" ]; then [ -f "$PONGIWARU_LIB" ]; else (cd .. && rt staticlib exports); fi
+archive() { # the engine's functions, proved, in ../crates/exports/out
+  if [ -n "$PONGIWARU_LIB" ]; then [ -f "$PONGIWARU_LIB" ]; else bash ../tools/build.sh exports; fi
 }
 
 found() { # WHAT: an answer of the engine's side, altered, is found and the job made small
@@ -58,7 +58,7 @@ with_engine() {
   step "traps" target/release/oracle traps
 }
 
-if [ -n "$PONGIWARU_LIB" ] || { command -v rt && grep -q '^exports:' ../crates.txt; } > /dev/null; then
+if [ -n "$PONGIWARU_LIB" ] || { command -v rt && grep -q '^exports ' ../crates.txt; } > /dev/null; then
   engine=yes && step "the engine's archive" archive
 else
   engine=no && echo "without the engine: neither rt nor PONGIWARU_LIB"

@@ -1,5 +1,5 @@
 #!/bin/bash
-# The Rust crates: layout, clippy, tests. pongiwaru's with the engine compiled without proofs, or the archive that PONGIWARU_LIB names.
+# The Rust crates: layout, clippy, tests. pongiwaru's over the proved engine (tools/build.sh), or the archive that PONGIWARU_LIB names.
 # Its last line is 'N passed, M failed'; it exits non-zero where M is not 0.
 cd "$(dirname "$0")" || exit 1
 passed=0 failed=0
@@ -26,7 +26,7 @@ tests() { # CRATE: each test counts
 
 without_archive() { # a sentence, and nothing built
   ! PONGIWARU_LIB=$tmp/none cargo build --offline --manifest-path pongiwaru/Cargo.toml --target-dir "$tmp/target" > "$tmp/said" 2>&1 &&
-    grep -q 'no archive at .*rt staticlib exports' "$tmp/said"
+    grep -q 'no archive at .*tools/build.sh exports' "$tmp/said"
 }
 
 other_header() { # a function of the header that changes is seen
@@ -38,7 +38,7 @@ other_header() { # a function of the header that changes is seen
 }
 
 if [ -z "${PONGIWARU_LIB-}" ]; then
-  PONGIWARU_LIB=$(bash ../tools/quick_build.sh exports) || { echo "0 passed, 1 failed"; exit 1; }
+  PONGIWARU_LIB=$(bash ../tools/build.sh exports) || { echo "0 passed, 1 failed"; exit 1; }
 fi
 export PONGIWARU_LIB
 for crate in joblog pongiwaru; do

@@ -21,7 +21,7 @@ named() { # the files that NOTICE names as changed: a folder's further files sta
 }
 
 saying() { # those that say that they are changed
-  grep -rlF 'Changed from the source that NOTICE names: ported to Rattle.' crates --include=*.rt --include=*.antt | sort
+  grep -rlF 'Changed from the source that NOTICE names: ported to Rattle.' crates --exclude-dir=out --include=*.rt --include=*.antt | sort
 }
 
 links() { # each link of a document leads to a file or folder
@@ -36,7 +36,7 @@ made() { python3 tools/computed.py --check && python3 tools/layers.py --check &&
 
 drawn() { # every crate has its place in the picture and its row in README.md
   local name bad=0
-  for name in $(sed -n 's/^\([a-z0-9_]*\):.*/\1/p' crates.txt); do
+  for name in $(sed -n 's/^\([a-z0-9_]*\)\( staticlib\)\{0,1\}:.*/\1/p' crates.txt); do
     grep -q ">$name<" docs/layers.svg && grep -q "^|.*\`$name\`" README.md || { echo "$name" && bad=1; }
   done
   return $bad

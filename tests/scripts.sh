@@ -1,5 +1,5 @@
 #!/bin/bash
-# joinlog.sh, release.sh, and the gate where cargo is missing: what they say and their exit status. joinlog is built without proofs; no crate is proved.
+# joinlog.sh, release.sh, and the gate where cargo is missing: what they say and their exit status. joinlog is the proved one (tools/build.sh).
 # Its last line is 'N passed, M failed'; it exits non-zero where M is not 0.
 cd "$(dirname "$0")/.." || exit 1
 root=$PWD passed=0 failed=0
@@ -29,7 +29,7 @@ has() { # FILE PATTERN
   if [ -z "$2" ]; then [ ! -s "$1" ]; else grep -Eq -- "$2" "$1"; fi
 }
 
-program=$(bash tools/quick_build.sh joinlog) || { echo "0 passed, 1 failed"; exit 1; }
+program=$(bash tools/build.sh joinlog) || { echo "0 passed, 1 failed"; exit 1; }
 run="./joinlog.sh --program $program"
 
 # ---- joinlog.sh: words, and what is refused at once
@@ -73,34 +73,38 @@ gives "stopped from outside" 1 '^0 0$' 'joinlog was stopped' ./joinlog.sh --prog
 
 # ---- joinlog.sh: builds, in a folder where nothing is built
 
-fresh() { # a folder with the sources and no target
-  rm -rf "$tmp/fresh" && mkdir "$tmp/fresh" && cp joinlog.sh "$tmp/fresh" && ln -s "$root/crates" "$root/crates.txt" "$tmp/fresh"
-  cp -r tools "$tmp/fresh"
+fresh() { # a folder with the sources and nothing built
+  rm -rf "$tmp/fresh" && mkdir "$tmp/fresh"
+  tar -c --exclude=out crates crates.txt joinlog.sh release.sh tools | tar -x -C "$tmp/fresh"
 }
 
 fresh
-gives "unproved build" 0 '^2 0 03030000000002$' 'unproved build' "$tmp/fresh/joinlog.sh" --quick --example
-gives "unproved build, only built" 0 'target/quick/joinlog$' 'unproved build' "$tmp/fresh/joinlog.sh" --quick --build
-mkdir "$tmp/bin" && for t in bash sh dirname find cat mkdir tee grep touch mktemp mkfifo tail rm sleep; do ln -s "$(command -v $t)" "$tmp/bin"; done
-gives "built already: rt is not needed" 0 '^2 0 ' 'unproved build' env PATH="$tmp/bin" "$tmp/fresh/joinlog.sh" --quick --example
-fresh
+gives "unproved run" 0 '^2 0 03030000000002$' 'unproved run' "$tmp/fresh/joinlog.sh" --quick --example
+verdict "unproved run: none of rt's own words" "$(grep -qE '^run=|^checked:|^interpreter:' "$tmp/err" || echo yes)"
+gives "unproved run, 5 ends a job" 3 '^1 5$' 'unproved run' "$tmp/fresh/joinlog.sh" --quick "$tmp/malformed"
+gives "unproved run builds nothing" 2 '' '--quick builds nothing' "$tmp/fresh/joinlog.sh" --quick --build
+mkdir "$tmp/bin"
+for t in bash sh dirname find cat chmod mkdir tee grep sed touch mktemp mkfifo tail rm sleep; do ln -s "$(command -v $t)" "$tmp/bin"; done
 gives "no rt" 2 '' 'rt is the command of the Rattle kit' env PATH="$tmp/bin" "$tmp/fresh/joinlog.sh" --example
 gives "no rt, quick" 2 '' 'rt is the command of the Rattle kit' env PATH="$tmp/bin" "$tmp/fresh/joinlog.sh" --quick --example
 cat > "$tmp/bin/rt" << END
 #!/bin/sh
 echo 'fn names::has_drop: proved'
-echo 'rt: names proved (2 s)'
-[ ! -e $tmp/refuse ] || { echo 'rt: joinlog NOT PROVED'; exit 1; }
-mkdir -p target/bin && cat $program > target/bin/joinlog && chmod +x target/bin/joinlog
+echo 'rt: chose --jobs 2 for names'
+[ ! -e $tmp/refuse ] || { echo 'fn joinlog::run: not proved'; exit 1; }
+mkdir -p out && cat $program > out/joinlog && chmod +x out/joinlog
 END
-sed -i 's,mkdir -p target/bin,/bin/mkdir -p target/bin,; s,&& chmod,\&\& /bin/chmod,' "$tmp/bin/rt" && chmod +x "$tmp/bin/rt"
+chmod +x "$tmp/bin/rt"
 touch "$tmp/refuse"
-gives "not proved" 2 '' 'joinlog is not proved; target/joinlog-check.txt' env PATH="$tmp/bin" "$tmp/fresh/joinlog.sh" --example
+gives "not proved" 2 '' 'joinlog is not proved; target/joinlog-build.txt' env PATH="$tmp/bin" "$tmp/fresh/joinlog.sh" --example
 rm "$tmp/refuse"
 gives "proved: an estimate first" 0 '^2 0 ' 'proved first: from nothing' env PATH="$tmp/bin" "$tmp/fresh/joinlog.sh" --example
-verdict "a line for each crate" "$(grep -q '^rt: names proved' "$tmp/err" && ! grep -q has_drop "$tmp/err" && echo yes)"
-verdict "the talk in a file" "$(grep -q has_drop "$tmp/fresh/target/joinlog-check.txt" && echo yes)"
+verdict "a line for each crate" "$(grep -q '^rt: .* for names' "$tmp/err" && ! grep -q has_drop "$tmp/err" && echo yes)"
+verdict "the talk in a file" "$(grep -q has_drop "$tmp/fresh/target/joinlog-build.txt" && echo yes)"
 gives "proved already: no word" 0 '^2 0 ' '' env PATH="$tmp/bin" "$tmp/fresh/joinlog.sh" --example
+gives "proved already, only built" 0 'crates/joinlog/out/joinlog$' '' env PATH="$tmp/bin" "$tmp/fresh/joinlog.sh" --build
+rm "$tmp/bin/rt"
+gives "proved already: rt is not needed" 0 '^2 0 ' '' env PATH="$tmp/bin" "$tmp/fresh/joinlog.sh" --example
 
 # ---- the gate without cargo
 
@@ -114,19 +118,19 @@ gives "release: unknown flag" 2 '' 'no flag --slow' ./release.sh --slow a b
 gives "release: one folder" 2 '' 'two folders are wanted' ./release.sh crates
 gives "release: no folder" 2 '' '/no/such: no such folder' ./release.sh /no/such "$tmp/logs"
 mkdir -p "$tmp/jobs/one more"
-gives "release: no jobs" 2 '' 'no jobs' ./release.sh --quick "$tmp/jobs" "$tmp/logs"
-gives "release: logs among the jobs" 2 '' 'LOGS is in JOBS' ./release.sh --quick "$tmp/jobs" "$tmp/jobs/logs"
+gives "release: no jobs" 2 '' 'no jobs' ./release.sh "$tmp/jobs" "$tmp/logs"
+gives "release: logs among the jobs" 2 '' 'LOGS is in JOBS' ./release.sh "$tmp/jobs" "$tmp/jobs/logs"
 for i in 1 2 3 4 5 6 7 8; do cp "$tmp/good" "$tmp/jobs/job $i"; done
 cp "$tmp/two" "$tmp/jobs/one more/last"
-gives "release: all answers 0" 0 '^9 jobs, 26 records; answers 0: 26; no error$' '^9 of 9 jobs$' ./release.sh --quick "$tmp/jobs" "$tmp/logs"
+gives "release: all answers 0" 0 '^9 jobs, 26 records; answers 0: 26; no error$' '^9 of 9 jobs$' ./release.sh "$tmp/jobs" "$tmp/logs"
 verdict "release: a log" "$(cmp -s "$tmp/logs/job 3.log" crates/joinlog/stdout && [ -f "$tmp/logs/one more/last.log" ] && echo yes)"
 verdict "release: nothing half there" "$([ -z "$(find "$tmp/logs" -name '*.part')" ] && echo yes)"
 cp "$tmp/malformed" "$tmp/jobs/bad" && cp "$tmp/unknown" "$tmp/jobs/worse" && cp "$tmp/doubled" "$tmp/jobs/worst"
-gives "release: some answers are not" 1 '^12 jobs, 31 records; answers 0: 28, 5: 1, 6: 1, 18: 1; jobs with an error: 3$' '^12 of 12 jobs$' ./release.sh --quick -j 1 "$tmp/jobs" "$tmp/logs"
+gives "release: some answers are not" 1 '^12 jobs, 31 records; answers 0: 28, 5: 1, 6: 1, 18: 1; jobs with an error: 3$' '^12 of 12 jobs$' ./release.sh -j 1 "$tmp/jobs" "$tmp/logs"
 verdict "release: the first error of each" "$(grep -q '^bad: record 1, answer 5$' "$tmp/out" && grep -q '^worse: record 0, answer 6$' "$tmp/out" && grep -q '^worst: record 1, answer 18$' "$tmp/out" && echo yes)"
 
 # A run that is stopped while its second job runs, and goes on with another joinlog.
-rm -rf "$tmp/logs" && cp release.sh "$tmp/fresh" && cat > "$tmp/fresh/target/bin/joinlog" << END
+rm -rf "$tmp/logs" && cat > "$tmp/fresh/crates/joinlog/out/joinlog" << END
 #!/bin/sh
 if [ -e $tmp/first ]; then echo '0 0' && touch $tmp/second && sleep 60; fi
 touch $tmp/first
@@ -141,18 +145,20 @@ verdict "release: stopped, only whole logs" "$(
   [ -e "$tmp/second" ] && [ "$(find "$tmp/logs" -name '*.log')" = "$tmp/logs/bad.log" ] && [ -e "$tmp/logs/job 1.log.part" ] && echo yes
 )"
 touch -d 2030-01-01 "$tmp/logs/bad.log"
-gives "release: goes on" 1 '^12 jobs, 31 records' '^12 of 12 jobs$' ./release.sh --quick "$tmp/jobs" "$tmp/logs"
+gives "release: goes on" 1 '^12 jobs, 31 records' '^12 of 12 jobs$' ./release.sh "$tmp/jobs" "$tmp/logs"
 verdict "release: what was there is not made again" "$([ "$(date -r "$tmp/logs/bad.log" +%Y)" = 2030 ] && echo yes)"
 verdict "release: nothing half there" "$([ -z "$(find "$tmp/logs" -name '*.part')" ] && echo yes)"
 touch -d 2031-01-01 "$tmp/jobs/bad"
-./release.sh --quick "$tmp/jobs" "$tmp/logs" > "$tmp/out" 2>&1
+./release.sh "$tmp/jobs" "$tmp/logs" > "$tmp/out" 2>&1
 verdict "release: a newer job is run again" "$([ "$(date -r "$tmp/logs/bad.log" +%Y)" != 2030 ] && echo yes)"
 rm -rf "$tmp/logs" && (cd "$tmp/jobs" && find . -type f) |
   RELEASE_PROGRAM=$program xargs -I{} ./release.sh --one "$tmp/jobs" "$tmp/logs" {} && touch -d 2035-01-01 "$tmp/logs/bad.log"
-gives "release: by jobs alone, as over several machines" 1 '^12 jobs, 31 records' 'of 12 jobs' ./release.sh --quick "$tmp/jobs" "$tmp/logs"
+gives "release: by jobs alone, as over several machines" 1 '^12 jobs, 31 records' 'of 12 jobs' ./release.sh "$tmp/jobs" "$tmp/logs"
 verdict "release: then only summed up" "$([ "$(date -r "$tmp/logs/bad.log" +%Y)" = 2035 ] && echo yes)"
 rm -rf "$tmp/logs/one more" && touch "$tmp/logs/one more"
-gives "release: a log that cannot be written" 2 '^one more/last: no log$' 'one more' ./release.sh --quick "$tmp/jobs" "$tmp/logs"
+mkdir "$tmp/few" && cp "$tmp/good" "$tmp/few/job" && rm -rf "$tmp/some"
+gives "release: without proofs" 0 '^1 jobs, 3 records; answers 0: 3; no error$' 'unproved run' ./release.sh --quick "$tmp/few" "$tmp/some"
+gives "release: a log that cannot be written" 2 '^one more/last: no log$' 'one more' ./release.sh "$tmp/jobs" "$tmp/logs"
 
 echo "$passed passed, $failed failed"
 [ "$failed" -eq 0 ]

@@ -1,18 +1,18 @@
 #!/usr/bin/env python3
-"""Proof clauses with a line over 300 characters: their places `c .before .before ..`, bound once at the clause's top.
+"""Proof clauses with a line over 300 characters: their places `c.before.before ..`, bound once at the clause's top.
 
   tools/bind_paths.py CRATE ..     rewrites crates/CRATE/proofs; then `rt fmt` lays it out
   tools/bind_paths.py --check [CRATE ..]   names each line over 300 characters that holds such a place; exit 1 if any
 
-`c .before^n .levels .ensures` becomes `levels .ensures` under `let levels = c .before^n .levels in`. What is used once
+`c.before^n.levels.ensures` becomes `levels.ensures` under `let levels = c.before^n.levels in`. What is used once
 and is near stays as it is. Lines without such a place are left alone.
 """
 import collections, glob, os, re, sys
 
 ROOT = os.path.join(os.path.dirname(os.path.abspath(__file__)), '..')
 MOST, WIDE, STRIDE = 300, 116, 12
-BACK = ' .before'
-PATH = re.compile(r'(?<![^\s(\[{←])c((?: \.before)+)(?: \.([A-Za-z][^\s(){}\[\],;]*))?(?![^\s(){}\[\],;])')
+BACK = '.before'
+PATH = re.compile(r'(?<![^\s(\[{←])c((?:\.before)+)(?:\.([A-Za-z][^\s(){}\[\],;.]*))?(?![^\s(){}\[\],;.])')
 HEAD = re.compile(r'^[^\s:]+(?: [^\s():={}]+)* =(?= |$)')
 WORDS = set('at in let as use where λ record elim data pub module do if then else rw simp omega cc search needs by case'
             ' with mutual open import forall ap sym refl from to'.split())
@@ -39,10 +39,10 @@ def bindings(text, head):
         if n >= 5 or (n >= 2 and used[n, field] >= 2):
             name = field or 'back'
             if name in other:
-                name = 'the-' + name
+                name = 'the_' + name
             base, k = name, 2
             while name in other:
-                name, k = '%s-%d' % (base, k), k + 1
+                name, k = '%s_%d' % (base, k), k + 1
             other.add(name)
             names[n, field] = name
     return names
@@ -59,7 +59,7 @@ def bind(text, head):
     for (n, field), name in names.items():
         mark = n // STRIDE * STRIDE if marks else 0
         place = ('c%d' % mark if mark else 'c') + BACK * (n - mark)
-        lets.append('let %s = %s%s in' % (name, place, ' .' + field if field else ''))
+        lets.append('let %s = %s%s in' % (name, place, '.' + field if field else ''))
 
     def short(m):
         name = names.get((steps(m), m.group(2)))

@@ -36,8 +36,8 @@ def marked():
 
 def computed():
     text = open(os.path.join(ROOT, 'crates/test_replay/proofs/EdgeStreams.antt')).read()
-    for name, stream, log in re.findall(r'^edge-(\S+) : log-of \(hex "([0-9a-f]*)"\) ≡ text "(.*)"$', text, re.M):
-        yield name, bytes.fromhex(stream), log.replace('\\n', '\n').strip().split('\n')
+    for name, stream, log in re.findall(r'^edge_(\S+) : log_of \(hex "([0-9a-f]*)"\) ≡ text "(.*)"$', text, re.M):
+        yield name.replace('_', '-'), bytes.fromhex(stream), log.replace('\\n', '\n').strip().split('\n')
 
 
 # ---- jobs at the limits

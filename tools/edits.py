@@ -1,23 +1,21 @@
 #!/usr/bin/env python3
-"""After `rt must-fail pieces` (definition and pieces): the first error of each edit's log names the line that docs/CLAIMS.md gives it. Exits non-zero where one does not."""
-import os, re, sys
+"""rt must-fail definition pieces | tools/edits.py: the first error of each edit names the line that docs/CLAIMS.md gives it. Exits non-zero where one does not.
+
+What `rt ci` prints will do too, and a file of it may be named.
+"""
+import fileinput, os, re, sys
 
 ROOT = os.path.join(os.path.dirname(os.path.abspath(__file__)), '..')
 CRATES = 'definition', 'pieces'
+TOLD = re.compile(r'^rt: must-fail (\w+)/(\w+)\.edit: refused.*?proofs/(\w+)\.antt:\d+:\d+: error: `([^`]*)`')
 
-
-def first_error(crate, edit):
-    with open(os.path.join(ROOT, 'target/must-fail', crate, edit, '.log')) as log:
-        found = re.search(r'^\S*/proofs/(\w+)\.antt:\d+:\d+: error: `([^`]*)`', log.read(), re.M)
-    return found and '`%s` (%s)' % (found[2], found[1])
-
-
+found = filter(None, map(TOLD.match, fileinput.input()))
+errors = {m[2]: '`%s` (%s)' % (m[4], m[3]) for m in found if m[1] in CRATES}
 claims = open(os.path.join(ROOT, 'docs/CLAIMS.md')).read().split('## Edits of the definition')[1]
 told = dict(re.findall(r'^\| (\w+) \|.*\| (`[^`]*` \(\w+\)) \|$', claims, re.M))
-edits = {e[:-5]: c for c in CRATES for e in sorted(os.listdir(os.path.join(ROOT, 'crates', c, 'must-fail')))}
-errors = {e: first_error(c, e) for e, c in edits.items()}
-wrong = [(e, told.get(e), errors[e]) for e in edits if told.get(e) != errors[e]]
-for edit, line, error in wrong:
-    print('%s: CLAIMS has %s, the log %s' % (edit, line, error))
+edits = [e[:-5] for c in CRATES for e in sorted(os.listdir(os.path.join(ROOT, 'crates', c, 'must-fail')))]
+wrong = [e for e in edits if e not in told or told[e] != errors.get(e)]
+for edit in wrong:
+    print('%s: CLAIMS has %s, the prover says %s' % (edit, told.get(edit), errors.get(edit)))
 print('%d edits, %d of them not as told' % (len(edits), len(wrong)))
 sys.exit(bool(wrong or set(told) - set(edits)))

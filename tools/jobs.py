@@ -11,11 +11,11 @@ import os, struct, sys
 ROOT = os.path.join(os.path.dirname(os.path.abspath(__file__)), '..')
 EACH = 60
 HEAD = '''-- Jobs with the log that core.rs gives of each, computed. Made by tools/jobs.py from oracle/replay.list. Assumes nothing.
-use mathlib.Core.Path.{_≡_, refl}
-use mathlib.Core.List.{List, [], _∷_}
-use Rattle·definition.specs.Write.{Bytes}
-use Rattle·definition.proofs.Computed.{logs, wanted}
-use Rattle·definition.proofs.Spelling.{hex, text}
+use mathlib.Core.Path.{◌≡◌, refl}
+use mathlib.Core.List.{List, [], ◌∷◌}
+use Rattle.definition.specs.Write.{Bytes}
+use Rattle.definition.proofs.Computed.{logs, wanted}
+use Rattle.definition.proofs.Spelling.{hex, text}
 
 abbrev jobs : List (Bytes × Bytes)
 jobs =

@@ -4,17 +4,16 @@
   tools/layers.py             writes docs/layers.svg
   tools/layers.py --check     says whether it is as made here, and writes nothing
 
-A need that follows from others is left out, and so are the kit's own crates.
+A need that follows from others is left out.
 """
 import os, sys
 
 ROOT = os.path.join(os.path.dirname(os.path.abspath(__file__)), '..')
-KIT = ('io', 'libc')
 GROUPS = [
     ('believed', '#f5d76e', 'definition theorems pieces test_replay'),
     ('the lent words', '#aed6f1', 'names table snapshot sound_fields sound_rows sound_tables sound'),
     ("core.rs's functions", '#a9dfbf', 'shapes subst ends ready arms merge join tparams instantiate abilities failing constraints'),
-    ('bytes in and out', '#d7bde2', 'cursor marks heads reader needs fields record writer log payload answer'),
+    ('bytes in and out', '#d7bde2', 'cursor marks heads reader needs fields record writer log_lines payload answer'),
     ('a record', '#f5b7b1', 'run solve verdict step'),
     ('calls, programs', '#d5dbdb', 'limits engine turns joinlog exports test_edges test_traps'),
 ]
@@ -27,7 +26,7 @@ def needs():
     for line in open(os.path.join(ROOT, 'crates.txt')):
         if ':' in line and not line.startswith('#'):
             name, rest = line.split(':')
-            listed[name] = [d for d in rest.split() if d not in KIT]
+            listed[name.split()[0]] = rest.split()
 
     def below(name):
         return set(listed[name]).union(*map(below, listed[name]))

@@ -1,4 +1,4 @@
-//! Finds the archive (PONGIWARU_LIB, else target/staticlib/libexports.a, as `rt staticlib exports` makes it), and makes
+//! Finds the archive (PONGIWARU_LIB, else crates/exports/out/libexports.a, as `tools/build.sh exports` makes it), and makes
 //! the declarations of src/header.rs from the text of crates/exports/pongiwaru.h: its functions and its constants.
 use std::{
     env, fs,
@@ -106,14 +106,14 @@ fn main() {
 
     println!("cargo::rustc-check-cfg=cfg(linked)");
     println!("cargo::rerun-if-env-changed=PONGIWARU_LIB");
-    let usual = root.join("target/staticlib/libexports.a");
+    let usual = root.join("crates/exports/out/libexports.a");
     let archive = env::var_os("PONGIWARU_LIB").map_or(usual, PathBuf::from);
     println!("cargo::rerun-if-changed={}", archive.display());
     match archive.canonicalize() {
         Ok(archive) => link(&archive),
         Err(_) if env::var_os("CARGO_FEATURE_OPTIONAL_ARCHIVE").is_some() => (),
         Err(_) => panic!(
-            "no archive at {}: `rt staticlib exports` makes it; or name one in PONGIWARU_LIB (`tools/quick_build.sh exports` makes one without proofs)",
+            "no archive at {}: `tools/build.sh exports` makes it; or name one in PONGIWARU_LIB",
             archive.display()
         ),
     }

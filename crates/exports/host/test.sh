@@ -1,10 +1,9 @@
 #!/bin/bash
 # The static library called from C, as C99 and C17 without extensions, and from Rust; pongiwaru.h read as C++. `test.sh ARCHIVE` tests that archive; without one
-# the sources are compiled without their proofs (tools/quick_build.sh), in seconds, or proved where that can't be. Its last line is 'N passed, M failed'; it exits non-zero where M is not 0.
+# the proved one is built (tools/build.sh). Its last line is 'N passed, M failed'; it exits non-zero where M is not 0.
 cd "$(dirname "$0")/../../.." || exit 1
 tmp=$(mktemp -d) && trap 'rm -rf "$tmp"' EXIT
-lib=${1:-$(bash tools/quick_build.sh exports "$tmp/libexports.a")}
-if [ -z "$lib" ] && rt staticlib exports > "$tmp/out" 2>&1; then lib=target/staticlib/libexports.a; fi
+lib=${1:-$(bash tools/build.sh exports)}
 if [ ! -f "$lib" ]; then
   echo "FAILED  no archive"
   echo "0 passed, 1 failed"

@@ -1,0 +1,40 @@
+#!/bin/bash
+# tools/build.sh joinlog|exports: the program or the static library, proved with all crates that it stands on, and built; its path is printed.
+# What is there already and no older than the crates is taken as it is, without rt. What the prover says goes to target/NAME-build.txt, its progress to standard error.
+# Exits with 1 where it is not proved, with 2 where rt is missing.
+set -u
+root=$(cd "$(dirname "$0")/.." && pwd)
+name=${1-}
+# from nothing, on two idle cores
+estimate="some eight minutes"
+case $name in
+  joinlog) made=$root/crates/joinlog/out/joinlog words=run ;;
+  exports) made=$root/crates/exports/out/libexports.a words=lib ;;
+  *) echo "tools/build.sh: joinlog or exports is wanted" >&2 && exit 2 ;;
+esac
+
+current() { # it is there, and no file that it is made of is newer
+  [ -f "$made" ] && [ -z "$(find "$root"/crates.txt "$root"/crates/*/{src,specs,proofs} -newer "$made" -print -quit 2> /dev/null)" ]
+}
+
+prove() { # rt run also runs the program, on no input
+  cd "$root/crates/$name" || return 1
+  rt $words < /dev/null 2>&1 | tee "$root/$talk" | sed -un '/^rt: running/d; /^rt: /p' >&2
+  return "${PIPESTATUS[0]}"
+}
+
+if ! current; then
+  if ! command -v rt > /dev/null; then
+    echo "$name is not built, and rt is not on the PATH. rt is the command of the Rattle kit, the language's prover and compiler; README.md says more" >&2
+    exit 2
+  fi
+  talk=target/$name-build.txt
+  mkdir -p "$root/target"
+  echo "$name and the crates that it stands on are proved first: from nothing $estimate" >&2
+  if ! prove; then
+    echo "$name is not proved; $talk has what the prover says" >&2
+    exit 1
+  fi
+  touch "$made" # where rt found that nothing had changed
+fi
+echo "$made"
