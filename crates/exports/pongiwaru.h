@@ -1,6 +1,6 @@
 /* Pongiwaru for C: join, subtype, substitution, instantiation and constraints of Move's types.
  *
- * target/staticlib/libexports.a has these functions (`rt staticlib exports`). src/lib.rt says, proved, what each gives for whatever
+ * crates/exports/out/libexports.a has these functions (`tools/build.sh exports`). src/lib.rt says, proved, what each gives for whatever
  * it is lent; docs/STATE.md draws the state.
  *
  * A fresh state is 24,069 words and 256 rows of parameter bytes, all zero:
