@@ -1,6 +1,6 @@
 -- 01's limits, computed in states written down: each line is false under an edit of must-fail/ (docs/CLAIMS.md, 'Edits of the definition'). The other side of each
 -- limit is in crates/test_replay, EdgeLimits. Assumes nothing.
-use Rattle.std.proofs.Common.{◌≡◌, ℕ, zero, suc, false, List, [], ◌∷◌, ◌++◌, replicate, refl}
+use Rattle.std.proofs.Common.{◌≡◌, ℕ, zero, suc, false, List, [], ◌∷◌, replicate, refl}
 use mathlib.Core.Option.{none, some}
 use Rattle.definition.specs.Types.{UnitType, Ref, Node, unbound, BaseTypeConstraint, State, fresh, refused, full, max_vars, ◌>>=◌}
 use Rattle.definition.specs.Store.{next_tvar}
