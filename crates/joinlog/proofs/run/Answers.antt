@@ -18,19 +18,19 @@ one_turn-t-requires c = (c.loop-turns.invariant.1.1.1.within, omega arith)
 
 pub loop-turns-preserved : goal.loop-turns-preserved
 loop-turns-preserved c = let loop = c.loop-turns in
-    let loop-test = c.loop-turns-test in
+    let loop_test = c.loop-turns-test in
     let if1 = c.if-t in
-    let one-turn = c.one_turn-t in
+    let turn = c.one_turn-t in
     let i = loop.invariant in
-    let e = one-turn.ensures in
-    let same : length one-turn.new.buf ≡ length loop.buf = search rules in (
+    let e = turn.ensures in
+    let same : length turn.new.buf ≡ length loop.buf = search rules in (
       search rules,
       (
         search rules,
         (
           search rules,
-          going_on i.1.1.1 if1.false loop-test.true e same
-              (bytes_of one-turn.new.buf c.slice_known-in-loop-turns-2-1.given),
+          going_on i.1.1.1 if1.false loop_test.true e same
+              (bytes_of turn.new.buf (search rules)),
         ),
       ),
     )
