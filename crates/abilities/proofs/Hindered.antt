@@ -16,7 +16,8 @@ use lib.Seq.{drop-cons}
 use denote.Enum.Declared.{tag_of}
 use types.Run.{OneOf}
 use Rattle.definition.specs.Types as d
-use Rattle.definition.specs.Types.{State, Struct, Constraint, Refusal, runs_into_itself, mark_contradicted, if◌then◌else◌}
+use Rattle.std.specs.Prelude.{if◌then◌else◌}
+use Rattle.definition.specs.Types.{State, Struct, Constraint, Refusal, runs_into_itself, mark_contradicted}
 use Rattle.definition.specs.Store.{any_of, with_structs}
 use Rattle.definition.specs.Subst.{reaches_itself}
 use Rattle.definition.specs.Constraints.{missing, ability_hindrance, constraint_hindrance, hindrance}

@@ -11,7 +11,8 @@ use lib.Dec.{eqb, ltb}
 use lib.ListN.{length, get_or, drop, drop_of_length-le, get_or-eq_default}
 use lib.Seq.{drop-cons}
 use Rattle.definition.specs.Types as d
-use Rattle.definition.specs.Types.{State, Struct, if◌then◌else◌}
+use Rattle.std.specs.Prelude.{if◌then◌else◌}
+use Rattle.definition.specs.Types.{State, Struct}
 use Rattle.definition.specs.Store.{args_at, with_structs, any_of}
 use Rattle.definition.specs.Instantiate.{struct_tparams}
 use Rattle.definition.specs.Abilities.{has, select, those, from_abilities, requires, declared_abilities, counts, first_lacking, is_none, lacking, granted, infer_abilities, declaration, by_argument, rule}

@@ -1,8 +1,8 @@
 -- Rules, what is missing, and 9 and 16, as the definition has them. Assumes nothing: these are definitions.
-use Rattle.std.specs.Prelude.{◌≡◌, Bool, true, false, not, ◌&&◌, ◌||◌, List, [], ◌∷◌, ℕ, ◌<◌, eqb, length, get_or}
+use Rattle.std.specs.Prelude.{◌≡◌, Bool, true, false, not, ◌&&◌, ◌||◌, List, [], ◌∷◌, ℕ, ◌<◌, eqb, length, get_or, if◌then◌else◌}
 use Rattle.std.proofs.Math.Option.{Option, none, some}
 use Rattle.definition.specs.Types as t
-use Rattle.definition.specs.Types.{State, Struct, Refusal, runs_into_itself, mark_contradicted, if◌then◌else◌}
+use Rattle.definition.specs.Types.{State, Struct, Refusal, runs_into_itself, mark_contradicted}
 use Rattle.definition.specs.Store.{count, args_at, spanned}
 use Rattle.definition.specs.Subst.{unfold_type}
 use Rattle.definition.specs.Abilities as d

@@ -2,9 +2,8 @@
 // Changed from the source that NOTICE names: ported to Rattle.
 #![tactic(auto)]
 
-ghost use Rattle.std.specs.Prelude.{◌≡◌, true, ◌&&◌, not, List, ℕ, ◌≤◌, ◌<◌, ◌%◌, length, get_or};
+ghost use Rattle.std.specs.Prelude.{◌≡◌, true, ◌&&◌, not, List, ℕ, ◌≤◌, ◌<◌, ◌%◌, length, get_or, if◌then◌else◌};
 ghost use Rattle.definition.specs.Types as d;
-ghost use Rattle.definition.specs.Types.{if◌then◌else◌};
 ghost use Rattle.definition.specs.Store.{args_at, with_args, any_of};
 ghost use Rattle.definition.specs.Abilities.{has, declared_abilities, counts, lacking, granted, those, from_abilities, infer_value, infer_abilities, by_argument, rule};
 ghost use Rattle.definition.specs.Constraints.{missing, is_contradicted, ability_hindrance, constraint_hindrance, hindrance};

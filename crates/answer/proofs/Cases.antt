@@ -5,7 +5,8 @@ use mathlib.Core.List.{List, ◌++◌}
 use Prim.Native.Nat.{ℕ, ◌≤◌, ◌<◌}
 use native.Mathlib.Omega.{arith}
 use lib.ListN.{length}
-use Rattle.definition.specs.Types.{State, Struct, ◌>>=◌, if◌then◌else◌, TypingError, RecursiveType, answer_too_long}
+use Rattle.std.specs.Prelude.{if◌then◌else◌}
+use Rattle.definition.specs.Types.{State, Struct, ◌>>=◌, TypingError, RecursiveType, answer_too_long}
 use Rattle.definition.specs.Write.{Bytes, u32, write, write_error}
 use Rattle.definition.specs.Step.{answer, answer_with, put_back, number_of_error}
 use Rattle.table.specs.State.{outcome, error_of, refusal_of, seen, Lay}

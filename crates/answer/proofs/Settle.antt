@@ -6,7 +6,8 @@ use Prim.Native.Nat.{ℕ, ◌≤◌, ◌<◌}
 use native.Mathlib.Omega.{arith}
 use borrow.Author.Tests.{le-leb, lt-leb}
 use lib.ListN.{length}
-use Rattle.definition.specs.Types.{State, Struct, if◌then◌else◌, TypingError, Refusal, answer_too_long}
+use Rattle.std.specs.Prelude.{if◌then◌else◌}
+use Rattle.definition.specs.Types.{State, Struct, TypingError, Refusal, answer_too_long}
 use Rattle.definition.specs.Store.{with_structs}
 use Rattle.definition.specs.Write.{Bytes, write_error}
 use Rattle.definition.specs.Step as step

@@ -1,7 +1,7 @@
 -- What a run left, as the definition's result, and what its answer leaves in the words and in the buffer. Assumes nothing: these are definitions.
-use Rattle.std.specs.Prelude.{◌≡◌, Bool, List, ◌++◌, ℕ, ◌≤◌, take, drop}
+use Rattle.std.specs.Prelude.{◌≡◌, Bool, List, ◌++◌, ℕ, ◌≤◌, take, drop, if◌then◌else◌}
 use Rattle.definition.specs.Types as d
-use Rattle.definition.specs.Types.{State, Struct, Result, ok, err, ◌>>=◌, if◌then◌else◌}
+use Rattle.definition.specs.Types.{State, Struct, Result, ok, err, ◌>>=◌}
 use Rattle.definition.specs.Write.{Bytes}
 use Rattle.definition.specs.Step as step
 use Rattle.definition.specs.Step.{answer, refusal}

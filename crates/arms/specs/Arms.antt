@@ -1,7 +1,7 @@
 -- The arms that the code tells apart, their guards decided, as what the definition's join_arm gives there. Assumes nothing: these are definitions.
-use Rattle.std.specs.Prelude.{◌≡◌, List, ℕ, ◌<◌}
+use Rattle.std.specs.Prelude.{◌≡◌, List, ℕ, ◌<◌, if◌then◌else◌}
 use Rattle.definition.specs.Types as d
-use Rattle.definition.specs.Types.{State, Result, ok, err, refused, ◌>>=◌, if◌then◌else◌, abilities_disagree}
+use Rattle.definition.specs.Types.{State, Result, ok, err, refused, ◌>>=◌, abilities_disagree}
 use Rattle.definition.specs.Store.{loc_of, args_at, with_args, sp}
 use Rattle.definition.specs.Subst.{on_shape}
 use Rattle.definition.specs.Join as j

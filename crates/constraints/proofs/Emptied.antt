@@ -2,7 +2,8 @@
 use Rattle.std.proofs.Common.{◌≡◌, ℕ, suc, ◌+◌, ◌-◌, ◌*◌, ◌<◌, ◌≤◌, Bool, true, false, List, [], ◌∷◌, ◌++◌, length, get_or, take, set, sym, refl, ap, ◌∙◌, subst, ap₂, append_assoc, append-nil, add-one, arith, take_all, get_or-set_other, take-suc, take-take, take-suc-set}
 use native.Mathlib.Decide.{ℕ_discrete, dec_lt}
 use lib.Seq.{take-append-le}
-use Rattle.definition.specs.Types.{State, Struct, Constraint, AbilityConstraint, if◌then◌else◌}
+use Rattle.std.specs.Prelude.{if◌then◌else◌}
+use Rattle.definition.specs.Types.{State, Struct, Constraint, AbilityConstraint}
 use Rattle.definition.specs.Store.{with_constraints, with_structs}
 use Rattle.table.specs.Tab.{tab}
 use Rattle.table.specs.Rows.{row, words_at, entries, Clean, Written, read_constraint, constraint_words, node_table, arg_table, var_table, constraint_table, struct_table}

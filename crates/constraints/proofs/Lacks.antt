@@ -4,7 +4,8 @@ use Rattle.std.proofs.Common.{◌≡◌, ℕ, zero, suc, ◌<◌, Bool, true, fa
 use denote.Enum.Declared.{tag_of}
 use types.Run.{OneOf, miss}
 use Rattle.definition.specs.Types as d
-use Rattle.definition.specs.Types.{State, Struct, Spanned, TypeValue, if◌then◌else◌}
+use Rattle.std.specs.Prelude.{if◌then◌else◌}
+use Rattle.definition.specs.Types.{State, Struct, Spanned, TypeValue}
 use Rattle.definition.specs.Store.{count, node, with_args, spanned}
 use Rattle.definition.specs.Subst.{unfold_type}
 use Rattle.definition.specs.Abilities.{all, has, select, those, infer_value, infer, infer_abilities, rule}

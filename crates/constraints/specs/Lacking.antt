@@ -1,7 +1,7 @@
 -- The failures of a constraint in four rows, one for each ability. Assumes nothing: these are definitions.
-use Rattle.std.specs.Prelude.{◌≡◌, ℕ, ◌<◌, true, List, [], length, ◌==◌, slice_index_or}
+use Rattle.std.specs.Prelude.{◌≡◌, ℕ, ◌<◌, true, List, [], length, ◌==◌, slice_index_or, if◌then◌else◌}
 use Rattle.definition.specs.Types as d
-use Rattle.definition.specs.Types.{State, Struct, if◌then◌else◌}
+use Rattle.definition.specs.Types.{State, Struct}
 use Rattle.definition.specs.Store.{spanned}
 use Rattle.definition.specs.Subst.{unfold_type}
 use Rattle.definition.specs.Abilities.{all, has, rule}

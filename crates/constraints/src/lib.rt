@@ -3,9 +3,9 @@
 // Changed from the source that NOTICE names: ported to Rattle.
 #![tactic(auto)]
 
-ghost use Rattle.std.specs.Prelude.{◌≡◌, ℕ, ◌+◌, ◌*◌, ◌<◌, ◌≤◌, List, [], length, nat_eq, slice_index};
+ghost use Rattle.std.specs.Prelude.{◌≡◌, ℕ, ◌+◌, ◌*◌, ◌<◌, ◌≤◌, List, [], length, nat_eq, slice_index, if◌then◌else◌};
 ghost use Rattle.definition.specs.Types as d;
-ghost use Rattle.definition.specs.Types.{BaseTypeConstraint, SingleTypeConstraint, if◌then◌else◌};
+ghost use Rattle.definition.specs.Types.{BaseTypeConstraint, SingleTypeConstraint};
 ghost use Rattle.definition.specs.Subst.{unfold_type};
 ghost use Rattle.definition.specs.Constraints.{undecided, num_vars, default_num_var, default_num_vars, by_rule};
 ghost use Rattle.definition.specs.Step.{numeric_constraint};

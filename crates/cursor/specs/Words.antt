@@ -1,6 +1,5 @@
 -- A number in the bytes at a place, and two in turn. Assumes nothing: these are definitions.
-use Rattle.std.specs.Prelude.{List, ℕ, ◌+◌, ◌*◌, ◌-◌, ltb, eqb, length, get_or}
-use Rattle.definition.specs.Types.{if◌then◌else◌}
+use Rattle.std.specs.Prelude.{List, ℕ, ◌+◌, ◌*◌, ◌-◌, ltb, eqb, length, get_or, if◌then◌else◌}
 use Rattle.cursor.specs.declared.Number.TheVariants.{Got, Missing}
 use Rattle.cursor.specs.declared.Word.{Word}
 use Rattle.cursor.specs.declared.Words.{Words}

@@ -1,6 +1,6 @@
 -- R-2's types u16, u32 and u256 through every kind of record that tells integer types apart, as one list, computed. Assumes nothing.
 use Rattle.std.proofs.Common.{◌≡◌, ℕ, eqb, List, [], ◌∷◌, ◌++◌, refl}
-use Rattle.definition.specs.Types.{if◌then◌else◌}
+use Rattle.std.specs.Prelude.{if◌then◌else◌}
 use Rattle.definition.specs.Write.{Bytes, u32}
 use Rattle.definition.proofs.Computed.{answers_of}
 use Rattle.definition.proofs.Marked.{Call, answered, wanted}

@@ -1,7 +1,8 @@
 -- typing/core.rs: infer_abilities, and what debug_abilities_info and ability_not_satisified_tips find; expansion/ast.rs's AbilitySet, parser/ast.rs's
 -- Ability_::requires; 02, R-1. The names are the Rust's. Assumes nothing: these are definitions.
 -- Changed from the source that NOTICE names: ported to Rattle.
-use Rattle.definition.specs.Types.{Bool, true, false, not, ◌&&◌, List, [], ◌∷◌, Option, none, some, ℕ, zero, suc, ◌+◌, ◌/◌, ◌%◌, get_or, ltb, eqb, TypeName, Multiple, Builtin, ModuleType, UnitType, Ref, Param, Apply, Var, Anything, UnresolvedError, TypeValue, State, if◌then◌else◌}
+use Rattle.std.specs.Prelude.{◌&&◌, ◌∷◌, ◌+◌, ◌/◌, ◌%◌, if◌then◌else◌}
+use Rattle.definition.specs.Types.{Bool, true, false, not, List, [], Option, none, some, ℕ, zero, suc, get_or, ltb, eqb, TypeName, Multiple, Builtin, ModuleType, UnitType, Ref, Param, Apply, Var, Anything, UnresolvedError, TypeValue, State}
 use Rattle.definition.specs.Store.{count, spanned}
 use Rattle.definition.specs.Subst.{unfold_type}
 use Rattle.definition.specs.Instantiate.{struct_tparams}

@@ -1,6 +1,6 @@
 -- What the Move Book says of subtyping, of integer literals and of abilities, in its own terms, and what that claims of subtype, join and SV. Assumes nothing: these are definitions.
-use Rattle.std.specs.Prelude.{◌≤◌, ◌≢◌, ◌↔◌}
-use Rattle.definition.specs.Types.{◌≡◌, Bool, true, false, List, [], ◌∷◌, none, some, ℕ, ◌<◌, length, get_or, TypeName, Multiple, Builtin, ModuleType, AbilityMark, TypeValue, UnitType, Ref, Param, Apply, Var, Anything, UnresolvedError}
+use Rattle.std.specs.Prelude.{◌≤◌, ◌≢◌, ◌↔◌, ◌≡◌, ◌∷◌, ◌<◌}
+use Rattle.definition.specs.Types.{Bool, true, false, List, [], none, some, ℕ, length, get_or, TypeName, Multiple, Builtin, ModuleType, AbilityMark, TypeValue, UnitType, Ref, Param, Apply, Var, Anything, UnresolvedError}
 use Rattle.definition.specs.Types.{State, TypingError, SubtypeError, Incompatible, ArityMismatch, Refusal, full, too_deep, runs_into_itself, abilities_disagree, mark_contradicted, Result, ok, err, refused}
 use Rattle.definition.specs.Store.{count, type_at, get, num_loc}
 use Rattle.definition.specs.Subst.{forward_tvar, unfold_type}

@@ -1,5 +1,6 @@
 -- 01, 'Nodes: reading takes one per tag': the types of a record placed as nodes, parts before their node. Assumes nothing: these are definitions.
-use Rattle.definition.specs.Types.{List, [], ◌∷◌, ℕ, UnitType, Ref, Param, Apply, Var, Anything, UnresolvedError, State, Result, ok, ◌>>=◌}
+use Rattle.std.specs.Prelude.{◌∷◌}
+use Rattle.definition.specs.Types.{List, [], ℕ, UnitType, Ref, Param, Apply, Var, Anything, UnresolvedError, State, Result, ok, ◌>>=◌}
 use Rattle.definition.specs.Store.{sp}
 use Rattle.definition.specs.Trees.{Tree, unit_tree, anything_tree, error_tree, ref_tree, param_tree, apply_tree, var_tree, Trees, no_trees, ◌then◌}
 

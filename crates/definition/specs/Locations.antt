@@ -1,6 +1,7 @@
 -- 02, R-4: which bytes of a record and of a payload are location fields; a job, and what it is answered, with these fields set to 0.
 -- Assumes nothing: these are definitions.
-use Rattle.definition.specs.Types.{◌≡◌, ◌&&◌, List, [], ◌∷◌, ◌++◌, ℕ, zero, suc, ◌+◌, ◌*◌, length, get_or, take, drop, replicate, eqb, Builtin, ModuleType, State, fresh, if◌then◌else◌}
+use Rattle.std.specs.Prelude.{◌≡◌, ◌&&◌, ◌∷◌, ◌++◌, ◌+◌, ◌*◌, if◌then◌else◌}
+use Rattle.definition.specs.Types.{List, [], ℕ, zero, suc, length, get_or, take, drop, replicate, eqb, Builtin, ModuleType, State, fresh}
 use Rattle.definition.specs.Store.{count, taken}
 use Rattle.definition.specs.Trees.{arity}
 use Rattle.definition.specs.Write.{Bytes}

@@ -1,5 +1,6 @@
 -- 02, R-3: the nodes, argument places, variables and constraints that IN of a type takes in any state, reading included. Assumes nothing: these are definitions.
-use Rattle.definition.specs.Types.{◌++◌, Option, none, some, ℕ, ◌+◌}
+use Rattle.std.specs.Prelude.{◌++◌, ◌+◌}
+use Rattle.definition.specs.Types.{Option, none, some, ℕ}
 use Rattle.definition.specs.Write.{Bytes, u32}
 use Rattle.definition.specs.Trees.{Tree, unit_tree, anything_tree, error_tree, ref_tree, param_tree, apply_tree, var_tree, Trees, no_trees, ◌then◌}
 

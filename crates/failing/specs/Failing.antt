@@ -1,7 +1,7 @@
 -- What a constraint asks, and a failure, as the definition has them in bytes. Assumes nothing: these are definitions.
-use Rattle.std.specs.Prelude.{◌≡◌, Bool, List, [], ◌∷◌, ℕ, ◌<◌, eqb}
+use Rattle.std.specs.Prelude.{◌≡◌, Bool, List, [], ◌∷◌, ℕ, ◌<◌, eqb, if◌then◌else◌}
 use Rattle.definition.specs.Types as d
-use Rattle.definition.specs.Types.{State, Struct, TypeValue, if◌then◌else◌}
+use Rattle.definition.specs.Types.{State, Struct, TypeValue}
 use Rattle.definition.specs.Store.{spanned}
 use Rattle.definition.specs.Constraints.{is_integer, is_base, is_single, failure, ability_failure, solve}
 use Rattle.definition.specs.Write.{Bytes}

@@ -8,7 +8,8 @@ use native.Mathlib.Omega.{arith}
 use lib.Dec.{ltb, eqb}
 use lib.ListN.{length, get_or, replicate, length-replicate}
 use Rattle.definition.specs.Store.{taken}
-use Rattle.definition.specs.Types.{State, Struct, unbound, malformed, doubled_reference, if◌then◌else◌}
+use Rattle.std.specs.Prelude.{if◌then◌else◌}
+use Rattle.definition.specs.Types.{State, Struct, unbound, malformed, doubled_reference}
 use Rattle.definition.specs.Write.{Bytes}
 use Rattle.definition.specs.Reader.{not_read, Reader, go_on, ◌>>=◌, refuse, byte_to, read_u32}
 use Rattle.definition.specs.Trees.{Tree, under_ref, by_tag, read_nested}

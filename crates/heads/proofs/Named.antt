@@ -3,7 +3,8 @@ use mathlib.Core.Path.{◌≡◌, refl}
 use mathlib.Core.Bool.{Bool, true, false, not}
 use Prim.Native.Nat.{ℕ}
 use lib.ListN.{length}
-use Rattle.definition.specs.Types.{TypeName, Multiple, Builtin, ModuleType, AbilityMark, max_builtin, State, Refusal, malformed, unknown_name, if◌then◌else◌}
+use Rattle.std.specs.Prelude.{if◌then◌else◌}
+use Rattle.definition.specs.Types.{TypeName, Multiple, Builtin, ModuleType, AbilityMark, max_builtin, State, Refusal, malformed, unknown_name}
 use Rattle.definition.specs.Write.{Bytes}
 use Rattle.definition.specs.Reader.{Read, got, not_read, Reader, give, refuse, go_on, ◌>>=◌, byte, read_u16, byte_if, byte_to, name_below}
 use Rattle.definition.specs.Trees.{Tree, is_name, read_mark, read_apply}

@@ -1,8 +1,8 @@
 -- What is left of the caller's bytes, and the fields of a type as read. Assumes nothing: these are definitions.
-use Rattle.std.specs.Prelude.{◌≡◌, not, List, [], ℕ, ◌≤◌, ◌<◌, length, get_or, take, drop}
+use Rattle.std.specs.Prelude.{◌≡◌, not, List, [], ℕ, ◌≤◌, ◌<◌, length, get_or, take, drop, if◌then◌else◌}
 use Rattle.std.proofs.Math.Option.{Option, none, some}
 use Rattle.definition.specs.Types as d
-use Rattle.definition.specs.Types.{State, Struct, malformed, unknown_name, doubled_reference, if◌then◌else◌}
+use Rattle.definition.specs.Types.{State, Struct, malformed, unknown_name, doubled_reference}
 use Rattle.definition.specs.Store.{taken}
 use Rattle.definition.specs.Write.{Bytes}
 use Rattle.definition.specs.Reader.{Read, got, not_read, Reader, give, refuse, go_on, ◌>>=◌, name_below, byte, read_u16, read_u32}

@@ -10,7 +10,8 @@ use lib.Seq.{get_or-take}
 use lib.Dec.{eqb}
 use borrow.Author.Tests.{eq-eqb, ne_eqb}
 use Rattle.definition.specs.Types as d
-use Rattle.definition.specs.Types.{State, Struct, Result, ok, AbilityConstraint, Multiple, Builtin, ModuleType, ◌>>=◌, if◌then◌else◌}
+use Rattle.std.specs.Prelude.{if◌then◌else◌}
+use Rattle.definition.specs.Types.{State, Struct, Result, ok, AbilityConstraint, Multiple, Builtin, ModuleType, ◌>>=◌}
 use Rattle.definition.specs.Store.{loc_of, sp, add_constraint, with_structs}
 use Rattle.definition.specs.Join.{join}
 use Rattle.definition.specs.Instantiate.{make_tvar, tvar_constraint, builtin_tparams, struct_tparams, tparam_constraints, make_tparams, join_args}

@@ -3,7 +3,8 @@ use mathlib.Core.Path.{◌≡◌, refl}
 use mathlib.Core.Bool.{Bool, true, false}
 use Prim.Native.Nat.{ℕ}
 use lib.Dec.{ltb}
-use Rattle.definition.specs.Types.{State, Result, ok, refused, ◌>>=◌, if◌then◌else◌, full, max_vars}
+use Rattle.std.specs.Prelude.{if◌then◌else◌}
+use Rattle.definition.specs.Types.{State, Result, ok, refused, ◌>>=◌, full, max_vars}
 use Rattle.definition.specs.Store.{taken, with_var, next_tvar}
 
 next_if : {B : Type 0} (b : Bool) (x : State × ℕ) (f g : State × ℕ → Result B) → f x ≡ g x → ((if b then ok x else refused full) >>= f) ≡ ((if b then ok x else refused full) >>= g)

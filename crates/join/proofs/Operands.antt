@@ -8,7 +8,8 @@ use native.Mathlib.Numerals.{sub-one}
 use native.Mathlib.Omega.{arith}
 use lib.ListN.{take}
 use Rattle.definition.specs.Types as d
-use Rattle.definition.specs.Types.{State, Struct, Places, Result, ok, ◌>>=◌, if◌then◌else◌}
+use Rattle.std.specs.Prelude.{if◌then◌else◌}
+use Rattle.definition.specs.Types.{State, Struct, Places, Result, ok, ◌>>=◌}
 use Rattle.definition.specs.Store.{count, sp, node, type_at, loc_of, args_at, with_structs, with_vars, with_var, get}
 use Rattle.definition.specs.Join as j
 use Rattle.definition.specs.Join.{VarL, VarR, arm, join_arm, join_impl, join_impl_types, join_tvar}

@@ -2,8 +2,7 @@
 // Changed from the source that NOTICE names: ported to Rattle.
 #![tactic(auto)]
 
-ghost use Rattle.std.specs.Prelude.{◌≡◌, ℕ, ◌<◌};
-ghost use Rattle.definition.specs.Types.{if◌then◌else◌};
+ghost use Rattle.std.specs.Prelude.{◌≡◌, ℕ, ◌<◌, if◌then◌else◌};
 ghost use Rattle.definition.specs.Store.{args_at};
 ghost use Rattle.definition.specs.Join.{join, subtype, join_impl, join_impl_types, join_tvar};
 ghost use Rattle.table.specs.State.{Lay, After, NodesIn, ListedIn};

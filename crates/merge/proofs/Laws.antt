@@ -6,7 +6,8 @@ use mathlib.Core.Option.{Option, none, some}
 use Prim.Native.Nat.{ℕ, ◌<◌}
 use native.Mathlib.Omega.{arith}
 use Rattle.definition.specs.Types as d
-use Rattle.definition.specs.Types.{State, Struct, Result, ok, err, ◌>>=◌, if◌then◌else◌}
+use Rattle.std.specs.Prelude.{if◌then◌else◌}
+use Rattle.definition.specs.Types.{State, Struct, Result, ok, err, ◌>>=◌}
 use Rattle.definition.specs.Store.{get, node, with_args, num_loc, insert, sp, next_tvar}
 use Rattle.definition.specs.Subst.{is_anything, forward_tvar, set_num_var}
 use Rattle.definition.specs.Join.{type_of, merge_num, shown, join_bind_tvar, join_unbound}

@@ -1,8 +1,8 @@
 -- The definition's join_tvar cut at its inner join, given what follows, and the answers of the cuts. Assumes nothing: these are definitions.
-use Rattle.std.specs.Prelude.{List, ℕ, ◌<◌}
+use Rattle.std.specs.Prelude.{List, ℕ, ◌<◌, if◌then◌else◌}
 use Rattle.std.proofs.Math.Option.{Option, none, some}
 use Rattle.definition.specs.Types as d
-use Rattle.definition.specs.Types.{State, Result, ok, err, ◌>>=◌, if◌then◌else◌, RecursiveType}
+use Rattle.definition.specs.Types.{State, Result, ok, err, ◌>>=◌, RecursiveType}
 use Rattle.definition.specs.Store.{loc_of, get, num_loc, insert, sp, next_tvar}
 use Rattle.definition.specs.Subst.{forward_tvar}
 use Rattle.definition.specs.Join.{type_of, merge_num, shown, join_bind_tvar, join_unbound}

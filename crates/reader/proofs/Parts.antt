@@ -7,7 +7,8 @@ use native.Mathlib.Omega.{arith}
 use lib.ListN.{length, get_or}
 use lib.Dec.{ltb, leb}
 use Rattle.definition.specs.Types as d
-use Rattle.definition.specs.Types.{State, Refusal, max_nodes, max_args, malformed, unknown_name, doubled_reference, full, Result, ok, err, refused, ◌>>=◌, if◌then◌else◌}
+use Rattle.std.specs.Prelude.{if◌then◌else◌}
+use Rattle.definition.specs.Types.{State, Refusal, max_nodes, max_args, malformed, unknown_name, doubled_reference, full, Result, ok, err, refused, ◌>>=◌}
 use Rattle.definition.specs.Store.{count, args_of, with_node, sp}
 use Rattle.definition.specs.Write.{Bytes}
 use Rattle.definition.specs.Reader.{Read, got, not_read, Reader, give, go_on}

@@ -12,7 +12,8 @@ use lib.Seq.{get_or-take}
 use denote.Enum.Declared.{tag_of}
 use types.Run.{OneOf}
 use Rattle.definition.specs.Types as d
-use Rattle.definition.specs.Types.{State, Struct, Places, Result, ok, err, refused, full, ◌>>=◌, if◌then◌else◌, max_nodes, max_args}
+use Rattle.std.specs.Prelude.{if◌then◌else◌}
+use Rattle.definition.specs.Types.{State, Struct, Places, Result, ok, err, refused, full, ◌>>=◌, max_nodes, max_args}
 use Rattle.definition.specs.Store.{count, taken, node, nowhere, args_at, with_args, type_at, loc_of, get, sp, map_types, with_structs, with_node, args_of}
 use Rattle.definition.specs.Subst.{as_var, parts, next_in, next_of, forward, forward_tvar, reaches_itself, ready_value, ready, ready_tvars}
 use Rattle.names.specs.Names.{mark_of, name_of}

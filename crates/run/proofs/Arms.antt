@@ -5,7 +5,8 @@ use mathlib.Core.List.{List, ◌∷◌}
 use mathlib.Core.Option.{Option, none}
 use Prim.Native.Nat.{ℕ, zero, suc}
 use lib.ListN.{get_or}
-use Rattle.definition.specs.Types.{State, Struct, Result, if◌then◌else◌}
+use Rattle.std.specs.Prelude.{if◌then◌else◌}
+use Rattle.definition.specs.Types.{State, Struct, Result}
 use Rattle.definition.specs.Needs.{Needs}
 use Rattle.needs.specs.Counted.{unless}
 use Rattle.definition.specs.Write.{Bytes}

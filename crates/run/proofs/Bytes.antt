@@ -4,7 +4,8 @@ use mathlib.Core.Bool.{Bool, true}
 use mathlib.Core.List.{List}
 use Prim.Native.Nat.{ℕ}
 use lib.ListN.{length}
-use Rattle.definition.specs.Types.{State, Struct, Result, ok, err, refused, ◌>>=◌, if◌then◌else◌}
+use Rattle.std.specs.Prelude.{if◌then◌else◌}
+use Rattle.definition.specs.Types.{State, Struct, Result, ok, err, refused, ◌>>=◌}
 use Rattle.definition.specs.Subst.{ready_tvars}
 use Rattle.definition.specs.TParams.{make_tparam_subst, subst_tparams}
 use Rattle.definition.specs.Write.{Bytes}

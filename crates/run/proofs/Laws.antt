@@ -8,7 +8,8 @@ use native.Mathlib.Omega.{arith}
 use lib.Dec.{ltb, ltb→lt}
 use lib.ListN.{length, set, replicate, length-replicate}
 use Rattle.definition.specs.Types as d
-use Rattle.definition.specs.Types.{State, Struct, Result, ok, err, refused, ◌>>=◌, if◌then◌else◌, max_vars, max_constraints, max_structs, full, parameter_twice, Spanned, TypeValue}
+use Rattle.std.specs.Prelude.{if◌then◌else◌}
+use Rattle.definition.specs.Types.{State, Struct, Result, ok, err, refused, ◌>>=◌, max_vars, max_constraints, max_structs, full, parameter_twice, Spanned, TypeValue}
 use Rattle.definition.specs.Store.{taken, spanned, next_tvar, add_constraint, declare}
 use Rattle.definition.specs.Subst.{set_num_var, ready_tvars}
 use Rattle.definition.specs.Join as j

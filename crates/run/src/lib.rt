@@ -1,9 +1,8 @@
 // The run of each record from its placed types on: what it leaves, and what its answer shows.
 #![tactic(auto)]
 
-ghost use Rattle.std.specs.Prelude.{◌≡◌, true, false, ◌<◌};
+ghost use Rattle.std.specs.Prelude.{◌≡◌, true, false, ◌<◌, if◌then◌else◌};
 ghost use Rattle.std.proofs.Math.Option.{none};
-ghost use Rattle.definition.specs.Types.{if◌then◌else◌};
 ghost use Rattle.definition.specs.Store.{next_tvar};
 ghost use Rattle.definition.specs.Subst.{ready_tvars};
 ghost use Rattle.definition.specs.Instantiate.{instantiate};

@@ -8,7 +8,8 @@ use lib.ListN.{length, get_or, drop, drop_of_length-le}
 use lib.Seq.{drop-cons}
 use lib.Dec.{eqb}
 use Rattle.definition.specs.Types as d
-use Rattle.definition.specs.Types.{State, Struct, Constraint, if◌then◌else◌}
+use Rattle.std.specs.Prelude.{if◌then◌else◌}
+use Rattle.definition.specs.Types.{State, Struct, Constraint}
 use Rattle.definition.specs.Store.{with_structs}
 use Rattle.definition.specs.Abilities.{all, has}
 use Rattle.definition.specs.Constraints.{solve_constraint, failures}

@@ -1,6 +1,6 @@
 -- What SV leaves, and what it asks of the state. Assumes nothing: these are definitions.
-use Rattle.std.specs.Prelude.{◌≡◌, true, List, [], ◌++◌, ℕ, ◌≤◌, take, drop}
-use Rattle.definition.specs.Types.{State, Struct, ok, if◌then◌else◌}
+use Rattle.std.specs.Prelude.{◌≡◌, true, List, [], ◌++◌, ℕ, ◌≤◌, take, drop, if◌then◌else◌}
+use Rattle.definition.specs.Types.{State, Struct, ok}
 use Rattle.definition.specs.Store.{with_constraints}
 use Rattle.definition.specs.Constraints.{failures, solve_all, solve_constraints}
 use Rattle.definition.specs.Sound.{sound}

@@ -12,7 +12,8 @@ use lib.Dec.{eqb}
 use lib.ListN.{get_or}
 use Prim.Native.Nat.{◌+◌, ◌*◌}
 use borrow.Author.Tests.{lt-ltb, le-ltb}
-use Rattle.definition.specs.Types.{State, Struct, Node, if◌then◌else◌}
+use Rattle.std.specs.Prelude.{if◌then◌else◌}
+use Rattle.definition.specs.Types.{State, Struct, Node}
 use Rattle.definition.specs.Store.{nowhere, taken, node, type_at, with_args}
 use Rattle.definition.specs.Subst.{as_var, next_in, next_of, forward, forward_tvar}
 use Rattle.definition.specs.Sound.{chain_ends}

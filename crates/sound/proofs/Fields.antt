@@ -9,7 +9,7 @@ use native.Mathlib.Omega.{arith}
 use native.Mathlib.Decide.{ℕ_discrete, dec_lt}
 use lib.Dec.{eqb, leb}
 use borrow.Author.Tests.{leb-true, eqb-true, lt-ltb, le-ltb, le-leb, eq-eqb, ne_eqb}
-use Rattle.definition.specs.Types.{if◌then◌else◌}
+use Rattle.std.specs.Prelude.{if◌then◌else◌}
 use Rattle.definition.specs.Trees.{is_set, is_mark}
 use Rattle.table.specs.Rows.{flag, read_mark, mark_word}
 use Rattle.sound_fields.specs.Fields.{four_zeros, mark_fine}

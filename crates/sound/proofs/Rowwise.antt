@@ -9,7 +9,8 @@ use native.Mathlib.Omega.{arith}
 use lib.Dec.{eqb, leb, ltb}
 use lib.ListN.{get_or}
 use borrow.Author.Tests.{ltb-true, leb-true, eqb-true, lt-ltb, le-leb, eq-eqb, ne_eqb}
-use Rattle.definition.specs.Types.{Struct, Node, if◌then◌else◌}
+use Rattle.std.specs.Prelude.{if◌then◌else◌}
+use Rattle.definition.specs.Types.{Struct, Node}
 use Rattle.definition.specs.Store.{count, type_at, with_args, with_structs}
 use Rattle.definition.specs.Subst.{is_anything}
 use Rattle.definition.specs.Sound.{is_u32, at_node, constraint_allowed, binding_allowed, numeric_allowed, no_anything}

@@ -9,7 +9,8 @@ use native.Mathlib.Omega.{arith}
 use lib.Dec.{eqb, leb, ltb}
 use lib.ListN.{length, get_or, drop, length-take, length-drop}
 use borrow.Author.Tests.{ltb-true, leb-true, eqb-true, lt-ltb, le-ltb, le-leb, lt-leb, eq-eqb, ne_eqb}
-use Rattle.definition.specs.Types.{State, Struct, Shape, TypeName, Multiple, Builtin, ModuleType, Apply, UnresolvedError, Places, if◌then◌else◌}
+use Rattle.std.specs.Prelude.{if◌then◌else◌}
+use Rattle.definition.specs.Types.{State, Struct, Shape, TypeName, Multiple, Builtin, ModuleType, Apply, UnresolvedError, Places}
 use Rattle.definition.specs.Store.{taken, with_args, args_at, with_structs, all_of}
 use Rattle.definition.specs.Subst.{parts, as_var, is_anything}
 use Rattle.definition.specs.Join.{is_numeric}

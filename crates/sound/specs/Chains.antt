@@ -1,7 +1,6 @@
 -- Chains of bindings, word by word. proofs/Chains.antt: they end just where the definition's do. Assumes nothing: these are definitions.
-use Rattle.std.specs.Prelude.{◌≡◌, Bool, true, false, List, ℕ, zero, suc, ◌+◌, ◌*◌, ◌-◌, ◌≤◌, ◌<◌, ◌%◌, eqb, ltb, leb, length, get_or}
+use Rattle.std.specs.Prelude.{◌≡◌, Bool, true, false, List, ℕ, zero, suc, ◌+◌, ◌*◌, ◌-◌, ◌≤◌, ◌<◌, ◌%◌, eqb, ltb, leb, length, get_or, if◌then◌else◌}
 use Rattle.std.proofs.Math.Option.{Option, none, some}
-use Rattle.definition.specs.Types.{if◌then◌else◌}
 use Rattle.table.specs.declared.Used.{Used}
 use Rattle.sound.specs.declared.Next.{Next}
 use Rattle.sound.specs.declared.Next.TheVariants.{Last, To}

@@ -9,7 +9,8 @@ use native.Mathlib.Numerals.{add-one}
 use native.Mathlib.Omega.{arith}
 use native.Mathlib.Decide.{ℕ_discrete}
 use borrow.Author.Tests.{ltb-true, leb-true, eq-eqb, ne_eqb}
-use Rattle.definition.specs.Types.{max_builtin, if◌then◌else◌}
+use Rattle.std.specs.Prelude.{if◌then◌else◌}
+use Rattle.definition.specs.Types.{max_builtin}
 use lib.Dec.{eqb, leb}
 use Rattle.table.specs.declared.Used.{Used}
 use Rattle.sound_fields.specs.Fields.{all_below, name_fine}

@@ -1,6 +1,6 @@
 -- The test of parameter bytes and of a row's fields, as the code makes it. Assumes nothing: these are definitions.
-use Rattle.std.specs.Prelude.{Bool, true, ◌&&◌, List, ℕ, zero, suc, eqb, ltb, leb, get_or}
-use Rattle.definition.specs.Types.{Builtin, max_builtin, if◌then◌else◌}
+use Rattle.std.specs.Prelude.{Bool, true, ◌&&◌, List, ℕ, zero, suc, eqb, ltb, leb, get_or, if◌then◌else◌}
+use Rattle.definition.specs.Types.{Builtin, max_builtin}
 use Rattle.definition.specs.Join.{is_numeric}
 use Rattle.definition.specs.Trees.{has_drop}
 use Rattle.table.specs.Rows.{read_mark}

@@ -1,6 +1,5 @@
 -- The test of each row, word by word. Assumes nothing: these are definitions.
-use Rattle.std.specs.Prelude.{◌≡◌, Bool, not, ◌&&◌, List, ℕ, ◌+◌, ◌*◌, ◌≤◌, eqb, ltb, leb, length, get_or}
-use Rattle.definition.specs.Types.{if◌then◌else◌}
+use Rattle.std.specs.Prelude.{◌≡◌, Bool, not, ◌&&◌, List, ℕ, ◌+◌, ◌*◌, ◌≤◌, eqb, ltb, leb, length, get_or, if◌then◌else◌}
 use Rattle.table.specs.declared.Used.{Used}
 use Rattle.sound_fields.specs.Fields.{all_below, four_zeros, ref_fine, param_fine, var_fine, mark_fine, name_fine, fits_fine, numeric_fine}
 

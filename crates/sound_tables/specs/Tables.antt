@@ -1,6 +1,5 @@
 -- The tests of counts, tails, parameter bytes and all rows. Assumes nothing: these are definitions.
-use Rattle.std.specs.Prelude.{Bool, ◌&&◌, List, [], ℕ, ◌+◌, ◌*◌, ◌-◌, eqb, ltb, leb, get_or}
-use Rattle.definition.specs.Types.{if◌then◌else◌}
+use Rattle.std.specs.Prelude.{Bool, ◌&&◌, List, [], ℕ, ◌+◌, ◌*◌, ◌-◌, eqb, ltb, leb, get_or, if◌then◌else◌}
 use Rattle.table.specs.declared.Used.{Used}
 use Rattle.sound_fields.specs.Fields.{all_below, byte_fine}
 use Rattle.sound_rows.specs.Rows.{struct_fine, node_fine, cell_fine, constraint_fine}

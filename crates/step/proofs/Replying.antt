@@ -5,7 +5,8 @@ use mathlib.Core.List.{List, ◌++◌}
 use Prim.Native.Nat.{ℕ, ◌≤◌}
 use native.Mathlib.Omega.{arith}
 use lib.ListN.{length, take, drop, length-take}
-use Rattle.definition.specs.Types.{State, Struct, Refusal, Result, ok, ◌>>=◌, if◌then◌else◌}
+use Rattle.std.specs.Prelude.{if◌then◌else◌}
+use Rattle.definition.specs.Types.{State, Struct, Refusal, Result, ok, ◌>>=◌}
 use Rattle.definition.specs.Store.{with_structs}
 use Rattle.definition.specs.Record.{Record}
 use Rattle.definition.specs.Sound.{sound}

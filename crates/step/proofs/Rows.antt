@@ -7,7 +7,8 @@ use native.Mathlib.Omega.{arith}
 use native.Mathlib.Decide.{dec_lt, ℕ_discrete}
 use lib.ListN.{length, get_or, take, set, length-append, get_or-append, get_or-eq_default}
 use lib.Seq.{ext_get_or, get_or_at}
-use Rattle.definition.specs.Types.{Struct, if◌then◌else◌}
+use Rattle.std.specs.Prelude.{if◌then◌else◌}
+use Rattle.definition.specs.Types.{Struct}
 use Rattle.definition.specs.Store.{with_structs}
 use Rattle.table.specs.Tab.{tab}
 use Rattle.table.specs.Rows.{row, struct_table}

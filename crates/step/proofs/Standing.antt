@@ -12,7 +12,8 @@ use lib.Dec.{leb, ltb}
 use lib.ListN.{length, get_or, set, replicate}
 use lib.Seq.{get_or_at}
 use Rattle.definition.specs.Types.{State, Cell, unbound, Constraint, UnitType, Ref, Param, Apply, Var, Anything, UnresolvedError, TypeValue}
-use Rattle.definition.specs.Types.{TypingError, Refusal, full, answer_too_long, max_nodes, max_args, max_vars, max_constraints, max_structs, Result, ok, err, refused, ◌>>=◌, if◌then◌else◌}
+use Rattle.std.specs.Prelude.{if◌then◌else◌}
+use Rattle.definition.specs.Types.{TypingError, Refusal, full, answer_too_long, max_nodes, max_args, max_vars, max_constraints, max_structs, Result, ok, err, refused, ◌>>=◌}
 use Rattle.definition.specs.Store.{count, taken, args_of, get, with_vars, with_var, with_node, with_constraints, with_structs, sp, next_tvar, add_constraint, type_at, map_types}
 use Rattle.definition.specs.Store as store
 use Rattle.definition.specs.Write.{Bytes, write_error}

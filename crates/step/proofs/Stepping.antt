@@ -7,7 +7,8 @@ use Prim.Native.Nat.{ℕ, ◌-◌, ◌≤◌, ◌<◌}
 use native.Mathlib.Omega.{arith}
 use lib.Dec.{ltb}
 use lib.ListN.{length, drop}
-use Rattle.definition.specs.Types.{State, Struct, Refusal, malformed, unknown_name, doubled_reference, full, Result, ok, refused, ◌>>=◌, if◌then◌else◌}
+use Rattle.std.specs.Prelude.{if◌then◌else◌}
+use Rattle.definition.specs.Types.{State, Struct, Refusal, malformed, unknown_name, doubled_reference, full, Result, ok, refused, ◌>>=◌}
 use Rattle.definition.specs.Write.{Bytes, IsBytes}
 use Rattle.definition.specs.Reader.{Read, got}
 use Rattle.definition.specs.Store.{with_structs}

@@ -12,7 +12,8 @@ use lib.Dec.{ltb}
 use borrow.Author.Tests.{lt-ltb, le-ltb, le-leb, lt-leb}
 use native.Mathlib.Decide.{ℕ_discrete}
 use Rattle.definition.specs.Types as d
-use Rattle.definition.specs.Types.{State, Shape, UnitType, Ref, Param, Apply, Var, Anything, UnresolvedError, Places, TypeValue, Cell, unbound, Constraint, max_nodes, max_args, max_vars, max_constraints, max_structs, full, ok, refused, Refusal, ◌>>=◌, if◌then◌else◌}
+use Rattle.std.specs.Prelude.{if◌then◌else◌}
+use Rattle.definition.specs.Types.{State, Shape, UnitType, Ref, Param, Apply, Var, Anything, UnresolvedError, Places, TypeValue, Cell, unbound, Constraint, max_nodes, max_args, max_vars, max_constraints, max_structs, full, ok, refused, Refusal, ◌>>=◌}
 use Rattle.definition.specs.Store.{count, taken, nowhere, node, get, with_vars, with_var, with_constraints, with_structs, with_node, args_of, stored, sp, next_tvar, add_constraint, declare}
 use Rattle.table.specs.State.{Below, Inside, Grown, with_cell, pushed_constraint}
 use Rattle.table.proofs.Steps.{front_refl, NoError}

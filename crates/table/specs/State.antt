@@ -1,9 +1,9 @@
 -- The state that the words hold, with so many rows of each table in use, and what holds of a function that reads or changes them.
 -- Assumes nothing: these are definitions.
-use Rattle.std.specs.Prelude.{◌≡◌, List, [], ◌∷◌, ◌++◌, ℕ, ◌+◌, ◌*◌, ◌≤◌, ◌<◌, ltb, length, get_or, set, take}
+use Rattle.std.specs.Prelude.{◌≡◌, List, [], ◌∷◌, ◌++◌, ℕ, ◌+◌, ◌*◌, ◌≤◌, ◌<◌, ltb, length, get_or, set, take, if◌then◌else◌}
 use Rattle.std.proofs.Math.Option.{Option, none, some}
 use Rattle.definition.specs.Types as d
-use Rattle.definition.specs.Types.{State, Struct, Places, Cell, Result, ok, err, refused, ◌>>=◌, if◌then◌else◌}
+use Rattle.definition.specs.Types.{State, Struct, Places, Cell, Result, ok, err, refused, ◌>>=◌}
 use Rattle.definition.specs.Types.{full, too_deep, runs_into_itself, abilities_disagree, open_variable, no_argument, parameter_twice}
 use Rattle.definition.specs.Store.{count, taken, node, args_at, with_vars, with_structs, get, add_constraint, declare}
 use Rattle.names.specs.Names.{mark_of, name_of}

@@ -11,7 +11,8 @@ use native.Mathlib.Omega.{arith}
 use lib.ListN.{length, get_or}
 use lib.Dec.{ltb, eqb}
 use borrow.Author.Tests.{eqb-true, eqb-false, ne_eqb, ltb-true, ltb-false}
-use Rattle.definition.specs.Types.{TypeName, Multiple, Builtin, ModuleType, UnitType, Ref, Param, Apply, Var, Anything, UnresolvedError, TypeValue, State, if◌then◌else◌}
+use Rattle.std.specs.Prelude.{if◌then◌else◌}
+use Rattle.definition.specs.Types.{TypeName, Multiple, Builtin, ModuleType, UnitType, Ref, Param, Apply, Var, Anything, UnresolvedError, TypeValue, State}
 use Rattle.definition.specs.Store.{count, type_at, loc_of, spanned, get, all_of}
 use Rattle.definition.specs.Subst.{as_var, parts, forward_tvar, next_in, next_of, unfold_var, unfold_type, goes_on_to, ends_in, reaches_itself}
 use Rattle.definition.specs.Instantiate.{struct_tparams}

@@ -10,7 +10,8 @@ use lib.ListN.{length, get_or-eq_default}
 use lib.Dec.{eqb}
 use borrow.Author.Tests.{eqb-false, not-true, not-false, eq-eqb}
 use Rattle.definition.specs.Types.{TypeName, Multiple, Builtin, ModuleType, AbilityMark, TypeValue, Ref, Apply, UnresolvedError, Node, State}
-use Rattle.definition.specs.Types.{Incompatible, Result, err, ◌>>=◌, if◌then◌else◌}
+use Rattle.std.specs.Prelude.{if◌then◌else◌}
+use Rattle.definition.specs.Types.{Incompatible, Result, err, ◌>>=◌}
 use Rattle.definition.specs.Store.{nowhere, count, node, type_at, with_args, sp}
 use Rattle.definition.specs.Join.{TypingCase, JoinImpl, join_impl_types, join_mut, join_refs, same_name, is_multiple, same_mark, join_applies, arm, join_arm, join_impl}
 use Rattle.definition.specs.Book.{MoveType, unit, reference, parameter, tuple, named, MoveTypes, no_types, ◌and◌, Denotes, is_unit, is_reference, is_parameter, is_tuple, is_named, Denote, are_none, are_each}

@@ -10,7 +10,8 @@ use native.Mathlib.Decide.{ℕ_discrete}
 use native.Mathlib.Omega.{arith}
 use lib.Dec.{eqb}
 use lib.ListN.{length, get_or, get_or-eq_default}
-use Rattle.definition.specs.Types.{TypeName, Multiple, Builtin, ModuleType, AbilityMark, TypeValue, UnitType, Ref, Param, Apply, Var, Anything, UnresolvedError, Cell, unbound, State, max_nodes, max_vars, max_depth, full, Result, ok, err, refused, ◌>>=◌, if◌then◌else◌}
+use Rattle.std.specs.Prelude.{if◌then◌else◌}
+use Rattle.definition.specs.Types.{TypeName, Multiple, Builtin, ModuleType, AbilityMark, TypeValue, UnitType, Ref, Param, Apply, Var, Anything, UnresolvedError, Cell, unbound, State, max_nodes, max_vars, max_depth, full, Result, ok, err, refused, ◌>>=◌}
 use Rattle.definition.specs.Store.{any_of, count, taken, type_at, spanned, get, num_loc, with_constraints, sp}
 use Rattle.definition.specs.Subst.{parts, as_var, forward, forward_tvar, unfold_var, unfold_type}
 use Rattle.definition.specs.Join.{integers, is_numeric, join}

@@ -9,7 +9,8 @@ use native.Mathlib.Omega.{arith}
 use lib.ListN.{length, length-append}
 use lib.Dec.{eqb}
 use borrow.Author.Tests.{lt-ltb, le-leb}
-use Rattle.definition.specs.Types.{TypeName, Multiple, AbilityMark, TypeValue, Ref, Apply, State, max_nodes, max_args, TypingError, Incompatible, Refusal, abilities_disagree, Result, ok, err, refused, ◌>>=◌, if◌then◌else◌}
+use Rattle.std.specs.Prelude.{if◌then◌else◌}
+use Rattle.definition.specs.Types.{TypeName, Multiple, AbilityMark, TypeValue, Ref, Apply, State, max_nodes, max_args, TypingError, Incompatible, Refusal, abilities_disagree, Result, ok, err, refused, ◌>>=◌}
 use Rattle.definition.specs.Store.{count, type_at, loc_of, with_node, args_of, sp}
 use Rattle.definition.specs.Join.{TypingCase, JoinImpl, join_impl_types, join_mut, join_refs, same_name, is_multiple, same_mark, join_applies, arm, join_arm, join_impl}
 use Rattle.definition.specs.Book.{MoveType, unit, reference, parameter, tuple, named, MoveTypes, no_types, ◌and◌, Denotes, is_unit, is_reference, is_parameter, is_tuple, is_named, Denote, are_none, are_each, ComesTo, succeeds, fails, cut_short}

@@ -7,7 +7,8 @@ use Prim.Native.Nat.{ℕ, zero, suc, ◌≤◌, ◌<◌}
 use native.Mathlib.Omega.{arith}
 use lib.ListN.{length, get_or, take}
 use lib.Dec.{leb}
-use Rattle.definition.specs.Types.{TypeName, Var, State, max_depth, answer_too_long, unsound_state, Result, ok, err, refused, if◌then◌else◌}
+use Rattle.std.specs.Prelude.{if◌then◌else◌}
+use Rattle.definition.specs.Types.{TypeName, Var, State, max_depth, answer_too_long, unsound_state, Result, ok, err, refused}
 use Rattle.definition.specs.Store.{taken, type_at}
 use Rattle.definition.specs.Write.{Bytes}
 use Rattle.definition.specs.Reader.{Read, got, not_read}

@@ -12,7 +12,8 @@ use native.Mathlib.Decide.{dec_lt}
 use native.Mathlib.Omega.{arith}
 use lib.ListN.{length, get_or-eq_default}
 use lib.Dec.{leb}
-use Rattle.definition.specs.Types.{TypeName, Shape, UnitType, Ref, Param, Apply, Var, Anything, UnresolvedError, TypeValue, Places, Node, State, fresh, max_depth, if◌then◌else◌}
+use Rattle.std.specs.Prelude.{if◌then◌else◌}
+use Rattle.definition.specs.Types.{TypeName, Shape, UnitType, Ref, Param, Apply, Var, Anything, UnresolvedError, TypeValue, Places, Node, State, fresh, max_depth}
 use Rattle.definition.specs.Types.{Constraint, answer_too_long, unsound_state, Result, ok, err, refused, ◌>>=◌}
 use Rattle.definition.specs.Store.{nowhere, count, node, type_at, loc_of, with_args, with_constraints, add_constraint, with_structs, declare, map_types}
 use Rattle.definition.specs.Subst.{parts, set_num_var}

@@ -9,7 +9,8 @@ use lib.ListN.{length, get_or, set, length-map, get_or-map}
 use lib.Dec.{leb, ltb}
 use Rattle.definition.specs.Types.{Shape, UnitType, Ref, Param, Apply, Var, Anything, UnresolvedError, TypeValue, Spanned, Places, Node, Cell, unbound, State}
 use Rattle.definition.specs.Types.{Constraint, AbilityConstraint, NumericConstraint, BitsConstraint, OrderedConstraint, BaseTypeConstraint, SingleTypeConstraint}
-use Rattle.definition.specs.Types.{max_nodes, max_args, max_vars, max_constraints, max_structs, TypingError, SubtypeError, Incompatible, ArityMismatch, RecursiveType, Refusal, Result, ok, err, refused, ◌>>=◌, if◌then◌else◌}
+use Rattle.std.specs.Prelude.{if◌then◌else◌}
+use Rattle.definition.specs.Types.{max_nodes, max_args, max_vars, max_constraints, max_structs, TypingError, SubtypeError, Incompatible, ArityMismatch, RecursiveType, Refusal, Result, ok, err, refused, ◌>>=◌}
 use Rattle.definition.specs.Store.{count, taken, nowhere, args_at, with_args, node, type_at, loc_of, spanned, get, num_loc, with_vars, with_constraints, with_structs, insert, args_of, with_node, sp, with_var, next_tvar, add_constraint, declare, map_types, any_of, all_of}
 
 -- ---- locations set to 0

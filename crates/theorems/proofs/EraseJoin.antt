@@ -7,7 +7,8 @@ use mathlib.Core.Option.{Option, none, some}
 use Prim.Native.Nat.{ℕ, zero, suc, ◌*◌}
 use lib.Dec.{eqb}
 use Rattle.definition.specs.Types.{TypeName, Multiple, Builtin, ModuleType, AbilityMark, UnitType, Ref, Param, Apply, Var, Anything, UnresolvedError, TypeValue, Spanned, State}
-use Rattle.definition.specs.Types.{AbilityConstraint, BaseTypeConstraint, RecursiveType, Result, if◌then◌else◌}
+use Rattle.std.specs.Prelude.{if◌then◌else◌}
+use Rattle.definition.specs.Types.{AbilityConstraint, BaseTypeConstraint, RecursiveType, Result}
 use Rattle.definition.specs.Store.{count, taken, type_at, loc_of, spanned, get, num_loc, insert, sp}
 use Rattle.definition.specs.Subst.{as_var, is_anything, parts, next_in, next_of, forward, forward_tvar, or_insert, mark_one, mark_chain, set_num_var, unfold_var, unfold_type, goes_on_to, ends_in, reaches_itself, ready_value, ready, ready_tvars}
 use Rattle.definition.specs.Join.{TypingCase, Join, Subtype, is_num_var, num_shape, check_num_tvar', check_num_tvar, is_var, used, join_bind_tvar, JoinImpl, type_of, merge_num, shown, join_tvar, join_impl_types}

@@ -8,7 +8,8 @@ use Prim.Native.Nat.{ℕ, zero, suc, ◌-◌, ◌≤◌, ◌<◌}
 use native.Mathlib.Omega.{arith}
 use lib.ListN.{length, replicate, get_or-eq_default}
 use lib.Dec.{leb, ltb, ltb→lt, nltb→le}
-use Rattle.definition.specs.Types.{TypeName, Multiple, Builtin, ModuleType, UnitType, Ref, Param, Apply, Var, Anything, UnresolvedError, TypeValue, Spanned, Node, Cell, unbound, State, max_structs, if◌then◌else◌}
+use Rattle.std.specs.Prelude.{if◌then◌else◌}
+use Rattle.definition.specs.Types.{TypeName, Multiple, Builtin, ModuleType, UnitType, Ref, Param, Apply, Var, Anything, UnresolvedError, TypeValue, Spanned, Node, Cell, unbound, State, max_structs}
 use Rattle.definition.specs.Types.{Constraint, TypingError, SubtypeError, Incompatible, ArityMismatch, RecursiveType, Refusal, answer_too_long, Result, ok, refused, ◌>>=◌}
 use Rattle.definition.specs.Store.{nowhere, count, taken, node, type_at, with_args, spanned, with_constraints}
 use Rattle.definition.specs.Subst.{parts, unfold_type}

@@ -5,7 +5,8 @@ use native.Mathlib.Omega.{arith}
 use mathlib.Core.Bool.{Bool, true, false}
 use mathlib.Core.Option.{Option, none, some}
 use Rattle.theorems.proofs.DemandOrder.{Nodes}
-use Rattle.definition.specs.Types.{TypeName, State, TypingError, Refusal, Result, ok, err, refused, ◌>>=◌, if◌then◌else◌}
+use Rattle.std.specs.Prelude.{if◌then◌else◌}
+use Rattle.definition.specs.Types.{TypeName, State, TypingError, Refusal, Result, ok, err, refused, ◌>>=◌}
 use Rattle.definition.specs.Store.{count, taken, type_at}
 
 -- nodes and variables are only added, and the declarations stay

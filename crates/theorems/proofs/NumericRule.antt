@@ -5,7 +5,8 @@ use mathlib.Core.Bool.{Bool, true, false, not, ◌&&◌, ◌||◌}
 use mathlib.Core.List.{List, [], ◌∷◌, Memᴰ}
 use mathlib.Core.Option.{none, some}
 use Prim.Native.Nat.{ℕ, suc, ◌<◌}
-use Rattle.definition.specs.Types.{Builtin, AbilityMark, Apply, Var, Places, State, TypeValue, if◌then◌else◌, Constraint, NumericConstraint, BitsConstraint, OrderedConstraint, Incompatible, malformed, Result, ok, err, ◌>>=◌}
+use Rattle.std.specs.Prelude.{if◌then◌else◌}
+use Rattle.definition.specs.Types.{Builtin, AbilityMark, Apply, Var, Places, State, TypeValue, Constraint, NumericConstraint, BitsConstraint, OrderedConstraint, Incompatible, malformed, Result, ok, err, ◌>>=◌}
 use Rattle.definition.specs.Store.{count, type_at, loc_of, spanned, get, num_loc, insert, any_of}
 use Rattle.definition.specs.Subst.{as_var, is_anything, parts, unfold_type}
 use Rattle.definition.specs.Join.{TypingCase, integers, is_numeric, is_num_var, num_shape, check_num_tvar', check_num_tvar, is_var, used, join_bind_tvar, arm, join_unbound, join_arm, join_impl}

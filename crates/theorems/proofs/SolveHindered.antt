@@ -3,7 +3,8 @@ use mathlib.Core.Bool.{Bool, true, false}
 use mathlib.Core.List.{List, [], ◌∷◌}
 use mathlib.Core.Option.{Option, none, some}
 use Prim.Native.Nat.{ℕ}
-use Rattle.definition.specs.Types.{Constraint, AbilityConstraint, NumericConstraint, BitsConstraint, OrderedConstraint, BaseTypeConstraint, SingleTypeConstraint, State, Refusal, runs_into_itself, mark_contradicted, Result, ok, refused, if◌then◌else◌}
+use Rattle.std.specs.Prelude.{if◌then◌else◌}
+use Rattle.definition.specs.Types.{Constraint, AbilityConstraint, NumericConstraint, BitsConstraint, OrderedConstraint, BaseTypeConstraint, SingleTypeConstraint, State, Refusal, runs_into_itself, mark_contradicted, Result, ok, refused}
 use Rattle.definition.specs.Store.{spanned, with_constraints, any_of}
 use Rattle.definition.specs.Subst.{unfold_type, reaches_itself}
 use Rattle.definition.specs.Abilities.{rule}

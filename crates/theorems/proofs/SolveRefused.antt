@@ -7,7 +7,8 @@ use mathlib.Core.List.{List, [], ◌∷◌, Memᴰ}
 use mathlib.Core.Option.{Option, none, some}
 use Prim.Native.Nat.{ℕ, ◌<◌}
 use native.Mathlib.Omega.{arith}
-use Rattle.definition.specs.Types.{TypeName, Constraint, AbilityConstraint, NumericConstraint, BitsConstraint, OrderedConstraint, BaseTypeConstraint, SingleTypeConstraint, State, Refusal, full, runs_into_itself, mark_contradicted, Result, ok, err, refused, ◌>>=◌, if◌then◌else◌}
+use Rattle.std.specs.Prelude.{if◌then◌else◌}
+use Rattle.definition.specs.Types.{TypeName, Constraint, AbilityConstraint, NumericConstraint, BitsConstraint, OrderedConstraint, BaseTypeConstraint, SingleTypeConstraint, State, Refusal, full, runs_into_itself, mark_contradicted, Result, ok, err, refused, ◌>>=◌}
 use Rattle.definition.specs.Store.{count, taken, type_at, spanned, with_constraints, any_of}
 use Rattle.definition.specs.Subst.{unfold_type, reaches_itself}
 use Rattle.definition.specs.Abilities.{has, infer_abilities, contradicted, rule}

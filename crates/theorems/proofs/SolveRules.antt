@@ -11,7 +11,8 @@ use native.Mathlib.Decide.{dec_lt}
 use native.Mathlib.Omega.{arith}
 use lib.ListN.{length, get_or}
 use borrow.Author.Tests.{leb-true}
-use Rattle.definition.specs.Types.{TypeName, AbilityMark, UnitType, Ref, Param, Apply, Var, Anything, UnresolvedError, TypeValue, Refusal, runs_into_itself, mark_contradicted, State, if◌then◌else◌}
+use Rattle.std.specs.Prelude.{if◌then◌else◌}
+use Rattle.definition.specs.Types.{TypeName, AbilityMark, UnitType, Ref, Param, Apply, Var, Anything, UnresolvedError, TypeValue, Refusal, runs_into_itself, mark_contradicted, State}
 use Rattle.definition.specs.Store.{count, type_at, spanned, any_of}
 use Rattle.definition.specs.Subst.{parts, unfold_type, reaches_itself}
 use Rattle.definition.specs.Trees.{is_set, is_mark, is_name, mark_fits}

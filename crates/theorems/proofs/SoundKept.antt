@@ -8,7 +8,8 @@ use Prim.Native.Nat.{ℕ, zero, suc, ◌+◌, ◌-◌, ◌≤◌, ◌<◌}
 use native.Mathlib.Omega.{arith}
 use lib.ListN.{length, get_or, replicate, length-append, length-replicate, get_or-append}
 use lib.Dec.{leb, eqb, eqb_refl, ltb→lt}
-use Rattle.definition.specs.Types.{TypeName, Multiple, Builtin, ModuleType, Shape, UnitType, Ref, Param, Apply, Var, Anything, UnresolvedError, Places, Node, unbound, State, fresh, if◌then◌else◌, max_nodes, max_args, max_vars, max_constraints, max_structs}
+use Rattle.std.specs.Prelude.{if◌then◌else◌}
+use Rattle.definition.specs.Types.{TypeName, Multiple, Builtin, ModuleType, Shape, UnitType, Ref, Param, Apply, Var, Anything, UnresolvedError, Places, Node, unbound, State, fresh, max_nodes, max_args, max_vars, max_constraints, max_structs}
 use Rattle.definition.specs.Types.{Constraint, AbilityConstraint, NumericConstraint, BitsConstraint, OrderedConstraint, BaseTypeConstraint, SingleTypeConstraint, Struct}
 use Rattle.definition.specs.Types.{Refusal, answer_too_long, Result, ok, err, refused}
 use Rattle.definition.specs.Store.{nowhere, count, taken, node, type_at, with_args, args_at, num_loc, all_of}

@@ -6,7 +6,8 @@ use mathlib.Core.Option.{Option, none, some}
 use Prim.Native.Nat.{ℕ}
 use lib.ListN.{length}
 use lib.Dec.{leb}
-use Rattle.definition.specs.Types.{State, malformed, answer_too_long, Result, ok, err, refused, if◌then◌else◌}
+use Rattle.std.specs.Prelude.{if◌then◌else◌}
+use Rattle.definition.specs.Types.{State, malformed, answer_too_long, Result, ok, err, refused}
 use Rattle.definition.specs.TParams.{subst_tparams}
 use Rattle.definition.specs.Write.{Bytes}
 use Rattle.definition.specs.Reader.{got}

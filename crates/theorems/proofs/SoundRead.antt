@@ -8,7 +8,8 @@ use Prim.Native.Nat.{ℕ, zero, suc, ◌+◌, ◌*◌, ◌-◌, ◌≤◌, ◌<�
 use native.Mathlib.Omega.{arith}
 use lib.ListN.{length, get_or, take, drop, length-append, length-take, length-drop}
 use lib.Dec.{ltb, leb, eqb, ltb→lt}
-use Rattle.definition.specs.Types.{TypeName, AbilityMark, State, Refusal, malformed, unknown_name, doubled_reference, if◌then◌else◌}
+use Rattle.std.specs.Prelude.{if◌then◌else◌}
+use Rattle.definition.specs.Types.{TypeName, AbilityMark, State, Refusal, malformed, unknown_name, doubled_reference}
 use Rattle.definition.specs.Store.{taken}
 use Rattle.definition.specs.Write.{Bytes, IsBytes}
 use Rattle.definition.specs.Reader.{Read, got, not_read, Reader, give, refuse, go_on, ◌>>=◌, byte, read_u16, read_u32, byte_if, byte_to, read_bool, name_below, times, read_one, read_two, read_three}

@@ -8,7 +8,8 @@ use native.Mathlib.Omega.{arith}
 use lib.ListN.{length}
 use lib.Dec.{leb}
 use Rattle.definition.specs.Types.{State, TypingError, SubtypeError, Incompatible, ArityMismatch, RecursiveType, Refusal, malformed, unknown_name, full, too_deep, runs_into_itself, abilities_disagree}
-use Rattle.definition.specs.Types.{open_variable, no_argument, parameter_twice, answer_too_long, unsound_state, mark_contradicted, doubled_reference, Result, ok, err, refused, if◌then◌else◌}
+use Rattle.std.specs.Prelude.{if◌then◌else◌}
+use Rattle.definition.specs.Types.{open_variable, no_argument, parameter_twice, answer_too_long, unsound_state, mark_contradicted, doubled_reference, Result, ok, err, refused}
 use Rattle.definition.specs.Write.{Bytes}
 use Rattle.definition.specs.Reader.{Read, got, not_read}
 use Rattle.definition.specs.Record.{Record, read_record}

@@ -6,7 +6,8 @@ use Prim.Native.Nat.{ℕ, ◌+◌, ◌≤◌, ◌<◌}
 use lib.ListN.{length}
 use lib.Dec.{ltb, leb, ltb→lt, leb→le}
 use borrow.Author.Tests.{lt-ltb, le-leb}
-use Rattle.definition.specs.Types.{TypeValue, Constraint, State, max_nodes, max_args, max_vars, max_constraints, max_structs, full, Result, ok, refused, if◌then◌else◌}
+use Rattle.std.specs.Prelude.{if◌then◌else◌}
+use Rattle.definition.specs.Types.{TypeValue, Constraint, State, max_nodes, max_args, max_vars, max_constraints, max_structs, full, Result, ok, refused}
 use Rattle.definition.specs.Store.{count, taken, with_constraints, with_structs, args_of, with_node, sp, with_var, next_tvar, add_constraint, declare}
 use Rattle.theorems.proofs.DemandTracks.{never}
 use Rattle.theorems.proofs.SoundFacts.{test}

@@ -9,7 +9,8 @@ use native.Mathlib.Omega.{arith}
 use lib.ListN.{length, get_or, take, drop, length-append, length-take, take-append-drop, drop_of_length-le}
 use lib.Seq.{take_all, take_at}
 use lib.Dec.{eqb, ltb}
-use Rattle.definition.specs.Types.{TypeName, AbilityMark, State, Refusal, malformed, doubled_reference, if◌then◌else◌}
+use Rattle.std.specs.Prelude.{if◌then◌else◌}
+use Rattle.definition.specs.Types.{TypeName, AbilityMark, State, Refusal, malformed, doubled_reference}
 use Rattle.definition.specs.Store.{taken}
 use Rattle.definition.specs.Write.{Bytes}
 use Rattle.definition.specs.Reader.{Read, got, not_read, Reader, give, refuse, go_on, ◌>>=◌, byte, read_u16, read_u32, byte_if, read_bool, name_below, times, read_one, read_two, read_three}

@@ -6,7 +6,8 @@ use mathlib.Core.List.{List, [], ◌∷◌, map}
 use Prim.Native.Nat.{ℕ, zero, suc, ◌-◌}
 use lib.ListN.{length}
 use lib.Dec.{leb}
-use Rattle.definition.specs.Types.{State, fresh, TypingError, SubtypeError, Incompatible, ArityMismatch, RecursiveType, Refusal, answer_too_long, Result, ok, err, refused, if◌then◌else◌}
+use Rattle.std.specs.Prelude.{if◌then◌else◌}
+use Rattle.definition.specs.Types.{State, fresh, TypingError, SubtypeError, Incompatible, ArityMismatch, RecursiveType, Refusal, answer_too_long, Result, ok, err, refused}
 use Rattle.definition.specs.Write.{Bytes, IsBytes}
 use Rattle.definition.specs.Reader.{Read, got, not_read}
 use Rattle.definition.specs.Record.{Record, read_record}

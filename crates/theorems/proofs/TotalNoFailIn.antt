@@ -10,7 +10,8 @@ use native.Mathlib.Omega.{arith}
 use lib.ListN.{length, get_or, set, get_or-eq_default}
 use lib.Dec.{eqb}
 use borrow.Author.Tests.{eq-eqb, ne_eqb}
-use Rattle.definition.specs.Types.{TypeName, TypeValue, UnitType, Ref, Param, Apply, Var, Anything, UnresolvedError, Cell, unbound, Constraint, AbilityConstraint, State, max_depth, Incompatible, Result, ok, err, ◌>>=◌, if◌then◌else◌}
+use Rattle.std.specs.Prelude.{if◌then◌else◌}
+use Rattle.definition.specs.Types.{TypeName, TypeValue, UnitType, Ref, Param, Apply, Var, Anything, UnresolvedError, Cell, unbound, Constraint, AbilityConstraint, State, max_depth, Incompatible, Result, ok, err, ◌>>=◌}
 use Rattle.definition.specs.Store.{count, taken, type_at, loc_of, get, num_loc, insert, args_of, with_vars, with_node, with_var, with_constraints, sp, next_tvar, add_constraint, map_types, any_of}
 use Rattle.definition.specs.Subst.{as_var, is_anything, parts, forward_tvar}
 use Rattle.definition.specs.Join.{Join, is_num_var, check_num_tvar, is_var, used, join_bind_tvar, type_of, merge_num, join_tvar, arm, VarL, join_unbound, join_arm, join_impl, join}

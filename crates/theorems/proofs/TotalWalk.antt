@@ -9,7 +9,8 @@ use Prim.Native.Nat.{ℕ, zero, suc, ◌*◌, ◌%◌}
 use native.Mathlib.Omega.{arith}
 use lib.ListN.{replicate}
 use lib.Dec.{eqb}
-use Rattle.definition.specs.Types.{max_builtin, TypeName, Multiple, Builtin, ModuleType, TypeValue, UnitType, Ref, Param, Apply, Var, Anything, UnresolvedError, State, Cell, TypingError, max_depth, if◌then◌else◌}
+use Rattle.std.specs.Prelude.{if◌then◌else◌}
+use Rattle.definition.specs.Types.{max_builtin, TypeName, Multiple, Builtin, ModuleType, TypeValue, UnitType, Ref, Param, Apply, Var, Anything, UnresolvedError, State, Cell, TypingError, max_depth}
 use Rattle.definition.specs.Types.{Constraint, AbilityConstraint}
 use Rattle.definition.specs.Types.{Refusal, full, too_deep, runs_into_itself, abilities_disagree, open_variable, no_argument, parameter_twice, mark_contradicted, Result, ok, err, refused, ◌>>=◌}
 use Rattle.definition.specs.Store.{any_of, count, type_at, loc_of, get, num_loc, sp, next_tvar, add_constraint, declare, map_types}

@@ -10,7 +10,8 @@ use native.Mathlib.Omega.{arith}
 use lib.ListN.{get_or}
 use lib.Dec.{eqb}
 use borrow.Author.Tests.{eq-eqb, ne_eqb}
-use Rattle.definition.specs.Types.{Result, ok, refused, parameter_twice, ◌>>=◌, if◌then◌else◌}
+use Rattle.std.specs.Prelude.{if◌then◌else◌}
+use Rattle.definition.specs.Types.{Result, ok, refused, parameter_twice, ◌>>=◌}
 use Rattle.definition.specs.TParams.{TParamSubst, arg_of, make_tparam_subst}
 use Rattle.table.specs.State.{NodesIn, Parts}
 use Rattle.names.specs.declared.TParamID.{TParamID}

@@ -1,6 +1,5 @@
 -- What follows from what a record was read into. Assumes nothing: these are definitions.
-use Rattle.std.specs.Prelude.{Bool, true, false, List, ℕ, get_or, take}
-use Rattle.definition.specs.Types.{if◌then◌else◌}
+use Rattle.std.specs.Prelude.{Bool, true, false, List, ℕ, get_or, take, if◌then◌else◌}
 use Rattle.table.specs.Tab.{tab}
 use Rattle.table.specs.declared.Found.{Found}
 use Rattle.table.specs.declared.Found.TheVariants.{Nothing, Just}

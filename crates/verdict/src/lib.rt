@@ -1,8 +1,7 @@
 // What follows from what a record was read into: its number where it is refused, where the stream goes on, which saved rows stand, and a new struct's row.
 #![tactic(auto)]
 
-ghost use Rattle.std.specs.Prelude.{◌≡◌, ◌&&◌, ◌≤◌, ltb, length};
-ghost use Rattle.definition.specs.Types.{if◌then◌else◌};
+ghost use Rattle.std.specs.Prelude.{◌≡◌, ◌&&◌, ◌≤◌, ltb, length, if◌then◌else◌};
 ghost use Rattle.verdict.specs.Verdict.{row_for, padded, rows_after, verdict_of, place_after};
 
 use fields::{What, Whole};
