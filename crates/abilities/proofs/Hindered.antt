@@ -11,7 +11,7 @@ use native.Mathlib.Numerals.{add-one}
 use native.Mathlib.Omega.{arith}
 use lib.Dec.{eqb}
 use borrow.Author.Tests.{eq-eqb, ne_eqb}
-use lib.ListN.{length, get_or, drop, drop_of_length-le}
+use lib.ListN.{get_or, drop, drop_of_length-le}
 use lib.Seq.{drop-cons}
 use denote.Enum.Declared.{tag_of}
 use types.Run.{OneOf}
@@ -34,7 +34,7 @@ use Rattle.shapes.proofs.Tags.{plain_tags, other_constraints}
 use Rattle.ends.specs.Itself.{Measured, Levels}
 use Rattle.ends.proofs.Itself.{reaches_is}
 use Rattle.abilities.specs.Kept.{Ends, HasSet, Kept, Inferred}
-use Rattle.abilities.specs.Rules.{misses, any_misses, clashes, AskedIn, AskedKept, AllAsked, AllKept, refusal_of, Number, clear, nine, sixteen, Hindered}
+use Rattle.abilities.specs.Rules.{misses, any_misses, clashes, AskedIn, AskedKept, AllAsked, AllKept, refusal_of, clear, nine, sixteen, Hindered}
 use Rattle.abilities.proofs.Laws.{none_of, is_false}
 
 abbrev blank : Constraint

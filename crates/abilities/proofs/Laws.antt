@@ -4,7 +4,7 @@ use mathlib.Core.Path.{◌≡◌, refl, sym, ap, ◌∙◌}
 use mathlib.Core.Bool.{Bool, true, false, not, ◌&&◌, ◌||◌}
 use mathlib.Core.List.{List, [], ◌∷◌}
 use mathlib.Core.Option.{Option, none, some}
-use Prim.Native.Nat.{ℕ, zero, suc, ◌+◌, ◌≤◌, ◌<◌, ◌%◌}
+use Prim.Native.Nat.{ℕ, suc, ◌+◌, ◌≤◌, ◌<◌, ◌%◌}
 use native.Mathlib.Omega.{arith}
 use native.Mathlib.Numerals.{add-one}
 use lib.Dec.{eqb, ltb}
@@ -19,7 +19,7 @@ use Rattle.definition.specs.Abilities.{has, select, those, from_abilities, requi
 use Rattle.definition.specs.Constraints.{is_contradicted}
 use Rattle.names.specs.Names.{name_of}
 use Rattle.table.specs.Rows.{struct_table, places}
-use Rattle.table.specs.State.{seen, Declares}
+use Rattle.table.specs.State.{seen}
 use Rattle.table.specs.Known.{Known}
 use Rattle.table.specs.declared.Used.{Used}
 use Rattle.shapes.specs.Applied.{args_of}

@@ -1,7 +1,7 @@
 -- The walk that keeps a set for each node: the parts first, then the node's own. Assumes nothing.
 -- First that the parts of a type whose reading ends have readings that end; then the table of sets (`Kept`); then the loop's invariant `Walked`: the sets of the parts before i are known.
 use mathlib.Core.Path.{◌≡◌, refl, sym, ap, ◌∙◌, subst}
-use mathlib.Core.Bool.{Bool, true, false, not}
+use mathlib.Core.Bool.{Bool, true, false}
 use mathlib.Core.List.{List, [], ◌∷◌}
 use Prim.Native.Nat.{ℕ, zero, suc, ◌+◌, ◌-◌, ◌≤◌, ◌<◌, ◌%◌}
 use native.Mathlib.Nat.{not-suc-le-zero}
@@ -12,8 +12,8 @@ use lib.Seq.{get_or-set_same, get_or-set_other}
 use denote.Enum.Declared.{tag_of}
 use types.Run.{OneOf}
 use Rattle.definition.specs.Types.{State, Struct}
-use Rattle.definition.specs.Store.{count, with_args, spanned, all_of}
-use Rattle.definition.specs.Subst.{parts, unfold_type, goes_on_to, ends_in, reaches_itself}
+use Rattle.definition.specs.Store.{count, with_args, all_of}
+use Rattle.definition.specs.Subst.{parts, goes_on_to, ends_in, reaches_itself}
 use Rattle.definition.specs.Abilities.{infer_value, infer_abilities, declaration, rule}
 use Rattle.theorems.proofs.SolveInferred.{infer_is}
 use Rattle.table.specs.Rows.{places}

@@ -1,9 +1,9 @@
 -- The steps of default_num_vars, as laws that follow the code. Assumes nothing.
-use Rattle.std.proofs.Common.{◌≡◌, ℕ, suc, ◌+◌, ◌*◌, ◌<◌, ◌≤◌, Bool, true, false, List, [], ◌∷◌, length, get_or, drop, sym, refl, ap, ◌∙◌, subst, add-one, arith, drop_of_length-le, drop-cons}
+use Rattle.std.proofs.Common.{◌≡◌, ℕ, suc, ◌+◌, ◌*◌, ◌<◌, ◌≤◌, Bool, true, false, List, [], ◌∷◌, get_or, drop, sym, refl, ap, ◌∙◌, add-one, arith, drop_of_length-le, drop-cons}
 use mathlib.Core.Option.{Option, none, some}
 use Rattle.definition.specs.Types as d
 use Rattle.definition.specs.Types.{State, Struct, Cell, unbound, Spanned, TypeValue, Result, ok, err, refused, ◌>>=◌}
-use Rattle.definition.specs.Store.{node, with_args, type_at, spanned, num_loc, sp, with_structs}
+use Rattle.definition.specs.Store.{node, with_args, spanned, num_loc, sp, with_structs}
 use Rattle.definition.specs.Subst.{unfold_type}
 use Rattle.definition.specs.Join.{join}
 use Rattle.definition.specs.Constraints.{undecided, u64, num_vars, default_num_var, default_num_vars}
@@ -19,7 +19,7 @@ use Rattle.table.proofs.Steps.{bind_assoc, refines_now, refines_is, refines_on, 
 use Rattle.table.proofs.Grown.{value_is}
 use Rattle.table.proofs.Fields.{num_read}
 use Rattle.table.proofs.Pushed.{taken_view}
-use Rattle.subst.specs.Answers.{unfolded, var_at, Unfolds}
+use Rattle.subst.specs.Answers.{unfolded, var_at}
 use Rattle.subst.specs.declared.Unfolded.{Unfolded}
 use Rattle.subst.specs.declared.Unfolded.TheVariants.{Node as NodeU, Anything as AnythingU}
 use Rattle.snapshot.specs.Snap.{Saved}

@@ -1,16 +1,14 @@
 -- The list of constraints, emptied from its end. Assumes nothing.
-use Rattle.std.proofs.Common.{◌≡◌, ℕ, suc, ◌+◌, ◌-◌, ◌*◌, ◌<◌, ◌≤◌, Bool, true, false, List, [], ◌∷◌, ◌++◌, length, get_or, take, set, sym, refl, ap, ◌∙◌, subst, ap₂, append_assoc, append-nil, add-one, arith, take_all, get_or-set_other, take-suc, take-take, take-suc-set}
+use Rattle.std.proofs.Common.{◌≡◌, ℕ, ◌+◌, ◌*◌, ◌<◌, ◌≤◌, List, [], ◌∷◌, get_or, take, sym, refl, ap, ◌∙◌, subst, arith, take_all, take-take}
 use native.Mathlib.Decide.{ℕ_discrete, dec_lt}
 use lib.Seq.{take-append-le}
-use Rattle.std.specs.Prelude.{if◌then◌else◌}
-use Rattle.definition.specs.Types.{State, Struct, Constraint, AbilityConstraint}
+use Rattle.definition.specs.Types.{State, Constraint, AbilityConstraint}
 use Rattle.definition.specs.Store.{with_constraints, with_structs}
-use Rattle.table.specs.Tab.{tab}
-use Rattle.table.specs.Rows.{row, words_at, entries, Clean, Written, read_constraint, constraint_words, node_table, arg_table, var_table, constraint_table, struct_table}
+use Rattle.table.specs.Rows.{row, entries, Clean, Written, read_constraint, constraint_words, node_table, arg_table, var_table, constraint_table, struct_table}
 use Rattle.table.specs.State.{view, seen, Lay, Inside, Wrote}
 use Rattle.table.specs.declared.Used.{Used}
 use Rattle.table.proofs.Tab.{tab_ext, tab_more}
-use Rattle.table.proofs.Rows.{length_entries, entry_at, entry_out, Same, same_entries, same_clean, apart, Put, put_row, put_set, put_set_clean}
+use Rattle.table.proofs.Rows.{length_entries, entry_at, entry_out, Same, same_entries, same_clean, apart, Put, put_row}
 use Rattle.table.proofs.Written.{constraint_long}
 use Rattle.table.proofs.States.{inside_constraints}
 use Rattle.table.proofs.Pushed.{constraints_view}

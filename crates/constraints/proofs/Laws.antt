@@ -1,12 +1,10 @@
 -- A constraint's failure, as laws that follow the code. Assumes nothing.
-use Rattle.std.proofs.Common.{◌≡◌, ℕ, ◌<◌, Bool, true, false, eqb, List, [], sym, refl, ap, ◌∙◌, subst, eq-eqb, ne_eqb}
+use Rattle.std.proofs.Common.{◌≡◌, ℕ, Bool, true, false, List, [], sym, refl, ap, ◌∙◌, eq-eqb, ne_eqb}
 use Rattle.definition.specs.Types as d
-use Rattle.std.specs.Prelude.{if◌then◌else◌}
 use Rattle.definition.specs.Types.{State, Struct, Spanned, TypeValue}
 use Rattle.definition.specs.Store.{node, with_args, spanned}
 use Rattle.definition.specs.Subst.{unfold_type}
 use Rattle.definition.specs.Constraints.{failure, solve}
-use Rattle.definition.specs.Write.{Bytes}
 use Rattle.table.specs.State.{seen, node_of, shape_of}
 use Rattle.table.specs.declared.Used.{Used}
 use Rattle.table.specs.declared.Node.{Node}

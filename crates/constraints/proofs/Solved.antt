@@ -1,13 +1,12 @@
 -- The steps of SV together are the definition's solve_constraints. Assumes nothing.
-use Rattle.std.proofs.Common.{◌≡◌, ℕ, List, [], sym, refl, ap, ◌∙◌, arith}
+use Rattle.std.proofs.Common.{◌≡◌, ℕ, List, [], sym, refl, ap, ◌∙◌}
 use Rattle.definition.specs.Types.{State, Struct, Result, ok, err, refused, ◌>>=◌}
 use Rattle.definition.specs.Constraints.{num_vars, default_num_vars, solve_all, solve_constraints}
 use Rattle.table.specs.State.{outcome, seen, done}
 use Rattle.table.specs.declared.Outcome.{Outcome}
 use Rattle.table.specs.declared.Used.{Used}
-use Rattle.table.specs.declared.Out.{Out}
 use Rattle.table.specs.declared.Found.{Found}
-use Rattle.table.specs.declared.Found.TheVariants.{Nothing, Just}
+use Rattle.table.specs.declared.Found.TheVariants.{Nothing}
 use Rattle.table.proofs.Steps.{stop_same}
 use Rattle.constraints.specs.Solve.{numbered, Answered}
 

@@ -5,7 +5,7 @@ use mathlib.Core.List.{List, [], ◌∷◌}
 use Prim.Native.Nat.{ℕ, zero, suc, ◌+◌, ◌-◌, ◌≤◌, ◌<◌}
 use native.Mathlib.Nat.{zero-add, suc-add}
 use native.Mathlib.Omega.{arith}
-use lib.ListN.{length, take, drop}
+use lib.ListN.{take, drop}
 use lib.Seq.{take-take, drop-drop}
 use Rattle.definition.specs.Types.{State, Struct, malformed, unknown_name, Result, ok, ◌>>=◌}
 use Rattle.definition.specs.Store.{taken}
@@ -18,7 +18,7 @@ use Rattle.definition.specs.Step.{numeric_constraint}
 use Rattle.definition.specs.Record as d
 use Rattle.definition.specs.Record.{Record, read_SD, read_pair, read_TS, read_kind}
 use Rattle.names.specs.declared.TVar.{TVar}
-use Rattle.table.specs.State.{Lay, Grown, Declares, view, seen}
+use Rattle.table.specs.State.{Lay, Declares, view, seen}
 use Rattle.table.specs.declared.Used.{Used}
 use Rattle.table.proofs.Steps.{grown_refl, grown_trans}
 use Rattle.table.proofs.Grown.{nodes_grow}

@@ -1,5 +1,5 @@
 -- The argument walk: both lists gone through together, and where its loop stands. Assumes nothing.
-use mathlib.Core.Path.{◌≡◌, refl, sym, ap, ◌∙◌}
+use mathlib.Core.Path.{◌≡◌, refl, ap, ◌∙◌}
 use mathlib.Core.List.{List, [], ◌∷◌}
 use Prim.Native.Nat.{ℕ, ◌+◌, ◌<◌, ◌≤◌, min}
 use native.Mathlib.Omega.{arith}
@@ -10,7 +10,7 @@ use Rattle.definition.specs.Join as j
 use Rattle.definition.specs.Join.{join_impl, join_impl_types}
 use Rattle.names.specs.Names.{mark_of, name_of}
 use Rattle.table.specs.Rows.{places}
-use Rattle.table.specs.State.{Lay, Grown, Any, After, Named, view, seen, done}
+use Rattle.table.specs.State.{Lay, Any, After, Named, view, seen, done}
 use Rattle.table.specs.declared.Outcome.{Outcome}
 use Rattle.table.specs.declared.Used.{Used}
 use Rattle.table.specs.declared.Out.TheVariants.{Done}

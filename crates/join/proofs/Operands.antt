@@ -3,13 +3,13 @@ use mathlib.Core.Path.{◌≡◌, refl, sym, ap, ◌∙◌, subst}
 use mathlib.Core.Bool.{Bool}
 use mathlib.Core.List.{List, []}
 use mathlib.Core.Option.{Option, none, some}
-use Prim.Native.Nat.{ℕ, zero, suc, ◌+◌, ◌-◌, ◌<◌, ◌≤◌}
+use Prim.Native.Nat.{ℕ, zero, suc, ◌-◌, ◌<◌, ◌≤◌}
 use native.Mathlib.Numerals.{sub-one}
 use native.Mathlib.Omega.{arith}
 use lib.ListN.{take}
 use Rattle.definition.specs.Types as d
 use Rattle.std.specs.Prelude.{if◌then◌else◌}
-use Rattle.definition.specs.Types.{State, Struct, Places, Result, ok, ◌>>=◌}
+use Rattle.definition.specs.Types.{State, Struct, Places, Result, ◌>>=◌}
 use Rattle.definition.specs.Store.{count, sp, node, type_at, loc_of, args_at, with_structs, with_vars, with_var, get}
 use Rattle.definition.specs.Join as j
 use Rattle.definition.specs.Join.{VarL, VarR, arm, join_arm, join_impl, join_impl_types, join_tvar}

@@ -1,7 +1,7 @@
 -- A job piece by piece, computed. Each line is false under an edit of must-fail/, or is the other side of one that is (docs/CLAIMS.md, 'Edits of the definition'). Assumes nothing.
 use mathlib.Core.Path.{◌≡◌, refl}
 use mathlib.Core.Bool.{Bool, true, false}
-use mathlib.Core.List.{List, [], ◌∷◌, ◌++◌}
+use mathlib.Core.List.{[], ◌∷◌, ◌++◌}
 use Prim.Native.Nat.{ℕ}
 use lib.ListN.{replicate}
 use Rattle.definition.specs.Types.{fresh}

@@ -1,6 +1,6 @@
 -- R-6 of a job in pieces: where no reference stands directly over a reference in the state, a piece leaves such a state. Assumes nothing.
 use mathlib.Core.Bool.{Bool, true, false}
-use mathlib.Core.List.{List, [], ◌∷◌}
+use mathlib.Core.List.{[], ◌∷◌}
 use Prim.Native.Nat.{ℕ, zero, suc, ◌-◌}
 use lib.ListN.{length}
 use Rattle.definition.specs.Types.{State}

@@ -1,7 +1,7 @@
 -- A job piece by piece: 4,096 bytes answer as the whole stream would, and the lines of the pieces, one after the other, are the log. Assumes nothing.
 -- First a record needs no more than 4,096 bytes; then one piece, by induction on the records in it (`Follows`: its lines, and then the rest of the log); then pieces one after the other.
 use mathlib.Core.Path.{◌≡◌, refl, sym, ap, ◌∙◌}
-use mathlib.Core.Bool.{Bool, true, false, not, ◌||◌, ◌&&◌}
+use mathlib.Core.Bool.{Bool, true, false, not}
 use mathlib.Core.List.{List, [], ◌∷◌, ◌++◌, append-nil, append_assoc}
 use Prim.Native.Nat.{ℕ, zero, suc, ◌+◌, ◌-◌, ◌/◌, ◌%◌, ◌≤◌, ◌<◌}
 use native.Mathlib.Omega.{arith}

@@ -1,5 +1,5 @@
 -- A job piece by piece: the lines of as many records as the bytes at hand hold whole and the log's room surely takes. Assumes nothing: these are definitions.
-use Rattle.std.specs.Prelude.{Bool, true, false, not, ◌||◌, ◌&&◌, List, [], ◌∷◌, ◌++◌, ℕ, zero, suc, ◌-◌, length, leb, ltb}
+use Rattle.std.specs.Prelude.{Bool, true, false, not, ◌||◌, ◌&&◌, [], ◌∷◌, ◌++◌, ℕ, zero, suc, ◌-◌, length, leb, ltb}
 use Rattle.definition.specs.Types.{State}
 use Rattle.definition.specs.Write.{Bytes}
 use Rattle.definition.specs.Record.{max_record}

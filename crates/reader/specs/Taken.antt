@@ -1,5 +1,5 @@
 -- A type read and placed at once: 5, 6 or 18 wins over 7, so that reading goes on when space has ended. Assumes nothing: these are definitions.
-use Rattle.std.specs.Prelude.{◌≡◌, Bool, true, false, List, [], ℕ, ◌≤◌, ◌<◌, length, get_or, if◌then◌else◌}
+use Rattle.std.specs.Prelude.{◌≡◌, Bool, true, false, List, ℕ, ◌≤◌, ◌<◌, get_or, if◌then◌else◌}
 use Rattle.definition.specs.Types as d
 use Rattle.definition.specs.Types.{State, Struct, Refusal, malformed, unknown_name, doubled_reference, full, Result, ok, refused}
 use Rattle.definition.specs.Store.{sp}

@@ -9,8 +9,8 @@ use lib.Dec.{ltb, ltb→lt}
 use lib.ListN.{length, set, replicate, length-replicate}
 use Rattle.definition.specs.Types as d
 use Rattle.std.specs.Prelude.{if◌then◌else◌}
-use Rattle.definition.specs.Types.{State, Struct, Result, ok, err, refused, ◌>>=◌, max_vars, max_constraints, max_structs, full, parameter_twice, Spanned, TypeValue}
-use Rattle.definition.specs.Store.{taken, spanned, next_tvar, add_constraint, declare}
+use Rattle.definition.specs.Types.{State, Struct, Result, ok, err, refused, ◌>>=◌, max_structs, full, parameter_twice, Spanned, TypeValue}
+use Rattle.definition.specs.Store.{spanned, next_tvar, add_constraint, declare}
 use Rattle.definition.specs.Subst.{set_num_var, ready_tvars}
 use Rattle.definition.specs.Join as j
 use Rattle.definition.specs.Join.{join, subtype}
@@ -18,7 +18,7 @@ use Rattle.definition.specs.TParams.{make_tparam_subst, subst_tparams}
 use Rattle.definition.specs.Instantiate.{instantiate}
 use Rattle.definition.specs.Record.{Numeric}
 use Rattle.definition.specs.Write.{Bytes, head, write, write_spanned}
-use Rattle.table.specs.State.{outcome, done, view, seen, Lay, Any, Refines, Changed, When, After, Stored, VarIn, pushed_constraint, FoundIn, more}
+use Rattle.table.specs.State.{outcome, done, seen, Lay, Any, Refines, Changed, When, After, Stored, VarIn, pushed_constraint, FoundIn, more}
 use Rattle.table.specs.State as table
 use Rattle.theorems.proofs.SoundFacts.{test}
 use Rattle.table.specs.declared.Used.{Used}

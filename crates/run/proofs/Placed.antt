@@ -1,6 +1,5 @@
 -- The definition's run of a record places its types and runs what they are placed as; its trees are those of its shape. Assumes nothing.
 use mathlib.Core.Path.{◌≡◌, refl, ◌∙◌}
-use mathlib.Core.List.{List}
 use Prim.Native.Nat.{ℕ}
 use Rattle.definition.specs.Types.{State, Result, ok, err, refused, ◌>>=◌}
 use Rattle.definition.specs.Write.{Bytes}

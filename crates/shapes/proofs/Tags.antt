@@ -1,6 +1,6 @@
 -- What holds under a `_` arm: P of each shape, name or constraint whose tag is one of those that fall there. A caller gives P's proof for each of these
 -- tags, and `tt` for the others. Assumes nothing.
-use mathlib.Core.Path.{◌≡◌, refl, sym, ap, subst}
+use mathlib.Core.Path.{◌≡◌, refl, sym, subst}
 use mathlib.Core.Bool.{Bool, true, false, not}
 use mathlib.Core.List.{List, [], ◌∷◌}
 use Prim.Native.Nat.{ℕ}

@@ -1,8 +1,8 @@
 -- SV's answer, from what its steps left. Assumes nothing.
 use mathlib.Core.Path.{◌≡◌, refl, sym, ap, ◌∙◌}
-use mathlib.Core.Bool.{Bool, true, false}
+use mathlib.Core.Bool.{true, false}
 use mathlib.Core.List.{List, []}
-use mathlib.Core.Option.{Option, none, some}
+use mathlib.Core.Option.{none, some}
 use Prim.Native.Nat.{ℕ, ◌≤◌, ◌<◌}
 use native.Mathlib.Omega.{arith}
 use borrow.Author.Tests.{le-leb, lt-leb}
@@ -33,7 +33,6 @@ use Rattle.answer.specs.Ran.{ran, answered, refused_by, Answers}
 use Rattle.payload.specs.declared.Answer.{Answer}
 use Rattle.payload.specs.declared.Show.TheVariants as show
 use Rattle.payload.proofs.Payload.{within, beyond, wrote_payload, wrote_rest, wrote_few}
-use Rattle.answer.proofs.Settle.{number_14}
 use Rattle.solve.specs.Solves.{reported, solved, solve_answer, KnownSettled, Reports, Solves}
 
 -- ---- the definition's answers

@@ -4,10 +4,9 @@ use mathlib.Core.Path.{◌≡◌, refl, sym, ap, ap₂, ◌∙◌}
 use mathlib.Core.List.{List, [], ◌++◌, append_assoc, append-nil}
 use Prim.Native.Nat.{ℕ, ◌+◌, ◌*◌, ◌<◌}
 use lib.ListN.{length, get_or, length-append}
-use Rattle.definition.specs.Types.{State, Node, Shape, UnitType, Ref, Param, Apply, Var, Anything, UnresolvedError, Places, Cell, Struct}
-use Rattle.definition.specs.Types.{Constraint, AbilityConstraint, NumericConstraint, BitsConstraint, OrderedConstraint, BaseTypeConstraint, SingleTypeConstraint}
+use Rattle.definition.specs.Types.{State}
 use Rattle.table.specs.Tab.{tab}
-use Rattle.table.specs.Rows.{Table, words_at, row, node_words, shape_words, arg_words, cell_words, constraint_words, struct_words, node_table, arg_table, var_table, constraint_table, struct_table}
+use Rattle.table.specs.Rows.{Table, words_at, row, arg_words, node_table, arg_table, var_table, constraint_table, struct_table}
 use Rattle.table.specs.Encode.{table_words, counts as count_words, encode as encode_words}
 use Rattle.table.proofs.Written.{node_long, cell_long, constraint_long, struct_long}
 use Rattle.table.proofs.Encoded.{encoded_as}

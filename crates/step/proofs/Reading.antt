@@ -12,7 +12,6 @@ use Rattle.definition.specs.Types.{State, Refusal, malformed, Result}
 use Rattle.definition.specs.Write.{Bytes}
 use Rattle.definition.specs.Reader.{Read, got, not_read}
 use Rattle.definition.specs.Record.{Record, read_record}
-use Rattle.definition.specs.Step as step
 use Rattle.definition.specs.Step.{run, answer, refusal, lent, streamed}
 use Rattle.reader.specs.Taken.{stopped, placed, place_read}
 use Rattle.fields.specs.Noded.{Noded, place_record}

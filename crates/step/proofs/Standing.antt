@@ -6,10 +6,10 @@ use mathlib.Core.Bool.{Bool, true, false}
 use mathlib.Core.List.{List, [], ◌∷◌, ◌++◌}
 use mathlib.Core.Option.{Option, some}
 use mathlib.Core.Option as option
-use Prim.Native.Nat.{ℕ, zero, suc, ◌+◌, ◌-◌, ◌≤◌, ◌<◌}
+use Prim.Native.Nat.{ℕ, zero, suc, ◌+◌, ◌-◌, ◌≤◌}
 use native.Mathlib.Omega.{arith}
 use lib.Dec.{leb, ltb}
-use lib.ListN.{length, get_or, set, replicate}
+use lib.ListN.{length, set, replicate}
 use lib.Seq.{get_or_at}
 use Rattle.definition.specs.Types.{State, Cell, unbound, Constraint, UnitType, Ref, Param, Apply, Var, Anything, UnresolvedError, TypeValue}
 use Rattle.std.specs.Prelude.{if◌then◌else◌}

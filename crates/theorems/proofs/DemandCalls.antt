@@ -16,7 +16,6 @@ use Rattle.theorems.proofs.DemandTracks.{Tracks}
 use Rattle.theorems.proofs.DemandTracks.{never, k_any, k_var, k_solid, kind, solid_any, solid_var, solid_nonvar, nonvar_var}
 use Rattle.theorems.proofs.DemandOrder.{Sound, ◌⊑◌, chain, ends_in, bind_solid, ends_keep}
 use mathlib.Core.Bool.{not}
-use Rattle.definition.specs.Types.{◌>>=◌}
 use Rattle.definition.specs.Store.{sp, next_tvar, loc_of, num_loc}
 use Rattle.definition.specs.Join.{TypingCase, JoinImpl, type_of, shown, join_bind_tvar, join_tvar, check_num_tvar, used}
 use Rattle.theorems.proofs.DemandOrder.{nodes_of}

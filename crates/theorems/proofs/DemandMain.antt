@@ -18,7 +18,7 @@ use Rattle.theorems.proofs.DemandTracks.{Tracks, t_any, t_var, t_fit, Fits, f_er
 use Rattle.theorems.proofs.DemandTracks.{never, solid_nonvar, nonvar_var}
 use Rattle.theorems.proofs.DemandOrder.{All, All_map, Sound, ◌⊑◌, chain, fits_refl}
 use mathlib.Core.Bool.{not, ◌&&◌}
-use Rattle.definition.specs.Types.{ok, ◌>>=◌, Multiple, Builtin, ModuleType}
+use Rattle.definition.specs.Types.{ok, Multiple, Builtin, ModuleType}
 use Rattle.definition.specs.Store.{loc_of}
 use Rattle.definition.specs.Join.{TypingCase, Join, Subtype, JoinImpl, join_impl_types, join_mut, join_loc, join_refs, same_name, same_mark, is_multiple, join_applies, join_unbound, join_arm, join_impl}
 use Rattle.definition.specs.Join.{Arm, AnythingL, AnythingR, Units, Refs, Params, Applies, Vars, VarL, VarR, ErrorL, ErrorR, Others, arm}

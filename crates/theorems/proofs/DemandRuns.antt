@@ -9,7 +9,7 @@ use native.Mathlib.Omega.{arith}
 use lib.ListN.{length, length-map, length-replicate}
 use Rattle.definition.specs.Types.{TypeName, Multiple, Builtin, ModuleType, TypeValue, UnitType, Ref, Param, Apply, Var, Anything, UnresolvedError, AbilityConstraint, State, Cell}
 use Rattle.definition.specs.Store.{count, taken, type_at, loc_of, map_types}
-use Rattle.definition.specs.Types.{Result, ◌>>=◌}
+use Rattle.definition.specs.Types.{Result}
 use Rattle.definition.specs.Subst.{parts}
 use Rattle.definition.specs.Trees.{Tree, Trees, arity}
 use Rattle.definition.specs.Build.{build, build_all}

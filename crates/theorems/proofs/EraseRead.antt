@@ -15,7 +15,7 @@ use Rattle.definition.specs.Instantiate.{struct_tparams}
 use Rattle.definition.specs.Reader.{Read, got, not_read, Reader, give, refuse, go_on, ◌>>=◌, byte, read_u16, read_u32, byte_if, byte_to, read_bool, name_below, times, read_one, read_two, read_three}
 use Rattle.definition.specs.Trees.{Tree, unit_tree, anything_tree, error_tree, ref_tree, param_tree, apply_tree, var_tree, Trees, no_trees, ◌then◌, read_trees, mark_of, read_mark, mark_fits, arity, under_ref, read_apply, by_tag, is_name, read_nested, read_type, is_set}
 use Rattle.definition.specs.Record.{NumericKind, Record, SD, FV, NV, SN, JN, SU, UF, RD, IN, TS, NC, BC, SC, SV, RM, read_kind, read_SD, read_pair, read_TS, by_mark, fields_of, read_fields, max_record, hand_back, read_record}
-use Rattle.definition.specs.Locations.{Part, plain, location, type, types, builtin, list, struct, struct_high, pairs, loc_field, u32_field, tag_fields, pair_fields, expand, blank, mark_fields, after_mark, told, blank_record}
+use Rattle.definition.specs.Locations.{Part, plain, location, type, builtin, list, struct, struct_high, pairs, loc_field, u32_field, tag_fields, pair_fields, expand, blank, mark_fields, after_mark, told, blank_record}
 use Rattle.theorems.proofs.Erase.{erase, taken_erase, structs_erase}
 
 -- ---- locations set to 0

@@ -17,7 +17,7 @@ use Rattle.definition.specs.Trees.{arity}
 use Rattle.definition.specs.Constraints.{is_integer, is_base, is_single, failure, solve, missing, ability_failure, by_rule, solve_ability_constraint, solve_constraint, failures as all_failures}
 use Rattle.definition.specs.Abilities.{Rule, declaration, argument, contradicted, rule}
 use Rattle.definition.specs.Step.{number_of_error}
-use Rattle.definition.specs.Locations.{Part, location, type, types, failures, rule as rule_part, loc_field, u32_field, tag_fields, tag_widths, expand, blank, shown_fields}
+use Rattle.definition.specs.Locations.{Part, type, types, failures, rule as rule_part, loc_field, u32_field, tag_fields, tag_widths, expand, blank, shown_fields}
 use Rattle.theorems.proofs.DemandOrder.{All, All_map}
 use Rattle.theorems.proofs.Erase.{erase_spanned, erase_constraint, erase_error, erase, count_erase, spanned_erase}
 use Rattle.theorems.proofs.EraseJoin.{unfold_type_erase}

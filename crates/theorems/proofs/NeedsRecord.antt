@@ -11,7 +11,7 @@ use native.Mathlib.Omega.{arith}
 use lib.ListN.{length, get_or, take, drop, length-take}
 use lib.Dec.{eqb, leb→le}
 use Rattle.std.specs.Prelude.{if◌then◌else◌}
-use Rattle.definition.specs.Types.{TypeName, Multiple, Builtin, ModuleType, Struct, State, Refusal, malformed, unknown_name, doubled_reference, full, open_variable, Result, ok, refused}
+use Rattle.definition.specs.Types.{TypeName, Multiple, Builtin, ModuleType, Struct, State, Refusal, malformed, unknown_name, doubled_reference, full, open_variable, Result, refused}
 use Rattle.definition.specs.Store.{taken, all_of}
 use Rattle.definition.specs.Instantiate.{builtin_tparams, struct_tparams}
 use Rattle.definition.specs.Write.{Bytes, u32}

@@ -1,8 +1,8 @@
 -- R-2: the numeric rule, of every builtin number b at once. The rule goes by the list `integers` alone, so a number that joins the list joins the rule. Assumes nothing.
 -- `NumericRule` is the claim in three parts: join and subtype, NC, marks without drop. Each part is computed from a name that is in the list.
-use mathlib.Core.Path.{◌≡◌, refl, sym, ap, ◌∙◌}
+use mathlib.Core.Path.{◌≡◌, refl, ap, ◌∙◌}
 use mathlib.Core.Bool.{Bool, true, false, not, ◌&&◌, ◌||◌}
-use mathlib.Core.List.{List, [], ◌∷◌, Memᴰ}
+use mathlib.Core.List.{List, [], ◌∷◌}
 use mathlib.Core.Option.{none, some}
 use Prim.Native.Nat.{ℕ, suc, ◌<◌}
 use Rattle.std.specs.Prelude.{if◌then◌else◌}
@@ -13,7 +13,7 @@ use Rattle.definition.specs.Join.{TypingCase, integers, is_numeric, is_num_var, 
 use Rattle.definition.specs.Constraints.{is_integer, solve, failure, solve_constraint}
 use Rattle.definition.specs.Write.{Bytes}
 use Rattle.definition.specs.Reader as reader
-use Rattle.definition.specs.Reader.{Read, got, not_read, Reader, give, refuse, go_on, byte}
+use Rattle.definition.specs.Reader.{got, not_read, Reader, give, refuse, go_on, byte}
 use Rattle.definition.specs.Trees.{Tree, apply_tree, is_mark, is_name, has_drop, mark_fits, arity, read_trees, read_mark, read_apply}
 use Rattle.definition.specs.Sound.{sound, places_fit, shape_allowed}
 use Rattle.theorems.proofs.SoundFacts.{facts}

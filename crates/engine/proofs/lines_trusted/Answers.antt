@@ -3,7 +3,6 @@ use Prim.Native.Nat.{ℕ}
 use native.Mathlib.Omega.{arith}
 use lib.ListN.{length-replicate}
 use Rattle.snapshot.proofs.Saving.{partly_none}
-use borrow.Author.Tests.{not-true, not-false}
 use Rattle.engine.proofs.Laws.{bytes_of}
 use Rattle.engine.proofs.Jobs.{going_start, going_spent, going_stops, taken_on, takes_room, line_room, going_less, going_last, going_on}
 use Rattle.engine.proofs.lines_trusted.Goals as goal

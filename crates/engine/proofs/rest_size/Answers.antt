@@ -1,7 +1,6 @@
 -- `engine::rest_size` meets its contract. Assumes nothing.
 use mathlib.Core.Path.{refl, sym, ◌∙◌}
 use native.Mathlib.Omega.{arith}
-use borrow.Author.Tests.{not-true, not-false}
 use Rattle.engine.proofs.Laws.{stands_lent, lent_size, unsound_rest, sound_rest}
 use Rattle.engine.proofs.rest_size.Goals as goal
 

@@ -1,6 +1,5 @@
 -- `engine::usable` meets its contract. Assumes nothing.
 use mathlib.Core.Path.{sym, ◌∙◌}
-use borrow.Author.Tests.{not-true, not-false}
 use Rattle.sound.specs.Lent.{lent_sound}
 use Rattle.limits.proofs.Laws.{fails_r}
 use Rattle.engine.proofs.Laws.{and_true}

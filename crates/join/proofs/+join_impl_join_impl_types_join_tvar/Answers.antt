@@ -4,7 +4,6 @@ use Rattle.join.proofs.Args.{gather_none, gather_in, gather_stop, gather_more, g
 use Rattle.table.proofs.Steps.{after_now}
 use mathlib.Core.Path.{refl}
 use native.Mathlib.Omega.{arith}
-use Prim.Native.Nat.{ℕ}
 use Rattle.join.proofs.+join_impl_join_impl_types_join_tvar.Goals as goal
 
 pub join_impl-settled-requires : goal.join_impl-settled-requires

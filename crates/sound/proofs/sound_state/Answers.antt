@@ -2,7 +2,6 @@
 -- Each early return: one test fails, so no sound state has these words. At the last return all have passed (`last_test`); Tested shows that they are enough.
 use mathlib.Core.Path.{sym, ◌∙◌}
 use native.Mathlib.Omega.{arith}
-use borrow.Author.Tests.{not-true, not-false}
 use Rattle.sound.proofs.Owned.{table_of}
 use Rattle.sound.proofs.Tested.{sized, no_size, no_counts, no_tables, last_test}
 use Rattle.sound.proofs.sound_state.Goals as goal

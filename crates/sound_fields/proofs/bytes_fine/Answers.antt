@@ -1,6 +1,5 @@
 use mathlib.Core.Path.{sym, ◌∙◌}
 use native.Mathlib.Omega.{arith}
-use borrow.Author.Tests.{not-true, not-false}
 use Rattle.sound_fields.specs.Fields.{byte_fine}
 use Rattle.sound_fields.proofs.Below.{passed_none, passed_more, passed_all, one_fails}
 use Rattle.sound_fields.proofs.bytes_fine.Goals as goal

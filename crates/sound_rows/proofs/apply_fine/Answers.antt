@@ -2,7 +2,7 @@
 -- Each early return: the first test that fails makes the whole conjunction fail (`fails_l`, `fails_then`), with those before it passed; the last return by `passes`.
 use mathlib.Core.Path.{sym, ◌∙◌}
 use native.Mathlib.Omega.{arith}
-use borrow.Author.Tests.{not-true, not-false, le-leb, lt-leb, eq-eqb, ne_eqb}
+use borrow.Author.Tests.{le-leb, lt-leb, eq-eqb, ne_eqb}
 use borrow.Author.Rules.{rules}
 use Rattle.sound_rows.specs.Rows.{apply_fine}
 use Rattle.sound_fields.proofs.Below.{name_small, passes, both, fails_l, fails_then}

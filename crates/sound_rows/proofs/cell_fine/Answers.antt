@@ -1,7 +1,6 @@
 -- `sound_rows::cell_fine` meets its contract. Assumes nothing.
 -- Three tests, joined: a return by the first that fails (`fails_l`, `fails_then`), the last one by `passes`.
 use mathlib.Core.Path.{sym, ◌∙◌}
-use borrow.Author.Tests.{not-true, not-false}
 use Rattle.sound_fields.proofs.Below.{passes, both, fails_l, fails_then}
 use Rattle.sound_rows.specs.Rows.{cell_fine}
 use Rattle.sound_rows.proofs.cell_fine.Goals as goal

@@ -3,7 +3,6 @@ use mathlib.Core.List.{[]}
 use Prim.Native.Nat.{ℕ}
 use native.Mathlib.Omega.{arith}
 use lib.ListN.{get_or}
-use borrow.Author.Tests.{not-true, not-false}
 use Rattle.sound_fields.specs.Fields.{all_below, byte_fine}
 use Rattle.sound_tables.specs.Tables.{bytes_fine}
 use Rattle.sound_fields.proofs.Below.{passed_none, passed_more, passed_all, one_fails}

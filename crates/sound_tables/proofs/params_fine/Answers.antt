@@ -1,6 +1,5 @@
 use mathlib.Core.Path.{sym, ◌∙◌}
 use native.Mathlib.Omega.{arith}
-use borrow.Author.Tests.{not-true, not-false}
 use Rattle.sound_fields.proofs.Below.{fewer_fail}
 use Rattle.sound_tables.proofs.Blank.{blank_none, blank_more, blank_all}
 use Rattle.sound_tables.proofs.params_fine.Goals as goal

@@ -1,6 +1,5 @@
 use mathlib.Core.Path.{sym, ◌∙◌}
 use native.Mathlib.Omega.{arith}
-use borrow.Author.Tests.{not-true, not-false}
 use Rattle.sound_tables.specs.Tables.{row_fine}
 use Rattle.sound_fields.proofs.Below.{passed_none, passed_more, passed_all, one_fails}
 use Rattle.sound_tables.proofs.rows_fine.Goals as goal

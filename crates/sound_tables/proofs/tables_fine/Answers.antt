@@ -1,6 +1,5 @@
 -- `sound_tables::tables_fine` meets its contract. Assumes nothing.
 use mathlib.Core.Path.{sym, ◌∙◌}
-use borrow.Author.Tests.{not-true, not-false}
 use Rattle.sound_tables.specs.Tables.{tables_fine}
 use Rattle.sound_fields.proofs.Below.{passes, both}
 use Rattle.sound_tables.proofs.Tables.{no_table}

@@ -1,7 +1,6 @@
 -- `sound_tables::tails_fine` meets its contract. Assumes nothing.
 -- Five calls of `zeros`, joined: a return by the first that fails (`fails_l`, `fails_then`), the last one by `passes`.
 use mathlib.Core.Path.{sym, ◌∙◌}
-use borrow.Author.Tests.{not-true, not-false}
 use Rattle.sound_tables.specs.Tables.{tails_fine}
 use Rattle.sound_fields.proofs.Below.{passes, both, fails_l, fails_then}
 use Rattle.sound_tables.proofs.tails_fine.Goals as goal
