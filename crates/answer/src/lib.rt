@@ -128,7 +128,7 @@ fn fail_two(
     buf: &mut [u8],
 ) -> Answer
     requires lay { Lay w.old u × (Above before u × (5120 ≤ length saved.now)) }
-    requires a_lt_nodes { ((a < u.nodes) × (b < u.nodes)) × (AllBytes (view w.old u) × (4096 ≤ length buf.old)) }
+    requires types_in { ((a < u.nodes) × (b < u.nodes)) × (AllBytes (view w.old u) × (4096 ≤ length buf.old)) }
     ensures { (e : d.TypingError) → number_of_error e ≡ number → ((s : State) → write_error s e ≡ write s a ++ write s b) → Answers w.old u before saved.now buf.old w.new buf.new result (failure e) }
 {
     let size = two_size(w, u, a, b);
@@ -174,7 +174,7 @@ fn fail(
 pub fn answer_of(w: &mut [u32], before: Used, saved: &[u32], ran: Ran, buf: &mut [u8]) -> Answer
     requires lay { Lay w.old ran.used × (Above before ran.used × (5120 ≤ length saved.now)) }
     requires tells { Tells ran.used ran.show ran.out × ((Settles ran.out → AllBytes (view w.old ran.used)) × (4096 ≤ length buf.old)) }
-    requires by_index { (t : ℕ) → ran.out ≡ Done t → ran.kept ≡ false → Still w.old ran.used before saved.now }
+    requires still { (t : ℕ) → ran.out ≡ Done t → ran.kept ≡ false → Still w.old ran.used before saved.now }
     ensures { Answers w.old ran.used before saved.now buf.old w.new buf.new result (answered ran) }
 {
     let out = ran.out;

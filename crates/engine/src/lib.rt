@@ -242,7 +242,7 @@ pub fn rest_size(state: &mut [u32], params: [[u8; 8]; 256], stream: &[u8]) -> us
 // The stream after one record; all of it on 5, 6, 15 and 18. The state is as it was.
 // Refused: a stream handed back whole always (all_handed_back), one byte passed on 15 (split_past_15).
 pub fn split<'a>(state: &mut [u32], params: [[u8; 8]; 256], stream: &'a [u8]) -> &'a [u8]
-    ensures result_value { result.now ≡ rest_of state.old params stream.now }
+    ensures rest { result.now ≡ rest_of state.old params stream.now }
     ensures state_unchanged { state.new ≡ state.old }
 {
     let n = rest_size(state, params, stream);

@@ -204,7 +204,7 @@ fn write_lacks(
     at: usize,
 ) -> usize
     requires lay { Lay w.now u × ((t < u.nodes) × (FoundIn 8 place × AllBytes (view w.now u))) }
-    requires place_in_bounds { (ds : List d.Struct) → at + length (ability_failure (seen w.now u ds) loc ability (spanned (seen w.now u ds) t) (why place)) ≤ length buf.old }
+    requires fits { (ds : List d.Struct) → at + length (ability_failure (seen w.now u ds) loc ability (spanned (seen w.now u ds) t) (why place)) ≤ length buf.old }
     ensures { (ds : List d.Struct) → Wrote buf.old at (ability_failure (seen w.now u ds) loc ability (spanned (seen w.now u ds) t) (why place)) buf.new result }
 {
     let few = ability_head(loc, ability);
@@ -216,7 +216,7 @@ fn write_lacks(
 
 pub fn write_failing(w: &[u32], u: Used, f: Failing, buf: &mut [u8], at: usize) -> usize
     requires lay { Lay w.now u × (FailingIn u.nodes f × AllBytes (view w.now u)) }
-    requires ds_in_bounds { (ds : List d.Struct) → at + length (failing f (seen w.now u ds)) ≤ length buf.old }
+    requires fits { (ds : List d.Struct) → at + length (failing f (seen w.now u ds)) ≤ length buf.old }
     ensures { (ds : List d.Struct) → Wrote buf.old at (failing f (seen w.now u ds)) buf.new result }
 {
     match f {

@@ -349,7 +349,7 @@ fn fields(
 pub fn read_head(w: &[u32], u: Used, b: &[u8], end: usize, at: usize, known: u32, nest: u32) -> Head
     requires lay { Lay w.now u × Arities (view w.now u).structs }
     requires end_in_bounds { (end ≤ length b.now) × ((at ≤ end) × (known ≤ 1024)) }
-    ensures s_value { (s : d.State) (ds : List d.Struct) → Declares w.now u ds → Knows s known ds → tree_read result b.now end (read_nested (nest - 1) s) ≡ read_nested nest s (rest b.now end at) }
+    ensures reads { (s : d.State) (ds : List d.Struct) → Declares w.now u ds → Knows s known ds → tree_read result b.now end (read_nested (nest - 1) s) ≡ read_nested nest s (rest b.now end at) }
     ensures head_within { HeadWithin result end × HeadNests result nest }
 {
     if nest == 0 {

@@ -135,7 +135,7 @@ pub fn count_type(
     arg: bool,
 ) -> Counted
     requires lay { Lay w.now u × Arities (view w.now u).structs }
-    requires b_len_bound { (length b.now ≤ 4096) × ((end ≤ length b.now) × ((at ≤ end) × (known ≤ 1024))) }
+    requires end_in_bounds { (length b.now ≤ 4096) × ((end ≤ length b.now) × ((at ≤ end) × (known ≤ 1024))) }
     ensures { Counts w.now u b.now end known arg (λ s. read_nested nest s (rest b.now end at)) result }
 {
     let h = read_head(w, u, b, end, at, known, nest);
@@ -161,7 +161,7 @@ fn count_parts(
     shape: Shape,
 ) -> Counted
     requires lay { Lay w.now u × Arities (view w.now u).structs }
-    requires b_len_bound { (length b.now ≤ 4096) × ((end ≤ length b.now) × ((at ≤ end) × ((known ≤ 1024) × (many_parts shape ≤ 8)))) }
+    requires end_in_bounds { (length b.now ≤ 4096) × ((end ≤ length b.now) × ((at ≤ end) × ((known ≤ 1024) × (many_parts shape ≤ 8)))) }
     ensures { (loc : ℕ) → Counts w.now u b.now end known arg (λ s. tree_read (Begun shape loc at) b.now end (read_nested nest s)) result }
 {
     let n = part_count(shape);

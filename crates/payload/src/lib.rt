@@ -74,7 +74,7 @@ pub fn write_four(a: u32, b: u32, c: u32, e: u32, buf: &mut [u8]) -> usize
 
 pub fn write_shown(w: &[u32], u: Used, show: Show, t: u32, buf: &mut [u8]) -> usize
     requires lay { Lay w.now u × (Shows u show t × (AllBytes (view w.now u) × (4096 ≤ length buf.old))) }
-    requires ds_len_bound { (ds : List d.Struct) → length (shown show t (seen w.now u ds)) ≤ 4096 }
+    requires fits { (ds : List d.Struct) → length (shown show t (seen w.now u ds)) ≤ 4096 }
     ensures { (ds : List d.Struct) → Wrote buf.old 0 (shown show t (seen w.now u ds)) buf.new result }
 {
     match show {
@@ -89,7 +89,7 @@ pub fn write_shown(w: &[u32], u: Used, show: Show, t: u32, buf: &mut [u8]) -> us
 
 pub fn write_two(w: &[u32], u: Used, a: u32, b: u32, buf: &mut [u8]) -> usize
     requires lay { Lay w.now u × ((a < u.nodes) × ((b < u.nodes) × (AllBytes (view w.now u) × (4096 ≤ length buf.old)))) }
-    requires b_len_bound { (ds : List d.Struct) → length (write (seen w.now u ds) a ++ write (seen w.now u ds) b) ≤ 4096 }
+    requires fits { (ds : List d.Struct) → length (write (seen w.now u ds) a ++ write (seen w.now u ds) b) ≤ 4096 }
     ensures { (ds : List d.Struct) → Wrote buf.old 0 (write (seen w.now u ds) a ++ write (seen w.now u ds) b) buf.new result }
 {
     let next = write_type(w, u, a, buf, 0);

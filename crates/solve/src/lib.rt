@@ -100,7 +100,7 @@ fn write_constraint(
     at: usize,
 ) -> usize
     requires lay { Lay w.now u × (TyIn u.nodes (constraint_of c) × (AskedReady w.now u params.now sets.now (constraint_of c) × (AllBytes (view w.now u) × Declared w.now u params.now))) }
-    requires c_in_bounds { (ds : List d.Struct) → Known w.now u params.now ds → at + length (solve_constraint (seen w.now u ds) (constraint_of c)) ≤ length buf.old }
+    requires fits { (ds : List d.Struct) → Known w.now u params.now ds → at + length (solve_constraint (seen w.now u ds) (constraint_of c)) ≤ length buf.old }
     ensures { (ds : List d.Struct) → Known w.now u params.now ds → Wrote buf.old at (solve_constraint (seen w.now u ds) (constraint_of c)) buf.new result }
 {
     let n = row_count(c);
@@ -123,7 +123,7 @@ fn write_failures(
     buf: &mut [u8],
 ) -> usize
     requires lay { Lay w.now u × (TysIn (view w.now u) × (AllReady w.now u params.now sets.now (view w.now u).constraints × (AllBytes (view w.now u) × Declared w.now u params.now))) }
-    requires ds_in_bounds { (ds : List d.Struct) → Known w.now u params.now ds → length (failures (seen w.now u ds) (seen w.now u ds).constraints) ≤ length buf.old }
+    requires fits { (ds : List d.Struct) → Known w.now u params.now ds → length (failures (seen w.now u ds) (seen w.now u ds).constraints) ≤ length buf.old }
     ensures { (ds : List d.Struct) → Known w.now u params.now ds → Wrote buf.old 0 (failures (seen w.now u ds) (seen w.now u ds).constraints) buf.new result }
 {
     let n = u.constraints;

@@ -130,7 +130,7 @@ pub fn step_trusted(
     requires stands { Stands w.old u params.old × (IsBytes stream.now × ((at ≤ length stream.now) × ((5120 ≤ length saved.old) × (4096 ≤ length buf.old)))) }
     requires saved_partly { SavedPartly w.old u rows saved.old }
     ensures steps { Steps whole w.old u params.old stream.now at buf.old w.new params.new buf.new result }
-    ensures saved_partly_2 { SavedPartly w.new result.used result.rows saved.new }
+    ensures saved_next { SavedPartly w.new result.used result.rows saved.new }
 {
     snapshot::save_vars(w, u, rows, saved);
     let f = record::read_record(w, u, stream, at);

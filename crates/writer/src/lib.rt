@@ -255,7 +255,7 @@ pub fn size_type(w: &[u32], u: Used, t: u32, room: u32) -> u32
 // The bytes of the type t, which fit; the place after them.
 pub fn write_type(w: &[u32], u: Used, t: u32, buf: &mut [u8], at: usize) -> usize
     requires lay { Lay w.now u × ((t < u.nodes) × AllBytes (view w.now u)) }
-    requires t_in_bounds { (ds : List d.Struct) → at + length (write (seen w.now u ds) t) ≤ length buf.old }
+    requires fits { (ds : List d.Struct) → at + length (write (seen w.now u ds) t) ≤ length buf.old }
     ensures { (ds : List d.Struct) → Wrote buf.old at (write (seen w.now u ds) t) buf.new result }
 {
     let node = node_at(w, u, t);

@@ -7,7 +7,7 @@ use Rattle.answer.proofs.answer_of.Goals as goal
 
 pub succeed-requires : goal.succeed-requires
 succeed-requires c = let p = c.requires in
-    let e = c.in-Done.is in record { lay = p.lay; shows = (rw e at p.tells.0, ((rw e at p.tells.1.0) tt, p.tells.1.1)); still = p.by_index _ e }
+    let e = c.in-Done.is in record { lay = p.lay; shows = (rw e at p.tells.0, ((rw e at p.tells.1.0) tt, p.tells.1.1)); still = p.still _ e }
 
 pub fail-requires : goal.fail-requires
 fail-requires c = let p = c.requires in

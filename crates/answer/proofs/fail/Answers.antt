@@ -6,13 +6,13 @@ use mathlib.Core.Path.{refl}
 use Rattle.answer.proofs.fail.Goals as goal
 
 pub fail_two-requires : goal.fail_two-requires
-fail_two-requires c = let p = c.requires in record { lay = p.lay; a_lt_nodes = (rw c.in-SubtypeError.is at p.types_in.0, p.types_in.1) }
+fail_two-requires c = let p = c.requires in record { lay = p.lay; types_in = (rw c.in-SubtypeError.is at p.types_in.0, p.types_in.1) }
 
 pub fail_two-requires-in-Incompatible : goal.fail_two-requires-in-Incompatible
-fail_two-requires-in-Incompatible c = let p = c.requires in record { lay = p.lay; a_lt_nodes = (rw c.in-Incompatible.is at p.types_in.0, p.types_in.1) }
+fail_two-requires-in-Incompatible c = let p = c.requires in record { lay = p.lay; types_in = (rw c.in-Incompatible.is at p.types_in.0, p.types_in.1) }
 
 pub fail_two-requires-in-ArityMismatch : goal.fail_two-requires-in-ArityMismatch
-fail_two-requires-in-ArityMismatch c = let p = c.requires in record { lay = p.lay; a_lt_nodes = (rw c.in-ArityMismatch.is at p.types_in.0, p.types_in.1) }
+fail_two-requires-in-ArityMismatch c = let p = c.requires in record { lay = p.lay; types_in = (rw c.in-ArityMismatch.is at p.types_in.0, p.types_in.1) }
 
 pub returns-in-SubtypeError : goal.returns-in-SubtypeError
 unfolding number_of_error write_error

@@ -14,7 +14,7 @@ returns-then-size-gt-MAX_PAYLOAD c = let args = c.args in
 pub write_two-len-requires : goal.write_two-len-requires
 write_two-len-requires c = let args = c.args in
     let pre = c.requires in
-    let two_size = c.two_size-size in record { lay = (pre.lay.0, (pre.a_lt_nodes.0.0, (pre.a_lt_nodes.0.1, pre.a_lt_nodes.1))); b_len_bound = two_fits args.w.now args.u args.before args.saved.now args.buf.now args.a args.b two_size.result two_size.ensures c.if-size-gt-MAX_PAYLOAD.false }
+    let two_size = c.two_size-size in record { lay = (pre.lay.0, (pre.types_in.0.0, (pre.types_in.0.1, pre.types_in.1))); fits = two_fits args.w.now args.u args.before args.saved.now args.buf.now args.a args.b two_size.result two_size.ensures c.if-size-gt-MAX_PAYLOAD.false }
 
 pub returns : goal.returns
 returns c = let args = c.args in

@@ -16,7 +16,7 @@ returns-then-size-gt-MAX_PAYLOAD c = let args = c.args in
 pub write_shown-len-requires : goal.write_shown-len-requires
 write_shown-len-requires c = let args = c.args in
     let pre = c.requires in
-    let shown-size = c.shown_size-size in record { lay = (pre.lay.0, (pre.shows.0, pre.shows.1)); ds_len_bound = success_fits args.w.now args.u args.before args.saved.now args.buf.now args.kept args.show args.t shown-size.result shown-size.ensures c.if-size-gt-MAX_PAYLOAD.false }
+    let shown-size = c.shown_size-size in record { lay = (pre.lay.0, (pre.shows.0, pre.shows.1)); fits = success_fits args.w.now args.u args.before args.saved.now args.buf.now args.kept args.show args.t shown-size.result shown-size.ensures c.if-size-gt-MAX_PAYLOAD.false }
 
 pub returns-then-kept : goal.returns-then-kept
 returns-then-kept c = let args = c.args in

@@ -94,7 +94,7 @@ loop-at-preserved c = let args = c.args in
     let if1 = c.if-not-takes_on in
     let step-trusted = c.step_trusted-r in
     let write-line = c.write_line-n in (
-      (step-trusted.auto.saved ∙ loop.invariant.0.0, step-trusted.ensures.saved_partly_2),
+      (step-trusted.auto.saved ∙ loop.invariant.0.0, step-trusted.ensures.saved_next),
       (
         step-trusted.auto.buf ∙ loop.invariant.1.0,
         going_on loop.invariant.1.1 (bytes_of args.stream.now shared-slice-known.given) loop-test.true

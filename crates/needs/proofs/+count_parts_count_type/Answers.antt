@@ -25,7 +25,7 @@ count_parts-both-all-requires t c = (
 )
 
 pub count_parts-loop-i-init : goal.count_parts-loop-i-init
-count_parts-loop-i-init t c = go_none _ _ _ _ _ _ _ _ _ _ c.requires.b_len_bound.1.1.0
+count_parts-loop-i-init t c = go_none _ _ _ _ _ _ _ _ _ _ c.requires.end_in_bounds.1.1.0
     (rw (c.both-all.ensures, c.own.ensures, c.beside.ensures) (head_most c.args.arg c.args.shape))
 
 pub count_parts-count_type-r-requires : goal.count_parts-count_type-r-requires
@@ -34,8 +34,8 @@ count_parts-count_type-r-requires t c = (
   (
     c.requires.lay,
     (
-      c.requires.b_len_bound.0,
-      (c.requires.b_len_bound.1.0, (c.loop-i.invariant.within, c.requires.b_len_bound.1.1.1.0)),
+      c.requires.end_in_bounds.0,
+      (c.requires.end_in_bounds.1.0, (c.loop-i.invariant.within, c.requires.end_in_bounds.1.1.1.0)),
     ),
   ),
 )
@@ -49,15 +49,15 @@ count_parts-returns-then-stops t c = λ loc. go_stop _ _ _ _ _ _ _ _ _ _ _ _ _ c
 
 pub count_parts-both-all-requires-in-loop-i : goal.count_parts-both-all-requires-in-loop-i
 count_parts-both-all-requires-in-loop-i t c = (
-  go_few _ _ _ _ _ _ _ _ _ _ _ _ _ c.loop-i.invariant c.requires.b_len_bound.0
-      c.requires.b_len_bound.1.0,
+  go_few _ _ _ _ _ _ _ _ _ _ _ _ _ c.loop-i.invariant c.requires.end_in_bounds.0
+      c.requires.end_in_bounds.1.0,
   part_few _ _ _ _ _ _ _ _ _ _ _ _ _ c.loop-i.invariant _ c.count_type-r.ensures
-      c.requires.b_len_bound.0 c.requires.b_len_bound.1.0
+      c.requires.end_in_bounds.0 c.requires.end_in_bounds.1.0
       (sym c.stops.ensures ∙ c.if-stops.false),
 )
 
 pub count_parts-overflow_add-i : goal.count_parts-overflow_add-i
-count_parts-overflow_add-i t c = let m = c.part_count-n.ensures in let e = c.requires.b_len_bound.1.1.1.1 in omega
+count_parts-overflow_add-i t c = let m = c.part_count-n.ensures in let e = c.requires.end_in_bounds.1.1.1.1 in omega
     (arith, c.loop-i-test.true)
 
 pub count_parts-loop-i-smaller : goal.count_parts-loop-i-smaller
@@ -72,7 +72,7 @@ count_parts-returns t c = λ loc. go_all _ _ _ _ _ _ _ _ _ _ _ _ _ c.loop-i.inva
     c.part_count-n.ensures c.is_apply-args.ensures (rw (c.both-all.ensures, c.own.ensures, c.beside.ensures) refl) loc
 
 pub count_type-read_head-h-requires : goal.count_type-read_head-h-requires
-count_type-read_head-h-requires t c = record { lay = c.requires.lay; end_in_bounds = c.requires.b_len_bound.1 }
+count_type-read_head-h-requires t c = record { lay = c.requires.lay; end_in_bounds = c.requires.end_in_bounds.1 }
 
 pub count_type-overflow_sub-nest : goal.count_type-overflow_sub-nest
 count_type-overflow_sub-nest t c = rw c.in-Begun.is at c.read_head-h.ensures.head_within.1
@@ -80,7 +80,7 @@ count_type-overflow_sub-nest t c = rw c.in-Begun.is at c.read_head-h.ensures.hea
 pub count_type-count_parts-requires : goal.count_type-count_parts-requires
 count_type-count_parts-requires t c = let a = rw c.in-Begun.is at c.read_head-h.ensures.head_within.0 in let n = rw c.in-Begun.is at c.read_head-h.ensures.head_within.1 in (
   omega (arith, n, c.decreases),
-  (c.requires.lay, (c.requires.b_len_bound.0, (c.requires.b_len_bound.1.0, (a.0, (c.requires.b_len_bound.1.1.1, a.1))))),
+  (c.requires.lay, (c.requires.end_in_bounds.0, (c.requires.end_in_bounds.1.0, (a.0, (c.requires.end_in_bounds.1.1.1, a.1))))),
 )
 
 pub count_type-stopped-requires : goal.count_type-stopped-requires
@@ -93,13 +93,13 @@ pub count_type-stopped-requires-in-Doubled : goal.count_type-stopped-requires-in
 count_type-stopped-requires-in-Doubled t c = tt
 
 pub count_type-returns-in-Begun : goal.count_type-returns-in-Begun
-count_type-returns-in-Begun t c = counts_is _ _ _ _ _ _ _ _ _ (λ ds s d k. rw c.in-Begun.is at (c.read_head-h.ensures.s_value s ds d k)) (c.count_parts.ensures _)
+count_type-returns-in-Begun t c = counts_is _ _ _ _ _ _ _ _ _ (λ ds s d k. rw c.in-Begun.is at (c.read_head-h.ensures.reads s ds d k)) (c.count_parts.ensures _)
 
 pub count_type-returns-in-Broken : goal.count_type-returns-in-Broken
-count_type-returns-in-Broken t c = counts_none _ _ _ _ _ _ _ _ Malformed _ c.requires.b_len_bound.1.1.0 (λ ds s d k. sym (c.read_head-h.ensures.s_value s ds d k) ∙ rw c.in-Broken.is refl) _ c.stopped.ensures
+count_type-returns-in-Broken t c = counts_none _ _ _ _ _ _ _ _ Malformed _ c.requires.end_in_bounds.1.1.0 (λ ds s d k. sym (c.read_head-h.ensures.reads s ds d k) ∙ rw c.in-Broken.is refl) _ c.stopped.ensures
 
 pub count_type-returns-in-Unnamed : goal.count_type-returns-in-Unnamed
-count_type-returns-in-Unnamed t c = counts_none _ _ _ _ _ _ _ _ Unknown _ c.requires.b_len_bound.1.1.0 (λ ds s d k. sym (c.read_head-h.ensures.s_value s ds d k) ∙ rw c.in-Unnamed.is refl) _ c.stopped-in-Unnamed.ensures
+count_type-returns-in-Unnamed t c = counts_none _ _ _ _ _ _ _ _ Unknown _ c.requires.end_in_bounds.1.1.0 (λ ds s d k. sym (c.read_head-h.ensures.reads s ds d k) ∙ rw c.in-Unnamed.is refl) _ c.stopped-in-Unnamed.ensures
 
 pub count_type-returns-in-Doubled : goal.count_type-returns-in-Doubled
-count_type-returns-in-Doubled t c = counts_none _ _ _ _ _ _ _ _ Doubled _ c.requires.b_len_bound.1.1.0 (λ ds s d k. sym (c.read_head-h.ensures.s_value s ds d k) ∙ rw c.in-Doubled.is refl) _ c.stopped-in-Doubled.ensures
+count_type-returns-in-Doubled t c = counts_none _ _ _ _ _ _ _ _ Doubled _ c.requires.end_in_bounds.1.1.0 (λ ds s d k. sym (c.read_head-h.ensures.reads s ds d k) ∙ rw c.in-Doubled.is refl) _ c.stopped-in-Doubled.ensures

@@ -12,7 +12,7 @@ write_head-requires c = (tt, omega (arith, length_variable c.in-Variable.loc c.t
 
 pub write_type-requires : goal.write_type-requires
 write_type-requires c = let args = c.args in
-    let pre = c.requires in record { lay = (pre.lay.0, (rw c.in-Node.is at pre.lay.1.0, pre.lay.1.1.0)); t_in_bounds = λ ds. omega (arith, node_fits args.show args.t _ c.in-Node.is (pre.ds_len_bound ds), pre.lay.1.1.1) }
+    let pre = c.requires in record { lay = (pre.lay.0, (rw c.in-Node.is at pre.lay.1.0, pre.lay.1.1.0)); fits = λ ds. omega (arith, node_fits args.show args.t _ c.in-Node.is (pre.fits ds), pre.lay.1.1.1) }
 
 pub write_head-requires-in-Anything : goal.write_head-requires-in-Anything
 write_head-requires-in-Anything c = (tt, omega (arith, length_anything c.in-Anything.loc, c.requires.lay.1.1.1))

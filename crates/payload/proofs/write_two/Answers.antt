@@ -7,16 +7,16 @@ use Rattle.payload.proofs.write_two.Goals as goal
 
 pub write_type-next-requires : goal.write_type-next-requires
 write_type-next-requires c = let args = c.args in
-    let pre = c.requires in record { lay = (pre.lay.0, (pre.lay.1.0, pre.lay.1.1.1.0)); t_in_bounds = λ ds. omega (arith, first_room (write (seen args.w.now args.u ds) args.a) (write (seen args.w.now args.u ds) args.b) 4096 (pre.b_len_bound ds), pre.lay.1.1.1.1) }
+    let pre = c.requires in record { lay = (pre.lay.0, (pre.lay.1.0, pre.lay.1.1.1.0)); fits = λ ds. omega (arith, first_room (write (seen args.w.now args.u ds) args.a) (write (seen args.w.now args.u ds) args.b) 4096 (pre.fits ds), pre.lay.1.1.1.1) }
 
 pub write_type-requires : goal.write_type-requires
 write_type-requires c = let args = c.args in
-    let pre = c.requires in record { lay = (pre.lay.0, (pre.lay.1.1.0, pre.lay.1.1.1.0)); t_in_bounds = λ ds. two_room args.buf.now (write (seen args.w.now args.u ds) args.a) (write (seen args.w.now args.u ds) args.b) _ _ (omega (arith, pre.b_len_bound ds, pre.lay.1.1.1.1)) (c.write_type-next.ensures ds) }
+    let pre = c.requires in record { lay = (pre.lay.0, (pre.lay.1.1.0, pre.lay.1.1.1.0)); fits = λ ds. two_room args.buf.now (write (seen args.w.now args.u ds) args.a) (write (seen args.w.now args.u ds) args.b) _ _ (omega (arith, pre.fits ds, pre.lay.1.1.1.1)) (c.write_type-next.ensures ds) }
 
 pub returns : goal.returns
 returns c = let args = c.args in
     let pre = c.requires in
     let write-type = c.write_type-next in
     λ ds. wrote_two args.buf.now (write (seen args.w.now args.u ds) args.a)
-    (write (seen args.w.now args.u ds) args.b) _ _ _ _ (omega (arith, pre.b_len_bound ds, pre.lay.1.1.1.1))
+    (write (seen args.w.now args.u ds) args.b) _ _ _ _ (omega (arith, pre.fits ds, pre.lay.1.1.1.1))
     (write-type.ensures ds) (c.write_type.ensures ds)

@@ -107,16 +107,16 @@ read_type-read_parts-requires t c = let pre = c.requires in
     (omega (arith, n, c.decreases), (pre.lay, (pre.end_in_bounds.0, (w.0, (pre.end_in_bounds.1.1, w.1)))))
 
 pub read_type-returns-in-Begun : goal.read_type-returns-in-Begun
-read_type-returns-in-Begun t c = takes_is _ _ _ _ _ _ _ _ _ _ (λ ds s d k. rw c.in-Begun.is at (c.read_head-h.ensures.s_value s ds d k)) c.read_parts.ensures
+read_type-returns-in-Begun t c = takes_is _ _ _ _ _ _ _ _ _ _ (λ ds s d k. rw c.in-Begun.is at (c.read_head-h.ensures.reads s ds d k)) c.read_parts.ensures
 
 pub read_type-returns-in-Broken : goal.read_type-returns-in-Broken
 unfolding place_read
-read_type-returns-in-Broken t c = takes_none _ _ _ _ _ _ _ _ Malformed c.requires.lay.0 c.requires.end_in_bounds.1.0 tt (λ ds s d k. rw (← c.read_head-h.ensures.s_value s ds d k, c.in-Broken.is) refl)
+read_type-returns-in-Broken t c = takes_none _ _ _ _ _ _ _ _ Malformed c.requires.lay.0 c.requires.end_in_bounds.1.0 tt (λ ds s d k. rw (← c.read_head-h.ensures.reads s ds d k, c.in-Broken.is) refl)
 
 pub read_type-returns-in-Unnamed : goal.read_type-returns-in-Unnamed
 unfolding place_read
-read_type-returns-in-Unnamed t c = takes_none _ _ _ _ _ _ _ _ Unknown c.requires.lay.0 c.requires.end_in_bounds.1.0 tt (λ ds s d k. rw (← c.read_head-h.ensures.s_value s ds d k, c.in-Unnamed.is) refl)
+read_type-returns-in-Unnamed t c = takes_none _ _ _ _ _ _ _ _ Unknown c.requires.lay.0 c.requires.end_in_bounds.1.0 tt (λ ds s d k. rw (← c.read_head-h.ensures.reads s ds d k, c.in-Unnamed.is) refl)
 
 pub read_type-returns-in-Doubled : goal.read_type-returns-in-Doubled
 unfolding place_read
-read_type-returns-in-Doubled t c = takes_none _ _ _ _ _ _ _ _ Doubled c.requires.lay.0 c.requires.end_in_bounds.1.0 tt (λ ds s d k. rw (← c.read_head-h.ensures.s_value s ds d k, c.in-Doubled.is) refl)
+read_type-returns-in-Doubled t c = takes_none _ _ _ _ _ _ _ _ Doubled c.requires.lay.0 c.requires.end_in_bounds.1.0 tt (λ ds s d k. rw (← c.read_head-h.ensures.reads s ds d k, c.in-Doubled.is) refl)

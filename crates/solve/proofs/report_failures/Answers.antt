@@ -14,7 +14,7 @@ pub write_failures-len-requires : goal.write_failures-len-requires
 write_failures-len-requires c = let p = c.requires in
     let size-failures = c.size_failures-size in
     let a = c.args in
-    let if1 = c.if-size-gt-MAX_PAYLOAD in record { lay = (p.lay.0, (p.tys_in.0, (p.tys_in.1.0, (p.tys_in.1.1.0, p.tys_in.1.1.1.0)))); ds_in_bounds = report_room _ _ _ _ size-failures.ensures a.buf.now if1.false p.tys_in.1.1.1.1 }
+    let if1 = c.if-size-gt-MAX_PAYLOAD in record { lay = (p.lay.0, (p.tys_in.0, (p.tys_in.1.0, (p.tys_in.1.1.0, p.tys_in.1.1.1.0)))); fits = report_room _ _ _ _ size-failures.ensures a.buf.now if1.false p.tys_in.1.1.1.1 }
 
 pub returns : goal.returns
 returns c = let size-failures = c.size_failures-size in

@@ -14,7 +14,7 @@ solve_all-requires c = let d = c.default_num_vars-a.ensures in
 pub answer_of-requires : goal.answer_of-requires
 answer_of-requires c = let d = c.default_num_vars-a.ensures in
     let p = c.requires in
-    let done-of = c.done_of in record { lay = (d.changed.lay, (grown_above _ _ _ _ d.changed.grown, p.lay.1.1.0)); tells = (tells d _ done-of.ensures c.in-Nothing.is, ((λ k. (fits d p.holds_sound k).1), p.lay.1.1.1)); by_index = λ t d f. kept_never refl f }
+    let done-of = c.done_of in record { lay = (d.changed.lay, (grown_above _ _ _ _ d.changed.grown, p.lay.1.1.0)); tells = (tells d _ done-of.ensures c.in-Nothing.is, ((λ k. (fits d p.holds_sound k).1), p.lay.1.1.1)); still = λ t d f. kept_never refl f }
 
 pub returns-in-Just : goal.returns-in-Just
 returns-in-Just c = let d = c.default_num_vars-a.ensures in

@@ -7,7 +7,7 @@ use Rattle.solve.proofs.write_constraint.Goals as goal
 pub loop-k-init : goal.loop-k-init
 loop-k-init c = let pre = c.requires in
     let there = pre.lay.1.1.1.1 in
-    written_none _ _ _ _ _ (row_pieces _ _ _ _ c.row_count-n.ensures) _ _ pre.c_in_bounds there.structs there.known
+    written_none _ _ _ _ _ (row_pieces _ _ _ _ c.row_count-n.ensures) _ _ pre.fits there.structs there.known
 
 pub ability_at-requires : goal.ability_at-requires
 ability_at-requires c = omega (arith, c.row_count-n.ensures.1)
@@ -22,7 +22,7 @@ write_failing-next-requires c = let pre = c.requires in
     let row = row_is _ _ _ _ _ _ _ c.row_of-f.ensures c.ability_at.ensures.1 in
     let inv = c.loop-k.invariant in
     let pieces = row_pieces _ _ _ _ c.row_count-n.ensures in
-    let fits = one_fits _ _ _ _ _ pieces _ _ pre.c_in_bounds there.structs there.known _ _ _ inv c.loop-k-test.true _ row there.structs there.known in record { lay = (pre.lay.0, (c.row_of-f.ensures.inside, pre.lay.1.1.1.0)); ds_in_bounds = λ ds. fits_same _ _ _ ds c.row_of-f.result _ _ fits }
+    let fits = one_fits _ _ _ _ _ pieces _ _ pre.fits there.structs there.known _ _ _ inv c.loop-k-test.true _ row there.structs there.known in record { lay = (pre.lay.0, (c.row_of-f.ensures.inside, pre.lay.1.1.1.0)); fits = λ ds. fits_same _ _ _ ds c.row_of-f.result _ _ fits }
 
 pub overflow_add-k : goal.overflow_add-k
 overflow_add-k c = omega arith
@@ -36,7 +36,7 @@ loop-k-preserved c = let pre = c.requires in
     let row = row_is _ _ _ _ _ _ _ c.row_of-f.ensures c.ability_at.ensures.1 in
     let inv = c.loop-k.invariant in
     let pieces = row_pieces _ _ _ _ c.row_count-n.ensures in
-    written_more _ _ _ _ _ pieces _ _ pre.c_in_bounds there.structs there.known _ _ _ inv c.loop-k-test.true _ row _ _ (λ ds k. c.write_failing-next.ensures ds)
+    written_more _ _ _ _ _ pieces _ _ pre.fits there.structs there.known _ _ _ inv c.loop-k-test.true _ row _ _ (λ ds k. c.write_failing-next.ensures ds)
 
 pub returns : goal.returns
 returns c = written_all _ _ _ _ _ (row_pieces _ _ _ _ c.row_count-n.ensures) _ _ _ _ _ c.loop-k.invariant (omega arith)

@@ -7,7 +7,7 @@ use Rattle.step.proofs.answer_declared.Goals as goal
 pub answer_of-a-requires : goal.answer_of-a-requires
 answer_of-a-requires c = let pre = c.requires in
     let ability-set = c.ability_set in
-    let d = rw ability-set.ensures at c.run_declare-r.ensures in record { lay = (d.lay, (begun_above pre.begins _ _ d.grown, pre.lay.1.1.1.0)); tells = (d.tells, (declared_bytes pre.begins.from d, pre.lay.1.1.1.1)); by_index = λ t o f. kept_never d.kept_is f }
+    let d = rw ability-set.ensures at c.run_declare-r.ensures in record { lay = (d.lay, (begun_above pre.begins _ _ d.grown, pre.lay.1.1.1.0)); tells = (d.tells, (declared_bytes pre.begins.from d, pre.lay.1.1.1.1)); still = λ t o f. kept_never d.kept_is f }
 
 pub padded-requires : goal.padded-requires
 padded-requires c = c.requires.lay.1.1.0

@@ -19,7 +19,7 @@ pub answer_of-requires : goal.answer_of-requires
 answer_of-requires c = let p = c.requires in
     let d = c.run_bind-r.ensures in
     let b = rw c.in-Bind.is at p.begins in
-    let above = begun_above p.begins _ _ d.left.grown in record { lay = (d.left.lay, (above, p.lay.1.1.0)); tells = (d.tells, (run_bytes b.from c.run_bind-r.ensures, p.lay.1.1.1)); by_index = run_still b.from c.run_bind-r.ensures }
+    let above = begun_above p.begins _ _ d.left.grown in record { lay = (d.left.lay, (above, p.lay.1.1.0)); tells = (d.tells, (run_bytes b.from c.run_bind-r.ensures, p.lay.1.1.1)); still = run_still b.from c.run_bind-r.ensures }
 
 pub run_look-r-requires : goal.run_look-r-requires
 run_look-r-requires c = (c.requires.lay.0, rw c.in-Look.is at c.requires.lay.1.0)
@@ -28,7 +28,7 @@ pub answer_of-requires-in-Look : goal.answer_of-requires-in-Look
 answer_of-requires-in-Look c = let p = c.requires in
     let d = c.run_look-r.ensures in
     let b = rw c.in-Look.is at p.begins in
-    let above = begun_above p.begins _ _ d.left.grown in record { lay = (d.left.lay, (above, p.lay.1.1.0)); tells = (d.tells, (run_bytes b.from (narrow c.run_look-r.ensures), p.lay.1.1.1)); by_index = run_still b.from (narrow c.run_look-r.ensures) }
+    let above = begun_above p.begins _ _ d.left.grown in record { lay = (d.left.lay, (above, p.lay.1.1.0)); tells = (d.tells, (run_bytes b.from (narrow c.run_look-r.ensures), p.lay.1.1.1)); still = run_still b.from (narrow c.run_look-r.ensures) }
 
 pub run_add-r-requires : goal.run_add-r-requires
 run_add-r-requires c = c.requires.lay.0
@@ -37,7 +37,7 @@ pub answer_of-requires-in-Add : goal.answer_of-requires-in-Add
 answer_of-requires-in-Add c = let p = c.requires in
     let d = c.run_add-r.ensures in
     let b = rw c.in-Add.is at p.begins in
-    let above = begun_above p.begins _ _ d.left.grown in record { lay = (d.left.lay, (above, p.lay.1.1.0)); tells = (d.tells, (run_bytes b.from (narrow c.run_add-r.ensures), p.lay.1.1.1)); by_index = run_still b.from (narrow c.run_add-r.ensures) }
+    let above = begun_above p.begins _ _ d.left.grown in record { lay = (d.left.lay, (above, p.lay.1.1.0)); tells = (d.tells, (run_bytes b.from (narrow c.run_add-r.ensures), p.lay.1.1.1)); still = run_still b.from (narrow c.run_add-r.ensures) }
 
 pub returns-in-SD : goal.returns-in-SD
 returns-in-SD c = λ w₀ x b. c.answer_declared.ensures w₀ x (rw c.in-SD.is at b)

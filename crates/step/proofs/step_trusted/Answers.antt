@@ -36,7 +36,7 @@ returns-in-Refused c = let p = c.requires in
     let o = c.left_over.ensures in
     let e = sym c.in-Refused.is ∙ c.verdict_of-o.ensures in
     let both = steps_refused _ _ p.stands.0 p.stands.1.0 v r c.args.whole _ o p.stands.1.1.0 n e c.refuse.ensures _ c.with_next.ensures in
-    record { steps = both.0; saved_partly_2 = both.1 }
+    record { steps = both.0; saved_next = both.1 }
 
 pub returns-in-Run : goal.returns-in-Run
 returns-in-Run c = let p = c.requires in
@@ -49,4 +49,4 @@ returns-in-Run c = let p = c.requires in
     let e = sym c.in-Run.is ∙ c.verdict_of-o.ensures in
     let k = runs read_record.result.read left_over.result _ e in
     let both = steps_run _ _ p.stands.0 p.stands.1.0 v r c.args.whole _ o _ k.0 k.1 p.stands.1.1.0 n c.rows_after-rows.ensures c.answer_placed.ensures c.with_next-in-Run.ensures in
-    record { steps = both.0; saved_partly_2 = both.1 }
+    record { steps = both.0; saved_next = both.1 }

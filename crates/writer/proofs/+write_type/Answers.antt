@@ -15,7 +15,7 @@ write_head-next-requires t c = let args = c.args in
     let pre = c.requires in
     let node_at = c.node_at-node in
     let a = at_node _ _ _ _ node_at.result pre.lay.0 pre.lay.1.0 node_at.ensures c.part_count-n.ensures in
-    (bytes_at a pre.lay.1.1, head_room a args.buf.now _ pre.t_in_bounds _ (λ ds. loc_is _ _ node_at.result (node_at.ensures ds)))
+    (bytes_at a pre.lay.1.1, head_room a args.buf.now _ pre.fits _ (λ ds. loc_is _ _ node_at.result (node_at.ensures ds)))
 
 pub loop-i-init : goal.loop-i-init
 loop-i-init t c = (omega arith, λ E h. h)
@@ -33,12 +33,12 @@ write_type-next-requires t c = let args = c.args in
     let E = args.buf.now in
     let a = at_node _ _ _ _ node_at.result pre.lay.0 pre.lay.1.0 node_at.ensures
     part_count.ensures in
-    let base = write_none a E _ pre.t_in_bounds _ (λ ds. loc_is _ _ node_at.result (node_at.ensures ds)) _ _ write-head.ensures in
+    let base = write_none a E _ pre.fits _ (λ ds. loc_is _ _ node_at.result (node_at.ensures ds)) _ _ write-head.ensures in
     let f = part_low a _ _ loop-test.true c.part_at-p.ensures in (
       omega (arith, f, c.decreases),
       (
         (pre.lay.0, (omega (arith, f, pre.lay.1.0), pre.lay.1.1)),
-        part_room a E _ pre.t_in_bounds _ _ _ _
+        part_room a E _ pre.fits _ _ _ _
             (c.loop-i.invariant.1 E base) loop-test.true c.part_at-p.ensures,
       ),
     )
@@ -60,8 +60,8 @@ loop-i-preserved t c = let args = c.args in
     let E = args.buf.now in
     let a = at_node _ _ _ _ node_at.result pre.lay.0 pre.lay.1.0 node_at.ensures
     part_count.ensures in
-    let base = write_none a E _ pre.t_in_bounds _ (λ ds. loc_is _ _ node_at.result (node_at.ensures ds)) _ _ write-head.ensures in
-    goes_more a E _ pre.t_in_bounds _ _ _ _ _ _ _ _ base loop.invariant loop-test.true
+    let base = write_none a E _ pre.fits _ (λ ds. loc_is _ _ node_at.result (node_at.ensures ds)) _ _ write-head.ensures in
+    goes_more a E _ pre.fits _ _ _ _ _ _ _ _ base loop.invariant loop-test.true
     c.part_at-p.ensures c.write_type-next.ensures
 
 pub returns : goal.returns
@@ -72,6 +72,6 @@ returns t c = let args = c.args in
     let E = args.buf.now in
     let a = at_node _ _ _ _ node_at.result pre.lay.0 pre.lay.1.0 node_at.ensures
     part_count.ensures in
-    let base = write_none a E _ pre.t_in_bounds _ (λ ds. loc_is _ _ node_at.result (node_at.ensures ds)) _ _
+    let base = write_none a E _ pre.fits _ (λ ds. loc_is _ _ node_at.result (node_at.ensures ds)) _ _
     c.write_head-next.ensures in
     write_all a E _ _ _ _ (c.loop-i.invariant.1 E base) c.loop-i-test.false
