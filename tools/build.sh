@@ -17,9 +17,25 @@ current() { # it is there, and no file that it is made of is newer
   [ -f "$made" ] && [ -z "$(find "$root"/crates.txt "$root"/crates/*/{src,specs,proofs} -newer "$made" -print -quit 2> /dev/null)" ]
 }
 
+# Right after rt ci (AFTER_RT_CI=yes, as .ci/run says) its proved libraries stand in out/rlib, without the stamps that rt lib goes by: the archive is built over them,
+# and only exports is checked again. Elsewhere this fails, and rt lib proves what has changed.
+over_rt_ci() {
+  local kit below=() crate
+  [ "$name" = exports ] && [ "${AFTER_RT_CI-}" = yes ] || return 1
+  kit=$(dirname "$(dirname "$(readlink -f "$(command -v rt)")")")
+  for crate in $(sed -n 's/^\([a-z0-9_]*\):.*/\1/p' "$root/crates.txt"); do
+    [ -d "$root/crates/$crate/out/rlib/$crate.rlib" ] || continue
+    [ ! -e "$root/crates/$crate/out/rlib/stamp" ] || return 1
+    below+=(-L "dependency=$root/crates/$crate/out/rlib")
+  done
+  "$kit/bin/rattle" build --crate-name exports src/lib.rt --crate-type staticlib --extern "std=$kit/rlibs/std.rlib" -L "dependency=$kit/rlibs" \
+    --extern "engine=$root/crates/engine/out/rlib/engine.rlib" "${below[@]}" --antt-project "$kit/rattle/logic/antt-project.json" \
+    --logic-built "$kit/logic_built" --jobs 2 --toolchain "$kit/toolchain" --backend llvm -o "$made"
+}
+
 prove() { # rt run also runs the program, on no input
   cd "$root/crates/$name" || return 1
-  rt $words < /dev/null 2>&1 | tee "$root/$talk" | sed -un '/^rt: running/d; /^rt: /p' >&2
+  { over_rt_ci || rt $words; } < /dev/null 2>&1 | tee "$root/$talk" | sed -un '/^rt: running/d; /^rt: /p' >&2
   return "${PIPESTATUS[0]}"
 }
 
