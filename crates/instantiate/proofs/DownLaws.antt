@@ -51,7 +51,8 @@ unfolding instantiate_value
 ref_is f s ty loc m t = constraint_then (BaseTypeConstraint loc t) s (ref_on f t loc m)
 
 -- a constraint is listed, and f follows
-pub constraint_on : {params : List (List ℕ)} {w : List ℕ} {u : Used} {w₁ : List ℕ} (b : Outcome) {b₁ : Found} {y : ℕ} (c : d.Constraint) {f : State → Result (State × ℕ)} {w' : List ℕ} {r : Outcome} → Changed w u w₁ b (pushed_constraint c) → b₁ ≡ done b.out → b₁ ≡ Just y
+pub constraint_on : {params : List (List ℕ)} {w : List ℕ} {u : Used} {w₁ : List ℕ} (b : Outcome) {b₁ : Found} {y : ℕ} (c : d.Constraint) {f : State → Result (State × ℕ)} {w' : List ℕ} {r : Outcome}
+    → Changed w u w₁ b (pushed_constraint c) → b₁ ≡ done b.out → b₁ ≡ Just y
     → When (Known w₁ b.used params) w₁ b.used w' r f → When (Known w u params) w u w' r (λ s. pushed_constraint c s >>= (λ q. f q.0))
 constraint_on {params} {w} {u} {w₁} b c {f} first p q x =
     after_then b.out (λ y. f y.0) (refines_among (λ ds k. tt) first) p q (after_among (known_kept w u w₁ b.used params first.structs) x)

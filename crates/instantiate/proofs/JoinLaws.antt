@@ -25,7 +25,8 @@ pub record Joining (loc : ℕ) (k : d.AbilityMark) (n : d.TypeName) (tvars tys :
   pub tys_in : Parts u₀.nodes tys c
   pub sizes : (length tvars ≡ 8) × (length tys ≡ 8)
 
-pub joins_start : {loc : ℕ} {k : d.AbilityMark} {n : d.TypeName} {tvars tys : List ℕ} (a b : ℕ) {c : ℕ} {w₀ : List ℕ} {u₀ : Used} {parts : List ℕ} → Lay w₀ u₀ → Parts u₀.nodes tvars a → Parts u₀.nodes tys b → c ≡ min a b → (length tvars ≡ 8) × (length tys ≡ 8) → length parts ≡ 8
+pub joins_start : {loc : ℕ} {k : d.AbilityMark} {n : d.TypeName} {tvars tys : List ℕ} (a b : ℕ) {c : ℕ} {w₀ : List ℕ} {u₀ : Used} {parts : List ℕ}
+    → Lay w₀ u₀ → Parts u₀.nodes tvars a → Parts u₀.nodes tys b → c ≡ min a b → (length tvars ≡ 8) × (length tys ≡ 8) → length parts ≡ 8
     → Joining loc k n tvars tys c w₀ u₀ w₀ u₀ parts 0
 joins_start a b {c} lay pa pb e sizes size =
     record {

@@ -63,7 +63,8 @@ module _ {B : Type 0} {K : List Struct → Type 0} {f : State → ℕ → Result
   pub walk_start : {parts : List ℕ} → Lay w₀ u₀ → length tys ≡ many → many ≤ 8 → length parts ≡ 8 → Walked K f h tys many w₀ u₀ w₀ u₀ parts 0
   walk_start l size few e = record { changed = refines_now l (λ ds k. refl); size = size; few = few; room = e; through = omega arith; below = λ j p. absurd (omega arith) }
 
-  module _ {w : List ℕ} {u : Used} {parts : List ℕ} {i : ℕ} (wk : Walked K f h tys many w₀ u₀ w u parts i) where
+  module _ {w : List ℕ} {u : Used} {parts : List ℕ} {i : ℕ}
+      (wk : Walked K f h tys many w₀ u₀ w u parts i) where
     -- the step of type i
     module _ {t : ℕ} {w' : List ℕ} {r : Outcome} {b : Found} (lt : i < many) (t_is : t ≡ get_or tys i 0) (a : When K w u w' r (λ s. f s t)) (b_is : b ≡ done r.out) where
       next : State × ℕ → Result B
@@ -112,7 +113,8 @@ module _ {B : Type 0} {K : List Struct → Type 0} {f : State → ℕ → Result
 
 -- ---- the same, where h answers a node
 
-module _ {K : List Struct → Type 0} {f : State → ℕ → Result (State × ℕ)} {h : List ℕ → State → Result (State × ℕ)} {tys : List ℕ} {many : ℕ} {w₀ : List ℕ} {u₀ : Used} {w : List ℕ} {u : Used} {parts : List ℕ} {i : ℕ} (wk : Walked K f h tys many w₀ u₀ w u parts i)
+module _ {K : List Struct → Type 0} {f : State → ℕ → Result (State × ℕ)} {h : List ℕ → State → Result (State × ℕ)} {tys : List ℕ} {many : ℕ} {w₀ : List ℕ} {u₀ : Used} {w : List ℕ} {u : Used} {parts : List ℕ} {i : ℕ}
+    (wk : Walked K f h tys many w₀ u₀ w u parts i)
     {w' : List ℕ} {r : Outcome} where
   pub walk_stop : {t : ℕ} {b : Found} → i < many → t ≡ get_or tys i 0 → When K w u w' r (λ s. f s t) → b ≡ done r.out → b ≡ Nothing → When K w₀ u₀ w' r (rest f h [] tys)
   walk_stop lt t_is a p q = record { changed = refines_as (λ x. x) (walk_stops wk lt t_is a p q (λ x. ok x)) (λ s. sym (bind_ok (outcome r.out s))); inside = a.inside }

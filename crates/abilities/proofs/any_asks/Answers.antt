@@ -10,11 +10,11 @@ constraint_at-c-requires c = (c.requires, c.loop-i-test.true)
 
 pub returns-then-asks_abilities : goal.returns-then-asks_abilities
 returns-then-asks_abilities c = let l = c.loop-i in
-    let loop-test = c.loop-i-test in
-    let constraint-at = c.constraint_at-c in
+    let loop_test = c.loop-i-test in
+    let constraint_at = c.constraint_at-c in
     let asks_abilities = c.asks_abilities in
     let if1 = c.if-asks_abilities in
-    searched_hit l.invariant loop-test.true _ constraint-at.ensures _ asks_abilities.ensures if1.true
+    searched_hit l.invariant loop_test.true _ constraint_at.ensures _ asks_abilities.ensures if1.true
 
 pub overflow_add-i : goal.overflow_add-i
 overflow_add-i c = omega (arith, c.requires.constraints)
@@ -24,11 +24,11 @@ loop-i-smaller c = omega arith
 
 pub loop-i-preserved : goal.loop-i-preserved
 loop-i-preserved c = let l = c.loop-i in
-    let loop-test = c.loop-i-test in
-    let constraint-at = c.constraint_at-c in
+    let loop_test = c.loop-i-test in
+    let constraint_at = c.constraint_at-c in
     let asks_abilities = c.asks_abilities in
     let if1 = c.if-asks_abilities in
-    searched_more l.invariant loop-test.true _ constraint-at.ensures _ asks_abilities.ensures if1.false
+    searched_more l.invariant loop_test.true _ constraint_at.ensures _ asks_abilities.ensures if1.false
 
 pub returns : goal.returns
 returns c = searched_all c.loop-i.invariant c.loop-i-test.false

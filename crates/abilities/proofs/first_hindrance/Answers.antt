@@ -14,10 +14,10 @@ hinder-h-requires c = let pre = c.requires in
 
 pub returns-then-h-gt0 : goal.returns-then-h-gt0
 returns-then-h-gt0 c = let loop = c.loop-i in
-    let loop-test = c.loop-i-test in
-    let constraint-at = c.constraint_at-c in
+    let loop_test = c.loop-i-test in
+    let constraint_at = c.constraint_at-c in
     let hinder = c.hinder-h in
-    passed_stop loop.invariant loop-test.true _ constraint-at.ensures _ _ hinder.ensures.1 c.if-h-gt0.true
+    passed_stop loop.invariant loop_test.true _ constraint_at.ensures _ _ hinder.ensures.1 c.if-h-gt0.true
 
 pub overflow_add-i : goal.overflow_add-i
 overflow_add-i c = omega (arith, c.requires.lay.0.constraints)
@@ -27,10 +27,10 @@ loop-i-smaller c = omega arith
 
 pub loop-i-preserved : goal.loop-i-preserved
 loop-i-preserved c = let loop = c.loop-i in
-    let loop-test = c.loop-i-test in
-    let constraint-at = c.constraint_at-c in
+    let loop_test = c.loop-i-test in
+    let constraint_at = c.constraint_at-c in
     let hinder = c.hinder-h in
-    passed_more loop.invariant loop-test.true _ constraint-at.ensures _ _ hinder.ensures.1 (omega arith) _
+    passed_more loop.invariant loop_test.true _ constraint_at.ensures _ _ hinder.ensures.1 (omega arith) _
     hinder.ensures.0
 
 pub returns : goal.returns

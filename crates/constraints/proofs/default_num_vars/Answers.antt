@@ -17,11 +17,11 @@ default_marked-a-requires c = c.loop-v.invariant.changed.lay
 pub returns-in_default : goal.returns-in_default
 returns-in_default c = let pre = c.requires in
     let loop = c.loop-v in
-    let loop-test = c.loop-v-test in
-    let saved-mark = c.saved_mark-mark in
+    let loop_test = c.loop-v-test in
+    let saved_mark = c.saved_mark-mark in
     let tvar = c.tvar-num_var in
     let default_marked = c.default_marked-a in
-    defaulting_stop _ _ _ _ _ loop.invariant loop-test.true _ saved-mark.result pre.1.0 saved-mark.ensures _
+    defaulting_stop _ _ _ _ _ loop.invariant loop_test.true _ saved_mark.result pre.1.0 saved_mark.ensures _
     tvar.ensures _ _ _ default_marked.ensures c.done_of.ensures c.in_default.is
 
 pub overflow_add-v : goal.overflow_add-v
@@ -33,11 +33,11 @@ loop-v-smaller c = omega arith
 pub loop-v-preserved : goal.loop-v-preserved
 loop-v-preserved c = let pre = c.requires in
     let loop = c.loop-v in
-    let loop-test = c.loop-v-test in
-    let saved-mark = c.saved_mark-mark in
+    let loop_test = c.loop-v-test in
+    let saved_mark = c.saved_mark-mark in
     let tvar = c.tvar-num_var in
     let default_marked = c.default_marked-a in
-    defaulting_more _ _ _ _ _ loop.invariant loop-test.true _ saved-mark.result pre.1.0 saved-mark.ensures _
+    defaulting_more _ _ _ _ _ loop.invariant loop_test.true _ saved_mark.result pre.1.0 saved_mark.ensures _
     tvar.ensures _ _ _ default_marked.ensures c.done_of.ensures _ c.in-Just.is
 
 pub returns : goal.returns

@@ -10,18 +10,18 @@ pub unfold_type-requires : goal.unfold_type-requires
 unfold_type-requires c = (c.requires.0, rw c.ask_of-a.ensures.ty_is c.requires.1)
 
 pub returns-in-Node : goal.returns-in-Node
-returns-in-Node c = let ask-of = c.ask_of-a in
+returns-in-Node c = let ask_of = c.ask_of-a in
     let if1 = c.if-code-eq0 in
     let unfold_type = c.unfold_type in
     let node_at = c.node_at-n in
     rw c.unless.ensures
-    (node_fails _ _ ask-of.result _ ask-of.ensures if1.false _ unfold_type.ensures _
+    (node_fails _ _ ask_of.result _ ask_of.ensures if1.false _ unfold_type.ensures _
     c.in-Node.is node_at.result node_at.ensures _ c.good.ensures)
 
 pub returns-in-Anything : goal.returns-in-Anything
-returns-in-Anything c = let ask-of = c.ask_of-a in
+returns-in-Anything c = let ask_of = c.ask_of-a in
     let if1 = c.if-code-eq0 in
     let unfold_type = c.unfold_type in
     rw c.unless-in-Anything.ensures
-    (anything_fails _ _ ask-of.result _ ask-of.ensures if1.false _ unfold_type.ensures _
+    (anything_fails _ _ ask_of.result _ ask_of.ensures if1.false _ unfold_type.ensures _
     c.in-Anything.is _ c.good-in-Anything.ensures)

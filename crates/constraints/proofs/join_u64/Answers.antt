@@ -8,29 +8,29 @@ pub returns-in_default : goal.returns-in_default
 returns-in_default c = u64_full _ _ _ _ _ _ _ c.push_apply-a.ensures c.done_of.ensures c.in_default.is
 
 pub returns-in_default-done_of : goal.returns-in_default-done_of
-returns-in_default-done_of c = let push-apply = c.push_apply-a in
-    let done-of = c.done_of in
-    let push-node = c.push_node-b in
-    tvar_full _ _ _ _ _ _ _ push-apply.ensures done-of.ensures _ c.in-Just.is _ _ _ push-node.ensures
+returns-in_default-done_of c = let push_apply = c.push_apply-a in
+    let done_of = c.done_of in
+    let push_node = c.push_node-b in
+    tvar_full _ _ _ _ _ _ _ push_apply.ensures done_of.ensures _ c.in-Just.is _ _ _ push_node.ensures
     c.done_of-2.ensures c.in_default-done_of.is
 
 pub join-requires : goal.join-requires
-join-requires c = let push-apply = c.push_apply-a in
-    let done-of = c.done_of in
-    let push-node = c.push_node-b in (
-      push-node.ensures.changed.lay,
+join-requires c = let push_apply = c.push_apply-a in
+    let done_of = c.done_of in
+    let push_node = c.push_node-b in (
+      push_node.ensures.changed.lay,
       (
-        still_in _ _ _ _ _ push-node.ensures.changed.grown
-            (node_in _ push-apply.result.out _ _ push-apply.ensures.inside done-of.ensures c.in-Just.is),
-        node_in _ push-node.result.out _ _ push-node.ensures.inside
+        still_in _ _ _ _ _ push_node.ensures.changed.grown
+            (node_in _ push_apply.result.out _ _ push_apply.ensures.inside done_of.ensures c.in-Just.is),
+        node_in _ push_node.result.out _ _ push_node.ensures.inside
             c.done_of-2.ensures c.in-Just-done_of.is,
       ),
     )
 
 pub returns : goal.returns
-returns c = let push-apply = c.push_apply-a in
-    let done-of = c.done_of in
-    let push-node = c.push_node-b in
-    let done-of2 = c.done_of-2 in
-    u64_joined _ _ _ _ _ _ _ push-apply.ensures done-of.ensures _ c.in-Just.is _ _ _ push-node.ensures
-    done-of2.ensures _ c.in-Just-done_of.is _ _ c.join.ensures
+returns c = let push_apply = c.push_apply-a in
+    let done_of = c.done_of in
+    let push_node = c.push_node-b in
+    let done_of2 = c.done_of-2 in
+    u64_joined _ _ _ _ _ _ _ push_apply.ensures done_of.ensures _ c.in-Just.is _ _ _ push_node.ensures
+    done_of2.ensures _ c.in-Just-done_of.is _ _ c.join.ensures

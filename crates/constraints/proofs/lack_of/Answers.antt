@@ -28,8 +28,8 @@ returns-in-Node c = let pre = c.requires in
     let unfolds = c.unfold_type.ensures in
     let goes = node_goes _ _ c.unfold_type.result _ unfolds _ to pre.0 c.node_at-n.result c.node_at-n.ensures in
     let missing = c.is_missing.ensures in
-    let is-missing = is_true _ (ap not c.if-not-is_missing.false) in
-    node_lacks _ _ c.unfold_type.result _ unfolds _ to _ _ _ _ _ missing is-missing _ goes c.shape_rule-r.result c.shape_rule-r.ensures.1 c.by_rule.result c.by_rule.ensures
+    let is_missing = is_true _ (ap not c.if-not-is_missing.false) in
+    node_lacks _ _ c.unfold_type.result _ unfolds _ to _ _ _ _ _ missing is_missing _ goes c.shape_rule-r.result c.shape_rule-r.ensures.1 c.by_rule.result c.by_rule.ensures
 
 pub returns-in-Anything : goal.returns-in-Anything
 returns-in-Anything c = let unfolds = c.unfold_type.ensures in

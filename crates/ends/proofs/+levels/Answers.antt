@@ -43,10 +43,10 @@ levels-n-requires t c = let f = goes_part c.loop-i.invariant.goes c.loop-i.invar
 
 pub returns-then-n-eq0 : goal.returns-then-n-eq0
 returns-then-n-eq0 t c = let loop = c.loop-i in
-    let loop-test = c.loop-i-test in
+    let loop_test = c.loop-i-test in
     let part_at = c.part_at-p in
     let levels = c.levels-n in (
-      levels_out loop.invariant _ loop-test.true part_at.ensures _ levels.ensures.0 c.if-n-eq0.true,
+      levels_out loop.invariant _ loop_test.true part_at.ensures _ levels.ensures.0 c.if-n-eq0.true,
       levels.ensures.1,
     )
 
@@ -58,10 +58,10 @@ loop-i-smaller t c = omega arith
 
 pub loop-i-preserved : goal.loop-i-preserved
 loop-i-preserved t c = let loop = c.loop-i in
-    let loop-test = c.loop-i-test in
+    let loop_test = c.loop-i-test in
     let part_at = c.part_at-p in
     let levels = c.levels-n in
-    read_more loop.invariant _ loop-test.true part_at.ensures _ levels.ensures.0 c.if-n-eq0.false _
+    read_more loop.invariant _ loop_test.true part_at.ensures _ levels.ensures.0 c.if-n-eq0.false _
     c.higher-high.ensures _ levels.ensures.1
 
 pub returns-then-u-high : goal.returns-then-u-high
@@ -85,8 +85,8 @@ pub returns : goal.returns
 returns t c = let pre = c.requires in
     let wide = c.wide-at in
     let loop = c.loop-i in
-    let loop-test = c.loop-i-test in
-    let e = ends_here loop.invariant loop-test.false c.if-u-high.false in (
-      levels_here loop.invariant loop-test.false c.if-u-high.false,
+    let loop_test = c.loop-i-test in
+    let e = ends_here loop.invariant loop_test.false c.if-u-high.false in (
+      levels_here loop.invariant loop_test.false c.if-u-high.false,
       rw wide.ensures (rw c.narrow.ensures (measured_more _ _ _ _ _ loop.invariant.measured (omega (arith, pre.lay.1.0, pre.lay.0.nodes)) e)),
     )

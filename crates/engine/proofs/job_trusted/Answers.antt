@@ -11,6 +11,6 @@ lines_trusted-r-requires c = stands_lent _ _ c.requires _ c.used_of-u.ensures
 pub returns : goal.returns
 returns c = let pre = c.requires in
     let used_of = c.used_of-u in
-    let lines-trusted = c.lines_trusted-r in
-    job_gives _ _ (pre) _ used_of.ensures _ _ _ _ _ _ _ _ lines-trusted.ensures _
-    c.write_used.ensures lines-trusted.auto.log
+    let lines_trusted = c.lines_trusted-r in
+    job_gives _ _ (pre) _ used_of.ensures _ _ _ _ _ _ _ _ lines_trusted.ensures _
+    c.write_used.ensures lines_trusted.auto.log

@@ -27,23 +27,23 @@ slice_bounds-step_trusted-end-in-loop-at c = sym c.loop-at.invariant.1.0
 
 pub step_trusted-r-requires : goal.step_trusted-r-requires
 step_trusted-r-requires c = let args = c.args in
-    let shared-slice-known = c.shared_slice_known-1 in
-    let loop = c.loop-at in record { stands = (loop.invariant.1.1.stands, (bytes_of args.stream.now shared-slice-known.given, (loop.invariant.1.1.within, (omega (arith, loop.invariant.0.0), omega (arith, loop.invariant.1.0))))); saved_partly = loop.invariant.0.1 }
+    let shared_slice_known = c.shared_slice_known-1 in
+    let loop = c.loop-at in record { stands = (loop.invariant.1.1.stands, (bytes_of args.stream.now shared_slice_known.given, (loop.invariant.1.1.within, (omega (arith, loop.invariant.0.0), omega (arith, loop.invariant.1.0))))); saved_partly = loop.invariant.0.1 }
 
 pub slice_bounds-write_line-end : goal.slice_bounds-write_line-end
 slice_bounds-write_line-end c = sym (c.step_trusted-r.auto.buf ∙ c.loop-at.invariant.1.0)
 
 pub write_line-n-requires : goal.write_line-n-requires
 write_line-n-requires c = let args = c.args in
-    let shared-slice-known = c.shared_slice_known-1 in
+    let shared_slice_known = c.shared_slice_known-1 in
     let loop = c.loop-at in
-    let loop-test = c.loop-at-test in
+    let loop_test = c.loop-at-test in
     let takes_on = c.takes_on in
     let if1 = c.if-not-takes_on in
-    let step-trusted = c.step_trusted-r in (
-      omega (arith, step-trusted.ensures.steps.few, step-trusted.auto.buf, loop.invariant.1.0),
-      line_room loop.invariant.1.1 (bytes_of args.stream.now shared-slice-known.given) loop-test.true
-          (taken_on loop.invariant.1.1 takes_on.ensures (if1.false)) step-trusted.ensures.steps,
+    let step_trusted = c.step_trusted-r in (
+      omega (arith, step_trusted.ensures.steps.few, step_trusted.auto.buf, loop.invariant.1.0),
+      line_room loop.invariant.1.1 (bytes_of args.stream.now shared_slice_known.given) loop_test.true
+          (taken_on loop.invariant.1.1 takes_on.ensures (if1.false)) step_trusted.ensures.steps,
     )
 
 pub overflow_add-i : goal.overflow_add-i
@@ -57,49 +57,49 @@ overflow_add-i c = let loop = c.loop-at in
 
 pub returns-then-ends_job : goal.returns-then-ends_job
 returns-then-ends_job c = let args = c.args in
-    let shared-slice-known = c.shared_slice_known-1 in
+    let shared_slice_known = c.shared_slice_known-1 in
     let loop = c.loop-at in
-    let loop-test = c.loop-at-test in
+    let loop_test = c.loop-at-test in
     let takes_on = c.takes_on in
     let if1 = c.if-not-takes_on in
-    let step-trusted = c.step_trusted-r in
-    let write-line = c.write_line-n in
+    let step_trusted = c.step_trusted-r in
+    let write_line = c.write_line-n in
     rw c.lines_at-then-ends_job.ensures
-    (going_last loop.invariant.1.1 (bytes_of args.stream.now shared-slice-known.given) loop-test.true
-    (taken_on loop.invariant.1.1 takes_on.ensures (if1.false)) step-trusted.ensures.steps
-    (sym c.ends_job.ensures ∙ c.if-ends_job.true) write-line.ensures)
+    (going_last loop.invariant.1.1 (bytes_of args.stream.now shared_slice_known.given) loop_test.true
+    (taken_on loop.invariant.1.1 takes_on.ensures (if1.false)) step_trusted.ensures.steps
+    (sym c.ends_job.ensures ∙ c.if-ends_job.true) write_line.ensures)
 
 pub loop-at-smaller : goal.loop-at-smaller
 loop-at-smaller c = let args = c.args in
-    let shared-slice-known = c.shared_slice_known-1 in
+    let shared_slice_known = c.shared_slice_known-1 in
     let loop = c.loop-at in
-    let loop-test = c.loop-at-test in
+    let loop_test = c.loop-at-test in
     let takes_on = c.takes_on in
     let if1 = c.if-not-takes_on in
-    let step-trusted = c.step_trusted-r in
+    let step_trusted = c.step_trusted-r in
     omega (
       arith,
-      going_less loop.invariant.1.1 (bytes_of args.stream.now shared-slice-known.given) loop-test.true
-          (taken_on loop.invariant.1.1 takes_on.ensures (if1.false)) step-trusted.ensures.steps
+      going_less loop.invariant.1.1 (bytes_of args.stream.now shared_slice_known.given) loop_test.true
+          (taken_on loop.invariant.1.1 takes_on.ensures (if1.false)) step_trusted.ensures.steps
           (sym c.ends_job.ensures ∙ c.if-ends_job.false),
-      step-trusted.ensures.steps.within,
+      step_trusted.ensures.steps.within,
     )
 
 pub loop-at-preserved : goal.loop-at-preserved
 loop-at-preserved c = let args = c.args in
-    let shared-slice-known = c.shared_slice_known-1 in
+    let shared_slice_known = c.shared_slice_known-1 in
     let loop = c.loop-at in
-    let loop-test = c.loop-at-test in
+    let loop_test = c.loop-at-test in
     let takes_on = c.takes_on in
     let if1 = c.if-not-takes_on in
-    let step-trusted = c.step_trusted-r in
-    let write-line = c.write_line-n in (
-      (step-trusted.auto.saved ∙ loop.invariant.0.0, step-trusted.ensures.saved_next),
+    let step_trusted = c.step_trusted-r in
+    let write_line = c.write_line-n in (
+      (step_trusted.auto.saved ∙ loop.invariant.0.0, step_trusted.ensures.saved_next),
       (
-        step-trusted.auto.buf ∙ loop.invariant.1.0,
-        going_on loop.invariant.1.1 (bytes_of args.stream.now shared-slice-known.given) loop-test.true
-            (taken_on loop.invariant.1.1 takes_on.ensures (if1.false)) step-trusted.ensures.steps
-            (sym c.ends_job.ensures ∙ c.if-ends_job.false) write-line.ensures,
+        step_trusted.auto.buf ∙ loop.invariant.1.0,
+        going_on loop.invariant.1.1 (bytes_of args.stream.now shared_slice_known.given) loop_test.true
+            (taken_on loop.invariant.1.1 takes_on.ensures (if1.false)) step_trusted.ensures.steps
+            (sym c.ends_job.ensures ∙ c.if-ends_job.false) write_line.ensures,
       ),
     )
 

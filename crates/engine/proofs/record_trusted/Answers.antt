@@ -10,11 +10,11 @@ used_of-u-requires c = lent_size _ _ c.requires.0
 pub step_trusted-r-requires : goal.step_trusted-r-requires
 step_trusted-r-requires c = let args = c.args in
     let pre = c.requires in
-    let shared-slice-known = c.shared_slice_known-1 in record { stands = (stands_lent _ _ pre.0 _ c.used_of-u.ensures, (bytes_of args.«record».now shared-slice-known.given, (omega arith, (omega arith, pre.1)))); saved_partly = partly_none _ _ _ }
+    let shared_slice_known = c.shared_slice_known-1 in record { stands = (stands_lent _ _ pre.0 _ c.used_of-u.ensures, (bytes_of args.«record».now shared_slice_known.given, (omega arith, (omega arith, pre.1)))); saved_partly = partly_none _ _ _ }
 
 pub returns : goal.returns
 returns c = let pre = c.requires in
     let used_of = c.used_of-u in
-    let step-trusted = c.step_trusted-r in
-    record_gives _ _ pre.0 _ used_of.ensures _ _ pre.1 _ _ _ _ step-trusted.ensures.steps _
-    c.write_used.ensures step-trusted.auto.buf
+    let step_trusted = c.step_trusted-r in
+    record_gives _ _ pre.0 _ used_of.ensures _ _ pre.1 _ _ _ _ step_trusted.ensures.steps _
+    c.write_used.ensures step_trusted.auto.buf

@@ -11,22 +11,22 @@ pub used_of-u-requires : goal.used_of-u-requires
 used_of-u-requires c = lent_size _ _ (sym c.sound_state.ensures ∙ c.if-not-sound_state.false)
 
 pub rest_trusted-requires : goal.rest_trusted-requires
-rest_trusted-requires c = let sound-state = c.sound_state in
+rest_trusted-requires c = let sound_state = c.sound_state in
     let if1 = c.if-not-sound_state in
     let used_of = c.used_of-u in (
-      stands_lent _ _ (sym sound-state.ensures ∙ if1.false) _ used_of.ensures,
+      stands_lent _ _ (sym sound_state.ensures ∙ if1.false) _ used_of.ensures,
       (used_of.ensures, omega arith),
     )
 
 pub returns : goal.returns
-returns c = let sound-state = c.sound_state in
+returns c = let sound_state = c.sound_state in
     let if1 = c.if-not-sound_state in
     let used_of = c.used_of-u in
-    let rest-trusted = c.rest_trusted in (
-      rest-trusted.ensures.0,
+    let rest_trusted = c.rest_trusted in (
+      rest_trusted.ensures.0,
       (
-        rest-trusted.ensures.1.0,
-        sound_rest _ _ (sym sound-state.ensures ∙ if1.false) _ used_of.ensures _ _
-            rest-trusted.ensures.1.1,
+        rest_trusted.ensures.1.0,
+        sound_rest _ _ (sym sound_state.ensures ∙ if1.false) _ used_of.ensures _ _
+            rest_trusted.ensures.1.1,
       ),
     )

@@ -38,7 +38,7 @@ write_head-requires c = let is = anything_is (seen c.args.w.now c.args.u []) c.a
 pub write_lacks-requires : goal.write_lacks-requires
 write_lacks-requires c = let pre = c.requires in
     let told = c.in-Lacks.is in
-    let in-it = lacks_below _ _ pre.lay.1.0 _ _ _ _ told in record { lay = (pre.lay.0, (in-it.0, (in-it.1, pre.lay.1.1))); fits = λ ds. lacks_fit (seen c.args.w.now c.args.u ds) c.args.f _ _ _ _ told _ _ (pre.fits ds) }
+    let in_it = lacks_below _ _ pre.lay.1.0 _ _ _ _ told in record { lay = (pre.lay.0, (in_it.0, (in_it.1, pre.lay.1.1))); fits = λ ds. lacks_fit (seen c.args.w.now c.args.u ds) c.args.f _ _ _ _ told _ _ (pre.fits ds) }
 
 pub returns-in-Fine : goal.returns-in-Fine
 returns-in-Fine c = λ ds. fine_wrote _ _ _ _ c.in-Fine.is (c.requires.fits ds)

@@ -13,9 +13,9 @@ read_number-r-requires c = (c.requires.0, c.loop-i.invariant.within)
 pub returns-in_default : goal.returns-in_default
 returns-in_default c = let pre = c.requires in
     let loop = c.loop-i in
-    let loop-test = c.loop-i-test in
+    let loop_test = c.loop-i-test in
     λ w known l. rw c.plain.ensures
-    (params_stop _ _ _ _ _ _ _ loop.invariant w _ known _ l loop-test.true pre.1.0
+    (params_stop _ _ _ _ _ _ _ loop.invariant w _ known _ l loop_test.true pre.1.0
     (rw c.in_default.is at (c.byte_to-p.ensures _ _ _ _
     (c.read_number-r.ensures _ _ byte_wide)).is))
 

@@ -13,10 +13,10 @@ use Rattle.heads.proofs.struct_fields.Goals as goal
 pub returns-in-Known : goal.returns-in-Known
 unfolding read_args arity struct_tparams mark_fits is_numeric ◌>>=◌ go_on
 returns-in-Known c = let pre = c.requires in
-    let read-numbers = c.read_numbers-r in
+    let read_numbers = c.read_numbers-r in
     let read_mark = c.read_mark-m in
     λ s de.
-    let r = read-numbers.ensures _ _ _ _ byte_wide u16_wide in
+    let r = read_numbers.ensures _ _ _ _ byte_wide u16_wide in
     let m = read_mark.ensures _ _ _ _ r.first in
     let n = c.name_below-n.ensures _ _ _ _ r.second in
     record {

@@ -32,12 +32,12 @@ instantiate_apply-instantiate_down-a-requires t c = let pre = c.requires in
 pub instantiate_apply-returns-in_default-done_of : goal.instantiate_apply-returns-in_default-done_of
 instantiate_apply-returns-in_default-done_of t c = let pre = c.requires in
     let make_tparams = c.make_tparams-b in
-    let done-of = c.done_of in
+    let done_of = c.done_of in
     let loop = c.loop-i in
     let if1 = c.loop-i-test in
     let arg_at = c.arg_at-t in
     let instantiate_down = c.instantiate_down-a in
-    apply_then _ _ _ _ _ _ _ _ _ pre.1.placed _ make_tparams.result _ make_tparams.ensures done-of.ensures
+    apply_then _ _ _ _ _ _ _ _ _ pre.1.placed _ make_tparams.result _ make_tparams.ensures done_of.ensures
     _ _ _ c.in-Just.is
     (through_stop loop.invariant if1.true arg_at.ensures
     (after_among (known_kept _ _ _ _ _ loop.invariant.walked.changed.structs) instantiate_down.ensures) c.done_of-in-loop-i.ensures c.in_default-done_of.is)
@@ -47,16 +47,16 @@ instantiate_apply-loop-i-preserved t c = let loop = c.loop-i in
     let if1 = c.loop-i-test in
     let arg_at = c.arg_at-t in
     let instantiate_down = c.instantiate_down-a in
-    let done-of2 = c.done_of-in-loop-i in
+    let done_of2 = c.done_of-in-loop-i in
     through_more loop.invariant if1.true arg_at.ensures
-    (after_among (known_kept _ _ _ _ _ loop.invariant.walked.changed.structs) instantiate_down.ensures) done-of2.ensures c.in-Just-done_of.is c.wide-at.ensures
+    (after_among (known_kept _ _ _ _ _ loop.invariant.walked.changed.structs) instantiate_down.ensures) done_of2.ensures c.in-Just-done_of.is c.wide-at.ensures
 
 pub instantiate_apply-join_args-requires : goal.instantiate_apply-join_args-requires
 instantiate_apply-join_args-requires t c = let make_tparams = c.make_tparams-b in
-    let done-of = c.done_of in (
+    let done_of = c.done_of in (
       c.loop-i.invariant.walked.changed.lay,
       (
-        parts_grow _ _ _ _ (nodes_grow _ _ _ _ c.loop-i.invariant.walked.changed.grown) (make_tparams.ensures.inside.below _ (sym done-of.ensures ∙ c.in-Just.is)),
+        parts_grow _ _ _ _ (nodes_grow _ _ _ _ c.loop-i.invariant.walked.changed.grown) (make_tparams.ensures.inside.below _ (sym done_of.ensures ∙ c.in-Just.is)),
         through_parts c.loop-i.invariant c.loop-i-test.false,
       ),
     )
@@ -64,9 +64,9 @@ instantiate_apply-join_args-requires t c = let make_tparams = c.make_tparams-b i
 pub instantiate_apply-returns : goal.instantiate_apply-returns
 instantiate_apply-returns t c = let pre = c.requires in
     let make_tparams = c.make_tparams-b in
-    let done-of = c.done_of in
+    let done_of = c.done_of in
     let loop = c.loop-i in
-    apply_then _ _ _ _ _ _ _ _ _ pre.1.placed _ make_tparams.result _ make_tparams.ensures done-of.ensures
+    apply_then _ _ _ _ _ _ _ _ _ pre.1.placed _ make_tparams.result _ make_tparams.ensures done_of.ensures
     _ _ _ c.in-Just.is (through_end loop.invariant c.loop-i-test.false (after_any c.join_args.ensures))
 
 pub instantiate_down-returns-then-left-eq0 : goal.instantiate_down-returns-then-left-eq0
@@ -77,23 +77,23 @@ unfolding with_args
 instantiate_down-returns-in_default t c = let pre = c.requires in
     let node_at = c.node_at-node in
     let if1 = c.if-left-eq0 in
-    let push-constraint = c.push_constraint-b in
+    let push_constraint = c.push_constraint-b in
     level_by levels _ _ _ _ pre.0 node_at.result if1.false node_at.ensures c.in-Ref.is (λ ds. ref_is _ _ _ _ _ _)
-    (after_any (constraint_stop _ _ _ _ _ _ _ push-constraint.ensures c.done_of.ensures c.in_default.is))
+    (after_any (constraint_stop _ _ _ _ _ _ _ push_constraint.ensures c.done_of.ensures c.in_default.is))
 
 pub instantiate_down-instantiate_down-a-requires : goal.instantiate_down-instantiate_down-a-requires
 instantiate_down-instantiate_down-a-requires t c = let pre = c.requires in
     let if1 = c.if-left-eq0 in
-    let push-constraint = c.push_constraint-b in
+    let push_constraint = c.push_constraint-b in
     let node_at = c.node_at-node in (
       omega (arith, c.decreases, if1.false),
       (
-        push-constraint.ensures.lay,
+        push_constraint.ensures.lay,
         omega (
           arith,
           ref_below _ _ _ _ pre.0 pre.1 node_at.ensures _ _ c.in-Ref.is,
           pre.1,
-          nodes_grow _ _ _ _ push-constraint.ensures.grown,
+          nodes_grow _ _ _ _ push_constraint.ensures.grown,
         ),
       ),
     )
@@ -103,11 +103,11 @@ unfolding with_args
 instantiate_down-returns-in_default-done_of t c = let pre = c.requires in
     let node_at = c.node_at-node in
     let if1 = c.if-left-eq0 in
-    let push-constraint = c.push_constraint-b in
-    let done-of = c.done_of in
+    let push_constraint = c.push_constraint-b in
+    let done_of = c.done_of in
     let instantiate_down = c.instantiate_down-a in
     level_by levels _ _ _ _ pre.0 node_at.result if1.false node_at.ensures c.in-Ref.is (λ ds. ref_is _ _ _ _ _ _)
-    (constraint_on _ _ push-constraint.ensures done-of.ensures c.in-Just.is
+    (constraint_on _ _ push_constraint.ensures done_of.ensures c.in-Just.is
     (ref_stop _ _ instantiate_down.ensures c.done_of-in-Ref.ensures c.in_default-done_of.is))
 
 pub instantiate_down-push_node-requires : goal.instantiate_down-push_node-requires
@@ -146,13 +146,13 @@ unfolding with_args
 instantiate_down-returns-in-Just-done_of t c = let pre = c.requires in
     let node_at = c.node_at-node in
     let if1 = c.if-left-eq0 in
-    let push-constraint = c.push_constraint-b in
-    let done-of = c.done_of in
+    let push_constraint = c.push_constraint-b in
+    let done_of = c.done_of in
     let instantiate_down = c.instantiate_down-a in
-    let done-of2 = c.done_of-in-Ref in
+    let done_of2 = c.done_of-in-Ref in
     level_by levels _ _ _ _ pre.0 node_at.result if1.false node_at.ensures c.in-Ref.is (λ ds. ref_is _ _ _ _ _ _)
-    (constraint_on _ _ push-constraint.ensures done-of.ensures c.in-Just.is
-    (ref_then _ _ instantiate_down.ensures done-of2.ensures c.in-Just-done_of.is c.push_node.ensures))
+    (constraint_on _ _ push_constraint.ensures done_of.ensures c.in-Just.is
+    (ref_then _ _ instantiate_down.ensures done_of2.ensures c.in-Just-done_of.is c.push_node.ensures))
 
 pub instantiate_down-returns-in-Apply : goal.instantiate_down-returns-in-Apply
 unfolding instantiate_value with_args seen with_structs args_at

@@ -18,17 +18,17 @@ returns-in_default c = let loop = c.loop-i in
     let pre = c.requires in
     let fewer = c.fewer-c in
     let wide = c.wide-at in
-    let loop-test = c.loop-i-test in
+    let loop_test = c.loop-i-test in
     let join = c.join-a in
     all_joined loop.invariant pre.1.0 pre.1.1 fewer.ensures
-    (joins_stop loop.invariant wide.ensures loop-test.true join.ensures c.done_of.ensures c.in_default.is)
+    (joins_stop loop.invariant wide.ensures loop_test.true join.ensures c.done_of.ensures c.in_default.is)
 
 pub loop-i-preserved : goal.loop-i-preserved
 loop-i-preserved c = let loop = c.loop-i in
     let wide = c.wide-at in
-    let loop-test = c.loop-i-test in
+    let loop_test = c.loop-i-test in
     let join = c.join-a in
-    joins_more loop.invariant wide.ensures loop-test.true join.ensures c.done_of.ensures c.in-Just.is
+    joins_more loop.invariant wide.ensures loop_test.true join.ensures c.done_of.ensures c.in-Just.is
 
 pub push_apply-requires : goal.push_apply-requires
 push_apply-requires c = (c.loop-i.invariant.walked.changed.lay, walk_parts c.loop-i.invariant.walked c.loop-i-test.false)

@@ -12,34 +12,34 @@ returns-in_default c = let node_at = c.node_at-node in
 pub returns-in_default-done_of : goal.returns-in_default-done_of
 returns-in_default-done_of c = let node_at = c.node_at-node in
     let make_tvar = c.make_tvar-a in
-    let done-of = c.done_of in
-    let push-constraint = c.push_constraint-b in
+    let done_of = c.done_of in
+    let push_constraint = c.push_constraint-b in
     tparam_stop2 _ _ _ _ _ _ _ (λ ds. loc_is _ _ node_at.result (node_at.ensures ds)) _ _ _ make_tvar.ensures
-    done-of.ensures _ c.in-Just.is _ _ _ push-constraint.ensures c.done_of-2.ensures
+    done_of.ensures _ c.in-Just.is _ _ _ push_constraint.ensures c.done_of-2.ensures
     c.in_default-done_of.is
 
 pub returns-in_default-done_of-2 : goal.returns-in_default-done_of-2
 returns-in_default-done_of-2 c = let node_at = c.node_at-node in
     let make_tvar = c.make_tvar-a in
-    let done-of = c.done_of in
-    let push-constraint = c.push_constraint-b in
-    let done-of2 = c.done_of-2 in
+    let done_of = c.done_of in
+    let push_constraint = c.push_constraint-b in
+    let done_of2 = c.done_of-2 in
     let tvar_constraint = c.tvar_constraint in
-    let push-constraint2 = c.push_constraint-c in
+    let push_constraint2 = c.push_constraint-c in
     tparam_stop3 _ _ _ _ _ _ _ (λ ds. loc_is _ _ node_at.result (node_at.ensures ds)) _ _ _ make_tvar.ensures
-    done-of.ensures _ c.in-Just.is _ _ _ push-constraint.ensures done-of2.ensures _
-    c.in-Just-done_of.is tvar_constraint.result tvar_constraint.ensures _ _ _ push-constraint2.ensures
+    done_of.ensures _ c.in-Just.is _ _ _ push_constraint.ensures done_of2.ensures _
+    c.in-Just-done_of.is tvar_constraint.result tvar_constraint.ensures _ _ _ push_constraint2.ensures
     c.done_of-3.ensures c.in_default-done_of-2.is
 
 pub returns : goal.returns
 returns c = let node_at = c.node_at-node in
     let make_tvar = c.make_tvar-a in
-    let done-of = c.done_of in
-    let push-constraint = c.push_constraint-b in
-    let done-of2 = c.done_of-2 in
+    let done_of = c.done_of in
+    let push_constraint = c.push_constraint-b in
+    let done_of2 = c.done_of-2 in
     let tvar_constraint = c.tvar_constraint in
-    let push-constraint2 = c.push_constraint-c in
+    let push_constraint2 = c.push_constraint-c in
     tparam_made _ _ _ _ _ _ _ (λ ds. loc_is _ _ node_at.result (node_at.ensures ds)) _ _ _ make_tvar.ensures
-    done-of.ensures _ c.in-Just.is _ _ _ push-constraint.ensures done-of2.ensures _
-    c.in-Just-done_of.is tvar_constraint.result tvar_constraint.ensures _ _ _ push-constraint2.ensures
+    done_of.ensures _ c.in-Just.is _ _ _ push_constraint.ensures done_of2.ensures _
+    c.in-Just-done_of.is tvar_constraint.result tvar_constraint.ensures _ _ _ push_constraint2.ensures
     c.done_of-3.ensures _ _ c.in-Just-done_of-2.is c.stay.ensures

@@ -12,19 +12,19 @@ make_tparam-a-requires c = let loop = c.loop-i in
 
 pub returns-in_default : goal.returns-in_default
 returns-in_default c = let loop = c.loop-i in
-    let loop-test = c.loop-i-test in
+    let loop_test = c.loop-i-test in
     let arg_at = c.arg_at-t in
     let ability_at = c.ability_at-abilities in
     let make_tparam = c.make_tparam-a in
-    made_stop loop.invariant loop-test.true arg_at.ensures _ ability_at.ensures make_tparam.ensures c.done_of.ensures c.in_default.is
+    made_stop loop.invariant loop_test.true arg_at.ensures _ ability_at.ensures make_tparam.ensures c.done_of.ensures c.in_default.is
 
 pub loop-i-preserved : goal.loop-i-preserved
 loop-i-preserved c = let loop = c.loop-i in
-    let loop-test = c.loop-i-test in
+    let loop_test = c.loop-i-test in
     let arg_at = c.arg_at-t in
     let ability_at = c.ability_at-abilities in
     let make_tparam = c.make_tparam-a in
-    made_more loop.invariant loop-test.true arg_at.ensures _ ability_at.ensures make_tparam.ensures c.done_of.ensures c.in-Just.is c.wide-at.ensures
+    made_more loop.invariant loop_test.true arg_at.ensures _ ability_at.ensures make_tparam.ensures c.done_of.ensures c.in-Just.is c.wide-at.ensures
 
 pub returns : goal.returns
 returns c = made_end c.loop-i.invariant c.loop-i-test.false

@@ -7,11 +7,11 @@ pub returns-in_default : goal.returns-in_default
 returns-in_default c = tvar_stop _ _ _ _ _ _ c.take_var-a.ensures.0 c.done_of.ensures c.in_default.is
 
 pub tvar-id-requires : goal.tvar-id-requires
-tvar-id-requires c = let take-var = c.take_var-a in
-    var_small take-var.result.out take-var.ensures.0.lay take-var.ensures.1 c.done_of.ensures c.in-Just.is
+tvar-id-requires c = let take_var = c.take_var-a in
+    var_small take_var.result.out take_var.ensures.0.lay take_var.ensures.1 c.done_of.ensures c.in-Just.is
 
 pub returns : goal.returns
-returns c = let take-var = c.take_var-a in
-    let done-of = c.done_of in
-    tvar_node _ _ _ _ _ _ _ _ _ _ take-var.ensures.0 done-of.ensures c.in-Just.is
+returns c = let take_var = c.take_var-a in
+    let done_of = c.done_of in
+    tvar_node _ _ _ _ _ _ _ _ _ _ take_var.ensures.0 done_of.ensures c.in-Just.is
     c.tvar-id.ensures c.push_node.ensures

@@ -65,8 +65,8 @@ join_impl-meet_tvar-requires-in-VarRhs t c = let pre = c.requires in
 pub join_impl-join_tvar-requires-in-Merge-meet_tvar : goal.join_impl-join_tvar-requires-in-Merge-meet_tvar
 join_impl-join_tvar-requires-in-Merge-meet_tvar t c = let pre = c.requires in
     let if1 = c.if-left-eq0 in
-    let meet-tvar2 = c.meet_tvar-in-VarRhs in
-    (omega (arith, c.decreases, if1.false), merge_lay meet-tvar2.ensures c.in-Merge-meet_tvar.is)
+    let meet_tvar2 = c.meet_tvar-in-VarRhs in
+    (omega (arith, c.decreases, if1.false), merge_lay meet_tvar2.ensures c.in-Merge-meet_tvar.is)
 
 pub join_impl-settled-requires-in-SubtypeError : goal.join_impl-settled-requires-in-SubtypeError
 join_impl-settled-requires-in-SubtypeError t c = tt
@@ -87,9 +87,9 @@ pub join_impl-returns-in-Rhs : goal.join_impl-returns-in-Rhs
 join_impl-returns-in-Rhs t c = settled_after c.settled-in-Rhs.ensures (arm_right (choice _ _ _ _ _ _ c.node_at-l.result c.node_at-r.result c.arm_of.result c.requires c.if-left-eq0.false c.node_at-l.ensures c.node_at-r.ensures c.arm_of.ensures) c.in-Rhs.is)
 
 pub join_impl-returns-in-Refs : goal.join_impl-returns-in-Refs
-join_impl-returns-in-Refs t c = let pick-loc = c.pick_loc-loc in
+join_impl-returns-in-Refs t c = let pick_loc = c.pick_loc-loc in
     let join_impl = c.join_impl-a in
-    arm_refs (choice _ _ _ _ _ _ c.node_at-l.result c.node_at-r.result c.arm_of.result c.requires c.if-left-eq0.false c.node_at-l.ensures c.node_at-r.ensures c.arm_of.ensures) c.in-Refs.is pick-loc.ensures join_impl.ensures
+    arm_refs (choice _ _ _ _ _ _ c.node_at-l.result c.node_at-r.result c.arm_of.result c.requires c.if-left-eq0.false c.node_at-l.ensures c.node_at-r.ensures c.arm_of.ensures) c.in-Refs.is pick_loc.ensures join_impl.ensures
     c.push_ref.ensures
 
 pub join_impl-returns-in-Applies : goal.join_impl-returns-in-Applies
@@ -108,12 +108,12 @@ join_impl-returns-in-Merge t c = let meet_tvar = c.meet_tvar in
     c.join_tvar-in-Merge.ensures
 
 pub join_impl-returns-in-Is-meet_tvar : goal.join_impl-returns-in-Is-meet_tvar
-join_impl-returns-in-Is-meet_tvar t c = let meet-tvar2 = c.meet_tvar-in-VarRhs in
-    right_is (choice _ _ _ _ _ _ c.node_at-l.result c.node_at-r.result c.arm_of.result c.requires c.if-left-eq0.false c.node_at-l.ensures c.node_at-r.ensures c.arm_of.ensures) c.in-VarRhs.is meet-tvar2.ensures c.in-Is-meet_tvar.is
+join_impl-returns-in-Is-meet_tvar t c = let meet_tvar2 = c.meet_tvar-in-VarRhs in
+    right_is (choice _ _ _ _ _ _ c.node_at-l.result c.node_at-r.result c.arm_of.result c.requires c.if-left-eq0.false c.node_at-l.ensures c.node_at-r.ensures c.arm_of.ensures) c.in-VarRhs.is meet_tvar2.ensures c.in-Is-meet_tvar.is
 
 pub join_impl-returns-in-Merge-meet_tvar : goal.join_impl-returns-in-Merge-meet_tvar
-join_impl-returns-in-Merge-meet_tvar t c = let meet-tvar2 = c.meet_tvar-in-VarRhs in
-    right_merge (choice _ _ _ _ _ _ c.node_at-l.result c.node_at-r.result c.arm_of.result c.requires c.if-left-eq0.false c.node_at-l.ensures c.node_at-r.ensures c.arm_of.ensures) c.in-VarRhs.is meet-tvar2.ensures c.in-Merge-meet_tvar.is
+join_impl-returns-in-Merge-meet_tvar t c = let meet_tvar2 = c.meet_tvar-in-VarRhs in
+    right_merge (choice _ _ _ _ _ _ c.node_at-l.result c.node_at-r.result c.arm_of.result c.requires c.if-left-eq0.false c.node_at-l.ensures c.node_at-r.ensures c.arm_of.ensures) c.in-VarRhs.is meet_tvar2.ensures c.in-Merge-meet_tvar.is
     c.join_tvar-in-Merge-meet_tvar.ensures
 
 pub join_impl-returns-in-SubtypeError : goal.join_impl-returns-in-SubtypeError
@@ -142,11 +142,11 @@ join_impl_types-arg_at-ty2-requires t c = c.loop-i.invariant.walked.changed.lay
 
 pub join_impl_types-join_impl-s-requires : goal.join_impl_types-join_impl-s-requires
 join_impl_types-join_impl-s-requires t c = let loop = c.loop-i in
-    let loop-test = c.loop-i-test in (
+    let loop_test = c.loop-i-test in (
       omega arith,
       (
         loop.invariant.walked.changed.lay,
-        gather_in loop.invariant loop-test.true
+        gather_in loop.invariant loop_test.true
             c.arg_at-ty1.ensures c.arg_at-ty2.ensures,
       ),
     )
@@ -156,17 +156,17 @@ join_impl_types-done_of-requires t c = tt
 
 pub join_impl_types-returns-in_default : goal.join_impl_types-returns-in_default
 join_impl_types-returns-in_default t c = let loop = c.loop-i in
-    let loop-test = c.loop-i-test in
+    let loop_test = c.loop-i-test in
     let arg_at = c.arg_at-ty1 in
-    let arg-at2 = c.arg_at-ty2 in
+    let arg_at2 = c.arg_at-ty2 in
     let join_impl = c.join_impl-s in
-    gather_stop loop.invariant loop-test.true arg_at.ensures arg-at2.ensures
+    gather_stop loop.invariant loop_test.true arg_at.ensures arg_at2.ensures
     join_impl.ensures c.done_of.ensures c.in_default.is
 
 pub join_impl_types-bounds-tys-k : goal.join_impl_types-bounds-tys-k
 join_impl_types-bounds-tys-k t c = let loop = c.loop-i in
-    let loop-test = c.loop-i-test in
-    omega (arith, loop.invariant.walked.few, loop-test.true)
+    let loop_test = c.loop-i-test in
+    omega (arith, loop.invariant.walked.few, loop_test.true)
 
 pub join_impl_types-overflow_add-i : goal.join_impl_types-overflow_add-i
 join_impl_types-overflow_add-i t c = omega arith
@@ -176,11 +176,11 @@ join_impl_types-loop-i-smaller t c = omega arith
 
 pub join_impl_types-loop-i-preserved : goal.join_impl_types-loop-i-preserved
 join_impl_types-loop-i-preserved t c = let loop = c.loop-i in
-    let loop-test = c.loop-i-test in
+    let loop_test = c.loop-i-test in
     let arg_at = c.arg_at-ty1 in
-    let arg-at2 = c.arg_at-ty2 in
+    let arg_at2 = c.arg_at-ty2 in
     let join_impl = c.join_impl-s in
-    gather_more loop.invariant loop-test.true arg_at.ensures arg-at2.ensures
+    gather_more loop.invariant loop_test.true arg_at.ensures arg_at2.ensures
     join_impl.ensures c.done_of.ensures c.in-Just.is refl
 
 pub join_impl_types-returns : goal.join_impl_types-returns
@@ -215,6 +215,6 @@ join_tvar-returns-in-Stop t c = tvar_stop _ _ _ _ _ _ c.open_tvar-a.ensures c.in
 pub join_tvar-returns-in-Just : goal.join_tvar-returns-in-Just
 join_tvar-returns-in-Just t c = let open_tvar = c.open_tvar-a in
     let join_impl = c.join_impl-b in
-    let done-of = c.done_of in
-    tvar_close _ _ _ _ _ _ open_tvar.ensures c.in-Ready.is join_impl.ensures done-of.ensures c.in-Just.is
+    let done_of = c.done_of in
+    tvar_close _ _ _ _ _ _ open_tvar.ensures c.in-Ready.is join_impl.ensures done_of.ensures c.in-Just.is
     c.close_tvar.ensures

@@ -26,15 +26,15 @@ digit-requires-2 t c = omega arith
 pub put_byte-requires-2 : goal.put_byte-requires-2
 put_byte-requires-2 t c = let args = c.args in
     let pre = c.requires in
-    let write-decimal = c.write_decimal-next in
+    let write_decimal = c.write_decimal-next in
     let r = decimal_room args.x args.at args.log.now (omega arith) (omega arith) pre in let l : length
-    write-decimal.new.log ≡ length args.log.now = wrote_length args.log.now args.at _ _ _
-    (omega arith) write-decimal.ensures in omega (arith, write-decimal.ensures.next_is)
+    write_decimal.new.log ≡ length args.log.now = wrote_length args.log.now args.at _ _ _
+    (omega arith) write_decimal.ensures in omega (arith, write_decimal.ensures.next_is)
 
 pub returns : goal.returns
 returns t c = let args = c.args in
     let pre = c.requires in
-    let write-decimal = c.write_decimal-next in
+    let write_decimal = c.write_decimal-next in
     let r = decimal_room args.x args.at args.log.now (omega arith) (omega arith) pre in
     rw (decimal_next args.x (omega arith) (omega arith), ← c.digit-2.ensures)
-    (wrote_more _ _ _ _ _ _ _ _ (omega arith) write-decimal.ensures c.put_byte-2.ensures)
+    (wrote_more _ _ _ _ _ _ _ _ (omega arith) write_decimal.ensures c.put_byte-2.ensures)

@@ -40,10 +40,10 @@ loop-k-smaller c = omega arith
 pub loop-k-preserved : goal.loop-k-preserved
 loop-k-preserved c = let pre = c.requires in
     let loop = c.loop-k in
-    let loop-test = c.loop-k-test in
+    let loop_test = c.loop-k-test in
     let hex_digit = c.hex_digit in
     let put_byte = c.put_byte-next in
-    hex_more _ _ _ _ pre.0 pre.1 _ _ _ _ _ _ _ _ _ loop.invariant loop-test.true hex_digit.ensures
+    hex_more _ _ _ _ pre.0 pre.1 _ _ _ _ _ _ _ _ _ loop.invariant loop_test.true hex_digit.ensures
     c.hex_digit-in-loop-k.ensures put_byte.ensures c.put_byte-next-in-loop-k.ensures
 
 pub returns : goal.returns

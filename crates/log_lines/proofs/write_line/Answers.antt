@@ -18,42 +18,42 @@ put_byte-b-requires c = let args = c.args in
 pub write_decimal-c-requires : goal.write_decimal-c-requires
 write_decimal-c-requires c = let args = c.args in
     let pre = c.requires in
-    let write-decimal = c.write_decimal-a in
+    let write_decimal = c.write_decimal-a in
     rw c.wide.ensures
     (room_number args.index args.number (take args.len args.payload.now) args.log.now args.at
-    pre.1 _ _ write-decimal.ensures _ _ c.put_byte-b.ensures)
+    pre.1 _ _ write_decimal.ensures _ _ c.put_byte-b.ensures)
 
 pub write_payload-d-requires : goal.write_payload-d-requires
 write_payload-d-requires c = let args = c.args in
     let pre = c.requires in
-    let write-decimal = c.write_decimal-a in
+    let write_decimal = c.write_decimal-a in
     let put_byte = c.put_byte-b in
     let wide = c.wide in (
       pre.0,
       room_payload args.index args.number (take args.len args.payload.now) args.log.now args.at
-          pre.1 _ _ write-decimal.ensures _ _ put_byte.ensures _ _
+          pre.1 _ _ write_decimal.ensures _ _ put_byte.ensures _ _
           (rw wide.ensures at c.write_decimal-c.ensures),
     )
 
 pub put_byte-requires : goal.put_byte-requires
 put_byte-requires c = let args = c.args in
     let pre = c.requires in
-    let write-decimal = c.write_decimal-a in
+    let write_decimal = c.write_decimal-a in
     let put_byte = c.put_byte-b in
     let wide = c.wide in
-    let write-decimal2 = c.write_decimal-c in
+    let write_decimal2 = c.write_decimal-c in
     room_end args.index args.number (take args.len args.payload.now) args.log.now args.at pre.1 _
-    _ write-decimal.ensures _ _ put_byte.ensures _ _ (rw wide.ensures at write-decimal2.ensures) _ _
+    _ write_decimal.ensures _ _ put_byte.ensures _ _ (rw wide.ensures at write_decimal2.ensures) _ _
     c.write_payload-d.ensures
 
 pub returns : goal.returns
 returns c = let args = c.args in
     let pre = c.requires in
-    let write-decimal = c.write_decimal-a in
+    let write_decimal = c.write_decimal-a in
     let put_byte = c.put_byte-b in
     let wide = c.wide in
-    let write-decimal2 = c.write_decimal-c in
-    let write-payload = c.write_payload-d in
+    let write_decimal2 = c.write_decimal-c in
+    let write_payload = c.write_payload-d in
     wrote_line args.index args.number (take args.len args.payload.now) args.log.now args.at pre.1
-    _ _ write-decimal.ensures _ _ put_byte.ensures _ _ (rw wide.ensures at write-decimal2.ensures) _ _
-    write-payload.ensures _ _ c.put_byte.ensures
+    _ _ write_decimal.ensures _ _ put_byte.ensures _ _ (rw wide.ensures at write_decimal2.ensures) _ _
+    write_payload.ensures _ _ c.put_byte.ensures

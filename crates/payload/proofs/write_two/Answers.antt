@@ -16,7 +16,7 @@ write_type-requires c = let args = c.args in
 pub returns : goal.returns
 returns c = let args = c.args in
     let pre = c.requires in
-    let write-type = c.write_type-next in
+    let write_type = c.write_type-next in
     λ ds. wrote_two args.buf.now (write (seen args.w.now args.u ds) args.a)
     (write (seen args.w.now args.u ds) args.b) _ _ _ _ (omega (arith, pre.fits ds, pre.lay.1.1.1.1))
-    (write-type.ensures ds) (c.write_type.ensures ds)
+    (write_type.ensures ds) (c.write_type.ensures ds)

@@ -31,9 +31,9 @@ pub read_parts-returns-then-stops : goal.read_parts-returns-then-stops
 read_parts-returns-then-stops t c = let args = c.args in
     let part_count = c.part_count-n in
     let loop = c.loop-i in
-    let loop-test = c.loop-i-test in
+    let loop_test = c.loop-i-test in
     go_stop _ _ _ _ _ _ _ _ _ _ _ _ _ _ _ loop.invariant _ _ c.read_type-r.ensures
-    loop-test.true args.loc args.shape part_count.ensures
+    loop_test.true args.loc args.shape part_count.ensures
     (sym c.stops.ensures ∙ c.if-stops.true)
 
 pub read_parts-no_space-over-requires : goal.read_parts-no_space-over-requires
@@ -67,11 +67,11 @@ pub read_parts-loop-i-preserved : goal.read_parts-loop-i-preserved
 read_parts-loop-i-preserved t c = let pre = c.requires in
     let part_count = c.part_count-n in
     let loop = c.loop-i in
-    let loop-test = c.loop-i-test in
+    let loop_test = c.loop-i-test in
     let read_type = c.read_type-r in
     let few : part_count.result ≤ 8 = rw part_count.ensures pre.end_in_bounds.1.1.1 in
     rw (c.no_space-over.ensures, c.node_of.ensures)
-    (go_more _ _ _ _ _ _ _ _ _ _ _ _ _ _ _ loop.invariant _ _ read_type.ensures loop-test.true few
+    (go_more _ _ _ _ _ _ _ _ _ _ _ _ _ _ _ loop.invariant _ _ read_type.ensures loop_test.true few
     (sym c.stops.ensures ∙ c.if-stops.false))
 
 pub read_parts-place_node-step-requires : goal.read_parts-place_node-step-requires
@@ -87,10 +87,10 @@ pub read_parts-returns : goal.read_parts-returns
 read_parts-returns t c = let args = c.args in
     let part_count = c.part_count-n in
     let loop = c.loop-i in
-    let loop-test = c.loop-i-test in
-    let place-node = c.place_node-step in
-    go_all _ _ _ _ _ _ _ _ _ _ _ _ _ _ _ loop.invariant loop-test.false args.loc args.shape part_count.ensures _
-    place-node.result place-node.ensures _
+    let loop_test = c.loop-i-test in
+    let place_node = c.place_node-step in
+    go_all _ _ _ _ _ _ _ _ _ _ _ _ _ _ _ loop.invariant loop_test.false args.loc args.shape part_count.ensures _
+    place_node.result place_node.ensures _
     (rw c.done_of.ensures at c.part_found-p.ensures)
 
 pub read_type-read_head-h-requires : goal.read_type-read_head-h-requires

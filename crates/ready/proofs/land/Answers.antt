@@ -16,16 +16,16 @@ ready_onward-requires c = (c.loop-calls.invariant.lay, c.requires.1.1)
 
 pub returns-in-Parts : goal.returns-in-Parts
 returns-in-Parts c = let loop = c.loop-calls in
-    let loop-test = c.loop-calls-test in
+    let loop_test = c.loop-calls-test in
     let node_at = c.node_at-n in
-    coming_parts loop.invariant loop-test.true node_at.result node_at.ensures _
+    coming_parts loop.invariant loop_test.true node_at.result node_at.ensures _
     c.ready_onward.ensures _ c.in-Parts.is
 
 pub returns-in-Open : goal.returns-in-Open
 returns-in-Open c = let loop = c.loop-calls in
-    let loop-test = c.loop-calls-test in
+    let loop_test = c.loop-calls-test in
     let node_at = c.node_at-n in
-    coming_open loop.invariant loop-test.true node_at.result node_at.ensures _
+    coming_open loop.invariant loop_test.true node_at.result node_at.ensures _
     c.ready_onward.ensures _ c.in-Open.is
 
 pub loop-calls-smaller : goal.loop-calls-smaller
@@ -33,9 +33,9 @@ loop-calls-smaller c = let p = c.loop-calls-test.true in omega arith
 
 pub loop-calls-preserved : goal.loop-calls-preserved
 loop-calls-preserved c = let loop = c.loop-calls in
-    let loop-test = c.loop-calls-test in
+    let loop_test = c.loop-calls-test in
     let node_at = c.node_at-n in
-    coming_on loop.invariant loop-test.true node_at.result node_at.ensures _
+    coming_on loop.invariant loop_test.true node_at.result node_at.ensures _
     c.ready_onward.ensures _ c.in-Bound.is
 
 pub returns : goal.returns

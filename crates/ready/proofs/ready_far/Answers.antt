@@ -21,11 +21,11 @@ slice_bounds-ready-end c = sym c.note_ends.ensures.1
 
 pub ready-requires : goal.ready-requires
 ready-requires c = let pre = c.requires in
-    let note-ends = c.note_ends in
-    (pre.0, (pre.1, note-ends.ensures.0))
+    let note_ends = c.note_ends in
+    (pre.0, (pre.1, note_ends.ensures.0))
 
 pub returns : goal.returns
 returns c = let pre = c.requires in
-    let never-over = c.never_over in
+    let never_over = c.never_over in
     let if1 = c.if-never_over in
-    run_on _ _ _ pre.0 _ never-over.ensures if1.false _ _ c.ready.ensures
+    run_on _ _ _ pre.0 _ never_over.ensures if1.false _ _ c.ready.ensures

@@ -30,23 +30,23 @@ offset_bounds-ids-i c = omega (arith, c.requires.end_in_bounds.1.1.1, c.loop-i-t
 
 pub bounds-ids-i : goal.bounds-ids-i
 bounds-ids-i c = let pre = c.requires in
-    let loop-test = c.loop-i-test in
-    omega (arith, pre.end_in_bounds.1.1.1, loop-test.true)
+    let loop_test = c.loop-i-test in
+    omega (arith, pre.end_in_bounds.1.1.1, loop_test.true)
 
 pub offset_bounds-nodes-i : goal.offset_bounds-nodes-i
 offset_bounds-nodes-i c = let pre = c.requires in
-    let loop-test = c.loop-i-test in
-    omega (arith, pre.end_in_bounds.1.1.1, loop-test.true)
+    let loop_test = c.loop-i-test in
+    omega (arith, pre.end_in_bounds.1.1.1, loop_test.true)
 
 pub bounds-nodes-i : goal.bounds-nodes-i
 bounds-nodes-i c = let pre = c.requires in
-    let loop-test = c.loop-i-test in
-    omega (arith, pre.end_in_bounds.1.1.1, loop-test.true)
+    let loop_test = c.loop-i-test in
+    omega (arith, pre.end_in_bounds.1.1.1, loop_test.true)
 
 pub overflow_add-i : goal.overflow_add-i
 overflow_add-i c = let pre = c.requires in
-    let loop-test = c.loop-i-test in
-    omega (arith, pre.end_in_bounds.1.1.1, loop-test.true)
+    let loop_test = c.loop-i-test in
+    omega (arith, pre.end_in_bounds.1.1.1, loop_test.true)
 
 pub loop-i-smaller : goal.loop-i-smaller
 loop-i-smaller c = omega arith

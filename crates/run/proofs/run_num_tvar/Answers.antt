@@ -9,8 +9,8 @@ pub returns-in-Nothing : goal.returns-in-Nothing
 returns-in-Nothing c = ran_no_tvar _ _ c.take_var-a.ensures _ c.done_of.ensures c.in-Nothing.is c.shown.ensures
 
 pub returns-in-Just : goal.returns-in-Just
-returns-in-Just c = let take-var = c.take_var-a in
-    let done-of = c.done_of in
+returns-in-Just c = let take_var = c.take_var-a in
+    let done_of = c.done_of in
     let tvar = c.tvar-x in
-    ran_num_tvar _ _ take-var.ensures _ _ done-of.ensures c.in-Just.is _ tvar.ensures
+    ran_num_tvar _ _ take_var.ensures _ _ done_of.ensures c.in-Just.is _ tvar.ensures
     c.set_num_var.ensures c.shown-in-Just.ensures

@@ -24,5 +24,5 @@ report_failures-requires c = let p = c.requires in
 pub returns : goal.returns
 returns c = let hinders = c.hinders-h in
     let if1 = c.if-h-gt0 in
-    let report-failures = c.report_failures in
-    abilities_clear hinders.ensures (omega (arith, if1.false)) report-failures.ensures
+    let report_failures = c.report_failures in
+    abilities_clear hinders.ensures (omega (arith, if1.false)) report_failures.ensures

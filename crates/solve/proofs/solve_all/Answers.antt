@@ -12,5 +12,5 @@ report_failures-requires c = let p = c.requires in
 pub returns : goal.returns
 returns c = let any_asks = c.any_asks in
     let if1 = c.if-any_asks in
-    let report-failures = c.report_failures in
-    plain_clear (sym any_asks.ensures ∙ if1.false) report-failures.ensures
+    let report_failures = c.report_failures in
+    plain_clear (sym any_asks.ensures ∙ if1.false) report_failures.ensures

@@ -16,7 +16,10 @@ write_constraint-next-requires c = let pre = c.requires in
     let there = pre.lay.1.1.1.1 in
     let lt = c.loop-i-test.true in
     let at = c.constraint_at-c.ensures in
-    let is = constraint_is _ _ _ _ _ at in record { lay = (pre.lay.0, (ty_in _ _ _ _ lt at pre.lay.1.0, (ready_in _ _ _ _ lt at _ _ pre.lay.1.1.0, pre.lay.1.1.1))); fits = one_fits _ _ _ _ _ (list_pieces _ _) _ _ (λ ds k. omega (arith, pre.fits ds k)) there.structs there.known _ _ _ c.loop-i.invariant lt _ is }
+    let is = constraint_is _ _ _ _ _ at in record {
+      lay = (pre.lay.0, (ty_in _ _ _ _ lt at pre.lay.1.0, (ready_in _ _ _ _ lt at _ _ pre.lay.1.1.0, pre.lay.1.1.1)));
+      fits = one_fits _ _ _ _ _ (list_pieces _ _) _ _ (λ ds k. omega (arith, pre.fits ds k)) there.structs there.known _ _ _ c.loop-i.invariant lt _ is;
+    }
 
 pub overflow_add-i : goal.overflow_add-i
 overflow_add-i c = omega (arith, c.requires.lay.0.constraints)

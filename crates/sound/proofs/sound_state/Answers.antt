@@ -17,9 +17,9 @@ tables_fine-requires c = (sized _ _ c.if-w-ne-WORDS.false (sym c.counts_fine.ens
 
 pub returns-then-not-tables_fine : goal.returns-then-not-tables_fine
 returns-then-not-tables_fine c = let good = c.well_formed in
-    let shared-slice-known = c.shared_slice_known-1 in
+    let shared_slice_known = c.shared_slice_known-1 in
     sym (no_tables _ _ _ c.used_of-u.ensures
-    (λ k. omega (arith, shared-slice-known.given k))
+    (λ k. omega (arith, shared_slice_known.given k))
     (table_of _ good.1.0.0 good.1.0.1.0.1 good.1.0.1.1)
     (sym c.tables_fine.ensures ∙ c.if-not-tables_fine.true))
 

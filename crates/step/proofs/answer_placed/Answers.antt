@@ -56,6 +56,6 @@ returns-in-Look c = let run_look = c.run_look-r in
     c.answer_of-in-Look.ensures
 
 pub returns-in-Add : goal.returns-in-Add
-returns-in-Add c = let run-add = c.run_add-r in
-    λ w₀ x b. reply_run (rw c.in-Add.is at b) (narrow run-add.ensures)
+returns-in-Add c = let run_add = c.run_add-r in
+    λ w₀ x b. reply_run (rw c.in-Add.is at b) (narrow run_add.ensures)
     c.answer_of-in-Add.ensures

@@ -17,17 +17,17 @@ undo-requires c = let pre = c.requires in
 
 pub write_used-requires : goal.write_used-requires
 write_used-requires c = let pre = c.requires in
-    let save-vars = c.save_vars in
+    let save_vars = c.save_vars in
     let read_record = c.read_record-f in
     (c.undo.ensures _
-    (record { lay = pre.0.lay; kept = save-vars.ensures; grown = read_record.ensures.grown })).0
+    (record { lay = pre.0.lay; kept = save_vars.ensures; grown = read_record.ensures.grown })).0
 
 pub returns : goal.returns
 returns c = let pre = c.requires in
-    let save-vars = c.save_vars in
+    let save_vars = c.save_vars in
     let read_record = c.read_record-f in
     let undo = c.undo in (
-      words_back pre.0 pre.1.0 save-vars.ensures read_record.ensures.grown undo.ensures
+      words_back pre.0 pre.1.0 save_vars.ensures read_record.ensures.grown undo.ensures
           c.write_used.ensures,
       splits _ read_record.ensures c.place_after.ensures,
     )

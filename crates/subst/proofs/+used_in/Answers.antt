@@ -39,11 +39,11 @@ used_in-requires t c = let f = part_low c.loop-i.invariant.at _ _ c.loop-i-test.
 
 pub returns-then-used_in : goal.returns-then-used_in
 returns-then-used_in t c = let loop = c.loop-i in
-    let loop-test = c.loop-i-test in
+    let loop_test = c.loop-i-test in
     let part_at = c.part_at-p in
-    let used-in = c.used_in in (
-      part_used loop.invariant _ loop-test.true part_at.ensures _ used-in.ensures.0 c.if-used_in.true,
-      used-in.ensures.1,
+    let used_in = c.used_in in (
+      part_used loop.invariant _ loop_test.true part_at.ensures _ used_in.ensures.0 c.if-used_in.true,
+      used_in.ensures.1,
     )
 
 pub overflow_add-i : goal.overflow_add-i
@@ -54,10 +54,10 @@ loop-i-smaller t c = omega arith
 
 pub loop-i-preserved : goal.loop-i-preserved
 loop-i-preserved t c = let loop = c.loop-i in
-    let loop-test = c.loop-i-test in
+    let loop_test = c.loop-i-test in
     let part_at = c.part_at-p in
-    let used-in = c.used_in in
-    passed_more loop.invariant _ loop-test.true part_at.ensures _ used-in.ensures.0 _ used-in.ensures.1
+    let used_in = c.used_in in
+    passed_more loop.invariant _ loop_test.true part_at.ensures _ used_in.ensures.0 _ used_in.ensures.1
     c.if-used_in.false
 
 pub bounds-marks-at-2 : goal.bounds-marks-at-2

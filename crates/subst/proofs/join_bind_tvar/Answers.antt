@@ -14,19 +14,19 @@ pub returns-then-is_anything : goal.returns-then-is_anything
 returns-then-is_anything c = let pre = c.requires in
     let check_num_tvar = c.check_num_tvar in
     let if1 = c.if-not-check_num_tvar in
-    let used-tvars = c.used_tvars in
+    let used_tvars = c.used_tvars in
     let node_at = c.node_at-n in
-    binds_anything _ _ _ _ _ check_num_tvar.ensures (ap not if1.false) _ used-tvars.ensures
+    binds_anything _ _ _ _ _ check_num_tvar.ensures (ap not if1.false) _ used_tvars.ensures
     c.if-used_tvars.false node_at.result node_at.ensures _
     c.is_anything.ensures pre.0 c.if-is_anything.true
 
 pub returns : goal.returns
 returns c = let check_num_tvar = c.check_num_tvar in
     let if1 = c.if-not-check_num_tvar in
-    let used-tvars = c.used_tvars in
+    let used_tvars = c.used_tvars in
     let if2 = c.if-used_tvars in
     let node_at = c.node_at-n in
     let is_anything = c.is_anything in
-    binds_stored _ _ _ _ _ check_num_tvar.ensures (ap not if1.false) _ used-tvars.ensures if2.false node_at.result
+    binds_stored _ _ _ _ _ check_num_tvar.ensures (ap not if1.false) _ used_tvars.ensures if2.false node_at.result
     node_at.ensures _ is_anything.ensures _ c.bind_var.ensures
     c.if-is_anything.false

@@ -15,9 +15,9 @@ mark_one-requires c = c.loop-unmarked.invariant.lay
 
 pub returns-in-Last : goal.returns-in-Last
 returns-in-Last c = let loop = c.loop-unmarked in
-    let loop-test = c.loop-unmarked-test in
+    let loop_test = c.loop-unmarked-test in
     let next_of = c.next_of-n in
-    marking_last _ _ _ _ loop.invariant loop-test.true _ c.mark_one.ensures _
+    marking_last _ _ _ _ loop.invariant loop_test.true _ c.mark_one.ensures _
     next_of.ensures c.in-Last.is
 
 pub loop-unmarked-smaller : goal.loop-unmarked-smaller
@@ -25,10 +25,10 @@ loop-unmarked-smaller c = omega arith
 
 pub loop-unmarked-preserved : goal.loop-unmarked-preserved
 loop-unmarked-preserved c = let loop = c.loop-unmarked in
-    let loop-test = c.loop-unmarked-test in
+    let loop_test = c.loop-unmarked-test in
     let next_of = c.next_of-n in
     let mark_one = c.mark_one in
-    marking_on _ _ _ _ loop.invariant loop-test.true _ mark_one.ensures _ next_of.ensures _ c.in-To.is
+    marking_on _ _ _ _ loop.invariant loop_test.true _ mark_one.ensures _ next_of.ensures _ c.in-To.is
 
 pub returns : goal.returns
 returns c = marking_out _ _ _ _ c.loop-unmarked.invariant c.loop-unmarked-test.false

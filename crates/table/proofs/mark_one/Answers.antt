@@ -7,6 +7,6 @@ put_cell-requires c = (c.requires, bound_in _ _ _ c.bound_at-b.result c.requires
 
 pub returns : goal.returns
 returns c = let bound_at = c.bound_at-b in
-    let num-loc-at = c.num_loc_at-m in
-    mark_cell _ _ _ _ _ bound_at.result num-loc-at.result _ bound_at.ensures num-loc-at.ensures
+    let num_loc_at = c.num_loc_at-m in
+    mark_cell _ _ _ _ _ bound_at.result num_loc_at.result _ bound_at.ensures num_loc_at.ensures
     c.unwrap_or-l.ensures c.put_cell.ensures

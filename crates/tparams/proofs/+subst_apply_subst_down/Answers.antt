@@ -42,8 +42,8 @@ subst_apply-loop-i-preserved t c = let loop = c.loop-i in
     let if1 = c.loop-i-test in
     let arg_at = c.arg_at-t in
     let subst_down = c.subst_down-a in
-    let done-of = c.done_of in
-    through_more loop.invariant if1.true arg_at.ensures subst_down.ensures done-of.ensures c.in-Just.is c.wide-at.ensures
+    let done_of = c.done_of in
+    through_more loop.invariant if1.true arg_at.ensures subst_down.ensures done_of.ensures c.in-Just.is c.wide-at.ensures
 
 pub subst_apply-push_apply-requires : goal.subst_apply-push_apply-requires
 subst_apply-push_apply-requires t c = (c.loop-i.invariant.walked.changed.lay, through_parts c.loop-i.invariant c.loop-i-test.false)
@@ -132,9 +132,9 @@ subst_down-returns-in-Just t c = let pre = c.requires in
     let node_at = c.node_at-node in
     let if1 = c.if-left-eq0 in
     let subst_down = c.subst_down-a in
-    let done-of = c.done_of in
+    let done_of = c.done_of in
     level_by (levels _) _ _ _ _ pre.0 node_at.result if1.false node_at.ensures c.in-Ref.is (λ ds. refl)
-    (ref_then _ _ subst_down.ensures done-of.ensures c.in-Just.is c.push_node.ensures)
+    (ref_then _ _ subst_down.ensures done_of.ensures c.in-Just.is c.push_node.ensures)
 
 pub subst_down-returns-in-Apply : goal.subst_down-returns-in-Apply
 unfolding subst_value with_args seen with_structs args_at

@@ -10,16 +10,16 @@ loop-i-init c = (omega arith, made_none _ _ _ _ (omega arith))
 
 pub loop-i-preserved : goal.loop-i-preserved
 loop-i-preserved c = let loop = c.loop-i in
-    let loop-test = c.loop-i-test in (
+    let loop_test = c.loop-i-test in (
       omega arith,
-      made_back _ _ _ _ _ loop-test.true loop.invariant.0 c.wide-at.ensures
+      made_back _ _ _ _ _ loop_test.true loop.invariant.0 c.wide-at.ensures
           loop.invariant.1 (rw c.in-Nothing.is at c.arg_from.ensures),
     )
 
 pub returns-in-Just : goal.returns-in-Just
 returns-in-Just c = let loop = c.loop-i in
-    let loop-test = c.loop-i-test in
-    sym (twice_back _ _ _ _ _ loop-test.true loop.invariant.0 c.wide-at.ensures
+    let loop_test = c.loop-i-test in
+    sym (twice_back _ _ _ _ _ loop_test.true loop.invariant.0 c.wide-at.ensures
     loop.invariant.1 _ (rw c.in-Just.is at c.arg_from.ensures))
 
 pub returns : goal.returns

@@ -28,18 +28,18 @@ write_type-next-requires t c = let args = c.args in
     let pre = c.requires in
     let node_at = c.node_at-node in
     let part_count = c.part_count-n in
-    let write-head = c.write_head-next in
-    let loop-test = c.loop-i-test in
+    let write_head = c.write_head-next in
+    let loop_test = c.loop-i-test in
     let E = args.buf.now in
     let a = at_node _ _ _ _ node_at.result pre.lay.0 pre.lay.1.0 node_at.ensures
     part_count.ensures in
-    let base = write_none a E _ pre.fits _ (λ ds. loc_is _ _ node_at.result (node_at.ensures ds)) _ _ write-head.ensures in
-    let f = part_low a _ _ loop-test.true c.part_at-p.ensures in (
+    let base = write_none a E _ pre.fits _ (λ ds. loc_is _ _ node_at.result (node_at.ensures ds)) _ _ write_head.ensures in
+    let f = part_low a _ _ loop_test.true c.part_at-p.ensures in (
       omega (arith, f, c.decreases),
       (
         (pre.lay.0, (omega (arith, f, pre.lay.1.0), pre.lay.1.1)),
         part_room a E _ pre.fits _ _ _ _
-            (c.loop-i.invariant.1 E base) loop-test.true c.part_at-p.ensures,
+            (c.loop-i.invariant.1 E base) loop_test.true c.part_at-p.ensures,
       ),
     )
 
@@ -54,14 +54,14 @@ loop-i-preserved t c = let args = c.args in
     let pre = c.requires in
     let node_at = c.node_at-node in
     let part_count = c.part_count-n in
-    let write-head = c.write_head-next in
+    let write_head = c.write_head-next in
     let loop = c.loop-i in
-    let loop-test = c.loop-i-test in
+    let loop_test = c.loop-i-test in
     let E = args.buf.now in
     let a = at_node _ _ _ _ node_at.result pre.lay.0 pre.lay.1.0 node_at.ensures
     part_count.ensures in
-    let base = write_none a E _ pre.fits _ (λ ds. loc_is _ _ node_at.result (node_at.ensures ds)) _ _ write-head.ensures in
-    goes_more a E _ pre.fits _ _ _ _ _ _ _ _ base loop.invariant loop-test.true
+    let base = write_none a E _ pre.fits _ (λ ds. loc_is _ _ node_at.result (node_at.ensures ds)) _ _ write_head.ensures in
+    goes_more a E _ pre.fits _ _ _ _ _ _ _ _ base loop.invariant loop_test.true
     c.part_at-p.ensures c.write_type-next.ensures
 
 pub returns : goal.returns
