@@ -5,7 +5,7 @@ usage: tools/respell.py [--list]      in the repository, on the commit that docs
        --list prints the renamings and writes nothing
 
 Renamed: each name with a dash that a file of specs/ or proofs/ declares. Left: what the kit's libraries declare, names that Rattle makes from the code, Rust.
-Must-fail edits get the same names, and the spelling that port.py gave the lines that they cite.
+Must-fail edits get the same names.
 """
 
 import collections

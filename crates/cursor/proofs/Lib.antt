@@ -1,1 +1,0 @@
--- What the proofs by hand share. Assumes nothing.
