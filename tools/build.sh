@@ -5,8 +5,6 @@
 set -u
 root=$(cd "$(dirname "$0")/.." && pwd)
 name=${1-}
-# from nothing, on two idle cores
-estimate="some eight minutes"
 case $name in
   joinlog) made=$root/crates/joinlog/out/joinlog words=run ;;
   exports) made=$root/crates/exports/out/libexports.a words=lib ;;
@@ -46,7 +44,7 @@ if ! current; then
   fi
   talk=target/$name-build.txt
   mkdir -p "$root/target"
-  echo "$name and the crates that it stands on are proved first: from nothing $estimate" >&2
+  echo "$name and the crates that it stands on are proved first: from nothing that takes many minutes" >&2
   if ! prove; then
     echo "$name is not proved; $talk has what the prover says" >&2
     exit 1
