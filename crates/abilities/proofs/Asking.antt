@@ -3,7 +3,7 @@
 use mathlib.Core.Path.{◌≡◌, refl, sym, ap, ◌∙◌}
 use mathlib.Core.Bool.{Bool, true, false}
 use mathlib.Core.List.{List, [], ◌∷◌}
-use mathlib.Core.Option.{none}
+use Rattle.std.specs.Prelude.{None}
 use Prim.Native.Nat.{ℕ, zero, suc, ◌+◌, ◌≤◌, ◌<◌}
 use native.Mathlib.Numerals.{add-one}
 use native.Mathlib.Omega.{arith}
@@ -47,7 +47,7 @@ asks_not (c ∷ cs) e i h = by (asks_abilities c) refl i h (asks_not cs)
     by false z zero h rest = z
     by false z (suc i) h rest = rest (sym (later_asks c cs z) ∙ e) i (omega arith)
 
-plain_clear : (s : State) (c : Constraint) → asks_abilities c ≡ false → constraint_hindrance s c ≡ none
+plain_clear : (s : State) (c : Constraint) → asks_abilities c ≡ false → constraint_hindrance s c ≡ None
 unfolding asks_abilities constraint_hindrance
 plain_clear s (d.AbilityConstraint loc ty a) e = cc
 plain_clear s (d.NumericConstraint loc ty) e = refl
@@ -57,12 +57,12 @@ plain_clear s (d.BaseTypeConstraint loc ty) e = refl
 plain_clear s (d.SingleTypeConstraint loc ty) e = refl
 
 -- where none asks, none hinders
-pub asks_clear : (s : State) (cs : List Constraint) → any_asks cs ≡ false → hindrance s cs ≡ none
+pub asks_clear : (s : State) (cs : List Constraint) → any_asks cs ≡ false → hindrance s cs ≡ None
 unfolding any_asks hindrance
 asks_clear s [] e = refl
 asks_clear s (c ∷ cs) e = by (asks_abilities c) refl (asks_clear s cs)
   where
-    by : (b : Bool) → asks_abilities c ≡ b → (any_asks cs ≡ false → hindrance s cs ≡ none) → hindrance s (c ∷ cs) ≡ none
+    by : (b : Bool) → asks_abilities c ≡ b → (any_asks cs ≡ false → hindrance s cs ≡ None) → hindrance s (c ∷ cs) ≡ None
     by true z rest = let y : true ≡ false = sym (first_asks c cs z) ∙ e in cc
     by false z rest = rw (plain_clear s c z, hindrance) (rest (sym (later_asks c cs z) ∙ e))
 

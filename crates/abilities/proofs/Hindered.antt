@@ -3,7 +3,7 @@
 use mathlib.Core.Path.{◌≡◌, refl, sym, ap, ◌∙◌, subst}
 use mathlib.Core.Bool.{Bool, true, false, not}
 use mathlib.Core.List.{List, [], ◌∷◌}
-use mathlib.Core.Option.{Option, none, some}
+use Rattle.std.specs.Prelude.{Option, None, Some}
 use Prim.Native.Nat.{ℕ, suc, ◌+◌, ◌≤◌, ◌<◌}
 use native.Mathlib.Nat.{not-suc-le-zero}
 use native.Mathlib.Decide.{ℕ_discrete}
@@ -47,13 +47,13 @@ pub nothing_missing : (s : State) (t a : ℕ) (b : Bool) → b ≡ any_misses s 
 unfolding any_misses missing
 nothing_missing s t a b e z = none_of (clashes s t) (λ ability. misses s t a ability) (sym e ∙ is_false b z)
 
-nine_is : (s : State) (t a : ℕ) → reaches_itself s t ≡ true → ability_hindrance s t a ≡ some runs_into_itself
+nine_is : (s : State) (t a : ℕ) → reaches_itself s t ≡ true → ability_hindrance s t a ≡ Some runs_into_itself
 unfolding ability_hindrance
 nine_is s t a e = rw (e, ability_hindrance) refl
 
-sixteen_is : (s : State) (t a : ℕ) (b : Bool) → reaches_itself s t ≡ false → b ≡ any_of (clashes s t) (missing s t a) → ability_hindrance s t a ≡ (if b then some mark_contradicted else none)
+sixteen_is : (s : State) (t a : ℕ) (b : Bool) → reaches_itself s t ≡ false → b ≡ any_of (clashes s t) (missing s t a) → ability_hindrance s t a ≡ (if b then Some mark_contradicted else None)
 unfolding ability_hindrance
-sixteen_is s t a b e f = rw (e, ability_hindrance) (ap (λ (x : Bool). if x then some mark_contradicted else none) (sym f))
+sixteen_is s t a b e f = rw (e, ability_hindrance) (ap (λ (x : Bool). if x then Some mark_contradicted else None) (sym f))
 
 module _ {w : List ℕ} {u : Used} {t n : ℕ} (l : Levels w u t u.nodes n) where
   pub ends_of : (n ≡ 0 → ⊥) → Ends w u n t
@@ -69,19 +69,19 @@ module _ {w : List ℕ} {u : Used} {t n : ℕ} (l : Levels w u t u.nodes n) wher
   }
 
   module _ (params : List (List ℕ)) (sets sets' : List ℕ) (a : ℕ) (z : n ≡ 0 → ⊥) (i : Inferred w u params t sets sets') (b : Bool) (f : (ds : List Struct) → Known w u params ds → b ≡ any_of (clashes (seen w u ds) t) (missing (seen w u ds) t a)) where
-    by_mark : (ds : List Struct) → Known w u params ds → ability_hindrance (seen w u ds) t a ≡ (if b then some mark_contradicted else none)
+    by_mark : (ds : List Struct) → Known w u params ds → ability_hindrance (seen w u ds) t a ≡ (if b then Some mark_contradicted else None)
     by_mark ds k = sixteen_is (seen w u ds) t a b (sym (reaches_is w u t n l ds) ∙ ne_eqb n 0 z) (f ds k)
 
     pub hindered_sixteen : b ≡ true → Hindered w u params sets sets' 16 (λ s. ability_hindrance s t a) (λ x. HasSet x t)
-    hindered_sixteen e = record { kept = i.kept; still = i.still; number = sixteen; is = λ ds k. by_mark ds k ∙ ap (λ (x : Bool). if x then some mark_contradicted else none) e; all = λ y. absurd (omega arith) }
+    hindered_sixteen e = record { kept = i.kept; still = i.still; number = sixteen; is = λ ds k. by_mark ds k ∙ ap (λ (x : Bool). if x then Some mark_contradicted else None) e; all = λ y. absurd (omega arith) }
 
     pub hindered_clear : b ≡ false → Hindered w u params sets sets' 0 (λ s. ability_hindrance s t a) (λ x. HasSet x t)
-    hindered_clear e = record { kept = i.kept; still = i.still; number = clear; is = λ ds k. by_mark ds k ∙ ap (λ (x : Bool). if x then some mark_contradicted else none) e; all = λ y. i.here }
+    hindered_clear e = record { kept = i.kept; still = i.still; number = clear; is = λ ds k. by_mark ds k ∙ ap (λ (x : Bool). if x then Some mark_contradicted else None) e; all = λ y. i.here }
 
 -- ---- any constraint
 
 -- one that asks for no abilities
-hindered_none : (w : List ℕ) (u : Used) (params : List (List ℕ)) (sets : List ℕ) (o : State → Option Refusal) (whole : List ℕ → Type 0) → Kept w u params sets → ((s : State) → o s ≡ none) → whole sets → Hindered w u params sets sets 0 o whole
+hindered_none : (w : List ℕ) (u : Used) (params : List (List ℕ)) (sets : List ℕ) (o : State → Option Refusal) (whole : List ℕ → Type 0) → Kept w u params sets → ((s : State) → o s ≡ None) → whole sets → Hindered w u params sets sets 0 o whole
 hindered_none w u params sets o whole k e x = record { kept = k; still = λ x y. y; number = clear; is = λ ds kn. e (seen w u ds); all = λ z. x }
 
 pub hindered_plain : (w : List ℕ) (u : Used) (params : List (List ℕ)) (sets : List ℕ) → Kept w u params sets → (c : table.Constraint) → OneOf plain_tags (tag_of the_type c)
@@ -90,8 +90,8 @@ unfolding constraint_hindrance
 hindered_plain w u params sets k = other_constraints (λ c. Hindered w u params sets sets 0 (λ s. constraint_hindrance s (constraint_of c)) (λ l. AskedKept l (constraint_of c)))
     (λ loc ty. none_asked) (λ loc ty. none_asked) (λ loc ty. none_asked) (λ loc ty. none_asked) (λ loc ty. none_asked)
   where
-    none_asked : Hindered w u params sets sets 0 (λ s. none) (λ l. Unit {0})
-    none_asked = hindered_none w u params sets (λ s. none) (λ l. Unit {0}) k (λ s. refl) tt
+    none_asked : Hindered w u params sets sets 0 (λ s. None) (λ l. Unit {0})
+    none_asked = hindered_none w u params sets (λ s. None) (λ l. Unit {0}) k (λ s. refl) tt
 
 pub asked_node : (n : ℕ) (c : table.Constraint) (loc t : ℕ) (a : AbilitySet) → AskedIn n (constraint_of c) → c ≡ Ability loc t a → t < n
 asked_node n c loc t a h e = subst (λ (x : table.Constraint). AskedIn n (constraint_of x)) e h
@@ -104,31 +104,31 @@ asked_still sets sets' h (d.OrderedConstraint loc ty) k = tt
 asked_still sets sets' h (d.BaseTypeConstraint loc ty) k = tt
 asked_still sets sets' h (d.SingleTypeConstraint loc ty) k = tt
 
-goes_past : (s : State) (c : Constraint) (cs : List Constraint) → constraint_hindrance s c ≡ none → hindrance s (c ∷ cs) ≡ hindrance s cs
+goes_past : (s : State) (c : Constraint) (cs : List Constraint) → constraint_hindrance s c ≡ None → hindrance s (c ∷ cs) ≡ hindrance s cs
 unfolding hindrance
 goes_past s c cs e = rw (e, hindrance) refl
 
-stops_at : (s : State) (c : Constraint) (cs : List Constraint) (x : Refusal) → constraint_hindrance s c ≡ some x → hindrance s (c ∷ cs) ≡ some x
+stops_at : (s : State) (c : Constraint) (cs : List Constraint) (x : Refusal) → constraint_hindrance s c ≡ Some x → hindrance s (c ∷ cs) ≡ Some x
 unfolding hindrance
 stops_at s c cs x e = rw (e, hindrance) refl
 
-none_left : (s : State) → hindrance s [] ≡ none
+none_left : (s : State) → hindrance s [] ≡ None
 unfolding hindrance
 none_left s = refl
 
-refusal_none : (r : ℕ) → r ≡ 0 → refusal_of r ≡ none
+refusal_none : (r : ℕ) → r ≡ 0 → refusal_of r ≡ None
 refusal_none r e = rw (eq-eqb r 0 e) refl
 
 -- an answer other than 0 is the list's
 stops : (s : State) (c : Constraint) (cs : List Constraint) (r : ℕ) → 0 < r → constraint_hindrance s c ≡ refusal_of r → hindrance s (c ∷ cs) ≡ refusal_of r
 stops s c cs r p e = by (eqb r 9) refl
   where
-    past : refusal_of r ≡ (if eqb r 9 then some runs_into_itself else some mark_contradicted)
+    past : refusal_of r ≡ (if eqb r 9 then Some runs_into_itself else Some mark_contradicted)
     past = rw (ne_eqb r 0 (λ z. omega arith)) refl
 
     by : (b : Bool) → eqb r 9 ≡ b → hindrance s (c ∷ cs) ≡ refusal_of r
-    by true z = let y : refusal_of r ≡ some runs_into_itself = past ∙ ap (λ (x : Bool). if x then some runs_into_itself else some mark_contradicted) z in stops_at s c cs runs_into_itself (e ∙ y) ∙ sym y
-    by false z = let y : refusal_of r ≡ some mark_contradicted = past ∙ ap (λ (x : Bool). if x then some runs_into_itself else some mark_contradicted) z in stops_at s c cs mark_contradicted (e ∙ y) ∙ sym y
+    by true z = let y : refusal_of r ≡ Some runs_into_itself = past ∙ ap (λ (x : Bool). if x then Some runs_into_itself else Some mark_contradicted) z in stops_at s c cs runs_into_itself (e ∙ y) ∙ sym y
+    by false z = let y : refusal_of r ≡ Some mark_contradicted = past ∙ ap (λ (x : Bool). if x then Some runs_into_itself else Some mark_contradicted) z in stops_at s c cs mark_contradicted (e ∙ y) ∙ sym y
 
 -- ---- the list
 

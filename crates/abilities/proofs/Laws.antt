@@ -3,7 +3,7 @@
 use mathlib.Core.Path.{◌≡◌, refl, sym, ap, ◌∙◌}
 use mathlib.Core.Bool.{Bool, true, false, not, ◌&&◌, ◌||◌}
 use mathlib.Core.List.{List, [], ◌∷◌}
-use mathlib.Core.Option.{Option, none, some}
+use Rattle.std.specs.Prelude.{Option, None, Some}
 use Prim.Native.Nat.{ℕ, suc, ◌+◌, ◌≤◌, ◌<◌, ◌%◌}
 use native.Mathlib.Omega.{arith}
 use native.Mathlib.Numerals.{add-one}
@@ -54,7 +54,7 @@ and_so b false e z x y h = let n : true ≡ false = rw e at z in cc
 
 -- ---- the first that lacks
 
-first_hit : (c f : ℕ → Bool) (i t : ℕ) (ts : List ℕ) → (c i && f t) ≡ true → first_lacking c f i (t ∷ ts) ≡ some i
+first_hit : (c f : ℕ → Bool) (i t : ℕ) (ts : List ℕ) → (c i && f t) ≡ true → first_lacking c f i (t ∷ ts) ≡ Some i
 unfolding first_lacking
 first_hit c f i t ts e = rw (e, first_lacking) refl
 
@@ -62,7 +62,7 @@ first_miss : (c f : ℕ → Bool) (i t : ℕ) (ts : List ℕ) → (c i && f t) �
 unfolding first_lacking
 first_miss c f i t ts e = rw (e, first_lacking) refl
 
-first_none : (c f : ℕ → Bool) (i : ℕ) → none ≡ first_lacking c f i []
+first_none : (c f : ℕ → Bool) (i : ℕ) → None ≡ first_lacking c f i []
 unfolding first_lacking
 first_none c f i = refl
 
@@ -89,7 +89,7 @@ unfolding lacking
 search_none w u params sets a needed r p = record { ready = r; some_needed = p; le = omega arith; is = λ ds k. refl }
 
 module _ {w : List ℕ} {u : Used} {params : List (List ℕ)} {sets : List ℕ} {a : Applied} {needed i : ℕ} (h : Searched w u params sets a needed i) where
-  pub search_all : a.many ≤ i → (ds : List Struct) → Known w u params ds → none ≡ lacking (λ t. infer_abilities (seen w u ds) t) (seen w u ds) (name_of a.n) (args_at (seen w u ds) (args_of a)) needed
+  pub search_all : a.many ≤ i → (ds : List Struct) → Known w u params ds → None ≡ lacking (λ t. infer_abilities (seen w u ds) t) (seen w u ds) (name_of a.n) (args_at (seen w u ds) (args_of a)) needed
   search_all l ds k =
       first_none (counts (seen w u ds) (name_of a.n)) (λ ty. not (has (infer_abilities (seen w u ds) ty) needed)) i
       ∙ ap (first_lacking (counts (seen w u ds) (name_of a.n)) (λ ty. not (has (infer_abilities (seen w u ds) ty) needed)) i)
@@ -100,7 +100,7 @@ module _ {w : List ℕ} {u : Used} {params : List (List ℕ)} {sets : List ℕ} 
     split : (ds : List Struct) → drop i (args_at (seen w u ds) (args_of a)) ≡ get_or (args_at (seen w u ds) (args_of a)) i 0 ∷ drop (suc i) (args_at (seen w u ds) (args_of a))
     split ds = drop-cons (args_at (seen w u ds) (args_of a)) i 0 (rw (h.ready.many_is ds) l)
 
-    pub search_hit : b ≡ true → (ds : List Struct) → Known w u params ds → some i ≡ lacking (λ t. infer_abilities (seen w u ds) t) (seen w u ds) (name_of a.n) (args_at (seen w u ds) (args_of a)) needed
+    pub search_hit : b ≡ true → (ds : List Struct) → Known w u params ds → Some i ≡ lacking (λ t. infer_abilities (seen w u ds) t) (seen w u ds) (name_of a.n) (args_at (seen w u ds) (args_of a)) needed
     search_hit z ds k = sym (first_hit _ _ i _ _ (sym (f ds k) ∙ z)) ∙ sym (ap (first_lacking (counts (seen w u ds) (name_of a.n)) (λ ty. not (has (infer_abilities (seen w u ds) ty) needed)) i) (split ds)) ∙ h.is ds k
 
     pub search_more : b ≡ false → Searched w u params sets a needed (i + 1)
@@ -154,8 +154,8 @@ granted_is s k n tys ability = by (has (declared_abilities s n) ability) (lackin
   where
     by : (b : Bool) (o : Option ℕ) → is_contradicted (elim b [ false ↦ declaration | true ↦ by_argument o ]) ≡ (b && is_none o)
     by false o = refl
-    by true none = refl
-    by true (some i) = refl
+    by true None = refl
+    by true (Some i) = refl
 
 -- ---- the sum of what passes a test
 

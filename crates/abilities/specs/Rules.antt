@@ -1,6 +1,6 @@
 -- Rules, what is missing, and 9 and 16, as the definition has them. Assumes nothing: these are definitions.
 use Rattle.std.specs.Prelude.{◌≡◌, Bool, true, false, not, ◌&&◌, ◌||◌, List, [], ◌∷◌, ℕ, ◌<◌, eqb, length, get_or, if◌then◌else◌}
-use Rattle.std.proofs.Math.Option.{Option, none, some}
+use Rattle.std.specs.Prelude.{Option, None, Some}
 use Rattle.definition.specs.Types as t
 use Rattle.definition.specs.Types.{State, Struct, Refusal, runs_into_itself, mark_contradicted}
 use Rattle.definition.specs.Store.{count, args_at, spanned}
@@ -87,7 +87,7 @@ any_asks (c ∷ cs) = elim (asks_abilities c) [ true ↦ true | false ↦ any_as
 -- ---- 9 and 16
 
 abbrev pub refusal_of : ℕ → Option Refusal
-refusal_of r = if eqb r 0 then none else if eqb r 9 then some runs_into_itself else some mark_contradicted
+refusal_of r = if eqb r 0 then None else if eqb r 9 then Some runs_into_itself else Some mark_contradicted
 
 pub data Number : ℕ → Type 0 where
   clear : Number 0

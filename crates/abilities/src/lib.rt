@@ -8,7 +8,7 @@ ghost use Rattle.definition.specs.Store.{args_at, with_args, any_of};
 ghost use Rattle.definition.specs.Abilities.{has, declared_abilities, counts, lacking, granted, those, from_abilities, infer_value, infer_abilities, by_argument, rule};
 ghost use Rattle.definition.specs.Constraints.{missing, is_contradicted, ability_hindrance, constraint_hindrance, hindrance};
 ghost use Rattle.names.specs.Names.{name_of};
-ghost use Rattle.table.specs.State.{found, shape_of, constraint_of, view, seen, Lay, Declares, FoundIn};
+ghost use Rattle.table.specs.State.{shape_of, constraint_of, view, seen, Lay, Declares, FoundIn};
 ghost use Rattle.table.specs.Known.{Known};
 ghost use Rattle.shapes.specs.Applied.{args_of};
 ghost use Rattle.ends.specs.Ends.{EndsKnown};
@@ -18,7 +18,7 @@ ghost use Rattle.abilities.specs.Rules.{rule_of, RuleIn, lacks_at, misses, any_m
 
 use names::{AbilityMark, AbilitySet, TypeName};
 use shapes::Applied;
-use table::{Constraint, Found, Shape, Used};
+use table::{Constraint, Shape, Used};
 
 // The declaration lacks it; the argument at a place lacks what is needed; neither, so that a mark is contradicted.
 #[derive(Clone, Copy)]
@@ -121,29 +121,29 @@ fn lacking(
     a: Applied,
     needed: u8,
     sets: &[u32],
-) -> Found
+) -> Option<u32>
     requires { ArgsReady w.now u params.now sets.now a × (0 < needed) }
-    ensures { FoundIn 8 result × ((ds : List d.Struct) → Known w.now u params.now ds → found result ≡ lacking (λ t. infer_abilities (seen w.now u ds) t) (seen w.now u ds) (name_of a.n) (args_at (seen w.now u ds) (args_of a)) needed) }
+    ensures { FoundIn 8 result × ((ds : List d.Struct) → Known w.now u params.now ds → result ≡ lacking (λ t. infer_abilities (seen w.now u ds) t) (seen w.now u ds) (name_of a.n) (args_at (seen w.now u ds) (args_of a)) needed) }
 {
     let mut i: u32 = 0;
     while i < a.many {
         if lacks(w, u, params, a, i, needed, sets) {
-            return Found::Just(i);
+            return Some(i);
         }
         i = i + 1;
     }
-    Found::Nothing
+    None
 }
 
 // ---- the rule of a named type
 
-fn by_argument(o: Found) -> Rule
+fn by_argument(o: Option<u32>) -> Rule
     requires { FoundIn 8 o }
-    ensures { RuleIn result × (rule_of result ≡ by_argument (found o)) }
+    ensures { RuleIn result × (rule_of result ≡ by_argument o) }
 {
     match o {
-        Found::Nothing => Rule::Contradicted,
-        Found::Just(i) => Rule::Argument(i),
+        None => Rule::Contradicted,
+        Some(i) => Rule::Argument(i),
     }
 }
 
@@ -235,8 +235,8 @@ fn set_of(w: &[u32], u: Used, params: &[[u8; 8]; 256], s: Shape, sets: &[u32]) -
         Shape::Ref(_, _) => AbilitySet::REFERENCES,
         Shape::Param(_, a) => a,
         Shape::Apply(k, n, first, many) => match k {
-            AbilityMark::Absent => granted_set(w, u, params, Applied { k, n, first, many }, sets),
-            AbilityMark::Set(a) => a,
+            None => granted_set(w, u, params, Applied { k, n, first, many }, sets),
+            Some(a) => a,
         },
         Shape::Var(_) => AbilitySet::ALL,
         Shape::Anything => AbilitySet::ALL,

@@ -2,7 +2,7 @@
 use mathlib.Core.Path.{◌≡◌, refl, ap, ◌∙◌}
 use mathlib.Core.Bool.{Bool, true, false, ◌&&◌}
 use mathlib.Core.List.{List, append-nil}
-use mathlib.Core.Option.{none, some}
+use Rattle.std.specs.Prelude.{None, Some}
 use Prim.Native.Nat.{ℕ, ◌+◌, ◌≤◌, ◌<◌}
 use native.Mathlib.Omega.{arith}
 use borrow.Author.Tests.{leb-true}
@@ -38,8 +38,8 @@ and_right false false e = e
 
 mark_byte : (k : AbilityMark) → is_mark k ≡ true → mark k < 256
 unfolding is_mark mark
-mark_byte none e = omega arith
-mark_byte (some x) e = let h = leb-true x 15 e in omega arith
+mark_byte None e = omega arith
+mark_byte (Some x) e = let h = leb-true x 15 e in omega arith
 
 name_byte : (s : State) (n : TypeName) → is_name s n ≡ true → NameByte n
 unfolding is_name max_builtin

@@ -73,13 +73,13 @@ fn same_mark(k1: AbilityMark, k2: AbilityMark) -> bool
     ensures { result ≡ d.same_mark (mark_of k1) (mark_of k2) }
 {
     match k1 {
-        AbilityMark::Absent => match k2 {
-            AbilityMark::Absent => true,
-            AbilityMark::Set(_) => false,
+        None => match k2 {
+            None => true,
+            Some(_) => false,
         },
-        AbilityMark::Set(a) => match k2 {
-            AbilityMark::Absent => false,
-            AbilityMark::Set(b) => a.0 == b.0,
+        Some(a) => match k2 {
+            None => false,
+            Some(b) => a.0 == b.0,
         },
     }
 }

@@ -1,6 +1,6 @@
 -- The steps of default_num_vars, as laws that follow the code. Assumes nothing.
 use Rattle.std.proofs.Common.{◌≡◌, ℕ, suc, ◌+◌, ◌*◌, ◌<◌, ◌≤◌, Bool, true, false, List, [], ◌∷◌, get_or, drop, sym, refl, ap, ◌∙◌, add-one, arith, drop_of_length-le, drop-cons}
-use mathlib.Core.Option.{Option, none, some}
+use Rattle.std.specs.Prelude.{Option, None, Some}
 use Rattle.definition.specs.Types as d
 use Rattle.definition.specs.Types.{State, Struct, Cell, unbound, Spanned, TypeValue, Result, ok, err, refused, ◌>>=◌}
 use Rattle.definition.specs.Store.{node, with_args, spanned, num_loc, sp, with_structs}
@@ -8,13 +8,11 @@ use Rattle.definition.specs.Subst.{unfold_type}
 use Rattle.definition.specs.Join.{join}
 use Rattle.definition.specs.Constraints.{undecided, u64, num_vars, default_num_var, default_num_vars}
 use Rattle.table.specs.Rows.{read_option}
-use Rattle.table.specs.State.{Lay, Any, Refines, Changed, After, NodesIn, outcome, seen, view, done, found, node_of, shape_of}
+use Rattle.table.specs.State.{Lay, Any, Refines, Changed, After, NodesIn, outcome, seen, view, done, node_of, shape_of}
 use Rattle.table.specs.declared.Outcome.{Outcome}
 use Rattle.table.specs.declared.Used.{Used}
 use Rattle.table.specs.declared.Node.{Node}
 use Rattle.table.specs.declared.Out.TheVariants.{Done}
-use Rattle.table.specs.declared.Found.{Found}
-use Rattle.table.specs.declared.Found.TheVariants.{Nothing, Just}
 use Rattle.table.proofs.Steps.{bind_assoc, refines_now, refines_is, refines_on, refines_as, refines_stop, refines_then, after_stop, after_then}
 use Rattle.table.proofs.Grown.{value_is}
 use Rattle.table.proofs.Fields.{num_read}
@@ -59,20 +57,20 @@ from_start : (v loc : ℕ) {w : List ℕ} {u : Used} {w' : List ℕ} {r : Outcom
 unfolding join_u64
 from_start v loc a = a
 
-module _ (v loc : ℕ) (w : List ℕ) (u : Used) (w₁ : List ℕ) (a : Outcome) (b : Found) (ta : After w u w₁ a (λ s. sp s loc (d.Apply (some 7) (d.Builtin 3) []))) (da : b ≡ done a.out) where
-  pub u64_full : b ≡ Nothing → After w u w₁ a (λ s. join_u64 s v loc)
+module _ (v loc : ℕ) (w : List ℕ) (u : Used) (w₁ : List ℕ) (a : Outcome) (b : Option ℕ) (ta : After w u w₁ a (λ s. sp s loc (d.Apply (Some 7) (d.Builtin 3) []))) (da : b ≡ done a.out) where
+  pub u64_full : b ≡ None → After w u w₁ a (λ s. join_u64 s v loc)
   unfolding u64
   u64_full q = from_start v loc (after_stop (from_u64 v loc) ta da q)
 
-  module _ (t : ℕ) (is : b ≡ Just t) (w₂ : List ℕ) (r₂ : Outcome) (b₂ : Found) (tb : After w₁ a.used w₂ r₂ (λ s. sp s loc (d.Var v))) (db : b₂ ≡ done r₂.out) where
+  module _ (t : ℕ) (is : b ≡ Some t) (w₂ : List ℕ) (r₂ : Outcome) (b₂ : Option ℕ) (tb : After w₁ a.used w₂ r₂ (λ s. sp s loc (d.Var v))) (db : b₂ ≡ done r₂.out) where
     u64_then : {w₃ : List ℕ} {r₃ : Outcome} → After w₁ a.used w₃ r₃ (λ s. sp s loc (d.Var v) >>= from_tvar t) → After w u w₃ r₃ (λ s. join_u64 s v loc)
     unfolding u64
     u64_then n = from_start v loc (after_then a.out (from_u64 v loc) ta.changed da is n)
 
-    pub tvar_full : b₂ ≡ Nothing → After w u w₂ r₂ (λ s. join_u64 s v loc)
+    pub tvar_full : b₂ ≡ None → After w u w₂ r₂ (λ s. join_u64 s v loc)
     tvar_full q = u64_then (after_stop (from_tvar t) tb db q)
 
-    pub u64_joined : (x : ℕ) → b₂ ≡ Just x → (w₃ : List ℕ) (r₃ : Outcome) → After w₂ r₂.used w₃ r₃ (λ s. join s t x) → After w u w₃ r₃ (λ s. join_u64 s v loc)
+    pub u64_joined : (x : ℕ) → b₂ ≡ Some x → (w₃ : List ℕ) (r₃ : Outcome) → After w₂ r₂.used w₃ r₃ (λ s. join s t x) → After w u w₃ r₃ (λ s. join_u64 s v loc)
     u64_joined x q w₃ r₃ n = u64_then (after_then r₂.out (from_tvar t) tb.changed db q n)
 
 -- ---- default_num_var
@@ -104,35 +102,35 @@ still : {w : List ℕ} {u : Used} {f : State → Result (State × ℕ)} → Lay 
 unfolding outcome
 still h e = refines_now h (λ ds k. e ds)
 
-done_others : (u : Used) → done (Done 0) ≡ Nothing → NodesIn u.nodes (Done 0)
+done_others : (u : Used) → done (Done 0) ≡ None → NodesIn u.nodes (Done 0)
 done_others u e = let z : ◌≡◌ {A = ℕ} 0 1 = cc in absurd (omega arith)
 
 module _ (w : List ℕ) (u : Used) (v loc : ℕ) (r : Bool) (is : (ds : List Struct) → r ≡ undecided (unfold_type (seen w u ds) (var_at loc v)).value) where
   pub default_decided : Lay w u → r ≡ false → Answered w u w (record { out = Done 0; used = u }) (λ s. numbered (default_num_var s v loc))
   default_decided h q = record { changed = still h (λ ds. default_stays (seen w u ds) v loc (sym (is ds) ∙ q)); others = done_others u }
 
-  module _ (q : r ≡ true) (w₁ : List ℕ) (a : Outcome) (b : Found) (ta : After w u w₁ a (λ s. join_u64 s v loc)) (da : b ≡ done a.out) where
+  module _ (q : r ≡ true) (w₁ : List ℕ) (a : Outcome) (b : Option ℕ) (ta : After w u w₁ a (λ s. join_u64 s v loc)) (da : b ≡ done a.out) where
     joins : (ds : List Struct) → Any ds → (join_u64 (seen w u ds) v loc >>= no_number) ≡ numbered (default_num_var (seen w u ds) v loc)
     joins ds k = default_joins (seen w u ds) v loc (sym (is ds) ∙ q)
 
-    pub default_stop : b ≡ Nothing → Answered w u w₁ a (λ s. numbered (default_num_var s v loc))
+    pub default_stop : b ≡ None → Answered w u w₁ a (λ s. numbered (default_num_var s v loc))
     default_stop n = record { changed = refines_is joins (refines_stop a.out no_number ta.changed da n); others = λ e. ta.inside }
 
-    pub default_done : (t : ℕ) → b ≡ Just t → Answered w u w₁ (record { out = Done 0; used = a.used }) (λ s. numbered (default_num_var s v loc))
+    pub default_done : (t : ℕ) → b ≡ Some t → Answered w u w₁ (record { out = Done 0; used = a.used }) (λ s. numbered (default_num_var s v loc))
     default_done t n = record { changed = refines_is joins (refines_then a.out no_number ta.changed da n (still ta.changed.lay (λ ds. refl))); others = done_others a.used }
 
 -- ---- a variable with a mark, or without
 
-pub measured_none : (w : List ℕ) (u : Used) (v : ℕ) (m : Found) → Lay w u → m ≡ Nothing → Answered w u w (record { out = Done 0; used = u }) (λ s. numbered (default_marked s v (found m)))
+pub measured_none : (w : List ℕ) (u : Used) (v : ℕ) (m : Option ℕ) → Lay w u → m ≡ None → Answered w u w (record { out = Done 0; used = u }) (λ s. numbered (default_marked s v m))
 unfolding numbered default_marked ◌>>=◌
 measured_none w u v m h e = rw e (record { changed = still h (λ ds. refl); others = done_others u })
 
-pub marked_some : (w : List ℕ) (u : Used) (v : ℕ) (m : Found) (w' : List ℕ) (r : Outcome) (loc : ℕ) → m ≡ Just loc → Answered w u w' r (λ s. numbered (default_num_var s v loc)) → Answered w u w' r (λ s. numbered (default_marked s v (found m)))
+pub marked_some : (w : List ℕ) (u : Used) (v : ℕ) (m : Option ℕ) (w' : List ℕ) (r : Outcome) (loc : ℕ) → m ≡ Some loc → Answered w u w' r (λ s. numbered (default_num_var s v loc)) → Answered w u w' r (λ s. numbered (default_marked s v m))
 unfolding default_marked
 marked_some w u v m w' r loc e a = rw e a
 
-pub saved_is : (w : List ℕ) (u : Used) (saved : List ℕ) (v : ℕ) (m : Found) → Saved w u saved → v < u.vars → found m ≡ read_option (get_or saved (v * 5 + 2) 0) (get_or saved (v * 5 + 3) 0)
-    → found m ≡ (get_or (view w u).vars v unbound).numeric
+pub saved_is : (w : List ℕ) (u : Used) (saved : List ℕ) (v : ℕ) (m : Option ℕ) → Saved w u saved → v < u.vars → m ≡ read_option (get_or saved (v * 5 + 2) 0) (get_or saved (v * 5 + 3) 0)
+    → m ≡ (get_or (view w u).vars v unbound).numeric
 unfolding num_loc seen with_structs
 saved_is w u saved v m h lt e =
     let p : 16389 + (v * 5 + 2) ≡ 16389 + v * 5 + 2 = omega arith in
@@ -147,8 +145,8 @@ saved_is w u saved v m h lt e =
 defaults_cons : (s : State) (v : ℕ) (c : Cell) (cells : List Cell) (m : Option ℕ) → c.numeric ≡ m → ((t : State) → defaults t (suc v) cells ≡ default_num_vars t (num_vars (suc v) cells))
     → (default_marked s v c.numeric >>= (λ t. defaults t (suc v) cells)) ≡ default_num_vars s (num_vars v (c ∷ cells))
 unfolding default_num_vars num_vars default_marked ◌>>=◌
-defaults_cons s v c cells none e h = rw (e, num_vars) (h s)
-defaults_cons s v c cells (some loc) e h = rw (e, num_vars) (λ i. default_num_var s v loc >>= (λ t. h t i))
+defaults_cons s v c cells None e h = rw (e, num_vars) (h s)
+defaults_cons s v c cells (Some loc) e h = rw (e, num_vars) (λ i. default_num_var s v loc >>= (λ t. h t i))
 
 defaults_is : (s : State) (v : ℕ) (cells : List Cell) → defaults s v cells ≡ default_num_vars s (num_vars v cells)
 unfolding defaults default_num_vars num_vars
@@ -191,19 +189,19 @@ module _ (w₀ : List ℕ) (u : Used) where
     unfolding outcome
     defaulting_all le = record { changed = refines_is (λ ds k. whole ds) (refines_as (λ m. m) h.changed (λ s. rest_none s v le)); others = done_others at }
 
-    module _ (lt : v < u.vars) (saved : List ℕ) (m : Found) (kept : Saved w₀ u saved) (is : found m ≡ read_option (get_or saved (v * 5 + 2) 0) (get_or saved (v * 5 + 3) 0)) (x : ℕ) (e : x ≡ v)
-        (w₁ : List ℕ) (a : Outcome) (b : Found) (ta : Answered w at w₁ a (λ s. numbered (default_marked s x (found m)))) (da : b ≡ done a.out) where
+    module _ (lt : v < u.vars) (saved : List ℕ) (m : Option ℕ) (kept : Saved w₀ u saved) (is : m ≡ read_option (get_or saved (v * 5 + 2) 0) (get_or saved (v * 5 + 3) 0)) (x : ℕ) (e : x ≡ v)
+        (w₁ : List ℕ) (a : Outcome) (b : Option ℕ) (ta : Answered w at w₁ a (λ s. numbered (default_marked s x m))) (da : b ≡ done a.out) where
       abbrev onward : State × ℕ → Result (State × ℕ)
       onward y = rest (v + 1) y.0
 
-      one_more : (s : State) → (numbered (default_marked s x (found m)) >>= onward) ≡ rest v s
-      one_more s = rw e (rest_more s v (found m) lt (saved_is w₀ u saved v m kept lt is))
+      one_more : (s : State) → (numbered (default_marked s x m) >>= onward) ≡ rest v s
+      one_more s = rw e (rest_more s v m lt (saved_is w₀ u saved v m kept lt is))
 
-      stepped : {w₂ : List ℕ} {u₂ : Used} {answer : State → Result (State × ℕ)} → Refines Any w at w₂ u₂ answer (λ s. numbered (default_marked s x (found m)) >>= onward) → Refines Any w₀ u w₂ u₂ answer (rest 0)
+      stepped : {w₂ : List ℕ} {u₂ : Used} {answer : State → Result (State × ℕ)} → Refines Any w at w₂ u₂ answer (λ s. numbered (default_marked s x m) >>= onward) → Refines Any w₀ u w₂ u₂ answer (rest 0)
       stepped r = refines_on (λ m. m) h.changed (refines_is (λ ds k. one_more (seen w at ds)) r)
 
-      pub defaulting_stop : b ≡ Nothing → Answered w₀ u w₁ a (λ s. numbered (default_num_vars s (num_vars 0 s.vars)))
+      pub defaulting_stop : b ≡ None → Answered w₀ u w₁ a (λ s. numbered (default_num_vars s (num_vars 0 s.vars)))
       defaulting_stop q = record { changed = refines_is (λ ds k. whole ds) (stepped (refines_stop a.out onward ta.changed da q)); others = ta.others }
 
-      pub defaulting_more : (t : ℕ) → b ≡ Just t → Defaulting w₁ a.used (v + 1)
+      pub defaulting_more : (t : ℕ) → b ≡ Some t → Defaulting w₁ a.used (v + 1)
       defaulting_more t q = record { within = omega arith; changed = stepped (refines_then a.out onward ta.changed da q (refines_now ta.changed.lay (λ ds k. refl))) }

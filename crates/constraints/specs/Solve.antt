@@ -1,6 +1,6 @@
 -- The steps of solve_constraints, and what their answers stand for. Assumes nothing: these are definitions.
 use Rattle.std.specs.Prelude.{◌≡◌, ℕ, suc, List, [], ◌∷◌}
-use Rattle.std.proofs.Math.Option.{Option, none, some}
+use Rattle.std.specs.Prelude.{Option, None, Some}
 use Rattle.definition.specs.Types as d
 use Rattle.definition.specs.Types.{State, Cell, Result, ok, ◌>>=◌}
 use Rattle.definition.specs.Store.{sp}
@@ -10,7 +10,6 @@ use Rattle.definition.specs.Record as record_of
 use Rattle.table.specs.State.{Changed, NodesIn, done}
 use Rattle.table.specs.declared.Used.{Used}
 use Rattle.table.specs.declared.Outcome.{Outcome}
-use Rattle.table.specs.declared.Found.TheVariants.{Nothing}
 use Rattle.constraints.specs.declared.NumericKind.{NumericKind}
 use Rattle.constraints.specs.declared.NumericKind.TheVariants.{Numeric, Bits, Ordered}
 
@@ -26,7 +25,7 @@ numbered r = r >>= (λ s. ok (s, 0))
 -- the words w with u in use became w' and the answer r, as f says; the types of an error are nodes
 pub record Answered (w : List ℕ) (u : Used) (w' : List ℕ) (r : Outcome) (f : State → Result (State × ℕ)) : Type 0 where
   pub changed : Changed w u w' r f
-  pub others : done r.out ≡ Nothing → NodesIn r.used.nodes r.out
+  pub others : done r.out ≡ None → NodesIn r.used.nodes r.out
 
 -- the join of a variable that nothing decides
 unfoldable pub join_u64 : State → ℕ → ℕ → Result (State × ℕ)
@@ -36,8 +35,8 @@ join_u64 subst num_var loc = do
   join subst u64 tvar
 
 unfoldable pub default_marked : State → ℕ → Option ℕ → Result State
-default_marked subst num_var none = ok subst
-default_marked subst num_var (some loc) = default_num_var subst num_var loc
+default_marked subst num_var None = ok subst
+default_marked subst num_var (Some loc) = default_num_var subst num_var loc
 
 -- default_num_vars of the variables from v on, as these cells mark them
 unfoldable pub defaults : State → ℕ → List Cell → Result State

@@ -10,7 +10,7 @@ ghost use Rattle.definition.specs.Subst.{unfold_type};
 ghost use Rattle.definition.specs.Constraints.{undecided, num_vars, default_num_var, default_num_vars, by_rule};
 ghost use Rattle.definition.specs.Step.{numeric_constraint};
 ghost use Rattle.table.specs.Rows.{read_option};
-ghost use Rattle.table.specs.State.{constraint_of, found, seen, Lay, Changed, After, Wrote, pushed_constraint};
+ghost use Rattle.table.specs.State.{constraint_of, seen, Lay, Changed, After, Wrote, pushed_constraint};
 ghost use Rattle.subst.specs.Answers.{var_at};
 ghost use Rattle.snapshot.specs.Snap.{Saved};
 ghost use Rattle.constraints.specs.Emptied.{First, Emptied};
@@ -25,9 +25,7 @@ use abilities::{Asked, Rule};
 use failing::{Failing, ask_of, good, unless};
 use names::{AbilityMark, AbilitySet, TVar, TypeName};
 use subst::Unfolded;
-use table::{
-    CONSTRAINT_WORDS, CONSTRAINTS_AT, Constraint, Found, Out, Outcome, Shape, Used, VAR_WORDS,
-};
+use table::{CONSTRAINT_WORDS, CONSTRAINTS_AT, Constraint, Out, Outcome, Shape, Used, VAR_WORDS};
 
 // The operators that a type is asked for.
 #[derive(Clone, Copy)]
@@ -85,17 +83,17 @@ fn join_u64(w: &mut [u32], u: Used, num_var: TVar, loc: u32) -> Outcome
     requires { Lay w.old u }
     ensures { After w.old u w.new result (λ s. join_u64 s num_var.0 loc) }
 {
-    let k = AbilityMark::Set(AbilitySet::PRIMITIVES);
+    let k = Some(AbilitySet::PRIMITIVES);
     let a = table::push_apply(w, u, loc, k, TypeName::Builtin(3), [0; 8], 0);
     let ao = a.out;
     let au = a.used;
-    let Found::Just(u64_) = table::done_of(ao) else {
+    let Some(u64_) = table::done_of(ao) else {
         return a;
     };
     let b = table::push_node(w, au, loc, Shape::Var(num_var));
     let bo = b.out;
     let bu = b.used;
-    let Found::Just(tvar) = table::done_of(bo) else {
+    let Some(tvar) = table::done_of(bo) else {
         return b;
     };
     join::join(w, bu, u64_, tvar)
@@ -109,7 +107,7 @@ fn default_num_var(w: &mut [u32], u: Used, num_var: TVar, loc: u32) -> Outcome
         let a = join_u64(w, u, num_var, loc);
         let ao = a.out;
         let au = a.used;
-        let Found::Just(_) = table::done_of(ao) else {
+        let Some(_) = table::done_of(ao) else {
             return a;
         };
         return Outcome {
@@ -124,29 +122,29 @@ fn default_num_var(w: &mut [u32], u: Used, num_var: TVar, loc: u32) -> Outcome
 }
 
 // A variable that has a mark, at the mark's location.
-fn default_marked(w: &mut [u32], u: Used, num_var: TVar, mark: Found) -> Outcome
+fn default_marked(w: &mut [u32], u: Used, num_var: TVar, mark: Option<u32>) -> Outcome
     requires { Lay w.old u }
-    ensures { Answered w.old u w.new result (λ s. numbered (default_marked s num_var.0 (found mark))) }
+    ensures { Answered w.old u w.new result (λ s. numbered (default_marked s num_var.0 mark)) }
 {
     match mark {
-        Found::Nothing => Outcome {
+        None => Outcome {
             out: Out::Done(0),
             used: u,
         },
-        Found::Just(loc) => default_num_var(w, u, num_var, loc),
+        Some(loc) => default_num_var(w, u, num_var, loc),
     }
 }
 
 // The mark that variable v had when the rows were saved.
-fn saved_mark(saved: &[u32], v: u32) -> Found
+fn saved_mark(saved: &[u32], v: u32) -> Option<u32>
     requires { (v < 1024) × (5120 ≤ length saved.now) }
-    ensures { found result ≡ read_option (slice_index saved.now (v * 5 + 2)) (slice_index saved.now (v * 5 + 3)) }
+    ensures { result ≡ read_option (slice_index saved.now (v * 5 + 2)) (slice_index saved.now (v * 5 + 3)) }
 {
     let at = v as usize * VAR_WORDS;
     if saved[at + 2] == 1 {
-        Found::Just(saved[at + 3])
+        Some(saved[at + 3])
     } else {
-        Found::Nothing
+        None
     }
 }
 
@@ -164,7 +162,7 @@ pub fn default_num_vars(w: &mut [u32], u: Used, saved: &[u32]) -> Outcome
         let a = default_marked(w, at, num_var, mark);
         let ao = a.out;
         let au = a.used;
-        let Found::Just(_) = table::done_of(ao) else {
+        let Some(_) = table::done_of(ao) else {
             return a;
         };
         at = au;
@@ -256,8 +254,8 @@ fn by_rule(loc: u32, ability: u8, t: u32, r: Rule) -> Failing
     ensures { ((n : ℕ) → t < n → FailingIn n result) × ((s : d.State) → failing result s ≡ by_rule s loc ability (spanned s t) (rule_of r)) }
 {
     match r {
-        Rule::Declaration => Failing::Lacks(loc, ability, t, Found::Nothing),
-        Rule::Argument(i) => Failing::Lacks(loc, ability, t, Found::Just(i)),
+        Rule::Declaration => Failing::Lacks(loc, ability, t, None),
+        Rule::Argument(i) => Failing::Lacks(loc, ability, t, Some(i)),
         Rule::Contradicted => Failing::Fine,
     }
 }

@@ -1,6 +1,6 @@
 -- 01, 'One join, followed down', rule by rule on small types, computed. Each line is false under an edit of must-fail/ (docs/CLAIMS.md, 'Edits of the definition'). Assumes nothing.
 use Rattle.std.proofs.Common.{◌≡◌, ℕ, List, [], ◌∷◌, ◌++◌, refl}
-use mathlib.Core.Option.{some}
+use Rattle.std.specs.Prelude.{Some}
 use Rattle.definition.specs.Types.{fresh}
 use Rattle.definition.specs.Store.{num_loc}
 use Rattle.definition.specs.Write.{Bytes, u32}
@@ -78,11 +78,11 @@ pub both_ends_bound : after (FV 1 ∷ FV 2 ∷ JN (var 3 0) (var 4 1) ∷ JN (va
 unfolding after
 both_ends_bound = refl
 
-pub mark_at_its_location : num_loc (left_by fresh (NV 9 ∷ [])) 0 ≡ some 9
+pub mark_at_its_location : num_loc (left_by fresh (NV 9 ∷ [])) 0 ≡ Some 9
 unfolding left_by
 mark_at_its_location = refl
 
-pub second_mark_kept : num_loc (left_by fresh (NV 5 ∷ NV 9 ∷ JN (var 1 0) (var 2 1) ∷ [])) 2 ≡ some 9
+pub second_mark_kept : num_loc (left_by fresh (NV 5 ∷ NV 9 ∷ JN (var 1 0) (var 2 1) ∷ [])) 2 ≡ Some 9
 unfolding left_by
 second_mark_kept = refl
 

@@ -1,7 +1,7 @@
 -- 01's limits, computed in states written down: each line is false under an edit of must-fail/ (docs/CLAIMS.md, 'Edits of the definition'). The other side of each
 -- limit is in crates/test_replay, EdgeLimits. Assumes nothing.
 use Rattle.std.proofs.Common.{◌≡◌, ℕ, zero, suc, false, List, [], ◌∷◌, replicate, refl}
-use mathlib.Core.Option.{none, some}
+use Rattle.std.specs.Prelude.{None, Some}
 use Rattle.definition.specs.Types.{UnitType, Ref, Node, unbound, BaseTypeConstraint, State, fresh, refused, full, max_vars, ◌>>=◌}
 use Rattle.definition.specs.Store.{next_tvar}
 use Rattle.definition.specs.Record as record_of
@@ -58,7 +58,7 @@ abbrev pub deep : Node → ℕ → State
 deep leaf n = record {
   nodes = leaf ∷ nested n 0;
   args = [];
-  vars = replicate 2 (record { binding = some n; numeric = none });
+  vars = replicate 2 (record { binding = Some n; numeric = None });
   constraints = [];
   structs = [];
 }

@@ -2,7 +2,7 @@
 -- Ability_::requires; 02, R-1. The names are the Rust's. Assumes nothing: these are definitions.
 -- Changed from the source that NOTICE names: ported to Rattle.
 use Rattle.std.specs.Prelude.{◌&&◌, ◌∷◌, ◌+◌, ◌/◌, ◌%◌, if◌then◌else◌}
-use Rattle.definition.specs.Types.{Bool, true, false, not, List, [], Option, none, some, ℕ, zero, suc, get_or, ltb, eqb, TypeName, Multiple, Builtin, ModuleType, UnitType, Ref, Param, Apply, Var, Anything, UnresolvedError, TypeValue, State}
+use Rattle.definition.specs.Types.{Bool, true, false, not, List, [], Option, None, Some, ℕ, zero, suc, get_or, ltb, eqb, TypeName, Multiple, Builtin, ModuleType, UnitType, Ref, Param, Apply, Var, Anything, UnresolvedError, TypeValue, State}
 use Rattle.definition.specs.Store.{count, spanned}
 use Rattle.definition.specs.Subst.{unfold_type}
 use Rattle.definition.specs.Instantiate.{struct_tparams}
@@ -61,11 +61,11 @@ counts s n i = elim n [ Multiple len ↦ true | Builtin b ↦ true | ModuleType 
 
 -- the place of the first argument that counts and lacks; the first of all has place i
 unfoldable pub first_lacking : (ℕ → Bool) → (ℕ → Bool) → ℕ → List ℕ → Option ℕ
-first_lacking counts lacks i [] = none
-first_lacking counts lacks i (ty ∷ tys) = elim (counts i && lacks ty) [ true ↦ some i | false ↦ first_lacking counts lacks (suc i) tys ]
+first_lacking counts lacks i [] = None
+first_lacking counts lacks i (ty ∷ tys) = elim (counts i && lacks ty) [ true ↦ Some i | false ↦ first_lacking counts lacks (suc i) tys ]
 
 unfoldable pub is_none : Option ℕ → Bool
-is_none place = elim place [ none ↦ true | some i ↦ false ]
+is_none place = elim place [ None ↦ true | Some i ↦ false ]
 
 -- ---- infer_abilities
 -- over the abilities that `infer` gives each argument
@@ -85,8 +85,8 @@ module _ (infer : ℕ → ℕ) (s : State) where
   infer_value UnresolvedError = all
   infer_value Anything = all
   infer_value (Param id abilities) = abilities
-  infer_value (Apply (some abilities) n tys) = abilities
-  infer_value (Apply none n tys) = from_abilities (those (granted n tys))
+  infer_value (Apply (Some abilities) n tys) = abilities
+  infer_value (Apply None n tys) = from_abilities (those (granted n tys))
 
 -- n levels, those that ends_in counts. A type whose reading is over in n levels meets no 0
 unfoldable pub infer : ℕ → State → ℕ → ℕ
@@ -103,7 +103,7 @@ pub data Rule : Type 0 where
   argument : ℕ → Rule
 
 unfoldable pub by_argument : Option ℕ → Rule
-by_argument place = elim place [ none ↦ contradicted | some i ↦ argument i ]
+by_argument place = elim place [ None ↦ contradicted | Some i ↦ argument i ]
 
 -- of an unfolded type. What (), a reference or a parameter lacks nothing grants; `_` and `!` lack nothing
 unfoldable pub rule : State → ℕ → TypeValue → Rule

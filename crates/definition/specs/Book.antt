@@ -1,6 +1,6 @@
 -- What the Move Book says of subtyping, of integer literals and of abilities, in its own terms, and what that claims of subtype, join and SV. Assumes nothing: these are definitions.
 use Rattle.std.specs.Prelude.{◌≤◌, ◌≢◌, ◌↔◌, ◌≡◌, ◌∷◌, ◌<◌}
-use Rattle.definition.specs.Types.{Bool, true, false, List, [], none, some, ℕ, length, get_or, TypeName, Multiple, Builtin, ModuleType, AbilityMark, TypeValue, UnitType, Ref, Param, Apply, Var, Anything, UnresolvedError}
+use Rattle.definition.specs.Types.{Bool, true, false, List, [], None, Some, ℕ, length, get_or, TypeName, Multiple, Builtin, ModuleType, AbilityMark, TypeValue, UnitType, Ref, Param, Apply, Var, Anything, UnresolvedError}
 use Rattle.definition.specs.Types.{State, TypingError, SubtypeError, Incompatible, ArityMismatch, Refusal, full, too_deep, runs_into_itself, abilities_disagree, mark_contradicted, Result, ok, err, refused}
 use Rattle.definition.specs.Store.{count, type_at, get, num_loc}
 use Rattle.definition.specs.Subst.{forward_tvar, unfold_type}
@@ -117,11 +117,11 @@ pub data Has (s : State) : Ability → TypeValue → Type 0 where
   reference_drop : {m : Bool} {t : ℕ} → Has s drop (Ref m t)
   parameter_has : {a : Ability} {id set : ℕ} → InSet a set → Has s a (Param id set)
   -- of a name without a mark, every argument has what is needed, phantom ones left out
-  named_has : {a : Ability} {n : TypeName} {tys : List ℕ} → Declares s n a → ((i : ℕ) → i < length tys → ¬ Phantom s n i → Has s (needed a) (type_at s (get_or tys i 0))) → Has s a (Apply none n tys)
-  bound_has : {a : Ability} {v t : ℕ} → get s v ≡ some t → Has s a (type_at s t) → Has s a (Var v)
+  named_has : {a : Ability} {n : TypeName} {tys : List ℕ} → Declares s n a → ((i : ℕ) → i < length tys → ¬ Phantom s n i → Has s (needed a) (type_at s (get_or tys i 0))) → Has s a (Apply None n tys)
+  bound_has : {a : Ability} {v t : ℕ} → get s v ≡ Some t → Has s a (type_at s t) → Has s a (Var v)
   -- the Book knows no marks, unbound variables, `_` and `!`: core.rs takes a mark as it is, and gives the others every ability
-  marked_has : {a : Ability} {set : ℕ} {n : TypeName} {tys : List ℕ} → InSet a set → Has s a (Apply (some set) n tys)
-  open_has : {a : Ability} {v : ℕ} → get s v ≡ none → Has s a (Var v)
+  marked_has : {a : Ability} {set : ℕ} {n : TypeName} {tys : List ℕ} → InSet a set → Has s a (Apply (Some set) n tys)
+  open_has : {a : Ability} {v : ℕ} → get s v ≡ None → Has s a (Var v)
   any_has : {a : Ability} → Has s a Anything
   error_has : {a : Ability} → Has s a UnresolvedError
 
@@ -178,7 +178,7 @@ pub record TheBook (s : State) : Type 0 where
   pub subtype_book : (l r : ℕ) (L R : MoveType) → Denotes s l L → Denotes s r R → BookType L → SubtypeRule BookSubtype s l r L R
   pub join_book : (l r : ℕ) (L R : MoveType) → Denotes s l L → Denotes s r R → BookType L → BookType R → JoinRule BookSubtype s l r L R
   -- Integers: the type of a literal that nothing decides is taken to be u64, with the mark that core.rs gives it
-  pub literal : (v loc : ℕ) → num_loc s v ≡ some loc → get s (forward_tvar s v) ≡ none → LiteralRule v (Apply (some 7) (Builtin 3) []) (solve_constraints s)
+  pub literal : (v loc : ℕ) → num_loc s v ≡ Some loc → get s (forward_tvar s v) ≡ None → LiteralRule v (Apply (Some 7) (Builtin 3) []) (solve_constraints s)
   -- .. and that of a literal that is decided stays as it is
   pub decided_literal : (v loc : ℕ) (t : TypeValue) → (unfold_type s (record { loc = loc; value = Var v })).value ≡ t → is_integer t ≡ true → LiteralRule v t (solve_constraints s)
   -- Abilities: a type that does not run into itself has those that the Book gives it, and no others

@@ -1,7 +1,7 @@
 -- The ends of chains: how they are noted, and that reading the table gives what forward_tvar gives. Assumes nothing.
 use mathlib.Core.Path.{◌≡◌, refl, sym, ap, ◌∙◌}
 use mathlib.Core.List.{List}
-use mathlib.Core.Option.{Option, none, some}
+use Rattle.std.specs.Prelude.{Option, None, Some}
 use Prim.Native.Nat.{ℕ, zero, suc, ◌+◌, ◌-◌, ◌<◌, ◌≤◌}
 use native.Mathlib.Decide.{ℕ_discrete, dec_lt}
 use native.Mathlib.Omega.{arith}
@@ -16,8 +16,6 @@ use Rattle.table.specs.declared.Outcome.{Outcome}
 use Rattle.table.specs.declared.Out.{Out}
 use Rattle.shapes.specs.Parts.{next}
 use Rattle.ends.specs.Ends.{EndsBy, Noted, Meets, EndsKnown}
-use Rattle.shapes.specs.declared.Next.{Next}
-use Rattle.shapes.specs.declared.Next.TheVariants.{Last, To}
 use Rattle.ends.specs.declared.Meeting.{Meeting}
 use Rattle.ends.specs.declared.Meeting.TheVariants.{End}
 use Rattle.table.proofs.Pushed.{taken_seen}
@@ -29,22 +27,22 @@ use Rattle.subst.proofs.Occurs.{zero_at}
 clash : {A : Type 0} → ◌≡◌ {A = ℕ} 0 1 → A
 clash z = absurd (omega arith)
 
-none_some : {A : Type 0} {o : Option ℕ} (x : ℕ) → o ≡ none → o ≡ some x → A
+none_some : {A : Type 0} {o : Option ℕ} (x : ℕ) → o ≡ None → o ≡ Some x → A
 none_some x e f = clash (cc)
 
 -- more steps change nothing
-ends_more : (n m : ℕ) (s : State) (v e : ℕ) → forward n s v ≡ e → next_of s e ≡ none → n ≤ m → forward m s v ≡ e
+ends_more : (n m : ℕ) (s : State) (v e : ℕ) → forward n s v ≡ e → next_of s e ≡ None → n ≤ m → forward m s v ≡ e
 unfolding forward
 ends_more zero m s v e f l h = ap (forward m s) f ∙ forward_none m s e l
 ends_more (suc n) zero s v e f l h = absurd (omega arith)
 ends_more (suc n) (suc m) s v e f l h = go (λ x g. ends_more n m s x e g l (omega arith)) (next_of s v) refl
   where
     go : ((x : ℕ) → forward n s x ≡ e → forward m s x ≡ e) → (o : Option ℕ) → next_of s v ≡ o → forward (suc m) s v ≡ e
-    go more none p = forward_none (suc m) s v p ∙ sym (forward_none (suc n) s v p) ∙ f
-    go more (some x) p = forward_some m s v x p ∙ more x (sym (forward_some n s v x p) ∙ f)
+    go more None p = forward_none (suc m) s v p ∙ sym (forward_none (suc n) s v p) ∙ f
+    go more (Some x) p = forward_some m s v x p ∙ more x (sym (forward_some n s v x p) ∙ f)
 
 -- nor does one step on
-ends_next : (n : ℕ) (s : State) (v x e : ℕ) → forward n s v ≡ e → next_of s e ≡ none → next_of s v ≡ some x → forward n s x ≡ e
+ends_next : (n : ℕ) (s : State) (v x e : ℕ) → forward n s v ≡ e → next_of s e ≡ None → next_of s v ≡ Some x → forward n s x ≡ e
 unfolding forward
 ends_next zero s v x e f l p = none_some x (ap (next_of s) f ∙ l) p
 ends_next (suc n) s v x e f l p = ends_more n (suc n) s x e (sym (forward_some n s v x p) ∙ f) l (omega arith)
@@ -53,13 +51,13 @@ module _ {w : List ℕ} {u : Used} where
   pub by_more : {v n x : ℕ} (m : ℕ) → EndsBy w u v n x → n ≤ m → EndsBy w u v m x
   by_more {v} {n} {x} m b h = record { short = b.short; is = λ ds. ends_more n m (seen w u ds) v (x - 1) (b.is ds) (b.last ds) h; last = b.last }
 
-  by_next : {v n x : ℕ} (y : ℕ) → EndsBy w u v n x → ((ds : List Struct) → next_of (seen w u ds) v ≡ some y) → EndsBy w u y n x
+  by_next : {v n x : ℕ} (y : ℕ) → EndsBy w u v n x → ((ds : List Struct) → next_of (seen w u ds) v ≡ Some y) → EndsBy w u y n x
   by_next {v} {n} {x} y b p = record { short = b.short; is = λ ds. ends_next n (seen w u ds) v y (x - 1) (b.is ds) (b.last ds) (p ds); last = b.last }
 
-  by_step : {v y n x : ℕ} → ((ds : List Struct) → next_of (seen w u ds) v ≡ some y) → EndsBy w u y n x → EndsBy w u v (suc n) x
+  by_step : {v y n x : ℕ} → ((ds : List Struct) → next_of (seen w u ds) v ≡ Some y) → EndsBy w u y n x → EndsBy w u v (suc n) x
   by_step {v} {y} {n} {x} p b = record { short = b.short; is = λ ds. forward_some n (seen w u ds) v y (p ds) ∙ b.is ds; last = b.last }
 
-  by_here : (v n : ℕ) → v < 65536 → ((ds : List Struct) → next_of (seen w u ds) v ≡ none) → EndsBy w u v n (v + 1)
+  by_here : (v n : ℕ) → v < 65536 → ((ds : List Struct) → next_of (seen w u ds) v ≡ None) → EndsBy w u v n (v + 1)
   by_here v n l p =
       let e : v ≡ v + 1 - 1 = omega arith in
       record { short = omega arith; is = λ ds. forward_none n (seen w u ds) v (p ds) ∙ e; last = λ ds. rw (← e) (p ds) }
@@ -110,11 +108,11 @@ module _ {w : List ℕ} {u : Used} {v longest cur long : ℕ} (f : Following w u
       let b = t.ends_by cur (rw (← e) p) in
       (f.le, (h, f.back longest long x (omega arith) (rw e b)))
 
-  module _ (r : Next) (e : (ds : List Struct) → next r ≡ next_of (seen w u ds) cur) where
-    pub following_last : r ≡ Last → (x : ℕ) → x ≡ cur → x < 65536 → Meets w u v longest (End (x + 1) long)
+  module _ (r : Option TVar) (e : (ds : List Struct) → next r ≡ next_of (seen w u ds) cur) where
+    pub following_last : r ≡ None → (x : ℕ) → x ≡ cur → x < 65536 → Meets w u v longest (End (x + 1) long)
     following_last z x y l = (f.le, (h, f.back longest long (x + 1) (omega arith) (rw y (by_here cur longest (rw (← y) l) (λ ds. sym (e ds) ∙ ap next z)))))
 
-    pub following_on : (y : TVar) → r ≡ To y → Following w u v longest y.0 (long + 1)
+    pub following_on : (y : TVar) → r ≡ Some y → Following w u v longest y.0 (long + 1)
     following_on y z =
         let l = f.le in
         record { le = omega arith; back = λ m n x k b. f.back (suc m) n x (omega arith) (by_step (λ ds. sym (e ds) ∙ ap next z) b) }
@@ -130,7 +128,7 @@ module _ {w : List ℕ} {u : Used} {x long : ℕ} {ends : List ℕ} {cur : ℕ} 
   pub noting_done : Noted w u long ends'
   noting_done = rw e (noted_set cur x g.noted g.here)
 
-  pub noting_on : (r : Next) → ((ds : List Struct) → next r ≡ next_of (seen w u ds) cur) → (y : TVar) → r ≡ To y → Noting w u x long ends' y.0
+  pub noting_on : (r : Option TVar) → ((ds : List Struct) → next r ≡ next_of (seen w u ds) cur) → (y : TVar) → r ≡ Some y → Noting w u x long ends' y.0
   noting_on r f y z = record { noted = noting_done; here = by_next y.0 g.here (λ ds. sym (f ds) ∙ ap next z) }
 
 pub meets_end : {w : List ℕ} {u : Used} {v longest : ℕ} (r : Meeting) → Meets w u v longest r → (x long : ℕ) → r ≡ End x long → (longest ≤ long) × ((long ≤ u.vars) × EndsBy w u v long x)

@@ -1,6 +1,6 @@
 -- The ends of chains, noted once for all variables: what the table of them says. Assumes nothing: these are definitions.
 use Rattle.std.specs.Prelude.{◌≡◌, List, ℕ, ◌-◌, ◌<◌, ◌≤◌, length, get_or}
-use Rattle.std.proofs.Math.Option.{none}
+use Rattle.std.specs.Prelude.{None}
 use Rattle.definition.specs.Types.{Struct}
 use Rattle.definition.specs.Subst.{next_of, forward, forward_tvar}
 use Rattle.table.specs.State.{seen}
@@ -12,7 +12,7 @@ use Rattle.ends.specs.declared.Meeting.TheVariants.{End, Never}
 pub record EndsBy (w : List ℕ) (u : Used) (v n x : ℕ) : Type 0 where
   pub short : x ≤ 65536
   pub is : (ds : List Struct) → forward n (seen w u ds) v ≡ x - 1
-  pub last : (ds : List Struct) → next_of (seen w u ds) (x - 1) ≡ none
+  pub last : (ds : List Struct) → next_of (seen w u ds) (x - 1) ≡ None
 
 -- a number that is noted says so of its variable
 pub record Noted (w : List ℕ) (u : Used) (n : ℕ) (ends : List ℕ) : Type 0 where

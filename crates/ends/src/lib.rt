@@ -12,7 +12,6 @@ ghost use Rattle.ends.specs.Ends.{EndsBy, Noted, Meets, EndsKnown};
 ghost use Rattle.ends.specs.Itself.{Goes_on, Higher, Levels, Measured, Soon};
 
 use names::TVar;
-use shapes::Next;
 use subst::Unfolded;
 use table::{Shape, Used};
 
@@ -48,10 +47,10 @@ fn meet(w: &[u32], u: Used, v: TVar, longest: u32, ends: &[u32]) -> Meeting
             return Meeting::End(known, long);
         }
         match subst::next_of(w, u, cur) {
-            Next::Last => {
+            None => {
                 return Meeting::End(table::number(cur) + 1, long);
             }
-            Next::To(x) => {
+            Some(x) => {
                 cur = x;
                 long = long + 1;
             }
@@ -74,10 +73,10 @@ fn note_chain(w: &[u32], u: Used, v: TVar, x: u32, long: u32, ends: &mut [u32])
         }
         table::note(ends, cur, x);
         match subst::next_of(w, u, cur) {
-            Next::Last => {
+            None => {
                 return;
             }
-            Next::To(y) => {
+            Some(y) => {
                 cur = y;
                 links = links - 1;
             }
@@ -137,8 +136,8 @@ fn unfold_by(w: &[u32], u: Used, t: u32, ends: &[u32]) -> Unfolded
     let s = n.shape;
     let loc = n.loc;
     match shapes::as_var(s) {
-        Next::Last => Unfolded::Node(t),
-        Next::To(v) => {
+        None => Unfolded::Node(t),
+        Some(v) => {
             let last = chain_end(w, u, v, ends);
             subst::unfold_end(w, u, loc, last)
         }

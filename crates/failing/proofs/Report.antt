@@ -1,4 +1,5 @@
 -- One failure as bytes, written head first, and that declarations do not show in it. Assumes nothing.
+use Rattle.std.specs.Prelude.{Option, None, Some}
 use mathlib.Core.Path.{◌≡◌, refl, sym, ap, ◌∙◌, subst, fun_ext}
 use mathlib.Core.List.{List, [], ◌∷◌, ◌++◌}
 use Prim.Native.Nat.{ℕ, zero, suc, ◌+◌, ◌≤◌, ◌<◌, ◌%◌}
@@ -12,8 +13,6 @@ use Rattle.definition.specs.Constraints.{failure, ability_failure}
 use Rattle.definition.specs.Write.{Bytes, u32, write, write_spanned, write_down, head, each}
 use Rattle.table.specs.State.{view, seen, FoundIn}
 use Rattle.table.specs.declared.Used.{Used}
-use Rattle.table.specs.declared.Found.{Found}
-use Rattle.table.specs.declared.Found.TheVariants.{Nothing, Just}
 use Rattle.failing.specs.Failing.{why, failing, FailingIn}
 use Rattle.failing.specs.declared.Failing.{Failing}
 use Rattle.failing.specs.declared.Failing.TheVariants.{Fine, Node, Anything, Lacks}
@@ -33,13 +32,13 @@ module _ (n : ℕ) (f : Failing) (h : FailingIn n f) where
   pub anything_code : (code loc at : ℕ) → f ≡ Anything code loc at → code < 4
   anything_code code loc at e = rw e at h
 
-  pub lacks_below : (loc ability t : ℕ) (place : Found) → f ≡ Lacks loc ability t place → (t < n) × FoundIn 8 place
+  pub lacks_below : (loc ability t : ℕ) (place : Option ℕ) → f ≡ Lacks loc ability t place → (t < n) × FoundIn 8 place
   lacks_below loc ability t place e = rw e at h
 
-pub why_nothing : (place : Found) (b : Bytes) → place ≡ Nothing → b ≡ 1 ∷ [] → b ≡ why place
+pub why_nothing : (place : Option ℕ) (b : Bytes) → place ≡ None → b ≡ 1 ∷ [] → b ≡ why place
 why_nothing place b e is = rw e is
 
-pub why_just : (place : Found) (i b : ℕ) → FoundIn 8 place → place ≡ Just i → b ≡ i % 256 → 2 ∷ b ∷ [] ≡ why place
+pub why_just : (place : Option ℕ) (i b : ℕ) → FoundIn 8 place → place ≡ Some i → b ≡ i % 256 → 2 ∷ b ∷ [] ≡ why place
 why_just place i b h e is = let lt : i < 8 = rw e at h in let same : b ≡ i = omega arith in rw (e, same) refl
 
 -- ---- two runs of bytes
@@ -95,7 +94,7 @@ module _ (s : State) where
   unfolding type_and ability_failure write u32
   lacks_is loc ability t y = record { is = refl }
 
-  module _ (f : Failing) (loc ability t : ℕ) (place : Found) (e : f ≡ Lacks loc ability t place) where
+  module _ (f : Failing) (loc ability t : ℕ) (place : Option ℕ) (e : f ≡ Lacks loc ability t place) where
     pub lacks_fit : (at m : ℕ) → at + length (failing f s) ≤ m → at + length (ability_failure s loc ability (spanned s t) (why place)) ≤ m
     lacks_fit at m h = rw e at h
 

@@ -1,4 +1,5 @@
 -- How many bytes one failure has. Assumes nothing.
+use Rattle.std.specs.Prelude.{Option}
 use mathlib.Core.Path.{◌≡◌, refl, sym, ap, ◌∙◌, subst}
 use mathlib.Core.List.{[], ◌∷◌, ◌++◌}
 use Prim.Native.Nat.{ℕ, ◌+◌, ◌-◌, ◌≤◌, ◌<◌}
@@ -11,7 +12,6 @@ use Rattle.definition.specs.Store.{spanned}
 use Rattle.definition.specs.Subst.{parts}
 use Rattle.definition.specs.Constraints.{failure, ability_failure}
 use Rattle.definition.specs.Write.{u32, write, write_spanned, write_down, head, each}
-use Rattle.table.specs.declared.Found.{Found}
 use Rattle.failing.specs.Failing.{why, failing}
 use Rattle.failing.specs.declared.Failing.{Failing}
 use Rattle.failing.specs.declared.Failing.TheVariants.{Fine, Node, Anything, Lacks}
@@ -53,12 +53,12 @@ module _ (s : State) (f : Failing) (room : ℕ) where
     pub size_anything_over : room < 10 → room + 1 ≡ capped room (length (failing f s))
     size_anything_over lt = rw (e, anything_length s code loc at) (sym (capped_over room 10 (omega arith)))
 
-  pub size_lacking : (loc ability t : ℕ) (place : Found) → f ≡ Lacks loc ability t place → (k : ℕ) → k ≡ capped room (length (ability_failure s loc ability (spanned s t) (why place))) → k ≡ capped room (length (failing f s))
+  pub size_lacking : (loc ability t : ℕ) (place : Option ℕ) → f ≡ Lacks loc ability t place → (k : ℕ) → k ≡ capped room (length (ability_failure s loc ability (spanned s t) (why place))) → k ≡ capped room (length (failing f s))
   size_lacking loc ability t place e k h = rw e h
 
 -- ---- one for an ability
 
-module _ (s : State) (loc ability t room y : ℕ) (place : Found) (e : y ≡ length (why place)) where
+module _ (s : State) (loc ability t room y : ℕ) (place : Option ℕ) (e : y ≡ length (why place)) where
   lacks_length : length (ability_failure s loc ability (spanned s t) (why place)) ≡ 6 + y + length (write s t)
   unfolding ability_failure u32 write
   lacks_length =

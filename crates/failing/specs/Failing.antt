@@ -1,5 +1,5 @@
 -- What a constraint asks, and a failure, as the definition has them in bytes. Assumes nothing: these are definitions.
-use Rattle.std.specs.Prelude.{◌≡◌, Bool, List, [], ◌∷◌, ℕ, ◌<◌, eqb, if◌then◌else◌}
+use Rattle.std.specs.Prelude.{◌≡◌, Bool, List, [], ◌∷◌, ℕ, ◌<◌, eqb, if◌then◌else◌, Option, None, Some}
 use Rattle.definition.specs.Types as d
 use Rattle.definition.specs.Types.{State, Struct, TypeValue}
 use Rattle.definition.specs.Store.{spanned}
@@ -7,8 +7,6 @@ use Rattle.definition.specs.Constraints.{is_integer, is_base, is_single, failure
 use Rattle.definition.specs.Write.{Bytes}
 use Rattle.table.specs.State.{seen, FoundIn}
 use Rattle.table.specs.declared.Used.{Used}
-use Rattle.table.specs.declared.Found.{Found}
-use Rattle.table.specs.declared.Found.TheVariants.{Nothing, Just}
 use Rattle.failing.specs.declared.Ask.{Ask}
 use Rattle.failing.specs.declared.Failing.{Failing}
 use Rattle.failing.specs.declared.Failing.TheVariants.{Fine, Node, Anything, Lacks}
@@ -49,9 +47,9 @@ pub record Asks (r : Ask) (c : d.Constraint) : Type 0 where
   pub is : (s : State) → ask s r.code r.loc r.ty ≡ plain s c
 
 -- the rule: the declaration, or the argument at a place
-abbrev pub why : Found → Bytes
-why Nothing = 1 ∷ []
-why (Just place) = 2 ∷ place ∷ []
+abbrev pub why : Option ℕ → Bytes
+why None = 1 ∷ []
+why (Some place) = 2 ∷ place ∷ []
 
 -- a failure in bytes
 abbrev pub failing : Failing → State → Bytes

@@ -14,7 +14,7 @@ ghost use Rattle.writer.specs.Bytes.{AllBytes, capped, FewIs, Wrote};
 ghost use Rattle.definition.specs.Write.{u32 as bytes-u32};
 
 use names::TypeName;
-use table::{Constraint, Found, Shape, Used};
+use table::{Constraint, Shape, Used};
 use writer::{Few, low};
 
 // ---- what a constraint asks
@@ -34,7 +34,7 @@ pub enum Failing {
     Fine,
     Node(u32, u32, u32),
     Anything(u32, u32, u32),
-    Lacks(u32, u8, u32, Found),
+    Lacks(u32, u8, u32, Option<u32>),
 }
 
 fn not_multiple(n: TypeName) -> bool
@@ -102,17 +102,17 @@ pub fn unless(fine: bool, f: Failing) -> Failing
 // ---- in bytes
 
 // How many bytes a rule has.
-fn why_size(place: Found) -> u32
+fn why_size(place: Option<u32>) -> u32
     ensures { (result ≡ length (why place)) × (result ≤ 2) }
 {
     match place {
-        Found::Nothing => 1,
-        Found::Just(_) => 2,
+        None => 1,
+        Some(_) => 2,
     }
 }
 
 // .. of the failure for an ability: code, location, ability, type and rule.
-fn size_lacks(w: &[u32], u: Used, t: u32, place: Found, room: u32) -> u32
+fn size_lacks(w: &[u32], u: Used, t: u32, place: Option<u32>, room: u32) -> u32
     requires { Lay w.now u × ((t < u.nodes) × (room ≤ 4096)) }
     ensures { (result ≤ room + 1) × ((ds : List d.Struct) (loc ability : ℕ) → result ≡ capped room (length (ability_failure (seen w.now u ds) loc ability (spanned (seen w.now u ds) t) (why place)))) }
 {
@@ -176,16 +176,16 @@ fn ability_head(loc: u32, ability: u8) -> Few
     }
 }
 
-fn why_of(place: Found) -> Few
+fn why_of(place: Option<u32>) -> Few
     requires { FoundIn 8 place }
     ensures { FewIs result.n result.bytes (why place) }
 {
     match place {
-        Found::Nothing => Few {
+        None => Few {
             bytes: [1, 0, 0, 0, 0, 0, 0, 0, 0, 0],
             n: 1,
         },
-        Found::Just(i) => Few {
+        Some(i) => Few {
             bytes: [2, low(i), 0, 0, 0, 0, 0, 0, 0, 0],
             n: 2,
         },
@@ -199,7 +199,7 @@ fn write_lacks(
     loc: u32,
     ability: u8,
     t: u32,
-    place: Found,
+    place: Option<u32>,
     buf: &mut [u8],
     at: usize,
 ) -> usize

@@ -1,6 +1,6 @@
 -- A record whose types are placed: their nodes stand in the trees' stead. What the code's answer is as one. Assumes nothing: these are definitions.
 use Rattle.std.specs.Prelude.{◌≡◌, false, List, [], ◌∷◌, ℕ, zero, suc, ◌≤◌, ◌<◌, length, get_or, take, drop, replicate}
-use Rattle.std.proofs.Math.Option.{Option}
+use Rattle.std.specs.Prelude.{Option}
 use Rattle.definition.specs.Types.{State, Struct, Constraint, BaseTypeConstraint, SingleTypeConstraint, malformed, unknown_name, doubled_reference, full, Result, ok, refused, ◌>>=◌}
 use Rattle.definition.specs.Write.{Bytes}
 use Rattle.definition.specs.Reader.{Read}

@@ -2,7 +2,7 @@
 use mathlib.Core.Path.{◌≡◌, refl, sym, ap, ◌∙◌}
 use mathlib.Core.Bool.{Bool, true, false, not, ◌||◌}
 use mathlib.Core.List.{List, [], ◌∷◌}
-use mathlib.Core.Option.{Option, none, some}
+use Rattle.std.specs.Prelude.{Option, None, Some}
 use Prim.Native.Nat.{ℕ, ◌+◌, ◌*◌, ◌-◌, ◌≤◌, ◌<◌}
 use native.Mathlib.Numerals.{add-one}
 use native.Mathlib.Omega.{arith}
@@ -94,7 +94,7 @@ module _ (b : List ℕ) (end : ℕ) (fits : end ≤ length b) where
 -- ---- ability marks
 
 abbrev pick : Option d.AbilityMark → Reader d.AbilityMark
-pick o = elim o [ none ↦ refuse malformed | some k ↦ give k ]
+pick o = elim o [ None ↦ refuse malformed | Some k ↦ give k ]
 
 picked : (r : Marked) (m : Bytes) → mark_read r m ≡ pick (marked r) m
 unfolding give refuse
@@ -129,6 +129,6 @@ or_true : (a : Bool) → a || true ≡ true
 or_true true = refl
 or_true false = refl
 
-pub fits_none : (n : TypeName) → true ≡ mark_fits none n
+pub fits_none : (n : TypeName) → true ≡ mark_fits None n
 unfolding mark_fits has_drop
 fits_none n = sym (or_true (not (is_numeric n)))

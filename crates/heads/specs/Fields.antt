@@ -1,6 +1,6 @@
 -- What is left of the caller's bytes, and the fields of a type as read. Assumes nothing: these are definitions.
 use Rattle.std.specs.Prelude.{◌≡◌, not, List, [], ℕ, ◌≤◌, ◌<◌, length, get_or, take, drop, if◌then◌else◌}
-use Rattle.std.proofs.Math.Option.{Option, none, some}
+use Rattle.std.specs.Prelude.{Option, None, Some}
 use Rattle.definition.specs.Types as d
 use Rattle.definition.specs.Types.{State, Struct, malformed, unknown_name, doubled_reference}
 use Rattle.definition.specs.Store.{taken}
@@ -8,7 +8,7 @@ use Rattle.definition.specs.Write.{Bytes}
 use Rattle.definition.specs.Reader.{Read, got, not_read, Reader, give, refuse, go_on, ◌>>=◌, name_below, byte, read_u16, read_u32}
 use Rattle.definition.specs.Trees.{Tree, unit_tree, anything_tree, error_tree, ref_tree, param_tree, apply_tree, var_tree, Trees, no_trees, ◌then◌, read_trees, read_mark, mark_fits, arity}
 use Rattle.names.specs.Names.{mark_of, name_of}
-use Rattle.names.specs.declared.AbilityMark.{AbilityMark}
+use Rattle.names.specs.declared.AbilitySet.{AbilitySet}
 use Rattle.table.specs.declared.Shape.{Shape}
 use Rattle.table.specs.declared.Shape.TheVariants.{Unit as UnitS, Ref, Param, Apply, Var, Anything, UnresolvedError}
 use Rattle.cursor.specs.declared.Number.{Number}
@@ -70,8 +70,8 @@ pub record Names (known : ℕ) (b : List ℕ) (end at : ℕ) (f : Name) (next : 
   pub within : next ≤ end
 
 abbrev pub marked : Marked → Option d.AbilityMark
-marked (With k) = some (mark_of k)
-marked Wrong = none
+marked (With k) = Some (mark_of k)
+marked Wrong = None
 
 abbrev pub mark_read : Marked → Bytes → Read d.AbilityMark
 mark_read (With k) bytes = got (mark_of k) bytes

@@ -109,13 +109,13 @@ fn mark_of(x: u32) -> Marked
     ensures { marked result ≡ mark_of x }
 {
     if x == 0 {
-        return Marked::With(AbilityMark::Absent);
+        return Marked::With(None);
     }
     if x < 16 {
         return Marked::Wrong;
     }
     if x <= 31 {
-        return Marked::With(AbilityMark::Set(AbilitySet((x - 16) as u8)));
+        return Marked::With(Some(AbilitySet((x - 16) as u8)));
     }
     Marked::Wrong
 }
@@ -190,8 +190,8 @@ fn fits(k: AbilityMark, b: u32) -> bool
     ensures { result ≡ mark_fits (mark-is k) (d.Builtin b) }
 {
     match k {
-        AbilityMark::Absent => true,
-        AbilityMark::Set(a) => { if is_numeric(b) { has_drop(a) } else { true } }
+        None => true,
+        Some(a) => { if is_numeric(b) { has_drop(a) } else { true } }
     }
 }
 

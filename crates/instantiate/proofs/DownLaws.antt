@@ -1,4 +1,5 @@
 -- instantiate goes down level by level; what stays whole, a reference's constraint before its part, and a named type's variables before its arguments. Assumes nothing.
+use Rattle.std.specs.Prelude.{Option, None, Some}
 use mathlib.Core.Path.{◌≡◌, refl, sym, ap, ◌∙◌}
 use mathlib.Core.Bool.{Bool}
 use mathlib.Core.List.{List, [], ◌∷◌}
@@ -17,8 +18,6 @@ use Rattle.table.specs.Known.{Known}
 use Rattle.table.specs.declared.Shape.{Shape}
 use Rattle.table.specs.declared.Outcome.{Outcome}
 use Rattle.table.specs.declared.Used.{Used}
-use Rattle.table.specs.declared.Found.{Found}
-use Rattle.table.specs.declared.Found.TheVariants.{Nothing, Just}
 use Rattle.table.specs.contracts.Shape.{the_type}
 use Rattle.table.proofs.Steps.{bind_assoc, listed_stop, listed_then, refines_is, refines_as, refines_among, after_is, after_among, after_on, after_then}
 use Rattle.table.proofs.Grown.{nodes_grow, args_kept}
@@ -51,8 +50,8 @@ unfolding instantiate_value
 ref_is f s ty loc m t = constraint_then (BaseTypeConstraint loc t) s (ref_on f t loc m)
 
 -- a constraint is listed, and f follows
-pub constraint_on : {params : List (List ℕ)} {w : List ℕ} {u : Used} {w₁ : List ℕ} (b : Outcome) {b₁ : Found} {y : ℕ} (c : d.Constraint) {f : State → Result (State × ℕ)} {w' : List ℕ} {r : Outcome}
-    → Changed w u w₁ b (pushed_constraint c) → b₁ ≡ done b.out → b₁ ≡ Just y
+pub constraint_on : {params : List (List ℕ)} {w : List ℕ} {u : Used} {w₁ : List ℕ} (b : Outcome) {b₁ : (Option ℕ)} {y : ℕ} (c : d.Constraint) {f : State → Result (State × ℕ)} {w' : List ℕ} {r : Outcome}
+    → Changed w u w₁ b (pushed_constraint c) → b₁ ≡ done b.out → b₁ ≡ Some y
     → When (Known w₁ b.used params) w₁ b.used w' r f → When (Known w u params) w u w' r (λ s. pushed_constraint c s >>= (λ q. f q.0))
 constraint_on {params} {w} {u} {w₁} b c {f} first p q x =
     after_then b.out (λ y. f y.0) (refines_among (λ ds k. tt) first) p q (after_among (known_kept w u w₁ b.used params first.structs) x)
@@ -72,7 +71,7 @@ named_on {w} {u} first many {w'} {u'} nm g =
     let k = named_kept w u first many u.nodes nm w' u' g in
     record { placed = k.placed; smaller = λ i h. omega (arith, k.smaller i h, nodes_grow w u w' u' g) }
 
-module _ (w : List ℕ) (u : Used) (params : List (List ℕ)) (left loc : ℕ) (k : d.AbilityMark) (n : d.TypeName) (first many : ℕ) (pl : Placed w u first many) (w₁ : List ℕ) (b : Tparams) (b₁ : Found)
+module _ (w : List ℕ) (u : Used) (params : List (List ℕ)) (left loc : ℕ) (k : d.AbilityMark) (n : d.TypeName) (first many : ℕ) (pl : Placed w u first many) (w₁ : List ℕ) (b : Tparams) (b₁ : Option ℕ)
     (made_all : Listed (Known w u params) w u w₁ b (made loc n (args_at (view w u) (places first many)))) (b₁_is : b₁ ≡ done b.out) where
   abbrev tys : List ℕ
   tys = args_at (view w u) (places first many)
@@ -84,14 +83,14 @@ module _ (w : List ℕ) (u : Used) (params : List (List ℕ)) (left loc : ℕ) (
   unfolding go
   all_is s = apply_is (instantiate_down left) s loc k n tys
 
-  pub apply_stop : (r : Outcome) → r ≡ record { out = b.out; used = b.used } → b₁ ≡ Nothing → When (Known w u params) w u w₁ r (λ s. instantiate_apply (instantiate_down left) s loc k n (args_at (view w u) (places first many)))
+  pub apply_stop : (r : Outcome) → r ≡ record { out = b.out; used = b.used } → b₁ ≡ None → When (Known w u params) w u w₁ r (λ s. instantiate_apply (instantiate_down left) s loc k n (args_at (view w u) (places first many)))
   apply_stop r f q =
       rw f record {
         changed = refines_is (λ ds kn. all_is (seen w u ds)) (refines_as (λ m. m >>= go) made_all.changed (λ s. listed_stop b.out (take b.many b.tvars) s go (sym b₁_is ∙ q)));
         inside = made_all.inside.inside (sym b₁_is ∙ q);
       }
 
-  pub apply_then : (y : ℕ) (w₂ : List ℕ) (r : Outcome) → b₁ ≡ Just y
+  pub apply_then : (y : ℕ) (w₂ : List ℕ) (r : Outcome) → b₁ ≡ Some y
       → When (Known w₁ b.used params) w₁ b.used w₂ r (rest (instantiate_down left) (joined loc k n (take b.many b.tvars)) [] (args_at (view w₁ b.used) (places first many)))
       → When (Known w u params) w u w₂ r (λ s. instantiate_apply (instantiate_down left) s loc k n (args_at (view w u) (places first many)))
   unfolding go places

@@ -1,4 +1,5 @@
 -- The joins of the variables with the arguments over the words. Assumes nothing.
+use Rattle.std.specs.Prelude.{Option, None, Some}
 use mathlib.Core.Path.{◌≡◌, ap}
 use mathlib.Core.List.{List, []}
 use Prim.Native.Nat.{ℕ, ◌+◌, ◌≤◌, ◌<◌, min}
@@ -10,8 +11,6 @@ use Rattle.definition.specs.Join.{join}
 use Rattle.table.specs.State.{seen, Lay, Any, After, Parts, done}
 use Rattle.table.specs.declared.Outcome.{Outcome}
 use Rattle.table.specs.declared.Used.{Used}
-use Rattle.table.specs.declared.Found.{Found}
-use Rattle.table.specs.declared.Found.TheVariants.{Nothing, Just}
 use Rattle.table.proofs.Steps.{after_is}
 use Rattle.table.proofs.Grown.{nodes_grow}
 use Rattle.table.proofs.Walk.{rest, sp_apply, range, range_length, range_at, Walked, walk_start, walk_stop, walk_more, walk_end}
@@ -47,15 +46,15 @@ module _ {loc : ℕ} {k : d.AbilityMark} {n : d.TypeName} {tvars tys : List ℕ}
       → After w₀ u₀ w' r (joined loc k n (take a tvars) (take b tys))
   all_joined {a} {b} pa pb e x = after_is (λ ds z. joins_are loc k n tvars tys a b c (seen w₀ u₀ ds) (omega (arith, pa.few, g.sizes.0)) (omega (arith, pb.few, g.sizes.1)) e) x
 
-  module _ {at : ℕ} (at_is : at ≡ i) (lt : i < c) {w' : List ℕ} {r : Outcome} {b : Found} (step : After w u w' r (λ s. join s (get_or tvars at 0) (get_or tys at 0))) (b_is : b ≡ done r.out) where
+  module _ {at : ℕ} (at_is : at ≡ i) (lt : i < c) {w' : List ℕ} {r : Outcome} {b : (Option ℕ)} (step : After w u w' r (λ s. join s (get_or tvars at 0) (get_or tys at 0))) (b_is : b ≡ done r.out) where
     join_step : After w u w' r (λ s. join_by tvars tys s i)
     unfolding join_by
     join_step = after_is (λ ds z. ap (λ (x : ℕ). join (seen w u ds) (get_or tvars x 0) (get_or tys x 0)) at_is) step
 
-    pub joins_stop : b ≡ Nothing → After w₀ u₀ w' r (rest (join_by tvars tys) (sp_apply loc k n) [] (range 0 c))
+    pub joins_stop : b ≡ None → After w₀ u₀ w' r (rest (join_by tvars tys) (sp_apply loc k n) [] (range 0 c))
     joins_stop q = walk_stop g.walked lt (range_at c i lt) join_step b_is q
 
-    pub joins_more : {t : ℕ} → b ≡ Just t → Joining loc k n tvars tys c w₀ u₀ w' r.used (set parts at t) (i + 1)
+    pub joins_more : {t : ℕ} → b ≡ Some t → Joining loc k n tvars tys c w₀ u₀ w' r.used (set parts at t) (i + 1)
     joins_more q = record { walked = walk_more g.walked lt (range_at c i lt) join_step b_is q at_is; tvars_in = g.tvars_in; tys_in = g.tys_in; sizes = g.sizes }
 
   pub joins_end : {w' : List ℕ} {r : Outcome} → c ≤ i → After w u w' r (λ s. sp s loc (d.Apply k n (take c parts))) → After w₀ u₀ w' r (rest (join_by tvars tys) (sp_apply loc k n) [] (range 0 c))

@@ -1,4 +1,5 @@
 -- make_tparams over the words: each argument's variable in turn. Assumes nothing.
+use Rattle.std.specs.Prelude.{Option, None, Some}
 use mathlib.Core.Path.{◌≡◌, ap, ◌∙◌}
 use mathlib.Core.List.{List, []}
 use Prim.Native.Nat.{ℕ, ◌+◌, ◌≤◌, ◌<◌, min}
@@ -14,8 +15,6 @@ use Rattle.table.specs.State.{view, seen, Lay, When, After, Declares, Placed, do
 use Rattle.table.specs.declared.Outcome.{Outcome}
 use Rattle.table.specs.declared.Used.{Used}
 use Rattle.table.specs.declared.Out.TheVariants.{Done}
-use Rattle.table.specs.declared.Found.{Found}
-use Rattle.table.specs.declared.Found.TheVariants.{Nothing, Just}
 use Rattle.table.proofs.Steps.{refines_is, after_is, after_any}
 use Rattle.table.proofs.Walk.{rest, just_list, range, range_length, range_at, Walked, placed_length, arg_kept, walk_start, walk_more, list_stop, list_end}
 use Rattle.table.specs.Known.{Known}
@@ -52,7 +51,7 @@ module _ {params : List (List ℕ)} {loc : ℕ} {n : d.TypeName} {first many cou
       tparams_are loc n tys (tparam_constraints (seen w₀ u₀ ds) n) params count (seen w₀ u₀ ds) (omega (arith, g.counted ds k.rows, placed_length w₀ u₀ first many g.placed)) (ability_is w₀ u₀ params ds k n)
 
   module _ (lt : i < count) {ty : ℕ} (ty_is : (ds : List Struct) (n : ℕ) → i < n → ty ≡ get_or (args_at (seen w u ds) (places first n)) i 0) (ab : AbilitySet) (ab_is : Numbered n → ab.0 ≡ ability_at params n i)
-      {w' : List ℕ} {a : Outcome} {b : Found} (step : After w u w' a (λ s. make_tparam s loc n ty ab.0)) (b_is : b ≡ done a.out) where
+      {w' : List ℕ} {a : Outcome} {b : (Option ℕ)} (step : After w u w' a (λ s. make_tparam s loc n ty ab.0)) (b_is : b ≡ done a.out) where
     made_step : When (Known w₀ u₀ params) w u w' a (λ s. tparam_by loc n tys params s i)
     unfolding tparam_by
     made_step =
@@ -61,10 +60,10 @@ module _ {params : List (List ℕ)} {loc : ℕ} {n : d.TypeName} {first many cou
         ∙ ap (λ (c : ℕ). make_tparam (seen w u ds) loc n (get_or tys i 0) c) (ab_is (is_numbered w₀ u₀ params ds k g.lay.structs n i (omega (arith, g.counted ds k.rows)))))
         (after_any step)
 
-    pub made_stop : b ≡ Nothing → Listed (Known w₀ u₀ params) w₀ u₀ w' (record { out = a.out; used = a.used; tvars = tvars; many = count }) (made loc n tys)
+    pub made_stop : b ≡ None → Listed (Known w₀ u₀ params) w₀ u₀ w' (record { out = a.out; used = a.used; tvars = tvars; many = count }) (made loc n tys)
     made_stop q = let l = list_stop g.walked count lt (range_at count i lt) made_step b_is q in record { changed = refines_is all_made l.changed; inside = l.inside }
 
-    pub made_more : {p at : ℕ} → b ≡ Just p → at ≡ i → Making params loc n first many count w₀ u₀ w' a.used (set tvars at p) (i + 1)
+    pub made_more : {p at : ℕ} → b ≡ Some p → at ≡ i → Making params loc n first many count w₀ u₀ w' a.used (set tvars at p) (i + 1)
     made_more q e = record { walked = walk_more g.walked lt (range_at count i lt) made_step b_is q e; lay = g.lay; placed = g.placed; fewer = g.fewer; counted = g.counted }
 
   pub made_end : count ≤ i → Listed (Known w₀ u₀ params) w₀ u₀ w (record { out = Done 0; used = u; tvars = tvars; many = count }) (made loc n tys)

@@ -16,7 +16,7 @@ ghost use Rattle.instantiate.specs.Args.{make_tparam, made, Listed, joined};
 
 use names::{AbilitySet, TypeName};
 use shapes::{Applied, fewer, stay};
-use table::{Constraint, Found, Out, Outcome, Refusal, Shape, Used, wide};
+use table::{Constraint, Out, Outcome, Refusal, Shape, Used, wide};
 
 // A variable for each argument.
 #[derive(Clone, Copy)]
@@ -35,7 +35,7 @@ fn make_tvar(w: &mut [u32], u: Used, loc: u32) -> Outcome
     let a = table::take_var(w, u);
     let o = a.out;
     let v = a.used;
-    let Found::Just(x) = table::done_of(o) else {
+    let Some(x) = table::done_of(o) else {
         return a;
     };
     let id = table::tvar(x);
@@ -118,19 +118,19 @@ fn make_tparam(
     let a = make_tvar(w, u, at);
     let o = a.out;
     let v = a.used;
-    let Found::Just(tvar) = table::done_of(o) else {
+    let Some(tvar) = table::done_of(o) else {
         return a;
     };
     let b = table::push_constraint(w, v, Constraint::Ability(loc, tvar, abilities));
     let bo = b.out;
     let bv = b.used;
-    let Found::Just(_) = table::done_of(bo) else {
+    let Some(_) = table::done_of(bo) else {
         return b;
     };
     let c = table::push_constraint(w, bv, tvar_constraint(n, loc, tvar));
     let co = c.out;
     let cv = c.used;
-    let Found::Just(_) = table::done_of(co) else {
+    let Some(_) = table::done_of(co) else {
         return c;
     };
     stay(o, cv)
@@ -152,7 +152,7 @@ fn make_tparams(w: &mut [u32], u: Used, params: &[[u8; 8]; 256], loc: u32, ty: A
         let a = make_tparam(w, v, loc, n, t, abilities);
         let o = a.out;
         let x = a.used;
-        let Found::Just(tvar) = table::done_of(o) else {
+        let Some(tvar) = table::done_of(o) else {
             return Tparams {
                 out: o,
                 used: x,
@@ -194,7 +194,7 @@ fn join_args(
         let at = wide(i);
         let a = join::join(w, v, tvars[at], tys[at]);
         let o = a.out;
-        let Found::Just(t) = table::done_of(o) else {
+        let Some(t) = table::done_of(o) else {
             return a;
         };
         parts[at] = t;
@@ -222,7 +222,7 @@ fn instantiate_apply(
     let b = make_tparams(w, u, params, loc, ty);
     let bo = b.out;
     let bv = b.used;
-    let Found::Just(_) = table::done_of(bo) else {
+    let Some(_) = table::done_of(bo) else {
         return stay(bo, bv);
     };
     let mut parts: [u32; 8] = [0; 8];
@@ -232,7 +232,7 @@ fn instantiate_apply(
         let t = table::arg_at(w, v, ty.first, i);
         let a = instantiate_down(w, v, params, left, t);
         let o = a.out;
-        let Found::Just(p) = table::done_of(o) else {
+        let Some(p) = table::done_of(o) else {
             return a;
         };
         let at = wide(i);
@@ -263,13 +263,13 @@ fn instantiate_down(w: &mut [u32], u: Used, params: &[[u8; 8]; 256], left: u32, 
             let b = table::push_constraint(w, u, Constraint::BaseType(loc, t));
             let bo = b.out;
             let bv = b.used;
-            let Found::Just(_) = table::done_of(bo) else {
+            let Some(_) = table::done_of(bo) else {
                 return b;
             };
             let a = instantiate_down(w, bv, params, left - 1, t);
             let o = a.out;
             let v = a.used;
-            let Found::Just(p) = table::done_of(o) else {
+            let Some(p) = table::done_of(o) else {
                 return a;
             };
             table::push_node(w, v, loc, Shape::Ref(m, p))

@@ -1,4 +1,5 @@
 -- The argument walk: both lists gone through together, and where its loop stands. Assumes nothing.
+use Rattle.std.specs.Prelude.{Option, None, Some}
 use mathlib.Core.Path.{◌≡◌, refl, ap, ◌∙◌}
 use mathlib.Core.List.{List, [], ◌∷◌}
 use Prim.Native.Nat.{ℕ, ◌+◌, ◌<◌, ◌≤◌, min}
@@ -14,8 +15,6 @@ use Rattle.table.specs.State.{Lay, Any, After, Named, view, seen, done}
 use Rattle.table.specs.declared.Outcome.{Outcome}
 use Rattle.table.specs.declared.Used.{Used}
 use Rattle.table.specs.declared.Out.TheVariants.{Done}
-use Rattle.table.specs.declared.Found.{Found}
-use Rattle.table.specs.declared.Found.TheVariants.{Nothing, Just}
 use Rattle.table.proofs.Steps.{bind_ok, refines_is, after_is}
 use Rattle.table.proofs.Grown.{nodes_grow}
 use Rattle.table.proofs.Parts.{below_named}
@@ -83,15 +82,15 @@ module _ {left : ℕ} {case : j.TypingCase} {w₀ : List ℕ} {u₀ : Used} {t1 
           let n = nodes_grow w₀ u₀ w u g.walked.changed.grown in
           (omega (arith, is1, g.args1.smaller i (omega (arith, g.fewer))), omega (arith, is2, g.args2.smaller i (omega (arith, g.fewer))))
 
-      module _ {w₂ : List ℕ} {x : Outcome} {b : Found} (after : After w u w₂ x (λ s. join_impl left s case ty1 ty2)) (p : b ≡ done x.out) where
+      module _ {w₂ : List ℕ} {x : Outcome} {b : (Option ℕ)} (after : After w u w₂ x (λ s. join_impl left s case ty1 ty2)) (p : b ≡ done x.out) where
         at_place : After w u w₂ x (λ s. join_at left case (args_at (view w₀ u₀) (args_of t1)) (args_at (view w₀ u₀) (args_of t2)) s i)
         unfolding join_at
         at_place = after_is (λ ds k. rw (is1, is2) refl) after
 
-        pub gather_stop : b ≡ Nothing → Joined w₀ u₀ w₂ (record { out = x.out; used = x.used; tys = tys }) (λ s. join_impl_types (inner left) s case (args_at s (args_of t1)) (args_at s (args_of t2)))
+        pub gather_stop : b ≡ None → Joined w₀ u₀ w₂ (record { out = x.out; used = x.used; tys = tys }) (λ s. join_impl_types (inner left) s case (args_at s (args_of t1)) (args_at s (args_of t2)))
         gather_stop q = let l = list_stop g.walked (number x.out) lt (range_at n i lt) at_place p q in record { changed = refines_is (λ ds k. all_joined ds) l.changed; inside = l.inside }
 
-        pub gather_more : {t at : ℕ} → b ≡ Just t → at ≡ i → Gathering left case w₀ u₀ t1 t2 n w₂ x.used (set tys at t) (i + 1)
+        pub gather_more : {t at : ℕ} → b ≡ Some t → at ≡ i → Gathering left case w₀ u₀ t1 t2 n w₂ x.used (set tys at t) (i + 1)
         gather_more q e = record { walked = walk_more g.walked lt (range_at n i lt) at_place p q e; args1 = g.args1; args2 = g.args2; fewer = g.fewer }
 
     pub gathered : n ≤ i → Joined w₀ u₀ w (record { out = Done n; used = u; tys = tys }) (λ s. join_impl_types (inner left) s case (args_at s (args_of t1)) (args_at s (args_of t2)))

@@ -2,7 +2,7 @@
 use mathlib.Core.Path.{◌≡◌, refl, sym, ap, ◌∙◌, subst}
 use mathlib.Core.Bool.{Bool}
 use mathlib.Core.List.{List, []}
-use mathlib.Core.Option.{Option, none, some}
+use Rattle.std.specs.Prelude.{Option, None, Some}
 use Prim.Native.Nat.{ℕ, zero, suc, ◌-◌, ◌<◌, ◌≤◌}
 use native.Mathlib.Numerals.{sub-one}
 use native.Mathlib.Omega.{arith}
@@ -23,8 +23,6 @@ use Rattle.table.specs.declared.Out.{Out}
 use Rattle.table.specs.declared.Out.TheVariants.{Done, Failed, Refused}
 use Rattle.table.specs.declared.TypingError.TheVariants as error
 use Rattle.table.specs.declared.Refusal.TheVariants.{TooDeep, AbilitiesDisagree}
-use Rattle.table.specs.declared.Found.{Found}
-use Rattle.table.specs.declared.Found.TheVariants.{Nothing, Just}
 use Rattle.table.proofs.Steps.{done_is, node_in, listed_then, refines_as, after_now, after_is, after_stop, after_on, after_then}
 use Rattle.table.proofs.Pushed.{count_view}
 use Rattle.table.proofs.Grown.{loc_is, value_is, still_in}
@@ -74,7 +72,7 @@ pub settled_after : {w : List ℕ} {u : Used} {w' : List ℕ} {r x : Outcome} {f
 settled_after e a = rw e a
 
 -- the types that were joined, and their node
-module _ (o : Out) {b : Found} {m : ℕ} (tys : List ℕ) (p : b ≡ done o) (q : b ≡ Just m) where
+module _ (o : Out) {b : (Option ℕ)} {m : ℕ} (tys : List ℕ) (p : b ≡ done o) (q : b ≡ Some m) where
   number_is : number o ≡ m
   number_is = rw (done_is o m (sym p ∙ q)) refl
 
@@ -102,14 +100,14 @@ module _ (left : ℕ) (case : j.TypingCase) (loc1 id1 loc2 id2 : ℕ) {w : List 
   tvar_stop e =
       after_is (λ ds k. tvar_is left case (seen w u ds) loc1 id1 loc2 id2) (open_is a (then_close left case id1 loc2 id2) e)
 
-  module _ {h : Merging} (e : m.what ≡ Ready h) {w₂ : List ℕ} {x : Outcome} {b : Found} (after : After w₁ m.used w₂ x (λ s. join_impl left s case h.ty1 h.ty2)) (p : b ≡ done x.out) where
+  module _ {h : Merging} (e : m.what ≡ Ready h) {w₂ : List ℕ} {x : Outcome} {b : (Option ℕ)} (after : After w₁ m.used w₂ x (λ s. join_impl left s case h.ty1 h.ty2)) (p : b ≡ done x.out) where
     from_open : {w' : List ℕ} {r : Outcome} → After w₁ m.used w' r (λ s. then_close left case id1 loc2 id2 s h.ty1 h.ty2 h.new_tvar.0 h.var2) → After w u w' r (λ s. join_tvar (inner left) s case loc1 id1 loc2 id2)
     from_open n = after_is (λ ds k. tvar_is left case (seen w u ds) loc1 id1 loc2 id2) (open_ready a (then_close left case id1 loc2 id2) e n)
 
-    pub tvar_inner : b ≡ Nothing → After w u w₂ x (λ s. join_tvar (inner left) s case loc1 id1 loc2 id2)
+    pub tvar_inner : b ≡ None → After w u w₂ x (λ s. join_tvar (inner left) s case loc1 id1 loc2 id2)
     tvar_inner q = from_open (after_stop (λ y. close_tvar y.0 h.ty1 id1 h.ty2 loc2 id2 h.new_tvar.0 h.var2 y.1) after p q)
 
-    module _ {ty : ℕ} (q : b ≡ Just ty) where
+    module _ {ty : ℕ} (q : b ≡ Some ty) where
       -- what the closing asks
       pub close_in : Lay w₂ x.used × ((h.ty1 < x.used.nodes) × ((h.ty2 < x.used.nodes) × ((h.var2 < x.used.nodes) × (ty < x.used.nodes))))
       close_in =
@@ -240,15 +238,15 @@ module _ {left : ℕ} {case : TypingCase} {w : List ℕ} {u : Used} {lhs rhs : �
 
   left_by : (id : ℕ) (ds : List Struct) (g : Option ℕ) → g ≡ get (seen w u ds) id → meet_tvar (merge_left id) (seen w u ds) lhs rhs lhs id rhs ≡ join_arm (inner (left - 1)) (seen w u ds) (case_of case) lhs rhs (VarL id)
   unfolding meet_tvar join_arm
-  left_by id ds none e = rw (← e, meet_tvar, join_arm)
-  left_by id ds (some t) e =
+  left_by id ds None e = rw (← e, meet_tvar, join_arm)
+  left_by id ds (Some t) e =
       rw (← e, meet_tvar, join_arm)
       (next_same (seen w u ds) _ _ (rw (fresh_loc (seen w u ds) lhs, fresh_loc (seen w u ds) rhs, loc_is (seen w u ds) lhs l (h.lhs_is ds), loc_is (seen w u ds) rhs r (h.rhs_is ds))))
 
   right_by : (id : ℕ) (ds : List Struct) (g : Option ℕ) → g ≡ get (seen w u ds) id → meet_tvar (merge_right id) (seen w u ds) lhs rhs rhs id lhs ≡ join_arm (inner (left - 1)) (seen w u ds) (case_of case) lhs rhs (VarR id)
   unfolding meet_tvar join_arm
-  right_by id ds none e = rw (← e, meet_tvar, join_arm)
-  right_by id ds (some t) e =
+  right_by id ds None e = rw (← e, meet_tvar, join_arm)
+  right_by id ds (Some t) e =
       rw (← e, meet_tvar, join_arm)
       (next_same (seen w u ds) _ _ (rw (fresh_loc (seen w u ds) lhs, fresh_loc (seen w u ds) rhs, loc_is (seen w u ds) lhs l (h.lhs_is ds), loc_is (seen w u ds) rhs r (h.rhs_is ds))))
 

@@ -15,7 +15,7 @@ use arms::{Arm, TypingCase};
 use merge::{Meet, Opened, VarAt};
 use names::MAX_DEPTH;
 use shapes::{Applied, fewer};
-use table::{Found, Out, Outcome, Refusal, Shape, TypingError, Used};
+use table::{Out, Outcome, Refusal, Shape, TypingError, Used};
 
 // The joins of two argument lists: the answer is how many, and they stand in `tys`.
 #[derive(Clone, Copy)]
@@ -44,7 +44,7 @@ fn push_ref(w: &mut [u32], a: Outcome, loc: u32, mutable: bool) -> Outcome
 {
     let o = a.out;
     let u = a.used;
-    let Found::Just(t) = table::done_of(o) else {
+    let Some(t) = table::done_of(o) else {
         return a;
     };
     table::push_node(w, u, loc, Shape::Ref(mutable, t))
@@ -60,7 +60,7 @@ fn push_types(w: &mut [u32], a: Types, loc: u32, t: Applied) -> Outcome
     let tys = a.tys;
     let k = t.k;
     let n = t.n;
-    let Found::Just(m) = table::done_of(o) else {
+    let Some(m) = table::done_of(o) else {
         return settled(u, o);
     };
     table::push_apply(w, u, loc, k, n, tys, m)
@@ -145,7 +145,7 @@ fn join_impl_types(
         let s = join_impl(w, at, case, left, ty1, ty2);
         let o = s.out;
         let su = s.used;
-        let Found::Just(t) = table::done_of(o) else {
+        let Some(t) = table::done_of(o) else {
             return Types {
                 out: o,
                 used: su,
@@ -178,7 +178,7 @@ fn join_tvar(w: &mut [u32], u: Used, case: TypingCase, left: u32, v1: VarAt, v2:
         Opened::Ready(m) => {
             let b = join_impl(w, au, case, left, m.ty1, m.ty2);
             let bo = b.out;
-            let Found::Just(ty) = table::done_of(bo) else {
+            let Some(ty) = table::done_of(bo) else {
                 return b;
             };
             merge::close_tvar(w, b.used, v1, v2, m, ty)

@@ -2,7 +2,7 @@
 use mathlib.Core.Path.{◌≡◌, refl, sym, ap, ◌∙◌}
 use mathlib.Core.Bool.{Bool, true, false}
 use mathlib.Core.List.{List}
-use mathlib.Core.Option.{Option, none, some}
+use Rattle.std.specs.Prelude.{Option, None, Some}
 use Prim.Native.Nat.{ℕ, ◌<◌}
 use native.Mathlib.Omega.{arith}
 use Rattle.definition.specs.Types as d
@@ -15,15 +15,13 @@ use Rattle.names.specs.declared.TVar.{TVar}
 use Rattle.subst.specs.Answers.{bound, Binds}
 use Rattle.subst.specs.declared.Binding.{Binding}
 use Rattle.subst.specs.declared.Binding.TheVariants.{Bound, Failed as FailedB, Recursive as RecursiveB}
-use Rattle.table.specs.State.{Lay, Any, Refines, Changed, After, Stored, NodesIn, outcome, seen, done, found, node_of, shape_of}
+use Rattle.table.specs.State.{Lay, Any, Refines, Changed, After, Stored, NodesIn, outcome, seen, done, node_of, shape_of}
 use Rattle.table.specs.declared.Outcome.{Outcome}
 use Rattle.table.specs.declared.Used.{Used}
 use Rattle.table.specs.declared.Node.{Node}
 use Rattle.table.specs.declared.Out.{Out}
 use Rattle.table.specs.declared.Out.TheVariants.{Done, Failed}
 use Rattle.table.specs.declared.TypingError.TheVariants.{Incompatible, RecursiveType}
-use Rattle.table.specs.declared.Found.{Found}
-use Rattle.table.specs.declared.Found.TheVariants.{Nothing, Just}
 use Rattle.table.proofs.Steps.{refines_now, refines_is, refines_on, refines_as, refines_number, stop_is, node_in, plain_in, after_now, after_is, after_stop, after_on, after_then}
 use Rattle.table.proofs.States.{tvar_plain}
 use Rattle.table.proofs.Grown.{nodes_grow, loc_is, value_is}
@@ -35,11 +33,11 @@ use Rattle.merge.specs.declared.Meet.TheVariants.{Is, Merge}
 
 -- ---- the type of a chain's end
 
-pub end_free : (s : State) (loc v : ℕ) → none ≡ get s v → sp s loc d.Anything ≡ type_of s loc v
+pub end_free : (s : State) (loc v : ℕ) → None ≡ get s v → sp s loc d.Anything ≡ type_of s loc v
 unfolding type_of
 end_free s loc v e = rw (← e, type_of)
 
-pub end_bound : (s : State) (loc v t : ℕ) → some t ≡ get s v → outcome (Done t) s ≡ type_of s loc v
+pub end_bound : (s : State) (loc v t : ℕ) → Some t ≡ get s v → outcome (Done t) s ≡ type_of s loc v
 unfolding type_of outcome
 end_bound s loc v t e = rw (← e, type_of)
 
@@ -50,12 +48,12 @@ module _ {w : List ℕ} {u : Used} {w' : List ℕ} where
   open_seen e a = record { changed = refines_is (λ ds x i k. e ds k i) a.changed; inside = a.inside }
 
   -- h follows, given what follows the opening
-  module _ {u' : Used} (o : Out) {f : State → Result (State × ℕ)} {b : Found} (h : Inner → State × ℕ → Result (State × ℕ)) (a : Refines Any w u w' u' (outcome o) f) (p : b ≡ done o) where
-    pub open_stop : NodesIn u'.nodes o → b ≡ Nothing → Opens w u w' (record { what = Stop o; used = u' }) (λ s k. f s >>= h k)
+  module _ {u' : Used} (o : Out) {f : State → Result (State × ℕ)} {b : (Option ℕ)} (h : Inner → State × ℕ → Result (State × ℕ)) (a : Refines Any w u w' u' (outcome o) f) (p : b ≡ done o) where
+    pub open_stop : NodesIn u'.nodes o → b ≡ None → Opens w u w' (record { what = Stop o; used = u' }) (λ s k. f s >>= h k)
     unfolding opened
     open_stop i q = record { changed = refines_as (λ m k. m >>= h k) a (λ s i k. stop_is o s (h k) (sym p ∙ q) i); inside = i }
 
-    pub open_then : {t : ℕ} {w₂ : List ℕ} {r : Open} → b ≡ Just t → Opens w' u' w₂ r (λ s k. h k (s, t)) → Opens w u w₂ r (λ s k. f s >>= h k)
+    pub open_then : {t : ℕ} {w₂ : List ℕ} {r : Open} → b ≡ Some t → Opens w' u' w₂ r (λ s k. h k (s, t)) → Opens w u w₂ r (λ s k. f s >>= h k)
     unfolding ◌>>=◌
     open_then q n = record { changed = refines_number o (λ m k. m >>= h k) a p q n.changed; inside = n.inside }
 
@@ -87,26 +85,26 @@ module _ (loc1 id1 : ℕ) (num1 : Option ℕ) (ty1 loc2 id2 : ℕ) (num2 : Optio
   unfolding open_ends
   from_start o = o
 
-  module _ (w : List ℕ) (u : Used) (w₁ : List ℕ) (a : Outcome) (b : Found) (ta : Changed w u w₁ a (λ s. next_tvar s)) (da : b ≡ done a.out) where
-    pub ends_no_var : b ≡ Nothing → Opens w u w₁ (record { what = Stop a.out; used = a.used }) (λ s k. open_ends k s loc1 id1 num1 ty1 loc2 id2 num2 ty2)
+  module _ (w : List ℕ) (u : Used) (w₁ : List ℕ) (a : Outcome) (b : Option ℕ) (ta : Changed w u w₁ a (λ s. next_tvar s)) (da : b ≡ done a.out) where
+    pub ends_no_var : b ≡ None → Opens w u w₁ (record { what = Stop a.out; used = a.used }) (λ s k. open_ends k s loc1 id1 num1 ty1 loc2 id2 num2 ty2)
     ends_no_var q = from_start (open_stop a.out from_new ta da (plain_in a.out ta tvar_plain da q) q)
 
-    module _ (n : ℕ) (v : TVar) (is : b ≡ Just n) (e : v.0 ≡ n) (w₂ : List ℕ) (m : Stored w₁ a.used w₂ (λ s. merge_num s num1 num2 v.0))
-        (w₃ : List ℕ) (p : Outcome) (bp : Found) (tp : After w₂ a.used w₃ p (λ s. sp s loc1 (d.Var v.0))) (dp : bp ≡ done p.out) where
+    module _ (n : ℕ) (v : TVar) (is : b ≡ Some n) (e : v.0 ≡ n) (w₂ : List ℕ) (m : Stored w₁ a.used w₂ (λ s. merge_num s num1 num2 v.0))
+        (w₃ : List ℕ) (p : Outcome) (bp : Option ℕ) (tp : After w₂ a.used w₃ p (λ s. sp s loc1 (d.Var v.0))) (dp : bp ≡ done p.out) where
       from_mark : {w' : List ℕ} {r : Open} → Opens w₂ a.used w' r (λ s k. sp s loc1 (d.Var v.0) >>= from_var1 v.0 k) → Opens w u w' r (λ s k. open_ends k s loc1 id1 num1 ty1 loc2 id2 num2 ty2)
-      from_mark o = from_start (open_then a.out from_new ta da (is ∙ ap Just (sym e)) (open_stored (λ s k. sp s loc1 (d.Var v.0) >>= from_var1 v.0 k) m o))
+      from_mark o = from_start (open_then a.out from_new ta da (is ∙ ap Some (sym e)) (open_stored (λ s k. sp s loc1 (d.Var v.0) >>= from_var1 v.0 k) m o))
 
-      pub ends_no_node : bp ≡ Nothing → Opens w u w₃ (record { what = Stop p.out; used = p.used }) (λ s k. open_ends k s loc1 id1 num1 ty1 loc2 id2 num2 ty2)
+      pub ends_no_node : bp ≡ None → Opens w u w₃ (record { what = Stop p.out; used = p.used }) (λ s k. open_ends k s loc1 id1 num1 ty1 loc2 id2 num2 ty2)
       ends_no_node q = from_mark (open_stop p.out (from_var1 v.0) tp.changed dp tp.inside q)
 
-      module _ (var1 : ℕ) (is1 : bp ≡ Just var1) (w₄ : List ℕ) (q : Outcome) (bq : Found) (tq : After w₃ p.used w₄ q (λ s. sp s loc2 (d.Var v.0))) (dq : bq ≡ done q.out) where
+      module _ (var1 : ℕ) (is1 : bp ≡ Some var1) (w₄ : List ℕ) (q : Outcome) (bq : Option ℕ) (tq : After w₃ p.used w₄ q (λ s. sp s loc2 (d.Var v.0))) (dq : bq ≡ done q.out) where
         from_node : {w' : List ℕ} {r : Open} → Opens w₃ p.used w' r (λ s k. sp s loc2 (d.Var v.0) >>= from_var2 v.0 var1 k) → Opens w u w' r (λ s k. open_ends k s loc1 id1 num1 ty1 loc2 id2 num2 ty2)
         from_node o = from_mark (open_then p.out (from_var1 v.0) tp.changed dp is1 o)
 
-        pub ends_no_second : bq ≡ Nothing → Opens w u w₄ (record { what = Stop q.out; used = q.used }) (λ s k. open_ends k s loc1 id1 num1 ty1 loc2 id2 num2 ty2)
+        pub ends_no_second : bq ≡ None → Opens w u w₄ (record { what = Stop q.out; used = q.used }) (λ s k. open_ends k s loc1 id1 num1 ty1 loc2 id2 num2 ty2)
         ends_no_second x = from_node (open_stop q.out (from_var2 v.0 var1) tq.changed dq tq.inside x)
 
-        pub ends_ready : (var2 : ℕ) → bq ≡ Just var2 → (w₅ w₆ : List ℕ) → Stored w₄ q.used w₅ (λ s. insert s id1 var1) → Stored w₅ q.used w₆ (λ s. insert s id2 var2) → ty1 < u.nodes → ty2 < u.nodes
+        pub ends_ready : (var2 : ℕ) → bq ≡ Some var2 → (w₅ w₆ : List ℕ) → Stored w₄ q.used w₅ (λ s. insert s id1 var1) → Stored w₅ q.used w₆ (λ s. insert s id2 var2) → ty1 < u.nodes → ty2 < u.nodes
             → Opens w u w₆ (record { what = Ready (record { ty1 = ty1; ty2 = ty2; new_tvar = v; var2 = var2 }); used = q.used }) (λ s k. open_ends k s loc1 id1 num1 ty1 loc2 id2 num2 ty2)
         ends_ready var2 is2 w₅ w₆ x y in1 in2 =
             let g1 = nodes_grow w u w₁ a.used ta.grown in
@@ -121,45 +119,45 @@ module _ (loc1 id1 : ℕ) (num1 : Option ℕ) (ty1 loc2 id2 : ℕ) (num2 : Optio
             (open_ready w₆ q.used (record { ty1 = ty1; ty2 = ty2; new_tvar = v; var2 = var2 }) y.lay below1 below2 (node_in q.used.nodes q.out bq var2 tq.inside dq is2)))))
 
 -- the ends e1 and e2 of both chains
-module _ (w : List ℕ) (u : Used) (loc1 id1 loc2 id2 : ℕ) (e1 e2 : TVar) (n1 n2 : Found)
+module _ (w : List ℕ) (u : Used) (loc1 id1 loc2 id2 : ℕ) (e1 e2 : TVar) (n1 n2 : Option ℕ)
     (p1 : (ds : List Struct) → e1.0 ≡ forward_tvar (seen w u ds) id1) (p2 : (ds : List Struct) → e2.0 ≡ forward_tvar (seen w u ds) id2)
-    (q1 : (ds : List Struct) → found n1 ≡ num_loc (seen w u ds) e1.0) (q2 : (ds : List Struct) → found n2 ≡ num_loc (seen w u ds) e2.0) where
+    (q1 : (ds : List Struct) → n1 ≡ num_loc (seen w u ds) e1.0) (q2 : (ds : List Struct) → n2 ≡ num_loc (seen w u ds) e2.0) where
   abbrev from_ty2 : ℕ → Inner → State × ℕ → Result (State × ℕ)
-  from_ty2 ty1 k x = open_ends k x.0 loc1 e1.0 (found n1) ty1 loc2 e2.0 (found n2) x.1
+  from_ty2 ty1 k x = open_ends k x.0 loc1 e1.0 n1 ty1 loc2 e2.0 n2 x.1
 
   abbrev from_ty1 : Inner → State × ℕ → Result (State × ℕ)
   from_ty1 k x = type_of x.0 loc2 e2.0 >>= from_ty2 x.1 k
 
   from_ends : {w' : List ℕ} {r : Open} → Opens w u w' r (λ s k. type_of s loc1 e1.0 >>= from_ty1 k) → Opens w u w' r (λ s k. open_tvar k s loc1 id1 loc2 id2)
   unfolding open_types
-  from_ends o = open_seen (λ ds k. open_is k (seen w u ds) loc1 id1 loc2 id2 e1.0 e2.0 (found n1) (found n2) (p1 ds) (p2 ds) (q1 ds) (q2 ds)) o
+  from_ends o = open_seen (λ ds k. open_is k (seen w u ds) loc1 id1 loc2 id2 e1.0 e2.0 n1 n2 (p1 ds) (p2 ds) (q1 ds) (q2 ds)) o
 
-  module _ (w₁ : List ℕ) (a : Outcome) (b : Found) (ta : After w u w₁ a (λ s. type_of s loc1 e1.0)) (da : b ≡ done a.out) where
-    pub open_no_first : b ≡ Nothing → Opens w u w₁ (record { what = Stop a.out; used = a.used }) (λ s k. open_tvar k s loc1 id1 loc2 id2)
+  module _ (w₁ : List ℕ) (a : Outcome) (b : Option ℕ) (ta : After w u w₁ a (λ s. type_of s loc1 e1.0)) (da : b ≡ done a.out) where
+    pub open_no_first : b ≡ None → Opens w u w₁ (record { what = Stop a.out; used = a.used }) (λ s k. open_tvar k s loc1 id1 loc2 id2)
     open_no_first q = from_ends (open_stop a.out from_ty1 ta.changed da ta.inside q)
 
-    module _ (ty1 : ℕ) (is : b ≡ Just ty1) (w₂ : List ℕ) (r : Outcome) (br : Found) (tr : After w₁ a.used w₂ r (λ s. type_of s loc2 e2.0)) (dr : br ≡ done r.out) where
+    module _ (ty1 : ℕ) (is : b ≡ Some ty1) (w₂ : List ℕ) (r : Outcome) (br : Option ℕ) (tr : After w₁ a.used w₂ r (λ s. type_of s loc2 e2.0)) (dr : br ≡ done r.out) where
       from_first : {w' : List ℕ} {o : Open} → Opens w₁ a.used w' o (λ s k. type_of s loc2 e2.0 >>= from_ty2 ty1 k) → Opens w u w' o (λ s k. open_tvar k s loc1 id1 loc2 id2)
       from_first x = from_ends (open_then a.out from_ty1 ta.changed da is x)
 
-      pub open_no_second : br ≡ Nothing → Opens w u w₂ (record { what = Stop r.out; used = r.used }) (λ s k. open_tvar k s loc1 id1 loc2 id2)
+      pub open_no_second : br ≡ None → Opens w u w₂ (record { what = Stop r.out; used = r.used }) (λ s k. open_tvar k s loc1 id1 loc2 id2)
       open_no_second q = from_first (open_stop r.out (from_ty2 ty1) tr.changed dr tr.inside q)
 
-      pub open_both : (ty2 : ℕ) → br ≡ Just ty2 → (w₃ : List ℕ) (o : Open) → Opens w₂ r.used w₃ o (λ s k. open_ends k s loc1 e1.0 (found n1) ty1 loc2 e2.0 (found n2) ty2) → Opens w u w₃ o (λ s k. open_tvar k s loc1 id1 loc2 id2)
+      pub open_both : (ty2 : ℕ) → br ≡ Some ty2 → (w₃ : List ℕ) (o : Open) → Opens w₂ r.used w₃ o (λ s k. open_ends k s loc1 e1.0 n1 ty1 loc2 e2.0 n2 ty2) → Opens w u w₃ o (λ s k. open_tvar k s loc1 id1 loc2 id2)
       open_both ty2 is2 w₃ o x = from_first (open_then r.out (from_ty2 ty1) tr.changed dr is2 x)
 
 -- ---- the numeric mark of a merge
 
-module _ (w : List ℕ) (u : Used) (n1 n2 : Found) (v : ℕ) where
-  pub marks_second : (w' : List ℕ) (nloc : ℕ) → n2 ≡ Just nloc → Stored w u w' (λ s. set_num_var s v nloc) → Stored w u w' (λ s. merge_num s (found n1) (found n2) v)
+module _ (w : List ℕ) (u : Used) (n1 n2 : Option ℕ) (v : ℕ) where
+  pub marks_second : (w' : List ℕ) (nloc : ℕ) → n2 ≡ Some nloc → Stored w u w' (λ s. set_num_var s v nloc) → Stored w u w' (λ s. merge_num s n1 n2 v)
   unfolding merge_num
   marks_second w' nloc e a = rw e a
 
-  pub marks_first : (w' : List ℕ) (nloc : ℕ) → n2 ≡ Nothing → n1 ≡ Just nloc → Stored w u w' (λ s. set_num_var s v nloc) → Stored w u w' (λ s. merge_num s (found n1) (found n2) v)
+  pub marks_first : (w' : List ℕ) (nloc : ℕ) → n2 ≡ None → n1 ≡ Some nloc → Stored w u w' (λ s. set_num_var s v nloc) → Stored w u w' (λ s. merge_num s n1 n2 v)
   unfolding merge_num
   marks_first w' nloc e p a = rw (e, p) a
 
-  pub marks_none : n2 ≡ Nothing → n1 ≡ Nothing → Lay w u → Stored w u w (λ s. merge_num s (found n1) (found n2) v)
+  pub marks_none : n2 ≡ None → n1 ≡ None → Lay w u → Stored w u w (λ s. merge_num s n1 n2 v)
   unfolding merge_num
   marks_none e p h = rw (e, p) (refines_now h (λ ds k. refl))
 
@@ -184,18 +182,18 @@ module _ (ty1 id1 ty2 id2 : ℕ) where
   unfolding show_both
   show_is s = refl
 
-  module _ (w : List ℕ) (u : Used) (w₁ : List ℕ) (a : Outcome) (b : Found) (ta : After w u w₁ a (λ s. shown s ty1 id1)) (da : b ≡ done a.out) where
-    pub show_no_first : b ≡ Nothing → After w u w₁ a (λ s. show_both s ty1 id1 ty2 id2)
+  module _ (w : List ℕ) (u : Used) (w₁ : List ℕ) (a : Outcome) (b : Option ℕ) (ta : After w u w₁ a (λ s. shown s ty1 id1)) (da : b ≡ done a.out) where
+    pub show_no_first : b ≡ None → After w u w₁ a (λ s. show_both s ty1 id1 ty2 id2)
     show_no_first q = after_is (λ ds k. show_is (seen w u ds)) (after_stop show_first ta da q)
 
-    module _ (t1 : ℕ) (is : b ≡ Just t1) (w₂ : List ℕ) (r : Outcome) (br : Found) (tr : After w₁ a.used w₂ r (λ s. shown s ty2 id2)) (dr : br ≡ done r.out) where
+    module _ (t1 : ℕ) (is : b ≡ Some t1) (w₂ : List ℕ) (r : Outcome) (br : Option ℕ) (tr : After w₁ a.used w₂ r (λ s. shown s ty2 id2)) (dr : br ≡ done r.out) where
       from_shown : {w' : List ℕ} {x : Outcome} → After w₁ a.used w' x (λ s. shown s ty2 id2 >>= show_second t1) → After w u w' x (λ s. show_both s ty1 id1 ty2 id2)
       from_shown o = after_is (λ ds k. show_is (seen w u ds)) (after_then a.out show_first ta.changed da is o)
 
-      pub show_no_second : br ≡ Nothing → After w u w₂ r (λ s. show_both s ty1 id1 ty2 id2)
+      pub show_no_second : br ≡ None → After w u w₂ r (λ s. show_both s ty1 id1 ty2 id2)
       show_no_second q = from_shown (after_stop (show_second t1) tr dr q)
 
-      pub show_done : (t2 : ℕ) → br ≡ Just t2 → After w u w₂ (record { out = Failed (Incompatible t1 t2); used = r.used }) (λ s. show_both s ty1 id1 ty2 id2)
+      pub show_done : (t2 : ℕ) → br ≡ Some t2 → After w u w₂ (record { out = Failed (Incompatible t1 t2); used = r.used }) (λ s. show_both s ty1 id1 ty2 id2)
       unfolding outcome
       show_done t2 q =
           let x = node_in a.used.nodes a.out b t1 ta.inside da is in
@@ -230,11 +228,11 @@ module _ {w : List ℕ} {u : Used} {w' : List ℕ} (b : Binding) (tvar ty loc va
 -- ---- closing a merge
 
 module _ (ty1 id1 ty2 loc2 id2 new var2 new_ty : ℕ) (s : State) where
-  pub close_bound : (t : ℕ) (n : Node) → some t ≡ get s new → node_of n ≡ node s t → outcome (Failed (RecursiveType n.loc)) s ≡ close_tvar s ty1 id1 ty2 loc2 id2 new var2 new_ty
+  pub close_bound : (t : ℕ) (n : Node) → Some t ≡ get s new → node_of n ≡ node s t → outcome (Failed (RecursiveType n.loc)) s ≡ close_tvar s ty1 id1 ty2 loc2 id2 new var2 new_ty
   unfolding close_tvar outcome
   close_bound t n e p = rw (← e, close_tvar, loc_is s t n p)
 
-  pub close_free : none ≡ get s new → bind_then var2 (λ s. show_both s ty1 id1 ty2 id2) (join_bind_tvar s loc2 new new_ty) ≡ close_tvar s ty1 id1 ty2 loc2 id2 new var2 new_ty
+  pub close_free : None ≡ get s new → bind_then var2 (λ s. show_both s ty1 id1 ty2 id2) (join_bind_tvar s loc2 new new_ty) ≡ close_tvar s ty1 id1 ty2 loc2 id2 new var2 new_ty
   unfolding close_tvar
   close_free e = rw (← e, close_tvar)
 
@@ -251,30 +249,30 @@ unbound_incompatible lhs rhs h i j = after_now h (i, j) (λ ds k. refl)
 -- ---- a variable meets another type
 
 module _ (lhs rhs var id other : ℕ) where
-  pub meet_free : (k : State → ℕ → Result (State × ℕ)) (s : State) → none ≡ get s id → join_unbound s lhs rhs var id other ≡ meet_tvar k s lhs rhs var id other
+  pub meet_free : (k : State → ℕ → Result (State × ℕ)) (s : State) → None ≡ get s id → join_unbound s lhs rhs var id other ≡ meet_tvar k s lhs rhs var id other
   unfolding meet_tvar
   meet_free k s e = rw (← e, meet_tvar)
 
-  pub meet_bound : (k : State → ℕ → Result (State × ℕ)) (s : State) (t : ℕ) → some t ≡ get s id
+  pub meet_bound : (k : State → ℕ → Result (State × ℕ)) (s : State) (t : ℕ) → Some t ≡ get s id
       → (next_tvar s >>= (λ a. k (insert a.0 a.1 other) a.1)) ≡ meet_tvar k s lhs rhs var id other
   unfolding meet_tvar
   meet_bound k s t e = rw (← e, meet_tvar)
 
-  module _ (w : List ℕ) (u : Used) (f : Found) (is : (ds : List Struct) → found f ≡ get (seen w u ds) id) where
-    pub meets_free : (w' : List ℕ) (r : Outcome) → f ≡ Nothing → After w u w' r (λ s. join_unbound s lhs rhs var id other)
+  module _ (w : List ℕ) (u : Used) (f : Option ℕ) (is : (ds : List Struct) → f ≡ get (seen w u ds) id) where
+    pub meets_free : (w' : List ℕ) (r : Outcome) → f ≡ None → After w u w' r (λ s. join_unbound s lhs rhs var id other)
         → Meets w u w' (Is r) (λ s k. meet_tvar k s lhs rhs var id other)
     unfolding met
     meets_free w' r e a =
-        record { changed = refines_is (λ ds x i k. meet_free k (seen w u ds) (sym (ap found e) ∙ is ds) i) (refines_as (λ m (k : ThenMerge). m) a.changed (λ s. refl)); inside = a.inside }
+        record { changed = refines_is (λ ds x i k. meet_free k (seen w u ds) (sym (e) ∙ is ds) i) (refines_as (λ m (k : ThenMerge). m) a.changed (λ s. refl)); inside = a.inside }
 
-    module _ (t : ℕ) (to : f ≡ Just t) (w' : List ℕ) (r : Outcome) (a : Changed w u w' r (λ s. next_tvar s)) (b : Found) (p : b ≡ done r.out) where
+    module _ (t : ℕ) (to : f ≡ Some t) (w' : List ℕ) (r : Outcome) (a : Changed w u w' r (λ s. next_tvar s)) (b : Option ℕ) (p : b ≡ done r.out) where
       abbrev fresh : Result (State × ℕ) → ThenMerge → Result (State × ℕ)
       fresh m k = m >>= (λ y. k (insert y.0 y.1 other) y.1)
 
       from_next : {w₂ : List ℕ} {u₂ : Used} {answer : State → ThenMerge → Result (State × ℕ)} → Refines Any w u w₂ u₂ answer (λ s. fresh (next_tvar s)) → Refines Any w u w₂ u₂ answer (λ s k. meet_tvar k s lhs rhs var id other)
-      from_next x = refines_is (λ ds z i k. meet_bound k (seen w u ds) t (sym (ap found to) ∙ is ds) i) x
+      from_next x = refines_is (λ ds z i k. meet_bound k (seen w u ds) t (sym (to) ∙ is ds) i) x
 
-      pub meets_stop : b ≡ Nothing → Meets w u w' (Is r) (λ s k. meet_tvar k s lhs rhs var id other)
+      pub meets_stop : b ≡ None → Meets w u w' (Is r) (λ s k. meet_tvar k s lhs rhs var id other)
       unfolding met
       meets_stop q =
           record {
@@ -282,11 +280,11 @@ module _ (lhs rhs var id other : ℕ) where
             inside = plain_in r.out a tvar_plain p q;
           }
 
-      pub meets_fresh : (n : ℕ) (v : TVar) (w₂ : List ℕ) → b ≡ Just n → v.0 ≡ n → Stored w' r.used w₂ (λ s. insert s v.0 other)
+      pub meets_fresh : (n : ℕ) (v : TVar) (w₂ : List ℕ) → b ≡ Some n → v.0 ≡ n → Stored w' r.used w₂ (λ s. insert s v.0 other)
           → Meets w u w₂ (Merge r.used v) (λ s k. meet_tvar k s lhs rhs var id other)
       unfolding met ◌>>=◌
       meets_fresh n v w₂ q e h =
           record {
-            changed = from_next (refines_number r.out fresh a p (q ∙ ap Just (sym e)) (refines_as (λ s (k : ThenMerge). k s v.0) h (λ s. refl)));
+            changed = from_next (refines_number r.out fresh a p (q ∙ ap Some (sym e)) (refines_as (λ s (k : ThenMerge). k s v.0) h (λ s. refl)));
             inside = tt;
           }

@@ -1,6 +1,6 @@
 -- The definition's join_tvar cut at its inner join, given what follows, and the answers of the cuts. Assumes nothing: these are definitions.
 use Rattle.std.specs.Prelude.{List, ℕ, ◌<◌, if◌then◌else◌}
-use Rattle.std.proofs.Math.Option.{Option, none, some}
+use Rattle.std.specs.Prelude.{Option, None, Some}
 use Rattle.definition.specs.Types as d
 use Rattle.definition.specs.Types.{State, Result, ok, err, ◌>>=◌, RecursiveType}
 use Rattle.definition.specs.Store.{loc_of, get, num_loc, insert, sp, next_tvar}
@@ -68,8 +68,8 @@ show_both subst ty1 id1 ty2 id2 = do
 
 unfoldable pub close_tvar : State → ℕ → ℕ → ℕ → ℕ → ℕ → ℕ → ℕ → ℕ → Result (State × ℕ)
 close_tvar subst ty1 id1 ty2 loc2 id2 new_tvar var2 new_ty = elim (get subst new_tvar) [
-  | some t ↦ err subst (RecursiveType (loc_of subst t))
-  | none ↦ do
+  | Some t ↦ err subst (RecursiveType (loc_of subst t))
+  | None ↦ do
     (subst, bound) ← join_bind_tvar subst loc2 new_tvar new_ty
     if bound then ok (subst, var2) else show_both subst ty1 id1 ty2 id2
 ]
@@ -83,8 +83,8 @@ ThenMerge = State → ℕ → Result (State × ℕ)
 -- join_impl's arms of one variable; where it is bound, `merge` follows
 unfoldable pub meet_tvar : ThenMerge → State → ℕ → ℕ → ℕ → ℕ → ℕ → Result (State × ℕ)
 meet_tvar merge subst lhs rhs var id other = elim (get subst id) [
-  | none ↦ join_unbound subst lhs rhs var id other
-  | some t ↦ do
+  | None ↦ join_unbound subst lhs rhs var id other
+  | Some t ↦ do
     (subst, new_tvar) ← next_tvar subst
     merge (insert subst new_tvar other) new_tvar
 ]

@@ -4,12 +4,12 @@
 
 ghost use Rattle.std.specs.Prelude.{◌≡◌, ℕ, ◌<◌};
 ghost use Rattle.definition.specs.Join.{type_of, merge_num, shown, join_unbound};
-ghost use Rattle.table.specs.State.{Lay, After, Stored, found};
+ghost use Rattle.table.specs.State.{Lay, After, Stored};
 ghost use Rattle.merge.specs.Merge.{stopped, open_ends, open_tvar, show_both, close_tvar, meet_tvar, Opens, Meets};
 
 use names::TVar;
 use subst::Binding;
-use table::{Found, Node, Out, Outcome, Shape, TypingError, Used};
+use table::{Node, Out, Outcome, Shape, TypingError, Used};
 
 // A location, and the variable there.
 #[derive(Clone, Copy)]
@@ -20,7 +20,7 @@ pub struct VarAt(pub u32, pub TVar);
 struct End {
     loc: u32,
     last_id: TVar,
-    num_loc: Found,
+    num_loc: Option<u32>,
     ty: u32,
 }
 
@@ -69,8 +69,8 @@ fn type_of(w: &mut [u32], u: Used, loc: u32, id: TVar) -> Outcome
     ensures { After w.old u w.new result (λ s. type_of s loc id.0) }
 {
     match table::bound_at(w, u, id) {
-        Found::Nothing => table::push_node(w, u, loc, Shape::Anything),
-        Found::Just(t) => Outcome {
+        None => table::push_node(w, u, loc, Shape::Anything),
+        Some(t) => Outcome {
             out: Out::Done(t),
             used: u,
         },
@@ -78,15 +78,15 @@ fn type_of(w: &mut [u32], u: Used, loc: u32, id: TVar) -> Outcome
 }
 
 // The fresh variable is numeric if either end is; the second's location wins.
-fn merge_num(w: &mut [u32], u: Used, num_loc_1: Found, num_loc_2: Found, new_tvar: TVar)
+fn merge_num(w: &mut [u32], u: Used, num_loc_1: Option<u32>, num_loc_2: Option<u32>, new_tvar: TVar)
     requires { Lay w.old u }
-    ensures { Stored w.old u w.new (λ s. merge_num s (found num_loc_1) (found num_loc_2) new_tvar.0) }
+    ensures { Stored w.old u w.new (λ s. merge_num s num_loc_1 num_loc_2 new_tvar.0) }
 {
     match num_loc_2 {
-        Found::Just(nloc) => subst::set_num_var(w, u, new_tvar, nloc),
-        Found::Nothing => match num_loc_1 {
-            Found::Just(nloc) => subst::set_num_var(w, u, new_tvar, nloc),
-            Found::Nothing => {}
+        Some(nloc) => subst::set_num_var(w, u, new_tvar, nloc),
+        None => match num_loc_1 {
+            Some(nloc) => subst::set_num_var(w, u, new_tvar, nloc),
+            None => {}
         },
     }
 }
@@ -94,12 +94,12 @@ fn merge_num(w: &mut [u32], u: Used, num_loc_1: Found, num_loc_2: Found, new_tva
 // Both ends are bound to a fresh variable.
 fn open_ends(w: &mut [u32], u: Used, e1: End, e2: End) -> Open
     requires { Lay w.old u × ((e1.ty < u.nodes) × (e2.ty < u.nodes)) }
-    ensures { Opens w.old u w.new result (λ s k. open_ends k s e1.loc e1.last_id.0 (found e1.num_loc) e1.ty e2.loc e2.last_id.0 (found e2.num_loc) e2.ty) }
+    ensures { Opens w.old u w.new result (λ s k. open_ends k s e1.loc e1.last_id.0 e1.num_loc e1.ty e2.loc e2.last_id.0 e2.num_loc e2.ty) }
 {
     let a = table::take_var(w, u);
     let ao = a.out;
     let au = a.used;
-    let Found::Just(n) = table::done_of(ao) else {
+    let Some(n) = table::done_of(ao) else {
         return stopped(a);
     };
     let new_tvar = table::tvar(n);
@@ -109,13 +109,13 @@ fn open_ends(w: &mut [u32], u: Used, e1: End, e2: End) -> Open
     let b = table::push_node(w, au, e1.loc, Shape::Var(new_tvar));
     let bo = b.out;
     let bu = b.used;
-    let Found::Just(var1) = table::done_of(bo) else {
+    let Some(var1) = table::done_of(bo) else {
         return stopped(b);
     };
     let d = table::push_node(w, bu, e2.loc, Shape::Var(new_tvar));
     let od = d.out;
     let du = d.used;
-    let Found::Just(var2) = table::done_of(od) else {
+    let Some(var2) = table::done_of(od) else {
         return stopped(d);
     };
     table::bind_var(w, du, e1.last_id, var1);
@@ -144,13 +144,13 @@ pub fn open_tvar(w: &mut [u32], u: Used, v1: VarAt, v2: VarAt) -> Open
     let a = type_of(w, u, v1.0, last_id1);
     let ao = a.out;
     let au = a.used;
-    let Found::Just(ty1) = table::done_of(ao) else {
+    let Some(ty1) = table::done_of(ao) else {
         return stopped(a);
     };
     let b = type_of(w, au, v2.0, last_id2);
     let bo = b.out;
     let bu = b.used;
-    let Found::Just(ty2) = table::done_of(bo) else {
+    let Some(ty2) = table::done_of(bo) else {
         return stopped(b);
     };
     let e1 = End {
@@ -192,13 +192,13 @@ fn show_both(w: &mut [u32], u: Used, ty1: u32, id1: TVar, ty2: u32, id2: TVar) -
     let a = shown(w, u, ty1, id1);
     let ao = a.out;
     let au = a.used;
-    let Found::Just(shown1) = table::done_of(ao) else {
+    let Some(shown1) = table::done_of(ao) else {
         return a;
     };
     let b = shown(w, au, ty2, id2);
     let bo = b.out;
     let bu = b.used;
-    let Found::Just(shown2) = table::done_of(bo) else {
+    let Some(shown2) = table::done_of(bo) else {
         return b;
     };
     Outcome {
@@ -215,14 +215,14 @@ pub fn close_tvar(w: &mut [u32], u: Used, v1: VarAt, v2: VarAt, m: Merging, new_
     let var2 = m.var2;
     let loc2 = v2.0;
     match table::bound_at(w, u, m.new_tvar) {
-        Found::Just(t) => {
+        Some(t) => {
             let n = table::node_at(w, u, t);
             Outcome {
                 out: Out::Failed(TypingError::RecursiveType(n.loc)),
                 used: u,
             }
         }
-        Found::Nothing => match subst::join_bind_tvar(w, u, m.new_tvar, new_ty) {
+        None => match subst::join_bind_tvar(w, u, m.new_tvar, new_ty) {
             Binding::Bound => Outcome {
                 out: Out::Done(var2),
                 used: u,
@@ -272,14 +272,14 @@ pub fn meet_tvar(w: &mut [u32], u: Used, lhs: u32, rhs: u32, var: u32, id: TVar,
     ensures { Meets w.old u w.new result (λ s k. meet_tvar k s lhs rhs var id.0 other) }
 {
     match table::bound_at(w, u, id) {
-        Found::Nothing => Meet::Is(join_unbound(w, u, lhs, rhs, var, id, other)),
-        Found::Just(_) => {
+        None => Meet::Is(join_unbound(w, u, lhs, rhs, var, id, other)),
+        Some(_) => {
             let a = table::take_var(w, u);
             let ao = a.out;
             let au = a.used;
             match table::done_of(ao) {
-                Found::Nothing => Meet::Is(a),
-                Found::Just(n) => {
+                None => Meet::Is(a),
+                Some(n) => {
                     let new_tvar = table::tvar(n);
                     table::bind_var(w, au, new_tvar, other);
                     Meet::Merge(au, new_tvar)

@@ -3,7 +3,6 @@
 #![tactic(auto)]
 
 ghost use Rattle.std.specs.Prelude.{◌≡◌, ◌<◌};
-ghost use Rattle.std.proofs.Math.Option.{some};
 ghost use Rattle.definition.specs.Types.{Builtin};
 ghost use Rattle.definition.specs.Abilities.{has, builtin_abilities, requires};
 ghost use Rattle.definition.specs.Join.{is_numeric};
@@ -50,11 +49,7 @@ impl AbilitySet {
 }
 
 // An ability mark on a named type.
-#[derive(Clone, Copy)]
-pub enum AbilityMark {
-    Absent,
-    Set(AbilitySet),
-}
+pub type AbilityMark = Option<AbilitySet>;
 
 // An expression list's name is its count; a builtin and a struct have numbers.
 #[derive(Clone, Copy)]
@@ -118,7 +113,7 @@ pub fn requires_of(ability: u8) -> u8
 }
 
 pub fn has_drop(a: AbilitySet) -> bool
-    ensures { result ≡ has_drop (some a.0) }
+    ensures { result ≡ has_drop (Some a.0) }
 {
     a.0 / 2 % 2 == 1
 }

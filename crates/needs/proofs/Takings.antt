@@ -1,7 +1,7 @@
 -- Takings added up: of a type and its parts, and how few they are. First the laws of sums, then trees in a row, then a type as its own takings and its parts' (`whole`), then the bounds. Assumes nothing.
 use mathlib.Core.Path.{◌≡◌, refl, sym, ap, ◌∙◌}
 use mathlib.Core.Bool.{Bool, true, false}
-use mathlib.Core.Option.{Option, none, some}
+use Rattle.std.specs.Prelude.{Option, None, Some}
 use Prim.Native.Nat.{ℕ, suc, ◌+◌, ◌≤◌}
 use native.Mathlib.Omega.{arith}
 use lib.Dec.{leb}
@@ -28,20 +28,20 @@ same p q r t = cc
 
 pub plus_assoc : (a b c : Option Needs) → a plus b plus c ≡ a plus (b plus c)
 unfolding ◌plus◌
-plus_assoc none b c = refl
-plus_assoc (some a) none c = refl
-plus_assoc (some a) (some b) none = refl
-plus_assoc (some a) (some b) (some c) = same (omega arith) (omega arith) (omega arith) (omega arith)
+plus_assoc None b c = refl
+plus_assoc (Some a) None c = refl
+plus_assoc (Some a) (Some b) None = refl
+plus_assoc (Some a) (Some b) (Some c) = same (omega arith) (omega arith) (omega arith) (omega arith)
 
 pub plus_nothing : (a : Option Needs) → a plus nothing ≡ a
 unfolding ◌plus◌
-plus_nothing none = refl
-plus_nothing (some a) = same (omega arith) (omega arith) (omega arith) (omega arith)
+plus_nothing None = refl
+plus_nothing (Some a) = same (omega arith) (omega arith) (omega arith) (omega arith)
 
 nothing_plus : (a : Option Needs) → nothing plus a ≡ a
 unfolding ◌plus◌
-nothing_plus none = refl
-nothing_plus (some a) = same (omega arith) (omega arith) (omega arith) (omega arith)
+nothing_plus None = refl
+nothing_plus (Some a) = same (omega arith) (omega arith) (omega arith) (omega arith)
 
 pub of_both : (a b : Sums) → needs_of (both a b) ≡ needs_of a plus needs_of b
 unfolding ◌plus◌

@@ -1,6 +1,6 @@
 -- R-3: a type's takings as the walk has them, beside the definition's `needs`. Assumes nothing: these are definitions.
 use Rattle.std.specs.Prelude.{◌≡◌, Bool, true, false, ◌||◌, List, ℕ, ◌+◌, ◌*◌, ◌≤◌}
-use Rattle.std.proofs.Math.Option.{Option, none}
+use Rattle.std.specs.Prelude.{Option, None}
 use Rattle.definition.specs.Types.{State, Struct, malformed, unknown_name, doubled_reference}
 use Rattle.definition.specs.Write.{Bytes}
 use Rattle.definition.specs.Reader.{Read, got, not_read}
@@ -27,7 +27,7 @@ both a b = sums (a.nodes + b.nodes) (a.places + b.places) (a.variables + b.varia
 
 -- none once a variable was met
 abbrev pub unless : Bool → Option Needs → Option Needs
-unless true n = none
+unless true n = None
 unless false n = n
 
 abbrev pub needs_of : Sums → Option Needs

@@ -1,5 +1,5 @@
 -- A type read and placed at once: 5, 6 or 18 wins over 7, so that reading goes on when space has ended. Assumes nothing: these are definitions.
-use Rattle.std.specs.Prelude.{◌≡◌, Bool, true, false, List, ℕ, ◌≤◌, ◌<◌, get_or, if◌then◌else◌}
+use Rattle.std.specs.Prelude.{◌≡◌, Bool, true, false, List, ℕ, ◌≤◌, ◌<◌, get_or, if◌then◌else◌, Option, None, Some}
 use Rattle.definition.specs.Types as d
 use Rattle.definition.specs.Types.{State, Struct, Refusal, malformed, unknown_name, doubled_reference, full, Result, ok, refused}
 use Rattle.definition.specs.Store.{sp}
@@ -10,8 +10,6 @@ use Rattle.definition.specs.Build.{build}
 use Rattle.names.specs.Names.{mark_of, name_of}
 use Rattle.table.specs.State.{Lay, Grown, Declares, view, seen}
 use Rattle.table.specs.declared.Used.{Used}
-use Rattle.table.specs.declared.Found.{Found}
-use Rattle.table.specs.declared.Found.TheVariants.{Nothing, Just}
 use Rattle.table.specs.declared.Shape.{Shape}
 use Rattle.table.specs.declared.Shape.TheVariants.{Unit as UnitS, Ref, Param, Apply, Var, Anything, UnresolvedError}
 use Rattle.reader.specs.declared.Part.{Part}
@@ -72,9 +70,9 @@ PartsBelow nodes parts n = (i : ℕ) → i < n → get_or parts i 0 < nodes
 
 -- ---- what the loop over the parts asks of an answer
 
-abbrev pub found_part : Found → Part
-found_part Nothing = Full
-found_part (Just t) = At t
+abbrev pub found_part : Option ℕ → Part
+found_part None = Full
+found_part (Some t) = At t
 
 abbrev pub is_stop : Part → Bool
 is_stop (At t) = false

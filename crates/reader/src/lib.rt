@@ -9,7 +9,7 @@ ghost use Rattle.heads.specs.Fields.{rest, tree_read, many_parts, Arities};
 ghost use Rattle.reader.specs.Taken.{Takes, PartsBelow, put_node, found_part, is_stop, is_over, node_in};
 
 use heads::{Head, read_head};
-use table::{Found, Out, Outcome, Refusal, Shape, Used, done_of, push_apply, push_node};
+use table::{Out, Outcome, Refusal, Shape, Used, done_of, push_apply, push_node};
 
 // A type read and placed: its node; no space was left for it (7); 5; 6; or 18.
 #[derive(Clone, Copy)]
@@ -62,12 +62,12 @@ fn place_node(
     }
 }
 
-fn part_found(f: Found) -> Part
+fn part_found(f: Option<u32>) -> Part
     ensures { result ≡ found_part f }
 {
     match f {
-        Found::Nothing => Part::Full,
-        Found::Just(t) => Part::At(t),
+        None => Part::Full,
+        Some(t) => Part::At(t),
     }
 }
 

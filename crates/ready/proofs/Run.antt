@@ -2,7 +2,7 @@
 use mathlib.Core.Path.{◌≡◌, refl, sym, ap, ap₂, ◌∙◌, subst}
 use mathlib.Core.Bool.{Bool, true, false}
 use mathlib.Core.List.{List, [], ◌∷◌}
-use mathlib.Core.Option.{Option, none, some}
+use Rattle.std.specs.Prelude.{Option, None, Some}
 use Prim.Native.Nat.{ℕ, zero, suc, ◌+◌, ◌-◌, ◌*◌, ◌<◌, ◌≤◌}
 use native.Mathlib.Nat.{not-suc-le-zero}
 use native.Mathlib.Omega.{arith}
@@ -18,16 +18,14 @@ use Rattle.definition.specs.Store.{count, taken, node, nowhere, args_at, with_ar
 use Rattle.definition.specs.Subst.{as_var, parts, next_in, next_of, forward, forward_tvar, reaches_itself, ready_value, ready, ready_tvars}
 use Rattle.names.specs.Names.{mark_of, name_of}
 use Rattle.names.specs.declared.TVar.{TVar}
-use Rattle.names.specs.declared.AbilityMark.{AbilityMark}
+use Rattle.names.specs.declared.AbilitySet.{AbilitySet}
 use Rattle.names.specs.declared.TypeName.{TypeName}
-use Rattle.table.specs.State.{found, shape_of, node_of, done, outcome, view, seen, Lay, Below, Grown, Front, Any, After, Parts as PartsIn}
+use Rattle.table.specs.State.{shape_of, node_of, done, outcome, view, seen, Lay, Below, Grown, Front, Any, After, Parts as PartsIn}
 use Rattle.table.specs.declared.Used.{Used}
 use Rattle.table.specs.declared.Node.{Node}
 use Rattle.table.specs.declared.Outcome.{Outcome}
 use Rattle.table.specs.declared.Shape.{Shape}
 use Rattle.table.specs.declared.Shape.TheVariants.{Ref as RefS, Apply as ApplyS, Var as VarS}
-use Rattle.table.specs.declared.Found.{Found}
-use Rattle.table.specs.declared.Found.TheVariants.{Nothing, Just}
 use Rattle.table.specs.declared.Out.TheVariants.{Done, Refused}
 use Rattle.table.specs.declared.Refusal.TheVariants.{RunsIntoItself}
 use Rattle.table.specs.contracts.Shape.{the_type}
@@ -59,7 +57,7 @@ one_part (err s e) loc b = refl
 one_part (refused x) loc b = refl
 
 -- a type that is no variable
-plain : (f : Ready) (s : State) (ty loc : ℕ) (x : d.TypeValue) → none ≡ as_var x → by_parts f s ty loc x ≡ ready_value f s ty loc x
+plain : (f : Ready) (s : State) (ty loc : ℕ) (x : d.TypeValue) → None ≡ as_var x → by_parts f s ty loc x ≡ ready_value f s ty loc x
 unfolding by_parts ready_value rebuilt parts map_types as_var ◌>>=◌
 plain f s ty loc d.UnitType e = refl
 plain f s ty loc (d.Ref m t) e = one_part (f s t) loc m
@@ -69,14 +67,14 @@ plain f s ty loc (d.Var v) e = let z : ◌≡◌ {A = ℕ} 0 1 = cc in absurd (o
 plain f s ty loc d.Anything e = refl
 plain f s ty loc d.UnresolvedError e = refl
 
-pub goes_plain : (w : List ℕ) (u : Used) (sh : Shape) (many : ℕ) → ((s : State) → none ≡ as_var (with_args s (shape_of sh))) → many ≡ part_count (shape_of sh) → Goes w u sh (Parts many)
+pub goes_plain : (w : List ℕ) (u : Used) (sh : Shape) (many : ℕ) → ((s : State) → None ≡ as_var (with_args s (shape_of sh))) → many ≡ part_count (shape_of sh) → Goes w u sh (Parts many)
 goes_plain w u sh many e m = record { is = λ f ty loc ds. plain f (seen w u ds) ty loc (with_args (seen w u ds) (shape_of sh)) (e (seen w u ds)); inside = m }
 
-var_open : (f : Ready) (s : State) (ty loc v : ℕ) → get s (forward_tvar s v) ≡ none → sp s loc (d.Var (forward_tvar s v)) ≡ ready_value f s ty loc (d.Var v)
+var_open : (f : Ready) (s : State) (ty loc v : ℕ) → get s (forward_tvar s v) ≡ None → sp s loc (d.Var (forward_tvar s v)) ≡ ready_value f s ty loc (d.Var v)
 unfolding ready_value
 var_open f s ty loc v g = rw (g, ready_value) refl
 
-var_bound : (f : Ready) (s : State) (ty loc v t : ℕ) → get s (forward_tvar s v) ≡ some t → f s t ≡ ready_value f s ty loc (d.Var v)
+var_bound : (f : Ready) (s : State) (ty loc v t : ℕ) → get s (forward_tvar s v) ≡ Some t → f s t ≡ ready_value f s ty loc (d.Var v)
 unfolding ready_value
 var_bound f s ty loc v t g = rw (g, ready_value) refl
 
@@ -84,23 +82,23 @@ shape_var : (s : State) (sh : Shape) (v : TVar) → sh ≡ VarS v → d.Var v.0 
 unfolding with_args
 shape_var s sh v e = rw e refl
 
-module _ (w : List ℕ) (u : Used) (sh : Shape) (v last : TVar) (e : sh ≡ VarS v) (l : (ds : List Struct) → last.0 ≡ forward_tvar (seen w u ds) v.0) (b : Found) (g : (ds : List Struct) → found b ≡ get (seen w u ds) last.0) where
-  at_end : (ds : List Struct) → get (seen w u ds) (forward_tvar (seen w u ds) v.0) ≡ found b
+module _ (w : List ℕ) (u : Used) (sh : Shape) (v last : TVar) (e : sh ≡ VarS v) (l : (ds : List Struct) → last.0 ≡ forward_tvar (seen w u ds) v.0) (b : Option ℕ) (g : (ds : List Struct) → b ≡ get (seen w u ds) last.0) where
+  at_end : (ds : List Struct) → get (seen w u ds) (forward_tvar (seen w u ds) v.0) ≡ b
   at_end ds = sym (g ds ∙ ap (get (seen w u ds)) (l ds))
 
-  pub goes_open : b ≡ Nothing → Goes w u sh (Open last)
+  pub goes_open : b ≡ None → Goes w u sh (Open last)
   goes_open z = record {
     is = λ f ty loc ds.
         ap (λ (x : ℕ). sp (seen w u ds) loc (d.Var x)) (l ds)
-        ∙ var_open f (seen w u ds) ty loc v.0 (at_end ds ∙ ap found z)
+        ∙ var_open f (seen w u ds) ty loc v.0 (at_end ds ∙ z)
         ∙ ap (ready_value f (seen w u ds) ty loc) (shape_var (seen w u ds) sh v e);
     inside = tt;
   }
 
-  pub goes_bound : Lay w u → (t : ℕ) → b ≡ Just t → Goes w u sh (Bound t)
+  pub goes_bound : Lay w u → (t : ℕ) → b ≡ Some t → Goes w u sh (Bound t)
   goes_bound h t z = record {
-    is = λ f ty loc ds. var_bound f (seen w u ds) ty loc v.0 t (at_end ds ∙ ap found z) ∙ ap (ready_value f (seen w u ds) ty loc) (shape_var (seen w u ds) sh v e);
-    inside = rw (count_seen w u []) at ((inside_seen w u [] h).bindings last.0 t (sym (g []) ∙ ap found z));
+    is = λ f ty loc ds. var_bound f (seen w u ds) ty loc v.0 t (at_end ds ∙ z) ∙ ap (ready_value f (seen w u ds) ty loc) (shape_var (seen w u ds) sh v e);
+    inside = rw (count_seen w u []) at ((inside_seen w u [] h).bindings last.0 t (sym (g []) ∙ z));
   }
 
 one_level : (left : ℕ) (s : State) (ty : ℕ) → 0 < left → ready_value (λ s t. ready (left - 1) s t) s ty (loc_of s ty) (type_at s ty) ≡ ready left s ty
@@ -205,7 +203,7 @@ module _ (w : List ℕ) (u : Used) (t : ℕ) (h : Lay w u) (i : t < u.nodes) (n 
           let l : 0 < many = omega arith in
           sym (rw (z, get_or-take many tys 0 0 l) refl) ∙ anew (take many tys) ds) a
 
-    pub anew_apply : (k : AbilityMark) (name : TypeName) (first old : ℕ) → n.shape ≡ ApplyS k name first old → (tys w' : List ℕ) (r : Outcome) → After w u w' r (λ s. sp s n.loc (d.Apply (mark_of k) (name_of name) (take many tys)))
+    pub anew_apply : (k : Option AbilitySet) (name : TypeName) (first old : ℕ) → n.shape ≡ ApplyS k name first old → (tys w' : List ℕ) (r : Outcome) → After w u w' r (λ s. sp s n.loc (d.Apply (mark_of k) (name_of name) (take many tys)))
         → After w u w' r (λ s. rebuilt_at s t (take many tys))
     unfolding rebuilt with_args
     anew_apply k name first old z tys w' r a = after_is (λ ds x. sym (rw z refl) ∙ anew (take many tys) ds) a
@@ -290,9 +288,9 @@ kept_value f h s ty loc (d.Param id a) = refl
 kept_value f h s ty loc (d.Apply k n tys) = kept_bind s (map_types f s tys) _ (kept_map f h s tys) (λ y. kept_sp y.0 loc (d.Apply k n y.1))
 kept_value f h s ty loc (d.Var v) = go (get s (forward_tvar s v))
   where
-    go : (o : Option ℕ) → VarsKept {A = ℕ} s (elim o [ none ↦ sp s loc (d.Var (forward_tvar s v)) | some t ↦ f s t ])
-    go none = kept_sp s loc (d.Var (forward_tvar s v))
-    go (some t) = h s t
+    go : (o : Option ℕ) → VarsKept {A = ℕ} s (elim o [ None ↦ sp s loc (d.Var (forward_tvar s v)) | Some t ↦ f s t ])
+    go None = kept_sp s loc (d.Var (forward_tvar s v))
+    go (Some t) = h s t
 kept_value f h s ty loc d.Anything = refl
 kept_value f h s ty loc d.UnresolvedError = refl
 
@@ -315,17 +313,17 @@ module _ (w₀ : List ℕ) (u : Used) (w : List ℕ) (cur : Used) (h : Lay w₀ 
   next_kept ds v = ap (next_in (seen w cur ds)) (get_kept ds v) ∙ go (get (seen w₀ u ds) v) refl
     where
       go : (o : Option ℕ) → get (seen w₀ u ds) v ≡ o → next_in (seen w cur ds) o ≡ next_in (seen w₀ u ds) o
-      go none e = refl
-      go (some t) e = ap as_var (value_kept w₀ u w cur t h (rw (count_seen w₀ u ds) at ((inside_seen w₀ u ds h).bindings v t e)) g ds ∙ sym (type_view w₀ u t ds))
+      go None e = refl
+      go (Some t) e = ap as_var (value_kept w₀ u w cur t h (rw (count_seen w₀ u ds) at ((inside_seen w₀ u ds h).bindings v t e)) g ds ∙ sym (type_view w₀ u t ds))
 
   forward_kept : (n : ℕ) (ds : List Struct) (v : ℕ) → forward n (seen w cur ds) v ≡ forward n (seen w₀ u ds) v
   unfolding forward
   forward_kept zero ds v = refl
-  forward_kept (suc n) ds v = ap (λ (o : Option ℕ). elim o [ none ↦ v | some x ↦ forward n (seen w cur ds) x ]) (next_kept ds v) ∙ go (λ x. forward_kept n ds x) (next_of (seen w₀ u ds) v)
+  forward_kept (suc n) ds v = ap (λ (o : Option ℕ). elim o [ None ↦ v | Some x ↦ forward n (seen w cur ds) x ]) (next_kept ds v) ∙ go (λ x. forward_kept n ds x) (next_of (seen w₀ u ds) v)
     where
-      go : ((x : ℕ) → forward n (seen w cur ds) x ≡ forward n (seen w₀ u ds) x) → (o : Option ℕ) → ◌≡◌ {A = ℕ} (elim o [ none ↦ v | some x ↦ forward n (seen w cur ds) x ]) (elim o [ none ↦ v | some x ↦ forward n (seen w₀ u ds) x ])
-      go f none = refl
-      go f (some x) = f x
+      go : ((x : ℕ) → forward n (seen w cur ds) x ≡ forward n (seen w₀ u ds) x) → (o : Option ℕ) → ◌≡◌ {A = ℕ} (elim o [ None ↦ v | Some x ↦ forward n (seen w cur ds) x ]) (elim o [ None ↦ v | Some x ↦ forward n (seen w₀ u ds) x ])
+      go f None = refl
+      go f (Some x) = f x
 
   end_kept : (ds : List Struct) (v : ℕ) → forward_tvar (seen w cur ds) v ≡ forward_tvar (seen w₀ u ds) v
   unfolding forward_tvar
@@ -335,7 +333,7 @@ module _ (w₀ : List ℕ) (u : Used) (w : List ℕ) (cur : Used) (h : Lay w₀ 
   known_kept ends t = record { short = t.short; is = λ v p ds. t.is v p ds ∙ sym (end_kept ds v) }
 
 -- the ends stay known while a type is made ready
-pub known_after : {w : List ℕ} {cur : Used} (left t : ℕ) {w₁ : List ℕ} {a : Outcome} {b : Found} {x : ℕ} {ends : List ℕ} → Lay w cur → After w cur w₁ a (λ s. ready left s t) → b ≡ done a.out → b ≡ Just x → EndsKnown w cur ends
+pub known_after : {w : List ℕ} {cur : Used} (left t : ℕ) {w₁ : List ℕ} {a : Outcome} {b : (Option ℕ)} {x : ℕ} {ends : List ℕ} → Lay w cur → After w cur w₁ a (λ s. ready left s t) → b ≡ done a.out → b ≡ Some x → EndsKnown w cur ends
     → EndsKnown w₁ a.used ends
 known_after {w} {cur} left t {w₁} {a} {b} {x} {ends} h f p q =
     known_kept w cur w₁ a.used h f.changed.grown (λ ds. vars_same left (seen w cur ds) (seen w₁ a.used ds) t x (sym (done_ok a.out (seen w₁ a.used ds) x (sym p ∙ q) ∙ f.changed.is ds tt))) ends

@@ -13,7 +13,7 @@ ghost use Rattle.ready.specs.Ready.{Goes, Lands, HasParts, eight, rebuilt_at, by
 
 use ends::{chain_end, narrow, near_over, never_over, note_ends};
 use names::TVar;
-use table::{Found, Out, Outcome, Refusal, Shape, Used};
+use table::{Out, Outcome, Refusal, Shape, Used};
 
 // How ready_tvars goes on from a type: to so many parts, to an open variable's end, or to what a variable is bound to.
 #[derive(Clone, Copy)]
@@ -41,8 +41,8 @@ fn ready_onward(w: &[u32], u: Used, s: Shape, ends: &[u32]) -> Onward
         Shape::Var(v) => {
             let last = chain_end(w, u, v, ends);
             match table::bound_at(w, u, last) {
-                Found::Nothing => Onward::Open(last),
-                Found::Just(t) => Onward::Bound(t),
+                None => Onward::Open(last),
+                Some(t) => Onward::Bound(t),
             }
         }
         _ => Onward::Parts(shapes::part_count(s)),
@@ -163,10 +163,10 @@ fn ready_types(w: &mut [u32], u: Used, t: u32, many: u32, left: u32, ends: &[u32
         let o = a.out;
         let next = a.used;
         match table::done_of(o) {
-            Found::Nothing => {
+            None => {
                 return anew(a);
             }
-            Found::Just(x) => {
+            Some(x) => {
                 let at = table::wide(i);
                 tys[at] = narrow(x);
                 cur = next;

@@ -2,7 +2,7 @@
 use mathlib.Core.Path.{◌≡◌, refl, ap}
 use mathlib.Core.Bool.{Bool, true, false}
 use mathlib.Core.List.{List, ◌∷◌}
-use mathlib.Core.Option.{Option, none}
+use Rattle.std.specs.Prelude.{Option, None}
 use Prim.Native.Nat.{ℕ, zero, suc}
 use lib.ListN.{get_or}
 use Rattle.std.specs.Prelude.{if◌then◌else◌}
@@ -27,6 +27,6 @@ pairs_same ids nodes i (suc n) = ap (λ (l : List (ℕ × ℕ)). (id_at ids i, g
 pub narrow : {w : List ℕ} {u : Used} {w' : List ℕ} {r : Ran} {K : List Struct → Type 0} {kept : Bool} {step : State → Result (State × ℕ)} {run : State → State → Result (State × Bytes)} → Runs Any w u w' r kept step run → Runs K w u w' r kept step run
 narrow c = record { left = refines_among (λ ds k. tt) c.left; tells = c.tells; kept_is = c.kept_is; is = λ ds k before. c.is ds tt before }
 
-pub unless_is : (met : Bool) (n : Option Needs) → (if met then none else n) ≡ unless met n
+pub unless_is : (met : Bool) (n : Option Needs) → (if met then None else n) ≡ unless met n
 unless_is true n = refl
 unless_is false n = refl

@@ -2,7 +2,7 @@
 use mathlib.Core.Path.{◌≡◌, refl, sym, ap, ◌∙◌, subst}
 use mathlib.Core.Bool.{Bool, true, false}
 use mathlib.Core.List.{List, []}
-use mathlib.Core.Option.{Option, none}
+use Rattle.std.specs.Prelude.{Option, None, Some}
 use Prim.Native.Nat.{ℕ, zero, suc, ◌<◌}
 use native.Mathlib.Omega.{arith}
 use lib.Dec.{ltb, ltb→lt}
@@ -23,8 +23,6 @@ use Rattle.table.specs.State as table
 use Rattle.theorems.proofs.SoundFacts.{test}
 use Rattle.table.specs.declared.Used.{Used}
 use Rattle.table.specs.declared.Outcome.{Outcome}
-use Rattle.table.specs.declared.Found.{Found}
-use Rattle.table.specs.declared.Found.TheVariants.{Nothing, Just}
 use Rattle.table.specs.declared.Out.{Out}
 use Rattle.table.specs.declared.Out.TheVariants.{Done, Failed, Refused}
 use Rattle.table.specs.declared.Refusal.TheVariants.{OpenVariable, ParameterTwice}
@@ -123,11 +121,11 @@ module _ {w : List ℕ} {u : Used} (h : Lay w u) where
   -- ---- RM
 
   pub ran_needs : (nodes places variables constraints : ℕ) (met : Bool) → met ≡ false
-      → Runs Any w u w (record { out = Done 0; used = u; show = Four nodes places variables constraints; kept = true }) true (λ s. outcome (Done 0) s) (needs_run (if met then none else takes nodes places variables constraints))
+      → Runs Any w u w (record { out = Done 0; used = u; show = Four nodes places variables constraints; kept = true }) true (λ s. outcome (Done 0) s) (needs_run (if met then None else takes nodes places variables constraints))
   unfolding needs_run tell write_needs outcome shown ◌>>=◌
   ran_needs nodes places variables constraints met e = rw e (ran_now (Done 0) (Four nodes places variables constraints) true _ _ tt (λ ds. refl) (λ ds before. refl))
 
-  pub ran_open : (n : Option Needs) (met : Bool) → met ≡ true → Runs Any w u w (record { out = Refused OpenVariable; used = u; show = NothingS; kept = true }) true (λ s. outcome (Refused OpenVariable) s) (needs_run (if met then none else n))
+  pub ran_open : (n : Option Needs) (met : Bool) → met ≡ true → Runs Any w u w (record { out = Refused OpenVariable; used = u; show = NothingS; kept = true }) true (λ s. outcome (Refused OpenVariable) s) (needs_run (if met then None else n))
   unfolding needs_run tell outcome shown ◌>>=◌
   ran_open n met e = rw e (ran_now (Refused OpenVariable) NothingS true _ _ tt (λ ds. refl) (λ ds before. refl))
 
@@ -202,17 +200,17 @@ module _ {w : List ℕ} {u : Used} {w' : List ℕ} (a : Outcome) where
   pub ran_tvar : (loc : ℕ) → Changed w u w' a (λ s. next_tvar s) × VarIn a.used.vars a.out → {r : Ran} → r ≡ as_run a (Variable loc) true → Runs Any w u w' r true (λ s. next_tvar s) (tvar_run loc)
   ran_tvar loc c e = run_changed a _ _ (Variable loc) true (tvar_follows loc) c.0 (tells_var loc a.used a.out (seen w' a.used []) (subst (λ (x : Result (State × ℕ)). NoError x) (sym (c.0.is [] tt)) (tvar_plain (seen w u []))) c.1) e
 
-  pub var_number : (b : Found) (n : ℕ) → Changed w u w' a (λ s. next_tvar s) × VarIn a.used.vars a.out → b ≡ done a.out → b ≡ Just n → n < 65536
+  pub var_number : (b : Option ℕ) (n : ℕ) → Changed w u w' a (λ s. next_tvar s) × VarIn a.used.vars a.out → b ≡ done a.out → b ≡ Some n → n < 65536
   var_number b n c p q = var_small a.out c.0.lay c.1 p q
 
   module _ (loc : ℕ) (c : Changed w u w' a (λ s. next_tvar s) × VarIn a.used.vars a.out) where
     tells : Tells a.used (Variable loc) a.out
     tells = tells_var loc a.used a.out (seen w' a.used []) (subst (λ (x : Result (State × ℕ)). NoError x) (sym (c.0.is [] tt)) (tvar_plain (seen w u []))) c.1
 
-    pub ran_no_tvar : (b : Found) → b ≡ done a.out → b ≡ Nothing → {r : Ran} → r ≡ as_run a (Variable loc) true → Runs Any w u w' r true (num_tvar_in loc) (num_tvar_run loc)
+    pub ran_no_tvar : (b : Option ℕ) → b ≡ done a.out → b ≡ None → {r : Ran} → r ≡ as_run a (Variable loc) true → Runs Any w u w' r true (num_tvar_in loc) (num_tvar_run loc)
     ran_no_tvar b p q e = run_changed a _ _ (Variable loc) true (num_follows loc) (refines_is (λ ds k. in_is loc (seen w u ds)) (refines_stop a.out (mark loc) c.0 p q)) tells e
 
-    pub ran_num_tvar : (b : Found) (n : ℕ) → b ≡ done a.out → b ≡ Just n → {w₂ : List ℕ} (v : ℕ) → v ≡ n → Stored w' a.used w₂ (λ s. set_num_var s v loc) → {r : Ran} → r ≡ as_run a (Variable loc) true → Runs Any w u w₂ r true (num_tvar_in loc) (num_tvar_run loc)
+    pub ran_num_tvar : (b : Option ℕ) (n : ℕ) → b ≡ done a.out → b ≡ Some n → {w₂ : List ℕ} (v : ℕ) → v ≡ n → Stored w' a.used w₂ (λ s. set_num_var s v loc) → {r : Ran} → r ≡ as_run a (Variable loc) true → Runs Any w u w₂ r true (num_tvar_in loc) (num_tvar_run loc)
     unfolding outcome
     ran_num_tvar b n p q {w₂} v same st e =
         run_changed a _ _ (Variable loc) true (num_follows loc) (refines_is (λ ds k. in_is loc (seen w u ds)) (refines_then a.out (mark loc) c.0 p q marked)) tells e
@@ -276,10 +274,10 @@ module _ {w : List ℕ} {u : Used} {w' : List ℕ} {a : Outcome} {abilities n : 
   unfolding blanks
   blank_is = c.is blanks [] (length-replicate u.structs _)
 
-  number : (b : Found) → b ≡ done a.out → FoundIn 256 b
+  number : (b : Option ℕ) → b ≡ done a.out → FoundIn 256 b
   unfolding outcome
-  number Nothing e = tt
-  number (Just k) e =
+  number None e = tt
+  number (Some k) e =
       let s : State = seen w' a.used (more (done a.out) blanks (record { abilities = abilities; params = [] })) in
       let q : k ≡ answered (declare (seen w u blanks) abilities []) = ap answered (ap (λ (o : Out). outcome o s) (sym (done_is a.out k (sym e))) ∙ blank_is) in
       omega (arith, q, declare_number (seen w u blanks) abilities [])
@@ -298,8 +296,8 @@ module _ {w : List ℕ} {u : Used} {w' : List ℕ} {a : Outcome} {abilities n : 
         declares = c.declares;
       })
 
-pub found_below : (f : Found) (n k : ℕ) → FoundIn n f → f ≡ Just k → k < n
+pub found_below : (f : Option ℕ) (n k : ℕ) → FoundIn n f → f ≡ Some k → k < n
 found_below f n k h e = rw e at h
 
-pub row_set : (f : Found) (params : List (List ℕ)) (bytes : List ℕ) (k at : ℕ) → at ≡ k → f ≡ Just k → set params at bytes ≡ with_row f params bytes
+pub row_set : (f : Option ℕ) (params : List (List ℕ)) (bytes : List ℕ) (k at : ℕ) → at ≡ k → f ≡ Some k → set params at bytes ≡ with_row f params bytes
 row_set f params bytes k at p q = rw q (rw p refl)

@@ -1,6 +1,6 @@
 -- The run of each record from its placed types on, as the definition's `run` has it, and what a function that runs it leaves in the words. Assumes nothing: these are definitions.
-use Rattle.std.specs.Prelude.{◌≡◌, Bool, true, List, [], ◌∷◌, length, get_or, set}
-use Rattle.std.proofs.Math.Option.{Option}
+use Rattle.std.specs.Prelude.{◌≡◌, Bool, true, List, [], ◌∷◌, length, get_or, set, None, Some}
+use Rattle.std.specs.Prelude.{Option}
 use Prim.Native.Nat.{ℕ}
 use Rattle.definition.specs.Types as d
 use Rattle.definition.specs.Types.{State, Struct, Result, ok, ◌>>=◌}
@@ -16,8 +16,6 @@ use Rattle.definition.specs.Needs.{Needs}
 use Rattle.definition.specs.Step.{tell}
 use Rattle.table.specs.State.{outcome, done, more, view, seen, Lay, Grown, Refines, FoundIn, Declares}
 use Rattle.table.specs.declared.Used.{Used}
-use Rattle.table.specs.declared.Found.{Found}
-use Rattle.table.specs.declared.Found.TheVariants.{Nothing, Just}
 use Rattle.answer.specs.Ran.{ran, Tells}
 use Rattle.answer.specs.declared.Ran.{Ran}
 
@@ -127,6 +125,6 @@ pub record Declared (w : List ℕ) (u : Used) (w' : List ℕ) (r : Ran) (abiliti
       → Declares w' r.used (more (done r.out) ds (record { abilities = abilities; params = ps }))
 
 -- .. in the row of its number, if it has one
-abbrev pub with_row : Found → List (List ℕ) → List ℕ → List (List ℕ)
-with_row Nothing params bytes = params
-with_row (Just n) params bytes = set params n bytes
+abbrev pub with_row : Option ℕ → List (List ℕ) → List ℕ → List (List ℕ)
+with_row None params bytes = params
+with_row (Some n) params bytes = set params n bytes

@@ -2,7 +2,6 @@
 #![tactic(auto)]
 
 ghost use Rattle.std.specs.Prelude.{◌≡◌, true, false, ◌<◌, if◌then◌else◌};
-ghost use Rattle.std.proofs.Math.Option.{none};
 ghost use Rattle.definition.specs.Store.{next_tvar};
 ghost use Rattle.definition.specs.Subst.{ready_tvars};
 ghost use Rattle.definition.specs.Instantiate.{instantiate};
@@ -24,7 +23,7 @@ use names::{AbilitySet, TParamID, TVar};
 use needs::Sums;
 use payload::Show;
 use subst::Unfolded;
-use table::{Found, Out, Outcome, Refusal, Used};
+use table::{Out, Outcome, Refusal, Used};
 use tparams::TParamSubst;
 
 // What a step's answer is as a run's.
@@ -140,8 +139,8 @@ pub fn run_num_tvar(w: &mut [u32], u: Used, loc: u32) -> Ran
     let o = a.out;
     let v = a.used;
     match table::done_of(o) {
-        Found::Nothing => shown(a, Show::Variable(loc), true),
-        Found::Just(n) => {
+        None => shown(a, Show::Variable(loc), true),
+        Some(n) => {
             let x = table::tvar(n);
             subst::set_num_var(w, v, x, loc);
             shown(a, Show::Variable(loc), true)
@@ -215,7 +214,7 @@ pub fn run_needs(
     constraints: u32,
 ) -> Ran
     requires { Lay w.now u }
-    ensures { Runs Any w.now u w.now result true (λ s. outcome result.out s) (needs_run (if met then none else takes nodes places variables constraints)) }
+    ensures { Runs Any w.now u w.now result true (λ s. outcome result.out s) (needs_run (if met then None else takes nodes places variables constraints)) }
 {
     if met {
         return Ran {
@@ -243,13 +242,13 @@ pub fn run_declare(w: &mut [u32], u: Used, abilities: AbilitySet, params: u32) -
 }
 
 // Its parameter bytes, zero past their count, in the row of its number, if it has one.
-pub fn with_row(params: [[u8; 8]; 256], n: Found, bytes: [u8; 8]) -> [[u8; 8]; 256]
+pub fn with_row(params: [[u8; 8]; 256], n: Option<u32>, bytes: [u8; 8]) -> [[u8; 8]; 256]
     requires { FoundIn 256 n }
     ensures { result ≡ with_row n params bytes }
 {
     match n {
-        Found::Nothing => params,
-        Found::Just(k) => {
+        None => params,
+        Some(k) => {
             let mut rows = params;
             let at = table::wide(k);
             rows[at] = bytes;

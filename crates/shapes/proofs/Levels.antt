@@ -1,4 +1,5 @@
 -- A type gone down level by level: what one level does, a part made and then its node, and a named type's arguments gone through. Assumes nothing.
+use Rattle.std.specs.Prelude.{Option, None, Some}
 use mathlib.Core.Path.{◌≡◌, sym, ap, ◌∙◌}
 use mathlib.Core.Bool.{Bool}
 use mathlib.Core.List.{List, []}
@@ -18,8 +19,6 @@ use Rattle.table.specs.declared.Used.{Used}
 use Rattle.table.specs.declared.Out.{Out}
 use Rattle.table.specs.declared.Out.TheVariants.{Refused}
 use Rattle.table.specs.declared.Refusal.TheVariants.{RunsIntoItself}
-use Rattle.table.specs.declared.Found.{Found}
-use Rattle.table.specs.declared.Found.TheVariants.{Nothing, Just}
 use Rattle.table.proofs.Steps.{after_now, after_is, after_any, after_stop, after_then}
 use Rattle.table.proofs.Grown.{loc_is, value_is, nodes_grow}
 use Rattle.table.proofs.Walk.{rest, Walked, placed_length, arg_kept, walk_start, walk_stop, walk_more, walk_end, walk_parts}
@@ -65,11 +64,11 @@ module _ {down : ℕ → Walk} {value : Walk → State → ℕ → ℕ → d.Typ
 abbrev pub then_ref : (State → Result (State × ℕ)) → ℕ → Bool → State → Result (State × ℕ)
 then_ref f loc m s = f s >>= (λ p. sp p.0 loc (d.Ref m p.1))
 
-module _ {K : List Struct → Type 0} {f : State → Result (State × ℕ)} (loc : ℕ) (m : Bool) {w : List ℕ} {u : Used} {w' : List ℕ} {a : Outcome} {b : Found} (inner : When K w u w' a f) (b_is : b ≡ done a.out) where
-  pub ref_stop : b ≡ Nothing → When K w u w' a (then_ref f loc m)
+module _ {K : List Struct → Type 0} {f : State → Result (State × ℕ)} (loc : ℕ) (m : Bool) {w : List ℕ} {u : Used} {w' : List ℕ} {a : Outcome} {b : (Option ℕ)} (inner : When K w u w' a f) (b_is : b ≡ done a.out) where
+  pub ref_stop : b ≡ None → When K w u w' a (then_ref f loc m)
   ref_stop q = after_stop (λ p. sp p.0 loc (d.Ref m p.1)) inner b_is q
 
-  pub ref_then : {p : ℕ} {w₂ : List ℕ} {r : Outcome} → b ≡ Just p → After w' a.used w₂ r (λ s. sp s loc (value_of (Ref m p))) → When K w u w₂ r (then_ref f loc m)
+  pub ref_then : {p : ℕ} {w₂ : List ℕ} {r : Outcome} → b ≡ Some p → After w' a.used w₂ r (λ s. sp s loc (value_of (Ref m p))) → When K w u w₂ r (then_ref f loc m)
   ref_then q x = after_then a.out (λ p. sp p.0 loc (d.Ref m p.1)) inner.changed b_is q (after_any x)
 
 -- ---- a named type's arguments gone through
@@ -92,11 +91,11 @@ module _ {K : List Struct → Type 0} {f : Walk} {h : List ℕ → State → Res
       pub through_in : t < u.nodes
       through_in = omega (arith, t_is, g.named.smaller i lt, nodes_grow w₀ u₀ w u g.walked.changed.grown)
 
-      module _ {w' : List ℕ} {a : Outcome} {b : Found} (step : When K w u w' a (λ s. f s t)) (b_is : b ≡ done a.out) where
-        pub through_stop : b ≡ Nothing → When K w₀ u₀ w' a (rest f h [] (args_at (view w₀ u₀) (places first many)))
+      module _ {w' : List ℕ} {a : Outcome} {b : (Option ℕ)} (step : When K w u w' a (λ s. f s t)) (b_is : b ≡ done a.out) where
+        pub through_stop : b ≡ None → When K w₀ u₀ w' a (rest f h [] (args_at (view w₀ u₀) (places first many)))
         through_stop q = walk_stop g.walked lt t_is step b_is q
 
-        pub through_more : {p at : ℕ} → b ≡ Just p → at ≡ i → Through K f h first many w₀ u₀ w' a.used (set parts at p) (i + 1)
+        pub through_more : {p at : ℕ} → b ≡ Some p → at ≡ i → Through K f h first many w₀ u₀ w' a.used (set parts at p) (i + 1)
         through_more q e = record { walked = walk_more g.walked lt t_is step b_is q e; named = g.named }
 
     pub through_end : {w' : List ℕ} {r : Outcome} → many ≤ i → When K w u w' r (h (take many parts)) → When K w₀ u₀ w' r (rest f h [] (args_at (view w₀ u₀) (places first many)))

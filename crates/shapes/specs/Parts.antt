@@ -1,15 +1,14 @@
 -- The variable that a shape is, and how many parts it has. Assumes nothing: these are definitions.
-use Rattle.std.proofs.Math.Option.{Option, none, some}
+use Rattle.std.specs.Prelude.{Option, None, Some}
 use Rattle.std.specs.Prelude.{ℕ}
+use Rattle.names.specs.declared.TVar.{TVar}
 use Rattle.definition.specs.Types as d
 use Rattle.definition.specs.Types.{Places}
-use Rattle.shapes.specs.declared.Next.{Next}
-use Rattle.shapes.specs.declared.Next.TheVariants.{Last, To}
 
 -- the variable that a type is
-abbrev pub next : Next → Option ℕ
-next Last = none
-next (To v) = some v.0
+abbrev pub next : Option TVar → Option ℕ
+next None = None
+next (Some v) = Some v.0
 
 -- how many parts a type has
 abbrev pub part_count : d.Shape Places → ℕ

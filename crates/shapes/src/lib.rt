@@ -15,13 +15,6 @@ ghost use Rattle.shapes.specs.Parts.{next, part_count};
 use names::{AbilityMark, TVar, TypeName};
 use table::{Out, Outcome, Shape, Used};
 
-// The variable that a type is, if it is one.
-#[derive(Clone, Copy)]
-pub enum Next {
-    Last,
-    To(TVar),
-}
-
 // What Shape::Apply holds, to pass it on whole.
 #[derive(Clone, Copy)]
 pub struct Applied {
@@ -46,12 +39,12 @@ pub fn stay(o: Out, u: Used) -> Outcome
 
 // ---- tests
 
-pub fn as_var(s: Shape) -> Next
+pub fn as_var(s: Shape) -> Option<TVar>
     ensures { (st : d.State) → next result ≡ as_var (with_args st (shape_of s)) }
 {
     match s {
-        Shape::Var(v) => Next::To(v),
-        _ => Next::Last,
+        Shape::Var(v) => Some(v),
+        _ => None,
     }
 }
 
@@ -59,8 +52,8 @@ pub fn is_var(v: TVar, s: Shape) -> bool
     ensures { (st : d.State) → result ≡ is_var v.0 (with_args st (shape_of s)) }
 {
     match as_var(s) {
-        Next::Last => false,
-        Next::To(x) => x.0 == v.0,
+        None => false,
+        Some(x) => x.0 == v.0,
     }
 }
 

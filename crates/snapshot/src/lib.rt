@@ -5,10 +5,7 @@ ghost use Rattle.std.specs.Prelude.{◌≡◌, [], ◌+◌, ◌*◌, ◌≤◌, 
 ghost use Rattle.table.specs.State.{Lay, Wrote};
 ghost use Rattle.snapshot.specs.Snap.{Above, SavedPartly, Saved, PutBack, Sized, GivenBack, Undone};
 
-use table::{
-    ARGS_AT, CONSTRAINT_WORDS, CONSTRAINTS_AT, NODE_WORDS, NODES_AT, STRUCT_WORDS, STRUCTS_AT,
-    Used, VAR_WORDS, VARS_AT, wide,
-};
+use table::{ARGS_AT, CONSTRAINT_WORDS, CONSTRAINTS_AT, NODE_WORDS, NODES_AT, STRUCT_WORDS, STRUCTS_AT, Used, VAR_WORDS, VARS_AT, wide};
 
 // How many words the variable rows have, all of them.
 pub const SAVED: usize = 5120;

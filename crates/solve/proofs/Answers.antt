@@ -2,7 +2,7 @@
 use mathlib.Core.Path.{◌≡◌, refl, sym, ap, ◌∙◌}
 use mathlib.Core.Bool.{true, false}
 use mathlib.Core.List.{List, []}
-use mathlib.Core.Option.{none, some}
+use Rattle.std.specs.Prelude.{None, Some, Option}
 use Prim.Native.Nat.{ℕ, ◌≤◌, ◌<◌}
 use native.Mathlib.Omega.{arith}
 use borrow.Author.Tests.{le-leb, lt-leb}
@@ -16,8 +16,6 @@ use Rattle.table.specs.State.{done, view, seen, Lay}
 use Rattle.table.specs.Known.{Known, Declared}
 use Rattle.table.specs.declared.Used.{Used}
 use Rattle.table.specs.declared.Outcome.{Outcome}
-use Rattle.table.specs.declared.Found.{Found}
-use Rattle.table.specs.declared.Found.TheVariants.{Nothing, Just}
 use Rattle.table.proofs.Known.{known_kept}
 use Rattle.reader.proofs.Loop.{declares_kept}
 use Rattle.snapshot.specs.Snap.{Saved}
@@ -45,19 +43,19 @@ reported_long : (s before : State) → 4096 < length (failures s s.constraints) 
 unfolding reported answer answer_with max_payload
 reported_long s before h = rw (lt-leb (length (failures s s.constraints)) 4096 h)
 
-all_clear : (s : State) → hindrance s s.constraints ≡ none → solve_all s ≡ ok (with_constraints s [], failures s s.constraints)
+all_clear : (s : State) → hindrance s s.constraints ≡ None → solve_all s ≡ ok (with_constraints s [], failures s s.constraints)
 unfolding solve_all
 all_clear s e = rw (e, solve_all) refl
 
-all_refused : (s : State) (x : Refusal) → hindrance s s.constraints ≡ some x → solve_all s ≡ refused x
+all_refused : (s : State) (x : Refusal) → hindrance s s.constraints ≡ Some x → solve_all s ≡ refused x
 unfolding solve_all
 all_refused s x e = rw (e, solve_all) refl
 
-solved_clear : (s before : State) → hindrance s s.constraints ≡ none → solved s before ≡ reported s before
+solved_clear : (s before : State) → hindrance s s.constraints ≡ None → solved s before ≡ reported s before
 unfolding solved reported
 solved_clear s before e = ap (answer before) (all_clear s e)
 
-solved_refused : (s before : State) (x : Refusal) → hindrance s s.constraints ≡ some x → solved s before ≡ refusal before x
+solved_refused : (s before : State) (x : Refusal) → hindrance s s.constraints ≡ Some x → solved s before ≡ refusal before x
 unfolding solved answer
 solved_refused s before x e = ap (answer before) (all_refused s x e)
 
@@ -135,7 +133,7 @@ module _ {w : List ℕ} {u before : Used} {params : List (List ℕ)} {saved w' :
       Is : ℕ → Type 0
       Is n = (ds : List Struct) → Known w u params ds → hindrance (seen w u ds) (seen w u ds).constraints ≡ refusal_of n
 
-      refused_with : (x : Refusal) → ((ds : List Struct) → Known w u params ds → hindrance (seen w u ds) (seen w u ds).constraints ≡ some x) → Answers w u before saved buf w' buf r (refused_by x) → Reports w u before params saved buf w' buf r solved
+      refused_with : (x : Refusal) → ((ds : List Struct) → Known w u params ds → hindrance (seen w u ds) (seen w u ds).constraints ≡ Some x) → Answers w u before saved buf w' buf r (refused_by x) → Reports w u before params saved buf w' buf r solved
       refused_with x is y = reports_is solved (λ ds k s. solved_refused (seen w u ds) s x (is ds k)) (reports_all y)
 
       by : (n : ℕ) → 0 < n → Number n → Is n → ((x : Refusal) (b : List ℕ) → number_of_refusal x ≡ n → Answers w u before saved b w' b r (refused_by x)) → Reports w u before params saved buf w' buf r solved
@@ -145,7 +143,7 @@ module _ {w : List ℕ} {u before : Used} {params : List (List ℕ)} {saved w' :
 
 -- ---- from the state at entry
 
-module _ (w : List ℕ) (u : Used) (params : List (List ℕ)) (saved buf w₁ : List ℕ) (r : Outcome) (b : Found) (a : Answered w u w₁ r (λ s. numbered (default_num_vars s (num_vars 0 s.vars)))) (p : b ≡ done r.out) (lay : Lay w u) (kept : Saved w u saved) where
+module _ (w : List ℕ) (u : Used) (params : List (List ℕ)) (saved buf w₁ : List ℕ) (r : Outcome) (b : Option ℕ) (a : Answered w u w₁ r (λ s. numbered (default_num_vars s (num_vars 0 s.vars)))) (p : b ≡ done r.out) (lay : Lay w u) (kept : Saved w u saved) where
   solves : (w' buf' : List ℕ) (x : Answer) (f : State → State → step.Answer) → ((ds : List Struct) (before : State) → solve_answer (seen w u ds) before ≡ f (seen w₁ r.used ds) before)
       → Reports w₁ r.used u params saved buf w' buf' x f → Solves w u params buf w' buf' x
   solves w' buf' x f e c =
@@ -160,11 +158,11 @@ module _ (w : List ℕ) (u : Used) (params : List (List ℕ)) (saved buf w₁ : 
         };
       }
 
-  pub solved_done : (t : ℕ) → b ≡ Just t → (w' buf' : List ℕ) (x : Answer) → Reports w₁ r.used u params saved buf w' buf' x solved → Solves w u params buf w' buf' x
+  pub solved_done : (t : ℕ) → b ≡ Some t → (w' buf' : List ℕ) (x : Answer) → Reports w₁ r.used u params saved buf w' buf' x solved → Solves w u params buf w' buf' x
   unfolding solve_answer solved
   solved_done t q w' buf' x c =
       solves w' buf' x solved (λ ds before. ap (answer before) (sym (then_is r.out (seen w₁ r.used ds) (λ y. solve_all y.0) t (sym p ∙ q) ∙ goes_on w u w₁ r b a p ds))) c
 
-  pub solved_stop : b ≡ Nothing → (w' buf' : List ℕ) (x : Answer) → Answers w₁ r.used u saved buf w' buf' x (answered (record { out = r.out; used = r.used; show = show.Nothing; kept = true })) → Solves w u params buf w' buf' x
+  pub solved_stop : b ≡ None → (w' buf' : List ℕ) (x : Answer) → Answers w₁ r.used u saved buf w' buf' x (answered (record { out = r.out; used = r.used; show = show.Nothing; kept = true })) → Solves w u params buf w' buf' x
   unfolding solve_answer ran shown
   solved_stop q w' buf' x c = solves w' buf' x _ (λ ds before. ap (answer before) (sym (unsolved w u w₁ r b a p q ds))) (reports_all c)

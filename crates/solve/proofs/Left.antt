@@ -1,4 +1,5 @@
 -- What default_num_vars leaves of a sound state: each constraint is on a node, and the fields that are written as a byte are bytes. Assumes nothing.
+use Rattle.std.specs.Prelude.{Option, None, Some}
 use mathlib.Core.Path.{◌≡◌, refl, sym, ◌∙◌, subst}
 use mathlib.Core.Bool.{true}
 use mathlib.Core.List.{List, [], ◌∷◌, Memᴰ}
@@ -21,8 +22,6 @@ use Rattle.table.specs.State.{outcome, done, view, seen, NodesIn}
 use Rattle.table.specs.Known.{Declared}
 use Rattle.table.specs.declared.Used.{Used}
 use Rattle.table.specs.declared.Outcome.{Outcome}
-use Rattle.table.specs.declared.Found.{Found}
-use Rattle.table.specs.declared.Found.TheVariants.{Nothing, Just}
 use Rattle.table.specs.declared.Out.{Out}
 use Rattle.table.specs.declared.Out.TheVariants.{Done, Failed, Refused}
 use Rattle.table.proofs.Known.{known_kept}
@@ -111,9 +110,9 @@ module _ {w : List ℕ} {u : Used} {w' : List ℕ} {r : Outcome} (a : Answered w
   pub still_declared : {params : List (List ℕ)} → HoldsSound w u params → Declared w' r.used params
   still_declared {params} h = record { structs = h.structs; known = known_kept w u w' r.used params a.changed.structs h.structs h.known }
 
-  module _ (b : Found) (p : b ≡ done r.out) where
-    pub done_fits : {params : List (List ℕ)} → HoldsSound w u params → (t : ℕ) → b ≡ Just t → Fit (view w' r.used)
+  module _ (b : Option ℕ) (p : b ≡ done r.out) where
+    pub done_fits : {params : List (List ℕ)} → HoldsSound w u params → (t : ℕ) → b ≡ Some t → Fit (view w' r.used)
     done_fits h t q = fits h (subst (λ (o : Out). Settles o) (sym (done_is r.out t (sym p ∙ q))) tt)
 
-    pub tells : b ≡ Nothing → Tells r.used show.Nothing r.out
+    pub tells : b ≡ None → Tells r.used show.Nothing r.out
     tells q = tells_nothing r.used r.out (a.others (sym p ∙ q))

@@ -17,7 +17,7 @@ ghost use Rattle.definition.specs.Constraints.{solve_constraint, failures};
 use answer::Ran;
 use failing::{size_failing, write_failing};
 use payload::{Answer, MAX_PAYLOAD, Show, as_left};
-use table::{Constraint, Found, Used};
+use table::{Constraint, Used};
 
 // ---- the payload: the failures in bytes, sized first and then written
 
@@ -218,8 +218,8 @@ pub fn solve(
     let o = a.out;
     let v = a.used;
     match table::done_of(o) {
-        Found::Just(_) => solve_all(w, v, u, params, saved, buf),
-        Found::Nothing => {
+        Some(_) => solve_all(w, v, u, params, saved, buf),
+        None => {
             let ran = Ran {
                 out: o,
                 used: v,

@@ -3,7 +3,7 @@
 use mathlib.Core.Path.{◌≡◌, refl, sym, ap, ◌∙◌}
 use mathlib.Core.Bool.{Bool, true, false}
 use mathlib.Core.List.{List}
-use mathlib.Core.Option.{Option, none, some}
+use Rattle.std.specs.Prelude.{Option, None, Some}
 use Prim.Native.Nat.{ℕ, zero, suc, ◌-◌, ◌<◌}
 use native.Mathlib.Nat.{not-suc-le-zero}
 use native.Mathlib.Omega.{arith}
@@ -28,42 +28,42 @@ use Rattle.sound.proofs.Shapes.{as_var_tag, vars_count}
 use Rattle.sound.proofs.Rowwise.{value_at}
 
 module _ (w : List ℕ) (u : Used) where
-  pub ends_none : (n v : ℕ) → next_at w u v ≡ none → ends_fine w u n v ≡ true
+  pub ends_none : (n v : ℕ) → next_at w u v ≡ None → ends_fine w u n v ≡ true
   unfolding ends_fine
   ends_none zero v e = rw (e, ends_fine) refl
   ends_none (suc n) v e = rw (e, ends_fine) refl
 
-  pub ends_last : (n v x : ℕ) → n ≡ 0 → next_at w u v ≡ some x → ends_fine w u n v ≡ false
+  pub ends_last : (n v x : ℕ) → n ≡ 0 → next_at w u v ≡ Some x → ends_fine w u n v ≡ false
   unfolding ends_fine
   ends_last n v x z e = rw (z, e, ends_fine) refl
 
-  pub ends_suc : (n v x : ℕ) → next_at w u v ≡ some x → ends_fine w u (suc n) v ≡ ends_fine w u n x
+  pub ends_suc : (n v x : ℕ) → next_at w u v ≡ Some x → ends_fine w u (suc n) v ≡ ends_fine w u n x
   unfolding ends_fine
   ends_suc n v x e = rw (e, ends_fine) refl
 
-  pub ends_next : (n v x : ℕ) → next_at w u v ≡ some x → 0 < n → ends_fine w u n v ≡ ends_fine w u (n - 1) x
+  pub ends_next : (n v x : ℕ) → next_at w u v ≡ Some x → 0 < n → ends_fine w u n v ≡ ends_fine w u (n - 1) x
   ends_next zero v x e h = absurd (not-suc-le-zero h)
   ends_next (suc n) v x e h = let z : suc n - 1 ≡ n = omega arith in rw z (ends_suc n v x e)
 
 -- ---- the same as the definition's
 
-no_var : (s : State) (x : ℕ) → node s x ≡ nowhere → as_var (type_at s x) ≡ none
+no_var : (s : State) (x : ℕ) → node s x ≡ nowhere → as_var (type_at s x) ≡ None
 unfolding type_at with_args as_var
 no_var s x e = ap (λ (n : Node). as_var (with_args s n.value)) e
 
 abbrev stops : Option ℕ → Bool
-stops none = true
-stops (some next) = false
+stops None = true
+stops (Some next) = false
 
-stops_is : (o : Option ℕ) → stops o ≡ (elim o [ none ↦ true | some next ↦ false ])
-stops_is none = refl
-stops_is (some x) = refl
+stops_is : (o : Option ℕ) → stops o ≡ (elim o [ None ↦ true | Some next ↦ false ])
+stops_is None = refl
+stops_is (Some x) = refl
 
-stop_here : (s : State) (n v : ℕ) → next_of s v ≡ none → stops (next_of s (forward (suc n) s v)) ≡ true
+stop_here : (s : State) (n v : ℕ) → next_of s v ≡ None → stops (next_of s (forward (suc n) s v)) ≡ true
 unfolding forward
 stop_here s n v e = rw (e, forward, e) refl
 
-go_on : (s : State) (n v x : ℕ) → next_of s v ≡ some x → stops (next_of s (forward (suc n) s v)) ≡ stops (next_of s (forward n s x))
+go_on : (s : State) (n v x : ℕ) → next_of s v ≡ Some x → stops (next_of s (forward (suc n) s v)) ≡ stops (next_of s (forward n s x))
 unfolding forward
 go_on s n v x e = rw (e, forward) refl
 
@@ -80,7 +80,7 @@ module _ (w : List ℕ) (u : Used) (ds : List Struct) where
   unfolding next_at next_of next_in read_option
   next_is v = by (dec_lt v u.vars)
     where
-      bound : (b : Bool) (x : ℕ) → (if b then var_at w u x else none) ≡ next_in (seen w u ds) (if b then some x else none)
+      bound : (b : Bool) (x : ℕ) → (if b then var_at w u x else None) ≡ next_in (seen w u ds) (if b then Some x else None)
       bound true x = var_is x
       bound false x = refl
 
@@ -93,13 +93,13 @@ module _ (w : List ℕ) (u : Used) (ds : List Struct) where
   ends_are zero v = by (next_of (seen w u ds) v) refl
     where
       by : (o : Option ℕ) → next_of (seen w u ds) v ≡ o → ends_fine w u 0 v ≡ stops (next_of (seen w u ds) (forward 0 (seen w u ds) v))
-      by none e = ends_none w u 0 v (next_is v ∙ e) ∙ rw (e, forward) refl
-      by (some x) e = ends_last w u 0 v x refl (next_is v ∙ e) ∙ rw (e, forward) refl
+      by None e = ends_none w u 0 v (next_is v ∙ e) ∙ rw (e, forward) refl
+      by (Some x) e = ends_last w u 0 v x refl (next_is v ∙ e) ∙ rw (e, forward) refl
   ends_are (suc n) v = by (λ x. ends_are n x) (next_of (seen w u ds) v) refl
     where
       by : ((x : ℕ) → ends_fine w u n x ≡ stops (next_of (seen w u ds) (forward n (seen w u ds) x))) → (o : Option ℕ) → next_of (seen w u ds) v ≡ o → ends_fine w u (suc n) v ≡ stops (next_of (seen w u ds) (forward (suc n) (seen w u ds) v))
-      by rec none e = ends_none w u (suc n) v (next_is v ∙ e) ∙ sym (stop_here (seen w u ds) n v e)
-      by rec (some x) e = ends_suc w u n v x (next_is v ∙ e) ∙ rec x ∙ sym (go_on (seen w u ds) n v x e)
+      by rec None e = ends_none w u (suc n) v (next_is v ∙ e) ∙ sym (stop_here (seen w u ds) n v e)
+      by rec (Some x) e = ends_suc w u n v x (next_is v ∙ e) ∙ rec x ∙ sym (go_on (seen w u ds) n v x e)
 
   pub chain_is : (v : ℕ) → chain_fine w u v ≡ chain_ends (seen w u ds) v
   unfolding chain_fine chain_ends forward_tvar

@@ -3,7 +3,7 @@
 use mathlib.Core.Path.{◌≡◌, refl, sym, ap, ap₂, ◌∙◌}
 use mathlib.Core.Bool.{Bool, true, false, ◌&&◌}
 use mathlib.Core.List.{List, [], ◌∷◌}
-use mathlib.Core.Option.{Option, none, some}
+use Rattle.std.specs.Prelude.{Option, None, Some}
 use Prim.Native.Nat.{ℕ, ◌+◌, ◌-◌, ◌≤◌, ◌<◌, ◌%◌}
 use native.Mathlib.Omega.{arith}
 use lib.Dec.{eqb, leb, ltb}
@@ -43,15 +43,15 @@ flag_read false = refl
 
 mark_read : (k : AbilityMark) → is_mark k ≡ true → read_mark (mark_word k) ≡ k
 unfolding read_mark mark_word is_mark
-mark_read none e = refl
-mark_read (some x) e =
+mark_read None e = refl
+mark_read (Some x) e =
     let z : 16 + x - 16 ≡ x = omega arith in
-    when_false (ltb (16 + x) 16) none (some ((16 + x - 16) % 256)) (le-ltb (16 + x) 16 (omega arith)) ∙ ap (λ (y : ℕ). some (y % 256)) z ∙ ap some (small_set x e)
+    when_false (ltb (16 + x) 16) None (Some ((16 + x - 16) % 256)) (le-ltb (16 + x) 16 (omega arith)) ∙ ap (λ (y : ℕ). Some (y % 256)) z ∙ ap Some (small_set x e)
 
 option_read : (o : Option ℕ) → read_option (option_flag o) (option_word o) ≡ o
 unfolding read_option option_flag option_word
-option_read none = refl
-option_read (some x) = refl
+option_read None = refl
+option_read (Some x) = refl
 
 apply_read : (loc : ℕ) (k : AbilityMark) (n : TypeName) (p : Places) → is_mark k ≡ true
     → read_shape (name_tag n) (mark_word k) (name_word n) p.first p.many ≡ Apply k n p

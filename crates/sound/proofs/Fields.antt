@@ -2,7 +2,7 @@
 -- By cases of the tag or the number, with omega for ranges: `-back` reads and writes again, `-was` says when that gives the same.
 use mathlib.Core.Path.{◌≡◌, refl, sym, ap, ◌∙◌}
 use mathlib.Core.Bool.{Bool, true, false, ◌&&◌}
-use mathlib.Core.Option.{none, some}
+use Rattle.std.specs.Prelude.{None, Some}
 use Prim.Native.Nat.{ℕ, zero, suc, ◌+◌, ◌-◌, ◌≤◌, ◌<◌, ◌%◌}
 use native.Mathlib.Nat.{mod-eq_of_lt}
 use native.Mathlib.Omega.{arith}
@@ -90,11 +90,11 @@ set_mod x h = rw (mod_back x 256 (omega arith)) (le-leb x 15 h)
 pub set_was : (x : ℕ) → x % 256 ≡ x → is_set (x % 256) ≡ true → x ≤ 15
 set_was x e h = leb-true x 15 (rw e at h)
 
-mark_zero : (a : ℕ) → a < 16 → read_mark a ≡ none
+mark_zero : (a : ℕ) → a < 16 → read_mark a ≡ None
 unfolding read_mark
 mark_zero a h = when_true _ _ _ (lt-ltb a 16 h)
 
-mark_set : (a : ℕ) → 16 ≤ a → read_mark a ≡ some ((a - 16) % 256)
+mark_set : (a : ℕ) → 16 ≤ a → read_mark a ≡ Some ((a - 16) % 256)
 unfolding read_mark
 mark_set a h = when_false _ _ _ (le-ltb a 16 h)
 
@@ -102,19 +102,19 @@ pub record MarkGood (a : ℕ) : Type 0 where
   pub back : mark_word (read_mark a) ≡ a
   pub allowed : is_mark (read_mark a) ≡ true
 
-none_word : mark_word none ≡ 0
+none_word : mark_word None ≡ 0
 unfolding mark_word
 none_word = refl
 
-some_word : (x : ℕ) → mark_word (some x) ≡ 16 + x
+some_word : (x : ℕ) → mark_word (Some x) ≡ 16 + x
 unfolding mark_word
 some_word x = refl
 
-none_mark : is_mark none ≡ true
+none_mark : is_mark None ≡ true
 unfolding is_mark
 none_mark = refl
 
-some_mark : (x : ℕ) → is_mark (some x) ≡ is_set x
+some_mark : (x : ℕ) → is_mark (Some x) ≡ is_set x
 unfolding is_mark
 some_mark x = refl
 

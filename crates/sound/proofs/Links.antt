@@ -3,7 +3,7 @@
 use mathlib.Core.Path.{◌≡◌, sym, ap, ◌∙◌, subst}
 use mathlib.Core.Bool.{true, false}
 use mathlib.Core.List.{List}
-use mathlib.Core.Option.{none, some}
+use Rattle.std.specs.Prelude.{None, Some}
 use Prim.Native.Nat.{ℕ, suc, ◌+◌, ◌-◌, ◌≤◌, ◌<◌}
 use native.Mathlib.Nat.{not-suc-le-zero}
 use native.Mathlib.Omega.{arith}
@@ -37,7 +37,7 @@ module _ (w : List ℕ) (u : Used) where
   pub follows_none : (v : ℕ) → Follows w u v 0 v
   follows_none v = record { on = λ m h. ap (λ (k : ℕ). ends_fine w u k v) (let p : m ≡ m - 0 = omega arith in p); short = λ m h. absurd (not-suc-le-zero h) }
 
-  pub follows_next : (v n cur x : ℕ) → Follows w u v n cur → next_at w u cur ≡ some x → Follows w u v (n + 1) x
+  pub follows_next : (v n cur x : ℕ) → Follows w u v n cur → next_at w u cur ≡ Some x → Follows w u v (n + 1) x
   follows_next v n cur x f e = record {
     on = λ m h. f.on m (omega (arith, h)) ∙ ends_next w u (m - n) cur x e (omega (arith, h)) ∙ ap (λ (k : ℕ). ends_fine w u k x) (let p : m - n - 1 ≡ m - (n + 1) = omega arith in p);
     short = λ m h. by m h (dec_lt m n);
@@ -47,7 +47,7 @@ module _ (w : List ℕ) (u : Used) where
       by m h (yes p) = f.short m p
       by m h (no p) = f.on m (omega arith) ∙ ends_last w u (m - n) cur x (omega arith) e
 
-  pub links_end : (v : ℕ) → next_at w u v ≡ none → Links w u v 0
+  pub links_end : (v : ℕ) → next_at w u v ≡ None → Links w u v 0
   unfolding Links
   links_end v e m = ends_none w u m v e ∙ sym (le-leb 0 m (omega arith))
 
@@ -60,7 +60,7 @@ module _ (w : List ℕ) (u : Used) where
       by (no p) = f.on m (omega arith) ∙ l (m - n) ∙ leb_on n k m (omega arith)
 
   -- a chain without its first binding
-  pub links_tail : (v n x : ℕ) → Links w u v n → next_at w u v ≡ some x → 0 < n → Links w u x (n - 1)
+  pub links_tail : (v n x : ℕ) → Links w u v n → next_at w u v ≡ Some x → 0 < n → Links w u x (n - 1)
   unfolding Links
   links_tail v n x l e h m = sym (ends_suc w u m v x e) ∙ l (suc m) ∙ sym (leb_on 1 (n - 1) (suc m) (omega arith) ∙ ap (λ (k : ℕ). leb k (suc m)) (let p : 1 + (n - 1) ≡ n = omega (arith, h) in p)) ∙ ap (λ (k : ℕ). leb (n - 1) k) (let p : suc m - 1 ≡ m = omega arith in p)
 

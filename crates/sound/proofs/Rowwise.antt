@@ -3,7 +3,7 @@
 use mathlib.Core.Path.{◌≡◌, refl, sym, ap, ◌∙◌}
 use mathlib.Core.Bool.{Bool, true, false, not, ◌&&◌}
 use mathlib.Core.List.{List, [], ◌∷◌}
-use mathlib.Core.Option.{none, some}
+use Rattle.std.specs.Prelude.{None, Some}
 use Prim.Native.Nat.{ℕ, zero, suc, ◌+◌, ◌*◌, ◌<◌, ◌%◌}
 use native.Mathlib.Omega.{arith}
 use lib.Dec.{eqb, leb, ltb}
@@ -43,7 +43,7 @@ pub record Back (is x : ℕ) : Type 0 where
   pub flag : option_flag (read_option is x) ≡ is
   pub word : option_word (read_option is x) ≡ x
 
-read_over : (is x : ℕ) → 1 < is → read_option is x ≡ none
+read_over : (is x : ℕ) → 1 < is → read_option is x ≡ None
 unfolding read_option
 read_over is x h = when_false _ _ _ (ne_eqb is 1 (λ e. omega arith))
 
@@ -73,7 +73,7 @@ pub numeric_u32 : (is x : ℕ) → is_u32 x ≡ true → numeric_allowed (read_o
 unfolding read_option numeric_allowed
 numeric_u32 is x h = by (eqb is 1)
   where
-    by : (t : Bool) → numeric_allowed (if t then some x else none) ≡ true
+    by : (t : Bool) → numeric_allowed (if t then Some x else None) ≡ true
     by true = h
     by false = refl
 

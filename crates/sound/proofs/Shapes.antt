@@ -3,7 +3,7 @@
 use mathlib.Core.Path.{◌≡◌, refl, sym, ap, ◌∙◌}
 use mathlib.Core.Bool.{Bool, true, false, not, ◌&&◌, ◌||◌}
 use mathlib.Core.List.{List, [], ◌∷◌}
-use mathlib.Core.Option.{none, some}
+use Rattle.std.specs.Prelude.{None, Some}
 use Prim.Native.Nat.{ℕ, suc, ◌+◌, ◌*◌, ◌≤◌, ◌<◌, ◌%◌}
 use native.Mathlib.Omega.{arith}
 use lib.Dec.{eqb, leb, ltb}
@@ -248,7 +248,7 @@ module _ (w : List ℕ) (u : Used) (ds : List Struct) (loc : ℕ) where
 
 -- ---- what a row's tag tells
 
-pub as_var_tag : (s : State) (tag a b c d : ℕ) → Tag tag → as_var (with_args s (read_shape tag a b c d)) ≡ (if eqb tag 6 then some (a % 65536) else none)
+pub as_var_tag : (s : State) (tag a b c d : ℕ) → Tag tag → as_var (with_args s (read_shape tag a b c d)) ≡ (if eqb tag 6 then Some (a % 65536) else None)
 unfolding read_shape with_args as_var
 as_var_tag s _ a b c d t0 = refl
 as_var_tag s _ a b c d t1 = refl

@@ -1,30 +1,30 @@
 -- Chains of bindings, word by word. proofs/Chains.antt: they end just where the definition's do. Assumes nothing: these are definitions.
 use Rattle.std.specs.Prelude.{◌≡◌, Bool, true, false, List, ℕ, zero, suc, ◌+◌, ◌*◌, ◌-◌, ◌≤◌, ◌<◌, ◌%◌, eqb, ltb, leb, length, get_or, if◌then◌else◌}
-use Rattle.std.proofs.Math.Option.{Option, none, some}
+use Rattle.std.specs.Prelude.{Option, None, Some}
 use Rattle.table.specs.declared.Used.{Used}
 use Rattle.sound.specs.declared.Next.{Next}
 use Rattle.sound.specs.declared.Next.TheVariants.{Last, To}
 
 -- the variable that node x is
 unfoldable pub var_at : List ℕ → Used → ℕ → Option ℕ
-var_at w u x = if ltb x u.nodes then (if eqb (get_or w (5 + x * 6) 0) 6 then some (get_or w (5 + x * 6 + 2) 0 % 65536) else none) else none
+var_at w u x = if ltb x u.nodes then (if eqb (get_or w (5 + x * 6) 0) 6 then Some (get_or w (5 + x * 6 + 2) 0 % 65536) else None) else None
 
 -- the variable that v is bound to
 unfoldable pub next_at : List ℕ → Used → ℕ → Option ℕ
-next_at w u v = if ltb v u.vars then (if eqb (get_or w (16389 + v * 5) 0) 1 then var_at w u (get_or w (16389 + v * 5 + 1) 0) else none) else none
+next_at w u v = if ltb v u.vars then (if eqb (get_or w (16389 + v * 5) 0) 1 then var_at w u (get_or w (16389 + v * 5 + 1) 0) else None) else None
 
 -- following bindings from v ends in n steps
 unfoldable pub ends_fine : List ℕ → Used → ℕ → ℕ → Bool
-ends_fine w u zero v = elim (next_at w u v) [ none ↦ true | some next ↦ false ]
-ends_fine w u (suc n) v = elim (next_at w u v) [ none ↦ true | some next ↦ ends_fine w u n next ]
+ends_fine w u zero v = elim (next_at w u v) [ None ↦ true | Some next ↦ false ]
+ends_fine w u (suc n) v = elim (next_at w u v) [ None ↦ true | Some next ↦ ends_fine w u n next ]
 
 unfoldable pub chain_fine : List ℕ → Used → ℕ → Bool
 chain_fine w u v = ends_fine w u u.vars v
 
 -- the variable that a binding leads to
 abbrev pub next : Next → Option ℕ
-next Last = none
-next (To v) = some v.0
+next Last = None
+next (To v) = Some v.0
 
 -- n bindings lead from v to the end of its chain
 unfoldable pub Links : List ℕ → Used → ℕ → ℕ → Type 0

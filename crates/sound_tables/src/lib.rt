@@ -9,10 +9,7 @@ ghost use Rattle.sound_tables.specs.Tables.{counts_fine, zeros, tails_fine, para
 use names::{MAX_ARGS, MAX_CONSTRAINTS, MAX_NODES, MAX_STRUCTS, MAX_VARS};
 use sound_fields::{any_of, bytes_fine};
 use sound_rows::{cell_fine, constraint_fine, node_fine, struct_fine};
-use table::{
-    ARGS_AT, CONSTRAINT_WORDS, CONSTRAINTS_AT, NODE_WORDS, NODES_AT, STRUCT_WORDS, STRUCTS_AT,
-    Used, VAR_WORDS, VARS_AT, WORDS, struct_words_at,
-};
+use table::{ARGS_AT, CONSTRAINT_WORDS, CONSTRAINTS_AT, NODE_WORDS, NODES_AT, STRUCT_WORDS, STRUCTS_AT, Used, VAR_WORDS, VARS_AT, WORDS, struct_words_at};
 
 // The tables whose rows are tested one by one.
 #[derive(Clone, Copy)]

@@ -5,7 +5,7 @@ use mathlib.Core.List.{List, ◌++◌}
 use Prim.Native.Nat.{ℕ, ◌≤◌}
 use native.Mathlib.Omega.{arith}
 use lib.ListN.{length, take, drop, length-take}
-use Rattle.std.specs.Prelude.{if◌then◌else◌}
+use Rattle.std.specs.Prelude.{if◌then◌else◌, Option}
 use Rattle.definition.specs.Types.{State, Struct, Refusal, Result, ok, ◌>>=◌}
 use Rattle.definition.specs.Store.{with_structs}
 use Rattle.definition.specs.Record.{Record}
@@ -16,7 +16,6 @@ use Rattle.theorems.proofs.SoundRanges.{Ranges, StructIn}
 use Rattle.theorems.proofs.SoundKept.{ranges_of}
 use Rattle.table.specs.State.{outcome, done, more, view, seen, Lay, Grown, FoundIn, Declares}
 use Rattle.table.specs.declared.Used.{Used}
-use Rattle.table.specs.declared.Found.{Found}
 use Rattle.table.specs.declared.Out.{Out}
 use Rattle.table.specs.declared.Out.TheVariants.{Done}
 use Rattle.table.proofs.Steps.{grown_trans}
@@ -180,21 +179,21 @@ module _ {w₀ : List ℕ} {before : Used} {params : List (List ℕ)} {saved w :
 
 -- with these bytes, and the row n of the struct's number f, if it has one
 module _ {w₀ : List ℕ} {before : Used} {params : List (List ℕ)} {saved w : List ℕ} {u : Used} {x : Record} {abilities : ℕ} (many : ℕ) (bytes : List ℕ) (b : Begun w₀ before params saved w u x (declare abilities (take many bytes)))
-    {w₁ : List ℕ} {r₁ : Ran} (c : Declared w u w₁ r₁ abilities many) (long : length bytes ≡ 8) (few : many ≤ 8) (f n : Found) (kept : Bool) (is_f : f ≡ done r₁.out) (is_n : n ≡ row_for f kept u.structs) where
+    {w₁ : List ℕ} {r₁ : Ran} (c : Declared w u w₁ r₁ abilities many) (long : length bytes ≡ 8) (few : many ≤ 8) (f n : Option ℕ) (kept : Bool) (is_f : f ≡ done r₁.out) (is_n : n ≡ row_for f kept u.structs) where
   as_long : length (take many bytes) ≡ many
   as_long = simp length-take (omega (arith, long, few))
 
   is_row : n ≡ row_for (done r₁.out) kept u.structs
-  is_row = is_n ∙ ap (λ (g : Found). row_for g kept u.structs) is_f
+  is_row = is_n ∙ ap (λ (g : Option ℕ). row_for g kept u.structs) is_f
 
   pub declared_row : FoundIn 256 n
-  declared_row = subst (λ (m : Found). FoundIn 256 m) (sym is_row) (row_in (done r₁.out) kept (ds b) abilities many bytes u.structs (many_before b c) (few_more b c as_long))
+  declared_row = subst (λ (m : Option ℕ). FoundIn 256 m) (sym is_row) (row_in (done r₁.out) kept (ds b) abilities many bytes u.structs (many_before b c) (few_more b c as_long))
 
   pub reply_declared : {buf w' buf' : List ℕ} {r : Answer} → Answers w₁ r₁.used before saved buf w' buf' r (answered r₁) → r.kept ≡ kept
       → (row : List ℕ) → row ≡ padded bytes many → (params' : List (List ℕ)) → params' ≡ with_row n params row → Replied buf w' params' buf' r (answer (held w₀ before params) (step.run (held w₀ before params) x))
   unfolding held noded_run
   reply_declared {buf} {w'} {buf'} {r} a k row is_padded params' p =
-      let q : params' ≡ with_row (row_for (done r₁.out) r.kept u.structs) params (padded bytes many) = p ∙ ap₂ (λ (m : Found) (l : List ℕ). with_row m params l) (is_row ∙ ap (λ (y : Bool). row_for (done r₁.out) y u.structs) (sym k)) is_padded in
+      let q : params' ≡ with_row (row_for (done r₁.out) r.kept u.structs) params (padded bytes many) = p ∙ ap₂ (λ (m : Option ℕ) (l : List ℕ). with_row m params l) (is_row ∙ ap (λ (y : Bool). row_for (done r₁.out) y u.structs) (sym k)) is_padded in
       replied (a.settled w₀ (then_since b c.grown)) (ds b) (with_new b c) (lent_declares w₀ params before) (then_more b c as_long) params'
       (arities_kept (done r₁.out) r.kept (ds b) abilities many bytes (stands_arities b.stands) (omega (arith, as_long, few)))
       (q ∙ row_kept (done r₁.out) r.kept (ds b) abilities many bytes u.structs params (many_before b c) (few_more b c as_long) (stands_rows b.stands))

@@ -7,15 +7,13 @@ use native.Mathlib.Omega.{arith}
 use native.Mathlib.Decide.{dec_lt, ℕ_discrete}
 use lib.ListN.{length, get_or, take, set, length-append, get_or-append, get_or-eq_default}
 use lib.Seq.{ext_get_or, get_or_at}
-use Rattle.std.specs.Prelude.{if◌then◌else◌}
+use Rattle.std.specs.Prelude.{if◌then◌else◌, Option, None, Some}
 use Rattle.definition.specs.Types.{Struct}
 use Rattle.definition.specs.Store.{with_structs}
 use Rattle.table.specs.Tab.{tab}
 use Rattle.table.specs.Rows.{row, struct_table}
 use Rattle.table.specs.State.{more, view, seen, FoundIn, Declares}
 use Rattle.table.specs.declared.Used.{Used}
-use Rattle.table.specs.declared.Found.{Found}
-use Rattle.table.specs.declared.Found.TheVariants.{Nothing, Just}
 use Rattle.table.proofs.Tab.{length_tab, getD_tab, tab_set}
 use Rattle.table.proofs.Rows.{entry_at}
 use Rattle.sound.specs.Lent.{bytes_at, struct_of, structs_of, encode_params}
@@ -114,7 +112,7 @@ module _ (ds : List Struct) (x : Struct) where
       by (yes e) = rw (e, at_new) le
       by (no d) = rw (at_other i d) (short i)
 
-module _ (b : Found) (kept : Bool) (ds : List Struct) (abilities many : ℕ) (bytes : List ℕ) where
+module _ (b : Option ℕ) (kept : Bool) (ds : List Struct) (abilities many : ℕ) (bytes : List ℕ) where
   abbrev x : Struct
   x = record { abilities = abilities; params = take many bytes }
 
@@ -122,27 +120,27 @@ module _ (b : Found) (kept : Bool) (ds : List Struct) (abilities many : ℕ) (by
   pub row_in : (n : ℕ) → length ds ≡ n → length (more b ds x) ≤ 256 → FoundIn 256 (row_for b kept n)
   row_in n e le = go b kept le
     where
-      go : (b : Found) (kept : Bool) → length (more b ds x) ≤ 256 → FoundIn 256 (row_for b kept n)
-      go Nothing kept le = tt
-      go (Just t) true le = omega (arith, long ds x)
-      go (Just t) false le = tt
+      go : (b : Option ℕ) (kept : Bool) → length (more b ds x) ≤ 256 → FoundIn 256 (row_for b kept n)
+      go None kept le = tt
+      go (Some t) true le = omega (arith, long ds x)
+      go (Some t) false le = tt
 
   pub row_kept : (n : ℕ) (params : List (List ℕ)) → length ds ≡ n → length (more b ds x) ≤ 256 → params ≡ rows_of ds
       → with_row (row_for b kept n) params (padded bytes many) ≡ rows_of (if kept then more b ds x else ds)
   unfolding padded
   row_kept n params e le p = go b kept le
     where
-      go : (b : Found) (kept : Bool) → length (more b ds x) ≤ 256 → with_row (row_for b kept n) params (padded bytes many) ≡ rows_of (if kept then more b ds x else ds)
-      go Nothing true le = p
-      go Nothing false le = p
-      go (Just t) true le = rw (p, ← e) (new_rows ds x (omega (arith, long ds x)))
-      go (Just t) false le = p
+      go : (b : Option ℕ) (kept : Bool) → length (more b ds x) ≤ 256 → with_row (row_for b kept n) params (padded bytes many) ≡ rows_of (if kept then more b ds x else ds)
+      go None true le = p
+      go None false le = p
+      go (Some t) true le = rw (p, ← e) (new_rows ds x (omega (arith, long ds x)))
+      go (Some t) false le = p
 
   pub arities_kept : Arities ds → length x.params ≤ 8 → Arities (if kept then more b ds x else ds)
   arities_kept short le = go b kept
     where
-      go : (b : Found) (kept : Bool) → Arities (if kept then more b ds x else ds)
-      go Nothing true = short
-      go Nothing false = short
-      go (Just t) true = new_arities ds x short le
-      go (Just t) false = short
+      go : (b : Option ℕ) (kept : Bool) → Arities (if kept then more b ds x else ds)
+      go None true = short
+      go None false = short
+      go (Some t) true = new_arities ds x short le
+      go (Some t) false = short

@@ -4,8 +4,8 @@
 use mathlib.Core.Path.{◌≡◌, refl, sym, ap, ◌∙◌, subst}
 use mathlib.Core.Bool.{Bool, true, false}
 use mathlib.Core.List.{List, [], ◌∷◌, ◌++◌}
-use mathlib.Core.Option.{Option, some}
-use mathlib.Core.Option as option
+use Rattle.std.specs.Prelude.{Option, Some}
+use Rattle.std.specs.Prelude as option
 use Prim.Native.Nat.{ℕ, zero, suc, ◌+◌, ◌-◌, ◌≤◌}
 use native.Mathlib.Omega.{arith}
 use lib.Dec.{leb, ltb}
@@ -69,9 +69,9 @@ module _ {A : Type 0} {P : List Cell → Type 0} where
   either_leaves true x y = x
   either_leaves false x y = y
 
-  option_leaves : (o : Option ℕ) {x : Result (State × A)} {k : ℕ → Result (State × A)} → Leaves P x → ((t : ℕ) → Leaves P (k t)) → Leaves {A = A} P (elim o [ option.none ↦ x | some t ↦ k t ])
+  option_leaves : (o : Option ℕ) {x : Result (State × A)} {k : ℕ → Result (State × A)} → Leaves P x → ((t : ℕ) → Leaves P (k t)) → Leaves {A = A} P (elim o [ option.none ↦ x | Some t ↦ k t ])
   option_leaves option.none x k = x
-  option_leaves (some t) x k = k t
+  option_leaves (Some t) x k = k t
 
 -- ---- only nodes are taken
 
@@ -185,7 +185,7 @@ new_get s = ap (λ (c : Cell). c.binding) (get_or_at s.vars unbound [] unbound (
 
 mark_last : (s : State) (n v loc : ℕ) → next_of s v ≡ option.none → mark_chain (suc n) s v loc ≡ mark_one s v loc
 unfolding mark_chain
-mark_last s n v loc e = ap (λ (o : Option ℕ). elim o [ option.none ↦ mark_one s v loc | some next ↦ mark_chain n (mark_one s v loc) next loc ]) e
+mark_last s n v loc e = ap (λ (o : Option ℕ). elim o [ option.none ↦ mark_one s v loc | Some next ↦ mark_chain n (mark_one s v loc) next loc ]) e
 
 new_front : (s : State) → Front s.vars (with_var s).vars
 unfolding with_var with_vars
@@ -209,7 +209,7 @@ add_leaves {P} s c p = go (ltb (length s.constraints) max_constraints)
 tell_leaves : {P : List Cell → Type 0} (s : State) (n : Option Needs) → P s.vars → Leaves P (definition.tell s n)
 unfolding definition.tell
 tell_leaves s option.none p = l_refused
-tell_leaves s (some n) p = l_ok p
+tell_leaves s (Some n) p = l_ok p
 
 declare_leaves : (s : State) (a : ℕ) (ps : List ℕ) → Leaves (Front s.vars) (store.declare s a ps)
 unfolding store.declare with_structs

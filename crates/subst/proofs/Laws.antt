@@ -2,7 +2,7 @@
 use mathlib.Core.Path.{◌≡◌, refl, sym, ap, ◌∙◌}
 use mathlib.Core.Bool.{Bool, true, false, not}
 use mathlib.Core.List.{List}
-use mathlib.Core.Option.{Option, none, some}
+use Rattle.std.specs.Prelude.{Option, None, Some}
 use Prim.Native.Nat.{ℕ, zero, suc, ◌-◌, ◌<◌, ◌≤◌}
 use native.Mathlib.Nat.{not-suc-le-zero}
 use native.Mathlib.Numerals.{sub-one}
@@ -10,49 +10,45 @@ use Rattle.definition.specs.Types.{State, Struct, ok, err, RecursiveType}
 use Rattle.definition.specs.Store.{node, with_args, type_at, get, num_loc, insert}
 use Rattle.definition.specs.Subst.{as_var, is_anything, next_in, next_of, forward, forward_tvar}
 use Rattle.definition.specs.Join.{is_num_var, num_shape, check_num_tvar', check_num_tvar, used, join_bind_tvar}
-use Rattle.table.specs.State.{found, shape_of, node_of, seen, Lay, Stored}
+use Rattle.table.specs.State.{shape_of, node_of, seen, Lay, Stored}
 use Rattle.table.specs.declared.Used.{Used}
 use Rattle.table.specs.declared.Node.{Node}
-use Rattle.table.specs.declared.Found.{Found}
-use Rattle.table.specs.declared.Found.TheVariants.{Nothing, Just}
 use Rattle.table.proofs.Steps.{refines_now, refines_is, refines_as}
 use Rattle.table.proofs.Grown.{value_is}
 use Rattle.table.proofs.Pushed.{taken_seen}
 use Rattle.names.specs.declared.TVar.{TVar}
 use Rattle.shapes.specs.Parts.{next}
 use Rattle.subst.specs.Answers.{bound, Binds}
-use Rattle.shapes.specs.declared.Next.{Next}
-use Rattle.shapes.specs.declared.Next.TheVariants.{Last, To}
 use Rattle.subst.specs.declared.Binding.{Binding}
 use Rattle.subst.specs.declared.Binding.TheVariants.{Bound, Failed, Recursive}
 
-pub var_of : (s : State) (t : ℕ) (n : Node) (r : Next) → node_of n ≡ node s t → ((st : State) → next r ≡ as_var (with_args st (shape_of n.shape))) → as_var (type_at s t) ≡ next r
+pub var_of : (s : State) (t : ℕ) (n : Node) (r : Option TVar) → node_of n ≡ node s t → ((st : State) → next r ≡ as_var (with_args st (shape_of n.shape))) → as_var (type_at s t) ≡ next r
 var_of s t n r e f = sym (f s ∙ ap as_var (value_is s t n e))
 
 -- ---- the chain
 
-pub next_found : (s : State) (v : ℕ) (f : Found) (o : Option ℕ) → found f ≡ get s v → found f ≡ o → next_in s o ≡ next_of s v
+pub next_found : (s : State) (v : ℕ) (f : Option ℕ) (o : Option ℕ) → f ≡ get s v → f ≡ o → next_in s o ≡ next_of s v
 unfolding next_of
 next_found s v f o e z = ap (next_in s) (sym z ∙ e)
 
-pub next_none : (s : State) (v : ℕ) (f : Found) → found f ≡ get s v → f ≡ Nothing → none ≡ next_of s v
+pub next_none : (s : State) (v : ℕ) (f : Option ℕ) → f ≡ get s v → f ≡ None → None ≡ next_of s v
 unfolding next_in
-next_none s v f e z = next_found s v f none e (ap found z)
+next_none s v f e z = next_found s v f None e (z)
 
-pub next_some : (s : State) (v t : ℕ) (f : Found) → found f ≡ get s v → f ≡ Just t → as_var (type_at s t) ≡ next_of s v
+pub next_some : (s : State) (v t : ℕ) (f : Option ℕ) → f ≡ get s v → f ≡ Some t → as_var (type_at s t) ≡ next_of s v
 unfolding next_in
-next_some s v t f e z = next_found s v f (some t) e (ap found z)
+next_some s v t f e z = next_found s v f (Some t) e (z)
 
-pub forward_none : (n : ℕ) (s : State) (v : ℕ) → next_of s v ≡ none → forward n s v ≡ v
+pub forward_none : (n : ℕ) (s : State) (v : ℕ) → next_of s v ≡ None → forward n s v ≡ v
 unfolding forward
 forward_none zero s v e = refl
 forward_none (suc n) s v e = rw (e, forward) refl
 
-pub forward_some : (n : ℕ) (s : State) (v x : ℕ) → next_of s v ≡ some x → forward (suc n) s v ≡ forward n s x
+pub forward_some : (n : ℕ) (s : State) (v x : ℕ) → next_of s v ≡ Some x → forward (suc n) s v ≡ forward n s x
 unfolding forward
 forward_some n s v x e = rw (e, forward) refl
 
-forward_less : (n : ℕ) (s : State) (v x : ℕ) → 0 < n → next_of s v ≡ some x → forward n s v ≡ forward (n - 1) s x
+forward_less : (n : ℕ) (s : State) (v x : ℕ) → 0 < n → next_of s v ≡ Some x → forward n s v ≡ forward (n - 1) s x
 forward_less zero s v x p e = absurd (not-suc-le-zero p)
 forward_less (suc n) s v x p e = forward_some n s v x e ∙ rw (sub-one (suc n)) refl
 
@@ -73,39 +69,39 @@ module _ (w : List ℕ) (u : Used) (cur₀ cur left : ℕ) where
   unfolding forward_tvar
   whole ds = rw (taken_seen w u ds) refl
 
-  pub chain_end : Chain w u cur₀ u.vars cur left → (r : Next) → ((ds : List Struct) → next r ≡ next_of (seen w u ds) cur) → r ≡ Last → (ds : List Struct) → cur ≡ forward_tvar (seen w u ds) cur₀
+  pub chain_end : Chain w u cur₀ u.vars cur left → (r : Option TVar) → ((ds : List Struct) → next r ≡ next_of (seen w u ds) cur) → r ≡ None → (ds : List Struct) → cur ≡ forward_tvar (seen w u ds) cur₀
   chain_end c r e z ds = sym (forward_none left (seen w u ds) cur (sym (e ds) ∙ ap next z)) ∙ c.is ds ∙ whole ds
 
   pub chain_out : Chain w u cur₀ u.vars cur left → left ≤ 0 → (ds : List Struct) → cur ≡ forward_tvar (seen w u ds) cur₀
   chain_out c z ds = sym (forward_zero left (seen w u ds) cur z) ∙ c.is ds ∙ whole ds
 
-  pub chain_on : (left₀ : ℕ) → Chain w u cur₀ left₀ cur left → 0 < left → (r : Next) → ((ds : List Struct) → next r ≡ next_of (seen w u ds) cur) → (v : TVar) → r ≡ To v → Chain w u cur₀ left₀ v.0 (left - 1)
+  pub chain_on : (left₀ : ℕ) → Chain w u cur₀ left₀ cur left → 0 < left → (r : Option TVar) → ((ds : List Struct) → next r ≡ next_of (seen w u ds) cur) → (v : TVar) → r ≡ Some v → Chain w u cur₀ left₀ v.0 (left - 1)
   chain_on left₀ c p r e v z = record { is = λ ds. sym (forward_less left (seen w u ds) cur v.0 p (sym (e ds) ∙ ap next z)) ∙ c.is ds }
 
 -- ---- the numeric check
 
-pub is_num : (s : State) (v : ℕ) (f : Found) → found f ≡ num_loc s v → (o : Option ℕ) → found f ≡ o → is_num_var s v ≡ elim o [ none ↦ false | some loc ↦ true ]
+pub is_num : (s : State) (v : ℕ) (f : Option ℕ) → f ≡ num_loc s v → (o : Option ℕ) → f ≡ o → is_num_var s v ≡ elim o [ None ↦ false | Some loc ↦ true ]
 unfolding is_num_var
-is_num s v f e o z = ap (λ (o : Option ℕ). elim o [ none ↦ false | some loc ↦ true ]) (sym e ∙ z)
+is_num s v f e o z = ap (λ (o : Option ℕ). elim o [ None ↦ false | Some loc ↦ true ]) (sym e ∙ z)
 
 module _ (s : State) (ty : ℕ) where
-  pub num_plain : as_var (type_at s ty) ≡ none → num_shape (type_at s ty) ≡ check_num_tvar' s ty
+  pub num_plain : as_var (type_at s ty) ≡ None → num_shape (type_at s ty) ≡ check_num_tvar' s ty
   unfolding check_num_tvar'
   num_plain e = rw (e, check_num_tvar') refl
 
-  module _ (v : ℕ) (e : as_var (type_at s ty) ≡ some v) where
-    open_end : get s (forward_tvar s v) ≡ none → is_num_var s (forward_tvar s v) ≡ check_num_tvar' s ty
+  module _ (v : ℕ) (e : as_var (type_at s ty) ≡ Some v) where
+    open_end : get s (forward_tvar s v) ≡ None → is_num_var s (forward_tvar s v) ≡ check_num_tvar' s ty
     unfolding check_num_tvar'
     open_end g = rw (e, check_num_tvar') (rw (g, check_num_tvar') refl)
 
-    bound_end : (t : ℕ) → get s (forward_tvar s v) ≡ some t → num_shape (type_at s t) ≡ check_num_tvar' s ty
+    bound_end : (t : ℕ) → get s (forward_tvar s v) ≡ Some t → num_shape (type_at s t) ≡ check_num_tvar' s ty
     unfolding check_num_tvar'
     bound_end t g = rw (e, check_num_tvar') (rw (g, check_num_tvar') refl)
 
-    pub num_open : (last : ℕ) → last ≡ forward_tvar s v → get s last ≡ none → is_num_var s last ≡ check_num_tvar' s ty
+    pub num_open : (last : ℕ) → last ≡ forward_tvar s v → get s last ≡ None → is_num_var s last ≡ check_num_tvar' s ty
     num_open last l g = ap (is_num_var s) l ∙ open_end (sym (ap (get s) l) ∙ g)
 
-    pub num_bound : (last t : ℕ) → last ≡ forward_tvar s v → get s last ≡ some t → num_shape (type_at s t) ≡ check_num_tvar' s ty
+    pub num_bound : (last t : ℕ) → last ≡ forward_tvar s v → get s last ≡ Some t → num_shape (type_at s t) ≡ check_num_tvar' s ty
     num_bound last t l g = bound_end t (sym (ap (get s) l) ∙ g)
 
   pub num_marked : (v : ℕ) → is_num_var s v ≡ true → check_num_tvar' s ty ≡ check_num_tvar s v ty

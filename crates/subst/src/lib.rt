@@ -12,8 +12,7 @@ ghost use Rattle.shapes.specs.Parts.{next};
 ghost use Rattle.subst.specs.Answers.{Unfolds, var_at, Clear, Binds};
 
 use names::TVar;
-use shapes::Next;
-use table::{Found, Used};
+use table::Used;
 
 // What binding a variable comes to: it succeeds, the numeric check fails, or the variable occurs in the type.
 #[derive(Clone, Copy)]
@@ -33,13 +32,13 @@ pub enum Unfolded {
 // ---- forward_tvar
 
 // The variable that cur is bound to, if that is what it is bound to.
-pub fn next_of(w: &[u32], u: Used, cur: TVar) -> Next
+pub fn next_of(w: &[u32], u: Used, cur: TVar) -> Option<TVar>
     requires { Lay w.now u }
     ensures { (ds : List d.Struct) → next result ≡ next_of (seen w.now u ds) cur.0 }
 {
     match table::bound_at(w, u, cur) {
-        Found::Nothing => Next::Last,
-        Found::Just(t) => {
+        None => None,
+        Some(t) => {
             let n = table::node_at(w, u, t);
             let s = n.shape;
             shapes::as_var(s)
@@ -56,10 +55,10 @@ pub fn forward_tvar(w: &[u32], u: Used, id: TVar) -> TVar
     let mut left = u.vars;
     while 0 < left {
         match next_of(w, u, cur) {
-            Next::Last => {
+            None => {
                 return cur;
             }
-            Next::To(v) => {
+            Some(v) => {
                 cur = v;
                 left -= 1;
             }
@@ -76,8 +75,8 @@ pub fn unfold_end(w: &[u32], u: Used, loc: u32, last: TVar) -> Unfolded
     ensures { (v : ℕ) → ((ds : List d.Struct) → last.0 ≡ forward_tvar (seen w.now u ds) v) → Unfolds w.now u result (λ s. var_at loc v) }
 {
     match table::bound_at(w, u, last) {
-        Found::Nothing => Unfolded::Anything(loc),
-        Found::Just(t) => Unfolded::Node(t),
+        None => Unfolded::Anything(loc),
+        Some(t) => Unfolded::Node(t),
     }
 }
 
@@ -99,8 +98,8 @@ pub fn unfold_type(w: &[u32], u: Used, t: u32) -> Unfolded
     let s = n.shape;
     let loc = n.loc;
     match shapes::as_var(s) {
-        Next::Last => Unfolded::Node(t),
-        Next::To(v) => unfold_tvar(w, u, loc, v),
+        None => Unfolded::Node(t),
+        Some(v) => unfold_tvar(w, u, loc, v),
     }
 }
 
@@ -117,10 +116,10 @@ pub fn set_num_var(w: &mut [u32], u: Used, tvar: TVar, loc: u32)
         let n = next_of(w, u, cur);
         table::mark_one(w, u, cur, loc);
         match n {
-            Next::Last => {
+            None => {
                 return;
             }
-            Next::To(v) => {
+            Some(v) => {
                 cur = v;
                 unmarked -= 1;
             }
@@ -135,8 +134,8 @@ fn is_num_var(w: &[u32], u: Used, v: TVar) -> bool
     ensures { (ds : List d.Struct) → result ≡ is_num_var (seen w.now u ds) v.0 }
 {
     match table::num_loc_at(w, u, v) {
-        Found::Nothing => false,
-        Found::Just(_) => true,
+        None => false,
+        Some(_) => true,
     }
 }
 
@@ -157,12 +156,12 @@ fn check_num_type(w: &[u32], u: Used, ty: u32) -> bool
     let n = table::node_at(w, u, ty);
     let s = n.shape;
     match shapes::as_var(s) {
-        Next::Last => shapes::num_shape(s),
-        Next::To(v) => {
+        None => shapes::num_shape(s),
+        Some(v) => {
             let last = forward_tvar(w, u, v);
             match table::bound_at(w, u, last) {
-                Found::Nothing => is_num_var(w, u, last),
-                Found::Just(t) => num_node(w, u, t),
+                None => is_num_var(w, u, last),
+                Some(t) => num_node(w, u, t),
             }
         }
     }

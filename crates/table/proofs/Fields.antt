@@ -1,7 +1,7 @@
 -- What is read of a row, in words. Assumes nothing.
 use mathlib.Core.Path.{◌≡◌, sym, ap, ◌∙◌}
 use mathlib.Core.List.{List, [], ◌∷◌}
-use mathlib.Core.Option.{none}
+use Rattle.std.specs.Prelude.{None}
 use Prim.Native.Nat.{ℕ, ◌+◌, ◌*◌, ◌%◌, ◌≤◌, ◌<◌}
 use native.Mathlib.Omega.{arith}
 use lib.ListN.{length, get_or, drop, replicate, length-replicate, get_or-eq_default}
@@ -64,7 +64,7 @@ module _ (w : List ℕ) (u : Used) where
   unfolding get seen view with_structs
   get_read ds v h = ap (λ (c : Cell). c.binding) (cell_read v h)
 
-  pub get_beyond : (ds : List Struct) (v : ℕ) → u.vars ≤ v → get (seen w u ds) v ≡ none
+  pub get_beyond : (ds : List Struct) (v : ℕ) → u.vars ≤ v → get (seen w u ds) v ≡ None
   unfolding get seen view with_structs
   get_beyond ds v h = ap (λ (c : Cell). c.binding) (entry_out var_table w u.vars v unbound h)
 
@@ -72,7 +72,7 @@ module _ (w : List ℕ) (u : Used) where
   unfolding num_loc seen view with_structs
   num_read ds v h = ap (λ (c : Cell). c.numeric) (cell_read v h)
 
-  pub num_beyond : (ds : List Struct) (v : ℕ) → u.vars ≤ v → num_loc (seen w u ds) v ≡ none
+  pub num_beyond : (ds : List Struct) (v : ℕ) → u.vars ≤ v → num_loc (seen w u ds) v ≡ None
   unfolding num_loc seen view with_structs
   num_beyond ds v h = ap (λ (c : Cell). c.numeric) (entry_out var_table w u.vars v unbound h)
 

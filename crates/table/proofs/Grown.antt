@@ -1,4 +1,5 @@
 -- What a grown state keeps, and what is read from a node of one. Assumes nothing.
+use Rattle.std.specs.Prelude.{Option, Some}
 use mathlib.Core.Path.{◌≡◌, ap, ◌∙◌}
 use mathlib.Core.List.{List}
 use Prim.Native.Nat.{ℕ, ◌+◌, ◌≤◌, ◌<◌}
@@ -11,8 +12,6 @@ use Rattle.table.specs.State.{view, Lay, Front, Grown, Parts, VarIn, done, node_
 use Rattle.table.specs.declared.Node.{Node}
 use Rattle.table.specs.declared.Used.{Used}
 use Rattle.table.specs.declared.Out.{Out}
-use Rattle.table.specs.declared.Found.{Found}
-use Rattle.table.specs.declared.Found.TheVariants.{Just}
 use Rattle.table.proofs.Steps.{var_in}
 use Rattle.table.proofs.Pushed.{count_view}
 
@@ -27,7 +26,7 @@ pub still_in : (w : List ℕ) (u : Used) (w' : List ℕ) (u' : Used) (t : ℕ) �
 still_in w u w' u' t g i = omega (arith, nodes_grow w u w' u' g)
 
 -- a variable's number is short
-pub var_small : {w : List ℕ} {u : Used} (o : Out) {b : Found} {n : ℕ} → Lay w u → VarIn u.vars o → b ≡ done o → b ≡ Just n → n < 65536
+pub var_small : {w : List ℕ} {u : Used} (o : Out) {b : (Option ℕ)} {n : ℕ} → Lay w u → VarIn u.vars o → b ≡ done o → b ≡ Some n → n < 65536
 var_small {u = u} o {b} {n} h i p q = omega (arith, h.vars, var_in u.vars o b n i p q)
 
 front_part : (l m : List ℕ) (first many : ℕ) → Front l m → first + many ≤ length l → take many (drop first m) ≡ take many (drop first l)

@@ -1,4 +1,5 @@
 -- A node's parts are below it. Assumes nothing.
+use Rattle.std.specs.Prelude.{Option}
 use mathlib.Core.Path.{◌≡◌, sym, ap, ◌∙◌, subst}
 use mathlib.Core.List.{List, []}
 use Prim.Native.Nat.{ℕ, ◌<◌}
@@ -8,7 +9,7 @@ use Rattle.definition.specs.Types as d
 use Rattle.definition.specs.Types.{Struct}
 use Rattle.definition.specs.Store.{node, args_at, with_structs}
 use Rattle.names.specs.Names.{mark_of, name_of}
-use Rattle.names.specs.declared.AbilityMark.{AbilityMark}
+use Rattle.names.specs.declared.AbilitySet.{AbilitySet}
 use Rattle.names.specs.declared.TypeName.{TypeName}
 use Rattle.table.specs.Rows.{places}
 use Rattle.table.specs.State.{shape_of, node_of, view, seen, Lay, Below, Named}
@@ -32,5 +33,5 @@ module _ (w : List ℕ) (u : Used) (ty : ℕ) (nd : Node) (lay : Lay w u) (in_us
   pub ref_below : (m : _) (t : ℕ) → nd.shape ≡ Ref m t → t < ty
   ref_below m t e = below_it (Ref m t) e
 
-  pub named : (k : AbilityMark) (n : TypeName) (first many : ℕ) → nd.shape ≡ Apply k n first many → Named w u first many ty
+  pub named : (k : Option AbilitySet) (n : TypeName) (first many : ℕ) → nd.shape ≡ Apply k n first many → Named w u first many ty
   named k n first many e = below_named w u ty (mark_of k) (name_of n) first many (below_it (Apply k n first many) e)

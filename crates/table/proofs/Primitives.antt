@@ -1,7 +1,8 @@
 -- The primitives' last steps: what they wrote is what the definition says. `at` and the like are numbers as indices. Assumes nothing.
 use mathlib.Core.Path.{◌≡◌, refl, sym, ap, ◌∙◌, subst}
 use mathlib.Core.List.{List, [], ◌++◌}
-use mathlib.Core.Option.{Option, some, none-ne-some, some-injective}
+use Rattle.std.specs.Prelude.{Option, Some, None}
+use Rattle.std.proofs.lemmas.Option.{none-some, same_Some}
 use Prim.Native.Nat.{ℕ, ◌+◌, ◌*◌, ◌-◌, ◌<◌}
 use native.Mathlib.Omega.{arith}
 use lib.ListN.{length, get_or, take, length-append}
@@ -10,15 +11,13 @@ use Rattle.definition.specs.Types as d
 use Rattle.definition.specs.Store.{args_of, stored, sp, insert, get, num_loc, with_structs}
 use Rattle.definition.specs.Subst.{mark_one, or_insert}
 use Rattle.names.specs.Names.{mark_of, name_of}
-use Rattle.names.specs.declared.AbilityMark.{AbilityMark}
+use Rattle.names.specs.declared.AbilitySet.{AbilitySet}
 use Rattle.names.specs.declared.TypeName.{TypeName}
 use Rattle.table.specs.Rows.{Written, node_table, places}
-use Rattle.table.specs.State.{view, seen, Lay, Wrote, After, Stored, Flat, FoundIn, Parts, Below, shape_of, value_of, node_at, found, with_cell}
+use Rattle.table.specs.State.{view, seen, Lay, Wrote, After, Stored, Flat, FoundIn, Parts, Below, shape_of, value_of, node_at, with_cell}
 use Rattle.table.specs.declared.Shape.{Shape}
 use Rattle.table.specs.declared.Shape.TheVariants.{Unit as UnitS, Ref, Param, Apply, Var, Anything, UnresolvedError}
 use Rattle.table.specs.declared.Used.{Used}
-use Rattle.table.specs.declared.Found.{Found}
-use Rattle.table.specs.declared.Found.TheVariants.{Nothing, Just}
 use Rattle.table.specs.declared.Out.TheVariants.{Done, Refused}
 use Rattle.table.specs.declared.Refusal.TheVariants.{Full}
 use Rattle.table.proofs.Rows.{wrote_none}
@@ -68,7 +67,7 @@ flat_pushed w u loc s at r w' h flat lt e wrote row =
 
 -- ---- a named type
 
-module _ (w : List ℕ) (u : Used) (loc : ℕ) (k : AbilityMark) (name : TypeName) (parts : List ℕ) (n : ℕ) (h : Lay w u) (p : Parts u.nodes parts n) (long : length parts ≡ 8) (lt : u.nodes < 2048) where
+module _ (w : List ℕ) (u : Used) (loc : ℕ) (k : Option AbilitySet) (name : TypeName) (parts : List ℕ) (n : ℕ) (h : Lay w u) (p : Parts u.nodes parts n) (long : length parts ≡ 8) (lt : u.nodes < 2048) where
   abbrev v : d.TypeValue
   v = d.Apply (mark_of k) (name_of name) (take n parts)
 
@@ -108,26 +107,26 @@ module _ (w : List ℕ) (u : Used) (loc : ℕ) (k : AbilityMark) (name : TypeNam
 
 -- ---- variables
 
-pub found_in : (n : ℕ) (f : Found) → FoundIn n f → (t : ℕ) → found f ≡ some t → t < n
-found_in n Nothing h t e = absurd (none-ne-some t e)
-found_in n (Just x) h t e = subst (λ (y : ℕ). y < n) (some-injective x t e) h
+pub found_in : (n : ℕ) (f : Option ℕ) → FoundIn n f → (t : ℕ) → f ≡ Some t → t < n
+found_in n None h t e = absurd (none-some t e)
+found_in n (Some x) h t e = subst (λ (y : ℕ). y < n) (same_Some x t e) h
 
 -- what a variable is bound to is a node
-pub bound_in : (w : List ℕ) (u : Used) (v : ℕ) (b : Found) → Lay w u → ((ds : List d.Struct) → found b ≡ get (seen w u ds) v) → FoundIn u.nodes b
+pub bound_in : (w : List ℕ) (u : Used) (v : ℕ) (b : Option ℕ) → Lay w u → ((ds : List d.Struct) → b ≡ get (seen w u ds) v) → FoundIn u.nodes b
 unfolding seen with_structs get
-bound_in w u v Nothing h e = tt
-bound_in w u v (Just t) h e = subst (λ (n : ℕ). t < n) (count_view w u) (h.inside.bindings v t (sym (e [])))
+bound_in w u v None h e = tt
+bound_in w u v (Some t) h e = subst (λ (n : ℕ). t < n) (count_view w u) (h.inside.bindings v t (sym (e [])))
 
 -- insert and mark_one are this store, at what the state says of the variable
-pub insert_cell : (w : List ℕ) (u : Used) (v t : ℕ) (m : Found) (w' : List ℕ) → ((ds : List d.Struct) → found m ≡ num_loc (seen w u ds) v) → Stored w u w' (with_cell v (some t) (found m)) → Stored w u w' (λ s. insert s v t)
+pub insert_cell : (w : List ℕ) (u : Used) (v t : ℕ) (m : Option ℕ) (w' : List ℕ) → ((ds : List d.Struct) → m ≡ num_loc (seen w u ds) v) → Stored w u w' (with_cell v (Some t) m) → Stored w u w' (λ s. insert s v t)
 unfolding insert with_cell
-insert_cell w u v t m w' e a = refines_is (λ ds k. ap (λ (x : Option ℕ). with_cell v (some t) x (seen w u ds)) (e ds)) a
+insert_cell w u v t m w' e a = refines_is (λ ds k. ap (λ (x : Option ℕ). with_cell v (Some t) x (seen w u ds)) (e ds)) a
 
-pub mark_cell : (w : List ℕ) (u : Used) (v loc l : ℕ) (b m : Found) (w' : List ℕ) → ((ds : List d.Struct) → found b ≡ get (seen w u ds) v) → ((ds : List d.Struct) → found m ≡ num_loc (seen w u ds) v) → l ≡ or_insert (found m) loc
-    → Stored w u w' (with_cell v (found b) (some l)) → Stored w u w' (λ s. mark_one s v loc)
+pub mark_cell : (w : List ℕ) (u : Used) (v loc l : ℕ) (b m : Option ℕ) (w' : List ℕ) → ((ds : List d.Struct) → b ≡ get (seen w u ds) v) → ((ds : List d.Struct) → m ≡ num_loc (seen w u ds) v) → l ≡ or_insert m loc
+    → Stored w u w' (with_cell v b (Some l)) → Stored w u w' (λ s. mark_one s v loc)
 unfolding mark_one with_cell
 mark_cell w u v loc l b m w' e f g a =
     refines_is
-    (λ ds k. ap (λ (x : Option ℕ). with_cell v x (some l) (seen w u ds)) (e ds)
-    ∙ ap (λ (x : ℕ). with_cell v (get (seen w u ds) v) (some x) (seen w u ds)) (g ∙ ap (λ (x : Option ℕ). or_insert x loc) (f ds)))
+    (λ ds k. ap (λ (x : Option ℕ). with_cell v x (Some l) (seen w u ds)) (e ds)
+    ∙ ap (λ (x : ℕ). with_cell v (get (seen w u ds) v) (Some x) (seen w u ds)) (g ∙ ap (λ (x : Option ℕ). or_insert x loc) (f ds)))
     a

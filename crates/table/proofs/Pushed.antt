@@ -1,7 +1,7 @@
 -- What a store does to the state that the words hold. Assumes nothing.
 use mathlib.Core.Path.{◌≡◌, refl, sym, ap, ap₂, ◌∙◌, subst}
 use mathlib.Core.List.{List, [], ◌∷◌, ◌++◌}
-use mathlib.Core.Option.{Option, some}
+use Rattle.std.specs.Prelude.{Option, Some}
 use Prim.Native.Nat.{ℕ, ◌+◌, ◌*◌, ◌-◌, ◌≤◌, ◌<◌}
 use native.Mathlib.Omega.{arith}
 use native.Mathlib.Decide.{dec_lt}
@@ -240,7 +240,7 @@ module _ (w : List ℕ) (u : Used) (h : Lay w u) where
 
 -- ---- a variable's row is written
 
-module _ (w : List ℕ) (u : Used) (v : ℕ) (b m : Option ℕ) (h : Lay w u) (node : (t : ℕ) → b ≡ some t → t < u.nodes) where
+module _ (w : List ℕ) (u : Used) (v : ℕ) (b m : Option ℕ) (h : Lay w u) (node : (t : ℕ) → b ≡ Some t → t < u.nodes) where
   abbrev c : Cell
   c = record { binding = b; numeric = m }
 

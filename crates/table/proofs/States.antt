@@ -2,7 +2,7 @@
 use mathlib.Core.Path.{◌≡◌, refl, sym, ap, ◌∙◌}
 use mathlib.Core.List.{List, [], ◌∷◌, ◌++◌}
 use mathlib.Core.Bool.{Bool, true, false}
-use mathlib.Core.Option.{Option, some}
+use Rattle.std.specs.Prelude.{Option, Some}
 use Prim.Native.Nat.{ℕ, ◌+◌, ◌≤◌, ◌<◌}
 use native.Mathlib.Omega.{arith}
 use native.Mathlib.Decide.{dec_lt}
@@ -101,12 +101,12 @@ inside_node s loc v h new =
         let e : count s ≡ t = omega (arith, length-append s.nodes (record { loc = loc; value = stored (length s.args) v } ∷ [])) in
         rw (get_or_at s.nodes (record { loc = loc; value = stored (length s.args) v }) [] nowhere t e, ← e) new
 
-pub inside_cell : (s : State) (v : ℕ) (b m : Option ℕ) → Inside s → ((t : ℕ) → b ≡ some t → t < count s) → Inside (with_cell v b m s)
+pub inside_cell : (s : State) (v : ℕ) (b m : Option ℕ) → Inside s → ((t : ℕ) → b ≡ Some t → t < count s) → Inside (with_cell v b m s)
 unfolding with_cell with_vars node get
 inside_cell s v b m h new =
     record { parts = h.parts; bindings = λ x t e. by x t e (ℕ_discrete x v) (dec_lt v (length s.vars)) }
   where
-    by : (x t : ℕ) → (get_or (set s.vars v (record { binding = b; numeric = m })) x unbound).binding ≡ some t → Dec (x ≡ v) → Dec (v < length s.vars) → t < count s
+    by : (x t : ℕ) → (get_or (set s.vars v (record { binding = b; numeric = m })) x unbound).binding ≡ Some t → Dec (x ≡ v) → Dec (v < length s.vars) → t < count s
     by x t e (yes p) (yes q) = new t (sym (ap (λ (z : Cell). z.binding) (get_or-set_same s.vars v (record { binding = b; numeric = m }) unbound q)) ∙ rw p at e)
     by x t e (yes p) (no q) = h.bindings x t (rw (set_out s.vars v (record { binding = b; numeric = m }) (omega arith)) at e)
     by x t e (no p) q = h.bindings x t (sym (ap (λ (z : Cell). z.binding) (get_or-set_other s.vars v x (record { binding = b; numeric = m }) unbound p)) ∙ e)

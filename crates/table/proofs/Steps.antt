@@ -1,5 +1,6 @@
 -- How steps follow one another: the laws of Refines, and of the answers that are nodes. Nothing written is a step (refines_now); a step goes on to another (refines_on), where
 -- the answer is a number (refines_then) or ends there (refines_stop); what f says may be said otherwise (refines_is). Assumes nothing.
+use Rattle.std.specs.Prelude.{Option, None, Some}
 use mathlib.Core.Path.{◌≡◌, refl, sym, ap, ◌∙◌, subst}
 use mathlib.Core.List.{List, [], ◌++◌, append-nil, append_assoc}
 use Prim.Native.Nat.{ℕ, ◌<◌}
@@ -11,8 +12,6 @@ use Rattle.table.specs.declared.Outcome.{Outcome}
 use Rattle.table.specs.declared.Used.{Used}
 use Rattle.table.specs.declared.Out.{Out}
 use Rattle.table.specs.declared.Out.TheVariants.{Done, Failed, Refused}
-use Rattle.table.specs.declared.Found.{Found}
-use Rattle.table.specs.declared.Found.TheVariants.{Nothing, Just}
 
 -- ---- states that have grown
 
@@ -45,7 +44,7 @@ grown_trans s t v a b =
 never : {A : Type 0} → ◌≡◌ {A = ℕ} 0 1 → A
 never z = absurd (omega arith)
 
-pub done_is : (o : Out) (t : ℕ) → done o ≡ Just t → o ≡ Done t
+pub done_is : (o : Out) (t : ℕ) → done o ≡ Some t → o ≡ Done t
 done_is (Done n) t e = cc
 done_is (Failed x) t e = never (cc)
 done_is (Refused x) t e = never (cc)
@@ -56,17 +55,17 @@ NoError (ok a) = Unit {0}
 NoError (err s e) = ⊥
 NoError (refused x) = Unit {0}
 
-pub none_in : (n : ℕ) (o : Out) (s : State) (m : Result (State × ℕ)) → outcome o s ≡ m → NoError m → done o ≡ Nothing → NodesIn n o
+pub none_in : (n : ℕ) (o : Out) (s : State) (m : Result (State × ℕ)) → outcome o s ≡ m → NoError m → done o ≡ None → NodesIn n o
 unfolding outcome
 none_in n (Done t) s m e q d = never (cc)
 none_in n (Failed x) s m e q d = absurd (rw (← e) at q)
 none_in n (Refused x) s m e q d = tt
 
 -- a node that an answer is, and a variable
-pub node_in : (n : ℕ) (o : Out) (b : Found) (t : ℕ) → NodesIn n o → b ≡ done o → b ≡ Just t → t < n
+pub node_in : (n : ℕ) (o : Out) (b : Option ℕ) (t : ℕ) → NodesIn n o → b ≡ done o → b ≡ Some t → t < n
 node_in n o b t i p q = rw (done_is o t (sym p ∙ q)) at i
 
-pub var_in : (n : ℕ) (o : Out) (b : Found) (t : ℕ) → VarIn n o → b ≡ done o → b ≡ Just t → t < n
+pub var_in : (n : ℕ) (o : Out) (b : Option ℕ) (t : ℕ) → VarIn n o → b ≡ done o → b ≡ Some t → t < n
 var_in n o b t i p q = rw (done_is o t (sym p ∙ q)) at i
 
 -- ---- what follows a result
@@ -84,30 +83,30 @@ bind_assoc (err s e) f g = refl
 bind_assoc (refused x) f g = refl
 
 -- an answer that is the number t, and what follows it
-pub done_ok : (o : Out) (s : State) (t : ℕ) → done o ≡ Just t → ok (s, t) ≡ outcome o s
+pub done_ok : (o : Out) (s : State) (t : ℕ) → done o ≡ Some t → ok (s, t) ≡ outcome o s
 unfolding outcome
 done_ok o s t e = rw (done_is o t e)
 
-pub then_is : {A : Type 0} (o : Out) (s : State) (h : State × ℕ → Result A) (t : ℕ) → done o ≡ Just t → h (s, t) ≡ (outcome o s >>= h)
+pub then_is : {A : Type 0} (o : Out) (s : State) (h : State × ℕ → Result A) (t : ℕ) → done o ≡ Some t → h (s, t) ≡ (outcome o s >>= h)
 unfolding ◌>>=◌
 then_is o s h t e = ap (λ (m : Result (State × ℕ)). m >>= h) (done_ok o s t e)
 
 -- nothing follows one that is no number, whatever it were
-pub stop_same : {A : Type 0} (o : Out) (s : State) (h k : State × ℕ → Result A) → done o ≡ Nothing → (outcome o s >>= h) ≡ (outcome o s >>= k)
+pub stop_same : {A : Type 0} (o : Out) (s : State) (h k : State × ℕ → Result A) → done o ≡ None → (outcome o s >>= h) ≡ (outcome o s >>= k)
 unfolding outcome ◌>>=◌
 stop_same (Done t) s h k e = never (cc)
 stop_same (Failed x) s h k e = refl
 stop_same (Refused x) s h k e = refl
 
-pub stop_is : (o : Out) (s : State) (h : State × ℕ → Result (State × ℕ)) → done o ≡ Nothing → outcome o s ≡ (outcome o s >>= h)
+pub stop_is : (o : Out) (s : State) (h : State × ℕ → Result (State × ℕ)) → done o ≡ None → outcome o s ≡ (outcome o s >>= h)
 stop_is o s h e = sym (bind_ok (outcome o s)) ∙ stop_same o s (λ x. ok x) h e
 
 -- .. with a list
-pub listed_stop : (o : Out) (l : List ℕ) (s : State) (h : State × List ℕ → Result (State × ℕ)) → done o ≡ Nothing → outcome o s ≡ (listed o l s >>= h)
+pub listed_stop : (o : Out) (l : List ℕ) (s : State) (h : State × List ℕ → Result (State × ℕ)) → done o ≡ None → outcome o s ≡ (listed o l s >>= h)
 unfolding listed
 listed_stop o l s h e = stop_is o s (λ x. ok (x.0, l) >>= h) e ∙ sym (bind_assoc (outcome o s) (λ x. ok (x.0, l)) h)
 
-pub listed_then : (o : Out) (l : List ℕ) (s : State) (h : State × List ℕ → Result (State × ℕ)) (t : ℕ) → done o ≡ Just t → h (s, l) ≡ (listed o l s >>= h)
+pub listed_then : (o : Out) (l : List ℕ) (s : State) (h : State × List ℕ → Result (State × ℕ)) (t : ℕ) → done o ≡ Some t → h (s, l) ≡ (listed o l s >>= h)
 unfolding listed ◌>>=◌
 listed_then o l s h t e = ap (λ (m : Result (State × ℕ)). m >>= (λ x. ok (x.0, l)) >>= h) (done_ok o s t e)
 
@@ -141,17 +140,17 @@ module _ {A : Type 0} {K : List Struct → Type 0} {w : List ℕ} {u : Used} whe
       pub refines_as : ((s : State) → answer₂ s ≡ j (answer s)) → Refines K w u w' u' answer₂ (λ s. j (f s))
       refines_as e = record { lay = a.lay; grown = a.grown; structs = a.structs; is = λ ds k. e (seen w' u' ds) ∙ ap j (a.is ds k) }
 
-module _ {K : List Struct → Type 0} {w : List ℕ} {u : Used} {w' : List ℕ} {u' : Used} (o : Out) {f : State → Result (State × ℕ)} {b : Found} where
+module _ {K : List Struct → Type 0} {w : List ℕ} {u : Used} {w' : List ℕ} {u' : Used} (o : Out) {f : State → Result (State × ℕ)} {b : (Option ℕ)} where
   -- no number, so nothing follows
-  pub refines_stop : (h : State × ℕ → Result (State × ℕ)) → Refines K w u w' u' (outcome o) f → b ≡ done o → b ≡ Nothing → Refines K w u w' u' (outcome o) (λ s. f s >>= h)
+  pub refines_stop : (h : State × ℕ → Result (State × ℕ)) → Refines K w u w' u' (outcome o) f → b ≡ done o → b ≡ None → Refines K w u w' u' (outcome o) (λ s. f s >>= h)
   refines_stop h a p q = refines_as (λ m. m >>= h) a (λ s. stop_is o s h (sym p ∙ q))
 
   module _ {w₂ : List ℕ} {u₂ : Used} {t : ℕ} where
     -- the number t, and j of it follows
-    pub refines_number : {B : Type 0} {answer₂ : State → B} (j : Result (State × ℕ) → B) → Refines K w u w' u' (outcome o) f → b ≡ done o → b ≡ Just t → Refines K w' u' w₂ u₂ answer₂ (λ s. j (ok (s, t))) → Refines K w u w₂ u₂ answer₂ (λ s. j (f s))
+    pub refines_number : {B : Type 0} {answer₂ : State → B} (j : Result (State × ℕ) → B) → Refines K w u w' u' (outcome o) f → b ≡ done o → b ≡ Some t → Refines K w' u' w₂ u₂ answer₂ (λ s. j (ok (s, t))) → Refines K w u w₂ u₂ answer₂ (λ s. j (f s))
     refines_number j a p q n = refines_on j a (refines_is (λ ds k. ap j (done_ok o (seen w' u' ds) t (sym p ∙ q))) n)
 
-    pub refines_then : {B : Type 0} {answer₂ : State → Result B} (h : State × ℕ → Result B) → Refines K w u w' u' (outcome o) f → b ≡ done o → b ≡ Just t → Refines K w' u' w₂ u₂ answer₂ (λ s. h (s, t)) → Refines K w u w₂ u₂ answer₂ (λ s. f s >>= h)
+    pub refines_then : {B : Type 0} {answer₂ : State → Result B} (h : State × ℕ → Result B) → Refines K w u w' u' (outcome o) f → b ≡ done o → b ≡ Some t → Refines K w' u' w₂ u₂ answer₂ (λ s. h (s, t)) → Refines K w u w₂ u₂ answer₂ (λ s. f s >>= h)
     unfolding ◌>>=◌
     refines_then h a p q n = refines_number (λ m. m >>= h) a p q n
 
@@ -171,19 +170,19 @@ module _ {K : List Struct → Type 0} {w : List ℕ} {u : Used} where
     pub after_any : After w u w' r f → When K w u w' r f
     after_any a = record { changed = refines_among (λ ds k. tt) a.changed; inside = a.inside }
 
-    pub after_stop : {b : Found} (h : State × ℕ → Result (State × ℕ)) → When K w u w' r f → b ≡ done r.out → b ≡ Nothing → When K w u w' r (λ s. f s >>= h)
+    pub after_stop : {b : (Option ℕ)} (h : State × ℕ → Result (State × ℕ)) → When K w u w' r f → b ≡ done r.out → b ≡ None → When K w u w' r (λ s. f s >>= h)
     after_stop h a p q = record { changed = refines_stop r.out h a.changed p q; inside = a.inside }
 
-    pub after_done : {b : Found} {t : ℕ} → When K w u w' r f → b ≡ done r.out → b ≡ Just t → t < r.used.nodes
+    pub after_done : {b : (Option ℕ)} {t : ℕ} → When K w u w' r f → b ≡ done r.out → b ≡ Some t → t < r.used.nodes
     after_done {b} {t} a p q = node_in r.used.nodes r.out b t a.inside p q
 
   module _ {w' : List ℕ} {u' : Used} {w₂ : List ℕ} {r : Outcome} where
     pub after_on : {A : Type 0} {answer f : State → A} (j : A → Result (State × ℕ)) → Refines K w u w' u' answer f → When K w' u' w₂ r (λ s. j (answer s)) → When K w u w₂ r (λ s. j (f s))
     after_on j a n = record { changed = refines_on j a n.changed; inside = n.inside }
 
-    pub after_then : (o : Out) {f : State → Result (State × ℕ)} {b : Found} {t : ℕ} (h : State × ℕ → Result (State × ℕ)) → Refines K w u w' u' (outcome o) f → b ≡ done o → b ≡ Just t → When K w' u' w₂ r (λ s. h (s, t)) → When K w u w₂ r (λ s. f s >>= h)
+    pub after_then : (o : Out) {f : State → Result (State × ℕ)} {b : (Option ℕ)} {t : ℕ} (h : State × ℕ → Result (State × ℕ)) → Refines K w u w' u' (outcome o) f → b ≡ done o → b ≡ Some t → When K w' u' w₂ r (λ s. h (s, t)) → When K w u w₂ r (λ s. f s >>= h)
     after_then o h a p q n = record { changed = refines_then o h a p q n.changed; inside = n.inside }
 
 -- a step that meets no error names no types where it ends
-pub plain_in : {w : List ℕ} {u : Used} {w' : List ℕ} {u' : Used} (o : Out) {f : State → Result (State × ℕ)} {b : Found} → Refines Any w u w' u' (outcome o) f → ((s : State) → NoError (f s)) → b ≡ done o → b ≡ Nothing → NodesIn u'.nodes o
+pub plain_in : {w : List ℕ} {u : Used} {w' : List ℕ} {u' : Used} (o : Out) {f : State → Result (State × ℕ)} {b : (Option ℕ)} → Refines Any w u w' u' (outcome o) f → ((s : State) → NoError (f s)) → b ≡ done o → b ≡ None → NodesIn u'.nodes o
 plain_in {w} {u} {w'} {u'} o {f} a e p q = none_in u'.nodes o (seen w' u' []) (f (seen w u [])) (a.is [] tt) (e (seen w u [])) (sym p ∙ q)

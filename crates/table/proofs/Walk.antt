@@ -1,4 +1,5 @@
 -- A list of types gone through one after the other, and what a caller knows of the words at each. Assumes nothing.
+use Rattle.std.specs.Prelude.{Option, None, Some}
 use mathlib.Core.Path.{◌≡◌, refl, sym, ap, ◌∙◌}
 use mathlib.Core.List.{List, [], ◌∷◌, ◌++◌, append-nil, append_assoc}
 use Prim.Native.Nat.{ℕ, zero, suc, ◌+◌, ◌≤◌, ◌<◌, min}
@@ -14,8 +15,6 @@ use Rattle.table.specs.State.{view, seen, Lay, Grown, Refines, When, Lists, Part
 use Rattle.table.specs.declared.Outcome.{Outcome}
 use Rattle.table.specs.declared.Used.{Used}
 use Rattle.table.specs.declared.Out.TheVariants.{Done}
-use Rattle.table.specs.declared.Found.{Found}
-use Rattle.table.specs.declared.Found.TheVariants.{Nothing, Just}
 use Rattle.table.proofs.Steps.{refines_now, refines_is, refines_on, refines_as, bind_ok, then_is, stop_same, after_on, after_done}
 use Rattle.table.proofs.Grown.{nodes_grow, front_length, args_kept, args_length}
 
@@ -66,7 +65,7 @@ module _ {B : Type 0} {K : List Struct → Type 0} {f : State → ℕ → Result
   module _ {w : List ℕ} {u : Used} {parts : List ℕ} {i : ℕ}
       (wk : Walked K f h tys many w₀ u₀ w u parts i) where
     -- the step of type i
-    module _ {t : ℕ} {w' : List ℕ} {r : Outcome} {b : Found} (lt : i < many) (t_is : t ≡ get_or tys i 0) (a : When K w u w' r (λ s. f s t)) (b_is : b ≡ done r.out) where
+    module _ {t : ℕ} {w' : List ℕ} {r : Outcome} {b : (Option ℕ)} (lt : i < many) (t_is : t ≡ get_or tys i 0) (a : When K w u w' r (λ s. f s t)) (b_is : b ≡ done r.out) where
       next : State × ℕ → Result B
       next p = rest f h (take i parts ++ (p.1 ∷ [])) (drop (suc i) tys) p.0
 
@@ -81,11 +80,11 @@ module _ {B : Type 0} {K : List Struct → Type 0} {f : State → ℕ → Result
       stepped = refines_on (λ x. x) wk.changed (refines_is (λ ds k. next_is (seen w u ds)) (refines_as (λ m. m >>= next) a.changed (λ s. refl)))
 
       -- it is no number, so the walk ends with it, whatever was to follow
-      pub walk_stops : b ≡ Nothing → (g : State × ℕ → Result B) → Refines K w₀ u₀ w' r.used (λ s. outcome r.out s >>= g) (rest f h [] tys)
+      pub walk_stops : b ≡ None → (g : State × ℕ → Result B) → Refines K w₀ u₀ w' r.used (λ s. outcome r.out s >>= g) (rest f h [] tys)
       walk_stops q g = refines_as (λ x. x) stepped (λ s. stop_same r.out s g next (sym b_is ∙ q))
 
       -- it is the number p
-      pub walk_more : {p at : ℕ} → b ≡ Just p → at ≡ i → Walked K f h tys many w₀ u₀ w' r.used (set parts at p) (i + 1)
+      pub walk_more : {p at : ℕ} → b ≡ Some p → at ≡ i → Walked K f h tys many w₀ u₀ w' r.used (set parts at p) (i + 1)
       unfolding next
       walk_more {p} {at} q e =
           record {
@@ -116,7 +115,7 @@ module _ {B : Type 0} {K : List Struct → Type 0} {f : State → ℕ → Result
 module _ {K : List Struct → Type 0} {f : State → ℕ → Result (State × ℕ)} {h : List ℕ → State → Result (State × ℕ)} {tys : List ℕ} {many : ℕ} {w₀ : List ℕ} {u₀ : Used} {w : List ℕ} {u : Used} {parts : List ℕ} {i : ℕ}
     (wk : Walked K f h tys many w₀ u₀ w u parts i)
     {w' : List ℕ} {r : Outcome} where
-  pub walk_stop : {t : ℕ} {b : Found} → i < many → t ≡ get_or tys i 0 → When K w u w' r (λ s. f s t) → b ≡ done r.out → b ≡ Nothing → When K w₀ u₀ w' r (rest f h [] tys)
+  pub walk_stop : {t : ℕ} {b : (Option ℕ)} → i < many → t ≡ get_or tys i 0 → When K w u w' r (λ s. f s t) → b ≡ done r.out → b ≡ None → When K w₀ u₀ w' r (rest f h [] tys)
   walk_stop lt t_is a p q = record { changed = refines_as (λ x. x) (walk_stops wk lt t_is a p q (λ x. ok x)) (λ s. sym (bind_ok (outcome r.out s))); inside = a.inside }
 
   pub walk_end : many ≤ i → When K w u w' r (h (take many parts)) → When K w₀ u₀ w' r (rest f h [] tys)
@@ -128,7 +127,7 @@ abbrev pub just_list : List ℕ → State → Result (State × List ℕ)
 just_list l s = ok (s, l)
 
 module _ {K : List Struct → Type 0} {f : State → ℕ → Result (State × ℕ)} {tys : List ℕ} {many : ℕ} {w₀ : List ℕ} {u₀ : Used} {w : List ℕ} {u : Used} {parts : List ℕ} {i : ℕ} (wk : Walked K f just_list tys many w₀ u₀ w u parts i) where
-  pub list_stop : {t : ℕ} {w' : List ℕ} {r : Outcome} {b : Found} (n : ℕ) → i < many → t ≡ get_or tys i 0 → When K w u w' r (λ s. f s t) → b ≡ done r.out → b ≡ Nothing → Lists K w₀ u₀ w' r.used r.out parts n (rest f just_list [] tys)
+  pub list_stop : {t : ℕ} {w' : List ℕ} {r : Outcome} {b : (Option ℕ)} (n : ℕ) → i < many → t ≡ get_or tys i 0 → When K w u w' r (λ s. f s t) → b ≡ done r.out → b ≡ None → Lists K w₀ u₀ w' r.used r.out parts n (rest f just_list [] tys)
   unfolding listed
   list_stop n lt t_is a p q =
       record {

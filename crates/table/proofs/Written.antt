@@ -2,7 +2,7 @@
 use mathlib.Core.Path.{◌≡◌, refl, sym, ap, ◌∙◌}
 use mathlib.Core.Bool.{Bool, true, false}
 use mathlib.Core.List.{List, [], ◌∷◌}
-use mathlib.Core.Option.{Option, none, some}
+use Rattle.std.specs.Prelude.{Option, None, Some}
 use Prim.Native.Nat.{ℕ, ◌+◌, ◌-◌, ◌<◌, ◌%◌}
 use native.Mathlib.Omega.{arith}
 use lib.Dec.{eqb}
@@ -16,7 +16,7 @@ use Rattle.table.specs.Rows.{read_cell, cell_words, var_table, read_constraint, 
 
 -- ---- nodes
 
-pub mark_again : (set : ℕ) → set < 256 → read_mark (16 + set) ≡ some set
+pub mark_again : (set : ℕ) → set < 256 → read_mark (16 + set) ≡ Some set
 unfolding read_mark
 mark_again set h =
     let e : (16 + set - 16) % 256 ≡ set = omega arith in
@@ -89,8 +89,8 @@ node_long n = shape_long n.loc n.value
 
 option_again : (o : Option ℕ) → read_option (option_flag o) (option_word o) ≡ o
 unfolding read_option option_flag option_word
-option_again none = refl
-option_again (some x) = refl
+option_again None = refl
+option_again (Some x) = refl
 
 pub cell_again : (c : Cell) → read_cell (cell_words c) ≡ c
 unfolding read_cell cell_words
@@ -98,8 +98,8 @@ cell_again c = λ i. record { binding = option_again c.binding i; numeric = opti
 
 pub word_is : (o : Option ℕ) → or_insert o 0 ≡ option_word o
 unfolding or_insert option_word
-word_is none = refl
-word_is (some x) = refl
+word_is None = refl
+word_is (Some x) = refl
 
 pub cell_row : (b m : Option ℕ) (bf bw mf mw : ℕ) → bf ≡ option_flag b → bw ≡ option_word b → mf ≡ option_flag m → mw ≡ option_word m
     → Written var_table (bf ∷ bw ∷ mf ∷ mw ∷ 0 ∷ 0 ∷ 0 ∷ 0 ∷ []) (record { binding = b; numeric = m })

@@ -1,6 +1,6 @@
 -- The layout of the lent words (docs/STATE.md draws it): five tables of rows, one field to a word. Assumes nothing: these are definitions.
 use Rattle.std.specs.Prelude.{◌≡◌, Bool, true, false, List, [], ◌∷◌, ℕ, ◌+◌, ◌*◌, ◌-◌, ◌<◌, ◌%◌, eqb, ltb, length, get_or, take, replicate, if◌then◌else◌}
-use Rattle.std.proofs.Math.Option.{Option, none, some}
+use Rattle.std.specs.Prelude.{Option, None, Some}
 use Rattle.definition.specs.Types.{TypeName, Multiple, Builtin, ModuleType, AbilityMark, Shape, UnitType, Ref, Param, Apply, Var, Anything, UnresolvedError, Places, Node, Cell, unbound}
 use Rattle.definition.specs.Types.{Constraint, AbilityConstraint, NumericConstraint, BitsConstraint, OrderedConstraint, BaseTypeConstraint, SingleTypeConstraint, Struct}
 use Rattle.table.specs.Tab.{tab}
@@ -38,23 +38,23 @@ flag false = 0
 
 -- 0, or 16 and the set
 unfoldable pub read_mark : ℕ → AbilityMark
-read_mark x = if ltb x 16 then none else some ((x - 16) % 256)
+read_mark x = if ltb x 16 then None else Some ((x - 16) % 256)
 
 unfoldable pub mark_word : AbilityMark → ℕ
-mark_word none = 0
-mark_word (some set) = 16 + set
+mark_word None = 0
+mark_word (Some set) = 16 + set
 
 -- a flag and a number
 unfoldable pub read_option : ℕ → ℕ → Option ℕ
-read_option is x = if eqb is 1 then some x else none
+read_option is x = if eqb is 1 then Some x else None
 
 unfoldable pub option_flag : Option ℕ → ℕ
-option_flag none = 0
-option_flag (some x) = 1
+option_flag None = 0
+option_flag (Some x) = 1
 
 unfoldable pub option_word : Option ℕ → ℕ
-option_word none = 0
-option_word (some x) = x
+option_word None = 0
+option_word (Some x) = x
 
 -- ---- nodes: tag, location, four fields. The tags are those of a record
 

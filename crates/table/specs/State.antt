@@ -1,7 +1,7 @@
 -- The state that the words hold, with so many rows of each table in use, and what holds of a function that reads or changes them.
 -- Assumes nothing: these are definitions.
 use Rattle.std.specs.Prelude.{◌≡◌, List, [], ◌∷◌, ◌++◌, ℕ, ◌+◌, ◌*◌, ◌≤◌, ◌<◌, ltb, length, get_or, set, take, if◌then◌else◌}
-use Rattle.std.proofs.Math.Option.{Option, none, some}
+use Rattle.std.specs.Prelude.{Option, None, Some}
 use Rattle.definition.specs.Types as d
 use Rattle.definition.specs.Types.{State, Struct, Places, Cell, Result, ok, err, refused, ◌>>=◌}
 use Rattle.definition.specs.Types.{full, too_deep, runs_into_itself, abilities_disagree, open_variable, no_argument, parameter_twice}
@@ -16,8 +16,6 @@ use Rattle.table.specs.declared.NodeWords.{NodeWords}
 use Rattle.table.specs.declared.CellWords.{CellWords}
 use Rattle.table.specs.declared.ConstraintWords.{ConstraintWords}
 use Rattle.table.specs.declared.StructWords.{StructWords}
-use Rattle.table.specs.declared.Found.{Found}
-use Rattle.table.specs.declared.Found.TheVariants.{Nothing, Just}
 use Rattle.table.specs.declared.Constraint.{Constraint}
 use Rattle.table.specs.declared.Constraint.TheVariants.{Ability, Numeric, Bits, Ordered, BaseType, SingleType}
 use Rattle.table.specs.declared.Out.{Out}
@@ -29,10 +27,6 @@ use Rattle.table.specs.declared.Refusal.TheVariants.{Full, TooDeep, RunsIntoItse
 use Rattle.table.specs.declared.Outcome.{Outcome}
 
 -- ---- answers as the definition has them
-
-abbrev pub found : Found → Option ℕ
-found Nothing = none
-found (Just x) = some x
 
 abbrev pub shape_of : Shape → d.Shape Places
 shape_of UnitS = d.UnitType
@@ -49,8 +43,8 @@ node_of n = record { loc = n.loc; value = shape_of n.shape }
 abbrev pub node_at : ℕ → Shape → d.Node
 node_at loc shape = record { loc = loc; value = shape_of shape }
 
-abbrev pub cell : Found → Found → Cell
-cell b m = record { binding = found b; numeric = found m }
+abbrev pub cell : Option ℕ → Option ℕ → Cell
+cell b m = record { binding = b; numeric = m }
 
 -- a shape without arguments
 abbrev pub value_of : Shape → d.TypeValue
@@ -96,10 +90,10 @@ unfoldable pub listed : Out → List ℕ → State → Result (State × List ℕ
 listed o l s = outcome o s >>= (λ x. ok (x.0, l))
 
 -- the number that an answer is, if it is one
-abbrev pub done : Out → Found
-done (Done t) = Just t
-done (Failed e) = Nothing
-done (Refused x) = Nothing
+abbrev pub done : Out → Option ℕ
+done (Done t) = Some t
+done (Failed e) = None
+done (Refused x) = None
 
 -- ---- the state
 
@@ -147,7 +141,7 @@ Below args t d.UnresolvedError = Unit {0}
 -- what of a sound state every function keeps
 pub record Inside (s : State) : Type 0 where
   pub parts : (t : ℕ) → t < count s → Below s.args t (node s t).value
-  pub bindings : (v t : ℕ) → get s v ≡ some t → t < count s
+  pub bindings : (v t : ℕ) → get s v ≡ Some t → t < count s
 
 -- there are as many words as the layout has, no more rows in use than each table has, and no word says more than the state.
 -- Of the first five words, the counts, nothing is said: they are written when a call ends
@@ -256,9 +250,9 @@ pub record Declares (w : List ℕ) (u : Used) (ds : List Struct) : Type 0 where
   pub params : (i : ℕ) → i < u.structs → length (get_or ds i struct_table.blank).params ≡ length (get_or (view w u).structs i struct_table.blank).params
 
 -- a struct is declared, if the answer is its number
-abbrev pub more : Found → List Struct → Struct → List Struct
-more Nothing ds x = ds
-more (Just n) ds x = ds ++ (x ∷ [])
+abbrev pub more : Option ℕ → List Struct → Struct → List Struct
+more None ds x = ds
+more (Some n) ds x = ds ++ (x ∷ [])
 
 -- the words hold one struct row more, if there is room; its bytes ps stand beside them
 pub record Declared (w : List ℕ) (u : Used) (w' : List ℕ) (r : Outcome) (abilities params : ℕ) : Type 0 where
@@ -282,9 +276,9 @@ Flat n Anything = Unit {0}
 Flat n UnresolvedError = Unit {0}
 
 -- a binding to a node below n
-abbrev pub FoundIn : ℕ → Found → Type 0
-FoundIn n Nothing = Unit {0}
-FoundIn n (Just t) = t < n
+abbrev pub FoundIn : ℕ → Option ℕ → Type 0
+FoundIn n None = Unit {0}
+FoundIn n (Some t) = t < n
 
 -- n parts, each below the number of nodes
 pub record Parts (nodes : ℕ) (parts : List ℕ) (n : ℕ) : Type 0 where
@@ -293,8 +287,8 @@ pub record Parts (nodes : ℕ) (parts : List ℕ) (n : ℕ) : Type 0 where
 
 -- if o is a number, the first `many` of parts are below n; else the nodes that it names are
 pub record ListedIn (n : ℕ) (o : Out) (parts : List ℕ) (many : ℕ) : Type 0 where
-  pub below : (t : ℕ) → done o ≡ Just t → Parts n parts many
-  pub inside : done o ≡ Nothing → NodesIn n o
+  pub below : (t : ℕ) → done o ≡ Some t → Parts n parts many
+  pub inside : done o ≡ None → NodesIn n o
 
 -- the answer is the first `many` of parts, nodes all, if o is a number; for the declarations in K
 pub record Lists (K : List Struct → Type 0) (w : List ℕ) (u : Used) (w' : List ℕ) (u' : Used) (o : Out) (parts : List ℕ) (many : ℕ) (f : State → Result (State × List ℕ)) : Type 0 where

@@ -9,13 +9,10 @@ ghost use Rattle.definition.specs.Subst.{or_insert, mark_one};
 ghost use Rattle.names.specs.Names.{mark_of, name_of};
 ghost use Rattle.table.specs.Rows.{flag, read_shape, read_mark, read_name, read_option, mark_word, name_word, name_tag, option_flag, read_constraint, node_table, var_table, constraint_table, struct_table, places, Written};
 ghost use Rattle.table.specs.Encode.{encode};
-ghost use Rattle.table.specs.State.{used_at, found, shape_of, node_of, node_at, cell, value_of, constraint_of, done, view, seen, Lay, Changed, After, Stored, Wrote, with_cell, Declares, Declared, Flat, FoundIn, Parts, VarIn, one_var, pushed_constraint};
+ghost use Rattle.table.specs.State.{used_at, shape_of, node_of, node_at, cell, value_of, constraint_of, done, view, seen, Lay, Changed, After, Stored, Wrote, with_cell, Declares, Declared, Flat, FoundIn, Parts, VarIn, one_var, pushed_constraint};
 ghost use Rattle.table.specs.State.{node_words_at, cell_words_at, constraint_words_at, struct_words_at};
 
-use names::{
-    AbilityMark, AbilitySet, MAX_ARGS, MAX_CONSTRAINTS, MAX_NODES, MAX_STRUCTS, MAX_VARS, TParamID,
-    TVar, TypeName,
-};
+use names::{AbilityMark, AbilitySet, MAX_ARGS, MAX_CONSTRAINTS, MAX_NODES, MAX_STRUCTS, MAX_VARS, TParamID, TVar, TypeName};
 
 // Where each table begins in the words, and how many words a row of it has. Contracts have the numbers themselves: a wrong one here is refused.
 pub const NODES_AT: usize = 5;
@@ -111,13 +108,6 @@ pub struct StructWords {
     pub params: u32,
 }
 
-// A binding, a mark's location, an answer's number: or none.
-#[derive(Clone, Copy)]
-pub enum Found {
-    Nothing,
-    Just(u32),
-}
-
 // How many rows of each table are in use.
 #[derive(Clone, Copy)]
 pub struct Used {
@@ -164,13 +154,13 @@ pub struct Outcome {
 }
 
 // The number that an answer is, if it is one.
-pub fn done_of(o: Out) -> Found
+pub fn done_of(o: Out) -> Option<u32>
     ensures { result ≡ done o }
 {
     match o {
-        Out::Done(t) => Found::Just(t),
-        Out::Failed(_) => Found::Nothing,
-        Out::Refused(_) => Found::Nothing,
+        Out::Done(t) => Some(t),
+        Out::Failed(_) => None,
+        Out::Refused(_) => None,
     }
 }
 
@@ -317,9 +307,9 @@ fn mark_at(x: u32) -> AbilityMark
     ensures { mark_of result ≡ read_mark x }
 {
     if x < 16 {
-        AbilityMark::Absent
+        None
     } else {
-        AbilityMark::Set(set_at(x - 16))
+        Some(set_at(x - 16))
     }
 }
 
@@ -327,18 +317,18 @@ fn mark_word(m: AbilityMark) -> u32
     ensures { (result ≡ mark_word (mark_of m)) × (read_mark result ≡ mark_of m) }
 {
     match m {
-        AbilityMark::Absent => 0,
-        AbilityMark::Set(a) => 16 + bits(a),
+        None => 0,
+        Some(a) => 16 + bits(a),
     }
 }
 
-fn option_at(is: u32, x: u32) -> Found
-    ensures { found result ≡ read_option is x }
+fn option_at(is: u32, x: u32) -> Option<u32>
+    ensures { result ≡ read_option is x }
 {
     if is == 1 {
-        Found::Just(x)
+        Some(x)
     } else {
-        Found::Nothing
+        None
     }
 }
 
@@ -538,9 +528,9 @@ pub fn push_apply(
 // ---- variables
 
 // Subst::get: what v is bound to.
-pub fn bound_at(w: &[u32], u: Used, v: TVar) -> Found
+pub fn bound_at(w: &[u32], u: Used, v: TVar) -> Option<u32>
     requires { Lay w.now u }
-    ensures { (ds : List d.Struct) → found result ≡ get (seen w.now u ds) v.0 }
+    ensures { (ds : List d.Struct) → result ≡ get (seen w.now u ds) v.0 }
 {
     let n = u.vars;
     let i = number(v);
@@ -548,14 +538,14 @@ pub fn bound_at(w: &[u32], u: Used, v: TVar) -> Found
         let r = cell_words_at(w, i);
         option_at(r.bound, r.binding)
     } else {
-        Found::Nothing
+        None
     }
 }
 
 // num_vars.get: the location of v's numeric mark.
-pub fn num_loc_at(w: &[u32], u: Used, v: TVar) -> Found
+pub fn num_loc_at(w: &[u32], u: Used, v: TVar) -> Option<u32>
     requires { Lay w.now u }
-    ensures { (ds : List d.Struct) → found result ≡ num_loc (seen w.now u ds) v.0 }
+    ensures { (ds : List d.Struct) → result ≡ num_loc (seen w.now u ds) v.0 }
 {
     let n = u.vars;
     let i = number(v);
@@ -563,7 +553,7 @@ pub fn num_loc_at(w: &[u32], u: Used, v: TVar) -> Found
         let r = cell_words_at(w, i);
         option_at(r.numeric, r.loc)
     } else {
-        Found::Nothing
+        None
     }
 }
 
@@ -616,27 +606,27 @@ pub fn take_var(w: &mut [u32], u: Used) -> Outcome
     one_var(u)
 }
 
-fn flag_found(f: Found) -> u32
-    ensures { result ≡ option_flag (found f) }
+fn flag_found(f: Option<u32>) -> u32
+    ensures { result ≡ option_flag f }
 {
     match f {
-        Found::Nothing => 0,
-        Found::Just(_) => 1,
+        None => 0,
+        Some(_) => 1,
     }
 }
 
 // The number, or x where there is none.
-fn unwrap_or(f: Found, x: u32) -> u32
-    ensures { result ≡ or_insert (found f) x }
+fn unwrap_or(f: Option<u32>, x: u32) -> u32
+    ensures { result ≡ or_insert f x }
 {
     match f {
-        Found::Nothing => x,
-        Found::Just(y) => y,
+        None => x,
+        Some(y) => y,
     }
 }
 
 // The row of a variable.
-fn cell_row(b: Found, m: Found) -> [u32; 8]
+fn cell_row(b: Option<u32>, m: Option<u32>) -> [u32; 8]
     ensures { Written var_table result (cell b m) }
 {
     let bf = flag_found(b);
@@ -647,9 +637,9 @@ fn cell_row(b: Found, m: Found) -> [u32; 8]
 }
 
 // Variable v has this binding and this mark.
-fn put_cell(w: &mut [u32], u: Used, v: TVar, b: Found, m: Found)
+fn put_cell(w: &mut [u32], u: Used, v: TVar, b: Option<u32>, m: Option<u32>)
     requires { Lay w.old u × FoundIn u.nodes b }
-    ensures { Stored w.old u w.new (with_cell v.0 (found b) (found m)) }
+    ensures { Stored w.old u w.new (with_cell v.0 b m) }
 {
     let n = u.vars;
     let i = number(v);
@@ -665,7 +655,7 @@ pub fn bind_var(w: &mut [u32], u: Used, v: TVar, t: u32)
     ensures { Stored w.old u w.new (λ s. insert s v.0 t) }
 {
     let m = num_loc_at(w, u, v);
-    put_cell(w, u, v, Found::Just(t), m);
+    put_cell(w, u, v, Some(t), m);
 }
 
 // num_vars.entry(v).or_insert(loc)
@@ -676,7 +666,7 @@ pub fn mark_one(w: &mut [u32], u: Used, v: TVar, loc: u32)
     let b = bound_at(w, u, v);
     let m = num_loc_at(w, u, v);
     let l = unwrap_or(m, loc);
-    put_cell(w, u, v, b, Found::Just(l));
+    put_cell(w, u, v, b, Some(l));
 }
 
 // ---- constraints

@@ -1,7 +1,7 @@
 -- Lent states at the edges: a join at the last nodes and at the greatest depth, argument places, chains. The limits of each table are in definition/proofs/AnswersLimits. Assumes nothing.
 use mathlib.Core.Path.{◌≡◌, refl}
 use mathlib.Core.List.{List, [], ◌∷◌}
-use mathlib.Core.Option.{none, some}
+use Rattle.std.specs.Prelude.{None, Some}
 use Prim.Native.Nat.{ℕ}
 use Rattle.definition.specs.Types.{Apply, Var, Multiple, Places, Anything, State}
 use Rattle.definition.proofs.Computed.{answered}
@@ -45,9 +45,9 @@ bound_to_anything = refl
 
 abbrev two_lists : Places → Places → List ℕ → State
 two_lists p q args = record {
-  nodes = unit_node ∷ record { loc = 1; value = Apply none (Multiple 1) p } ∷ record { loc = 2; value = Apply none (Multiple 1) q } ∷ [];
+  nodes = unit_node ∷ record { loc = 1; value = Apply None (Multiple 1) p } ∷ record { loc = 2; value = Apply None (Multiple 1) q } ∷ [];
   args = args;
-  vars = record { binding = some 1; numeric = none } ∷ record { binding = some 2; numeric = none } ∷ [];
+  vars = record { binding = Some 1; numeric = None } ∷ record { binding = Some 2; numeric = None } ∷ [];
   constraints = [];
   structs = [];
 }
@@ -83,7 +83,7 @@ two_of_one = refl
 chain_round : answered (record {
   nodes = record { loc = 0; value = Var 0 } ∷ record { loc = 0; value = Var 1 } ∷ [];
   args = [];
-  vars = record { binding = some 1; numeric = none } ∷ record { binding = some 0; numeric = none } ∷ [];
+  vars = record { binding = Some 1; numeric = None } ∷ record { binding = Some 0; numeric = None } ∷ [];
   constraints = [];
   structs = [];
 }) (UF (unit 1)) 4096 ≡ (15, [])

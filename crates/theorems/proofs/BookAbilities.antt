@@ -5,7 +5,7 @@ use mathlib.Core.Path.{◌≡◌, refl, sym, ap, ◌∙◌, subst}
 use mathlib.Core.Logic.{◌↔◌}
 use mathlib.Core.Bool.{Bool, true, false, not, ◌&&◌}
 use mathlib.Core.List.{List, [], ◌∷◌}
-use mathlib.Core.Option.{Option, none, some}
+use Rattle.std.specs.Prelude.{Option, None, Some}
 use Prim.Native.Nat.{ℕ, zero, suc, ◌+◌, ◌<◌}
 use native.Mathlib.Omega.{arith}
 use lib.ListN.{length, get_or}
@@ -95,18 +95,18 @@ not_both true b h = h refl
 not_both false b h = refl
 
 module _ (c f : ℕ → Bool) where
-  pub none_lack : (i : ℕ) (tys : List ℕ) → first_lacking c f i tys ≡ none → (j : ℕ) → j < length tys → c (i + j) ≡ true → f (get_or tys j 0) ≡ false
+  pub none_lack : (i : ℕ) (tys : List ℕ) → first_lacking c f i tys ≡ None → (j : ℕ) → j < length tys → c (i + j) ≡ true → f (get_or tys j 0) ≡ false
   unfolding first_lacking
   none_lack i [] e j l k = absurd (omega arith)
   none_lack i (t ∷ tys) e j l k = go (c i && f t) refl e j l k (λ e j l k. none_lack (suc i) tys e j l k)
     where
-      go : (b : Bool) → c i && f t ≡ b → ◌≡◌ {A = Option ℕ} (elim b [ true ↦ some i | false ↦ first_lacking c f (suc i) tys ]) none → (j : ℕ) → j < length (t ∷ tys) → c (i + j) ≡ true
-          → (first_lacking c f (suc i) tys ≡ none → (j : ℕ) → j < length tys → c (suc i + j) ≡ true → f (get_or tys j 0) ≡ false) → f (get_or (t ∷ tys) j 0) ≡ false
+      go : (b : Bool) → c i && f t ≡ b → ◌≡◌ {A = Option ℕ} (elim b [ true ↦ Some i | false ↦ first_lacking c f (suc i) tys ]) None → (j : ℕ) → j < length (t ∷ tys) → c (i + j) ≡ true
+          → (first_lacking c f (suc i) tys ≡ None → (j : ℕ) → j < length tys → c (suc i + j) ≡ true → f (get_or tys j 0) ≡ false) → f (get_or (t ∷ tys) j 0) ≡ false
       go true d e j l k h = never (cc)
       go false d e zero l k h = let z : i + 0 ≡ i = omega arith in unless (c i) (f t) d (rw z at k)
       go false d e (suc j) l k h = let z : i + suc j ≡ suc i + j = omega arith in h e j (omega arith) (rw z at k)
 
-  pub lack_none : (i : ℕ) (tys : List ℕ) → ((j : ℕ) → j < length tys → c (i + j) ≡ true → f (get_or tys j 0) ≡ false) → first_lacking c f i tys ≡ none
+  pub lack_none : (i : ℕ) (tys : List ℕ) → ((j : ℕ) → j < length tys → c (i + j) ≡ true → f (get_or tys j 0) ≡ false) → first_lacking c f i tys ≡ None
   unfolding first_lacking
   lack_none i [] h = refl
   lack_none i (t ∷ tys) h = let z : i + 0 ≡ i = omega arith in
@@ -119,7 +119,7 @@ module _ (c f : ℕ → Bool) where
     pub lacks_there : f (get_or tys j 0) ≡ true
     pub before : (k : ℕ) → k < j → c (i + k) ≡ true → f (get_or tys k 0) ≡ false
 
-  pub some_lack : (i : ℕ) (tys : List ℕ) (p : ℕ) → first_lacking c f i tys ≡ some p → (j : ℕ) × (p ≡ i + j) × FirstLack i tys j
+  pub some_lack : (i : ℕ) (tys : List ℕ) (p : ℕ) → first_lacking c f i tys ≡ Some p → (j : ℕ) × (p ≡ i + j) × FirstLack i tys j
   unfolding first_lacking
   some_lack i [] p e = never (cc)
   some_lack i (t ∷ tys) p e = go (c i && f t) refl e (λ d. some_lack (suc i) tys p d)
@@ -128,8 +128,8 @@ module _ (c f : ℕ → Bool) where
       earlier d j r zero l k = let z : i + 0 ≡ i = omega arith in unless (c i) (f t) d (rw z at k)
       earlier d j r (suc m) l k = let z : i + suc m ≡ suc i + m = omega arith in r.before m (omega arith) (rw z at k)
 
-      go : (b : Bool) → c i && f t ≡ b → ◌≡◌ {A = Option ℕ} (elim b [ true ↦ some i | false ↦ first_lacking c f (suc i) tys ]) (some p)
-          → (first_lacking c f (suc i) tys ≡ some p → (j : ℕ) × (p ≡ suc i + j) × FirstLack (suc i) tys j) → (j : ℕ) × (p ≡ i + j) × FirstLack i (t ∷ tys) j
+      go : (b : Bool) → c i && f t ≡ b → ◌≡◌ {A = Option ℕ} (elim b [ true ↦ Some i | false ↦ first_lacking c f (suc i) tys ]) (Some p)
+          → (first_lacking c f (suc i) tys ≡ Some p → (j : ℕ) × (p ≡ suc i + j) × FirstLack (suc i) tys j) → (j : ℕ) × (p ≡ i + j) × FirstLack i (t ∷ tys) j
       go true d e h =
           let q : i ≡ p = cc in
           let z : i + 0 ≡ i = omega arith in
@@ -207,29 +207,29 @@ module _ (s : State) where
   unfoldable pub ArgsHave : TypeName → List ℕ → Ability → Type 0
   ArgsHave n tys a = (i : ℕ) → i < length tys → ¬ Phantom s n i → Has s a (type_at s (get_or tys i 0))
 
-  is_none_of : (o : Option ℕ) → is_none o ≡ true → o ≡ none
+  is_none_of : (o : Option ℕ) → is_none o ≡ true → o ≡ None
   unfolding is_none
-  is_none_of none e = refl
-  is_none_of (some i) e = never (cc)
+  is_none_of None e = refl
+  is_none_of (Some i) e = never (cc)
 
-  pub none_lacking : (f : ℕ → ℕ) (n : TypeName) (tys : List ℕ) → All (Agrees f) tys → (a : Ability) → lacking f s n tys (bit a) ≡ none → ArgsHave n tys a
+  pub none_lacking : (f : ℕ → ℕ) (n : TypeName) (tys : List ℕ) → All (Agrees f) tys → (a : Ability) → lacking f s n tys (bit a) ≡ None → ArgsHave n tys a
   unfolding lacking ArgsHave
   none_lacking f n tys h a e i l p =
       let z : 0 + i ≡ i = omega arith in
       let w : ℕ → Bool = λ ty. not (has (f ty) (bit a)) in
       (all_get (Agrees f) tys h i l a).0 (not_false _ (none_lack (counts s n) w 0 tys e i l (rw z (counted n i p))))
 
-  pub lacking_none : (f : ℕ → ℕ) (n : TypeName) (tys : List ℕ) → All (Agrees f) tys → (a : Ability) → ArgsHave n tys a → lacking f s n tys (bit a) ≡ none
+  pub lacking_none : (f : ℕ → ℕ) (n : TypeName) (tys : List ℕ) → All (Agrees f) tys → (a : Ability) → ArgsHave n tys a → lacking f s n tys (bit a) ≡ None
   unfolding lacking ArgsHave
   lacking_none f n tys h a g =
       let w : ℕ → Bool = λ ty. not (has (f ty) (bit a)) in
       lack_none (counts s n) w 0 tys (λ i l k. let z : 0 + i ≡ i = omega arith in ap not ((all_get (Agrees f) tys h i l a).1 (g i l (not_phantom {n = n} {i = i} (rw z at k)))))
 
-  pub named_is : (f : ℕ → ℕ) (n : TypeName) (tys : List ℕ) (a : Ability) → has (infer_value f s (Apply none n tys)) (bit a) ≡ has (declared_abilities s n) (bit a) && is_none (lacking f s n tys (bit (needed a)))
+  pub named_is : (f : ℕ → ℕ) (n : TypeName) (tys : List ℕ) (a : Ability) → has (infer_value f s (Apply None n tys)) (bit a) ≡ has (declared_abilities s n) (bit a) && is_none (lacking f s n tys (bit (needed a)))
   unfolding infer_value granted
   named_is f n tys a = rw (← (requires_bit a)) (those_has (granted f s n tys) a)
 
-  found : (f : ℕ → ℕ) (x : TypeValue) → as_var x ≡ none → All (Agrees f) (parts x) → (a : Ability) → InSet a (infer_value f s x) → Has s a x
+  found : (f : ℕ → ℕ) (x : TypeValue) → as_var x ≡ None → All (Agrees f) (parts x) → (a : Ability) → InSet a (infer_value f s x) → Has s a x
   unfolding infer_value parts collection references has as_var ArgsHave
   found f UnitType p h a e = unit_has (of_7 a e)
   found f (Ref m t) p h copy e = reference_copy
@@ -240,14 +240,14 @@ module _ (s : State) where
   found f UnresolvedError p h a e = error_has
   found f Anything p h a e = any_has
   found f (Param id set) p h a e = parameter_has e
-  found f (Apply (some set) n tys) p h a e = marked_has e
-  found f (Apply none n tys) p h a e =
+  found f (Apply (Some set) n tys) p h a e = marked_has e
+  found f (Apply None n tys) p h a e =
       let g = sym (named_is f n tys a) ∙ e in
       let b = has (declared_abilities s n) (bit a) in
       let c = is_none (lacking f s n tys (bit (needed a))) in
       named_has (declared_is n a (and_l b c g)) (none_lacking f n tys h (needed a) (is_none_of _ (and_r b c g)))
 
-  had : (f : ℕ → ℕ) {a : Ability} (x : TypeValue) → as_var x ≡ none → All (Agrees f) (parts x) → Has s a x → InSet a (infer_value f s x)
+  had : (f : ℕ → ℕ) {a : Ability} (x : TypeValue) → as_var x ≡ None → All (Agrees f) (parts x) → Has s a x → InSet a (infer_value f s x)
   unfolding infer_value parts collection references has as_var is_none ArgsHave
   had f UnitType p h (unit_has c) = in_7 c
   had f (Ref m t) p h reference_copy = refl
@@ -256,8 +256,8 @@ module _ (s : State) where
   had f {a} UnresolvedError p h d = all_has a
   had f {a} Anything p h d = all_has a
   had f (Param id set) p h (parameter_has e) = e
-  had f (Apply (some set) n tys) p h (marked_has e) = e
-  had f {a} (Apply none n tys) p h (named_has m d) = named_is f n tys a ∙ and (is_declared m) (ap is_none (lacking_none f n tys h (needed a) d))
+  had f (Apply (Some set) n tys) p h (marked_has e) = e
+  had f {a} (Apply None n tys) p h (named_has m d) = named_is f n tys a ∙ and (is_declared m) (ap is_none (lacking_none f n tys h (needed a) d))
 
 -- ---- a type and what it unfolds to
 
@@ -277,12 +277,12 @@ module _ (S : State) where
   up {a} {v} (here n) loc h = go (get S v) refl h
     where
       go : (o : Option ℕ) → get S v ≡ o → Has S a (unfold_var S loc o).value → Has S a (Var v)
-      go none g h = open_has g
-      go (some t) g h = bound_has g h
+      go None g h = open_has g
+      go (Some t) g h = bound_has g h
   up {a} (hop {v = v} {w = w} n d) loc h = let b = next_bound S v w n in bound_has b.1 (subst (Has S a) (sym b.2) (up d loc h))
 
   pub record Unfolds (t : ℕ) (x : TypeValue) : Type 0 where
-    pub plain : as_var x ≡ none
+    pub plain : as_var x ≡ None
     pub inside : All (λ p. p < count S) (parts x)
     pub to_has : (a : Ability) → Has S a (type_at S t) → Has S a x
     pub from_has : (a : Ability) → Has S a x → Has S a (type_at S t)
@@ -292,14 +292,14 @@ module _ {ar : TypeName → ℕ} {S : State} (s : Sound ar S) where
   unfolding unfold_type spanned unfold_var as_var parts next_of next_in
   unfolds t i = go (kind (type_at S t))
     where
-      plain_one : as_var (type_at S t) ≡ none → Unfolds S t (unfold_type S (spanned S t)).value
+      plain_one : as_var (type_at S t) ≡ None → Unfolds S t (unfold_type S (spanned S t)).value
       plain_one e = rw (e, unfold_type) (record { plain = e; inside = (type_is_in s i).parts_in; to_has = λ a h. h; from_has = λ a h. h })
 
       end : (v : ℕ) → type_at S t ≡ Var v → (o : Option ℕ) → get S (forward_tvar S v) ≡ o → Unfolds S t (unfold_var S (loc_of S t) o).value
-      end v e none g = record { plain = refl; inside = tt; to_has = λ a h. any_has; from_has = λ a h. subst (Has S a) (sym e) (up S (chain s v (s.var_in t v i e)) 0 (rw g any_has)) }
-      end v e (some T) g =
+      end v e None g = record { plain = refl; inside = tt; to_has = λ a h. any_has; from_has = λ a h. subst (Has S a) (sym e) (up S (chain s v (s.var_in t v i e)) 0 (rw g any_has)) }
+      end v e (Some T) g =
           let c = chain s v (s.var_in t v i e) in
-          let n : next_in S (some T) ≡ none = rw g at (s.chains v (s.var_in t v i e)) in
+          let n : next_in S (Some T) ≡ None = rw g at (s.chains v (s.var_in t v i e)) in
           record {
             plain = n;
             inside = (type_is_in s (s.bind_in _ T g)).parts_in;

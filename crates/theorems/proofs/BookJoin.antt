@@ -3,7 +3,7 @@
 use mathlib.Core.Path.{◌≡◌, refl, sym, ap, ◌∙◌, subst}
 use mathlib.Core.Bool.{Bool, true, false, not, ◌&&◌}
 use mathlib.Core.List.{List, [], ◌∷◌}
-use mathlib.Core.Option.{Option, none, some}
+use Rattle.std.specs.Prelude.{Option, None, Some}
 use Prim.Native.Nat.{ℕ, zero, suc, ◌≤◌, ◌<◌}
 use native.Mathlib.Omega.{arith}
 use lib.ListN.{length, get_or-eq_default}
@@ -146,8 +146,8 @@ module _ {ar : TypeName → ℕ} (join : JoinImpl) (g : Judges ar join) (c : Typ
     refs_to : (m1 : Bool) (t1 : ℕ) (m2 : Bool) (t2 : ℕ) (L R : MoveType) → Denotes S t1 L → Denotes S t2 R → (o : Option Bool) → join_mut c m1 m2 ≡ o
         → Judged ar c S (reference m1 L) (reference m2 R) (join_refs join S c l r m1 t1 m2 t2 o)
     unfolding join_refs
-    refs_to m1 t1 m2 t2 L R d1 d2 none e = fails (apart_mut (λ m. mut_none c m1 m2 m e)) no_subtype
-    refs_to m1 t1 m2 t2 L R d1 d2 (some m) e =
+    refs_to m1 t1 m2 t2 L R d1 d2 None e = fails (apart_mut (λ m. mut_none c m1 m2 m e)) no_subtype
+    refs_to m1 t1 m2 t2 L R d1 d2 (Some m) e =
         let b = mut_best c m1 m2 m e in
         bind_to _ (g c S t1 t2 L R s d1 d2) apart_inner (λ S1 t j.
         map_to (λ S2 n p. record {

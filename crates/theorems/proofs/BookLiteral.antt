@@ -4,7 +4,7 @@ use mathlib.Core.Path.{◌≡◌, refl, sym, ap, ◌∙◌}
 use mathlib.Core.Logic.{◌⊎◌, inl, inr}
 use mathlib.Core.Bool.{Bool, true, false}
 use mathlib.Core.List.{List, [], ◌∷◌}
-use mathlib.Core.Option.{Option, none, some}
+use Rattle.std.specs.Prelude.{Option, None, Some}
 use Prim.Native.Nat.{ℕ, zero, suc, ◌+◌, ◌*◌, ◌≤◌, ◌<◌}
 use native.Mathlib.Decide.{ℕ_discrete}
 use native.Mathlib.Omega.{arith}
@@ -61,7 +61,7 @@ fits_leaf (f_node h ts) u = head_leaf h ts u
 
 -- the variable v is the type
 Is : State → ℕ → TypeValue → Type 0
-Is S v type = (t : ℕ) × (get S (forward_tvar S v) ≡ some t) × (type_at S t ≡ type)
+Is S v type = (t : ℕ) × (get S (forward_tvar S v) ≡ Some t) × (type_at S t ≡ type)
 
 IsU64 : State → ℕ → Type 0
 IsU64 S v = Is S v u64
@@ -127,9 +127,9 @@ decided {ar} {S} s d v loc h = go (undecided _) refl
 
 -- nothing has decided v, or it is u64
 abbrev Literal : State → ℕ → Type 0
-Literal S v = (get S (forward_tvar S v) ≡ none) ⊎ IsU64 S v
+Literal S v = (get S (forward_tvar S v) ≡ None) ⊎ IsU64 S v
 
-open_undecided : (S : State) (v loc : ℕ) → get S (forward_tvar S v) ≡ none → undecided (unfold_type S (record { loc = loc; value = Var v })).value ≡ true
+open_undecided : (S : State) (v loc : ℕ) → get S (forward_tvar S v) ≡ None → undecided (unfold_type S (record { loc = loc; value = Var v })).value ≡ true
 unfolding unfold_type unfold_var as_var undecided
 open_undecided S v loc e = rw e refl
 
@@ -159,7 +159,7 @@ module _ {ar : TypeName → ℕ} {S : State} (s : Sound ar S) (w loc v : ℕ) (w
           record { grown = g; went = d.went; still = inr r; its_turn = λ i. r }
       go (no n) =
           let e = forward_tvar S v in
-          let free' : get S' e ≡ none = o.only e (ends_in s v_in (chain s v v_in)) n ∙ free in
+          let free' : get S' e ≡ None = o.only e (ends_in s v_in (chain s v v_in)) n ∙ free in
           let same : forward_tvar S' v ≡ e = ends_det (chain s' v (omega (arith, x.more_vars))) (ends_keep x (chain s v v_in) (here (next_none S' e free'))) in
           record { grown = g; went = d.went; still = inl (ap (get S') same ∙ free'); its_turn = λ i. absurd (n (ap (forward_tvar S) (sym i))) }
 
@@ -177,19 +177,19 @@ abbrev Listed : ℕ → List (ℕ × ℕ) → Type 0
 Listed v [] = ⊥
 Listed v (p ∷ ps) = (p.0 ≡ v) ⊎ Listed v ps
 
-marked_listed : (cells : List Cell) (k i loc : ℕ) → (get_or cells i unbound).numeric ≡ some loc → Listed (k + i) (num_vars k cells)
+marked_listed : (cells : List Cell) (k i loc : ℕ) → (get_or cells i unbound).numeric ≡ Some loc → Listed (k + i) (num_vars k cells)
 unfolding num_vars
 marked_listed [] k i loc e = never (cc)
 marked_listed (c ∷ cells) k zero loc e = go c.numeric e
   where
-    go : (o : Option ℕ) → o ≡ some loc → Listed (k + 0) (elim o [ none ↦ num_vars (suc k) cells | some loc ↦ (k, loc) ∷ num_vars (suc k) cells ])
-    go none e = never (cc)
-    go (some l) e = inl (omega arith)
+    go : (o : Option ℕ) → o ≡ Some loc → Listed (k + 0) (elim o [ None ↦ num_vars (suc k) cells | Some loc ↦ (k, loc) ∷ num_vars (suc k) cells ])
+    go None e = never (cc)
+    go (Some l) e = inl (omega arith)
 marked_listed (c ∷ cells) k (suc i) loc e = let z : k + suc i ≡ suc k + i = omega arith in rw z (go c.numeric (marked_listed cells (suc k) i loc e))
   where
-    go : (o : Option ℕ) → Listed (suc k + i) (num_vars (suc k) cells) → Listed (suc k + i) (elim o [ none ↦ num_vars (suc k) cells | some loc ↦ (k, loc) ∷ num_vars (suc k) cells ])
-    go none m = m
-    go (some l) m = inr m
+    go : (o : Option ℕ) → Listed (suc k + i) (num_vars (suc k) cells) → Listed (suc k + i) (elim o [ None ↦ num_vars (suc k) cells | Some loc ↦ (k, loc) ∷ num_vars (suc k) cells ])
+    go None m = m
+    go (Some l) m = inr m
 
 record Solved (ar : TypeName → ℕ) (S : State) (v : ℕ) (S' : State) : Type 0 where
   sound_after : Sound ar S'
@@ -216,16 +216,16 @@ unfolding unfold_type unfold_var as_var spanned Is
 unfolds_leaf s k n v loc h u = let s' = sound_cleared s in let r = leaf_on s s' (quiet_⊑ s s' (quiet_list s _)) k n v h u in rw r.1 r.2
 
 -- a variable that is looked up with success is taken
-get_in : (S : State) (v t : ℕ) → get S v ≡ some t → v < taken S
+get_in : (S : State) (v t : ℕ) → get S v ≡ Some t → v < taken S
 get_in S v t e = elim (native.Mathlib.Decide.dec_lt v (taken S)) [ yes l ↦ l | no l ↦ never (let g = get_beyond S v (omega arith) in cc) ]
 
 -- one without binding leads to itself
-forward_stays : (S : State) (v n : ℕ) → get S v ≡ none → forward n S v ≡ v
+forward_stays : (S : State) (v n : ℕ) → get S v ≡ None → forward n S v ≡ v
 unfolding forward
 forward_stays S v zero e = refl
 forward_stays S v (suc n) e = rw (next_none S v e, forward) refl
 
-end_in : (S : State) (v t : ℕ) → get S (forward_tvar S v) ≡ some t → v < taken S
+end_in : (S : State) (v t : ℕ) → get S (forward_tvar S v) ≡ Some t → v < taken S
 unfolding forward_tvar
 end_in S v t e = elim (native.Mathlib.Decide.dec_lt v (taken S)) [ yes l ↦ l | no l ↦ get_in S v t (rw (forward_stays S v (taken S) (get_beyond S v (omega arith))) at e) ]
 
@@ -277,12 +277,12 @@ module _ (S : State) (h : sound S ≡ true) where
       go (err s x) p t = elim p [ ]
       go (refused x) p (takes_full f) = sv_full
 
-  pub literal : (v loc : ℕ) → num_loc S v ≡ some loc → get S (forward_tvar S v) ≡ none → LiteralRule v (Apply (some 7) (Builtin 3) []) (solve_constraints S)
+  pub literal : (v loc : ℕ) → num_loc S v ≡ Some loc → get S (forward_tvar S v) ≡ None → LiteralRule v (Apply (Some 7) (Builtin 3) []) (solve_constraints S)
   unfolding num_loc IsU64 u64
-  literal v loc e free = literal_by (some 7) (Builtin 3) v v_in (sure_map (λ S' p. (p.sound_after, p.more, p.is)) (solved (num_vars 0 S.vars) s (λ n. refl) below v v_in (inl free) (inr listed)))
+  literal v loc e free = literal_by (Some 7) (Builtin 3) v v_in (sure_map (λ S' p. (p.sound_after, p.more, p.is)) (solved (num_vars 0 S.vars) s (λ n. refl) below v v_in (inl free) (inr listed)))
     where
       v_in : v < taken S
-      v_in = elim (native.Mathlib.Decide.dec_lt v (taken S)) [ yes l ↦ l | no l ↦ never (let d : (get_or S.vars v unbound).numeric ≡ none = ap (λ (c : Cell). c.numeric) (get_or-eq_default S.vars unbound (omega arith)) in cc) ]
+      v_in = elim (native.Mathlib.Decide.dec_lt v (taken S)) [ yes l ↦ l | no l ↦ never (let d : (get_or S.vars v unbound).numeric ≡ None = ap (λ (c : Cell). c.numeric) (get_or-eq_default S.vars unbound (omega arith)) in cc) ]
 
       listed : Listed v (num_vars 0 S.vars)
       listed = let z : 0 + v ≡ v = omega arith in rw z at (marked_listed S.vars 0 v loc e)
@@ -293,7 +293,7 @@ module _ (S : State) (h : sound S ≡ true) where
   went_sure no_ok (ps_ok g w) = sure_ok w
   went_sure no_refused ps_refused = sure_refused
 
-  integer_stays : (v T : ℕ) (t : TypeValue) → get S (forward_tvar S v) ≡ some T → type_at S T ≡ t → is_integer t ≡ true → LiteralRule v t (solve_constraints S)
+  integer_stays : (v T : ℕ) (t : TypeValue) → get S (forward_tvar S v) ≡ Some T → type_at S T ≡ t → is_integer t ≡ true → LiteralRule v t (solve_constraints S)
   unfolding is_integer Is
   integer_stays v T UnitType g e i = never (cc)
   integer_stays v T (Ref m t) g e i = never (cc)
@@ -312,5 +312,5 @@ module _ (S : State) (h : sound S ≡ true) where
   decided_literal v loc t e i = go (get S (forward_tvar S v)) refl e
     where
       go : (o : Option ℕ) → get S (forward_tvar S v) ≡ o → (unfold_var S loc o).value ≡ t → LiteralRule v t (solve_constraints S)
-      go none g d = never (let z : false ≡ true = rw (← d) at i in cc)
-      go (some T) g d = integer_stays v T t g d i
+      go None g d = never (let z : false ≡ true = rw (← d) at i in cc)
+      go (Some T) g d = integer_stays v T t g d i

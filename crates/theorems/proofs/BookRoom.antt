@@ -3,7 +3,7 @@
 use mathlib.Core.Path.{◌≡◌, refl, sym, ap, ◌∙◌}
 use mathlib.Core.Bool.{Bool, true, false, not, ◌&&◌}
 use mathlib.Core.List.{List, [], ◌∷◌}
-use mathlib.Core.Option.{Option, none, some}
+use Rattle.std.specs.Prelude.{Option, None, Some}
 use Prim.Native.Nat.{ℕ, zero, suc, ◌+◌, ◌≤◌, ◌<◌}
 use native.Mathlib.Omega.{arith}
 use lib.ListN.{length, length-append}
@@ -95,8 +95,8 @@ module _ {ar : TypeName → ℕ} (counts : Counts ar) {d : ℕ} (h : Rooms ar d)
   refs_room : (S : State) (l r : ℕ) (m1 : Bool) (t1 : ℕ) (m2 : Bool) (t2 : ℕ) (L R : MoveType) → Sound ar S → Denotes S t1 L → Denotes S t2 R → JoinRoom S (suc d) (reference m1 L) → (o : Option Bool)
       → FineWith (Cost S (suc (size L))) (join_refs J S c l r m1 t1 m2 t2 o)
   unfolding join_refs args_of
-  refs_room S l r m1 t1 m2 t2 L R s e e' o none = f_err
-  refs_room S l r m1 t1 m2 t2 L R s e e' o (some m) =
+  refs_room S l r m1 t1 m2 t2 L R s e e' o None = f_err
+  refs_room S l r m1 t1 m2 t2 L R s e e' o (Some m) =
       f_bind _ (g c S t1 t2 L R s e e') (h c S t1 t2 L R s e e' (record { nodes_left = omega (arith, o.nodes_left); places_left = omega (arith, o.places_left); levels = below o.levels })) (λ S1 t j k.
       f_map (λ S2 u w. record { nodes = omega (arith, k.nodes, w.one_node); places = omega (arith, k.places, w.its_places) }) (sp_fine S1 _ (Ref m t) (omega (arith, k.nodes, o.nodes_left)) (omega (arith, k.places, o.places_left))))
     where

@@ -2,7 +2,7 @@
 -- By derivations of the two relations: the Book's is part of the deep one, and from a type of the Book's no less. Then what serves two types, and the least that does (`Best`).
 use mathlib.Core.Path.{◌≡◌, refl, ap, subst}
 use mathlib.Core.Bool.{Bool, true, false}
-use mathlib.Core.Option.{none, some}
+use Rattle.std.specs.Prelude.{None, Some}
 use Prim.Native.Nat.{ℕ, suc}
 use Rattle.definition.specs.Types.{TypeName}
 use Rattle.definition.specs.Join.{TypingCase, Join, Subtype, join_mut}
@@ -190,7 +190,7 @@ mut_up {m' = true} e = rw e as_itself
 mut_up {m' = false} e = rw e as_imm
 
 -- what join_impl takes for the mutability serves, and is the least that does
-pub mut_best : (c : TypingCase) (m1 m2 m : Bool) → join_mut c m1 m2 ≡ some m → ServesMut c m1 m2 m × ((m' : Bool) → ServesMut c m1 m2 m' → MutAs m m')
+pub mut_best : (c : TypingCase) (m1 m2 m : Bool) → join_mut c m1 m2 ≡ Some m → ServesMut c m1 m2 m × ((m' : Bool) → ServesMut c m1 m2 m' → MutAs m m')
 unfolding join_mut
 mut_best Join true m2 m e = let d : m2 ≡ m = cc in rw d (mut_join (mut_up refl) as_itself, λ m' s. (mut_above s).1)
 mut_best Join false m2 m e =
@@ -198,17 +198,17 @@ mut_best Join false m2 m e =
     rw d (mut_join as_itself (mut_imm m2), λ m' s. rw (mut_imm_up (mut_above s).0 refl) as_itself)
 mut_best Subtype true m2 m e = (go m2 m e, λ m' s. go' m2 m m' e s)
   where
-    go : (m2 m : Bool) → join_mut Subtype true m2 ≡ some m → ServesMut Subtype true m2 m
+    go : (m2 m : Bool) → join_mut Subtype true m2 ≡ Some m → ServesMut Subtype true m2 m
     go true m e = let d : m ≡ true = cc in rw d (mut_subtype as_itself)
     go false m e = let d : m ≡ false = cc in rw d (mut_subtype as_imm)
 
-    go' : (m2 m m' : Bool) → join_mut Subtype true m2 ≡ some m → ServesMut Subtype true m2 m' → MutAs m m'
+    go' : (m2 m m' : Bool) → join_mut Subtype true m2 ≡ Some m → ServesMut Subtype true m2 m' → MutAs m m'
     go' true m m' e s = let d : m ≡ true = cc in mut_up d
     go' false m m' e s = let d : m ≡ false = cc in let q = mut_is s refl in rw (d, q.1) as_itself
 mut_best Subtype false false m e = let d : m ≡ false = cc in rw d (mut_subtype as_itself, λ m' s. rw (mut_is s refl).1 as_itself)
 mut_best Subtype false true m e = never (cc)
 
-pub mut_none : (c : TypingCase) (m1 m2 m : Bool) → join_mut c m1 m2 ≡ none → ServesMut c m1 m2 m → ⊥
+pub mut_none : (c : TypingCase) (m1 m2 m : Bool) → join_mut c m1 m2 ≡ None → ServesMut c m1 m2 m → ⊥
 unfolding join_mut
 mut_none Join m1 m2 m e s = never (cc)
 mut_none Subtype true true m e s = never (cc)

@@ -2,7 +2,7 @@
 -- For each call a record says what a success leaves (`NewNode`, `NewVar`, `EndType` ..); `-post` shows it, from those below.
 use mathlib.Core.Path.{◌≡◌, refl, ◌∙◌}
 use mathlib.Core.Bool.{Bool, true, false}
-use mathlib.Core.Option.{Option, none, some}
+use Rattle.std.specs.Prelude.{Option, None, Some}
 use Prim.Native.Nat.{ℕ, suc, ◌<◌}
 use native.Mathlib.Omega.{arith}
 use Rattle.definition.specs.Types.{TypeName, TypeValue, UnitType, Ref, Param, Apply, Var, Anything, UnresolvedError}
@@ -49,7 +49,7 @@ pub record NewVar (ar : TypeName → ℕ) (S S' : State) (f : ℕ) : Type 0 wher
   pub quiet : Quiet S S'
   pub is : f ≡ taken S
   pub f_in : f < taken S'
-  pub free : get S' f ≡ none
+  pub free : get S' f ≡ None
   pub same_get : (v : ℕ) → get S' v ≡ get S v
 
 pub next_tvar_post : {ar : TypeName → ℕ} {S : State} → Sound ar S → Post ar S (NewVar ar S) (next_tvar S)
@@ -63,8 +63,8 @@ pub record EndType (ar : TypeName → ℕ) (S : State) (e : ℕ) (S' : State) (T
   pub quiet : Quiet S S'
   pub same_vars : taken S' ≡ taken S
   pub T_in : T < count S'
-  pub plain : as_var (type_at S' T) ≡ none
-  pub is : (t : ℕ) → get S e ≡ some t → t ≡ T
+  pub plain : as_var (type_at S' T) ≡ None
+  pub is : (t : ℕ) → get S e ≡ Some t → t ≡ T
 
 any_ok : {ar : TypeName → ℕ} {S : State} → NodeOk ar S Anything
 unfolding parts
@@ -74,12 +74,12 @@ pub var_ok : {ar : TypeName → ℕ} {S : State} (f : ℕ) → f < taken S → N
 unfolding parts
 var_ok f h = record { ok_parts = tt; ok_var = λ v e. let d : f ≡ v = cc in omega arith; ok_arity = λ k n ps e. never (cc) }
 
-pub type_of_post : {ar : TypeName → ℕ} {S : State} → Sound ar S → (l e : ℕ) → next_of S e ≡ none → Post ar S (EndType ar S e) (type_of S l e)
+pub type_of_post : {ar : TypeName → ℕ} {S : State} → Sound ar S → (l e : ℕ) → next_of S e ≡ None → Post ar S (EndType ar S e) (type_of S l e)
 unfolding type_of as_var
 type_of_post {ar} {S} s l e n = go (get S e) refl
   where
     go : (o : Option ℕ) → get S e ≡ o → Post ar S (EndType ar S e) (type_of S l e)
-    go none g = rw (g, type_of) (post_map (λ S' T w p. record {
+    go None g = rw (g, type_of) (post_map (λ S' T w p. record {
       sound = p.sound;
       quiet = p.quiet;
       same_vars = p.same_vars;
@@ -87,7 +87,7 @@ type_of_post {ar} {S} s l e n = go (get S e) refl
       plain = rw p.is refl;
       is = λ t h. never (cc);
     }) (sp_post s l Anything any_ok))
-    go (some t) g = rw (g, type_of) (p_ok (grown_refl S) (record {
+    go (Some t) g = rw (g, type_of) (p_ok (grown_refl S) (record {
       sound = s;
       quiet = quiet_refl S;
       same_vars = refl;
@@ -118,9 +118,9 @@ any_false e a = never (let b : true ≡ false = rw e at a in cc)
 pub record Bound (ar : TypeName → ℕ) (S : State) (v ty : ℕ) (S' : State) (b : Bool) : Type 0 where
   pub sound : Sound ar S'
   pub quiet : Quiet S S'
-  pub bound : b ≡ true → solid (type_at S ty) ≡ true → get S' v ≡ some ty
+  pub bound : b ≡ true → solid (type_at S ty) ≡ true → get S' v ≡ Some ty
 
-pub join_bind_tvar_post : {ar : TypeName → ℕ} {S : State} → Sound ar S → (l v ty : ℕ) → get S v ≡ none → v < taken S → ty < count S → as_var (type_at S ty) ≡ none
+pub join_bind_tvar_post : {ar : TypeName → ℕ} {S : State} → Sound ar S → (l v ty : ℕ) → get S v ≡ None → v < taken S → ty < count S → as_var (type_at S ty) ≡ None
     → Post ar S (Bound ar S v ty) (join_bind_tvar S l v ty)
 unfolding join_bind_tvar
 join_bind_tvar_post {ar} {S} s l v ty free v_in ty_in n =
@@ -148,7 +148,7 @@ pub record Joined (ar : TypeName → ℕ) (S : State) (l r : ℕ) (S' : State) (
   pub t_in : t < count S'
   pub left : Tracks S' l t
   pub right : Tracks S' r t
-  pub plain : as_var (type_at S l) ≡ none → as_var (type_at S r) ≡ none → as_var (type_at S' t) ≡ none
+  pub plain : as_var (type_at S l) ≡ None → as_var (type_at S r) ≡ None → as_var (type_at S' t) ≡ None
 
 abbrev pub Good : (TypeName → ℕ) → JoinImpl → Type 0
 Good ar join = (S : State) (c : TypingCase) (l r : ℕ) → Sound ar S → l < count S → r < count S → Post ar S (Joined ar S l r) (join S c l r)
@@ -200,8 +200,8 @@ join_tvar_post {ar} {S} join g s c loc1 id1 loc2 id2 h1 h2 =
       is1 = q.quiet.q_kept n1 p.t_in ∙ p.is;
       is2 = q.is;
     } in
-    let plain1 : as_var (type_at (tied y) T1) ≡ none = rw (val y T1, qae.q_kept T1 a.T_in) a.plain in
-    let plain2 : as_var (type_at (tied y) T2) ≡ none = rw (val y T2, qbe.q_kept T2 b.T_in) b.plain in
+    let plain1 : as_var (type_at (tied y) T1) ≡ None = rw (val y T1, qae.q_kept T1 a.T_in) a.plain in
+    let plain2 : as_var (type_at (tied y) T2) ≡ None = rw (val y T2, qbe.q_kept T2 b.T_in) b.plain in
     let gt : Grown Se (tied y) = record { g_nodes = omega (arith, cnt y); g_kept = λ i h. val y i; g_vars = omega (arith, tkn y); g_structs = structs_insert (insert Se e1 n1) e2 n2 ∙ structs_insert Se e1 n1 } in
     bind_post _ (post_from gt (g (tied y) c T1 T2 (sound_tied y) (omega (arith, cnt y, a.T_in, qae.q_nodes)) (omega (arith, cnt y, b.T_in, qbe.q_nodes)))) (λ S2 N g2 j.
     opt_post (get S2 f)

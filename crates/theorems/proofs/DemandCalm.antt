@@ -4,7 +4,7 @@ use mathlib.Core.Path.{◌≡◌, refl, sym, ap, ◌∙◌, subst}
 use mathlib.Core.Logic.{◌⊎◌, inl, inr}
 use mathlib.Core.List.Memᴰ
 use mathlib.Core.List.{[], Memᴰ}
-use mathlib.Core.Option.{none, some}
+use Rattle.std.specs.Prelude.{None, Some}
 use Prim.Native.Nat.{ℕ, ◌<◌}
 use native.Mathlib.Decide.{ℕ_discrete}
 use native.Mathlib.Omega.{arith}
@@ -29,22 +29,22 @@ calm_trans a b = record { none_still = λ n. b.none_still (a.none_still n) }
 
 -- reading the shape meets no bound variable
 abbrev pub Dead : State → TypeValue → Type 0
-Dead S L = (v t : ℕ) → get S v ≡ some t → ¬ Meets S v L
+Dead S L = (v t : ℕ) → get S v ≡ Some t → ¬ Meets S v L
 
-pub dead_leaf : (S : State) (L : TypeValue) → as_var L ≡ none → parts L ≡ [] → Dead S L
+pub dead_leaf : (S : State) (L : TypeValue) → as_var L ≡ None → parts L ≡ [] → Dead S L
 dead_leaf S L e n v t g (meets_it) = nonvar_var {v = v} e refl
 dead_leaf S L e n v t g (meets_bound {w = w} g' m) = nonvar_var {v = w} e refl
 dead_leaf S L e n v t g (meets_part {p = p} i m) = let j : Memᴰ p [] = rw n at i in Memᴰ.not-nil j
 
-pub dead_open : (S : State) (w : ℕ) → get S w ≡ none → Dead S (Var w)
+pub dead_open : (S : State) (w : ℕ) → get S w ≡ None → Dead S (Var w)
 unfolding parts
 dead_open S w e v t g meets_it = never (cc)
 dead_open S w e v t g (meets_bound g' m) = never (cc)
 dead_open S w e v t g (meets_part i m) = Memᴰ.not-nil i
 
 module _ {ar : TypeName → ℕ} {S S' : State} (s : Sound ar S) (kept : (i : ℕ) → i < count S → type_at S' i ≡ type_at S i)
-    (bindings : (v t : ℕ) → get S' v ≡ some t → (get S v ≡ some t) ⊎ Dead S' (type_at S' t)) where
-  back : {v t : ℕ} {L : TypeValue} → get S' v ≡ some t → Meets S' v L → (q : ℕ) → q < count S → type_at S q ≡ L → Meets S v L
+    (bindings : (v t : ℕ) → get S' v ≡ Some t → (get S v ≡ Some t) ⊎ Dead S' (type_at S' t)) where
+  back : {v t : ℕ} {L : TypeValue} → get S' v ≡ Some t → Meets S' v L → (q : ℕ) → q < count S → type_at S q ≡ L → Meets S v L
   back b meets_it q h e = meets_it
   back {v} {t} b (meets_bound {w = w} {t = u} g m) q h e = elim (bindings w u g) [
     | inl g' ↦ let l : u < count S = s.bind_in w u g' in meets_bound g' (subst (λ (x : TypeValue). Meets S v x) (kept u l) (back b m u l (sym (kept u l))))
@@ -69,9 +69,9 @@ module _ {ar : TypeName → ℕ} {S S' : State} (s : Sound ar S) (kept : (i : �
 pub calm_same : {ar : TypeName → ℕ} {S : State} → Sound ar S → (S' : State) → ((i : ℕ) → i < count S → type_at S' i ≡ type_at S i) → ((v : ℕ) → get S' v ≡ get S v) → Calm S S'
 calm_same s S' kept same = calm s kept (λ v t g. inl (sym (same v) ∙ g))
 
-pub insert_cases : (S : State) (v t w u : ℕ) → v < taken S → get (insert S v t) w ≡ some u → (u ≡ t) ⊎ (get S w ≡ some u)
+pub insert_cases : (S : State) (v t w u : ℕ) → v < taken S → get (insert S v t) w ≡ Some u → (u ≡ t) ⊎ (get S w ≡ Some u)
 insert_cases S v t w u h e = elim (ℕ_discrete w v) [
-  | yes d ↦ inl (let a : get (insert S v t) v ≡ some u = rw d at e in let b = get_insert_same S v t h in cc)
+  | yes d ↦ inl (let a : get (insert S v t) v ≡ Some u = rw d at e in let b = get_insert_same S v t h in cc)
   | no d ↦ inr (sym (get_insert_other S v t w d) ∙ e)
 ]
 
@@ -83,7 +83,7 @@ calm_insert {S = S} s v t h d = calm s (λ i l. value_insert S v t i) (λ w u e.
 ])
 
 -- both chain ends bound to a variable without binding
-pub calm_tied : {ar : TypeName → ℕ} {S P : State} {e1 e2 f n1 n2 : ℕ} (y : Ready ar S P e1 e2 f n1 n2) → get (tied y) f ≡ none → Calm P (tied y)
+pub calm_tied : {ar : TypeName → ℕ} {S P : State} {e1 e2 f n1 n2 : ℕ} (y : Ready ar S P e1 e2 f n1 n2) → get (tied y) f ≡ None → Calm P (tied y)
 calm_tied {P = P} {f = f} {n1 = n1} {n2 = n2} y free = calm y.sound (λ i l. val y i) (λ w u e. elim (tied_cases y w u e) [
   | inl c ↦ inr (at_f u (val y u ∙ ap (type_at P) c ∙ y.is1))
   | inr (inl c) ↦ inr (at_f u (val y u ∙ ap (type_at P) c ∙ y.is2))

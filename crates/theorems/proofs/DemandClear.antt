@@ -2,7 +2,7 @@
 use mathlib.Core.Path.{◌≡◌, refl}
 use mathlib.Core.Bool.{Bool, true, false, not}
 use mathlib.Core.List.{List, [], ◌∷◌}
-use mathlib.Core.Option.{Option, none, some}
+use Rattle.std.specs.Prelude.{Option, None, Some}
 use Prim.Native.Nat.{ℕ, zero, suc, ◌≤◌, ◌<◌}
 use native.Mathlib.Omega.{arith}
 use lib.ListN.{length}
@@ -28,8 +28,8 @@ use Rattle.definition.proofs.Spelling.{bool, vector, var, FV, NV, JN, SV}
 -- ---- the test
 
 unfoldable pub clear_binding : State → Option ℕ → Bool
-clear_binding s none = true
-clear_binding s (some t) = not (reaches_itself s t)
+clear_binding s None = true
+clear_binding s (Some t) = not (reaches_itself s t)
 
 -- no binding reaches a variable that reaches itself
 unfoldable pub clear : State → Bool

@@ -1,6 +1,6 @@
 -- A reading to some depth: it ends also where a variable reaches itself, and what lies deeper is left out. Assumes nothing: these are definitions.
 use mathlib.Core.List.{List, [], ◌∷◌}
-use mathlib.Core.Option.{none, some}
+use Rattle.std.specs.Prelude.{None, Some}
 use Prim.Native.Nat.{ℕ, zero, suc}
 use Rattle.definition.specs.Types.{TypeValue, UnitType, Ref, Param, Apply, Var, Anything, UnresolvedError, State}
 use Rattle.definition.specs.Store.{type_at, get}
@@ -10,7 +10,7 @@ use Rattle.theorems.proofs.DemandOrder.{All}
 
 -- a chain end stands for its binding, or for itself
 unfoldable pub end_shape : State → ℕ → TypeValue
-end_shape s e = elim (get s e) [ none ↦ Var e | some t ↦ type_at s t ]
+end_shape s e = elim (get s e) [ None ↦ Var e | Some t ↦ type_at s t ]
 
 -- a bound variable is replaced by its binding
 unfoldable pub follow : State → TypeValue → TypeValue

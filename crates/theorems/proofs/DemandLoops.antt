@@ -1,7 +1,7 @@
 -- Loops by chain ends. Assumes nothing: these are definitions.
 use mathlib.Core.Path.{◌≡◌}
 use mathlib.Core.List.{Memᴰ}
-use mathlib.Core.Option.{some}
+use Rattle.std.specs.Prelude.{Some}
 use Prim.Native.Nat.{ℕ, suc, ◌*◌}
 use Rattle.definition.specs.Types.{TypeValue, Var, State}
 use Rattle.definition.specs.Store.{count, taken, type_at, get}
@@ -16,7 +16,7 @@ pub data MeetsEnd (s : State) (e : ℕ) : TypeValue → Type 0 where
 -- .. and so does reading a part of e's binding
 pub record Itself (s : State) (e : ℕ) : Type 0 where
   pub binding_of : ℕ
-  pub bound_to : get s e ≡ some binding_of
+  pub bound_to : get s e ≡ Some binding_of
   pub part : ℕ
   pub is_part : Memᴰ part (parts (type_at s binding_of))
   pub again : MeetsEnd s e (type_at s part)

@@ -3,7 +3,7 @@
 use mathlib.Core.Path.{◌≡◌, refl, sym, ap, ◌∙◌, subst}
 use mathlib.Core.Bool.{Bool, true, false}
 use mathlib.Core.List.{List, [], ◌∷◌}
-use mathlib.Core.Option.{Option, none, some}
+use Rattle.std.specs.Prelude.{Option, None, Some}
 use Prim.Native.Nat.{ℕ, zero, suc, ◌≤◌, ◌<◌}
 use native.Mathlib.Omega.{arith}
 use lib.ListN.{length}
@@ -110,12 +110,12 @@ name_of (ModuleType a) (ModuleType b) e = ap ModuleType (eq_of a b e)
 
 mark_of : (k1 k2 : AbilityMark) → same_mark k1 k2 ≡ true → k1 ≡ k2
 unfolding same_mark
-mark_of none none e = refl
-mark_of none (some b) e = never (cc)
-mark_of (some a) none e = never (cc)
-mark_of (some a) (some b) e = ap {B = AbilityMark} some (eq_of a b e)
+mark_of None None e = refl
+mark_of None (Some b) e = never (cc)
+mark_of (Some a) None e = never (cc)
+mark_of (Some a) (Some b) e = ap {B = AbilityMark} Some (eq_of a b e)
 
-mut_of : (c : TypingCase) (m1 m2 m : Bool) → join_mut c m1 m2 ≡ some m → LeMut m1 m × LeMut m2 m
+mut_of : (c : TypingCase) (m1 m2 m : Bool) → join_mut c m1 m2 ≡ Some m → LeMut m1 m × LeMut m2 m
 unfolding join_mut
 mut_of Join true true m e = (tt, tt)
 mut_of Join true false m e = let d : m ≡ false = cc in rw d (tt, tt)
@@ -188,8 +188,8 @@ module _ {ar : TypeName → ℕ} (join : JoinImpl) (g : Good ar join) {S : State
   refs_post : (m1 : Bool) (t1 : ℕ) (m2 : Bool) (t2 : ℕ) → type_at S l ≡ Ref m1 t1 → type_at S r ≡ Ref m2 t2 → (o : Option Bool) → join_mut c m1 m2 ≡ o
       → Post ar S (Joined ar S l r) (join_refs join S c l r m1 t1 m2 t2 o)
   unfolding join_refs parts as_var
-  refs_post m1 t1 m2 t2 el er none e = p_err (grown_refl S) (nodes_of s)
-  refs_post m1 t1 m2 t2 el er (some m) e =
+  refs_post m1 t1 m2 t2 el er None e = p_err (grown_refl S) (nodes_of s)
+  refs_post m1 t1 m2 t2 el er (Some m) e =
       let b1 : t1 < l = (rw el at (s.parts_below l l_in)).0 in
       let b2 : t2 < r = (rw er at (s.parts_below r r_in)).0 in
       let ms = mut_of c m1 m2 m e in
@@ -262,7 +262,7 @@ module _ {ar : TypeName → ℕ} (join : JoinImpl) (g : Good ar join) {S : State
       (join_tvar_post join g s c (loc_of S l) id1 (loc_of S r) id2 h1 h2))
 
   -- the unbound variable v of the type x takes the type o
-  unbound_post : (x id o : ℕ) → x < count S → o < count S → type_at S x ≡ Var id → solid (type_at S o) ≡ true → get S id ≡ none
+  unbound_post : (x id o : ℕ) → x < count S → o < count S → type_at S x ≡ Var id → solid (type_at S o) ≡ true → get S id ≡ None
       → ((S' : State) → Sound ar S' → S ⊑ S' → x < count S' → Tracks S' x x → Tracks S' o x → Joined ar S l r S' x) → Post ar S (Joined ar S l r) (join_unbound S l r x id o)
   unfolding join_unbound
   unbound_post x id o x_in o_in ex h free k =

@@ -3,7 +3,7 @@
 use mathlib.Core.Path.{◌≡◌, refl, sym, ◌∙◌, subst}
 use mathlib.Core.Logic.{◌≢◌, ◌⊎◌, inl, inr}
 use mathlib.Core.Bool.{true}
-use mathlib.Core.Option.{none, some}
+use Rattle.std.specs.Prelude.{None, Some}
 use Prim.Native.Nat.{ℕ, suc, ◌≤◌, ◌<◌}
 use native.Mathlib.Decide.{ℕ_discrete}
 use native.Mathlib.Omega.{arith}
@@ -26,8 +26,8 @@ pub record Ready (ar : TypeName → ℕ) (S P : State) (e1 e2 f n1 n2 : ℕ) : T
   pub before : Sound ar S
   pub sound : Sound ar P
   pub quiet : Quiet S P
-  pub end1 : next_of S e1 ≡ none
-  pub end2 : next_of S e2 ≡ none
+  pub end1 : next_of S e1 ≡ None
+  pub end2 : next_of S e2 ≡ None
   pub in1 : e1 < taken S
   pub in2 : e2 < taken S
   pub new : taken S ≤ f
@@ -50,20 +50,20 @@ module _ {ar : TypeName → ℕ} {S P : State} {e1 e2 f n1 n2 : ℕ} (y : Ready 
   pub tkn : taken tied ≡ taken P
   tkn = taken_insert (insert P e1 n1) e2 n2 ∙ taken_insert P e1 n1
 
-  pub get_e2 : get tied e2 ≡ some n2
+  pub get_e2 : get tied e2 ≡ Some n2
   get_e2 = get_insert_same (insert P e1 n1) e2 n2 (omega (arith, taken_insert P e1 n1, y.in2, y.quiet.q_vars))
 
-  pub get_e1 : e1 ≢ e2 → get tied e1 ≡ some n1
+  pub get_e1 : e1 ≢ e2 → get tied e1 ≡ Some n1
   get_e1 d = get_insert_other (insert P e1 n1) e2 n2 e1 d ∙ get_insert_same P e1 n1 (omega (arith, y.in1, y.quiet.q_vars))
 
   pub get_rest : (w : ℕ) → w ≢ e1 → w ≢ e2 → get tied w ≡ get P w
   get_rest w a b = get_insert_other (insert P e1 n1) e2 n2 w b ∙ get_insert_other P e1 n1 w a
 
-  pub hop2 : next_of tied e2 ≡ some f
+  pub hop2 : next_of tied e2 ≡ Some f
   hop2 = next_var tied e2 n2 f get_e2 (val n2 ∙ y.is2)
 
-  pub hop1 : next_of tied e1 ≡ some f
-  hop1 = elim (ℕ_discrete e1 e2) [ yes d ↦ subst (λ (w : ℕ). next_of tied w ≡ some f) (sym d) hop2 | no d ↦ next_var tied e1 n1 f (get_e1 d) (val n1 ∙ y.is1) ]
+  pub hop1 : next_of tied e1 ≡ Some f
+  hop1 = elim (ℕ_discrete e1 e2) [ yes d ↦ subst (λ (w : ℕ). next_of tied w ≡ Some f) (sym d) hop2 | no d ↦ next_var tied e1 n1 f (get_e1 d) (val n1 ∙ y.is1) ]
 
   pub next_rest : (w : ℕ) → w ≢ e1 → w ≢ e2 → next_of tied w ≡ next_of P w
   next_rest w a b = next_agree P tied w (get_rest w a b) (λ t e. val t)
@@ -77,21 +77,21 @@ module _ {ar : TypeName → ℕ} {S P : State} {e1 e2 f n1 n2 : ℕ} (y : Ready 
   which : (w : ℕ) → Which w
   which w = elim (ℕ_discrete w e1) [ yes a ↦ first a | no a ↦ elim (ℕ_discrete w e2) [ yes b ↦ second b | no b ↦ rest a b ] ]
 
-  free_in_S : get S f ≡ none
+  free_in_S : get S f ≡ None
   free_in_S = get_beyond S f y.new
 
-  stop_f : next_of tied f ≡ none
+  stop_f : next_of tied f ≡ None
   stop_f = next_rest f (λ d. omega (arith, y.in1, y.new)) (λ d. omega (arith, y.in2, y.new)) ∙ y.quiet.q_next f ∙ next_none S f free_in_S
 
   within_tied : {n v : ℕ} → Within P n v → Within tied (suc n) v
   within_tied {n} {v} (w_here h) = go (which v)
     where
       go : Which v → Within tied (suc n) v
-      go (first e) = w_hop (subst (λ (w : ℕ). next_of tied w ≡ some f) (sym e) hop1) (w_here stop_f)
-      go (second e) = w_hop (subst (λ (w : ℕ). next_of tied w ≡ some f) (sym e) hop2) (w_here stop_f)
+      go (first e) = w_hop (subst (λ (w : ℕ). next_of tied w ≡ Some f) (sym e) hop1) (w_here stop_f)
+      go (second e) = w_hop (subst (λ (w : ℕ). next_of tied w ≡ Some f) (sym e) hop2) (w_here stop_f)
       go (rest a b) = w_here (next_rest v a b ∙ h)
-  within_tied {v = v} (w_hop {w = w} h d) = w_hop (next_rest v (λ e. never (let p : next_of P e1 ≡ some w = rw e at h in let q = y.quiet.q_next e1 in let r = y.end1 in cc))
-      (λ e. never (let p : next_of P e2 ≡ some w = rw e at h in let q = y.quiet.q_next e2 in let r = y.end2 in cc)) ∙ h) (within_tied d)
+  within_tied {v = v} (w_hop {w = w} h d) = w_hop (next_rest v (λ e. never (let p : next_of P e1 ≡ Some w = rw e at h in let q = y.quiet.q_next e1 in let r = y.end1 in cc))
+      (λ e. never (let p : next_of P e2 ≡ Some w = rw e at h in let q = y.quiet.q_next e2 in let r = y.end2 in cc)) ∙ h) (within_tied d)
 
   within_P : (v : ℕ) → Within P (taken S) v
   within_P v = elim (native.Mathlib.Decide.dec_lt v (taken S)) [
@@ -99,14 +99,14 @@ module _ {ar : TypeName → ℕ} {S P : State} {e1 e2 f n1 n2 : ℕ} (y : Ready 
     | no l ↦ w_here (y.quiet.q_next v ∙ next_none S v (get_beyond S v (omega arith)))
   ]
 
-  pub tied_cases : (w u : ℕ) → get tied w ≡ some u → (u ≡ n1) ⊎ ((u ≡ n2) ⊎ (get P w ≡ some u))
+  pub tied_cases : (w u : ℕ) → get tied w ≡ Some u → (u ≡ n1) ⊎ ((u ≡ n2) ⊎ (get P w ≡ Some u))
   tied_cases w u e = go (which w)
     where
       two : w ≡ e2 → u ≡ n2
-      two d = let a : get tied e2 ≡ some u = rw d at e in let b = get_e2 in cc
+      two d = let a : get tied e2 ≡ Some u = rw d at e in let b = get_e2 in cc
 
-      go : Which w → (u ≡ n1) ⊎ ((u ≡ n2) ⊎ (get P w ≡ some u))
-      go (first d) = elim (ℕ_discrete e1 e2) [ yes k ↦ inr (inl (two (d ∙ k))) | no k ↦ inl (let a : get tied e1 ≡ some u = rw d at e in let b = get_e1 k in cc) ]
+      go : Which w → (u ≡ n1) ⊎ ((u ≡ n2) ⊎ (get P w ≡ Some u))
+      go (first d) = elim (ℕ_discrete e1 e2) [ yes k ↦ inr (inl (two (d ∙ k))) | no k ↦ inl (let a : get tied e1 ≡ Some u = rw d at e in let b = get_e1 k in cc) ]
       go (second d) = inr (inl (two d))
       go (rest a b) = inr (inr (sym (get_rest w a b) ∙ e))
 
@@ -123,21 +123,21 @@ module _ {ar : TypeName → ℕ} {S P : State} {e1 e2 f n1 n2 : ℕ} (y : Ready 
     constraints_on = on_nodes (constraints_insert (insert P e1 n1) e2 n2 ∙ constraints_insert P e1 n1) (omega (arith, cnt)) y.sound.constraints_on;
   }
 
-pub tracks_solid : {S : State} {x r : ℕ} → Tracks S x r → solid (type_at S x) ≡ true → as_var (type_at S r) ≡ none → Fits S x r
+pub tracks_solid : {S : State} {x r : ℕ} → Tracks S x r → solid (type_at S x) ≡ true → as_var (type_at S r) ≡ None → Fits S x r
 tracks_solid (t_any e) h n = solid_any h e
 tracks_solid (t_var ex er a b) h n = solid_var h ex
 tracks_solid (t_fit (r_self m) f) h n = f
 tracks_solid (t_fit (r_var e d g) f) h n = nonvar_var n e
 
 module _ {ar : TypeName → ℕ} {S P : State} {e1 e2 f n1 n2 : ℕ} (y : Ready ar S P e1 e2 f n1 n2) {S2 S3 : State} (T1 T2 N : ℕ)
-    (s2 : Sound ar S2) (s3 : Sound ar S3) (up : tied y ⊑ S2) (q : Quiet S2 S3) (free : get S2 f ≡ none)
-    (is_T1 : (t : ℕ) → get S e1 ≡ some t → t ≡ T1) (is_T2 : (t : ℕ) → get S e2 ≡ some t → t ≡ T2)
-    (track1 : Tracks S2 T1 N) (track2 : Tracks S2 T2 N) (plain : as_var (type_at S2 N) ≡ none) (NIn : N < count S2)
-    (bound : solid (type_at S2 N) ≡ true → get S3 f ≡ some N) where
+    (s2 : Sound ar S2) (s3 : Sound ar S3) (up : tied y ⊑ S2) (q : Quiet S2 S3) (free : get S2 f ≡ None)
+    (is_T1 : (t : ℕ) → get S e1 ≡ Some t → t ≡ T1) (is_T2 : (t : ℕ) → get S e2 ≡ Some t → t ≡ T2)
+    (track1 : Tracks S2 T1 N) (track2 : Tracks S2 T2 N) (plain : as_var (type_at S2 N) ≡ None) (NIn : N < count S2)
+    (bound : solid (type_at S2 N) ≡ true → get S3 f ≡ Some N) where
   up3 : tied y ⊑ S3
   up3 = ⊑_trans (sound_tied y) s2 s3 up (quiet_⊑ s2 s3 q)
 
-  pub end_f : next_of S3 f ≡ none
+  pub end_f : next_of S3 f ≡ None
   end_f = q.q_next f ∙ next_none S2 f free
 
   pub ends_1 : Ends S3 e1 f
@@ -149,7 +149,7 @@ module _ {ar : TypeName → ℕ} {S P : State} {e1 e2 f n1 n2 : ℕ} (y : Ready 
   kept_2 : (i : ℕ) → i < count S → type_at S2 i ≡ type_at S i
   kept_2 i h = up.kept i (omega (arith, y.quiet.q_nodes, cnt y)) ∙ val y i ∙ y.quiet.q_kept i h
 
-  lands_f : (e T : ℕ) → get S e ≡ some T → next_of S e ≡ none → Tracks S2 T N → Ends S3 e f → Lands S3 e T
+  lands_f : (e T : ℕ) → get S e ≡ Some T → next_of S e ≡ None → Tracks S2 T N → Ends S3 e f → Lands S3 e T
   lands_f e T g n t d =
       let T_in = y.before.bind_in e T g in
       let h : solid (type_at S2 T) ≡ true = rw (kept_2 T T_in) (bind_solid y.before e T g n) in
@@ -171,13 +171,13 @@ module _ {ar : TypeName → ℕ} {S P : State} {e1 e2 f n1 n2 : ℕ} (y : Ready 
     lands = λ e T g n. land e T g n (which y e);
   }
     where
-      not_1 : (v w : ℕ) → next_of S v ≡ some w → v ≢ e1
-      not_1 v w h d = never (let p : next_of S e1 ≡ some w = rw d at h in let r = y.end1 in cc)
+      not_1 : (v w : ℕ) → next_of S v ≡ Some w → v ≢ e1
+      not_1 v w h d = never (let p : next_of S e1 ≡ Some w = rw d at h in let r = y.end1 in cc)
 
-      not_2 : (v w : ℕ) → next_of S v ≡ some w → v ≢ e2
-      not_2 v w h d = never (let p : next_of S e2 ≡ some w = rw d at h in let r = y.end2 in cc)
+      not_2 : (v w : ℕ) → next_of S v ≡ Some w → v ≢ e2
+      not_2 v w h d = never (let p : next_of S e2 ≡ Some w = rw d at h in let r = y.end2 in cc)
 
-      land : (e T : ℕ) → get S e ≡ some T → next_of S e ≡ none → Which y e → Lands S3 e T
+      land : (e T : ℕ) → get S e ≡ Some T → next_of S e ≡ None → Which y e → Lands S3 e T
       land e T g n (first d) = lands_f e T g n (subst (λ (t : ℕ). Tracks S2 t N) (sym (is_T1 T (rw d at g))) track1) (subst (λ (v : ℕ). Ends S3 v f) (sym d) ends_1)
       land e T g n (second d) = lands_f e T g n (subst (λ (t : ℕ). Tracks S2 t N) (sym (is_T2 T (rw d at g))) track2) (subst (λ (v : ℕ). Ends S3 v f) (sym d) ends_2)
       land e T g n (rest a b) = up3.lands e T (get_rest y e a b ∙ y.quiet.q_get e T g) (next_rest y e a b ∙ y.quiet.q_next e ∙ n)

@@ -3,7 +3,7 @@
 use mathlib.Core.Path.{◌≡◌, refl, ◌∙◌}
 use mathlib.Core.Bool.{true, false}
 use mathlib.Core.List.{List, [], ◌∷◌}
-use mathlib.Core.Option.{Option, none, some}
+use Rattle.std.specs.Prelude.{Option, None, Some}
 use Prim.Native.Nat.{ℕ, zero, suc, ◌≤◌, ◌<◌}
 use native.Mathlib.Omega.{arith}
 use lib.ListN.{length}
@@ -26,9 +26,9 @@ pub record Sound (ar : TypeName → ℕ) (S : State) : Type 0 where
   pub parts_below : (i : ℕ) → i < count S → All (λ p. p < i) (parts (type_at S i))
   pub var_in : (i v : ℕ) → i < count S → type_at S i ≡ Var v → v < taken S
   pub arity : (i : ℕ) (k : AbilityMark) (n : TypeName) (ps : List ℕ) → i < count S → type_at S i ≡ Apply k n ps → length ps ≡ ar n
-  pub bind_in : (v t : ℕ) → get S v ≡ some t → t < count S
-  pub bind_known : (v t : ℕ) → get S v ≡ some t → is_anything (type_at S t) ≡ false
-  pub chains : (v : ℕ) → v < taken S → next_of S (forward_tvar S v) ≡ none
+  pub bind_in : (v t : ℕ) → get S v ≡ Some t → t < count S
+  pub bind_known : (v t : ℕ) → get S v ≡ Some t → is_anything (type_at S t) ≡ false
+  pub chains : (v : ℕ) → v < taken S → next_of S (forward_tvar S v) ≡ None
   pub constraints_on : OnNodes S
 
 -- the nodes alone, and the constraints on them
@@ -47,7 +47,7 @@ pub record Lands (S : State) (e T : ℕ) : Type 0 where
   pub last : ℕ
   pub type : ℕ
   pub ends : Ends S e last
-  pub bound : get S last ≡ some type
+  pub bound : get S last ≡ Some type
   pub fits : Fits S T type
 
 infix 4 ◌⊑◌
@@ -55,16 +55,16 @@ pub record ◌⊑◌ (S S' : State) : Type 0 where
   pub more_nodes : count S ≤ count S'
   pub kept : (i : ℕ) → i < count S → type_at S' i ≡ type_at S i
   pub more_vars : taken S ≤ taken S'
-  pub hops : (v w : ℕ) → next_of S v ≡ some w → next_of S' v ≡ some w
-  pub lands : (e T : ℕ) → get S e ≡ some T → next_of S e ≡ none → Lands S' e T
+  pub hops : (v w : ℕ) → next_of S v ≡ Some w → next_of S' v ≡ Some w
+  pub lands : (e T : ℕ) → get S e ≡ Some T → next_of S e ≡ None → Lands S' e T
 
 -- ---- facts of a sound state
 
-pub next_bound : (S : State) (v w : ℕ) → next_of S v ≡ some w → (t : ℕ) × (get S v ≡ some t) × (type_at S t ≡ Var w)
+pub next_bound : (S : State) (v w : ℕ) → next_of S v ≡ Some w → (t : ℕ) × (get S v ≡ Some t) × (type_at S t ≡ Var w)
 unfolding next_of next_in as_var
 next_bound S v w h = go (get S v) refl h
   where
-    at : (t : ℕ) (L : TypeValue) → type_at S t ≡ L → as_var L ≡ some w → type_at S t ≡ Var w
+    at : (t : ℕ) (L : TypeValue) → type_at S t ≡ L → as_var L ≡ Some w → type_at S t ≡ Var w
     at t UnitType e h = never (cc)
     at t (Ref a b) e h = never (cc)
     at t (Param a b) e h = never (cc)
@@ -73,9 +73,9 @@ next_bound S v w h = go (get S v) refl h
     at t Anything e h = never (cc)
     at t UnresolvedError e h = never (cc)
 
-    go : (o : Option ℕ) → get S v ≡ o → next_in S o ≡ some w → (t : ℕ) × (get S v ≡ some t) × (type_at S t ≡ Var w)
-    go none e h = never (cc)
-    go (some t) e h = (t, e, at t (type_at S t) refl h)
+    go : (o : Option ℕ) → get S v ≡ o → next_in S o ≡ Some w → (t : ℕ) × (get S v ≡ Some t) × (type_at S t ≡ Var w)
+    go None e h = never (cc)
+    go (Some t) e h = (t, e, at t (type_at S t) refl h)
 
 module _ {ar : TypeName → ℕ} {S : State} (s : Sound ar S) where
   pub chain_within : (v : ℕ) → v < taken S → Within S (taken S) v
@@ -86,7 +86,7 @@ module _ {ar : TypeName → ℕ} {S : State} (s : Sound ar S) where
   unfolding forward_tvar
   chain v h = within_ends (chain_within v h)
 
-  pub next_in_range : (v w : ℕ) → next_of S v ≡ some w → w < taken S
+  pub next_in_range : (v w : ℕ) → next_of S v ≡ Some w → w < taken S
   next_in_range v w h = let b = next_bound S v w h in s.var_in b.0 w (s.bind_in v b.0 b.1) b.2
 
   pub ends_in : {v e : ℕ} → v < taken S → Ends S v e → e < taken S
@@ -125,12 +125,12 @@ module _ {ar : TypeName → ℕ} {S : State} (s : Sound ar S) where
   fits_refl {x} c h = refl_fits x h (refl_all x (λ p l. tracks_refl (omega arith)) (parts (type_at S x)) (s.parts_below x c))
 
   -- a binding to what is no variable is solid
-  pub bind_solid : (v t : ℕ) → get S v ≡ some t → next_of S v ≡ none → solid (type_at S t) ≡ true
+  pub bind_solid : (v t : ℕ) → get S v ≡ Some t → next_of S v ≡ None → solid (type_at S t) ≡ true
   unfolding next_of next_in is_anything
   bind_solid v t g n = go (kind (type_at S t))
     where
-      m : as_var (type_at S t) ≡ none
-      m = let r : next_in S (some t) ≡ none = rw g at n in r
+      m : as_var (type_at S t) ≡ None
+      m = let r : next_in S (Some t) ≡ None = rw g at n in r
 
       go : Kind (type_at S t) → solid (type_at S t) ≡ true
       go (k_any e) = let b : true ≡ false = rw e at (s.bind_known v t g) in never (cc)
@@ -192,7 +192,7 @@ pub ⊑_trans : {ar : TypeName → ℕ} {S S' S'' : State} → Sound ar S → So
   lands = λ e T g n. go e T g n (x.lands e T g n);
 }
   where
-    go : (e T : ℕ) → get S e ≡ some T → next_of S e ≡ none → Lands S' e T → Lands S'' e T
+    go : (e T : ℕ) → get S e ≡ Some T → next_of S e ≡ None → Lands S' e T → Lands S'' e T
     go e T g n l =
         let m = y.lands l.last l.type l.bound (ends_stop l.ends) in
         let h = s.bind_in e T g in

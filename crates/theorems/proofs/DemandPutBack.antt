@@ -1,7 +1,7 @@
 -- After an error the bindings are put back: the state is sound, and quiet to the one before. Assumes nothing.
 use mathlib.Core.Path.{◌≡◌, refl, sym, ap, ◌∙◌}
 use mathlib.Core.List.{List, [], ◌∷◌, ◌++◌}
-use mathlib.Core.Option.{some}
+use Rattle.std.specs.Prelude.{Some}
 use Prim.Native.Nat.{ℕ, zero, suc, ◌-◌}
 use native.Mathlib.Omega.{arith}
 use lib.ListN.{get_or, replicate, length-append, length-replicate}
@@ -66,7 +66,7 @@ module _ {ar : TypeName → ℕ} {S E : State} (s : Sound ar S) (g : Grown S E) 
     var_in = λ i v h e. omega (arith, kept_taken, n.n_var i v (omega (arith, cnt)) (sym (val i) ∙ e));
     arity = λ i k m ps h e. n.n_arity i k m ps (omega (arith, cnt)) (sym (val i) ∙ e);
     bind_in = λ v t e. omega (arith, cnt, g.g_nodes, s.bind_in v t (sym (got_back v) ∙ e));
-    bind_known = λ v t e. let h : get S v ≡ some t = sym (got_back v) ∙ e in rw (val t, g.g_kept t (s.bind_in v t h)) (s.bind_known v t h);
+    bind_known = λ v t e. let h : get S v ≡ Some t = sym (got_back v) ∙ e in rw (val t, g.g_kept t (s.bind_in v t h)) (s.bind_known v t h);
     chains = chains_from B (taken S) quiet_put_back.q_vars (λ v h. within_same quiet_put_back.q_next (old v));
     constraints_on = on_nodes back_constraints (omega (arith, cnt)) n.n_constraints;
   }

@@ -4,7 +4,7 @@ use mathlib.Core.Path.{◌≡◌, refl}
 use mathlib.Core.Logic.{◌⊎◌, inl, inr}
 use mathlib.Core.Bool.{Bool, true, false}
 use mathlib.Core.List.{List, [], ◌∷◌}
-use mathlib.Core.Option.{Option, none, some}
+use Rattle.std.specs.Prelude.{Option, None, Some}
 use Prim.Native.Nat.{ℕ, zero, suc, ◌<◌}
 use native.Mathlib.Omega.{arith}
 use Rattle.definition.specs.Types.{TypeName, TypeValue, UnitType, Ref, Param, Apply, Var, Anything, UnresolvedError}
@@ -98,7 +98,7 @@ solid_known f (Var v) h = solid_var {v = v} h refl
 solid_known f Anything h = solid_any h refl
 solid_known f UnresolvedError h = known_error
 
-pub follow_plain : (S : State) (L : TypeValue) → as_var L ≡ none → follow S L ≡ L
+pub follow_plain : (S : State) (L : TypeValue) → as_var L ≡ None → follow S L ≡ L
 unfolding follow as_var
 follow_plain S UnitType h = refl
 follow_plain S (Ref m t) h = refl
@@ -108,15 +108,15 @@ follow_plain S (Var v) h = never (cc)
 follow_plain S Anything h = refl
 follow_plain S UnresolvedError h = refl
 
-pub any_plain : as_var Anything ≡ none
+pub any_plain : as_var Anything ≡ None
 unfolding as_var
 any_plain = refl
 
-pub follow_bound : (S : State) (v t : ℕ) → get S (forward_tvar S v) ≡ some t → follow S (Var v) ≡ type_at S t
+pub follow_bound : (S : State) (v t : ℕ) → get S (forward_tvar S v) ≡ Some t → follow S (Var v) ≡ type_at S t
 unfolding follow end_shape
 follow_bound S v t e = rw (e, end_shape) refl
 
-pub follow_open : (S : State) (v : ℕ) → get S (forward_tvar S v) ≡ none → follow S (Var v) ≡ Var (forward_tvar S v)
+pub follow_open : (S : State) (v : ℕ) → get S (forward_tvar S v) ≡ None → follow S (Var v) ≡ Var (forward_tvar S v)
 unfolding follow end_shape
 follow_open S v e = rw (e, end_shape) refl
 
@@ -171,7 +171,7 @@ module _ {ar : TypeName → ℕ} {S S' : State} (s : Sound ar S) (s' : Sound ar 
   all_up f g h (p ∷ ps) a = each (h p a.0) (all_up f g h ps a.1)
 
   -- the binding of a chain end, read in S, and what is read in S' from there
-  bound_up : (n v T : ℕ) → ((p : ℕ) → p < count S → Rank (deep n S p) (deep n S' p)) → v < taken S → get S (forward_tvar S v) ≡ some T
+  bound_up : (n v T : ℕ) → ((p : ℕ) → p < count S → Rank (deep n S p) (deep n S' p)) → v < taken S → get S (forward_tvar S v) ≡ Some T
       → Rank (read_shape (λ p. deep n S p) (type_at S T)) (read_shape (λ p. deep n S' p) (follow S' (Var v)))
   bound_up n v T ih hv g =
       let e = forward_tvar S v in
@@ -190,14 +190,14 @@ module _ {ar : TypeName → ℕ} {S S' : State} (s : Sound ar S) (s' : Sound ar 
   unfolding read_shape
   shape_up n L a v_in ih = go (kind' L)
     where
-      kind' : (L : TypeValue) → ((v : ℕ) × (L ≡ Var v)) ⊎ (as_var L ≡ none)
+      kind' : (L : TypeValue) → ((v : ℕ) × (L ≡ Var v)) ⊎ (as_var L ≡ None)
       kind' L = elim (kind L) [ k_any e ↦ inr (rw e any_plain) | k_var {v} e ↦ inl (v, e) | k_solid h n ↦ inr n ]
 
       at_var : (v : ℕ) → v < taken S → (o : Option ℕ) → get S (forward_tvar S v) ≡ o → Rank (read_shape (λ p. deep n S p) (follow S (Var v))) (read_shape (λ p. deep n S' p) (follow S' (Var v)))
-      at_var v h none e = rw (follow_open S v e) open_below
-      at_var v h (some T) e = rw (follow_bound S v T e) (bound_up n v T ih h e)
+      at_var v h None e = rw (follow_open S v e) open_below
+      at_var v h (Some T) e = rw (follow_bound S v T e) (bound_up n v T ih h e)
 
-      go : ((v : ℕ) × (L ≡ Var v)) ⊎ (as_var L ≡ none) → Rank (read_shape (λ p. deep n S p) (follow S L)) (read_shape (λ p. deep n S' p) (follow S' L))
+      go : ((v : ℕ) × (L ≡ Var v)) ⊎ (as_var L ≡ None) → Rank (read_shape (λ p. deep n S p) (follow S L)) (read_shape (λ p. deep n S' p) (follow S' L))
       go (inl p) = rw p.1 (at_var p.0 (v_in p.0 p.1) (get S (forward_tvar S p.0)) refl)
       go (inr h) = rw (follow_plain S L h, follow_plain S' L h) (same_rank (λ p. deep n S p) (λ p. deep n S' p) L (all_up (λ p. deep n S p) (λ p. deep n S' p) ih (parts L) a))
 

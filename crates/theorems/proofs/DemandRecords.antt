@@ -3,7 +3,7 @@
 use mathlib.Core.Path.{◌≡◌, refl}
 use mathlib.Core.Bool.{Bool, true}
 use mathlib.Core.List.{List, [], ◌∷◌, ◌++◌}
-use mathlib.Core.Option.{Option, none, some}
+use Rattle.std.specs.Prelude.{Option, None, Some}
 use Prim.Native.Nat.{ℕ, ◌<◌}
 use native.Mathlib.Omega.{arith}
 use Rattle.definition.specs.Types.{TypeName, TypeValue, Constraint, State}
@@ -69,8 +69,8 @@ returns_bind f (e_refused t) h = r_refused
 
 tells : (S : State) (n : Option Needs) → Returns S (tell S n)
 unfolding tell
-tells S none = r_refused
-tells S (some n) = r_ok
+tells S None = r_refused
+tells S (Some n) = r_ok
 
 pub no_sp : (s : State) (l : ℕ) (sh : TypeValue) → NoErr (sp s l sh)
 no_sp s l sh = with_room NoErr (sp_room s l sh) (λ e. no_ok) no_refused

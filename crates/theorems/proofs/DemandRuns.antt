@@ -3,7 +3,7 @@
 use mathlib.Core.Path.{◌≡◌, refl, sym, ap, ◌∙◌}
 use mathlib.Core.Bool.{Bool, true, false}
 use mathlib.Core.List.{List, [], ◌∷◌}
-use mathlib.Core.Option.{Option, none, some}
+use Rattle.std.specs.Prelude.{Option, None, Some}
 use Prim.Native.Nat.{ℕ, zero, suc, ◌+◌, ◌≤◌, ◌<◌}
 use native.Mathlib.Omega.{arith}
 use lib.ListN.{length, length-map, length-replicate}
@@ -75,9 +75,9 @@ unfolding num_vars
 num_vars_below v [] k h = tt
 num_vars_below v (c ∷ cells) k h = go c.numeric (num_vars_below (suc v) cells k (omega arith))
   where
-    go : (o : Option ℕ) → Below k (num_vars (suc v) cells) → Below k (elim o [ none ↦ num_vars (suc v) cells | some loc ↦ (v, loc) ∷ num_vars (suc v) cells ])
-    go none b = b
-    go (some loc) b = (omega arith, b)
+    go : (o : Option ℕ) → Below k (num_vars (suc v) cells) → Below k (elim o [ None ↦ num_vars (suc v) cells | Some loc ↦ (v, loc) ∷ num_vars (suc v) cells ])
+    go None b = b
+    go (Some loc) b = (omega arith, b)
 
 -- ---- instantiate
 

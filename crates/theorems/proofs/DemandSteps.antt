@@ -4,7 +4,7 @@ use mathlib.Core.Path.{◌≡◌, refl, sym, ap, ◌∙◌}
 use mathlib.Core.Logic.{◌⊎◌, inl, inr}
 use mathlib.Core.Bool.{true, false}
 use mathlib.Core.List.{List}
-use mathlib.Core.Option.{none, some}
+use Rattle.std.specs.Prelude.{None, Some}
 use Prim.Native.Nat.{ℕ, suc, ◌≤◌, ◌<◌}
 use native.Mathlib.Decide.{ℕ_discrete}
 use native.Mathlib.Omega.{arith}
@@ -27,7 +27,7 @@ pub record Quiet (S S' : State) : Type 0 where
   pub q_kept : (i : ℕ) → i < count S → type_at S' i ≡ type_at S i
   pub q_vars : taken S ≤ taken S'
   pub q_next : (v : ℕ) → next_of S' v ≡ next_of S v
-  pub q_get : (v t : ℕ) → get S v ≡ some t → get S' v ≡ some t
+  pub q_get : (v t : ℕ) → get S v ≡ Some t → get S' v ≡ Some t
 
 pub quiet_refl : (S : State) → Quiet S S
 quiet_refl S = record { q_nodes = omega arith; q_kept = λ i h. refl; q_vars = omega arith; q_next = λ v. refl; q_get = λ v t h. h }
@@ -57,7 +57,7 @@ quiet_⊑ {S = S} {S' = S'} s s' q = record {
 }
 
 -- chains of a state as long as its variables are many, from chains of a state with no more variables
-pub chains_from : (S : State) (n : ℕ) → n ≤ taken S → ((v : ℕ) → v < taken S → Within S n v) → (v : ℕ) → v < taken S → next_of S (forward_tvar S v) ≡ none
+pub chains_from : (S : State) (n : ℕ) → n ≤ taken S → ((v : ℕ) → v < taken S → Within S n v) → (v : ℕ) → v < taken S → next_of S (forward_tvar S v) ≡ None
 unfolding forward_tvar
 chains_from S n l f v h = ends_stop (within_ends (within_more (f v h) (taken S) l))
 
@@ -88,7 +88,7 @@ sound_node {ar} {S} s l sh o = record {
   var_in = λ i v h e. p2 i v (cases i h) e;
   arity = λ i k n ps h e. p3 i k n ps (cases i h) e;
   bind_in = λ v t g. omega (arith, c, s.bind_in v t (sym (get_with_node S l sh v) ∙ g));
-  bind_known = λ v t g. let g' : get S v ≡ some t = sym (get_with_node S l sh v) ∙ g in rw (old t (s.bind_in v t g')) (s.bind_known v t g');
+  bind_known = λ v t g. let g' : get S v ≡ Some t = sym (get_with_node S l sh v) ∙ g in rw (old t (s.bind_in v t g')) (s.bind_known v t g');
   chains = chains_from S' (taken S) (omega (arith, k)) (λ v h. within_same q.q_next (chain_within s v (omega (arith, k))));
   constraints_on = on_nodes (constraints_node S l sh) q.q_nodes s.constraints_on;
 }
@@ -176,15 +176,15 @@ module _ {ar : TypeName → ℕ} {S : State} (s : Sound ar S) where
 
 -- ---- binding an unbound variable to a solid type
 
-module _ {ar : TypeName → ℕ} {S : State} (s : Sound ar S) (v t : ℕ) (free : get S v ≡ none) (v_in : v < taken S) (t_in : t < count S) (h : solid (type_at S t) ≡ true) where
+module _ {ar : TypeName → ℕ} {S : State} (s : Sound ar S) (v t : ℕ) (free : get S v ≡ None) (v_in : v < taken S) (t_in : t < count S) (h : solid (type_at S t) ≡ true) where
   abbrev bound : State
   bound = insert S v t
 
-  pub bind_cases : (w u : ℕ) → get bound w ≡ some u → ((w ≡ v) × (u ≡ t)) ⊎ (get S w ≡ some u)
+  pub bind_cases : (w u : ℕ) → get bound w ≡ Some u → ((w ≡ v) × (u ≡ t)) ⊎ (get S w ≡ Some u)
   bind_cases w u e = elim (ℕ_discrete w v) [ yes d ↦ inl (d, same d) | no d ↦ inr (sym (get_insert_other S v t w d) ∙ e) ]
     where
       same : w ≡ v → u ≡ t
-      same d = let a : get bound v ≡ some u = rw d at e in let b = get_insert_same S v t v_in in cc
+      same d = let a : get bound v ≡ Some u = rw d at e in let b = get_insert_same S v t v_in in cc
 
   pub quiet_bind : Quiet S bound
   quiet_bind = record {
@@ -192,7 +192,7 @@ module _ {ar : TypeName → ℕ} {S : State} (s : Sound ar S) (v t : ℕ) (free 
     q_kept = λ i l. value_insert S v t i;
     q_vars = omega (arith, taken_insert S v t);
     q_next = λ w. elim (ℕ_discrete w v) [ yes d ↦ at w d | no d ↦ next_agree S bound w (get_insert_other S v t w d) (λ u e. value_insert S v t u) ];
-    q_get = λ w u e. get_insert_other S v t w (λ d. never (let a : get S v ≡ some u = rw d at e in cc)) ∙ e;
+    q_get = λ w u e. get_insert_other S v t w (λ d. never (let a : get S v ≡ Some u = rw d at e in cc)) ∙ e;
   }
     where
       at : (w : ℕ) → w ≡ v → next_of bound w ≡ next_of S w

@@ -3,7 +3,7 @@
 use mathlib.Core.Path.{◌≡◌, refl}
 use mathlib.Core.Bool.{Bool, true, false}
 use mathlib.Core.List.{List, [], ◌∷◌}
-use mathlib.Core.Option.{Option, none, some}
+use Rattle.std.specs.Prelude.{Option, None, Some}
 use Prim.Native.Nat.{ℕ}
 use native.Mathlib.Omega.{arith}
 use Rattle.definition.specs.Types.{TypeName, AbilityMark, TypeValue, UnitType, Ref, Param, Apply, Var, Anything, UnresolvedError}
@@ -13,8 +13,8 @@ use Rattle.definition.specs.Subst.{next_of, as_var, parts}
 
 -- v's chain ends at e
 pub data Ends (S : State) : ℕ → ℕ → Type 0 where
-  here : {v : ℕ} → next_of S v ≡ none → Ends S v v
-  hop : {v w e : ℕ} → next_of S v ≡ some w → Ends S w e → Ends S v e
+  here : {v : ℕ} → next_of S v ≡ None → Ends S v v
+  hop : {v w e : ℕ} → next_of S v ≡ Some w → Ends S w e → Ends S v e
 
 abbrev pub LeMut : Bool → Bool → Type 0
 LeMut true b = Unit {0}
@@ -39,8 +39,8 @@ solid UnresolvedError = true
 
 -- what the type r is, once its chain is followed
 pub data Reach (S : State) : ℕ → ℕ → Type 0 where
-  r_self : {r : ℕ} → as_var (type_at S r) ≡ none → Reach S r r
-  r_var : {r w e t : ℕ} → type_at S r ≡ Var w → Ends S w e → get S e ≡ some t → Reach S r t
+  r_self : {r : ℕ} → as_var (type_at S r) ≡ None → Reach S r r
+  r_var : {r w e t : ℕ} → type_at S r ≡ Var w → Ends S w e → get S e ≡ Some t → Reach S r t
 
 mutual
   pub data Tracks (S : State) : ℕ → ℕ → Type 0 where
@@ -61,7 +61,7 @@ mutual
 pub never : {A : Type 0} → ◌≡◌ {A = ℕ} 0 1 → A
 never z = absurd (omega arith)
 
-pub ends_stop : {S : State} {v e : ℕ} → Ends S v e → next_of S e ≡ none
+pub ends_stop : {S : State} {v e : ℕ} → Ends S v e → next_of S e ≡ None
 ends_stop (here h) = h
 ends_stop (hop n d) = ends_stop d
 
@@ -120,7 +120,7 @@ head_err_r h_apply e = never (cc)
 pub data Kind (L : TypeValue) : Type 0 where
   k_any : L ≡ Anything → Kind L
   k_var : {v : ℕ} → L ≡ Var v → Kind L
-  k_solid : solid L ≡ true → as_var L ≡ none → Kind L
+  k_solid : solid L ≡ true → as_var L ≡ None → Kind L
 
 pub kind : (L : TypeValue) → Kind L
 unfolding as_var
@@ -138,12 +138,12 @@ solid_any s e = never (let t : ◌≡◌ {A = Bool} false true = rw e at s in cc
 pub solid_var : {L : TypeValue} {v : ℕ} {A : Type 0} → solid L ≡ true → L ≡ Var v → A
 solid_var s e = never (let t : ◌≡◌ {A = Bool} false true = rw e at s in cc)
 
-pub solid_nonvar : (L : TypeValue) → solid L ≡ true → as_var L ≡ none
+pub solid_nonvar : (L : TypeValue) → solid L ≡ true → as_var L ≡ None
 solid_nonvar L s = elim (kind L) [ k_any e ↦ solid_any s e | k_var e ↦ solid_var s e | k_solid a b ↦ b ]
 
-pub nonvar_var : {L : TypeValue} {v : ℕ} {A : Type 0} → as_var L ≡ none → L ≡ Var v → A
+pub nonvar_var : {L : TypeValue} {v : ℕ} {A : Type 0} → as_var L ≡ None → L ≡ Var v → A
 unfolding as_var
-nonvar_var {v = v} s e = never (let t : ◌≡◌ {A = Option ℕ} (some v) none = rw e at s in cc)
+nonvar_var {v = v} s e = never (let t : ◌≡◌ {A = Option ℕ} (Some v) None = rw e at s in cc)
 
 pub any_var : {L : TypeValue} {v : ℕ} {A : Type 0} → L ≡ Anything → L ≡ Var v → A
 any_var s e = never (cc)

@@ -6,7 +6,7 @@ use mathlib.Core.Logic.{◌≢◌}
 use mathlib.Core.Bool.{Bool, true, false, ◌&&◌, ◌||◌}
 use mathlib.Core.List.Memᴰ
 use mathlib.Core.List.{List, [], ◌∷◌, ◌++◌}
-use mathlib.Core.Option.{Option, none, some}
+use Rattle.std.specs.Prelude.{Option, None, Some}
 use Prim.Native.Nat.{ℕ, zero, suc, ◌<◌}
 use native.Mathlib.Decide.{dec_lt}
 use native.Mathlib.Omega.{arith}
@@ -40,7 +40,7 @@ use Rattle.theorems.proofs.TotalWalk.{seven, nine, eleven, sixteen, Ends, e_ok, 
 use Rattle.theorems.proofs.SolveHindered.{solve_cases}
 use Rattle.theorems.proofs.Doubled.{is_ref as is_ref_tree, doubled, doubled_in, NoDoubled, NoDoubledIn, doubled_record, NoDoubledRecord, or_l, or_r}
 use Rattle.theorems.proofs.DoubledReads.{record_none_doubled}
-use Rattle.theorems.proofs.DoubledSingle.{is_ref, Plain, Single, under, plain_no_ref, Left, left_same, left_refl, Goes, goes_from, goes_map, goes, Some, IsPlain, sp_goes, tvar_goes, Joined, join_goes}
+use Rattle.theorems.proofs.DoubledSingle.{is_ref, Plain, Single, under, plain_no_ref, Left, left_same, left_refl, Goes, goes_from, goes_map, goes, Unasked, IsPlain, sp_goes, tvar_goes, Joined, join_goes}
 
 -- ---- the claim
 
@@ -62,7 +62,7 @@ mutual
   place_goes (apply_tree loc k n ts) d s i = goes _ (place_all_goes ts d s i) (λ x l p. sp_goes x.0 l.single loc (Apply k n x.1) tt)
   place_goes (var_tree loc v) d s i = sp_goes s i loc (Var v) tt
 
-  place_all_goes : (ts : Trees) → NoDoubledIn ts → (s : State) → Single s → Goes s Some (build_all ts s)
+  place_all_goes : (ts : Trees) → NoDoubledIn ts → (s : State) → Single s → Goes s Unasked (build_all ts s)
   place_all_goes no_trees d s i = e_ok (left_refl i, tt)
   place_all_goes (◌then◌ t ts) d s i =
       goes _ (place_goes t (or_l (doubled t) (doubled_in ts) d) s i) (λ x l1 p. goes _ (place_all_goes ts (or_r (doubled t) (doubled_in ts) d) x.0 l1.single) (λ y l2 q. e_ok (left_refl l2.single, tt)))
@@ -83,7 +83,7 @@ make_tvar_goes : (s : State) → Single s → (loc : ℕ) → Goes s IsPlain (ma
 unfolding make_tvar
 make_tvar_goes s i loc = goes _ (tvar_goes s i) (λ x l p. goes_map (λ a l p. p refl) (sp_goes x.0 l.single loc (Var x.1) tt))
 
-tparams_goes : (s : State) → Single s → (loc : ℕ) (n : TypeName) (tys cs : List ℕ) → Goes s Some (make_tparams s loc n tys cs)
+tparams_goes : (s : State) → Single s → (loc : ℕ) (n : TypeName) (tys cs : List ℕ) → Goes s Unasked (make_tparams s loc n tys cs)
 unfolding make_tparams
 tparams_goes s i loc n [] cs = e_ok (left_refl i, tt)
 tparams_goes s i loc n (ty ∷ tys) [] = e_ok (left_refl i, tt)
@@ -93,14 +93,14 @@ tparams_goes s i loc n (ty ∷ tys) (c ∷ cs) =
     added s2 l2.single _ _ (λ s3 l3.
     goes _ (tparams_goes s3 l3.single loc n tys cs) (λ y l4 q. e_ok (left_refl l4.single, tt)))))
 
-join_args_goes : (s : State) → Single s → (vs ts : List ℕ) → Goes s Some (join_args s vs ts)
+join_args_goes : (s : State) → Single s → (vs ts : List ℕ) → Goes s Unasked (join_args s vs ts)
 unfolding join_args join
 join_args_goes s i [] ts = e_ok (left_refl i, tt)
 join_args_goes s i (v ∷ vs) [] = e_ok (left_refl i, tt)
 join_args_goes s i (v ∷ vs) (t ∷ ts) = goes _ (join_goes max_depth s i _ v t) (λ x l1 p. goes _ (join_args_goes x.0 l1.single vs ts) (λ y l2 q. e_ok (left_refl l2.single, tt)))
 
 module _ (f : State → ℕ → Result (State × ℕ)) (h : (s : State) → Single s → (ty : ℕ) → Goes s (λ a. Plain s ty → IsPlain a) (f s ty)) where
-  map_goes : (ts : List ℕ) (s : State) → Single s → Goes s Some (map_types f s ts)
+  map_goes : (ts : List ℕ) (s : State) → Single s → Goes s Unasked (map_types f s ts)
   unfolding map_types
   map_goes [] s i = e_ok (left_refl i, tt)
   map_goes (t ∷ ts) s i = goes _ (h s i t) (λ x l1 p. goes _ (map_goes ts x.0 l1.single) (λ y l2 q. e_ok (left_refl l2.single, tt)))
@@ -175,8 +175,8 @@ module _ (s : State) (i : Single s) where
 
   tell_leaves : (n : Option Needs) → Leaves (tell s n)
   unfolding tell
-  tell_leaves none = e_refused eleven
-  tell_leaves (some n) = e_ok i
+  tell_leaves None = e_refused eleven
+  tell_leaves (Some n) = e_ok i
 
   run_leaves : (r : Record) → NoDoubledRecord r → Leaves (run s r)
   unfolding run join subtype subst_tparams instantiate solve_constraints doubled_record

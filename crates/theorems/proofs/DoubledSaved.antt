@@ -3,7 +3,7 @@
 use mathlib.Core.Path.{◌≡◌, refl, ap}
 use mathlib.Core.Bool.{true, false}
 use mathlib.Core.List.{List, [], ◌∷◌, ◌++◌, map}
-use mathlib.Core.Option.{none, some}
+use Rattle.std.specs.Prelude.{None, Some}
 use Prim.Native.Nat.{ℕ}
 use Rattle.definition.specs.Types.{Apply, Builtin, Ref, State, unsound_state}
 use Rattle.definition.specs.Write.{Bytes}
@@ -42,9 +42,9 @@ answers_as_before s bytes buffer r rest d n = ap (step_of s buffer) (read_same (
 -- u8, `&u8`, `&&u8`, `&mut &u8`; V0 is bound to the third, V1 to the fourth
 abbrev pub saved : State
 saved = record {
-  nodes = record { loc = 1; value = Apply none (Builtin 2) (record { first = 0; many = 0 }) } ∷ record { loc = 2; value = Ref false 0 } ∷ record { loc = 3; value = Ref false 1 } ∷ record { loc = 4; value = Ref true 1 } ∷ [];
+  nodes = record { loc = 1; value = Apply None (Builtin 2) (record { first = 0; many = 0 }) } ∷ record { loc = 2; value = Ref false 0 } ∷ record { loc = 3; value = Ref false 1 } ∷ record { loc = 4; value = Ref true 1 } ∷ [];
   args = [];
-  vars = record { binding = some 2; numeric = none } ∷ record { binding = some 3; numeric = none } ∷ [];
+  vars = record { binding = Some 2; numeric = None } ∷ record { binding = Some 3; numeric = None } ∷ [];
   constraints = [];
   structs = [];
 }

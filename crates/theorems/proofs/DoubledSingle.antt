@@ -5,7 +5,7 @@ use mathlib.Core.Path.{◌≡◌, refl, ◌∙◌}
 use mathlib.Core.Logic.{◌⊎◌, inl, inr}
 use mathlib.Core.Bool.{Bool, true, false, not, ◌&&◌}
 use mathlib.Core.List.{List, [], ◌∷◌, ◌++◌}
-use mathlib.Core.Option.{Option, none, some}
+use Rattle.std.specs.Prelude.{Option, None, Some}
 use Prim.Native.Nat.{ℕ, zero, suc, ◌<◌}
 use native.Mathlib.Omega.{arith}
 use lib.ListN.{length, get_or}
@@ -145,8 +145,8 @@ pub goes : {B C : Type 0} {s : State} {P : State × B → Type 0} {Q : State × 
     → Goes s P m → ((a : State × B) → Left s a.0 → P a → Goes a.0 Q (f a)) → Goes s Q (m >>= f)
 goes f h k = bind f h (λ a p. goes_from p.0 (k a p.0 p.1))
 
-abbrev pub Some : {B : Type 0} → State × B → Type 0
-Some a = Unit {0}
+abbrev pub Unasked : {B : Type 0} → State × B → Type 0
+Unasked a = Unit {0}
 
 abbrev pub IsPlain : State × ℕ → Type 0
 IsPlain a = Plain a.0 a.1
@@ -154,24 +154,24 @@ IsPlain a = Plain a.0 a.1
 pub sp_goes : (s : State) → Single s → (l : ℕ) (x : TypeValue) → Over s x → Goes s (λ a. is_ref x ≡ false → IsPlain a) (sp s l x)
 sp_goes s i l x o = with_room (Goes s (λ a. is_ref x ≡ false → IsPlain a)) (sp_room s l x) (λ e. e_ok (left_node i l x o, λ h. plain_new s l x h)) (e_refused seven)
 
-pub tvar_goes : (s : State) → Single s → Goes s Some (next_tvar s)
-tvar_goes s i = with_room (Goes s Some) (tvar_room s) (λ e. e_ok (left_same (with_var_nodes s) i, tt)) (e_refused seven)
+pub tvar_goes : (s : State) → Single s → Goes s Unasked (next_tvar s)
+tvar_goes s i = with_room (Goes s Unasked) (tvar_room s) (λ e. e_ok (left_same (with_var_nodes s) i, tt)) (e_refused seven)
 
 -- ---- join
 
 left_insert : {s : State} → Single s → (v t : ℕ) → Left s (insert s v t)
 left_insert {s} i v t = left_same (insert_nodes s v t) i
 
-bind_tvar_goes : (s : State) → Single s → (loc v ty : ℕ) → Goes s Some (join_bind_tvar s loc v ty)
+bind_tvar_goes : (s : State) → Single s → (loc v ty : ℕ) → Goes s Unasked (join_bind_tvar s loc v ty)
 unfolding join_bind_tvar
 bind_tvar_goes s i loc v ty =
     either (not (check_num_tvar s v ty)) (λ c. e_ok (left_refl i, tt)) (λ c. either (used (suc ty) s v ty) (λ u. e_err i) (λ u. either (is_anything (type_at s ty)) (λ a. e_ok (left_refl i, tt)) (λ a. e_ok (left_insert i v ty, tt))))
 
-type_of_goes : (s : State) → Single s → (loc id : ℕ) → Goes s Some (type_of s loc id)
+type_of_goes : (s : State) → Single s → (loc id : ℕ) → Goes s Unasked (type_of s loc id)
 unfolding type_of
 type_of_goes s i loc id = maybe (get s id) (goes_map (λ a l p. tt) (sp_goes s i loc Anything tt)) (λ t. e_ok (left_refl i, tt))
 
-shown_goes : (s : State) → Single s → (ty id : ℕ) → Goes s Some (shown s ty id)
+shown_goes : (s : State) → Single s → (ty id : ℕ) → Goes s Unasked (shown s ty id)
 unfolding shown
 shown_goes s i ty id = either (is_anything (type_at s ty)) (λ a. goes_map (λ a l p. tt) (sp_goes s i (loc_of s ty) (Var id) tt)) (λ a. e_ok (left_refl i, tt))
 
@@ -202,7 +202,7 @@ module _ (J : JoinImpl) (h : (s : State) → Single s → (c : TypingCase) (l r 
       goes _ (shown_goes k.0 l7.single x1.1 id1) (λ y1 l8 p8. goes _ (shown_goes y1.0 l8.single x2.1 id2) (λ y2 l9 p9. e_err l9.single)))))
       (λ t. e_err l6.single)))))))))
 
-  types_goes : (s : State) → Single s → (c : TypingCase) (ls rs : List ℕ) → Goes s Some (join_impl_types J s c ls rs)
+  types_goes : (s : State) → Single s → (c : TypingCase) (ls rs : List ℕ) → Goes s Unasked (join_impl_types J s c ls rs)
   unfolding join_impl_types
   types_goes s i c [] rs = e_ok (left_refl i, tt)
   types_goes s i c (x ∷ ls) [] = e_ok (left_refl i, tt)
@@ -221,8 +221,8 @@ module _ (J : JoinImpl) (h : (s : State) → Single s → (c : TypingCase) (l r 
 
     refs_goes : (m1 : Bool) (t1 : ℕ) (m2 : Bool) (t2 : ℕ) → type_at s lhs ≡ Ref m1 t1 → type_at s rhs ≡ Ref m2 t2 → (o : Option Bool) → Goes s (Joined s lhs rhs) (join_refs J s c lhs rhs m1 t1 m2 t2 o)
     unfolding join_refs
-    refs_goes m1 t1 m2 t2 e d none = e_err i
-    refs_goes m1 t1 m2 t2 e d (some m) =
+    refs_goes m1 t1 m2 t2 e d None = e_err i
+    refs_goes m1 t1 m2 t2 e d (Some m) =
         goes _ (h s i c t1 t2) (λ x l p. goes_map (λ a l p q r. plain_no_ref q m1 t1 e) (sp_goes x.0 l.single _ (Ref m x.1) (p (under i lhs m1 t1 e) (under i rhs m2 t2 d))))
 
     applies_goes : (k1 : AbilityMark) (n1 : TypeName) (tys1 : List ℕ) (k2 : AbilityMark) (n2 : TypeName) (tys2 : List ℕ) → Goes s IsPlain (join_applies J s c lhs rhs k1 n1 tys1 k2 n2 tys2)

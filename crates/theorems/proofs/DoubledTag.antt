@@ -5,7 +5,7 @@ use mathlib.Core.Path.{◌≡◌, refl, sym, ap, ◌∙◌}
 use mathlib.Core.Logic.{◌≢◌}
 use mathlib.Core.Bool.{Bool, true, false, not, ◌&&◌}
 use mathlib.Core.List.{[], ◌∷◌, ◌++◌, append_assoc}
-use mathlib.Core.Option.{Option, none, some}
+use Rattle.std.specs.Prelude.{Option, None, Some}
 use Prim.Native.Nat.{ℕ, zero, suc}
 use lib.ListN.{get_or, take, drop}
 use lib.Dec.{eqb, ltb, eqb→eq}
@@ -159,9 +159,9 @@ x_mark : Both read_mark read_mark
 unfolding read_mark
 x_mark = x_bind x_byte (λ b. go (mark_of b))
   where
-    go : (o : Option AbilityMark) → Both {A = AbilityMark} (elim o [ none ↦ refuse malformed | some k ↦ give k ]) (elim o [ none ↦ refuse malformed | some k ↦ give k ])
-    go none = x_refuse malformed no_5
-    go (some k) = x_give k
+    go : (o : Option AbilityMark) → Both {A = AbilityMark} (elim o [ None ↦ refuse malformed | Some k ↦ give k ]) (elim o [ None ↦ refuse malformed | Some k ↦ give k ])
+    go None = x_refuse malformed no_5
+    go (Some k) = x_give k
 
 -- ---- types
 

@@ -3,7 +3,7 @@
 use mathlib.Core.Path.{◌≡◌, refl, ap}
 use mathlib.Core.Bool.{Bool, true, false}
 use mathlib.Core.List.{List, [], ◌∷◌, ◌++◌, map, map-append}
-use mathlib.Core.Option.{Option, none, some}
+use Rattle.std.specs.Prelude.{Option, None, Some}
 use Prim.Native.Nat.{ℕ, zero, suc, ◌+◌}
 use lib.ListN.{length, get_or, set, length-map, get_or-map}
 use lib.Dec.{leb, ltb}
@@ -22,8 +22,8 @@ abbrev pub erase_spanned : Spanned TypeValue → Spanned TypeValue
 erase_spanned t = record { loc = 0; value = t.value }
 
 abbrev pub erase_mark : Option ℕ → Option ℕ
-erase_mark none = none
-erase_mark (some loc) = some 0
+erase_mark None = None
+erase_mark (Some loc) = Some 0
 
 abbrev pub erase_cell : Cell → Cell
 erase_cell c = record { binding = c.binding; numeric = erase_mark c.numeric }
@@ -170,9 +170,9 @@ module _ {A B : Type 0} {h : A → B} where
   er_elim false b' e p q = rw e q
 
   pub er_opt : (o o' : Option ℕ) {x : Result A} {x' : Result B} {k : ℕ → Result A} {k' : ℕ → Result B} → o' ≡ o → Erased h x x' → ((t : ℕ) → Erased h (k t) (k' t))
-      → Erased h (elim o [ none ↦ x | some t ↦ k t ]) (elim o' [ none ↦ x' | some t ↦ k' t ])
-  er_opt none o' e p q = rw e p
-  er_opt (some t) o' e p q = rw e (q t)
+      → Erased h (elim o [ None ↦ x | Some t ↦ k t ]) (elim o' [ None ↦ x' | Some t ↦ k' t ])
+  er_opt None o' e p q = rw e p
+  er_opt (Some t) o' e p q = rw e (q t)
 
 -- ---- the operations that may find no room
 
@@ -211,9 +211,9 @@ module _ {A : Type 0} where
   bool_same true b' e p q = rw e p
   bool_same false b' e p q = rw e q
 
-  pub opt_same : {B : Type 0} (o o' : Option B) {x x' : A} {k k' : B → A} → o' ≡ o → x' ≡ x → ((t : B) → k' t ≡ k t) → ◌≡◌ {A = A} (elim o' [ none ↦ x' | some t ↦ k' t ]) (elim o [ none ↦ x | some t ↦ k t ])
-  opt_same none o' e p q = rw e p
-  opt_same (some t) o' e p q = rw e (q t)
+  pub opt_same : {B : Type 0} (o o' : Option B) {x x' : A} {k k' : B → A} → o' ≡ o → x' ≡ x → ((t : B) → k' t ≡ k t) → ◌≡◌ {A = A} (elim o' [ None ↦ x' | Some t ↦ k' t ]) (elim o [ None ↦ x | Some t ↦ k t ])
+  opt_same None o' e p q = rw e p
+  opt_same (Some t) o' e p q = rw e (q t)
 
 pub any_erase : (f g : ℕ → Bool) → ((t : ℕ) → f t ≡ g t) → (ts : List ℕ) → any_of f ts ≡ any_of g ts
 unfolding any_of

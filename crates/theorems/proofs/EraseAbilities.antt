@@ -2,7 +2,7 @@
 use mathlib.Core.Path.{◌≡◌, refl, ap, ◌∙◌}
 use mathlib.Core.Bool.{Bool}
 use mathlib.Core.List.{List, [], ◌∷◌, map}
-use mathlib.Core.Option.{none, some}
+use Rattle.std.specs.Prelude.{None, Some}
 use Prim.Native.Nat.{ℕ, zero, suc}
 use Rattle.std.specs.Prelude.{if◌then◌else◌}
 use Rattle.definition.specs.Types.{Constraint, AbilityConstraint, NumericConstraint, BitsConstraint, OrderedConstraint, BaseTypeConstraint, SingleTypeConstraint, mark_contradicted, State}
@@ -34,7 +34,7 @@ module _ (s : State) where
   one_erase : (c : Constraint) → constraint_hindrance (erase s) (erase_constraint c) ≡ constraint_hindrance s c
   unfolding constraint_hindrance ability_hindrance
   one_erase (AbilityConstraint loc ty wanted) = bool_same (reaches_itself s ty) (reaches_itself (erase s) ty) (itself_erase s ty) refl
-      (ap (λ (b : Bool). if b then some mark_contradicted else none) (ap (any_of _) (missing_erase ty wanted) ∙ any_erase _ _ (λ ability. ap is_contradicted (rule_erase ability ty)) (missing s ty wanted)))
+      (ap (λ (b : Bool). if b then Some mark_contradicted else None) (ap (any_of _) (missing_erase ty wanted) ∙ any_erase _ _ (λ ability. ap is_contradicted (rule_erase ability ty)) (missing s ty wanted)))
   one_erase (NumericConstraint loc ty) = refl
   one_erase (BitsConstraint loc ty) = refl
   one_erase (OrderedConstraint loc ty) = refl

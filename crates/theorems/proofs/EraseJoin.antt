@@ -3,7 +3,7 @@
 use mathlib.Core.Path.{◌≡◌, refl, ap}
 use mathlib.Core.Bool.{Bool, true, false, not, ◌&&◌, ◌||◌}
 use mathlib.Core.List.{List, [], ◌∷◌}
-use mathlib.Core.Option.{Option, none, some}
+use Rattle.std.specs.Prelude.{Option, None, Some}
 use Prim.Native.Nat.{ℕ, zero, suc, ◌*◌}
 use lib.Dec.{eqb}
 use Rattle.definition.specs.Types.{TypeName, Multiple, Builtin, ModuleType, AbilityMark, UnitType, Ref, Param, Apply, Var, Anything, UnresolvedError, TypeValue, Spanned, State}
@@ -26,8 +26,8 @@ module _ (s : State) where
   next_of_erase v = rw (get_erase s v) (go (get s v))
     where
       go : (o : Option ℕ) → next_in (erase s) o ≡ next_in s o
-      go none = refl
-      go (some t) = rw (value_erase s t) refl
+      go None = refl
+      go (Some t) = rw (value_erase s t) refl
 
   forward_erase : (n v : ℕ) → forward n (erase s) v ≡ forward n s v
   unfolding forward
@@ -43,17 +43,17 @@ module _ (s : State) where
 
   unfold_erase : (l l' : ℕ) (o : Option ℕ) → l' ≡ 0 → unfold_var (erase s) l' o ≡ erase_spanned (unfold_var s l o)
   unfolding unfold_var
-  unfold_erase l l' none z = rw z refl
-  unfold_erase l l' (some t) z = spanned_erase s t
+  unfold_erase l l' None z = rw z refl
+  unfold_erase l l' (Some t) z = spanned_erase s t
 
   pub unfold_type_erase : (t : Spanned TypeValue) → unfold_type (erase s) (erase_spanned t) ≡ erase_spanned (unfold_type s t)
   unfolding unfold_type
   unfold_type_erase t = go (as_var t.value)
     where
-      go : (o : Option ℕ) → ◌≡◌ {A = Spanned TypeValue} (elim o [ none ↦ erase_spanned t | some i ↦ unfold_var (erase s) 0 (get (erase s) (forward_tvar (erase s) i)) ])
-          (erase_spanned (elim o [ none ↦ t | some i ↦ unfold_var s t.loc (get s (forward_tvar s i)) ]))
-      go none = refl
-      go (some i) = rw (end_erase i, get_erase s (forward_tvar s i)) (unfold_erase t.loc 0 _ refl)
+      go : (o : Option ℕ) → ◌≡◌ {A = Spanned TypeValue} (elim o [ None ↦ erase_spanned t | Some i ↦ unfold_var (erase s) 0 (get (erase s) (forward_tvar (erase s) i)) ])
+          (erase_spanned (elim o [ None ↦ t | Some i ↦ unfold_var s t.loc (get s (forward_tvar s i)) ]))
+      go None = refl
+      go (Some i) = rw (end_erase i, get_erase s (forward_tvar s i)) (unfold_erase t.loc 0 _ refl)
 
   goes_on_erase : (t : ℕ) → goes_on_to (erase s) t ≡ goes_on_to s t
   unfolding goes_on_to
@@ -75,8 +75,8 @@ unfolding mark_one or_insert
 mark_one_erase s v l l' z = cell_set s v _ _ (rw (get_erase s v, num_erase s v, z, older (num_loc s v)) refl)
   where
     older : (o : Option ℕ) → or_insert (erase_mark o) 0 ≡ 0
-    older none = refl
-    older (some l) = refl
+    older None = refl
+    older (Some l) = refl
 
 mark_chain_erase : (n : ℕ) (s : State) (v l l' : ℕ) → l' ≡ 0 → mark_chain n (erase s) v l' ≡ erase (mark_chain n s v l)
 unfolding mark_chain
@@ -84,10 +84,10 @@ mark_chain_erase zero s v l l' z = refl
 mark_chain_erase (suc n) s v l l' z = go (next_of s v) (next_of (erase s) v) (next_of_erase s v) (mark_one_erase s v l l' z) (λ next. mark_chain_erase n (mark_one s v l) next l l' z)
   where
     go : (o o' : Option ℕ) → o' ≡ o → mark_one (erase s) v l' ≡ erase (mark_one s v l) → ((next : ℕ) → mark_chain n (erase (mark_one s v l)) next l' ≡ erase (mark_chain n (mark_one s v l) next l))
-        → ◌≡◌ {A = State} (elim o' [ none ↦ mark_one (erase s) v l' | some next ↦ mark_chain n (mark_one (erase s) v l') next l' ])
-        (erase (elim o [ none ↦ mark_one s v l | some next ↦ mark_chain n (mark_one s v l) next l ]))
-    go none o' e m f = rw e m
-    go (some next) o' e m f = rw (e, m) (f next)
+        → ◌≡◌ {A = State} (elim o' [ None ↦ mark_one (erase s) v l' | Some next ↦ mark_chain n (mark_one (erase s) v l') next l' ])
+        (erase (elim o [ None ↦ mark_one s v l | Some next ↦ mark_chain n (mark_one s v l) next l ]))
+    go None o' e m f = rw e m
+    go (Some next) o' e m f = rw (e, m) (f next)
 
 pub set_num_erase : (s : State) (v l l' : ℕ) → l' ≡ 0 → set_num_var (erase s) v l' ≡ erase (set_num_var s v l)
 unfolding set_num_var
@@ -95,10 +95,10 @@ set_num_erase s v l l' z = rw (taken_erase s) (mark_chain_erase (taken s) s v l 
 
 merge_erase : (s : State) (a b : Option ℕ) (v : ℕ) → merge_num (erase s) (erase_mark a) (erase_mark b) v ≡ erase (merge_num s a b v)
 unfolding merge_num
-merge_erase s none none v = refl
-merge_erase s (some l) none v = set_num_erase s v l 0 refl
-merge_erase s none (some l) v = set_num_erase s v l 0 refl
-merge_erase s (some k) (some l) v = set_num_erase s v l 0 refl
+merge_erase s None None v = refl
+merge_erase s (Some l) None v = set_num_erase s v l 0 refl
+merge_erase s None (Some l) v = set_num_erase s v l 0 refl
+merge_erase s (Some k) (Some l) v = set_num_erase s v l 0 refl
 
 -- ---- RD
 
@@ -128,9 +128,9 @@ module _ (s : State) where
   unfolding is_num_var
   num_var_erase v = go (num_loc s v) (num_loc (erase s) v) (num_erase s v)
     where
-      go : (o o' : Option ℕ) → o' ≡ erase_mark o → ◌≡◌ {A = Bool} (elim o' [ none ↦ false | some l ↦ true ]) (elim o [ none ↦ false | some l ↦ true ])
-      go none o' e = rw e refl
-      go (some l) o' e = rw e refl
+      go : (o o' : Option ℕ) → o' ≡ erase_mark o → ◌≡◌ {A = Bool} (elim o' [ None ↦ false | Some l ↦ true ]) (elim o [ None ↦ false | Some l ↦ true ])
+      go None o' e = rw e refl
+      go (Some l) o' e = rw e refl
 
   check'_erase : (t : ℕ) → check_num_tvar' (erase s) t ≡ check_num_tvar' s t
   unfolding check_num_tvar'
@@ -214,8 +214,8 @@ module _ (j : JoinImpl) (r : Alike j) where
   module _ (s : State) (c : TypingCase) (lhs rhs : ℕ) where
     refs_erase : (m1 : Bool) (t1 : ℕ) (m2 : Bool) (t2 : ℕ) (o : Option Bool) → Erased with_state (join_refs j s c lhs rhs m1 t1 m2 t2 o) (join_refs j (erase s) c lhs rhs m1 t1 m2 t2 o)
     unfolding join_refs
-    refs_erase m1 t1 m2 t2 none = er_err refl refl
-    refs_erase m1 t1 m2 t2 (some m) = er_bind _ _ (r s c t1 t2) (λ x. sp_erase x.0 _ _ (Ref m x.1) (join_loc_0 c m1 m2 _ _ (loc_erase s lhs) (loc_erase s rhs)))
+    refs_erase m1 t1 m2 t2 None = er_err refl refl
+    refs_erase m1 t1 m2 t2 (Some m) = er_bind _ _ (r s c t1 t2) (λ x. sp_erase x.0 _ _ (Ref m x.1) (join_loc_0 c m1 m2 _ _ (loc_erase s lhs) (loc_erase s rhs)))
 
     applies_erase : (k1 : AbilityMark) (n1 : TypeName) (ts1 : List ℕ) (k2 : AbilityMark) (n2 : TypeName) (ts2 : List ℕ) → Erased with_state (join_applies j s c lhs rhs k1 n1 ts1 k2 n2 ts2) (join_applies j (erase s) c lhs rhs k1 n1 ts1 k2 n2 ts2)
     unfolding join_applies

@@ -3,7 +3,7 @@
 use mathlib.Core.Path.{◌≡◌, refl, sym, ap}
 use mathlib.Core.Bool.{Bool, true, false, not, ◌&&◌}
 use mathlib.Core.List.{List, [], ◌∷◌, ◌++◌, map, append_assoc}
-use mathlib.Core.Option.{Option, none, some}
+use Rattle.std.specs.Prelude.{Option, None, Some}
 use Prim.Native.Nat.{ℕ, zero, suc, ◌+◌, ◌*◌}
 use lib.ListN.{length, get_or, take, drop, replicate, length-append, length-drop}
 use lib.Dec.{eqb, ltb}
@@ -183,9 +183,9 @@ module _ {S : State} where
   unfolding read_mark
   al_mark more = al_bind _ _ (al_plain more) (λ b. go (mark_of b))
     where
-      go : (o : Option AbilityMark) → Alike {A = AbilityMark} {B = AbilityMark} same S more (λ k. more) (elim o [ none ↦ refuse malformed | some k ↦ give k ]) (elim o [ none ↦ refuse malformed | some k ↦ give k ])
-      go none = al_refuse _
-      go (some k) = al_give k refl
+      go : (o : Option AbilityMark) → Alike {A = AbilityMark} {B = AbilityMark} same S more (λ k. more) (elim o [ None ↦ refuse malformed | Some k ↦ give k ]) (elim o [ None ↦ refuse malformed | Some k ↦ give k ])
+      go None = al_refuse _
+      go (Some k) = al_give k refl
 
 -- ---- types
 

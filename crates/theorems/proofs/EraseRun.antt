@@ -3,7 +3,7 @@
 use mathlib.Core.Path.{◌≡◌, refl, sym, ap, ◌∙◌}
 use mathlib.Core.Bool.{Bool, true, false, not, ◌&&◌}
 use mathlib.Core.List.{List, [], ◌∷◌, ◌++◌, map, map-append}
-use mathlib.Core.Option.{Option, none, some}
+use Rattle.std.specs.Prelude.{Option, None, Some}
 use Prim.Native.Nat.{ℕ, zero, suc, ◌-◌, ◌≤◌, ◌<◌}
 use native.Mathlib.Omega.{arith}
 use lib.ListN.{length, replicate, get_or-eq_default}
@@ -109,10 +109,10 @@ num_vars_erase v [] = refl
 num_vars_erase v (c ∷ cells) = go c.numeric (num_vars_erase (suc v) cells)
   where
     go : (o : Option ℕ) → num_vars (suc v) (map erase_cell cells) ≡ map zero_loc (num_vars (suc v) cells)
-        → ◌≡◌ {A = List (ℕ × ℕ)} (elim (erase_mark o) [ none ↦ num_vars (suc v) (map erase_cell cells) | some loc ↦ (v, loc) ∷ num_vars (suc v) (map erase_cell cells) ])
-        (map zero_loc (elim o [ none ↦ num_vars (suc v) cells | some loc ↦ (v, loc) ∷ num_vars (suc v) cells ]))
-    go none e = e
-    go (some loc) e = ap (λ (l : List (ℕ × ℕ)). (v, 0) ∷ l) e
+        → ◌≡◌ {A = List (ℕ × ℕ)} (elim (erase_mark o) [ None ↦ num_vars (suc v) (map erase_cell cells) | Some loc ↦ (v, loc) ∷ num_vars (suc v) (map erase_cell cells) ])
+        (map zero_loc (elim o [ None ↦ num_vars (suc v) cells | Some loc ↦ (v, loc) ∷ num_vars (suc v) cells ]))
+    go None e = e
+    go (Some loc) e = ap (λ (l : List (ℕ × ℕ)). (v, 0) ∷ l) e
 
 default_erase : (s : State) (v loc : ℕ) → Erased erase (default_num_var s v loc) (default_num_var (erase s) v 0)
 unfolding default_num_var
@@ -188,10 +188,10 @@ module _ (S : State) (h : sound S ≡ true) where
       fit : Fitting S s
       fit = fitting S s (ranges_of S h).few_structs w.sound (value_in r)
 
-      go : (o o' : Option Refusal) → o' ≡ o → Erased (blanked S (failures ∷ [])) (elim o [ none ↦ ok (with_constraints s [], all_failures s s.constraints) | some x ↦ refused x ])
-          (elim o' [ none ↦ ok (with_constraints (erase s) [], all_failures (erase s) (erase s).constraints) | some x ↦ refused x ])
-      go none o' e = rw e (er_ok (pair_same (constraints_erased s []) (ap (all_failures (erase s)) (constraints_are s) ∙ sym (failures_shown S s fit s.constraints))))
-      go (some x) o' e = rw e er_refused
+      go : (o o' : Option Refusal) → o' ≡ o → Erased (blanked S (failures ∷ [])) (elim o [ None ↦ ok (with_constraints s [], all_failures s s.constraints) | Some x ↦ refused x ])
+          (elim o' [ None ↦ ok (with_constraints (erase s) [], all_failures (erase s) (erase s).constraints) | Some x ↦ refused x ])
+      go None o' e = rw e (er_ok (pair_same (constraints_erased s []) (ap (all_failures (erase s)) (constraints_are s) ∙ sym (failures_shown S s fit s.constraints))))
+      go (Some x) o' e = rw e er_refused
 
   close : {d d' : Result State} → Erased erase d d' → PostS (arity S) S (Went (arity S) S) d → Ends true (In (Unit {0}) S true) (In (Unit {0}) S true) d
       → Erased (blanked S (failures ∷ [])) (d >>= λ (s : State). solve_all s) (d' >>= λ (s : State). solve_all s)
@@ -229,8 +229,8 @@ module _ (S : State) (h : sound S ≡ true) where
 
   tell_erase : (n : Option Needs) → Erased (blanked S []) (tell S n) (tell (erase S) n)
   unfolding tell
-  tell_erase none = er_refused
-  tell_erase (some n) = er_ok (pair_same refl (sym (blank_nil S (write_needs n))))
+  tell_erase None = er_refused
+  tell_erase (Some n) = er_ok (pair_same refl (sym (blank_nil S (write_needs n))))
 
   pub run_erase : (r : Record) → Erased (blanked S (success_fields r)) (run S r) (run (erase S) (erase_record r))
   unfolding run erase_record success_fields

@@ -3,7 +3,7 @@
 use mathlib.Core.Path.{◌≡◌, refl, sym, subst}
 use mathlib.Core.Bool.{Bool, true, false, not, ◌&&◌}
 use mathlib.Core.List.{List, [], ◌∷◌, ◌++◌, Memᴰ}
-use mathlib.Core.Option.{none, some}
+use Rattle.std.specs.Prelude.{None, Some}
 use Prim.Native.Nat.{ℕ, zero, suc, ◌+◌, ◌-◌, ◌≤◌, ◌<◌}
 use native.Mathlib.Omega.{arith}
 use lib.ListN.{length, get_or, take, drop, length-take}
@@ -108,9 +108,9 @@ pays_mark : Pays 0 (λ k. 1) read_mark
 unfolding read_mark mark_of
 pays_mark = pays_then (λ b. 1) (λ k. 1) 0 byte _ pays_byte (λ b. go b (eqb b 0) (leb 16 b && is_set (b - 16)))
   where
-    go : (b : ℕ) (z m : Bool) → Pays {A = AbilityMark} 1 (λ k. 1) (elim (if z then some none else if m then some (some (b - 16)) else none) as (λ o. Reader AbilityMark) [ none ↦ refuse malformed | some k ↦ give k ])
-    go b true m = pays_give (λ k. 1) 1 none (omega arith)
-    go b false true = pays_give (λ k. 1) 1 (some (b - 16)) (omega arith)
+    go : (b : ℕ) (z m : Bool) → Pays {A = AbilityMark} 1 (λ k. 1) (elim (if z then Some None else if m then Some (Some (b - 16)) else None) as (λ o. Reader AbilityMark) [ None ↦ refuse malformed | Some k ↦ give k ])
+    go b true m = pays_give (λ k. 1) 1 None (omega arith)
+    go b false true = pays_give (λ k. 1) 1 (Some (b - 16)) (omega arith)
     go b false false = pays_refuse (λ k. 1) 1 malformed
 
 pays_name : (known : ℕ) → Pays 0 (λ n. 2) (name_below known)

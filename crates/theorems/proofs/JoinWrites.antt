@@ -3,7 +3,7 @@
 use mathlib.Core.Path.{◌≡◌, refl, ap, ◌∙◌, subst}
 use mathlib.Core.Bool.{Bool, true, not, ◌&&◌}
 use mathlib.Core.List.{List, [], ◌∷◌}
-use mathlib.Core.Option.{Option, none, some}
+use Rattle.std.specs.Prelude.{Option, None, Some}
 use Prim.Native.Nat.{ℕ, zero, suc, ◌+◌, ◌≤◌, ◌<◌}
 use native.Mathlib.Omega.{arith}
 use lib.ListN.{length, length-append}
@@ -173,8 +173,8 @@ module _ {ar : TypeName → ℕ} (join : JoinImpl) (g : Good ar join) (w : Slim 
 
     refs_slim : (m1 : Bool) (t1 : ℕ) (m2 : Bool) (t2 : ℕ) → type_at S l ≡ Ref m1 t1 → type_at S r ≡ Ref m2 t2 → (o : Option Bool) → Post ar S (NarrowIn ar S l r) (join_refs join S c l r m1 t1 m2 t2 o)
     unfolding join_refs parts
-    refs_slim m1 t1 m2 t2 el er none = p_err (grown_refl S) (nodes_of s)
-    refs_slim m1 t1 m2 t2 el er (some m) =
+    refs_slim m1 t1 m2 t2 el er None = p_err (grown_refl S) (nodes_of s)
+    refs_slim m1 t1 m2 t2 el er (Some m) =
         let b1 : t1 < l = (rw el at (s.parts_below l l_in)).0 in
         let b2 : t2 < r = (rw er at (s.parts_below r r_in)).0 in
         bind_post _ (post_both (g S c t1 t2 s (omega arith) (omega arith)) (w S c t1 t2 s (omega arith) (omega arith))) (λ S1 t g1 j.

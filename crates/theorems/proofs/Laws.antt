@@ -3,7 +3,7 @@
 use mathlib.Core.Path.{◌≡◌, refl, ap, ◌∙◌, subst}
 use mathlib.Core.Logic.{◌≢◌}
 use mathlib.Core.List.{List, [], ◌∷◌, ◌++◌, Memᴰ}
-use mathlib.Core.Option.{Option, none, some}
+use Rattle.std.specs.Prelude.{Option, None, Some}
 use Prim.Native.Nat.{ℕ, zero, suc, ◌+◌, ◌≤◌, ◌<◌}
 use native.Mathlib.Omega.{arith}
 use lib.ListN.{length, get_or, set, take, drop, length-append, length-set, length-drop, get_or-append, get_or-eq_default}
@@ -218,7 +218,7 @@ constraints_with_var s = constraints_vars s _
 
 -- ---- variables
 
-pub get_beyond : (s : State) (v : ℕ) → taken s ≤ v → get s v ≡ none
+pub get_beyond : (s : State) (v : ℕ) → taken s ≤ v → get s v ≡ None
 unfolding get
 get_beyond s v h = ap (λ (c : Cell). c.binding) (get_or-eq_default s.vars unbound h)
 
@@ -244,7 +244,7 @@ pub taken_with_var : (s : State) → taken (with_var s) ≡ suc (taken s)
 unfolding with_var with_vars
 taken_with_var s = length-append s.vars _ ∙ omega arith
 
-pub get_insert_same : (s : State) (v t : ℕ) → v < taken s → get (insert s v t) v ≡ some t
+pub get_insert_same : (s : State) (v t : ℕ) → v < taken s → get (insert s v t) v ≡ Some t
 unfolding get insert with_vars
 get_insert_same s v t h = ap (λ (c : Cell). c.binding) (get_or-set_same s.vars v _ unbound h)
 
@@ -295,9 +295,9 @@ chain_marks zero s v loc = marks_refl s
 chain_marks (suc n) s v loc = go (next_of s v) (λ next. chain_marks n (mark_one s v loc) next loc)
   where
     go : (o : Option ℕ) → ((next : ℕ) → SameButMarks (mark_one s v loc) (mark_chain n (mark_one s v loc) next loc))
-        → SameButMarks s (elim o [ none ↦ mark_one s v loc | some next ↦ mark_chain n (mark_one s v loc) next loc ])
-    go none f = one_marks s v loc
-    go (some next) f = marks_trans (one_marks s v loc) (f next)
+        → SameButMarks s (elim o [ None ↦ mark_one s v loc | Some next ↦ mark_chain n (mark_one s v loc) next loc ])
+    go None f = one_marks s v loc
+    go (Some next) f = marks_trans (one_marks s v loc) (f next)
 
 pub num_marks : (s : State) (v loc : ℕ) → SameButMarks s (set_num_var s v loc)
 unfolding set_num_var
@@ -305,6 +305,6 @@ num_marks s v loc = chain_marks _ s v loc
 
 pub merge_marks : (s : State) (a b : Option ℕ) (f : ℕ) → SameButMarks s (merge_num s a b f)
 unfolding merge_num
-merge_marks s a (some l) f = num_marks s f l
-merge_marks s (some l) none f = num_marks s f l
-merge_marks s none none f = marks_refl s
+merge_marks s a (Some l) f = num_marks s f l
+merge_marks s (Some l) None f = num_marks s f l
+merge_marks s None None f = marks_refl s

@@ -1,6 +1,6 @@
 -- Chains of a bounded number of steps, and the loop of forward_tvar. Assumes nothing.
 use mathlib.Core.Path.{◌≡◌, refl, sym, ap, ◌∙◌, subst}
-use mathlib.Core.Option.{Option, none, some}
+use Rattle.std.specs.Prelude.{Option, None, Some}
 use Prim.Native.Nat.{ℕ, zero, suc, ◌≤◌}
 use native.Mathlib.Omega.{arith}
 use Rattle.definition.specs.Types.{Var, State}
@@ -10,23 +10,23 @@ use Rattle.theorems.proofs.DemandTracks.{Ends, here, hop}
 
 -- v's chain ends within n steps
 pub data Within (S : State) : ℕ → ℕ → Type 0 where
-  w_here : {n v : ℕ} → next_of S v ≡ none → Within S n v
-  w_hop : {n v w : ℕ} → next_of S v ≡ some w → Within S n w → Within S (suc n) v
+  w_here : {n v : ℕ} → next_of S v ≡ None → Within S n v
+  w_hop : {n v w : ℕ} → next_of S v ≡ Some w → Within S n w → Within S (suc n) v
 
-pub stop_within : (S : State) (n v : ℕ) → next_of S (forward n S v) ≡ none → Within S n v
+pub stop_within : (S : State) (n v : ℕ) → next_of S (forward n S v) ≡ None → Within S n v
 unfolding forward
 stop_within S zero v h = w_here h
 stop_within S (suc n) v h = go (next_of S v) refl (λ w. stop_within S n w)
   where
-    go : (o : Option ℕ) → next_of S v ≡ o → ((w : ℕ) → next_of S (forward n S w) ≡ none → Within S n w) → Within S (suc n) v
-    go none e f = w_here e
-    go (some w) e f = w_hop e (f w (rw (e, forward) at h))
+    go : (o : Option ℕ) → next_of S v ≡ o → ((w : ℕ) → next_of S (forward n S w) ≡ None → Within S n w) → Within S (suc n) v
+    go None e f = w_here e
+    go (Some w) e f = w_hop e (f w (rw (e, forward) at h))
 
-forward_hop : (S : State) (n v w : ℕ) → next_of S v ≡ some w → forward (suc n) S v ≡ forward n S w
+forward_hop : (S : State) (n v w : ℕ) → next_of S v ≡ Some w → forward (suc n) S v ≡ forward n S w
 unfolding forward
 forward_hop S n v w h = rw (h, forward) refl
 
-forward_here : (S : State) (n v : ℕ) → next_of S v ≡ none → forward n S v ≡ v
+forward_here : (S : State) (n v : ℕ) → next_of S v ≡ None → forward n S v ≡ v
 unfolding forward
 forward_here S zero v h = refl
 forward_here S (suc n) v h = rw (h, forward) refl
@@ -48,22 +48,22 @@ pub ends_same : {S S' : State} {v e : ℕ} → ((v : ℕ) → next_of S' v ≡ n
 ends_same {v = v} f (here h) = here (f v ∙ h)
 ends_same {v = v} f (hop h d) = hop (f v ∙ h) (ends_same f d)
 
-pub next_agree : (S S' : State) (v : ℕ) → get S' v ≡ get S v → ((t : ℕ) → get S v ≡ some t → type_at S' t ≡ type_at S t) → next_of S' v ≡ next_of S v
+pub next_agree : (S S' : State) (v : ℕ) → get S' v ≡ get S v → ((t : ℕ) → get S v ≡ Some t → type_at S' t ≡ type_at S t) → next_of S' v ≡ next_of S v
 unfolding next_of next_in
 next_agree S S' v g f = go (get S v) refl
   where
     go : (o : Option ℕ) → get S v ≡ o → next_in S' (get S' v) ≡ next_in S (get S v)
-    go none e = rw (g, e) refl
-    go (some t) e = rw (g, e) (ap as_var (f t e))
+    go None e = rw (g, e) refl
+    go (Some t) e = rw (g, e) (ap as_var (f t e))
 
-pub next_none : (S : State) (v : ℕ) → get S v ≡ none → next_of S v ≡ none
+pub next_none : (S : State) (v : ℕ) → get S v ≡ None → next_of S v ≡ None
 unfolding next_of next_in
 next_none S v e = rw e refl
 
-pub next_some : (S : State) (v t : ℕ) → get S v ≡ some t → next_of S v ≡ as_var (type_at S t)
+pub next_some : (S : State) (v t : ℕ) → get S v ≡ Some t → next_of S v ≡ as_var (type_at S t)
 unfolding next_of next_in
 next_some S v t e = rw e refl
 
-pub next_var : (S : State) (v t w : ℕ) → get S v ≡ some t → type_at S t ≡ Var w → next_of S v ≡ some w
+pub next_var : (S : State) (v t w : ℕ) → get S v ≡ Some t → type_at S t ≡ Var w → next_of S v ≡ Some w
 unfolding next_of next_in as_var
 next_var S v t w e f = rw (e, f) refl

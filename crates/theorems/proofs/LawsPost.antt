@@ -3,7 +3,7 @@ use mathlib.Core.Path.{◌≡◌, refl, ◌∙◌}
 use Prim.Native.Nat.{ℕ, ◌≤◌, ◌<◌}
 use native.Mathlib.Omega.{arith}
 use mathlib.Core.Bool.{Bool, true, false}
-use mathlib.Core.Option.{Option, none, some}
+use Rattle.std.specs.Prelude.{Option, None, Some}
 use Rattle.theorems.proofs.DemandOrder.{Nodes}
 use Rattle.std.specs.Prelude.{if◌then◌else◌}
 use Rattle.definition.specs.Types.{TypeName, State, TypingError, Refusal, Result, ok, err, refused, ◌>>=◌}
@@ -43,10 +43,10 @@ module _ {B : Type 0} {ar : TypeName → ℕ} where
   if_post true f g = f refl
   if_post false f g = g refl
 
-  pub opt_post : {S : State} {P : State → B → Type 0} (o : Option ℕ) {x : Result (State × B)} {k : ℕ → Result (State × B)} → (o ≡ none → Post ar S P x) → ((t : ℕ) → o ≡ some t → Post ar S P (k t))
-      → Post ar S P (elim o [ none ↦ x | some t ↦ k t ])
-  opt_post none f g = f refl
-  opt_post (some t) f g = g t refl
+  pub opt_post : {S : State} {P : State → B → Type 0} (o : Option ℕ) {x : Result (State × B)} {k : ℕ → Result (State × B)} → (o ≡ None → Post ar S P x) → ((t : ℕ) → o ≡ Some t → Post ar S P (k t))
+      → Post ar S P (elim o [ None ↦ x | Some t ↦ k t ])
+  opt_post None f g = f refl
+  opt_post (Some t) f g = g t refl
 
 -- `?`
 pub bind_post : {B C : Type 0} {ar : TypeName → ℕ} {S : State} {P : State → B → Type 0} {Q : State → C → Type 0} {m : Result (State × B)} (f : State × B → Result (State × C))

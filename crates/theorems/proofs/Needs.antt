@@ -3,7 +3,7 @@
 use mathlib.Core.Path.{◌≡◌, refl, subst}
 use mathlib.Core.Logic.{◌↔◌}
 use mathlib.Core.Bool.{Bool, true, false}
-use mathlib.Core.Option.{Option, none, some}
+use Rattle.std.specs.Prelude.{Option, None, Some}
 use Prim.Native.Nat.{ℕ, suc, ◌*◌, ◌≤◌, ◌<◌}
 use native.Mathlib.Omega.{arith}
 use lib.ListN.{length}
@@ -56,13 +56,13 @@ module _ (ar : TypeName → ℕ) (vars : ℕ) where
 -- ---- what is told: none just where a variable is inside, and else what placing and instantiating take
 
 pub data Told (t : Tree) : Option Needs → Type 0 where
-  told_none : VarIn t → Told t none
-  told_some : (n : Needs) → (VarIn t → ⊥) → Same (sum (placed t) (made t)) n → Told t (some n)
+  told_none : VarIn t → Told t None
+  told_some : (n : Needs) → (VarIn t → ⊥) → Same (sum (placed t) (made t)) n → Told t (Some n)
 
 -- of arguments, with the place and the variable, node, place and constraints of each
 pub data ToldArgs (ts : Trees) : Option Needs → Type 0 where
-  args_none : VarsIn ts → ToldArgs ts none
-  args_some : (n : Needs) → (VarsIn ts → ⊥) → Same n (sum (four (size ts) (2 * size ts) (size ts) (2 * size ts)) (sum (merging_all ts) (sum (placed_all ts) (made_all ts)))) → ToldArgs ts (some n)
+  args_none : VarsIn ts → ToldArgs ts None
+  args_some : (n : Needs) → (VarsIn ts → ⊥) → Same n (sum (four (size ts) (2 * size ts) (size ts) (2 * size ts)) (sum (merging_all ts) (sum (placed_all ts) (made_all ts)))) → ToldArgs ts (Some n)
 
 abbrev pub leaf : Tree → Bool
 leaf (unit_tree loc) = true
@@ -82,7 +82,7 @@ pub not_none : {ts : Trees} → VarsIn ts → 0 < size ts
 not_none (var_first v) = omega arith
 not_none (var_later v) = omega arith
 
-merge_is : (t : Tree) → merge t ≡ some (merging t)
+merge_is : (t : Tree) → merge t ≡ Some (merging t)
 unfolding merge merging
 merge_is (unit_tree loc) = refl
 merge_is (anything_tree loc) = refl
@@ -108,7 +108,7 @@ apply_told loc k n ts (args_some m c e) = told_some (sum (four 2 0 0 0) m) (λ v
     inside : VarIn (apply_tree loc k n ts) → VarsIn ts
     inside (var_among v) = v
 
-then_told : (t : Tree) (ts : Trees) {o p : Option Needs} → Told t o → ToldArgs ts p → ToldArgs (◌then◌ t ts) (takes 1 2 1 2 plus some (merging t) plus o plus p)
+then_told : (t : Tree) (ts : Trees) {o p : Option Needs} → Told t o → ToldArgs ts p → ToldArgs (◌then◌ t ts) (takes 1 2 1 2 plus Some (merging t) plus o plus p)
 unfolding ◌plus◌ placed_all made_all merging_all
 then_told t ts (told_none v) q = args_none (var_first v)
 then_told t ts (told_some n c e) (args_none v) = args_none (var_later v)
@@ -118,7 +118,7 @@ then_told t ts (told_some n c e) (args_some m d f) = args_some (sum (sum (sum (f
     apart (var_first v) = c v
     apart (var_later v) = d v
 
-leaf_told : (t : Tree) (n : Needs) → leaf t ≡ true → Same (sum (placed t) (made t)) n → Told t (some n)
+leaf_told : (t : Tree) (n : Needs) → leaf t ≡ true → Same (sum (placed t) (made t)) n → Told t (Some n)
 leaf_told t n l e = told_some n (λ v. never (let z = not_leaf v in cc)) e
 
 mutual
@@ -167,22 +167,22 @@ mutual
   few_args no_trees = omega arith
   few_args (◌then◌ t ts) = let f = few_of t in let g = few_args ts in omega arith
 
-pub needs_few : (t : Tree) (n : Needs) → needs t ≡ some n → Few n (tree_size t)
+pub needs_few : (t : Tree) (n : Needs) → needs t ≡ Some n → Few n (tree_size t)
 needs_few t n e = go (needs_told t) e
   where
-    go : {o : Option Needs} → Told t o → o ≡ some n → Few n (tree_size t)
+    go : {o : Option Needs} → Told t o → o ≡ Some n → Few n (tree_size t)
     go (told_none v) d = never (cc)
     go (told_some m c q) d = let k : m ≡ n = cc in let f = few_of t in subst (λ (x : Needs). Few x (tree_size t)) k (omega (arith, q.same_nodes, q.same_places, q.same_variables, q.same_constraints))
 
 -- none is told just where a variable is inside
-pub needs_none : (t : Tree) → (needs t ≡ none) ↔ VarIn t
+pub needs_none : (t : Tree) → (needs t ≡ None) ↔ VarIn t
 needs_none t = (λ e. inside (needs_told t) e, λ v. nothing (needs_told t) v)
   where
-    inside : {o : Option Needs} → Told t o → o ≡ none → VarIn t
+    inside : {o : Option Needs} → Told t o → o ≡ None → VarIn t
     inside (told_none v) e = v
     inside (told_some n c d) e = never (cc)
 
-    nothing : {o : Option Needs} → Told t o → VarIn t → o ≡ none
+    nothing : {o : Option Needs} → Told t o → VarIn t → o ≡ None
     nothing (told_none w) v = refl
     nothing (told_some n c d) v = absurd (c v)
 
@@ -215,9 +215,9 @@ of_exact : {s : State} {n : Needs} {t : Tree} → Within s → {m : Result (Stat
 of_exact w (exact_ok m l) = it_fits (taken_all w m) m l
 of_exact w (exact_full f) = it_does_not f
 
-pub foretold : (s : State) → sound s ≡ true → (t : Tree) → Fine (arity s) (taken s) t → (n : Needs) → needs t ≡ some n → Foretold s n t (run s (IN t))
+pub foretold : (s : State) → sound s ≡ true → (t : Tree) → Fine (arity s) (taken s) t → (n : Needs) → needs t ≡ Some n → Foretold s n t (run s (IN t))
 foretold s h t f n e = go (needs_told t) e
   where
-    go : {o : Option Needs} → Told t o → o ≡ some n → Foretold s n t (run s (IN t))
+    go : {o : Option Needs} → Told t o → o ≡ Some n → Foretold s n t (run s (IN t))
     go (told_none v) d = never (cc)
     go (told_some m c q) d = let k : m ≡ n = cc in of_exact (within s h) (exact_as (run_exact s h (closed (arity s) (taken s) f c)) (subst (λ (x : Needs). Same (sum (placed t) (made t)) x) k q))

@@ -2,7 +2,7 @@
 -- The counts first, then the rules for a run, `?` last. That what was taken fits follows at the end: a success keeps the counts within their limits.
 use mathlib.Core.Path.{◌≡◌}
 use mathlib.Core.List.{[], ◌∷◌, ◌++◌}
-use mathlib.Core.Option.{Option, none, some}
+use Rattle.std.specs.Prelude.{Option, None, Some}
 use Prim.Native.Nat.{ℕ, ◌+◌, ◌≤◌, ◌<◌}
 use native.Mathlib.Omega.{arith}
 use lib.ListN.{length, length-append}
@@ -148,9 +148,9 @@ module _ {A : Type 0} {after : A → State} {P : A → Type 0} where
   unfolding ◌>>=◌
   exact_eq a f e h = rw e h
 
-  pub exact_none : {S : State} {n : Needs} (o : Option ℕ) {x : Result A} (f : ℕ → Result A) → o ≡ none → Exact S n after P x → Exact {A = A} S n after P (elim o [ none ↦ x | some t ↦ f t ])
-  exact_none none f e h = h
-  exact_none (some t) f e h = never (cc)
+  pub exact_none : {S : State} {n : Needs} (o : Option ℕ) {x : Result A} (f : ℕ → Result A) → o ≡ None → Exact S n after P x → Exact {A = A} S n after P (elim o [ None ↦ x | Some t ↦ f t ])
+  exact_none None f e h = h
+  exact_none (Some t) f e h = never (cc)
 
 pub exact_post : {B : Type 0} {ar : TypeName → ℕ} {S : State} {n : Needs} {P : State → B → Type 0} {Q R : State × B → Type 0} {m : Result (State × B)} → Post ar S P m → ExactAnd S n Q m
     → ((s : State) (b : B) → Grown S s → P s b → Q (s, b) → R (s, b)) → ExactAnd S n R m

@@ -5,7 +5,7 @@ use mathlib.Core.Path.{◌≡◌, refl, sym, ap, ◌∙◌}
 use mathlib.Core.Logic.{◌≢◌, ◌⊎◌, inl, inr, ◌↔◌}
 use mathlib.Core.Bool.{Bool, true, false, not, ◌&&◌}
 use mathlib.Core.List.{List, [], ◌∷◌, ◌++◌}
-use mathlib.Core.Option.{Option, none, some}
+use Rattle.std.specs.Prelude.{Option, None, Some}
 use Prim.Native.Nat.{ℕ, zero, suc, ◌+◌, ◌*◌, ◌≤◌}
 use native.Mathlib.Omega.{arith}
 use lib.ListN.{length, get_or, take, drop, length-take}
@@ -132,7 +132,7 @@ pub data Foretells (s : State) (RM_answer IN_answer : Answer) : Type 0 where
   enough_left : (n : Needs) → Tells s n RM_answer → Fits s n → IN_answer.number ≡ 0 → More s n IN_answer.state → Foretells s RM_answer IN_answer
   too_little_left : (n : Needs) → Tells s n RM_answer → (Fits s n → ⊥) → IN_answer ≡ refusal s full → Foretells s RM_answer IN_answer
 
-told_0 : (s : State) (n : Needs) → answer s (tell s (some n)) ≡ record { number = 0; payload = write_needs n; state = s }
+told_0 : (s : State) (n : Needs) → answer s (tell s (Some n)) ≡ record { number = 0; payload = write_needs n; state = s }
 unfolding answer answer_with tell write_needs u32 max_payload
 told_0 s n = refl
 
@@ -152,8 +152,8 @@ module _ (s : State) (h : sound s ≡ true) where
   runs_foretell t f l b = go (needs t) refl
     where
       go : (o : Option Needs) → needs t ≡ o → Foretells s (answer s (tell s o)) (answer s (run s (IN t)))
-      go none e = variable_inside refl (seven_or_eleven s (IN_of_a_variable s h t f ((needs_none t).0 e)))
-      go (some n) e = let w = needs_few t n e in IN_answers s n t (record { is = told_0 s n; few = omega arith }) l (foretold s h t f n e)
+      go None e = variable_inside refl (seven_or_eleven s (IN_of_a_variable s h t f ((needs_none t).0 e)))
+      go (Some n) e = let w = needs_few t n e in IN_answers s n t (record { is = told_0 s n; few = omega arith }) l (foretold s h t f n e)
 
   lent_foretell : (more : Bytes) (r : Read Tree) {n : ℕ} → Given ⊥ (GoodTree ⊥ s) n r → Given ⊥ (λ t. shown t ≤ max_payload) n r → Spent tree_size 4094 r
       → Foretells s (lent s (hand_back more (go_on r (λ t. give (RM t))))) (lent s (hand_back more (go_on r (λ t. give (IN t)))))
@@ -212,6 +212,6 @@ pub RM_eleven : (s : State) (t : Tree) → (run s (RM t) ≡ refused open_variab
 unfolding run tell
 RM_eleven s t = (λ e. (needs_none t).0 (only (needs t) e), λ v. rw ((needs_none t).1 v) refl)
   where
-    only : (o : Option Needs) → tell s o ≡ refused open_variable → o ≡ none
-    only none e = refl
-    only (some n) e = never (cc)
+    only : (o : Option Needs) → tell s o ≡ refused open_variable → o ≡ None
+    only None e = refl
+    only (Some n) e = never (cc)

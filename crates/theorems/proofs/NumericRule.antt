@@ -3,7 +3,7 @@
 use mathlib.Core.Path.{◌≡◌, refl, ap, ◌∙◌}
 use mathlib.Core.Bool.{Bool, true, false, not, ◌&&◌, ◌||◌}
 use mathlib.Core.List.{List, [], ◌∷◌}
-use mathlib.Core.Option.{none, some}
+use Rattle.std.specs.Prelude.{None, Some}
 use Prim.Native.Nat.{ℕ, suc, ◌<◌}
 use Rattle.std.specs.Prelude.{if◌then◌else◌}
 use Rattle.definition.specs.Types.{Builtin, AbilityMark, Apply, Var, Places, State, TypeValue, Constraint, NumericConstraint, BitsConstraint, OrderedConstraint, Incompatible, malformed, Result, ok, err, ◌>>=◌}
@@ -39,9 +39,9 @@ read_arguments s read_type loc k b = reader.◌>>=◌ (read_trees (arity s (Buil
 
 pub record NumericRule (s : State) (b : ℕ) : Type 0 where
   -- (1) join and subtype, the variable on either side
-  pub on_the_left : (depth : ℕ) (case : TypingCase) (v loc var other : ℕ) (k : AbilityMark) (tys : List ℕ) → num_loc s v ≡ some loc → get s v ≡ none → other < count s → type_at s var ≡ Var v → type_at s other ≡ Apply k (Builtin b) tys
+  pub on_the_left : (depth : ℕ) (case : TypingCase) (v loc var other : ℕ) (k : AbilityMark) (tys : List ℕ) → num_loc s v ≡ Some loc → get s v ≡ None → other < count s → type_at s var ≡ Var v → type_at s other ≡ Apply k (Builtin b) tys
       → join_impl (suc depth) s case var other ≡ taken_or_shown s v var other var other (is_numeric (Builtin b))
-  pub on_the_right : (depth : ℕ) (case : TypingCase) (v loc var other : ℕ) (k : AbilityMark) (tys : List ℕ) → num_loc s v ≡ some loc → get s v ≡ none → other < count s → type_at s var ≡ Var v → type_at s other ≡ Apply k (Builtin b) tys
+  pub on_the_right : (depth : ℕ) (case : TypingCase) (v loc var other : ℕ) (k : AbilityMark) (tys : List ℕ) → num_loc s v ≡ Some loc → get s v ≡ None → other < count s → type_at s var ≡ Var v → type_at s other ≡ Apply k (Builtin b) tys
       → join_impl (suc depth) s case other var ≡ taken_or_shown s v var other other var (is_numeric (Builtin b))
   -- (2) NC, of every kind
   pub constrained : (c : Constraint) (loc ty : ℕ) (k : AbilityMark) (tys : List ℕ) → Numeric c loc ty → (unfold_type s (spanned s ty)).value ≡ Apply k (Builtin b) tys
@@ -61,11 +61,11 @@ integers_are = refl
 
 -- ---- (1)
 
-numbered : (s : State) (v loc : ℕ) → num_loc s v ≡ some loc → is_num_var s v ≡ true
+numbered : (s : State) (v loc : ℕ) → num_loc s v ≡ Some loc → is_num_var s v ≡ true
 unfolding is_num_var
 numbered s v loc e = rw (e, is_num_var) refl
 
-module _ (s : State) (v loc other b : ℕ) (k : AbilityMark) (tys : List ℕ) (marked : num_loc s v ≡ some loc) (is : type_at s other ≡ Apply k (Builtin b) tys) where
+module _ (s : State) (v loc other b : ℕ) (k : AbilityMark) (tys : List ℕ) (marked : num_loc s v ≡ Some loc) (is : type_at s other ≡ Apply k (Builtin b) tys) where
   checked : check_num_tvar s v other ≡ is_numeric (Builtin b)
   unfolding check_num_tvar as_var num_shape
   checked = ap (λ (x : Bool). not x || check_num_tvar' s other) (numbered s v loc marked) ∙ check_plain s other (ap as_var is) ∙ ap num_shape is
@@ -84,12 +84,12 @@ module _ (s : State) (v loc other b : ℕ) (k : AbilityMark) (tys : List ℕ) (m
   joins lhs rhs var true e h = rw (binds (loc_of s var) true e h) refl
   joins lhs rhs var false e h = rw (binds (loc_of s var) false e h) refl
 
-  on_left : (depth : ℕ) (case : TypingCase) (var : ℕ) (x : Bool) → is_numeric (Builtin b) ≡ x → (x ≡ true → tys ≡ []) → get s v ≡ none → type_at s var ≡ Var v
+  on_left : (depth : ℕ) (case : TypingCase) (var : ℕ) (x : Bool) → is_numeric (Builtin b) ≡ x → (x ≡ true → tys ≡ []) → get s v ≡ None → type_at s var ≡ Var v
       → join_impl (suc depth) s case var other ≡ taken_or_shown s v var other var other x
   unfolding join_impl join_arm arm
   on_left depth case var x e h free at = rw (at, is, free, join_arm) (joins var other var x e h)
 
-  on_right : (depth : ℕ) (case : TypingCase) (var : ℕ) (x : Bool) → is_numeric (Builtin b) ≡ x → (x ≡ true → tys ≡ []) → get s v ≡ none → type_at s var ≡ Var v
+  on_right : (depth : ℕ) (case : TypingCase) (var : ℕ) (x : Bool) → is_numeric (Builtin b) ≡ x → (x ≡ true → tys ≡ []) → get s v ≡ None → type_at s var ≡ Var v
       → join_impl (suc depth) s case other var ≡ taken_or_shown s v var other other var x
   unfolding join_impl join_arm arm
   on_right depth case var x e h free at = rw (is, at, free, join_arm) (joins other var var x e h)

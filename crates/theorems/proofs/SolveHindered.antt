@@ -1,7 +1,7 @@
 -- What SV's constraints come to: their failures and an empty list, or 9, or 16. Assumes nothing.
 use mathlib.Core.Bool.{Bool, true, false}
 use mathlib.Core.List.{List, [], ◌∷◌}
-use mathlib.Core.Option.{Option, none, some}
+use Rattle.std.specs.Prelude.{Option, None, Some}
 use Prim.Native.Nat.{ℕ}
 use Rattle.std.specs.Prelude.{if◌then◌else◌}
 use Rattle.definition.specs.Types.{Constraint, AbilityConstraint, NumericConstraint, BitsConstraint, OrderedConstraint, BaseTypeConstraint, SingleTypeConstraint, State, Refusal, runs_into_itself, mark_contradicted, Result, ok, refused}
@@ -12,20 +12,20 @@ use Rattle.definition.specs.Constraints.{missing, is_contradicted, failures, abi
 use Rattle.definition.specs.Write.{Bytes}
 
 pub data Hinders : Option Refusal → Type 0 where
-  clear : Hinders none
-  nine : Hinders (some runs_into_itself)
-  sixteen : Hinders (some mark_contradicted)
+  clear : Hinders None
+  nine : Hinders (Some runs_into_itself)
+  sixteen : Hinders (Some mark_contradicted)
 
 module _ (s : State) where
   ability_hinders : (ty abilities : ℕ) → Hinders (ability_hindrance s ty abilities)
   unfolding ability_hindrance
   ability_hinders ty abilities = go (reaches_itself s ty) (any_of (λ ability. is_contradicted (rule s ability (unfold_type s (spanned s ty)).value)) (missing s ty abilities))
     where
-      either : (b : Bool) → Hinders (if b then some mark_contradicted else none)
+      either : (b : Bool) → Hinders (if b then Some mark_contradicted else None)
       either true = sixteen
       either false = clear
 
-      go : (b c : Bool) → Hinders (elim b [ true ↦ some runs_into_itself | false ↦ if c then some mark_contradicted else none ])
+      go : (b c : Bool) → Hinders (elim b [ true ↦ Some runs_into_itself | false ↦ if c then Some mark_contradicted else None ])
       go true c = nine
       go false c = either c
 
@@ -43,7 +43,7 @@ module _ (s : State) where
   hinders [] = clear
   hinders (c ∷ cs) = go (one_hinders c) (hinders cs)
     where
-      go : {o : Option Refusal} → Hinders o → Hinders (hindrance s cs) → Hinders (elim o [ none ↦ hindrance s cs | some x ↦ some x ])
+      go : {o : Option Refusal} → Hinders o → Hinders (hindrance s cs) → Hinders (elim o [ None ↦ hindrance s cs | Some x ↦ Some x ])
       go clear h = h
       go nine h = nine
       go sixteen h = sixteen
@@ -52,7 +52,7 @@ module _ (s : State) where
   unfolding solve_all
   solve_cases P p p9 p16 = go (hinders s.constraints)
     where
-      go : {o : Option Refusal} → Hinders o → P (elim o [ none ↦ ok (with_constraints s [], failures s s.constraints) | some x ↦ refused x ])
+      go : {o : Option Refusal} → Hinders o → P (elim o [ None ↦ ok (with_constraints s [], failures s s.constraints) | Some x ↦ refused x ])
       go clear = p
       go nine = p9
       go sixteen = p16

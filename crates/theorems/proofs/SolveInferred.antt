@@ -3,7 +3,7 @@
 use mathlib.Core.Path.{◌≡◌, refl, ap}
 use mathlib.Core.Bool.{Bool, true, false, not, ◌&&◌}
 use mathlib.Core.List.{List, [], ◌∷◌}
-use mathlib.Core.Option.{Option, none, some}
+use Rattle.std.specs.Prelude.{Option, None, Some}
 use Prim.Native.Nat.{ℕ, zero, suc, ◌≤◌}
 use native.Mathlib.Omega.{arith}
 use Rattle.definition.specs.Types.{TypeName, Multiple, Builtin, ModuleType, UnitType, Ref, Param, Apply, Var, Anything, UnresolvedError, TypeValue, Spanned, State}
@@ -62,8 +62,8 @@ module _ (s s' : State) (d : s.structs ≡ s'.structs) where
     value_on UnresolvedError a = refl
     value_on Anything a = refl
     value_on (Param id b) a = refl
-    value_on (Apply (some b) n tys) a = refl
-    value_on (Apply none n tys) a = ap from_abilities (those_on (granted f s n tys) (granted g s' n tys) (granted_on n tys a))
+    value_on (Apply (Some b) n tys) a = refl
+    value_on (Apply None n tys) a = ap from_abilities (those_on (granted f s n tys) (granted g s' n tys) (granted_on n tys a))
 
   every : (tys : List ℕ) → All (λ t. Unit {0}) tys
   every [] = tt
@@ -124,9 +124,9 @@ unfolding unfold_type unfold_var spanned
 unfolded S P any h t = go (as_var (type_at S t))
   where
     bound : (loc : ℕ) (o : Option ℕ) → P (unfold_var S loc o).value
-    bound loc none = any
-    bound loc (some u) = h u
+    bound loc None = any
+    bound loc (Some u) = h u
 
-    go : (o : Option ℕ) → P (elim o as (λ x. Spanned TypeValue) [ none ↦ spanned S t | some i ↦ unfold_var S (spanned S t).loc (get S (forward_tvar S i)) ]).value
-    go none = h t
-    go (some i) = bound (spanned S t).loc (get S (forward_tvar S i))
+    go : (o : Option ℕ) → P (elim o as (λ x. Spanned TypeValue) [ None ↦ spanned S t | Some i ↦ unfold_var S (spanned S t).loc (get S (forward_tvar S i)) ]).value
+    go None = h t
+    go (Some i) = bound (spanned S t).loc (get S (forward_tvar S i))

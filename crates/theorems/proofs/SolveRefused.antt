@@ -4,7 +4,7 @@ use mathlib.Core.Path.{◌≡◌, refl, ap, ◌∙◌}
 use mathlib.Core.Logic.{◌↔◌}
 use mathlib.Core.Bool.{Bool, true, false, not, ◌&&◌}
 use mathlib.Core.List.{List, [], ◌∷◌, Memᴰ}
-use mathlib.Core.Option.{Option, none, some}
+use Rattle.std.specs.Prelude.{Option, None, Some}
 use Prim.Native.Nat.{ℕ, ◌<◌}
 use native.Mathlib.Omega.{arith}
 use Rattle.std.specs.Prelude.{if◌then◌else◌}
@@ -48,19 +48,19 @@ pub data Sixteen (S : State) : Constraint → Type 0 where
   is_sixteen : {loc t wanted : ℕ} → ¬ RunsIntoItself S (type_at S t) → Contradicted S t wanted → Sixteen S (AbilityConstraint loc t wanted)
 
 module _ {ar : TypeName → ℕ} {S : State} (s : Sound ar S) where
-  hindered_9 : (t wanted : ℕ) → reaches_itself S t ≡ true → ability_hindrance S t wanted ≡ some runs_into_itself
+  hindered_9 : (t wanted : ℕ) → reaches_itself S t ≡ true → ability_hindrance S t wanted ≡ Some runs_into_itself
   unfolding ability_hindrance
   hindered_9 t wanted e = rw (e, ability_hindrance) refl
 
-  hindered_16 : (t wanted : ℕ) → reaches_itself S t ≡ false → any_of (λ ability. is_contradicted (rule S ability (unfold_type S (spanned S t)).value)) (missing S t wanted) ≡ true → ability_hindrance S t wanted ≡ some mark_contradicted
+  hindered_16 : (t wanted : ℕ) → reaches_itself S t ≡ false → any_of (λ ability. is_contradicted (rule S ability (unfold_type S (spanned S t)).value)) (missing S t wanted) ≡ true → ability_hindrance S t wanted ≡ Some mark_contradicted
   unfolding ability_hindrance
   hindered_16 t wanted e d = rw (e, ability_hindrance) (rw d refl)
 
-  of_9 : (t wanted : ℕ) → ability_hindrance S t wanted ≡ some runs_into_itself → reaches_itself S t ≡ true
+  of_9 : (t wanted : ℕ) → ability_hindrance S t wanted ≡ Some runs_into_itself → reaches_itself S t ≡ true
   unfolding ability_hindrance
   of_9 t wanted e = go (reaches_itself S t) (any_of (λ ability. is_contradicted (rule S ability (unfold_type S (spanned S t)).value)) (missing S t wanted)) e
     where
-      go : (b c : Bool) → ◌≡◌ {A = Option Refusal} (elim b [ true ↦ some runs_into_itself | false ↦ if c then some mark_contradicted else none ]) (some runs_into_itself) → b ≡ true
+      go : (b c : Bool) → ◌≡◌ {A = Option Refusal} (elim b [ true ↦ Some runs_into_itself | false ↦ if c then Some mark_contradicted else None ]) (Some runs_into_itself) → b ≡ true
       go true c e = refl
       go false true e = never (cc)
       go false false e = never (cc)
@@ -68,7 +68,7 @@ module _ {ar : TypeName → ℕ} {S : State} (s : Sound ar S) where
   runs_not : (t : ℕ) → t < count S → reaches_itself S t ≡ false → ¬ RunsIntoItself S (type_at S t)
   runs_not t i e r = let d = (reaches_is_runs s t i).1 r in never (cc)
 
-  of_16 : (t wanted : ℕ) → t < count S → ability_hindrance S t wanted ≡ some mark_contradicted → ¬ RunsIntoItself S (type_at S t) × Contradicted S t wanted
+  of_16 : (t wanted : ℕ) → t < count S → ability_hindrance S t wanted ≡ Some mark_contradicted → ¬ RunsIntoItself S (type_at S t) × Contradicted S t wanted
   of_16 t wanted i e =
       let (d, (a, g, r)) = sixteen_of S t wanted e in
       let n = runs_not t i d in (
@@ -81,7 +81,7 @@ module _ {ar : TypeName → ℕ} {S : State} (s : Sound ar S) where
         },
       )
 
-  to_16 : (t wanted : ℕ) → t < count S → ¬ RunsIntoItself S (type_at S t) → Contradicted S t wanted → ability_hindrance S t wanted ≡ some mark_contradicted
+  to_16 : (t wanted : ℕ) → t < count S → ¬ RunsIntoItself S (type_at S t) → Contradicted S t wanted → ability_hindrance S t wanted ≡ Some mark_contradicted
   unfolding missing is_contradicted
   to_16 t wanted i n c =
       let a = c.ability in
@@ -111,10 +111,10 @@ module _ {ar : TypeName → ℕ} {S : State} (s : Sound ar S) where
 
   -- which of the two a constraint gives
   pub record Gives (c : Constraint) : Type 0 where
-    pub nine_is : (constraint_hindrance S c ≡ some runs_into_itself) ↔ Nine S c
-    pub sixteen_is : (constraint_hindrance S c ≡ some mark_contradicted) ↔ Sixteen S c
+    pub nine_is : (constraint_hindrance S c ≡ Some runs_into_itself) ↔ Nine S c
+    pub sixteen_is : (constraint_hindrance S c ≡ Some mark_contradicted) ↔ Sixteen S c
 
-  other : (c : Constraint) → constraint_hindrance S c ≡ none → is_ability c ≡ false → Gives c
+  other : (c : Constraint) → constraint_hindrance S c ≡ None → is_ability c ≡ false → Gives c
   other c e d = record { nine_is = (λ f. never (cc), λ n. let y = nine_ability n in never (cc)); sixteen_is = (λ f. never (cc), λ n. let y = sixteen_ability n in never (cc)) }
 
   pub gives : (c : Constraint) → type_on c < count S → Gives c
@@ -124,10 +124,10 @@ module _ {ar : TypeName → ℕ} {S : State} (s : Sound ar S) where
     sixteen_is = (λ e. let x = of_16 t wanted i e in is_sixteen x.0 x.1, back_16);
   }
     where
-      back_9 : Nine S (AbilityConstraint loc t wanted) → ability_hindrance S t wanted ≡ some runs_into_itself
+      back_9 : Nine S (AbilityConstraint loc t wanted) → ability_hindrance S t wanted ≡ Some runs_into_itself
       back_9 (is_nine r) = hindered_9 t wanted ((reaches_is_runs s t i).1 r)
 
-      back_16 : Sixteen S (AbilityConstraint loc t wanted) → ability_hindrance S t wanted ≡ some mark_contradicted
+      back_16 : Sixteen S (AbilityConstraint loc t wanted) → ability_hindrance S t wanted ≡ Some mark_contradicted
       back_16 (is_sixteen n k) = to_16 t wanted i n k
   gives (NumericConstraint loc t) i = other (NumericConstraint loc t) refl refl
   gives (BitsConstraint loc t) i = other (BitsConstraint loc t) refl refl
@@ -142,19 +142,19 @@ pub data First (S : State) (P : Constraint → Type 0) : List Constraint → Typ
   first_here : {c : Constraint} {cs : List Constraint} → P c → First S P (c ∷ cs)
   first_later : {c : Constraint} {cs : List Constraint} → ¬ Nine S c → ¬ Sixteen S c → First S P cs → First S P (c ∷ cs)
 
-module _ {ar : TypeName → ℕ} {S : State} (s : Sound ar S) (x : Refusal) (P : Constraint → Type 0) (h : (c : Constraint) → type_on c < count S → (constraint_hindrance S c ≡ some x) ↔ P c) where
+module _ {ar : TypeName → ℕ} {S : State} (s : Sound ar S) (x : Refusal) (P : Constraint → Type 0) (h : (c : Constraint) → type_on c < count S → (constraint_hindrance S c ≡ Some x) ↔ P c) where
   abbrev On : List Constraint → Type 0
   On cs = (c : Constraint) → Memᴰ c cs → type_on c < count S
 
-  neither : (c : Constraint) → type_on c < count S → ¬ Nine S c → ¬ Sixteen S c → constraint_hindrance S c ≡ none
+  neither : (c : Constraint) → type_on c < count S → ¬ Nine S c → ¬ Sixteen S c → constraint_hindrance S c ≡ None
   neither c i n m = go (constraint_hindrance S c) refl (one_hinders S c)
     where
-      go : (o : Option Refusal) → constraint_hindrance S c ≡ o → Hinders o → o ≡ none
-      go none e clear = refl
-      go (some y) e nine = absurd (n ((gives s c i).nine_is.0 e))
-      go (some y) e sixteen = absurd (m ((gives s c i).sixteen_is.0 e))
+      go : (o : Option Refusal) → constraint_hindrance S c ≡ o → Hinders o → o ≡ None
+      go None e clear = refl
+      go (Some y) e nine = absurd (n ((gives s c i).nine_is.0 e))
+      go (Some y) e sixteen = absurd (m ((gives s c i).sixteen_is.0 e))
 
-  found : (cs : List Constraint) → On cs → hindrance S cs ≡ some x → First S P cs
+  found : (cs : List Constraint) → On cs → hindrance S cs ≡ Some x → First S P cs
   unfolding hindrance
   found [] on e = never (cc)
   found (c ∷ cs) on e = go (constraint_hindrance S c) refl e (λ d. found cs (λ b m. on b (Memᴰ.tail m)) d)
@@ -162,11 +162,11 @@ module _ {ar : TypeName → ℕ} {S : State} (s : Sound ar S) (x : Refusal) (P :
       i : type_on c < count S
       i = on c (Memᴰ.head refl)
 
-      go : (o : Option Refusal) → constraint_hindrance S c ≡ o → ◌≡◌ {A = Option Refusal} (elim o [ none ↦ hindrance S cs | some y ↦ some y ]) (some x) → (hindrance S cs ≡ some x → First S P cs) → First S P (c ∷ cs)
-      go none d e f = first_later (λ n. let y = (gives s c i).nine_is.1 n in never (cc)) (λ n. let y = (gives s c i).sixteen_is.1 n in never (cc)) (f e)
-      go (some y) d e f = first_here ((h c i).0 (d ∙ e))
+      go : (o : Option Refusal) → constraint_hindrance S c ≡ o → ◌≡◌ {A = Option Refusal} (elim o [ None ↦ hindrance S cs | Some y ↦ Some y ]) (Some x) → (hindrance S cs ≡ Some x → First S P cs) → First S P (c ∷ cs)
+      go None d e f = first_later (λ n. let y = (gives s c i).nine_is.1 n in never (cc)) (λ n. let y = (gives s c i).sixteen_is.1 n in never (cc)) (f e)
+      go (Some y) d e f = first_here ((h c i).0 (d ∙ e))
 
-  stopped : {cs : List Constraint} → On cs → First S P cs → hindrance S cs ≡ some x
+  stopped : {cs : List Constraint} → On cs → First S P cs → hindrance S cs ≡ Some x
   unfolding hindrance
   stopped on (first_here {c = c} p) = rw ((h c (on c (Memᴰ.head refl))).1 p, hindrance) refl
   stopped on (first_later {c = c} n m f) = rw (neither c (on c (Memᴰ.head refl)) n m, hindrance) (stopped (λ b k. on b (Memᴰ.tail k)) f)
@@ -183,15 +183,15 @@ module _ (S : State) (sd : sound S ≡ true) where
   below : Below (taken S) (num_vars 0 S.vars)
   below = num_vars_below 0 S.vars (taken S) (omega arith)
 
-  all_is : (s : State) (x : Refusal) → (solve_all s ≡ refused x) ↔ (hindrance s s.constraints ≡ some x)
+  all_is : (s : State) (x : Refusal) → (solve_all s ≡ refused x) ↔ (hindrance s s.constraints ≡ Some x)
   unfolding solve_all
   all_is s x = (go (hindrance s s.constraints), λ e. rw (e, solve_all) refl)
     where
-      go : (o : Option Refusal) → ◌≡◌ {A = Result (State × Bytes)} (elim o [ none ↦ ok (with_constraints s [], failures s s.constraints) | some y ↦ refused y ]) (refused x) → o ≡ some x
-      go none e = never (cc)
-      go (some y) e = let d : y ≡ x = cc in ap some d
+      go : (o : Option Refusal) → ◌≡◌ {A = Result (State × Bytes)} (elim o [ None ↦ ok (with_constraints s [], failures s s.constraints) | Some y ↦ refused y ]) (refused x) → o ≡ Some x
+      go None e = never (cc)
+      go (Some y) e = let d : y ≡ x = cc in ap Some d
 
-  refused_is : (x : Refusal) (P : State → Constraint → Type 0) → ¬ (full ≡ x) → ((s : State) → Sound (arity S) s → (c : Constraint) → type_on c < count s → (constraint_hindrance s c ≡ some x) ↔ P s c)
+  refused_is : (x : Refusal) (P : State → Constraint → Type 0) → ¬ (full ≡ x) → ((s : State) → Sound (arity S) s → (c : Constraint) → type_on c < count s → (constraint_hindrance s c ≡ Some x) ↔ P s c)
       → (solve_constraints S ≡ refused x) ↔ Stops S P
   unfolding solve_constraints ◌>>=◌
   refused_is x P n h = (there (default_num_vars S (num_vars 0 S.vars)) refl went (defaults_take (num_vars 0 S.vars) (facts S sd) (λ n. refl) below), back)

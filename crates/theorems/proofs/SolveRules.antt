@@ -5,7 +5,7 @@ use mathlib.Core.Path.{◌≡◌, refl, sym, ap, ◌∙◌, subst}
 use mathlib.Core.Logic.{◌↔◌}
 use mathlib.Core.Bool.{Bool, true, false, not, ◌&&◌}
 use mathlib.Core.List.{List, [], ◌∷◌}
-use mathlib.Core.Option.{Option, none, some}
+use Rattle.std.specs.Prelude.{Option, None, Some}
 use Prim.Native.Nat.{ℕ, zero, suc, ◌+◌, ◌≤◌, ◌<◌}
 use native.Mathlib.Decide.{dec_lt}
 use native.Mathlib.Omega.{arith}
@@ -76,7 +76,7 @@ module _ (S : State) where
   abbrev sets : ℕ → ℕ
   sets p = infer_abilities S p
 
-  placed : {k : AbilityMark} (n : TypeName) (tys : List ℕ) → All (Agrees S sets) tys → (a : Ability) → Declares S n a → (p : ℕ) → lacking sets S n tys (bit (needed a)) ≡ some p → Decides S a (Apply k n tys) (argument p)
+  placed : {k : AbilityMark} (n : TypeName) (tys : List ℕ) → All (Agrees S sets) tys → (a : Ability) → Declares S n a → (p : ℕ) → lacking sets S n tys (bit (needed a)) ≡ Some p → Decides S a (Apply k n tys) (argument p)
   unfolding lacking
   placed {k} n tys h a d p e =
       let w : ℕ → Bool = λ ty. not (has (sets ty) (bit (needed a))) in
@@ -102,8 +102,8 @@ module _ (S : State) where
 
       go : (b : Bool) → has (declared_abilities S n) (bit a) ≡ b → (o : Option ℕ) → lacking sets S n tys (requires (bit a)) ≡ o → Decides S a (Apply k n tys) (elim b [ false ↦ declaration | true ↦ by_argument o ])
       go false d o e = by_declaration (ungranted d)
-      go true d none e = by_none (declared_is S n a d) (none_lacking S sets n tys h (needed a) (rw (requires_bit a) at e))
-      go true d (some p) e = placed n tys h a (declared_is S n a d) p (rw (requires_bit a) at e)
+      go true d None e = by_none (declared_is S n a d) (none_lacking S sets n tys h (needed a) (rw (requires_bit a) at e))
+      go true d (Some p) e = placed n tys h a (declared_is S n a d) p (rw (requires_bit a) at e)
 
 pub rule_is : {ar : TypeName → ℕ} {S : State} → Sound ar S → (t : ℕ) → t < count S → ¬ RunsIntoItself S (type_at S t) → (a : Ability) (r : Rule)
     → (rule S (bit a) (unfold_type S (spanned S t)).value ≡ r) ↔ Decides S a (unfold_type S (spanned S t)).value r
@@ -161,7 +161,7 @@ those_any f g key p q = later f g 1 _ (later f g 2 _ (later f g 4 _ (here f g 8 
 -- ---- 16 of a marked type alone
 
 pub data Marked : TypeValue → Type 0 where
-  marked : {set : ℕ} {n : TypeName} {tys : List ℕ} → Marked (Apply (some set) n tys)
+  marked : {set : ℕ} {n : TypeName} {tys : List ℕ} → Marked (Apply (Some set) n tys)
 
 pub is_contradicted_true : (r : Rule) → is_contradicted r ≡ true → r ≡ contradicted
 unfolding is_contradicted
@@ -178,16 +178,16 @@ module _ (S : State) where
   value_marked a UnresolvedError h r = never (cc)
   value_marked a Anything h r = never (cc)
   value_marked a (Param id set) h r = never (cc)
-  value_marked a (Apply (some set) n tys) h r = marked
-  value_marked a (Apply none n tys) h r =
+  value_marked a (Apply (Some set) n tys) h r = marked
+  value_marked a (Apply None n tys) h r =
       never (go (has (declared_abilities S n) (bit a)) (lacking (sets S) S n tys (bit (needed a))) (sym (named_is S (sets S) n tys a) ∙ h) (lacking (sets S) S n tys (requires (bit a))) (rw (requires_bit a) refl) r)
     where
       go : (b : Bool) (o : Option ℕ) → b && is_none o ≡ false → (o' : Option ℕ) → o' ≡ o → ◌≡◌ {A = Rule} (elim b [ false ↦ declaration | true ↦ by_argument o' ]) contradicted → ◌≡◌ {A = ℕ} 0 1
-      go true o h none e r = never (let z : is_none o ≡ true = rw (← e) refl in cc)
-      go true o h (some i) e r = never (cc)
+      go true o h None e r = never (let z : is_none o ≡ true = rw (← e) refl in cc)
+      go true o h (Some i) e r = never (cc)
       go false o h o' e r = never (cc)
 
-  pub sixteen_of : (t wanted : ℕ) → ability_hindrance S t wanted ≡ some mark_contradicted
+  pub sixteen_of : (t wanted : ℕ) → ability_hindrance S t wanted ≡ Some mark_contradicted
       → (reaches_itself S t ≡ false) × ((a : Ability) × (has wanted (bit a) && not (has (infer_abilities S t) (bit a)) ≡ true) × (rule S (bit a) (unfold_type S (spanned S t)).value ≡ contradicted))
   unfolding ability_hindrance missing
   sixteen_of t wanted e = go (reaches_itself S t) (any_of bad (those lost)) refl refl e
@@ -198,13 +198,13 @@ module _ (S : State) where
       lost : ℕ → Bool
       lost ability = has wanted ability && not (has (infer_abilities S t) ability)
 
-      go : (b c : Bool) → reaches_itself S t ≡ b → any_of bad (those lost) ≡ c → ◌≡◌ {A = Option Refusal} (elim b [ true ↦ some runs_into_itself | false ↦ if c then some mark_contradicted else none ]) (some mark_contradicted)
+      go : (b c : Bool) → reaches_itself S t ≡ b → any_of bad (those lost) ≡ c → ◌≡◌ {A = Option Refusal} (elim b [ true ↦ Some runs_into_itself | false ↦ if c then Some mark_contradicted else None ]) (Some mark_contradicted)
           → (reaches_itself S t ≡ false) × ((a : Ability) × (lost (bit a) ≡ true) × (rule S (bit a) (unfold_type S (spanned S t)).value ≡ contradicted))
       go true c d f e = never (cc)
       go false true d f e = let (a, g, h) = any_those bad lost f in (d, (a, g, is_contradicted_true _ h))
       go false false d f e = never (cc)
 
-  pub unmarked_never_16 : (t wanted : ℕ) → ability_hindrance S t wanted ≡ some mark_contradicted → Marked (unfold_type S (spanned S t)).value
+  pub unmarked_never_16 : (t wanted : ℕ) → ability_hindrance S t wanted ≡ Some mark_contradicted → Marked (unfold_type S (spanned S t)).value
   unmarked_never_16 t wanted e =
       let (d, (a, g, r)) = sixteen_of t wanted e in
       value_marked a (unfold_type S (spanned S t)).value (ap (λ (set : ℕ). has set (bit a)) (sym (infer_is S t d)) ∙ unnot _ (and_r (has wanted (bit a)) (not (has (infer_abilities S t) (bit a))) g)) r
@@ -232,8 +232,8 @@ value_fits S f (Var v) h = omega arith
 value_fits S f UnresolvedError h = omega arith
 value_fits S f Anything h = omega arith
 value_fits S f (Param id a) h = leb-true a 15 (and_r (is_u32 id) (is_set a) h)
-value_fits S f (Apply (some a) n tys) h = leb-true a 15 (and_l (is_set a) (is_name S n) (and_l (is_mark (some a) && is_name S n) (mark_fits (some a) n) h))
-value_fits S f (Apply none n tys) h = those_fit (granted f S n tys)
+value_fits S f (Apply (Some a) n tys) h = leb-true a 15 (and_l (is_set a) (is_name S n) (and_l (is_mark (Some a) && is_name S n) (mark_fits (Some a) n) h))
+value_fits S f (Apply None n tys) h = those_fit (granted f S n tys)
 
 pub sets_fit : (S : State) → sound S ≡ true → (n t : ℕ) → infer n S t ≤ 15
 unfolding infer all

@@ -5,7 +5,7 @@ use mathlib.Core.Bool.{Bool, true, false, not, ◌&&◌}
 use mathlib.Core.List.Memᴰ
 use mathlib.Core.List.{List, [], ◌∷◌, Memᴰ}
 use mathlib.Core.Logic.{inl, inr}
-use mathlib.Core.Option.{Option, none, some}
+use Rattle.std.specs.Prelude.{Option, None, Some}
 use Prim.Native.Nat.{ℕ, zero, suc, ◌+◌, ◌≤◌, ◌<◌}
 use native.Mathlib.Omega.{arith}
 use lib.ListN.{length, get_or, drop, length-take, length-drop}
@@ -163,23 +163,23 @@ module _ (s : State) (h : sound s ≡ true) where
   cell v l = of_each (λ c. cell_allowed s c) unbound s.vars
       (and_r (all_of (λ n. node_allowed s n) s.nodes) _ (and_l _ (all_of (λ c. constraint_allowed s c) s.constraints) (and_l _ (all_of (λ d. struct_allowed d) s.structs) fields))) v l
 
-  pub bound_taken : (v t : ℕ) → get s v ≡ some t → v < taken s
+  pub bound_taken : (v t : ℕ) → get s v ≡ Some t → v < taken s
   bound_taken v t e = elim (native.Mathlib.Decide.dec_lt v (taken s)) [ yes l ↦ l | no l ↦ never (let g = get_beyond s v (omega arith) in cc) ]
 
-  pub in_nodes : (o : Option ℕ) (t : ℕ) → o ≡ some t → binding_allowed s o ≡ true → t < count s
+  pub in_nodes : (o : Option ℕ) (t : ℕ) → o ≡ Some t → binding_allowed s o ≡ true → t < count s
   unfolding binding_allowed
-  in_nodes none t e b = never (cc)
-  in_nodes (some u) t e b = let c : u ≡ t = cc in omega (arith, ltb→lt u (count s) (test b))
+  in_nodes None t e b = never (cc)
+  in_nodes (Some u) t e b = let c : u ≡ t = cc in omega (arith, ltb→lt u (count s) (test b))
 
-  pub not_any : (o : Option ℕ) (t : ℕ) → o ≡ some t → no_anything s o ≡ true → is_anything (type_at s t) ≡ false
+  pub not_any : (o : Option ℕ) (t : ℕ) → o ≡ Some t → no_anything s o ≡ true → is_anything (type_at s t) ≡ false
   unfolding no_anything
-  not_any none t e b = never (cc)
-  not_any (some u) t e b = let c : u ≡ t = cc in rw c at (unnot (is_anything (type_at s u)) b)
+  not_any None t e b = never (cc)
+  not_any (Some u) t e b = let c : u ≡ t = cc in rw c at (unnot (is_anything (type_at s u)) b)
 
-  pub stops : (v : ℕ) (o : Option ℕ) → next_of s (forward_tvar s v) ≡ o → chain_ends s v ≡ true → next_of s (forward_tvar s v) ≡ none
+  pub stops : (v : ℕ) (o : Option ℕ) → next_of s (forward_tvar s v) ≡ o → chain_ends s v ≡ true → next_of s (forward_tvar s v) ≡ None
   unfolding chain_ends
-  stops v none e b = e
-  stops v (some w) e b = never (let c : false ≡ true = rw (e, chain_ends) at b in cc)
+  stops v None e b = e
+  stops v (Some w) e b = never (let c : false ≡ true = rw (e, chain_ends) at b in cc)
 
   pub facts : Sound (arity s) s
   unfolding parts_smaller fields_allowed no_binding_anything chains_end cell_allowed get type_at node

@@ -2,7 +2,7 @@
 use mathlib.Core.Path.{◌≡◌, refl}
 use mathlib.Core.Bool.{Bool, true, false}
 use mathlib.Core.List.{List, ◌∷◌}
-use mathlib.Core.Option.{Option, none, some}
+use Rattle.std.specs.Prelude.{Option, None, Some}
 use Prim.Native.Nat.{ℕ}
 use lib.ListN.{length}
 use lib.Dec.{leb}
@@ -34,8 +34,8 @@ Back s m = Ends true (λ x. ⊥) (λ a. a.0 ≡ s) m
 
 tell_back : (s : State) (n : Option Needs) → Back s (tell s n)
 unfolding tell
-tell_back s none = e_refused eleven
-tell_back s (some n) = e_ok refl
+tell_back s None = e_refused eleven
+tell_back s (Some n) = e_ok refl
 
 goes_back : (s : State) (x : Record) → Looks x → Back s (run s x)
 unfolding run subst_tparams

@@ -3,7 +3,7 @@
 use mathlib.Core.Path.{◌≡◌, refl, ap, ◌∙◌}
 use mathlib.Core.Bool.{Bool, true, ◌&&◌}
 use mathlib.Core.List.{List, [], ◌∷◌, ◌++◌, append_assoc}
-use mathlib.Core.Option.{Option, none, some}
+use Rattle.std.specs.Prelude.{Option, None, Some}
 use Prim.Native.Nat.{ℕ, zero, suc, ◌+◌, ◌≤◌, ◌<◌}
 use native.Mathlib.Omega.{arith}
 use lib.ListN.{length, get_or, set, length-append, length-set}
@@ -186,8 +186,8 @@ module _ {b s : State} (r : Ranges b s) where
 
   or_insert_in : (o : Option ℕ) (loc : ℕ) → numeric_allowed o ≡ true → U32 loc → U32 (or_insert o loc)
   unfolding or_insert numeric_allowed
-  or_insert_in none loc h u = u
-  or_insert_in (some x) loc h u = h
+  or_insert_in None loc h u = u
+  or_insert_in (Some x) loc h u = h
 
   mark_ranges : (v loc : ℕ) → U32 loc → Ranges b (mark_one s v loc)
   unfolding mark_one numeric_allowed
@@ -233,9 +233,9 @@ unfolding mark_chain
 chain_ranges zero r v loc u = r
 chain_ranges (suc n) {b} {s} r v loc u = go (next_of s v) (λ next. chain_ranges n (mark_ranges r v loc u) next loc u)
   where
-    go : (o : Option ℕ) → ((next : ℕ) → Ranges b (mark_chain n (mark_one s v loc) next loc)) → Ranges b (elim o [ none ↦ mark_one s v loc | some next ↦ mark_chain n (mark_one s v loc) next loc ])
-    go none f = mark_ranges r v loc u
-    go (some next) f = f next
+    go : (o : Option ℕ) → ((next : ℕ) → Ranges b (mark_chain n (mark_one s v loc) next loc)) → Ranges b (elim o [ None ↦ mark_one s v loc | Some next ↦ mark_chain n (mark_one s v loc) next loc ])
+    go None f = mark_ranges r v loc u
+    go (Some next) f = f next
 
 pub num_var_ranges : {b s : State} → Ranges b s → (v loc : ℕ) → U32 loc → Ranges b (set_num_var s v loc)
 unfolding set_num_var
@@ -243,9 +243,9 @@ num_var_ranges r v loc u = chain_ranges _ r v loc u
 
 pub merge_ranges : {b s : State} → Ranges b s → (x y : Option ℕ) → numeric_allowed x ≡ true → numeric_allowed y ≡ true → (v : ℕ) → Ranges b (merge_num s x y v)
 unfolding merge_num numeric_allowed
-merge_ranges r x (some l) hx hy v = num_var_ranges r v l hy
-merge_ranges r (some l) none hx hy v = num_var_ranges r v l hx
-merge_ranges r none none hx hy v = r
+merge_ranges r x (Some l) hx hy v = num_var_ranges r v l hy
+merge_ranges r (Some l) None hx hy v = num_var_ranges r v l hx
+merge_ranges r None None hx hy v = r
 
 pub cleared_ranges : {b s : State} → Ranges b s → Ranges b (with_constraints s [])
 cleared_ranges r = constraints_ranges r [] (omega arith) tt

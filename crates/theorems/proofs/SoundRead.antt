@@ -3,7 +3,7 @@
 use mathlib.Core.Path.{◌≡◌, refl, ap}
 use mathlib.Core.Bool.{Bool, true, false, not, ◌&&◌}
 use mathlib.Core.List.{List, [], ◌∷◌, ◌++◌}
-use mathlib.Core.Option.{none, some}
+use Rattle.std.specs.Prelude.{None, Some}
 use Prim.Native.Nat.{ℕ, zero, suc, ◌+◌, ◌*◌, ◌-◌, ◌≤◌, ◌<◌}
 use native.Mathlib.Omega.{arith}
 use lib.ListN.{length, get_or, take, drop, length-append, length-take, length-drop}
@@ -184,9 +184,9 @@ module _ (H : Type 0) where
   gives_mark = gives_then byte _ gives_byte (λ b p. go b (eqb b 0) (leb 16 b && is_set (b - 16)) refl)
     where
       go : (b : ℕ) (z m : Bool) → leb 16 b && is_set (b - 16) ≡ m
-          → Gives (λ k. is_mark k ≡ true) (elim (if z then some none else if m then some (some (b - 16)) else none) as (λ o. Reader AbilityMark) [ none ↦ refuse malformed | some k ↦ give k ])
-      go b true m e = gives_give none refl
-      go b false true e = gives_give (some (b - 16)) (and_r (leb 16 b) _ e)
+          → Gives (λ k. is_mark k ≡ true) (elim (if z then Some None else if m then Some (Some (b - 16)) else None) as (λ o. Reader AbilityMark) [ None ↦ refuse malformed | Some k ↦ give k ])
+      go b true m e = gives_give None refl
+      go b false true e = gives_give (Some (b - 16)) (and_r (leb 16 b) _ e)
       go b false false e = gives_refuse five
 
   pub gives_name : (known : ℕ) → Gives (λ n. ltb n known ≡ true) (name_below known)

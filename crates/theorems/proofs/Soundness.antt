@@ -4,7 +4,7 @@ use mathlib.Core.Path.{◌≡◌, refl, sym, ap, ◌∙◌}
 use mathlib.Core.Logic.{◌≢◌, ◌↔◌}
 use mathlib.Core.Bool.{Bool, true, false, not, ◌&&◌}
 use mathlib.Core.List.{List, [], ◌∷◌, Memᴰ}
-use mathlib.Core.Option.{Option, none, some}
+use Rattle.std.specs.Prelude.{Option, None, Some}
 use Prim.Native.Nat.{ℕ, suc, ◌+◌, ◌≤◌, ◌<◌}
 use native.Mathlib.Omega.{arith}
 use lib.ListN.{length, get_or}
@@ -30,14 +30,14 @@ pub record IsSound (s : State) : Type 0 where
   pub smaller_parts : (t p : ℕ) → t < count s → Memᴰ p (parts (type_at s t)) → p < t
   -- fields are as a record allows
   pub node_fields : (t : ℕ) → t < count s → node_allowed s (node s t) ≡ true
-  pub binding_fields : (v t : ℕ) → get s v ≡ some t → t < count s
-  pub numeric_fields : (v loc : ℕ) → num_loc s v ≡ some loc → is_u32 loc ≡ true
+  pub binding_fields : (v t : ℕ) → get s v ≡ Some t → t < count s
+  pub numeric_fields : (v loc : ℕ) → num_loc s v ≡ Some loc → is_u32 loc ≡ true
   pub constraint_fields : (c : Constraint) → Memᴰ c s.constraints → constraint_allowed s c ≡ true
   pub struct_fields : (d : Struct) → Memᴰ d s.structs → struct_allowed d ≡ true
   -- no binding is `_`
-  pub bindings_not_anything : (v t : ℕ) → get s v ≡ some t → type_at s t ≢ Anything
+  pub bindings_not_anything : (v t : ℕ) → get s v ≡ Some t → type_at s t ≢ Anything
   -- following bindings from variable to variable always ends
-  pub ending_chains : (v : ℕ) → v < taken s → next_of s (forward_tvar s v) ≡ none
+  pub ending_chains : (v : ℕ) → v < taken s → next_of s (forward_tvar s v) ≡ None
 
 -- ---- tests
 
@@ -84,19 +84,19 @@ pub not_anything : (L : TypeValue) → is_anything L ≡ false → L ≢ Anythin
 unfolding is_anything
 not_anything L e d = never (let z : true ≡ false = rw d at e in cc)
 
-pub numeric_u32 : (o : Option ℕ) (loc : ℕ) → o ≡ some loc → numeric_allowed o ≡ true → is_u32 loc ≡ true
+pub numeric_u32 : (o : Option ℕ) (loc : ℕ) → o ≡ Some loc → numeric_allowed o ≡ true → is_u32 loc ≡ true
 unfolding numeric_allowed
-numeric_u32 none loc e b = never (cc)
-numeric_u32 (some u) loc e b = let c : u ≡ loc = cc in rw c at b
+numeric_u32 None loc e b = never (cc)
+numeric_u32 (Some u) loc e b = let c : u ≡ loc = cc in rw c at b
 
 module _ (s : State) (h : sound s ≡ true) where
   counts : counts_fit s ≡ true
   unfolding sound
   counts = and_l _ (parts_smaller s) (and_l _ (fields_allowed s) (and_l _ (no_binding_anything s) (and_l _ (chains_end s) h)))
 
-  num_taken : (v loc : ℕ) → num_loc s v ≡ some loc → v < taken s
+  num_taken : (v loc : ℕ) → num_loc s v ≡ Some loc → v < taken s
   unfolding num_loc
-  num_taken v loc e = elim (native.Mathlib.Decide.dec_lt v (taken s)) [ yes l ↦ l | no l ↦ never (let g = lib.ListN.get_or-eq_default s.vars unbound {n = v} (omega arith) in let z : none ≡ some loc = sym (ap (λ (c : Cell). c.numeric) g) ∙ e in cc) ]
+  num_taken v loc e = elim (native.Mathlib.Decide.dec_lt v (taken s)) [ yes l ↦ l | no l ↦ never (let g = lib.ListN.get_or-eq_default s.vars unbound {n = v} (omega arith) in let z : None ≡ Some loc = sym (ap (λ (c : Cell). c.numeric) g) ∙ e in cc) ]
 
   says : IsSound s
   unfolding counts_fit parts_smaller fields_allowed cell_allowed no_binding_anything chains_end get num_loc type_at node
@@ -139,13 +139,13 @@ module _ (s : State) (h : sound s ≡ true) where
 module _ (s : State) (h : IsSound s) where
   binding_test : (v : ℕ) (o : Option ℕ) → get s v ≡ o → binding_allowed s o ≡ true
   unfolding binding_allowed
-  binding_test v none e = refl
-  binding_test v (some t) e = lt_test t (count s) (h.binding_fields v t e)
+  binding_test v None e = refl
+  binding_test v (Some t) e = lt_test t (count s) (h.binding_fields v t e)
 
   numeric_test : (v : ℕ) (o : Option ℕ) → num_loc s v ≡ o → numeric_allowed o ≡ true
   unfolding numeric_allowed
-  numeric_test v none e = refl
-  numeric_test v (some loc) e = h.numeric_fields v loc e
+  numeric_test v None e = refl
+  numeric_test v (Some loc) e = h.numeric_fields v loc e
 
   anything_test : (L : TypeValue) → L ≢ Anything → not (is_anything L) ≡ true
   unfolding is_anything
@@ -159,14 +159,14 @@ module _ (s : State) (h : IsSound s) where
 
   known_test : (v : ℕ) (o : Option ℕ) → get s v ≡ o → no_anything s o ≡ true
   unfolding no_anything
-  known_test v none e = refl
-  known_test v (some t) e = anything_test (type_at s t) (h.bindings_not_anything v t e)
+  known_test v None e = refl
+  known_test v (Some t) e = anything_test (type_at s t) (h.bindings_not_anything v t e)
 
   smaller_test : (t : ℕ) (ps : List ℕ) → ((p : ℕ) → Memᴰ p ps → p < t) → smaller_than t ps ≡ true
   unfolding smaller_than
   smaller_test t ps f = members (λ p. ltb p t) ps (λ p m. lt_test p t (f p m))
 
-  chain_test : (v : ℕ) → next_of s (forward_tvar s v) ≡ none → chain_ends s v ≡ true
+  chain_test : (v : ℕ) → next_of s (forward_tvar s v) ≡ None → chain_ends s v ≡ true
   unfolding chain_ends
   chain_test v e = rw (e, chain_ends) refl
 

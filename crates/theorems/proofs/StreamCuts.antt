@@ -3,7 +3,7 @@
 use mathlib.Core.Path.{◌≡◌, refl, sym, ap, ◌∙◌}
 use mathlib.Core.Bool.{Bool, true, false, not, ◌&&◌}
 use mathlib.Core.List.{List, [], ◌∷◌, ◌++◌, append_assoc, append-nil}
-use mathlib.Core.Option.{Option, none, some}
+use Rattle.std.specs.Prelude.{Option, None, Some}
 use Prim.Native.Nat.{ℕ, zero, suc, ◌-◌, ◌≤◌}
 use native.Mathlib.Omega.{arith}
 use lib.ListN.{length, get_or, take, drop, length-append, length-take, take-append-drop, drop_of_length-le}
@@ -99,9 +99,9 @@ c_mark : Cuts read_mark
 unfolding read_mark
 c_mark = c_bind _ _ c_byte (λ b. go (mark_of b))
   where
-    go : (o : Option AbilityMark) → Cuts {A = AbilityMark} (elim o [ none ↦ refuse malformed | some k ↦ give k ])
-    go none = c_refuse _
-    go (some k) = c_give k
+    go : (o : Option AbilityMark) → Cuts {A = AbilityMark} (elim o [ None ↦ refuse malformed | Some k ↦ give k ])
+    go None = c_refuse _
+    go (Some k) = c_give k
 
 -- ---- types
 

@@ -3,7 +3,7 @@
 use mathlib.Core.Path.{◌≡◌, refl, sym, ap, ◌∙◌, subst}
 use mathlib.Core.Bool.{Bool, true, false}
 use mathlib.Core.List.{List, [], ◌∷◌}
-use mathlib.Core.Option.{Option, none, some}
+use Rattle.std.specs.Prelude.{Option, None, Some}
 use Prim.Native.Nat.{ℕ, zero, suc, ◌≤◌, ◌<◌}
 use native.Mathlib.Decide.{ℕ_discrete}
 use native.Mathlib.Omega.{arith}
@@ -34,10 +34,10 @@ use Rattle.theorems.proofs.TotalLate.{Late, fine, wrong, down, sp_late, add_late
 
 -- w comes after v in v's chain
 data After (S : State) : ℕ → ℕ → Type 0 where
-  next : {v w : ℕ} → next_of S v ≡ some w → After S v w
-  later : {v u w : ℕ} → next_of S v ≡ some u → After S u w → After S v w
+  next : {v w : ℕ} → next_of S v ≡ Some w → After S v w
+  later : {v u w : ℕ} → next_of S v ≡ Some u → After S u w → After S v w
 
-after_next : {S : State} {v w u : ℕ} → After S v w → next_of S w ≡ some u → After S v u
+after_next : {S : State} {v w u : ℕ} → After S v w → next_of S w ≡ Some u → After S v u
 after_next (next e) d = later e (next d)
 after_next (later e a) d = later e (after_next a d)
 
@@ -58,13 +58,13 @@ module _ {ar : TypeName → ℕ} {S : State} (s : Sound ar S) where
   Before ms v = (m : ℕ) → m < taken S → get_or ms m true ≡ true → After S m v
 
   one_step : (n : ℕ) (ms : List Bool) → closed ms ≡ suc n → (v : ℕ) → v < taken S → Before ms v
-      → ((w : ℕ) → next_of S v ≡ some w → w < taken S → closed (set ms v true) ≡ n → Before (set ms v true) w → Within S n v) → Within S n v
+      → ((w : ℕ) → next_of S v ≡ Some w → w < taken S → closed (set ms v true) ≡ n → Before (set ms v true) w → Within S n v) → Within S n v
   one_step n ms cm v h back f = go (get_or ms v true) refl (next_of S v) refl
     where
       go : (b : Bool) → get_or ms v true ≡ b → (o : Option ℕ) → next_of S v ≡ o → Within S n v
       go true e o d = absurd (no_return (chain_within s v h) (back v h e))
-      go false e none d = w_here d
-      go false e (some w) d = f w d (next_in_range s v w d) (omega (arith, one_marked ms v e)) (λ m i y. elim (ℕ_discrete m v) [
+      go false e None d = w_here d
+      go false e (Some w) d = f w d (next_in_range s v w d) (omega (arith, one_marked ms v e)) (λ m i y. elim (ℕ_discrete m v) [
         | yes c ↦ subst (λ (x : ℕ). After S x w) (sym c) (next d)
         | no c ↦ after_next (back m i (sym (get_or-set_other ms v m true true c) ∙ y)) d
       ])
@@ -207,7 +207,7 @@ module _ {ar : TypeName → ℕ} {S₀ : State} (s₀ : Sound ar S₀) where
 
   -- ---- subst_tparams
 
-  module _ (sub : TParamSubst) (args : (id arg : ℕ) → arg_of sub id ≡ some arg → arg < count S₀) where
+  module _ (sub : TParamSubst) (args : (id arg : ℕ) → arg_of sub id ≡ Some arg → arg < count S₀) where
     subst_level : (f f' : Walk) (t : ℕ) → t < count S₀ → Agree ar S₀ (λ p. p < t) f f' → (S : State) → Good ar S₀ S → (x : TypeValue) → type_at S₀ t ≡ x
         → Settled (One ar S₀ S) (subst_value f sub S t (loc_of S t) x) (subst_value f' sub S t (loc_of S t) x)
     unfolding subst_value
@@ -218,9 +218,9 @@ module _ {ar : TypeName → ℕ} {S₀ : State} (s₀ : Sound ar S₀) where
     subst_level f f' t h ag S g (Ref m p) e = settled_bind _ _ (ag S p g (ref_below t p m h e)) (λ a q. settled_map (one_from q.more) (sp_settled q.good (loc_of S t) (Ref m a.1) (ref_ok m a.1 q.t_in)))
     subst_level f f' t h ag S g (Param id b) e = go (arg_of sub id) refl
       where
-        go : (o : Option ℕ) → arg_of sub id ≡ o → Settled {A = State × ℕ} (One ar S₀ S) (elim o [ none ↦ refused no_argument | some arg ↦ ok (S, arg) ]) (elim o [ none ↦ refused no_argument | some arg ↦ ok (S, arg) ])
-        go none d = s_refused twelve
-        go (some arg) d = s_ok (itself arg (args id arg d) g)
+        go : (o : Option ℕ) → arg_of sub id ≡ o → Settled {A = State × ℕ} (One ar S₀ S) (elim o [ None ↦ refused no_argument | Some arg ↦ ok (S, arg) ]) (elim o [ None ↦ refused no_argument | Some arg ↦ ok (S, arg) ])
+        go None d = s_refused twelve
+        go (Some arg) d = s_ok (itself arg (args id arg d) g)
     subst_level f f' t h ag S g (Apply k n tys) e = settled_bind _ _ (map_settled f f' _ ag tys S g (args_below t tys h e)) (λ a q.
         settled_map (one_from q.more) (sp_settled q.good (loc_of S t) (Apply k n a.1) (apply_ok k n a.1 q.ts_in (q.many ∙ s₀.arity t k n tys h e))))
 
@@ -263,7 +263,7 @@ good_refl : {ar : TypeName → ℕ} {S : State} → Sound ar S → Good ar S S
 good_refl {S = S} s = record { is_sound = s; grown = grown_refl S }
 
 -- any number of levels above the type's number gives what subst_tparams gives, and that is never 9
-pub subst_enough : (S : State) → sound S ≡ true → (sub : TParamSubst) → ((id arg : ℕ) → arg_of sub id ≡ some arg → arg < count S) → (t : ℕ) → t < count S → (n : ℕ) → t < n
+pub subst_enough : (S : State) → sound S ≡ true → (sub : TParamSubst) → ((id arg : ℕ) → arg_of sub id ≡ Some arg → arg < count S) → (t : ℕ) → t < count S → (n : ℕ) → t < n
     → (subst_down n sub S t ≡ subst_tparams sub S t) × Late false (subst_tparams sub S t)
 unfolding subst_tparams
 subst_enough S h sub args t i n l = let s = facts S h in (

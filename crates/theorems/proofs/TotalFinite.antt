@@ -4,7 +4,7 @@ use mathlib.Core.Path.{◌≡◌, refl, sym, ap, ◌∙◌, subst}
 use mathlib.Core.Logic.{◌⊎◌, inl, inr}
 use mathlib.Core.Bool.{Bool, true, false}
 use mathlib.Core.List.{List, [], ◌∷◌}
-use mathlib.Core.Option.{Option, none, some}
+use Rattle.std.specs.Prelude.{Option, None, Some}
 use Prim.Native.Nat.{ℕ, zero, suc, ◌+◌, ◌≤◌, ◌<◌}
 use native.Mathlib.Decide.{ℕ_discrete}
 use native.Mathlib.Omega.{arith}
@@ -79,10 +79,10 @@ module _ {ar : TypeName → ℕ} {S : State} (s : Sound ar S) where
   var_or : (k : ℕ) → Deeper k → (ms : List Bool) → length ms ≡ taken S → closed ms ≡ k → (v : ℕ) → v < taken S → Back ms (Var v) → (n : ℕ) → k * count S ≤ n
       → (o : Option ℕ) → get S (forward_tvar S v) ≡ o → (b : Bool) → get_or ms (forward_tvar S v) true ≡ b → EndsWithin S (suc n) (Var v) ⊎ Loop S (Var v)
   unfolding EndsWithin parts
-  var_or k d ms lm cm v h back n f none g b eb = inl (rw (follow_open S v g) tt)
-  var_or k d ms lm cm v h back n f (some T) g true eb =
+  var_or k d ms lm cm v h back n f None g b eb = inl (rw (follow_open S v g) tt)
+  var_or k d ms lm cm v h back n f (Some T) g true eb =
       let e = forward_tvar S v in inr (record { variable = e; meets = met refl; itself = back e (ends_in s h (chain s v h)) eb (met refl) })
-  var_or k d ms lm cm v h back n f (some T) g false eb =
+  var_or k d ms lm cm v h back n f (Some T) g false eb =
       let e = forward_tvar S v in
       let e_in : e < taken S = ends_in s h (chain s v h) in
       let T_in : T < count S = s.bind_in e T g in
@@ -104,7 +104,7 @@ module _ {ar : TypeName → ℕ} {S : State} (s : Sound ar S) where
       below : (q : ℕ) → Memᴰ q (parts (type_at S p)) → q < p
       below q m = all_at (λ i. i < p) (parts (type_at S p)) (s.parts_below p h) q m
 
-      plain : as_var (type_at S p) ≡ none → ((q : ℕ) → Memᴰ q (parts (type_at S p)) → Back ms (type_at S q) → EndsOr n q) → EndsOr (suc n) p
+      plain : as_var (type_at S p) ≡ None → ((q : ℕ) → Memᴰ q (parts (type_at S p)) → Back ms (type_at S q) → EndsOr n q) → EndsOr (suc n) p
       plain e ih = let fw = follow_plain S (type_at S p) e in parts_or n (type_at S p) (λ q m. ih q (rw fw at m) (λ e' i x r. back e' i x (met_in m r)))
 
       go : Kind (type_at S p) → ((q : ℕ) → Memᴰ q (parts (type_at S p)) → Back ms (type_at S q) → EndsOr n q) → EndsOr (suc n) p
@@ -136,7 +136,7 @@ module _ {ar : TypeName → ℕ} {S : State} (s : Sound ar S) where
   ends_more (suc n) zero L h w = absurd (omega arith)
   ends_more (suc n) (suc m) L h w = All_map (λ p x. ends_more n m (type_at S p) (omega arith) x) (parts (follow S L)) w
 
-  pub meets_ends : (n : ℕ) {L : TypeValue} (e : ℕ) → next_of S e ≡ none → e < taken S → MeetsEnd S e L → EndsWithin S n L → EndsWithin S n (Var e)
+  pub meets_ends : (n : ℕ) {L : TypeValue} (e : ℕ) → next_of S e ≡ None → e < taken S → MeetsEnd S e L → EndsWithin S n L → EndsWithin S n (Var e)
   unfolding EndsWithin follow
   meets_ends zero e stop i m w = w
   meets_ends (suc n) e stop i (met {v = v} d) w =
@@ -144,11 +144,11 @@ module _ {ar : TypeName → ℕ} {S : State} (s : Sound ar S) where
   meets_ends (suc n) e stop i (met_in {shape = L} {p = p} m r) w =
       ends_more n (suc n) (Var e) (omega arith) (meets_ends n e stop i r (all_at (λ q. EndsWithin S n (type_at S q)) (parts (follow S L)) w p m))
 
-  pub itself_never : (n e : ℕ) → next_of S e ≡ none → e < taken S → Itself S e → EndsWithin S n (Var e) → ⊥
+  pub itself_never : (n e : ℕ) → next_of S e ≡ None → e < taken S → Itself S e → EndsWithin S n (Var e) → ⊥
   unfolding EndsWithin
   itself_never zero e stop i t w = w
   itself_never (suc n) e stop i t w =
       let c : forward_tvar S e ≡ e = ends_det (chain s e i) (here stop) in
-      let g : get S (forward_tvar S e) ≡ some t.binding_of = ap (get S) c ∙ t.bound_to in
+      let g : get S (forward_tvar S e) ≡ Some t.binding_of = ap (get S) c ∙ t.bound_to in
       let w' : All (λ p. EndsWithin S n (type_at S p)) (parts (type_at S t.binding_of)) = rw (follow_bound S e t.binding_of g) at w in
       itself_never n e stop i t (meets_ends n e stop i t.again (all_at (λ p. EndsWithin S n (type_at S p)) (parts (type_at S t.binding_of)) w' t.part t.is_part))

@@ -4,7 +4,7 @@ use mathlib.Core.Path.{◌≡◌, refl, sym, ap, ◌∙◌}
 use mathlib.Core.Logic.{◌≢◌, ◌↔◌}
 use mathlib.Core.Bool.{Bool, true, false}
 use mathlib.Core.List.{List, [], ◌∷◌}
-use mathlib.Core.Option.{Option, none, some}
+use Rattle.std.specs.Prelude.{Option, None, Some}
 use Prim.Native.Nat.{ℕ, zero, suc, ◌*◌, ◌≤◌, ◌<◌}
 use native.Mathlib.Omega.{arith}
 use lib.ListN.{length}
@@ -94,7 +94,7 @@ module _ {ar : TypeName → ℕ} where
     abbrev Ends : ℕ → ℕ → Type 0
     Ends n p = (p < count S₀) × (ends_in n S₀ p ≡ true)
 
-    level : (m n : ℕ) → ((S : State) (t : ℕ) → Added ar S₀ S → Ends n t → ReadOn ar S (ready m S t)) → {S : State} → Added ar S₀ S → (t : ℕ) → t < count S₀ → (x : TypeValue) → type_at S₀ t ≡ x → as_var x ≡ none
+    level : (m n : ℕ) → ((S : State) (t : ℕ) → Added ar S₀ S → Ends n t → ReadOn ar S (ready m S t)) → {S : State} → Added ar S₀ S → (t : ℕ) → t < count S₀ → (x : TypeValue) → type_at S₀ t ≡ x → as_var x ≡ None
         → All (Ends n) (parts x) → ReadOn ar S (ready_value (λ s t. ready m s t) S t (loc_of S t) x)
     unfolding ready_value as_var parts
     level m n ih {S} a t h UnitType e v ps = on {t = t} (added_refl a.sound_after) (omega (arith, a.quiet.q_nodes))
@@ -119,18 +119,18 @@ module _ {ar : TypeName → ℕ} where
       kept : type_at S t ≡ type_at S₀ t
       kept = a.quiet.q_kept t h
 
-      plain_on : as_var (type_at S₀ t) ≡ none → ReadOn ar S (ready (suc (suc m)) S t)
+      plain_on : as_var (type_at S₀ t) ≡ None → ReadOn ar S (ready (suc (suc m)) S t)
       unfolding ready
       plain_on v =
           let g : goes_on_to S₀ t ≡ parts (type_at S₀ t) = goes S₀ t ∙ ap parts (follow_plain S₀ (type_at S₀ t) v) in
           rw kept (level (suc m) n ih' a t h (type_at S₀ t) refl v (all_ends n (parts (type_at S₀ t)) (rw g at e) (parts_in t h)))
 
-      bound_on : (v T : ℕ) → type_at S₀ t ≡ Var v → get S₀ (forward_tvar S₀ v) ≡ some T → v < taken S₀ → ReadOn ar S (ready (suc m) S T)
+      bound_on : (v T : ℕ) → type_at S₀ t ≡ Var v → get S₀ (forward_tvar S₀ v) ≡ Some T → v < taken S₀ → ReadOn ar S (ready (suc m) S T)
       unfolding ready
       bound_on v T d g i =
           let x = forward_tvar S₀ v in
           let T_in : T < count S₀ = s₀.bind_in x T g in
-          let plain : as_var (type_at S₀ T) ≡ none = solid_nonvar (type_at S₀ T) (bind_solid s₀ x T g (ends_stop (chain s₀ v i))) in
+          let plain : as_var (type_at S₀ T) ≡ None = solid_nonvar (type_at S₀ T) (bind_solid s₀ x T g (ends_stop (chain s₀ v i))) in
           let w : goes_on_to S₀ t ≡ parts (type_at S₀ T) = goes S₀ t ∙ ap (λ (y : TypeValue). parts (follow S₀ y)) d ∙ ap parts (follow_bound S₀ v T g) in
           rw (a.quiet.q_kept T T_in) (level m n ih a T T_in (type_at S₀ T) refl plain (all_ends n (parts (type_at S₀ T)) (rw w at e) (parts_in T T_in)))
 
@@ -144,9 +144,9 @@ module _ {ar : TypeName → ℕ} where
           same : forward_tvar S v ≡ forward_tvar S₀ v
           same = ends_det (chain a.sound_after v i') (ends_same a.quiet.q_next (chain s₀ v i))
 
-          go : (o : Option ℕ) → get S (forward_tvar S v) ≡ o → ReadOn ar S (elim o [ none ↦ sp S (loc_of S t) (Var (forward_tvar S v)) | some T ↦ ready (suc m) S T ])
-          go none g = sp_on a.sound_after (loc_of S t) (Var (forward_tvar S v)) (var_ok (forward_tvar S v) (end_taken a.sound_after i' (chain a.sound_after v i')))
-          go (some T) g = bound_on v T d (sym (a.same_get (forward_tvar S₀ v)) ∙ sym (ap (get S) same) ∙ g) i
+          go : (o : Option ℕ) → get S (forward_tvar S v) ≡ o → ReadOn ar S (elim o [ None ↦ sp S (loc_of S t) (Var (forward_tvar S v)) | Some T ↦ ready (suc m) S T ])
+          go None g = sp_on a.sound_after (loc_of S t) (Var (forward_tvar S v)) (var_ok (forward_tvar S v) (end_taken a.sound_after i' (chain a.sound_after v i')))
+          go (Some T) g = bound_on v T d (sym (a.same_get (forward_tvar S₀ v)) ∙ sym (ap (get S) same) ∙ g) i
 
       any_on : ReadOn ar S (ready (suc (suc m)) S t)
       any_on = elim (kind (type_at S₀ t)) [ k_any d ↦ plain_on (rw d any_plain) | k_var {v} d ↦ var_on v d (s₀.var_in t v h d) | k_solid d v ↦ plain_on v ]
@@ -209,9 +209,9 @@ module _ (f f' : State → ℕ → Result (State × ℕ)) (h : (s : State) (t : 
   value_fuller s t loc (Apply k n ps) = fuller_bind _ _ (map_fuller s ps) (λ a. same)
   value_fuller s t loc (Var i) = go (get s (forward_tvar s i))
     where
-      go : (o : Option ℕ) → Fuller {A = State × ℕ} (elim o [ none ↦ sp s loc (Var (forward_tvar s i)) | some t ↦ f s t ]) (elim o [ none ↦ sp s loc (Var (forward_tvar s i)) | some t ↦ f' s t ])
-      go none = same
-      go (some t) = h s t
+      go : (o : Option ℕ) → Fuller {A = State × ℕ} (elim o [ None ↦ sp s loc (Var (forward_tvar s i)) | Some t ↦ f s t ]) (elim o [ None ↦ sp s loc (Var (forward_tvar s i)) | Some t ↦ f' s t ])
+      go None = same
+      go (Some t) = h s t
 
 ready_fuller : (n m : ℕ) → n ≤ m → (s : State) (t : ℕ) → Fuller (ready n s t) (ready m s t)
 unfolding ready

@@ -4,7 +4,7 @@ use mathlib.Core.Path.{◌≡◌, refl, sym, ◌∙◌, subst}
 use mathlib.Core.Logic.{◌≢◌, ◌⊎◌, inl, inr}
 use mathlib.Core.Bool.{Bool, true, false, not, ◌||◌}
 use mathlib.Core.List.{List, [], ◌∷◌}
-use mathlib.Core.Option.{Option, none, some}
+use Rattle.std.specs.Prelude.{Option, None, Some}
 use Prim.Native.Nat.{ℕ, suc, ◌+◌, ◌*◌, ◌<◌}
 use native.Mathlib.Omega.{arith}
 use lib.ListN.{length}
@@ -60,13 +60,13 @@ pub sure_eq : {A C : Type 0} {Q : C → Type 0} {m : Result A} (a : A) (f : A �
 unfolding ◌>>=◌
 sure_eq a f e h = rw e h
 
-takes_none : {A : Type 0} {S : State} {n v : ℕ} {after : A → State} {Q : A → Type 0} (o : Option ℕ) {x : Result A} (f : ℕ → Result A) → o ≡ none → Takes S n v after Q x → Takes {A = A} S n v after Q (elim o [ none ↦ x | some t ↦ f t ])
-takes_none none f e h = h
-takes_none (some t) f e h = never (cc)
+takes_none : {A : Type 0} {S : State} {n v : ℕ} {after : A → State} {Q : A → Type 0} (o : Option ℕ) {x : Result A} (f : ℕ → Result A) → o ≡ None → Takes S n v after Q x → Takes {A = A} S n v after Q (elim o [ None ↦ x | Some t ↦ f t ])
+takes_none None f e h = h
+takes_none (Some t) f e h = never (cc)
 
-pub sure_none : {A : Type 0} {Q : A → Type 0} (o : Option ℕ) {x : Result A} (f : ℕ → Result A) → o ≡ none → Sure Q x → Sure {A = A} Q (elim o [ none ↦ x | some t ↦ f t ])
-sure_none none f e h = h
-sure_none (some t) f e h = never (cc)
+pub sure_none : {A : Type 0} {Q : A → Type 0} (o : Option ℕ) {x : Result A} (f : ℕ → Result A) → o ≡ None → Sure Q x → Sure {A = A} Q (elim o [ None ↦ x | Some t ↦ f t ])
+sure_none None f e h = h
+sure_none (Some t) f e h = never (cc)
 
 -- no variable comes to reach itself; of the variables of S, only e has another binding in S'
 pub record CalmAt (S : State) (e : ℕ) (S' : State) : Type 0 where
@@ -114,7 +114,7 @@ join_open n S l t e (inr d) = rw (e, d) refl
 
 -- what the chain end e is bound to, if anything, is `!`
 OpenEnd : State → ℕ → Type 0
-OpenEnd S e = (get S e ≡ none) ⊎ ((t : ℕ) × (get S e ≡ some t) × (type_at S t ≡ UnresolvedError))
+OpenEnd S e = (get S e ≡ None) ⊎ ((t : ℕ) × (get S e ≡ Some t) × (type_at S t ≡ UnresolvedError))
 
 record OpenType (ar : TypeName → ℕ) (S S' : State) (t : ℕ) : Type 0 where
   sound : Sound ar S'
@@ -137,11 +137,11 @@ unfolding Open
 open_on S S' t (inl e) d = inl (d ∙ e)
 open_on S S' t (inr e) d = inr (d ∙ e)
 
-type_bound : (S : State) (loc e v l : ℕ) → e ≡ v → get S v ≡ some l → type_of S loc e ≡ ok (S, l)
+type_bound : (S : State) (loc e v l : ℕ) → e ≡ v → get S v ≡ Some l → type_of S loc e ≡ ok (S, l)
 unfolding type_of
 type_bound S loc e v l d g = rw (d, g, type_of) refl
 
-merge_takes : {ar : TypeName → ℕ} {S : State} (n : ℕ) → Sound ar S → (loc1 new loc2 v l : ℕ) → new < taken S → v < taken S → get S new ≡ some l → type_at S l ≡ u64 → OpenEnd S (forward_tvar S v)
+merge_takes : {ar : TypeName → ℕ} {S : State} (n : ℕ) → Sound ar S → (loc1 new loc2 v l : ℕ) → new < taken S → v < taken S → get S new ≡ Some l → type_at S l ≡ u64 → OpenEnd S (forward_tvar S v)
     → TakesAnd S 3 1 (λ s t. Calm S s × ((w : ℕ) → w < taken S → w ≢ new → w ≢ forward_tvar S v → get s w ≡ get S w)) (join_tvar (J n) S Join loc1 new loc2 v)
 unfolding join_tvar u64 as_var args_of ◌>>=◌
 merge_takes {ar} {S} n s loc1 new loc2 v l i j g u op =
@@ -177,7 +177,7 @@ merge_takes {ar} {S} n s loc1 new loc2 v l i j g u op =
     let same : (x : ℕ) → get Se x ≡ get S x = λ x. q.same_get x ∙ p.same_get x ∙ m.m_get x ∙ w.same_get x ∙ b.same_get x in
     let vl : type_at (tied y) l ≡ u64 = val y l ∙ y.quiet.q_kept l l_in ∙ u in
     let vo : Open (tied y) T2 = open_on Sb (tied y) T2 b.is_open (val y T2 ∙ qb.q_kept T2 b.t_in) in
-    let gf : get (tied y) f ≡ none = get_rest y f (λ d. omega (arith, y.in1, y.new)) (λ d. omega (arith, y.in2, y.new)) ∙ same f ∙ get_beyond S f y.new in
+    let gf : get (tied y) f ≡ None = get_rest y f (λ d. omega (arith, y.in1, y.new)) (λ d. omega (arith, y.in2, y.new)) ∙ same f ∙ get_beyond S f y.new in
     let f_in : f < taken (tied y) = omega (arith, tkn y, y.f_in) in
     let c : Calm S (insert (tied y) f l) =
     calm_trans (calm_same s Se y.quiet.q_kept same) (calm_trans (calm_tied y gf) (calm_insert (sound_tied y) f l f_in (dead_u64 (insert (tied y) f l) (type_at (tied y) l) vl))) in
@@ -193,7 +193,7 @@ unfold_open : {ar : TypeName → ℕ} (S : State) → Sound ar S → (v loc : �
 unfolding unfold_type unfold_var as_var OpenEnd undecided is_anything spanned
 unfold_open S s v loc e = go (get S (forward_tvar S v)) refl e
   where
-    shape : (t : ℕ) → get S (forward_tvar S v) ≡ some t → (x : TypeValue) → type_at S t ≡ x → undecided x ≡ true → type_at S t ≡ UnresolvedError
+    shape : (t : ℕ) → get S (forward_tvar S v) ≡ Some t → (x : TypeValue) → type_at S t ≡ x → undecided x ≡ true → type_at S t ≡ UnresolvedError
     shape t g UnitType d u = never (cc)
     shape t g (Ref m p) d u = never (cc)
     shape t g (Param id a) d u = never (cc)
@@ -202,12 +202,12 @@ unfold_open S s v loc e = go (get S (forward_tvar S v)) refl e
     shape t g Anything d u = never (let z : true ≡ false = rw d at (s.bind_known (forward_tvar S v) t g) in cc)
     shape t g UnresolvedError d u = d
 
-    go : (o : Option ℕ) → get S (forward_tvar S v) ≡ o → undecided (unfold_var S loc o).value ≡ true → (get S (forward_tvar S v) ≡ none) ⊎ ((t : ℕ) × (get S (forward_tvar S v) ≡ some t) × (type_at S t ≡ UnresolvedError))
-    go none g u = inl g
-    go (some t) g u = inr (t, g, shape t g (type_at S t) refl u)
+    go : (o : Option ℕ) → get S (forward_tvar S v) ≡ o → undecided (unfold_var S loc o).value ≡ true → (get S (forward_tvar S v) ≡ None) ⊎ ((t : ℕ) × (get S (forward_tvar S v) ≡ Some t) × (type_at S t ≡ UnresolvedError))
+    go None g u = inl g
+    go (Some t) g u = inr (t, g, shape t g (type_at S t) refl u)
 
 -- it stays open as long as the chain and the end's binding stay
-open_end_on : (S S' : State) (e : ℕ) → OpenEnd S e → get S' e ≡ get S e → ((t : ℕ) → get S e ≡ some t → type_at S' t ≡ type_at S t) → OpenEnd S' e
+open_end_on : (S S' : State) (e : ℕ) → OpenEnd S e → get S' e ≡ get S e → ((t : ℕ) → get S e ≡ Some t → type_at S' t ≡ type_at S t) → OpenEnd S' e
 unfolding OpenEnd
 open_end_on S S' e (inl g) d k = inl (d ∙ g)
 open_end_on S S' e (inr (t, g, u)) d k = inr (t, d ∙ g, k t g ∙ u)
@@ -221,14 +221,14 @@ join_takes {ar} {S} n s l r v l_in u w v_in op = rw (u, w) (go (get S v) refl)
     hard = rw u refl
 
     go : (o : Option ℕ) → get S v ≡ o → TakesAnd {B = ℕ} S 3 2 (λ s t. CalmAt S (forward_tvar S v) s) (elim o [
-      | none ↦ join_unbound S l r r v l
-      | some t ↦ next_tvar S >>= (λ (x : State × ℕ). join_tvar (J n) (insert x.0 x.1 l) Join (loc_of x.0 l) x.1 (loc_of x.0 r) v)
+      | None ↦ join_unbound S l r r v l
+      | Some t ↦ next_tvar S >>= (λ (x : State × ℕ). join_tvar (J n) (insert x.0 x.1 l) Join (loc_of x.0 l) x.1 (loc_of x.0 r) v)
     ])
-    go none g = takes_eq _ _ (bind_ok S (loc_of S r) v l u) (takes_ok (took_trans (took_insert S v l) (took_none (insert S v l) 3 2)) (record {
+    go None g = takes_eq _ _ (bind_ok S (loc_of S r) v l u) (takes_ok (took_trans (took_insert S v l) (took_none (insert S v l) 3 2)) (record {
       calm = calm_insert s v l v_in (dead_u64 (insert S v l) (type_at S l) u);
       only = λ x h a. get_insert_other S v l x (λ d. a (d ∙ sym (ends_det (chain s v v_in) (here (next_none S v g)))));
     }))
-    go (some t) g = takes_post 3 1 _ (next_takes S) (next_tvar_post s) (λ S1 f g1 p.
+    go (Some t) g = takes_post 3 1 _ (next_takes S) (next_tvar_post s) (λ S1 f g1 p.
         let l1 : l < count S1 = omega (arith, p.quiet.q_nodes) in
         let h1 : solid (type_at S1 l) ≡ true = rw (p.quiet.q_kept l l_in) hard in
         let u1 : type_at S1 l ≡ u64 = p.quiet.q_kept l l_in ∙ u in

@@ -4,7 +4,7 @@ use mathlib.Core.Path.{◌≡◌, refl, sym, ap, ◌∙◌, subst}
 use mathlib.Core.Logic.{◌≢◌, ◌⊎◌, inl, inr}
 use mathlib.Core.Bool.{Bool, true, false, ◌||◌}
 use mathlib.Core.List.{List, [], ◌∷◌}
-use mathlib.Core.Option.{Option, none, some}
+use Rattle.std.specs.Prelude.{Option, None, Some}
 use Prim.Native.Nat.{ℕ, zero, suc, ◌*◌, ◌≤◌, ◌<◌}
 use native.Mathlib.Omega.{arith}
 use lib.ListN.{length, get_or, set, get_or-eq_default}
@@ -37,7 +37,7 @@ use Rattle.theorems.proofs.NeedsExact.{four, sum, Exact, exact_ok, ExactAnd, mor
 
 -- ---- marks
 
-pub num_beyond : (s : State) (v : ℕ) → taken s ≤ v → num_loc s v ≡ none
+pub num_beyond : (s : State) (v : ℕ) → taken s ≤ v → num_loc s v ≡ None
 unfolding num_loc
 num_beyond s v h = ap (λ (c : Cell). c.numeric) (get_or-eq_default s.vars unbound h)
 
@@ -58,7 +58,7 @@ getD_bind (c ∷ l) (suc v) b (suc w) = getD_bind l v b w
 
 num_insert : (s : State) (v t w : ℕ) → num_loc (insert s v t) w ≡ num_loc s w
 unfolding num_loc insert with_vars
-num_insert s v t w = getD_bind s.vars v (some t) w
+num_insert s v t w = getD_bind s.vars v (Some t) w
 
 -- ---- the steps
 
@@ -85,7 +85,7 @@ next_exact {ar} {S} s = exact_room (tvar_room S) (λ h. omega (arith, h.variable
 
 -- ---- a join with an unbound variable without a mark
 
-unmarked : (S : State) (x t : ℕ) → num_loc S x ≡ none → check_num_tvar S x t ≡ true
+unmarked : (S : State) (x t : ℕ) → num_loc S x ≡ None → check_num_tvar S x t ≡ true
 unfolding check_num_tvar is_num_var
 unmarked S x t e = rw (e, is_num_var) refl
 
@@ -93,18 +93,18 @@ any_used : (S : State) (x t : ℕ) → type_at S t ≡ Anything → used (suc t)
 unfolding used as_var is_var any_of parts
 any_used S x t e = rw e refl
 
-type_open : (S : State) (loc e : ℕ) → get S e ≡ none → type_of S loc e ≡ sp S loc Anything
+type_open : (S : State) (loc e : ℕ) → get S e ≡ None → type_of S loc e ≡ sp S loc Anything
 unfolding type_of
 type_open S loc e g = rw (g, type_of) refl
 
-open_end : {ar : TypeName → ℕ} {S : State} → Sound ar S → (x : ℕ) → x < taken S → get S x ≡ none → forward_tvar S x ≡ x
+open_end : {ar : TypeName → ℕ} {S : State} → Sound ar S → (x : ℕ) → x < taken S → get S x ≡ None → forward_tvar S x ≡ x
 open_end {S = S} s x h g = ends_det (chain s x h) (here (next_none S x g))
 
 any_join : (n : ℕ) (S : State) (l r : ℕ) → type_at S l ≡ Anything → join_impl (suc n) S Join l r ≡ ok (S, r)
 unfolding join_impl join_arm arm
 any_join n S l r e = rw e refl
 
-any_bind : (S : State) (loc x t : ℕ) → num_loc S x ≡ none → type_at S t ≡ Anything → join_bind_tvar S loc x t ≡ ok (S, true)
+any_bind : (S : State) (loc x t : ℕ) → num_loc S x ≡ None → type_at S t ≡ Anything → join_bind_tvar S loc x t ≡ ok (S, true)
 unfolding join_bind_tvar is_anything
 any_bind S loc x t m e = rw (unmarked S x t m, any_used S x t e, e) refl
 
@@ -117,7 +117,7 @@ record Left (S : State) (x w : ℕ) (a : State × ℕ) : Type 0 where
   which : (var ≡ x) ⊎ (taken S ≤ var)
 
 -- with what is no variable: it takes nothing
-bind_exact : {ar : TypeName → ℕ} {S : State} → Sound ar S → (l r x : ℕ) → type_at S l ≡ Var x → num_loc S x ≡ none → used (suc r) S x r ≡ false → ExactAnd S (four 0 0 0 0) (Left S x x) (join_unbound S l r l x r)
+bind_exact : {ar : TypeName → ℕ} {S : State} → Sound ar S → (l r x : ℕ) → type_at S l ≡ Var x → num_loc S x ≡ None → used (suc r) S x r ≡ false → ExactAnd S (four 0 0 0 0) (Left S x x) (join_unbound S l r l x r)
 unfolding join_unbound join_bind_tvar ◌>>=◌
 bind_exact {S = S} s l r x v m u = rw (unmarked S x r m, u) (go (is_anything (type_at S r)))
   where
@@ -126,7 +126,7 @@ bind_exact {S = S} s l r x v m u = rw (unmarked S x r m, u) (go (is_anything (ty
     go false = exact_ok (more_insert S x r) (record { only = λ y h a b. get_insert_other S x r y a; marks = num_insert S x r; var = x; is = value_insert S x r l ∙ v; which = inl refl })
 
 -- with another such variable: two `_`, two bindings and a fresh variable
-merge_exact : {ar : TypeName → ℕ} {S : State} (n : ℕ) → Sound ar S → (loc1 x loc2 w : ℕ) → x < taken S → w < taken S → get S x ≡ none → get S w ≡ none → num_loc S x ≡ none → num_loc S w ≡ none
+merge_exact : {ar : TypeName → ℕ} {S : State} (n : ℕ) → Sound ar S → (loc1 x loc2 w : ℕ) → x < taken S → w < taken S → get S x ≡ None → get S w ≡ None → num_loc S x ≡ None → num_loc S w ≡ None
     → ExactAnd S (four 4 0 1 0) (Left S x w) (join_tvar (λ s c l r. join_impl (suc n) s c l r) S Join loc1 x loc2 w)
 unfolding join_tvar merge_num args_of
 merge_exact {ar} {S} n s loc1 x loc2 w i j gx gw mx mw = rw (open_end s x i gx, open_end s w j gw, mx, mw, type_open S loc1 x gx) (exact_as (
@@ -154,20 +154,20 @@ merge_exact {ar} {S} n s loc1 x loc2 w i j gx gw mx mw = rw (open_end s x i gx, 
 
 -- what the join of a fresh variable with it takes
 abbrev pub merged : TypeValue → Needs
-merged x = elim (as_var x) [ none ↦ four 0 0 0 0 | some v ↦ four 4 0 1 0 ]
+merged x = elim (as_var x) [ None ↦ four 0 0 0 0 | Some v ↦ four 4 0 1 0 ]
 
 -- t is no variable, or a variable from b on that is unbound and has no mark; what comes next is from b' on
 pub data PlainOrOpen (S : State) (b t : ℕ) : ℕ → Type 0 where
-  is_plain : as_var (type_at S t) ≡ none → PlainOrOpen S b t b
-  is_open : {w : ℕ} → type_at S t ≡ Var w → b ≤ w → w < taken S → get S w ≡ none → num_loc S w ≡ none → PlainOrOpen S b t (suc w)
+  is_plain : as_var (type_at S t) ≡ None → PlainOrOpen S b t b
+  is_open : {w : ℕ} → type_at S t ≡ Var w → b ≤ w → w < taken S → get S w ≡ None → num_loc S w ≡ None → PlainOrOpen S b t (suc w)
 
 pub record Pair (S : State) (h a b v t x b' : ℕ) : Type 0 where
   pub v_in : v < count S
   pub is : type_at S v ≡ Var x
   pub from : a ≤ x
   pub below : x < h
-  pub free : get S x ≡ none
-  pub clear : num_loc S x ≡ none
+  pub free : get S x ≡ None
+  pub clear : num_loc S x ≡ None
   pub t_in : t < count S
   pub unused : used (suc t) S x t ≡ false
   pub shape : PlainOrOpen S b t b'
@@ -194,7 +194,7 @@ unfolding used as_var is_var any_of parts
 used_other S x w t e u d = never (let z : eqb w x || false ≡ false = rw e at u in let y = eq-eqb w x d in let k : true ≡ false = rw y at z in cc)
 
 module _ {ar : TypeName → ℕ} {S : State} (s : Sound ar S) (n h a b v t x : ℕ) (h_in : h ≤ taken S) (hb : h ≤ b) where
-  plain_exact : as_var (type_at S t) ≡ none → {b' : ℕ} → Pair S h a b v t x b' → ExactAnd S (four 0 0 0 0) (Left S x x) (join_impl (suc (suc n)) S Join v t)
+  plain_exact : as_var (type_at S t) ≡ None → {b' : ℕ} → Pair S h a b v t x b' → ExactAnd S (four 0 0 0 0) (Left S x x) (join_impl (suc (suc n)) S Join v t)
   unfolding join_impl join_arm arm
   plain_exact e p = go (kind (type_at S t))
     where
@@ -203,7 +203,7 @@ module _ {ar : TypeName → ℕ} {S : State} (s : Sound ar S) (n h a b v t x : �
       go (k_var d) = nonvar_var e d
       go (k_solid d f) = rw (p.is, arm_l x (type_at S t) d) (rw (p.free, join_arm) (bind_exact s v t x p.is p.clear p.unused))
 
-  open_exact : {w b' : ℕ} → Pair S h a b v t x b' → type_at S t ≡ Var w → w < taken S → get S w ≡ none → num_loc S w ≡ none → ExactAnd S (four 4 0 1 0) (Left S x w) (join_impl (suc (suc n)) S Join v t)
+  open_exact : {w b' : ℕ} → Pair S h a b v t x b' → type_at S t ≡ Var w → w < taken S → get S w ≡ None → num_loc S w ≡ None → ExactAnd S (four 4 0 1 0) (Left S x w) (join_impl (suc (suc n)) S Join v t)
   unfolding join_impl join_arm arm
   open_exact {w} p e i g m = rw (p.is, e) (rw (ne_eqb x w (λ d. used_other S x w t e p.unused (sym d))) (merge_exact n s (loc_of S v) x (loc_of S t) w (omega (arith, p.below)) i p.free g p.clear m))
 
@@ -450,7 +450,7 @@ map_sure f h (t ∷ ts) {S} s d a =
           (shape_keep z p.t_in (λ y i c e. q.olds y i) l.shape) (shapes_lower p.steady.grown.g_vars l.next_in q.shapes);
     })))
 
-pub pairs_of : {S1 S2 : State} {h a b : ℕ} {vs ts : List ℕ} → Grown S1 S2 → h ≡ taken S1 → ((y : ℕ) → a ≤ y → y < h → get S2 y ≡ none) → ((y : ℕ) → a ≤ y → num_loc S2 y ≡ none) → Tvars S1 a vs → Shapes S2 h b ts → Pairs S2 h a b vs ts
+pub pairs_of : {S1 S2 : State} {h a b : ℕ} {vs ts : List ℕ} → Grown S1 S2 → h ≡ taken S1 → ((y : ℕ) → a ≤ y → y < h → get S2 y ≡ None) → ((y : ℕ) → a ≤ y → num_loc S2 y ≡ None) → Tvars S1 a vs → Shapes S2 h b ts → Pairs S2 h a b vs ts
 pairs_of g e f m t_none ss = no_pairs
 pairs_of g e f m (t_one i v l j tv) sh_none = no_more
 pairs_of g e f m (t_one {v = u} {x = x} i v l j tv) (sh_one {t = t} {b' = b'} k n p ss) = pair {v = u} {t = t} {x = x} {b' = b'} (record {
@@ -485,7 +485,7 @@ unfolding used
 unused_of S y t x e v a = ap (λ (z : TypeValue). is_var y z || any_of (λ p. used t S y p) (parts z)) e ∙ rw v (used_none (λ p. used t S y p) (parts x) a)
 
 -- a new node whose parts have no variable below the bound
-new_level : {ar : TypeName → ℕ} {S S1 : State} → Steady ar S S1 → ((y : ℕ) → y < taken S → get S1 y ≡ get S y) → (l : ℕ) (sh : TypeValue) → as_var sh ≡ none → ((y : ℕ) → is_var y sh ≡ false)
+new_level : {ar : TypeName → ℕ} {S S1 : State} → Steady ar S S1 → ((y : ℕ) → y < taken S → get S1 y ≡ get S y) → (l : ℕ) (sh : TypeValue) → as_var sh ≡ None → ((y : ℕ) → is_var y sh ≡ false)
     → ((y : ℕ) → y < taken S → All (λ u. used (count S1) (with_node S1 l sh) y u ≡ false) (parts sh)) → Sure (Level S) (sp S1 l sh)
 new_level {S = S} {S1 = S1} z o l sh e v u = sure_map (λ a d. subst (Level S) (sym d) (record {
   marks = λ y. num_node S1 l sh y ∙ z.marks y;
@@ -507,7 +507,7 @@ vars_unused {S = S} s l sh us y j vs = All_map (λ u p. used_var (count S) (with
 
 module _ {ar : TypeName → ℕ} (f : State → ℕ → Result (State × ℕ)) (h : Makes ar f) where
   -- a type that stays as it is
-  stays : {S : State} (t : ℕ) (x : TypeValue) → type_at S t ≡ x → as_var x ≡ none → ((y : ℕ) → is_var y x ≡ false) → parts x ≡ [] → Sure (Level S) (ok (S, t))
+  stays : {S : State} (t : ℕ) (x : TypeValue) → type_at S t ≡ x → as_var x ≡ None → ((y : ℕ) → is_var y x ≡ false) → parts x ≡ [] → Sure (Level S) (ok (S, t))
   stays {S} t x e a v p = sure_ok {a = (S, t)} (record { marks = λ y. refl; olds = λ y i. refl; unused = λ y i. unused_of S y t x e (v y) (rw p tt); next = taken S; next_in = omega arith; shape = is_plain (ap as_var e ∙ a) })
 
   level_sure : {S : State} → Sound ar S → Declared ar S → (t : ℕ) → t < count S → (x : TypeValue) → type_at S t ≡ x → Sure (Level S) (instantiate_value f S t (loc_of S t) x)

@@ -4,7 +4,7 @@ use mathlib.Core.Path.{◌≡◌, refl, sym, ap, ◌∙◌, subst}
 use mathlib.Core.Logic.{◌⊎◌, inl, inr, ◌↔◌}
 use mathlib.Core.Bool.{Bool, true, false, not}
 use mathlib.Core.List.{List, [], ◌∷◌, Memᴰ}
-use mathlib.Core.Option.{Option, none, some}
+use Rattle.std.specs.Prelude.{Option, None, Some}
 use Prim.Native.Nat.{ℕ, zero, suc, ◌≤◌, ◌<◌}
 use native.Mathlib.Decide.{ℕ_discrete}
 use native.Mathlib.Omega.{arith}
@@ -25,7 +25,7 @@ use Rattle.theorems.proofs.TotalFinite.{closed, mark_one, all_at, closed_none, m
 
 -- ---- where reading goes on
 
-unfold_plain : (S : State) (t : ℕ) → as_var (type_at S t) ≡ none → goes_on_to S t ≡ parts (type_at S t)
+unfold_plain : (S : State) (t : ℕ) → as_var (type_at S t) ≡ None → goes_on_to S t ≡ parts (type_at S t)
 unfolding goes_on_to unfold_type spanned
 unfold_plain S t e = rw (e, unfold_type) refl
 
@@ -34,13 +34,13 @@ unfolding goes_on_to unfold_type spanned as_var unfold_var parts
 unfold_bound S t v e = rw (e, unfold_type) (go (get S (forward_tvar S v)) refl)
   where
     go : (o : Option ℕ) → get S (forward_tvar S v) ≡ o → parts (unfold_var S (loc_of S t) o).value ≡ parts (follow S (Var v))
-    go none g = rw (follow_open S v g) refl
-    go (some T) g = rw (follow_bound S v T g) refl
+    go None g = rw (follow_open S v g) refl
+    go (Some T) g = rw (follow_bound S v T g) refl
 
 pub goes : (S : State) (t : ℕ) → goes_on_to S t ≡ parts (follow S (type_at S t))
 goes S t = go (kind (type_at S t))
   where
-    plain : as_var (type_at S t) ≡ none → goes_on_to S t ≡ parts (follow S (type_at S t))
+    plain : as_var (type_at S t) ≡ None → goes_on_to S t ≡ parts (follow S (type_at S t))
     plain e = rw (follow_plain S (type_at S t) e) (unfold_plain S t e)
 
     go : Kind (type_at S t) → goes_on_to S t ≡ parts (follow S (type_at S t))
@@ -73,27 +73,27 @@ module _ {ar : TypeName → ℕ} {S : State} (s : Sound ar S) where
   -- at a variable
   var_loop : (p v : ℕ) → type_at S p ≡ Var v → (o : Option ℕ) → get S (forward_tvar S v) ≡ o → Way S p p → Loop S (type_at S p)
   unfolding parts
-  var_loop p v e none g (one m) = let n : Memᴰ p [] = rw (e, follow_open S v g) at m in absurd (mathlib.Core.List.Memᴰ.not-nil n)
-  var_loop p v e none g (more {r = r} m w) = let n : Memᴰ r [] = rw (e, follow_open S v g) at m in absurd (mathlib.Core.List.Memᴰ.not-nil n)
-  var_loop p v e (some T) g (one m) = record {
+  var_loop p v e None g (one m) = let n : Memᴰ p [] = rw (e, follow_open S v g) at m in absurd (mathlib.Core.List.Memᴰ.not-nil n)
+  var_loop p v e None g (more {r = r} m w) = let n : Memᴰ r [] = rw (e, follow_open S v g) at m in absurd (mathlib.Core.List.Memᴰ.not-nil n)
+  var_loop p v e (Some T) g (one m) = record {
     variable = forward_tvar S v;
     meets = var_met p v e;
     itself = record { binding_of = T; bound_to = g; part = p; is_part = rw (e, follow_bound S v T g) at m; again = var_met p v e };
   }
-  var_loop p v e (some T) g (more {r = r} m w) = record {
+  var_loop p v e (Some T) g (more {r = r} m w) = record {
     variable = forward_tvar S v;
     meets = var_met p v e;
     itself = record { binding_of = T; bound_to = g; part = r; is_part = rw (e, follow_bound S v T g) at m; again = meets_way w (var_met p v e) };
   }
 
-  falls : (p q : ℕ) → p < count S → as_var (type_at S p) ≡ none → Memᴰ q (parts (follow S (type_at S p))) → q < p
+  falls : (p q : ℕ) → p < count S → as_var (type_at S p) ≡ None → Memᴰ q (parts (follow S (type_at S p))) → q < p
   falls p q h e m = all_at (λ i. i < p) (parts (type_at S p)) (s.parts_below p h) q (rw (follow_plain S (type_at S p) e) at m)
 
   cycle_loop : (k p : ℕ) → p < k → p < count S → Way S p p → Loop S (type_at S p)
   cycle_loop zero p l h w = absurd (omega arith)
   cycle_loop (suc k) p l h w = go (kind (type_at S p)) (λ r i v. cycle_loop k r (omega arith) (omega arith) v)
     where
-      plain : as_var (type_at S p) ≡ none → ((r : ℕ) → r < p → Way S r r → Loop S (type_at S r)) → Way S p p → Loop S (type_at S p)
+      plain : as_var (type_at S p) ≡ None → ((r : ℕ) → r < p → Way S r r → Loop S (type_at S r)) → Way S p p → Loop S (type_at S p)
       plain e ih (one m) = absurd (omega (arith, falls p p h e m))
       plain e ih (more {r = r} m v) = loop_above r m (ih r (falls p r h e m) (further v m))
 
@@ -109,8 +109,8 @@ module _ {ar : TypeName → ℕ} {S : State} (s : Sound ar S) where
   in_nodes p q h m = go (kind (type_at S p))
     where
       var : (v : ℕ) → type_at S p ≡ Var v → (o : Option ℕ) → get S (forward_tvar S v) ≡ o → q < count S
-      var v e none g = let n : Memᴰ q [] = rw (e, follow_open S v g) at m in absurd (mathlib.Core.List.Memᴰ.not-nil n)
-      var v e (some T) g = let i = s.bind_in (forward_tvar S v) T g in omega (arith, all_at (λ i. i < T) (parts (type_at S T)) (s.parts_below T i) q (rw (e, follow_bound S v T g) at m))
+      var v e None g = let n : Memᴰ q [] = rw (e, follow_open S v g) at m in absurd (mathlib.Core.List.Memᴰ.not-nil n)
+      var v e (Some T) g = let i = s.bind_in (forward_tvar S v) T g in omega (arith, all_at (λ i. i < T) (parts (type_at S T)) (s.parts_below T i) q (rw (e, follow_bound S v T g) at m))
 
       go : Kind (type_at S p) → q < count S
       go (k_any e) = omega (arith, falls p q h (rw e any_plain) m)
@@ -163,7 +163,7 @@ module _ {ar : TypeName → ℕ} {S : State} (s : Sound ar S) where
   ends_within zero p e = never (cc)
   ends_within (suc n) p e = list_ends n (λ q d. ends_within n q d) (parts (follow S (type_at S p))) (rw (goes S p) at e)
 
-  has_part : (L : TypeValue) (p : ℕ) → Memᴰ p (parts L) → as_var L ≡ none
+  has_part : (L : TypeValue) (p : ℕ) → Memᴰ p (parts L) → as_var L ≡ None
   unfolding parts as_var
   has_part UnitType p m = refl
   has_part (Ref b t) p m = refl
@@ -177,7 +177,7 @@ module _ {ar : TypeName → ℕ} {S : State} (s : Sound ar S) where
   loop_never n L l w =
       let e = l.variable in
       let t = l.itself in
-      let stop : next_of S e ≡ none = next_some S e t.binding_of t.bound_to ∙ has_part (type_at S t.binding_of) t.part t.is_part in
+      let stop : next_of S e ≡ None = next_some S e t.binding_of t.bound_to ∙ has_part (type_at S t.binding_of) t.part t.is_part in
       let i : e < taken S = elim (native.Mathlib.Decide.dec_lt e (taken S)) [ yes x ↦ x | no x ↦ never (let g = get_beyond S e (omega arith) in let b = t.bound_to in cc) ] in
       itself_never s n e stop i t (meets_ends s n e stop i l.meets w)
 

@@ -4,7 +4,7 @@ use mathlib.Core.Path.{◌≡◌, refl, sym, ap, subst}
 use mathlib.Core.Logic.{inl, inr, ◌↔◌}
 use mathlib.Core.Bool.{true}
 use mathlib.Core.List.{List, [], ◌∷◌, Memᴰ}
-use mathlib.Core.Option.{Option, none, some}
+use Rattle.std.specs.Prelude.{Option, None, Some}
 use Prim.Native.Nat.{ℕ, zero, suc, ◌+◌, ◌≤◌, ◌<◌}
 use native.Mathlib.Omega.{arith}
 use Rattle.definition.specs.Types.{TypeName, TypeValue, UnitType, Ref, Param, Apply, Var, Anything, UnresolvedError, State}
@@ -131,7 +131,7 @@ module _ {ar : TypeName → ℕ} {S : State} (s : Sound ar S) where
   list_reads f Q [] a h w = reads_none
   list_reads f Q (p ∷ ps) a h w = reads_each (h p a.0 w.0) (list_reads f Q ps a.1 h w.1)
 
-  plain_reads : (f : ℕ → ReadType) (Q : ℕ → Type 0) (L : TypeValue) → as_var L ≡ none → All (λ p. p < count S) (parts L) → BelowReads f Q → All Q (parts L) → Reads S L (read_shape f L)
+  plain_reads : (f : ℕ → ReadType) (Q : ℕ → Type 0) (L : TypeValue) → as_var L ≡ None → All (λ p. p < count S) (parts L) → BelowReads f Q → All Q (parts L) → Reads S L (read_shape f L)
   unfolding read_shape parts
   plain_reads f Q UnitType e a h w = reads_unit
   plain_reads f Q (Ref m t) e a h w = reads_reference (h t a.0 w.0)
@@ -143,8 +143,8 @@ module _ {ar : TypeName → ℕ} {S : State} (s : Sound ar S) where
 
   variable_reads : (f : ℕ → ReadType) (Q : ℕ → Type 0) (v : ℕ) → v < taken S → BelowReads f Q → (o : Option ℕ) → get S (forward_tvar S v) ≡ o → All Q (parts (follow S (Var v))) → Reads S (Var v) (read_shape f (follow S (Var v)))
   unfolding read_shape
-  variable_reads f Q v l h none g w = rw (follow_open S v g) (ends_reads (chain s v l) (reads_open g))
-  variable_reads f Q v l h (some T) g w =
+  variable_reads f Q v l h None g w = rw (follow_open S v g) (ends_reads (chain s v l) (reads_open g))
+  variable_reads f Q v l h (Some T) g w =
       let e = follow_bound S v T g in
       let hard = solid_nonvar (type_at S T) (bind_solid s (forward_tvar S v) T g (ends_stop (chain s v l))) in
       rw e (ends_reads (chain s v l) (reads_bound g (plain_reads f Q (type_at S T) hard (type_is_in (s.bind_in (forward_tvar S v) T g)).parts_in h (rw e at w))))
@@ -152,7 +152,7 @@ module _ {ar : TypeName → ℕ} {S : State} (s : Sound ar S) where
   shape_reads : (f : ℕ → ReadType) (Q : ℕ → Type 0) (L : TypeValue) → In S L → BelowReads f Q → All Q (parts (follow S L)) → Reads S L (read_shape f (follow S L))
   shape_reads f Q L i h w = go (kind L)
     where
-      plain : as_var L ≡ none → Reads S L (read_shape f (follow S L))
+      plain : as_var L ≡ None → Reads S L (read_shape f (follow S L))
       plain e = let d = follow_plain S L e in rw d (plain_reads f Q L e i.parts_in h (rw d at w))
 
       go : Kind L → Reads S L (read_shape f (follow S L))
@@ -179,12 +179,12 @@ module _ {ar : TypeName → ℕ} {S : State} (s : Sound ar S) where
   end_meets {e} (met {v = v} d) i = meets_chain (chain s v (i.var_in v refl)) (subst (λ (x : ℕ). Meets S e (Var x)) (sym d) meets_it)
   end_meets {e} (met_in {shape = L} {p = p} m r) i = go (kind L) (λ l. end_meets r (type_is_in l))
     where
-      plain : as_var L ≡ none → (p < count S → Meets S e (type_at S p)) → Meets S e L
+      plain : as_var L ≡ None → (p < count S → Meets S e (type_at S p)) → Meets S e L
       plain n h = let m' : Memᴰ p (parts L) = rw (follow_plain S L n) at m in meets_part m' (h (part_in i p m'))
 
       variable : (v : ℕ) → L ≡ Var v → (o : Option ℕ) → get S (forward_tvar S v) ≡ o → (p < count S → Meets S e (type_at S p)) → Meets S e (Var v)
-      variable v d none g h = let n : Memᴰ p [] = rw (d, follow_open S v g) at m in absurd (mathlib.Core.List.Memᴰ.not-nil n)
-      variable v d (some T) g h =
+      variable v d None g h = let n : Memᴰ p [] = rw (d, follow_open S v g) at m in absurd (mathlib.Core.List.Memᴰ.not-nil n)
+      variable v d (Some T) g h =
           let m' : Memᴰ p (parts (type_at S T)) = rw (d, follow_bound S v T g) at m in
           meets_chain (chain s v (i.var_in v d)) (meets_bound g (meets_part m' (h (part_in (type_is_in (s.bind_in (forward_tvar S v) T g)) p m'))))
 
@@ -205,9 +205,9 @@ module _ {ar : TypeName → ℕ} {S : State} (s : Sound ar S) where
 
 -- L is read in at most n steps
 data Ended (S : State) : ℕ → TypeValue → Type 0 where
-  e_open : {n v : ℕ} → get S v ≡ none → Ended S n (Var v)
-  e_bound : {n v t : ℕ} → get S v ≡ some t → Ended S n (type_at S t) → Ended S (suc n) (Var v)
-  e_plain : {n : ℕ} {L : TypeValue} → as_var L ≡ none → ((p : ℕ) → Memᴰ p (parts L) → Ended S n (type_at S p)) → Ended S (suc n) L
+  e_open : {n v : ℕ} → get S v ≡ None → Ended S n (Var v)
+  e_bound : {n v t : ℕ} → get S v ≡ Some t → Ended S n (type_at S t) → Ended S (suc n) (Var v)
+  e_plain : {n : ℕ} {L : TypeValue} → as_var L ≡ None → ((p : ℕ) → Memᴰ p (parts L) → Ended S n (type_at S p)) → Ended S (suc n) L
 
 ended_more : {S : State} {n : ℕ} {L : TypeValue} → Ended S n L → (m : ℕ) → n ≤ m → Ended S m L
 ended_more (e_open g) m h = e_open g
@@ -216,7 +216,7 @@ ended_more (e_bound g d) (suc m) h = e_bound g (ended_more d m (omega arith))
 ended_more (e_plain e f) zero h = absurd (omega arith)
 ended_more (e_plain e f) (suc m) h = e_plain e (λ p i. ended_more (f p i) m (omega arith))
 
-ended_leaf : {S : State} (L : TypeValue) → as_var L ≡ none → parts L ≡ [] → Ended S 1 L
+ended_leaf : {S : State} (L : TypeValue) → as_var L ≡ None → parts L ≡ [] → Ended S 1 L
 ended_leaf L e n = e_plain e (λ p m. absurd (mathlib.Core.List.Memᴰ.not-nil (rw n at m)))
 
 mutual

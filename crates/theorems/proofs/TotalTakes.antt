@@ -2,7 +2,7 @@
 -- `Space` and `Took` count nodes and variables; `Takes` says of a run that it takes no more, or is refused with 7. Then the small steps, and rules to put runs together.
 use mathlib.Core.Path.{◌≡◌, refl}
 use mathlib.Core.List.{[]}
-use mathlib.Core.Option.{Option, none, some}
+use Rattle.std.specs.Prelude.{Option, None, Some}
 use Prim.Native.Nat.{ℕ, ◌+◌, ◌≤◌, ◌<◌}
 use native.Mathlib.Omega.{arith}
 use lib.ListN.{length, length-append}
@@ -101,6 +101,6 @@ pub type_of_takes : (S : State) (loc e : ℕ) → TakesAnd S 1 0 (λ s t. Unit {
 unfolding type_of args_of
 type_of_takes S loc e = go (get S e)
   where
-    go : (o : Option ℕ) → TakesAnd {B = ℕ} S 1 0 (λ s t. Unit {0}) (elim o [ none ↦ sp S loc Anything | some t ↦ ok (S, t) ])
-    go none = sp_takes S loc Anything refl
-    go (some t) = takes_ok {a = (S, t)} (took_none S 1 0) tt
+    go : (o : Option ℕ) → TakesAnd {B = ℕ} S 1 0 (λ s t. Unit {0}) (elim o [ None ↦ sp S loc Anything | Some t ↦ ok (S, t) ])
+    go None = sp_takes S loc Anything refl
+    go (Some t) = takes_ok {a = (S, t)} (took_none S 1 0) tt

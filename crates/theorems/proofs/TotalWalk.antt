@@ -4,7 +4,7 @@
 use mathlib.Core.Path.{◌≡◌, refl}
 use mathlib.Core.Bool.{Bool, true, false, not, ◌&&◌}
 use mathlib.Core.List.{List, [], ◌∷◌, map}
-use mathlib.Core.Option.{Option, none, some}
+use Rattle.std.specs.Prelude.{Option, None, Some}
 use Prim.Native.Nat.{ℕ, zero, suc, ◌*◌, ◌%◌}
 use native.Mathlib.Omega.{arith}
 use lib.ListN.{replicate}
@@ -61,9 +61,9 @@ pub either : {A : Type 0} {z : Bool} {E : State → Type 0} {P : A → Type 0} (
 either true p q = p refl
 either false p q = q refl
 
-pub maybe : {A : Type 0} {z : Bool} {E : State → Type 0} {P : A → Type 0} (o : Option ℕ) {x : Result A} {f : ℕ → Result A} → Ends z E P x → ((t : ℕ) → Ends z E P (f t)) → Ends {A = A} z E P (elim o [ none ↦ x | some t ↦ f t ])
-maybe none p q = p
-maybe (some t) p q = q t
+pub maybe : {A : Type 0} {z : Bool} {E : State → Type 0} {P : A → Type 0} (o : Option ℕ) {x : Result A} {f : ℕ → Result A} → Ends z E P x → ((t : ℕ) → Ends z E P (f t)) → Ends {A = A} z E P (elim o [ None ↦ x | Some t ↦ f t ])
+maybe None p q = p
+maybe (Some t) p q = q t
 
 -- ---- fields of what is built
 
@@ -121,9 +121,9 @@ unfolding num_vars numeric_allowed
 num_vars_in v [] h = tt
 num_vars_in v (c ∷ cells) h = go c.numeric h.0.mark_in (num_vars_in (suc v) cells h.1)
   where
-    go : (o : Option ℕ) → numeric_allowed o ≡ true → LocsIn (num_vars (suc v) cells) → LocsIn (elim o [ none ↦ num_vars (suc v) cells | some loc ↦ (v, loc) ∷ num_vars (suc v) cells ])
-    go none e l = l
-    go (some loc) e l = (e, l)
+    go : (o : Option ℕ) → numeric_allowed o ≡ true → LocsIn (num_vars (suc v) cells) → LocsIn (elim o [ None ↦ num_vars (suc v) cells | Some loc ↦ (v, loc) ∷ num_vars (suc v) cells ])
+    go None e l = l
+    go (Some loc) e l = (e, l)
 
 -- ---- the state
 
@@ -224,8 +224,8 @@ module _ (H : Type 0) (b : State) (z : Bool) where
 
       refs_run : (m1 : Bool) (t1 : ℕ) (m2 : Bool) (t2 : ℕ) (o : Option Bool) → Run (join_refs J s c lhs rhs m1 t1 m2 t2 o)
       unfolding join_refs
-      refs_run m1 t1 m2 t2 none = e_err i
-      refs_run m1 t1 m2 t2 (some m) = bind _ (r s i c t1 t2) (λ x j. sp_run x.0 j _ (λ h. join_loc_in c m1 m2 (loc_of s lhs) (loc_of s rhs) (ul h) (ur h)) (Ref m x.1) (λ h. tt))
+      refs_run m1 t1 m2 t2 None = e_err i
+      refs_run m1 t1 m2 t2 (Some m) = bind _ (r s i c t1 t2) (λ x j. sp_run x.0 j _ (λ h. join_loc_in c m1 m2 (loc_of s lhs) (loc_of s rhs) (ul h) (ur h)) (Ref m x.1) (λ h. tt))
 
       unbound_run : (var id other : ℕ) → Run (join_unbound s lhs rhs var id other)
       unfolding join_unbound
@@ -374,8 +374,8 @@ module _ (H : Type 0) (b : State) (z : Bool) where
 
   tell_run : (s : State) → In s → (n : Option Needs) → Run (tell s n)
   unfolding tell
-  tell_run s i none = e_refused eleven
-  tell_run s i (some n) = e_ok i
+  tell_run s i None = e_refused eleven
+  tell_run s i (Some n) = e_ok i
 
   pub run_walk : z ≡ true → (s : State) → In s → (r : Record) → (H → RecordIn b r) → Run (run s r)
   unfolding run join subtype subst_tparams instantiate solve_constraints

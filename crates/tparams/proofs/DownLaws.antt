@@ -1,7 +1,7 @@
 -- subst_tparams goes down level by level; what stays whole, and what a parameter's argument answers. Assumes nothing.
 use mathlib.Core.Path.{◌≡◌, refl}
 use mathlib.Core.List.{[], ◌∷◌}
-use mathlib.Core.Option.{Option, none, some}
+use Rattle.std.specs.Prelude.{Option, None, Some}
 use Prim.Native.Nat.{ℕ}
 use denote.Enum.Declared.{tag_of}
 use types.Run.{OneOf}
@@ -25,7 +25,7 @@ unfolding subst_value with_args
 whole = other_shapes (0 ∷ 6 ∷ 5 ∷ []) (λ sh. (f : Walk) (ps : TParamSubst) (s : State) (ty loc : ℕ) → ok (s, ty) ≡ subst_value f ps s ty loc (with_args s (shape_of sh)))
     (λ f ps s ty loc. refl) tt tt tt tt (λ f ps s ty loc. refl) (λ f ps s ty loc. refl)
 
-pub answered : (s : State) (o : Option ℕ) → outcome (answer o) s ≡ elim o as (λ x. Result (State × ℕ)) [ none ↦ refused no_argument | some arg ↦ ok (s, arg) ]
+pub answered : (s : State) (o : Option ℕ) → outcome (answer o) s ≡ elim o as (λ x. Result (State × ℕ)) [ None ↦ refused no_argument | Some arg ↦ ok (s, arg) ]
 unfolding outcome
-answered s none = refl
-answered s (some t) = refl
+answered s None = refl
+answered s (Some t) = refl

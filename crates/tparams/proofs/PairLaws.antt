@@ -2,7 +2,7 @@
 use mathlib.Core.Path.{◌≡◌, refl, sym, ap, ◌∙◌}
 use mathlib.Core.Bool.{Bool, true, false}
 use mathlib.Core.List.{List, [], ◌∷◌}
-use mathlib.Core.Option.{Option, none, some}
+use Rattle.std.specs.Prelude.{Option, None, Some}
 use Prim.Native.Nat.{ℕ, zero, suc, ◌+◌, ◌-◌, ◌≤◌, ◌<◌}
 use native.Mathlib.Numerals.{add-one}
 use native.Mathlib.Nat.{sub-zero}
@@ -19,11 +19,11 @@ use Rattle.tparams.specs.Pairs.{id_at, pairs, answer}
 
 -- one pair more
 made_cons : (id arg : ℕ) (ps : TParamSubst) (o : Option ℕ) → make_tparam_subst ps ≡ ok ps → o ≡ arg_of ps id
-    → make_tparam_subst ((id, arg) ∷ ps) ≡ elim o as (λ x. Result TParamSubst) [ none ↦ ok ((id, arg) ∷ ps) | some old ↦ refused parameter_twice ]
+    → make_tparam_subst ((id, arg) ∷ ps) ≡ elim o as (λ x. Result TParamSubst) [ None ↦ ok ((id, arg) ∷ ps) | Some old ↦ refused parameter_twice ]
 unfolding make_tparam_subst ◌>>=◌
 made_cons id arg ps o m e =
-    ap (λ (r : Result TParamSubst). r >>= (λ subst. elim (arg_of subst id) as (λ x. Result TParamSubst) [ none ↦ ok ((id, arg) ∷ subst) | some old ↦ refused parameter_twice ])) m
-    ∙ ap (λ (x : Option ℕ). elim x as (λ y. Result TParamSubst) [ none ↦ ok ((id, arg) ∷ ps) | some old ↦ refused parameter_twice ]) (sym e)
+    ap (λ (r : Result TParamSubst). r >>= (λ subst. elim (arg_of subst id) as (λ x. Result TParamSubst) [ None ↦ ok ((id, arg) ∷ subst) | Some old ↦ refused parameter_twice ])) m
+    ∙ ap (λ (x : Option ℕ). elim x as (λ y. Result TParamSubst) [ None ↦ ok ((id, arg) ∷ ps) | Some old ↦ refused parameter_twice ]) (sym e)
 
 module _ (ids : List TParamID) (args : List ℕ) (i n : ℕ) where
   pairs_more : i < n → pairs ids args i (n - i) ≡ (id_at ids i, get_or args i 0) ∷ pairs ids args (i + 1) (n - (i + 1))
@@ -35,7 +35,7 @@ module _ (ids : List TParamID) (args : List ℕ) (i n : ℕ) where
   pairs_none h = let e : n - i ≡ 0 = omega arith in rw e refl
 
   -- the place at is i
-  pub arg_here : (at id : ℕ) → at ≡ i → i < n → id_at ids at ≡ id → some (get_or args at 0) ≡ arg_of (pairs ids args i (n - i)) id
+  pub arg_here : (at id : ℕ) → at ≡ i → i < n → id_at ids at ≡ id → Some (get_or args at 0) ≡ arg_of (pairs ids args i (n - i)) id
   unfolding arg_of
   arg_here at id p h e = rw (pairs_more h, ← p, arg_of, eq-eqb _ _ e) refl
 
@@ -43,22 +43,22 @@ module _ (ids : List TParamID) (args : List ℕ) (i n : ℕ) where
   unfolding arg_of
   arg_past at id p h e = rw (pairs_more h, ← p, arg_of, ne_eqb _ _ e) refl
 
-  pub arg_none : (id : ℕ) → n ≤ i → none ≡ arg_of (pairs ids args i (n - i)) id
+  pub arg_none : (id : ℕ) → n ≤ i → None ≡ arg_of (pairs ids args i (n - i)) id
   unfolding arg_of
   arg_none id h = rw (pairs_none h, arg_of) refl
 
   -- one id more, and no argument among the others
-  pub made_more : (at : ℕ) → at ≡ i → i < n → none ≡ arg_of (pairs ids args (i + 1) (n - (i + 1))) (id_at ids at)
+  pub made_more : (at : ℕ) → at ≡ i → i < n → None ≡ arg_of (pairs ids args (i + 1) (n - (i + 1))) (id_at ids at)
       → make_tparam_subst (pairs ids args (i + 1) (n - (i + 1))) ≡ ok (pairs ids args (i + 1) (n - (i + 1))) → make_tparam_subst (pairs ids args i (n - i)) ≡ ok (pairs ids args i (n - i))
-  made_more at p h e m = rw (pairs_more h) (made_cons _ _ _ none m (e ∙ rw p refl))
+  made_more at p h e m = rw (pairs_more h) (made_cons _ _ _ None m (e ∙ rw p refl))
 
   pub made_none : n ≤ i → make_tparam_subst (pairs ids args i (n - i)) ≡ ok (pairs ids args i (n - i))
   unfolding make_tparam_subst
   made_none h = rw (pairs_none h) refl
 
-  pub twice_here : (at t : ℕ) → at ≡ i → i < n → some t ≡ arg_of (pairs ids args (i + 1) (n - (i + 1))) (id_at ids at)
+  pub twice_here : (at t : ℕ) → at ≡ i → i < n → Some t ≡ arg_of (pairs ids args (i + 1) (n - (i + 1))) (id_at ids at)
       → make_tparam_subst (pairs ids args (i + 1) (n - (i + 1))) ≡ ok (pairs ids args (i + 1) (n - (i + 1))) → make_tparam_subst (pairs ids args i (n - i)) ≡ refused parameter_twice
-  twice_here at t p h e m = rw (pairs_more h) (made_cons _ _ _ (some t) m (e ∙ rw p refl))
+  twice_here at t p h e m = rw (pairs_more h) (made_cons _ _ _ (Some t) m (e ∙ rw p refl))
 
   twice_more : i < n → make_tparam_subst (pairs ids args (i + 1) (n - (i + 1))) ≡ refused parameter_twice → make_tparam_subst (pairs ids args i (n - i)) ≡ refused parameter_twice
   unfolding make_tparam_subst ◌>>=◌
@@ -74,15 +74,15 @@ module _ (ids : List TParamID) (args : List ℕ) (i n at : ℕ) (some_left : 0 <
   from_next : make_tparam_subst (pairs ids args (i - 1 + 1) (n - (i - 1 + 1))) ≡ ok (pairs ids args (i - 1 + 1) (n - (i - 1 + 1)))
   from_next = let e : i - 1 + 1 ≡ i = omega arith in rw e so_far
 
-  pub made_back : none ≡ arg_of (pairs ids args (i - 1 + 1) (n - (i - 1 + 1))) (id_at ids at) → make_tparam_subst (pairs ids args (i - 1) (n - (i - 1))) ≡ ok (pairs ids args (i - 1) (n - (i - 1)))
+  pub made_back : None ≡ arg_of (pairs ids args (i - 1 + 1) (n - (i - 1 + 1))) (id_at ids at) → make_tparam_subst (pairs ids args (i - 1) (n - (i - 1))) ≡ ok (pairs ids args (i - 1) (n - (i - 1)))
   made_back e = made_more ids args (i - 1) n at here (omega arith) e from_next
 
-  pub twice_back : (t : ℕ) → some t ≡ arg_of (pairs ids args (i - 1 + 1) (n - (i - 1 + 1))) (id_at ids at) → make_tparam_subst (pairs ids args 0 n) ≡ refused parameter_twice
+  pub twice_back : (t : ℕ) → Some t ≡ arg_of (pairs ids args (i - 1 + 1) (n - (i - 1 + 1))) (id_at ids at) → make_tparam_subst (pairs ids args 0 n) ≡ refused parameter_twice
   twice_back t e = twice ids args (i - 1) n (omega arith) (twice_here ids args (i - 1) n at t here (omega arith) e from_next)
 
 -- ---- an argument is a node
 
-either : (k : ℕ) (b : Bool) (t : ℕ) (o : Option ℕ) → t < k → NodesIn k (answer o) → NodesIn k (answer (if b then some t else o))
+either : (k : ℕ) (b : Bool) (t : ℕ) (o : Option ℕ) → t < k → NodesIn k (answer o) → NodesIn k (answer (if b then Some t else o))
 either k true t o h g = h
 either k false t o h g = g
 

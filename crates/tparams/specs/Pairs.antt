@@ -1,6 +1,6 @@
 -- Parameter ids and their arguments, which stand in two arrays, as the definition's list of pairs. Assumes nothing: these are definitions.
 use Rattle.std.specs.Prelude.{Bool, true, false, List, [], ◌∷◌, ℕ, zero, suc, get_or}
-use Rattle.std.proofs.Math.Option.{Option, none, some}
+use Rattle.std.specs.Prelude.{Option, None, Some}
 use Rattle.definition.specs.Types.{Result, ok, refused, parameter_twice}
 use Rattle.definition.specs.TParams as d
 use Rattle.names.specs.declared.TParamID.{TParamID}
@@ -28,5 +28,5 @@ made false subst = refused parameter_twice
 
 -- a parameter's argument, or 12
 abbrev pub answer : Option ℕ → Out
-answer none = Refused NoArgument
-answer (some t) = Done t
+answer None = Refused NoArgument
+answer (Some t) = Done t

@@ -7,13 +7,13 @@ ghost use Rattle.definition.specs.Types.{Apply};
 ghost use Rattle.definition.specs.Store.{args_at};
 ghost use Rattle.definition.specs.TParams.{arg_of, make_tparam_subst, subst_value, subst_down, subst_tparams};
 ghost use Rattle.names.specs.Names.{mark_of, name_of};
-ghost use Rattle.table.specs.State.{found, view, Lay, After, Parts, Named};
+ghost use Rattle.table.specs.State.{view, Lay, After, Parts, Named};
 ghost use Rattle.shapes.specs.Applied.{args_of};
 ghost use Rattle.tparams.specs.Pairs.{pairs, subst_of, made, answer};
 
 use names::TParamID;
 use shapes::{Applied, stay};
-use table::{Found, Out, Outcome, Refusal, Shape, Used, wide};
+use table::{Out, Outcome, Refusal, Shape, Used, wide};
 
 // The first `many` ids, each with its argument.
 #[derive(Clone, Copy)]
@@ -24,26 +24,26 @@ pub struct TParamSubst {
 }
 
 // The argument of an id, from place i on.
-fn arg_from(subst: TParamSubst, i: u32, id: TParamID) -> Found
+fn arg_from(subst: TParamSubst, i: u32, id: TParamID) -> Option<u32>
     requires { (i ≤ subst.many) × (subst.many ≤ 8) }
-    ensures { found result ≡ arg_of (pairs subst.ids subst.args i (subst.many - i)) id.0 }
+    ensures { result ≡ arg_of (pairs subst.ids subst.args i (subst.many - i)) id.0 }
 {
     let mut k = i;
     while k < subst.many {
         let at = wide(k);
         let x = subst.ids[at];
         if x.0 == id.0 {
-            return Found::Just(subst.args[at]);
+            return Some(subst.args[at]);
         }
         k = k + 1;
     }
-    Found::Nothing
+    None
 }
 
 // subst.get(id)
-pub fn arg_of(subst: TParamSubst, id: TParamID) -> Found
+pub fn arg_of(subst: TParamSubst, id: TParamID) -> Option<u32>
     requires { subst.many ≤ 8 }
-    ensures { found result ≡ arg_of (subst_of subst) id.0 }
+    ensures { result ≡ arg_of (subst_of subst) id.0 }
 {
     arg_from(subst, 0, id)
 }
@@ -59,8 +59,8 @@ pub fn make_tparam_subst(subst: TParamSubst) -> bool
         let at = wide(i);
         let id = subst.ids[at];
         match arg_from(subst, i + 1, id) {
-            Found::Nothing => {}
-            Found::Just(_) => {
+            None => {}
+            Some(_) => {
                 return false;
             }
         }
@@ -74,8 +74,8 @@ fn arg_or_none(subst: TParamSubst, id: TParamID) -> Out
     ensures { result ≡ answer (arg_of (subst_of subst) id.0) }
 {
     match arg_of(subst, id) {
-        Found::Nothing => Out::Refused(Refusal::NoArgument),
-        Found::Just(t) => Out::Done(t),
+        None => Out::Refused(Refusal::NoArgument),
+        Some(t) => Out::Done(t),
     }
 }
 
@@ -99,7 +99,7 @@ fn subst_apply(
         let t = table::arg_at(w, v, ty.first, i);
         let a = subst_down(w, v, left, subst, t);
         let o = a.out;
-        let Found::Just(p) = table::done_of(o) else {
+        let Some(p) = table::done_of(o) else {
             return a;
         };
         let at = wide(i);
@@ -135,7 +135,7 @@ fn subst_down(w: &mut [u32], u: Used, left: u32, subst: TParamSubst, ty: u32) ->
             let a = subst_down(w, u, left - 1, subst, t);
             let o = a.out;
             let v = a.used;
-            let Found::Just(p) = table::done_of(o) else {
+            let Some(p) = table::done_of(o) else {
                 return a;
             };
             table::push_node(w, v, loc, Shape::Ref(m, p))

@@ -1,8 +1,6 @@
 -- What follows from what a record was read into. Assumes nothing: these are definitions.
-use Rattle.std.specs.Prelude.{Bool, true, false, List, ℕ, get_or, take, if◌then◌else◌}
+use Rattle.std.specs.Prelude.{Bool, true, false, List, ℕ, get_or, take, if◌then◌else◌, Option, None, Some}
 use Rattle.table.specs.Tab.{tab}
-use Rattle.table.specs.declared.Found.{Found}
-use Rattle.table.specs.declared.Found.TheVariants.{Nothing, Just}
 use Rattle.fields.specs.declared.What.{What}
 use Rattle.fields.specs.declared.What.TheVariants as q
 use Rattle.fields.specs.declared.Whole.{Whole}
@@ -13,10 +11,10 @@ use Rattle.verdict.specs.declared.Verdict.TheVariants.{Refused, Run}
 -- ---- SD's row
 
 -- the row of a new struct, if there is one and the state is kept
-abbrev pub row_for : Found → Bool → ℕ → Found
-row_for Nothing kept n = Nothing
-row_for (Just t) true n = Just n
-row_for (Just t) false n = Nothing
+abbrev pub row_for : Option ℕ → Bool → ℕ → Option ℕ
+row_for None kept n = None
+row_for (Some t) true n = Some n
+row_for (Some t) false n = None
 
 -- the first n bytes, and zeros
 unfoldable pub padded : List ℕ → ℕ → List ℕ

@@ -6,22 +6,22 @@ ghost use Rattle.verdict.specs.Verdict.{row_for, padded, rows_after, verdict_of,
 
 use fields::{What, Whole};
 use payload::Answer;
-use table::{Found, Used, wide};
+use table::{Used, wide};
 
 // ---- SD
 
 // A new struct's row, the first that is free, if there is one and the state is kept.
 // Refused (must-fail/): another table's row (row_of_another), a row for a struct that is refused (row_when_refused).
-pub fn row_for(number: Found, a: Answer, u: Used) -> Found
+pub fn row_for(number: Option<u32>, a: Answer, u: Used) -> Option<u32>
     ensures { result ≡ row_for number a.kept u.structs }
 {
     match number {
-        Found::Nothing => Found::Nothing,
-        Found::Just(_) => {
+        None => None,
+        Some(_) => {
             if a.kept {
-                return Found::Just(u.structs);
+                return Some(u.structs);
             }
-            Found::Nothing
+            None
         }
     }
 }

@@ -43,8 +43,8 @@ fn mark_byte(k: AbilityMark) -> u8
     ensures { result ≡ mark (mark_of k) }
 {
     match k {
-        AbilityMark::Absent => 0,
-        AbilityMark::Set(a) => {
+        None => 0,
+        Some(a) => {
             let x = a.0;
             16 + x
         }

@@ -5,10 +5,10 @@ use mathlib.Core.Path.{refl}
 use Rattle.definition.specs.Abilities.{by_argument}
 use Rattle.abilities.proofs.by_argument.Goals as goal
 
-pub returns-in-Nothing : goal.returns-in-Nothing
+pub returns-in-None : goal.returns-in-None
 unfolding by_argument
-returns-in-Nothing c = rw c.in-Nothing.is (tt, refl)
+returns-in-None c = rw c.in-None.is (tt, refl)
 
-pub returns-in-Just : goal.returns-in-Just
+pub returns-in-Some : goal.returns-in-Some
 unfolding by_argument
-returns-in-Just c = (subst (FoundIn 8) c.in-Just.is c.requires, rw c.in-Just.is refl)
+returns-in-Some c = (subst (FoundIn 8) c.in-Some.is c.requires, rw c.in-Some.is refl)

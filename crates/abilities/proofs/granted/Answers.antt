@@ -1,9 +1,9 @@
 -- `abilities::granted` meets its contract. Assumes nothing.
 use mathlib.Core.Path.{ap, ◌∙◌}
-use mathlib.Core.Option.{none}
+use Rattle.std.specs.Prelude.{None}
 use Rattle.definition.specs.Constraints.{is_contradicted}
 use Rattle.abilities.proofs.Laws.{granted_is}
 use Rattle.abilities.proofs.granted.Goals as goal
 
 pub returns : goal.returns
-returns c = λ ds k. c.is_contradicted.ensures ∙ ap is_contradicted (c.apply_rule-r.ensures.1 ds k none) ∙ granted_is _ none _ _ _
+returns c = λ ds k. c.is_contradicted.ensures ∙ ap is_contradicted (c.apply_rule-r.ensures.1 ds k None) ∙ granted_is _ None _ _ _

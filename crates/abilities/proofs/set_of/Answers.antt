@@ -21,13 +21,13 @@ pub returns-in-Param : goal.returns-in-Param
 unfolding infer_value with_args
 returns-in-Param c = rw c.in-Param.is (λ ds k. refl)
 
-pub returns-in-Absent : goal.returns-in-Absent
+pub returns-in-None : goal.returns-in-None
 unfolding infer_value with_args
-returns-in-Absent c = rw (c.in-Apply.is, c.in-Absent.is) c.granted_set.ensures
+returns-in-None c = rw (c.in-Apply.is, c.in-None.is) c.granted_set.ensures
 
-pub returns-in-Set : goal.returns-in-Set
+pub returns-in-Some : goal.returns-in-Some
 unfolding infer_value with_args
-returns-in-Set c = rw (c.in-Apply.is, c.in-Set.is) (λ ds k. refl)
+returns-in-Some c = rw (c.in-Apply.is, c.in-Some.is) (λ ds k. refl)
 
 pub returns-in-Var : goal.returns-in-Var
 unfolding infer_value with_args all

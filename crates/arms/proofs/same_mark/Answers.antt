@@ -2,18 +2,18 @@
 use Rattle.definition.specs.Join.{same_mark}
 use Rattle.arms.proofs.same_mark.Goals as goal
 
-pub returns-in-Absent-k2 : goal.returns-in-Absent-k2
+pub returns-in-None-k2 : goal.returns-in-None-k2
 unfolding same_mark
-returns-in-Absent-k2 c = rw (c.in-Absent.is, c.in-Absent-k2.is)
+returns-in-None-k2 c = rw (c.in-None.is, c.in-None-k2.is)
 
-pub returns-in-Set-k2 : goal.returns-in-Set-k2
+pub returns-in-Some-k2 : goal.returns-in-Some-k2
 unfolding same_mark
-returns-in-Set-k2 c = rw (c.in-Absent.is, c.in-Set-k2.is)
+returns-in-Some-k2 c = rw (c.in-None.is, c.in-Some-k2.is)
 
-pub returns-in-Absent-k2-2 : goal.returns-in-Absent-k2-2
+pub returns-in-None-k2-2 : goal.returns-in-None-k2-2
 unfolding same_mark
-returns-in-Absent-k2-2 c = rw (c.in-Set.is, c.in-Absent-k2-2.is)
+returns-in-None-k2-2 c = rw (c.in-Some.is, c.in-None-k2-2.is)
 
-pub returns-in-Set-k2-2 : goal.returns-in-Set-k2-2
+pub returns-in-Some-k2-2 : goal.returns-in-Some-k2-2
 unfolding same_mark
-returns-in-Set-k2-2 c = rw (c.in-Set.is, c.in-Set-k2-2.is)
+returns-in-Some-k2-2 c = rw (c.in-Some.is, c.in-Some-k2-2.is)

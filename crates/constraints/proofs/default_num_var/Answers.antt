@@ -14,7 +14,7 @@ returns-then-undecided_var c = let undecided_var = c.undecided_var in
     let if1 = c.if-undecided_var in
     let join_u64 = c.join_u64-a in
     default_done _ _ _ _ _ undecided_var.ensures if1.true _ _ _ join_u64.ensures
-    c.done_of.ensures _ c.in-Just.is
+    c.done_of.ensures _ c.in-Some.is
 
 pub returns : goal.returns
 returns c = default_decided _ _ _ _ _ c.undecided_var.ensures c.requires c.if-undecided_var.false

@@ -38,7 +38,7 @@ loop-v-preserved c = let pre = c.requires in
     let tvar = c.tvar-num_var in
     let default_marked = c.default_marked-a in
     defaulting_more _ _ _ _ _ loop.invariant loop_test.true _ saved_mark.result pre.1.0 saved_mark.ensures _
-    tvar.ensures _ _ _ default_marked.ensures c.done_of.ensures _ c.in-Just.is
+    tvar.ensures _ _ _ default_marked.ensures c.done_of.ensures _ c.in-Some.is
 
 pub returns : goal.returns
 returns c = defaulting_all _ _ _ _ _ c.loop-v.invariant (omega arith)

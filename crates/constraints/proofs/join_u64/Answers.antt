@@ -11,7 +11,7 @@ pub returns-in_default-done_of : goal.returns-in_default-done_of
 returns-in_default-done_of c = let push_apply = c.push_apply-a in
     let done_of = c.done_of in
     let push_node = c.push_node-b in
-    tvar_full _ _ _ _ _ _ _ push_apply.ensures done_of.ensures _ c.in-Just.is _ _ _ push_node.ensures
+    tvar_full _ _ _ _ _ _ _ push_apply.ensures done_of.ensures _ c.in-Some.is _ _ _ push_node.ensures
     c.done_of-2.ensures c.in_default-done_of.is
 
 pub join-requires : goal.join-requires
@@ -21,9 +21,9 @@ join-requires c = let push_apply = c.push_apply-a in
       push_node.ensures.changed.lay,
       (
         still_in _ _ _ _ _ push_node.ensures.changed.grown
-            (node_in _ push_apply.result.out _ _ push_apply.ensures.inside done_of.ensures c.in-Just.is),
+            (node_in _ push_apply.result.out _ _ push_apply.ensures.inside done_of.ensures c.in-Some.is),
         node_in _ push_node.result.out _ _ push_node.ensures.inside
-            c.done_of-2.ensures c.in-Just-done_of.is,
+            c.done_of-2.ensures c.in-Some-done_of.is,
       ),
     )
 
@@ -32,5 +32,5 @@ returns c = let push_apply = c.push_apply-a in
     let done_of = c.done_of in
     let push_node = c.push_node-b in
     let done_of2 = c.done_of-2 in
-    u64_joined _ _ _ _ _ _ _ push_apply.ensures done_of.ensures _ c.in-Just.is _ _ _ push_node.ensures
-    done_of2.ensures _ c.in-Just-done_of.is _ _ c.join.ensures
+    u64_joined _ _ _ _ _ _ _ push_apply.ensures done_of.ensures _ c.in-Some.is _ _ _ push_node.ensures
+    done_of2.ensures _ c.in-Some-done_of.is _ _ c.join.ensures

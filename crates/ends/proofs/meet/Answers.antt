@@ -11,10 +11,10 @@ returns-then-known-gt0 c = following_noted c.loop-long.invariant c.loop-long-tes
 pub overflow_add-result : goal.overflow_add-result
 overflow_add-result c = let l = c.number.ensures.1 in omega arith
 
-pub returns-in-Last : goal.returns-in-Last
-returns-in-Last c = let g = c.loop-long.invariant in
+pub returns-in-None : goal.returns-in-None
+returns-in-None c = let g = c.loop-long.invariant in
     let e = c.number.ensures in
-    following_last g c.loop-long-test.true _ c.next_of.ensures c.in-Last.is _ e.0 e.1
+    following_last g c.loop-long-test.true _ c.next_of.ensures c.in-None.is _ e.0 e.1
 
 pub overflow_add-long : goal.overflow_add-long
 overflow_add-long c = let l = c.requires.0.vars in let k = c.loop-long-test.true in omega arith
@@ -24,7 +24,7 @@ loop-long-smaller c = let k = c.loop-long-test.true in omega arith
 
 pub loop-long-preserved : goal.loop-long-preserved
 loop-long-preserved c = let g = c.loop-long.invariant in
-    following_on g c.loop-long-test.true _ c.next_of.ensures _ c.in-To.is
+    following_on g c.loop-long-test.true _ c.next_of.ensures _ c.in-Some.is
 
 pub returns : goal.returns
 returns c = tt

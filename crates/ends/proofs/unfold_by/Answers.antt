@@ -2,10 +2,10 @@
 use Rattle.subst.proofs.Unfold.{unfolds_plain, unfolds_var}
 use Rattle.ends.proofs.unfold_by.Goals as goal
 
-pub returns-in-Last : goal.returns-in-Last
-returns-in-Last c = unfolds_plain _ _ _ c.node_at-n.result c.node_at-n.ensures _ c.as_var.ensures c.requires.lay.1 c.in-Last.is
+pub returns-in-None : goal.returns-in-None
+returns-in-None c = unfolds_plain _ _ _ c.node_at-n.result c.node_at-n.ensures _ c.as_var.ensures c.requires.lay.1 c.in-None.is
 
-pub returns-in-To : goal.returns-in-To
-returns-in-To c = let as_var = c.as_var in
+pub returns-in-Some : goal.returns-in-Some
+returns-in-Some c = let as_var = c.as_var in
     let node_at = c.node_at-n in
-    unfolds_var _ _ _ node_at.result node_at.ensures _ as_var.ensures _ c.in-To.is _ (c.unfold_end.ensures _ c.chain_end-last.ensures)
+    unfolds_var _ _ _ node_at.result node_at.ensures _ as_var.ensures _ c.in-Some.is _ (c.unfold_end.ensures _ c.chain_end-last.ensures)

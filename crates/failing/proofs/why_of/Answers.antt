@@ -4,8 +4,8 @@ use native.Mathlib.Omega.{arith}
 use Rattle.failing.proofs.Report.{why_nothing, why_just}
 use Rattle.failing.proofs.why_of.Goals as goal
 
-pub returns-in-Nothing : goal.returns-in-Nothing
-returns-in-Nothing c = record { few = omega arith; first = why_nothing _ _ c.in-Nothing.is refl }
+pub returns-in-None : goal.returns-in-None
+returns-in-None c = record { few = omega arith; first = why_nothing _ _ c.in-None.is refl }
 
-pub returns-in-Just : goal.returns-in-Just
-returns-in-Just c = record { few = omega arith; first = why_just _ _ _ c.requires c.in-Just.is c.low.ensures }
+pub returns-in-Some : goal.returns-in-Some
+returns-in-Some c = record { few = omega arith; first = why_just _ _ _ c.requires c.in-Some.is c.low.ensures }

@@ -38,7 +38,7 @@ instantiate_apply-returns-in_default-done_of t c = let pre = c.requires in
     let arg_at = c.arg_at-t in
     let instantiate_down = c.instantiate_down-a in
     apply_then _ _ _ _ _ _ _ _ _ pre.1.placed _ make_tparams.result _ make_tparams.ensures done_of.ensures
-    _ _ _ c.in-Just.is
+    _ _ _ c.in-Some.is
     (through_stop loop.invariant if1.true arg_at.ensures
     (after_among (known_kept _ _ _ _ _ loop.invariant.walked.changed.structs) instantiate_down.ensures) c.done_of-in-loop-i.ensures c.in_default-done_of.is)
 
@@ -49,14 +49,14 @@ instantiate_apply-loop-i-preserved t c = let loop = c.loop-i in
     let instantiate_down = c.instantiate_down-a in
     let done_of2 = c.done_of-in-loop-i in
     through_more loop.invariant if1.true arg_at.ensures
-    (after_among (known_kept _ _ _ _ _ loop.invariant.walked.changed.structs) instantiate_down.ensures) done_of2.ensures c.in-Just-done_of.is c.wide-at.ensures
+    (after_among (known_kept _ _ _ _ _ loop.invariant.walked.changed.structs) instantiate_down.ensures) done_of2.ensures c.in-Some-done_of.is c.wide-at.ensures
 
 pub instantiate_apply-join_args-requires : goal.instantiate_apply-join_args-requires
 instantiate_apply-join_args-requires t c = let make_tparams = c.make_tparams-b in
     let done_of = c.done_of in (
       c.loop-i.invariant.walked.changed.lay,
       (
-        parts_grow _ _ _ _ (nodes_grow _ _ _ _ c.loop-i.invariant.walked.changed.grown) (make_tparams.ensures.inside.below _ (sym done_of.ensures ∙ c.in-Just.is)),
+        parts_grow _ _ _ _ (nodes_grow _ _ _ _ c.loop-i.invariant.walked.changed.grown) (make_tparams.ensures.inside.below _ (sym done_of.ensures ∙ c.in-Some.is)),
         through_parts c.loop-i.invariant c.loop-i-test.false,
       ),
     )
@@ -67,7 +67,7 @@ instantiate_apply-returns t c = let pre = c.requires in
     let done_of = c.done_of in
     let loop = c.loop-i in
     apply_then _ _ _ _ _ _ _ _ _ pre.1.placed _ make_tparams.result _ make_tparams.ensures done_of.ensures
-    _ _ _ c.in-Just.is (through_end loop.invariant c.loop-i-test.false (after_any c.join_args.ensures))
+    _ _ _ c.in-Some.is (through_end loop.invariant c.loop-i-test.false (after_any c.join_args.ensures))
 
 pub instantiate_down-returns-then-left-eq0 : goal.instantiate_down-returns-then-left-eq0
 instantiate_down-returns-then-left-eq0 t c = level_none levels _ _ _ _ c.requires.0 c.if-left-eq0.true c.stay.ensures
@@ -107,12 +107,12 @@ instantiate_down-returns-in_default-done_of t c = let pre = c.requires in
     let done_of = c.done_of in
     let instantiate_down = c.instantiate_down-a in
     level_by levels _ _ _ _ pre.0 node_at.result if1.false node_at.ensures c.in-Ref.is (λ ds. ref_is _ _ _ _ _ _)
-    (constraint_on _ _ push_constraint.ensures done_of.ensures c.in-Just.is
+    (constraint_on _ _ push_constraint.ensures done_of.ensures c.in-Some.is
     (ref_stop _ _ instantiate_down.ensures c.done_of-in-Ref.ensures c.in_default-done_of.is))
 
 pub instantiate_down-push_node-requires : goal.instantiate_down-push_node-requires
 instantiate_down-push_node-requires t c = let instantiate_down = c.instantiate_down-a in
-    (instantiate_down.ensures.changed.lay, after_done instantiate_down.ensures c.done_of-in-Ref.ensures c.in-Just-done_of.is)
+    (instantiate_down.ensures.changed.lay, after_done instantiate_down.ensures c.done_of-in-Ref.ensures c.in-Some-done_of.is)
 
 pub instantiate_down-instantiate_apply-requires : goal.instantiate_down-instantiate_apply-requires
 instantiate_down-instantiate_apply-requires t c = let pre = c.requires in
@@ -141,9 +141,9 @@ instantiate_down-returns-in-Anything t c = let pre = c.requires in
     let if1 = c.if-left-eq0 in
     level_by levels _ _ _ _ pre.0 node_at.result if1.false node_at.ensures c.in-Anything.is (λ ds. refl) (after_any c.make_tvar.ensures)
 
-pub instantiate_down-returns-in-Just-done_of : goal.instantiate_down-returns-in-Just-done_of
+pub instantiate_down-returns-in-Some-done_of : goal.instantiate_down-returns-in-Some-done_of
 unfolding with_args
-instantiate_down-returns-in-Just-done_of t c = let pre = c.requires in
+instantiate_down-returns-in-Some-done_of t c = let pre = c.requires in
     let node_at = c.node_at-node in
     let if1 = c.if-left-eq0 in
     let push_constraint = c.push_constraint-b in
@@ -151,8 +151,8 @@ instantiate_down-returns-in-Just-done_of t c = let pre = c.requires in
     let instantiate_down = c.instantiate_down-a in
     let done_of2 = c.done_of-in-Ref in
     level_by levels _ _ _ _ pre.0 node_at.result if1.false node_at.ensures c.in-Ref.is (λ ds. ref_is _ _ _ _ _ _)
-    (constraint_on _ _ push_constraint.ensures done_of.ensures c.in-Just.is
-    (ref_then _ _ instantiate_down.ensures done_of2.ensures c.in-Just-done_of.is c.push_node.ensures))
+    (constraint_on _ _ push_constraint.ensures done_of.ensures c.in-Some.is
+    (ref_then _ _ instantiate_down.ensures done_of2.ensures c.in-Some-done_of.is c.push_node.ensures))
 
 pub instantiate_down-returns-in-Apply : goal.instantiate_down-returns-in-Apply
 unfolding instantiate_value with_args seen with_structs args_at

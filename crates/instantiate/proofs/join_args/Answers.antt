@@ -28,7 +28,7 @@ loop-i-preserved c = let loop = c.loop-i in
     let wide = c.wide-at in
     let loop_test = c.loop-i-test in
     let join = c.join-a in
-    joins_more loop.invariant wide.ensures loop_test.true join.ensures c.done_of.ensures c.in-Just.is
+    joins_more loop.invariant wide.ensures loop_test.true join.ensures c.done_of.ensures c.in-Some.is
 
 pub push_apply-requires : goal.push_apply-requires
 push_apply-requires c = (c.loop-i.invariant.walked.changed.lay, walk_parts c.loop-i.invariant.walked c.loop-i-test.false)

@@ -15,7 +15,7 @@ returns-in_default-done_of c = let node_at = c.node_at-node in
     let done_of = c.done_of in
     let push_constraint = c.push_constraint-b in
     tparam_stop2 _ _ _ _ _ _ _ (λ ds. loc_is _ _ node_at.result (node_at.ensures ds)) _ _ _ make_tvar.ensures
-    done_of.ensures _ c.in-Just.is _ _ _ push_constraint.ensures c.done_of-2.ensures
+    done_of.ensures _ c.in-Some.is _ _ _ push_constraint.ensures c.done_of-2.ensures
     c.in_default-done_of.is
 
 pub returns-in_default-done_of-2 : goal.returns-in_default-done_of-2
@@ -27,8 +27,8 @@ returns-in_default-done_of-2 c = let node_at = c.node_at-node in
     let tvar_constraint = c.tvar_constraint in
     let push_constraint2 = c.push_constraint-c in
     tparam_stop3 _ _ _ _ _ _ _ (λ ds. loc_is _ _ node_at.result (node_at.ensures ds)) _ _ _ make_tvar.ensures
-    done_of.ensures _ c.in-Just.is _ _ _ push_constraint.ensures done_of2.ensures _
-    c.in-Just-done_of.is tvar_constraint.result tvar_constraint.ensures _ _ _ push_constraint2.ensures
+    done_of.ensures _ c.in-Some.is _ _ _ push_constraint.ensures done_of2.ensures _
+    c.in-Some-done_of.is tvar_constraint.result tvar_constraint.ensures _ _ _ push_constraint2.ensures
     c.done_of-3.ensures c.in_default-done_of-2.is
 
 pub returns : goal.returns
@@ -40,6 +40,6 @@ returns c = let node_at = c.node_at-node in
     let tvar_constraint = c.tvar_constraint in
     let push_constraint2 = c.push_constraint-c in
     tparam_made _ _ _ _ _ _ _ (λ ds. loc_is _ _ node_at.result (node_at.ensures ds)) _ _ _ make_tvar.ensures
-    done_of.ensures _ c.in-Just.is _ _ _ push_constraint.ensures done_of2.ensures _
-    c.in-Just-done_of.is tvar_constraint.result tvar_constraint.ensures _ _ _ push_constraint2.ensures
-    c.done_of-3.ensures _ _ c.in-Just-done_of-2.is c.stay.ensures
+    done_of.ensures _ c.in-Some.is _ _ _ push_constraint.ensures done_of2.ensures _
+    c.in-Some-done_of.is tvar_constraint.result tvar_constraint.ensures _ _ _ push_constraint2.ensures
+    c.done_of-3.ensures _ _ c.in-Some-done_of-2.is c.stay.ensures

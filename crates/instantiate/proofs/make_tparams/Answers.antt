@@ -24,7 +24,7 @@ loop-i-preserved c = let loop = c.loop-i in
     let arg_at = c.arg_at-t in
     let ability_at = c.ability_at-abilities in
     let make_tparam = c.make_tparam-a in
-    made_more loop.invariant loop_test.true arg_at.ensures _ ability_at.ensures make_tparam.ensures c.done_of.ensures c.in-Just.is c.wide-at.ensures
+    made_more loop.invariant loop_test.true arg_at.ensures _ ability_at.ensures make_tparam.ensures c.done_of.ensures c.in-Some.is c.wide-at.ensures
 
 pub returns : goal.returns
 returns c = made_end c.loop-i.invariant c.loop-i-test.false

@@ -8,10 +8,10 @@ returns-in_default c = tvar_stop _ _ _ _ _ _ c.take_var-a.ensures.0 c.done_of.en
 
 pub tvar-id-requires : goal.tvar-id-requires
 tvar-id-requires c = let take_var = c.take_var-a in
-    var_small take_var.result.out take_var.ensures.0.lay take_var.ensures.1 c.done_of.ensures c.in-Just.is
+    var_small take_var.result.out take_var.ensures.0.lay take_var.ensures.1 c.done_of.ensures c.in-Some.is
 
 pub returns : goal.returns
 returns c = let take_var = c.take_var-a in
     let done_of = c.done_of in
-    tvar_node _ _ _ _ _ _ _ _ _ _ take_var.ensures.0 done_of.ensures c.in-Just.is
+    tvar_node _ _ _ _ _ _ _ _ _ _ take_var.ensures.0 done_of.ensures c.in-Some.is
     c.tvar-id.ensures c.push_node.ensures

@@ -181,7 +181,7 @@ join_impl_types-loop-i-preserved t c = let loop = c.loop-i in
     let arg_at2 = c.arg_at-ty2 in
     let join_impl = c.join_impl-s in
     gather_more loop.invariant loop_test.true arg_at.ensures arg_at2.ensures
-    join_impl.ensures c.done_of.ensures c.in-Just.is refl
+    join_impl.ensures c.done_of.ensures c.in-Some.is refl
 
 pub join_impl_types-returns : goal.join_impl_types-returns
 join_impl_types-returns t c = gathered c.loop-i.invariant c.loop-i-test.false
@@ -207,14 +207,14 @@ pub join_tvar-close_tvar-requires : goal.join_tvar-close_tvar-requires
 join_tvar-close_tvar-requires t c = let open_tvar = c.open_tvar-a in
     let join_impl = c.join_impl-b in
     close_in _ _ _ _ _ _ open_tvar.ensures c.in-Ready.is join_impl.ensures
-    c.done_of.ensures c.in-Just.is
+    c.done_of.ensures c.in-Some.is
 
 pub join_tvar-returns-in-Stop : goal.join_tvar-returns-in-Stop
 join_tvar-returns-in-Stop t c = tvar_stop _ _ _ _ _ _ c.open_tvar-a.ensures c.in-Stop.is
 
-pub join_tvar-returns-in-Just : goal.join_tvar-returns-in-Just
-join_tvar-returns-in-Just t c = let open_tvar = c.open_tvar-a in
+pub join_tvar-returns-in-Some : goal.join_tvar-returns-in-Some
+join_tvar-returns-in-Some t c = let open_tvar = c.open_tvar-a in
     let join_impl = c.join_impl-b in
     let done_of = c.done_of in
-    tvar_close _ _ _ _ _ _ open_tvar.ensures c.in-Ready.is join_impl.ensures done_of.ensures c.in-Just.is
+    tvar_close _ _ _ _ _ _ open_tvar.ensures c.in-Ready.is join_impl.ensures done_of.ensures c.in-Some.is
     c.close_tvar.ensures

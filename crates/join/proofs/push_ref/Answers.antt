@@ -11,8 +11,8 @@ push_node-requires c = let args = c.args in
     let pre = c.requires in (
       pre.0,
       node_in _ args.a.out _ _ pre.1 c.done_of.ensures
-          c.in-Just.is,
+          c.in-Some.is,
     )
 
 pub returns : goal.returns
-returns c = after_is (λ ds k. then_is _ _ _ _ (sym c.done_of.ensures ∙ c.in-Just.is)) c.push_node.ensures
+returns c = after_is (λ ds k. then_is _ _ _ _ (sym c.done_of.ensures ∙ c.in-Some.is)) c.push_node.ensures

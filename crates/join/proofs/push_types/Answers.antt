@@ -10,7 +10,7 @@ returns-in_default c = let none = sym c.done_of.ensures ∙ c.in_default.is in
 
 pub push_apply-requires : goal.push_apply-requires
 push_apply-requires c = let pre = c.requires in
-    (pre.0, types_parts _ _ c.done_of.ensures c.in-Just.is pre.1)
+    (pre.0, types_parts _ _ c.done_of.ensures c.in-Some.is pre.1)
 
 pub returns : goal.returns
-returns c = types_then _ _ c.done_of.ensures c.in-Just.is _ _ _ c.push_apply.ensures
+returns c = types_then _ _ c.done_of.ensures c.in-Some.is _ _ _ c.push_apply.ensures

@@ -24,7 +24,7 @@ returns-in_default-done_of c = let forward_tvar = c.forward_tvar-last_id1 in
     let type_of2 = c.type_of-b in
     rw c.stopped-in_default-done_of.ensures (open_no_second _ _ _ _ _ _ _ _ num_loc_at.result num_loc_at2.result forward_tvar.ensures
     forward_tvar2.ensures num_loc_at.ensures num_loc_at2.ensures _ _ _ type_of.ensures
-    done_of.ensures _ c.in-Just.is _ _ _ type_of2.ensures c.done_of-2.ensures
+    done_of.ensures _ c.in-Some.is _ _ _ type_of2.ensures c.done_of-2.ensures
     c.in_default-done_of.is)
 
 pub open_ends-requires : goal.open_ends-requires
@@ -34,9 +34,9 @@ open_ends-requires c = let type_of = c.type_of-a in
       type_of2.ensures.changed.lay,
       (
         still_in _ _ _ _ _ type_of2.ensures.changed.grown
-            (node_in _ type_of.result.out _ _ type_of.ensures.inside done_of.ensures c.in-Just.is),
+            (node_in _ type_of.result.out _ _ type_of.ensures.inside done_of.ensures c.in-Some.is),
         node_in _ type_of2.result.out _ _ type_of2.ensures.inside
-            c.done_of-2.ensures c.in-Just-done_of.is,
+            c.done_of-2.ensures c.in-Some-done_of.is,
       ),
     )
 
@@ -51,5 +51,5 @@ returns c = let forward_tvar = c.forward_tvar-last_id1 in
     let done_of2 = c.done_of-2 in
     open_both _ _ _ _ _ _ _ _ num_loc_at.result num_loc_at2.result forward_tvar.ensures
     forward_tvar2.ensures num_loc_at.ensures num_loc_at2.ensures _ _ _ type_of.ensures
-    done_of.ensures _ c.in-Just.is _ _ _ type_of2.ensures done_of2.ensures _ c.in-Just-done_of.is _ _
+    done_of.ensures _ c.in-Some.is _ _ _ type_of2.ensures done_of2.ensures _ c.in-Some-done_of.is _ _
     c.open_ends.ensures

@@ -15,12 +15,12 @@ pub returns-in_default-done_of : goal.returns-in_default-done_of
 returns-in_default-done_of c = let shown = c.shown-a in
     let done_of = c.done_of in
     let shown2 = c.shown-b in
-    show_no_second _ _ _ _ _ _ _ _ _ shown.ensures done_of.ensures _ c.in-Just.is _ _ _ shown2.ensures
+    show_no_second _ _ _ _ _ _ _ _ _ shown.ensures done_of.ensures _ c.in-Some.is _ _ _ shown2.ensures
     c.done_of-2.ensures c.in_default-done_of.is
 
 pub returns : goal.returns
 returns c = let shown = c.shown-a in
     let done_of = c.done_of in
     let shown2 = c.shown-b in
-    show_done _ _ _ _ _ _ _ _ _ shown.ensures done_of.ensures _ c.in-Just.is _ _ _ shown2.ensures
-    c.done_of-2.ensures _ c.in-Just-done_of.is
+    show_done _ _ _ _ _ _ _ _ _ shown.ensures done_of.ensures _ c.in-Some.is _ _ _ shown2.ensures
+    c.done_of-2.ensures _ c.in-Some-done_of.is

@@ -2,5 +2,5 @@
 use mathlib.Core.Path.{refl}
 use Rattle.reader.proofs.part_found.Goals as goal
 
-pub returns-in-Just : goal.returns-in-Just
-returns-in-Just c = rw c.in-Just.is refl
+pub returns-in-Some : goal.returns-in-Some
+returns-in-Some c = rw c.in-Some.is refl

@@ -62,8 +62,8 @@ ready_types-ready-a-requires t c = let g = c.loop-i.invariant.0 in
     let q = m in
     (omega (arith, c.decreases), (g.changed.lay, (part_in _ _ _ _ q.0 q.1.0 q.1.1.0 _ _ g.changed.grown c.loop-i-test.true c.part_of-p.ensures, c.loop-i.invariant.1)))
 
-pub ready_types-returns-in-Nothing : goal.ready_types-returns-in-Nothing
-ready_types-returns-in-Nothing t c = let g = c.loop-i.invariant.0 in
+pub ready_types-returns-in-None : goal.ready_types-returns-in-None
+ready_types-returns-in-None t c = let g = c.loop-i.invariant.0 in
     let l = c.loop-i-test.true in
     let p = c.part_of-p.ensures in
     let a = c.ready-a.ensures in
@@ -71,11 +71,11 @@ ready_types-returns-in-Nothing t c = let g = c.loop-i.invariant.0 in
     let q = c.requires in
     rw c.anew.ensures
     (parts_walked _ _ _ _ q.0 q.1.0 q.1.1.0 _
-    (walk_stop g l (part_kept _ _ _ _ q.0 q.1.0 q.1.1.0 _ _ g.changed.grown l p) a d c.in-Nothing.is))
+    (walk_stop g l (part_kept _ _ _ _ q.0 q.1.0 q.1.1.0 _ _ g.changed.grown l p) a d c.in-None.is))
 
 pub ready_types-narrow-requires : goal.ready_types-narrow-requires
 ready_types-narrow-requires t c = let a = c.ready-a.ensures in
-    omega (arith, after_done a c.done_of.ensures c.in-Just.is, a.changed.lay.nodes)
+    omega (arith, after_done a c.done_of.ensures c.in-Some.is, a.changed.lay.nodes)
 
 pub ready_types-bounds-tys-at : goal.ready_types-bounds-tys-at
 ready_types-bounds-tys-at t c = let g = c.loop-i.invariant.0 in
@@ -96,7 +96,7 @@ ready_types-loop-i-preserved t c = let g = c.loop-i.invariant.0 in
     let p = c.part_of-p.ensures in
     let a = c.ready-a.ensures in
     let d = c.done_of.ensures in
-    let x = c.in-Just.is in
+    let x = c.in-Some.is in
     let q = c.requires in
     rw c.narrow.ensures (
       walk_more g l (part_kept _ _ _ _ q.0 q.1.0 q.1.1.0 _ _ g.changed.grown l p) a d x c.wide-at.ensures,

@@ -4,7 +4,7 @@ use Rattle.run.proofs.Laws.{found_below, row_set}
 use Rattle.run.proofs.with_row.Goals as goal
 
 pub bounds-rows-at : goal.bounds-rows-at
-bounds-rows-at c = omega (arith, c.wide-at.ensures, found_below _ 256 _ c.requires c.in-Just.is)
+bounds-rows-at c = omega (arith, c.wide-at.ensures, found_below _ 256 _ c.requires c.in-Some.is)
 
-pub returns-in-Just : goal.returns-in-Just
-returns-in-Just c = row_set _ _ _ _ _ c.wide-at.ensures c.in-Just.is
+pub returns-in-Some : goal.returns-in-Some
+returns-in-Some c = row_set _ _ _ _ _ c.wide-at.ensures c.in-Some.is

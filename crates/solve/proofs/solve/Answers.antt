@@ -9,23 +9,23 @@ pub solve_all-requires : goal.solve_all-requires
 solve_all-requires c = let d = c.default_num_vars-a.ensures in
     let done_of = c.done_of in
     let p = c.requires in
-    let fit = done_fits d _ done_of.ensures p.holds_sound _ c.in-Just.is in record { lay = (d.changed.lay, (grown_above _ _ _ _ d.changed.grown, p.lay.1.1.0)); tys_in = (fit.0, (fit.1, (still_declared d p.holds_sound, p.lay.1.1.1))) }
+    let fit = done_fits d _ done_of.ensures p.holds_sound _ c.in-Some.is in record { lay = (d.changed.lay, (grown_above _ _ _ _ d.changed.grown, p.lay.1.1.0)); tys_in = (fit.0, (fit.1, (still_declared d p.holds_sound, p.lay.1.1.1))) }
 
 pub answer_of-requires : goal.answer_of-requires
 answer_of-requires c = let d = c.default_num_vars-a.ensures in
     let p = c.requires in
-    let done_of = c.done_of in record { lay = (d.changed.lay, (grown_above _ _ _ _ d.changed.grown, p.lay.1.1.0)); tells = (tells d _ done_of.ensures c.in-Nothing.is, ((λ k. (fits d p.holds_sound k).1), p.lay.1.1.1)); still = λ t d f. kept_never refl f }
+    let done_of = c.done_of in record { lay = (d.changed.lay, (grown_above _ _ _ _ d.changed.grown, p.lay.1.1.0)); tells = (tells d _ done_of.ensures c.in-None.is, ((λ k. (fits d p.holds_sound k).1), p.lay.1.1.1)); still = λ t d f. kept_never refl f }
 
-pub returns-in-Just : goal.returns-in-Just
-returns-in-Just c = let d = c.default_num_vars-a.ensures in
+pub returns-in-Some : goal.returns-in-Some
+returns-in-Some c = let d = c.default_num_vars-a.ensures in
     let done_of = c.done_of in
     let p = c.requires in
     let solve_all = c.solve_all in
-    solved_done _ _ _ _ _ _ _ _ d done_of.ensures p.lay.0 p.lay.1.0 _ c.in-Just.is _ _ _ solve_all.ensures
+    solved_done _ _ _ _ _ _ _ _ d done_of.ensures p.lay.0 p.lay.1.0 _ c.in-Some.is _ _ _ solve_all.ensures
 
-pub returns-in-Nothing : goal.returns-in-Nothing
-returns-in-Nothing c = let d = c.default_num_vars-a.ensures in
+pub returns-in-None : goal.returns-in-None
+returns-in-None c = let d = c.default_num_vars-a.ensures in
     let done_of = c.done_of in
     let p = c.requires in
     let answer_of = c.answer_of in
-    solved_stop _ _ _ _ _ _ _ _ d done_of.ensures p.lay.0 p.lay.1.0 c.in-Nothing.is _ _ _ answer_of.ensures
+    solved_stop _ _ _ _ _ _ _ _ d done_of.ensures p.lay.0 p.lay.1.0 c.in-None.is _ _ _ answer_of.ensures

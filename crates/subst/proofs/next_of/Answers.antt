@@ -5,10 +5,10 @@ use Rattle.subst.proofs.Laws.{next_none, next_some}
 use Rattle.table.proofs.Grown.{value_is}
 use Rattle.subst.proofs.next_of.Goals as goal
 
-pub returns-in-Nothing : goal.returns-in-Nothing
-returns-in-Nothing c = λ ds. next_none _ _ c.bound_at.result (c.bound_at.ensures ds) c.in-Nothing.is
+pub returns-in-None : goal.returns-in-None
+returns-in-None c = λ ds. next_none _ _ c.bound_at.result (c.bound_at.ensures ds) c.in-None.is
 
-pub returns-in-Just : goal.returns-in-Just
-returns-in-Just c = let bound_at = c.bound_at in
+pub returns-in-Some : goal.returns-in-Some
+returns-in-Some c = let bound_at = c.bound_at in
     λ ds. c.as_var.ensures _ ∙ ap as_var (value_is _ _ c.node_at-n.result (c.node_at-n.ensures ds))
-    ∙ next_some _ _ _ bound_at.result (bound_at.ensures ds) c.in-Just.is
+    ∙ next_some _ _ _ bound_at.result (bound_at.ensures ds) c.in-Some.is

@@ -13,12 +13,12 @@ next_of-n-requires c = c.loop-unmarked.invariant.lay
 pub mark_one-requires : goal.mark_one-requires
 mark_one-requires c = c.loop-unmarked.invariant.lay
 
-pub returns-in-Last : goal.returns-in-Last
-returns-in-Last c = let loop = c.loop-unmarked in
+pub returns-in-None : goal.returns-in-None
+returns-in-None c = let loop = c.loop-unmarked in
     let loop_test = c.loop-unmarked-test in
     let next_of = c.next_of-n in
     marking_last _ _ _ _ loop.invariant loop_test.true _ c.mark_one.ensures _
-    next_of.ensures c.in-Last.is
+    next_of.ensures c.in-None.is
 
 pub loop-unmarked-smaller : goal.loop-unmarked-smaller
 loop-unmarked-smaller c = omega arith
@@ -28,7 +28,7 @@ loop-unmarked-preserved c = let loop = c.loop-unmarked in
     let loop_test = c.loop-unmarked-test in
     let next_of = c.next_of-n in
     let mark_one = c.mark_one in
-    marking_on _ _ _ _ loop.invariant loop_test.true _ mark_one.ensures _ next_of.ensures _ c.in-To.is
+    marking_on _ _ _ _ loop.invariant loop_test.true _ mark_one.ensures _ next_of.ensures _ c.in-Some.is
 
 pub returns : goal.returns
 returns c = marking_out _ _ _ _ c.loop-unmarked.invariant c.loop-unmarked-test.false

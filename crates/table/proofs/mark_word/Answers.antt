@@ -5,10 +5,10 @@ use mathlib.Core.Path.{refl, ap}
 use Rattle.table.specs.Rows.{mark_word, read_mark}
 use Rattle.table.proofs.mark_word.Goals as goal
 
-pub returns-in-Absent : goal.returns-in-Absent
+pub returns-in-None : goal.returns-in-None
 unfolding mark_word read_mark
-returns-in-Absent c = rw c.in-Absent.is (refl, refl)
+returns-in-None c = rw c.in-None.is (refl, refl)
 
-pub returns-in-Set : goal.returns-in-Set
+pub returns-in-Some : goal.returns-in-Some
 unfolding mark_word
-returns-in-Set c = rw c.in-Set.is (ap (λ (x : ℕ). 16 + x) c.bits.ensures.0, rw c.bits.ensures.0 (mark_again _ (rw c.bits.ensures.0 at c.bits.ensures.1)))
+returns-in-Some c = rw c.in-Some.is (ap (λ (x : ℕ). 16 + x) c.bits.ensures.0, rw c.bits.ensures.0 (mark_again _ (rw c.bits.ensures.0 at c.bits.ensures.1)))

@@ -2,10 +2,10 @@
 use Rattle.definition.specs.Subst.{or_insert}
 use Rattle.table.proofs.unwrap_or.Goals as goal
 
-pub returns-in-Nothing : goal.returns-in-Nothing
+pub returns-in-None : goal.returns-in-None
 unfolding or_insert
-returns-in-Nothing c = rw c.in-Nothing.is
+returns-in-None c = rw c.in-None.is
 
-pub returns-in-Just : goal.returns-in-Just
+pub returns-in-Some : goal.returns-in-Some
 unfolding or_insert
-returns-in-Just c = rw c.in-Just.is
+returns-in-Some c = rw c.in-Some.is

@@ -43,7 +43,7 @@ subst_apply-loop-i-preserved t c = let loop = c.loop-i in
     let arg_at = c.arg_at-t in
     let subst_down = c.subst_down-a in
     let done_of = c.done_of in
-    through_more loop.invariant if1.true arg_at.ensures subst_down.ensures done_of.ensures c.in-Just.is c.wide-at.ensures
+    through_more loop.invariant if1.true arg_at.ensures subst_down.ensures done_of.ensures c.in-Some.is c.wide-at.ensures
 
 pub subst_apply-push_apply-requires : goal.subst_apply-push_apply-requires
 subst_apply-push_apply-requires t c = (c.loop-i.invariant.walked.changed.lay, through_parts c.loop-i.invariant c.loop-i-test.false)
@@ -85,7 +85,7 @@ subst_down-push_node-requires t c = let subst_down = c.subst_down-a in
       subst_down.ensures.changed.lay,
       omega (
         arith,
-        after_done subst_down.ensures c.done_of.ensures c.in-Just.is,
+        after_done subst_down.ensures c.done_of.ensures c.in-Some.is,
         ref_below _ _ _ _ pre.0 pre.1.0 node_at.ensures _ _ c.in-Ref.is,
         pre.1.0,
         nodes_grow _ _ _ _ subst_down.ensures.changed.grown,
@@ -126,15 +126,15 @@ subst_down-returns-in-Param t c = let pre = c.requires in
     level_stays (levels _) _ _ _ _ pre.0 node_at.result if1.false node_at.ensures _ c.in-Param.is
     (rw c.arg_or_none-o.ensures at c.stay-in-Param.ensures) (args_in _ _ _ _ _ pre.1.1) (λ s. answered s (D.arg_of _ _))
 
-pub subst_down-returns-in-Just : goal.subst_down-returns-in-Just
+pub subst_down-returns-in-Some : goal.subst_down-returns-in-Some
 unfolding subst_value with_args
-subst_down-returns-in-Just t c = let pre = c.requires in
+subst_down-returns-in-Some t c = let pre = c.requires in
     let node_at = c.node_at-node in
     let if1 = c.if-left-eq0 in
     let subst_down = c.subst_down-a in
     let done_of = c.done_of in
     level_by (levels _) _ _ _ _ pre.0 node_at.result if1.false node_at.ensures c.in-Ref.is (λ ds. refl)
-    (ref_then _ _ subst_down.ensures done_of.ensures c.in-Just.is c.push_node.ensures)
+    (ref_then _ _ subst_down.ensures done_of.ensures c.in-Some.is c.push_node.ensures)
 
 pub subst_down-returns-in-Apply : goal.subst_down-returns-in-Apply
 unfolding subst_value with_args seen with_structs args_at

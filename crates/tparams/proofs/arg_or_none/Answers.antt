@@ -2,8 +2,8 @@
 use mathlib.Core.Path.{refl}
 use Rattle.tparams.proofs.arg_or_none.Goals as goal
 
-pub returns-in-Nothing : goal.returns-in-Nothing
-returns-in-Nothing c = rw (← c.arg_of.ensures, c.in-Nothing.is) refl
+pub returns-in-None : goal.returns-in-None
+returns-in-None c = rw (← c.arg_of.ensures, c.in-None.is) refl
 
-pub returns-in-Just : goal.returns-in-Just
-returns-in-Just c = rw (← c.arg_of.ensures, c.in-Just.is) refl
+pub returns-in-Some : goal.returns-in-Some
+returns-in-Some c = rw (← c.arg_of.ensures, c.in-Some.is) refl

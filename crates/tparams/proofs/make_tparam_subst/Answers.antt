@@ -13,14 +13,14 @@ loop-i-preserved c = let loop = c.loop-i in
     let loop_test = c.loop-i-test in (
       omega arith,
       made_back _ _ _ _ _ loop_test.true loop.invariant.0 c.wide-at.ensures
-          loop.invariant.1 (rw c.in-Nothing.is at c.arg_from.ensures),
+          loop.invariant.1 (rw c.in-None.is at c.arg_from.ensures),
     )
 
-pub returns-in-Just : goal.returns-in-Just
-returns-in-Just c = let loop = c.loop-i in
+pub returns-in-Some : goal.returns-in-Some
+returns-in-Some c = let loop = c.loop-i in
     let loop_test = c.loop-i-test in
     sym (twice_back _ _ _ _ _ loop_test.true loop.invariant.0 c.wide-at.ensures
-    loop.invariant.1 _ (rw c.in-Just.is at c.arg_from.ensures))
+    loop.invariant.1 _ (rw c.in-Some.is at c.arg_from.ensures))
 
 pub returns : goal.returns
 returns c = let e : c.loop-i.i ≡ 0 = omega arith in sym (rw (e, sub-zero _) at c.loop-i.invariant.1)

@@ -2,4 +2,4 @@
 use Rattle.verdict.proofs.row_for.Goals as goal
 
 pub returns-then-a : goal.returns-then-a
-returns-then-a c = rw (c.in-Just.is, c.if-a.true)
+returns-then-a c = rw (c.in-Some.is, c.if-a.true)

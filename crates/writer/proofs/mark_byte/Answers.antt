@@ -5,12 +5,12 @@ use Rattle.writer.proofs.mark_byte.Goals as goal
 
 pub overflow_add-result : goal.overflow_add-result
 unfolding mark
-overflow_add-result c = omega (arith, rw c.in-Set.is at c.requires)
+overflow_add-result c = omega (arith, rw c.in-Some.is at c.requires)
 
-pub returns-in-Absent : goal.returns-in-Absent
+pub returns-in-None : goal.returns-in-None
 unfolding mark
-returns-in-Absent c = rw c.in-Absent.is
+returns-in-None c = rw c.in-None.is
 
-pub returns-in-Set : goal.returns-in-Set
+pub returns-in-Some : goal.returns-in-Some
 unfolding mark
-returns-in-Set c = rw c.in-Set.is
+returns-in-Some c = rw c.in-Some.is
