@@ -108,7 +108,7 @@ encoded w u ds h g c =
     encoded_as w (seen w u ds) h.size (c ∙ counted w u ds g) h.clean_nodes h.clean_args h.clean_vars h.clean_constraints (declared_rows w u ds h.clean_structs g)
 
 -- the counts are written
-pub used_written : (w : List ℕ) (u : Used) (w' : List ℕ) → Lay w u → Wrote w 0 5 (u.nodes ∷ u.args ∷ u.vars ∷ u.constraints ∷ u.structs ∷ 0 ∷ 0 ∷ 0 ∷ []) w'
+pub used_written : (w : List ℕ) (u : Used) (w' : List ℕ) → Lay w u → Wrote w 0 5 (u.nodes ∷ u.args ∷ u.vars ∷ u.constraints ∷ u.structs ∷ []) w'
     → (ds : List Struct) → Declares w u ds → w' ≡ encode (seen w u ds)
 unfolding seen with_structs Clean view words_at tab
 used_written w u w' h q ds g =

@@ -1,9 +1,9 @@
 -- The primitives' last steps: what they wrote is what the definition says. `at` and the like are numbers as indices. Assumes nothing.
 use mathlib.Core.Path.{◌≡◌, refl, sym, ap, ◌∙◌, subst}
 use mathlib.Core.List.{List, [], ◌++◌}
-use Rattle.std.specs.Prelude.{Option, Some, None}
+use Rattle.std.specs.Prelude.{Option, Some, None, unwrap_or}
 use Rattle.std.proofs.lemmas.Option.{none-some, same_Some}
-use Prim.Native.Nat.{ℕ, ◌+◌, ◌*◌, ◌-◌, ◌<◌}
+use Prim.Native.Nat.{ℕ, ◌+◌, ◌*◌, ◌-◌, ◌<◌, ◌≤◌}
 use native.Mathlib.Omega.{arith}
 use lib.ListN.{length, get_or, take, length-append}
 use lib.Seq.{length-take-le, get_or-take, get_or-append-add}
@@ -20,7 +20,7 @@ use Rattle.table.specs.declared.Shape.TheVariants.{Unit as UnitS, Ref, Param, Ap
 use Rattle.table.specs.declared.Used.{Used}
 use Rattle.table.specs.declared.Out.TheVariants.{Done, Refused}
 use Rattle.table.specs.declared.Refusal.TheVariants.{Full}
-use Rattle.table.proofs.Rows.{wrote_none}
+use Rattle.table.proofs.Rows.{wrote_front, wrote_none}
 use Rattle.table.proofs.Steps.{refines_is}
 use Rattle.table.proofs.Pushed.{count_view, args_view, node_pushed, places_full}
 
@@ -91,16 +91,16 @@ module _ (w : List ℕ) (u : Used) (loc : ℕ) (k : Option AbilitySet) (name : T
     ),
   )
 
-  pub apply_pushed : (at count place : ℕ) (w₁ r w' : List ℕ) → (4096 - u.args < n → ⊥) → at ≡ u.nodes → place ≡ u.args → count ≡ n
-      → Wrote w (12293 + place) count parts w₁ → Wrote w₁ (5 + at * 6) 6 r w' → Written node_table r (node_at loc (Apply k name u.args n))
+  pub apply_pushed : (at count place : ℕ) (front w₁ r w' : List ℕ) → (4096 - u.args < n → ⊥) → at ≡ u.nodes → place ≡ u.args → count ≡ n → front ≡ take count parts → n ≤ length parts
+      → Wrote w (12293 + place) (length front) front w₁ → Wrote w₁ (5 + at * 6) 6 r w' → Written node_table r (node_at loc (Apply k name u.args n))
       → After w u w' (record { out = Done u.nodes; used = record { nodes = u.nodes + 1; args = u.args + n; vars = u.vars; constraints = u.constraints; structs = u.structs } }) (λ s. sp s loc v)
   unfolding args_of stored places
-  apply_pushed at count place w₁ r w' room e f g first second row =
+  apply_pushed at count place front w₁ r w' room e f g t long first second row =
       let few = h.args in
       let q = p.few in
       node_pushed w u loc v h parts n (u.args + n) w₁ r w' (d.Apply (mark_of k) (name_of name) (places u.args n)) lt (omega arith) (omega arith) refl refl
       (ap (λ (x : ℕ). d.Apply (mark_of k) (name_of name) (record { first = u.args; many = x })) many)
-      (rw (f, g) at first)
+      (rw f at (wrote_front w (12293 + place) n parts front w₁ first (t ∙ ap (λ (x : ℕ). take x parts) g) long))
       (rw e at second)
       row
       apply_below
@@ -122,11 +122,16 @@ pub insert_cell : (w : List ℕ) (u : Used) (v t : ℕ) (m : Option ℕ) (w' : L
 unfolding insert with_cell
 insert_cell w u v t m w' e a = refines_is (λ ds k. ap (λ (x : Option ℕ). with_cell v (Some t) x (seen w u ds)) (e ds)) a
 
-pub mark_cell : (w : List ℕ) (u : Used) (v loc l : ℕ) (b m : Option ℕ) (w' : List ℕ) → ((ds : List d.Struct) → b ≡ get (seen w u ds) v) → ((ds : List d.Struct) → m ≡ num_loc (seen w u ds) v) → l ≡ or_insert m loc
+or_insert_is : (o : Option ℕ) (x : ℕ) → unwrap_or o x ≡ or_insert o x
+unfolding or_insert
+or_insert_is None x = refl
+or_insert_is (Some y) x = refl
+
+pub mark_cell : (w : List ℕ) (u : Used) (v loc l : ℕ) (b m : Option ℕ) (w' : List ℕ) → ((ds : List d.Struct) → b ≡ get (seen w u ds) v) → ((ds : List d.Struct) → m ≡ num_loc (seen w u ds) v) → l ≡ unwrap_or m loc
     → Stored w u w' (with_cell v b (Some l)) → Stored w u w' (λ s. mark_one s v loc)
 unfolding mark_one with_cell
 mark_cell w u v loc l b m w' e f g a =
     refines_is
     (λ ds k. ap (λ (x : Option ℕ). with_cell v x (Some l) (seen w u ds)) (e ds)
-    ∙ ap (λ (x : ℕ). with_cell v (get (seen w u ds) v) (Some x) (seen w u ds)) (g ∙ ap (λ (x : Option ℕ). or_insert x loc) (f ds)))
+    ∙ ap (λ (x : ℕ). with_cell v (get (seen w u ds) v) (Some x) (seen w u ds)) (g ∙ or_insert_is m loc ∙ ap (λ (x : Option ℕ). or_insert x loc) (f ds)))
     a

@@ -1,12 +1,17 @@
 -- What a store of a row does to a table, whatever its rows mean. Assumes nothing.
-use mathlib.Core.Path.{◌≡◌, refl, sym, ap, ap₂, ◌∙◌}
+use mathlib.Core.Path.{◌≡◌, refl, sym, ap, ap₂, subst, ◌∙◌}
 use mathlib.Core.List.{List, [], ◌∷◌, ◌++◌}
-use Prim.Native.Nat.{ℕ, ◌+◌, ◌*◌, ◌<◌, ◌≤◌}
+use Prim.Native.Nat.{ℕ, zero, suc, ◌+◌, ◌*◌, ◌<◌, ◌≤◌}
 use native.Mathlib.Omega.{arith}
+use Rattle.std.proofs.Common.{add-one}
+use Rattle.std.proofs.lemmas.List.Edits.{paste_none, paste_more}
+use Rattle.std.proofs.lemmas.List.{length-take-le}
+use Rattle.std.proofs.lemmas.Slice.{put_mid-paste}
+use borrow.Rule.Slice.PartMut.{put_mid}
 use native.Mathlib.Decide.{ℕ_discrete, dec_lt}
 use native.Mathlib.Nat.{not-suc-le-zero}
-use lib.ListN.{length, get_or, set, length-set, length-append, get_or-append, get_or-eq_default}
-use lib.Seq.{get_or-set_same, get_or-set_other, get_or-take, ext_get_or, get_or_at}
+use lib.ListN.{length, take, get_or, set, length-set, length-append, get_or-append, get_or-eq_default}
+use lib.Seq.{paste, get_or-set_same, get_or-set_other, get_or-take, ext_get_or, get_or_at}
 use Rattle.table.specs.Rows.{Table, words_at, row, entries, Clean, Written}
 use Rattle.table.specs.State.{Wrote}
 use Rattle.table.proofs.Tab.{length_tab, tab_more, tab_ext, getD_tab, getD_tab_out, tab_set}
@@ -35,6 +40,27 @@ wrote_more w at k r w' h lt =
     by : (i : ℕ) → i < k + 1 → Dec (i ≡ k) → get_or (set w' (at + k) (get_or r k 0)) (at + i) 0 ≡ get_or r i 0
     by i p (yes e) = rw e (get_or-set_same w' (at + k) (get_or r k 0) 0 (rw h.size lt))
     by i p (no e) = get_or-set_other w' (at + k) (at + i) (get_or r k 0) 0 (λ q. e (omega arith)) ∙ h.here i (omega arith)
+
+wrote_paste : (w : List ℕ) (at : ℕ) (r : List ℕ) (n : ℕ) → n ≤ length r → at + n ≤ length w → Wrote w at n r (paste w at r n)
+wrote_paste w at r zero h g = subst (λ (v : List ℕ). Wrote w at 0 r v) (paste_none w at r) (wrote_none w at r)
+wrote_paste w at r (suc n) h g =
+    let more : Wrote w at (n + 1) r (paste w at r (n + 1)) =
+        subst (λ (v : List ℕ). Wrote w at (n + 1) r v) (paste_more w at r n 0 (omega arith) (omega arith)) (wrote_more w at n r (paste w at r n) (wrote_paste w at r n (omega arith) (omega arith)) (omega arith)) in
+    subst (λ (m : ℕ). Wrote w at m r (paste w at r m)) (add-one n) more
+
+-- .. or all at once
+pub wrote_mid : (w : List ℕ) (at k : ℕ) (r s : List ℕ) → at + length r ≤ length w → length r ≡ k → s ≡ r → Wrote w at (length r) r (put_mid at k w s)
+wrote_mid w at k r s h l e = rw (put_mid-paste at k w s r (length r) e l refl) (wrote_paste w at r (length r) (omega arith) h)
+
+-- the front of r
+pub wrote_front : (w : List ℕ) (at n : ℕ) (r s w' : List ℕ) → Wrote w at (length s) s w' → s ≡ take n r → n ≤ length r → Wrote w at n r w'
+wrote_front w at n r s w' h e l =
+    let long : length s ≡ n = ap length e ∙ length-take-le n r l in
+    record {
+      size = h.size;
+      here = λ k p. h.here k (rw long p) ∙ rw e (get_or-take n r k 0 p);
+      there = λ j f. h.there j (λ k p. f k (rw (← long) p));
+    }
 
 module _ {A : Type 0} (T : Table A) where
   pub length_entries : (w : List ℕ) (n : ℕ) → length (entries T w n) ≡ n

@@ -2,7 +2,8 @@
 use mathlib.Core.Path.{◌≡◌, refl, sym, ap, ◌∙◌}
 use mathlib.Core.Bool.{Bool, true, false}
 use mathlib.Core.List.{List, [], ◌∷◌}
-use Rattle.std.specs.Prelude.{Option, None, Some}
+use Rattle.std.specs.Prelude.{Option, None, Some, is_some, unwrap_or}
+use mir.Val.{bool_byte}
 use Prim.Native.Nat.{ℕ, ◌+◌, ◌-◌, ◌<◌, ◌%◌}
 use native.Mathlib.Omega.{arith}
 use lib.Dec.{eqb}
@@ -10,7 +11,6 @@ use lib.ListN.{length, take, replicate, length-replicate}
 use borrow.Author.Tests.{le-ltb}
 use Rattle.definition.specs.Types.{TypeName, Multiple, Builtin, ModuleType, AbilityMark, Shape, UnitType, Ref, Param, Apply, Var, Anything, UnresolvedError, Places, Node, Cell}
 use Rattle.definition.specs.Types.{Constraint, AbilityConstraint, NumericConstraint, BitsConstraint, OrderedConstraint, BaseTypeConstraint, SingleTypeConstraint, Struct}
-use Rattle.definition.specs.Subst.{or_insert}
 use Rattle.table.specs.Rows.{flag, read_mark, mark_word, read_option, option_flag, option_word, places, read_name, read_shape, read_node, name_tag, name_word, shape_words, node_words, node_table}
 use Rattle.table.specs.Rows.{read_cell, cell_words, var_table, read_constraint, constraint_words, constraint_table, read_struct, struct_words, struct_table, Written}
 
@@ -27,15 +27,20 @@ unfolding flag
 flag_again true = refl
 flag_again false = refl
 
-pub unit_row : (loc : ℕ) → Written node_table (0 ∷ loc ∷ 0 ∷ 0 ∷ 0 ∷ 0 ∷ 0 ∷ 0 ∷ []) (record { loc = loc; value = UnitType })
+pub unit_row : (loc : ℕ) → Written node_table (0 ∷ loc ∷ 0 ∷ 0 ∷ 0 ∷ 0 ∷ []) (record { loc = loc; value = UnitType })
 unfolding read_node read_shape node_words shape_words
 unit_row loc = record { is = refl; again = refl }
 
-pub ref_row : (loc : ℕ) (m : Bool) (t f : ℕ) → f ≡ flag m → Written node_table (1 ∷ loc ∷ f ∷ t ∷ 0 ∷ 0 ∷ 0 ∷ 0 ∷ []) (record { loc = loc; value = Ref m t })
+pub flag_byte : (m : Bool) → bool_byte m ≡ flag m
+unfolding flag
+flag_byte true = refl
+flag_byte false = refl
+
+pub ref_row : (loc : ℕ) (m : Bool) (t f : ℕ) → f ≡ flag m → Written node_table (1 ∷ loc ∷ f ∷ t ∷ 0 ∷ 0 ∷ []) (record { loc = loc; value = Ref m t })
 unfolding read_node read_shape node_words shape_words
 ref_row loc m t f e = record { is = ap (λ (x : ℕ). 1 ∷ loc ∷ x ∷ t ∷ 0 ∷ 0 ∷ []) e; again = λ i. record { loc = loc; value = Ref (flag_again m i) t } }
 
-pub param_row : (loc id a b : ℕ) → b ≡ a → b < 256 → Written node_table (2 ∷ loc ∷ id ∷ b ∷ 0 ∷ 0 ∷ 0 ∷ 0 ∷ []) (record { loc = loc; value = Param id a })
+pub param_row : (loc id a b : ℕ) → b ≡ a → b < 256 → Written node_table (2 ∷ loc ∷ id ∷ b ∷ 0 ∷ 0 ∷ []) (record { loc = loc; value = Param id a })
 unfolding read_node read_shape node_words shape_words
 param_row loc id a b e h =
     let m : a % 256 ≡ a = omega arith in
@@ -57,17 +62,17 @@ apply_row loc k mark n first many r e f g =
       again = ap (λ (x : ℕ). read_node (name_tag n ∷ loc ∷ x ∷ name_word n ∷ first ∷ many ∷ [])) (sym f) ∙ apply_again loc k n first many ∙ ap (λ (x : AbilityMark). record { loc = loc; value = Apply x n (places first many) }) g;
     }
 
-pub var_row : (loc v i : ℕ) → i ≡ v → i < 65536 → Written node_table (6 ∷ loc ∷ i ∷ 0 ∷ 0 ∷ 0 ∷ 0 ∷ 0 ∷ []) (record { loc = loc; value = Var v })
+pub var_row : (loc v i : ℕ) → i ≡ v → i < 65536 → Written node_table (6 ∷ loc ∷ i ∷ 0 ∷ 0 ∷ 0 ∷ []) (record { loc = loc; value = Var v })
 unfolding read_node read_shape node_words shape_words
 var_row loc v i e h =
     let m : v % 65536 ≡ v = omega arith in
     record { is = ap (λ (x : ℕ). 6 ∷ loc ∷ x ∷ 0 ∷ 0 ∷ 0 ∷ []) e; again = λ i. record { loc = loc; value = Var (m i) } }
 
-pub anything_row : (loc : ℕ) → Written node_table (7 ∷ loc ∷ 0 ∷ 0 ∷ 0 ∷ 0 ∷ 0 ∷ 0 ∷ []) (record { loc = loc; value = Anything })
+pub anything_row : (loc : ℕ) → Written node_table (7 ∷ loc ∷ 0 ∷ 0 ∷ 0 ∷ 0 ∷ []) (record { loc = loc; value = Anything })
 unfolding read_node read_shape node_words shape_words
 anything_row loc = record { is = refl; again = refl }
 
-pub error_row : (loc : ℕ) → Written node_table (8 ∷ loc ∷ 0 ∷ 0 ∷ 0 ∷ 0 ∷ 0 ∷ 0 ∷ []) (record { loc = loc; value = UnresolvedError })
+pub error_row : (loc : ℕ) → Written node_table (8 ∷ loc ∷ 0 ∷ 0 ∷ 0 ∷ 0 ∷ []) (record { loc = loc; value = UnresolvedError })
 unfolding read_node read_shape node_words shape_words
 error_row loc = record { is = refl; again = refl }
 
@@ -96,15 +101,21 @@ pub cell_again : (c : Cell) → read_cell (cell_words c) ≡ c
 unfolding read_cell cell_words
 cell_again c = λ i. record { binding = option_again c.binding i; numeric = option_again c.numeric i }
 
-pub word_is : (o : Option ℕ) → or_insert o 0 ≡ option_word o
-unfolding or_insert option_word
-word_is None = refl
-word_is (Some x) = refl
+some_flag : (b : Bool) (o : Option ℕ) → b ≡ is_some o → bool_byte b ≡ option_flag o
+unfolding option_flag
+some_flag b None e = ap bool_byte e
+some_flag b (Some x) e = ap bool_byte e
 
-pub cell_row : (b m : Option ℕ) (bf bw mf mw : ℕ) → bf ≡ option_flag b → bw ≡ option_word b → mf ≡ option_flag m → mw ≡ option_word m
-    → Written var_table (bf ∷ bw ∷ mf ∷ mw ∷ 0 ∷ 0 ∷ 0 ∷ 0 ∷ []) (record { binding = b; numeric = m })
+some_word : (x : ℕ) (o : Option ℕ) → x ≡ unwrap_or o 0 → x ≡ option_word o
+unfolding option_word
+some_word x None e = e
+some_word x (Some y) e = e
+
+pub cell_row : (b m : Option ℕ) (bf mf : Bool) (bw mw : ℕ) → bf ≡ is_some b → bw ≡ unwrap_or b 0 → mf ≡ is_some m → mw ≡ unwrap_or m 0
+    → Written var_table (bool_byte bf ∷ bw ∷ bool_byte mf ∷ mw ∷ 0 ∷ []) (record { binding = b; numeric = m })
 unfolding cell_words
-cell_row b m bf bw mf mw e f g h = record { is = λ i. e i ∷ f i ∷ g i ∷ h i ∷ 0 ∷ []; again = cell_again _ }
+cell_row b m bf mf bw mw e f g h =
+    record { is = λ i. some_flag bf b e i ∷ some_word bw b f i ∷ some_flag mf m g i ∷ some_word mw m h i ∷ 0 ∷ []; again = cell_again _ }
 
 pub cell_long : (c : Cell) → length (cell_words c) ≡ 5
 unfolding cell_words
@@ -112,29 +123,29 @@ cell_long c = refl
 
 -- ---- constraints
 
-pub ability_row : (loc ty a b : ℕ) → b ≡ a → b < 256 → Written constraint_table (0 ∷ loc ∷ ty ∷ b ∷ 0 ∷ 0 ∷ 0 ∷ 0 ∷ []) (AbilityConstraint loc ty a)
+pub ability_row : (loc ty a b : ℕ) → b ≡ a → b < 256 → Written constraint_table (0 ∷ loc ∷ ty ∷ b ∷ []) (AbilityConstraint loc ty a)
 unfolding read_constraint constraint_words
 ability_row loc ty a b e h =
     let m : a % 256 ≡ a = omega arith in
     record { is = ap (λ (x : ℕ). 0 ∷ loc ∷ ty ∷ x ∷ []) e; again = ap (λ (x : ℕ). AbilityConstraint loc ty x) m }
 
-pub numeric_row : (loc ty : ℕ) → Written constraint_table (1 ∷ loc ∷ ty ∷ 0 ∷ 0 ∷ 0 ∷ 0 ∷ 0 ∷ []) (NumericConstraint loc ty)
+pub numeric_row : (loc ty : ℕ) → Written constraint_table (1 ∷ loc ∷ ty ∷ 0 ∷ []) (NumericConstraint loc ty)
 unfolding read_constraint constraint_words
 numeric_row loc ty = record { is = refl; again = refl }
 
-pub bits_row : (loc ty : ℕ) → Written constraint_table (2 ∷ loc ∷ ty ∷ 0 ∷ 0 ∷ 0 ∷ 0 ∷ 0 ∷ []) (BitsConstraint loc ty)
+pub bits_row : (loc ty : ℕ) → Written constraint_table (2 ∷ loc ∷ ty ∷ 0 ∷ []) (BitsConstraint loc ty)
 unfolding read_constraint constraint_words
 bits_row loc ty = record { is = refl; again = refl }
 
-pub ordered_row : (loc ty : ℕ) → Written constraint_table (3 ∷ loc ∷ ty ∷ 0 ∷ 0 ∷ 0 ∷ 0 ∷ 0 ∷ []) (OrderedConstraint loc ty)
+pub ordered_row : (loc ty : ℕ) → Written constraint_table (3 ∷ loc ∷ ty ∷ 0 ∷ []) (OrderedConstraint loc ty)
 unfolding read_constraint constraint_words
 ordered_row loc ty = record { is = refl; again = refl }
 
-pub base_row : (loc ty : ℕ) → Written constraint_table (4 ∷ loc ∷ ty ∷ 0 ∷ 0 ∷ 0 ∷ 0 ∷ 0 ∷ []) (BaseTypeConstraint loc ty)
+pub base_row : (loc ty : ℕ) → Written constraint_table (4 ∷ loc ∷ ty ∷ 0 ∷ []) (BaseTypeConstraint loc ty)
 unfolding read_constraint constraint_words
 base_row loc ty = record { is = refl; again = refl }
 
-pub single_row : (loc ty : ℕ) → Written constraint_table (5 ∷ loc ∷ ty ∷ 0 ∷ 0 ∷ 0 ∷ 0 ∷ 0 ∷ []) (SingleTypeConstraint loc ty)
+pub single_row : (loc ty : ℕ) → Written constraint_table (5 ∷ loc ∷ ty ∷ 0 ∷ []) (SingleTypeConstraint loc ty)
 unfolding read_constraint constraint_words
 single_row loc ty = record { is = refl; again = refl }
 
@@ -149,7 +160,7 @@ constraint_long (SingleTypeConstraint loc ty) = refl
 
 -- ---- structs
 
-pub struct_row : (abilities a params : ℕ) → a ≡ abilities → a < 256 → Written struct_table (a ∷ params ∷ 0 ∷ 0 ∷ 0 ∷ 0 ∷ 0 ∷ 0 ∷ []) (record { abilities = abilities; params = replicate params 0 })
+pub struct_row : (abilities a params : ℕ) → a ≡ abilities → a < 256 → Written struct_table (a ∷ params ∷ []) (record { abilities = abilities; params = replicate params 0 })
 unfolding read_struct struct_words
 struct_row abilities a params e h =
     let m : abilities % 256 ≡ abilities = omega arith in

@@ -12,7 +12,10 @@ ghost use Rattle.table.specs.Encode.{encode};
 ghost use Rattle.table.specs.State.{used_at, shape_of, node_of, node_at, cell, value_of, constraint_of, done, view, seen, Lay, Changed, After, Stored, Wrote, with_cell, Declares, Declared, Flat, FoundIn, Parts, VarIn, one_var, pushed_constraint};
 ghost use Rattle.table.specs.State.{node_words_at, cell_words_at, constraint_words_at, struct_words_at};
 
-use names::{AbilityMark, AbilitySet, MAX_ARGS, MAX_CONSTRAINTS, MAX_NODES, MAX_STRUCTS, MAX_VARS, TParamID, TVar, TypeName};
+use names::{
+    AbilityMark, AbilitySet, MAX_ARGS, MAX_CONSTRAINTS, MAX_NODES, MAX_STRUCTS, MAX_VARS, TParamID,
+    TVar, TypeName,
+};
 
 // Where each table begins in the words, and how many words a row of it has. Contracts have the numbers themselves: a wrong one here is refused.
 pub const NODES_AT: usize = 5;
@@ -224,24 +227,20 @@ pub fn note(notes: &mut [u32], v: TVar, x: u32)
 
 // ---- rows
 
-// n words of a row, from place `at` on.
-fn write_row(w: &mut [u32], at: usize, row: [u32; 8], n: usize)
-    requires { (n ≤ 8) × (at + n ≤ length w.old) }
-    ensures { Wrote w.old at n row w.new }
+// These words, from place `at` on.
+pub fn write_words(w: &mut [u32], at: usize, words: &[u32])
+    requires { at + length words.now ≤ length w.old }
+    ensures { Wrote w.old at (length words.now) words.now w.new }
 {
-    let mut k: usize = 0;
-    while k < n {
-        w[at + k] = row[k];
-        k = k + 1;
-    }
+    w[at..at + words.len()].copy_from_slice(words);
 }
 
-// Row i of a table.
-fn put_row(w: &mut [u32], base: usize, width: usize, i: u32, row: [u32; 8])
-    requires { (width ≤ 8) × (base + i * width + width ≤ length w.old) }
-    ensures { Wrote w.old (base + i * width) width row w.new }
+// Row i of a table whose rows have N words.
+fn put_row<const N: usize>(w: &mut [u32], base: usize, i: u32, row: [u32; N])
+    requires { base + i * N + N ≤ length w.old }
+    ensures { Wrote w.old (base + i * N) N row.entry w.new }
 {
-    write_row(w, base + (i as usize) * width, row, width);
+    write_words(w, base + i as usize * N, &row);
 }
 
 pub fn node_words_at(w: &[u32], t: u32) -> NodeWords
@@ -297,20 +296,10 @@ pub fn struct_words_at(w: &[u32], i: u32) -> StructWords
     }
 }
 
-fn flag_of(b: bool) -> u32
-    ensures { result ≡ flag b }
-{
-    if b { 1 } else { 0 }
-}
-
 fn mark_at(x: u32) -> AbilityMark
     ensures { mark_of result ≡ read_mark x }
 {
-    if x < 16 {
-        None
-    } else {
-        Some(set_at(x - 16))
-    }
+    if x < 16 { None } else { Some(set_at(x - 16)) }
 }
 
 fn mark_word(m: AbilityMark) -> u32
@@ -325,11 +314,7 @@ fn mark_word(m: AbilityMark) -> u32
 fn option_at(is: u32, x: u32) -> Option<u32>
     ensures { result ≡ read_option is x }
 {
-    if is == 1 {
-        Some(x)
-    } else {
-        None
-    }
+    if is == 1 { Some(x) } else { None }
 }
 
 fn name_at(tag: u32, x: u32) -> TypeName
@@ -369,41 +354,28 @@ fn shape_at(r: NodeWords) -> Shape
     Shape::UnresolvedError
 }
 
-fn apply_row(loc: u32, k: u32, n: TypeName, first: u32, many: u32) -> [u32; 8]
+fn apply_row(loc: u32, k: u32, n: TypeName, first: u32, many: u32) -> [u32; 6]
     ensures { take 6 result ≡ name_tag (name_of n) ∷ loc ∷ k ∷ name_word (name_of n) ∷ first ∷ many ∷ [] }
 {
     match n {
-        TypeName::Multiple(c) => [4, loc, k, c, first, many, 0, 0],
-        TypeName::Builtin(b) => [3, loc, k, b, first, many, 0, 0],
-        TypeName::ModuleType(s) => [5, loc, k, s, first, many, 0, 0],
+        TypeName::Multiple(c) => [4, loc, k, c, first, many],
+        TypeName::Builtin(b) => [3, loc, k, b, first, many],
+        TypeName::ModuleType(s) => [5, loc, k, s, first, many],
     }
 }
 
 // The row of a node.
-fn row_of(loc: u32, shape: Shape) -> [u32; 8]
+fn row_of(loc: u32, shape: Shape) -> [u32; 6]
     ensures { Written node_table result (node_at loc shape) }
 {
     match shape {
-        Shape::Unit => [0, loc, 0, 0, 0, 0, 0, 0],
-        Shape::Ref(m, t) => {
-            let f = flag_of(m);
-            [1, loc, f, t, 0, 0, 0, 0]
-        }
-        Shape::Param(id, a) => {
-            let b = bits(a);
-            let i = id.0;
-            [2, loc, i, b, 0, 0, 0, 0]
-        }
-        Shape::Apply(k, n, first, many) => {
-            let m = mark_word(k);
-            apply_row(loc, m, n, first, many)
-        }
-        Shape::Var(v) => {
-            let i = number(v);
-            [6, loc, i, 0, 0, 0, 0, 0]
-        }
-        Shape::Anything => [7, loc, 0, 0, 0, 0, 0, 0],
-        Shape::UnresolvedError => [8, loc, 0, 0, 0, 0, 0, 0],
+        Shape::Unit => [0, loc, 0, 0, 0, 0],
+        Shape::Ref(m, t) => [1, loc, m as u32, t, 0, 0],
+        Shape::Param(id, a) => [2, loc, id.0, bits(a), 0, 0],
+        Shape::Apply(k, n, first, many) => apply_row(loc, mark_word(k), n, first, many),
+        Shape::Var(v) => [6, loc, number(v), 0, 0, 0],
+        Shape::Anything => [7, loc, 0, 0, 0, 0],
+        Shape::UnresolvedError => [8, loc, 0, 0, 0, 0],
     }
 }
 
@@ -414,12 +386,7 @@ pub fn write_used(w: &mut [u32], u: Used)
     requires { Lay w.old u }
     ensures { (ds : List d.Struct) → Declares w.old u ds → w.new ≡ encode (seen w.old u ds) }
 {
-    write_row(
-        w,
-        0,
-        [u.nodes, u.args, u.vars, u.constraints, u.structs, 0, 0, 0],
-        5,
-    );
+    write_words(w, 0, &[u.nodes, u.args, u.vars, u.constraints, u.structs]);
 }
 
 // ---- nodes and argument places
@@ -470,16 +437,10 @@ pub fn push_node(w: &mut [u32], u: Used, loc: u32, shape: Shape) -> Outcome
         };
     }
     let row = row_of(loc, shape);
-    put_row(w, NODES_AT, NODE_WORDS, n, row);
+    put_row(w, NODES_AT, n, row);
     Outcome {
         out: Out::Done(n),
-        used: Used {
-            nodes: n + 1,
-            args: u.args,
-            vars: u.vars,
-            constraints: u.constraints,
-            structs: u.structs,
-        },
+        used: Used { nodes: n + 1, ..u },
     }
 }
 
@@ -510,17 +471,15 @@ pub fn push_apply(
             used: u,
         };
     }
-    write_row(w, ARGS_AT + wide(first), parts, wide(n));
+    write_words(w, ARGS_AT + wide(first), &parts[..wide(n)]);
     let row = row_of(loc, Shape::Apply(k, name, first, n));
-    put_row(w, NODES_AT, NODE_WORDS, t, row);
+    put_row(w, NODES_AT, t, row);
     Outcome {
         out: Out::Done(t),
         used: Used {
             nodes: t + 1,
             args: first + n,
-            vars: u.vars,
-            constraints: u.constraints,
-            structs: u.structs,
+            ..u
         },
     }
 }
@@ -570,13 +529,7 @@ fn var_taken(u: Used) -> Outcome
     }
     Outcome {
         out: Out::Done(n),
-        used: Used {
-            nodes: u.nodes,
-            args: u.args,
-            vars: n + 1,
-            constraints: u.constraints,
-            structs: u.structs,
-        },
+        used: Used { vars: n + 1, ..u },
     }
 }
 
@@ -606,34 +559,17 @@ pub fn take_var(w: &mut [u32], u: Used) -> Outcome
     one_var(u)
 }
 
-fn flag_found(f: Option<u32>) -> u32
-    ensures { result ≡ option_flag f }
-{
-    match f {
-        None => 0,
-        Some(_) => 1,
-    }
-}
-
-// The number, or x where there is none.
-fn unwrap_or(f: Option<u32>, x: u32) -> u32
-    ensures { result ≡ or_insert f x }
-{
-    match f {
-        None => x,
-        Some(y) => y,
-    }
-}
-
 // The row of a variable.
-fn cell_row(b: Option<u32>, m: Option<u32>) -> [u32; 8]
+fn cell_row(b: Option<u32>, m: Option<u32>) -> [u32; 5]
     ensures { Written var_table result (cell b m) }
 {
-    let bf = flag_found(b);
-    let bw = unwrap_or(b, 0);
-    let mf = flag_found(m);
-    let mw = unwrap_or(m, 0);
-    [bf, bw, mf, mw, 0, 0, 0, 0]
+    [
+        b.is_some() as u32,
+        b.unwrap_or(0),
+        m.is_some() as u32,
+        m.unwrap_or(0),
+        0,
+    ]
 }
 
 // Variable v has this binding and this mark.
@@ -645,7 +581,7 @@ fn put_cell(w: &mut [u32], u: Used, v: TVar, b: Option<u32>, m: Option<u32>)
     let i = number(v);
     if i < n {
         let row = cell_row(b, m);
-        put_row(w, VARS_AT, VAR_WORDS, i, row);
+        put_row(w, VARS_AT, i, row);
     }
 }
 
@@ -665,25 +601,22 @@ pub fn mark_one(w: &mut [u32], u: Used, v: TVar, loc: u32)
 {
     let b = bound_at(w, u, v);
     let m = num_loc_at(w, u, v);
-    let l = unwrap_or(m, loc);
+    let l = m.unwrap_or(loc);
     put_cell(w, u, v, b, Some(l));
 }
 
 // ---- constraints
 
-fn constraint_row(c: Constraint) -> [u32; 8]
+fn constraint_row(c: Constraint) -> [u32; 4]
     ensures { Written constraint_table result (constraint_of c) }
 {
     match c {
-        Constraint::Ability(loc, ty, a) => {
-            let b = bits(a);
-            [0, loc, ty, b, 0, 0, 0, 0]
-        }
-        Constraint::Numeric(loc, ty) => [1, loc, ty, 0, 0, 0, 0, 0],
-        Constraint::Bits(loc, ty) => [2, loc, ty, 0, 0, 0, 0, 0],
-        Constraint::Ordered(loc, ty) => [3, loc, ty, 0, 0, 0, 0, 0],
-        Constraint::BaseType(loc, ty) => [4, loc, ty, 0, 0, 0, 0, 0],
-        Constraint::SingleType(loc, ty) => [5, loc, ty, 0, 0, 0, 0, 0],
+        Constraint::Ability(loc, ty, a) => [0, loc, ty, bits(a)],
+        Constraint::Numeric(loc, ty) => [1, loc, ty, 0],
+        Constraint::Bits(loc, ty) => [2, loc, ty, 0],
+        Constraint::Ordered(loc, ty) => [3, loc, ty, 0],
+        Constraint::BaseType(loc, ty) => [4, loc, ty, 0],
+        Constraint::SingleType(loc, ty) => [5, loc, ty, 0],
     }
 }
 
@@ -722,15 +655,12 @@ pub fn push_constraint(w: &mut [u32], u: Used, c: Constraint) -> Outcome
         };
     }
     let row = constraint_row(c);
-    put_row(w, CONSTRAINTS_AT, CONSTRAINT_WORDS, n, row);
+    put_row(w, CONSTRAINTS_AT, n, row);
     Outcome {
         out: Out::Done(0),
         used: Used {
-            nodes: u.nodes,
-            args: u.args,
-            vars: u.vars,
             constraints: n + 1,
-            structs: u.structs,
+            ..u
         },
     }
 }
@@ -758,22 +688,12 @@ pub fn push_struct(w: &mut [u32], u: Used, abilities: AbilitySet, params: u32) -
             used: u,
         };
     }
-    let a = bits(abilities);
-    put_row(
-        w,
-        STRUCTS_AT,
-        STRUCT_WORDS,
-        n,
-        [a, params, 0, 0, 0, 0, 0, 0],
-    );
+    put_row(w, STRUCTS_AT, n, [bits(abilities), params]);
     Outcome {
         out: Out::Done(n),
         used: Used {
-            nodes: u.nodes,
-            args: u.args,
-            vars: u.vars,
-            constraints: u.constraints,
             structs: n + 1,
+            ..u
         },
     }
 }

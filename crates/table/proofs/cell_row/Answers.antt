@@ -1,7 +1,6 @@
 -- `table::cell_row` meets its contract. Assumes nothing.
-use mathlib.Core.Path.{◌∙◌}
-use Rattle.table.proofs.Written.{word_is, cell_row}
+use Rattle.table.proofs.Written.{cell_row}
 use Rattle.table.proofs.cell_row.Goals as goal
 
 pub returns : goal.returns
-returns c = cell_row _ _ _ _ _ _ c.flag_found-bf.ensures (c.unwrap_or-bw.ensures ∙ word_is _) c.flag_found-mf.ensures (c.unwrap_or-mw.ensures ∙ word_is _)
+returns c = cell_row _ _ _ _ _ _ c.is_some.ensures c.unwrap_or.ensures c.is_some-2.ensures c.unwrap_or-2.ensures

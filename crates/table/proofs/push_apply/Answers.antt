@@ -15,5 +15,5 @@ returns-then-first-n c = apply_full _ _ _ c.args.k c.args.name _ _ c.requires.0 
 pub returns : goal.returns
 returns c = let fits = c.if-first-n.false in
     let room = c.if-t-ge-MAX_NODES.false in
-    apply_pushed _ _ _ c.args.k c.args.name _ _ c.requires.0 c.requires.1 (search rules) room _ _ _ _ _ _ (λ q. omega (arith, fits)) refl
-    c.wide.ensures c.wide-2.ensures c.write_row.ensures c.put_row.ensures c.row_of-row.ensures
+    apply_pushed _ _ _ c.args.k c.args.name _ _ c.requires.0 c.requires.1 (search rules) room _ _ _ _ _ _ _ (λ q. omega (arith, fits)) refl
+    c.wide.ensures c.wide-2.ensures refl (omega (arith, c.requires.1.few)) c.write_words.ensures c.put_row.ensures c.row_of-row.ensures

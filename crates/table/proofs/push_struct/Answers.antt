@@ -7,5 +7,5 @@ pub returns-then-n-ge-MAX_STRUCTS : goal.returns-then-n-ge-MAX_STRUCTS
 returns-then-n-ge-MAX_STRUCTS c = structs_full _ _ _ _ c.requires c.if-n-ge-MAX_STRUCTS.true
 
 pub returns : goal.returns
-returns c = let bits = c.bits-a.ensures in
+returns c = let bits = c.bits.ensures in
     struct_pushed _ _ _ _ c.requires _ _ c.if-n-ge-MAX_STRUCTS.false c.put_row.ensures (struct_row _ _ _ bits.0 bits.1)

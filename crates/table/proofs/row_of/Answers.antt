@@ -1,21 +1,22 @@
 -- `table::row_of` meets its contract. Assumes nothing.
-use Rattle.table.proofs.Written.{unit_row, ref_row, param_row, apply_row, var_row, anything_row, error_row}
+use Rattle.table.proofs.Written.{flag_byte, unit_row, ref_row, param_row, apply_row, var_row, anything_row, error_row}
 use Rattle.table.proofs.row_of.Goals as goal
 
 pub returns-in-Unit : goal.returns-in-Unit
 returns-in-Unit c = rw c.in-Unit.is (unit_row _)
 
+
 pub returns-in-Ref : goal.returns-in-Ref
-returns-in-Ref c = rw c.in-Ref.is (ref_row _ _ _ _ c.flag_of-f.ensures)
+returns-in-Ref c = rw c.in-Ref.is (ref_row _ _ _ _ (flag_byte _))
 
 pub returns-in-Param : goal.returns-in-Param
-returns-in-Param c = rw c.in-Param.is (param_row _ _ _ _ c.bits-b.ensures.0 c.bits-b.ensures.1)
+returns-in-Param c = rw c.in-Param.is (param_row _ _ _ _ c.bits.ensures.0 c.bits.ensures.1)
 
 pub returns-in-Apply : goal.returns-in-Apply
-returns-in-Apply c = rw c.in-Apply.is (apply_row _ _ _ _ _ _ _ c.apply_row.ensures c.mark_word-m.ensures.0 c.mark_word-m.ensures.1)
+returns-in-Apply c = rw c.in-Apply.is (apply_row _ _ _ _ _ _ _ c.apply_row.ensures c.mark_word.ensures.0 c.mark_word.ensures.1)
 
 pub returns-in-Var : goal.returns-in-Var
-returns-in-Var c = rw c.in-Var.is (var_row _ _ _ c.number-i.ensures.0 c.number-i.ensures.1)
+returns-in-Var c = rw c.in-Var.is (var_row _ _ _ c.number.ensures.0 c.number.ensures.1)
 
 pub returns-in-Anything : goal.returns-in-Anything
 returns-in-Anything c = rw c.in-Anything.is (anything_row _)
