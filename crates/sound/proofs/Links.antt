@@ -1,7 +1,7 @@
 -- The lengths of chains: counted from a variable on, noted, and taken from what is noted. Assumes nothing.
 -- `Follows` says that one variable is n bindings on from another; a counted length (`Links`) is put together of such a walk and what is noted at its end.
 use mathlib.Core.Path.{◌≡◌, sym, ap, ◌∙◌, subst}
-use mathlib.Core.Bool.{true, false}
+use mathlib.Core.Bool.{false}
 use mathlib.Core.List.{List}
 use Rattle.std.specs.Prelude.{None, Some}
 use Prim.Native.Nat.{ℕ, suc, ◌+◌, ◌-◌, ◌≤◌, ◌<◌}
@@ -13,7 +13,7 @@ use lib.ListN.{length, get_or, set, length-set, replicate, length-replicate, get
 use lib.Seq.{get_or-set_same, get_or-set_other, set_out}
 use borrow.Author.Tests.{le-leb, lt-leb}
 use Rattle.table.specs.declared.Used.{Used}
-use Rattle.sound.specs.Chains.{next_at, ends_fine, chain_fine, Links, Noted, Counted}
+use Rattle.sound.specs.Chains.{next_at, ends_fine, chain_fine, Links, Noted}
 use Rattle.sound.proofs.Chains.{ends_none, ends_last, ends_suc, ends_next}
 
 -- equal sides are compared alike
@@ -64,19 +64,15 @@ module _ (w : List ℕ) (u : Used) where
   unfolding Links
   links_tail v n x l e h m = sym (ends_suc w u m v x e) ∙ l (suc m) ∙ sym (leb_on 1 (n - 1) (suc m) (omega arith) ∙ ap (λ (k : ℕ). leb k (suc m)) (let p : 1 + (n - 1) ≡ n = omega (arith, h) in p)) ∙ ap (λ (k : ℕ). leb (n - 1) k) (let p : suc m - 1 ≡ m = omega arith in p)
 
-  -- a count that meets the end, or a length that is noted
-  pub counted : (v n : ℕ) → Links w u v n → Counted w u v n
+  -- a chain of a known length
+  pub chain_counted : (v n : ℕ) → Links w u v n → chain_fine w u v ≡ leb n u.vars
   unfolding Links chain_fine
-  counted v n l = record { ends = λ h. l; goes_on = λ h. l u.vars ∙ lt-leb n u.vars h }
+  chain_counted v n l = l u.vars
 
-  -- .. or none
-  pub counted_past : (v n cur : ℕ) → Follows w u v n cur → u.vars < n → Counted w u v n
+  -- .. and one that goes on
+  pub chain_past : (v n cur : ℕ) → Follows w u v n cur → u.vars < n → chain_fine w u v ≡ false
   unfolding chain_fine
-  counted_past v n cur f p = record { ends = λ h. absurd (omega (arith, h, p)); goes_on = λ h. f.short u.vars h }
-
-  pub chain_counted : (v n : ℕ) → Counted w u v n → n ≤ u.vars → chain_fine w u v ≡ true
-  unfolding Links chain_fine
-  chain_counted v n c h = c.ends h u.vars ∙ le-leb n u.vars h
+  chain_past v n cur f p = f.short u.vars p
 
   pub noted_none : Noted w u (replicate 1024 0)
   noted_none = record { size = length-replicate {A = ℕ} 1024 0; few = λ v. rw (zero_at 1024 v (dec_lt v 1024)) (omega arith); links = λ v p. absurd (not-suc-le-zero (rw (zero_at 1024 v (dec_lt v 1024)) at p)) }

@@ -1,9 +1,8 @@
 -- Chains of bindings, word by word. proofs/Chains.antt: they end just where the definition's do. Assumes nothing: these are definitions.
 use Rattle.std.specs.Prelude.{◌≡◌, Bool, true, false, List, ℕ, zero, suc, ◌+◌, ◌*◌, ◌-◌, ◌≤◌, ◌<◌, ◌%◌, eqb, ltb, leb, length, get_or, if◌then◌else◌}
 use Rattle.std.specs.Prelude.{Option, None, Some}
+use Rattle.names.specs.declared.TVar.{TVar}
 use Rattle.table.specs.declared.Used.{Used}
-use Rattle.sound.specs.declared.Next.{Next}
-use Rattle.sound.specs.declared.Next.TheVariants.{Last, To}
 
 -- the variable that node x is
 unfoldable pub var_at : List ℕ → Used → ℕ → Option ℕ
@@ -22,9 +21,9 @@ unfoldable pub chain_fine : List ℕ → Used → ℕ → Bool
 chain_fine w u v = ends_fine w u u.vars v
 
 -- the variable that a binding leads to
-abbrev pub next : Next → Option ℕ
-next Last = None
-next (To v) = Some v.0
+abbrev pub next : Option TVar → Option ℕ
+next None = None
+next (Some v) = Some v.0
 
 -- n bindings lead from v to the end of its chain
 unfoldable pub Links : List ℕ → Used → ℕ → ℕ → Type 0
@@ -35,8 +34,3 @@ pub record Noted (w : List ℕ) (u : Used) (lengths : List ℕ) : Type 0 where
   pub size : length lengths ≡ 1024
   pub few : (v : ℕ) → get_or lengths v 0 ≤ suc u.vars
   pub links : (v : ℕ) → 0 < get_or lengths v 0 → Links w u v (get_or lengths v 0 - 1)
-
--- n bindings lead from v to the end of its chain, or n is past the count of variables and so is the chain
-pub record Counted (w : List ℕ) (u : Used) (v n : ℕ) : Type 0 where
-  pub ends : n ≤ u.vars → Links w u v n
-  pub goes_on : u.vars < n → chain_fine w u v ≡ false

@@ -1,24 +1,18 @@
 // The test for a sound state, made once where a lent state enters: words and parameter bytes, whatever they hold. The tests of fields, rows and tables stand in `sound_fields`, `sound_rows` and `sound_tables`.
 #![tactic(auto)]
 
-ghost use Rattle.std.specs.Prelude.{◌≡◌, ◌≤◌, length};
+ghost use Rattle.std.specs.Prelude.{◌≡◌, ◌≤◌, false, length, MatchOption};
 ghost use Rattle.sound_fields.specs.Fields.{all_below};
-ghost use Rattle.sound_rows.specs.Rows.{Sized};
 ghost use Rattle.sound.specs.Lent.{used_of, lent_sound};
-ghost use Rattle.sound.specs.Chains.{var_at, next_at, next, Links, Noted, Counted, chain_fine};
+ghost use Rattle.sound.specs.Chains.{var_at, next_at, next, Links, Noted, chain_fine};
 
 use names::TVar;
+use sound_rows::Lent;
 use sound_tables::{counts_fine, tables_fine};
 use table::{Used, WORDS, cell_words_at, node_words_at, note, noted};
 
-// The variable that a binding leads to, if it leads to one.
-#[derive(Clone, Copy)]
-enum Next {
-    Last,
-    To(TVar),
-}
-
 // The first five words are the counts.
+#[tactic(auto, unfolding(crate::specs::Lent::used_of))]
 pub fn used_of(w: &[u32]) -> Used
     requires { length w.now ≡ 24069 }
     ensures { result ≡ used_of w.now }
@@ -34,121 +28,100 @@ pub fn used_of(w: &[u32]) -> Used
 
 // ---- chains
 
-// The variable that node x is.
-fn var_at(w: &[u32], u: Used, x: u32) -> Next
-    requires { Sized w.now u }
-    ensures { next result ≡ var_at w.now u x }
+// The variable that node x is, if it is one.
+#[tactic(auto, unfolding(crate::specs::Chains::var_at))]
+fn var_at(lent: &Lent, x: u32) -> Option<TVar>
+    ensures { next result ≡ var_at lent.now.words.now lent.now.used x }
 {
-    let n = u.nodes;
-    if n <= x {
-        return Next::Last;
+    if lent.used.nodes <= x {
+        return None;
     }
-    let r = node_words_at(w, x);
-    let tag = r.tag;
-    let a = r.a;
-    if tag != 6 {
-        return Next::Last;
+    let n = node_words_at(lent.words, x);
+    if n.tag == 6 {
+        Some(TVar((n.a % 65536) as u16))
+    } else {
+        None
     }
-    Next::To(TVar((a % 65536) as u16))
 }
 
-// The variable that v is bound to.
-fn next_at(w: &[u32], u: Used, v: TVar) -> Next
-    requires { Sized w.now u }
-    ensures { next result ≡ next_at w.now u v.0 }
+// The variable that v is bound to, if it is bound to one.
+#[tactic(auto, unfolding(crate::specs::Chains::next_at))]
+fn next_at(lent: &Lent, v: TVar) -> Option<TVar>
+    ensures { next result ≡ next_at lent.now.words.now lent.now.used v.0 }
 {
-    let n = u.vars;
     let i = v.0 as u32;
-    if n <= i {
-        return Next::Last;
+    if lent.used.vars <= i {
+        return None;
     }
-    let r = cell_words_at(w, i);
-    let bound = r.bound;
-    if bound != 1 {
-        return Next::Last;
+    let c = cell_words_at(lent.words, i);
+    if c.bound == 1 {
+        var_at(lent, c.binding)
+    } else {
+        None
     }
-    var_at(w, u, r.binding)
 }
 
-// How many bindings lead from v to its chain's end; more than there are variables where none is met. One more than a length is noted, and that is not counted again.
-fn chain_length(w: &[u32], u: Used, v: TVar, lengths: &[u32]) -> u32
-    requires { Sized w.now u × Noted w.now u lengths.now }
-    ensures { Counted w.now u v.0 result }
+// How many bindings lead from v to its chain's end, if it ends in as many as there are variables. One more than a length is noted, and that is not counted again.
+fn chain_length(lent: &Lent, v: TVar, lengths: &[u32]) -> Option<u32>
+    requires { Noted lent.now.words.now lent.now.used lengths.now }
+    ensures { MatchOption result (chain_fine lent.now.words.now lent.now.used v.0 ≡ false) (λ n. Links lent.now.words.now lent.now.used v.0 n) }
 {
-    let many = u.vars;
     let mut cur = v;
-    let mut n: u32 = 0;
-    while n <= many {
+    for n in 0..lent.used.vars + 1 {
         let known = noted(lengths, cur);
         if 0 < known {
-            return n + (known - 1);
+            return Some(n + (known - 1));
         }
-        let next = next_at(w, u, cur);
-        match next {
-            Next::Last => {
-                return n;
-            }
-            Next::To(x) => {
-                cur = x;
-            }
+        match next_at(lent, cur) {
+            None => return Some(n),
+            Some(x) => cur = x,
         }
-        n = n + 1;
     }
-    n
+    None
 }
 
 // Notes the lengths of v's chain, which has n bindings, and of its links, up to one that is noted.
-fn note_chain(w: &[u32], u: Used, v: TVar, n: u32, lengths: &mut [u32])
-    requires { Sized w.now u × (Noted w.now u lengths.old × ((n ≤ u.vars) × Links w.now u v.0 n)) }
-    ensures { Noted w.now u lengths.new }
+fn note_chain(lent: &Lent, v: TVar, n: u32, lengths: &mut [u32])
+    requires { Noted lent.now.words.now lent.now.used lengths.old × ((n ≤ lent.now.used.vars) × Links lent.now.words.now lent.now.used v.0 n) }
+    ensures { Noted lent.now.words.now lent.now.used lengths.new }
 {
     let mut cur = v;
-    let mut left = n;
-    while 0 < left {
-        let known = noted(lengths, cur);
-        if 0 < known {
+    for done in 0..n {
+        if 0 < noted(lengths, cur) {
             return;
         }
-        note(lengths, cur, left + 1);
-        let next = next_at(w, u, cur);
-        match next {
-            Next::Last => {
-                return;
-            }
-            Next::To(x) => {
-                cur = x;
-            }
+        note(lengths, cur, n - done + 1);
+        match next_at(lent, cur) {
+            None => return,
+            Some(x) => cur = x,
         }
-        left = left - 1;
     }
 }
 
 // Following bindings from v ends in as many steps as there are variables.
-fn chain_fine(w: &[u32], u: Used, v: TVar, lengths: &mut [u32]) -> bool
-    requires { Sized w.now u × Noted w.now u lengths.old }
-    ensures { (result ≡ chain_fine w.now u v.0) × Noted w.now u lengths.new }
+fn chain_fine(lent: &Lent, v: TVar, lengths: &mut [u32]) -> bool
+    requires { Noted lent.now.words.now lent.now.used lengths.old }
+    ensures fine { result ≡ chain_fine lent.now.words.now lent.now.used v.0 }
+    ensures kept { Noted lent.now.words.now lent.now.used lengths.new }
 {
-    let n = chain_length(w, u, v, lengths);
-    if u.vars < n {
-        return false;
+    match chain_length(lent, v, lengths) {
+        Some(n) if n <= lent.used.vars => {
+            note_chain(lent, v, n, lengths);
+            true
+        }
+        _ => false,
     }
-    note_chain(w, u, v, n, lengths);
-    true
 }
 
 // .. so for every variable. With the lengths noted, each binding is followed twice at most.
-fn chains_fine(w: &[u32], u: Used) -> bool
-    requires { Sized w.now u }
-    ensures { result ≡ all_below u.vars (chain_fine w.now u) }
+fn chains_fine(lent: &Lent) -> bool
+    ensures { result ≡ all_below lent.now.used.vars (chain_fine lent.now.words.now lent.now.used) }
 {
-    let n = u.vars;
-    let mut lengths: [u32; 1024] = [0; 1024];
-    let mut i: u32 = 0;
-    while i < n {
-        if !chain_fine(w, u, TVar(i as u16), &mut lengths) {
+    let mut lengths = [0u32; 1024];
+    for i in 0..lent.used.vars {
+        if !chain_fine(lent, TVar(i as u16), &mut lengths) {
             return false;
         }
-        i = i + 1;
     }
     true
 }
@@ -162,12 +135,10 @@ pub fn sound_state(w: &[u32], params: [[u8; 8]; 256]) -> bool
     if w.len() != WORDS {
         return false;
     }
-    let u = used_of(w);
-    if !counts_fine(u) {
+    let used = used_of(w);
+    if !counts_fine(used) {
         return false;
     }
-    if !tables_fine(w, u, params) {
-        return false;
-    }
-    chains_fine(w, u)
+    let lent = Lent { words: w, used };
+    tables_fine(&lent, &params) && chains_fine(&lent)
 }

@@ -1,3 +1,3 @@
--- Laws of runs of zeros, and of the tables' tests joined. Assumes nothing.
-pub mod Blank
+-- The rows of parameter bytes, and the tables' tests joined. Assumes nothing.
+pub mod Params
 pub mod Tables

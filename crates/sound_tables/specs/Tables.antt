@@ -3,8 +3,6 @@ use Rattle.std.specs.Prelude.{Bool, ◌&&◌, List, [], ℕ, ◌+◌, ◌*◌, �
 use Rattle.table.specs.declared.Used.{Used}
 use Rattle.sound_fields.specs.Fields.{all_below, byte_fine}
 use Rattle.sound_rows.specs.Rows.{struct_fine, node_fine, cell_fine, constraint_fine}
-use Rattle.sound_tables.specs.declared.Table.{Table}
-use Rattle.sound_tables.specs.declared.Table.TheVariants.{Structs, Nodes, Cells, Constraints}
 
 unfoldable pub counts_fine : Used → Bool
 counts_fine u = leb u.nodes 2048 && leb u.args 4096 && leb u.vars 1024 && leb u.constraints 512 && leb u.structs 256
@@ -36,18 +34,6 @@ unfoldable pub bytes_fine : List ℕ → Used → List (List ℕ) → ℕ → Bo
 bytes_fine w u params i = all_below 8 (byte_fine (get_or params i []) (params_at w u i))
 
 -- ---- every row
-
-abbrev pub count_of : Used → Table → ℕ
-count_of u Structs = u.structs
-count_of u Nodes = u.nodes
-count_of u Cells = u.vars
-count_of u Constraints = u.constraints
-
-abbrev pub row_fine : List ℕ → Used → Table → ℕ → Bool
-row_fine w u Structs = struct_fine w
-row_fine w u Nodes = node_fine w u
-row_fine w u Cells = cell_fine w u
-row_fine w u Constraints = constraint_fine w u
 
 -- all but the counts and the chains of bindings
 unfoldable pub tables_fine : List ℕ → Used → List (List ℕ) → Bool

@@ -1,194 +1,121 @@
 // The test for a sound state, table by table: counts, what stands past them, parameter bytes, every row.
 #![tactic(auto)]
 
-ghost use Rattle.std.specs.Prelude.{◌≡◌, ◌≤◌, ◌<◌, length};
+ghost use Rattle.std.specs.Prelude.{◌≡◌, ◌≤◌, length};
 ghost use Rattle.sound_fields.specs.Fields.{all_below};
-ghost use Rattle.sound_rows.specs.Rows.{Sized};
-ghost use Rattle.sound_tables.specs.Tables.{counts_fine, zeros, tails_fine, params_at, bytes_fine, count_of, row_fine, tables_fine};
+ghost use Rattle.sound_rows.specs.Rows.{struct_fine, node_fine, cell_fine, constraint_fine};
+ghost use Rattle.sound_tables.specs.Tables.{counts_fine, zeros, tails_fine, params_at, bytes_fine, tables_fine};
 
 use names::{MAX_ARGS, MAX_CONSTRAINTS, MAX_NODES, MAX_STRUCTS, MAX_VARS};
 use sound_fields::{any_of, bytes_fine};
-use sound_rows::{cell_fine, constraint_fine, node_fine, struct_fine};
-use table::{ARGS_AT, CONSTRAINT_WORDS, CONSTRAINTS_AT, NODE_WORDS, NODES_AT, STRUCT_WORDS, STRUCTS_AT, Used, VAR_WORDS, VARS_AT, WORDS, struct_words_at};
+use sound_rows::Lent;
+use table::{
+    ARGS_AT, CONSTRAINT_WORDS, CONSTRAINTS_AT, NODE_WORDS, NODES_AT, STRUCT_WORDS, STRUCTS_AT,
+    Used, VAR_WORDS, VARS_AT, WORDS, struct_words_at,
+};
 
-// The tables whose rows are tested one by one.
-#[derive(Clone, Copy)]
-enum Table {
-    Structs,
-    Nodes,
-    Cells,
-    Constraints,
-}
-
+#[tactic(auto, unfolding(crate::specs::Tables::counts_fine))]
 pub fn counts_fine(u: Used) -> bool
     ensures { result ≡ counts_fine u }
 {
-    if MAX_NODES < u.nodes {
-        return false;
-    }
-    if MAX_ARGS < u.args {
-        return false;
-    }
-    if MAX_VARS < u.vars {
-        return false;
-    }
-    if MAX_CONSTRAINTS < u.constraints {
-        return false;
-    }
-    u.structs <= MAX_STRUCTS
+    u.nodes <= MAX_NODES
+        && u.args <= MAX_ARGS
+        && u.vars <= MAX_VARS
+        && u.constraints <= MAX_CONSTRAINTS
+        && u.structs <= MAX_STRUCTS
 }
 
 // ---- past the counts
 
-// The words from the first to the last are zero.
+// The words from the first to the last are zero: `|` in place of a branch for each.
 fn zeros(w: &[u32], first: usize, last: usize) -> bool
     requires { (first ≤ last) × (last ≤ length w.now) }
     ensures { result ≡ zeros w.now first last }
 {
-    let mut all: u32 = 0;
-    let mut k: usize = first;
-    while k < last {
-        all = all | w[k];
-        k = k + 1;
-    }
-    all == 0
+    w[first..last].iter().fold(0, |any, x| any | *x) == 0
 }
 
-fn tails_fine(w: &[u32], u: Used) -> bool
-    requires { Sized w.now u }
-    ensures { result ≡ tails_fine w.now u }
+#[tactic(auto, unfolding(crate::specs::Tables::tails_fine))]
+fn tails_fine(lent: &Lent) -> bool
+    ensures { result ≡ tails_fine lent.now.words.now lent.now.used }
 {
-    if !zeros(w, NODES_AT + (u.nodes as usize) * NODE_WORDS, ARGS_AT) {
-        return false;
-    }
-    if !zeros(w, ARGS_AT + (u.args as usize), VARS_AT) {
-        return false;
-    }
-    if !zeros(w, VARS_AT + (u.vars as usize) * VAR_WORDS, CONSTRAINTS_AT) {
-        return false;
-    }
-    if !zeros(
-        w,
-        CONSTRAINTS_AT + (u.constraints as usize) * CONSTRAINT_WORDS,
-        STRUCTS_AT,
-    ) {
-        return false;
-    }
-    zeros(w, STRUCTS_AT + (u.structs as usize) * STRUCT_WORDS, WORDS)
+    let w = lent.words;
+    let u = lent.used;
+    zeros(w, NODES_AT + u.nodes as usize * NODE_WORDS, ARGS_AT)
+        && zeros(w, ARGS_AT + u.args as usize, VARS_AT)
+        && zeros(w, VARS_AT + u.vars as usize * VAR_WORDS, CONSTRAINTS_AT)
+        && zeros(
+            w,
+            CONSTRAINTS_AT + u.constraints as usize * CONSTRAINT_WORDS,
+            STRUCTS_AT,
+        )
+        && zeros(w, STRUCTS_AT + u.structs as usize * STRUCT_WORDS, WORDS)
 }
 
 // ---- parameter bytes
 
 // How many parameters declaration i has; none past the last.
-fn params_at(w: &[u32], u: Used, i: u32) -> u32
-    requires { Sized w.now u }
-    ensures { result ≡ params_at w.now u i }
+#[tactic(auto, unfolding(crate::specs::Tables::params_at))]
+fn params_at(lent: &Lent, i: u32) -> u32
+    ensures { result ≡ params_at lent.now.words.now lent.now.used i }
 {
-    let n = u.structs;
-    if i < n {
-        let r = struct_words_at(w, i);
-        r.params
+    if i < lent.used.structs {
+        struct_words_at(lent.words, i).params
     } else {
         0
     }
 }
 
 // The bytes of the declarations.
-fn given_fine(w: &[u32], u: Used, params: [[u8; 8]; 256]) -> bool
-    requires { Sized w.now u }
-    ensures { result ≡ all_below u.structs (bytes_fine w.now u params) }
+fn given_fine(lent: &Lent, params: &[[u8; 8]; 256]) -> bool
+    ensures { result ≡ all_below lent.now.used.structs (bytes_fine lent.now.words.now lent.now.used params.now) }
 {
-    let n = u.structs;
-    let mut i: u32 = 0;
-    while i < n {
-        let many = params_at(w, u, i);
-        let at = i as usize;
-        let bytes = params[at];
-        if !bytes_fine(bytes, many) {
-            return false;
-        }
-        i = i + 1;
-    }
-    true
+    (0..lent.used.structs).all(|i| bytes_fine(params[i as usize], params_at(lent, i)))
 }
 
-// .. and of the rows past the last declaration, which are zero: `|` in place of a branch for each byte.
-fn params_fine(w: &[u32], u: Used, params: [[u8; 8]; 256]) -> bool
-    requires { Sized w.now u }
-    ensures { result ≡ all_below 256 (bytes_fine w.now u params) }
+// .. and of the rows past the last declaration, which are zero.
+fn params_fine(lent: &Lent, params: &[[u8; 8]; 256]) -> bool
+    ensures { result ≡ all_below 256 (bytes_fine lent.now.words.now lent.now.used params.now) }
 {
-    if !given_fine(w, u, params) {
-        return false;
-    }
-    let mut any: u8 = 0;
-    let mut k = u.structs as usize;
-    while k < 256 {
-        let bytes = params[k];
-        any = any | any_of(bytes);
-        k = k + 1;
-    }
-    any == 0
+    let n = lent.used.structs as usize;
+    given_fine(lent, params) && params[n..].iter().all(|row| any_of(*row) == 0)
 }
 
 // ---- every row
 
-fn count_of(u: Used, table: Table) -> u32
-    ensures { result ≡ count_of u table }
+fn structs_fine(lent: &Lent) -> bool
+    ensures { result ≡ all_below lent.now.used.structs (struct_fine lent.now.words.now) }
 {
-    match table {
-        Table::Structs => u.structs,
-        Table::Nodes => u.nodes,
-        Table::Cells => u.vars,
-        Table::Constraints => u.constraints,
-    }
+    (0..lent.used.structs).all(|i| lent.struct_fine(i))
 }
 
-fn row_fine(w: &[u32], u: Used, table: Table, i: u32) -> bool
-    requires { Sized w.now u × (i < count_of u table) }
-    ensures { result ≡ row_fine w.now u table i }
+fn nodes_fine(lent: &Lent) -> bool
+    ensures { result ≡ all_below lent.now.used.nodes (node_fine lent.now.words.now lent.now.used) }
 {
-    match table {
-        Table::Structs => struct_fine(w, i),
-        Table::Nodes => node_fine(w, u, i),
-        Table::Cells => cell_fine(w, u, i),
-        Table::Constraints => constraint_fine(w, u, i),
-    }
+    (0..lent.used.nodes).all(|t| lent.node_fine(t))
 }
 
-fn rows_fine(w: &[u32], u: Used, table: Table) -> bool
-    requires { Sized w.now u }
-    ensures { result ≡ all_below (count_of u table) (row_fine w.now u table) }
+fn cells_fine(lent: &Lent) -> bool
+    ensures { result ≡ all_below lent.now.used.vars (cell_fine lent.now.words.now lent.now.used) }
 {
-    let n = count_of(u, table);
-    let mut i: u32 = 0;
-    while i < n {
-        if !row_fine(w, u, table, i) {
-            return false;
-        }
-        i = i + 1;
-    }
-    true
+    (0..lent.used.vars).all(|v| lent.cell_fine(v))
+}
+
+fn constraints_fine(lent: &Lent) -> bool
+    ensures { result ≡ all_below lent.now.used.constraints (constraint_fine lent.now.words.now lent.now.used) }
+{
+    (0..lent.used.constraints).all(|i| lent.constraint_fine(i))
 }
 
 // All but the counts and the chains of bindings.
-pub fn tables_fine(w: &[u32], u: Used, params: [[u8; 8]; 256]) -> bool
-    requires { Sized w.now u }
-    ensures { result ≡ tables_fine w.now u params }
+#[tactic(auto, unfolding(crate::specs::Tables::tables_fine))]
+pub fn tables_fine(lent: &Lent, params: &[[u8; 8]; 256]) -> bool
+    ensures { result ≡ tables_fine lent.now.words.now lent.now.used params.now }
 {
-    if !tails_fine(w, u) {
-        return false;
-    }
-    if !rows_fine(w, u, Table::Structs) {
-        return false;
-    }
-    if !params_fine(w, u, params) {
-        return false;
-    }
-    if !rows_fine(w, u, Table::Nodes) {
-        return false;
-    }
-    if !rows_fine(w, u, Table::Cells) {
-        return false;
-    }
-    rows_fine(w, u, Table::Constraints)
+    tails_fine(lent)
+        && structs_fine(lent)
+        && params_fine(lent, params)
+        && nodes_fine(lent)
+        && cells_fine(lent)
+        && constraints_fine(lent)
 }

@@ -1,14 +1,11 @@
 -- `sound::chain_fine` meets its contract. Assumes nothing.
-use mathlib.Core.Path.{sym}
-use native.Mathlib.Omega.{arith}
+use Rattle.std.proofs.Common.{sym, ◌∙◌, le-leb}
+use Rattle.std.proofs.lemmas.Bool.{lt-leb}
 use Rattle.sound.proofs.Links.{chain_counted}
 use Rattle.sound.proofs.chain_fine.Goals as goal
 
-pub returns-then-u-n : goal.returns-then-u-n
-returns-then-u-n c = (sym (c.chain_length-n.ensures.goes_on c.if-u-n.true), c.requires.1)
+pub returns-in-Some-clause-fine : goal.returns-in-Some-clause-fine
+returns-in-Some-clause-fine c = sym (chain_counted _ _ _ _ c.in-Some.ensures ∙ le-leb _ _ c.if-n-lent.true)
 
-pub note_chain-requires : goal.note_chain-requires
-note_chain-requires c = (c.requires.0, (c.requires.1, (omega arith, c.chain_length-n.ensures.ends (omega arith))))
-
-pub returns : goal.returns
-returns c = (sym (chain_counted _ _ _ _ c.chain_length-n.ensures (omega arith)), c.note_chain.ensures)
+pub returns-in_default-clause-fine : goal.returns-in_default-clause-fine
+returns-in_default-clause-fine c = sym (chain_counted _ _ _ _ c.in-Some.ensures ∙ lt-leb _ _ c.if-n-lent.false)

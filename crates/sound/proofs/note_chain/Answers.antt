@@ -1,38 +1,18 @@
-use mathlib.Core.Path.{refl, ap, sym, ◌∙◌}
-use native.Mathlib.Omega.{arith}
-use lib.ListN.{length-set}
-use Rattle.sound.specs.Chains.{next}
+use Rattle.std.proofs.Common.{◌≡◌, ◌+◌, ◌-◌, subst, sym, ℕ, arith}
+use Rattle.sound.specs.Chains.{Links}
 use Rattle.sound.proofs.Links.{noted_more, links_tail}
 use Rattle.sound.proofs.note_chain.Goals as goal
 
-pub loop-left-init : goal.loop-left-init
-loop-left-init c = (refl, c.requires.1)
+pub returns-in-None : goal.returns-in-None
+returns-in-None c = let loop = c.loop-done in rw c.note.ensures (noted_more _ _ _ _ _ loop.invariant.0 (omega arith) loop.invariant.1)
 
-pub returns-then-known-gt0 : goal.returns-then-known-gt0
-returns-then-known-gt0 c = c.loop-left.invariant.1.0
-
-pub returns-in-Last : goal.returns-in-Last
-returns-in-Last c = let loop = c.loop-left in
-    let note = c.note in
-    rw note.ensures (noted_more _ _ _ _ _ loop.invariant.1.0 loop.invariant.1.1.0 loop.invariant.1.1.1)
-
-pub loop-left-smaller : goal.loop-left-smaller
-loop-left-smaller c = omega arith
-
-pub loop-left-preserved : goal.loop-left-preserved
-loop-left-preserved c = let loop = c.loop-left in
-    let note = c.note in (
-      rw (note.ensures, length-set) loop.invariant.0,
-      (
-        rw note.ensures (noted_more _ _ _ _ _ loop.invariant.1.0 loop.invariant.1.1.0 loop.invariant.1.1.1),
-        (
-          omega arith,
-          links_tail _ _ _ _ _ loop.invariant.1.1.1
-              (sym c.next_at-next.ensures ∙ ap next c.in-To.is)
-              (omega arith),
-        ),
-      ),
+pub loop-done-preserved : goal.loop-done-preserved
+loop-done-preserved c =
+    let loop = c.loop-done in
+    let lent = c.args.lent.now in
+    let left = c.args.n - loop.done in
+    let e : left - 1 ≡ c.args.n - (loop.done + 1) = omega arith in (
+      rw c.note.ensures (noted_more _ _ _ _ _ loop.invariant.0 (omega arith) loop.invariant.1),
+      subst (λ (k : ℕ). Links lent.words.now lent.used c.in-Some.x.0 k) e
+          (links_tail _ _ _ _ _ loop.invariant.1 (sym c.in-Some.ensures) (omega arith)),
     )
-
-pub returns : goal.returns
-returns c = c.loop-left.invariant.1.0

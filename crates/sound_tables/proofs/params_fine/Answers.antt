@@ -1,23 +1,20 @@
-use mathlib.Core.Path.{sym, ◌∙◌}
-use native.Mathlib.Omega.{arith}
-use Rattle.sound_fields.proofs.Below.{fewer_fail}
-use Rattle.sound_tables.proofs.Blank.{blank_none, blank_more, blank_all}
+-- `sound_tables::params_fine` meets its contract. Assumes nothing.
+use Rattle.std.proofs.Common.{◌∙◌, sym, rules, tests, arith}
+use Rattle.std.proofs.lemmas.Iterator.{YieldsList-from_slice}
+use Rattle.std.proofs.lemmas.Iterator.Search.{all_from_yields_List}
+use Rattle.sound_fields.proofs.Below.{fails_l, passes}
+use Rattle.sound_tables.proofs.Params.{blank, params_split}
 use Rattle.sound_tables.proofs.params_fine.Goals as goal
 
-pub returns-then-not-given_fine : goal.returns-then-not-given_fine
-returns-then-not-given_fine c = sym (fewer_fail _ _ _ (let h = c.requires in omega arith) (sym c.given_fine.ensures ∙ c.if-not-given_fine.true))
+pub returns-then-given_fine : goal.returns-then-given_fine
+returns-then-given_fine c =
+    let lent = c.args.lent.now in
+    all_from_yields_List blank _ _ _ c.all.ensures.ran (YieldsList-from_slice _ cc) (λ x b q k. search (rules, tests))
+    ∙ passes _ _ (sym c.given_fine.ensures ∙ c.if-given_fine.true)
+    ∙ sym (params_split lent.words.now lent.used c.args.params.now (search rules) (omega arith))
 
-pub loop-k-init : goal.loop-k-init
-loop-k-init c = blank_none _ _ (let h = c.requires in omega arith)
-
-pub overflow_add-k : goal.overflow_add-k
-overflow_add-k c = omega arith
-
-pub loop-k-smaller : goal.loop-k-smaller
-loop-k-smaller c = omega arith
-
-pub loop-k-preserved : goal.loop-k-preserved
-loop-k-preserved c = blank_more _ _ _ _ _ c.loop-k.invariant c.loop-k-test.true c.any_of-any.ensures
-
-pub returns : goal.returns
-returns c = blank_all _ _ _ _ _ c.loop-k.invariant (omega arith) (sym c.given_fine.ensures ∙ c.if-not-given_fine.false)
+pub returns-else-given_fine : goal.returns-else-given_fine
+returns-else-given_fine c =
+    let lent = c.args.lent.now in
+    c.if-given_fine.false
+    ∙ sym (params_split lent.words.now lent.used c.args.params.now (search rules) (omega arith) ∙ fails_l _ _ (sym c.given_fine.ensures ∙ c.if-given_fine.false))

@@ -1,23 +1,14 @@
-use mathlib.Core.Path.{◌≡◌, sym, ap, ◌∙◌}
-use Prim.Native.Nat.{ℕ, ◌-◌}
-use native.Mathlib.Omega.{arith}
-use Rattle.sound_fields.specs.Fields.{all_below}
-use Rattle.sound_tables.specs.Tables.{zero_at, zeros}
-use Rattle.sound_tables.proofs.Blank.{one_more, none_yet}
+-- `sound_tables::zeros` meets its contract. Assumes nothing.
+use Rattle.std.proofs.Common.{◌≡◌, ◌∙◌, ℕ, ap, eqb, bit_or, rules}
+use Rattle.std.specs.List.{fold, between}
+use Rattle.sound_fields.proofs.Below.{all_between}
+use Rattle.sound_fields.proofs.Ors.{or_folded}
+use Rattle.sound_tables.specs.Tables.{zeros, zero_at}
 use Rattle.sound_tables.proofs.zeros.Goals as goal
 
-pub loop-k-init : goal.loop-k-init
-loop-k-init c = (omega arith, (omega arith, none_yet _ _))
-
-pub overflow_add-k : goal.overflow_add-k
-overflow_add-k c = omega arith
-
-pub loop-k-smaller : goal.loop-k-smaller
-loop-k-smaller c = omega arith
-
-pub loop-k-preserved : goal.loop-k-preserved
-loop-k-preserved c = (omega arith, (omega arith, one_more _ _ _ c.loop-k.all c.loop-k.invariant.0 c.loop-k.invariant.1.1))
-
 pub returns : goal.returns
-unfolding zeros
-returns c = sym (ap (λ (n : ℕ). all_below (n - c.args.first) (zero_at c.args.w.now c.args.first)) (let p : c.args.last ≡ c.loop-k.k = omega arith in p) ∙ c.loop-k.invariant.1.1)
+unfolding zeros zero_at
+returns c =
+    let part = between c.args.first c.args.last c.args.w.now in
+    let e : c.fold.result ≡ fold (λ a x. bit_or a x) 0 part = search rules in
+    ap (λ (x : ℕ). eqb x 0) e ∙ or_folded (λ x. x) part 0 ∙ all_between (λ x. eqb x 0) 0 c.args.w.now c.args.first c.args.last c.requires.1
