@@ -13,7 +13,10 @@ ghost use Rattle.writer.specs.Bytes.{AllBytes};
 ghost use Rattle.payload.specs.Payload.{reply, Shows};
 ghost use Rattle.answer.specs.Ran.{Tells, Settles, Still, answered, success, failure, refused_by, Answers};
 
-use payload::{Answer, MAX_PAYLOAD, Show, as_before, as_left, shown_size, two_size, write_location, write_shown, write_two};
+use payload::{
+    Answer, MAX_PAYLOAD, Show, as_before, as_left, shown_size, two_size, write_location,
+    write_shown, write_two,
+};
 use snapshot::{give_back, put_vars, undo};
 use table::{Out, Refusal, TypingError, Used};
 

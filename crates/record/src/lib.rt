@@ -11,7 +11,10 @@ ghost use Rattle.marks.specs.Marks.{reader_of};
 ghost use Rattle.fields.specs.Noded.{FieldsAre, RecordIs, paired_fields};
 
 use cursor::{Number, end_of};
-use fields::{Fields, Look, What, Whole, plain, read_in, read_loc, read_loc_type, read_look, read_nc, read_rm, read_sd, read_sn, read_two, whole_of};
+use fields::{
+    Fields, Look, What, Whole, plain, read_in, read_loc, read_loc_type, read_look, read_nc,
+    read_rm, read_sd, read_sn, read_two, whole_of,
+};
 use heads::{byte_to, read_number, read_numbers};
 use marks::{RecordMark, mark_of};
 use names::TParamID;

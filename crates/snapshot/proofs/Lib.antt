@@ -1,4 +1,5 @@
 -- Laws of the snapshot's return. Assumes nothing.
+pub mod Parts
 pub mod Saving
 pub mod Back
 pub mod Tails

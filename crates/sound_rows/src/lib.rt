@@ -5,8 +5,12 @@ ghost use Rattle.std.specs.Prelude.{◌≡◌, ◌+◌, ◌≤◌, ◌<◌};
 ghost use Rattle.sound_fields.specs.Fields.{all_below};
 ghost use Rattle.sound_rows.specs.Rows.{Sized, struct_fine, args_fine, part_fine, apply_fine, shape_fine, node_fine, binding_fine, cell_fine, constraint_fine};
 
-use sound_fields::{fits_fine, four_zeros, mark_fine, name_fine, numeric_fine, param_fine, ref_fine, var_fine};
-use table::{ARGS_AT, NodeWords, Used, cell_words_at, constraint_words_at, node_words_at, struct_words_at};
+use sound_fields::{
+    fits_fine, four_zeros, mark_fine, name_fine, numeric_fine, param_fine, ref_fine, var_fine,
+};
+use table::{
+    ARGS_AT, NodeWords, Used, cell_words_at, constraint_words_at, node_words_at, struct_words_at,
+};
 
 // A lent state: its words, and how many rows of each table are in use.
 #[derive(Clone, Copy)]

@@ -4,8 +4,7 @@
 use mathlib.Core.Path.{◌≡◌, refl, sym, ap, ◌∙◌, subst}
 use mathlib.Core.Bool.{Bool, true, false}
 use mathlib.Core.List.{List, [], ◌∷◌, ◌++◌}
-use Rattle.std.specs.Prelude.{Option, Some}
-use Rattle.std.specs.Prelude as option
+use Rattle.std.specs.Prelude.{Option, None, Some}
 use Prim.Native.Nat.{ℕ, zero, suc, ◌+◌, ◌-◌, ◌≤◌}
 use native.Mathlib.Omega.{arith}
 use lib.Dec.{leb, ltb}
@@ -69,8 +68,8 @@ module _ {A : Type 0} {P : List Cell → Type 0} where
   either_leaves true x y = x
   either_leaves false x y = y
 
-  option_leaves : (o : Option ℕ) {x : Result (State × A)} {k : ℕ → Result (State × A)} → Leaves P x → ((t : ℕ) → Leaves P (k t)) → Leaves {A = A} P (elim o [ option.none ↦ x | Some t ↦ k t ])
-  option_leaves option.none x k = x
+  option_leaves : (o : Option ℕ) {x : Result (State × A)} {k : ℕ → Result (State × A)} → Leaves P x → ((t : ℕ) → Leaves P (k t)) → Leaves {A = A} P (elim o [ None ↦ x | Some t ↦ k t ])
+  option_leaves None x k = x
   option_leaves (Some t) x k = k t
 
 -- ---- only nodes are taken
@@ -179,13 +178,13 @@ front_set (x ∷ l) m zero c h = absurd (omega arith)
 front_set (x ∷ l) m (suc v) c h = let f = front_set l m v c (omega arith) in record { rest = f.rest; is = ap (λ (k : List Cell). x ∷ k) f.is }
 
 -- a variable that was just taken is bound to nothing, so it alone is marked
-new_get : (s : State) → get (with_var s) (length s.vars) ≡ option.none
+new_get : (s : State) → get (with_var s) (length s.vars) ≡ None
 unfolding get with_var with_vars
 new_get s = ap (λ (c : Cell). c.binding) (get_or_at s.vars unbound [] unbound (length s.vars) refl)
 
-mark_last : (s : State) (n v loc : ℕ) → next_of s v ≡ option.none → mark_chain (suc n) s v loc ≡ mark_one s v loc
+mark_last : (s : State) (n v loc : ℕ) → next_of s v ≡ None → mark_chain (suc n) s v loc ≡ mark_one s v loc
 unfolding mark_chain
-mark_last s n v loc e = ap (λ (o : Option ℕ). elim o [ option.none ↦ mark_one s v loc | Some next ↦ mark_chain n (mark_one s v loc) next loc ]) e
+mark_last s n v loc e = ap (λ (o : Option ℕ). elim o [ None ↦ mark_one s v loc | Some next ↦ mark_chain n (mark_one s v loc) next loc ]) e
 
 new_front : (s : State) → Front s.vars (with_var s).vars
 unfolding with_var with_vars
@@ -208,7 +207,7 @@ add_leaves {P} s c p = go (ltb (length s.constraints) max_constraints)
 
 tell_leaves : {P : List Cell → Type 0} (s : State) (n : Option Needs) → P s.vars → Leaves P (definition.tell s n)
 unfolding definition.tell
-tell_leaves s option.none p = l_refused
+tell_leaves s None p = l_refused
 tell_leaves s (Some n) p = l_ok p
 
 declare_leaves : (s : State) (a : ℕ) (ps : List ℕ) → Leaves (Front s.vars) (store.declare s a ps)

@@ -45,7 +45,7 @@ wrote_paste : (w : List ℕ) (at : ℕ) (r : List ℕ) (n : ℕ) → n ≤ lengt
 wrote_paste w at r zero h g = subst (λ (v : List ℕ). Wrote w at 0 r v) (paste_none w at r) (wrote_none w at r)
 wrote_paste w at r (suc n) h g =
     let more : Wrote w at (n + 1) r (paste w at r (n + 1)) =
-        subst (λ (v : List ℕ). Wrote w at (n + 1) r v) (paste_more w at r n 0 (omega arith) (omega arith)) (wrote_more w at n r (paste w at r n) (wrote_paste w at r n (omega arith) (omega arith)) (omega arith)) in
+    subst (λ (v : List ℕ). Wrote w at (n + 1) r v) (paste_more w at r n 0 (omega arith) (omega arith)) (wrote_more w at n r (paste w at r n) (wrote_paste w at r n (omega arith) (omega arith)) (omega arith)) in
     subst (λ (m : ℕ). Wrote w at m r (paste w at r m)) (add-one n) more
 
 -- .. or all at once

@@ -5,7 +5,6 @@ use Rattle.table.proofs.row_of.Goals as goal
 pub returns-in-Unit : goal.returns-in-Unit
 returns-in-Unit c = rw c.in-Unit.is (unit_row _)
 
-
 pub returns-in-Ref : goal.returns-in-Ref
 returns-in-Ref c = rw c.in-Ref.is (ref_row _ _ _ _ (flag_byte _))
 

@@ -1,0 +1,22 @@
+-- A part of the words, written as one. Assumes nothing.
+use Rattle.std.proofs.Common.{◌≡◌, ℕ, ◌+◌, ◌-◌, ◌≤◌, ◌<◌, List, length, get_or, arith, rules}
+use Rattle.std.proofs.lemmas.List.{places}
+use native.Mathlib.Decide.{dec_lt}
+use borrow.Rule.Slice.PartMut.{put_mid}
+use Rattle.table.specs.State.{Wrote}
+
+module _ (w : List ℕ) (at n : ℕ) (row ys : List ℕ) (within : at + n ≤ length w) (long : length ys ≡ n) (same : (k : ℕ) → k < n → get_or ys k 0 ≡ get_or row k 0) where
+  wrote_mid : Wrote w at n row (put_mid at n w ys)
+  wrote_mid = record { size = search (rules, places); here = λ k p. here k p; there = λ j f. by j f (dec_lt j at) (dec_lt j (at + n)) }
+    where
+      here : (k : ℕ) → k < n → get_or (put_mid at n w ys) (at + k) 0 ≡ get_or row k 0
+      here k p = let e = same k p in grind (arith, places)
+
+      by : (j : ℕ) → ((k : ℕ) → k < n → j ≡ at + k → ⊥) → Dec (j < at) → Dec (j < at + n) → get_or (put_mid at n w ys) j 0 ≡ get_or w j 0
+      by j f (yes p) q = grind (arith, places)
+      by j f (no p) (yes q) = absurd (f (j - at) (omega arith) (omega arith))
+      by j f (no p) (no q) = grind (arith, places)
+
+  -- .. as the part from place `at` to `at + n`
+  pub wrote_part : Wrote w at n row (put_mid at (at + n - at) w ys)
+  wrote_part = let e : at + n - at ≡ n = omega arith in rw e wrote_mid
