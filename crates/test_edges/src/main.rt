@@ -10,33 +10,17 @@ use std::io;
 use std::io::{Read, Write};
 use table::WORDS;
 
-fn wide(x: u8) -> usize
-    ensures { result < 256 }
-{
-    x as usize
-}
-
-fn size_at(b: &[u8], at: usize) -> usize
-    requires { at + 4 ≤ length b.now }
-    ensures { result < 4294967296 }
-{
-    let low = wide(b[at]) + 256 * wide(b[at + 1]);
-    let high = wide(b[at + 2]) + 256 * wide(b[at + 3]);
-    low + 65536 * high
-}
+// How many bytes the jobs may have, and a log.
+const ROOM: usize = 262144;
 
 // The place after the first line end.
 fn after_line(b: &[u8]) -> usize
     ensures { result ≤ length b.now }
 {
-    let mut at: usize = 0;
-    while at < b.len() {
-        if b[at] == b'\n' {
-            return at + 1;
-        }
-        at = at + 1;
+    match b.iter().position(|x| *x == b'\n') {
+        Some(at) => at + 1,
+        None => b.len(),
     }
-    at
 }
 
 // Where the last seven of the lines up to n begin.
@@ -44,18 +28,16 @@ fn last_lines(log: &[u8], n: usize) -> usize
     requires { n ≤ length log.now }
     ensures { result ≤ n }
 {
-    let mut at = n;
     let mut left: u32 = 7;
-    while 0 < at {
-        if log[at - 1] == b'\n' {
+    for at in (0..n).rev() {
+        if log[at] == b'\n' {
             if left == 0 {
-                return at;
+                return at + 1;
             }
-            left = left - 1;
+            left -= 1;
         }
-        at = at - 1;
     }
-    at
+    0
 }
 
 // The stream's log; how many bytes it has.
@@ -86,31 +68,18 @@ fn log_of(stream: &[u8], log: &mut [u8]) -> usize
 
 // ---- the same records one by one
 
-fn byte_at(b: &[u8], at: usize) -> u8 {
-    if at < b.len() { b[at] } else { 0 }
-}
-
 // The place after byte b if b stands at place `at`; else the log's end, where no line of these jobs ends.
 fn after_byte(log: &[u8], at: usize, b: u8) -> usize {
-    if at < log.len() {
-        if log[at] == b {
-            return at + 1;
-        }
+    match log.get(at) {
+        Some(x) if *x == b => at + 1,
+        _ => log.len(),
     }
-    log.len()
 }
 
 fn digit(x: u32) -> u8
-    requires { x < 10 }
-{
-    48 + x as u8
-}
-
-// 0 to 9, then a to f.
-fn hex_digit(x: usize) -> u8
     requires { x < 16 }
 {
-    if x < 10 { 48 + x as u8 } else { 87 + x as u8 }
+    b"0123456789abcdef"[x as usize]
 }
 
 // The place after the number x in decimal.
@@ -128,12 +97,10 @@ fn after_payload(log: &[u8], at: usize, answer: &[u8], len: u32) -> usize {
         return at;
     }
     let mut next = after_byte(log, at, b' ');
-    let mut k: u32 = 0;
-    while k < len {
-        let b = wide(byte_at(answer, k as usize));
-        let high = after_byte(log, next, hex_digit(b / 16));
-        next = after_byte(log, high, hex_digit(b % 16));
-        k = k + 1;
+    for byte in answer.iter().take(len as usize) {
+        let b = u32::from(*byte);
+        let high = after_byte(log, next, digit(b / 16));
+        next = after_byte(log, high, digit(b % 16));
     }
     next
 }
@@ -208,7 +175,7 @@ fn agrees(
         let e = one_record(stream, at, state, params, answer, log, line, i);
         at = e.record;
         line = e.line;
-        i = std::num::wrapping_add_u32(i, 1);
+        i = i.wrapping_add(1);
     }
     line == n
 }
@@ -232,24 +199,15 @@ fn run_job(mut out: io::Stdout, job: &[u8], log: &mut [u8]) -> io::Result<()> {
 }
 
 fn run_jobs(out: io::Stdout, jobs: &[u8], log: &mut [u8]) -> io::Result<()> {
-    let mut at: usize = 0;
-    while 4 <= jobs.len() - at {
-        let size = size_at(jobs, at);
-        at = at + 4;
-        if jobs.len() - at < size {
+    let mut rest = jobs;
+    while let Some((size, after)) = rest.split_first_chunk::<4>() {
+        let Some((job, next)) = after.split_at_checked(u32::from_le_bytes(*size) as usize) else {
             return Ok(());
-        }
-        let end = at + size;
-        run_job(out, &jobs[at..end], log)?;
-        at = end;
+        };
+        run_job(out, job, log)?;
+        rest = next;
     }
     Ok(())
-}
-
-fn room() -> [u8; 262144]
-    ensures { 262144 ≡ length result }
-{
-    [0; 262144]
 }
 
 // Fills the buffer as far as the input goes; how many bytes that is.
@@ -262,14 +220,14 @@ fn read_full(mut input: io::Stdin, buf: &mut [u8]) -> io::Result<usize>
         if got == 0 {
             return Ok(n);
         }
-        n = n + got;
+        n += got;
     }
     Ok(n)
 }
 
 fn main(rt: HostRuntime) -> io::Result<()> {
-    let mut buf = room();
-    let mut log = room();
+    let mut buf = [0u8; ROOM];
+    let mut log = [0u8; ROOM];
     let n = read_full(rt.stdin(), &mut buf)?;
     run_jobs(rt.stdout(), &buf[0..n], &mut log)
 }

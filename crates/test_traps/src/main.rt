@@ -7,12 +7,11 @@ ghost use Rattle.table.specs.State.{Lay};
 
 use names::TVar;
 use std::io;
-use std::io::Write;
 use table::{ARGS_AT, NODE_WORDS, NODES_AT, Used, VAR_WORDS, VARS_AT, WORDS};
 
 fn put(w: &mut [u32], i: usize, x: u32) {
-    if i < w.len() {
-        w[i] = x;
+    if let Some(word) = w.get_mut(i) {
+        *word = x;
     }
 }
 
@@ -26,10 +25,8 @@ fn put_list(w: &mut [u32], t: u32, part: u32, node: u32)
     put(w, at + 3, 8);
     put(w, at + 4, first);
     put(w, at + 5, 8);
-    let mut i: usize = 0;
-    while i < 8 {
+    for i in 0..8 {
         put(w, ARGS_AT + first as usize + i, part);
-        i = i + 1;
     }
 }
 
@@ -38,10 +35,8 @@ fn ladder(w: &mut [u32]) {
     put(w, 0, 201);
     put(w, 1, 1600);
     put(w, 2, 1);
-    let mut k: u32 = 0;
-    while k < 200 {
+    for k in 0..200 {
         put_list(w, k, k, k + 1);
-        k = k + 1;
     }
 }
 
@@ -50,8 +45,7 @@ fn tower(w: &mut [u32]) {
     put(w, 0, 61);
     put(w, 1, 240);
     put(w, 2, 31);
-    let mut i: u32 = 0;
-    while i < 30 {
+    for i in 0..30 {
         let at = NODES_AT + i as usize * 12;
         put(w, at, 6);
         put(w, at + 2, i + 1);
@@ -59,41 +53,52 @@ fn tower(w: &mut [u32]) {
         let row = VARS_AT + i as usize * VAR_WORDS;
         put(w, row, 1);
         put(w, row + 1, i * 2 + 1);
-        i = i + 1;
     }
     // The last node is variable 0.
     put(w, 365, 6);
 }
 
-fn digit(b: bool) -> u8 {
-    if b { b'1' } else { b'0' }
+// What the walks answer: whether variable 0 occurs in a node, and whether the node runs into itself.
+#[derive(Clone, Copy)]
+struct Answers {
+    used: bool,
+    itself: bool,
 }
 
 // Asked many times over, so that a walk that is not quick is seen.
-fn walks(w: &[u32], u: Used, t: u32) -> [u8; 6]
+fn walks(w: &[u32], u: Used, t: u32) -> Answers
     requires { Lay w.now u × (t < u.nodes) }
 {
-    let mut used = false;
-    let mut itself = false;
-    let mut turns: u32 = 0;
-    while turns < 10000 {
-        used = subst::used_tvars(w, u, TVar(0), t);
-        itself = ends::reaches_itself(w, u, t);
-        turns = turns + 1;
+    let mut last = Answers {
+        used: false,
+        itself: false,
+    };
+    for _ in 0..10000 {
+        last = Answers {
+            used: subst::used_tvars(w, u, TVar(0), t),
+            itself: ends::reaches_itself(w, u, t),
+        };
     }
-    [b'1', b' ', digit(used), b' ', digit(itself), b'\n']
+    last
 }
 
-fn ask(w: &[u32]) -> [u8; 6] {
-    let params = [[0u8; 8]; 256];
-    if sound::sound_state(w, params) {
-        let u = sound::used_of(w);
-        let n = u.nodes;
-        if 0 < n {
-            return walks(w, u, n - 1);
-        }
+// The walks' answers for the last node, if the state is sound and has one.
+fn ask(w: &[u32]) -> Option<Answers> {
+    if !sound::sound_state(w, [[0u8; 8]; 256]) {
+        return None;
     }
-    [b'0', b' ', b'-', b' ', b'-', b'\n']
+    let u = sound::used_of(w);
+    if u.nodes == 0 {
+        return None;
+    }
+    Some(walks(w, u, u.nodes - 1))
+}
+
+fn print(rt: &HostRuntime, w: &[u32]) -> io::Result<()> {
+    match ask(w) {
+        Some(a) => println!(rt; "1 {} {}", u8::from(a.used), u8::from(a.itself)),
+        None => println!(rt; "0 - -"),
+    }
 }
 
 fn main(rt: HostRuntime) -> io::Result<()> {
@@ -101,8 +106,6 @@ fn main(rt: HostRuntime) -> io::Result<()> {
     let mut two = [0u32; WORDS];
     ladder(&mut one);
     tower(&mut two);
-    let line = ask(&one);
-    rt.stdout().write_all(&line)?;
-    let next = ask(&two);
-    rt.stdout().write_all(&next)
+    print(&rt, &one)?;
+    print(&rt, &two)
 }

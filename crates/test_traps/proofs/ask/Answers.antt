@@ -5,10 +5,8 @@ use Rattle.sound.proofs.Tested.{lent_says, lent_sized}
 use Rattle.sound.proofs.Lays.{lent_lay}
 use Rattle.test_traps.proofs.ask.Goals as goal
 
--- src/main.rt:85:13
 pub used_of-u-requires : goal.used_of-u-requires
-used_of-u-requires c = (lent_sized _ _ (lent_says _ _ (sym c.sound_state.ensures ∙ c.if-sound_state.true))).size
+used_of-u-requires c = (lent_sized _ _ (lent_says _ _ (sym c.sound_state.ensures ∙ c.if-not-sound_state.false))).size
 
--- src/main.rt:88:13
 pub walks-requires : goal.walks-requires
-walks-requires c = (rw c.used_of-u.ensures (lent_lay _ _ (lent_says _ _ (sym c.sound_state.ensures ∙ c.if-sound_state.true))), omega arith)
+walks-requires c = (rw c.used_of-u.ensures (lent_lay _ _ (lent_says _ _ (sym c.sound_state.ensures ∙ c.if-not-sound_state.false))), omega arith)
