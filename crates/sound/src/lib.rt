@@ -28,7 +28,7 @@ pub fn used_of(w: &[u32]) -> Used
 
 // ---- chains
 
-// The variable that node x is, if it is one.
+// The variable that node x is, if it is one. Its word may be any number, which the definition takes modulo 65,536; `try_from` would refuse it.
 #[tactic(auto, unfolding(crate::specs::Chains::var_at))]
 fn var_at(lent: &Lent, x: u32) -> Option<TVar>
     ensures { next result ≡ var_at lent.now.words.now lent.now.used x }
@@ -117,7 +117,9 @@ fn chain_fine(lent: &Lent, v: TVar, lengths: &mut [u32]) -> bool
 fn chains_fine(lent: &Lent) -> bool
     ensures { result ≡ all_below lent.now.used.vars (chain_fine lent.now.words.now lent.now.used) }
 {
+    // 0 where none is noted, as `table::note` has it: `Option`s would take twice the memory and a second pair of functions.
     let mut lengths = [0u32; 1024];
+    // No `all`: of what its closure changes, the lengths, nothing would be known.
     for i in 0..lent.used.vars {
         if !chain_fine(lent, TVar(i as u16), &mut lengths) {
             return false;

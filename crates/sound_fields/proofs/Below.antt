@@ -87,10 +87,6 @@ all_from (suc n) f h = both (all_below n f) (f n) (all_from n f (λ i p. h i (lt
 pub one_fails : (n : ℕ) (f : ℕ → Bool) (i : ℕ) → i < n → f i ≡ false → all_below n f ≡ false
 one_fails n f i h e = not_passed (all_below n f) (f i) (λ p. all_at n f p i h) e
 
--- .. and so do fewer
-pub fewer_fail : (n m : ℕ) (f : ℕ → Bool) → m ≤ n → all_below m f ≡ false → all_below n f ≡ false
-fewer_fail n m f h e = not_passed (all_below n f) (all_below m f) (λ p. all_from m f (λ i l. all_at n f p i (omega (arith, h, l)))) e
-
 -- tests that agree below n
 pub same_below : (n : ℕ) (f g : ℕ → Bool) → ((i : ℕ) → i < n → f i ≡ g i) → all_below n f ≡ all_below n g
 unfolding all_below
@@ -163,16 +159,10 @@ module _ (n : ℕ) (f : ℕ → Bool) where
     unfolding all_below
     passed_more h e = record { few = omega arith; all = rw add-one (both (all_below i f) (f i) p.all e) }
 
-    pub passed_all : n ≤ i → true ≡ all_below n f
-    passed_all h = let z : i ≡ n = (let k = p.few in omega arith) in sym (rw z at p.all)
-
 -- ---- what a test decides
 
 pub passes : (a b : Bool) → a ≡ true → b ≡ a && b
 passes a b e = rw e refl
-
-pub fails_then : (a b : Bool) → a ≡ true → b ≡ false → a && b ≡ false
-fails_then a b e f = fails_r a b f
 
 -- a name's number is small
 pub name_small : (u : Used) (tag b : ℕ) → u.structs ≤ 256 → name_fine u tag b ≡ true → b < 256

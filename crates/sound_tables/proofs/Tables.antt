@@ -1,13 +1,13 @@
 -- The tests of the tables, one by one and joined. Assumes nothing.
-use mathlib.Core.Path.{◌≡◌, sym}
-use mathlib.Core.Bool.{Bool, true, false, ◌&&◌}
+use mathlib.Core.Path.{◌≡◌}
+use mathlib.Core.Bool.{Bool, true, ◌&&◌}
 use mathlib.Core.List.{List}
 use Prim.Native.Nat.{ℕ}
 use Rattle.table.specs.declared.Used.{Used}
 use Rattle.sound_fields.specs.Fields.{all_below}
 use Rattle.sound_rows.specs.Rows.{struct_fine, node_fine, cell_fine, constraint_fine}
 use Rattle.sound_tables.specs.Tables.{tails_fine, bytes_fine, tables_fine}
-use Rattle.sound_fields.proofs.Below.{and_l, and_r, both, not_passed}
+use Rattle.sound_fields.proofs.Below.{and_l, and_r, both}
 
 pub record Tables (w : List ℕ) (u : Used) (p : List (List ℕ)) : Type 0 where
   pub tails : tails_fine w u ≡ true
@@ -43,7 +43,3 @@ module _ (w : List ℕ) (u : Used) (p : List (List ℕ)) where
   pub tables_are : Tables w u p → tables_fine w u p ≡ true
   unfolding tables_fine
   tables_are h = both _ _ (both _ _ (both _ _ (both _ _ (both _ _ h.tails h.structs) h.bytes) h.nodes) h.cells) h.constraints
-
-  -- one test fails
-  pub no_table : (b : Bool) → (Tables w u p → b ≡ true) → b ≡ false → false ≡ tables_fine w u p
-  no_table b g f = sym (not_passed (tables_fine w u p) b (λ e. g (tables_say e)) f)

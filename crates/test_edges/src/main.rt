@@ -82,7 +82,7 @@ fn digit(x: u32) -> u8
     b"0123456789abcdef"[x as usize]
 }
 
-// The place after the number x in decimal.
+// The place after the number x in decimal. Digit by digit: a text of it to compare with would be no shorter.
 fn after_number(log: &[u8], at: usize, x: u32) -> usize {
     if x < 10 {
         return after_byte(log, at, digit(x));
