@@ -27,6 +27,8 @@ def needs():
         if ':' in line and not line.startswith('#'):
             name, rest = line.split(':')
             listed[name.split()[0]] = rest.split()
+    for name in listed: # the kit's libraries are left out
+        listed[name] = [d for d in listed[name] if d in listed]
 
     def below(name):
         return set(listed[name]).union(*map(below, listed[name]))

@@ -1,16 +1,14 @@
 -- Zeros are the words and the parameter bytes of a fresh state, which is sound. Assumes nothing.
--- First the words of each table without entries, all zeros; then what the call's test chooses; then the loop that clears words (`Cleared`: the first i are zeros).
+-- First the words of each table without entries, all zeros; then what the call's test chooses.
 use mathlib.Core.Path.{◌≡◌, refl, sym, ap, ap₂, ◌∙◌}
 use mathlib.Core.Bool.{Bool, true, false}
 use mathlib.Core.List.{List, [], ◌∷◌, ◌++◌, append-nil, append_assoc}
-use Prim.Native.Nat.{ℕ, zero, suc, ◌+◌, ◌*◌, ◌≤◌, ◌<◌}
+use Prim.Native.Nat.{ℕ, zero, suc, ◌+◌, ◌*◌}
 use native.Mathlib.Nat.{zero-mul, suc-mul}
-use native.Mathlib.Numerals.{add-one}
 use native.Mathlib.Omega.{arith}
 use borrow.Author.Tests.{eq-eqb, ne_eqb}
 use lib.Dec.{eqb}
-use lib.ListN.{length, replicate, take, set, length-set}
-use lib.Seq.{take_all, take-suc-set}
+use lib.ListN.{length, replicate}
 use Rattle.definition.specs.Types.{fresh}
 use Rattle.definition.specs.Write.{Bytes}
 use Rattle.theorems.proofs.SoundKept.{fresh_sound}
@@ -96,30 +94,3 @@ from_fresh w p stream room more n w' p' e f = chosen w p stream room more (eq-eq
 -- of another length: as for any words that no state has
 pub not_fresh : (w : List ℕ) (p : List (List ℕ)) (stream : Bytes) (room : ℕ) (more : Bool) → (length w ≡ 24069 → ⊥) → fresh_lines w p stream room more ≡ lent_lines w p 0 stream room more
 not_fresh w p stream room more n = chosen w p stream room more (ne_eqb (length w) 24069 n)
-
--- ---- words cleared one by one
-
--- the first i words are zeros
-pub record Cleared (w : List ℕ) (i : ℕ) (w' : List ℕ) : Type 0 where
-  pub size : length w' ≡ length w
-  pub within : i ≤ length w
-  pub front : take i w' ≡ replicate i 0
-
-pub cleared_none : (w : List ℕ) → Cleared w 0 w
-cleared_none w = record { size = refl; within = omega arith; front = refl }
-
-pub cleared_more : {w : List ℕ} {i : ℕ} {w' : List ℕ} → Cleared w i w' → i < length w → Cleared w (i + 1) (set w' i 0)
-unfolding zeros
-cleared_more {w} {i} {w'} c h =
-    let inside : i < length w' = omega (arith, c.size) in
-    record {
-      size = simp length-set c.size;
-      within = omega arith;
-      front = rw add-one (take-suc-set w' i 0 inside ∙ ap (λ (l : List ℕ). l ++ (0 ∷ [])) c.front ∙ zeros_after i 1 ∙ ap zeros (add-one i));
-    }
-
-pub cleared_all : {w : List ℕ} {i : ℕ} {w' : List ℕ} → Cleared w i w' → length w ≤ i → w' ≡ replicate (length w) 0
-cleared_all {w} {i} {w'} c h =
-    let e : i ≡ length w = omega (arith, c.within) in
-    let all : length w' ≤ i = omega (arith, c.size) in
-    sym (take_all i w' all) ∙ c.front ∙ ap (λ (n : ℕ). replicate n 0) e

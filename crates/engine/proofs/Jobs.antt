@@ -3,10 +3,11 @@
 use mathlib.Core.Path.{◌≡◌, refl, sym, ap, ap₂, ◌∙◌}
 use mathlib.Core.Bool.{Bool, true, false, not, ◌||◌, ◌&&◌}
 use mathlib.Core.List.{List, [], ◌∷◌, ◌++◌, append-nil}
-use Prim.Native.Nat.{ℕ, zero, suc, ◌+◌, ◌-◌, ◌≤◌, ◌<◌}
+use Prim.Native.Nat.{ℕ, suc, ◌+◌, ◌-◌, ◌≤◌, ◌<◌}
 use native.Mathlib.Omega.{arith}
 use lib.Dec.{leb, ltb, leb→le, ltb→lt}
 use lib.ListN.{length, take, drop, length-take, length-drop, length-append, drop_of_length-le}
+use lib.Seq.{take_at, drop-drop, drop-append-add}
 use Rattle.definition.specs.Types.{State}
 use Rattle.definition.specs.Write.{Bytes, IsBytes}
 use Rattle.definition.specs.Record.{max_record}
@@ -25,6 +26,7 @@ use Rattle.log_lines.specs.Line.{Wrote, line_of}
 use Rattle.step.specs.declared.Stepped.{Stepped}
 use Rattle.engine.specs.declared.Lines.{Lines}
 use Rattle.step.specs.Trusted.{held, Stands, answered, unread, Steps}
+use Rattle.step.proofs.Keeping.{bytes_after}
 use Rattle.engine.specs.Lists.{Lists}
 
 -- so far: the words hold the state after the lines in front of the log, and the piece goes on from there
@@ -36,8 +38,8 @@ pub record Going (w₀ : List ℕ) (u₀ : Used) (p₀ : List (List ℕ)) (index
   pub others : log ≡ take n log ++ drop n log₀
   pub is : after_line (take n log) (next_lines i (held w u p) (drop at stream) (length log₀ - n) more) ≡ next_lines index (held w₀ u₀ p₀) stream (length log₀) more
 
-abbrev lines_at : Used → ℕ → ℕ → ℕ → Bool → Lines
-lines_at u at n i ended = record { used = u; read = at; written = n; index = i; ended = ended }
+abbrev lines_at : ℕ → ℕ → ℕ → Bool → Lines
+lines_at at n i ended = record { read = at; written = n; index = i; ended = ended }
 
 pub going_start : (w₀ : List ℕ) (u₀ : Used) (p₀ : List (List ℕ)) (index : ℕ) (stream : Bytes) (more : Bool) (log₀ : Bytes) → Stands w₀ u₀ p₀ → Going w₀ u₀ p₀ index stream more log₀ w₀ u₀ p₀ log₀ 0 0 index
 going_start w₀ u₀ p₀ index stream more log₀ st =
@@ -46,7 +48,7 @@ going_start w₀ u₀ p₀ index stream more log₀ st =
 
 module _ {w₀ : List ℕ} {u₀ : Used} {p₀ : List (List ℕ)} {index : ℕ} {stream : Bytes} {more : Bool} {log₀ w : List ℕ} {u : Used} {p : List (List ℕ)} {log : Bytes} {at n i : ℕ} (g : Going w₀ u₀ p₀ index stream more log₀ w u p log at n i) where
   -- the loop's end: the piece from here on is nothing but a halt
-  halts : (o : Bool) → next_lines i (held w u p) (drop at stream) (length log₀ - n) more ≡ halt i (held w u p) (drop at stream) o → Lists w₀ u₀ p₀ index stream more log₀ w p log (lines_at u at n i o)
+  halts : (o : Bool) → next_lines i (held w u p) (drop at stream) (length log₀ - n) more ≡ halt i (held w u p) (drop at stream) o → Lists w₀ u₀ p₀ index stream more log₀ w p log u (lines_at at n i o)
   unfolding after_line halt
   halts o e = record { stands = g.stands; fits = g.fits; within = g.within; others = g.others; is = sym g.is ∙ ap (λ (q : Piece). after_line (take n log) q) e ∙ rw (append-nil (take n log)) refl }
 
@@ -55,13 +57,13 @@ module _ {w₀ : List ℕ} {u₀ : Used} {p₀ : List (List ℕ)} {index : ℕ} 
   taken_on f e = rw (← g.size) (sym (f (drop at stream) (length-drop at stream)) ∙ e)
 
   -- no bytes are left
-  pub going_spent : length stream ≤ at → Lists w₀ u₀ p₀ index stream more log₀ w p log (lines_at u at n i (not more))
+  pub going_spent : length stream ≤ at → Lists w₀ u₀ p₀ index stream more log₀ w p log u (lines_at at n i (not more))
   going_spent l =
       let e : drop at stream ≡ [] = drop_of_length-le stream l in
       halts (not more) (rw e (next_spent i (held w u p) (length log₀ - n) more))
 
   -- the next record is not taken on
-  pub going_stops : at < length stream → takes_on i (drop at stream) (length log₀ - n) more ≡ false → Lists w₀ u₀ p₀ index stream more log₀ w p log (lines_at u at n i false)
+  pub going_stops : at < length stream → takes_on i (drop at stream) (length log₀ - n) more ≡ false → Lists w₀ u₀ p₀ index stream more log₀ w p log u (lines_at at n i false)
   going_stops l t = halts false (go (drop at stream) t (omega (arith, length-drop at stream)))
     where
       go : (b : Bytes) → takes_on i b (length log₀ - n) more ≡ false → 0 < length b → next_lines i (held w u p) b (length log₀ - n) more ≡ halt i (held w u p) b false
@@ -69,11 +71,6 @@ module _ {w₀ : List ℕ} {u₀ : Used} {p₀ : List (List ℕ)} {index : ℕ} 
       go (x ∷ b) t l = next_stops i (held w u p) (length log₀ - n) more x b t
 
 -- ---- the next record of a piece, answered by r
-
-bytes_past : (n : ℕ) (l : Bytes) → IsBytes l → IsBytes (drop n l)
-bytes_past zero l h = h
-bytes_past (suc n) [] h = tt
-bytes_past (suc n) (b ∷ l) h = bytes_past n l h.1
 
 module _ (i : ℕ) (s : State) (room : ℕ) (more : Bool) (h : sound s ≡ true) (r : step.Answer × Bytes) where
   one_goes : (b : Bytes) → 0 < length b → IsBytes b → takes_on i b room more ≡ true → step_stream s b max_buffer ≡ r → ends_job r.0.number ≡ false
@@ -96,28 +93,6 @@ module _ (i : ℕ) (s : State) (room : ℕ) (more : Bool) (h : sound s ≡ true)
 
 -- ---- one line in the log
 
-module _ {A : Type 0} where
-  take_all : (a b : List A) (n : ℕ) → n ≡ length a → take n (a ++ b) ≡ a
-  take_all [] b zero e = refl
-  take_all [] b (suc n) e = absurd (omega arith)
-  take_all (x ∷ a) b zero e = absurd (omega arith)
-  take_all (x ∷ a) b (suc n) e = ap (λ (m : List A). x ∷ m) (take_all a b n (omega arith))
-
-  drop_all : (a b : List A) (n k : ℕ) → n ≡ length a → drop (n + k) (a ++ b) ≡ drop k b
-  drop_all [] b zero k e = let d : 0 + k ≡ k = omega arith in rw d refl
-  drop_all [] b (suc n) k e = absurd (omega arith)
-  drop_all (x ∷ a) b zero k e = absurd (omega arith)
-  drop_all (x ∷ a) b (suc n) k e = let d : suc n + k ≡ suc (n + k) = omega arith in rw d (drop_all a b n k (omega arith))
-
-  drop_none : (n : ℕ) → drop {A = A} n [] ≡ []
-  drop_none zero = refl
-  drop_none (suc n) = refl
-
-  drop_drop : (n k : ℕ) (b : List A) → drop k (drop n b) ≡ drop (n + k) b
-  drop_drop zero k b = let d : 0 + k ≡ k = omega arith in rw d refl
-  drop_drop (suc n) k [] = drop_none k ∙ sym (drop_none (suc n + k))
-  drop_drop (suc n) k (x ∷ b) = let d : suc n + k ≡ suc (n + k) = omega arith in rw d (drop_drop n k b)
-
 -- a log whose first n bytes are written, and then the text
 pub record Longer (log₀ log : Bytes) (n : ℕ) (text log' : Bytes) (n' : ℕ) : Type 0 where
   pub size : length log' ≡ length log₀
@@ -129,9 +104,9 @@ longer : (log₀ log : Bytes) (n : ℕ) (text log' : Bytes) (n' : ℕ) → lengt
 longer log₀ log n text log' n' z l o q =
     let a : length (take n log) ≡ n = length-take n log ∙ omega (arith, z, l) in
     let b : length (take n log ++ text) ≡ n + length text = length-append (take n log) text ∙ ap (λ (k : ℕ). k + length text) a in
-    let d : drop n' log ≡ drop n' log₀ = rw q.next_is (ap (λ (m : Bytes). drop (n + length text) m) o ∙ drop_all (take n log) (drop n log₀) n (length text) (sym a) ∙ drop_drop n (length text) log₀) in
+    let d : drop n' log ≡ drop n' log₀ = rw q.next_is (ap (λ (m : Bytes). drop (n + length text) m) o ∙ ap (λ (k : ℕ). drop (k + length text) (take n log ++ drop n log₀)) (sym a) ∙ drop-append-add (take n log) (drop n log₀) (length text) ∙ drop-drop (length text) n log₀) in
     let e : log' ≡ take n log ++ text ++ drop n' log₀ = q.is ∙ ap (λ (m : Bytes). take n log ++ text ++ m) ((rw q.next_is refl) ∙ d) in
-    let f : take n' log' ≡ take n log ++ text = ap (λ (m : Bytes). take n' m) e ∙ take_all (take n log ++ text) (drop n' log₀) n' (q.next_is ∙ sym b) in
+    let f : take n' log' ≡ take n log ++ text = ap (λ (m : Bytes). take n' m) e ∙ take_at (take n log ++ text) (drop n' log₀) n' (b ∙ sym q.next_is) in
     record {
       size = ap length e ∙ length-append (take n log ++ text) (drop n' log₀) ∙ omega (arith, b, l, q.next_is, length-drop n' log₀);
       fits = omega (arith, l, q.next_is);
@@ -183,7 +158,7 @@ module _ {w₀ : List ℕ} {u₀ : Used} {p₀ : List (List ℕ)} {index : ℕ} 
   pub going_less : ends_job r.number ≡ false → at < r.next
   going_less d = omega (arith, one_shorter i (held w u p) 0 more g.stands.is_sound answer (drop at stream) left answer_is d, length-drop at stream, length-drop r.next stream)
 
-  pub going_last : {log' : Bytes} {n' : ℕ} → ends_job r.number ≡ true → Wrote log n text log' n' → Lists w₀ u₀ p₀ index stream more log₀ w' p' log' (lines_at r.used r.next n' (i + 1) true)
+  pub going_last : {log' : Bytes} {n' : ℕ} → ends_job r.number ≡ true → Wrote log n text log' n' → Lists w₀ u₀ p₀ index stream more log₀ w' p' log' r.used (lines_at r.next n' (i + 1) true)
   unfolding halt after_line
   going_last {log'} {n'} d q =
       let z = turned q in
@@ -207,5 +182,5 @@ module _ {w₀ : List ℕ} {u₀ : Used} {p₀ : List (List ℕ)} {index : ℕ} 
         within = st.within;
         fits = z.fits;
         others = z.others;
-        is = rw (e, f) (piece_is q _ (one_goes i (held w u p) (length log₀ - n) more g.stands.is_sound answer (drop at stream) left (bytes_past at stream is) t answer_is d));
+        is = rw (e, f) (piece_is q _ (one_goes i (held w u p) (length log₀ - n) more g.stands.is_sound answer (drop at stream) left (bytes_after at stream is) t answer_is d));
       }

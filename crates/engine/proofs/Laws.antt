@@ -2,22 +2,19 @@
 -- The words that were tested are a sound state's, so a call on trusted words says what the public one gives; where the test fails, it is 15 and nothing changes.
 use mathlib.Core.Path.{◌≡◌, refl, sym, ap, ap₂, ◌∙◌}
 use mathlib.Core.Bool.{Bool, true, false, ◌&&◌}
-use mathlib.Core.List.{List, [], ◌∷◌, ◌++◌}
-use Prim.Native.Nat.{ℕ, suc, ◌-◌, ◌≤◌}
+use mathlib.Core.List.{List, [], ◌++◌}
+use Prim.Native.Nat.{ℕ, ◌-◌, ◌≤◌}
 use native.Mathlib.Omega.{arith}
-use mir.Syntax.{w8}
-use mir.Val.{Fits}
-use lib.Dec.{leb, leb→le}
-use lib.ListN.{length, get_or, take, drop, length-take, length-drop}
+use lib.Dec.{leb}
+use lib.ListN.{length, take, drop, length-take, length-drop}
 use lib.Seq.{take_all}
 use Rattle.definition.specs.Types.{State, Struct, unsound_state}
-use Rattle.definition.specs.Write.{Bytes, IsBytes}
+use Rattle.definition.specs.Write.{Bytes}
 use Rattle.definition.specs.Record.{read_record}
 use Rattle.definition.specs.Sound.{sound}
 use Rattle.definition.specs.Step as step
 use Rattle.definition.specs.Step.{lent, step, step_stream, usable, max_buffer}
 use Rattle.pieces.specs.Pieces.{next_lines}
-use Rattle.theorems.proofs.SoundFacts.{and_l, and_r, test}
 use Rattle.theorems.proofs.SoundKept.{trusted}
 use Rattle.theorems.proofs.Soundness.{and, le_test}
 use Rattle.table.specs.Encode.{encode}
@@ -28,13 +25,9 @@ use Rattle.sound.proofs.Tested.{lent_says}
 use Rattle.sound.proofs.Lays.{lent_lay, lent_declares}
 use Rattle.step.specs.declared.Stepped.{Stepped}
 use Rattle.engine.specs.declared.Lines.{Lines}
-use Rattle.engine.specs.Public.{LentAnswer, lent_answer, lent_step, in_front, GivesAnswer, rest_of, LentPiece, lent_piece, lent_lines, GivesLines}
+use Rattle.engine.specs.Public.{LentAnswer, lent_answer, lent_step, in_front, GivesAnswer, rest_of, LentPiece, lent_piece, lent_lines, no_lines, GivesLines}
 use Rattle.step.specs.Trusted.{held, Stands, answered, unread, Steps}
 use Rattle.engine.specs.Lists.{Lists}
-
-pub bytes_of : (l : List ℕ) → ((i : ℕ) → Fits w8 (get_or l i 0)) → IsBytes l
-bytes_of [] f = tt
-bytes_of (x ∷ l) f = ((f 0).fits, bytes_of l (λ i. f (suc i)))
 
 -- ---- from the test on
 
@@ -78,7 +71,7 @@ module _ (w : List ℕ) (p : List (List ℕ)) (h : lent_sound w p ≡ true) (u :
       ∙ ap lent_answer steps
       ∙ ap₂ (λ (x : List ℕ) (y : List (List ℕ)). record { number = r.number; payload = take r.len buf'; words = x; params = y }) (sym (written w' r.used p' g.stands w'' e)) (sym g.stands.bytes)
 
-  pub record_gives : length buf' ≡ length buf → GivesAnswer (lent_step w p bytes (length buf)) buf r.number w'' p' buf' r.len
+  pub record_gives : length buf' ≡ length buf → GivesAnswer (lent_step w p bytes (length buf)) buf (record { number = r.number; length = r.len }) w'' p' buf'
   unfolding in_front
   record_gives l =
       let n : length (take r.len buf') ≡ r.len = long r.len buf' (omega (arith, l, k, g.few)) in
@@ -87,40 +80,35 @@ module _ (w : List ℕ) (p : List (List ℕ)) (h : lent_sound w p ≡ true) (u :
 
 -- ---- 15
 
-pub and_true : (a b : Bool) → b ≡ true → a && b ≡ a
-and_true true b e = e
-and_true false b e = refl
-
 no_room : (s : State) (bytes : Bytes) (buffer : ℕ) → leb 4096 buffer ≡ false → step s bytes buffer ≡ step.refusal s unsound_state
 unfolding step usable max_buffer
 no_room s bytes buffer e = ap {B = step.Answer} (λ b. elim (b && sound s) as (λ x. step.Answer) [ true ↦ lent s (read_record s bytes) | false ↦ step.refusal s unsound_state ]) e
 
-pub unusable : (w : List ℕ) (p : List (List ℕ)) (bytes : Bytes) (buffer : ℕ) → lent_sound w p && leb 4096 buffer ≡ false → lent_step w p bytes buffer ≡ record { number = 15; payload = []; words = w; params = p }
-unfolding lent_step lent_answer step.refusal step.number_of_refusal
-unusable w p bytes buffer e = go (lent_sound w p) refl
+-- the buffer is too short
+pub short_gives : (w : List ℕ) (p : List (List ℕ)) (bytes buf : Bytes) → leb 4096 (length buf) ≡ false
+    → GivesAnswer (lent_step w p bytes (length buf)) buf (record { number = 15; length = 0 }) w p buf
+unfolding lent_step lent_answer in_front step.refusal step.number_of_refusal
+short_gives w p bytes buf e = rw (go (lent_sound w p) refl) (record { told = refl; words = refl; params = refl; front = refl; size = refl })
   where
-    go : (b : Bool) → lent_sound w p ≡ b → ◌≡◌ {A = LentAnswer} (elim b as (λ x. LentAnswer) [ true ↦ lent_answer (step (decode w p) bytes buffer) | false ↦ record { number = 15; payload = []; words = w; params = p } ]) (record { number = 15; payload = []; words = w; params = p })
+    go : (b : Bool) → lent_sound w p ≡ b → ◌≡◌ {A = LentAnswer} (elim b as (λ x. LentAnswer) [ true ↦ lent_answer (step (decode w p) bytes (length buf)) | false ↦ record { number = 15; payload = []; words = w; params = p } ]) (record { number = 15; payload = []; words = w; params = p })
     go false h = refl
     go true h =
         let l = lent_says w p h in
-        ap lent_answer (no_room (decode w p) bytes buffer (rw h at e))
+        ap lent_answer (no_room (decode w p) bytes (length buf) e)
         ∙ ap₂ (λ (x : List ℕ) (y : List (List ℕ)). record { number = 15; payload = []; words = x; params = y }) (sym l.words) (sym l.bytes)
 
-pub unusable_gives : (w : List ℕ) (p : List (List ℕ)) (bytes buf : Bytes) → lent_sound w p && leb 4096 (length buf) ≡ false
-    → GivesAnswer (lent_step w p bytes (length buf)) buf 15 w p buf 0
-unfolding in_front
-unusable_gives w p bytes buf e =
-    rw (unusable w p bytes (length buf) e) (record { told = refl; words = refl; params = refl; front = refl; size = refl })
-
-pub usable_both : (w : List ℕ) (p : List (List ℕ)) (buffer : ℕ) → lent_sound w p && leb 4096 buffer ≡ true → (lent_sound w p ≡ true) × (4096 ≤ buffer)
-usable_both w p buffer e = (and_l (lent_sound w p) (leb 4096 buffer) e, leb→le 4096 buffer (test (and_r (lent_sound w p) (leb 4096 buffer) e)))
+-- the state is not sound
+pub unsound_gives : (w : List ℕ) (p : List (List ℕ)) (bytes buf : Bytes) → lent_sound w p ≡ false
+    → GivesAnswer (lent_step w p bytes (length buf)) buf (record { number = 15; length = 0 }) w p buf
+unfolding lent_step in_front
+unsound_gives w p bytes buf e = rw (lent_step, e) (record { told = refl; words = refl; params = refl; front = refl; size = refl })
 
 -- ---- a job's lines
 
 module _ (w : List ℕ) (p : List (List ℕ)) (h : lent_sound w p ≡ true) (u : Used) (c : u ≡ used_of w) (index : ℕ)
-    (stream : Bytes) (more : Bool) (log : Bytes) (w' : List ℕ) (p' : List (List ℕ)) (log' : Bytes) (r : Lines)
-    (g : Lists w u p index stream more log w' p' log' r) (w'' : List ℕ)
-    (e : (ds : List Struct) → Declares w' r.used ds → w'' ≡ encode (seen w' r.used ds)) where
+    (stream : Bytes) (more : Bool) (log : Bytes) (w' : List ℕ) (p' : List (List ℕ)) (log' : Bytes) (u' : Used) (r : Lines)
+    (g : Lists w u p index stream more log w' p' log' u' r) (w'' : List ℕ)
+    (e : (ds : List Struct) → Declares w' u' ds → w'' ≡ encode (seen w' u' ds)) where
   abbrev lines : LentPiece
   lines = lent_lines w p index stream (length log) more
 
@@ -129,9 +117,9 @@ module _ (w : List ℕ) (p : List (List ℕ)) (h : lent_sound w p ≡ true) (u :
   listed =
       ap (λ q. elim q as (λ x. LentPiece) [ true ↦ lent_piece (next_lines index (decode w p) stream (length log) more) | false ↦ record { number = 15; text = []; words = w; params = p; rest = stream; index = index; ended = true } ]) h
       ∙ ap lent_piece (rw (held_lent w p h u c) at g.is)
-      ∙ ap₂ (λ (x : List ℕ) (y : List (List ℕ)). record { number = 0; text = take r.written log'; words = x; params = y; rest = drop r.read stream; index = r.index; ended = r.ended }) (sym (written w' r.used p' g.stands w'' e)) (sym g.stands.bytes)
+      ∙ ap₂ (λ (x : List ℕ) (y : List (List ℕ)). record { number = 0; text = take r.written log'; words = x; params = y; rest = drop r.read stream; index = r.index; ended = r.ended }) (sym (written w' u' p' g.stands w'' e)) (sym g.stands.bytes)
 
-  pub job_gives : length log' ≡ length log → GivesLines lines stream log 0 w'' p' log' r.written r.read r.index r.ended
+  pub job_gives : length log' ≡ length log → GivesLines lines stream log 0 r w'' p' log'
   unfolding in_front
   job_gives l =
       let n : length (take r.written log') ≡ r.written = long r.written log' (omega (arith, l, g.fits)) in
@@ -150,7 +138,7 @@ module _ (w : List ℕ) (p : List (List ℕ)) (h : lent_sound w p ≡ true) (u :
       })
 
 pub unsound_lines : (w : List ℕ) (p : List (List ℕ)) (index : ℕ) (stream : Bytes) (more : Bool) (log : Bytes) → lent_sound w p ≡ false
-    → GivesLines (lent_lines w p index stream (length log) more) stream log 15 w p log 0 0 index true
+    → GivesLines (lent_lines w p index stream (length log) more) stream log 15 (no_lines index) w p log
 unfolding in_front lent_lines
 unsound_lines w p index stream more log h =
     let piece : LentPiece = record { number = 15; text = []; words = w; params = p; rest = stream; index = index; ended = true } in
@@ -169,6 +157,13 @@ unsound_lines w p index stream more log h =
       next = refl;
       ends = refl;
     })
+
+pub other_size : (w : List ℕ) (p : List (List ℕ)) → (length w ≡ 24069 → ⊥) → lent_sound w p ≡ false
+other_size w p n = go (lent_sound w p) refl
+  where
+    go : (b : Bool) → lent_sound w p ≡ b → lent_sound w p ≡ false
+    go false e = e
+    go true e = absurd (n (lent_size w p e))
 
 -- ---- the splitter
 

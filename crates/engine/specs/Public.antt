@@ -1,11 +1,14 @@
 -- What each public call gives, outright, whatever it is lent. Assumes nothing: these are definitions.
-use Rattle.std.specs.Prelude.{◌≡◌, Bool, true, false, List, [], ◌++◌, ℕ, ◌≤◌, eqb, length, drop}
+use Rattle.std.specs.Prelude.{◌≡◌, Bool, true, false, List, [], ◌++◌, ℕ, ◌≤◌, eqb, length, drop, Result, Ok, Err}
 use Rattle.definition.specs.Types.{fresh}
 use Rattle.definition.specs.Write.{Bytes}
 use Rattle.definition.specs.Step.{Answer, step, step_stream, max_buffer}
 use Rattle.pieces.specs.Pieces.{Piece, next_lines}
 use Rattle.table.specs.Encode.{encode}
 use Rattle.sound.specs.Lent.{decode, encode_params, lent_sound}
+use Rattle.engine.specs.declared.Answered.{Answered}
+use Rattle.engine.specs.declared.Lines.{Lines}
+use Rattle.engine.specs.declared.Unsound.{Unsound}
 
 -- ---- one lent record
 
@@ -30,13 +33,18 @@ lent_step w params bytes buffer = elim (lent_sound w params) [
 unfoldable pub in_front : Bytes → Bytes → Bytes
 in_front bytes buffer = bytes ++ drop (length bytes) buffer
 
+-- a refusal is 15, without a payload
+abbrev pub answer_of : Result Answered Unsound → Answered
+answer_of (Ok r) = r
+answer_of (Err e) = record { number = 15; length = 0 }
+
 -- what a call leaves that is to give answer a, its payload in front of the buffer
-pub record GivesAnswer (a : LentAnswer) (buffer : Bytes) (number : ℕ) (words' : List ℕ) (params' : List (List ℕ)) (buffer' : Bytes) (written : ℕ) : Type 0 where
-  pub told : number ≡ a.number
+pub record GivesAnswer (a : LentAnswer) (buffer : Bytes) (r : Answered) (words' : List ℕ) (params' : List (List ℕ)) (buffer' : Bytes) : Type 0 where
+  pub told : r.number ≡ a.number
   pub words : words' ≡ a.words
   pub params : params' ≡ a.params
   pub front : buffer' ≡ in_front a.payload buffer
-  pub size : written ≡ length a.payload
+  pub size : r.length ≡ length a.payload
 
 -- ---- the splitter: the stream after one record, all of it on 5, 6, 15 and 18
 
@@ -71,15 +79,28 @@ fresh_lines w params stream room more = elim (eqb (length w) 24069) [
   | false ↦ lent_lines w params 0 stream room more
 ]
 
+-- a refusal is 15
+abbrev pub number_of : Result Lines Unsound → ℕ
+number_of (Ok r) = 0
+number_of (Err e) = 15
+
+-- .. with which nothing is read or written, and the job ends
+abbrev pub no_lines : ℕ → Lines
+no_lines index = record { read = 0; written = 0; index = index; ended = true }
+
+abbrev pub lines_of : ℕ → Result Lines Unsound → Lines
+lines_of index (Ok r) = r
+lines_of index (Err e) = no_lines index
+
 -- what a call leaves that is to give piece p of a stream's lines, its text in front of the log
-pub record GivesLines (p : LentPiece) (stream log : Bytes) (number : ℕ) (words' : List ℕ) (params' : List (List ℕ)) (log' : Bytes) (written read index : ℕ) (ended : Bool) : Type 0 where
+pub record GivesLines (p : LentPiece) (stream log : Bytes) (number : ℕ) (r : Lines) (words' : List ℕ) (params' : List (List ℕ)) (log' : Bytes) : Type 0 where
   pub told : number ≡ p.number
   pub words : words' ≡ p.words
   pub params : params' ≡ p.params
   pub front : log' ≡ in_front p.text log
-  pub size : written ≡ length p.text
-  pub fits : written ≤ length log
-  pub rest : drop read stream ≡ p.rest
-  pub inside : read ≤ length stream
-  pub next : index ≡ p.index
-  pub ends : ended ≡ p.ended
+  pub size : r.written ≡ length p.text
+  pub fits : r.written ≤ length log
+  pub rest : drop r.read stream ≡ p.rest
+  pub inside : r.read ≤ length stream
+  pub next : r.index ≡ p.index
+  pub ends : r.ended ≡ p.ended

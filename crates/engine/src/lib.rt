@@ -1,96 +1,107 @@
 // The public calls: one lent record, the splitter of a stream, a job's first lines and its next ones. Each says outright what it gives, whatever it is lent.
 #![tactic(auto)]
 
-ghost use Rattle.std.specs.Prelude.{◌≡◌, true, ◌&&◌, ◌≤◌, leb, length as size, drop, replicate};
+ghost use Rattle.std.specs.Prelude.{◌≡◌, true, false, ◌&&◌, ◌≤◌, leb, length as size, drop, MatchResult};
 ghost use Rattle.sound.specs.Lent.{lent_sound};
-ghost use Rattle.engine.specs.Public.{lent_step, GivesAnswer, rest_of, lent_lines, fresh_lines, GivesLines};
+ghost use Rattle.engine.specs.Public.{lent_step, answer_of, GivesAnswer, rest_of, lent_lines, fresh_lines, number_of, no_lines, lines_of, GivesLines};
 ghost use Rattle.engine.specs.Lists.{Lists};
 ghost use Rattle.step.specs.Trusted.{Stands};
 
-use limits::{MAX_BUFFER, ends_job, fits, refuse_job, refuse_record, takes_on};
+use limits::{MAX_BUFFER, ends_job, fits, takes_on};
 use log_lines::write_line;
 use snapshot::SAVED;
 use sound::{sound_state, used_of};
 use step::{rest_trusted, step_trusted};
 use table::{Used, WORDS};
 
-// How much of a stream was read and how much of a log written; the rows in use, the next record's number, and whether the job ended.
+// The number of an answer, and how long the payload in front of the buffer is.
+#[derive(Clone, Copy)]
+pub struct Answered {
+    pub number: u32,
+    pub length: u32,
+}
+
+// How much of a stream was read and how much of a log written, the next record's number, and whether the job ended.
 #[derive(Clone, Copy)]
 pub struct Lines {
-    pub used: Used,
     pub read: usize,
     pub written: usize,
     pub index: u64,
     pub ended: bool,
 }
 
-// Whether a call may go on: else it is 15.
-fn usable(state: &[u32], params: [[u8; 8]; 256], buffer: usize) -> bool
-    ensures { result ≡ lent_sound state.now params && leb 4096 buffer }
-{
-    if !fits(buffer) {
-        return false;
+impl Lines {
+    // What an unsound state leaves: nothing is read or written, and the job ends.
+    // Refused (must-fail/): a job that goes on from an unsound state (unsound_goes_on).
+    pub fn unsound(index: u64) -> Lines
+        ensures { result ≡ no_lines index }
+    {
+        Lines {
+            read: 0,
+            written: 0,
+            index,
+            ended: true,
+        }
     }
-    sound_state(state, params)
 }
+
+// 15: words and parameter bytes that no sound state has, or an answer's buffer that is too short. Nothing was changed.
+#[derive(Clone, Copy, Debug, PartialEq, Eq)]
+pub struct Unsound;
+
+// A state is tested where it enters. What follows stands in functions of their own, so that no buffer lies on the stack below the test.
+fn tested(state: &[u32], params: &[[u8; 8]; 256]) -> Result<(), Unsound>
+    ensures { MatchResult result (λ _. lent_sound state.now params.now ≡ true) (λ _. lent_sound state.now params.now ≡ false) }
+{
+    if sound_state(state, *params) {
+        Ok(())
+    } else {
+        Err(Unsound)
+    }
+}
+
+// ---- one record
 
 // One record, lent whole, on a sound state.
 fn record_trusted(
     state: &mut [u32],
-    params: [[u8; 8]; 256],
+    params: &mut [[u8; 8]; 256],
     record: &[u8],
     answer: &mut [u8],
-    number: &mut u32,
-    length: &mut u32,
-) -> [[u8; 8]; 256]
-    requires { (lent_sound state.old params ≡ true) × (4096 ≤ size answer.old) }
-    ensures { GivesAnswer (lent_step state.old params «record».now (size answer.old)) answer.old number.new state.new result answer.new length.new }
+) -> Answered
+    requires { (lent_sound state.old params.old ≡ true) × (4096 ≤ size answer.old) }
+    ensures { GivesAnswer (lent_step state.old params.old «record».now (size answer.old)) answer.old result state.new params.new answer.new }
 {
     let u = used_of(state);
-    let mut rows = params;
     let mut saved = [0u32; SAVED];
-    let r = step_trusted(state, u, &mut rows, record, 0, true, 0, &mut saved, answer);
-    let v = r.used;
-    table::write_used(state, v);
-    *number = r.number;
-    *length = r.len as u32;
-    rows
+    let r = step_trusted(state, u, params, record, 0, true, 0, &mut saved, answer);
+    table::write_used(state, r.used);
+    Answered {
+        number: r.number,
+        length: r.len as u32,
+    }
 }
 
-// One record, lent whole: bytes left over are 5. Number and length come beside the parameter bytes.
-// Refused (must-fail/, here and in limits): bytes left over let through (left_over_passed).
+// One record, lent whole: bytes left over are 5.
+// Refused (here and in limits): bytes left over let through (left_over_passed).
 pub fn lent_record(
     state: &mut [u32],
-    params: [[u8; 8]; 256],
+    params: &mut [[u8; 8]; 256],
     record: &[u8],
     answer: &mut [u8],
-    number: &mut u32,
-    length: &mut u32,
-) -> [[u8; 8]; 256]
-    ensures { GivesAnswer (lent_step state.old params «record».now (size answer.old)) answer.old number.new state.new result answer.new length.new }
+) -> Result<Answered, Unsound>
+    ensures { GivesAnswer (lent_step state.old params.old «record».now (size answer.old)) answer.old (answer_of result) state.new params.new answer.new }
 {
-    if usable(state, params, answer.len()) {
-        return record_trusted(state, params, record, answer, number, length);
+    if !fits(answer.len()) {
+        return Err(Unsound);
     }
-    refuse_record(number, length);
-    params
+    tested(state, params)?;
+    Ok(record_trusted(state, params, record, answer))
 }
 
 // ---- a job
 
-fn lines_at(used: Used, read: usize, written: usize, index: u64, ended: bool) -> Lines
-    ensures { result ≡ record { used = used; read = read; written = written; index = index; ended = ended } }
-{
-    Lines {
-        used,
-        read,
-        written,
-        index,
-        ended,
-    }
-}
-
-// The lines of as many records as are at hand and have room, on a sound state.
+// The lines of as many records as are at hand and have room, on a sound state; the rows then in use.
 fn lines_trusted(
     w: &mut [u32],
     u: Used,
@@ -99,150 +110,126 @@ fn lines_trusted(
     more: bool,
     log: &mut [u8],
     index: u64,
-) -> Lines
+) -> (Used, Lines)
     requires { Stands w.old u params.old }
-    ensures { Lists w.old u params.old index stream.now more log.old w.new params.new log.new result }
+    ensures { Lists w.old u params.old index stream.now more log.old w.new params.new log.new result.0 result.1 }
 {
     let mut saved = [0u32; SAVED];
     let mut buf = [0u8; MAX_BUFFER];
     let mut used = u;
     let mut rows: u32 = 0;
-    let mut at: usize = 0;
-    let mut n: usize = 0;
-    let mut i = index;
-    while at < stream.len() {
-        if !takes_on(i, stream.len() - at, log.len() - n, more) {
-            return lines_at(used, at, n, i, false);
+    let mut lines = Lines {
+        read: 0,
+        written: 0,
+        index,
+        ended: false,
+    };
+    'records: while lines.read < stream.len() {
+        let left = stream.len() - lines.read;
+        let room = log.len() - lines.written;
+        if !takes_on(lines.index, left, room, more) {
+            return (used, lines);
         }
         let r = step_trusted(
-            w, used, params, stream, at, false, rows, &mut saved, &mut buf,
+            w, used, params, stream, lines.read, false, rows, &mut saved, &mut buf,
         );
-        n = write_line(i, r.number, &buf, r.len, log, n);
-        i = i + 1;
         used = r.used;
         rows = r.rows;
-        at = r.next;
-        if ends_job(r.number) {
-            return lines_at(used, at, n, i, true);
+        let payload = &buf[..r.len];
+        lines = Lines {
+            read: r.next,
+            written: write_line(lines.index, r.number, payload, log, lines.written),
+            index: lines.index + 1,
+            ended: ends_job(r.number),
+        };
+        if lines.ended {
+            return (used, lines);
         }
     }
-    lines_at(used, at, n, i, !more)
+    lines.ended = !more;
+    (used, lines)
 }
 
 // .. and all that they leave.
 fn job_trusted(
     state: &mut [u32],
-    params: [[u8; 8]; 256],
+    params: &mut [[u8; 8]; 256],
     stream: &[u8],
     more: bool,
     log: &mut [u8],
-    number: &mut u32,
-    written: &mut usize,
-    read: &mut usize,
-    index: &mut u64,
-    ended: &mut bool,
-) -> [[u8; 8]; 256]
-    requires { lent_sound state.old params ≡ true }
-    ensures { GivesLines (lent_lines state.old params index.old stream.now (size log.old) more) stream.now log.old number.new state.new result log.new written.new read.new index.new ended.new }
+    index: u64,
+) -> Lines
+    requires { lent_sound state.old params.old ≡ true }
+    ensures { GivesLines (lent_lines state.old params.old index stream.now (size log.old) more) stream.now log.old 0 result state.new params.new log.new }
 {
     let u = used_of(state);
-    let mut rows = params;
-    let first = *index;
-    let r = lines_trusted(state, u, &mut rows, stream, more, log, first);
-    let v = r.used;
-    table::write_used(state, v);
-    *number = 0;
-    *written = r.written;
-    *read = r.read;
-    *index = r.index;
-    *ended = r.ended;
-    rows
+    let (used, lines) = lines_trusted(state, u, params, stream, more, log, index);
+    table::write_used(state, used);
+    lines
 }
 
 // A job's next lines: those of as many records as the bytes at hand hold whole and the log surely has room for. `more`: further bytes follow.
-// The state is tested once. `index` is the next record's number; `read` and `written` say how much of the stream and of the log was used.
+// The state is tested once. `index` is the next record's number.
 // Refused: the first record right and 0 after (echoes_0), 0 for every record (zero_for_all).
 pub fn job(
     state: &mut [u32],
-    params: [[u8; 8]; 256],
+    params: &mut [[u8; 8]; 256],
     stream: &[u8],
     more: bool,
     log: &mut [u8],
-    number: &mut u32,
-    written: &mut usize,
-    read: &mut usize,
-    index: &mut u64,
-    ended: &mut bool,
-) -> [[u8; 8]; 256]
-    ensures { GivesLines (lent_lines state.old params index.old stream.now (size log.old) more) stream.now log.old number.new state.new result log.new written.new read.new index.new ended.new }
+    index: u64,
+) -> Result<Lines, Unsound>
+    ensures { GivesLines (lent_lines state.old params.old index stream.now (size log.old) more) stream.now log.old (number_of result) (lines_of index result) state.new params.new log.new }
 {
-    if sound_state(state, params) {
-        return job_trusted(
-            state, params, stream, more, log, number, written, read, index, ended,
-        );
-    }
-    refuse_job(number, written, read, ended);
-    params
-}
-
-// The words of a fresh state are zeros.
-fn clear(state: &mut [u32])
-    ensures { state.new ≡ replicate (size state.old) 0 }
-{
-    let mut i: usize = 0;
-    while i < state.len() {
-        state[i] = 0;
-        i = i + 1;
-    }
+    tested(state, params)?;
+    Ok(job_trusted(state, params, stream, more, log, index))
 }
 
 // A job's first lines: the call clears words and parameter bytes, whatever they held, and tests nothing. `job` goes on from there.
 // Refused: parameter bytes left as they were (params_kept), numbers from 1 (first_is_1).
 pub fn fresh_job(
     state: &mut [u32],
-    params: [[u8; 8]; 256],
+    params: &mut [[u8; 8]; 256],
     stream: &[u8],
     more: bool,
     log: &mut [u8],
-    number: &mut u32,
-    written: &mut usize,
-    read: &mut usize,
-    index: &mut u64,
-    ended: &mut bool,
-) -> [[u8; 8]; 256]
-    ensures { GivesLines (fresh_lines state.old params stream.now (size log.old) more) stream.now log.old number.new state.new result log.new written.new read.new index.new ended.new }
+) -> Result<Lines, Unsound>
+    ensures { GivesLines (fresh_lines state.old params.old stream.now (size log.old) more) stream.now log.old (number_of result) (lines_of 0 result) state.new params.new log.new }
 {
-    *index = 0;
-    if state.len() == WORDS {
-        let rows = [[0u8; 8]; 256];
-        clear(state);
-        return job_trusted(
-            state, rows, stream, more, log, number, written, read, index, ended,
-        );
+    if state.len() != WORDS {
+        return Err(Unsound);
     }
-    job(
-        state, params, stream, more, log, number, written, read, index, ended,
-    )
+    state.fill(0);
+    *params = [[0; 8]; 256];
+    Ok(job_trusted(state, params, stream, more, log, 0))
 }
 
 // ---- the splitter
 
-// How many bytes the record at the head of the stream has, none on 5, 6, 15 and 18; the words are as they were.
-pub fn rest_size(state: &mut [u32], params: [[u8; 8]; 256], stream: &[u8]) -> usize
-    ensures { (state.new ≡ state.old) × ((result ≤ size stream.now) × (drop result stream.now ≡ rest_of state.old params stream.now)) }
+// .. on a sound state.
+fn split_trusted(state: &mut [u32], params: &[[u8; 8]; 256], stream: &[u8]) -> usize
+    requires { lent_sound state.old params.now ≡ true }
+    ensures { (state.new ≡ state.old) × ((result ≤ size stream.now) × (drop result stream.now ≡ rest_of state.old params.now stream.now)) }
 {
-    if !sound_state(state, params) {
-        return 0;
-    }
     let u = used_of(state);
     let mut saved = [0u32; SAVED];
-    rest_trusted(state, u, &params, stream, &mut saved)
+    rest_trusted(state, u, params, stream, &mut saved)
+}
+
+// How many bytes the record at the head of the stream has, none on 5, 6, 15 and 18; the words are as they were.
+pub fn rest_size(state: &mut [u32], params: &[[u8; 8]; 256], stream: &[u8]) -> usize
+    ensures { (state.new ≡ state.old) × ((result ≤ size stream.now) × (drop result stream.now ≡ rest_of state.old params.now stream.now)) }
+{
+    match tested(state, params) {
+        Ok(()) => split_trusted(state, params, stream),
+        Err(Unsound) => 0,
+    }
 }
 
 // The stream after one record; all of it on 5, 6, 15 and 18. The state is as it was.
 // Refused: a stream handed back whole always (all_handed_back), one byte passed on 15 (split_past_15).
-pub fn split<'a>(state: &mut [u32], params: [[u8; 8]; 256], stream: &'a [u8]) -> &'a [u8]
-    ensures rest { result.now ≡ rest_of state.old params stream.now }
+pub fn split<'a>(state: &mut [u32], params: &[[u8; 8]; 256], stream: &'a [u8]) -> &'a [u8]
+    ensures rest { result.now ≡ rest_of state.old params.now stream.now }
     ensures state_unchanged { state.new ≡ state.old }
 {
     let n = rest_size(state, params, stream);

@@ -2,12 +2,15 @@
 #![tactic(auto)]
 
 ghost use Rattle.std.specs.Prelude.{◌≡◌, ◌-◌, ◌≤◌, length as size, drop};
-ghost use Rattle.engine.specs.Public.{lent_step, GivesAnswer, rest_of, lent_lines, GivesLines};
+ghost use Rattle.engine.specs.Public.{lent_step, GivesAnswer, rest_of, lent_lines, fresh_lines, number_of, lines_of, GivesLines};
 
-pub mod fresh;
+use engine::{Lines, Unsound};
+
+// A refusal's number.
+const UNSOUND_STATE: u32 = 15;
 
 // One record, lent whole. The result is the answer's number; the payload stands in front of the answer buffer, and length is how long it is.
-// Refused (must-fail/): no payload ever (no_payload), the parameter bytes of before the call (params_as_they_were).
+// Refused (must-fail/): no payload ever (no_payload), the parameter bytes of before the call (params_as_they_were), a length on 15 (length_on_15).
 #[unsafe(no_mangle)]
 pub extern "C" fn pongiwaru_record(
     state: &mut [u32],
@@ -16,12 +19,18 @@ pub extern "C" fn pongiwaru_record(
     answer: &mut [u8],
     length: &mut u32,
 ) -> u32
-    ensures { GivesAnswer (lent_step state.old params.old «record».now (size answer.old)) answer.old result state.new params.new answer.new length.new }
+    ensures { GivesAnswer (lent_step state.old params.old «record».now (size answer.old)) answer.old (record { number = result; length = length.new }) state.new params.new answer.new }
 {
-    let mut number: u32 = 0;
-    let p = *params;
-    *params = engine::lent_record(state, p, record, answer, &mut number, length);
-    number
+    match engine::lent_record(state, params, record, answer) {
+        Ok(r) => {
+            *length = r.length;
+            r.number
+        }
+        Err(Unsound) => {
+            *length = 0;
+            UNSOUND_STATE
+        }
+    }
 }
 
 // How many bytes of the stream are left after one record; all of them on 5, 6, 15 and 18. The state is as it was.
@@ -37,9 +46,31 @@ pub extern "C" fn pongiwaru_split(
     ensures rest_bound { rest.new ≤ size stream.now }
     ensures stream_after { drop (size stream.now - rest.new) stream.now ≡ rest_of state.old params.now stream.now }
 {
-    let p = *params;
-    let n = engine::rest_size(state, p, stream);
+    let n = engine::rest_size(state, params, stream);
     *rest = stream.len() - n;
+}
+
+// ---- a job
+
+// What a job's call returns and writes: 0, or 15 for a state that is not sound.
+fn told(
+    r: Result<Lines, Unsound>,
+    written: &mut usize,
+    read: &mut usize,
+    index: &mut u64,
+    ended: &mut bool,
+) -> u32
+    ensures { (result ≡ number_of r) × (record { read = read.new; written = written.new; index = index.new; ended = ended.new } ≡ lines_of index.old r) }
+{
+    let (number, lines) = match r {
+        Ok(lines) => (0, lines),
+        Err(Unsound) => (UNSOUND_STATE, Lines::unsound(*index)),
+    };
+    *written = lines.written;
+    *read = lines.read;
+    *index = lines.index;
+    *ended = lines.ended;
+    number
 }
 
 // A job's next lines. The result is 0, or 15 for a state that is not sound.
@@ -56,21 +87,29 @@ pub extern "C" fn pongiwaru_job(
     index: &mut u64,
     ended: &mut bool,
 ) -> u32
-    ensures { GivesLines (lent_lines state.old params.old index.old stream.now (size log.old) more) stream.now log.old result state.new params.new log.new written.new read.new index.new ended.new }
+    ensures { GivesLines (lent_lines state.old params.old index.old stream.now (size log.old) more) stream.now log.old result (record { read = read.new; written = written.new; index = index.new; ended = ended.new }) state.new params.new log.new }
 {
-    let mut number: u32 = 0;
-    let p = *params;
-    *params = engine::job(
-        state,
-        p,
-        stream,
-        more,
-        log,
-        &mut number,
-        written,
-        read,
-        index,
-        ended,
-    );
-    number
+    let first = *index;
+    let r = engine::job(state, params, stream, more, log, first);
+    told(r, written, read, index, ended)
+}
+
+// A job's first lines, from a fresh state: words and parameter bytes may hold anything. The result is 0, or 15 where there are not 24,069 words.
+#[unsafe(no_mangle)]
+pub extern "C" fn pongiwaru_fresh_job(
+    state: &mut [u32],
+    params: &mut [[u8; 8]; 256],
+    stream: &[u8],
+    more: bool,
+    log: &mut [u8],
+    written: &mut usize,
+    read: &mut usize,
+    index: &mut u64,
+    ended: &mut bool,
+) -> u32
+    ensures { GivesLines (fresh_lines state.old params.old stream.now (size log.old) more) stream.now log.old result (record { read = read.new; written = written.new; index = index.new; ended = ended.new }) state.new params.new log.new }
+{
+    *index = 0;
+    let r = engine::fresh_job(state, params, stream, more, log);
+    told(r, written, read, index, ended)
 }

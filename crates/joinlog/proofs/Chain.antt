@@ -1,60 +1,86 @@
 -- A run's turns so far, and how they end. Assumes nothing.
-use mathlib.Core.Path.{◌≡◌, refl}
-use mathlib.Core.Bool.{false}
-use mathlib.Core.List.{List, [], ◌∷◌}
-use Prim.Native.Nat.{ℕ, zero, suc, ◌+◌, ◌-◌, ◌<◌}
+use mathlib.Core.Path.{◌≡◌, refl, ap, subst, ◌∙◌}
+use mathlib.Core.Bool.{Bool, false, ◌||◌}
+use mathlib.Core.List.{List, []}
+use Prim.Native.Nat.{ℕ, ◌+◌, ◌-◌, ◌<◌}
+use native.Mathlib.Numerals.{add-one}
 use native.Mathlib.Omega.{arith}
-use lib.ListN.{length, take, drop}
+use lib.ListN.{length, get_or}
 use Rattle.definition.specs.Write.{IsBytes}
-use Rattle.theorems.proofs.SoundRead.{bytes_append}
-use Rattle.turns.specs.Filling.{first, Within}
-use Rattle.joinlog.specs.Turns.{Held, held, Turned, reads, lists, bytes_read, Turns, none, and_turn, Ran}
+use Rattle.theorems.proofs.SoundRead.{bytes_append, bytes_take}
+use Rattle.log_lines.proofs.Text.{bytes_of}
+use Rattle.step.proofs.Keeping.{bytes_after}
+use Rattle.std.specs.Prelude.{Some}
+use Rattle.engine.specs.declared.Lines.{Lines}
+use Rattle.engine.specs.Public.{GivesLines}
+use Rattle.turns.specs.Filling.{ended, lost, first, at_hand, Within, Handed}
+use Rattle.turns.specs.declared.Turn.{Turn}
+use Rattle.joinlog.specs.declared.Job.{Job}
+use Rattle.joinlog.specs.Turns.{held, stream, lines_of, Listed, Turned, reads, lists, bytes_read, Turns, none, and_turn, Ran}
+use Rattle.joinlog.proofs.Moves.{passed, passed_within}
 use Rattle.joinlog.proofs.Logs.{turns_log, turns_front}
 
-bytes_take : (n : ℕ) (l : List ℕ) → IsBytes l → IsBytes (take n l)
-bytes_take zero l is = tt
-bytes_take (suc n) [] is = tt
-bytes_take (suc n) (x ∷ l) is = (is.0, bytes_take n l is.1)
-
-bytes_drop : (n : ℕ) (l : List ℕ) → IsBytes l → IsBytes (drop n l)
-bytes_drop zero l is = is
-bytes_drop (suc n) [] is = tt
-bytes_drop (suc n) (x ∷ l) is = bytes_drop n l is.1
-
-read_bytes : (h : Held) → IsBytes h.buf → IsBytes (bytes_read h)
+pub read_bytes : (h : Job) → ((i : ℕ) → get_or h.buf i 0 < 256) → IsBytes (bytes_read h)
 unfolding bytes_read
-read_bytes h is = bytes_take h.turn.read _ (bytes_drop (h.turn.have - h.turn.read) h.buf is)
+read_bytes h is = bytes_take h.turn.read _ (bytes_after (h.turn.have - h.turn.read) h.buf (bytes_of h.buf (λ i. record { fits = is i })))
 
-turned_within : {h h' : Held} → Turned h h' → length h'.buf ≡ length h.buf → Within h'.turn h'.buf
+pub read_none : (h : Job) → h.turn.read ≡ 0 → IsBytes (bytes_read h)
+unfolding bytes_read
+read_none h e = rw e tt
+
+turned_within : {h h' : Job} → Turned h h' → length h'.buf ≡ length h.buf → Within h'.turn h'.buf
 turned_within (reads cut ew er el f) e = record { ordered = omega (arith, f.front); inside = omega (arith, f.inside) }
 turned_within (lists whole l) e = record { ordered = l.within.ordered; inside = omega (arith, l.within.inside) }
 
--- as many turns as were counted off
-pub record Going (h₀ h : Held) (left : ℕ) : Type 0 where
-  pub count : ℕ
+-- lines of the bytes at hand, handed to the writer
+pub listed : {h h' : Job} {lines : Lines} (m : ℕ) → Within h.turn h.buf → GivesLines (lines_of h) (stream h) h.log (lines_of h).number lines h'.words h'.rows h'.log → h'.buf ≡ h.buf → Handed h.turn m lines h'.turn → m ≡ lines.written → Listed h h'
+listed {h} {h'} {lines} m w g b d e =
+    let t = h.turn in
+    let from : h'.turn.from ≡ t.from + lines.read = ap (λ (x : Turn). x.from) d.is in
+    let have : h'.turn.have ≡ t.have = ap (λ (x : Turn). x.have) d.is in
+    let at : stream h' ≡ at_hand (t.from + lines.read) t.have h.buf = rw (from, have, b) refl in
+    let few = passed_within t.from lines.read t.have h.buf w.ordered w.inside g.inside in
+    record {
+      words = g.words;
+      rows = g.params;
+      text = g.front;
+      handed = ap (λ (x : Turn). x.written) d.is ∙ e ∙ g.size;
+      within = record { ordered = omega (arith, from, have, few); inside = omega (arith, have, w.inside) };
+      rest = at ∙ passed t.from lines.read t.have h.buf ∙ g.rest;
+      same_bytes = b;
+      none = ap (λ (x : Turn). x.read) d.is;
+      follow = ap (λ (x : Turn). x.more) d.is;
+      next = ap (λ (x : Turn). x.index) d.is ∙ ap (λ (i : ℕ). Some i) g.next;
+      ends = d.ends ∙ ap (λ (x : Bool). x || lost h'.turn.stage) g.ends;
+    }
+
+-- n turns, with what they read and handed over
+pub record Going (h₀ h : Job) (n : ℕ) : Type 0 where
   pub input : List ℕ
   pub output : List ℕ
-  pub turns : Turns h₀ count input output h
+  pub turns : Turns h₀ n input output h
   pub bytes : IsBytes input
   pub within : Within h.turn h.buf
-  pub of_all : count + left ≡ 18446744073709551615
 
-pub going_none : (words : List ℕ) (rows : List (List ℕ)) (buf log : List ℕ) → Going (held words rows buf log first) (held words rows buf log first) 18446744073709551615
-going_none words rows buf log = record { count = 0; input = []; output = []; turns = none; bytes = tt; within = record { ordered = omega arith; inside = omega arith }; of_all = refl }
+pub going_none : (h : Job) → h.turn ≡ first → Going h h 0
+going_none h e = record { input = []; output = []; turns = none; bytes = tt; within = rw e (record { ordered = omega arith; inside = omega arith }) }
 
-pub going_on : {h₀ h h' : Held} {left : ℕ} → Going h₀ h left → h.turn.ended ≡ false → 0 < left → Turned h h' → length h'.buf ≡ length h.buf → IsBytes h'.buf → Going h₀ h' (left - 1)
-going_on {h'} g e l d same is = record { count = suc g.count; input = _; output = _; turns = and_turn g.turns e d; bytes = bytes_append g.input (bytes_read h') g.bytes (read_bytes h' is); within = turned_within d same; of_all = omega (arith, g.of_all) }
+pub going_on : {h₀ h h' : Job} {n : ℕ} → Going h₀ h n → ended h.turn.stage ≡ false → Turned h h' → length h'.buf ≡ length h.buf → IsBytes (bytes_read h') → Going h₀ h' (n + 1)
+going_on {h'} {n} g e d same is =
+    rw (add-one n)
+    (record { input = _; output = _; turns = and_turn g.turns e d; bytes = bytes_append g.input (bytes_read h') g.bytes is; within = turned_within d same })
 
 -- the job ended, or no turn is left
-pub ran : {words : List ℕ} {rows : List (List ℕ)} {buf log : List ℕ} {h : Held} {left : ℕ} → length words ≡ 24069 → Going (held words rows buf log first) h left → (h.turn.ended ≡ false → left ≡ 0) → Ran (held words rows buf log first) h
-ran {words} {rows} {buf} {log} s g z =
+pub ran : {h₀ h : Job} {n : ℕ} → h₀.turn ≡ first → length h₀.words ≡ 24069 → Going h₀ h n → (ended h.turn.stage ≡ false → n ≡ 18446744073709551615) → Ran h₀ h
+ran {h₀} {h} {n} f s g z =
+    let turns : Turns (held h₀.words h₀.rows h₀.buf h₀.log first) n g.input g.output h = subst (λ (t : Turn). Turns (held h₀.words h₀.rows h₀.buf h₀.log t) n g.input g.output h) f g.turns in
     record {
-      count = g.count;
+      count = n;
       input = g.input;
       output = g.output;
       turns = g.turns;
       bytes = g.bytes;
-      all = λ e. omega (arith, g.of_all, z e);
-      front = turns_front words rows buf log s g.turns g.bytes;
-      log = turns_log words rows buf log s g.turns g.bytes;
+      all = z;
+      front = turns_front h₀.words h₀.rows h₀.buf h₀.log s turns g.bytes;
+      log = turns_log h₀.words h₀.rows h₀.buf h₀.log s turns g.bytes;
     }

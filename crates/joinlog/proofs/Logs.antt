@@ -7,6 +7,7 @@ use Prim.Native.Nat.{ℕ, ◌+◌, ◌-◌}
 use native.Mathlib.Omega.{arith}
 use lib.ListN.{length, take, drop}
 use lib.Seq.{take_at, take-add}
+use Rattle.std.specs.Prelude.{Option, Some, None}
 use Rattle.definition.specs.Types.{State, fresh}
 use Rattle.definition.specs.Write.{Bytes, IsBytes}
 use Rattle.definition.specs.Sound.{sound}
@@ -23,8 +24,9 @@ use Rattle.sound.proofs.Decoded.{decoded, encode_lent}
 use Rattle.engine.specs.Public.{LentPiece, in_front, lent_piece, lent_lines}
 use Rattle.engine.proofs.Fresh.{from_fresh}
 use Rattle.turns.specs.declared.Turn.{Turn}
-use Rattle.turns.specs.Filling.{first, Filled}
-use Rattle.joinlog.specs.Turns.{Held, held, stream, job_lines, lines_of, Listed, reads, lists, bytes_read, text_handed, Turns, none, and_turn}
+use Rattle.turns.specs.Filling.{ended, lost, first, Filled}
+use Rattle.joinlog.specs.declared.Job.{Job}
+use Rattle.joinlog.specs.Turns.{held, stream, job_lines, lines_of, Listed, reads, lists, bytes_read, text_handed, Turns, none, and_turn}
 use Rattle.joinlog.proofs.Moves.{clash}
 
 -- ---- lists and tests
@@ -57,9 +59,14 @@ module _ (s : State) (ok : sound s ≡ true) (i : ℕ) (a : Bytes) (room : ℕ) 
       ∙ ap (λ (x : State). lent_piece (next_lines i x a room more)) (decoded s ok)
 
 -- the same lines are asked for
-same_lines : {b b' : Bool} {w w' : Bytes} {r r' : List Bytes} {i i' : ℕ} → b' ≡ b → w' ≡ w → r' ≡ r → i' ≡ i → (a : Bytes) (room : ℕ) (more : Bool) → job_lines b' w' r' i' a room more ≡ job_lines b w r i a room more
-same_lines {b} {w} {w'} {r} {r'} {i} {i'} eb ew er ei a room more =
-    ap (λ (c : Bool). job_lines c w' r' i' a room more) eb ∙ ap₂ (λ (x : Bytes) (y : List Bytes). job_lines b x y i' a room more) ew er ∙ ap (λ (k : ℕ). job_lines b w r k a room more) ei
+same_lines : {i i' : Option ℕ} {w w' : Bytes} {r r' : List Bytes} → i' ≡ i → w' ≡ w → r' ≡ r → (a : Bytes) (room : ℕ) (more : Bool) → job_lines i' w' r' a room more ≡ job_lines i w r a room more
+same_lines {i} {w'} {r'} ei ew er a room more =
+    ap (λ (k : Option ℕ). job_lines k w' r' a room more) ei ∙ ap₂ (λ (x : Bytes) (y : List Bytes). job_lines i x y a room more) ew er
+
+-- the next record's number
+abbrev number : Option ℕ → ℕ
+number None = 0
+number (Some i) = i
 
 -- ---- turn after turn
 
@@ -69,12 +76,12 @@ record Later (t : Turn) (b : Bytes) : Type 0 where
   pub none : t.more ≡ false → b ≡ []
 
 -- a sound state, from which the next lines come, and the log of all that was read and of b after it is the text handed to the writer, and then the log from here on
-record Stands (input output : Bytes) (h : Held) : Type 0 where
+record Stands (input output : Bytes) (h : Job) : Type 0 where
   pub state : State
-  pub asks : (a : Bytes) (room : ℕ) (more : Bool) → job_lines h.turn.begun h.words h.rows h.turn.index a room more ≡ lent_piece (next_lines h.turn.index state a room more)
+  pub asks : (a : Bytes) (room : ℕ) (more : Bool) → job_lines h.turn.index h.words h.rows a room more ≡ lent_piece (next_lines (number h.turn.index) state a room more)
   pub is_sound : sound state ≡ true
   pub bytes : IsBytes (stream h)
-  pub logs : (b : Bytes) → Later h.turn b → log_from 0 fresh (input ++ b) ≡ output ++ log_from h.turn.index state (stream h ++ b)
+  pub logs : (b : Bytes) → Later h.turn b → log_from 0 fresh (input ++ b) ≡ output ++ log_from (number h.turn.index) state (stream h ++ b)
 
 stands_first : (words : Bytes) (rows : List Bytes) (buf log : Bytes) → length words ≡ 24069 → Stands [] [] (held words rows buf log first)
 stands_first words rows buf log n = record {
@@ -85,7 +92,7 @@ stands_first words rows buf log n = record {
   logs = λ b l. refl;
 }
 
-module _ (input output : Bytes) (h h' : Held) (s : Stands input output h) where
+module _ (input output : Bytes) (h h' : Job) (s : Stands input output h) where
   module _ (more : h.turn.more ≡ true) (f : Filled h.buf h.turn h'.buf h'.turn) where
     -- the bytes at hand are those that were, and those read
     rest_read : stream h' ≡ stream h ++ bytes_read h'
@@ -104,14 +111,14 @@ module _ (input output : Bytes) (h h' : Held) (s : Stands input output h) where
     unfolding bytes_read lines job_from
     stands_read ew er is = record {
       state = s.state;
-      asks = λ a room more. same_lines f.same_begun ew er f.same_index a room more ∙ s.asks a room more ∙ ap (λ (i : ℕ). lent_piece (next_lines i s.state a room more)) (sym f.same_index);
+      asks = λ a room more. same_lines f.same_index ew er a room more ∙ s.asks a room more ∙ ap (λ (i : Option ℕ). lent_piece (next_lines (number i) s.state a room more)) (sym f.same_index);
       is_sound = s.is_sound;
       bytes = rw rest_read (bytes_append (stream h) (bytes_read h') s.bytes is);
       logs = λ b l. rw (append_assoc input (bytes_read h') b, none_handed, append-nil output, rest_read, f.same_index, append_assoc (stream h) (bytes_read h') b) (s.logs (bytes_read h' ++ b) (record { are = bytes_append (bytes_read h') b is l.are; none = λ z. clash more z }));
     }
 
   abbrev piece : Piece
-  piece = next_lines h.turn.index s.state (stream h) (length h.log) h.turn.more
+  piece = next_lines (number h.turn.index) s.state (stream h) (length h.log) h.turn.more
 
   lines_are : lines_of h ≡ lent_piece piece
   lines_are = s.asks (stream h) (length h.log) h.turn.more
@@ -133,7 +140,7 @@ module _ (input output : Bytes) (h h' : Held) (s : Stands input output h) where
     by_lines : (b : Bytes) → Later h'.turn b → log_from 0 fresh ((input ++ bytes_read h') ++ b) ≡ (output ++ text_handed h') ++ onward piece b
     by_lines b q =
         let none : h.turn.more ≡ false → b ≡ [] = λ z. q.none (l.follow ∙ z) in
-        let g = piece_follows h.turn.index s.state (stream h) b (length h.log) h.turn.more s.bytes q.are s.is_sound none in
+        let g = piece_follows (number h.turn.index) s.state (stream h) b (length h.log) h.turn.more s.bytes q.are s.is_sound none in
         rw (none_read, append-nil input, text_is, append_assoc output piece.text (onward piece b)) (s.logs b (record { are = q.are; none = none }) ∙ ap (λ (m : Bytes). output ++ m) g.is)
 
     goes_on : (b : Bytes) → piece.ended ≡ false → onward piece b ≡ log_from piece.index piece.state (piece.rest ++ b)
@@ -143,30 +150,30 @@ module _ (input output : Bytes) (h h' : Held) (s : Stands input output h) where
     by_last : piece.ended ≡ true → (b : Bytes) → Later h'.turn b → log_from 0 fresh ((input ++ bytes_read h') ++ b) ≡ output ++ text_handed h'
     by_last e b q = by_lines b q ∙ (rw e (append-nil (output ++ text_handed h')))
 
-    stands_listed : h'.turn.ended ≡ false → Stands (input ++ bytes_read h') (output ++ text_handed h') h'
+    stands_listed : ended h'.turn.stage ≡ false → Stands (input ++ bytes_read h') (output ++ text_handed h') h'
     unfolding lent_piece bytes_read text_handed
     stands_listed e =
-        let g = piece_follows h.turn.index s.state (stream h) [] (length h.log) h.turn.more s.bytes tt s.is_sound (λ z. refl) in
-        let o : piece.ended ≡ false = sym ended_is ∙ or_false _ h'.turn.lost (sym l.ends ∙ e) in
-        let n : h'.turn.index ≡ piece.index = l.next ∙ ap (λ (p : LentPiece). p.index) lines_are in
+        let g = piece_follows (number h.turn.index) s.state (stream h) [] (length h.log) h.turn.more s.bytes tt s.is_sound (λ z. refl) in
+        let o : piece.ended ≡ false = sym ended_is ∙ or_false _ (lost h'.turn.stage) (sym l.ends ∙ e) in
+        let n : h'.turn.index ≡ Some piece.index = l.next ∙ ap (λ (p : LentPiece). Some p.index) lines_are in
         let r : stream h' ≡ piece.rest = l.rest ∙ ap (λ (p : LentPiece). p.rest) lines_are in
         record {
           state = piece.state;
           asks = λ a room more.
-              same_lines l.begun (l.words ∙ ap (λ (p : LentPiece). p.words) lines_are)
-              (l.rows ∙ ap (λ (p : LentPiece). p.params) lines_are) n a room more
+              same_lines n (l.words ∙ ap (λ (p : LentPiece). p.words) lines_are)
+              (l.rows ∙ ap (λ (p : LentPiece). p.params) lines_are) a room more
               ∙ sound_lines piece.state g.left piece.index a room more
-              ∙ ap (λ (i : ℕ). lent_piece (next_lines i piece.state a room more)) (sym n);
+              ∙ ap (λ (i : Option ℕ). lent_piece (next_lines (number i) piece.state a room more)) (sym n);
           is_sound = g.left;
           bytes = rw r g.bytes;
           logs = λ b q. rw (r, n) (by_lines b q ∙ ap (λ (m : Bytes). (output ++ text_handed h') ++ m) (goes_on b o));
         }
 
 module _ (words : Bytes) (rows : List Bytes) (buf log : Bytes) (start : length words ≡ 24069) where
-  abbrev h₀ : Held
+  abbrev h₀ : Job
   h₀ = held words rows buf log first
 
-  stands : {n : ℕ} {input output : Bytes} {h : Held} → Turns h₀ n input output h → h.turn.ended ≡ false → IsBytes input → Stands input output h
+  stands : {n : ℕ} {input output : Bytes} {h : Job} → Turns h₀ n input output h → ended h.turn.stage ≡ false → IsBytes input → Stands input output h
   stands none e is = stands_first words rows buf log start
   stands (and_turn {input = input} {output = output} {h = h} {h' = h'} c o (reads cut ew er el f)) e is =
       stands_read input output h h' (stands c o (bytes_front input (bytes_read h') is)) (and_l h.turn.more _ cut) f ew er (bytes_back input (bytes_read h') is)
@@ -174,16 +181,16 @@ module _ (words : Bytes) (rows : List Bytes) (buf log : Bytes) (start : length w
       stands_listed input output h h' (stands c o (bytes_front input (bytes_read h') is)) l e
 
   -- the job ended, nothing was lost: the text is the log
-  pub turns_log : {n : ℕ} {input output : Bytes} {h : Held} → Turns h₀ n input output h → IsBytes input → h.turn.ended ≡ true → h.turn.lost ≡ false → (b : Bytes) → IsBytes b → (h.turn.more ≡ false → b ≡ []) → joinlog (input ++ b) ≡ output
+  pub turns_log : {n : ℕ} {input output : Bytes} {h : Job} → Turns h₀ n input output h → IsBytes input → ended h.turn.stage ≡ true → lost h.turn.stage ≡ false → (b : Bytes) → IsBytes b → (h.turn.more ≡ false → b ≡ []) → joinlog (input ++ b) ≡ output
   unfolding joinlog job_log
   turns_log none is e o b ib q = clash e refl
   turns_log (and_turn c d (reads cut ew er el f)) is e o b ib q = clash e (f.ends ∙ o)
   turns_log (and_turn {input = input} {output = output} {h = h} {h' = h'} c d (lists whole l)) is e o b ib q =
       let s = stands c d (bytes_front input (bytes_read h') is) in
-      by_last input output h h' s l (sym (ended_is input output h h' s l) ∙ or_left _ h'.turn.lost o (sym l.ends ∙ e)) b (record { are = ib; none = q })
+      by_last input output h h' s l (sym (ended_is input output h h' s l) ∙ or_left _ (lost h'.turn.stage) o (sym l.ends ∙ e)) b (record { are = ib; none = q })
 
   -- wherever the turns stopped: the text is a front of the log
-  pub turns_front : {n : ℕ} {input output : Bytes} {h : Held} → Turns h₀ n input output h → IsBytes input → (b : Bytes) → IsBytes b → (h.turn.more ≡ false → b ≡ []) → (later : Bytes) × (joinlog (input ++ b) ≡ output ++ later)
+  pub turns_front : {n : ℕ} {input output : Bytes} {h : Job} → Turns h₀ n input output h → IsBytes input → (b : Bytes) → IsBytes b → (h.turn.more ≡ false → b ≡ []) → (later : Bytes) × (joinlog (input ++ b) ≡ output ++ later)
   unfolding joinlog job_log
   turns_front none is b ib q = (joinlog b, refl)
   turns_front (and_turn {input = input} {output = output} {h = h} {h' = h'} c d (reads cut ew er el f)) is b ib q =

@@ -1,3 +1,3 @@
 -- Laws of the log. Assumes nothing.
-pub mod Put
+pub mod Writing
 pub mod Text

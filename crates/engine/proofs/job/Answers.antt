@@ -1,12 +1,9 @@
 -- `engine::job` meets its contract. Assumes nothing.
-use mathlib.Core.Path.{sym, ◌∙◌}
+use Rattle.std.proofs.lemmas.Result.{err_from_is_err_and}
 use Rattle.engine.proofs.Laws.{unsound_lines}
 use Rattle.engine.proofs.job.Goals as goal
 
-pub job_trusted-requires : goal.job_trusted-requires
-job_trusted-requires c = sym c.sound_state.ensures ∙ c.if-sound_state.true
-
-pub returns : goal.returns
-returns c = let told = c.refuse_job.ensures in
-    rw (told.0, told.1.0, told.1.1.0, told.1.1.1)
-    (unsound_lines _ _ _ _ _ _ (sym c.sound_state.ensures ∙ c.if-sound_state.false))
+pub returns-in_err-tested : goal.returns-in_err-tested
+returns-in_err-tested c =
+    let (e, is, why) = err_from_is_err_and c.from_residual.result c.from_residual.ensures.1 in
+    rw is (unsound_lines _ _ _ _ _ _ c.in_err-tested.ensures)
