@@ -4,6 +4,7 @@ use mathlib.Core.Path.{◌≡◌, refl, sym, ap, ◌∙◌, subst}
 use mathlib.Core.Bool.{Bool, true, false, not}
 use mathlib.Core.List.{List, [], ◌∷◌}
 use Rattle.std.specs.Prelude.{Option, None, Some}
+use Rattle.std.specs.Option.{is_some}
 use Prim.Native.Nat.{ℕ, suc, ◌+◌, ◌≤◌, ◌<◌}
 use native.Mathlib.Nat.{not-suc-le-zero}
 use native.Mathlib.Decide.{ℕ_discrete}
@@ -55,22 +56,22 @@ sixteen_is : (s : State) (t a : ℕ) (b : Bool) → reaches_itself s t ≡ false
 unfolding ability_hindrance
 sixteen_is s t a b e f = rw (e, ability_hindrance) (ap (λ (x : Bool). if x then Some mark_contradicted else None) (sym f))
 
-module _ {w : List ℕ} {u : Used} {t n : ℕ} (l : Levels w u t u.nodes n) where
-  pub ends_of : (n ≡ 0 → ⊥) → Ends w u n t
-  ends_of z = let e = l.over (omega arith) in record { few = e.few; over = e.ends }
+module _ {w : List ℕ} {u : Used} {t : ℕ} {r : Option ℕ} (l : Levels w u t u.nodes r) where
+  pub ends_of : {n : ℕ} → r ≡ Some n → Ends w u n t
+  ends_of {n} z = let e = l.over n z in record { few = e.few; over = e.ends }
 
-  pub hindered_nine : (params : List (List ℕ)) (sets : List ℕ) (a : ℕ) → n ≡ 0 → Kept w u params sets → Hindered w u params sets sets 9 (λ s. ability_hindrance s t a) (λ x. HasSet x t)
+  pub hindered_nine : (params : List (List ℕ)) (sets : List ℕ) (a : ℕ) → r ≡ None → Kept w u params sets → Hindered w u params sets sets 9 (λ s. ability_hindrance s t a) (λ x. HasSet x t)
   hindered_nine params sets a z k = record {
     kept = k;
     still = λ x y. y;
     number = nine;
-    is = λ ds kn. nine_is (seen w u ds) t a (sym (reaches_is w u t n l ds) ∙ eq-eqb n 0 z);
+    is = λ ds kn. nine_is (seen w u ds) t a (sym (reaches_is w u t r l true (ap is_some z) ds));
     all = λ e. absurd (omega arith);
   }
 
-  module _ (params : List (List ℕ)) (sets sets' : List ℕ) (a : ℕ) (z : n ≡ 0 → ⊥) (i : Inferred w u params t sets sets') (b : Bool) (f : (ds : List Struct) → Known w u params ds → b ≡ any_of (clashes (seen w u ds) t) (missing (seen w u ds) t a)) where
+  module _ (params : List (List ℕ)) (sets sets' : List ℕ) (a : ℕ) {n : ℕ} (z : r ≡ Some n) (i : Inferred w u params t sets sets') (b : Bool) (f : (ds : List Struct) → Known w u params ds → b ≡ any_of (clashes (seen w u ds) t) (missing (seen w u ds) t a)) where
     by_mark : (ds : List Struct) → Known w u params ds → ability_hindrance (seen w u ds) t a ≡ (if b then Some mark_contradicted else None)
-    by_mark ds k = sixteen_is (seen w u ds) t a b (sym (reaches_is w u t n l ds) ∙ ne_eqb n 0 z) (f ds k)
+    by_mark ds k = sixteen_is (seen w u ds) t a b (sym (reaches_is w u t r l false (ap is_some z) ds)) (f ds k)
 
     pub hindered_sixteen : b ≡ true → Hindered w u params sets sets' 16 (λ s. ability_hindrance s t a) (λ x. HasSet x t)
     hindered_sixteen e = record { kept = i.kept; still = i.still; number = sixteen; is = λ ds k. by_mark ds k ∙ ap (λ (x : Bool). if x then Some mark_contradicted else None) e; all = λ y. absurd (omega arith) }

@@ -430,10 +430,9 @@ fn ability_hinders(
     requires ends_known { EndsKnown w.now u ends.now }
     ensures { Measured w.now u heights.new × Hindered w.now u params.now sets.old sets.new result (λ s. ability_hindrance s a.ty a.set.0) (λ l. HasSet l a.ty) }
 {
-    let n = ends::levels(w, u, a.ty, u.nodes, ends, heights);
-    if n == 0 {
+    let Some(n) = ends::levels(w, u, a.ty, u.nodes, ends, heights) else {
         return 9;
-    }
+    };
     infer(w, u, params, a.ty, n, ends, sets);
     if any_contradicts(w, u, params, a, ends, sets) {
         return 16;

@@ -1,5 +1,5 @@
 -- The arms of references and of named types, by their guards; those of a variable or an error beside the other shapes. Assumes nothing.
-use mathlib.Core.Path.{◌≡◌, refl, ap, ◌∙◌}
+use mathlib.Core.Path.{◌≡◌, refl, sym, ap, ◌∙◌}
 use mathlib.Core.Bool.{Bool, true, false, ◌&&◌}
 use mathlib.Core.List.{List, [], ◌∷◌}
 use Prim.Native.Nat.{ℕ}
@@ -12,10 +12,16 @@ use Rattle.definition.specs.Join.{arm, join_arm, join_refs, join_mut, join_loc, 
 use Rattle.names.specs.Names.{mark_of, name_of}
 use Rattle.names.specs.declared.TVar.{TVar}
 use Rattle.names.specs.declared.TParamID.{TParamID}
+use Rattle.std.specs.Prelude.{Option, None, Some}
+use Rattle.std.specs.Option.{option_eq}
 use Rattle.names.specs.declared.AbilitySet.{AbilitySet}
+use Rattle.names.specs.declared.TypeName.{TypeName}
+use Rattle.names.specs.declared.TypeName.TheVariants.{Multiple, Builtin, ModuleType}
+use Rattle.names.specs.contracts.TypeNamePartialEq.TheImpl.{eq-value as name_eq}
+use Rattle.names.specs.contracts.AbilitySetPartialEq.TheImpl.{eq-value as set_eq}
 use Rattle.table.specs.State.{shape_of}
 use Rattle.table.specs.declared.Shape.{Shape}
-use Rattle.table.specs.declared.Shape.TheVariants.{Unit as UnitS, Ref, Param, Var, Anything, UnresolvedError}
+use Rattle.table.specs.declared.Shape.TheVariants.{Unit as UnitS, Ref, Param, Apply, Var, Anything, UnresolvedError}
 use Rattle.table.specs.contracts.Shape.{the_type}
 use Rattle.shapes.specs.Applied.{as_shape}
 use Rattle.shapes.specs.declared.Applied.{Applied}
@@ -49,36 +55,71 @@ subtype_imm_mut t1 t2 = record { is = λ J s l r. refl; below = λ args n a b. t
 
 -- ---- named types
 
+-- `==` on names and on marks
+pub names_same : (a b : TypeName) → name_eq.it a b ≡ same_name (name_of a) (name_of b)
+unfolding same_name
+names_same (Multiple a) (Multiple b) = refl
+names_same (Multiple a) (Builtin b) = refl
+names_same (Multiple a) (ModuleType b) = refl
+names_same (Builtin a) (Multiple b) = refl
+names_same (Builtin a) (Builtin b) = refl
+names_same (Builtin a) (ModuleType b) = refl
+names_same (ModuleType a) (Multiple b) = refl
+names_same (ModuleType a) (Builtin b) = refl
+names_same (ModuleType a) (ModuleType b) = refl
+
+pub marks_same : (a b : Option AbilitySet) → option_eq set_eq.it a b ≡ same_mark (mark_of a) (mark_of b)
+unfolding same_mark
+marks_same None None = refl
+marks_same None (Some b) = refl
+marks_same (Some a) None = refl
+marks_same (Some a) (Some b) = refl
+
 and_false : (a b : Bool) → a && b && false ≡ false
 and_false true true = refl
 and_false true false = refl
 and_false false b = refl
 
+pub not_multiple : (n : TypeName) → ((x : ℕ) → n ≡ Multiple x → ⊥) → is_multiple (name_of n) ≡ false
+unfolding is_multiple
+not_multiple (Multiple x) h = absurd (h x refl)
+not_multiple (Builtin b) h = refl
+not_multiple (ModuleType m) h = refl
+
 module _ (a1 a2 : Applied) (case : j.TypingCase) where
-  pub applies_same : same_name (name_of a1.n) (name_of a2.n) ≡ true → same_mark (mark_of a1.k) (mark_of a2.k) ≡ true
-      → Takes case (as_shape a1) (as_shape a2) (Applies a1 a2)
-  unfolding arm join_arm by_arm with_args join_applies
-  applies_same p q = record { is = λ J s l r. rw (p, q, and_false); below = λ args n a b. (a, b) }
+  module _ (p : name_eq.it a1.n a2.n ≡ true) where
+    names : same_name (name_of a1.n) (name_of a2.n) ≡ true
+    names = sym (names_same a1.n a2.n) ∙ p
 
-  pub applies_disagree : same_name (name_of a1.n) (name_of a2.n) ≡ true → same_mark (mark_of a1.k) (mark_of a2.k) ≡ false
-      → Takes case (as_shape a1) (as_shape a2) Disagree
-  unfolding arm join_arm by_arm with_args join_applies
-  applies_disagree p q = record { is = λ J s l r. rw (p, q, and_false); below = λ args n a b. tt }
+    pub applies_same : option_eq set_eq.it a1.k a2.k ≡ true → Takes case (as_shape a1) (as_shape a2) (Applies a1 a2)
+    unfolding arm join_arm by_arm with_args join_applies
+    applies_same q = let r = sym (marks_same a1.k a2.k) ∙ q in record { is = λ J s l r'. rw (names, r, and_false); below = λ args n a b. (a, b) }
 
-  pub applies_arity : same_name (name_of a1.n) (name_of a2.n) ≡ false → is_multiple (name_of a1.n) ≡ true → is_multiple (name_of a2.n) ≡ true
-      → Takes case (as_shape a1) (as_shape a2) ArityMismatch
-  unfolding arm join_arm by_arm with_args join_applies
-  applies_arity p q1 q2 = record { is = λ J s l r. rw (p, q1, q2); below = λ args n a b. tt }
+    pub applies_disagree : option_eq set_eq.it a1.k a2.k ≡ false → Takes case (as_shape a1) (as_shape a2) Disagree
+    unfolding arm join_arm by_arm with_args join_applies
+    applies_disagree q = let r = sym (marks_same a1.k a2.k) ∙ q in record { is = λ J s l r'. rw (names, r, and_false); below = λ args n a b. tt }
 
-  pub applies_other_left : same_name (name_of a1.n) (name_of a2.n) ≡ false → is_multiple (name_of a1.n) ≡ false
-      → Takes case (as_shape a1) (as_shape a2) Incompatible
-  unfolding arm join_arm by_arm with_args join_applies
-  applies_other_left p q = record { is = λ J s l r. rw (p, q); below = λ args n a b. tt }
+  module _ (p : name_eq.it a1.n a2.n ≡ false) where
+    names_not : same_name (name_of a1.n) (name_of a2.n) ≡ false
+    names_not = sym (names_same a1.n a2.n) ∙ p
 
-  pub applies_other_right : same_name (name_of a1.n) (name_of a2.n) ≡ false → is_multiple (name_of a1.n) ≡ true → is_multiple (name_of a2.n) ≡ false
-      → Takes case (as_shape a1) (as_shape a2) Incompatible
-  unfolding arm join_arm by_arm with_args join_applies
-  applies_other_right p q1 q2 = record { is = λ J s l r. rw (p, q1, q2); below = λ args n a b. tt }
+    pub applies_arity : (x1 x2 : ℕ) → a1.n ≡ Multiple x1 → a2.n ≡ Multiple x2 → Takes case (as_shape a1) (as_shape a2) ArityMismatch
+    unfolding arm join_arm by_arm with_args join_applies is_multiple
+    applies_arity x1 x2 e1 e2 =
+        let m1 : is_multiple (name_of a1.n) ≡ true = rw e1 refl in
+        let m2 : is_multiple (name_of a2.n) ≡ true = rw e2 refl in
+        record { is = λ J s l r. rw (names_not, m1, m2); below = λ args n a b. tt }
+
+    pub applies_other_left : ((x : ℕ) → a1.n ≡ Multiple x → ⊥) → Takes case (as_shape a1) (as_shape a2) Incompatible
+    unfolding arm join_arm by_arm with_args join_applies
+    applies_other_left h = let m = not_multiple a1.n h in record { is = λ J s l r. rw (names_not, m); below = λ args n a b. tt }
+
+    pub applies_other_right : (x1 : ℕ) → a1.n ≡ Multiple x1 → ((x : ℕ) → a2.n ≡ Multiple x → ⊥) → Takes case (as_shape a1) (as_shape a2) Incompatible
+    unfolding arm join_arm by_arm with_args join_applies is_multiple
+    applies_other_right x1 e1 h =
+        let m1 : is_multiple (name_of a1.n) ≡ true = rw e1 refl in
+        let m2 = not_multiple a2.n h in
+        record { is = λ J s l r. rw (names_not, m1, m2); below = λ args n a b. tt }
 
 -- ---- the other shapes beside a variable or an error
 
@@ -110,13 +151,15 @@ module _ (case : j.TypingCase) where
 
 -- ---- a type that is no variable, `_` or error, beside one of another shape
 
--- the shapes that are no variable, `_` or error
-abbrev plain_tags : List ℕ
-plain_tags = 0 ∷ 1 ∷ 2 ∷ 3 ∷ []
-
-plain_arm : (rhs : Shape) → OneOf plain_tags (tag_of the_type rhs) → (s : State) → other_arm (with_args s (shape_of rhs)) ≡ j.Others
+plain_arm : (rhs : Shape) → ((v : TVar) → rhs ≡ Var v → ⊥) → (rhs ≡ Anything → ⊥) → (rhs ≡ UnresolvedError → ⊥) → (s : State) → other_arm (with_args s (shape_of rhs)) ≡ j.Others
 unfolding with_args other_arm
-plain_arm = other_shapes plain_tags (λ rhs. (s : State) → other_arm (with_args s (shape_of rhs)) ≡ j.Others) (λ s. refl) (λ m t s. refl) (λ p c s. refl) (λ c t first many s. refl) tt tt tt
+plain_arm UnitS v a e s = refl
+plain_arm (Ref m t) v a e s = refl
+plain_arm (Param p c) v a e s = refl
+plain_arm (Apply k n first many) v a e s = refl
+plain_arm (Var x) v a e s = absurd (v x refl)
+plain_arm Anything v a e s = absurd (a refl)
+plain_arm UnresolvedError v a e s = absurd (e refl)
 
 module _ (case : j.TypingCase) (lhs : Shape) where
   pub other_var : (id : TVar) → Unlike lhs (Var id) → Takes case lhs (Var id) (VarRhs id)
@@ -131,22 +174,46 @@ module _ (case : j.TypingCase) (lhs : Shape) where
   unfolding join_arm by_arm with_args other_arm
   other_error u = by_own case lhs UnresolvedError Lhs j.ErrorR u (λ J s l r. refl) (λ args n. tt)
 
-  pub other_plain : (rhs : Shape) → OneOf plain_tags (tag_of the_type rhs) → Unlike lhs rhs → Takes case lhs rhs Incompatible
+  pub other_plain : (rhs : Shape) → ((v : TVar) → rhs ≡ Var v → ⊥) → (rhs ≡ Anything → ⊥) → (rhs ≡ UnresolvedError → ⊥) → Unlike lhs rhs → Takes case lhs rhs Incompatible
   unfolding join_arm by_arm
-  other_plain rhs k u = by_own case lhs rhs Incompatible j.Others (λ s. u s ∙ plain_arm rhs k s) (λ J s l r. refl) (λ args n. tt)
+  other_plain rhs v a e u = by_own case lhs rhs Incompatible j.Others (λ s. u s ∙ plain_arm rhs v a e s) (λ J s l r. refl) (λ args n. tt)
 
-pub unit_unlike : (rhs : Shape) → OneOf (1 ∷ 2 ∷ 3 ∷ 4 ∷ 5 ∷ 6 ∷ []) (tag_of the_type rhs) → Unlike UnitS rhs
+pub unit_unlike : (rhs : Shape) → (rhs ≡ UnitS → ⊥) → Unlike UnitS rhs
 unfolding arm with_args other_arm
-unit_unlike = other_shapes (1 ∷ 2 ∷ 3 ∷ 4 ∷ 5 ∷ 6 ∷ []) (Unlike UnitS) tt (λ m t s. refl) (λ p c s. refl) (λ c t first many s. refl) (λ v s. refl) (λ s. refl) (λ s. refl)
+unit_unlike UnitS h s = absurd (h refl)
+unit_unlike (Ref m t) h s = refl
+unit_unlike (Param p c) h s = refl
+unit_unlike (Apply k n first many) h s = refl
+unit_unlike (Var v) h s = refl
+unit_unlike Anything h s = refl
+unit_unlike UnresolvedError h s = refl
 
-pub ref_unlike : (mut1 : Bool) (t1 : ℕ) (rhs : Shape) → OneOf (0 ∷ 2 ∷ 3 ∷ 4 ∷ 5 ∷ 6 ∷ []) (tag_of the_type rhs) → Unlike (Ref mut1 t1) rhs
+pub ref_unlike : (mut1 : Bool) (t1 : ℕ) (rhs : Shape) → ((m : Bool) (t : ℕ) → rhs ≡ Ref m t → ⊥) → Unlike (Ref mut1 t1) rhs
 unfolding arm with_args other_arm
-ref_unlike mut1 t1 = other_shapes (0 ∷ 2 ∷ 3 ∷ 4 ∷ 5 ∷ 6 ∷ []) (Unlike (Ref mut1 t1)) (λ s. refl) tt (λ p c s. refl) (λ c t first many s. refl) (λ v s. refl) (λ s. refl) (λ s. refl)
+ref_unlike mut1 t1 UnitS h s = refl
+ref_unlike mut1 t1 (Ref m t) h s = absurd (h m t refl)
+ref_unlike mut1 t1 (Param p c) h s = refl
+ref_unlike mut1 t1 (Apply k n first many) h s = refl
+ref_unlike mut1 t1 (Var v) h s = refl
+ref_unlike mut1 t1 Anything h s = refl
+ref_unlike mut1 t1 UnresolvedError h s = refl
 
-pub param_unlike : (id1 : TParamID) (a1 : AbilitySet) (rhs : Shape) → OneOf (0 ∷ 1 ∷ 3 ∷ 4 ∷ 5 ∷ 6 ∷ []) (tag_of the_type rhs) → Unlike (Param id1 a1) rhs
+pub param_unlike : (id1 : TParamID) (a1 : AbilitySet) (rhs : Shape) → ((p : TParamID) (c : AbilitySet) → rhs ≡ Param p c → ⊥) → Unlike (Param id1 a1) rhs
 unfolding arm with_args other_arm
-param_unlike id1 a1 = other_shapes (0 ∷ 1 ∷ 3 ∷ 4 ∷ 5 ∷ 6 ∷ []) (Unlike (Param id1 a1)) (λ s. refl) (λ m t s. refl) tt (λ c t first many s. refl) (λ v s. refl) (λ s. refl) (λ s. refl)
+param_unlike id1 a1 UnitS h s = refl
+param_unlike id1 a1 (Ref m t) h s = refl
+param_unlike id1 a1 (Param p c) h s = absurd (h p c refl)
+param_unlike id1 a1 (Apply k n first many) h s = refl
+param_unlike id1 a1 (Var v) h s = refl
+param_unlike id1 a1 Anything h s = refl
+param_unlike id1 a1 UnresolvedError h s = refl
 
-pub apply_unlike : (a1 : Applied) (rhs : Shape) → OneOf (0 ∷ 1 ∷ 2 ∷ 4 ∷ 5 ∷ 6 ∷ []) (tag_of the_type rhs) → Unlike (as_shape a1) rhs
+pub apply_unlike : (k1 : Option AbilitySet) (n1 : TypeName) (first1 many1 : ℕ) (rhs : Shape) → ((k : Option AbilitySet) (n : TypeName) (first many : ℕ) → rhs ≡ Apply k n first many → ⊥) → Unlike (Apply k1 n1 first1 many1) rhs
 unfolding arm with_args other_arm
-apply_unlike a1 = other_shapes (0 ∷ 1 ∷ 2 ∷ 4 ∷ 5 ∷ 6 ∷ []) (Unlike (as_shape a1)) (λ s. refl) (λ m t s. refl) (λ p c s. refl) tt (λ v s. refl) (λ s. refl) (λ s. refl)
+apply_unlike k1 n1 first1 many1 UnitS h s = refl
+apply_unlike k1 n1 first1 many1 (Ref m t) h s = refl
+apply_unlike k1 n1 first1 many1 (Param p c) h s = refl
+apply_unlike k1 n1 first1 many1 (Apply k n first many) h s = absurd (h k n first many refl)
+apply_unlike k1 n1 first1 many1 (Var v) h s = refl
+apply_unlike k1 n1 first1 many1 Anything h s = refl
+apply_unlike k1 n1 first1 many1 UnresolvedError h s = refl

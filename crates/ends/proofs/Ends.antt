@@ -17,7 +17,6 @@ use Rattle.table.specs.declared.Out.{Out}
 use Rattle.shapes.specs.Parts.{next}
 use Rattle.ends.specs.Ends.{EndsBy, Noted, Meets, EndsKnown}
 use Rattle.ends.specs.declared.Meeting.{Meeting}
-use Rattle.ends.specs.declared.Meeting.TheVariants.{End}
 use Rattle.table.proofs.Pushed.{taken_seen}
 use Rattle.subst.proofs.Laws.{forward_none, forward_some}
 use Rattle.subst.proofs.Occurs.{zero_at}
@@ -103,14 +102,14 @@ pub following_start : (w : List ℕ) (u : Used) (v longest : ℕ) → Following 
 following_start w u v longest = record { le = omega arith; back = λ m n x e b. by_more n b (omega arith) }
 
 module _ {w : List ℕ} {u : Used} {v longest cur long : ℕ} (f : Following w u v longest cur long) (h : long ≤ u.vars) where
-  pub following_noted : (ends : List ℕ) → Noted w u longest ends → (x : ℕ) → x ≡ get_or ends cur 0 → 0 < x → Meets w u v longest (End x long)
+  pub following_noted : (ends : List ℕ) → Noted w u longest ends → (x : ℕ) → x ≡ get_or ends cur 0 → 0 < x → Meets w u v longest (Some (record { end = x; long = long }))
   following_noted ends t x e p =
       let b = t.ends_by cur (rw (← e) p) in
       (f.le, (h, f.back longest long x (omega arith) (rw e b)))
 
   module _ (r : Option TVar) (e : (ds : List Struct) → next r ≡ next_of (seen w u ds) cur) where
-    pub following_last : r ≡ None → (x : ℕ) → x ≡ cur → x < 65536 → Meets w u v longest (End (x + 1) long)
-    following_last z x y l = (f.le, (h, f.back longest long (x + 1) (omega arith) (rw y (by_here cur longest (rw (← y) l) (λ ds. sym (e ds) ∙ ap next z)))))
+    pub following_last : r ≡ None → (x : ℕ) → x ≡ cur + 1 → x ≤ 65536 → Meets w u v longest (Some (record { end = x; long = long }))
+    following_last z x y l = (f.le, (h, f.back longest long x (omega arith) (rw y (by_here cur longest (omega arith) (λ ds. sym (e ds) ∙ ap next z)))))
 
     pub following_on : (y : TVar) → r ≡ Some y → Following w u v longest y.0 (long + 1)
     following_on y z =
@@ -131,8 +130,8 @@ module _ {w : List ℕ} {u : Used} {x long : ℕ} {ends : List ℕ} {cur : ℕ} 
   pub noting_on : (r : Option TVar) → ((ds : List Struct) → next r ≡ next_of (seen w u ds) cur) → (y : TVar) → r ≡ Some y → Noting w u x long ends' y.0
   noting_on r f y z = record { noted = noting_done; here = by_next y.0 g.here (λ ds. sym (f ds) ∙ ap next z) }
 
-pub meets_end : {w : List ℕ} {u : Used} {v longest : ℕ} (r : Meeting) → Meets w u v longest r → (x long : ℕ) → r ≡ End x long → (longest ≤ long) × ((long ≤ u.vars) × EndsBy w u v long x)
-meets_end {w} {u} {v} {longest} r m x long z = rw z at m
+pub meets_end : {w : List ℕ} {u : Used} {v longest : ℕ} (r : Option Meeting) → Meets w u v longest r → (m : Meeting) → r ≡ Some m → (longest ≤ m.long) × ((m.long ≤ u.vars) × EndsBy w u v m.long m.end)
+meets_end {w} {u} {v} {longest} r h m z = rw z at h
 
 -- ---- an answer anew
 

@@ -1,13 +1,13 @@
 -- The test for a type that runs into itself, by the levels of the nodes that reading goes on to. Assumes nothing.
 use mathlib.Core.Path.{◌≡◌, refl, sym, ap, ◌∙◌, subst}
-use mathlib.Core.Bool.{true, false}
+use mathlib.Core.Bool.{Bool, true, false, not}
 use mathlib.Core.List.{List, []}
 use Prim.Native.Nat.{ℕ, zero, suc, ◌+◌, ◌-◌, ◌<◌, ◌≤◌}
 use native.Mathlib.Nat.{not-suc-le-zero}
 use native.Mathlib.Decide.{ℕ_discrete, dec_lt}
 use native.Mathlib.Omega.{arith}
-use lib.Dec.{eqb}
-use borrow.Author.Tests.{eq-eqb, ne_eqb}
+use Rattle.std.specs.Prelude.{Option, None, Some, max}
+use Rattle.std.specs.Option.{is_some}
 use lib.ListN.{length, get_or, set, length-set, replicate, length-replicate}
 use lib.Seq.{get_or-set_same, get_or-set_other}
 use Rattle.definition.specs.Types as d
@@ -21,7 +21,7 @@ use Rattle.table.specs.declared.Shape.{Shape}
 use Rattle.table.specs.declared.Shape.TheVariants.{Anything as AnythingS}
 use Rattle.shapes.specs.Parts.{part_count}
 use Rattle.subst.specs.Answers.{unfolded, UnfoldedIn, Unfolds}
-use Rattle.ends.specs.Itself.{Goes_on, Higher, EndsAt, Measured, Levels, Soon}
+use Rattle.ends.specs.Itself.{Goes_on, EndsAt, Measured, Levels, Soon}
 use Rattle.subst.specs.declared.Unfolded.{Unfolded}
 use Rattle.subst.specs.declared.Unfolded.TheVariants.{Node as NodeU, Anything}
 use Rattle.ends.proofs.Lists.{all_all, all_one}
@@ -119,7 +119,6 @@ pub record Read (w : List ℕ) (u : Used) (t left : ℕ) (sh : Shape) (many : �
   pub some_left : 0 < left
   pub goes : Goes_on w u t sh
   pub many_is : many ≡ part_count (shape_of sh)
-  pub le : i ≤ many
   pub measured : Measured w u heights
   pub over : (ds : List Struct) (j : ℕ) → j < i → (m : ℕ) → high ≤ m → ends_in m (seen w u ds) (get_or (goes_on_to (seen w u ds) t) j 0) ≡ true
   pub no_fewer : (ds : List Struct) (m : ℕ) → m < high → all_of (λ p. ends_in m (seen w u ds) p) (goes_on_to (seen w u ds) t) ≡ false
@@ -133,19 +132,18 @@ read_none w u t left sh many heights h i r n g e m = record {
   some_left = omega arith;
   goes = g;
   many_is = e;
-  le = omega arith;
   measured = m;
   over = λ ds j p. absurd (not-suc-le-zero p);
   no_fewer = λ ds m p. absurd (not-suc-le-zero p);
 }
 
 -- an answer that is known already
-pub levels_known : (w : List ℕ) (u : Used) (t left : ℕ) (heights : List ℕ) → Measured w u heights → 0 < get_or heights t 0 → Levels w u t left (get_or heights t 0)
-levels_known w u t left heights m p = record { over = λ q. m.ends t p; not_over = λ z. absurd (omega arith) }
+pub levels_known : (w : List ℕ) (u : Used) (t left : ℕ) (heights : List ℕ) → Measured w u heights → 0 < get_or heights t 0 → Levels w u t left (Some (get_or heights t 0))
+levels_known w u t left heights m p = record { over = λ n z. let e : get_or heights t 0 ≡ n = cc in rw (← e) (m.ends t p); not_over = λ z. cc }
 
 -- no levels are left
-pub levels_none : (w : List ℕ) (u : Used) (t left : ℕ) → left ≡ 0 → Levels w u t left 0
-levels_none w u t left z = record { over = λ q. absurd (not-suc-le-zero q); not_over = λ y ds. ap (λ (n : ℕ). ends_in n (seen w u ds) t) z ∙ ends_zero (seen w u ds) t }
+pub levels_none : (w : List ℕ) (u : Used) (t left : ℕ) → left ≡ 0 → Levels w u t left None
+levels_none w u t left z = record { over = λ n q. cc; not_over = λ y ds. ap (λ (n : ℕ). ends_in n (seen w u ds) t) z ∙ ends_zero (seen w u ds) t }
 
 module _ {w : List ℕ} {u : Used} {t left : ℕ} {sh : Shape} {many : ℕ} {heights : List ℕ} {high i : ℕ} (h : Read w u t left sh many heights high i) where
   one_less : (n : ℕ) → 0 < n → n ≡ suc (n - 1)
@@ -164,41 +162,40 @@ module _ {w : List ℕ} {u : Used} {t left : ℕ} {sh : Shape} {many : ℕ} {hei
     part_out : (ds : List Struct) (m : ℕ) → ends_in m (seen w u ds) p ≡ false → all_of (λ q. ends_in m (seen w u ds) q) (goes_on_to (seen w u ds) t) ≡ false
     part_out ds m f = all_one (λ q. ends_in m (seen w u ds) q) (goes_on_to (seen w u ds) t) i (in_list ds) (sym (ap (λ (q : ℕ). ends_in m (seen w u ds) q) (is_part ds)) ∙ f)
 
-    module _ (n : ℕ) (r : Levels w u p (left - 1) n) where
+    module _ (x : Option ℕ) (r : Levels w u p (left - 1) x) where
       -- this part is not over
-      pub levels_out : n ≡ 0 → Levels w u t left 0
-      levels_out z = record { over = λ q. absurd (not-suc-le-zero q); not_over = λ y ds. all_parts ds ∙ part_out ds (left - 1) (r.not_over z ds) }
+      pub levels_out : x ≡ None → Levels w u t left None
+      levels_out z = record { over = λ n q. cc; not_over = λ y ds. all_parts ds ∙ part_out ds (left - 1) (r.not_over z ds) }
 
-      pub read_more : (n ≡ 0 → ⊥) → (high' : ℕ) → Higher high n high' → (heights' : List ℕ) → Measured w u heights' → Read w u t left sh many heights' high' (i + 1)
-      read_more z high' k heights' c = record {
+      pub read_more : (n : ℕ) → x ≡ Some n → (high' : ℕ) → high' ≡ max high n → (heights' : List ℕ) → Measured w u heights' → Read w u t left sh many heights' high' (i + 1)
+      read_more n z high' k heights' c = record {
         lay = h.lay;
         in_nodes = h.in_nodes;
         room = h.room;
         some_left = h.some_left;
         goes = h.goes;
         many_is = h.many_is;
-        le = omega arith;
         measured = c;
         over = λ ds j q m b. over_more ds j q m b (ℕ_discrete j i);
         no_fewer = λ ds m q. fewer ds m q (dec_lt m high);
       }
         where
           ends : EndsAt w u p n
-          ends = r.over (omega arith)
+          ends = r.over n z
 
           over_more : (ds : List Struct) (j : ℕ) → j < i + 1 → (m : ℕ) → high' ≤ m → Dec (j ≡ i) → ends_in m (seen w u ds) (get_or (goes_on_to (seen w u ds) t) j 0) ≡ true
-          over_more ds j q m b (yes y) = rw (y, ← is_part ds) (ends.ends ds m (let a = k.second in omega arith))
-          over_more ds j q m b (no y) = h.over ds j (omega arith) m (let a = k.first in omega arith)
+          over_more ds j q m b (yes y) = rw (y, ← is_part ds) (ends.ends ds m (omega arith))
+          over_more ds j q m b (no y) = h.over ds j (omega arith) m (omega arith)
 
           fewer : (ds : List Struct) (m : ℕ) → m < high' → Dec (m < high) → all_of (λ q. ends_in m (seen w u ds) q) (goes_on_to (seen w u ds) t) ≡ false
           fewer ds m q (yes y) = h.no_fewer ds m y
-          fewer ds m q (no y) = part_out ds m (ends.no_fewer ds m (k.no_more m q (omega arith)))
+          fewer ds m q (no y) = part_out ds m (ends.no_fewer ds m (omega arith))
 
   -- all parts are read
   module _ (l : many ≤ i) where
     -- .. and take too many levels
-    pub levels_over : u.nodes ≤ high → Levels w u t left 0
-    levels_over b = record { over = λ q. absurd (not-suc-le-zero q); not_over = λ y ds. all_parts ds ∙ h.no_fewer ds (left - 1) (let a = h.room in let c = h.some_left in omega arith) }
+    pub levels_over : u.nodes ≤ high → Levels w u t left None
+    levels_over b = record { over = λ n q. cc; not_over = λ y ds. all_parts ds ∙ h.no_fewer ds (left - 1) (let a = h.room in let c = h.some_left in omega arith) }
 
     ends_by : (ds : List Struct) (m : ℕ) → high + 1 ≤ m → ends_in m (seen w u ds) t ≡ true
     ends_by ds zero q = absurd (omega arith)
@@ -216,8 +213,8 @@ module _ {w : List ℕ} {u : Used} {t left : ℕ} {sh : Shape} {many : ℕ} {hei
     pub ends_here : high < u.nodes → EndsAt w u t (high + 1)
     ends_here b = record { few = omega arith; ends = ends_by; no_fewer = ends_not }
 
-    pub levels_here : high < u.nodes → Levels w u t left (high + 1)
-    levels_here b = record { over = λ q. ends_here b; not_over = λ z. absurd (omega arith) }
+    pub levels_here : high < u.nodes → Levels w u t left (Some (high + 1))
+    levels_here b = record { over = λ n z. let e : high + 1 ≡ n = cc in rw (← e) (ends_here b); not_over = λ z. cc }
 
 -- ---- the heights
 
@@ -235,16 +232,17 @@ measured_none w u = record { size = length-replicate {A = ℕ} 2048 0; ends = λ
 
 -- ---- the whole test
 
-pub reaches_is : (w : List ℕ) (u : Used) (t n : ℕ) → Levels w u t u.nodes n → (ds : List Struct) → eqb n 0 ≡ reaches_itself (seen w u ds) t
+pub reaches_is : (w : List ℕ) (u : Used) (t : ℕ) (r : Option ℕ) → Levels w u t u.nodes r → (b : Bool) → is_some r ≡ not b → (ds : List Struct) → b ≡ reaches_itself (seen w u ds) t
 unfolding reaches_itself
-reaches_is w u t zero r ds = eq-eqb 0 0 refl ∙ sym (rw (count_seen w u ds, r.not_over refl ds) refl)
-reaches_is w u t (suc n) r ds =
-    ne_eqb (suc n) 0 (λ z. omega arith) ∙ sym (rw (count_seen w u ds, (r.over (omega arith)).ends ds u.nodes (r.over (omega arith)).few) refl)
+reaches_is w u t None r true e ds = sym (rw (count_seen w u ds, r.not_over refl ds) refl)
+reaches_is w u t None r false e ds = cc
+reaches_is w u t (Some n) r true e ds = cc
+reaches_is w u t (Some n) r false e ds = let h = r.over n refl in sym (rw (count_seen w u ds, h.ends ds u.nodes h.few) refl)
 
 -- ---- few parts
 
-pub soon_none : (w : List ℕ) (u : Used) (t left : ℕ) → Soon w u t left 0
-soon_none w u t left = record { over = λ p. absurd (not-suc-le-zero p) }
+pub soon_none : (w : List ℕ) (u : Used) (t left : ℕ) → Soon w u t left None
+soon_none w u t left = record { over = λ n p. cc }
 
 -- the parts before i are over in one level less
 pub record Few (w : List ℕ) (u : Used) (t left : ℕ) (sh : Shape) (many i : ℕ) : Type 0 where
@@ -252,24 +250,23 @@ pub record Few (w : List ℕ) (u : Used) (t left : ℕ) (sh : Shape) (many i : �
   pub some_left : 0 < left
   pub goes : Goes_on w u t sh
   pub many_is : many ≡ part_count (shape_of sh)
-  pub le : i ≤ many
   pub over : (ds : List Struct) (j : ℕ) → j < i → ends_in (left - 1) (seen w u ds) (get_or (goes_on_to (seen w u ds) t) j 0) ≡ true
 
 pub few_none : (w : List ℕ) (u : Used) (t left : ℕ) (sh : Shape) (many : ℕ) → Lay w u → (left ≡ 0 → ⊥) → Goes_on w u t sh → many ≡ part_count (shape_of sh) → Few w u t left sh many 0
-few_none w u t left sh many h n g e = record { lay = h; some_left = omega arith; goes = g; many_is = e; le = omega arith; over = λ ds j p. absurd (not-suc-le-zero p) }
+few_none w u t left sh many h n g e = record { lay = h; some_left = omega arith; goes = g; many_is = e; over = λ ds j p. absurd (not-suc-le-zero p) }
 
 module _ {w : List ℕ} {u : Used} {t left : ℕ} {sh : Shape} {many i : ℕ} (h : Few w u t left sh many i) where
   module _ (p : ℕ) (l : i < many) (e : (ds : List Struct) → i < part_count (shape_of sh) → p ≡ get_or (parts (with_args (seen w u ds) (shape_of sh))) i 0) where
-    pub few_more : (r : ℕ) → Soon w u p (left - 1) r → (r ≡ 0 → ⊥) → Few w u t left sh many (i + 1)
-    few_more r s z = record { lay = h.lay; some_left = h.some_left; goes = h.goes; many_is = h.many_is; le = omega arith; over = λ ds j k. by ds j k (ℕ_discrete j i) }
+    pub few_more : (r : Option ℕ) → Soon w u p (left - 1) r → (rest : ℕ) → r ≡ Some rest → Few w u t left sh many (i + 1)
+    few_more r s rest z = record { lay = h.lay; some_left = h.some_left; goes = h.goes; many_is = h.many_is; over = λ ds j k. by ds j k (ℕ_discrete j i) }
       where
         by : (ds : List Struct) (j : ℕ) → j < i + 1 → Dec (j ≡ i) → ends_in (left - 1) (seen w u ds) (get_or (goes_on_to (seen w u ds) t) j 0) ≡ true
-        by ds j k (yes y) = rw (y, ← part_is h.goes h.many_is p l e ds) (s.over (omega arith) ds)
+        by ds j k (yes y) = rw (y, ← part_is h.goes h.many_is p l e ds) (s.over rest z ds)
         by ds j k (no y) = h.over ds j (omega arith)
 
-  pub few_all : many ≤ i → (r : ℕ) → Soon w u t left r
+  pub few_all : many ≤ i → (r : Option ℕ) → Soon w u t left r
   few_all l r = record {
-    over = λ p ds.
+    over = λ rest p ds.
         let n : left ≡ suc (left - 1) = (let q = h.some_left in omega arith) in
         ap (λ (k : ℕ). ends_in k (seen w u ds) t) n
         ∙ ends_suc (left - 1) (seen w u ds) t
@@ -279,6 +276,7 @@ module _ {w : List ℕ} {u : Used} {t left : ℕ} {sh : Shape} {many i : ℕ} (h
         h.over ds j (omega arith));
   }
 
-pub reaches_soon : (w : List ℕ) (u : Used) (t r : ℕ) → Soon w u t u.nodes r → 0 < r → (ds : List Struct) → false ≡ reaches_itself (seen w u ds) t
+pub reaches_soon : (w : List ℕ) (u : Used) (t : ℕ) (r : Option ℕ) → Soon w u t u.nodes r → is_some r ≡ true → (ds : List Struct) → false ≡ reaches_itself (seen w u ds) t
 unfolding reaches_itself
-reaches_soon w u t r s p ds = sym (rw (count_seen w u ds, s.over p ds) refl)
+reaches_soon w u t None s p ds = cc
+reaches_soon w u t (Some n) s p ds = sym (rw (count_seen w u ds, s.over n refl ds) refl)

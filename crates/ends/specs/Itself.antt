@@ -1,5 +1,5 @@
 -- The test for a type that runs into itself: in how many levels reading a node is over. Assumes nothing: these are definitions.
-use Rattle.std.specs.Prelude.{◌≡◌, true, false, ℕ, ◌<◌, ◌≤◌}
+use Rattle.std.specs.Prelude.{◌≡◌, true, false, ℕ, ◌<◌, ◌≤◌, Option, None, Some}
 use mathlib.Core.List.{List}
 use Rattle.std.proofs.Math.ListN.{length, get_or}
 use Rattle.definition.specs.Types.{Struct}
@@ -18,12 +18,6 @@ pub record Goes_on (w : List ℕ) (u : Used) (t : ℕ) (sh : Shape) : Type 0 whe
   pub many : (ds : List Struct) → length (goes_on_to (seen w u ds) t) ≡ part_count (shape_of sh)
   pub inside : (ds : List Struct) (i : ℕ) → i < part_count (shape_of sh) → get_or (goes_on_to (seen w u ds) t) i 0 < u.nodes
 
--- r is the higher of a and b
-pub record Higher (a b r : ℕ) : Type 0 where
-  pub first : a ≤ r
-  pub second : b ≤ r
-  pub no_more : (m : ℕ) → m < r → a ≤ m → m < b
-
 -- reading node t is over in n levels, and not in fewer
 pub record EndsAt (w : List ℕ) (u : Used) (t n : ℕ) : Type 0 where
   pub few : n ≤ u.nodes
@@ -35,11 +29,11 @@ pub record Measured (w : List ℕ) (u : Used) (heights : List ℕ) : Type 0 wher
   pub size : length heights ≡ 2048
   pub ends : (t : ℕ) → 0 < get_or heights t 0 → EndsAt w u t (get_or heights t 0)
 
--- so says any answer but 0, which says that it is not over in `left` levels
-pub record Levels (w : List ℕ) (u : Used) (t left r : ℕ) : Type 0 where
-  pub over : 0 < r → EndsAt w u t r
-  pub not_over : r ≡ 0 → (ds : List Struct) → ends_in left (seen w u ds) t ≡ false
+-- so says an answer; none says that it is not over in `left` levels
+pub record Levels (w : List ℕ) (u : Used) (t left : ℕ) (r : Option ℕ) : Type 0 where
+  pub over : (n : ℕ) → r ≡ Some n → EndsAt w u t n
+  pub not_over : r ≡ None → (ds : List Struct) → ends_in left (seen w u ds) t ≡ false
 
--- an answer other than 0 says that reading node t is over in `left` levels
-pub record Soon (w : List ℕ) (u : Used) (t left r : ℕ) : Type 0 where
-  pub over : 0 < r → (ds : List Struct) → ends_in left (seen w u ds) t ≡ true
+-- an answer says that reading node t is over in `left` levels
+pub record Soon (w : List ℕ) (u : Used) (t left : ℕ) (r : Option ℕ) : Type 0 where
+  pub over : (rest : ℕ) → r ≡ Some rest → (ds : List Struct) → ends_in left (seen w u ds) t ≡ true

@@ -2,14 +2,14 @@
 // Changed from the source that NOTICE names: ported to Rattle.
 #![tactic(auto)]
 
-ghost use Rattle.std.specs.Prelude.{◌≡◌, true, false, List, ◌<◌, ◌≤◌, length};
+ghost use Rattle.std.specs.Prelude.{◌≡◌, true, false, List, ◌+◌, ◌<◌, ◌≤◌, length};
 ghost use Rattle.definition.specs.Types as d;
 ghost use Rattle.definition.specs.Store.{spanned};
 ghost use Rattle.definition.specs.Subst.{parts, forward_tvar, reaches_itself};
 ghost use Rattle.table.specs.State.{seen, Lay};
 ghost use Rattle.subst.specs.Answers.{Unfolds};
 ghost use Rattle.ends.specs.Ends.{EndsBy, Noted, Meets, EndsKnown};
-ghost use Rattle.ends.specs.Itself.{Goes_on, Higher, Levels, Measured, Soon};
+ghost use Rattle.ends.specs.Itself.{Goes_on, Levels, Measured, Soon};
 
 use names::TVar;
 use subst::Unfolded;
@@ -17,46 +17,42 @@ use table::{Shape, Used};
 
 // Where following a chain led to: one more than the number of its end, and how many bindings it and the noted chains have at most.
 #[derive(Clone, Copy)]
-enum Meeting {
-    End(u32, u32),
-    Never,
-}
-
-pub fn narrow(x: u32) -> u16
-    requires { x < 65536 }
-    ensures { result ≡ x }
-{
-    x as u16
+struct Meeting {
+    end: u32,
+    long: u32,
 }
 
 // ---- the ends of all chains
 
 // What is noted of a variable is one more than the number of the variable at its chain's end.
 
+fn one_more(v: TVar) -> u32
+    ensures { (result ≡ v.0 + 1) × (result ≤ 65536) }
+{
+    u32::from(v.0) + 1
+}
+
 // Goes from v to its end, or to a variable whose end is noted. The chains that are noted have at most `longest` bindings:
 // counted, since forward_tvar takes no more steps than there are variables.
-fn meet(w: &[u32], u: Used, v: TVar, longest: u32, ends: &[u32]) -> Meeting
+fn meet(w: &[u32], u: Used, v: TVar, longest: u32, ends: &[u32]) -> Option<Meeting>
     requires { Lay w.now u × Noted w.now u longest ends.now }
     ensures { Meets w.now u v.0 longest result }
 {
     let mut cur = v;
-    let mut long = longest;
-    while long <= u.vars {
+    for long in longest..u.vars + 1 {
         let known = table::noted(ends, cur);
         if 0 < known {
-            return Meeting::End(known, long);
+            return Some(Meeting { end: known, long });
         }
-        match subst::next_of(w, u, cur) {
-            None => {
-                return Meeting::End(table::number(cur) + 1, long);
-            }
-            Some(x) => {
-                cur = x;
-                long = long + 1;
-            }
-        }
+        let Some(x) = subst::next_of(w, u, cur) else {
+            return Some(Meeting {
+                end: one_more(cur),
+                long,
+            });
+        };
+        cur = x;
     }
-    Meeting::Never
+    None
 }
 
 // Notes the end x of v's chain for v and its links, up to one whose end is noted.
@@ -65,22 +61,15 @@ fn note_chain(w: &[u32], u: Used, v: TVar, x: u32, long: u32, ends: &mut [u32])
     ensures { Noted w.now u long ends.new }
 {
     let mut cur = v;
-    let mut links = u.vars;
-    while 0 < links {
-        let known = table::noted(ends, cur);
-        if 0 < known {
+    for _ in 0..u.vars {
+        if 0 < table::noted(ends, cur) {
             return;
         }
         table::note(ends, cur, x);
-        match subst::next_of(w, u, cur) {
-            None => {
-                return;
-            }
-            Some(y) => {
-                cur = y;
-                links = links - 1;
-            }
-        }
+        let Some(y) = subst::next_of(w, u, cur) else {
+            return;
+        };
+        cur = y;
     }
 }
 
@@ -90,11 +79,11 @@ fn note_end(w: &[u32], u: Used, v: TVar, longest: u32, ends: &mut [u32]) -> u32
     ensures { (result ≤ u.vars) × Noted w.now u result ends.new }
 {
     match meet(w, u, v, longest, ends) {
-        Meeting::End(x, long) => {
-            note_chain(w, u, v, x, long, ends);
-            long
+        Some(m) => {
+            note_chain(w, u, v, m.end, m.long, ends);
+            m.long
         }
-        Meeting::Never => longest,
+        None => longest,
     }
 }
 
@@ -103,12 +92,9 @@ pub fn note_ends(w: &[u32], u: Used, ends: &mut [u32])
     requires { Lay w.now u × Noted w.now u 0 ends.old }
     ensures { EndsKnown w.now u ends.new × (length ends.new ≡ 1024) }
 {
-    let n = u.vars;
     let mut longest: u32 = 0;
-    let mut i: u32 = 0;
-    while i < n {
-        longest = note_end(w, u, table::tvar(i), longest, ends);
-        i = i + 1;
+    for i in 0..u.vars {
+        longest = note_end(w, u, TVar(i as u16), longest, ends);
     }
 }
 
@@ -119,7 +105,7 @@ pub fn chain_end(w: &[u32], u: Used, v: TVar, ends: &[u32]) -> TVar
 {
     let known = table::noted(ends, v);
     if 0 < known {
-        return table::tvar(known - 1);
+        return TVar((known - 1) as u16);
     }
     subst::forward_tvar(w, u, v)
 }
@@ -133,13 +119,11 @@ fn unfold_by(w: &[u32], u: Used, t: u32, ends: &[u32]) -> Unfolded
     ensures { Unfolds w.now u result (λ s. spanned s t) }
 {
     let n = table::node_at(w, u, t);
-    let s = n.shape;
-    let loc = n.loc;
-    match shapes::as_var(s) {
+    match shapes::as_var(n.shape) {
         None => Unfolded::Node(t),
         Some(v) => {
             let last = chain_end(w, u, v, ends);
-            subst::unfold_end(w, u, loc, last)
+            subst::unfold_end(w, u, n.loc, last)
         }
     }
 }
@@ -151,82 +135,61 @@ pub fn goes_on(w: &[u32], u: Used, t: u32, ends: &[u32]) -> Shape
     ensures { Goes_on w.now u t result }
 {
     match unfold_by(w, u, t, ends) {
-        Unfolded::Node(x) => {
-            let n = table::node_at(w, u, x);
-            n.shape
-        }
+        Unfolded::Node(x) => table::node_at(w, u, x).shape,
         Unfolded::Anything(_) => Shape::Anything,
     }
 }
 
-fn higher(a: u32, b: u32) -> u32
-    ensures { Higher a b result }
-{
-    if a < b {
-        return b;
-    }
-    a
-}
-
-// In how many levels reading node t is over; 0 if not in `left`. A node's answer is noted, so that each node is read once.
-pub fn levels(w: &[u32], u: Used, t: u32, left: u32, ends: &[u32], heights: &mut [u16]) -> u32
+// In how many levels reading node t is over; none if not in `left`. A node's answer is noted, so that each node is read once.
+pub fn levels(
+    w: &[u32],
+    u: Used,
+    t: u32,
+    left: u32,
+    ends: &[u32],
+    heights: &mut [u16],
+) -> Option<u32>
     requires lay { Lay w.now u × ((t < u.nodes) × ((left ≤ u.nodes) × Measured w.now u heights.old)) }
     requires ends_known { EndsKnown w.now u ends.now }
     ensures { Levels w.now u t left result × Measured w.now u heights.new }
 {
     if left == 0 {
-        return 0;
+        return None;
     }
-    let at = table::wide(t);
-    let known = heights[at];
+    let known = heights[t as usize];
     if 0 < known {
-        return known as u32;
+        return Some(u32::from(known));
     }
     let s = goes_on(w, u, t, ends);
-    let many = shapes::part_count(s);
     let mut high: u32 = 0;
-    let mut i: u32 = 0;
-    while i < many {
+    for i in 0..shapes::part_count(s) {
         let p = shapes::part_at(w, u, s, i);
-        let n = levels(w, u, p, left - 1, ends, heights);
-        if n == 0 {
-            return 0;
-        }
-        high = higher(high, n);
-        i = i + 1;
+        let n = levels(w, u, p, left - 1, ends, heights)?;
+        high = high.max(n);
     }
     if u.nodes <= high {
-        return 0;
+        return None;
     }
-    heights[at] = narrow(high + 1);
-    high + 1
+    heights[t as usize] = (high + 1) as u16;
+    Some(high + 1)
 }
 
-// How many of `budget` parts are left once reading node t is over, in at most `left` levels; 0 if it is not over so soon.
-fn soon_over(w: &[u32], u: Used, t: u32, left: u32, budget: u32, ends: &[u32]) -> u32
+// How many of `budget` parts are left once reading node t is over, in at most `left` levels; none if it is not over so soon.
+fn soon_over(w: &[u32], u: Used, t: u32, left: u32, budget: u32, ends: &[u32]) -> Option<u32>
     requires lay { Lay w.now u × (t < u.nodes) }
     requires ends_known { EndsKnown w.now u ends.now }
     ensures { Soon w.now u t left result }
 {
     if left == 0 {
-        return 0;
+        return None;
     }
-    if budget == 0 {
-        return 0;
-    }
+    let mut rest = budget.checked_sub(1)?;
     let shape = goes_on(w, u, t, ends);
-    let many = shapes::part_count(shape);
-    let mut rest = budget - 1;
-    let mut i: u32 = 0;
-    while i < many {
+    for i in 0..shapes::part_count(shape) {
         let p = shapes::part_at(w, u, shape, i);
-        rest = soon_over(w, u, p, left - 1, rest, ends);
-        if rest == 0 {
-            return 0;
-        }
-        i = i + 1;
+        rest = soon_over(w, u, p, left - 1, rest, ends)?;
     }
-    rest
+    Some(rest)
 }
 
 // The test with heights, for a type of any size.
@@ -236,18 +199,16 @@ pub fn never_over(w: &[u32], u: Used, t: u32, ends: &[u32]) -> bool
     ensures { (ds : List d.Struct) → result ≡ reaches_itself (seen w.now u ds) t }
 {
     let mut heights: [u16; 2048] = [0; 2048];
-    let n = levels(w, u, t, u.nodes, ends, &mut heights);
-    n == 0
+    levels(w, u, t, u.nodes, ends, &mut heights).is_none()
 }
 
-// A type of fewer than 64 parts needs no heights, and no ends are noted for it.
+// A type of at most 64 parts needs no heights, and no ends are noted for it.
 pub fn near_over(w: &[u32], u: Used, t: u32) -> bool
     requires { Lay w.now u × (t < u.nodes) }
     ensures { result ≡ true → (ds : List d.Struct) → false ≡ reaches_itself (seen w.now u ds) t }
 {
     let none: [u32; 1] = [0; 1];
-    let rest = soon_over(w, u, t, u.nodes, 64, &none);
-    0 < rest
+    soon_over(w, u, t, u.nodes, 64, &none).is_some()
 }
 
 pub fn reaches_itself(w: &[u32], u: Used, t: u32) -> bool

@@ -14,9 +14,9 @@ ghost use Rattle.shapes.specs.Applied.{args_of};
 ghost use Rattle.instantiate.specs.Known.{Numbered, ability_at};
 ghost use Rattle.instantiate.specs.Args.{make_tparam, made, Listed, joined};
 
-use names::{AbilitySet, TypeName};
-use shapes::{Applied, fewer, stay};
-use table::{Constraint, Out, Outcome, Refusal, Shape, Used, wide};
+use names::{AbilitySet, TVar, TypeName};
+use shapes::{Applied, stay};
+use table::{Constraint, Out, Outcome, Refusal, Shape, Used};
 
 // A variable for each argument.
 #[derive(Clone, Copy)]
@@ -33,13 +33,11 @@ fn make_tvar(w: &mut [u32], u: Used, loc: u32) -> Outcome
     ensures { After w.old u w.new result (λ s. make_tvar s loc) }
 {
     let a = table::take_var(w, u);
-    let o = a.out;
-    let v = a.used;
-    let Some(x) = table::done_of(o) else {
+    let Some(x) = table::done_of(a.out) else {
         return a;
     };
-    let id = table::tvar(x);
-    table::push_node(w, v, loc, Shape::Var(id))
+    let id = TVar(x as u16);
+    table::push_node(w, a.used, loc, Shape::Var(id))
 }
 
 // Single for an expression list, else base.
@@ -48,8 +46,7 @@ fn tvar_constraint(n: TypeName, loc: u32, tvar: u32) -> Constraint
 {
     match n {
         TypeName::Multiple(_) => Constraint::SingleType(loc, tvar),
-        TypeName::Builtin(_) => Constraint::BaseType(loc, tvar),
-        TypeName::ModuleType(_) => Constraint::BaseType(loc, tvar),
+        TypeName::Builtin(_) | TypeName::ModuleType(_) => Constraint::BaseType(loc, tvar),
     }
 }
 
@@ -67,10 +64,7 @@ fn tparam_count(w: &[u32], u: Used, n: TypeName) -> u32
     match n {
         TypeName::Multiple(len) => len,
         TypeName::Builtin(b) => builtin_tparams(b),
-        TypeName::ModuleType(s) => {
-            let row = table::struct_at(w, u, s);
-            row.params
-        }
+        TypeName::ModuleType(s) => table::struct_at(w, u, s).params,
     }
 }
 
@@ -79,11 +73,8 @@ fn struct_ability(params: &[[u8; 8]; 256], s: u32, i: u32) -> u8
     requires { i < 8 }
     ensures { s < 256 → result ≡ get_or (get_or params.now s []) i 0 % 16 }
 {
-    let at = wide(s);
-    let k = wide(i);
-    if at < 256 {
-        let row = params[at];
-        row[k] % 16
+    if s < 256 {
+        params[s as usize][i as usize] % 16
     } else {
         0
     }
@@ -95,8 +86,7 @@ fn ability_at(params: &[[u8; 8]; 256], n: TypeName, i: u32) -> AbilitySet
     ensures { Numbered (name_of n) → result.0 ≡ ability_at params.now (name_of n) i }
 {
     match n {
-        TypeName::Multiple(_) => AbilitySet(0),
-        TypeName::Builtin(_) => AbilitySet(0),
+        TypeName::Multiple(_) | TypeName::Builtin(_) => AbilitySet(0),
         TypeName::ModuleType(s) => AbilitySet(struct_ability(params, s, i)),
     }
 }
@@ -114,26 +104,19 @@ fn make_tparam(
     ensures { After w.old u w.new result (λ s. make_tparam s loc (name_of n) ty abilities.0) }
 {
     let node = table::node_at(w, u, ty);
-    let at = node.loc;
-    let a = make_tvar(w, u, at);
-    let o = a.out;
-    let v = a.used;
-    let Some(tvar) = table::done_of(o) else {
+    let a = make_tvar(w, u, node.loc);
+    let Some(tvar) = table::done_of(a.out) else {
         return a;
     };
-    let b = table::push_constraint(w, v, Constraint::Ability(loc, tvar, abilities));
-    let bo = b.out;
-    let bv = b.used;
-    let Some(_) = table::done_of(bo) else {
+    let b = table::push_constraint(w, a.used, Constraint::Ability(loc, tvar, abilities));
+    let Some(_) = table::done_of(b.out) else {
         return b;
     };
-    let c = table::push_constraint(w, bv, tvar_constraint(n, loc, tvar));
-    let co = c.out;
-    let cv = c.used;
-    let Some(_) = table::done_of(co) else {
+    let c = table::push_constraint(w, b.used, tvar_constraint(n, loc, tvar));
+    let Some(_) = table::done_of(c.out) else {
         return c;
     };
-    stay(o, cv)
+    stay(a.out, c.used)
 }
 
 // make_tparams: a variable for each argument that has a parameter.
@@ -142,28 +125,23 @@ fn make_tparams(w: &mut [u32], u: Used, params: &[[u8; 8]; 256], loc: u32, ty: A
     ensures { Listed (Known w.old u params.now) w.old u w.new result (made loc (name_of ty.n) (args_at (view w.old u) (args_of ty))) }
 {
     let n = ty.n;
-    let count = fewer(ty.many, tparam_count(w, u, n));
+    let count = ty.many.min(tparam_count(w, u, n));
     let mut tvars: [u32; 8] = [0; 8];
     let mut v = u;
-    let mut i: u32 = 0;
-    while i < count {
+    for i in 0..count {
         let t = table::arg_at(w, v, ty.first, i);
         let abilities = ability_at(params, n, i);
         let a = make_tparam(w, v, loc, n, t, abilities);
-        let o = a.out;
-        let x = a.used;
-        let Some(tvar) = table::done_of(o) else {
+        let Some(tvar) = table::done_of(a.out) else {
             return Tparams {
-                out: o,
-                used: x,
+                out: a.out,
+                used: a.used,
                 tvars,
                 many: count,
             };
         };
-        let at = wide(i);
-        tvars[at] = tvar;
-        v = x;
-        i = i + 1;
+        tvars[i as usize] = tvar;
+        v = a.used;
     }
     Tparams {
         out: Out::Done(0),
@@ -179,31 +157,24 @@ fn join_args(
     u: Used,
     loc: u32,
     ty: Applied,
-    tparams: Tparams,
+    tparams: &Tparams,
     tys: [u32; 8],
 ) -> Outcome
-    requires { Lay w.old u × (Parts u.nodes tparams.tvars tparams.many × Parts u.nodes tys ty.many) }
-    ensures { After w.old u w.new result (joined loc (mark_of ty.k) (name_of ty.n) (take tparams.many tparams.tvars) (take ty.many tys)) }
+    requires { Lay w.old u × (Parts u.nodes tparams.now.tvars tparams.now.many × Parts u.nodes tys ty.many) }
+    ensures { After w.old u w.new result (joined loc (mark_of ty.k) (name_of ty.n) (take tparams.now.many tparams.now.tvars) (take ty.many tys)) }
 {
-    let tvars = tparams.tvars;
-    let c = fewer(tparams.many, ty.many);
+    let c = tparams.many.min(ty.many);
     let mut parts: [u32; 8] = [0; 8];
     let mut v = u;
-    let mut i: u32 = 0;
-    while i < c {
-        let at = wide(i);
-        let a = join::join(w, v, tvars[at], tys[at]);
-        let o = a.out;
-        let Some(t) = table::done_of(o) else {
+    for i in 0..c {
+        let a = join::join(w, v, tparams.tvars[i as usize], tys[i as usize]);
+        let Some(t) = table::done_of(a.out) else {
             return a;
         };
-        parts[at] = t;
+        parts[i as usize] = t;
         v = a.used;
-        i = i + 1;
     }
-    let k = ty.k;
-    let n = ty.n;
-    table::push_apply(w, v, loc, k, n, parts, c)
+    table::push_apply(w, v, loc, ty.k, ty.n, parts, c)
 }
 
 // A named type: variables and constraints of its arguments, at most `left` levels of them, the joins, the node.
@@ -220,27 +191,21 @@ fn instantiate_apply(
     ensures { When (Known w.old u params.now) w.old u w.new result (λ s. instantiate_apply (instantiate_down left) s loc (mark_of ty.k) (name_of ty.n) (args_at (view w.old u) (args_of ty))) }
 {
     let b = make_tparams(w, u, params, loc, ty);
-    let bo = b.out;
-    let bv = b.used;
-    let Some(_) = table::done_of(bo) else {
-        return stay(bo, bv);
+    let Some(_) = table::done_of(b.out) else {
+        return stay(b.out, b.used);
     };
     let mut parts: [u32; 8] = [0; 8];
-    let mut v = bv;
-    let mut i: u32 = 0;
-    while i < ty.many {
+    let mut v = b.used;
+    for i in 0..ty.many {
         let t = table::arg_at(w, v, ty.first, i);
         let a = instantiate_down(w, v, params, left, t);
-        let o = a.out;
-        let Some(p) = table::done_of(o) else {
+        let Some(p) = table::done_of(a.out) else {
             return a;
         };
-        let at = wide(i);
-        parts[at] = p;
+        parts[i as usize] = p;
         v = a.used;
-        i = i + 1;
     }
-    join_args(w, v, loc, ty, b, parts)
+    join_args(w, v, loc, ty, &b, parts)
 }
 
 // At most `left` levels of instantiate; parts are built before their node.
@@ -254,25 +219,20 @@ fn instantiate_down(w: &mut [u32], u: Used, params: &[[u8; 8]; 256], left: u32, 
     }
     let node = table::node_at(w, u, ty);
     let loc = node.loc;
-    let shape = node.shape;
-    match shape {
+    match node.shape {
         Shape::Unit | Shape::UnresolvedError | Shape::Param(_, _) => stay(Out::Done(ty), u),
         Shape::Var(_) => stay(Out::Refused(Refusal::OpenVariable), u),
         Shape::Anything => make_tvar(w, u, loc),
         Shape::Ref(m, t) => {
             let b = table::push_constraint(w, u, Constraint::BaseType(loc, t));
-            let bo = b.out;
-            let bv = b.used;
-            let Some(_) = table::done_of(bo) else {
+            let Some(_) = table::done_of(b.out) else {
                 return b;
             };
-            let a = instantiate_down(w, bv, params, left - 1, t);
-            let o = a.out;
-            let v = a.used;
-            let Some(p) = table::done_of(o) else {
+            let a = instantiate_down(w, b.used, params, left - 1, t);
+            let Some(p) = table::done_of(a.out) else {
                 return a;
             };
-            table::push_node(w, v, loc, Shape::Ref(m, p))
+            table::push_node(w, a.used, loc, Shape::Ref(m, p))
         }
         Shape::Apply(k, n, first, many) => {
             let t = Applied { k, n, first, many };

@@ -2,7 +2,7 @@
 use mathlib.Core.Path.{◌≡◌, refl, sym, ap, ◌∙◌, subst}
 use mathlib.Core.Bool.{Bool}
 use mathlib.Core.List.{List, []}
-use Rattle.std.specs.Prelude.{Option, None, Some}
+use Rattle.std.specs.Prelude.{Option, None, Some, Ok, Err}
 use Prim.Native.Nat.{ℕ, zero, suc, ◌-◌, ◌<◌, ◌≤◌}
 use native.Mathlib.Numerals.{sub-one}
 use native.Mathlib.Omega.{arith}
@@ -32,14 +32,12 @@ use Rattle.arms.specs.Arms.{case_of, by_arm, ArmBelow, Takes}
 use Rattle.arms.specs.declared.TypingCase.{TypingCase}
 use Rattle.arms.specs.declared.Arm.{Arm}
 use Rattle.arms.specs.declared.Arm.TheVariants.{Lhs, Rhs, Refs, Applies, Vars, VarLhs, VarRhs, SubtypeError, ArityMismatch, Incompatible, Disagree}
-use Rattle.merge.specs.Merge.{Inner, ThenMerge, open_tvar, open_types, open_ends, opened, OpenedIn, Opens, show_both, close_tvar, meet_tvar, met, Meets}
+use Rattle.merge.specs.Merge.{Inner, ThenMerge, open_tvar, open_types, open_ends, Opened, opened, OpenedIn, Opens, show_both, close_tvar, meet_tvar, met, Meets}
 use Rattle.merge.specs.declared.Open.{Open}
-use Rattle.merge.specs.declared.Opened.{Opened}
 use Rattle.merge.specs.declared.Merging.{Merging}
-use Rattle.merge.specs.declared.Opened.TheVariants.{Ready, Stop}
 use Rattle.merge.specs.declared.Meet.{Meet}
 use Rattle.merge.specs.declared.Meet.TheVariants.{Is, Merge}
-use Rattle.join.specs.Join.{Joined, number, step, ref_at, apply_at, then_ref, then_apply}
+use Rattle.join.specs.Join.{Joined, number, ref_at, apply_at, then_ref, then_apply}
 use Rattle.join.specs.declared.Types.{Types}
 use Rattle.join.proofs.Binds.{next_same}
 use Rattle.join.proofs.Args.{inner}
@@ -59,17 +57,13 @@ pub merge_lay : {w : List ℕ} {u : Used} {w' : List ℕ} {m : Meet} {f : State 
 merge_lay {w} {u} {w'} {m} {f} {u'} {v} a e = let b : Meets w u w' (Merge u' v) f = rw e at a in b.changed.lay
 
 module _ {w : List ℕ} {u : Used} {w' : List ℕ} {m : Open} {f : State → Inner → Result (State × ℕ)} (a : Opens w u w' m f) (k : Inner) where
-  open_is : {o : Out} → m.what ≡ Stop o → After w u w' (record { out = o; used = m.used }) (λ s. f s k)
+  open_is : {o : Out} → m.what ≡ Err o → After w u w' (record { out = o; used = m.used }) (λ s. f s k)
   unfolding opened
   open_is {o} e = record { changed = refines_as (λ g. g k) a.changed (λ s. rw e refl); inside = rw e at a.inside }
 
-  open_ready : {x : Merging} {w₂ : List ℕ} {r : Outcome} → m.what ≡ Ready x → After w' m.used w₂ r (λ s. k s x.ty1 x.ty2 x.new_tvar.0 x.var2) → After w u w₂ r (λ s. f s k)
+  open_ready : {x : Merging} {w₂ : List ℕ} {r : Outcome} → m.what ≡ Ok x → After w' m.used w₂ r (λ s. k s x.ty1 x.ty2 x.new_tvar.0 x.var2) → After w u w₂ r (λ s. f s k)
   unfolding opened
   open_ready e n = after_on (λ g. g k) a.changed (after_is (λ ds x. rw e refl) n)
-
--- an answer at once
-pub settled_after : {w : List ℕ} {u : Used} {w' : List ℕ} {r x : Outcome} {f : State → Result (State × ℕ)} → r ≡ x → After w u w' x f → After w u w' r f
-settled_after e a = rw e a
 
 -- the types that were joined, and their node
 module _ (o : Out) {b : (Option ℕ)} {m : ℕ} (tys : List ℕ) (p : b ≡ done o) (q : b ≡ Some m) where
@@ -85,7 +79,7 @@ module _ (o : Out) {b : (Option ℕ)} {m : ℕ} (tys : List ℕ) (p : b ≡ done
 
 -- ---- the merge
 
-pub ready_in : {n : ℕ} {o : Opened} {m : Merging} → OpenedIn n o → o ≡ Ready m → OpenedIn n (Ready m)
+pub ready_in : {n : ℕ} {o : Opened} {m : Merging} → OpenedIn n o → o ≡ Ok m → OpenedIn n (Ok m)
 ready_in i e = rw e at i
 
 abbrev then_close : ℕ → j.TypingCase → ℕ → ℕ → ℕ → Inner
@@ -96,11 +90,11 @@ unfolding open_tvar open_types open_ends close_tvar show_both join_tvar
 tvar_is left case s loc1 id1 loc2 id2 = refl
 
 module _ (left : ℕ) (case : j.TypingCase) (loc1 id1 loc2 id2 : ℕ) {w : List ℕ} {u : Used} {w₁ : List ℕ} {m : Open} (a : Opens w u w₁ m (λ s k. open_tvar k s loc1 id1 loc2 id2)) where
-  pub tvar_stop : {o : Out} → m.what ≡ Stop o → After w u w₁ (record { out = o; used = m.used }) (λ s. join_tvar (inner left) s case loc1 id1 loc2 id2)
+  pub tvar_stop : {o : Out} → m.what ≡ Err o → After w u w₁ (record { out = o; used = m.used }) (λ s. join_tvar (inner left) s case loc1 id1 loc2 id2)
   tvar_stop e =
       after_is (λ ds k. tvar_is left case (seen w u ds) loc1 id1 loc2 id2) (open_is a (then_close left case id1 loc2 id2) e)
 
-  module _ {h : Merging} (e : m.what ≡ Ready h) {w₂ : List ℕ} {x : Outcome} {b : (Option ℕ)} (after : After w₁ m.used w₂ x (λ s. join_impl left s case h.ty1 h.ty2)) (p : b ≡ done x.out) where
+  module _ {h : Merging} (e : m.what ≡ Ok h) {w₂ : List ℕ} {x : Outcome} {b : (Option ℕ)} (after : After w₁ m.used w₂ x (λ s. join_impl left s case h.ty1 h.ty2)) (p : b ≡ done x.out) where
     from_open : {w' : List ℕ} {r : Outcome} → After w₁ m.used w' r (λ s. then_close left case id1 loc2 id2 s h.ty1 h.ty2 h.new_tvar.0 h.var2) → After w u w' r (λ s. join_tvar (inner left) s case loc1 id1 loc2 id2)
     from_open n = after_is (λ ds k. tvar_is left case (seen w u ds) loc1 id1 loc2 id2) (open_ready a (then_close left case id1 loc2 id2) e n)
 
@@ -183,27 +177,27 @@ module _ {left : ℕ} {case : TypingCase} {w : List ℕ} {u : Used} {lhs rhs : �
   arm_below e = rw e at (h.takes.below (view w u).args u.nodes (node_below w u lhs l h.lay h.lhs_in h.lhs_is) (node_below w u rhs r h.lay h.rhs_in h.rhs_is))
 
   -- the arms that go on to nothing
-  pub arm_left : a ≡ Lhs → After w u w (step (Done lhs) u) (λ s. join_impl left s (case_of case) lhs rhs)
+  pub arm_left : a ≡ Lhs → After w u w (record { out = Done lhs; used = u }) (λ s. join_impl left s (case_of case) lhs rhs)
   unfolding by_arm outcome
   arm_left e = by Lhs e (after_now h.lay h.lhs_in (λ ds k. refl))
 
-  pub arm_right : a ≡ Rhs → After w u w (step (Done rhs) u) (λ s. join_impl left s (case_of case) lhs rhs)
+  pub arm_right : a ≡ Rhs → After w u w (record { out = Done rhs; used = u }) (λ s. join_impl left s (case_of case) lhs rhs)
   unfolding by_arm outcome
   arm_right e = by Rhs e (after_now h.lay h.rhs_in (λ ds k. refl))
 
-  pub arm_subtype : a ≡ SubtypeError → After w u w (step (Failed (error.SubtypeError lhs rhs)) u) (λ s. join_impl left s (case_of case) lhs rhs)
+  pub arm_subtype : a ≡ SubtypeError → After w u w (record { out = Failed (error.SubtypeError lhs rhs); used = u }) (λ s. join_impl left s (case_of case) lhs rhs)
   unfolding by_arm outcome
   arm_subtype e = by SubtypeError e (after_now h.lay (h.lhs_in, h.rhs_in) (λ ds k. refl))
 
-  pub arm_arity : a ≡ ArityMismatch → After w u w (step (Failed (error.ArityMismatch lhs rhs)) u) (λ s. join_impl left s (case_of case) lhs rhs)
+  pub arm_arity : a ≡ ArityMismatch → After w u w (record { out = Failed (error.ArityMismatch lhs rhs); used = u }) (λ s. join_impl left s (case_of case) lhs rhs)
   unfolding by_arm outcome
   arm_arity e = by ArityMismatch e (after_now h.lay (h.lhs_in, h.rhs_in) (λ ds k. refl))
 
-  pub arm_incompatible : a ≡ Incompatible → After w u w (step (Failed (error.Incompatible lhs rhs)) u) (λ s. join_impl left s (case_of case) lhs rhs)
+  pub arm_incompatible : a ≡ Incompatible → After w u w (record { out = Failed (error.Incompatible lhs rhs); used = u }) (λ s. join_impl left s (case_of case) lhs rhs)
   unfolding by_arm outcome
   arm_incompatible e = by Incompatible e (after_now h.lay (h.lhs_in, h.rhs_in) (λ ds k. refl))
 
-  pub arm_disagree : a ≡ Disagree → After w u w (step (Refused AbilitiesDisagree) u) (λ s. join_impl left s (case_of case) lhs rhs)
+  pub arm_disagree : a ≡ Disagree → After w u w (record { out = Refused AbilitiesDisagree; used = u }) (λ s. join_impl left s (case_of case) lhs rhs)
   unfolding by_arm outcome
   arm_disagree e = by Disagree e (after_now h.lay tt (λ ds k. refl))
 

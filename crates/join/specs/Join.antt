@@ -6,7 +6,6 @@ use Rattle.definition.specs.Store.{sp}
 use Rattle.table.specs.State.{Any, Lists, Below, view, shape_of, outcome, listed}
 use Rattle.table.specs.declared.Used.{Used}
 use Rattle.table.specs.declared.Out.{Out}
-use Rattle.table.specs.declared.Outcome.{Outcome}
 use Rattle.table.specs.declared.Out.TheVariants.{Done, Failed, Refused}
 use Rattle.shapes.specs.Applied.{as_shape}
 use Rattle.shapes.specs.declared.Applied.{Applied}
@@ -27,9 +26,6 @@ abbrev pub Joined : List ℕ → Used → List ℕ → Types → (State → Resu
 Joined w u w' r f = Lists Any w u w' r.used r.out r.tys (number r.out) f
 
 -- ---- what follows a step
-
-abbrev pub step : Out → Used → Outcome
-step o u = record { out = o; used = u }
 
 abbrev pub ref_at : ℕ → Bool → State × ℕ → Result (State × ℕ)
 ref_at loc mut x = sp x.0 loc (d.Ref mut x.1)

@@ -2,7 +2,8 @@
 use mathlib.Core.Path.{◌≡◌, refl, sym, ap, ◌∙◌}
 use mathlib.Core.Bool.{Bool, true, false}
 use mathlib.Core.List.{List}
-use Rattle.std.specs.Prelude.{Option, None, Some}
+use Rattle.std.specs.Prelude.{Option, None, Some, Ok, Err}
+use Rattle.std.specs.Option.{option_or}
 use Prim.Native.Nat.{ℕ, ◌<◌}
 use native.Mathlib.Omega.{arith}
 use Rattle.definition.specs.Types as d
@@ -12,9 +13,9 @@ use Rattle.definition.specs.Store.{get, node, with_args, num_loc, insert, sp, ne
 use Rattle.definition.specs.Subst.{is_anything, forward_tvar, set_num_var}
 use Rattle.definition.specs.Join.{type_of, merge_num, shown, join_bind_tvar, join_unbound}
 use Rattle.names.specs.declared.TVar.{TVar}
-use Rattle.subst.specs.Answers.{bound, Binds}
-use Rattle.subst.specs.declared.Binding.{Binding}
-use Rattle.subst.specs.declared.Binding.TheVariants.{Bound, Failed as FailedB, Recursive as RecursiveB}
+use Rattle.subst.specs.Answers.{Binding, bound, Binds}
+use Rattle.subst.specs.declared.BindError.{BindError}
+use Rattle.subst.specs.declared.BindError.TheVariants.{NotNumeric, Recursive}
 use Rattle.table.specs.State.{Lay, Any, Refines, Changed, After, Stored, NodesIn, outcome, seen, done, node_of, shape_of}
 use Rattle.table.specs.declared.Outcome.{Outcome}
 use Rattle.table.specs.declared.Used.{Used}
@@ -28,7 +29,6 @@ use Rattle.table.proofs.Grown.{nodes_grow, loc_is, value_is}
 use Rattle.merge.specs.Merge.{Inner, ThenMerge, open_ends, open_types, open_tvar, opened, Opens, show_both, close_tvar, meet_tvar, met, Meets}
 use Rattle.merge.specs.declared.Open.{Open}
 use Rattle.merge.specs.declared.Merging.{Merging}
-use Rattle.merge.specs.declared.Opened.TheVariants.{Ready, Stop}
 use Rattle.merge.specs.declared.Meet.TheVariants.{Is, Merge}
 
 -- ---- the type of a chain's end
@@ -49,7 +49,7 @@ module _ {w : List ℕ} {u : Used} {w' : List ℕ} where
 
   -- h follows, given what follows the opening
   module _ {u' : Used} (o : Out) {f : State → Result (State × ℕ)} {b : (Option ℕ)} (h : Inner → State × ℕ → Result (State × ℕ)) (a : Refines Any w u w' u' (outcome o) f) (p : b ≡ done o) where
-    pub open_stop : NodesIn u'.nodes o → b ≡ None → Opens w u w' (record { what = Stop o; used = u' }) (λ s k. f s >>= h k)
+    pub open_stop : NodesIn u'.nodes o → b ≡ None → Opens w u w' (record { what = Err o; used = u' }) (λ s k. f s >>= h k)
     unfolding opened
     open_stop i q = record { changed = refines_as (λ m k. m >>= h k) a (λ s i k. stop_is o s (h k) (sym p ∙ q) i); inside = i }
 
@@ -61,7 +61,7 @@ module _ {w : List ℕ} {u : Used} {w' : List ℕ} where
   open_stored h a n = record { changed = refines_on h a n.changed; inside = n.inside }
 
 pub open_ready : (w : List ℕ) (u : Used) (m : Merging) → Lay w u → m.ty1 < u.nodes → m.ty2 < u.nodes → m.var2 < u.nodes
-    → Opens w u w (record { what = Ready m; used = u }) (λ s k. k s m.ty1 m.ty2 m.new_tvar.0 m.var2)
+    → Opens w u w (record { what = Ok m; used = u }) (λ s k. k s m.ty1 m.ty2 m.new_tvar.0 m.var2)
 unfolding opened
 open_ready w u m h a b c = record { changed = refines_now h (λ ds k. refl); inside = (a, (b, c)) }
 
@@ -86,7 +86,7 @@ module _ (loc1 id1 : ℕ) (num1 : Option ℕ) (ty1 loc2 id2 : ℕ) (num2 : Optio
   from_start o = o
 
   module _ (w : List ℕ) (u : Used) (w₁ : List ℕ) (a : Outcome) (b : Option ℕ) (ta : Changed w u w₁ a (λ s. next_tvar s)) (da : b ≡ done a.out) where
-    pub ends_no_var : b ≡ None → Opens w u w₁ (record { what = Stop a.out; used = a.used }) (λ s k. open_ends k s loc1 id1 num1 ty1 loc2 id2 num2 ty2)
+    pub ends_no_var : b ≡ None → Opens w u w₁ (record { what = Err a.out; used = a.used }) (λ s k. open_ends k s loc1 id1 num1 ty1 loc2 id2 num2 ty2)
     ends_no_var q = from_start (open_stop a.out from_new ta da (plain_in a.out ta tvar_plain da q) q)
 
     module _ (n : ℕ) (v : TVar) (is : b ≡ Some n) (e : v.0 ≡ n) (w₂ : List ℕ) (m : Stored w₁ a.used w₂ (λ s. merge_num s num1 num2 v.0))
@@ -94,18 +94,18 @@ module _ (loc1 id1 : ℕ) (num1 : Option ℕ) (ty1 loc2 id2 : ℕ) (num2 : Optio
       from_mark : {w' : List ℕ} {r : Open} → Opens w₂ a.used w' r (λ s k. sp s loc1 (d.Var v.0) >>= from_var1 v.0 k) → Opens w u w' r (λ s k. open_ends k s loc1 id1 num1 ty1 loc2 id2 num2 ty2)
       from_mark o = from_start (open_then a.out from_new ta da (is ∙ ap Some (sym e)) (open_stored (λ s k. sp s loc1 (d.Var v.0) >>= from_var1 v.0 k) m o))
 
-      pub ends_no_node : bp ≡ None → Opens w u w₃ (record { what = Stop p.out; used = p.used }) (λ s k. open_ends k s loc1 id1 num1 ty1 loc2 id2 num2 ty2)
+      pub ends_no_node : bp ≡ None → Opens w u w₃ (record { what = Err p.out; used = p.used }) (λ s k. open_ends k s loc1 id1 num1 ty1 loc2 id2 num2 ty2)
       ends_no_node q = from_mark (open_stop p.out (from_var1 v.0) tp.changed dp tp.inside q)
 
       module _ (var1 : ℕ) (is1 : bp ≡ Some var1) (w₄ : List ℕ) (q : Outcome) (bq : Option ℕ) (tq : After w₃ p.used w₄ q (λ s. sp s loc2 (d.Var v.0))) (dq : bq ≡ done q.out) where
         from_node : {w' : List ℕ} {r : Open} → Opens w₃ p.used w' r (λ s k. sp s loc2 (d.Var v.0) >>= from_var2 v.0 var1 k) → Opens w u w' r (λ s k. open_ends k s loc1 id1 num1 ty1 loc2 id2 num2 ty2)
         from_node o = from_mark (open_then p.out (from_var1 v.0) tp.changed dp is1 o)
 
-        pub ends_no_second : bq ≡ None → Opens w u w₄ (record { what = Stop q.out; used = q.used }) (λ s k. open_ends k s loc1 id1 num1 ty1 loc2 id2 num2 ty2)
+        pub ends_no_second : bq ≡ None → Opens w u w₄ (record { what = Err q.out; used = q.used }) (λ s k. open_ends k s loc1 id1 num1 ty1 loc2 id2 num2 ty2)
         ends_no_second x = from_node (open_stop q.out (from_var2 v.0 var1) tq.changed dq tq.inside x)
 
         pub ends_ready : (var2 : ℕ) → bq ≡ Some var2 → (w₅ w₆ : List ℕ) → Stored w₄ q.used w₅ (λ s. insert s id1 var1) → Stored w₅ q.used w₆ (λ s. insert s id2 var2) → ty1 < u.nodes → ty2 < u.nodes
-            → Opens w u w₆ (record { what = Ready (record { ty1 = ty1; ty2 = ty2; new_tvar = v; var2 = var2 }); used = q.used }) (λ s k. open_ends k s loc1 id1 num1 ty1 loc2 id2 num2 ty2)
+            → Opens w u w₆ (record { what = Ok (record { ty1 = ty1; ty2 = ty2; new_tvar = v; var2 = var2 }); used = q.used }) (λ s k. open_ends k s loc1 id1 num1 ty1 loc2 id2 num2 ty2)
         ends_ready var2 is2 w₅ w₆ x y in1 in2 =
             let g1 = nodes_grow w u w₁ a.used ta.grown in
             let g2 = nodes_grow w₂ a.used w₃ p.used tp.changed.grown in
@@ -133,14 +133,14 @@ module _ (w : List ℕ) (u : Used) (loc1 id1 loc2 id2 : ℕ) (e1 e2 : TVar) (n1 
   from_ends o = open_seen (λ ds k. open_is k (seen w u ds) loc1 id1 loc2 id2 e1.0 e2.0 n1 n2 (p1 ds) (p2 ds) (q1 ds) (q2 ds)) o
 
   module _ (w₁ : List ℕ) (a : Outcome) (b : Option ℕ) (ta : After w u w₁ a (λ s. type_of s loc1 e1.0)) (da : b ≡ done a.out) where
-    pub open_no_first : b ≡ None → Opens w u w₁ (record { what = Stop a.out; used = a.used }) (λ s k. open_tvar k s loc1 id1 loc2 id2)
+    pub open_no_first : b ≡ None → Opens w u w₁ (record { what = Err a.out; used = a.used }) (λ s k. open_tvar k s loc1 id1 loc2 id2)
     open_no_first q = from_ends (open_stop a.out from_ty1 ta.changed da ta.inside q)
 
     module _ (ty1 : ℕ) (is : b ≡ Some ty1) (w₂ : List ℕ) (r : Outcome) (br : Option ℕ) (tr : After w₁ a.used w₂ r (λ s. type_of s loc2 e2.0)) (dr : br ≡ done r.out) where
       from_first : {w' : List ℕ} {o : Open} → Opens w₁ a.used w' o (λ s k. type_of s loc2 e2.0 >>= from_ty2 ty1 k) → Opens w u w' o (λ s k. open_tvar k s loc1 id1 loc2 id2)
       from_first x = from_ends (open_then a.out from_ty1 ta.changed da is x)
 
-      pub open_no_second : br ≡ None → Opens w u w₂ (record { what = Stop r.out; used = r.used }) (λ s k. open_tvar k s loc1 id1 loc2 id2)
+      pub open_no_second : br ≡ None → Opens w u w₂ (record { what = Err r.out; used = r.used }) (λ s k. open_tvar k s loc1 id1 loc2 id2)
       open_no_second q = from_first (open_stop r.out (from_ty2 ty1) tr.changed dr tr.inside q)
 
       pub open_both : (ty2 : ℕ) → br ≡ Some ty2 → (w₃ : List ℕ) (o : Open) → Opens w₂ r.used w₃ o (λ s k. open_ends k s loc1 e1.0 n1 ty1 loc2 e2.0 n2 ty2) → Opens w u w₃ o (λ s k. open_tvar k s loc1 id1 loc2 id2)
@@ -148,18 +148,24 @@ module _ (w : List ℕ) (u : Used) (loc1 id1 loc2 id2 : ℕ) (e1 e2 : TVar) (n1 
 
 -- ---- the numeric mark of a merge
 
-module _ (w : List ℕ) (u : Used) (n1 n2 : Option ℕ) (v : ℕ) where
-  pub marks_second : (w' : List ℕ) (nloc : ℕ) → n2 ≡ Some nloc → Stored w u w' (λ s. set_num_var s v nloc) → Stored w u w' (λ s. merge_num s n1 n2 v)
-  unfolding merge_num
-  marks_second w' nloc e a = rw e a
+num_some : (n1 n2 : Option ℕ) (nloc : ℕ) → option_or n2 n1 ≡ Some nloc → (s : State) (v : ℕ) → set_num_var s v nloc ≡ merge_num s n1 n2 v
+unfolding merge_num
+num_some n1 (Some x) nloc e s v = let z : nloc ≡ x = cc in ap (set_num_var s v) z
+num_some (Some y) None nloc e s v = let z : nloc ≡ y = cc in ap (set_num_var s v) z
+num_some None None nloc e s v = cc
 
-  pub marks_first : (w' : List ℕ) (nloc : ℕ) → n2 ≡ None → n1 ≡ Some nloc → Stored w u w' (λ s. set_num_var s v nloc) → Stored w u w' (λ s. merge_num s n1 n2 v)
-  unfolding merge_num
-  marks_first w' nloc e p a = rw (e, p) a
+num_none : (n1 n2 : Option ℕ) → option_or n2 n1 ≡ None → (s : State) (v : ℕ) → s ≡ merge_num s n1 n2 v
+unfolding merge_num
+num_none n1 (Some x) e s v = cc
+num_none (Some y) None e s v = cc
+num_none None None e s v = refl
 
-  pub marks_none : n2 ≡ None → n1 ≡ None → Lay w u → Stored w u w (λ s. merge_num s n1 n2 v)
-  unfolding merge_num
-  marks_none e p h = rw (e, p) (refines_now h (λ ds k. refl))
+module _ {w : List ℕ} {u : Used} (n1 n2 : Option ℕ) (v : ℕ) (r : Option ℕ) (is : r ≡ option_or n2 n1) where
+  pub marks_some : {w' : List ℕ} (nloc : ℕ) → r ≡ Some nloc → Stored w u w' (λ s. set_num_var s v nloc) → Stored w u w' (λ s. merge_num s n1 n2 v)
+  marks_some nloc e a = refines_is (λ ds k. num_some n1 n2 nloc (sym is ∙ e) (seen w u ds) v) a
+
+  pub marks_none : r ≡ None → Lay w u → Stored w u w (λ s. merge_num s n1 n2 v)
+  marks_none e h = refines_now h (λ ds k. num_none n1 n2 (sym is ∙ e) (seen w u ds) v)
 
 -- ---- showing
 
@@ -213,17 +219,17 @@ module _ {w : List ℕ} {u : Used} {w' : List ℕ} (b : Binding) (tvar ty loc va
   binds_as : {w₂ : List ℕ} {r : Outcome} (g : State → Result (State × ℕ)) → ((s : State) → g s ≡ bind_then var otherwise (bound b loc s)) → After w' u w₂ r g → After w u w₂ r f
   binds_as g e n = after_is (λ ds k. is ds) (after_on (λ m. bind_then var otherwise (m loc)) x (after_is (λ ds k. e (seen w' u ds)) n))
 
-  pub binds_done : b ≡ Bound → var < u.nodes → After w u w' (record { out = Done var; used = u }) f
+  pub binds_done : b ≡ Ok tt → var < u.nodes → After w u w' (record { out = Done var; used = u }) f
   unfolding outcome ◌>>=◌
   binds_done e i = binds_as (λ s. ok (s, var)) (λ s. rw e refl) (after_now x.lay i (λ ds k. refl))
 
-  pub binds_failed : {w₂ : List ℕ} {r : Outcome} → b ≡ FailedB → After w' u w₂ r otherwise → After w u w₂ r f
+  pub binds_failed : {w₂ : List ℕ} {r : Outcome} (y : BindError) → b ≡ Err y → y ≡ NotNumeric → After w' u w₂ r otherwise → After w u w₂ r f
   unfolding ◌>>=◌
-  binds_failed e n = binds_as otherwise (λ s. rw e refl) n
+  binds_failed y e z n = binds_as otherwise (λ s. rw (e, z) refl) n
 
-  pub binds_recursive : b ≡ RecursiveB → After w u w' (record { out = Failed (RecursiveType loc); used = u }) f
+  pub binds_recursive : (y : BindError) → b ≡ Err y → y ≡ Recursive → After w u w' (record { out = Failed (RecursiveType loc); used = u }) f
   unfolding outcome ◌>>=◌
-  binds_recursive e = binds_as (λ s. err s (d.RecursiveType loc)) (λ s. rw e refl) (after_now x.lay tt (λ ds k. refl))
+  binds_recursive y e z = binds_as (λ s. err s (d.RecursiveType loc)) (λ s. rw (e, z) refl) (after_now x.lay tt (λ ds k. refl))
 
 -- ---- closing a merge
 

@@ -8,7 +8,8 @@ ghost use Rattle.table.specs.State.{Lay, After, Stored};
 ghost use Rattle.merge.specs.Merge.{stopped, open_ends, open_tvar, show_both, close_tvar, meet_tvar, Opens, Meets};
 
 use names::TVar;
-use subst::Binding;
+use shapes::stay;
+use subst::BindError;
 use table::{Node, Out, Outcome, Shape, TypingError, Used};
 
 // A location, and the variable there.
@@ -33,30 +34,24 @@ pub struct Merging {
     pub var2: u32,
 }
 
-#[derive(Clone, Copy)]
-pub enum Opened {
-    Ready(Merging),
-    Stop(Out),
-}
-
+// What opening a merge comes to: the merge, or the error or refusal that it ends with.
 #[derive(Clone, Copy)]
 pub struct Open {
-    pub what: Opened,
+    pub what: Result<Merging, Out>,
     pub used: Used,
 }
 
+// No merge: the answer is no number.
 fn stopped(a: Outcome) -> Open
     ensures { result ≡ stopped a }
 {
-    let o = a.out;
-    let u = a.used;
     Open {
-        what: Opened::Stop(o),
-        used: u,
+        what: Err(a.out),
+        used: a.used,
     }
 }
 
-// A variable met another type: the answer, or a fresh variable that took the type, to merge with.
+// A variable met another type: the answer, or a fresh variable that took the type, to merge with. Either may go well, so this is no Result.
 #[derive(Clone, Copy)]
 pub enum Meet {
     Is(Outcome),
@@ -70,10 +65,7 @@ fn type_of(w: &mut [u32], u: Used, loc: u32, id: TVar) -> Outcome
 {
     match table::bound_at(w, u, id) {
         None => table::push_node(w, u, loc, Shape::Anything),
-        Some(t) => Outcome {
-            out: Out::Done(t),
-            used: u,
-        },
+        Some(t) => stay(Out::Done(t), u),
     }
 }
 
@@ -82,12 +74,8 @@ fn merge_num(w: &mut [u32], u: Used, num_loc_1: Option<u32>, num_loc_2: Option<u
     requires { Lay w.old u }
     ensures { Stored w.old u w.new (λ s. merge_num s num_loc_1 num_loc_2 new_tvar.0) }
 {
-    match num_loc_2 {
-        Some(nloc) => subst::set_num_var(w, u, new_tvar, nloc),
-        None => match num_loc_1 {
-            Some(nloc) => subst::set_num_var(w, u, new_tvar, nloc),
-            None => {}
-        },
+    if let Some(nloc) = num_loc_2.or(num_loc_1) {
+        subst::set_num_var(w, u, new_tvar, nloc);
     }
 }
 
@@ -97,29 +85,21 @@ fn open_ends(w: &mut [u32], u: Used, e1: End, e2: End) -> Open
     ensures { Opens w.old u w.new result (λ s k. open_ends k s e1.loc e1.last_id.0 e1.num_loc e1.ty e2.loc e2.last_id.0 e2.num_loc e2.ty) }
 {
     let a = table::take_var(w, u);
-    let ao = a.out;
-    let au = a.used;
-    let Some(n) = table::done_of(ao) else {
+    let Some(n) = table::done_of(a.out) else {
         return stopped(a);
     };
-    let new_tvar = table::tvar(n);
-    let num_loc_1 = e1.num_loc;
-    let num_loc_2 = e2.num_loc;
-    merge_num(w, au, num_loc_1, num_loc_2, new_tvar);
-    let b = table::push_node(w, au, e1.loc, Shape::Var(new_tvar));
-    let bo = b.out;
-    let bu = b.used;
-    let Some(var1) = table::done_of(bo) else {
+    let new_tvar = TVar(n as u16);
+    merge_num(w, a.used, e1.num_loc, e2.num_loc, new_tvar);
+    let b = table::push_node(w, a.used, e1.loc, Shape::Var(new_tvar));
+    let Some(var1) = table::done_of(b.out) else {
         return stopped(b);
     };
-    let d = table::push_node(w, bu, e2.loc, Shape::Var(new_tvar));
-    let od = d.out;
-    let du = d.used;
-    let Some(var2) = table::done_of(od) else {
+    let d = table::push_node(w, b.used, e2.loc, Shape::Var(new_tvar));
+    let Some(var2) = table::done_of(d.out) else {
         return stopped(d);
     };
-    table::bind_var(w, du, e1.last_id, var1);
-    table::bind_var(w, du, e2.last_id, var2);
+    table::bind_var(w, d.used, e1.last_id, var1);
+    table::bind_var(w, d.used, e2.last_id, var2);
     let m = Merging {
         ty1: e1.ty,
         ty2: e2.ty,
@@ -127,8 +107,8 @@ fn open_ends(w: &mut [u32], u: Used, e1: End, e2: End) -> Open
         var2,
     };
     Open {
-        what: Opened::Ready(m),
-        used: du,
+        what: Ok(m),
+        used: d.used,
     }
 }
 
@@ -142,15 +122,11 @@ pub fn open_tvar(w: &mut [u32], u: Used, v1: VarAt, v2: VarAt) -> Open
     let num_loc_1 = table::num_loc_at(w, u, last_id1);
     let num_loc_2 = table::num_loc_at(w, u, last_id2);
     let a = type_of(w, u, v1.0, last_id1);
-    let ao = a.out;
-    let au = a.used;
-    let Some(ty1) = table::done_of(ao) else {
+    let Some(ty1) = table::done_of(a.out) else {
         return stopped(a);
     };
-    let b = type_of(w, au, v2.0, last_id2);
-    let bo = b.out;
-    let bu = b.used;
-    let Some(ty2) = table::done_of(bo) else {
+    let b = type_of(w, a.used, v2.0, last_id2);
+    let Some(ty2) = table::done_of(b.out) else {
         return stopped(b);
     };
     let e1 = End {
@@ -165,7 +141,7 @@ pub fn open_tvar(w: &mut [u32], u: Used, v1: VarAt, v2: VarAt) -> Open
         num_loc: num_loc_2,
         ty: ty2,
     };
-    open_ends(w, bu, e1, e2)
+    open_ends(w, b.used, e1, e2)
 }
 
 // An operand's type as an error shows it: the variable where it is `_`.
@@ -174,14 +150,10 @@ fn shown(w: &mut [u32], u: Used, ty: u32, id: TVar) -> Outcome
     ensures { After w.old u w.new result (λ s. shown s ty id.0) }
 {
     let n = table::node_at(w, u, ty);
-    let s = n.shape;
-    if shapes::is_anything(s) {
+    if shapes::is_anything(n.shape) {
         return table::push_node(w, u, n.loc, Shape::Var(id));
     }
-    Outcome {
-        out: Out::Done(ty),
-        used: u,
-    }
+    stay(Out::Done(ty), u)
 }
 
 // The numeric check failed.
@@ -190,21 +162,17 @@ fn show_both(w: &mut [u32], u: Used, ty1: u32, id1: TVar, ty2: u32, id2: TVar) -
     ensures { After w.old u w.new result (λ s. show_both s ty1 id1.0 ty2 id2.0) }
 {
     let a = shown(w, u, ty1, id1);
-    let ao = a.out;
-    let au = a.used;
-    let Some(shown1) = table::done_of(ao) else {
+    let Some(shown1) = table::done_of(a.out) else {
         return a;
     };
-    let b = shown(w, au, ty2, id2);
-    let bo = b.out;
-    let bu = b.used;
-    let Some(shown2) = table::done_of(bo) else {
+    let b = shown(w, a.used, ty2, id2);
+    let Some(shown2) = table::done_of(b.out) else {
         return b;
     };
-    Outcome {
-        out: Out::Failed(TypingError::Incompatible(shown1, shown2)),
-        used: bu,
-    }
+    stay(
+        Out::Failed(TypingError::Incompatible(shown1, shown2)),
+        b.used,
+    )
 }
 
 // After the inner join: the fresh variable takes the joined type.
@@ -212,26 +180,15 @@ pub fn close_tvar(w: &mut [u32], u: Used, v1: VarAt, v2: VarAt, m: Merging, new_
     requires { Lay w.old u × ((m.ty1 < u.nodes) × ((m.ty2 < u.nodes) × ((m.var2 < u.nodes) × (new_ty < u.nodes)))) }
     ensures { After w.old u w.new result (λ s. close_tvar s m.ty1 v1.1.0 m.ty2 v2.0 v2.1.0 m.new_tvar.0 m.var2 new_ty) }
 {
-    let var2 = m.var2;
-    let loc2 = v2.0;
     match table::bound_at(w, u, m.new_tvar) {
         Some(t) => {
             let n = table::node_at(w, u, t);
-            Outcome {
-                out: Out::Failed(TypingError::RecursiveType(n.loc)),
-                used: u,
-            }
+            stay(Out::Failed(TypingError::RecursiveType(n.loc)), u)
         }
         None => match subst::join_bind_tvar(w, u, m.new_tvar, new_ty) {
-            Binding::Bound => Outcome {
-                out: Out::Done(var2),
-                used: u,
-            },
-            Binding::Failed => show_both(w, u, m.ty1, v1.1, m.ty2, v2.1),
-            Binding::Recursive => Outcome {
-                out: Out::Failed(TypingError::RecursiveType(loc2)),
-                used: u,
-            },
+            Ok(()) => stay(Out::Done(m.var2), u),
+            Err(BindError::NotNumeric) => show_both(w, u, m.ty1, v1.1, m.ty2, v2.1),
+            Err(BindError::Recursive) => stay(Out::Failed(TypingError::RecursiveType(v2.0)), u),
         },
     }
 }
@@ -251,18 +208,9 @@ fn join_unbound(
 {
     let n = table::node_at(w, u, var);
     match subst::join_bind_tvar(w, u, id, other) {
-        Binding::Bound => Outcome {
-            out: Out::Done(var),
-            used: u,
-        },
-        Binding::Failed => Outcome {
-            out: Out::Failed(TypingError::Incompatible(lhs, rhs)),
-            used: u,
-        },
-        Binding::Recursive => Outcome {
-            out: Out::Failed(TypingError::RecursiveType(n.loc)),
-            used: u,
-        },
+        Ok(()) => stay(Out::Done(var), u),
+        Err(BindError::NotNumeric) => stay(Out::Failed(TypingError::Incompatible(lhs, rhs)), u),
+        Err(BindError::Recursive) => stay(Out::Failed(TypingError::RecursiveType(n.loc)), u),
     }
 }
 
@@ -275,14 +223,12 @@ pub fn meet_tvar(w: &mut [u32], u: Used, lhs: u32, rhs: u32, var: u32, id: TVar,
         None => Meet::Is(join_unbound(w, u, lhs, rhs, var, id, other)),
         Some(_) => {
             let a = table::take_var(w, u);
-            let ao = a.out;
-            let au = a.used;
-            match table::done_of(ao) {
+            match table::done_of(a.out) {
                 None => Meet::Is(a),
                 Some(n) => {
-                    let new_tvar = table::tvar(n);
-                    table::bind_var(w, au, new_tvar, other);
-                    Meet::Merge(au, new_tvar)
+                    let new_tvar = TVar(n as u16);
+                    table::bind_var(w, a.used, new_tvar, other);
+                    Meet::Merge(a.used, new_tvar)
                 }
             }
         }

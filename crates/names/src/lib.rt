@@ -24,15 +24,15 @@ pub const MAX_DEPTH: u32 = 256;
 pub const MAX_BUILTIN: u32 = 9;
 
 // An inference variable's number.
-#[derive(Clone, Copy)]
+#[derive(Clone, Copy, PartialEq, Eq)]
 pub struct TVar(pub u16);
 
 // A type parameter's id. No variable, so never looked up as one.
-#[derive(Clone, Copy)]
+#[derive(Clone, Copy, PartialEq, Eq)]
 pub struct TParamID(pub u32);
 
 // copy 1, drop 2, store 4, key 8
-#[derive(Clone, Copy)]
+#[derive(Clone, Copy, PartialEq, Eq)]
 pub struct AbilitySet(pub u8);
 
 // What the Rust gives a type by its kind.
@@ -52,7 +52,7 @@ impl AbilitySet {
 pub type AbilityMark = Option<AbilitySet>;
 
 // An expression list's name is its count; a builtin and a struct have numbers.
-#[derive(Clone, Copy)]
+#[derive(Clone, Copy, PartialEq, Eq)]
 pub enum TypeName {
     Multiple(u32),
     Builtin(u32),

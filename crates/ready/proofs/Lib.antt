@@ -1,3 +1,2 @@
 -- Laws of ready_tvars, as the proofs of the code cite them. Assumes nothing.
 pub mod Run
-pub mod Eight

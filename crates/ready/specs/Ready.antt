@@ -1,5 +1,5 @@
 -- ready_tvars: how it goes on from a type, and what its steps answer. Assumes nothing: these are definitions.
-use Rattle.std.specs.Prelude.{◌≡◌, List, [], ◌∷◌, ℕ, ◌<◌, length, get_or}
+use Rattle.std.specs.Prelude.{◌≡◌, List, ℕ, ◌<◌, length, get_or}
 use Rattle.definition.specs.Types as d
 use Rattle.definition.specs.Types.{State, Struct, Result, ok, refused, runs_into_itself, ◌>>=◌}
 use Rattle.definition.specs.Store.{type_at, loc_of, with_args, sp, map_types}
@@ -12,10 +12,6 @@ use Rattle.ready.specs.declared.Onward.{Onward}
 use Rattle.ready.specs.declared.Onward.TheVariants.{Parts, Open, Bound}
 use Rattle.ready.specs.declared.Landing.{Landing}
 use Rattle.ready.specs.declared.Landing.TheVariants.{Parts as PartsL, Open as OpenL, Spent}
-
--- the first eight, written out
-abbrev pub eight : List ℕ → List ℕ
-eight l = get_or l 0 0 ∷ get_or l 1 0 ∷ get_or l 2 0 ∷ get_or l 3 0 ∷ get_or l 4 0 ∷ get_or l 5 0 ∷ get_or l 6 0 ∷ get_or l 7 0 ∷ []
 
 -- the type ty anew, with the parts tys; one without parts and without a name stays
 unfoldable pub rebuilt : State → ℕ → ℕ → d.TypeValue → List ℕ → Result (State × ℕ)

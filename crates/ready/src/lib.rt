@@ -7,12 +7,12 @@ ghost use Rattle.definition.specs.Types as d;
 ghost use Rattle.definition.specs.Store.{type_at};
 ghost use Rattle.definition.specs.Subst.{parts, ready, ready_tvars};
 ghost use Rattle.table.specs.State.{seen, Lay, After, Parts};
-ghost use Rattle.table.specs.declared.Out.TheVariants.{Done};
 ghost use Rattle.ends.specs.Ends.{EndsKnown};
-ghost use Rattle.ready.specs.Ready.{Goes, Lands, HasParts, eight, rebuilt_at, by_parts_at};
+ghost use Rattle.ready.specs.Ready.{Goes, Lands, HasParts, rebuilt_at, by_parts_at};
 
-use ends::{chain_end, narrow, near_over, never_over, note_ends};
+use ends::{chain_end, near_over, never_over, note_ends};
 use names::TVar;
+use shapes::stay;
 use table::{Out, Outcome, Refusal, Shape, Used};
 
 // How ready_tvars goes on from a type: to so many parts, to an open variable's end, or to what a variable is bound to.
@@ -55,18 +55,14 @@ fn land(w: &[u32], u: Used, t: u32, left: u32, ends: &[u32]) -> Landing
     ensures { Lands w.now u t left result }
 {
     let mut at = t;
-    let mut calls = left;
-    while 0 < calls {
+    for calls in (0..left).rev() {
         let n = table::node_at(w, u, at);
-        let loc = n.loc;
-        let s = n.shape;
-        calls = calls - 1;
-        match ready_onward(w, u, s, ends) {
+        match ready_onward(w, u, n.shape, ends) {
             Onward::Parts(many) => {
                 return Landing::Parts(at, many, calls);
             }
             Onward::Open(v) => {
-                return Landing::Open(loc, v);
+                return Landing::Open(n.loc, v);
             }
             Onward::Bound(x) => {
                 at = x;
@@ -82,32 +78,13 @@ fn part_of(w: &[u32], u: Used, t: u32, i: u32) -> u32
     ensures { (ds : List d.Struct) → i < length (parts (type_at (seen w.now u ds) t)) → result ≡ get_or (parts (type_at (seen w.now u ds) t)) i 0 }
 {
     let n = table::node_at(w, u, t);
-    let s = n.shape;
-    shapes::part_at(w, u, s, i)
+    shapes::part_at(w, u, n.shape, i)
 }
 
 fn widened(t: [u16; 8]) -> [u32; 8]
-    ensures { result ≡ eight t }
+    ensures { result ≡ t }
 {
-    [
-        t[0] as u32,
-        t[1] as u32,
-        t[2] as u32,
-        t[3] as u32,
-        t[4] as u32,
-        t[5] as u32,
-        t[6] as u32,
-        t[7] as u32,
-    ]
-}
-
-fn stays(u: Used, t: u32) -> Outcome
-    ensures { result ≡ record { out = Done t; used = u } }
-{
-    Outcome {
-        out: Out::Done(t),
-        used: u,
-    }
+    t.map(u32::from)
 }
 
 // An answer, field by field: copied whole, its padding would take 16 bytes more of each level's stack.
@@ -131,12 +108,10 @@ fn rebuild(w: &mut [u32], u: Used, t: u32, ready: [u16; 8], many: u32) -> Outcom
 {
     let tys = widened(ready);
     let n = table::node_at(w, u, t);
-    let loc = n.loc;
-    let s = n.shape;
-    match s {
-        Shape::Ref(m, _) => table::push_node(w, u, loc, Shape::Ref(m, tys[0])),
-        Shape::Apply(k, name, _, _) => table::push_apply(w, u, loc, k, name, tys, many),
-        _ => stays(u, t),
+    match n.shape {
+        Shape::Ref(m, _) => table::push_node(w, u, n.loc, Shape::Ref(m, tys[0])),
+        Shape::Apply(k, name, _, _) => table::push_apply(w, u, n.loc, k, name, tys, many),
+        _ => stay(Out::Done(t), u),
     }
 }
 
@@ -156,23 +131,14 @@ fn ready_types(w: &mut [u32], u: Used, t: u32, many: u32, left: u32, ends: &[u32
 {
     let mut tys: [u16; 8] = [0; 8];
     let mut cur = u;
-    let mut i: u32 = 0;
-    while i < many {
+    for i in 0..many {
         let p = part_of(w, cur, t, i);
         let a = ready(w, cur, p, left, ends);
-        let o = a.out;
-        let next = a.used;
-        match table::done_of(o) {
-            None => {
-                return anew(a);
-            }
-            Some(x) => {
-                let at = table::wide(i);
-                tys[at] = narrow(x);
-                cur = next;
-                i = i + 1;
-            }
-        }
+        let Some(x) = table::done_of(a.out) else {
+            return anew(a);
+        };
+        tys[i as usize] = x as u16;
+        cur = a.used;
     }
     let b = rebuild(w, cur, t, tys, many);
     anew(b)
@@ -192,10 +158,7 @@ fn ready(w: &mut [u32], u: Used, t: u32, left: u32, ends: &[u32]) -> Outcome
             ready_types(w, u, x, many, calls, ends)
         }
         Landing::Open(loc, v) => table::push_node(w, u, loc, Shape::Var(v)),
-        Landing::Spent => Outcome {
-            out: Out::Refused(Refusal::RunsIntoItself),
-            used: u,
-        },
+        Landing::Spent => stay(Out::Refused(Refusal::RunsIntoItself), u),
     }
 }
 
@@ -205,8 +168,7 @@ fn ready_near(w: &mut [u32], u: Used, t: u32) -> Outcome
     ensures { After w.old u w.new result (λ s. ready (u.nodes * 2) s t) }
 {
     let none: [u32; 1] = [0; 1];
-    let n = u.nodes;
-    ready(w, u, t, n * 2, &none)
+    ready(w, u, t, u.nodes * 2, &none)
 }
 
 // A type of any size: every end is noted first, for the test and for the run.
@@ -217,13 +179,9 @@ fn ready_far(w: &mut [u32], u: Used, t: u32) -> Outcome
     let mut ends: [u32; 1024] = [0; 1024];
     note_ends(w, u, &mut ends);
     if never_over(w, u, t, &ends) {
-        return Outcome {
-            out: Out::Refused(Refusal::RunsIntoItself),
-            used: u,
-        };
+        return stay(Out::Refused(Refusal::RunsIntoItself), u);
     }
-    let n = u.nodes;
-    ready(w, u, t, n * 2, &ends)
+    ready(w, u, t, u.nodes * 2, &ends)
 }
 
 // Replaces every bound variable by its binding, in every part.

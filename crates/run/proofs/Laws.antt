@@ -35,7 +35,6 @@ use Rattle.fields.specs.Noded.{two_case}
 use Rattle.subst.specs.Answers.{Unfolds}
 use Rattle.subst.specs.declared.Unfolded.{Unfolded}
 use Rattle.subst.specs.declared.Unfolded.TheVariants.{Node as NodeU, Anything as AnythingU}
-use Rattle.tparams.specs.Pairs.{made}
 use Rattle.payload.specs.Payload.{shown, Shows}
 use Rattle.answer.specs.Ran.{ran, Tells}
 use Rattle.answer.specs.declared.Ran.{Ran}
@@ -131,11 +130,9 @@ module _ {w : List ℕ} {u : Used} (h : Lay w u) where
 
   -- ---- TS
 
-  pub ran_twice : (ps : List (ℕ × ℕ)) (t : ℕ) (b : Bool) → made b ps ≡ make_tparam_subst ps → b ≡ false → Runs Any w u w (record { out = Refused ParameterTwice; used = u; show = Node; kept = false }) false (subst_in ps t) (tparams_run ps t)
+  pub ran_twice : (ps : List (ℕ × ℕ)) (t : ℕ) → refused parameter_twice ≡ make_tparam_subst ps → Runs Any w u w (record { out = Refused ParameterTwice; used = u; show = Node; kept = false }) false (subst_in ps t) (tparams_run ps t)
   unfolding subst_in tparams_run outcome ◌>>=◌
-  ran_twice ps t b m q =
-      let e : make_tparam_subst ps ≡ refused parameter_twice = sym m ∙ ap (λ (x : Bool). made x ps) q in
-      ran_now (Refused ParameterTwice) Node false _ _ tt (λ ds. rw e refl) (λ ds before. rw e refl)
+  ran_twice ps t m = ran_now (Refused ParameterTwice) Node false _ _ tt (λ ds. rw (← m) refl) (λ ds before. rw (← m) refl)
 
 -- ---- RD, IN, FV, NV: what follows their step
 
@@ -171,18 +168,15 @@ tells_var : (loc : ℕ) (v : Used) (o : Out) (s : State) → NoError (outcome o 
 tells_var loc v o s n i = tells_plain v (Variable loc) o s n (λ t q. rw q at i)
 
 module _ {w : List ℕ} {u : Used} {w' : List ℕ} {a : Outcome} where
-  pub ran_tparams : (ps : List (ℕ × ℕ)) (t : ℕ) (b : Bool) → made b ps ≡ make_tparam_subst ps → b ≡ true → After w u w' a (λ s. subst_tparams ps s t) → {r : Ran} → r ≡ as_run a Node false → Runs Any w u w' r false (subst_in ps t) (tparams_run ps t)
+  pub ran_tparams : (ps subst : List (ℕ × ℕ)) (t : ℕ) → ok subst ≡ make_tparam_subst ps → After w u w' a (λ s. subst_tparams subst s t) → {r : Ran} → r ≡ as_run a Node false → Runs Any w u w' r false (subst_in ps t) (tparams_run ps t)
   unfolding subst_in tparams_run shown ◌>>=◌
-  ran_tparams ps t b m q c e = run_after (subst_in ps t) (tparams_run ps t) false follows (after_is (λ ds k. substitutes (seen w u ds)) c) e
+  ran_tparams ps subst t m c e = run_after (subst_in ps t) (tparams_run ps t) false follows (after_is (λ ds k. substitutes (seen w u ds)) c) e
     where
-      is_made : make_tparam_subst ps ≡ ok ps
-      is_made = sym m ∙ ap (λ (x : Bool). made x ps) q
-
-      substitutes : (s : State) → subst_tparams ps s t ≡ subst_in ps t s
-      substitutes s = rw is_made refl
+      substitutes : (s : State) → subst_tparams subst s t ≡ subst_in ps t s
+      substitutes s = rw (← m) refl
 
       follows : (s before : State) → (subst_in ps t s >>= shows false Node before) ≡ tparams_run ps t s before
-      follows s before = rw is_made refl
+      follows s before = rw (← m) refl
 
   -- ---- RD
 

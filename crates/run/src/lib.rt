@@ -24,7 +24,6 @@ use needs::Sums;
 use payload::Show;
 use subst::Unfolded;
 use table::{Out, Outcome, Refusal, Used};
-use tparams::TParamSubst;
 
 // What a step's answer is as a run's.
 fn shown(a: Outcome, show: Show, kept: bool) -> Ran
@@ -99,16 +98,17 @@ pub fn run_tparams(
     requires { Lay w.old u × ((t < u.nodes) × Parts u.nodes args n) }
     ensures { Runs Any w.old u w.new result false (subst_in (pairs ids args 0 n) t) (tparams_run (pairs ids args 0 n) t) }
 {
-    let subst = TParamSubst { ids, args, many: n };
-    if tparams::make_tparam_subst(subst) {
-        let a = tparams::subst_tparams(w, u, subst, t);
-        return shown(a, Show::Node, false);
-    }
-    Ran {
-        out: Out::Refused(Refusal::ParameterTwice),
-        used: u,
-        show: Show::Node,
-        kept: false,
+    match tparams::make_tparam_subst(ids, args, n) {
+        Some(subst) => {
+            let a = tparams::subst_tparams(w, u, &subst, t);
+            shown(a, Show::Node, false)
+        }
+        None => Ran {
+            out: Out::Refused(Refusal::ParameterTwice),
+            used: u,
+            show: Show::Node,
+            kept: false,
+        },
     }
 }
 

@@ -15,13 +15,16 @@ use Rattle.definition.specs.Store.{args_at, with_args}
 use Rattle.definition.specs.Subst.{as_var, parts}
 use Rattle.definition.specs.Join.{is_var}
 use Rattle.names.specs.declared.AbilitySet.{AbilitySet}
+use Rattle.names.specs.declared.TVar.{TVar}
 use Rattle.names.specs.declared.TypeName.{TypeName}
 use Rattle.table.specs.Rows.{places}
 use Rattle.table.specs.State.{shape_of}
 use Rattle.table.specs.declared.Shape.{Shape}
 use Rattle.table.specs.declared.Shape.TheVariants.{Ref, Apply}
 use Rattle.table.specs.contracts.Shape.{the_type}
-use Rattle.shapes.specs.Parts.{part_count}
+use Rattle.std.specs.Option.{option_eq}
+use Rattle.names.specs.contracts.TVarPartialEq.TheImpl.{eq-value}
+use Rattle.shapes.specs.Parts.{next, part_count}
 use Rattle.shapes.proofs.Tags.{other_shapes}
 
 pub no_var : (s : Shape) → OneOf (0 ∷ 1 ∷ 2 ∷ 3 ∷ 5 ∷ 6 ∷ []) (tag_of the_type s) → (st : State) → None ≡ as_var (with_args st (shape_of s))
@@ -31,6 +34,11 @@ no_var = other_shapes (0 ∷ 1 ∷ 2 ∷ 3 ∷ 5 ∷ 6 ∷ []) (λ s. (st : Stat
 pub var_is : (v : ℕ) (x : d.TypeValue) (o : Option ℕ) → o ≡ as_var x → elim o [ None ↦ false | Some y ↦ eqb y v ] ≡ is_var v x
 unfolding is_var
 var_is v x o e = ap (λ (o : Option ℕ). elim o [ None ↦ false | Some y ↦ eqb y v ]) e
+
+-- `==` on the variable that a shape is
+pub same_next : (o : Option TVar) (v : TVar) → option_eq eq-value.it o (Some v) ≡ elim (next o) [ None ↦ false | Some y ↦ eqb y v.0 ]
+same_next None v = refl
+same_next (Some x) v = refl
 
 ref_at : (s : State) (m : Bool) (t i : ℕ) → i < 1 → t ≡ get_or (parts (with_args s (d.Ref m t))) i 0
 unfolding parts with_args

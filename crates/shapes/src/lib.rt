@@ -2,7 +2,7 @@
 // Changed from the source that NOTICE names: ported to Rattle.
 #![tactic(auto)]
 
-ghost use Rattle.std.specs.Prelude.{◌≡◌, List, ℕ, ◌<◌, min, get_or};
+ghost use Rattle.std.specs.Prelude.{◌≡◌, List, ℕ, ◌<◌, get_or};
 ghost use Rattle.definition.specs.Types as d;
 ghost use Rattle.definition.specs.Store.{with_args};
 ghost use Rattle.definition.specs.Subst.{as_var, is_anything, parts};
@@ -22,12 +22,6 @@ pub struct Applied {
     pub n: TypeName,
     pub first: u32,
     pub many: u32,
-}
-
-pub fn fewer(a: u32, b: u32) -> u32
-    ensures { result ≡ min a b }
-{
-    if a < b { a } else { b }
 }
 
 // The answer o, with no row taken.
@@ -51,48 +45,32 @@ pub fn as_var(s: Shape) -> Option<TVar>
 pub fn is_var(v: TVar, s: Shape) -> bool
     ensures { (st : d.State) → result ≡ is_var v.0 (with_args st (shape_of s)) }
 {
-    match as_var(s) {
-        None => false,
-        Some(x) => x.0 == v.0,
-    }
+    as_var(s) == Some(v)
 }
 
 pub fn is_anything(s: Shape) -> bool
     ensures { (st : d.State) → result ≡ is_anything (with_args st (shape_of s)) }
 {
-    match s {
-        Shape::Anything => true,
-        _ => false,
-    }
+    matches!(s, Shape::Anything)
 }
 
 // UnresolvedError | Anything
 pub fn undecided(s: Shape) -> bool
     ensures { (st : d.State) → result ≡ undecided (with_args st (shape_of s)) }
 {
-    match s {
-        Shape::Anything => true,
-        Shape::UnresolvedError => true,
-        _ => false,
-    }
+    matches!(s, Shape::Anything | Shape::UnresolvedError)
 }
 
 fn is_numeric(n: TypeName) -> bool
     ensures { result ≡ is_numeric (name_of n) }
 {
-    match n {
-        TypeName::Builtin(b) => names::is_numeric(b),
-        _ => false,
-    }
+    matches!(n, TypeName::Builtin(b) if names::is_numeric(b))
 }
 
 pub fn is_integer(s: Shape) -> bool
     ensures { (st : d.State) → result ≡ is_integer (with_args st (shape_of s)) }
 {
-    match s {
-        Shape::Apply(_, n, _, _) => is_numeric(n),
-        _ => false,
-    }
+    matches!(s, Shape::Apply(_, n, _, _) if is_numeric(n))
 }
 
 // A type that is no variable: what a numeric variable takes.

@@ -1,11 +1,13 @@
 -- The steps of the definition's chain end, numeric check and binding, as the code takes them. Assumes nothing.
 use mathlib.Core.Path.{◌≡◌, refl, sym, ap, ◌∙◌}
-use mathlib.Core.Bool.{Bool, true, false, not}
+use mathlib.Core.Bool.{Bool, true, false}
 use mathlib.Core.List.{List}
-use Rattle.std.specs.Prelude.{Option, None, Some}
-use Prim.Native.Nat.{ℕ, zero, suc, ◌-◌, ◌<◌, ◌≤◌}
+use Rattle.std.specs.Prelude.{Option, None, Some, Ok, Err}
+use Rattle.std.specs.Option.{is_some}
+use Prim.Native.Nat.{ℕ, zero, suc, ◌+◌, ◌-◌, ◌<◌, ◌≤◌}
 use native.Mathlib.Nat.{not-suc-le-zero}
 use native.Mathlib.Numerals.{sub-one}
+use native.Mathlib.Omega.{arith}
 use Rattle.definition.specs.Types.{State, Struct, ok, err, RecursiveType}
 use Rattle.definition.specs.Store.{node, with_args, type_at, get, num_loc, insert}
 use Rattle.definition.specs.Subst.{as_var, is_anything, next_in, next_of, forward, forward_tvar}
@@ -18,9 +20,8 @@ use Rattle.table.proofs.Grown.{value_is}
 use Rattle.table.proofs.Pushed.{taken_seen}
 use Rattle.names.specs.declared.TVar.{TVar}
 use Rattle.shapes.specs.Parts.{next}
-use Rattle.subst.specs.Answers.{bound, Binds}
-use Rattle.subst.specs.declared.Binding.{Binding}
-use Rattle.subst.specs.declared.Binding.TheVariants.{Bound, Failed, Recursive}
+use Rattle.subst.specs.Answers.{Binding, bound, Binds}
+use Rattle.subst.specs.declared.BindError.TheVariants.{NotNumeric, Recursive}
 
 pub var_of : (s : State) (t : ℕ) (n : Node) (r : Option TVar) → node_of n ≡ node s t → ((st : State) → next r ≡ as_var (with_args st (shape_of n.shape))) → as_var (type_at s t) ≡ next r
 var_of s t n r e f = sym (f s ∙ ap as_var (value_is s t n e))
@@ -57,32 +58,32 @@ unfolding forward
 forward_zero zero s v p = refl
 forward_zero (suc n) s v p = absurd (not-suc-le-zero p)
 
--- where the loop stands: from here on the chain ends where it ends from the start
-pub record Chain (w : List ℕ) (u : Used) (cur₀ left₀ cur left : ℕ) : Type 0 where
-  pub is : (ds : List Struct) → forward left (seen w u ds) cur ≡ forward left₀ (seen w u ds) cur₀
+-- where the loop stands after i steps: from here on the chain ends where it ends from the start
+pub record Chain (w : List ℕ) (u : Used) (cur₀ cur i : ℕ) : Type 0 where
+  pub is : (ds : List Struct) → forward (u.vars - i) (seen w u ds) cur ≡ forward_tvar (seen w u ds) cur₀
 
-module _ (w : List ℕ) (u : Used) (cur₀ cur left : ℕ) where
-  pub chain_start : Chain w u cur left cur left
-  chain_start = record { is = λ ds. refl }
+pub chain_start : (w : List ℕ) (u : Used) (cur : ℕ) → Chain w u cur cur 0
+unfolding forward_tvar
+chain_start w u cur = let z : u.vars - 0 ≡ u.vars = omega arith in record { is = λ ds. rw (z, taken_seen w u ds) refl }
 
-  whole : (ds : List Struct) → forward u.vars (seen w u ds) cur₀ ≡ forward_tvar (seen w u ds) cur₀
-  unfolding forward_tvar
-  whole ds = rw (taken_seen w u ds) refl
+module _ {w : List ℕ} {u : Used} {cur₀ cur i : ℕ} (c : Chain w u cur₀ cur i) where
+  pub chain_out : u.vars ≤ i → (ds : List Struct) → cur ≡ forward_tvar (seen w u ds) cur₀
+  chain_out z ds = sym (forward_zero (u.vars - i) (seen w u ds) cur (omega arith)) ∙ c.is ds
 
-  pub chain_end : Chain w u cur₀ u.vars cur left → (r : Option TVar) → ((ds : List Struct) → next r ≡ next_of (seen w u ds) cur) → r ≡ None → (ds : List Struct) → cur ≡ forward_tvar (seen w u ds) cur₀
-  chain_end c r e z ds = sym (forward_none left (seen w u ds) cur (sym (e ds) ∙ ap next z)) ∙ c.is ds ∙ whole ds
+  module _ (r : Option TVar) (e : (ds : List Struct) → next r ≡ next_of (seen w u ds) cur) where
+    pub chain_end : r ≡ None → (ds : List Struct) → cur ≡ forward_tvar (seen w u ds) cur₀
+    chain_end z ds = sym (forward_none (u.vars - i) (seen w u ds) cur (sym (e ds) ∙ ap next z)) ∙ c.is ds
 
-  pub chain_out : Chain w u cur₀ u.vars cur left → left ≤ 0 → (ds : List Struct) → cur ≡ forward_tvar (seen w u ds) cur₀
-  chain_out c z ds = sym (forward_zero left (seen w u ds) cur z) ∙ c.is ds ∙ whole ds
-
-  pub chain_on : (left₀ : ℕ) → Chain w u cur₀ left₀ cur left → 0 < left → (r : Option TVar) → ((ds : List Struct) → next r ≡ next_of (seen w u ds) cur) → (v : TVar) → r ≡ Some v → Chain w u cur₀ left₀ v.0 (left - 1)
-  chain_on left₀ c p r e v z = record { is = λ ds. sym (forward_less left (seen w u ds) cur v.0 p (sym (e ds) ∙ ap next z)) ∙ c.is ds }
+    pub chain_on : i < u.vars → (v : TVar) → r ≡ Some v → Chain w u cur₀ v.0 (i + 1)
+    chain_on p v z =
+        let q : u.vars - (i + 1) ≡ u.vars - i - 1 = omega arith in
+        record { is = λ ds. rw q (sym (forward_less (u.vars - i) (seen w u ds) cur v.0 (omega arith) (sym (e ds) ∙ ap next z)) ∙ c.is ds) }
 
 -- ---- the numeric check
 
-pub is_num : (s : State) (v : ℕ) (f : Option ℕ) → f ≡ num_loc s v → (o : Option ℕ) → f ≡ o → is_num_var s v ≡ elim o [ None ↦ false | Some loc ↦ true ]
+pub is_num : (s : State) (v : ℕ) (f : Option ℕ) → f ≡ num_loc s v → is_some f ≡ is_num_var s v
 unfolding is_num_var
-is_num s v f e o z = ap (λ (o : Option ℕ). elim o [ None ↦ false | Some loc ↦ true ]) (sym e ∙ z)
+is_num s v f e = ap (λ (o : Option ℕ). elim o [ None ↦ false | Some loc ↦ true ]) e
 
 module _ (s : State) (ty : ℕ) where
   pub num_plain : as_var (type_at s ty) ≡ None → num_shape (type_at s ty) ≡ check_num_tvar' s ty
@@ -133,10 +134,6 @@ module _ (s : State) (loc tvar ty : ℕ) where
       unfolding join_bind_tvar
       bind_stored a = rw (c, o, a) refl
 
-is_not : (b a : Bool) → not b ≡ a → b ≡ not a
-is_not true a e = ap not e
-is_not false a e = ap not e
-
 -- what is known of every state that the words hold
 abbrev pub All : List ℕ → Used → (State → Type 0) → Type 0
 All w u P = (ds : List Struct) → P (seen w u ds)
@@ -145,24 +142,21 @@ module _ (w : List ℕ) (u : Used) (tvar ty : ℕ) where
   stays : (r : Binding) → Lay w u → ((ds : List Struct) (loc : ℕ) → bound r loc (seen w u ds) ≡ join_bind_tvar (seen w u ds) loc tvar ty) → Binds w u w r tvar ty
   stays r h e = refines_now h (λ ds k i loc. e ds loc i)
 
-  pub binds_failed : Lay w u → (b : Bool) → All w u (λ s. b ≡ check_num_tvar s tvar ty) → not b ≡ true → Binds w u w Failed tvar ty
-  binds_failed h b c z = stays Failed h (λ ds loc. bind_failed (seen w u ds) loc tvar ty (sym (c ds) ∙ is_not b true z))
+  pub binds_failed : Lay w u → (b : Bool) → All w u (λ s. b ≡ check_num_tvar s tvar ty) → b ≡ false → Binds w u w (Err NotNumeric) tvar ty
+  binds_failed h b c z = stays (Err NotNumeric) h (λ ds loc. bind_failed (seen w u ds) loc tvar ty (sym (c ds) ∙ z))
 
-  module _ (b : Bool) (c : All w u (λ s. b ≡ check_num_tvar s tvar ty)) (bn : not b ≡ false) where
-    bt : b ≡ true
-    bt = is_not b false bn
-
-    pub binds_used : Lay w u → (o : Bool) → All w u (λ s. o ≡ used (suc ty) s tvar ty) → o ≡ true → Binds w u w Recursive tvar ty
-    binds_used h o e z = stays Recursive h (λ ds loc. bind_used (seen w u ds) loc tvar ty (sym (c ds) ∙ bt) (sym (e ds) ∙ z))
+  module _ (b : Bool) (c : All w u (λ s. b ≡ check_num_tvar s tvar ty)) (bt : b ≡ true) where
+    pub binds_used : Lay w u → (o : Bool) → All w u (λ s. o ≡ used (suc ty) s tvar ty) → o ≡ true → Binds w u w (Err Recursive) tvar ty
+    binds_used h o e z = stays (Err Recursive) h (λ ds loc. bind_used (seen w u ds) loc tvar ty (sym (c ds) ∙ bt) (sym (e ds) ∙ z))
 
     module _ (o : Bool) (e : All w u (λ s. o ≡ used (suc ty) s tvar ty)) (ot : o ≡ false) (n : Node) (g : All w u (λ s. node_of n ≡ node s ty)) (a : Bool)
         (i : (s : State) → a ≡ is_anything (with_args s (shape_of n.shape))) where
       is_any : (ds : List Struct) → is_anything (type_at (seen w u ds) ty) ≡ a
       is_any ds = sym (i (seen w u ds) ∙ ap is_anything (value_is (seen w u ds) ty n (g ds)))
 
-      pub binds_anything : Lay w u → a ≡ true → Binds w u w Bound tvar ty
-      binds_anything h z = stays Bound h (λ ds loc. bind_anything (seen w u ds) loc tvar ty (sym (c ds) ∙ bt) (sym (e ds) ∙ ot) (is_any ds ∙ z))
+      pub binds_anything : Lay w u → a ≡ true → Binds w u w (Ok tt) tvar ty
+      binds_anything h z = stays (Ok tt) h (λ ds loc. bind_anything (seen w u ds) loc tvar ty (sym (c ds) ∙ bt) (sym (e ds) ∙ ot) (is_any ds ∙ z))
 
-      pub binds_stored : (w' : List ℕ) → Stored w u w' (λ s. insert s tvar ty) → a ≡ false → Binds w u w' Bound tvar ty
+      pub binds_stored : (w' : List ℕ) → Stored w u w' (λ s. insert s tvar ty) → a ≡ false → Binds w u w' (Ok tt) tvar ty
       binds_stored w' h z =
           refines_is (λ ds k i loc. bind_stored (seen w u ds) loc tvar ty (sym (c ds) ∙ bt) (sym (e ds) ∙ ot) (is_any ds ∙ z) i) (refines_as (λ s loc. ok (s, true)) h (λ s. refl))

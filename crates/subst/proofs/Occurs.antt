@@ -60,7 +60,6 @@ module _ {w : List ℕ} {u : Used} {t : ℕ} {sh : Shape} {many : ℕ} (a : At w
 -- the parts before i are passed without meeting v, which node t is not itself
 pub record Passed (w : List ℕ) (u : Used) (v t : ℕ) (sh : Shape) (many : ℕ) (marks : List ℕ) (i : ℕ) : Type 0 where
   pub at : At w u t sh many
-  pub le : i ≤ many
   pub clear : Clear w u v marks
   pub no_self : (ds : List Struct) → is_var v (type_at (seen w u ds) t) ≡ false
   pub no_part : (ds : List Struct) (j : ℕ) → j < i → used (suc (get_or (parts (type_at (seen w u ds) t)) j 0)) (seen w u ds) v (get_or (parts (type_at (seen w u ds) t)) j 0) ≡ false
@@ -68,7 +67,6 @@ pub record Passed (w : List ℕ) (u : Used) (v t : ℕ) (sh : Shape) (many : ℕ
 pub passed_none : (w : List ℕ) (u : Used) (v t : ℕ) (sh : Shape) (many : ℕ) (marks : List ℕ) → At w u t sh many → Clear w u v marks → (b : Bool) → ((s : State) → b ≡ is_var v (with_args s (shape_of sh))) → b ≡ false → Passed w u v t sh many marks 0
 passed_none w u v t sh many marks a c b e z = record {
   at = a;
-  le = omega arith;
   clear = c;
   no_self = λ ds. sym (e (seen w u ds) ∙ ap (is_var v) (a.is ds)) ∙ z;
   no_part = λ ds j h. absurd (not-suc-le-zero h);
@@ -91,7 +89,7 @@ module _ {w : List ℕ} {u : Used} {v t : ℕ} {sh : Shape} {many : ℕ} {marks 
     part_used z ds = sym (used_part (seen w u ds) (inside_seen w u ds h.at.lay) v t (counted h.at ds) i (rw (many_parts h.at ds) l) (met ds ∙ z))
 
     pub passed_more : (marks' : List ℕ) → Clear w u v marks' → b ≡ false → Passed w u v t sh many marks' (i + 1)
-    passed_more marks' c z = record { at = h.at; le = omega arith; clear = c; no_self = h.no_self; no_part = λ ds j k. one_more ds j k (ℕ_discrete j i) }
+    passed_more marks' c z = record { at = h.at; clear = c; no_self = h.no_self; no_part = λ ds j k. one_more ds j k (ℕ_discrete j i) }
       where
         one_more : (ds : List Struct) (j : ℕ) → j < i + 1 → Dec (j ≡ i) → used (suc (get_or (parts (type_at (seen w u ds) t)) j 0)) (seen w u ds) v (get_or (parts (type_at (seen w u ds) t)) j 0) ≡ false
         one_more ds j k (yes d) = rw d (met ds ∙ z)

@@ -2,16 +2,17 @@
 use mathlib.Core.Path.{◌≡◌, refl, sym, ap, ◌∙◌}
 use mathlib.Core.List.{List, []}
 use Rattle.std.specs.Prelude.{Option, None, Some}
-use Prim.Native.Nat.{ℕ, zero, suc, ◌-◌, ◌<◌, ◌≤◌}
+use Prim.Native.Nat.{ℕ, zero, suc, ◌+◌, ◌-◌, ◌<◌, ◌≤◌}
 use native.Mathlib.Nat.{not-suc-le-zero}
 use native.Mathlib.Numerals.{sub-one}
+use native.Mathlib.Omega.{arith}
 use Rattle.definition.specs.Types.{State, Struct}
 use Rattle.definition.specs.Store.{node, type_at, loc_of, spanned, get, with_args}
 use Rattle.definition.specs.Subst.{as_var, next_of, forward_tvar, unfold_var, unfold_type, mark_one, mark_chain, set_num_var}
 use Rattle.table.specs.State.{shape_of, node_of, seen, Lay, Any, Refines, Stored}
 use Rattle.table.specs.declared.Used.{Used}
 use Rattle.table.specs.declared.Node.{Node}
-use Rattle.table.proofs.Steps.{refines_is, refines_on, refines_as}
+use Rattle.table.proofs.Steps.{refines_now, refines_is, refines_on, refines_as}
 use Rattle.table.proofs.Grown.{loc_is}
 use Rattle.table.proofs.Pushed.{taken_seen, count_seen}
 use Rattle.names.specs.declared.TVar.{TVar}
@@ -78,21 +79,23 @@ unfolding mark_chain
 chain_none zero s v loc p = refl
 chain_none (suc n) s v loc p = absurd (not-suc-le-zero p)
 
--- where the loop stands: what is left to mark comes to what was to be marked at the start
-abbrev pub Marking : List ℕ → Used → ℕ → ℕ → ℕ → List ℕ → ℕ → ℕ → Type 0
-Marking w₀ u cur₀ loc left₀ w cur left = Refines Any w₀ u w u (λ s. mark_chain left s cur loc) (λ s. mark_chain left₀ s cur₀ loc)
+-- where the loop stands after i steps: what is left to mark comes to what was to be marked at the start
+abbrev pub Marking : List ℕ → Used → ℕ → ℕ → List ℕ → ℕ → ℕ → Type 0
+Marking w₀ u cur₀ loc w cur i = Refines Any w₀ u w u (λ s. mark_chain (u.vars - i) s cur loc) (λ s. set_num_var s cur₀ loc)
 
-module _ {w₀ : List ℕ} {u : Used} {w : List ℕ} (cur₀ loc cur left : ℕ) (m : Marking w₀ u cur₀ loc u.vars w cur left) where
-  all_marked : {w' : List ℕ} → Stored w₀ u w' (λ s. mark_chain u.vars s cur₀ loc) → Stored w₀ u w' (λ s. set_num_var s cur₀ loc)
-  unfolding set_num_var
-  all_marked a = refines_is (λ ds k. rw (taken_seen w₀ u ds) refl) a
+pub marking_start : (w : List ℕ) (u : Used) (cur loc : ℕ) → Lay w u → Marking w u cur loc w cur 0
+unfolding set_num_var
+marking_start w u cur loc h = let z : u.vars - 0 ≡ u.vars = omega arith in refines_now h (λ ds k. rw (z, taken_seen w u ds) refl)
 
-  pub marking_out : left ≤ 0 → Stored w₀ u w (λ s. set_num_var s cur₀ loc)
-  marking_out z = all_marked (refines_as (λ s. s) m (λ s. sym (chain_none left s cur loc z)))
+module _ {w₀ : List ℕ} {u : Used} {w : List ℕ} (cur₀ loc cur i : ℕ) (m : Marking w₀ u cur₀ loc w cur i) where
+  pub marking_out : u.vars ≤ i → Stored w₀ u w (λ s. set_num_var s cur₀ loc)
+  marking_out z = refines_as (λ s. s) m (λ s. sym (chain_none (u.vars - i) s cur loc (omega arith)))
 
-  module _ (p : 0 < left) (w' : List ℕ) (h : Stored w u w' (λ s. mark_one s cur loc)) (r : Option TVar) (e : (ds : List Struct) → next r ≡ next_of (seen w u ds) cur) where
+  module _ (p : i < u.vars) (w' : List ℕ) (h : Stored w u w' (λ s. mark_one s cur loc)) (r : Option TVar) (e : (ds : List Struct) → next r ≡ next_of (seen w u ds) cur) where
     pub marking_last : r ≡ None → Stored w₀ u w' (λ s. set_num_var s cur₀ loc)
-    marking_last z = all_marked (refines_on (λ s. s) m (refines_is (λ ds k. sym (chain_last left (seen w u ds) cur loc p (sym (e ds) ∙ ap next z))) h))
+    marking_last z = refines_on (λ s. s) m (refines_is (λ ds k. sym (chain_last (u.vars - i) (seen w u ds) cur loc (omega arith) (sym (e ds) ∙ ap next z))) h)
 
-    pub marking_on : (v : TVar) → r ≡ Some v → Marking w₀ u cur₀ loc u.vars w' v.0 (left - 1)
-    marking_on v z = refines_on (λ s. s) m (refines_is (λ ds k. sym (chain_next left (seen w u ds) cur v.0 loc p (sym (e ds) ∙ ap next z))) (refines_as (λ s. mark_chain (left - 1) s v.0 loc) h (λ s. refl)))
+    pub marking_on : (v : TVar) → r ≡ Some v → Marking w₀ u cur₀ loc w' v.0 (i + 1)
+    marking_on v z =
+        let q : u.vars - (i + 1) ≡ u.vars - i - 1 = omega arith in
+        rw q (refines_on (λ s. s) m (refines_is (λ ds k. sym (chain_next (u.vars - i) (seen w u ds) cur v.0 loc (omega arith) (sym (e ds) ∙ ap next z))) (refines_as (λ s. mark_chain (u.vars - i - 1) s v.0 loc) h (λ s. refl))))

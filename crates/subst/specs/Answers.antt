@@ -1,7 +1,7 @@
 -- Answers of substitution as the definition has them, and what is promised with them. Assumes nothing: these are definitions.
-use Rattle.std.specs.Prelude.{◌≡◌, Bool, true, false, List, ℕ, suc, ◌<◌, length, get_or}
+use Rattle.std.specs.Prelude.{◌≡◌, Bool, true, false, List, ℕ, suc, ◌<◌, length, get_or, Result, Ok, Err}
 use Rattle.definition.specs.Types as d
-use Rattle.definition.specs.Types.{State, Struct, Spanned, TypeValue, Result, ok, err, RecursiveType}
+use Rattle.definition.specs.Types.{State, Struct, Spanned, TypeValue, ok, err, RecursiveType}
 use Rattle.definition.specs.Store.{spanned}
 use Rattle.definition.specs.Subst.{unfold_type}
 use Rattle.definition.specs.Join.{used, join_bind_tvar}
@@ -9,8 +9,8 @@ use Rattle.table.specs.State.{seen, Any, Refines}
 use Rattle.table.specs.declared.Used.{Used}
 use Rattle.subst.specs.declared.Unfolded.{Unfolded}
 use Rattle.subst.specs.declared.Unfolded.TheVariants.{Node, Anything}
-use Rattle.subst.specs.declared.Binding.{Binding}
-use Rattle.subst.specs.declared.Binding.TheVariants.{Bound, Failed, Recursive}
+use Rattle.subst.specs.declared.BindError.{BindError}
+use Rattle.subst.specs.declared.BindError.TheVariants.{NotNumeric, Recursive}
 
 -- what a type unfolds to
 abbrev pub unfolded : Unfolded → State → Spanned TypeValue
@@ -35,12 +35,16 @@ pub record Clear (w : List ℕ) (u : Used) (v : ℕ) (marks : List ℕ) : Type 0
   pub size : length marks ≡ 2048
   pub clear : (ds : List Struct) (t : ℕ) → get_or marks t 0 ≡ 1 → used (suc t) (seen w u ds) v t ≡ false
 
--- what binding a variable answers, at the location loc
-abbrev pub bound : Binding → ℕ → State → Result (State × Bool)
-bound Bound loc s = ok (s, true)
-bound Failed loc s = ok (s, false)
-bound Recursive loc s = err s (RecursiveType loc)
+-- what binding a variable comes to
+abbrev pub Binding : Type 0
+Binding = Result (Unit {0}) BindError
+
+-- .. as the definition answers it, at the location loc
+abbrev pub bound : Binding → ℕ → State → d.Result (State × Bool)
+bound (Ok done) loc s = ok (s, true)
+bound (Err NotNumeric) loc s = ok (s, false)
+bound (Err Recursive) loc s = err s (RecursiveType loc)
 
 -- the words w became w' and the answer r, as join_bind_tvar says, whatever the location and the declarations are
 abbrev pub Binds : List ℕ → Used → List ℕ → Binding → ℕ → ℕ → Type 0
-Binds w u w' r tvar ty = Refines {A = ℕ → Result (State × Bool)} Any w u w' u (λ s loc. bound r loc s) (λ s loc. join_bind_tvar s loc tvar ty)
+Binds w u w' r tvar ty = Refines {A = ℕ → d.Result (State × Bool)} Any w u w' u (λ s loc. bound r loc s) (λ s loc. join_bind_tvar s loc tvar ty)

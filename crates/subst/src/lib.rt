@@ -2,7 +2,7 @@
 // Changed from the source that NOTICE names: ported to Rattle.
 #![tactic(auto)]
 
-ghost use Rattle.std.specs.Prelude.{◌≡◌, false, List, ℕ, suc, ◌<◌};
+ghost use Rattle.std.specs.Prelude.{◌≡◌, false, List, ℕ, suc, ◌<◌, Some};
 ghost use Rattle.definition.specs.Types as d;
 ghost use Rattle.definition.specs.Store.{type_at, spanned};
 ghost use Rattle.definition.specs.Subst.{next_of, forward_tvar, set_num_var};
@@ -14,11 +14,10 @@ ghost use Rattle.subst.specs.Answers.{Unfolds, var_at, Clear, Binds};
 use names::TVar;
 use table::Used;
 
-// What binding a variable comes to: it succeeds, the numeric check fails, or the variable occurs in the type.
+// Why a variable is not bound: the numeric check failed, or the variable occurs in the type.
 #[derive(Clone, Copy)]
-pub enum Binding {
-    Bound,
-    Failed,
+pub enum BindError {
+    NotNumeric,
     Recursive,
 }
 
@@ -36,14 +35,9 @@ pub fn next_of(w: &[u32], u: Used, cur: TVar) -> Option<TVar>
     requires { Lay w.now u }
     ensures { (ds : List d.Struct) → next result ≡ next_of (seen w.now u ds) cur.0 }
 {
-    match table::bound_at(w, u, cur) {
-        None => None,
-        Some(t) => {
-            let n = table::node_at(w, u, t);
-            let s = n.shape;
-            shapes::as_var(s)
-        }
-    }
+    let t = table::bound_at(w, u, cur)?;
+    let n = table::node_at(w, u, t);
+    shapes::as_var(n.shape)
 }
 
 // The variable at the end of the chain from id.
@@ -52,17 +46,11 @@ pub fn forward_tvar(w: &[u32], u: Used, id: TVar) -> TVar
     ensures { (ds : List d.Struct) → result.0 ≡ forward_tvar (seen w.now u ds) id.0 }
 {
     let mut cur = id;
-    let mut left = u.vars;
-    while 0 < left {
-        match next_of(w, u, cur) {
-            None => {
-                return cur;
-            }
-            Some(v) => {
-                cur = v;
-                left -= 1;
-            }
-        }
+    for _link in 0..u.vars {
+        let Some(v) = next_of(w, u, cur) else {
+            return cur;
+        };
+        cur = v;
     }
     cur
 }
@@ -95,11 +83,9 @@ pub fn unfold_type(w: &[u32], u: Used, t: u32) -> Unfolded
     ensures { Unfolds w.now u result (λ s. spanned s t) }
 {
     let n = table::node_at(w, u, t);
-    let s = n.shape;
-    let loc = n.loc;
-    match shapes::as_var(s) {
+    match shapes::as_var(n.shape) {
         None => Unfolded::Node(t),
-        Some(v) => unfold_tvar(w, u, loc, v),
+        Some(v) => unfold_tvar(w, u, n.loc, v),
     }
 }
 
@@ -111,19 +97,13 @@ pub fn set_num_var(w: &mut [u32], u: Used, tvar: TVar, loc: u32)
     ensures { Stored w.old u w.new (λ s. set_num_var s tvar.0 loc) }
 {
     let mut cur = tvar;
-    let mut unmarked = u.vars;
-    while 0 < unmarked {
+    for _mark in 0..u.vars {
         let n = next_of(w, u, cur);
         table::mark_one(w, u, cur, loc);
-        match n {
-            None => {
-                return;
-            }
-            Some(v) => {
-                cur = v;
-                unmarked -= 1;
-            }
-        }
+        let Some(v) = n else {
+            return;
+        };
+        cur = v;
     }
 }
 
@@ -133,10 +113,7 @@ fn is_num_var(w: &[u32], u: Used, v: TVar) -> bool
     requires { Lay w.now u }
     ensures { (ds : List d.Struct) → result ≡ is_num_var (seen w.now u ds) v.0 }
 {
-    match table::num_loc_at(w, u, v) {
-        None => false,
-        Some(_) => true,
-    }
+    table::num_loc_at(w, u, v).is_some()
 }
 
 fn num_node(w: &[u32], u: Used, t: u32) -> bool
@@ -144,8 +121,7 @@ fn num_node(w: &[u32], u: Used, t: u32) -> bool
     ensures { (ds : List d.Struct) → result ≡ num_shape (type_at (seen w.now u ds) t) }
 {
     let n = table::node_at(w, u, t);
-    let s = n.shape;
-    shapes::num_shape(s)
+    shapes::num_shape(n.shape)
 }
 
 // check_num_tvar_: a variable is followed to its end first.
@@ -154,9 +130,8 @@ fn check_num_type(w: &[u32], u: Used, ty: u32) -> bool
     ensures { (ds : List d.Struct) → result ≡ check_num_tvar' (seen w.now u ds) ty }
 {
     let n = table::node_at(w, u, ty);
-    let s = n.shape;
-    match shapes::as_var(s) {
-        None => shapes::num_shape(s),
+    match shapes::as_var(n.shape) {
+        None => shapes::num_shape(n.shape),
         Some(v) => {
             let last = forward_tvar(w, u, v);
             match table::bound_at(w, u, last) {
@@ -172,10 +147,7 @@ pub fn check_num_tvar(w: &[u32], u: Used, tvar: TVar, ty: u32) -> bool
     requires { Lay w.now u }
     ensures { (ds : List d.Struct) → result ≡ check_num_tvar (seen w.now u ds) tvar.0 ty }
 {
-    if is_num_var(w, u, tvar) {
-        return check_num_type(w, u, ty);
-    }
-    true
+    !is_num_var(w, u, tvar) || check_num_type(w, u, ty)
 }
 
 // ---- the occurs walk
@@ -185,8 +157,7 @@ fn used_in(w: &[u32], u: Used, tvar: TVar, t: u32, marks: &mut [u8]) -> bool
     requires { Lay w.now u × ((t < u.nodes) × Clear w.now u tvar.0 marks.old) }
     ensures { ((ds : List d.Struct) → result ≡ used (suc t) (seen w.now u ds) tvar.0 t) × Clear w.now u tvar.0 marks.new }
 {
-    let at = table::wide(t);
-    if marks[at] == 1 {
+    if marks[t as usize] == 1 {
         return false;
     }
     let n = table::node_at(w, u, t);
@@ -194,52 +165,40 @@ fn used_in(w: &[u32], u: Used, tvar: TVar, t: u32, marks: &mut [u8]) -> bool
     if shapes::is_var(tvar, s) {
         return true;
     }
-    let many = shapes::part_count(s);
-    let mut i: u32 = 0;
-    while i < many {
+    for i in 0..shapes::part_count(s) {
         let p = shapes::part_at(w, u, s, i);
         if used_in(w, u, tvar, p, marks) {
             return true;
         }
-        i = i + 1;
     }
-    marks[at] = 1;
+    marks[t as usize] = 1;
     false
 }
 
-// How many of `budget` parts are left once tvar is seen not to be in node t; 0 if it is there, or not so soon.
-fn soon_clear(w: &[u32], u: Used, tvar: TVar, t: u32, budget: u32) -> u32
+// How many of `budget` parts are left once tvar is seen not to be in node t; none if it is there, or not so soon.
+fn soon_clear(w: &[u32], u: Used, tvar: TVar, t: u32, budget: u32) -> Option<u32>
     requires { Lay w.now u × (t < u.nodes) }
-    ensures { 0 < result → (ds : List d.Struct) → used (suc t) (seen w.now u ds) tvar.0 t ≡ false }
+    ensures { (rest : ℕ) → result ≡ Some rest → (ds : List d.Struct) → used (suc t) (seen w.now u ds) tvar.0 t ≡ false }
 {
-    if budget == 0 {
-        return 0;
-    }
+    let mut rest = budget.checked_sub(1)?;
     let n = table::node_at(w, u, t);
     let s = n.shape;
     if shapes::is_var(tvar, s) {
-        return 0;
+        return None;
     }
-    let many = shapes::part_count(s);
-    let mut rest = budget - 1;
-    let mut i: u32 = 0;
-    while i < many {
+    for i in 0..shapes::part_count(s) {
         let p = shapes::part_at(w, u, s, i);
-        rest = soon_clear(w, u, tvar, p, rest);
-        if rest == 0 {
-            return 0;
-        }
-        i = i + 1;
+        rest = soon_clear(w, u, tvar, p, rest)?;
     }
-    rest
+    Some(rest)
 }
 
-// used_tvars(ty) has tvar. A type of fewer than 64 parts needs no marks.
+// used_tvars(ty) has tvar. A type of at most 64 parts needs no marks.
 pub fn used_tvars(w: &[u32], u: Used, tvar: TVar, ty: u32) -> bool
     requires { Lay w.now u × (ty < u.nodes) }
     ensures { (ds : List d.Struct) → result ≡ used (suc ty) (seen w.now u ds) tvar.0 ty }
 {
-    if 0 < soon_clear(w, u, tvar, ty, 64) {
+    if soon_clear(w, u, tvar, ty, 64).is_some() {
         return false;
     }
     let mut marks: [u8; 2048] = [0; 2048];
@@ -249,21 +208,19 @@ pub fn used_tvars(w: &[u32], u: Used, tvar: TVar, ty: u32) -> bool
 // ---- join_bind_tvar
 
 // Binds tvar to ty. `_` succeeds and stores no binding.
-pub fn join_bind_tvar(w: &mut [u32], u: Used, tvar: TVar, ty: u32) -> Binding
+pub fn join_bind_tvar(w: &mut [u32], u: Used, tvar: TVar, ty: u32) -> Result<(), BindError>
     requires { Lay w.old u × (ty < u.nodes) }
     ensures { Binds w.old u w.new result tvar.0 ty }
 {
     if !check_num_tvar(w, u, tvar, ty) {
-        return Binding::Failed;
+        return Err(BindError::NotNumeric);
     }
     if used_tvars(w, u, tvar, ty) {
-        return Binding::Recursive;
+        return Err(BindError::Recursive);
     }
     let n = table::node_at(w, u, ty);
-    let s = n.shape;
-    if shapes::is_anything(s) {
-        return Binding::Bound;
+    if !shapes::is_anything(n.shape) {
+        table::bind_var(w, u, tvar, ty);
     }
-    table::bind_var(w, u, tvar, ty);
-    Binding::Bound
+    Ok(())
 }

@@ -9,7 +9,8 @@ use native.Mathlib.Nat.{sub-zero}
 use native.Mathlib.Omega.{arith}
 use lib.ListN.{get_or}
 use lib.Dec.{eqb}
-use borrow.Author.Tests.{eq-eqb, ne_eqb}
+use Rattle.std.specs.Option.{is_some}
+use Rattle.std.proofs.lemmas.Bool.{false≢true, true≢false}
 use Rattle.std.specs.Prelude.{if◌then◌else◌}
 use Rattle.definition.specs.Types.{Result, ok, refused, parameter_twice, ◌>>=◌}
 use Rattle.definition.specs.TParams.{TParamSubst, arg_of, make_tparam_subst}
@@ -34,51 +35,59 @@ module _ (ids : List TParamID) (args : List ℕ) (i n : ℕ) where
   unfolding pairs
   pairs_none h = let e : n - i ≡ 0 = omega arith in rw e refl
 
-  -- the place at is i
-  pub arg_here : (at id : ℕ) → at ≡ i → i < n → id_at ids at ≡ id → Some (get_or args at 0) ≡ arg_of (pairs ids args i (n - i)) id
+  pub arg_here : (id : ℕ) → i < n → eqb (id_at ids i) id ≡ true → Some (get_or args i 0) ≡ arg_of (pairs ids args i (n - i)) id
   unfolding arg_of
-  arg_here at id p h e = rw (pairs_more h, ← p, arg_of, eq-eqb _ _ e) refl
+  arg_here id h e = rw (pairs_more h, arg_of, e) refl
 
-  pub arg_past : (at id : ℕ) → at ≡ i → i < n → (id_at ids at ≡ id → ⊥) → arg_of (pairs ids args (i + 1) (n - (i + 1))) id ≡ arg_of (pairs ids args i (n - i)) id
+  pub arg_past : (id : ℕ) → i < n → eqb (id_at ids i) id ≡ false → arg_of (pairs ids args (i + 1) (n - (i + 1))) id ≡ arg_of (pairs ids args i (n - i)) id
   unfolding arg_of
-  arg_past at id p h e = rw (pairs_more h, ← p, arg_of, ne_eqb _ _ e) refl
+  arg_past id h e = rw (pairs_more h, arg_of, e) refl
 
   pub arg_none : (id : ℕ) → n ≤ i → None ≡ arg_of (pairs ids args i (n - i)) id
   unfolding arg_of
   arg_none id h = rw (pairs_none h, arg_of) refl
 
   -- one id more, and no argument among the others
-  pub made_more : (at : ℕ) → at ≡ i → i < n → None ≡ arg_of (pairs ids args (i + 1) (n - (i + 1))) (id_at ids at)
+  made_more : i < n → None ≡ arg_of (pairs ids args (i + 1) (n - (i + 1))) (id_at ids i)
       → make_tparam_subst (pairs ids args (i + 1) (n - (i + 1))) ≡ ok (pairs ids args (i + 1) (n - (i + 1))) → make_tparam_subst (pairs ids args i (n - i)) ≡ ok (pairs ids args i (n - i))
-  made_more at p h e m = rw (pairs_more h) (made_cons _ _ _ None m (e ∙ rw p refl))
+  made_more h e m = rw (pairs_more h) (made_cons _ _ _ None m e)
 
   pub made_none : n ≤ i → make_tparam_subst (pairs ids args i (n - i)) ≡ ok (pairs ids args i (n - i))
   unfolding make_tparam_subst
   made_none h = rw (pairs_none h) refl
 
-  pub twice_here : (at t : ℕ) → at ≡ i → i < n → Some t ≡ arg_of (pairs ids args (i + 1) (n - (i + 1))) (id_at ids at)
+  twice_here : (t : ℕ) → i < n → Some t ≡ arg_of (pairs ids args (i + 1) (n - (i + 1))) (id_at ids i)
       → make_tparam_subst (pairs ids args (i + 1) (n - (i + 1))) ≡ ok (pairs ids args (i + 1) (n - (i + 1))) → make_tparam_subst (pairs ids args i (n - i)) ≡ refused parameter_twice
-  twice_here at t p h e m = rw (pairs_more h) (made_cons _ _ _ (Some t) m (e ∙ rw p refl))
+  twice_here t h e m = rw (pairs_more h) (made_cons _ _ _ (Some t) m e)
 
   twice_more : i < n → make_tparam_subst (pairs ids args (i + 1) (n - (i + 1))) ≡ refused parameter_twice → make_tparam_subst (pairs ids args i (n - i)) ≡ refused parameter_twice
   unfolding make_tparam_subst ◌>>=◌
   twice_more h m = rw (pairs_more h, make_tparam_subst, m) refl
 
 -- an id that stands twice from place i on stands twice
-pub twice : (ids : List TParamID) (args : List ℕ) (i n : ℕ) → i ≤ n → make_tparam_subst (pairs ids args i (n - i)) ≡ refused parameter_twice → make_tparam_subst (pairs ids args 0 n) ≡ refused parameter_twice
+twice : (ids : List TParamID) (args : List ℕ) (i n : ℕ) → i ≤ n → make_tparam_subst (pairs ids args i (n - i)) ≡ refused parameter_twice → make_tparam_subst (pairs ids args 0 n) ≡ refused parameter_twice
 twice ids args zero n h e = rw (sub-zero n) at e
 twice ids args (suc i) n h e = twice ids args i n (omega arith) (twice_more ids args i n (omega arith) (rw (add-one i) e))
 
--- the code goes from place i to the one before it
-module _ (ids : List TParamID) (args : List ℕ) (i n at : ℕ) (some_left : 0 < i) (fits : i ≤ n) (here : at ≡ i - 1) (so_far : make_tparam_subst (pairs ids args i (n - i)) ≡ ok (pairs ids args i (n - i))) where
+-- the code goes from place i to the one before it; r is the argument of the id there, among those from i on
+module _ (ids : List TParamID) (args : List ℕ) (i n : ℕ) (some_left : 0 < i) (fits : i ≤ n) (so_far : make_tparam_subst (pairs ids args i (n - i)) ≡ ok (pairs ids args i (n - i)))
+    (r : Option ℕ) (is : r ≡ arg_of (pairs ids args (i - 1 + 1) (n - (i - 1 + 1))) (id_at ids (i - 1))) where
   from_next : make_tparam_subst (pairs ids args (i - 1 + 1) (n - (i - 1 + 1))) ≡ ok (pairs ids args (i - 1 + 1) (n - (i - 1 + 1)))
   from_next = let e : i - 1 + 1 ≡ i = omega arith in rw e so_far
 
-  pub made_back : None ≡ arg_of (pairs ids args (i - 1 + 1) (n - (i - 1 + 1))) (id_at ids at) → make_tparam_subst (pairs ids args (i - 1) (n - (i - 1))) ≡ ok (pairs ids args (i - 1) (n - (i - 1)))
-  made_back e = made_more ids args (i - 1) n at here (omega arith) e from_next
+  pub made_back : is_some r ≡ false → make_tparam_subst (pairs ids args (i - 1) (n - (i - 1))) ≡ ok (pairs ids args (i - 1) (n - (i - 1)))
+  made_back z = go r refl
+    where
+      go : (o : Option ℕ) → r ≡ o → make_tparam_subst (pairs ids args (i - 1) (n - (i - 1))) ≡ ok (pairs ids args (i - 1) (n - (i - 1)))
+      go None e = made_more ids args (i - 1) n (omega arith) (sym e ∙ is) from_next
+      go (Some t) e = absurd (true≢false (sym (ap is_some e) ∙ z))
 
-  pub twice_back : (t : ℕ) → Some t ≡ arg_of (pairs ids args (i - 1 + 1) (n - (i - 1 + 1))) (id_at ids at) → make_tparam_subst (pairs ids args 0 n) ≡ refused parameter_twice
-  twice_back t e = twice ids args (i - 1) n (omega arith) (twice_here ids args (i - 1) n at t here (omega arith) e from_next)
+  pub twice_back : is_some r ≡ true → make_tparam_subst (pairs ids args 0 n) ≡ refused parameter_twice
+  twice_back z = go r refl
+    where
+      go : (o : Option ℕ) → r ≡ o → make_tparam_subst (pairs ids args 0 n) ≡ refused parameter_twice
+      go None e = absurd (false≢true (sym (ap is_some e) ∙ z))
+      go (Some t) e = twice ids args (i - 1) n (omega arith) (twice_here ids args (i - 1) n t (omega arith) (sym e ∙ is) from_next)
 
 -- ---- an argument is a node
 

@@ -3,11 +3,11 @@
 use Rattle.abilities.proofs.Hindered.{ends_of, hindered_nine, hindered_sixteen, hindered_clear}
 use Rattle.abilities.proofs.ability_hinders.Goals as goal
 
-pub returns-then-n-eq0 : goal.returns-then-n-eq0
-returns-then-n-eq0 c = (c.levels-n.ensures.1, hindered_nine c.levels-n.ensures.0 _ _ _ c.if-n-eq0.true c.requires.lay.1.1.1)
+pub returns-in_default : goal.returns-in_default
+returns-in_default c = (c.levels.ensures.1, hindered_nine c.levels.ensures.0 _ _ _ c.in_default.is c.requires.lay.1.1.1)
 
 pub infer-requires : goal.infer-requires
-infer-requires c = let levels = c.levels-n in record { lay = (c.requires.lay.0, (c.requires.lay.1.0, (ends_of levels.ensures.0 c.if-n-eq0.false, c.requires.lay.1.1.1))); ends_known = c.requires.ends_known }
+infer-requires c = let levels = c.levels in record { lay = (c.requires.lay.0, (c.requires.lay.1.0, (ends_of levels.ensures.0 c.in-Some.is, c.requires.lay.1.1.1))); ends_known = c.requires.ends_known }
 
 pub any_contradicts-requires : goal.any_contradicts-requires
 any_contradicts-requires c = let pre = c.requires in
@@ -15,18 +15,17 @@ any_contradicts-requires c = let pre = c.requires in
 
 pub returns-then-any_contradicts : goal.returns-then-any_contradicts
 returns-then-any_contradicts c = (
-  c.levels-n.ensures.1,
-  hindered_sixteen c.levels-n.ensures.0 _ _ _ _ c.if-n-eq0.false
+  c.levels.ensures.1,
+  hindered_sixteen c.levels.ensures.0 _ _ _ _ c.in-Some.is
       c.infer.ensures _
       c.any_contradicts.ensures
       c.if-any_contradicts.true,
 )
 
 pub returns : goal.returns
-returns c = let levels = c.levels-n in
-    let if1 = c.if-n-eq0 in
+returns c = let levels = c.levels in
     let infer = c.infer in (
       levels.ensures.1,
-      hindered_clear levels.ensures.0 _ _ _ _ if1.false infer.ensures _ c.any_contradicts.ensures
+      hindered_clear levels.ensures.0 _ _ _ _ c.in-Some.is infer.ensures _ c.any_contradicts.ensures
           c.if-any_contradicts.false,
     )

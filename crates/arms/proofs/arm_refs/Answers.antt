@@ -2,17 +2,17 @@
 use Rattle.arms.proofs.Guards.{join_left_mut, join_left_imm, subtype_left_mut, subtype_both_imm, subtype_imm_mut}
 use Rattle.arms.proofs.arm_refs.Goals as goal
 
-pub returns-then-mut1 : goal.returns-then-mut1
-returns-then-mut1 c = rw (c.in-Join.is, c.if-mut1.true) (join_left_mut _ _ _)
+pub returns-in-Join-true-default : goal.returns-in-Join-true-default
+returns-in-Join-true-default c = let a = c.in-Join-true-default in rw (a.is-0, a.is-1) (join_left_mut _ _ _)
 
-pub returns-else-mut1 : goal.returns-else-mut1
-returns-else-mut1 c = rw (c.in-Join.is, c.if-mut1.false) (join_left_imm _ _ _)
+pub returns-in-Join-false-default : goal.returns-in-Join-false-default
+returns-in-Join-false-default c = let a = c.in-Join-false-default in rw (a.is-0, a.is-1) (join_left_imm _ _ _)
 
-pub returns-then-mut1-2 : goal.returns-then-mut1-2
-returns-then-mut1-2 c = rw (c.in-Subtype.is, c.if-mut1-2.true) (subtype_left_mut _ _ _)
+pub returns-in-Subtype-true-default : goal.returns-in-Subtype-true-default
+returns-in-Subtype-true-default c = let a = c.in-Subtype-true-default in rw (a.is-0, a.is-1) (subtype_left_mut _ _ _)
 
-pub returns-then-mut2 : goal.returns-then-mut2
-returns-then-mut2 c = rw (c.in-Subtype.is, c.if-mut1-2.false, c.if-mut2.true) (subtype_imm_mut _ _)
+pub returns-in-Subtype-false-true : goal.returns-in-Subtype-false-true
+returns-in-Subtype-false-true c = let a = c.in-Subtype-false-true in rw (a.is-0, a.is-1, a.is-2) (subtype_imm_mut _ _)
 
-pub returns-else-mut2 : goal.returns-else-mut2
-returns-else-mut2 c = rw (c.in-Subtype.is, c.if-mut1-2.false, c.if-mut2.false) (subtype_both_imm _ _)
+pub returns-in-Subtype-false-false : goal.returns-in-Subtype-false-false
+returns-in-Subtype-false-false c = let a = c.in-Subtype-false-false in rw (a.is-0, a.is-1, a.is-2) (subtype_both_imm _ _)

@@ -1,13 +1,9 @@
 -- `ends::levels` meets its contract. Assumes nothing.
 use Rattle.ends.proofs.Itself.{Read}
-use Prim.Native.Nat.{◌-◌}
 use Rattle.ends.proofs.+levels.Given as goal
 
 abbrev pub decreases-levels : goal.decreases-levels
 decreases-levels l = l.left
 
 abbrev pub invariant-loop-i : goal.invariant-loop-i
-invariant-loop-i l = Read l.w l.u l.t l.left l.s l.many l.heights l.high l.i
-
-abbrev pub decreases-loop-i : goal.decreases-loop-i
-decreases-loop-i l = l.many - l.i
+invariant-loop-i l = Read l.w l.u l.t l.left l.s l.i-end l.heights l.high l.i

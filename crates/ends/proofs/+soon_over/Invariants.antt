@@ -1,13 +1,9 @@
 -- `ends::soon_over` meets its contract. Assumes nothing.
 use Rattle.ends.proofs.Itself.{Few}
-use Prim.Native.Nat.{◌-◌}
 use Rattle.ends.proofs.+soon_over.Given as goal
 
 abbrev pub decreases-soon_over : goal.decreases-soon_over
 decreases-soon_over l = l.left
 
 abbrev pub invariant-loop-i : goal.invariant-loop-i
-invariant-loop-i l = Few l.w l.u l.t l.left l.shape l.many l.i
-
-abbrev pub decreases-loop-i : goal.decreases-loop-i
-decreases-loop-i l = l.many - l.i
+invariant-loop-i l = Few l.w l.u l.t l.left l.shape l.i-end l.i

@@ -6,7 +6,7 @@ pub returns-in-Node : goal.returns-in-Node
 returns-in-Node c = let pre = c.requires.lay in
     let unfold_by = c.unfold_by in
     goes_node _ _ _ unfold_by.result unfold_by.ensures pre.0 _ c.in-Node.is
-    (unfolded_node unfold_by.ensures.inside c.in-Node.is) c.node_at-n.result c.node_at-n.ensures
+    (unfolded_node unfold_by.ensures.inside c.in-Node.is) c.node_at.result c.node_at.ensures
 
 pub returns-in-Anything : goal.returns-in-Anything
 returns-in-Anything c = goes_anything _ _ _ c.unfold_by.result c.unfold_by.ensures _ c.in-Anything.is

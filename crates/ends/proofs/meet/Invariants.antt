@@ -1,10 +1,6 @@
 -- `ends::meet` meets its contract. Assumes nothing.
 use Rattle.ends.proofs.Ends.{Following}
-use Prim.Native.Nat.{◌+◌, ◌-◌}
 use Rattle.ends.proofs.meet.Given as goal
 
 abbrev pub invariant-loop-long : goal.invariant-loop-long
 invariant-loop-long l = Following l.w l.u l.initial.cur.0 l.longest l.cur.0 l.long
-
-abbrev pub decreases-loop-long : goal.decreases-loop-long
-decreases-loop-long l = l.u.vars + 1 - l.long

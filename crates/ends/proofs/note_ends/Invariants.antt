@@ -1,10 +1,7 @@
 -- `ends::note_ends` meets its contract. Assumes nothing.
-use Prim.Native.Nat.{◌-◌, ◌≤◌}
+use Prim.Native.Nat.{◌≤◌}
 use Rattle.ends.specs.Ends.{Noted}
 use Rattle.ends.proofs.note_ends.Given as goal
 
 abbrev pub invariant-loop-i : goal.invariant-loop-i
 invariant-loop-i l = (l.longest ≤ l.u.vars) × Noted l.w l.u l.longest l.ends
-
-abbrev pub decreases-loop-i : goal.decreases-loop-i
-decreases-loop-i l = l.n - l.i

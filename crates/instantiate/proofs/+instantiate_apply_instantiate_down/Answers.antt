@@ -49,7 +49,7 @@ instantiate_apply-loop-i-preserved t c = let loop = c.loop-i in
     let instantiate_down = c.instantiate_down-a in
     let done_of2 = c.done_of-in-loop-i in
     through_more loop.invariant if1.true arg_at.ensures
-    (after_among (known_kept _ _ _ _ _ loop.invariant.walked.changed.structs) instantiate_down.ensures) done_of2.ensures c.in-Some-done_of.is c.wide-at.ensures
+    (after_among (known_kept _ _ _ _ _ loop.invariant.walked.changed.structs) instantiate_down.ensures) done_of2.ensures c.in-Some-done_of.is refl
 
 pub instantiate_apply-join_args-requires : goal.instantiate_apply-join_args-requires
 instantiate_apply-join_args-requires t c = let make_tparams = c.make_tparams-b in

@@ -5,7 +5,7 @@ use Rattle.names.specs.Names.{mark_of, name_of}
 use Rattle.shapes.proofs.Levels.{Through}
 use Rattle.table.specs.Known.{Known}
 use Rattle.instantiate.specs.Args.{joined}
-use Prim.Native.Nat.{◌+◌, ◌*◌, ◌-◌}
+use Prim.Native.Nat.{◌+◌, ◌*◌}
 use Rattle.instantiate.proofs.+instantiate_apply_instantiate_down.Given as goal
 
 abbrev pub decreases-instantiate_apply : goal.decreases-instantiate_apply
@@ -16,6 +16,3 @@ decreases-instantiate_down l = 2 * l.left
 
 abbrev pub invariant-instantiate_apply-loop-i : goal.invariant-instantiate_apply-loop-i
 invariant-instantiate_apply-loop-i l = Through (Known l.initial.w l.initial.v l.params) (D.instantiate_down l.left) (joined l.loc (mark_of l.ty.k) (name_of l.ty.n) (take l.b.many l.b.tvars)) l.ty.first l.ty.many l.initial.w l.initial.v l.w l.v l.parts l.i
-
-abbrev pub decreases-instantiate_apply-loop-i : goal.decreases-instantiate_apply-loop-i
-decreases-instantiate_apply-loop-i l = l.ty.many - l.i

@@ -1,15 +1,12 @@
 -- `instantiate::ability_at` meets its contract. Assumes nothing.
 use Rattle.instantiate.specs.Known.{ability_at}
 use mathlib.Core.Path.{refl}
+use mathlib.Core.Logic.{inl, inr}
 use Rattle.instantiate.proofs.ability_at.Goals as goal
 
 pub returns-in-Multiple : goal.returns-in-Multiple
 unfolding ability_at
-returns-in-Multiple c = rw c.in-Multiple.is (λ h. refl)
-
-pub returns-in-Builtin : goal.returns-in-Builtin
-unfolding ability_at
-returns-in-Builtin c = rw c.in-Builtin.is (λ h. refl)
+returns-in-Multiple c = elim c.in-Multiple.is [ inl e ↦ rw e.1 (λ h. refl) | inr e ↦ rw e.1 (λ h. refl) ]
 
 pub returns-in-ModuleType : goal.returns-in-ModuleType
 unfolding ability_at

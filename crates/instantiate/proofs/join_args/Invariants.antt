@@ -1,11 +1,7 @@
 -- `instantiate::join_args` meets its contract. Assumes nothing.
-use Prim.Native.Nat.{◌-◌}
 use Rattle.names.specs.Names.{mark_of, name_of}
 use Rattle.instantiate.proofs.JoinLaws.{Joining}
 use Rattle.instantiate.proofs.join_args.Given as goal
 
 abbrev pub invariant-loop-i : goal.invariant-loop-i
-invariant-loop-i l = Joining l.loc (mark_of l.ty.k) (name_of l.ty.n) l.tvars l.tys l.c l.initial.w l.initial.v l.w l.v l.parts l.i
-
-abbrev pub decreases-loop-i : goal.decreases-loop-i
-decreases-loop-i l = l.c - l.i
+invariant-loop-i l = Joining l.loc (mark_of l.ty.k) (name_of l.ty.n) l.tparams.tvars l.tys l.c l.initial.w l.initial.v l.w l.v l.parts l.i

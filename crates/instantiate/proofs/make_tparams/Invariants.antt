@@ -1,11 +1,7 @@
 -- `instantiate::make_tparams` meets its contract. Assumes nothing.
-use Prim.Native.Nat.{◌-◌}
 use Rattle.names.specs.Names.{name_of}
 use Rattle.instantiate.proofs.MadeLaws.{Making}
 use Rattle.instantiate.proofs.make_tparams.Given as goal
 
 abbrev pub invariant-loop-i : goal.invariant-loop-i
 invariant-loop-i l = Making l.params l.loc (name_of l.n) l.ty.first l.ty.many l.count l.initial.w l.initial.v l.w l.v l.tvars l.i
-
-abbrev pub decreases-loop-i : goal.decreases-loop-i
-decreases-loop-i l = l.count - l.i

@@ -9,4 +9,4 @@ pub returns-in-Builtin : goal.returns-in-Builtin
 returns-in-Builtin c = λ ds k. rw c.in-Builtin.is (count_builtin _ _ ds _ _ c.builtin_tparams.ensures)
 
 pub returns-in-ModuleType : goal.returns-in-ModuleType
-returns-in-ModuleType c = λ ds k. rw c.in-ModuleType.is (count_struct _ _ ds _ _ (c.struct_at-row.ensures ds k).1)
+returns-in-ModuleType c = λ ds k. rw c.in-ModuleType.is (count_struct _ _ ds _ _ (c.struct_at.ensures ds k).1)

@@ -1,37 +1,15 @@
-use Rattle.join.proofs.Operands.{merge_lay, settled_after, ready_in, close_in, tvar_stop, tvar_inner, tvar_close}
+use Rattle.join.proofs.Operands.{merge_lay, ready_in, close_in, tvar_stop, tvar_inner, tvar_close}
 use Rattle.join.proofs.Operands.{choice, impl_deep, arm_below, arm_left, arm_right, arm_subtype, arm_arity, arm_incompatible, arm_disagree, arm_refs, arm_applies, arm_vars, left_is, left_merge, right_is, right_merge}
 use Rattle.join.proofs.Args.{gather_none, gather_in, gather_stop, gather_more, gathered}
 use Rattle.table.proofs.Steps.{after_now}
-use mathlib.Core.Path.{refl}
+use mathlib.Core.Path.{◌≡◌, refl}
+use Rattle.std.specs.Prelude.{if◌then◌else◌}
+use Rattle.join.proofs.+join_impl_join_impl_types_join_tvar.Goals.{join_impl-then-side, join_impl-else-side}
 use native.Mathlib.Omega.{arith}
 use Rattle.join.proofs.+join_impl_join_impl_types_join_tvar.Goals as goal
 
-pub join_impl-settled-requires : goal.join_impl-settled-requires
-join_impl-settled-requires t c = tt
-
 pub join_impl-returns-then-left-eq0 : goal.join_impl-returns-then-left-eq0
-join_impl-returns-then-left-eq0 t c = settled_after c.settled.ensures (after_now c.requires.0 tt (λ ds k. impl_deep _ _ _ _ _ c.if-left-eq0.true))
-
-pub join_impl-overflow_sub-less : goal.join_impl-overflow_sub-less
-join_impl-overflow_sub-less t c = omega arith
-
-pub join_impl-node_at-l-requires : goal.join_impl-node_at-l-requires
-join_impl-node_at-l-requires t c = c.requires.0
-
-pub join_impl-node_at-r-requires : goal.join_impl-node_at-r-requires
-join_impl-node_at-r-requires t c = c.requires.0
-
-pub join_impl-arm_of-requires : goal.join_impl-arm_of-requires
-join_impl-arm_of-requires t c = tt
-
-pub join_impl-settled-requires-in-Lhs : goal.join_impl-settled-requires-in-Lhs
-join_impl-settled-requires-in-Lhs t c = tt
-
-pub join_impl-settled-requires-in-Rhs : goal.join_impl-settled-requires-in-Rhs
-join_impl-settled-requires-in-Rhs t c = tt
-
-pub join_impl-pick_loc-loc-requires : goal.join_impl-pick_loc-loc-requires
-join_impl-pick_loc-loc-requires t c = tt
+join_impl-returns-then-left-eq0 t c = rw c.stay.ensures (after_now c.requires.0 tt (λ ds k. impl_deep _ _ _ _ _ c.if-left-eq0.true))
 
 pub join_impl-join_impl-a-requires : goal.join_impl-join_impl-a-requires
 join_impl-join_impl-a-requires t c = (omega arith, (c.requires.0, arm_below (choice _ _ _ _ _ _ c.node_at-l.result c.node_at-r.result c.arm_of.result c.requires c.if-left-eq0.false c.node_at-l.ensures c.node_at-r.ensures c.arm_of.ensures) c.in-Refs.is))
@@ -45,22 +23,11 @@ join_impl-join_impl_types-a-requires t c = (omega arith, (c.requires.0, arm_belo
 pub join_impl-push_types-requires : goal.join_impl-push_types-requires
 join_impl-push_types-requires t c = (c.join_impl_types-a.ensures.changed.lay, c.join_impl_types-a.ensures.inside)
 
-pub join_impl-join_tvar-requires : goal.join_impl-join_tvar-requires
-join_impl-join_tvar-requires t c = (omega arith, c.requires.0)
-
-pub join_impl-meet_tvar-requires : goal.join_impl-meet_tvar-requires
-join_impl-meet_tvar-requires t c = let pre = c.requires in
-    (pre.0, (pre.1.0, (pre.1.1, (pre.1.0, pre.1.1))))
-
 pub join_impl-join_tvar-requires-in-Merge : goal.join_impl-join_tvar-requires-in-Merge
 join_impl-join_tvar-requires-in-Merge t c = let pre = c.requires in
     let if1 = c.if-left-eq0 in
     let meet_tvar = c.meet_tvar in
     (omega (arith, c.decreases, if1.false), merge_lay meet_tvar.ensures c.in-Merge.is)
-
-pub join_impl-meet_tvar-requires-in-VarRhs : goal.join_impl-meet_tvar-requires-in-VarRhs
-join_impl-meet_tvar-requires-in-VarRhs t c = let pre = c.requires in
-    (pre.0, (pre.1.0, (pre.1.1, (pre.1.1, pre.1.0))))
 
 pub join_impl-join_tvar-requires-in-Merge-meet_tvar : goal.join_impl-join_tvar-requires-in-Merge-meet_tvar
 join_impl-join_tvar-requires-in-Merge-meet_tvar t c = let pre = c.requires in
@@ -68,28 +35,16 @@ join_impl-join_tvar-requires-in-Merge-meet_tvar t c = let pre = c.requires in
     let meet_tvar2 = c.meet_tvar-in-VarRhs in
     (omega (arith, c.decreases, if1.false), merge_lay meet_tvar2.ensures c.in-Merge-meet_tvar.is)
 
-pub join_impl-settled-requires-in-SubtypeError : goal.join_impl-settled-requires-in-SubtypeError
-join_impl-settled-requires-in-SubtypeError t c = tt
-
-pub join_impl-settled-requires-in-ArityMismatch : goal.join_impl-settled-requires-in-ArityMismatch
-join_impl-settled-requires-in-ArityMismatch t c = tt
-
-pub join_impl-settled-requires-in-Incompatible : goal.join_impl-settled-requires-in-Incompatible
-join_impl-settled-requires-in-Incompatible t c = tt
-
-pub join_impl-settled-requires-in-Disagree : goal.join_impl-settled-requires-in-Disagree
-join_impl-settled-requires-in-Disagree t c = tt
-
 pub join_impl-returns-in-Lhs : goal.join_impl-returns-in-Lhs
-join_impl-returns-in-Lhs t c = settled_after c.settled-in-Lhs.ensures (arm_left (choice _ _ _ _ _ _ c.node_at-l.result c.node_at-r.result c.arm_of.result c.requires c.if-left-eq0.false c.node_at-l.ensures c.node_at-r.ensures c.arm_of.ensures) c.in-Lhs.is)
+join_impl-returns-in-Lhs t c = rw c.stay-in-Lhs.ensures (arm_left (choice _ _ _ _ _ _ c.node_at-l.result c.node_at-r.result c.arm_of.result c.requires c.if-left-eq0.false c.node_at-l.ensures c.node_at-r.ensures c.arm_of.ensures) c.in-Lhs.is)
 
 pub join_impl-returns-in-Rhs : goal.join_impl-returns-in-Rhs
-join_impl-returns-in-Rhs t c = settled_after c.settled-in-Rhs.ensures (arm_right (choice _ _ _ _ _ _ c.node_at-l.result c.node_at-r.result c.arm_of.result c.requires c.if-left-eq0.false c.node_at-l.ensures c.node_at-r.ensures c.arm_of.ensures) c.in-Rhs.is)
+join_impl-returns-in-Rhs t c = rw c.stay-in-Rhs.ensures (arm_right (choice _ _ _ _ _ _ c.node_at-l.result c.node_at-r.result c.arm_of.result c.requires c.if-left-eq0.false c.node_at-l.ensures c.node_at-r.ensures c.arm_of.ensures) c.in-Rhs.is)
 
-pub join_impl-returns-in-Refs : goal.join_impl-returns-in-Refs
-join_impl-returns-in-Refs t c = let pick_loc = c.pick_loc-loc in
-    let join_impl = c.join_impl-a in
-    arm_refs (choice _ _ _ _ _ _ c.node_at-l.result c.node_at-r.result c.arm_of.result c.requires c.if-left-eq0.false c.node_at-l.ensures c.node_at-r.ensures c.arm_of.ensures) c.in-Refs.is pick_loc.ensures join_impl.ensures
+pub join_impl-returns-after-side : goal.join_impl-returns-after-side
+join_impl-returns-after-side t c = let loc : c.if-side.loc ≡ (if c.in-Refs.side then c.node_at-l.result.loc else c.node_at-r.result.loc) =
+    elim c.if-side.branch [ join_impl-then-side w ↦ rw w.if-side.true w.loc-is | join_impl-else-side w ↦ rw w.if-side.false w.loc-is ] in
+    arm_refs (choice _ _ _ _ _ _ c.node_at-l.result c.node_at-r.result c.arm_of.result c.requires c.if-left-eq0.false c.node_at-l.ensures c.node_at-r.ensures c.arm_of.ensures) c.in-Refs.is loc c.join_impl-a.ensures
     c.push_ref.ensures
 
 pub join_impl-returns-in-Applies : goal.join_impl-returns-in-Applies
@@ -117,22 +72,19 @@ join_impl-returns-in-Merge-meet_tvar t c = let meet_tvar2 = c.meet_tvar-in-VarRh
     c.join_tvar-in-Merge-meet_tvar.ensures
 
 pub join_impl-returns-in-SubtypeError : goal.join_impl-returns-in-SubtypeError
-join_impl-returns-in-SubtypeError t c = settled_after c.settled-in-SubtypeError.ensures (arm_subtype (choice _ _ _ _ _ _ c.node_at-l.result c.node_at-r.result c.arm_of.result c.requires c.if-left-eq0.false c.node_at-l.ensures c.node_at-r.ensures c.arm_of.ensures) c.in-SubtypeError.is)
+join_impl-returns-in-SubtypeError t c = rw c.stay-in-SubtypeError.ensures (arm_subtype (choice _ _ _ _ _ _ c.node_at-l.result c.node_at-r.result c.arm_of.result c.requires c.if-left-eq0.false c.node_at-l.ensures c.node_at-r.ensures c.arm_of.ensures) c.in-SubtypeError.is)
 
 pub join_impl-returns-in-ArityMismatch : goal.join_impl-returns-in-ArityMismatch
-join_impl-returns-in-ArityMismatch t c = settled_after c.settled-in-ArityMismatch.ensures (arm_arity (choice _ _ _ _ _ _ c.node_at-l.result c.node_at-r.result c.arm_of.result c.requires c.if-left-eq0.false c.node_at-l.ensures c.node_at-r.ensures c.arm_of.ensures) c.in-ArityMismatch.is)
+join_impl-returns-in-ArityMismatch t c = rw c.stay-in-ArityMismatch.ensures (arm_arity (choice _ _ _ _ _ _ c.node_at-l.result c.node_at-r.result c.arm_of.result c.requires c.if-left-eq0.false c.node_at-l.ensures c.node_at-r.ensures c.arm_of.ensures) c.in-ArityMismatch.is)
 
 pub join_impl-returns-in-Incompatible : goal.join_impl-returns-in-Incompatible
-join_impl-returns-in-Incompatible t c = settled_after c.settled-in-Incompatible.ensures (arm_incompatible (choice _ _ _ _ _ _ c.node_at-l.result c.node_at-r.result c.arm_of.result c.requires c.if-left-eq0.false c.node_at-l.ensures c.node_at-r.ensures c.arm_of.ensures) c.in-Incompatible.is)
+join_impl-returns-in-Incompatible t c = rw c.stay-in-Incompatible.ensures (arm_incompatible (choice _ _ _ _ _ _ c.node_at-l.result c.node_at-r.result c.arm_of.result c.requires c.if-left-eq0.false c.node_at-l.ensures c.node_at-r.ensures c.arm_of.ensures) c.in-Incompatible.is)
 
 pub join_impl-returns-in-Disagree : goal.join_impl-returns-in-Disagree
-join_impl-returns-in-Disagree t c = settled_after c.settled-in-Disagree.ensures (arm_disagree (choice _ _ _ _ _ _ c.node_at-l.result c.node_at-r.result c.arm_of.result c.requires c.if-left-eq0.false c.node_at-l.ensures c.node_at-r.ensures c.arm_of.ensures) c.in-Disagree.is)
-
-pub join_impl_types-fewer-n-requires : goal.join_impl_types-fewer-n-requires
-join_impl_types-fewer-n-requires t c = tt
+join_impl-returns-in-Disagree t c = rw c.stay-in-Disagree.ensures (arm_disagree (choice _ _ _ _ _ _ c.node_at-l.result c.node_at-r.result c.arm_of.result c.requires c.if-left-eq0.false c.node_at-l.ensures c.node_at-r.ensures c.arm_of.ensures) c.in-Disagree.is)
 
 pub join_impl_types-loop-i-init : goal.join_impl_types-loop-i-init
-join_impl_types-loop-i-init t c = gather_none c.requires.0 c.requires.1.0 c.requires.1.1 c.fewer-n.ensures refl
+join_impl_types-loop-i-init t c = gather_none c.requires.0 c.requires.1.0 c.requires.1.1 c.min-n.ensures refl
 
 pub join_impl_types-arg_at-ty1-requires : goal.join_impl_types-arg_at-ty1-requires
 join_impl_types-arg_at-ty1-requires t c = c.loop-i.invariant.walked.changed.lay
@@ -151,9 +103,6 @@ join_impl_types-join_impl-s-requires t c = let loop = c.loop-i in
       ),
     )
 
-pub join_impl_types-done_of-requires : goal.join_impl_types-done_of-requires
-join_impl_types-done_of-requires t c = tt
-
 pub join_impl_types-returns-in_default : goal.join_impl_types-returns-in_default
 join_impl_types-returns-in_default t c = let loop = c.loop-i in
     let loop_test = c.loop-i-test in
@@ -163,16 +112,10 @@ join_impl_types-returns-in_default t c = let loop = c.loop-i in
     gather_stop loop.invariant loop_test.true arg_at.ensures arg_at2.ensures
     join_impl.ensures c.done_of.ensures c.in_default.is
 
-pub join_impl_types-bounds-tys-k : goal.join_impl_types-bounds-tys-k
-join_impl_types-bounds-tys-k t c = let loop = c.loop-i in
+pub join_impl_types-bounds-tys-i : goal.join_impl_types-bounds-tys-i
+join_impl_types-bounds-tys-i t c = let loop = c.loop-i in
     let loop_test = c.loop-i-test in
     omega (arith, loop.invariant.walked.few, loop_test.true)
-
-pub join_impl_types-overflow_add-i : goal.join_impl_types-overflow_add-i
-join_impl_types-overflow_add-i t c = omega arith
-
-pub join_impl_types-loop-i-smaller : goal.join_impl_types-loop-i-smaller
-join_impl_types-loop-i-smaller t c = omega arith
 
 pub join_impl_types-loop-i-preserved : goal.join_impl_types-loop-i-preserved
 join_impl_types-loop-i-preserved t c = let loop = c.loop-i in
@@ -186,35 +129,29 @@ join_impl_types-loop-i-preserved t c = let loop = c.loop-i in
 pub join_impl_types-returns : goal.join_impl_types-returns
 join_impl_types-returns t c = gathered c.loop-i.invariant c.loop-i-test.false
 
-pub join_tvar-open_tvar-a-requires : goal.join_tvar-open_tvar-a-requires
-join_tvar-open_tvar-a-requires t c = c.requires
-
 pub join_tvar-join_impl-b-requires : goal.join_tvar-join_impl-b-requires
 join_tvar-join_impl-b-requires t c = let open_tvar = c.open_tvar-a.ensures in
-    let inside = ready_in open_tvar.inside c.in-Ready.is in
+    let inside = ready_in open_tvar.inside c.in-Ok.is in
     (omega arith, (open_tvar.changed.lay, (inside.0, inside.1.0)))
-
-pub join_tvar-done_of-requires : goal.join_tvar-done_of-requires
-join_tvar-done_of-requires t c = tt
 
 pub join_tvar-returns-in_default : goal.join_tvar-returns-in_default
 join_tvar-returns-in_default t c = let open_tvar = c.open_tvar-a in
     let join_impl = c.join_impl-b in
-    tvar_inner _ _ _ _ _ _ open_tvar.ensures c.in-Ready.is join_impl.ensures
+    tvar_inner _ _ _ _ _ _ open_tvar.ensures c.in-Ok.is join_impl.ensures
     c.done_of.ensures c.in_default.is
 
 pub join_tvar-close_tvar-requires : goal.join_tvar-close_tvar-requires
 join_tvar-close_tvar-requires t c = let open_tvar = c.open_tvar-a in
     let join_impl = c.join_impl-b in
-    close_in _ _ _ _ _ _ open_tvar.ensures c.in-Ready.is join_impl.ensures
+    close_in _ _ _ _ _ _ open_tvar.ensures c.in-Ok.is join_impl.ensures
     c.done_of.ensures c.in-Some.is
 
-pub join_tvar-returns-in-Stop : goal.join_tvar-returns-in-Stop
-join_tvar-returns-in-Stop t c = tvar_stop _ _ _ _ _ _ c.open_tvar-a.ensures c.in-Stop.is
+pub join_tvar-returns-in-Err : goal.join_tvar-returns-in-Err
+join_tvar-returns-in-Err t c = rw c.stay.ensures (tvar_stop _ _ _ _ _ _ c.open_tvar-a.ensures c.in-Err.is)
 
 pub join_tvar-returns-in-Some : goal.join_tvar-returns-in-Some
 join_tvar-returns-in-Some t c = let open_tvar = c.open_tvar-a in
     let join_impl = c.join_impl-b in
     let done_of = c.done_of in
-    tvar_close _ _ _ _ _ _ open_tvar.ensures c.in-Ready.is join_impl.ensures done_of.ensures c.in-Some.is
+    tvar_close _ _ _ _ _ _ open_tvar.ensures c.in-Ok.is join_impl.ensures done_of.ensures c.in-Some.is
     c.close_tvar.ensures

@@ -2,7 +2,7 @@
 -- the argument walk and the merge call the operand walk at the same depth. Assumes nothing.
 use Rattle.join.proofs.Args.{Gathering}
 use Rattle.arms.specs.Arms.{case_of}
-use Prim.Native.Nat.{◌+◌, ◌-◌}
+use Prim.Native.Nat.{◌+◌}
 use Rattle.join.proofs.+join_impl_join_impl_types_join_tvar.Given as goal
 
 abbrev pub decreases-join_impl : goal.decreases-join_impl
@@ -16,6 +16,3 @@ decreases-join_tvar l = l.left + l.left + 1
 
 abbrev pub invariant-join_impl_types-loop-i : goal.invariant-join_impl_types-loop-i
 invariant-join_impl_types-loop-i l = Gathering l.left (case_of l.case) l.initial.w l.initial.at l.t1 l.t2 l.n l.w l.at l.tys l.i
-
-abbrev pub decreases-join_impl_types-loop-i : goal.decreases-join_impl_types-loop-i
-decreases-join_impl_types-loop-i l = l.n - l.i

@@ -6,7 +6,7 @@ use Rattle.join.proofs.push_types.Goals as goal
 
 pub returns-in_default : goal.returns-in_default
 returns-in_default c = let none = sym c.done_of.ensures ∙ c.in_default.is in
-    rw c.settled.ensures (after_now c.requires.0 (c.requires.1.inside none) (λ ds k. listed_stop _ _ _ _ none))
+    rw c.stay.ensures (after_now c.requires.0 (c.requires.1.inside none) (λ ds k. listed_stop _ _ _ _ none))
 
 pub push_apply-requires : goal.push_apply-requires
 push_apply-requires c = let pre = c.requires in

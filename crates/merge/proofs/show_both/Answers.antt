@@ -22,5 +22,5 @@ pub returns : goal.returns
 returns c = let shown = c.shown-a in
     let done_of = c.done_of in
     let shown2 = c.shown-b in
-    show_done _ _ _ _ _ _ _ _ _ shown.ensures done_of.ensures _ c.in-Some.is _ _ _ shown2.ensures
-    c.done_of-2.ensures _ c.in-Some-done_of.is
+    rw c.stay.ensures (show_done _ _ _ _ _ _ _ _ _ shown.ensures done_of.ensures _ c.in-Some.is _ _ _ shown2.ensures
+    c.done_of-2.ensures _ c.in-Some-done_of.is)

@@ -11,4 +11,4 @@ returns-then-is_anything c = let node_at = c.node_at-n in
     c.if-is_anything.true) c.push_node.ensures
 
 pub returns : goal.returns
-returns c = after_now c.requires.0 c.requires.1 (λ ds k. shown_same _ _ _ c.node_at-n.result _ (c.node_at-n.ensures ds) c.is_anything.ensures c.if-is_anything.false)
+returns c = rw c.stay.ensures (after_now c.requires.0 c.requires.1 (λ ds k. shown_same _ _ _ c.node_at-n.result _ (c.node_at-n.ensures ds) c.is_anything.ensures c.if-is_anything.false))

@@ -1,6 +1,6 @@
 -- `merge::type_of` meets its contract. Assumes nothing.
 use Rattle.table.proofs.Steps.{after_now, after_is}
-use mathlib.Core.Path.{sym, ap, ◌∙◌}
+use mathlib.Core.Path.{sym, ◌∙◌}
 use Rattle.merge.proofs.Answers.{bound_in}
 use Rattle.merge.proofs.Laws.{end_free, end_bound}
 use Rattle.merge.proofs.type_of.Goals as goal
@@ -11,5 +11,5 @@ returns-in-None c = after_is (λ ds k. end_free _ _ _ (sym (c.in-None.is) ∙ c.
 pub returns-in-Some : goal.returns-in-Some
 returns-in-Some c = let pre = c.requires in
     let bound_at = c.bound_at in
-    after_now (pre) (bound_in _ _ _ _ _ (pre) bound_at.ensures c.in-Some.is)
-    (λ ds k. end_bound _ _ _ _ (sym (c.in-Some.is) ∙ bound_at.ensures ds))
+    rw c.stay.ensures (after_now pre (bound_in _ _ _ _ _ pre bound_at.ensures c.in-Some.is)
+    (λ ds k. end_bound _ _ _ _ (sym c.in-Some.is ∙ bound_at.ensures ds)))

@@ -1,18 +1,5 @@
-use native.Mathlib.Omega.{arith}
-use Rattle.ready.proofs.Run.{coming_start, coming_none, coming_on, coming_open, coming_parts}
+use Rattle.ready.proofs.Run.{coming_none, coming_on, coming_open, coming_parts}
 use Rattle.ready.proofs.land.Goals as goal
-
-pub loop-calls-init : goal.loop-calls-init
-loop-calls-init c = coming_start _ _ _ _ c.requires.0 c.requires.1.0
-
-pub node_at-n-requires : goal.node_at-n-requires
-node_at-n-requires c = c.loop-calls.invariant.lay
-
-pub overflow_sub-calls : goal.overflow_sub-calls
-overflow_sub-calls c = omega arith
-
-pub ready_onward-requires : goal.ready_onward-requires
-ready_onward-requires c = (c.loop-calls.invariant.lay, c.requires.1.1)
 
 pub returns-in-Parts : goal.returns-in-Parts
 returns-in-Parts c = let loop = c.loop-calls in
@@ -27,9 +14,6 @@ returns-in-Open c = let loop = c.loop-calls in
     let node_at = c.node_at-n in
     coming_open loop.invariant loop_test.true node_at.result node_at.ensures _
     c.ready_onward.ensures _ c.in-Open.is
-
-pub loop-calls-smaller : goal.loop-calls-smaller
-loop-calls-smaller c = let p = c.loop-calls-test.true in omega arith
 
 pub loop-calls-preserved : goal.loop-calls-preserved
 loop-calls-preserved c = let loop = c.loop-calls in

@@ -4,6 +4,3 @@ use Rattle.ready.proofs.land.Given as goal
 
 abbrev pub invariant-loop-calls : goal.invariant-loop-calls
 invariant-loop-calls l = Coming l.w l.u l.t l.left l.at l.calls
-
-abbrev pub decreases-loop-calls : goal.decreases-loop-calls
-decreases-loop-calls l = l.calls

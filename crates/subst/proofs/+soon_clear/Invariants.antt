@@ -1,14 +1,10 @@
 -- `subst::soon_clear` meets its contract. Assumes nothing.
 use lib.ListN.{replicate}
 use Rattle.subst.proofs.Occurs.{Passed}
-use Prim.Native.Nat.{◌-◌}
 use Rattle.subst.proofs.+soon_clear.Given as goal
 
 abbrev pub decreases-soon_clear : goal.decreases-soon_clear
 decreases-soon_clear l = l.t
 
 abbrev pub invariant-loop-i : goal.invariant-loop-i
-invariant-loop-i l = Passed l.w l.u l.tvar.0 l.t l.s l.many (replicate 2048 0) l.i
-
-abbrev pub decreases-loop-i : goal.decreases-loop-i
-decreases-loop-i l = l.many - l.i
+invariant-loop-i l = Passed l.w l.u l.tvar.0 l.t l.s l.i-end (replicate 2048 0) l.i

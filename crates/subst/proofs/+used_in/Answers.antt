@@ -1,17 +1,8 @@
 use native.Mathlib.Omega.{arith}
 use mathlib.Core.Path.{refl}
 use Rattle.shapes.proofs.Nodes.{at_node, part_low}
-use Rattle.subst.proofs.Occurs.{self_used, passed_none, part_used, passed_more, passed_all, clear_more, clear_marked}
+use Rattle.subst.proofs.Occurs.{self_used, passed_none, part_used, passed_more, passed_all, clear_more}
 use Rattle.subst.proofs.+used_in.Goals as goal
-
-pub bounds-marks-at : goal.bounds-marks-at
-bounds-marks-at t c = omega (arith, c.wide-at.ensures, c.requires.1.0, c.requires.0.nodes, c.requires.1.1.size)
-
-pub returns-then-marks-at-eq1 : goal.returns-then-marks-at-eq1
-returns-then-marks-at-eq1 t c = (clear_marked _ _ _ _ _ c.requires.1.1 (rw c.wide-at.ensures at c.if-marks-at-eq1.true), c.requires.1.1)
-
-pub node_at-n-requires : goal.node_at-n-requires
-node_at-n-requires t c = c.requires.0
 
 pub returns-then-is_var : goal.returns-then-is_var
 returns-then-is_var t c = let pre = c.requires in
@@ -25,11 +16,8 @@ pub loop-i-init : goal.loop-i-init
 loop-i-init t c = let pre = c.requires in
     let node_at = c.node_at-n in
     passed_none _ _ _ _ _ _ _
-    (at_node _ _ _ _ node_at.result pre.0 pre.1.0 node_at.ensures c.part_count-many.ensures)
+    (at_node _ _ _ _ node_at.result pre.0 pre.1.0 node_at.ensures c.part_count-i-end.ensures)
     pre.1.1 _ c.is_var.ensures c.if-is_var.false
-
-pub part_at-p-requires : goal.part_at-p-requires
-part_at-p-requires t c = c.loop-i.invariant.at.lay
 
 pub used_in-requires : goal.used_in-requires
 used_in-requires t c = let f = part_low c.loop-i.invariant.at _ _ c.loop-i-test.true c.part_at-p.ensures in
@@ -38,38 +26,17 @@ used_in-requires t c = let f = part_low c.loop-i.invariant.at _ _ c.loop-i-test.
     (omega (arith, f, m, k), (c.loop-i.invariant.at.lay, (omega (arith, f, k), c.loop-i.invariant.clear)))
 
 pub returns-then-used_in : goal.returns-then-used_in
-returns-then-used_in t c = let loop = c.loop-i in
-    let loop_test = c.loop-i-test in
-    let part_at = c.part_at-p in
-    let used_in = c.used_in in (
-      part_used loop.invariant _ loop_test.true part_at.ensures _ used_in.ensures.0 c.if-used_in.true,
-      used_in.ensures.1,
-    )
-
-pub overflow_add-i : goal.overflow_add-i
-overflow_add-i t c = omega arith
-
-pub loop-i-smaller : goal.loop-i-smaller
-loop-i-smaller t c = omega arith
+returns-then-used_in t c = let used_in = c.used_in in (
+  part_used c.loop-i.invariant _ c.loop-i-test.true c.part_at-p.ensures _ used_in.ensures.0 c.if-used_in.true,
+  used_in.ensures.1,
+)
 
 pub loop-i-preserved : goal.loop-i-preserved
-loop-i-preserved t c = let loop = c.loop-i in
-    let loop_test = c.loop-i-test in
-    let part_at = c.part_at-p in
-    let used_in = c.used_in in
-    passed_more loop.invariant _ loop_test.true part_at.ensures _ used_in.ensures.0 _ used_in.ensures.1
+loop-i-preserved t c = let used_in = c.used_in in
+    passed_more c.loop-i.invariant _ c.loop-i-test.true c.part_at-p.ensures _ used_in.ensures.0 _ used_in.ensures.1
     c.if-used_in.false
-
-pub bounds-marks-at-2 : goal.bounds-marks-at-2
-bounds-marks-at-2 t c = let pre = c.requires in
-    let wide = c.wide-at in
-    omega (arith, wide.ensures, pre.1.0, pre.0.nodes, c.loop-i.invariant.clear.size)
 
 pub returns : goal.returns
 returns t c = let pre = c.requires in
-    let wide = c.wide-at in
-    let none = passed_all c.loop-i.invariant c.loop-i-test.false in (
-      none,
-      rw wide.ensures
-          (clear_more _ _ _ _ _ c.loop-i.invariant.clear (omega (arith, pre.1.0, pre.0.nodes)) none),
-    )
+    let none = passed_all c.loop-i.invariant c.loop-i-test.false in
+    (none, clear_more _ _ _ _ _ c.loop-i.invariant.clear (omega (arith, pre.1.0, pre.0.nodes)) none)

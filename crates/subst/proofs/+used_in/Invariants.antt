@@ -1,13 +1,9 @@
 -- `subst::used_in` meets its contract. Assumes nothing.
 use Rattle.subst.proofs.Occurs.{Passed}
-use Prim.Native.Nat.{◌-◌}
 use Rattle.subst.proofs.+used_in.Given as goal
 
 abbrev pub decreases-used_in : goal.decreases-used_in
 decreases-used_in l = l.t
 
 abbrev pub invariant-loop-i : goal.invariant-loop-i
-invariant-loop-i l = Passed l.w l.u l.tvar.0 l.t l.s l.many l.marks l.i
-
-abbrev pub decreases-loop-i : goal.decreases-loop-i
-decreases-loop-i l = l.many - l.i
+invariant-loop-i l = Passed l.w l.u l.tvar.0 l.t l.s l.i-end l.marks l.i

@@ -1,18 +1,14 @@
-use native.Mathlib.Omega.{arith}
 use Rattle.subst.proofs.Laws.{chain_start, chain_end, chain_on, chain_out}
 use Rattle.subst.proofs.forward_tvar.Goals as goal
 
-pub loop-left-init : goal.loop-left-init
-loop-left-init c = chain_start _ _ 0 _ _
+pub loop-link-init : goal.loop-link-init
+loop-link-init c = chain_start _ _ _
 
-pub returns-in-None : goal.returns-in-None
-returns-in-None c = chain_end _ _ _ _ _ c.loop-left.invariant _ c.next_of.ensures c.in-None.is
+pub returns-in_default : goal.returns-in_default
+returns-in_default c = chain_end c.loop-link.invariant _ c.next_of.ensures c.in_default.is
 
-pub loop-left-smaller : goal.loop-left-smaller
-loop-left-smaller c = omega arith
-
-pub loop-left-preserved : goal.loop-left-preserved
-loop-left-preserved c = chain_on _ _ _ _ _ _ c.loop-left.invariant c.loop-left-test.true _ c.next_of.ensures _ c.in-Some.is
+pub loop-link-preserved : goal.loop-link-preserved
+loop-link-preserved c = chain_on c.loop-link.invariant _ c.next_of.ensures c.loop-link-test.true _ c.in-Some.is
 
 pub returns : goal.returns
-returns c = chain_out _ _ _ _ _ c.loop-left.invariant c.loop-left-test.false
+returns c = chain_out c.loop-link.invariant c.loop-link-test.false

@@ -43,7 +43,7 @@ subst_apply-loop-i-preserved t c = let loop = c.loop-i in
     let arg_at = c.arg_at-t in
     let subst_down = c.subst_down-a in
     let done_of = c.done_of in
-    through_more loop.invariant if1.true arg_at.ensures subst_down.ensures done_of.ensures c.in-Some.is c.wide-at.ensures
+    through_more loop.invariant if1.true arg_at.ensures subst_down.ensures done_of.ensures c.in-Some.is refl
 
 pub subst_apply-push_apply-requires : goal.subst_apply-push_apply-requires
 subst_apply-push_apply-requires t c = (c.loop-i.invariant.walked.changed.lay, through_parts c.loop-i.invariant c.loop-i-test.false)

@@ -1,11 +1,11 @@
 -- `tparams::subst_apply` and `tparams::subst_down` meet their contracts. Assumes nothing.
 use Rattle.definition.specs.TParams as D
 use Rattle.names.specs.Names.{mark_of, name_of}
-use Rattle.tparams.specs.Pairs.{subst_of}
+use Rattle.tparams.specs.Made.{subst_of}
 use Rattle.table.specs.State.{Any}
 use Rattle.table.proofs.Walk.{sp_apply}
 use Rattle.shapes.proofs.Levels.{Through}
-use Prim.Native.Nat.{◌+◌, ◌*◌, ◌-◌}
+use Prim.Native.Nat.{◌+◌, ◌*◌}
 use Rattle.tparams.proofs.+subst_apply_subst_down.Given as goal
 
 abbrev pub decreases-subst_apply : goal.decreases-subst_apply
@@ -16,6 +16,3 @@ decreases-subst_down l = 2 * l.left
 
 abbrev pub invariant-subst_apply-loop-i : goal.invariant-subst_apply-loop-i
 invariant-subst_apply-loop-i l = Through Any (D.subst_down l.left (subst_of l.subst)) (sp_apply l.loc (mark_of l.ty.k) (name_of l.ty.n)) l.ty.first l.ty.many l.initial.w l.initial.v l.w l.v l.parts l.i
-
-abbrev pub decreases-subst_apply-loop-i : goal.decreases-subst_apply-loop-i
-decreases-subst_apply-loop-i l = l.ty.many - l.i

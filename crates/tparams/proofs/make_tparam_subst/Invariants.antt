@@ -1,5 +1,5 @@
 -- `tparams::make_tparam_subst` meets its contract. Assumes nothing.
-use Prim.Native.Nat.{◌≤◌, ◌-◌}
+use Prim.Native.Nat.{◌-◌}
 use mathlib.Core.Path.{◌≡◌}
 use Rattle.definition.specs.Types.{ok}
 use Rattle.definition.specs.TParams.{make_tparam_subst}
@@ -7,8 +7,5 @@ use Rattle.tparams.specs.Pairs.{pairs}
 use Rattle.tparams.proofs.make_tparam_subst.Given as goal
 
 abbrev pub invariant-loop-i : goal.invariant-loop-i
-invariant-loop-i l = let ps = pairs l.subst.ids l.subst.args l.i (l.subst.many - l.i) in
-    (l.i ≤ l.subst.many) × (make_tparam_subst ps ≡ ok ps)
-
-abbrev pub decreases-loop-i : goal.decreases-loop-i
-decreases-loop-i l = l.i
+invariant-loop-i l = let ps = pairs l.fn.ids l.fn.args l.i (l.many - l.i) in
+    make_tparam_subst ps ≡ ok ps

@@ -1,0 +1,39 @@
+// TParamSubst: a type for each parameter id.
+// Changed from the source that NOTICE names: ported to Rattle.
+
+ghost use Rattle.std.specs.Prelude.{◌≡◌, ◌-◌, ◌≤◌};
+ghost use Rattle.definition.specs.TParams.{arg_of};
+ghost use Rattle.tparams.specs.Pairs.{pairs};
+
+use names::TParamID;
+
+// The first `many` ids, each with its argument: in two arrays, as a record's ids and nodes are read.
+#[derive(Clone, Copy)]
+pub struct TParamSubst {
+    pub ids: [TParamID; 8],
+    pub args: [u32; 8],
+    pub many: u32,
+    ghost few: { many ≤ 8 },
+}
+
+impl TParamSubst {
+    // The argument of an id, from place i on.
+    pub(crate) fn get_from(&self, i: u32, id: TParamID) -> Option<u32>
+        requires { i ≤ self.now.many }
+        ensures { result ≡ arg_of (pairs self.now.ids self.now.args i (self.now.many - i)) id.0 }
+    {
+        for k in i..self.many {
+            if self.ids[k as usize] == id {
+                return Some(self.args[k as usize]);
+            }
+        }
+        None
+    }
+
+    // subst.get(id)
+    pub fn get(&self, id: TParamID) -> Option<u32>
+        ensures { result ≡ arg_of (pairs self.now.ids self.now.args 0 self.now.many) id.0 }
+    {
+        self.get_from(0, id)
+    }
+}
