@@ -3,14 +3,13 @@
 use mathlib.Core.Path.{◌≡◌, refl, sym, ap, ◌∙◌, subst}
 use mathlib.Core.Bool.{Bool, true, false, not}
 use mathlib.Core.List.{List, [], ◌∷◌}
-use Rattle.std.specs.Prelude.{Option, None, Some}
+use Rattle.std.specs.Prelude.{Option, None, Some, Ok, Err}
 use Rattle.std.specs.Option.{is_some}
 use Prim.Native.Nat.{ℕ, suc, ◌+◌, ◌≤◌, ◌<◌}
 use native.Mathlib.Nat.{not-suc-le-zero}
 use native.Mathlib.Decide.{ℕ_discrete}
 use native.Mathlib.Numerals.{add-one}
 use native.Mathlib.Omega.{arith}
-use lib.Dec.{eqb}
 use borrow.Author.Tests.{eq-eqb, ne_eqb}
 use lib.ListN.{get_or, drop, drop_of_length-le}
 use lib.Seq.{drop-cons}
@@ -35,7 +34,9 @@ use Rattle.shapes.proofs.Tags.{plain_tags, other_constraints}
 use Rattle.ends.specs.Itself.{Measured, Levels}
 use Rattle.ends.proofs.Itself.{reaches_is}
 use Rattle.abilities.specs.Kept.{Ends, HasSet, Kept, Inferred}
-use Rattle.abilities.specs.Rules.{misses, any_misses, clashes, AskedIn, AskedKept, AllAsked, AllKept, refusal_of, clear, nine, sixteen, Hindered}
+use Rattle.abilities.specs.Rules.{misses, any_misses, clashes, AskedIn, AskedKept, AllAsked, AllKept, refusal_of, Hindered}
+use Rattle.abilities.specs.declared.Hindrance.{Hindrance}
+use Rattle.abilities.specs.declared.Hindrance.TheVariants.{RunsIntoItself, MarkContradicted}
 use Rattle.abilities.proofs.Laws.{none_of, is_false}
 
 abbrev blank : Constraint
@@ -60,38 +61,37 @@ module _ {w : List ℕ} {u : Used} {t : ℕ} {r : Option ℕ} (l : Levels w u t 
   pub ends_of : {n : ℕ} → r ≡ Some n → Ends w u n t
   ends_of {n} z = let e = l.over n z in record { few = e.few; over = e.ends }
 
-  pub hindered_nine : (params : List (List ℕ)) (sets : List ℕ) (a : ℕ) → r ≡ None → Kept w u params sets → Hindered w u params sets sets 9 (λ s. ability_hindrance s t a) (λ x. HasSet x t)
+  pub hindered_nine : (params : List (List ℕ)) (sets : List ℕ) (a : ℕ) → r ≡ None → Kept w u params sets → Hindered w u params sets sets (Err RunsIntoItself) (λ s. ability_hindrance s t a) (λ x. HasSet x t)
   hindered_nine params sets a z k = record {
     kept = k;
     still = λ x y. y;
-    number = nine;
     is = λ ds kn. nine_is (seen w u ds) t a (sym (reaches_is w u t r l true (ap is_some z) ds));
-    all = λ e. absurd (omega arith);
+    all = tt;
   }
 
   module _ (params : List (List ℕ)) (sets sets' : List ℕ) (a : ℕ) {n : ℕ} (z : r ≡ Some n) (i : Inferred w u params t sets sets') (b : Bool) (f : (ds : List Struct) → Known w u params ds → b ≡ any_of (clashes (seen w u ds) t) (missing (seen w u ds) t a)) where
     by_mark : (ds : List Struct) → Known w u params ds → ability_hindrance (seen w u ds) t a ≡ (if b then Some mark_contradicted else None)
     by_mark ds k = sixteen_is (seen w u ds) t a b (sym (reaches_is w u t r l false (ap is_some z) ds)) (f ds k)
 
-    pub hindered_sixteen : b ≡ true → Hindered w u params sets sets' 16 (λ s. ability_hindrance s t a) (λ x. HasSet x t)
-    hindered_sixteen e = record { kept = i.kept; still = i.still; number = sixteen; is = λ ds k. by_mark ds k ∙ ap (λ (x : Bool). if x then Some mark_contradicted else None) e; all = λ y. absurd (omega arith) }
+    pub hindered_sixteen : b ≡ true → Hindered w u params sets sets' (Err MarkContradicted) (λ s. ability_hindrance s t a) (λ x. HasSet x t)
+    hindered_sixteen e = record { kept = i.kept; still = i.still; is = λ ds k. by_mark ds k ∙ ap (λ (x : Bool). if x then Some mark_contradicted else None) e; all = tt }
 
-    pub hindered_clear : b ≡ false → Hindered w u params sets sets' 0 (λ s. ability_hindrance s t a) (λ x. HasSet x t)
-    hindered_clear e = record { kept = i.kept; still = i.still; number = clear; is = λ ds k. by_mark ds k ∙ ap (λ (x : Bool). if x then Some mark_contradicted else None) e; all = λ y. i.here }
+    pub hindered_clear : b ≡ false → Hindered w u params sets sets' (Ok tt) (λ s. ability_hindrance s t a) (λ x. HasSet x t)
+    hindered_clear e = record { kept = i.kept; still = i.still; is = λ ds k. by_mark ds k ∙ ap (λ (x : Bool). if x then Some mark_contradicted else None) e; all = i.here }
 
 -- ---- any constraint
 
 -- one that asks for no abilities
-hindered_none : (w : List ℕ) (u : Used) (params : List (List ℕ)) (sets : List ℕ) (o : State → Option Refusal) (whole : List ℕ → Type 0) → Kept w u params sets → ((s : State) → o s ≡ None) → whole sets → Hindered w u params sets sets 0 o whole
-hindered_none w u params sets o whole k e x = record { kept = k; still = λ x y. y; number = clear; is = λ ds kn. e (seen w u ds); all = λ z. x }
+hindered_none : (w : List ℕ) (u : Used) (params : List (List ℕ)) (sets : List ℕ) (o : State → Option Refusal) (whole : List ℕ → Type 0) → Kept w u params sets → ((s : State) → o s ≡ None) → whole sets → Hindered w u params sets sets (Ok tt) o whole
+hindered_none w u params sets o whole k e x = record { kept = k; still = λ x y. y; is = λ ds kn. e (seen w u ds); all = x }
 
 pub hindered_plain : (w : List ℕ) (u : Used) (params : List (List ℕ)) (sets : List ℕ) → Kept w u params sets → (c : table.Constraint) → OneOf plain_tags (tag_of the_type c)
-    → Hindered w u params sets sets 0 (λ s. constraint_hindrance s (constraint_of c)) (λ l. AskedKept l (constraint_of c))
+    → Hindered w u params sets sets (Ok tt) (λ s. constraint_hindrance s (constraint_of c)) (λ l. AskedKept l (constraint_of c))
 unfolding constraint_hindrance
-hindered_plain w u params sets k = other_constraints (λ c. Hindered w u params sets sets 0 (λ s. constraint_hindrance s (constraint_of c)) (λ l. AskedKept l (constraint_of c)))
+hindered_plain w u params sets k = other_constraints (λ c. Hindered w u params sets sets (Ok tt) (λ s. constraint_hindrance s (constraint_of c)) (λ l. AskedKept l (constraint_of c)))
     (λ loc ty. none_asked) (λ loc ty. none_asked) (λ loc ty. none_asked) (λ loc ty. none_asked) (λ loc ty. none_asked)
   where
-    none_asked : Hindered w u params sets sets 0 (λ s. None) (λ l. Unit {0})
+    none_asked : Hindered w u params sets sets (Ok tt) (λ s. None) (λ l. Unit {0})
     none_asked = hindered_none w u params sets (λ s. None) (λ l. Unit {0}) k (λ s. refl) tt
 
 pub asked_node : (n : ℕ) (c : table.Constraint) (loc t : ℕ) (a : AbilitySet) → AskedIn n (constraint_of c) → c ≡ Ability loc t a → t < n
@@ -117,20 +117,6 @@ none_left : (s : State) → hindrance s [] ≡ None
 unfolding hindrance
 none_left s = refl
 
-refusal_none : (r : ℕ) → r ≡ 0 → refusal_of r ≡ None
-refusal_none r e = rw (eq-eqb r 0 e) refl
-
--- an answer other than 0 is the list's
-stops : (s : State) (c : Constraint) (cs : List Constraint) (r : ℕ) → 0 < r → constraint_hindrance s c ≡ refusal_of r → hindrance s (c ∷ cs) ≡ refusal_of r
-stops s c cs r p e = by (eqb r 9) refl
-  where
-    past : refusal_of r ≡ (if eqb r 9 then Some runs_into_itself else Some mark_contradicted)
-    past = rw (ne_eqb r 0 (λ z. omega arith)) refl
-
-    by : (b : Bool) → eqb r 9 ≡ b → hindrance s (c ∷ cs) ≡ refusal_of r
-    by true z = let y : refusal_of r ≡ Some runs_into_itself = past ∙ ap (λ (x : Bool). if x then Some runs_into_itself else Some mark_contradicted) z in stops_at s c cs runs_into_itself (e ∙ y) ∙ sym y
-    by false z = let y : refusal_of r ≡ Some mark_contradicted = past ∙ ap (λ (x : Bool). if x then Some runs_into_itself else Some mark_contradicted) z in stops_at s c cs mark_contradicted (e ∙ y) ∙ sym y
-
 -- ---- the list
 
 -- the constraints before i hinder nothing, and the sets of their types are known
@@ -149,14 +135,13 @@ passed_none w u params sets heights h a m k = record { lay = h; asked = a; measu
 
 module _ {w : List ℕ} {u : Used} {params : List (List ℕ)} {sets₀ heights sets : List ℕ} {i : ℕ} (h : Passed w u params sets₀ heights sets i) where
   -- none is left
-  pub passed_all : u.constraints ≤ i → Hindered w u params sets₀ sets 0 (λ s. hindrance s s.constraints) (λ l. AllKept l (view w u).constraints)
+  pub passed_all : u.constraints ≤ i → Hindered w u params sets₀ sets (Ok tt) (λ s. hindrance s s.constraints) (λ l. AllKept l (view w u).constraints)
   unfolding AllKept
   passed_all l = record {
     kept = h.kept;
     still = h.still;
-    number = clear;
     is = λ ds k. h.is ds k ∙ ap (hindrance (seen w u ds)) (drop_of_length-le (seen w u ds).constraints {i = i} (rw (constraints_seen w u ds) l)) ∙ none_left (seen w u ds);
-    all = λ z j p. h.known j (omega (arith, constraints_view w u));
+    all = λ j p. h.known j (omega (arith, constraints_view w u));
   }
 
   module _ (l : i < u.constraints) (c : Constraint) (e : (ds : List Struct) → c ≡ get_or (seen w u ds).constraints i blank) where
@@ -171,28 +156,28 @@ module _ {w : List ℕ} {u : Used} {params : List (List ℕ)} {sets₀ heights s
     here : (ds : List Struct) → drop i (seen w u ds).constraints ≡ c ∷ drop (suc i) (seen w u ds).constraints
     here ds = drop-cons (seen w u ds).constraints i blank (rw (constraints_seen w u ds) l) ∙ ap (λ (x : Constraint). x ∷ drop (suc i) (seen w u ds).constraints) (sym (e ds))
 
-    module _ (r : ℕ) (sets' : List ℕ) (f : Hindered w u params sets sets' r (λ s. constraint_hindrance s c) (λ x. AskedKept x c)) where
-      pub passed_stop : 0 < r → Hindered w u params sets₀ sets' r (λ s. hindrance s s.constraints) (λ x. AllKept x (view w u).constraints)
-      passed_stop p = record {
-        kept = f.kept;
-        still = λ x y. f.still x (h.still x y);
-        number = f.number;
-        is = λ ds k. h.is ds k ∙ ap (hindrance (seen w u ds)) (here ds) ∙ stops (seen w u ds) c (drop (suc i) (seen w u ds).constraints) r p (f.is ds k);
-        all = λ z. absurd (omega arith);
-      }
+    pub passed_stop : (x : Hindrance) (sets' : List ℕ) → Hindered w u params sets sets' (Err x) (λ s. constraint_hindrance s c) (λ x. AskedKept x c)
+        → Hindered w u params sets₀ sets' (Err x) (λ s. hindrance s s.constraints) (λ x. AllKept x (view w u).constraints)
+    passed_stop x sets' f = record {
+      kept = f.kept;
+      still = λ x y. f.still x (h.still x y);
+      is = λ ds k. h.is ds k ∙ ap (hindrance (seen w u ds)) (here ds) ∙ stops_at (seen w u ds) c (drop (suc i) (seen w u ds).constraints) (refusal_of x) (f.is ds k);
+      all = tt;
+    }
 
-      pub passed_more : r ≡ 0 → (heights' : List ℕ) → Measured w u heights' → Passed w u params sets₀ heights' sets' (i + 1)
-      passed_more z heights' m = record {
+    module _ (sets' : List ℕ) (f : Hindered w u params sets sets' (Ok tt) (λ s. constraint_hindrance s c) (λ x. AskedKept x c)) where
+      pub passed_more : (heights' : List ℕ) → Measured w u heights' → Passed w u params sets₀ heights' sets' (i + 1)
+      passed_more heights' m = record {
         lay = h.lay;
         asked = h.asked;
         measured = m;
         kept = f.kept;
         still = λ x y. f.still x (h.still x y);
         le = omega arith;
-        is = λ ds k. h.is ds k ∙ ap (hindrance (seen w u ds)) (here ds) ∙ goes_past (seen w u ds) c (drop (suc i) (seen w u ds).constraints) (f.is ds k ∙ refusal_none r z) ∙ ap (λ (n : ℕ). hindrance (seen w u ds) (drop n (seen w u ds).constraints)) (sym (add-one i));
+        is = λ ds k. h.is ds k ∙ ap (hindrance (seen w u ds)) (here ds) ∙ goes_past (seen w u ds) c (drop (suc i) (seen w u ds).constraints) (f.is ds k) ∙ ap (λ (n : ℕ). hindrance (seen w u ds) (drop n (seen w u ds).constraints)) (sym (add-one i));
         known = λ j p. by j p (ℕ_discrete j i);
       }
         where
           by : (j : ℕ) → j < i + 1 → Dec (j ≡ i) → AskedKept sets' (get_or (view w u).constraints j blank)
-          by j p (yes y) = rw (y, ← at_view) (f.all z)
+          by j p (yes y) = rw (y, ← at_view) f.all
           by j p (no y) = asked_still sets sets' f.still (get_or (view w u).constraints j blank) (h.known j (omega arith))

@@ -4,7 +4,7 @@ use mathlib.Core.Path.{◌≡◌, refl, sym, ap, ◌∙◌}
 use mathlib.Core.Bool.{Bool, true, false, not, ◌&&◌, ◌||◌}
 use mathlib.Core.List.{List, [], ◌∷◌}
 use Rattle.std.specs.Prelude.{Option, None, Some}
-use Prim.Native.Nat.{ℕ, suc, ◌+◌, ◌≤◌, ◌<◌, ◌%◌}
+use Prim.Native.Nat.{ℕ, zero, suc, ◌+◌, ◌≤◌, ◌<◌, ◌%◌}
 use native.Mathlib.Omega.{arith}
 use native.Mathlib.Numerals.{add-one}
 use lib.Dec.{eqb, ltb}
@@ -224,8 +224,25 @@ none_of g test e = by (test 1) (test 2) (test 4) (test 8) e ∙ any_those g test
     by false false false true z = let n : true ≡ false = z in cc
     by false false false false z = refl
 
-pub or_hit : (r a x : Bool) → r ≡ a → r ≡ true → true ≡ (a || x)
-or_hit r a x e z = rw (← e, z) refl
+-- ---- a test of the four abilities in turn
 
-pub or_miss : (r a x y : Bool) → r ≡ a → r ≡ false → y ≡ x → y ≡ (a || x)
-or_miss r a x y e z h = rw (← e, z) h
+abbrev pub four : List ℕ
+four = 1 ∷ 2 ∷ 4 ∷ 8 ∷ []
+
+-- none before place i passes
+abbrev pub NonePass : (ℕ → Bool) → ℕ → Type 0
+NonePass test i = (j : ℕ) → j < i → test (get_or four j 0) ≡ false
+
+or_some : (a b : Bool) → b ≡ true → (a || b) ≡ true
+or_some true b e = refl
+or_some false b e = e
+
+pub one_passes : (test : ℕ → Bool) (i : ℕ) → i < 4 → test (get_or four i 0) ≡ true → (test 1 || (test 2 || (test 4 || test 8))) ≡ true
+one_passes test zero l e = rw e refl
+one_passes test (suc zero) l e = or_some (test 1) _ (rw e refl)
+one_passes test (suc (suc zero)) l e = or_some (test 1) _ (or_some (test 2) _ (rw e refl))
+one_passes test (suc (suc (suc zero))) l e = or_some (test 1) _ (or_some (test 2) _ (or_some (test 4) _ e))
+one_passes test (suc (suc (suc (suc i)))) l e = absurd (omega arith)
+
+pub none_passes : (test : ℕ → Bool) → NonePass test 4 → (test 1 || (test 2 || (test 4 || test 8))) ≡ false
+none_passes test h = rw (h 0 (omega arith), h 1 (omega arith), h 2 (omega arith), h 3 (omega arith)) refl

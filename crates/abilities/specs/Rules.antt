@@ -1,6 +1,6 @@
 -- Rules, what is missing, and 9 and 16, as the definition has them. Assumes nothing: these are definitions.
-use Rattle.std.specs.Prelude.{◌≡◌, Bool, true, false, not, ◌&&◌, ◌||◌, List, [], ◌∷◌, ℕ, ◌<◌, eqb, length, get_or, if◌then◌else◌}
-use Rattle.std.specs.Prelude.{Option, None, Some}
+use Rattle.std.specs.Prelude.{◌≡◌, Bool, true, false, not, ◌&&◌, ◌||◌, List, [], ◌∷◌, ℕ, ◌<◌, length, get_or}
+use Rattle.std.specs.Prelude.{Option, None, Some, Result, Ok, Err, OnOk}
 use Rattle.definition.specs.Types as t
 use Rattle.definition.specs.Types.{State, Struct, Refusal, runs_into_itself, mark_contradicted}
 use Rattle.definition.specs.Store.{count, args_at, spanned}
@@ -16,6 +16,8 @@ use Rattle.table.specs.declared.Used.{Used}
 use Rattle.shapes.specs.Applied.{args_of}
 use Rattle.shapes.specs.declared.Applied.{Applied}
 use Rattle.abilities.specs.Kept.{HasSet, Kept}
+use Rattle.abilities.specs.declared.Hindrance.{Hindrance}
+use Rattle.abilities.specs.declared.Hindrance.TheVariants.{RunsIntoItself, MarkContradicted}
 use Rattle.abilities.specs.declared.Rule.{Rule}
 use Rattle.abilities.specs.declared.Rule.TheVariants.{Declaration, Argument, Contradicted}
 
@@ -86,18 +88,17 @@ any_asks (c ∷ cs) = elim (asks_abilities c) [ true ↦ true | false ↦ any_as
 
 -- ---- 9 and 16
 
-abbrev pub refusal_of : ℕ → Option Refusal
-refusal_of r = if eqb r 0 then None else if eqb r 9 then Some runs_into_itself else Some mark_contradicted
+abbrev pub refusal_of : Hindrance → Refusal
+refusal_of RunsIntoItself = runs_into_itself
+refusal_of MarkContradicted = mark_contradicted
 
-pub data Number : ℕ → Type 0 where
-  clear : Number 0
-  nine : Number 9
-  sixteen : Number 16
+abbrev pub hindrance_of : Result (Unit {0}) Hindrance → Option Refusal
+hindrance_of (Ok x) = None
+hindrance_of (Err h) = Some (refusal_of h)
 
--- the answer is what `o` says, and what was kept is; with 0, what `whole` says of the table is so
-pub record Hindered (w : List ℕ) (u : Used) (params : List (List ℕ)) (sets sets' : List ℕ) (r : ℕ) (o : State → Option Refusal) (whole : List ℕ → Type 0) : Type 0 where
+-- the answer is what `o` says, and what was kept is; where nothing hinders, what `whole` says of the table is so
+pub record Hindered (w : List ℕ) (u : Used) (params : List (List ℕ)) (sets sets' : List ℕ) (r : Result (Unit {0}) Hindrance) (o : State → Option Refusal) (whole : List ℕ → Type 0) : Type 0 where
   pub kept : Kept w u params sets'
   pub still : (x : ℕ) → HasSet sets x → HasSet sets' x
-  pub number : Number r
-  pub is : (ds : List Struct) → Known w u params ds → o (seen w u ds) ≡ refusal_of r
-  pub all : r ≡ 0 → whole sets'
+  pub is : (ds : List Struct) → Known w u params ds → o (seen w u ds) ≡ hindrance_of r
+  pub all : OnOk r (whole sets')

@@ -20,12 +20,22 @@ use names::{AbilityMark, AbilitySet, TypeName};
 use shapes::Applied;
 use table::{Constraint, Shape, Used};
 
+// copy, drop, store, key
+pub const ABILITIES: [u8; 4] = [1, 2, 4, 8];
+
 // The declaration lacks it; the argument at a place lacks what is needed; neither, so that a mark is contradicted.
 #[derive(Clone, Copy)]
 pub enum Rule {
     Declaration,
     Argument(u32),
     Contradicted,
+}
+
+// 9 and 16: a type runs into itself; nothing but a mark takes a missing ability away.
+#[derive(Clone, Copy)]
+pub enum Hindrance {
+    RunsIntoItself,
+    MarkContradicted,
 }
 
 // What Constraint::Ability holds, to pass it on whole.
@@ -47,6 +57,7 @@ fn kept(sets: &[u32], t: u32) -> AbilitySet
 
 // ---- a name's declaration
 
+#[tactic(auto, unfolding(definition::specs::Abilities::declared_abilities, definition::specs::Abilities::collection, definition::specs::Abilities::struct_abilities, table::specs::State::seen, definition::specs::Store::with_structs))]
 fn declared_abilities(w: &[u32], u: Used, n: TypeName) -> AbilitySet
     requires { Lay w.now u }
     ensures { (ds : List d.Struct) → Declares w.now u ds → result.0 ≡ declared_abilities (seen w.now u ds) (name_of n) }
@@ -80,6 +91,7 @@ fn struct_counts(w: &[u32], u: Used, params: &[[u8; 8]; 256], s: u32, i: u32) ->
     bytes[k] < 16
 }
 
+#[tactic(auto, unfolding(definition::specs::Abilities::counts))]
 fn counts(w: &[u32], u: Used, params: &[[u8; 8]; 256], n: TypeName, i: u32) -> bool
     requires { Lay w.now u × (i < 8) }
     ensures { (ds : List d.Struct) → Known w.now u params.now ds → result ≡ counts (seen w.now u ds) (name_of n) i }
@@ -125,18 +137,17 @@ fn lacking(
     requires { ArgsReady w.now u params.now sets.now a × (0 < needed) }
     ensures { FoundIn 8 result × ((ds : List d.Struct) → Known w.now u params.now ds → result ≡ lacking (λ t. infer_abilities (seen w.now u ds) t) (seen w.now u ds) (name_of a.n) (args_at (seen w.now u ds) (args_of a)) needed) }
 {
-    let mut i: u32 = 0;
-    while i < a.many {
+    for i in 0..a.many {
         if lacks(w, u, params, a, i, needed, sets) {
             return Some(i);
         }
-        i = i + 1;
     }
     None
 }
 
 // ---- the rule of a named type
 
+#[tactic(auto, unfolding(definition::specs::Abilities::by_argument))]
 fn by_argument(o: Option<u32>) -> Rule
     requires { FoundIn 8 o }
     ensures { RuleIn result × (rule_of result ≡ by_argument o) }
@@ -168,14 +179,11 @@ fn apply_rule(
     by_argument(o)
 }
 
+#[tactic(auto, unfolding(definition::specs::Constraints::is_contradicted))]
 fn is_contradicted(r: Rule) -> bool
     ensures { result ≡ is_contradicted (rule_of r) }
 {
-    match r {
-        Rule::Declaration => false,
-        Rule::Argument(_) => false,
-        Rule::Contradicted => true,
-    }
+    matches!(r, Rule::Contradicted)
 }
 
 // ---- infer_abilities
@@ -226,6 +234,7 @@ fn granted_set(w: &[u32], u: Used, params: &[[u8; 8]; 256], a: Applied, sets: &[
 }
 
 // The set of an unfolded type whose parts' sets are kept.
+#[tactic(auto, unfolding(definition::specs::Abilities::infer_value, definition::specs::Store::with_args, definition::specs::Abilities::collection, definition::specs::Abilities::references, definition::specs::Abilities::all))]
 fn set_of(w: &[u32], u: Used, params: &[[u8; 8]; 256], s: Shape, sets: &[u32]) -> AbilitySet
     requires { Ready w.now u params.now sets.now (parts_of s) (part_count s) }
     ensures { (ds : List d.Struct) → Known w.now u params.now ds → result.0 ≡ infer_value (λ t. infer_abilities (seen w.now u ds) t) (seen w.now u ds) (with_args (seen w.now u ds) (shape_of s)) }
@@ -281,11 +290,9 @@ fn infer(
         keep_set(w, u, params, t, ends, sets);
         return;
     }
-    let mut i: u32 = 0;
-    while i < many {
+    for i in 0..many {
         let p = shapes::part_at(w, u, s, i);
         infer(w, u, params, p, left - 1, ends, sets);
-        i = i + 1;
     }
     keep_set(w, u, params, t, ends, sets);
 }
@@ -339,16 +346,12 @@ fn any_missing(w: &[u32], u: Used, params: &[[u8; 8]; 256], a: Asked, sets: &[u3
     requires { Lay w.now u × ((a.ty < u.nodes) × (Kept w.now u params.now sets.now × HasSet sets.now a.ty)) }
     ensures { (ds : List d.Struct) → Known w.now u params.now ds → result ≡ any_misses (seen w.now u ds) a.ty a.set.0 }
 {
-    if is_missing(w, u, params, a, 1, sets) {
-        return true;
+    for ability in ABILITIES {
+        if is_missing(w, u, params, a, ability, sets) {
+            return true;
+        }
     }
-    if is_missing(w, u, params, a, 2, sets) {
-        return true;
-    }
-    if is_missing(w, u, params, a, 4, sets) {
-        return true;
-    }
-    is_missing(w, u, params, a, 8, sets)
+    false
 }
 
 // The ability is missing, and nothing but a mark takes it away. Reading the type goes on with s.
@@ -382,16 +385,12 @@ fn shape_contradicts(
     requires { Lay w.now u × ((a.ty < u.nodes) × (Goes_on w.now u a.ty s × (Kept w.now u params.now sets.now × HasSet sets.now a.ty))) }
     ensures { (ds : List d.Struct) → Known w.now u params.now ds → result ≡ any_of (clashes (seen w.now u ds) a.ty) (missing (seen w.now u ds) a.ty a.set.0) }
 {
-    if contradicts(w, u, params, a, s, 1, sets) {
-        return true;
+    for ability in ABILITIES {
+        if contradicts(w, u, params, a, s, ability, sets) {
+            return true;
+        }
     }
-    if contradicts(w, u, params, a, s, 2, sets) {
-        return true;
-    }
-    if contradicts(w, u, params, a, s, 4, sets) {
-        return true;
-    }
-    contradicts(w, u, params, a, s, 8, sets)
+    false
 }
 
 // A chain of variables is walked once, and only if something is missing.
@@ -416,7 +415,7 @@ fn any_contradicts(
 
 // ---- 9 and 16
 
-// 9, 16 or 0. With 0 the set of the type is kept.
+// If nothing hinders, the set of the type is kept.
 fn ability_hinders(
     w: &[u32],
     u: Used,
@@ -425,19 +424,19 @@ fn ability_hinders(
     ends: &[u32],
     heights: &mut [u16],
     sets: &mut [u32],
-) -> u32
+) -> Result<(), Hindrance>
     requires lay { Lay w.now u × ((a.ty < u.nodes) × (Measured w.now u heights.old × Kept w.now u params.now sets.old)) }
     requires ends_known { EndsKnown w.now u ends.now }
     ensures { Measured w.now u heights.new × Hindered w.now u params.now sets.old sets.new result (λ s. ability_hindrance s a.ty a.set.0) (λ l. HasSet l a.ty) }
 {
     let Some(n) = ends::levels(w, u, a.ty, u.nodes, ends, heights) else {
-        return 9;
+        return Err(Hindrance::RunsIntoItself);
     };
     infer(w, u, params, a.ty, n, ends, sets);
     if any_contradicts(w, u, params, a, ends, sets) {
-        return 16;
+        return Err(Hindrance::MarkContradicted);
     }
-    0
+    Ok(())
 }
 
 fn hinder(
@@ -448,7 +447,7 @@ fn hinder(
     ends: &[u32],
     heights: &mut [u16],
     sets: &mut [u32],
-) -> u32
+) -> Result<(), Hindrance>
     requires lay { Lay w.now u × (AskedIn u.nodes (constraint_of c) × (Measured w.now u heights.old × Kept w.now u params.now sets.old)) }
     requires ends_known { EndsKnown w.now u ends.now }
     ensures { Measured w.now u heights.new × Hindered w.now u params.now sets.old sets.new result (λ s. constraint_hindrance s (constraint_of c)) (λ l. AskedKept l (constraint_of c)) }
@@ -458,11 +457,11 @@ fn hinder(
             let a = Asked { loc, ty, set };
             ability_hinders(w, u, params, a, ends, heights, sets)
         }
-        _ => 0,
+        _ => Ok(()),
     }
 }
 
-// The first 9 or 16 in list order, or 0. With 0 the set of each type that is asked for abilities is kept.
+// The first hindrance in list order. If there is none, the set of each type that is asked for abilities is kept.
 fn first_hindrance(
     w: &[u32],
     u: Used,
@@ -470,22 +469,16 @@ fn first_hindrance(
     ends: &[u32],
     heights: &mut [u16],
     sets: &mut [u32],
-) -> u32
+) -> Result<(), Hindrance>
     requires lay { Lay w.now u × (AllAsked (view w.now u) × (Measured w.now u heights.old × Kept w.now u params.now sets.old)) }
     requires ends_known { EndsKnown w.now u ends.now }
     ensures { Hindered w.now u params.now sets.old sets.new result (λ s. hindrance s s.constraints) (λ l. AllKept l (view w.now u).constraints) }
 {
-    let n = u.constraints;
-    let mut i: u32 = 0;
-    while i < n {
+    for i in 0..u.constraints {
         let c = table::constraint_at(w, u, i);
-        let h = hinder(w, u, params, c, ends, heights, sets);
-        if 0 < h {
-            return h;
-        }
-        i = i + 1;
+        hinder(w, u, params, c, ends, heights, sets)?;
     }
-    0
+    Ok(())
 }
 
 // .. The ends of all chains are noted first.
@@ -495,7 +488,7 @@ pub fn hinders(
     params: &[[u8; 8]; 256],
     heights: &mut [u16],
     sets: &mut [u32],
-) -> u32
+) -> Result<(), Hindrance>
     requires { Lay w.now u × (AllAsked (view w.now u) × (Measured w.now u heights.old × Kept w.now u params.now sets.old)) }
     ensures { Hindered w.now u params.now sets.old sets.new result (λ s. hindrance s s.constraints) (λ l. AllKept l (view w.now u).constraints) }
 {
@@ -506,13 +499,11 @@ pub fn hinders(
 
 // ---- whether any of this is asked
 
+#[tactic(auto, unfolding(crate::specs::Rules::asks_abilities))]
 fn asks_abilities(c: Constraint) -> bool
     ensures { result ≡ asks_abilities (constraint_of c) }
 {
-    match c {
-        Constraint::Ability(_, _, _) => true,
-        _ => false,
-    }
+    matches!(c, Constraint::Ability(_, _, _))
 }
 
 // Some constraint asks for abilities, so that a table of sets is needed.
@@ -520,14 +511,10 @@ pub fn any_asks(w: &[u32], u: Used) -> bool
     requires { Lay w.now u }
     ensures { result ≡ any_asks (view w.now u).constraints }
 {
-    let n = u.constraints;
-    let mut i: u32 = 0;
-    while i < n {
-        let c = table::constraint_at(w, u, i);
-        if asks_abilities(c) {
+    for i in 0..u.constraints {
+        if asks_abilities(table::constraint_at(w, u, i)) {
             return true;
         }
-        i = i + 1;
     }
     false
 }

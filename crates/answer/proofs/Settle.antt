@@ -135,7 +135,3 @@ module _ (w : List ℕ) (u before : Used) (saved : List ℕ) where
 -- what was taken is given back where the variables stand
 pub given_back : (w : List ℕ) (u before : Used) (saved w' : List ℕ) → Lay w u → Still w u before saved → GivenBack w u w' before → Undone w u w' before saved
 given_back w u before saved w' h s g w₀ x = g w₀ (saved_stood w₀ before saved w u x h s.rows s.many)
-
-pub number_14 : number_of_refusal answer_too_long ≡ 14
-unfolding number_of_refusal
-number_14 = refl

@@ -1,22 +1,20 @@
 // From what a run left to its answer: the payload written, and the state kept, put back or as it was at entry.
 #![tactic(auto)]
 
-ghost use Rattle.std.specs.Prelude.{◌≡◌, true, false, List, ◌++◌, ℕ, ◌≤◌, ◌<◌, length};
+ghost use Rattle.std.specs.Prelude.{◌≡◌, true, false, List, ℕ, ◌≤◌, length};
 ghost use Rattle.definition.specs.Types as d;
 ghost use Rattle.definition.specs.Types.{State};
-ghost use Rattle.definition.specs.Write.{write, write_error};
+ghost use Rattle.definition.specs.Write.{write_error};
 ghost use Rattle.definition.specs.Step.{number_of_error, number_of_refusal};
-ghost use Rattle.table.specs.State.{error_of, refusal_of, view, Lay, TypesIn};
+ghost use Rattle.table.specs.State.{error_of, view, Lay, TypesIn};
 ghost use Rattle.table.specs.declared.Out.TheVariants.{Done};
+ghost use Rattle.answer.specs.declared.Reason.TheVariants.{Step};
 ghost use Rattle.snapshot.specs.Snap.{Above, PutBack, Undone};
 ghost use Rattle.writer.specs.Bytes.{AllBytes};
-ghost use Rattle.payload.specs.Payload.{reply, Shows};
-ghost use Rattle.answer.specs.Ran.{Tells, Settles, Still, answered, success, failure, refused_by, Answers};
+ghost use Rattle.payload.specs.Payload.{reply, shown, Shows};
+ghost use Rattle.answer.specs.Ran.{refusal_for, Tells, Settles, Still, answered, success, failure, refused_by, Answers};
 
-use payload::{
-    Answer, MAX_PAYLOAD, Show, as_before, as_left, shown_size, two_size, write_location,
-    write_shown, write_two,
-};
+use payload::{Answer, Show, as_before, as_left, write_payload};
 use snapshot::{give_back, put_vars, undo};
 use table::{Out, Refusal, TypingError, Used};
 
@@ -27,6 +25,14 @@ pub struct Ran {
     pub used: Used,
     pub show: Show,
     pub kept: bool,
+}
+
+// A refusal: one that a step met, or one of the answer's own.
+#[derive(Clone, Copy)]
+pub enum Reason {
+    Step(Refusal),
+    TooLong,
+    MarkContradicted,
 }
 
 // ---- the state
@@ -65,9 +71,9 @@ pub fn put_back(
 
 // ---- the answers
 
-// The number of a refusal.
+#[tactic(auto, unfolding(definition::specs::Step::number_of_refusal))]
 fn number_of_refusal(x: Refusal) -> u32
-    ensures { result ≡ number_of_refusal (refusal_of x) }
+    ensures { result ≡ number_of_refusal (refusal_for (Step x)) }
 {
     match x {
         Refusal::Full => 7,
@@ -77,6 +83,18 @@ fn number_of_refusal(x: Refusal) -> u32
         Refusal::OpenVariable => 11,
         Refusal::NoArgument => 12,
         Refusal::ParameterTwice => 13,
+    }
+}
+
+// The number of a refusal.
+#[tactic(auto, unfolding(definition::specs::Step::number_of_refusal))]
+pub fn number_of(x: Reason) -> u32
+    ensures { result ≡ number_of_refusal (refusal_for x) }
+{
+    match x {
+        Reason::Step(x) => number_of_refusal(x),
+        Reason::TooLong => 14,
+        Reason::MarkContradicted => 16,
     }
 }
 
@@ -104,11 +122,9 @@ fn succeed(
     requires still { kept ≡ false → Still w.old u before saved.now }
     ensures { Answers w.old u before saved.now buf.old w.new buf.new result (success kept show t) }
 {
-    let size = shown_size(w, u, show, t);
-    if MAX_PAYLOAD < size {
-        return refuse(w, u, before, saved, 14);
-    }
-    let len = write_shown(w, u, show, t, buf);
+    let Some(len) = write_payload(w, u, show, t, buf) else {
+        return refuse(w, u, before, saved, number_of(Reason::TooLong));
+    };
     if kept {
         return as_left(u, 0, len);
     }
@@ -116,37 +132,24 @@ fn succeed(
     as_before(before, 0, len)
 }
 
-// An error that shows two types.
-fn fail_two(
+// An error with this number, and what it shows.
+fn fail_with(
     w: &mut [u32],
     u: Used,
     before: Used,
     saved: &[u32],
     number: u32,
-    a: u32,
-    b: u32,
+    show: Show,
     buf: &mut [u8],
 ) -> Answer
     requires lay { Lay w.old u × (Above before u × (5120 ≤ length saved.now)) }
-    requires types_in { ((a < u.nodes) × (b < u.nodes)) × (AllBytes (view w.old u) × (4096 ≤ length buf.old)) }
-    ensures { (e : d.TypingError) → number_of_error e ≡ number → ((s : State) → write_error s e ≡ write s a ++ write s b) → Answers w.old u before saved.now buf.old w.new buf.new result (failure e) }
+    requires shows { Shows u show 0 × (AllBytes (view w.old u) × (4096 ≤ length buf.old)) }
+    ensures { (e : d.TypingError) → number_of_error e ≡ number → ((s : State) → write_error s e ≡ shown show 0 s) → Answers w.old u before saved.now buf.old w.new buf.new result (failure e) }
 {
-    let size = two_size(w, u, a, b);
-    if MAX_PAYLOAD < size {
-        return refuse(w, u, before, saved, 14);
-    }
-    let len = write_two(w, u, a, b, buf);
+    let Some(len) = write_payload(w, u, show, 0, buf) else {
+        return refuse(w, u, before, saved, number_of(Reason::TooLong));
+    };
     put_back(w, u, before, saved, number, len)
-}
-
-// A recursive type: it shows a location.
-fn fail_at(w: &mut [u32], u: Used, before: Used, saved: &[u32], loc: u32, buf: &mut [u8]) -> Answer
-    requires lay { Lay w.old u × (Above before u × (5120 ≤ length saved.now)) }
-    requires in_bounds { 4096 ≤ length buf.old }
-    ensures { Answers w.old u before saved.now buf.old w.new buf.new result (failure (d.RecursiveType loc)) }
-{
-    let len = write_location(loc, buf);
-    put_back(w, u, before, saved, 4, len)
 }
 
 // A typing error: it shows two types, or a location.
@@ -163,10 +166,18 @@ fn fail(
     ensures { Answers w.old u before saved.now buf.old w.new buf.new result (failure (error_of e)) }
 {
     match e {
-        TypingError::SubtypeError(a, b) => fail_two(w, u, before, saved, 1, a, b, buf),
-        TypingError::Incompatible(a, b) => fail_two(w, u, before, saved, 2, a, b, buf),
-        TypingError::ArityMismatch(a, b) => fail_two(w, u, before, saved, 3, a, b, buf),
-        TypingError::RecursiveType(loc) => fail_at(w, u, before, saved, loc, buf),
+        TypingError::SubtypeError(a, b) => fail_with(w, u, before, saved, 1, Show::Two(a, b), buf),
+        TypingError::Incompatible(a, b) => fail_with(w, u, before, saved, 2, Show::Two(a, b), buf),
+        TypingError::ArityMismatch(a, b) => fail_with(w, u, before, saved, 3, Show::Two(a, b), buf),
+        TypingError::RecursiveType(loc) => fail_with(
+            w,
+            u,
+            before,
+            saved,
+            4,
+            Show::Location(loc),
+            buf,
+        ),
     }
 }
 
@@ -177,16 +188,9 @@ pub fn answer_of(w: &mut [u32], before: Used, saved: &[u32], ran: Ran, buf: &mut
     requires still { (t : ℕ) → ran.out ≡ Done t → ran.kept ≡ false → Still w.old ran.used before saved.now }
     ensures { Answers w.old ran.used before saved.now buf.old w.new buf.new result (answered ran) }
 {
-    let out = ran.out;
-    let u = ran.used;
-    let show = ran.show;
-    let kept = ran.kept;
-    match out {
-        Out::Done(t) => succeed(w, u, before, saved, kept, show, t, buf),
-        Out::Failed(e) => fail(w, u, before, saved, e, buf),
-        Out::Refused(x) => {
-            let number = number_of_refusal(x);
-            refuse(w, u, before, saved, number)
-        }
+    match ran.out {
+        Out::Done(t) => succeed(w, ran.used, before, saved, ran.kept, ran.show, t, buf),
+        Out::Failed(e) => fail(w, ran.used, before, saved, e, buf),
+        Out::Refused(x) => refuse(w, ran.used, before, saved, number_of(Reason::Step(x))),
     }
 }

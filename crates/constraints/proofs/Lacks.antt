@@ -4,7 +4,7 @@ use Rattle.std.proofs.Common.{◌≡◌, ℕ, zero, suc, ◌<◌, Bool, true, fa
 use denote.Enum.Declared.{tag_of}
 use types.Run.{OneOf, miss}
 use Rattle.definition.specs.Types as d
-use Rattle.std.specs.Prelude.{if◌then◌else◌}
+use Rattle.std.specs.Prelude.{if◌then◌else◌, Option, None}
 use Rattle.definition.specs.Types.{State, Struct, Spanned, TypeValue}
 use Rattle.definition.specs.Store.{count, node, with_args, spanned}
 use Rattle.definition.specs.Subst.{unfold_type}
@@ -29,10 +29,9 @@ use Rattle.ends.proofs.Itself.{goes_node, unfolded_node}
 use Rattle.abilities.specs.Kept.{HasSet, Kept}
 use Rattle.abilities.specs.Rules.{rule_of, misses}
 use Rattle.abilities.specs.declared.Rule.{Rule}
-use Rattle.failing.specs.Failing.{plain, failing, FailingIn, TyIn}
+use Rattle.failing.specs.Failing.{plain, report, ReportIn, TyIn}
 use Rattle.constraints.specs.Lacking.{lack, row, IsAbility, Lacking, AskedReady}
 use Rattle.failing.specs.declared.Failing.{Failing}
-use Rattle.failing.specs.declared.Failing.TheVariants.{Fine}
 
 -- ---- `_` has every ability
 
@@ -88,7 +87,7 @@ module _ (w : List ℕ) (u : Used) (f : Unfolded) (ty : ℕ) (h : Unfolds w u f 
   -- .. and what the rule makes of it
   module _ (t : ℕ) (e : f ≡ NodeU t) (params : List (List ℕ)) (loc asked ability : ℕ) (b : Bool) (m : (ds : List Struct) → Known w u params ds → b ≡ misses (seen w u ds) ty asked ability) (z : b ≡ true) where
     module _ (sh : Shape) (g : Goes_on w u ty sh) (r : Rule) (q : (ds : List Struct) → Known w u params ds → rule_of r ≡ rule (seen w u ds) ability (with_args (seen w u ds) (shape_of sh))) where
-      pub node_lacks : (x : Failing) → ((n : ℕ) → t < n → FailingIn n x) × ((s : State) → failing x s ≡ by_rule s loc ability (spanned s t) (rule_of r)) → Lacking w u params x (λ s. lack s loc ty asked ability)
+      pub node_lacks : (x : Option Failing) → ((n : ℕ) → t < n → ReportIn n x) × ((s : State) → report x s ≡ by_rule s loc ability (spanned s t) (rule_of r)) → Lacking w u params x (λ s. lack s loc ty asked ability)
       node_lacks x p = record {
         is = λ ds k. let s = seen w u ds in
             p.1 s
@@ -97,7 +96,7 @@ module _ (w : List ℕ) (u : Used) (f : Unfolded) (ty : ℕ) (h : Unfolds w u f 
         inside = p.0 u.nodes (unfolded_node h.inside e);
       }
 
-  pub to_anything : (at : ℕ) → f ≡ AnythingU at → (params : List (List ℕ)) (loc asked ability : ℕ) → IsAbility ability → Lacking w u params Fine (λ s. lack s loc ty asked ability)
+  pub to_anything : (at : ℕ) → f ≡ AnythingU at → (params : List (List ℕ)) (loc asked ability : ℕ) → IsAbility ability → Lacking w u params None (λ s. lack s loc ty asked ability)
   to_anything at e params loc asked ability a = record {
     is = λ ds k. lack_anything (seen w u ds) loc ty asked ability (sym (ap (λ (y : Unfolded). (unfolded y (seen w u ds)).value) (sym e) ∙ ap (λ (y : Spanned TypeValue). y.value) (h.is ds))) a.in_all;
     inside = tt;
@@ -111,19 +110,19 @@ pub asked_ty : (w : List ℕ) (u : Used) (params : List (List ℕ)) (sets : List
 asked_ty w u params sets c loc ty a h k e =
     (subst (λ (x : Constraint). TyIn u.nodes (constraint_of x)) e h, subst (λ (x : Constraint). AskedReady w u params sets (constraint_of x)) e k)
 
-pub row_ability : (w : List ℕ) (u : Used) (params : List (List ℕ)) (r : Failing) (c : Constraint) (loc ty : ℕ) (a : AbilitySet) (ability : ℕ) → Lacking w u params r (λ s. lack s loc ty a.0 ability) → c ≡ Ability loc ty a → Lacking w u params r (λ s. row s (constraint_of c) ability)
+pub row_ability : (w : List ℕ) (u : Used) (params : List (List ℕ)) (r : Option Failing) (c : Constraint) (loc ty : ℕ) (a : AbilitySet) (ability : ℕ) → Lacking w u params r (λ s. lack s loc ty a.0 ability) → c ≡ Ability loc ty a → Lacking w u params r (λ s. row s (constraint_of c) ability)
 unfolding row
 row_ability w u params r c loc ty a ability h e = subst (λ (x : Constraint). Lacking w u params r (λ s. row s (constraint_of x) ability)) (sym e) h
 
-pub row_first : (s : State) (c : d.Constraint) (r : Failing) (ability : ℕ) → failing r s ≡ plain s c → ability ≡ 1 → failing r s ≡ (if eqb ability 1 then plain s c else [])
+pub row_first : (s : State) (c : d.Constraint) (r : Option Failing) (ability : ℕ) → report r s ≡ plain s c → ability ≡ 1 → report r s ≡ (if eqb ability 1 then plain s c else [])
 row_first s c r ability h e = rw (eq-eqb ability 1 e) h
 
 pub row_after : (s : State) (c : d.Constraint) (ability : ℕ) → (ability ≡ 1 → ⊥) → [] ≡ (if eqb ability 1 then plain s c else [])
 row_after s c ability e = rw (ne_eqb ability 1 e) refl
 
 -- a constraint that asks for no abilities
-module _ (w : List ℕ) (u : Used) (params : List (List ℕ)) (r : Failing) where
-  pub row_plain : (c : Constraint) (ability : ℕ) → FailingIn u.nodes r × ((ds : List Struct) → failing r (seen w u ds) ≡ (if eqb ability 1 then plain (seen w u ds) (constraint_of c) else []))
+module _ (w : List ℕ) (u : Used) (params : List (List ℕ)) (r : Option Failing) where
+  pub row_plain : (c : Constraint) (ability : ℕ) → ReportIn u.nodes r × ((ds : List Struct) → report r (seen w u ds) ≡ (if eqb ability 1 then plain (seen w u ds) (constraint_of c) else []))
       → OneOf plain_tags (tag_of the_type c) → Lacking w u params r (λ s. row s (constraint_of c) ability)
   unfolding row
   row_plain (Ability loc ty a) ability h k = absurd (miss plain_tags 0 tt k)

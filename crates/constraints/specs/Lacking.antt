@@ -1,5 +1,5 @@
 -- The failures of a constraint in four rows, one for each ability. Assumes nothing: these are definitions.
-use Rattle.std.specs.Prelude.{◌≡◌, ℕ, ◌<◌, true, List, [], length, ◌==◌, slice_index_or, if◌then◌else◌}
+use Rattle.std.specs.Prelude.{◌≡◌, ℕ, ◌<◌, true, List, [], length, ◌==◌, slice_index_or, if◌then◌else◌, Option}
 use Rattle.definition.specs.Types as d
 use Rattle.definition.specs.Types.{State, Struct}
 use Rattle.definition.specs.Store.{spanned}
@@ -14,7 +14,7 @@ use Rattle.table.specs.declared.Used.{Used}
 use Rattle.abilities.specs.Kept.{HasSet, Kept}
 use Rattle.abilities.specs.Rules.{misses}
 use Rattle.failing.specs.declared.Failing.{Failing}
-use Rattle.failing.specs.Failing.{plain, failing, FailingIn}
+use Rattle.failing.specs.Failing.{plain, report, ReportIn}
 
 -- the failure for one ability
 unfoldable pub lack : State → ℕ → ℕ → ℕ → ℕ → Bytes
@@ -38,9 +38,9 @@ pub record IsAbility (ability : ℕ) : Type 0 where
   pub in_all : has all ability ≡ true
 
 -- the row is this, with the declarations that words and bytes hold
-pub record Lacking (w : List ℕ) (u : Used) (params : List (List ℕ)) (r : Failing) (f : State → Bytes) : Type 0 where
-  pub is : (ds : List Struct) → Known w u params ds → failing r (seen w u ds) ≡ f (seen w u ds)
-  pub inside : FailingIn u.nodes r
+pub record Lacking (w : List ℕ) (u : Used) (params : List (List ℕ)) (r : Option Failing) (f : State → Bytes) : Type 0 where
+  pub is : (ds : List Struct) → Known w u params ds → report r (seen w u ds) ≡ f (seen w u ds)
+  pub inside : ReportIn u.nodes r
 
 -- what is kept of the types serves a constraint: the set of the type that it asks for abilities is known
 abbrev pub AskedReady : List ℕ → Used → List (List ℕ) → List ℕ → d.Constraint → Type 0

@@ -18,11 +18,11 @@ ghost use Rattle.constraints.specs.Solve.{kind_of, numbered, join_u64, default_m
 ghost use Rattle.definition.specs.Store.{spanned};
 ghost use Rattle.abilities.specs.Kept.{HasSet, Kept};
 ghost use Rattle.abilities.specs.Rules.{rule_of, RuleIn};
-ghost use Rattle.failing.specs.Failing.{good, plain, failing, FailingIn, TyIn, Fails};
+ghost use Rattle.failing.specs.Failing.{plain, report, ReportIn, TyIn, Fails};
 ghost use Rattle.constraints.specs.Lacking.{lack, row, IsAbility, Lacking, AskedReady};
 
 use abilities::{Asked, Rule};
-use failing::{Failing, ask_of, good, unless};
+use failing::{Failing, ask_of, good};
 use names::{AbilityMark, AbilitySet, TVar, TypeName};
 use subst::Unfolded;
 use table::{CONSTRAINT_WORDS, CONSTRAINTS_AT, Constraint, Out, Outcome, Shape, Used, VAR_WORDS};
@@ -37,6 +37,7 @@ pub enum NumericKind {
 
 // ---- a constraint is listed; the answer is 0
 
+#[tactic(auto, unfolding(definition::specs::Step::numeric_constraint))]
 pub fn numeric_constraint(w: &mut [u32], u: Used, kind: NumericKind, loc: u32, ty: u32) -> Outcome
     requires { Lay w.old u }
     ensures { Changed w.old u w.new result (pushed_constraint (numeric_constraint (kind_of kind) loc ty)) }
@@ -136,16 +137,14 @@ fn default_marked(w: &mut [u32], u: Used, num_var: TVar, mark: Option<u32>) -> O
 }
 
 // The mark that variable v had when the rows were saved.
+#[tactic(auto, unfolding(table::specs::Rows::read_option))]
 fn saved_mark(saved: &[u32], v: u32) -> Option<u32>
     requires { (v < 1024) × (5120 ≤ length saved.now) }
     ensures { result ≡ read_option (slice_index saved.now (v * 5 + 2)) (slice_index saved.now (v * 5 + 3)) }
 {
     let at = v as usize * VAR_WORDS;
-    if saved[at + 2] == 1 {
-        Some(saved[at + 3])
-    } else {
-        None
-    }
+    let marked = saved[at + 2] == 1;
+    marked.then_some(saved[at + 3])
 }
 
 // The marks are read as they were at the start: a join marks variables, and the list is fixed before the first.
@@ -153,10 +152,8 @@ pub fn default_num_vars(w: &mut [u32], u: Used, saved: &[u32]) -> Outcome
     requires { Lay w.old u × (Saved w.old u saved.now × (5120 ≤ length saved.now)) }
     ensures { Answered w.old u w.new result (λ s. numbered (default_num_vars s (num_vars 0 s.vars))) }
 {
-    let n = u.vars;
     let mut at = u;
-    let mut v: u32 = 0;
-    while v < n {
+    for v in 0..u.vars {
         let mark = saved_mark(saved, v);
         let num_var = table::tvar(v);
         let a = default_marked(w, at, num_var, mark);
@@ -166,7 +163,6 @@ pub fn default_num_vars(w: &mut [u32], u: Used, saved: &[u32]) -> Outcome
             return a;
         };
         at = au;
-        v = v + 1;
     }
     Outcome {
         out: Out::Done(0),
@@ -182,11 +178,7 @@ fn store_row(w: &mut [u32], i: u32, row: [u32; 4])
     ensures { Wrote w.old (21509 + i * 4) 4 row w.new }
 {
     let at = CONSTRAINTS_AT + i as usize * CONSTRAINT_WORDS;
-    let mut k: usize = 0;
-    while k < 4 {
-        w[at + k] = row[k];
-        k = k + 1;
-    }
+    w[at..at + CONSTRAINT_WORDS].copy_from_slice(&row);
 }
 
 // The last row is zero again.
@@ -197,11 +189,8 @@ fn pop_constraint(w: &mut [u32], u: Used) -> Used
     let n = u.constraints - 1;
     store_row(w, n, [0, 0, 0, 0]);
     Used {
-        nodes: u.nodes,
-        args: u.args,
-        vars: u.vars,
         constraints: n,
-        structs: u.structs,
+        ..u
     }
 }
 
@@ -220,28 +209,20 @@ pub fn take_constraints(w: &mut [u32], u: Used) -> Used
 // ---- which constraints fail, and how
 
 // The failure of a constraint that asks for no abilities, if it fails.
-fn failing_of(w: &[u32], u: Used, c: Constraint) -> Failing
+fn failing_of(w: &[u32], u: Used, c: Constraint) -> Option<Failing>
     requires { Lay w.now u × TyIn u.nodes (constraint_of c) }
     ensures { Fails w.now u result (constraint_of c) }
 {
-    let a = ask_of(c);
-    let code = a.code;
-    let loc = a.loc;
-    let ty = a.ty;
-    if code == 0 {
-        return Failing::Fine;
-    }
-    match subst::unfold_type(w, u, ty) {
+    let a = ask_of(c)?;
+    match subst::unfold_type(w, u, a.ty) {
         Unfolded::Node(t) => {
             let n = table::node_at(w, u, t);
-            let s = n.shape;
-            unless(good(code, s), Failing::Node(code, loc, t))
+            let bad = !good(a.what, n.shape);
+            bad.then_some(Failing::Node(a.what, a.loc, t))
         }
         Unfolded::Anything(at) => {
-            unless(
-                good(code, Shape::Anything),
-                Failing::Anything(code, loc, at),
-            )
+            let bad = !good(a.what, Shape::Anything);
+            bad.then_some(Failing::Anything(a.what, a.loc, at))
         }
     }
 }
@@ -249,14 +230,14 @@ fn failing_of(w: &[u32], u: Used, c: Constraint) -> Failing
 // ---- solve_ability_constraint
 
 // What the rule makes of an ability that node t lacks.
-fn by_rule(loc: u32, ability: u8, t: u32, r: Rule) -> Failing
+fn by_rule(loc: u32, ability: u8, t: u32, r: Rule) -> Option<Failing>
     requires { RuleIn r }
-    ensures { ((n : ℕ) → t < n → FailingIn n result) × ((s : d.State) → failing result s ≡ by_rule s loc ability (spanned s t) (rule_of r)) }
+    ensures { ((n : ℕ) → t < n → ReportIn n result) × ((s : d.State) → report result s ≡ by_rule s loc ability (spanned s t) (rule_of r)) }
 {
     match r {
-        Rule::Declaration => Failing::Lacks(loc, ability, t, None),
-        Rule::Argument(i) => Failing::Lacks(loc, ability, t, Some(i)),
-        Rule::Contradicted => Failing::Fine,
+        Rule::Declaration => Some(Failing::Lacks(loc, ability, t, None)),
+        Rule::Argument(i) => Some(Failing::Lacks(loc, ability, t, Some(i))),
+        Rule::Contradicted => None,
     }
 }
 
@@ -268,12 +249,12 @@ fn lack_of(
     sets: &[u32],
     a: Asked,
     ability: u8,
-) -> Failing
+) -> Option<Failing>
     requires { Lay w.now u × ((a.ty < u.nodes) × (IsAbility ability × (Kept w.now u params.now sets.now × HasSet sets.now a.ty))) }
     ensures { Lacking w.now u params.now result (λ s. lack s a.loc a.ty a.set.0 ability) }
 {
     if !abilities::is_missing(w, u, params, a, ability, sets) {
-        return Failing::Fine;
+        return None;
     }
     match subst::unfold_type(w, u, a.ty) {
         Unfolded::Node(t) => {
@@ -282,18 +263,18 @@ fn lack_of(
             let r = abilities::shape_rule(w, u, params, s, ability, sets);
             by_rule(a.loc, ability, t, r)
         }
-        Unfolded::Anything(_) => Failing::Fine,
+        Unfolded::Anything(_) => None,
     }
 }
 
-fn first_row(w: &[u32], u: Used, c: Constraint, ability: u8) -> Failing
+fn first_row(w: &[u32], u: Used, c: Constraint, ability: u8) -> Option<Failing>
     requires { Lay w.now u × TyIn u.nodes (constraint_of c) }
-    ensures { FailingIn u.nodes result × ((ds : List d.Struct) → failing result (seen w.now u ds) ≡ (if nat_eq ability 1 then plain (seen w.now u ds) (constraint_of c) else [])) }
+    ensures { ReportIn u.nodes result × ((ds : List d.Struct) → report result (seen w.now u ds) ≡ (if nat_eq ability 1 then plain (seen w.now u ds) (constraint_of c) else [])) }
 {
     if ability == 1 {
         return failing_of(w, u, c);
     }
-    Failing::Fine
+    None
 }
 
 // The failure of a constraint in the row of an ability. first_row is called at one place so that it is inlined.
@@ -304,7 +285,7 @@ pub fn row_of(
     sets: &[u32],
     c: Constraint,
     ability: u8,
-) -> Failing
+) -> Option<Failing>
     requires { Lay w.now u × (TyIn u.nodes (constraint_of c) × (IsAbility ability × AskedReady w.now u params.now sets.now (constraint_of c))) }
     ensures { Lacking w.now u params.now result (λ s. row s (constraint_of c) ability) }
 {

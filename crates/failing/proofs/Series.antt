@@ -6,8 +6,8 @@ use native.Mathlib.Omega.{arith}
 use lib.ListN.{length, length-append}
 use Rattle.definition.specs.Types.{Struct}
 use Rattle.definition.specs.Write.{Bytes}
-use Rattle.writer.specs.Bytes.{put, capped, Wrote}
-use Rattle.writer.proofs.Put.{capped_is, capped_over, capped_within, capped_beyond, put_put, put_nothing, length_put}
+use Rattle.writer.specs.Bytes.{capped, Wrote}
+use Rattle.writer.proofs.Put.{capped_is, capped_over, capped_within, capped_beyond, put_nothing, wrote_wrote, wrote_length}
 
 -- n pieces of a whole, with any declarations; `rest i` has those from i on
 pub record Pieces (n : ℕ) (one rest : List Struct → ℕ → Bytes) (whole : List Struct → Bytes) : Type 0 where
@@ -32,6 +32,14 @@ module _ (K : List Struct → Type 0) (n : ℕ) (one rest : List Struct → ℕ 
       let z : length (rest ds i) ≡ 0 = ap length (p.none ds i le) in
       let e : size ≡ length (whole ds) = omega (arith, h.is ds k) in
       sym (ap (capped room) (sym e) ∙ capped_is room size h.small)
+
+  -- piece i is empty
+  pub sized_past : (size i : ℕ) → Sized K n rest whole room size i → i < n → ((ds : List Struct) → K ds → [] ≡ one ds i) → Sized K n rest whole room size (i + 1)
+  sized_past size i h lt e = record {
+    within = omega arith;
+    small = h.small;
+    is = λ ds q. let m : rest ds i ≡ rest ds (i + 1) = p.more ds i lt ∙ ap (λ (b : Bytes). b ++ rest ds (i + 1)) (sym (e ds q)) in omega (arith, h.is ds q, ap length m);
+  }
 
   -- piece i, which is x, has k bytes
   module _ (size i : ℕ) (h : Sized K n rest whole room size i) (lt : i < n) (x : List Struct → Bytes) (xe : (ds : List Struct) → K ds → x ds ≡ one ds i) (k : ℕ)
@@ -61,17 +69,6 @@ module _ (K : List Struct → Type 0) (n : ℕ) (one rest : List Struct → ℕ 
 
 pub wrote_none : (buf : List ℕ) (at : ℕ) → at ≤ length buf → Wrote buf at [] buf at
 wrote_none buf at le = record { next_is = omega arith; is = put_nothing buf at le }
-
-pub wrote_length : (buf : List ℕ) (at : ℕ) (a : Bytes) (buf' : List ℕ) (n : ℕ) → at + length a ≤ length buf → Wrote buf at a buf' n → length buf' ≡ length buf
-wrote_length buf at a buf' n le h = ap length h.is ∙ length_put buf at a le
-
-pub wrote_wrote : (buf : List ℕ) (at : ℕ) (a : Bytes) (buf₁ : List ℕ) (n₁ : ℕ) (b : Bytes) (buf₂ : List ℕ) (n₂ : ℕ)
-    → at + length a ≤ length buf → Wrote buf at a buf₁ n₁ → Wrote buf₁ n₁ b buf₂ n₂ → Wrote buf at (a ++ b) buf₂ n₂
-wrote_wrote buf at a buf₁ n₁ b buf₂ n₂ le x y =
-    record {
-      next_is = y.next_is ∙ ap (λ (k : ℕ). k + length b) x.next_is ∙ (let e = length-append a b in omega (arith, e));
-      is = y.is ∙ ap (λ (l : List ℕ). put l n₁ b) x.is ∙ ap (λ (k : ℕ). put (put buf at a) k b) x.next_is ∙ put_put buf at a b le;
-    }
 
 -- `buf` has the pieces below i from place `at` on
 pub record Written (K : List Struct → Type 0) (n : ℕ) (rest : List Struct → ℕ → Bytes) (whole : List Struct → Bytes) (buf₀ : List ℕ) (at : ℕ) (buf : List ℕ) (next i : ℕ) : Type 0 where

@@ -2,101 +2,97 @@
 // Changed from the source that NOTICE names: ported to Rattle.
 #![tactic(auto)]
 
-ghost use Rattle.std.specs.Prelude.{◌≡◌, not, ◌≤◌, ℕ, ◌+◌, ◌<◌, length, List, [], ◌∷◌, ◌++◌};
+ghost use Rattle.std.specs.Prelude.{◌≡◌, ◌≤◌, ℕ, ◌+◌, ◌<◌, length, List, ◌∷◌};
 ghost use Rattle.definition.specs.Types as d;
 ghost use Rattle.definition.specs.Constraints.{is_base, is_single, ability_failure};
 ghost use Rattle.table.specs.State.{constraint_of, shape_of, Lay, view, seen, FoundIn};
 ghost use Rattle.definition.specs.Store.{with_args, spanned};
-ghost use Rattle.definition.specs.Join.{is_multiple};
-ghost use Rattle.names.specs.Names.{name_of};
-ghost use Rattle.failing.specs.Failing.{good, Asks, why, failing, FailingIn, unless};
-ghost use Rattle.writer.specs.Bytes.{AllBytes, capped, FewIs, Wrote};
-ghost use Rattle.definition.specs.Write.{u32 as bytes-u32};
+ghost use Rattle.failing.specs.Failing.{code_of, good, Asks, why, failing, FailingIn};
+ghost use Rattle.writer.specs.Bytes.{AllBytes, capped, Wrote};
+ghost use Rattle.definition.specs.Write.{u32 as bytes-u32, write};
 
 use names::TypeName;
 use table::{Constraint, Shape, Used};
-use writer::{Few, low};
+use writer::{put_bytes, put_tag, size_type, write_head, write_type};
 
 // ---- what a constraint asks
 
-// What a constraint asks: an integer type 1, a base type 2, a single type 3; 0, nothing that is asked here.
+// What a type is to be, and the code of its failure.
+#[derive(Clone, Copy)]
+pub enum Wanted {
+    Integer = 1,
+    Base = 2,
+    Single = 3,
+}
+
+// What a constraint asks that asks for no abilities.
 #[derive(Clone, Copy)]
 pub struct Ask {
-    pub code: u32,
+    pub what: Wanted,
     pub loc: u32,
     pub ty: u32,
 }
 
-// A failure: its code, its location, and the type as a node or `_` at a location. Of an ability that is missing: the location, the ability,
-// the type as a node, and the argument that lacks, if it is not the declaration.
+// A failure: what was wanted, its location, and the type as a node or `_` at a location. Of an ability that is missing: the location, the
+// ability, the type as a node, and the argument that lacks, if it is not the declaration.
 #[derive(Clone, Copy)]
 pub enum Failing {
-    Fine,
-    Node(u32, u32, u32),
-    Anything(u32, u32, u32),
+    Node(Wanted, u32, u32),
+    Anything(Wanted, u32, u32),
     Lacks(u32, u8, u32, Option<u32>),
 }
 
-fn not_multiple(n: TypeName) -> bool
-    ensures { result ≡ not (is_multiple (name_of n)) }
-{
-    match n {
-        TypeName::Multiple(_) => false,
-        _ => true,
-    }
-}
-
+#[tactic(auto, unfolding(definition::specs::Constraints::is_single, definition::specs::Join::is_multiple, definition::specs::Store::with_args))]
 fn is_single(s: Shape) -> bool
     ensures { (st : d.State) → result ≡ is_single (with_args st (shape_of s)) }
 {
-    match s {
-        Shape::Unit => false,
-        Shape::Apply(_, n, _, _) => not_multiple(n),
-        _ => true,
-    }
+    !matches!(
+        s,
+        Shape::Unit | Shape::Apply(_, TypeName::Multiple(_), _, _)
+    )
 }
 
+#[tactic(auto, unfolding(definition::specs::Constraints::is_base, definition::specs::Constraints::is_single, definition::specs::Store::with_args))]
 fn is_base(s: Shape) -> bool
     ensures { (st : d.State) → result ≡ is_base (with_args st (shape_of s)) }
 {
-    match s {
-        Shape::Ref(_, _) => false,
-        _ => is_single(s),
-    }
+    !matches!(s, Shape::Ref(_, _)) && is_single(s)
 }
 
-pub fn good(code: u32, s: Shape) -> bool
-    ensures { (st : d.State) → result ≡ good code (with_args st (shape_of s)) }
+#[tactic(auto, unfolding(crate::specs::Failing::good))]
+pub fn good(what: Wanted, s: Shape) -> bool
+    ensures { (st : d.State) → result ≡ good what (with_args st (shape_of s)) }
 {
-    if code == 1 {
-        return shapes::is_integer(s);
+    match what {
+        Wanted::Integer => shapes::is_integer(s),
+        Wanted::Base => is_base(s),
+        Wanted::Single => is_single(s),
     }
-    if code == 2 {
-        return is_base(s);
-    }
-    is_single(s)
 }
 
-pub fn ask_of(c: Constraint) -> Ask
+#[tactic(auto, unfolding(crate::specs::Failing::ask, crate::specs::Failing::plain, crate::specs::Failing::good, definition::specs::Constraints::solve))]
+pub fn ask_of(c: Constraint) -> Option<Ask>
     ensures { Asks result (constraint_of c) }
 {
     match c {
-        Constraint::Ability(loc, ty, _) => Ask { code: 0, loc, ty },
-        Constraint::Numeric(loc, ty) => Ask { code: 1, loc, ty },
-        Constraint::Bits(loc, ty) => Ask { code: 1, loc, ty },
-        Constraint::Ordered(loc, ty) => Ask { code: 1, loc, ty },
-        Constraint::BaseType(loc, ty) => Ask { code: 2, loc, ty },
-        Constraint::SingleType(loc, ty) => Ask { code: 3, loc, ty },
+        Constraint::Ability(_, _, _) => None,
+        Constraint::Numeric(loc, ty) | Constraint::Bits(loc, ty) | Constraint::Ordered(loc, ty) =>
+            Some(Ask {
+                what: Wanted::Integer,
+                loc,
+                ty,
+            }),
+        Constraint::BaseType(loc, ty) => Some(Ask {
+            what: Wanted::Base,
+            loc,
+            ty,
+        }),
+        Constraint::SingleType(loc, ty) => Some(Ask {
+            what: Wanted::Single,
+            loc,
+            ty,
+        }),
     }
-}
-
-pub fn unless(fine: bool, f: Failing) -> Failing
-    ensures { result ≡ unless fine f }
-{
-    if fine {
-        return Failing::Fine;
-    }
-    f
 }
 
 // ---- in bytes
@@ -111,16 +107,15 @@ fn why_size(place: Option<u32>) -> u32
     }
 }
 
-// .. of the failure for an ability: code, location, ability, type and rule.
-fn size_lacks(w: &[u32], u: Used, t: u32, place: Option<u32>, room: u32) -> u32
+// How many bytes the type t has and `around` others, if no more than `room`; else one more than `room`.
+fn size_around(w: &[u32], u: Used, t: u32, around: u32, room: u32) -> u32
     requires { Lay w.now u × ((t < u.nodes) × (room ≤ 4096)) }
-    ensures { (result ≤ room + 1) × ((ds : List d.Struct) (loc ability : ℕ) → result ≡ capped room (length (ability_failure (seen w.now u ds) loc ability (spanned (seen w.now u ds) t) (why place)))) }
+    ensures { (ds : List d.Struct) → result ≡ capped room (around + length (write (seen w.now u ds) t)) }
 {
-    let around = 6 + why_size(place);
     if room < around {
         return room + 1;
     }
-    around + writer::size_type(w, u, t, room - around)
+    around + size_type(w, u, t, room - around)
 }
 
 // How many bytes a failure has, if no more than `room`; else one more than `room`.
@@ -129,66 +124,32 @@ pub fn size_failing(w: &[u32], u: Used, f: Failing, room: u32) -> u32
     ensures { (ds : List d.Struct) → result ≡ capped room (length (failing f (seen w.now u ds))) }
 {
     match f {
-        Failing::Fine => 0,
-        Failing::Node(_, _, t) => {
-            if room < 5 {
-                return room + 1;
-            }
-            5 + writer::size_type(w, u, t, room - 5)
-        }
+        Failing::Node(_, _, t) => size_around(w, u, t, 5, room),
         Failing::Anything(_, _, _) => {
             if room < 10 {
                 return room + 1;
             }
             10
         }
-        Failing::Lacks(_, _, t, place) => size_lacks(w, u, t, place, room),
+        Failing::Lacks(_, _, t, place) => size_around(w, u, t, 6 + why_size(place), room),
     }
 }
 
 // A failure's code and location.
-fn code_head(code: u32, loc: u32) -> Few
-    requires { code < 4 }
-    ensures { FewIs result.n result.bytes (code ∷ bytes-u32 loc) }
+fn put_code(buf: &mut [u8], at: usize, what: Wanted, loc: u32) -> usize
+    requires { at + 5 ≤ length buf.old }
+    ensures { Wrote buf.old at (code_of what ∷ bytes-u32 loc) buf.new result }
 {
-    let k = low(code);
-    let a = low(loc);
-    let b = low(loc / 256);
-    let c = low(loc / 65536);
-    let e = low(loc / 16777216);
-    Few {
-        bytes: [k, a, b, c, e, 0, 0, 0, 0, 0],
-        n: 5,
-    }
+    put_tag(buf, at, what as u8, loc)
 }
 
-// Code, location and ability.
-fn ability_head(loc: u32, ability: u8) -> Few
-    ensures { FewIs result.n result.bytes (4 ∷ bytes-u32 loc ++ (ability ∷ [])) }
-{
-    let a = low(loc);
-    let b = low(loc / 256);
-    let c = low(loc / 65536);
-    let e = low(loc / 16777216);
-    Few {
-        bytes: [4, a, b, c, e, ability, 0, 0, 0, 0],
-        n: 6,
-    }
-}
-
-fn why_of(place: Option<u32>) -> Few
-    requires { FoundIn 8 place }
-    ensures { FewIs result.n result.bytes (why place) }
+fn put_why(buf: &mut [u8], at: usize, place: Option<u32>) -> usize
+    requires { FoundIn 8 place × (at + length (why place) ≤ length buf.old) }
+    ensures { Wrote buf.old at (why place) buf.new result }
 {
     match place {
-        None => Few {
-            bytes: [1, 0, 0, 0, 0, 0, 0, 0, 0, 0],
-            n: 1,
-        },
-        Some(i) => Few {
-            bytes: [2, low(i), 0, 0, 0, 0, 0, 0, 0, 0],
-            n: 2,
-        },
+        None => put_bytes(buf, at, &[1]),
+        Some(i) => put_bytes(buf, at, &[2, i as u8]),
     }
 }
 
@@ -207,11 +168,10 @@ fn write_lacks(
     requires fits { (ds : List d.Struct) → at + length (ability_failure (seen w.now u ds) loc ability (spanned (seen w.now u ds) t) (why place)) ≤ length buf.old }
     ensures { (ds : List d.Struct) → Wrote buf.old at (ability_failure (seen w.now u ds) loc ability (spanned (seen w.now u ds) t) (why place)) buf.new result }
 {
-    let few = ability_head(loc, ability);
-    let next = writer::put_few(buf, at, few);
-    let end = writer::write_type(w, u, t, buf, next);
-    let why = why_of(place);
-    writer::put_few(buf, end, why)
+    let head = put_tag(buf, at, 4, loc);
+    let next = put_bytes(buf, head, &[ability]);
+    let end = write_type(w, u, t, buf, next);
+    put_why(buf, end, place)
 }
 
 pub fn write_failing(w: &[u32], u: Used, f: Failing, buf: &mut [u8], at: usize) -> usize
@@ -220,16 +180,13 @@ pub fn write_failing(w: &[u32], u: Used, f: Failing, buf: &mut [u8], at: usize) 
     ensures { (ds : List d.Struct) → Wrote buf.old at (failing f (seen w.now u ds)) buf.new result }
 {
     match f {
-        Failing::Fine => at,
-        Failing::Node(code, loc, t) => {
-            let few = code_head(code, loc);
-            let next = writer::put_few(buf, at, few);
-            writer::write_type(w, u, t, buf, next)
+        Failing::Node(what, loc, t) => {
+            let next = put_code(buf, at, what, loc);
+            write_type(w, u, t, buf, next)
         }
-        Failing::Anything(code, loc, l) => {
-            let few = code_head(code, loc);
-            let next = writer::put_few(buf, at, few);
-            writer::write_head(l, Shape::Anything, buf, next)
+        Failing::Anything(what, loc, l) => {
+            let next = put_code(buf, at, what, loc);
+            write_head(l, Shape::Anything, buf, next)
         }
         Failing::Lacks(loc, ability, t, place) => {
             write_lacks(w, u, loc, ability, t, place, buf, at)

@@ -1,11 +1,8 @@
 -- Payloads in the buffer, and their lengths. Assumes nothing.
 use mathlib.Core.Path.{◌≡◌, refl, sym, ap, ◌∙◌}
-use mathlib.Core.Bool.{Bool, true, false}
 use mathlib.Core.List.{List, [], ◌++◌}
 use Prim.Native.Nat.{ℕ, ◌+◌, ◌-◌, ◌≤◌, ◌<◌}
 use native.Mathlib.Omega.{arith}
-use borrow.Author.Tests.{leb-true, leb-false}
-use lib.Dec.{leb}
 use native.Mathlib.Nat.{zero-add}
 use lib.ListN.{length, take, drop, length-append}
 use lib.Seq.{take_at}
@@ -14,7 +11,7 @@ use Rattle.definition.specs.Types.{State}
 use Rattle.definition.specs.Write.{Bytes, u16, u32, head, write}
 use Rattle.payload.specs.Payload.{shown}
 use Rattle.payload.specs.declared.Show.{Show}
-use Rattle.payload.specs.declared.Show.TheVariants.{Node}
+use Rattle.payload.specs.declared.Show.TheVariants.{Node, Two}
 use Rattle.writer.specs.Bytes.{put, Wrote, capped}
 use Rattle.writer.proofs.Put.{put_put, put_nothing, capped_is, capped_over, capped_within, capped_beyond, capped_more, length_put}
 
@@ -59,17 +56,6 @@ two_room buf a b buf₁ m h v =
 pub first_room : (a b : Bytes) (n : ℕ) → length (a ++ b) ≤ n → length a ≤ n
 first_room a b n h = let k = length-append a b in omega arith
 
-pub length_location : (loc : ℕ) → length (u32 loc) ≡ 4
-unfolding u32
-length_location loc = refl
-
--- after a number
-pub next_room : (buf bytes buf₁ : List ℕ) (at next x : ℕ) → Wrote buf at bytes buf₁ next → bytes ≡ u32 x → at + 4 ≤ length buf → (next ≡ at + 4) × (length buf₁ ≡ length buf)
-next_room buf bytes buf₁ at next x v e h =
-    let k : length bytes ≡ 4 = ap length e ∙ length_location x in
-    let n = v.next_is in
-    (omega arith, ap length v.is ∙ length_put buf at bytes (omega arith))
-
 -- four numbers, one after the other
 module _ (buf : List ℕ) (fits : 4096 ≤ length buf) (a b c e : ℕ) where
   pub wrote_four : (buf₁ buf₂ buf₃ buf₄ : List ℕ) (k l m n : ℕ) → Wrote buf 0 (u32 a) buf₁ k → Wrote buf₁ k (u32 b) buf₂ l → Wrote buf₂ l (u32 c) buf₃ m → Wrote buf₃ m (u32 e) buf₄ n
@@ -86,9 +72,6 @@ within p size e h = capped_within 4096 (length p) (rw e at h)
 pub beyond : (p : Bytes) (size : ℕ) → size ≡ capped 4096 (length p) → 4096 < size → 4096 < length p
 beyond p size e h = capped_beyond 4096 (length p) (rw e at h)
 
-pub small : (p : Bytes) (n : ℕ) → length p ≡ n → n ≤ 4096 → n ≡ capped 4096 (length p)
-small p n e h = sym (ap (capped 4096) e ∙ capped_is 4096 n h)
-
 pub two_long : (a b : Bytes) (n : ℕ) → n ≡ capped 4096 (length a) → 4096 < n → 4096 + 1 ≡ capped 4096 (length (a ++ b))
 two_long a b n e h =
     let k = length-append a b in
@@ -101,13 +84,6 @@ two_short a b n m e h f =
     let k : n ≡ length a = e ∙ capped_is 4096 (length a) l in
     rw (f, length-append a b, ← k) (capped_more 4096 n (length b) h)
 
-pub at_most : (room n m : ℕ) → m ≡ capped room n → room ≤ 4096 → m ≤ 4097
-at_most room n m e h = either (leb n room) refl
-  where
-    either : (b : Bool) → leb n room ≡ b → m ≤ 4097
-    either true t = let k : m ≡ n = e ∙ capped_is room n (leb-true n room t) in let l = leb-true n room t in omega arith
-    either false t = let k : m ≡ room + 1 = e ∙ capped_over room n (leb-false n room t) in omega arith
-
 pub length_variable : (loc v : ℕ) → length (head loc (d.Var v)) ≡ 7
 unfolding head u32 u16
 length_variable loc v = refl
@@ -115,6 +91,10 @@ length_variable loc v = refl
 pub length_anything : (loc : ℕ) → length (head loc d.Anything) ≡ 5
 unfolding head u32
 length_anything loc = refl
+
+pub types_fit : (show : Show) (t a b : ℕ) (s : State) → show ≡ Two a b → length (shown show t s) ≤ 4096 → length (write s a ++ write s b) ≤ 4096
+unfolding shown
+types_fit show t a b s e h = rw e at h
 
 pub node_fits : (show : Show) (t : ℕ) (s : State) → show ≡ Node → length (shown show t s) ≤ 4096 → length (write s t) ≤ 4096
 unfolding shown

@@ -6,12 +6,13 @@ ghost use Rattle.definition.specs.Types as d;
 ghost use Rattle.definition.specs.Write.{u32 as bytes-u32, write};
 ghost use Rattle.table.specs.State.{view, seen, Lay};
 ghost use Rattle.writer.specs.Bytes.{Wrote, capped, AllBytes};
-ghost use Rattle.payload.specs.Payload.{reply, shown, Shows};
+ghost use Rattle.payload.specs.Payload.{reply, shown, Shows, Paid};
 
 use table::{Shape, Used, tvar};
-use writer::{put_few, size_type, u16_of, u32_of, write_head, write_type};
+use writer::{put_u16, put_u32, size_type, write_head, write_type};
 
-// What the payload of a success shows of its number: nothing, the number, the variable at a location, the type of the node, `_` at a location, or four other numbers.
+// What a payload shows: nothing, the number of a success, the variable of that number at a location, the type of the node of that number, `_` at a
+// location, a location, two types, or four other numbers.
 #[derive(Clone, Copy)]
 pub enum Show {
     Nothing,
@@ -19,6 +20,8 @@ pub enum Show {
     Variable(u32),
     Node,
     Anything(u32),
+    Location(u32),
+    Two(u32, u32),
     Four(u32, u32, u32, u32),
 }
 
@@ -35,22 +38,7 @@ pub const MAX_PAYLOAD: u32 = 4096;
 
 // ---- the payload
 
-// How many bytes, if no more than 4,096; else 4,097.
-pub fn shown_size(w: &[u32], u: Used, show: Show, t: u32) -> u32
-    requires { Lay w.now u × Shows u show t }
-    ensures { (ds : List d.Struct) → result ≡ capped 4096 (length (shown show t (seen w.now u ds))) }
-{
-    match show {
-        Show::Nothing => 0,
-        Show::Number => 2,
-        Show::Variable(_) => 7,
-        Show::Node => size_type(w, u, t, MAX_PAYLOAD),
-        Show::Anything(_) => 5,
-        Show::Four(_, _, _, _) => 16,
-    }
-}
-
-pub fn two_size(w: &[u32], u: Used, a: u32, b: u32) -> u32
+fn two_size(w: &[u32], u: Used, a: u32, b: u32) -> u32
     requires { Lay w.now u × ((a < u.nodes) × (b < u.nodes)) }
     ensures { (ds : List d.Struct) → result ≡ capped 4096 (length (write (seen w.now u ds) a ++ write (seen w.now u ds) b)) }
 {
@@ -62,32 +50,25 @@ pub fn two_size(w: &[u32], u: Used, a: u32, b: u32) -> u32
     n + m
 }
 
-pub fn write_four(a: u32, b: u32, c: u32, e: u32, buf: &mut [u8]) -> usize
-    requires { 4096 ≤ length buf.old }
-    ensures { Wrote buf.old 0 (bytes-u32 a ++ bytes-u32 b ++ bytes-u32 c ++ bytes-u32 e) buf.new result }
-{
-    let second = put_few(buf, 0, u32_of(a));
-    let third = put_few(buf, second, u32_of(b));
-    let fourth = put_few(buf, third, u32_of(c));
-    put_few(buf, fourth, u32_of(e))
-}
-
-pub fn write_shown(w: &[u32], u: Used, show: Show, t: u32, buf: &mut [u8]) -> usize
-    requires lay { Lay w.now u × (Shows u show t × (AllBytes (view w.now u) × (4096 ≤ length buf.old))) }
-    requires fits { (ds : List d.Struct) → length (shown show t (seen w.now u ds)) ≤ 4096 }
-    ensures { (ds : List d.Struct) → Wrote buf.old 0 (shown show t (seen w.now u ds)) buf.new result }
+// How many bytes, if no more than 4,096; else 4,097.
+#[tactic(auto, unfolding(crate::specs::Payload::shown, writer::specs::Bytes::capped, definition::specs::Write::u16, definition::specs::Write::u32, definition::specs::Write::head))]
+fn shown_size(w: &[u32], u: Used, show: Show, t: u32) -> u32
+    requires { Lay w.now u × Shows u show t }
+    ensures { (ds : List d.Struct) → result ≡ capped 4096 (length (shown show t (seen w.now u ds))) }
 {
     match show {
         Show::Nothing => 0,
-        Show::Number => put_few(buf, 0, u16_of(t)),
-        Show::Variable(loc) => write_head(loc, Shape::Var(tvar(t)), buf, 0),
-        Show::Node => write_type(w, u, t, buf, 0),
-        Show::Anything(loc) => write_head(loc, Shape::Anything, buf, 0),
-        Show::Four(a, b, c, e) => write_four(a, b, c, e, buf),
+        Show::Number => 2,
+        Show::Variable(_) => 7,
+        Show::Node => size_type(w, u, t, MAX_PAYLOAD),
+        Show::Anything(_) => 5,
+        Show::Location(_) => 4,
+        Show::Two(a, b) => two_size(w, u, a, b),
+        Show::Four(_, _, _, _) => 16,
     }
 }
 
-pub fn write_two(w: &[u32], u: Used, a: u32, b: u32, buf: &mut [u8]) -> usize
+fn write_two(w: &[u32], u: Used, a: u32, b: u32, buf: &mut [u8]) -> usize
     requires lay { Lay w.now u × ((a < u.nodes) × ((b < u.nodes) × (AllBytes (view w.now u) × (4096 ≤ length buf.old)))) }
     requires fits { (ds : List d.Struct) → length (write (seen w.now u ds) a ++ write (seen w.now u ds) b) ≤ 4096 }
     ensures { (ds : List d.Struct) → Wrote buf.old 0 (write (seen w.now u ds) a ++ write (seen w.now u ds) b) buf.new result }
@@ -96,11 +77,43 @@ pub fn write_two(w: &[u32], u: Used, a: u32, b: u32, buf: &mut [u8]) -> usize
     write_type(w, u, b, buf, next)
 }
 
-pub fn write_location(loc: u32, buf: &mut [u8]) -> usize
+#[tactic(auto, unfolding(definition::specs::Write::u32))]
+fn write_four(a: u32, b: u32, c: u32, e: u32, buf: &mut [u8]) -> usize
     requires { 4096 ≤ length buf.old }
-    ensures { Wrote buf.old 0 (bytes-u32 loc) buf.new result }
+    ensures { Wrote buf.old 0 (bytes-u32 a ++ bytes-u32 b ++ bytes-u32 c ++ bytes-u32 e) buf.new result }
 {
-    put_few(buf, 0, u32_of(loc))
+    let second = put_u32(buf, 0, a);
+    let third = put_u32(buf, second, b);
+    let fourth = put_u32(buf, third, c);
+    put_u32(buf, fourth, e)
+}
+
+fn write_shown(w: &[u32], u: Used, show: Show, t: u32, buf: &mut [u8]) -> usize
+    requires lay { Lay w.now u × (Shows u show t × (AllBytes (view w.now u) × (4096 ≤ length buf.old))) }
+    requires fits { (ds : List d.Struct) → length (shown show t (seen w.now u ds)) ≤ 4096 }
+    ensures { (ds : List d.Struct) → Wrote buf.old 0 (shown show t (seen w.now u ds)) buf.new result }
+{
+    match show {
+        Show::Nothing => 0,
+        Show::Number => put_u16(buf, 0, t),
+        Show::Variable(loc) => write_head(loc, Shape::Var(tvar(t)), buf, 0),
+        Show::Node => write_type(w, u, t, buf, 0),
+        Show::Anything(loc) => write_head(loc, Shape::Anything, buf, 0),
+        Show::Location(loc) => put_u32(buf, 0, loc),
+        Show::Two(a, b) => write_two(w, u, a, b, buf),
+        Show::Four(a, b, c, e) => write_four(a, b, c, e, buf),
+    }
+}
+
+// The payload, if it has no more than 4,096 bytes, and how many. It is sized first: else the buffer stays as it was.
+pub fn write_payload(w: &[u32], u: Used, show: Show, t: u32, buf: &mut [u8]) -> Option<usize>
+    requires { Lay w.now u × (Shows u show t × (AllBytes (view w.now u) × (4096 ≤ length buf.old))) }
+    ensures { (ds : List d.Struct) → Paid (shown show t (seen w.now u ds)) buf.old buf.new result }
+{
+    if MAX_PAYLOAD < shown_size(w, u, show, t) {
+        return None;
+    }
+    Some(write_shown(w, u, show, t, buf))
 }
 
 // ---- the state

@@ -228,13 +228,6 @@ module _ {w : List ℕ} {u : Used} {w' : List ℕ} (a : Outcome) where
       follows : (s before : State) → (pushed_constraint k s >>= shows true NothingS before) ≡ constraint_run k s before
       follows s before = go before (add_constraint s k)
 
--- a byte that is neither 1 nor 2
-pub kind_numeric : (b : ℕ) → (b ≡ 1 → ⊥) → (b ≡ 2 → ⊥) → Numeric ≡ kind_at b
-kind_numeric zero p q = refl
-kind_numeric (suc zero) p q = absurd (p refl)
-kind_numeric (suc (suc zero)) p q = absurd (q refl)
-kind_numeric (suc (suc (suc b))) p q = refl
-
 -- ---- SN
 
 pub ran_set_num : (w : List ℕ) (u : Used) (w' : List ℕ) (v loc : ℕ) → Stored w u w' (λ s. set_num_var s v loc) → Runs Any w u w' (record { out = Done 0; used = u; show = NothingS; kept = true }) true (set_num_in v loc) (set_num_run v loc)

@@ -29,11 +29,9 @@ use table::{Out, Outcome, Refusal, Used};
 fn shown(a: Outcome, show: Show, kept: bool) -> Ran
     ensures { result ≡ record { out = a.out; used = a.used; show = show; kept = kept } }
 {
-    let o = a.out;
-    let u = a.used;
     Ran {
-        out: o,
-        used: u,
+        out: a.out,
+        used: a.used,
         show,
         kept,
     }
@@ -45,14 +43,8 @@ pub fn run_two(w: &mut [u32], u: Used, m: TwoMark, lhs: u32, rhs: u32) -> Ran
     ensures { Runs Any w.old u w.new result true (λ s. join_in (two_case m) s lhs rhs) (two_run (two_case m) lhs rhs) }
 {
     match m {
-        TwoMark::JN => {
-            let a = join::join(w, u, lhs, rhs);
-            shown(a, Show::Node, true)
-        }
-        TwoMark::SU => {
-            let a = join::subtype(w, u, lhs, rhs);
-            shown(a, Show::Node, true)
-        }
+        TwoMark::JN => shown(join::join(w, u, lhs, rhs), Show::Node, true),
+        TwoMark::SU => shown(join::subtype(w, u, lhs, rhs), Show::Node, true),
     }
 }
 
@@ -166,13 +158,11 @@ pub fn run_set_num(w: &mut [u32], u: Used, v: TVar, loc: u32) -> Ran
 fn kind_of(kind: u32) -> NumericKind
     ensures { kind_of result ≡ kind_at kind }
 {
-    if kind == 1 {
-        return NumericKind::Bits;
+    match kind {
+        1 => NumericKind::Bits,
+        2 => NumericKind::Ordered,
+        _ => NumericKind::Numeric,
     }
-    if kind == 2 {
-        return NumericKind::Ordered;
-    }
-    NumericKind::Numeric
 }
 
 // NC, BC, SC: a constraint is listed.

@@ -2,16 +2,16 @@
 use mathlib.Core.Path.{◌≡◌, refl, sym, ap, ◌∙◌}
 use mathlib.Core.Bool.{true, false}
 use mathlib.Core.List.{List, []}
-use Rattle.std.specs.Prelude.{None, Some, Option}
+use Rattle.std.specs.Prelude.{None, Some, Option, Ok, Err}
 use Prim.Native.Nat.{ℕ, ◌≤◌, ◌<◌}
 use native.Mathlib.Omega.{arith}
 use borrow.Author.Tests.{le-leb, lt-leb}
 use lib.ListN.{length}
-use Rattle.definition.specs.Types.{State, Struct, ok, refused, Refusal, answer_too_long, runs_into_itself, mark_contradicted}
+use Rattle.definition.specs.Types.{State, Struct, ok, refused, Refusal, answer_too_long}
 use Rattle.definition.specs.Store.{with_constraints, with_structs}
 use Rattle.definition.specs.Constraints.{num_vars, default_num_vars, failures, hindrance, solve_all}
 use Rattle.definition.specs.Step as step
-use Rattle.definition.specs.Step.{answer, answer_with, refusal, max_payload, number_of_refusal}
+use Rattle.definition.specs.Step.{answer, answer_with, refusal, max_payload}
 use Rattle.table.specs.State.{done, view, seen, Lay}
 use Rattle.table.specs.Known.{Known, Declared}
 use Rattle.table.specs.declared.Used.{Used}
@@ -23,7 +23,8 @@ use Rattle.table.proofs.Steps.{then_is}
 use Rattle.constraints.specs.Solve.{numbered, Answered}
 use Rattle.constraints.specs.Emptied.{Emptied}
 use Rattle.constraints.proofs.Solved.{goes_on, unsolved}
-use Rattle.abilities.specs.Rules.{AllKept, any_asks, refusal_of, Number, clear, nine, sixteen, Hindered}
+use Rattle.abilities.specs.Rules.{AllKept, any_asks, refusal_of, Hindered}
+use Rattle.abilities.specs.declared.Hindrance.{Hindrance}
 use Rattle.abilities.proofs.Asking.{asks_clear}
 use Rattle.writer.specs.Bytes.{Wrote, capped}
 use Rattle.payload.specs.Payload.{shown}
@@ -110,36 +111,17 @@ module _ (w : List ℕ) (u : Used) (params : List (List ℕ)) (size : ℕ) (size
 -- ---- 9 and 16
 
 module _ {w : List ℕ} {u before : Used} {params : List (List ℕ)} {saved buf w' buf' : List ℕ} {r : Answer} where
-  module _ {sets sets' : List ℕ} {h : ℕ} (c : Hindered w u params sets sets' h (λ s. hindrance s s.constraints) (λ l. AllKept l (view w u).constraints)) where
-    pub abilities_clear : h ≡ 0 → Reports w u before params saved buf w' buf' r reported → Reports w u before params saved buf w' buf' r solved
-    abilities_clear e a = by h e c.number c.is
-      where
-        by : (h : ℕ) → h ≡ 0 → Number h → ((ds : List Struct) → Known w u params ds → hindrance (seen w u ds) (seen w u ds).constraints ≡ refusal_of h) → Reports w u before params saved buf w' buf' r solved
-        by h e clear is = reports_is solved (λ ds k s. solved_clear (seen w u ds) s (is ds k)) a
-        by h e nine is = absurd (omega arith)
-        by h e sixteen is = absurd (omega arith)
+  pub abilities_clear : {sets sets' : List ℕ} → Hindered w u params sets sets' (Ok tt) (λ s. hindrance s s.constraints) (λ l. AllKept l (view w u).constraints)
+      → Reports w u before params saved buf w' buf' r reported → Reports w u before params saved buf w' buf' r solved
+  abilities_clear c a = reports_is solved (λ ds k s. solved_clear (seen w u ds) s (c.is ds k)) a
+
+  pub abilities_refused : {sets sets' : List ℕ} (h : Hindrance) → Hindered w u params sets sets' (Err h) (λ s. hindrance s s.constraints) (λ l. AllKept l (view w u).constraints)
+      → Answers w u before saved buf w' buf' r (refused_by (refusal_of h)) → Reports w u before params saved buf w' buf' r solved
+  abilities_refused h c a = reports_is solved (λ ds k s. solved_refused (seen w u ds) s (refusal_of h) (c.is ds k)) (reports_all a)
 
   pub plain_clear : any_asks (view w u).constraints ≡ false → Reports w u before params saved buf w' buf' r reported → Reports w u before params saved buf w' buf' r solved
   unfolding seen with_structs
   plain_clear e a = reports_is solved (λ ds k s. solved_clear (seen w u ds) s (asks_clear (seen w u ds) (view w u).constraints e)) a
-
-module _ {w : List ℕ} {u before : Used} {params : List (List ℕ)} {saved w' : List ℕ} {r : Answer} {sets sets' : List ℕ} {h : ℕ} where
-  -- the record is refused with the number
-  pub abilities_refused : Hindered w u params sets sets' h (λ s. hindrance s s.constraints) (λ l. AllKept l (view w u).constraints) → 0 < h
-      → (buf : List ℕ) → ((x : Refusal) (buf : List ℕ) → number_of_refusal x ≡ h → Answers w u before saved buf w' buf r (refused_by x)) → Reports w u before params saved buf w' buf r solved
-  unfolding number_of_refusal
-  abilities_refused c p buf a = by h p c.number c.is a
-    where
-      Is : ℕ → Type 0
-      Is n = (ds : List Struct) → Known w u params ds → hindrance (seen w u ds) (seen w u ds).constraints ≡ refusal_of n
-
-      refused_with : (x : Refusal) → ((ds : List Struct) → Known w u params ds → hindrance (seen w u ds) (seen w u ds).constraints ≡ Some x) → Answers w u before saved buf w' buf r (refused_by x) → Reports w u before params saved buf w' buf r solved
-      refused_with x is y = reports_is solved (λ ds k s. solved_refused (seen w u ds) s x (is ds k)) (reports_all y)
-
-      by : (n : ℕ) → 0 < n → Number n → Is n → ((x : Refusal) (b : List ℕ) → number_of_refusal x ≡ n → Answers w u before saved b w' b r (refused_by x)) → Reports w u before params saved buf w' buf r solved
-      by n p clear is y = absurd (omega arith)
-      by n p nine is y = refused_with runs_into_itself is (y runs_into_itself buf refl)
-      by n p sixteen is y = refused_with mark_contradicted is (y mark_contradicted buf refl)
 
 -- ---- from the state at entry
 

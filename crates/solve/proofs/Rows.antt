@@ -1,6 +1,6 @@
 -- The failures of a constraint in four rows, and of a list of constraints, as pieces. Assumes nothing.
 use mathlib.Core.Path.{◌≡◌, refl, sym, ap, ◌∙◌, subst}
-use mathlib.Core.List.{List, [], ◌∷◌, ◌++◌}
+use mathlib.Core.List.{List, [], ◌++◌}
 use Prim.Native.Nat.{ℕ, zero, suc, ◌+◌, ◌≤◌, ◌<◌}
 use native.Mathlib.Omega.{arith}
 use native.Mathlib.Numerals.{add-one}
@@ -8,7 +8,7 @@ use lib.ListN.{length, get_or, drop, drop_of_length-le}
 use lib.Seq.{drop-cons}
 use lib.Dec.{eqb}
 use Rattle.definition.specs.Types as d
-use Rattle.std.specs.Prelude.{if◌then◌else◌}
+use Rattle.std.specs.Prelude.{if◌then◌else◌, Option}
 use Rattle.definition.specs.Types.{State, Struct, Constraint}
 use Rattle.definition.specs.Store.{with_structs}
 use Rattle.definition.specs.Abilities.{all, has}
@@ -19,9 +19,10 @@ use Rattle.table.specs.State.{view, seen}
 use Rattle.table.specs.Known.{Known}
 use Rattle.table.specs.declared.Used.{Used}
 use Rattle.table.proofs.Pushed.{count_view, constraints_view, constraints_seen}
-use Rattle.failing.specs.Failing.{failing, TyIn}
+use Rattle.failing.specs.Failing.{report, TyIn}
 use Rattle.constraints.specs.Lacking.{row, IsAbility, Lacking, AskedReady, AllReady}
 use Rattle.failing.specs.declared.Failing.{Failing}
+use Rattle.abilities.proofs.Laws.{four}
 use Rattle.constraints.proofs.Lacks.{four_rows}
 use Rattle.solve.specs.Report.{TysIn, row_count}
 use Rattle.failing.proofs.Series.{Pieces}
@@ -41,9 +42,6 @@ module _ (w : List ℕ) (u : Used) (i : ℕ) (c : Constraint) (lt : i < u.constr
   ready_in params sets h = rw (e []) (h i (rw (constraints_view w u) lt))
 
 -- ---- four rows, of which some may hold a failure
-
-abbrev pub four : List ℕ
-four = 1 ∷ 2 ∷ 4 ∷ 8 ∷ []
 
 pub is_ability : (k : ℕ) → k < 4 → IsAbility (get_or four k 0)
 unfolding has all
@@ -97,8 +95,8 @@ module _ (w : List ℕ) (u : Used) (c : Constraint) where
     none = λ ds i le. after_rows (seen w u ds) c i (omega (arith, h.0));
   }
 
-  pub row_is : (params : List (List ℕ)) (f : Failing) (ability i : ℕ) → Lacking w u params f (λ s. row s c ability) → ability ≡ get_or four i 0
-      → (ds : List Struct) → Known w u params ds → failing f (seen w u ds) ≡ one_row ds i
+  pub row_is : (params : List (List ℕ)) (f : Option Failing) (ability i : ℕ) → Lacking w u params f (λ s. row s c ability) → ability ≡ get_or four i 0
+      → (ds : List Struct) → Known w u params ds → report f (seen w u ds) ≡ one_row ds i
   unfolding one_row
   row_is params f ability i h e ds k = h.is ds k ∙ ap (row (seen w u ds) c) e
 

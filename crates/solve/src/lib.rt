@@ -6,6 +6,8 @@ ghost use Rattle.std.specs.Prelude.{◌≤◌, ◌+◌, ◌<◌, length, get_or,
 ghost use Rattle.table.specs.State.{Lay, view, constraint_of, seen};
 ghost use Rattle.table.specs.Known.{Declared, Known};
 ghost use Rattle.snapshot.specs.Snap.{Above, Saved};
+ghost use Rattle.abilities.specs.Rules.{refusal_of};
+ghost use Rattle.answer.specs.Ran.{refusal_for};
 ghost use Rattle.failing.specs.Failing.{TyIn};
 ghost use Rattle.constraints.specs.Lacking.{AllReady, IsAbility, AskedReady};
 ghost use Rattle.writer.specs.Bytes.{AllBytes, capped, Wrote};
@@ -14,33 +16,30 @@ ghost use Rattle.solve.specs.Solves.{HoldsSound, solved, reported, Reports, Solv
 ghost use Rattle.definition.specs.Types as d;
 ghost use Rattle.definition.specs.Constraints.{solve_constraint, failures};
 
-use answer::Ran;
+use abilities::{ABILITIES, Hindrance};
+use answer::{Ran, Reason, number_of, refuse};
+use constraints::row_of;
 use failing::{size_failing, write_failing};
 use payload::{Answer, MAX_PAYLOAD, Show, as_left};
-use table::{Constraint, Used};
+use table::{Constraint, Refusal, Used};
 
 // ---- the payload: the failures in bytes, sized first and then written
 
-// copy, drop, store, key
 fn ability_at(k: usize) -> u8
     requires { k < 4 }
     ensures { IsAbility result × (result ≡ get_or (1 ∷ 2 ∷ 4 ∷ 8 ∷ []) k 0) }
 {
-    let abilities: [u8; 4] = [1, 2, 4, 8];
-    abilities[k]
+    ABILITIES[k]
 }
 
 // How many rows may hold a failure: a constraint that asks for no abilities has its own in the first.
 fn row_count(c: Constraint) -> usize
     ensures { (result ≡ row_count (constraint_of c)) × (result ≤ 4) }
 {
-    match c {
-        Constraint::Ability(_, _, _) => 4,
-        Constraint::Numeric(_, _) => 1,
-        Constraint::Bits(_, _) => 1,
-        Constraint::Ordered(_, _) => 1,
-        Constraint::BaseType(_, _) => 1,
-        Constraint::SingleType(_, _) => 1,
+    if matches!(c, Constraint::Ability(_, _, _)) {
+        4
+    } else {
+        1
     }
 }
 
@@ -58,14 +57,14 @@ fn size_constraint(
 {
     let n = row_count(c);
     let mut size: u32 = 0;
-    let mut k: usize = 0;
-    while k < n {
-        let f = constraints::row_of(w, u, params, sets, c, ability_at(k));
+    for k in 0..n {
+        let Some(f) = row_of(w, u, params, sets, c, ability_at(k)) else {
+            continue;
+        };
         size = size + size_failing(w, u, f, room - size);
         if room < size {
             return room + 1;
         }
-        k = k + 1;
     }
     size
 }
@@ -75,16 +74,13 @@ fn size_failures(w: &[u32], u: Used, params: &[[u8; 8]; 256], sets: &[u32]) -> u
     requires { Lay w.now u × (TysIn (view w.now u) × AllReady w.now u params.now sets.now (view w.now u).constraints) }
     ensures { (ds : List d.Struct) → Known w.now u params.now ds → result ≡ capped 4096 (length (failures (seen w.now u ds) (seen w.now u ds).constraints)) }
 {
-    let n = u.constraints;
     let mut size: u32 = 0;
-    let mut i: u32 = 0;
-    while i < n {
+    for i in 0..u.constraints {
         let c = table::constraint_at(w, u, i);
         size = size + size_constraint(w, u, params, sets, c, 4096 - size);
         if 4096 < size {
             return 4097;
         }
-        i = i + 1;
     }
     size
 }
@@ -105,11 +101,11 @@ fn write_constraint(
 {
     let n = row_count(c);
     let mut next = at;
-    let mut k: usize = 0;
-    while k < n {
-        let f = constraints::row_of(w, u, params, sets, c, ability_at(k));
+    for k in 0..n {
+        let Some(f) = row_of(w, u, params, sets, c, ability_at(k)) else {
+            continue;
+        };
         next = write_failing(w, u, f, buf, next);
-        k = k + 1;
     }
     next
 }
@@ -126,13 +122,10 @@ fn write_failures(
     requires fits { (ds : List d.Struct) → Known w.now u params.now ds → length (failures (seen w.now u ds) (seen w.now u ds).constraints) ≤ length buf.old }
     ensures { (ds : List d.Struct) → Known w.now u params.now ds → Wrote buf.old 0 (failures (seen w.now u ds) (seen w.now u ds).constraints) buf.new result }
 {
-    let n = u.constraints;
     let mut next: usize = 0;
-    let mut i: u32 = 0;
-    while i < n {
+    for i in 0..u.constraints {
         let c = table::constraint_at(w, u, i);
         next = write_constraint(w, u, params, sets, c, buf, next);
-        i = i + 1;
     }
     next
 }
@@ -155,11 +148,20 @@ fn report_failures(
 {
     let size = size_failures(w, u, params, sets);
     if MAX_PAYLOAD < size {
-        return answer::refuse(w, u, before, saved, 14);
+        return refuse(w, u, before, saved, number_of(Reason::TooLong));
     }
     let len = write_failures(w, u, params, sets, buf);
     let left = constraints::take_constraints(w, u);
     as_left(left, 0, len)
+}
+
+fn reason_of(h: Hindrance) -> Reason
+    ensures { refusal_for result ≡ refusal_of h }
+{
+    match h {
+        Hindrance::RunsIntoItself => Reason::Step(Refusal::RunsIntoItself),
+        Hindrance::MarkContradicted => Reason::MarkContradicted,
+    }
 }
 
 // 9 or 16 before anything is sized. Levels and sets are kept for each node, so that each is looked at once for all constraints.
@@ -177,11 +179,10 @@ fn solve_abilities(
 {
     let mut heights: [u16; 2048] = [0; 2048];
     let mut sets: [u32; 2048] = [0; 2048];
-    let h = abilities::hinders(w, u, params, &mut heights, &mut sets);
-    if 0 < h {
-        return answer::refuse(w, u, before, saved, h);
+    match abilities::hinders(w, u, params, &mut heights, &mut sets) {
+        Ok(()) => report_failures(w, u, before, params, &sets, saved, buf),
+        Err(h) => refuse(w, u, before, saved, number_of(reason_of(h))),
     }
-    report_failures(w, u, before, params, &sets, saved, buf)
 }
 
 // The tables are made only where an ability is asked for.

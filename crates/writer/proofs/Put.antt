@@ -1,6 +1,6 @@
 -- Bytes put one after the other, and lengths with a limit. Assumes nothing.
 -- By lists cut where the bytes are put: what stands before and after is kept, and the lengths add up.
-use mathlib.Core.Path.{◌≡◌, refl, sym, ap, ◌∙◌}
+use mathlib.Core.Path.{◌≡◌, refl, sym, ap, ◌∙◌, subst}
 use mathlib.Core.Bool.{Bool, true, false}
 use mathlib.Core.List.{List, [], ◌++◌, append_assoc, append-nil}
 use Prim.Native.Nat.{ℕ, ◌+◌, ◌-◌, ◌≤◌, ◌<◌}
@@ -9,10 +9,12 @@ use borrow.Author.Tests.{le-leb, lt-leb, leb-true, leb-false}
 use lib.Dec.{leb}
 use native.Mathlib.Nat.{add-zero}
 use native.Mathlib.Numerals.{add-one}
-use lib.ListN.{length, get_or, set, length-set, take, drop, length-append, length-drop, take-append-drop}
-use lib.Seq.{paste, paste-zero, paste-suc, take_at, drop-drop, drop-append-add, length-take-le}
+use lib.ListN.{length, take, drop, length-append, length-drop, take-append-drop}
+use lib.Seq.{take_all, take_at, drop-drop, drop-append-add, length-take-le}
+use borrow.Rule.Slice.PartMut.{put_mid}
+use Rattle.std.proofs.lemmas.Slice.{put_mid-paste}
 use Rattle.definition.specs.Write.{Bytes}
-use Rattle.writer.specs.Bytes.{put, capped, Wrote, FewIs}
+use Rattle.writer.specs.Bytes.{put, capped, Wrote}
 
 pub length_put : (buf : List ℕ) (at : ℕ) (bytes : Bytes) → at + length bytes ≤ length buf → length (put buf at bytes) ≡ length buf
 unfolding put
@@ -62,6 +64,13 @@ capped_beyond room n h = either (leb n room) refl
     either true e = let o : capped room n ≡ n = capped_is room n (leb-true n room e) in omega arith
     either false e = leb-false n room e
 
+pub capped_small : (room n k : ℕ) → k ≡ capped room n → k ≤ room + 1
+capped_small room n k e = either (leb n room) refl
+  where
+    either : (b : Bool) → leb n room ≡ b → k ≤ room + 1
+    either true t = let c : capped room n ≡ n = capped_is room n (leb-true n room t) in let l : n ≤ room = leb-true n room t in omega (arith, e)
+    either false t = let c : capped room n ≡ room + 1 = capped_over room n (leb-false n room t) in omega (arith, e)
+
 -- a further part, of which there is room for what is left
 pub capped_more : (room a b : ℕ) → a ≤ room → a + capped (room - a) b ≡ capped room (a + b)
 capped_more room a b h = either (leb b (room - a)) refl
@@ -74,31 +83,38 @@ capped_more room a b h = either (leb b (room - a)) refl
         let l : room - a < b = leb-false b (room - a) e in
         rw (capped_over (room - a) b l, capped_over room (a + b) (omega arith)) (omega arith)
 
--- ---- a loop that copies k of n bytes
+-- ---- written
 
-pub record Copying (buf₀ : List ℕ) (at n : ℕ) (bytes buf : List ℕ) (k : ℕ) : Type 0 where
-  pub some_left : k ≤ n
-  pub size : length buf ≡ length buf₀
-  pub is : buf ≡ paste buf₀ at bytes k
+-- into a part of the buffer
+pub wrote_mid : (buf : List ℕ) (at : ℕ) (bytes mid : List ℕ) → at + length bytes ≤ length buf → mid ≡ bytes → Wrote buf at bytes (put_mid at (at + length bytes - at) buf mid) (at + length bytes)
+unfolding put
+wrote_mid buf at bytes mid h e = record { next_is = refl; is = put_mid-paste at (at + length bytes - at) buf mid bytes (length bytes) e (omega arith) refl ∙ rw (take_all (length bytes) bytes (omega arith)) refl }
 
-pub copy_none : (buf₀ : List ℕ) (at n : ℕ) (bytes : List ℕ) → Copying buf₀ at n bytes buf₀ 0
-copy_none buf₀ at n bytes = record { some_left = omega arith; size = refl; is = paste-zero buf₀ at bytes }
-
-pub copy_more : (buf₀ : List ℕ) (at n : ℕ) (bytes buf : List ℕ) (k : ℕ) → Copying buf₀ at n bytes buf k → k < n → at + n ≤ length buf₀ → n ≤ length bytes
-    → Copying buf₀ at n bytes (set buf (at + k) (get_or bytes k 0)) (k + 1)
-copy_more buf₀ at n bytes buf k c h b l =
+-- one run of bytes after another
+pub wrote_wrote : (buf : List ℕ) (at : ℕ) (a : Bytes) (buf₁ : List ℕ) (n₁ : ℕ) (b : Bytes) (buf₂ : List ℕ) (n₂ : ℕ)
+    → at + length a ≤ length buf → Wrote buf at a buf₁ n₁ → Wrote buf₁ n₁ b buf₂ n₂ → Wrote buf at (a ++ b) buf₂ n₂
+wrote_wrote buf at a buf₁ n₁ b buf₂ n₂ le x y =
     record {
-      some_left = omega arith;
-      size = length-set buf (at + k) (get_or bytes k 0) ∙ c.size;
-      is = ap (λ (x : List ℕ). set x (at + k) (get_or bytes k 0)) c.is ∙ rw add-one (paste-suc buf₀ at bytes k 0 (omega arith) (omega arith));
+      next_is = y.next_is ∙ ap (λ (k : ℕ). k + length b) x.next_is ∙ (let e = length-append a b in omega (arith, e));
+      is = y.is ∙ ap (λ (l : List ℕ). put l n₁ b) x.is ∙ ap (λ (k : ℕ). put (put buf at a) k b) x.next_is ∙ put_put buf at a b le;
     }
 
-pub copied : (buf₀ : List ℕ) (at n : ℕ) (bytes buf : List ℕ) (k : ℕ) → Copying buf₀ at n bytes buf k → n ≤ k → n ≤ length bytes → Wrote buf₀ at (take n bytes) buf (at + n)
-unfolding put
-copied buf₀ at n bytes buf k c h l =
-    let e : k ≡ n = (let x = c.some_left in omega arith) in
-    let m : length (take n bytes) ≡ n = length-take-le n bytes l in
-    record { next_is = rw m; is = rw m (rw e at c.is) }
+pub wrote_length : (buf : List ℕ) (at : ℕ) (a : Bytes) (buf' : List ℕ) (n : ℕ) → at + length a ≤ length buf → Wrote buf at a buf' n → length buf' ≡ length buf
+wrote_length buf at a buf' n le h = ap length h.is ∙ length_put buf at a le
 
-pub few_length : (n : ℕ) (bytes : List ℕ) (x : Bytes) → FewIs n bytes x → length bytes ≡ 10 → length x ≡ n
-few_length n bytes x f l = ap length (sym f.first) ∙ length-take-le n bytes (let y = f.few in omega arith)
+pub record Joined (a b whole : Bytes) : Type 0 where
+  pub is : a ++ b ≡ whole
+
+module _ (a b whole : Bytes) (j : Joined a b whole) where
+  lengths : length a + length b ≡ length whole
+  lengths = sym (length-append a b) ∙ ap length j.is
+
+  pub first_fits : (at m : ℕ) → at + length whole ≤ m → at + length a ≤ m
+  first_fits at m fits = omega (arith, lengths)
+
+  module _ (buf : List ℕ) (at : ℕ) (fits : at + length whole ≤ length buf) (buf₁ : List ℕ) (next : ℕ) (h : Wrote buf at a buf₁ next) where
+    pub rest_fits : next + length b ≤ length buf₁
+    rest_fits = let l = wrote_length buf at a buf₁ next (first_fits at (length buf) fits) h in omega (arith, lengths, h.next_is, l)
+
+    pub both_wrote : (buf₂ : List ℕ) (end : ℕ) → Wrote buf₁ next b buf₂ end → Wrote buf at whole buf₂ end
+    both_wrote buf₂ end g = subst (λ (x : Bytes). Wrote buf at x buf₂ end) j.is (wrote_wrote buf at a buf₁ next b buf₂ end (first_fits at (length buf) fits) h g)

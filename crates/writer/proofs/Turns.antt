@@ -20,7 +20,7 @@ use Rattle.table.specs.declared.Used.{Used}
 use Rattle.shapes.specs.Parts.{part_count}
 use Rattle.shapes.proofs.Nodes.{At, counted, inside_seen, many_parts, part_is}
 use Rattle.writer.specs.Bytes.{put, Wrote, capped, ByteFields, AllBytes}
-use Rattle.writer.proofs.Put.{length_put, put_put, capped_is, capped_over, capped_within, capped_beyond, capped_more}
+use Rattle.writer.proofs.Put.{length_put, put_put, capped_is, capped_over, capped_within, capped_beyond, capped_more, capped_small}
 use Rattle.writer.proofs.Walk.{front, front_none, front_more, front_all, front_fits}
 
 -- ---- the bytes of a node up to its part i
@@ -75,15 +75,8 @@ exact room size n l e =
     let c : capped room n ≡ n = capped_is room n b in
     omega arith
 
-capped_small : (room n : ℕ) → capped room n ≤ room + 1
-capped_small room n = either (leb n room) refl
-  where
-    either : (b : Bool) → leb n room ≡ b → capped room n ≤ room + 1
-    either true e = let c : capped room n ≡ n = capped_is room n (leb-true n room e) in let l : n ≤ room = leb-true n room e in omega arith
-    either false e = let c : capped room n ≡ room + 1 = capped_over room n (leb-false n room e) in omega arith
-
 pub part_small : (w : List ℕ) (u : Used) (p room k : ℕ) → ((ds : List Struct) → k ≡ capped room (length (write (seen w u ds) p))) → k ≤ room + 1
-part_small w u p room k e = rw (e []) (capped_small room (length (write (seen w u []) p)))
+part_small w u p room k e = capped_small room (length (write (seen w u []) p)) k (e [])
 
 capped_again : (room n : ℕ) → capped room (capped room n) ≡ capped room n
 capped_again room n = either (leb n room) refl

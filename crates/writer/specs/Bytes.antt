@@ -1,5 +1,5 @@
 -- Bytes in a buffer, a length with a limit, and the fields that must be bytes. Assumes nothing: these are definitions.
-use Rattle.std.specs.Prelude.{◌≡◌, List, ◌++◌, ℕ, suc, ◌+◌, ◌<◌, ◌≤◌, length, take, drop, leb, if◌then◌else◌}
+use Rattle.std.specs.Prelude.{◌≡◌, List, ◌++◌, ℕ, suc, ◌+◌, ◌<◌, length, take, drop, leb, if◌then◌else◌}
 use Rattle.definition.specs.Types.{TypeName, Multiple, Builtin, ModuleType, Shape, UnitType, Ref, Param, Apply, Var, Anything, UnresolvedError, State}
 use Rattle.definition.specs.Store.{count, node}
 use Rattle.definition.specs.Write.{Bytes, mark}
@@ -12,11 +12,6 @@ put buf at bytes = take at buf ++ bytes ++ drop (at + length bytes) buf
 pub record Wrote (buf : List ℕ) (at : ℕ) (bytes : Bytes) (buf' : List ℕ) (next : ℕ) : Type 0 where
   pub next_is : next ≡ at + length bytes
   pub is : buf' ≡ put buf at bytes
-
--- the first n of at most ten bytes
-pub record FewIs (n : ℕ) (bytes : List ℕ) (is : Bytes) : Type 0 where
-  pub few : n ≤ 10
-  pub first : take n bytes ≡ is
 
 -- a length up to `room`, else one more than that
 unfoldable pub capped : ℕ → ℕ → ℕ

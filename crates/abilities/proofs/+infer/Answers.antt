@@ -36,12 +36,6 @@ infer-requires t c = let h = c.loop-i.invariant in
     let pre = c.requires in
     (omega (arith, l, c.decreases), ((h.lay, (walk_part h more _ part, (walk_ends h more _ part, h.kept))), pre.ends_known))
 
-pub overflow_add-i : goal.overflow_add-i
-overflow_add-i t c = omega arith
-
-pub loop-i-smaller : goal.loop-i-smaller
-loop-i-smaller t c = omega arith
-
 pub loop-i-preserved : goal.loop-i-preserved
 loop-i-preserved t c = walk_more c.loop-i.invariant c.loop-i-test.true _ c.part_at-p.ensures _ c.infer.ensures
 

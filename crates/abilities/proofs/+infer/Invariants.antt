@@ -1,6 +1,5 @@
 -- `abilities::infer` meets its contract. Assumes nothing.
 -- By the levels that are left, which fall at a part. Invariant `Walked`: the sets of the parts before i are known, and none is lost; then the node's own set is kept.
-use Prim.Native.Nat.{◌-◌}
 use Rattle.abilities.proofs.Sets.{Walked}
 use Rattle.abilities.proofs.+infer.Given as goal
 
@@ -9,6 +8,3 @@ decreases-infer l = l.left
 
 abbrev pub invariant-loop-i : goal.invariant-loop-i
 invariant-loop-i l = Walked l.w l.u l.params l.t l.left l.initial.sets l.s l.many l.sets l.i
-
-abbrev pub decreases-loop-i : goal.decreases-loop-i
-decreases-loop-i l = l.many - l.i

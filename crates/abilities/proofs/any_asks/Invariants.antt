@@ -1,10 +1,6 @@
 -- `abilities::any_asks` meets its contract. Assumes nothing.
-use Prim.Native.Nat.{◌-◌}
 use Rattle.abilities.proofs.Asking.{Searched}
 use Rattle.abilities.proofs.any_asks.Given as goal
 
 abbrev pub invariant-loop-i : goal.invariant-loop-i
 invariant-loop-i l = Searched l.w l.u l.i
-
-abbrev pub decreases-loop-i : goal.decreases-loop-i
-decreases-loop-i l = l.n - l.i

@@ -1,11 +1,7 @@
 -- `abilities::first_hindrance` meets its contract. Assumes nothing.
 -- Invariant `Passed`: the constraints before i hinder nothing. One that hinders gives its number (`passed_stop`), else it is one more (`passed_more`).
-use Prim.Native.Nat.{◌-◌}
 use Rattle.abilities.proofs.Hindered.{Passed}
 use Rattle.abilities.proofs.first_hindrance.Given as goal
 
 abbrev pub invariant-loop-i : goal.invariant-loop-i
 invariant-loop-i l = Passed l.w l.u l.params l.initial.sets l.heights l.sets l.i
-
-abbrev pub decreases-loop-i : goal.decreases-loop-i
-decreases-loop-i l = l.n - l.i

@@ -12,12 +12,6 @@ pub returns-then-lacks : goal.returns-then-lacks
 returns-then-lacks c = let inv = c.loop-i.invariant in
     (omega (arith, inv.ready.few, c.loop-i-test.true), search_hit inv c.loop-i-test.true _ c.lacks.ensures c.if-lacks.true)
 
-pub overflow_add-i : goal.overflow_add-i
-overflow_add-i c = omega (arith, c.loop-i.invariant.ready.few)
-
-pub loop-i-smaller : goal.loop-i-smaller
-loop-i-smaller c = omega arith
-
 pub loop-i-preserved : goal.loop-i-preserved
 loop-i-preserved c = search_more c.loop-i.invariant c.loop-i-test.true _ c.lacks.ensures c.if-lacks.false
 

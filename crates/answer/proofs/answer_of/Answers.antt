@@ -24,4 +24,4 @@ returns-in-Failed c = let r = c.args.ran in
 pub returns-in-Refused : goal.returns-in-Refused
 returns-in-Refused c = let r = c.args.ran in
     answers_is _ _ _ _ _ _ _ _ _ (answered r) (λ ds s. is_refused r _ s _ c.in-Refused.is)
-    (c.refuse.ensures _ _ (sym c.number_of_refusal-number.ensures))
+    (c.refuse.ensures _ _ (sym c.number_of.ensures))

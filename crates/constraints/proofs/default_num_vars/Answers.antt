@@ -24,12 +24,6 @@ returns-in_default c = let pre = c.requires in
     defaulting_stop _ _ _ _ _ loop.invariant loop_test.true _ saved_mark.result pre.1.0 saved_mark.ensures _
     tvar.ensures _ _ _ default_marked.ensures c.done_of.ensures c.in_default.is
 
-pub overflow_add-v : goal.overflow_add-v
-overflow_add-v c = omega (arith, c.requires.0.vars)
-
-pub loop-v-smaller : goal.loop-v-smaller
-loop-v-smaller c = omega arith
-
 pub loop-v-preserved : goal.loop-v-preserved
 loop-v-preserved c = let pre = c.requires in
     let loop = c.loop-v in

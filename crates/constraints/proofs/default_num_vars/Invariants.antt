@@ -1,10 +1,6 @@
 -- `constraints::default_num_vars` meets its contract. Assumes nothing.
 use Rattle.constraints.proofs.Defaults.{Defaulting}
-use Rattle.std.proofs.Common.{◌-◌}
 use Rattle.constraints.proofs.default_num_vars.Given as goal
 
 abbrev pub invariant-loop-v : goal.invariant-loop-v
 invariant-loop-v l = Defaulting l.initial.w l.initial.at l.w l.at l.v
-
-abbrev pub decreases-loop-v : goal.decreases-loop-v
-decreases-loop-v l = l.n - l.v

@@ -1,34 +1,50 @@
 -- `failing::write_lacks` meets its contract. Assumes nothing.
 use mathlib.Core.List.{[]}
-use mathlib.Core.Path.{◌≡◌}
-use lib.ListN.{length}
-use borrow.Author.Rules.{rules}
-use Rattle.failing.proofs.Report.{first_fits, rest_fits, both_wrote, few_fits, few_wrote, type_is, lacks_is}
+use Rattle.definition.specs.Write.{u32}
+use Rattle.table.specs.State.{seen}
+use Rattle.failing.specs.Failing.{why}
+use Rattle.writer.proofs.Put.{first_fits, rest_fits, both_wrote}
+use Rattle.writer.proofs.Heads.{one_more}
+use Rattle.failing.proofs.Report.{type_is, type_and, lacks_is}
 use Rattle.failing.proofs.write_lacks.Goals as goal
 
-pub put_few-next-requires : goal.put_few-next-requires
-put_few-next-requires c = let pre = c.requires in
-    let head = c.ability_head-few in
-    let long : length head.result.bytes ≡ 10 = search rules in
-    (head.ensures.few, few_fits _ _ _ head.ensures long _ _ (first_fits _ _ _ (lacks_is _ _ _ _ _) _ _ (pre.fits [])))
+pub put_tag-head-requires : goal.put_tag-head-requires
+unfolding u32
+put_tag-head-requires c = let args = c.args in
+    first_fits _ _ _ (lacks_is (seen args.w.now args.u []) args.loc args.ability args.t (why args.place)) _ _ (c.requires.fits [])
 
-pub write_type-end-requires : goal.write_type-end-requires
-write_type-end-requires c = let pre = c.requires in
-    let put = few_wrote _ _ _ c.ability_head-few.ensures _ _ _ _ c.put_few-next.ensures in record { lay = (pre.lay.0, (pre.lay.1.0, pre.lay.1.1.1)); fits = λ ds. first_fits _ _ _ (type_is _ _ _) _ _ (rest_fits _ _ _ (lacks_is _ _ _ _ _) _ _ (pre.fits ds) _ _ put) }
+pub put_bytes-next-requires : goal.put_bytes-next-requires
+put_bytes-next-requires c = let args = c.args in
+    let s = seen args.w.now args.u [] in
+    let y = why args.place in
+    let after = rest_fits _ _ _ (lacks_is s args.loc args.ability args.t y) _ _ (c.requires.fits []) _ _ c.put_tag-head.ensures in
+    first_fits _ _ _ (one_more args.ability (type_and s args.t y)) _ _ after
 
-pub put_few-requires : goal.put_few-requires
-put_few-requires c = let pre = c.requires in
-    let why = c.why_of-why in
-    let long : length why.result.bytes ≡ 10 = search rules in
-    let put = few_wrote _ _ _ c.ability_head-few.ensures _ _ _ _ c.put_few-next.ensures in
-    let after = rest_fits _ _ _ (lacks_is _ _ _ _ _) _ _ (pre.fits []) _ _ put in
-    (why.ensures.few, few_fits _ _ _ why.ensures long _ _ (rest_fits _ _ _ (type_is _ _ _) _ _ after _ _ (c.write_type-end.ensures [])))
+pub write_type-end-requires-clause-fits : goal.write_type-end-requires-clause-fits
+write_type-end-requires-clause-fits c = let args = c.args in
+    let y = why args.place in
+    λ ds.
+    let s = seen args.w.now args.u ds in
+    let after = rest_fits _ _ _ (lacks_is s args.loc args.ability args.t y) _ _ (c.requires.fits ds) _ _ c.put_tag-head.ensures in
+    first_fits _ _ _ (type_is s args.t y) _ _ (rest_fits _ _ _ (one_more args.ability (type_and s args.t y)) _ _ after _ _ c.put_bytes-next.ensures)
+
+pub put_why-requires : goal.put_why-requires
+put_why-requires c = let args = c.args in
+    let s = seen args.w.now args.u [] in
+    let y = why args.place in
+    let after = rest_fits _ _ _ (lacks_is s args.loc args.ability args.t y) _ _ (c.requires.fits []) _ _ c.put_tag-head.ensures in
+    let last = rest_fits _ _ _ (one_more args.ability (type_and s args.t y)) _ _ after _ _ c.put_bytes-next.ensures in
+    (c.requires.lay.1.1.0, rest_fits _ _ _ (type_is s args.t y) _ _ last _ _ (c.write_type-end.ensures []))
 
 pub returns : goal.returns
-returns c = let pre = c.requires in
-    let put = few_wrote _ _ _ c.ability_head-few.ensures _ _ _ _ c.put_few-next.ensures in
-    let why = few_wrote _ _ _ c.why_of-why.ensures _ _ _ _ c.put_few.ensures in
-    let type = c.write_type-end.ensures in
+returns c = let args = c.args in
+    let y = why args.place in
     λ ds.
-    let after = rest_fits _ _ _ (lacks_is _ _ _ _ _) _ _ (pre.fits ds) _ _ put in
-    both_wrote _ _ _ (lacks_is _ _ _ _ _) _ _ (pre.fits ds) _ _ put _ _ (both_wrote _ _ _ (type_is _ _ _) _ _ after _ _ (type ds) _ _ why)
+    let s = seen args.w.now args.u ds in
+    let head = lacks_is s args.loc args.ability args.t y in
+    let more = one_more args.ability (type_and s args.t y) in
+    let after = rest_fits _ _ _ head _ _ (c.requires.fits ds) _ _ c.put_tag-head.ensures in
+    let last = rest_fits _ _ _ more _ _ after _ _ c.put_bytes-next.ensures in
+    both_wrote _ _ _ head _ _ (c.requires.fits ds) _ _ c.put_tag-head.ensures _ _
+    (both_wrote _ _ _ more _ _ after _ _ c.put_bytes-next.ensures _ _
+    (both_wrote _ _ _ (type_is s args.t y) _ _ last _ _ (c.write_type-end.ensures ds) _ _ c.put_why.ensures))

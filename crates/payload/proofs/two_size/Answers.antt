@@ -1,10 +1,10 @@
 -- `payload::two_size` meets its contract. Assumes nothing.
 use Rattle.table.specs.State.{seen}
 use Rattle.definition.specs.Write.{write}
-use Prim.Native.Nat.{◌≤◌}
 use mathlib.Core.List.{[]}
 use native.Mathlib.Omega.{arith}
-use Rattle.payload.proofs.Payload.{two_long, two_short, at_most}
+use Rattle.payload.proofs.Payload.{two_long, two_short}
+use Rattle.writer.proofs.Put.{capped_small}
 use Rattle.payload.proofs.two_size.Goals as goal
 
 pub returns-then-n-gt-MAX_PAYLOAD : goal.returns-then-n-gt-MAX_PAYLOAD
@@ -13,7 +13,7 @@ returns-then-n-gt-MAX_PAYLOAD c = let args = c.args in
     (write (seen args.w.now args.u ds) args.b) _ (c.size_type-n.ensures ds) c.if-n-gt-MAX_PAYLOAD.true
 
 pub overflow_add-result-2 : goal.overflow_add-result-2
-overflow_add-result-2 c = let k : c.size_type-m.result ≤ 4097 = at_most _ _ _ (c.size_type-m.ensures []) (omega arith) in omega arith
+overflow_add-result-2 c = omega (arith, capped_small _ _ _ (c.size_type-m.ensures []))
 
 pub returns : goal.returns
 returns c = let args = c.args in

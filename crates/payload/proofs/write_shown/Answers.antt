@@ -1,5 +1,5 @@
 -- `payload::write_shown` meets its contract. Assumes nothing.
-use Rattle.payload.proofs.Payload.{wrote_nothing, length_variable, length_anything, node_fits}
+use Rattle.payload.proofs.Payload.{wrote_nothing, length_variable, length_anything, node_fits, types_fit}
 use Rattle.payload.specs.Payload.{shown}
 use native.Mathlib.Omega.{arith}
 use Rattle.payload.proofs.write_shown.Goals as goal
@@ -17,13 +17,18 @@ write_type-requires c = let args = c.args in
 pub write_head-requires-in-Anything : goal.write_head-requires-in-Anything
 write_head-requires-in-Anything c = (tt, omega (arith, length_anything c.in-Anything.loc, c.requires.lay.1.1.1))
 
+pub write_two-requires : goal.write_two-requires
+write_two-requires c = let args = c.args in
+    let pre = c.requires in
+    let in_use = rw c.in-Two.is at pre.lay.1.0 in record { lay = (pre.lay.0, (in_use.0, (in_use.1, pre.lay.1.1))); fits = λ ds. types_fit args.show args.t _ _ _ c.in-Two.is (pre.fits ds) }
+
 pub returns-in-Nothing : goal.returns-in-Nothing
 unfolding shown
 returns-in-Nothing c = λ ds. rw c.in-Nothing.is (wrote_nothing _)
 
 pub returns-in-Number : goal.returns-in-Number
 unfolding shown
-returns-in-Number c = λ ds. rw c.in-Number.is (rw c.u16_of.ensures.first at c.put_few.ensures)
+returns-in-Number c = λ ds. rw c.in-Number.is c.put_u16.ensures
 
 pub returns-in-Variable : goal.returns-in-Variable
 unfolding shown
@@ -36,6 +41,14 @@ returns-in-Node c = λ ds. rw c.in-Node.is (c.write_type.ensures ds)
 pub returns-in-Anything : goal.returns-in-Anything
 unfolding shown
 returns-in-Anything c = λ ds. rw c.in-Anything.is c.write_head-in-Anything.ensures
+
+pub returns-in-Location : goal.returns-in-Location
+unfolding shown
+returns-in-Location c = λ ds. rw c.in-Location.is c.put_u32.ensures
+
+pub returns-in-Two : goal.returns-in-Two
+unfolding shown
+returns-in-Two c = λ ds. rw c.in-Two.is (c.write_two.ensures ds)
 
 pub returns-in-Four : goal.returns-in-Four
 unfolding shown

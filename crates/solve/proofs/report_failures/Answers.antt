@@ -1,6 +1,6 @@
 -- `solve::report_failures` meets its contract. Assumes nothing.
 use Rattle.definition.specs.Types.{answer_too_long}
-use Rattle.answer.proofs.Settle.{number_14}
+use mathlib.Core.Path.{sym}
 use Rattle.solve.proofs.Answers.{report_room, report_long, report_kept}
 use Rattle.solve.proofs.report_failures.Goals as goal
 
@@ -8,7 +8,7 @@ pub returns-then-size-gt-MAX_PAYLOAD : goal.returns-then-size-gt-MAX_PAYLOAD
 returns-then-size-gt-MAX_PAYLOAD c = let size_failures = c.size_failures-size in
     let if1 = c.if-size-gt-MAX_PAYLOAD in
     let refuse = c.refuse in
-    report_long _ _ _ _ size_failures.ensures _ _ _ _ _ _ if1.true (refuse.ensures answer_too_long _ number_14)
+    report_long _ _ _ _ size_failures.ensures _ _ _ _ _ _ if1.true (refuse.ensures answer_too_long _ (sym c.number_of.ensures))
 
 pub write_failures-len-requires : goal.write_failures-len-requires
 write_failures-len-requires c = let p = c.requires in

@@ -1,5 +1,4 @@
 -- `solve::size_constraint` meets its contract. Assumes nothing.
-use Prim.Native.Nat.{◌-◌}
 use Rattle.table.specs.Known.{Known}
 use Rattle.table.specs.State.{constraint_of}
 use Rattle.failing.proofs.Series.{Sized}
@@ -8,6 +7,3 @@ use Rattle.solve.proofs.size_constraint.Given as goal
 
 abbrev pub invariant-loop-k : goal.invariant-loop-k
 invariant-loop-k l = Sized (Known l.w l.u l.params) l.n (rows_from l.w l.u (constraint_of l.c)) (all_rows l.w l.u (constraint_of l.c)) l.room l.size l.k
-
-abbrev pub decreases-loop-k : goal.decreases-loop-k
-decreases-loop-k l = l.n - l.k

@@ -25,12 +25,6 @@ pub returns-then-size-gt4096 : goal.returns-then-size-gt4096
 returns-then-size-gt4096 c = let is = constraint_is _ _ _ _ _ c.constraint_at-c.ensures in
     sized_over _ _ _ _ _ (list_pieces _ _) _ _ _ c.loop-i.invariant c.loop-i-test.true _ is _ c.size_constraint-size.ensures.1 c.if-size-gt4096.true
 
-pub overflow_add-i : goal.overflow_add-i
-overflow_add-i c = omega (arith, c.requires.0.constraints)
-
-pub loop-i-smaller : goal.loop-i-smaller
-loop-i-smaller c = omega arith
-
 pub loop-i-preserved : goal.loop-i-preserved
 loop-i-preserved c = let is = constraint_is _ _ _ _ _ c.constraint_at-c.ensures in
     sized_more _ _ _ _ _ (list_pieces _ _) _ _ _ c.loop-i.invariant c.loop-i-test.true _ is _ c.size_constraint-size.ensures.1 c.if-size-gt4096.false

@@ -21,12 +21,6 @@ write_constraint-next-requires c = let pre = c.requires in
       fits = one_fits _ _ _ _ _ (list_pieces _ _) _ _ (λ ds k. omega (arith, pre.fits ds k)) there.structs there.known _ _ _ c.loop-i.invariant lt _ is;
     }
 
-pub overflow_add-i : goal.overflow_add-i
-overflow_add-i c = omega (arith, c.requires.lay.0.constraints)
-
-pub loop-i-smaller : goal.loop-i-smaller
-loop-i-smaller c = omega arith
-
 pub loop-i-preserved : goal.loop-i-preserved
 loop-i-preserved c = let pre = c.requires in
     let there = pre.lay.1.1.1.1 in

@@ -1,5 +1,4 @@
 -- `solve::write_failures` meets its contract. Assumes nothing.
-use Prim.Native.Nat.{◌-◌}
 use Rattle.table.specs.Known.{Known}
 use Rattle.failing.proofs.Series.{Written}
 use Rattle.solve.proofs.Rows.{all_failures, failures_from}
@@ -7,6 +6,3 @@ use Rattle.solve.proofs.write_failures.Given as goal
 
 abbrev pub invariant-loop-i : goal.invariant-loop-i
 invariant-loop-i l = Written (Known l.w l.u l.params) l.u.constraints (failures_from l.w l.u) (all_failures l.w l.u) l.initial.buf 0 l.buf l.next l.i
-
-abbrev pub decreases-loop-i : goal.decreases-loop-i
-decreases-loop-i l = l.n - l.i

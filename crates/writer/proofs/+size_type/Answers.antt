@@ -3,32 +3,17 @@ use Rattle.shapes.proofs.Nodes.{at_node, part_low}
 use native.Mathlib.Omega.{arith}
 use Rattle.writer.proofs.+size_type.Goals as goal
 
-pub node_at-node-requires : goal.node_at-node-requires
-node_at-node-requires t c = c.requires.0
-
-pub part_count-n-requires : goal.part_count-n-requires
-part_count-n-requires t c = tt
-
-pub head_size-size-requires : goal.head_size-size-requires
-head_size-size-requires t c = tt
-
 pub loop-i-init : goal.loop-i-init
 loop-i-init t c = let pre = c.requires in
     let node_at = c.node_at-node in
     size_none (at_node _ _ _ _ node_at.result pre.0 pre.1.0 node_at.ensures c.part_count-n.ensures)
     _ _ c.head_size-size.ensures.0 c.head_size-size.ensures.1
 
-pub overflow_add-result : goal.overflow_add-result
-overflow_add-result t c = omega (arith, c.requires)
-
 pub returns-then-room-size : goal.returns-then-room-size
 returns-then-room-size t c = let pre = c.requires in
     let node_at = c.node_at-node in
     size_over (at_node _ _ _ _ node_at.result pre.0 pre.1.0 node_at.ensures c.part_count-n.ensures) c.loop-i.invariant
     c.if-room-size.true
-
-pub part_at-p-requires : goal.part_at-p-requires
-part_at-p-requires t c = c.requires.0
 
 pub size_type-size-requires : goal.size_type-size-requires
 size_type-size-requires t c = let pre = c.requires in
@@ -40,12 +25,6 @@ size_type-size-requires t c = let pre = c.requires in
 pub overflow_add-size : goal.overflow_add-size
 overflow_add-size t c = omega (arith, part_small _ _ _ _ _ c.size_type-size.ensures, c.requires.1.1)
 
-pub overflow_add-i : goal.overflow_add-i
-overflow_add-i t c = omega arith
-
-pub loop-i-smaller : goal.loop-i-smaller
-loop-i-smaller t c = omega arith
-
 pub loop-i-preserved : goal.loop-i-preserved
 loop-i-preserved t c = let pre = c.requires in
     let node_at = c.node_at-node in
@@ -53,9 +32,6 @@ loop-i-preserved t c = let pre = c.requires in
     size_more (at_node _ _ _ _ node_at.result pre.0 pre.1.0 node_at.ensures part_count.ensures)
     c.loop-i.invariant _ _ c.loop-i-test.true
     c.if-room-size.false c.part_at-p.ensures c.size_type-size.ensures
-
-pub overflow_add-result-then-room-size-2 : goal.overflow_add-result-then-room-size-2
-overflow_add-result-then-room-size-2 t c = omega (arith, c.requires)
 
 pub returns-then-room-size-2 : goal.returns-then-room-size-2
 returns-then-room-size-2 t c = let pre = c.requires in

@@ -1,7 +1,6 @@
 -- `writer::size_type` meets its contract. Assumes nothing.
 -- By the node's number, which falls from a type to its parts. Invariant `Sizing`: the sizes of the parts before i are added up; over the limit it stays over.
 use Rattle.writer.proofs.Turns.{Sizing}
-use Prim.Native.Nat.{◌-◌}
 use Rattle.writer.proofs.+size_type.Given as goal
 
 abbrev pub decreases-size_type : goal.decreases-size_type
@@ -9,6 +8,3 @@ decreases-size_type l = l.t
 
 abbrev pub invariant-loop-i : goal.invariant-loop-i
 invariant-loop-i l = Sizing l.w l.u l.t l.room l.n l.size l.i
-
-abbrev pub decreases-loop-i : goal.decreases-loop-i
-decreases-loop-i l = l.n - l.i

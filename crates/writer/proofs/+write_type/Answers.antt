@@ -4,12 +4,6 @@ use Rattle.shapes.proofs.Nodes.{at_node, part_low}
 use native.Mathlib.Omega.{arith}
 use Rattle.writer.proofs.+write_type.Goals as goal
 
-pub node_at-node-requires : goal.node_at-node-requires
-node_at-node-requires t c = c.requires.lay.0
-
-pub part_count-n-requires : goal.part_count-n-requires
-part_count-n-requires t c = tt
-
 pub write_head-next-requires : goal.write_head-next-requires
 write_head-next-requires t c = let args = c.args in
     let pre = c.requires in
@@ -19,9 +13,6 @@ write_head-next-requires t c = let args = c.args in
 
 pub loop-i-init : goal.loop-i-init
 loop-i-init t c = (omega arith, λ E h. h)
-
-pub part_at-p-requires : goal.part_at-p-requires
-part_at-p-requires t c = c.requires.lay.0
 
 pub write_type-next-requires : goal.write_type-next-requires
 write_type-next-requires t c = let args = c.args in
@@ -42,12 +33,6 @@ write_type-next-requires t c = let args = c.args in
             (c.loop-i.invariant.1 E base) loop_test.true c.part_at-p.ensures,
       ),
     )
-
-pub overflow_add-i : goal.overflow_add-i
-overflow_add-i t c = omega arith
-
-pub loop-i-smaller : goal.loop-i-smaller
-loop-i-smaller t c = omega arith
 
 pub loop-i-preserved : goal.loop-i-preserved
 loop-i-preserved t c = let args = c.args in

@@ -1,9 +1,0 @@
--- `writer::ref_head` meets its contract. Assumes nothing.
-use native.Mathlib.Omega.{arith}
-use mathlib.Core.Path.{refl}
-use Rattle.definition.specs.Write.{u32}
-use Rattle.writer.proofs.ref_head.Goals as goal
-
-pub returns : goal.returns
-unfolding u32
-returns c = record { few = omega arith; first = rw (c.row-bytes.ensures, c.bool_byte-x.ensures) refl }
