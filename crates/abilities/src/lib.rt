@@ -222,6 +222,7 @@ fn granted_bit(
     0
 }
 
+// Four calls: a loop that adds them up is no plainer.
 fn granted_set(w: &[u32], u: Used, params: &[[u8; 8]; 256], a: Applied, sets: &[u32]) -> AbilitySet
     requires { ArgsReady w.now u params.now sets.now a }
     ensures { (ds : List d.Struct) → Known w.now u params.now ds → result.0 ≡ from_abilities (those (granted (λ t. infer_abilities (seen w.now u ds) t) (seen w.now u ds) (name_of a.n) (args_at (seen w.now u ds) (args_of a)))) }

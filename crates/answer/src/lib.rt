@@ -98,7 +98,7 @@ pub fn number_of(x: Reason) -> u32
     }
 }
 
-// A refusal: nothing is changed.
+// A refusal: nothing is changed. By its number, since those of a reader come so.
 pub fn refuse(w: &mut [u32], u: Used, before: Used, saved: &[u32], number: u32) -> Answer
     requires { Lay w.old u × (Above before u × (5120 ≤ length saved.now)) }
     ensures { (x : d.Refusal) (buf : List ℕ) → number_of_refusal x ≡ number → Answers w.old u before saved.now buf w.new buf result (refused_by x) }

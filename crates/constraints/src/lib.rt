@@ -35,7 +35,7 @@ pub enum NumericKind {
     Ordered,
 }
 
-// ---- a constraint is listed; the answer is 0
+// ---- a constraint is listed; the answer is 0. A function for each kind, as in core.rs
 
 #[tactic(auto, unfolding(definition::specs::Step::numeric_constraint))]
 pub fn numeric_constraint(w: &mut [u32], u: Used, kind: NumericKind, loc: u32, ty: u32) -> Outcome
