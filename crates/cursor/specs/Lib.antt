@@ -1,2 +1,2 @@
--- What the record reader reads. Assumes nothing: these are definitions.
+-- What a reader's answer is in the definition. Assumes nothing: these are definitions.
 pub mod Words

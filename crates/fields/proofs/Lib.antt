@@ -1,4 +1,4 @@
 -- Laws of a record's fields. Assumes nothing.
 pub mod Placing
 pub mod Forms
-pub mod Params
+pub mod Bytes

@@ -3,24 +3,22 @@ use mathlib.Core.Path.{◌≡◌, refl, sym, ap, ◌∙◌}
 use mathlib.Core.Bool.{Bool, true, false}
 use Prim.Native.Nat.{ℕ}
 use native.Mathlib.Omega.{arith}
-use Rattle.std.specs.Prelude.{if◌then◌else◌}
-use Rattle.definition.specs.Types.{State, full, Result, ok, refused, ◌>>=◌}
+use Rattle.std.specs.Prelude as std
+use Rattle.std.specs.Prelude.{Option, Some, None, Ok, Err, is_none, unwrap_or, if◌then◌else◌}
+use Rattle.definition.specs.Types.{State, Refusal, full, Result, ok, refused, ◌>>=◌}
 use Rattle.definition.specs.Write.{Bytes}
 use Rattle.definition.specs.Reader.{Read, got, not_read, Reader, give, go_on}
 use Rattle.definition.specs.Trees.{Tree}
 use Rattle.definition.specs.Build.{build}
-use Rattle.reader.specs.declared.Part.{Part}
-use Rattle.reader.specs.declared.Part.TheVariants.{At, Full, Malformed, Unknown, Doubled}
-use Rattle.reader.specs.Taken.{Placed, stopped, placed, place_read, part_of, is_stop, is_over, node_in}
-use Rattle.fields.specs.Noded.{part_with}
+use Rattle.cursor.specs.Words.{refusal}
+use Rattle.cursor.specs.declared.ReadError.{ReadError}
+use Rattle.reader.specs.Taken.{Placed, stopped, placed, place_read, part_of, read_with}
 
-pub is_not : {A : Type 0} → true ≡ false → A
-is_not e =
-    let z : ◌≡◌ {A = ℕ} 0 1 = ap (λ (b : Bool). if b then 0 else 1) e in
-    absurd (omega arith)
-
-pub not_is : {A : Type 0} → false ≡ true → A
-not_is e = is_not (sym e)
+-- reading stopped
+pub stopped_is : (x : Read Tree) (over : Bool) (s : State) (y : Refusal) → stopped y ≡ place_read over build x s → x ≡ not_read y
+unfolding place_read
+stopped_is (got a l) over s y e = absurd (let z : ◌≡◌ {A = ℕ} 0 1 = cc in omega arith)
+stopped_is (not_read z) over s y e = cc
 
 -- ---- the last type
 
@@ -30,13 +28,11 @@ module _ {A B : Type 0} (put : A → State → Result (State × B)) (h : Tree �
   mapped (stopped x) = stopped x
   mapped (placed q l) = placed (q >>= (λ (s, n). ok (s, g n))) l
 
-  part_mapped : (p : Part) (s : State) (l : Bytes) → part_with p g s l ≡ mapped (part_of p s l)
+  part_mapped : (p : std.Result (Option ℕ) ReadError) (s : State) (l : Bytes) → read_with p g s l ≡ mapped (part_of p s l)
   unfolding ◌>>=◌
-  part_mapped (At t) s l = refl
-  part_mapped Full s l = refl
-  part_mapped Malformed s l = refl
-  part_mapped Unknown s l = refl
-  part_mapped Doubled s l = refl
+  part_mapped (Ok (Some t)) s l = refl
+  part_mapped (Ok None) s l = refl
+  part_mapped (Err e) s l = refl
 
   read_mapped : (over : Bool) (x : Read Tree) (s : State) → mapped (place_read over build x s) ≡ place_read over put (go_on x (λ t. give (h t))) s
   unfolding ◌>>=◌ place_read go_on give
@@ -44,8 +40,8 @@ module _ {A B : Type 0} (put : A → State → Result (State × B)) (h : Tree �
   read_mapped true (got t l) s = refl
   read_mapped false (got t l) s = ap (λ (q : Result (State × B)). placed q l) (sym (places t s))
 
-  pub last_type : (p : Part) (over : Bool) (x : Read Tree) (s s' : State) (l : Bytes) → part_of p s' l ≡ place_read over build x s
-      → part_with p g s' l ≡ place_read over put (go_on x (λ t. give (h t))) s
+  pub last_type : (p : std.Result (Option ℕ) ReadError) (over : Bool) (x : Read Tree) (s s' : State) (l : Bytes) → part_of p s' l ≡ place_read over build x s
+      → read_with p g s' l ≡ place_read over put (go_on x (λ t. give (h t))) s
   last_type p over x s s' l e = part_mapped p s' l ∙ ap mapped e ∙ read_mapped over x s
 
 -- ---- a type with more to read after it
@@ -70,33 +66,19 @@ module _ {A B C : Type 0} (put : A → State → Result (State × B)) (h : Tree 
       by true (got c k) = refl
       by false (got c k) = ap (λ (q : Result (State × B)). placed q k) (places t c s)
 
-  part_onward : (p : Part) (s : State) (l : Bytes) → is_stop p ≡ false → onward (part_of p s l) ≡ place_read (is_over p) (after (node_in p)) (more l) s
+  part_onward : (o : Option ℕ) (s : State) (l : Bytes) → onward (part_of (Ok o) s l) ≡ place_read (is_none o) (after (unwrap_or o 0)) (more l) s
   unfolding place_read ◌>>=◌
-  part_onward (At t) s l e = by (more l)
+  part_onward (Some t) s l = by (more l)
     where
       by : (y : Read C) → going (ok (s, t)) y ≡ place_read false (after t) y s
       by (not_read z) = refl
       by (got c k) = refl
-  part_onward Full s l e = by (more l)
+  part_onward None s l = by (more l)
     where
       by : (y : Read C) → going (refused full) y ≡ place_read true (after 0) y s
       by (not_read z) = refl
       by (got c k) = refl
-  part_onward Malformed s l e = is_not e
-  part_onward Unknown s l e = is_not e
-  part_onward Doubled s l e = is_not e
 
-  pub first_type : (p : Part) (over : Bool) (x : Read Tree) (s s' : State) (l : Bytes) → part_of p s' l ≡ place_read over build x s → is_stop p ≡ false
-      → place_read over put (go_on x (λ t l. go_on (more l) (λ c. give (h t c)))) s ≡ place_read (is_over p) (after (node_in p)) (more l) s'
-  first_type p over x s s' l e n = read_onward over x s ∙ ap onward (sym e) ∙ part_onward p s' l n
-
-  pub type_stops : (p : Part) (over : Bool) (x : Read Tree) (s s' : State) (l : Bytes) → part_of p s' l ≡ place_read over build x s → is_stop p ≡ true
-      → (g : ℕ → B) → part_with p g s' l ≡ place_read over put (go_on x (λ t l. go_on (more l) (λ c. give (h t c)))) s
-  type_stops p over x s s' l e n g = by p n ∙ ap onward e ∙ sym (read_onward over x s)
-    where
-      by : (p : Part) → is_stop p ≡ true → part_with p g s' l ≡ onward (part_of p s' l)
-      by (At t) n = not_is n
-      by Full n = not_is n
-      by Malformed n = refl
-      by Unknown n = refl
-      by Doubled n = refl
+  pub first_type : (o : Option ℕ) (over : Bool) (x : Read Tree) (s s' : State) (l : Bytes) → part_of (Ok o) s' l ≡ place_read over build x s
+      → place_read over put (go_on x (λ t l. go_on (more l) (λ c. give (h t c)))) s ≡ place_read (is_none o) (after (unwrap_or o 0)) (more l) s'
+  first_type o over x s s' l e = read_onward over x s ∙ ap onward (sym e) ∙ part_onward o s' l

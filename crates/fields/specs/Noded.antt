@@ -1,24 +1,23 @@
 -- A record whose types are placed: their nodes stand in the trees' stead. What the code's answer is as one. Assumes nothing: these are definitions.
-use Rattle.std.specs.Prelude.{◌≡◌, false, List, [], ◌∷◌, ℕ, zero, suc, ◌≤◌, ◌<◌, length, get_or, take, drop, replicate}
-use Rattle.std.specs.Prelude.{Option}
-use Rattle.definition.specs.Types.{State, Struct, Constraint, BaseTypeConstraint, SingleTypeConstraint, malformed, unknown_name, doubled_reference, full, Result, ok, refused, ◌>>=◌}
+use Rattle.std.specs.Prelude as std
+use Rattle.std.specs.Prelude.{◌≡◌, false, List, ℕ, ◌≤◌, ◌<◌, length, take, drop, Option}
+use Rattle.definition.specs.Types.{State, Struct, Constraint, BaseTypeConstraint, SingleTypeConstraint, Result, ok, ◌>>=◌}
 use Rattle.definition.specs.Write.{Bytes}
 use Rattle.definition.specs.Reader.{Read}
 use Rattle.definition.specs.Record as d
-use Rattle.definition.specs.Record.{NumericKind, Numeric, Bits, Ordered, Record, read_record}
+use Rattle.definition.specs.Record.{Record, read_record}
 use Rattle.definition.specs.Trees.{Tree}
 use Rattle.definition.specs.Build.{build, build_pairs}
 use Rattle.definition.specs.Join.{TypingCase, Join, Subtype}
 use Rattle.definition.specs.Step.{numeric_constraint}
 use Rattle.definition.specs.Needs.{Needs, needs}
-use Rattle.names.specs.declared.TParamID.{TParamID}
 use Rattle.table.specs.State.{Lay, Grown, Declares, Parts, view, seen}
 use Rattle.table.specs.declared.Used.{Used}
-use Rattle.reader.specs.declared.Part.{Part}
-use Rattle.reader.specs.declared.Part.TheVariants.{At, Full, Malformed, Unknown, Doubled}
-use Rattle.reader.specs.declared.Taken.{Taken}
-use Rattle.heads.specs.Fields.{rest, Knows}
-use Rattle.reader.specs.Taken.{Placed, stopped, placed, place_read}
+use Rattle.tparams.specs.Pairs.{pairs}
+use Rattle.constraints.specs.Solve.{kind_of}
+use Rattle.cursor.specs.declared.ReadError.{ReadError}
+use Rattle.heads.specs.Fields.{Knows}
+use Rattle.reader.specs.Taken.{Placed, place_read, read_with, PlacedSo}
 use Rattle.needs.specs.Counted.{needs_of}
 use Rattle.marks.specs.declared.LocMark.{LocMark}
 use Rattle.marks.specs.declared.LocMark.TheVariants.{FV, NV}
@@ -36,8 +35,8 @@ use Rattle.fields.specs.declared.Add.{Add}
 use Rattle.fields.specs.declared.Add.TheVariants as a
 use Rattle.fields.specs.declared.What.{What}
 use Rattle.fields.specs.declared.What.TheVariants as q
-use Rattle.fields.specs.declared.Whole.{Whole}
-use Rattle.fields.specs.declared.Whole.TheVariants as h
+use Rattle.fields.specs.declared.Pairs.{Pairs}
+use Rattle.fields.specs.declared.Params.{Params}
 use Rattle.fields.specs.declared.Fields.{Fields}
 
 -- may bind or mark a variable that is there
@@ -145,56 +144,37 @@ place_record x s = place (shape x) s
 
 -- ---- what the code's answer is
 
-abbrev pub id_at : List TParamID → ℕ → ℕ
-id_at ids i = (get_or ids i (record { 0 = 0 })).0
-
--- n pairs, from place i on
-unfoldable pub pairs : List TParamID → List ℕ → ℕ → ℕ → List (ℕ × ℕ)
-pairs ids nodes i zero = []
-pairs ids nodes i (suc n) = (id_at ids i, get_or nodes i 0) ∷ pairs ids nodes (suc i) n
-
-unfoldable pub kind : ℕ → NumericKind
-kind b = get_or (Numeric ∷ Bits ∷ Ordered ∷ []) b Numeric
-
 abbrev pub bind_of : Bind → Binds
 bind_of (c.SN v loc) = set_num v.0 loc
 bind_of (c.Two m lhs rhs) = two (two_case m) lhs rhs
 bind_of (c.IN t) = instantiate t
 
-abbrev pub look_of : Look → List TParamID → List ℕ → Looks
-look_of (l.One m t) ids nodes = one_looks m t
-look_of (l.TS many t) ids nodes = tparams (pairs ids nodes 0 many) t
+abbrev pub pairs_of : Pairs → List (ℕ × ℕ)
+pairs_of ps = pairs ps.ids ps.nodes 0 ps.many
+
+abbrev pub look_of : Look → Looks
+look_of (l.One m t) = one_looks m t
+look_of (l.TS ps t) = tparams (pairs_of ps) t
 
 abbrev pub add_of : Add → Adds
 add_of (a.Loc m loc) = loc_adds m loc
-add_of (a.NC loc b t) = constrain (numeric_constraint (kind b) loc t)
+add_of (a.NC loc kind t) = constrain (numeric_constraint (kind_of kind) loc t)
 add_of (a.LocType m loc t) = constrain (loc_type_constraint m loc t)
 add_of (a.RM c) = tell (needs_of c)
 
-abbrev pub noded : Fields → What → Noded
-noded r (q.SD abilities many) = declare abilities (take many r.params)
-noded r q.SV = solve
-noded r (q.Bind x) = run (binds (bind_of x))
-noded r (q.Look x) = run (looks (look_of x r.ids r.nodes))
-noded r (q.Add x) = run (adds (add_of x))
+abbrev pub params_of : Params → List ℕ
+params_of ps = take ps.many ps.bytes
 
-abbrev pub part_with : {A : Type 0} → Part → (ℕ → A) → State → Bytes → Placed A
-part_with (At t) f s bytes = placed (ok (s, f t)) bytes
-part_with Full f s bytes = placed (refused full) bytes
-part_with Malformed f s bytes = stopped malformed
-part_with Unknown f s bytes = stopped unknown_name
-part_with Doubled f s bytes = stopped doubled_reference
-
-abbrev pub whole_with : {A : Type 0} → Whole → (What → A) → State → Bytes → Placed A
-whole_with (h.Placed x) f s bytes = placed (ok (s, f x)) bytes
-whole_with h.Full f s bytes = placed (refused full) bytes
-whole_with h.Malformed f s bytes = stopped malformed
-whole_with h.Unknown f s bytes = stopped unknown_name
-whole_with h.Doubled f s bytes = stopped doubled_reference
+abbrev pub noded : What → Noded
+noded (q.SD abilities ps) = declare abilities.0 (params_of ps)
+noded q.SV = solve
+noded (q.Bind x) = run (binds (bind_of x))
+noded (q.Look x) = run (looks (look_of x))
+noded (q.Add x) = run (adds (add_of x))
 
 -- met in the state s, with these bytes left
-abbrev pub fields_as : Fields → State → Bytes → Placed Noded
-fields_as r s bytes = whole_with r.read (noded r) s bytes
+abbrev pub fields_as : std.Result (Option What) ReadError → State → Bytes → Placed Noded
+fields_as r s bytes = read_with r noded s bytes
 
 -- nodes below n
 abbrev pub BindIn : ℕ → Bind → Type 0
@@ -202,62 +182,31 @@ BindIn n (c.SN v loc) = Unit {0}
 BindIn n (c.Two m lhs rhs) = (lhs < n) × (rhs < n)
 BindIn n (c.IN t) = t < n
 
-abbrev pub LookIn : ℕ → List ℕ → Look → Type 0
-LookIn n nodes (l.One m t) = t < n
-LookIn n nodes (l.TS many t) = Parts n nodes many × (t < n)
+abbrev pub LookIn : ℕ → Look → Type 0
+LookIn n (l.One m t) = t < n
+LookIn n (l.TS ps t) = Parts n ps.nodes ps.many × (t < n)
 
-abbrev pub WhatIn : ℕ → Fields → What → Type 0
-WhatIn n r (q.SD abilities many) = (abilities ≤ 15) × (many ≤ 8)
-WhatIn n r q.SV = Unit {0}
-WhatIn n r (q.Bind x) = BindIn n x
-WhatIn n r (q.Look x) = LookIn n r.nodes x
-WhatIn n r (q.Add x) = Unit {0}
+abbrev pub WhatIn : ℕ → What → Type 0
+WhatIn n (q.SD abilities ps) = ps.many ≤ 8
+WhatIn n q.SV = Unit {0}
+WhatIn n (q.Bind x) = BindIn n x
+WhatIn n (q.Look x) = LookIn n x
+WhatIn n (q.Add x) = Unit {0}
 
-abbrev pub WholeSo : Whole → (What → Type 0) → Type 0
-WholeSo (h.Placed x) P = P x
-WholeSo h.Full P = Unit {0}
-WholeSo h.Malformed P = Unit {0}
-WholeSo h.Unknown P = Unit {0}
-WholeSo h.Doubled P = Unit {0}
-
-abbrev pub FieldsIn : Fields → Type 0
-FieldsIn r = WholeSo r.read (WhatIn r.used.nodes r)
-
--- the words w became w', and r is the record that m reads, its types placed; s knows as many variables and structs as the record began with
-pub record FieldsAre (w : List ℕ) (u : Used) (b : List ℕ) (end known : ℕ) (m : State → Read Record) (w' : List ℕ) (r : Fields) : Type 0 where
-  pub lay : Lay w' r.used
-  pub grown : Grown (view w u) (view w' r.used)
-  pub structs : (view w' r.used).structs ≡ (view w u).structs
-  pub inside : FieldsIn r
-  pub within : r.next ≤ end
-  pub is : (ds : List Struct) (s : State) → Declares w u ds → Knows s known ds
-      → fields_as r (seen w' r.used ds) (rest b end r.next) ≡ place_read false place_record (m s) (seen w u ds)
+-- the words w became w', r is the record that m reads, its types placed, and the bytes l are left; s knows as many variables and structs as the record began with
+pub record FieldsAre (w : List ℕ) (u : Used) (known : ℕ) (m : State → Read Record) (w' : List ℕ) (u' : Used) (l : Bytes) (r : std.Result (Option What) ReadError) : Type 0 where
+  pub lay : Lay w' u'
+  pub grown : Grown (view w u) (view w' u')
+  pub structs : (view w' u').structs ≡ (view w u).structs
+  pub inside : PlacedSo r (WhatIn u'.nodes)
+  pub is : (ds : List Struct) (s : State) → Declares w u ds → Knows s known ds → fields_as r (seen w' u' ds) l ≡ place_read false place_record (m s) (seen w u ds)
 
 -- a record that starts at place `start`: the bytes after it are those from place next on, of all that there are
 pub record RecordIs (w : List ℕ) (u : Used) (b : List ℕ) (start : ℕ) (w' : List ℕ) (r : Fields) : Type 0 where
   pub lay : Lay w' r.used
   pub grown : Grown (view w u) (view w' r.used)
   pub structs : (view w' r.used).structs ≡ (view w u).structs
-  pub inside : FieldsIn r
+  pub inside : PlacedSo r.read (WhatIn r.used.nodes)
   pub within : r.next ≤ length b
   pub is : (ds : List Struct) → Declares w u ds
-      → fields_as r (seen w' r.used ds) (drop r.next b) ≡ place_read false place_record (read_record (seen w u ds) (drop start b)) (seen w u ds)
-
--- without arrays
-abbrev pub plain_fields : Whole → Used → ℕ → Fields
-plain_fields read u next = record { read = read; used = u; next = next; params = replicate 8 0; ids = replicate 8 (record { 0 = 0 }); nodes = replicate 8 0 }
-
--- with pairs
-abbrev pub paired_fields : Whole → Used → ℕ → List TParamID → List ℕ → Fields
-paired_fields read u next ids nodes = record { read = read; used = u; next = next; params = replicate 8 0; ids = ids; nodes = nodes }
-
--- if its last type is placed
-abbrev pub whole_of : Part → What → Whole
-whole_of (At t) x = h.Placed x
-whole_of Full x = h.Full
-whole_of Malformed x = h.Malformed
-whole_of Unknown x = h.Unknown
-whole_of Doubled x = h.Doubled
-
-abbrev pub made_fields : What → Taken → Fields
-made_fields x r = plain_fields (whole_of r.part x) r.used r.next
+      → fields_as r.read (seen w' r.used ds) (drop r.next b) ≡ place_read false place_record (read_record (seen w u ds) (drop start b)) (seen w u ds)

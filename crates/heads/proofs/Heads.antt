@@ -1,15 +1,14 @@
 -- A type's tag, location and fields: by the tag, and one level deeper. Assumes nothing.
-use mathlib.Core.Path.{◌≡◌, refl, sym, ap, subst}
+use mathlib.Core.Path.{◌≡◌, refl, ap}
 use mathlib.Core.Bool.{Bool, ◌&&◌}
 use mathlib.Core.List.{List, []}
-use Prim.Native.Nat.{ℕ, zero, suc, ◌+◌, ◌-◌, ◌<◌, ◌≤◌}
-use native.Mathlib.Nat.{not-suc-le-zero, le_antisymm}
+use Prim.Native.Nat.{ℕ, zero, suc, ◌-◌, ◌<◌, ◌≤◌}
+use native.Mathlib.Nat.{not-suc-le-zero}
 use native.Mathlib.Omega.{arith}
 use lib.Dec.{ltb, eqb}
-use lib.ListN.{length, get_or, replicate, length-replicate}
-use Rattle.definition.specs.Store.{taken}
+use lib.ListN.{length, get_or}
 use Rattle.std.specs.Prelude.{if◌then◌else◌}
-use Rattle.definition.specs.Types.{State, Struct, unbound, malformed, doubled_reference}
+use Rattle.definition.specs.Types.{State, Struct, malformed, doubled_reference}
 use Rattle.definition.specs.Write.{Bytes}
 use Rattle.definition.specs.Reader.{not_read, Reader, go_on, ◌>>=◌, refuse, byte_to, read_u32}
 use Rattle.definition.specs.Trees.{Tree, under_ref, by_tag, read_nested}
@@ -17,25 +16,16 @@ use Rattle.table.specs.Rows.{struct_table}
 use Rattle.table.specs.State.{view, Declares}
 use Rattle.table.specs.declared.Used.{Used}
 use Rattle.table.proofs.Rows.{length_entries}
-use Rattle.heads.specs.declared.Head.{Head}
-use Rattle.heads.specs.declared.Head.TheVariants.{Begun, Broken, Unnamed, Doubled}
-use Rattle.heads.specs.Fields.{Begins, HeadNests, Arities}
+use Rattle.heads.specs.Fields.{Arities}
 
 -- the words' own declarations: as many parameters as they have, with no bytes
 pub declares_self : (w : List ℕ) (u : Used) → Declares w u (view w u).structs
 unfolding view
 declares_self w u = record { many = length_entries struct_table w u.structs; abilities = λ i l. refl; params = λ i l. refl }
 
-abbrev pub only : List Struct → State
-only ds = record { nodes = []; args = []; vars = []; constraints = []; structs = ds }
-
 pub arity_fits : (w : List ℕ) (u : Used) (n many : ℕ) → Arities (view w u).structs → many ≡ length (get_or (view w u).structs n struct_table.blank).params → many ≤ 8
 unfolding Arities
 arity_fits w u n many a e = rw e (a n)
-
-pub tag_begins : (s : State) (loc left tag n : ℕ) (l : Bytes) (b : List ℕ) (end : ℕ) (h : Head) → tag ≡ n → Begins (λ part. get_or (by_tag s part loc left) n (refuse malformed) l) b end h
-    → Begins (λ part. get_or (by_tag s part loc left) tag (refuse malformed) l) b end h
-tag_begins s loc left tag n l b end h e k = subst (λ (t : ℕ). Begins (λ part. get_or (by_tag s part loc left) t (refuse malformed) l) b end h) (sym e) k
 
 pub read_deep : (nest : ℕ) (s : State) (l : Bytes) → 0 < nest
     → read_nested nest s l ≡ go_on (byte_to 8 l) (λ tag m. go_on (read_u32 m) (λ loc n. get_or (by_tag s (read_nested (nest - 1) s) loc (nest - 1)) tag (refuse malformed) n))
@@ -49,27 +39,7 @@ pub no_nest : (nest : ℕ) (s : State) (l : Bytes) → nest ≡ 0 → not_read m
 unfolding read_nested refuse
 no_nest nest s l e = rw e refl
 
-abbrev pub knowing : ℕ → State
-knowing n = record { nodes = []; args = []; vars = replicate n unbound; constraints = []; structs = [] }
-
-pub knowing_is : (n : ℕ) → taken (knowing n) ≡ n
-knowing_is n = length-replicate n unbound
-
-pub nests : (h : Head) (nest : ℕ) → 0 < nest → HeadNests h nest
-nests (Begun h loc next) nest p = p
-nests Broken nest p = tt
-nests Unnamed nest p = tt
-nests Doubled nest p = tt
-
 -- R-6: what is done with the type under a reference, once its tag is looked at
 pub under_ref_is : (left : ℕ) (l : Bytes) (t : Bool) → t ≡ ltb 0 left && eqb (get_or l 0 0) 1 → (part : Reader Tree) → under_ref left part l ≡ (if t then not_read doubled_reference else part l)
 unfolding under_ref
 under_ref_is left l t e part = rw e refl
-
-next : (n tag : ℕ) → n ≤ tag → (tag ≡ n → ⊥) → n + 1 ≤ tag
-next n tag l e = omega arith
-
--- the one tag left
-pub last_tag : (t : ℕ) → t ≤ 8 → (t ≡ 0 → ⊥) → (t ≡ 1 → ⊥) → (t ≡ 2 → ⊥) → (t ≡ 3 → ⊥) → (t ≡ 4 → ⊥) → (t ≡ 5 → ⊥) → (t ≡ 6 → ⊥) → (t ≡ 7 → ⊥) → t ≡ 8
-last_tag t l a b c d e f g h =
-    le_antisymm l (next 7 t (next 6 t (next 5 t (next 4 t (next 3 t (next 2 t (next 1 t (next 0 t (omega arith) a) b) c) d) e) f) g) h)

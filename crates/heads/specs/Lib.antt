@@ -1,2 +1,2 @@
--- What is left of the caller's bytes, and the fields of a type as read. Assumes nothing: these are definitions.
+-- The fields of a type as read. Assumes nothing: these are definitions.
 pub mod Fields

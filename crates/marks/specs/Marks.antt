@@ -1,5 +1,5 @@
 -- What the definition reads after a mark. Assumes nothing: these are definitions.
-use Rattle.std.specs.Prelude.{ℕ}
+use Rattle.std.specs.Prelude.{ℕ, Option, Some, None}
 use Rattle.definition.specs.Types.{State, malformed}
 use Rattle.definition.specs.Store.{taken}
 use Rattle.definition.specs.Reader.{Reader, give, refuse, read_one, read_two, read_three, name_below, read_u32}
@@ -35,17 +35,17 @@ abbrev pub loc_type_record : LocTypeMark → ℕ → Tree → Record
 loc_type_record BC = d.BC
 loc_type_record SC = d.SC
 
--- the reader of a mark's fields
-abbrev pub reader_of : RecordMark → State → Reader Record
-reader_of m.SD s = read_SD s
-reader_of m.SN s = read_two d.SN (name_below (taken s)) read_u32
-reader_of m.TS s = read_TS s
-reader_of m.IN s = read_one d.IN (read_type s)
-reader_of m.NC s = read_three d.NC read_u32 read_kind (read_type s)
-reader_of m.SV s = give d.SV
-reader_of m.RM s = read_one d.RM (read_type s)
-reader_of (m.Loc x) s = read_one (loc_record x) read_u32
-reader_of (m.Look x) s = read_one (look_record x) (read_type s)
-reader_of (m.Two x) s = read_two (two_record x) (read_type s) (read_type s)
-reader_of (m.LocType x) s = read_two (loc_type_record x) read_u32 (read_type s)
-reader_of m.Other s = refuse malformed
+-- the reader of a mark's fields; other letters are malformed
+abbrev pub reader_of : Option RecordMark → State → Reader Record
+reader_of (Some m.SD) s = read_SD s
+reader_of (Some m.SN) s = read_two d.SN (name_below (taken s)) read_u32
+reader_of (Some m.TS) s = read_TS s
+reader_of (Some m.IN) s = read_one d.IN (read_type s)
+reader_of (Some m.NC) s = read_three d.NC read_u32 read_kind (read_type s)
+reader_of (Some m.SV) s = give d.SV
+reader_of (Some m.RM) s = read_one d.RM (read_type s)
+reader_of (Some (m.Loc x)) s = read_one (loc_record x) read_u32
+reader_of (Some (m.Look x)) s = read_one (look_record x) (read_type s)
+reader_of (Some (m.Two x)) s = read_two (two_record x) (read_type s) (read_type s)
+reader_of (Some (m.LocType x)) s = read_two (loc_type_record x) read_u32 (read_type s)
+reader_of None s = refuse malformed

@@ -1,7 +1,7 @@
 // A record's mark: two letters, in ASCII.
 #![tactic(auto)]
 
-ghost use Rattle.std.specs.Prelude.{◌≡◌, ◌&&◌, eqb};
+ghost use Rattle.std.specs.Prelude.{◌≡◌};
 ghost use Rattle.definition.specs.Types as d;
 ghost use Rattle.definition.specs.Record.{by_mark, fields_of};
 ghost use Rattle.marks.specs.Marks.{reader_of};
@@ -38,7 +38,7 @@ pub enum LocTypeMark {
 
 // ---- a record's mark
 
-// The two bytes that a record begins with, or others.
+// The two bytes that a record begins with.
 #[derive(Clone, Copy)]
 pub enum RecordMark {
     SD,
@@ -52,16 +52,13 @@ pub enum RecordMark {
     Look(LookMark),
     Two(TwoMark),
     LocType(LocTypeMark),
-    Other,
 }
 
 // A mark's two letters, and the mark.
 #[derive(Clone, Copy)]
 struct Letters(u8, u8, RecordMark);
 
-const COUNT: usize = 15;
-
-const MARKS: [Letters; COUNT] = [
+const MARKS: [Letters; 15] = [
     Letters(b'S', b'D', RecordMark::SD),
     Letters(b'F', b'V', RecordMark::Loc(LocMark::FV)),
     Letters(b'N', b'V', RecordMark::Loc(LocMark::NV)),
@@ -79,23 +76,14 @@ const MARKS: [Letters; COUNT] = [
     Letters(b'R', b'M', RecordMark::RM),
 ];
 
-fn same(x: u32, y: u32, a: u8, c: u8) -> bool
-    ensures { result ≡ (eqb x a && eqb y c) }
+// The mark that these letters are, if any.
+pub fn mark_of(first: u8, second: u8) -> Option<RecordMark>
+    ensures { (s : d.State) → reader_of result s ≡ fields_of (by_mark s) first second }
 {
-    if x == a as u32 { y == c as u32 } else { false }
-}
-
-pub fn mark_of(x: u32, y: u32) -> RecordMark
-    ensures { (s : d.State) → reader_of result s ≡ fields_of (by_mark s) x y }
-{
-    let marks = MARKS;
-    let mut k: usize = 0;
-    while k < COUNT {
-        let row = marks[k];
-        if same(x, y, row.0, row.1) {
-            return row.2;
+    for Letters(a, b, mark) in MARKS {
+        if first == a && second == b {
+            return Some(mark);
         }
-        k = k + 1;
     }
-    RecordMark::Other
+    None
 }

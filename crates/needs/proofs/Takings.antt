@@ -1,7 +1,7 @@
 -- Takings added up: of a type and its parts, and how few they are. First the laws of sums, then trees in a row, then a type as its own takings and its parts' (`whole`), then the bounds. Assumes nothing.
 use mathlib.Core.Path.{◌≡◌, refl, sym, ap, ◌∙◌}
 use mathlib.Core.Bool.{Bool, true, false}
-use Rattle.std.specs.Prelude.{Option, None, Some}
+use Rattle.std.specs.Prelude.{Option, Some, None}
 use Prim.Native.Nat.{ℕ, suc, ◌+◌, ◌≤◌}
 use native.Mathlib.Omega.{arith}
 use lib.Dec.{leb}
@@ -16,7 +16,7 @@ use Rattle.table.specs.declared.Shape.{Shape}
 use Rattle.table.specs.declared.Shape.TheVariants.{Unit as UnitS, Ref, Param, Apply, Var, Anything, UnresolvedError}
 use Rattle.heads.specs.Fields.{many_parts, first_tree, tree_of}
 use Rattle.needs.specs.declared.Sums.{Sums}
-use Rattle.needs.specs.Counted.{sums, both, needs_of, Most, own, beside, is_apply, as_argument}
+use Rattle.needs.specs.Counted.{sums, both, needs_of, Each, Most, own, beside, is_apply, as_argument}
 
 -- ---- laws of sums
 
@@ -43,15 +43,11 @@ unfolding ◌plus◌
 nothing_plus None = refl
 nothing_plus (Some a) = same (omega arith) (omega arith) (omega arith) (omega arith)
 
-pub of_both : (a b : Sums) → needs_of (both a b) ≡ needs_of a plus needs_of b
+pub of_both : (a b : Option Sums) → needs_of (both a b) ≡ needs_of a plus needs_of b
 unfolding ◌plus◌
-of_both a b = go a.met b.met
-  where
-    go : (x y : Bool) → needs_of (both (sums a.nodes a.places a.variables a.constraints x) (sums b.nodes b.places b.variables b.constraints y))
-        ≡ needs_of (sums a.nodes a.places a.variables a.constraints x) plus needs_of (sums b.nodes b.places b.variables b.constraints y)
-    go true y = refl
-    go false true = refl
-    go false false = refl
+of_both (Some a) (Some b) = refl
+of_both (Some a) None = refl
+of_both None b = refl
 
 -- ---- trees in a row
 
@@ -111,7 +107,7 @@ one_of (◌then◌ t no_trees) e = plus_nothing _
 one_of (◌then◌ t (◌then◌ u ts)) e = absurd (omega arith)
 
 module _ (loc : ℕ) (ts : Trees) where
-  pub whole : (arg : Bool) (h : Shape) → size ts ≡ many_parts h → as_argument arg (tree_of loc h ts) ≡ needs_of (both (own h) (beside arg h)) plus sum_of (is_apply h) ts
+  pub whole : (arg : Bool) (h : Shape) → size ts ≡ many_parts h → as_argument arg (tree_of loc h ts) ≡ needs_of (both (own h) (Some (beside arg h))) plus sum_of (is_apply h) ts
   unfolding as_argument needs needs_args merge ◌plus◌
   whole false UnitS e = rw (none_of ts e)
   whole false (Ref m t) e = rw (one_of ts e)
@@ -130,7 +126,7 @@ module _ (loc : ℕ) (ts : Trees) where
 
 -- ---- how few
 
-fits : (n : ℕ) (c : Sums) → leb c.nodes n ≡ true → leb c.places n ≡ true → leb c.variables n ≡ true → leb c.constraints n ≡ true → Most n c
+fits : (n : ℕ) (c : Sums) → leb c.nodes n ≡ true → leb c.places n ≡ true → leb c.variables n ≡ true → leb c.constraints n ≡ true → Each n c
 fits n c p q r t = record { nodes = omega (arith, leb-true); places = omega (arith, leb-true); variables = omega (arith, leb-true); constraints = omega (arith, leb-true) }
 
 own_most : (h : Shape) → Most 2 (own h)
@@ -138,11 +134,11 @@ own_most UnitS = fits 2 _ refl refl refl refl
 own_most (Ref m t) = fits 2 _ refl refl refl refl
 own_most (Param id a) = fits 2 _ refl refl refl refl
 own_most (Apply k n first many) = fits 2 _ refl refl refl refl
-own_most (Var v) = fits 2 _ refl refl refl refl
+own_most (Var v) = tt
 own_most Anything = fits 2 _ refl refl refl refl
 own_most UnresolvedError = fits 2 _ refl refl refl refl
 
-beside_most : (arg : Bool) (h : Shape) → Most 5 (beside arg h)
+beside_most : (arg : Bool) (h : Shape) → Each 5 (beside arg h)
 beside_most false h = fits 5 _ refl refl refl refl
 beside_most true UnitS = fits 5 _ refl refl refl refl
 beside_most true (Ref m t) = fits 5 _ refl refl refl refl
@@ -152,24 +148,27 @@ beside_most true (Var v) = fits 5 _ refl refl refl refl
 beside_most true Anything = fits 5 _ refl refl refl refl
 beside_most true UnresolvedError = fits 5 _ refl refl refl refl
 
-pub more : (n m : ℕ) (c : Sums) → n ≤ m → Most n c → Most m c
-more n m c l p = let a = p.nodes in let b = p.places in let d = p.variables in let e = p.constraints in
+pub more : (n m : ℕ) (c : Option Sums) → n ≤ m → Most n c → Most m c
+more n m None l p = tt
+more n m (Some c) l p = let a = p.nodes in let b = p.places in let d = p.variables in let e = p.constraints in
     record { nodes = omega arith; places = omega arith; variables = omega arith; constraints = omega arith }
 
-pub both_most : (n m : ℕ) (a b : Sums) → Most n a → Most m b → Most (n + m) (both a b)
-both_most n m a b p q =
+pub both_most : (n m : ℕ) (a b : Option Sums) → Most n a → Most m b → Most (n + m) (both a b)
+both_most n m None b p q = tt
+both_most n m (Some a) None p q = tt
+both_most n m (Some a) (Some b) p q =
     let a1 = p.nodes in let a2 = p.places in let a3 = p.variables in let a4 = p.constraints in
     let b1 = q.nodes in let b2 = q.places in let b3 = q.variables in let b4 = q.constraints in
     record { nodes = omega arith; places = omega arith; variables = omega arith; constraints = omega arith }
 
-pub head_most : (arg : Bool) (h : Shape) → Most 7 (both (own h) (beside arg h))
-head_most arg h = both_most 2 5 (own h) (beside arg h) (own_most h) (beside_most arg h)
+pub head_most : (arg : Bool) (h : Shape) → Most 7 (both (own h) (Some (beside arg h)))
+head_most arg h = both_most 2 5 (own h) (Some (beside arg h)) (own_most h) (beside_most arg h)
 
 pub few_own : (h : Shape) → Most 65536 (own h)
 few_own h = more 2 65536 (own h) (omega arith) (own_most h)
 
-pub few_beside : (arg : Bool) (h : Shape) → Most 65536 (beside arg h)
-few_beside arg h = more 5 65536 (beside arg h) (omega arith) (beside_most arg h)
+pub few_beside : (arg : Bool) (h : Shape) → Most 65536 (Some (beside arg h))
+few_beside arg h = more 5 65536 (Some (beside arg h)) (omega arith) (beside_most arg h)
 
 name_least : (n : TypeName) → 5 ≤ name_size n
 unfolding name_size

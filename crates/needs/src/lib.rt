@@ -1,82 +1,64 @@
 // R-3: what IN of a type takes of each table, counted from the type's bytes by the reader's own heads. Nothing is placed.
 #![tactic(auto)]
 
-ghost use Rattle.std.specs.Prelude.{◌≡◌, ◌||◌, false, ℕ, ◌≤◌, length};
+ghost use Rattle.std.specs.Prelude.{◌≡◌, ◌≤◌};
 ghost use Rattle.definition.specs.Trees.{read_nested};
 ghost use Rattle.table.specs.State.{view, Lay};
-ghost use Rattle.heads.specs.declared.Head.TheVariants.{Begun};
-ghost use Rattle.heads.specs.Fields.{rest, many_parts, tree_read, Arities};
+ghost use Rattle.heads.specs.Fields.{many_parts, tree_read, Arities};
 ghost use Rattle.needs.specs.Counted.{Counts, Most, beside, both, is_apply, own, sums};
 
+use cursor::{ReadError, Reader};
 use heads::{Head, read_head};
-use reader::{Part, part_count, stops};
+use reader::part_count;
 use table::{Shape, Used};
 
-// Nodes, argument places, variables and constraints. met: a variable was met; the sums go on and mean nothing.
+// Nodes, argument places, variables and constraints.
 #[derive(Clone, Copy)]
 pub struct Sums {
     pub nodes: u32,
     pub places: u32,
     pub variables: u32,
     pub constraints: u32,
-    pub met: bool,
 }
 
-// A type counted, or 5, 6 or 18; and the place after it.
-#[derive(Clone, Copy)]
-pub struct Counted {
-    pub part: Part,
-    pub sums: Sums,
-    pub next: usize,
-}
+// ---- sums; none once a variable was met
 
-// ---- sums
-
-fn takes(nodes: u32, places: u32, variables: u32, constraints: u32, met: bool) -> Sums
-    ensures { result ≡ sums nodes places variables constraints met }
+fn takes(nodes: u32, places: u32, variables: u32, constraints: u32) -> Sums
+    ensures { result ≡ sums nodes places variables constraints }
 {
     Sums {
         nodes,
         places,
         variables,
         constraints,
-        met,
     }
 }
 
-fn either(a: bool, b: bool) -> bool
-    ensures { result ≡ a || b }
-{
-    if a {
-        return true;
-    }
-    b
-}
-
-fn both(a: Sums, b: Sums) -> Sums
+fn both(a: Option<Sums>, b: Option<Sums>) -> Option<Sums>
     requires { Most 65536 a × Most 65536 b }
     ensures { result ≡ both a b }
 {
-    takes(
+    let a = a?;
+    let b = b?;
+    Some(takes(
         a.nodes + b.nodes,
         a.places + b.places,
         a.variables + b.variables,
         a.constraints + b.constraints,
-        either(a.met, b.met),
-    )
+    ))
 }
 
 // ---- a type without its parts
 
-fn own(shape: Shape) -> Sums
+fn own(shape: Shape) -> Option<Sums>
     ensures { result ≡ own shape }
 {
     match shape {
-        Shape::Ref(_, _) => takes(2, 0, 0, 1, false),
-        Shape::Apply(_, _, _, _) => takes(2, 0, 0, 0, false),
-        Shape::Var(_) => takes(0, 0, 0, 0, true),
-        Shape::Anything => takes(2, 0, 1, 0, false),
-        _ => takes(1, 0, 0, 0, false),
+        Shape::Ref(_, _) => Some(takes(2, 0, 0, 1)),
+        Shape::Apply(_, _, _, _) => Some(takes(2, 0, 0, 0)),
+        Shape::Var(_) => None,
+        Shape::Anything => Some(takes(2, 0, 1, 0)),
+        _ => Some(takes(1, 0, 0, 0)),
     }
 }
 
@@ -86,11 +68,11 @@ fn beside(arg: bool, shape: Shape) -> Sums
 {
     if arg {
         match shape {
-            Shape::Anything => takes(5, 2, 2, 2, false),
-            _ => takes(1, 2, 1, 2, false),
+            Shape::Anything => takes(5, 2, 2, 2),
+            _ => takes(1, 2, 1, 2),
         }
     } else {
-        takes(0, 0, 0, 0, false)
+        takes(0, 0, 0, 0)
     }
 }
 
@@ -98,53 +80,26 @@ fn beside(arg: bool, shape: Shape) -> Sums
 fn is_apply(shape: Shape) -> bool
     ensures { result ≡ is_apply shape }
 {
-    match shape {
-        Shape::Unit => false,
-        Shape::Ref(_, _) => false,
-        Shape::Param(_, _) => false,
-        Shape::Apply(_, _, _, _) => true,
-        Shape::Var(_) => false,
-        Shape::Anything => false,
-        Shape::UnresolvedError => false,
-    }
+    matches!(shape, Shape::Apply(_, _, _, _))
 }
 
 // ---- a type and its parts
-
-fn stopped(part: Part, at: usize) -> Counted
-    ensures { result ≡ record { part = part; sums = sums 0 0 0 0 false; next = at } }
-{
-    let none = takes(0, 0, 0, 0, false);
-    Counted {
-        part,
-        sums: none,
-        next: at,
-    }
-}
 
 // A type at most `nest` deep; arg: it is an argument of a name.
 #[cycle(count_parts_count_type)]
 pub fn count_type(
     w: &[u32],
     u: Used,
-    b: &[u8],
-    end: usize,
-    at: usize,
+    r: &mut Reader,
     known: u32,
     nest: u32,
     arg: bool,
-) -> Counted
-    requires lay { Lay w.now u × Arities (view w.now u).structs }
-    requires end_in_bounds { (length b.now ≤ 4096) × ((end ≤ length b.now) × ((at ≤ end) × (known ≤ 1024))) }
-    ensures { Counts w.now u b.now end known arg (λ s. read_nested nest s (rest b.now end at)) result }
+) -> Result<Option<Sums>, ReadError>
+    requires { Lay w.now u × Arities (view w.now u).structs }
+    ensures { Counts w.now u known arg (λ s. read_nested nest s r.old.left.now) r.new.left.now result }
 {
-    let h = read_head(w, u, b, end, at, known, nest);
-    match h {
-        Head::Begun(shape, _, next) => count_parts(w, u, b, end, next, known, nest - 1, arg, shape),
-        Head::Broken => stopped(Part::Malformed, at),
-        Head::Unnamed => stopped(Part::Unknown, at),
-        Head::Doubled => stopped(Part::Doubled, at),
-    }
+    let head = read_head(w, u, r, known, nest)?;
+    count_parts(w, u, r, known, nest - 1, arg, head)
 }
 
 // Its parts, beside itself.
@@ -152,37 +107,22 @@ pub fn count_type(
 fn count_parts(
     w: &[u32],
     u: Used,
-    b: &[u8],
-    end: usize,
-    at: usize,
+    r: &mut Reader,
     known: u32,
     nest: u32,
     arg: bool,
-    shape: Shape,
-) -> Counted
+    head: Head,
+) -> Result<Option<Sums>, ReadError>
     requires lay { Lay w.now u × Arities (view w.now u).structs }
-    requires end_in_bounds { (length b.now ≤ 4096) × ((end ≤ length b.now) × ((at ≤ end) × ((known ≤ 1024) × (many_parts shape ≤ 8)))) }
-    ensures { (loc : ℕ) → Counts w.now u b.now end known arg (λ s. tree_read (Begun shape loc at) b.now end (read_nested nest s)) result }
+    requires few { many_parts head.shape ≤ 8 }
+    ensures { Counts w.now u known arg (λ s. tree_read (Ok head) r.old.left.now (read_nested nest s)) r.new.left.now result }
 {
-    let n = part_count(shape);
-    let args = is_apply(shape);
-    let mut all = both(own(shape), beside(arg, shape));
-    let mut next = at;
-    let mut i: usize = 0;
-    while i < n {
-        let r = count_type(w, u, b, end, next, known, nest, args);
-        let p = r.part;
-        if stops(p) {
-            return r;
-        }
-        let c = r.sums;
-        all = both(all, c);
-        next = r.next;
-        i = i + 1;
+    let n = part_count(head.shape);
+    let args = is_apply(head.shape);
+    let mut all = both(own(head.shape), Some(beside(arg, head.shape)));
+    for _i in 0..n {
+        let part = count_type(w, u, r, known, nest, args)?;
+        all = both(all, part);
     }
-    Counted {
-        part: Part::At(0),
-        sums: all,
-        next,
-    }
+    Ok(all)
 }

@@ -2,13 +2,13 @@
 use mathlib.Core.Path.{◌≡◌, refl, sym, ap, ◌∙◌, subst}
 use mathlib.Core.Bool.{Bool, true, false}
 use mathlib.Core.List.{List, [], ◌∷◌, ◌++◌, append-nil, append_assoc}
-use Prim.Native.Nat.{ℕ, suc, ◌+◌}
+use Prim.Native.Nat.{ℕ, suc, ◌+◌, ◌<◌}
 use native.Mathlib.Omega.{arith}
 use lib.ListN.{length, get_or}
 use lib.Dec.{ltb, leb}
 use Rattle.definition.specs.Types as d
-use Rattle.std.specs.Prelude.{if◌then◌else◌}
-use Rattle.definition.specs.Types.{State, Refusal, max_nodes, max_args, malformed, unknown_name, doubled_reference, full, Result, ok, err, refused, ◌>>=◌}
+use Rattle.std.specs.Prelude.{Option, Some, None, Ok, Err, is_none, unwrap_or, if◌then◌else◌}
+use Rattle.definition.specs.Types.{State, Refusal, max_nodes, max_args, full, Result, ok, err, refused, ◌>>=◌}
 use Rattle.definition.specs.Store.{count, args_of, with_node, sp}
 use Rattle.definition.specs.Write.{Bytes}
 use Rattle.definition.specs.Reader.{Read, got, not_read, Reader, give, go_on}
@@ -21,10 +21,10 @@ use Rattle.table.specs.declared.Shape.TheVariants.{Unit as UnitS, Ref, Param, Ap
 use Rattle.table.specs.State.{outcome, done, NodesIn}
 use Rattle.table.specs.declared.Out.{Out}
 use Rattle.table.specs.declared.Out.TheVariants.{Done, Failed, Refused}
-use Rattle.reader.specs.declared.Part.{Part}
-use Rattle.reader.specs.declared.Part.TheVariants.{At, Full, Malformed, Unknown, Doubled}
+use Rattle.cursor.specs.Words.{refusal}
+use Rattle.cursor.specs.declared.ReadError.{ReadError}
 use Rattle.heads.specs.Fields.{many_parts, tree_of}
-use Rattle.reader.specs.Taken.{Placed, stopped, placed, place_read, part_of, PartIn, found_part, is_stop, is_over, node_in, with_parts, put_node}
+use Rattle.reader.specs.Taken.{Placed, stopped, placed, place_read, part_of, PlacedSo, with_parts, put_node}
 
 pub never : {A : Type 0} → ◌≡◌ {A = ℕ} 0 1 → A
 never e = absurd (omega arith)
@@ -156,29 +156,16 @@ module _ (part : Reader Tree) (m : ℕ) where
 
 -- ---- what the loop makes of an answer
 
-is_not : {A : Type 0} → true ≡ false → A
-is_not e = never (ap (λ (b : Bool). if b then 0 else 1) e)
-
-not_is : {A : Type 0} → false ≡ true → A
-not_is e = never (ap (λ (b : Bool). if b then 1 else 0) e)
-
-pub turn : (part : Reader Tree) (m : ℕ) (l : Bytes) (over : Bool) (s s' : State) (p : Part) (k : Bytes) (xs : List ℕ) → is_stop p ≡ false → part_of p s' k ≡ place_read over build (part l) s
-    → onward xs (place_read over build_all (read_trees (suc m) part l) s) ≡ onward (xs ++ (node_in p ∷ [])) (place_read (is_over p) build_all (read_trees m part k) s')
+pub turn : (part : Reader Tree) (m : ℕ) (l : Bytes) (over : Bool) (s s' : State) (o : Option ℕ) (k : Bytes) (xs : List ℕ) → part_of (Ok o) s' k ≡ place_read over build (part l) s
+    → onward xs (place_read over build_all (read_trees (suc m) part l) s) ≡ onward (xs ++ (unwrap_or o 0 ∷ [])) (place_read (is_none o) build_all (read_trees m part k) s')
 unfolding read_trees r.◌>>=◌
-turn part m l over s s' (At t) k xs n e = ap (λ (q : Placed (List ℕ)). onward xs q) (step_at part m (part l) over s s' t k e) ∙ onward_onward xs (t ∷ []) (place_read false build_all (read_trees m part k) s')
-turn part m l over s s' Full k xs n e = ap (λ (q : Placed (List ℕ)). onward xs q) (step_over part m (part l) over s s' k e) ∙ over_any xs (xs ++ (0 ∷ [])) (read_trees m part k) s' s'
-turn part m l over s s' Malformed k xs n e = is_not n
-turn part m l over s s' Unknown k xs n e = is_not n
-turn part m l over s s' Doubled k xs n e = is_not n
+turn part m l over s s' (Some t) k xs e = ap (λ (q : Placed (List ℕ)). onward xs q) (step_at part m (part l) over s s' t k e) ∙ onward_onward xs (t ∷ []) (place_read false build_all (read_trees m part k) s')
+turn part m l over s s' None k xs e = ap (λ (q : Placed (List ℕ)). onward xs q) (step_over part m (part l) over s s' k e) ∙ over_any xs (xs ++ (0 ∷ [])) (read_trees m part k) s' s'
 
-pub stop : (part : Reader Tree) (m : ℕ) (l : Bytes) (over : Bool) (s s' : State) (p : Part) (k : Bytes) (xs : List ℕ) (loc : ℕ) (h : Shape) → is_stop p ≡ true → part_of p s' k ≡ place_read over build (part l) s
-    → part_of p s' k ≡ then_node loc h (onward xs (place_read over build_all (read_trees (suc m) part l) s))
+pub stop : (part : Reader Tree) (m : ℕ) (l : Bytes) (over : Bool) (s : State) (x : Refusal) (xs : List ℕ) (loc : ℕ) (h : Shape) → stopped x ≡ place_read over build (part l) s
+    → stopped x ≡ then_node loc h (onward xs (place_read over build_all (read_trees (suc m) part l) s))
 unfolding read_trees r.◌>>=◌
-stop part m l over s s' (At t) k xs loc h n e = not_is n
-stop part m l over s s' Full k xs loc h n e = not_is n
-stop part m l over s s' Malformed k xs loc h n e = ap (λ (q : Placed (List ℕ)). then_node loc h (onward xs q)) (step_stop part m (part l) over s malformed e)
-stop part m l over s s' Unknown k xs loc h n e = ap (λ (q : Placed (List ℕ)). then_node loc h (onward xs q)) (step_stop part m (part l) over s unknown_name e)
-stop part m l over s s' Doubled k xs loc h n e = ap (λ (q : Placed (List ℕ)). then_node loc h (onward xs q)) (step_stop part m (part l) over s doubled_reference e)
+stop part m l over s x xs loc h e = ap (λ (q : Placed (List ℕ)). then_node loc h (onward xs q)) (step_stop part m (part l) over s x e)
 
 -- a node was placed: there was space before
 pub at_open : (over : Bool) (x : Read Tree) (s s' : State) (t : ℕ) (k : Bytes) → placed (ok (s', t)) k ≡ place_read over build x s → over ≡ false
@@ -189,7 +176,7 @@ at_open true (not_read y) s s' t k e = never (cc)
 
 -- no part is left
 pub none_left : (part : Reader Tree) (l : Bytes) (over : Bool) (s : State) (xs : List ℕ) (loc : ℕ) (h : Shape)
-    → then_node loc h (onward xs (place_read over build_all (read_trees 0 part l) s)) ≡ placed (put_node over loc h xs s) l
+    → then_node loc h (onward xs (place_read over build_all (read_trees 0 part l) s)) ≡ placed (if over then refused full else put_node loc h xs s) l
 unfolding read_trees give place_read build_all put_node ◌>>=◌
 none_left part l true s xs loc h = refl
 none_left part l false s xs loc h = ap (λ (k : List ℕ). placed (sp s loc (with_parts h k)) l) (append-nil xs)
@@ -206,24 +193,23 @@ sp_fine true true x = tt
 sp_fine true false x = refl
 sp_fine false b x = refl
 
-put_fine : (over : Bool) (loc : ℕ) (h : Shape) (tys : List ℕ) (s : State) → Fine (put_node over loc h tys s)
+put_fine : (loc : ℕ) (h : Shape) (tys : List ℕ) (s : State) → Fine (put_node loc h tys s)
 unfolding put_node sp
-put_fine true loc h tys s = refl
-put_fine false loc h tys s =
+put_fine loc h tys s =
     let v = with_parts h tys in
     sp_fine (ltb (count s) max_nodes) (leb (length s.args + length (args_of v)) max_args) (with_node s loc v, count s)
 
 -- what an answer of a step stands for
-pub found_is : (o : Out) (over : Bool) (loc : ℕ) (h : Shape) (tys : List ℕ) (s s' : State) (l : Bytes) → outcome o s' ≡ put_node over loc h tys s → part_of (found_part (done o)) s' l ≡ placed (put_node over loc h tys s) l
+pub found_is : (o : Out) (loc : ℕ) (h : Shape) (tys : List ℕ) (s s' : State) (l : Bytes) → outcome o s' ≡ put_node loc h tys s → part_of (Ok (done o)) s' l ≡ placed (put_node loc h tys s) l
 unfolding outcome
-found_is o over loc h tys s s' l e = by o e (subst Fine (sym e) (put_fine over loc h tys s))
+found_is o loc h tys s s' l e = by o e (subst Fine (sym e) (put_fine loc h tys s))
   where
-    by : (o : Out) → outcome o s' ≡ put_node over loc h tys s → Fine (outcome o s') → part_of (found_part (done o)) s' l ≡ placed (put_node over loc h tys s) l
+    by : (o : Out) → outcome o s' ≡ put_node loc h tys s → Fine (outcome o s') → part_of (Ok (done o)) s' l ≡ placed (put_node loc h tys s) l
     by (Done t) e f = ap (λ (q : Result (State × ℕ)). placed q l) e
     by (Failed x) e f = absurd f
     by (Refused x) e f = ap (λ (y : d.Refusal). placed (refused y) l) (sym f) ∙ ap (λ (q : Result (State × ℕ)). placed q l) e
 
-pub found_in : (o : Out) (n : ℕ) → NodesIn n o → PartIn n (found_part (done o))
+pub found_in : (o : Out) (n : ℕ) → NodesIn n o → PlacedSo (Ok (done o)) (λ t. t < n)
 found_in (Done t) n i = i
 found_in (Failed x) n i = tt
 found_in (Refused x) n i = tt

@@ -1,4 +1,4 @@
 -- Laws of the record reader. Assumes nothing.
+pub mod Onward
 pub mod Pairs
-pub mod Marks
 pub mod Whole

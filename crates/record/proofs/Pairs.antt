@@ -9,7 +9,9 @@ use native.Mathlib.Decide.{ℕ_discrete}
 use native.Mathlib.Omega.{arith}
 use lib.ListN.{length, get_or, set, length-set}
 use lib.Seq.{get_or-set_same, get_or-set_other}
-use Rattle.definition.specs.Types.{State, Struct, malformed, Result, ok, err, refused, ◌>>=◌}
+use Rattle.std.specs.Prelude as std
+use Rattle.std.specs.Prelude.{Option, Some, None, Ok, Err, is_none, unwrap_or}
+use Rattle.definition.specs.Types.{State, Struct, Refusal, Result, ok, err, refused, ◌>>=◌}
 use Rattle.definition.specs.Write.{Bytes}
 use Rattle.definition.specs.Reader as rd
 use Rattle.definition.specs.Reader.{Read, got, not_read, give, go_on, read_u32, times, read_two}
@@ -22,19 +24,19 @@ use Rattle.table.specs.State.{Lay, Grown, Declares, view, seen}
 use Rattle.table.specs.declared.Used.{Used}
 use Rattle.table.proofs.Steps.{grown_refl, grown_trans}
 use Rattle.table.proofs.Grown.{nodes_grow}
-use Rattle.reader.specs.declared.Part.{Part}
-use Rattle.reader.specs.declared.Part.TheVariants.{At, Full, Malformed, Unknown, Doubled}
-use Rattle.reader.specs.declared.Taken.{Taken}
-use Rattle.heads.specs.Fields.{rest, Knows}
-use Rattle.reader.specs.Taken.{place_read, Takes, is_stop, is_over, node_in}
-use Rattle.reader.proofs.Loop.{declares_kept}
+use Rattle.tparams.specs.Pairs.{id_at, pairs}
+use Rattle.cursor.specs.Words.{refusal}
+use Rattle.cursor.specs.declared.ReadError.{ReadError}
+use Rattle.heads.specs.Fields.{Knows}
+use Rattle.reader.specs.Taken.{place_read, Takes, PlacedSo}
+use Rattle.reader.proofs.Loop.{declares_kept, code}
+use Rattle.reader.proofs.Parts.{never}
 use Rattle.fields.specs.declared.Look.TheVariants as k
+use Rattle.fields.specs.declared.What.{What}
 use Rattle.fields.specs.declared.What.TheVariants as q
-use Rattle.fields.specs.declared.Whole.TheVariants as h
-use Rattle.fields.specs.declared.Fields.{Fields}
-use Rattle.fields.specs.Noded.{Noded, run, looks, tparams, solve, place_record, id_at, pairs, noded, FieldsAre, plain_fields, paired_fields, whole_of}
-use Rattle.fields.proofs.Placing.{is_not, last_type, first_type, type_stops}
-use Rattle.fields.proofs.Forms.{was_open, made_with, made_so, stop_so, first_in}
+use Rattle.fields.specs.Noded.{Noded, run, looks, tparams, place_record, FieldsAre}
+use Rattle.fields.proofs.Placing.{stopped_is, last_type, first_type}
+use Rattle.fields.proofs.Forms.{was_open, made, made_with, made_so, first_in}
 
 -- ---- pairs in two arrays
 
@@ -115,9 +117,9 @@ left_more s n id l k e = rw (← e) (by (read_type s k))
     by (got t j) = more_by t (times n (read_pair s) j)
     by (not_read z) = refl
 
-left_cut : (s : State) (n : ℕ) (l : Bytes) → not_read malformed ≡ read_u32 l → not_read malformed ≡ left_at s (suc n) l
+left_cut : (s : State) (n : ℕ) (x : Refusal) (l : Bytes) → not_read x ≡ read_u32 l → not_read x ≡ left_at s (suc n) l
 unfolding times read_pair read_two rd.◌>>=◌ go_on
-left_cut s n l e = rw (← e) refl
+left_cut s n x l e = rw (← e) refl
 
 left_none : (s : State) (l : Bytes) → left_at s 0 l ≡ go_on (read_type s l) (λ t. give ([], t))
 unfolding times go_on give
@@ -145,59 +147,57 @@ put_last xs t s = ap (λ (k : List (ℕ × ℕ)). build t s >>= (λ (s, n). ok (
 
 -- ---- the loop
 
-pub record PairsGo (w₀ : List ℕ) (u₀ : Used) (b : List ℕ) (end known n at : ℕ) (w : List ℕ) (u : Used) (next : ℕ) (over : Bool) (ids : List TParamID) (nodes : List ℕ) (i : ℕ) : Type 0 where
+pub record PairsGo (w₀ : List ℕ) (u₀ : Used) (l₀ : Bytes) (known n : ℕ) (w : List ℕ) (u : Used) (l : Bytes) (over : Bool) (ids : List TParamID) (nodes : List ℕ) (i : ℕ) : Type 0 where
   pub left : i ≤ n
   pub lay : Lay w u
   pub grown : Grown (view w₀ u₀) (view w u)
   pub structs : (view w u).structs ≡ (view w₀ u₀).structs
-  pub within : next ≤ end
   pub long_ids : length ids ≡ 8
   pub long : length nodes ≡ 8
   pub below : over ≡ false → (j : ℕ) → j < i → get_or nodes j 0 < u.nodes
   pub is : (ds : List Struct) (s : State) → Declares w₀ u₀ ds → Knows s known ds
-      → place_read false (put_left []) (left_at s n (rest b end at)) (seen w₀ u₀ ds) ≡ place_read over (put_left (pairs ids nodes 0 i)) (left_at s (n - i) (rest b end next)) (seen w u ds)
+      → place_read false (put_left []) (left_at s n l₀) (seen w₀ u₀ ds) ≡ place_read over (put_left (pairs ids nodes 0 i)) (left_at s (n - i) l) (seen w u ds)
 
-pub pairs_none : (w : List ℕ) (u : Used) (b : List ℕ) (end known n at : ℕ) (ids : List TParamID) (nodes : List ℕ) → Lay w u → at ≤ end → length ids ≡ 8 → length nodes ≡ 8 → PairsGo w u b end known n at w u at false ids nodes 0
+pub pairs_none : {w : List ℕ} {u : Used} (l : Bytes) (known n : ℕ) {ids : List TParamID} {nodes : List ℕ} → Lay w u → length ids ≡ 8 → length nodes ≡ 8 → PairsGo w u l known n w u l false ids nodes 0
 unfolding pairs
-pairs_none w u b end known n at ids nodes l a e e' =
+pairs_none {w} {u} l known n h e e' =
     record {
       left = omega arith;
-      lay = l;
+      lay = h;
       grown = grown_refl (view w u);
       structs = refl;
-      within = a;
       long_ids = e;
       long = e';
       below = λ o j h. absurd (omega arith);
-      is = λ ds s d k. ap (λ (j : ℕ). place_read false (put_left []) (left_at s j (rest b end at)) (seen w u ds)) (sym (sub-zero n));
+      is = λ ds s d k. ap (λ (j : ℕ). place_read false (put_left []) (left_at s j l) (seen w u ds)) (sym (sub-zero n));
     }
 
-module _ (w₀ : List ℕ) (u₀ : Used) (b : List ℕ) (end known n at : ℕ) (w : List ℕ) (u : Used) (next : ℕ) (over : Bool) (ids : List TParamID) (nodes : List ℕ) (i : ℕ) (g : PairsGo w₀ u₀ b end known n at w u next over ids nodes i) where
+module _ {w₀ : List ℕ} {u₀ : Used} {l₀ : Bytes} {known n : ℕ} {w : List ℕ} {u : Used} {l : Bytes} {over : Bool} {ids : List TParamID} {nodes : List ℕ} {i : ℕ} (g : PairsGo w₀ u₀ l₀ known n w u l over ids nodes i) where
   abbrev read_all : State → Read Record
-  read_all s = go_on (times n (read_pair s) (rest b end at)) (λ ps l. go_on (read_type s l) (λ t. give (d.TS ps t)))
+  read_all s = go_on (times n (read_pair s) l₀) (λ ps l. go_on (read_type s l) (λ t. give (d.TS ps t)))
 
   -- one pair more is read, if fewer than n are
   turn_is : i < n → (ds : List Struct) (s : State) → Declares w₀ u₀ ds → Knows s known ds
-      → place_read false place_record (read_all s) (seen w₀ u₀ ds) ≡ place_read over (put_left (pairs ids nodes 0 i)) (left_at s (suc (n - (i + 1))) (rest b end next)) (seen w u ds)
-  turn_is l ds s d k =
+      → place_read false place_record (read_all s) (seen w₀ u₀ ds) ≡ place_read over (put_left (pairs ids nodes 0 i)) (left_at s (suc (n - (i + 1))) l) (seen w u ds)
+  turn_is h ds s d k =
       let z : n - i ≡ suc (n - (i + 1)) = omega arith in
-      sym (left_is s n (rest b end at) (seen w₀ u₀ ds)) ∙ g.is ds s d k ∙ ap (λ (j : ℕ). place_read over (put_left (pairs ids nodes 0 i)) (left_at s j (rest b end next)) (seen w u ds)) z
+      sym (left_is s n l₀ (seen w₀ u₀ ds)) ∙ g.is ds s d k ∙ ap (λ (j : ℕ). place_read over (put_left (pairs ids nodes 0 i)) (left_at s j l) (seen w u ds)) z
 
-  pub pairs_cut : i < n → not_read malformed ≡ read_u32 (rest b end next) → FieldsAre w₀ u₀ b end known read_all w (plain_fields h.Malformed u next)
+  -- an id is not read
+  pub pairs_cut : {l' : Bytes} {e : ReadError} → i < n → not_read (refusal e) ≡ read_u32 l → FieldsAre w₀ u₀ known read_all w u l' (Err e)
   unfolding place_read
-  pairs_cut l e =
+  pairs_cut {e = e} h f =
       record {
         lay = g.lay;
         grown = g.grown;
         structs = g.structs;
         inside = tt;
-        within = g.within;
         is = λ ds s d k.
-            ap (λ (x : Read Left). place_read over (put_left (pairs ids nodes 0 i)) x (seen w u ds)) (left_cut s (n - (i + 1)) (rest b end next) e)
-            ∙ sym (turn_is l ds s d k);
+            ap (λ (x : Read Left). place_read over (put_left (pairs ids nodes 0 i)) x (seen w u ds)) (left_cut s (n - (i + 1)) (refusal e) l f)
+            ∙ sym (turn_is h ds s d k);
       }
 
-  module _ (id after_id : ℕ) (e : got id (rest b end after_id) ≡ read_u32 (rest b end next)) (w' : List ℕ) (r : Taken) (t : Takes w u b end known over (λ s. read_nested 64 s (rest b end after_id)) w' r) (l : i < n) where
+  module _ {id : ℕ} {l₁ : Bytes} (e : got id l₁ ≡ read_u32 l) (h : i < n) where
     abbrev one : Tree → Left → Left
     one t c = ((id, t) ∷ c.0, c.1)
 
@@ -205,96 +205,110 @@ module _ (w₀ : List ℕ) (u₀ : Used) (b : List ℕ) (end known n at : ℕ) (
     after x c s = put_left (pairs ids nodes 0 i ++ ((id, x) ∷ [])) c s
 
     pair_is : (ds : List Struct) (s : State) → Declares w₀ u₀ ds → Knows s known ds → place_read false place_record (read_all s) (seen w₀ u₀ ds)
-        ≡ place_read over (put_left (pairs ids nodes 0 i)) (go_on (read_nested 64 s (rest b end after_id)) (λ t l. go_on (left_at s (n - (i + 1)) l) (λ c. give (one t c)))) (seen w u ds)
+        ≡ place_read over (put_left (pairs ids nodes 0 i)) (go_on (read_nested 64 s l₁) (λ t l. go_on (left_at s (n - (i + 1)) l) (λ c. give (one t c)))) (seen w u ds)
     unfolding read_type
     pair_is ds s d k =
-        turn_is l ds s d k ∙ ap (λ (x : Read Left). place_read over (put_left (pairs ids nodes 0 i)) x (seen w u ds)) (left_more s (n - (i + 1)) id (rest b end next) (rest b end after_id) e)
+        turn_is h ds s d k ∙ ap (λ (x : Read Left). place_read over (put_left (pairs ids nodes 0 i)) x (seen w u ds)) (left_more s (n - (i + 1)) id l l₁ e)
 
-    pub pairs_stop : is_stop r.part ≡ true → FieldsAre w₀ u₀ b end known read_all w' (plain_fields (whole_of r.part q.SV) r.used r.next)
-    pairs_stop st =
+    -- a type is not read
+    pub pairs_stop : {w' : List ℕ} {u' : Used} {l' : Bytes} {x : ReadError} → Takes w u known over (λ s. read_nested 64 s l₁) w' u' l' (Err x) → FieldsAre w₀ u₀ known read_all w' u' l' (Err x)
+    unfolding place_read go_on
+    pairs_stop {x = x} t =
         record {
           lay = t.lay;
           grown = grown_trans _ _ _ g.grown t.grown;
           structs = t.structs ∙ g.structs;
-          inside = stop_so r.part _ _ st;
-          within = t.within;
+          inside = tt;
           is = λ ds s d k.
-              made_with r.part _ _ (λ (x : ℕ). solve) (seen w' r.used ds) (rest b end r.next) refl
-              ∙ type_stops (put_left (pairs ids nodes 0 i)) one after (put_one (pairs ids nodes 0 i) id) (left_at s (n - (i + 1))) r.part over (read_nested 64 s (rest b end after_id)) (seen w u ds)
-              (seen w' r.used ds) (rest b end r.next) (t.is ds s (declares_kept w₀ u₀ w u ds g.structs d) k) st _
-              ∙ sym (pair_is ds s d k);
+              let y = stopped_is (read_nested 64 s l₁) over (seen w u ds) (refusal x) (t.is ds s (declares_kept w₀ u₀ w u ds g.structs d) k) in
+              sym (pair_is ds s d k ∙ ap (λ (r : Read Tree). place_read over (put_left (pairs ids nodes 0 i)) (go_on r (λ t l. go_on (left_at s (n - (i + 1)) l) (λ c. give (one t c)))) (seen w u ds)) y);
         }
 
-    here : i < length nodes → is_over r.part ≡ false → is_stop r.part ≡ false → (j : ℕ) → j < i + 1 → get_or (set nodes i (node_in r.part)) j 0 < r.used.nodes
-    here lt o st j h = either (ℕ_discrete j i)
-      where
-        part_open : (p : Part) → p ≡ r.part → is_over p ≡ false → is_stop p ≡ false → over ≡ false
-        part_open (At x) q o st = was_open _ _ _ _ _ over _ _ r x t (sym q)
-        part_open Full q o st = is_not o
-        part_open Malformed q o st = is_not st
-        part_open Unknown q o st = is_not st
-        part_open Doubled q o st = is_not st
+    module _ {w' : List ℕ} {u' : Used} {l' : Bytes} {o : Option ℕ} (t : Takes w u known over (λ s. read_nested 64 s l₁) w' u' l' (Ok o)) where
+      here : i < length nodes → is_none o ≡ false → (j : ℕ) → j < i + 1 → get_or (set nodes i (unwrap_or o 0)) j 0 < u'.nodes
+      here lt b j h = either (ℕ_discrete j i)
+        where
+          part_open : (p : Option ℕ) → p ≡ o → is_none p ≡ false → over ≡ false
+          part_open (Some x) q b = was_open (rw (sym q) at t)
+          part_open None q b = never (ap code (sym b))
 
-        either : Dec (j ≡ i) → get_or (set nodes i (node_in r.part)) j 0 < r.used.nodes
-        either (yes q) =
-            rw (q, get_or-set_same nodes i (node_in r.part) 0 lt) (first_in r.part r.used.nodes r.used.nodes (omega arith) st o t.inside)
-        either (no q) =
-            let a : get_or nodes j 0 < u.nodes = g.below (part_open r.part refl o st) j (omega arith) in
-            let z : u.nodes ≤ r.used.nodes = nodes_grow w u w' r.used t.grown in
-            rw (get_or-set_other nodes i j (node_in r.part) 0 q) (omega arith)
+          either : Dec (j ≡ i) → get_or (set nodes i (unwrap_or o 0)) j 0 < u'.nodes
+          either (yes q) =
+              rw (q, get_or-set_same nodes i (unwrap_or o 0) 0 lt) (first_in o u'.nodes u'.nodes (omega arith) b t.inside)
+          either (no q) =
+              let a : get_or nodes j 0 < u.nodes = g.below (part_open o refl b) j (omega arith) in
+              let z : u.nodes ≤ u'.nodes = nodes_grow w u w' u' t.grown in
+              rw (get_or-set_other nodes i j (unwrap_or o 0) 0 q) (omega arith)
 
-    pub pairs_turn : n ≤ 8 → is_stop r.part ≡ false
-        → PairsGo w₀ u₀ b end known n at w' r.used r.next (is_over r.part) (set ids i (record { 0 = id })) (set nodes i (node_in r.part)) (i + 1)
-    pairs_turn few st =
-        let z : length nodes ≡ 8 = g.long in
-        let z' : length ids ≡ 8 = g.long_ids in
-        let lt : i < length nodes = omega arith in
-        let lt' : i < length ids = omega arith in
-        record {
-          left = omega arith;
-          lay = t.lay;
-          grown = grown_trans _ _ _ g.grown t.grown;
-          structs = t.structs ∙ g.structs;
-          within = t.within;
-          long_ids = length-set ids i (record { 0 = id }) ∙ g.long_ids;
-          long = length-set nodes i (node_in r.part) ∙ g.long;
-          below = λ o. here lt o st;
-          is = λ ds s d k.
-              left_is s n (rest b end at) (seen w₀ u₀ ds) ∙ pair_is ds s d k
-              ∙ first_type (put_left (pairs ids nodes 0 i)) one after (put_one (pairs ids nodes 0 i) id) (left_at s (n - (i + 1))) r.part over (read_nested 64 s (rest b end after_id)) (seen w u ds)
-              (seen w' r.used ds) (rest b end r.next) (t.is ds s (declares_kept w₀ u₀ w u ds g.structs d) k) st
-              ∙ ap (λ (xs : List (ℕ × ℕ)). place_read (is_over r.part) (put_left xs) (left_at s (n - (i + 1)) (rest b end r.next)) (seen w' r.used ds))
-              (sym (pairs_more ids nodes i (record { 0 = id }) (node_in r.part) lt' lt));
-        }
+      pub pairs_turn : n ≤ 8 → PairsGo w₀ u₀ l₀ known n w' u' l' (is_none o) (set ids i (record { 0 = id })) (set nodes i (unwrap_or o 0)) (i + 1)
+      pairs_turn few =
+          let z : length nodes ≡ 8 = g.long in
+          let z' : length ids ≡ 8 = g.long_ids in
+          let lt : i < length nodes = omega arith in
+          let lt' : i < length ids = omega arith in
+          record {
+            left = omega arith;
+            lay = t.lay;
+            grown = grown_trans _ _ _ g.grown t.grown;
+            structs = t.structs ∙ g.structs;
+            long_ids = length-set ids i (record { 0 = id }) ∙ g.long_ids;
+            long = length-set nodes i (unwrap_or o 0) ∙ g.long;
+            below = λ b. here lt b;
+            is = λ ds s d k.
+                left_is s n l₀ (seen w₀ u₀ ds) ∙ pair_is ds s d k
+                ∙ first_type (put_left (pairs ids nodes 0 i)) one after (put_one (pairs ids nodes 0 i) id) (left_at s (n - (i + 1))) o over (read_nested 64 s l₁) (seen w u ds)
+                (seen w' u' ds) l' (t.is ds s (declares_kept w₀ u₀ w u ds g.structs d) k)
+                ∙ ap (λ (xs : List (ℕ × ℕ)). place_read (is_none o) (put_left xs) (left_at s (n - (i + 1)) l') (seen w' u' ds))
+                (sym (pairs_more ids nodes i (record { 0 = id }) (unwrap_or o 0) lt' lt));
+          }
 
-  module _ (r : Taken) where
-    abbrev all_made : Fields
-    all_made = paired_fields (whole_of r.part (q.Look (k.TS n (node_in r.part)))) r.used r.next ids nodes
+  -- ---- the last type
 
-  pub pairs_all : n ≤ i → n ≤ 8 → (w' : List ℕ) (r : Taken) → Takes w u b end known over (λ s. read_nested 64 s (rest b end next)) w' r
-      → FieldsAre w₀ u₀ b end known read_all w' (all_made r)
-  unfolding read_type build_pairs
-  pairs_all l few w' r t =
+  last_is : n ≤ i → (ds : List Struct) (s : State) → Declares w₀ u₀ ds → Knows s known ds
+      → place_read over (put_left (pairs ids nodes 0 n)) (go_on (read_nested 64 s l) (λ t. give ([], t))) (seen w u ds) ≡ place_read false place_record (read_all s) (seen w₀ u₀ ds)
+  unfolding read_type
+  last_is h ds s d k =
       let z : i ≡ n = (let y = g.left in omega arith) in
       let none : n - i ≡ 0 = omega arith in
-      let up : u.nodes ≤ r.used.nodes = nodes_grow w u w' r.used t.grown in
+      ap (λ (x : Read Left). place_read over (put_left (pairs ids nodes 0 n)) x (seen w u ds)) (sym (left_none s l))
+      ∙ ap (λ (j : ℕ). place_read over (put_left (pairs ids nodes 0 n)) (left_at s j l) (seen w u ds)) (sym none)
+      ∙ ap (λ (j : ℕ). place_read over (put_left (pairs ids nodes 0 j)) (left_at s (n - i) l) (seen w u ds)) (sym z)
+      ∙ sym (g.is ds s d k) ∙ left_is s n l₀ (seen w₀ u₀ ds)
+
+  pub last_unread : n ≤ i → {w' : List ℕ} {u' : Used} {l' : Bytes} {x : ReadError} → Takes w u known over (λ s. read_nested 64 s l) w' u' l' (Err x) → FieldsAre w₀ u₀ known read_all w' u' l' (Err x)
+  unfolding place_read go_on
+  last_unread h {x = x} t =
       record {
         lay = t.lay;
         grown = grown_trans _ _ _ g.grown t.grown;
         structs = t.structs ∙ g.structs;
-        inside = made_so r.part r.used.nodes _ _ t.inside (λ x f q. (record { few = few; below = λ j h. under (was_open _ _ _ _ _ over _ _ r x t f) up j (omega arith) }, q));
-        within = t.within;
+        inside = tt;
         is = λ ds s d k.
-            made_with r.part (noded (all_made r)) _ (λ x. run (looks (tparams (pairs ids nodes 0 n) x))) (seen w' r.used ds) (rest b end r.next) refl
-            ∙ last_type (put_left (pairs ids nodes 0 n)) (λ t. ([], t)) (λ x. run (looks (tparams (pairs ids nodes 0 n) x))) (put_last (pairs ids nodes 0 n)) r.part over (read_nested 64 s (rest b end next)) (seen w u ds)
-            (seen w' r.used ds) (rest b end r.next) (t.is ds s (declares_kept w₀ u₀ w u ds g.structs d) k)
-            ∙ ap (λ (x : Read Left). place_read over (put_left (pairs ids nodes 0 n)) x (seen w u ds)) (sym (left_none s (rest b end next)))
-            ∙ ap (λ (j : ℕ). place_read over (put_left (pairs ids nodes 0 n)) (left_at s j (rest b end next)) (seen w u ds)) (sym none)
-            ∙ ap (λ (j : ℕ). place_read over (put_left (pairs ids nodes 0 j)) (left_at s (n - i) (rest b end next)) (seen w u ds)) (sym z)
-            ∙ sym (g.is ds s d k) ∙ left_is s n (rest b end at) (seen w₀ u₀ ds);
+            let y = stopped_is (read_nested 64 s l) over (seen w u ds) (refusal x) (t.is ds s (declares_kept w₀ u₀ w u ds g.structs d) k) in
+            sym (ap (λ (r : Read Tree). place_read over (put_left (pairs ids nodes 0 n)) (go_on r (λ t. give ([], t))) (seen w u ds)) y) ∙ last_is h ds s d k;
+      }
+
+  abbrev all_made : ℕ → What
+  all_made t = q.Look (k.TS (record { ids = ids; nodes = nodes; many = n }) t)
+
+  pub pairs_all : n ≤ i → n ≤ 8 → {w' : List ℕ} {u' : Used} {l' : Bytes} {o : Option ℕ} → Takes w u known over (λ s. read_nested 64 s l) w' u' l' (Ok o) → FieldsAre w₀ u₀ known read_all w' u' l' (Ok (made all_made o))
+  unfolding build_pairs
+  pairs_all h few {w'} {u'} {l'} {o} t =
+      let z : i ≡ n = (let y = g.left in omega arith) in
+      let up : u.nodes ≤ u'.nodes = nodes_grow w u w' u' t.grown in
+      record {
+        lay = t.lay;
+        grown = grown_trans _ _ _ g.grown t.grown;
+        structs = t.structs ∙ g.structs;
+        inside = made_so o u'.nodes all_made t.inside (λ x f q. (record { few = few; below = λ j h. under (was_open (rw f at t)) up j (omega arith) }, q));
+        is = λ ds s d k.
+            made_with o all_made (λ x. run (looks (tparams (pairs ids nodes 0 n) x))) (seen w' u' ds) l' (λ t. refl)
+            ∙ last_type (put_left (pairs ids nodes 0 n)) (λ t. ([], t)) (λ x. run (looks (tparams (pairs ids nodes 0 n) x))) (put_last (pairs ids nodes 0 n)) (Ok o) over (read_nested 64 s l) (seen w u ds)
+            (seen w' u' ds) l' (t.is ds s (declares_kept w₀ u₀ w u ds g.structs d) k)
+            ∙ last_is h ds s d k;
       }
     where
-      under : over ≡ false → u.nodes ≤ r.used.nodes → (j : ℕ) → j < i → get_or nodes j 0 < r.used.nodes
+      under : over ≡ false → u.nodes ≤ u'.nodes → (j : ℕ) → j < i → get_or nodes j 0 < u'.nodes
       under o up j h =
           let a : get_or nodes j 0 < u.nodes = g.below o j h in
           omega arith

@@ -1,12 +1,13 @@
 -- A record among the caller's bytes: no more than 4,096 are its own, and those left over are handed back. Assumes nothing.
 use mathlib.Core.Path.{◌≡◌, refl, sym, ap, ◌∙◌}
-use mathlib.Core.Bool.{false}
-use mathlib.Core.List.{List, ◌++◌}
-use mathlib.Core.Logic.{◌⊎◌, inl, inr}
-use Prim.Native.Nat.{ℕ, ◌+◌, ◌≤◌}
+use mathlib.Core.Bool.{Bool, false}
+use mathlib.Core.List.{List, ◌++◌, append_assoc}
+use Prim.Native.Nat.{ℕ, ◌+◌, ◌-◌, ◌≤◌}
 use native.Mathlib.Omega.{arith}
-use lib.ListN.{length, take, drop, length-drop, drop_of_length-le, take-append-drop}
-use lib.Seq.{length-take-le, take_all, take-length, take-add, drop_at, drop-drop, drop-append-le}
+use lib.ListN.{length, take, drop, length-append, length-take, length-drop, take-append-drop}
+use lib.Seq.{drop_at, drop-drop}
+use Rattle.std.specs.Prelude as std
+use Rattle.std.specs.Prelude.{Option, Some, None, Ok, Err}
 use Rattle.definition.specs.Types.{State, Struct, Result}
 use Rattle.definition.specs.Write.{Bytes}
 use Rattle.definition.specs.Reader.{Read, got, not_read}
@@ -15,14 +16,13 @@ use Rattle.definition.specs.Record.{Record, max_record, hand_back, read_fields, 
 use Rattle.table.specs.State.{seen}
 use Rattle.table.specs.declared.Used.{Used}
 use Rattle.table.proofs.Pushed.{taken_seen}
-use Rattle.heads.specs.Fields.{rest, Knows}
+use Rattle.cursor.specs.declared.ReadError.{ReadError}
+use Rattle.heads.specs.Fields.{Knows}
 use Rattle.reader.specs.Taken as taken
-use Rattle.reader.specs.Taken.{stopped, placed, place_read}
+use Rattle.reader.specs.Taken.{stopped, placed, place_read, read_with}
 use Rattle.fields.specs.declared.What.{What}
-use Rattle.fields.specs.declared.Whole.{Whole}
-use Rattle.fields.specs.declared.Whole.TheVariants.{Placed, Full, Malformed, Unknown, Doubled}
-use Rattle.fields.specs.declared.Fields.{Fields}
-use Rattle.fields.specs.Noded.{place_record, noded, whole_with, fields_as, FieldsAre, RecordIs}
+use Rattle.fields.specs.Noded.{place_record, noded, fields_as, FieldsAre, RecordIs}
+use Rattle.record.proofs.Onward.{Onward, on, goes_fields}
 
 -- ---- bytes handed back
 
@@ -30,12 +30,10 @@ abbrev longer : {B : Type 0} → Bytes → taken.Placed B → taken.Placed B
 longer more (stopped x) = stopped x
 longer more (placed q l) = placed q (l ++ more)
 
-longer_whole : {B : Type 0} (p : Whole) (g : What → B) (s : State) (l more : Bytes) → whole_with p g s (l ++ more) ≡ longer more (whole_with p g s l)
-longer_whole (Placed x) g s l more = refl
-longer_whole Full g s l more = refl
-longer_whole Malformed g s l more = refl
-longer_whole Unknown g s l more = refl
-longer_whole Doubled g s l more = refl
+longer_fields : {A B : Type 0} (p : std.Result (Option A) ReadError) (g : A → B) (s : State) (l more : Bytes) → read_with p g s (l ++ more) ≡ longer more (read_with p g s l)
+longer_fields (Ok (Some x)) g s l more = refl
+longer_fields (Ok None) g s l more = refl
+longer_fields (Err e) g s l more = refl
 
 longer_read : {A B : Type 0} (put : A → State → Result (State × B)) (x : Read A) (s : State) (more : Bytes) → longer more (place_read false put x s) ≡ place_read false put (hand_back more x) s
 unfolding place_read hand_back
@@ -44,30 +42,23 @@ longer_read put (not_read y) s more = refl
 
 -- ---- a record's bytes, and those after them
 
-module _ (b : List ℕ) (start n : ℕ) where
-  front_is : start ≤ length b → rest b (start + n) start ≡ take n (drop start b)
-  unfolding rest
-  front_is h = ap (λ (l : Bytes). drop start l) (take-add start n b) ∙ drop_at (take start b) (take n (drop start b)) start (length-take-le start b h)
+-- what is left of the record, and the bytes after it
+left_is : {A : Type 0} (n : ℕ) (b : List ℕ) (start : ℕ) (a : A) (l : Bytes) → Onward (take n (drop start b)) (got a l)
+    → drop (start + (length (take n (drop start b)) - length l)) b ≡ l ++ drop n (drop start b)
+left_is n b start a l (on front e) =
+    let more = drop n (drop start b) in
+    let k : length (take n (drop start b)) - length l ≡ length front = (let z = ap length e in let y = length-append front l in omega arith) in
+    let whole : drop start b ≡ front ++ (l ++ more) = sym (take-append-drop n (drop start b)) ∙ ap (λ (k : Bytes). k ++ more) e ∙ append_assoc front l more in
+    sym (drop-drop (length (take n (drop start b)) - length l) start b) ∙ ap (λ (j : ℕ). drop j (drop start b)) k
+    ∙ ap (λ (m : Bytes). drop (length front) m) whole ∙ drop_at front (l ++ more) (length front) refl
 
-  last_is : length b ≤ start + n → rest b (length b) start ≡ take n (drop start b)
-  unfolding rest
-  last_is h =
-      let few : length (drop start b) ≤ n = rw (length-drop start b) (omega arith) in
-      ap (λ (l : Bytes). drop start l) (take-length b) ∙ sym (take_all n (drop start b) few)
-
-  more_is : drop (start + n) b ≡ drop n (drop start b)
-  more_is = sym (drop-drop n start b)
-
-  none_is : length b ≤ start + n → drop (length b) b ≡ drop n (drop start b)
-  none_is h =
-      let all : length b ≤ length b = omega arith in
-      drop_of_length-le b all ∙ sym (drop_of_length-le b h) ∙ more_is
-
-rest_more : (b : List ℕ) (end next : ℕ) → end ≤ length b → next ≤ end → rest b end next ++ drop end b ≡ drop next b
-unfolding rest
-rest_more b end next fits h =
-    let few : next ≤ length (take end b) = rw (length-take-le end b fits) h in
-    sym (drop-append-le next (take end b) (drop end b) few) ∙ ap (λ (l : Bytes). drop next l) (take-append-drop end b)
+-- what was read leaves l
+left_of : {A B : Type 0} (put : A → State → Result (State × B)) (o : Option What) (g : What → B) (x : Read A) (s s' : State) (l : Bytes) → read_with (Ok o) g s' l ≡ place_read false put x s → (a : A) × (x ≡ got a l)
+unfolding place_read
+left_of put (Some v) g (got a m) s s' l e = (a, cc)
+left_of put None g (got a m) s s' l e = (a, cc)
+left_of put (Some v) g (not_read y) s s' l e = absurd (let z : ◌≡◌ {A = ℕ} 0 1 = cc in omega arith)
+left_of put None g (not_read y) s s' l e = absurd (let z : ◌≡◌ {A = ℕ} 0 1 = cc in omega arith)
 
 -- ---- the whole record
 
@@ -75,28 +66,43 @@ knows_seen : (w : List ℕ) (u : Used) (ds : List Struct) → Knows (seen w u ds
 unfolding seen with_structs
 knows_seen w u ds = record { vars = taken_seen w u ds; structs = refl }
 
-module _ (w : List ℕ) (u : Used) (b : List ℕ) (start end : ℕ) where
-  handed : (s : State) → (end ≡ start + 4096) ⊎ ((end ≡ length b) × (length b ≤ start + 4096)) → start ≤ end → end ≤ length b
-      → hand_back (drop end b) (read_fields s (rest b end start)) ≡ read_record s (drop start b)
-  unfolding read_record max_record
-  handed s (inl e) a l =
-      let z : start ≤ length b = omega arith in
-      rw (e, front_is b start 4096 z, more_is b start 4096) refl
-  handed s (inr e) a l = rw (e.0, last_is b start 4096 e.1, none_is b start 4096 e.1) refl
+module _ (n : ℕ) (b : List ℕ) (start : ℕ) where
+  abbrev own : Bytes
+  own = take n (drop start b)
 
-  pub whole_is : (end ≤ length b) × ((start ≤ end) × ((end ≡ start + 4096) ⊎ ((end ≡ length b) × (length b ≤ start + 4096)))) → (w' : List ℕ) (r : Fields)
-      → FieldsAre w u b end u.vars (λ s. read_fields s (rest b end start)) w' r → RecordIs w u b start w' r
-  whole_is e w' r f =
-      record {
-        lay = f.lay;
-        grown = f.grown;
-        structs = f.structs;
-        inside = f.inside;
-        within = (let y = f.within in let z = e.0 in omega arith);
-        is = λ ds d.
-            ap (λ (l : Bytes). fields_as r (seen w' r.used ds) l) (sym (rest_more b end r.next e.0 f.within))
-            ∙ longer_whole r.read (noded r) (seen w' r.used ds) (rest b end r.next) (drop end b)
-            ∙ ap (longer (drop end b)) (f.is ds (seen w u ds) d (knows_seen w u ds))
-            ∙ longer_read place_record (read_fields (seen w u ds) (rest b end start)) (seen w u ds) (drop end b)
-            ∙ ap (λ (x : Read Record). place_read false place_record x (seen w u ds)) (handed (seen w u ds) e.1.1 e.1.0 e.0);
-      }
+  abbrev next : Bytes → ℕ
+  next l = start + (length own - length l)
+
+  stands : (r : std.Result (Option What) ReadError) (s s' : State) (l : Bytes) → fields_as r s' l ≡ place_read false place_record (read_fields s own) s → fields_as r s' (drop (next l) b) ≡ fields_as r s' (l ++ drop n (drop start b))
+  stands (Err e) s s' l f = refl
+  stands (Ok o) s s' l f = go (read_fields s own) (goes_fields s own) (left_of place_record o noded (read_fields s own) s s' l f)
+    where
+      go : (x : Read Record) → Onward own x → (a : Record) × (x ≡ got a l) → fields_as (Ok o) s' (drop (next l) b) ≡ fields_as (Ok o) s' (l ++ drop n (drop start b))
+      go x h (a, e) = ap (λ (k : Bytes). fields_as (Ok o) s' k) (left_is n b start a l (rw e at h))
+
+  near : start ≤ length b → (l : Bytes) → next l ≤ length b
+  near h l = simp (length-take, length-drop) (omega arith)
+
+  handed : (r : std.Result (Option What) ReadError) (s s' : State) (l : Bytes) → fields_as r s' l ≡ place_read false place_record (read_fields s own) s
+      → fields_as r s' (drop (next l) b) ≡ place_read false place_record (hand_back (drop n (drop start b)) (read_fields s own)) s
+  handed r s s' l q =
+      stands r s s' l q
+      ∙ longer_fields r noded s' l (drop n (drop start b))
+      ∙ ap (longer (drop n (drop start b))) q
+      ∙ longer_read place_record (read_fields s own) s (drop n (drop start b))
+
+pub whole_is : {w : List ℕ} {u : Used} (b : List ℕ) (start : ℕ) → start ≤ length b → {w' : List ℕ} {u' : Used} {l l₀ : Bytes} {r : std.Result (Option What) ReadError}
+    → l₀ ≡ take 4096 (drop start b) → FieldsAre w u u.vars (λ s. read_fields s l₀) w' u' l r → {n : ℕ} → n ≡ start + (length l₀ - length l) → RecordIs w u b start w' (record { read = r; used = u'; next = n })
+unfolding read_record max_record
+whole_is {w} {u} b start h {w'} {u'} {l} {l₀} {r} e f {n} k =
+    let z : n ≡ next 4096 b start l = k ∙ ap (λ (m : Bytes). start + (length m - length l)) e in
+    rw z (record {
+      lay = f.lay;
+      grown = f.grown;
+      structs = f.structs;
+      inside = f.inside;
+      within = near 4096 b start h l;
+      is = λ ds d.
+          let s = seen w u ds in
+          handed 4096 b start r s (seen w' u' ds) l (f.is ds s d (knows_seen w u ds) ∙ ap (λ (m : Bytes). place_read false place_record (read_fields s m) s) e);
+    })

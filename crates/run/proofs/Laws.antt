@@ -16,7 +16,6 @@ use Rattle.definition.specs.Join as j
 use Rattle.definition.specs.Join.{join, subtype}
 use Rattle.definition.specs.TParams.{make_tparam_subst, subst_tparams}
 use Rattle.definition.specs.Instantiate.{instantiate}
-use Rattle.definition.specs.Record.{Numeric}
 use Rattle.definition.specs.Write.{Bytes, head, write, write_spanned}
 use Rattle.table.specs.State.{outcome, done, seen, Lay, Any, Refines, Changed, When, After, Stored, VarIn, pushed_constraint, FoundIn, more}
 use Rattle.table.specs.State as table
@@ -41,9 +40,11 @@ use Rattle.answer.specs.declared.Ran.{Ran}
 use Rattle.answer.proofs.Calls.{tells_node, write_anything}
 use Rattle.payload.specs.declared.Show.{Show}
 use Rattle.payload.specs.declared.Show.TheVariants.{Nothing as NothingS, Number, Variable, Node, Anything, Four}
-use Rattle.definition.specs.Needs.{Needs, takes, write_needs}
+use Rattle.definition.specs.Needs.{write_needs}
+use Rattle.needs.specs.Counted.{needs_of}
+use Rattle.needs.specs.declared.Sums.{Sums}
 use Rattle.definition.specs.Step.{tell}
-use Rattle.run.specs.Runs.{join_in, two_run, unfold_run, ready_run, subst_in, tparams_run, instantiate_run, tvar_run, num_tvar_in, num_tvar_run, set_num_in, set_num_run, kind_at, constraint_run, needs_run, declare_run, Runs, with_row, Declared}
+use Rattle.run.specs.Runs.{join_in, two_run, unfold_run, ready_run, subst_in, tparams_run, instantiate_run, tvar_run, num_tvar_in, num_tvar_run, set_num_in, set_num_run, constraint_run, needs_run, declare_run, Runs, with_row, Declared}
 
 -- ---- what an answer tells
 
@@ -119,14 +120,13 @@ module _ {w : List ℕ} {u : Used} (h : Lay w u) where
 
   -- ---- RM
 
-  pub ran_needs : (nodes places variables constraints : ℕ) (met : Bool) → met ≡ false
-      → Runs Any w u w (record { out = Done 0; used = u; show = Four nodes places variables constraints; kept = true }) true (λ s. outcome (Done 0) s) (needs_run (if met then None else takes nodes places variables constraints))
+  pub ran_needs : (c : Sums) → Runs Any w u w (record { out = Done 0; used = u; show = Four c.nodes c.places c.variables c.constraints; kept = true }) true (λ s. outcome (Done 0) s) (needs_run (needs_of (Some c)))
   unfolding needs_run tell write_needs outcome shown ◌>>=◌
-  ran_needs nodes places variables constraints met e = rw e (ran_now (Done 0) (Four nodes places variables constraints) true _ _ tt (λ ds. refl) (λ ds before. refl))
+  ran_needs c = ran_now (Done 0) (Four c.nodes c.places c.variables c.constraints) true _ _ tt (λ ds. refl) (λ ds before. refl)
 
-  pub ran_open : (n : Option Needs) (met : Bool) → met ≡ true → Runs Any w u w (record { out = Refused OpenVariable; used = u; show = NothingS; kept = true }) true (λ s. outcome (Refused OpenVariable) s) (needs_run (if met then None else n))
+  pub ran_open : Runs Any w u w (record { out = Refused OpenVariable; used = u; show = NothingS; kept = true }) true (λ s. outcome (Refused OpenVariable) s) (needs_run (needs_of None))
   unfolding needs_run tell outcome shown ◌>>=◌
-  ran_open n met e = rw e (ran_now (Refused OpenVariable) NothingS true _ _ tt (λ ds. refl) (λ ds before. refl))
+  ran_open = ran_now (Refused OpenVariable) NothingS true _ _ tt (λ ds. refl) (λ ds before. refl)
 
   -- ---- TS
 

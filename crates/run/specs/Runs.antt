@@ -1,6 +1,5 @@
 -- The run of each record from its placed types on, as the definition's `run` has it, and what a function that runs it leaves in the words. Assumes nothing: these are definitions.
-use Rattle.std.specs.Prelude.{◌≡◌, Bool, true, List, [], ◌∷◌, length, get_or, set, None, Some}
-use Rattle.std.specs.Prelude.{Option}
+use Rattle.std.specs.Prelude.{◌≡◌, Bool, true, List, [], length, set, Option, None, Some}
 use Prim.Native.Nat.{ℕ}
 use Rattle.definition.specs.Types as d
 use Rattle.definition.specs.Types.{State, Struct, Result, ok, ◌>>=◌}
@@ -10,7 +9,6 @@ use Rattle.definition.specs.Join as j
 use Rattle.definition.specs.Join.{join, subtype}
 use Rattle.definition.specs.TParams.{make_tparam_subst, subst_tparams}
 use Rattle.definition.specs.Instantiate.{instantiate}
-use Rattle.definition.specs.Record.{NumericKind, Numeric, Bits, Ordered}
 use Rattle.definition.specs.Write.{Bytes, u16, head, write, write_spanned}
 use Rattle.definition.specs.Needs.{Needs}
 use Rattle.definition.specs.Step.{tell}
@@ -82,10 +80,6 @@ set_num_in v loc s = ok (set_num_var s v loc, 0)
 -- SN
 unfoldable pub set_num_run : ℕ → ℕ → State → State → Result (State × Bytes)
 set_num_run v loc s before = ok (set_num_var s v loc, [])
-
--- the byte of an NC
-abbrev pub kind_at : ℕ → NumericKind
-kind_at b = get_or (Numeric ∷ Bits ∷ Ordered ∷ []) b Numeric
 
 -- NC, BC, SC
 unfoldable pub constraint_run : d.Constraint → State → State → Result (State × Bytes)

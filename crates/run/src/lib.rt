@@ -1,25 +1,24 @@
 // The run of each record from its placed types on: what it leaves, and what its answer shows.
 #![tactic(auto)]
 
-ghost use Rattle.std.specs.Prelude.{◌≡◌, true, false, ◌<◌, if◌then◌else◌};
+ghost use Rattle.std.specs.Prelude.{◌≡◌, true, false, ◌<◌};
 ghost use Rattle.definition.specs.Store.{next_tvar};
 ghost use Rattle.definition.specs.Subst.{ready_tvars};
 ghost use Rattle.definition.specs.Instantiate.{instantiate};
-ghost use Rattle.definition.specs.Needs.{takes};
+ghost use Rattle.needs.specs.Counted.{needs_of};
 ghost use Rattle.definition.specs.Step.{numeric_constraint};
 ghost use Rattle.table.specs.State.{outcome, Lay, Any, Parts, FoundIn, pushed_constraint};
-ghost use Rattle.tparams.specs.Pairs.{pairs};
 ghost use Rattle.table.specs.Known.{Known};
 ghost use Rattle.constraints.specs.Solve.{kind_of};
-ghost use Rattle.run.specs.Runs.{join_in, two_run, unfold_run, ready_run, subst_in, tparams_run, instantiate_run, tvar_run, num_tvar_in, num_tvar_run, set_num_in, set_num_run, kind_at, constraint_run, needs_run, Runs, with_row, Declared};
-ghost use Rattle.fields.specs.Noded.{two_case, loc_type_constraint, binds, looks, adds, bind_of, look_of, add_of, BindIn, LookIn};
+ghost use Rattle.run.specs.Runs.{join_in, two_run, unfold_run, ready_run, subst_in, tparams_run, instantiate_run, tvar_run, num_tvar_in, num_tvar_run, set_num_in, set_num_run, constraint_run, needs_run, Runs, with_row, Declared};
+ghost use Rattle.fields.specs.Noded.{two_case, loc_type_constraint, binds, looks, adds, pairs_of, bind_of, look_of, add_of, BindIn, LookIn};
 ghost use Rattle.run.specs.Dispatch.{RanAs};
 
 use answer::Ran;
 use constraints::NumericKind;
-use fields::{Add, Bind, Look};
+use fields::{Add, Bind, Look, Pairs};
 use marks::{LocMark, LocTypeMark, LookMark, TwoMark};
-use names::{AbilitySet, TParamID, TVar};
+use names::{AbilitySet, TVar};
 use needs::Sums;
 use payload::Show;
 use subst::Unfolded;
@@ -79,18 +78,11 @@ pub fn run_ready(w: &mut [u32], u: Used, t: u32) -> Ran
 }
 
 // TS: a type with arguments for its parameters.
-pub fn run_tparams(
-    w: &mut [u32],
-    u: Used,
-    ids: [TParamID; 8],
-    args: [u32; 8],
-    n: u32,
-    t: u32,
-) -> Ran
-    requires { Lay w.old u × ((t < u.nodes) × Parts u.nodes args n) }
-    ensures { Runs Any w.old u w.new result false (subst_in (pairs ids args 0 n) t) (tparams_run (pairs ids args 0 n) t) }
+pub fn run_tparams(w: &mut [u32], u: Used, ps: Pairs, t: u32) -> Ran
+    requires { Lay w.old u × ((t < u.nodes) × Parts u.nodes ps.nodes ps.many) }
+    ensures { Runs Any w.old u w.new result false (subst_in (pairs_of ps) t) (tparams_run (pairs_of ps) t) }
 {
-    match tparams::make_tparam_subst(ids, args, n) {
+    match tparams::make_tparam_subst(ps.ids, ps.nodes, ps.many) {
         Some(subst) => {
             let a = tparams::subst_tparams(w, u, &subst, t);
             shown(a, Show::Node, false)
@@ -154,24 +146,12 @@ pub fn run_set_num(w: &mut [u32], u: Used, v: TVar, loc: u32) -> Ran
     }
 }
 
-// The operators that the byte of an NC stands for.
-fn kind_of(kind: u32) -> NumericKind
-    ensures { kind_of result ≡ kind_at kind }
-{
-    match kind {
-        1 => NumericKind::Bits,
-        2 => NumericKind::Ordered,
-        _ => NumericKind::Numeric,
-    }
-}
-
 // NC, BC, SC: a constraint is listed.
-pub fn run_numeric(w: &mut [u32], u: Used, kind: u32, loc: u32, ty: u32) -> Ran
+pub fn run_numeric(w: &mut [u32], u: Used, kind: NumericKind, loc: u32, ty: u32) -> Ran
     requires { Lay w.old u }
-    ensures { Runs Any w.old u w.new result true (pushed_constraint (numeric_constraint (kind_at kind) loc ty)) (constraint_run (numeric_constraint (kind_at kind) loc ty)) }
+    ensures { Runs Any w.old u w.new result true (pushed_constraint (numeric_constraint (kind_of kind) loc ty)) (constraint_run (numeric_constraint (kind_of kind) loc ty)) }
 {
-    let k = kind_of(kind);
-    let a = constraints::numeric_constraint(w, u, k, loc, ty);
+    let a = constraints::numeric_constraint(w, u, kind, loc, ty);
     shown(a, Show::Nothing, true)
 }
 
@@ -194,31 +174,23 @@ pub fn run_loc_type(w: &mut [u32], u: Used, m: LocTypeMark, loc: u32, ty: u32) -
 }
 
 // RM: the four numbers that IN of the type would take, or 11 if a variable was met in it.
-pub fn run_needs(
-    w: &[u32],
-    u: Used,
-    met: bool,
-    nodes: u32,
-    places: u32,
-    variables: u32,
-    constraints: u32,
-) -> Ran
+pub fn run_needs(w: &[u32], u: Used, sums: Option<Sums>) -> Ran
     requires { Lay w.now u }
-    ensures { Runs Any w.now u w.now result true (λ s. outcome result.out s) (needs_run (if met then None else takes nodes places variables constraints)) }
+    ensures { Runs Any w.now u w.now result true (λ s. outcome result.out s) (needs_run (needs_of sums)) }
 {
-    if met {
-        return Ran {
+    match sums {
+        Some(n) => Ran {
+            out: Out::Done(0),
+            used: u,
+            show: Show::Four(n.nodes, n.places, n.variables, n.constraints),
+            kept: true,
+        },
+        None => Ran {
             out: Out::Refused(Refusal::OpenVariable),
             used: u,
             show: Show::Nothing,
             kept: true,
-        };
-    }
-    Ran {
-        out: Out::Done(0),
-        used: u,
-        show: Show::Four(nodes, places, variables, constraints),
-        kept: true,
+        },
     }
 }
 
@@ -260,17 +232,16 @@ pub fn run_bind(w: &mut [u32], u: Used, params: &[[u8; 8]; 256], what: Bind) -> 
     }
 }
 
-// With TS's pairs.
-pub fn run_look(w: &mut [u32], u: Used, ids: [TParamID; 8], nodes: [u32; 8], what: Look) -> Ran
-    requires { Lay w.old u × LookIn u.nodes nodes what }
-    ensures { RanAs Any w.old u w.new result (looks (look_of what ids nodes)) }
+pub fn run_look(w: &mut [u32], u: Used, what: Look) -> Ran
+    requires { Lay w.old u × LookIn u.nodes what }
+    ensures { RanAs Any w.old u w.new result (looks (look_of what)) }
 {
     match what {
         Look::One(m, t) => match m {
             LookMark::UF => run_unfold(w, u, t),
             LookMark::RD => run_ready(w, u, t),
         },
-        Look::TS(many, t) => run_tparams(w, u, ids, nodes, many, t),
+        Look::TS(ps, t) => run_tparams(w, u, ps, t),
     }
 }
 
@@ -285,6 +256,6 @@ pub fn run_add(w: &mut [u32], u: Used, what: Add) -> Ran
         },
         Add::NC(loc, kind, t) => run_numeric(w, u, kind, loc, t),
         Add::LocType(m, loc, t) => run_loc_type(w, u, m, loc, t),
-        Add::RM(n) => run_needs(w, u, n.met, n.nodes, n.places, n.variables, n.constraints),
+        Add::RM(sums) => run_needs(w, u, sums),
     }
 }

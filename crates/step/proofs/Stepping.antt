@@ -7,8 +7,9 @@ use Prim.Native.Nat.{ℕ, ◌-◌, ◌≤◌}
 use native.Mathlib.Omega.{arith}
 use lib.Dec.{ltb}
 use lib.ListN.{length, drop}
-use Rattle.std.specs.Prelude.{if◌then◌else◌}
-use Rattle.definition.specs.Types.{State, Struct, Refusal, malformed, unknown_name, doubled_reference, full, Result, ok, refused, ◌>>=◌}
+use Rattle.std.specs.Prelude as std
+use Rattle.std.specs.Prelude.{Option, Some, None, Ok, Err, if◌then◌else◌}
+use Rattle.definition.specs.Types.{State, Struct, Refusal, malformed, full, Result, ok, refused, ◌>>=◌}
 use Rattle.definition.specs.Write.{Bytes, IsBytes}
 use Rattle.definition.specs.Reader.{Read, got}
 use Rattle.definition.specs.Store.{with_structs}
@@ -29,12 +30,13 @@ use Rattle.snapshot.proofs.Exact.{declares_still, word_for_word}
 use Rattle.sound.specs.Lent.{used_of}
 use Rattle.sound.proofs.Lays.{lent_declares}
 use Rattle.heads.specs.Fields.{Arities}
-use Rattle.reader.specs.Taken.{stopped, placed, place_read}
+use Rattle.reader.specs.Taken.{stopped, placed, place_read, PlacedSo}
+use Rattle.cursor.specs.Words as cursor
+use Rattle.cursor.specs.declared.ReadError.{ReadError}
+use Rattle.cursor.specs.declared.ReadError.TheVariants.{Malformed}
 use Rattle.fields.specs.declared.What.{What}
 use Rattle.fields.specs.declared.What.TheVariants as q
-use Rattle.fields.specs.declared.Whole.{Whole}
-use Rattle.fields.specs.declared.Whole.TheVariants.{Placed, Full, Malformed, Unknown, Doubled}
-use Rattle.fields.specs.Noded.{Noded, place_record, noded, WholeSo, WhatIn, whole_with, RecordIs}
+use Rattle.fields.specs.Noded.{Noded, place_record, noded, fields_as, WhatIn, RecordIs}
 use Rattle.fields.specs.declared.Fields.{Fields}
 use Rattle.answer.specs.Ran.{refused_by, Answers}
 use Rattle.payload.specs.declared.Answer.{Answer}
@@ -43,8 +45,9 @@ use Rattle.run.specs.Dispatch.{noded_run}
 use Rattle.run.proofs.Placed.{run_placed}
 use Rattle.step.specs.declared.Stepped.{Stepped}
 use Rattle.step.specs.Trusted.{held, Stands, answered, unread, Steps}
-use Rattle.verdict.specs.declared.Verdict.TheVariants.{Refused, Run}
-use Rattle.verdict.specs.Verdict.{rows_after, verdict_of, place_after}
+use Rattle.verdict.specs.declared.Refused.{Refused}
+use Rattle.verdict.specs.declared.Refused.TheVariants.{Unread, Full}
+use Rattle.verdict.specs.Verdict.{refusal_of, rows_after, verdict_of, place_after}
 use Rattle.step.specs.Replies.{Replied, Begun, Begins, Ends, binding}
 use Rattle.step.proofs.Reading.{stop_is, Got, got_is, answered_not, unread_not, unread_got, answered_got}
 use Rattle.step.proofs.Keeping.{bytes_after, answered_sound, view_arities, partly_still}
@@ -65,18 +68,21 @@ record_in s bytes is x l e = go (subst (λ (r : Read Record). ReadWell (Unit {0}
     go : {n : ℕ} → ReadWell (Unit {0}) s n (got x l) → RecordIn s x
     go (given p i k) = p.1 tt
 
-rows_by : (f : Fields) (x : What) (n : ℕ) → rows_after x n ≡ (if binding (noded f x) then 0 else n)
-rows_by f (q.SD abilities many) n = refl
-rows_by f q.SV n = refl
-rows_by f (q.Bind x) n = refl
-rows_by f (q.Look x) n = refl
-rows_by f (q.Add x) n = refl
+rows_by : (x : What) (n : ℕ) → rows_after x n ≡ (if binding (noded x) then 0 else n)
+rows_by (q.SD abilities params) n = refl
+rows_by q.SV n = refl
+rows_by (q.Bind x) n = refl
+rows_by (q.Look x) n = refl
+rows_by (q.Add x) n = refl
+
+abbrev WasRead : Type 0
+WasRead = std.Result (Option What) ReadError
 
 -- what was read of the state that words and bytes hold
 module _ {w : List ℕ} {u : Used} (params : List (List ℕ)) {stream : Bytes} {at : ℕ} {w₁ : List ℕ} {f : Fields} (c : RecordIs w u stream at w₁ f) where
-  read_is : (p : Whole) → f.read ≡ p → whole_with p (noded f) (seen w₁ f.used (declared_in w u params)) (drop f.next stream) ≡ place_read false place_record (read_record (held w u params) (drop at stream)) (held w u params)
+  read_is : (p : WasRead) → f.read ≡ p → fields_as p (seen w₁ f.used (declared_in w u params)) (drop f.next stream) ≡ place_read false place_record (read_record (held w u params) (drop at stream)) (held w u params)
   unfolding held
-  read_is p e = ap (λ (q : Whole). whole_with q (noded f) (seen w₁ f.used (declared_in w u params)) (drop f.next stream)) (sym e) ∙ c.is (declared_in w u params) (lent_declares w params u)
+  read_is p e = ap (λ (q : WasRead). fields_as q (seen w₁ f.used (declared_in w u params)) (drop f.next stream)) (sym e) ∙ c.is (declared_in w u params) (lent_declares w params u)
 
   -- the splitter
   rest_is : unread (held w u params) (drop at stream) ≡ drop (place_after f.read at f.next) stream
@@ -91,34 +97,24 @@ module _ {w : List ℕ} {u : Used} (params : List (List ℕ)) {stream : Bytes} {
       none : (x : Refusal) → stopped x ≡ place_read false place_record r (held w u params) → unread (held w u params) (drop at stream) ≡ drop at stream
       none x e = unread_not false (held w u params) (drop at stream) x (stop_is r x (held w u params) e)
 
-      go : (p : Whole) → f.read ≡ p → unread (held w u params) (drop at stream) ≡ drop (place_after p at f.next) stream
-      go (Placed x) e = more _ (read_is (Placed x) e)
-      go Full e = more _ (read_is Full e)
-      go Malformed e = none _ (read_is Malformed e)
-      go Unknown e = none _ (read_is Unknown e)
-      go Doubled e = none _ (read_is Doubled e)
+      go : (p : WasRead) → f.read ≡ p → unread (held w u params) (drop at stream) ≡ drop (place_after p at f.next) stream
+      go (Ok (Some x)) e = more _ (read_is (Ok (Some x)) e)
+      go (Ok None) e = more _ (read_is (Ok None) e)
+      go (Err x) e = none _ (read_is (Err x) e)
 
-rest_within : (p : Whole) (at next n : ℕ) → at ≤ n → next ≤ n → place_after p at next ≤ n
-rest_within (Placed x) at next n a b = b
-rest_within Full at next n a b = b
-rest_within Malformed at next n a b = a
-rest_within Unknown at next n a b = a
-rest_within Doubled at next n a b = a
+rest_within : (p : WasRead) (at next n : ℕ) → at ≤ n → next ≤ n → place_after p at next ≤ n
+rest_within (Ok o) at next n a b = b
+rest_within (Err x) at next n a b = a
 
 pub splits : {w : List ℕ} {u : Used} (params : List (List ℕ)) {stream : Bytes} {w₁ : List ℕ} {f : Fields} → RecordIs w u stream 0 w₁ f → {r : ℕ} → r ≡ place_after f.read 0 f.next → (r ≤ length stream) × (unread (held w u params) stream ≡ drop r stream)
 splits params {stream} {f = f} c e = rw e (rest_within f.read 0 f.next (length stream) (omega arith) c.within, rest_is params c)
 
-number_is : {m n : ℕ} → Refused m ≡ Refused n → m ≡ n
-number_is e = cc
-
 -- what is run was placed, and no bytes are left over
-pub runs : (p : Whole) (over : Bool) (x : What) → Run x ≡ verdict_of p over → (p ≡ Placed x) × (over ≡ false)
-runs Malformed over x e = absurd (let z : ◌≡◌ {A = ℕ} 0 1 = cc in omega arith)
-runs Unknown over x e = absurd (let z : ◌≡◌ {A = ℕ} 0 1 = cc in omega arith)
-runs Doubled over x e = absurd (let z : ◌≡◌ {A = ℕ} 0 1 = cc in omega arith)
-runs Full over x e = absurd (let z : ◌≡◌ {A = ℕ} 0 1 = cc in omega arith)
-runs (Placed y) true x e = absurd (let z : ◌≡◌ {A = ℕ} 0 1 = cc in omega arith)
-runs (Placed y) false x e = (cc, refl)
+pub runs : (p : WasRead) (over : Bool) (x : What) → verdict_of p over ≡ Ok x → (p ≡ Ok (Some x)) × (over ≡ false)
+runs (Err y) over x e = absurd (let z : ◌≡◌ {A = ℕ} 0 1 = cc in omega arith)
+runs (Ok o) true x e = absurd (let z : ◌≡◌ {A = ℕ} 0 1 = cc in omega arith)
+runs (Ok None) false x e = absurd (let z : ◌≡◌ {A = ℕ} 0 1 = cc in omega arith)
+runs (Ok (Some y)) false x e = (cc, refl)
 
 -- the words as they were, once the counts are written again
 pub words_back : {w : List ℕ} {u : Used} {params : List (List ℕ)} {saved w₁ : List ℕ} {v : Used} {w₂ w₃ : List ℕ} → Stands w u params → u ≡ used_of w → Saved w u saved → Grown (view w u) (view w₁ v) → Undone w₁ v w₂ u saved
@@ -186,8 +182,8 @@ module _ {w : List ℕ} {u : Used} {params : List (List ℕ)} (stream : Bytes) (
     stopped_by whole x e = answered_not whole s₀ bytes x (stop_is (read_record s₀ bytes) x s₀ e)
 
     -- there is no space
-    full_read : f.read ≡ Full → Got (read_record s₀ bytes) (refused full) (drop f.next stream) s₀
-    full_read e = got_is (read_record s₀ bytes) (refused full) (drop f.next stream) s₀ (read_is params c Full e)
+    full_read : f.read ≡ Ok None → Got (read_record s₀ bytes) (refused full) (drop f.next stream) s₀
+    full_read e = got_is (read_record s₀ bytes) (refused full) (drop f.next stream) s₀ (read_is params c (Ok None) e)
 
     full_ran : (i : Got (read_record s₀ bytes) (refused full) (drop f.next stream) s₀) → run s₀ i.what ≡ refused full
     unfolding ◌>>=◌
@@ -207,35 +203,37 @@ module _ {w : List ℕ} {u : Used} {params : List (List ℕ)} (stream : Bytes) (
       told_placed : {q : Result (State × Noded)} (i : ReadAs q) (b : Bool) → over ≡ b → answered whole s₀ bytes ≡ (if b then refusal s₀ malformed else answer s₀ (run s₀ i.what))
       told_placed i b e = answered_got whole s₀ bytes i.what stream f.next i.read over o ∙ ap (λ (x : Bool). if x then refusal s₀ malformed else answer s₀ (run s₀ i.what)) e
 
-      -- the refusal that has this number
-      record Why (number : ℕ) : Type 0 where
-        why : Refusal
-        numbered : number_of_refusal why ≡ number
-        told : answered whole s₀ bytes ≡ refusal s₀ why
+      -- what the record is refused for
+      why_refused : (p : WasRead) → f.read ≡ p → (b : Bool) → over ≡ b → (x : Refused) → verdict_of p b ≡ Err x → answered whole s₀ bytes ≡ refusal s₀ (refusal_of x)
+      unfolding ◌>>=◌ answer
+      why_refused (Err y) e b d x n =
+          let z : Unread y ≡ x = cc in
+          subst (λ (x : Refused). answered whole s₀ bytes ≡ refusal s₀ (refusal_of x)) z (stopped_by whole (cursor.refusal y) (read_is params c (Err y) e))
+      why_refused (Ok None) e true d x n =
+          let z : Unread Malformed ≡ x = cc in
+          subst (λ (x : Refused). answered whole s₀ bytes ≡ refusal s₀ (refusal_of x)) z (told_placed (full_read e) true d)
+      why_refused (Ok (Some v)) e true d x n =
+          let z : Unread Malformed ≡ x = cc in
+          subst (λ (x : Refused). answered whole s₀ bytes ≡ refusal s₀ (refusal_of x)) z (told_placed (got_is (read_record s₀ bytes) _ (drop f.next stream) s₀ (read_is params c (Ok (Some v)) e)) true d)
+      why_refused (Ok None) e false d x n =
+          let z : Full ≡ x = cc in
+          subst (λ (x : Refused). answered whole s₀ bytes ≡ refusal s₀ (refusal_of x)) z
+          (told_placed (full_read e) false d ∙ ap (λ (m : Result (State × Bytes)). answer s₀ m) (full_ran (full_read e)))
+      why_refused (Ok (Some v)) e false d x n = absurd (let z : ◌≡◌ {A = ℕ} 0 1 = cc in omega arith)
 
-      why_refused : (p : Whole) → f.read ≡ p → (b : Bool) → over ≡ b → {number : ℕ} → verdict_of p b ≡ Refused number → Why number
-      unfolding number_of_refusal ◌>>=◌ answer
-      why_refused Malformed e b d n = record { why = malformed; numbered = number_is n; told = stopped_by whole malformed (read_is params c Malformed e) }
-      why_refused Unknown e b d n = record { why = unknown_name; numbered = number_is n; told = stopped_by whole unknown_name (read_is params c Unknown e) }
-      why_refused Doubled e b d n = record { why = doubled_reference; numbered = number_is n; told = stopped_by whole doubled_reference (read_is params c Doubled e) }
-      why_refused Full e true d n = record { why = malformed; numbered = number_is n; told = told_placed (full_read e) true d }
-      why_refused Full e false d n = record { why = full; numbered = number_is n; told = told_placed (full_read e) false d ∙ ap (λ (m : Result (State × Bytes)). answer s₀ m) (full_ran (full_read e)) }
-      why_refused (Placed x) e true d n = record { why = malformed; numbered = number_is n; told = told_placed (got_is (read_record s₀ bytes) _ (drop f.next stream) s₀ (read_is params c (Placed x) e)) true d }
-      why_refused (Placed x) e false d n = absurd (let z : ◌≡◌ {A = ℕ} 0 1 = cc in omega arith)
-
-      pub steps_refused : at ≤ length stream → {next : ℕ} → next ≡ place_after f.read at f.next → {number : ℕ} → Refused number ≡ verdict_of f.read over → {w' : List ℕ} {a : Answer} → Refuses number w' a
+      pub steps_refused : at ≤ length stream → {next : ℕ} → next ≡ place_after f.read at f.next → {x : Refused} → verdict_of f.read over ≡ Err x → {number : ℕ} → number ≡ number_of_refusal (refusal_of x) → {w' : List ℕ} {a : Answer} → Refuses number w' a
           → (buf : List ℕ) {r : Stepped} → r ≡ gone a next u.vars → Leaving whole buf w' params buf r
-      steps_refused le n e g buf q =
-          let y = why_refused f.read refl over refl (sym e) in
-          let z = refused_by_x whole y.why g y.numbered y.told buf in
-          leaves whole le n z (in_front z (refused_front whole y.why y.told)) q
+      steps_refused le n {x} e m g buf q =
+          let told = why_refused f.read refl over refl x e in
+          let z = refused_by_x whole (refusal_of x) g (sym m) told buf in
+          leaves whole le n z (in_front z (refused_front whole (refusal_of x) told)) q
 
-      module _ (what : What) (e : f.read ≡ Placed what) where
+      module _ (what : What) (e : f.read ≡ Ok (Some what)) where
         abbrev n : Noded
-        n = noded f what
+        n = noded what
 
         at_node : ReadAs (ok (seen w₁ f.used ds, n))
-        at_node = got_is (read_record s₀ bytes) (ok (seen w₁ f.used ds, n)) (drop f.next stream) s₀ (read_is params c (Placed what) e)
+        at_node = got_is (read_record s₀ bytes) (ok (seen w₁ f.used ds, n)) (drop f.next stream) s₀ (read_is params c (Ok (Some what)) e)
 
         begun : Begun w u params saved w₁ f.used at_node.what n
         begun = record { stands = s; since = since; structs = c.structs; fields = record_in s₀ bytes (bytes_after at stream is) _ _ at_node.read; placed = at_node.placed }
@@ -243,13 +241,13 @@ module _ {w : List ℕ} {u : Used} {params : List (List ℕ)} (stream : Bytes) (
         pub begins : Begins u params saved w₁ f.used n
         begins = record { words = w; what = at_node.what; from = begun }
 
-        pub placed_in : WhatIn f.used.nodes f what
-        placed_in = subst (λ (p : Whole). WholeSo p (WhatIn f.used.nodes f)) e c.inside
+        pub placed_in : WhatIn f.used.nodes what
+        placed_in = subst (λ (p : WasRead). PlacedSo p (WhatIn f.used.nodes)) e c.inside
 
         -- what the record says of the saved rows
         rows_stand : {buf w' : List ℕ} {params' : List (List ℕ)} {buf' : List ℕ} {a : Answer} → Replied buf w' params' buf' a (answer s₀ (run s₀ at_node.what))
             → SavedPartly w' a.used (rows_after what u.vars) saved
-        rows_stand {w' = w'} {a = a} p = rw (rows_by f what u.vars) (go (binding n) refl)
+        rows_stand {w' = w'} {a = a} p = rw (rows_by what u.vars) (go (binding n) refl)
           where
             go : (b : Bool) → binding n ≡ b → SavedPartly w' a.used (if b then 0 else u.vars) saved
             go true k = partly_none w' a.used saved

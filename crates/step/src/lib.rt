@@ -1,20 +1,20 @@
 // One record of a sound state: read, placed, run and answered; a refusal leaves all as at entry.
 #![tactic(auto)]
 
-ghost use Rattle.std.specs.Prelude.{◌≡◌, ◌≤◌, length, take, drop};
+ghost use Rattle.std.specs.Prelude.{◌≡◌, ◌≤◌, length, drop};
 ghost use Rattle.definition.specs.Write.{IsBytes};
 ghost use Rattle.table.specs.State.{Lay};
 ghost use Rattle.snapshot.specs.Snap.{SavedPartly};
 ghost use Rattle.sound.specs.Lent.{used_of};
-ghost use Rattle.fields.specs.Noded.{declare, noded, WhatIn};
+ghost use Rattle.fields.specs.Noded.{declare, noded, params_of, WhatIn};
 ghost use Rattle.step.specs.Trusted.{held, Stands, unread, Steps};
 ghost use Rattle.step.specs.Replies.{Begins, Ends};
 
-use fields::{Fields, What};
+use fields::{Params, What};
 use names::AbilitySet;
 use payload::Answer;
 use table::Used;
-use verdict::{Verdict, left_over, padded, place_after, row_for, rows_after, verdict_of};
+use verdict::{left_over, padded, place_after, row_for, rows_after, verdict_of};
 
 // One record's answer, the rows in use after it, where the rest of the stream begins, and how many of the saved rows still stand.
 #[derive(Clone, Copy)]
@@ -41,13 +41,6 @@ fn with_next(a: Answer, next: usize, rows: u32) -> Stepped
 
 // ---- SD
 
-fn ability_set(x: u32) -> AbilitySet
-    requires { x ≤ 15 }
-    ensures { result.0 ≡ x }
-{
-    AbilitySet(x as u8)
-}
-
 // The bytes go into the row of the struct's number.
 fn answer_declared(
     w: &mut [u32],
@@ -55,20 +48,20 @@ fn answer_declared(
     before: Used,
     params: &mut [[u8; 8]; 256],
     saved: &[u32],
-    abilities: u32,
-    many: u32,
-    bytes: [u8; 8],
+    abilities: AbilitySet,
+    own: Params,
     buf: &mut [u8],
 ) -> Answer
-    requires lay { Lay w.old u × ((abilities ≤ 15) × ((many ≤ 8) × ((5120 ≤ length saved.now) × (4096 ≤ length buf.old)))) }
-    requires begins { Begins before params.old saved.now w.old u (declare abilities (take many bytes)) }
-    ensures { Ends before params.old saved.now w.old u (declare abilities (take many bytes)) buf.old w.new params.new buf.new result }
+    requires lay { Lay w.old u × ((own.many ≤ 8) × ((5120 ≤ length saved.now) × (4096 ≤ length buf.old))) }
+    requires begins { Begins before params.old saved.now w.old u (declare abilities.0 (params_of own)) }
+    ensures { Ends before params.old saved.now w.old u (declare abilities.0 (params_of own)) buf.old w.new params.new buf.new result }
 {
-    let r = run::run_declare(w, u, ability_set(abilities), many);
+    let many = u32::from(own.many);
+    let r = run::run_declare(w, u, abilities, many);
     let o = r.out;
     let a = answer::answer_of(w, before, saved, r, buf);
     let n = row_for(table::done_of(o), a, u);
-    *params = run::with_row(*params, n, padded(bytes, many));
+    *params = run::with_row(*params, n, padded(own));
     a
 }
 
@@ -81,18 +74,16 @@ fn answer_placed(
     before: Used,
     params: &mut [[u8; 8]; 256],
     saved: &[u32],
-    f: Fields,
     what: What,
     buf: &mut [u8],
 ) -> Answer
-    requires lay { Lay w.old u × (WhatIn u.nodes f what × ((5120 ≤ length saved.now) × (4096 ≤ length buf.old))) }
-    requires begins { Begins before params.old saved.now w.old u (noded f what) }
-    ensures { Ends before params.old saved.now w.old u (noded f what) buf.old w.new params.new buf.new result }
+    requires lay { Lay w.old u × (WhatIn u.nodes what × ((5120 ≤ length saved.now) × (4096 ≤ length buf.old))) }
+    requires begins { Begins before params.old saved.now w.old u (noded what) }
+    ensures { Ends before params.old saved.now w.old u (noded what) buf.old w.new params.new buf.new result }
 {
     match what {
-        What::SD(abilities, many) => {
-            let bytes = f.params;
-            answer_declared(w, u, before, params, saved, abilities, many, bytes, buf)
+        What::SD(abilities, own) => {
+            answer_declared(w, u, before, params, saved, abilities, own, buf)
         }
         What::SV => solve::solve(w, u, params, saved, buf),
         What::Bind(x) => {
@@ -100,9 +91,7 @@ fn answer_placed(
             answer::answer_of(w, before, saved, r, buf)
         }
         What::Look(x) => {
-            let ids = f.ids;
-            let nodes = f.nodes;
-            let r = run::run_look(w, u, ids, nodes, x);
+            let r = run::run_look(w, u, x);
             answer::answer_of(w, before, saved, r, buf)
         }
         What::Add(x) => {
@@ -138,13 +127,12 @@ pub fn step_trusted(
     let v = f.used;
     let kept = u.vars;
     let next = place_after(read, at, f.next);
-    let o = verdict_of(read, left_over(whole, f.next, stream.len()));
-    match o {
-        Verdict::Refused(number) => with_next(answer::refuse(w, v, u, saved, number), next, kept),
-        Verdict::Run(x) => {
+    match verdict_of(read, left_over(whole, f.next, stream.len())) {
+        Ok(x) => {
             let rows = rows_after(x, kept);
-            with_next(answer_placed(w, v, u, params, saved, f, x, buf), next, rows)
+            with_next(answer_placed(w, v, u, params, saved, x, buf), next, rows)
         }
+        Err(x) => with_next(answer::refuse(w, v, u, saved, x.number()), next, kept),
     }
 }
 

@@ -1,12 +1,14 @@
 -- What follows from what a record was read into. Assumes nothing: these are definitions.
-use Rattle.std.specs.Prelude.{Bool, true, false, List, ℕ, get_or, take, if◌then◌else◌, Option, None, Some}
+use Rattle.std.specs.Prelude.{Bool, true, false, List, ℕ, get_or, take, Option, Some, None, Result, Ok, Err}
+use Rattle.definition.specs.Types as d
 use Rattle.table.specs.Tab.{tab}
 use Rattle.fields.specs.declared.What.{What}
 use Rattle.fields.specs.declared.What.TheVariants as q
-use Rattle.fields.specs.declared.Whole.{Whole}
-use Rattle.fields.specs.declared.Whole.TheVariants.{Placed, Full, Malformed, Unknown, Doubled}
-use Rattle.verdict.specs.declared.Verdict.{Verdict}
-use Rattle.verdict.specs.declared.Verdict.TheVariants.{Refused, Run}
+use Rattle.cursor.specs.Words.{refusal}
+use Rattle.cursor.specs.declared.ReadError.{ReadError}
+use Rattle.cursor.specs.declared.ReadError.TheVariants.{Malformed}
+use Rattle.verdict.specs.declared.Refused.{Refused}
+use Rattle.verdict.specs.declared.Refused.TheVariants.{Unread, Full}
 
 -- ---- SD's row
 
@@ -24,7 +26,7 @@ padded bytes n = tab 8 (λ k. get_or (take n bytes) k 0)
 
 -- how many of the n saved rows surely stand after a record
 abbrev pub rows_after : What → ℕ → ℕ
-rows_after (q.SD abilities many) n = n
+rows_after (q.SD abilities params) n = n
 rows_after q.SV n = 0
 rows_after (q.Bind x) n = 0
 rows_after (q.Look x) n = n
@@ -32,20 +34,19 @@ rows_after (q.Add x) n = n
 
 -- ---- what it comes to
 
--- 5, 6 and 18 where reading stopped, 7 where there is no space. Bytes left over are 5, which comes before 7
-abbrev pub verdict_of : Whole → Bool → Verdict
-verdict_of Malformed over = Refused 5
-verdict_of Unknown over = Refused 6
-verdict_of Doubled over = Refused 18
-verdict_of Full over = Refused (if over then 5 else 7)
-verdict_of (Placed x) true = Refused 5
-verdict_of (Placed x) false = Run x
+abbrev pub refusal_of : Refused → d.Refusal
+refusal_of (Unread e) = refusal e
+refusal_of Full = d.full
+
+-- what is run, or why nothing is. Bytes left over are malformed, which comes before no space
+abbrev pub verdict_of : Result (Option What) ReadError → Bool → Result What Refused
+verdict_of (Err e) over = Err (Unread e)
+verdict_of (Ok o) true = Err (Unread Malformed)
+verdict_of (Ok None) false = Err Full
+verdict_of (Ok (Some x)) false = Ok x
 
 -- ---- the stream after a record
 
-abbrev pub place_after : Whole → ℕ → ℕ → ℕ
-place_after (Placed x) at next = next
-place_after Full at next = next
-place_after Malformed at next = at
-place_after Unknown at next = at
-place_after Doubled at next = at
+abbrev pub place_after : Result (Option What) ReadError → ℕ → ℕ → ℕ
+place_after (Ok o) at next = next
+place_after (Err e) at next = at

@@ -1,12 +1,14 @@
-// What follows from what a record was read into: its number where it is refused, where the stream goes on, which saved rows stand, and a new struct's row.
+// What follows from what a record was read into: why it is refused, where the stream goes on, which saved rows stand, and a new struct's row.
 #![tactic(auto)]
 
-ghost use Rattle.std.specs.Prelude.{◌≡◌, ◌&&◌, ◌≤◌, ltb, length, if◌then◌else◌};
+ghost use Rattle.std.specs.Prelude.{◌≡◌, ◌&&◌, ◌≤◌, ltb, length};
+ghost use Rattle.definition.specs.Step.{number_of_refusal};
 ghost use Rattle.verdict.specs.Verdict.{row_for, padded, rows_after, verdict_of, place_after};
 
-use fields::{What, Whole};
+use cursor::ReadError;
+use fields::{Params, What};
 use payload::Answer;
-use table::{Used, wide};
+use table::Used;
 
 // ---- SD
 
@@ -16,27 +18,20 @@ pub fn row_for(number: Option<u32>, a: Answer, u: Used) -> Option<u32>
     ensures { result ≡ row_for number a.kept u.structs }
 {
     match number {
-        None => None,
-        Some(_) => {
-            if a.kept {
-                return Some(u.structs);
-            }
-            None
-        }
+        Some(_) if a.kept => Some(u.structs),
+        _ => None,
     }
 }
 
-// The first n bytes, and zeros.
+// The parameters' bytes, and zeros.
 // Refused: bytes behind them that stay (old_bytes_stay).
-pub fn padded(bytes: [u8; 8], n: u32) -> [u8; 8]
-    requires { n ≤ 8 }
-    ensures { (result ≡ padded bytes n) × (length bytes ≡ 8) }
+pub fn padded(params: Params) -> [u8; 8]
+    requires { params.many ≤ 8 }
+    ensures { (result ≡ padded params.bytes params.many) × (length params.bytes ≡ 8) }
 {
-    let mut row = bytes;
-    let mut i = wide(n);
-    while i < 8 {
+    let mut row = params.bytes;
+    for i in usize::from(params.many)..8 {
         row[i] = 0;
-        i = i + 1;
     }
     row
 }
@@ -59,62 +54,67 @@ pub fn rows_after(what: What, n: u32) -> u32
 
 // ---- what it comes to
 
-// Refused with this number, or to run.
+// Why a record is not run: reading stopped (5, 6, 18), or there is no space (7).
 #[derive(Clone, Copy)]
-pub enum Verdict {
-    Refused(u32),
-    Run(What),
+pub enum Refused {
+    Unread(ReadError),
+    Full,
+}
+
+impl From<ReadError> for Refused {
+    ghost use Rattle.verdict.specs.declared.Refused.TheVariants.{Unread};
+
+    ghost from_gives = { λ e r. r ≡ Unread e };
+
+    fn from(e: ReadError) -> Refused {
+        Refused::Unread(e)
+    }
+}
+
+impl Refused {
+    ghost use Rattle.verdict.specs.Verdict.{refusal_of};
+
+    // Refused: 5 for an unknown name (unknown_is_five).
+    pub fn number(self) -> u32
+        ensures { result ≡ number_of_refusal (refusal_of self) }
+    {
+        match self {
+            Refused::Unread(e) => match e {
+                ReadError::Malformed => 5,
+                ReadError::UnknownName => 6,
+                ReadError::DoubledReference => 18,
+            },
+            Refused::Full => 7,
+        }
+    }
 }
 
 // Whether the record is all that is lent, and bytes are left over.
 pub fn left_over(whole: bool, next: usize, long: usize) -> bool
     ensures { result ≡ whole && ltb next long }
 {
-    if whole {
-        return next < long;
-    }
-    false
+    whole && next < long
 }
 
-// Refused: 7 for both (full_before_left_over).
-fn seven_or_five(over: bool) -> u32
-    ensures { result ≡ (if over then 5 else 7) }
-{
-    if over {
-        return 5;
-    }
-    7
-}
-
-// 5, 6 and 18 where reading stopped, 7 where there is no space; bytes left over are 5, which comes before 7.
-// Refused: 5 for an unknown name (unknown_is_five).
-pub fn verdict_of(read: Whole, over: bool) -> Verdict
+// What is run, or why nothing is. Bytes left over are malformed, which comes before no space.
+// Refused: no space before bytes left over (full_before_left_over).
+pub fn verdict_of(read: Result<Option<What>, ReadError>, over: bool) -> Result<What, Refused>
     ensures { result ≡ verdict_of read over }
 {
-    match read {
-        Whole::Malformed => Verdict::Refused(5),
-        Whole::Unknown => Verdict::Refused(6),
-        Whole::Doubled => Verdict::Refused(18),
-        Whole::Full => Verdict::Refused(seven_or_five(over)),
-        Whole::Placed(x) => {
-            if over {
-                return Verdict::Refused(5);
-            }
-            Verdict::Run(x)
-        }
+    let placed = read?;
+    if over {
+        return Err(Refused::Unread(ReadError::Malformed));
     }
+    placed.ok_or(Refused::Full)
 }
 
 // Where the stream goes on: 5, 6 and 18 leave it as it is.
 // Refused: a stream that goes on behind a malformed record (malformed_passed), one that stays before a record that is run (rest_not_passed).
-pub fn place_after(read: Whole, at: usize, next: usize) -> usize
+pub fn place_after(read: Result<Option<What>, ReadError>, at: usize, next: usize) -> usize
     ensures { result ≡ place_after read at next }
 {
     match read {
-        Whole::Placed(_) => next,
-        Whole::Full => next,
-        Whole::Malformed => at,
-        Whole::Unknown => at,
-        Whole::Doubled => at,
+        Ok(_) => next,
+        Err(_) => at,
     }
 }

@@ -1,6 +1,17 @@
 -- `fields::read_in` meets its contract. Assumes nothing.
-use Rattle.fields.proofs.Forms.{one_is, one_IN}
+use Rattle.std.proofs.Common.{rules, ◌≡◌, Err, Some, refl}
+use Rattle.definition.specs.Reader.{◌>>=◌, go_on, read_one}
+use Rattle.definition.specs.Trees.{read_type}
+use Rattle.fields.proofs.Forms.{one_is, one_IN, type_unread}
 use Rattle.fields.proofs.read_in.Goals as goal
 
-pub returns : goal.returns
-returns c = rw (c.made.ensures, c.node_of.ensures) (one_is _ _ _ _ _ _ _ _ _ _ one_IN c.read_type-r.ensures)
+pub returns-in_err-ty : goal.returns-in_err-ty
+unfolding read_one read_type ◌>>=◌ go_on
+returns-in_err-ty c = let e : c.from_residual.result ≡ Err c.in_err-ty.field-0.0 = search rules in
+    rw e (type_unread c.in_err-ty.ensures (λ s ds k x. rw x refl))
+
+pub returns-in-Some : goal.returns-in-Some
+returns-in-Some c = one_is _ one_IN (rw c.in-Some.is at c.in_ok-ty.ensures)
+
+pub returns-in-None : goal.returns-in-None
+returns-in-None c = one_is _ one_IN (rw c.in-None.is at c.in_ok-ty.ensures)

@@ -1,17 +1,13 @@
 -- `fields::read_loc` meets its contract. Assumes nothing.
-use mathlib.Core.Path.{refl}
+use Rattle.std.proofs.Common.{rules, ◌≡◌, Err, Some, refl}
 use Rattle.definition.specs.Reader.{◌>>=◌, go_on, read_one}
-use Rattle.heads.specs.Fields.{u32_wide}
-use Rattle.fields.proofs.Forms.{loc_is, malformed_is}
+use Rattle.fields.proofs.Forms.{loc_is, unread_is}
 use Rattle.fields.proofs.read_loc.Goals as goal
 
-pub returns-in-Got : goal.returns-in-Got
-returns-in-Got c = λ w known l.
-    let r = c.read_number-r.ensures _ _ u32_wide in
-    rw c.plain.ensures (loc_is w _ _ _ known _ _ _ _ l r.within (rw c.in-Got.is at r.is))
-
-pub returns-in-Missing : goal.returns-in-Missing
+pub returns-in_err-loc : goal.returns-in_err-loc
 unfolding read_one ◌>>=◌ go_on
-returns-in-Missing c = λ w known l.
-    let r = c.read_number-r.ensures _ _ u32_wide in
-    rw c.plain-in-Missing.ensures (malformed_is w _ _ _ known _ _ l c.requires.1 (λ s ds k. rw (← r.is, c.in-Missing.is) refl))
+returns-in_err-loc c = λ w u known l. let e : c.from_residual.result ≡ Err c.in_err-loc.field-0.0 = search rules in
+    rw e (unread_is l (λ s ds k. rw (← c.u32.ensures, c.in_err-loc.was) refl))
+
+pub returns : goal.returns
+returns c = λ w u known l. loc_is _ c.args.m l (rw c.in_ok-loc.was at c.u32.ensures)

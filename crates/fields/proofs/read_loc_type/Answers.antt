@@ -1,19 +1,24 @@
 -- `fields::read_loc_type` meets its contract. Assumes nothing.
-use mathlib.Core.Path.{refl}
-use Rattle.definition.specs.Reader.{◌>>=◌, go_on, read_two}
-use Rattle.heads.specs.Fields.{u32_wide}
-use Rattle.fields.proofs.Forms.{one_is, one_loc_type, loc_type_is, malformed_is}
+use Rattle.std.proofs.Common.{rules, ◌≡◌, Err, Some, refl}
+use Rattle.definition.specs.Reader.{◌>>=◌, go_on, read_one, read_two}
+use Rattle.definition.specs.Trees.{read_type}
+use Rattle.fields.proofs.Forms.{one_is, one_loc_type, fields_is, type_unread, unread_is}
 use Rattle.fields.proofs.read_loc_type.Goals as goal
 
-pub read_type-t-requires : goal.read_type-t-requires
-read_type-t-requires c = let p = c.requires in record { lay = p.lay; end_in_bounds = (p.end_in_bounds.0, ((c.read_number-r.ensures _ _ u32_wide).within, p.end_in_bounds.1.1)) }
-
-pub returns-in-Got : goal.returns-in-Got
-returns-in-Got c = let e = rw c.in-Got.is at (c.read_number-r.ensures _ _ u32_wide).is in
-    rw (c.made.ensures, c.node_of.ensures) (loc_type_is _ _ _ _ _ _ _ _ _ _ _ e (one_is _ _ _ _ _ _ _ _ _ _ (one_loc_type _ _) c.read_type-t.ensures))
-
-pub returns-in-Missing : goal.returns-in-Missing
+pub returns-in_err-loc : goal.returns-in_err-loc
 unfolding read_two ◌>>=◌ go_on
-returns-in-Missing c = let r = c.read_number-r.ensures _ _ u32_wide in
-    let p = c.requires in
-    rw c.plain.ensures (malformed_is _ _ _ _ _ _ _ p.lay.0 p.end_in_bounds.1.0 (λ s ds k. rw (← r.is, c.in-Missing.is) refl))
+returns-in_err-loc c = let e : c.from_residual.result ≡ Err c.in_err-loc.field-0.0 = search rules in
+    rw e (unread_is c.requires.0 (λ s ds k. rw (← c.u32.ensures, c.in_err-loc.was) refl))
+
+pub returns-in_err-ty : goal.returns-in_err-ty
+unfolding read_two read_type ◌>>=◌ go_on
+returns-in_err-ty c = let e : c.from_residual-in_err-ty.result ≡ Err c.in_err-ty.field-0.0 = search rules in
+    rw e (type_unread c.in_err-ty.ensures (λ s ds k x. rw (← c.u32.ensures, c.in_ok-loc.was, x) refl))
+
+pub returns-in-Some : goal.returns-in-Some
+unfolding read_one read_two ◌>>=◌ go_on
+returns-in-Some c = fields_is (λ ds s d k. rw (← c.u32.ensures, c.in_ok-loc.was) refl) (one_is _ (one_loc_type c.args.m c.in_ok-loc.loc) (rw c.in-Some.is at c.in_ok-ty.ensures))
+
+pub returns-in-None : goal.returns-in-None
+unfolding read_one read_two ◌>>=◌ go_on
+returns-in-None c = fields_is (λ ds s d k. rw (← c.u32.ensures, c.in_ok-loc.was) refl) (one_is _ (one_loc_type c.args.m c.in_ok-loc.loc) (rw c.in-None.is at c.in_ok-ty.ensures))

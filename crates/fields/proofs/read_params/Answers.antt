@@ -1,36 +1,17 @@
-use mathlib.Core.Path.{refl}
-use Rattle.fields.proofs.Params.{params_none, params_more, params_stop, params_all}
-use native.Mathlib.Omega.{arith}
-use Rattle.heads.specs.Fields.{byte_wide}
+-- `fields::read_params` meets its contract. Assumes nothing.
+use Rattle.std.proofs.Common.{rules, ◌≡◌, Err, Some, refl}
+use Rattle.fields.proofs.Bytes.{params_none, params_more, params_stop, params_all}
 use Rattle.fields.proofs.read_params.Goals as goal
 
 pub loop-i-init : goal.loop-i-init
-loop-i-init c = params_none _ _ _ _ _ c.requires.1.0 refl
+loop-i-init c = params_none _ _ refl
 
-pub read_number-r-requires : goal.read_number-r-requires
-read_number-r-requires c = (c.requires.0, c.loop-i.invariant.within)
-
-pub returns-in_default : goal.returns-in_default
-returns-in_default c = let pre = c.requires in
-    let loop = c.loop-i in
-    let loop_test = c.loop-i-test in
-    λ w known l. rw c.plain.ensures
-    (params_stop _ _ _ _ _ _ _ loop.invariant w _ known _ l loop_test.true pre.1.0
-    (rw c.in_default.is at (c.byte_to-p.ensures _ _ _ _
-    (c.read_number-r.ensures _ _ byte_wide)).is))
-
-pub overflow_cast-params : goal.overflow_cast-params
-overflow_cast-params c = omega (arith, rw c.in-Got.is at (c.byte_to-p.ensures _ _ _ _ (c.read_number-r.ensures _ _ byte_wide)).most)
-
-pub bounds-params-i : goal.bounds-params-i
-bounds-params-i c = omega (arith, c.requires.1.1.1, c.loop-i-test.true)
-
-pub loop-i-smaller : goal.loop-i-smaller
-loop-i-smaller c = omega arith
+pub returns-in_err-bytes-clause-is : goal.returns-in_err-bytes-clause-is
+returns-in_err-bytes-clause-is c = let e : c.from_residual.result ≡ Err c.in_err-bytes.field-0.0 = search rules in
+    rw e (params_stop c.loop-i.invariant (rw c.from-i-end.ensures at c.loop-i-test.true) (rw c.in_err-bytes.was at c.byte_to.ensures.is))
 
 pub loop-i-preserved : goal.loop-i-preserved
-loop-i-preserved c = let p = c.byte_to-p.ensures _ _ _ _ (c.read_number-r.ensures _ _ byte_wide) in
-    params_more _ _ _ _ _ _ _ c.loop-i.invariant c.requires.1.1.1 c.loop-i-test.true _ _ p.within (rw c.in-Got.is at p.is)
+loop-i-preserved c = params_more c.loop-i.invariant c.requires (rw c.from-i-end.ensures at c.loop-i-test.true) (rw c.in_ok-bytes.was at c.byte_to.ensures.is)
 
-pub returns : goal.returns
-returns c = λ w known l. params_all _ _ _ _ _ _ _ c.loop-i.invariant w _ known _ l c.loop-i-test.false c.requires.1.1.0 c.requires.1.1.1
+pub returns-clause-is : goal.returns-clause-is
+returns-clause-is c = params_all c.loop-i.invariant (rw c.from-i-end.ensures at c.loop-i-test.false)

@@ -1,10 +1,6 @@
 -- `fields::read_params` meets its contract. Assumes nothing.
-use Prim.Native.Nat.{◌-◌}
-use Rattle.fields.proofs.Params.{Params}
+use Rattle.fields.proofs.Bytes.{Going}
 use Rattle.fields.proofs.read_params.Given as goal
 
 abbrev pub invariant-loop-i : goal.invariant-loop-i
-invariant-loop-i l = Params l.b l.end l.at l.n l.params l.next l.i
-
-abbrev pub decreases-loop-i : goal.decreases-loop-i
-decreases-loop-i l = l.n - l.i
+invariant-loop-i l = Going l.initial.r.left.now l.many l.bytes l.r.left.now l.i

@@ -1,35 +1,28 @@
 -- `fields::read_sd` meets its contract. Assumes nothing.
+use Rattle.std.proofs.Common.{rules, ◌≡◌, Err, Some, refl}
+use Rattle.definition.specs.Reader.{◌>>=◌, go_on, give}
 use Rattle.definition.specs.Record.{read_SD}
-use Rattle.definition.specs.Reader.{◌>>=◌, go_on}
-use mathlib.Core.Path.{refl}
-use Rattle.heads.specs.Fields.{byte_wide}
-use Rattle.fields.proofs.Forms.{sd_is, malformed_is}
+use Rattle.reader.specs.Taken.{place_read}
+use Rattle.fields.specs.Noded.{place_record}
+use Rattle.fields.proofs.Forms.{fields_none, unread_is}
 use Rattle.fields.proofs.read_sd.Goals as goal
 
-pub read_params-requires : goal.read_params-requires
-read_params-requires c = let r = c.read_numbers-r.ensures _ _ _ _ byte_wide byte_wide in
-    let a = c.byte_to-a.ensures _ _ _ _ r.first in
-    let n = c.byte_to-n.ensures _ _ _ _ r.second in
-    (c.requires.0, (n.within, (rw c.in-Got.is at a.most, rw c.in-Got-n.is at n.most)))
-
-pub returns-in-Got-n : goal.returns-in-Got-n
-returns-in-Got-n c = λ w known l.
-    let r = c.read_numbers-r.ensures _ _ _ _ byte_wide byte_wide in
-    let a = c.byte_to-a.ensures _ _ _ _ r.first in
-    let n = c.byte_to-n.ensures _ _ _ _ r.second in
-    sd_is _ _ _ _ _ _ _ _ _ _ _ (rw c.in-Got.is at a.is) (rw c.in-Got-n.is at n.is) (c.read_params.ensures w known l)
-
-pub returns-in-Missing-n : goal.returns-in-Missing-n
+pub returns-in_err-byte_to : goal.returns-in_err-byte_to
 unfolding read_SD ◌>>=◌ go_on
-returns-in-Missing-n c = λ w known l.
-    let r = c.read_numbers-r.ensures _ _ _ _ byte_wide byte_wide in
-    let a = c.byte_to-a.ensures _ _ _ _ r.first in
-    let n = c.byte_to-n.ensures _ _ _ _ r.second in
-    rw c.plain.ensures (malformed_is w _ _ _ known _ _ l c.requires.1 (λ s ds k. rw (← a.is, c.in-Got.is, ← n.is, c.in-Missing-n.is) refl))
+returns-in_err-byte_to c = λ w u known l. let e : c.from_residual.result ≡ Err c.in_err-byte_to.field-0.0 = search rules in
+    rw e (unread_is l (λ s ds k. rw (← c.byte_to.ensures.is, c.in_err-byte_to.was) refl))
 
-pub returns-in-Missing : goal.returns-in-Missing
+pub returns-in_err-many : goal.returns-in_err-many
 unfolding read_SD ◌>>=◌ go_on
-returns-in-Missing c = λ w known l.
-    let r = c.read_numbers-r.ensures _ _ _ _ byte_wide byte_wide in
-    let a = c.byte_to-a.ensures _ _ _ _ r.first in
-    rw c.plain-in-Missing.ensures (malformed_is w _ _ _ known _ _ l c.requires.1 (λ s ds k. rw (← a.is, c.in-Missing.is) refl))
+returns-in_err-many c = λ w u known l. let e : c.from_residual-in_err-many.result ≡ Err c.in_err-many.field-0.0 = search rules in
+    rw e (unread_is l (λ s ds k. rw (← c.byte_to.ensures.is, c.in_ok-byte_to.was, ← c.byte_to-2.ensures.is, c.in_err-many.was) refl))
+
+pub returns-in_err-params : goal.returns-in_err-params
+unfolding read_SD ◌>>=◌ go_on
+returns-in_err-params c = λ w u known l. let e : c.from_residual-in_err-params.result ≡ Err c.in_err-params.field-0.0 = search rules in
+    rw e (unread_is l (λ s ds k. rw (← c.byte_to.ensures.is, c.in_ok-byte_to.was, ← c.byte_to-2.ensures.is, c.in_ok-many.was, ← c.read_params.ensures.is, c.in_err-params.was) refl))
+
+pub returns : goal.returns
+unfolding place_read place_record read_SD ◌>>=◌ go_on give
+returns c = λ w u known l. fields_none l c.in_ok-params.ensures.few
+    (λ s s' ds k. rw (← c.byte_to.ensures.is, c.in_ok-byte_to.was, ← c.byte_to-2.ensures.is, c.in_ok-many.was, ← c.read_params.ensures.is, c.in_ok-params.was) refl)

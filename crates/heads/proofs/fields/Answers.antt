@@ -1,50 +1,41 @@
 -- `heads::fields` meets its contract. Assumes nothing.
-use Rattle.heads.proofs.Heads.{tag_begins, last_tag, only, declares_self, knowing, knowing_is}
-use mathlib.Core.List.{[]}
-use native.Mathlib.Omega.{arith}
-use mathlib.Core.Path.{refl}
+use Rattle.std.proofs.Common.{◌≡◌, refl, arith}
 use Rattle.definition.specs.Trees.{by_tag, read_trees}
 use Rattle.definition.specs.Reader.{go_on, give}
 use Rattle.heads.proofs.fields.Goals as goal
 
-pub returns-then-tag-eq0 : goal.returns-then-tag-eq0
+pub returns-in-0-clause-begins : goal.returns-in-0-clause-begins
 unfolding by_tag read_trees go_on give
-returns-then-tag-eq0 c = record { begins = λ s ds de kn. tag_begins s _ _ _ _ _ _ _ _ c.if-tag-eq0.true (record { is = λ part. refl; within = (c.requires.end_in_bounds.1.0, omega arith) }); head_within = (c.requires.end_in_bounds.1.0, omega arith) }
+returns-in-0-clause-begins c = λ s ds de kn loc part. rw c.in-0.is refl
 
-pub returns-then-tag-eq1 : goal.returns-then-tag-eq1
+pub returns-in-1-clause-begins : goal.returns-in-1-clause-begins
 unfolding by_tag
-returns-then-tag-eq1 c = record { begins = λ s ds de kn. tag_begins s _ _ _ _ _ _ _ _ c.if-tag-eq1.true (c.ref_fields.ensures s); head_within = (c.ref_fields.ensures (only [])).within }
+returns-in-1-clause-begins c = λ s ds de kn loc part. rw c.in-1.is (c.ref_fields.ensures.begins loc part)
 
-pub returns-then-tag-eq2 : goal.returns-then-tag-eq2
+pub returns-in-2-clause-begins : goal.returns-in-2-clause-begins
 unfolding by_tag
-returns-then-tag-eq2 c = record { begins = λ s ds de kn. tag_begins s _ _ _ _ _ _ _ _ c.if-tag-eq2.true (c.param_fields.ensures s); head_within = (c.param_fields.ensures (only [])).within }
+returns-in-2-clause-begins c = λ s ds de kn loc part. rw c.in-2.is (c.param_fields.ensures.begins loc part)
 
-pub returns-then-tag-eq3 : goal.returns-then-tag-eq3
+pub returns-in-3-clause-begins : goal.returns-in-3-clause-begins
 unfolding by_tag
-returns-then-tag-eq3 c = record { begins = λ s ds de kn. tag_begins s _ _ _ _ _ _ _ _ c.if-tag-eq3.true (c.builtin_fields.ensures s); head_within = (c.builtin_fields.ensures (only [])).within }
+returns-in-3-clause-begins c = λ s ds de kn loc part. rw c.in-3.is (c.builtin_fields.ensures.begins s loc part)
 
-pub returns-then-tag-eq4 : goal.returns-then-tag-eq4
+pub returns-in-4-clause-begins : goal.returns-in-4-clause-begins
 unfolding by_tag
-returns-then-tag-eq4 c = record { begins = λ s ds de kn. tag_begins s _ _ _ _ _ _ _ _ c.if-tag-eq4.true (c.list_fields.ensures s); head_within = (c.list_fields.ensures (only [])).within }
+returns-in-4-clause-begins c = λ s ds de kn loc part. rw c.in-4.is (c.list_fields.ensures.begins s loc part)
 
-pub returns-then-tag-eq5 : goal.returns-then-tag-eq5
+pub returns-in-5-clause-begins : goal.returns-in-5-clause-begins
 unfolding by_tag
-returns-then-tag-eq5 c = record { begins = λ s ds de kn. tag_begins s _ _ _ _ _ _ _ _ c.if-tag-eq5.true (c.struct_fields.ensures s (rw kn.structs de)); head_within = (c.struct_fields.ensures (only _) (declares_self _ _)).within }
+returns-in-5-clause-begins c = λ s ds de kn loc part. rw c.in-5.is (c.struct_fields.ensures.begins s (rw kn.structs de) loc part)
 
-pub returns-then-tag-eq6 : goal.returns-then-tag-eq6
+pub returns-in-6-clause-begins : goal.returns-in-6-clause-begins
 unfolding by_tag
-returns-then-tag-eq6 c = let args = c.args in record { begins = λ s ds de kn. tag_begins s _ _ _ _ _ _ _ _ c.if-tag-eq6.true (c.var_fields.ensures s kn.vars); head_within = (c.var_fields.ensures (knowing args.known) (knowing_is args.known)).within }
+returns-in-6-clause-begins c = λ s ds de kn loc part. rw c.in-6.is (c.var_fields.ensures.begins s kn.vars loc part)
 
-pub returns-then-tag-eq7 : goal.returns-then-tag-eq7
+pub returns-in-7-clause-begins : goal.returns-in-7-clause-begins
 unfolding by_tag read_trees go_on give
-returns-then-tag-eq7 c = let pre = c.requires in record { begins = λ s ds de kn. tag_begins s _ _ _ _ _ _ _ _ c.if-tag-eq7.true (record { is = λ part. refl; within = (pre.end_in_bounds.1.0, omega arith) }); head_within = (pre.end_in_bounds.1.0, omega arith) }
+returns-in-7-clause-begins c = λ s ds de kn loc part. rw c.in-7.is refl
 
-pub returns : goal.returns
+pub returns-in_default-clause-begins : goal.returns-in_default-clause-begins
 unfolding by_tag read_trees go_on give
-returns c = let pre = c.requires in
-    let if1 = c.if-tag-eq0 in
-    let if2 = c.if-tag-eq1 in
-    let if3 = c.if-tag-eq2 in
-    let e = last_tag _ pre.end_in_bounds.1.1.1 if1.false if2.false if3.false
-    c.if-tag-eq3.false c.if-tag-eq4.false
-    c.if-tag-eq5.false c.if-tag-eq6.false c.if-tag-eq7.false in record { begins = λ s ds de kn. tag_begins s _ _ _ _ _ _ _ _ e (record { is = λ part. refl; within = (pre.end_in_bounds.1.0, omega arith) }); head_within = (pre.end_in_bounds.1.0, omega arith) }
+returns-in_default-clause-begins c = let e : c.args.tag ≡ 8 = omega (arith, c.requires.is_tag) in λ s ds de kn loc part. rw e refl

@@ -1,31 +1,20 @@
 -- `heads::list_fields` meets its contract. Assumes nothing.
+use Rattle.std.proofs.Common.{rules, refl}
 use Rattle.definition.specs.Join.{is_numeric}
-use mathlib.Core.Path.{refl}
 use Rattle.definition.specs.Reader.{◌>>=◌, go_on}
 use Rattle.definition.specs.Trees.{arity, mark_fits}
-use Rattle.heads.specs.Fields.{read_args, byte_wide}
+use Rattle.heads.specs.Fields.{read_args}
 use Rattle.heads.proofs.Named.{list_is}
 use Rattle.heads.proofs.list_fields.Goals as goal
 
-pub returns-in-Got : goal.returns-in-Got
+pub returns-in_err-k-clause-begins : goal.returns-in_err-k-clause-begins
+unfolding ◌>>=◌ go_on
+returns-in_err-k-clause-begins c = λ s loc part. rw (list_is s part loc _) (search rules)
+
+pub returns-in_err-byte_to-clause-begins : goal.returns-in_err-byte_to-clause-begins
+unfolding ◌>>=◌ go_on
+returns-in_err-byte_to-clause-begins c = λ s loc part. rw (list_is s part loc _, ← c.read_mark.ensures, c.in_ok-k.was) (search rules)
+
+pub returns-clause-begins : goal.returns-clause-begins
 unfolding read_args arity mark_fits ◌>>=◌ go_on is_numeric
-returns-in-Got c = λ s.
-    let r = c.read_numbers-r.ensures _ _ _ _ byte_wide byte_wide in
-    let m = c.read_mark-m.ensures _ _ _ _ r.first in
-    let n = c.byte_to-n.ensures _ _ _ _ r.second in
-    record { is = λ part. rw (list_is s part _ _, ← m.is, c.in-With.is, ← n.is, c.in-Got.is) refl; within = (n.within, rw c.in-Got.is at n.most) }
-
-pub returns-in-Missing : goal.returns-in-Missing
-unfolding read_args arity mark_fits ◌>>=◌ go_on
-returns-in-Missing c = λ s.
-    let r = c.read_numbers-r.ensures _ _ _ _ byte_wide byte_wide in
-    let m = c.read_mark-m.ensures _ _ _ _ r.first in
-    let n = c.byte_to-n.ensures _ _ _ _ r.second in
-    record { is = λ part. rw (list_is s part _ _, ← m.is, c.in-With.is, ← n.is, c.in-Missing.is) refl; within = tt }
-
-pub returns-in-Wrong : goal.returns-in-Wrong
-unfolding read_args arity mark_fits ◌>>=◌ go_on
-returns-in-Wrong c = λ s.
-    let r = c.read_numbers-r.ensures _ _ _ _ byte_wide byte_wide in
-    let m = c.read_mark-m.ensures _ _ _ _ r.first in
-    record { is = λ part. rw (list_is s part _ _, ← m.is, c.in-Wrong.is) refl; within = tt }
+returns-clause-begins c = λ s loc part. rw (list_is s part loc _, ← c.read_mark.ensures, c.in_ok-k.was, ← c.byte_to.ensures.is, c.in_ok-byte_to.was, ← c.from-n.ensures) refl

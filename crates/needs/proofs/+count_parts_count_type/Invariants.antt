@@ -1,6 +1,6 @@
 -- `needs::count_parts` and `needs::count_type` meet their contracts. The measure is twice the nesting that is left, one more for the parts; each need cites a law of Walk. Assumes nothing.
 use Rattle.needs.proofs.Walk.{Going}
-use Prim.Native.Nat.{◌+◌, ◌*◌, ◌-◌}
+use Prim.Native.Nat.{◌+◌, ◌*◌}
 use Rattle.needs.proofs.+count_parts_count_type.Given as goal
 
 abbrev pub decreases-count_parts : goal.decreases-count_parts
@@ -10,7 +10,4 @@ abbrev pub decreases-count_type : goal.decreases-count_type
 decreases-count_type l = 2 * l.nest
 
 abbrev pub invariant-count_parts-loop-i : goal.invariant-count_parts-loop-i
-invariant-count_parts-loop-i l = Going l.w l.u l.b l.end l.known l.nest l.args l.initial.all l.n l.at l.next l.all l.i
-
-abbrev pub decreases-count_parts-loop-i : goal.decreases-count_parts-loop-i
-decreases-count_parts-loop-i l = l.n - l.i
+invariant-count_parts-loop-i l = Going l.w l.u l.initial.r.left.now l.known l.nest l.args l.initial.all l.n l.r.left.now l.all l._i

@@ -1,6 +1,6 @@
 -- `reader::read_parts` and `reader::read_type` meet their contracts. Assumes nothing.
 use Rattle.reader.proofs.Loop.{Going}
-use Prim.Native.Nat.{◌+◌, ◌*◌, ◌-◌}
+use Prim.Native.Nat.{◌+◌, ◌*◌}
 use Rattle.reader.proofs.+read_parts_read_type.Given as goal
 
 abbrev pub decreases-read_parts : goal.decreases-read_parts
@@ -10,7 +10,4 @@ abbrev pub decreases-read_type : goal.decreases-read_type
 decreases-read_type l = 2 * l.nest
 
 abbrev pub invariant-read_parts-loop-i : goal.invariant-read_parts-loop-i
-invariant-read_parts-loop-i l = Going l.initial.w l.initial.used l.b l.end l.known l.nest l.initial.over l.n l.at l.w l.used l.next l.over l.parts l.i
-
-abbrev pub decreases-read_parts-loop-i : goal.decreases-read_parts-loop-i
-decreases-read_parts-loop-i l = l.n - l.i
+invariant-read_parts-loop-i l = Going l.initial.w l.initial.u l.initial.r.left.now l.known l.nest l.initial.over l.n l.w l.u l.r.left.now l.over l.parts l.i

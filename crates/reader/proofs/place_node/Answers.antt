@@ -3,17 +3,16 @@ use borrow.Enum.Refused.{opened}
 use lib.Seq.{get_or-take}
 use native.Mathlib.Omega.{arith}
 use mathlib.Core.Path.{◌≡◌, refl, ap}
-use mathlib.Core.Bool.{Bool, false}
 use mathlib.Core.List.{List, [], ◌∷◌}
 use Prim.Native.Nat.{ℕ}
 use denote.Enum.Declared.{tag_of}
 use types.Run.{OneOf}
 use Rattle.definition.specs.Types as d
 use Rattle.definition.specs.Store.{sp}
-use Rattle.table.proofs.Steps.{after_now, after_is}
+use Rattle.table.proofs.Steps.{after_is}
 use Rattle.table.specs.contracts.Shape.{the_type}
 use Rattle.table.specs.declared.Shape.{Shape}
-use Rattle.table.specs.State.{outcome, value_of, Flat}
+use Rattle.table.specs.State.{value_of, Flat}
 use Rattle.shapes.proofs.Tags.{other_shapes}
 use Rattle.reader.specs.Taken.{put_node, with_parts}
 use Rattle.reader.proofs.place_node.Goals as goal
@@ -28,41 +27,26 @@ bare-flat n = other_shapes (0 ∷ 2 ∷ 4 ∷ 5 ∷ 6 ∷ []) (Flat n) tt tt (λ
 bare-value : (tys : List ℕ) (h : Shape) → Bare h → value_of h ≡ with_parts h tys
 bare-value tys = other_shapes (0 ∷ 2 ∷ 4 ∷ 5 ∷ 6 ∷ []) (λ h. value_of h ≡ with_parts h tys) refl tt (λ id a. refl) tt (λ v. refl) refl refl
 
-bare-put : (loc : ℕ) (h : Shape) (tys : List ℕ) (over : Bool) (s : d.State) → over ≡ false → Bare h → sp s loc (value_of h) ≡ put_node over loc h tys s
+bare-put : (loc : ℕ) (h : Shape) (tys : List ℕ) (s : d.State) → Bare h → sp s loc (value_of h) ≡ put_node loc h tys s
 unfolding put_node
-bare-put loc h tys over s e k = rw e (ap (λ (v : d.TypeValue). sp s loc v) (bare-value tys h k))
-
-pub returns-then-over : goal.returns-then-over
-unfolding put_node outcome
-returns-then-over c = after_now c.requires.0 tt (λ ds k. rw c.if-over.true refl)
+bare-put loc h tys s k = ap (λ (v : d.TypeValue). sp s loc v) (bare-value tys h k)
 
 pub push_node-requires : goal.push_node-requires
-push_node-requires c = (c.requires.0, c.requires.1.1 c.if-over.false 0 (rw c.in-Ref.is (omega arith)))
+push_node-requires c = (c.requires.0, c.requires.1.1 0 (rw c.in-Ref.is (omega arith)))
 
 pub push_apply-requires : goal.push_apply-requires
-push_apply-requires c = let pre = c.requires in (
-  pre.0,
-  record {
-    few = rw c.in-Apply.is at pre.1.0;
-    below = rw c.in-Apply.is at (pre.1.1 c.if-over.false);
-  },
-)
+push_apply-requires c = let pre = c.requires in (pre.0, record { few = rw c.in-Apply.is at pre.1.0; below = rw c.in-Apply.is at pre.1.1 })
 
 pub push_node-requires-in_default : goal.push_node-requires-in_default
-push_node-requires-in_default c = (c.requires.0, bare-flat _ c.args.shape (opened c.in_default.in_default-own.keys3))
+push_node-requires-in_default c = (c.requires.0, bare-flat _ c.args.head.shape (opened c.in_default.in_default-own.keys3))
 
 pub returns-in-Ref : goal.returns-in-Ref
 unfolding put_node
-returns-in-Ref c = let args = c.args in
-    let if1 = c.if-over in
-    after_is (λ ds k. rw (c.in-Ref.is, if1.false, get_or-take 1 args.parts 0 0 (omega arith)) refl)
-    c.push_node.ensures
+returns-in-Ref c = after_is (λ ds k. rw (c.in-Ref.is, get_or-take 1 c.args.parts 0 0 (omega arith)) refl) c.push_node.ensures
 
 pub returns-in-Apply : goal.returns-in-Apply
 unfolding put_node
-returns-in-Apply c = after_is (λ ds k. rw (c.in-Apply.is, c.if-over.false) refl) c.push_apply.ensures
+returns-in-Apply c = after_is (λ ds k. rw c.in-Apply.is refl) c.push_apply.ensures
 
 pub returns-in_default : goal.returns-in_default
-returns-in_default c = let args = c.args in
-    let if1 = c.if-over in
-    after_is (λ ds k. bare-put _ args.shape _ _ _ if1.false (opened c.in_default.in_default-own.keys3)) c.push_node-in_default.ensures
+returns-in_default c = after_is (λ ds k. bare-put _ c.args.head.shape _ _ (opened c.in_default.in_default-own.keys3)) c.push_node-in_default.ensures

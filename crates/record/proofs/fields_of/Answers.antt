@@ -1,42 +1,36 @@
 -- `record::fields_of` meets its contract. Assumes nothing.
-use mathlib.Core.Path.{refl}
-use Rattle.definition.specs.Reader.{refuse}
-use Rattle.fields.proofs.Forms.{malformed_is, sv_is}
+use Rattle.fields.proofs.Forms.{sv_is}
 use Rattle.record.proofs.fields_of.Goals as goal
 
 pub returns-in-SD : goal.returns-in-SD
-returns-in-SD c = rw c.in-SD.is (c.read_sd.ensures _ _ c.requires.lay.0)
+returns-in-SD c = rw c.in-SD.is (c.read_sd.ensures _ _ _ c.requires.0)
 
 pub returns-in-SN : goal.returns-in-SN
-returns-in-SN c = rw c.in-SN.is (c.read_sn.ensures _ c.requires.lay.0)
+returns-in-SN c = rw c.in-SN.is (c.read_sn.ensures _ _ c.requires.0)
 
 pub returns-in-TS : goal.returns-in-TS
-returns-in-TS c = rw c.in-TS.is c.read_ts.ensures
+returns-in-TS c = rw c.in-TS.is (c.read_ts.ensures)
 
 pub returns-in-IN : goal.returns-in-IN
-returns-in-IN c = rw c.in-IN.is c.read_in.ensures
+returns-in-IN c = rw c.in-IN.is (c.read_in.ensures)
 
 pub returns-in-NC : goal.returns-in-NC
-returns-in-NC c = rw c.in-NC.is c.read_nc.ensures
+returns-in-NC c = rw c.in-NC.is (c.read_nc.ensures)
 
 pub returns-in-SV : goal.returns-in-SV
-returns-in-SV c = rw (c.plain.ensures, c.in-SV.is) (sv_is _ _ _ _ _ _ c.requires.lay.0 c.requires.end_in_bounds.1.0)
+returns-in-SV c = rw c.in-SV.is (sv_is c.requires.0)
 
 pub returns-in-RM : goal.returns-in-RM
-returns-in-RM c = rw c.in-RM.is c.read_rm.ensures
+returns-in-RM c = rw c.in-RM.is (c.read_rm.ensures)
 
 pub returns-in-Loc : goal.returns-in-Loc
-returns-in-Loc c = rw c.in-Loc.is (c.read_loc.ensures _ _ c.requires.lay.0)
+returns-in-Loc c = rw c.in-Loc.is (c.read_loc.ensures _ _ _ c.requires.0)
 
 pub returns-in-Look : goal.returns-in-Look
-returns-in-Look c = rw c.in-Look.is c.read_look.ensures
+returns-in-Look c = rw c.in-Look.is (c.read_look.ensures)
 
 pub returns-in-Two : goal.returns-in-Two
-returns-in-Two c = rw c.in-Two.is c.read_two.ensures
+returns-in-Two c = rw c.in-Two.is (c.read_two.ensures)
 
 pub returns-in-LocType : goal.returns-in-LocType
-returns-in-LocType c = rw c.in-LocType.is c.read_loc_type.ensures
-
-pub returns-in-Other : goal.returns-in-Other
-unfolding refuse
-returns-in-Other c = rw (c.plain-in-Other.ensures, c.in-Other.is) (malformed_is _ _ _ _ _ _ _ c.requires.lay.0 c.requires.end_in_bounds.1.0 (λ s ds k. refl))
+returns-in-LocType c = rw c.in-LocType.is (c.read_loc_type.ensures)

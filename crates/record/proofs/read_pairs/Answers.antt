@@ -1,70 +1,37 @@
-use Rattle.heads.specs.Fields.{Arities, u32_wide}
-use mathlib.Core.Path.{refl, sym, ◌∙◌, subst}
-use native.Mathlib.Omega.{arith}
-use Rattle.record.proofs.Pairs.{pairs_none, pairs_cut, pairs_stop, pairs_turn, pairs_all}
+-- `record::read_pairs` meets its contract. Assumes nothing.
+use Rattle.std.proofs.Common.{rules, ◌≡◌, Err, is_none, unwrap_or, refl, sym, subst}
+use Rattle.heads.specs.Fields.{Arities}
+use Rattle.record.proofs.Pairs.{pairs_none, pairs_cut, pairs_stop, pairs_turn, last_unread, pairs_all}
 use Rattle.record.proofs.read_pairs.Goals as goal
 
 pub loop-i-init : goal.loop-i-init
-loop-i-init c = pairs_none _ _ _ _ _ _ _ _ _ c.requires.lay.0 c.requires.end_in_bounds.1.0 refl refl
+loop-i-init c = pairs_none _ _ _ c.requires.lay.0 refl refl
 
-pub read_number-r-requires : goal.read_number-r-requires
-read_number-r-requires c = (c.requires.end_in_bounds.0, c.loop-i.invariant.within)
+pub returns-in_err-id : goal.returns-in_err-id
+returns-in_err-id c = let e : c.from_residual.result ≡ Err c.in_err-id.field-0.0 = search rules in
+    rw e (pairs_cut c.loop-i.invariant (rw c.from-i-end.ensures at c.loop-i-test.true) (rw c.in_err-id.was at c.u32.ensures))
 
-pub returns-in_default : goal.returns-in_default
-returns-in_default c = let e = rw c.in_default.is at (c.read_number-r.ensures _ _ u32_wide).is in
-    rw c.plain.ensures (pairs_cut _ _ _ _ _ _ _ _ _ _ _ _ _ _ c.loop-i.invariant c.loop-i-test.true e)
+pub read_type-requires : goal.read_type-requires
+read_type-requires c = let g = c.loop-i.invariant in (g.lay, subst Arities (sym g.structs) c.requires.lay.1)
 
-pub read_type-t-requires : goal.read_type-t-requires
-read_type-t-requires c = let p = c.requires in
-    let g = c.loop-i.invariant in record { lay = (g.lay, subst Arities (sym g.structs) p.lay.1); end_in_bounds = (p.end_in_bounds.0, ((c.read_number-r.ensures _ _ u32_wide).within, p.end_in_bounds.1.1.0)) }
-
-pub returns-then-stops : goal.returns-then-stops
-returns-then-stops c = let g = c.loop-i.invariant in
-    let id = rw c.in-Got.is at (c.read_number-r.ensures _ _ u32_wide).is in
-    let t = c.read_type-t.ensures in
-    let e = sym c.stops.ensures ∙ c.if-stops.true in
-    rw (c.plain-then-stops.ensures, c.whole_of.ensures) (pairs_stop _ _ _ _ _ _ _ _ _ _ _ _ _ _ g _ _ id _ _ t c.loop-i-test.true e)
-
-pub offset_bounds-ids-i : goal.offset_bounds-ids-i
-offset_bounds-ids-i c = omega (arith, c.requires.end_in_bounds.1.1.1, c.loop-i-test.true)
-
-pub bounds-ids-i : goal.bounds-ids-i
-bounds-ids-i c = let pre = c.requires in
-    let loop_test = c.loop-i-test in
-    omega (arith, pre.end_in_bounds.1.1.1, loop_test.true)
-
-pub offset_bounds-nodes-i : goal.offset_bounds-nodes-i
-offset_bounds-nodes-i c = let pre = c.requires in
-    let loop_test = c.loop-i-test in
-    omega (arith, pre.end_in_bounds.1.1.1, loop_test.true)
-
-pub bounds-nodes-i : goal.bounds-nodes-i
-bounds-nodes-i c = let pre = c.requires in
-    let loop_test = c.loop-i-test in
-    omega (arith, pre.end_in_bounds.1.1.1, loop_test.true)
-
-pub overflow_add-i : goal.overflow_add-i
-overflow_add-i c = let pre = c.requires in
-    let loop_test = c.loop-i-test in
-    omega (arith, pre.end_in_bounds.1.1.1, loop_test.true)
-
-pub loop-i-smaller : goal.loop-i-smaller
-loop-i-smaller c = omega arith
+pub returns-in_err-ty : goal.returns-in_err-ty
+returns-in_err-ty c = let e : c.from_residual-in_err-ty.result ≡ Err c.in_err-ty.field-0.0 = search rules in
+    rw e (pairs_stop c.loop-i.invariant (rw c.in_ok-id.was at c.u32.ensures) (rw c.from-i-end.ensures at c.loop-i-test.true) c.in_err-ty.ensures)
 
 pub loop-i-preserved : goal.loop-i-preserved
-loop-i-preserved c = let g = c.loop-i.invariant in
-    let id = rw c.in-Got.is at (c.read_number-r.ensures _ _ u32_wide).is in
-    let t = c.read_type-t.ensures in
-    let e = sym c.stops.ensures ∙ c.if-stops.false in
-    let few = c.requires.end_in_bounds.1.1.1 in
-    rw (c.no_space-over.ensures, c.node_of.ensures) (pairs_turn _ _ _ _ _ _ _ _ _ _ _ _ _ _ g _ _ id _ _ t c.loop-i-test.true few e)
+loop-i-preserved c = let a : c.is_none-over.result ≡ is_none c.in_ok-ty.ty = search rules in
+    let b : c.unwrap_or.result ≡ unwrap_or c.in_ok-ty.ty 0 = search rules in
+    rw (a, b) (pairs_turn c.loop-i.invariant (rw c.in_ok-id.was at c.u32.ensures) (rw c.from-i-end.ensures at c.loop-i-test.true) c.in_ok-ty.ensures c.requires.few)
 
-pub read_type-r-requires : goal.read_type-r-requires
-read_type-r-requires c = let p = c.requires in
-    let g = c.loop-i.invariant in record { lay = (g.lay, subst Arities (sym g.structs) p.lay.1); end_in_bounds = (p.end_in_bounds.0, (g.within, p.end_in_bounds.1.1.0)) }
+pub read_type-requires-2 : goal.read_type-requires-2
+read_type-requires-2 c = let g = c.loop-i.invariant in (g.lay, subst Arities (sym g.structs) c.requires.lay.1)
 
-pub returns : goal.returns
-returns c = let g = c.loop-i.invariant in
-    let few = c.requires.end_in_bounds.1.1.1 in
-    rw (c.paired.ensures, c.whole_of-2.ensures, c.node_of-2.ensures)
-    (pairs_all _ _ _ _ _ _ _ _ _ _ _ _ _ _ g c.loop-i-test.false few _ _ c.read_type-r.ensures)
+pub returns-in_err-last : goal.returns-in_err-last
+returns-in_err-last c = let e : c.from_residual-in_err-last.result ≡ Err c.in_err-last.field-0.0 = search rules in
+    rw e (last_unread c.loop-i.invariant (rw c.from-i-end.ensures at c.loop-i-test.false) c.in_err-last.ensures)
+
+pub returns-in-Some : goal.returns-in-Some
+returns-in-Some c = rw c.from.ensures (pairs_all c.loop-i.invariant (rw c.from-i-end.ensures at c.loop-i-test.false) c.requires.few (rw c.in-Some.is at c.in_ok-last.ensures))
+
+pub returns-in-None : goal.returns-in-None
+returns-in-None c = pairs_all c.loop-i.invariant (rw c.from-i-end.ensures at c.loop-i-test.false) c.requires.few (rw c.in-None.is at c.in_ok-last.ensures)

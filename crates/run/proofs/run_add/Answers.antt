@@ -1,7 +1,5 @@
 -- `run::run_add` meets its contract. Assumes nothing.
-use Rattle.fields.specs.Noded.{kind}
 use Rattle.run.specs.Dispatch.{run_of, step_of}
-use Rattle.run.proofs.Arms.{unless_is}
 use Rattle.run.proofs.run_add.Goals as goal
 
 pub returns-in-FV : goal.returns-in-FV
@@ -13,7 +11,7 @@ unfolding run_of step_of
 returns-in-NV c = rw (c.in-Loc.is, c.in-NV.is) c.run_num_tvar.ensures
 
 pub returns-in-NC : goal.returns-in-NC
-unfolding run_of step_of kind
+unfolding run_of step_of
 returns-in-NC c = rw c.in-NC.is c.run_numeric.ensures
 
 pub returns-in-LocType : goal.returns-in-LocType
@@ -22,4 +20,4 @@ returns-in-LocType c = rw c.in-LocType.is c.run_loc_type.ensures
 
 pub returns-in-RM : goal.returns-in-RM
 unfolding run_of step_of
-returns-in-RM c = rw c.in-RM.is (rw (unless_is _ _) at c.run_needs.ensures)
+returns-in-RM c = rw c.in-RM.is c.run_needs.ensures

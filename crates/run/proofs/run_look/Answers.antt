@@ -1,6 +1,5 @@
 -- `run::run_look` meets its contract. Assumes nothing.
 use Rattle.run.specs.Dispatch.{run_of, step_of}
-use Rattle.run.proofs.Arms.{pairs_same}
 use Rattle.run.proofs.run_look.Goals as goal
 
 pub run_unfold-requires : goal.run_unfold-requires
@@ -22,5 +21,4 @@ returns-in-RD c = rw (c.in-One.is, c.in-RD.is) c.run_ready.ensures
 
 pub returns-in-TS : goal.returns-in-TS
 unfolding run_of step_of
-returns-in-TS c = let args = c.args in
-    rw c.in-TS.is (rw (pairs_same args.ids args.nodes 0 _) at c.run_tparams.ensures)
+returns-in-TS c = rw c.in-TS.is c.run_tparams.ensures

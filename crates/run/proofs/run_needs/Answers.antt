@@ -2,8 +2,8 @@
 use Rattle.run.proofs.Laws.{ran_needs, ran_open}
 use Rattle.run.proofs.run_needs.Goals as goal
 
-pub returns-then-met : goal.returns-then-met
-returns-then-met c = ran_open c.requires _ _ c.if-met.true
+pub returns-in-Some : goal.returns-in-Some
+returns-in-Some c = rw c.in-Some.is (ran_needs c.requires c.in-Some.n)
 
-pub returns : goal.returns
-returns c = ran_needs c.requires _ _ _ _ _ c.if-met.false
+pub returns-in-None : goal.returns-in-None
+returns-in-None c = rw c.in-None.is (ran_open c.requires)

@@ -6,7 +6,7 @@ use Rattle.step.proofs.answer_placed.Goals as goal
 pub answer_declared-requires : goal.answer_declared-requires
 answer_declared-requires c = let p = c.requires in
     let e = c.in-SD.is in
-    let i = rw e at p.lay.1.0 in record { lay = (p.lay.0, (i.0, (i.1, p.lay.1.1))); begins = rw e at p.begins }
+    let i = rw e at p.lay.1.0 in record { lay = (p.lay.0, (i, p.lay.1.1)); begins = rw e at p.begins }
 
 pub solve-requires : goal.solve-requires
 solve-requires c = let p = c.requires in

@@ -19,34 +19,26 @@ pub answer_placed-requires : goal.answer_placed-requires
 answer_placed-requires c = let p = c.requires in
     let v = c.save_vars.ensures in
     let saved = c.saved-1 in
-    let read_record = c.read_record-f in
-    let r = read_record.ensures in
-    let left_over = c.left_over in
-    let o = left_over.ensures in
-    let e = sym c.in-Run.is ∙ c.verdict_of-o.ensures in
-    let k = runs read_record.result.read left_over.result _ e in
+    let r = c.read_record-f.ensures in
+    let o = c.left_over.ensures in
+    let k = runs c.read_record-f.result.read c.left_over.result _ (sym c.verdict_of.ensures ∙ c.in-Ok.is) in
     let i = placed_in _ _ p.stands.0 p.stands.1.0 v r c.args.whole _ o _ k.0 in
     let n = begins _ _ p.stands.0 p.stands.1.0 v r c.args.whole _ o _ k.0 in record { lay = (r.lay, (i, (omega (arith, saved.given, p.stands.1.1.1.0), p.stands.1.1.1.1))); begins = n }
 
-pub returns-in-Refused : goal.returns-in-Refused
-returns-in-Refused c = let p = c.requires in
+pub returns-in-Err : goal.returns-in-Err
+returns-in-Err c = let p = c.requires in
     let v = c.save_vars.ensures in
     let r = c.read_record-f.ensures in
-    let n = c.place_after-next.ensures in
     let o = c.left_over.ensures in
-    let e = sym c.in-Refused.is ∙ c.verdict_of-o.ensures in
-    let both = steps_refused _ _ p.stands.0 p.stands.1.0 v r c.args.whole _ o p.stands.1.1.0 n e c.refuse.ensures _ c.with_next.ensures in
+    let e = sym c.verdict_of.ensures ∙ c.in-Err.is in
+    let both = steps_refused _ _ p.stands.0 p.stands.1.0 v r c.args.whole _ o p.stands.1.1.0 c.place_after-next.ensures e c.number.ensures c.refuse.ensures _ c.with_next-in-Err.ensures in
     record { steps = both.0; saved_next = both.1 }
 
-pub returns-in-Run : goal.returns-in-Run
-returns-in-Run c = let p = c.requires in
+pub returns-in-Ok : goal.returns-in-Ok
+returns-in-Ok c = let p = c.requires in
     let v = c.save_vars.ensures in
-    let read_record = c.read_record-f in
-    let r = read_record.ensures in
-    let n = c.place_after-next.ensures in
-    let left_over = c.left_over in
-    let o = left_over.ensures in
-    let e = sym c.in-Run.is ∙ c.verdict_of-o.ensures in
-    let k = runs read_record.result.read left_over.result _ e in
-    let both = steps_run _ _ p.stands.0 p.stands.1.0 v r c.args.whole _ o _ k.0 k.1 p.stands.1.1.0 n c.rows_after-rows.ensures c.answer_placed.ensures c.with_next-in-Run.ensures in
+    let r = c.read_record-f.ensures in
+    let o = c.left_over.ensures in
+    let k = runs c.read_record-f.result.read c.left_over.result _ (sym c.verdict_of.ensures ∙ c.in-Ok.is) in
+    let both = steps_run _ _ p.stands.0 p.stands.1.0 v r c.args.whole _ o _ k.0 k.1 p.stands.1.1.0 c.place_after-next.ensures c.rows_after-rows.ensures c.answer_placed.ensures c.with_next.ensures in
     record { steps = both.0; saved_next = both.1 }
