@@ -8,12 +8,7 @@ use Rattle.table.specs.Rows.{row, entries, Clean, Written, read_constraint, cons
 use Rattle.table.specs.State.{view, seen, Lay, Inside, Wrote}
 use Rattle.table.specs.declared.Used.{Used}
 use Rattle.table.proofs.Tab.{tab_ext, tab_more}
-use Rattle.std.proofs.Common.{zero, suc, length, add-one}
-use Rattle.std.proofs.lemmas.List.Edits.{paste_none, paste_more}
-use Rattle.std.proofs.lemmas.Slice.{put_mid-paste}
-use borrow.Rule.Slice.PartMut.{put_mid}
-use lib.Seq.{paste}
-use Rattle.table.proofs.Rows.{wrote_none, wrote_more, length_entries, entry_at, entry_out, Same, same_entries, same_clean, apart, Put, put_row}
+use Rattle.table.proofs.Rows.{length_entries, entry_at, entry_out, Same, same_entries, same_clean, apart, Put, put_row}
 use Rattle.table.proofs.Written.{constraint_long}
 use Rattle.table.proofs.States.{inside_constraints}
 use Rattle.table.proofs.Pushed.{constraints_view}
@@ -21,18 +16,6 @@ use Rattle.constraints.specs.Emptied.{First, Emptied}
 
 abbrev blank : Constraint
 blank = AbilityConstraint 0 0 0
-
--- ---- a row written all at once
-
-wrote_paste : (w : List ℕ) (at : ℕ) (r : List ℕ) (n : ℕ) → n ≤ length r → at + n ≤ length w → Wrote w at n r (paste w at r n)
-wrote_paste w at r zero h g = subst (λ (v : List ℕ). Wrote w at 0 r v) (paste_none w at r) (wrote_none w at r)
-wrote_paste w at r (suc n) h g =
-    let more : Wrote w at (n + 1) r (paste w at r (n + 1)) =
-    subst (λ (v : List ℕ). Wrote w at (n + 1) r v) (paste_more w at r n 0 (omega arith) (omega arith)) (wrote_more w at n r (paste w at r n) (wrote_paste w at r n (omega arith) (omega arith)) (omega arith)) in
-    subst (λ (m : ℕ). Wrote w at m r (paste w at r m)) (add-one n) more
-
-pub wrote_mid : (w : List ℕ) (at k : ℕ) (r s : List ℕ) → at + length r ≤ length w → length r ≡ k → s ≡ r → Wrote w at (length r) r (put_mid at k w s)
-wrote_mid w at k r s h l e = rw (put_mid-paste at k w s r (length r) e l refl) (wrote_paste w at r (length r) (omega arith) h)
 
 -- ---- a constraint row is stored
 

@@ -10,7 +10,7 @@ ghost use Rattle.definition.specs.Subst.{unfold_type};
 ghost use Rattle.definition.specs.Constraints.{undecided, num_vars, default_num_var, default_num_vars, by_rule};
 ghost use Rattle.definition.specs.Step.{numeric_constraint};
 ghost use Rattle.table.specs.Rows.{read_option};
-ghost use Rattle.table.specs.State.{constraint_of, seen, Lay, Changed, After, Wrote, pushed_constraint};
+ghost use Rattle.table.specs.State.{constraint_of, seen, Lay, Changed, After, pushed_constraint};
 ghost use Rattle.subst.specs.Answers.{var_at};
 ghost use Rattle.snapshot.specs.Snap.{Saved};
 ghost use Rattle.constraints.specs.Emptied.{First, Emptied};
@@ -172,22 +172,14 @@ pub fn default_num_vars(w: &mut [u32], u: Used, saved: &[u32]) -> Outcome
 
 // ---- std::mem::take(&mut context.constraints)
 
-// Constraint row i.
-fn store_row(w: &mut [u32], i: u32, row: [u32; 4])
-    requires { (i < 512) × (length w.old ≡ 24069) }
-    ensures { Wrote w.old (21509 + i * 4) 4 row w.new }
-{
-    let at = CONSTRAINTS_AT + i as usize * CONSTRAINT_WORDS;
-    w[at..at + CONSTRAINT_WORDS].copy_from_slice(&row);
-}
-
 // The last row is zero again.
 fn pop_constraint(w: &mut [u32], u: Used) -> Used
     requires { Lay w.old u × (0 < u.constraints) }
     ensures { First w.old u w.new result × (result.constraints + 1 ≡ u.constraints) }
 {
     let n = u.constraints - 1;
-    store_row(w, n, [0, 0, 0, 0]);
+    let at = CONSTRAINTS_AT + n as usize * CONSTRAINT_WORDS;
+    table::write_words(w, at, &[0, 0, 0, 0]);
     Used {
         constraints: n,
         ..u

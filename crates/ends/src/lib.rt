@@ -24,7 +24,8 @@ struct Meeting {
 
 // ---- the ends of all chains
 
-// What is noted of a variable is one more than the number of the variable at its chain's end.
+// What is noted of a variable is one more than the number of the variable at its chain's end; 0 is none. Words, and no
+// Options, so that a table is 4 KiB of zeros at first.
 
 fn one_more(v: TVar) -> u32
     ensures { (result ≡ v.0 + 1) × (result ≤ 65536) }
@@ -140,7 +141,7 @@ pub fn goes_on(w: &[u32], u: Used, t: u32, ends: &[u32]) -> Shape
     }
 }
 
-// In how many levels reading node t is over; none if not in `left`. A node's answer is noted, so that each node is read once.
+// In how many levels reading node t is over; none if not in `left`. A node's answer is noted: each is read once.
 pub fn levels(
     w: &[u32],
     u: Used,
@@ -174,7 +175,7 @@ pub fn levels(
     Some(high + 1)
 }
 
-// How many of `budget` parts are left once reading node t is over, in at most `left` levels; none if it is not over so soon.
+// How many of `budget` parts are left once reading node t is over, in at most `left` levels; none: not over so soon.
 fn soon_over(w: &[u32], u: Used, t: u32, left: u32, budget: u32, ends: &[u32]) -> Option<u32>
     requires lay { Lay w.now u × (t < u.nodes) }
     requires ends_known { EndsKnown w.now u ends.now }

@@ -33,8 +33,8 @@ pub struct Ask {
     pub ty: u32,
 }
 
-// A failure: what was wanted, its location, and the type as a node or `_` at a location. Of an ability that is missing: the location, the
-// ability, the type as a node, and the argument that lacks, if it is not the declaration.
+// A failure: what was wanted, its location, and the type as a node or `_` at a location. Of an ability that is missing:
+// the location, the ability, the type as a node, and the argument that lacks, if it is not the declaration.
 #[derive(Clone, Copy)]
 pub enum Failing {
     Node(Wanted, u32, u32),

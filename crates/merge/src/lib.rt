@@ -51,7 +51,8 @@ fn stopped(a: Outcome) -> Open
     }
 }
 
-// A variable met another type: the answer, or a fresh variable that took the type, to merge with. Either may go well, so this is no Result.
+// A variable met another type: the answer, or a fresh variable that took the type, to merge with. No Result, since an
+// answer may be a success.
 #[derive(Clone, Copy)]
 pub enum Meet {
     Is(Outcome),

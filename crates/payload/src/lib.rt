@@ -11,8 +11,8 @@ ghost use Rattle.payload.specs.Payload.{reply, shown, Shows, Paid};
 use table::{Shape, Used, tvar};
 use writer::{put_u16, put_u32, size_type, write_head, write_type};
 
-// What a payload shows: nothing, the number of a success, the variable of that number at a location, the type of the node of that number, `_` at a
-// location, a location, two types, or four other numbers.
+// What a payload shows: nothing, the number of a success, the variable of that number at a location, the type of the
+// node of that number, `_` at a location, a location, two types, or four other numbers.
 #[derive(Clone, Copy)]
 pub enum Show {
     Nothing,

@@ -16,6 +16,7 @@ use shapes::stay;
 use table::{Out, Outcome, Refusal, Shape, Used};
 
 // How ready_tvars goes on from a type: to so many parts, to an open variable's end, or to what a variable is bound to.
+// Three ways, none of them a failure.
 #[derive(Clone, Copy)]
 enum Onward {
     Parts(u32),

@@ -15,7 +15,7 @@ ghost use Rattle.shapes.specs.Parts.{next, part_count};
 use names::{AbilityMark, TVar, TypeName};
 use table::{Out, Outcome, Shape, Used};
 
-// What Shape::Apply holds, to pass it on whole.
+// What Shape::Apply holds, to pass it on whole. The variant keeps its four fields: most matches want one or two.
 #[derive(Clone, Copy)]
 pub struct Applied {
     pub k: AbilityMark,
