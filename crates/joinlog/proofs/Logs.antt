@@ -25,8 +25,7 @@ use Rattle.engine.specs.Public.{LentPiece, in_front, lent_piece, lent_lines}
 use Rattle.engine.proofs.Fresh.{from_fresh}
 use Rattle.turns.specs.declared.Turn.{Turn}
 use Rattle.turns.specs.Filling.{ended, lost, first, Filled}
-use Rattle.joinlog.specs.declared.Job.{Job}
-use Rattle.joinlog.specs.Turns.{held, stream, job_lines, lines_of, Listed, reads, lists, bytes_read, text_handed, Turns, none, and_turn}
+use Rattle.joinlog.specs.Turns.{Held, stream, job_lines, lines_of, Listed, reads, lists, bytes_read, text_handed, Turns, none, and_turn}
 use Rattle.joinlog.proofs.Moves.{clash}
 
 -- ---- lists and tests
@@ -76,59 +75,59 @@ record Later (t : Turn) (b : Bytes) : Type 0 where
   pub none : t.more ≡ false → b ≡ []
 
 -- a sound state, from which the next lines come, and the log of all that was read and of b after it is the text handed to the writer, and then the log from here on
-record Stands (input output : Bytes) (h : Job) : Type 0 where
+record Stands (input output : Bytes) (h : Held) : Type 0 where
   pub state : State
-  pub asks : (a : Bytes) (room : ℕ) (more : Bool) → job_lines h.turn.index h.words h.rows a room more ≡ lent_piece (next_lines (number h.turn.index) state a room more)
+  pub asks : (a : Bytes) (room : ℕ) (more : Bool) → job_lines h.job.turn.index h.job.words h.rows a room more ≡ lent_piece (next_lines (number h.job.turn.index) state a room more)
   pub is_sound : sound state ≡ true
-  pub bytes : IsBytes (stream h)
-  pub logs : (b : Bytes) → Later h.turn b → log_from 0 fresh (input ++ b) ≡ output ++ log_from (number h.turn.index) state (stream h ++ b)
+  pub bytes : IsBytes (stream h.job)
+  pub logs : (b : Bytes) → Later h.job.turn b → log_from 0 fresh (input ++ b) ≡ output ++ log_from (number h.job.turn.index) state (stream h.job ++ b)
 
-stands_first : (words : Bytes) (rows : List Bytes) (buf log : Bytes) → length words ≡ 24069 → Stands [] [] (held words rows buf log first)
-stands_first words rows buf log n = record {
+stands_first : (h : Held) → h.job.turn ≡ first → length h.job.words ≡ 24069 → Stands [] [] h
+stands_first h f n = record {
   state = fresh;
-  asks = λ a room more. from_fresh words rows a room more n (encode fresh) (encode_params fresh) refl refl ∙ sound_lines fresh fresh_sound 0 a room more;
+  asks = λ a room more. rw f (from_fresh h.job.words h.rows a room more n (encode fresh) (encode_params fresh) refl refl ∙ sound_lines fresh fresh_sound 0 a room more);
   is_sound = fresh_sound;
-  bytes = tt;
-  logs = λ b l. refl;
+  bytes = rw f tt;
+  logs = λ b l. rw f refl;
 }
 
-module _ (input output : Bytes) (h h' : Job) (s : Stands input output h) where
-  module _ (more : h.turn.more ≡ true) (f : Filled h.buf h.turn h'.buf h'.turn) where
+module _ (input output : Bytes) (h h' : Held) (s : Stands input output h) where
+  module _ (more : h.job.turn.more ≡ true) (f : Filled h.job.buf h.job.turn h'.job.buf h'.job.turn) where
     -- the bytes at hand are those that were, and those read
-    rest_read : stream h' ≡ stream h ++ bytes_read h'
+    rest_read : stream h'.job ≡ stream h.job ++ bytes_read h'.job
     unfolding bytes_read
     rest_read =
-        let m = h.turn.have - h.turn.from in
-        let e : h'.turn.have - h'.turn.from ≡ m + h'.turn.read = omega (arith, f.front, f.end) in
-        let d : h'.turn.have - h'.turn.read ≡ m = omega (arith, f.end) in
-        ap₂ (λ (k n : ℕ). take k (drop n h'.buf)) e f.front ∙ take-add m h'.turn.read h'.buf ∙ ap₂ (λ (l : Bytes) (n : ℕ). l ++ take h'.turn.read (drop n h'.buf)) f.kept (sym d)
+        let m = h.job.turn.have - h.job.turn.from in
+        let e : h'.job.turn.have - h'.job.turn.from ≡ m + h'.job.turn.read = omega (arith, f.front, f.end) in
+        let d : h'.job.turn.have - h'.job.turn.read ≡ m = omega (arith, f.end) in
+        ap₂ (λ (k n : ℕ). take k (drop n h'.job.buf)) e f.front ∙ take-add m h'.job.turn.read h'.job.buf ∙ ap₂ (λ (l : Bytes) (n : ℕ). l ++ take h'.job.turn.read (drop n h'.job.buf)) f.kept (sym d)
 
-    none_handed : text_handed h' ≡ []
+    none_handed : text_handed h'.job ≡ []
     unfolding text_handed
-    none_handed = ap (λ (n : ℕ). take n h'.log) f.silent
+    none_handed = ap (λ (n : ℕ). take n h'.job.log) f.silent
 
-    stands_read : h'.words ≡ h.words → h'.rows ≡ h.rows → IsBytes (bytes_read h') → Stands (input ++ bytes_read h') (output ++ text_handed h') h'
+    stands_read : h'.job.words ≡ h.job.words → h'.rows ≡ h.rows → IsBytes (bytes_read h'.job) → Stands (input ++ bytes_read h'.job) (output ++ text_handed h'.job) h'
     unfolding bytes_read lines job_from
     stands_read ew er is = record {
       state = s.state;
       asks = λ a room more. same_lines f.same_index ew er a room more ∙ s.asks a room more ∙ ap (λ (i : Option ℕ). lent_piece (next_lines (number i) s.state a room more)) (sym f.same_index);
       is_sound = s.is_sound;
-      bytes = rw rest_read (bytes_append (stream h) (bytes_read h') s.bytes is);
-      logs = λ b l. rw (append_assoc input (bytes_read h') b, none_handed, append-nil output, rest_read, f.same_index, append_assoc (stream h) (bytes_read h') b) (s.logs (bytes_read h' ++ b) (record { are = bytes_append (bytes_read h') b is l.are; none = λ z. clash more z }));
+      bytes = rw rest_read (bytes_append (stream h.job) (bytes_read h'.job) s.bytes is);
+      logs = λ b l. rw (append_assoc input (bytes_read h'.job) b, none_handed, append-nil output, rest_read, f.same_index, append_assoc (stream h.job) (bytes_read h'.job) b) (s.logs (bytes_read h'.job ++ b) (record { are = bytes_append (bytes_read h'.job) b is l.are; none = λ z. clash more z }));
     }
 
   abbrev piece : Piece
-  piece = next_lines (number h.turn.index) s.state (stream h) (length h.log) h.turn.more
+  piece = next_lines (number h.job.turn.index) s.state (stream h.job) (length h.job.log) h.job.turn.more
 
   lines_are : lines_of h ≡ lent_piece piece
-  lines_are = s.asks (stream h) (length h.log) h.turn.more
+  lines_are = s.asks (stream h.job) (length h.job.log) h.job.turn.more
 
   module _ (l : Listed h h') where
-    none_read : bytes_read h' ≡ []
+    none_read : bytes_read h'.job ≡ []
     unfolding bytes_read
-    none_read = ap (λ (n : ℕ). take n (drop (h'.turn.have - n) h'.buf)) l.none
+    none_read = ap (λ (n : ℕ). take n (drop (h'.job.turn.have - n) h'.job.buf)) l.none
 
-    text_is : text_handed h' ≡ piece.text
+    text_is : text_handed h'.job ≡ piece.text
     unfolding text_handed lent_piece in_front
     text_is = ap₂ (λ (n : ℕ) (a : Bytes). take n a) l.handed l.text ∙ take_at (lines_of h).text _ _ refl ∙ ap (λ (p : LentPiece). p.text) lines_are
 
@@ -137,26 +136,26 @@ module _ (input output : Bytes) (h h' : Job) (s : Stands input output h) where
     ended_is = ap (λ (p : LentPiece). p.ended) lines_are
 
     -- the log, by way of this turn's lines
-    by_lines : (b : Bytes) → Later h'.turn b → log_from 0 fresh ((input ++ bytes_read h') ++ b) ≡ (output ++ text_handed h') ++ onward piece b
+    by_lines : (b : Bytes) → Later h'.job.turn b → log_from 0 fresh ((input ++ bytes_read h'.job) ++ b) ≡ (output ++ text_handed h'.job) ++ onward piece b
     by_lines b q =
-        let none : h.turn.more ≡ false → b ≡ [] = λ z. q.none (l.follow ∙ z) in
-        let g = piece_follows (number h.turn.index) s.state (stream h) b (length h.log) h.turn.more s.bytes q.are s.is_sound none in
+        let none : h.job.turn.more ≡ false → b ≡ [] = λ z. q.none (l.follow ∙ z) in
+        let g = piece_follows (number h.job.turn.index) s.state (stream h.job) b (length h.job.log) h.job.turn.more s.bytes q.are s.is_sound none in
         rw (none_read, append-nil input, text_is, append_assoc output piece.text (onward piece b)) (s.logs b (record { are = q.are; none = none }) ∙ ap (λ (m : Bytes). output ++ m) g.is)
 
     goes_on : (b : Bytes) → piece.ended ≡ false → onward piece b ≡ log_from piece.index piece.state (piece.rest ++ b)
     goes_on b e = rw e refl
 
     -- where the lines end the job, they end the log
-    by_last : piece.ended ≡ true → (b : Bytes) → Later h'.turn b → log_from 0 fresh ((input ++ bytes_read h') ++ b) ≡ output ++ text_handed h'
-    by_last e b q = by_lines b q ∙ (rw e (append-nil (output ++ text_handed h')))
+    by_last : piece.ended ≡ true → (b : Bytes) → Later h'.job.turn b → log_from 0 fresh ((input ++ bytes_read h'.job) ++ b) ≡ output ++ text_handed h'.job
+    by_last e b q = by_lines b q ∙ (rw e (append-nil (output ++ text_handed h'.job)))
 
-    stands_listed : ended h'.turn.stage ≡ false → Stands (input ++ bytes_read h') (output ++ text_handed h') h'
+    stands_listed : ended h'.job.turn.stage ≡ false → Stands (input ++ bytes_read h'.job) (output ++ text_handed h'.job) h'
     unfolding lent_piece bytes_read text_handed
     stands_listed e =
-        let g = piece_follows (number h.turn.index) s.state (stream h) [] (length h.log) h.turn.more s.bytes tt s.is_sound (λ z. refl) in
-        let o : piece.ended ≡ false = sym ended_is ∙ or_false _ (lost h'.turn.stage) (sym l.ends ∙ e) in
-        let n : h'.turn.index ≡ Some piece.index = l.next ∙ ap (λ (p : LentPiece). Some p.index) lines_are in
-        let r : stream h' ≡ piece.rest = l.rest ∙ ap (λ (p : LentPiece). p.rest) lines_are in
+        let g = piece_follows (number h.job.turn.index) s.state (stream h.job) [] (length h.job.log) h.job.turn.more s.bytes tt s.is_sound (λ z. refl) in
+        let o : piece.ended ≡ false = sym ended_is ∙ or_false _ (lost h'.job.turn.stage) (sym l.ends ∙ e) in
+        let n : h'.job.turn.index ≡ Some piece.index = l.next ∙ ap (λ (p : LentPiece). Some p.index) lines_are in
+        let r : stream h'.job ≡ piece.rest = l.rest ∙ ap (λ (p : LentPiece). p.rest) lines_are in
         record {
           state = piece.state;
           asks = λ a room more.
@@ -166,36 +165,33 @@ module _ (input output : Bytes) (h h' : Job) (s : Stands input output h) where
               ∙ ap (λ (i : Option ℕ). lent_piece (next_lines (number i) piece.state a room more)) (sym n);
           is_sound = g.left;
           bytes = rw r g.bytes;
-          logs = λ b q. rw (r, n) (by_lines b q ∙ ap (λ (m : Bytes). (output ++ text_handed h') ++ m) (goes_on b o));
+          logs = λ b q. rw (r, n) (by_lines b q ∙ ap (λ (m : Bytes). (output ++ text_handed h'.job) ++ m) (goes_on b o));
         }
 
-module _ (words : Bytes) (rows : List Bytes) (buf log : Bytes) (start : length words ≡ 24069) where
-  abbrev h₀ : Job
-  h₀ = held words rows buf log first
-
-  stands : {n : ℕ} {input output : Bytes} {h : Job} → Turns h₀ n input output h → ended h.turn.stage ≡ false → IsBytes input → Stands input output h
-  stands none e is = stands_first words rows buf log start
+module _ (h₀ : Held) (at_first : h₀.job.turn ≡ first) (start : length h₀.job.words ≡ 24069) where
+  stands : {n : ℕ} {input output : Bytes} {h : Held} → Turns h₀ n input output h → ended h.job.turn.stage ≡ false → IsBytes input → Stands input output h
+  stands none e is = stands_first h₀ at_first start
   stands (and_turn {input = input} {output = output} {h = h} {h' = h'} c o (reads cut ew er el f)) e is =
-      stands_read input output h h' (stands c o (bytes_front input (bytes_read h') is)) (and_l h.turn.more _ cut) f ew er (bytes_back input (bytes_read h') is)
+      stands_read input output h h' (stands c o (bytes_front input (bytes_read h'.job) is)) (and_l h.job.turn.more _ cut) f ew er (bytes_back input (bytes_read h'.job) is)
   stands (and_turn {input = input} {output = output} {h = h} {h' = h'} c o (lists whole l)) e is =
-      stands_listed input output h h' (stands c o (bytes_front input (bytes_read h') is)) l e
+      stands_listed input output h h' (stands c o (bytes_front input (bytes_read h'.job) is)) l e
 
   -- the job ended, nothing was lost: the text is the log
-  pub turns_log : {n : ℕ} {input output : Bytes} {h : Job} → Turns h₀ n input output h → IsBytes input → ended h.turn.stage ≡ true → lost h.turn.stage ≡ false → (b : Bytes) → IsBytes b → (h.turn.more ≡ false → b ≡ []) → joinlog (input ++ b) ≡ output
+  pub turns_log : {n : ℕ} {input output : Bytes} {h : Held} → Turns h₀ n input output h → IsBytes input → ended h.job.turn.stage ≡ true → lost h.job.turn.stage ≡ false → (b : Bytes) → IsBytes b → (h.job.turn.more ≡ false → b ≡ []) → joinlog (input ++ b) ≡ output
   unfolding joinlog job_log
-  turns_log none is e o b ib q = clash e refl
+  turns_log none is e o b ib q = clash e (ap (λ (t : Turn). ended t.stage) at_first)
   turns_log (and_turn c d (reads cut ew er el f)) is e o b ib q = clash e (f.ends ∙ o)
   turns_log (and_turn {input = input} {output = output} {h = h} {h' = h'} c d (lists whole l)) is e o b ib q =
-      let s = stands c d (bytes_front input (bytes_read h') is) in
-      by_last input output h h' s l (sym (ended_is input output h h' s l) ∙ or_left _ (lost h'.turn.stage) o (sym l.ends ∙ e)) b (record { are = ib; none = q })
+      let s = stands c d (bytes_front input (bytes_read h'.job) is) in
+      by_last input output h h' s l (sym (ended_is input output h h' s l) ∙ or_left _ (lost h'.job.turn.stage) o (sym l.ends ∙ e)) b (record { are = ib; none = q })
 
   -- wherever the turns stopped: the text is a front of the log
-  pub turns_front : {n : ℕ} {input output : Bytes} {h : Job} → Turns h₀ n input output h → IsBytes input → (b : Bytes) → IsBytes b → (h.turn.more ≡ false → b ≡ []) → (later : Bytes) × (joinlog (input ++ b) ≡ output ++ later)
+  pub turns_front : {n : ℕ} {input output : Bytes} {h : Held} → Turns h₀ n input output h → IsBytes input → (b : Bytes) → IsBytes b → (h.job.turn.more ≡ false → b ≡ []) → (later : Bytes) × (joinlog (input ++ b) ≡ output ++ later)
   unfolding joinlog job_log
   turns_front none is b ib q = (joinlog b, refl)
   turns_front (and_turn {input = input} {output = output} {h = h} {h' = h'} c d (reads cut ew er el f)) is b ib q =
-      let s = stands c d (bytes_front input (bytes_read h') is) in
-      (_, (stands_read input output h h' s (and_l h.turn.more _ cut) f ew er (bytes_back input (bytes_read h') is)).logs b (record { are = ib; none = q }))
+      let s = stands c d (bytes_front input (bytes_read h'.job) is) in
+      (_, (stands_read input output h h' s (and_l h.job.turn.more _ cut) f ew er (bytes_back input (bytes_read h'.job) is)).logs b (record { are = ib; none = q }))
   turns_front (and_turn {input = input} {output = output} {h = h} {h' = h'} c d (lists whole l)) is b ib q =
-      let s = stands c d (bytes_front input (bytes_read h') is) in
+      let s = stands c d (bytes_front input (bytes_read h'.job) is) in
       (onward (piece input output h h' s) b, by_lines input output h h' s l b (record { are = ib; none = q }))

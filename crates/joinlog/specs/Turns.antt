@@ -3,12 +3,16 @@ use Rattle.std.specs.Prelude.{◌≡◌, Bool, true, false, ◌||◌, List, [], 
 use Rattle.definition.specs.Write.{IsBytes}
 use Rattle.definition.specs.Job.{joinlog}
 use Rattle.engine.specs.Public.{LentPiece, in_front, lent_lines, fresh_lines}
-use Rattle.turns.specs.declared.Turn.{Turn}
 use Rattle.turns.specs.Filling.{ended, lost, at_hand, Within, short, Filled}
 use Rattle.joinlog.specs.declared.Job.{Job}
 
-abbrev pub held : List ℕ → List (List ℕ) → List ℕ → List ℕ → Turn → Job
-held words rows buf log turn = record { words = words; rows = rows; buf = buf; log = log; turn = turn }
+-- all that the program holds between two turns: the job, and the parameter rows beside it
+pub record Held : Type 0 where
+  pub job : Job
+  pub rows : List (List ℕ)
+
+abbrev pub held : Job → List (List ℕ) → Held
+held job rows = record { job = job; rows = rows }
 
 abbrev pub stream : Job → List ℕ
 stream h = at_hand h.turn.from h.turn.have h.buf
@@ -21,27 +25,27 @@ job_lines None words rows bytes room more = fresh_lines words rows bytes room mo
 job_lines (Some index) words rows bytes room more = lent_lines words rows index bytes room more
 
 -- the job's next lines, of the bytes at hand
-abbrev pub lines_of : Job → LentPiece
-lines_of h = job_lines h.turn.index h.words h.rows (stream h) (length h.log) h.turn.more
+abbrev pub lines_of : Held → LentPiece
+lines_of h = job_lines h.job.turn.index h.job.words h.rows (stream h.job) (length h.job.log) h.job.turn.more
 
 -- words, rows, log, bytes left and next number are those of the job's next lines, and these were handed to the writer; the job ends just where they end it, or where they could not be written
-pub record Listed (h h' : Job) : Type 0 where
-  pub words : h'.words ≡ (lines_of h).words
+pub record Listed (h h' : Held) : Type 0 where
+  pub words : h'.job.words ≡ (lines_of h).words
   pub rows : h'.rows ≡ (lines_of h).params
-  pub text : h'.log ≡ in_front (lines_of h).text h.log
-  pub handed : h'.turn.written ≡ length (lines_of h).text
-  pub within : Within h'.turn h.buf
-  pub rest : stream h' ≡ (lines_of h).rest
-  pub same_bytes : h'.buf ≡ h.buf
-  pub none : h'.turn.read ≡ 0
-  pub follow : h'.turn.more ≡ h.turn.more
-  pub next : h'.turn.index ≡ Some (lines_of h).index
-  pub ends : ended h'.turn.stage ≡ ((lines_of h).ended || lost h'.turn.stage)
+  pub text : h'.job.log ≡ in_front (lines_of h).text h.job.log
+  pub handed : h'.job.turn.written ≡ length (lines_of h).text
+  pub within : Within h'.job.turn h.job.buf
+  pub rest : stream h'.job ≡ (lines_of h).rest
+  pub same_bytes : h'.job.buf ≡ h.job.buf
+  pub none : h'.job.turn.read ≡ 0
+  pub follow : h'.job.turn.more ≡ h.job.turn.more
+  pub next : h'.job.turn.index ≡ Some (lines_of h).index
+  pub ends : ended h'.job.turn.stage ≡ ((lines_of h).ended || lost h'.job.turn.stage)
 
 -- a turn reads on where a record may not be whole, and leaves words, rows and log; else it lists the records at hand, and leaves the bytes
-pub data Turned (h h' : Job) : Type 0 where
-  reads : short h.turn ≡ true → h'.words ≡ h.words → h'.rows ≡ h.rows → h'.log ≡ h.log → Filled h.buf h.turn h'.buf h'.turn → Turned h h'
-  lists : short h.turn ≡ false → Listed h h' → Turned h h'
+pub data Turned (h h' : Held) : Type 0 where
+  reads : short h.job.turn ≡ true → h'.job.words ≡ h.job.words → h'.rows ≡ h.rows → h'.job.log ≡ h.job.log → Filled h.job.buf h.job.turn h'.job.buf h'.job.turn → Turned h h'
+  lists : short h.job.turn ≡ false → Listed h h' → Turned h h'
 
 -- ---- a run
 
@@ -54,18 +58,18 @@ unfoldable pub text_handed : Job → List ℕ
 text_handed h = take h.turn.written h.log
 
 -- n turns, none after the job's end: the bytes read, the text handed to the writer, and what is held then
-pub data Turns (h₀ : Job) : ℕ → List ℕ → List ℕ → Job → Type 0 where
+pub data Turns (h₀ : Held) : ℕ → List ℕ → List ℕ → Held → Type 0 where
   none : Turns h₀ 0 [] [] h₀
-  and_turn : {n : ℕ} {input output : List ℕ} {h h' : Job} → Turns h₀ n input output h → ended h.turn.stage ≡ false → Turned h h'
-      → Turns h₀ (suc n) (input ++ bytes_read h') (output ++ text_handed h') h'
+  and_turn : {n : ℕ} {input output : List ℕ} {h h' : Held} → Turns h₀ n input output h → ended h.job.turn.stage ≡ false → Turned h h'
+      → Turns h₀ (suc n) (input ++ bytes_read h'.job) (output ++ text_handed h'.job) h'
 
 -- turns until one ended the job, or 2 to the 64, less one, of them. Whatever bytes b may follow those read: the text handed over is a front of the log of all of them, and where the job ended and no read or write failed, it is that log
-pub record Ran (h₀ h : Job) : Type 0 where
+pub record Ran (h₀ h : Held) : Type 0 where
   pub count : ℕ
   pub input : List ℕ
   pub output : List ℕ
   pub turns : Turns h₀ count input output h
   pub bytes : IsBytes input
-  pub all : ended h.turn.stage ≡ false → count ≡ 18446744073709551615
-  pub front : (b : List ℕ) → IsBytes b → (h.turn.more ≡ false → b ≡ []) → (later : List ℕ) × (joinlog (input ++ b) ≡ output ++ later)
-  pub log : ended h.turn.stage ≡ true → lost h.turn.stage ≡ false → (b : List ℕ) → IsBytes b → (h.turn.more ≡ false → b ≡ []) → joinlog (input ++ b) ≡ output
+  pub all : ended h.job.turn.stage ≡ false → count ≡ 18446744073709551615
+  pub front : (b : List ℕ) → IsBytes b → (h.job.turn.more ≡ false → b ≡ []) → (later : List ℕ) × (joinlog (input ++ b) ≡ output ++ later)
+  pub log : ended h.job.turn.stage ≡ true → lost h.job.turn.stage ≡ false → (b : List ℕ) → IsBytes b → (h.job.turn.more ≡ false → b ≡ []) → joinlog (input ++ b) ≡ output
