@@ -124,6 +124,7 @@ fn lines_trusted(
         index,
         ended: false,
     };
+    // A record is as long as its bytes say: nothing counts through them.
     'records: while lines.read < stream.len() {
         let left = stream.len() - lines.read;
         let room = log.len() - lines.written;

@@ -130,6 +130,7 @@ fn run_job(mut out: io::Stdout, job: &[u8], log: &mut [u8]) -> io::Result<()> {
 
 fn run_jobs(out: io::Stdout, jobs: &[u8], log: &mut [u8]) -> io::Result<()> {
     let mut rest = jobs;
+    // A job is as long as its size says: nothing counts through them.
     while let Some((size, after)) = rest.split_first_chunk::<4>() {
         let Some((job, next)) = after.split_at_checked(u32::from_le_bytes(*size) as usize) else {
             return Ok(());
@@ -145,6 +146,7 @@ fn read_full(mut input: io::Stdin, buf: &mut [u8]) -> io::Result<usize>
     ensures { IfOk result (λ n. n ≤ length buf.old) }
 {
     let mut n: usize = 0;
+    // A read brings as many bytes as it likes.
     while n < buf.len() {
         let got = input.read(&mut buf[n..])?;
         if got == 0 {
