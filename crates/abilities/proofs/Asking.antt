@@ -1,21 +1,23 @@
 -- Whether any constraint of a list asks for abilities. Assumes nothing.
--- By the list. `Searched` is the loop's invariant: the constraints before i ask for none, so the answer is that of the rest.
+-- By the list, and by the places of its constraints, from the first on.
 use mathlib.Core.Path.{◌≡◌, refl, sym, ap, ◌∙◌}
 use mathlib.Core.Bool.{Bool, true, false}
 use mathlib.Core.List.{List, [], ◌∷◌}
 use Rattle.std.specs.Prelude.{None}
-use Prim.Native.Nat.{ℕ, zero, suc, ◌+◌, ◌≤◌, ◌<◌}
+use Prim.Native.Nat.{ℕ, zero, suc, ◌+◌, ◌<◌}
 use native.Mathlib.Numerals.{add-one}
 use native.Mathlib.Omega.{arith}
 use lib.ListN.{length, get_or, drop, drop_of_length-le}
 use lib.Seq.{drop-cons}
+use Rattle.std.specs.List.{list_any, range_with_len}
 use Rattle.definition.specs.Types as d
-use Rattle.definition.specs.Types.{State, Struct, Constraint}
+use Rattle.definition.specs.Types.{Struct, Constraint}
 use Rattle.definition.specs.Store.{with_structs}
 use Rattle.definition.specs.Constraints.{constraint_hindrance, hindrance}
 use Rattle.table.specs.Rows.{constraint_table}
-use Rattle.table.specs.State.{view, seen, Lay}
-use Rattle.table.specs.declared.Used.{Used}
+use Rattle.table.specs.State.{seen}
+use Rattle.table.specs.Did.{held, tables}
+use Rattle.table.specs.declared.state.State.{State}
 use Rattle.table.proofs.Pushed.{constraints_view}
 use Rattle.abilities.specs.Rules.{asks_abilities, any_asks}
 
@@ -47,7 +49,7 @@ asks_not (c ∷ cs) e i h = by (asks_abilities c) refl i h (asks_not cs)
     by false z zero h rest = z
     by false z (suc i) h rest = rest (sym (later_asks c cs z) ∙ e) i (omega arith)
 
-plain_clear : (s : State) (c : Constraint) → asks_abilities c ≡ false → constraint_hindrance s c ≡ None
+plain_clear : (s : d.State) (c : Constraint) → asks_abilities c ≡ false → constraint_hindrance s c ≡ None
 unfolding asks_abilities constraint_hindrance
 plain_clear s (d.AbilityConstraint loc ty a) e = cc
 plain_clear s (d.NumericConstraint loc ty) e = refl
@@ -57,7 +59,7 @@ plain_clear s (d.BaseTypeConstraint loc ty) e = refl
 plain_clear s (d.SingleTypeConstraint loc ty) e = refl
 
 -- where none asks, none hinders
-pub asks_clear : (s : State) (cs : List Constraint) → any_asks cs ≡ false → hindrance s cs ≡ None
+pub asks_clear : (s : d.State) (cs : List Constraint) → any_asks cs ≡ false → hindrance s cs ≡ None
 unfolding any_asks hindrance
 asks_clear s [] e = refl
 asks_clear s (c ∷ cs) e = by (asks_abilities c) refl (asks_clear s cs)
@@ -66,35 +68,26 @@ asks_clear s (c ∷ cs) e = by (asks_abilities c) refl (asks_clear s cs)
     by true z rest = let y : true ≡ false = sym (first_asks c cs z) ∙ e in cc
     by false z rest = rw (plain_clear s c z, hindrance) (rest (sym (later_asks c cs z) ∙ e))
 
--- ---- the list
+-- ---- the list, by the places of its constraints
 
--- the constraints before i ask for none
-pub record Searched (w : List ℕ) (u : Used) (i : ℕ) : Type 0 where
-  pub lay : Lay w u
-  pub le : i ≤ u.constraints
-  pub is : any_asks (view w u).constraints ≡ any_asks (drop i (view w u).constraints)
+abbrev pub asks_at : List Constraint → ℕ → Bool
+asks_at cs i = asks_abilities (get_or cs i blank)
 
-pub searched_none : (w : List ℕ) (u : Used) → Lay w u → Searched w u 0
-searched_none w u h = record { lay = h; le = omega arith; is = refl }
+asks_from : (cs : List Constraint) (n a : ℕ) → a + n ≡ length cs → list_any (asks_at cs) (range_with_len a n) ≡ any_asks (drop a cs)
+asks_from cs zero a e = sym (ap any_asks (drop_of_length-le cs {i = a} (omega arith)) ∙ none_asks)
+asks_from cs (suc n) a e = by (asks_at cs a) refl (asks_from cs n (a + 1) (omega arith))
+  where
+    here : drop a cs ≡ get_or cs a blank ∷ drop (suc a) cs
+    here = drop-cons cs a blank (omega arith)
 
-module _ {w : List ℕ} {u : Used} {i : ℕ} (h : Searched w u i) where
-  pub searched_all : u.constraints ≤ i → false ≡ any_asks (view w u).constraints
-  searched_all l = sym (h.is ∙ ap any_asks (drop_of_length-le (view w u).constraints {i = i} (rw (constraints_view w u) l)) ∙ none_asks)
+    by : (b : Bool) → asks_at cs a ≡ b → list_any (asks_at cs) (range_with_len (a + 1) n) ≡ any_asks (drop (a + 1) cs) → list_any (asks_at cs) (range_with_len a (suc n)) ≡ any_asks (drop a cs)
+    by true z rest = rw z (sym (ap any_asks here ∙ first_asks (get_or cs a blank) (drop (suc a) cs) z))
+    by false z rest = rw z (rest ∙ ap (λ (k : ℕ). any_asks (drop k cs)) (add-one a) ∙ sym (ap any_asks here ∙ later_asks (get_or cs a blank) (drop (suc a) cs) z))
 
-  module _ (l : i < u.constraints) (c : Constraint) (e : (ds : List Struct) → c ≡ get_or (seen w u ds).constraints i blank) (b : Bool) (f : b ≡ asks_abilities c) where
-    at_view : c ≡ get_or (view w u).constraints i blank
-    unfolding seen with_structs
-    at_view = e []
+-- one constraint that is read
+pub asked_at : (s : State) (i : ℕ) (c : Constraint) → ((ds : List Struct) → c ≡ get_or (held s ds).constraints i blank) → asks_abilities c ≡ asks_at (tables s).constraints i
+unfolding seen with_structs
+asked_at s i c e = ap asks_abilities (e [])
 
-    here : drop i (view w u).constraints ≡ c ∷ drop (suc i) (view w u).constraints
-    here = drop-cons (view w u).constraints i blank (rw (constraints_view w u) l) ∙ ap (λ (x : Constraint). x ∷ drop (suc i) (view w u).constraints) (sym at_view)
-
-    pub searched_hit : b ≡ true → true ≡ any_asks (view w u).constraints
-    searched_hit z = sym (h.is ∙ ap any_asks here ∙ first_asks c (drop (suc i) (view w u).constraints) (sym f ∙ z))
-
-    pub searched_more : b ≡ false → Searched w u (i + 1)
-    searched_more z = record {
-      lay = h.lay;
-      le = omega arith;
-      is = h.is ∙ ap any_asks here ∙ later_asks c (drop (suc i) (view w u).constraints) (sym f ∙ z) ∙ ap (λ (n : ℕ). any_asks (drop n (view w u).constraints)) (sym (add-one i));
-    }
+pub asks_all : (s : State) → list_any (asks_at (tables s).constraints) (range_with_len 0 s.used.constraints) ≡ any_asks (tables s).constraints
+asks_all s = asks_from (tables s).constraints s.used.constraints 0 (omega (arith, constraints_view s.words.now s.used))

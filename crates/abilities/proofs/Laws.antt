@@ -1,56 +1,45 @@
 -- What a name's declaration and the sets of its arguments come to: which arguments count, the first that lacks, what is granted. Assumes nothing.
--- First which arguments count, then the loop for the first that lacks (`Searched`: none before i does), then what is granted and the rule that says why not.
+-- First which arguments count, then the first that lacks, by its place, then what is granted and the rule that says why not.
 use mathlib.Core.Path.{◌≡◌, refl, sym, ap, ◌∙◌}
 use mathlib.Core.Bool.{Bool, true, false, not, ◌&&◌, ◌||◌}
 use mathlib.Core.List.{List, [], ◌∷◌}
 use Rattle.std.specs.Prelude.{Option, None, Some}
-use Prim.Native.Nat.{ℕ, zero, suc, ◌+◌, ◌≤◌, ◌<◌, ◌%◌}
+use Prim.Native.Nat.{ℕ, zero, suc, ◌+◌, ◌≤◌, ◌<◌}
 use native.Mathlib.Omega.{arith}
 use native.Mathlib.Numerals.{add-one}
 use lib.Dec.{eqb, ltb}
 use lib.ListN.{length, get_or, drop, drop_of_length-le, get_or-eq_default}
 use lib.Seq.{drop-cons}
+use Rattle.std.specs.List.{list_any, find, range_with_len}
+use Rattle.std.specs.Option.{MatchOption}
 use Rattle.definition.specs.Types as d
 use Rattle.std.specs.Prelude.{if◌then◌else◌}
-use Rattle.definition.specs.Types.{State, Struct}
+use Rattle.definition.specs.Types.{Struct}
 use Rattle.definition.specs.Store.{args_at, with_structs, any_of}
 use Rattle.definition.specs.Instantiate.{struct_tparams}
 use Rattle.definition.specs.Abilities.{has, select, those, from_abilities, requires, declared_abilities, counts, first_lacking, is_none, lacking, granted, infer_abilities, declaration, by_argument, rule}
 use Rattle.definition.specs.Constraints.{is_contradicted}
 use Rattle.names.specs.Names.{name_of}
-use Rattle.table.specs.Rows.{struct_table, places}
-use Rattle.table.specs.State.{seen}
-use Rattle.table.specs.Known.{Known}
-use Rattle.table.specs.declared.Used.{Used}
+use Rattle.table.specs.Rows.{struct_table}
+use Rattle.table.specs.State.{seen, FoundIn}
+use Rattle.table.specs.Did.{held}
+use Rattle.table.specs.declared.state.State.{State}
 use Rattle.shapes.specs.Applied.{args_of}
 use Rattle.shapes.specs.declared.Applied.{Applied}
-use Rattle.abilities.specs.Kept.{ArgsReady}
+use Rattle.abilities.specs.Kept.{Knows, ArgsReady}
 use Rattle.abilities.specs.Rules.{lacks_at}
 
 -- ---- which arguments count
 
-module _ (w : List ℕ) (u : Used) (params : List (List ℕ)) (ds : List Struct) (k : Known w u params ds) (n i : ℕ) where
+module _ (s : State) (params : List (List ℕ)) (ds : List Struct) (k : Knows s params ds) (n i : ℕ) where
   -- past the parameters nothing is a phantom
-  pub counts_past : length (get_or ds n struct_table.blank).params ≤ i → true ≡ counts (seen w u ds) (d.ModuleType n) i
+  pub counts_past : length (get_or ds n struct_table.blank).params ≤ i → true ≡ counts (held s ds) (d.ModuleType n) i
   unfolding counts struct_tparams seen with_structs
   counts_past h = sym (ap (λ (x : ℕ). ltb x 16) (get_or-eq_default (get_or ds n struct_table.blank).params 0 h))
 
-  pub counts_no_row : u.structs ≤ 256 → 256 ≤ n → true ≡ counts (seen w u ds) (d.ModuleType n) i
-  counts_no_row few h =
-      let e : get_or ds n struct_table.blank ≡ struct_table.blank = get_or-eq_default ds struct_table.blank (omega (arith, k.rows.many)) in
-      counts_past (rw e (omega arith))
-
-  pub counts_byte : i < length (get_or ds n struct_table.blank).params → ltb (get_or (get_or params n []) i 0) 16 ≡ counts (seen w u ds) (d.ModuleType n) i
+  pub counts_byte : i < length (get_or ds n struct_table.blank).params → ltb (get_or (get_or params n []) i 0) 16 ≡ counts (held s ds) (d.ModuleType n) i
   unfolding counts struct_tparams seen with_structs
   counts_byte h = ap (λ (x : ℕ). ltb x 16) (k.bytes n i h)
-
-pub and_not : (b c x : Bool) → b ≡ c → not b ≡ true → false ≡ (c && x)
-and_not b true x e z = let y : false ≡ true = rw e at z in cc
-and_not b false x e z = refl
-
-pub and_so : (b c : Bool) → b ≡ c → not b ≡ false → (x y : Bool) → x ≡ y → x ≡ (c && y)
-and_so b true e z x y h = h
-and_so b false e z x y h = let n : true ≡ false = rw e at z in cc
 
 -- ---- the first that lacks
 
@@ -66,52 +55,28 @@ first_none : (c f : ℕ → Bool) (i : ℕ) → None ≡ first_lacking c f i []
 unfolding first_lacking
 first_none c f i = refl
 
--- argument i, read at its place
-module _ {w : List ℕ} {u : Used} {params : List (List ℕ)} {sets : List ℕ} (a : Applied) {i : ℕ} (r : ArgsReady w u params sets a) (l : i < a.many) (p : ℕ)
-    (e : (ds : List Struct) (m : ℕ) → i < m → p ≡ get_or (args_at (seen w u ds) (places a.first m)) i 0) where
-  pub arg_small : p < 2048
-  arg_small = rw (e [] a.many l) (r.inside [] i l)
+-- the first argument that lacks, by the places from i on
+found_from : (c f : ℕ → Bool) (ts : List ℕ) (n i : ℕ) → i + n ≡ length ts → find (λ k. c k && f (get_or ts k 0)) (range_with_len i n) ≡ first_lacking c f i (drop i ts)
+found_from c f ts zero i e = first_none c f i ∙ ap (first_lacking c f i) (sym (drop_of_length-le ts {i = i} (omega arith)))
+found_from c f ts (suc n) i e = by (c i && f (get_or ts i 0)) refl (found_from c f ts n (i + 1) (omega arith))
+  where
+    here : drop i ts ≡ get_or ts i 0 ∷ drop (suc i) ts
+    here = drop-cons ts i 0 (omega arith)
 
-  pub arg_set : (ds : List Struct) → Known w u params ds → get_or sets p 0 % 256 ≡ infer_abilities (seen w u ds) (get_or (args_at (seen w u ds) (args_of a)) i 0)
-  arg_set ds k = rw (e ds a.many l) (r.is ds k i l)
+    by : (b : Bool) → (c i && f (get_or ts i 0)) ≡ b → find (λ k. c k && f (get_or ts k 0)) (range_with_len (i + 1) n) ≡ first_lacking c f (i + 1) (drop (i + 1) ts)
+        → find (λ k. c k && f (get_or ts k 0)) (range_with_len i (suc n)) ≡ first_lacking c f i (drop i ts)
+    by true z rest = rw z (sym (ap (first_lacking c f i) here ∙ first_hit c f i (get_or ts i 0) (drop (suc i) ts) z))
+    by false z rest = rw z (rest ∙ ap (λ (k : ℕ). first_lacking c f k (drop k ts)) (add-one i) ∙ sym (ap (first_lacking c f i) here ∙ first_miss c f i (get_or ts i 0) (drop (suc i) ts) z))
 
--- the arguments before i do not lack
-pub record Searched (w : List ℕ) (u : Used) (params : List (List ℕ)) (sets : List ℕ) (a : Applied) (needed i : ℕ) : Type 0 where
-  pub ready : ArgsReady w u params sets a
-  pub some_needed : 0 < needed
-  pub le : i ≤ a.many
-  pub is : (ds : List Struct) → Known w u params ds → first_lacking (counts (seen w u ds) (name_of a.n)) (λ ty. not (has (infer_abilities (seen w u ds) ty) needed)) i (drop i (args_at (seen w u ds) (args_of a)))
-      ≡ lacking (λ t. infer_abilities (seen w u ds) t) (seen w u ds) (name_of a.n) (args_at (seen w u ds) (args_of a)) needed
-
-pub search_none : (w : List ℕ) (u : Used) (params : List (List ℕ)) (sets : List ℕ) (a : Applied) (needed : ℕ) → ArgsReady w u params sets a → 0 < needed
-    → Searched w u params sets a needed 0
+pub first_found : (s : State) (params : List (List ℕ)) (sets : List ℕ) (a : Applied) (needed : ℕ) → ArgsReady s params sets a → (ds : List Struct)
+    → find (lacks_at (held s ds) a needed) (range_with_len 0 a.many) ≡ lacking (λ t. infer_abilities (held s ds) t) (held s ds) (name_of a.n) (args_at (held s ds) (args_of a)) needed
 unfolding lacking
-search_none w u params sets a needed r p = record { ready = r; some_needed = p; le = omega arith; is = λ ds k. refl }
+first_found s params sets a needed r ds = found_from (counts (held s ds) (name_of a.n)) (λ ty. not (has (infer_abilities (held s ds) ty) needed)) (args_at (held s ds) (args_of a)) a.many 0 (omega (arith, r.many_is ds))
 
-module _ {w : List ℕ} {u : Used} {params : List (List ℕ)} {sets : List ℕ} {a : Applied} {needed i : ℕ} (h : Searched w u params sets a needed i) where
-  pub search_all : a.many ≤ i → (ds : List Struct) → Known w u params ds → None ≡ lacking (λ t. infer_abilities (seen w u ds) t) (seen w u ds) (name_of a.n) (args_at (seen w u ds) (args_of a)) needed
-  search_all l ds k =
-      first_none (counts (seen w u ds) (name_of a.n)) (λ ty. not (has (infer_abilities (seen w u ds) ty) needed)) i
-      ∙ ap (first_lacking (counts (seen w u ds) (name_of a.n)) (λ ty. not (has (infer_abilities (seen w u ds) ty) needed)) i)
-      (sym (drop_of_length-le (args_at (seen w u ds) (args_of a)) {i = i} (rw (h.ready.many_is ds) l)))
-      ∙ h.is ds k
-
-  module _ (l : i < a.many) (b : Bool) (f : (ds : List Struct) → Known w u params ds → b ≡ lacks_at (seen w u ds) a needed i) where
-    split : (ds : List Struct) → drop i (args_at (seen w u ds) (args_of a)) ≡ get_or (args_at (seen w u ds) (args_of a)) i 0 ∷ drop (suc i) (args_at (seen w u ds) (args_of a))
-    split ds = drop-cons (args_at (seen w u ds) (args_of a)) i 0 (rw (h.ready.many_is ds) l)
-
-    pub search_hit : b ≡ true → (ds : List Struct) → Known w u params ds → Some i ≡ lacking (λ t. infer_abilities (seen w u ds) t) (seen w u ds) (name_of a.n) (args_at (seen w u ds) (args_of a)) needed
-    search_hit z ds k = sym (first_hit _ _ i _ _ (sym (f ds k) ∙ z)) ∙ sym (ap (first_lacking (counts (seen w u ds) (name_of a.n)) (λ ty. not (has (infer_abilities (seen w u ds) ty) needed)) i) (split ds)) ∙ h.is ds k
-
-    pub search_more : b ≡ false → Searched w u params sets a needed (i + 1)
-    search_more z = record {
-      ready = h.ready;
-      some_needed = h.some_needed;
-      le = omega arith;
-      is = λ ds k. rw (add-one i)
-          (sym (first_miss (counts (seen w u ds) (name_of a.n)) (λ ty. not (has (infer_abilities (seen w u ds) ty) needed)) i (get_or (args_at (seen w u ds) (args_of a)) i 0) (drop (suc i) (args_at (seen w u ds) (args_of a))) (sym (f ds k) ∙ z))
-          ∙ sym (ap (first_lacking (counts (seen w u ds) (name_of a.n)) (λ ty. not (has (infer_abilities (seen w u ds) ty) needed)) i) (split ds)) ∙ h.is ds k);
-    }
+-- a place of the first n
+pub place_in : (n : ℕ) (r : Option ℕ) → MatchOption r ((k : ℕ) → 0 ≤ k → k < n → Unit {0}) (λ i. (0 ≤ i) × (i < n) × Unit {0} × ((k : ℕ) → 0 ≤ k → k < i → Unit {0})) → n ≤ 8 → FoundIn 8 r
+place_in n None m l = tt
+place_in n (Some i) m l = omega (arith, m.1)
 
 -- ---- what is granted, and the rule
 
@@ -132,7 +97,7 @@ requires_some ability p = by (eqb ability 8)
     by false = p
 
 -- the declared set, and whether it has the ability
-module _ (s : State) (n : d.TypeName) (ability set : ℕ) (e : set ≡ declared_abilities s n) (b : Bool) (f : b ≡ has set ability) where
+module _ (s : d.State) (n : d.TypeName) (ability set : ℕ) (e : set ≡ declared_abilities s n) (b : Bool) (f : b ≡ has set ability) where
   lacks_it : not b ≡ true → has (declared_abilities s n) ability ≡ false
   lacks_it z = ap (λ (x : ℕ). has x ability) (sym e) ∙ sym f ∙ is_false b z
 
@@ -148,7 +113,7 @@ module _ (s : State) (n : d.TypeName) (ability set : ℕ) (e : set ≡ declared_
   rule_by k tys z o needed r g = rw (has_it z, rule) (ap by_argument (g ∙ ap (lacking (λ t. infer_abilities s t) s n tys) r))
 
 -- what neither the declaration nor an argument takes away is granted
-pub granted_is : (s : State) (k : d.AbilityMark) (n : d.TypeName) (tys : List ℕ) (ability : ℕ) → is_contradicted (rule s ability (d.Apply k n tys)) ≡ granted (λ t. infer_abilities s t) s n tys ability
+pub granted_is : (s : d.State) (k : d.AbilityMark) (n : d.TypeName) (tys : List ℕ) (ability : ℕ) → is_contradicted (rule s ability (d.Apply k n tys)) ≡ granted (λ t. infer_abilities s t) s n tys ability
 unfolding is_contradicted rule by_argument granted is_none
 granted_is s k n tys ability = by (has (declared_abilities s n) ability) (lacking (λ t. infer_abilities s t) s n tys (requires ability))
   where
@@ -229,20 +194,5 @@ none_of g test e = by (test 1) (test 2) (test 4) (test 8) e ∙ any_those g test
 abbrev pub four : List ℕ
 four = 1 ∷ 2 ∷ 4 ∷ 8 ∷ []
 
--- none before place i passes
-abbrev pub NonePass : (ℕ → Bool) → ℕ → Type 0
-NonePass test i = (j : ℕ) → j < i → test (get_or four j 0) ≡ false
-
-or_some : (a b : Bool) → b ≡ true → (a || b) ≡ true
-or_some true b e = refl
-or_some false b e = e
-
-pub one_passes : (test : ℕ → Bool) (i : ℕ) → i < 4 → test (get_or four i 0) ≡ true → (test 1 || (test 2 || (test 4 || test 8))) ≡ true
-one_passes test zero l e = rw e refl
-one_passes test (suc zero) l e = or_some (test 1) _ (rw e refl)
-one_passes test (suc (suc zero)) l e = or_some (test 1) _ (or_some (test 2) _ (rw e refl))
-one_passes test (suc (suc (suc zero))) l e = or_some (test 1) _ (or_some (test 2) _ (or_some (test 4) _ e))
-one_passes test (suc (suc (suc (suc i)))) l e = absurd (omega arith)
-
-pub none_passes : (test : ℕ → Bool) → NonePass test 4 → (test 1 || (test 2 || (test 4 || test 8))) ≡ false
-none_passes test h = rw (h 0 (omega arith), h 1 (omega arith), h 2 (omega arith), h 3 (omega arith)) refl
+pub any_four : (test : ℕ → Bool) → list_any test four ≡ (test 1 || (test 2 || (test 4 || test 8)))
+any_four test = ap (λ (b : Bool). test 1 || (test 2 || (test 4 || b))) (or_false (test 8))

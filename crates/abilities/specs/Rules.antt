@@ -2,7 +2,7 @@
 use Rattle.std.specs.Prelude.{◌≡◌, Bool, true, false, not, ◌&&◌, ◌||◌, List, [], ◌∷◌, ℕ, ◌<◌, length, get_or}
 use Rattle.std.specs.Prelude.{Option, None, Some, Result, Ok, Err, OnOk}
 use Rattle.definition.specs.Types as t
-use Rattle.definition.specs.Types.{State, Struct, Refusal, runs_into_itself, mark_contradicted}
+use Rattle.definition.specs.Types.{Struct, Refusal, runs_into_itself, mark_contradicted}
 use Rattle.definition.specs.Store.{count, args_at, spanned}
 use Rattle.definition.specs.Subst.{unfold_type}
 use Rattle.definition.specs.Abilities as d
@@ -10,12 +10,11 @@ use Rattle.definition.specs.Abilities.{has, counts, infer_abilities, rule}
 use Rattle.definition.specs.Constraints.{is_contradicted}
 use Rattle.names.specs.Names.{name_of}
 use Rattle.table.specs.Rows.{constraint_table}
-use Rattle.table.specs.State.{seen}
-use Rattle.table.specs.Known.{Known}
-use Rattle.table.specs.declared.Used.{Used}
+use Rattle.table.specs.Did.{held}
+use Rattle.table.specs.declared.state.State.{State}
 use Rattle.shapes.specs.Applied.{args_of}
 use Rattle.shapes.specs.declared.Applied.{Applied}
-use Rattle.abilities.specs.Kept.{HasSet, Kept}
+use Rattle.abilities.specs.Kept.{Knows, HasSet, Kept}
 use Rattle.abilities.specs.declared.Hindrance.{Hindrance}
 use Rattle.abilities.specs.declared.Hindrance.TheVariants.{RunsIntoItself, MarkContradicted}
 use Rattle.abilities.specs.declared.Rule.{Rule}
@@ -32,18 +31,18 @@ RuleIn (Argument i) = i < 8
 RuleIn Contradicted = Unit {0}
 
 -- argument i counts and lacks what is needed
-abbrev pub lacks_at : State → Applied → ℕ → ℕ → Bool
+abbrev pub lacks_at : t.State → Applied → ℕ → ℕ → Bool
 lacks_at s a needed i = counts s (name_of a.n) i && not (has (infer_abilities s (get_or (args_at s (args_of a)) i 0)) needed)
 
 -- the ability is asked for, and the type has it not
-abbrev pub misses : State → ℕ → ℕ → ℕ → Bool
+abbrev pub misses : t.State → ℕ → ℕ → ℕ → Bool
 misses s ty asked ability = has asked ability && not (has (infer_abilities s ty) ability)
 
-unfoldable pub any_misses : State → ℕ → ℕ → Bool
+unfoldable pub any_misses : t.State → ℕ → ℕ → Bool
 any_misses s ty asked = misses s ty asked 1 || (misses s ty asked 2 || (misses s ty asked 4 || misses s ty asked 8))
 
 -- neither the declaration nor an argument takes the ability away
-abbrev pub clashes : State → ℕ → ℕ → Bool
+abbrev pub clashes : t.State → ℕ → ℕ → Bool
 clashes s ty ability = is_contradicted (rule s ability (unfold_type s (spanned s ty)).value)
 
 -- ---- of a constraint: only those that ask for abilities matter here
@@ -67,7 +66,7 @@ AskedKept sets (t.BaseTypeConstraint loc ty) = Unit {0}
 AskedKept sets (t.SingleTypeConstraint loc ty) = Unit {0}
 
 -- each type that is asked for abilities is a node, as in a sound state
-unfoldable pub AllAsked : State → Type 0
+unfoldable pub AllAsked : t.State → Type 0
 AllAsked s = (i : ℕ) → i < length s.constraints → AskedIn (count s) (get_or s.constraints i constraint_table.blank)
 
 -- the set of each type that is asked for abilities is known
@@ -97,8 +96,8 @@ hindrance_of (Ok x) = None
 hindrance_of (Err h) = Some (refusal_of h)
 
 -- the answer is what `o` says, and what was kept is; where nothing hinders, what `whole` says of the table is so
-pub record Hindered (w : List ℕ) (u : Used) (params : List (List ℕ)) (sets sets' : List ℕ) (r : Result (Unit {0}) Hindrance) (o : State → Option Refusal) (whole : List ℕ → Type 0) : Type 0 where
-  pub kept : Kept w u params sets'
+pub record Hindered (s : State) (params : List (List ℕ)) (sets sets' : List ℕ) (r : Result (Unit {0}) Hindrance) (o : t.State → Option Refusal) (whole : List ℕ → Type 0) : Type 0 where
+  pub kept : Kept s params sets'
   pub still : (x : ℕ) → HasSet sets x → HasSet sets' x
-  pub is : (ds : List Struct) → Known w u params ds → o (seen w u ds) ≡ hindrance_of r
+  pub is : (ds : List Struct) → Knows s params ds → o (held s ds) ≡ hindrance_of r
   pub all : OnOk r (whole sets')

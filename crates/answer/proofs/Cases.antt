@@ -4,13 +4,13 @@ use mathlib.Core.Bool.{Bool, true, false}
 use mathlib.Core.List.{List}
 use Prim.Native.Nat.{ℕ, ◌≤◌, ◌<◌}
 use lib.ListN.{length}
-use Rattle.std.specs.Prelude.{if◌then◌else◌}
+use Rattle.std.specs.Prelude.{if◌then◌else◌, Ok, Err}
 use Rattle.definition.specs.Types.{State, Struct, ◌>>=◌, TypingError, answer_too_long}
 use Rattle.definition.specs.Write.{write_error}
 use Rattle.definition.specs.Step.{answer, answer_with, put_back, number_of_error}
 use Rattle.table.specs.State.{outcome, error_of, refusal_of, seen, Lay}
 use Rattle.table.specs.declared.Used.{Used}
-use Rattle.table.specs.declared.Out.TheVariants.{Done, Failed, Refused}
+use Rattle.table.specs.declared.state.Stop.TheVariants.{Failed, Refused}
 use Rattle.table.specs.declared.TypingError as table
 use Rattle.table.specs.declared.Refusal.{Refusal}
 use Rattle.snapshot.specs.Snap.{PutBack, Undone}
@@ -20,7 +20,7 @@ use Rattle.answer.specs.Ran.{ran, answered, success, failure, refused_by, Answer
 use Rattle.payload.specs.declared.Show.{Show}
 use Rattle.answer.specs.declared.Ran.{Ran}
 use Rattle.payload.specs.declared.Answer.{Answer}
-use Rattle.answer.proofs.Settle.{success_with, failure_with, long, keeps, goes_back, puts_back}
+use Rattle.answer.proofs.Settling.{success_with, failure_with, long, keeps, goes_back, puts_back}
 
 module _ (w : List ℕ) (u before : Used) (saved buf : List ℕ) where
   -- a success
@@ -54,14 +54,14 @@ module _ (w : List ℕ) (u before : Used) (saved buf : List ℕ) where
 -- ---- what a run left, by its answer
 
 module _ (r : Ran) (after before : State) where
-  pub is_done : (t : ℕ) → r.out ≡ Done t → answered r after before ≡ success r.kept r.show t after before
+  pub is_done : (t : ℕ) → r.result ≡ Ok t → answered r after before ≡ success r.kept r.show t after before
   unfolding ran outcome ◌>>=◌
   is_done t e = rw e
 
-  pub is_failed : (x : table.TypingError) → r.out ≡ Failed x → answered r after before ≡ failure (error_of x) after before
+  pub is_failed : (x : table.TypingError) → r.result ≡ Err (Failed x) → answered r after before ≡ failure (error_of x) after before
   unfolding ran outcome ◌>>=◌
   is_failed x e = rw e
 
-  pub is_refused : (x : Refusal) → r.out ≡ Refused x → answered r after before ≡ refused_by (refusal_of x) after before
+  pub is_refused : (x : Refusal) → r.result ≡ Err (Refused x) → answered r after before ≡ refused_by (refusal_of x) after before
   unfolding ran outcome ◌>>=◌ answer
   is_refused x e = rw e

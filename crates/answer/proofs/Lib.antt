@@ -1,4 +1,4 @@
 -- Laws of the answers. Assumes nothing.
-pub mod Settle
+pub mod Settling
 pub mod Cases
 pub mod Calls

@@ -1,40 +1,42 @@
 -- What a run left, as the definition's result, and what its answer leaves in the words and in the buffer. Assumes nothing: these are definitions.
-use Rattle.std.specs.Prelude.{◌≡◌, Bool, List, ◌++◌, ℕ, ◌≤◌, take, drop, if◌then◌else◌}
+use Rattle.std.specs.Prelude.{◌≡◌, Bool, List, ◌++◌, ℕ, ◌≤◌, take, drop, if◌then◌else◌, Ok, Err}
+use Rattle.std.specs.Prelude as core
 use Rattle.definition.specs.Types as d
 use Rattle.definition.specs.Types.{State, Struct, Result, ok, err, ◌>>=◌}
 use Rattle.definition.specs.Write.{Bytes}
 use Rattle.definition.specs.Step as step
 use Rattle.definition.specs.Step.{answer, refusal}
-use Rattle.table.specs.State.{outcome, refusal_of, seen, Lay, Declares, TypesIn}
+use Rattle.table.specs.State.{outcome, refusal_of, seen, Lay, Declares}
+use Rattle.table.specs.Did.{StopIn}
 use Rattle.table.specs.declared.Used.{Used}
-use Rattle.table.specs.declared.Out.{Out}
-use Rattle.table.specs.declared.Out.TheVariants.{Done, Failed, Refused}
+use Rattle.table.specs.declared.state.Stop.{Stop}
+use Rattle.table.specs.declared.state.Stop.TheVariants.{Failed, Refused}
 use Rattle.snapshot.specs.Snap.{Saved, Since}
+use Rattle.payload.specs.declared.Answer.{Answer}
 use Rattle.payload.specs.declared.Show.{Show}
 use Rattle.payload.specs.Payload.{shown, Shows}
 use Rattle.answer.specs.declared.Ran.{Ran}
 use Rattle.answer.specs.declared.Reason.{Reason}
 use Rattle.answer.specs.declared.Reason.TheVariants.{Step, TooLong, MarkContradicted}
-use Rattle.payload.specs.declared.Answer.{Answer}
 
 -- ---- what a run left
 
 -- the result of a run that left the state `after`: on success it is kept, or the state goes back to `before`
 unfoldable pub ran : Ran → State → State → Result (State × Bytes)
 ran r after before = do
-  (s, t) ← outcome r.out after
+  (s, t) ← outcome r.result after
   ok (if r.kept then s else before, shown r.show t s)
 
-abbrev pub Tells : Used → Show → Out → Type 0
-Tells u show (Done t) = Shows u show t
-Tells u show (Failed e) = TypesIn u.nodes e
-Tells u show (Refused x) = Unit {0}
+-- what the answer shows of it is in use
+abbrev pub Tells : Used → Show → core.Result ℕ Stop → Type 0
+Tells u show (Ok t) = Shows u show t
+Tells u show (Err e) = StopIn u.nodes e
 
 -- a success or a typing error, whose answer shows the state; not a refusal
-abbrev pub Settles : Out → Type 0
-Settles (Done t) = Unit {0}
-Settles (Failed e) = Unit {0}
-Settles (Refused x) = ⊥
+abbrev pub Settles : core.Result ℕ Stop → Type 0
+Settles (Ok t) = Unit {0}
+Settles (Err (Failed e)) = Unit {0}
+Settles (Err (Refused x)) = ⊥
 
 -- ---- the definition's answers, of the state after a run and of that before it
 

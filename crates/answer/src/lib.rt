@@ -1,29 +1,32 @@
 // From what a run left to its answer: the payload written, and the state kept, put back or as it was at entry.
 #![tactic(auto)]
 
-ghost use Rattle.std.specs.Prelude.{◌≡◌, true, false, List, ℕ, ◌≤◌, length};
+ghost use Rattle.std.specs.Prelude.{◌≡◌, false, List, ℕ, ◌≤◌, length, Ok};
 ghost use Rattle.definition.specs.Types as d;
-ghost use Rattle.definition.specs.Types.{State};
 ghost use Rattle.definition.specs.Write.{write_error};
 ghost use Rattle.definition.specs.Step.{number_of_error, number_of_refusal};
-ghost use Rattle.table.specs.State.{error_of, view, Lay, TypesIn};
-ghost use Rattle.table.specs.declared.Out.TheVariants.{Done};
+ghost use Rattle.table.specs.State.{error_of, view, seen, Lay, TypesIn};
+ghost use Rattle.table.specs.Did.{tables};
 ghost use Rattle.answer.specs.declared.Reason.TheVariants.{Step};
-ghost use Rattle.snapshot.specs.Snap.{Above, PutBack, Undone};
+ghost use Rattle.snapshot.specs.Snap.{Above};
+ghost use Rattle.snapshot.specs.Back.{GrownFrom};
 ghost use Rattle.writer.specs.Bytes.{AllBytes};
-ghost use Rattle.payload.specs.Payload.{reply, shown, Shows};
+ghost use Rattle.payload.specs.Payload.{shown, Shows, Paid};
 ghost use Rattle.answer.specs.Ran.{refusal_for, Tells, Settles, Still, answered, success, failure, refused_by, Answers};
+ghost use Rattle.answer.specs.Answered.{AnswersIn};
 
 use payload::{Answer, Show, as_before, as_left, write_payload};
-use snapshot::{give_back, put_vars, undo};
-use table::{Out, Refusal, TypingError, Used};
+use snapshot::before::Before;
+use snapshot::{give_back, go_back, put_vars, undo};
+use table::state::{State, Stop};
+use table::{Refusal, TypingError, Used};
 
-// What a run left: on success its state is kept, or goes back to that at entry.
+// What a run left, and what its answer shows.
 #[derive(Clone, Copy)]
 pub struct Ran {
-    pub out: Out,
-    pub used: Used,
+    pub result: Result<u32, Stop>,
     pub show: Show,
+    // Whether a success leaves the state as it is, or as it was at entry: a record that only asks for a type takes nodes to show it.
     pub kept: bool,
 }
 
@@ -34,42 +37,6 @@ pub enum Reason {
     TooLong,
     MarkContradicted,
 }
-
-// ---- the state
-
-// The state is that at entry.
-pub fn go_back(
-    w: &mut [u32],
-    u: Used,
-    before: Used,
-    saved: &[u32],
-    number: u32,
-    len: usize,
-) -> Answer
-    requires { Lay w.old u × (Above before u × (5120 ≤ length saved.now)) }
-    ensures { Undone w.old u w.new before saved.now × (result ≡ reply number len before false) }
-{
-    undo(w, u, before, saved);
-    as_before(before, number, len)
-}
-
-// Bindings and marks are those at entry.
-pub fn put_back(
-    w: &mut [u32],
-    u: Used,
-    before: Used,
-    saved: &[u32],
-    number: u32,
-    len: usize,
-) -> Answer
-    requires { Lay w.old u × (Above before u × (5120 ≤ length saved.now)) }
-    ensures { PutBack w.old u w.new before saved.now × (result ≡ reply number len u true) }
-{
-    put_vars(w, u, before, saved);
-    as_left(u, number, len)
-}
-
-// ---- the answers
 
 #[tactic(auto, unfolding(definition::specs::Step::number_of_refusal))]
 fn number_of_refusal(x: Refusal) -> u32
@@ -98,99 +65,121 @@ pub fn number_of(x: Reason) -> u32
     }
 }
 
-// A refusal: nothing is changed. By its number, since those of a reader come so.
-pub fn refuse(w: &mut [u32], u: Used, before: Used, saved: &[u32], number: u32) -> Answer
-    requires { Lay w.old u × (Above before u × (5120 ≤ length saved.now)) }
-    ensures { (x : d.Refusal) (buf : List ℕ) → number_of_refusal x ≡ number → Answers w.old u before saved.now buf w.new buf result (refused_by x) }
+// ---- the answers, by words and counts: whether the words are a state after them hangs on what was saved
+
+// The payload of the state that the words are.
+fn pay(w: &mut [u32], u: Used, show: Show, t: u32, buf: &mut [u8]) -> Option<usize>
+    requires { Lay w.old u × (Shows u show t × (AllBytes (view w.old u) × (4096 ≤ length buf.old))) }
+    ensures { (w.new ≡ w.old) × ((ds : List d.Struct) → Paid (shown show t (seen w.old u ds)) buf.old buf.new result) }
 {
-    go_back(w, u, before, saved, number, 0)
+    let st = State::new(w, u);
+    write_payload(&st, show, t, buf)
+}
+
+// A refusal: nothing is changed. By its number, since those of a reader come so.
+pub fn refuse(w: &mut [u32], u: Used, before: Before<'_>, number: u32) -> Answer
+    requires { Lay w.old u × Above before.used u }
+    ensures { (x : d.Refusal) (buf : List ℕ) → number_of_refusal x ≡ number → Answers w.old u before.entry.used before.entry.saved.now buf w.new buf result (refused_by x) }
+{
+    undo(w, u, before);
+    as_before(before.used, number, 0)
 }
 
 // A success with the number t. Where its state is not kept, no variable was bound or marked: what was taken is given back.
 fn succeed(
     w: &mut [u32],
     u: Used,
-    before: Used,
-    saved: &[u32],
+    before: Before<'_>,
     kept: bool,
     show: Show,
     t: u32,
     buf: &mut [u8],
 ) -> Answer
-    requires lay { Lay w.old u × (Above before u × (5120 ≤ length saved.now)) }
+    requires lay { Lay w.old u × Above before.used u }
     requires shows { Shows u show t × (AllBytes (view w.old u) × (4096 ≤ length buf.old)) }
-    requires still { kept ≡ false → Still w.old u before saved.now }
-    ensures { Answers w.old u before saved.now buf.old w.new buf.new result (success kept show t) }
+    requires still { kept ≡ false → Still w.old u before.used before.saved.now }
+    ensures { Answers w.old u before.entry.used before.entry.saved.now buf.old w.new buf.new result (success kept show t) }
 {
-    let Some(len) = write_payload(w, u, show, t, buf) else {
-        return refuse(w, u, before, saved, number_of(Reason::TooLong));
+    let Some(len) = pay(w, u, show, t, buf) else {
+        return refuse(w, u, before, number_of(Reason::TooLong));
     };
     if kept {
         return as_left(u, 0, len);
     }
-    give_back(w, u, before);
-    as_before(before, 0, len)
+    give_back(w, u, before.used);
+    as_before(before.used, 0, len)
 }
 
-// An error with this number, and what it shows.
+// An error with this number, and what it shows. Bindings and marks are those at entry.
 fn fail_with(
     w: &mut [u32],
     u: Used,
-    before: Used,
-    saved: &[u32],
+    before: Before<'_>,
     number: u32,
     show: Show,
     buf: &mut [u8],
 ) -> Answer
-    requires lay { Lay w.old u × (Above before u × (5120 ≤ length saved.now)) }
+    requires lay { Lay w.old u × Above before.used u }
     requires shows { Shows u show 0 × (AllBytes (view w.old u) × (4096 ≤ length buf.old)) }
-    ensures { (e : d.TypingError) → number_of_error e ≡ number → ((s : State) → write_error s e ≡ shown show 0 s) → Answers w.old u before saved.now buf.old w.new buf.new result (failure e) }
+    ensures { (e : d.TypingError) → number_of_error e ≡ number → ((s : d.State) → write_error s e ≡ shown show 0 s) → Answers w.old u before.entry.used before.entry.saved.now buf.old w.new buf.new result (failure e) }
 {
-    let Some(len) = write_payload(w, u, show, 0, buf) else {
-        return refuse(w, u, before, saved, number_of(Reason::TooLong));
+    let Some(len) = pay(w, u, show, 0, buf) else {
+        return refuse(w, u, before, number_of(Reason::TooLong));
     };
-    put_back(w, u, before, saved, number, len)
+    put_vars(w, u, before);
+    as_left(u, number, len)
 }
 
 // A typing error: it shows two types, or a location.
-fn fail(
-    w: &mut [u32],
-    u: Used,
-    before: Used,
-    saved: &[u32],
-    e: TypingError,
-    buf: &mut [u8],
-) -> Answer
-    requires lay { Lay w.old u × (Above before u × (5120 ≤ length saved.now)) }
+fn fail(w: &mut [u32], u: Used, before: Before<'_>, e: TypingError, buf: &mut [u8]) -> Answer
+    requires lay { Lay w.old u × Above before.used u }
     requires types_in { TypesIn u.nodes e × (AllBytes (view w.old u) × (4096 ≤ length buf.old)) }
-    ensures { Answers w.old u before saved.now buf.old w.new buf.new result (failure (error_of e)) }
+    ensures { Answers w.old u before.entry.used before.entry.saved.now buf.old w.new buf.new result (failure (error_of e)) }
 {
     match e {
-        TypingError::SubtypeError(a, b) => fail_with(w, u, before, saved, 1, Show::Two(a, b), buf),
-        TypingError::Incompatible(a, b) => fail_with(w, u, before, saved, 2, Show::Two(a, b), buf),
-        TypingError::ArityMismatch(a, b) => fail_with(w, u, before, saved, 3, Show::Two(a, b), buf),
-        TypingError::RecursiveType(loc) => fail_with(
-            w,
-            u,
-            before,
-            saved,
-            4,
-            Show::Location(loc),
-            buf,
-        ),
+        TypingError::SubtypeError(a, b) => fail_with(w, u, before, 1, Show::Two(a, b), buf),
+        TypingError::Incompatible(a, b) => fail_with(w, u, before, 2, Show::Two(a, b), buf),
+        TypingError::ArityMismatch(a, b) => fail_with(w, u, before, 3, Show::Two(a, b), buf),
+        TypingError::RecursiveType(loc) => fail_with(w, u, before, 4, Show::Location(loc), buf),
     }
 }
 
 // The answer to what a run left.
-pub fn answer_of(w: &mut [u32], before: Used, saved: &[u32], ran: Ran, buf: &mut [u8]) -> Answer
-    requires lay { Lay w.old ran.used × (Above before ran.used × (5120 ≤ length saved.now)) }
-    requires tells { Tells ran.used ran.show ran.out × ((Settles ran.out → AllBytes (view w.old ran.used)) × (4096 ≤ length buf.old)) }
-    requires still { (t : ℕ) → ran.out ≡ Done t → ran.kept ≡ false → Still w.old ran.used before saved.now }
-    ensures { Answers w.old ran.used before saved.now buf.old w.new buf.new result (answered ran) }
+pub fn answer_of(w: &mut [u32], u: Used, before: Before<'_>, ran: Ran, buf: &mut [u8]) -> Answer
+    requires lay { Lay w.old u × Above before.used u }
+    requires tells { Tells u ran.show ran.result × ((Settles ran.result → AllBytes (view w.old u)) × (4096 ≤ length buf.old)) }
+    requires still { (t : ℕ) → ran.result ≡ Ok t → ran.kept ≡ false → Still w.old u before.used before.saved.now }
+    ensures { Answers w.old u before.entry.used before.entry.saved.now buf.old w.new buf.new result (answered ran) }
 {
-    match ran.out {
-        Out::Done(t) => succeed(w, ran.used, before, saved, ran.kept, ran.show, t, buf),
-        Out::Failed(e) => fail(w, ran.used, before, saved, e, buf),
-        Out::Refused(x) => refuse(w, ran.used, before, saved, number_of(Reason::Step(x))),
+    match ran.result {
+        Ok(t) => succeed(w, u, before, ran.kept, ran.show, t, buf),
+        Err(Stop::Failed(e)) => fail(w, u, before, e, buf),
+        Err(Stop::Refused(x)) => refuse(w, u, before, number_of(Reason::Step(x))),
     }
+}
+
+// ---- the same of a state that has grown from the words w0, of which `before` was saved
+
+// Refused (must-fail/): the counts at entry after an answer whose state is kept (settled_counts_of_before).
+pub fn settle(st: &mut State<'_>, before: Before<'_>, ran: Ran, buf: &mut [u8]) -> Answer
+    ghost w0: { List ℕ }
+    requires grown { GrownFrom w0 before st.old }
+    requires tells { Tells st.old.used ran.show ran.result × ((Settles ran.result → AllBytes (tables st.old)) × (4096 ≤ length buf.old)) }
+    requires still { (t : ℕ) → ran.result ≡ Ok t → ran.kept ≡ false → Still st.old.words.now st.old.used before.used before.saved.now }
+    ensures { AnswersIn w0 before.entry st.old st.new buf.old buf.new result (answered ran) }
+{
+    let w = &mut *st.words;
+    let a = answer_of(w, st.used, before, ran, buf);
+    st.used = a.used;
+    a
+}
+
+// Refused: nodes that stay in use (refused_nodes_stay).
+pub fn settle_refusal(st: &mut State<'_>, before: Before<'_>, number: u32) -> Answer
+    ghost w0: { List ℕ }
+    requires { GrownFrom w0 before st.old }
+    ensures { (x : d.Refusal) (buf : List ℕ) → number_of_refusal x ≡ number → AnswersIn w0 before.entry st.old st.new buf buf result (refused_by x) }
+{
+    go_back(st, before);
+    as_before(st.used, number, 0)
 }

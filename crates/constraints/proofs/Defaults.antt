@@ -1,6 +1,7 @@
 -- The steps of default_num_vars, as laws that follow the code. Assumes nothing.
 use Rattle.std.proofs.Common.{◌≡◌, ℕ, suc, ◌+◌, ◌*◌, ◌<◌, ◌≤◌, Bool, true, false, List, [], ◌∷◌, get_or, drop, sym, refl, ap, ◌∙◌, add-one, arith, drop_of_length-le, drop-cons}
-use Rattle.std.specs.Prelude.{Option, None, Some}
+use Rattle.std.specs.Prelude.{Option, None, Some, Ok, Err}
+use Rattle.std.specs.Prelude as core
 use Rattle.definition.specs.Types as d
 use Rattle.definition.specs.Types.{State, Struct, Cell, unbound, Spanned, TypeValue, Result, ok, err, refused, ◌>>=◌}
 use Rattle.definition.specs.Store.{node, with_args, spanned, num_loc, sp, with_structs}
@@ -8,12 +9,14 @@ use Rattle.definition.specs.Subst.{unfold_type}
 use Rattle.definition.specs.Join.{join}
 use Rattle.definition.specs.Constraints.{undecided, u64, num_vars, default_num_var, default_num_vars}
 use Rattle.table.specs.Rows.{read_option}
-use Rattle.table.specs.State.{Lay, Any, Refines, Changed, After, NodesIn, outcome, seen, view, done, node_of, shape_of}
-use Rattle.table.specs.declared.Outcome.{Outcome}
+use Rattle.table.specs.State.{Any, outcome, seen, view, node_of, shape_of}
+use Rattle.table.specs.Did.{held, tables, Became, Did, Added}
 use Rattle.table.specs.declared.Used.{Used}
 use Rattle.table.specs.declared.Node.{Node}
-use Rattle.table.specs.declared.Out.TheVariants.{Done}
-use Rattle.table.proofs.Steps.{bind_assoc, refines_now, refines_is, refines_on, refines_as, refines_stop, refines_then, after_stop, after_then}
+use Rattle.table.specs.declared.state.State as table
+use Rattle.table.specs.declared.state.Stop.{Stop}
+use Rattle.table.proofs.Steps.{bind_assoc}
+use Rattle.table.proofs.Did.{became_now, became_is, became_on, became_as, became_number, did_err, did_then, err_is, stop_in}
 use Rattle.table.proofs.Grown.{value_is}
 use Rattle.table.proofs.Fields.{num_read}
 use Rattle.table.proofs.Pushed.{taken_view}
@@ -21,7 +24,7 @@ use Rattle.subst.specs.Answers.{unfolded, var_at}
 use Rattle.subst.specs.declared.Unfolded.{Unfolded}
 use Rattle.subst.specs.declared.Unfolded.TheVariants.{Node as NodeU, Anything as AnythingU}
 use Rattle.snapshot.specs.Snap.{Saved}
-use Rattle.constraints.specs.Solve.{numbered, Answered, join_u64, default_marked, defaults}
+use Rattle.constraints.specs.Solve.{numbered, join_u64, default_marked, defaults}
 
 -- ---- what nothing decides
 
@@ -53,25 +56,21 @@ from_tvar t x = join x.0 t x.1
 abbrev from_u64 : ℕ → ℕ → State × ℕ → Result (State × ℕ)
 from_u64 v loc x = sp x.0 loc (d.Var v) >>= from_tvar x.1
 
-from_start : (v loc : ℕ) {w : List ℕ} {u : Used} {w' : List ℕ} {r : Outcome} → After w u w' r (λ s. sp s loc u64 >>= from_u64 v loc) → After w u w' r (λ s. join_u64 s v loc)
-unfolding join_u64
-from_start v loc a = a
+module _ (v loc : ℕ) {s t : table.State} where
+  pub u64_full : {e : Stop} {r : core.Result ℕ Stop} → Did s t (Err e) (λ x. sp x loc (d.Apply (Some 7) (d.Builtin 3) [])) → r ≡ Err e → Did s t r (λ x. join_u64 x v loc)
+  unfolding join_u64 u64
+  u64_full a q = did_err (from_u64 v loc) a q
 
-module _ (v loc : ℕ) (w : List ℕ) (u : Used) (w₁ : List ℕ) (a : Outcome) (b : Option ℕ) (ta : After w u w₁ a (λ s. sp s loc (d.Apply (Some 7) (d.Builtin 3) []))) (da : b ≡ done a.out) where
-  pub u64_full : b ≡ None → After w u w₁ a (λ s. join_u64 s v loc)
-  unfolding u64
-  u64_full q = from_start v loc (after_stop (from_u64 v loc) ta da q)
+  module _ {u64_ : ℕ} (a : Did s t (Ok u64_) (λ x. sp x loc (d.Apply (Some 7) (d.Builtin 3) []))) where
+    u64_then : {m : table.State} {r : core.Result ℕ Stop} → Did t m r (λ x. sp x loc (d.Var v) >>= from_tvar u64_) → Did s m r (λ x. join_u64 x v loc)
+    unfolding join_u64 u64
+    u64_then n = did_then (from_u64 v loc) a n
 
-  module _ (t : ℕ) (is : b ≡ Some t) (w₂ : List ℕ) (r₂ : Outcome) (b₂ : Option ℕ) (tb : After w₁ a.used w₂ r₂ (λ s. sp s loc (d.Var v))) (db : b₂ ≡ done r₂.out) where
-    u64_then : {w₃ : List ℕ} {r₃ : Outcome} → After w₁ a.used w₃ r₃ (λ s. sp s loc (d.Var v) >>= from_tvar t) → After w u w₃ r₃ (λ s. join_u64 s v loc)
-    unfolding u64
-    u64_then n = from_start v loc (after_then a.out (from_u64 v loc) ta.changed da is n)
+    pub tvar_full : {m : table.State} {e : Stop} {r : core.Result ℕ Stop} → Did t m (Err e) (λ x. sp x loc (d.Var v)) → r ≡ Err e → Did s m r (λ x. join_u64 x v loc)
+    tvar_full b q = u64_then (did_err (from_tvar u64_) b q)
 
-    pub tvar_full : b₂ ≡ None → After w u w₂ r₂ (λ s. join_u64 s v loc)
-    tvar_full q = u64_then (after_stop (from_tvar t) tb db q)
-
-    pub u64_joined : (x : ℕ) → b₂ ≡ Some x → (w₃ : List ℕ) (r₃ : Outcome) → After w₂ r₂.used w₃ r₃ (λ s. join s t x) → After w u w₃ r₃ (λ s. join_u64 s v loc)
-    u64_joined x q w₃ r₃ n = u64_then (after_then r₂.out (from_tvar t) tb.changed db q n)
+    pub u64_joined : {tvar : ℕ} {m n : table.State} {r : core.Result ℕ Stop} → Did t m (Ok tvar) (λ x. sp x loc (d.Var v)) → Did m n r (λ x. join x u64_ tvar) → Did s n r (λ x. join_u64 x v loc)
+    u64_joined b j = u64_then (did_then (from_tvar u64_) b j)
 
 -- ---- default_num_var
 
@@ -97,37 +96,33 @@ default_stays : (s : State) (v loc : ℕ) → undecided (unfold_type s (var_at l
 unfolding numbered default_num_var ◌>>=◌
 default_stays s v loc e = rw (e, default_num_var) refl
 
--- nothing was written
-still : {w : List ℕ} {u : Used} {f : State → Result (State × ℕ)} → Lay w u → ((ds : List Struct) → ok (seen w u ds, 0) ≡ f (seen w u ds)) → Changed w u w (record { out = Done 0; used = u }) f
-unfolding outcome
-still h e = refines_now h (λ ds k. e ds)
+module _ {s : table.State} where
+  -- nothing was written
+  pub added_now : {f : State → Result (State × ℕ)} → ((ds : List Struct) → ok (held s ds, 0) ≡ f (held s ds)) → Added s s (Ok tt) f
+  unfolding outcome
+  added_now e = record { changed = became_now (λ ds k. e ds); inside = tt }
 
-done_others : (u : Used) → done (Done 0) ≡ None → NodesIn u.nodes (Done 0)
-done_others u e = let z : ◌≡◌ {A = ℕ} 0 1 = cc in absurd (omega arith)
+  module _ (v loc : ℕ) (b : Bool) (is : (ds : List Struct) → b ≡ undecided (unfold_type (held s ds) (var_at loc v)).value) where
+    pub default_decided : b ≡ false → Added s s (Ok tt) (λ x. numbered (default_num_var x v loc))
+    default_decided q = added_now (λ ds. default_stays (held s ds) v loc (sym (is ds) ∙ q))
 
-module _ (w : List ℕ) (u : Used) (v loc : ℕ) (r : Bool) (is : (ds : List Struct) → r ≡ undecided (unfold_type (seen w u ds) (var_at loc v)).value) where
-  pub default_decided : Lay w u → r ≡ false → Answered w u w (record { out = Done 0; used = u }) (λ s. numbered (default_num_var s v loc))
-  default_decided h q = record { changed = still h (λ ds. default_stays (seen w u ds) v loc (sym (is ds) ∙ q)); others = done_others u }
+    module _ (q : b ≡ true) where
+      pub default_stop : {t : table.State} {e : Stop} {r : core.Result Unit Stop} → Did s t (Err e) (λ x. join_u64 x v loc) → r ≡ Err e → Added s t r (λ x. numbered (default_num_var x v loc))
+      default_stop {e} a p = rw p record { changed = became_is (λ ds k. default_joins (held s ds) v loc (sym (is ds) ∙ q)) (became_as (λ y. y >>= no_number) a.changed (λ x. err_is e x no_number)); inside = stop_in _ e a.inside }
 
-  module _ (q : r ≡ true) (w₁ : List ℕ) (a : Outcome) (b : Option ℕ) (ta : After w u w₁ a (λ s. join_u64 s v loc)) (da : b ≡ done a.out) where
-    joins : (ds : List Struct) → Any ds → (join_u64 (seen w u ds) v loc >>= no_number) ≡ numbered (default_num_var (seen w u ds) v loc)
-    joins ds k = default_joins (seen w u ds) v loc (sym (is ds) ∙ q)
-
-    pub default_stop : b ≡ None → Answered w u w₁ a (λ s. numbered (default_num_var s v loc))
-    default_stop n = record { changed = refines_is joins (refines_stop a.out no_number ta.changed da n); others = λ e. ta.inside }
-
-    pub default_done : (t : ℕ) → b ≡ Some t → Answered w u w₁ (record { out = Done 0; used = a.used }) (λ s. numbered (default_num_var s v loc))
-    default_done t n = record { changed = refines_is joins (refines_then a.out no_number ta.changed da n (still ta.changed.lay (λ ds. refl))); others = done_others a.used }
+      pub default_done : {t : table.State} {n : ℕ} → Did s t (Ok n) (λ x. join_u64 x v loc) → Added s t (Ok tt) (λ x. numbered (default_num_var x v loc))
+      unfolding outcome ◌>>=◌
+      default_done a = record { changed = became_is (λ ds k. default_joins (held s ds) v loc (sym (is ds) ∙ q)) (became_number (λ y. y >>= no_number) a.changed (became_now (λ ds k. refl))); inside = tt }
 
 -- ---- a variable with a mark, or without
 
-pub measured_none : (w : List ℕ) (u : Used) (v : ℕ) (m : Option ℕ) → Lay w u → m ≡ None → Answered w u w (record { out = Done 0; used = u }) (λ s. numbered (default_marked s v m))
+pub measured_none : (s : table.State) (v : ℕ) {m : Option ℕ} → m ≡ None → Added s s (Ok tt) (λ x. numbered (default_marked x v m))
 unfolding numbered default_marked ◌>>=◌
-measured_none w u v m h e = rw e (record { changed = still h (λ ds. refl); others = done_others u })
+measured_none s v e = rw e (added_now (λ ds. refl))
 
-pub marked_some : (w : List ℕ) (u : Used) (v : ℕ) (m : Option ℕ) (w' : List ℕ) (r : Outcome) (loc : ℕ) → m ≡ Some loc → Answered w u w' r (λ s. numbered (default_num_var s v loc)) → Answered w u w' r (λ s. numbered (default_marked s v m))
+pub marked_some : {s t : table.State} (v : ℕ) {m : Option ℕ} {loc : ℕ} {r : core.Result Unit Stop} → m ≡ Some loc → Added s t r (λ x. numbered (default_num_var x v loc)) → Added s t r (λ x. numbered (default_marked x v m))
 unfolding default_marked
-marked_some w u v m w' r loc e a = rw e a
+marked_some v e a = rw e a
 
 pub saved_is : (w : List ℕ) (u : Used) (saved : List ℕ) (v : ℕ) (m : Option ℕ) → Saved w u saved → v < u.vars → m ≡ read_option (get_or saved (v * 5 + 2) 0) (get_or saved (v * 5 + 3) 0)
     → m ≡ (get_or (view w u).vars v unbound).numeric
@@ -153,55 +148,57 @@ unfolding defaults default_num_vars num_vars
 defaults_is s v [] = refl
 defaults_is s v (c ∷ cells) = defaults_cons s v c cells c.numeric refl (λ t. defaults_is t (suc v) cells)
 
-module _ (w₀ : List ℕ) (u : Used) where
+module _ (s₀ : table.State) where
   -- from variable v on
   unfoldable pub rest : ℕ → State → Result (State × ℕ)
-  rest v s = numbered (defaults s v (drop v (view w₀ u).vars))
+  rest v s = numbered (defaults s v (drop v (tables s₀).vars))
 
-  rest_all : (s : State) → rest 0 s ≡ numbered (default_num_vars s (num_vars 0 (view w₀ u).vars))
+  rest_all : (s : State) → rest 0 s ≡ numbered (default_num_vars s (num_vars 0 (tables s₀).vars))
   unfolding rest
-  rest_all s = ap numbered (defaults_is s 0 (view w₀ u).vars)
+  rest_all s = ap numbered (defaults_is s 0 (tables s₀).vars)
 
-  rest_none : (s : State) (v : ℕ) → u.vars ≤ v → ok (s, 0) ≡ rest v s
+  rest_none : (s : State) (v : ℕ) → s₀.used.vars ≤ v → ok (s, 0) ≡ rest v s
   unfolding rest defaults numbered ◌>>=◌
-  rest_none s v le = rw (drop_of_length-le (view w₀ u).vars {i = v} (rw (taken_view w₀ u) le)) refl
+  rest_none s v le = rw (drop_of_length-le (tables s₀).vars {i = v} (rw (taken_view s₀.words.now s₀.used) le)) refl
 
-  rest_more : (s : State) (v : ℕ) (m : Option ℕ) → v < u.vars → m ≡ (get_or (view w₀ u).vars v unbound).numeric → (numbered (default_marked s v m) >>= (λ x. rest (v + 1) x.0)) ≡ rest v s
+  rest_more : (s : State) (v : ℕ) (m : Option ℕ) → v < s₀.used.vars → m ≡ (get_or (tables s₀).vars v unbound).numeric → (numbered (default_marked s v m) >>= (λ x. rest (v + 1) x.0)) ≡ rest v s
   unfolding rest defaults
   rest_more s v m lt e =
-      rw (drop-cons (view w₀ u).vars v unbound (rw (taken_view w₀ u) lt), e, add-one v)
-      (sym (numbered_bind (default_marked s v (get_or (view w₀ u).vars v unbound).numeric) (λ t. defaults t (suc v) (drop (suc v) (view w₀ u).vars))))
+      rw (drop-cons (tables s₀).vars v unbound (rw (taken_view s₀.words.now s₀.used) lt), e, add-one v)
+      (sym (numbered_bind (default_marked s v (get_or (tables s₀).vars v unbound).numeric) (λ t. defaults t (suc v) (drop (suc v) (tables s₀).vars))))
 
   -- the variables below v are done
-  pub record Defaulting (w : List ℕ) (at : Used) (v : ℕ) : Type 0 where
-    pub within : v ≤ u.vars
-    pub changed : Refines Any w₀ u w at (rest v) (rest 0)
+  pub record Defaulting (s : table.State) (v : ℕ) : Type 0 where
+    pub within : v ≤ s₀.used.vars
+    pub changed : Became Any s₀ s (rest v) (rest 0)
 
-  pub defaulting_none : Lay w₀ u → Defaulting w₀ u 0
-  defaulting_none h = record { within = omega arith; changed = refines_now h (λ ds k. refl) }
+  pub defaulting_none : Defaulting s₀ 0
+  defaulting_none = record { within = omega arith; changed = became_now (λ ds k. refl) }
 
-  whole : (ds : List Struct) → rest 0 (seen w₀ u ds) ≡ numbered (default_num_vars (seen w₀ u ds) (num_vars 0 (seen w₀ u ds).vars))
+  whole : (ds : List Struct) → rest 0 (held s₀ ds) ≡ numbered (default_num_vars (held s₀ ds) (num_vars 0 (held s₀ ds).vars))
   unfolding seen with_structs
-  whole ds = rest_all (seen w₀ u ds)
+  whole ds = rest_all (held s₀ ds)
 
-  module _ (w : List ℕ) (at : Used) (v : ℕ) (h : Defaulting w at v) where
-    pub defaulting_all : u.vars ≤ v → Answered w₀ u w (record { out = Done 0; used = at }) (λ s. numbered (default_num_vars s (num_vars 0 s.vars)))
+  -- what follows variable v
+  abbrev onward : ℕ → State × ℕ → Result (State × ℕ)
+  onward v x = rest (v + 1) x.0
+
+  module _ {s : table.State} {v : ℕ} (h : Defaulting s v) where
+    pub defaulting_all : s₀.used.vars ≤ v → Added s₀ s (Ok tt) (λ x. numbered (default_num_vars x (num_vars 0 x.vars)))
     unfolding outcome
-    defaulting_all le = record { changed = refines_is (λ ds k. whole ds) (refines_as (λ m. m) h.changed (λ s. rest_none s v le)); others = done_others at }
+    defaulting_all le = record { changed = became_is (λ ds k. whole ds) (became_as (λ m. m) h.changed (λ x. rest_none x v le)); inside = tt }
 
-    module _ (lt : v < u.vars) (saved : List ℕ) (m : Option ℕ) (kept : Saved w₀ u saved) (is : m ≡ read_option (get_or saved (v * 5 + 2) 0) (get_or saved (v * 5 + 3) 0)) (x : ℕ) (e : x ≡ v)
-        (w₁ : List ℕ) (a : Outcome) (b : Option ℕ) (ta : Answered w at w₁ a (λ s. numbered (default_marked s x m))) (da : b ≡ done a.out) where
-      abbrev onward : State × ℕ → Result (State × ℕ)
-      onward y = rest (v + 1) y.0
+    module _ (lt : v < s₀.used.vars) (saved : List ℕ) {m : Option ℕ} (kept : Saved s₀.words.now s₀.used saved) (is : m ≡ read_option (get_or saved (v * 5 + 2) 0) (get_or saved (v * 5 + 3) 0)) {x : ℕ} (e : x ≡ v) where
+      one_more : (y : State) → (numbered (default_marked y x m) >>= onward v) ≡ rest v y
+      one_more y = rw e (rest_more y v m lt (saved_is s₀.words.now s₀.used saved v m kept lt is))
 
-      one_more : (s : State) → (numbered (default_marked s x m) >>= onward) ≡ rest v s
-      one_more s = rw e (rest_more s v m lt (saved_is w₀ u saved v m kept lt is))
+      stepped : {t : table.State} {answer : State → Result (State × ℕ)} → Became Any s t answer (λ y. numbered (default_marked y x m) >>= onward v) → Became Any s₀ t answer (rest 0)
+      stepped r = became_on (λ y. y) h.changed (became_is (λ ds k. one_more (held s ds)) r)
 
-      stepped : {w₂ : List ℕ} {u₂ : Used} {answer : State → Result (State × ℕ)} → Refines Any w at w₂ u₂ answer (λ s. numbered (default_marked s x m) >>= onward) → Refines Any w₀ u w₂ u₂ answer (rest 0)
-      stepped r = refines_on (λ m. m) h.changed (refines_is (λ ds k. one_more (seen w at ds)) r)
+      pub defaulting_stop : {t : table.State} {stop : Stop} {r : core.Result Unit Stop} → Added s t (Err stop) (λ y. numbered (default_marked y x m)) → r ≡ Err stop → Added s₀ t r (λ y. numbered (default_num_vars y (num_vars 0 y.vars)))
+      defaulting_stop {stop} a q =
+          rw q record { changed = became_is (λ ds k. whole ds) (stepped (became_as (λ y. y >>= onward v) a.changed (λ y. err_is stop y (onward v)))); inside = a.inside }
 
-      pub defaulting_stop : b ≡ None → Answered w₀ u w₁ a (λ s. numbered (default_num_vars s (num_vars 0 s.vars)))
-      defaulting_stop q = record { changed = refines_is (λ ds k. whole ds) (stepped (refines_stop a.out onward ta.changed da q)); others = ta.others }
-
-      pub defaulting_more : (t : ℕ) → b ≡ Some t → Defaulting w₁ a.used (v + 1)
-      defaulting_more t q = record { within = omega arith; changed = stepped (refines_then a.out onward ta.changed da q (refines_now ta.changed.lay (λ ds k. refl))) }
+      pub defaulting_more : {t : table.State} {one : Unit} → Added s t (Ok one) (λ y. numbered (default_marked y x m)) → Defaulting t (v + 1)
+      unfolding ◌>>=◌
+      defaulting_more a = record { within = omega arith; changed = stepped (became_number (λ y. y >>= onward v) a.changed (became_now (λ ds k. refl))) }

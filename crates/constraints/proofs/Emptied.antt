@@ -6,7 +6,9 @@ use Rattle.definition.specs.Types.{State, Constraint, AbilityConstraint}
 use Rattle.definition.specs.Store.{with_constraints, with_structs}
 use Rattle.table.specs.Rows.{row, entries, Clean, Written, read_constraint, constraint_words, node_table, arg_table, var_table, constraint_table, struct_table}
 use Rattle.table.specs.State.{view, seen, Lay, Inside, Wrote}
+use Rattle.table.specs.Did.{tables}
 use Rattle.table.specs.declared.Used.{Used}
+use Rattle.table.specs.declared.state.State as t
 use Rattle.table.proofs.Tab.{tab_ext, tab_more}
 use Rattle.table.proofs.Rows.{length_entries, entry_at, entry_out, Same, same_entries, same_clean, apart, Put, put_row}
 use Rattle.table.proofs.Written.{constraint_long}
@@ -69,22 +71,26 @@ module _ (w : List ℕ) (u : Used) (h : Lay w u) (j : ℕ) (r w' : List ℕ) (x 
 
 -- ---- the last rows are given back
 
-pub first_all : (w : List ℕ) (u : Used) → Lay w u → First w u w u
+pub first_all : (s : t.State) → First s s
 unfolding with_constraints
-first_all w u h = record { lay = h; within = omega arith; is = λ i. with_constraints (view w u) (sym (take_all u.constraints (view w u).constraints (rw (constraints_view w u) (omega arith))) i) }
+first_all s = record {
+  same = refl;
+  within = omega arith;
+  is = λ i. with_constraints (tables s) (sym (take_all s.used.constraints (tables s).constraints (rw (constraints_view s.words.now s.used) (omega arith))) i);
+}
 
-pub first_fewer : (w : List ℕ) (u : Used) (w₁ : List ℕ) (u₁ : Used) (w₂ : List ℕ) (u₂ : Used) → First w u w₁ u₁ → First w₁ u₁ w₂ u₂ → First w u w₂ u₂
+pub first_fewer : {s m e : t.State} → First s m → First m e → First s e
 unfolding with_constraints
-first_fewer w u w₁ u₁ w₂ u₂ a b =
+first_fewer {s} {m} {e} a b =
     let p = a.within in
     let q = b.within in
     record {
-      lay = b.lay;
+      same = b.same ∙ a.same;
       within = omega arith;
       is =
           b.is
-          ∙ ap (λ (s : State). with_constraints s (take u₂.constraints s.constraints)) a.is
-          ∙ ap (with_constraints (view w u)) (take-take u₂.constraints u₁.constraints (view w u).constraints q);
+          ∙ ap (λ (x : State). with_constraints x (take e.used.constraints x.constraints)) a.is
+          ∙ ap (with_constraints (tables s)) (take-take e.used.constraints m.used.constraints (tables s).constraints q);
     }
 
 blank_written : Written constraint_table (0 ∷ 0 ∷ 0 ∷ 0 ∷ []) blank
@@ -122,20 +128,17 @@ module _ (w : List ℕ) (u : Used) (h : Lay w u) (n : ℕ) (e : n + 1 ≡ u.cons
           ∙ h.clean_constraints i p
           ∙ ap constraint_words (entry_out constraint_table w u.constraints i blank (omega arith) ∙ sym (entry_out constraint_table w' n i blank (omega arith)))
 
-  pub popped : First w u w' (record { nodes = u.nodes; args = u.args; vars = u.vars; constraints = n; structs = u.structs })
+  pub popped_lay : Lay w' (record { nodes = u.nodes; args = u.args; vars = u.vars; constraints = n; structs = u.structs })
+  popped_lay = let x = few in rows_lay w u h n _ w' blank few wrote blank_written n (omega arith) fewer_clean
+
+  pub popped : view w' (record { nodes = u.nodes; args = u.args; vars = u.vars; constraints = n; structs = u.structs }) ≡ with_constraints (view w u) (take n (view w u).constraints)
   unfolding view
-  popped =
-      let x = few in
-      record {
-        lay = rows_lay w u h n _ w' blank few wrote blank_written n (omega arith) fewer_clean;
-        within = omega arith;
-        is = rows_view w u h n _ w' blank few wrote blank_written n (omega arith) fewer_clean ∙ ap (with_constraints (view w u)) fewer_entries;
-      }
+  popped = let x = few in rows_view w u h n _ w' blank few wrote blank_written n (omega arith) fewer_clean ∙ ap (with_constraints (view w u)) fewer_entries
 
 -- ---- none is left
 
-pub emptied : (w : List ℕ) (u : Used) (w' : List ℕ) (u' : Used) → First w u w' u' → u'.constraints ≡ 0 → Emptied w u w' u'
+pub emptied : {s e : t.State} → First s e → e.used.constraints ≡ 0 → Emptied s e
 unfolding with_constraints seen with_structs
-emptied w u w' u' a e =
-    let is : view w' u' ≡ with_constraints (view w u) [] = a.is ∙ ap (λ (n : ℕ). with_constraints (view w u) (take n (view w u).constraints)) e in
-    record { lay = a.lay; structs = ap (λ (s : State). s.structs) is; is = λ ds. ap (λ (s : State). with_structs s ds) is }
+emptied {s} {e} a none =
+    let is : tables e ≡ with_constraints (tables s) [] = a.is ∙ ap (λ (n : ℕ). with_constraints (tables s) (take n (tables s).constraints)) none in
+    record { same = a.same; structs = ap (λ (x : State). x.structs) is; is = λ ds. ap (λ (x : State). with_structs x ds) is }

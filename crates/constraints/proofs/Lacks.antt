@@ -1,8 +1,6 @@
 -- The failure for each ability that is missing, and a constraint's failures in four rows. Assumes nothing.
 -- First `_`, which lacks nothing; then a type by what it unfolds to, a node or `_`; then the four rows of a constraint.
 use Rattle.std.proofs.Common.{◌≡◌, ℕ, zero, suc, ◌<◌, Bool, true, false, not, ◌&&◌, eqb, List, [], ◌∷◌, ◌++◌, sym, refl, ap, ◌∙◌, subst, append-nil, eq-eqb, ne_eqb}
-use denote.Enum.Declared.{tag_of}
-use types.Run.{OneOf, miss}
 use Rattle.definition.specs.Types as d
 use Rattle.std.specs.Prelude.{if◌then◌else◌, Option, None}
 use Rattle.definition.specs.Types.{State, Struct, Spanned, TypeValue}
@@ -13,20 +11,18 @@ use Rattle.definition.specs.Constraints.{missing, by_rule, solve_ability_constra
 use Rattle.definition.specs.Write.{Bytes, each}
 use Rattle.names.specs.declared.AbilitySet.{AbilitySet}
 use Rattle.table.specs.declared.Constraint.{Constraint}
-use Rattle.table.specs.contracts.Constraint.{the_type}
-use Rattle.shapes.proofs.Tags.{plain_tags}
 use Rattle.table.specs.declared.Constraint.TheVariants.{Ability, Numeric, Bits, Ordered, BaseType, SingleType}
-use Rattle.table.specs.State.{node_of, shape_of, constraint_of, seen, Lay}
-use Rattle.table.specs.Known.{Known}
+use Rattle.table.specs.State.{node_of, shape_of, constraint_of}
+use Rattle.table.specs.Did.{held}
 use Rattle.table.specs.declared.Node.{Node}
 use Rattle.table.specs.declared.Shape.{Shape}
-use Rattle.table.specs.declared.Used.{Used}
+use Rattle.table.specs.declared.state.State as table
 use Rattle.subst.specs.Answers.{Unfolds, unfolded}
 use Rattle.ends.specs.Itself.{Goes_on}
 use Rattle.subst.specs.declared.Unfolded.{Unfolded}
 use Rattle.subst.specs.declared.Unfolded.TheVariants.{Node as NodeU, Anything as AnythingU}
 use Rattle.ends.proofs.Itself.{goes_node, unfolded_node}
-use Rattle.abilities.specs.Kept.{HasSet, Kept}
+use Rattle.abilities.specs.Kept.{HasSet, Kept, Knows}
 use Rattle.abilities.specs.Rules.{rule_of, misses}
 use Rattle.abilities.specs.declared.Rule.{Rule}
 use Rattle.failing.specs.Failing.{plain, report, ReportIn, TyIn}
@@ -76,43 +72,43 @@ is_true false z = let n : true ≡ false = z in cc
 
 -- ---- what the type unfolds to
 
-module _ (w : List ℕ) (u : Used) (f : Unfolded) (ty : ℕ) (h : Unfolds w u f (λ s. spanned s ty)) where
-  pub to_node : (t : ℕ) → f ≡ NodeU t → (ds : List Struct) → spanned (seen w u ds) t ≡ unfold_type (seen w u ds) (spanned (seen w u ds) ty)
-  to_node t e ds = ap (λ (y : Unfolded). unfolded y (seen w u ds)) (sym e) ∙ h.is ds
+module _ (m : table.State) (f : Unfolded) (ty : ℕ) (h : Unfolds m f (λ s. spanned s ty)) where
+  pub to_node : (t : ℕ) → f ≡ NodeU t → (ds : List Struct) → spanned (held m ds) t ≡ unfold_type (held m ds) (spanned (held m ds) ty)
+  to_node t e ds = ap (λ (y : Unfolded). unfolded y (held m ds)) (sym e) ∙ h.is ds
 
   -- a node: reading goes on with its shape
-  pub node_goes : (t : ℕ) → f ≡ NodeU t → Lay w u → (n : Node) → ((ds : List Struct) → node_of n ≡ node (seen w u ds) t) → Goes_on w u ty n.shape
-  node_goes t e l n k = goes_node w u ty f h l t e (unfolded_node h.inside e) n k
+  pub node_goes : (t : ℕ) → f ≡ NodeU t → (n : Node) → ((ds : List Struct) → node_of n ≡ node (held m ds) t) → Goes_on m ty n.shape
+  node_goes t e n k = goes_node m ty f h t e (unfolded_node h.inside e) n k
 
   -- .. and what the rule makes of it
-  module _ (t : ℕ) (e : f ≡ NodeU t) (params : List (List ℕ)) (loc asked ability : ℕ) (b : Bool) (m : (ds : List Struct) → Known w u params ds → b ≡ misses (seen w u ds) ty asked ability) (z : b ≡ true) where
-    module _ (sh : Shape) (g : Goes_on w u ty sh) (r : Rule) (q : (ds : List Struct) → Known w u params ds → rule_of r ≡ rule (seen w u ds) ability (with_args (seen w u ds) (shape_of sh))) where
-      pub node_lacks : (x : Option Failing) → ((n : ℕ) → t < n → ReportIn n x) × ((s : State) → report x s ≡ by_rule s loc ability (spanned s t) (rule_of r)) → Lacking w u params x (λ s. lack s loc ty asked ability)
+  module _ (t : ℕ) (e : f ≡ NodeU t) (params : List (List ℕ)) (loc asked ability : ℕ) (b : Bool) (miss_is : (ds : List Struct) → Knows m params ds → b ≡ misses (held m ds) ty asked ability) (z : b ≡ true) where
+    module _ (sh : Shape) (g : Goes_on m ty sh) (r : Rule) (q : (ds : List Struct) → Knows m params ds → rule_of r ≡ rule (held m ds) ability (with_args (held m ds) (shape_of sh))) where
+      pub node_lacks : (x : Option Failing) → ((n : ℕ) → t < n → ReportIn n x) × ((s : State) → report x s ≡ by_rule s loc ability (spanned s t) (rule_of r)) → Lacking m params x (λ s. lack s loc ty asked ability)
       node_lacks x p = record {
-        is = λ ds k. let s = seen w u ds in
+        is = λ ds k. let s = held m ds in
             p.1 s
             ∙ ap (λ (y : Spanned TypeValue). by_rule s loc ability y (rule_of r)) (to_node t e ds)
-            ∙ lack_ruled s loc ty asked ability b (m ds k) z r (q ds k ∙ ap (rule s ability) (g.value ds));
-        inside = p.0 u.nodes (unfolded_node h.inside e);
+            ∙ lack_ruled s loc ty asked ability b (miss_is ds k) z r (q ds k ∙ ap (rule s ability) (g.value ds));
+        inside = p.0 m.used.nodes (unfolded_node h.inside e);
       }
 
-  pub to_anything : (at : ℕ) → f ≡ AnythingU at → (params : List (List ℕ)) (loc asked ability : ℕ) → IsAbility ability → Lacking w u params None (λ s. lack s loc ty asked ability)
+  pub to_anything : (at : ℕ) → f ≡ AnythingU at → (params : List (List ℕ)) (loc asked ability : ℕ) → IsAbility ability → Lacking m params None (λ s. lack s loc ty asked ability)
   to_anything at e params loc asked ability a = record {
-    is = λ ds k. lack_anything (seen w u ds) loc ty asked ability (sym (ap (λ (y : Unfolded). (unfolded y (seen w u ds)).value) (sym e) ∙ ap (λ (y : Spanned TypeValue). y.value) (h.is ds))) a.in_all;
+    is = λ ds k. lack_anything (held m ds) loc ty asked ability (sym (ap (λ (y : Unfolded). (unfolded y (held m ds)).value) (sym e) ∙ ap (λ (y : Spanned TypeValue). y.value) (h.is ds))) a.in_all;
     inside = tt;
   }
 
 -- ---- four rows
 
 -- what is asked of a constraint that asks for abilities
-pub asked_ty : (w : List ℕ) (u : Used) (params : List (List ℕ)) (sets : List ℕ) (c : Constraint) (loc ty : ℕ) (a : AbilitySet) → TyIn u.nodes (constraint_of c) → AskedReady w u params sets (constraint_of c)
-    → c ≡ Ability loc ty a → (ty < u.nodes) × (Kept w u params sets × HasSet sets ty)
-asked_ty w u params sets c loc ty a h k e =
-    (subst (λ (x : Constraint). TyIn u.nodes (constraint_of x)) e h, subst (λ (x : Constraint). AskedReady w u params sets (constraint_of x)) e k)
+pub asked_ty : (m : table.State) (params : List (List ℕ)) (sets : List ℕ) (c : Constraint) (loc ty : ℕ) (a : AbilitySet) → TyIn m.used.nodes (constraint_of c) → AskedReady m params sets (constraint_of c)
+    → c ≡ Ability loc ty a → (ty < m.used.nodes) × (Kept m params sets × HasSet sets ty)
+asked_ty m params sets c loc ty a h k e =
+    (subst (λ (x : Constraint). TyIn m.used.nodes (constraint_of x)) e h, subst (λ (x : Constraint). AskedReady m params sets (constraint_of x)) e k)
 
-pub row_ability : (w : List ℕ) (u : Used) (params : List (List ℕ)) (r : Option Failing) (c : Constraint) (loc ty : ℕ) (a : AbilitySet) (ability : ℕ) → Lacking w u params r (λ s. lack s loc ty a.0 ability) → c ≡ Ability loc ty a → Lacking w u params r (λ s. row s (constraint_of c) ability)
+pub row_ability : (m : table.State) (params : List (List ℕ)) (r : Option Failing) (c : Constraint) (loc ty : ℕ) (a : AbilitySet) (ability : ℕ) → Lacking m params r (λ s. lack s loc ty a.0 ability) → c ≡ Ability loc ty a → Lacking m params r (λ s. row s (constraint_of c) ability)
 unfolding row
-row_ability w u params r c loc ty a ability h e = subst (λ (x : Constraint). Lacking w u params r (λ s. row s (constraint_of x) ability)) (sym e) h
+row_ability m params r c loc ty a ability h e = subst (λ (x : Constraint). Lacking m params r (λ s. row s (constraint_of x) ability)) (sym e) h
 
 pub row_first : (s : State) (c : d.Constraint) (r : Option Failing) (ability : ℕ) → report r s ≡ plain s c → ability ≡ 1 → report r s ≡ (if eqb ability 1 then plain s c else [])
 row_first s c r ability h e = rw (eq-eqb ability 1 e) h
@@ -121,11 +117,11 @@ pub row_after : (s : State) (c : d.Constraint) (ability : ℕ) → (ability ≡ 
 row_after s c ability e = rw (ne_eqb ability 1 e) refl
 
 -- a constraint that asks for no abilities
-module _ (w : List ℕ) (u : Used) (params : List (List ℕ)) (r : Option Failing) where
-  pub row_plain : (c : Constraint) (ability : ℕ) → ReportIn u.nodes r × ((ds : List Struct) → report r (seen w u ds) ≡ (if eqb ability 1 then plain (seen w u ds) (constraint_of c) else []))
-      → OneOf plain_tags (tag_of the_type c) → Lacking w u params r (λ s. row s (constraint_of c) ability)
+module _ (m : table.State) (params : List (List ℕ)) (r : Option Failing) where
+  pub row_plain : (c : Constraint) (ability : ℕ) → ReportIn m.used.nodes r × ((ds : List Struct) → report r (held m ds) ≡ (if eqb ability 1 then plain (held m ds) (constraint_of c) else []))
+      → ((loc ty : ℕ) (a : AbilitySet) → c ≡ Ability loc ty a → ⊥) → Lacking m params r (λ s. row s (constraint_of c) ability)
   unfolding row
-  row_plain (Ability loc ty a) ability h k = absurd (miss plain_tags 0 tt k)
+  row_plain (Ability loc ty a) ability h k = absurd (k loc ty a refl)
   row_plain (Numeric loc ty) ability h k = record { is = λ ds _. h.1 ds; inside = h.0 }
   row_plain (Bits loc ty) ability h k = record { is = λ ds _. h.1 ds; inside = h.0 }
   row_plain (Ordered loc ty) ability h k = record { is = λ ds _. h.1 ds; inside = h.0 }

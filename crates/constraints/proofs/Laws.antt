@@ -7,8 +7,9 @@ use Rattle.definition.specs.Types.{State, Struct, Spanned, TypeValue}
 use Rattle.definition.specs.Store.{node, with_args, spanned}
 use Rattle.definition.specs.Subst.{unfold_type}
 use Rattle.definition.specs.Constraints.{failure, solve}
-use Rattle.table.specs.State.{seen, node_of, shape_of}
-use Rattle.table.specs.declared.Used.{Used}
+use Rattle.table.specs.State.{node_of, shape_of}
+use Rattle.table.specs.Did.{held}
+use Rattle.table.specs.declared.state.State as table
 use Rattle.table.specs.declared.Node.{Node}
 use Rattle.subst.specs.Answers.{unfolded, Unfolds}
 use Rattle.subst.specs.declared.Unfolded.{Unfolded}
@@ -29,38 +30,38 @@ module _ (s : State) (r : Ask) (x : Spanned TypeValue) (e : x ≡ unfold_type s 
   unfolding ask solve
   ask_fails g = rw (← e, g) refl
 
-fails_if : {w : List ℕ} {u : Used} {c : d.Constraint} (f : Failing) (b : Bool) → (b ≡ true → Fails w u None c) → (b ≡ false → Fails w u (Some f) c) → Fails w u (then_some (not b) f) c
+fails_if : {m : table.State} {c : d.Constraint} (f : Failing) (b : Bool) → (b ≡ true → Fails m None c) → (b ≡ false → Fails m (Some f) c) → Fails m (then_some (not b) f) c
 fails_if f true p q = p refl
 fails_if f false p q = q refl
 
-pub nothing_asked : (w : List ℕ) (u : Used) (c : d.Constraint) → Asks None c → Fails w u None c
+pub nothing_asked : (m : table.State) (c : d.Constraint) → Asks None c → Fails m None c
 unfolding ask
-nothing_asked w u c a = record { is = λ ds. a.is (seen w u ds); inside = tt }
+nothing_asked m c a = record { is = λ ds. a.is (held m ds); inside = tt }
 
-module _ (w : List ℕ) (u : Used) (r : Ask) (c : d.Constraint) (a : Asks (Some r) c) (f : Unfolded) (h : Unfolds w u f (λ s. spanned s r.ty)) where
-  fine : ((ds : List Struct) → good r.what (unfolded f (seen w u ds)).value ≡ true) → Fails w u None c
-  fine g = record { is = λ ds. ask_good (seen w u ds) r (unfolded f (seen w u ds)) (h.is ds) (g ds) ∙ a.is (seen w u ds); inside = tt }
+module _ (m : table.State) (r : Ask) (c : d.Constraint) (a : Asks (Some r) c) (f : Unfolded) (h : Unfolds m f (λ s. spanned s r.ty)) where
+  fine : ((ds : List Struct) → good r.what (unfolded f (held m ds)).value ≡ true) → Fails m None c
+  fine g = record { is = λ ds. ask_good (held m ds) r (unfolded f (held m ds)) (h.is ds) (g ds) ∙ a.is (held m ds); inside = tt }
 
-  failed : (ds : List Struct) → good r.what (unfolded f (seen w u ds)).value ≡ false → failure (seen w u ds) (code_of r.what) r.loc (unfolded f (seen w u ds)) ≡ plain (seen w u ds) c
-  failed ds g = ask_fails (seen w u ds) r (unfolded f (seen w u ds)) (h.is ds) g ∙ a.is (seen w u ds)
+  failed : (ds : List Struct) → good r.what (unfolded f (held m ds)).value ≡ false → failure (held m ds) (code_of r.what) r.loc (unfolded f (held m ds)) ≡ plain (held m ds) c
+  failed ds g = ask_fails (held m ds) r (unfolded f (held m ds)) (h.is ds) g ∙ a.is (held m ds)
 
   -- x is the failure of the type as it unfolds
-  judged : (x : Failing) (b : Bool) → ((ds : List Struct) → good r.what (unfolded f (seen w u ds)).value ≡ b)
-      → ((ds : List Struct) → failing x (seen w u ds) ≡ failure (seen w u ds) (code_of r.what) r.loc (unfolded f (seen w u ds))) → FailingIn u.nodes x → Fails w u (then_some (not b) x) c
+  judged : (x : Failing) (b : Bool) → ((ds : List Struct) → good r.what (unfolded f (held m ds)).value ≡ b)
+      → ((ds : List Struct) → failing x (held m ds) ≡ failure (held m ds) (code_of r.what) r.loc (unfolded f (held m ds))) → FailingIn m.used.nodes x → Fails m (then_some (not b) x) c
   judged x b g e i = fails_if x b (λ q. fine (λ ds. g ds ∙ q)) (λ q. record { is = λ ds. e ds ∙ failed ds (g ds ∙ q); inside = i })
 
-  module _ (t : ℕ) (p : f ≡ NodeU t) (n : Node) (k : (ds : List Struct) → node_of n ≡ node (seen w u ds) t) (b : Bool) (is : (st : State) → b ≡ good r.what (with_args st (shape_of n.shape))) where
-    node_good : (ds : List Struct) → good r.what (unfolded f (seen w u ds)).value ≡ b
+  module _ (t : ℕ) (p : f ≡ NodeU t) (n : Node) (k : (ds : List Struct) → node_of n ≡ node (held m ds) t) (b : Bool) (is : (st : State) → b ≡ good r.what (with_args st (shape_of n.shape))) where
+    node_good : (ds : List Struct) → good r.what (unfolded f (held m ds)).value ≡ b
     unfolding spanned
-    node_good ds = ap (λ (g : Unfolded). good r.what (unfolded g (seen w u ds)).value) p ∙ ap (good r.what) (sym (value_is (seen w u ds) t n (k ds))) ∙ sym (is (seen w u ds))
+    node_good ds = ap (λ (g : Unfolded). good r.what (unfolded g (held m ds)).value) p ∙ ap (good r.what) (sym (value_is (held m ds) t n (k ds))) ∙ sym (is (held m ds))
 
-    pub node_fails : Fails w u (then_some (not b) (NodeF r.what r.loc t)) c
-    node_fails = judged (NodeF r.what r.loc t) b node_good (λ ds. ap (λ (g : Unfolded). failure (seen w u ds) (code_of r.what) r.loc (unfolded g (seen w u ds))) (sym p)) (rw p at h.inside)
+    pub node_fails : Fails m (then_some (not b) (NodeF r.what r.loc t)) c
+    node_fails = judged (NodeF r.what r.loc t) b node_good (λ ds. ap (λ (g : Unfolded). failure (held m ds) (code_of r.what) r.loc (unfolded g (held m ds))) (sym p)) (rw p at h.inside)
 
   module _ (at : ℕ) (p : f ≡ AnythingU at) (b : Bool) (is : (st : State) → b ≡ good r.what (with_args st d.Anything)) where
-    anything_good : (ds : List Struct) → good r.what (unfolded f (seen w u ds)).value ≡ b
+    anything_good : (ds : List Struct) → good r.what (unfolded f (held m ds)).value ≡ b
     unfolding with_args
-    anything_good ds = ap (λ (g : Unfolded). good r.what (unfolded g (seen w u ds)).value) p ∙ sym (is (seen w u ds))
+    anything_good ds = ap (λ (g : Unfolded). good r.what (unfolded g (held m ds)).value) p ∙ sym (is (held m ds))
 
-    pub anything_fails : Fails w u (then_some (not b) (AnythingF r.what r.loc at)) c
-    anything_fails = judged (AnythingF r.what r.loc at) b anything_good (λ ds. ap (λ (g : Unfolded). failure (seen w u ds) (code_of r.what) r.loc (unfolded g (seen w u ds))) (sym p)) tt
+    pub anything_fails : Fails m (then_some (not b) (AnythingF r.what r.loc at)) c
+    anything_fails = judged (AnythingF r.what r.loc at) b anything_good (λ ds. ap (λ (g : Unfolded). failure (held m ds) (code_of r.what) r.loc (unfolded g (held m ds))) (sym p)) tt

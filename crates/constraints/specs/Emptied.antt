@@ -1,18 +1,18 @@
 -- The list of constraints, emptied from its end. Assumes nothing: these are definitions.
-use Rattle.std.specs.Prelude.{◌≡◌, ℕ, ◌≤◌, List, [], take}
+use Rattle.std.specs.Prelude.{◌≡◌, ◌≤◌, List, [], take}
 use Rattle.definition.specs.Types.{Struct}
 use Rattle.definition.specs.Store.{with_constraints}
-use Rattle.table.specs.State.{Lay, view, seen}
-use Rattle.table.specs.declared.Used.{Used}
+use Rattle.table.specs.Did.{held, tables}
+use Rattle.table.specs.declared.state.State.{State}
 
--- of the constraints only the first are left, as many as u' says
-pub record First (w : List ℕ) (u : Used) (w' : List ℕ) (u' : Used) : Type 0 where
-  pub lay : Lay w' u'
-  pub within : u'.constraints ≤ u.constraints
-  pub is : view w' u' ≡ with_constraints (view w u) (take u'.constraints (view w u).constraints)
+-- the state s became t: of the constraints only the first are left, as many as t says
+pub record First (s t : State) : Type 0 where
+  pub same : t.words.ghost_name ≡ s.words.ghost_name
+  pub within : t.used.constraints ≤ s.used.constraints
+  pub is : tables t ≡ with_constraints (tables s) (take t.used.constraints (tables s).constraints)
 
--- the words w with u in use became w' with u' in use: no constraint is left
-pub record Emptied (w : List ℕ) (u : Used) (w' : List ℕ) (u' : Used) : Type 0 where
-  pub lay : Lay w' u'
-  pub structs : (view w' u').structs ≡ (view w u).structs
-  pub is : (ds : List Struct) → seen w' u' ds ≡ with_constraints (seen w u ds) []
+-- .. no constraint is left
+pub record Emptied (s t : State) : Type 0 where
+  pub same : t.words.ghost_name ≡ s.words.ghost_name
+  pub structs : (tables t).structs ≡ (tables s).structs
+  pub is : (ds : List Struct) → held t ds ≡ with_constraints (held s ds) []

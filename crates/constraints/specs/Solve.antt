@@ -1,5 +1,5 @@
--- The steps of solve_constraints, and what their answers stand for. Assumes nothing: these are definitions.
-use Rattle.std.specs.Prelude.{◌≡◌, ℕ, suc, List, [], ◌∷◌}
+-- The steps of solve_constraints. Assumes nothing: these are definitions.
+use Rattle.std.specs.Prelude.{ℕ, suc, List, [], ◌∷◌}
 use Rattle.std.specs.Prelude.{Option, None, Some}
 use Rattle.definition.specs.Types as d
 use Rattle.definition.specs.Types.{State, Cell, Result, ok, ◌>>=◌}
@@ -7,9 +7,6 @@ use Rattle.definition.specs.Store.{sp}
 use Rattle.definition.specs.Join.{join}
 use Rattle.definition.specs.Constraints.{u64, default_num_var}
 use Rattle.definition.specs.Record as record_of
-use Rattle.table.specs.State.{Changed, NodesIn, done}
-use Rattle.table.specs.declared.Used.{Used}
-use Rattle.table.specs.declared.Outcome.{Outcome}
 use Rattle.constraints.specs.declared.NumericKind.{NumericKind}
 use Rattle.constraints.specs.declared.NumericKind.TheVariants.{Numeric, Bits, Ordered}
 
@@ -21,11 +18,6 @@ kind_of Ordered = record_of.Ordered
 -- a step that has no number to answer
 unfoldable pub numbered : Result State → Result (State × ℕ)
 numbered r = r >>= (λ s. ok (s, 0))
-
--- the words w with u in use became w' and the answer r, as f says; the types of an error are nodes
-pub record Answered (w : List ℕ) (u : Used) (w' : List ℕ) (r : Outcome) (f : State → Result (State × ℕ)) : Type 0 where
-  pub changed : Changed w u w' r f
-  pub others : done r.out ≡ None → NodesIn r.used.nodes r.out
 
 -- the join of a variable that nothing decides
 unfoldable pub join_u64 : State → ℕ → ℕ → Result (State × ℕ)

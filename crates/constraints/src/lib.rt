@@ -10,11 +10,12 @@ ghost use Rattle.definition.specs.Subst.{unfold_type};
 ghost use Rattle.definition.specs.Constraints.{undecided, num_vars, default_num_var, default_num_vars, by_rule};
 ghost use Rattle.definition.specs.Step.{numeric_constraint};
 ghost use Rattle.table.specs.Rows.{read_option};
-ghost use Rattle.table.specs.State.{constraint_of, seen, Lay, Changed, After, pushed_constraint};
+ghost use Rattle.table.specs.State.{constraint_of, pushed_constraint};
+ghost use Rattle.table.specs.Did.{held, Did, Added};
 ghost use Rattle.subst.specs.Answers.{var_at};
 ghost use Rattle.snapshot.specs.Snap.{Saved};
 ghost use Rattle.constraints.specs.Emptied.{First, Emptied};
-ghost use Rattle.constraints.specs.Solve.{kind_of, numbered, join_u64, default_marked, Answered};
+ghost use Rattle.constraints.specs.Solve.{kind_of, numbered, join_u64};
 ghost use Rattle.definition.specs.Store.{spanned};
 ghost use Rattle.abilities.specs.Kept.{HasSet, Kept};
 ghost use Rattle.abilities.specs.Rules.{rule_of, RuleIn};
@@ -23,9 +24,10 @@ ghost use Rattle.constraints.specs.Lacking.{lack, row, IsAbility, Lacking, Asked
 
 use abilities::{Asked, Rule};
 use failing::{Failing, ask_of, good};
-use names::{AbilityMark, AbilitySet, TVar, TypeName};
+use names::{AbilitySet, TVar, TypeName};
 use subst::Unfolded;
-use table::{CONSTRAINT_WORDS, CONSTRAINTS_AT, Constraint, Out, Outcome, Shape, Used, VAR_WORDS};
+use table::state::{State, Stop};
+use table::{CONSTRAINT_WORDS, CONSTRAINTS_AT, Constraint, Shape, VAR_WORDS};
 
 // The operators that a type is asked for.
 #[derive(Clone, Copy)]
@@ -35,105 +37,64 @@ pub enum NumericKind {
     Ordered,
 }
 
-// ---- a constraint is listed; the answer is 0. A function for each kind, as in core.rs
+// ---- a constraint is listed. A function for each kind, as in core.rs
 
 #[tactic(auto, unfolding(definition::specs::Step::numeric_constraint))]
-pub fn numeric_constraint(w: &mut [u32], u: Used, kind: NumericKind, loc: u32, ty: u32) -> Outcome
-    requires { Lay w.old u }
-    ensures { Changed w.old u w.new result (pushed_constraint (numeric_constraint (kind_of kind) loc ty)) }
+pub fn numeric_constraint(
+    st: &mut State<'_>,
+    kind: NumericKind,
+    loc: u32,
+    ty: u32,
+) -> Result<(), Stop>
+    ensures { Added st.old st.new result (pushed_constraint (numeric_constraint (kind_of kind) loc ty)) }
 {
     match kind {
-        NumericKind::Numeric => table::push_constraint(w, u, Constraint::Numeric(loc, ty)),
-        NumericKind::Bits => table::push_constraint(w, u, Constraint::Bits(loc, ty)),
-        NumericKind::Ordered => table::push_constraint(w, u, Constraint::Ordered(loc, ty)),
+        NumericKind::Numeric => st.push_constraint(Constraint::Numeric(loc, ty)),
+        NumericKind::Bits => st.push_constraint(Constraint::Bits(loc, ty)),
+        NumericKind::Ordered => st.push_constraint(Constraint::Ordered(loc, ty)),
     }
 }
 
-pub fn base_type_constraint(w: &mut [u32], u: Used, loc: u32, ty: u32) -> Outcome
-    requires { Lay w.old u }
-    ensures { Changed w.old u w.new result (pushed_constraint (BaseTypeConstraint loc ty)) }
+pub fn base_type_constraint(st: &mut State<'_>, loc: u32, ty: u32) -> Result<(), Stop>
+    ensures { Added st.old st.new result (pushed_constraint (BaseTypeConstraint loc ty)) }
 {
-    table::push_constraint(w, u, Constraint::BaseType(loc, ty))
+    st.push_constraint(Constraint::BaseType(loc, ty))
 }
 
-pub fn single_type_constraint(w: &mut [u32], u: Used, loc: u32, ty: u32) -> Outcome
-    requires { Lay w.old u }
-    ensures { Changed w.old u w.new result (pushed_constraint (SingleTypeConstraint loc ty)) }
+pub fn single_type_constraint(st: &mut State<'_>, loc: u32, ty: u32) -> Result<(), Stop>
+    ensures { Added st.old st.new result (pushed_constraint (SingleTypeConstraint loc ty)) }
 {
-    table::push_constraint(w, u, Constraint::SingleType(loc, ty))
+    st.push_constraint(Constraint::SingleType(loc, ty))
 }
 
 // ---- numeric variables that nothing decides become u64
 
-fn undecided_var(w: &[u32], u: Used, num_var: TVar, loc: u32) -> bool
-    requires { Lay w.now u }
-    ensures { (ds : List d.Struct) → result ≡ undecided (unfold_type (seen w.now u ds) (var_at loc num_var.0)).value }
+fn undecided_var(st: &State<'_>, num_var: TVar, loc: u32) -> bool
+    ensures { (ds : List d.Struct) → result ≡ undecided (unfold_type (held st.now ds) (var_at loc num_var.0)).value }
 {
-    match subst::unfold_tvar(w, u, loc, num_var) {
-        Unfolded::Node(t) => {
-            let n = table::node_at(w, u, t);
-            let s = n.shape;
-            shapes::undecided(s)
-        }
+    match subst::unfold_tvar(st, loc, num_var) {
+        Unfolded::Node(t) => shapes::undecided(st.node_at(t).shape),
         Unfolded::Anything(_) => true,
     }
 }
 
 // The join with u64, which has the abilities copy, drop and store.
-fn join_u64(w: &mut [u32], u: Used, num_var: TVar, loc: u32) -> Outcome
-    requires { Lay w.old u }
-    ensures { After w.old u w.new result (λ s. join_u64 s num_var.0 loc) }
+fn join_u64(st: &mut State<'_>, num_var: TVar, loc: u32) -> Result<u32, Stop>
+    ensures { Did st.old st.new result (λ s. join_u64 s num_var.0 loc) }
 {
     let k = Some(AbilitySet::PRIMITIVES);
-    let a = table::push_apply(w, u, loc, k, TypeName::Builtin(3), [0; 8], 0);
-    let ao = a.out;
-    let au = a.used;
-    let Some(u64_) = table::done_of(ao) else {
-        return a;
-    };
-    let b = table::push_node(w, au, loc, Shape::Var(num_var));
-    let bo = b.out;
-    let bu = b.used;
-    let Some(tvar) = table::done_of(bo) else {
-        return b;
-    };
-    join::join(w, bu, u64_, tvar)
+    let u64_ = st.push_apply(loc, k, TypeName::Builtin(3), [0; 8], 0)?;
+    let tvar = st.push_node(loc, Shape::Var(num_var))?;
+    join::join(st, u64_, tvar)
 }
 
-fn default_num_var(w: &mut [u32], u: Used, num_var: TVar, loc: u32) -> Outcome
-    requires { Lay w.old u }
-    ensures { Answered w.old u w.new result (λ s. numbered (default_num_var s num_var.0 loc)) }
+fn default_num_var(st: &mut State<'_>, num_var: TVar, loc: u32) -> Result<(), Stop>
+    ensures { Added st.old st.new result (λ s. numbered (default_num_var s num_var.0 loc)) }
 {
-    if undecided_var(w, u, num_var, loc) {
-        let a = join_u64(w, u, num_var, loc);
-        let ao = a.out;
-        let au = a.used;
-        let Some(_) = table::done_of(ao) else {
-            return a;
-        };
-        return Outcome {
-            out: Out::Done(0),
-            used: au,
-        };
+    if undecided_var(st, num_var, loc) {
+        join_u64(st, num_var, loc)?;
     }
-    Outcome {
-        out: Out::Done(0),
-        used: u,
-    }
-}
-
-// A variable that has a mark, at the mark's location.
-fn default_marked(w: &mut [u32], u: Used, num_var: TVar, mark: Option<u32>) -> Outcome
-    requires { Lay w.old u }
-    ensures { Answered w.old u w.new result (λ s. numbered (default_marked s num_var.0 mark)) }
-{
-    match mark {
-        None => Outcome {
-            out: Out::Done(0),
-            used: u,
-        },
-        Some(loc) => default_num_var(w, u, num_var, loc),
-    }
+    Ok(())
 }
 
 // The mark that variable v had when the rows were saved.
@@ -148,68 +109,51 @@ fn saved_mark(saved: &[u32], v: u32) -> Option<u32>
 }
 
 // The marks are read as they were at the start: a join marks variables, and the list is fixed before the first.
-pub fn default_num_vars(w: &mut [u32], u: Used, saved: &[u32]) -> Outcome
-    requires { Lay w.old u × (Saved w.old u saved.now × (5120 ≤ length saved.now)) }
-    ensures { Answered w.old u w.new result (λ s. numbered (default_num_vars s (num_vars 0 s.vars))) }
+pub fn default_num_vars(st: &mut State<'_>, saved: &[u32]) -> Result<(), Stop>
+    requires { Saved st.old.words.now st.old.used saved.now × (5120 ≤ length saved.now) }
+    ensures { Added st.old st.new result (λ s. numbered (default_num_vars s (num_vars 0 s.vars))) }
 {
-    let mut at = u;
-    for v in 0..u.vars {
-        let mark = saved_mark(saved, v);
-        let num_var = table::tvar(v);
-        let a = default_marked(w, at, num_var, mark);
-        let ao = a.out;
-        let au = a.used;
-        let Some(_) = table::done_of(ao) else {
-            return a;
-        };
-        at = au;
+    for v in 0..st.used.vars {
+        if let Some(loc) = saved_mark(saved, v) {
+            default_num_var(st, table::tvar(v), loc)?;
+        }
     }
-    Outcome {
-        out: Out::Done(0),
-        used: at,
-    }
+    Ok(())
 }
 
 // ---- std::mem::take(&mut context.constraints)
 
 // The last row is zero again.
-fn pop_constraint(w: &mut [u32], u: Used) -> Used
-    requires { Lay w.old u × (0 < u.constraints) }
-    ensures { First w.old u w.new result × (result.constraints + 1 ≡ u.constraints) }
+fn pop_constraint(st: &mut State<'_>)
+    requires { 0 < st.old.used.constraints }
+    ensures { First st.old st.new × (st.new.used.constraints + 1 ≡ st.old.used.constraints) }
 {
-    let n = u.constraints - 1;
+    let n = st.used.constraints - 1;
     let at = CONSTRAINTS_AT + n as usize * CONSTRAINT_WORDS;
-    table::write_words(w, at, &[0, 0, 0, 0]);
-    Used {
-        constraints: n,
-        ..u
-    }
+    table::write_words(st.words, at, &[0, 0, 0, 0]);
+    st.used.constraints = n;
 }
 
-// No constraint is left.
-pub fn take_constraints(w: &mut [u32], u: Used) -> Used
-    requires { Lay w.old u }
-    ensures { Emptied w.old u w.new result }
+// No constraint is left. By `while`, since it is the list's own count that falls.
+pub fn take_constraints(st: &mut State<'_>)
+    ensures { Emptied st.old st.new }
 {
-    let mut at = u;
-    while 0 < at.constraints {
-        at = pop_constraint(w, at);
+    while 0 < st.used.constraints {
+        pop_constraint(st);
     }
-    at
 }
 
 // ---- which constraints fail, and how
 
 // The failure of a constraint that asks for no abilities, if it fails.
-fn failing_of(w: &[u32], u: Used, c: Constraint) -> Option<Failing>
-    requires { Lay w.now u × TyIn u.nodes (constraint_of c) }
-    ensures { Fails w.now u result (constraint_of c) }
+fn failing_of(st: &State<'_>, c: Constraint) -> Option<Failing>
+    requires { TyIn st.now.used.nodes (constraint_of c) }
+    ensures { Fails st.now result (constraint_of c) }
 {
     let a = ask_of(c)?;
-    match subst::unfold_type(w, u, a.ty) {
+    match subst::unfold_type(st, a.ty) {
         Unfolded::Node(t) => {
-            let n = table::node_at(w, u, t);
-            let bad = !good(a.what, n.shape);
+            let bad = !good(a.what, st.node_at(t).shape);
             bad.then_some(Failing::Node(a.what, a.loc, t))
         }
         Unfolded::Anything(at) => {
@@ -235,57 +179,55 @@ fn by_rule(loc: u32, ability: u8, t: u32, r: Rule) -> Option<Failing>
 
 // The failure for one ability, of a type whose set is kept. `_` has every ability. A chain of variables is walked only if the ability is missing.
 fn lack_of(
-    w: &[u32],
-    u: Used,
+    st: &State<'_>,
     params: &[[u8; 8]; 256],
     sets: &[u32],
     a: Asked,
     ability: u8,
 ) -> Option<Failing>
-    requires { Lay w.now u × ((a.ty < u.nodes) × (IsAbility ability × (Kept w.now u params.now sets.now × HasSet sets.now a.ty))) }
-    ensures { Lacking w.now u params.now result (λ s. lack s a.loc a.ty a.set.0 ability) }
+    requires { (a.ty < st.now.used.nodes) × (IsAbility ability × (Kept st.now params.now sets.now × HasSet sets.now a.ty)) }
+    ensures { Lacking st.now params.now result (λ s. lack s a.loc a.ty a.set.0 ability) }
 {
-    if !abilities::is_missing(w, u, params, a, ability, sets) {
+    if !abilities::is_missing(st, params, a, ability, sets) {
         return None;
     }
-    match subst::unfold_type(w, u, a.ty) {
+    match subst::unfold_type(st, a.ty) {
         Unfolded::Node(t) => {
-            let n = table::node_at(w, u, t);
-            let s = n.shape;
-            let r = abilities::shape_rule(w, u, params, s, ability, sets);
-            by_rule(a.loc, ability, t, r)
+            let shape = st.node_at(t).shape;
+            let rule = abilities::shape_rule(st, params, shape, ability, sets);
+            by_rule(a.loc, ability, t, rule)
         }
         Unfolded::Anything(_) => None,
     }
 }
 
-fn first_row(w: &[u32], u: Used, c: Constraint, ability: u8) -> Option<Failing>
-    requires { Lay w.now u × TyIn u.nodes (constraint_of c) }
-    ensures { ReportIn u.nodes result × ((ds : List d.Struct) → report result (seen w.now u ds) ≡ (if nat_eq ability 1 then plain (seen w.now u ds) (constraint_of c) else [])) }
+fn first_row(st: &State<'_>, c: Constraint, ability: u8) -> Option<Failing>
+    requires { TyIn st.now.used.nodes (constraint_of c) }
+    ensures { ReportIn st.now.used.nodes result × ((ds : List d.Struct) → report result (held st.now ds) ≡ (if nat_eq ability 1 then plain (held st.now ds) (constraint_of c) else [])) }
 {
     if ability == 1 {
-        return failing_of(w, u, c);
+        failing_of(st, c)
+    } else {
+        None
     }
-    None
 }
 
 // The failure of a constraint in the row of an ability. first_row is called at one place so that it is inlined.
 pub fn row_of(
-    w: &[u32],
-    u: Used,
+    st: &State<'_>,
     params: &[[u8; 8]; 256],
     sets: &[u32],
     c: Constraint,
     ability: u8,
 ) -> Option<Failing>
-    requires { Lay w.now u × (TyIn u.nodes (constraint_of c) × (IsAbility ability × AskedReady w.now u params.now sets.now (constraint_of c))) }
-    ensures { Lacking w.now u params.now result (λ s. row s (constraint_of c) ability) }
+    requires { TyIn st.now.used.nodes (constraint_of c) × (IsAbility ability × AskedReady st.now params.now sets.now (constraint_of c)) }
+    ensures { Lacking st.now params.now result (λ s. row s (constraint_of c) ability) }
 {
     match c {
         Constraint::Ability(loc, ty, set) => {
             let a = Asked { loc, ty, set };
-            lack_of(w, u, params, sets, a, ability)
+            lack_of(st, params, sets, a, ability)
         }
-        _ => first_row(w, u, c, ability),
+        _ => first_row(st, c, ability),
     }
 }

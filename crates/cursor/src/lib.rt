@@ -20,7 +20,6 @@ pub enum ReadError {
 #[derive(Clone, Copy)]
 pub struct Reader<'a> {
     pub left: &'a [u8],
-    pub ghost few: { length left.now ≤ 4096 },
 }
 
 impl<'a> Reader<'a> {
@@ -35,7 +34,8 @@ impl<'a> Reader<'a> {
     }
 
     pub fn u8(&mut self) -> Result<u8, ReadError>
-        ensures { read result self.new.left.now ≡ byte self.old.left.now }
+        ensures is { read result self.new.left.now ≡ byte self.old.left.now }
+        ensures shorter { length self.new.left.now ≤ length self.old.left.now }
     {
         let [byte, left @ ..] = self.left else {
             return Err(ReadError::Malformed);
@@ -45,7 +45,8 @@ impl<'a> Reader<'a> {
     }
 
     pub fn u16(&mut self) -> Result<u16, ReadError>
-        ensures { read result self.new.left.now ≡ read_u16 self.old.left.now }
+        ensures is { read result self.new.left.now ≡ read_u16 self.old.left.now }
+        ensures shorter { length self.new.left.now ≤ length self.old.left.now }
     {
         let low = self.u8()?;
         let high = self.u8()?;
@@ -53,7 +54,8 @@ impl<'a> Reader<'a> {
     }
 
     pub fn u32(&mut self) -> Result<u32, ReadError>
-        ensures { read result self.new.left.now ≡ read_u32 self.old.left.now }
+        ensures is { read result self.new.left.now ≡ read_u32 self.old.left.now }
+        ensures shorter { length self.new.left.now ≤ length self.old.left.now }
     {
         let a = self.u8()?;
         let b = self.u8()?;
@@ -63,12 +65,13 @@ impl<'a> Reader<'a> {
     }
 
     // A byte from 0 to max.
-    pub fn byte_to(&mut self, max: u8) -> Result<u8, ReadError>
+    pub fn byte_to(&mut self, max: u32) -> Result<u8, ReadError>
         ensures is { read result self.new.left.now ≡ byte_to max self.old.left.now }
+        ensures shorter { length self.new.left.now ≤ length self.old.left.now }
         ensures most { IfOk result (λ x. x ≤ max) }
     {
         let byte = self.u8()?;
-        if max < byte {
+        if max < u32::from(byte) {
             return Err(ReadError::Malformed);
         }
         Ok(byte)
@@ -77,6 +80,7 @@ impl<'a> Reader<'a> {
     // A name of which there are `known`.
     pub fn name_below(&mut self, known: u32) -> Result<u16, ReadError>
         ensures is { read result self.new.left.now ≡ name_below known self.old.left.now }
+        ensures shorter { length self.new.left.now ≤ length self.old.left.now }
         ensures below { IfOk result (λ x. x < known) }
     {
         let name = self.u16()?;

@@ -126,6 +126,6 @@ unfoldable pub blank_log : State → List (Bytes × ℕ) → List Seen
 blank_log s [] = []
 blank_log s ((bytes, buffer) ∷ records) = let a = step s bytes buffer in seen s bytes a ∷ blank_log a.state records
 
--- R-4 (theorems/proofs/Locations.antt): two jobs that are equal but for location fields are answered alike but for location fields
+-- R-4 (theorems/proofs/EraseLocations.antt): two jobs that are equal but for location fields are answered alike but for location fields
 unfoldable pub LocationsDecideNothing : List (Bytes × ℕ) → List (Bytes × ℕ) → Type 0
 LocationsDecideNothing job job' = blank_job fresh job ≡ blank_job fresh job' → blank_log fresh job ≡ blank_log fresh job'

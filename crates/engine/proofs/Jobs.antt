@@ -21,54 +21,55 @@ use Rattle.theorems.proofs.SoundKept.{trusted}
 use Rattle.theorems.proofs.SoundRefusals.{stream_two_digits}
 use Rattle.theorems.proofs.Stream.{Goes_on, shorter, over, stream_on}
 use Rattle.pieces.proofs.Pieces.{entry_of, next_spent, next_stops, next_last, next_goes, no_line, two_lines, line_size}
-use Rattle.table.specs.declared.Used.{Used}
+use Rattle.table.specs.declared.state.State.{State as Table}
 use Rattle.log_lines.specs.Line.{Wrote, line_of}
 use Rattle.step.specs.declared.Stepped.{Stepped}
 use Rattle.engine.specs.declared.Lines.{Lines}
-use Rattle.step.specs.Trusted.{held, Stands, answered, unread, Steps}
+use Rattle.step.specs.Trusted.{held_by, Stands, answered, unread, Steps}
 use Rattle.step.proofs.Keeping.{bytes_after}
 use Rattle.engine.specs.Lists.{Lists}
 
 -- so far: the words hold the state after the lines in front of the log, and the piece goes on from there
-pub record Going (w₀ : List ℕ) (u₀ : Used) (p₀ : List (List ℕ)) (index : ℕ) (stream : Bytes) (more : Bool) (log₀ w : List ℕ) (u : Used) (p : List (List ℕ)) (log : Bytes) (at n i : ℕ) : Type 0 where
-  pub stands : Stands w u p
+pub record Going (s₀ : Table) (p₀ : List (List ℕ)) (index : ℕ) (stream : Bytes) (more : Bool) (log₀ : List ℕ) (s : Table) (p : List (List ℕ)) (log : Bytes) (at n i : ℕ) : Type 0 where
+  pub same : s.words.ghost_name ≡ s₀.words.ghost_name
+  pub stands : Stands s.words.now s.used p
   pub size : length log ≡ length log₀
   pub within : at ≤ length stream
   pub fits : n ≤ length log₀
   pub others : log ≡ take n log ++ drop n log₀
-  pub is : after_line (take n log) (next_lines i (held w u p) (drop at stream) (length log₀ - n) more) ≡ next_lines index (held w₀ u₀ p₀) stream (length log₀) more
+  pub is : after_line (take n log) (next_lines i (held_by s p) (drop at stream) (length log₀ - n) more) ≡ next_lines index (held_by s₀ p₀) stream (length log₀) more
 
 abbrev lines_at : ℕ → ℕ → ℕ → Bool → Lines
 lines_at at n i ended = record { read = at; written = n; index = i; ended = ended }
 
-pub going_start : (w₀ : List ℕ) (u₀ : Used) (p₀ : List (List ℕ)) (index : ℕ) (stream : Bytes) (more : Bool) (log₀ : Bytes) → Stands w₀ u₀ p₀ → Going w₀ u₀ p₀ index stream more log₀ w₀ u₀ p₀ log₀ 0 0 index
-going_start w₀ u₀ p₀ index stream more log₀ st =
+pub going_start : (s₀ : Table) (p₀ : List (List ℕ)) (index : ℕ) (stream : Bytes) (more : Bool) (log₀ : Bytes) → Stands s₀.words.now s₀.used p₀ → Going s₀ p₀ index stream more log₀ s₀ p₀ log₀ 0 0 index
+going_start s₀ p₀ index stream more log₀ st =
     let e : length log₀ - 0 ≡ length log₀ = omega arith in
-    record { stands = st; size = refl; within = omega arith; fits = omega arith; others = refl; is = rw e (no_line _) }
+    record { same = refl; stands = st; size = refl; within = omega arith; fits = omega arith; others = refl; is = rw e (no_line _) }
 
-module _ {w₀ : List ℕ} {u₀ : Used} {p₀ : List (List ℕ)} {index : ℕ} {stream : Bytes} {more : Bool} {log₀ w : List ℕ} {u : Used} {p : List (List ℕ)} {log : Bytes} {at n i : ℕ} (g : Going w₀ u₀ p₀ index stream more log₀ w u p log at n i) where
+module _ {s₀ : Table} {p₀ : List (List ℕ)} {index : ℕ} {stream : Bytes} {more : Bool} {log₀ : List ℕ} {s : Table} {p : List (List ℕ)} {log : Bytes} {at n i : ℕ} (g : Going s₀ p₀ index stream more log₀ s p log at n i) where
   -- the loop's end: the piece from here on is nothing but a halt
-  halts : (o : Bool) → next_lines i (held w u p) (drop at stream) (length log₀ - n) more ≡ halt i (held w u p) (drop at stream) o → Lists w₀ u₀ p₀ index stream more log₀ w p log u (lines_at at n i o)
+  halts : (o : Bool) → next_lines i (held_by s p) (drop at stream) (length log₀ - n) more ≡ halt i (held_by s p) (drop at stream) o → Lists s₀ p₀ index stream more log₀ s p log (lines_at at n i o)
   unfolding after_line halt
-  halts o e = record { stands = g.stands; fits = g.fits; within = g.within; others = g.others; is = sym g.is ∙ ap (λ (q : Piece). after_line (take n log) q) e ∙ rw (append-nil (take n log)) refl }
+  halts o e = record { same = g.same; stands = g.stands; fits = g.fits; within = g.within; others = g.others; is = sym g.is ∙ ap (λ (q : Piece). after_line (take n log) q) e ∙ rw (append-nil (take n log)) refl }
 
   -- what the test of a record says
   pub taken_on : {b o : Bool} → ((bytes : Bytes) → length bytes ≡ length stream - at → b ≡ takes_on i bytes (length log - n) more) → b ≡ o → takes_on i (drop at stream) (length log₀ - n) more ≡ o
   taken_on f e = rw (← g.size) (sym (f (drop at stream) (length-drop at stream)) ∙ e)
 
   -- no bytes are left
-  pub going_spent : length stream ≤ at → Lists w₀ u₀ p₀ index stream more log₀ w p log u (lines_at at n i (not more))
+  pub going_spent : length stream ≤ at → Lists s₀ p₀ index stream more log₀ s p log (lines_at at n i (not more))
   going_spent l =
       let e : drop at stream ≡ [] = drop_of_length-le stream l in
-      halts (not more) (rw e (next_spent i (held w u p) (length log₀ - n) more))
+      halts (not more) (rw e (next_spent i (held_by s p) (length log₀ - n) more))
 
   -- the next record is not taken on
-  pub going_stops : at < length stream → takes_on i (drop at stream) (length log₀ - n) more ≡ false → Lists w₀ u₀ p₀ index stream more log₀ w p log u (lines_at at n i false)
+  pub going_stops : at < length stream → takes_on i (drop at stream) (length log₀ - n) more ≡ false → Lists s₀ p₀ index stream more log₀ s p log (lines_at at n i false)
   going_stops l t = halts false (go (drop at stream) t (omega (arith, length-drop at stream)))
     where
-      go : (b : Bytes) → takes_on i b (length log₀ - n) more ≡ false → 0 < length b → next_lines i (held w u p) b (length log₀ - n) more ≡ halt i (held w u p) b false
+      go : (b : Bytes) → takes_on i b (length log₀ - n) more ≡ false → 0 < length b → next_lines i (held_by s p) b (length log₀ - n) more ≡ halt i (held_by s p) b false
       go [] t l = absurd (omega arith)
-      go (x ∷ b) t l = next_stops i (held w u p) (length log₀ - n) more x b t
+      go (x ∷ b) t l = next_stops i (held_by s p) (length log₀ - n) more x b t
 
 -- ---- the next record of a piece, answered by r
 
@@ -122,18 +123,18 @@ takes_room i b room more t =
     let q = and_r (not more || leb max_record (length b)) (leb 8217 room && ltb i 18446744073709551615) t in
     (leb→le 8217 room (test (and_l (leb 8217 room) (ltb i 18446744073709551615) q)), ltb→lt i 18446744073709551615 (test (and_r (leb 8217 room) (ltb i 18446744073709551615) q)))
 
-module _ {w₀ : List ℕ} {u₀ : Used} {p₀ : List (List ℕ)} {index : ℕ} {stream : Bytes} {more : Bool} {log₀ w : List ℕ} {u : Used} {p : List (List ℕ)} {log : Bytes} {at n i : ℕ} (g : Going w₀ u₀ p₀ index stream more log₀ w u p log at n i)
+module _ {s₀ : Table} {p₀ : List (List ℕ)} {index : ℕ} {stream : Bytes} {more : Bool} {log₀ : List ℕ} {s : Table} {p : List (List ℕ)} {log : Bytes} {at n i : ℕ} (g : Going s₀ p₀ index stream more log₀ s p log at n i)
     (is : IsBytes stream) (l : at < length stream) (t : takes_on i (drop at stream) (length log₀ - n) more ≡ true)
-    {w' : List ℕ} {p' : List (List ℕ)} {buf buf' : Bytes} {r : Stepped} (st : Steps false w u p stream at buf w' p' buf' r) where
+    {t' : Table} {p' : List (List ℕ)} {buf buf' : Bytes} {r : Stepped} (st : Steps false s p stream at buf t' p' buf' r) where
   abbrev text : Bytes
   text = line_of i r.number (take r.len buf')
 
   abbrev answer : step.Answer × Bytes
-  answer = (record { number = r.number; payload = take r.len buf'; state = held w' r.used p' }, drop r.next stream)
+  answer = (record { number = r.number; payload = take r.len buf'; state = held_by t' p' }, drop r.next stream)
 
-  answer_is : step_stream (held w u p) (drop at stream) max_buffer ≡ answer
+  answer_is : step_stream (held_by s p) (drop at stream) max_buffer ≡ answer
   unfolding answered unread
-  answer_is = trusted (held w u p) (drop at stream) g.stands.is_sound ∙ ap₂ (λ (x : step.Answer) (y : Bytes). (x, y)) st.is st.rest
+  answer_is = trusted (held_by s p) (drop at stream) g.stands.is_sound ∙ ap₂ (λ (x : step.Answer) (y : Bytes). (x, y)) st.is st.rest
 
   left : 0 < length (drop at stream)
   left = omega (arith, length-drop at stream, l)
@@ -141,7 +142,7 @@ module _ {w₀ : List ℕ} {u₀ : Used} {p₀ : List (List ℕ)} {index : ℕ} 
   pub line_room : n + length text ≤ length log
   unfolding max_line
   line_room =
-      let few : r.number < 100 = ap_lt answer_is (stream_two_digits (held w u p) (drop at stream) max_buffer) in
+      let few : r.number < 100 = ap_lt answer_is (stream_two_digits (held_by s p) (drop at stream) max_buffer) in
       let m = line_size (entry_of i answer) few (omega (arith, length-take r.len buf', st.few)) in
       omega (arith, m, (takes_room i (drop at stream) (length log₀ - n) more t).0, g.size, g.fits)
     where
@@ -152,35 +153,37 @@ module _ {w₀ : List ℕ} {u₀ : Used} {p₀ : List (List ℕ)} {index : ℕ} 
   turned {log'} {n'} q = longer log₀ log n text log' n' g.size (omega (arith, line_room, g.size)) g.others q
 
   -- after this record's line the piece is q
-  piece_is : {log' : Bytes} {n' : ℕ} → Wrote log n text log' n' → (q : Piece) → next_lines i (held w u p) (drop at stream) (length log₀ - n) more ≡ after_line text q → after_line (take n' log') q ≡ next_lines index (held w₀ u₀ p₀) stream (length log₀) more
+  piece_is : {log' : Bytes} {n' : ℕ} → Wrote log n text log' n' → (q : Piece) → next_lines i (held_by s p) (drop at stream) (length log₀ - n) more ≡ after_line text q → after_line (take n' log') q ≡ next_lines index (held_by s₀ p₀) stream (length log₀) more
   piece_is q x e = ap (λ (m : Bytes). after_line m x) (turned q).front ∙ sym (two_lines (take n log) text x) ∙ ap (λ (y : Piece). after_line (take n log) y) (sym e) ∙ g.is
 
   pub going_less : ends_job r.number ≡ false → at < r.next
-  going_less d = omega (arith, one_shorter i (held w u p) 0 more g.stands.is_sound answer (drop at stream) left answer_is d, length-drop at stream, length-drop r.next stream)
+  going_less d = omega (arith, one_shorter i (held_by s p) 0 more g.stands.is_sound answer (drop at stream) left answer_is d, length-drop at stream, length-drop r.next stream)
 
-  pub going_last : {log' : Bytes} {n' : ℕ} → ends_job r.number ≡ true → Wrote log n text log' n' → Lists w₀ u₀ p₀ index stream more log₀ w' p' log' r.used (lines_at r.next n' (i + 1) true)
+  pub going_last : {log' : Bytes} {n' : ℕ} → ends_job r.number ≡ true → Wrote log n text log' n' → Lists s₀ p₀ index stream more log₀ t' p' log' (lines_at r.next n' (i + 1) true)
   unfolding halt after_line
   going_last {log'} {n'} d q =
       let z = turned q in
       let e : i + 1 ≡ suc i = omega arith in
       record {
+        same = st.same ∙ g.same;
         stands = st.stands;
         fits = z.fits;
         within = st.within;
         others = z.others;
-        is = rw e (sym (piece_is q _ (one_last i (held w u p) (length log₀ - n) more g.stands.is_sound answer (drop at stream) left t answer_is d)) ∙ rw (append-nil (take n' log')) refl);
+        is = rw e (sym (piece_is q _ (one_last i (held_by s p) (length log₀ - n) more g.stands.is_sound answer (drop at stream) left t answer_is d)) ∙ rw (append-nil (take n' log')) refl);
       }
 
-  pub going_on : {log' : Bytes} {n' : ℕ} → ends_job r.number ≡ false → Wrote log n text log' n' → Going w₀ u₀ p₀ index stream more log₀ w' r.used p' log' r.next n' (i + 1)
+  pub going_on : {log' : Bytes} {n' : ℕ} → ends_job r.number ≡ false → Wrote log n text log' n' → Going s₀ p₀ index stream more log₀ t' p' log' r.next n' (i + 1)
   going_on {log'} {n'} d q =
       let z = turned q in
       let e : i + 1 ≡ suc i = omega arith in
       let f : length log₀ - n' ≡ length log₀ - n - length text = omega (arith, q.next_is) in
       record {
+        same = st.same ∙ g.same;
         stands = st.stands;
         size = z.size;
         within = st.within;
         fits = z.fits;
         others = z.others;
-        is = rw (e, f) (piece_is q _ (one_goes i (held w u p) (length log₀ - n) more g.stands.is_sound answer (drop at stream) left (bytes_after at stream is) t answer_is d));
+        is = rw (e, f) (piece_is q _ (one_goes i (held_by s p) (length log₀ - n) more g.stands.is_sound answer (drop at stream) left (bytes_after at stream is) t answer_is d));
       }

@@ -18,58 +18,69 @@ use Rattle.pieces.specs.Pieces.{next_lines}
 use Rattle.theorems.proofs.SoundKept.{trusted}
 use Rattle.theorems.proofs.Soundness.{and, le_test}
 use Rattle.table.specs.Encode.{encode}
-use Rattle.table.specs.State.{seen, Declares}
+use Rattle.table.specs.State.{Lay, Declares}
+use Rattle.table.specs.Did.{held as seen_in}
 use Rattle.table.specs.declared.Used.{Used}
+use Rattle.table.specs.declared.state.State.{State as Table}
 use Rattle.sound.specs.Lent.{used_of, structs_of, decode, lent_sound}
 use Rattle.sound.proofs.Tested.{lent_says}
 use Rattle.sound.proofs.Lays.{lent_lay, lent_declares}
 use Rattle.step.specs.declared.Stepped.{Stepped}
 use Rattle.engine.specs.declared.Lines.{Lines}
 use Rattle.engine.specs.Public.{LentAnswer, lent_answer, lent_step, in_front, GivesAnswer, rest_of, LentPiece, lent_piece, lent_lines, no_lines, GivesLines}
-use Rattle.step.specs.Trusted.{held, Stands, answered, unread, Steps}
+use Rattle.step.specs.Trusted.{held, held_by, Stands, answered, unread, Steps}
 use Rattle.engine.specs.Lists.{Lists}
 
 -- ---- from the test on
 
-module _ (w : List ℕ) (p : List (List ℕ)) (h : lent_sound w p ≡ true) (u : Used) (c : u ≡ used_of w) where
-  pub held_lent : held w u p ≡ decode w p
-  unfolding held decode
-  held_lent = rw c refl
+module _ (w : List ℕ) (p : List (List ℕ)) (h : lent_sound w p ≡ true) where
+  pub lent_lays : (u : Used) → u ≡ used_of w → Lay w u
+  lent_lays u c = rw c (lent_lay w p (lent_says w p h))
 
-  pub stands_lent : Stands w u p
-  unfolding held decode
-  stands_lent = let l = lent_says w p h in rw c (record { lay = lent_lay w p l; bytes = l.bytes; is_sound = l.is_sound })
+  -- the state that is made of them
+  module _ (s : Table) (e : s.words.now ≡ w) (c : s.used ≡ used_of w) where
+    pub held_lent : held_by s p ≡ decode w p
+    unfolding held decode
+    held_lent = rw (e, c) refl
+
+    pub stands_lent : Stands s.words.now s.used p
+    unfolding held decode
+    stands_lent = let l = lent_says w p h in rw (e, c) (record { lay = lent_lay w p l; bytes = l.bytes; is_sound = l.is_sound })
 
 pub lent_size : (w : List ℕ) (p : List (List ℕ)) → lent_sound w p ≡ true → length w ≡ 24069
 lent_size w p h = (lent_lay w p (lent_says w p h)).size
 
 -- where a call ends: the counts are written
-module _ (w : List ℕ) (u : Used) (p : List (List ℕ)) (st : Stands w u p) (w' : List ℕ) (f : (ds : List Struct) → Declares w u ds → w' ≡ encode (seen w u ds)) where
-  pub written : w' ≡ encode (held w u p)
+module _ (s : Table) (p : List (List ℕ)) (w' : List ℕ) (f : (ds : List Struct) → Declares s.words.now s.used ds → w' ≡ encode (seen_in s ds)) where
+  pub written : w' ≡ encode (held_by s p)
   unfolding held
-  written = f (structs_of w p u.structs) (lent_declares w p u)
+  written = f (structs_of s.words.now p s.used.structs) (lent_declares s.words.now p s.used)
+
+-- .. or all is as it was
+pub last_is : {w'' w' w : List ℕ} → w' ≡ w → w'' ≡ w' → w'' ≡ w
+last_is e f = f ∙ e
 
 -- ---- one lent record
 
 long : (n : ℕ) (l : List ℕ) → n ≤ length l → length (take n l) ≡ n
 long n l h = length-take n l ∙ omega (arith, h)
 
-module _ (w : List ℕ) (p : List (List ℕ)) (h : lent_sound w p ≡ true) (u : Used) (c : u ≡ used_of w)
-    (bytes buf : Bytes) (k : 4096 ≤ length buf) (w' : List ℕ) (p' : List (List ℕ)) (buf' : Bytes) (r : Stepped)
-    (g : Steps true w u p bytes 0 buf w' p' buf' r) (w'' : List ℕ)
-    (e : (ds : List Struct) → Declares w' r.used ds → w'' ≡ encode (seen w' r.used ds)) where
-  steps : step (decode w p) bytes (length buf) ≡ record { number = r.number; payload = take r.len buf'; state = held w' r.used p' }
+module _ (w : List ℕ) (p : List (List ℕ)) (h : lent_sound w p ≡ true) (s : Table) (n : s.words.now ≡ w) (c : s.used ≡ used_of w)
+    (bytes buf : Bytes) (k : 4096 ≤ length buf) (t : Table) (p' : List (List ℕ)) (buf' : Bytes) (r : Stepped)
+    (g : Steps true s p bytes 0 buf t p' buf' r) (w' : List ℕ)
+    (e : (ds : List Struct) → Declares t.words.now t.used ds → w' ≡ encode (seen_in t ds)) (w'' : List ℕ) (last : w'' ≡ w') where
+  steps : step (decode w p) bytes (length buf) ≡ record { number = r.number; payload = take r.len buf'; state = held_by t p' }
   unfolding step usable answered max_buffer
   steps =
       let t : usable (decode w p) (length buf) ≡ true = and (le_test 4096 (length buf) k) (lent_says w p h).is_sound in
-      ap (λ q. elim q as (λ x. step.Answer) [ true ↦ lent (decode w p) (read_record (decode w p) bytes) | false ↦ step.refusal (decode w p) unsound_state ]) t ∙ (rw (held_lent w p h u c) at g.is)
+      ap (λ q. elim q as (λ x. step.Answer) [ true ↦ lent (decode w p) (read_record (decode w p) bytes) | false ↦ step.refusal (decode w p) unsound_state ]) t ∙ (rw (held_lent w p h s n c) at g.is)
 
   recorded : lent_step w p bytes (length buf) ≡ record { number = r.number; payload = take r.len buf'; words = w''; params = p' }
   unfolding lent_step lent_answer
   recorded =
       ap (λ q. elim q as (λ x. LentAnswer) [ true ↦ lent_answer (step (decode w p) bytes (length buf)) | false ↦ record { number = 15; payload = []; words = w; params = p } ]) h
       ∙ ap lent_answer steps
-      ∙ ap₂ (λ (x : List ℕ) (y : List (List ℕ)). record { number = r.number; payload = take r.len buf'; words = x; params = y }) (sym (written w' r.used p' g.stands w'' e)) (sym g.stands.bytes)
+      ∙ ap₂ (λ (x : List ℕ) (y : List (List ℕ)). record { number = r.number; payload = take r.len buf'; words = x; params = y }) (sym (last ∙ written t p' w' e)) (sym g.stands.bytes)
 
   pub record_gives : length buf' ≡ length buf → GivesAnswer (lent_step w p bytes (length buf)) buf (record { number = r.number; length = r.len }) w'' p' buf'
   unfolding in_front
@@ -105,10 +116,10 @@ unsound_gives w p bytes buf e = rw (lent_step, e) (record { told = refl; words =
 
 -- ---- a job's lines
 
-module _ (w : List ℕ) (p : List (List ℕ)) (h : lent_sound w p ≡ true) (u : Used) (c : u ≡ used_of w) (index : ℕ)
-    (stream : Bytes) (more : Bool) (log : Bytes) (w' : List ℕ) (p' : List (List ℕ)) (log' : Bytes) (u' : Used) (r : Lines)
-    (g : Lists w u p index stream more log w' p' log' u' r) (w'' : List ℕ)
-    (e : (ds : List Struct) → Declares w' u' ds → w'' ≡ encode (seen w' u' ds)) where
+module _ (w : List ℕ) (p : List (List ℕ)) (h : lent_sound w p ≡ true) (s : Table) (n : s.words.now ≡ w) (c : s.used ≡ used_of w) (index : ℕ)
+    (stream : Bytes) (more : Bool) (log : Bytes) (t : Table) (p' : List (List ℕ)) (log' : Bytes) (r : Lines)
+    (g : Lists s p index stream more log t p' log' r) (w' : List ℕ)
+    (e : (ds : List Struct) → Declares t.words.now t.used ds → w' ≡ encode (seen_in t ds)) (w'' : List ℕ) (last : w'' ≡ w') where
   abbrev lines : LentPiece
   lines = lent_lines w p index stream (length log) more
 
@@ -116,8 +127,8 @@ module _ (w : List ℕ) (p : List (List ℕ)) (h : lent_sound w p ≡ true) (u :
   unfolding lent_lines lent_piece
   listed =
       ap (λ q. elim q as (λ x. LentPiece) [ true ↦ lent_piece (next_lines index (decode w p) stream (length log) more) | false ↦ record { number = 15; text = []; words = w; params = p; rest = stream; index = index; ended = true } ]) h
-      ∙ ap lent_piece (rw (held_lent w p h u c) at g.is)
-      ∙ ap₂ (λ (x : List ℕ) (y : List (List ℕ)). record { number = 0; text = take r.written log'; words = x; params = y; rest = drop r.read stream; index = r.index; ended = r.ended }) (sym (written w' u' p' g.stands w'' e)) (sym g.stands.bytes)
+      ∙ ap lent_piece (rw (held_lent w p h s n c) at g.is)
+      ∙ ap₂ (λ (x : List ℕ) (y : List (List ℕ)). record { number = 0; text = take r.written log'; words = x; params = y; rest = drop r.read stream; index = r.index; ended = r.ended }) (sym (last ∙ written t p' w' e)) (sym g.stands.bytes)
 
   pub job_gives : length log' ≡ length log → GivesLines lines stream log 0 r w'' p' log'
   unfolding in_front
@@ -171,12 +182,12 @@ pub unsound_rest : (w : List ℕ) (p : List (List ℕ)) (stream : Bytes) → len
 unfolding rest_of
 unsound_rest w p stream h = rw (h, rest_of) refl
 
-pub sound_rest : (w : List ℕ) (p : List (List ℕ)) → lent_sound w p ≡ true → (u : Used) → u ≡ used_of w → (stream rest : Bytes) → unread (held w u p) stream ≡ rest → rest ≡ rest_of w p stream
+pub sound_rest : (w : List ℕ) (p : List (List ℕ)) → lent_sound w p ≡ true → (s : Table) → s.words.now ≡ w → s.used ≡ used_of w → (stream rest : Bytes) → unread (held_by s p) stream ≡ rest → rest ≡ rest_of w p stream
 unfolding rest_of unread
-sound_rest w p h u c stream rest e = sym (
+sound_rest w p h s n c stream rest e = sym (
     ap {B = Bytes} (λ q. elim q as (λ x. Bytes) [ true ↦ (step_stream (decode w p) stream max_buffer).1 | false ↦ stream ]) h
     ∙ ap (λ (x : step.Answer × Bytes). x.1) (trusted (decode w p) stream (lent_says w p h).is_sound)
-    ∙ (rw (held_lent w p h u c) at e))
+    ∙ (rw (held_lent w p h s n c) at e))
 
 -- a part to the end is what is left
 pub rest_all : (s : List ℕ) (n : ℕ) → take (length s - n) (drop n s) ≡ drop n s

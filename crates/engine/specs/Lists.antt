@@ -2,13 +2,14 @@
 use Rattle.std.specs.Prelude.{◌≡◌, Bool, List, ◌++◌, ℕ, ◌≤◌, length, take, drop}
 use Rattle.definition.specs.Write.{Bytes}
 use Rattle.pieces.specs.Pieces.{next_lines}
-use Rattle.table.specs.declared.Used.{Used}
-use Rattle.step.specs.Trusted.{held, Stands}
+use Rattle.table.specs.declared.state.State.{State}
+use Rattle.step.specs.Trusted.{held_by, StandsIn}
 use Rattle.engine.specs.declared.Lines.{Lines}
 
-pub record Lists (w : List ℕ) (u : Used) (params : List (List ℕ)) (index : ℕ) (stream : Bytes) (more : Bool) (log : Bytes) (w' : List ℕ) (params' : List (List ℕ)) (log' : Bytes) (u' : Used) (r : Lines) : Type 0 where
-  pub stands : Stands w' u' params'
+pub record Lists (s : State) (params : List (List ℕ)) (index : ℕ) (stream : Bytes) (more : Bool) (log : Bytes) (t : State) (params' : List (List ℕ)) (log' : Bytes) (r : Lines) : Type 0 where
+  pub same : t.words.ghost_name ≡ s.words.ghost_name
+  pub stands : StandsIn t params'
   pub fits : r.written ≤ length log
   pub within : r.read ≤ length stream
   pub others : log' ≡ take r.written log' ++ drop r.written log
-  pub is : next_lines index (held w u params) stream (length log) more ≡ record { text = take r.written log'; state = held w' u' params'; rest = drop r.read stream; index = r.index; ended = r.ended }
+  pub is : next_lines index (held_by s params) stream (length log) more ≡ record { text = take r.written log'; state = held_by t params'; rest = drop r.read stream; index = r.index; ended = r.ended }

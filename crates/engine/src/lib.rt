@@ -5,14 +5,15 @@ ghost use Rattle.std.specs.Prelude.{◌≡◌, true, false, ◌&&◌, ◌≤◌,
 ghost use Rattle.sound.specs.Lent.{lent_sound};
 ghost use Rattle.engine.specs.Public.{lent_step, answer_of, GivesAnswer, rest_of, lent_lines, fresh_lines, number_of, no_lines, lines_of, GivesLines};
 ghost use Rattle.engine.specs.Lists.{Lists};
-ghost use Rattle.step.specs.Trusted.{Stands};
+ghost use Rattle.step.specs.Trusted.{StandsIn};
 
 use limits::{MAX_BUFFER, ends_job, fits, takes_on};
 use log_lines::write_line;
 use snapshot::SAVED;
 use sound::{sound_state, used_of};
 use step::{rest_trusted, step_trusted};
-use table::{Used, WORDS};
+use table::WORDS;
+use table::state::State;
 
 // The number of an answer, and how long the payload in front of the buffer is.
 #[derive(Clone, Copy)]
@@ -21,7 +22,8 @@ pub struct Answered {
     pub length: u32,
 }
 
-// How much of a stream was read and how much of a log written, the next record's number, and whether the job ended.
+// How much of a stream was read and how much of a log written, the next record's number, and whether the job ended: a flag, since the others
+// are said either way, as C's pointers take them.
 #[derive(Clone, Copy)]
 pub struct Lines {
     pub read: usize,
@@ -72,10 +74,11 @@ fn record_trusted(
     requires { (lent_sound state.old params.old ≡ true) × (4096 ≤ size answer.old) }
     ensures { GivesAnswer (lent_step state.old params.old «record».now (size answer.old)) answer.old result state.new params.new answer.new }
 {
-    let u = used_of(state);
+    let used = used_of(state);
+    let mut st = State::new(state, used);
     let mut saved = [0u32; SAVED];
-    let r = step_trusted(state, u, params, record, 0, true, 0, &mut saved, answer);
-    table::write_used(state, r.used);
+    let r = step_trusted(&mut st, params, record, 0, true, 0, &mut saved, answer);
+    st.write_used();
     Answered {
         number: r.number,
         length: r.len as u32,
@@ -101,22 +104,20 @@ pub fn lent_record(
 
 // ---- a job
 
-// The lines of as many records as are at hand and have room, on a sound state; the rows then in use.
+// The lines of as many records as are at hand and have room, on a sound state.
 fn lines_trusted(
-    w: &mut [u32],
-    u: Used,
+    st: &mut State<'_>,
     params: &mut [[u8; 8]; 256],
     stream: &[u8],
     more: bool,
     log: &mut [u8],
     index: u64,
-) -> (Used, Lines)
-    requires { Stands w.old u params.old }
-    ensures { Lists w.old u params.old index stream.now more log.old w.new params.new log.new result.0 result.1 }
+) -> Lines
+    requires { StandsIn st.old params.old }
+    ensures { Lists st.old params.old index stream.now more log.old st.new params.new log.new result }
 {
     let mut saved = [0u32; SAVED];
     let mut buf = [0u8; MAX_BUFFER];
-    let mut used = u;
     let mut rows: u32 = 0;
     let mut lines = Lines {
         read: 0,
@@ -129,12 +130,11 @@ fn lines_trusted(
         let left = stream.len() - lines.read;
         let room = log.len() - lines.written;
         if !takes_on(lines.index, left, room, more) {
-            return (used, lines);
+            return lines;
         }
         let r = step_trusted(
-            w, used, params, stream, lines.read, false, rows, &mut saved, &mut buf,
+            st, params, stream, lines.read, false, rows, &mut saved, &mut buf,
         );
-        used = r.used;
         rows = r.rows;
         let payload = &buf[..r.len];
         lines = Lines {
@@ -144,11 +144,11 @@ fn lines_trusted(
             ended: ends_job(r.number),
         };
         if lines.ended {
-            return (used, lines);
+            return lines;
         }
     }
     lines.ended = !more;
-    (used, lines)
+    lines
 }
 
 // .. and all that they leave.
@@ -163,13 +163,14 @@ fn job_trusted(
     requires { lent_sound state.old params.old ≡ true }
     ensures { GivesLines (lent_lines state.old params.old index stream.now (size log.old) more) stream.now log.old 0 result state.new params.new log.new }
 {
-    let u = used_of(state);
-    let (used, lines) = lines_trusted(state, u, params, stream, more, log, index);
-    table::write_used(state, used);
+    let used = used_of(state);
+    let mut st = State::new(state, used);
+    let lines = lines_trusted(&mut st, params, stream, more, log, index);
+    st.write_used();
     lines
 }
 
-// A job's next lines: those of as many records as the bytes at hand hold whole and the log surely has room for. `more`: further bytes follow.
+// A job's next lines: those of as many records as the bytes at hand hold whole and the log surely has room for. `more`: further bytes follow, a flag as C gives it.
 // The state is tested once. `index` is the next record's number.
 // Refused: the first record right and 0 after (echoes_0), 0 for every record (zero_for_all).
 pub fn job(
@@ -212,9 +213,10 @@ fn split_trusted(state: &mut [u32], params: &[[u8; 8]; 256], stream: &[u8]) -> u
     requires { lent_sound state.old params.now ≡ true }
     ensures { (state.new ≡ state.old) × ((result ≤ size stream.now) × (drop result stream.now ≡ rest_of state.old params.now stream.now)) }
 {
-    let u = used_of(state);
+    let used = used_of(state);
+    let mut st = State::new(state, used);
     let mut saved = [0u32; SAVED];
-    rest_trusted(state, u, params, stream, &mut saved)
+    rest_trusted(&mut st, params, stream, &mut saved)
 }
 
 // How many bytes the record at the head of the stream has, none on 5, 6, 15 and 18; the words are as they were.

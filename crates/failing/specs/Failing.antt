@@ -5,8 +5,9 @@ use Rattle.definition.specs.Types.{State, Struct, TypeValue}
 use Rattle.definition.specs.Store.{spanned}
 use Rattle.definition.specs.Constraints.{is_integer, is_base, is_single, failure, ability_failure, solve}
 use Rattle.definition.specs.Write.{Bytes}
-use Rattle.table.specs.State.{seen, FoundIn}
-use Rattle.table.specs.declared.Used.{Used}
+use Rattle.table.specs.State.{FoundIn}
+use Rattle.table.specs.Did.{held}
+use Rattle.table.specs.declared.state.State as table
 use Rattle.failing.specs.declared.Wanted.{Wanted}
 use Rattle.failing.specs.declared.Wanted.TheVariants.{Integer, Base, Single}
 use Rattle.failing.specs.declared.Ask.{Ask}
@@ -85,7 +86,7 @@ abbrev pub ReportIn : ℕ → Option Failing → Type 0
 ReportIn n None = Unit {0}
 ReportIn n (Some f) = FailingIn n f
 
--- the constraint fails so, whatever the declarations are
-pub record Fails (w : List ℕ) (u : Used) (r : Option Failing) (c : d.Constraint) : Type 0 where
-  pub is : (ds : List Struct) → report r (seen w u ds) ≡ plain (seen w u ds) c
-  pub inside : ReportIn u.nodes r
+-- the constraint fails so in the state s, whatever the declarations are
+pub record Fails (s : table.State) (r : Option Failing) (c : d.Constraint) : Type 0 where
+  pub is : (ds : List Struct) → report r (held s ds) ≡ plain (held s ds) c
+  pub inside : ReportIn s.used.nodes r

@@ -5,14 +5,16 @@
 ghost use Rattle.std.specs.Prelude.{◌≡◌, ◌≤◌, ℕ, ◌+◌, ◌<◌, length, List, ◌∷◌};
 ghost use Rattle.definition.specs.Types as d;
 ghost use Rattle.definition.specs.Constraints.{is_base, is_single, ability_failure};
-ghost use Rattle.table.specs.State.{constraint_of, shape_of, Lay, view, seen, FoundIn};
+ghost use Rattle.table.specs.State.{constraint_of, shape_of, FoundIn};
+ghost use Rattle.table.specs.Did.{held, tables};
 ghost use Rattle.definition.specs.Store.{with_args, spanned};
 ghost use Rattle.failing.specs.Failing.{code_of, good, Asks, why, failing, FailingIn};
 ghost use Rattle.writer.specs.Bytes.{AllBytes, capped, Wrote};
 ghost use Rattle.definition.specs.Write.{u32 as bytes-u32, write};
 
 use names::TypeName;
-use table::{Constraint, Shape, Used};
+use table::state::State;
+use table::{Constraint, Shape};
 use writer::{put_bytes, put_tag, size_type, write_head, write_type};
 
 // ---- what a constraint asks
@@ -108,30 +110,26 @@ fn why_size(place: Option<u32>) -> u32
 }
 
 // How many bytes the type t has and `around` others, if no more than `room`; else one more than `room`.
-fn size_around(w: &[u32], u: Used, t: u32, around: u32, room: u32) -> u32
-    requires { Lay w.now u × ((t < u.nodes) × (room ≤ 4096)) }
-    ensures { (ds : List d.Struct) → result ≡ capped room (around + length (write (seen w.now u ds) t)) }
+fn size_around(st: &State<'_>, t: u32, around: u32, room: u32) -> u32
+    requires { (t < st.now.used.nodes) × (room ≤ 4096) }
+    ensures { (ds : List d.Struct) → result ≡ capped room (around + length (write (held st.now ds) t)) }
 {
     if room < around {
-        return room + 1;
+        room + 1
+    } else {
+        around + size_type(st, t, room - around)
     }
-    around + size_type(w, u, t, room - around)
 }
 
 // How many bytes a failure has, if no more than `room`; else one more than `room`.
-pub fn size_failing(w: &[u32], u: Used, f: Failing, room: u32) -> u32
-    requires { Lay w.now u × (FailingIn u.nodes f × (room ≤ 4096)) }
-    ensures { (ds : List d.Struct) → result ≡ capped room (length (failing f (seen w.now u ds))) }
+pub fn size_failing(st: &State<'_>, f: Failing, room: u32) -> u32
+    requires { FailingIn st.now.used.nodes f × (room ≤ 4096) }
+    ensures { (ds : List d.Struct) → result ≡ capped room (length (failing f (held st.now ds))) }
 {
     match f {
-        Failing::Node(_, _, t) => size_around(w, u, t, 5, room),
-        Failing::Anything(_, _, _) => {
-            if room < 10 {
-                return room + 1;
-            }
-            10
-        }
-        Failing::Lacks(_, _, t, place) => size_around(w, u, t, 6 + why_size(place), room),
+        Failing::Node(_, _, t) => size_around(st, t, 5, room),
+        Failing::Anything(_, _, _) => if room < 10 { room + 1 } else { 10 },
+        Failing::Lacks(_, _, t, place) => size_around(st, t, 6 + why_size(place), room),
     }
 }
 
@@ -155,8 +153,7 @@ fn put_why(buf: &mut [u8], at: usize, place: Option<u32>) -> usize
 
 // The failure for an ability: code, location, ability, type and rule.
 fn write_lacks(
-    w: &[u32],
-    u: Used,
+    st: &State<'_>,
     loc: u32,
     ability: u8,
     t: u32,
@@ -164,32 +161,32 @@ fn write_lacks(
     buf: &mut [u8],
     at: usize,
 ) -> usize
-    requires lay { Lay w.now u × ((t < u.nodes) × (FoundIn 8 place × AllBytes (view w.now u))) }
-    requires fits { (ds : List d.Struct) → at + length (ability_failure (seen w.now u ds) loc ability (spanned (seen w.now u ds) t) (why place)) ≤ length buf.old }
-    ensures { (ds : List d.Struct) → Wrote buf.old at (ability_failure (seen w.now u ds) loc ability (spanned (seen w.now u ds) t) (why place)) buf.new result }
+    requires inside { (t < st.now.used.nodes) × (FoundIn 8 place × AllBytes (tables st.now)) }
+    requires fits { (ds : List d.Struct) → at + length (ability_failure (held st.now ds) loc ability (spanned (held st.now ds) t) (why place)) ≤ length buf.old }
+    ensures { (ds : List d.Struct) → Wrote buf.old at (ability_failure (held st.now ds) loc ability (spanned (held st.now ds) t) (why place)) buf.new result }
 {
     let head = put_tag(buf, at, 4, loc);
     let next = put_bytes(buf, head, &[ability]);
-    let end = write_type(w, u, t, buf, next);
+    let end = write_type(st, t, buf, next);
     put_why(buf, end, place)
 }
 
-pub fn write_failing(w: &[u32], u: Used, f: Failing, buf: &mut [u8], at: usize) -> usize
-    requires lay { Lay w.now u × (FailingIn u.nodes f × AllBytes (view w.now u)) }
-    requires fits { (ds : List d.Struct) → at + length (failing f (seen w.now u ds)) ≤ length buf.old }
-    ensures { (ds : List d.Struct) → Wrote buf.old at (failing f (seen w.now u ds)) buf.new result }
+pub fn write_failing(st: &State<'_>, f: Failing, buf: &mut [u8], at: usize) -> usize
+    requires inside { FailingIn st.now.used.nodes f × AllBytes (tables st.now) }
+    requires fits { (ds : List d.Struct) → at + length (failing f (held st.now ds)) ≤ length buf.old }
+    ensures { (ds : List d.Struct) → Wrote buf.old at (failing f (held st.now ds)) buf.new result }
 {
     match f {
         Failing::Node(what, loc, t) => {
             let next = put_code(buf, at, what, loc);
-            write_type(w, u, t, buf, next)
+            write_type(st, t, buf, next)
         }
         Failing::Anything(what, loc, l) => {
             let next = put_code(buf, at, what, loc);
             write_head(l, Shape::Anything, buf, next)
         }
         Failing::Lacks(loc, ability, t, place) => {
-            write_lacks(w, u, loc, ability, t, place, buf, at)
+            write_lacks(st, loc, ability, t, place, buf, at)
         }
     }
 }

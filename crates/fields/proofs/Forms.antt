@@ -1,13 +1,13 @@
 -- The forms of a record's fields in the words: one type after numbers, two types, none. Assumes nothing.
 use mathlib.Core.Path.{◌≡◌, refl, sym, ap, ◌∙◌}
-use mathlib.Core.Bool.{Bool, true, false}
+use mathlib.Core.Bool.{Bool, false}
 use mathlib.Core.List.{List}
-use Prim.Native.Nat.{ℕ, ◌+◌, ◌≤◌, ◌<◌}
+use Prim.Native.Nat.{ℕ, ◌≤◌, ◌<◌}
 use native.Mathlib.Omega.{arith}
 use Rattle.std.specs.Prelude as std
 use Rattle.std.specs.Prelude.{Option, Some, None, Ok, Err, is_none, unwrap_or}
+use Rattle.std.specs.Option.{option_map}
 use Rattle.definition.specs.Types.{State, Struct, Result, ok, ◌>>=◌}
-use Rattle.definition.specs.Store.{taken}
 use Rattle.definition.specs.Write.{Bytes}
 use Rattle.definition.specs.Reader as rd
 use Rattle.definition.specs.Reader.{Read, give, go_on, read_u32, read_one, read_two, name_below}
@@ -16,8 +16,9 @@ use Rattle.definition.specs.Build.{build}
 use Rattle.definition.specs.Step.{numeric_constraint}
 use Rattle.definition.specs.Record as d
 use Rattle.definition.specs.Record.{Record}
-use Rattle.table.specs.State.{Lay, Declares, view, seen}
-use Rattle.table.specs.declared.Used.{Used}
+use Rattle.table.specs.State.{Declares}
+use Rattle.table.specs.Did.{held, tables}
+use Rattle.table.specs.declared.state.State.{State as Table}
 use Rattle.table.proofs.Steps.{grown_refl, grown_trans}
 use Rattle.table.proofs.Grown.{nodes_grow}
 use Rattle.constraints.specs.Solve.{kind_of}
@@ -26,7 +27,7 @@ use Rattle.cursor.specs.Words.{refusal}
 use Rattle.cursor.specs.declared.ReadError.{ReadError}
 use Rattle.heads.specs.Fields.{Knows}
 use Rattle.heads.proofs.Heads.{declares_self}
-use Rattle.reader.specs.Taken.{Placed, placed, stopped, place_read, part_of, read_with, PlacedSo, Takes}
+use Rattle.reader.specs.Taken.{placed, place_read, part_of, read_with, PlacedSo, Takes}
 use Rattle.reader.proofs.Parts.{never, at_open}
 use Rattle.reader.proofs.Loop.{declares_kept, knowing, knows, code}
 use Rattle.marks.specs.declared.LocMark.{LocMark}
@@ -70,58 +71,55 @@ loc_type_shaped SC loc t = refl
 -- ---- what was read and placed
 
 -- a node was placed: space had not ended before
-pub was_open : {w : List ℕ} {u : Used} {known : ℕ} {over : Bool} {m : State → Read Tree} {w' : List ℕ} {u' : Used} {l : Bytes} {t : ℕ} → Takes w u known over m w' u' l (Ok (Some t)) → over ≡ false
-was_open {w} {u} {known} {over} k =
-    let ds = (view w u).structs in
-    at_open over _ _ _ _ _ (k.is ds (knowing known ds) (declares_self w u) (knows known ds))
+pub was_open : {st : Table} {known : ℕ} {over : Bool} {m : State → Read Tree} {st' : Table} {l : Bytes} {t : ℕ} → Takes st known over m st' l (Ok (Some t)) → over ≡ false
+was_open {st} {known} {over} k =
+    let ds = (tables st).structs in
+    at_open over _ _ _ _ _ (k.is ds (knowing known ds) (declares_self st.words.now st.used) (knows known ds))
 
 -- ---- what m reads, said otherwise
 
-pub fields_is : {w : List ℕ} {u : Used} {known : ℕ} {m m' : State → Read Record} {w' : List ℕ} {u' : Used} {l : Bytes} {r : std.Result (Option What) ReadError}
-    → ((ds : List Struct) (s : State) → Declares w u ds → Knows s known ds → m s ≡ m' s) → FieldsAre w u known m w' u' l r → FieldsAre w u known m' w' u' l r
-fields_is {w} {u} e t =
+pub fields_is : {st : Table} {known : ℕ} {m m' : State → Read Record} {st' : Table} {l : Bytes} {r : std.Result (Option What) ReadError}
+    → ((ds : List Struct) (s : State) → Declares st.words.now st.used ds → Knows s known ds → m s ≡ m' s) → FieldsAre st known m st' l r → FieldsAre st known m' st' l r
+fields_is {st} e t =
     record {
-      lay = t.lay;
+      same = t.same;
       grown = t.grown;
       structs = t.structs;
       inside = t.inside;
-      is = λ ds s d k. t.is ds s d k ∙ ap (λ (x : Read Record). place_read false place_record x (seen w u ds)) (e ds s d k);
+      is = λ ds s d k. t.is ds s d k ∙ ap (λ (x : Read Record). place_read false place_record x (held st ds)) (e ds s d k);
     }
 
 -- nothing was written
-pub fields_none : {w : List ℕ} {u : Used} {known : ℕ} {m : State → Read Record} {l : Bytes} {r : std.Result (Option What) ReadError} → Lay w u → PlacedSo r (WhatIn u.nodes)
-    → ((s s' : State) (ds : List Struct) → Knows s known ds → fields_as r s' l ≡ place_read false place_record (m s) s') → FieldsAre w u known m w u l r
-fields_none {w} {u} h i f = record { lay = h; grown = grown_refl (view w u); structs = refl; inside = i; is = λ ds s d k. f s (seen w u ds) ds k }
+pub fields_none : {st : Table} {known : ℕ} {m : State → Read Record} {l : Bytes} {r : std.Result (Option What) ReadError} → PlacedSo r (WhatIn st.used.nodes)
+    → ((s s' : State) (ds : List Struct) → Knows s known ds → fields_as r s' l ≡ place_read false place_record (m s) s') → FieldsAre st known m st l r
+fields_none {st} i f = record { same = refl; grown = grown_refl (tables st); structs = refl; inside = i; is = λ ds s d k. f s (held st ds) ds k }
 
 -- 5, 6 or 18 in the numbers
-pub unread_is : {w : List ℕ} {u : Used} {known : ℕ} {m : State → Read Record} {l : Bytes} {e : ReadError} → Lay w u → ((s : State) (ds : List Struct) → Knows s known ds → rd.not_read (refusal e) ≡ m s)
-    → FieldsAre w u known m w u l (Err e)
+pub unread_is : {st : Table} {known : ℕ} {m : State → Read Record} {l : Bytes} {e : ReadError} → ((s : State) (ds : List Struct) → Knows s known ds → rd.not_read (refusal e) ≡ m s)
+    → FieldsAre st known m st l (Err e)
 unfolding place_read
-unread_is h f = fields_none h tt (λ s s' ds k. ap (λ (x : Read Record). place_read false place_record x s') (f s ds k))
+unread_is f = fields_none tt (λ s s' ds k. ap (λ (x : Read Record). place_read false place_record x s') (f s ds k))
 
 -- .. in a type
-pub type_unread : {w : List ℕ} {u : Used} {known : ℕ} {over : Bool} {x : State → Read Tree} {w' : List ℕ} {u' : Used} {l : Bytes} {e : ReadError} {m : State → Read Record}
-    → Takes w u known over x w' u' l (Err e) → ((s : State) (ds : List Struct) → Knows s known ds → x s ≡ rd.not_read (refusal e) → rd.not_read (refusal e) ≡ m s) → FieldsAre w u known m w' u' l (Err e)
+pub type_unread : {st : Table} {known : ℕ} {over : Bool} {x : State → Read Tree} {st' : Table} {l : Bytes} {e : ReadError} {m : State → Read Record}
+    → Takes st known over x st' l (Err e) → ((s : State) (ds : List Struct) → Knows s known ds → x s ≡ rd.not_read (refusal e) → rd.not_read (refusal e) ≡ m s) → FieldsAre st known m st' l (Err e)
 unfolding place_read
-type_unread {w} {u} {over = over} {x} {e = e} t f =
+type_unread {st} {over = over} {x} {e = e} t f =
     record {
-      lay = t.lay;
+      same = t.same;
       grown = t.grown;
       structs = t.structs;
       inside = tt;
-      is = λ ds s d k. ap (λ (y : Read Record). place_read false place_record y (seen w u ds)) (f s ds k (stopped_is (x s) over (seen w u ds) (refusal e) (t.is ds s d k)));
+      is = λ ds s d k. ap (λ (y : Read Record). place_read false place_record y (held st ds)) (f s ds k (stopped_is (x s) over (held st ds) (refusal e) (t.is ds s d k)));
     }
 
--- what the code makes of the last type's node
-abbrev pub made : (ℕ → What) → Option ℕ → Option What
-made mk (Some t) = Some (mk t)
-made mk None = None
+-- ---- what the code makes of the last type's node
 
-pub made_with : (o : Option ℕ) (mk : ℕ → What) (f : ℕ → Noded) (s : State) (l : Bytes) → ((t : ℕ) → noded (mk t) ≡ f t) → fields_as (Ok (made mk o)) s l ≡ read_with (Ok o) f s l
+pub made_with : (o : Option ℕ) (mk : ℕ → What) (f : ℕ → Noded) (s : State) (l : Bytes) → ((t : ℕ) → noded (mk t) ≡ f t) → fields_as (Ok (option_map mk o)) s l ≡ read_with (Ok o) f s l
 made_with (Some t) mk f s l e = ap (λ (y : Noded). placed (ok (s, y)) l) (e t)
 made_with None mk f s l e = refl
 
-pub made_so : (o : Option ℕ) (n : ℕ) (mk : ℕ → What) → PlacedSo (Ok o) (λ t. t < n) → ((t : ℕ) → o ≡ Some t → t < n → WhatIn n (mk t)) → PlacedSo (Ok (made mk o)) (WhatIn n)
+pub made_so : (o : Option ℕ) (n : ℕ) (mk : ℕ → What) → PlacedSo (Ok o) (λ t. t < n) → ((t : ℕ) → o ≡ Some t → t < n → WhatIn n (mk t)) → PlacedSo (Ok (option_map mk o)) (WhatIn n)
 made_so (Some t) n mk i f = f t refl i
 made_so None n mk i f = tt
 
@@ -134,39 +132,39 @@ pub record One (mk : ℕ → What) (make : Tree → Record) : Type 0 where
   pub shows : (t : ℕ) → noded (mk t) ≡ nodes t
   pub inside : (n t : ℕ) → t < n → WhatIn n (mk t)
 
-pub one_is : {w : List ℕ} {u : Used} {known : ℕ} (l₀ : Bytes) {w' : List ℕ} {u' : Used} {l : Bytes} {o : Option ℕ} {mk : ℕ → What} {make : Tree → Record} → One mk make
-    → Takes w u known false (λ s. read_nested 64 s l₀) w' u' l (Ok o) → FieldsAre w u known (λ s. read_one make (read_type s) l₀) w' u' l (Ok (made mk o))
+pub one_is : {st : Table} {known : ℕ} (l₀ : Bytes) {st' : Table} {l : Bytes} {o : Option ℕ} {mk : ℕ → What} {make : Tree → Record} → One mk make
+    → Takes st known false (λ s. read_nested 64 s l₀) st' l (Ok o) → FieldsAre st known (λ s. read_one make (read_type s) l₀) st' l (Ok (option_map mk o))
 unfolding read_one read_type rd.◌>>=◌
-one_is {w} {u} l₀ {w'} {u'} {l} {o} {mk} {make} f t =
+one_is {st} l₀ {st'} {l} {o} {mk} {make} f t =
     record {
-      lay = t.lay;
+      same = t.same;
       grown = t.grown;
       structs = t.structs;
-      inside = made_so o u'.nodes mk t.inside (λ x e i. f.inside u'.nodes x i);
-      is = λ ds s d k. made_with o mk f.nodes (seen w' u' ds) l f.shows ∙ last_type place_record make f.nodes f.places (Ok o) false _ (seen w u ds) _ _ (t.is ds s d k);
+      inside = made_so o st'.used.nodes mk t.inside (λ x e i. f.inside st'.used.nodes x i);
+      is = λ ds s d k. made_with o mk f.nodes (held st' ds) l f.shows ∙ last_type place_record make f.nodes f.places (Ok o) false _ (held st ds) _ _ (t.is ds s d k);
     }
 
 -- ---- one type, counted
 
-pub rm_is : {w : List ℕ} {u : Used} {known : ℕ} (l₀ : Bytes) {l : Bytes} {o : Option Sums} → Lay w u → Counts w u known false (λ s. read_nested 64 s l₀) l (Ok o)
-    → FieldsAre w u known (λ s. read_one d.RM (read_type s) l₀) w u l (Ok (Some (q.Add (a.RM o))))
+pub rm_is : {st : Table} {known : ℕ} (l₀ : Bytes) {l : Bytes} {o : Option Sums} → Counts st known false (λ s. read_nested 64 s l₀) l (Ok o)
+    → FieldsAre st known (λ s. read_one d.RM (read_type s) l₀) st l (Ok (Some (q.Add (a.RM o))))
 unfolding place_read place_record read_one rd.◌>>=◌ go_on give read_type as_argument
-rm_is {w} {u} l₀ h c =
+rm_is {st} l₀ c =
     record {
-      lay = h;
-      grown = grown_refl (view w u);
+      same = refl;
+      grown = grown_refl (tables st);
       structs = refl;
       inside = tt;
       is = λ ds s d k. let t = c.is ds s d k in rw (t.reads, t.counts) refl;
     }
 
-pub rm_unread : {w : List ℕ} {u : Used} {known : ℕ} (l₀ : Bytes) {l : Bytes} {e : ReadError} → Lay w u → Counts w u known false (λ s. read_nested 64 s l₀) l (Err e)
-    → FieldsAre w u known (λ s. read_one d.RM (read_type s) l₀) w u l (Err e)
+pub rm_unread : {st : Table} {known : ℕ} (l₀ : Bytes) {l : Bytes} {e : ReadError} → Counts st known false (λ s. read_nested 64 s l₀) l (Err e)
+    → FieldsAre st known (λ s. read_one d.RM (read_type s) l₀) st l (Err e)
 unfolding place_read read_one rd.◌>>=◌ go_on read_type
-rm_unread {w} {u} l₀ h c =
+rm_unread {st} l₀ c =
     record {
-      lay = h;
-      grown = grown_refl (view w u);
+      same = refl;
+      grown = grown_refl (tables st);
       structs = refl;
       inside = tt;
       is = λ ds s d k. rw (c.is ds s d k) refl;
@@ -201,50 +199,50 @@ module _ (m : TwoMark) where
   abbrev pub both_made : ℕ → ℕ → What
   both_made lhs rhs = q.Bind (c.Two m lhs rhs)
 
-module _ {w : List ℕ} {u : Used} {known : ℕ} (l₀ : Bytes) {w₁ : List ℕ} {u₁ : Used} {l₁ : Bytes} {o : Option ℕ} (m : TwoMark) (t : Takes w u known false (λ s. read_nested 64 s l₀) w₁ u₁ l₁ (Ok o)) where
-  pub two_is : {w₂ : List ℕ} {u₂ : Used} {l : Bytes} {p : Option ℕ} → Takes w₁ u₁ known (is_none o) (λ s. read_nested 64 s l₁) w₂ u₂ l (Ok p)
-      → FieldsAre w u known (λ s. read_two (two_record m) (read_type s) (read_type s) l₀) w₂ u₂ l (Ok (made (both_made m (unwrap_or o 0)) p))
+module _ {st : Table} {known : ℕ} (l₀ : Bytes) {st₁ : Table} {l₁ : Bytes} {o : Option ℕ} (m : TwoMark) (t : Takes st known false (λ s. read_nested 64 s l₀) st₁ l₁ (Ok o)) where
+  pub two_is : {st₂ : Table} {l : Bytes} {p : Option ℕ} → Takes st₁ known (is_none o) (λ s. read_nested 64 s l₁) st₂ l (Ok p)
+      → FieldsAre st known (λ s. read_two (two_record m) (read_type s) (read_type s) l₀) st₂ l (Ok (option_map (both_made m (unwrap_or o 0)) p))
   unfolding read_two read_type rd.◌>>=◌
-  two_is {w₂} {u₂} {l} {p} t' =
+  two_is {st₂} {l} {p} t' =
       record {
-        lay = t'.lay;
+        same = t'.same ∙ t.same;
         grown = grown_trans _ _ _ t.grown t'.grown;
         structs = t'.structs ∙ t.structs;
-        inside = made_so p u₂.nodes (both_made m (unwrap_or o 0)) t'.inside (λ x f i. (first_in o u₁.nodes u₂.nodes (nodes_grow w₁ u₁ w₂ u₂ t'.grown) (was_open (rw f at t')) t.inside, i));
+        inside = made_so p st₂.used.nodes (both_made m (unwrap_or o 0)) t'.inside (λ x f i. (first_in o st₁.used.nodes st₂.used.nodes (nodes_grow _ _ _ _ t'.grown) (was_open (rw f at t')) t.inside, i));
         is = λ ds s d k.
-            made_with p (both_made m (unwrap_or o 0)) (nodes m (unwrap_or o 0)) (seen w₂ u₂ ds) l (λ t. refl)
-            ∙ alone m (unwrap_or o 0) p _ (read_nested 64 s l₁) (seen w₁ u₁ ds) _ _ (t'.is ds s (declares_kept w u w₁ u₁ ds t.structs d) k)
-            ∙ sym (first_type place_record (two_record m) (second m) (places m) (read_nested 64 s) o false _ (seen w u ds) (seen w₁ u₁ ds) _ (t.is ds s d k));
+            made_with p (both_made m (unwrap_or o 0)) (nodes m (unwrap_or o 0)) (held st₂ ds) l (λ t. refl)
+            ∙ alone m (unwrap_or o 0) p _ (read_nested 64 s l₁) (held st₁ ds) _ _ (t'.is ds s (declares_kept _ _ _ _ ds t.structs d) k)
+            ∙ sym (first_type place_record (two_record m) (second m) (places m) (read_nested 64 s) o false _ (held st ds) (held st₁ ds) _ (t.is ds s d k));
       }
 
-  pub two_unread : {w₂ : List ℕ} {u₂ : Used} {l : Bytes} {e : ReadError} → Takes w₁ u₁ known (is_none o) (λ s. read_nested 64 s l₁) w₂ u₂ l (Err e)
-      → FieldsAre w u known (λ s. read_two (two_record m) (read_type s) (read_type s) l₀) w₂ u₂ l (Err e)
+  pub two_unread : {st₂ : Table} {l : Bytes} {e : ReadError} → Takes st₁ known (is_none o) (λ s. read_nested 64 s l₁) st₂ l (Err e)
+      → FieldsAre st known (λ s. read_two (two_record m) (read_type s) (read_type s) l₀) st₂ l (Err e)
   unfolding read_two read_type rd.◌>>=◌ go_on place_read
   two_unread {e = e} t' =
       record {
-        lay = t'.lay;
+        same = t'.same ∙ t.same;
         grown = grown_trans _ _ _ t.grown t'.grown;
         structs = t'.structs ∙ t.structs;
         inside = tt;
         is = λ ds s d k.
-            let x = stopped_is (read_nested 64 s l₁) (is_none o) (seen w₁ u₁ ds) (refusal e) (t'.is ds s (declares_kept w u w₁ u₁ ds t.structs d) k) in
-            sym (first_type place_record (two_record m) (second m) (places m) (read_nested 64 s) o false _ (seen w u ds) (seen w₁ u₁ ds) _ (t.is ds s d k)
-            ∙ ap (λ (y : Read Tree). place_read (is_none o) (second m (unwrap_or o 0)) y (seen w₁ u₁ ds)) x);
+            let x = stopped_is (read_nested 64 s l₁) (is_none o) (held st₁ ds) (refusal e) (t'.is ds s (declares_kept _ _ _ _ ds t.structs d) k) in
+            sym (first_type place_record (two_record m) (second m) (places m) (read_nested 64 s) o false _ (held st ds) (held st₁ ds) _ (t.is ds s d k)
+            ∙ ap (λ (y : Read Tree). place_read (is_none o) (second m (unwrap_or o 0)) y (held st₁ ds)) x);
       }
 
 -- ---- numbers, and a type or none
 
-module _ {w : List ℕ} {u : Used} {known : ℕ} where
-  pub loc_is : (l₀ : Bytes) {l : Bytes} {loc : ℕ} (m : LocMark) → Lay w u → rd.got loc l ≡ read_u32 l₀ → FieldsAre w u known (λ s. read_one (loc_record m) read_u32 l₀) w u l (Ok (Some (q.Add (a.Loc m loc))))
+module _ {st : Table} {known : ℕ} where
+  pub loc_is : (l₀ : Bytes) {l : Bytes} {loc : ℕ} (m : LocMark) → rd.got loc l ≡ read_u32 l₀ → FieldsAre st known (λ s. read_one (loc_record m) read_u32 l₀) st l (Ok (Some (q.Add (a.Loc m loc))))
   unfolding place_read place_record read_one rd.◌>>=◌ go_on give
-  loc_is l₀ {l} {loc} m h e =
-      fields_none h tt
+  loc_is l₀ {l} {loc} m e =
+      fields_none tt
       (λ s s' ds k. ap (λ (h : Shape). placed (place h s') l) (sym (loc_shaped m loc))
       ∙ ap (λ (x : Read ℕ). place_read false place_record (go_on x (λ loc. give (loc_record m loc))) s') e)
 
-  pub sv_is : {l : Bytes} → Lay w u → FieldsAre w u known (λ s. give d.SV l) w u l (Ok (Some q.SV))
+  pub sv_is : {l : Bytes} → FieldsAre st known (λ s. give d.SV l) st l (Ok (Some q.SV))
   unfolding place_read place_record give
-  sv_is h = fields_none h tt (λ s s' ds k. refl)
+  sv_is = fields_none tt (λ s s' ds k. refl)
 
 -- ---- the records with one type
 

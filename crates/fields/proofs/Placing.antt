@@ -10,7 +10,6 @@ use Rattle.definition.specs.Write.{Bytes}
 use Rattle.definition.specs.Reader.{Read, got, not_read, Reader, give, go_on}
 use Rattle.definition.specs.Trees.{Tree}
 use Rattle.definition.specs.Build.{build}
-use Rattle.cursor.specs.Words.{refusal}
 use Rattle.cursor.specs.declared.ReadError.{ReadError}
 use Rattle.reader.specs.Taken.{Placed, stopped, placed, place_read, part_of, read_with}
 

@@ -11,8 +11,9 @@ use Rattle.definition.specs.Build.{build, build_pairs}
 use Rattle.definition.specs.Join.{TypingCase, Join, Subtype}
 use Rattle.definition.specs.Step.{numeric_constraint}
 use Rattle.definition.specs.Needs.{Needs, needs}
-use Rattle.table.specs.State.{Lay, Grown, Declares, Parts, view, seen}
-use Rattle.table.specs.declared.Used.{Used}
+use Rattle.table.specs.State.{Grown, Declares, Parts}
+use Rattle.table.specs.Did.{held, tables}
+use Rattle.table.specs.declared.state.State.{State as Table}
 use Rattle.tparams.specs.Pairs.{pairs}
 use Rattle.constraints.specs.Solve.{kind_of}
 use Rattle.cursor.specs.declared.ReadError.{ReadError}
@@ -193,20 +194,21 @@ WhatIn n (q.Bind x) = BindIn n x
 WhatIn n (q.Look x) = LookIn n x
 WhatIn n (q.Add x) = Unit {0}
 
--- the words w became w', r is the record that m reads, its types placed, and the bytes l are left; s knows as many variables and structs as the record began with
-pub record FieldsAre (w : List ℕ) (u : Used) (known : ℕ) (m : State → Read Record) (w' : List ℕ) (u' : Used) (l : Bytes) (r : std.Result (Option What) ReadError) : Type 0 where
-  pub lay : Lay w' u'
-  pub grown : Grown (view w u) (view w' u')
-  pub structs : (view w' u').structs ≡ (view w u).structs
-  pub inside : PlacedSo r (WhatIn u'.nodes)
-  pub is : (ds : List Struct) (s : State) → Declares w u ds → Knows s known ds → fields_as r (seen w' u' ds) l ≡ place_read false place_record (m s) (seen w u ds)
+-- the table st became t, which lends the same words; r is the record that m reads, its types placed, and the bytes l are left; s knows as many variables
+-- and structs as the record began with
+pub record FieldsAre (st : Table) (known : ℕ) (m : State → Read Record) (t : Table) (l : Bytes) (r : std.Result (Option What) ReadError) : Type 0 where
+  pub same : t.words.ghost_name ≡ st.words.ghost_name
+  pub grown : Grown (tables st) (tables t)
+  pub structs : (tables t).structs ≡ (tables st).structs
+  pub inside : PlacedSo r (WhatIn t.used.nodes)
+  pub is : (ds : List Struct) (s : State) → Declares st.words.now st.used ds → Knows s known ds → fields_as r (held t ds) l ≡ place_read false place_record (m s) (held st ds)
 
 -- a record that starts at place `start`: the bytes after it are those from place next on, of all that there are
-pub record RecordIs (w : List ℕ) (u : Used) (b : List ℕ) (start : ℕ) (w' : List ℕ) (r : Fields) : Type 0 where
-  pub lay : Lay w' r.used
-  pub grown : Grown (view w u) (view w' r.used)
-  pub structs : (view w' r.used).structs ≡ (view w u).structs
-  pub inside : PlacedSo r.read (WhatIn r.used.nodes)
+pub record RecordIs (st : Table) (b : List ℕ) (start : ℕ) (t : Table) (r : Fields) : Type 0 where
+  pub same : t.words.ghost_name ≡ st.words.ghost_name
+  pub grown : Grown (tables st) (tables t)
+  pub structs : (tables t).structs ≡ (tables st).structs
+  pub inside : PlacedSo r.read (WhatIn t.used.nodes)
   pub within : r.next ≤ length b
-  pub is : (ds : List Struct) → Declares w u ds
-      → fields_as r.read (seen w' r.used ds) (drop r.next b) ≡ place_read false place_record (read_record (seen w u ds) (drop start b)) (seen w u ds)
+  pub is : (ds : List Struct) → Declares st.words.now st.used ds
+      → fields_as r.read (held t ds) (drop r.next b) ≡ place_read false place_record (read_record (held st ds) (drop start b)) (held st ds)

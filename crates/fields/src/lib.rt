@@ -1,12 +1,13 @@
 // The fields of a record after its mark, read from left to right (5, 6, 18), its types placed as nodes (7).
 #![tactic(auto)]
 
-ghost use Rattle.std.specs.Prelude.{◌≡◌, List, ℕ, ◌≤◌, IfOk};
+ghost use Rattle.std.specs.Prelude.{◌≡◌, ℕ, ◌≤◌, length, IfOk};
 ghost use Rattle.definition.specs.Store.{taken};
 ghost use Rattle.definition.specs.Reader.{byte_to, times, read_one, read_two, read_three, name_below, read_u32};
 ghost use Rattle.definition.specs.Trees.{read_type};
 ghost use Rattle.definition.specs.Record.{SN, IN, NC, RM, read_SD, read_kind};
-ghost use Rattle.table.specs.State.{view, Lay};
+ghost use Rattle.table.specs.Did.{tables};
+ghost use Rattle.table.specs.declared.state.State.{State as Table};
 ghost use Rattle.heads.specs.Fields.{Arities};
 ghost use Rattle.marks.specs.Marks.{loc_record, look_record, two_record, loc_type_record};
 ghost use Rattle.cursor.specs.Words.{read_as};
@@ -19,7 +20,7 @@ use marks::{LocMark, LocTypeMark, LookMark, TwoMark};
 use names::{AbilitySet, TParamID, TVar};
 use needs::{Sums, count_type};
 use reader::read_type;
-use table::Used;
+use table::state::State;
 
 // ---- a record that is read, its types placed as nodes
 
@@ -71,89 +72,73 @@ pub enum What {
     Add(Add),
 }
 
-// What was read, or none if there was no space for its types (7); the rows in use then, and the place after it.
+// What was read, or none if there was no space for its types (7); and the place after it.
 #[derive(Clone, Copy)]
 pub struct Fields {
     pub read: Result<Option<What>, ReadError>,
-    pub used: Used,
     pub next: usize,
 }
 
 // ---- one type, or two
 
 pub fn read_look(
-    w: &mut [u32],
-    u: &mut Used,
+    st: &mut State<'_>,
     r: &mut Reader,
     known: u32,
     m: LookMark,
 ) -> Result<Option<What>, ReadError>
-    requires { Lay w.old u.old × Arities (view w.old u.old).structs }
-    ensures { FieldsAre w.old u.old known (λ s. read_one (look_record m) (read_type s) r.old.left.now) w.new u.new r.new.left.now result }
+    requires { Arities (tables st.old).structs }
+    ensures { FieldsAre st.old known (λ s. read_one (look_record m) (read_type s) r.old.left.now) st.new r.new.left.now result }
 {
-    let ty = read_type(w, u, r, known, 64, false)?;
-    match ty {
-        Some(t) => Ok(Some(What::Look(Look::One(m, t)))),
-        None => Ok(None),
-    }
+    let ty = read_type(st, r, known, 64, false)?;
+    Ok(ty.map(|t| What::Look(Look::One(m, t))))
 }
 
-pub fn read_in(
-    w: &mut [u32],
-    u: &mut Used,
-    r: &mut Reader,
-    known: u32,
-) -> Result<Option<What>, ReadError>
-    requires { Lay w.old u.old × Arities (view w.old u.old).structs }
-    ensures { FieldsAre w.old u.old known (λ s. read_one IN (read_type s) r.old.left.now) w.new u.new r.new.left.now result }
+pub fn read_in(st: &mut State<'_>, r: &mut Reader, known: u32) -> Result<Option<What>, ReadError>
+    requires { Arities (tables st.old).structs }
+    ensures { FieldsAre st.old known (λ s. read_one IN (read_type s) r.old.left.now) st.new r.new.left.now result }
 {
-    let ty = read_type(w, u, r, known, 64, false)?;
-    match ty {
-        Some(t) => Ok(Some(What::Bind(Bind::IN(t)))),
-        None => Ok(None),
-    }
+    let ty = read_type(st, r, known, 64, false)?;
+    Ok(ty.map(|t| What::Bind(Bind::IN(t))))
 }
 
 pub fn read_two(
-    w: &mut [u32],
-    u: &mut Used,
+    st: &mut State<'_>,
     r: &mut Reader,
     known: u32,
     m: TwoMark,
 ) -> Result<Option<What>, ReadError>
-    requires { Lay w.old u.old × Arities (view w.old u.old).structs }
-    ensures { FieldsAre w.old u.old known (λ s. read_two (two_record m) (read_type s) (read_type s) r.old.left.now) w.new u.new r.new.left.now result }
+    requires { Arities (tables st.old).structs }
+    ensures { FieldsAre st.old known (λ s. read_two (two_record m) (read_type s) (read_type s) r.old.left.now) st.new r.new.left.now result }
 {
-    let lhs = read_type(w, u, r, known, 64, false)?;
-    let rhs = read_type(w, u, r, known, 64, lhs.is_none())?;
+    let lhs = read_type(st, r, known, 64, false)?;
+    let rhs = read_type(st, r, known, 64, lhs.is_none())?;
     let first = lhs.unwrap_or(0);
-    match rhs {
-        Some(second) => Ok(Some(What::Bind(Bind::Two(m, first, second)))),
-        None => Ok(None),
-    }
+    Ok(rhs.map(|second| What::Bind(Bind::Two(m, first, second))))
 }
 
 // ---- one type, counted and not placed
 
-pub fn read_rm(w: &[u32], u: Used, r: &mut Reader, known: u32) -> Result<Option<What>, ReadError>
-    requires { Lay w.now u × Arities (view w.now u).structs }
-    ensures { FieldsAre w.now u known (λ s. read_one RM (read_type s) r.old.left.now) w.now u r.new.left.now result }
+pub fn read_rm(st: &State<'_>, r: &mut Reader, known: u32) -> Result<Option<What>, ReadError>
+    requires few_params { Arities (tables st.now).structs }
+    requires short { length r.old.left.now ≤ 4096 }
+    ensures { FieldsAre st.now known (λ s. read_one RM (read_type s) r.old.left.now) st.now r.new.left.now result }
 {
-    let sums = count_type(w, u, r, known, 64, false)?;
+    let sums = count_type(st, r, known, 64, false)?;
     Ok(Some(What::Add(Add::RM(sums))))
 }
 
 // ---- numbers, and a type or none
 
 pub fn read_loc(r: &mut Reader, m: LocMark) -> Result<Option<What>, ReadError>
-    ensures { (w : List ℕ) (u : Used) (known : ℕ) → Lay w u → FieldsAre w u known (λ s. read_one (loc_record m) read_u32 r.old.left.now) w u r.new.left.now result }
+    ensures { (st : Table) (known : ℕ) → FieldsAre st known (λ s. read_one (loc_record m) read_u32 r.old.left.now) st r.new.left.now result }
 {
     let loc = r.u32()?;
     Ok(Some(What::Add(Add::Loc(m, loc))))
 }
 
 pub fn read_sn(r: &mut Reader, known: u32) -> Result<Option<What>, ReadError>
-    ensures { (w : List ℕ) (u : Used) → Lay w u → FieldsAre w u known (λ s. read_two SN (name_below (taken s)) read_u32 r.old.left.now) w u r.new.left.now result }
+    ensures { (st : Table) → FieldsAre st known (λ s. read_two SN (name_below (taken s)) read_u32 r.old.left.now) st r.new.left.now result }
 {
     let v = r.name_below(known)?;
     let loc = r.u32()?;
@@ -161,21 +146,17 @@ pub fn read_sn(r: &mut Reader, known: u32) -> Result<Option<What>, ReadError>
 }
 
 pub fn read_loc_type(
-    w: &mut [u32],
-    u: &mut Used,
+    st: &mut State<'_>,
     r: &mut Reader,
     known: u32,
     m: LocTypeMark,
 ) -> Result<Option<What>, ReadError>
-    requires { Lay w.old u.old × Arities (view w.old u.old).structs }
-    ensures { FieldsAre w.old u.old known (λ s. read_two (loc_type_record m) read_u32 (read_type s) r.old.left.now) w.new u.new r.new.left.now result }
+    requires { Arities (tables st.old).structs }
+    ensures { FieldsAre st.old known (λ s. read_two (loc_type_record m) read_u32 (read_type s) r.old.left.now) st.new r.new.left.now result }
 {
     let loc = r.u32()?;
-    let ty = read_type(w, u, r, known, 64, false)?;
-    match ty {
-        Some(t) => Ok(Some(What::Add(Add::LocType(m, loc, t)))),
-        None => Ok(None),
-    }
+    let ty = read_type(st, r, known, 64, false)?;
+    Ok(ty.map(|t| What::Add(Add::LocType(m, loc, t))))
 }
 
 // A kind's byte, from 0 to 2.
@@ -190,22 +171,14 @@ fn read_kind(r: &mut Reader) -> Result<NumericKind, ReadError>
     }
 }
 
-pub fn read_nc(
-    w: &mut [u32],
-    u: &mut Used,
-    r: &mut Reader,
-    known: u32,
-) -> Result<Option<What>, ReadError>
-    requires { Lay w.old u.old × Arities (view w.old u.old).structs }
-    ensures { FieldsAre w.old u.old known (λ s. read_three NC read_u32 read_kind (read_type s) r.old.left.now) w.new u.new r.new.left.now result }
+pub fn read_nc(st: &mut State<'_>, r: &mut Reader, known: u32) -> Result<Option<What>, ReadError>
+    requires { Arities (tables st.old).structs }
+    ensures { FieldsAre st.old known (λ s. read_three NC read_u32 read_kind (read_type s) r.old.left.now) st.new r.new.left.now result }
 {
     let loc = r.u32()?;
     let kind = read_kind(r)?;
-    let ty = read_type(w, u, r, known, 64, false)?;
-    match ty {
-        Some(t) => Ok(Some(What::Add(Add::NC(loc, kind, t)))),
-        None => Ok(None),
-    }
+    let ty = read_type(st, r, known, 64, false)?;
+    Ok(ty.map(|t| What::Add(Add::NC(loc, kind, t))))
 }
 
 // ---- a struct's declaration
@@ -224,7 +197,7 @@ fn read_params(r: &mut Reader, many: u8) -> Result<Params, ReadError>
 }
 
 pub fn read_sd(r: &mut Reader) -> Result<Option<What>, ReadError>
-    ensures { (w : List ℕ) (u : Used) (known : ℕ) → Lay w u → FieldsAre w u known (λ s. read_SD s r.old.left.now) w u r.new.left.now result }
+    ensures { (st : Table) (known : ℕ) → FieldsAre st known (λ s. read_SD s r.old.left.now) st r.new.left.now result }
 {
     let abilities = AbilitySet(r.byte_to(15)?);
     let many = r.byte_to(8)?;

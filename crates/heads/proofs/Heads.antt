@@ -1,14 +1,14 @@
 -- A type's tag, location and fields: by the tag, and one level deeper. Assumes nothing.
 use mathlib.Core.Path.{◌≡◌, refl, ap}
 use mathlib.Core.Bool.{Bool, ◌&&◌}
-use mathlib.Core.List.{List, []}
+use mathlib.Core.List.{List}
 use Prim.Native.Nat.{ℕ, zero, suc, ◌-◌, ◌<◌, ◌≤◌}
 use native.Mathlib.Nat.{not-suc-le-zero}
 use native.Mathlib.Omega.{arith}
 use lib.Dec.{ltb, eqb}
 use lib.ListN.{length, get_or}
 use Rattle.std.specs.Prelude.{if◌then◌else◌}
-use Rattle.definition.specs.Types.{State, Struct, malformed, doubled_reference}
+use Rattle.definition.specs.Types.{State, malformed, doubled_reference}
 use Rattle.definition.specs.Write.{Bytes}
 use Rattle.definition.specs.Reader.{not_read, Reader, go_on, ◌>>=◌, refuse, byte_to, read_u32}
 use Rattle.definition.specs.Trees.{Tree, under_ref, by_tag, read_nested}

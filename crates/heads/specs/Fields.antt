@@ -1,5 +1,5 @@
 -- The fields of a type as read. Assumes nothing: these are definitions.
-use Rattle.std.specs.Prelude.{◌≡◌, not, List, [], ℕ, ◌≤◌, ◌<◌, length, get_or, Option, Some, None, Result, Ok, Err, IfOk, if◌then◌else◌}
+use Rattle.std.specs.Prelude.{◌≡◌, not, List, [], ℕ, ◌≤◌, length, get_or, Option, Some, None, Result, Ok, Err, IfOk, if◌then◌else◌}
 use Rattle.definition.specs.Types as d
 use Rattle.definition.specs.Types.{State, Struct, malformed}
 use Rattle.definition.specs.Store.{taken}

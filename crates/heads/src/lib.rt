@@ -5,17 +5,21 @@ ghost use Rattle.std.specs.Prelude.{◌≡◌, ◌&&◌, List, ℕ, ◌-◌, ◌
 ghost use Rattle.definition.specs.Types as d;
 ghost use Rattle.definition.specs.Types.{malformed, unknown_name};
 ghost use Rattle.definition.specs.Store.{taken};
-ghost use Rattle.definition.specs.Instantiate.{builtin_tparams};
 ghost use Rattle.definition.specs.Reader.{refuse, byte, read_u16, read_u32, name_below, read_one, read_two, byte_if, read_bool, Reader as Reading};
 ghost use Rattle.definition.specs.Trees.{Tree, mark_of, read_mark, mark_fits, read_apply, by_tag, read_nested, ref_tree, param_tree, var_tree, is_set, under_ref};
 ghost use Rattle.names.specs.Names.{mark_of as mark-is};
-ghost use Rattle.table.specs.State.{view, Lay, Declares};
+ghost use Rattle.table.specs.State.{Declares};
+ghost use Rattle.table.specs.Did.{tables};
 ghost use Rattle.cursor.specs.Words.{read_as};
 ghost use Rattle.heads.specs.Fields.{read_args, marked, many_parts, parts_read, tree_read, Few, Knows, Arities};
 
 use cursor::{ReadError, Reader};
-use names::{AbilityMark, AbilitySet, MAX_BUILTIN, TParamID, TVar, TypeName, has_drop, is_numeric};
-use table::{Shape, Used, struct_at};
+use names::{
+    AbilityMark, AbilitySet, MAX_BUILTIN, TParamID, TVar, TypeName, builtin_tparams, has_drop,
+    is_numeric,
+};
+use table::Shape;
+use table::state::State;
 
 // A type without its parts: its location, and its tag and fields as a shape.
 #[derive(Clone, Copy)]
@@ -26,21 +30,22 @@ pub struct Head {
 
 // ---- ability marks
 
-fn mark_of(byte: u8) -> Option<AbilityMark>
+fn mark_of(byte: u32) -> Option<AbilityMark>
     ensures { marked result ≡ mark_of byte }
 {
     match byte {
         0 => Some(None),
-        16..=31 => Some(Some(AbilitySet(byte - 16))),
+        16..=31 => Some(Some(AbilitySet((byte - 16) as u8))),
         _ => None,
     }
 }
 
 fn read_mark(r: &mut Reader) -> Result<AbilityMark, ReadError>
-    ensures { read_as mark-is result r.new.left.now ≡ read_mark r.old.left.now }
+    ensures is { read_as mark-is result r.new.left.now ≡ read_mark r.old.left.now }
+    ensures shorter { length r.new.left.now ≤ length r.old.left.now }
 {
     let byte = r.u8()?;
-    mark_of(byte).ok_or(ReadError::Malformed)
+    mark_of(u32::from(byte)).ok_or(ReadError::Malformed)
 }
 
 // On an integer type a set must contain drop.
@@ -49,7 +54,7 @@ fn fits(k: AbilityMark, b: u32) -> bool
 {
     match k {
         None => true,
-        Some(a) => { if is_numeric(b) { has_drop(a) } else { true } }
+        Some(a) => !is_numeric(b) || has_drop(a),
     }
 }
 
@@ -59,15 +64,13 @@ fn fits(k: AbilityMark, b: u32) -> bool
 fn is_doubled(r: &Reader, left: u32) -> bool
     ensures { result ≡ ltb 0 left && eqb (get_or r.now.left.now 0 0) 1 }
 {
-    if left == 0 {
-        return false;
-    }
-    matches!(r.left, [1, ..])
+    0 < left && matches!(r.left, [1, ..])
 }
 
 fn ref_fields(r: &mut Reader, left: u32) -> Result<Shape, ReadError>
     ensures begins { (loc : ℕ) (part : Reading Tree) → parts_read loc result r.new.left.now part ≡ read_two (ref_tree loc) read_bool (under_ref left part) r.old.left.now }
     ensures few { Few result }
+    ensures shorter { length r.new.left.now ≤ length r.old.left.now }
 {
     let x = r.byte_to(1)?;
     if is_doubled(r, left) {
@@ -79,55 +82,53 @@ fn ref_fields(r: &mut Reader, left: u32) -> Result<Shape, ReadError>
 fn param_fields(r: &mut Reader) -> Result<Shape, ReadError>
     ensures begins { (loc : ℕ) (part : Reading Tree) → parts_read loc result r.new.left.now part ≡ read_two (param_tree loc) read_u32 (byte_if is_set) r.old.left.now }
     ensures few { Few result }
+    ensures shorter { length r.new.left.now ≤ length r.old.left.now }
 {
     let id = r.u32()?;
     let abilities = r.byte_to(15)?;
     Ok(Shape::Param(TParamID(id), AbilitySet(abilities)))
 }
 
-fn builtin_arity(b: u32) -> u32
-    ensures { (result ≡ length (builtin_tparams b)) × (result ≤ 1) }
-{
-    if b == 5 { 1 } else { 0 }
-}
-
 fn builtin_fields(r: &mut Reader) -> Result<Shape, ReadError>
     ensures begins { (s : d.State) (loc : ℕ) (part : Reading Tree) → parts_read loc result r.new.left.now part ≡ read_apply s part loc byte d.Builtin malformed r.old.left.now }
     ensures few { Few result }
+    ensures shorter { length r.new.left.now ≤ length r.old.left.now }
 {
     let k = read_mark(r)?;
-    let n = u32::from(r.byte_to(MAX_BUILTIN as u8)?);
+    let n = u32::from(r.byte_to(MAX_BUILTIN)?);
     if !fits(k, n) {
         return Err(ReadError::Malformed);
     }
-    let many = builtin_arity(n);
+    let many = builtin_tparams(n);
     Ok(Shape::Apply(k, TypeName::Builtin(n), 0, many))
 }
 
 fn list_fields(r: &mut Reader) -> Result<Shape, ReadError>
     ensures begins { (s : d.State) (loc : ℕ) (part : Reading Tree) → parts_read loc result r.new.left.now part ≡ read_apply s part loc byte d.Multiple malformed r.old.left.now }
     ensures few { Few result }
+    ensures shorter { length r.new.left.now ≤ length r.old.left.now }
 {
     let k = read_mark(r)?;
     let n = u32::from(r.byte_to(8)?);
     Ok(Shape::Apply(k, TypeName::Multiple(n), 0, n))
 }
 
-fn struct_fields(w: &[u32], u: Used, r: &mut Reader) -> Result<Shape, ReadError>
-    requires { Lay w.now u × Arities (view w.now u).structs }
-    ensures begins { (s : d.State) → Declares w.now u s.structs → (loc : ℕ) (part : Reading Tree) → parts_read loc result r.new.left.now part ≡ read_apply s part loc read_u16 d.ModuleType unknown_name r.old.left.now }
+fn struct_fields(st: &State<'_>, r: &mut Reader) -> Result<Shape, ReadError>
+    requires { Arities (tables st.now).structs }
+    ensures begins { (s : d.State) → Declares st.now.words.now st.now.used s.structs → (loc : ℕ) (part : Reading Tree) → parts_read loc result r.new.left.now part ≡ read_apply s part loc read_u16 d.ModuleType unknown_name r.old.left.now }
     ensures few { Few result }
+    ensures shorter { length r.new.left.now ≤ length r.old.left.now }
 {
     let k = read_mark(r)?;
-    let n = u32::from(r.name_below(u.structs)?);
-    let row = struct_at(w, u, n);
-    let many = row.params;
+    let n = u32::from(r.name_below(st.used.structs)?);
+    let many = st.struct_at(n).params;
     Ok(Shape::Apply(k, TypeName::ModuleType(n), 0, many))
 }
 
 fn var_fields(r: &mut Reader, known: u32) -> Result<Shape, ReadError>
     ensures begins { (s : d.State) → taken s ≡ known → (loc : ℕ) (part : Reading Tree) → parts_read loc result r.new.left.now part ≡ read_one (var_tree loc) (name_below (taken s)) r.old.left.now }
     ensures few { Few result }
+    ensures shorter { length r.new.left.now ≤ length r.old.left.now }
 {
     let v = r.name_below(known)?;
     Ok(Shape::Var(TVar(v)))
@@ -135,17 +136,17 @@ fn var_fields(r: &mut Reader, known: u32) -> Result<Shape, ReadError>
 
 // By the tag, from 0 to 8; a part may nest `left` deep.
 fn fields(
-    w: &[u32],
-    u: Used,
+    st: &State<'_>,
     r: &mut Reader,
     known: u32,
     left: u32,
     tag: u8,
 ) -> Result<Shape, ReadError>
-    requires lay { Lay w.now u × Arities (view w.now u).structs }
+    requires few_params { Arities (tables st.now).structs }
     requires is_tag { tag ≤ 8 }
-    ensures begins { (s : d.State) (ds : List d.Struct) → Declares w.now u ds → Knows s known ds → (loc : ℕ) (part : Reading Tree) → parts_read loc result r.new.left.now part ≡ get_or (by_tag s part loc left) tag (refuse malformed) r.old.left.now }
+    ensures begins { (s : d.State) (ds : List d.Struct) → Declares st.now.words.now st.now.used ds → Knows s known ds → (loc : ℕ) (part : Reading Tree) → parts_read loc result r.new.left.now part ≡ get_or (by_tag s part loc left) tag (refuse malformed) r.old.left.now }
     ensures few { Few result }
+    ensures shorter { length r.new.left.now ≤ length r.old.left.now }
 {
     match tag {
         0 => Ok(Shape::Unit),
@@ -153,7 +154,7 @@ fn fields(
         2 => param_fields(r),
         3 => builtin_fields(r),
         4 => list_fields(r),
-        5 => struct_fields(w, u, r),
+        5 => struct_fields(st, r),
         6 => var_fields(r, known),
         7 => Ok(Shape::Anything),
         _ => Ok(Shape::UnresolvedError),
@@ -161,22 +162,17 @@ fn fields(
 }
 
 // Tag, location and fields of a type at most `nest` deep.
-pub fn read_head(
-    w: &[u32],
-    u: Used,
-    r: &mut Reader,
-    known: u32,
-    nest: u32,
-) -> Result<Head, ReadError>
-    requires { Lay w.now u × Arities (view w.now u).structs }
-    ensures reads { (s : d.State) (ds : List d.Struct) → Declares w.now u ds → Knows s known ds → tree_read result r.new.left.now (read_nested (nest - 1) s) ≡ read_nested nest s r.old.left.now }
+pub fn read_head(st: &State<'_>, r: &mut Reader, known: u32, nest: u32) -> Result<Head, ReadError>
+    requires { Arities (tables st.now).structs }
+    ensures reads { (s : d.State) (ds : List d.Struct) → Declares st.now.words.now st.now.used ds → Knows s known ds → tree_read result r.new.left.now (read_nested (nest - 1) s) ≡ read_nested nest s r.old.left.now }
     ensures few { IfOk result (λ h. (many_parts h.shape ≤ 8) × (0 < nest)) }
+    ensures shorter { length r.new.left.now ≤ length r.old.left.now }
 {
     if nest == 0 {
         return Err(ReadError::Malformed);
     }
     let tag = r.byte_to(8)?;
     let loc = r.u32()?;
-    let shape = fields(w, u, r, known, nest - 1, tag)?;
+    let shape = fields(st, r, known, nest - 1, tag)?;
     Ok(Head { loc, shape })
 }

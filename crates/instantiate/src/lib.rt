@@ -6,38 +6,33 @@
 ghost use Rattle.std.specs.Prelude.{◌≡◌, List, [], ℕ, ◌<◌, ◌≤◌, ◌%◌, length, get_or, take};
 ghost use Rattle.definition.specs.Types as d;
 ghost use Rattle.definition.specs.Store.{args_at};
-ghost use Rattle.definition.specs.Instantiate.{make_tvar, tvar_constraint, builtin_tparams, tparam_constraints, instantiate_apply, instantiate_down, instantiate};
+ghost use Rattle.definition.specs.Instantiate.{make_tvar, tvar_constraint, tparam_constraints, instantiate_apply, instantiate_down, instantiate};
 ghost use Rattle.names.specs.Names.{mark_of, name_of};
-ghost use Rattle.table.specs.State.{constraint_of, view, seen, Lay, When, After, Parts, Declares, Placed, Named};
+ghost use Rattle.table.specs.State.{constraint_of, Parts, Declares, Placed, Named};
 ghost use Rattle.table.specs.Known.{Known};
+ghost use Rattle.table.specs.Did.{held, tables, Did, DidFor};
 ghost use Rattle.shapes.specs.Applied.{args_of};
 ghost use Rattle.instantiate.specs.Known.{Numbered, ability_at};
-ghost use Rattle.instantiate.specs.Args.{make_tparam, made, Listed, joined};
+ghost use Rattle.instantiate.specs.Args.{make_tparam, made, Made, joined};
 
 use names::{AbilitySet, TVar, TypeName};
-use shapes::{Applied, stay};
-use table::{Constraint, Out, Outcome, Refusal, Shape, Used};
+use shapes::Applied;
+use table::state::{State, Stop};
+use table::{Constraint, Refusal, Shape};
 
-// A variable for each argument.
+// A variable for each argument: the first `many` of `tvars`.
 #[derive(Clone, Copy)]
-pub struct Tparams {
-    pub out: Out,
-    pub used: Used,
-    pub tvars: [u32; 8],
-    pub many: u32,
+struct Tparams {
+    tvars: [u32; 8],
+    many: u32,
 }
 
 // A fresh variable, as a node.
-fn make_tvar(w: &mut [u32], u: Used, loc: u32) -> Outcome
-    requires { Lay w.old u }
-    ensures { After w.old u w.new result (λ s. make_tvar s loc) }
+fn make_tvar(st: &mut State<'_>, loc: u32) -> Result<u32, Stop>
+    ensures { Did st.old st.new result (λ s. make_tvar s loc) }
 {
-    let a = table::take_var(w, u);
-    let Some(x) = table::done_of(a.out) else {
-        return a;
-    };
-    let id = TVar(x as u16);
-    table::push_node(w, a.used, loc, Shape::Var(id))
+    let id = st.take_var()?;
+    st.push_node(loc, Shape::Var(id))
 }
 
 // Single for an expression list, else base.
@@ -50,21 +45,14 @@ fn tvar_constraint(n: TypeName, loc: u32, tvar: u32) -> Constraint
     }
 }
 
-fn builtin_tparams(b: u32) -> u32
-    ensures { result ≡ length (builtin_tparams b) }
-{
-    if b == 5 { 1 } else { 0 }
-}
-
 // How many parameters a name has.
-fn tparam_count(w: &[u32], u: Used, n: TypeName) -> u32
-    requires { Lay w.now u }
-    ensures { (ds : List d.Struct) → Declares w.now u ds → result ≡ length (tparam_constraints (seen w.now u ds) (name_of n)) }
+fn tparam_count(st: &State<'_>, n: TypeName) -> u32
+    ensures { (ds : List d.Struct) → Declares st.now.words.now st.now.used ds → result ≡ length (tparam_constraints (held st.now ds) (name_of n)) }
 {
     match n {
         TypeName::Multiple(len) => len,
-        TypeName::Builtin(b) => builtin_tparams(b),
-        TypeName::ModuleType(s) => table::struct_at(w, u, s).params,
+        TypeName::Builtin(b) => names::builtin_tparams(b),
+        TypeName::ModuleType(s) => st.struct_at(s).params,
     }
 }
 
@@ -93,158 +81,118 @@ fn ability_at(params: &[[u8; 8]; 256], n: TypeName, i: u32) -> AbilitySet
 
 // A variable at the argument's location, with its two constraints.
 fn make_tparam(
-    w: &mut [u32],
-    u: Used,
+    st: &mut State<'_>,
     loc: u32,
     n: TypeName,
     ty: u32,
     abilities: AbilitySet,
-) -> Outcome
-    requires { Lay w.old u }
-    ensures { After w.old u w.new result (λ s. make_tparam s loc (name_of n) ty abilities.0) }
+) -> Result<u32, Stop>
+    ensures { Did st.old st.new result (λ s. make_tparam s loc (name_of n) ty abilities.0) }
 {
-    let node = table::node_at(w, u, ty);
-    let a = make_tvar(w, u, node.loc);
-    let Some(tvar) = table::done_of(a.out) else {
-        return a;
-    };
-    let b = table::push_constraint(w, a.used, Constraint::Ability(loc, tvar, abilities));
-    let Some(_) = table::done_of(b.out) else {
-        return b;
-    };
-    let c = table::push_constraint(w, b.used, tvar_constraint(n, loc, tvar));
-    let Some(_) = table::done_of(c.out) else {
-        return c;
-    };
-    stay(a.out, c.used)
+    let node = st.node_at(ty);
+    let tvar = make_tvar(st, node.loc)?;
+    st.push_constraint(Constraint::Ability(loc, tvar, abilities))?;
+    st.push_constraint(tvar_constraint(n, loc, tvar))?;
+    Ok(tvar)
 }
 
 // make_tparams: a variable for each argument that has a parameter.
-fn make_tparams(w: &mut [u32], u: Used, params: &[[u8; 8]; 256], loc: u32, ty: Applied) -> Tparams
-    requires { Lay w.old u × Placed w.old u ty.first ty.many }
-    ensures { Listed (Known w.old u params.now) w.old u w.new result (made loc (name_of ty.n) (args_at (view w.old u) (args_of ty))) }
+fn make_tparams(
+    st: &mut State<'_>,
+    params: &[[u8; 8]; 256],
+    loc: u32,
+    ty: Applied,
+) -> Result<Tparams, Stop>
+    requires { Placed st.old.words.now st.old.used ty.first ty.many }
+    ensures { Made (Known st.old.words.now st.old.used params.now) st.old st.new result (made loc (name_of ty.n) (args_at (tables st.old) (args_of ty))) }
 {
     let n = ty.n;
-    let count = ty.many.min(tparam_count(w, u, n));
+    let many = ty.many.min(tparam_count(st, n));
     let mut tvars: [u32; 8] = [0; 8];
-    let mut v = u;
-    for i in 0..count {
-        let t = table::arg_at(w, v, ty.first, i);
+    for i in 0..many {
+        let t = st.arg_at(ty.first, i);
         let abilities = ability_at(params, n, i);
-        let a = make_tparam(w, v, loc, n, t, abilities);
-        let Some(tvar) = table::done_of(a.out) else {
-            return Tparams {
-                out: a.out,
-                used: a.used,
-                tvars,
-                many: count,
-            };
-        };
-        tvars[i as usize] = tvar;
-        v = a.used;
+        tvars[i as usize] = make_tparam(st, loc, n, t, abilities)?;
     }
-    Tparams {
-        out: Out::Done(0),
-        used: v,
-        tvars,
-        many: count,
-    }
+    Ok(Tparams { tvars, many })
 }
 
 // The variables joined with the arguments, in order; then the node.
 fn join_args(
-    w: &mut [u32],
-    u: Used,
+    st: &mut State<'_>,
     loc: u32,
     ty: Applied,
     tparams: &Tparams,
     tys: [u32; 8],
-) -> Outcome
-    requires { Lay w.old u × (Parts u.nodes tparams.now.tvars tparams.now.many × Parts u.nodes tys ty.many) }
-    ensures { After w.old u w.new result (joined loc (mark_of ty.k) (name_of ty.n) (take tparams.now.many tparams.now.tvars) (take ty.many tys)) }
+) -> Result<u32, Stop>
+    requires { Parts st.old.used.nodes tparams.now.tvars tparams.now.many × Parts st.old.used.nodes tys ty.many }
+    ensures { Did st.old st.new result (joined loc (mark_of ty.k) (name_of ty.n) (take tparams.now.many tparams.now.tvars) (take ty.many tys)) }
 {
     let c = tparams.many.min(ty.many);
     let mut parts: [u32; 8] = [0; 8];
-    let mut v = u;
     for i in 0..c {
-        let a = join::join(w, v, tparams.tvars[i as usize], tys[i as usize]);
-        let Some(t) = table::done_of(a.out) else {
-            return a;
-        };
-        parts[i as usize] = t;
-        v = a.used;
+        parts[i as usize] = join::join(st, tparams.tvars[i as usize], tys[i as usize])?;
     }
-    table::push_apply(w, v, loc, ty.k, ty.n, parts, c)
+    st.push_apply(loc, ty.k, ty.n, parts, c)
 }
 
 // A named type: variables and constraints of its arguments, at most `left` levels of them, the joins, the node.
 #[cycle(instantiate_apply_instantiate_down)]
 fn instantiate_apply(
-    w: &mut [u32],
-    u: Used,
+    st: &mut State<'_>,
     params: &[[u8; 8]; 256],
     left: u32,
     loc: u32,
     ty: Applied,
-) -> Outcome
-    requires { Lay w.old u × Named w.old u ty.first ty.many u.nodes }
-    ensures { When (Known w.old u params.now) w.old u w.new result (λ s. instantiate_apply (instantiate_down left) s loc (mark_of ty.k) (name_of ty.n) (args_at (view w.old u) (args_of ty))) }
+) -> Result<u32, Stop>
+    requires { Named st.old.words.now st.old.used ty.first ty.many st.old.used.nodes }
+    ensures { DidFor (Known st.old.words.now st.old.used params.now) st.old st.new result (λ s. instantiate_apply (instantiate_down left) s loc (mark_of ty.k) (name_of ty.n) (args_at (tables st.old) (args_of ty))) }
 {
-    let b = make_tparams(w, u, params, loc, ty);
-    let Some(_) = table::done_of(b.out) else {
-        return stay(b.out, b.used);
-    };
+    let tparams = make_tparams(st, params, loc, ty)?;
     let mut parts: [u32; 8] = [0; 8];
-    let mut v = b.used;
     for i in 0..ty.many {
-        let t = table::arg_at(w, v, ty.first, i);
-        let a = instantiate_down(w, v, params, left, t);
-        let Some(p) = table::done_of(a.out) else {
-            return a;
-        };
-        parts[i as usize] = p;
-        v = a.used;
+        let t = st.arg_at(ty.first, i);
+        parts[i as usize] = instantiate_down(st, params, left, t)?;
     }
-    join_args(w, v, loc, ty, &b, parts)
+    join_args(st, loc, ty, &tparams, parts)
 }
 
 // At most `left` levels of instantiate; parts are built before their node.
 #[cycle(instantiate_apply_instantiate_down)]
-fn instantiate_down(w: &mut [u32], u: Used, params: &[[u8; 8]; 256], left: u32, ty: u32) -> Outcome
-    requires { Lay w.old u × (ty < u.nodes) }
-    ensures { When (Known w.old u params.now) w.old u w.new result (λ s. instantiate_down left s ty) }
+fn instantiate_down(
+    st: &mut State<'_>,
+    params: &[[u8; 8]; 256],
+    left: u32,
+    ty: u32,
+) -> Result<u32, Stop>
+    requires { ty < st.old.used.nodes }
+    ensures { DidFor (Known st.old.words.now st.old.used params.now) st.old st.new result (λ s. instantiate_down left s ty) }
 {
     if left == 0 {
-        return stay(Out::Refused(Refusal::RunsIntoItself), u);
+        return Err(Stop::Refused(Refusal::RunsIntoItself));
     }
-    let node = table::node_at(w, u, ty);
+    let node = st.node_at(ty);
     let loc = node.loc;
     match node.shape {
-        Shape::Unit | Shape::UnresolvedError | Shape::Param(_, _) => stay(Out::Done(ty), u),
-        Shape::Var(_) => stay(Out::Refused(Refusal::OpenVariable), u),
-        Shape::Anything => make_tvar(w, u, loc),
+        Shape::Unit | Shape::UnresolvedError | Shape::Param(_, _) => Ok(ty),
+        Shape::Var(_) => Err(Stop::Refused(Refusal::OpenVariable)),
+        Shape::Anything => make_tvar(st, loc),
         Shape::Ref(m, t) => {
-            let b = table::push_constraint(w, u, Constraint::BaseType(loc, t));
-            let Some(_) = table::done_of(b.out) else {
-                return b;
-            };
-            let a = instantiate_down(w, b.used, params, left - 1, t);
-            let Some(p) = table::done_of(a.out) else {
-                return a;
-            };
-            table::push_node(w, a.used, loc, Shape::Ref(m, p))
+            st.push_constraint(Constraint::BaseType(loc, t))?;
+            let p = instantiate_down(st, params, left - 1, t)?;
+            st.push_node(loc, Shape::Ref(m, p))
         }
         Shape::Apply(k, n, first, many) => {
             let t = Applied { k, n, first, many };
-            instantiate_apply(w, u, params, left - 1, loc, t)
+            instantiate_apply(st, params, left - 1, loc, t)
         }
     }
 }
 
 // For the declarations that the struct rows and the bytes hold.
-pub fn instantiate(w: &mut [u32], u: Used, params: &[[u8; 8]; 256], ty: u32) -> Outcome
-    requires { Lay w.old u × (ty < u.nodes) }
-    ensures { When (Known w.old u params.now) w.old u w.new result (λ s. instantiate s ty) }
+pub fn instantiate(st: &mut State<'_>, params: &[[u8; 8]; 256], ty: u32) -> Result<u32, Stop>
+    requires { ty < st.old.used.nodes }
+    ensures { DidFor (Known st.old.words.now st.old.used params.now) st.old st.new result (λ s. instantiate s ty) }
 {
-    instantiate_down(w, u, params, ty + 1, ty)
+    instantiate_down(st, params, ty + 1, ty)
 }

@@ -1,42 +1,37 @@
 -- What the argument walk asks of its places, and what its answer stands for. Assumes nothing: these are definitions.
-use Rattle.std.specs.Prelude.{Bool, List, ℕ, take}
+use Rattle.std.specs.Prelude.{◌≡◌, List, [], ℕ, take, Ok, Err}
+use Rattle.std.specs.Prelude as core
 use Rattle.definition.specs.Types as d
-use Rattle.definition.specs.Types.{State, Result, ◌>>=◌}
-use Rattle.definition.specs.Store.{sp}
-use Rattle.table.specs.State.{Any, Lists, Below, view, shape_of, outcome, listed}
-use Rattle.table.specs.declared.Used.{Used}
-use Rattle.table.specs.declared.Out.{Out}
-use Rattle.table.specs.declared.Out.TheVariants.{Done, Failed, Refused}
+use Rattle.definition.specs.Types.{Struct, Result, ok, ◌>>=◌}
+use Rattle.table.specs.State.{Any, Below, Parts, view, shape_of, outcome}
+use Rattle.table.specs.Did.{StopIn, Became}
+use Rattle.table.specs.declared.state.State.{State}
+use Rattle.table.specs.declared.state.Stop.{Stop}
 use Rattle.shapes.specs.Applied.{as_shape}
 use Rattle.shapes.specs.declared.Applied.{Applied}
 use Rattle.join.specs.declared.Types.{Types}
 
 -- the argument places are in use, and each holds a node
-abbrev pub ArgsIn : List ℕ → Used → Applied → Type 0
-ArgsIn w u t = Below (view w u).args u.nodes (shape_of (as_shape t))
+abbrev pub ArgsIn : State → Applied → Type 0
+ArgsIn s t = Below (view s.words.now s.used).args s.used.nodes (shape_of (as_shape t))
 
--- the number that an answer is, or 0
-abbrev pub number : Out → ℕ
-number (Done n) = n
-number (Failed e) = 0
-number (Refused x) = 0
+-- ---- an answer that is a list of nodes: the first `many x` of `parts x`
 
--- the words w with u in use became w' and the answer r, as f says: the types are the first of `tys`, as many as the number
-abbrev pub Joined : List ℕ → Used → List ℕ → Types → (State → Result (State × List ℕ)) → Type 0
-Joined w u w' r f = Lists Any w u w' r.used r.out r.tys (number r.out) f
+module _ {A : Type 0} (parts : A → List ℕ) (many : A → ℕ) where
+  -- .. as the definition has it
+  abbrev pub list_of : core.Result A Stop → d.State → Result (d.State × List ℕ)
+  list_of (Ok x) s = ok (s, take (many x) (parts x))
+  list_of (Err e) s = outcome (Err e) s >>= (λ r. ok (r.0, []))
 
--- ---- what follows a step
+  -- the nodes that it names are below n
+  abbrev pub ListIn : ℕ → core.Result A Stop → Type 0
+  ListIn n (Ok x) = Parts n (parts x) (many x)
+  ListIn n (Err e) = StopIn n e
 
-abbrev pub ref_at : ℕ → Bool → State × ℕ → Result (State × ℕ)
-ref_at loc mut x = sp x.0 loc (d.Ref mut x.1)
+  -- the state s became t and the answer r, as f says for the declarations in K
+  pub record Listed (K : List Struct → Type 0) (s t : State) (r : core.Result A Stop) (f : d.State → Result (d.State × List ℕ)) : Type 0 where
+    pub changed : Became K s t (list_of r) f
+    pub inside : ListIn t.used.nodes r
 
-abbrev pub apply_at : ℕ → d.AbilityMark → d.TypeName → State × List ℕ → Result (State × ℕ)
-apply_at loc k n x = sp x.0 loc (d.Apply k n x.1)
-
--- .. if its answer o is a type
-abbrev pub then_ref : Out → ℕ → Bool → State → Result (State × ℕ)
-then_ref o loc mut s = outcome o s >>= ref_at loc mut
-
--- .. if o is the number of the types
-abbrev pub then_apply : Out → List ℕ → ℕ → d.AbilityMark → d.TypeName → State → Result (State × ℕ)
-then_apply o tys loc k n s = listed o (take (number o) tys) s >>= apply_at loc k n
+abbrev pub Joined : State → State → core.Result Types Stop → (d.State → Result (d.State × List ℕ)) → Type 0
+Joined s t r f = Listed (λ x. x.tys) (λ x. x.many) Any s t r f

@@ -77,11 +77,11 @@ const MARKS: [Letters; 15] = [
 ];
 
 // The mark that these letters are, if any.
-pub fn mark_of(first: u8, second: u8) -> Option<RecordMark>
+pub fn mark_of(first: u32, second: u32) -> Option<RecordMark>
     ensures { (s : d.State) → reader_of result s ≡ fields_of (by_mark s) first second }
 {
     for Letters(a, b, mark) in MARKS {
-        if first == a && second == b {
+        if first == u32::from(a) && second == u32::from(b) {
             return Some(mark);
         }
     }

@@ -2,15 +2,15 @@
 // Changed from the source that NOTICE names: ported to Rattle.
 #![tactic(auto)]
 
-ghost use Rattle.std.specs.Prelude.{◌≡◌, ℕ, ◌<◌};
+ghost use Rattle.std.specs.Prelude.{ℕ, ◌<◌};
 ghost use Rattle.definition.specs.Join.{type_of, merge_num, shown, join_unbound};
-ghost use Rattle.table.specs.State.{Lay, After, Stored};
-ghost use Rattle.merge.specs.Merge.{stopped, open_ends, open_tvar, show_both, close_tvar, meet_tvar, Opens, Meets};
+ghost use Rattle.table.specs.Did.{Did, Kept, number_by};
+ghost use Rattle.merge.specs.Merge.{open_ends, open_tvar, show_both, close_tvar, meet_tvar, Opens, Meets};
 
 use names::TVar;
-use shapes::stay;
 use subst::BindError;
-use table::{Node, Out, Outcome, Shape, TypingError, Used};
+use table::state::{State, Stop};
+use table::{Shape, TypingError};
 
 // A location, and the variable there.
 #[derive(Clone, Copy)]
@@ -34,102 +34,54 @@ pub struct Merging {
     pub var2: u32,
 }
 
-// What opening a merge comes to: the merge, or the error or refusal that it ends with.
-#[derive(Clone, Copy)]
-pub struct Open {
-    pub what: Result<Merging, Out>,
-    pub used: Used,
-}
-
-// No merge: the answer is no number.
-fn stopped(a: Outcome) -> Open
-    ensures { result ≡ stopped a }
-{
-    Open {
-        what: Err(a.out),
-        used: a.used,
-    }
-}
-
-// A variable met another type: the answer, or a fresh variable that took the type, to merge with. No Result, since an
-// answer may be a success.
-#[derive(Clone, Copy)]
-pub enum Meet {
-    Is(Outcome),
-    Merge(Used, TVar),
-}
-
 // The type of a chain's end: a new `_` where it is not bound.
-fn type_of(w: &mut [u32], u: Used, loc: u32, id: TVar) -> Outcome
-    requires { Lay w.old u }
-    ensures { After w.old u w.new result (λ s. type_of s loc id.0) }
+fn type_of(st: &mut State<'_>, loc: u32, id: TVar) -> Result<u32, Stop>
+    ensures { Did st.old st.new result (λ s. type_of s loc id.0) }
 {
-    match table::bound_at(w, u, id) {
-        None => table::push_node(w, u, loc, Shape::Anything),
-        Some(t) => stay(Out::Done(t), u),
+    match st.bound_at(id) {
+        None => st.push_node(loc, Shape::Anything),
+        Some(t) => Ok(t),
     }
 }
 
 // The fresh variable is numeric if either end is; the second's location wins.
-fn merge_num(w: &mut [u32], u: Used, num_loc_1: Option<u32>, num_loc_2: Option<u32>, new_tvar: TVar)
-    requires { Lay w.old u }
-    ensures { Stored w.old u w.new (λ s. merge_num s num_loc_1 num_loc_2 new_tvar.0) }
+fn merge_num(st: &mut State<'_>, num_loc_1: Option<u32>, num_loc_2: Option<u32>, new_tvar: TVar)
+    ensures { Kept st.old st.new (λ s. merge_num s num_loc_1 num_loc_2 new_tvar.0) }
 {
     if let Some(nloc) = num_loc_2.or(num_loc_1) {
-        subst::set_num_var(w, u, new_tvar, nloc);
+        subst::set_num_var(st, new_tvar, nloc);
     }
 }
 
 // Both ends are bound to a fresh variable.
-fn open_ends(w: &mut [u32], u: Used, e1: End, e2: End) -> Open
-    requires { Lay w.old u × ((e1.ty < u.nodes) × (e2.ty < u.nodes)) }
-    ensures { Opens w.old u w.new result (λ s k. open_ends k s e1.loc e1.last_id.0 e1.num_loc e1.ty e2.loc e2.last_id.0 e2.num_loc e2.ty) }
+fn open_ends(st: &mut State<'_>, e1: End, e2: End) -> Result<Merging, Stop>
+    requires { (e1.ty < st.old.used.nodes) × (e2.ty < st.old.used.nodes) }
+    ensures { Opens st.old st.new result (λ s k. open_ends k s e1.loc e1.last_id.0 e1.num_loc e1.ty e2.loc e2.last_id.0 e2.num_loc e2.ty) }
 {
-    let a = table::take_var(w, u);
-    let Some(n) = table::done_of(a.out) else {
-        return stopped(a);
-    };
-    let new_tvar = TVar(n as u16);
-    merge_num(w, a.used, e1.num_loc, e2.num_loc, new_tvar);
-    let b = table::push_node(w, a.used, e1.loc, Shape::Var(new_tvar));
-    let Some(var1) = table::done_of(b.out) else {
-        return stopped(b);
-    };
-    let d = table::push_node(w, b.used, e2.loc, Shape::Var(new_tvar));
-    let Some(var2) = table::done_of(d.out) else {
-        return stopped(d);
-    };
-    table::bind_var(w, d.used, e1.last_id, var1);
-    table::bind_var(w, d.used, e2.last_id, var2);
-    let m = Merging {
+    let new_tvar = st.take_var()?;
+    merge_num(st, e1.num_loc, e2.num_loc, new_tvar);
+    let var1 = st.push_node(e1.loc, Shape::Var(new_tvar))?;
+    let var2 = st.push_node(e2.loc, Shape::Var(new_tvar))?;
+    st.bind_var(e1.last_id, var1);
+    st.bind_var(e2.last_id, var2);
+    Ok(Merging {
         ty1: e1.ty,
         ty2: e2.ty,
         new_tvar,
         var2,
-    };
-    Open {
-        what: Ok(m),
-        used: d.used,
-    }
+    })
 }
 
 // The ends of both chains, with their types and numeric marks.
-pub fn open_tvar(w: &mut [u32], u: Used, v1: VarAt, v2: VarAt) -> Open
-    requires { Lay w.old u }
-    ensures { Opens w.old u w.new result (λ s k. open_tvar k s v1.0 v1.1.0 v2.0 v2.1.0) }
+pub fn open_tvar(st: &mut State<'_>, v1: VarAt, v2: VarAt) -> Result<Merging, Stop>
+    ensures { Opens st.old st.new result (λ s k. open_tvar k s v1.0 v1.1.0 v2.0 v2.1.0) }
 {
-    let last_id1 = subst::forward_tvar(w, u, v1.1);
-    let last_id2 = subst::forward_tvar(w, u, v2.1);
-    let num_loc_1 = table::num_loc_at(w, u, last_id1);
-    let num_loc_2 = table::num_loc_at(w, u, last_id2);
-    let a = type_of(w, u, v1.0, last_id1);
-    let Some(ty1) = table::done_of(a.out) else {
-        return stopped(a);
-    };
-    let b = type_of(w, a.used, v2.0, last_id2);
-    let Some(ty2) = table::done_of(b.out) else {
-        return stopped(b);
-    };
+    let last_id1 = subst::forward_tvar(st, v1.1);
+    let last_id2 = subst::forward_tvar(st, v2.1);
+    let num_loc_1 = st.num_loc_at(last_id1);
+    let num_loc_2 = st.num_loc_at(last_id2);
+    let ty1 = type_of(st, v1.0, last_id1)?;
+    let ty2 = type_of(st, v2.0, last_id2)?;
     let e1 = End {
         loc: v1.0,
         last_id: last_id1,
@@ -142,96 +94,92 @@ pub fn open_tvar(w: &mut [u32], u: Used, v1: VarAt, v2: VarAt) -> Open
         num_loc: num_loc_2,
         ty: ty2,
     };
-    open_ends(w, b.used, e1, e2)
+    open_ends(st, e1, e2)
 }
 
 // An operand's type as an error shows it: the variable where it is `_`.
-fn shown(w: &mut [u32], u: Used, ty: u32, id: TVar) -> Outcome
-    requires { Lay w.old u × (ty < u.nodes) }
-    ensures { After w.old u w.new result (λ s. shown s ty id.0) }
+fn shown(st: &mut State<'_>, ty: u32, id: TVar) -> Result<u32, Stop>
+    requires { ty < st.old.used.nodes }
+    ensures { Did st.old st.new result (λ s. shown s ty id.0) }
 {
-    let n = table::node_at(w, u, ty);
+    let n = st.node_at(ty);
     if shapes::is_anything(n.shape) {
-        return table::push_node(w, u, n.loc, Shape::Var(id));
+        st.push_node(n.loc, Shape::Var(id))
+    } else {
+        Ok(ty)
     }
-    stay(Out::Done(ty), u)
 }
 
 // The numeric check failed.
-fn show_both(w: &mut [u32], u: Used, ty1: u32, id1: TVar, ty2: u32, id2: TVar) -> Outcome
-    requires { Lay w.old u × ((ty1 < u.nodes) × (ty2 < u.nodes)) }
-    ensures { After w.old u w.new result (λ s. show_both s ty1 id1.0 ty2 id2.0) }
+fn show_both(st: &mut State<'_>, ty1: u32, id1: TVar, ty2: u32, id2: TVar) -> Result<u32, Stop>
+    requires { (ty1 < st.old.used.nodes) × (ty2 < st.old.used.nodes) }
+    ensures { Did st.old st.new result (λ s. show_both s ty1 id1.0 ty2 id2.0) }
 {
-    let a = shown(w, u, ty1, id1);
-    let Some(shown1) = table::done_of(a.out) else {
-        return a;
-    };
-    let b = shown(w, a.used, ty2, id2);
-    let Some(shown2) = table::done_of(b.out) else {
-        return b;
-    };
-    stay(
-        Out::Failed(TypingError::Incompatible(shown1, shown2)),
-        b.used,
-    )
+    let shown1 = shown(st, ty1, id1)?;
+    let shown2 = shown(st, ty2, id2)?;
+    Err(Stop::Failed(TypingError::Incompatible(shown1, shown2)))
 }
 
 // After the inner join: the fresh variable takes the joined type.
-pub fn close_tvar(w: &mut [u32], u: Used, v1: VarAt, v2: VarAt, m: Merging, new_ty: u32) -> Outcome
-    requires { Lay w.old u × ((m.ty1 < u.nodes) × ((m.ty2 < u.nodes) × ((m.var2 < u.nodes) × (new_ty < u.nodes)))) }
-    ensures { After w.old u w.new result (λ s. close_tvar s m.ty1 v1.1.0 m.ty2 v2.0 v2.1.0 m.new_tvar.0 m.var2 new_ty) }
+pub fn close_tvar(
+    st: &mut State<'_>,
+    v1: VarAt,
+    v2: VarAt,
+    m: Merging,
+    new_ty: u32,
+) -> Result<u32, Stop>
+    requires { (m.ty1 < st.old.used.nodes) × ((m.ty2 < st.old.used.nodes) × ((m.var2 < st.old.used.nodes) × (new_ty < st.old.used.nodes))) }
+    ensures { Did st.old st.new result (λ s. close_tvar s m.ty1 v1.1.0 m.ty2 v2.0 v2.1.0 m.new_tvar.0 m.var2 new_ty) }
 {
-    match table::bound_at(w, u, m.new_tvar) {
-        Some(t) => {
-            let n = table::node_at(w, u, t);
-            stay(Out::Failed(TypingError::RecursiveType(n.loc)), u)
-        }
-        None => match subst::join_bind_tvar(w, u, m.new_tvar, new_ty) {
-            Ok(()) => stay(Out::Done(m.var2), u),
-            Err(BindError::NotNumeric) => show_both(w, u, m.ty1, v1.1, m.ty2, v2.1),
-            Err(BindError::Recursive) => stay(Out::Failed(TypingError::RecursiveType(v2.0)), u),
-        },
+    if let Some(t) = st.bound_at(m.new_tvar) {
+        let n = st.node_at(t);
+        return Err(Stop::Failed(TypingError::RecursiveType(n.loc)));
+    }
+    match subst::join_bind_tvar(st, m.new_tvar, new_ty) {
+        Ok(()) => Ok(m.var2),
+        Err(BindError::NotNumeric) => show_both(st, m.ty1, v1.1, m.ty2, v2.1),
+        Err(BindError::Recursive) => Err(Stop::Failed(TypingError::RecursiveType(v2.0))),
     }
 }
 
 // The variable at node `var`, not bound, takes the other type.
 fn join_unbound(
-    w: &mut [u32],
-    u: Used,
+    st: &mut State<'_>,
     lhs: u32,
     rhs: u32,
     var: u32,
     id: TVar,
     other: u32,
-) -> Outcome
-    requires { Lay w.old u × ((lhs < u.nodes) × ((rhs < u.nodes) × ((var < u.nodes) × (other < u.nodes)))) }
-    ensures { After w.old u w.new result (λ s. join_unbound s lhs rhs var id.0 other) }
+) -> Result<(), Stop>
+    requires { (lhs < st.old.used.nodes) × ((rhs < st.old.used.nodes) × ((var < st.old.used.nodes) × (other < st.old.used.nodes))) }
+    ensures { Did st.old st.new (number_by (λ x. var) result) (λ s. join_unbound s lhs rhs var id.0 other) }
 {
-    let n = table::node_at(w, u, var);
-    match subst::join_bind_tvar(w, u, id, other) {
-        Ok(()) => stay(Out::Done(var), u),
-        Err(BindError::NotNumeric) => stay(Out::Failed(TypingError::Incompatible(lhs, rhs)), u),
-        Err(BindError::Recursive) => stay(Out::Failed(TypingError::RecursiveType(n.loc)), u),
+    let n = st.node_at(var);
+    match subst::join_bind_tvar(st, id, other) {
+        Ok(()) => Ok(()),
+        Err(BindError::NotNumeric) => Err(Stop::Failed(TypingError::Incompatible(lhs, rhs))),
+        Err(BindError::Recursive) => Err(Stop::Failed(TypingError::RecursiveType(n.loc))),
     }
 }
 
-// The variable at node `var` meets another type: not bound, it takes the type; else a fresh variable does.
-pub fn meet_tvar(w: &mut [u32], u: Used, lhs: u32, rhs: u32, var: u32, id: TVar, other: u32) -> Meet
-    requires { Lay w.old u × ((lhs < u.nodes) × ((rhs < u.nodes) × ((var < u.nodes) × (other < u.nodes)))) }
-    ensures { Meets w.old u w.new result (λ s k. meet_tvar k s lhs rhs var id.0 other) }
+// The variable at node `var` meets another type. Not bound, it takes the type, and the answer is `var`: None; else a fresh
+// variable takes it, to merge with.
+pub fn meet_tvar(
+    st: &mut State<'_>,
+    lhs: u32,
+    rhs: u32,
+    var: u32,
+    id: TVar,
+    other: u32,
+) -> Result<Option<TVar>, Stop>
+    requires { (lhs < st.old.used.nodes) × ((rhs < st.old.used.nodes) × ((var < st.old.used.nodes) × (other < st.old.used.nodes))) }
+    ensures { Meets st.old st.new var result (λ s k. meet_tvar k s lhs rhs var id.0 other) }
 {
-    match table::bound_at(w, u, id) {
-        None => Meet::Is(join_unbound(w, u, lhs, rhs, var, id, other)),
-        Some(_) => {
-            let a = table::take_var(w, u);
-            match table::done_of(a.out) {
-                None => Meet::Is(a),
-                Some(n) => {
-                    let new_tvar = TVar(n as u16);
-                    table::bind_var(w, a.used, new_tvar, other);
-                    Meet::Merge(a.used, new_tvar)
-                }
-            }
-        }
+    if st.bound_at(id).is_none() {
+        join_unbound(st, lhs, rhs, var, id, other)?;
+        return Ok(None);
     }
+    let new_tvar = st.take_var()?;
+    st.bind_var(new_tvar, other);
+    Ok(Some(new_tvar))
 }

@@ -2,9 +2,10 @@
 // Changed from the source that NOTICE names: ported to Rattle.
 #![tactic(auto)]
 
-ghost use Rattle.std.specs.Prelude.{◌≡◌, ◌<◌};
+ghost use Rattle.std.specs.Prelude.{◌≡◌, ◌≤◌, ◌<◌, length};
 ghost use Rattle.definition.specs.Types.{Builtin};
 ghost use Rattle.definition.specs.Abilities.{has, builtin_abilities, requires};
+ghost use Rattle.definition.specs.Instantiate.{builtin_tparams};
 ghost use Rattle.definition.specs.Join.{is_numeric};
 ghost use Rattle.definition.specs.Trees.{has_drop};
 
@@ -51,7 +52,8 @@ impl AbilitySet {
 // An ability mark on a named type.
 pub type AbilityMark = Option<AbilitySet>;
 
-// An expression list's name is its count; a builtin and a struct have numbers.
+// An expression list's name is its count; a builtin and a struct have numbers. A builtin is no enum: a lent word may be past the last,
+// and the functions below take any number.
 #[derive(Clone, Copy, PartialEq, Eq)]
 pub enum TypeName {
     Multiple(u32),
@@ -63,25 +65,10 @@ pub enum TypeName {
 pub fn is_numeric(b: u32) -> bool
     ensures { result ≡ is_numeric (Builtin b) }
 {
-    if b == 2 {
-        return true;
-    }
-    if b == 3 {
-        return true;
-    }
-    if b == 4 {
-        return true;
-    }
-    if b == 7 {
-        return true;
-    }
-    if b == 8 {
-        return true;
-    }
-    b == 9
+    matches!(b, 2 | 3 | 4 | 7 | 8 | 9)
 }
 
-// AbilitySet::has_ability_
+// AbilitySet::has_ability_. An ability is its bit: a type of the four would ask more of callers, who may pass any number but 0.
 pub fn has(a: AbilitySet, ability: u8) -> bool
     requires { 0 < ability }
     ensures { result ≡ has a.0 ability }
@@ -93,23 +80,25 @@ pub fn has(a: AbilitySet, ability: u8) -> bool
 pub fn builtin_abilities(b: u32) -> AbilitySet
     ensures { result.0 ≡ builtin_abilities b }
 {
-    if b == 1 {
-        return AbilitySet::SIGNER;
+    match b {
+        1 => AbilitySet::SIGNER,
+        5 => AbilitySet::COLLECTION,
+        _ => AbilitySet::PRIMITIVES,
     }
-    if b == 5 {
-        return AbilitySet::COLLECTION;
-    }
-    AbilitySet::PRIMITIVES
+}
+
+// How many parameters a builtin has: a vector has one.
+pub fn builtin_tparams(b: u32) -> u32
+    ensures { (result ≡ length (builtin_tparams b)) × (result ≤ 1) }
+{
+    if b == 5 { 1 } else { 0 }
 }
 
 // Ability_::requires: what an argument must have.
 pub fn requires_of(ability: u8) -> u8
     ensures { result ≡ requires ability }
 {
-    if ability == 8 {
-        return 4;
-    }
-    ability
+    if ability == 8 { 4 } else { ability }
 }
 
 pub fn has_drop(a: AbilitySet) -> bool

@@ -16,7 +16,7 @@ use Rattle.table.specs.declared.Shape.{Shape}
 use Rattle.table.specs.declared.Shape.TheVariants.{Unit as UnitS, Ref, Param, Apply, Var, Anything, UnresolvedError}
 use Rattle.heads.specs.Fields.{many_parts, first_tree, tree_of}
 use Rattle.needs.specs.declared.Sums.{Sums}
-use Rattle.needs.specs.Counted.{sums, both, needs_of, Each, Most, own, beside, is_apply, as_argument}
+use Rattle.needs.specs.Counted.{both, needs_of, Each, Most, own, beside, is_apply, as_argument}
 
 -- ---- laws of sums
 

@@ -1,6 +1,6 @@
 -- The walk over the parts of a type: where it begins, a turn, an early end, and the sums at the end. First over what the definition reads (`Walked`), then over the code's answers (`Going`). Assumes nothing.
 use mathlib.Core.Path.{◌≡◌, refl, sym, ap, ◌∙◌, subst}
-use mathlib.Core.Bool.{Bool, true, false}
+use mathlib.Core.Bool.{Bool}
 use mathlib.Core.List.{List}
 use Rattle.std.specs.Prelude as std
 use Rattle.std.specs.Prelude.{Option, Some, None, Ok, Err}
@@ -14,8 +14,9 @@ use Rattle.definition.specs.Reader.{Read, got, not_read, Reader, give, go_on, �
 use Rattle.definition.specs.Trees.{Tree, Trees, no_trees, ◌then◌, read_trees, read_nested}
 use Rattle.definition.specs.Needs.{Needs, ◌plus◌}
 use Rattle.theorems.proofs.JoinAnswers.{tree_size, trees_size, Spent, spent, pays_nested}
-use Rattle.table.specs.State.{Declares, view}
-use Rattle.table.specs.declared.Used.{Used}
+use Rattle.table.specs.State.{Declares}
+use Rattle.table.specs.Did.{tables}
+use Rattle.table.specs.declared.state.State.{State as Table}
 use Rattle.cursor.specs.Words.{refusal}
 use Rattle.cursor.specs.declared.ReadError.{ReadError}
 use Rattle.heads.specs.declared.Head.{Head}
@@ -102,44 +103,52 @@ paid nest s l t l' e = go (subst (λ (x : Read Tree). Spent tree_size (0 + lengt
     go : Spent tree_size (0 + length l) (got t l') → tree_size t + length l' ≤ length l
     go (spent h) = omega arith
 
-pub record Going (w : List ℕ) (u : Used) (l₀ : Bytes) (known nest : ℕ) (arg : Bool) (o : Option Sums) (n : ℕ) (l : Bytes) (c : Option Sums) (i : ℕ) : Type 0 where
+pub record Going (st : Table) (l₀ : Bytes) (known nest : ℕ) (arg : Bool) (o : Option Sums) (n : ℕ) (l : Bytes) (c : Option Sums) (i : ℕ) : Type 0 where
   pub left : i ≤ n
-  pub is : (ds : List Struct) (s : State) → Declares w u ds → Knows s known ds → Walked (read_nested nest s) arg n i l₀ l o c
+  pub is : (ds : List Struct) (s : State) → Declares st.words.now st.used ds → Knows s known ds → Walked (read_nested nest s) arg n i l₀ l o c
 
-pub go_none : (w : List ℕ) (u : Used) (l : Bytes) (known nest : ℕ) (arg : Bool) {o : Option Sums} (n : ℕ) → Most 7 o → Going w u l known nest arg o n l o 0
-go_none w u l known nest arg {o} n p = record { left = omega arith; is = λ ds s d k. walk_none _ arg n _ o p }
+pub go_none : (st : Table) (l : Bytes) (known nest : ℕ) (arg : Bool) {o : Option Sums} (n : ℕ) → Most 7 o → Going st l known nest arg o n l o 0
+go_none st l known nest arg {o} n p = record { left = omega arith; is = λ ds s d k. walk_none _ arg n _ o p }
 
-module _ {w : List ℕ} {u : Used} {l₀ : Bytes} {known nest : ℕ} {arg : Bool} {o : Option Sums} {n : ℕ} {l : Bytes} {c : Option Sums} {i : ℕ} (g : Going w u l₀ known nest arg o n l c i) where
+module _ {st : Table} {l₀ : Bytes} {known nest : ℕ} {arg : Bool} {o : Option Sums} {n : ℕ} {l : Bytes} {c : Option Sums} {i : ℕ} (g : Going st l₀ known nest arg o n l c i) where
   -- the sums so far, and those of a part
   pub go_few : length l₀ ≤ 4096 → Most 65536 c
   go_few p =
-      let ds = (view w u).structs in
-      let x = g.is ds (knowing known ds) (declares_self w u) (knows known ds) in
+      let ds = (tables st).structs in
+      let x = g.is ds (knowing known ds) (declares_self _ _) (knows known ds) in
       let y = x.bytes in
       more _ _ c (omega arith) x.few
 
-  pub part_few : {l' : Bytes} {d : Option Sums} → Counts w u known arg (λ s. read_nested nest s l) l' (Ok d) → length l ≤ 4096 → Most 65536 d
+  -- the bytes that are left
+  pub go_short : {m : ℕ} → length l₀ ≤ m → length l ≤ m
+  go_short p =
+      let ds = (tables st).structs in
+      let x = g.is ds (knowing known ds) (declares_self _ _) (knows known ds) in
+      let y = x.bytes in
+      omega arith
+
+  pub part_few : {l' : Bytes} {d : Option Sums} → Counts st known arg (λ s. read_nested nest s l) l' (Ok d) → length l ≤ 4096 → Most 65536 d
   part_few {l'} {d} t p =
-      let ds = (view w u).structs in
-      let k = t.is ds (knowing known ds) (declares_self w u) (knows known ds) in
+      let ds = (tables st).structs in
+      let k = t.is ds (knowing known ds) (declares_self _ _) (knows known ds) in
       let y = paid nest _ _ _ _ k.reads in
       more _ _ d (omega arith) k.few
 
-  pub go_more : {l' : Bytes} {d : Option Sums} → Counts w u known arg (λ s. read_nested nest s l) l' (Ok d) → i < n → Going w u l₀ known nest arg o n l' (both c d) (i + 1)
+  pub go_more : {l' : Bytes} {d : Option Sums} → Counts st known arg (λ s. read_nested nest s l) l' (Ok d) → i < n → Going st l₀ known nest arg o n l' (both c d) (i + 1)
   go_more {l'} {d} t h =
       record {
         left = omega arith;
         is = λ ds s e k. let q = t.is ds s e k in walk_more _ arg n _ o i _ c (g.is ds s e k) h q.tree _ d q.reads q.counts q.few (paid nest s _ _ _ q.reads);
       }
 
-  pub go_stop : {arg' : Bool} {l' : Bytes} {x : ReadError} → Counts w u known arg (λ s. read_nested nest s l) l' (Err x) → i < n → (h : Head) → n ≡ many_parts h.shape
-      → Counts w u known arg' (λ s. tree_read (Ok h) l₀ (read_nested nest s)) l' (Err x)
+  pub go_stop : {arg' : Bool} {l' : Bytes} {x : ReadError} → Counts st known arg (λ s. read_nested nest s l) l' (Err x) → i < n → (h : Head) → n ≡ many_parts h.shape
+      → Counts st known arg' (λ s. tree_read (Ok h) l₀ (read_nested nest s)) l' (Err x)
   unfolding go_on
   go_stop {x = x} t lt h m = record { is = λ ds s d k. rw (← m, walk_stop _ arg n _ o i _ c (g.is ds s d k) lt (refusal x) (t.is ds s d k)) refl }
 
   -- the parts are arguments just if the type is a name
   pub go_all : n ≤ i → (arg' : Bool) (h : Head) → n ≡ many_parts h.shape → arg ≡ is_apply h.shape → o ≡ both (own h.shape) (Some (beside arg' h.shape))
-      → Counts w u known arg' (λ s. tree_read (Ok h) l₀ (read_nested nest s)) l (Ok c)
+      → Counts st known arg' (λ s. tree_read (Ok h) l₀ (read_nested nest s)) l (Ok c)
   unfolding go_on give
   go_all lt arg' h m q p =
       let z : i ≡ n = (let y = g.left in omega arith) in
@@ -157,6 +166,6 @@ module _ {w : List ℕ} {u : Used} {l₀ : Bytes} {known nest : ℕ} {arg : Bool
       }
 
 -- what m reads, said otherwise
-pub counts_is : {w : List ℕ} {u : Used} {known : ℕ} {arg : Bool} {m m' : State → Read Tree} {l : Bytes} {r : std.Result (Option Sums) ReadError}
-    → ((ds : List Struct) (s : State) → Declares w u ds → Knows s known ds → m s ≡ m' s) → Counts w u known arg m l r → Counts w u known arg m' l r
+pub counts_is : {st : Table} {known : ℕ} {arg : Bool} {m m' : State → Read Tree} {l : Bytes} {r : std.Result (Option Sums) ReadError}
+    → ((ds : List Struct) (s : State) → Declares st.words.now st.used ds → Knows s known ds → m s ≡ m' s) → Counts st known arg m l r → Counts st known arg m' l r
 counts_is {arg = arg} {l = l} {r = r} e t = record { is = λ ds s d k. subst (λ (x : Read Tree). Tells r arg l x) (e ds s d k) (t.is ds s d k) }

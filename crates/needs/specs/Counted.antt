@@ -7,7 +7,7 @@ use Rattle.definition.specs.Trees.{Tree}
 use Rattle.definition.specs.Needs.{Needs, takes, ◌plus◌, merge, needs}
 use Rattle.theorems.proofs.JoinAnswers.{tree_size}
 use Rattle.table.specs.State.{Declares}
-use Rattle.table.specs.declared.Used.{Used}
+use Rattle.table.specs.declared.state.State.{State as Table}
 use Rattle.table.specs.declared.Shape.{Shape}
 use Rattle.table.specs.declared.Shape.TheVariants.{Unit as UnitS, Ref, Param, Apply, Var, Anything, UnresolvedError}
 use Rattle.cursor.specs.Words.{refusal}
@@ -90,6 +90,6 @@ abbrev pub Tells : Result (Option Sums) ReadError → Bool → Bytes → Read Tr
 Tells (Ok c) arg bytes m = Told c arg bytes m
 Tells (Err e) arg bytes m = m ≡ not_read (refusal e)
 
--- r is the type that m reads, counted, and the bytes l are left; s knows as many variables and structs as the record began with
-pub record Counts (w : List ℕ) (u : Used) (known : ℕ) (arg : Bool) (m : State → Read Tree) (l : Bytes) (r : Result (Option Sums) ReadError) : Type 0 where
-  pub is : (ds : List Struct) (s : State) → Declares w u ds → Knows s known ds → Tells r arg l (m s)
+-- over the table st: r is the type that m reads, counted, and the bytes l are left; s knows as many variables and structs as the record began with
+pub record Counts (st : Table) (known : ℕ) (arg : Bool) (m : State → Read Tree) (l : Bytes) (r : Result (Option Sums) ReadError) : Type 0 where
+  pub is : (ds : List Struct) (s : State) → Declares st.words.now st.used ds → Knows s known ds → Tells r arg l (m s)

@@ -1,16 +1,17 @@
 // R-3: what IN of a type takes of each table, counted from the type's bytes by the reader's own heads. Nothing is placed.
 #![tactic(auto)]
 
-ghost use Rattle.std.specs.Prelude.{◌≡◌, ◌≤◌};
+ghost use Rattle.std.specs.Prelude.{◌≡◌, ◌≤◌, length};
 ghost use Rattle.definition.specs.Trees.{read_nested};
-ghost use Rattle.table.specs.State.{view, Lay};
+ghost use Rattle.table.specs.Did.{tables};
 ghost use Rattle.heads.specs.Fields.{many_parts, tree_read, Arities};
 ghost use Rattle.needs.specs.Counted.{Counts, Most, beside, both, is_apply, own, sums};
 
 use cursor::{ReadError, Reader};
 use heads::{Head, read_head};
 use reader::part_count;
-use table::{Shape, Used};
+use table::Shape;
+use table::state::State;
 
 // Nodes, argument places, variables and constraints.
 #[derive(Clone, Copy)]
@@ -88,40 +89,40 @@ fn is_apply(shape: Shape) -> bool
 // A type at most `nest` deep; arg: it is an argument of a name.
 #[cycle(count_parts_count_type)]
 pub fn count_type(
-    w: &[u32],
-    u: Used,
+    st: &State<'_>,
     r: &mut Reader,
     known: u32,
     nest: u32,
     arg: bool,
 ) -> Result<Option<Sums>, ReadError>
-    requires { Lay w.now u × Arities (view w.now u).structs }
-    ensures { Counts w.now u known arg (λ s. read_nested nest s r.old.left.now) r.new.left.now result }
+    requires few_params { Arities (tables st.now).structs }
+    requires short { length r.old.left.now ≤ 4096 }
+    ensures { Counts st.now known arg (λ s. read_nested nest s r.old.left.now) r.new.left.now result }
 {
-    let head = read_head(w, u, r, known, nest)?;
-    count_parts(w, u, r, known, nest - 1, arg, head)
+    let head = read_head(st, r, known, nest)?;
+    count_parts(st, r, known, nest - 1, arg, head)
 }
 
 // Its parts, beside itself.
 #[cycle(count_parts_count_type)]
 fn count_parts(
-    w: &[u32],
-    u: Used,
+    st: &State<'_>,
     r: &mut Reader,
     known: u32,
     nest: u32,
     arg: bool,
     head: Head,
 ) -> Result<Option<Sums>, ReadError>
-    requires lay { Lay w.now u × Arities (view w.now u).structs }
+    requires few_params { Arities (tables st.now).structs }
     requires few { many_parts head.shape ≤ 8 }
-    ensures { Counts w.now u known arg (λ s. tree_read (Ok head) r.old.left.now (read_nested nest s)) r.new.left.now result }
+    requires short { length r.old.left.now ≤ 4096 }
+    ensures { Counts st.now known arg (λ s. tree_read (Ok head) r.old.left.now (read_nested nest s)) r.new.left.now result }
 {
     let n = part_count(head.shape);
     let args = is_apply(head.shape);
     let mut all = both(own(head.shape), Some(beside(arg, head.shape)));
     for _i in 0..n {
-        let part = count_type(w, u, r, known, nest, args)?;
+        let part = count_type(st, r, known, nest, args)?;
         all = both(all, part);
     }
     Ok(all)

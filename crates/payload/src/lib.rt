@@ -4,10 +4,11 @@
 ghost use Rattle.std.specs.Prelude.{◌≡◌, true, false, List, ◌++◌, ◌≤◌, ◌<◌, length};
 ghost use Rattle.definition.specs.Types as d;
 ghost use Rattle.definition.specs.Write.{u32 as bytes-u32, write};
-ghost use Rattle.table.specs.State.{view, seen, Lay};
+ghost use Rattle.table.specs.Did.{held, tables};
 ghost use Rattle.writer.specs.Bytes.{Wrote, capped, AllBytes};
 ghost use Rattle.payload.specs.Payload.{reply, shown, Shows, Paid};
 
+use table::state::State;
 use table::{Shape, Used, tvar};
 use writer::{put_u16, put_u32, size_type, write_head, write_type};
 
@@ -25,7 +26,8 @@ pub enum Show {
     Four(u32, u32, u32, u32),
 }
 
-// The number, how many bytes the payload has, and the rows in use; whether the state is the one that the run left.
+// The number, how many bytes the payload has, and the rows in use; whether the state is the one that the run left, so that a
+// new struct's parameter bytes are put beside it: a flag, since the others are said either way.
 #[derive(Clone, Copy)]
 pub struct Answer {
     pub number: u32,
@@ -38,43 +40,43 @@ pub const MAX_PAYLOAD: u32 = 4096;
 
 // ---- the payload
 
-fn two_size(w: &[u32], u: Used, a: u32, b: u32) -> u32
-    requires { Lay w.now u × ((a < u.nodes) × (b < u.nodes)) }
-    ensures { (ds : List d.Struct) → result ≡ capped 4096 (length (write (seen w.now u ds) a ++ write (seen w.now u ds) b)) }
+fn two_size(st: &State<'_>, a: u32, b: u32) -> u32
+    requires { (a < st.now.used.nodes) × (b < st.now.used.nodes) }
+    ensures { (ds : List d.Struct) → result ≡ capped 4096 (length (write (held st.now ds) a ++ write (held st.now ds) b)) }
 {
-    let n = size_type(w, u, a, MAX_PAYLOAD);
+    let n = size_type(st, a, MAX_PAYLOAD);
     if MAX_PAYLOAD < n {
         return MAX_PAYLOAD + 1;
     }
-    let m = size_type(w, u, b, MAX_PAYLOAD - n);
+    let m = size_type(st, b, MAX_PAYLOAD - n);
     n + m
 }
 
 // How many bytes, if no more than 4,096; else 4,097.
 #[tactic(auto, unfolding(crate::specs::Payload::shown, writer::specs::Bytes::capped, definition::specs::Write::u16, definition::specs::Write::u32, definition::specs::Write::head))]
-fn shown_size(w: &[u32], u: Used, show: Show, t: u32) -> u32
-    requires { Lay w.now u × Shows u show t }
-    ensures { (ds : List d.Struct) → result ≡ capped 4096 (length (shown show t (seen w.now u ds))) }
+fn shown_size(st: &State<'_>, show: Show, t: u32) -> u32
+    requires { Shows st.now.used show t }
+    ensures { (ds : List d.Struct) → result ≡ capped 4096 (length (shown show t (held st.now ds))) }
 {
     match show {
         Show::Nothing => 0,
         Show::Number => 2,
         Show::Variable(_) => 7,
-        Show::Node => size_type(w, u, t, MAX_PAYLOAD),
+        Show::Node => size_type(st, t, MAX_PAYLOAD),
         Show::Anything(_) => 5,
         Show::Location(_) => 4,
-        Show::Two(a, b) => two_size(w, u, a, b),
+        Show::Two(a, b) => two_size(st, a, b),
         Show::Four(_, _, _, _) => 16,
     }
 }
 
-fn write_two(w: &[u32], u: Used, a: u32, b: u32, buf: &mut [u8]) -> usize
-    requires lay { Lay w.now u × ((a < u.nodes) × ((b < u.nodes) × (AllBytes (view w.now u) × (4096 ≤ length buf.old)))) }
-    requires fits { (ds : List d.Struct) → length (write (seen w.now u ds) a ++ write (seen w.now u ds) b) ≤ 4096 }
-    ensures { (ds : List d.Struct) → Wrote buf.old 0 (write (seen w.now u ds) a ++ write (seen w.now u ds) b) buf.new result }
+fn write_two(st: &State<'_>, a: u32, b: u32, buf: &mut [u8]) -> usize
+    requires in_use { (a < st.now.used.nodes) × ((b < st.now.used.nodes) × (AllBytes (tables st.now) × (4096 ≤ length buf.old))) }
+    requires fits { (ds : List d.Struct) → length (write (held st.now ds) a ++ write (held st.now ds) b) ≤ 4096 }
+    ensures { (ds : List d.Struct) → Wrote buf.old 0 (write (held st.now ds) a ++ write (held st.now ds) b) buf.new result }
 {
-    let next = write_type(w, u, a, buf, 0);
-    write_type(w, u, b, buf, next)
+    let next = write_type(st, a, buf, 0);
+    write_type(st, b, buf, next)
 }
 
 #[tactic(auto, unfolding(definition::specs::Write::u32))]
@@ -88,32 +90,32 @@ fn write_four(a: u32, b: u32, c: u32, e: u32, buf: &mut [u8]) -> usize
     put_u32(buf, fourth, e)
 }
 
-fn write_shown(w: &[u32], u: Used, show: Show, t: u32, buf: &mut [u8]) -> usize
-    requires lay { Lay w.now u × (Shows u show t × (AllBytes (view w.now u) × (4096 ≤ length buf.old))) }
-    requires fits { (ds : List d.Struct) → length (shown show t (seen w.now u ds)) ≤ 4096 }
-    ensures { (ds : List d.Struct) → Wrote buf.old 0 (shown show t (seen w.now u ds)) buf.new result }
+fn write_shown(st: &State<'_>, show: Show, t: u32, buf: &mut [u8]) -> usize
+    requires shows { Shows st.now.used show t × (AllBytes (tables st.now) × (4096 ≤ length buf.old)) }
+    requires fits { (ds : List d.Struct) → length (shown show t (held st.now ds)) ≤ 4096 }
+    ensures { (ds : List d.Struct) → Wrote buf.old 0 (shown show t (held st.now ds)) buf.new result }
 {
     match show {
         Show::Nothing => 0,
         Show::Number => put_u16(buf, 0, t),
         Show::Variable(loc) => write_head(loc, Shape::Var(tvar(t)), buf, 0),
-        Show::Node => write_type(w, u, t, buf, 0),
+        Show::Node => write_type(st, t, buf, 0),
         Show::Anything(loc) => write_head(loc, Shape::Anything, buf, 0),
         Show::Location(loc) => put_u32(buf, 0, loc),
-        Show::Two(a, b) => write_two(w, u, a, b, buf),
+        Show::Two(a, b) => write_two(st, a, b, buf),
         Show::Four(a, b, c, e) => write_four(a, b, c, e, buf),
     }
 }
 
 // The payload, if it has no more than 4,096 bytes, and how many. It is sized first: else the buffer stays as it was.
-pub fn write_payload(w: &[u32], u: Used, show: Show, t: u32, buf: &mut [u8]) -> Option<usize>
-    requires { Lay w.now u × (Shows u show t × (AllBytes (view w.now u) × (4096 ≤ length buf.old))) }
-    ensures { (ds : List d.Struct) → Paid (shown show t (seen w.now u ds)) buf.old buf.new result }
+pub fn write_payload(st: &State<'_>, show: Show, t: u32, buf: &mut [u8]) -> Option<usize>
+    requires { Shows st.now.used show t × (AllBytes (tables st.now) × (4096 ≤ length buf.old)) }
+    ensures { (ds : List d.Struct) → Paid (shown show t (held st.now ds)) buf.old buf.new result }
 {
-    if MAX_PAYLOAD < shown_size(w, u, show, t) {
+    if MAX_PAYLOAD < shown_size(st, show, t) {
         return None;
     }
-    Some(write_shown(w, u, show, t, buf))
+    Some(write_shown(st, show, t, buf))
 }
 
 // ---- the state

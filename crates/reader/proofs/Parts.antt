@@ -7,7 +7,9 @@ use native.Mathlib.Omega.{arith}
 use lib.ListN.{length, get_or}
 use lib.Dec.{ltb, leb}
 use Rattle.definition.specs.Types as d
+use Rattle.std.specs.Prelude as std
 use Rattle.std.specs.Prelude.{Option, Some, None, Ok, Err, is_none, unwrap_or, if◌then◌else◌}
+use Rattle.std.specs.Result.{result_ok}
 use Rattle.definition.specs.Types.{State, Refusal, max_nodes, max_args, full, Result, ok, err, refused, ◌>>=◌}
 use Rattle.definition.specs.Store.{count, args_of, with_node, sp}
 use Rattle.definition.specs.Write.{Bytes}
@@ -18,11 +20,9 @@ use Rattle.names.specs.Names.{mark_of, name_of}
 use Rattle.definition.specs.Build.{build, build_all}
 use Rattle.table.specs.declared.Shape.{Shape}
 use Rattle.table.specs.declared.Shape.TheVariants.{Unit as UnitS, Ref, Param, Apply, Var, Anything, UnresolvedError}
-use Rattle.table.specs.State.{outcome, done, NodesIn}
-use Rattle.table.specs.declared.Out.{Out}
-use Rattle.table.specs.declared.Out.TheVariants.{Done, Failed, Refused}
-use Rattle.cursor.specs.Words.{refusal}
-use Rattle.cursor.specs.declared.ReadError.{ReadError}
+use Rattle.table.specs.State.{outcome, NodesIn}
+use Rattle.table.specs.declared.state.Stop.{Stop}
+use Rattle.table.specs.declared.state.Stop.TheVariants.{Failed, Refused}
 use Rattle.heads.specs.Fields.{many_parts, tree_of}
 use Rattle.reader.specs.Taken.{Placed, stopped, placed, place_read, part_of, PlacedSo, with_parts, put_node}
 
@@ -200,16 +200,15 @@ put_fine loc h tys s =
     sp_fine (ltb (count s) max_nodes) (leb (length s.args + length (args_of v)) max_args) (with_node s loc v, count s)
 
 -- what an answer of a step stands for
-pub found_is : (o : Out) (loc : ℕ) (h : Shape) (tys : List ℕ) (s s' : State) (l : Bytes) → outcome o s' ≡ put_node loc h tys s → part_of (Ok (done o)) s' l ≡ placed (put_node loc h tys s) l
+pub found_is : (r : std.Result ℕ Stop) (loc : ℕ) (h : Shape) (tys : List ℕ) (s s' : State) (l : Bytes) → outcome r s' ≡ put_node loc h tys s → part_of (Ok (result_ok r)) s' l ≡ placed (put_node loc h tys s) l
 unfolding outcome
-found_is o loc h tys s s' l e = by o e (subst Fine (sym e) (put_fine loc h tys s))
+found_is r loc h tys s s' l e = by r e (subst Fine (sym e) (put_fine loc h tys s))
   where
-    by : (o : Out) → outcome o s' ≡ put_node loc h tys s → Fine (outcome o s') → part_of (Ok (done o)) s' l ≡ placed (put_node loc h tys s) l
-    by (Done t) e f = ap (λ (q : Result (State × ℕ)). placed q l) e
-    by (Failed x) e f = absurd f
-    by (Refused x) e f = ap (λ (y : d.Refusal). placed (refused y) l) (sym f) ∙ ap (λ (q : Result (State × ℕ)). placed q l) e
+    by : (r : std.Result ℕ Stop) → outcome r s' ≡ put_node loc h tys s → Fine (outcome r s') → part_of (Ok (result_ok r)) s' l ≡ placed (put_node loc h tys s) l
+    by (Ok t) e f = ap (λ (q : Result (State × ℕ)). placed q l) e
+    by (Err (Failed x)) e f = absurd f
+    by (Err (Refused x)) e f = ap (λ (y : d.Refusal). placed (refused y) l) (sym f) ∙ ap (λ (q : Result (State × ℕ)). placed q l) e
 
-pub found_in : (o : Out) (n : ℕ) → NodesIn n o → PlacedSo (Ok (done o)) (λ t. t < n)
-found_in (Done t) n i = i
-found_in (Failed x) n i = tt
-found_in (Refused x) n i = tt
+pub found_in : (r : std.Result ℕ Stop) (n : ℕ) → NodesIn n r → PlacedSo (Ok (result_ok r)) (λ t. t < n)
+found_in (Ok t) n i = i
+found_in (Err e) n i = tt

@@ -9,8 +9,9 @@ use Rattle.definition.specs.Reader.{Read, got, not_read}
 use Rattle.definition.specs.Trees.{Tree}
 use Rattle.definition.specs.Build.{build}
 use Rattle.names.specs.Names.{mark_of, name_of}
-use Rattle.table.specs.State.{Lay, Grown, Declares, view, seen}
-use Rattle.table.specs.declared.Used.{Used}
+use Rattle.table.specs.State.{Grown, Declares}
+use Rattle.table.specs.Did.{held, tables}
+use Rattle.table.specs.declared.state.State.{State as Table}
 use Rattle.table.specs.declared.Shape.{Shape}
 use Rattle.table.specs.declared.Shape.TheVariants.{Unit as UnitS, Ref, Param, Apply, Var, Anything, UnresolvedError}
 use Rattle.cursor.specs.Words.{refusal}
@@ -42,13 +43,14 @@ PlacedSo (Ok (Some a)) P = P a
 PlacedSo (Ok None) P = Unit {0}
 PlacedSo (Err e) P = Unit {0}
 
--- the words w became w', the answer r is the type that m reads, and the bytes l are left; s knows as many variables and structs as the record began with
-pub record Takes (w : List ℕ) (u : Used) (known : ℕ) (over : Bool) (m : State → Read Tree) (w' : List ℕ) (u' : Used) (l : Bytes) (r : std.Result (Option ℕ) ReadError) : Type 0 where
-  pub lay : Lay w' u'
-  pub grown : Grown (view w u) (view w' u')
-  pub structs : (view w' u').structs ≡ (view w u).structs
-  pub inside : PlacedSo r (λ t. t < u'.nodes)
-  pub is : (ds : List Struct) (s : State) → Declares w u ds → Knows s known ds → part_of r (seen w' u' ds) l ≡ place_read over build (m s) (seen w u ds)
+-- the table st became t, which lends the same words; the answer r is the type that m reads, and the bytes l are left; s knows as many variables and
+-- structs as the record began with
+pub record Takes (st : Table) (known : ℕ) (over : Bool) (m : State → Read Tree) (t : Table) (l : Bytes) (r : std.Result (Option ℕ) ReadError) : Type 0 where
+  pub same : t.words.ghost_name ≡ st.words.ghost_name
+  pub grown : Grown (tables st) (tables t)
+  pub structs : (tables t).structs ≡ (tables st).structs
+  pub inside : PlacedSo r (λ n. n < t.used.nodes)
+  pub is : (ds : List Struct) (s : State) → Declares st.words.now st.used ds → Knows s known ds → part_of r (held t ds) l ≡ place_read over build (m s) (held st ds)
 
 -- a type's value with these parts
 abbrev pub with_parts : Shape → List ℕ → d.TypeValue

@@ -3,13 +3,14 @@
 
 ghost use Rattle.std.specs.Prelude.{◌≡◌, ◌≤◌, take};
 ghost use Rattle.definition.specs.Trees.{read_nested};
-ghost use Rattle.table.specs.State.{view, Lay, After};
+ghost use Rattle.table.specs.Did.{tables, Did};
 ghost use Rattle.heads.specs.Fields.{tree_read, many_parts, Arities};
 ghost use Rattle.reader.specs.Taken.{Takes, PartsBelow, put_node};
 
 use cursor::{ReadError, Reader};
 use heads::{Head, read_head};
-use table::{Outcome, Shape, Used, done_of, push_apply, push_node};
+use table::Shape;
+use table::state::{State, Stop};
 
 // ---- a type and its parts, read and placed
 
@@ -20,16 +21,16 @@ pub fn part_count(shape: Shape) -> usize
 }
 
 // The node of a type whose parts are placed.
-fn place_node(w: &mut [u32], u: Used, head: Head, parts: [u32; 8]) -> Outcome
-    requires { Lay w.old u × ((many_parts head.shape ≤ 8) × PartsBelow u.nodes parts (many_parts head.shape)) }
-    ensures { After w.old u w.new result (put_node head.loc head.shape (take (many_parts head.shape) parts)) }
+fn place_node(st: &mut State<'_>, head: Head, parts: [u32; 8]) -> Result<u32, Stop>
+    requires { (many_parts head.shape ≤ 8) × PartsBelow st.old.used.nodes parts (many_parts head.shape) }
+    ensures { Did st.old st.new result (put_node head.loc head.shape (take (many_parts head.shape) parts)) }
 {
     let loc = head.loc;
     let shape = head.shape;
     match shape {
-        Shape::Ref(m, _) => push_node(w, u, loc, Shape::Ref(m, parts[0])),
-        Shape::Apply(k, name, _, many) => push_apply(w, u, loc, k, name, parts, many),
-        _ => push_node(w, u, loc, shape),
+        Shape::Ref(m, _) => st.push_node(loc, Shape::Ref(m, parts[0])),
+        Shape::Apply(k, name, _, many) => st.push_apply(loc, k, name, parts, many),
+        _ => st.push_node(loc, shape),
     }
 }
 
@@ -37,48 +38,44 @@ fn place_node(w: &mut [u32], u: Used, head: Head, parts: [u32; 8]) -> Outcome
 // or 18 comes before 7.
 #[cycle(read_parts_read_type)]
 pub fn read_type(
-    w: &mut [u32],
-    u: &mut Used,
+    st: &mut State<'_>,
     r: &mut Reader,
     known: u32,
     nest: u32,
     full: bool,
 ) -> Result<Option<u32>, ReadError>
-    requires { Lay w.old u.old × Arities (view w.old u.old).structs }
-    ensures { Takes w.old u.old known full (λ s. read_nested nest s r.old.left.now) w.new u.new r.new.left.now result }
+    requires { Arities (tables st.old).structs }
+    ensures { Takes st.old known full (λ s. read_nested nest s r.old.left.now) st.new r.new.left.now result }
 {
-    let head = read_head(w, *u, r, known, nest)?;
-    read_parts(w, u, r, known, nest - 1, full, head)
+    let head = read_head(st, r, known, nest)?;
+    read_parts(st, r, known, nest - 1, full, head)
 }
 
 // Its parts, and then its node.
 #[cycle(read_parts_read_type)]
 fn read_parts(
-    w: &mut [u32],
-    u: &mut Used,
+    st: &mut State<'_>,
     r: &mut Reader,
     known: u32,
     nest: u32,
     full: bool,
     head: Head,
 ) -> Result<Option<u32>, ReadError>
-    requires lay { Lay w.old u.old × Arities (view w.old u.old).structs }
+    requires few_params { Arities (tables st.old).structs }
     requires few { many_parts head.shape ≤ 8 }
-    ensures { Takes w.old u.old known full (λ s. tree_read (Ok head) r.old.left.now (read_nested nest s)) w.new u.new r.new.left.now result }
+    ensures { Takes st.old known full (λ s. tree_read (Ok head) r.old.left.now (read_nested nest s)) st.new r.new.left.now result }
 {
     let n = part_count(head.shape);
     let mut over = full;
+    // Eight, as push_apply takes them; how many there are the head says.
     let mut parts: [u32; 8] = [0; 8];
     for i in 0..n {
-        let part = read_type(w, u, r, known, nest, over)?;
+        let part = read_type(st, r, known, nest, over)?;
         over = part.is_none();
         parts[i] = part.unwrap_or(0);
     }
     if over {
         return Ok(None);
     }
-    let step = place_node(w, *u, head, parts);
-    let out = step.out;
-    *u = step.used;
-    Ok(done_of(out))
+    Ok(place_node(st, head, parts).ok())
 }

@@ -1,11 +1,12 @@
 -- ready_tvars: how it goes on from a type, and what its steps answer. Assumes nothing: these are definitions.
 use Rattle.std.specs.Prelude.{◌≡◌, List, ℕ, ◌<◌, length, get_or}
 use Rattle.definition.specs.Types as d
-use Rattle.definition.specs.Types.{State, Struct, Result, ok, refused, runs_into_itself, ◌>>=◌}
+use Rattle.definition.specs.Types.{Struct, Result, ok, refused, runs_into_itself, ◌>>=◌}
 use Rattle.definition.specs.Store.{type_at, loc_of, with_args, sp, map_types}
 use Rattle.definition.specs.Subst.{parts, ready_value, ready}
-use Rattle.table.specs.State.{shape_of, seen}
-use Rattle.table.specs.declared.Used.{Used}
+use Rattle.table.specs.State.{shape_of}
+use Rattle.table.specs.Did.{held}
+use Rattle.table.specs.declared.state.State.{State}
 use Rattle.table.specs.declared.Shape.{Shape}
 use Rattle.shapes.specs.Parts.{part_count}
 use Rattle.ready.specs.declared.Onward.{Onward}
@@ -14,7 +15,7 @@ use Rattle.ready.specs.declared.Landing.{Landing}
 use Rattle.ready.specs.declared.Landing.TheVariants.{Parts as PartsL, Open as OpenL, Spent}
 
 -- the type ty anew, with the parts tys; one without parts and without a name stays
-unfoldable pub rebuilt : State → ℕ → ℕ → d.TypeValue → List ℕ → Result (State × ℕ)
+unfoldable pub rebuilt : d.State → ℕ → ℕ → d.TypeValue → List ℕ → Result (d.State × ℕ)
 rebuilt s ty loc d.UnitType tys = ok (s, ty)
 rebuilt s ty loc (d.Ref m t) tys = sp s loc (d.Ref m (get_or tys 0 0))
 rebuilt s ty loc (d.Param id a) tys = ok (s, ty)
@@ -23,50 +24,50 @@ rebuilt s ty loc (d.Var v) tys = ok (s, ty)
 rebuilt s ty loc d.Anything tys = ok (s, ty)
 rebuilt s ty loc d.UnresolvedError tys = ok (s, ty)
 
-unfoldable pub rebuilt_at : State → ℕ → List ℕ → Result (State × ℕ)
+unfoldable pub rebuilt_at : d.State → ℕ → List ℕ → Result (d.State × ℕ)
 rebuilt_at s ty tys = rebuilt s ty (loc_of s ty) (type_at s ty) tys
 
 -- .. its parts made ready first, one after the other
-unfoldable pub by_parts : (State → ℕ → Result (State × ℕ)) → State → ℕ → ℕ → d.TypeValue → Result (State × ℕ)
+unfoldable pub by_parts : (d.State → ℕ → Result (d.State × ℕ)) → d.State → ℕ → ℕ → d.TypeValue → Result (d.State × ℕ)
 by_parts f s ty loc x = map_types f s (parts x) >>= (λ y. rebuilt y.0 ty loc x y.1)
 
-unfoldable pub by_parts_at : (State → ℕ → Result (State × ℕ)) → State → ℕ → Result (State × ℕ)
+unfoldable pub by_parts_at : (d.State → ℕ → Result (d.State × ℕ)) → d.State → ℕ → Result (d.State × ℕ)
 by_parts_at f s ty = by_parts f s ty (loc_of s ty) (type_at s ty)
 
 -- node t has so many parts
-abbrev pub HasParts : List ℕ → Used → ℕ → ℕ → Type 0
-HasParts w u t many = (ds : List Struct) → length (parts (type_at (seen w u ds) t)) ≡ many
+abbrev pub HasParts : State → ℕ → ℕ → Type 0
+HasParts s t many = (ds : List Struct) → length (parts (type_at (held s ds) t)) ≡ many
 
 -- one level of ready_tvars, of the type ty
-abbrev pub onward_of : (State → ℕ → Result (State × ℕ)) → State → ℕ → ℕ → d.TypeValue → Onward → Result (State × ℕ)
+abbrev pub onward_of : (d.State → ℕ → Result (d.State × ℕ)) → d.State → ℕ → ℕ → d.TypeValue → Onward → Result (d.State × ℕ)
 onward_of f s ty loc x (Parts many) = by_parts f s ty loc x
 onward_of f s ty loc x (Open v) = sp s loc (d.Var v.0)
 onward_of f s ty loc x (Bound t) = f s t
 
 -- a binding is a node
-abbrev pub OnwardIn : Used → Shape → Onward → Type 0
-OnwardIn u sh (Parts many) = many ≡ part_count (shape_of sh)
-OnwardIn u sh (Open v) = Unit {0}
-OnwardIn u sh (Bound t) = t < u.nodes
+abbrev pub OnwardIn : ℕ → Shape → Onward → Type 0
+OnwardIn n sh (Parts many) = many ≡ part_count (shape_of sh)
+OnwardIn n sh (Open v) = Unit {0}
+OnwardIn n sh (Bound t) = t < n
 
 -- a shape goes on so
-pub record Goes (w : List ℕ) (u : Used) (sh : Shape) (r : Onward) : Type 0 where
-  pub is : (f : State → ℕ → Result (State × ℕ)) (ty loc : ℕ) (ds : List Struct) → onward_of f (seen w u ds) ty loc (with_args (seen w u ds) (shape_of sh)) r
-      ≡ ready_value f (seen w u ds) ty loc (with_args (seen w u ds) (shape_of sh))
-  pub inside : OnwardIn u sh r
+pub record Goes (s : State) (sh : Shape) (r : Onward) : Type 0 where
+  pub is : (f : d.State → ℕ → Result (d.State × ℕ)) (ty loc : ℕ) (ds : List Struct) → onward_of f (held s ds) ty loc (with_args (held s ds) (shape_of sh)) r
+      ≡ ready_value f (held s ds) ty loc (with_args (held s ds) (shape_of sh))
+  pub inside : OnwardIn s.used.nodes sh r
 
 -- what ready_tvars comes to from a landing
-abbrev pub landed : State → Landing → Result (State × ℕ)
+abbrev pub landed : d.State → Landing → Result (d.State × ℕ)
 landed s (PartsL t many left) = by_parts_at (λ s t. ready left s t) s t
 landed s (OpenL loc v) = sp s loc (d.Var v.0)
 landed s Spent = refused runs_into_itself
 
-abbrev pub LandingIn : List ℕ → Used → ℕ → Landing → Type 0
-LandingIn w u calls (PartsL t many left) = (t < u.nodes) × ((left < calls) × HasParts w u t many)
-LandingIn w u calls (OpenL loc v) = Unit {0}
-LandingIn w u calls Spent = Unit {0}
+abbrev pub LandingIn : State → ℕ → Landing → Type 0
+LandingIn s calls (PartsL t many left) = (t < s.used.nodes) × ((left < calls) × HasParts s t many)
+LandingIn s calls (OpenL loc v) = Unit {0}
+LandingIn s calls Spent = Unit {0}
 
 -- type t, in at most `calls` calls, lands so
-pub record Lands (w : List ℕ) (u : Used) (t calls : ℕ) (r : Landing) : Type 0 where
-  pub is : (ds : List Struct) → landed (seen w u ds) r ≡ ready calls (seen w u ds) t
-  pub inside : LandingIn w u calls r
+pub record Lands (s : State) (t calls : ℕ) (r : Landing) : Type 0 where
+  pub is : (ds : List Struct) → landed (held s ds) r ≡ ready calls (held s ds) t
+  pub inside : LandingIn s calls r

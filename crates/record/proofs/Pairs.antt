@@ -1,6 +1,6 @@
 -- The loop over the pairs of an id and a type: where it begins, a turn, an early end, and the last type. Assumes nothing.
 use mathlib.Core.Path.{◌≡◌, refl, sym, ap, ◌∙◌}
-use mathlib.Core.Bool.{Bool, true, false}
+use mathlib.Core.Bool.{Bool, false}
 use mathlib.Core.List.{List, [], ◌∷◌, ◌++◌, append-nil, append_assoc}
 use Prim.Native.Nat.{ℕ, zero, suc, ◌+◌, ◌-◌, ◌≤◌, ◌<◌}
 use native.Mathlib.Nat.{sub-zero}
@@ -9,8 +9,8 @@ use native.Mathlib.Decide.{ℕ_discrete}
 use native.Mathlib.Omega.{arith}
 use lib.ListN.{length, get_or, set, length-set}
 use lib.Seq.{get_or-set_same, get_or-set_other}
-use Rattle.std.specs.Prelude as std
 use Rattle.std.specs.Prelude.{Option, Some, None, Ok, Err, is_none, unwrap_or}
+use Rattle.std.specs.Option.{option_map}
 use Rattle.definition.specs.Types.{State, Struct, Refusal, Result, ok, err, refused, ◌>>=◌}
 use Rattle.definition.specs.Write.{Bytes}
 use Rattle.definition.specs.Reader as rd
@@ -20,15 +20,16 @@ use Rattle.definition.specs.Build.{build, build_pairs}
 use Rattle.definition.specs.Record as d
 use Rattle.definition.specs.Record.{Record, read_pair}
 use Rattle.names.specs.declared.TParamID.{TParamID}
-use Rattle.table.specs.State.{Lay, Grown, Declares, view, seen}
-use Rattle.table.specs.declared.Used.{Used}
+use Rattle.table.specs.State.{Grown, Declares}
+use Rattle.table.specs.Did.{held, tables}
+use Rattle.table.specs.declared.state.State.{State as Table}
 use Rattle.table.proofs.Steps.{grown_refl, grown_trans}
 use Rattle.table.proofs.Grown.{nodes_grow}
 use Rattle.tparams.specs.Pairs.{id_at, pairs}
 use Rattle.cursor.specs.Words.{refusal}
 use Rattle.cursor.specs.declared.ReadError.{ReadError}
 use Rattle.heads.specs.Fields.{Knows}
-use Rattle.reader.specs.Taken.{place_read, Takes, PlacedSo}
+use Rattle.reader.specs.Taken.{place_read, Takes}
 use Rattle.reader.proofs.Loop.{declares_kept, code}
 use Rattle.reader.proofs.Parts.{never}
 use Rattle.fields.specs.declared.Look.TheVariants as k
@@ -36,7 +37,7 @@ use Rattle.fields.specs.declared.What.{What}
 use Rattle.fields.specs.declared.What.TheVariants as q
 use Rattle.fields.specs.Noded.{Noded, run, looks, tparams, place_record, FieldsAre}
 use Rattle.fields.proofs.Placing.{stopped_is, last_type, first_type}
-use Rattle.fields.proofs.Forms.{was_open, made, made_with, made_so, first_in}
+use Rattle.fields.proofs.Forms.{was_open, made_with, made_so, first_in}
 
 -- ---- pairs in two arrays
 
@@ -147,53 +148,53 @@ put_last xs t s = ap (λ (k : List (ℕ × ℕ)). build t s >>= (λ (s, n). ok (
 
 -- ---- the loop
 
-pub record PairsGo (w₀ : List ℕ) (u₀ : Used) (l₀ : Bytes) (known n : ℕ) (w : List ℕ) (u : Used) (l : Bytes) (over : Bool) (ids : List TParamID) (nodes : List ℕ) (i : ℕ) : Type 0 where
+pub record PairsGo (st₀ : Table) (l₀ : Bytes) (known n : ℕ) (st : Table) (l : Bytes) (over : Bool) (ids : List TParamID) (nodes : List ℕ) (i : ℕ) : Type 0 where
   pub left : i ≤ n
-  pub lay : Lay w u
-  pub grown : Grown (view w₀ u₀) (view w u)
-  pub structs : (view w u).structs ≡ (view w₀ u₀).structs
+  pub same : st.words.ghost_name ≡ st₀.words.ghost_name
+  pub grown : Grown (tables st₀) (tables st)
+  pub structs : (tables st).structs ≡ (tables st₀).structs
   pub long_ids : length ids ≡ 8
   pub long : length nodes ≡ 8
-  pub below : over ≡ false → (j : ℕ) → j < i → get_or nodes j 0 < u.nodes
-  pub is : (ds : List Struct) (s : State) → Declares w₀ u₀ ds → Knows s known ds
-      → place_read false (put_left []) (left_at s n l₀) (seen w₀ u₀ ds) ≡ place_read over (put_left (pairs ids nodes 0 i)) (left_at s (n - i) l) (seen w u ds)
+  pub below : over ≡ false → (j : ℕ) → j < i → get_or nodes j 0 < st.used.nodes
+  pub is : (ds : List Struct) (s : State) → Declares st₀.words.now st₀.used ds → Knows s known ds
+      → place_read false (put_left []) (left_at s n l₀) (held st₀ ds) ≡ place_read over (put_left (pairs ids nodes 0 i)) (left_at s (n - i) l) (held st ds)
 
-pub pairs_none : {w : List ℕ} {u : Used} (l : Bytes) (known n : ℕ) {ids : List TParamID} {nodes : List ℕ} → Lay w u → length ids ≡ 8 → length nodes ≡ 8 → PairsGo w u l known n w u l false ids nodes 0
+pub pairs_none : {st : Table} (l : Bytes) (known n : ℕ) {ids : List TParamID} {nodes : List ℕ} → length ids ≡ 8 → length nodes ≡ 8 → PairsGo st l known n st l false ids nodes 0
 unfolding pairs
-pairs_none {w} {u} l known n h e e' =
+pairs_none {st} l known n e e' =
     record {
       left = omega arith;
-      lay = h;
-      grown = grown_refl (view w u);
+      same = refl;
+      grown = grown_refl (tables st);
       structs = refl;
       long_ids = e;
       long = e';
       below = λ o j h. absurd (omega arith);
-      is = λ ds s d k. ap (λ (j : ℕ). place_read false (put_left []) (left_at s j l) (seen w u ds)) (sym (sub-zero n));
+      is = λ ds s d k. ap (λ (j : ℕ). place_read false (put_left []) (left_at s j l) (held st ds)) (sym (sub-zero n));
     }
 
-module _ {w₀ : List ℕ} {u₀ : Used} {l₀ : Bytes} {known n : ℕ} {w : List ℕ} {u : Used} {l : Bytes} {over : Bool} {ids : List TParamID} {nodes : List ℕ} {i : ℕ} (g : PairsGo w₀ u₀ l₀ known n w u l over ids nodes i) where
+module _ {st₀ : Table} {l₀ : Bytes} {known n : ℕ} {st : Table} {l : Bytes} {over : Bool} {ids : List TParamID} {nodes : List ℕ} {i : ℕ} (g : PairsGo st₀ l₀ known n st l over ids nodes i) where
   abbrev read_all : State → Read Record
   read_all s = go_on (times n (read_pair s) l₀) (λ ps l. go_on (read_type s l) (λ t. give (d.TS ps t)))
 
   -- one pair more is read, if fewer than n are
-  turn_is : i < n → (ds : List Struct) (s : State) → Declares w₀ u₀ ds → Knows s known ds
-      → place_read false place_record (read_all s) (seen w₀ u₀ ds) ≡ place_read over (put_left (pairs ids nodes 0 i)) (left_at s (suc (n - (i + 1))) l) (seen w u ds)
+  turn_is : i < n → (ds : List Struct) (s : State) → Declares st₀.words.now st₀.used ds → Knows s known ds
+      → place_read false place_record (read_all s) (held st₀ ds) ≡ place_read over (put_left (pairs ids nodes 0 i)) (left_at s (suc (n - (i + 1))) l) (held st ds)
   turn_is h ds s d k =
       let z : n - i ≡ suc (n - (i + 1)) = omega arith in
-      sym (left_is s n l₀ (seen w₀ u₀ ds)) ∙ g.is ds s d k ∙ ap (λ (j : ℕ). place_read over (put_left (pairs ids nodes 0 i)) (left_at s j l) (seen w u ds)) z
+      sym (left_is s n l₀ (held st₀ ds)) ∙ g.is ds s d k ∙ ap (λ (j : ℕ). place_read over (put_left (pairs ids nodes 0 i)) (left_at s j l) (held st ds)) z
 
   -- an id is not read
-  pub pairs_cut : {l' : Bytes} {e : ReadError} → i < n → not_read (refusal e) ≡ read_u32 l → FieldsAre w₀ u₀ known read_all w u l' (Err e)
+  pub pairs_cut : {l' : Bytes} {e : ReadError} → i < n → not_read (refusal e) ≡ read_u32 l → FieldsAre st₀ known read_all st l' (Err e)
   unfolding place_read
   pairs_cut {e = e} h f =
       record {
-        lay = g.lay;
+        same = g.same;
         grown = g.grown;
         structs = g.structs;
         inside = tt;
         is = λ ds s d k.
-            ap (λ (x : Read Left). place_read over (put_left (pairs ids nodes 0 i)) x (seen w u ds)) (left_cut s (n - (i + 1)) (refusal e) l f)
+            ap (λ (x : Read Left). place_read over (put_left (pairs ids nodes 0 i)) x (held st ds)) (left_cut s (n - (i + 1)) (refusal e) l f)
             ∙ sym (turn_is h ds s d k);
       }
 
@@ -204,43 +205,43 @@ module _ {w₀ : List ℕ} {u₀ : Used} {l₀ : Bytes} {known n : ℕ} {w : Lis
     abbrev after : ℕ → Left → State → Result (State × Noded)
     after x c s = put_left (pairs ids nodes 0 i ++ ((id, x) ∷ [])) c s
 
-    pair_is : (ds : List Struct) (s : State) → Declares w₀ u₀ ds → Knows s known ds → place_read false place_record (read_all s) (seen w₀ u₀ ds)
-        ≡ place_read over (put_left (pairs ids nodes 0 i)) (go_on (read_nested 64 s l₁) (λ t l. go_on (left_at s (n - (i + 1)) l) (λ c. give (one t c)))) (seen w u ds)
+    pair_is : (ds : List Struct) (s : State) → Declares st₀.words.now st₀.used ds → Knows s known ds → place_read false place_record (read_all s) (held st₀ ds)
+        ≡ place_read over (put_left (pairs ids nodes 0 i)) (go_on (read_nested 64 s l₁) (λ t l. go_on (left_at s (n - (i + 1)) l) (λ c. give (one t c)))) (held st ds)
     unfolding read_type
     pair_is ds s d k =
-        turn_is h ds s d k ∙ ap (λ (x : Read Left). place_read over (put_left (pairs ids nodes 0 i)) x (seen w u ds)) (left_more s (n - (i + 1)) id l l₁ e)
+        turn_is h ds s d k ∙ ap (λ (x : Read Left). place_read over (put_left (pairs ids nodes 0 i)) x (held st ds)) (left_more s (n - (i + 1)) id l l₁ e)
 
     -- a type is not read
-    pub pairs_stop : {w' : List ℕ} {u' : Used} {l' : Bytes} {x : ReadError} → Takes w u known over (λ s. read_nested 64 s l₁) w' u' l' (Err x) → FieldsAre w₀ u₀ known read_all w' u' l' (Err x)
+    pub pairs_stop : {st' : Table} {l' : Bytes} {x : ReadError} → Takes st known over (λ s. read_nested 64 s l₁) st' l' (Err x) → FieldsAre st₀ known read_all st' l' (Err x)
     unfolding place_read go_on
     pairs_stop {x = x} t =
         record {
-          lay = t.lay;
+          same = t.same ∙ g.same;
           grown = grown_trans _ _ _ g.grown t.grown;
           structs = t.structs ∙ g.structs;
           inside = tt;
           is = λ ds s d k.
-              let y = stopped_is (read_nested 64 s l₁) over (seen w u ds) (refusal x) (t.is ds s (declares_kept w₀ u₀ w u ds g.structs d) k) in
-              sym (pair_is ds s d k ∙ ap (λ (r : Read Tree). place_read over (put_left (pairs ids nodes 0 i)) (go_on r (λ t l. go_on (left_at s (n - (i + 1)) l) (λ c. give (one t c)))) (seen w u ds)) y);
+              let y = stopped_is (read_nested 64 s l₁) over (held st ds) (refusal x) (t.is ds s (declares_kept _ _ _ _ ds g.structs d) k) in
+              sym (pair_is ds s d k ∙ ap (λ (r : Read Tree). place_read over (put_left (pairs ids nodes 0 i)) (go_on r (λ t l. go_on (left_at s (n - (i + 1)) l) (λ c. give (one t c)))) (held st ds)) y);
         }
 
-    module _ {w' : List ℕ} {u' : Used} {l' : Bytes} {o : Option ℕ} (t : Takes w u known over (λ s. read_nested 64 s l₁) w' u' l' (Ok o)) where
-      here : i < length nodes → is_none o ≡ false → (j : ℕ) → j < i + 1 → get_or (set nodes i (unwrap_or o 0)) j 0 < u'.nodes
+    module _ {st' : Table} {l' : Bytes} {o : Option ℕ} (t : Takes st known over (λ s. read_nested 64 s l₁) st' l' (Ok o)) where
+      here : i < length nodes → is_none o ≡ false → (j : ℕ) → j < i + 1 → get_or (set nodes i (unwrap_or o 0)) j 0 < st'.used.nodes
       here lt b j h = either (ℕ_discrete j i)
         where
           part_open : (p : Option ℕ) → p ≡ o → is_none p ≡ false → over ≡ false
           part_open (Some x) q b = was_open (rw (sym q) at t)
           part_open None q b = never (ap code (sym b))
 
-          either : Dec (j ≡ i) → get_or (set nodes i (unwrap_or o 0)) j 0 < u'.nodes
+          either : Dec (j ≡ i) → get_or (set nodes i (unwrap_or o 0)) j 0 < st'.used.nodes
           either (yes q) =
-              rw (q, get_or-set_same nodes i (unwrap_or o 0) 0 lt) (first_in o u'.nodes u'.nodes (omega arith) b t.inside)
+              rw (q, get_or-set_same nodes i (unwrap_or o 0) 0 lt) (first_in o st'.used.nodes st'.used.nodes (omega arith) b t.inside)
           either (no q) =
-              let a : get_or nodes j 0 < u.nodes = g.below (part_open o refl b) j (omega arith) in
-              let z : u.nodes ≤ u'.nodes = nodes_grow w u w' u' t.grown in
+              let a : get_or nodes j 0 < st.used.nodes = g.below (part_open o refl b) j (omega arith) in
+              let z : st.used.nodes ≤ st'.used.nodes = nodes_grow _ _ _ _ t.grown in
               rw (get_or-set_other nodes i j (unwrap_or o 0) 0 q) (omega arith)
 
-      pub pairs_turn : n ≤ 8 → PairsGo w₀ u₀ l₀ known n w' u' l' (is_none o) (set ids i (record { 0 = id })) (set nodes i (unwrap_or o 0)) (i + 1)
+      pub pairs_turn : n ≤ 8 → PairsGo st₀ l₀ known n st' l' (is_none o) (set ids i (record { 0 = id })) (set nodes i (unwrap_or o 0)) (i + 1)
       pairs_turn few =
           let z : length nodes ≡ 8 = g.long in
           let z' : length ids ≡ 8 = g.long_ids in
@@ -248,67 +249,67 @@ module _ {w₀ : List ℕ} {u₀ : Used} {l₀ : Bytes} {known n : ℕ} {w : Lis
           let lt' : i < length ids = omega arith in
           record {
             left = omega arith;
-            lay = t.lay;
+            same = t.same ∙ g.same;
             grown = grown_trans _ _ _ g.grown t.grown;
             structs = t.structs ∙ g.structs;
             long_ids = length-set ids i (record { 0 = id }) ∙ g.long_ids;
             long = length-set nodes i (unwrap_or o 0) ∙ g.long;
             below = λ b. here lt b;
             is = λ ds s d k.
-                left_is s n l₀ (seen w₀ u₀ ds) ∙ pair_is ds s d k
-                ∙ first_type (put_left (pairs ids nodes 0 i)) one after (put_one (pairs ids nodes 0 i) id) (left_at s (n - (i + 1))) o over (read_nested 64 s l₁) (seen w u ds)
-                (seen w' u' ds) l' (t.is ds s (declares_kept w₀ u₀ w u ds g.structs d) k)
-                ∙ ap (λ (xs : List (ℕ × ℕ)). place_read (is_none o) (put_left xs) (left_at s (n - (i + 1)) l') (seen w' u' ds))
+                left_is s n l₀ (held st₀ ds) ∙ pair_is ds s d k
+                ∙ first_type (put_left (pairs ids nodes 0 i)) one after (put_one (pairs ids nodes 0 i) id) (left_at s (n - (i + 1))) o over (read_nested 64 s l₁) (held st ds)
+                (held st' ds) l' (t.is ds s (declares_kept _ _ _ _ ds g.structs d) k)
+                ∙ ap (λ (xs : List (ℕ × ℕ)). place_read (is_none o) (put_left xs) (left_at s (n - (i + 1)) l') (held st' ds))
                 (sym (pairs_more ids nodes i (record { 0 = id }) (unwrap_or o 0) lt' lt));
           }
 
   -- ---- the last type
 
-  last_is : n ≤ i → (ds : List Struct) (s : State) → Declares w₀ u₀ ds → Knows s known ds
-      → place_read over (put_left (pairs ids nodes 0 n)) (go_on (read_nested 64 s l) (λ t. give ([], t))) (seen w u ds) ≡ place_read false place_record (read_all s) (seen w₀ u₀ ds)
+  last_is : n ≤ i → (ds : List Struct) (s : State) → Declares st₀.words.now st₀.used ds → Knows s known ds
+      → place_read over (put_left (pairs ids nodes 0 n)) (go_on (read_nested 64 s l) (λ t. give ([], t))) (held st ds) ≡ place_read false place_record (read_all s) (held st₀ ds)
   unfolding read_type
   last_is h ds s d k =
       let z : i ≡ n = (let y = g.left in omega arith) in
       let none : n - i ≡ 0 = omega arith in
-      ap (λ (x : Read Left). place_read over (put_left (pairs ids nodes 0 n)) x (seen w u ds)) (sym (left_none s l))
-      ∙ ap (λ (j : ℕ). place_read over (put_left (pairs ids nodes 0 n)) (left_at s j l) (seen w u ds)) (sym none)
-      ∙ ap (λ (j : ℕ). place_read over (put_left (pairs ids nodes 0 j)) (left_at s (n - i) l) (seen w u ds)) (sym z)
-      ∙ sym (g.is ds s d k) ∙ left_is s n l₀ (seen w₀ u₀ ds)
+      ap (λ (x : Read Left). place_read over (put_left (pairs ids nodes 0 n)) x (held st ds)) (sym (left_none s l))
+      ∙ ap (λ (j : ℕ). place_read over (put_left (pairs ids nodes 0 n)) (left_at s j l) (held st ds)) (sym none)
+      ∙ ap (λ (j : ℕ). place_read over (put_left (pairs ids nodes 0 j)) (left_at s (n - i) l) (held st ds)) (sym z)
+      ∙ sym (g.is ds s d k) ∙ left_is s n l₀ (held st₀ ds)
 
-  pub last_unread : n ≤ i → {w' : List ℕ} {u' : Used} {l' : Bytes} {x : ReadError} → Takes w u known over (λ s. read_nested 64 s l) w' u' l' (Err x) → FieldsAre w₀ u₀ known read_all w' u' l' (Err x)
+  pub last_unread : n ≤ i → {st' : Table} {l' : Bytes} {x : ReadError} → Takes st known over (λ s. read_nested 64 s l) st' l' (Err x) → FieldsAre st₀ known read_all st' l' (Err x)
   unfolding place_read go_on
   last_unread h {x = x} t =
       record {
-        lay = t.lay;
+        same = t.same ∙ g.same;
         grown = grown_trans _ _ _ g.grown t.grown;
         structs = t.structs ∙ g.structs;
         inside = tt;
         is = λ ds s d k.
-            let y = stopped_is (read_nested 64 s l) over (seen w u ds) (refusal x) (t.is ds s (declares_kept w₀ u₀ w u ds g.structs d) k) in
-            sym (ap (λ (r : Read Tree). place_read over (put_left (pairs ids nodes 0 n)) (go_on r (λ t. give ([], t))) (seen w u ds)) y) ∙ last_is h ds s d k;
+            let y = stopped_is (read_nested 64 s l) over (held st ds) (refusal x) (t.is ds s (declares_kept _ _ _ _ ds g.structs d) k) in
+            sym (ap (λ (r : Read Tree). place_read over (put_left (pairs ids nodes 0 n)) (go_on r (λ t. give ([], t))) (held st ds)) y) ∙ last_is h ds s d k;
       }
 
   abbrev all_made : ℕ → What
   all_made t = q.Look (k.TS (record { ids = ids; nodes = nodes; many = n }) t)
 
-  pub pairs_all : n ≤ i → n ≤ 8 → {w' : List ℕ} {u' : Used} {l' : Bytes} {o : Option ℕ} → Takes w u known over (λ s. read_nested 64 s l) w' u' l' (Ok o) → FieldsAre w₀ u₀ known read_all w' u' l' (Ok (made all_made o))
+  pub pairs_all : n ≤ i → n ≤ 8 → {st' : Table} {l' : Bytes} {o : Option ℕ} → Takes st known over (λ s. read_nested 64 s l) st' l' (Ok o) → FieldsAre st₀ known read_all st' l' (Ok (option_map all_made o))
   unfolding build_pairs
-  pairs_all h few {w'} {u'} {l'} {o} t =
+  pairs_all h few {st'} {l'} {o} t =
       let z : i ≡ n = (let y = g.left in omega arith) in
-      let up : u.nodes ≤ u'.nodes = nodes_grow w u w' u' t.grown in
+      let up : st.used.nodes ≤ st'.used.nodes = nodes_grow _ _ _ _ t.grown in
       record {
-        lay = t.lay;
+        same = t.same ∙ g.same;
         grown = grown_trans _ _ _ g.grown t.grown;
         structs = t.structs ∙ g.structs;
-        inside = made_so o u'.nodes all_made t.inside (λ x f q. (record { few = few; below = λ j h. under (was_open (rw f at t)) up j (omega arith) }, q));
+        inside = made_so o st'.used.nodes all_made t.inside (λ x f q. (record { few = few; below = λ j h. under (was_open (rw f at t)) up j (omega arith) }, q));
         is = λ ds s d k.
-            made_with o all_made (λ x. run (looks (tparams (pairs ids nodes 0 n) x))) (seen w' u' ds) l' (λ t. refl)
-            ∙ last_type (put_left (pairs ids nodes 0 n)) (λ t. ([], t)) (λ x. run (looks (tparams (pairs ids nodes 0 n) x))) (put_last (pairs ids nodes 0 n)) (Ok o) over (read_nested 64 s l) (seen w u ds)
-            (seen w' u' ds) l' (t.is ds s (declares_kept w₀ u₀ w u ds g.structs d) k)
+            made_with o all_made (λ x. run (looks (tparams (pairs ids nodes 0 n) x))) (held st' ds) l' (λ t. refl)
+            ∙ last_type (put_left (pairs ids nodes 0 n)) (λ t. ([], t)) (λ x. run (looks (tparams (pairs ids nodes 0 n) x))) (put_last (pairs ids nodes 0 n)) (Ok o) over (read_nested 64 s l) (held st ds)
+            (held st' ds) l' (t.is ds s (declares_kept _ _ _ _ ds g.structs d) k)
             ∙ last_is h ds s d k;
       }
     where
-      under : over ≡ false → u.nodes ≤ u'.nodes → (j : ℕ) → j < i → get_or nodes j 0 < u'.nodes
+      under : over ≡ false → st.used.nodes ≤ st'.used.nodes → (j : ℕ) → j < i → get_or nodes j 0 < st'.used.nodes
       under o up j h =
-          let a : get_or nodes j 0 < u.nodes = g.below o j h in
+          let a : get_or nodes j 0 < st.used.nodes = g.below o j h in
           omega arith

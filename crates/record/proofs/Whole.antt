@@ -1,6 +1,6 @@
 -- A record among the caller's bytes: no more than 4,096 are its own, and those left over are handed back. Assumes nothing.
 use mathlib.Core.Path.{◌≡◌, refl, sym, ap, ◌∙◌}
-use mathlib.Core.Bool.{Bool, false}
+use mathlib.Core.Bool.{false}
 use mathlib.Core.List.{List, ◌++◌, append_assoc}
 use Prim.Native.Nat.{ℕ, ◌+◌, ◌-◌, ◌≤◌}
 use native.Mathlib.Omega.{arith}
@@ -14,7 +14,8 @@ use Rattle.definition.specs.Reader.{Read, got, not_read}
 use Rattle.definition.specs.Store.{with_structs}
 use Rattle.definition.specs.Record.{Record, max_record, hand_back, read_fields, read_record}
 use Rattle.table.specs.State.{seen}
-use Rattle.table.specs.declared.Used.{Used}
+use Rattle.table.specs.Did.{held}
+use Rattle.table.specs.declared.state.State.{State as Table}
 use Rattle.table.proofs.Pushed.{taken_seen}
 use Rattle.cursor.specs.declared.ReadError.{ReadError}
 use Rattle.heads.specs.Fields.{Knows}
@@ -62,9 +63,9 @@ left_of put None g (not_read y) s s' l e = absurd (let z : ◌≡◌ {A = ℕ} 0
 
 -- ---- the whole record
 
-knows_seen : (w : List ℕ) (u : Used) (ds : List Struct) → Knows (seen w u ds) u.vars ds
+knows_seen : (st : Table) (ds : List Struct) → Knows (held st ds) st.used.vars ds
 unfolding seen with_structs
-knows_seen w u ds = record { vars = taken_seen w u ds; structs = refl }
+knows_seen st ds = record { vars = taken_seen st.words.now st.used ds; structs = refl }
 
 module _ (n : ℕ) (b : List ℕ) (start : ℕ) where
   abbrev own : Bytes
@@ -91,18 +92,18 @@ module _ (n : ℕ) (b : List ℕ) (start : ℕ) where
       ∙ ap (longer (drop n (drop start b))) q
       ∙ longer_read place_record (read_fields s own) s (drop n (drop start b))
 
-pub whole_is : {w : List ℕ} {u : Used} (b : List ℕ) (start : ℕ) → start ≤ length b → {w' : List ℕ} {u' : Used} {l l₀ : Bytes} {r : std.Result (Option What) ReadError}
-    → l₀ ≡ take 4096 (drop start b) → FieldsAre w u u.vars (λ s. read_fields s l₀) w' u' l r → {n : ℕ} → n ≡ start + (length l₀ - length l) → RecordIs w u b start w' (record { read = r; used = u'; next = n })
+pub whole_is : {st : Table} (b : List ℕ) (start : ℕ) → start ≤ length b → {st' : Table} {l l₀ : Bytes} {r : std.Result (Option What) ReadError}
+    → l₀ ≡ take 4096 (drop start b) → FieldsAre st st.used.vars (λ s. read_fields s l₀) st' l r → {n : ℕ} → n ≡ start + (length l₀ - length l) → RecordIs st b start st' (record { read = r; next = n })
 unfolding read_record max_record
-whole_is {w} {u} b start h {w'} {u'} {l} {l₀} {r} e f {n} k =
+whole_is {st} b start h {st'} {l} {l₀} {r} e f {n} k =
     let z : n ≡ next 4096 b start l = k ∙ ap (λ (m : Bytes). start + (length m - length l)) e in
     rw z (record {
-      lay = f.lay;
+      same = f.same;
       grown = f.grown;
       structs = f.structs;
       inside = f.inside;
       within = near 4096 b start h l;
       is = λ ds d.
-          let s = seen w u ds in
-          handed 4096 b start r s (seen w' u' ds) l (f.is ds s d (knows_seen w u ds) ∙ ap (λ (m : Bytes). place_read false place_record (read_fields s m) s) e);
+          let s = held st ds in
+          handed 4096 b start r s (held st' ds) l (f.is ds s d (knows_seen st ds) ∙ ap (λ (m : Bytes). place_read false place_record (read_fields s m) s) e);
     })

@@ -10,8 +10,8 @@ use Rattle.definition.specs.Record.{Record}
 use Rattle.theorems.proofs.SoundRanges.{Ranges}
 use Rattle.theorems.proofs.SoundRead.{TreeIn, RecordIn}
 use Rattle.theorems.proofs.TotalWalk.{e_ok, bind, place_run, pairs_run}
-use Rattle.table.specs.State.{view, seen}
-use Rattle.table.specs.declared.Used.{Used}
+use Rattle.table.specs.Did.{held, tables}
+use Rattle.table.specs.declared.state.State.{State as Table}
 use Rattle.writer.specs.Bytes.{AllBytes}
 use Rattle.answer.specs.Ran.{Settles}
 use Rattle.answer.specs.declared.Ran.{Ran}
@@ -52,16 +52,16 @@ module _ (b : State) where
 
 -- ---- what the run leaves
 
-module _ {w : List ℕ} {u : Used} {w' : List ℕ} {r : Ran} {params : List (List ℕ)} (ds : List Struct) (k : Known w u params ds) (b : State) (i : Ranges b b) (x : Record) (g : RecordIn b x) where
+module _ {s t : Table} {r : Ran} {params : List (List ℕ)} (ds : List Struct) (k : Known s.words.now s.used params ds) (b : State) (i : Ranges b b) (x : Record) (g : RecordIn b x) where
   -- where the state is kept
-  kept : (n : Run) → kept_of n ≡ true → RanAs (Known w u params) w u w' r n → place_record x b ≡ ok (seen w u ds, run n) → Settles r.out → AllBytes (view w' r.used)
+  kept : (n : Run) → kept_of n ≡ true → RanAs (Known s.words.now s.used params) s t r n → place_record x b ≡ ok (held s ds, run n) → Settles r.result → AllBytes (tables t)
   unfolding ◌>>=◌ noded_run
   kept n e c p h = record_bytes c ds k b e i x g (run_placed b x ∙ ap (λ (m : Result (State × Noded)). m >>= (λ q. noded_run q.1 q.0 b)) p) h
 
-  pub run_bytes : (n : Run) → RanAs (Known w u params) w u w' r n → place_record x b ≡ ok (seen w u ds, run n) → Settles r.out → AllBytes (view w' r.used)
+  pub run_bytes : (n : Run) → RanAs (Known s.words.now s.used params) s t r n → place_record x b ≡ ok (held s ds, run n) → Settles r.result → AllBytes (tables t)
   unfolding step_of
   run_bytes (binds n) c p h = kept _ refl c p h
-  run_bytes (looks (unfolded t)) c p h = step_bytes c ds k b (unfold_leaves b (seen w u ds) (placed_in b i x g _ _ p) r.out h) h
-  run_bytes (looks (ready t)) c p h = step_bytes c ds k b (ready_leaves b (seen w u ds) (placed_in b i x g _ _ p) t) h
-  run_bytes (looks (tparams pairs t)) c p h = step_bytes c ds k b (subst_leaves b (seen w u ds) (placed_in b i x g _ _ p) pairs t) h
+  run_bytes (looks (unfolded ty)) c p h = step_bytes c ds k b (unfold_leaves b (held s ds) (placed_in b i x g _ _ p) r.result h) h
+  run_bytes (looks (ready ty)) c p h = step_bytes c ds k b (ready_leaves b (held s ds) (placed_in b i x g _ _ p) ty) h
+  run_bytes (looks (tparams pairs ty)) c p h = step_bytes c ds k b (subst_leaves b (held s ds) (placed_in b i x g _ _ p) pairs ty) h
   run_bytes (adds n) c p h = kept _ refl c p h

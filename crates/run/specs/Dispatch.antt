@@ -1,19 +1,20 @@
 -- The run of a record whose types are placed, as the definition's `run` has it. Assumes nothing: these are definitions.
 use Rattle.std.specs.Prelude.{Bool, true, false, List, ℕ}
-use Rattle.definition.specs.Types.{State, Struct, Result}
+use Rattle.definition.specs.Types as d
+use Rattle.definition.specs.Types.{Struct, Result}
 use Rattle.definition.specs.Write.{Bytes}
 use Rattle.definition.specs.Store.{next_tvar}
 use Rattle.definition.specs.Subst.{ready_tvars}
-use Rattle.definition.specs.Instantiate as d
+use Rattle.definition.specs.Instantiate as i
 use Rattle.definition.specs.Constraints.{solve_constraints}
 use Rattle.table.specs.State.{outcome, pushed_constraint}
-use Rattle.table.specs.declared.Used.{Used}
+use Rattle.table.specs.declared.state.State.{State}
 use Rattle.fields.specs.Noded.{set_num, two, instantiate, unfolded, ready, tparams, tvar, num_tvar, constrain, tell, Run, binds, looks, adds, Noded, declare, solve, run}
 use Rattle.answer.specs.declared.Ran.{Ran}
 use Rattle.run.specs.Runs.{join_in, two_run, unfold_run, ready_run, subst_in, tparams_run, instantiate_run, tvar_run, num_tvar_in, num_tvar_run, set_num_in, set_num_run, constraint_run, needs_run, declare_run, Runs}
 
 -- s has the types placed, `before` is the state at entry
-unfoldable pub run_of : Run → State → State → Result (State × Bytes)
+unfoldable pub run_of : Run → d.State → d.State → Result (d.State × Bytes)
 run_of (binds (set_num v loc)) s before = set_num_run v loc s before
 run_of (binds (two case lhs rhs)) s before = two_run case lhs rhs s before
 run_of (binds (instantiate t)) s before = instantiate_run t s before
@@ -25,23 +26,23 @@ run_of (adds (num_tvar loc)) s before = num_tvar_run loc s before
 run_of (adds (constrain c)) s before = constraint_run c s before
 run_of (adds (tell n)) s before = needs_run n s before
 
-unfoldable pub noded_run : Noded → State → State → Result (State × Bytes)
+unfoldable pub noded_run : Noded → d.State → d.State → Result (d.State × Bytes)
 noded_run (declare abilities params) s before = declare_run abilities params s before
 noded_run solve s before = solve_constraints s
 noded_run (run r) s before = run_of r s before
 
 -- the number and the state that the run comes by, before the payload
-unfoldable pub step_of : Ran → Run → State → Result (State × ℕ)
+unfoldable pub step_of : Ran → Run → d.State → Result (d.State × ℕ)
 step_of r (binds (set_num v loc)) s = set_num_in v loc s
 step_of r (binds (two case lhs rhs)) s = join_in case s lhs rhs
-step_of r (binds (instantiate t)) s = d.instantiate s t
-step_of r (looks (unfolded t)) s = outcome r.out s
+step_of r (binds (instantiate t)) s = i.instantiate s t
+step_of r (looks (unfolded t)) s = outcome r.result s
 step_of r (looks (ready t)) s = ready_tvars s t
 step_of r (looks (tparams pairs t)) s = subst_in pairs t s
 step_of r (adds (tvar loc)) s = next_tvar s
 step_of r (adds (num_tvar loc)) s = num_tvar_in loc s
 step_of r (adds (constrain c)) s = pushed_constraint c s
-step_of r (adds (tell n)) s = outcome r.out s
+step_of r (adds (tell n)) s = outcome r.result s
 
 -- what only looks leaves the state as at entry
 abbrev pub kept_of : Run → Bool
@@ -50,5 +51,5 @@ kept_of (looks l) = false
 kept_of (adds a) = true
 
 -- n was run, for the declarations in K
-abbrev pub RanAs : (List Struct → Type 0) → List ℕ → Used → List ℕ → Ran → Run → Type 0
-RanAs K w u w' r n = Runs K w u w' r (kept_of n) (step_of r n) (run_of n)
+abbrev pub RanAs : (List Struct → Type 0) → State → State → Ran → Run → Type 0
+RanAs K s t r n = Runs K s t r (kept_of n) (step_of r n) (run_of n)

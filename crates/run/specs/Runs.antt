@@ -1,8 +1,9 @@
--- The run of each record from its placed types on, as the definition's `run` has it, and what a function that runs it leaves in the words. Assumes nothing: these are definitions.
-use Rattle.std.specs.Prelude.{◌≡◌, Bool, true, List, [], length, set, Option, None, Some}
+-- The run of each record from its placed types on, as the definition's `run` has it, and what a function that runs it leaves of the state. Assumes nothing: these are definitions.
+use Rattle.std.specs.Prelude as core
+use Rattle.std.specs.Prelude.{◌≡◌, Bool, true, List, [], length, set, Option, None, Some, Ok, Err, ◌<◌}
 use Prim.Native.Nat.{ℕ}
 use Rattle.definition.specs.Types as d
-use Rattle.definition.specs.Types.{State, Struct, Result, ok, ◌>>=◌}
+use Rattle.definition.specs.Types.{Struct, Result, ok, ◌>>=◌}
 use Rattle.definition.specs.Store.{spanned, next_tvar, add_constraint, declare}
 use Rattle.definition.specs.Subst.{set_num_var, unfold_type, ready_tvars}
 use Rattle.definition.specs.Join as j
@@ -12,111 +13,124 @@ use Rattle.definition.specs.Instantiate.{instantiate}
 use Rattle.definition.specs.Write.{Bytes, u16, head, write, write_spanned}
 use Rattle.definition.specs.Needs.{Needs}
 use Rattle.definition.specs.Step.{tell}
-use Rattle.table.specs.State.{outcome, done, more, view, seen, Lay, Grown, Refines, FoundIn, Declares}
+use Rattle.table.specs.State.{outcome, done, more, Any, Grown, FoundIn, Declares}
+use Rattle.table.specs.Did.{held, tables, StopIn, Became}
 use Rattle.table.specs.declared.Used.{Used}
+use Rattle.table.specs.declared.state.State.{State}
+use Rattle.table.specs.declared.state.Stop.{Stop}
 use Rattle.answer.specs.Ran.{ran, Tells}
 use Rattle.answer.specs.declared.Ran.{Ran}
 
 -- ---- the rest of a record's run: s has its types placed, `before` is the state at entry
 
-unfoldable pub join_in : j.TypingCase → State → ℕ → ℕ → Result (State × ℕ)
+unfoldable pub join_in : j.TypingCase → d.State → ℕ → ℕ → Result (d.State × ℕ)
 join_in j.Join s lhs rhs = join s lhs rhs
 join_in j.Subtype s lhs rhs = subtype s lhs rhs
 
 -- JN, SU
-unfoldable pub two_run : j.TypingCase → ℕ → ℕ → State → State → Result (State × Bytes)
+unfoldable pub two_run : j.TypingCase → ℕ → ℕ → d.State → d.State → Result (d.State × Bytes)
 two_run case lhs rhs s before = do
   (s, t) ← join_in case s lhs rhs
   ok (s, write s t)
 
 -- UF
-unfoldable pub unfold_run : ℕ → State → State → Result (State × Bytes)
+unfoldable pub unfold_run : ℕ → d.State → d.State → Result (d.State × Bytes)
 unfold_run t s before = ok (before, write_spanned s (unfold_type s (spanned s t)))
 
 -- RD
-unfoldable pub ready_run : ℕ → State → State → Result (State × Bytes)
+unfoldable pub ready_run : ℕ → d.State → d.State → Result (d.State × Bytes)
 ready_run t s before = do
   (s, t) ← ready_tvars s t
   ok (before, write s t)
 
-unfoldable pub subst_in : List (ℕ × ℕ) → ℕ → State → Result (State × ℕ)
+unfoldable pub subst_in : List (ℕ × ℕ) → ℕ → d.State → Result (d.State × ℕ)
 subst_in pairs t s = do
   subst ← make_tparam_subst pairs
   subst_tparams subst s t
 
 -- TS
-unfoldable pub tparams_run : List (ℕ × ℕ) → ℕ → State → State → Result (State × Bytes)
+unfoldable pub tparams_run : List (ℕ × ℕ) → ℕ → d.State → d.State → Result (d.State × Bytes)
 tparams_run pairs t s before = do
   subst ← make_tparam_subst pairs
   (s, t) ← subst_tparams subst s t
   ok (before, write s t)
 
 -- IN
-unfoldable pub instantiate_run : ℕ → State → State → Result (State × Bytes)
+unfoldable pub instantiate_run : ℕ → d.State → d.State → Result (d.State × Bytes)
 instantiate_run t s before = do
   (s, t) ← instantiate s t
   ok (s, write s t)
 
 -- FV
-unfoldable pub tvar_run : ℕ → State → State → Result (State × Bytes)
+unfoldable pub tvar_run : ℕ → d.State → d.State → Result (d.State × Bytes)
 tvar_run loc s before = do
   (s, v) ← next_tvar s
   ok (s, head loc (d.Var v))
 
-unfoldable pub num_tvar_in : ℕ → State → Result (State × ℕ)
+unfoldable pub num_tvar_in : ℕ → d.State → Result (d.State × ℕ)
 num_tvar_in loc s = do
   (s, v) ← next_tvar s
   ok (set_num_var s v loc, v)
 
 -- NV
-unfoldable pub num_tvar_run : ℕ → State → State → Result (State × Bytes)
+unfoldable pub num_tvar_run : ℕ → d.State → d.State → Result (d.State × Bytes)
 num_tvar_run loc s before = do
   (s, v) ← next_tvar s
   ok (set_num_var s v loc, head loc (d.Var v))
 
-unfoldable pub set_num_in : ℕ → ℕ → State → Result (State × ℕ)
+unfoldable pub set_num_in : ℕ → ℕ → d.State → Result (d.State × ℕ)
 set_num_in v loc s = ok (set_num_var s v loc, 0)
 
 -- SN
-unfoldable pub set_num_run : ℕ → ℕ → State → State → Result (State × Bytes)
+unfoldable pub set_num_run : ℕ → ℕ → d.State → d.State → Result (d.State × Bytes)
 set_num_run v loc s before = ok (set_num_var s v loc, [])
 
 -- NC, BC, SC
-unfoldable pub constraint_run : d.Constraint → State → State → Result (State × Bytes)
+unfoldable pub constraint_run : d.Constraint → d.State → d.State → Result (d.State × Bytes)
 constraint_run c s before = do
   s ← add_constraint s c
   ok (s, [])
 
 -- RM
-unfoldable pub needs_run : Option Needs → State → State → Result (State × Bytes)
+unfoldable pub needs_run : Option Needs → d.State → d.State → Result (d.State × Bytes)
 needs_run n s before = tell s n
 
 -- SD
-unfoldable pub declare_run : ℕ → List ℕ → State → State → Result (State × Bytes)
+unfoldable pub declare_run : ℕ → List ℕ → d.State → d.State → Result (d.State × Bytes)
 declare_run abilities params s before = do
   (s, n) ← declare s abilities params
   ok (s, u16 n)
 
 -- ---- what a run leaves
 
--- the words w with u in use became w' and the answer r: as f says, and r's number and state as `step` says, for the declarations in K. On success the state is kept, or not
-pub record Runs (K : List Struct → Type 0) (w : List ℕ) (u : Used) (w' : List ℕ) (r : Ran) (kept : Bool) (step : State → Result (State × ℕ)) (f : State → State → Result (State × Bytes)) : Type 0 where
-  pub left : Refines K w u w' r.used (outcome r.out) step
-  pub tells : Tells r.used r.show r.out
+-- the state s became t, and the answer is r: as f says, and r's number and state as `step` says, for the declarations in K. On success the state is kept, or not
+pub record Runs (K : List Struct → Type 0) (s t : State) (r : Ran) (kept : Bool) (step : d.State → Result (d.State × ℕ)) (f : d.State → d.State → Result (d.State × Bytes)) : Type 0 where
+  pub left : Became K s t (outcome r.result) step
+  pub tells : Tells t.used r.show r.result
   pub kept_is : r.kept ≡ kept
-  pub is : (ds : List Struct) → K ds → (before : State) → ran r (seen w' r.used ds) before ≡ f (seen w u ds) before
+  pub is : (ds : List Struct) → K ds → (before : d.State) → ran r (held t ds) before ≡ f (held s ds) before
 
--- the words hold one struct row more, if there is room; its bytes ps stand beside them
-pub record Declared (w : List ℕ) (u : Used) (w' : List ℕ) (r : Ran) (abilities params : ℕ) : Type 0 where
-  pub lay : Lay w' r.used
-  pub grown : Grown (view w u) (view w' r.used)
-  pub tells : Tells r.used r.show r.out
+-- a variable that is taken, or no node past the last
+abbrev pub TakenIn : Used → core.Result ℕ Stop → Type 0
+TakenIn u (Ok v) = v < u.vars
+TakenIn u (Err e) = StopIn u.nodes e
+
+-- the answer is the number of a variable, as f says
+pub record TakesVar (s t : State) (r : core.Result ℕ Stop) (f : d.State → Result (d.State × ℕ)) : Type 0 where
+  pub changed : Became Any s t (outcome r) f
+  pub inside : TakenIn t.used r
+
+-- one struct row more, if there is room; its bytes ps stand beside the words
+pub record Declared (s t : State) (r : Ran) (abilities params : ℕ) : Type 0 where
+  pub same : t.words.ghost_name ≡ s.words.ghost_name
+  pub grown : Grown (tables s) (tables t)
+  pub tells : Tells t.used r.show r.result
   pub kept_is : r.kept ≡ true
-  pub number : FoundIn 256 (done r.out)
-  pub is : (ds : List Struct) (ps : List ℕ) → length ds ≡ u.structs → (before : State)
-      → ran r (seen w' r.used (more (done r.out) ds (record { abilities = abilities; params = ps }))) before ≡ declare_run abilities ps (seen w u ds) before
-  pub declares : (ds : List Struct) (ps : List ℕ) → Declares w u ds → length ps ≡ params
-      → Declares w' r.used (more (done r.out) ds (record { abilities = abilities; params = ps }))
+  pub number : FoundIn 256 (done r.result)
+  pub is : (ds : List Struct) (ps : List ℕ) → length ds ≡ s.used.structs → (before : d.State)
+      → ran r (held t (more (done r.result) ds (record { abilities = abilities; params = ps }))) before ≡ declare_run abilities ps (held s ds) before
+  pub declares : (ds : List Struct) (ps : List ℕ) → Declares s.words.now s.used ds → length ps ≡ params
+      → Declares t.words.now t.used (more (done r.result) ds (record { abilities = abilities; params = ps }))
 
 -- .. in the row of its number, if it has one
 abbrev pub with_row : Option ℕ → List (List ℕ) → List ℕ → List (List ℕ)

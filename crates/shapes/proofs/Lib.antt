@@ -3,3 +3,4 @@ pub mod Tags
 pub mod Parts
 pub mod Nodes
 pub mod Levels
+pub mod Going

@@ -9,11 +9,13 @@ ghost use Rattle.definition.specs.Subst.{as_var, is_anything, parts};
 ghost use Rattle.definition.specs.Join.{is_numeric, num_shape, is_var};
 ghost use Rattle.definition.specs.Constraints.{undecided, is_integer};
 ghost use Rattle.names.specs.Names.{name_of};
-ghost use Rattle.table.specs.State.{shape_of, seen, Lay};
+ghost use Rattle.table.specs.State.{shape_of};
+ghost use Rattle.table.specs.Did.{held};
 ghost use Rattle.shapes.specs.Parts.{next, part_count};
 
 use names::{AbilityMark, TVar, TypeName};
-use table::{Out, Outcome, Shape, Used};
+use table::Shape;
+use table::state::State;
 
 // What Shape::Apply holds, to pass it on whole. The variant keeps its four fields: most matches want one or two.
 #[derive(Clone, Copy)]
@@ -22,13 +24,6 @@ pub struct Applied {
     pub n: TypeName,
     pub first: u32,
     pub many: u32,
-}
-
-// The answer o, with no row taken.
-pub fn stay(o: Out, u: Used) -> Outcome
-    ensures { result ≡ record { out = o; used = u } }
-{
-    Outcome { out: o, used: u }
 }
 
 // ---- tests
@@ -96,13 +91,12 @@ pub fn part_count(s: Shape) -> u32
 }
 
 // Part i of a type.
-pub fn part_at(w: &[u32], u: Used, s: Shape, i: u32) -> u32
-    requires { Lay w.now u }
-    ensures { (ds : List d.Struct) → i < part_count (shape_of s) → result ≡ get_or (parts (with_args (seen w.now u ds) (shape_of s))) i 0 }
+pub fn part_at(st: &State<'_>, s: Shape, i: u32) -> u32
+    ensures { (ds : List d.Struct) → i < part_count (shape_of s) → result ≡ get_or (parts (with_args (held st.now ds) (shape_of s))) i 0 }
 {
     match s {
         Shape::Ref(_, t) => t,
-        Shape::Apply(_, _, first, _) => table::arg_at(w, u, first, i),
+        Shape::Apply(_, _, first, _) => st.arg_at(first, i),
         _ => 0,
     }
 }

@@ -21,6 +21,7 @@ use Rattle.table.proofs.States.{grown_vars}
 use Rattle.table.proofs.Steps.{refines_by}
 use Rattle.table.proofs.Pushed.{count_view, taken_view}
 use Rattle.snapshot.specs.Snap.{Above, Since}
+use Rattle.snapshot.proofs.Growing.{grown_above}
 
 -- past a list, and past the blanks after it, all is blank
 getD_blank : {A : Type 0} (n i : ℕ) (d : A) → get_or (replicate n d) i d ≡ d
@@ -42,8 +43,11 @@ pub blank_cell : var_table.write unbound ≡ tab 5 (λ k. 0)
 unfolding tab cell_words option_flag option_word
 blank_cell = refl
 
-module _ (w : List ℕ) (u : Used) (before : Used) (saved w₁ w' : List ℕ) (h : Lay w u) (above : Above before u)
+module _ (w : List ℕ) (u : Used) (before : Used) (saved w₁ w' : List ℕ) (h : Lay w u)
     (c : Wrote w 16389 (before.vars * 5) saved w₁) (z : Wrote w₁ (16389 + before.vars * 5) ((u.vars - before.vars) * 5) [] w') (w₀ : List ℕ) (s : Since w₀ before saved w u) where
+  above : Above before u
+  above = grown_above w₀ before w u s.grown
+
   abbrev more : ℕ
   more = u.vars - before.vars
 

@@ -1,2 +1,3 @@
 -- What a snapshot holds, and what its return does. Assumes nothing: these are definitions.
 pub mod Snap
+pub mod Back

@@ -1,25 +1,22 @@
 // A snapshot of the variables in use, and its return: after an error bindings and marks are put back, after a refusal all that was taken too.
 #![tactic(auto)]
 
-ghost use Rattle.std.specs.Prelude.{◌≡◌, [], ◌+◌, ◌*◌, ◌≤◌, length};
+ghost use Rattle.std.specs.Prelude.{◌≡◌, [], ◌+◌, ◌*◌, ◌≤◌, List, ℕ, length};
 ghost use Rattle.table.specs.State.{Lay, Wrote};
 ghost use Rattle.snapshot.specs.Snap.{Above, SavedPartly, Saved, PutBack, Sized, GivenBack, Undone};
+ghost use Rattle.snapshot.specs.Back.{GrownFrom, WentBack};
 
+pub mod before;
+
+use before::Before;
+use table::state::State;
 use table::{
     ARGS_AT, CONSTRAINT_WORDS, CONSTRAINTS_AT, NODE_WORDS, NODES_AT, STRUCT_WORDS, STRUCTS_AT,
-    Used, VAR_WORDS, VARS_AT,
+    Used, VAR_WORDS, VARS_AT, write_words,
 };
 
 // How many words the variable rows have, all of them.
 pub const SAVED: usize = 5120;
-
-// n words of `from`, from place `at` on.
-fn copy(w: &mut [u32], at: usize, from: &[u32], n: usize)
-    requires { (n ≤ length from.now) × (at + n ≤ length w.old) }
-    ensures { Wrote w.old at n from.now w.new }
-{
-    w[at..at + n].copy_from_slice(&from[..n]);
-}
 
 // n zeros, from place `at` on.
 fn zero_words(w: &mut [u32], at: usize, n: usize)
@@ -30,23 +27,28 @@ fn zero_words(w: &mut [u32], at: usize, n: usize)
 }
 
 // The rows of the variables in use; the first `rows` of them are saved already.
-pub fn save_vars(w: &[u32], u: Used, rows: u32, saved: &mut [u32])
-    requires { Lay w.now u × ((5120 ≤ length saved.old) × SavedPartly w.now u rows saved.old) }
-    ensures { Saved w.now u saved.new }
+pub fn save_vars(st: &State<'_>, rows: u32, saved: &mut [u32])
+    requires { (5120 ≤ length saved.old) × SavedPartly st.now.words.now st.now.used rows saved.old }
+    ensures { Saved st.now.words.now st.now.used saved.new }
 {
     let from = rows as usize * VAR_WORDS;
-    let to = u.vars as usize * VAR_WORDS;
-    saved[from..to].copy_from_slice(&w[VARS_AT + from..VARS_AT + to]);
+    let to = st.used.vars as usize * VAR_WORDS;
+    saved[from..to].copy_from_slice(&st.words[VARS_AT + from..VARS_AT + to]);
 }
 
 // Bindings and marks are as they were saved; variables taken since then are unbound and unmarked.
-pub fn put_vars(w: &mut [u32], u: Used, before: Used, saved: &[u32])
-    requires { Lay w.old u × (Above before u × (5120 ≤ length saved.now)) }
-    ensures { PutBack w.old u w.new before saved.now }
+// By words and counts, as the next two: the words are a state again only where they have grown from what was saved, which go_back asks for.
+pub fn put_vars(w: &mut [u32], u: Used, before: Before<'_>)
+    requires { Lay w.old u × Above before.used u }
+    ensures { PutBack w.old u w.new before.entry.used before.entry.saved.now }
 {
-    let n = before.vars as usize * VAR_WORDS;
-    copy(w, VARS_AT, saved, n);
-    zero_words(w, VARS_AT + n, (u.vars - before.vars) as usize * VAR_WORDS);
+    let n = before.used.vars as usize * VAR_WORDS;
+    write_words(w, VARS_AT, &before.saved[..n]);
+    zero_words(
+        w,
+        VARS_AT + n,
+        (u.vars - before.used.vars) as usize * VAR_WORDS,
+    );
 }
 
 // What was taken since then is given back; bindings and marks are left as they are.
@@ -77,10 +79,23 @@ pub fn give_back(w: &mut [u32], u: Used, before: Used)
 }
 
 // All is as it was.
-pub fn undo(w: &mut [u32], u: Used, before: Used, saved: &[u32])
-    requires { Lay w.old u × (Above before u × (5120 ≤ length saved.now)) }
-    ensures { Undone w.old u w.new before saved.now }
+// Refused (must-fail/): rows taken since then that stay (taken_rows_stay).
+pub fn undo(w: &mut [u32], u: Used, before: Before<'_>)
+    requires { Lay w.old u × Above before.used u }
+    ensures { Undone w.old u w.new before.entry.used before.entry.saved.now }
 {
-    put_vars(w, u, before, saved);
-    give_back(w, u, before);
+    put_vars(w, u, before);
+    give_back(w, u, before.used);
+}
+
+// The state is what it was: w0 are the words of then.
+// Refused: counts that stay (counts_stay).
+pub fn go_back(st: &mut State<'_>, before: Before<'_>)
+    ghost w0: { List ℕ }
+    requires { GrownFrom w0 before st.old }
+    ensures { WentBack w0 before.entry st.old st.new }
+{
+    let w = &mut *st.words;
+    undo(w, st.used, before);
+    st.used = before.used;
 }

@@ -1,12 +1,14 @@
 -- What default_num_vars leaves of a sound state: each constraint is on a node, and the fields that are written as a byte are bytes. Assumes nothing.
-use Rattle.std.specs.Prelude.{Option, None, Some}
-use mathlib.Core.Path.{◌≡◌, refl, sym, ◌∙◌, subst}
+use Rattle.std.specs.Prelude.{Ok, Err}
+use Rattle.std.specs.Prelude as core
+use mathlib.Core.Path.{◌≡◌, refl, sym, subst}
 use mathlib.Core.Bool.{true}
 use mathlib.Core.List.{List, [], ◌∷◌, Memᴰ}
 use Prim.Native.Nat.{ℕ, zero, suc, ◌<◌}
 use native.Mathlib.Omega.{arith}
 use lib.ListN.{length, get_or}
-use Rattle.definition.specs.Types.{State, Struct, Constraint, AbilityConstraint, NumericConstraint, BitsConstraint, OrderedConstraint, BaseTypeConstraint, SingleTypeConstraint, Result, ok, err, refused, ◌>>=◌}
+use Rattle.definition.specs.Types as d
+use Rattle.definition.specs.Types.{Struct, Constraint, AbilityConstraint, NumericConstraint, BitsConstraint, OrderedConstraint, BaseTypeConstraint, SingleTypeConstraint, Result, ok, err, refused, ◌>>=◌}
 use Rattle.definition.specs.Store.{taken, with_structs}
 use Rattle.definition.specs.Constraints.{num_vars, default_num_vars}
 use Rattle.definition.specs.Trees.{arity}
@@ -18,25 +20,24 @@ use Rattle.theorems.proofs.DemandRuns.{num_vars_below, defaults_went}
 use Rattle.theorems.proofs.TotalWalk.{e_ok, e_err, Ends, In, starts_run}
 use Rattle.theorems.proofs.SoundKept.{ranges_of}
 use Rattle.table.specs.Rows.{constraint_table}
-use Rattle.table.specs.State.{outcome, done, view, seen, NodesIn}
+use Rattle.table.specs.State.{outcome, view, seen}
+use Rattle.table.specs.Did.{held, tables, zero_of, Added}
 use Rattle.table.specs.Known.{Declared}
 use Rattle.table.specs.declared.Used.{Used}
-use Rattle.table.specs.declared.Outcome.{Outcome}
-use Rattle.table.specs.declared.Out.{Out}
-use Rattle.table.specs.declared.Out.TheVariants.{Done, Failed, Refused}
+use Rattle.table.specs.declared.state.State.{State}
+use Rattle.table.specs.declared.state.Stop.{Stop}
+use Rattle.table.specs.declared.state.Stop.TheVariants.{Failed, Refused}
 use Rattle.table.proofs.Known.{known_kept}
-use Rattle.table.proofs.Steps.{done_is}
-use Rattle.constraints.specs.Solve.{numbered, Answered}
+use Rattle.constraints.specs.Solve.{numbered}
 use Rattle.failing.specs.Failing.{ty_of}
 use Rattle.writer.specs.Bytes.{AllBytes}
 use Rattle.solve.specs.Report.{TysIn}
-use Rattle.answer.specs.Ran.{Tells, Settles}
-use Rattle.payload.specs.declared.Show.TheVariants as show
+use Rattle.answer.specs.Ran.{Settles}
 use Rattle.answer.proofs.Calls.{ranges_bytes, seen_bytes}
 use Rattle.solve.specs.Solves.{HoldsSound}
 
 -- what the report asks of a state
-abbrev pub Fit : State → Type 0
+abbrev pub Fit : d.State → Type 0
 Fit s = TysIn s × AllBytes s
 
 -- ---- constraints on nodes
@@ -54,26 +55,26 @@ member d [] i h = absurd (omega arith)
 member d (c ∷ l) zero h = Memᴰ.head refl
 member d (c ∷ l) (suc i) h = Memᴰ.tail (member d l i (omega arith))
 
-tys_in : (s : State) → OnNodes s → TysIn s
+tys_in : (s : d.State) → OnNodes s → TysIn s
 unfolding TysIn
 tys_in s o i h = let c = get_or s.constraints i constraint_table.blank in omega (arith, same_ty c, o.on c (member constraint_table.blank s.constraints i h))
 
 -- ---- the state that is left
 
 -- with a success or a typing error it has P
-abbrev Met : (State → Type 0) → {A : Type 0} → Result (State × A) → Type 0
+abbrev Met : (d.State → Type 0) → {A : Type 0} → Result (d.State × A) → Type 0
 Met P (ok x) = P x.0
 Met P (err s e) = P s
 Met P (refused x) = Unit {0}
 
-module _ (s : State) (h : sound s ≡ true) where
+module _ (s : d.State) (h : sound s ≡ true) where
   went : PostS (arity s) s (Went (arity s) s) (default_num_vars s (num_vars 0 s.vars))
   went = defaults_went (num_vars 0 s.vars) (facts s h) (λ n. refl) (num_vars_below 0 s.vars (taken s) (omega arith))
 
   walked : Ends true (In (Unit {0}) s true) (In (Unit {0}) s true) (default_num_vars s (num_vars 0 s.vars))
   walked = starts_run (Unit {0}) s true s (λ y. ranges_of s h)
 
-  both : (m : Result State) → PostS (arity s) s (Went (arity s) s) m → Ends true (In (Unit {0}) s true) (In (Unit {0}) s true) m → Met Fit (numbered m)
+  both : (m : Result d.State) → PostS (arity s) s (Went (arity s) s) m → Ends true (In (Unit {0}) s true) (In (Unit {0}) s true) m → Met Fit (numbered m)
   unfolding numbered ◌>>=◌
   both (ok t) (ps_ok g w) (e_ok i) = (tys_in t w.sound.constraints_on, ranges_bytes s t (i tt))
   both (err t e) (ps_err g n) (e_err i) = (tys_in t n.n_constraints, ranges_bytes s t (i tt))
@@ -84,35 +85,27 @@ module _ (s : State) (h : sound s ≡ true) where
 
 -- ---- in the words
 
-met : (P : State → Type 0) (o : Out) (s : State) → Met P (outcome o s) → Settles o → P s
+met : (P : d.State → Type 0) (r : core.Result ℕ Stop) (s : d.State) → Met P (outcome r s) → Settles r → P s
 unfolding outcome
-met P (Done t) s p h = p
-met P (Failed x) s p h = p
-met P (Refused x) s p h = absurd h
+met P (Ok t) s p h = p
+met P (Err (Failed x)) s p h = p
+met P (Err (Refused x)) s p h = absurd h
 
 seen_tys : (w : List ℕ) (u : Used) (ds : List Struct) → TysIn (seen w u ds) → TysIn (view w u)
 unfolding seen with_structs TysIn
 seen_tys w u ds h = h
 
-tells_nothing : (u : Used) (o : Out) → NodesIn u.nodes o → Tells u show.Nothing o
-tells_nothing u (Done t) h = tt
-tells_nothing u (Failed x) h = h
-tells_nothing u (Refused x) h = tt
+-- the numeric variables are decided
+abbrev pub Decided : State → State → core.Result Unit Stop → Type 0
+Decided s t r = Added s t r (λ x. numbered (default_num_vars x (num_vars 0 x.vars)))
 
-module _ {w : List ℕ} {u : Used} {w' : List ℕ} {r : Outcome} (a : Answered w u w' r (λ s. numbered (default_num_vars s (num_vars 0 s.vars)))) where
-  pub fits : {params : List (List ℕ)} → HoldsSound w u params → Settles r.out → Fit (view w' r.used)
-  fits h k =
+module _ {s t : State} {r : core.Result Unit Stop} (a : Decided s t r) {params : List (List ℕ)} (h : HoldsSound s params) where
+  pub fits : Settles (zero_of r) → Fit (tables t)
+  fits k =
       let ds = h.structs in
-      let x : Fit (seen w' r.used ds) = met Fit r.out _ (subst (λ (m : Result (State × ℕ)). Met Fit m) (sym (a.changed.is ds tt)) (left (seen w u ds) h.is_sound)) k in
-      (seen_tys w' r.used ds x.0, seen_bytes w' r.used ds x.1)
+      let x : Fit (held t ds) = met Fit (zero_of r) _ (subst (λ (m : Result (d.State × ℕ)). Met Fit m) (sym (a.changed.step.is ds tt)) (left (held s ds) h.is_sound)) k in
+      (seen_tys t.words.now t.used ds x.0, seen_bytes t.words.now t.used ds x.1)
 
   -- the declarations stay
-  pub still_declared : {params : List (List ℕ)} → HoldsSound w u params → Declared w' r.used params
-  still_declared {params} h = record { structs = h.structs; known = known_kept w u w' r.used params a.changed.structs h.structs h.known }
-
-  module _ (b : Option ℕ) (p : b ≡ done r.out) where
-    pub done_fits : {params : List (List ℕ)} → HoldsSound w u params → (t : ℕ) → b ≡ Some t → Fit (view w' r.used)
-    done_fits h t q = fits h (subst (λ (o : Out). Settles o) (sym (done_is r.out t (sym p ∙ q))) tt)
-
-    pub tells : b ≡ None → Tells r.used show.Nothing r.out
-    tells q = tells_nothing r.used r.out (a.others (sym p ∙ q))
+  pub still_declared : Declared t.words.now t.used params
+  still_declared = record { structs = h.structs; known = known_kept s.words.now s.used t.words.now t.used params a.changed.step.structs h.structs h.known }

@@ -6,10 +6,10 @@ use Prim.Native.Nat.{ℕ}
 use native.Mathlib.Omega.{arith}
 use lib.ListN.{get_or}
 use Rattle.definition.specs.Types as d
-use Rattle.definition.specs.Types.{State, Constraint}
+use Rattle.definition.specs.Types.{Constraint}
 use Rattle.definition.specs.Store.{count}
 use Rattle.table.specs.Rows.{constraint_table}
-use Rattle.table.specs.declared.Used.{Used}
+use Rattle.table.specs.declared.state.State.{State}
 use Rattle.abilities.specs.Kept.{Kept}
 use Rattle.abilities.specs.Rules.{AskedIn, AskedKept, AllAsked, AllKept, asks_abilities, any_asks}
 use Rattle.abilities.proofs.Asking.{asks_not}
@@ -27,14 +27,14 @@ asked_in n (d.OrderedConstraint loc ty) h = tt
 asked_in n (d.BaseTypeConstraint loc ty) h = tt
 asked_in n (d.SingleTypeConstraint loc ty) h = tt
 
-pub all_asked : (s : State) → TysIn s → AllAsked s
+pub all_asked : (s : d.State) → TysIn s → AllAsked s
 unfolding TysIn AllAsked
 all_asked s h i p = asked_in (count s) (get_or s.constraints i constraint_table.blank) (h i p)
 
 -- ---- their sets are known
 
-module _ (w : List ℕ) (u : Used) (params : List (List ℕ)) (sets : List ℕ) where
-  asked_ready : Kept w u params sets → (c : Constraint) → AskedKept sets c → AskedReady w u params sets c
+module _ (s : State) (params : List (List ℕ)) (sets : List ℕ) where
+  asked_ready : Kept s params sets → (c : Constraint) → AskedKept sets c → AskedReady s params sets c
   asked_ready k (d.AbilityConstraint loc ty a) h = (k, h)
   asked_ready k (d.NumericConstraint loc ty) h = tt
   asked_ready k (d.BitsConstraint loc ty) h = tt
@@ -42,11 +42,11 @@ module _ (w : List ℕ) (u : Used) (params : List (List ℕ)) (sets : List ℕ) 
   asked_ready k (d.BaseTypeConstraint loc ty) h = tt
   asked_ready k (d.SingleTypeConstraint loc ty) h = tt
 
-  pub all_ready : (cs : List Constraint) → Kept w u params sets → AllKept sets cs → AllReady w u params sets cs
+  pub all_ready : (cs : List Constraint) → Kept s params sets → AllKept sets cs → AllReady s params sets cs
   unfolding AllKept AllReady
   all_ready cs k h i p = asked_ready k (get_or cs i constraint_table.blank) (h i p)
 
-  plain_ready : (c : Constraint) → asks_abilities c ≡ false → AskedReady w u params sets c
+  plain_ready : (c : Constraint) → asks_abilities c ≡ false → AskedReady s params sets c
   unfolding asks_abilities
   plain_ready (d.AbilityConstraint loc ty a) e = let z : ◌≡◌ {A = ℕ} 0 1 = cc in absurd (omega arith)
   plain_ready (d.NumericConstraint loc ty) e = tt
@@ -56,6 +56,6 @@ module _ (w : List ℕ) (u : Used) (params : List (List ℕ)) (sets : List ℕ) 
   plain_ready (d.SingleTypeConstraint loc ty) e = tt
 
   -- none asks
-  pub none_asked : (cs : List Constraint) → false ≡ any_asks cs → AllReady w u params sets cs
+  pub none_asked : (cs : List Constraint) → false ≡ any_asks cs → AllReady s params sets cs
   unfolding AllReady
   none_asked cs e i p = plain_ready (get_or cs i constraint_table.blank) (asks_not cs (sym e) i p)

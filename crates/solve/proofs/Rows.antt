@@ -9,19 +9,20 @@ use lib.Seq.{drop-cons}
 use lib.Dec.{eqb}
 use Rattle.definition.specs.Types as d
 use Rattle.std.specs.Prelude.{if◌then◌else◌, Option}
-use Rattle.definition.specs.Types.{State, Struct, Constraint}
+use Rattle.definition.specs.Types.{Struct, Constraint}
 use Rattle.definition.specs.Store.{with_structs}
 use Rattle.definition.specs.Abilities.{all, has}
 use Rattle.definition.specs.Constraints.{solve_constraint, failures}
 use Rattle.definition.specs.Write.{Bytes, each}
 use Rattle.table.specs.Rows.{constraint_table}
-use Rattle.table.specs.State.{view, seen}
-use Rattle.table.specs.Known.{Known}
-use Rattle.table.specs.declared.Used.{Used}
+use Rattle.table.specs.State.{seen}
+use Rattle.table.specs.Did.{held, tables}
+use Rattle.table.specs.declared.state.State.{State}
 use Rattle.table.proofs.Pushed.{count_view, constraints_view, constraints_seen}
 use Rattle.failing.specs.Failing.{report, TyIn}
 use Rattle.constraints.specs.Lacking.{row, IsAbility, Lacking, AskedReady, AllReady}
 use Rattle.failing.specs.declared.Failing.{Failing}
+use Rattle.abilities.specs.Kept.{Knows}
 use Rattle.abilities.proofs.Laws.{four}
 use Rattle.constraints.proofs.Lacks.{four_rows}
 use Rattle.solve.specs.Report.{TysIn, row_count}
@@ -32,14 +33,14 @@ blank = constraint_table.blank
 
 -- ---- a constraint of the list
 
-module _ (w : List ℕ) (u : Used) (i : ℕ) (c : Constraint) (lt : i < u.constraints) (e : (ds : List Struct) → c ≡ get_or (seen w u ds).constraints i blank) where
-  pub ty_in : TysIn (view w u) → TyIn u.nodes c
+module _ (s : State) (i : ℕ) (c : Constraint) (lt : i < s.used.constraints) (e : (ds : List Struct) → c ≡ get_or (held s ds).constraints i blank) where
+  pub ty_in : TysIn (tables s) → TyIn s.used.nodes c
   unfolding TysIn seen with_structs
-  ty_in h = rw (e []) (subst (λ (n : ℕ). TyIn n (get_or (view w u).constraints i blank)) (count_view w u) (h i (rw (constraints_view w u) lt)))
+  ty_in h = rw (e []) (subst (λ (n : ℕ). TyIn n (get_or (tables s).constraints i blank)) (count_view s.words.now s.used) (h i (rw (constraints_view s.words.now s.used) lt)))
 
-  pub ready_in : (params : List (List ℕ)) (sets : List ℕ) → AllReady w u params sets (view w u).constraints → AskedReady w u params sets c
+  pub ready_in : (params : List (List ℕ)) (sets : List ℕ) → AllReady s params sets (tables s).constraints → AskedReady s params sets c
   unfolding AllReady seen with_structs
-  ready_in params sets h = rw (e []) (h i (rw (constraints_view w u) lt))
+  ready_in params sets h = rw (e []) (h i (rw (constraints_view s.words.now s.used) lt))
 
 -- ---- four rows, of which some may hold a failure
 
@@ -68,7 +69,7 @@ after_first b (suc (suc zero)) le = refl
 after_first b (suc (suc (suc zero))) le = refl
 after_first b (suc (suc (suc (suc i)))) le = each_none (λ ability. if eqb ability 1 then b else []) four (suc (suc (suc (suc i)))) (omega arith)
 
-after_rows : (s : State) (c : Constraint) (i : ℕ) → row_count c ≤ i → each (λ ability. row s c ability) (drop i four) ≡ []
+after_rows : (s : d.State) (c : Constraint) (i : ℕ) → row_count c ≤ i → each (λ ability. row s c ability) (drop i four) ≡ []
 unfolding row
 after_rows s (d.AbilityConstraint loc ty a) i le = each_none _ four i le
 after_rows s (d.NumericConstraint loc ty) i le = after_first _ i le
@@ -77,58 +78,58 @@ after_rows s (d.OrderedConstraint loc ty) i le = after_first _ i le
 after_rows s (d.BaseTypeConstraint loc ty) i le = after_first _ i le
 after_rows s (d.SingleTypeConstraint loc ty) i le = after_first _ i le
 
-module _ (w : List ℕ) (u : Used) (c : Constraint) where
+module _ (s : State) (c : Constraint) where
   abbrev pub all_rows : List Struct → Bytes
-  all_rows ds = solve_constraint (seen w u ds) c
+  all_rows ds = solve_constraint (held s ds) c
 
   unfoldable pub one_row : List Struct → ℕ → Bytes
-  one_row ds k = row (seen w u ds) c (get_or four k 0)
+  one_row ds k = row (held s ds) c (get_or four k 0)
 
   unfoldable pub rows_from : List Struct → ℕ → Bytes
-  rows_from ds k = each (λ ability. row (seen w u ds) c ability) (drop k four)
+  rows_from ds k = each (λ ability. row (held s ds) c ability) (drop k four)
 
   pub row_pieces : (n : ℕ) → (n ≡ row_count c) × (n ≤ 4) → Pieces n one_row rows_from all_rows
   unfolding one_row rows_from
   row_pieces n h = record {
-    first = λ ds. sym (four_rows (seen w u ds) c);
-    more = λ ds i lt. each_cons (λ ability. row (seen w u ds) c ability) four i (omega (arith, h.1));
-    none = λ ds i le. after_rows (seen w u ds) c i (omega (arith, h.0));
+    first = λ ds. sym (four_rows (held s ds) c);
+    more = λ ds i lt. each_cons (λ ability. row (held s ds) c ability) four i (omega (arith, h.1));
+    none = λ ds i le. after_rows (held s ds) c i (omega (arith, h.0));
   }
 
-  pub row_is : (params : List (List ℕ)) (f : Option Failing) (ability i : ℕ) → Lacking w u params f (λ s. row s c ability) → ability ≡ get_or four i 0
-      → (ds : List Struct) → Known w u params ds → report f (seen w u ds) ≡ one_row ds i
+  pub row_is : (params : List (List ℕ)) (f : Option Failing) (ability i : ℕ) → Lacking s params f (λ x. row x c ability) → ability ≡ get_or four i 0
+      → (ds : List Struct) → Knows s params ds → report f (held s ds) ≡ one_row ds i
   unfolding one_row
-  row_is params f ability i h e ds k = h.is ds k ∙ ap (row (seen w u ds) c) e
+  row_is params f ability i h e ds k = h.is ds k ∙ ap (row (held s ds) c) e
 
 -- ---- the constraints of the list
 
-failures_cons : (s : State) (l : List Constraint) (i : ℕ) → i < length l → failures s (drop i l) ≡ solve_constraint s (get_or l i blank) ++ failures s (drop (i + 1) l)
+failures_cons : (s : d.State) (l : List Constraint) (i : ℕ) → i < length l → failures s (drop i l) ≡ solve_constraint s (get_or l i blank) ++ failures s (drop (i + 1) l)
 unfolding failures
 failures_cons s l i lt = rw (drop-cons l i blank lt, add-one i) refl
 
-failures_none : (s : State) (l : List Constraint) (i : ℕ) → length l ≤ i → failures s (drop i l) ≡ []
+failures_none : (s : d.State) (l : List Constraint) (i : ℕ) → length l ≤ i → failures s (drop i l) ≡ []
 unfolding failures
 failures_none s l i le = rw (drop_of_length-le l {i = i} le) refl
 
-module _ (w : List ℕ) (u : Used) where
+module _ (s : State) where
   abbrev pub all_failures : List Struct → Bytes
-  all_failures ds = failures (seen w u ds) (seen w u ds).constraints
+  all_failures ds = failures (held s ds) (held s ds).constraints
 
   unfoldable pub one_constraint : List Struct → ℕ → Bytes
-  one_constraint ds i = solve_constraint (seen w u ds) (get_or (seen w u ds).constraints i blank)
+  one_constraint ds i = solve_constraint (held s ds) (get_or (held s ds).constraints i blank)
 
   unfoldable pub failures_from : List Struct → ℕ → Bytes
-  failures_from ds i = failures (seen w u ds) (drop i (seen w u ds).constraints)
+  failures_from ds i = failures (held s ds) (drop i (held s ds).constraints)
 
-  pub list_pieces : Pieces u.constraints one_constraint failures_from all_failures
+  pub list_pieces : Pieces s.used.constraints one_constraint failures_from all_failures
   unfolding one_constraint failures_from
   list_pieces = record {
     first = λ ds. refl;
-    more = λ ds i lt. failures_cons (seen w u ds) (seen w u ds).constraints i (rw (constraints_seen w u ds) lt);
-    none = λ ds i le. failures_none (seen w u ds) (seen w u ds).constraints i (rw (constraints_seen w u ds) le);
+    more = λ ds i lt. failures_cons (held s ds) (held s ds).constraints i (rw (constraints_seen s.words.now s.used ds) lt);
+    none = λ ds i le. failures_none (held s ds) (held s ds).constraints i (rw (constraints_seen s.words.now s.used ds) le);
   }
 
-  pub constraint_is : (params : List (List ℕ)) (c : Constraint) (i : ℕ) → ((ds : List Struct) → c ≡ get_or (seen w u ds).constraints i blank)
-      → (ds : List Struct) → Known w u params ds → solve_constraint (seen w u ds) c ≡ one_constraint ds i
+  pub constraint_is : (params : List (List ℕ)) (c : Constraint) (i : ℕ) → ((ds : List Struct) → c ≡ get_or (held s ds).constraints i blank)
+      → (ds : List Struct) → Knows s params ds → solve_constraint (held s ds) c ≡ one_constraint ds i
   unfolding one_constraint
-  constraint_is params c i e ds k = ap (solve_constraint (seen w u ds)) (e ds)
+  constraint_is params c i e ds k = ap (solve_constraint (held s ds)) (e ds)

@@ -1,49 +1,45 @@
 -- What SV leaves, and what it asks of the state. Assumes nothing: these are definitions.
 use Rattle.std.specs.Prelude.{◌≡◌, true, List, [], ◌++◌, ℕ, ◌≤◌, take, drop, if◌then◌else◌}
-use Rattle.definition.specs.Types.{State, Struct, ok}
+use Rattle.definition.specs.Types as d
+use Rattle.definition.specs.Types.{Struct, ok}
 use Rattle.definition.specs.Store.{with_constraints}
 use Rattle.definition.specs.Constraints.{failures, solve_all, solve_constraints}
 use Rattle.definition.specs.Sound.{sound}
 use Rattle.definition.specs.Step as step
 use Rattle.definition.specs.Step.{answer}
-use Rattle.table.specs.State.{seen, Lay, Declares}
-use Rattle.table.specs.Known.{Known}
+use Rattle.table.specs.State.{seen, Declares}
+use Rattle.table.specs.Did.{held}
 use Rattle.table.specs.declared.Used.{Used}
-use Rattle.snapshot.specs.Snap.{Since}
+use Rattle.table.specs.declared.state.State.{State}
+use Rattle.abilities.specs.Kept.{Knows}
 use Rattle.payload.specs.declared.Answer.{Answer}
 
--- the words hold a sound state, with the declarations that words and bytes hold
-pub record HoldsSound (w : List ℕ) (u : Used) (params : List (List ℕ)) : Type 0 where
+-- the state is a sound one, with the declarations that words and bytes hold
+pub record HoldsSound (s : State) (params : List (List ℕ)) : Type 0 where
   pub structs : List Struct
-  pub is_sound : sound (seen w u structs) ≡ true
-  pub known : Known w u params structs
+  pub is_sound : sound (held s structs) ≡ true
+  pub known : Knows s params structs
 
 -- the answer where nothing hinders: the failures, and no constraint
-unfoldable pub reported : State → State → step.Answer
+unfoldable pub reported : d.State → d.State → step.Answer
 reported s before = answer before (ok (with_constraints s [], failures s s.constraints))
 
 -- the answer once the numeric variables are decided
-unfoldable pub solved : State → State → step.Answer
+unfoldable pub solved : d.State → d.State → step.Answer
 solved s before = answer before (solve_all s)
 
-unfoldable pub solve_answer : State → State → step.Answer
+unfoldable pub solve_answer : d.State → d.State → step.Answer
 solve_answer s before = answer before (solve_constraints s)
 
--- as Settled of answer, but for the declarations that words and bytes hold: abilities depend on them
-pub record KnownSettled (w₀ : List ℕ) (before : Used) (w : List ℕ) (u : Used) (params : List (List ℕ)) (w' buf' : List ℕ) (r : Answer) (f : State → State → step.Answer) : Type 0 where
-  pub lay : Lay w' r.used
-  pub is : (ds₀ ds : List Struct) → Known w u params ds
-      → f (seen w u ds) (seen w₀ before ds₀) ≡ record { number = r.number; payload = take r.len buf'; state = seen w' r.used (if r.kept then ds else ds₀) }
-  pub declares : (ds₀ ds : List Struct) → Declares w₀ before ds₀ → Declares w u ds → Declares w' r.used (if r.kept then ds else ds₀)
-
--- w with u in use became w', and buf became buf' with the payload in front and all else as it was; number, payload and state are as f says
-pub record Reports (w : List ℕ) (u before : Used) (params : List (List ℕ)) (saved buf w' buf' : List ℕ) (r : Answer) (f : State → State → step.Answer) : Type 0 where
+-- as AnswersIn of answer, but for the declarations that words and bytes hold: abilities depend on them
+pub record Reports (w₀ : List ℕ) (before : Used) (s : State) (params : List (List ℕ)) (t : State) (buf buf' : List ℕ) (r : Answer) (f : d.State → d.State → step.Answer) : Type 0 where
+  pub same : t.words.ghost_name ≡ s.words.ghost_name
   pub few : r.len ≤ 4096
   pub rest : buf' ≡ take r.len buf' ++ drop r.len buf
-  pub settled : (w₀ : List ℕ) → Since w₀ before saved w u → KnownSettled w₀ before w u params w' buf' r f
+  pub is : (ds₀ ds : List Struct) → Knows s params ds
+      → f (held s ds) (seen w₀ before ds₀) ≡ record { number = r.number; payload = take r.len buf'; state = held t (if r.kept then ds else ds₀) }
+  pub declares : (ds₀ ds : List Struct) → Declares w₀ before ds₀ → Declares s.words.now s.used ds → Declares t.words.now t.used (if r.kept then ds else ds₀)
 
--- .. and as SV says, of the words at entry
-pub record Solves (w : List ℕ) (u : Used) (params : List (List ℕ)) (buf w' buf' : List ℕ) (r : Answer) : Type 0 where
-  pub few : r.len ≤ 4096
-  pub rest : buf' ≡ take r.len buf' ++ drop r.len buf
-  pub settled : KnownSettled w u w u params w' buf' r solve_answer
+-- SV is asked in the state s
+abbrev pub Solves : State → List (List ℕ) → State → List ℕ → List ℕ → Answer → Type 0
+Solves s params t buf buf' r = Reports s.words.now s.used s params t buf buf' r solve_answer

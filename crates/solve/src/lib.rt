@@ -2,10 +2,13 @@
 // Changed from the source that NOTICE names: ported to Rattle.
 #![tactic(auto)]
 
-ghost use Rattle.std.specs.Prelude.{◌≤◌, ◌+◌, ◌<◌, length, get_or, ◌≡◌, List, [], ◌∷◌};
-ghost use Rattle.table.specs.State.{Lay, view, constraint_of, seen};
-ghost use Rattle.table.specs.Known.{Declared, Known};
-ghost use Rattle.snapshot.specs.Snap.{Above, Saved};
+ghost use Rattle.std.specs.Prelude.{◌≤◌, ◌+◌, ◌<◌, length, get_or, ◌≡◌, List, [], ◌∷◌, ℕ};
+ghost use Rattle.table.specs.State.{constraint_of};
+ghost use Rattle.table.specs.Did.{held, tables};
+ghost use Rattle.table.specs.Known.{Declared};
+ghost use Rattle.snapshot.specs.Snap.{Saved};
+ghost use Rattle.snapshot.specs.Back.{GrownFrom};
+ghost use Rattle.abilities.specs.Kept.{Knows};
 ghost use Rattle.abilities.specs.Rules.{refusal_of};
 ghost use Rattle.answer.specs.Ran.{refusal_for};
 ghost use Rattle.failing.specs.Failing.{TyIn};
@@ -17,11 +20,13 @@ ghost use Rattle.definition.specs.Types as d;
 ghost use Rattle.definition.specs.Constraints.{solve_constraint, failures};
 
 use abilities::{ABILITIES, Hindrance};
-use answer::{Ran, Reason, number_of, refuse};
+use answer::{Ran, Reason, number_of, settle, settle_refusal};
 use constraints::row_of;
 use failing::{size_failing, write_failing};
 use payload::{Answer, MAX_PAYLOAD, Show, as_left};
-use table::{Constraint, Refusal, Used};
+use snapshot::before::Before;
+use table::state::State;
+use table::{Constraint, Refusal};
 
 // ---- the payload: the failures in bytes, sized first and then written
 
@@ -45,23 +50,22 @@ fn row_count(c: Constraint) -> usize
 
 // How many bytes the failures of a constraint have, if no more than `room`; else one more than `room`.
 fn size_constraint(
-    w: &[u32],
-    u: Used,
+    st: &State<'_>,
     params: &[[u8; 8]; 256],
     sets: &[u32],
     c: Constraint,
     room: u32,
 ) -> u32
-    requires { Lay w.now u × (TyIn u.nodes (constraint_of c) × (AskedReady w.now u params.now sets.now (constraint_of c) × (room ≤ 4096))) }
-    ensures { (result ≤ room + 1) × ((ds : List d.Struct) → Known w.now u params.now ds → result ≡ capped room (length (solve_constraint (seen w.now u ds) (constraint_of c)))) }
+    requires { TyIn st.now.used.nodes (constraint_of c) × (AskedReady st.now params.now sets.now (constraint_of c) × (room ≤ 4096)) }
+    ensures { (result ≤ room + 1) × ((ds : List d.Struct) → Knows st.now params.now ds → result ≡ capped room (length (solve_constraint (held st.now ds) (constraint_of c)))) }
 {
     let n = row_count(c);
     let mut size: u32 = 0;
     for k in 0..n {
-        let Some(f) = row_of(w, u, params, sets, c, ability_at(k)) else {
+        let Some(f) = row_of(st, params, sets, c, ability_at(k)) else {
             continue;
         };
-        size = size + size_failing(w, u, f, room - size);
+        size = size + size_failing(st, f, room - size);
         if room < size {
             return room + 1;
         }
@@ -70,14 +74,14 @@ fn size_constraint(
 }
 
 // How many bytes the failures have, if no more than 4,096; else 4,097.
-fn size_failures(w: &[u32], u: Used, params: &[[u8; 8]; 256], sets: &[u32]) -> u32
-    requires { Lay w.now u × (TysIn (view w.now u) × AllReady w.now u params.now sets.now (view w.now u).constraints) }
-    ensures { (ds : List d.Struct) → Known w.now u params.now ds → result ≡ capped 4096 (length (failures (seen w.now u ds) (seen w.now u ds).constraints)) }
+fn size_failures(st: &State<'_>, params: &[[u8; 8]; 256], sets: &[u32]) -> u32
+    requires { TysIn (tables st.now) × AllReady st.now params.now sets.now (tables st.now).constraints }
+    ensures { (ds : List d.Struct) → Knows st.now params.now ds → result ≡ capped 4096 (length (failures (held st.now ds) (held st.now ds).constraints)) }
 {
     let mut size: u32 = 0;
-    for i in 0..u.constraints {
-        let c = table::constraint_at(w, u, i);
-        size = size + size_constraint(w, u, params, sets, c, 4096 - size);
+    for i in 0..st.used.constraints {
+        let c = st.constraint_at(i);
+        size = size + size_constraint(st, params, sets, c, 4096 - size);
         if 4096 < size {
             return 4097;
         }
@@ -87,45 +91,38 @@ fn size_failures(w: &[u32], u: Used, params: &[[u8; 8]; 256], sets: &[u32]) -> u
 
 // The failures of a constraint, which fit, from byte `at` on.
 fn write_constraint(
-    w: &[u32],
-    u: Used,
+    st: &State<'_>,
     params: &[[u8; 8]; 256],
     sets: &[u32],
     c: Constraint,
     buf: &mut [u8],
     at: usize,
 ) -> usize
-    requires lay { Lay w.now u × (TyIn u.nodes (constraint_of c) × (AskedReady w.now u params.now sets.now (constraint_of c) × (AllBytes (view w.now u) × Declared w.now u params.now))) }
-    requires fits { (ds : List d.Struct) → Known w.now u params.now ds → at + length (solve_constraint (seen w.now u ds) (constraint_of c)) ≤ length buf.old }
-    ensures { (ds : List d.Struct) → Known w.now u params.now ds → Wrote buf.old at (solve_constraint (seen w.now u ds) (constraint_of c)) buf.new result }
+    requires ready { TyIn st.now.used.nodes (constraint_of c) × (AskedReady st.now params.now sets.now (constraint_of c) × (AllBytes (tables st.now) × Declared st.now.words.now st.now.used params.now)) }
+    requires fits { (ds : List d.Struct) → Knows st.now params.now ds → at + length (solve_constraint (held st.now ds) (constraint_of c)) ≤ length buf.old }
+    ensures { (ds : List d.Struct) → Knows st.now params.now ds → Wrote buf.old at (solve_constraint (held st.now ds) (constraint_of c)) buf.new result }
 {
     let n = row_count(c);
     let mut next = at;
     for k in 0..n {
-        let Some(f) = row_of(w, u, params, sets, c, ability_at(k)) else {
+        let Some(f) = row_of(st, params, sets, c, ability_at(k)) else {
             continue;
         };
-        next = write_failing(w, u, f, buf, next);
+        next = write_failing(st, f, buf, next);
     }
     next
 }
 
 // The failures, which fit, from byte 0 on; how many bytes they are.
-fn write_failures(
-    w: &[u32],
-    u: Used,
-    params: &[[u8; 8]; 256],
-    sets: &[u32],
-    buf: &mut [u8],
-) -> usize
-    requires lay { Lay w.now u × (TysIn (view w.now u) × (AllReady w.now u params.now sets.now (view w.now u).constraints × (AllBytes (view w.now u) × Declared w.now u params.now))) }
-    requires fits { (ds : List d.Struct) → Known w.now u params.now ds → length (failures (seen w.now u ds) (seen w.now u ds).constraints) ≤ length buf.old }
-    ensures { (ds : List d.Struct) → Known w.now u params.now ds → Wrote buf.old 0 (failures (seen w.now u ds) (seen w.now u ds).constraints) buf.new result }
+fn write_failures(st: &State<'_>, params: &[[u8; 8]; 256], sets: &[u32], buf: &mut [u8]) -> usize
+    requires ready { TysIn (tables st.now) × (AllReady st.now params.now sets.now (tables st.now).constraints × (AllBytes (tables st.now) × Declared st.now.words.now st.now.used params.now)) }
+    requires fits { (ds : List d.Struct) → Knows st.now params.now ds → length (failures (held st.now ds) (held st.now ds).constraints) ≤ length buf.old }
+    ensures { (ds : List d.Struct) → Knows st.now params.now ds → Wrote buf.old 0 (failures (held st.now ds) (held st.now ds).constraints) buf.new result }
 {
     let mut next: usize = 0;
-    for i in 0..u.constraints {
-        let c = table::constraint_at(w, u, i);
-        next = write_constraint(w, u, params, sets, c, buf, next);
+    for i in 0..st.used.constraints {
+        let c = st.constraint_at(i);
+        next = write_constraint(st, params, sets, c, buf, next);
     }
     next
 }
@@ -134,25 +131,23 @@ fn write_failures(
 
 // The failures as payload, if they fit, and no constraint.
 fn report_failures(
-    w: &mut [u32],
-    u: Used,
-    before: Used,
+    st: &mut State<'_>,
+    before: Before<'_>,
     params: &[[u8; 8]; 256],
     sets: &[u32],
-    saved: &[u32],
     buf: &mut [u8],
 ) -> Answer
-    requires lay { Lay w.old u × (Above before u × (5120 ≤ length saved.now)) }
-    requires tys_in { TysIn (view w.old u) × (AllReady w.old u params.now sets.now (view w.old u).constraints × (AllBytes (view w.old u) × (Declared w.old u params.now × (4096 ≤ length buf.old)))) }
-    ensures { Reports w.old u before params.now saved.now buf.old w.new buf.new result reported }
+    ghost w0: { List ℕ }
+    requires grown { GrownFrom w0 before st.old }
+    requires ready { TysIn (tables st.old) × (AllReady st.old params.now sets.now (tables st.old).constraints × (AllBytes (tables st.old) × (Declared st.old.words.now st.old.used params.now × (4096 ≤ length buf.old)))) }
+    ensures { Reports w0 before.entry.used st.old params.now st.new buf.old buf.new result reported }
 {
-    let size = size_failures(w, u, params, sets);
-    if MAX_PAYLOAD < size {
-        return refuse(w, u, before, saved, number_of(Reason::TooLong));
+    if MAX_PAYLOAD < size_failures(st, params, sets) {
+        return settle_refusal(st, before, number_of(Reason::TooLong));
     }
-    let len = write_failures(w, u, params, sets, buf);
-    let left = constraints::take_constraints(w, u);
-    as_left(left, 0, len)
+    let len = write_failures(st, params, sets, buf);
+    constraints::take_constraints(st);
+    as_left(st.used, 0, len)
 }
 
 fn reason_of(h: Hindrance) -> Reason
@@ -166,68 +161,78 @@ fn reason_of(h: Hindrance) -> Reason
 
 // 9 or 16 before anything is sized. Levels and sets are kept for each node, so that each is looked at once for all constraints.
 fn solve_abilities(
-    w: &mut [u32],
-    u: Used,
-    before: Used,
+    st: &mut State<'_>,
+    before: Before<'_>,
     params: &[[u8; 8]; 256],
-    saved: &[u32],
     buf: &mut [u8],
 ) -> Answer
-    requires lay { Lay w.old u × (Above before u × (5120 ≤ length saved.now)) }
-    requires tys_in { TysIn (view w.old u) × (AllBytes (view w.old u) × (Declared w.old u params.now × (4096 ≤ length buf.old))) }
-    ensures { Reports w.old u before params.now saved.now buf.old w.new buf.new result solved }
+    ghost w0: { List ℕ }
+    requires grown { GrownFrom w0 before st.old }
+    requires tys_in { TysIn (tables st.old) × (AllBytes (tables st.old) × (Declared st.old.words.now st.old.used params.now × (4096 ≤ length buf.old))) }
+    ensures { Reports w0 before.entry.used st.old params.now st.new buf.old buf.new result solved }
 {
     let mut heights: [u16; 2048] = [0; 2048];
     let mut sets: [u32; 2048] = [0; 2048];
-    match abilities::hinders(w, u, params, &mut heights, &mut sets) {
-        Ok(()) => report_failures(w, u, before, params, &sets, saved, buf),
-        Err(h) => refuse(w, u, before, saved, number_of(reason_of(h))),
+    match abilities::hinders(st, params, &mut heights, &mut sets) {
+        Ok(()) => report_failures(st, before, params, &sets, buf),
+        Err(h) => settle_refusal(st, before, number_of(reason_of(h))),
     }
 }
 
 // The tables are made only where an ability is asked for.
 fn solve_all(
-    w: &mut [u32],
-    u: Used,
-    before: Used,
+    st: &mut State<'_>,
+    before: Before<'_>,
     params: &[[u8; 8]; 256],
-    saved: &[u32],
     buf: &mut [u8],
 ) -> Answer
-    requires lay { Lay w.old u × (Above before u × (5120 ≤ length saved.now)) }
-    requires tys_in { TysIn (view w.old u) × (AllBytes (view w.old u) × (Declared w.old u params.now × (4096 ≤ length buf.old))) }
-    ensures { Reports w.old u before params.now saved.now buf.old w.new buf.new result solved }
+    ghost w0: { List ℕ }
+    requires grown { GrownFrom w0 before st.old }
+    requires tys_in { TysIn (tables st.old) × (AllBytes (tables st.old) × (Declared st.old.words.now st.old.used params.now × (4096 ≤ length buf.old))) }
+    ensures { Reports w0 before.entry.used st.old params.now st.new buf.old buf.new result solved }
 {
-    if abilities::any_asks(w, u) {
-        return solve_abilities(w, u, before, params, saved, buf);
+    if abilities::any_asks(st) {
+        solve_abilities(st, before, params, buf)
+    } else {
+        report_failures(st, before, params, &[], buf)
     }
-    report_failures(w, u, before, params, &saved[0..0], saved, buf)
 }
 
-pub fn solve(
-    w: &mut [u32],
-    u: Used,
+// From the state at entry, whose variables are saved.
+fn solve_from(
+    st: &mut State<'_>,
+    before: Before<'_>,
     params: &[[u8; 8]; 256],
-    saved: &[u32],
     buf: &mut [u8],
 ) -> Answer
-    requires lay { Lay w.old u × (Saved w.old u saved.now × ((5120 ≤ length saved.now) × (4096 ≤ length buf.old))) }
-    requires holds_sound { HoldsSound w.old u params.now }
-    ensures { Solves w.old u params.now buf.old w.new buf.new result }
+    ghost w0: { List ℕ }
+    requires entry { (w0 ≡ st.old.words.now) × (before.used ≡ st.old.used) }
+    requires saved { Saved st.old.words.now st.old.used before.saved.now × (4096 ≤ length buf.old) }
+    requires holds_sound { HoldsSound st.old params.now }
+    ensures { Solves st.old params.now st.new buf.old buf.new result }
 {
-    let a = constraints::default_num_vars(w, u, saved);
-    let o = a.out;
-    let v = a.used;
-    match table::done_of(o) {
-        Some(_) => solve_all(w, v, u, params, saved, buf),
-        None => {
+    match constraints::default_num_vars(st, before.saved) {
+        Ok(()) => solve_all(st, before, params, buf),
+        Err(e) => {
             let ran = Ran {
-                out: o,
-                used: v,
+                result: Err(e),
                 show: Show::Nothing,
                 kept: true,
             };
-            answer::answer_of(w, u, saved, ran, buf)
+            settle(st, before, ran, buf)
         }
     }
+}
+
+// SV. `saved` has the rows of the variables as they are now.
+pub fn solve(st: &mut State<'_>, params: &[[u8; 8]; 256], saved: &[u32], buf: &mut [u8]) -> Answer
+    requires saved { Saved st.old.words.now st.old.used saved.now × ((5120 ≤ length saved.now) × (4096 ≤ length buf.old)) }
+    requires holds_sound { HoldsSound st.old params.now }
+    ensures { Solves st.old params.now st.new buf.old buf.new result }
+{
+    let before = Before {
+        used: st.used,
+        saved,
+    };
+    solve_from(st, before, params, buf)
 }

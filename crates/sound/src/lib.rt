@@ -130,7 +130,7 @@ fn chains_fine(lent: &Lent) -> bool
 
 // ---- the whole
 
-// Every test, once; for every slice of words and every table of bytes.
+// Every test, once; for every slice of words and every table of bytes. The first two are guards: what follows them reads a whole layout.
 pub fn sound_state(w: &[u32], params: [[u8; 8]; 256]) -> bool
     ensures { result ≡ lent_sound w.now params }
 {

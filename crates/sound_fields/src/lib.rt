@@ -1,4 +1,5 @@
-// The test for a sound state, field by field: parameter bytes, the fields of a node and of a variable's cell.
+// The test for a sound state, field by field: parameter bytes, the fields of a node and of a variable's cell. Tags and flags are numbers here
+// and in sound_rows: what is tested are lent words, of which no shape is known yet.
 #![tactic(auto)]
 
 ghost use Rattle.std.specs.Prelude.{◌≡◌, ◌<◌, eqb};

@@ -22,7 +22,9 @@ use Rattle.theorems.proofs.Soundness.{and, le_test}
 use Rattle.theorems.proofs.SoundKept.{ranges_of, sound_kept, stream_sound_kept, trusted}
 use Rattle.table.specs.Rows.{row, entries, Clean, var_table, struct_table}
 use Rattle.table.specs.State.{view, Lay, Front, Declares}
+use Rattle.table.specs.Did.{tables}
 use Rattle.table.specs.declared.Used.{Used}
+use Rattle.table.specs.declared.state.State.{State as Table}
 use Rattle.table.proofs.Rows.{length_entries, row_word}
 use Rattle.table.proofs.Steps.{front_is}
 use Rattle.snapshot.specs.Snap.{Saved, SavedPartly}
@@ -95,8 +97,9 @@ module _ (w₀ : List ℕ) (before : Used) (w : List ℕ) (u : Used) (a : Lay w�
           rw f at g
 
 -- as long as none is bound or taken
-pub saved_still : (w₀ : List ℕ) (before : Used) (w : List ℕ) (u : Used) → Lay w₀ before → Lay w u → (view w u).vars ≡ (view w₀ before).vars → (saved : List ℕ) → Saved w₀ before saved → Still w u before saved
+pub saved_still : (w₀ : List ℕ) (before : Used) (s : Table) → Lay w₀ before → (tables s).vars ≡ (view w₀ before).vars → (saved : List ℕ) → Saved w₀ before saved → Still s.words.now s.used before saved
 unfolding view
-saved_still w₀ before w u a b same saved h =
-    let many : u.vars ≡ before.vars = sym (length_entries var_table w u.vars) ∙ ap length same ∙ length_entries var_table w₀ before.vars in
-    record { many = many; rows = rw many (partly_still w₀ before w u a b (front_is _ _ same) saved h).rows }
+saved_still w₀ before s a same saved h =
+    let w : List ℕ = s.words.now in
+    let many : s.used.vars ≡ before.vars = sym (length_entries var_table w s.used.vars) ∙ ap length same ∙ length_entries var_table w₀ before.vars in
+    record { many = many; rows = rw many (partly_still w₀ before w s.used a s.lay (front_is _ _ same) saved h).rows }

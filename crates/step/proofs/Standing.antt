@@ -4,7 +4,8 @@
 use mathlib.Core.Path.{◌≡◌, refl, sym, ap, ◌∙◌, subst}
 use mathlib.Core.Bool.{Bool, true, false}
 use mathlib.Core.List.{List, [], ◌∷◌, ◌++◌}
-use Rattle.std.specs.Prelude.{Option, None, Some}
+use Rattle.std.specs.Prelude.{Option, None, Some, Ok, Err}
+use Rattle.std.specs.Prelude as core
 use Prim.Native.Nat.{ℕ, zero, suc, ◌+◌, ◌-◌, ◌≤◌}
 use native.Mathlib.Omega.{arith}
 use lib.Dec.{leb, ltb}
@@ -26,8 +27,8 @@ use Rattle.definition.specs.Record.{Record}
 use Rattle.definition.specs.Step as definition
 use Rattle.definition.specs.Step.{answer, answer_with, refusal, put_back, max_payload, number_of_error}
 use Rattle.table.specs.State.{Front, outcome}
-use Rattle.table.specs.declared.Out.{Out}
-use Rattle.table.specs.declared.Out.TheVariants.{Done, Failed, Refused}
+use Rattle.table.specs.declared.state.Stop.{Stop}
+use Rattle.table.specs.declared.state.Stop.TheVariants.{Failed, Refused}
 use Rattle.table.proofs.Steps.{front_refl}
 use Rattle.fields.specs.Noded.{Looks, unfolded, ready, tparams, Adds, tvar, num_tvar, constrain, tell, Run, binds, looks, adds, Noded, declare, solve, run}
 use Rattle.fields.specs.Noded.{Shape, declares, solves, none, one, both, after_pairs, shape, place, place_record}
@@ -155,17 +156,17 @@ module _ {P : List Cell → Type 0} where
   unfolding subst_in subst_tparams
   subst_in_leaves ps t s p = any_leaves _ _ (λ sub. subst_leaves (suc t) sub s t p)
 
-  outcome_leaves : (o : Out) (s : State) → P s.vars → Leaves P (outcome o s)
+  outcome_leaves : (a : core.Result ℕ Stop) (s : State) → P s.vars → Leaves P (outcome a s)
   unfolding outcome
-  outcome_leaves (Done t) s p = l_ok p
-  outcome_leaves (Failed x) s p = l_err
-  outcome_leaves (Refused x) s p = l_refused
+  outcome_leaves (Ok t) s p = l_ok p
+  outcome_leaves (Err (Failed x)) s p = l_err
+  outcome_leaves (Err (Refused x)) s p = l_refused
 
   -- what only looks, whose state is not kept
   pub unkept_leaves : (r : Ran) (n : Run) (s : State) → kept_of n ≡ false → P s.vars → Leaves P (step_of r n s)
   unfolding step_of
   unkept_leaves r (binds n) s e p = kept_never refl e
-  unkept_leaves r (looks (unfolded t)) s e p = outcome_leaves r.out s p
+  unkept_leaves r (looks (unfolded t)) s e p = outcome_leaves r.result s p
   unkept_leaves r (looks (ready t)) s e p = ready_tvars_leaves s t p
   unkept_leaves r (looks (tparams ps t)) s e p = subst_in_leaves ps t s p
   unkept_leaves r (adds n) s e p = kept_never refl e

@@ -21,13 +21,17 @@ use Rattle.theorems.proofs.SoundRead.{RecordIn, ReadWell, given, well_read}
 use Rattle.table.specs.Tab.{tab}
 use Rattle.table.specs.Rows.{words_at}
 use Rattle.table.specs.Encode.{encode}
-use Rattle.table.specs.State.{view, seen, Front, Grown, Declares}
+use Rattle.table.specs.State.{view, seen, Front, Declares}
+use Rattle.table.specs.Did.{held as seen_in, tables}
 use Rattle.table.specs.declared.Used.{Used}
-use Rattle.snapshot.specs.Snap.{Above, Saved, SavedPartly, Since, Undone}
+use Rattle.table.specs.declared.state.State.{State as Table}
+use Rattle.snapshot.specs.Snap.{Saved, SavedPartly}
+use Rattle.snapshot.specs.Back.{GrownFrom}
+use Rattle.snapshot.specs.declared.before.Before.{Before}
 use Rattle.snapshot.proofs.Saving.{partly_none}
 use Rattle.table.proofs.Steps.{front_refl}
 use Rattle.snapshot.proofs.Exact.{declares_still, word_for_word}
-use Rattle.sound.specs.Lent.{used_of}
+use Rattle.sound.specs.Lent.{used_of, structs_of}
 use Rattle.sound.proofs.Lays.{lent_declares}
 use Rattle.heads.specs.Fields.{Arities}
 use Rattle.reader.specs.Taken.{stopped, placed, place_read, PlacedSo}
@@ -38,13 +42,13 @@ use Rattle.fields.specs.declared.What.{What}
 use Rattle.fields.specs.declared.What.TheVariants as q
 use Rattle.fields.specs.Noded.{Noded, place_record, noded, fields_as, WhatIn, RecordIs}
 use Rattle.fields.specs.declared.Fields.{Fields}
-use Rattle.answer.specs.Ran.{refused_by, Answers}
+use Rattle.answer.specs.Ran.{refused_by}
+use Rattle.answer.specs.Answered.{AnswersIn}
 use Rattle.payload.specs.declared.Answer.{Answer}
-use Rattle.answer.proofs.Calls.{grown_above}
 use Rattle.run.specs.Dispatch.{noded_run}
 use Rattle.run.proofs.Placed.{run_placed}
 use Rattle.step.specs.declared.Stepped.{Stepped}
-use Rattle.step.specs.Trusted.{held, Stands, answered, unread, Steps}
+use Rattle.step.specs.Trusted.{held, held_by, Stands, answered, unread, Steps, Leaves}
 use Rattle.verdict.specs.declared.Refused.{Refused}
 use Rattle.verdict.specs.declared.Refused.TheVariants.{Unread, Full}
 use Rattle.verdict.specs.Verdict.{refusal_of, rows_after, verdict_of, place_after}
@@ -59,7 +63,7 @@ pub reading_arities : {w : List ℕ} {u : Used} {params : List (List ℕ)} → S
 reading_arities {w} {u} {params} s = view_arities w u _ (lent_declares w params u) (stands_arities s)
 
 abbrev gone : Answer → ℕ → ℕ → Stepped
-gone a next rows = record { number = a.number; len = a.len; used = a.used; next = next; rows = rows }
+gone a next rows = record { number = a.number; len = a.len; next = next; rows = rows }
 
 -- what was read well
 record_in : (s : State) (bytes : Bytes) → IsBytes bytes → (x : Record) (l : Bytes) → read_record s bytes ≡ got x l → RecordIn s x
@@ -79,25 +83,28 @@ abbrev WasRead : Type 0
 WasRead = std.Result (Option What) ReadError
 
 -- what was read of the state that words and bytes hold
-module _ {w : List ℕ} {u : Used} (params : List (List ℕ)) {stream : Bytes} {at : ℕ} {w₁ : List ℕ} {f : Fields} (c : RecordIs w u stream at w₁ f) where
-  read_is : (p : WasRead) → f.read ≡ p → fields_as p (seen w₁ f.used (declared_in w u params)) (drop f.next stream) ≡ place_read false place_record (read_record (held w u params) (drop at stream)) (held w u params)
+module _ {s : Table} (params : List (List ℕ)) {stream : Bytes} {at : ℕ} {t : Table} {f : Fields} (c : RecordIs s stream at t f) where
+  abbrev here : List Struct
+  here = declared_in s.words.now s.used params
+
+  read_is : (p : WasRead) → f.read ≡ p → fields_as p (seen_in t here) (drop f.next stream) ≡ place_read false place_record (read_record (held_by s params) (drop at stream)) (held_by s params)
   unfolding held
-  read_is p e = ap (λ (q : WasRead). fields_as q (seen w₁ f.used (declared_in w u params)) (drop f.next stream)) (sym e) ∙ c.is (declared_in w u params) (lent_declares w params u)
+  read_is p e = ap (λ (q : WasRead). fields_as q (seen_in t here) (drop f.next stream)) (sym e) ∙ c.is here (lent_declares s.words.now params s.used)
 
   -- the splitter
-  rest_is : unread (held w u params) (drop at stream) ≡ drop (place_after f.read at f.next) stream
+  rest_is : unread (held_by s params) (drop at stream) ≡ drop (place_after f.read at f.next) stream
   rest_is = go f.read refl
     where
       r : Read Record
-      r = read_record (held w u params) (drop at stream)
+      r = read_record (held_by s params) (drop at stream)
 
-      more : (q : Result (State × Noded)) → placed q (drop f.next stream) ≡ place_read false place_record r (held w u params) → unread (held w u params) (drop at stream) ≡ drop f.next stream
-      more q e = let i = got_is r q (drop f.next stream) (held w u params) e in unread_got false (held w u params) (drop at stream) i.what (drop f.next stream) i.read
+      more : (q : Result (State × Noded)) → placed q (drop f.next stream) ≡ place_read false place_record r (held_by s params) → unread (held_by s params) (drop at stream) ≡ drop f.next stream
+      more q e = let i = got_is r q (drop f.next stream) (held_by s params) e in unread_got false (held_by s params) (drop at stream) i.what (drop f.next stream) i.read
 
-      none : (x : Refusal) → stopped x ≡ place_read false place_record r (held w u params) → unread (held w u params) (drop at stream) ≡ drop at stream
-      none x e = unread_not false (held w u params) (drop at stream) x (stop_is r x (held w u params) e)
+      none : (x : Refusal) → stopped x ≡ place_read false place_record r (held_by s params) → unread (held_by s params) (drop at stream) ≡ drop at stream
+      none x e = unread_not false (held_by s params) (drop at stream) x (stop_is r x (held_by s params) e)
 
-      go : (p : WasRead) → f.read ≡ p → unread (held w u params) (drop at stream) ≡ drop (place_after p at f.next) stream
+      go : (p : WasRead) → f.read ≡ p → unread (held_by s params) (drop at stream) ≡ drop (place_after p at f.next) stream
       go (Ok (Some x)) e = more _ (read_is (Ok (Some x)) e)
       go (Ok None) e = more _ (read_is (Ok None) e)
       go (Err x) e = none _ (read_is (Err x) e)
@@ -106,7 +113,7 @@ rest_within : (p : WasRead) (at next n : ℕ) → at ≤ n → next ≤ n → pl
 rest_within (Ok o) at next n a b = b
 rest_within (Err x) at next n a b = a
 
-pub splits : {w : List ℕ} {u : Used} (params : List (List ℕ)) {stream : Bytes} {w₁ : List ℕ} {f : Fields} → RecordIs w u stream 0 w₁ f → {r : ℕ} → r ≡ place_after f.read 0 f.next → (r ≤ length stream) × (unread (held w u params) stream ≡ drop r stream)
+pub splits : {s : Table} (params : List (List ℕ)) {stream : Bytes} {t : Table} {f : Fields} → RecordIs s stream 0 t f → {r : ℕ} → r ≡ place_after f.read 0 f.next → (r ≤ length stream) × (unread (held_by s params) stream ≡ drop r stream)
 splits params {stream} {f = f} c e = rw e (rest_within f.read 0 f.next (length stream) (omega arith) c.within, rest_is params c)
 
 -- what is run was placed, and no bytes are left over
@@ -117,27 +124,27 @@ runs (Ok None) false x e = absurd (let z : ◌≡◌ {A = ℕ} 0 1 = cc in omega
 runs (Ok (Some y)) false x e = (cc, refl)
 
 -- the words as they were, once the counts are written again
-pub words_back : {w : List ℕ} {u : Used} {params : List (List ℕ)} {saved w₁ : List ℕ} {v : Used} {w₂ w₃ : List ℕ} → Stands w u params → u ≡ used_of w → Saved w u saved → Grown (view w u) (view w₁ v) → Undone w₁ v w₂ u saved
-    → ((ds : List Struct) → Declares w₂ u ds → w₃ ≡ encode (seen w₂ u ds)) → w₃ ≡ w
+pub words_back : {w : List ℕ} {u : Used} {params : List (List ℕ)} {w₁ : List ℕ} {u₁ : Used} {w₂ : List ℕ} → Stands w u params → u ≡ used_of w → u₁ ≡ u → view w₁ u ≡ view w u → ((ds : List Struct) → Declares w₁ u₁ ds → w₂ ≡ encode (seen w₁ u₁ ds)) → w₂ ≡ w
 unfolding words_at tab used_of
-words_back {w} {u} {params} {saved} {w₁} {v} {w₂} {w₃} s counts kept g undone written =
-    let same = (undone w (record { lay = s.lay; kept = kept; grown = g })).1 in
+words_back {w} {u} {params} {w₁} {u₁} {w₂} s counts back same written =
     let d = lent_declares w params u in
     let ds = declared_in w u params in
-    word_for_word w w₂ u ds same d w₃ s.lay (rw counts refl) (written ds (declares_still w w₂ u ds same d))
+    let e : w₂ ≡ encode (seen w₁ u ds) = rw back at (written ds (rw back (declares_still w w₁ u ds same d))) in
+    word_for_word w w₁ u ds same d w₂ s.lay (rw counts refl) e
 
-module _ {w : List ℕ} {u : Used} {params : List (List ℕ)} (stream : Bytes) (at : ℕ) (s : Stands w u params) (is : IsBytes stream) where
+module _ (s : Table) {params : List (List ℕ)} (stream : Bytes) (at : ℕ) (st : Stands s.words.now s.used params) (is : IsBytes stream) where
   abbrev s₀ : State
-  s₀ = held w u params
+  s₀ = held_by s params
 
   abbrev bytes : Bytes
   bytes = drop at stream
 
-  steps : (whole : Bool) {rows : ℕ} {buf w' : List ℕ} {params' : List (List ℕ)} {buf' : List ℕ} {a : Answer} {r : Stepped} → Replied buf w' params' buf' a (answered whole s₀ bytes)
-      → (next : ℕ) → next ≤ length stream → unread s₀ bytes ≡ drop next stream → r ≡ gone a next rows → Steps whole w u params stream at buf w' params' buf' r
-  steps whole p next le rest e =
+  steps : (whole : Bool) {rows : ℕ} {buf : List ℕ} {t : Table} {params' : List (List ℕ)} {buf' : List ℕ} {a : Answer} {r : Stepped} → t.words.ghost_name ≡ s.words.ghost_name → Replied buf t params' buf' a (answered whole s₀ bytes)
+      → (next : ℕ) → next ≤ length stream → unread s₀ bytes ≡ drop next stream → r ≡ gone a next rows → Steps whole s params stream at buf t params' buf' r
+  steps whole {t = t} same p next le rest e =
       rw e (record {
-        stands = record { lay = p.lay; bytes = p.bytes; is_sound = ap (λ (x : step.Answer). sound x.state) (sym p.is) ∙ answered_sound whole s₀ bytes (bytes_after at stream is) s.is_sound };
+        same = same;
+        stands = record { lay = t.lay; bytes = p.bytes; is_sound = ap (λ (x : step.Answer). sound x.state) (sym p.is) ∙ answered_sound whole s₀ bytes (bytes_after at stream is) st.is_sound };
         few = p.few;
         buffer = p.rest;
         within = le;
@@ -145,33 +152,33 @@ module _ {w : List ℕ} {u : Used} {params : List (List ℕ)} (stream : Bytes) (
         rest = rest;
       })
 
-  module _ {saved w₁ : List ℕ} {f : Fields} (kept : Saved w u saved) (c : RecordIs w u stream at w₁ f) where
+  -- b was saved at entry, and the record is read
+  module _ (b : Before) {t₁ : Table} {f : Fields} (counts : b.used ≡ s.used) (kept : Saved s.words.now s.used b.saved.now) (c : RecordIs s stream at t₁ f) where
     abbrev ds : List Struct
-    ds = declared_in w u params
+    ds = declared_in s.words.now s.used params
 
-    since : Since w u saved w₁ f.used
-    since = record { lay = s.lay; kept = kept; grown = c.grown }
+    entered : Stands s.words.now b.used params
+    entered = rw counts st
 
-    pub read_above : Above u f.used
-    read_above = grown_above w u w₁ f.used c.grown
+    pub grown : GrownFrom s.words.now b t₁
+    grown = record { lay = rw counts s.lay; kept = rw counts kept; grown = rw counts c.grown }
 
-    -- what is said of the answer, and of the saved rows after it
-    abbrev Leaving : Bool → List ℕ → List ℕ → List (List ℕ) → List ℕ → Stepped → Type 0
-    Leaving whole buf w' params' buf' r = Steps whole w u params stream at buf w' params' buf' r × SavedPartly w' r.used r.rows saved
+    structs : (tables t₁).structs ≡ (view s.words.now b.used).structs
+    structs = rw counts c.structs
 
     -- the saved rows, where the variables stay in front
-    in_front : {buf w' : List ℕ} {params' : List (List ℕ)} {buf' : List ℕ} {a : Answer} {z : step.Answer} → Replied buf w' params' buf' a z → Front s₀.vars z.state.vars → SavedPartly w' a.used u.vars saved
+    in_front : {buf : List ℕ} {t : Table} {params' : List (List ℕ)} {buf' : List ℕ} {a : Answer} {z : step.Answer} → Replied buf t params' buf' a z → Front s₀.vars z.state.vars → SavedPartly t.words.now t.used s.used.vars b.saved.now
     unfolding held seen with_structs
-    in_front {w' = w'} {a = a} p front =
-        partly_still w u w' a.used s.lay p.lay (subst (λ (x : step.Answer). Front s₀.vars x.state.vars) p.is front) saved kept
+    in_front {t = t} p front =
+        partly_still s.words.now s.used t.words.now t.used s.lay t.lay (subst (λ (x : step.Answer). Front s₀.vars x.state.vars) p.is front) b.saved.now kept
 
     -- a refusal's number, and what it leaves
-    abbrev Refuses : ℕ → List ℕ → Answer → Type 0
-    Refuses number w' a = (x : Refusal) (buf : List ℕ) → number_of_refusal x ≡ number → Answers w₁ f.used u saved buf w' buf a (refused_by x)
+    abbrev Refuses : ℕ → Table → Answer → Type 0
+    Refuses number t a = (x : Refusal) (buf : List ℕ) → number_of_refusal x ≡ number → AnswersIn s.words.now b t₁ t buf buf a (refused_by x)
 
-    refused_by_x : (whole : Bool) (x : Refusal) {number : ℕ} {w' : List ℕ} {a : Answer} → Refuses number w' a → number_of_refusal x ≡ number → answered whole s₀ bytes ≡ refusal s₀ x
-        → (buf : List ℕ) → Replied buf w' params buf a (answered whole s₀ bytes)
-    refused_by_x whole x g n e buf = rw e (reply_refused x buf s since c.structs (g x buf n))
+    refused_by_x : (whole : Bool) (x : Refusal) {number : ℕ} {t : Table} {a : Answer} → Refuses number t a → number_of_refusal x ≡ number → answered whole s₀ bytes ≡ refusal s₀ x
+        → (buf : List ℕ) → Replied buf t params buf a (answered whole s₀ bytes)
+    refused_by_x whole x g n e buf = rw e (rw counts at (reply_refused x entered structs (g x buf n)))
 
     refused_front : (whole : Bool) (x : Refusal) → answered whole s₀ bytes ≡ refusal s₀ x → Front s₀.vars (answered whole s₀ bytes).state.vars
     unfolding refusal
@@ -191,9 +198,10 @@ module _ {w : List ℕ} {u : Used} {params : List (List ℕ)} (stream : Bytes) (
 
     -- the answer, the words and the place where the stream goes on are the step's
     leaves : (whole : Bool) → at ≤ length stream → {next : ℕ} → next ≡ place_after f.read at f.next
-        → {rows : ℕ} {buf w' : List ℕ} {params' : List (List ℕ)} {buf' : List ℕ} {a : Answer} {r : Stepped} → Replied buf w' params' buf' a (answered whole s₀ bytes)
-        → SavedPartly w' a.used rows saved → r ≡ gone a next rows → Leaving whole buf w' params' buf' r
-    leaves whole le {next} n p h e = (steps whole p next (rw n (rest_within f.read at f.next (length stream) le c.within)) (rest_is params c ∙ ap (λ (k : ℕ). drop k stream) (sym n)) e, rw e h)
+        → {rows : ℕ} {buf : List ℕ} {t : Table} {params' : List (List ℕ)} {buf' : List ℕ} {a : Answer} {r : Stepped} → t.words.ghost_name ≡ t₁.words.ghost_name → Replied buf t params' buf' a (answered whole s₀ bytes)
+        → SavedPartly t.words.now t.used rows b.saved.now → r ≡ gone a next rows → Leaves whole s params stream at buf t params' buf' r b.saved.now
+    leaves whole le {next} n same p h e =
+        (steps whole (same ∙ c.same) p next (rw n (rest_within f.read at f.next (length stream) le c.within)) (rest_is params c ∙ ap (λ (k : ℕ). drop k stream) (sym n)) e, rw e h)
 
     module _ (whole over : Bool) (o : over ≡ whole && ltb f.next (length stream)) where
       abbrev ReadAs : Result (State × Noded) → Type 0
@@ -221,42 +229,48 @@ module _ {w : List ℕ} {u : Used} {params : List (List ℕ)} (stream : Bytes) (
           (told_placed (full_read e) false d ∙ ap (λ (m : Result (State × Bytes)). answer s₀ m) (full_ran (full_read e)))
       why_refused (Ok (Some v)) e false d x n = absurd (let z : ◌≡◌ {A = ℕ} 0 1 = cc in omega arith)
 
-      pub steps_refused : at ≤ length stream → {next : ℕ} → next ≡ place_after f.read at f.next → {x : Refused} → verdict_of f.read over ≡ Err x → {number : ℕ} → number ≡ number_of_refusal (refusal_of x) → {w' : List ℕ} {a : Answer} → Refuses number w' a
-          → (buf : List ℕ) {r : Stepped} → r ≡ gone a next u.vars → Leaving whole buf w' params buf r
-      steps_refused le n {x} e m g buf q =
+      pub steps_refused : at ≤ length stream → {next : ℕ} → next ≡ place_after f.read at f.next → {x : Refused} → verdict_of f.read over ≡ Err x → {number : ℕ} → number ≡ number_of_refusal (refusal_of x) → {t : Table} {a : Answer} → Refuses number t a
+          → (buf : List ℕ) {r : Stepped} → r ≡ gone a next b.used.vars → Leaves whole s params stream at buf t params buf r b.saved.now
+      steps_refused le {next} n {x} e m {t} {a} g buf q =
           let told = why_refused f.read refl over refl x e in
           let z = refused_by_x whole (refusal_of x) g (sym m) told buf in
-          leaves whole le n z (in_front z (refused_front whole (refusal_of x) told)) q
+          leaves whole le n (g (refusal_of x) buf (sym m)).same z (in_front z (refused_front whole (refusal_of x) told)) (q ∙ ap (λ (u : Used). gone a next u.vars) counts)
 
       module _ (what : What) (e : f.read ≡ Ok (Some what)) where
         abbrev n : Noded
         n = noded what
 
-        at_node : ReadAs (ok (seen w₁ f.used ds, n))
-        at_node = got_is (read_record s₀ bytes) (ok (seen w₁ f.used ds, n)) (drop f.next stream) s₀ (read_is params c (Ok (Some what)) e)
+        at_node : ReadAs (ok (seen_in t₁ ds, n))
+        at_node = got_is (read_record s₀ bytes) (ok (seen_in t₁ ds, n)) (drop f.next stream) s₀ (read_is params c (Ok (Some what)) e)
 
-        begun : Begun w u params saved w₁ f.used at_node.what n
-        begun = record { stands = s; since = since; structs = c.structs; fields = record_in s₀ bytes (bytes_after at stream is) _ _ at_node.read; placed = at_node.placed }
+        begun : Begun s.words.now b params t₁ at_node.what n
+        begun = record {
+          stands = entered;
+          since = grown;
+          structs = structs;
+          fields = subst (λ (u : Used). RecordIn (held s.words.now u params) at_node.what) (sym counts) (record_in s₀ bytes (bytes_after at stream is) _ _ at_node.read);
+          placed = subst (λ (u : Used). place_record at_node.what (held s.words.now u params) ≡ ok (seen t₁.words.now t₁.used (structs_of s.words.now params u.structs), n)) (sym counts) at_node.placed;
+        }
 
-        pub begins : Begins u params saved w₁ f.used n
-        begins = record { words = w; what = at_node.what; from = begun }
+        pub begins : Begins s.words.now b params t₁ n
+        begins = record { what = at_node.what; from = begun }
 
-        pub placed_in : WhatIn f.used.nodes what
-        placed_in = subst (λ (p : WasRead). PlacedSo p (WhatIn f.used.nodes)) e c.inside
+        pub placed_in : WhatIn t₁.used.nodes what
+        placed_in = subst (λ (p : WasRead). PlacedSo p (WhatIn t₁.used.nodes)) e c.inside
 
         -- what the record says of the saved rows
-        rows_stand : {buf w' : List ℕ} {params' : List (List ℕ)} {buf' : List ℕ} {a : Answer} → Replied buf w' params' buf' a (answer s₀ (run s₀ at_node.what))
-            → SavedPartly w' a.used (rows_after what u.vars) saved
-        rows_stand {w' = w'} {a = a} p = rw (rows_by what u.vars) (go (binding n) refl)
+        rows_stand : {buf : List ℕ} {t : Table} {params' : List (List ℕ)} {buf' : List ℕ} {a : Answer} → Replied buf t params' buf' a (answer s₀ (run s₀ at_node.what))
+            → SavedPartly t.words.now t.used (rows_after what s.used.vars) b.saved.now
+        rows_stand {t = t} p = rw (rows_by what s.used.vars) (go (binding n) refl)
           where
-            go : (b : Bool) → binding n ≡ b → SavedPartly w' a.used (if b then 0 else u.vars) saved
-            go true k = partly_none w' a.used saved
+            go : (k : Bool) → binding n ≡ k → SavedPartly t.words.now t.used (if k then 0 else s.used.vars) b.saved.now
+            go true k = partly_none t.words.now t.used b.saved.now
             go false k = in_front p (answer_front s₀ at_node.what _ n at_node.placed k)
 
         pub steps_run : over ≡ false → at ≤ length stream → {next : ℕ} → next ≡ place_after f.read at f.next
-            → {rows : ℕ} → rows ≡ rows_after what u.vars → {buf w' : List ℕ} {params' : List (List ℕ)} {buf' : List ℕ} {a : Answer} → Ends u params saved w₁ f.used n buf w' params' buf' a
-            → {r : Stepped} → r ≡ gone a next rows → Leaving whole buf w' params' buf' r
-        steps_run b le is_next is_rows {buf} {w'} {params'} {buf'} {a} g q =
-            let z = g w at_node.what begun in
-            let p : Replied buf w' params' buf' a (answered whole s₀ bytes) = rw (told_placed at_node false b) z in
-            leaves whole le is_next p (rw is_rows (rows_stand z)) q
+            → {rows : ℕ} → rows ≡ rows_after what b.used.vars → {buf : List ℕ} {t : Table} {params' : List (List ℕ)} {buf' : List ℕ} {a : Answer} → Ends s.words.now b params t₁ n buf t params' buf' a
+            → {r : Stepped} → r ≡ gone a next rows → Leaves whole s params stream at buf t params' buf' r b.saved.now
+        steps_run fits le is_next is_rows {buf} {t} {params'} {buf'} {a} g q =
+            let z = subst (λ (u : Used). Replied buf t params' buf' a (answer (held s.words.now u params) (run (held s.words.now u params) at_node.what))) counts (g.is at_node.what begun) in
+            let p : Replied buf t params' buf' a (answered whole s₀ bytes) = rw (told_placed at_node false fits) z in
+            leaves whole le is_next g.same p (rw (is_rows, counts) (rows_stand z)) q

@@ -5,40 +5,40 @@ use Rattle.definition.specs.Record.{Record}
 use Rattle.definition.specs.Step as step
 use Rattle.definition.specs.Step.{answer}
 use Rattle.theorems.proofs.SoundRead.{RecordIn}
-use Rattle.table.specs.State.{view, seen, Lay}
-use Rattle.table.specs.declared.Used.{Used}
+use Rattle.table.specs.State.{view, seen}
+use Rattle.table.specs.Did.{tables}
+use Rattle.table.specs.declared.state.State.{State}
 use Rattle.sound.specs.Lent.{structs_of, encode_params}
-use Rattle.snapshot.specs.Snap.{Since}
+use Rattle.snapshot.specs.Back.{GrownFrom}
+use Rattle.snapshot.specs.declared.before.Before.{Before}
 use Rattle.fields.specs.Noded.{binds, looks, adds, Noded, declare, solve, run, place_record}
 use Rattle.payload.specs.declared.Answer.{Answer}
-use Rattle.step.specs.Trusted.{held, Stands}
+use Rattle.step.specs.Trusted.{held, held_by, Stands}
 
 -- the answer a is r: the payload stands in front of the buffer, and its state is what words and bytes hold, the bytes being just its declarations'
-pub record Replied (buf w' : List ℕ) (params' : List (List ℕ)) (buf' : List ℕ) (r : Answer) (a : step.Answer) : Type 0 where
-  pub lay : Lay w' r.used
-  pub bytes : params' ≡ encode_params (held w' r.used params')
+pub record Replied (buf : List ℕ) (t : State) (params' : List (List ℕ)) (buf' : List ℕ) (r : Answer) (a : step.Answer) : Type 0 where
+  pub bytes : params' ≡ encode_params (held_by t params')
   pub few : r.len ≤ 4096
   pub rest : buf' ≡ take r.len buf' ++ drop r.len buf
-  pub is : a ≡ record { number = r.number; payload = take r.len buf'; state = held w' r.used params' }
+  pub is : a ≡ record { number = r.number; payload = take r.len buf'; state = held_by t params' }
 
--- the record x of a sound state, held in w₀ and saved, is placed in w: n is left to run
-pub record Begun (w₀ : List ℕ) (before : Used) (params : List (List ℕ)) (saved w : List ℕ) (u : Used) (x : Record) (n : Noded) : Type 0 where
-  pub stands : Stands w₀ before params
-  pub since : Since w₀ before saved w u
-  pub structs : (view w u).structs ≡ (view w₀ before).structs
-  pub fields : RecordIn (held w₀ before params) x
-  pub placed : place_record x (held w₀ before params) ≡ ok (seen w u (structs_of w₀ params before.structs), n)
+-- the record x of a sound state, held in w₀ and saved, is placed in s: n is left to run
+pub record Begun (w₀ : List ℕ) (b : Before) (params : List (List ℕ)) (s : State) (x : Record) (n : Noded) : Type 0 where
+  pub stands : Stands w₀ b.used params
+  pub since : GrownFrom w₀ b s
+  pub structs : (tables s).structs ≡ (view w₀ b.used).structs
+  pub fields : RecordIn (held w₀ b.used params) x
+  pub placed : place_record x (held w₀ b.used params) ≡ ok (seen s.words.now s.used (structs_of w₀ params b.used.structs), n)
 
--- .. of some sound state
-pub record Begins (before : Used) (params : List (List ℕ)) (saved w : List ℕ) (u : Used) (n : Noded) : Type 0 where
-  pub words : List ℕ
+-- .. some record
+pub record Begins (w₀ : List ℕ) (b : Before) (params : List (List ℕ)) (s : State) (n : Noded) : Type 0 where
   pub what : Record
-  pub from : Begun words before params saved w u what n
+  pub from : Begun w₀ b params s what n
 
 -- r answers the run of that record
-abbrev pub Ends : Used → List (List ℕ) → List ℕ → List ℕ → Used → Noded → List ℕ → List ℕ → List (List ℕ) → List ℕ → Answer → Type 0
-Ends before params saved w u n buf w' params' buf' r =
-    (w₀ : List ℕ) (x : Record) → Begun w₀ before params saved w u x n → Replied buf w' params' buf' r (answer (held w₀ before params) (step.run (held w₀ before params) x))
+pub record Ends (w₀ : List ℕ) (b : Before) (params : List (List ℕ)) (s : State) (n : Noded) (buf : List ℕ) (t : State) (params' : List (List ℕ)) (buf' : List ℕ) (r : Answer) : Type 0 where
+  pub same : t.words.ghost_name ≡ s.words.ghost_name
+  pub is : (x : Record) → Begun w₀ b params s x n → Replied buf t params' buf' r (answer (held w₀ b.used params) (step.run (held w₀ b.used params) x))
 
 -- ---- the saved rows
 

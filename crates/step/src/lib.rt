@@ -1,39 +1,36 @@
 // One record of a sound state: read, placed, run and answered; a refusal leaves all as at entry.
 #![tactic(auto)]
 
-ghost use Rattle.std.specs.Prelude.{◌≡◌, ◌≤◌, length, drop};
+ghost use Rattle.std.specs.Prelude.{◌≡◌, List, ℕ, ◌≤◌, length, drop};
 ghost use Rattle.definition.specs.Write.{IsBytes};
-ghost use Rattle.table.specs.State.{Lay};
-ghost use Rattle.snapshot.specs.Snap.{SavedPartly};
+ghost use Rattle.snapshot.specs.Snap.{Saved, SavedPartly};
 ghost use Rattle.sound.specs.Lent.{used_of};
 ghost use Rattle.fields.specs.Noded.{declare, noded, params_of, WhatIn};
-ghost use Rattle.step.specs.Trusted.{held, Stands, unread, Steps};
+ghost use Rattle.step.specs.Trusted.{StandsIn, Steps, Leaves, Splits};
 ghost use Rattle.step.specs.Replies.{Begins, Ends};
 
 use fields::{Params, What};
 use names::AbilitySet;
 use payload::Answer;
-use table::Used;
+use snapshot::before::Before;
+use table::state::State;
 use verdict::{left_over, padded, place_after, row_for, rows_after, verdict_of};
 
-// One record's answer, the rows in use after it, where the rest of the stream begins, and how many of the saved rows still stand.
+// One record's answer, where the rest of the stream begins, and how many of the saved rows still stand.
 #[derive(Clone, Copy)]
 pub struct Stepped {
     pub number: u32,
     pub len: usize,
-    pub used: Used,
     pub next: usize,
     pub rows: u32,
 }
 
 fn with_next(a: Answer, next: usize, rows: u32) -> Stepped
-    ensures { result ≡ record { number = a.number; len = a.len; used = a.used; next = next; rows = rows } }
+    ensures { result ≡ record { number = a.number; len = a.len; next = next; rows = rows } }
 {
-    let u = a.used;
     Stepped {
         number: a.number,
         len: a.len,
-        used: u,
         next,
         rows,
     }
@@ -43,25 +40,24 @@ fn with_next(a: Answer, next: usize, rows: u32) -> Stepped
 
 // The bytes go into the row of the struct's number.
 fn answer_declared(
-    w: &mut [u32],
-    u: Used,
-    before: Used,
+    st: &mut State<'_>,
+    before: Before<'_>,
     params: &mut [[u8; 8]; 256],
-    saved: &[u32],
     abilities: AbilitySet,
     own: Params,
     buf: &mut [u8],
 ) -> Answer
-    requires lay { Lay w.old u × ((own.many ≤ 8) × ((5120 ≤ length saved.now) × (4096 ≤ length buf.old))) }
-    requires begins { Begins before params.old saved.now w.old u (declare abilities.0 (params_of own)) }
-    ensures { Ends before params.old saved.now w.old u (declare abilities.0 (params_of own)) buf.old w.new params.new buf.new result }
+    ghost w0: { List ℕ }
+    requires room { (own.many ≤ 8) × (4096 ≤ length buf.old) }
+    requires begins { Begins w0 before params.old st.old (declare abilities.0 (params_of own)) }
+    ensures { Ends w0 before.entry params.old st.old (declare abilities.0 (params_of own)) buf.old st.new params.new buf.new result }
 {
-    let many = u32::from(own.many);
-    let r = run::run_declare(w, u, abilities, many);
-    let o = r.out;
-    let a = answer::answer_of(w, before, saved, r, buf);
-    let n = row_for(table::done_of(o), a, u);
-    *params = run::with_row(*params, n, padded(own));
+    let used = st.used;
+    let ran = run::run_declare(st, abilities, u32::from(own.many));
+    let number = ran.result.ok();
+    let a = answer::settle(st, before, ran, buf);
+    let n = row_for(number, a, used);
+    run::put_row(params, n, padded(own));
     a
 }
 
@@ -69,45 +65,64 @@ fn answer_declared(
 
 // What was read and placed is run and answered.
 fn answer_placed(
-    w: &mut [u32],
-    u: Used,
-    before: Used,
+    st: &mut State<'_>,
+    before: Before<'_>,
     params: &mut [[u8; 8]; 256],
-    saved: &[u32],
     what: What,
     buf: &mut [u8],
 ) -> Answer
-    requires lay { Lay w.old u × (WhatIn u.nodes what × ((5120 ≤ length saved.now) × (4096 ≤ length buf.old))) }
-    requires begins { Begins before params.old saved.now w.old u (noded what) }
-    ensures { Ends before params.old saved.now w.old u (noded what) buf.old w.new params.new buf.new result }
+    ghost w0: { List ℕ }
+    requires room { WhatIn st.old.used.nodes what × (4096 ≤ length buf.old) }
+    requires begins { Begins w0 before params.old st.old (noded what) }
+    ensures { Ends w0 before.entry params.old st.old (noded what) buf.old st.new params.new buf.new result }
 {
-    match what {
+    let ran = match what {
         What::SD(abilities, own) => {
-            answer_declared(w, u, before, params, saved, abilities, own, buf)
+            return answer_declared(st, before, params, abilities, own, buf);
         }
-        What::SV => solve::solve(w, u, params, saved, buf),
-        What::Bind(x) => {
-            let r = run::run_bind(w, u, params, x);
-            answer::answer_of(w, before, saved, r, buf)
-        }
-        What::Look(x) => {
-            let r = run::run_look(w, u, x);
-            answer::answer_of(w, before, saved, r, buf)
-        }
-        What::Add(x) => {
-            let r = run::run_add(w, u, x);
-            answer::answer_of(w, before, saved, r, buf)
-        }
-    }
+        What::SV => return solve::solve(st, params, before.saved, buf),
+        What::Bind(x) => run::run_bind(st, params, x),
+        What::Look(x) => run::run_look(st, x),
+        What::Add(x) => run::run_add(st, x),
+    };
+    answer::settle(st, before, ran, buf)
 }
 
 // ---- the record
 
+// From the state at entry on, whose variables are saved.
+fn step_from(
+    st: &mut State<'_>,
+    before: Before<'_>,
+    params: &mut [[u8; 8]; 256],
+    stream: &[u8],
+    at: usize,
+    whole: bool,
+    buf: &mut [u8],
+) -> Stepped
+    ghost w0: { List ℕ }
+    requires entry { (w0 ≡ st.old.words.now) × ((before.used ≡ st.old.used) × Saved st.old.words.now st.old.used before.saved.now) }
+    requires stands { StandsIn st.old params.old × (IsBytes stream.now × ((at ≤ length stream.now) × (4096 ≤ length buf.old))) }
+    ensures { Leaves whole st.old params.old stream.now at buf.old st.new params.new buf.new result before.entry.saved.now }
+{
+    let f = record::read_record(st, stream, at);
+    let next = place_after(f.read, at, f.next);
+    match verdict_of(f.read, left_over(whole, f.next, stream.len())) {
+        Ok(x) => {
+            let rows = rows_after(x, before.used.vars);
+            with_next(answer_placed(st, before, params, x, buf), next, rows)
+        }
+        Err(x) => {
+            let rows = before.used.vars;
+            with_next(answer::settle_refusal(st, before, x.number()), next, rows)
+        }
+    }
+}
+
 // whole: the record is all that is lent, and bytes left over are 5, which comes before 7. The first `rows` variables are saved already, and the answer
 // says how many are still: so rows are copied once after each record that may change them, not at each record.
 pub fn step_trusted(
-    w: &mut [u32],
-    u: Used,
+    st: &mut State<'_>,
     params: &mut [[u8; 8]; 256],
     stream: &[u8],
     at: usize,
@@ -116,44 +131,53 @@ pub fn step_trusted(
     saved: &mut [u32],
     buf: &mut [u8],
 ) -> Stepped
-    requires stands { Stands w.old u params.old × (IsBytes stream.now × ((at ≤ length stream.now) × ((5120 ≤ length saved.old) × (4096 ≤ length buf.old)))) }
-    requires saved_partly { SavedPartly w.old u rows saved.old }
-    ensures steps { Steps whole w.old u params.old stream.now at buf.old w.new params.new buf.new result }
-    ensures saved_next { SavedPartly w.new result.used result.rows saved.new }
+    requires stands { StandsIn st.old params.old × (IsBytes stream.now × ((at ≤ length stream.now) × ((5120 ≤ length saved.old) × (4096 ≤ length buf.old)))) }
+    requires saved_partly { SavedPartly st.old.words.now st.old.used rows saved.old }
+    ensures steps { Steps whole st.old params.old stream.now at buf.old st.new params.new buf.new result }
+    ensures saved_next { SavedPartly st.new.words.now st.new.used result.rows saved.new }
 {
-    snapshot::save_vars(w, u, rows, saved);
-    let f = record::read_record(w, u, stream, at);
-    let read = f.read;
-    let v = f.used;
-    let kept = u.vars;
-    let next = place_after(read, at, f.next);
-    match verdict_of(read, left_over(whole, f.next, stream.len())) {
-        Ok(x) => {
-            let rows = rows_after(x, kept);
-            with_next(answer_placed(w, v, u, params, saved, x, buf), next, rows)
-        }
-        Err(x) => with_next(answer::refuse(w, v, u, saved, x.number()), next, kept),
-    }
+    snapshot::save_vars(st, rows, saved);
+    let before = Before {
+        used: st.used,
+        saved,
+    };
+    step_from(st, before, params, stream, at, whole, buf)
 }
 
 // ---- the splitter
 
-// How many bytes the record at the head of the stream has, none on 5, 6 and 18; the words are as they were.
+// From the state at entry on, to which all goes back.
+fn rest_from(
+    st: &mut State<'_>,
+    before: Before<'_>,
+    params: &[[u8; 8]; 256],
+    stream: &[u8],
+) -> usize
+    ghost w0: { List ℕ }
+    requires entry { (w0 ≡ st.old.words.now) × ((before.used ≡ st.old.used) × Saved st.old.words.now st.old.used before.saved.now) }
+    requires stands { StandsIn st.old params.now × (st.old.used ≡ used_of st.old.words.now) }
+    ensures { Splits st.old params.now stream.now st.new result }
+{
+    let f = record::read_record(st, stream, 0);
+    snapshot::go_back(st, before);
+    st.write_used();
+    place_after(f.read, 0, f.next)
+}
+
+// How many bytes the record at the head of the stream has, none on 5, 6 and 18; words and counts are as they were.
 pub fn rest_trusted(
-    w: &mut [u32],
-    u: Used,
+    st: &mut State<'_>,
     params: &[[u8; 8]; 256],
     stream: &[u8],
     saved: &mut [u32],
 ) -> usize
-    requires { Stands w.old u params.now × ((u ≡ used_of w.old) × (5120 ≤ length saved.old)) }
-    ensures { (w.new ≡ w.old) × ((result ≤ length stream.now) × (unread (held w.old u params.now) stream.now ≡ drop result stream.now)) }
+    requires { StandsIn st.old params.now × ((st.old.used ≡ used_of st.old.words.now) × (5120 ≤ length saved.old)) }
+    ensures { Splits st.old params.now stream.now st.new result }
 {
-    snapshot::save_vars(w, u, 0, saved);
-    let f = record::read_record(w, u, stream, 0);
-    let read = f.read;
-    let v = f.used;
-    snapshot::undo(w, v, u, saved);
-    table::write_used(w, u);
-    place_after(read, 0, f.next)
+    snapshot::save_vars(st, 0, saved);
+    let before = Before {
+        used: st.used,
+        saved,
+    };
+    rest_from(st, before, params, stream)
 }

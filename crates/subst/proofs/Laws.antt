@@ -8,14 +8,16 @@ use Prim.Native.Nat.{ℕ, zero, suc, ◌+◌, ◌-◌, ◌<◌, ◌≤◌}
 use native.Mathlib.Nat.{not-suc-le-zero}
 use native.Mathlib.Numerals.{sub-one}
 use native.Mathlib.Omega.{arith}
-use Rattle.definition.specs.Types.{State, Struct, ok, err, RecursiveType}
+use Rattle.definition.specs.Types as d
+use Rattle.definition.specs.Types.{Struct, ok, err, RecursiveType}
 use Rattle.definition.specs.Store.{node, with_args, type_at, get, num_loc, insert}
 use Rattle.definition.specs.Subst.{as_var, is_anything, next_in, next_of, forward, forward_tvar}
 use Rattle.definition.specs.Join.{is_num_var, num_shape, check_num_tvar', check_num_tvar, used, join_bind_tvar}
-use Rattle.table.specs.State.{shape_of, node_of, seen, Lay, Stored}
-use Rattle.table.specs.declared.Used.{Used}
+use Rattle.table.specs.State.{shape_of, node_of}
+use Rattle.table.specs.Did.{held, Kept}
+use Rattle.table.specs.declared.state.State.{State}
 use Rattle.table.specs.declared.Node.{Node}
-use Rattle.table.proofs.Steps.{refines_now, refines_is, refines_as}
+use Rattle.table.proofs.Did.{became_now, became_is, became_as}
 use Rattle.table.proofs.Grown.{value_is}
 use Rattle.table.proofs.Pushed.{taken_seen}
 use Rattle.names.specs.declared.TVar.{TVar}
@@ -23,69 +25,69 @@ use Rattle.shapes.specs.Parts.{next}
 use Rattle.subst.specs.Answers.{Binding, bound, Binds}
 use Rattle.subst.specs.declared.BindError.TheVariants.{NotNumeric, Recursive}
 
-pub var_of : (s : State) (t : ℕ) (n : Node) (r : Option TVar) → node_of n ≡ node s t → ((st : State) → next r ≡ as_var (with_args st (shape_of n.shape))) → as_var (type_at s t) ≡ next r
+pub var_of : (s : d.State) (t : ℕ) (n : Node) (r : Option TVar) → node_of n ≡ node s t → ((x : d.State) → next r ≡ as_var (with_args x (shape_of n.shape))) → as_var (type_at s t) ≡ next r
 var_of s t n r e f = sym (f s ∙ ap as_var (value_is s t n e))
 
 -- ---- the chain
 
-pub next_found : (s : State) (v : ℕ) (f : Option ℕ) (o : Option ℕ) → f ≡ get s v → f ≡ o → next_in s o ≡ next_of s v
+next_found : (s : d.State) (v : ℕ) (f : Option ℕ) (o : Option ℕ) → f ≡ get s v → f ≡ o → next_in s o ≡ next_of s v
 unfolding next_of
 next_found s v f o e z = ap (next_in s) (sym z ∙ e)
 
-pub next_none : (s : State) (v : ℕ) (f : Option ℕ) → f ≡ get s v → f ≡ None → None ≡ next_of s v
+pub next_none : (s : d.State) (v : ℕ) (f : Option ℕ) → f ≡ get s v → f ≡ None → None ≡ next_of s v
 unfolding next_in
 next_none s v f e z = next_found s v f None e (z)
 
-pub next_some : (s : State) (v t : ℕ) (f : Option ℕ) → f ≡ get s v → f ≡ Some t → as_var (type_at s t) ≡ next_of s v
+pub next_some : (s : d.State) (v t : ℕ) (f : Option ℕ) → f ≡ get s v → f ≡ Some t → as_var (type_at s t) ≡ next_of s v
 unfolding next_in
 next_some s v t f e z = next_found s v f (Some t) e (z)
 
-pub forward_none : (n : ℕ) (s : State) (v : ℕ) → next_of s v ≡ None → forward n s v ≡ v
+pub forward_none : (n : ℕ) (s : d.State) (v : ℕ) → next_of s v ≡ None → forward n s v ≡ v
 unfolding forward
 forward_none zero s v e = refl
 forward_none (suc n) s v e = rw (e, forward) refl
 
-pub forward_some : (n : ℕ) (s : State) (v x : ℕ) → next_of s v ≡ Some x → forward (suc n) s v ≡ forward n s x
+pub forward_some : (n : ℕ) (s : d.State) (v x : ℕ) → next_of s v ≡ Some x → forward (suc n) s v ≡ forward n s x
 unfolding forward
 forward_some n s v x e = rw (e, forward) refl
 
-forward_less : (n : ℕ) (s : State) (v x : ℕ) → 0 < n → next_of s v ≡ Some x → forward n s v ≡ forward (n - 1) s x
+forward_less : (n : ℕ) (s : d.State) (v x : ℕ) → 0 < n → next_of s v ≡ Some x → forward n s v ≡ forward (n - 1) s x
 forward_less zero s v x p e = absurd (not-suc-le-zero p)
 forward_less (suc n) s v x p e = forward_some n s v x e ∙ rw (sub-one (suc n)) refl
 
-forward_zero : (n : ℕ) (s : State) (v : ℕ) → n ≤ 0 → forward n s v ≡ v
+forward_zero : (n : ℕ) (s : d.State) (v : ℕ) → n ≤ 0 → forward n s v ≡ v
 unfolding forward
 forward_zero zero s v p = refl
 forward_zero (suc n) s v p = absurd (not-suc-le-zero p)
 
 -- where the loop stands after i steps: from here on the chain ends where it ends from the start
-pub record Chain (w : List ℕ) (u : Used) (cur₀ cur i : ℕ) : Type 0 where
-  pub is : (ds : List Struct) → forward (u.vars - i) (seen w u ds) cur ≡ forward_tvar (seen w u ds) cur₀
+pub record Chain (s : State) (cur₀ cur i : ℕ) : Type 0 where
+  pub is : (ds : List Struct) → forward (s.used.vars - i) (held s ds) cur ≡ forward_tvar (held s ds) cur₀
 
-pub chain_start : (w : List ℕ) (u : Used) (cur : ℕ) → Chain w u cur cur 0
+pub chain_start : (s : State) (cur : ℕ) → Chain s cur cur 0
 unfolding forward_tvar
-chain_start w u cur = let z : u.vars - 0 ≡ u.vars = omega arith in record { is = λ ds. rw (z, taken_seen w u ds) refl }
+chain_start s cur = let z : s.used.vars - 0 ≡ s.used.vars = omega arith in record { is = λ ds. rw (z, taken_seen s.words.now s.used ds) refl }
 
-module _ {w : List ℕ} {u : Used} {cur₀ cur i : ℕ} (c : Chain w u cur₀ cur i) where
-  pub chain_out : u.vars ≤ i → (ds : List Struct) → cur ≡ forward_tvar (seen w u ds) cur₀
-  chain_out z ds = sym (forward_zero (u.vars - i) (seen w u ds) cur (omega arith)) ∙ c.is ds
+module _ {s : State} {cur₀ cur i : ℕ} (c : Chain s cur₀ cur i) where
+  pub chain_out : s.used.vars ≤ i → (ds : List Struct) → cur ≡ forward_tvar (held s ds) cur₀
+  chain_out z ds = sym (forward_zero (s.used.vars - i) (held s ds) cur (omega arith)) ∙ c.is ds
 
-  module _ (r : Option TVar) (e : (ds : List Struct) → next r ≡ next_of (seen w u ds) cur) where
-    pub chain_end : r ≡ None → (ds : List Struct) → cur ≡ forward_tvar (seen w u ds) cur₀
-    chain_end z ds = sym (forward_none (u.vars - i) (seen w u ds) cur (sym (e ds) ∙ ap next z)) ∙ c.is ds
+  module _ (r : Option TVar) (e : (ds : List Struct) → next r ≡ next_of (held s ds) cur) where
+    pub chain_end : r ≡ None → (ds : List Struct) → cur ≡ forward_tvar (held s ds) cur₀
+    chain_end z ds = sym (forward_none (s.used.vars - i) (held s ds) cur (sym (e ds) ∙ ap next z)) ∙ c.is ds
 
-    pub chain_on : i < u.vars → (v : TVar) → r ≡ Some v → Chain w u cur₀ v.0 (i + 1)
+    pub chain_on : i < s.used.vars → (v : TVar) → r ≡ Some v → Chain s cur₀ v.0 (i + 1)
     chain_on p v z =
-        let q : u.vars - (i + 1) ≡ u.vars - i - 1 = omega arith in
-        record { is = λ ds. rw q (sym (forward_less (u.vars - i) (seen w u ds) cur v.0 (omega arith) (sym (e ds) ∙ ap next z)) ∙ c.is ds) }
+        let q : s.used.vars - (i + 1) ≡ s.used.vars - i - 1 = omega arith in
+        record { is = λ ds. rw q (sym (forward_less (s.used.vars - i) (held s ds) cur v.0 (omega arith) (sym (e ds) ∙ ap next z)) ∙ c.is ds) }
 
 -- ---- the numeric check
 
-pub is_num : (s : State) (v : ℕ) (f : Option ℕ) → f ≡ num_loc s v → is_some f ≡ is_num_var s v
+pub is_num : (s : d.State) (v : ℕ) (f : Option ℕ) → f ≡ num_loc s v → is_some f ≡ is_num_var s v
 unfolding is_num_var
 is_num s v f e = ap (λ (o : Option ℕ). elim o [ None ↦ false | Some loc ↦ true ]) e
 
-module _ (s : State) (ty : ℕ) where
+module _ (s : d.State) (ty : ℕ) where
   pub num_plain : as_var (type_at s ty) ≡ None → num_shape (type_at s ty) ≡ check_num_tvar' s ty
   unfolding check_num_tvar'
   num_plain e = rw (e, check_num_tvar') refl
@@ -115,7 +117,7 @@ module _ (s : State) (ty : ℕ) where
 
 -- ---- binding
 
-module _ (s : State) (loc tvar ty : ℕ) where
+module _ (s : d.State) (loc tvar ty : ℕ) where
   bind_failed : check_num_tvar s tvar ty ≡ false → ok (s, false) ≡ join_bind_tvar s loc tvar ty
   unfolding join_bind_tvar
   bind_failed c = rw c refl
@@ -134,29 +136,31 @@ module _ (s : State) (loc tvar ty : ℕ) where
       unfolding join_bind_tvar
       bind_stored a = rw (c, o, a) refl
 
--- what is known of every state that the words hold
-abbrev pub All : List ℕ → Used → (State → Type 0) → Type 0
-All w u P = (ds : List Struct) → P (seen w u ds)
+-- what is known of every state that the tables hold
+abbrev pub All : State → (d.State → Type 0) → Type 0
+All s P = (ds : List Struct) → P (held s ds)
 
-module _ (w : List ℕ) (u : Used) (tvar ty : ℕ) where
-  stays : (r : Binding) → Lay w u → ((ds : List Struct) (loc : ℕ) → bound r loc (seen w u ds) ≡ join_bind_tvar (seen w u ds) loc tvar ty) → Binds w u w r tvar ty
-  stays r h e = refines_now h (λ ds k i loc. e ds loc i)
+module _ (s : State) (tvar ty : ℕ) where
+  stays : (r : Binding) → ((ds : List Struct) (loc : ℕ) → bound r loc (held s ds) ≡ join_bind_tvar (held s ds) loc tvar ty) → Binds s s r tvar ty
+  stays r e = record { changed = became_now (λ ds k i loc. e ds loc i); used = refl }
 
-  pub binds_failed : Lay w u → (b : Bool) → All w u (λ s. b ≡ check_num_tvar s tvar ty) → b ≡ false → Binds w u w (Err NotNumeric) tvar ty
-  binds_failed h b c z = stays (Err NotNumeric) h (λ ds loc. bind_failed (seen w u ds) loc tvar ty (sym (c ds) ∙ z))
+  pub binds_failed : (b : Bool) → All s (λ x. b ≡ check_num_tvar x tvar ty) → b ≡ false → Binds s s (Err NotNumeric) tvar ty
+  binds_failed b c z = stays (Err NotNumeric) (λ ds loc. bind_failed (held s ds) loc tvar ty (sym (c ds) ∙ z))
 
-  module _ (b : Bool) (c : All w u (λ s. b ≡ check_num_tvar s tvar ty)) (bt : b ≡ true) where
-    pub binds_used : Lay w u → (o : Bool) → All w u (λ s. o ≡ used (suc ty) s tvar ty) → o ≡ true → Binds w u w (Err Recursive) tvar ty
-    binds_used h o e z = stays (Err Recursive) h (λ ds loc. bind_used (seen w u ds) loc tvar ty (sym (c ds) ∙ bt) (sym (e ds) ∙ z))
+  module _ (b : Bool) (c : All s (λ x. b ≡ check_num_tvar x tvar ty)) (bt : b ≡ true) where
+    pub binds_used : (o : Bool) → All s (λ x. o ≡ used (suc ty) x tvar ty) → o ≡ true → Binds s s (Err Recursive) tvar ty
+    binds_used o e z = stays (Err Recursive) (λ ds loc. bind_used (held s ds) loc tvar ty (sym (c ds) ∙ bt) (sym (e ds) ∙ z))
 
-    module _ (o : Bool) (e : All w u (λ s. o ≡ used (suc ty) s tvar ty)) (ot : o ≡ false) (n : Node) (g : All w u (λ s. node_of n ≡ node s ty)) (a : Bool)
-        (i : (s : State) → a ≡ is_anything (with_args s (shape_of n.shape))) where
-      is_any : (ds : List Struct) → is_anything (type_at (seen w u ds) ty) ≡ a
-      is_any ds = sym (i (seen w u ds) ∙ ap is_anything (value_is (seen w u ds) ty n (g ds)))
+    module _ (o : Bool) (e : All s (λ x. o ≡ used (suc ty) x tvar ty)) (ot : o ≡ false) (n : Node) (g : All s (λ x. node_of n ≡ node x ty)) (a : Bool)
+        (i : (x : d.State) → a ≡ is_anything (with_args x (shape_of n.shape))) where
+      is_any : (ds : List Struct) → is_anything (type_at (held s ds) ty) ≡ a
+      is_any ds = sym (i (held s ds) ∙ ap is_anything (value_is (held s ds) ty n (g ds)))
 
-      pub binds_anything : Lay w u → a ≡ true → Binds w u w (Ok tt) tvar ty
-      binds_anything h z = stays (Ok tt) h (λ ds loc. bind_anything (seen w u ds) loc tvar ty (sym (c ds) ∙ bt) (sym (e ds) ∙ ot) (is_any ds ∙ z))
+      pub binds_anything : a ≡ true → Binds s s (Ok tt) tvar ty
+      binds_anything z = stays (Ok tt) (λ ds loc. bind_anything (held s ds) loc tvar ty (sym (c ds) ∙ bt) (sym (e ds) ∙ ot) (is_any ds ∙ z))
 
-      pub binds_stored : (w' : List ℕ) → Stored w u w' (λ s. insert s tvar ty) → a ≡ false → Binds w u w' (Ok tt) tvar ty
-      binds_stored w' h z =
-          refines_is (λ ds k i loc. bind_stored (seen w u ds) loc tvar ty (sym (c ds) ∙ bt) (sym (e ds) ∙ ot) (is_any ds ∙ z) i) (refines_as (λ s loc. ok (s, true)) h (λ s. refl))
+      pub binds_stored : {t : State} → Kept s t (λ x. insert x tvar ty) → a ≡ false → Binds s t (Ok tt) tvar ty
+      binds_stored h z = record {
+        changed = became_is (λ ds k i loc. bind_stored (held s ds) loc tvar ty (sym (c ds) ∙ bt) (sym (e ds) ∙ ot) (is_any ds ∙ z) i) (became_as (λ x loc. ok (x, true)) h.changed (λ x. refl));
+        used = h.used;
+      }

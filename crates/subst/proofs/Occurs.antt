@@ -8,12 +8,14 @@ use native.Mathlib.Decide.{ℕ_discrete, dec_lt}
 use native.Mathlib.Omega.{arith}
 use lib.ListN.{length, get_or, set, length-set, replicate, length-replicate, get_or-replicate, get_or-eq_default}
 use lib.Seq.{get_or-set_other}
-use Rattle.definition.specs.Types.{State, Struct}
+use Rattle.definition.specs.Types as d
+use Rattle.definition.specs.Types.{Struct}
 use Rattle.definition.specs.Store.{count, with_args, type_at, any_of}
 use Rattle.definition.specs.Subst.{parts}
 use Rattle.definition.specs.Join.{is_var, used}
-use Rattle.table.specs.State.{shape_of, seen, Inside}
-use Rattle.table.specs.declared.Used.{Used}
+use Rattle.table.specs.State.{shape_of, Inside}
+use Rattle.table.specs.Did.{held}
+use Rattle.table.specs.declared.state.State.{State}
 use Rattle.table.specs.declared.Shape.{Shape}
 use Rattle.shapes.specs.Parts.{part_count}
 use Rattle.shapes.proofs.Nodes.{At, counted, inside_seen, many_parts, part_is, parts_low}
@@ -22,7 +24,7 @@ use Rattle.subst.proofs.Lists.{any_same, any_none, any_one, or_true}
 
 -- ---- where a variable is used
 
-module _ (s : State) (inside : Inside s) (v : ℕ) where
+module _ (s : d.State) (inside : Inside s) (v : ℕ) where
   used_levels : (n m t : ℕ) → t < count s → t < n → t < m → used n s v t ≡ used m s v t
   unfolding used
   used_levels zero m t h i j = absurd (not-suc-le-zero i)
@@ -53,62 +55,59 @@ module _ (s : State) (inside : Inside s) (v : ℕ) where
 
 -- ---- the walk at node t
 
-module _ {w : List ℕ} {u : Used} {t : ℕ} {sh : Shape} {many : ℕ} (a : At w u t sh many) where
-  pub self_used : (v : ℕ) (b : Bool) → ((s : State) → b ≡ is_var v (with_args s (shape_of sh))) → b ≡ true → (ds : List Struct) → true ≡ used (suc t) (seen w u ds) v t
-  self_used v b e z ds = sym (used_self (seen w u ds) (inside_seen w u ds a.lay) v t (counted a ds) (sym (e (seen w u ds) ∙ ap (is_var v) (a.is ds)) ∙ z))
+module _ (s : State) {t : ℕ} {sh : Shape} {many : ℕ} (a : At s.words.now s.used t sh many) where
+  pub self_used : (v : ℕ) (b : Bool) → ((x : d.State) → b ≡ is_var v (with_args x (shape_of sh))) → b ≡ true → (ds : List Struct) → true ≡ used (suc t) (held s ds) v t
+  self_used v b e z ds = sym (used_self (held s ds) (inside_seen s.words.now s.used ds a.lay) v t (counted a ds) (sym (e (held s ds) ∙ ap (is_var v) (a.is ds)) ∙ z))
 
 -- the parts before i are passed without meeting v, which node t is not itself
-pub record Passed (w : List ℕ) (u : Used) (v t : ℕ) (sh : Shape) (many : ℕ) (marks : List ℕ) (i : ℕ) : Type 0 where
-  pub at : At w u t sh many
-  pub clear : Clear w u v marks
-  pub no_self : (ds : List Struct) → is_var v (type_at (seen w u ds) t) ≡ false
-  pub no_part : (ds : List Struct) (j : ℕ) → j < i → used (suc (get_or (parts (type_at (seen w u ds) t)) j 0)) (seen w u ds) v (get_or (parts (type_at (seen w u ds) t)) j 0) ≡ false
+pub record Passed (s : State) (v t : ℕ) (sh : Shape) (many : ℕ) (marks : List ℕ) (i : ℕ) : Type 0 where
+  pub at : At s.words.now s.used t sh many
+  pub clear : Clear s v marks
+  pub no_self : (ds : List Struct) → is_var v (type_at (held s ds) t) ≡ false
+  pub no_part : (ds : List Struct) (j : ℕ) → j < i → used (suc (get_or (parts (type_at (held s ds) t)) j 0)) (held s ds) v (get_or (parts (type_at (held s ds) t)) j 0) ≡ false
 
-pub passed_none : (w : List ℕ) (u : Used) (v t : ℕ) (sh : Shape) (many : ℕ) (marks : List ℕ) → At w u t sh many → Clear w u v marks → (b : Bool) → ((s : State) → b ≡ is_var v (with_args s (shape_of sh))) → b ≡ false → Passed w u v t sh many marks 0
-passed_none w u v t sh many marks a c b e z = record {
+pub passed_none : (s : State) (v t : ℕ) (sh : Shape) (many : ℕ) (marks : List ℕ) → At s.words.now s.used t sh many → Clear s v marks → (b : Bool) → ((x : d.State) → b ≡ is_var v (with_args x (shape_of sh))) → b ≡ false → Passed s v t sh many marks 0
+passed_none s v t sh many marks a c b e z = record {
   at = a;
   clear = c;
-  no_self = λ ds. sym (e (seen w u ds) ∙ ap (is_var v) (a.is ds)) ∙ z;
+  no_self = λ ds. sym (e (held s ds) ∙ ap (is_var v) (a.is ds)) ∙ z;
   no_part = λ ds j h. absurd (not-suc-le-zero h);
 }
 
-module _ {w : List ℕ} {u : Used} {v t : ℕ} {sh : Shape} {many : ℕ} {marks : List ℕ} {i : ℕ} (h : Passed w u v t sh many marks i) where
+module _ {s : State} {v t : ℕ} {sh : Shape} {many : ℕ} {marks : List ℕ} {i : ℕ} (h : Passed s v t sh many marks i) where
   -- all are passed
-  pub passed_all : many ≤ i → (ds : List Struct) → false ≡ used (suc t) (seen w u ds) v t
+  pub passed_all : many ≤ i → (ds : List Struct) → false ≡ used (suc t) (held s ds) v t
   passed_all l ds =
-      sym (used_not (seen w u ds) (inside_seen w u ds h.at.lay) v t (counted h.at ds) (h.no_self ds) (λ j k.
+      sym (used_not (held s ds) (inside_seen s.words.now s.used ds h.at.lay) v t (counted h.at ds) (h.no_self ds) (λ j k.
       let m = many_parts h.at ds in
       h.no_part ds j (omega arith)))
 
-  module _ (p : ℕ) (l : i < many) (e : (ds : List Struct) → i < part_count (shape_of sh) → p ≡ get_or (parts (with_args (seen w u ds) (shape_of sh))) i 0)
-      (b : Bool) (f : (ds : List Struct) → b ≡ used (suc p) (seen w u ds) v p) where
-    met : (ds : List Struct) → used (suc (get_or (parts (type_at (seen w u ds) t)) i 0)) (seen w u ds) v (get_or (parts (type_at (seen w u ds) t)) i 0) ≡ b
-    met ds = sym (f ds ∙ ap (λ (q : ℕ). used (suc q) (seen w u ds) v q) (part_is h.at i p l e ds))
+  module _ (p : ℕ) (l : i < many) (e : (ds : List Struct) → i < part_count (shape_of sh) → p ≡ get_or (parts (with_args (held s ds) (shape_of sh))) i 0)
+      (b : Bool) (f : (ds : List Struct) → b ≡ used (suc p) (held s ds) v p) where
+    met : (ds : List Struct) → used (suc (get_or (parts (type_at (held s ds) t)) i 0)) (held s ds) v (get_or (parts (type_at (held s ds) t)) i 0) ≡ b
+    met ds = sym (f ds ∙ ap (λ (q : ℕ). used (suc q) (held s ds) v q) (part_is h.at i p l e ds))
 
-    pub part_used : b ≡ true → (ds : List Struct) → true ≡ used (suc t) (seen w u ds) v t
-    part_used z ds = sym (used_part (seen w u ds) (inside_seen w u ds h.at.lay) v t (counted h.at ds) i (rw (many_parts h.at ds) l) (met ds ∙ z))
+    pub part_used : b ≡ true → (ds : List Struct) → true ≡ used (suc t) (held s ds) v t
+    part_used z ds = sym (used_part (held s ds) (inside_seen s.words.now s.used ds h.at.lay) v t (counted h.at ds) i (rw (many_parts h.at ds) l) (met ds ∙ z))
 
-    pub passed_more : (marks' : List ℕ) → Clear w u v marks' → b ≡ false → Passed w u v t sh many marks' (i + 1)
+    pub passed_more : (marks' : List ℕ) → Clear s v marks' → b ≡ false → Passed s v t sh many marks' (i + 1)
     passed_more marks' c z = record { at = h.at; clear = c; no_self = h.no_self; no_part = λ ds j k. one_more ds j k (ℕ_discrete j i) }
       where
-        one_more : (ds : List Struct) (j : ℕ) → j < i + 1 → Dec (j ≡ i) → used (suc (get_or (parts (type_at (seen w u ds) t)) j 0)) (seen w u ds) v (get_or (parts (type_at (seen w u ds) t)) j 0) ≡ false
+        one_more : (ds : List Struct) (j : ℕ) → j < i + 1 → Dec (j ≡ i) → used (suc (get_or (parts (type_at (held s ds) t)) j 0)) (held s ds) v (get_or (parts (type_at (held s ds) t)) j 0) ≡ false
         one_more ds j k (yes d) = rw d (met ds ∙ z)
         one_more ds j k (no d) = h.no_part ds j (omega arith)
 
 -- node t is marked
-pub clear_more : (w : List ℕ) (u : Used) (v t : ℕ) (marks : List ℕ) → Clear w u v marks → t < 2048 → ((ds : List Struct) → false ≡ used (suc t) (seen w u ds) v t) → Clear w u v (set marks t 1)
-clear_more w u v t marks c l e = record { size = length-set marks t 1 ∙ c.size; clear = λ ds x m. by ds x m (ℕ_discrete x t) }
+pub clear_more : (s : State) (v t : ℕ) (marks : List ℕ) → Clear s v marks → t < 2048 → ((ds : List Struct) → false ≡ used (suc t) (held s ds) v t) → Clear s v (set marks t 1)
+clear_more s v t marks c l e = record { size = length-set marks t 1 ∙ c.size; clear = λ ds x m. by ds x m (ℕ_discrete x t) }
   where
-    by : (ds : List Struct) (x : ℕ) → get_or (set marks t 1) x 0 ≡ 1 → Dec (x ≡ t) → used (suc x) (seen w u ds) v x ≡ false
+    by : (ds : List Struct) (x : ℕ) → get_or (set marks t 1) x 0 ≡ 1 → Dec (x ≡ t) → used (suc x) (held s ds) v x ≡ false
     by ds x m (yes d) = rw d (sym (e ds))
     by ds x m (no d) = c.clear ds x (sym (get_or-set_other marks t x 1 0 d) ∙ m)
-
-pub clear_marked : (w : List ℕ) (u : Used) (v t : ℕ) (marks : List ℕ) → Clear w u v marks → get_or marks t 0 ≡ 1 → (ds : List Struct) → false ≡ used (suc t) (seen w u ds) v t
-clear_marked w u v t marks c e ds = sym (c.clear ds t e)
 
 pub zero_at : (n t : ℕ) → Dec (t < n) → ◌≡◌ {A = ℕ} (get_or (replicate n 0) t 0) 0
 zero_at n t (yes l) = get_or-replicate n t 0 0 l
 zero_at n t (no l) = get_or-eq_default (replicate n 0) 0 (rw (length-replicate {A = ℕ} n 0) (omega arith))
 
-pub clear_none : (w : List ℕ) (u : Used) (v : ℕ) → Clear w u v (replicate 2048 0)
-clear_none w u v = record { size = length-replicate {A = ℕ} 2048 0; clear = λ ds t e. absurd (let z = zero_at 2048 t (dec_lt t 2048) in omega (arith, z, e)) }
+pub clear_none : (s : State) (v : ℕ) → Clear s v (replicate 2048 0)
+clear_none s v = record { size = length-replicate {A = ℕ} 2048 0; clear = λ ds t e. absurd (let z = zero_at 2048 t (dec_lt t 2048) in omega (arith, z, e)) }

@@ -7,12 +7,12 @@ ghost use Rattle.definition.specs.Types as d;
 ghost use Rattle.definition.specs.Store.{type_at, spanned};
 ghost use Rattle.definition.specs.Subst.{next_of, forward_tvar, set_num_var};
 ghost use Rattle.definition.specs.Join.{is_num_var, num_shape, check_num_tvar', check_num_tvar, used};
-ghost use Rattle.table.specs.State.{seen, Lay, Stored};
+ghost use Rattle.table.specs.Did.{held, Kept};
 ghost use Rattle.shapes.specs.Parts.{next};
 ghost use Rattle.subst.specs.Answers.{Unfolds, var_at, Clear, Binds};
 
 use names::TVar;
-use table::Used;
+use table::state::State;
 
 // Why a variable is not bound: the numeric check failed, or the variable occurs in the type.
 #[derive(Clone, Copy)]
@@ -31,23 +31,20 @@ pub enum Unfolded {
 // ---- forward_tvar
 
 // The variable that cur is bound to, if that is what it is bound to.
-pub fn next_of(w: &[u32], u: Used, cur: TVar) -> Option<TVar>
-    requires { Lay w.now u }
-    ensures { (ds : List d.Struct) → next result ≡ next_of (seen w.now u ds) cur.0 }
+pub fn next_of(st: &State<'_>, cur: TVar) -> Option<TVar>
+    ensures { (ds : List d.Struct) → next result ≡ next_of (held st.now ds) cur.0 }
 {
-    let t = table::bound_at(w, u, cur)?;
-    let n = table::node_at(w, u, t);
-    shapes::as_var(n.shape)
+    let t = st.bound_at(cur)?;
+    shapes::as_var(st.node_at(t).shape)
 }
 
 // The variable at the end of the chain from id.
-pub fn forward_tvar(w: &[u32], u: Used, id: TVar) -> TVar
-    requires { Lay w.now u }
-    ensures { (ds : List d.Struct) → result.0 ≡ forward_tvar (seen w.now u ds) id.0 }
+pub fn forward_tvar(st: &State<'_>, id: TVar) -> TVar
+    ensures { (ds : List d.Struct) → result.0 ≡ forward_tvar (held st.now ds) id.0 }
 {
     let mut cur = id;
-    for _link in 0..u.vars {
-        let Some(v) = next_of(w, u, cur) else {
+    for _link in 0..st.used.vars {
+        let Some(v) = next_of(st, cur) else {
             return cur;
         };
         cur = v;
@@ -58,48 +55,45 @@ pub fn forward_tvar(w: &[u32], u: Used, id: TVar) -> TVar
 // ---- unfold_type
 
 // The type at the end of a chain, at the location loc.
-pub fn unfold_end(w: &[u32], u: Used, loc: u32, last: TVar) -> Unfolded
-    requires { Lay w.now u }
-    ensures { (v : ℕ) → ((ds : List d.Struct) → last.0 ≡ forward_tvar (seen w.now u ds) v) → Unfolds w.now u result (λ s. var_at loc v) }
+pub fn unfold_end(st: &State<'_>, loc: u32, last: TVar) -> Unfolded
+    ensures { (v : ℕ) → ((ds : List d.Struct) → last.0 ≡ forward_tvar (held st.now ds) v) → Unfolds st.now result (λ s. var_at loc v) }
 {
-    match table::bound_at(w, u, last) {
+    match st.bound_at(last) {
         None => Unfolded::Anything(loc),
         Some(t) => Unfolded::Node(t),
     }
 }
 
 // The type of the variable v, at the location loc.
-pub fn unfold_tvar(w: &[u32], u: Used, loc: u32, v: TVar) -> Unfolded
-    requires { Lay w.now u }
-    ensures { Unfolds w.now u result (λ s. var_at loc v.0) }
+pub fn unfold_tvar(st: &State<'_>, loc: u32, v: TVar) -> Unfolded
+    ensures { Unfolds st.now result (λ s. var_at loc v.0) }
 {
-    let last = forward_tvar(w, u, v);
-    unfold_end(w, u, loc, last)
+    let last = forward_tvar(st, v);
+    unfold_end(st, loc, last)
 }
 
 // Of a variable, the type at its end; of any other type, itself.
-pub fn unfold_type(w: &[u32], u: Used, t: u32) -> Unfolded
-    requires { Lay w.now u × (t < u.nodes) }
-    ensures { Unfolds w.now u result (λ s. spanned s t) }
+pub fn unfold_type(st: &State<'_>, t: u32) -> Unfolded
+    requires { t < st.now.used.nodes }
+    ensures { Unfolds st.now result (λ s. spanned s t) }
 {
-    let n = table::node_at(w, u, t);
+    let n = st.node_at(t);
     match shapes::as_var(n.shape) {
         None => Unfolded::Node(t),
-        Some(v) => unfold_tvar(w, u, n.loc, v),
+        Some(v) => unfold_tvar(st, n.loc, v),
     }
 }
 
 // ---- Subst::set_num_var
 
 // Marks tvar numeric, and so on along its chain. A mark that is there stays.
-pub fn set_num_var(w: &mut [u32], u: Used, tvar: TVar, loc: u32)
-    requires { Lay w.old u }
-    ensures { Stored w.old u w.new (λ s. set_num_var s tvar.0 loc) }
+pub fn set_num_var(st: &mut State<'_>, tvar: TVar, loc: u32)
+    ensures { Kept st.old st.new (λ s. set_num_var s tvar.0 loc) }
 {
     let mut cur = tvar;
-    for _mark in 0..u.vars {
-        let n = next_of(w, u, cur);
-        table::mark_one(w, u, cur, loc);
+    for _mark in 0..st.used.vars {
+        let n = next_of(st, cur);
+        st.mark_one(cur, loc);
         let Some(v) = n else {
             return;
         };
@@ -109,65 +103,61 @@ pub fn set_num_var(w: &mut [u32], u: Used, tvar: TVar, loc: u32)
 
 // ---- check_num_tvar
 
-fn is_num_var(w: &[u32], u: Used, v: TVar) -> bool
-    requires { Lay w.now u }
-    ensures { (ds : List d.Struct) → result ≡ is_num_var (seen w.now u ds) v.0 }
+fn is_num_var(st: &State<'_>, v: TVar) -> bool
+    ensures { (ds : List d.Struct) → result ≡ is_num_var (held st.now ds) v.0 }
 {
-    table::num_loc_at(w, u, v).is_some()
+    st.num_loc_at(v).is_some()
 }
 
-fn num_node(w: &[u32], u: Used, t: u32) -> bool
-    requires { Lay w.now u }
-    ensures { (ds : List d.Struct) → result ≡ num_shape (type_at (seen w.now u ds) t) }
+fn num_node(st: &State<'_>, t: u32) -> bool
+    ensures { (ds : List d.Struct) → result ≡ num_shape (type_at (held st.now ds) t) }
 {
-    let n = table::node_at(w, u, t);
-    shapes::num_shape(n.shape)
+    shapes::num_shape(st.node_at(t).shape)
 }
 
 // check_num_tvar_: a variable is followed to its end first.
-fn check_num_type(w: &[u32], u: Used, ty: u32) -> bool
-    requires { Lay w.now u }
-    ensures { (ds : List d.Struct) → result ≡ check_num_tvar' (seen w.now u ds) ty }
+fn check_num_type(st: &State<'_>, ty: u32) -> bool
+    ensures { (ds : List d.Struct) → result ≡ check_num_tvar' (held st.now ds) ty }
 {
-    let n = table::node_at(w, u, ty);
+    let n = st.node_at(ty);
     match shapes::as_var(n.shape) {
         None => shapes::num_shape(n.shape),
         Some(v) => {
-            let last = forward_tvar(w, u, v);
-            match table::bound_at(w, u, last) {
-                None => is_num_var(w, u, last),
-                Some(t) => num_node(w, u, t),
+            let last = forward_tvar(st, v);
+            match st.bound_at(last) {
+                None => is_num_var(st, last),
+                Some(t) => num_node(st, t),
             }
         }
     }
 }
 
 // A variable without a numeric mark takes any type.
-pub fn check_num_tvar(w: &[u32], u: Used, tvar: TVar, ty: u32) -> bool
-    requires { Lay w.now u }
-    ensures { (ds : List d.Struct) → result ≡ check_num_tvar (seen w.now u ds) tvar.0 ty }
+pub fn check_num_tvar(st: &State<'_>, tvar: TVar, ty: u32) -> bool
+    ensures { (ds : List d.Struct) → result ≡ check_num_tvar (held st.now ds) tvar.0 ty }
 {
-    !is_num_var(w, u, tvar) || check_num_type(w, u, ty)
+    !is_num_var(st, tvar) || check_num_type(st, ty)
 }
 
 // ---- the occurs walk
 
 // Whether tvar is in node t: down into every part, following no binding. A node without it is marked, so each is looked at once.
-fn used_in(w: &[u32], u: Used, tvar: TVar, t: u32, marks: &mut [u8]) -> bool
-    requires { Lay w.now u × ((t < u.nodes) × Clear w.now u tvar.0 marks.old) }
-    ensures { ((ds : List d.Struct) → result ≡ used (suc t) (seen w.now u ds) tvar.0 t) × Clear w.now u tvar.0 marks.new }
+// It returns early: `any` over the parts would need clauses on its closure, which marks nodes as it goes.
+fn used_in(st: &State<'_>, tvar: TVar, t: u32, marks: &mut [u8]) -> bool
+    requires { (t < st.now.used.nodes) × Clear st.now tvar.0 marks.old }
+    ensures { ((ds : List d.Struct) → result ≡ used (suc t) (held st.now ds) tvar.0 t) × Clear st.now tvar.0 marks.new }
 {
     if marks[t as usize] == 1 {
         return false;
     }
-    let n = table::node_at(w, u, t);
+    let n = st.node_at(t);
     let s = n.shape;
     if shapes::is_var(tvar, s) {
         return true;
     }
     for i in 0..shapes::part_count(s) {
-        let p = shapes::part_at(w, u, s, i);
-        if used_in(w, u, tvar, p, marks) {
+        let p = shapes::part_at(st, s, i);
+        if used_in(st, tvar, p, marks) {
             return true;
         }
     }
@@ -176,51 +166,55 @@ fn used_in(w: &[u32], u: Used, tvar: TVar, t: u32, marks: &mut [u8]) -> bool
 }
 
 // How many of `budget` parts are left once tvar is seen not to be in node t; none if it is there, or not so soon.
-fn soon_clear(w: &[u32], u: Used, tvar: TVar, t: u32, budget: u32) -> Option<u32>
-    requires { Lay w.now u × (t < u.nodes) }
-    ensures { (rest : ℕ) → result ≡ Some rest → (ds : List d.Struct) → used (suc t) (seen w.now u ds) tvar.0 t ≡ false }
+fn soon_clear(st: &State<'_>, tvar: TVar, t: u32, budget: u32) -> Option<u32>
+    requires { t < st.now.used.nodes }
+    ensures { (rest : ℕ) → result ≡ Some rest → (ds : List d.Struct) → used (suc t) (held st.now ds) tvar.0 t ≡ false }
 {
     let mut rest = budget.checked_sub(1)?;
-    let n = table::node_at(w, u, t);
+    let n = st.node_at(t);
     let s = n.shape;
     if shapes::is_var(tvar, s) {
         return None;
     }
     for i in 0..shapes::part_count(s) {
-        let p = shapes::part_at(w, u, s, i);
-        rest = soon_clear(w, u, tvar, p, rest)?;
+        let p = shapes::part_at(st, s, i);
+        rest = soon_clear(st, tvar, p, rest)?;
     }
     Some(rest)
 }
 
-// used_tvars(ty) has tvar. A type of at most 64 parts needs no marks.
-pub fn used_tvars(w: &[u32], u: Used, tvar: TVar, ty: u32) -> bool
-    requires { Lay w.now u × (ty < u.nodes) }
-    ensures { (ds : List d.Struct) → result ≡ used (suc ty) (seen w.now u ds) tvar.0 ty }
+fn used_with_marks(st: &State<'_>, tvar: TVar, ty: u32) -> bool
+    requires { ty < st.now.used.nodes }
+    ensures { (ds : List d.Struct) → result ≡ used (suc ty) (held st.now ds) tvar.0 ty }
 {
-    if soon_clear(w, u, tvar, ty, 64).is_some() {
-        return false;
-    }
     let mut marks: [u8; 2048] = [0; 2048];
-    used_in(w, u, tvar, ty, &mut marks)
+    used_in(st, tvar, ty, &mut marks)
+}
+
+// used_tvars(ty) has tvar. A type of at most 64 parts needs no marks.
+pub fn used_tvars(st: &State<'_>, tvar: TVar, ty: u32) -> bool
+    requires { ty < st.now.used.nodes }
+    ensures { (ds : List d.Struct) → result ≡ used (suc ty) (held st.now ds) tvar.0 ty }
+{
+    soon_clear(st, tvar, ty, 64).is_none() && used_with_marks(st, tvar, ty)
 }
 
 // ---- join_bind_tvar
 
 // Binds tvar to ty. `_` succeeds and stores no binding.
-pub fn join_bind_tvar(w: &mut [u32], u: Used, tvar: TVar, ty: u32) -> Result<(), BindError>
-    requires { Lay w.old u × (ty < u.nodes) }
-    ensures { Binds w.old u w.new result tvar.0 ty }
+pub fn join_bind_tvar(st: &mut State<'_>, tvar: TVar, ty: u32) -> Result<(), BindError>
+    requires { ty < st.old.used.nodes }
+    ensures { Binds st.old st.new result tvar.0 ty }
 {
-    if !check_num_tvar(w, u, tvar, ty) {
+    if !check_num_tvar(st, tvar, ty) {
         return Err(BindError::NotNumeric);
     }
-    if used_tvars(w, u, tvar, ty) {
+    if used_tvars(st, tvar, ty) {
         return Err(BindError::Recursive);
     }
-    let n = table::node_at(w, u, ty);
+    let n = st.node_at(ty);
     if !shapes::is_anything(n.shape) {
-        table::bind_var(w, u, tvar, ty);
+        st.bind_var(tvar, ty);
     }
     Ok(())
 }

@@ -1,5 +1,5 @@
 -- Laid-out words are just the encoding of the state that they hold. Assumes nothing.
-use mathlib.Core.Path.{◌≡◌, sym, ap, ap₂, ◌∙◌}
+use mathlib.Core.Path.{◌≡◌, refl, sym, ap, ap₂, ◌∙◌, subst}
 use mathlib.Core.List.{List, [], ◌∷◌, ◌++◌, append-nil, append_assoc}
 use Prim.Native.Nat.{ℕ, zero, suc, ◌+◌, ◌*◌, ◌-◌, ◌<◌}
 use native.Mathlib.Omega.{arith}
@@ -11,11 +11,12 @@ use Rattle.definition.specs.Types.{State, Struct}
 use Rattle.definition.specs.Store.{with_structs}
 use Rattle.table.specs.Tab.{tab}
 use Rattle.table.specs.Rows.{Table, row, words_at, entries, Clean, struct_words, node_table, arg_table, var_table, constraint_table, struct_table}
-use Rattle.table.specs.State.{view, seen, Lay, Declares, Wrote}
+use Rattle.table.specs.State.{view, seen, Lay, Inside, Declares, Wrote, Stored}
 use Rattle.table.specs.Encode.{flat, table_words, counts, encode}
 use Rattle.table.specs.declared.Used.{Used}
 use Rattle.table.proofs.Tab.{length_tab, tab_ext, getD_tab}
-use Rattle.table.proofs.Rows.{entry_out, apart}
+use Rattle.table.proofs.Rows.{entry_out, apart, same_entries, same_clean}
+use Rattle.table.proofs.Steps.{grown_refl, refines_by}
 use Rattle.table.proofs.Pushed.{count_view, args_view, taken_view, constraints_view}
 
 -- ---- words of a list, part by part
@@ -119,3 +120,37 @@ used_written w u w' h q ds g =
     (λ i p. apart var_table w 0 5 _ w' q (λ i k l p q s e. omega arith) i p ∙ h.clean_vars i p)
     (λ i p. apart constraint_table w 0 5 _ w' q (λ i k l p q s e. omega arith) i p ∙ h.clean_constraints i p)
     (λ i p. apart struct_table w 0 5 _ w' q (λ i k l p q s e. omega arith) i p ∙ declared_rows w u ds h.clean_structs g i p)
+
+-- .. and nothing else is
+module _ (w : List ℕ) (u : Used) (r w' : List ℕ) (h : Lay w u) (q : Wrote w 0 5 r w') where
+  rows_kept : view w' u ≡ view w u
+  unfolding view
+  rows_kept =
+      λ i. record {
+        nodes = same_entries node_table w w' u.nodes (apart node_table w 0 5 r w' q (λ i k l p q s e. omega arith)) h.nodes i;
+        args = same_entries arg_table w w' u.args (apart arg_table w 0 5 r w' q (λ i k l p q s e. omega arith)) h.args i;
+        vars = same_entries var_table w w' u.vars (apart var_table w 0 5 r w' q (λ i k l p q s e. omega arith)) h.vars i;
+        constraints = same_entries constraint_table w w' u.constraints (apart constraint_table w 0 5 r w' q (λ i k l p q s e. omega arith)) h.constraints i;
+        structs = same_entries struct_table w w' u.structs (apart struct_table w 0 5 r w' q (λ i k l p q s e. omega arith)) h.structs i;
+      }
+
+  lay_kept : Lay w' u
+  lay_kept =
+      record {
+        size = q.size ∙ h.size;
+        nodes = h.nodes;
+        args = h.args;
+        vars = h.vars;
+        constraints = h.constraints;
+        structs = h.structs;
+        clean_nodes = same_clean node_table w w' u.nodes (apart node_table w 0 5 r w' q (λ i k l p q s e. omega arith)) h.nodes h.clean_nodes;
+        clean_args = same_clean arg_table w w' u.args (apart arg_table w 0 5 r w' q (λ i k l p q s e. omega arith)) h.args h.clean_args;
+        clean_vars = same_clean var_table w w' u.vars (apart var_table w 0 5 r w' q (λ i k l p q s e. omega arith)) h.vars h.clean_vars;
+        clean_constraints = same_clean constraint_table w w' u.constraints (apart constraint_table w 0 5 r w' q (λ i k l p q s e. omega arith)) h.constraints h.clean_constraints;
+        clean_structs = same_clean struct_table w w' u.structs (apart struct_table w 0 5 r w' q (λ i k l p q s e. omega arith)) h.structs h.clean_structs;
+        inside = subst Inside (sym rows_kept) h.inside;
+      }
+
+  pub counts_stored : Stored w u w' (λ s. s)
+  unfolding seen
+  counts_stored = refines_by (view w u) lay_kept rows_kept (grown_refl (view w u)) refl (λ ds k. refl)

@@ -11,7 +11,7 @@ use Rattle.definition.specs.Store.{node, loc_of, type_at, with_args, args_at}
 use Rattle.table.specs.State.{view, Lay, Front, Grown, Parts, VarIn, done, node_of, shape_of}
 use Rattle.table.specs.declared.Node.{Node}
 use Rattle.table.specs.declared.Used.{Used}
-use Rattle.table.specs.declared.Out.{Out}
+use Rattle.table.specs.Out.{Out}
 use Rattle.table.proofs.Steps.{var_in}
 use Rattle.table.proofs.Pushed.{count_view}
 

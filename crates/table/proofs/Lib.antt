@@ -13,3 +13,4 @@ pub mod Known
 pub mod Grown
 pub mod Parts
 pub mod Walk
+pub mod Did

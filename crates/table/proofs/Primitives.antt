@@ -18,11 +18,12 @@ use Rattle.table.specs.State.{view, seen, Lay, Wrote, After, Stored, Flat, Found
 use Rattle.table.specs.declared.Shape.{Shape}
 use Rattle.table.specs.declared.Shape.TheVariants.{Unit as UnitS, Ref, Param, Apply, Var, Anything, UnresolvedError}
 use Rattle.table.specs.declared.Used.{Used}
-use Rattle.table.specs.declared.Out.TheVariants.{Done, Refused}
 use Rattle.table.specs.declared.Refusal.TheVariants.{Full}
 use Rattle.table.proofs.Rows.{wrote_front, wrote_none}
 use Rattle.table.proofs.Steps.{refines_is}
 use Rattle.table.proofs.Pushed.{count_view, args_view, node_pushed, places_full}
+use Rattle.table.specs.declared.state.Stop.TheVariants.{Refused}
+use Rattle.std.specs.Prelude.{Ok, Err}
 
 -- ---- a node without arguments
 
@@ -56,7 +57,7 @@ flat_below n args Anything h = tt
 flat_below n args UnresolvedError h = tt
 
 pub flat_pushed : (w : List ℕ) (u : Used) (loc : ℕ) (s : Shape) (at : ℕ) (r w' : List ℕ) → Lay w u → Flat u.nodes s → u.nodes < 2048 → at ≡ u.nodes → Wrote w (5 + at * 6) 6 r w' → Written node_table r (node_at loc s)
-    → After w u w' (record { out = Done u.nodes; used = record { nodes = u.nodes + 1; args = u.args; vars = u.vars; constraints = u.constraints; structs = u.structs } }) (λ x. sp x loc (value_of s))
+    → After w u w' (record { out = Ok u.nodes; used = record { nodes = u.nodes + 1; args = u.args; vars = u.vars; constraints = u.constraints; structs = u.structs } }) (λ x. sp x loc (value_of s))
 flat_pushed w u loc s at r w' h flat lt e wrote row =
     let few = h.args in
     node_pushed w u loc (value_of s) h [] 0 u.args w r w' (shape_of s) lt (omega arith) (omega arith) (omega arith) (flat_args u.nodes s flat) (flat_stored u.nodes u.args s flat)
@@ -74,7 +75,7 @@ module _ (w : List ℕ) (u : Used) (loc : ℕ) (k : Option AbilitySet) (name : T
   many : length (take n parts) ≡ n
   many = let q = p.few in length-take-le n parts (omega arith)
 
-  pub apply_full : 4096 - u.args < n → After w u w (record { out = Refused Full; used = u }) (λ s. sp s loc v)
+  pub apply_full : 4096 - u.args < n → After w u w (record { out = Err (Refused Full); used = u }) (λ s. sp s loc v)
   unfolding args_of
   apply_full le = let few = h.args in places_full w u loc v h lt (rw many (omega arith))
 
@@ -93,7 +94,7 @@ module _ (w : List ℕ) (u : Used) (loc : ℕ) (k : Option AbilitySet) (name : T
 
   pub apply_pushed : (at count place : ℕ) (front w₁ r w' : List ℕ) → (4096 - u.args < n → ⊥) → at ≡ u.nodes → place ≡ u.args → count ≡ n → front ≡ take count parts → n ≤ length parts
       → Wrote w (12293 + place) (length front) front w₁ → Wrote w₁ (5 + at * 6) 6 r w' → Written node_table r (node_at loc (Apply k name u.args n))
-      → After w u w' (record { out = Done u.nodes; used = record { nodes = u.nodes + 1; args = u.args + n; vars = u.vars; constraints = u.constraints; structs = u.structs } }) (λ s. sp s loc v)
+      → After w u w' (record { out = Ok u.nodes; used = record { nodes = u.nodes + 1; args = u.args + n; vars = u.vars; constraints = u.constraints; structs = u.structs } }) (λ s. sp s loc v)
   unfolding args_of stored places
   apply_pushed at count place front w₁ r w' room e f g t long first second row =
       let few = h.args in

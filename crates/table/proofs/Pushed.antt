@@ -13,13 +13,14 @@ use Rattle.definition.specs.Store.{count, taken, with_vars, with_var, with_const
 use Rattle.table.specs.Rows.{row, entries, Clean, Written, arg_words, read_arg, node_table, arg_table, var_table, constraint_table, struct_table}
 use Rattle.table.specs.State.{view, seen, Below, Inside, Lay, Grown, Wrote, Changed, After, Stored, Declared, VarIn, one_var, outcome, with_cell, pushed_constraint}
 use Rattle.table.specs.declared.Used.{Used}
-use Rattle.table.specs.declared.Out.TheVariants.{Done, Refused}
 use Rattle.table.specs.declared.Refusal.TheVariants.{Full}
 use Rattle.table.proofs.Rows.{length_entries, entry_at, entry_out, Same, same_entries, same_clean, apart, Put, put_row, put_push, put_push_clean, put_blank, put_set, put_set_clean}
 use Rattle.table.proofs.Written.{node_long, cell_again, cell_long, constraint_long, struct_long}
 use Rattle.table.proofs.Fields.{arg_row}
 use Rattle.table.proofs.States.{sp_room, sp_no_node, sp_no_place, tvar_room, tvar_full, constraint_room, constraint_full, declare_room, declare_full, inside_node, inside_cell, inside_var, inside_constraints, inside_structs, grown_node, grown_vars, grown_constraint, grown_struct}
 use Rattle.table.proofs.Steps.{grown_refl, refines_now, refines_by, after_now}
+use Rattle.table.specs.declared.state.Stop.TheVariants.{Refused}
+use Rattle.std.specs.Prelude.{Ok, Err}
 
 -- ---- as many rows as are in use
 
@@ -104,11 +105,11 @@ module _ (w : List ℕ) (m k : ℕ) (parts w' : List ℕ) (h : Wrote w (12293 + 
 -- ---- a node, with its arguments
 
 module _ (w : List ℕ) (u : Used) (loc : ℕ) (v : TypeValue) (h : Lay w u) where
-  pub node_full : 2048 ≤ u.nodes → After w u w (record { out = Refused Full; used = u }) (λ s. sp s loc v)
+  pub node_full : 2048 ≤ u.nodes → After w u w (record { out = Err (Refused Full); used = u }) (λ s. sp s loc v)
   unfolding outcome
   node_full le = after_now h tt (λ ds k. sym (sp_no_node (seen w u ds) loc v (rw (count_seen w u ds) le)))
 
-  pub places_full : u.nodes < 2048 → 4096 < u.args + length (args_of v) → After w u w (record { out = Refused Full; used = u }) (λ s. sp s loc v)
+  pub places_full : u.nodes < 2048 → 4096 < u.args + length (args_of v) → After w u w (record { out = Err (Refused Full); used = u }) (λ s. sp s loc v)
   unfolding outcome
   places_full lt le = after_now h tt (λ ds k. sym (sp_no_place (seen w u ds) loc v (rw (count_seen w u ds) lt) (rw (args_seen w u ds) le)))
 
@@ -174,20 +175,20 @@ module _ (w : List ℕ) (u : Used) (loc : ℕ) (v : TypeValue) (h : Lay w u) whe
           inside = subst Inside (sym node_view) (inside_node (view w u) loc v h.inside (rw (count_view w u, args_view w u, is) below));
         }
 
-    node_room : (ds : List Struct) → outcome (Done u.nodes) (with_structs (with_node (view w u) loc v) ds) ≡ sp (seen w u ds) loc v
+    node_room : (ds : List Struct) → outcome (Ok u.nodes) (with_structs (with_node (view w u) loc v) ds) ≡ sp (seen w u ds) loc v
     unfolding outcome seen with_structs with_node
     node_room ds =
         let few : length (args_of v) ≡ n = ap length args ∙ length-take-le n parts long in
         sym (sp_room (seen w u ds) loc v (rw (count_seen w u ds) lt) (rw (args_seen w u ds, few) room) ∙ ap (λ (x : ℕ). ok (with_node (seen w u ds) loc v, x)) (count_seen w u ds))
 
-    pub node_pushed : After w u w' (record { out = Done u.nodes; used = u' }) (λ s. sp s loc v)
+    pub node_pushed : After w u w' (record { out = Ok u.nodes; used = u' }) (λ s. sp s loc v)
     unfolding with_node
     node_pushed = record { changed = refines_by (with_node (view w u) loc v) node_lay node_view (grown_node (view w u) loc v) refl (λ ds k. node_room ds); inside = omega arith }
 
 -- ---- a variable is taken: its row is blank already
 
 module _ (w : List ℕ) (u : Used) (h : Lay w u) where
-  var_full : 1024 ≤ u.vars → Changed w u w (record { out = Refused Full; used = u }) (λ s. next_tvar s)
+  var_full : 1024 ≤ u.vars → Changed w u w (record { out = Err (Refused Full); used = u }) (λ s. next_tvar s)
   unfolding outcome
   var_full le = refines_now h (λ ds k. sym (tvar_full (seen w u ds) (rw (taken_seen w u ds) le)))
 
@@ -226,11 +227,11 @@ module _ (w : List ℕ) (u : Used) (h : Lay w u) where
           inside = subst Inside (sym var_view) (inside_var (view w u) h.inside);
         }
 
-    var_room : (ds : List Struct) → outcome (Done u.vars) (with_structs (with_var (view w u)) ds) ≡ next_tvar (seen w u ds)
+    var_room : (ds : List Struct) → outcome (Ok u.vars) (with_structs (with_var (view w u)) ds) ≡ next_tvar (seen w u ds)
     unfolding outcome seen with_structs with_var with_vars
     var_room ds = sym (tvar_room (seen w u ds) (rw (taken_seen w u ds) lt) ∙ ap (λ (x : ℕ). ok (with_var (seen w u ds), x)) (taken_seen w u ds))
 
-    var_taken : Changed w u w (record { out = Done u.vars; used = one_more }) (λ s. next_tvar s) × VarIn (u.vars + 1) (Done u.vars)
+    var_taken : Changed w u w (record { out = Ok u.vars; used = one_more }) (λ s. next_tvar s) × VarIn (u.vars + 1) (Ok u.vars)
     unfolding with_var with_vars
     var_taken = (refines_by (with_var (view w u)) var_lay var_view (grown_vars (view w u) _ (rw (length-append (view w u).vars (unbound ∷ [])) (omega arith))) refl (λ ds k. var_room ds), omega arith)
 
@@ -324,7 +325,7 @@ module _ (w : List ℕ) (u : Used) (v : ℕ) (b m : Option ℕ) (h : Lay w u) (n
 -- ---- a constraint is listed
 
 module _ (w : List ℕ) (u : Used) (x : Constraint) (h : Lay w u) where
-  pub constraints_full : 512 ≤ u.constraints → Changed w u w (record { out = Refused Full; used = u }) (pushed_constraint x)
+  pub constraints_full : 512 ≤ u.constraints → Changed w u w (record { out = Err (Refused Full); used = u }) (pushed_constraint x)
   unfolding outcome
   constraints_full le = refines_now h (λ ds k. sym (constraint_full (seen w u ds) x (rw (constraints_seen w u ds) le)))
 
@@ -375,18 +376,18 @@ module _ (w : List ℕ) (u : Used) (x : Constraint) (h : Lay w u) where
           inside = subst Inside (sym constraint_view) (inside_constraints (view w u) _ h.inside);
         }
 
-    listed_room : (ds : List Struct) → outcome (Done 0) (with_structs (with_constraints (view w u) ((view w u).constraints ++ (x ∷ []))) ds) ≡ pushed_constraint x (seen w u ds)
+    listed_room : (ds : List Struct) → outcome (Ok 0) (with_structs (with_constraints (view w u) ((view w u).constraints ++ (x ∷ []))) ds) ≡ pushed_constraint x (seen w u ds)
     unfolding outcome seen with_structs with_constraints
     listed_room ds = sym (constraint_room (seen w u ds) x (rw (constraints_seen w u ds) lt))
 
-    pub constraint_pushed : Changed w u w' (record { out = Done 0; used = listed }) (pushed_constraint x)
+    pub constraint_pushed : Changed w u w' (record { out = Ok 0; used = listed }) (pushed_constraint x)
     unfolding with_constraints
     constraint_pushed = refines_by (with_constraints (view w u) ((view w u).constraints ++ (x ∷ []))) constraint_lay constraint_view (grown_constraint (view w u) x) refl (λ ds k. listed_room ds)
 
 -- ---- a struct is declared
 
 module _ (w : List ℕ) (u : Used) (abilities params : ℕ) (h : Lay w u) where
-  pub structs_full : 256 ≤ u.structs → Declared w u w (record { out = Refused Full; used = u }) abilities params
+  pub structs_full : 256 ≤ u.structs → Declared w u w (record { out = Err (Refused Full); used = u }) abilities params
   unfolding outcome seen with_structs
   structs_full le =
       record {
@@ -450,7 +451,7 @@ module _ (w : List ℕ) (u : Used) (abilities params : ℕ) (h : Lay w u) where
     unfolding with_structs
     rows_then = ap (λ (s : State). s.structs) struct_view
 
-    struct_room : (ds : List Struct) (ps : List ℕ) → length ds ≡ u.structs → outcome (Done u.structs) (seen w' declared (ds ++ (record { abilities = abilities; params = ps } ∷ []))) ≡ declare (seen w u ds) abilities ps
+    struct_room : (ds : List Struct) (ps : List ℕ) → length ds ≡ u.structs → outcome (Ok u.structs) (seen w' declared (ds ++ (record { abilities = abilities; params = ps } ∷ []))) ≡ declare (seen w u ds) abilities ps
     unfolding outcome seen with_structs
     struct_room ds ps e =
         ap (λ (s : State). ok (with_structs s (ds ++ (record { abilities = abilities; params = ps } ∷ [])), u.structs)) struct_view
@@ -471,7 +472,7 @@ module _ (w : List ℕ) (u : Used) (abilities params : ℕ) (h : Lay w u) where
               let e : u.structs ≡ i = omega arith in
               ap f (get_or_at ds x [] struct_table.blank i (long ∙ e)) ∙ new ∙ ap f (sym (get_or_at (view w u).structs zeroed [] struct_table.blank i (structs_view w u ∙ e)))
 
-    pub struct_pushed : Declared w u w' (record { out = Done u.structs; used = declared }) abilities params
+    pub struct_pushed : Declared w u w' (record { out = Ok u.structs; used = declared }) abilities params
     struct_pushed =
         record {
           lay = struct_lay;

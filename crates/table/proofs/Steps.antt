@@ -8,10 +8,11 @@ use native.Mathlib.Omega.{arith}
 use Rattle.definition.specs.Types.{State, Struct, Result, ok, err, refused, ◌>>=◌}
 use Rattle.definition.specs.Store.{with_structs}
 use Rattle.table.specs.State.{Lay, Front, Grown, Any, Refines, When, After, NodesIn, VarIn, outcome, listed, seen, view, done}
-use Rattle.table.specs.declared.Outcome.{Outcome}
+use Rattle.table.specs.Out.{Outcome}
 use Rattle.table.specs.declared.Used.{Used}
-use Rattle.table.specs.declared.Out.{Out}
-use Rattle.table.specs.declared.Out.TheVariants.{Done, Failed, Refused}
+use Rattle.table.specs.Out.{Out}
+use Rattle.table.specs.declared.state.Stop.TheVariants.{Failed, Refused}
+use Rattle.std.specs.Prelude.{Ok, Err}
 
 -- ---- states that have grown
 
@@ -44,10 +45,10 @@ grown_trans s t v a b =
 never : {A : Type 0} → ◌≡◌ {A = ℕ} 0 1 → A
 never z = absurd (omega arith)
 
-pub done_is : (o : Out) (t : ℕ) → done o ≡ Some t → o ≡ Done t
-done_is (Done n) t e = cc
-done_is (Failed x) t e = never (cc)
-done_is (Refused x) t e = never (cc)
+pub done_is : (o : Out) (t : ℕ) → done o ≡ Some t → o ≡ Ok t
+done_is (Ok n) t e = cc
+done_is (Err (Failed x)) t e = never (cc)
+done_is (Err (Refused x)) t e = never (cc)
 
 -- a result that is no error names no types
 abbrev pub NoError : {A : Type 0} → Result A → Type 0
@@ -57,9 +58,9 @@ NoError (refused x) = Unit {0}
 
 pub none_in : (n : ℕ) (o : Out) (s : State) (m : Result (State × ℕ)) → outcome o s ≡ m → NoError m → done o ≡ None → NodesIn n o
 unfolding outcome
-none_in n (Done t) s m e q d = never (cc)
-none_in n (Failed x) s m e q d = absurd (rw (← e) at q)
-none_in n (Refused x) s m e q d = tt
+none_in n (Ok t) s m e q d = never (cc)
+none_in n (Err (Failed x)) s m e q d = absurd (rw (← e) at q)
+none_in n (Err (Refused x)) s m e q d = tt
 
 -- a node that an answer is, and a variable
 pub node_in : (n : ℕ) (o : Out) (b : Option ℕ) (t : ℕ) → NodesIn n o → b ≡ done o → b ≡ Some t → t < n
@@ -94,9 +95,9 @@ then_is o s h t e = ap (λ (m : Result (State × ℕ)). m >>= h) (done_ok o s t 
 -- nothing follows one that is no number, whatever it were
 pub stop_same : {A : Type 0} (o : Out) (s : State) (h k : State × ℕ → Result A) → done o ≡ None → (outcome o s >>= h) ≡ (outcome o s >>= k)
 unfolding outcome ◌>>=◌
-stop_same (Done t) s h k e = never (cc)
-stop_same (Failed x) s h k e = refl
-stop_same (Refused x) s h k e = refl
+stop_same (Ok t) s h k e = never (cc)
+stop_same (Err (Failed x)) s h k e = refl
+stop_same (Err (Refused x)) s h k e = refl
 
 pub stop_is : (o : Out) (s : State) (h : State × ℕ → Result (State × ℕ)) → done o ≡ None → outcome o s ≡ (outcome o s >>= h)
 stop_is o s h e = sym (bind_ok (outcome o s)) ∙ stop_same o s (λ x. ok x) h e

@@ -12,11 +12,11 @@ use Rattle.definition.specs.Types.{AbilityMark, TypeName, Apply, State, Struct, 
 use Rattle.definition.specs.Store.{args_at, map_types, with_structs, sp}
 use Rattle.table.specs.Rows.{places}
 use Rattle.table.specs.State.{view, seen, Lay, Grown, Refines, When, Lists, Parts, Placed, Named, outcome, listed, done}
-use Rattle.table.specs.declared.Outcome.{Outcome}
+use Rattle.table.specs.Out.{Outcome}
 use Rattle.table.specs.declared.Used.{Used}
-use Rattle.table.specs.declared.Out.TheVariants.{Done}
 use Rattle.table.proofs.Steps.{refines_now, refines_is, refines_on, refines_as, bind_ok, then_is, stop_same, after_on, after_done}
 use Rattle.table.proofs.Grown.{nodes_grow, front_length, args_kept, args_length}
+use Rattle.std.specs.Prelude.{Ok}
 
 -- ---- the walk, as the definition has it: `through` are through, `tys` are to come, and h follows
 
@@ -135,7 +135,7 @@ module _ {K : List Struct → Type 0} {f : State → ℕ → Result (State × �
         inside = record { below = λ t e. let z : ◌≡◌ {A = ℕ} 0 1 = cc (e, q, p) in absurd (omega arith); inside = λ e. a.inside };
       }
 
-  pub list_end : (n : ℕ) → many ≤ i → Lists K w₀ u₀ w u (Done n) parts many (rest f just_list [] tys)
+  pub list_end : (n : ℕ) → many ≤ i → Lists K w₀ u₀ w u (Ok n) parts many (rest f just_list [] tys)
   unfolding listed outcome ◌>>=◌
   list_end n no_more =
       record {

@@ -18,13 +18,14 @@ use Rattle.table.specs.declared.ConstraintWords.{ConstraintWords}
 use Rattle.table.specs.declared.StructWords.{StructWords}
 use Rattle.table.specs.declared.Constraint.{Constraint}
 use Rattle.table.specs.declared.Constraint.TheVariants.{Ability, Numeric, Bits, Ordered, BaseType, SingleType}
-use Rattle.table.specs.declared.Out.{Out}
-use Rattle.table.specs.declared.Out.TheVariants.{Done, Failed, Refused}
+use Rattle.table.specs.Out.{Out}
 use Rattle.table.specs.declared.TypingError.{TypingError}
 use Rattle.table.specs.declared.TypingError.TheVariants.{SubtypeError, Incompatible, ArityMismatch, RecursiveType}
 use Rattle.table.specs.declared.Refusal.{Refusal}
 use Rattle.table.specs.declared.Refusal.TheVariants.{Full, TooDeep, RunsIntoItself, AbilitiesDisagree, OpenVariable, NoArgument, ParameterTwice}
-use Rattle.table.specs.declared.Outcome.{Outcome}
+use Rattle.table.specs.Out.{Outcome}
+use Rattle.table.specs.declared.state.Stop.TheVariants.{Failed, Refused}
+use Rattle.std.specs.Prelude.{Ok, Err}
 
 -- ---- answers as the definition has them
 
@@ -81,9 +82,9 @@ refusal_of ParameterTwice = parameter_twice
 
 -- the answer o, met in the state s
 unfoldable pub outcome : Out → State → Result (State × ℕ)
-outcome (Done t) s = ok (s, t)
-outcome (Failed e) s = err s (error_of e)
-outcome (Refused x) s = refused (refusal_of x)
+outcome (Ok t) s = ok (s, t)
+outcome (Err (Failed e)) s = err s (error_of e)
+outcome (Err (Refused x)) s = refused (refusal_of x)
 
 -- .. and the list l, if it is a number
 unfoldable pub listed : Out → List ℕ → State → Result (State × List ℕ)
@@ -91,9 +92,9 @@ listed o l s = outcome o s >>= (λ x. ok (x.0, l))
 
 -- the number that an answer is, if it is one
 abbrev pub done : Out → Option ℕ
-done (Done t) = Some t
-done (Failed e) = None
-done (Refused x) = None
+done (Ok t) = Some t
+done (Err (Failed e)) = None
+done (Err (Refused x)) = None
 
 -- ---- the state
 
@@ -107,6 +108,11 @@ node_words_at w t = record { tag = get_or w (5 + t * 6) 0; loc = get_or w (5 + t
 
 abbrev pub cell_words_at : List ℕ → ℕ → CellWords
 cell_words_at w v = record { bound = get_or w (16389 + v * 5) 0; binding = get_or w (16389 + v * 5 + 1) 0; numeric = get_or w (16389 + v * 5 + 2) 0; loc = get_or w (16389 + v * 5 + 3) 0; spare = get_or w (16389 + v * 5 + 4) 0 }
+
+-- .. of variable v's, if it is among so many
+abbrev pub CellAt : List ℕ → ℕ → ℕ → Option CellWords → Type 0
+CellAt w vars v None = vars ≤ v
+CellAt w vars v (Some r) = (v < vars) × (r ≡ cell_words_at w v)
 
 abbrev pub constraint_words_at : List ℕ → ℕ → ConstraintWords
 constraint_words_at w i = record { kind = get_or w (21509 + i * 4) 0; loc = get_or w (21509 + i * 4 + 1) 0; ty = get_or w (21509 + i * 4 + 2) 0; abilities = get_or w (21509 + i * 4 + 3) 0 }
@@ -178,8 +184,8 @@ pub record Grown (s t : State) : Type 0 where
 unfoldable pub one_var : Used → Outcome
 one_var u =
     if ltb u.vars 1024
-    then record { out = Done u.vars; used = record { nodes = u.nodes; args = u.args; vars = u.vars + 1; constraints = u.constraints; structs = u.structs } }
-    else record { out = Refused Full; used = u }
+    then record { out = Ok u.vars; used = record { nodes = u.nodes; args = u.args; vars = u.vars + 1; constraints = u.constraints; structs = u.structs } }
+    else record { out = Err (Refused Full); used = u }
 
 -- all declarations
 abbrev pub Any : List Struct → Type 0
@@ -210,15 +216,15 @@ TypesIn n (RecursiveType loc) = Unit {0}
 
 -- the nodes that an answer names are below n
 abbrev pub NodesIn : ℕ → Out → Type 0
-NodesIn n (Done t) = t < n
-NodesIn n (Failed e) = TypesIn n e
-NodesIn n (Refused x) = Unit {0}
+NodesIn n (Ok t) = t < n
+NodesIn n (Err (Failed e)) = TypesIn n e
+NodesIn n (Err (Refused x)) = Unit {0}
 
 -- the variable that an answer names is below n
 abbrev pub VarIn : ℕ → Out → Type 0
-VarIn n (Done v) = v < n
-VarIn n (Failed e) = Unit {0}
-VarIn n (Refused x) = Unit {0}
+VarIn n (Ok v) = v < n
+VarIn n (Err (Failed e)) = Unit {0}
+VarIn n (Err (Refused x)) = Unit {0}
 
 -- the answer is r, a node, for the declarations in K
 pub record When (K : List Struct → Type 0) (w : List ℕ) (u : Used) (w' : List ℕ) (r : Outcome) (f : State → Result (State × ℕ)) : Type 0 where

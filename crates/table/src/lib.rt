@@ -2,20 +2,18 @@
 // Five counts, then 2,048 node rows of six, 4,096 argument places, 1,024 variable rows of five, 512 constraint rows of four, 256 struct rows of two.
 #![tactic(auto)]
 
-ghost use Rattle.std.specs.Prelude.{◌≡◌, List, [], ◌∷◌, ℕ, ◌+◌, ◌*◌, ◌≤◌, ◌<◌, ◌%◌, length, get_or, set, take};
+ghost use Rattle.std.specs.Prelude.{◌≡◌, [], ℕ, ◌∷◌, ◌+◌, ◌*◌, ◌≤◌, ◌<◌, ◌%◌, length, get_or, set, take};
 ghost use Rattle.definition.specs.Types as d;
-ghost use Rattle.definition.specs.Store.{node, get, num_loc, args_at, sp, next_tvar, insert, add_constraint};
-ghost use Rattle.definition.specs.Subst.{or_insert, mark_one};
+ghost use Rattle.definition.specs.Store.{node};
 ghost use Rattle.names.specs.Names.{mark_of, name_of};
-ghost use Rattle.table.specs.Rows.{flag, read_shape, read_mark, read_name, read_option, mark_word, name_word, name_tag, option_flag, read_constraint, node_table, var_table, constraint_table, struct_table, places, Written};
-ghost use Rattle.table.specs.Encode.{encode};
-ghost use Rattle.table.specs.State.{used_at, shape_of, node_of, node_at, cell, value_of, constraint_of, done, view, seen, Lay, Changed, After, Stored, Wrote, with_cell, Declares, Declared, Flat, FoundIn, Parts, VarIn, one_var, pushed_constraint};
+ghost use Rattle.table.specs.Rows.{read_shape, read_mark, read_name, read_option, mark_word, name_word, name_tag, read_constraint, node_table, var_table, constraint_table, places, Written};
+ghost use Rattle.table.specs.State.{shape_of, node_at, cell, constraint_of, Wrote};
 ghost use Rattle.table.specs.State.{node_words_at, cell_words_at, constraint_words_at, struct_words_at};
 
-use names::{
-    AbilityMark, AbilitySet, MAX_ARGS, MAX_CONSTRAINTS, MAX_NODES, MAX_STRUCTS, MAX_VARS, TParamID,
-    TVar, TypeName,
-};
+pub mod calls;
+pub mod state;
+
+use names::{AbilityMark, AbilitySet, TParamID, TVar, TypeName};
 
 // Where each table begins in the words, and how many words a row of it has. Contracts have the numbers themselves: a wrong one here is refused.
 pub const NODES_AT: usize = 5;
@@ -142,31 +140,6 @@ pub enum Refusal {
     ParameterTwice,
 }
 
-// What a step answers: success with a number, an error or a refusal.
-#[derive(Clone, Copy)]
-pub enum Out {
-    Done(u32),
-    Failed(TypingError),
-    Refused(Refusal),
-}
-
-#[derive(Clone, Copy)]
-pub struct Outcome {
-    pub out: Out,
-    pub used: Used,
-}
-
-// The number that an answer is, if it is one.
-pub fn done_of(o: Out) -> Option<u32>
-    ensures { result ≡ done o }
-{
-    match o {
-        Out::Done(t) => Some(t),
-        Out::Failed(_) => None,
-        Out::Refused(_) => None,
-    }
-}
-
 // The number as an index.
 pub fn wide(x: u32) -> usize
     ensures { result ≡ x }
@@ -178,7 +151,7 @@ pub fn wide(x: u32) -> usize
 pub fn number(v: TVar) -> u32
     ensures { (result ≡ v.0) × (result < 65536) }
 {
-    v.0 as u32
+    u32::from(v.0)
 }
 
 // A count as a variable.
@@ -193,7 +166,7 @@ pub fn tvar(v: u32) -> TVar
 pub fn bits(a: AbilitySet) -> u32
     ensures { (result ≡ a.0) × (result < 256) }
 {
-    a.0 as u32
+    u32::from(a.0)
 }
 
 fn set_at(x: u32) -> AbilitySet
@@ -212,14 +185,14 @@ fn tvar_at(x: u32) -> TVar
 pub fn noted(notes: &[u32], v: TVar) -> u32
     ensures { result ≡ get_or notes.now v.0 0 }
 {
-    let at = v.0 as usize;
+    let at = usize::from(v.0);
     if at < notes.len() { notes[at] } else { 0 }
 }
 
 pub fn note(notes: &mut [u32], v: TVar, x: u32)
     ensures { notes.new ≡ set notes.old v.0 x }
 {
-    let at = v.0 as usize;
+    let at = usize::from(v.0);
     if at < notes.len() {
         notes[at] = x;
     }
@@ -243,18 +216,29 @@ fn put_row<const N: usize>(w: &mut [u32], base: usize, i: u32, row: [u32; N])
     write_words(w, base + i as usize * N, &row);
 }
 
+// Row i of a table whose rows have N words, from word `base` on.
+fn row_at<const N: usize>(w: &[u32], base: usize, i: u32) -> [u32; N]
+    requires { base + i * N + N ≤ length w.now }
+    ensures { (k : ℕ) → k < N → get_or result k 0 ≡ get_or w.now (base + i * N + k) 0 }
+{
+    let at = base + i as usize * N;
+    let mut row = [0; N];
+    row.copy_from_slice(&w[at..at + N]);
+    row
+}
+
 pub fn node_words_at(w: &[u32], t: u32) -> NodeWords
     requires { (length w.now ≡ 24069) × (t < 2048) }
     ensures { result ≡ node_words_at w.now t }
 {
-    let at = NODES_AT + (t as usize) * NODE_WORDS;
+    let [tag, loc, a, b, c, d] = row_at::<NODE_WORDS>(w, NODES_AT, t);
     NodeWords {
-        tag: w[at],
-        loc: w[at + 1],
-        a: w[at + 2],
-        b: w[at + 3],
-        c: w[at + 4],
-        d: w[at + 5],
+        tag,
+        loc,
+        a,
+        b,
+        c,
+        d,
     }
 }
 
@@ -262,13 +246,13 @@ pub fn cell_words_at(w: &[u32], v: u32) -> CellWords
     requires { (length w.now ≡ 24069) × (v < 1024) }
     ensures { result ≡ cell_words_at w.now v }
 {
-    let at = VARS_AT + (v as usize) * VAR_WORDS;
+    let [bound, binding, numeric, loc, spare] = row_at::<VAR_WORDS>(w, VARS_AT, v);
     CellWords {
-        bound: w[at],
-        binding: w[at + 1],
-        numeric: w[at + 2],
-        loc: w[at + 3],
-        spare: w[at + 4],
+        bound,
+        binding,
+        numeric,
+        loc,
+        spare,
     }
 }
 
@@ -276,12 +260,12 @@ pub fn constraint_words_at(w: &[u32], i: u32) -> ConstraintWords
     requires { (length w.now ≡ 24069) × (i < 512) }
     ensures { result ≡ constraint_words_at w.now i }
 {
-    let at = CONSTRAINTS_AT + (i as usize) * CONSTRAINT_WORDS;
+    let [kind, loc, ty, abilities] = row_at::<CONSTRAINT_WORDS>(w, CONSTRAINTS_AT, i);
     ConstraintWords {
-        kind: w[at],
-        loc: w[at + 1],
-        ty: w[at + 2],
-        abilities: w[at + 3],
+        kind,
+        loc,
+        ty,
+        abilities,
     }
 }
 
@@ -289,11 +273,8 @@ pub fn struct_words_at(w: &[u32], i: u32) -> StructWords
     requires { (length w.now ≡ 24069) × (i < 256) }
     ensures { result ≡ struct_words_at w.now i }
 {
-    let at = STRUCTS_AT + (i as usize) * STRUCT_WORDS;
-    StructWords {
-        abilities: w[at],
-        params: w[at + 1],
-    }
+    let [abilities, params] = row_at::<STRUCT_WORDS>(w, STRUCTS_AT, i);
+    StructWords { abilities, params }
 }
 
 fn mark_at(x: u32) -> AbilityMark
@@ -311,6 +292,7 @@ fn mark_word(m: AbilityMark) -> u32
     }
 }
 
+// Two words of a variable's row, of which the first is a flag.
 fn option_at(is: u32, x: u32) -> Option<u32>
     ensures { result ≡ read_option is x }
 {
@@ -320,38 +302,25 @@ fn option_at(is: u32, x: u32) -> Option<u32>
 fn name_at(tag: u32, x: u32) -> TypeName
     ensures { name_of result ≡ read_name tag x }
 {
-    if tag == 3 {
-        return TypeName::Builtin(x);
+    match tag {
+        3 => TypeName::Builtin(x),
+        4 => TypeName::Multiple(x),
+        _ => TypeName::ModuleType(x),
     }
-    if tag == 4 {
-        return TypeName::Multiple(x);
-    }
-    TypeName::ModuleType(x)
 }
 
 fn shape_at(r: NodeWords) -> Shape
     ensures { shape_of result ≡ read_shape r.tag r.a r.b r.c r.d }
 {
-    let tag = r.tag;
-    if tag == 0 {
-        return Shape::Unit;
+    match r.tag {
+        0 => Shape::Unit,
+        1 => Shape::Ref(r.a == 1, r.b),
+        2 => Shape::Param(TParamID(r.a), set_at(r.b)),
+        3..=5 => Shape::Apply(mark_at(r.a), name_at(r.tag, r.b), r.c, r.d),
+        6 => Shape::Var(tvar_at(r.a)),
+        7 => Shape::Anything,
+        _ => Shape::UnresolvedError,
     }
-    if tag == 1 {
-        return Shape::Ref(r.a == 1, r.b);
-    }
-    if tag == 2 {
-        return Shape::Param(TParamID(r.a), set_at(r.b));
-    }
-    if tag < 6 {
-        return Shape::Apply(mark_at(r.a), name_at(tag, r.b), r.c, r.d);
-    }
-    if tag == 6 {
-        return Shape::Var(tvar_at(r.a));
-    }
-    if tag == 7 {
-        return Shape::Anything;
-    }
-    Shape::UnresolvedError
 }
 
 fn apply_row(loc: u32, k: u32, n: TypeName, first: u32, many: u32) -> [u32; 6]
@@ -370,7 +339,7 @@ fn row_of(loc: u32, shape: Shape) -> [u32; 6]
 {
     match shape {
         Shape::Unit => [0, loc, 0, 0, 0, 0],
-        Shape::Ref(m, t) => [1, loc, m as u32, t, 0, 0],
+        Shape::Ref(m, t) => [1, loc, u32::from(m), t, 0, 0],
         Shape::Param(id, a) => [2, loc, id.0, bits(a), 0, 0],
         Shape::Apply(k, n, first, many) => apply_row(loc, mark_word(k), n, first, many),
         Shape::Var(v) => [6, loc, number(v), 0, 0, 0],
@@ -379,230 +348,17 @@ fn row_of(loc: u32, shape: Shape) -> [u32; 6]
     }
 }
 
-// ---- the counts
-
-// The counts are written: the words are the state's, outright.
-pub fn write_used(w: &mut [u32], u: Used)
-    requires { Lay w.old u }
-    ensures { (ds : List d.Struct) → Declares w.old u ds → w.new ≡ encode (seen w.old u ds) }
-{
-    write_words(w, 0, &[u.nodes, u.args, u.vars, u.constraints, u.structs]);
-}
-
-// ---- nodes and argument places
-
-// The node with number t; past the nodes in use, `!` without a location.
-pub fn node_at(w: &[u32], u: Used, t: u32) -> Node
-    requires { Lay w.now u }
-    ensures { (ds : List d.Struct) → node_of result ≡ node (seen w.now u ds) t }
-{
-    let n = u.nodes;
-    if t < n {
-        let r = node_words_at(w, t);
-        let shape = shape_at(r);
-        Node { loc: r.loc, shape }
-    } else {
-        Node {
-            loc: 0,
-            shape: Shape::UnresolvedError,
-        }
-    }
-}
-
-// Argument i of a node whose first place is `first`.
-pub fn arg_at(w: &[u32], u: Used, first: u32, i: u32) -> u32
-    requires { Lay w.now u }
-    ensures { (ds : List d.Struct) (many : ℕ) → i < many → result ≡ get_or (args_at (seen w.now u ds) (places first many)) i 0 }
-{
-    let n = wide(u.args);
-    let k = wide(first) + wide(i);
-    if k < n {
-        let at = ARGS_AT + k;
-        w[at]
-    } else {
-        0
-    }
-}
-
-// sp of a type without arguments: a new node, if there is room for it.
-pub fn push_node(w: &mut [u32], u: Used, loc: u32, shape: Shape) -> Outcome
-    requires { Lay w.old u × Flat u.nodes shape }
-    ensures { After w.old u w.new result (λ s. sp s loc (value_of shape)) }
-{
-    let n = u.nodes;
-    if MAX_NODES <= n {
-        return Outcome {
-            out: Out::Refused(Refusal::Full),
-            used: u,
-        };
-    }
-    let row = row_of(loc, shape);
-    put_row(w, NODES_AT, n, row);
-    Outcome {
-        out: Out::Done(n),
-        used: Used { nodes: n + 1, ..u },
-    }
-}
-
-// sp of a named type: a new node and places for its n arguments, if there is room for both.
-pub fn push_apply(
-    w: &mut [u32],
-    u: Used,
-    loc: u32,
-    k: AbilityMark,
-    name: TypeName,
-    parts: [u32; 8],
-    n: u32,
-) -> Outcome
-    requires { Lay w.old u × Parts u.nodes parts n }
-    ensures { After w.old u w.new result (λ s. sp s loc (d.Apply (mark_of k) (name_of name) (take n parts))) }
-{
-    let t = u.nodes;
-    let first = u.args;
-    if MAX_NODES <= t {
-        return Outcome {
-            out: Out::Refused(Refusal::Full),
-            used: u,
-        };
-    }
-    if MAX_ARGS - first < n {
-        return Outcome {
-            out: Out::Refused(Refusal::Full),
-            used: u,
-        };
-    }
-    write_words(w, ARGS_AT + wide(first), &parts[..wide(n)]);
-    let row = row_of(loc, Shape::Apply(k, name, first, n));
-    put_row(w, NODES_AT, t, row);
-    Outcome {
-        out: Out::Done(t),
-        used: Used {
-            nodes: t + 1,
-            args: first + n,
-            ..u
-        },
-    }
-}
-
-// ---- variables
-
-// Subst::get: what v is bound to.
-pub fn bound_at(w: &[u32], u: Used, v: TVar) -> Option<u32>
-    requires { Lay w.now u }
-    ensures { (ds : List d.Struct) → result ≡ get (seen w.now u ds) v.0 }
-{
-    let n = u.vars;
-    let i = number(v);
-    if i < n {
-        let r = cell_words_at(w, i);
-        option_at(r.bound, r.binding)
-    } else {
-        None
-    }
-}
-
-// num_vars.get: the location of v's numeric mark.
-pub fn num_loc_at(w: &[u32], u: Used, v: TVar) -> Option<u32>
-    requires { Lay w.now u }
-    ensures { (ds : List d.Struct) → result ≡ num_loc (seen w.now u ds) v.0 }
-{
-    let n = u.vars;
-    let i = number(v);
-    if i < n {
-        let r = cell_words_at(w, i);
-        option_at(r.numeric, r.loc)
-    } else {
-        None
-    }
-}
-
-// The counts after one more variable, and its number; or none is left.
-fn var_taken(u: Used) -> Outcome
-    ensures { result ≡ one_var u }
-{
-    let n = u.vars;
-    if MAX_VARS <= n {
-        return Outcome {
-            out: Out::Refused(Refusal::Full),
-            used: u,
-        };
-    }
-    Outcome {
-        out: Out::Done(n),
-        used: Used { vars: n + 1, ..u },
-    }
-}
-
-// TVar::next: the counts are lent, and altered by the taking.
-fn next_tvar(used: &mut Used) -> Out
-    ensures { (result ≡ (one_var used.old).out) × (used.new ≡ (one_var used.old).used) }
-{
-    let s = var_taken(*used);
-    *used = s.used;
-    s.out
-}
-
-// The same for a caller that has the counts by value.
-fn one_var(u: Used) -> Outcome
-    ensures { result ≡ one_var u }
-{
-    let mut v = u;
-    let out = next_tvar(&mut v);
-    Outcome { out: out, used: v }
-}
-
-// A fresh variable. Its row is zero already.
-pub fn take_var(w: &mut [u32], u: Used) -> Outcome
-    requires { Lay w.old u }
-    ensures { Changed w.old u w.new result (λ s. next_tvar s) × VarIn result.used.vars result.out }
-{
-    one_var(u)
-}
-
 // The row of a variable.
 fn cell_row(b: Option<u32>, m: Option<u32>) -> [u32; 5]
     ensures { Written var_table result (cell b m) }
 {
     [
-        b.is_some() as u32,
+        u32::from(b.is_some()),
         b.unwrap_or(0),
-        m.is_some() as u32,
+        u32::from(m.is_some()),
         m.unwrap_or(0),
         0,
     ]
-}
-
-// Variable v has this binding and this mark.
-fn put_cell(w: &mut [u32], u: Used, v: TVar, b: Option<u32>, m: Option<u32>)
-    requires { Lay w.old u × FoundIn u.nodes b }
-    ensures { Stored w.old u w.new (with_cell v.0 b m) }
-{
-    let n = u.vars;
-    let i = number(v);
-    if i < n {
-        let row = cell_row(b, m);
-        put_row(w, VARS_AT, i, row);
-    }
-}
-
-// Subst::insert: binds v to node t.
-pub fn bind_var(w: &mut [u32], u: Used, v: TVar, t: u32)
-    requires { Lay w.old u × (t < u.nodes) }
-    ensures { Stored w.old u w.new (λ s. insert s v.0 t) }
-{
-    let m = num_loc_at(w, u, v);
-    put_cell(w, u, v, Some(t), m);
-}
-
-// num_vars.entry(v).or_insert(loc)
-pub fn mark_one(w: &mut [u32], u: Used, v: TVar, loc: u32)
-    requires { Lay w.old u }
-    ensures { Stored w.old u w.new (λ s. mark_one s v.0 loc) }
-{
-    let b = bound_at(w, u, v);
-    let m = num_loc_at(w, u, v);
-    let l = m.unwrap_or(loc);
-    put_cell(w, u, v, b, Some(l));
 }
 
 // ---- constraints
@@ -623,97 +379,12 @@ fn constraint_row(c: Constraint) -> [u32; 4]
 fn constraint_of(r: ConstraintWords) -> Constraint
     ensures { constraint_of result ≡ read_constraint (r.kind ∷ r.loc ∷ r.ty ∷ r.abilities ∷ []) }
 {
-    let kind = r.kind;
-    if kind == 0 {
-        return Constraint::Ability(r.loc, r.ty, set_at(r.abilities));
-    }
-    if kind == 1 {
-        return Constraint::Numeric(r.loc, r.ty);
-    }
-    if kind == 2 {
-        return Constraint::Bits(r.loc, r.ty);
-    }
-    if kind == 3 {
-        return Constraint::Ordered(r.loc, r.ty);
-    }
-    if kind == 4 {
-        return Constraint::BaseType(r.loc, r.ty);
-    }
-    Constraint::SingleType(r.loc, r.ty)
-}
-
-// context.constraints.push; the answer is 0.
-pub fn push_constraint(w: &mut [u32], u: Used, c: Constraint) -> Outcome
-    requires { Lay w.old u }
-    ensures { Changed w.old u w.new result (pushed_constraint (constraint_of c)) }
-{
-    let n = u.constraints;
-    if MAX_CONSTRAINTS <= n {
-        return Outcome {
-            out: Out::Refused(Refusal::Full),
-            used: u,
-        };
-    }
-    let row = constraint_row(c);
-    put_row(w, CONSTRAINTS_AT, n, row);
-    Outcome {
-        out: Out::Done(0),
-        used: Used {
-            constraints: n + 1,
-            ..u
-        },
-    }
-}
-
-// Constraint i, in the order of the list.
-pub fn constraint_at(w: &[u32], u: Used, i: u32) -> Constraint
-    requires { Lay w.now u × (i < u.constraints) }
-    ensures { (ds : List d.Struct) → constraint_of result ≡ get_or (seen w.now u ds).constraints i constraint_table.blank }
-{
-    let r = constraint_words_at(w, i);
-    constraint_of(r)
-}
-
-// ---- structs
-
-// A struct is declared: its row, without the parameter bytes, which stand beside the words.
-pub fn push_struct(w: &mut [u32], u: Used, abilities: AbilitySet, params: u32) -> Outcome
-    requires { Lay w.old u }
-    ensures { Declared w.old u w.new result abilities.0 params }
-{
-    let n = u.structs;
-    if MAX_STRUCTS <= n {
-        return Outcome {
-            out: Out::Refused(Refusal::Full),
-            used: u,
-        };
-    }
-    put_row(w, STRUCTS_AT, n, [bits(abilities), params]);
-    Outcome {
-        out: Out::Done(n),
-        used: Used {
-            structs: n + 1,
-            ..u
-        },
-    }
-}
-
-// The row of struct n; past the structs in use, no abilities and no parameters.
-pub fn struct_at(w: &[u32], u: Used, n: u32) -> StructRow
-    requires { Lay w.now u }
-    ensures { (ds : List d.Struct) → Declares w.now u ds → (result.abilities.0 ≡ (get_or ds n struct_table.blank).abilities) × (result.params ≡ length (get_or ds n struct_table.blank).params) }
-{
-    let k = u.structs;
-    if n < k {
-        let r = struct_words_at(w, n);
-        StructRow {
-            abilities: set_at(r.abilities),
-            params: r.params,
-        }
-    } else {
-        StructRow {
-            abilities: AbilitySet(0),
-            params: 0,
-        }
+    match r.kind {
+        0 => Constraint::Ability(r.loc, r.ty, set_at(r.abilities)),
+        1 => Constraint::Numeric(r.loc, r.ty),
+        2 => Constraint::Bits(r.loc, r.ty),
+        3 => Constraint::Ordered(r.loc, r.ty),
+        4 => Constraint::BaseType(r.loc, r.ty),
+        _ => Constraint::SingleType(r.loc, r.ty),
     }
 }

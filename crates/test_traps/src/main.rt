@@ -3,11 +3,11 @@
 #![tactic(auto)]
 
 ghost use Rattle.std.specs.Prelude.{◌<◌};
-ghost use Rattle.table.specs.State.{Lay};
 
 use names::TVar;
 use std::io;
-use table::{ARGS_AT, NODE_WORDS, NODES_AT, Used, VAR_WORDS, VARS_AT, WORDS};
+use table::state::State;
+use table::{ARGS_AT, NODE_WORDS, NODES_AT, VAR_WORDS, VARS_AT, WORDS};
 
 fn put(w: &mut [u32], i: usize, x: u32) {
     if let Some(word) = w.get_mut(i) {
@@ -66,8 +66,8 @@ struct Answers {
 }
 
 // Asked many times over, so that a walk that is not quick is seen.
-fn walks(w: &[u32], u: Used, t: u32) -> Answers
-    requires { Lay w.now u × (t < u.nodes) }
+fn walks(st: &State<'_>, t: u32) -> Answers
+    requires { t < st.now.used.nodes }
 {
     let mut last = Answers {
         used: false,
@@ -75,26 +75,25 @@ fn walks(w: &[u32], u: Used, t: u32) -> Answers
     };
     for _ in 0..10000 {
         last = Answers {
-            used: subst::used_tvars(w, u, TVar(0), t),
-            itself: ends::reaches_itself(w, u, t),
+            used: subst::used_tvars(st, TVar(0), t),
+            itself: ends::reaches_itself(st, t),
         };
     }
     last
 }
 
 // The walks' answers for the last node, if the state is sound and has one.
-fn ask(w: &[u32]) -> Option<Answers> {
+fn ask(w: &mut [u32]) -> Option<Answers> {
     if !sound::sound_state(w, [[0u8; 8]; 256]) {
         return None;
     }
     let u = sound::used_of(w);
-    if u.nodes == 0 {
-        return None;
-    }
-    Some(walks(w, u, u.nodes - 1))
+    let last = u.nodes.checked_sub(1)?;
+    let st = State::new(w, u);
+    Some(walks(&st, last))
 }
 
-fn print(rt: &HostRuntime, w: &[u32]) -> io::Result<()> {
+fn print(rt: &HostRuntime, w: &mut [u32]) -> io::Result<()> {
     match ask(w) {
         Some(a) => println!(rt; "1 {} {}", u8::from(a.used), u8::from(a.itself)),
         None => println!(rt; "0 - -"),
@@ -106,6 +105,6 @@ fn main(rt: HostRuntime) -> io::Result<()> {
     let mut two = [0u32; WORDS];
     ladder(&mut one);
     tower(&mut two);
-    print(&rt, &one)?;
-    print(&rt, &two)
+    print(&rt, &mut one)?;
+    print(&rt, &mut two)
 }

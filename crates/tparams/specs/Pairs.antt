@@ -2,9 +2,10 @@
 use Rattle.std.specs.Prelude.{List, [], ◌∷◌, ℕ, zero, suc, get_or}
 use Rattle.std.specs.Prelude.{Option, None, Some}
 use Rattle.names.specs.declared.TParamID.{TParamID}
-use Rattle.table.specs.declared.Out.{Out}
-use Rattle.table.specs.declared.Out.TheVariants.{Done, Refused}
+use Rattle.table.specs.Out.{Out}
 use Rattle.table.specs.declared.Refusal.TheVariants.{NoArgument}
+use Rattle.table.specs.declared.state.Stop.TheVariants.{Refused}
+use Rattle.std.specs.Prelude.{Ok, Err}
 
 abbrev pub id_at : List TParamID → ℕ → ℕ
 id_at ids i = (get_or ids i (record { 0 = 0 })).0
@@ -16,5 +17,5 @@ pairs ids args i (suc n) = (id_at ids i, get_or args i 0) ∷ pairs ids args (su
 
 -- a parameter's argument, or 12
 abbrev pub answer : Option ℕ → Out
-answer None = Refused NoArgument
-answer (Some t) = Done t
+answer None = Err (Refused NoArgument)
+answer (Some t) = Ok t

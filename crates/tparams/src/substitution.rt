@@ -22,12 +22,9 @@ impl TParamSubst {
         requires { i ≤ self.now.many }
         ensures { result ≡ arg_of (pairs self.now.ids self.now.args i (self.now.many - i)) id.0 }
     {
-        for k in i..self.many {
-            if self.ids[k as usize] == id {
-                return Some(self.args[k as usize]);
-            }
-        }
-        None
+        (i..self.many)
+            .find(|k| self.ids[*k as usize] == id)
+            .map(|k| self.args[k as usize])
     }
 
     // subst.get(id)

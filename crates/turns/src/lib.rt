@@ -26,7 +26,7 @@ impl Stage {
     }
 }
 
-// Where the bytes at hand begin and end in the buffer, whether more may follow them, and the next record's number, none before the first lines; how many bytes the
+// Where the bytes at hand begin and end in the buffer, whether more may follow them (a flag of its own: they may in each stage), and the next record's number, none before the first lines; how many bytes the
 // last turn read and how much text it handed to the writer; and how the job stands.
 #[derive(Clone, Copy, Debug, PartialEq, Eq)]
 pub struct Turn {

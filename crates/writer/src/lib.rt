@@ -5,11 +5,13 @@ ghost use Rattle.std.specs.Prelude.{◌≡◌, List, [], ◌∷◌, ◌++◌, �
 ghost use Rattle.definition.specs.Types as d;
 ghost use Rattle.definition.specs.Write.{mark, u16, u32 as bytes-u32, apply_head, head, write};
 ghost use Rattle.names.specs.Names.{mark_of, name_of};
-ghost use Rattle.table.specs.State.{shape_of, value_of, view, seen, Lay};
+ghost use Rattle.table.specs.State.{shape_of, value_of};
+ghost use Rattle.table.specs.Did.{held, tables};
 ghost use Rattle.writer.specs.Bytes.{Wrote, capped, NameByte, ByteFields, AllBytes};
 
 use names::{AbilityMark, TypeName};
-use table::{Shape, Used, node_at, number};
+use table::state::State;
+use table::{Shape, number};
 
 // ---- into a buffer
 
@@ -142,20 +144,19 @@ pub fn head_size(shape: Shape) -> u32
 // ---- a type with its parts
 
 // How many bytes the type t has, if no more than `room`; else one more than `room`. Types share parts, so the walk stops there.
-pub fn size_type(w: &[u32], u: Used, t: u32, room: u32) -> u32
-    requires { Lay w.now u × ((t < u.nodes) × (room ≤ 65536)) }
-    ensures { (ds : List d.Struct) → result ≡ capped room (length (write (seen w.now u ds) t)) }
+pub fn size_type(st: &State<'_>, t: u32, room: u32) -> u32
+    requires { (t < st.now.used.nodes) × (room ≤ 65536) }
+    ensures { (ds : List d.Struct) → result ≡ capped room (length (write (held st.now ds) t)) }
 {
-    let node = node_at(w, u, t);
-    let shape = node.shape;
+    let shape = st.node_at(t).shape;
     let n = shapes::part_count(shape);
     let mut size = head_size(shape);
     for i in 0..n {
         if room < size {
             return room + 1;
         }
-        let p = shapes::part_at(w, u, shape, i);
-        size = size + size_type(w, u, p, room - size);
+        let p = shapes::part_at(st, shape, i);
+        size += size_type(st, p, room - size);
     }
     if room < size {
         return room + 1;
@@ -164,19 +165,19 @@ pub fn size_type(w: &[u32], u: Used, t: u32, room: u32) -> u32
 }
 
 // The bytes of the type t, which fit; the place after them.
-pub fn write_type(w: &[u32], u: Used, t: u32, buf: &mut [u8], at: usize) -> usize
-    requires lay { Lay w.now u × ((t < u.nodes) × AllBytes (view w.now u)) }
-    requires fits { (ds : List d.Struct) → at + length (write (seen w.now u ds) t) ≤ length buf.old }
-    ensures { (ds : List d.Struct) → Wrote buf.old at (write (seen w.now u ds) t) buf.new result }
+pub fn write_type(st: &State<'_>, t: u32, buf: &mut [u8], at: usize) -> usize
+    requires all_bytes { (t < st.now.used.nodes) × AllBytes (tables st.now) }
+    requires fits { (ds : List d.Struct) → at + length (write (held st.now ds) t) ≤ length buf.old }
+    ensures { (ds : List d.Struct) → Wrote buf.old at (write (held st.now ds) t) buf.new result }
 {
-    let node = node_at(w, u, t);
+    let node = st.node_at(t);
     let loc = node.loc;
     let shape = node.shape;
     let n = shapes::part_count(shape);
     let mut next = write_head(loc, shape, buf, at);
     for i in 0..n {
-        let p = shapes::part_at(w, u, shape, i);
-        next = write_type(w, u, p, buf, next);
+        let p = shapes::part_at(st, shape, i);
+        next = write_type(st, p, buf, next);
     }
     next
 }

@@ -7,4 +7,4 @@ abbrev pub decreases-infer : goal.decreases-infer
 decreases-infer l = l.left
 
 abbrev pub invariant-loop-i : goal.invariant-loop-i
-invariant-loop-i l = Walked l.w l.u l.params l.t l.left l.initial.sets l.s l.many l.sets l.i
+invariant-loop-i l = Walked l.chains.st.now l.params l.t l.left l.initial.sets l.s l.many l.sets l.i

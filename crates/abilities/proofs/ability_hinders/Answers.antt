@@ -4,14 +4,14 @@ use Rattle.abilities.proofs.Hindered.{ends_of, hindered_nine, hindered_sixteen, 
 use Rattle.abilities.proofs.ability_hinders.Goals as goal
 
 pub returns-in_default : goal.returns-in_default
-returns-in_default c = (c.levels.ensures.1, hindered_nine c.levels.ensures.0 _ _ _ c.in_default.is c.requires.lay.1.1.1)
+returns-in_default c = (c.levels.ensures.1, hindered_nine c.levels.ensures.0 _ _ _ c.in_default.is c.requires.1.1)
 
 pub infer-requires : goal.infer-requires
-infer-requires c = let levels = c.levels in record { lay = (c.requires.lay.0, (c.requires.lay.1.0, (ends_of levels.ensures.0 c.in-Some.is, c.requires.lay.1.1.1))); ends_known = c.requires.ends_known }
+infer-requires c = let levels = c.levels in (c.requires.0, (ends_of levels.ensures.0 c.in-Some.is, c.requires.1.1))
 
 pub any_contradicts-requires : goal.any_contradicts-requires
 any_contradicts-requires c = let pre = c.requires in
-    let infer = c.infer in record { lay = (pre.lay.0, (pre.lay.1.0, (infer.ensures.kept, infer.ensures.here))); ends_known = pre.ends_known }
+    let infer = c.infer in (pre.0, (infer.ensures.kept, infer.ensures.here))
 
 pub returns-then-any_contradicts : goal.returns-then-any_contradicts
 returns-then-any_contradicts c = (

@@ -1,14 +1,13 @@
-use Rattle.abilities.proofs.Asking.{searched_none, searched_all, searched_hit, searched_more}
+-- `abilities::any_asks` meets its contract. Assumes nothing.
+use Rattle.std.proofs.Common.{◌∙◌, refl, rules, tests, arith}
+use Rattle.std.proofs.lemmas.Iterator.{YieldsList-from_range}
+use Rattle.std.proofs.lemmas.Iterator.Search.{any_from_yields_List}
+use Rattle.table.specs.Did.{tables}
+use Rattle.abilities.proofs.Asking.{asks_at, asked_at, asks_all}
 use Rattle.abilities.proofs.any_asks.Goals as goal
 
-pub loop-i-init : goal.loop-i-init
-loop-i-init c = searched_none _ _ c.requires
-
-pub returns-then-asks_abilities : goal.returns-then-asks_abilities
-returns-then-asks_abilities c = searched_hit c.loop-i.invariant c.loop-i-test.true _ c.constraint_at.ensures _ c.asks_abilities.ensures c.if-asks_abilities.true
-
-pub loop-i-preserved : goal.loop-i-preserved
-loop-i-preserved c = searched_more c.loop-i.invariant c.loop-i-test.true _ c.constraint_at.ensures _ c.asks_abilities.ensures c.if-asks_abilities.false
-
 pub returns : goal.returns
-returns c = searched_all c.loop-i.invariant c.loop-i-test.false
+returns c =
+    let st = c.args.st.now in
+    any_from_yields_List (asks_at (tables st).constraints) _ _ _ c.any.ensures.ran (YieldsList-from_range 0 _ _ refl (omega arith)) (λ x b q k. search (rules, tests, asked_at))
+    ∙ asks_all st

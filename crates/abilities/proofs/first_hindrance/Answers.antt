@@ -5,11 +5,11 @@ use Rattle.abilities.proofs.Hindered.{passed_none, passed_all, passed_asked, pas
 use Rattle.abilities.proofs.first_hindrance.Goals as goal
 
 pub loop-i-init : goal.loop-i-init
-loop-i-init c = passed_none _ _ _ _ _ c.requires.lay.0 c.requires.lay.1.0 c.requires.lay.1.1.0 c.requires.lay.1.1.1
+loop-i-init c = passed_none _ _ _ _ c.requires.0 c.requires.1.0 c.requires.1.1
 
 pub hinder-requires : goal.hinder-requires
 hinder-requires c = let pre = c.requires in
-    let loop = c.loop-i in record { lay = (pre.lay.0, (passed_asked loop.invariant c.loop-i-test.true _ c.constraint_at-c.ensures, (loop.invariant.measured, loop.invariant.kept))); ends_known = pre.ends_known }
+    let loop = c.loop-i in (passed_asked loop.invariant c.loop-i-test.true _ c.constraint_at-c.ensures, (loop.invariant.measured, loop.invariant.kept))
 
 pub returns-in_err-hinder : goal.returns-in_err-hinder
 returns-in_err-hinder c =

@@ -4,4 +4,4 @@ use Rattle.abilities.proofs.Hindered.{Passed}
 use Rattle.abilities.proofs.first_hindrance.Given as goal
 
 abbrev pub invariant-loop-i : goal.invariant-loop-i
-invariant-loop-i l = Passed l.w l.u l.params l.initial.sets l.heights l.sets l.i
+invariant-loop-i l = Passed l.chains.st.now l.params l.initial.sets l.heights l.sets l.i

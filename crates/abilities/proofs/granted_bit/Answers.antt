@@ -6,5 +6,5 @@ use Rattle.abilities.proofs.granted_bit.Goals as goal
 pub returns-then-granted : goal.returns-then-granted
 returns-then-granted c = (omega arith, λ ds k. rw (sym (c.granted.ensures ds k), c.if-granted.true) refl)
 
-pub returns : goal.returns
-returns c = (omega arith, λ ds k. rw (sym (c.granted.ensures ds k), c.if-granted.false) refl)
+pub returns-else-granted : goal.returns-else-granted
+returns-else-granted c = (omega arith, λ ds k. rw (sym (c.granted.ensures ds k), c.if-granted.false) refl)

@@ -4,13 +4,10 @@ use Rattle.ends.proofs.Ends.{noted_none}
 use Rattle.abilities.proofs.hinders.Goals as goal
 
 pub note_ends-requires : goal.note_ends-requires
-note_ends-requires c = (c.requires.0, noted_none)
+note_ends-requires c = noted_none
 
-pub slice_bounds-first_hindrance-end : goal.slice_bounds-first_hindrance-end
-slice_bounds-first_hindrance-end c = sym c.note_ends.ensures.1
-
-pub first_hindrance-requires : goal.first_hindrance-requires
-first_hindrance-requires c = record { lay = c.requires; ends_known = c.note_ends.ensures.0 }
+pub slice_bounds-chains-end : goal.slice_bounds-chains-end
+slice_bounds-chains-end c = sym c.note_ends.ensures.1
 
 pub returns : goal.returns
 returns c = c.first_hindrance.ensures

@@ -5,7 +5,7 @@ use Rattle.abilities.proofs.Sets.{ready_args, rule_plain}
 use Rattle.abilities.proofs.shape_rule.Goals as goal
 
 pub apply_rule-requires : goal.apply_rule-requires
-apply_rule-requires c = (ready_args _ _ _ _ _ _ c.requires.0 c.in-Apply.is, c.requires.1)
+apply_rule-requires c = (ready_args _ _ _ _ _ c.requires.0 c.in-Apply.is, c.requires.1)
 
 pub returns-in-Apply : goal.returns-in-Apply
 unfolding with_args

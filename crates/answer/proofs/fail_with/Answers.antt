@@ -7,12 +7,14 @@ use Rattle.answer.proofs.fail_with.Goals as goal
 
 pub returns-in_default : goal.returns-in_default
 returns-in_default c = let args = c.args in
-    λ e n h. rw (c.in_default.ensures []).1
-    (failure_long args.w.now args.u args.before args.saved.now args.buf.now args.show e _ n h _ _ _
-    (λ ds. (c.in_default.ensures ds).0) (c.refuse.ensures answer_too_long _ (sym c.number_of.ensures)))
+    let paid = c.in_default.ensures in
+    λ e n h. rw (paid.1 []).1
+    (failure_long args.w.now args.u args.before.used args.before.saved.now args.buf.now args.show e _ n h _ _ _
+    (λ ds. (paid.1 ds).0) (rw paid.0 at (c.refuse.ensures answer_too_long args.buf.now (sym c.number_of.ensures))))
 
 pub returns : goal.returns
 returns c = let args = c.args in
-    λ e n h. rw c.put_back.ensures.1
-    (failure_fits args.w.now args.u args.before args.saved.now args.buf.now args.show e _ n h _ _ _
-    (λ ds. (c.in-Some.ensures ds).0) (λ ds. (c.in-Some.ensures ds).1) c.put_back.ensures.0)
+    let paid = c.in-Some.ensures in
+    λ e n h. rw c.as_left.ensures
+    (failure_fits args.w.now args.u args.before.used args.before.saved.now args.buf.now args.show e _ n h _ _ _
+    (λ ds. (paid.1 ds).0) (λ ds. (paid.1 ds).1) (rw paid.0 at c.put_vars.ensures))

@@ -1,38 +1,34 @@
-use Rattle.constraints.proofs.Defaults.{defaulting_none, defaulting_all, defaulting_stop, defaulting_more}
-use Rattle.std.proofs.Common.{arith}
+-- `constraints::default_num_vars` meets its contract. Assumes nothing.
+use Rattle.std.proofs.Common.{refl, arith, rules}
+use Rattle.constraints.proofs.Defaults.{defaulting_none, defaulting_all, defaulting_stop, defaulting_more, measured_none, marked_some}
 use Rattle.constraints.proofs.default_num_vars.Goals as goal
+use Rattle.constraints.proofs.default_num_vars.Goals.{in-Some+in_ok-default_num_var, in_default}
 
 pub loop-v-init : goal.loop-v-init
-loop-v-init c = defaulting_none _ _ c.requires.0
+loop-v-init c = defaulting_none _
 
-pub saved_mark-mark-requires : goal.saved_mark-mark-requires
-saved_mark-mark-requires c = (omega (arith, c.requires.0.vars), c.requires.1.1)
+pub saved_mark-requires : goal.saved_mark-requires
+saved_mark-requires c = (omega (arith, c.loop-v-test.true, c.args.st.now.lay.vars), c.requires.1)
 
-pub tvar-num_var-requires : goal.tvar-num_var-requires
-tvar-num_var-requires c = omega (arith, c.requires.0.vars)
+pub tvar-requires : goal.tvar-requires
+tvar-requires c = omega (arith, c.loop-v-test.true, c.args.st.now.lay.vars)
 
-pub default_marked-a-requires : goal.default_marked-a-requires
-default_marked-a-requires c = c.loop-v.invariant.changed.lay
-
-pub returns-in_default : goal.returns-in_default
-returns-in_default c = let pre = c.requires in
-    let loop = c.loop-v in
-    let loop_test = c.loop-v-test in
-    let saved_mark = c.saved_mark-mark in
-    let tvar = c.tvar-num_var in
-    let default_marked = c.default_marked-a in
-    defaulting_stop _ _ _ _ _ loop.invariant loop_test.true _ saved_mark.result pre.1.0 saved_mark.ensures _
-    tvar.ensures _ _ _ default_marked.ensures c.done_of.ensures c.in_default.is
+pub returns-in_err-default_num_var : goal.returns-in_err-default_num_var
+returns-in_err-default_num_var c =
+    defaulting_stop _ c.loop-v.invariant c.loop-v-test.true _ c.requires.0 c.saved_mark.ensures c.tvar.ensures
+    (marked_some _ c.in-Some.is c.in_err-default_num_var.ensures) (search rules)
 
 pub loop-v-preserved : goal.loop-v-preserved
-loop-v-preserved c = let pre = c.requires in
-    let loop = c.loop-v in
-    let loop_test = c.loop-v-test in
-    let saved_mark = c.saved_mark-mark in
-    let tvar = c.tvar-num_var in
-    let default_marked = c.default_marked-a in
-    defaulting_more _ _ _ _ _ loop.invariant loop_test.true _ saved_mark.result pre.1.0 saved_mark.ensures _
-    tvar.ensures _ _ _ default_marked.ensures c.done_of.ensures _ c.in-Some.is
+loop-v-preserved c =
+    elim c.match-saved_mark.branch [
+      | in-Some+in_ok-default_num_var w ↦
+          rw w.st-is
+          (defaulting_more _ c.loop-v.invariant c.loop-v-test.true _ c.requires.0 c.saved_mark.ensures w.tvar.ensures
+          (marked_some _ w.in-Some.is w.in_ok-default_num_var.ensures))
+      | in_default w ↦
+          rw w.st-is
+          (defaulting_more _ c.loop-v.invariant c.loop-v-test.true _ c.requires.0 c.saved_mark.ensures refl (measured_none _ _ w.in_default.is))
+    ]
 
 pub returns : goal.returns
-returns c = defaulting_all _ _ _ _ _ c.loop-v.invariant (omega arith)
+returns c = defaulting_all _ c.loop-v.invariant (omega arith)

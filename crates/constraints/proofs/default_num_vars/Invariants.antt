@@ -3,4 +3,4 @@ use Rattle.constraints.proofs.Defaults.{Defaulting}
 use Rattle.constraints.proofs.default_num_vars.Given as goal
 
 abbrev pub invariant-loop-v : goal.invariant-loop-v
-invariant-loop-v l = Defaulting l.initial.w l.initial.at l.w l.at l.v
+invariant-loop-v l = Defaulting l.initial.st l.st l.v

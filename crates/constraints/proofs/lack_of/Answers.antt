@@ -7,30 +7,30 @@ use Rattle.constraints.proofs.lack_of.Goals as goal
 
 pub is_missing-requires : goal.is_missing-requires
 is_missing-requires c = let pre = c.requires in
-    (pre.0, (pre.1.0, (pre.1.1.0.some_bit, pre.1.1.1)))
+    (pre.0, (pre.1.0.some_bit, pre.1.1))
 
 pub returns-then-not-is_missing : goal.returns-then-not-is_missing
 returns-then-not-is_missing c = record { is = λ ds k. lack_not _ _ _ _ _ _ (c.is_missing.ensures ds k) (is_false _ (ap not c.if-not-is_missing.true)); inside = tt }
 
-pub shape_rule-r-requires : goal.shape_rule-r-requires
-shape_rule-r-requires c = let pre = c.requires in
-    let kept = pre.1.1.1 in
+pub shape_rule-rule-requires : goal.shape_rule-rule-requires
+shape_rule-rule-requires c = let pre = c.requires in
+    let kept = pre.1.1 in
     let unfolds = c.unfold_type.ensures in
-    let goes = node_goes _ _ c.unfold_type.result _ unfolds _ c.in-Node.is pre.0 c.node_at-n.result c.node_at-n.ensures in
-    (kept_ready _ _ _ _ _ _ pre.0 goes kept.0 (kept.0.below _ kept.1), pre.1.1.0.some_bit)
+    let goes = node_goes _ c.unfold_type.result _ unfolds _ c.in-Node.is c.node_at-shape.result c.node_at-shape.ensures in
+    (kept_ready _ _ _ _ _ goes kept.0 (kept.0.below _ kept.1), pre.1.0.some_bit)
 
 pub by_rule-requires : goal.by_rule-requires
-by_rule-requires c = c.shape_rule-r.ensures.0
+by_rule-requires c = c.shape_rule-rule.ensures.0
 
 pub returns-in-Node : goal.returns-in-Node
 returns-in-Node c = let pre = c.requires in
     let to = c.in-Node.is in
     let unfolds = c.unfold_type.ensures in
-    let goes = node_goes _ _ c.unfold_type.result _ unfolds _ to pre.0 c.node_at-n.result c.node_at-n.ensures in
+    let goes = node_goes _ c.unfold_type.result _ unfolds _ to c.node_at-shape.result c.node_at-shape.ensures in
     let missing = c.is_missing.ensures in
     let is_missing = is_true _ (ap not c.if-not-is_missing.false) in
-    node_lacks _ _ c.unfold_type.result _ unfolds _ to _ _ _ _ _ missing is_missing _ goes c.shape_rule-r.result c.shape_rule-r.ensures.1 c.by_rule.result c.by_rule.ensures
+    node_lacks _ c.unfold_type.result _ unfolds _ to _ _ _ _ _ missing is_missing _ goes c.shape_rule-rule.result c.shape_rule-rule.ensures.1 c.by_rule.result c.by_rule.ensures
 
 pub returns-in-Anything : goal.returns-in-Anything
 returns-in-Anything c = let unfolds = c.unfold_type.ensures in
-    to_anything _ _ c.unfold_type.result _ unfolds _ c.in-Anything.is _ _ _ _ c.requires.1.1.0
+    to_anything _ c.unfold_type.result _ unfolds _ c.in-Anything.is _ _ _ _ c.requires.1.0

@@ -2,8 +2,8 @@
 use Rattle.constraints.specs.Emptied.{First}
 use Rattle.constraints.proofs.take_constraints.Given as goal
 
-abbrev pub invariant-loop-at : goal.invariant-loop-at
-invariant-loop-at l = First l.initial.w l.initial.at l.w l.at
+abbrev pub invariant-loop-st : goal.invariant-loop-st
+invariant-loop-st l = First l.initial.st l.st
 
-abbrev pub decreases-loop-at : goal.decreases-loop-at
-decreases-loop-at l = l.at.constraints
+abbrev pub decreases-loop-st : goal.decreases-loop-st
+decreases-loop-st l = l.st.used.constraints

@@ -5,4 +5,4 @@ use Rattle.ends.proofs.note_end.Goals as goal
 pub note_chain-requires : goal.note_chain-requires
 note_chain-requires c = let p = c.requires in
     let m = meets_end _ c.meet.ensures _ c.in-Some.is in
-    (p.0, (noted_more _ p.1.1 m.0, m.1.1))
+    (noted_more _ p.1 m.0, m.1.1)

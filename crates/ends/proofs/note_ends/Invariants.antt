@@ -4,4 +4,4 @@ use Rattle.ends.specs.Ends.{Noted}
 use Rattle.ends.proofs.note_ends.Given as goal
 
 abbrev pub invariant-loop-i : goal.invariant-loop-i
-invariant-loop-i l = (l.longest ≤ l.u.vars) × Noted l.w l.u l.longest l.ends
+invariant-loop-i l = (l.longest ≤ l.st.used.vars) × Noted l.st l.longest l.ends

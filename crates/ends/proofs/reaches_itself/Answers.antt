@@ -7,13 +7,10 @@ pub returns-then-near_over : goal.returns-then-near_over
 returns-then-near_over c = c.near_over.ensures c.if-near_over.true
 
 pub note_ends-requires : goal.note_ends-requires
-note_ends-requires c = (c.requires.0, noted_none)
+note_ends-requires c = noted_none
 
-pub slice_bounds-never_over-end : goal.slice_bounds-never_over-end
-slice_bounds-never_over-end c = sym c.note_ends.ensures.1
-
-pub never_over-requires : goal.never_over-requires
-never_over-requires c = record { lay = c.requires; ends_known = c.note_ends.ensures.0 }
+pub slice_bounds-chains-end : goal.slice_bounds-chains-end
+slice_bounds-chains-end c = sym c.note_ends.ensures.1
 
 pub returns : goal.returns
 returns c = c.never_over.ensures

@@ -6,7 +6,7 @@ use Rattle.engine.proofs.Jobs.{going_start, going_spent, going_stops, taken_on, 
 use Rattle.engine.proofs.lines_trusted.Goals as goal
 
 pub records-init : goal.records-init
-records-init c = record { saved_all = refl; saved = partly_none _ _ _; room = refl; going = going_start _ _ _ _ _ _ _ c.requires; goes_on = refl }
+records-init c = record { saved_all = refl; saved = partly_none _ _ _; room = refl; going = going_start _ _ _ _ _ _ c.requires; goes_on = refl }
 
 pub returns-then-not-takes_on : goal.returns-then-not-takes_on
 returns-then-not-takes_on c =

@@ -11,9 +11,9 @@ use Rattle.engine.proofs.lines_trusted.Given as goal
 abbrev pub invariant-records : goal.invariant-records
 invariant-records l = record {
   saved_all : length l.saved ≡ 5120;
-  saved : SavedPartly l.w l.used l.rows l.saved;
+  saved : SavedPartly l.st.words.now l.st.used l.rows l.saved;
   room : length l.buf ≡ 4096;
-  going : Going l.initial.w l.initial.used l.initial.params l.index l.stream l.more l.initial.log l.w l.used l.params l.log l.lines.read l.lines.written l.lines.index;
+  going : Going l.initial.st l.initial.params l.index l.stream l.more l.initial.log l.st l.params l.log l.lines.read l.lines.written l.lines.index;
   goes_on : l.lines.ended ≡ false;
 }
 

@@ -1,21 +1,29 @@
 -- `engine::record_trusted` meets its contract. Assumes nothing.
 use native.Mathlib.Omega.{arith}
+use mathlib.Core.Path.{◌∙◌}
+use Rattle.std.proofs.Common.{rules}
 use Rattle.log_lines.proofs.Text.{bytes_of}
 use Rattle.snapshot.proofs.Saving.{partly_none}
-use Rattle.engine.proofs.Laws.{stands_lent, lent_size, record_gives}
+use Rattle.engine.proofs.Laws.{stands_lent, lent_size, lent_lays, record_gives}
 use Rattle.engine.proofs.record_trusted.Goals as goal
 
-pub used_of-u-requires : goal.used_of-u-requires
-used_of-u-requires c = lent_size _ _ c.requires.0
+pub used_of-used-requires : goal.used_of-used-requires
+used_of-used-requires c = lent_size _ _ c.requires.0
+
+pub new-st-requires : goal.new-st-requires
+new-st-requires c = lent_lays _ _ c.requires.0 _ c.used_of-used.ensures
 
 pub step_trusted-r-requires : goal.step_trusted-r-requires
-step_trusted-r-requires c = let args = c.args in
-    let pre = c.requires in
-    record { stands = (stands_lent _ _ pre.0 _ c.used_of-u.ensures, (bytes_of args.«record».now c.type_inv.record, (omega arith, (omega arith, pre.1)))); saved_partly = partly_none _ _ _ }
+step_trusted-r-requires c =
+    let n = c.new-st.ensures in
+    record {
+      stands = (stands_lent _ _ c.requires.0 c.new-st.result n.0 (n.1.0 ∙ c.used_of-used.ensures), (bytes_of c.args.«record».now c.type_inv.record, (omega arith, (omega arith, c.requires.1))));
+      saved_partly = partly_none _ _ _;
+    }
 
 pub returns : goal.returns
-returns c = let pre = c.requires in
-    let used_of = c.used_of-u in
-    let step_trusted = c.step_trusted-r in
-    record_gives _ _ pre.0 _ used_of.ensures _ _ pre.1 _ _ _ _ step_trusted.ensures.steps _
-    c.write_used.ensures step_trusted.auto.buf
+returns c =
+    let n = c.new-st.ensures in
+    let step = c.step_trusted-r in
+    record_gives _ _ c.requires.0 c.new-st.result n.0 (n.1.0 ∙ c.used_of-used.ensures) _ _ c.requires.1 step.new.st _ _ _ step.ensures.steps
+    c.write_used.new.self.words.now c.write_used.ensures.1 _ (search rules) step.auto.buf

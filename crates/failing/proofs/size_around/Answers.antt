@@ -8,8 +8,8 @@ use Rattle.failing.proofs.size_around.Goals as goal
 pub returns-then-room-around : goal.returns-then-room-around
 returns-then-room-around c = λ ds. around_over _ _ _ c.if-room-around.true
 
-pub overflow_add-result-2 : goal.overflow_add-result-2
-overflow_add-result-2 c = omega (arith, capped_small _ _ _ (c.size_type.ensures []), c.requires.1.1)
+pub overflow_add-result-else-room-around : goal.overflow_add-result-else-room-around
+overflow_add-result-else-room-around c = omega (arith, capped_small _ _ _ (c.size_type.ensures []), c.requires.1)
 
-pub returns : goal.returns
-returns c = λ ds. around_is _ _ _ _ c.if-room-around.false (c.size_type.ensures ds)
+pub returns-else-room-around : goal.returns-else-room-around
+returns-else-room-around c = λ ds. around_is _ _ _ _ c.if-room-around.false (c.size_type.ensures ds)

@@ -1,5 +1,5 @@
 -- `fields::read_kind` meets its contract. Assumes nothing.
-use Rattle.std.proofs.Common.{rules, ◌≡◌, arith, refl}
+use Rattle.std.proofs.Common.{rules, arith, refl}
 use Rattle.definition.specs.Reader.{◌>>=◌, go_on, give, refuse, byte_if, read_one}
 use borrow.Author.Tests.{lt-leb}
 use Rattle.definition.specs.Record.{read_kind}
@@ -11,16 +11,16 @@ returns-in_err-u8 c = search rules
 
 pub returns-in-0 : goal.returns-in-0
 unfolding read_kind read_one byte_if ◌>>=◌ go_on give
-returns-in-0 c = rw (← c.u8.ensures, c.in_ok-u8.was, c.in-0.is) refl
+returns-in-0 c = rw (← c.u8.ensures.is, c.in_ok-u8.was, c.in-0.is) refl
 
 pub returns-in-1 : goal.returns-in-1
 unfolding read_kind read_one byte_if ◌>>=◌ go_on give
-returns-in-1 c = rw (← c.u8.ensures, c.in_ok-u8.was, c.in-1.is) refl
+returns-in-1 c = rw (← c.u8.ensures.is, c.in_ok-u8.was, c.in-1.is) refl
 
 pub returns-in-2 : goal.returns-in-2
 unfolding read_kind read_one byte_if ◌>>=◌ go_on give
-returns-in-2 c = rw (← c.u8.ensures, c.in_ok-u8.was, c.in-2.is) refl
+returns-in-2 c = rw (← c.u8.ensures.is, c.in_ok-u8.was, c.in-2.is) refl
 
 pub returns-in_default : goal.returns-in_default
 unfolding read_kind read_one byte_if ◌>>=◌ go_on refuse
-returns-in_default c = rw (← c.u8.ensures, c.in_ok-u8.was, lt-leb c.in_ok-u8.field-0 2 (omega arith)) refl
+returns-in_default c = rw (← c.u8.ensures.is, c.in_ok-u8.was, lt-leb c.in_ok-u8.field-0 2 (omega arith)) refl

@@ -1,8 +1,11 @@
 -- `fields::read_look` meets its contract. Assumes nothing.
-use Rattle.std.proofs.Common.{rules, ◌≡◌, Err, Some, refl}
+use Rattle.std.specs.Option.{option_map}
+use Rattle.std.proofs.Common.{rules, ◌≡◌, Err, refl}
 use Rattle.definition.specs.Reader.{◌>>=◌, go_on, read_one}
 use Rattle.definition.specs.Trees.{read_type}
 use Rattle.fields.proofs.Forms.{one_is, one_look, type_unread}
+use Rattle.fields.specs.declared.What.TheVariants as q
+use Rattle.fields.specs.declared.Look.TheVariants as k
 use Rattle.fields.proofs.read_look.Goals as goal
 
 pub returns-in_err-ty : goal.returns-in_err-ty
@@ -10,8 +13,7 @@ unfolding read_one read_type ◌>>=◌ go_on
 returns-in_err-ty c = let e : c.from_residual.result ≡ Err c.in_err-ty.field-0.0 = search rules in
     rw e (type_unread c.in_err-ty.ensures (λ s ds k x. rw x refl))
 
-pub returns-in-Some : goal.returns-in-Some
-returns-in-Some c = one_is _ (one_look _) (rw c.in-Some.is at c.in_ok-ty.ensures)
-
-pub returns-in-None : goal.returns-in-None
-returns-in-None c = one_is _ (one_look _) (rw c.in-None.is at c.in_ok-ty.ensures)
+pub returns : goal.returns
+returns c =
+    let e : c.map.result ≡ option_map (λ t. q.Look (k.One c.args.m t)) c.in_ok-ty.ty = search rules in
+    rw e (one_is _ (one_look _) c.in_ok-ty.ensures)

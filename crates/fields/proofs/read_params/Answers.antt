@@ -1,5 +1,5 @@
 -- `fields::read_params` meets its contract. Assumes nothing.
-use Rattle.std.proofs.Common.{rules, ◌≡◌, Err, Some, refl}
+use Rattle.std.proofs.Common.{rules, ◌≡◌, Err, refl}
 use Rattle.fields.proofs.Bytes.{params_none, params_more, params_stop, params_all}
 use Rattle.fields.proofs.read_params.Goals as goal
 

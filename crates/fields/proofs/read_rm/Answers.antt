@@ -1,11 +1,11 @@
 -- `fields::read_rm` meets its contract. Assumes nothing.
-use Rattle.std.proofs.Common.{rules, ◌≡◌, Err, Some, refl}
+use Rattle.std.proofs.Common.{rules, ◌≡◌, Err}
 use Rattle.fields.proofs.Forms.{rm_is, rm_unread}
 use Rattle.fields.proofs.read_rm.Goals as goal
 
 pub returns-in_err-sums : goal.returns-in_err-sums
 returns-in_err-sums c = let e : c.from_residual.result ≡ Err c.in_err-sums.field-0.0 = search rules in
-    rw e (rm_unread _ c.requires.0 c.in_err-sums.ensures)
+    rw e (rm_unread _ c.in_err-sums.ensures)
 
 pub returns : goal.returns
-returns c = rm_is _ c.requires.0 c.in_ok-sums.ensures
+returns c = rm_is _ c.in_ok-sums.ensures

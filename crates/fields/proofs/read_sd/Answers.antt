@@ -1,5 +1,5 @@
 -- `fields::read_sd` meets its contract. Assumes nothing.
-use Rattle.std.proofs.Common.{rules, ◌≡◌, Err, Some, refl}
+use Rattle.std.proofs.Common.{rules, ◌≡◌, Err, refl}
 use Rattle.definition.specs.Reader.{◌>>=◌, go_on, give}
 use Rattle.definition.specs.Record.{read_SD}
 use Rattle.reader.specs.Taken.{place_read}
@@ -9,20 +9,20 @@ use Rattle.fields.proofs.read_sd.Goals as goal
 
 pub returns-in_err-byte_to : goal.returns-in_err-byte_to
 unfolding read_SD ◌>>=◌ go_on
-returns-in_err-byte_to c = λ w u known l. let e : c.from_residual.result ≡ Err c.in_err-byte_to.field-0.0 = search rules in
-    rw e (unread_is l (λ s ds k. rw (← c.byte_to.ensures.is, c.in_err-byte_to.was) refl))
+returns-in_err-byte_to c = λ st known. let e : c.from_residual.result ≡ Err c.in_err-byte_to.field-0.0 = search rules in
+    rw e (unread_is (λ s ds k. rw (← c.byte_to.ensures.is, c.in_err-byte_to.was) refl))
 
 pub returns-in_err-many : goal.returns-in_err-many
 unfolding read_SD ◌>>=◌ go_on
-returns-in_err-many c = λ w u known l. let e : c.from_residual-in_err-many.result ≡ Err c.in_err-many.field-0.0 = search rules in
-    rw e (unread_is l (λ s ds k. rw (← c.byte_to.ensures.is, c.in_ok-byte_to.was, ← c.byte_to-2.ensures.is, c.in_err-many.was) refl))
+returns-in_err-many c = λ st known. let e : c.from_residual-in_err-many.result ≡ Err c.in_err-many.field-0.0 = search rules in
+    rw e (unread_is (λ s ds k. rw (← c.byte_to.ensures.is, c.in_ok-byte_to.was, ← c.byte_to-2.ensures.is, c.in_err-many.was) refl))
 
 pub returns-in_err-params : goal.returns-in_err-params
 unfolding read_SD ◌>>=◌ go_on
-returns-in_err-params c = λ w u known l. let e : c.from_residual-in_err-params.result ≡ Err c.in_err-params.field-0.0 = search rules in
-    rw e (unread_is l (λ s ds k. rw (← c.byte_to.ensures.is, c.in_ok-byte_to.was, ← c.byte_to-2.ensures.is, c.in_ok-many.was, ← c.read_params.ensures.is, c.in_err-params.was) refl))
+returns-in_err-params c = λ st known. let e : c.from_residual-in_err-params.result ≡ Err c.in_err-params.field-0.0 = search rules in
+    rw e (unread_is (λ s ds k. rw (← c.byte_to.ensures.is, c.in_ok-byte_to.was, ← c.byte_to-2.ensures.is, c.in_ok-many.was, ← c.read_params.ensures.is, c.in_err-params.was) refl))
 
 pub returns : goal.returns
 unfolding place_read place_record read_SD ◌>>=◌ go_on give
-returns c = λ w u known l. fields_none l c.in_ok-params.ensures.few
+returns c = λ st known. fields_none c.in_ok-params.ensures.few
     (λ s s' ds k. rw (← c.byte_to.ensures.is, c.in_ok-byte_to.was, ← c.byte_to-2.ensures.is, c.in_ok-many.was, ← c.read_params.ensures.is, c.in_ok-params.was) refl)

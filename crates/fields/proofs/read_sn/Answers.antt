@@ -1,5 +1,5 @@
 -- `fields::read_sn` meets its contract. Assumes nothing.
-use Rattle.std.proofs.Common.{rules, ◌≡◌, Err, Some, refl}
+use Rattle.std.proofs.Common.{rules, ◌≡◌, Err, refl}
 use Rattle.definition.specs.Reader.{◌>>=◌, go_on, give, read_two}
 use Rattle.reader.specs.Taken.{place_read}
 use Rattle.fields.specs.Noded.{place_record}
@@ -8,14 +8,14 @@ use Rattle.fields.proofs.read_sn.Goals as goal
 
 pub returns-in_err-v : goal.returns-in_err-v
 unfolding read_two ◌>>=◌ go_on
-returns-in_err-v c = λ w u l. let e : c.from_residual.result ≡ Err c.in_err-v.field-0.0 = search rules in
-    rw e (unread_is l (λ s ds k. rw (k.vars, ← c.name_below.ensures.is, c.in_err-v.was) refl))
+returns-in_err-v c = λ st. let e : c.from_residual.result ≡ Err c.in_err-v.field-0.0 = search rules in
+    rw e (unread_is (λ s ds k. rw (k.vars, ← c.name_below.ensures.is, c.in_err-v.was) refl))
 
 pub returns-in_err-loc : goal.returns-in_err-loc
 unfolding read_two ◌>>=◌ go_on
-returns-in_err-loc c = λ w u l. let e : c.from_residual-in_err-loc.result ≡ Err c.in_err-loc.field-0.0 = search rules in
-    rw e (unread_is l (λ s ds k. rw (k.vars, ← c.name_below.ensures.is, c.in_ok-v.was, ← c.u32.ensures, c.in_err-loc.was) refl))
+returns-in_err-loc c = λ st. let e : c.from_residual-in_err-loc.result ≡ Err c.in_err-loc.field-0.0 = search rules in
+    rw e (unread_is (λ s ds k. rw (k.vars, ← c.name_below.ensures.is, c.in_ok-v.was, ← c.u32.ensures.is, c.in_err-loc.was) refl))
 
 pub returns : goal.returns
 unfolding place_read place_record read_two ◌>>=◌ go_on give
-returns c = λ w u l. fields_none l tt (λ s s' ds k. rw (k.vars, ← c.name_below.ensures.is, c.in_ok-v.was, ← c.u32.ensures, c.in_ok-loc.was) refl)
+returns c = λ st. fields_none tt (λ s s' ds k. rw (k.vars, ← c.name_below.ensures.is, c.in_ok-v.was, ← c.u32.ensures.is, c.in_ok-loc.was) refl)

@@ -1,9 +1,11 @@
 -- `fields::read_two` meets its contract. Assumes nothing.
+use Rattle.std.specs.Option.{option_map}
 use Rattle.std.proofs.Common.{rules, ◌≡◌, Err, is_none, unwrap_or, refl}
 use Rattle.definition.specs.Reader.{◌>>=◌, go_on, read_two}
 use Rattle.definition.specs.Trees.{read_type}
-use Rattle.heads.specs.Fields.{Arities}
 use Rattle.fields.proofs.Forms.{two_is, two_unread, type_unread}
+use Rattle.fields.specs.declared.What.TheVariants as q
+use Rattle.fields.specs.declared.Bind.TheVariants as d
 use Rattle.fields.proofs.read_two.Goals as goal
 
 pub returns-in_err-lhs : goal.returns-in_err-lhs
@@ -16,12 +18,8 @@ returns-in_err-rhs c = let e : c.from_residual-in_err-rhs.result ≡ Err c.in_er
     let a : c.is_none.result ≡ is_none c.in_ok-lhs.lhs = search rules in
     rw e (two_unread _ c.args.m c.in_ok-lhs.ensures (rw a at c.in_err-rhs.ensures))
 
-pub returns-in-Some : goal.returns-in-Some
-returns-in-Some c = let a : c.is_none.result ≡ is_none c.in_ok-lhs.lhs = search rules in
+pub returns : goal.returns
+returns c = let a : c.is_none.result ≡ is_none c.in_ok-lhs.lhs = search rules in
     let b : c.unwrap_or-first.result ≡ unwrap_or c.in_ok-lhs.lhs 0 = search rules in
-    rw b (two_is _ c.args.m c.in_ok-lhs.ensures (rw (a, c.in-Some.is) at c.in_ok-rhs.ensures))
-
-pub returns-in-None : goal.returns-in-None
-returns-in-None c = let a : c.is_none.result ≡ is_none c.in_ok-lhs.lhs = search rules in
-    let b : c.unwrap_or-first.result ≡ unwrap_or c.in_ok-lhs.lhs 0 = search rules in
-    two_is _ c.args.m c.in_ok-lhs.ensures (rw (a, c.in-None.is) at c.in_ok-rhs.ensures)
+    let e : c.map.result ≡ option_map (λ t. q.Bind (d.Two c.args.m c.unwrap_or-first.result t)) c.in_ok-rhs.rhs = search rules in
+    rw (e, b) (two_is _ c.args.m c.in_ok-lhs.ensures (rw a at c.in_ok-rhs.ensures))

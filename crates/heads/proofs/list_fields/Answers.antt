@@ -13,8 +13,8 @@ returns-in_err-k-clause-begins c = λ s loc part. rw (list_is s part loc _) (sea
 
 pub returns-in_err-byte_to-clause-begins : goal.returns-in_err-byte_to-clause-begins
 unfolding ◌>>=◌ go_on
-returns-in_err-byte_to-clause-begins c = λ s loc part. rw (list_is s part loc _, ← c.read_mark.ensures, c.in_ok-k.was) (search rules)
+returns-in_err-byte_to-clause-begins c = λ s loc part. rw (list_is s part loc _, ← c.read_mark.ensures.is, c.in_ok-k.was) (search rules)
 
 pub returns-clause-begins : goal.returns-clause-begins
 unfolding read_args arity mark_fits ◌>>=◌ go_on is_numeric
-returns-clause-begins c = λ s loc part. rw (list_is s part loc _, ← c.read_mark.ensures, c.in_ok-k.was, ← c.byte_to.ensures.is, c.in_ok-byte_to.was, ← c.from-n.ensures) refl
+returns-clause-begins c = λ s loc part. rw (list_is s part loc _, ← c.read_mark.ensures.is, c.in_ok-k.was, ← c.byte_to.ensures.is, c.in_ok-byte_to.was, ← c.from-n.ensures) refl

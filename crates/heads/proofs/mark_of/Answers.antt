@@ -1,6 +1,6 @@
 -- `heads::mark_of` meets its contract. Assumes nothing.
 use Rattle.std.proofs.Common.{None, ◌≡◌, ◌<◌, ◌-◌, ℕ, refl, arith}
-use borrow.Author.Tests.{eq-eqb, ne_eqb, le-leb, lt-leb}
+use borrow.Author.Tests.{ne_eqb, le-leb, lt-leb}
 use Rattle.definition.specs.Trees.{mark_of}
 use Rattle.heads.proofs.mark_of.Goals as goal
 

@@ -1,5 +1,5 @@
 -- `heads::read_head` meets its contract. Assumes nothing.
-use Rattle.std.proofs.Common.{rules, ◌<◌, refl, arith}
+use Rattle.std.proofs.Common.{rules, ◌<◌, arith}
 use Rattle.definition.specs.Reader.{go_on}
 use Rattle.heads.proofs.Heads.{read_deep, no_nest}
 use Rattle.heads.proofs.read_head.Goals as goal

@@ -1,5 +1,5 @@
 -- `heads::read_mark` meets its contract. Assumes nothing.
-use Rattle.std.proofs.Common.{rules, ◌≡◌, Option, Some, None, Result, Ok, Err, ℕ, refl, ap, ◌∙◌}
+use Rattle.std.proofs.Common.{rules, ◌≡◌, Option, Some, None, Result, ℕ, refl, ap, ◌∙◌}
 use Rattle.std.specs.Option.{ok_or}
 use Rattle.definition.specs.Types as d
 use Rattle.definition.specs.Types.{malformed}
@@ -14,9 +14,9 @@ use Rattle.cursor.specs.declared.ReadError.TheVariants.{Malformed}
 use Rattle.heads.specs.Fields.{marked}
 use Rattle.heads.proofs.read_mark.Goals as goal
 
-pub returns-in_err-byte : goal.returns-in_err-byte
+pub returns-in_err-byte-clause-is : goal.returns-in_err-byte-clause-is
 unfolding read_mark ◌>>=◌ go_on
-returns-in_err-byte c = search rules
+returns-in_err-byte-clause-is c = search rules
 
 abbrev pick : Option d.AbilityMark → Reader d.AbilityMark
 pick o = elim o [ None ↦ refuse malformed | Some k ↦ give k ]
@@ -30,5 +30,5 @@ step : (o : Option (Option AbilitySet)) (x : ℕ) (l m : Bytes) (r : Result (Opt
 unfolding read_mark ◌>>=◌ go_on
 step o x l m r e f q = rw q (picked o m ∙ ap (λ (k : Option d.AbilityMark). pick k m) e ∙ rw (← f) refl)
 
-pub returns : goal.returns
-returns c = step _ _ _ _ _ c.mark_of.ensures (rw c.in_ok-byte.was at c.u8.ensures) c.ok_or.ensures.value
+pub returns-clause-is : goal.returns-clause-is
+returns-clause-is c = step _ _ _ _ _ (rw c.from.ensures at c.mark_of.ensures) (rw c.in_ok-byte.was at c.u8.ensures.is) c.ok_or.ensures.value

@@ -15,21 +15,21 @@ returns-in_err-k-clause-begins c = λ s de loc part. rw (struct_is s part loc _)
 
 pub returns-in_err-name_below-clause-begins : goal.returns-in_err-name_below-clause-begins
 unfolding ◌>>=◌ go_on
-returns-in_err-name_below-clause-begins c = λ s de loc part. rw (struct_is s part loc _, ← c.read_mark.ensures, c.in_ok-k.was, de.many) (search rules)
+returns-in_err-name_below-clause-begins c = λ s de loc part. rw (struct_is s part loc _, ← c.read_mark.ensures.is, c.in_ok-k.was, de.many) (search rules)
 
 pub returns-clause-begins : goal.returns-clause-begins
 unfolding read_args arity struct_tparams mark_fits is_numeric ◌>>=◌ go_on
 returns-clause-begins c = λ s de loc part.
     rw (
       struct_is s part loc _,
-      ← c.read_mark.ensures,
+      ← c.read_mark.ensures.is,
       c.in_ok-k.was,
       de.many,
       ← c.name_below.ensures.is,
       c.in_ok-name_below.was,
       ← c.from-n.ensures,
-      (c.struct_at-row.ensures s.structs de).1,
+      (c.struct_at-many.ensures s.structs de).1,
     ) refl
 
 pub returns-clause-few : goal.returns-clause-few
-returns-clause-few c = arity_fits _ _ _ _ c.requires.1 (c.struct_at-row.ensures _ (declares_self _ _)).1
+returns-clause-few c = arity_fits _ _ _ _ c.requires (c.struct_at-many.ensures _ (declares_self _ _)).1

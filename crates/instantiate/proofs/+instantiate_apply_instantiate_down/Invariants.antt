@@ -2,9 +2,9 @@
 use lib.ListN.{take}
 use Rattle.definition.specs.Instantiate as D
 use Rattle.names.specs.Names.{mark_of, name_of}
-use Rattle.shapes.proofs.Levels.{Through}
-use Rattle.table.specs.Known.{Known}
+use Rattle.shapes.proofs.Going.{Going}
 use Rattle.instantiate.specs.Args.{joined}
+use Rattle.instantiate.proofs.MadeLaws.{KnownTo}
 use Prim.Native.Nat.{◌+◌, ◌*◌}
 use Rattle.instantiate.proofs.+instantiate_apply_instantiate_down.Given as goal
 
@@ -15,4 +15,5 @@ abbrev pub decreases-instantiate_down : goal.decreases-instantiate_down
 decreases-instantiate_down l = 2 * l.left
 
 abbrev pub invariant-instantiate_apply-loop-i : goal.invariant-instantiate_apply-loop-i
-invariant-instantiate_apply-loop-i l = Through (Known l.initial.w l.initial.v l.params) (D.instantiate_down l.left) (joined l.loc (mark_of l.ty.k) (name_of l.ty.n) (take l.b.many l.b.tvars)) l.ty.first l.ty.many l.initial.w l.initial.v l.w l.v l.parts l.i
+invariant-instantiate_apply-loop-i l =
+    Going (KnownTo l.initial.st l.params) (D.instantiate_down l.left) (joined l.loc (mark_of l.ty.k) (name_of l.ty.n) (take l.tparams.many l.tparams.tvars)) l.ty.first l.ty.many l.initial.st l.st l.parts l.i

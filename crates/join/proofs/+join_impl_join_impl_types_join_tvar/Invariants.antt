@@ -15,4 +15,4 @@ abbrev pub decreases-join_tvar : goal.decreases-join_tvar
 decreases-join_tvar l = l.left + l.left + 1
 
 abbrev pub invariant-join_impl_types-loop-i : goal.invariant-join_impl_types-loop-i
-invariant-join_impl_types-loop-i l = Gathering l.left (case_of l.case) l.initial.w l.initial.at l.t1 l.t2 l.n l.w l.at l.tys l.i
+invariant-join_impl_types-loop-i l = Gathering l.left (case_of l.case) l.t1 l.t2 l.many l.initial.st l.st l.tys l.i

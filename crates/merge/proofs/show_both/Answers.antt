@@ -1,26 +1,25 @@
 -- `merge::show_both` meets its contract. Assumes nothing.
-use Rattle.table.proofs.Grown.{still_in}
-use Rattle.merge.proofs.Laws.{show_no_first, show_no_second, show_done}
+use mathlib.Core.Path.{refl}
+use native.Mathlib.Omega.{arith}
+use Rattle.std.proofs.Common.{rules}
+use Rattle.table.specs.State.{outcome}
+use Rattle.table.proofs.Did.{nodes_more, did_now, did_err, did_then}
+use Rattle.merge.specs.Merge.{show_both}
 use Rattle.merge.proofs.show_both.Goals as goal
 
-pub returns-in_default : goal.returns-in_default
-returns-in_default c = show_no_first _ _ _ _ _ _ _ _ _ c.shown-a.ensures c.done_of.ensures c.in_default.is
+pub returns-in_err-shown1 : goal.returns-in_err-shown1
+unfolding show_both
+returns-in_err-shown1 c = did_err _ c.in_err-shown1.ensures (search rules)
 
-pub shown-b-requires : goal.shown-b-requires
-shown-b-requires c = let pre = c.requires in
-    let shown = c.shown-a in
-    (shown.ensures.changed.lay, still_in _ _ _ _ _ shown.ensures.changed.grown pre.1.1)
+pub shown-requires-2 : goal.shown-requires-2
+shown-requires-2 c = omega (arith, c.requires.1, nodes_more c.in_ok-shown1.ensures.changed)
 
-pub returns-in_default-done_of : goal.returns-in_default-done_of
-returns-in_default-done_of c = let shown = c.shown-a in
-    let done_of = c.done_of in
-    let shown2 = c.shown-b in
-    show_no_second _ _ _ _ _ _ _ _ _ shown.ensures done_of.ensures _ c.in-Some.is _ _ _ shown2.ensures
-    c.done_of-2.ensures c.in_default-done_of.is
+pub returns-in_err-shown2 : goal.returns-in_err-shown2
+unfolding show_both
+returns-in_err-shown2 c = did_then _ c.in_ok-shown1.ensures (did_err _ c.in_err-shown2.ensures (search rules))
 
 pub returns : goal.returns
-returns c = let shown = c.shown-a in
-    let done_of = c.done_of in
-    let shown2 = c.shown-b in
-    rw c.stay.ensures (show_done _ _ _ _ _ _ _ _ _ shown.ensures done_of.ensures _ c.in-Some.is _ _ _ shown2.ensures
-    c.done_of-2.ensures _ c.in-Some-done_of.is)
+unfolding show_both outcome
+returns c =
+    did_then _ c.in_ok-shown1.ensures (did_then _ c.in_ok-shown2.ensures
+    (did_now (omega (arith, c.in_ok-shown1.ensures.inside, nodes_more c.in_ok-shown2.ensures.changed), c.in_ok-shown2.ensures.inside) (λ ds k. refl)))

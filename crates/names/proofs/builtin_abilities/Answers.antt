@@ -1,16 +1,18 @@
 -- `names::builtin_abilities` meets its contract. Assumes nothing.
-use borrow.Author.Tests.{eq-eqb, ne_eqb}
+use mathlib.Core.Path.{refl}
+use borrow.Author.Tests.{ne_eqb}
+use native.Mathlib.Omega.{arith}
 use Rattle.definition.specs.Abilities.{primitives, signer, collection, builtin_abilities}
 use Rattle.names.proofs.builtin_abilities.Goals as goal
 
-pub returns-then-b-eq1 : goal.returns-then-b-eq1
+pub returns-in-1 : goal.returns-in-1
 unfolding builtin_abilities signer
-returns-then-b-eq1 c = simp (eq-eqb _ _ c.if-b-eq1.true)
+returns-in-1 c = rw c.in-1.is refl
 
-pub returns-then-b-eq5 : goal.returns-then-b-eq5
+pub returns-in-5 : goal.returns-in-5
 unfolding builtin_abilities collection
-returns-then-b-eq5 c = simp (ne_eqb _ _ c.if-b-eq1.false, eq-eqb _ _ c.if-b-eq5.true)
+returns-in-5 c = rw c.in-5.is refl
 
-pub returns : goal.returns
+pub returns-in_default : goal.returns-in_default
 unfolding builtin_abilities primitives
-returns c = simp (ne_eqb _ _ c.if-b-eq1.false, ne_eqb _ _ c.if-b-eq5.false)
+returns-in_default c = simp (ne_eqb c.args.b 1 (λ e. omega arith), ne_eqb c.args.b 5 (λ e. omega arith))

@@ -7,6 +7,6 @@ pub returns-then-ability-eq8 : goal.returns-then-ability-eq8
 unfolding requires
 returns-then-ability-eq8 c = simp (eq-eqb _ _ c.if-ability-eq8.true)
 
-pub returns : goal.returns
+pub returns-else-ability-eq8 : goal.returns-else-ability-eq8
 unfolding requires
-returns c = simp (ne_eqb _ _ c.if-ability-eq8.false)
+returns-else-ability-eq8 c = simp (ne_eqb _ _ c.if-ability-eq8.false)

@@ -10,4 +10,4 @@ abbrev pub decreases-count_type : goal.decreases-count_type
 decreases-count_type l = 2 * l.nest
 
 abbrev pub invariant-count_parts-loop-i : goal.invariant-count_parts-loop-i
-invariant-count_parts-loop-i l = Going l.w l.u l.initial.r.left.now l.known l.nest l.args l.initial.all l.n l.r.left.now l.all l._i
+invariant-count_parts-loop-i l = Going l.st l.initial.r.left.now l.known l.nest l.args l.initial.all l.n l.r.left.now l.all l._i

@@ -1,5 +1,5 @@
 -- `payload::two_size` meets its contract. Assumes nothing.
-use Rattle.table.specs.State.{seen}
+use Rattle.table.specs.Did.{held}
 use Rattle.definition.specs.Write.{write}
 use mathlib.Core.List.{[]}
 use native.Mathlib.Omega.{arith}
@@ -9,14 +9,14 @@ use Rattle.payload.proofs.two_size.Goals as goal
 
 pub returns-then-n-gt-MAX_PAYLOAD : goal.returns-then-n-gt-MAX_PAYLOAD
 returns-then-n-gt-MAX_PAYLOAD c = let args = c.args in
-    λ ds. two_long (write (seen args.w.now args.u ds) args.a)
-    (write (seen args.w.now args.u ds) args.b) _ (c.size_type-n.ensures ds) c.if-n-gt-MAX_PAYLOAD.true
+    λ ds. two_long (write (held args.st.now ds) args.a)
+    (write (held args.st.now ds) args.b) _ (c.size_type-n.ensures ds) c.if-n-gt-MAX_PAYLOAD.true
 
 pub overflow_add-result-2 : goal.overflow_add-result-2
 overflow_add-result-2 c = omega (arith, capped_small _ _ _ (c.size_type-m.ensures []))
 
 pub returns : goal.returns
 returns c = let args = c.args in
-    λ ds. two_short (write (seen args.w.now args.u ds) args.a)
-    (write (seen args.w.now args.u ds) args.b) _ _ (c.size_type-n.ensures ds)
+    λ ds. two_short (write (held args.st.now ds) args.a)
+    (write (held args.st.now ds) args.b) _ _ (c.size_type-n.ensures ds)
     c.if-n-gt-MAX_PAYLOAD.false (c.size_type-m.ensures ds)

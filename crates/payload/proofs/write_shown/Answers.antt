@@ -5,22 +5,22 @@ use native.Mathlib.Omega.{arith}
 use Rattle.payload.proofs.write_shown.Goals as goal
 
 pub tvar-requires : goal.tvar-requires
-tvar-requires c = omega (arith, rw c.in-Variable.is at c.requires.lay.1.0, c.requires.lay.0.vars)
+tvar-requires c = omega (arith, rw c.in-Variable.is at c.requires.shows.0, c.args.st.now.lay.vars)
 
 pub write_head-requires : goal.write_head-requires
-write_head-requires c = (tt, omega (arith, length_variable c.in-Variable.loc c.tvar.result.0, c.requires.lay.1.1.1))
+write_head-requires c = (tt, omega (arith, length_variable c.in-Variable.loc c.tvar.result.0, c.requires.shows.1.1))
 
 pub write_type-requires : goal.write_type-requires
 write_type-requires c = let args = c.args in
-    let pre = c.requires in record { lay = (pre.lay.0, (rw c.in-Node.is at pre.lay.1.0, pre.lay.1.1.0)); fits = λ ds. omega (arith, node_fits args.show args.t _ c.in-Node.is (pre.fits ds), pre.lay.1.1.1) }
+    let pre = c.requires in record { all_bytes = (rw c.in-Node.is at pre.shows.0, pre.shows.1.0); fits = λ ds. omega (arith, node_fits args.show args.t _ c.in-Node.is (pre.fits ds), pre.shows.1.1) }
 
 pub write_head-requires-in-Anything : goal.write_head-requires-in-Anything
-write_head-requires-in-Anything c = (tt, omega (arith, length_anything c.in-Anything.loc, c.requires.lay.1.1.1))
+write_head-requires-in-Anything c = (tt, omega (arith, length_anything c.in-Anything.loc, c.requires.shows.1.1))
 
 pub write_two-requires : goal.write_two-requires
 write_two-requires c = let args = c.args in
     let pre = c.requires in
-    let in_use = rw c.in-Two.is at pre.lay.1.0 in record { lay = (pre.lay.0, (in_use.0, (in_use.1, pre.lay.1.1))); fits = λ ds. types_fit args.show args.t _ _ _ c.in-Two.is (pre.fits ds) }
+    let in_use = rw c.in-Two.is at pre.shows.0 in record { in_use = (in_use.0, (in_use.1, pre.shows.1)); fits = λ ds. types_fit args.show args.t _ _ _ c.in-Two.is (pre.fits ds) }
 
 pub returns-in-Nothing : goal.returns-in-Nothing
 unfolding shown

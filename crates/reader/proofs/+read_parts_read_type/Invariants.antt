@@ -10,4 +10,4 @@ abbrev pub decreases-read_type : goal.decreases-read_type
 decreases-read_type l = 2 * l.nest
 
 abbrev pub invariant-read_parts-loop-i : goal.invariant-read_parts-loop-i
-invariant-read_parts-loop-i l = Going l.initial.w l.initial.u l.initial.r.left.now l.known l.nest l.initial.over l.n l.w l.u l.r.left.now l.over l.parts l.i
+invariant-read_parts-loop-i l = Going l.initial.st l.initial.r.left.now l.known l.nest l.initial.over l.n l.st l.r.left.now l.over l.parts l.i

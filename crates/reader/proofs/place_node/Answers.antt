@@ -9,7 +9,7 @@ use denote.Enum.Declared.{tag_of}
 use types.Run.{OneOf}
 use Rattle.definition.specs.Types as d
 use Rattle.definition.specs.Store.{sp}
-use Rattle.table.proofs.Steps.{after_is}
+use Rattle.table.proofs.Did.{did_is}
 use Rattle.table.specs.contracts.Shape.{the_type}
 use Rattle.table.specs.declared.Shape.{Shape}
 use Rattle.table.specs.State.{value_of, Flat}
@@ -32,21 +32,21 @@ unfolding put_node
 bare-put loc h tys s k = ap (λ (v : d.TypeValue). sp s loc v) (bare-value tys h k)
 
 pub push_node-requires : goal.push_node-requires
-push_node-requires c = (c.requires.0, c.requires.1.1 0 (rw c.in-Ref.is (omega arith)))
+push_node-requires c = c.requires.1 0 (rw c.in-Ref.is (omega arith))
 
 pub push_apply-requires : goal.push_apply-requires
-push_apply-requires c = let pre = c.requires in (pre.0, record { few = rw c.in-Apply.is at pre.1.0; below = rw c.in-Apply.is at pre.1.1 })
+push_apply-requires c = let pre = c.requires in record { few = rw c.in-Apply.is at pre.0; below = rw c.in-Apply.is at pre.1 }
 
 pub push_node-requires-in_default : goal.push_node-requires-in_default
-push_node-requires-in_default c = (c.requires.0, bare-flat _ c.args.head.shape (opened c.in_default.in_default-own.keys3))
+push_node-requires-in_default c = bare-flat _ c.args.head.shape (opened c.in_default.in_default-own.keys3)
 
 pub returns-in-Ref : goal.returns-in-Ref
 unfolding put_node
-returns-in-Ref c = after_is (λ ds k. rw (c.in-Ref.is, get_or-take 1 c.args.parts 0 0 (omega arith)) refl) c.push_node.ensures
+returns-in-Ref c = did_is (λ ds k. rw (c.in-Ref.is, get_or-take 1 c.args.parts 0 0 (omega arith)) refl) c.push_node.ensures
 
 pub returns-in-Apply : goal.returns-in-Apply
 unfolding put_node
-returns-in-Apply c = after_is (λ ds k. rw c.in-Apply.is refl) c.push_apply.ensures
+returns-in-Apply c = did_is (λ ds k. rw c.in-Apply.is refl) c.push_apply.ensures
 
 pub returns-in_default : goal.returns-in_default
-returns-in_default c = after_is (λ ds k. bare-put _ c.args.head.shape _ _ (opened c.in_default.in_default-own.keys3)) c.push_node-in_default.ensures
+returns-in_default c = did_is (λ ds k. bare-put _ c.args.head.shape _ _ (opened c.in_default.in_default-own.keys3)) c.push_node-in_default.ensures

@@ -3,4 +3,4 @@ use Rattle.ready.proofs.Run.{Coming}
 use Rattle.ready.proofs.land.Given as goal
 
 abbrev pub invariant-loop-calls : goal.invariant-loop-calls
-invariant-loop-calls l = Coming l.w l.u l.t l.left l.at l.calls
+invariant-loop-calls l = Coming l.st l.t l.left l.node l.calls

@@ -3,4 +3,4 @@ use Rattle.ready.proofs.Run.{part_of}
 use Rattle.ready.proofs.part_of.Goals as goal
 
 pub returns : goal.returns
-returns c = part_of _ _ _ c.requires.0 c.requires.1 c.node_at-n.result c.node_at-n.ensures _ _ c.part_at.ensures
+returns c = part_of c.args.st.now _ c.requires c.node_at-n.result c.node_at-n.ensures _ _ c.part_at.ensures

@@ -3,4 +3,4 @@ use Rattle.ends.proofs.Ends.{known_none}
 use Rattle.ready.proofs.ready_near.Goals as goal
 
 pub ready-requires : goal.ready-requires
-ready-requires c = (c.requires.0, (c.requires.1, known_none 1))
+ready-requires c = (c.requires, known_none 0)

@@ -5,13 +5,12 @@ use Rattle.ready.proofs.Run.{goes_plain, goes_open, goes_bound}
 use Rattle.ready.proofs.ready_onward.Goals as goal
 
 pub returns-in-None : goal.returns-in-None
-returns-in-None c = goes_open _ _ _ _ _ c.in-Var.is c.chain_end-last.ensures _ c.bound_at.ensures c.in-None.is
+returns-in-None c = goes_open _ _ _ _ c.in-Var.is c.end-last.ensures _ c.bound_at.ensures c.in-None.is
 
 pub returns-in-Some : goal.returns-in-Some
-returns-in-Some c = let chain_end = c.chain_end-last in
+returns-in-Some c = let end = c.end-last in
     let bound_at = c.bound_at in
-    let pre = c.requires in
-    goes_bound _ _ _ _ _ c.in-Var.is chain_end.ensures _ bound_at.ensures pre.0 _ c.in-Some.is
+    goes_bound _ _ _ _ c.in-Var.is end.ensures _ bound_at.ensures _ c.in-Some.is
 
 pub returns-in_default : goal.returns-in_default
-returns-in_default c = goes_plain _ _ c.args.s _ (no_var c.args.s (opened c.in_default.in_default-own.keys2)) c.part_count.ensures
+returns-in_default c = goes_plain _ c.args.s _ (no_var c.args.s (opened c.in_default.in_default-own.keys2)) c.part_count.ensures

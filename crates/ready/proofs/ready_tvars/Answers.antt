@@ -5,4 +5,4 @@ use Rattle.ready.proofs.Run.{run_on}
 use Rattle.ready.proofs.ready_tvars.Goals as goal
 
 pub returns-then-near_over : goal.returns-then-near_over
-returns-then-near_over c = run_on _ _ _ c.requires.0 false (c.near_over.ensures c.if-near_over.true) refl _ _ c.ready_near.ensures
+returns-then-near_over c = run_on _ _ false (c.near_over.ensures c.if-near_over.true) refl c.ready_near.ensures

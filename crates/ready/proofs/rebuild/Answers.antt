@@ -5,26 +5,22 @@ use Rattle.ready.proofs.rebuild.Goals as goal
 
 pub push_node-requires : goal.push_node-requires
 push_node-requires c = let pre = c.requires in
-    let node_at = c.node_at-n in (
-      pre.0,
-      rw c.widened-tys.ensures
-          (ref_in _ _ _ pre.0 pre.1.0 node_at.result node_at.ensures _ pre.1.1.0 _ _
-          c.in-Ref.is _ pre.1.1.1),
-    )
+    let node_at = c.node_at-n in
+    ref_in c.args.st.now _ pre.0 node_at.result node_at.ensures _ pre.1.0 _ _ c.in-Ref.is _ pre.1.1
 
 pub returns-in-Ref : goal.returns-in-Ref
 returns-in-Ref c = let pre = c.requires in
     let node_at = c.node_at-n in
-    anew_ref _ _ _ pre.0 pre.1.0 node_at.result node_at.ensures _ pre.1.1.0 _ _ c.in-Ref.is _ _ _
-    (rw c.widened-tys.ensures at c.push_node.ensures)
+    anew_ref _ _ pre.0 node_at.result node_at.ensures _ pre.1.0 _ _ c.in-Ref.is _
+    c.push_node.ensures
 
 pub returns-in-Apply : goal.returns-in-Apply
 returns-in-Apply c = let pre = c.requires in
     let node_at = c.node_at-n in
-    anew_apply _ _ _ pre.0 pre.1.0 node_at.result node_at.ensures _ pre.1.1.0 _ _ _ _ c.in-Apply.is _
-    _ _ (rw c.widened-tys.ensures at c.push_apply.ensures)
+    anew_apply _ _ pre.0 node_at.result node_at.ensures _ pre.1.0 _ _ _ _ c.in-Apply.is _
+    c.push_apply.ensures
 
 pub returns-in_default : goal.returns-in_default
 returns-in_default c = let pre = c.requires in
     let node_at = c.node_at-n in
-    rw c.stay.ensures (anew_stays _ _ _ pre.0 pre.1.0 node_at.result node_at.ensures _ (rebuilt_plain node_at.result.shape (opened c.in_default.in_default-own.keys3) _ _))
+    anew_stays _ _ pre.0 node_at.result node_at.ensures _ (rebuilt_plain node_at.result.shape (opened c.in_default.in_default-own.keys3) _ _)

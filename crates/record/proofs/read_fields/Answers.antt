@@ -8,17 +8,21 @@ use Rattle.record.proofs.read_fields.Goals as goal
 pub returns-in_err-first : goal.returns-in_err-first
 unfolding read_fields ◌>>=◌ go_on
 returns-in_err-first c = let e : c.from_residual.result ≡ Err c.in_err-first.field-0.0 = search rules in
-    rw e (unread_is c.requires.0 (λ s ds k. rw (← c.u8.ensures, c.in_err-first.was) refl))
+    rw e (unread_is (λ s ds k. rw (← c.u8.ensures.is, c.in_err-first.was) refl))
 
 pub returns-in_err-second : goal.returns-in_err-second
 unfolding read_fields ◌>>=◌ go_on
 returns-in_err-second c = let e : c.from_residual-in_err-second.result ≡ Err c.in_err-second.field-0.0 = search rules in
-    rw e (unread_is c.requires.0 (λ s ds k. rw (← c.u8.ensures, c.in_ok-first.was, ← c.u8-2.ensures, c.in_err-second.was) refl))
+    rw e (unread_is (λ s ds k. rw (← c.u8.ensures.is, c.in_ok-first.was, ← c.u8-2.ensures.is, c.in_err-second.was) refl))
 
 pub returns-in_default : goal.returns-in_default
 unfolding read_fields ◌>>=◌ go_on refuse
-returns-in_default c = unread_is c.requires.0 (λ s ds k. rw (← c.u8.ensures, c.in_ok-first.was, ← c.u8-2.ensures, c.in_ok-second.was, ← c.mark_of.ensures s, c.in_default.is) refl)
+returns-in_default c = unread_is (λ s ds k.
+    let m = rw (c.from.ensures, c.from-2.ensures) at (c.mark_of.ensures s) in
+    rw (← c.u8.ensures.is, c.in_ok-first.was, ← c.u8-2.ensures.is, c.in_ok-second.was, ← m, c.in_default.is) refl)
 
 pub returns : goal.returns
 unfolding read_fields ◌>>=◌ go_on
-returns c = fields_is (λ ds s d k. rw (← c.u8.ensures, c.in_ok-first.was, ← c.u8-2.ensures, c.in_ok-second.was, ← c.mark_of.ensures s, c.in-Some.is) refl) c.fields_of.ensures
+returns c = fields_is (λ ds s d k.
+    let m = rw (c.from.ensures, c.from-2.ensures) at (c.mark_of.ensures s) in
+    rw (← c.u8.ensures.is, c.in_ok-first.was, ← c.u8-2.ensures.is, c.in_ok-second.was, ← m, c.in-Some.is) refl) c.fields_of.ensures

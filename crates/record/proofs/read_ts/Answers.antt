@@ -8,7 +8,7 @@ use Rattle.record.proofs.read_ts.Goals as goal
 pub returns-in_err-many : goal.returns-in_err-many
 unfolding read_TS ◌>>=◌ go_on
 returns-in_err-many c = let e : c.from_residual.result ≡ Err c.in_err-many.field-0.0 = search rules in
-    rw e (unread_is c.requires.0 (λ s ds k. rw (← c.byte_to.ensures.is, c.in_err-many.was) refl))
+    rw e (unread_is (λ s ds k. rw (← c.byte_to.ensures.is, c.in_err-many.was) refl))
 
 pub returns : goal.returns
 unfolding read_TS ◌>>=◌ go_on

@@ -20,4 +20,4 @@ returns-in-LocType c = rw c.in-LocType.is c.run_loc_type.ensures
 
 pub returns-in-RM : goal.returns-in-RM
 unfolding run_of step_of
-returns-in-RM c = rw c.in-RM.is c.run_needs.ensures
+returns-in-RM c = rw c.in-RM.is (c.run_needs.ensures c.args.st.now)

@@ -4,10 +4,10 @@ use Rattle.run.proofs.Arms.{narrow}
 use Rattle.run.proofs.run_bind.Goals as goal
 
 pub run_two-requires : goal.run_two-requires
-run_two-requires c = (c.requires.0, rw c.in-Two.is at c.requires.1)
+run_two-requires c = rw c.in-Two.is at c.requires
 
 pub run_instantiate-requires : goal.run_instantiate-requires
-run_instantiate-requires c = (c.requires.0, rw c.in-IN.is at c.requires.1)
+run_instantiate-requires c = rw c.in-IN.is at c.requires
 
 pub returns-in-SN : goal.returns-in-SN
 unfolding run_of step_of

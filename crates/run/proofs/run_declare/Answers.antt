@@ -3,4 +3,4 @@ use Rattle.run.proofs.Laws.{ran_declare}
 use Rattle.run.proofs.run_declare.Goals as goal
 
 pub returns : goal.returns
-returns c = ran_declare c.push_struct-a.ensures c.shown.ensures
+returns c = ran_declare c.push_struct.ensures c.shown.ensures

@@ -3,13 +3,13 @@ use Rattle.run.specs.Dispatch.{run_of, step_of}
 use Rattle.run.proofs.run_look.Goals as goal
 
 pub run_unfold-requires : goal.run_unfold-requires
-run_unfold-requires c = (c.requires.0, rw c.in-One.is at c.requires.1)
+run_unfold-requires c = rw c.in-One.is at c.requires
 
 pub run_ready-requires : goal.run_ready-requires
-run_ready-requires c = (c.requires.0, rw c.in-One.is at c.requires.1)
+run_ready-requires c = rw c.in-One.is at c.requires
 
 pub run_tparams-requires : goal.run_tparams-requires
-run_tparams-requires c = let h = rw c.in-TS.is at c.requires.1 in (c.requires.0, (h.1, h.0))
+run_tparams-requires c = let h = rw c.in-TS.is at c.requires in (h.1, h.0)
 
 pub returns-in-UF : goal.returns-in-UF
 unfolding run_of step_of

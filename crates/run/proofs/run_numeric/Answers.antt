@@ -3,4 +3,4 @@ use Rattle.run.proofs.Laws.{ran_constraint}
 use Rattle.run.proofs.run_numeric.Goals as goal
 
 pub returns : goal.returns
-returns c = ran_constraint _ _ c.numeric_constraint-a.ensures c.shown.ensures
+returns c = ran_constraint _ c.numeric_constraint.ensures c.listed.ensures

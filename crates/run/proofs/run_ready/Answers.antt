@@ -3,4 +3,4 @@ use Rattle.run.proofs.Laws.{ran_ready}
 use Rattle.run.proofs.run_ready.Goals as goal
 
 pub returns : goal.returns
-returns c = ran_ready _ c.ready_tvars-a.ensures c.shown.ensures
+returns c = ran_ready _ c.ready_tvars.ensures c.shown.ensures

@@ -5,15 +5,15 @@ use Rattle.run.proofs.Laws.{ran_tparams, ran_twice}
 use Rattle.run.proofs.run_tparams.Goals as goal
 
 pub make_tparam_subst-requires : goal.make_tparam_subst-requires
-make_tparam_subst-requires c = c.requires.1.1.few
+make_tparam_subst-requires c = c.requires.1.few
 
-pub subst_tparams-a-requires : goal.subst_tparams-a-requires
-subst_tparams-a-requires c = let pre = c.requires in
+pub subst_tparams-requires : goal.subst_tparams-requires
+subst_tparams-requires c =
     let kept = c.make_tparam_subst.ensures.kept _ c.in-Some.is in
-    (pre.0, (pre.1.0, rw (kept.0, kept.1) pre.1.1))
+    (c.requires.0, rw (kept.0, kept.1) c.requires.1)
 
 pub returns-in-Some : goal.returns-in-Some
-returns-in-Some c = ran_tparams _ _ _ (sym (ap made c.in-Some.is) ∙ c.make_tparam_subst.ensures.made) c.subst_tparams-a.ensures c.shown.ensures
+returns-in-Some c = ran_tparams _ _ _ (sym (ap made c.in-Some.is) ∙ c.make_tparam_subst.ensures.made) c.subst_tparams.ensures c.shown.ensures
 
 pub returns-in-None : goal.returns-in-None
-returns-in-None c = ran_twice c.requires.0 _ _ (sym (ap made c.in-None.is) ∙ c.make_tparam_subst.ensures.made)
+returns-in-None c = ran_twice _ _ (sym (ap made c.in-None.is) ∙ c.make_tparam_subst.ensures.made) c.shown-in-None.ensures

@@ -3,4 +3,4 @@ use Rattle.run.proofs.Laws.{ran_tvar}
 use Rattle.run.proofs.run_tvar.Goals as goal
 
 pub returns : goal.returns
-returns c = ran_tvar _ _ c.take_var-a.ensures c.shown.ensures
+returns c = ran_tvar _ c.take_tvar.ensures c.shown.ensures

@@ -3,7 +3,7 @@ use Rattle.run.proofs.Laws.{ran_unfolded, ran_anything}
 use Rattle.run.proofs.run_unfold.Goals as goal
 
 pub returns-in-Node : goal.returns-in-Node
-returns-in-Node c = ran_unfolded c.requires.0 _ _ _ c.unfold_type.ensures c.in-Node.is
+returns-in-Node c = ran_unfolded _ _ _ c.unfold_type.ensures c.in-Node.is c.shown.ensures
 
 pub returns-in-Anything : goal.returns-in-Anything
-returns-in-Anything c = ran_anything c.requires.0 _ _ _ c.unfold_type.ensures c.in-Anything.is
+returns-in-Anything c = ran_anything _ _ _ c.unfold_type.ensures c.in-Anything.is c.shown-in-Anything.ensures

@@ -8,14 +8,17 @@ use Rattle.solve.proofs.Answers.{abilities_refused, abilities_clear}
 use Rattle.solve.proofs.solve_abilities.Goals as goal
 
 pub hinders-requires : goal.hinders-requires
-hinders-requires c = let p = c.requires in
-    (p.lay.0, (all_asked _ p.tys_in.0, (measured_none _ _, kept_none _ _ _)))
+hinders-requires g c = (all_asked _ c.requires.1.0, (measured_none _, kept_none _ _))
 
 pub report_failures-requires : goal.report_failures-requires
-report_failures-requires c = let p = c.requires in record { lay = p.lay; tys_in = (p.tys_in.0, (all_ready _ _ _ _ _ c.in-Ok.ensures.kept c.in-Ok.ensures.all, p.tys_in.1)) }
+report_failures-requires g c = let p = c.requires in
+    (p.0, (p.1.0, (all_ready _ _ _ _ c.in-Ok.ensures.kept c.in-Ok.ensures.all, p.1.1)))
+
+pub settle_refusal-requires : goal.settle_refusal-requires
+settle_refusal-requires g c = c.requires.0
 
 pub returns-in-Ok : goal.returns-in-Ok
-returns-in-Ok c = abilities_clear c.in-Ok.ensures c.report_failures.ensures
+returns-in-Ok g c = abilities_clear c.args.before c.in-Ok.ensures c.report_failures.ensures
 
 pub returns-in-Err : goal.returns-in-Err
-returns-in-Err c = abilities_refused _ c.in-Err.ensures (c.refuse.ensures _ _ (sym (c.number_of.ensures ∙ ap number_of_refusal c.reason_of.ensures)))
+returns-in-Err g c = abilities_refused c.args.before _ c.in-Err.ensures (c.settle_refusal.ensures _ _ (sym (c.number_of.ensures ∙ ap number_of_refusal c.reason_of.ensures)))

@@ -1,27 +1,28 @@
 -- `step::answer_declared` meets its contract. Assumes nothing.
-use mathlib.Core.Path.{refl}
+use mathlib.Core.Path.{refl, ◌∙◌}
 use Rattle.answer.proofs.Calls.{kept_never}
-use Rattle.step.proofs.Replying.{begun_above, declared_bytes, declared_row, reply_declared}
+use Rattle.step.proofs.Replying.{then_grown, declared_bytes, ok_done, declared_row, reply_declared}
 use Rattle.step.proofs.answer_declared.Goals as goal
 
-pub answer_of-a-requires : goal.answer_of-a-requires
-answer_of-a-requires c = let pre = c.requires in
-    let d = rw c.from-many.ensures at c.run_declare-r.ensures in record { lay = (d.lay, (begun_above pre.begins _ _ d.grown, pre.lay.1.1.0)); tells = (d.tells, (declared_bytes pre.begins.from d, pre.lay.1.1.1)); still = λ t o f. kept_never d.kept_is f }
+pub settle-a-requires : goal.settle-a-requires
+settle-a-requires g c =
+    let b = c.requires.1.from in
+    let d = rw c.from.ensures at c.run_declare-ran.ensures in
+    (then_grown b c.run_declare-ran.new.st d.grown, ((d.tells, (declared_bytes b d, c.requires.0.1)), λ t o f. kept_never d.kept_is f))
 
 pub padded-requires : goal.padded-requires
-padded-requires c = c.requires.lay.1.0
+padded-requires g c = c.requires.0.0
 
-pub with_row-requires : goal.with_row-requires
-with_row-requires c = let pre = c.requires in
-    let run_declare = c.run_declare-r in
-    declared_row _ _ pre.begins.from (rw c.from-many.ensures at run_declare.ensures) c.padded.ensures.1
-    pre.lay.1.0 _ _ _ c.done_of.ensures c.row_for-n.ensures
+pub put_row-requires : goal.put_row-requires
+put_row-requires g c =
+    let d = rw c.from.ensures at c.run_declare-ran.ensures in
+    declared_row _ _ c.requires.1.from d c.padded.ensures.1 c.requires.0.0 _ _ _ (c.ok-number.ensures.value ∙ ok_done _) c.row_for-n.ensures
 
 pub returns : goal.returns
-returns c = let pre = c.requires in
-    let run_declare = c.run_declare-r in
-    let answer_of = c.answer_of-a in
-    λ w₀ x b. reply_declared _ _ b (rw c.from-many.ensures at run_declare.ensures) c.padded.ensures.1
-    pre.lay.1.0 _ _ _ c.done_of.ensures
-    c.row_for-n.ensures answer_of.ensures refl _ c.padded.ensures.0 _
-    c.with_row.ensures
+returns g c =
+    let d = rw c.from.ensures at c.run_declare-ran.ensures in
+    record {
+      same = c.settle-a.ensures.same ∙ d.same;
+      is = λ x b. reply_declared _ _ b d c.padded.ensures.1 c.requires.0.0 _ _ _ (c.ok-number.ensures.value ∙ ok_done _) c.row_for-n.ensures
+          c.settle-a.ensures refl _ c.padded.ensures.0 _ c.put_row.ensures;
+    }

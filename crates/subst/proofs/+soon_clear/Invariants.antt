@@ -7,4 +7,4 @@ abbrev pub decreases-soon_clear : goal.decreases-soon_clear
 decreases-soon_clear l = l.t
 
 abbrev pub invariant-loop-i : goal.invariant-loop-i
-invariant-loop-i l = Passed l.w l.u l.tvar.0 l.t l.s l.i-end (replicate 2048 0) l.i
+invariant-loop-i l = Passed l.st l.tvar.0 l.t l.s l.i-end (replicate 2048 0) l.i

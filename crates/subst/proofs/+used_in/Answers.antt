@@ -7,23 +7,23 @@ use Rattle.subst.proofs.+used_in.Goals as goal
 pub returns-then-is_var : goal.returns-then-is_var
 returns-then-is_var t c = let pre = c.requires in
     let node_at = c.node_at-n in (
-      self_used (at_node _ _ _ _ node_at.result pre.0 pre.1.0 node_at.ensures refl) _ _
+      self_used c.args.st.now (at_node _ _ _ _ node_at.result c.args.st.now.lay pre.0 node_at.ensures refl) _ _
           c.is_var.ensures c.if-is_var.true,
-      pre.1.1,
+      pre.1,
     )
 
 pub loop-i-init : goal.loop-i-init
 loop-i-init t c = let pre = c.requires in
     let node_at = c.node_at-n in
-    passed_none _ _ _ _ _ _ _
-    (at_node _ _ _ _ node_at.result pre.0 pre.1.0 node_at.ensures c.part_count-i-end.ensures)
-    pre.1.1 _ c.is_var.ensures c.if-is_var.false
+    passed_none _ _ _ _ _ _
+    (at_node _ _ _ _ node_at.result c.args.st.now.lay pre.0 node_at.ensures c.part_count-i-end.ensures)
+    pre.1 _ c.is_var.ensures c.if-is_var.false
 
 pub used_in-requires : goal.used_in-requires
 used_in-requires t c = let f = part_low c.loop-i.invariant.at _ _ c.loop-i-test.true c.part_at-p.ensures in
-    let k = c.requires.1.0 in
+    let k = c.requires.0 in
     let m = c.decreases in
-    (omega (arith, f, m, k), (c.loop-i.invariant.at.lay, (omega (arith, f, k), c.loop-i.invariant.clear)))
+    (omega (arith, f, m, k), (omega (arith, f, k), c.loop-i.invariant.clear))
 
 pub returns-then-used_in : goal.returns-then-used_in
 returns-then-used_in t c = let used_in = c.used_in in (
@@ -39,4 +39,4 @@ loop-i-preserved t c = let used_in = c.used_in in
 pub returns : goal.returns
 returns t c = let pre = c.requires in
     let none = passed_all c.loop-i.invariant c.loop-i-test.false in
-    (none, clear_more _ _ _ _ _ c.loop-i.invariant.clear (omega (arith, pre.1.0, pre.0.nodes)) none)
+    (none, clear_more _ _ _ _ c.loop-i.invariant.clear (omega (arith, pre.0, c.args.st.now.lay.nodes)) none)

@@ -2,7 +2,7 @@ use Rattle.subst.proofs.Laws.{chain_start, chain_end, chain_on, chain_out}
 use Rattle.subst.proofs.forward_tvar.Goals as goal
 
 pub loop-link-init : goal.loop-link-init
-loop-link-init c = chain_start _ _ _
+loop-link-init c = chain_start _ _
 
 pub returns-in_default : goal.returns-in_default
 returns-in_default c = chain_end c.loop-link.invariant _ c.next_of.ensures c.in_default.is

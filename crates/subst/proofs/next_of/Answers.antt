@@ -11,5 +11,5 @@ returns-in_err-t c = λ ds. ap next c.from_residual.ensures ∙ next_none _ _ c.
 
 pub returns : goal.returns
 returns c = let bound_at = c.bound_at in
-    λ ds. c.as_var.ensures _ ∙ ap as_var (value_is _ _ c.node_at-n.result (c.node_at-n.ensures ds))
+    λ ds. c.as_var.ensures _ ∙ ap as_var (value_is _ _ c.node_at.result (c.node_at.ensures ds))
     ∙ next_some _ _ _ bound_at.result (bound_at.ensures ds) c.in_ok-t.was

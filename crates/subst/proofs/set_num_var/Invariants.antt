@@ -3,4 +3,4 @@ use Rattle.subst.proofs.Unfold.{Marking}
 use Rattle.subst.proofs.set_num_var.Given as goal
 
 abbrev pub invariant-loop-mark : goal.invariant-loop-mark
-invariant-loop-mark l = Marking l.initial.w l.u l.initial.cur.0 l.loc l.w l.cur.0 l._mark
+invariant-loop-mark l = Marking l.initial.st l.initial.cur.0 l.loc l.st l.cur.0 l._mark

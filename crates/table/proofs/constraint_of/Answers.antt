@@ -1,28 +1,30 @@
 -- `table::constraint_of` meets its contract. Assumes nothing.
-use borrow.Author.Tests.{eq-eqb, ne_eqb}
+use mathlib.Core.Path.{refl}
+use borrow.Author.Tests.{ne_eqb}
+use native.Mathlib.Omega.{arith}
 use Rattle.table.specs.Rows.{read_constraint}
 use Rattle.table.proofs.constraint_of.Goals as goal
 
-pub returns-then-kind-eq0 : goal.returns-then-kind-eq0
+pub returns-in-0 : goal.returns-in-0
 unfolding read_constraint
-returns-then-kind-eq0 c = simp (eq-eqb _ _ c.if-kind-eq0.true, c.set_at.ensures)
+returns-in-0 c = rw (c.in-0.is, c.set_at.ensures) refl
 
-pub returns-then-kind-eq1 : goal.returns-then-kind-eq1
+pub returns-in-1 : goal.returns-in-1
 unfolding read_constraint
-returns-then-kind-eq1 c = simp (ne_eqb _ _ c.if-kind-eq0.false, eq-eqb _ _ c.if-kind-eq1.true)
+returns-in-1 c = rw c.in-1.is refl
 
-pub returns-then-kind-eq2 : goal.returns-then-kind-eq2
+pub returns-in-2 : goal.returns-in-2
 unfolding read_constraint
-returns-then-kind-eq2 c = simp (ne_eqb _ _ c.if-kind-eq0.false, ne_eqb _ _ c.if-kind-eq1.false, eq-eqb _ _ c.if-kind-eq2.true)
+returns-in-2 c = rw c.in-2.is refl
 
-pub returns-then-kind-eq3 : goal.returns-then-kind-eq3
+pub returns-in-3 : goal.returns-in-3
 unfolding read_constraint
-returns-then-kind-eq3 c = simp (ne_eqb _ _ c.if-kind-eq0.false, ne_eqb _ _ c.if-kind-eq1.false, ne_eqb _ _ c.if-kind-eq2.false, eq-eqb _ _ c.if-kind-eq3.true)
+returns-in-3 c = rw c.in-3.is refl
 
-pub returns-then-kind-eq4 : goal.returns-then-kind-eq4
+pub returns-in-4 : goal.returns-in-4
 unfolding read_constraint
-returns-then-kind-eq4 c = simp (ne_eqb _ _ c.if-kind-eq0.false, ne_eqb _ _ c.if-kind-eq1.false, ne_eqb _ _ c.if-kind-eq2.false, ne_eqb _ _ c.if-kind-eq3.false, eq-eqb _ _ c.if-kind-eq4.true)
+returns-in-4 c = rw c.in-4.is refl
 
-pub returns : goal.returns
+pub returns-in_default : goal.returns-in_default
 unfolding read_constraint
-returns c = simp (ne_eqb _ _ c.if-kind-eq0.false, ne_eqb _ _ c.if-kind-eq1.false, ne_eqb _ _ c.if-kind-eq2.false, ne_eqb _ _ c.if-kind-eq3.false, ne_eqb _ _ c.if-kind-eq4.false)
+returns-in_default c = simp (ne_eqb c.args.r.kind 0 (λ e. omega arith), ne_eqb c.args.r.kind 1 (λ e. omega arith), ne_eqb c.args.r.kind 2 (λ e. omega arith), ne_eqb c.args.r.kind 3 (λ e. omega arith), ne_eqb c.args.r.kind 4 (λ e. omega arith))

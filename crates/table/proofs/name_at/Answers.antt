@@ -1,16 +1,18 @@
 -- `table::name_at` meets its contract. Assumes nothing.
-use borrow.Author.Tests.{eq-eqb, ne_eqb}
+use mathlib.Core.Path.{refl}
+use borrow.Author.Tests.{ne_eqb}
+use native.Mathlib.Omega.{arith}
 use Rattle.table.specs.Rows.{read_name}
 use Rattle.table.proofs.name_at.Goals as goal
 
-pub returns-then-tag-eq3 : goal.returns-then-tag-eq3
+pub returns-in-3 : goal.returns-in-3
 unfolding read_name
-returns-then-tag-eq3 c = simp (eq-eqb _ _ c.if-tag-eq3.true)
+returns-in-3 c = rw c.in-3.is refl
 
-pub returns-then-tag-eq4 : goal.returns-then-tag-eq4
+pub returns-in-4 : goal.returns-in-4
 unfolding read_name
-returns-then-tag-eq4 c = simp (ne_eqb _ _ c.if-tag-eq3.false, eq-eqb _ _ c.if-tag-eq4.true)
+returns-in-4 c = rw c.in-4.is refl
 
-pub returns : goal.returns
+pub returns-in_default : goal.returns-in_default
 unfolding read_name
-returns c = simp (ne_eqb _ _ c.if-tag-eq3.false, ne_eqb _ _ c.if-tag-eq4.false)
+returns-in_default c = simp (ne_eqb c.args.tag 3 (λ e. omega arith), ne_eqb c.args.tag 4 (λ e. omega arith))

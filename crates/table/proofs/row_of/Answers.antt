@@ -6,7 +6,7 @@ pub returns-in-Unit : goal.returns-in-Unit
 returns-in-Unit c = rw c.in-Unit.is (unit_row _)
 
 pub returns-in-Ref : goal.returns-in-Ref
-returns-in-Ref c = rw c.in-Ref.is (ref_row _ _ _ _ (flag_byte _))
+returns-in-Ref c = rw (c.in-Ref.is, c.from.ensures) (ref_row _ _ _ _ (flag_byte _))
 
 pub returns-in-Param : goal.returns-in-Param
 returns-in-Param c = rw c.in-Param.is (param_row _ _ _ _ c.bits.ensures.0 c.bits.ensures.1)

@@ -1,48 +1,34 @@
 -- `table::shape_at` meets its contract. Assumes nothing.
-use borrow.Author.Tests.{eq-eqb, ne_eqb, lt-ltb, le-ltb}
+use mathlib.Core.Path.{refl}
+use borrow.Author.Tests.{ne_eqb, lt-ltb, le-ltb}
+use native.Mathlib.Omega.{arith}
 use Rattle.table.specs.Rows.{read_shape}
 use Rattle.table.proofs.shape_at.Goals as goal
 
-pub returns-then-tag-eq0 : goal.returns-then-tag-eq0
+pub returns-in-0 : goal.returns-in-0
 unfolding read_shape
-returns-then-tag-eq0 c = simp (eq-eqb _ _ c.if-tag-eq0.true)
+returns-in-0 c = rw c.in-0.is refl
 
-pub returns-then-tag-eq1 : goal.returns-then-tag-eq1
+pub returns-in-1 : goal.returns-in-1
 unfolding read_shape
-returns-then-tag-eq1 c = simp (ne_eqb _ _ c.if-tag-eq0.false, eq-eqb _ _ c.if-tag-eq1.true)
+returns-in-1 c = rw c.in-1.is refl
 
-pub returns-then-tag-eq2 : goal.returns-then-tag-eq2
+pub returns-in-2 : goal.returns-in-2
 unfolding read_shape
-returns-then-tag-eq2 c = simp (ne_eqb _ _ c.if-tag-eq0.false, ne_eqb _ _ c.if-tag-eq1.false, eq-eqb _ _ c.if-tag-eq2.true, c.set_at.ensures)
+returns-in-2 c = rw (c.in-2.is, c.set_at.ensures) refl
 
-pub returns-then-tag-lt6 : goal.returns-then-tag-lt6
+pub returns-in-6 : goal.returns-in-6
 unfolding read_shape
-returns-then-tag-lt6 c = simp (ne_eqb _ _ c.if-tag-eq0.false, ne_eqb _ _ c.if-tag-eq1.false, ne_eqb _ _ c.if-tag-eq2.false, lt-ltb _ _ c.if-tag-lt6.true, c.mark_at.ensures, c.name_at.ensures)
+returns-in-6 c = rw (c.in-6.is, c.tvar_at.ensures) refl
 
-pub returns-then-tag-eq6 : goal.returns-then-tag-eq6
+pub returns-in-7 : goal.returns-in-7
 unfolding read_shape
-returns-then-tag-eq6 c = simp (ne_eqb _ _ c.if-tag-eq0.false, ne_eqb _ _ c.if-tag-eq1.false, ne_eqb _ _ c.if-tag-eq2.false, le-ltb _ _ c.if-tag-lt6.false, eq-eqb _ _ c.if-tag-eq6.true, c.tvar_at.ensures)
+returns-in-7 c = rw c.in-7.is refl
 
-pub returns-then-tag-eq7 : goal.returns-then-tag-eq7
+pub returns-in-3-to-5 : goal.returns-in-3-to-5
 unfolding read_shape
-returns-then-tag-eq7 c = let if1 = c.if-tag-eq0 in
-    simp (
-      ne_eqb _ _ if1.false,
-      ne_eqb _ _ c.if-tag-eq1.false,
-      ne_eqb _ _ c.if-tag-eq2.false,
-      le-ltb _ _ c.if-tag-lt6.false,
-      ne_eqb _ _ c.if-tag-eq6.false,
-      eq-eqb _ _ c.if-tag-eq7.true,
-    )
+returns-in-3-to-5 c = simp (ne_eqb c.args.r.tag 0 (λ e. omega arith), ne_eqb c.args.r.tag 1 (λ e. omega arith), ne_eqb c.args.r.tag 2 (λ e. omega arith), lt-ltb c.args.r.tag 6 (omega arith), c.mark_at.ensures, c.name_at.ensures)
 
-pub returns : goal.returns
+pub returns-in_default : goal.returns-in_default
 unfolding read_shape
-returns c = let if1 = c.if-tag-eq0 in
-    simp (
-      ne_eqb _ _ if1.false,
-      ne_eqb _ _ c.if-tag-eq1.false,
-      ne_eqb _ _ c.if-tag-eq2.false,
-      le-ltb _ _ c.if-tag-lt6.false,
-      ne_eqb _ _ c.if-tag-eq6.false,
-      ne_eqb _ _ c.if-tag-eq7.false,
-    )
+returns-in_default c = simp (ne_eqb c.args.r.tag 0 (λ e. omega arith), ne_eqb c.args.r.tag 1 (λ e. omega arith), ne_eqb c.args.r.tag 2 (λ e. omega arith), le-ltb c.args.r.tag 6 (omega arith), ne_eqb c.args.r.tag 6 (λ e. omega arith), ne_eqb c.args.r.tag 7 (λ e. omega arith))

@@ -7,4 +7,4 @@ abbrev pub decreases-size_type : goal.decreases-size_type
 decreases-size_type l = l.t
 
 abbrev pub invariant-loop-i : goal.invariant-loop-i
-invariant-loop-i l = Sizing l.w l.u l.t l.room l.n l.size l.i
+invariant-loop-i l = Sizing l.st.words.now l.st.used l.t l.room l.n l.size l.i

@@ -7,4 +7,4 @@ abbrev pub decreases-write_type : goal.decreases-write_type
 decreases-write_type l = l.t
 
 abbrev pub invariant-loop-i : goal.invariant-loop-i
-invariant-loop-i l = Goes_on l.w l.u l.t l.n l.at l.initial.buf l.initial.next l.buf l.next l.i
+invariant-loop-i l = Goes_on l.st.words.now l.st.used l.t l.n l.at l.initial.buf l.initial.next l.buf l.next l.i

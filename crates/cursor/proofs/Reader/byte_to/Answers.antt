@@ -8,10 +8,10 @@ pub returns-in_err-byte-clause-is : goal.returns-in_err-byte-clause-is
 unfolding byte_if ◌>>=◌ go_on
 returns-in_err-byte-clause-is c = search rules
 
-pub returns-then-max-byte-clause-is : goal.returns-then-max-byte-clause-is
+pub returns-then-max-from-clause-is : goal.returns-then-max-from-clause-is
 unfolding byte_if ◌>>=◌ go_on refuse
-returns-then-max-byte-clause-is c = rw (← c.u8.ensures, c.in_ok-byte.was, lt-leb _ _ c.if-max-byte.true) refl
+returns-then-max-from-clause-is c = rw (← c.u8.ensures.is, c.in_ok-byte.was, lt-leb _ _ (rw c.from.ensures at c.if-max-from.true)) refl
 
 pub returns-clause-is : goal.returns-clause-is
 unfolding byte_if ◌>>=◌ go_on give
-returns-clause-is c = rw (← c.u8.ensures, c.in_ok-byte.was, le-leb _ _ c.if-max-byte.false) refl
+returns-clause-is c = rw (← c.u8.ensures.is, c.in_ok-byte.was, le-leb _ _ (rw c.from.ensures at c.if-max-from.false)) refl

@@ -10,8 +10,8 @@ returns-in_err-name-clause-is c = search rules
 
 pub returns-then-from-known-clause-is : goal.returns-then-from-known-clause-is
 unfolding name_below ◌>>=◌ go_on give
-returns-then-from-known-clause-is c = rw (← c.u16.ensures, c.in_ok-name.was, lt-ltb c.in_ok-name.name c.args.known (omega arith)) refl
+returns-then-from-known-clause-is c = rw (← c.u16.ensures.is, c.in_ok-name.was, lt-ltb c.in_ok-name.name c.args.known (omega arith)) refl
 
 pub returns-else-from-known-clause-is : goal.returns-else-from-known-clause-is
 unfolding name_below ◌>>=◌ go_on refuse
-returns-else-from-known-clause-is c = rw (← c.u16.ensures, c.in_ok-name.was, le-ltb c.in_ok-name.name c.args.known (omega arith)) refl
+returns-else-from-known-clause-is c = rw (← c.u16.ensures.is, c.in_ok-name.was, le-ltb c.in_ok-name.name c.args.known (omega arith)) refl

@@ -1,5 +1,5 @@
 -- `cursor::Reader::new` meets its contract. Assumes nothing.
-use Rattle.std.proofs.Common.{◌≡◌, ◌≤◌, List, ℕ, length, take, min, refl, sym, ◌∙◌, arith}
+use Rattle.std.proofs.Common.{◌≡◌, List, ℕ, length, take, min, refl, sym, ◌∙◌, arith}
 use native.Mathlib.Decide.{dec_lt}
 use lib.Seq.{take_all}
 use Rattle.cursor.proofs.Reader.new.Goals as goal

@@ -3,14 +3,14 @@ use Rattle.std.proofs.Common.{rules}
 use Rattle.definition.specs.Reader.{read_u16, ◌>>=◌, go_on, give}
 use Rattle.cursor.proofs.Reader.u16.Goals as goal
 
-pub returns-in_err-low : goal.returns-in_err-low
+pub returns-in_err-low-clause-is : goal.returns-in_err-low-clause-is
 unfolding read_u16 ◌>>=◌ go_on give
-returns-in_err-low c = search rules
+returns-in_err-low-clause-is c = search rules
 
-pub returns-in_err-high : goal.returns-in_err-high
+pub returns-in_err-high-clause-is : goal.returns-in_err-high-clause-is
 unfolding read_u16 ◌>>=◌ go_on give
-returns-in_err-high c = search rules
+returns-in_err-high-clause-is c = search rules
 
-pub returns : goal.returns
+pub returns-clause-is : goal.returns-clause-is
 unfolding read_u16 ◌>>=◌ go_on give
-returns c = search rules
+returns-clause-is c = search rules

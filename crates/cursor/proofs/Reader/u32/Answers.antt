@@ -3,22 +3,22 @@ use Rattle.std.proofs.Common.{rules}
 use Rattle.definition.specs.Reader.{read_u32, ◌>>=◌, go_on, give}
 use Rattle.cursor.proofs.Reader.u32.Goals as goal
 
-pub returns-in_err-a : goal.returns-in_err-a
+pub returns-in_err-a-clause-is : goal.returns-in_err-a-clause-is
 unfolding read_u32 ◌>>=◌ go_on give
-returns-in_err-a c = search rules
+returns-in_err-a-clause-is c = search rules
 
-pub returns-in_err-b : goal.returns-in_err-b
+pub returns-in_err-b-clause-is : goal.returns-in_err-b-clause-is
 unfolding read_u32 ◌>>=◌ go_on give
-returns-in_err-b c = search rules
+returns-in_err-b-clause-is c = search rules
 
-pub returns-in_err-c : goal.returns-in_err-c
+pub returns-in_err-c-clause-is : goal.returns-in_err-c-clause-is
 unfolding read_u32 ◌>>=◌ go_on give
-returns-in_err-c c = search rules
+returns-in_err-c-clause-is c = search rules
 
-pub returns-in_err-d : goal.returns-in_err-d
+pub returns-in_err-d-clause-is : goal.returns-in_err-d-clause-is
 unfolding read_u32 ◌>>=◌ go_on give
-returns-in_err-d c = search rules
+returns-in_err-d-clause-is c = search rules
 
-pub returns : goal.returns
+pub returns-clause-is : goal.returns-clause-is
 unfolding read_u32 ◌>>=◌ go_on give
-returns c = search rules
+returns-clause-is c = search rules

@@ -15,8 +15,8 @@ unfolding byte
 first [] h = absurd (omega arith)
 first (x ∷ l) h = rw (take_all (length (x ∷ l) - 1) l (omega arith)) refl
 
-pub returns-in_default : goal.returns-in_default
-returns-in_default c = none _ c.in_default.len_below
+pub returns-in_default-clause-is : goal.returns-in_default-clause-is
+returns-in_default-clause-is c = none _ c.in_default.len_below
 
-pub returns : goal.returns
-returns c = first _ c.in-len1-up.len_at_least
+pub returns-clause-is : goal.returns-clause-is
+returns-clause-is c = first _ c.in-len1-up.len_at_least

@@ -1,9 +1,0 @@
--- `ends::levels` meets its contract. Assumes nothing.
-use Rattle.ends.proofs.Itself.{Read}
-use Rattle.ends.proofs.+levels.Given as goal
-
-abbrev pub decreases-levels : goal.decreases-levels
-decreases-levels l = l.left
-
-abbrev pub invariant-loop-i : goal.invariant-loop-i
-invariant-loop-i l = Read l.w l.u l.t l.left l.s l.i-end l.heights l.high l.i

@@ -1,5 +1,0 @@
-use Rattle.ends.proofs.Itself.{few_all}
-use Rattle.ends.proofs.+soon_over.Goals as goal
-
-pub returns : goal.returns
-returns t c = few_all c.loop-i.invariant c.loop-i-test.false _

@@ -1,9 +1,0 @@
--- `ends::soon_over` meets its contract. Assumes nothing.
-use Rattle.ends.proofs.Itself.{Few}
-use Rattle.ends.proofs.+soon_over.Given as goal
-
-abbrev pub decreases-soon_over : goal.decreases-soon_over
-decreases-soon_over l = l.left
-
-abbrev pub invariant-loop-i : goal.invariant-loop-i
-invariant-loop-i l = Few l.w l.u l.t l.left l.shape l.i-end l.i

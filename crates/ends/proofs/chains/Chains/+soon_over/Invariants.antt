@@ -1,0 +1,9 @@
+-- `ends::chains::Chains::soon_over` meets its contract. Assumes nothing.
+use Rattle.ends.proofs.Itself.{Few}
+use Rattle.ends.proofs.chains.Chains.+soon_over.Given as goal
+
+abbrev pub decreases-soon_over : goal.decreases-soon_over
+decreases-soon_over l = l.left
+
+abbrev pub invariant-loop-i : goal.invariant-loop-i
+invariant-loop-i l = Few l.self.st.now l.t l.left l.shape l.i-end l.i

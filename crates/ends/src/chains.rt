@@ -1,0 +1,106 @@
+// Types are read by the ends that are noted of their chains.
+
+ghost use Rattle.std.specs.Prelude.{◌≡◌, List, ◌<◌, ◌≤◌};
+ghost use Rattle.definition.specs.Types as d;
+ghost use Rattle.definition.specs.Store.{spanned};
+ghost use Rattle.definition.specs.Subst.{forward_tvar, reaches_itself};
+ghost use Rattle.table.specs.Did.{held};
+ghost use Rattle.subst.specs.Answers.{Unfolds};
+ghost use Rattle.ends.specs.Known.{EndsKnown, EndsKnown-prop};
+ghost use Rattle.ends.specs.Itself.{Goes_on, Levels, Measured, Soon};
+
+use names::TVar;
+use subst::Unfolded;
+use table::Shape;
+use table::state::State;
+
+// A state, and what is noted of the ends of its chains: of a variable one more than the number of the variable at the end, or 0, which is none.
+#[derive(Clone, Copy)]
+pub struct Chains<'a, 'b> {
+    pub st: &'a State<'b>,
+    pub ends: &'a [u32],
+    pub ghost known: { EndsKnown st.now ends.now } by { EndsKnown-prop st.now ends.now },
+}
+
+impl Chains<'_, '_> {
+    // The end of v's chain; what is noted is not looked for again.
+    pub fn end(&self, v: TVar) -> TVar
+        ensures { (ds : List d.Struct) → result.0 ≡ forward_tvar (held self.now.st.now ds) v.0 }
+    {
+        match table::noted(self.ends, v).checked_sub(1) {
+            Some(last) => TVar(last as u16),
+            None => subst::forward_tvar(self.st, v),
+        }
+    }
+
+    // unfold_type, by the ends that are noted.
+    fn unfold_by(&self, t: u32) -> Unfolded
+        requires { t < self.now.st.now.used.nodes }
+        ensures { Unfolds self.now.st.now result (λ s. spanned s t) }
+    {
+        let n = self.st.node_at(t);
+        match shapes::as_var(n.shape) {
+            None => Unfolded::Node(t),
+            Some(v) => subst::unfold_end(self.st, n.loc, self.end(v)),
+        }
+    }
+
+    // The shape that reading node t goes on with.
+    pub fn goes_on(&self, t: u32) -> Shape
+        requires { t < self.now.st.now.used.nodes }
+        ensures { Goes_on self.now.st.now t result }
+    {
+        match self.unfold_by(t) {
+            Unfolded::Node(x) => self.st.node_at(x).shape,
+            Unfolded::Anything(_) => Shape::Anything,
+        }
+    }
+
+    // In how many levels reading node t is over; none if not in `left`. A node's answer is noted: each is read once.
+    pub fn levels(&self, t: u32, left: u32, heights: &mut [u16]) -> Option<u32>
+        requires { (t < self.now.st.now.used.nodes) × ((left ≤ self.now.st.now.used.nodes) × Measured self.now.st.now heights.old) }
+        ensures { Levels self.now.st.now t left result × Measured self.now.st.now heights.new }
+    {
+        let below = left.checked_sub(1)?;
+        let known = heights[t as usize];
+        if 0 < known {
+            return Some(u32::from(known));
+        }
+        let s = self.goes_on(t);
+        let mut high: u32 = 0;
+        for i in 0..shapes::part_count(s) {
+            let p = shapes::part_at(self.st, s, i);
+            let n = self.levels(p, below, heights)?;
+            high = high.max(n);
+        }
+        if self.st.used.nodes <= high {
+            return None;
+        }
+        heights[t as usize] = (high + 1) as u16;
+        Some(high + 1)
+    }
+
+    // How many of `budget` parts are left once reading node t is over, in at most `left` levels; none: not over so soon.
+    pub(crate) fn soon_over(&self, t: u32, left: u32, budget: u32) -> Option<u32>
+        requires { t < self.now.st.now.used.nodes }
+        ensures { Soon self.now.st.now t left result }
+    {
+        let below = left.checked_sub(1)?;
+        let mut rest = budget.checked_sub(1)?;
+        let shape = self.goes_on(t);
+        for i in 0..shapes::part_count(shape) {
+            let p = shapes::part_at(self.st, shape, i);
+            rest = self.soon_over(p, below, rest)?;
+        }
+        Some(rest)
+    }
+
+    // The test with heights, for a type of any size.
+    pub fn never_over(&self, t: u32) -> bool
+        requires { t < self.now.st.now.used.nodes }
+        ensures { (ds : List d.Struct) → result ≡ reaches_itself (held self.now.st.now ds) t }
+    {
+        let mut heights: [u16; 2048] = [0; 2048];
+        self.levels(t, self.st.used.nodes, &mut heights).is_none()
+    }
+}

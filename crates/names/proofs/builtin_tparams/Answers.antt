@@ -1,0 +1,13 @@
+-- `names::builtin_tparams` meets its contract. Assumes nothing.
+use native.Mathlib.Omega.{arith}
+use borrow.Author.Tests.{eq-eqb, ne_eqb}
+use Rattle.definition.specs.Instantiate.{builtin_tparams}
+use Rattle.names.proofs.builtin_tparams.Goals as goal
+
+pub returns-then-b-eq5 : goal.returns-then-b-eq5
+unfolding builtin_tparams
+returns-then-b-eq5 c = (simp (eq-eqb _ _ c.if-b-eq5.true), omega arith)
+
+pub returns-else-b-eq5 : goal.returns-else-b-eq5
+unfolding builtin_tparams
+returns-else-b-eq5 c = (simp (ne_eqb _ _ c.if-b-eq5.false), omega arith)

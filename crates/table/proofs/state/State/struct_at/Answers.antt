@@ -1,0 +1,15 @@
+-- `table::State::struct_at` meets its contract. Assumes nothing.
+use Rattle.definition.specs.Types.{Struct}
+use lib.ListN.{length}
+use mathlib.Core.Path.{sym, ap, ◌∙◌}
+use Rattle.table.specs.declared.StructWords.{StructWords}
+use Rattle.table.proofs.Fields.{struct_read, struct_beyond}
+use Rattle.table.proofs.state.State.struct_at.Goals as goal
+
+pub returns-then-n-self : goal.returns-then-n-self
+returns-then-n-self c = let e = c.struct_words_at-r.ensures in
+    λ ds h. let r = struct_read _ _ ds _ h c.if-n-self.true in
+    (rw e at c.set_at.ensures ∙ r.0, ap (λ (x : StructWords). x.params) e ∙ r.1)
+
+pub returns-else-n-self : goal.returns-else-n-self
+returns-else-n-self c = λ ds h. let e = struct_beyond _ _ ds _ h c.if-n-self.false in (ap (λ (x : Struct). x.abilities) (sym e), ap (λ (x : Struct). length x.params) (sym e))

@@ -1,0 +1,237 @@
+// What a state is asked, and how it is changed: the few functions that touch its words.
+
+ghost use Rattle.std.specs.Prelude.{◌≡◌, List, [], ◌∷◌, ℕ, ◌<◌, length, take, get_or};
+ghost use Rattle.definition.specs.Types as d;
+ghost use Rattle.definition.specs.Store.{node, get, num_loc, sp, args_at, next_tvar, insert};
+ghost use Rattle.definition.specs.Subst.{mark_one};
+ghost use Rattle.names.specs.Names.{mark_of, name_of};
+ghost use Rattle.table.specs.Rows.{constraint_table, struct_table, places};
+ghost use Rattle.table.specs.Encode.{encode};
+ghost use Rattle.table.specs.State.{CellAt, node_of, value_of, constraint_of, seen, Declares, Flat, FoundIn, Parts, with_cell, pushed_constraint};
+ghost use Rattle.table.specs.Did.{held, Counts, Did, Took, Kept, Added, DeclaredBy};
+
+use crate::state::{State, Stop};
+use crate::{
+    ARGS_AT, CONSTRAINTS_AT, CellWords, Constraint, NODES_AT, Node, Refusal, STRUCTS_AT, Shape,
+    StructRow, Used, VARS_AT, bits, cell_row, cell_words_at, constraint_of, constraint_row,
+    constraint_words_at, node_words_at, number, option_at, put_row, row_of, set_at, shape_at,
+    struct_words_at, tvar, wide, write_words,
+};
+use names::{
+    AbilityMark, AbilitySet, MAX_ARGS, MAX_CONSTRAINTS, MAX_NODES, MAX_STRUCTS, MAX_VARS, TVar,
+    TypeName,
+};
+
+// TVar::next: the counts are lent, and altered by the taking.
+fn next_tvar(used: &mut Used) -> Result<TVar, Stop>
+    ensures { Counts used.old used.new result }
+{
+    let n = used.vars;
+    if MAX_VARS <= n {
+        return Err(Stop::Refused(Refusal::Full));
+    }
+    used.vars = n + 1;
+    Ok(tvar(n))
+}
+
+impl State<'_> {
+    // The node with number t; past the nodes in use, `!` without a location.
+    pub fn node_at(&self, t: u32) -> Node
+        ensures { (ds : List d.Struct) → node_of result ≡ node (held self.now ds) t }
+    {
+        if t < self.used.nodes {
+            let r = node_words_at(self.words, t);
+            let shape = shape_at(r);
+            Node { loc: r.loc, shape }
+        } else {
+            Node {
+                loc: 0,
+                shape: Shape::UnresolvedError,
+            }
+        }
+    }
+
+    // Argument i of a node whose first place is `first`.
+    pub fn arg_at(&self, first: u32, i: u32) -> u32
+        ensures { (ds : List d.Struct) (many : ℕ) → i < many → result ≡ get_or (args_at (held self.now ds) (places first many)) i 0 }
+    {
+        let k = wide(first) + wide(i);
+        if k < wide(self.used.args) {
+            self.words[ARGS_AT + k]
+        } else {
+            0
+        }
+    }
+
+    // The words of v's row, if v is in use.
+    fn cell_at(&self, v: TVar) -> Option<CellWords>
+        ensures { CellAt self.now.words.now self.now.used.vars v.0 result }
+    {
+        let i = number(v);
+        if i < self.used.vars {
+            Some(cell_words_at(self.words, i))
+        } else {
+            None
+        }
+    }
+
+    // Subst::get: what v is bound to.
+    pub fn bound_at(&self, v: TVar) -> Option<u32>
+        ensures { (ds : List d.Struct) → result ≡ get (held self.now ds) v.0 }
+    {
+        let r = self.cell_at(v)?;
+        option_at(r.bound, r.binding)
+    }
+
+    // num_vars.get: the location of v's numeric mark.
+    pub fn num_loc_at(&self, v: TVar) -> Option<u32>
+        ensures { (ds : List d.Struct) → result ≡ num_loc (held self.now ds) v.0 }
+    {
+        let r = self.cell_at(v)?;
+        option_at(r.numeric, r.loc)
+    }
+
+    // Constraint i, in the order of the list.
+    pub fn constraint_at(&self, i: u32) -> Constraint
+        requires { i < self.now.used.constraints }
+        ensures { (ds : List d.Struct) → constraint_of result ≡ get_or (held self.now ds).constraints i constraint_table.blank }
+    {
+        let r = constraint_words_at(self.words, i);
+        constraint_of(r)
+    }
+
+    // The row of struct n; past the structs in use, no abilities and no parameters.
+    pub fn struct_at(&self, n: u32) -> StructRow
+        ensures { (ds : List d.Struct) → Declares self.now.words.now self.now.used ds → (result.abilities.0 ≡ (get_or ds n struct_table.blank).abilities) × (result.params ≡ length (get_or ds n struct_table.blank).params) }
+    {
+        if n < self.used.structs {
+            let r = struct_words_at(self.words, n);
+            StructRow {
+                abilities: set_at(r.abilities),
+                params: r.params,
+            }
+        } else {
+            StructRow {
+                abilities: AbilitySet(0),
+                params: 0,
+            }
+        }
+    }
+
+    // sp of a type without arguments: a new node, if there is room for it.
+    pub fn push_node(&mut self, loc: u32, shape: Shape) -> Result<u32, Stop>
+        requires { Flat self.old.used.nodes shape }
+        ensures { Did self.old self.new result (λ s. sp s loc (value_of shape)) }
+    {
+        let n = self.used.nodes;
+        if MAX_NODES <= n {
+            return Err(Stop::Refused(Refusal::Full));
+        }
+        let row = row_of(loc, shape);
+        put_row(self.words, NODES_AT, n, row);
+        self.used.nodes = n + 1;
+        Ok(n)
+    }
+
+    // sp of a named type: a new node and places for its n arguments, if there is room for both.
+    pub fn push_apply(
+        &mut self,
+        loc: u32,
+        k: AbilityMark,
+        name: TypeName,
+        parts: [u32; 8],
+        n: u32,
+    ) -> Result<u32, Stop>
+        requires { Parts self.old.used.nodes parts n }
+        ensures { Did self.old self.new result (λ s. sp s loc (d.Apply (mark_of k) (name_of name) (take n parts))) }
+    {
+        let t = self.used.nodes;
+        let first = self.used.args;
+        if MAX_NODES <= t || MAX_ARGS - first < n {
+            return Err(Stop::Refused(Refusal::Full));
+        }
+        let row = row_of(loc, Shape::Apply(k, name, first, n));
+        let w = &mut *self.words;
+        write_words(w, ARGS_AT + wide(first), &parts[..wide(n)]);
+        put_row(w, NODES_AT, t, row);
+        self.used.nodes = t + 1;
+        self.used.args = first + n;
+        Ok(t)
+    }
+
+    // A fresh variable. Its row is zero already.
+    pub fn take_var(&mut self) -> Result<TVar, Stop>
+        ensures { Took self.old self.new result (λ s. next_tvar s) }
+    {
+        next_tvar(&mut self.used)
+    }
+
+    // Variable v has this binding and this mark.
+    fn put_cell(&mut self, v: TVar, b: Option<u32>, m: Option<u32>)
+        requires { FoundIn self.old.used.nodes b }
+        ensures { Kept self.old self.new (with_cell v.0 b m) }
+    {
+        let i = number(v);
+        if i < self.used.vars {
+            let row = cell_row(b, m);
+            put_row(self.words, VARS_AT, i, row);
+        }
+    }
+
+    // Subst::insert: binds v to node t.
+    pub fn bind_var(&mut self, v: TVar, t: u32)
+        requires { t < self.old.used.nodes }
+        ensures { Kept self.old self.new (λ s. insert s v.0 t) }
+    {
+        let m = self.num_loc_at(v);
+        self.put_cell(v, Some(t), m);
+    }
+
+    // num_vars.entry(v).or_insert(loc)
+    pub fn mark_one(&mut self, v: TVar, loc: u32)
+        ensures { Kept self.old self.new (λ s. mark_one s v.0 loc) }
+    {
+        let b = self.bound_at(v);
+        let m = self.num_loc_at(v);
+        self.put_cell(v, b, Some(m.unwrap_or(loc)));
+    }
+
+    // context.constraints.push
+    pub fn push_constraint(&mut self, c: Constraint) -> Result<(), Stop>
+        ensures { Added self.old self.new result (pushed_constraint (constraint_of c)) }
+    {
+        let n = self.used.constraints;
+        if MAX_CONSTRAINTS <= n {
+            return Err(Stop::Refused(Refusal::Full));
+        }
+        let row = constraint_row(c);
+        put_row(self.words, CONSTRAINTS_AT, n, row);
+        self.used.constraints = n + 1;
+        Ok(())
+    }
+
+    // A struct is declared: its row, without the parameter bytes, which stand beside the words.
+    pub fn push_struct(&mut self, abilities: AbilitySet, params: u32) -> Result<u32, Stop>
+        ensures { DeclaredBy self.old self.new result abilities.0 params }
+    {
+        let n = self.used.structs;
+        if MAX_STRUCTS <= n {
+            return Err(Stop::Refused(Refusal::Full));
+        }
+        put_row(self.words, STRUCTS_AT, n, [bits(abilities), params]);
+        self.used.structs = n + 1;
+        Ok(n)
+    }
+
+    // The counts are written: the words are the state's, outright.
+    pub fn write_used(&mut self)
+        ensures { Kept self.old self.new (λ s. s) × ((ds : List d.Struct) → Declares self.old.words.now self.old.used ds → self.new.words.now ≡ encode (held self.old ds)) }
+    {
+        let u = self.used;
+        write_words(
+            self.words,
+            0,
+            &[u.nodes, u.args, u.vars, u.constraints, u.structs],
+        );
+    }
+}
