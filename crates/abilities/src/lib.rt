@@ -16,13 +16,12 @@ ghost use Rattle.abilities.specs.Kept.{Knows, HasSet, Kept, PartsKept, Ready, Ar
 ghost use Rattle.abilities.specs.Rules.{rule_of, RuleIn, lacks_at, misses, any_misses, clashes, AskedIn, AskedKept, AllAsked, AllKept, Hindered, asks_abilities, any_asks};
 
 use ends::Chains;
-use names::{AbilityMark, AbilitySet, TypeName};
+use names::{AbilityMark, AbilitySet, COPY, DROP, KEY, PHANTOM, STORE, TypeName};
 use shapes::Applied;
 use table::state::State;
 use table::{Constraint, Shape};
 
-// copy, drop, store, key
-pub const ABILITIES: [u8; 4] = [1, 2, 4, 8];
+pub const ABILITIES: [u8; 4] = [COPY, DROP, STORE, KEY];
 
 // The declaration lacks it; the argument at a place lacks what is needed; neither, so that a mark is contradicted.
 #[derive(Clone, Copy)]
@@ -47,7 +46,10 @@ pub struct Asked {
     pub set: AbilitySet,
 }
 
-// The set kept for node t: 256 is added to a set that is known.
+// `params` and `sets` stand in no struct: 01 keeps parameter bytes out of structs, and `sets` alone would be left.
+// `sets` are words, of which 256 is added to a set that is known: a slice of Options would ask more of who lends it.
+
+// The set kept for node t. By %, which takes the 256 off: `try_from` would refuse every set that is known.
 fn kept(sets: &[u32], t: u32) -> AbilitySet
     requires { (length sets.now ≡ 2048) × (t < 2048) }
     ensures { result.0 ≡ get_or sets.now t 0 % 256 }
@@ -69,13 +71,13 @@ fn declared_abilities(st: &State<'_>, n: TypeName) -> AbilitySet
     }
 }
 
-// Parameter i of struct s is no phantom: 16 is for phantom. A struct without such a parameter has no phantom there.
+// Parameter i of struct s is no phantom. A struct without such a parameter has no phantom there.
 fn struct_counts(st: &State<'_>, params: &[[u8; 8]; 256], s: u32, i: u32) -> bool
     requires { i < 8 }
     ensures { (ds : List d.Struct) → Knows st.now params.now ds → result ≡ counts (held st.now ds) (d.ModuleType s) i }
 {
     let at = table::wide(s);
-    st.struct_at(s).params <= i || (256 <= at || params[at][table::wide(i)] < 16)
+    st.struct_at(s).params <= i || (256 <= at || params[at][table::wide(i)] < PHANTOM)
 }
 
 #[tactic(auto, unfolding(definition::specs::Abilities::counts))]
@@ -182,10 +184,10 @@ fn granted_set(st: &State<'_>, params: &[[u8; 8]; 256], a: Applied, sets: &[u32]
     requires { ArgsReady st.now params.now sets.now a }
     ensures { (ds : List d.Struct) → Knows st.now params.now ds → result.0 ≡ from_abilities (those (granted (λ t. infer_abilities (held st.now ds) t) (held st.now ds) (name_of a.n) (args_at (held st.now ds) (args_of a)))) }
 {
-    let copy = granted_bit(st, params, a, 1, sets);
-    let drop = granted_bit(st, params, a, 2, sets);
-    let store = granted_bit(st, params, a, 4, sets);
-    let key = granted_bit(st, params, a, 8, sets);
+    let copy = granted_bit(st, params, a, COPY, sets);
+    let drop = granted_bit(st, params, a, DROP, sets);
+    let store = granted_bit(st, params, a, STORE, sets);
+    let key = granted_bit(st, params, a, KEY, sets);
     AbilitySet(copy + drop + store + key)
 }
 
@@ -216,7 +218,7 @@ fn keep_set(chains: &Chains<'_, '_>, params: &[[u8; 8]; 256], t: u32, sets: &mut
     let s = chains.goes_on(t);
     let a = set_of(chains.st, params, s, sets);
     let at = table::wide(t);
-    sets[at] = 256 + table::bits(a);
+    sets[at] = 256 + u32::from(a);
 }
 
 // The set of node t, whose reading is over in `left` levels, is kept, and those of its parts.

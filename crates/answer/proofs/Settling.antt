@@ -150,6 +150,7 @@ answers_in w₀ b s t buf buf' r f g same used a =
     let x = a.settled w₀ g in
     record {
       same = same;
+      used = sym used;
       few = a.few;
       rest = a.rest;
       is = λ ds₀ ds. rw used (x.is ds₀ ds);
@@ -163,6 +164,7 @@ unfolding refusal
 refused_in w₀ b s t buf number a x e =
     record {
       same = a.same;
+      used = refl;
       few = omega arith;
       rest = refl;
       is = λ ds₀ ds. let q : held t ds₀ ≡ seen w₀ b.used ds₀ = rw a.used (seen_same w₀ t.words.now b.used ds₀ a.is) in rw (e, q);

@@ -13,6 +13,7 @@ use Rattle.payload.specs.declared.Answer.{Answer}
 -- payload in front and all else as it was; number, payload and state are as f says
 pub record AnswersIn (w₀ : List ℕ) (b : Before) (s t : State) (buf buf' : List ℕ) (r : Answer) (f : d.State → d.State → step.Answer) : Type 0 where
   pub same : t.words.ghost_name ≡ s.words.ghost_name
+  pub used : r.used ≡ t.used
   pub few : r.len ≤ 4096
   pub rest : buf' ≡ take r.len buf' ++ drop r.len buf
   pub is : (ds₀ ds : List Struct)

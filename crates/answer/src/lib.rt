@@ -21,12 +21,13 @@ use snapshot::{give_back, go_back, put_vars, undo};
 use table::state::{State, Stop};
 use table::{Refusal, TypingError, Used};
 
-// What a run left, and what its answer shows.
+// What a run left, and what its answer shows. The number is in the result, as the step answered it, and not in `show`, which is known before the run.
 #[derive(Clone, Copy)]
 pub struct Ran {
     pub result: Result<u32, Stop>,
     pub show: Show,
     // Whether a success leaves the state as it is, or as it was at entry: a record that only asks for a type takes nodes to show it.
+    // A flag, as payload's Answer has it: result and payload are said either way.
     pub kept: bool,
 }
 
@@ -85,7 +86,7 @@ pub fn refuse(w: &mut [u32], u: Used, before: Before<'_>, number: u32) -> Answer
     as_before(before.used, number, 0)
 }
 
-// A success with the number t. Where its state is not kept, no variable was bound or marked: what was taken is given back.
+// A success with the number t. Where its state is not kept, no variable was bound or marked: what was taken is given back. `kept` is the run's.
 fn succeed(
     w: &mut [u32],
     u: Used,

@@ -25,8 +25,13 @@ pub enum Arm {
     // The answer is that operand.
     Lhs,
     Rhs,
-    // Whether the result is at the left location, whether it is mutable, and the two inner types.
-    Refs(bool, bool, u32, u32),
+    // The result: at which location, whether mutable; and the two inner types.
+    Refs {
+        at_left: bool,
+        mutable: bool,
+        t1: u32,
+        t2: u32,
+    },
     // Both types, of one name and mark.
     Applies(Applied, Applied),
     Vars(TVar, TVar),
@@ -44,11 +49,31 @@ fn arm_refs(case: TypingCase, mut1: bool, t1: u32, mut2: bool, t2: u32) -> Arm
     ensures { Takes (case_of case) (Ref mut1 t1) (Ref mut2 t2) result }
 {
     match (case, mut1, mut2) {
-        (TypingCase::Join, true, _) => Arm::Refs(false, mut2, t1, t2),
-        (TypingCase::Join, false, _) => Arm::Refs(mut2, false, t1, t2),
-        (TypingCase::Subtype, true, _) => Arm::Refs(false, mut2, t1, t2),
+        (TypingCase::Join, true, _) => Arm::Refs {
+            at_left: false,
+            mutable: mut2,
+            t1,
+            t2,
+        },
+        (TypingCase::Join, false, _) => Arm::Refs {
+            at_left: mut2,
+            mutable: false,
+            t1,
+            t2,
+        },
+        (TypingCase::Subtype, true, _) => Arm::Refs {
+            at_left: false,
+            mutable: mut2,
+            t1,
+            t2,
+        },
         (TypingCase::Subtype, false, true) => Arm::SubtypeError,
-        (TypingCase::Subtype, false, false) => Arm::Refs(false, false, t1, t2),
+        (TypingCase::Subtype, false, false) => Arm::Refs {
+            at_left: false,
+            mutable: false,
+            t1,
+            t2,
+        },
     }
 }
 

@@ -1,5 +1,6 @@
-// typing/core.rs: a constraint is listed; solve_constraints: numeric variables that nothing decides become u64; the list is emptied; which constraints fail, and how,
-// what the Rust reports as a message (solve_ability_constraint, solve_builtin_type_constraint, solve_base_type_constraint, solve_single_type_constraint).
+// typing/core.rs: a constraint is listed; solve_constraints: numeric variables that nothing decides become u64; the list is emptied;
+// which constraints fail, and how, what the Rust reports as a message (solve_ability_constraint, solve_builtin_type_constraint,
+// solve_base_type_constraint, solve_single_type_constraint).
 // Changed from the source that NOTICE names: ported to Rattle.
 #![tactic(auto)]
 
@@ -14,7 +15,7 @@ ghost use Rattle.table.specs.State.{constraint_of, pushed_constraint};
 ghost use Rattle.table.specs.Did.{held, Did, Added};
 ghost use Rattle.subst.specs.Answers.{var_at};
 ghost use Rattle.snapshot.specs.Snap.{Saved};
-ghost use Rattle.constraints.specs.Emptied.{First, Emptied};
+ghost use Rattle.constraints.specs.Emptied.{Emptied};
 ghost use Rattle.constraints.specs.Solve.{kind_of, numbered, join_u64};
 ghost use Rattle.definition.specs.Store.{spanned};
 ghost use Rattle.abilities.specs.Kept.{HasSet, Kept};
@@ -24,7 +25,8 @@ ghost use Rattle.constraints.specs.Lacking.{lack, row, IsAbility, Lacking, Asked
 
 use abilities::{Asked, Rule};
 use failing::{Failing, ask_of, good};
-use names::{AbilitySet, TVar, TypeName};
+use names::{AbilitySet, COPY, TVar, TypeName, U64};
+use snapshot::zero_rows;
 use subst::Unfolded;
 use table::state::{State, Stop};
 use table::{CONSTRAINT_WORDS, CONSTRAINTS_AT, Constraint, Shape, VAR_WORDS};
@@ -83,7 +85,7 @@ fn join_u64(st: &mut State<'_>, num_var: TVar, loc: u32) -> Result<u32, Stop>
     ensures { Did st.old st.new result (λ s. join_u64 s num_var.0 loc) }
 {
     let k = Some(AbilitySet::PRIMITIVES);
-    let u64_ = st.push_apply(loc, k, TypeName::Builtin(3), [0; 8], 0)?;
+    let u64_ = st.push_apply(loc, k, TypeName::Builtin(U64), [0; 8], 0)?;
     let tvar = st.push_node(loc, Shape::Var(num_var))?;
     join::join(st, u64_, tvar)
 }
@@ -123,24 +125,12 @@ pub fn default_num_vars(st: &mut State<'_>, saved: &[u32]) -> Result<(), Stop>
 
 // ---- std::mem::take(&mut context.constraints)
 
-// The last row is zero again.
-fn pop_constraint(st: &mut State<'_>)
-    requires { 0 < st.old.used.constraints }
-    ensures { First st.old st.new × (st.new.used.constraints + 1 ≡ st.old.used.constraints) }
-{
-    let n = st.used.constraints - 1;
-    let at = CONSTRAINTS_AT + n as usize * CONSTRAINT_WORDS;
-    table::write_words(st.words, at, &[0, 0, 0, 0]);
-    st.used.constraints = n;
-}
-
-// No constraint is left. By `while`, since it is the list's own count that falls.
+// No constraint is left, and the rows are zero again.
 pub fn take_constraints(st: &mut State<'_>)
     ensures { Emptied st.old st.new }
 {
-    while 0 < st.used.constraints {
-        pop_constraint(st);
-    }
+    zero_rows::<CONSTRAINT_WORDS>(st.words, CONSTRAINTS_AT, 0, st.used.constraints);
+    st.used.constraints = 0;
 }
 
 // ---- which constraints fail, and how
@@ -151,16 +141,12 @@ fn failing_of(st: &State<'_>, c: Constraint) -> Option<Failing>
     ensures { Fails st.now result (constraint_of c) }
 {
     let a = ask_of(c)?;
-    match subst::unfold_type(st, a.ty) {
-        Unfolded::Node(t) => {
-            let bad = !good(a.what, st.node_at(t).shape);
-            bad.then_some(Failing::Node(a.what, a.loc, t))
-        }
-        Unfolded::Anything(at) => {
-            let bad = !good(a.what, Shape::Anything);
-            bad.then_some(Failing::Anything(a.what, a.loc, at))
-        }
-    }
+    let (shape, failing) = match subst::unfold_type(st, a.ty) {
+        Unfolded::Node(t) => (st.node_at(t).shape, Failing::Node(a.what, a.loc, t)),
+        Unfolded::Anything(at) => (Shape::Anything, Failing::Anything(a.what, a.loc, at)),
+    };
+    let bad = !good(a.what, shape);
+    bad.then_some(failing)
 }
 
 // ---- solve_ability_constraint
@@ -201,11 +187,12 @@ fn lack_of(
     }
 }
 
+// A constraint that asks for no abilities fails once: in the first ability's row.
 fn first_row(st: &State<'_>, c: Constraint, ability: u8) -> Option<Failing>
     requires { TyIn st.now.used.nodes (constraint_of c) }
     ensures { ReportIn st.now.used.nodes result × ((ds : List d.Struct) → report result (held st.now ds) ≡ (if nat_eq ability 1 then plain (held st.now ds) (constraint_of c) else [])) }
 {
-    if ability == 1 {
+    if ability == COPY {
         failing_of(st, c)
     } else {
         None

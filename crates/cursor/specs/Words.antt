@@ -1,5 +1,5 @@
--- What a reader's answer is in the definition. Assumes nothing: these are definitions.
-use Rattle.std.specs.Prelude.{Result, Ok, Err}
+-- What a reader's answer is in the definition, and the bytes that it leaves. Assumes nothing: these are definitions.
+use Rattle.std.specs.Prelude.{◌≡◌, ℕ, Result, Ok, Err, drop}
 use Rattle.definition.specs.Types as d
 use Rattle.definition.specs.Write.{Bytes}
 use Rattle.definition.specs.Reader.{Read, got, not_read}
@@ -19,3 +19,8 @@ read_as f (Err e) bytes = not_read (refusal e)
 
 abbrev pub read : {A : Type 0} → Result A ReadError → Bytes → Read A
 read r bytes = read_as (λ a. a) r bytes
+
+-- l' is an end of l: some bytes in front of it were read
+pub record Within (l l' : Bytes) : Type 0 where
+  pub from : ℕ
+  pub is : l' ≡ drop from l

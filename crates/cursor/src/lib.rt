@@ -1,9 +1,9 @@
 // A record's bytes, read from left to right: numbers, the least byte first, and names.
 #![tactic(auto)]
 
-ghost use Rattle.std.specs.Prelude.{◌≡◌, ◌<◌, ◌≤◌, length, take, IfOk};
+ghost use Rattle.std.specs.Prelude.{◌≡◌, ◌<◌, ◌≤◌, take, IfErr, IfOk};
 ghost use Rattle.definition.specs.Reader.{byte, read_u16, read_u32, byte_to, name_below};
-ghost use Rattle.cursor.specs.Words.{read};
+ghost use Rattle.cursor.specs.Words.{Within, read};
 
 // The most bytes that a record has.
 pub const MAX_RECORD: usize = 4096;
@@ -35,7 +35,8 @@ impl<'a> Reader<'a> {
 
     pub fn u8(&mut self) -> Result<u8, ReadError>
         ensures is { read result self.new.left.now ≡ byte self.old.left.now }
-        ensures shorter { length self.new.left.now ≤ length self.old.left.now }
+        ensures within { Within self.old.left.now self.new.left.now }
+        ensures kept { IfErr result (λ e. self.new.left.now ≡ self.old.left.now) }
     {
         let [byte, left @ ..] = self.left else {
             return Err(ReadError::Malformed);
@@ -46,28 +47,28 @@ impl<'a> Reader<'a> {
 
     pub fn u16(&mut self) -> Result<u16, ReadError>
         ensures is { read result self.new.left.now ≡ read_u16 self.old.left.now }
-        ensures shorter { length self.new.left.now ≤ length self.old.left.now }
+        ensures within { Within self.old.left.now self.new.left.now }
     {
         let low = self.u8()?;
         let high = self.u8()?;
-        Ok(u16::from(low) + 256 * u16::from(high))
+        Ok(u16::from_le_bytes([low, high]))
     }
 
     pub fn u32(&mut self) -> Result<u32, ReadError>
         ensures is { read result self.new.left.now ≡ read_u32 self.old.left.now }
-        ensures shorter { length self.new.left.now ≤ length self.old.left.now }
+        ensures within { Within self.old.left.now self.new.left.now }
     {
         let a = self.u8()?;
         let b = self.u8()?;
         let c = self.u8()?;
         let d = self.u8()?;
-        Ok(u32::from(a) + 256 * u32::from(b) + 65536 * u32::from(c) + 16777216 * u32::from(d))
+        Ok(u32::from_le_bytes([a, b, c, d]))
     }
 
     // A byte from 0 to max.
     pub fn byte_to(&mut self, max: u32) -> Result<u8, ReadError>
         ensures is { read result self.new.left.now ≡ byte_to max self.old.left.now }
-        ensures shorter { length self.new.left.now ≤ length self.old.left.now }
+        ensures within { Within self.old.left.now self.new.left.now }
         ensures most { IfOk result (λ x. x ≤ max) }
     {
         let byte = self.u8()?;
@@ -80,7 +81,7 @@ impl<'a> Reader<'a> {
     // A name of which there are `known`.
     pub fn name_below(&mut self, known: u32) -> Result<u16, ReadError>
         ensures is { read result self.new.left.now ≡ name_below known self.old.left.now }
-        ensures shorter { length self.new.left.now ≤ length self.old.left.now }
+        ensures within { Within self.old.left.now self.new.left.now }
         ensures below { IfOk result (λ x. x < known) }
     {
         let name = self.u16()?;

@@ -28,7 +28,7 @@ impl Chains<'_, '_> {
         ensures { (ds : List d.Struct) → result.0 ≡ forward_tvar (held self.now.st.now ds) v.0 }
     {
         match table::noted(self.ends, v).checked_sub(1) {
-            Some(last) => TVar(last as u16),
+            Some(last) => table::tvar(last),
             None => subst::forward_tvar(self.st, v),
         }
     }
@@ -57,6 +57,7 @@ impl Chains<'_, '_> {
     }
 
     // In how many levels reading node t is over; none if not in `left`. A node's answer is noted: each is read once.
+    // The heights are numbers, as callers lend them, and 0 is none: Options of u16 would take twice the 4 KiB, which are zeros at first.
     pub fn levels(&self, t: u32, left: u32, heights: &mut [u16]) -> Option<u32>
         requires { (t < self.now.st.now.used.nodes) × ((left ≤ self.now.st.now.used.nodes) × Measured self.now.st.now heights.old) }
         ensures { Levels self.now.st.now t left result × Measured self.now.st.now heights.new }
@@ -76,6 +77,7 @@ impl Chains<'_, '_> {
         if self.st.used.nodes <= high {
             return None;
         }
+        // By `as`: there are at most 2,048 nodes, and `try_from` would need an arm for what cannot be.
         heights[t as usize] = (high + 1) as u16;
         Some(high + 1)
     }

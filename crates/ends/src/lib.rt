@@ -95,7 +95,7 @@ pub fn note_ends(st: &State<'_>, ends: &mut [u32])
 {
     let mut longest: u32 = 0;
     for i in 0..st.used.vars {
-        longest = note_end(st, TVar(i as u16), longest, ends);
+        longest = note_end(st, table::tvar(i), longest, ends);
     }
 }
 
@@ -110,7 +110,7 @@ pub fn near_over(st: &State<'_>, t: u32) -> bool
     chains.soon_over(t, st.used.nodes, 64).is_some()
 }
 
-// First without tables, which a small type does not need.
+// First without tables, which a small type does not need: a guard, since in one boolean with the rest they would be made before it.
 pub fn reaches_itself(st: &State<'_>, t: u32) -> bool
     requires { t < st.now.used.nodes }
     ensures { (ds : List d.Struct) → result ≡ reaches_itself (held st.now ds) t }

@@ -104,7 +104,7 @@ pub fn lent_record(
 
 // ---- a job
 
-// The lines of as many records as are at hand and have room, on a sound state.
+// The lines of as many records as are at hand and have room, on a sound state. `more` as C gives it, as below.
 fn lines_trusted(
     st: &mut State<'_>,
     params: &mut [[u8; 8]; 256],

@@ -3,11 +3,12 @@ use mathlib.Core.Path.{◌≡◌, refl, sym, ap, ◌∙◌, subst}
 use mathlib.Core.List.{List, [], ◌++◌, append-nil, append_assoc}
 use Prim.Native.Nat.{ℕ, ◌+◌, ◌-◌, ◌≤◌, ◌<◌}
 use native.Mathlib.Omega.{arith}
+use Rattle.std.specs.Prelude.{Some, None}
 use lib.ListN.{length, length-append}
 use Rattle.definition.specs.Types.{Struct}
 use Rattle.definition.specs.Write.{Bytes}
-use Rattle.writer.specs.Bytes.{capped, Wrote}
-use Rattle.writer.proofs.Put.{capped_is, capped_over, capped_within, capped_beyond, put_nothing, wrote_wrote, wrote_length}
+use Rattle.writer.specs.Bytes.{Capped, Wrote}
+use Rattle.writer.proofs.Put.{put_nothing, wrote_wrote, wrote_length}
 
 -- n pieces of a whole, with any declarations; `rest i` has those from i on
 pub record Pieces (n : ℕ) (one rest : List Struct → ℕ → Bytes) (whole : List Struct → Bytes) : Type 0 where
@@ -17,53 +18,45 @@ pub record Pieces (n : ℕ) (one rest : List Struct → ℕ → Bytes) (whole : 
 
 -- ---- sized
 
--- `size` bytes are those of the pieces below i, with declarations of which K tells
-pub record Sized (K : List Struct → Type 0) (n : ℕ) (rest : List Struct → ℕ → Bytes) (whole : List Struct → Bytes) (room size i : ℕ) : Type 0 where
+-- of the room, `left` is left by the pieces below i, with declarations of which K tells
+pub record Sized (K : List Struct → Type 0) (n : ℕ) (rest : List Struct → ℕ → Bytes) (whole : List Struct → Bytes) (room left i : ℕ) : Type 0 where
   pub within : i ≤ n
-  pub small : size ≤ room
-  pub is : (ds : List Struct) → K ds → size + length (rest ds i) ≡ length (whole ds)
+  pub small : left ≤ room
+  pub is : (ds : List Struct) → K ds → room + length (rest ds i) ≡ left + length (whole ds)
 
 module _ (K : List Struct → Type 0) (n : ℕ) (one rest : List Struct → ℕ → Bytes) (whole : List Struct → Bytes) (p : Pieces n one rest whole) (room : ℕ) where
-  pub sized_none : Sized K n rest whole room 0 0
+  pub sized_none : Sized K n rest whole room room 0
   sized_none = record { within = omega arith; small = omega arith; is = λ ds k. omega (arith, ap length (p.first ds)) }
 
-  pub sized_all : (size i : ℕ) → Sized K n rest whole room size i → n ≤ i → (ds : List Struct) → K ds → size ≡ capped room (length (whole ds))
-  sized_all size i h le ds k =
+  pub sized_all : (left i : ℕ) → Sized K n rest whole room left i → n ≤ i → (ds : List Struct) → K ds → Capped room (length (whole ds)) (Some (room - left))
+  sized_all left i h le ds k =
       let z : length (rest ds i) ≡ 0 = ap length (p.none ds i le) in
-      let e : size ≡ length (whole ds) = omega (arith, h.is ds k) in
-      sym (ap (capped room) (sym e) ∙ capped_is room size h.small)
+      (omega (arith, h.is ds k), omega (arith, h.is ds k))
 
   -- piece i is empty
-  pub sized_past : (size i : ℕ) → Sized K n rest whole room size i → i < n → ((ds : List Struct) → K ds → [] ≡ one ds i) → Sized K n rest whole room size (i + 1)
-  sized_past size i h lt e = record {
+  pub sized_past : (left i : ℕ) → Sized K n rest whole room left i → i < n → ((ds : List Struct) → K ds → [] ≡ one ds i) → Sized K n rest whole room left (i + 1)
+  sized_past left i h lt e = record {
     within = omega arith;
     small = h.small;
     is = λ ds q. let m : rest ds i ≡ rest ds (i + 1) = p.more ds i lt ∙ ap (λ (b : Bytes). b ++ rest ds (i + 1)) (sym (e ds q)) in omega (arith, h.is ds q, ap length m);
   }
 
-  -- piece i, which is x, has k bytes
-  module _ (size i : ℕ) (h : Sized K n rest whole room size i) (lt : i < n) (x : List Struct → Bytes) (xe : (ds : List Struct) → K ds → x ds ≡ one ds i) (k : ℕ)
-      (ke : (ds : List Struct) → K ds → k ≡ capped (room - size) (length (x ds))) where
+  -- piece i, which is x
+  module _ (left i : ℕ) (h : Sized K n rest whole room left i) (lt : i < n) (x : List Struct → Bytes) (xe : (ds : List Struct) → K ds → x ds ≡ one ds i) where
     both : (ds : List Struct) → K ds → length (rest ds i) ≡ length (x ds) + length (rest ds (i + 1))
     both ds q = ap length (p.more ds i lt ∙ ap (λ (b : Bytes). b ++ rest ds (i + 1)) (sym (xe ds q))) ∙ length-append (x ds) (rest ds (i + 1))
 
-    pub sized_more : size + k ≤ room → Sized K n rest whole room (size + k) (i + 1)
-    sized_more ge = record {
+    -- it has k bytes
+    pub sized_more : (k : ℕ) → ((ds : List Struct) → K ds → Capped left (length (x ds)) (Some k)) → Sized K n rest whole room (left - k) (i + 1)
+    sized_more k ke = record {
       within = omega arith;
-      small = ge;
-      is = λ ds q.
-          let a : k ≤ room - size = omega arith in
-          let b : length (x ds) ≤ room - size = capped_within (room - size) _ (subst (λ (y : ℕ). y ≤ room - size) (ke ds q) a) in
-          let e : k ≡ length (x ds) = ke ds q ∙ capped_is (room - size) _ b in
-          omega (arith, both ds q, h.is ds q, e);
+      small = omega (arith, h.small);
+      is = λ ds q. omega (arith, both ds q, h.is ds q, (ke ds q).0, (ke ds q).1);
     }
 
-    pub sized_over : room < size + k → (ds : List Struct) → K ds → room + 1 ≡ capped room (length (whole ds))
-    sized_over gt ds q =
-        let y = h.small in
-        let a : room - size < k = omega arith in
-        let b : room - size < length (x ds) = capped_beyond (room - size) _ (subst (λ (y : ℕ). room - size < y) (ke ds q) a) in
-        sym (capped_over room _ (omega (arith, both ds q, h.is ds q)))
+    -- it is too long
+    pub sized_over : ((ds : List Struct) → K ds → Capped left (length (x ds)) None) → (ds : List Struct) → K ds → Capped room (length (whole ds)) None
+    sized_over ke ds q = omega (arith, both ds q, h.is ds q, ke ds q)
 
 -- ---- written
 

@@ -1,8 +1,8 @@
 -- How many bytes one failure has. Assumes nothing.
 use Rattle.std.specs.Prelude.{Option}
-use mathlib.Core.Path.{◌≡◌, refl, sym, ap, ◌∙◌}
+use mathlib.Core.Path.{◌≡◌, refl, sym, subst, ◌∙◌}
 use mathlib.Core.List.{[], ◌∷◌, ◌++◌}
-use Prim.Native.Nat.{ℕ, ◌+◌, ◌-◌, ◌≤◌, ◌<◌}
+use Prim.Native.Nat.{ℕ, ◌+◌}
 use native.Mathlib.Omega.{arith}
 use lib.ListN.{length, length-append}
 use Rattle.definition.specs.Types.{State}
@@ -14,32 +14,23 @@ use Rattle.failing.specs.Failing.{code_of, why, failing}
 use Rattle.failing.specs.declared.Wanted.{Wanted}
 use Rattle.failing.specs.declared.Failing.{Failing}
 use Rattle.failing.specs.declared.Failing.TheVariants.{Node, Anything, Lacks}
-use Rattle.writer.specs.Bytes.{capped}
-use Rattle.writer.proofs.Put.{capped_over, capped_more}
-
--- ---- a type, and n bytes around it
-
-pub around_is : (room n m k : ℕ) → n ≤ room → k ≡ capped (room - n) m → n + k ≡ capped room (n + m)
-around_is room n m k ge is = rw is (capped_more room n m ge)
-
-pub around_over : (room n m : ℕ) → room < n → room + 1 ≡ capped room (n + m)
-around_over room n m lt = sym (capped_over room (n + m) (omega arith))
+use Rattle.writer.specs.Bytes.{Capped}
 
 -- ---- one that asks for no abilities
 
-module _ (s : State) (f : Failing) (room k : ℕ) where
-  pub size_node : (what : Wanted) (loc t : ℕ) → f ≡ Node what loc t → k ≡ capped room (5 + length (write s t)) → k ≡ capped room (length (failing f s))
+module _ (s : State) (f : Failing) (room : ℕ) (r : Option ℕ) where
+  pub size_node : (what : Wanted) (loc t : ℕ) → f ≡ Node what loc t → Capped room (5 + length (write s t)) r → Capped room (length (failing f s)) r
   unfolding failure u32 write
-  size_node what loc t e is = is ∙ ap (capped room) (rw e (sym (length-append (code_of what ∷ u32 loc) (write s t))))
+  size_node what loc t e is = subst (λ (m : ℕ). Capped room m r) (rw e (sym (length-append (code_of what ∷ u32 loc) (write s t)))) is
 
-  pub size_anything : (what : Wanted) (loc at : ℕ) → f ≡ Anything what loc at → k ≡ capped room 10 → k ≡ capped room (length (failing f s))
+  pub size_anything : (what : Wanted) (loc at : ℕ) → f ≡ Anything what loc at → Capped room 10 r → Capped room (length (failing f s)) r
   unfolding failure u32 write_spanned write_down head each parts
   size_anything what loc at e is = rw e is
 
-  pub size_lacks : (loc ability t y : ℕ) (place : Option ℕ) → f ≡ Lacks loc ability t place → y ≡ length (why place) → k ≡ capped room (6 + y + length (write s t)) → k ≡ capped room (length (failing f s))
+  pub size_lacks : (loc ability t y : ℕ) (place : Option ℕ) → f ≡ Lacks loc ability t place → y ≡ length (why place) → Capped room (6 + y + length (write s t)) r → Capped room (length (failing f s)) r
   unfolding ability_failure u32 write
   size_lacks loc ability t y place e ye is =
       let a : length (ability_failure s loc ability (spanned s t) (why place)) ≡ 6 + length (write s t ++ why place) = length-append (4 ∷ u32 loc ++ (ability ∷ [])) (write s t ++ why place) in
       let b = length-append (write s t) (why place) in
       let c : 6 + y + length (write s t) ≡ length (ability_failure s loc ability (spanned s t) (why place)) = omega (arith, a, b, ye) in
-      is ∙ ap (capped room) c ∙ rw e refl
+      subst (λ (m : ℕ). Capped room m r) (c ∙ rw e refl) is

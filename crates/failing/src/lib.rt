@@ -9,7 +9,7 @@ ghost use Rattle.table.specs.State.{constraint_of, shape_of, FoundIn};
 ghost use Rattle.table.specs.Did.{held, tables};
 ghost use Rattle.definition.specs.Store.{with_args, spanned};
 ghost use Rattle.failing.specs.Failing.{code_of, good, Asks, why, failing, FailingIn};
-ghost use Rattle.writer.specs.Bytes.{AllBytes, capped, Wrote};
+ghost use Rattle.writer.specs.Bytes.{AllBytes, Capped, Wrote};
 ghost use Rattle.definition.specs.Write.{u32 as bytes-u32, write};
 
 use names::TypeName;
@@ -37,6 +37,7 @@ pub struct Ask {
 
 // A failure: what was wanted, its location, and the type as a node or `_` at a location. Of an ability that is missing:
 // the location, the ability, the type as a node, and the argument that lacks, if it is not the declaration.
+// No Unfolded of subst in it: subst is not below this crate, and node and `_` are written in two ways, in two arms, either way.
 #[derive(Clone, Copy)]
 pub enum Failing {
     Node(Wanted, u32, u32),
@@ -109,26 +110,23 @@ fn why_size(place: Option<u32>) -> u32
     }
 }
 
-// How many bytes the type t has and `around` others, if no more than `room`; else one more than `room`.
-fn size_around(st: &State<'_>, t: u32, around: u32, room: u32) -> u32
+// How many bytes the type t has and `around` others, if no more than `room`.
+fn size_around(st: &State<'_>, t: u32, around: u32, room: u32) -> Option<u32>
     requires { (t < st.now.used.nodes) × (room ≤ 4096) }
-    ensures { (ds : List d.Struct) → result ≡ capped room (around + length (write (held st.now ds) t)) }
+    ensures { (ds : List d.Struct) → Capped room (around + length (write (held st.now ds) t)) result }
 {
-    if room < around {
-        room + 1
-    } else {
-        around + size_type(st, t, room - around)
-    }
+    let left = room.checked_sub(around)?;
+    Some(around + size_type(st, t, left)?)
 }
 
-// How many bytes a failure has, if no more than `room`; else one more than `room`.
-pub fn size_failing(st: &State<'_>, f: Failing, room: u32) -> u32
+// How many bytes a failure has, if no more than `room`.
+pub fn size_failing(st: &State<'_>, f: Failing, room: u32) -> Option<u32>
     requires { FailingIn st.now.used.nodes f × (room ≤ 4096) }
-    ensures { (ds : List d.Struct) → result ≡ capped room (length (failing f (held st.now ds))) }
+    ensures { (ds : List d.Struct) → Capped room (length (failing f (held st.now ds))) result }
 {
     match f {
         Failing::Node(_, _, t) => size_around(st, t, 5, room),
-        Failing::Anything(_, _, _) => if room < 10 { room + 1 } else { 10 },
+        Failing::Anything(_, _, _) => if room < 10 { None } else { Some(10) },
         Failing::Lacks(_, _, t, place) => size_around(st, t, 6 + why_size(place), room),
     }
 }
@@ -151,7 +149,7 @@ fn put_why(buf: &mut [u8], at: usize, place: Option<u32>) -> usize
     }
 }
 
-// The failure for an ability: code, location, ability, type and rule.
+// The failure for an ability: its code, which no Wanted has and stands here alone, location, ability, type and rule.
 fn write_lacks(
     st: &State<'_>,
     loc: u32,

@@ -10,7 +10,7 @@ ghost use Rattle.table.specs.Did.{tables};
 ghost use Rattle.table.specs.declared.state.State.{State as Table};
 ghost use Rattle.heads.specs.Fields.{Arities};
 ghost use Rattle.marks.specs.Marks.{loc_record, look_record, two_record, loc_type_record};
-ghost use Rattle.cursor.specs.Words.{read_as};
+ghost use Rattle.cursor.specs.Words.{Within, read_as};
 ghost use Rattle.constraints.specs.Solve.{kind_of};
 ghost use Rattle.fields.specs.Noded.{FieldsAre, params_of};
 
@@ -32,7 +32,7 @@ pub enum Bind {
     IN(u32),
 }
 
-// The first `many` ids, each with its argument's node: in two arrays, as make_tparam_subst takes them.
+// The first `many` ids, each with its argument's node: in two arrays, since contracts speak of the nodes as of any parts.
 #[derive(Clone, Copy)]
 pub struct Pairs {
     pub ids: [TParamID; 8],
@@ -72,14 +72,14 @@ pub enum What {
     Add(Add),
 }
 
-// What was read, or none if there was no space for its types (7); and the place after it.
+// What was read, or none if there was no space for its types (7); and the place after it, beside both, since a record without space has one too.
 #[derive(Clone, Copy)]
 pub struct Fields {
     pub read: Result<Option<What>, ReadError>,
     pub next: usize,
 }
 
-// ---- one type, or two
+// ---- one type, or two. Each reader makes a value of its own: one with a closure for it would be no shorter
 
 pub fn read_look(
     st: &mut State<'_>,
@@ -88,7 +88,8 @@ pub fn read_look(
     m: LookMark,
 ) -> Result<Option<What>, ReadError>
     requires { Arities (tables st.old).structs }
-    ensures { FieldsAre st.old known (λ s. read_one (look_record m) (read_type s) r.old.left.now) st.new r.new.left.now result }
+    ensures is { FieldsAre st.old known (λ s. read_one (look_record m) (read_type s) r.old.left.now) st.new r.new.left.now result }
+    ensures within { Within r.old.left.now r.new.left.now }
 {
     let ty = read_type(st, r, known, 64, false)?;
     Ok(ty.map(|t| What::Look(Look::One(m, t))))
@@ -96,7 +97,8 @@ pub fn read_look(
 
 pub fn read_in(st: &mut State<'_>, r: &mut Reader, known: u32) -> Result<Option<What>, ReadError>
     requires { Arities (tables st.old).structs }
-    ensures { FieldsAre st.old known (λ s. read_one IN (read_type s) r.old.left.now) st.new r.new.left.now result }
+    ensures is { FieldsAre st.old known (λ s. read_one IN (read_type s) r.old.left.now) st.new r.new.left.now result }
+    ensures within { Within r.old.left.now r.new.left.now }
 {
     let ty = read_type(st, r, known, 64, false)?;
     Ok(ty.map(|t| What::Bind(Bind::IN(t))))
@@ -109,7 +111,8 @@ pub fn read_two(
     m: TwoMark,
 ) -> Result<Option<What>, ReadError>
     requires { Arities (tables st.old).structs }
-    ensures { FieldsAre st.old known (λ s. read_two (two_record m) (read_type s) (read_type s) r.old.left.now) st.new r.new.left.now result }
+    ensures is { FieldsAre st.old known (λ s. read_two (two_record m) (read_type s) (read_type s) r.old.left.now) st.new r.new.left.now result }
+    ensures within { Within r.old.left.now r.new.left.now }
 {
     let lhs = read_type(st, r, known, 64, false)?;
     let rhs = read_type(st, r, known, 64, lhs.is_none())?;
@@ -122,7 +125,8 @@ pub fn read_two(
 pub fn read_rm(st: &State<'_>, r: &mut Reader, known: u32) -> Result<Option<What>, ReadError>
     requires few_params { Arities (tables st.now).structs }
     requires short { length r.old.left.now ≤ 4096 }
-    ensures { FieldsAre st.now known (λ s. read_one RM (read_type s) r.old.left.now) st.now r.new.left.now result }
+    ensures is { FieldsAre st.now known (λ s. read_one RM (read_type s) r.old.left.now) st.now r.new.left.now result }
+    ensures within { Within r.old.left.now r.new.left.now }
 {
     let sums = count_type(st, r, known, 64, false)?;
     Ok(Some(What::Add(Add::RM(sums))))
@@ -131,14 +135,16 @@ pub fn read_rm(st: &State<'_>, r: &mut Reader, known: u32) -> Result<Option<What
 // ---- numbers, and a type or none
 
 pub fn read_loc(r: &mut Reader, m: LocMark) -> Result<Option<What>, ReadError>
-    ensures { (st : Table) (known : ℕ) → FieldsAre st known (λ s. read_one (loc_record m) read_u32 r.old.left.now) st r.new.left.now result }
+    ensures is { (st : Table) (known : ℕ) → FieldsAre st known (λ s. read_one (loc_record m) read_u32 r.old.left.now) st r.new.left.now result }
+    ensures within { Within r.old.left.now r.new.left.now }
 {
     let loc = r.u32()?;
     Ok(Some(What::Add(Add::Loc(m, loc))))
 }
 
 pub fn read_sn(r: &mut Reader, known: u32) -> Result<Option<What>, ReadError>
-    ensures { (st : Table) → FieldsAre st known (λ s. read_two SN (name_below (taken s)) read_u32 r.old.left.now) st r.new.left.now result }
+    ensures is { (st : Table) → FieldsAre st known (λ s. read_two SN (name_below (taken s)) read_u32 r.old.left.now) st r.new.left.now result }
+    ensures within { Within r.old.left.now r.new.left.now }
 {
     let v = r.name_below(known)?;
     let loc = r.u32()?;
@@ -152,7 +158,8 @@ pub fn read_loc_type(
     m: LocTypeMark,
 ) -> Result<Option<What>, ReadError>
     requires { Arities (tables st.old).structs }
-    ensures { FieldsAre st.old known (λ s. read_two (loc_type_record m) read_u32 (read_type s) r.old.left.now) st.new r.new.left.now result }
+    ensures is { FieldsAre st.old known (λ s. read_two (loc_type_record m) read_u32 (read_type s) r.old.left.now) st.new r.new.left.now result }
+    ensures within { Within r.old.left.now r.new.left.now }
 {
     let loc = r.u32()?;
     let ty = read_type(st, r, known, 64, false)?;
@@ -161,7 +168,8 @@ pub fn read_loc_type(
 
 // A kind's byte, from 0 to 2.
 fn read_kind(r: &mut Reader) -> Result<NumericKind, ReadError>
-    ensures { read_as kind_of result r.new.left.now ≡ read_kind r.old.left.now }
+    ensures is { read_as kind_of result r.new.left.now ≡ read_kind r.old.left.now }
+    ensures within { Within r.old.left.now r.new.left.now }
 {
     match r.u8()? {
         0 => Ok(NumericKind::Numeric),
@@ -173,7 +181,8 @@ fn read_kind(r: &mut Reader) -> Result<NumericKind, ReadError>
 
 pub fn read_nc(st: &mut State<'_>, r: &mut Reader, known: u32) -> Result<Option<What>, ReadError>
     requires { Arities (tables st.old).structs }
-    ensures { FieldsAre st.old known (λ s. read_three NC read_u32 read_kind (read_type s) r.old.left.now) st.new r.new.left.now result }
+    ensures is { FieldsAre st.old known (λ s. read_three NC read_u32 read_kind (read_type s) r.old.left.now) st.new r.new.left.now result }
+    ensures within { Within r.old.left.now r.new.left.now }
 {
     let loc = r.u32()?;
     let kind = read_kind(r)?;
@@ -188,6 +197,7 @@ fn read_params(r: &mut Reader, many: u8) -> Result<Params, ReadError>
     requires { many ≤ 8 }
     ensures is { read_as params_of result r.new.left.now ≡ times many (byte_to 31) r.old.left.now }
     ensures few { IfOk result (λ ps. ps.many ≤ 8) }
+    ensures within { Within r.old.left.now r.new.left.now }
 {
     let mut bytes = [0; 8];
     for i in 0..usize::from(many) {
@@ -197,7 +207,8 @@ fn read_params(r: &mut Reader, many: u8) -> Result<Params, ReadError>
 }
 
 pub fn read_sd(r: &mut Reader) -> Result<Option<What>, ReadError>
-    ensures { (st : Table) (known : ℕ) → FieldsAre st known (λ s. read_SD s r.old.left.now) st r.new.left.now result }
+    ensures is { (st : Table) (known : ℕ) → FieldsAre st known (λ s. read_SD s r.old.left.now) st r.new.left.now result }
+    ensures within { Within r.old.left.now r.new.left.now }
 {
     let abilities = AbilitySet(r.byte_to(15)?);
     let many = r.byte_to(8)?;

@@ -1,7 +1,7 @@
 // A type's tag, location and fields from a record's bytes, without its parts (5, 6, 18).
 #![tactic(auto)]
 
-ghost use Rattle.std.specs.Prelude.{◌≡◌, ◌&&◌, List, ℕ, ◌-◌, ◌≤◌, ◌<◌, ltb, eqb, length, get_or, IfOk};
+ghost use Rattle.std.specs.Prelude.{◌≡◌, ◌&&◌, List, ℕ, ◌-◌, ◌≤◌, ◌<◌, ltb, eqb, get_or, IfOk};
 ghost use Rattle.definition.specs.Types as d;
 ghost use Rattle.definition.specs.Types.{malformed, unknown_name};
 ghost use Rattle.definition.specs.Store.{taken};
@@ -10,7 +10,7 @@ ghost use Rattle.definition.specs.Trees.{Tree, mark_of, read_mark, mark_fits, re
 ghost use Rattle.names.specs.Names.{mark_of as mark-is};
 ghost use Rattle.table.specs.State.{Declares};
 ghost use Rattle.table.specs.Did.{tables};
-ghost use Rattle.cursor.specs.Words.{read_as};
+ghost use Rattle.cursor.specs.Words.{Within, read_as};
 ghost use Rattle.heads.specs.Fields.{read_args, marked, many_parts, parts_read, tree_read, Few, Knows, Arities};
 
 use cursor::{ReadError, Reader};
@@ -21,7 +21,7 @@ use names::{
 use table::Shape;
 use table::state::State;
 
-// A type without its parts: its location, and its tag and fields as a shape.
+// A type without its parts: its location, and its tag and fields as a shape. No Node, whose shape names its parts: here none is placed yet.
 #[derive(Clone, Copy)]
 pub struct Head {
     pub loc: u32,
@@ -42,7 +42,7 @@ fn mark_of(byte: u32) -> Option<AbilityMark>
 
 fn read_mark(r: &mut Reader) -> Result<AbilityMark, ReadError>
     ensures is { read_as mark-is result r.new.left.now ≡ read_mark r.old.left.now }
-    ensures shorter { length r.new.left.now ≤ length r.old.left.now }
+    ensures within { Within r.old.left.now r.new.left.now }
 {
     let byte = r.u8()?;
     mark_of(u32::from(byte)).ok_or(ReadError::Malformed)
@@ -70,7 +70,7 @@ fn is_doubled(r: &Reader, left: u32) -> bool
 fn ref_fields(r: &mut Reader, left: u32) -> Result<Shape, ReadError>
     ensures begins { (loc : ℕ) (part : Reading Tree) → parts_read loc result r.new.left.now part ≡ read_two (ref_tree loc) read_bool (under_ref left part) r.old.left.now }
     ensures few { Few result }
-    ensures shorter { length r.new.left.now ≤ length r.old.left.now }
+    ensures within { Within r.old.left.now r.new.left.now }
 {
     let x = r.byte_to(1)?;
     if is_doubled(r, left) {
@@ -82,7 +82,7 @@ fn ref_fields(r: &mut Reader, left: u32) -> Result<Shape, ReadError>
 fn param_fields(r: &mut Reader) -> Result<Shape, ReadError>
     ensures begins { (loc : ℕ) (part : Reading Tree) → parts_read loc result r.new.left.now part ≡ read_two (param_tree loc) read_u32 (byte_if is_set) r.old.left.now }
     ensures few { Few result }
-    ensures shorter { length r.new.left.now ≤ length r.old.left.now }
+    ensures within { Within r.old.left.now r.new.left.now }
 {
     let id = r.u32()?;
     let abilities = r.byte_to(15)?;
@@ -92,7 +92,7 @@ fn param_fields(r: &mut Reader) -> Result<Shape, ReadError>
 fn builtin_fields(r: &mut Reader) -> Result<Shape, ReadError>
     ensures begins { (s : d.State) (loc : ℕ) (part : Reading Tree) → parts_read loc result r.new.left.now part ≡ read_apply s part loc byte d.Builtin malformed r.old.left.now }
     ensures few { Few result }
-    ensures shorter { length r.new.left.now ≤ length r.old.left.now }
+    ensures within { Within r.old.left.now r.new.left.now }
 {
     let k = read_mark(r)?;
     let n = u32::from(r.byte_to(MAX_BUILTIN)?);
@@ -106,7 +106,7 @@ fn builtin_fields(r: &mut Reader) -> Result<Shape, ReadError>
 fn list_fields(r: &mut Reader) -> Result<Shape, ReadError>
     ensures begins { (s : d.State) (loc : ℕ) (part : Reading Tree) → parts_read loc result r.new.left.now part ≡ read_apply s part loc byte d.Multiple malformed r.old.left.now }
     ensures few { Few result }
-    ensures shorter { length r.new.left.now ≤ length r.old.left.now }
+    ensures within { Within r.old.left.now r.new.left.now }
 {
     let k = read_mark(r)?;
     let n = u32::from(r.byte_to(8)?);
@@ -117,7 +117,7 @@ fn struct_fields(st: &State<'_>, r: &mut Reader) -> Result<Shape, ReadError>
     requires { Arities (tables st.now).structs }
     ensures begins { (s : d.State) → Declares st.now.words.now st.now.used s.structs → (loc : ℕ) (part : Reading Tree) → parts_read loc result r.new.left.now part ≡ read_apply s part loc read_u16 d.ModuleType unknown_name r.old.left.now }
     ensures few { Few result }
-    ensures shorter { length r.new.left.now ≤ length r.old.left.now }
+    ensures within { Within r.old.left.now r.new.left.now }
 {
     let k = read_mark(r)?;
     let n = u32::from(r.name_below(st.used.structs)?);
@@ -128,7 +128,7 @@ fn struct_fields(st: &State<'_>, r: &mut Reader) -> Result<Shape, ReadError>
 fn var_fields(r: &mut Reader, known: u32) -> Result<Shape, ReadError>
     ensures begins { (s : d.State) → taken s ≡ known → (loc : ℕ) (part : Reading Tree) → parts_read loc result r.new.left.now part ≡ read_one (var_tree loc) (name_below (taken s)) r.old.left.now }
     ensures few { Few result }
-    ensures shorter { length r.new.left.now ≤ length r.old.left.now }
+    ensures within { Within r.old.left.now r.new.left.now }
 {
     let v = r.name_below(known)?;
     Ok(Shape::Var(TVar(v)))
@@ -146,7 +146,7 @@ fn fields(
     requires is_tag { tag ≤ 8 }
     ensures begins { (s : d.State) (ds : List d.Struct) → Declares st.now.words.now st.now.used ds → Knows s known ds → (loc : ℕ) (part : Reading Tree) → parts_read loc result r.new.left.now part ≡ get_or (by_tag s part loc left) tag (refuse malformed) r.old.left.now }
     ensures few { Few result }
-    ensures shorter { length r.new.left.now ≤ length r.old.left.now }
+    ensures within { Within r.old.left.now r.new.left.now }
 {
     match tag {
         0 => Ok(Shape::Unit),
@@ -166,7 +166,7 @@ pub fn read_head(st: &State<'_>, r: &mut Reader, known: u32, nest: u32) -> Resul
     requires { Arities (tables st.now).structs }
     ensures reads { (s : d.State) (ds : List d.Struct) → Declares st.now.words.now st.now.used ds → Knows s known ds → tree_read result r.new.left.now (read_nested (nest - 1) s) ≡ read_nested nest s r.old.left.now }
     ensures few { IfOk result (λ h. (many_parts h.shape ≤ 8) × (0 < nest)) }
-    ensures shorter { length r.new.left.now ≤ length r.old.left.now }
+    ensures within { Within r.old.left.now r.new.left.now }
 {
     if nest == 0 {
         return Err(ReadError::Malformed);

@@ -8,7 +8,6 @@ use native.Mathlib.Decide.{dec_lt}
 use lib.ListN.{length, get_or, take, length-take, length-map, length-replicate, get_or-replicate, get_or-map, get_or-eq_default}
 use lib.Seq.{get_or-take}
 use lib.Dec.{eqb}
-use borrow.Author.Tests.{eq-eqb, ne_eqb}
 use Rattle.definition.specs.Types as d
 use Rattle.std.specs.Prelude.{if◌then◌else◌}
 use Rattle.definition.specs.Types.{State, Struct, Result, ok, AbilityConstraint, Multiple, Builtin, ModuleType, ◌>>=◌}

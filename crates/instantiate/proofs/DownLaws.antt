@@ -28,7 +28,7 @@ use Rattle.table.proofs.Walk.{rest, named_kept}
 use Rattle.shapes.proofs.Tags.{other_shapes}
 use Rattle.shapes.proofs.Levels.{Walk, Levels}
 use Rattle.join.proofs.Lists.{listed_err, listed_then}
-use Rattle.instantiate.specs.declared.Tparams.{Tparams}
+use Rattle.join.specs.declared.Types.{Types}
 use Rattle.instantiate.specs.Args.{made, Made, joined}
 use Rattle.instantiate.proofs.TvarLaws.{constraint_then, did_among}
 use Rattle.instantiate.proofs.MadeLaws.{KnownTo}
@@ -98,13 +98,13 @@ module _ (s : State) (params : List (List ℕ)) (left loc : ℕ) (k : d.AbilityM
   pub apply_err : {t : State} {e : Stop} {r : core.Result ℕ Stop} → Made (KnownTo s params) s t (Err e) (made loc n tys) → r ≡ Err e → DidFor (KnownTo s params) s t r (λ x. instantiate_apply (instantiate_down left) x loc k n tys)
   apply_err a q = all_is (listed_err go a q)
 
-  module _ {t : State} {b : Tparams} (made_all : Made (KnownTo s params) s t (Ok b) (made loc n tys)) (nm : Named s.words.now s.used first many s.used.nodes) where
-    pub apply_then : {v : State} {r : core.Result ℕ Stop} → DidFor (KnownTo t params) t v r (rest (instantiate_down left) (joined loc k n (take b.many b.tvars)) [] (args_at (tables t) (places first many)))
+  module _ {t : State} {b : Types} (made_all : Made (KnownTo s params) s t (Ok b) (made loc n tys)) (nm : Named s.words.now s.used first many s.used.nodes) where
+    pub apply_then : {v : State} {r : core.Result ℕ Stop} → DidFor (KnownTo t params) t v r (rest (instantiate_down left) (joined loc k n (take b.many b.tys)) [] (args_at (tables t) (places first many)))
         → DidFor (KnownTo s params) s v r (λ x. instantiate_apply (instantiate_down left) x loc k n tys)
     unfolding go places
     apply_then x =
         all_is
         (listed_then go made_all
         (did_is
-        (λ ds kn. ap (λ (l : List ℕ). rest (instantiate_down left) (joined loc k n (take b.many b.tvars)) [] l (held t ds)) (args_kept (tables s) (tables t) (places first many) made_all.changed.step.grown nm.placed.inside))
+        (λ ds kn. ap (λ (l : List ℕ). rest (instantiate_down left) (joined loc k n (take b.many b.tys)) [] l (held t ds)) (args_kept (tables s) (tables t) (places first many) made_all.changed.step.grown nm.placed.inside))
         (did_known s made_all.changed.step.structs x)))

@@ -22,7 +22,7 @@ use Rattle.table.proofs.Walk.{rest, just_list, range, range_length, range_at, Wa
 use Rattle.join.proofs.Lists.{listed_is, list_err, list_ok}
 use Rattle.instantiate.specs.Known.{Numbered, ability_at}
 use Rattle.instantiate.specs.Args.{make_tparam, made, Made}
-use Rattle.instantiate.specs.declared.Tparams.{Tparams}
+use Rattle.join.specs.declared.Types.{Types}
 use Rattle.instantiate.proofs.ArgLaws.{tparam_by, tparams_are, ability_is, is_numbered}
 use Rattle.instantiate.proofs.TvarLaws.{did_any}
 
@@ -68,12 +68,12 @@ module _ {params : List (List ℕ)} {loc : ℕ} {n : d.TypeName} {first many cou
         ∙ ap (λ (c : ℕ). make_tparam (held s ds) loc n (get_or tys i 0) c) (ab_is (is_numbered s₀.words.now s₀.used params ds k s₀.lay.structs n i (omega (arith, g.counted ds k.rows)))))
         (did_any step)
 
-    pub made_err : {e : Stop} {r : core.Result Tparams Stop} → Did s t (Err e) (λ x. make_tparam x loc n ty ab.0) → r ≡ Err e → Made (KnownTo s₀ params) s₀ t r (made loc n tys)
+    pub made_err : {e : Stop} {r : core.Result Types Stop} → Did s t (Err e) (λ x. make_tparam x loc n ty ab.0) → r ≡ Err e → Made (KnownTo s₀ params) s₀ t r (made loc n tys)
     made_err step q = listed_is all_made (list_err g.same g.walked lt (range_at count i lt) (made_step step) q)
 
     pub made_more : {p at : ℕ} → Did s t (Ok p) (λ x. make_tparam x loc n ty ab.0) → at ≡ i → Making params loc n first many count s₀ t (set tvars at p) (i + 1)
     made_more step e =
         record { same = step.changed.same ∙ g.same; walked = walk_more g.walked lt (range_at count i lt) (to_when (made_step step)) refl refl e; placed = g.placed; fewer = g.fewer; counted = g.counted }
 
-  pub made_end : count ≤ i → Made (KnownTo s₀ params) s₀ s (Ok (record { tvars = tvars; many = count })) (made loc n tys)
-  made_end no_more = listed_is all_made (list_ok g.same g.walked (record { tvars = tvars; many = count }) refl refl no_more)
+  pub made_end : count ≤ i → Made (KnownTo s₀ params) s₀ s (Ok (record { tys = tvars; many = count })) (made loc n tys)
+  made_end no_more = listed_is all_made (list_ok g.same g.walked (record { tys = tvars; many = count }) refl refl no_more)

@@ -8,7 +8,7 @@ use Rattle.definition.specs.Instantiate.{make_tvar, tvar_constraint, tparam_cons
 use Rattle.table.specs.declared.state.State.{State}
 use Rattle.table.specs.declared.state.Stop.{Stop}
 use Rattle.join.specs.Join.{Listed}
-use Rattle.instantiate.specs.declared.Tparams.{Tparams}
+use Rattle.join.specs.declared.Types.{Types}
 
 -- make_tparams, for one argument
 unfoldable pub make_tparam : d.State → ℕ → TypeName → ℕ → ℕ → Result (d.State × ℕ)
@@ -23,8 +23,8 @@ unfoldable pub made : ℕ → TypeName → List ℕ → d.State → Result (d.St
 made loc n tys s = make_tparams s loc n tys (tparam_constraints s n)
 
 -- the state s became t with r's variables, as f says for the declarations in K
-abbrev pub Made : (List Struct → Type 0) → State → State → core.Result Tparams Stop → (d.State → Result (d.State × List ℕ)) → Type 0
-Made K s t r f = Listed (λ x. x.tvars) (λ x. x.many) K s t r f
+abbrev pub Made : (List Struct → Type 0) → State → State → core.Result Types Stop → (d.State → Result (d.State × List ℕ)) → Type 0
+Made K s t r f = Listed (λ x. x.tys) (λ x. x.many) K s t r f
 
 -- the joins of the variables with the arguments, then the node
 unfoldable pub joined : ℕ → AbilityMark → TypeName → List ℕ → List ℕ → d.State → Result (d.State × ℕ)

@@ -15,17 +15,11 @@ ghost use Rattle.shapes.specs.Applied.{args_of};
 ghost use Rattle.instantiate.specs.Known.{Numbered, ability_at};
 ghost use Rattle.instantiate.specs.Args.{make_tparam, made, Made, joined};
 
-use names::{AbilitySet, TVar, TypeName};
+use join::Types;
+use names::{AbilitySet, PHANTOM, TVar, TypeName};
 use shapes::Applied;
 use table::state::{State, Stop};
 use table::{Constraint, Refusal, Shape};
-
-// A variable for each argument: the first `many` of `tvars`.
-#[derive(Clone, Copy)]
-struct Tparams {
-    tvars: [u32; 8],
-    many: u32,
-}
 
 // A fresh variable, as a node.
 fn make_tvar(st: &mut State<'_>, loc: u32) -> Result<u32, Stop>
@@ -56,13 +50,13 @@ fn tparam_count(st: &State<'_>, n: TypeName) -> u32
     }
 }
 
-// A parameter's required abilities; 16 is for phantom.
+// A parameter's required abilities: its byte without the mark of a phantom.
 fn struct_ability(params: &[[u8; 8]; 256], s: u32, i: u32) -> u8
     requires { i < 8 }
     ensures { s < 256 → result ≡ get_or (get_or params.now s []) i 0 % 16 }
 {
     if s < 256 {
-        params[s as usize][i as usize] % 16
+        params[s as usize][i as usize] % PHANTOM
     } else {
         0
     }
@@ -102,7 +96,7 @@ fn make_tparams(
     params: &[[u8; 8]; 256],
     loc: u32,
     ty: Applied,
-) -> Result<Tparams, Stop>
+) -> Result<Types, Stop>
     requires { Placed st.old.words.now st.old.used ty.first ty.many }
     ensures { Made (Known st.old.words.now st.old.used params.now) st.old st.new result (made loc (name_of ty.n) (args_at (tables st.old) (args_of ty))) }
 {
@@ -114,7 +108,7 @@ fn make_tparams(
         let abilities = ability_at(params, n, i);
         tvars[i as usize] = make_tparam(st, loc, n, t, abilities)?;
     }
-    Ok(Tparams { tvars, many })
+    Ok(Types { tys: tvars, many })
 }
 
 // The variables joined with the arguments, in order; then the node.
@@ -122,16 +116,17 @@ fn join_args(
     st: &mut State<'_>,
     loc: u32,
     ty: Applied,
-    tparams: &Tparams,
+    tparams: &Types,
     tys: [u32; 8],
 ) -> Result<u32, Stop>
-    requires { Parts st.old.used.nodes tparams.now.tvars tparams.now.many × Parts st.old.used.nodes tys ty.many }
-    ensures { Did st.old st.new result (joined loc (mark_of ty.k) (name_of ty.n) (take tparams.now.many tparams.now.tvars) (take ty.many tys)) }
+    requires { Parts st.old.used.nodes tparams.now.tys tparams.now.many × Parts st.old.used.nodes tys ty.many }
+    ensures { Did st.old st.new result (joined loc (mark_of ty.k) (name_of ty.n) (take tparams.now.many tparams.now.tys) (take ty.many tys)) }
 {
     let c = tparams.many.min(ty.many);
+    // Eight, as push_apply takes them; in instantiate_apply too.
     let mut parts: [u32; 8] = [0; 8];
     for i in 0..c {
-        parts[i as usize] = join::join(st, tparams.tvars[i as usize], tys[i as usize])?;
+        parts[i as usize] = join::join(st, tparams.tys[i as usize], tys[i as usize])?;
     }
     st.push_apply(loc, ty.k, ty.n, parts, c)
 }

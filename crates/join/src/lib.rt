@@ -17,11 +17,11 @@ use shapes::Applied;
 use table::state::{State, Stop};
 use table::{Refusal, Shape, TypingError};
 
-// The joins of two argument lists: the first `many` of `tys`.
+// Types, one for each argument: the first `many` of `tys`. Eight places and a count, as push_apply takes them (tparams says why).
 #[derive(Clone, Copy)]
-struct Types {
-    tys: [u32; 8],
-    many: u32,
+pub struct Types {
+    pub tys: [u32; 8],
+    pub many: u32,
 }
 
 pub fn join(st: &mut State<'_>, lhs: u32, rhs: u32) -> Result<u32, Stop>
@@ -59,8 +59,13 @@ fn join_impl(
     match arms::arm_of(case, l.shape, r.shape) {
         Arm::Lhs => Ok(lhs),
         Arm::Rhs => Ok(rhs),
-        Arm::Refs(side, mutable, t1, t2) => {
-            let loc = if side { l.loc } else { r.loc };
+        Arm::Refs {
+            at_left,
+            mutable,
+            t1,
+            t2,
+        } => {
+            let loc = if at_left { l.loc } else { r.loc };
             let t = join_impl(st, case, less, t1, t2)?;
             st.push_node(loc, Shape::Ref(mutable, t))
         }
@@ -84,7 +89,7 @@ fn join_impl(
     }
 }
 
-// The argument walk, over as many as both lists have.
+// The argument walk, over as many as both lists have: their joins.
 #[cycle(join_impl_join_impl_types_join_tvar)]
 fn join_impl_types(
     st: &mut State<'_>,

@@ -31,7 +31,7 @@ pub fn takes_on(index: u64, left: usize, room: usize, more: bool) -> bool
     (!more || MAX_RECORD <= left) && MAX_LINE <= room && index < MAX_INDEX
 }
 
-// 5, 6 and 18 end a job.
+// 5, 6 and 18 end a job: by the number, as 01 says it of answers, whatever gave them.
 // Refused: a job that goes on after 6 (six_goes_on) or after 18 (eighteen_goes_on).
 #[tactic(auto, unfolding(definition::specs::Job::ends_job))]
 pub fn ends_job(number: u32) -> bool

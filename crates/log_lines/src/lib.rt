@@ -7,7 +7,8 @@ ghost use Rattle.log_lines.specs.Line.{Wrote, line_of};
 
 use itoa::Buffer;
 
-// Puts these bytes at place `at`; the place after them.
+// Puts these bytes at place `at`; the place after them. As writer's put_bytes: a crate under both for these lines is no plainer, and this one
+// stands on the definition alone.
 fn put(bytes: &[u8], log: &mut [u8], at: usize) -> usize
     requires { at + length bytes.now ≤ length log.old }
     ensures { Wrote log.old at bytes.now log.new result }

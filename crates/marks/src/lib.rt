@@ -76,7 +76,7 @@ const MARKS: [Letters; 15] = [
     Letters(b'R', b'M', RecordMark::RM),
 ];
 
-// The mark that these letters are, if any.
+// The mark that these letters are, if any. A loop over the definition's rows in their order: each step of its proof is a row that is passed.
 pub fn mark_of(first: u32, second: u32) -> Option<RecordMark>
     ensures { (s : d.State) → reader_of result s ≡ fields_of (by_mark s) first second }
 {

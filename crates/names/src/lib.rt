@@ -24,17 +24,52 @@ pub const MAX_DEPTH: u32 = 256;
 // The builtins are 0 to 9.
 pub const MAX_BUILTIN: u32 = 9;
 
+// Of them, those that the code names.
+pub const SIGNER: u32 = 1;
+
+pub const U64: u32 = 3;
+
+pub const VECTOR: u32 = 5;
+
+// The abilities: each is its bit in a set.
+pub const COPY: u8 = 1;
+
+pub const DROP: u8 = 2;
+
+pub const STORE: u8 = 4;
+
+pub const KEY: u8 = 8;
+
+// In a parameter's byte, beside the abilities that it requires.
+pub const PHANTOM: u8 = 16;
+
 // An inference variable's number.
 #[derive(Clone, Copy, PartialEq, Eq)]
 pub struct TVar(pub u16);
+
+impl From<TVar> for u32 {
+    ghost from_gives = { λ v n. (n ≡ v.0) × (n < 65536) };
+
+    fn from(v: TVar) -> u32 {
+        u32::from(v.0)
+    }
+}
 
 // A type parameter's id. No variable, so never looked up as one.
 #[derive(Clone, Copy, PartialEq, Eq)]
 pub struct TParamID(pub u32);
 
-// copy 1, drop 2, store 4, key 8
+// The sum of its abilities.
 #[derive(Clone, Copy, PartialEq, Eq)]
 pub struct AbilitySet(pub u8);
+
+impl From<AbilitySet> for u32 {
+    ghost from_gives = { λ a n. (n ≡ a.0) × (n < 256) };
+
+    fn from(a: AbilitySet) -> u32 {
+        u32::from(a.0)
+    }
+}
 
 // What the Rust gives a type by its kind.
 impl AbilitySet {
@@ -69,6 +104,7 @@ pub fn is_numeric(b: u32) -> bool
 }
 
 // AbilitySet::has_ability_. An ability is its bit: a type of the four would ask more of callers, who may pass any number but 0.
+// Nor NonZeroU8: callers have constants and requires_of's number, and each would go through NonZeroU8::new and its Option, only to be divided by.
 pub fn has(a: AbilitySet, ability: u8) -> bool
     requires { 0 < ability }
     ensures { result ≡ has a.0 ability }
@@ -81,8 +117,8 @@ pub fn builtin_abilities(b: u32) -> AbilitySet
     ensures { result.0 ≡ builtin_abilities b }
 {
     match b {
-        1 => AbilitySet::SIGNER,
-        5 => AbilitySet::COLLECTION,
+        SIGNER => AbilitySet::SIGNER,
+        VECTOR => AbilitySet::COLLECTION,
         _ => AbilitySet::PRIMITIVES,
     }
 }
@@ -91,18 +127,18 @@ pub fn builtin_abilities(b: u32) -> AbilitySet
 pub fn builtin_tparams(b: u32) -> u32
     ensures { (result ≡ length (builtin_tparams b)) × (result ≤ 1) }
 {
-    if b == 5 { 1 } else { 0 }
+    if b == VECTOR { 1 } else { 0 }
 }
 
 // Ability_::requires: what an argument must have.
 pub fn requires_of(ability: u8) -> u8
     ensures { result ≡ requires ability }
 {
-    if ability == 8 { 4 } else { ability }
+    if ability == KEY { STORE } else { ability }
 }
 
 pub fn has_drop(a: AbilitySet) -> bool
     ensures { result ≡ has_drop (Some a.0) }
 {
-    a.0 / 2 % 2 == 1
+    has(a, DROP)
 }

@@ -119,14 +119,6 @@ module _ {st : Table} {l₀ : Bytes} {known nest : ℕ} {arg : Bool} {o : Option
       let y = x.bytes in
       more _ _ c (omega arith) x.few
 
-  -- the bytes that are left
-  pub go_short : {m : ℕ} → length l₀ ≤ m → length l ≤ m
-  go_short p =
-      let ds = (tables st).structs in
-      let x = g.is ds (knowing known ds) (declares_self _ _) (knows known ds) in
-      let y = x.bytes in
-      omega arith
-
   pub part_few : {l' : Bytes} {d : Option Sums} → Counts st known arg (λ s. read_nested nest s l) l' (Ok d) → length l ≤ 4096 → Most 65536 d
   part_few {l'} {d} t p =
       let ds = (tables st).structs in

@@ -4,6 +4,7 @@
 ghost use Rattle.std.specs.Prelude.{◌≡◌, ◌≤◌, length};
 ghost use Rattle.definition.specs.Trees.{read_nested};
 ghost use Rattle.table.specs.Did.{tables};
+ghost use Rattle.cursor.specs.Words.{Within};
 ghost use Rattle.heads.specs.Fields.{many_parts, tree_read, Arities};
 ghost use Rattle.needs.specs.Counted.{Counts, Most, beside, both, is_apply, own, sums};
 
@@ -86,7 +87,8 @@ fn is_apply(shape: Shape) -> bool
 
 // ---- a type and its parts
 
-// A type at most `nest` deep; arg: it is an argument of a name.
+// A type at most `nest` deep; arg: it is an argument of a name, a flag, as nothing comes with it. Of at most 4,096 bytes, whose sums fit. A walk
+// beside reader's: one over both would have to say what placing and counting have in common, which is the reading alone, in heads.
 #[cycle(count_parts_count_type)]
 pub fn count_type(
     st: &State<'_>,
@@ -97,7 +99,8 @@ pub fn count_type(
 ) -> Result<Option<Sums>, ReadError>
     requires few_params { Arities (tables st.now).structs }
     requires short { length r.old.left.now ≤ 4096 }
-    ensures { Counts st.now known arg (λ s. read_nested nest s r.old.left.now) r.new.left.now result }
+    ensures is { Counts st.now known arg (λ s. read_nested nest s r.old.left.now) r.new.left.now result }
+    ensures within { Within r.old.left.now r.new.left.now }
 {
     let head = read_head(st, r, known, nest)?;
     count_parts(st, r, known, nest - 1, arg, head)
@@ -116,7 +119,8 @@ fn count_parts(
     requires few_params { Arities (tables st.now).structs }
     requires few { many_parts head.shape ≤ 8 }
     requires short { length r.old.left.now ≤ 4096 }
-    ensures { Counts st.now known arg (λ s. tree_read (Ok head) r.old.left.now (read_nested nest s)) r.new.left.now result }
+    ensures is { Counts st.now known arg (λ s. tree_read (Ok head) r.old.left.now (read_nested nest s)) r.new.left.now result }
+    ensures within { Within r.old.left.now r.new.left.now }
 {
     let n = part_count(head.shape);
     let args = is_apply(head.shape);

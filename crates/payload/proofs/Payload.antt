@@ -1,7 +1,7 @@
 -- Payloads in the buffer, and their lengths. Assumes nothing.
 use mathlib.Core.Path.{◌≡◌, refl, sym, ap, ◌∙◌}
 use mathlib.Core.List.{List, [], ◌++◌}
-use Prim.Native.Nat.{ℕ, ◌+◌, ◌-◌, ◌≤◌, ◌<◌}
+use Prim.Native.Nat.{ℕ, ◌+◌, ◌≤◌}
 use native.Mathlib.Omega.{arith}
 use native.Mathlib.Nat.{zero-add}
 use lib.ListN.{length, take, drop, length-append}
@@ -12,8 +12,8 @@ use Rattle.definition.specs.Write.{Bytes, u16, u32, head, write}
 use Rattle.payload.specs.Payload.{shown}
 use Rattle.payload.specs.declared.Show.{Show}
 use Rattle.payload.specs.declared.Show.TheVariants.{Node, Two}
-use Rattle.writer.specs.Bytes.{put, Wrote, capped}
-use Rattle.writer.proofs.Put.{put_put, put_nothing, capped_is, capped_over, capped_within, capped_beyond, capped_more, length_put}
+use Rattle.writer.specs.Bytes.{put, Wrote}
+use Rattle.writer.proofs.Put.{put_put, put_nothing, length_put}
 
 -- ---- bytes from the front
 
@@ -65,24 +65,6 @@ module _ (buf : List ℕ) (fits : 4096 ≤ length buf) (a b c e : ℕ) where
       wrote_two buf (u32 a ++ u32 b ++ u32 c) (u32 e) _ _ _ _ (omega arith) (wrote_two buf (u32 a ++ u32 b) (u32 c) _ _ _ _ (omega arith) (wrote_two buf (u32 a) (u32 b) _ _ _ _ (omega arith) p q) r) t
 
 -- ---- lengths
-
-pub within : (p : Bytes) (size : ℕ) → size ≡ capped 4096 (length p) → size ≤ 4096 → length p ≤ 4096
-within p size e h = capped_within 4096 (length p) (rw e at h)
-
-pub beyond : (p : Bytes) (size : ℕ) → size ≡ capped 4096 (length p) → 4096 < size → 4096 < length p
-beyond p size e h = capped_beyond 4096 (length p) (rw e at h)
-
-pub two_long : (a b : Bytes) (n : ℕ) → n ≡ capped 4096 (length a) → 4096 < n → 4096 + 1 ≡ capped 4096 (length (a ++ b))
-two_long a b n e h =
-    let k = length-append a b in
-    let l = beyond a n e h in
-    sym (capped_over 4096 (length (a ++ b)) (omega arith))
-
-pub two_short : (a b : Bytes) (n m : ℕ) → n ≡ capped 4096 (length a) → n ≤ 4096 → m ≡ capped (4096 - n) (length b) → n + m ≡ capped 4096 (length (a ++ b))
-two_short a b n m e h f =
-    let l = within a n e h in
-    let k : n ≡ length a = e ∙ capped_is 4096 (length a) l in
-    rw (f, length-append a b, ← k) (capped_more 4096 n (length b) h)
 
 pub length_variable : (loc v : ℕ) → length (head loc (d.Var v)) ≡ 7
 unfolding head u32 u16

@@ -5,7 +5,7 @@ ghost use Rattle.std.specs.Prelude.{◌≡◌, true, false, List, ◌++◌, ◌�
 ghost use Rattle.definition.specs.Types as d;
 ghost use Rattle.definition.specs.Write.{u32 as bytes-u32, write};
 ghost use Rattle.table.specs.Did.{held, tables};
-ghost use Rattle.writer.specs.Bytes.{Wrote, capped, AllBytes};
+ghost use Rattle.writer.specs.Bytes.{Wrote, Capped, AllBytes};
 ghost use Rattle.payload.specs.Payload.{reply, shown, Shows, Paid};
 
 use table::state::State;
@@ -40,37 +40,34 @@ pub const MAX_PAYLOAD: u32 = 4096;
 
 // ---- the payload
 
-fn two_size(st: &State<'_>, a: u32, b: u32) -> u32
+pub fn two_size(st: &State<'_>, a: u32, b: u32) -> Option<u32>
     requires { (a < st.now.used.nodes) × (b < st.now.used.nodes) }
-    ensures { (ds : List d.Struct) → result ≡ capped 4096 (length (write (held st.now ds) a ++ write (held st.now ds) b)) }
+    ensures { (ds : List d.Struct) → Capped 4096 (length (write (held st.now ds) a ++ write (held st.now ds) b)) result }
 {
-    let n = size_type(st, a, MAX_PAYLOAD);
-    if MAX_PAYLOAD < n {
-        return MAX_PAYLOAD + 1;
-    }
-    let m = size_type(st, b, MAX_PAYLOAD - n);
-    n + m
+    let n = size_type(st, a, MAX_PAYLOAD)?;
+    let m = size_type(st, b, MAX_PAYLOAD - n)?;
+    Some(n + m)
 }
 
-// How many bytes, if no more than 4,096; else 4,097.
-#[tactic(auto, unfolding(crate::specs::Payload::shown, writer::specs::Bytes::capped, definition::specs::Write::u16, definition::specs::Write::u32, definition::specs::Write::head))]
-fn shown_size(st: &State<'_>, show: Show, t: u32) -> u32
+// How many bytes, if no more than 4,096.
+#[tactic(auto, unfolding(crate::specs::Payload::shown, definition::specs::Write::u16, definition::specs::Write::u32, definition::specs::Write::head))]
+pub fn shown_size(st: &State<'_>, show: Show, t: u32) -> Option<u32>
     requires { Shows st.now.used show t }
-    ensures { (ds : List d.Struct) → result ≡ capped 4096 (length (shown show t (held st.now ds))) }
+    ensures { (ds : List d.Struct) → Capped 4096 (length (shown show t (held st.now ds))) result }
 {
     match show {
-        Show::Nothing => 0,
-        Show::Number => 2,
-        Show::Variable(_) => 7,
+        Show::Nothing => Some(0),
+        Show::Number => Some(2),
+        Show::Variable(_) => Some(7),
         Show::Node => size_type(st, t, MAX_PAYLOAD),
-        Show::Anything(_) => 5,
-        Show::Location(_) => 4,
+        Show::Anything(_) => Some(5),
+        Show::Location(_) => Some(4),
         Show::Two(a, b) => two_size(st, a, b),
-        Show::Four(_, _, _, _) => 16,
+        Show::Four(_, _, _, _) => Some(16),
     }
 }
 
-fn write_two(st: &State<'_>, a: u32, b: u32, buf: &mut [u8]) -> usize
+pub fn write_two(st: &State<'_>, a: u32, b: u32, buf: &mut [u8]) -> usize
     requires in_use { (a < st.now.used.nodes) × ((b < st.now.used.nodes) × (AllBytes (tables st.now) × (4096 ≤ length buf.old))) }
     requires fits { (ds : List d.Struct) → length (write (held st.now ds) a ++ write (held st.now ds) b) ≤ 4096 }
     ensures { (ds : List d.Struct) → Wrote buf.old 0 (write (held st.now ds) a ++ write (held st.now ds) b) buf.new result }
@@ -80,7 +77,7 @@ fn write_two(st: &State<'_>, a: u32, b: u32, buf: &mut [u8]) -> usize
 }
 
 #[tactic(auto, unfolding(definition::specs::Write::u32))]
-fn write_four(a: u32, b: u32, c: u32, e: u32, buf: &mut [u8]) -> usize
+pub fn write_four(a: u32, b: u32, c: u32, e: u32, buf: &mut [u8]) -> usize
     requires { 4096 ≤ length buf.old }
     ensures { Wrote buf.old 0 (bytes-u32 a ++ bytes-u32 b ++ bytes-u32 c ++ bytes-u32 e) buf.new result }
 {
@@ -90,7 +87,7 @@ fn write_four(a: u32, b: u32, c: u32, e: u32, buf: &mut [u8]) -> usize
     put_u32(buf, fourth, e)
 }
 
-fn write_shown(st: &State<'_>, show: Show, t: u32, buf: &mut [u8]) -> usize
+pub fn write_shown(st: &State<'_>, show: Show, t: u32, buf: &mut [u8]) -> usize
     requires shows { Shows st.now.used show t × (AllBytes (tables st.now) × (4096 ≤ length buf.old)) }
     requires fits { (ds : List d.Struct) → length (shown show t (held st.now ds)) ≤ 4096 }
     ensures { (ds : List d.Struct) → Wrote buf.old 0 (shown show t (held st.now ds)) buf.new result }
@@ -108,13 +105,13 @@ fn write_shown(st: &State<'_>, show: Show, t: u32, buf: &mut [u8]) -> usize
 }
 
 // The payload, if it has no more than 4,096 bytes, and how many. It is sized first: else the buffer stays as it was.
+// The 4,096 bytes are a clause and no struct of the buffer: writer and failing ask for what they write, and would unpack it again.
+// `AllBytes` is no part of State: its `new` and push_apply would ask their callers for it.
 pub fn write_payload(st: &State<'_>, show: Show, t: u32, buf: &mut [u8]) -> Option<usize>
     requires { Shows st.now.used show t × (AllBytes (tables st.now) × (4096 ≤ length buf.old)) }
     ensures { (ds : List d.Struct) → Paid (shown show t (held st.now ds)) buf.old buf.new result }
 {
-    if MAX_PAYLOAD < shown_size(st, show, t) {
-        return None;
-    }
+    shown_size(st, show, t)?;
     Some(write_shown(st, show, t, buf))
 }
 

@@ -42,7 +42,7 @@ use Rattle.ready.specs.Ready.{rebuilt, rebuilt_at, by_parts, by_parts_at, HasPar
 use Rattle.ready.specs.declared.Onward.{Onward}
 use Rattle.ready.specs.declared.Onward.TheVariants.{Parts, Open, Bound}
 use Rattle.ready.specs.declared.Landing.{Landing}
-use Rattle.ready.specs.declared.Landing.TheVariants.{Parts as PartsL, Open as OpenL, Spent}
+use Rattle.ready.specs.declared.Landing.TheVariants.{Parts as PartsL, Open as OpenL}
 use Rattle.ends.proofs.Itself.{few_parts}
 use Rattle.shapes.proofs.Nodes.{Low, at_node, below_low, inside_seen, many_parts, part_is}
 
@@ -120,8 +120,8 @@ pub coming_start : (s : State) (t calls : ℕ) → t < s.used.nodes → Coming s
 coming_start s t calls i = record { in_nodes = i; fewer = omega arith; is = λ ds. refl }
 
 module _ {s : State} {t calls at left : ℕ} (c : Coming s t calls at left) where
-  pub coming_none : left ≤ 0 → Lands s t calls Spent
-  unfolding ready
+  pub coming_none : left ≤ 0 → Lands s t calls (Err (Refused RunsIntoItself))
+  unfolding ready outcome
   coming_none z =
       let y : left ≡ 0 = omega arith in
       record { is = λ ds. sym (ap (λ (k : ℕ). ready k (held s ds) at) y) ∙ c.is ds; inside = tt }
@@ -149,10 +149,10 @@ module _ {s : State} {t calls at left : ℕ} (c : Coming s t calls at left) wher
     pub coming_on : (x : ℕ) → r ≡ Bound x → Coming s t calls x (left - 1)
     coming_on x z = let f = c.fewer in record { in_nodes = within (Bound x) z; fewer = omega arith; is = step_on (Bound x) z }
 
-    pub coming_open : (v : TVar) → r ≡ Open v → Lands s t calls (OpenL n.loc v)
+    pub coming_open : (v : TVar) → r ≡ Open v → Lands s t calls (Ok (OpenL n.loc v))
     coming_open v z = record { is = step_on (Open v) z; inside = tt }
 
-    pub coming_parts : (many : ℕ) → r ≡ Parts many → Lands s t calls (PartsL at many (left - 1))
+    pub coming_parts : (many : ℕ) → r ≡ Parts many → Lands s t calls (Ok (PartsL at many (left - 1)))
     unfolding by_parts_at
     coming_parts many z =
         let f = c.fewer in
@@ -409,23 +409,22 @@ module _ (s₀ : State) (t many : ℕ) (in_nodes : t < s₀.used.nodes) (has : H
 
 -- ---- a landing
 
-module _ (s : State) (t calls : ℕ) (r : Landing) (g : Lands s t calls r) where
-  lands_at : (x : Landing) → r ≡ x → (ds : List Struct) → landed (held s ds) x ≡ ready calls (held s ds) t
+module _ (s : State) (t calls : ℕ) (r : core.Result Landing Stop) (g : Lands s t calls r) where
+  lands_at : (x : core.Result Landing Stop) → r ≡ x → (ds : List Struct) → landed (held s ds) x ≡ ready calls (held s ds) t
   lands_at x z ds = sym (ap (landed (held s ds)) z) ∙ g.is ds
 
-  pub lands_spent : r ≡ Spent → Did s s (Err (Refused RunsIntoItself)) (λ s. ready calls s t)
-  unfolding outcome
-  lands_spent z = did_now tt (λ ds k. lands_at Spent z ds)
+  pub lands_stop : (e : Stop) → r ≡ Err e → {a : core.Result ℕ Stop} → a ≡ Err e → Did s s a (λ s. ready calls s t)
+  lands_stop e z q = rw q (did_now (subst (LandingIn s calls) z g.inside) (λ ds k. lands_at (Err e) z ds))
 
-  pub lands_open : (loc : ℕ) (v : TVar) → r ≡ OpenL loc v → {x : State} {a : core.Result ℕ Stop} → Did s x a (λ s. sp s loc (d.Var v.0)) → Did s x a (λ s. ready calls s t)
-  lands_open loc v z f = did_is (λ ds k. lands_at (OpenL loc v) z ds) f
+  pub lands_open : (loc : ℕ) (v : TVar) → r ≡ Ok (OpenL loc v) → {x : State} {a : core.Result ℕ Stop} → Did s x a (λ s. sp s loc (d.Var v.0)) → Did s x a (λ s. ready calls s t)
+  lands_open loc v z f = did_is (λ ds k. lands_at (Ok (OpenL loc v)) z ds) f
 
-  module _ (x many left : ℕ) (z : r ≡ PartsL x many left) where
-    pub lands_in : LandingIn s calls (PartsL x many left)
+  module _ (x many left : ℕ) (z : r ≡ Ok (PartsL x many left)) where
+    pub lands_in : LandingIn s calls (Ok (PartsL x many left))
     lands_in = subst (LandingIn s calls) z g.inside
 
     pub lands_parts : {v : State} {a : core.Result ℕ Stop} → Did s v a (λ s. by_parts_at (λ s t. ready left s t) s x) → Did s v a (λ s. ready calls s t)
-    lands_parts f = did_is (λ ds k. lands_at (PartsL x many left) z ds) f
+    lands_parts f = did_is (λ ds k. lands_at (Ok (PartsL x many left)) z ds) f
 
 -- ---- the whole run
 

@@ -1,18 +1,20 @@
 -- ready_tvars: how it goes on from a type, and what its steps answer. Assumes nothing: these are definitions.
-use Rattle.std.specs.Prelude.{◌≡◌, List, ℕ, ◌<◌, length, get_or}
+use Rattle.std.specs.Prelude.{◌≡◌, List, ℕ, ◌<◌, length, get_or, Ok, Err}
+use Rattle.std.specs.Prelude as core
 use Rattle.definition.specs.Types as d
-use Rattle.definition.specs.Types.{Struct, Result, ok, refused, runs_into_itself, ◌>>=◌}
+use Rattle.definition.specs.Types.{Struct, Result, ok, ◌>>=◌}
 use Rattle.definition.specs.Store.{type_at, loc_of, with_args, sp, map_types}
 use Rattle.definition.specs.Subst.{parts, ready_value, ready}
-use Rattle.table.specs.State.{shape_of}
+use Rattle.table.specs.State.{shape_of, outcome, NodesIn}
 use Rattle.table.specs.Did.{held}
 use Rattle.table.specs.declared.state.State.{State}
+use Rattle.table.specs.declared.state.Stop.{Stop}
 use Rattle.table.specs.declared.Shape.{Shape}
 use Rattle.shapes.specs.Parts.{part_count}
 use Rattle.ready.specs.declared.Onward.{Onward}
 use Rattle.ready.specs.declared.Onward.TheVariants.{Parts, Open, Bound}
 use Rattle.ready.specs.declared.Landing.{Landing}
-use Rattle.ready.specs.declared.Landing.TheVariants.{Parts as PartsL, Open as OpenL, Spent}
+use Rattle.ready.specs.declared.Landing.TheVariants.{Parts as PartsL, Open as OpenL}
 
 -- the type ty anew, with the parts tys; one without parts and without a name stays
 unfoldable pub rebuilt : d.State → ℕ → ℕ → d.TypeValue → List ℕ → Result (d.State × ℕ)
@@ -57,17 +59,17 @@ pub record Goes (s : State) (sh : Shape) (r : Onward) : Type 0 where
   pub inside : OnwardIn s.used.nodes sh r
 
 -- what ready_tvars comes to from a landing
-abbrev pub landed : d.State → Landing → Result (d.State × ℕ)
-landed s (PartsL t many left) = by_parts_at (λ s t. ready left s t) s t
-landed s (OpenL loc v) = sp s loc (d.Var v.0)
-landed s Spent = refused runs_into_itself
+abbrev pub landed : d.State → core.Result Landing Stop → Result (d.State × ℕ)
+landed s (Ok (PartsL t many left)) = by_parts_at (λ s t. ready left s t) s t
+landed s (Ok (OpenL loc v)) = sp s loc (d.Var v.0)
+landed s (Err e) = outcome (Err e) s
 
-abbrev pub LandingIn : State → ℕ → Landing → Type 0
-LandingIn s calls (PartsL t many left) = (t < s.used.nodes) × ((left < calls) × HasParts s t many)
-LandingIn s calls (OpenL loc v) = Unit {0}
-LandingIn s calls Spent = Unit {0}
+abbrev pub LandingIn : State → ℕ → core.Result Landing Stop → Type 0
+LandingIn s calls (Ok (PartsL t many left)) = (t < s.used.nodes) × ((left < calls) × HasParts s t many)
+LandingIn s calls (Ok (OpenL loc v)) = Unit {0}
+LandingIn s calls (Err e) = NodesIn s.used.nodes (Err e)
 
 -- type t, in at most `calls` calls, lands so
-pub record Lands (s : State) (t calls : ℕ) (r : Landing) : Type 0 where
+pub record Lands (s : State) (t calls : ℕ) (r : core.Result Landing Stop) : Type 0 where
   pub is : (ds : List Struct) → landed (held s ds) r ≡ ready calls (held s ds) t
   pub inside : LandingIn s calls r

@@ -25,12 +25,11 @@ enum Onward {
     Bound(u32),
 }
 
-// Where the bound variables from a type on lead: to a node with its parts and the calls that are left; to an open variable; or the calls are used up.
+// Where the bound variables from a type on lead: to a node with its parts and the calls that are left; or to an open variable.
 #[derive(Clone, Copy)]
 enum Landing {
     Parts { node: u32, many: u32, calls: u32 },
     Open { loc: u32, end: TVar },
-    Spent,
 }
 
 // ---- ready_tvars
@@ -50,8 +49,8 @@ fn ready_onward(chains: &Chains<'_, '_>, s: Shape) -> Onward
     }
 }
 
-// A call for each bound variable on the way.
-fn land(st: &State<'_>, t: u32, left: u32, ends: &[u32]) -> Landing
+// A call for each bound variable on the way. Here and below `ends` stands beside the state: Chains lends the state, and a `&mut State` cannot be lent so.
+fn land(st: &State<'_>, t: u32, left: u32, ends: &[u32]) -> Result<Landing, Stop>
     requires { (t < st.now.used.nodes) × EndsKnown st.now ends.now }
     ensures { Lands st.now t left result }
 {
@@ -60,12 +59,12 @@ fn land(st: &State<'_>, t: u32, left: u32, ends: &[u32]) -> Landing
     for calls in (0..left).rev() {
         let n = st.node_at(node);
         match ready_onward(&chains, n.shape) {
-            Onward::Parts(many) => return Landing::Parts { node, many, calls },
-            Onward::Open(end) => return Landing::Open { loc: n.loc, end },
+            Onward::Parts(many) => return Ok(Landing::Parts { node, many, calls }),
+            Onward::Open(end) => return Ok(Landing::Open { loc: n.loc, end }),
             Onward::Bound(x) => node = x,
         }
     }
-    Landing::Spent
+    Err(Stop::Refused(Refusal::RunsIntoItself))
 }
 
 // Part i of node t.
@@ -77,7 +76,7 @@ fn part_of(st: &State<'_>, t: u32, i: u32) -> u32
     shapes::part_at(st, n.shape, i)
 }
 
-// Node t anew, with these parts; a type without parts and without a name stays.
+// Node t anew, with these parts; a type without parts and without a name stays. Not reader's place_node: that makes a node of any shape that was read.
 fn rebuild(st: &mut State<'_>, t: u32, tys: [u32; 8], many: u32) -> Result<u32, Stop>
     requires { (t < st.old.used.nodes) × (HasParts st.old t many × Parts st.old.used.nodes tys many) }
     ensures { Did st.old st.new result (λ s. rebuilt_at s t (take many tys)) }
@@ -90,12 +89,13 @@ fn rebuild(st: &mut State<'_>, t: u32, tys: [u32; 8], many: u32) -> Result<u32, 
     }
 }
 
-// The parts of node t, one after the other; then the node. The call for a part is the only one that a level waits for: 208 bytes of stack.
+// The parts of node t, one after the other; then the node. The call for a part is the only one that a level waits for.
 #[cycle(ready_ready_types)]
 fn ready_types(st: &mut State<'_>, t: u32, many: u32, left: u32, ends: &[u32]) -> Result<u32, Stop>
     requires { (t < st.old.used.nodes) × (HasParts st.old t many × EndsKnown st.old ends.now) }
     ensures { Did st.old st.new result (λ s. by_parts_at (λ s t. ready left s t) s t) }
 {
+    // Eight, as push_apply takes them (tparams says why).
     let mut tys: [u32; 8] = [0; 8];
     for i in 0..many {
         let p = part_of(st, t, i);
@@ -111,10 +111,9 @@ fn ready(st: &mut State<'_>, t: u32, left: u32, ends: &[u32]) -> Result<u32, Sto
     requires { (t < st.old.used.nodes) × EndsKnown st.old ends.now }
     ensures { Did st.old st.new result (λ s. ready left s t) }
 {
-    match land(st, t, left, ends) {
+    match land(st, t, left, ends)? {
         Landing::Parts { node, many, calls } => ready_types(st, node, many, calls, ends),
         Landing::Open { loc, end } => st.push_node(loc, Shape::Var(end)),
-        Landing::Spent => Err(Stop::Refused(Refusal::RunsIntoItself)),
     }
 }
 

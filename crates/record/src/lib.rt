@@ -6,6 +6,7 @@ ghost use Rattle.definition.specs.Reader.{give, go_on, times};
 ghost use Rattle.definition.specs.Trees.{read_type};
 ghost use Rattle.definition.specs.Record.{TS, read_fields, read_pair, read_TS};
 ghost use Rattle.table.specs.Did.{tables};
+ghost use Rattle.cursor.specs.Words.{Within};
 ghost use Rattle.heads.specs.Fields.{Arities};
 ghost use Rattle.marks.specs.Marks.{reader_of};
 ghost use Rattle.fields.specs.Noded.{FieldsAre, RecordIs};
@@ -30,7 +31,8 @@ fn read_pairs(
 ) -> Result<Option<What>, ReadError>
     requires few_params { Arities (tables st.old).structs }
     requires few { many ≤ 8 }
-    ensures { FieldsAre st.old known (λ s. go_on (times many (read_pair s) r.old.left.now) (λ pairs l. go_on (read_type s l) (λ t. give (TS pairs t)))) st.new r.new.left.now result }
+    ensures is { FieldsAre st.old known (λ s. go_on (times many (read_pair s) r.old.left.now) (λ pairs l. go_on (read_type s l) (λ t. give (TS pairs t)))) st.new r.new.left.now result }
+    ensures within { Within r.old.left.now r.new.left.now }
 {
     let mut over = false;
     let mut ids = [TParamID(0); 8];
@@ -53,7 +55,8 @@ fn read_pairs(
 
 fn read_ts(st: &mut State<'_>, r: &mut Reader, known: u32) -> Result<Option<What>, ReadError>
     requires { Arities (tables st.old).structs }
-    ensures { FieldsAre st.old known (λ s. read_TS s r.old.left.now) st.new r.new.left.now result }
+    ensures is { FieldsAre st.old known (λ s. read_TS s r.old.left.now) st.new r.new.left.now result }
+    ensures within { Within r.old.left.now r.new.left.now }
 {
     let many = r.byte_to(8)?;
     read_pairs(st, r, known, many)
@@ -61,7 +64,7 @@ fn read_ts(st: &mut State<'_>, r: &mut Reader, known: u32) -> Result<Option<What
 
 // ---- the whole record
 
-// The fields of a mark.
+// The fields of a mark: one arm for each form of marks.
 fn fields_of(
     st: &mut State<'_>,
     r: &mut Reader,
@@ -70,7 +73,8 @@ fn fields_of(
 ) -> Result<Option<What>, ReadError>
     requires few_params { Arities (tables st.old).structs }
     requires short { length r.old.left.now ≤ 4096 }
-    ensures { FieldsAre st.old known (λ s. reader_of (Some mark) s r.old.left.now) st.new r.new.left.now result }
+    ensures is { FieldsAre st.old known (λ s. reader_of (Some mark) s r.old.left.now) st.new r.new.left.now result }
+    ensures within { Within r.old.left.now r.new.left.now }
 {
     match mark {
         RecordMark::SD => read_sd(r),
@@ -91,7 +95,8 @@ fn fields_of(
 fn read_fields(st: &mut State<'_>, r: &mut Reader, known: u32) -> Result<Option<What>, ReadError>
     requires few_params { Arities (tables st.old).structs }
     requires short { length r.old.left.now ≤ 4096 }
-    ensures { FieldsAre st.old known (λ s. read_fields s r.old.left.now) st.new r.new.left.now result }
+    ensures is { FieldsAre st.old known (λ s. read_fields s r.old.left.now) st.new r.new.left.now result }
+    ensures within { Within r.old.left.now r.new.left.now }
 {
     let first = r.u8()?;
     let second = r.u8()?;

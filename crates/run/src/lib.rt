@@ -28,7 +28,7 @@ use subst::Unfolded;
 use table::Refusal;
 use table::state::{State, Stop};
 
-// What a step answers, as a run: its state is kept, or it is only shown.
+// What a step answers, as a run: its state is kept, or it is only shown. A flag, since both are said in one place for each record.
 fn shown(a: Result<u32, Stop>, show: Show, kept: bool) -> Ran
     ensures { result ≡ record { result = a; show = show; kept = kept } }
 {
@@ -106,7 +106,7 @@ fn take_tvar(st: &mut State<'_>) -> Result<u32, Stop>
     ensures { TakesVar st.old st.new result next_tvar }
 {
     let v = st.take_var()?;
-    Ok(table::number(v))
+    Ok(u32::from(v))
 }
 
 // FV
@@ -122,7 +122,7 @@ fn take_num_tvar(st: &mut State<'_>, loc: u32) -> Result<u32, Stop>
 {
     let v = st.take_var()?;
     subst::set_num_var(st, v, loc);
-    Ok(table::number(v))
+    Ok(u32::from(v))
 }
 
 // NV

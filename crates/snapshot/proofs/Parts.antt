@@ -1,6 +1,7 @@
 -- A part of the words, written as one. Assumes nothing.
-use Rattle.std.proofs.Common.{◌≡◌, ℕ, ◌+◌, ◌-◌, ◌≤◌, ◌<◌, List, length, get_or, arith, rules}
+use Rattle.std.proofs.Common.{◌≡◌, ℕ, ◌+◌, ◌-◌, ◌*◌, ◌≤◌, ◌<◌, List, length, get_or, arith, rules}
 use Rattle.std.proofs.lemmas.List.{places}
+use Rattle.std.proofs.Math.Nat.{mul-sub, mul-le-mul_right, mul_comm}
 use native.Mathlib.Decide.{dec_lt}
 use borrow.Rule.Slice.PartMut.{put_mid}
 use Rattle.table.specs.State.{Wrote}
@@ -20,3 +21,10 @@ module _ (w : List ℕ) (at n : ℕ) (row ys : List ℕ) (within : at + n ≤ le
   -- .. as the part from place `at` to `at + n`
   pub wrote_part : Wrote w at n row (put_mid at (at + n - at) w ys)
   wrote_part = let e : at + n - at ≡ n = omega arith in rw e wrote_mid
+
+-- where rows from the first to the last end
+pub rows_end : (base from to n : ℕ) → from ≤ to → base + to * n ≡ base + from * n + (to - from) * n
+rows_end base from to n le =
+    let more : from * n ≤ to * n = mul-le-mul_right n le in
+    let less : (to - from) * n ≡ to * n - from * n = rw (mul_comm (to - from) n, mul_comm to n, mul_comm from n) (mul-sub n to from) in
+    omega (arith, more, less)

@@ -206,13 +206,6 @@ module _ (w₁ : List ℕ) (u : Used) (before : Used) (w₂ w₃ w₄ w₅ w₀ 
   pub undoing : Lay w₅ before × (view w₅ before ≡ view w₀ before)
   undoing = (undone_lay, undone_view)
 
--- a row of one word
-pub times_one : (w : List ℕ) (base b n : ℕ) (w' : List ℕ) → Wrote w (base + b) n [] w' → Wrote w (base + b * 1) (n * 1) [] w'
-times_one w base b n w' h =
-    let e : b * 1 ≡ b = omega arith in
-    let f : n * 1 ≡ n = omega arith in
-    rw (e, f) h
-
 -- ---- whose variables stand
 
 -- after they were put back

@@ -1,7 +1,7 @@
 // A snapshot of the variables in use, and its return: after an error bindings and marks are put back, after a refusal all that was taken too.
 #![tactic(auto)]
 
-ghost use Rattle.std.specs.Prelude.{◌≡◌, [], ◌+◌, ◌*◌, ◌≤◌, List, ℕ, length};
+ghost use Rattle.std.specs.Prelude.{◌≡◌, [], ◌+◌, ◌-◌, ◌*◌, ◌≤◌, List, ℕ, length};
 ghost use Rattle.table.specs.State.{Lay, Wrote};
 ghost use Rattle.snapshot.specs.Snap.{Above, SavedPartly, Saved, PutBack, Sized, GivenBack, Undone};
 ghost use Rattle.snapshot.specs.Back.{GrownFrom, WentBack};
@@ -18,12 +18,12 @@ use table::{
 // How many words the variable rows have, all of them.
 pub const SAVED: usize = 5120;
 
-// n zeros, from place `at` on.
-fn zero_words(w: &mut [u32], at: usize, n: usize)
-    requires { at + n ≤ length w.old }
-    ensures { Wrote w.old at n [] w.new }
+// Rows `from` to `to` of a table whose rows have N words, from word `base` on, are zero.
+pub fn zero_rows<const N: usize>(w: &mut [u32], base: usize, from: u32, to: u32)
+    requires { (from ≤ to) × (base + to * N ≤ length w.old) }
+    ensures { Wrote w.old (base + from * N) ((to - from) * N) [] w.new }
 {
-    w[at..at + n].fill(0);
+    w[base + from as usize * N..base + to as usize * N].fill(0);
 }
 
 // The rows of the variables in use; the first `rows` of them are saved already.
@@ -44,11 +44,7 @@ pub fn put_vars(w: &mut [u32], u: Used, before: Before<'_>)
 {
     let n = before.used.vars as usize * VAR_WORDS;
     write_words(w, VARS_AT, &before.saved[..n]);
-    zero_words(
-        w,
-        VARS_AT + n,
-        (u.vars - before.used.vars) as usize * VAR_WORDS,
-    );
+    zero_rows::<VAR_WORDS>(w, VARS_AT, before.used.vars, u.vars);
 }
 
 // What was taken since then is given back; bindings and marks are left as they are.
@@ -56,26 +52,10 @@ pub fn give_back(w: &mut [u32], u: Used, before: Used)
     requires { Sized w.old u × Above before u }
     ensures { GivenBack w.old u w.new before }
 {
-    zero_words(
-        w,
-        NODES_AT + before.nodes as usize * NODE_WORDS,
-        (u.nodes - before.nodes) as usize * NODE_WORDS,
-    );
-    zero_words(
-        w,
-        ARGS_AT + before.args as usize,
-        (u.args - before.args) as usize,
-    );
-    zero_words(
-        w,
-        CONSTRAINTS_AT + before.constraints as usize * CONSTRAINT_WORDS,
-        (u.constraints - before.constraints) as usize * CONSTRAINT_WORDS,
-    );
-    zero_words(
-        w,
-        STRUCTS_AT + before.structs as usize * STRUCT_WORDS,
-        (u.structs - before.structs) as usize * STRUCT_WORDS,
-    );
+    zero_rows::<NODE_WORDS>(w, NODES_AT, before.nodes, u.nodes);
+    zero_rows::<1>(w, ARGS_AT, before.args, u.args);
+    zero_rows::<CONSTRAINT_WORDS>(w, CONSTRAINTS_AT, before.constraints, u.constraints);
+    zero_rows::<STRUCT_WORDS>(w, STRUCTS_AT, before.structs, u.structs);
 }
 
 // All is as it was.

@@ -31,11 +31,11 @@ use Rattle.abilities.specs.Kept.{Knows}
 use Rattle.abilities.specs.Rules.{AllKept, any_asks, refusal_of, Hindered}
 use Rattle.abilities.specs.declared.Hindrance.{Hindrance}
 use Rattle.abilities.proofs.Asking.{asks_clear}
-use Rattle.writer.specs.Bytes.{Wrote, capped}
+use Rattle.writer.specs.Bytes.{Wrote, Capped}
 use Rattle.payload.specs.Payload.{shown}
 use Rattle.payload.specs.declared.Answer.{Answer}
 use Rattle.payload.specs.declared.Show.TheVariants as show
-use Rattle.payload.proofs.Payload.{within, beyond, wrote_payload, wrote_rest, wrote_few}
+use Rattle.payload.proofs.Payload.{wrote_payload, wrote_rest, wrote_few}
 use Rattle.answer.specs.Ran.{ran, answered, refused_by}
 use Rattle.answer.specs.Answered.{AnswersIn}
 use Rattle.solve.specs.Solves.{reported, solved, solve_answer, Reports, Solves}
@@ -71,39 +71,38 @@ solved_refused s before x e = ap (answer before) (all_refused s x e)
 
 module _ {w₀ : List ℕ} {s t : State} {params : List (List ℕ)} {buf buf' : List ℕ} {r : Answer} {f : d.State → d.State → step.Answer} where
   reports_all : (before : Before) → AnswersIn w₀ before s t buf buf' r f → Reports w₀ before.used s params t buf buf' r f
-  reports_all before a = record { same = a.same; few = a.few; rest = a.rest; is = λ ds₀ ds k. a.is ds₀ ds; declares = a.declares }
+  reports_all before a = record { same = a.same; used = a.used; few = a.few; rest = a.rest; is = λ ds₀ ds k. a.is ds₀ ds; declares = a.declares }
 
   reports_is : (before : Used) (g : d.State → d.State → step.Answer) → ((ds : List Struct) → Knows s params ds → (x : d.State) → g (held s ds) x ≡ f (held s ds) x)
       → Reports w₀ before s params t buf buf' r f → Reports w₀ before s params t buf buf' r g
-  reports_is before g e a = record { same = a.same; few = a.few; rest = a.rest; is = λ ds₀ ds k. e ds k (seen w₀ before ds₀) ∙ a.is ds₀ ds k; declares = a.declares }
+  reports_is before g e a = record { same = a.same; used = a.used; few = a.few; rest = a.rest; is = λ ds₀ ds k. e ds k (seen w₀ before ds₀) ∙ a.is ds₀ ds k; declares = a.declares }
 
 -- ---- the failures
 
--- of this size, up to the limit
-module _ (s : State) (params : List (List ℕ)) (size : ℕ) (sized : (ds : List Struct) → Knows s params ds → size ≡ capped 4096 (length (failures (held s ds) (held s ds).constraints))) where
-  report_fits : size ≤ 4096 → (ds : List Struct) → Knows s params ds → length (failures (held s ds) (held s ds).constraints) ≤ 4096
-  report_fits h ds k = within (failures (held s ds) (held s ds).constraints) size (sized ds k) h
+-- too long
+pub report_long : (w₀ : List ℕ) (before : Before) (s t : State) (params : List (List ℕ)) (buf buf' : List ℕ) (r : Answer)
+    → ((ds : List Struct) → Knows s params ds → Capped 4096 (length (failures (held s ds) (held s ds).constraints)) None)
+    → AnswersIn w₀ before s t buf buf' r (refused_by answer_too_long) → Reports w₀ before.used s params t buf buf' r reported
+report_long w₀ before s t params buf buf' r long a = reports_is before.used reported (λ ds k x. reported_long (held s ds) x (long ds k)) (reports_all before a)
 
-  pub report_room : (buf : List ℕ) → size ≤ 4096 → 4096 ≤ length buf → (ds : List Struct) → Knows s params ds → length (failures (held s ds) (held s ds).constraints) ≤ length buf
-  report_room buf h room ds k = omega (arith, report_fits h ds k)
+-- of this size
+module _ (s : State) (params : List (List ℕ)) (size : ℕ) (sized : (ds : List Struct) → Knows s params ds → Capped 4096 (length (failures (held s ds) (held s ds).constraints)) (Some size)) where
+  pub report_room : (buf : List ℕ) → 4096 ≤ length buf → (ds : List Struct) → Knows s params ds → length (failures (held s ds) (held s ds).constraints) ≤ length buf
+  report_room buf room ds k = omega (arith, (sized ds k).1)
 
-  module _ (w₀ : List ℕ) (before : Before) (t : State) (buf buf' : List ℕ) where
-    pub report_long : (r : Answer) → 4096 < size → AnswersIn w₀ before s t buf buf' r (refused_by answer_too_long) → Reports w₀ before.used s params t buf buf' r reported
-    report_long r h a =
-        reports_is before.used reported (λ ds k x. reported_long (held s ds) x (beyond (failures (held s ds) (held s ds).constraints) size (sized ds k) h)) (reports_all before a)
-
-    pub report_kept : Declared s.words.now s.used params → (len : ℕ) (used : Used) → size ≤ 4096
-        → ((ds : List Struct) → Knows s params ds → Wrote buf 0 (failures (held s ds) (held s ds).constraints) buf' len) → Emptied s t
-        → Reports w₀ before.used s params t buf buf' (record { number = 0; len = len; used = used; kept = true }) reported
-    report_kept d len used h wrote e =
-        let once = wrote d.structs d.known in
-        record {
-          same = e.same;
-          few = wrote_few buf _ buf' len once (report_fits h d.structs d.known);
-          rest = wrote_rest buf _ buf' len once;
-          is = λ ds₀ ds k. reported_fits (held s ds) (seen w₀ before.used ds₀) (report_fits h ds k) ∙ rw (wrote_payload buf _ buf' len (wrote ds k), e.is ds);
-          declares = λ ds₀ ds a b. declares_kept s.words.now s.used t.words.now t.used ds e.structs b;
-        }
+  pub report_kept : (w₀ : List ℕ) (before : Before) (t : State) (buf buf' : List ℕ) → Declared s.words.now s.used params → (len : ℕ)
+      → ((ds : List Struct) → Knows s params ds → Wrote buf 0 (failures (held s ds) (held s ds).constraints) buf' len) → Emptied s t
+      → Reports w₀ before.used s params t buf buf' (record { number = 0; len = len; used = t.used; kept = true }) reported
+  report_kept w₀ before t buf buf' d len wrote e =
+      let once = wrote d.structs d.known in
+      record {
+        same = e.same;
+        used = refl;
+        few = wrote_few buf _ buf' len once (sized d.structs d.known).1;
+        rest = wrote_rest buf _ buf' len once;
+        is = λ ds₀ ds k. reported_fits (held s ds) (seen w₀ before.used ds₀) (sized ds k).1 ∙ rw (wrote_payload buf _ buf' len (wrote ds k), e.is ds);
+        declares = λ ds₀ ds a b. declares_kept s.words.now s.used t.words.now t.used ds e.structs b;
+      }
 
 -- ---- 9 and 16
 
@@ -132,6 +131,7 @@ module _ {w₀ : List ℕ} (before : Before) (s s₁ : State) (e : w₀ ≡ s.wo
     solves g same structs h c =
         let r : Reports w₀ before.used s params t buf buf' x solve_answer = record {
           same = c.same ∙ same;
+          used = c.used;
           few = c.few;
           rest = c.rest;
           is = λ ds₀ ds k. h ds (seen w₀ before.used ds₀) ∙ c.is ds₀ ds (known_kept s.words.now s.used s₁.words.now s₁.used params structs ds k);

@@ -3,7 +3,7 @@
 #![tactic(auto)]
 
 ghost use Rattle.std.specs.Prelude.{◌≤◌, ◌+◌, ◌<◌, length, get_or, ◌≡◌, List, [], ◌∷◌, ℕ};
-ghost use Rattle.table.specs.State.{constraint_of};
+ghost use Rattle.table.specs.State.{constraint_of, FoundIn};
 ghost use Rattle.table.specs.Did.{held, tables};
 ghost use Rattle.table.specs.Known.{Declared};
 ghost use Rattle.snapshot.specs.Snap.{Saved};
@@ -13,7 +13,7 @@ ghost use Rattle.abilities.specs.Rules.{refusal_of};
 ghost use Rattle.answer.specs.Ran.{refusal_for};
 ghost use Rattle.failing.specs.Failing.{TyIn};
 ghost use Rattle.constraints.specs.Lacking.{AllReady, IsAbility, AskedReady};
-ghost use Rattle.writer.specs.Bytes.{AllBytes, capped, Wrote};
+ghost use Rattle.writer.specs.Bytes.{AllBytes, Capped, Wrote};
 ghost use Rattle.solve.specs.Report.{TysIn, row_count};
 ghost use Rattle.solve.specs.Solves.{HoldsSound, solved, reported, Reports, Solves};
 ghost use Rattle.definition.specs.Types as d;
@@ -28,8 +28,9 @@ use snapshot::before::Before;
 use table::state::State;
 use table::{Constraint, Refusal};
 
-// ---- the payload: the failures in bytes, sized first and then written
+// ---- the payload: the failures in bytes, sized first and then written. Parameter bytes stay in no struct, as 01 has them; `sets` alone would be left in one.
 
+// The loops go by number. Tried over `&ABILITIES[..n]`: it stayed open that its items are n, and each the ability of its row.
 fn ability_at(k: usize) -> u8
     requires { k < 4 }
     ensures { IsAbility result × (result ≡ get_or (1 ∷ 2 ∷ 4 ∷ 8 ∷ []) k 0) }
@@ -48,45 +49,39 @@ fn row_count(c: Constraint) -> usize
     }
 }
 
-// How many bytes the failures of a constraint have, if no more than `room`; else one more than `room`.
+// How many bytes the failures of a constraint have, if no more than `room`.
 fn size_constraint(
     st: &State<'_>,
     params: &[[u8; 8]; 256],
     sets: &[u32],
     c: Constraint,
     room: u32,
-) -> u32
+) -> Option<u32>
     requires { TyIn st.now.used.nodes (constraint_of c) × (AskedReady st.now params.now sets.now (constraint_of c) × (room ≤ 4096)) }
-    ensures { (result ≤ room + 1) × ((ds : List d.Struct) → Knows st.now params.now ds → result ≡ capped room (length (solve_constraint (held st.now ds) (constraint_of c)))) }
+    ensures { FoundIn (room + 1) result × ((ds : List d.Struct) → Knows st.now params.now ds → Capped room (length (solve_constraint (held st.now ds) (constraint_of c))) result) }
 {
     let n = row_count(c);
-    let mut size: u32 = 0;
+    let mut left = room;
     for k in 0..n {
         let Some(f) = row_of(st, params, sets, c, ability_at(k)) else {
             continue;
         };
-        size = size + size_failing(st, f, room - size);
-        if room < size {
-            return room + 1;
-        }
+        left -= size_failing(st, f, left)?;
     }
-    size
+    Some(room - left)
 }
 
-// How many bytes the failures have, if no more than 4,096; else 4,097.
-fn size_failures(st: &State<'_>, params: &[[u8; 8]; 256], sets: &[u32]) -> u32
+// How many bytes the failures have, if no more than 4,096.
+fn size_failures(st: &State<'_>, params: &[[u8; 8]; 256], sets: &[u32]) -> Option<u32>
     requires { TysIn (tables st.now) × AllReady st.now params.now sets.now (tables st.now).constraints }
-    ensures { (ds : List d.Struct) → Knows st.now params.now ds → result ≡ capped 4096 (length (failures (held st.now ds) (held st.now ds).constraints)) }
+    ensures { (ds : List d.Struct) → Knows st.now params.now ds → Capped 4096 (length (failures (held st.now ds) (held st.now ds).constraints)) result }
 {
-    let mut size: u32 = 0;
+    let mut left = MAX_PAYLOAD;
     for i in 0..st.used.constraints {
         let c = st.constraint_at(i);
-        size = size + size_constraint(st, params, sets, c, 4096 - size);
-        if 4096 < size {
-            return 4097;
-        }
+        left -= size_constraint(st, params, sets, c, left)?;
     }
-    size
+    Some(MAX_PAYLOAD - left)
 }
 
 // The failures of a constraint, which fit, from byte `at` on.
@@ -142,14 +137,15 @@ fn report_failures(
     requires ready { TysIn (tables st.old) × (AllReady st.old params.now sets.now (tables st.old).constraints × (AllBytes (tables st.old) × (Declared st.old.words.now st.old.used params.now × (4096 ≤ length buf.old)))) }
     ensures { Reports w0 before.entry.used st.old params.now st.new buf.old buf.new result reported }
 {
-    if MAX_PAYLOAD < size_failures(st, params, sets) {
+    let Some(_) = size_failures(st, params, sets) else {
         return settle_refusal(st, before, number_of(Reason::TooLong));
-    }
+    };
     let len = write_failures(st, params, sets, buf);
     constraints::take_constraints(st);
     as_left(st.used, 0, len)
 }
 
+// No From: both types are of crates below.
 fn reason_of(h: Hindrance) -> Reason
     ensures { refusal_for result ≡ refusal_of h }
 {

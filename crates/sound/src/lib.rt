@@ -1,4 +1,5 @@
-// The test for a sound state, made once where a lent state enters: words and parameter bytes, whatever they hold. The tests of fields, rows and tables stand in `sound_fields`, `sound_rows` and `sound_tables`.
+// The test for a sound state, made once where a lent state enters: words and parameter bytes, whatever they hold.
+// The tests of fields, rows and tables stand in `sound_fields`, `sound_rows` and `sound_tables`.
 #![tactic(auto)]
 
 ghost use Rattle.std.specs.Prelude.{◌≡◌, ◌≤◌, false, length, MatchOption};
@@ -9,7 +10,7 @@ ghost use Rattle.sound.specs.Chains.{var_at, next_at, next, Links, Noted, chain_
 use names::TVar;
 use sound_rows::Lent;
 use sound_tables::{counts_fine, tables_fine};
-use table::{Used, WORDS, cell_words_at, node_words_at, note, noted};
+use table::{Used, WORDS, cell_words_at, node_words_at, note, noted, tvar};
 
 // The first five words are the counts.
 #[tactic(auto, unfolding(crate::specs::Lent::used_of))]
@@ -26,7 +27,8 @@ pub fn used_of(w: &[u32]) -> Used
     }
 }
 
-// ---- chains
+// ---- chains. `ends` walks so over a state: here words are followed of which that is not known yet, and lengths are noted, not ends.
+// A walk for both would take a link's test and what is noted as closures, with the contracts of both.
 
 // The variable that node x is, if it is one. Its word may be any number, which the definition takes modulo 65,536; `try_from` would refuse it.
 #[tactic(auto, unfolding(crate::specs::Chains::var_at))]
@@ -38,7 +40,7 @@ fn var_at(lent: &Lent, x: u32) -> Option<TVar>
     }
     let n = node_words_at(lent.words, x);
     if n.tag == 6 {
-        Some(TVar((n.a % 65536) as u16))
+        Some(tvar(n.a % 65536))
     } else {
         None
     }
@@ -49,7 +51,7 @@ fn var_at(lent: &Lent, x: u32) -> Option<TVar>
 fn next_at(lent: &Lent, v: TVar) -> Option<TVar>
     ensures { next result ≡ next_at lent.now.words.now lent.now.used v.0 }
 {
-    let i = v.0 as u32;
+    let i = u32::from(v);
     if lent.used.vars <= i {
         return None;
     }
@@ -61,7 +63,8 @@ fn next_at(lent: &Lent, v: TVar) -> Option<TVar>
     }
 }
 
-// How many bindings lead from v to its chain's end, if it ends in as many as there are variables. One more than a length is noted, and that is not counted again.
+// How many bindings lead from v to its chain's end, if it ends in as many as there are variables.
+// One more than a length is noted, and that is not counted again.
 fn chain_length(lent: &Lent, v: TVar, lengths: &[u32]) -> Option<u32>
     requires { Noted lent.now.words.now lent.now.used lengths.now }
     ensures { MatchOption result (chain_fine lent.now.words.now lent.now.used v.0 ≡ false) (λ n. Links lent.now.words.now lent.now.used v.0 n) }
@@ -121,7 +124,7 @@ fn chains_fine(lent: &Lent) -> bool
     let mut lengths = [0u32; 1024];
     // No `all`: of what its closure changes, the lengths, nothing would be known.
     for i in 0..lent.used.vars {
-        if !chain_fine(lent, TVar(i as u16), &mut lengths) {
+        if !chain_fine(lent, tvar(i), &mut lengths) {
             return false;
         }
     }

@@ -83,6 +83,7 @@ pub fn name_fine(u: Used, n: NodeWords) -> bool
     }
 }
 
+// The word is lent and may be any number, of which the definition takes the low byte: `try_from` would refuse it, so %.
 #[tactic(auto, unfolding(table::specs::Rows::read_mark, definition::specs::Trees::has_drop))]
 fn mark_drops(a: u32) -> bool
     ensures { result ≡ has_drop (read_mark a) }

@@ -5,6 +5,7 @@ ghost use Rattle.std.specs.Prelude.{◌≡◌, ◌+◌, ◌≤◌, ◌<◌};
 ghost use Rattle.sound_fields.specs.Fields.{all_below};
 ghost use Rattle.sound_rows.specs.Rows.{Sized, struct_fine, args_fine, part_fine, apply_fine, shape_fine, node_fine, binding_fine, cell_fine, constraint_fine};
 
+use names::VECTOR;
 use sound_fields::{
     fits_fine, four_zeros, mark_fine, name_fine, numeric_fine, param_fine, ref_fine, var_fine,
 };
@@ -40,7 +41,7 @@ impl Lent<'_> {
         ensures { result ≡ args_fine self.now.words.now n.tag n.b }
     {
         match n.tag {
-            3 => u32::from(n.b == 5),
+            3 => u32::from(n.b == VECTOR),
             4 => n.b,
             _ => struct_words_at(self.words, n.b).params,
         }

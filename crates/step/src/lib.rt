@@ -119,7 +119,7 @@ fn step_from(
     }
 }
 
-// whole: the record is all that is lent, and bytes left over are 5, which comes before 7. The first `rows` variables are saved already, and the answer
+// whole: the record is all that is lent, and bytes left over are 5, which comes before 7; a flag, as the record's call and the job's differ by it alone. The first `rows` variables are saved already, and the answer
 // says how many are still: so rows are copied once after each record that may change them, not at each record.
 pub fn step_trusted(
     st: &mut State<'_>,

@@ -8,6 +8,7 @@ use native.Mathlib.Decide.{ℕ_discrete, dec_lt}
 use native.Mathlib.Omega.{arith}
 use lib.ListN.{length, get_or, set, length-set, replicate, length-replicate, get_or-replicate, get_or-eq_default}
 use lib.Seq.{get_or-set_other}
+use Rattle.std.proofs.lemmas.Bool.{false≢true}
 use Rattle.definition.specs.Types as d
 use Rattle.definition.specs.Types.{Struct}
 use Rattle.definition.specs.Store.{count, with_args, type_at, any_of}
@@ -60,13 +61,13 @@ module _ (s : State) {t : ℕ} {sh : Shape} {many : ℕ} (a : At s.words.now s.u
   self_used v b e z ds = sym (used_self (held s ds) (inside_seen s.words.now s.used ds a.lay) v t (counted a ds) (sym (e (held s ds) ∙ ap (is_var v) (a.is ds)) ∙ z))
 
 -- the parts before i are passed without meeting v, which node t is not itself
-pub record Passed (s : State) (v t : ℕ) (sh : Shape) (many : ℕ) (marks : List ℕ) (i : ℕ) : Type 0 where
+pub record Passed (s : State) (v t : ℕ) (sh : Shape) (many : ℕ) (marks : List Bool) (i : ℕ) : Type 0 where
   pub at : At s.words.now s.used t sh many
   pub clear : Clear s v marks
   pub no_self : (ds : List Struct) → is_var v (type_at (held s ds) t) ≡ false
   pub no_part : (ds : List Struct) (j : ℕ) → j < i → used (suc (get_or (parts (type_at (held s ds) t)) j 0)) (held s ds) v (get_or (parts (type_at (held s ds) t)) j 0) ≡ false
 
-pub passed_none : (s : State) (v t : ℕ) (sh : Shape) (many : ℕ) (marks : List ℕ) → At s.words.now s.used t sh many → Clear s v marks → (b : Bool) → ((x : d.State) → b ≡ is_var v (with_args x (shape_of sh))) → b ≡ false → Passed s v t sh many marks 0
+pub passed_none : (s : State) (v t : ℕ) (sh : Shape) (many : ℕ) (marks : List Bool) → At s.words.now s.used t sh many → Clear s v marks → (b : Bool) → ((x : d.State) → b ≡ is_var v (with_args x (shape_of sh))) → b ≡ false → Passed s v t sh many marks 0
 passed_none s v t sh many marks a c b e z = record {
   at = a;
   clear = c;
@@ -74,7 +75,7 @@ passed_none s v t sh many marks a c b e z = record {
   no_part = λ ds j h. absurd (not-suc-le-zero h);
 }
 
-module _ {s : State} {v t : ℕ} {sh : Shape} {many : ℕ} {marks : List ℕ} {i : ℕ} (h : Passed s v t sh many marks i) where
+module _ {s : State} {v t : ℕ} {sh : Shape} {many : ℕ} {marks : List Bool} {i : ℕ} (h : Passed s v t sh many marks i) where
   -- all are passed
   pub passed_all : many ≤ i → (ds : List Struct) → false ≡ used (suc t) (held s ds) v t
   passed_all l ds =
@@ -90,7 +91,7 @@ module _ {s : State} {v t : ℕ} {sh : Shape} {many : ℕ} {marks : List ℕ} {i
     pub part_used : b ≡ true → (ds : List Struct) → true ≡ used (suc t) (held s ds) v t
     part_used z ds = sym (used_part (held s ds) (inside_seen s.words.now s.used ds h.at.lay) v t (counted h.at ds) i (rw (many_parts h.at ds) l) (met ds ∙ z))
 
-    pub passed_more : (marks' : List ℕ) → Clear s v marks' → b ≡ false → Passed s v t sh many marks' (i + 1)
+    pub passed_more : (marks' : List Bool) → Clear s v marks' → b ≡ false → Passed s v t sh many marks' (i + 1)
     passed_more marks' c z = record { at = h.at; clear = c; no_self = h.no_self; no_part = λ ds j k. one_more ds j k (ℕ_discrete j i) }
       where
         one_more : (ds : List Struct) (j : ℕ) → j < i + 1 → Dec (j ≡ i) → used (suc (get_or (parts (type_at (held s ds) t)) j 0)) (held s ds) v (get_or (parts (type_at (held s ds) t)) j 0) ≡ false
@@ -98,16 +99,16 @@ module _ {s : State} {v t : ℕ} {sh : Shape} {many : ℕ} {marks : List ℕ} {i
         one_more ds j k (no d) = h.no_part ds j (omega arith)
 
 -- node t is marked
-pub clear_more : (s : State) (v t : ℕ) (marks : List ℕ) → Clear s v marks → t < 2048 → ((ds : List Struct) → false ≡ used (suc t) (held s ds) v t) → Clear s v (set marks t 1)
-clear_more s v t marks c l e = record { size = length-set marks t 1 ∙ c.size; clear = λ ds x m. by ds x m (ℕ_discrete x t) }
+pub clear_more : (s : State) (v t : ℕ) (marks : List Bool) → Clear s v marks → t < 2048 → ((ds : List Struct) → false ≡ used (suc t) (held s ds) v t) → Clear s v (set marks t true)
+clear_more s v t marks c l e = record { size = length-set marks t true ∙ c.size; clear = λ ds x m. by ds x m (ℕ_discrete x t) }
   where
-    by : (ds : List Struct) (x : ℕ) → get_or (set marks t 1) x 0 ≡ 1 → Dec (x ≡ t) → used (suc x) (held s ds) v x ≡ false
+    by : (ds : List Struct) (x : ℕ) → get_or (set marks t true) x false ≡ true → Dec (x ≡ t) → used (suc x) (held s ds) v x ≡ false
     by ds x m (yes d) = rw d (sym (e ds))
-    by ds x m (no d) = c.clear ds x (sym (get_or-set_other marks t x 1 0 d) ∙ m)
+    by ds x m (no d) = c.clear ds x (sym (get_or-set_other marks t x true false d) ∙ m)
 
-pub zero_at : (n t : ℕ) → Dec (t < n) → ◌≡◌ {A = ℕ} (get_or (replicate n 0) t 0) 0
-zero_at n t (yes l) = get_or-replicate n t 0 0 l
-zero_at n t (no l) = get_or-eq_default (replicate n 0) 0 (rw (length-replicate {A = ℕ} n 0) (omega arith))
+none_at : (n t : ℕ) → Dec (t < n) → ◌≡◌ {A = Bool} (get_or (replicate n false) t false) false
+none_at n t (yes l) = get_or-replicate n t false false l
+none_at n t (no l) = get_or-eq_default (replicate n false) false (rw (length-replicate {A = Bool} n false) (omega arith))
 
-pub clear_none : (s : State) (v : ℕ) → Clear s v (replicate 2048 0)
-clear_none s v = record { size = length-replicate {A = ℕ} 2048 0; clear = λ ds t e. absurd (let z = zero_at 2048 t (dec_lt t 2048) in omega (arith, z, e)) }
+pub clear_none : (s : State) (v : ℕ) → Clear s v (replicate 2048 false)
+clear_none s v = record { size = length-replicate {A = Bool} 2048 false; clear = λ ds t e. absurd (false≢true (sym (none_at 2048 t (dec_lt t 2048)) ∙ e)) }

@@ -32,9 +32,9 @@ pub record Unfolds (s : State) (r : Unfolded) (ty : d.State → Spanned TypeValu
   pub inside : UnfoldedIn s.used.nodes r
 
 -- the occurs walk's table: a node marked there is known not to have the variable in it
-pub record Clear (s : State) (v : ℕ) (marks : List ℕ) : Type 0 where
+pub record Clear (s : State) (v : ℕ) (marks : List Bool) : Type 0 where
   pub size : length marks ≡ 2048
-  pub clear : (ds : List Struct) (t : ℕ) → get_or marks t 0 ≡ 1 → used (suc t) (held s ds) v t ≡ false
+  pub clear : (ds : List Struct) (t : ℕ) → get_or marks t false ≡ true → used (suc t) (held s ds) v t ≡ false
 
 -- what binding a variable comes to
 abbrev pub Binding : Type 0

@@ -143,11 +143,11 @@ pub fn check_num_tvar(st: &State<'_>, tvar: TVar, ty: u32) -> bool
 
 // Whether tvar is in node t: down into every part, following no binding. A node without it is marked, so each is looked at once.
 // It returns early: `any` over the parts would need clauses on its closure, which marks nodes as it goes.
-fn used_in(st: &State<'_>, tvar: TVar, t: u32, marks: &mut [u8]) -> bool
+fn used_in(st: &State<'_>, tvar: TVar, t: u32, marks: &mut [bool]) -> bool
     requires { (t < st.now.used.nodes) × Clear st.now tvar.0 marks.old }
     ensures { ((ds : List d.Struct) → result ≡ used (suc t) (held st.now ds) tvar.0 t) × Clear st.now tvar.0 marks.new }
 {
-    if marks[t as usize] == 1 {
+    if marks[t as usize] {
         return false;
     }
     let n = st.node_at(t);
@@ -161,7 +161,7 @@ fn used_in(st: &State<'_>, tvar: TVar, t: u32, marks: &mut [u8]) -> bool
             return true;
         }
     }
-    marks[t as usize] = 1;
+    marks[t as usize] = true;
     false
 }
 
@@ -187,7 +187,7 @@ fn used_with_marks(st: &State<'_>, tvar: TVar, ty: u32) -> bool
     requires { ty < st.now.used.nodes }
     ensures { (ds : List d.Struct) → result ≡ used (suc ty) (held st.now ds) tvar.0 ty }
 {
-    let mut marks: [u8; 2048] = [0; 2048];
+    let mut marks = [false; 2048];
     used_in(st, tvar, ty, &mut marks)
 }
 

@@ -13,8 +13,8 @@ ghost use Rattle.table.specs.Did.{held, Counts, Did, Took, Kept, Added, Declared
 use crate::state::{State, Stop};
 use crate::{
     ARGS_AT, CONSTRAINTS_AT, CellWords, Constraint, NODES_AT, Node, Refusal, STRUCTS_AT, Shape,
-    StructRow, Used, VARS_AT, bits, cell_row, cell_words_at, constraint_of, constraint_row,
-    constraint_words_at, node_words_at, number, option_at, put_row, row_of, set_at, shape_at,
+    StructRow, Used, VARS_AT, cell_row, cell_words_at, constraint_of, constraint_row,
+    constraint_words_at, node_words_at, option_at, put_row, row_of, set_at, shape_at,
     struct_words_at, tvar, wide, write_words,
 };
 use names::{
@@ -67,7 +67,7 @@ impl State<'_> {
     fn cell_at(&self, v: TVar) -> Option<CellWords>
         ensures { CellAt self.now.words.now self.now.used.vars v.0 result }
     {
-        let i = number(v);
+        let i = u32::from(v);
         if i < self.used.vars {
             Some(cell_words_at(self.words, i))
         } else {
@@ -133,7 +133,8 @@ impl State<'_> {
         Ok(n)
     }
 
-    // sp of a named type: a new node and places for its n arguments, if there is room for both.
+    // sp of a named type: a new node and places for its n arguments, if there is room for both. Eight parts and their count, no slice: each caller
+    // would cut one at the call, and show that it fits.
     pub fn push_apply(
         &mut self,
         loc: u32,
@@ -171,7 +172,7 @@ impl State<'_> {
         requires { FoundIn self.old.used.nodes b }
         ensures { Kept self.old self.new (with_cell v.0 b m) }
     {
-        let i = number(v);
+        let i = u32::from(v);
         if i < self.used.vars {
             let row = cell_row(b, m);
             put_row(self.words, VARS_AT, i, row);
@@ -218,7 +219,7 @@ impl State<'_> {
         if MAX_STRUCTS <= n {
             return Err(Stop::Refused(Refusal::Full));
         }
-        put_row(self.words, STRUCTS_AT, n, [bits(abilities), params]);
+        put_row(self.words, STRUCTS_AT, n, [u32::from(abilities), params]);
         self.used.structs = n + 1;
         Ok(n)
     }

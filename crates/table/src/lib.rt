@@ -140,33 +140,19 @@ pub enum Refusal {
     ParameterTwice,
 }
 
-// The number as an index.
+// The number as an index. std has no From<u32> for usize.
 pub fn wide(x: u32) -> usize
     ensures { result ≡ x }
 {
     x as usize
 }
 
-// A variable's number as a count.
-pub fn number(v: TVar) -> u32
-    ensures { (result ≡ v.0) × (result < 65536) }
-{
-    u32::from(v.0)
-}
-
-// A count as a variable.
+// A count as a variable: it asks for a bound, so no From; nor TryFrom, since no caller has a number that could fail.
 pub fn tvar(v: u32) -> TVar
     requires { v < 65536 }
     ensures { result.0 ≡ v }
 {
     TVar(v as u16)
-}
-
-// An ability set's number as a word.
-pub fn bits(a: AbilitySet) -> u32
-    ensures { (result ≡ a.0) × (result < 256) }
-{
-    u32::from(a.0)
 }
 
 fn set_at(x: u32) -> AbilitySet
@@ -288,7 +274,7 @@ fn mark_word(m: AbilityMark) -> u32
 {
     match m {
         None => 0,
-        Some(a) => 16 + bits(a),
+        Some(a) => 16 + u32::from(a),
     }
 }
 
@@ -309,6 +295,7 @@ fn name_at(tag: u32, x: u32) -> TypeName
     }
 }
 
+// The tags 0 to 8 stand here, in name_at, apply_row and row_of alone, where a row is read and written: an enum of tags would be a second Shape.
 fn shape_at(r: NodeWords) -> Shape
     ensures { shape_of result ≡ read_shape r.tag r.a r.b r.c r.d }
 {
@@ -340,9 +327,9 @@ fn row_of(loc: u32, shape: Shape) -> [u32; 6]
     match shape {
         Shape::Unit => [0, loc, 0, 0, 0, 0],
         Shape::Ref(m, t) => [1, loc, u32::from(m), t, 0, 0],
-        Shape::Param(id, a) => [2, loc, id.0, bits(a), 0, 0],
+        Shape::Param(id, a) => [2, loc, id.0, u32::from(a), 0, 0],
         Shape::Apply(k, n, first, many) => apply_row(loc, mark_word(k), n, first, many),
-        Shape::Var(v) => [6, loc, number(v), 0, 0, 0],
+        Shape::Var(v) => [6, loc, u32::from(v), 0, 0, 0],
         Shape::Anything => [7, loc, 0, 0, 0, 0],
         Shape::UnresolvedError => [8, loc, 0, 0, 0, 0],
     }
@@ -367,7 +354,7 @@ fn constraint_row(c: Constraint) -> [u32; 4]
     ensures { Written constraint_table result (constraint_of c) }
 {
     match c {
-        Constraint::Ability(loc, ty, a) => [0, loc, ty, bits(a)],
+        Constraint::Ability(loc, ty, a) => [0, loc, ty, u32::from(a)],
         Constraint::Numeric(loc, ty) => [1, loc, ty, 0],
         Constraint::Bits(loc, ty) => [2, loc, ty, 0],
         Constraint::Ordered(loc, ty) => [3, loc, ty, 0],

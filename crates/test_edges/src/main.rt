@@ -26,16 +26,13 @@ fn after_line(b: &[u8]) -> usize
 
 // The last seven lines.
 fn last_lines(log: &[u8]) -> &[u8] {
-    let mut left: u32 = 7;
-    for at in (0..log.len()).rev() {
-        if log[at] == b'\n' {
-            if left == 0 {
-                return &log[at + 1..];
-            }
-            left -= 1;
-        }
+    let mut ends = (0..log.len())
+        .rev()
+        .filter(|at| log.get(*at) == Some(&b'\n'));
+    match ends.nth(7) {
+        Some(at) => log.get(at + 1..).unwrap_or(log),
+        None => log,
     }
-    log
 }
 
 // The stream's log.
@@ -50,7 +47,7 @@ fn log_of<'a>(stream: &[u8], log: &'a mut [u8]) -> &'a [u8] {
 
 // ---- the same records one by one
 
-// 0 to 9, then a to f.
+// 0 to 9, then a to f. By hand, so that the log is held to another writer than the one that wrote it.
 fn hex_digit(x: u8) -> u8
     requires { x < 16 }
 {

@@ -51,6 +51,7 @@ fn subst_apply(
     requires { Named st.old.words.now st.old.used ty.first ty.many st.old.used.nodes × Parts st.old.used.nodes subst.now.args subst.now.many }
     ensures { Did st.old st.new result (λ s. subst_value (subst_down left (subst_of subst.now)) (subst_of subst.now) s 0 loc (Apply (mark_of ty.k) (name_of ty.n) (args_at (tables st.old) (args_of ty)))) }
 {
+    // Eight places and their count, as push_apply takes them: a slice would be cut at each call, `&parts[..many as usize]`, with a proof that it fits.
     let mut parts: [u32; 8] = [0; 8];
     for i in 0..ty.many {
         let t = st.arg_at(ty.first, i);

@@ -7,7 +7,8 @@ ghost use Rattle.tparams.specs.Pairs.{pairs};
 
 use names::TParamID;
 
-// The first `many` ids, each with its argument: in two arrays, as a record's ids and nodes are read.
+// The first `many` ids, each with its argument. In two arrays: contracts speak of `args` as of any parts (table's Parts). Not fields' Pairs,
+// where an id may stand twice: make_tparam_subst is what refuses that.
 #[derive(Clone, Copy)]
 pub struct TParamSubst {
     pub ids: [TParamID; 8],

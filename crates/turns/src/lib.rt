@@ -98,19 +98,19 @@ impl Turn {
                 from: 0,
                 have: left + n,
                 more: 0 < n,
-                index: self.index,
                 read: n,
                 written: 0,
                 stage: Stage::Going,
+                ..self
             },
             Err(_) => Turn {
                 from: 0,
                 have: left,
                 more: true,
-                index: self.index,
                 read: 0,
                 written: 0,
                 stage: Stage::Unread,
+                ..self
             },
         }
     }
@@ -131,12 +131,11 @@ impl Turn {
         };
         Turn {
             from: self.from + lines.read,
-            have: self.have,
-            more: self.more,
             index: Some(lines.index),
             read: 0,
             written: text.len(),
             stage,
+            ..self
         }
     }
 }

@@ -30,9 +30,7 @@ pub fn padded(params: Params) -> [u8; 8]
     ensures { (result ≡ padded params.bytes params.many) × (length params.bytes ≡ 8) }
 {
     let mut row = params.bytes;
-    for i in usize::from(params.many)..8 {
-        row[i] = 0;
-    }
+    row[usize::from(params.many)..].fill(0);
     row
 }
 
@@ -89,14 +87,14 @@ impl Refused {
     }
 }
 
-// Whether the record is all that is lent, and bytes are left over.
+// Whether the record is all that is lent, and bytes are left over. `whole` is a flag, as the two public calls differ by it alone.
 pub fn left_over(whole: bool, next: usize, long: usize) -> bool
     ensures { result ≡ whole && ltb next long }
 {
     whole && next < long
 }
 
-// What is run, or why nothing is. Bytes left over are malformed, which comes before no space.
+// What is run, or why nothing is. Bytes left over are malformed, which comes before no space: a flag, since it is asked only once all was read.
 // Refused: no space before bytes left over (full_before_left_over).
 pub fn verdict_of(read: Result<Option<What>, ReadError>, over: bool) -> Result<What, Refused>
     ensures { result ≡ verdict_of read over }

@@ -1,20 +1,16 @@
--- Bytes put one after the other, and lengths with a limit. Assumes nothing.
+-- Bytes put one after the other. Assumes nothing.
 -- By lists cut where the bytes are put: what stands before and after is kept, and the lengths add up.
 use mathlib.Core.Path.{◌≡◌, refl, sym, ap, ◌∙◌, subst}
-use mathlib.Core.Bool.{Bool, true, false}
 use mathlib.Core.List.{List, [], ◌++◌, append_assoc, append-nil}
-use Prim.Native.Nat.{ℕ, ◌+◌, ◌-◌, ◌≤◌, ◌<◌}
+use Prim.Native.Nat.{ℕ, ◌+◌, ◌-◌, ◌≤◌}
 use native.Mathlib.Omega.{arith}
-use borrow.Author.Tests.{le-leb, lt-leb, leb-true, leb-false}
-use lib.Dec.{leb}
 use native.Mathlib.Nat.{add-zero}
-use native.Mathlib.Numerals.{add-one}
 use lib.ListN.{length, take, drop, length-append, length-drop, take-append-drop}
 use lib.Seq.{take_all, take_at, drop-drop, drop-append-add, length-take-le}
 use borrow.Rule.Slice.PartMut.{put_mid}
 use Rattle.std.proofs.lemmas.Slice.{put_mid-paste}
 use Rattle.definition.specs.Write.{Bytes}
-use Rattle.writer.specs.Bytes.{put, capped, Wrote}
+use Rattle.writer.specs.Bytes.{put, Wrote}
 
 pub length_put : (buf : List ℕ) (at : ℕ) (bytes : Bytes) → at + length bytes ≤ length buf → length (put buf at bytes) ≡ length buf
 unfolding put
@@ -38,50 +34,6 @@ put_put buf at a b h =
 pub put_nothing : (buf : List ℕ) (at : ℕ) → at ≤ length buf → buf ≡ put buf at []
 unfolding put
 put_nothing buf at h = sym (rw (add-zero at, append-nil (take at buf)) (take-append-drop at buf))
-
--- ---- lengths with a limit
-
-pub capped_is : (room n : ℕ) → n ≤ room → capped room n ≡ n
-unfolding capped
-capped_is room n h = rw (le-leb n room h)
-
-pub capped_over : (room n : ℕ) → room < n → capped room n ≡ room + 1
-unfolding capped
-capped_over room n h = rw (lt-leb n room h) (sym (add-one room))
-
--- a length found to be within the limit is the length
-pub capped_within : (room n : ℕ) → capped room n ≤ room → n ≤ room
-capped_within room n h = either (leb n room) refl
-  where
-    either : (b : Bool) → leb n room ≡ b → n ≤ room
-    either true e = leb-true n room e
-    either false e = let o : capped room n ≡ room + 1 = capped_over room n (leb-false n room e) in omega arith
-
-pub capped_beyond : (room n : ℕ) → room < capped room n → room < n
-capped_beyond room n h = either (leb n room) refl
-  where
-    either : (b : Bool) → leb n room ≡ b → room < n
-    either true e = let o : capped room n ≡ n = capped_is room n (leb-true n room e) in omega arith
-    either false e = leb-false n room e
-
-pub capped_small : (room n k : ℕ) → k ≡ capped room n → k ≤ room + 1
-capped_small room n k e = either (leb n room) refl
-  where
-    either : (b : Bool) → leb n room ≡ b → k ≤ room + 1
-    either true t = let c : capped room n ≡ n = capped_is room n (leb-true n room t) in let l : n ≤ room = leb-true n room t in omega (arith, e)
-    either false t = let c : capped room n ≡ room + 1 = capped_over room n (leb-false n room t) in omega (arith, e)
-
--- a further part, of which there is room for what is left
-pub capped_more : (room a b : ℕ) → a ≤ room → a + capped (room - a) b ≡ capped room (a + b)
-capped_more room a b h = either (leb b (room - a)) refl
-  where
-    either : (c : Bool) → leb b (room - a) ≡ c → a + capped (room - a) b ≡ capped room (a + b)
-    either true e =
-        let l : b ≤ room - a = leb-true b (room - a) e in
-        rw (capped_is (room - a) b l, capped_is room (a + b) (omega arith))
-    either false e =
-        let l : room - a < b = leb-false b (room - a) e in
-        rw (capped_over (room - a) b l, capped_over room (a + b) (omega arith)) (omega arith)
 
 -- ---- written
 

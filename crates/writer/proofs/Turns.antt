@@ -1,12 +1,10 @@
 -- The turns of the loops over a type's parts: what holds at the head of each, where it begins, a turn, and where it ends. Assumes nothing.
 -- Each loop has a record of what holds at its head (`Sizing`, `Writing`); of each: where it begins, one part more, and where it ends.
 use mathlib.Core.Path.{◌≡◌, refl, sym, ap, ◌∙◌}
-use mathlib.Core.Bool.{Bool, true, false}
 use mathlib.Core.List.{List, [], ◌++◌}
 use Prim.Native.Nat.{ℕ, ◌+◌, ◌-◌, ◌≤◌, ◌<◌}
 use native.Mathlib.Omega.{arith}
-use borrow.Author.Tests.{leb-true, leb-false}
-use lib.Dec.{leb}
+use Rattle.std.specs.Prelude.{Some, None}
 use lib.ListN.{length, get_or, length-append}
 use Rattle.definition.specs.Types as d
 use Rattle.definition.specs.Types.{State, Struct}
@@ -19,8 +17,8 @@ use Rattle.table.specs.declared.Shape.TheVariants.{Unit as UnitS, Ref, Param, Ap
 use Rattle.table.specs.declared.Used.{Used}
 use Rattle.shapes.specs.Parts.{part_count}
 use Rattle.shapes.proofs.Nodes.{At, counted, inside_seen, many_parts, part_is}
-use Rattle.writer.specs.Bytes.{put, Wrote, capped, ByteFields, AllBytes}
-use Rattle.writer.proofs.Put.{length_put, put_put, capped_is, capped_over, capped_within, capped_beyond, capped_more, capped_small}
+use Rattle.writer.specs.Bytes.{put, Wrote, Capped, ByteFields, AllBytes}
+use Rattle.writer.proofs.Put.{length_put, put_put}
 use Rattle.writer.proofs.Walk.{front, front_none, front_more, front_all, front_fits}
 
 -- ---- the bytes of a node up to its part i
@@ -54,66 +52,36 @@ module _ {w : List ℕ} {u : Used} {t : ℕ} {sh : Shape} {n : ℕ} (a : At w u 
 
 -- ---- the length, up to a limit
 
-pub record Sizing (w : List ℕ) (u : Used) (t room n size i : ℕ) : Type 0 where
-  pub left : i ≤ n
-  pub small : size ≤ room + 10
-  pub is : (ds : List Struct) → capped room size ≡ capped room (length (front (seen w u ds) t i))
+-- of the room, `left` is left by the bytes up to part i
+pub record Sizing (w : List ℕ) (u : Used) (t room n left i : ℕ) : Type 0 where
+  pub below : i ≤ n
+  pub is : (ds : List Struct) → left + length (front (seen w u ds) t i) ≡ room
 
-pub size_none : {w : List ℕ} {u : Used} {t : ℕ} {sh : Shape} {n : ℕ} → At w u t sh n → (room size : ℕ) → ((loc : ℕ) → size ≡ length (head loc (value_of sh))) → size ≤ 10 → Sizing w u t room n size 0
-size_none {w} {u} {t} a room size e l =
-    record {
-      left = omega arith;
-      small = omega arith;
-      is = λ ds. ap (capped room) (e (loc_of (seen w u ds) t) ∙ ap length (front_head a ds (loc_of (seen w u ds) t) refl));
-    }
+module _ {w : List ℕ} {u : Used} {t : ℕ} {sh : Shape} {n : ℕ} (a : At w u t sh n) where
+  head_length : (size : ℕ) → ((loc : ℕ) → size ≡ length (head loc (value_of sh))) → (ds : List Struct) → size ≡ length (front (seen w u ds) t 0)
+  head_length size e ds = e (loc_of (seen w u ds) t) ∙ ap length (front_head a ds (loc_of (seen w u ds) t) refl)
 
--- within the limit, the size is the length
-exact : (room size n : ℕ) → size ≤ room → capped room size ≡ capped room n → size ≡ n
-exact room size n l e =
-    let a : capped room size ≡ size = capped_is room size l in
-    let b : n ≤ room = capped_within room n (omega arith) in
-    let c : capped room n ≡ n = capped_is room n b in
-    omega arith
+  pub size_none : (room size left : ℕ) → ((loc : ℕ) → size ≡ length (head loc (value_of sh))) → left + size ≡ room → Sizing w u t room n left 0
+  size_none room size left e l = record { below = omega arith; is = λ ds. omega (arith, l, head_length size e ds) }
 
-pub part_small : (w : List ℕ) (u : Used) (p room k : ℕ) → ((ds : List Struct) → k ≡ capped room (length (write (seen w u ds) p))) → k ≤ room + 1
-part_small w u p room k e = capped_small room (length (write (seen w u []) p)) k (e [])
+  -- the head alone is too long
+  pub size_long : (room size : ℕ) → ((loc : ℕ) → size ≡ length (head loc (value_of sh))) → room < size → (ds : List Struct) → room < length (write (seen w u ds) t)
+  size_long room size e l ds = omega (arith, l, head_length size e ds, front_in a 0 ds)
 
-capped_again : (room n : ℕ) → capped room (capped room n) ≡ capped room n
-capped_again room n = either (leb n room) refl
-  where
-    either : (b : Bool) → leb n room ≡ b → capped room (capped room n) ≡ capped room n
-    either true e = ap (λ (k : ℕ). capped room k) (capped_is room n (leb-true n room e))
-    either false e =
-        let c : capped room n ≡ room + 1 = capped_over room n (leb-false n room e) in
-        ap (λ (k : ℕ). capped room k) c ∙ capped_over room (room + 1) (omega arith) ∙ sym c
+  module _ {room left i : ℕ} (s : Sizing w u t room n left i) where
+    module _ (p : ℕ) (l : i < n) (part : (ds : List Struct) → i < part_count (shape_of sh) → p ≡ get_or (parts (with_args (seen w u ds) (shape_of sh))) i 0) where
+      longer_by : (ds : List Struct) → length (front (seen w u ds) t (i + 1)) ≡ length (front (seen w u ds) t i) + length (write (seen w u ds) p)
+      longer_by ds = ap length (front_part a i p l part ds) ∙ length-append (front (seen w u ds) t i) (write (seen w u ds) p)
 
-module _ {w : List ℕ} {u : Used} {t : ℕ} {sh : Shape} {n : ℕ} (a : At w u t sh n) {room size i : ℕ} (s : Sizing w u t room n size i) where
-  pub size_more : (p k : ℕ) → i < n → size ≤ room → ((ds : List Struct) → i < part_count (shape_of sh) → p ≡ get_or (parts (with_args (seen w u ds) (shape_of sh))) i 0)
-      → ((ds : List Struct) → k ≡ capped (room - size) (length (write (seen w u ds) p))) → Sizing w u t room n (size + k) (i + 1)
-  size_more p k l r part e =
-      let b : k ≤ room - size + 1 = part_small w u p (room - size) k e in
-      record {
-        left = let x = s.left in omega arith;
-        small = omega arith;
-        is = λ ds.
-            let v = seen w u ds in
-            let f : size ≡ length (front v t i) = exact room size (length (front v t i)) r (s.is ds) in
-            let m : length (front v t (i + 1)) ≡ length (front v t i) + length (write v p) = ap length (front_part a i p l part ds) ∙ length-append (front v t i) (write v p) in
-            let g : size + length (write v p) ≡ length (front v t (i + 1)) = omega arith in
-            ap (capped room) (ap (λ (j : ℕ). size + j) (e ds) ∙ capped_more room size (length (write v p)) r ∙ ap (capped room) g) ∙ capped_again room (length (front v t (i + 1)));
-      }
+      pub size_more : (k : ℕ) → ((ds : List Struct) → Capped left (length (write (seen w u ds) p)) (Some k)) → Sizing w u t room n (left - k) (i + 1)
+      size_more k e = record { below = omega arith; is = λ ds. omega (arith, s.is ds, longer_by ds, (e ds).0, (e ds).1) }
 
-  -- the limit is passed
-  pub size_over : room < size → (ds : List Struct) → room + 1 ≡ capped room (length (write (seen w u ds) t))
-  size_over l ds =
-      let v = seen w u ds in
-      let o : capped room size ≡ room + 1 = capped_over room size l in
-      let b : room < length (front v t i) = capped_beyond room (length (front v t i)) (let e = s.is ds in omega arith) in
-      let c : length (front v t i) ≤ length (write v t) = front_in a i ds in
-      sym (capped_over room (length (write v t)) (omega arith))
+      -- part i is too long
+      pub size_over : ((ds : List Struct) → Capped left (length (write (seen w u ds) p)) None) → (ds : List Struct) → Capped room (length (write (seen w u ds) t)) None
+      size_over e ds = omega (arith, s.is ds, longer_by ds, e ds, front_in a (i + 1) ds)
 
-  pub size_all : n ≤ i → size ≤ room → (ds : List Struct) → size ≡ capped room (length (write (seen w u ds) t))
-  size_all l r ds = sym (capped_is room size r) ∙ s.is ds ∙ ap (λ (b : Bytes). capped room (length b)) (front_whole a i l ds)
+    pub size_all : n ≤ i → (ds : List Struct) → Capped room (length (write (seen w u ds) t)) (Some (room - left))
+    size_all l ds = let e = ap length (front_whole a i l ds) in (omega (arith, s.is ds, e), omega (arith, s.is ds, e))
 
 -- ---- the bytes
 

@@ -1,5 +1,5 @@
 -- Bytes in a buffer, a length with a limit, and the fields that must be bytes. Assumes nothing: these are definitions.
-use Rattle.std.specs.Prelude.{◌≡◌, List, ◌++◌, ℕ, suc, ◌+◌, ◌<◌, length, take, drop, leb, if◌then◌else◌}
+use Rattle.std.specs.Prelude.{◌≡◌, List, ◌++◌, ℕ, ◌+◌, ◌<◌, ◌≤◌, length, take, drop, Option, Some, None}
 use Rattle.definition.specs.Types.{TypeName, Multiple, Builtin, ModuleType, Shape, UnitType, Ref, Param, Apply, Var, Anything, UnresolvedError, State}
 use Rattle.definition.specs.Store.{count, node}
 use Rattle.definition.specs.Write.{Bytes, mark}
@@ -13,9 +13,10 @@ pub record Wrote (buf : List ℕ) (at : ℕ) (bytes : Bytes) (buf' : List ℕ) (
   pub next_is : next ≡ at + length bytes
   pub is : buf' ≡ put buf at bytes
 
--- a length up to `room`, else one more than that
-unfoldable pub capped : ℕ → ℕ → ℕ
-capped room n = if leb n room then n else suc room
+-- the length n, if it is no more than `room`
+abbrev pub Capped : ℕ → ℕ → Option ℕ → Type 0
+Capped room n (Some k) = (k ≡ n) × (n ≤ room)
+Capped room n None = room < n
 
 -- ---- fields that are written as one byte
 

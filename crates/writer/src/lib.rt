@@ -7,13 +7,13 @@ ghost use Rattle.definition.specs.Write.{mark, u16, u32 as bytes-u32, apply_head
 ghost use Rattle.names.specs.Names.{mark_of, name_of};
 ghost use Rattle.table.specs.State.{shape_of, value_of};
 ghost use Rattle.table.specs.Did.{held, tables};
-ghost use Rattle.writer.specs.Bytes.{Wrote, capped, NameByte, ByteFields, AllBytes};
+ghost use Rattle.writer.specs.Bytes.{Wrote, Capped, NameByte, ByteFields, AllBytes};
 
 use names::{AbilityMark, TypeName};
+use table::Shape;
 use table::state::State;
-use table::{Shape, number};
 
-// ---- into a buffer
+// ---- into a buffer: a buffer and a place, no writer over what is left, since the place at the end is the length that is asked for
 
 // These bytes from place `at` on; the place after them.
 pub fn put_bytes(buf: &mut [u8], at: usize, bytes: &[u8]) -> usize
@@ -88,7 +88,7 @@ fn write_apply(buf: &mut [u8], at: usize, loc: u32, k: AbilityMark, n: TypeName)
     }
 }
 
-// A type's tag, location and fields: a variable or `_` that stands in no table.
+// A type's tag, location and fields: a variable or `_` that stands in no table. Each tag is written in one place, so none has a name.
 pub fn write_head(loc: u32, shape: Shape, buf: &mut [u8], at: usize) -> usize
     requires { ByteFields (shape_of shape) × (at + length (head loc (value_of shape)) ≤ length buf.old) }
     ensures { Wrote buf.old at (head loc (value_of shape)) buf.new result }
@@ -107,7 +107,7 @@ pub fn write_head(loc: u32, shape: Shape, buf: &mut [u8], at: usize) -> usize
         Shape::Apply(k, n, _, _) => write_apply(buf, at, loc, k, n),
         Shape::Var(v) => {
             let next = put_tag(buf, at, 6, loc);
-            put_u16(buf, next, number(v))
+            put_u16(buf, next, u32::from(v))
         }
         Shape::Anything => put_tag(buf, at, 7, loc),
         Shape::UnresolvedError => put_tag(buf, at, 8, loc),
@@ -143,25 +143,19 @@ pub fn head_size(shape: Shape) -> u32
 
 // ---- a type with its parts
 
-// How many bytes the type t has, if no more than `room`; else one more than `room`. Types share parts, so the walk stops there.
-pub fn size_type(st: &State<'_>, t: u32, room: u32) -> u32
+// How many bytes the type t has, if no more than `room`. Types share parts, so the walk stops there.
+// Not one walk with `write_type`: that one writes as it goes and has no limit, and this one ends before anything is written.
+pub fn size_type(st: &State<'_>, t: u32, room: u32) -> Option<u32>
     requires { (t < st.now.used.nodes) × (room ≤ 65536) }
-    ensures { (ds : List d.Struct) → result ≡ capped room (length (write (held st.now ds) t)) }
+    ensures { (ds : List d.Struct) → Capped room (length (write (held st.now ds) t)) result }
 {
     let shape = st.node_at(t).shape;
-    let n = shapes::part_count(shape);
-    let mut size = head_size(shape);
-    for i in 0..n {
-        if room < size {
-            return room + 1;
-        }
+    let mut left = room.checked_sub(head_size(shape))?;
+    for i in 0..shapes::part_count(shape) {
         let p = shapes::part_at(st, shape, i);
-        size += size_type(st, p, room - size);
+        left -= size_type(st, p, left)?;
     }
-    if room < size {
-        return room + 1;
-    }
-    size
+    Some(room - left)
 }
 
 // The bytes of the type t, which fit; the place after them.

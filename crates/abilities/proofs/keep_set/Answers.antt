@@ -9,7 +9,7 @@ set_of-a-requires c = let pre = c.requires in
     kept_ready _ _ _ _ _ c.goes_on-s.ensures pre.1.0 pre.1.1.known
 
 pub overflow_add-sets : goal.overflow_add-sets
-overflow_add-sets c = omega (arith, c.bits.ensures.1)
+overflow_add-sets c = omega (arith, c.from.ensures.1)
 
 pub bounds-sets-at : goal.bounds-sets-at
 bounds-sets-at c = let pre = c.requires in
@@ -19,4 +19,4 @@ pub returns : goal.returns
 returns c = let pre = c.requires in
     let goes = c.goes_on-s.ensures in
     let set = c.set_of-a.ensures in
-    rw c.wide-at.ensures (inferred_here pre.0 pre.1.0 pre.1.1 goes _ c.bits.ensures.1 (λ ds k. c.bits.ensures.0 ∙ set ds k))
+    rw c.wide-at.ensures (inferred_here pre.0 pre.1.0 pre.1.1 goes _ c.from.ensures.1 (λ ds k. c.from.ensures.0 ∙ set ds k))

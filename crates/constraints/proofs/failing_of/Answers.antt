@@ -1,7 +1,7 @@
 -- `constraints::failing_of` meets its contract. Assumes nothing.
--- Three returns: nothing is asked; else the type unfolds to a node or to `_`.
 use Rattle.constraints.proofs.Laws.{nothing_asked, node_fails, anything_fails}
 use Rattle.constraints.proofs.failing_of.Goals as goal
+use Rattle.constraints.proofs.failing_of.Goals.{in-Node, in-Anything}
 
 pub returns-in_err-a : goal.returns-in_err-a
 returns-in_err-a c = rw c.from_residual.ensures (nothing_asked _ _ c.in_err-a.ensures)
@@ -9,10 +9,10 @@ returns-in_err-a c = rw c.from_residual.ensures (nothing_asked _ _ c.in_err-a.en
 pub unfold_type-requires : goal.unfold_type-requires
 unfold_type-requires c = rw c.in_ok-a.ensures.ty_is c.requires
 
-pub returns-in-Node : goal.returns-in-Node
-returns-in-Node c = rw c.then_some.ensures
-    (node_fails _ c.in_ok-a.a _ c.in_ok-a.ensures _ c.unfold_type.ensures _ c.in-Node.is c.node_at.result c.node_at.ensures _ c.good-bad.ensures)
-
-pub returns-in-Anything : goal.returns-in-Anything
-returns-in-Anything c = rw c.then_some-in-Anything.ensures
-    (anything_fails _ c.in_ok-a.a _ c.in_ok-a.ensures _ c.unfold_type.ensures _ c.in-Anything.is _ c.good-bad-in-Anything.ensures)
+pub returns : goal.returns
+returns c =
+    let a = c.in_ok-a in
+    elim c.match-unfold_type.branch [
+      | in-Node w ↦ rw (c.then_some.ensures, w.shape-is) (node_fails _ a.a _ a.ensures _ c.unfold_type.ensures _ w.in-Node.is w.node_at.result w.node_at.ensures _ (rw w.shape-is at c.good-bad.ensures))
+      | in-Anything w ↦ rw (c.then_some.ensures, w.shape-is) (anything_fails _ a.a _ a.ensures _ c.unfold_type.ensures _ w.in-Anything.is _ (rw w.shape-is at c.good-bad.ensures))
+    ]

@@ -3,9 +3,9 @@ use Rattle.std.proofs.Common.{rules, ◌≡◌, Err}
 use Rattle.fields.proofs.Forms.{rm_is, rm_unread}
 use Rattle.fields.proofs.read_rm.Goals as goal
 
-pub returns-in_err-sums : goal.returns-in_err-sums
-returns-in_err-sums c = let e : c.from_residual.result ≡ Err c.in_err-sums.field-0.0 = search rules in
-    rw e (rm_unread _ c.in_err-sums.ensures)
+pub returns-in_err-sums-clause-is : goal.returns-in_err-sums-clause-is
+returns-in_err-sums-clause-is c = let e : c.from_residual.result ≡ Err c.in_err-sums.field-0.0 = search rules in
+    rw e (rm_unread _ c.in_err-sums.ensures.is)
 
-pub returns : goal.returns
-returns c = rm_is _ c.in_ok-sums.ensures
+pub returns-clause-is : goal.returns-clause-is
+returns-clause-is c = rm_is _ c.in_ok-sums.ensures.is

@@ -16,4 +16,4 @@ decreases-instantiate_down l = 2 * l.left
 
 abbrev pub invariant-instantiate_apply-loop-i : goal.invariant-instantiate_apply-loop-i
 invariant-instantiate_apply-loop-i l =
-    Going (KnownTo l.initial.st l.params) (D.instantiate_down l.left) (joined l.loc (mark_of l.ty.k) (name_of l.ty.n) (take l.tparams.many l.tparams.tvars)) l.ty.first l.ty.many l.initial.st l.st l.parts l.i
+    Going (KnownTo l.initial.st l.params) (D.instantiate_down l.left) (joined l.loc (mark_of l.ty.k) (name_of l.ty.n) (take l.tparams.many l.tparams.tys)) l.ty.first l.ty.many l.initial.st l.st l.parts l.i

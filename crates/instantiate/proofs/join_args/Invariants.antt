@@ -4,4 +4,4 @@ use Rattle.instantiate.proofs.JoinLaws.{Joining}
 use Rattle.instantiate.proofs.join_args.Given as goal
 
 abbrev pub invariant-loop-i : goal.invariant-loop-i
-invariant-loop-i l = Joining l.loc (mark_of l.ty.k) (name_of l.ty.n) l.tparams.tvars l.tys l.c l.initial.st l.st l.parts l.i
+invariant-loop-i l = Joining l.loc (mark_of l.ty.k) (name_of l.ty.n) l.tparams.tys l.tys l.c l.initial.st l.st l.parts l.i

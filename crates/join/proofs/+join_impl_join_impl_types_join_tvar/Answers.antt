@@ -6,7 +6,7 @@ use Rattle.std.proofs.Common.{rules}
 use mathlib.Core.Path.{◌≡◌, refl}
 use Rattle.std.specs.Prelude.{if◌then◌else◌}
 use native.Mathlib.Omega.{arith}
-use Rattle.join.proofs.+join_impl_join_impl_types_join_tvar.Goals.{join_impl-then-side, join_impl-else-side}
+use Rattle.join.proofs.+join_impl_join_impl_types_join_tvar.Goals.{join_impl-then-at_left, join_impl-else-at_left}
 use Rattle.join.proofs.+join_impl_join_impl_types_join_tvar.Goals as goal
 
 pub join_impl-returns-then-left-eq0 : goal.join_impl-returns-then-left-eq0
@@ -23,14 +23,14 @@ join_impl-join_impl-requires t c = (omega arith, arm_below (choice _ _ c.args.st
 
 pub join_impl-returns-in_err-t-in-Refs : goal.join_impl-returns-in_err-t-in-Refs
 join_impl-returns-in_err-t-in-Refs t c =
-    let loc : c.if-side.loc ≡ (if c.in-Refs.side then c.node_at-l.result.loc else c.node_at-r.result.loc) =
-    elim c.if-side.branch [ join_impl-then-side w ↦ rw w.if-side.true w.loc-is | join_impl-else-side w ↦ rw w.if-side.false w.loc-is ] in
+    let loc : c.if-at_left.loc ≡ (if c.in-Refs.at_left then c.node_at-l.result.loc else c.node_at-r.result.loc) =
+    elim c.if-at_left.branch [ join_impl-then-at_left w ↦ rw w.if-at_left.true w.loc-is | join_impl-else-at_left w ↦ rw w.if-at_left.false w.loc-is ] in
     refs_err (choice _ _ _ _ _ _ _ _ c.requires c.if-left-eq0.false c.node_at-l.ensures c.node_at-r.ensures c.arm_of.ensures) c.in-Refs.is loc c.in_err-t-in-Refs.ensures (search rules)
 
 pub join_impl-returns-in_ok-t-in-Refs : goal.join_impl-returns-in_ok-t-in-Refs
 join_impl-returns-in_ok-t-in-Refs t c =
-    let loc : c.if-side.loc ≡ (if c.in-Refs.side then c.node_at-l.result.loc else c.node_at-r.result.loc) =
-    elim c.if-side.branch [ join_impl-then-side w ↦ rw w.if-side.true w.loc-is | join_impl-else-side w ↦ rw w.if-side.false w.loc-is ] in
+    let loc : c.if-at_left.loc ≡ (if c.in-Refs.at_left then c.node_at-l.result.loc else c.node_at-r.result.loc) =
+    elim c.if-at_left.branch [ join_impl-then-at_left w ↦ rw w.if-at_left.true w.loc-is | join_impl-else-at_left w ↦ rw w.if-at_left.false w.loc-is ] in
     arm_refs (choice _ _ _ _ _ _ _ _ c.requires c.if-left-eq0.false c.node_at-l.ensures c.node_at-r.ensures c.arm_of.ensures) c.in-Refs.is loc c.in_ok-t-in-Refs.ensures c.push_node.ensures
 
 pub join_impl-join_impl_types-requires : goal.join_impl-join_impl_types-requires

@@ -1,11 +1,11 @@
 use native.Mathlib.Omega.{arith}
 use mathlib.Core.Path.{refl}
 use Rattle.std.proofs.Common.{rules}
-use Rattle.ready.proofs.Run.{lands_spent, readied_start, readied_in, readied_has, readied_part, readied_stop, readied_more, readied_parts, readied_end}
+use Rattle.ready.proofs.Run.{lands_stop, readied_start, readied_in, readied_has, readied_part, readied_stop, readied_more, readied_parts, readied_end}
 use Rattle.ready.proofs.+ready_ready_types.Goals as goal
 
-pub ready-returns-in-Spent : goal.ready-returns-in-Spent
-ready-returns-in-Spent t c = lands_spent _ _ _ _ c.land.ensures c.in-Spent.is
+pub ready-returns-in_err-node : goal.ready-returns-in_err-node
+ready-returns-in_err-node t c = lands_stop _ _ _ _ c.in_err-node.ensures _ refl (search rules)
 
 pub ready_types-loop-i-init : goal.ready_types-loop-i-init
 ready_types-loop-i-init t c = let pre = c.requires in

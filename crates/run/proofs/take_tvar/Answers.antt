@@ -7,4 +7,4 @@ pub returns-in_err-v : goal.returns-in_err-v
 returns-in_err-v c = no_tvar c.in_err-v.ensures (search rules)
 
 pub returns : goal.returns
-returns c = took_tvar c.in_ok-v.ensures c.number.ensures.0
+returns c = took_tvar c.in_ok-v.ensures c.from.ensures.0

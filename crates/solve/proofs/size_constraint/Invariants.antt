@@ -6,4 +6,4 @@ use Rattle.solve.proofs.Rows.{all_rows, rows_from}
 use Rattle.solve.proofs.size_constraint.Given as goal
 
 abbrev pub invariant-loop-k : goal.invariant-loop-k
-invariant-loop-k l = Sized (Knows l.st l.params) l.n (rows_from l.st (constraint_of l.c)) (all_rows l.st (constraint_of l.c)) l.room l.size l.k
+invariant-loop-k l = Sized (Knows l.st l.params) l.n (rows_from l.st (constraint_of l.c)) (all_rows l.st (constraint_of l.c)) l.room l.left l.k

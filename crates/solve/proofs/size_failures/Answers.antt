@@ -1,3 +1,4 @@
+-- `solve::size_failures` meets its contract. Assumes nothing.
 use native.Mathlib.Omega.{arith}
 use Rattle.failing.proofs.Series.{sized_none, sized_all, sized_more, sized_over}
 use Rattle.solve.proofs.Rows.{ty_in, ready_in, list_pieces, constraint_is}
@@ -9,25 +10,24 @@ loop-i-init c = sized_none _ _ _ _ _ (list_pieces _) _
 pub constraint_at-c-requires : goal.constraint_at-c-requires
 constraint_at-c-requires c = c.loop-i-test.true
 
-pub overflow_sub-size : goal.overflow_sub-size
-overflow_sub-size c = omega (arith, c.loop-i.invariant.small)
-
-pub size_constraint-size-requires : goal.size_constraint-size-requires
-size_constraint-size-requires c = let pre = c.requires in
-    let lt = c.loop-i-test.true in
+pub size_constraint-requires : goal.size_constraint-requires
+size_constraint-requires c = let lt = c.loop-i-test.true in
     let is = c.constraint_at-c.ensures in
-    (ty_in c.args.st.now _ _ lt is pre.0, (ready_in _ _ _ lt is _ _ pre.1, omega arith))
+    (ty_in c.args.st.now _ _ lt is c.requires.0, (ready_in _ _ _ lt is _ _ c.requires.1, c.loop-i.invariant.small))
 
-pub overflow_add-size : goal.overflow_add-size
-overflow_add-size c = omega (arith, c.size_constraint-size.ensures.0, c.loop-i.invariant.small)
+pub returns-in_err-left : goal.returns-in_err-left
+returns-in_err-left c = let is = constraint_is _ _ _ _ c.constraint_at-c.ensures in
+    rw c.from_residual.ensures (sized_over _ _ _ _ _ (list_pieces _) _ _ _ c.loop-i.invariant c.loop-i-test.true _ is c.in_err-left.ensures.1)
 
-pub returns-then-size-gt4096 : goal.returns-then-size-gt4096
-returns-then-size-gt4096 c = let is = constraint_is _ _ _ _ c.constraint_at-c.ensures in
-    sized_over _ _ _ _ _ (list_pieces _) _ _ _ c.loop-i.invariant c.loop-i-test.true _ is _ c.size_constraint-size.ensures.1 c.if-size-gt4096.true
+pub overflow_sub-left : goal.overflow_sub-left
+overflow_sub-left c = omega (arith, c.in_ok-left.ensures.0)
 
 pub loop-i-preserved : goal.loop-i-preserved
 loop-i-preserved c = let is = constraint_is _ _ _ _ c.constraint_at-c.ensures in
-    sized_more _ _ _ _ _ (list_pieces _) _ _ _ c.loop-i.invariant c.loop-i-test.true _ is _ c.size_constraint-size.ensures.1 c.if-size-gt4096.false
+    sized_more _ _ _ _ _ (list_pieces _) _ _ _ c.loop-i.invariant c.loop-i-test.true _ is _ c.in_ok-left.ensures.1
+
+pub overflow_sub-result : goal.overflow_sub-result
+overflow_sub-result c = c.loop-i.invariant.small
 
 pub returns : goal.returns
-returns c = sized_all _ _ _ _ _ (list_pieces _) _ _ _ c.loop-i.invariant (omega arith)
+returns c = sized_all _ _ _ _ _ (list_pieces _) _ _ _ c.loop-i.invariant c.loop-i-test.false

@@ -3,7 +3,7 @@ use Rattle.table.proofs.Written.{ability_row, numeric_row, bits_row, ordered_row
 use Rattle.table.proofs.constraint_row.Goals as goal
 
 pub returns-in-Ability : goal.returns-in-Ability
-returns-in-Ability c = rw c.in-Ability.is (ability_row _ _ _ _ c.bits.ensures.0 c.bits.ensures.1)
+returns-in-Ability c = rw c.in-Ability.is (ability_row _ _ _ _ c.from.ensures.0 c.from.ensures.1)
 
 pub returns-in-Numeric : goal.returns-in-Numeric
 returns-in-Numeric c = rw c.in-Numeric.is (numeric_row _ _)

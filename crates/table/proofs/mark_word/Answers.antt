@@ -11,4 +11,4 @@ returns-in-None c = rw c.in-None.is (refl, refl)
 
 pub returns-in-Some : goal.returns-in-Some
 unfolding mark_word
-returns-in-Some c = rw c.in-Some.is (ap (λ (x : ℕ). 16 + x) c.bits.ensures.0, rw c.bits.ensures.0 (mark_again _ (rw c.bits.ensures.0 at c.bits.ensures.1)))
+returns-in-Some c = rw c.in-Some.is (ap (λ (x : ℕ). 16 + x) c.from.ensures.0, rw c.from.ensures.0 (mark_again _ (rw c.from.ensures.0 at c.from.ensures.1)))

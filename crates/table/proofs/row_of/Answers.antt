@@ -9,13 +9,13 @@ pub returns-in-Ref : goal.returns-in-Ref
 returns-in-Ref c = rw (c.in-Ref.is, c.from.ensures) (ref_row _ _ _ _ (flag_byte _))
 
 pub returns-in-Param : goal.returns-in-Param
-returns-in-Param c = rw c.in-Param.is (param_row _ _ _ _ c.bits.ensures.0 c.bits.ensures.1)
+returns-in-Param c = rw c.in-Param.is (param_row _ _ _ _ c.from-in-Param.ensures.0 c.from-in-Param.ensures.1)
 
 pub returns-in-Apply : goal.returns-in-Apply
 returns-in-Apply c = rw c.in-Apply.is (apply_row _ _ _ _ _ _ _ c.apply_row.ensures c.mark_word.ensures.0 c.mark_word.ensures.1)
 
 pub returns-in-Var : goal.returns-in-Var
-returns-in-Var c = rw c.in-Var.is (var_row _ _ _ c.number.ensures.0 c.number.ensures.1)
+returns-in-Var c = rw c.in-Var.is (var_row _ _ _ c.from-in-Var.ensures.0 c.from-in-Var.ensures.1)
 
 pub returns-in-Anything : goal.returns-in-Anything
 returns-in-Anything c = rw c.in-Anything.is (anything_row _)

@@ -1,46 +1,37 @@
-use Rattle.writer.proofs.Turns.{size_none, size_more, size_over, size_all, part_small}
-use Rattle.shapes.proofs.Nodes.{at_node, part_low}
+use mathlib.Core.Path.{refl}
+use mathlib.Core.List.{[]}
 use native.Mathlib.Omega.{arith}
+use Rattle.shapes.proofs.Nodes.{at_node, part_low}
+use Rattle.writer.proofs.Turns.{size_none, size_long, size_more, size_over, size_all}
 use Rattle.writer.proofs.+size_type.Goals as goal
 
+pub returns-in_err-left : goal.returns-in_err-left
+returns-in_err-left t c = let a = at_node _ _ _ _ c.node_at-shape.result c.args.st.now.lay c.requires.0 c.node_at-shape.ensures refl in
+    rw c.from_residual.ensures (size_long a _ _ c.head_size.ensures.0 (omega (arith, c.in_err-left.ensures)))
+
 pub loop-i-init : goal.loop-i-init
-loop-i-init t c = let pre = c.requires in
-    let node_at = c.node_at-shape in
-    size_none (at_node _ _ _ _ node_at.result c.args.st.now.lay pre.0 node_at.ensures c.part_count-n.ensures)
-    _ _ c.head_size-size.ensures.0 c.head_size-size.ensures.1
+loop-i-init t c = let a = at_node _ _ _ _ c.node_at-shape.result c.args.st.now.lay c.requires.0 c.node_at-shape.ensures c.part_count-i-end.ensures in
+    size_none a _ _ _ c.head_size.ensures.0 (omega (arith, c.in_ok-left.ensures))
 
-pub returns-then-room-size : goal.returns-then-room-size
-returns-then-room-size t c = let pre = c.requires in
-    let node_at = c.node_at-shape in
-    size_over (at_node _ _ _ _ node_at.result c.args.st.now.lay pre.0 node_at.ensures c.part_count-n.ensures) c.loop-i.invariant
-    c.if-room-size.true
+pub size_type-requires : goal.size_type-requires
+size_type-requires t c = let a = at_node _ _ _ _ c.node_at-shape.result c.args.st.now.lay c.requires.0 c.node_at-shape.ensures c.part_count-i-end.ensures in
+    let f = part_low a _ _ c.loop-i-test.true c.part_at-p.ensures in
+    (omega (arith, f, c.decreases), (omega (arith, f, c.requires.0), omega (arith, c.loop-i.invariant.is [], c.requires.1)))
 
-pub size_type-size-requires : goal.size_type-size-requires
-size_type-size-requires t c = let pre = c.requires in
-    let node_at = c.node_at-shape in
-    let part_count = c.part_count-n in
-    let f = part_low (at_node _ _ _ _ node_at.result c.args.st.now.lay pre.0 node_at.ensures part_count.ensures) _ _ c.loop-i-test.true c.part_at-p.ensures in
-    (omega (arith, f, c.decreases), (omega (arith, f, pre.0), omega (arith, pre.1)))
+pub returns-in_err-left-2 : goal.returns-in_err-left-2
+returns-in_err-left-2 t c = let a = at_node _ _ _ _ c.node_at-shape.result c.args.st.now.lay c.requires.0 c.node_at-shape.ensures c.part_count-i-end.ensures in
+    rw c.from_residual-in_err-left-2.ensures (size_over a c.loop-i.invariant _ c.loop-i-test.true c.part_at-p.ensures c.in_err-left-2.ensures)
 
-pub overflow_add-size : goal.overflow_add-size
-overflow_add-size t c = omega (arith, part_small _ _ _ _ _ c.size_type-size.ensures, c.requires.1)
+pub overflow_sub-left : goal.overflow_sub-left
+overflow_sub-left t c = let e = c.in_ok-left-2.ensures [] in omega (arith, e.0, e.1)
 
 pub loop-i-preserved : goal.loop-i-preserved
-loop-i-preserved t c = let pre = c.requires in
-    let node_at = c.node_at-shape in
-    let part_count = c.part_count-n in
-    size_more (at_node _ _ _ _ node_at.result c.args.st.now.lay pre.0 node_at.ensures part_count.ensures)
-    c.loop-i.invariant _ _ c.loop-i-test.true
-    c.if-room-size.false c.part_at-p.ensures c.size_type-size.ensures
+loop-i-preserved t c = let a = at_node _ _ _ _ c.node_at-shape.result c.args.st.now.lay c.requires.0 c.node_at-shape.ensures c.part_count-i-end.ensures in
+    size_more a c.loop-i.invariant _ c.loop-i-test.true c.part_at-p.ensures _ c.in_ok-left-2.ensures
 
-pub returns-then-room-size-2 : goal.returns-then-room-size-2
-returns-then-room-size-2 t c = let pre = c.requires in
-    let node_at = c.node_at-shape in
-    size_over (at_node _ _ _ _ node_at.result c.args.st.now.lay pre.0 node_at.ensures c.part_count-n.ensures) c.loop-i.invariant
-    c.if-room-size-2.true
+pub overflow_sub-result : goal.overflow_sub-result
+overflow_sub-result t c = omega (arith, c.loop-i.invariant.is [])
 
 pub returns : goal.returns
-returns t c = let pre = c.requires in
-    let node_at = c.node_at-shape in
-    size_all (at_node _ _ _ _ node_at.result c.args.st.now.lay pre.0 node_at.ensures c.part_count-n.ensures) c.loop-i.invariant
-    c.loop-i-test.false c.if-room-size-2.false
+returns t c = let a = at_node _ _ _ _ c.node_at-shape.result c.args.st.now.lay c.requires.0 c.node_at-shape.ensures c.part_count-i-end.ensures in
+    size_all a c.loop-i.invariant c.loop-i-test.false

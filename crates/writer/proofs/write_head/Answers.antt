@@ -73,7 +73,7 @@ returns-in-Apply c = rw c.in-Apply.is c.write_apply.ensures
 
 pub returns-in-Var : goal.returns-in-Var
 returns-in-Var c =
-    rw c.in-Var.is (both_wrote _ _ _ (var_is c.args.loc c.in-Var.v.0) _ _ (rw c.in-Var.is at c.requires.1) _ _ c.put_tag-next-in-Var.ensures _ _ (rw c.number.ensures.0 at c.put_u16.ensures))
+    rw c.in-Var.is (both_wrote _ _ _ (var_is c.args.loc c.in-Var.v.0) _ _ (rw c.in-Var.is at c.requires.1) _ _ c.put_tag-next-in-Var.ensures _ _ (rw c.from-in-Var.ensures.0 at c.put_u16.ensures))
 
 pub returns-in-Anything : goal.returns-in-Anything
 unfolding head

@@ -8,9 +8,9 @@ pub returns-then-n-ge-MAX_STRUCTS : goal.returns-then-n-ge-MAX_STRUCTS
 returns-then-n-ge-MAX_STRUCTS c = record { same = refl; declared = structs_full _ _ _ _ c.args.self.now.lay c.if-n-ge-MAX_STRUCTS.true }
 
 pub invariant_of-self : goal.invariant_of-self
-invariant_of-self c = let bits = c.bits.ensures in
+invariant_of-self c = let bits = c.from.ensures in
     record { lay = (struct_pushed _ _ _ _ c.args.self.now.lay _ _ c.if-n-ge-MAX_STRUCTS.false c.put_row.ensures (struct_row _ _ _ bits.0 bits.1)).lay }
 
 pub returns : goal.returns
-returns c = let bits = c.bits.ensures in
+returns c = let bits = c.from.ensures in
     record { same = refl; declared = struct_pushed _ _ _ _ c.args.self.now.lay _ _ c.if-n-ge-MAX_STRUCTS.false c.put_row.ensures (struct_row _ _ _ bits.0 bits.1) }

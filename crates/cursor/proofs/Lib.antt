@@ -1,0 +1,2 @@
+-- Laws of the bytes that are left. Assumes nothing.
+pub mod Within
