@@ -19,6 +19,7 @@ Exit status: 0  all records read
              1  input or output failed
              2  bad usage, or joinlog cannot be built
              3  the job ended with an answer 5, 6 or 18: the rest of the stream is not read
+             130, 143  stopped by SIGINT or SIGTERM, and with it all that it had started
 END
 }
 
@@ -27,7 +28,37 @@ die() { # STATUS MESSAGE
   exit "$1"
 }
 
-build_proved() { program=$(bash "$root/tools/build.sh" joinlog) || die 2 "joinlog cannot be built"; }
+tmp='' child='' copier=''
+folder() { # one for temporary files, made where it is first needed
+  [ -n "$tmp" ] || tmp=$(mktemp -d) || die 1 "no folder for temporary files"
+}
+clean() { [ -z "$tmp" ] || rm -rf "$tmp"; }
+trap clean EXIT
+
+# What runs long runs in the background, in a group of processes of its own, so that a signal reaches this script at once and ends the whole group.
+start() { # CMD.., its standard streams as they are told; its number is $child
+  set -m
+  "$@" &
+  child=$!
+  set +m
+}
+stop() { # STATUS
+  trap '' HUP INT TERM
+  [ -z "$child" ] || kill -TERM -- "-$child" 2> /dev/null
+  [ -z "$copier" ] || kill -TERM "$copier" 2> /dev/null
+  { wait; } 2> /dev/null
+  exit "$1"
+}
+trap 'stop 129' HUP
+trap 'stop 130' INT
+trap 'stop 143' TERM
+
+build_proved() {
+  folder
+  start bash "$root/tools/build.sh" joinlog < /dev/null > "$tmp/built"
+  wait "$child" || die 2 "joinlog cannot be built"
+  child='' program=$(cat "$tmp/built")
+}
 
 # Under --quick rt tries the sources in the program's place, without proofs. Where that ends well, rt's own words are left out.
 try_unproved() { cd "$root/crates/joinlog" && rt try --steps 1 --seconds 600; }
@@ -39,22 +70,38 @@ need_rt() {
   program=try_unproved
 }
 
-# Runs the program; it has no exit status of its own, so the log's last line and what it says on standard error decide.
+# The answers that end a job, by the log's last line.
+why_ended() { # LINE
+  case $1 in
+    *' 5') echo "record ${1% *} is answered with 5, malformed" ;;
+    *' 6') echo "record ${1% *} is answered with 6, unknown name" ;;
+    *' 18') echo "record ${1% *} is answered with 18, doubled reference" ;;
+  esac
+}
+
+# Runs the program on standard input; it has no exit status of its own, so the log's last line and what it says on standard error decide.
 run() {
-  local tmp ended
-  tmp=$(mktemp -d) || die 1 "no folder for temporary files"
-  trap 'rm -rf "$tmp"' EXIT
-  mkfifo "$tmp/copy"
+  local ran copied why
+  folder
+  mkfifo "$tmp/log" "$tmp/copy"
+  { exec 3<&0; } 2> /dev/null || die 1 "standard input cannot be read"
   tail -n 1 < "$tmp/copy" > "$tmp/last" &
-  "$program" 2> "$tmp/said" | tee "$tmp/copy"
-  ended=("${PIPESTATUS[@]}")
+  tee "$tmp/copy" < "$tmp/log" &
+  copier=$!
+  start "$program" <&3 > "$tmp/log" 2> "$tmp/said"
+  { wait "$child"; } 2> /dev/null # or bash tells which signal stopped it
+  ran=$?
+  wait "$copier"
+  copied=$?
   wait
-  if [ "$program" = try_unproved ] && [ "${ended[0]}" -eq 0 ]; then sed -i -E "/$own_words/d" "$tmp/said"; fi
+  child='' copier=''
+  if [ "$program" = try_unproved ] && [ "$ran" -eq 0 ]; then sed -i -E "/$own_words/d" "$tmp/said"; fi
   # where nobody reads the log any more, tee is stopped by a signal, and what joinlog says of that is left out
-  [ "${ended[1]}" -gt 128 ] || cat "$tmp/said" >&2
-  if [ "${ended[1]}" -ne 0 ] || [ -s "$tmp/said" ]; then exit 1; fi
-  [ "${ended[0]}" -eq 0 ] || die 1 "joinlog was stopped (status ${ended[0]})"
-  if grep -Eq '^[0-9]+ (5|6|18)$' "$tmp/last"; then exit 3; fi
+  [ "$copied" -gt 128 ] || cat "$tmp/said" >&2
+  if [ "$copied" -ne 0 ] || [ -s "$tmp/said" ]; then exit 1; fi
+  [ "$ran" -eq 0 ] || die 1 "joinlog was stopped (status $ran)"
+  why=$(why_ended "$(cat "$tmp/last")")
+  [ -z "$why" ] || die 3 "$why, which ends the job: the rest of the stream is not read"
   exit 0
 }
 
@@ -71,6 +118,7 @@ while [ $# -gt 0 ]; do
       shift
       ;;
     -*) die 2 "no flag $1; -h lists them" ;;
+    '') die 2 "a file's name is wanted, not an empty word" ;;
     *)
       [ -z "$file" ] || die 2 "one file at a time; -h says how"
       file=$1

@@ -1,6 +1,7 @@
 #!/bin/bash
 # The Rust side: upstream unchanged, both builds, the tests under both maps, the stored lists made again. Where rt or
 # PONGIWARU_LIB, an archive, is at hand: the engine beside core.rs, damaged records and states, traps.
+# `test.sh --quick`: upstream, the build, and 2,000 jobs beside core.rs, alone.
 # Its last line is 'N passed, M failed'; it exits non-zero where M is not 0.
 cd "$(dirname "$0")" || exit 1
 passed=0 failed=0
@@ -49,8 +50,10 @@ found() { # WHAT: an answer of the engine's side, altered, is found and the job 
   [ $? -eq 1 ] && grep -q '^DISAGREEMENT' "$tmp/found"
 }
 
+beside() { step "2,000 jobs beside core.rs" target/release/oracle compare 1 2000; }
+
 with_engine() {
-  step "2,000 jobs beside core.rs" target/release/oracle compare 1 2000
+  beside
   for what in number payload binding mark constraint reading count told missing line; do step "altered: $what" found $what; done
   step "damaged records" target/release/oracle damage records 1 50
   step "damaged states" target/release/oracle damage states 1 2
@@ -65,6 +68,12 @@ else
 fi
 step "upstream unchanged" sh -c 'cd upstream && sha256sum -c ../upstream.sha256'
 step "build, ordered map" cargo build --release --offline -j1
+if [ "${1-}" = --quick ]; then
+  beside
+  echo "$passed passed, $failed failed"
+  [ "$failed" -eq 0 ]
+  exit
+fi
 step "build, real map" cargo build --release --offline -j1 --features hashmap --target-dir target/hashmap
 tests "tests, ordered map"
 tests "tests, real map" --features hashmap --target-dir target/hashmap

@@ -29,12 +29,29 @@ without_archive() { # a sentence, and nothing built
     grep -q 'no archive at .*tools/build.sh exports' "$tmp/said"
 }
 
-other_header() { # a function of the header that changes is seen
-  mkdir -p "$tmp/crates/exports" "$tmp/crates/joinlog" "$tmp/rust" && cp -r joblog pongiwaru "$tmp/rust" && rm -rf "$tmp"/rust/*/target
+beside() { # EXPRESSION WORDS CARGO..: over a pongiwaru.h that sed changes so, cargo fails and says these words
+  local expression=$1 words=$2
+  shift 2
+  mkdir -p "$tmp/crates/exports" "$tmp/crates/joinlog" "$tmp/rust" && tar -c --exclude=target joblog pongiwaru | tar -x -C "$tmp/rust"
   cp ../crates/joinlog/std* "$tmp/crates/joinlog"
-  sed 's/uint32_t \*length/uint64_t *length/' ../crates/exports/pongiwaru.h > "$tmp/crates/exports/pongiwaru.h"
+  sed "$expression" ../crates/exports/pongiwaru.h > "$tmp/crates/exports/pongiwaru.h"
   ! cmp -s ../crates/exports/pongiwaru.h "$tmp/crates/exports/pongiwaru.h" || return 1
-  ! cargo build --offline --manifest-path "$tmp/rust/pongiwaru/Cargo.toml" > "$tmp/said" 2>&1 && grep -q 'mismatched types' "$tmp/said"
+  ! cargo "$@" --offline --manifest-path "$tmp/rust/pongiwaru/Cargo.toml" > "$tmp/said" 2>&1 && grep -q "$words" "$tmp/said"
+}
+
+# The report's page, drawn by a browser, its filter at work: a function fails, one is well. SHOT names a file for the picture.
+page() {
+  local dir=$tmp/page job shot=${SHOT-$tmp/page.png} browser=("$1" --headless --no-sandbox --disable-gpu --user-data-dir="$tmp/browser")
+  mkdir -p "$dir/jobs" "$dir/logs" && job=joblog/target/release/joblog && cargo build -q --release --offline --manifest-path joblog/Cargo.toml || return 1
+  echo 'JN vector<u8@1>@2, vector<bool@3>@4' | $job asm > "$dir/jobs/bad" && echo '0 2 0301000000000203030000000006' > "$dir/logs/bad.log"
+  echo 'JN u8@1, u8@2' | $job asm > "$dir/jobs/well" && echo '0 0 03020000000002' > "$dir/logs/well.log"
+  $job report --html "$dir/page.html" "$dir/jobs" "$dir/logs"
+  [ $? -eq 1 ] || return 1
+  timeout 60 "${browser[@]}" --screenshot="$shot" --window-size=1200,900 "file://$dir/page.html" && [ "$(wc -c < "$shot")" -gt 10000 ] || return 1
+  shown '' '2 of 2' && shown '#mark=JN' '1 of 2' && shown '#text=nowhere' '0 of 2' && shown '#verdict=ok' '1 of 2'
+}
+shown() { # with this behind the page's address, so many functions
+  timeout 60 "${browser[@]}" --dump-dom "file://$dir/page.html$1" 2> /dev/null | grep -q ">$2 functions shown<"
 }
 
 if [ -z "${PONGIWARU_LIB-}" ]; then
@@ -46,7 +63,13 @@ for crate in joblog pongiwaru; do
   step "$crate: clippy" cargo clippy -q --release --offline --all-targets --manifest-path $crate/Cargo.toml -- -D warnings
   tests $crate
 done
+if browser=$(command -v chromium || command -v chromium-browser || command -v google-chrome); then
+  step "joblog report's page in a browser" page "$browser"
+else
+  echo "SKIPPED joblog report's page in a browser: no chromium on the PATH"
+fi
 step "pongiwaru without its archive" without_archive
-step "pongiwaru beside another header" other_header
+step "pongiwaru beside another header" beside 's/uint32_t \*length/uint64_t *length/' 'mismatched types' build
+step "pongiwaru over an archive of another layout" beside 's/\(LAYOUT\) 1$/\1 2/' 'version and layout of the archive' run --example worked
 echo "$passed passed, $failed failed"
 [ "$failed" -eq 0 ]

@@ -1,5 +1,5 @@
 #!/bin/bash
-# The documents: NOTICE names just the files that are carried over, links lead somewhere, what is made from a source is made again, what is shown is so.
+# The documents: NOTICE names just the files that are carried over, links, paths and theorems' names are there, what is made from a source is made again, what is shown is so.
 # Its last line is 'N passed, M failed'; it exits non-zero where M is not 0.
 cd "$(dirname "$0")/.." || exit 1
 passed=0 failed=0
@@ -24,12 +24,15 @@ saying() { # those that say that they are changed
   grep -rlF 'Changed from the source that NOTICE names: ported to Rattle.' crates --exclude-dir=out --include=*.rt --include=*.antt | sort
 }
 
-links() { # each link of a document leads to a file or folder
-  local file target bad=0
-  while IFS=: read -r file target; do
-    [ -e "$(dirname "$file")/$target" ] || { echo "$file: $target" && bad=1; }
-  done < <(grep -oE '\]\([^)#]+\)' README.md CONTRIBUTING.md docs/*.md docs/requests/*.md rust/*/README.md oracle/README.md | sed 's/\](\(.*\))$/\1/' | grep -v ':http')
-  return $bad
+altered() { # FILE OLD NEW: names.py finds NEW's word, in a tree with this file changed
+  rm -rf "$tmp/tree" && mkdir -p "$tmp/tree/tests" "$tmp/tree/$(dirname "$1")" && ln -s "$PWD"/{crates,oracle,rust,tools,.ci,*.md,*.sh,*.txt,LICENSE,NOTICE} "$tmp/tree" 2> "$tmp/linked"
+  cp tests/* "$tmp/tree/tests" && rm -rf "$tmp/tree/docs" "$tmp/tree/$1" && cp -r docs "$tmp/tree" && sed "s@$2@$3@" "$1" > "$tmp/altered" &&
+    ! cmp -s "$1" "$tmp/altered" && cp "$tmp/altered" "$tmp/tree/$1" && ! python3 "$tmp/tree/tests/names.py" > "$tmp/found" && ! grep -vF "$(grep -oE '[a-zA-Z_0-9-]+[a-z0-9]' <<< "$3" | head -n 1)" "$tmp/found"
+}
+
+looped() { # the lines of the loop that RECORDS.md shows are lines of the example that the tests run, in their order
+  awk '/^## Writing a job/ { on = 1 } /^## Names/ { on = 0 } on && /^    / { sub("^ +", ""); if ($0 != "" && $0 != "}") print }' docs/RECORDS.md > "$tmp/shown"
+  sed 's/^ *//' rust/pongiwaru/examples/emit.rs | grep -Fx -f "$tmp/shown" | diff "$tmp/shown" - && [ "$(wc -l < "$tmp/shown")" -gt 10 ]
 }
 
 made() { python3 tools/computed.py --check && python3 tools/layers.py --check && python3 tools/jobs.py antt --check; }
@@ -67,7 +70,14 @@ verdict "files that NOTICE names are those that say they are changed" diff <(nam
 verdict "the source's copyright line" grep -qF 'Copyright (c) The Diem Core Contributors' NOTICE
 verdict "the licence's text" grep -q 'END OF TERMS AND CONDITIONS' NOTICE
 verdict "upstream is unchanged" sh -c 'cd oracle/upstream && sha256sum -c ../upstream.sha256'
-verdict "links" links
+verdict "links, paths and names" python3 tests/names.py
+verdict "a link that leads nowhere is found" altered README.md '(docs/RUNS.md)' '(RUNES.md)'
+verdict "a heading that is none is found" altered docs/RECORDS.md '(#a-call)' '(#no-call)'
+verdict "a theorem's name that is none is found" altered docs/CLAIMS.md '`sound_is` (Soundness)' '`sound_was` (Soundness)'
+verdict "a file of proofs that is none is found" altered docs/requests/R-2.md 'crates/theorems/proofs/NumericRule' 'crates/theorems/proofs/NumericRules'
+verdict "an edit that is none is found" altered docs/CLAIMS.md 'default_u8 |' 'default_u9 |'
+verdict "a name of the definition that is none is found" altered docs/TRACE.md '`max_record`' '`min_record`'
+verdict "the loop of an emitter" looped
 verdict "what tools/ makes, made again" made
 verdict "every crate drawn and named" drawn
 verdict "the worked job's bytes" worked

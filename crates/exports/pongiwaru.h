@@ -1,7 +1,8 @@
 /* Pongiwaru for C: join, subtype, substitution, instantiation and constraints of Move's types.
  *
- * crates/exports/out/libexports.a has these functions (`tools/build.sh exports`). src/lib.rt says, proved, what each gives for whatever
- * it is lent; docs/STATE.md draws the state.
+ * crates/exports/out/libexports.a has these functions (`tools/build.sh exports`), and so has lib/libpongiwaru.a of a release
+ * (`tools/dist.sh`). src/lib.rt says, proved, what each gives for whatever it is lent; docs/STATE.md draws the state, docs/RECORDS.md has
+ * records and answers. example.c beside this file is a caller in full, with its compile line.
  *
  * A fresh state is 24,069 words and 256 rows of parameter bytes, all zero:
  *
@@ -28,8 +29,13 @@ extern "C" {
 /* PONGIWARU_VERSION changes with the records, their answers or these functions, PONGIWARU_LAYOUT with what the words and rows of a
  * state mean. Keep the layout's number beside a kept state. A later version of the same layout goes on with it; under another layout
  * it may be 15 or be taken for another sound state, so don't lend it: run its records again from a fresh state. */
-#define PONGIWARU_VERSION 3
+#define PONGIWARU_VERSION 4
 #define PONGIWARU_LAYOUT 1
+
+/* Both numbers as the archive has them: the caller was built for it if they are PONGIWARU_VERSION and PONGIWARU_LAYOUT. Ask once,
+ * before any other call. An archive of version 3 or before has neither function, and so does not link. */
+uint32_t pongiwaru_version(void);
+uint32_t pongiwaru_layout(void);
 
 enum {
     PONGIWARU_WORDS = 24069,       /* of a state; with another length it is 15 */
@@ -41,9 +47,11 @@ enum {
     PONGIWARU_STACK_BYTES = 524288 /* of a thread: enough for every call */
 };
 
-/* The number of an answer. 0 to 4 may have a payload and change the state; 5 and above have none and leave all as it was. */
+/* The number of an answer. 0 to 4 may have a payload and change the state; 5 and above have none and leave all as it was.
+ * 0 is not yet a success: SV answers 0 also where constraints failed, and its payload then lists them. Only an SV without a payload has
+ * found none that fails. So ask PONGIWARU_WELL, and not for 0. */
 enum pongiwaru_number {
-    PONGIWARU_TYPED = 0,
+    PONGIWARU_RAN = 0, /* the record was run to its end; PONGIWARU_TYPED up to version 3 */
     PONGIWARU_SUBTYPE_ERROR = 1,
     PONGIWARU_INCOMPATIBLE = 2,
     PONGIWARU_ARITY_MISMATCH = 3,
@@ -63,8 +71,12 @@ enum pongiwaru_number {
     PONGIWARU_DOUBLED_REFERENCE = 18 /* a reference directly under a reference */
 };
 
-/* One record, lent whole: bytes left over are 5. The result is the answer's number. The payload stands in front of answer, and
- * *length is how long it is; the rest of answer is as it was. */
+/* Whether a record's answer says that nothing is wrong: 0, and of SV without a payload. record is what was lent, number what
+ * pongiwaru_record gave, length what it wrote. */
+#define PONGIWARU_WELL(record, number, length) ((number) == PONGIWARU_RAN && ((length) == 0 || (record)[0] != 'S' || (record)[1] != 'V'))
+
+/* One record, lent whole: bytes left over are 5. The result is the answer's number; of SV a 0 with a payload is failed constraints. The
+ * payload stands in front of answer, and *length is how long it is; the rest of answer is as it was. */
 uint32_t pongiwaru_record(uint32_t *state, size_t state_length, uint8_t params[PONGIWARU_ROWS][PONGIWARU_ROW_BYTES],
                           const uint8_t *record, size_t record_length,
                           uint8_t *answer, size_t answer_length, uint32_t *length);
@@ -74,7 +86,8 @@ uint32_t pongiwaru_record(uint32_t *state, size_t state_length, uint8_t params[P
 void pongiwaru_split(uint32_t *state, size_t state_length, uint8_t params[PONGIWARU_ROWS][PONGIWARU_ROW_BYTES],
                      const uint8_t *stream, size_t stream_length, size_t *rest);
 
-/* A job's next lines, those of as many records as the bytes hold whole and the log has room for. more: further bytes follow these,
+/* A job's next lines, those of as many records as the bytes hold whole and the log has room for. The log says what is wrong only beside
+ * its job: an SV's line with a payload is failed constraints. more: further bytes follow these,
  * so a record is taken only where 4,096 bytes are at hand. *index is the next record's number, from 0. The result is 0, or 15 for a
  * state that is not sound. *read and *written say how much of stream and log was used. *ended: nothing follows, after a 5, a 6, a 15,
  * an 18 or the last record.

@@ -432,6 +432,7 @@ impl Job {
                 None => return Err(Outcome::Refused(11, "a variable".into())),
             },
             Record::XP(t) => self.expand(type_in(t), &mut out)?,
+            r => unimplemented!("{} in the driver", r.mark()),
         }
         Ok((0, out))
     }

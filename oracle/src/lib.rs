@@ -95,6 +95,7 @@ pub mod lent;
 pub mod list;
 pub mod order;
 pub mod program;
+pub mod release;
 pub mod shrink;
 pub mod state_text;
 pub mod traps;

@@ -4,11 +4,12 @@ use oracle::{
     calls::{self, Calls},
     compare, damage, gen, job,
     job::Options,
-    list, order, program, traps,
+    list, order, program, release, traps,
 };
 use std::{
     fs,
     io::{Read, Write},
+    path::Path,
     process::exit,
 };
 
@@ -19,6 +20,8 @@ oracle gen random SEED COUNT RECORDS [PROFILE] [--cut]
 oracle gen exhaustive FIRST COUNT [STEP] [--cut]      --cut: without records that core.rs refuses
 oracle gen limits SEED COUNT [--cut]
 oracle gen order SEED COUNT                           jobs for `oracle order`
+oracle release SEED COUNT FOLDER                      COUNT jobs that are well and one with each fault, in a
+                                                      new FOLDER; prints `NAME RECORD ANSWER [CODE ..]` of each fault
 oracle check [LIST]                                   run a list's jobs again, compare their logs
 oracle counts [LIST]                                  records of a list by mark and answer
 oracle order [LIST]                                   what this build's map order changes
@@ -83,6 +86,20 @@ fn generate(words: &[String], cut: bool) -> Vec<list::Entry> {
         _ => fail(USAGE),
     };
     made.iter().map(list::entry).collect()
+}
+
+/// One file for each job; what is at fault is printed.
+fn written(functions: &[release::Function], folder: &Path) -> std::io::Result<()> {
+    fs::create_dir(folder)?;
+    for f in functions {
+        let path = folder.join(&f.name);
+        fs::create_dir_all(path.parent().unwrap())?;
+        fs::write(path, &f.stream)?;
+        if let Some(told) = &f.fault {
+            println!("{} {}", f.name, told.text())
+        }
+    }
+    Ok(())
 }
 
 fn check(entries: &[list::Entry]) -> i32 {
@@ -150,6 +167,10 @@ fn run(args: Vec<String>) -> i32 {
             write(job::log(&read(words.get(1)), options, flag("--why"), flag("--state")).as_bytes())
         }
         Some("gen") if words.len() > 1 => write(list::print(&generate(&words[1..], flag("--cut"))).as_bytes()),
+        Some("release") if words.len() == 4 => {
+            let functions = release::release(number(words.get(1)), number(words.get(2)) as usize);
+            written(&functions, words[3].as_ref()).unwrap_or_else(|e| fail(&format!("{}: {}", words[3], e)))
+        }
         Some("check") => return check(&read_list(words.get(1))),
         Some("counts") => {
             let entries = read_list(words.get(1));

@@ -72,7 +72,8 @@ fn functions(bare: &str) -> Vec<String> {
         let result = result.rsplit(['\n', '{', '}']).next()?.trim();
         let result = if result == "void" { String::new() } else { format!(" -> {}", scalar(result)) };
         let parameters = parameters.trim().strip_suffix(')')?;
-        let parameters: Vec<_> = parameters.split(',').map(parameter).map(|(n, t)| format!("{}: {}", n, t)).collect();
+        let parameters = parameters.split(',').filter(|p| p.trim() != "void").map(parameter);
+        let parameters: Vec<_> = parameters.map(|(n, t)| format!("{}: {}", n, t)).collect();
         Some(format!("    pub fn {}({}){};\n", name, parameters.join(", "), result))
     };
     bare.split(';').filter_map(declared).collect()

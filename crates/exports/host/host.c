@@ -50,13 +50,18 @@ static const uint8_t worked[] = {
     0x03, 0x00, 0x00, 0x00, 0x00, 0x02, 0x55, 0x46, 0x06, 0x04, 0x00, 0x00, 0x00, 0x00, 0x00};
 static const char worked_log[] = "0 0 06010000000000\n1 0 06020000000000\n2 0 03030000000002\n";
 
+static void numbers_of_the_archive(void) {
+    expect("the archive's version is the header's", pongiwaru_version() == PONGIWARU_VERSION);
+    expect("the archive's layout is the header's", pongiwaru_layout() == PONGIWARU_LAYOUT);
+}
+
 static void records(void) {
     uint32_t length = 9;
     fresh();
-    expect("FV is 0", record(fv, sizeof fv, sizeof answer, &length) == PONGIWARU_TYPED);
+    expect("FV is 0", record(fv, sizeof fv, sizeof answer, &length) == PONGIWARU_RAN);
     expect("FV's payload", length == 7 && memcmp(answer, variable, 7) == 0 && untouched(answer, 7, sizeof answer));
     expect("a variable is taken", state[2] == 1);
-    expect("SD is 0", record(sd, sizeof sd, sizeof answer, &length) == PONGIWARU_TYPED);
+    expect("SD is 0", record(sd, sizeof sd, sizeof answer, &length) == PONGIWARU_RAN);
     expect("SD's number and bytes", length == 2 && answer[0] == 0 && answer[1] == 0 && params[0][0] == 17 && state[4] == 1);
     memcpy(before, state, sizeof state);
     expect("bytes left over are 5", record(worked, 7, sizeof answer, &length) == PONGIWARU_MALFORMED);
@@ -72,9 +77,11 @@ static void abilities(void) {
     uint32_t length = 9;
     fresh();
     record(sd, sizeof sd, sizeof answer, &length);
-    expect("IN leaves two constraints", record(in, sizeof in, sizeof answer, &length) == PONGIWARU_TYPED && state[3] == 2);
-    expect("SV shows a missing ability", record(sv, sizeof sv, sizeof answer, &length) == PONGIWARU_TYPED && length == sizeof row && memcmp(answer, row, sizeof row) == 0);
-    expect("SV leaves none", state[3] == 0 && record(sv, sizeof sv, sizeof answer, &length) == PONGIWARU_TYPED && length == 0);
+    expect("IN leaves two constraints", record(in, sizeof in, sizeof answer, &length) == PONGIWARU_RAN && state[3] == 2);
+    expect("SV shows a missing ability", record(sv, sizeof sv, sizeof answer, &length) == PONGIWARU_RAN && length == sizeof row && memcmp(answer, row, sizeof row) == 0);
+    expect("and it is no success", !PONGIWARU_WELL(sv, PONGIWARU_RAN, length) && PONGIWARU_WELL(in, PONGIWARU_RAN, 5) && PONGIWARU_WELL(sd, PONGIWARU_RAN, 2));
+    expect("SV leaves none", state[3] == 0 && record(sv, sizeof sv, sizeof answer, &length) == PONGIWARU_RAN && length == 0 && PONGIWARU_WELL(sv, PONGIWARU_RAN, length));
+    expect("an error and a refusal are none", !PONGIWARU_WELL(in, PONGIWARU_INCOMPATIBLE, 14) && !PONGIWARU_WELL(sv, PONGIWARU_FULL, 0));
 }
 
 static void refused(void) {
@@ -180,7 +187,7 @@ static void deep(void) {
 static void stream_of(enum pongiwaru_number number) {
     size = 0;
     switch (number) {
-    case PONGIWARU_TYPED: bytes((const char *)worked, sizeof worked); break;
+    case PONGIWARU_RAN: bytes((const char *)worked, sizeof worked); break;
     case PONGIWARU_SUBTYPE_ERROR: BYTES("SU" REF U8 "\1" LOC "\1" U8); break;
     case PONGIWARU_INCOMPATIBLE: BYTES("JN\2" LOC "\7\0\0\0\0\2" LOC "\10\0\0\0\0"); break;
     case PONGIWARU_ARITY_MISMATCH: BYTES("JN\4" LOC "\0\2" UNIT UNIT "\4" LOC "\0\3" UNIT UNIT UNIT); break;
@@ -209,7 +216,7 @@ static void stream_of(enum pongiwaru_number number) {
 
 /* one record after the other: their lines to text, and the last one's number; the state goes from words to words */
 static uint32_t one_by_one(char *text, size_t *used) {
-    uint32_t number = PONGIWARU_TYPED, length;
+    uint32_t number = PONGIWARU_RAN, length;
     size_t at = 0, rest;
     *used = 0;
     for (uint64_t index = 0; at < size; index++) {
@@ -227,7 +234,7 @@ static uint32_t one_by_one(char *text, size_t *used) {
 static void numbers(void) {
     static char text[sizeof log_bytes];
     char what[80];
-    for (int number = PONGIWARU_TYPED; number <= PONGIWARU_DOUBLED_REFERENCE; number++) {
+    for (int number = PONGIWARU_RAN; number <= PONGIWARU_DOUBLED_REFERENCE; number++) {
         size_t used, written, read;
         uint64_t index = 0;
         bool ended;
@@ -245,6 +252,7 @@ static void numbers(void) {
 }
 
 int main(void) {
+    numbers_of_the_archive();
     records();
     abilities();
     refused();

@@ -9,6 +9,26 @@ use engine::{Lines, Unsound};
 // A refusal's number.
 const UNSOUND_STATE: u32 = 15;
 
+// ---- what a caller was built against
+
+// The header's PONGIWARU_VERSION, of this archive. Refused: the version of before these two functions (version_before).
+#[unsafe(no_mangle)]
+pub extern "C" fn pongiwaru_version() -> u32
+    ensures { result ≡ 4 }
+{
+    4
+}
+
+// The header's PONGIWARU_LAYOUT, of this archive. Refused: another layout (another_layout).
+#[unsafe(no_mangle)]
+pub extern "C" fn pongiwaru_layout() -> u32
+    ensures { result ≡ 1 }
+{
+    1
+}
+
+// ---- one record
+
 // One record, lent whole. The result is the answer's number; the payload stands in front of the answer buffer, and length is how long it is.
 // Refused (must-fail/): no payload ever (no_payload), the parameter bytes of before the call (params_as_they_were), a length on 15 (length_on_15).
 #[unsafe(no_mangle)]

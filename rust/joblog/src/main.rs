@@ -1,6 +1,9 @@
 //! joblog: jobs as text, and logs for people.
 use joblog::{
     diff::{diff, Difference},
+    explain::explain,
+    names::Names,
+    report::words::book,
     show::{show, Options},
     text::{assemble, disassemble, Detail},
 };
@@ -11,6 +14,17 @@ use std::{
 };
 
 const USAGE: &str = "\
+joblog report [FLAGS] JOBS LOGS       publish or not? every job of a folder (or one file) beside its log
+    --json FILE   JSON lines: each failure, each job, the release
+    --junit FILE  for a build server
+    --html FILE   one page, without outside parts
+    --base JOBS0 LOGS0   beside an earlier release: what is new, gone, equal but for locations
+    --names FILE  names for structs, parameters, variables and locations (docs/RECORDS.md)
+    --program PATH   the program that must have made the logs
+    --manifest FILE  the run's manifest, else LOGS/manifest.jsonl
+    --quick       logs by the unproved program will do
+    -v            what is well too
+joblog explain N | SV                 what an answer means, what to do, an example
 joblog asm [--number] [TEXT]          a job's text to its bytes
 joblog disasm [JOB]                   bytes to text
 joblog show [FLAGS] JOB LOG           a job and its log for people
@@ -18,12 +32,20 @@ joblog show [FLAGS] JOB LOG           a job and its log for people
     --errors      only what is not answered with 0, and SV with failed constraints
     --why         for an answer that ends a job (5, 6, 18): the byte and the rule
     -n N          at most N lines
+    --names FILE  names for structs, parameters, variables and locations
 joblog diff JOB1 LOG1 JOB2 LOG2       equal but for locations? names the first difference
+joblog run --program JOINLOG JOBS LOGS   the log of every job of a folder, many at once; release.sh goes by it
+    -j N          so many at once; else as many as there are cores
+    --verify      all run again and compared, nothing written
+    --left        only the names of the jobs that would be run
+    --one NAME    one job, whatever is there; its line of the manifest on standard output
+    --unproved SUM   the program is not the proved one; SUM stands for it in the manifest
 joblog --help
 asm and disasm read standard input where no file is named. --number: places without a location get 1, 2, 3 ..
 
-Exit status: 0 done; show: every answer is 0; diff: equal but for locations
-             1 show: some answer is not 0; diff: a difference
+Exit status: report: 0 publish, 1 do not, 2 not known: a log is missing, cut, not its job's, or by no run that is known
+             0 done; show: nothing is wrong; diff: equal but for locations; run: every job has its log
+             1 show: some answer is not 0, or SV lists failed constraints; diff: a difference; run: some job has no log
              2 bad usage, a file that cannot be read or written, text that is no job, a log that does not fit its job
 ";
 
@@ -43,10 +65,11 @@ struct Command {
     files: std::ops::RangeInclusive<usize>,
 }
 
-const COMMANDS: [Command; 4] = [
+const COMMANDS: [Command; 5] = [
+    Command { name: "explain", flags: &[], files: 1..=3 },
     Command { name: "asm", flags: &["--number"], files: 0..=1 },
     Command { name: "disasm", flags: &[], files: 0..=1 },
-    Command { name: "show", flags: &["--full", "--errors", "--why", "-n"], files: 2..=2 },
+    Command { name: "show", flags: &["--full", "--errors", "--why", "-n", "--names"], files: 2..=2 },
     Command { name: "diff", flags: &[], files: 4..=4 },
 ];
 
@@ -54,6 +77,7 @@ const COMMANDS: [Command; 4] = [
 struct Words {
     flags: Vec<String>,
     lines: Option<usize>,
+    names: Option<String>,
     files: Vec<String>,
 }
 
@@ -66,6 +90,10 @@ impl Words {
                 "-n" if command.flags.contains(&"-n") => {
                     let n = args.next().and_then(|n| n.parse().ok());
                     words.lines = Some(n.unwrap_or_else(|| usage("-n wants a number")))
+                }
+                "--names" if command.flags.contains(&"--names") => {
+                    let file = args.next().cloned();
+                    words.names = Some(file.unwrap_or_else(|| usage("--names wants a file")))
                 }
                 a if command.flags.contains(&a) => words.flags.push(a.into()),
                 a if a.starts_with('-') => usage(&format!("{} has no flag {}", command.name, a)),
@@ -110,7 +138,9 @@ fn write(bytes: &[u8]) {
 }
 
 fn shown(words: &Words) -> i32 {
+    let book = words.names.as_deref().map(|p| book(p.as_ref(), true).unwrap_or_else(|e| fail(&e)));
     let options = Options {
+        names: book.as_ref().map_or(Names::default(), |b| b.path(&words.files[0])),
         detail: if words.flag("--full") { Detail::Full } else { Detail::Types },
         errors: words.flag("--errors"),
         lines: words.lines.unwrap_or(usize::MAX),
@@ -125,25 +155,16 @@ fn differs(words: &Words) -> i32 {
     let (job1, log1, job2, log2) = (words.bytes(0), words.text(1), words.bytes(2), words.text(3));
     let (told, code) = match diff((&job1, &log1), (&job2, &log2)) {
         Difference::None(n) => (format!("equal but for locations: {} records", n), 0),
-        Difference::Found(what) => (what, 1),
+        Difference::Found(what) => (what.to_string(), 1),
         Difference::Misfit(i, what) => fail(&format!("log {} does not fit its job: {}", i, what)),
     };
     write(format!("{}\n", told).as_bytes());
     code
 }
 
-fn main() {
-    let args: Vec<String> = std::env::args().skip(1).collect();
-    let name = args.first().map_or("", |a| a);
-    if args.iter().any(|a| a == "--help" || a == "-h") || name == "help" {
-        write(USAGE.as_bytes());
-        return;
-    }
-    let Some(command) = COMMANDS.iter().find(|c| c.name == name) else {
-        usage(&if name.is_empty() { "no command".into() } else { format!("no command {}", name) })
-    };
-    let words = Words::of(command, &args[1..]);
-    let code = match command.name {
+/// what a command does with its files; its exit status
+fn done(command: &Command, words: &Words) -> i32 {
+    match command.name {
         "asm" => match assemble(&words.text(0), words.flag("--number")) {
             Ok(bytes) => {
                 write(&bytes);
@@ -155,8 +176,35 @@ fn main() {
             write(disassemble(&words.bytes(0)).as_bytes());
             0
         }
-        "show" => shown(&words),
-        _ => differs(&words),
+        "show" => shown(words),
+        "explain" => match explain(&words.files) {
+            Some(text) => {
+                write(text.as_bytes());
+                0
+            }
+            None => fail(&format!("there is no answer {}", words.files.join(" "))),
+        },
+        _ => differs(words),
+    }
+}
+
+fn main() {
+    let args: Vec<String> = std::env::args().skip(1).collect();
+    let name = args.first().map_or("", |a| a);
+    if args.iter().any(|a| a == "--help" || a == "-h") || name == "help" {
+        write(USAGE.as_bytes());
+        return;
+    }
+    let own = match name {
+        "run" => Some(joblog::run_words::command(&args[1..])),
+        "report" => Some(joblog::report::words::command(&args[1..])),
+        _ => None,
     };
-    exit(code)
+    if let Some(done) = own {
+        exit(done.unwrap_or_else(|e| fail(&e)))
+    }
+    let Some(command) = COMMANDS.iter().find(|c| c.name == name) else {
+        usage(&if name.is_empty() { "no command".into() } else { format!("no command {}", name) })
+    };
+    exit(done(command, &Words::of(command, &args[1..])))
 }

@@ -52,6 +52,7 @@ pub enum Kind {
 }
 
 #[derive(Debug, Clone, PartialEq, Eq)]
+#[non_exhaustive]
 pub enum Record {
     SD(u8, Vec<u8>),
     FV(u32),
@@ -279,7 +280,7 @@ pub fn read_record(stream: &[u8], known: &Known) -> Read<(Record, usize)> {
 pub fn stops(stream: &[u8], known: &Known, taken: usize) -> Vec<Refusal> {
     let mut r = Reader::new(&stream[..stream.len().min(MAX_RECORD)], known, Of::Record);
     let last = r.record().err();
-    let open = r.met.iter().filter(|(_, v)| *v as usize >= taken);
+    let open = r.met.iter().filter(|(_, v)| (taken..known.vars).contains(&(*v as usize)));
     open.map(|(at, _)| unknown_name(*at, NOT_TAKEN)).chain(last).collect()
 }
 
@@ -324,6 +325,21 @@ impl Ty {
             Kind::Builtin(_, _, ts) | Kind::List(_, ts) | Kind::Struct(_, _, ts) => ts,
             _ => &[],
         }
+    }
+
+    /// The same with other parts, as many as there were; none for its head alone, where a reference's is a `()`.
+    pub fn with_parts(&self, mut parts: Vec<Ty>) -> Ty {
+        let kind = match &self.kind {
+            Kind::Ref(m, _) => {
+                let blank = Ty { loc: 0, kind: Kind::Unit };
+                Kind::Ref(*m, Box::new(parts.pop().unwrap_or(blank)))
+            }
+            Kind::Builtin(m, n, _) => Kind::Builtin(*m, *n, parts),
+            Kind::List(m, _) => Kind::List(*m, parts),
+            Kind::Struct(m, n, _) => Kind::Struct(*m, *n, parts),
+            other => other.clone(),
+        };
+        Ty { loc: self.loc, kind }
     }
 
     pub fn bytes(&self) -> Vec<u8> {

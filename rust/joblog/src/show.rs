@@ -1,14 +1,17 @@
 //! A job and its log for people: a line for each record, in Move's syntax, and a summary.
 use crate::{
-    pairs::{word, Pair, Pairs, Payload},
+    names::Names,
+    pairs::{word, Pair, Pairs},
+    payload::Outcome,
     record::Record,
-    text::{fields, type_text, Detail},
+    text::{Detail, Printer},
 };
 use std::{collections::BTreeMap, fmt::Write};
 
 #[derive(Clone, Copy)]
-pub struct Options {
+pub struct Options<'a> {
     pub detail: Detail,
+    pub names: Names<'a>,
     /// only records that are not answered with 0, and SV with failed constraints
     pub errors: bool,
     /// at most so many lines
@@ -17,14 +20,14 @@ pub struct Options {
     pub why: bool,
 }
 
-impl Default for Options {
+impl Default for Options<'_> {
     fn default() -> Self {
-        Options { detail: Detail::Types, errors: false, lines: usize::MAX, why: false }
+        Options { detail: Detail::Types, names: Names::default(), errors: false, lines: usize::MAX, why: false }
     }
 }
 
 fn failed(p: &Pair) -> usize {
-    if let Payload::Failures(fs) = &p.payload {
+    if let Outcome::Failed(fs) = &p.payload {
         fs.len()
     } else {
         0
@@ -32,32 +35,32 @@ fn failed(p: &Pair) -> usize {
 }
 
 /// An answer in words, with its payload.
-pub fn answer(p: &Pair, d: Detail) -> String {
-    let said = word(p.number);
+pub fn answer<'a>(p: &Pair, printer: impl Into<Printer<'a>>) -> String {
+    let (said, printer) = (word(p.number), printer.into());
+    let text = |t| printer.ty(t);
     match &p.payload {
-        Payload::Struct(n) => format!("{} S{}", said, n),
-        Payload::Location(loc) => format!("{} @{}", said, loc),
-        Payload::Needs([n, p, v, c]) => {
+        Outcome::Declared(n) => format!("{} S{}", said, n),
+        Outcome::Recursive(loc) => format!("{} {}", said, printer.names.place(*loc)),
+        Outcome::Needs([n, p, v, c]) => {
             format!("{} {} nodes, {} places, {} variables, {} constraints", said, n, p, v, c)
         }
-        Payload::Failures(fs) if fs.is_empty() => said.into(),
-        Payload::Failures(fs) => {
-            let told = fs.iter().map(|f| format!("{} {} (constraint @{})", type_text(&f.ty, d), f.what, f.loc));
+        Outcome::Failed(fs) => {
+            let told =
+                fs.iter().map(|f| format!("{} {} (constraint {})", text(&f.ty), f.reason, printer.names.place(f.loc)));
             format!("{}; failed: {}", said, told.collect::<Vec<_>>().join("; "))
         }
-        Payload::Types(ts) => match (p.number, &ts[..]) {
-            (1, [a, b]) => format!("{}: {} where {} is wanted", said, type_text(a, d), type_text(b, d)),
-            (2 | 3, [a, b]) => format!("{}: {} and {}", said, type_text(a, d), type_text(b, d)),
-            _ => ts.iter().fold(said.into(), |out, t| out + " " + &type_text(t, d)),
-        },
+        Outcome::Mismatch(1, a, b) => format!("{}: {} where {} is wanted", said, text(a), text(b)),
+        Outcome::Mismatch(_, a, b) => format!("{}: {} and {}", said, text(a), text(b)),
+        Outcome::Type(t) => format!("{} {}", said, text(t)),
+        Outcome::Done | Outcome::Refused(_) => said.into(),
     }
 }
 
 /// A record's mark and operands.
-pub fn record(p: &Pair, d: Detail) -> String {
+pub fn record<'a>(p: &Pair, printer: impl Into<Printer<'a>>) -> String {
     let Ok(r) = &p.read else { return "(not read)".into() };
     let between = if let Record::SU(..) = r { "  <:  " } else { "  ~  " };
-    let operands = fields(r, d).join(between);
+    let operands = printer.into().fields(r).join(between);
     let gap = if operands.is_empty() { "" } else { "  " };
     format!("{}{}{}", r.mark(), gap, operands)
 }
@@ -78,7 +81,8 @@ fn why(p: &Pair) -> String {
 pub struct Summary {
     pub answers: BTreeMap<usize, usize>,
     pub failed_constraints: usize,
-    pub first_error: Option<(usize, usize)>,
+    /// an answer that is not 0, or SV with failed constraints: the record, and what it is
+    pub first_error: Option<(usize, &'static str)>,
     /// the log does not fit the job
     pub wrong: Option<String>,
 }
@@ -86,6 +90,7 @@ pub struct Summary {
 /// The lines and the summary of a job with its log.
 pub fn show(stream: &[u8], log: &str, options: Options) -> (String, Summary) {
     let (mut out, mut summary, mut shown) = (String::new(), Summary::default(), 0);
+    let printer = Printer { detail: options.detail, names: options.names };
     for pair in Pairs::new(stream, log) {
         let p = match pair {
             Ok(p) => p,
@@ -95,10 +100,10 @@ pub fn show(stream: &[u8], log: &str, options: Options) -> (String, Summary) {
             }
         };
         summary.add(&p);
-        let wanted = !options.errors || p.number != 0 || failed(&p) > 0;
+        let wanted = !options.errors || !p.payload.is_well();
         if wanted && shown < options.lines {
             shown += 1;
-            writeln!(out, "{} {}   → {}", p.n, record(&p, options.detail), answer(&p, options.detail)).unwrap();
+            writeln!(out, "{} {}   → {}", p.n, record(&p, printer), answer(&p, printer)).unwrap();
             out += &if options.why { why(&p) } else { String::new() };
         }
     }
@@ -109,8 +114,8 @@ impl Summary {
     fn add(&mut self, p: &Pair) {
         *self.answers.entry(p.number).or_insert(0) += 1;
         self.failed_constraints += failed(p);
-        if p.number != 0 && self.first_error.is_none() {
-            self.first_error = Some((p.n, p.number))
+        if !p.payload.is_well() && self.first_error.is_none() {
+            self.first_error = Some((p.n, if p.number == 0 { "failed constraints" } else { word(p.number) }))
         }
     }
 
@@ -124,7 +129,7 @@ impl Summary {
             parts.push(format!("failed constraints: {}", self.failed_constraints))
         }
         match (self.first_error, &self.wrong) {
-            (Some((n, number)), _) => parts.push(format!("first error: record {}, {}", n, word(number))),
+            (Some((n, what)), _) => parts.push(format!("first error: record {}, {}", n, what)),
             (None, None) => parts.push("no error".into()),
             (None, Some(_)) => (),
         }
@@ -132,7 +137,7 @@ impl Summary {
         parts.join("; ")
     }
 
-    /// 0: every answer is 0. 1: some answer is not. 2: the log does not fit the job.
+    /// 0: nothing is wrong. 1: some answer is not 0, or SV lists failed constraints. 2: the log does not fit the job.
     pub fn code(&self) -> i32 {
         match (&self.wrong, self.first_error) {
             (Some(_), _) => 2,

@@ -1,6 +1,9 @@
 //! Jobs as text, one record to a line, in Move's syntax (README.md has the grammar): printer and parser.
-use crate::record::{self, Kind, Known, Record, Ty, ABILITIES, BUILTINS, MAX_RECORD};
-use std::fmt::Write;
+use crate::{
+    names::Names,
+    record::{self, Kind, Known, Record, Ty, ABILITIES, BUILTINS, MAX_RECORD},
+};
+use std::{fmt::Write, ops::Range};
 
 const NUMERIC_KINDS: [&str; 3] = ["numeric", "bits", "ordered"];
 
@@ -10,6 +13,8 @@ const NUMERIC_KINDS: [&str; 3] = ["numeric", "bits", "ordered"];
 #[derive(Clone, Copy, PartialEq, Eq)]
 pub enum Detail {
     Full,
+    /// ability marks, no locations
+    Marks,
     Types,
 }
 
@@ -18,86 +23,172 @@ pub fn abilities(set: u8) -> String {
     format!("{{{}}}", names.join(", "))
 }
 
-fn at(loc: u32, d: Detail) -> String {
-    match (loc, d) {
-        (0, _) | (_, Detail::Types) => String::new(),
-        _ => format!("@{}", loc),
+/// How types and records are printed: with what detail, and by which names.
+#[derive(Clone, Copy)]
+pub struct Printer<'a> {
+    pub detail: Detail,
+    pub names: Names<'a>,
+}
+
+/// A text that grows, and where in it the part that is looked for stands.
+struct Marked<'t> {
+    out: String,
+    part: Option<&'t Ty>,
+    range: Range<usize>,
+}
+
+impl Printer<'_> {
+    pub fn ty(&self, t: &Ty) -> String {
+        self.marked(t, None).0
+    }
+
+    /// A type's text, and where a part of it stands: the very part, not one that is equal to it.
+    pub fn marked(&self, t: &Ty, part: Option<&Ty>) -> (String, Range<usize>) {
+        let mut text = Marked { out: String::new(), part, range: 0..0 };
+        self.write(t, &mut text);
+        (text.out, text.range)
+    }
+
+    fn at(&self, loc: u32) -> String {
+        match (loc, self.detail) {
+            (0, _) | (_, Detail::Types | Detail::Marks) => String::new(),
+            _ => self.names.of('@', loc).map_or_else(|| format!("@{}", loc), |name| format!("@{}", name)),
+        }
+    }
+
+    fn mark(&self, m: u8) -> String {
+        match (m, self.detail) {
+            (0, _) | (_, Detail::Types) => String::new(),
+            _ => abilities(m - 16),
+        }
+    }
+
+    fn named(&self, kind: char, number: u32) -> String {
+        let plain = || format!("{}{}", kind, number);
+        match (kind, self.names.of(kind, number)) {
+            ('V', Some(name)) => format!("V{} ({})", number, name),
+            (_, Some(name)) => name.into(),
+            (_, None) => plain(),
+        }
+    }
+
+    fn comma(&self, ts: &[Ty], text: &mut Marked) {
+        for (i, t) in ts.iter().enumerate() {
+            text.out += if i == 0 { "" } else { ", " };
+            self.write(t, text)
+        }
+    }
+
+    fn angled(&self, ts: &[Ty], text: &mut Marked) {
+        if !ts.is_empty() {
+            text.out += "<";
+            self.comma(ts, text);
+            text.out += ">"
+        }
+    }
+
+    fn reference(&self, t: &Ty, mutable: bool, text: &mut Marked) {
+        let loc = self.at(t.loc);
+        text.out += if mutable { "&mut" } else { "&" };
+        text.out += &loc;
+        text.out += if mutable || !loc.is_empty() { " " } else { "" };
+        self.write(&t.parts()[0], text)
+    }
+
+    fn body(&self, t: &Ty, text: &mut Marked) {
+        match &t.kind {
+            Kind::Unit => text.out += "()",
+            Kind::Ref(..) => (),
+            Kind::Param(id, set) => {
+                text.out += &self.named('P', *id);
+                text.out += &if *set != 0 && self.detail != Detail::Types { abilities(*set) } else { String::new() }
+            }
+            Kind::Builtin(m, n, args) => {
+                text.out += BUILTINS[*n as usize].name;
+                self.angled(args, text);
+                text.out += &self.mark(*m)
+            }
+            Kind::List(m, args) => {
+                text.out += "(";
+                self.comma(args, text);
+                // a comma tells a list of one from its part, and the empty list from `()`
+                text.out += if args.len() < 2 { ",)" } else { ")" };
+                text.out += &self.mark(*m)
+            }
+            Kind::Struct(m, n, args) => {
+                text.out += &self.named('S', *n as u32);
+                self.angled(args, text);
+                text.out += &self.mark(*m)
+            }
+            Kind::Var(v) => text.out += &self.named('V', *v as u32),
+            Kind::Anything => text.out += "_",
+            Kind::UnresolvedError => text.out += "!",
+        }
+    }
+
+    fn write(&self, t: &Ty, text: &mut Marked) {
+        let start = text.out.len();
+        if let Kind::Ref(mutable, _) = t.kind {
+            self.reference(t, mutable, text)
+        } else {
+            self.body(t, text);
+            text.out += &self.at(t.loc)
+        }
+        if text.part.is_some_and(|p| std::ptr::eq(p, t)) {
+            text.range = start..text.out.len()
+        }
+    }
+
+    fn located(&self, loc: u32, rest: String) -> String {
+        match self.at(loc) {
+            at if at.is_empty() => rest,
+            at if rest.is_empty() => at,
+            at => format!("{} {}", at, rest),
+        }
+    }
+
+    /// A record's fields; the operands of JN and SU apart, for the caller to join.
+    pub fn fields(&self, r: &Record) -> Vec<String> {
+        match r {
+            Record::SD(set, params) => {
+                let param = |p: &u8| (if *p >= 16 { "phantom " } else { "" }).to_string() + &abilities(p % 16);
+                let params: Vec<_> = params.iter().map(param).collect();
+                let angled = if params.is_empty() { String::new() } else { format!(" <{}>", params.join(", ")) };
+                vec![abilities(*set) + &angled]
+            }
+            Record::FV(loc) | Record::NV(loc) => vec![self.located(*loc, String::new())],
+            Record::SN(v, loc) => {
+                vec![format!("{} {}", self.named('V', *v as u32), self.at(*loc)).trim_end().into()]
+            }
+            Record::JN(a, b) | Record::SU(a, b) => vec![self.ty(a), self.ty(b)],
+            Record::UF(t) | Record::RD(t) | Record::IN(t) | Record::RM(t) | Record::XP(t) => vec![self.ty(t)],
+            Record::TS(args, t) => {
+                let one = |(id, t): &(u32, Ty)| format!("{} = {}", self.named('P', *id), self.ty(t));
+                vec![format!("[{}] {}", args.iter().map(one).collect::<Vec<_>>().join(", "), self.ty(t))]
+            }
+            Record::NC(loc, kind, t) => {
+                vec![self.located(*loc, format!("{} {}", NUMERIC_KINDS[*kind as usize], self.ty(t)))]
+            }
+            Record::BC(loc, t) | Record::SC(loc, t) => vec![self.located(*loc, self.ty(t))],
+            Record::SV => vec![String::new()],
+        }
     }
 }
 
-fn mark(m: u8, d: Detail) -> String {
-    match (m, d) {
-        (0, _) | (_, Detail::Types) => String::new(),
-        _ => abilities(m - 16),
-    }
-}
-
-fn comma(ts: &[Ty], d: Detail) -> String {
-    ts.iter().map(|t| type_text(t, d)).collect::<Vec<_>>().join(", ")
-}
-
-fn angled(ts: &[Ty], d: Detail) -> String {
-    if ts.is_empty() {
-        String::new()
-    } else {
-        format!("<{}>", comma(ts, d))
+/// without names
+impl From<Detail> for Printer<'_> {
+    fn from(detail: Detail) -> Self {
+        Printer { detail, names: Names::default() }
     }
 }
 
 pub fn type_text(t: &Ty, d: Detail) -> String {
-    let body = match &t.kind {
-        Kind::Unit => "()".into(),
-        Kind::Ref(mutable, inner) => {
-            let word = if *mutable { "&mut" } else { "&" };
-            let loc = at(t.loc, d);
-            let gap = if *mutable || !loc.is_empty() { " " } else { "" };
-            return format!("{}{}{}{}", word, loc, gap, type_text(inner, d));
-        }
-        Kind::Param(id, 0) => format!("P{}", id),
-        Kind::Param(id, set) if d == Detail::Full => format!("P{}{}", id, abilities(*set)),
-        Kind::Param(id, _) => format!("P{}", id),
-        Kind::Builtin(m, n, args) => format!("{}{}{}", BUILTINS[*n as usize].name, angled(args, d), mark(*m, d)),
-        Kind::List(m, args) => {
-            // a comma tells a list of one from its part, and the empty list from `()`
-            let last = if args.len() < 2 { "," } else { "" };
-            format!("({}{}){}", comma(args, d), last, mark(*m, d))
-        }
-        Kind::Struct(m, n, args) => format!("S{}{}{}", n, angled(args, d), mark(*m, d)),
-        Kind::Var(v) => format!("V{}", v),
-        Kind::Anything => "_".into(),
-        Kind::UnresolvedError => "!".into(),
-    };
-    body + &at(t.loc, d)
+    Printer::from(d).ty(t)
 }
 
-/// A record's fields; the operands of JN and SU apart, for the caller to join.
+/// A record's fields without names.
 pub fn fields(r: &Record, d: Detail) -> Vec<String> {
-    let located = |loc: u32, rest: String| match at(loc, d) {
-        at if at.is_empty() => rest,
-        at if rest.is_empty() => at,
-        at => format!("{} {}", at, rest),
-    };
-    match r {
-        Record::SD(set, params) => {
-            let param = |p: &u8| (if *p >= 16 { "phantom " } else { "" }).to_string() + &abilities(p % 16);
-            let params: Vec<_> = params.iter().map(param).collect();
-            let angled = if params.is_empty() { String::new() } else { format!(" <{}>", params.join(", ")) };
-            vec![abilities(*set) + &angled]
-        }
-        Record::FV(loc) | Record::NV(loc) => vec![located(*loc, String::new())],
-        Record::SN(v, loc) => vec![format!("V{} {}", v, at(*loc, d)).trim_end().into()],
-        Record::JN(a, b) | Record::SU(a, b) => vec![type_text(a, d), type_text(b, d)],
-        Record::UF(t) | Record::RD(t) | Record::IN(t) | Record::RM(t) | Record::XP(t) => vec![type_text(t, d)],
-        Record::TS(args, t) => {
-            let args: Vec<_> = args.iter().map(|(id, t)| format!("P{} = {}", id, type_text(t, d))).collect();
-            vec![format!("[{}] {}", args.join(", "), type_text(t, d))]
-        }
-        Record::NC(loc, kind, t) => {
-            vec![located(*loc, format!("{} {}", NUMERIC_KINDS[*kind as usize], type_text(t, d)))]
-        }
-        Record::BC(loc, t) | Record::SC(loc, t) => vec![located(*loc, type_text(t, d))],
-        Record::SV => vec![String::new()],
-    }
+    Printer::from(d).fields(r)
 }
 
 pub fn record_text(r: &Record) -> String {

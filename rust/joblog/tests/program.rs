@@ -49,7 +49,20 @@ fn help_goes_to_standard_output() {
     for args in [&["--help"][..], &["-h"], &["help"], &["show", "--help"], &["asm", "-h"]] {
         let (status, out, err) = joblog(args, b"");
         assert_eq!((status, err.as_str()), (0, ""), "{:?}", args);
-        for word in ["asm", "disasm", "show", "diff", "--errors", "--why", "-n N", "Exit status"] {
+        for word in [
+            "report",
+            "explain",
+            "asm",
+            "disasm",
+            "show",
+            "diff",
+            "run",
+            "--base",
+            "--errors",
+            "--why",
+            "-n N",
+            "Exit status",
+        ] {
             assert!(out.contains(word), "{}", word)
         }
     }
@@ -115,6 +128,24 @@ fn a_log_is_shown() {
     assert_eq!(joblog(&["show", &job, &log], b"").0, 0);
 }
 
+/// the names of every job, and of the one whose name is the end of JOB's path
+#[test]
+fn a_log_is_shown_with_names() {
+    let f = Folder::new("named");
+    fs::create_dir_all(f.0.join("fun")).unwrap();
+    let bytes = b"FV\x05\0\0\0UF\x06\x07\0\0\0\0\0";
+    let (one, other) = (f.file("fun/one", bytes), f.file("fun/other", bytes));
+    let log = f.file("log", "0 0 06050000000000\n1 0 0705000000\n");
+    let names =
+        f.file("names", "@ 5 a.move:1:2\nV 0 x\njob fun/one\r\nV 0 coin\r\njob other\n@ 7 z\njob ther\n@ 5 y\n");
+    let lines = |args: &[&str]| joblog(&[&["show", "--names", &names], args].concat(), b"").1;
+    assert!(lines(&["--full", &one, &log]).starts_with("0 FV  @a.move:1:2   → typed V0 (coin)@a.move:1:2\n"));
+    assert!(lines(&["--full", &other, &log]).contains("\n1 UF  V0 (x)@z   → typed _@a.move:1:2\n"));
+    assert!(lines(&[&one, &log]).starts_with("0 FV   → typed V0 (coin)\n"));
+    assert_eq!(joblog(&["show", "--names", "/no/such/names", &one, &log], b"").0, 2);
+    assert_eq!(joblog(&["show", "--names"], b"").0, 2)
+}
+
 #[test]
 fn two_builds_are_compared() {
     let f = Folder::new("diff");
@@ -130,4 +161,62 @@ fn two_builds_are_compared() {
     let short = f.file("short", "0 0 06020000000000\n");
     let wanted = "joblog: log 2 does not fit its job: it is too short: no line for record 1 and those after it\n";
     assert_eq!(run(&job1, &log1, &job2, &short), (2, String::new(), wanted.into()));
+}
+
+/// a release of one function that fails and one that is well: report's status, what it writes, and its words
+#[test]
+fn a_release_is_reported() {
+    let f = Folder::new("report");
+    for below in ["jobs", "logs"] {
+        fs::create_dir_all(f.0.join(below)).unwrap()
+    }
+    let jobs = f.0.join("jobs").to_str().unwrap().to_string();
+    let logs = f.0.join("logs").to_str().unwrap().to_string();
+    let bad = f.file("jobs/bad", joblog(&["asm"], b"BC @1 ()@2\nSV").1);
+    let log = f.file("logs/bad.log", "0 0\n1 0 02010000000002000000\n");
+    let wanted = "\
+error[SV code 2] no base type: `()` where neither `()`, a reference nor a list is wanted
+  --> bad, record 1 (byte 11): SV
+    type   ()    main.move:2:1
+    constraint at @1
+not known: the logs are by no run that is known: there is no manifest
+1 function: 0 ok, 1 failed, 0 not known; 2 records; 1 failure: no base type (SV code 2): 1; DO NOT PUBLISH
+";
+    let names = f.file("names", "@ 2 main.move:2:1\nX\n");
+    let (json, html, junit) = (f.file("json", ""), f.file("html", ""), f.file("junit", ""));
+    let args = ["--names", &names, "--json", &json, "--html", &html, "--junit", &junit, &jobs, &logs];
+    let told = format!("joblog: {}: line 2: no name\n", names);
+    assert_eq!(joblog(&[&["report"], &args[..]].concat(), b""), (1, wanted.into(), told));
+    let read = |path: &str| fs::read_to_string(path).unwrap();
+    assert!(read(&json)
+        .starts_with("{\"v\":1,\"kind\":\"failure\",\"job\":\"bad\",\"record\":1,\"byte\":11,\"mark\":\"SV\","));
+    assert_eq!(read(&json).lines().count(), 3);
+    assert!(read(&html).starts_with("<!doctype html>") && read(&html).contains("main.move:2:1"));
+    assert!(read(&junit).contains("<testcase classname=\"release\" name=\"bad\">"));
+    // one job beside its log; then it is well, and no run is known
+    assert_eq!(joblog(&["report", &bad, &log], b"").0, 1);
+    fs::write(&bad, joblog(&["asm"], b"BC @1 u8@2\nSV").1).unwrap();
+    fs::write(&log, "0 0\n1 0\n").unwrap();
+    let (status, out, _) = joblog(&["report", "-v", &jobs, &logs], b"");
+    assert_eq!((status, out.starts_with("ok: bad: 2 records, 15 bytes\nnot known: ")), (2, true), "{}", out);
+    let (status, out, _) = joblog(&["report", &bad, &logs], b"");
+    assert_eq!((status, out.as_str()), (2, ""));
+    for args in [&["report", "a"][..], &["report", "--html"], &["report", "--why", "a", "b"], &["report", "/no", "/no"]]
+    {
+        let (status, out, err) = joblog(args, b"");
+        assert_eq!((status, out.as_str(), err.starts_with("joblog: ")), (2, "", true), "{:?}: {}", args, err)
+    }
+}
+
+#[test]
+fn answers_are_explained() {
+    for n in (0..=16).chain([18]) {
+        let (status, out, _) = joblog(&["explain", &n.to_string()], b"");
+        assert!(status == 0 && out.starts_with(&format!("{} ", n)), "{}: {}", n, out);
+        assert!(["given for: ", "means: ", "do: ", "example:"].iter().all(|w| out.contains(w)), "{}", out)
+    }
+    assert_eq!(joblog(&["explain", "SV"], b"").1.matches("SV code ").count(), 4);
+    assert!(joblog(&["explain", "SV", "code", "4"], b"").1.starts_with("SV code 4\n"));
+    assert_eq!(joblog(&["explain", "17"], b""), (2, String::new(), "joblog: there is no answer 17\n".into()));
+    assert_eq!(joblog(&["explain"], b"").0, 2)
 }

@@ -1,8 +1,12 @@
 //! Text to bytes, and a job with its log for people.
 use joblog::{
     diff::{diff, Difference},
+    location::blank_payload,
+    names::Book,
+    payload,
+    record::{unhex, Record},
     show::{show, Options},
-    text::{assemble, disassemble},
+    text::{any_variable, assemble, disassemble, Detail},
 };
 
 fn asm(text: &str) -> Vec<u8> {
@@ -63,22 +67,25 @@ fn doubled_references() {
 #[test]
 fn missing_abilities() {
     let job = asm("SD {}<{copy}>\nIN S0<vector<signer>>\nIN S0<signer>\nSV\nSV");
-    let log = "0 0 0000\n1 0 050100000000000006010000000000\n2 0 050200000000000006010000000200\n\
-        3 0 040100000001030300000000050604000000010002000402000000010303000000000101\n4 16\n";
+    let log = "0 0 0000\n1 0 050300000000000006020000000000\n2 0 050500000000000006040000000200\n\
+        3 0 040300000001030200000000050601000000010002000405000000010304000000000101\n4 0\n";
     let (lines, summary) = show(&job, log, Options::default());
     let told =
-        "vector<V1> lacks copy by its argument 0 (constraint @1); signer lacks copy by its declaration (constraint @2)";
+        "vector<V1> lacks copy by its argument 0 (constraint @3); signer lacks copy by its declaration (constraint @5)";
     assert_eq!(lines.lines().nth(3).unwrap(), format!("3 SV   → typed; failed: {}", told));
-    assert_eq!(lines.lines().nth(4).unwrap(), "4 SV   → ability mark contradicted");
-    let counts = "5 records; 0 typed: 4, 16 ability mark contradicted: 1; failed constraints: 2";
-    assert_eq!(summary.text(), format!("{}; first error: record 4, ability mark contradicted", counts))
+    assert_eq!(lines.lines().nth(4).unwrap(), "4 SV   → typed");
+    let counts = "5 records; 0 typed: 5; failed constraints: 2";
+    assert_eq!(summary.text(), format!("{}; first error: record 3, failed constraints", counts));
+    assert_eq!(summary.code(), 1)
 }
 
 /// .. and payloads that are none of code 4
 #[test]
 fn no_missing_ability() {
-    let job = asm("SV");
-    let told = |payload: &str| show(&job, &format!("0 0 {}\n", payload), Options::default()).1.code();
+    let told = |payload: &str| {
+        let bytes = unhex(payload).unwrap();
+        payload::read(&Record::SV, 0, &bytes, &any_variable()).map_or(2, |_| 0)
+    };
     let row = "0401000000 01 03020000000001";
     assert_eq!(told(&format!("{}01", row).replace(' ', "")), 0);
     assert_eq!(told(&format!("{}0207", row).replace(' ', "")), 0);
@@ -169,11 +176,15 @@ fn a_log_that_does_not_fit_is_told_once() {
         ("", "0 records", "it is too short: no line for record 0 and those after it"),
         ("0 0 06010000000000\n", one, "it is too short: no line for record 1 and those after it"),
         ("0 0 06010000000000\n1 0 0702000000\n2 0\n", two, "it has more lines than the job has records"),
-        ("0 0 0601\n1 0 0702000000\n", "0 records", "record 0: its payload is no type"),
+        (
+            "0 0 0601\n1 0 0702000000\n",
+            "0 records",
+            "record 0: its payload has no type where one belongs: byte 2 of that, the bytes end inside the record",
+        ),
         ("1 0\n", "0 records", "record 0: `1 0` is not its line"),
         ("0 5\n", "0 records", "record 0 is not one that is answered with 5"),
         ("0 99\n", "0 records", "record 0: there is no answer 99"),
-        ("0 7 00\n", "0 records", "record 0: a refusal has no payload"),
+        ("0 7 00\n", "0 records", "record 0: its payload has 1 bytes too many"),
     ] {
         assert_eq!(summary(log), misfit(counts, what), "{}", log)
     }
@@ -229,11 +240,13 @@ fn why_a_record_is_not_read() {
     let long = long.replace('_', "(P1, P1, P1, P1, P1, P1, P1, P1)");
     let wanted = "byte 4096 (00; byte 4096 of the job): a record has at most 4,096 bytes";
     assert_eq!(why(&long, "0 5\n"), wanted);
-    // V0 is taken; of V1 and V2 the log does not tell
-    let not_taken =
-        |at: usize, b: &str| format!("byte {} ({}; byte {} of the job): this variable is not taken yet", at, b, at + 6);
-    let wanted = format!("the first of these that is so: {}; or {}", not_taken(22, "01"), not_taken(29, "02"));
-    assert_eq!(why("FV\nTS [] (V0, V1, V2)", "0 0 06010000000000\n1 6\n"), wanted)
+    // how many variables a join took the log does not tell: V2 is taken, of V3 and V4 it is not known
+    let not_taken = |at: usize, b: &str| {
+        format!("byte {} ({}; byte {} of the job): this variable is not taken yet", at, b, at + 28)
+    };
+    let wanted = format!("the first of these that is so: {}; or {}", not_taken(15, "03"), not_taken(22, "04"));
+    let log = "0 0 06010000000000\n1 0 06020000000100\n2 0 06040000000200\n3 6\n";
+    assert_eq!(why("FV\nFV\nJN V0, V1\nTS [] (V3, V4)", log), wanted)
 }
 
 #[test]
@@ -241,7 +254,7 @@ fn locations_are_no_difference() {
     let side = |text: &str, log: &str| (assemble(text, false).unwrap(), log.to_string());
     let found = |a: &(Vec<u8>, String), b: &(Vec<u8>, String)| match diff((&a.0, &a.1), (&b.0, &b.1)) {
         Difference::None(n) => format!("none of {}", n),
-        Difference::Found(what) => what,
+        Difference::Found(what) => what.to_string(),
         Difference::Misfit(i, what) => format!("{}: {}", i, what),
     };
     let a = side("FV @1\nUF V0 @2", "0 0 06010000000000\n1 0 0702000000\n");
@@ -260,11 +273,58 @@ fn locations_are_no_difference() {
     let h = |at: &str, rest: &str| {
         let row =
             format!("04{0}01 03{0}0001 01 04{0}08 03{0}0005 06{0}0100 {1} 02{0} 08{0}", at, rest).replace(' ', "");
-        side("SV", &format!("0 0 {}\n", row))
+        blank_payload(b"SV", 0, &unhex(&row).unwrap(), &[])
     };
-    assert_eq!(found(&h("01000000", "0203"), &h("09080706", "0203")), "none of 1");
-    assert!(found(&h("01000000", "0203"), &h("01000000", "0204")).starts_with("record 0: the answers differ"));
-    assert!(found(&h("01000000", "0203"), &h("01000000", "01")).starts_with("record 0: the answers differ"));
+    assert_eq!(h("01000000", "0203"), h("09080706", "0203"));
+    assert_ne!(h("01000000", "0203"), h("01000000", "0204"));
+    assert_ne!(h("01000000", "0203"), h("01000000", "01"));
     let f = side("FV @7\nFV", "0 0 06070000000000\n");
     assert_eq!(found(&a, &f), "2: it is too short: no line for record 1 and those after it");
+}
+
+/// What follows an answer 5, 6 or 18 is never read, so it makes no difference, and a difference before it does.
+#[test]
+fn what_is_never_read_is_no_difference() {
+    let found = |a: &str, b: &str, log: &str| {
+        let (a, b) = (assemble(a, false).unwrap(), assemble(b, false).unwrap());
+        match diff((&a, log), (&b, log)) {
+            Difference::None(n) => format!("none of {}", n),
+            Difference::Found(what) => what.to_string().lines().next().unwrap().into(),
+            Difference::Misfit(i, what) => format!("{}: {}", i, what),
+        }
+    };
+    let log = "0 0 06000000000000\n1 6\n";
+    let one = |at: &str| format!("FV\nJN V9{0}, u8{0}\nUF u8{0}", at);
+    assert_eq!(found(&one("@1"), &one("@2"), log), "none of 2");
+    assert_eq!(found(&one("@1"), "FV\nJN V9, u8", log), "none of 2");
+    assert_eq!(found(&one("@1"), "FV\nJN V9, bool\nFV", log), "none of 2");
+    assert_eq!(found(&one("@1"), "FV\nJN V8, u8", log), "record 1: the records differ");
+    assert_eq!(found(&one("@1"), "FV\nSU V9, u8", log), "record 1: the records differ");
+    let log = "0 18\n";
+    assert_eq!(found("UF &@1 &@2 u8@3\nFV @4", "UF &@5 &@6 u8@7\nNV", log), "none of 1");
+    assert_eq!(found("UF &@1 &@2 u8@3", "UF &mut &u8", log), "record 0: the records differ");
+    let log = "0 5\n";
+    assert_eq!(found("hex 5546 01 00000000 02 03", "hex 5546 01 09000000 02 00", log), "none of 1");
+    assert_eq!(found("hex 5546 01 00000000 02", "hex 5546 01 00000000 03", log), "record 0: the records differ");
+    assert_eq!(found("hex 5546", "hex 5546 09", log), "record 0: the records differ")
+}
+
+/// each kind of the names that docs/RECORDS.md shows
+#[test]
+fn numbers_by_their_names() {
+    let part = include_str!("../../../docs/RECORDS.md").split("## Names for a job's numbers").nth(1).unwrap();
+    let shown = part.lines().skip_while(|l| !l.starts_with("    ")).map_while(|l| l.strip_prefix("    "));
+    let (book, told) = Book::of(&shown.map(|l| format!("{}\n", l)).collect::<String>());
+    assert_eq!(told, []);
+    let job = assemble("FV\nFV\nFV\nFV\nSD {}<{copy}>\nJN V3@1, S0<P7@236>@5", false).unwrap();
+    let taken: String = (0..4).map(|v| format!("{} 0 06000000000{}00\n", v, v)).collect();
+    let log = taken + "4 0 0000\n5 0 06010000000300\n";
+    let last = |name: &str, detail| {
+        let (lines, summary) = show(&job, &log, Options { detail, names: book.job(name), ..Options::default() });
+        assert_eq!(summary.code(), 0, "{}", summary.text());
+        lines.lines().last().unwrap().to_string()
+    };
+    let full = "5 JN  V3 (coin)@1  ~  0xA::receipt::Receipt<T@receipt.move:41:9>@5   → typed V3 (coin)@1";
+    assert_eq!(last("receipt/new", Detail::Full), full);
+    assert_eq!(last("receipt/old", Detail::Types), "5 JN  V3  ~  0xA::receipt::Receipt<T>   → typed V3")
 }

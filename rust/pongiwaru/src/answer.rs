@@ -4,8 +4,11 @@
 macro_rules! answers {
     ($($name:ident = $number:literal, $words:literal;)*) => {
         /// An answer's number. 0 to 4 may have a payload and change the state; the others have none and leave all as it was.
+        /// `Ran` is not yet a success: SV answers so also where constraints failed, and its payload then lists them.
+        /// `is_well` tells the two apart.
         #[derive(Debug, Clone, Copy, PartialEq, Eq, Hash, PartialOrd, Ord)]
         #[repr(u32)]
+        #[non_exhaustive]
         pub enum Answer {
             $(#[doc = $words] $name = $number,)*
         }
@@ -24,7 +27,7 @@ macro_rules! answers {
 }
 
 answers! {
-    Typed = 0, "typed";
+    Ran = 0, "typed";
     SubtypeError = 1, "subtype error";
     Incompatible = 2, "incompatible";
     ArityMismatch = 3, "arity mismatch";
@@ -47,6 +50,11 @@ answers! {
 impl Answer {
     pub fn number(self) -> u32 {
         self as u32
+    }
+    /// Whether this answer to `record`, with this payload, says that nothing is wrong: `Ran`, and of SV without a payload.
+    /// `joblog::payload` reads what the payload says.
+    pub fn is_well(self, record: &[u8], payload: &[u8]) -> bool {
+        self == Answer::Ran && (payload.is_empty() || !record.starts_with(b"SV"))
     }
     /// whether it is one of the trade's errors, 1 to 4
     pub fn is_error(self) -> bool {

@@ -5,7 +5,9 @@
 //! call may write overlaps nothing else: that is all that the header asks of its callers.
 use crate::Rows;
 #[cfg(linked)]
-use crate::{header, ROW_BYTES};
+use crate::{header, LAYOUT, ROW_BYTES, VERSION};
+#[cfg(linked)]
+use std::sync::Once;
 
 /// What a job's call gives beside words, rows and log.
 #[derive(Debug, Clone, Copy, Default, PartialEq, Eq)]
@@ -21,9 +23,29 @@ fn no_archive() -> ! {
     panic!("pongiwaru was built without its archive")
 }
 
+/// The archive's version and layout.
+#[cfg(linked)]
+pub fn version_and_layout() -> (u32, u32) {
+    unsafe { (header::pongiwaru_version(), header::pongiwaru_layout()) }
+}
+
+/// Asked before the first call, once: the archive is the one that this crate's declarations are of.
+#[cfg(linked)]
+fn of_this_header() {
+    static ASKED: Once = Once::new();
+    ASKED.call_once(|| {
+        assert_eq!(
+            version_and_layout(),
+            (VERSION, LAYOUT),
+            "pongiwaru: version and layout of the archive and of its header"
+        )
+    })
+}
+
 /// One record, lent whole: the answer's number. The payload's length goes to `length`.
 #[cfg(linked)]
 pub fn record(state: &mut [u32], rows: &mut Rows, record: &[u8], answer: &mut [u8], length: &mut u32) -> u32 {
+    of_this_header();
     let rows: *mut [u8; ROW_BYTES] = rows.as_mut_ptr();
     let (words, bytes, room) = (state.len(), record.len(), answer.len());
     unsafe {
@@ -43,6 +65,7 @@ pub fn record(state: &mut [u32], rows: &mut Rows, record: &[u8], answer: &mut [u
 /// How many bytes of the stream are left after the record at its head. State and rows are as they were.
 #[cfg(linked)]
 pub fn split(state: &mut [u32], rows: &mut Rows, stream: &[u8], rest: &mut usize) {
+    of_this_header();
     let words = state.len();
     unsafe {
         header::pongiwaru_split(state.as_mut_ptr(), words, rows.as_mut_ptr(), stream.as_ptr(), stream.len(), rest)
@@ -75,6 +98,7 @@ fn lines(
     log: &mut [u8],
     progress: &mut Progress,
 ) -> u32 {
+    of_this_header();
     let (words, bytes, room) = (state.len(), stream.len(), log.len());
     let Progress { written, read, index, ended } = progress;
     unsafe {
@@ -121,6 +145,10 @@ pub fn fresh_job(
     lines(header::pongiwaru_fresh_job, state, rows, stream, more, log, progress)
 }
 
+#[cfg(not(linked))]
+pub fn version_and_layout() -> (u32, u32) {
+    no_archive()
+}
 #[cfg(not(linked))]
 pub fn record(_: &mut [u32], _: &mut Rows, _: &[u8], _: &mut [u8], _: &mut u32) -> u32 {
     no_archive()

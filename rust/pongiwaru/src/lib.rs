@@ -7,7 +7,7 @@
 //!
 //! let mut state = State::fresh();
 //! let (answer, payload) = state.record(b"NV\x01\0\0\0");
-//! assert_eq!((answer, &payload[..]), (Answer::Typed, &b"\x06\x01\0\0\0\0\0"[..]));
+//! assert_eq!((answer, &payload[..]), (Answer::Ran, &b"\x06\x01\0\0\0\0\0"[..]));
 //! ```
 mod answer;
 mod header;

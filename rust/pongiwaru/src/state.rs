@@ -14,7 +14,7 @@ pub struct State {
 /// What a job's call did: how much of stream and log it used, and whether the job ended.
 #[derive(Debug, Clone, Copy, PartialEq, Eq)]
 pub struct Lines {
-    /// Typed, or UnsoundState
+    /// Ran, or UnsoundState
     pub answer: Answer,
     pub read: usize,
     pub written: usize,

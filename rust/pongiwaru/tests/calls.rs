@@ -23,7 +23,7 @@ fn in_header(name: &str) -> String {
 #[test]
 fn answers_are_the_header_s() {
     let ours: Vec<_> = Answer::ALL.iter().map(|a| (in_header(&format!("{:?}", a)), a.number())).collect();
-    let first = HEADER.iter().position(|(name, _)| *name == "TYPED").expect("the header names its answers");
+    let first = HEADER.iter().position(|(name, _)| *name == "RAN").expect("the header names its answers");
     let header: Vec<_> = HEADER[first..].iter().map(|(name, number)| (name.to_string(), *number)).collect();
     assert_eq!(ours, header);
     assert!(ours.is_sorted_by_key(|(_, number)| number));
@@ -51,17 +51,41 @@ fn a_job_at_once_by_records_and_in_pieces() {
 
     let (mut pieces, mut index, mut out, mut text) = (State::fresh(), 0, vec![0; LINE_BYTES], vec![]);
     let lines = pieces.job(&STREAM[..6], true, &mut out, &mut index);
-    assert_eq!((lines.answer, lines.read, lines.written, lines.ended, index), (Answer::Typed, 0, 0, false, 0));
+    assert_eq!((lines.answer, lines.read, lines.written, lines.ended, index), (Answer::Ran, 0, 0, false, 0));
     let mut read = 0;
     for ended in [false, false, true] {
         // room for one line
         let lines = pieces.job(&STREAM[read..], false, &mut out, &mut index);
-        assert_eq!((lines.answer, lines.ended), (Answer::Typed, ended));
+        assert_eq!((lines.answer, lines.ended), (Answer::Ran, ended));
         text.extend_from_slice(&out[..lines.written]);
         read += lines.read
     }
     assert_eq!((text, read, index), (LOG.into(), STREAM.len(), 3));
     assert!(pieces == state)
+}
+
+#[test]
+fn the_archive_is_the_header_s() {
+    assert_eq!(pongiwaru::lent::version_and_layout(), (pongiwaru::VERSION, pongiwaru::LAYOUT))
+}
+
+/// the payload's bytes, said by joblog
+#[test]
+fn what_an_answer_says() {
+    use joblog::payload::{Answers, Outcome, Reason, Rule};
+    let (mut state, mut answers) = (State::fresh(), Answers::new());
+    let mut ask = |record: &[u8]| {
+        let (answer, payload) = state.record(record);
+        let said = answers.read(record, answer.number() as usize, &payload).unwrap();
+        assert_eq!(said.is_well(), answer.is_well(record, &payload));
+        said
+    };
+    assert_eq!(ask(b"SD\0\x01\x01"), Outcome::Declared(0));
+    assert!(matches!(ask(b"IN\x05\x02\0\0\0\0\0\0\x03\x03\0\0\0\0\x01"), Outcome::Type(_)));
+    let Outcome::Failed(rows) = ask(b"SV") else { panic!("a failed SV is taken for a success") };
+    assert_eq!((rows.len(), rows[0].loc, rows[0].reason), (1, 2, Reason::Lacks(1, Rule::Declaration)));
+    assert_eq!(ask(b"SV"), Outcome::Done);
+    assert_eq!(ask(DOUBLED), Outcome::Refused(18));
 }
 
 #[test]
@@ -78,6 +102,7 @@ fn refusals_leave_all_as_it_was() {
     assert_eq!(state.split(b"XXSV"), (&b""[..], &b"XXSV"[..]));
     assert_eq!(state.split(DOUBLED), (&b""[..], DOUBLED));
     assert!(state == before && short == [7; ANSWER_BYTES - 1]);
+    assert!(!Answer::Malformed.is_well(b"XX", &[]) && !Answer::Incompatible.is_well(b"JN", &[0; 10]));
     assert!(Answer::Malformed.is_refusal() && !Answer::Incompatible.is_refusal() && Answer::Incompatible.is_error())
 }
 
@@ -85,12 +110,13 @@ fn refusals_leave_all_as_it_was() {
 #[test]
 fn missing_abilities_and_a_mark_contradicted() {
     let mut state = State::fresh();
-    assert_eq!(state.record(b"SD\0\x01\x01").0, Answer::Typed);
-    assert_eq!(state.record(b"IN\x05\x02\0\0\0\0\0\0\x03\x03\0\0\0\0\x01").0, Answer::Typed);
+    assert_eq!(state.record(b"SD\0\x01\x01").0, Answer::Ran);
+    assert_eq!(state.record(b"IN\x05\x02\0\0\0\0\0\0\x03\x03\0\0\0\0\x01").0, Answer::Ran);
     let row = b"\x04\x02\0\0\0\x01\x03\x03\0\0\0\0\x01\x01";
-    assert_eq!(state.record(b"SV"), (Answer::Typed, row.to_vec()));
-    assert_eq!(state.record(b"SV"), (Answer::Typed, vec![]));
-    assert_eq!(state.record(b"IN\x05\x02\0\0\0\0\0\0\x03\x03\0\0\0\x12\x02").0, Answer::Typed);
+    assert_eq!(state.record(b"SV"), (Answer::Ran, row.to_vec()));
+    assert!(!Answer::Ran.is_well(b"SV", row) && Answer::Ran.is_well(b"SV", &[]));
+    assert_eq!(state.record(b"SV"), (Answer::Ran, vec![]));
+    assert_eq!(state.record(b"IN\x05\x02\0\0\0\0\0\0\x03\x03\0\0\0\x12\x02").0, Answer::Ran);
     assert_eq!(state.record(b"SV"), (Answer::AbilityMarkContradicted, vec![]));
     assert_eq!(Answer::AbilityMarkContradicted.number(), 16)
 }
@@ -127,7 +153,7 @@ fn a_fresh_job_from_words_that_hold_anything() {
     assert!(state.log(STREAM).is_some());
     for _ in 0..2 {
         let lines = state.fresh_job(STREAM, false, &mut log, &mut index);
-        assert_eq!((lines.answer, lines.read, lines.ended, index), (Answer::Typed, STREAM.len(), true, 3));
+        assert_eq!((lines.answer, lines.read, lines.ended, index), (Answer::Ran, STREAM.len(), true, 3));
         assert_eq!(&log[..lines.written], LOG.as_bytes());
     }
 }

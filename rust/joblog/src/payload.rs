@@ -1,0 +1,269 @@
+//! What one answer says: from a record, the answer's number and its payload to a tree or failures. A 0 is no success by
+//! itself: SV answers 0 also where constraints failed, and its payload lists them. `Outcome::is_well` tells the two
+//! apart, and an answer that its record cannot have is an error.
+use crate::{
+    fits::{State, MAX_VARS},
+    pairs,
+    record::{self, Known, Record, Refusal, Ty, ABILITIES},
+};
+use std::fmt;
+
+/// the longest payload
+pub const MAX_PAYLOAD: usize = 4096;
+
+#[derive(Debug, Clone, PartialEq, Eq)]
+#[non_exhaustive]
+pub enum Outcome {
+    /// 0 without payload: SN, NC, BC, SC, and SV where no constraint failed
+    Done,
+    /// 0 of SD: the struct's number
+    Declared(u16),
+    /// 0 of FV, NV, JN, SU, UF, RD, TS, IN
+    Type(Ty),
+    /// 0 of RM: nodes, argument places, variables, constraints
+    Needs([u32; 4]),
+    /// 0 of SV: the constraints that failed, at least one
+    Failed(Vec<Failure>),
+    /// 1 to 3, with both types
+    Mismatch(usize, Ty, Ty),
+    /// 4, with a location
+    Recursive(u32),
+    /// 5 and above: all is as it was before the record
+    Refused(usize),
+}
+
+/// A constraint that failed: its location, its type as UF would give it, and why.
+#[derive(Debug, Clone, PartialEq, Eq)]
+pub struct Failure {
+    pub loc: u32,
+    pub ty: Ty,
+    pub reason: Reason,
+}
+
+/// Codes 1 to 4 of a row of SV.
+#[derive(Debug, Clone, Copy, PartialEq, Eq)]
+#[non_exhaustive]
+pub enum Reason {
+    NoIntegerType,
+    NoBaseType,
+    NoSingleType,
+    /// a bit of `ABILITIES`, and the rule by which it is missing
+    Lacks(u8, Rule),
+}
+
+#[derive(Debug, Clone, Copy, PartialEq, Eq)]
+pub enum Rule {
+    Declaration,
+    /// the place of the first argument that lacks what is needed, from 0
+    Argument(u8),
+}
+
+impl Outcome {
+    /// Whether nothing is wrong. Not so for a 0 of SV with failed constraints.
+    pub fn is_well(&self) -> bool {
+        matches!(self, Outcome::Done | Outcome::Declared(_) | Outcome::Type(_) | Outcome::Needs(_))
+    }
+    /// one more than the highest variable that it shows
+    pub fn taken(&self) -> usize {
+        match self {
+            Outcome::Type(t) => t.taken(),
+            Outcome::Mismatch(_, a, b) => a.taken().max(b.taken()),
+            Outcome::Failed(fs) => fs.iter().map(|f| f.ty.taken()).max().unwrap_or(0),
+            _ => 0,
+        }
+    }
+    /// the answer's number
+    pub fn number(&self) -> usize {
+        match self {
+            Outcome::Mismatch(number, ..) | Outcome::Refused(number) => *number,
+            Outcome::Recursive(_) => 4,
+            _ => 0,
+        }
+    }
+}
+
+impl Reason {
+    pub fn code(self) -> u8 {
+        match self {
+            Reason::NoIntegerType => 1,
+            Reason::NoBaseType => 2,
+            Reason::NoSingleType => 3,
+            Reason::Lacks(..) => 4,
+        }
+    }
+}
+
+impl fmt::Display for Reason {
+    fn fmt(&self, f: &mut fmt::Formatter) -> fmt::Result {
+        let Reason::Lacks(bit, rule) = self else { return f.write_str(pairs::FAILURES[self.code() as usize - 1]) };
+        let ability = ABILITIES.iter().find(|(b, _)| b == bit).map_or("no ability", |(_, name)| name);
+        match rule {
+            Rule::Declaration => write!(f, "lacks {} by its declaration", ability),
+            Rule::Argument(place) => write!(f, "lacks {} by its argument {}", ability, place),
+        }
+    }
+}
+
+//---- reading ------------------------------------------------------------------------------------------
+
+type Read<T> = Result<T, String>;
+
+fn no<T>(what: &str) -> Read<T> {
+    Err(what.into())
+}
+
+/// bytes that are left, and what their types may name
+struct Rest<'a> {
+    bytes: &'a [u8],
+    known: &'a Known,
+}
+
+impl Rest<'_> {
+    fn take<const N: usize>(&mut self) -> Read<[u8; N]> {
+        let (front, rest) = self.bytes.split_first_chunk().ok_or("its payload is cut")?;
+        self.bytes = rest;
+        Ok(*front)
+    }
+    fn byte(&mut self) -> Read<u8> {
+        Ok(self.take::<1>()?[0])
+    }
+    fn u32(&mut self) -> Read<u32> {
+        self.take().map(u32::from_le_bytes)
+    }
+    fn ty(&mut self) -> Read<Ty> {
+        let (ty, n) = record::read_type(self.bytes, self.known)
+            .map_err(|x| format!("its payload has no type where one belongs: byte {} of that, {}", x.at, x.rule))?;
+        self.bytes = &self.bytes[n..];
+        Ok(ty)
+    }
+
+    fn failure(&mut self) -> Read<Failure> {
+        let code = self.byte()?;
+        let loc = self.u32()?;
+        let bit = if code == 4 { self.byte()? } else { 0 };
+        let ty = self.ty()?;
+        let reason = match code {
+            1 => Reason::NoIntegerType,
+            2 => Reason::NoBaseType,
+            3 => Reason::NoSingleType,
+            4 if !ABILITIES.iter().any(|(b, _)| *b == bit) => return no("its payload has no ability"),
+            4 => Reason::Lacks(bit, self.rule()?),
+            _ => return no("its payload has a row of no code"),
+        };
+        Ok(Failure { loc, ty, reason })
+    }
+    fn rule(&mut self) -> Read<Rule> {
+        match self.byte()? {
+            1 => Ok(Rule::Declaration),
+            2 => self.byte().map(Rule::Argument),
+            _ => no("its payload has no rule"),
+        }
+    }
+    fn failures(&mut self) -> Read<Outcome> {
+        let mut rows = vec![];
+        while !self.bytes.is_empty() {
+            rows.push(self.failure()?)
+        }
+        Ok(if rows.is_empty() { Outcome::Done } else { Outcome::Failed(rows) })
+    }
+
+    /// the payload of a 0
+    fn zero(&mut self, r: &Record) -> Read<Outcome> {
+        match r {
+            Record::SD(..) => match u16::from_le_bytes(self.take()?) {
+                n if n as usize == self.known.params.len() => Ok(Outcome::Declared(n)),
+                n => Err(format!("its payload is struct {}, and the next is {}", n, self.known.params.len())),
+            },
+            Record::FV(loc) | Record::NV(loc) => match self.ty()? {
+                ty if ty.loc == *loc && matches!(ty.kind, record::Kind::Var(_)) => Ok(Outcome::Type(ty)),
+                _ => no("its payload is no variable at the record's location"),
+            },
+            Record::SV => self.failures(),
+            Record::RM(_) => Ok(Outcome::Needs([self.u32()?, self.u32()?, self.u32()?, self.u32()?])),
+            Record::SN(..) | Record::NC(..) | Record::BC(..) | Record::SC(..) => Ok(Outcome::Done),
+            Record::JN(..) | Record::SU(..) | Record::TS(..) => self.ty().map(Outcome::Type),
+            Record::UF(_) | Record::RD(_) | Record::IN(_) | Record::XP(_) => self.ty().map(Outcome::Type),
+        }
+    }
+}
+
+/// What the answer `number` to a record says. `known`: what a type may name, the structs those of before the record.
+/// Err: it is no answer to this record.
+pub fn read(r: &Record, number: usize, payload: &[u8], known: &Known) -> Read<Outcome> {
+    if !pairs::ANSWERS.iter().any(|a| a.number == number) {
+        return Err(format!("there is no answer {}", number));
+    }
+    if payload.len() > MAX_PAYLOAD {
+        return no("its payload is longer than 4,096 bytes");
+    }
+    let mut rest = Rest { bytes: payload, known };
+    let outcome = match number {
+        0 => rest.zero(r)?,
+        1..=3 => Outcome::Mismatch(number, rest.ty()?, rest.ty()?),
+        4 => Outcome::Recursive(rest.u32()?),
+        _ => Outcome::Refused(number),
+    };
+    match rest.bytes.len() {
+        0 => Ok(outcome),
+        n => Err(format!("its payload has {} bytes too many", n)),
+    }
+}
+
+/// Answers read one after the other, from a fresh state on: structs are declared and variables taken by what was read,
+/// and an answer that the record cannot have there is none.
+#[derive(Default)]
+pub struct Answers {
+    known: Known,
+    state: State,
+}
+
+impl Answers {
+    /// Of a fresh state.
+    pub fn new() -> Self {
+        Self::default()
+    }
+    /// What the next record may name: the structs declared, and as many variables as may be taken.
+    pub fn known(&self) -> &Known {
+        &self.known
+    }
+
+    /// What the answer to a record, lent whole, says.
+    pub fn read(&mut self, record: &[u8], number: usize, payload: &[u8]) -> Read<Outcome> {
+        let read = record::read_record(record, &self.known);
+        match (number, read) {
+            // an answer buffer that is too short, or another state
+            (15, _) if payload.is_empty() => Ok(Outcome::Refused(15)),
+            (5, Ok((_, n))) if n < record.len() && payload.is_empty() => Ok(Outcome::Refused(5)),
+            _ if pairs::ends_job(number) && self.stops(record, number).is_empty() => {
+                Err(format!("the record is not one that is answered with {}", number))
+            }
+            _ if pairs::ends_job(number) && payload.is_empty() => Ok(Outcome::Refused(number)),
+            (_, Ok((r, n))) if n == record.len() => self.of_record(&r, number, payload),
+            (_, Ok(_)) => no("the record has bytes left over, and its answer is not 5"),
+            (_, Err(x)) => {
+                Err(format!("the record cannot be read (byte {}: {}), and its answer is {}", x.at, x.rule, number))
+            }
+        }
+    }
+
+    /// The same of a record that is read.
+    pub fn of_record(&mut self, r: &Record, number: usize, payload: &[u8]) -> Read<Outcome> {
+        // a payload may show variables that the record itself took
+        self.known.vars = MAX_VARS;
+        let outcome = read(r, number, payload, &self.known)?;
+        self.state.fits(r, &outcome)?;
+        self.state.after(r, &outcome)?;
+        self.known.vars = self.state.high;
+        if let (Record::SD(_, params), Outcome::Declared(_)) = (r, &outcome) {
+            self.known.params.push(params.len())
+        }
+        Ok(outcome)
+    }
+
+    /// Where reading of these bytes may have stopped, if it was answered with this number.
+    pub fn stops(&self, bytes: &[u8], number: usize) -> Vec<Refusal> {
+        let mut stops = record::stops(bytes, &self.known, self.state.low);
+        stops.retain(|x| x.number as usize == number);
+        stops
+    }
+}

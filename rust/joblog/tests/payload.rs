@@ -1,0 +1,149 @@
+//! What one answer says, by mark and number, and what is no answer to a record.
+use joblog::{
+    payload::{read, Answers, Failure, Outcome, Reason, Rule},
+    record::{read_record, Kind, Known, Ty},
+    text::{any_variable, assemble},
+};
+
+fn known(params: &[usize]) -> Known {
+    Known { params: params.to_vec(), ..any_variable() }
+}
+
+fn said(text: &str, number: usize, payload: &[u8]) -> Result<Outcome, String> {
+    let bytes = assemble(text, false).unwrap();
+    let (r, n) = read_record(&bytes, &any_variable()).unwrap();
+    assert_eq!(n, bytes.len());
+    read(&r, number, payload, &known(&[]))
+}
+
+const U8: &[u8] = b"\x03\x07\0\0\0\0\x02";
+const V0: &[u8] = b"\x06\x07\0\0\0\0\0";
+
+fn u8_type() -> Ty {
+    Ty { loc: 7, kind: Kind::Builtin(0, 2, vec![]) }
+}
+fn v0() -> Ty {
+    Ty { loc: 7, kind: Kind::Var(0) }
+}
+
+#[test]
+fn a_zero_of_each_mark() {
+    for text in ["FV @7", "NV @7"] {
+        assert_eq!(said(text, 0, V0), Ok(Outcome::Type(v0())));
+        // another location, no variable, none, two
+        for wrong in [b"\x06\x08\0\0\0\0\0", U8, b"", &[V0, V0].concat()] {
+            assert!(said(text, 0, wrong).is_err(), "{}: {:?}", text, wrong)
+        }
+    }
+    for text in ["JN u8, V0", "SU u8, u8", "UF V0", "RD V0", "TS [P1 = u8] P1", "IN u8"] {
+        assert_eq!(said(text, 0, U8), Ok(Outcome::Type(u8_type())));
+        assert!(
+            said(text, 0, b"").is_err()
+                && said(text, 0, &[U8, U8].concat()).is_err()
+                && said(text, 0, &U8[..6]).is_err()
+        )
+    }
+    for text in ["SN V0 @1", "NC @1 numeric V0", "BC @1 V0", "SC @1 V0"] {
+        assert_eq!(said(text, 0, b""), Ok(Outcome::Done));
+        assert!(said(text, 0, U8).is_err())
+    }
+    assert_eq!(said("SD {}", 0, b"\0\0"), Ok(Outcome::Declared(0)));
+    assert!(
+        said("SD {}", 0, b"\x01\0").is_err() && said("SD {}", 0, b"").is_err() && said("SD {}", 0, b"\0\0\0").is_err()
+    );
+    let four = [1, 0, 0, 0, 2, 0, 0, 0, 3, 0, 0, 0, 4, 0, 0, 0];
+    assert_eq!(said("RM u8", 0, &four), Ok(Outcome::Needs([1, 2, 3, 4])));
+    assert!(said("RM u8", 0, &four[1..]).is_err() && said("RM u8", 0, &[&four[..], b"\0"].concat()).is_err());
+}
+
+#[test]
+fn a_zero_of_sv_with_rows_is_no_success() {
+    let none = said("SV", 0, b"").unwrap();
+    assert!(none.is_well() && none == Outcome::Done);
+    let row = |code: u8, ability: &[u8], rule: &[u8]| [&[code, 9, 0, 0, 0], ability, U8, rule].concat();
+    let cases = [
+        (row(1, b"", b""), Reason::NoIntegerType, "is no integer type"),
+        (row(2, b"", b""), Reason::NoBaseType, "is no base type"),
+        (row(3, b"", b""), Reason::NoSingleType, "is no single type"),
+        (row(4, b"\x01", b"\x01"), Reason::Lacks(1, Rule::Declaration), "lacks copy by its declaration"),
+        (row(4, b"\x08", b"\x02\x03"), Reason::Lacks(8, Rule::Argument(3)), "lacks key by its argument 3"),
+    ];
+    for (i, (bytes, reason, words)) in cases.iter().enumerate() {
+        let failed = said("SV", 0, bytes).unwrap();
+        assert_eq!(failed, Outcome::Failed(vec![Failure { loc: 9, ty: u8_type(), reason: *reason }]));
+        assert!(!failed.is_well() && failed.number() == 0 && reason.code() as usize == (i + 1).min(4));
+        assert_eq!(reason.to_string(), *words);
+        for cut in 1..bytes.len() {
+            assert!(said("SV", 0, &bytes[..cut]).is_err(), "{} of {:?}", cut, bytes)
+        }
+    }
+    let all = cases.iter().flat_map(|(bytes, ..)| bytes.clone()).collect::<Vec<_>>();
+    assert!(matches!(said("SV", 0, &all), Ok(Outcome::Failed(rows)) if rows.len() == cases.len()));
+    for wrong in
+        [row(0, b"", b""), row(5, b"", b""), row(4, b"\x03", b"\x01"), row(4, b"\x01", b"\x03"), row(1, b"", b"\x01")]
+    {
+        assert!(said("SV", 0, &wrong).is_err(), "{:?}", wrong)
+    }
+}
+
+#[test]
+fn errors_and_refusals() {
+    for number in 1..=3 {
+        let two = [U8, V0].concat();
+        let outcome = said("SU u8, u8", number, &two).unwrap();
+        assert_eq!(outcome, Outcome::Mismatch(number, u8_type(), v0()));
+        assert!(!outcome.is_well() && outcome.number() == number);
+        assert!(said("SU u8, u8", number, U8).is_err() && said("SU u8, u8", number, &[&two, U8].concat()).is_err());
+    }
+    assert_eq!(said("JN V0, V0", 4, b"\x09\0\0\0"), Ok(Outcome::Recursive(9)));
+    assert!(said("JN V0, V0", 4, b"\x09\0\0").is_err() && said("JN V0, V0", 4, b"").is_err());
+    for number in (5..=16).chain([18]) {
+        let outcome = said("SV", number, b"").unwrap();
+        assert_eq!(outcome, Outcome::Refused(number));
+        assert!(!outcome.is_well() && outcome.number() == number && said("SV", number, b"\0").is_err())
+    }
+    for none in [17, 19, 256, usize::MAX] {
+        assert!(said("SV", none, b"").is_err())
+    }
+}
+
+#[test]
+fn from_bytes_one_after_the_other() {
+    let mut answers = Answers::new();
+    let join = b"JN\x07\0\0\0\0\x06\x07\0\0\0\0\0";
+    // a variable is known once it is taken
+    assert!(answers.read(join, 0, V0).is_err());
+    assert_eq!(answers.read(b"FV\x07\0\0\0", 0, V0), Ok(Outcome::Type(v0())));
+    assert_eq!(answers.read(join, 0, V0), Ok(Outcome::Type(v0())));
+    // so is a struct with its arguments
+    let unfold = [&b"UF\x05\0\0\0\0\0\0\0"[..], U8].concat();
+    assert!(answers.read(&unfold, 0, &unfold[2..]).is_err());
+    assert_eq!(answers.read(b"SD\0\x01\0", 0, b"\0\0"), Ok(Outcome::Declared(0)));
+    assert!(matches!(answers.read(&unfold, 0, &unfold[2..]), Ok(Outcome::Type(_))));
+    // the next struct has the next number, and 256 are all
+    for number in 1..=255 {
+        assert!(answers.read(b"SD\0\0", 7, b"").is_err() && answers.read(b"SD\0\0", 0, b"\0\0").is_err());
+        assert_eq!(answers.read(b"SD\0\0", 0, &[number, 0]), Ok(Outcome::Declared(number as u16)))
+    }
+    assert_eq!(answers.read(b"SD\0\0", 7, b""), Ok(Outcome::Refused(7)));
+    assert!(answers.read(b"SD\0\0", 0, b"\0\x01").is_err());
+}
+
+#[test]
+fn what_cannot_be_read_is_refused() {
+    let (unknown, doubled) = (&b"UF\x06\0\0\0\0\0\0"[..], &b"UF\x01\0\0\0\0\0\x01\0\0\0\0\0\0\0\0\0\0"[..]);
+    let long = [&b"SV"[..], &[0; 4096]].concat();
+    for (record, wanted) in [(&b"XX"[..], 5), (b"SVSV", 5), (b"", 5), (&long, 5), (unknown, 6), (doubled, 18)] {
+        for number in 0..20 {
+            let said = Answers::new().read(record, number, b"");
+            // 15 says nothing of the record
+            let good = number == wanted || number == 15;
+            assert_eq!(said, if good { Ok(Outcome::Refused(number)) } else { said.clone() });
+            assert_eq!(said.is_ok(), good, "{} to {:?}", number, record);
+            assert!(Answers::new().read(record, number, b"\0").is_err())
+        }
+    }
+    for number in [5, 6, 18] {
+        assert!(Answers::new().read(b"SV", number, b"").is_err())
+    }
+}
