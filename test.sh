@@ -6,10 +6,11 @@ passed=0 failed=0
 usage() {
   cat << 'WORDS'
 ./test.sh            everything: the documents, the gate (.ci/run: proofs, must-fail edits, programs), and over what it
-                     proved the scripts, releases from a seed, the Rust crates, the exports called from C and Rust,
-                     core.rs's side
-./test.sh --quick    nothing is proved: over what a gate has proved here, the documents, the scripts, releases from a seed,
-                     the Rust crates, the exports called from C and Rust, and 2,000 jobs beside core.rs; under 3 minutes
+                     proved the scripts, joinlog where reads and writes fail, wrong programs that its runs find, releases
+                     from a seed, the Rust crates, the exports called from C and Rust, core.rs's side
+./test.sh --quick    nothing is proved: over what a gate has proved here, the documents, the scripts, joinlog where reads
+                     and writes fail, releases from a seed, the Rust crates, the exports called from C and Rust, and 2,000
+                     jobs beside core.rs; under 3 minutes
 ./test.sh -h         this
 
 The last line is 'N passed, M failed'. Exit status: 0 none failed; 1 some failed, or with --quick nothing is proved here;
@@ -84,6 +85,7 @@ proved() { # the archive and the program that a gate left here, no older than th
 
 over_proved() { # part|begin [--quick]
   $1 "the scripts" bash tests/scripts.sh
+  $1 "joinlog" bash tests/joinlog.sh ${2-}
   $1 "the Rust crates" bash rust/test.sh
   $1 "core.rs's side" bash oracle/test.sh ${2-}
   $1 "releases from a seed" bash tests/release.sh

@@ -35,7 +35,7 @@ looped() { # the lines of the loop that RECORDS.md shows are lines of the exampl
   sed 's/^ *//' rust/pongiwaru/examples/emit.rs | grep -Fx -f "$tmp/shown" | diff "$tmp/shown" - && [ "$(wc -l < "$tmp/shown")" -gt 10 ]
 }
 
-made() { python3 tools/computed.py --check && python3 tools/layers.py --check && python3 tools/jobs.py antt --check; }
+made() { python3 tools/computed.py --check && python3 tools/layers.py --check && python3 tools/claims.py --check && python3 tools/jobs.py antt --check; }
 
 drawn() { # every crate has its place in the picture and its row in README.md
   local name bad=0
@@ -76,6 +76,7 @@ verdict "a heading that is none is found" altered docs/RECORDS.md '(#a-call)' '(
 verdict "a theorem's name that is none is found" altered docs/CLAIMS.md '`sound_is` (Soundness)' '`sound_was` (Soundness)'
 verdict "a file of proofs that is none is found" altered docs/requests/R-2.md 'crates/theorems/proofs/NumericRule' 'crates/theorems/proofs/NumericRules'
 verdict "an edit that is none is found" altered docs/CLAIMS.md 'default_u8 |' 'default_u9 |'
+verdict "an edit that is none is found in prose" altered docs/CLAIMS.md 'length_on_15 (' 'length_on_16 ('
 verdict "a name of the definition that is none is found" altered docs/TRACE.md '`max_record`' '`min_record`'
 verdict "the loop of an emitter" looped
 verdict "what tools/ makes, made again" made

@@ -5,7 +5,8 @@
 - A path that begins with a folder of the repository is there, wherever it stands; so is one in backticks with a '/' and a file's ending. What a tool makes
   (target/, out/) and words in capitals that stand for a name are left out.
 - `name` (File), `name`, `name` (File, ..), with a file of theorems', definition's or pieces' proofs or specs: the name is declared in it.
-- In docs/TRACE.md each name of a row stands in one of its files. In docs/CLAIMS.md each `name` beside a crate is declared in that crate, and each edit is an edit.
+- In docs/TRACE.md each name of a row stands in one of its files. In docs/CLAIMS.md each `name` beside a crate is declared in that crate, and each edit is an edit,
+  also in prose: names before "(`CRATE`)" or "in `CRATE`)" are that crate's.
 """
 import glob, os, re, sys
 
@@ -16,6 +17,7 @@ TOP = [d for d in os.listdir('.') if os.path.isdir(d) and not d.startswith('.') 
 PATH = re.compile(r'(?<![\w./-])((?:\.\./)*(?:%s)/[\w./*-]*[\w*/]|\.ci/run)' % '|'.join(TOP))
 TICKED = re.compile(r'`((?:\./)?[\w.*-]+(?:/[\w.*-]+)+\.(?:antt|rt|md|py|rs|sh|h|c|list|txt|edit))`')
 CITED = re.compile(r'((?:`[\w.]+`(?:, | and | or )?)+)\s\(((?:crates/)?(?:[\w./]*/)?)([A-Z]\w+)(?:\.antt)?(?: of `(\w+)`)?[,;)]')
+EDITS = re.compile(r'((?:\b[a-z]\w*_\w+,\s+)*\b[a-z]\w*_\w+)\s+(?:\(`(\w+)`\)|in `(\w+)`\))')
 GENERIC = re.compile(r'(?<![a-z])[A-Z][A-Z_]+\b')
 HOMES = ['theorems', 'definition', 'pieces']
 wrong = []
@@ -117,6 +119,11 @@ def specs(path):
 
 def claims(path='docs/CLAIMS.md'):
     edits = {os.path.basename(e)[:-5] for e in glob.glob('crates/*/must-fail/*.edit')}
+    prose = re.sub(r'^\|.*$', '', text_of(path), flags=re.M)
+    for m in EDITS.finditer(prose):
+        for e in re.findall(r'\w+', m[1]):
+            if not os.path.exists('crates/%s/must-fail/%s.edit' % (m[2] or m[3], e)):
+                say(path, line_of(prose, m.start()), 'no edit %s of %s' % (e, m[2] or m[3]))
     columns = []
     for n, line in enumerate(text_of(path).split('\n'), 1):
         cells = [c.strip() for c in line.strip('|').split('|')] if line.startswith('|') else []

@@ -2,32 +2,8 @@
 # joinlog.sh, release.sh, and the gate where cargo is missing: what they say and their exit status. joinlog is the proved one (tools/build.sh).
 # Its last line is 'N passed, M failed'; it exits non-zero where M is not 0.
 cd "$(dirname "$0")/.." || exit 1
-root=$PWD passed=0 failed=0
-tmp=$(mktemp -d) && trap 'rm -rf "$tmp"' EXIT
-
-verdict() { # NAME YES-OR-NO
-  if [ "$2" = yes ]; then
-    passed=$((passed + 1)) && echo "ok      $1"
-  else
-    failed=$((failed + 1)) && echo "FAILED  $1"
-  fi
-}
-
-# Runs CMD with $tmp/in as standard input; its status, and patterns that its standard output and standard error must have ('' for an empty one).
-gives() { # NAME STATUS OUT ERR CMD..
-  local name=$1 status=$2 out=$3 err=$4 got good=yes
-  shift 4
-  "$@" < "${in:-/dev/null}" > "$tmp/out" 2> "$tmp/err"
-  got=$?
-  [ "$got" -eq "$status" ] || good=no
-  has "$tmp/out" "$out" && has "$tmp/err" "$err" || good=no
-  verdict "$name" $good
-  if [ $good = no ]; then echo "status $got" && head -n 5 "$tmp/out" "$tmp/err"; fi
-}
-
-has() { # FILE PATTERN
-  if [ -z "$2" ]; then [ ! -s "$1" ]; else grep -Eq -- "$2" "$1"; fi
-}
+root=$PWD
+. tests/gives.sh
 
 program=$(bash tools/build.sh joinlog) || { echo "0 passed, 1 failed"; exit 1; }
 run="./joinlog.sh --program $program"

@@ -10,21 +10,15 @@ import os, struct, sys
 
 ROOT = os.path.join(os.path.dirname(os.path.abspath(__file__)), '..')
 EACH = 60
-HEAD = '''-- Jobs with the log that core.rs gives of each, computed. Made by tools/jobs.py from oracle/replay.list. Assumes nothing.
+HEAD = '''-- Jobs with the log that core.rs gives of each, computed: a line for each job, under its name. Made by tools/jobs.py from oracle/replay.list. Assumes nothing.
 use mathlib.Core.Path.{◌≡◌, refl}
-use mathlib.Core.List.{List, [], ◌∷◌}
-use Rattle.definition.specs.Write.{Bytes}
-use Rattle.definition.proofs.Computed.{logs, wanted}
+use Rattle.definition.proofs.Computed.{log_of}
 use Rattle.definition.proofs.Spelling.{hex, text}
-
-abbrev jobs : List (Bytes × Bytes)
-jobs =
 '''
-FOOT = '''    []
-
-pub right : logs jobs ≡ wanted jobs
-unfolding logs
-right = refl
+JOB = '''
+%s : log_of (hex "%s") ≡ text "%s"
+unfolding log_of
+%s = refl
 '''
 
 
@@ -48,9 +42,9 @@ def read_list(path):
 def antt(jobs):
     """each file's name and text"""
     for k in range(0, len(jobs), EACH):
-        rows = ''.join('    (hex "%s", text "%s") ∷\n' % (stream, ''.join(l + '\\n' for l in log))
-                       for _, stream, log in jobs[k:k + EACH])
-        yield 'Jobs%d.antt' % (k // EACH + 1), HEAD + rows + FOOT
+        rows = ''.join(JOB % (n, stream, ''.join(l + '\\n' for l in log), n)
+                       for n, stream, log in ((name.replace('-', '_'), stream, log) for name, stream, log in jobs[k:k + EACH]))
+        yield 'Jobs%d.antt' % (k // EACH + 1), HEAD + rows
 
 
 def program(jobs, where):

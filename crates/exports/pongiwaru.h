@@ -13,8 +13,9 @@
  * Every pointer is to as many elements as the length beside it says, none is null (a length may be 0), and what a call may write
  * overlaps nothing else that it is lent. params has no length beside it: every call reads exactly PONGIWARU_ROWS rows, and all but
  * pongiwaru_split write as many. Calls on different states may run side by side. A call allocates nothing; it runs on the caller's
- * stack, and needs the more of it the deeper a state's types are nested: a thread of PONGIWARU_STACK_BYTES is enough (tested on the
- * deepest sound states, not proved).
+ * stack, and needs the more of it the deeper a state's types are nested. A call takes at most 768 KiB of it (tested on the deepest
+ * sound states, not proved). What its callers keep on that stack comes on top: beside 256 KiB of theirs, a thread of
+ * PONGIWARU_STACK_BYTES is enough.
  */
 #ifndef PONGIWARU_H
 #define PONGIWARU_H
@@ -26,10 +27,11 @@
 extern "C" {
 #endif
 
-/* PONGIWARU_VERSION changes with the records, their answers or these functions, PONGIWARU_LAYOUT with what the words and rows of a
- * state mean. Keep the layout's number beside a kept state. A later version of the same layout goes on with it; under another layout
- * it may be 15 or be taken for another sound state, so don't lend it: run its records again from a fresh state. */
-#define PONGIWARU_VERSION 4
+/* PONGIWARU_VERSION changes with the records, their answers, these functions or what they ask of a caller (5: more stack),
+ * PONGIWARU_LAYOUT with what the words and rows of a state mean. Keep the layout's number beside a kept state. A later version of the
+ * same layout goes on with it; under another layout it may be 15 or be taken for another sound state, so don't lend it: run its
+ * records again from a fresh state. */
+#define PONGIWARU_VERSION 5
 #define PONGIWARU_LAYOUT 1
 
 /* Both numbers as the archive has them: the caller was built for it if they are PONGIWARU_VERSION and PONGIWARU_LAYOUT. Ask once,
@@ -44,7 +46,7 @@ enum {
     PONGIWARU_RECORD_BYTES = 4096, /* the most that a record has; a longer one is 5 */
     PONGIWARU_ANSWER_BYTES = 4096, /* the least answer buffer; a shorter one is 15 */
     PONGIWARU_LINE_BYTES = 8217,   /* the log's room for one more line; a job with less takes no record */
-    PONGIWARU_STACK_BYTES = 524288 /* of a thread: enough for every call */
+    PONGIWARU_STACK_BYTES = 1048576 /* of a thread: a call's 768 KiB, and 256 for what its callers keep there */
 };
 
 /* The number of an answer. 0 to 4 may have a payload and change the state; 5 and above have none and leave all as it was.

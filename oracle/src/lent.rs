@@ -281,6 +281,14 @@ impl Lent {
         self.push(NODE, &[tag, loc, a, b, first, parts.len() as u32])
     }
 
+    pub fn add_place(&mut self, node: usize) -> Option<usize> {
+        self.push(PLACE, &[node as u32])
+    }
+    /// a list of the eight places from `first` on, which other nodes may have too
+    pub fn add_list(&mut self, first: usize) -> Option<usize> {
+        self.push(NODE, &[4, 0, 0, 8, first as u32, 8])
+    }
+
     pub fn add_type(&mut self, t: &Ty) -> Option<usize> {
         let parts = t.parts().iter().map(|p| self.add_type(p)).collect::<Option<Vec<_>>>()?;
         let n = parts.len() as u32;

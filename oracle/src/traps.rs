@@ -1,17 +1,17 @@
 //! States on which a walk written word for word would not end in practice: types with more parts than any machine
 //! counts, as deep as the tables allow, or running into themselves. Lent, and every record tried on each.
 use crate::{
-    calls::{Calls, MIN_ANSWER},
-    lender::Lender,
+    calls::{Calls, LINE, MIN_ANSWER},
+    lender::{Answer, Lender},
     lent::{fresh, sound, Lent, MAX_NODES, MAX_VARS},
     text::assemble,
 };
-use std::time::Instant;
+use std::{collections::VecDeque, time::Instant};
 
-/// seconds that a call may take
-pub const LIMIT: f64 = 0.05;
-/// the stack that every call fits
-const STACK: usize = 512 << 10;
+/// seconds that a call may take: several times the slowest one's, since others may be at work on the machine
+pub const LIMIT: f64 = 0.2;
+/// the stack that every call fits, this caller's part of it included
+pub const STACK: usize = 768 << 10;
 
 pub struct Line {
     pub state: &'static str,
@@ -151,6 +151,37 @@ fn chain() -> Lent {
     s
 }
 
+/// V0 is a tree of lists with 792 open variables as its leaves, V2 a list of eight lists, each of the eight types before it.
+/// A join binds each variable to one of the last of these lists, and looks for it in all that are before.
+fn crossed() -> Lent {
+    let mut s = fresh();
+    (0..800).for_each(|_| assert!(s.add_var().is_some()));
+    for k in 0..1018 {
+        let node = if k < 8 { s.add_node(3, 1, 0, 2, &[]) } else { s.add_list(k - 8) };
+        s.add_place(node.unwrap()).unwrap();
+    }
+    s.bind(2, 1017);
+    let mut trees: VecDeque<_> = (8..800).map(|v| s.add_node(6, 1, v, 0, &[]).unwrap()).collect();
+    while trees.len() > 1 {
+        let eight: Vec<_> = trees.drain(..8).collect();
+        trees.push_back(s.add_node(4, 0, 0, 8, &eight).unwrap())
+    }
+    s.bind(0, trees[0]);
+    s
+}
+
+/// V0 is bound to V1, V1 to V2 and so on, all numeric, and the last to a parameter without abilities
+fn numeric() -> Lent {
+    let mut s = fresh();
+    (0..1023).for_each(|_| assert!(s.add_var().is_some()));
+    for v in 0..1023 {
+        let next = if v < 1022 { s.add_node(6, 0, v + 1, 0, &[]) } else { s.add_node(2, 0, 1, 0, &[]) };
+        s.bind(v as usize, next.unwrap());
+        s.set_mark(v as usize, 0)
+    }
+    s
+}
+
 //---- records ------------------------------------------------------------------------------------------------
 
 const RECORDS: [&str; 22] = [
@@ -178,6 +209,7 @@ const RECORDS: [&str; 22] = [
     "SV",
 ];
 
+/// A record's answer; and as a job of this record alone it gives the same line and leaves the same state.
 fn tried(calls: &(dyn Calls + Sync), state: &'static str, lent: &Lent, record: &str) -> Line {
     let bytes = assemble(record, true).unwrap();
     let call = || {
@@ -187,21 +219,39 @@ fn tried(calls: &(dyn Calls + Sync), state: &'static str, lent: &Lent, record: &
         let a = lender.record(&bytes, MIN_ANSWER).unwrap();
         (start.elapsed().as_secs_f64(), a, lender.lent())
     };
+    let job = || {
+        let mut lender = Lender::new(calls, lent);
+        let (number, _, log) = lender.job(&bytes, false, LINE, 0).unwrap();
+        (number, log, lender.lent())
+    };
     let (mut seconds, mut answer) = (f64::MAX, None);
     for _ in 0..3 {
         let (took, a, left) = on_a_thread(STACK, call);
         seconds = took.min(seconds);
         assert_ne!(a.number, 15);
         assert_eq!(sound(&left.words, &left.params), Ok(()));
+        let (number, log, left_by_job) = on_a_thread(STACK, job);
+        assert_eq!((number, log), (0, line(&a).into_bytes()));
+        assert!(left_by_job == left, "{}: {}", state, record);
         answer = Some(a)
     }
     let a = answer.unwrap();
     Line { state, record: record.into(), number: a.number, payload: a.payload.len(), seconds }
 }
 
+/// the log's line of record 0
+fn line(a: &Answer) -> String {
+    let digits: String = a.payload.iter().map(|b| format!("{:02x}", b)).collect();
+    format!("0 {}{}{}\n", a.number, if digits.is_empty() { "" } else { " " }, digits)
+}
+
 fn on_a_thread<T: Send>(stack: usize, work: impl FnOnce() -> T + Send) -> T {
     std::thread::scope(|s| std::thread::Builder::new().stack_size(stack).spawn_scoped(s, work).unwrap().join().unwrap())
 }
+
+/// as many constraints of a kind, as the words number them, as have room in an answer where all fail
+const FAILING: [(usize, u32, u8, &str); 4] =
+    [(60, 0, 15, "all four"), (273, 1, 0, "a number"), (273, 2, 0, "bits"), (273, 3, 0, "an order")];
 
 /// The state with constraints on V0, for SV to solve.
 fn constrained(calls: &dyn Calls, lent: &Lent) -> Lent {
@@ -212,11 +262,11 @@ fn constrained(calls: &dyn Calls, lent: &Lent) -> Lent {
     lender.lent()
 }
 
-/// The state with all the constraints that it has room for asking V0's type for a set of abilities.
-fn asked(lent: &Lent, set: u8) -> Lent {
+/// The state with constraints of a kind on V0's type, as many as `many` and as there is room for.
+fn asked(lent: &Lent, many: usize, kind: u32, set: u8) -> Lent {
     let mut s = lent.clone();
     let node = s.view().binding(0).unwrap();
-    while s.add_constraint(0, 1, node, set).is_some() {}
+    (0..many).all(|_| s.add_constraint(kind, 1, node, set).is_some());
     s
 }
 
@@ -235,6 +285,8 @@ pub fn run(calls: &(dyn Calls + Sync)) -> (Vec<Line>, f64) {
         ("chain", chain()),
         ("leaning", leaning(|s| s.add_node(3, 4, 0, 2, &[]).unwrap())),
         ("right", leaning(far_right)),
+        ("crossed", crossed()),
+        ("numeric", numeric()),
     ];
     let mut lines = vec![];
     for (name, lent) in &states {
@@ -244,8 +296,13 @@ pub fn run(calls: &(dyn Calls + Sync)) -> (Vec<Line>, f64) {
         solved.record = "SV with constraints on V0".into();
         lines.push(solved);
         for (set, name_of_set) in [(0, "nothing"), (2, "drop"), (7, "copy, drop, store"), (15, "all four")] {
-            let mut solved = tried(calls, name, &asked(lent, set), "SV");
+            let mut solved = tried(calls, name, &asked(lent, 512, 0, set), "SV");
             solved.record = format!("SV, 512 ask {}", name_of_set);
+            lines.push(solved)
+        }
+        for (many, kind, set, what) in FAILING {
+            let mut solved = tried(calls, name, &asked(lent, many, kind, set), "SV");
+            solved.record = format!("SV, {} ask for {}", many, what);
             lines.push(solved)
         }
     }

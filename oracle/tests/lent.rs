@@ -405,6 +405,13 @@ fn a_state_of_core_rs_goes_through_the_calls() {
 //---- traps and benchmarks ----------------------------------------------------------------------------------------
 
 #[test]
+fn the_header_promises_the_stack_that_is_tried_and_256_kib() {
+    let (_, rest) = include_str!("../../crates/exports/pongiwaru.h").split_once("PONGIWARU_STACK_BYTES = ").unwrap();
+    let bytes: usize = rest.split_whitespace().next().unwrap().parse().unwrap();
+    assert_eq!(bytes, traps::STACK + (256 << 10))
+}
+
+#[test]
 fn traps_are_answered_at_once() {
     let Some(engine) = engine() else { return };
     let (lines, slowest) = traps::run(engine);
@@ -417,6 +424,11 @@ fn traps_are_answered_at_once() {
     assert_eq!((asks("circle", "nothing"), asks("right", "nothing"), asks("right", "all four")), (9, 9, 9));
     assert_eq!((asks("leaning", "drop"), asks("leaning", "copy, drop, store")), (0, 14));
     assert_eq!((asks("chain", "drop"), asks("chain", "copy, drop, store"), asks("chains", "all four")), (0, 14, 0));
+    assert_eq!((number("crossed", "JN V0, V2"), number("crossed", "SU V2, V0")), (0, 0));
+    let asks_for = |what| number("numeric", format!("SV, 273 ask for {}", what).as_str());
+    assert_eq!((asks_for("a number"), asks_for("bits"), asks_for("an order")), (0, 0, 0));
+    let all_four = lines.iter().find(|l| l.state == "numeric" && l.record == "SV, 60 ask for all four").unwrap();
+    assert!(all_four.number == 0 && all_four.payload > 4000, "{}", all_four.text());
     assert!(slowest < traps::LIMIT, "{} s", slowest)
 }
 

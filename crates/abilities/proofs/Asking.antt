@@ -3,7 +3,7 @@
 use mathlib.Core.Path.{◌≡◌, refl, sym, ap, ◌∙◌}
 use mathlib.Core.Bool.{Bool, true, false}
 use mathlib.Core.List.{List, [], ◌∷◌}
-use Rattle.std.specs.Prelude.{None}
+use Rattle.std.specs.Prelude.{Ok}
 use Prim.Native.Nat.{ℕ, zero, suc, ◌+◌, ◌<◌}
 use native.Mathlib.Numerals.{add-one}
 use native.Mathlib.Omega.{arith}
@@ -13,13 +13,14 @@ use Rattle.std.specs.List.{list_any, range_with_len}
 use Rattle.definition.specs.Types as d
 use Rattle.definition.specs.Types.{Struct, Constraint}
 use Rattle.definition.specs.Store.{with_structs}
-use Rattle.definition.specs.Constraints.{constraint_hindrance, hindrance}
+use Rattle.definition.specs.Constraints.{in_turn, solve_constraint}
 use Rattle.table.specs.Rows.{constraint_table}
 use Rattle.table.specs.State.{seen}
 use Rattle.table.specs.Did.{held, tables}
 use Rattle.table.specs.declared.state.State.{State}
 use Rattle.table.proofs.Pushed.{constraints_view}
-use Rattle.abilities.specs.Rules.{asks_abilities, any_asks}
+use Rattle.abilities.specs.Rules.{asks_abilities, any_asks, Given, bytes_of}
+use Rattle.abilities.proofs.Turn.{meets_none, meets_next}
 
 abbrev blank : Constraint
 blank = constraint_table.blank
@@ -49,8 +50,8 @@ asks_not (c ∷ cs) e i h = by (asks_abilities c) refl i h (asks_not cs)
     by false z zero h rest = z
     by false z (suc i) h rest = rest (sym (later_asks c cs z) ∙ e) i (omega arith)
 
-plain_clear : (s : d.State) (c : Constraint) → asks_abilities c ≡ false → constraint_hindrance s c ≡ None
-unfolding asks_abilities constraint_hindrance
+plain_clear : (s : d.State) (c : Constraint) → asks_abilities c ≡ false → Given (solve_constraint s c)
+unfolding asks_abilities solve_constraint bytes_of
 plain_clear s (d.AbilityConstraint loc ty a) e = cc
 plain_clear s (d.NumericConstraint loc ty) e = refl
 plain_clear s (d.BitsConstraint loc ty) e = refl
@@ -58,15 +59,14 @@ plain_clear s (d.OrderedConstraint loc ty) e = refl
 plain_clear s (d.BaseTypeConstraint loc ty) e = refl
 plain_clear s (d.SingleTypeConstraint loc ty) e = refl
 
--- where none asks, none hinders
-pub asks_clear : (s : d.State) (cs : List Constraint) → any_asks cs ≡ false → hindrance s cs ≡ None
-unfolding any_asks hindrance
-asks_clear s [] e = refl
+-- where none asks, none is refused
+pub asks_clear : (s : d.State) (cs : List Constraint) → any_asks cs ≡ false → Given (in_turn (λ c. solve_constraint s c) cs)
+asks_clear s [] e = meets_none (λ c. solve_constraint s c)
 asks_clear s (c ∷ cs) e = by (asks_abilities c) refl (asks_clear s cs)
   where
-    by : (b : Bool) → asks_abilities c ≡ b → (any_asks cs ≡ false → hindrance s cs ≡ None) → hindrance s (c ∷ cs) ≡ None
+    by : (b : Bool) → asks_abilities c ≡ b → (any_asks cs ≡ false → Given (in_turn (λ c. solve_constraint s c) cs)) → Given (in_turn (λ c. solve_constraint s c) (c ∷ cs))
     by true z rest = let y : true ≡ false = sym (first_asks c cs z) ∙ e in cc
-    by false z rest = rw (plain_clear s c z, hindrance) (rest (sym (later_asks c cs z) ∙ e))
+    by false z rest = meets_next (λ c. solve_constraint s c) c cs (plain_clear s c z) (Ok tt) (rest (sym (later_asks c cs z) ∙ e))
 
 -- ---- the list, by the places of its constraints
 

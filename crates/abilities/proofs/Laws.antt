@@ -12,34 +12,34 @@ use lib.ListN.{length, get_or, drop, drop_of_length-le, get_or-eq_default}
 use lib.Seq.{drop-cons}
 use Rattle.std.specs.List.{list_any, find, range_with_len}
 use Rattle.std.specs.Option.{MatchOption}
+use Rattle.std.proofs.lemmas.List.{get_or_default}
 use Rattle.definition.specs.Types as d
 use Rattle.std.specs.Prelude.{if◌then◌else◌}
 use Rattle.definition.specs.Types.{Struct}
 use Rattle.definition.specs.Store.{args_at, with_structs, any_of}
 use Rattle.definition.specs.Instantiate.{struct_tparams}
 use Rattle.definition.specs.Abilities.{has, select, those, from_abilities, requires, declared_abilities, counts, first_lacking, is_none, lacking, granted, infer_abilities, declaration, by_argument, rule}
-use Rattle.definition.specs.Constraints.{is_contradicted}
 use Rattle.names.specs.Names.{name_of}
 use Rattle.table.specs.Rows.{struct_table}
 use Rattle.table.specs.State.{seen, FoundIn}
 use Rattle.table.specs.Did.{held}
 use Rattle.table.specs.declared.state.State.{State}
-use Rattle.shapes.specs.Applied.{args_of}
-use Rattle.shapes.specs.declared.Applied.{Applied}
+use Rattle.table.specs.State.{args_of}
+use Rattle.table.specs.declared.Applied.{Applied}
 use Rattle.abilities.specs.Kept.{Knows, ArgsReady}
-use Rattle.abilities.specs.Rules.{lacks_at}
+use Rattle.abilities.specs.Rules.{lacks_at, is_contradicted}
 
 -- ---- which arguments count
 
 module _ (s : State) (params : List (List ℕ)) (ds : List Struct) (k : Knows s params ds) (n i : ℕ) where
-  -- past the parameters nothing is a phantom
-  pub counts_past : length (get_or ds n struct_table.blank).params ≤ i → true ≡ counts (held s ds) (d.ModuleType n) i
+  -- past the parameters nothing counts
+  pub counts_past : length (get_or ds n struct_table.blank).params ≤ i → false ≡ counts (held s ds) (d.ModuleType n) i
   unfolding counts struct_tparams seen with_structs
-  counts_past h = sym (ap (λ (x : ℕ). ltb x 16) (get_or-eq_default (get_or ds n struct_table.blank).params 0 h))
+  counts_past h = sym (ap (λ (x : ℕ). ltb x 16) (get_or-eq_default (get_or ds n struct_table.blank).params 16 h))
 
   pub counts_byte : i < length (get_or ds n struct_table.blank).params → ltb (get_or (get_or params n []) i 0) 16 ≡ counts (held s ds) (d.ModuleType n) i
   unfolding counts struct_tparams seen with_structs
-  counts_byte h = ap (λ (x : ℕ). ltb x 16) (k.bytes n i h)
+  counts_byte h = ap (λ (x : ℕ). ltb x 16) (k.bytes n i h ∙ get_or_default (get_or ds n struct_table.blank).params i 0 16 h)
 
 -- ---- the first that lacks
 

@@ -23,8 +23,8 @@ use Rattle.table.specs.Did.{held}
 use Rattle.table.specs.declared.state.State.{State}
 use Rattle.table.specs.declared.Shape.{Shape}
 use Rattle.table.specs.contracts.Shape.{the_type}
-use Rattle.shapes.specs.Applied.{as_shape}
-use Rattle.shapes.specs.declared.Applied.{Applied}
+use Rattle.table.specs.declared.Shape.TheVariants.{Apply}
+use Rattle.table.specs.declared.Applied.{Applied}
 use Rattle.shapes.proofs.Tags.{other_shapes}
 use Rattle.ends.specs.Itself.{Goes_on}
 use Rattle.table.proofs.Pushed.{count_seen}
@@ -78,7 +78,7 @@ kept_ready s params sets t sh g k h = record {
 }
 
 -- .. of a name: its arguments
-pub ready_args : (s : State) (params : List (List ℕ)) (sets : List ℕ) (sh : Shape) (a : Applied) → Ready s params sets (parts_of sh) (part_count sh) → sh ≡ as_shape a → ArgsReady s params sets a
+pub ready_args : (s : State) (params : List (List ℕ)) (sets : List ℕ) (sh : Shape) (a : Applied) → Ready s params sets (parts_of sh) (part_count sh) → sh ≡ Apply a → ArgsReady s params sets a
 unfolding parts with_args places
 ready_args s params sets sh a r e = subst (λ (x : Shape). Ready s params sets (parts_of x) (part_count x)) e r
 

@@ -11,8 +11,8 @@ use Rattle.table.specs.Known.{Known}
 use Rattle.table.specs.declared.Shape.{Shape}
 use Rattle.table.specs.declared.state.State.{State}
 use Rattle.shapes.specs.Parts as shapes
-use Rattle.shapes.specs.Applied.{args_of}
-use Rattle.shapes.specs.declared.Applied.{Applied}
+use Rattle.table.specs.State.{args_of}
+use Rattle.table.specs.declared.Applied.{Applied}
 
 abbrev pub parts_of : Shape → d.State → List ℕ
 parts_of sh s = parts (with_args s (shape_of sh))

@@ -1,22 +1,22 @@
--- Rules, what is missing, and 9 and 16, as the definition has them. Assumes nothing: these are definitions.
+-- Rules, what is missing, and what a constraint is refused with, as the definition has them. Assumes nothing: these are definitions.
 use Rattle.std.specs.Prelude.{◌≡◌, Bool, true, false, not, ◌&&◌, ◌||◌, List, [], ◌∷◌, ℕ, ◌<◌, length, get_or}
-use Rattle.std.specs.Prelude.{Option, None, Some, Result, Ok, Err, OnOk}
+use Rattle.std.specs.Prelude.{Result, Ok, Err, OnOk}
 use Rattle.definition.specs.Types as t
-use Rattle.definition.specs.Types.{Struct, Refusal, runs_into_itself, mark_contradicted}
+use Rattle.definition.specs.Types.{Struct, ok, err, refused}
 use Rattle.definition.specs.Store.{count, args_at, spanned}
 use Rattle.definition.specs.Subst.{unfold_type}
 use Rattle.definition.specs.Abilities as d
 use Rattle.definition.specs.Abilities.{has, counts, infer_abilities, rule}
-use Rattle.definition.specs.Constraints.{is_contradicted}
+use Rattle.definition.specs.Write.{Bytes}
 use Rattle.names.specs.Names.{name_of}
+use Rattle.refusals.specs.Refusals.{refusal_of}
+use Rattle.refusals.specs.declared.Refusal.{Refusal}
 use Rattle.table.specs.Rows.{constraint_table}
 use Rattle.table.specs.Did.{held}
 use Rattle.table.specs.declared.state.State.{State}
-use Rattle.shapes.specs.Applied.{args_of}
-use Rattle.shapes.specs.declared.Applied.{Applied}
+use Rattle.table.specs.State.{args_of}
+use Rattle.table.specs.declared.Applied.{Applied}
 use Rattle.abilities.specs.Kept.{Knows, HasSet, Kept}
-use Rattle.abilities.specs.declared.Hindrance.{Hindrance}
-use Rattle.abilities.specs.declared.Hindrance.TheVariants.{RunsIntoItself, MarkContradicted}
 use Rattle.abilities.specs.declared.Rule.{Rule}
 use Rattle.abilities.specs.declared.Rule.TheVariants.{Declaration, Argument, Contradicted}
 
@@ -40,6 +40,9 @@ misses s ty asked ability = has asked ability && not (has (infer_abilities s ty)
 
 unfoldable pub any_misses : t.State → ℕ → ℕ → Bool
 any_misses s ty asked = misses s ty asked 1 || (misses s ty asked 2 || (misses s ty asked 4 || misses s ty asked 8))
+
+unfoldable pub is_contradicted : d.Rule → Bool
+is_contradicted r = elim r [ d.declaration ↦ false | d.argument place ↦ false | d.contradicted ↦ true ]
 
 -- neither the declaration nor an argument takes the ability away
 abbrev pub clashes : t.State → ℕ → ℕ → Bool
@@ -85,19 +88,24 @@ unfoldable pub any_asks : List t.Constraint → Bool
 any_asks [] = false
 any_asks (c ∷ cs) = elim (asks_abilities c) [ true ↦ true | false ↦ any_asks cs ]
 
--- ---- 9 and 16
+-- ---- what is refused, and what bytes are given otherwise
 
-abbrev pub refusal_of : Hindrance → Refusal
-refusal_of RunsIntoItself = runs_into_itself
-refusal_of MarkContradicted = mark_contradicted
+unfoldable pub bytes_of : t.Result Bytes → Bytes
+bytes_of (ok bytes) = bytes
+bytes_of (err s e) = []
+bytes_of (refused x) = []
 
-abbrev pub hindrance_of : Result (Unit {0}) Hindrance → Option Refusal
-hindrance_of (Ok x) = None
-hindrance_of (Err h) = Some (refusal_of h)
+-- nothing is refused
+abbrev pub Given : t.Result Bytes → Type 0
+Given m = m ≡ ok (bytes_of m)
 
--- the answer is what `o` says, and what was kept is; where nothing hinders, what `whole` says of the table is so
-pub record Hindered (s : State) (params : List (List ℕ)) (sets sets' : List ℕ) (r : Result (Unit {0}) Hindrance) (o : t.State → Option Refusal) (whole : List ℕ → Type 0) : Type 0 where
+abbrev pub Meets : Result (Unit {0}) Refusal → t.Result Bytes → Type 0
+Meets (Ok x) m = Given m
+Meets (Err x) m = m ≡ refused (refusal_of x)
+
+-- the answer meets what `o` comes to, and what was kept is; where nothing is refused, what `whole` says of the table is so
+pub record Checked (s : State) (params : List (List ℕ)) (sets sets' : List ℕ) (r : Result (Unit {0}) Refusal) (o : t.State → t.Result Bytes) (whole : List ℕ → Type 0) : Type 0 where
   pub kept : Kept s params sets'
   pub still : (x : ℕ) → HasSet sets x → HasSet sets' x
-  pub is : (ds : List Struct) → Knows s params ds → o (held s ds) ≡ hindrance_of r
+  pub is : (ds : List Struct) → Knows s params ds → Meets r (o (held s ds))
   pub all : OnOk r (whole sets')

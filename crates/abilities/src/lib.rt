@@ -6,20 +6,20 @@ ghost use Rattle.std.specs.Prelude.{◌≡◌, true, ◌&&◌, not, List, ℕ, �
 ghost use Rattle.definition.specs.Types as d;
 ghost use Rattle.definition.specs.Store.{args_at, with_args, any_of};
 ghost use Rattle.definition.specs.Abilities.{has, declared_abilities, counts, lacking, granted, those, from_abilities, infer_value, infer_abilities, by_argument, rule};
-ghost use Rattle.definition.specs.Constraints.{missing, is_contradicted, ability_hindrance, constraint_hindrance, hindrance};
+ghost use Rattle.definition.specs.Constraints.{missing, solve_ability_constraint, solve_constraint, failures};
 ghost use Rattle.names.specs.Names.{name_of};
 ghost use Rattle.table.specs.State.{shape_of, constraint_of, Declares, FoundIn};
 ghost use Rattle.table.specs.Did.{held, tables};
-ghost use Rattle.shapes.specs.Applied.{args_of};
+ghost use Rattle.table.specs.State.{args_of};
 ghost use Rattle.ends.specs.Itself.{Goes_on, Measured};
 ghost use Rattle.abilities.specs.Kept.{Knows, HasSet, Kept, PartsKept, Ready, ArgsReady, parts_of, part_count, Inferred, Ends};
-ghost use Rattle.abilities.specs.Rules.{rule_of, RuleIn, lacks_at, misses, any_misses, clashes, AskedIn, AskedKept, AllAsked, AllKept, Hindered, asks_abilities, any_asks};
+ghost use Rattle.abilities.specs.Rules.{rule_of, RuleIn, lacks_at, misses, any_misses, is_contradicted, clashes, AskedIn, AskedKept, AllAsked, AllKept, Checked, asks_abilities, any_asks};
 
 use ends::Chains;
 use names::{AbilityMark, AbilitySet, COPY, DROP, KEY, PHANTOM, STORE, TypeName};
-use shapes::Applied;
+use refusals::Refusal;
 use table::state::State;
-use table::{Constraint, Shape};
+use table::{Applied, Constraint, Shape};
 
 pub const ABILITIES: [u8; 4] = [COPY, DROP, STORE, KEY];
 
@@ -29,13 +29,6 @@ pub enum Rule {
     Declaration,
     Argument(u32),
     Contradicted,
-}
-
-// 9 and 16: a type runs into itself; nothing but a mark takes a missing ability away.
-#[derive(Clone, Copy)]
-pub enum Hindrance {
-    RunsIntoItself,
-    MarkContradicted,
 }
 
 // What Constraint::Ability holds, to pass it on whole.
@@ -71,13 +64,13 @@ fn declared_abilities(st: &State<'_>, n: TypeName) -> AbilitySet
     }
 }
 
-// Parameter i of struct s is no phantom. A struct without such a parameter has no phantom there.
+// Struct s has a parameter i, and it is no phantom.
 fn struct_counts(st: &State<'_>, params: &[[u8; 8]; 256], s: u32, i: u32) -> bool
     requires { i < 8 }
     ensures { (ds : List d.Struct) → Knows st.now params.now ds → result ≡ counts (held st.now ds) (d.ModuleType s) i }
 {
     let at = table::wide(s);
-    st.struct_at(s).params <= i || (256 <= at || params[at][table::wide(i)] < PHANTOM)
+    i < st.struct_at(s).params && (256 <= at || params[at][table::wide(i)] < PHANTOM)
 }
 
 #[tactic(auto, unfolding(definition::specs::Abilities::counts))]
@@ -150,7 +143,7 @@ fn apply_rule(
     by_argument(lacking(st, params, a, needed, sets))
 }
 
-#[tactic(auto, unfolding(definition::specs::Constraints::is_contradicted))]
+#[tactic(auto, unfolding(crate::specs::Rules::is_contradicted))]
 fn is_contradicted(r: Rule) -> bool
     ensures { result ≡ is_contradicted (rule_of r) }
 {
@@ -201,8 +194,8 @@ fn set_of(st: &State<'_>, params: &[[u8; 8]; 256], s: Shape, sets: &[u32]) -> Ab
         Shape::Unit => AbilitySet::COLLECTION,
         Shape::Ref(_, _) => AbilitySet::REFERENCES,
         Shape::Param(_, a) => a,
-        Shape::Apply(k, n, first, many) => match k {
-            None => granted_set(st, params, Applied { k, n, first, many }, sets),
+        Shape::Apply(t) => match t.k {
+            None => granted_set(st, params, t, sets),
             Some(a) => a,
         },
         Shape::Var(_) | Shape::Anything | Shape::UnresolvedError => AbilitySet::ALL,
@@ -253,9 +246,7 @@ pub fn shape_rule(
     ensures { RuleIn result × ((ds : List d.Struct) → Knows st.now params.now ds → rule_of result ≡ rule (held st.now ds) ability (with_args (held st.now ds) (shape_of s))) }
 {
     match s {
-        Shape::Apply(k, n, first, many) => {
-            apply_rule(st, params, Applied { k, n, first, many }, ability, sets)
-        }
+        Shape::Apply(a) => apply_rule(st, params, a, ability, sets),
         _ => Rule::Declaration,
     }
 }
@@ -326,78 +317,78 @@ fn any_contradicts(chains: &Chains<'_, '_>, params: &[[u8; 8]; 256], a: Asked, s
         && shape_contradicts(chains.st, params, a, chains.goes_on(a.ty), sets)
 }
 
-// ---- 9 and 16
+// ---- 9 and 16: a type runs into itself; nothing but a mark takes a missing ability away
 
-// If nothing hinders, the set of the type is kept.
-fn ability_hinders(
+// If neither is met, the set of the type is kept.
+fn check_ability_constraint(
     chains: &Chains<'_, '_>,
     params: &[[u8; 8]; 256],
     a: Asked,
     heights: &mut [u16],
     sets: &mut [u32],
-) -> Result<(), Hindrance>
+) -> Result<(), Refusal>
     requires { (a.ty < chains.now.st.now.used.nodes) × (Measured chains.now.st.now heights.old × Kept chains.now.st.now params.now sets.old) }
-    ensures { Measured chains.now.st.now heights.new × Hindered chains.now.st.now params.now sets.old sets.new result (λ s. ability_hindrance s a.ty a.set.0) (λ l. HasSet l a.ty) }
+    ensures { Measured chains.now.st.now heights.new × Checked chains.now.st.now params.now sets.old sets.new result (λ s. solve_ability_constraint s a.loc a.ty a.set.0) (λ l. HasSet l a.ty) }
 {
     let Some(n) = chains.levels(a.ty, chains.st.used.nodes, heights) else {
-        return Err(Hindrance::RunsIntoItself);
+        return Err(Refusal::RunsIntoItself);
     };
     infer(chains, params, a.ty, n, sets);
     if any_contradicts(chains, params, a, sets) {
-        return Err(Hindrance::MarkContradicted);
+        return Err(Refusal::MarkContradicted);
     }
     Ok(())
 }
 
-fn hinder(
+fn check_constraint(
     chains: &Chains<'_, '_>,
     params: &[[u8; 8]; 256],
     c: Constraint,
     heights: &mut [u16],
     sets: &mut [u32],
-) -> Result<(), Hindrance>
+) -> Result<(), Refusal>
     requires { AskedIn chains.now.st.now.used.nodes (constraint_of c) × (Measured chains.now.st.now heights.old × Kept chains.now.st.now params.now sets.old) }
-    ensures { Measured chains.now.st.now heights.new × Hindered chains.now.st.now params.now sets.old sets.new result (λ s. constraint_hindrance s (constraint_of c)) (λ l. AskedKept l (constraint_of c)) }
+    ensures { Measured chains.now.st.now heights.new × Checked chains.now.st.now params.now sets.old sets.new result (λ s. solve_constraint s (constraint_of c)) (λ l. AskedKept l (constraint_of c)) }
 {
     match c {
         Constraint::Ability(loc, ty, set) => {
-            ability_hinders(chains, params, Asked { loc, ty, set }, heights, sets)
+            check_ability_constraint(chains, params, Asked { loc, ty, set }, heights, sets)
         }
         _ => Ok(()),
     }
 }
 
-// The first hindrance in list order. If there is none, the set of each type that is asked for abilities is kept.
-fn first_hindrance(
+// The first refusal in list order is that of all. If there is none, the set of each type that is asked for abilities is kept.
+fn check_in_turn(
     chains: &Chains<'_, '_>,
     params: &[[u8; 8]; 256],
     heights: &mut [u16],
     sets: &mut [u32],
-) -> Result<(), Hindrance>
+) -> Result<(), Refusal>
     requires { AllAsked (tables chains.now.st.now) × (Measured chains.now.st.now heights.old × Kept chains.now.st.now params.now sets.old) }
-    ensures { Hindered chains.now.st.now params.now sets.old sets.new result (λ s. hindrance s s.constraints) (λ l. AllKept l (tables chains.now.st.now).constraints) }
+    ensures { Checked chains.now.st.now params.now sets.old sets.new result failures (λ l. AllKept l (tables chains.now.st.now).constraints) }
 {
     for i in 0..chains.st.used.constraints {
         let c = chains.st.constraint_at(i);
-        hinder(chains, params, c, heights, sets)?;
+        check_constraint(chains, params, c, heights, sets)?;
     }
     Ok(())
 }
 
 // .. The ends of all chains are noted first.
-pub fn hinders(
+pub fn check_constraints(
     st: &State<'_>,
     params: &[[u8; 8]; 256],
     heights: &mut [u16],
     sets: &mut [u32],
-) -> Result<(), Hindrance>
+) -> Result<(), Refusal>
     requires { AllAsked (tables st.now) × (Measured st.now heights.old × Kept st.now params.now sets.old) }
-    ensures { Hindered st.now params.now sets.old sets.new result (λ s. hindrance s s.constraints) (λ l. AllKept l (tables st.now).constraints) }
+    ensures { Checked st.now params.now sets.old sets.new result failures (λ l. AllKept l (tables st.now).constraints) }
 {
     let mut ends: [u32; 1024] = [0; 1024];
     ends::note_ends(st, &mut ends);
     let chains = Chains { st, ends: &ends };
-    first_hindrance(&chains, params, heights, sets)
+    check_in_turn(&chains, params, heights, sets)
 }
 
 // ---- whether any of this is asked

@@ -8,11 +8,12 @@ use Rattle.std.specs.Prelude.{if◌then◌else◌, Ok, Err}
 use Rattle.definition.specs.Types.{State, Struct, ◌>>=◌, TypingError, answer_too_long}
 use Rattle.definition.specs.Write.{write_error}
 use Rattle.definition.specs.Step.{answer, answer_with, put_back, number_of_error}
-use Rattle.table.specs.State.{outcome, error_of, refusal_of, seen, Lay}
+use Rattle.refusals.specs.Refusals.{refusal_of}
+use Rattle.table.specs.State.{outcome, error_of, seen, Lay}
 use Rattle.table.specs.declared.Used.{Used}
 use Rattle.table.specs.declared.state.Stop.TheVariants.{Failed, Refused}
 use Rattle.table.specs.declared.TypingError as table
-use Rattle.table.specs.declared.Refusal.{Refusal}
+use Rattle.refusals.specs.declared.Refusal.{Refusal}
 use Rattle.snapshot.specs.Snap.{PutBack, Undone}
 use Rattle.writer.specs.Bytes.{Wrote}
 use Rattle.payload.specs.Payload.{shown}

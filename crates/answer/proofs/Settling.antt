@@ -71,7 +71,7 @@ answers_is w u before saved buf w' buf' r f g e a =
 
 module _ (w : List ℕ) (u before : Used) (saved : List ℕ) where
   -- a refusal
-  pub refuses : (w' buf : List ℕ) (number : ℕ) → Undone w u w' before saved → (x : Refusal) → number_of_refusal x ≡ number
+  pub refuses : (w' buf : List ℕ) (number : ℕ) → Undone w u w' before saved → (x : Refusal) → number ≡ number_of_refusal x
       → Answers w u before saved buf w' buf (record { number = number; len = 0; used = before; kept = false }) (refused_by x)
   unfolding refusal
   refuses w' buf number h x e =
@@ -82,7 +82,7 @@ module _ (w : List ℕ) (u before : Used) (saved : List ℕ) where
             let back = h w₀ s in
             record {
               lay = back.0;
-              is = λ ds₀ ds. rw (e, seen_same w₀ w' before ds₀ back.1);
+              is = λ ds₀ ds. rw (← e, seen_same w₀ w' before ds₀ back.1);
               declares = λ ds₀ ds p q. declares_same w₀ w' before ds₀ (ap (λ (s : State). s.structs) back.1) p;
             };
       }
@@ -158,7 +158,7 @@ answers_in w₀ b s t buf buf' r f g same used a =
     }
 
 -- .. that went back
-pub refused_in : (w₀ : List ℕ) (b : Before) (s t : Held) (buf : List ℕ) (number : ℕ) → WentBack w₀ b s t → (x : Refusal) → number_of_refusal x ≡ number
+pub refused_in : (w₀ : List ℕ) (b : Before) (s t : Held) (buf : List ℕ) (number : ℕ) → WentBack w₀ b s t → (x : Refusal) → number ≡ number_of_refusal x
     → AnswersIn w₀ b s t buf buf (record { number = number; len = 0; used = t.used; kept = false }) (refused_by x)
 unfolding refusal
 refused_in w₀ b s t buf number a x e =
@@ -167,6 +167,6 @@ refused_in w₀ b s t buf number a x e =
       used = refl;
       few = omega arith;
       rest = refl;
-      is = λ ds₀ ds. let q : held t ds₀ ≡ seen w₀ b.used ds₀ = rw a.used (seen_same w₀ t.words.now b.used ds₀ a.is) in rw (e, q);
+      is = λ ds₀ ds. let q : held t ds₀ ≡ seen w₀ b.used ds₀ = rw a.used (seen_same w₀ t.words.now b.used ds₀ a.is) in rw (← e, q);
       declares = λ ds₀ ds p q. rw a.used (declares_same w₀ t.words.now b.used ds₀ (ap (λ (s : State). s.structs) a.is) p);
     }

@@ -6,7 +6,7 @@ use Rattle.definition.specs.Types.{State, Struct, Result, ok, err, ◌>>=◌}
 use Rattle.definition.specs.Write.{Bytes}
 use Rattle.definition.specs.Step as step
 use Rattle.definition.specs.Step.{answer, refusal}
-use Rattle.table.specs.State.{outcome, refusal_of, seen, Lay, Declares}
+use Rattle.table.specs.State.{outcome, seen, Lay, Declares}
 use Rattle.table.specs.Did.{StopIn}
 use Rattle.table.specs.declared.Used.{Used}
 use Rattle.table.specs.declared.state.Stop.{Stop}
@@ -16,8 +16,6 @@ use Rattle.payload.specs.declared.Answer.{Answer}
 use Rattle.payload.specs.declared.Show.{Show}
 use Rattle.payload.specs.Payload.{shown, Shows}
 use Rattle.answer.specs.declared.Ran.{Ran}
-use Rattle.answer.specs.declared.Reason.{Reason}
-use Rattle.answer.specs.declared.Reason.TheVariants.{Step, TooLong, MarkContradicted}
 
 -- ---- what a run left
 
@@ -51,11 +49,6 @@ failure e after before = answer before (err after e)
 
 abbrev pub refused_by : d.Refusal → State → State → step.Answer
 refused_by x after before = refusal before x
-
-abbrev pub refusal_for : Reason → d.Refusal
-refusal_for (Step x) = refusal_of x
-refusal_for TooLong = d.answer_too_long
-refusal_for MarkContradicted = d.mark_contradicted
 
 -- ---- what an answer asks
 

@@ -4,22 +4,23 @@
 ghost use Rattle.std.specs.Prelude.{◌≡◌, false, List, ℕ, ◌≤◌, length, Ok};
 ghost use Rattle.definition.specs.Types as d;
 ghost use Rattle.definition.specs.Write.{write_error};
-ghost use Rattle.definition.specs.Step.{number_of_error, number_of_refusal};
+ghost use Rattle.definition.specs.Step.{number_of_error};
+ghost use Rattle.refusals.specs.Refusals.{refusal_of};
 ghost use Rattle.table.specs.State.{error_of, view, seen, Lay, TypesIn};
 ghost use Rattle.table.specs.Did.{tables};
-ghost use Rattle.answer.specs.declared.Reason.TheVariants.{Step};
 ghost use Rattle.snapshot.specs.Snap.{Above};
 ghost use Rattle.snapshot.specs.Back.{GrownFrom};
 ghost use Rattle.writer.specs.Bytes.{AllBytes};
 ghost use Rattle.payload.specs.Payload.{shown, Shows, Paid};
-ghost use Rattle.answer.specs.Ran.{refusal_for, Tells, Settles, Still, answered, success, failure, refused_by, Answers};
+ghost use Rattle.answer.specs.Ran.{Tells, Settles, Still, answered, success, failure, refused_by, Answers};
 ghost use Rattle.answer.specs.Answered.{AnswersIn};
 
 use payload::{Answer, Show, as_before, as_left, write_payload};
+use refusals::Refusal;
 use snapshot::before::Before;
 use snapshot::{give_back, go_back, put_vars, undo};
 use table::state::{State, Stop};
-use table::{Refusal, TypingError, Used};
+use table::{TypingError, Used};
 
 // What a run left, and what its answer shows. The number is in the result, as the step answered it, and not in `show`, which is known before the run.
 #[derive(Clone, Copy)]
@@ -29,41 +30,6 @@ pub struct Ran {
     // Whether a success leaves the state as it is, or as it was at entry: a record that only asks for a type takes nodes to show it.
     // A flag, as payload's Answer has it: result and payload are said either way.
     pub kept: bool,
-}
-
-// A refusal: one that a step met, or one of the answer's own.
-#[derive(Clone, Copy)]
-pub enum Reason {
-    Step(Refusal),
-    TooLong,
-    MarkContradicted,
-}
-
-#[tactic(auto, unfolding(definition::specs::Step::number_of_refusal))]
-fn number_of_refusal(x: Refusal) -> u32
-    ensures { result ≡ number_of_refusal (refusal_for (Step x)) }
-{
-    match x {
-        Refusal::Full => 7,
-        Refusal::TooDeep => 8,
-        Refusal::RunsIntoItself => 9,
-        Refusal::AbilitiesDisagree => 10,
-        Refusal::OpenVariable => 11,
-        Refusal::NoArgument => 12,
-        Refusal::ParameterTwice => 13,
-    }
-}
-
-// The number of a refusal.
-#[tactic(auto, unfolding(definition::specs::Step::number_of_refusal))]
-pub fn number_of(x: Reason) -> u32
-    ensures { result ≡ number_of_refusal (refusal_for x) }
-{
-    match x {
-        Reason::Step(x) => number_of_refusal(x),
-        Reason::TooLong => 14,
-        Reason::MarkContradicted => 16,
-    }
 }
 
 // ---- the answers, by words and counts: whether the words are a state after them hangs on what was saved
@@ -77,13 +43,13 @@ fn pay(w: &mut [u32], u: Used, show: Show, t: u32, buf: &mut [u8]) -> Option<usi
     write_payload(&st, show, t, buf)
 }
 
-// A refusal: nothing is changed. By its number, since those of a reader come so.
-pub fn refuse(w: &mut [u32], u: Used, before: Before<'_>, number: u32) -> Answer
+// A refusal: nothing is changed.
+pub fn refuse(w: &mut [u32], u: Used, before: Before<'_>, x: Refusal) -> Answer
     requires { Lay w.old u × Above before.used u }
-    ensures { (x : d.Refusal) (buf : List ℕ) → number_of_refusal x ≡ number → Answers w.old u before.entry.used before.entry.saved.now buf w.new buf result (refused_by x) }
+    ensures { (buf : List ℕ) → Answers w.old u before.entry.used before.entry.saved.now buf w.new buf result (refused_by (refusal_of x)) }
 {
     undo(w, u, before);
-    as_before(before.used, number, 0)
+    as_before(before.used, x.number(), 0)
 }
 
 // A success with the number t. Where its state is not kept, no variable was bound or marked: what was taken is given back. `kept` is the run's.
@@ -102,7 +68,7 @@ fn succeed(
     ensures { Answers w.old u before.entry.used before.entry.saved.now buf.old w.new buf.new result (success kept show t) }
 {
     let Some(len) = pay(w, u, show, t, buf) else {
-        return refuse(w, u, before, number_of(Reason::TooLong));
+        return refuse(w, u, before, Refusal::AnswerTooLong);
     };
     if kept {
         return as_left(u, 0, len);
@@ -125,7 +91,7 @@ fn fail_with(
     ensures { (e : d.TypingError) → number_of_error e ≡ number → ((s : d.State) → write_error s e ≡ shown show 0 s) → Answers w.old u before.entry.used before.entry.saved.now buf.old w.new buf.new result (failure e) }
 {
     let Some(len) = pay(w, u, show, 0, buf) else {
-        return refuse(w, u, before, number_of(Reason::TooLong));
+        return refuse(w, u, before, Refusal::AnswerTooLong);
     };
     put_vars(w, u, before);
     as_left(u, number, len)
@@ -146,6 +112,7 @@ fn fail(w: &mut [u32], u: Used, before: Before<'_>, e: TypingError, buf: &mut [u
 }
 
 // The answer to what a run left.
+// Refused (must-fail/): no space, whatever the refusal (refused_is_full).
 pub fn answer_of(w: &mut [u32], u: Used, before: Before<'_>, ran: Ran, buf: &mut [u8]) -> Answer
     requires lay { Lay w.old u × Above before.used u }
     requires tells { Tells u ran.show ran.result × ((Settles ran.result → AllBytes (view w.old u)) × (4096 ≤ length buf.old)) }
@@ -155,13 +122,13 @@ pub fn answer_of(w: &mut [u32], u: Used, before: Before<'_>, ran: Ran, buf: &mut
     match ran.result {
         Ok(t) => succeed(w, u, before, ran.kept, ran.show, t, buf),
         Err(Stop::Failed(e)) => fail(w, u, before, e, buf),
-        Err(Stop::Refused(x)) => refuse(w, u, before, number_of(Reason::Step(x))),
+        Err(Stop::Refused(x)) => refuse(w, u, before, x),
     }
 }
 
 // ---- the same of a state that has grown from the words w0, of which `before` was saved
 
-// Refused (must-fail/): the counts at entry after an answer whose state is kept (settled_counts_of_before).
+// Refused: the counts at entry after an answer whose state is kept (settled_counts_of_before).
 pub fn settle(st: &mut State<'_>, before: Before<'_>, ran: Ran, buf: &mut [u8]) -> Answer
     ghost w0: { List ℕ }
     requires grown { GrownFrom w0 before st.old }
@@ -176,11 +143,11 @@ pub fn settle(st: &mut State<'_>, before: Before<'_>, ran: Ran, buf: &mut [u8]) 
 }
 
 // Refused: nodes that stay in use (refused_nodes_stay).
-pub fn settle_refusal(st: &mut State<'_>, before: Before<'_>, number: u32) -> Answer
+pub fn settle_refusal(st: &mut State<'_>, before: Before<'_>, x: Refusal) -> Answer
     ghost w0: { List ℕ }
     requires { GrownFrom w0 before st.old }
-    ensures { (x : d.Refusal) (buf : List ℕ) → number_of_refusal x ≡ number → AnswersIn w0 before.entry st.old st.new buf buf result (refused_by x) }
+    ensures { (buf : List ℕ) → AnswersIn w0 before.entry st.old st.new buf buf result (refused_by (refusal_of x)) }
 {
     go_back(st, before);
-    as_before(st.used, number, 0)
+    as_before(st.used, x.number(), 0)
 }

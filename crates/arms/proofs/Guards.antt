@@ -23,8 +23,7 @@ use Rattle.table.specs.State.{shape_of}
 use Rattle.table.specs.declared.Shape.{Shape}
 use Rattle.table.specs.declared.Shape.TheVariants.{Unit as UnitS, Ref, Param, Apply, Var, Anything, UnresolvedError}
 use Rattle.table.specs.contracts.Shape.{the_type}
-use Rattle.shapes.specs.Applied.{as_shape}
-use Rattle.shapes.specs.declared.Applied.{Applied}
+use Rattle.table.specs.declared.Applied.{Applied}
 use Rattle.shapes.proofs.Tags.{other_shapes}
 use Rattle.arms.specs.Arms.{by_arm, ArmBelow, Takes, other_arm, Unlike}
 use Rattle.arms.specs.declared.Arm.{Arm}
@@ -91,11 +90,11 @@ module _ (a1 a2 : Applied) (case : j.TypingCase) where
     names : same_name (name_of a1.n) (name_of a2.n) ≡ true
     names = sym (names_same a1.n a2.n) ∙ p
 
-    pub applies_same : option_eq set_eq.it a1.k a2.k ≡ true → Takes case (as_shape a1) (as_shape a2) (Applies a1 a2)
+    pub applies_same : option_eq set_eq.it a1.k a2.k ≡ true → Takes case (Apply a1) (Apply a2) (Applies a1 a2)
     unfolding arm join_arm by_arm with_args join_applies
     applies_same q = let r = sym (marks_same a1.k a2.k) ∙ q in record { is = λ J s l r'. rw (names, r, and_false); below = λ args n a b. (a, b) }
 
-    pub applies_disagree : option_eq set_eq.it a1.k a2.k ≡ false → Takes case (as_shape a1) (as_shape a2) Disagree
+    pub applies_disagree : option_eq set_eq.it a1.k a2.k ≡ false → Takes case (Apply a1) (Apply a2) Disagree
     unfolding arm join_arm by_arm with_args join_applies
     applies_disagree q = let r = sym (marks_same a1.k a2.k) ∙ q in record { is = λ J s l r'. rw (names, r, and_false); below = λ args n a b. tt }
 
@@ -103,18 +102,18 @@ module _ (a1 a2 : Applied) (case : j.TypingCase) where
     names_not : same_name (name_of a1.n) (name_of a2.n) ≡ false
     names_not = sym (names_same a1.n a2.n) ∙ p
 
-    pub applies_arity : (x1 x2 : ℕ) → a1.n ≡ Multiple x1 → a2.n ≡ Multiple x2 → Takes case (as_shape a1) (as_shape a2) ArityMismatch
+    pub applies_arity : (x1 x2 : ℕ) → a1.n ≡ Multiple x1 → a2.n ≡ Multiple x2 → Takes case (Apply a1) (Apply a2) ArityMismatch
     unfolding arm join_arm by_arm with_args join_applies is_multiple
     applies_arity x1 x2 e1 e2 =
         let m1 : is_multiple (name_of a1.n) ≡ true = rw e1 refl in
         let m2 : is_multiple (name_of a2.n) ≡ true = rw e2 refl in
         record { is = λ J s l r. rw (names_not, m1, m2); below = λ args n a b. tt }
 
-    pub applies_other_left : ((x : ℕ) → a1.n ≡ Multiple x → ⊥) → Takes case (as_shape a1) (as_shape a2) Incompatible
+    pub applies_other_left : ((x : ℕ) → a1.n ≡ Multiple x → ⊥) → Takes case (Apply a1) (Apply a2) Incompatible
     unfolding arm join_arm by_arm with_args join_applies
     applies_other_left h = let m = not_multiple a1.n h in record { is = λ J s l r. rw (names_not, m); below = λ args n a b. tt }
 
-    pub applies_other_right : (x1 : ℕ) → a1.n ≡ Multiple x1 → ((x : ℕ) → a2.n ≡ Multiple x → ⊥) → Takes case (as_shape a1) (as_shape a2) Incompatible
+    pub applies_other_right : (x1 : ℕ) → a1.n ≡ Multiple x1 → ((x : ℕ) → a2.n ≡ Multiple x → ⊥) → Takes case (Apply a1) (Apply a2) Incompatible
     unfolding arm join_arm by_arm with_args join_applies is_multiple
     applies_other_right x1 e1 h =
         let m1 : is_multiple (name_of a1.n) ≡ true = rw e1 refl in
@@ -139,14 +138,14 @@ module _ (case : j.TypingCase) where
   unfolding arm join_arm by_arm with_args
   var_other id rhs k =
       by_own case (Var id) rhs (VarLhs id) (j.VarL id.0)
-      (other_shapes other_tags (λ rhs. ArmIs (Var id) rhs (j.VarL id.0)) (λ s. refl) (λ m t s. refl) (λ p c s. refl) (λ c t first many s. refl) tt tt (λ s. refl) rhs k)
+      (other_shapes other_tags (λ rhs. ArmIs (Var id) rhs (j.VarL id.0)) (λ s. refl) (λ m t s. refl) (λ p c s. refl) (λ a s. refl) tt tt (λ s. refl) rhs k)
       (λ J s l r. refl) (λ args n. tt)
 
   pub error_other : (rhs : Shape) → OneOf other_tags (tag_of the_type rhs) → Takes case UnresolvedError rhs Rhs
   unfolding arm join_arm by_arm with_args
   error_other rhs k =
       by_own case UnresolvedError rhs Rhs j.ErrorL
-      (other_shapes other_tags (λ rhs. ArmIs UnresolvedError rhs j.ErrorL) (λ s. refl) (λ m t s. refl) (λ p c s. refl) (λ c t first many s. refl) tt tt (λ s. refl) rhs k)
+      (other_shapes other_tags (λ rhs. ArmIs UnresolvedError rhs j.ErrorL) (λ s. refl) (λ m t s. refl) (λ p c s. refl) (λ a s. refl) tt tt (λ s. refl) rhs k)
       (λ J s l r. refl) (λ args n. tt)
 
 -- ---- a type that is no variable, `_` or error, beside one of another shape
@@ -156,7 +155,7 @@ unfolding with_args other_arm
 plain_arm UnitS v a e s = refl
 plain_arm (Ref m t) v a e s = refl
 plain_arm (Param p c) v a e s = refl
-plain_arm (Apply k n first many) v a e s = refl
+plain_arm (Apply t) v a e s = refl
 plain_arm (Var x) v a e s = absurd (v x refl)
 plain_arm Anything v a e s = absurd (a refl)
 plain_arm UnresolvedError v a e s = absurd (e refl)
@@ -183,7 +182,7 @@ unfolding arm with_args other_arm
 unit_unlike UnitS h s = absurd (h refl)
 unit_unlike (Ref m t) h s = refl
 unit_unlike (Param p c) h s = refl
-unit_unlike (Apply k n first many) h s = refl
+unit_unlike (Apply a) h s = refl
 unit_unlike (Var v) h s = refl
 unit_unlike Anything h s = refl
 unit_unlike UnresolvedError h s = refl
@@ -193,7 +192,7 @@ unfolding arm with_args other_arm
 ref_unlike mut1 t1 UnitS h s = refl
 ref_unlike mut1 t1 (Ref m t) h s = absurd (h m t refl)
 ref_unlike mut1 t1 (Param p c) h s = refl
-ref_unlike mut1 t1 (Apply k n first many) h s = refl
+ref_unlike mut1 t1 (Apply a) h s = refl
 ref_unlike mut1 t1 (Var v) h s = refl
 ref_unlike mut1 t1 Anything h s = refl
 ref_unlike mut1 t1 UnresolvedError h s = refl
@@ -203,17 +202,17 @@ unfolding arm with_args other_arm
 param_unlike id1 a1 UnitS h s = refl
 param_unlike id1 a1 (Ref m t) h s = refl
 param_unlike id1 a1 (Param p c) h s = absurd (h p c refl)
-param_unlike id1 a1 (Apply k n first many) h s = refl
+param_unlike id1 a1 (Apply a) h s = refl
 param_unlike id1 a1 (Var v) h s = refl
 param_unlike id1 a1 Anything h s = refl
 param_unlike id1 a1 UnresolvedError h s = refl
 
-pub apply_unlike : (k1 : Option AbilitySet) (n1 : TypeName) (first1 many1 : ℕ) (rhs : Shape) → ((k : Option AbilitySet) (n : TypeName) (first many : ℕ) → rhs ≡ Apply k n first many → ⊥) → Unlike (Apply k1 n1 first1 many1) rhs
+pub apply_unlike : (a1 : Applied) (rhs : Shape) → ((a : Applied) → rhs ≡ Apply a → ⊥) → Unlike (Apply a1) rhs
 unfolding arm with_args other_arm
-apply_unlike k1 n1 first1 many1 UnitS h s = refl
-apply_unlike k1 n1 first1 many1 (Ref m t) h s = refl
-apply_unlike k1 n1 first1 many1 (Param p c) h s = refl
-apply_unlike k1 n1 first1 many1 (Apply k n first many) h s = absurd (h k n first many refl)
-apply_unlike k1 n1 first1 many1 (Var v) h s = refl
-apply_unlike k1 n1 first1 many1 Anything h s = refl
-apply_unlike k1 n1 first1 many1 UnresolvedError h s = refl
+apply_unlike a1 UnitS h s = refl
+apply_unlike a1 (Ref m t) h s = refl
+apply_unlike a1 (Param p c) h s = refl
+apply_unlike a1 (Apply a) h s = absurd (h a refl)
+apply_unlike a1 (Var v) h s = refl
+apply_unlike a1 Anything h s = refl
+apply_unlike a1 UnresolvedError h s = refl

@@ -9,7 +9,8 @@ use Rattle.definition.specs.Join.{JoinImpl, VarL, VarR, arm, join_arm, join_tvar
 use Rattle.names.specs.Names.{mark_of, name_of}
 use Rattle.table.specs.State.{shape_of, Below}
 use Rattle.table.specs.declared.Shape.{Shape}
-use Rattle.shapes.specs.Applied.{as_shape, args_of}
+use Rattle.table.specs.State.{args_of}
+use Rattle.table.specs.declared.Shape.TheVariants.{Apply}
 use Rattle.arms.specs.declared.TypingCase.{TypingCase}
 use Rattle.arms.specs.declared.TypingCase.TheVariants.{Join, Subtype}
 use Rattle.arms.specs.declared.Arm.{Arm}
@@ -41,7 +42,7 @@ abbrev pub ArmBelow : List ℕ → ℕ → Arm → Type 0
 ArmBelow args n Lhs = Unit {0}
 ArmBelow args n Rhs = Unit {0}
 ArmBelow args n (Refs left mut t1 t2) = (t1 < n) × (t2 < n)
-ArmBelow args n (Applies a1 a2) = Below args n (shape_of (as_shape a1)) × Below args n (shape_of (as_shape a2))
+ArmBelow args n (Applies a1 a2) = Below args n (shape_of (Apply a1)) × Below args n (shape_of (Apply a2))
 ArmBelow args n (Vars id1 id2) = Unit {0}
 ArmBelow args n (VarLhs id) = Unit {0}
 ArmBelow args n (VarRhs id) = Unit {0}

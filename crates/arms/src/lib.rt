@@ -7,12 +7,11 @@ ghost use Rattle.std.specs.Prelude.{◌≡◌};
 ghost use Rattle.names.specs.Names.{mark_of, name_of};
 ghost use Rattle.table.specs.declared.Shape.{Shape};
 ghost use Rattle.table.specs.declared.Shape.TheVariants.{Unit, Ref, Param, Var, UnresolvedError};
-ghost use Rattle.shapes.specs.Applied.{as_shape};
+ghost use Rattle.table.specs.declared.Shape.TheVariants.{Apply};
 ghost use Rattle.arms.specs.Arms.{case_of, Takes, Unlike};
 
 use names::{TVar, TypeName};
-use shapes::Applied;
-use table::Shape;
+use table::{Applied, Shape};
 
 #[derive(Clone, Copy)]
 pub enum TypingCase {
@@ -79,7 +78,7 @@ fn arm_refs(case: TypingCase, mut1: bool, t1: u32, mut2: bool, t2: u32) -> Arm
 
 // Names are compared before marks.
 fn arm_applies(a1: Applied, a2: Applied) -> Arm
-    ensures { (case : d.TypingCase) → Takes case (as_shape a1) (as_shape a2) result }
+    ensures { (case : d.TypingCase) → Takes case (Apply a1) (Apply a2) result }
 {
     if a1.n == a2.n {
         if a1.k == a2.k {
@@ -121,20 +120,7 @@ pub fn arm_of(case: TypingCase, lhs: Shape, rhs: Shape) -> Arm
                 Arm::Incompatible
             }
         }
-        (Shape::Apply(k1, n1, first1, many1), Shape::Apply(k2, n2, first2, many2)) => arm_applies(
-            Applied {
-                k: k1,
-                n: n1,
-                first: first1,
-                many: many1,
-            },
-            Applied {
-                k: k2,
-                n: n2,
-                first: first2,
-                many: many2,
-            },
-        ),
+        (Shape::Apply(a1), Shape::Apply(a2)) => arm_applies(a1, a2),
         (Shape::Var(id1), Shape::Var(id2)) => {
             if id1 == id2 {
                 Arm::Rhs

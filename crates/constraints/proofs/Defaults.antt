@@ -7,6 +7,7 @@ use Rattle.definition.specs.Types.{State, Struct, Cell, unbound, Spanned, TypeVa
 use Rattle.definition.specs.Store.{node, with_args, spanned, num_loc, sp, with_structs}
 use Rattle.definition.specs.Subst.{unfold_type}
 use Rattle.definition.specs.Join.{join}
+use Rattle.definition.specs.Abilities.{primitives}
 use Rattle.definition.specs.Constraints.{undecided, u64, num_vars, default_num_var, default_num_vars}
 use Rattle.table.specs.Rows.{read_option}
 use Rattle.table.specs.State.{Any, outcome, seen, view, node_of, shape_of}
@@ -58,12 +59,12 @@ from_u64 v loc x = sp x.0 loc (d.Var v) >>= from_tvar x.1
 
 module _ (v loc : ℕ) {s t : table.State} where
   pub u64_full : {e : Stop} {r : core.Result ℕ Stop} → Did s t (Err e) (λ x. sp x loc (d.Apply (Some 7) (d.Builtin 3) [])) → r ≡ Err e → Did s t r (λ x. join_u64 x v loc)
-  unfolding join_u64 u64
+  unfolding join_u64 u64 primitives
   u64_full a q = did_err (from_u64 v loc) a q
 
   module _ {u64_ : ℕ} (a : Did s t (Ok u64_) (λ x. sp x loc (d.Apply (Some 7) (d.Builtin 3) []))) where
     u64_then : {m : table.State} {r : core.Result ℕ Stop} → Did t m r (λ x. sp x loc (d.Var v) >>= from_tvar u64_) → Did s m r (λ x. join_u64 x v loc)
-    unfolding join_u64 u64
+    unfolding join_u64 u64 primitives
     u64_then n = did_then (from_u64 v loc) a n
 
     pub tvar_full : {m : table.State} {e : Stop} {r : core.Result ℕ Stop} → Did t m (Err e) (λ x. sp x loc (d.Var v)) → r ≡ Err e → Did s m r (λ x. join_u64 x v loc)

@@ -3,11 +3,11 @@
 use Rattle.std.proofs.Common.{◌≡◌, ℕ, zero, suc, ◌<◌, Bool, true, false, not, ◌&&◌, eqb, List, [], ◌∷◌, ◌++◌, sym, refl, ap, ◌∙◌, subst, append-nil, eq-eqb, ne_eqb}
 use Rattle.definition.specs.Types as d
 use Rattle.std.specs.Prelude.{if◌then◌else◌, Option, None}
-use Rattle.definition.specs.Types.{State, Struct, Spanned, TypeValue}
+use Rattle.definition.specs.Types.{State, Struct, Spanned, TypeValue, Result, refused, runs_into_itself}
 use Rattle.definition.specs.Store.{count, node, with_args, spanned}
-use Rattle.definition.specs.Subst.{unfold_type}
-use Rattle.definition.specs.Abilities.{all, has, select, those, infer_value, infer, infer_abilities, rule}
-use Rattle.definition.specs.Constraints.{missing, by_rule, solve_ability_constraint, solve_constraint}
+use Rattle.definition.specs.Subst.{unfold_type, reaches_itself}
+use Rattle.definition.specs.Abilities.{all, has, select, those, infer_value, infer, infer_abilities, Rule as DefRule, rule}
+use Rattle.definition.specs.Constraints.{missing, by_rule, in_turn, solve_ability_constraint, solve_constraint}
 use Rattle.definition.specs.Write.{Bytes, each}
 use Rattle.names.specs.declared.AbilitySet.{AbilitySet}
 use Rattle.table.specs.declared.Constraint.{Constraint}
@@ -23,8 +23,9 @@ use Rattle.subst.specs.declared.Unfolded.{Unfolded}
 use Rattle.subst.specs.declared.Unfolded.TheVariants.{Node as NodeU, Anything as AnythingU}
 use Rattle.ends.proofs.Itself.{goes_node, unfolded_node}
 use Rattle.abilities.specs.Kept.{HasSet, Kept, Knows}
-use Rattle.abilities.specs.Rules.{rule_of, misses}
+use Rattle.abilities.specs.Rules.{rule_of, misses, bytes_of, Given}
 use Rattle.abilities.specs.declared.Rule.{Rule}
+use Rattle.abilities.proofs.Turn.{each_bytes, turn_each}
 use Rattle.failing.specs.Failing.{plain, report, ReportIn, TyIn}
 use Rattle.constraints.specs.Lacking.{lack, row, IsAbility, Lacking, AskedReady}
 use Rattle.failing.specs.declared.Failing.{Failing}
@@ -44,12 +45,12 @@ module _ (s : State) (loc ty asked ability : ℕ) where
   abbrev type : Spanned TypeValue
   type = unfold_type s (spanned s ty)
 
-  if_missing : (b : Bool) → b ≡ misses s ty asked ability → (if b then by_rule s loc ability type (rule s ability type.value) else []) ≡ lack s loc ty asked ability
+  if_missing : (b : Bool) → b ≡ misses s ty asked ability → (if b then bytes_of (by_rule s loc ability type (rule s ability type.value)) else []) ≡ lack s loc ty asked ability
   unfolding lack
-  if_missing b e = ap (λ (x : Bool). if x then by_rule s loc ability type (rule s ability type.value) else []) e
+  if_missing b e = ap (λ (x : Bool). if x then bytes_of (by_rule s loc ability type (rule s ability type.value)) else []) e
 
   pub lack_not : (b : Bool) → b ≡ misses s ty asked ability → b ≡ false → [] ≡ lack s loc ty asked ability
-  lack_not b e z = ap (λ (x : Bool). if x then by_rule s loc ability type (rule s ability type.value) else []) (sym z) ∙ if_missing b e
+  lack_not b e z = ap (λ (x : Bool). if x then bytes_of (by_rule s loc ability type (rule s ability type.value)) else []) (sym z) ∙ if_missing b e
 
   had_all : type.value ≡ d.Anything → infer_abilities s ty ≡ all
   unfolding infer_abilities
@@ -59,8 +60,8 @@ module _ (s : State) (loc ty asked ability : ℕ) where
   lack_anything e h = lack_not false (sym (and_not (has asked ability) (has (infer_abilities s ty) ability) (ap (λ (x : ℕ). has x ability) (had_all e) ∙ h))) refl
 
   -- the rule's failure, if the ability is missing
-  pub lack_ruled : (b : Bool) → b ≡ misses s ty asked ability → b ≡ true → (r : Rule) → rule_of r ≡ rule s ability type.value → by_rule s loc ability type (rule_of r) ≡ lack s loc ty asked ability
-  lack_ruled b e z r q = ap (by_rule s loc ability type) q ∙ ap (λ (x : Bool). if x then by_rule s loc ability type (rule s ability type.value) else []) (sym z) ∙ if_missing b e
+  pub lack_ruled : (b : Bool) → b ≡ misses s ty asked ability → b ≡ true → (r : Rule) → rule_of r ≡ rule s ability type.value → bytes_of (by_rule s loc ability type (rule_of r)) ≡ lack s loc ty asked ability
+  lack_ruled b e z r q = ap (λ (x : DefRule). bytes_of (by_rule s loc ability type x)) q ∙ ap (λ (x : Bool). if x then bytes_of (by_rule s loc ability type (rule s ability type.value)) else []) (sym z) ∙ if_missing b e
 
 pub is_false : (b : Bool) → not b ≡ true → b ≡ false
 is_false true z = let n : false ≡ true = z in cc
@@ -83,11 +84,11 @@ module _ (m : table.State) (f : Unfolded) (ty : ℕ) (h : Unfolds m f (λ s. spa
   -- .. and what the rule makes of it
   module _ (t : ℕ) (e : f ≡ NodeU t) (params : List (List ℕ)) (loc asked ability : ℕ) (b : Bool) (miss_is : (ds : List Struct) → Knows m params ds → b ≡ misses (held m ds) ty asked ability) (z : b ≡ true) where
     module _ (sh : Shape) (g : Goes_on m ty sh) (r : Rule) (q : (ds : List Struct) → Knows m params ds → rule_of r ≡ rule (held m ds) ability (with_args (held m ds) (shape_of sh))) where
-      pub node_lacks : (x : Option Failing) → ((n : ℕ) → t < n → ReportIn n x) × ((s : State) → report x s ≡ by_rule s loc ability (spanned s t) (rule_of r)) → Lacking m params x (λ s. lack s loc ty asked ability)
+      pub node_lacks : (x : Option Failing) → ((n : ℕ) → t < n → ReportIn n x) × ((s : State) → report x s ≡ bytes_of (by_rule s loc ability (spanned s t) (rule_of r))) → Lacking m params x (λ s. lack s loc ty asked ability)
       node_lacks x p = record {
         is = λ ds k. let s = held m ds in
             p.1 s
-            ∙ ap (λ (y : Spanned TypeValue). by_rule s loc ability y (rule_of r)) (to_node t e ds)
+            ∙ ap (λ (y : Spanned TypeValue). bytes_of (by_rule s loc ability y (rule_of r))) (to_node t e ds)
             ∙ lack_ruled s loc ty asked ability b (miss_is ds k) z r (q ds k ∙ ap (rule s ability) (g.value ds));
         inside = p.0 m.used.nodes (unfolded_node h.inside e);
       }
@@ -128,20 +129,31 @@ module _ (m : table.State) (params : List (List ℕ)) (r : Option Failing) where
   row_plain (BaseType loc ty) ability h k = record { is = λ ds _. h.1 ds; inside = h.0 }
   row_plain (SingleType loc ty) ability h k = record { is = λ ds _. h.1 ds; inside = h.0 }
 
-each_if : (g : ℕ → Bytes) (test : ℕ → Bool) (l : List ℕ) → each g (select test l) ≡ each (λ a. if test a then g a else []) l
-unfolding each select
-each_if g test [] = refl
-each_if g test (a ∷ l) = by (each_if g test l) (test a)
+each_if : (f : ℕ → Result Bytes) (test : ℕ → Bool) (l : List ℕ) → each_bytes f (select test l) ≡ each (λ a. if test a then bytes_of (f a) else []) l
+unfolding each_bytes each select
+each_if f test [] = refl
+each_if f test (a ∷ l) = by (each_if f test l) (test a)
   where
-    by : each g (select test l) ≡ each (λ a. if test a then g a else []) l → (b : Bool) → each g (elim b [ true ↦ a ∷ select test l | false ↦ select test l ]) ≡ (if b then g a else []) ++ each (λ a. if test a then g a else []) l
-    by h true = ap (λ (y : Bytes). g a ++ y) h
+    by : each_bytes f (select test l) ≡ each (λ a. if test a then bytes_of (f a) else []) l → (b : Bool)
+        → each_bytes f (elim b [ true ↦ a ∷ select test l | false ↦ select test l ]) ≡ (if b then bytes_of (f a) else []) ++ each (λ a. if test a then bytes_of (f a) else []) l
+    by h true = ap (λ (y : Bytes). bytes_of (f a) ++ y) h
     by h false = h
 
-pub four_rows : (s : State) (c : d.Constraint) → solve_constraint s c ≡ each (λ ability. row s c ability) (1 ∷ 2 ∷ 4 ∷ 8 ∷ [])
-unfolding solve_constraint solve_ability_constraint missing those row lack plain each
-four_rows s (d.AbilityConstraint loc ty a) = each_if (λ ability. by_rule s loc ability (unfold_type s (spanned s ty)) (rule s ability (unfold_type s (spanned s ty)).value)) (λ ability. misses s ty a ability) (1 ∷ 2 ∷ 4 ∷ 8 ∷ [])
-four_rows s (d.NumericConstraint loc ty) = sym (append-nil _)
-four_rows s (d.BitsConstraint loc ty) = sym (append-nil _)
-four_rows s (d.OrderedConstraint loc ty) = sym (append-nil _)
-four_rows s (d.BaseTypeConstraint loc ty) = sym (append-nil _)
-four_rows s (d.SingleTypeConstraint loc ty) = sym (append-nil _)
+pub four_rows : (s : State) (c : d.Constraint) → Given (solve_constraint s c) → bytes_of (solve_constraint s c) ≡ each (λ ability. row s c ability) (1 ∷ 2 ∷ 4 ∷ 8 ∷ [])
+unfolding solve_constraint solve_ability_constraint missing those row lack plain each bytes_of
+four_rows s (d.AbilityConstraint loc ty a) e = by (reaches_itself s ty) refl
+  where
+    decided : ℕ → Result Bytes
+    decided ability = by_rule s loc ability (unfold_type s (spanned s ty)) (rule s ability (unfold_type s (spanned s ty)).value)
+
+    abilities : Bool → Result Bytes
+    abilities b = elim b [ true ↦ refused runs_into_itself | false ↦ in_turn decided (missing s ty a) ]
+
+    by : (b : Bool) → reaches_itself s ty ≡ b → bytes_of (abilities (reaches_itself s ty)) ≡ each (λ ability. row s (d.AbilityConstraint loc ty a) ability) (1 ∷ 2 ∷ 4 ∷ 8 ∷ [])
+    by true z = let n : Given (refused runs_into_itself) = subst (λ (b : Bool). Given (abilities b)) z e in cc
+    by false z = rw z (turn_each decided (missing s ty a) (subst (λ (b : Bool). Given (abilities b)) z e) ∙ each_if decided (λ ability. misses s ty a ability) (1 ∷ 2 ∷ 4 ∷ 8 ∷ []))
+four_rows s (d.NumericConstraint loc ty) e = sym (append-nil _)
+four_rows s (d.BitsConstraint loc ty) e = sym (append-nil _)
+four_rows s (d.OrderedConstraint loc ty) e = sym (append-nil _)
+four_rows s (d.BaseTypeConstraint loc ty) e = sym (append-nil _)
+four_rows s (d.SingleTypeConstraint loc ty) e = sym (append-nil _)

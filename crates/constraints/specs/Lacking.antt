@@ -11,15 +11,15 @@ use Rattle.table.specs.Rows.{constraint_table}
 use Rattle.table.specs.Did.{held}
 use Rattle.table.specs.declared.state.State.{State}
 use Rattle.abilities.specs.Kept.{HasSet, Kept, Knows}
-use Rattle.abilities.specs.Rules.{misses}
+use Rattle.abilities.specs.Rules.{bytes_of, misses}
 use Rattle.failing.specs.declared.Failing.{Failing}
 use Rattle.failing.specs.Failing.{plain, report, ReportIn}
 
--- the failure for one ability
+-- the failure for one ability, where it is not refused
 unfoldable pub lack : d.State → ℕ → ℕ → ℕ → ℕ → Bytes
 lack s loc ty asked ability =
     if misses s ty asked ability
-    then by_rule s loc ability (unfold_type s (spanned s ty)) (rule s ability (unfold_type s (spanned s ty)).value)
+    then bytes_of (by_rule s loc ability (unfold_type s (spanned s ty)) (rule s ability (unfold_type s (spanned s ty)).value))
     else []
 
 -- the failures of a constraint in four rows, one for each ability; one that asks for none has its failure in the first

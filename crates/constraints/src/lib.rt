@@ -19,7 +19,7 @@ ghost use Rattle.constraints.specs.Emptied.{Emptied};
 ghost use Rattle.constraints.specs.Solve.{kind_of, numbered, join_u64};
 ghost use Rattle.definition.specs.Store.{spanned};
 ghost use Rattle.abilities.specs.Kept.{HasSet, Kept};
-ghost use Rattle.abilities.specs.Rules.{rule_of, RuleIn};
+ghost use Rattle.abilities.specs.Rules.{rule_of, RuleIn, bytes_of};
 ghost use Rattle.failing.specs.Failing.{plain, report, ReportIn, TyIn, Fails};
 ghost use Rattle.constraints.specs.Lacking.{lack, row, IsAbility, Lacking, AskedReady};
 
@@ -151,10 +151,10 @@ fn failing_of(st: &State<'_>, c: Constraint) -> Option<Failing>
 
 // ---- solve_ability_constraint
 
-// What the rule makes of an ability that node t lacks.
+// What the rule makes of an ability that node t lacks. A mark that is contradicted is refused, by abilities.
 fn by_rule(loc: u32, ability: u8, t: u32, r: Rule) -> Option<Failing>
     requires { RuleIn r }
-    ensures { ((n : ℕ) → t < n → ReportIn n result) × ((s : d.State) → report result s ≡ by_rule s loc ability (spanned s t) (rule_of r)) }
+    ensures { ((n : ℕ) → t < n → ReportIn n result) × ((s : d.State) → report result s ≡ bytes_of (by_rule s loc ability (spanned s t) (rule_of r))) }
 {
     match r {
         Rule::Declaration => Some(Failing::Lacks(loc, ability, t, None)),

@@ -5,16 +5,10 @@ ghost use Rattle.std.specs.Prelude.{◌≡◌, ◌<◌, ◌≤◌, take, IfErr, 
 ghost use Rattle.definition.specs.Reader.{byte, read_u16, read_u32, byte_to, name_below};
 ghost use Rattle.cursor.specs.Words.{Within, read};
 
+use refusals::Refusal;
+
 // The most bytes that a record has.
 pub const MAX_RECORD: usize = 4096;
-
-// What ends the reading of a record.
-#[derive(Clone, Copy, PartialEq, Eq)]
-pub enum ReadError {
-    Malformed,
-    UnknownName,
-    DoubledReference,
-}
 
 // The bytes of a record that are left.
 #[derive(Clone, Copy)]
@@ -33,19 +27,19 @@ impl<'a> Reader<'a> {
         }
     }
 
-    pub fn u8(&mut self) -> Result<u8, ReadError>
+    pub fn u8(&mut self) -> Result<u8, Refusal>
         ensures is { read result self.new.left.now ≡ byte self.old.left.now }
         ensures within { Within self.old.left.now self.new.left.now }
         ensures kept { IfErr result (λ e. self.new.left.now ≡ self.old.left.now) }
     {
         let [byte, left @ ..] = self.left else {
-            return Err(ReadError::Malformed);
+            return Err(Refusal::Malformed);
         };
         self.left = left;
         Ok(*byte)
     }
 
-    pub fn u16(&mut self) -> Result<u16, ReadError>
+    pub fn u16(&mut self) -> Result<u16, Refusal>
         ensures is { read result self.new.left.now ≡ read_u16 self.old.left.now }
         ensures within { Within self.old.left.now self.new.left.now }
     {
@@ -54,7 +48,7 @@ impl<'a> Reader<'a> {
         Ok(u16::from_le_bytes([low, high]))
     }
 
-    pub fn u32(&mut self) -> Result<u32, ReadError>
+    pub fn u32(&mut self) -> Result<u32, Refusal>
         ensures is { read result self.new.left.now ≡ read_u32 self.old.left.now }
         ensures within { Within self.old.left.now self.new.left.now }
     {
@@ -66,20 +60,20 @@ impl<'a> Reader<'a> {
     }
 
     // A byte from 0 to max.
-    pub fn byte_to(&mut self, max: u32) -> Result<u8, ReadError>
+    pub fn byte_to(&mut self, max: u32) -> Result<u8, Refusal>
         ensures is { read result self.new.left.now ≡ byte_to max self.old.left.now }
         ensures within { Within self.old.left.now self.new.left.now }
         ensures most { IfOk result (λ x. x ≤ max) }
     {
         let byte = self.u8()?;
         if max < u32::from(byte) {
-            return Err(ReadError::Malformed);
+            return Err(Refusal::Malformed);
         }
         Ok(byte)
     }
 
     // A name of which there are `known`.
-    pub fn name_below(&mut self, known: u32) -> Result<u16, ReadError>
+    pub fn name_below(&mut self, known: u32) -> Result<u16, Refusal>
         ensures is { read result self.new.left.now ≡ name_below known self.old.left.now }
         ensures within { Within self.old.left.now self.new.left.now }
         ensures below { IfOk result (λ x. x < known) }
@@ -88,7 +82,7 @@ impl<'a> Reader<'a> {
         if u32::from(name) < known {
             Ok(name)
         } else {
-            Err(ReadError::UnknownName)
+            Err(Refusal::UnknownName)
         }
     }
 }

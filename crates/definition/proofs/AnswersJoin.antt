@@ -5,7 +5,7 @@ use Rattle.definition.specs.Types.{fresh}
 use Rattle.definition.specs.Store.{num_loc}
 use Rattle.definition.specs.Write.{Bytes, u32}
 use Rattle.definition.proofs.Computed.{answered, left_by}
-use Rattle.definition.proofs.Spelling.{any, error, imm, mut, param, u8, bool, vector, list, var, hex, text, FV, NV, JN, SU, UF}
+use Rattle.definition.proofs.Spelling.{unit, any, error, imm, mut, param, u8, bool, vector, list, var, hex, text, FV, NV, JN, SU, UF}
 
 -- the answer to a record after others, from a fresh state
 unfoldable pub after : List Bytes → Bytes → ℕ × Bytes
@@ -17,6 +17,15 @@ after rs r = answered (left_by fresh rs) r 4096
 pub equal_types : after [] (JN (u8 1) (u8 2)) ≡ (0, u8 2)
 unfolding after
 equal_types = refl
+
+-- two units and two parameters of one id: the right
+pub units_give_right : after [] (JN (unit 1) (unit 2)) ≡ (0, unit 2)
+unfolding after
+units_give_right = refl
+
+pub parameters_give_right : after [] (JN (param 1 7) (param 2 7)) ≡ (0, param 2 7)
+unfolding after
+parameters_give_right = refl
 
 pub anything_left_gives_right : after [] (JN (any 1) (u8 2)) ≡ (0, u8 2)
 unfolding after
@@ -58,6 +67,11 @@ pub counts_differ_is_3 : after [] (JN (list 1 (u8 2 ∷ [])) (list 3 [])) ≡ (3
 unfolding after
 counts_differ_is_3 = refl
 
+-- the left list's argument to the left
+pub arguments_side_by_side : after [] (JN (list 1 (u8 2 ∷ [])) (list 3 (u8 4 ∷ []))) ≡ (0, list 3 (u8 4 ∷ []))
+unfolding after
+arguments_side_by_side = refl
+
 -- address with copy, and with drop
 pub marks_differ_is_10 : after [] (JN (hex "03 01000000 11 00") (hex "03 02000000 12 00")) ≡ (10, [])
 unfolding after
@@ -68,6 +82,11 @@ unfolding after
 ids_differ_is_2 = refl
 
 -- ---- variables
+
+-- the second of a merge's two bindings is the result
+pub result_at_right_location : after (FV 1 ∷ FV 2 ∷ []) (JN (var 3 0) (var 4 1)) ≡ (0, var 4 2)
+unfolding after
+result_at_right_location = refl
 
 -- V0 and V1 become V2: were it bound to `_`, the state would be unsound
 pub anything_not_stored : after (FV 1 ∷ FV 2 ∷ JN (var 3 0) (var 4 1) ∷ []) (UF (var 5 2)) ≡ (0, any 5)

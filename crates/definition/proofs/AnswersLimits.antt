@@ -1,14 +1,15 @@
 -- 01's limits, computed in states written down: each line is false under an edit of must-fail/ (docs/CLAIMS.md, 'Edits of the definition'). The other side of each
--- limit is in crates/test_replay, EdgeLimits. Assumes nothing.
+-- count is in crates/test_replay, EdgeLimits. Assumes nothing.
 use Rattle.std.proofs.Common.{◌≡◌, ℕ, zero, suc, false, List, [], ◌∷◌, replicate, refl}
 use Rattle.std.specs.Prelude.{None, Some}
 use Rattle.definition.specs.Types.{UnitType, Ref, Node, unbound, BaseTypeConstraint, State, fresh, refused, full, max_vars, ◌>>=◌}
 use Rattle.definition.specs.Store.{next_tvar}
 use Rattle.definition.specs.Record as record_of
-use Rattle.definition.specs.Step.{run, answer_with, max_payload}
+use Rattle.definition.specs.Write.{Bytes}
+use Rattle.definition.specs.Step.{run, answer_with, max_payload, refusal, number_of_refusal}
 use Rattle.definition.specs.Job.{decimal}
 use Rattle.definition.proofs.Computed.{answered}
-use Rattle.definition.proofs.Spelling.{text, unit, vector, UF, BC}
+use Rattle.definition.proofs.Spelling.{text, unit, param, u8, vector, list, var, SD, JN, UF, BC}
 
 -- ---- counts
 
@@ -42,7 +43,7 @@ pub constraint_513_is_7 : answered (filled 1 0 0 512 0) (BC 0 (unit 1)) 4096 ≡
 unfolding answered
 constraint_513_is_7 = refl
 
-pub struct_257_is_7 : answered (filled 0 0 0 0 256) (text "SD\0\0") 4096 ≡ (7, [])
+pub struct_257_is_7 : answered (filled 0 0 0 0 256) (SD 0 []) 4096 ≡ (7, [])
 unfolding answered
 struct_257_is_7 = refl
 
@@ -67,6 +68,44 @@ deep leaf n = record {
 pub payload_4096 : (answer_with fresh 0 (replicate 4096 0) fresh).number ≡ 0
 unfolding answer_with max_payload
 payload_4096 = refl
+
+pub payload_4097_is_14 : (answer_with fresh 0 (replicate 4097 0) fresh).number ≡ 14
+unfolding answer_with max_payload refusal number_of_refusal
+payload_4097_is_14 = refl
+
+-- ---- depth: V0 and V1 bound to references around `()`
+
+-- the entry's call, then one for each reference (the outermost's by the merge) and one for `()`
+pub depth_256 : answered (deep unit_node 254) (JN (var 1 0) (var 2 1)) 4096 ≡ (0, var 2 2)
+unfolding answered
+depth_256 = refl
+
+pub depth_257_is_8 : answered (deep unit_node 255) (JN (var 1 0) (var 2 1)) 4096 ≡ (8, [])
+unfolding answered
+depth_257_is_8 = refl
+
+-- ---- a record of two bytes and a type: a list of eight lists of eight lists of eight u8, 585 types of seven bytes each
+
+abbrev pub eight : Bytes → Bytes
+eight t = list 0 (replicate 8 t)
+
+-- two of the inner u8 are `()`, of two bytes less, and one is a parameter, of three more
+abbrev pub one_less : Bytes
+one_less = list 0 (list 0 (list 0 (unit 0 ∷ unit 0 ∷ param 0 7 ∷ replicate 5 (u8 0)) ∷ replicate 7 (eight (u8 0))) ∷ replicate 7 (eight (eight (u8 0))))
+
+pub record_of_4096 : (answered fresh (UF one_less) 4096).0 ≡ 0
+unfolding answered
+record_of_4096 = refl
+
+pub record_of_4097_is_5 : answered fresh (UF (eight (eight (eight (u8 0))))) 4096 ≡ (5, [])
+unfolding answered
+record_of_4097_is_5 = refl
+
+-- ---- the answer buffer, before all else
+
+pub buffer_of_4095_is_15 : answered fresh [] 4095 ≡ (15, [])
+unfolding answered
+buffer_of_4095_is_15 = refl
 
 -- ---- record numbers
 

@@ -1,9 +1,9 @@
 -- R-6: a reference directly under a reference, computed. Each line is false under an edit of must-fail/ (docs/CLAIMS.md, 'Edits of the definition'), but for the last list. Assumes nothing.
 use Rattle.std.proofs.Common.{◌≡◌, ℕ, zero, suc, List, [], ◌∷◌, ◌++◌, refl}
-use Rattle.definition.specs.Write.{Bytes, u32}
+use Rattle.definition.specs.Write.{Bytes}
 use Rattle.definition.proofs.Computed.{answers_of, log_of}
 use Rattle.definition.proofs.Marked.{Call, answered, wanted}
-use Rattle.definition.proofs.Spelling.{text, hex, at, unit, imm, mut, param, u8, vector, list, var, FV, JN, SU, UF, RD}
+use Rattle.definition.proofs.Spelling.{text, at, unit, imm, mut, param, u8, vector, list, var, SD, FV, JN, SU, UF, RD, TS}
 use Rattle.definition.proofs.AnswersJoin.{after}
 
 pub doubled_is_18 : after [] (UF (imm 1 (imm 2 (u8 3)))) ≡ (18, [])
@@ -43,13 +43,12 @@ references zero = unit 0
 references (suc n) = imm 0 (references n)
 
 abbrev pub doubled_calls : List Call
-unfolding u32
 doubled_calls =
     -- mutable or not, each over each
     one (UF (imm 1 (mut 2 (u8 3)))) 18 [] ∷ one (UF (mut 1 (imm 2 (u8 3)))) 18 [] ∷ one (RD (mut 1 (mut 2 (u8 3)))) 18 [] ∷
     -- under a list, after another part; under a vector; under a struct
     one (UF (list 1 (u8 2 ∷ imm 3 (imm 4 (u8 5)) ∷ []))) 18 [] ∷ one (UF (vector 1 (imm 2 (imm 3 (u8 4))))) 18 [] ∷
-    record { records = hex "5344 00 01 00" ∷ UF (struct 1 (imm 2 (imm 3 (u8 4)))) ∷ FV 5 ∷ []; answers = (0, 0 ∷ 0 ∷ []) ∷ (18, []) ∷ (0, var 5 0) ∷ [] } ∷
+    record { records = SD 0 (0 ∷ []) ∷ UF (struct 1 (imm 2 (imm 3 (u8 4)))) ∷ FV 5 ∷ []; answers = (0, 0 ∷ 0 ∷ []) ∷ (18, []) ∷ (0, var 5 0) ∷ [] } ∷
     -- directly: not with a vector between
     one (UF (imm 1 (vector 2 (imm 3 (u8 4))))) 0 (imm 1 (vector 2 (imm 3 (u8 4)))) ∷
     -- a variable that is bound to a reference is let through
@@ -58,9 +57,9 @@ doubled_calls =
       answers = (0, var 1 0) ∷ (0, var 2 0) ∷ (0, imm 5 (imm 3 (u8 4))) ∷ [];
     } ∷
     -- in a pair of TS, and in its last type
-    one (text "TS" ++ (1 ∷ []) ++ u32 7 ++ imm 1 (imm 2 (u8 3)) ++ param 4 7) 18 [] ∷ one (text "TS" ++ (1 ∷ []) ++ u32 7 ++ u8 1 ++ imm 2 (imm 3 (param 4 7))) 18 [] ∷
+    one (TS ((7, imm 1 (imm 2 (u8 3))) ∷ []) (param 4 7)) 18 [] ∷ one (TS ((7, u8 1) ∷ []) (imm 2 (imm 3 (param 4 7)))) 18 [] ∷
     -- .. which makes one of a parameter
-    one (text "TS" ++ (1 ∷ []) ++ u32 7 ++ imm 1 (u8 2) ++ imm 3 (param 4 7)) 0 (imm 3 (imm 1 (u8 2))) ∷
+    one (TS ((7, imm 1 (u8 2)) ∷ []) (imm 3 (param 4 7))) 0 (imm 3 (imm 1 (u8 2))) ∷
     -- in the second type of JN and SU
     one (JN (u8 1) (imm 2 (imm 3 (u8 4)))) 18 [] ∷ one (SU (imm 1 (u8 2)) (imm 3 (mut 4 (u8 5)))) 18 [] ∷
     -- cut before the inner tag, and after it; no tag there
@@ -73,5 +72,5 @@ doubled_calls =
     []
 
 pub doubled_answers : answered doubled_calls ≡ wanted doubled_calls
-unfolding answers_of u32
+unfolding answers_of
 doubled_answers = refl

@@ -2,7 +2,7 @@
 use Rattle.std.proofs.Common.{◌≡◌, ℕ, [], ◌∷◌, ◌++◌, refl}
 use Rattle.definition.specs.Write.{Bytes, u32}
 use Rattle.definition.proofs.Computed.{answered}
-use Rattle.definition.proofs.Spelling.{any, imm, u8, vector, list, var, hex, FV, RM}
+use Rattle.definition.proofs.Spelling.{unit, any, error, imm, param, u8, vector, list, var, hex, SD, FV, RM}
 use Rattle.definition.proofs.AnswersJoin.{after}
 use Rattle.definition.proofs.AnswersLimits.{filled}
 
@@ -12,6 +12,19 @@ unfolding u32
 told nodes places variables constraints = (0, u32 nodes ++ u32 places ++ u32 variables ++ u32 constraints)
 
 -- ---- the table, row by row
+
+-- IN hands back what it reads of these
+pub RM_of_unit : after [] (RM (unit 1)) ≡ told 1 0 0 0
+unfolding after
+RM_of_unit = refl
+
+pub RM_of_an_error : after [] (RM (error 1)) ≡ told 1 0 0 0
+unfolding after
+RM_of_an_error = refl
+
+pub RM_of_a_parameter : after [] (RM (param 1 7)) ≡ told 1 0 0 0
+unfolding after
+RM_of_a_parameter = refl
 
 pub RM_of_u8 : after [] (RM (u8 1)) ≡ told 2 0 0 0
 unfolding after
@@ -39,7 +52,7 @@ unfolding after
 RM_of_a_list = refl
 
 -- two parameters, u8 and `_`
-pub RM_of_a_struct : after (hex "5344 0f 02 00 00" ∷ []) (RM (hex "05 01000000 00 0000" ++ u8 2 ++ any 3)) ≡ told 12 4 4 4
+pub RM_of_a_struct : after (SD 15 (0 ∷ 0 ∷ []) ∷ []) (RM (hex "05 01000000 00 0000" ++ u8 2 ++ any 3)) ≡ told 12 4 4 4
 unfolding after
 RM_of_a_struct = refl
 

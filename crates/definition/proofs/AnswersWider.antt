@@ -4,20 +4,14 @@ use Rattle.std.specs.Prelude.{if◌then◌else◌}
 use Rattle.definition.specs.Write.{Bytes, u32}
 use Rattle.definition.proofs.Computed.{answers_of}
 use Rattle.definition.proofs.Marked.{Call, answered, wanted}
-use Rattle.definition.proofs.Spelling.{text, at, builtin, bool, vector, param, var, NV, JN, SU, UF, SV}
+use Rattle.definition.proofs.Spelling.{at, builtin, bool, vector, param, var, NV, JN, SU, UF, IN, TS, NC, SV}
 
 -- the builtin b with a mark
 abbrev pub marked : ℕ → ℕ → ℕ → Bytes
 marked loc mark b = at 3 loc ++ (mark ∷ b ∷ [])
 
--- NC of a kind
-abbrev pub NC : ℕ → ℕ → Bytes → Bytes
-unfolding u32
-NC loc kind t = text "NC" ++ u32 loc ++ (kind ∷ t)
-
-abbrev pub TS : ℕ → Bytes → Bytes → Bytes
-unfolding u32
-TS id t in_t = text "TS" ++ (1 ∷ []) ++ u32 id ++ t ++ in_t
+abbrev pub integer_types : List ℕ
+integer_types = 2 ∷ 3 ∷ 4 ∷ 7 ∷ 8 ∷ 9 ∷ []
 
 -- b with c: itself, or 2 showing both
 abbrev pub met : ℕ → ℕ → Call
@@ -36,8 +30,8 @@ wider b =
     record { records = NC 1 0 (builtin 2 b) ∷ NC 3 1 (builtin 4 b) ∷ NC 5 2 (builtin 6 b) ∷ SV ∷ []; answers = (0, []) ∷ (0, []) ∷ (0, []) ∷ (0, []) ∷ [] } ∷
     -- in a vector, in IN and in TS
     record { records = JN (vector 1 (builtin 2 b)) (vector 3 (builtin 4 b)) ∷ []; answers = (0, vector 3 (builtin 4 b)) ∷ [] } ∷
-    record { records = (text "IN" ++ builtin 1 b) ∷ []; answers = (0, builtin 1 b) ∷ [] } ∷
-    record { records = TS 7 (builtin 1 b) (vector 2 (param 3 7)) ∷ []; answers = (0, vector 2 (builtin 1 b)) ∷ [] } ∷
+    record { records = IN (builtin 1 b) ∷ []; answers = (0, builtin 1 b) ∷ [] } ∷
+    record { records = TS ((7, builtin 1 b) ∷ []) (vector 2 (param 3 7)) ∷ []; answers = (0, vector 2 (builtin 1 b)) ∷ [] } ∷
     -- a mark must have drop: 16 is the empty set, 18 has drop
     record { records = UF (marked 1 16 b) ∷ UF (marked 1 18 b) ∷ []; answers = (5, []) ∷ (0, marked 1 18 b) ∷ [] } ∷
     []

@@ -1,8 +1,15 @@
 pub mod AnswersJoin
+pub mod AnswersMerge
+pub mod AnswersReading
 pub mod AnswersRecords
 pub mod AnswersReferences
 pub mod AnswersSolve
+pub mod AnswersSolveAbilities
+pub mod AnswersSound
 pub mod AnswersSpace
+pub mod AnswersStates
+pub mod AnswersStreams
+pub mod AnswersTypes
 pub mod AnswersWider
 pub mod AnswersLimits
 pub mod Computed

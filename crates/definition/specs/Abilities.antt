@@ -55,9 +55,9 @@ struct_abilities s n = (get_or s.structs n (record { abilities = 0; params = [] 
 unfoldable pub declared_abilities : State → TypeName → ℕ
 declared_abilities s n = elim n [ Multiple len ↦ collection | Builtin b ↦ builtin_abilities b | ModuleType m ↦ struct_abilities s m ]
 
--- argument i counts: a struct's phantom arguments do not
+-- argument i counts: a struct's phantom arguments do not, nor would one past its parameters, as `infer_abilities` zips the two
 unfoldable pub counts : State → TypeName → ℕ → Bool
-counts s n i = elim n [ Multiple len ↦ true | Builtin b ↦ true | ModuleType m ↦ ltb (get_or (struct_tparams s m) i 0) 16 ]
+counts s n i = elim n [ Multiple len ↦ true | Builtin b ↦ true | ModuleType m ↦ ltb (get_or (struct_tparams s m) i 16) 16 ]
 
 -- the place of the first argument that counts and lacks; the first of all has place i
 unfoldable pub first_lacking : (ℕ → Bool) → (ℕ → Bool) → ℕ → List ℕ → Option ℕ

@@ -4,7 +4,7 @@ use Rattle.std.specs.Prelude.{◌≡◌, ◌&&◌, ◌∷◌, ◌++◌, ◌+◌,
 use Rattle.definition.specs.Types.{List, [], ℕ, zero, suc, length, get_or, take, drop, replicate, eqb, Builtin, ModuleType, State, fresh}
 use Rattle.definition.specs.Store.{count, taken}
 use Rattle.definition.specs.Trees.{arity}
-use Rattle.definition.specs.Write.{Bytes}
+use Rattle.definition.specs.Write.{Bytes, IsBytes}
 use Rattle.definition.specs.Step.{Answer, step}
 
 -- ---- bytes and what they are
@@ -126,6 +126,11 @@ unfoldable pub blank_log : State → List (Bytes × ℕ) → List Seen
 blank_log s [] = []
 blank_log s ((bytes, buffer) ∷ records) = let a = step s bytes buffer in seen s bytes a ∷ blank_log a.state records
 
+-- records are bytes
+abbrev pub JobOfBytes : List (Bytes × ℕ) → Type 0
+JobOfBytes [] = Unit {0}
+JobOfBytes (r ∷ records) = IsBytes r.0 × JobOfBytes records
+
 -- R-4 (theorems/proofs/EraseLocations.antt): two jobs that are equal but for location fields are answered alike but for location fields
 unfoldable pub LocationsDecideNothing : List (Bytes × ℕ) → List (Bytes × ℕ) → Type 0
-LocationsDecideNothing job job' = blank_job fresh job ≡ blank_job fresh job' → blank_log fresh job ≡ blank_log fresh job'
+LocationsDecideNothing job job' = JobOfBytes job → JobOfBytes job' → blank_job fresh job ≡ blank_job fresh job' → blank_log fresh job ≡ blank_log fresh job'

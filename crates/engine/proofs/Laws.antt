@@ -26,29 +26,11 @@ use Rattle.sound.specs.Lent.{used_of, structs_of, decode, lent_sound}
 use Rattle.sound.proofs.Tested.{lent_says}
 use Rattle.sound.proofs.Lays.{lent_lay, lent_declares}
 use Rattle.step.specs.declared.Stepped.{Stepped}
-use Rattle.engine.specs.declared.Lines.{Lines}
-use Rattle.engine.specs.Public.{LentAnswer, lent_answer, lent_step, in_front, GivesAnswer, rest_of, LentPiece, lent_piece, lent_lines, no_lines, GivesLines}
+use Rattle.lines.specs.declared.Lines.{Lines}
+use Rattle.engine.specs.Public.{LentAnswer, lent_answer, lent_step, in_front, GivesAnswer, LentPiece, lent_piece, lent_lines, GivesLines}
 use Rattle.step.specs.Trusted.{held, held_by, Stands, answered, unread, Steps}
-use Rattle.engine.specs.Lists.{Lists}
-
--- ---- from the test on
-
-module _ (w : List ℕ) (p : List (List ℕ)) (h : lent_sound w p ≡ true) where
-  pub lent_lays : (u : Used) → u ≡ used_of w → Lay w u
-  lent_lays u c = rw c (lent_lay w p (lent_says w p h))
-
-  -- the state that is made of them
-  module _ (s : Table) (e : s.words.now ≡ w) (c : s.used ≡ used_of w) where
-    pub held_lent : held_by s p ≡ decode w p
-    unfolding held decode
-    held_lent = rw (e, c) refl
-
-    pub stands_lent : Stands s.words.now s.used p
-    unfolding held decode
-    stands_lent = let l = lent_says w p h in rw (e, c) (record { lay = lent_lay w p l; bytes = l.bytes; is_sound = l.is_sound })
-
-pub lent_size : (w : List ℕ) (p : List (List ℕ)) → lent_sound w p ≡ true → length w ≡ 24069
-lent_size w p h = (lent_lay w p (lent_says w p h)).size
+use Rattle.lines.specs.Lists.{no_lines, Lists}
+use Rattle.lent.proofs.Passed.{lent_size, held_lent}
 
 -- where a call ends: the counts are written
 module _ (s : Table) (p : List (List ℕ)) (w' : List ℕ) (f : (ds : List Struct) → Declares s.words.now s.used ds → w' ≡ encode (seen_in s ds)) where
@@ -175,20 +157,3 @@ other_size w p n = go (lent_sound w p) refl
     go : (b : Bool) → lent_sound w p ≡ b → lent_sound w p ≡ false
     go false e = e
     go true e = absurd (n (lent_size w p e))
-
--- ---- the splitter
-
-pub unsound_rest : (w : List ℕ) (p : List (List ℕ)) (stream : Bytes) → lent_sound w p ≡ false → stream ≡ rest_of w p stream
-unfolding rest_of
-unsound_rest w p stream h = rw (h, rest_of) refl
-
-pub sound_rest : (w : List ℕ) (p : List (List ℕ)) → lent_sound w p ≡ true → (s : Table) → s.words.now ≡ w → s.used ≡ used_of w → (stream rest : Bytes) → unread (held_by s p) stream ≡ rest → rest ≡ rest_of w p stream
-unfolding rest_of unread
-sound_rest w p h s n c stream rest e = sym (
-    ap {B = Bytes} (λ q. elim q as (λ x. Bytes) [ true ↦ (step_stream (decode w p) stream max_buffer).1 | false ↦ stream ]) h
-    ∙ ap (λ (x : step.Answer × Bytes). x.1) (trusted (decode w p) stream (lent_says w p h).is_sound)
-    ∙ (rw (held_lent w p h s n c) at e))
-
--- a part to the end is what is left
-pub rest_all : (s : List ℕ) (n : ℕ) → take (length s - n) (drop n s) ≡ drop n s
-rest_all s n = let h : length (drop n s) ≤ length s - n = simp length-drop (omega arith) in take_all (length s - n) (drop n s) h

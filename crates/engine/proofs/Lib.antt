@@ -1,4 +1,3 @@
 -- Laws of the public calls. Assumes nothing.
 pub mod Laws
-pub mod Jobs
 pub mod Fresh

@@ -1,3 +1,3 @@
--- What the public calls give, and what they rely on inside. Assumes nothing: these are definitions.
+-- What the public calls give. Assumes nothing: these are definitions.
 pub mod Public
-pub mod Lists
+pub use Rattle.split.specs.Rest

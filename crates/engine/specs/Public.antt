@@ -2,13 +2,14 @@
 use Rattle.std.specs.Prelude.{◌≡◌, Bool, true, false, List, [], ◌++◌, ℕ, ◌≤◌, eqb, length, drop, Result, Ok, Err}
 use Rattle.definition.specs.Types.{fresh}
 use Rattle.definition.specs.Write.{Bytes}
-use Rattle.definition.specs.Step.{Answer, step, step_stream, max_buffer}
+use Rattle.definition.specs.Step.{Answer, step}
 use Rattle.pieces.specs.Pieces.{Piece, next_lines}
 use Rattle.table.specs.Encode.{encode}
 use Rattle.sound.specs.Lent.{decode, encode_params, lent_sound}
 use Rattle.engine.specs.declared.Answered.{Answered}
-use Rattle.engine.specs.declared.Lines.{Lines}
-use Rattle.engine.specs.declared.Unsound.{Unsound}
+use Rattle.lent.specs.declared.Unsound.{Unsound}
+use Rattle.lines.specs.declared.Lines.{Lines}
+use Rattle.lines.specs.Lists.{no_lines}
 
 -- ---- one lent record
 
@@ -46,11 +47,6 @@ pub record GivesAnswer (a : LentAnswer) (buffer : Bytes) (r : Answered) (words' 
   pub front : buffer' ≡ in_front a.payload buffer
   pub size : r.length ≡ length a.payload
 
--- ---- the splitter: the stream after one record, all of it on 5, 6, 15 and 18
-
-unfoldable pub rest_of : List ℕ → List (List ℕ) → Bytes → Bytes
-rest_of w params stream = elim (lent_sound w params) [ true ↦ (step_stream (decode w params) stream max_buffer).1 | false ↦ stream ]
-
 -- ---- a job's next lines
 
 -- 0, or 15 for an unsound state, which ends the job; the lines; words and bytes; the unread rest, the next record's number, and whether the job ended
@@ -83,10 +79,6 @@ fresh_lines w params stream room more = elim (eqb (length w) 24069) [
 abbrev pub number_of : Result Lines Unsound → ℕ
 number_of (Ok r) = 0
 number_of (Err e) = 15
-
--- .. with which nothing is read or written, and the job ends
-abbrev pub no_lines : ℕ → Lines
-no_lines index = record { read = 0; written = 0; index = index; ended = true }
 
 abbrev pub lines_of : ℕ → Result Lines Unsound → Lines
 lines_of index (Ok r) = r

@@ -2,24 +2,22 @@
 #![tactic(auto)]
 
 ghost use Rattle.std.specs.Prelude.{◌≡◌, ◌-◌, ◌≤◌, length as size, drop};
-ghost use Rattle.engine.specs.Public.{lent_step, GivesAnswer, rest_of, lent_lines, fresh_lines, number_of, lines_of, GivesLines};
+ghost use Rattle.engine.specs.Public.{lent_step, GivesAnswer, lent_lines, fresh_lines, number_of, lines_of, GivesLines};
+ghost use Rattle.engine.specs.Rest.{rest_of};
 
 use engine::{Lines, Unsound};
 
-// A refusal's number.
-const UNSOUND_STATE: u32 = 15;
-
 // ---- what a caller was built against
 
-// The header's PONGIWARU_VERSION, of this archive. Refused: the version of before these two functions (version_before).
+// The header's PONGIWARU_VERSION, of this archive. Refused (must-fail/): the version before (version_before).
 #[unsafe(no_mangle)]
 pub extern "C" fn pongiwaru_version() -> u32
-    ensures { result ≡ 4 }
+    ensures { result ≡ 5 }
 {
-    4
+    5
 }
 
-// The header's PONGIWARU_LAYOUT, of this archive. Refused: another layout (another_layout).
+// The header's PONGIWARU_LAYOUT, of this archive.
 #[unsafe(no_mangle)]
 pub extern "C" fn pongiwaru_layout() -> u32
     ensures { result ≡ 1 }
@@ -30,8 +28,9 @@ pub extern "C" fn pongiwaru_layout() -> u32
 // ---- one record
 
 // One record, lent whole. The result is the answer's number; the payload stands in front of the answer buffer, and length is how long it is.
-// Refused (must-fail/): no payload ever (no_payload), the parameter bytes of before the call (params_as_they_were), a length on 15 (length_on_15).
+// Refused: a length on 15 (length_on_15).
 #[unsafe(no_mangle)]
+#[tactic(auto, unfolding(definition::specs::Step::number_of_refusal))]
 pub extern "C" fn pongiwaru_record(
     state: &mut [u32],
     params: &mut [[u8; 8]; 256],
@@ -46,9 +45,9 @@ pub extern "C" fn pongiwaru_record(
             *length = r.length;
             r.number
         }
-        Err(Unsound) => {
+        Err(e) => {
             *length = 0;
-            UNSOUND_STATE
+            e.number()
         }
     }
 }
@@ -66,13 +65,14 @@ pub extern "C" fn pongiwaru_split(
     ensures rest_bound { rest.new ≤ size stream.now }
     ensures stream_after { drop (size stream.now - rest.new) stream.now ≡ rest_of state.old params.now stream.now }
 {
-    let n = engine::rest_size(state, params, stream);
-    *rest = stream.len() - n;
+    *rest = engine::split(state, params, stream).len();
 }
 
 // ---- a job
 
 // What a job's call returns and writes: 0, or 15 for a state that is not sound.
+// Refused: an end that the lines don't give (ended_at_once).
+#[tactic(auto, unfolding(definition::specs::Step::number_of_refusal))]
 fn told(
     r: Result<Lines, Unsound>,
     written: &mut usize,
@@ -84,7 +84,7 @@ fn told(
 {
     let (number, lines) = match r {
         Ok(lines) => (0, lines),
-        Err(Unsound) => (UNSOUND_STATE, Lines::unsound(*index)),
+        Err(e) => (e.number(), Lines::unsound(*index)),
     };
     *written = lines.written;
     *read = lines.read;
@@ -94,7 +94,7 @@ fn told(
 }
 
 // A job's next lines. The result is 0, or 15 for a state that is not sound.
-// Refused: bytes waited for that don't follow (always_more), a record number that begins again (index_from_zero), an end that the lines don't give (ended_at_once).
+// Refused: bytes waited for that don't follow (always_more).
 #[unsafe(no_mangle)]
 pub extern "C" fn pongiwaru_job(
     state: &mut [u32],

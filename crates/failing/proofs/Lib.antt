@@ -1,4 +1,3 @@
--- Laws of a failure's bytes, of their length, and of bytes written one piece after the other. Assumes nothing.
-pub mod Series
+-- Laws of a failure's bytes, and of their length. Assumes nothing.
 pub mod Sizes
 pub mod Report

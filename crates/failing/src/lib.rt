@@ -14,7 +14,7 @@ ghost use Rattle.definition.specs.Write.{u32 as bytes-u32, write};
 
 use names::TypeName;
 use table::state::State;
-use table::{Constraint, Shape};
+use table::{Applied, Constraint, Shape};
 use writer::{put_bytes, put_tag, size_type, write_head, write_type};
 
 // ---- what a constraint asks
@@ -51,7 +51,11 @@ fn is_single(s: Shape) -> bool
 {
     !matches!(
         s,
-        Shape::Unit | Shape::Apply(_, TypeName::Multiple(_), _, _)
+        Shape::Unit
+            | Shape::Apply(Applied {
+                n: TypeName::Multiple(_),
+                ..
+            })
     )
 }
 

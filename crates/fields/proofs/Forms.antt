@@ -23,8 +23,8 @@ use Rattle.table.proofs.Steps.{grown_refl, grown_trans}
 use Rattle.table.proofs.Grown.{nodes_grow}
 use Rattle.constraints.specs.Solve.{kind_of}
 use Rattle.constraints.specs.declared.NumericKind.{NumericKind}
-use Rattle.cursor.specs.Words.{refusal}
-use Rattle.cursor.specs.declared.ReadError.{ReadError}
+use Rattle.refusals.specs.Refusals.{refusal_of}
+use Rattle.refusals.specs.declared.Refusal.{Refusal}
 use Rattle.heads.specs.Fields.{Knows}
 use Rattle.heads.proofs.Heads.{declares_self}
 use Rattle.reader.specs.Taken.{placed, place_read, part_of, read_with, PlacedSo, Takes}
@@ -78,7 +78,7 @@ was_open {st} {known} {over} k =
 
 -- ---- what m reads, said otherwise
 
-pub fields_is : {st : Table} {known : ℕ} {m m' : State → Read Record} {st' : Table} {l : Bytes} {r : std.Result (Option What) ReadError}
+pub fields_is : {st : Table} {known : ℕ} {m m' : State → Read Record} {st' : Table} {l : Bytes} {r : std.Result (Option What) Refusal}
     → ((ds : List Struct) (s : State) → Declares st.words.now st.used ds → Knows s known ds → m s ≡ m' s) → FieldsAre st known m st' l r → FieldsAre st known m' st' l r
 fields_is {st} e t =
     record {
@@ -90,19 +90,19 @@ fields_is {st} e t =
     }
 
 -- nothing was written
-pub fields_none : {st : Table} {known : ℕ} {m : State → Read Record} {l : Bytes} {r : std.Result (Option What) ReadError} → PlacedSo r (WhatIn st.used.nodes)
+pub fields_none : {st : Table} {known : ℕ} {m : State → Read Record} {l : Bytes} {r : std.Result (Option What) Refusal} → PlacedSo r (WhatIn st.used.nodes)
     → ((s s' : State) (ds : List Struct) → Knows s known ds → fields_as r s' l ≡ place_read false place_record (m s) s') → FieldsAre st known m st l r
 fields_none {st} i f = record { same = refl; grown = grown_refl (tables st); structs = refl; inside = i; is = λ ds s d k. f s (held st ds) ds k }
 
 -- 5, 6 or 18 in the numbers
-pub unread_is : {st : Table} {known : ℕ} {m : State → Read Record} {l : Bytes} {e : ReadError} → ((s : State) (ds : List Struct) → Knows s known ds → rd.not_read (refusal e) ≡ m s)
+pub unread_is : {st : Table} {known : ℕ} {m : State → Read Record} {l : Bytes} {e : Refusal} → ((s : State) (ds : List Struct) → Knows s known ds → rd.not_read (refusal_of e) ≡ m s)
     → FieldsAre st known m st l (Err e)
 unfolding place_read
 unread_is f = fields_none tt (λ s s' ds k. ap (λ (x : Read Record). place_read false place_record x s') (f s ds k))
 
 -- .. in a type
-pub type_unread : {st : Table} {known : ℕ} {over : Bool} {x : State → Read Tree} {st' : Table} {l : Bytes} {e : ReadError} {m : State → Read Record}
-    → Takes st known over x st' l (Err e) → ((s : State) (ds : List Struct) → Knows s known ds → x s ≡ rd.not_read (refusal e) → rd.not_read (refusal e) ≡ m s) → FieldsAre st known m st' l (Err e)
+pub type_unread : {st : Table} {known : ℕ} {over : Bool} {x : State → Read Tree} {st' : Table} {l : Bytes} {e : Refusal} {m : State → Read Record}
+    → Takes st known over x st' l (Err e) → ((s : State) (ds : List Struct) → Knows s known ds → x s ≡ rd.not_read (refusal_of e) → rd.not_read (refusal_of e) ≡ m s) → FieldsAre st known m st' l (Err e)
 unfolding place_read
 type_unread {st} {over = over} {x} {e = e} t f =
     record {
@@ -110,7 +110,7 @@ type_unread {st} {over = over} {x} {e = e} t f =
       grown = t.grown;
       structs = t.structs;
       inside = tt;
-      is = λ ds s d k. ap (λ (y : Read Record). place_read false place_record y (held st ds)) (f s ds k (stopped_is (x s) over (held st ds) (refusal e) (t.is ds s d k)));
+      is = λ ds s d k. ap (λ (y : Read Record). place_read false place_record y (held st ds)) (f s ds k (stopped_is (x s) over (held st ds) (refusal_of e) (t.is ds s d k)));
     }
 
 -- ---- what the code makes of the last type's node
@@ -158,7 +158,7 @@ rm_is {st} l₀ c =
       is = λ ds s d k. let t = c.is ds s d k in rw (t.reads, t.counts) refl;
     }
 
-pub rm_unread : {st : Table} {known : ℕ} (l₀ : Bytes) {l : Bytes} {e : ReadError} → Counts st known false (λ s. read_nested 64 s l₀) l (Err e)
+pub rm_unread : {st : Table} {known : ℕ} (l₀ : Bytes) {l : Bytes} {e : Refusal} → Counts st known false (λ s. read_nested 64 s l₀) l (Err e)
     → FieldsAre st known (λ s. read_one d.RM (read_type s) l₀) st l (Err e)
 unfolding place_read read_one rd.◌>>=◌ go_on read_type
 rm_unread {st} l₀ c =
@@ -215,7 +215,7 @@ module _ {st : Table} {known : ℕ} (l₀ : Bytes) {st₁ : Table} {l₁ : Bytes
             ∙ sym (first_type place_record (two_record m) (second m) (places m) (read_nested 64 s) o false _ (held st ds) (held st₁ ds) _ (t.is ds s d k));
       }
 
-  pub two_unread : {st₂ : Table} {l : Bytes} {e : ReadError} → Takes st₁ known (is_none o) (λ s. read_nested 64 s l₁) st₂ l (Err e)
+  pub two_unread : {st₂ : Table} {l : Bytes} {e : Refusal} → Takes st₁ known (is_none o) (λ s. read_nested 64 s l₁) st₂ l (Err e)
       → FieldsAre st known (λ s. read_two (two_record m) (read_type s) (read_type s) l₀) st₂ l (Err e)
   unfolding read_two read_type rd.◌>>=◌ go_on place_read
   two_unread {e = e} t' =
@@ -225,7 +225,7 @@ module _ {st : Table} {known : ℕ} (l₀ : Bytes) {st₁ : Table} {l₁ : Bytes
         structs = t'.structs ∙ t.structs;
         inside = tt;
         is = λ ds s d k.
-            let x = stopped_is (read_nested 64 s l₁) (is_none o) (held st₁ ds) (refusal e) (t'.is ds s (declares_kept _ _ _ _ ds t.structs d) k) in
+            let x = stopped_is (read_nested 64 s l₁) (is_none o) (held st₁ ds) (refusal_of e) (t'.is ds s (declares_kept _ _ _ _ ds t.structs d) k) in
             sym (first_type place_record (two_record m) (second m) (places m) (read_nested 64 s) o false _ (held st ds) (held st₁ ds) _ (t.is ds s d k)
             ∙ ap (λ (y : Read Tree). place_read (is_none o) (second m (unwrap_or o 0)) y (held st₁ ds)) x);
       }

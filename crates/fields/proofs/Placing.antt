@@ -5,16 +5,17 @@ use Prim.Native.Nat.{ℕ}
 use native.Mathlib.Omega.{arith}
 use Rattle.std.specs.Prelude as std
 use Rattle.std.specs.Prelude.{Option, Some, None, Ok, Err, is_none, unwrap_or, if◌then◌else◌}
-use Rattle.definition.specs.Types.{State, Refusal, full, Result, ok, refused, ◌>>=◌}
+use Rattle.definition.specs.Types as d
+use Rattle.definition.specs.Types.{State, full, Result, ok, refused, ◌>>=◌}
 use Rattle.definition.specs.Write.{Bytes}
 use Rattle.definition.specs.Reader.{Read, got, not_read, Reader, give, go_on}
 use Rattle.definition.specs.Trees.{Tree}
 use Rattle.definition.specs.Build.{build}
-use Rattle.cursor.specs.declared.ReadError.{ReadError}
+use Rattle.refusals.specs.declared.Refusal.{Refusal}
 use Rattle.reader.specs.Taken.{Placed, stopped, placed, place_read, part_of, read_with}
 
 -- reading stopped
-pub stopped_is : (x : Read Tree) (over : Bool) (s : State) (y : Refusal) → stopped y ≡ place_read over build x s → x ≡ not_read y
+pub stopped_is : (x : Read Tree) (over : Bool) (s : State) (y : d.Refusal) → stopped y ≡ place_read over build x s → x ≡ not_read y
 unfolding place_read
 stopped_is (got a l) over s y e = absurd (let z : ◌≡◌ {A = ℕ} 0 1 = cc in omega arith)
 stopped_is (not_read z) over s y e = cc
@@ -27,7 +28,7 @@ module _ {A B : Type 0} (put : A → State → Result (State × B)) (h : Tree �
   mapped (stopped x) = stopped x
   mapped (placed q l) = placed (q >>= (λ (s, n). ok (s, g n))) l
 
-  part_mapped : (p : std.Result (Option ℕ) ReadError) (s : State) (l : Bytes) → read_with p g s l ≡ mapped (part_of p s l)
+  part_mapped : (p : std.Result (Option ℕ) Refusal) (s : State) (l : Bytes) → read_with p g s l ≡ mapped (part_of p s l)
   unfolding ◌>>=◌
   part_mapped (Ok (Some t)) s l = refl
   part_mapped (Ok None) s l = refl
@@ -39,7 +40,7 @@ module _ {A B : Type 0} (put : A → State → Result (State × B)) (h : Tree �
   read_mapped true (got t l) s = refl
   read_mapped false (got t l) s = ap (λ (q : Result (State × B)). placed q l) (sym (places t s))
 
-  pub last_type : (p : std.Result (Option ℕ) ReadError) (over : Bool) (x : Read Tree) (s s' : State) (l : Bytes) → part_of p s' l ≡ place_read over build x s
+  pub last_type : (p : std.Result (Option ℕ) Refusal) (over : Bool) (x : Read Tree) (s s' : State) (l : Bytes) → part_of p s' l ≡ place_read over build x s
       → read_with p g s' l ≡ place_read over put (go_on x (λ t. give (h t))) s
   last_type p over x s s' l e = part_mapped p s' l ∙ ap mapped e ∙ read_mapped over x s
 

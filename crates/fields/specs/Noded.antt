@@ -16,7 +16,7 @@ use Rattle.table.specs.Did.{held, tables}
 use Rattle.table.specs.declared.state.State.{State as Table}
 use Rattle.tparams.specs.Pairs.{pairs}
 use Rattle.constraints.specs.Solve.{kind_of}
-use Rattle.cursor.specs.declared.ReadError.{ReadError}
+use Rattle.refusals.specs.declared.Refusal.{Refusal}
 use Rattle.heads.specs.Fields.{Knows}
 use Rattle.reader.specs.Taken.{Placed, place_read, read_with, PlacedSo}
 use Rattle.needs.specs.Counted.{needs_of}
@@ -174,7 +174,7 @@ noded (q.Look x) = run (looks (look_of x))
 noded (q.Add x) = run (adds (add_of x))
 
 -- met in the state s, with these bytes left
-abbrev pub fields_as : std.Result (Option What) ReadError → State → Bytes → Placed Noded
+abbrev pub fields_as : std.Result (Option What) Refusal → State → Bytes → Placed Noded
 fields_as r s bytes = read_with r noded s bytes
 
 -- nodes below n
@@ -196,7 +196,7 @@ WhatIn n (q.Add x) = Unit {0}
 
 -- the table st became t, which lends the same words; r is the record that m reads, its types placed, and the bytes l are left; s knows as many variables
 -- and structs as the record began with
-pub record FieldsAre (st : Table) (known : ℕ) (m : State → Read Record) (t : Table) (l : Bytes) (r : std.Result (Option What) ReadError) : Type 0 where
+pub record FieldsAre (st : Table) (known : ℕ) (m : State → Read Record) (t : Table) (l : Bytes) (r : std.Result (Option What) Refusal) : Type 0 where
   pub same : t.words.ghost_name ≡ st.words.ghost_name
   pub grown : Grown (tables st) (tables t)
   pub structs : (tables t).structs ≡ (tables st).structs

@@ -15,11 +15,12 @@ ghost use Rattle.constraints.specs.Solve.{kind_of};
 ghost use Rattle.fields.specs.Noded.{FieldsAre, params_of};
 
 use constraints::NumericKind;
-use cursor::{ReadError, Reader};
+use cursor::Reader;
 use marks::{LocMark, LocTypeMark, LookMark, TwoMark};
 use names::{AbilitySet, TParamID, TVar};
 use needs::{Sums, count_type};
 use reader::read_type;
+use refusals::Refusal;
 use table::state::State;
 
 // ---- a record that is read, its types placed as nodes
@@ -75,7 +76,7 @@ pub enum What {
 // What was read, or none if there was no space for its types (7); and the place after it, beside both, since a record without space has one too.
 #[derive(Clone, Copy)]
 pub struct Fields {
-    pub read: Result<Option<What>, ReadError>,
+    pub read: Result<Option<What>, Refusal>,
     pub next: usize,
 }
 
@@ -86,7 +87,7 @@ pub fn read_look(
     r: &mut Reader,
     known: u32,
     m: LookMark,
-) -> Result<Option<What>, ReadError>
+) -> Result<Option<What>, Refusal>
     requires { Arities (tables st.old).structs }
     ensures is { FieldsAre st.old known (λ s. read_one (look_record m) (read_type s) r.old.left.now) st.new r.new.left.now result }
     ensures within { Within r.old.left.now r.new.left.now }
@@ -95,7 +96,7 @@ pub fn read_look(
     Ok(ty.map(|t| What::Look(Look::One(m, t))))
 }
 
-pub fn read_in(st: &mut State<'_>, r: &mut Reader, known: u32) -> Result<Option<What>, ReadError>
+pub fn read_in(st: &mut State<'_>, r: &mut Reader, known: u32) -> Result<Option<What>, Refusal>
     requires { Arities (tables st.old).structs }
     ensures is { FieldsAre st.old known (λ s. read_one IN (read_type s) r.old.left.now) st.new r.new.left.now result }
     ensures within { Within r.old.left.now r.new.left.now }
@@ -109,7 +110,7 @@ pub fn read_two(
     r: &mut Reader,
     known: u32,
     m: TwoMark,
-) -> Result<Option<What>, ReadError>
+) -> Result<Option<What>, Refusal>
     requires { Arities (tables st.old).structs }
     ensures is { FieldsAre st.old known (λ s. read_two (two_record m) (read_type s) (read_type s) r.old.left.now) st.new r.new.left.now result }
     ensures within { Within r.old.left.now r.new.left.now }
@@ -122,7 +123,7 @@ pub fn read_two(
 
 // ---- one type, counted and not placed
 
-pub fn read_rm(st: &State<'_>, r: &mut Reader, known: u32) -> Result<Option<What>, ReadError>
+pub fn read_rm(st: &State<'_>, r: &mut Reader, known: u32) -> Result<Option<What>, Refusal>
     requires few_params { Arities (tables st.now).structs }
     requires short { length r.old.left.now ≤ 4096 }
     ensures is { FieldsAre st.now known (λ s. read_one RM (read_type s) r.old.left.now) st.now r.new.left.now result }
@@ -134,7 +135,7 @@ pub fn read_rm(st: &State<'_>, r: &mut Reader, known: u32) -> Result<Option<What
 
 // ---- numbers, and a type or none
 
-pub fn read_loc(r: &mut Reader, m: LocMark) -> Result<Option<What>, ReadError>
+pub fn read_loc(r: &mut Reader, m: LocMark) -> Result<Option<What>, Refusal>
     ensures is { (st : Table) (known : ℕ) → FieldsAre st known (λ s. read_one (loc_record m) read_u32 r.old.left.now) st r.new.left.now result }
     ensures within { Within r.old.left.now r.new.left.now }
 {
@@ -142,7 +143,7 @@ pub fn read_loc(r: &mut Reader, m: LocMark) -> Result<Option<What>, ReadError>
     Ok(Some(What::Add(Add::Loc(m, loc))))
 }
 
-pub fn read_sn(r: &mut Reader, known: u32) -> Result<Option<What>, ReadError>
+pub fn read_sn(r: &mut Reader, known: u32) -> Result<Option<What>, Refusal>
     ensures is { (st : Table) → FieldsAre st known (λ s. read_two SN (name_below (taken s)) read_u32 r.old.left.now) st r.new.left.now result }
     ensures within { Within r.old.left.now r.new.left.now }
 {
@@ -156,7 +157,7 @@ pub fn read_loc_type(
     r: &mut Reader,
     known: u32,
     m: LocTypeMark,
-) -> Result<Option<What>, ReadError>
+) -> Result<Option<What>, Refusal>
     requires { Arities (tables st.old).structs }
     ensures is { FieldsAre st.old known (λ s. read_two (loc_type_record m) read_u32 (read_type s) r.old.left.now) st.new r.new.left.now result }
     ensures within { Within r.old.left.now r.new.left.now }
@@ -167,7 +168,7 @@ pub fn read_loc_type(
 }
 
 // A kind's byte, from 0 to 2.
-fn read_kind(r: &mut Reader) -> Result<NumericKind, ReadError>
+fn read_kind(r: &mut Reader) -> Result<NumericKind, Refusal>
     ensures is { read_as kind_of result r.new.left.now ≡ read_kind r.old.left.now }
     ensures within { Within r.old.left.now r.new.left.now }
 {
@@ -175,11 +176,11 @@ fn read_kind(r: &mut Reader) -> Result<NumericKind, ReadError>
         0 => Ok(NumericKind::Numeric),
         1 => Ok(NumericKind::Bits),
         2 => Ok(NumericKind::Ordered),
-        _ => Err(ReadError::Malformed),
+        _ => Err(Refusal::Malformed),
     }
 }
 
-pub fn read_nc(st: &mut State<'_>, r: &mut Reader, known: u32) -> Result<Option<What>, ReadError>
+pub fn read_nc(st: &mut State<'_>, r: &mut Reader, known: u32) -> Result<Option<What>, Refusal>
     requires { Arities (tables st.old).structs }
     ensures is { FieldsAre st.old known (λ s. read_three NC read_u32 read_kind (read_type s) r.old.left.now) st.new r.new.left.now result }
     ensures within { Within r.old.left.now r.new.left.now }
@@ -193,7 +194,7 @@ pub fn read_nc(st: &mut State<'_>, r: &mut Reader, known: u32) -> Result<Option<
 // ---- a struct's declaration
 
 // A byte for each of so many parameters.
-fn read_params(r: &mut Reader, many: u8) -> Result<Params, ReadError>
+fn read_params(r: &mut Reader, many: u8) -> Result<Params, Refusal>
     requires { many ≤ 8 }
     ensures is { read_as params_of result r.new.left.now ≡ times many (byte_to 31) r.old.left.now }
     ensures few { IfOk result (λ ps. ps.many ≤ 8) }
@@ -206,7 +207,7 @@ fn read_params(r: &mut Reader, many: u8) -> Result<Params, ReadError>
     Ok(Params { bytes, many })
 }
 
-pub fn read_sd(r: &mut Reader) -> Result<Option<What>, ReadError>
+pub fn read_sd(r: &mut Reader) -> Result<Option<What>, Refusal>
     ensures is { (st : Table) (known : ℕ) → FieldsAre st known (λ s. read_SD s r.old.left.now) st r.new.left.now result }
     ensures within { Within r.old.left.now r.new.left.now }
 {

@@ -10,8 +10,8 @@ use Rattle.names.specs.Names.{mark_of, name_of}
 use Rattle.names.specs.declared.AbilitySet.{AbilitySet}
 use Rattle.table.specs.declared.Shape.{Shape}
 use Rattle.table.specs.declared.Shape.TheVariants.{Unit as UnitS, Ref, Param, Apply, Var, Anything, UnresolvedError}
-use Rattle.cursor.specs.Words.{refusal}
-use Rattle.cursor.specs.declared.ReadError.{ReadError}
+use Rattle.refusals.specs.Refusals.{refusal_of}
+use Rattle.refusals.specs.declared.Refusal.{Refusal}
 use Rattle.heads.specs.declared.Head.{Head}
 
 abbrev pub marked : Option (Option AbilitySet) → Option d.AbilityMark
@@ -25,13 +25,13 @@ abbrev pub many_parts : Shape → ℕ
 many_parts UnitS = 0
 many_parts (Ref m t) = 1
 many_parts (Param id a) = 0
-many_parts (Apply k n first many) = many
+many_parts (Apply a) = a.many
 many_parts (Var v) = 0
 many_parts Anything = 0
 many_parts UnresolvedError = 0
 
 -- eight at most
-abbrev pub Few : Result Shape ReadError → Type 0
+abbrev pub Few : Result Shape Refusal → Type 0
 Few r = IfOk r (λ h. many_parts h ≤ 8)
 
 abbrev pub first_tree : Trees → Tree
@@ -43,7 +43,7 @@ abbrev pub tree_of : ℕ → Shape → Trees → Tree
 tree_of loc UnitS ts = unit_tree loc
 tree_of loc (Ref m t) ts = ref_tree loc m (first_tree ts)
 tree_of loc (Param id a) ts = param_tree loc id.0 a.0
-tree_of loc (Apply k n first many) ts = apply_tree loc (mark_of k) (name_of n) ts
+tree_of loc (Apply a) ts = apply_tree loc (mark_of a.k) (name_of a.n) ts
 tree_of loc (Var v) ts = var_tree loc v.0
 tree_of loc Anything ts = anything_tree loc
 tree_of loc UnresolvedError ts = error_tree loc
@@ -55,13 +55,13 @@ read_args s part loc k n = if not (mark_fits k n) then refuse malformed else do
   give (apply_tree loc k n ts)
 
 -- the tree of a location and a shape, once `part` has read the parts
-abbrev pub parts_read : ℕ → Result Shape ReadError → Bytes → Reader Tree → Read Tree
+abbrev pub parts_read : ℕ → Result Shape Refusal → Bytes → Reader Tree → Read Tree
 parts_read loc (Ok h) l part = go_on (read_trees (many_parts h) part l) (λ ts. give (tree_of loc h ts))
-parts_read loc (Err e) l part = not_read (refusal e)
+parts_read loc (Err e) l part = not_read (refusal_of e)
 
-abbrev pub tree_read : Result Head ReadError → Bytes → Reader Tree → Read Tree
+abbrev pub tree_read : Result Head Refusal → Bytes → Reader Tree → Read Tree
 tree_read (Ok h) l part = parts_read h.loc (Ok h.shape) l part
-tree_read (Err e) l part = not_read (refusal e)
+tree_read (Err e) l part = not_read (refusal_of e)
 
 -- what reading asks of a state: so many variables are taken, and these are the structs
 pub record Knows (s : State) (known : ℕ) (ds : List Struct) : Type 0 where

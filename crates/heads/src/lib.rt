@@ -13,13 +13,14 @@ ghost use Rattle.table.specs.Did.{tables};
 ghost use Rattle.cursor.specs.Words.{Within, read_as};
 ghost use Rattle.heads.specs.Fields.{read_args, marked, many_parts, parts_read, tree_read, Few, Knows, Arities};
 
-use cursor::{ReadError, Reader};
+use cursor::Reader;
 use names::{
     AbilityMark, AbilitySet, MAX_BUILTIN, TParamID, TVar, TypeName, builtin_tparams, has_drop,
     is_numeric,
 };
-use table::Shape;
+use refusals::Refusal;
 use table::state::State;
+use table::{Applied, Shape};
 
 // A type without its parts: its location, and its tag and fields as a shape. No Node, whose shape names its parts: here none is placed yet.
 #[derive(Clone, Copy)]
@@ -40,12 +41,12 @@ fn mark_of(byte: u32) -> Option<AbilityMark>
     }
 }
 
-fn read_mark(r: &mut Reader) -> Result<AbilityMark, ReadError>
+fn read_mark(r: &mut Reader) -> Result<AbilityMark, Refusal>
     ensures is { read_as mark-is result r.new.left.now ≡ read_mark r.old.left.now }
     ensures within { Within r.old.left.now r.new.left.now }
 {
     let byte = r.u8()?;
-    mark_of(u32::from(byte)).ok_or(ReadError::Malformed)
+    mark_of(u32::from(byte)).ok_or(Refusal::Malformed)
 }
 
 // On an integer type a set must contain drop.
@@ -67,19 +68,19 @@ fn is_doubled(r: &Reader, left: u32) -> bool
     0 < left && matches!(r.left, [1, ..])
 }
 
-fn ref_fields(r: &mut Reader, left: u32) -> Result<Shape, ReadError>
+fn ref_fields(r: &mut Reader, left: u32) -> Result<Shape, Refusal>
     ensures begins { (loc : ℕ) (part : Reading Tree) → parts_read loc result r.new.left.now part ≡ read_two (ref_tree loc) read_bool (under_ref left part) r.old.left.now }
     ensures few { Few result }
     ensures within { Within r.old.left.now r.new.left.now }
 {
     let x = r.byte_to(1)?;
     if is_doubled(r, left) {
-        return Err(ReadError::DoubledReference);
+        return Err(Refusal::DoubledReference);
     }
     Ok(Shape::Ref(0 < x, 0))
 }
 
-fn param_fields(r: &mut Reader) -> Result<Shape, ReadError>
+fn param_fields(r: &mut Reader) -> Result<Shape, Refusal>
     ensures begins { (loc : ℕ) (part : Reading Tree) → parts_read loc result r.new.left.now part ≡ read_two (param_tree loc) read_u32 (byte_if is_set) r.old.left.now }
     ensures few { Few result }
     ensures within { Within r.old.left.now r.new.left.now }
@@ -89,7 +90,7 @@ fn param_fields(r: &mut Reader) -> Result<Shape, ReadError>
     Ok(Shape::Param(TParamID(id), AbilitySet(abilities)))
 }
 
-fn builtin_fields(r: &mut Reader) -> Result<Shape, ReadError>
+fn builtin_fields(r: &mut Reader) -> Result<Shape, Refusal>
     ensures begins { (s : d.State) (loc : ℕ) (part : Reading Tree) → parts_read loc result r.new.left.now part ≡ read_apply s part loc byte d.Builtin malformed r.old.left.now }
     ensures few { Few result }
     ensures within { Within r.old.left.now r.new.left.now }
@@ -97,23 +98,33 @@ fn builtin_fields(r: &mut Reader) -> Result<Shape, ReadError>
     let k = read_mark(r)?;
     let n = u32::from(r.byte_to(MAX_BUILTIN)?);
     if !fits(k, n) {
-        return Err(ReadError::Malformed);
+        return Err(Refusal::Malformed);
     }
     let many = builtin_tparams(n);
-    Ok(Shape::Apply(k, TypeName::Builtin(n), 0, many))
+    Ok(Shape::Apply(Applied {
+        k,
+        n: TypeName::Builtin(n),
+        first: 0,
+        many,
+    }))
 }
 
-fn list_fields(r: &mut Reader) -> Result<Shape, ReadError>
+fn list_fields(r: &mut Reader) -> Result<Shape, Refusal>
     ensures begins { (s : d.State) (loc : ℕ) (part : Reading Tree) → parts_read loc result r.new.left.now part ≡ read_apply s part loc byte d.Multiple malformed r.old.left.now }
     ensures few { Few result }
     ensures within { Within r.old.left.now r.new.left.now }
 {
     let k = read_mark(r)?;
     let n = u32::from(r.byte_to(8)?);
-    Ok(Shape::Apply(k, TypeName::Multiple(n), 0, n))
+    Ok(Shape::Apply(Applied {
+        k,
+        n: TypeName::Multiple(n),
+        first: 0,
+        many: n,
+    }))
 }
 
-fn struct_fields(st: &State<'_>, r: &mut Reader) -> Result<Shape, ReadError>
+fn struct_fields(st: &State<'_>, r: &mut Reader) -> Result<Shape, Refusal>
     requires { Arities (tables st.now).structs }
     ensures begins { (s : d.State) → Declares st.now.words.now st.now.used s.structs → (loc : ℕ) (part : Reading Tree) → parts_read loc result r.new.left.now part ≡ read_apply s part loc read_u16 d.ModuleType unknown_name r.old.left.now }
     ensures few { Few result }
@@ -122,10 +133,15 @@ fn struct_fields(st: &State<'_>, r: &mut Reader) -> Result<Shape, ReadError>
     let k = read_mark(r)?;
     let n = u32::from(r.name_below(st.used.structs)?);
     let many = st.struct_at(n).params;
-    Ok(Shape::Apply(k, TypeName::ModuleType(n), 0, many))
+    Ok(Shape::Apply(Applied {
+        k,
+        n: TypeName::ModuleType(n),
+        first: 0,
+        many,
+    }))
 }
 
-fn var_fields(r: &mut Reader, known: u32) -> Result<Shape, ReadError>
+fn var_fields(r: &mut Reader, known: u32) -> Result<Shape, Refusal>
     ensures begins { (s : d.State) → taken s ≡ known → (loc : ℕ) (part : Reading Tree) → parts_read loc result r.new.left.now part ≡ read_one (var_tree loc) (name_below (taken s)) r.old.left.now }
     ensures few { Few result }
     ensures within { Within r.old.left.now r.new.left.now }
@@ -135,13 +151,7 @@ fn var_fields(r: &mut Reader, known: u32) -> Result<Shape, ReadError>
 }
 
 // By the tag, from 0 to 8; a part may nest `left` deep.
-fn fields(
-    st: &State<'_>,
-    r: &mut Reader,
-    known: u32,
-    left: u32,
-    tag: u8,
-) -> Result<Shape, ReadError>
+fn fields(st: &State<'_>, r: &mut Reader, known: u32, left: u32, tag: u8) -> Result<Shape, Refusal>
     requires few_params { Arities (tables st.now).structs }
     requires is_tag { tag ≤ 8 }
     ensures begins { (s : d.State) (ds : List d.Struct) → Declares st.now.words.now st.now.used ds → Knows s known ds → (loc : ℕ) (part : Reading Tree) → parts_read loc result r.new.left.now part ≡ get_or (by_tag s part loc left) tag (refuse malformed) r.old.left.now }
@@ -162,14 +172,14 @@ fn fields(
 }
 
 // Tag, location and fields of a type at most `nest` deep.
-pub fn read_head(st: &State<'_>, r: &mut Reader, known: u32, nest: u32) -> Result<Head, ReadError>
+pub fn read_head(st: &State<'_>, r: &mut Reader, known: u32, nest: u32) -> Result<Head, Refusal>
     requires { Arities (tables st.now).structs }
     ensures reads { (s : d.State) (ds : List d.Struct) → Declares st.now.words.now st.now.used ds → Knows s known ds → tree_read result r.new.left.now (read_nested (nest - 1) s) ≡ read_nested nest s r.old.left.now }
     ensures few { IfOk result (λ h. (many_parts h.shape ≤ 8) × (0 < nest)) }
     ensures within { Within r.old.left.now r.new.left.now }
 {
     if nest == 0 {
-        return Err(ReadError::Malformed);
+        return Err(Refusal::Malformed);
     }
     let tag = r.byte_to(8)?;
     let loc = r.u32()?;

@@ -11,15 +11,15 @@ ghost use Rattle.names.specs.Names.{mark_of, name_of};
 ghost use Rattle.table.specs.State.{constraint_of, Parts, Declares, Placed, Named};
 ghost use Rattle.table.specs.Known.{Known};
 ghost use Rattle.table.specs.Did.{held, tables, Did, DidFor};
-ghost use Rattle.shapes.specs.Applied.{args_of};
+ghost use Rattle.table.specs.State.{args_of};
 ghost use Rattle.instantiate.specs.Known.{Numbered, ability_at};
 ghost use Rattle.instantiate.specs.Args.{make_tparam, made, Made, joined};
 
 use join::Types;
 use names::{AbilitySet, PHANTOM, TVar, TypeName};
-use shapes::Applied;
+use refusals::Refusal;
 use table::state::{State, Stop};
-use table::{Constraint, Refusal, Shape};
+use table::{Applied, Constraint, Shape};
 
 // A fresh variable, as a node.
 fn make_tvar(st: &mut State<'_>, loc: u32) -> Result<u32, Stop>
@@ -177,10 +177,7 @@ fn instantiate_down(
             let p = instantiate_down(st, params, left - 1, t)?;
             st.push_node(loc, Shape::Ref(m, p))
         }
-        Shape::Apply(k, n, first, many) => {
-            let t = Applied { k, n, first, many };
-            instantiate_apply(st, params, left - 1, loc, t)
-        }
+        Shape::Apply(t) => instantiate_apply(st, params, left - 1, loc, t),
     }
 }
 

@@ -22,8 +22,8 @@ use Rattle.table.proofs.Did.{did_is, to_when}
 use Rattle.table.proofs.Grown.{nodes_grow}
 use Rattle.table.proofs.Parts.{below_named}
 use Rattle.table.proofs.Walk.{rest, just_list, range, range_length, range_at, zip_types, zip_is, placed_length, arg_kept, Walked, walk_start, walk_more}
-use Rattle.shapes.specs.Applied.{args_of}
-use Rattle.shapes.specs.declared.Applied.{Applied}
+use Rattle.table.specs.State.{args_of}
+use Rattle.table.specs.declared.Applied.{Applied}
 use Rattle.join.specs.Join.{ArgsIn, Joined}
 use Rattle.join.specs.declared.Types.{Types}
 use Rattle.join.proofs.Lists.{listed_is, list_err, list_ok}

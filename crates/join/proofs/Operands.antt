@@ -19,15 +19,15 @@ use Rattle.table.specs.State.{Any, outcome, seen, node_of, shape_of, Below}
 use Rattle.table.specs.Did.{held, tables, Became, Did}
 use Rattle.table.specs.declared.Node.{Node}
 use Rattle.table.specs.declared.TypingError.TheVariants as error
-use Rattle.table.specs.declared.Refusal.TheVariants.{TooDeep, AbilitiesDisagree}
+use Rattle.refusals.specs.declared.Refusal.TheVariants.{TooDeep, AbilitiesDisagree}
 use Rattle.table.specs.declared.state.State.{State}
 use Rattle.table.specs.declared.state.Stop.{Stop}
 use Rattle.table.specs.declared.state.Stop.TheVariants.{Failed, Refused}
 use Rattle.table.proofs.Did.{became_as, became_on, did_now, did_is, did_err, did_then, in_stop, nodes_more}
 use Rattle.table.proofs.Pushed.{count_view}
 use Rattle.table.proofs.Grown.{loc_is, value_is}
-use Rattle.shapes.specs.Applied.{args_of}
-use Rattle.shapes.specs.declared.Applied.{Applied}
+use Rattle.table.specs.State.{args_of}
+use Rattle.table.specs.declared.Applied.{Applied}
 use Rattle.arms.specs.Arms.{case_of, by_arm, ArmBelow, Takes}
 use Rattle.arms.specs.declared.TypingCase.{TypingCase}
 use Rattle.arms.specs.declared.Arm.{Arm}

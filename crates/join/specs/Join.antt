@@ -7,13 +7,13 @@ use Rattle.table.specs.State.{Any, Below, Parts, view, shape_of, outcome}
 use Rattle.table.specs.Did.{StopIn, Became}
 use Rattle.table.specs.declared.state.State.{State}
 use Rattle.table.specs.declared.state.Stop.{Stop}
-use Rattle.shapes.specs.Applied.{as_shape}
-use Rattle.shapes.specs.declared.Applied.{Applied}
+use Rattle.table.specs.declared.Shape.TheVariants.{Apply}
+use Rattle.table.specs.declared.Applied.{Applied}
 use Rattle.join.specs.declared.Types.{Types}
 
 -- the argument places are in use, and each holds a node
 abbrev pub ArgsIn : State → Applied → Type 0
-ArgsIn s t = Below (view s.words.now s.used).args s.used.nodes (shape_of (as_shape t))
+ArgsIn s t = Below (view s.words.now s.used).args s.used.nodes (shape_of (Apply t))
 
 -- ---- an answer that is a list of nodes: the first `many x` of `parts x`
 

@@ -6,16 +6,16 @@ ghost use Rattle.std.specs.Prelude.{ℕ, ◌<◌};
 ghost use Rattle.definition.specs.Store.{args_at};
 ghost use Rattle.definition.specs.Join.{join, subtype, join_impl, join_impl_types, join_tvar};
 ghost use Rattle.table.specs.Did.{Did};
-ghost use Rattle.shapes.specs.Applied.{args_of};
+ghost use Rattle.table.specs.State.{args_of};
 ghost use Rattle.arms.specs.Arms.{case_of};
 ghost use Rattle.join.specs.Join.{ArgsIn, Joined};
 
 use arms::{Arm, TypingCase};
 use merge::VarAt;
 use names::MAX_DEPTH;
-use shapes::Applied;
+use refusals::Refusal;
 use table::state::{State, Stop};
-use table::{Refusal, Shape, TypingError};
+use table::{Applied, Shape, TypingError};
 
 // Types, one for each argument: the first `many` of `tys`. Eight places and a count, as push_apply takes them (tparams says why).
 #[derive(Clone, Copy)]

@@ -24,21 +24,21 @@ use Rattle.sound.proofs.Decoded.{decoded, encode_lent}
 use Rattle.engine.specs.Public.{LentPiece, in_front, lent_piece, lent_lines}
 use Rattle.engine.proofs.Fresh.{from_fresh}
 use Rattle.turns.specs.declared.Turn.{Turn}
-use Rattle.turns.specs.Filling.{ended, lost, first, Filled}
+use Rattle.turns.specs.Filling.{ended, lost, first, last_read, Filled}
 use Rattle.joinlog.specs.Turns.{Held, stream, job_lines, lines_of, Listed, reads, lists, bytes_read, text_handed, Turns, none, and_turn}
-use Rattle.joinlog.proofs.Moves.{clash}
+use Rattle.turns.proofs.Taken.{clash}
 
 -- ---- lists and tests
 
-bytes_front : (a b : Bytes) → IsBytes (a ++ b) → IsBytes a
+pub bytes_front : (a b : Bytes) → IsBytes (a ++ b) → IsBytes a
 bytes_front [] b is = tt
 bytes_front (x ∷ a) b is = (is.0, bytes_front a b is.1)
 
-bytes_back : (a b : Bytes) → IsBytes (a ++ b) → IsBytes b
+pub bytes_back : (a b : Bytes) → IsBytes (a ++ b) → IsBytes b
 bytes_back [] b is = is
 bytes_back (x ∷ a) b is = bytes_back a b is.1
 
-or_false : (a b : Bool) → (a || b) ≡ false → a ≡ false
+pub or_false : (a b : Bool) → (a || b) ≡ false → a ≡ false
 or_false true b e = e
 or_false false b e = refl
 
@@ -63,19 +63,19 @@ same_lines {i} {w'} {r'} ei ew er a room more =
     ap (λ (k : Option ℕ). job_lines k w' r' a room more) ei ∙ ap₂ (λ (x : Bytes) (y : List Bytes). job_lines i x y a room more) ew er
 
 -- the next record's number
-abbrev number : Option ℕ → ℕ
+abbrev pub number : Option ℕ → ℕ
 number None = 0
 number (Some i) = i
 
 -- ---- turn after turn
 
 -- what may follow the bytes read
-record Later (t : Turn) (b : Bytes) : Type 0 where
+pub record Later (t : Turn) (b : Bytes) : Type 0 where
   pub are : IsBytes b
   pub none : t.more ≡ false → b ≡ []
 
 -- a sound state, from which the next lines come, and the log of all that was read and of b after it is the text handed to the writer, and then the log from here on
-record Stands (input output : Bytes) (h : Held) : Type 0 where
+pub record Stands (input output : Bytes) (h : Held) : Type 0 where
   pub state : State
   pub asks : (a : Bytes) (room : ℕ) (more : Bool) → job_lines h.job.turn.index h.job.words h.rows a room more ≡ lent_piece (next_lines (number h.job.turn.index) state a room more)
   pub is_sound : sound state ≡ true
@@ -94,8 +94,8 @@ stands_first h f n = record {
 module _ (input output : Bytes) (h h' : Held) (s : Stands input output h) where
   module _ (more : h.job.turn.more ≡ true) (f : Filled h.job.buf h.job.turn h'.job.buf h'.job.turn) where
     -- the bytes at hand are those that were, and those read
-    rest_read : stream h'.job ≡ stream h.job ++ bytes_read h'.job
-    unfolding bytes_read
+    pub rest_read : stream h'.job ≡ stream h.job ++ bytes_read h'.job
+    unfolding last_read
     rest_read =
         let m = h.job.turn.have - h.job.turn.from in
         let e : h'.job.turn.have - h'.job.turn.from ≡ m + h'.job.turn.read = omega (arith, f.front, f.end) in
@@ -107,7 +107,7 @@ module _ (input output : Bytes) (h h' : Held) (s : Stands input output h) where
     none_handed = ap (λ (n : ℕ). take n h'.job.log) f.silent
 
     stands_read : h'.job.words ≡ h.job.words → h'.rows ≡ h.rows → IsBytes (bytes_read h'.job) → Stands (input ++ bytes_read h'.job) (output ++ text_handed h'.job) h'
-    unfolding bytes_read lines job_from
+    unfolding last_read lines job_from
     stands_read ew er is = record {
       state = s.state;
       asks = λ a room more. same_lines f.same_index ew er a room more ∙ s.asks a room more ∙ ap (λ (i : Option ℕ). lent_piece (next_lines (number i) s.state a room more)) (sym f.same_index);
@@ -116,22 +116,22 @@ module _ (input output : Bytes) (h h' : Held) (s : Stands input output h) where
       logs = λ b l. rw (append_assoc input (bytes_read h'.job) b, none_handed, append-nil output, rest_read, f.same_index, append_assoc (stream h.job) (bytes_read h'.job) b) (s.logs (bytes_read h'.job ++ b) (record { are = bytes_append (bytes_read h'.job) b is l.are; none = λ z. clash more z }));
     }
 
-  abbrev piece : Piece
+  abbrev pub piece : Piece
   piece = next_lines (number h.job.turn.index) s.state (stream h.job) (length h.job.log) h.job.turn.more
 
-  lines_are : lines_of h ≡ lent_piece piece
+  pub lines_are : lines_of h ≡ lent_piece piece
   lines_are = s.asks (stream h.job) (length h.job.log) h.job.turn.more
 
   module _ (l : Listed h h') where
-    none_read : bytes_read h'.job ≡ []
-    unfolding bytes_read
+    pub none_read : bytes_read h'.job ≡ []
+    unfolding last_read
     none_read = ap (λ (n : ℕ). take n (drop (h'.job.turn.have - n) h'.job.buf)) l.none
 
     text_is : text_handed h'.job ≡ piece.text
     unfolding text_handed lent_piece in_front
     text_is = ap₂ (λ (n : ℕ) (a : Bytes). take n a) l.handed l.text ∙ take_at (lines_of h).text _ _ refl ∙ ap (λ (p : LentPiece). p.text) lines_are
 
-    ended_is : (lines_of h).ended ≡ piece.ended
+    pub ended_is : (lines_of h).ended ≡ piece.ended
     unfolding lent_piece
     ended_is = ap (λ (p : LentPiece). p.ended) lines_are
 
@@ -149,13 +149,24 @@ module _ (input output : Bytes) (h h' : Held) (s : Stands input output h) where
     by_last : piece.ended ≡ true → (b : Bytes) → Later h'.job.turn b → log_from 0 fresh ((input ++ bytes_read h'.job) ++ b) ≡ output ++ text_handed h'.job
     by_last e b q = by_lines b q ∙ (rw e (append-nil (output ++ text_handed h'.job)))
 
+    pub goes : ended h'.job.turn.stage ≡ false → piece.ended ≡ false
+    goes e = sym ended_is ∙ or_false _ (lost h'.job.turn.stage) (sym l.ends ∙ e)
+
+    pub next_is : h'.job.turn.index ≡ Some piece.index
+    unfolding lent_piece
+    next_is = l.next ∙ ap (λ (p : LentPiece). Some p.index) lines_are
+
+    pub rest_is : stream h'.job ≡ piece.rest
+    unfolding lent_piece
+    rest_is = l.rest ∙ ap (λ (p : LentPiece). p.rest) lines_are
+
     stands_listed : ended h'.job.turn.stage ≡ false → Stands (input ++ bytes_read h'.job) (output ++ text_handed h'.job) h'
-    unfolding lent_piece bytes_read text_handed
+    unfolding lent_piece last_read text_handed
     stands_listed e =
         let g = piece_follows (number h.job.turn.index) s.state (stream h.job) [] (length h.job.log) h.job.turn.more s.bytes tt s.is_sound (λ z. refl) in
-        let o : piece.ended ≡ false = sym ended_is ∙ or_false _ (lost h'.job.turn.stage) (sym l.ends ∙ e) in
-        let n : h'.job.turn.index ≡ Some piece.index = l.next ∙ ap (λ (p : LentPiece). Some p.index) lines_are in
-        let r : stream h'.job ≡ piece.rest = l.rest ∙ ap (λ (p : LentPiece). p.rest) lines_are in
+        let o = goes e in
+        let n = next_is in
+        let r = rest_is in
         record {
           state = piece.state;
           asks = λ a room more.
@@ -169,7 +180,7 @@ module _ (input output : Bytes) (h h' : Held) (s : Stands input output h) where
         }
 
 module _ (h₀ : Held) (at_first : h₀.job.turn ≡ first) (start : length h₀.job.words ≡ 24069) where
-  stands : {n : ℕ} {input output : Bytes} {h : Held} → Turns h₀ n input output h → ended h.job.turn.stage ≡ false → IsBytes input → Stands input output h
+  pub stands : {n : ℕ} {input output : Bytes} {h : Held} → Turns h₀ n input output h → ended h.job.turn.stage ≡ false → IsBytes input → Stands input output h
   stands none e is = stands_first h₀ at_first start
   stands (and_turn {input = input} {output = output} {h = h} {h' = h'} c o (reads cut ew er el f)) e is =
       stands_read input output h h' (stands c o (bytes_front input (bytes_read h'.job) is)) (and_l h.job.turn.more _ cut) f ew er (bytes_back input (bytes_read h'.job) is)

@@ -1,15 +1,16 @@
 -- Bytes passed, and a buffer's room for the next ones. Assumes nothing.
 use mathlib.Core.Path.{◌≡◌, sym, ap, ap₂, ◌∙◌}
-use mathlib.Core.Bool.{Bool, true, false}
+use mathlib.Core.Bool.{true}
 use mathlib.Core.List.{List, [], ◌∷◌}
 use Prim.Native.Nat.{ℕ, zero, suc, ◌+◌, ◌-◌, ◌≤◌, ◌<◌}
 use native.Mathlib.Omega.{arith}
 use lib.Dec.{ltb, ltb→lt}
-use lib.ListN.{length, take, drop, length-drop}
+use lib.ListN.{length, take, drop, length-drop, length-append}
 use lib.Seq.{take-nil, drop-drop, length-take-le}
 use Rattle.theorems.proofs.SoundFacts.{and_r, test}
 use Rattle.turns.specs.declared.Turn.{Turn}
-use Rattle.turns.specs.Filling.{at_hand, short}
+use Rattle.engine.specs.Public.{in_front}
+use Rattle.turns.specs.Filling.{at_hand, short, last_read}
 
 -- bytes that a record may not fill are fewer than the buffer has room for
 pub short_few : (t : Turn) → short t ≡ true → t.have - t.from < 4096
@@ -33,6 +34,20 @@ passed_within from n have buf ordered inside few =
     let long : have - from ≤ length (drop from buf) = simp length-drop (omega arith) in
     omega (arith, few, length-take-le (have - from) (drop from buf) long)
 
--- a test does not both hold and fail
-pub clash : {A : Type 0} {b : Bool} → b ≡ true → b ≡ false → A
-clash e f = let z : ◌≡◌ {A = ℕ} 0 1 = cc in absurd (omega (arith, z))
+-- the bytes at hand are as many as their places say
+pub hand_size : (from have : ℕ) (buf : List ℕ) → from ≤ have → have ≤ length buf → length (at_hand from have buf) ≡ have - from
+hand_size from have buf ordered inside =
+    let long : have - from ≤ length (drop from buf) = simp length-drop (omega arith) in
+    length-take-le (have - from) (drop from buf) long
+
+-- .. and so are those read
+pub read_size : (t : Turn) (buf : List ℕ) → t.read ≤ t.have → t.have ≤ length buf → length (last_read t buf) ≡ t.read
+unfolding last_read
+read_size t buf few inside =
+    let long : t.read ≤ length (drop (t.have - t.read) buf) = simp length-drop (omega (arith, few, inside)) in
+    length-take-le t.read (drop (t.have - t.read) buf) long
+
+-- a text in front of a log leaves it as long
+pub front_size : (text log : List ℕ) → length text ≤ length log → length (in_front text log) ≡ length log
+unfolding in_front
+front_size text log fits = omega (arith, fits, length-append text (drop (length text) log), length-drop (length text) log)

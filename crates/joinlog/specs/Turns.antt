@@ -1,9 +1,11 @@
 -- A turn of the program reads on, or lists the records at hand; a run is turn after turn, and what it hands to the writer is the log of what it read. Assumes nothing: these are definitions.
-use Rattle.std.specs.Prelude.{◌≡◌, Bool, true, false, ◌||◌, List, [], ◌++◌, ℕ, suc, ◌-◌, length, take, drop, Option, Some, None}
+use Rattle.std.specs.Prelude.{◌≡◌, Bool, true, false, ◌||◌, List, [], ◌++◌, ℕ, suc, ◌+◌, ◌*◌, ◌≤◌, ◌<◌, length, take, Option, Some, None, IfSome}
+use Rattle.std.specs.Io.KnownBytes.{Appends}
 use Rattle.definition.specs.Write.{IsBytes}
 use Rattle.definition.specs.Job.{joinlog}
 use Rattle.engine.specs.Public.{LentPiece, in_front, lent_lines, fresh_lines}
-use Rattle.turns.specs.Filling.{ended, lost, at_hand, Within, short, Filled}
+use Rattle.turns.specs.declared.Stage.{Stage}
+use Rattle.turns.specs.Filling.{ended, lost, first, at_hand, Within, short, last_read, Filled, Took, Gave}
 use Rattle.joinlog.specs.declared.Job.{Job}
 
 -- all that the program holds between two turns: the job, and the parameter rows beside it
@@ -34,6 +36,7 @@ pub record Listed (h h' : Held) : Type 0 where
   pub rows : h'.rows ≡ (lines_of h).params
   pub text : h'.job.log ≡ in_front (lines_of h).text h.job.log
   pub handed : h'.job.turn.written ≡ length (lines_of h).text
+  pub fits : length (lines_of h).text ≤ length h.job.log
   pub within : Within h'.job.turn h.job.buf
   pub rest : stream h'.job ≡ (lines_of h).rest
   pub same_bytes : h'.job.buf ≡ h.job.buf
@@ -49,11 +52,10 @@ pub data Turned (h h' : Held) : Type 0 where
 
 -- ---- a run
 
--- the bytes that the last turn read: the last of those at hand
-unfoldable pub bytes_read : Job → List ℕ
-bytes_read h = take h.turn.read (drop (h.turn.have - h.turn.read) h.buf)
+abbrev pub bytes_read : Job → List ℕ
+bytes_read h = last_read h.turn h.buf
 
--- the text that it handed to the writer: the front of the log
+-- the text that the last turn handed to the writer: the front of the log
 unfoldable pub text_handed : Job → List ℕ
 text_handed h = take h.turn.written h.log
 
@@ -63,13 +65,35 @@ pub data Turns (h₀ : Held) : ℕ → List ℕ → List ℕ → Held → Type 0
   and_turn : {n : ℕ} {input output : List ℕ} {h h' : Held} → Turns h₀ n input output h → ended h.job.turn.stage ≡ false → Turned h h'
       → Turns h₀ (suc n) (input ++ bytes_read h'.job) (output ++ text_handed h'.job) h'
 
--- turns until one ended the job, or 2 to the 64, less one, of them. Whatever bytes b may follow those read: the text handed over is a front of the log of all of them, and where the job ended and no read or write failed, it is that log
+-- turns until one ended the job, or 2 to the 64, less one, of them. Each reads a byte or takes on a record, but for two more: one that finds the stream's end, and the last. So the job ends, unless 2 to the 63, less one, bytes are read.
+-- Whatever bytes b may follow those read: the text handed over is a front of the log of all of them, and where the job ended and no read or write failed, it is that log
 pub record Ran (h₀ h : Held) : Type 0 where
   pub count : ℕ
   pub input : List ℕ
   pub output : List ℕ
   pub turns : Turns h₀ count input output h
   pub bytes : IsBytes input
+  pub few : count ≤ 2 * length input + 2
   pub all : ended h.job.turn.stage ≡ false → count ≡ 18446744073709551615
+  pub ends : length input < 9223372036854775807 → ended h.job.turn.stage ≡ true
   pub front : (b : List ℕ) → IsBytes b → (h.job.turn.more ≡ false → b ≡ []) → (later : List ℕ) × (joinlog (input ++ b) ≡ output ++ later)
   pub log : ended h.job.turn.stage ≡ true → lost h.job.turn.stage ≡ false → (b : List ℕ) → IsBytes b → (h.job.turn.more ≡ false → b ≡ []) → joinlog (input ++ b) ≡ output
+
+-- .. from a reader to a writer: what is known of them is what the turns read and handed over. So where the job ended and nothing was lost, the writer holds the log of all that the reader had
+pub record RanOver (remaining remaining' contents contents' : Option (List ℕ)) (h₀ h : Held) : Type 0 where
+  pub ran : Ran h₀ h
+  pub took : Took remaining remaining' ran.input true h.job.turn.more
+  pub gave : Gave contents contents' ran.output h.job.turn.stage
+  pub log : ended h.job.turn.stage ≡ true → lost h.job.turn.stage ≡ false → IfSome remaining (λ known. IsBytes known → Appends contents contents' (joinlog known))
+
+-- the program, from a reader to a writer: turns from the first one on, to where the job stands so
+pub record Program (remaining remaining' contents contents' : Option (List ℕ)) (stage : Stage) : Type 0 where
+  pub start : Held
+  pub stop : Held
+  pub at_first : start.job.turn ≡ first
+  pub run : RanOver remaining remaining' contents contents' start stop
+  pub stands : stage ≡ stop.job.turn.stage
+
+-- what the writer is known to hold grew by the log of all that the reader is known to have had, fewer bytes than 2 to the 63, less one
+abbrev pub WritesLog : Option (List ℕ) → Option (List ℕ) → Option (List ℕ) → Type 0
+WritesLog remaining contents contents' = IfSome remaining (λ known. IsBytes known → length known < 9223372036854775807 → Appends contents contents' (joinlog known))

@@ -6,6 +6,7 @@ ghost use Rattle.definition.specs.Job.{ends_job};
 ghost use Rattle.pieces.specs.Pieces.{takes_on};
 
 use cursor::MAX_RECORD;
+use refusals::Refusal;
 
 // The fewest bytes that an answer's buffer has, the most that a line has, and the number that no record has.
 pub const MAX_BUFFER: usize = 4096;
@@ -31,11 +32,13 @@ pub fn takes_on(index: u64, left: usize, room: usize, more: bool) -> bool
     (!more || MAX_RECORD <= left) && MAX_LINE <= room && index < MAX_INDEX
 }
 
-// 5, 6 and 18 end a job: by the number, as 01 says it of answers, whatever gave them.
+// A record that could not be read ends a job: by the number, as 01 says it of answers.
 // Refused: a job that goes on after 6 (six_goes_on) or after 18 (eighteen_goes_on).
-#[tactic(auto, unfolding(definition::specs::Job::ends_job))]
+#[tactic(auto, unfolding(definition::specs::Job::ends_job, definition::specs::Step::number_of_refusal))]
 pub fn ends_job(number: u32) -> bool
     ensures { result ≡ ends_job number }
 {
-    matches!(number, 5 | 6 | 18)
+    number == Refusal::Malformed.number()
+        || number == Refusal::UnknownName.number()
+        || number == Refusal::DoubledReference.number()
 }

@@ -1,12 +1,12 @@
 -- Bytes put one after the other. Assumes nothing.
 use mathlib.Core.Path.{◌≡◌, refl, sym, ap, ◌∙◌}
 use mathlib.Core.List.{List, [], ◌∷◌, ◌++◌, append_assoc, append-nil}
-use Prim.Native.Nat.{ℕ, ◌+◌, ◌≤◌, ◌<◌}
+use Prim.Native.Nat.{ℕ, ◌+◌, ◌-◌, ◌≤◌, ◌<◌}
 use native.Mathlib.Omega.{arith}
 use native.Mathlib.Nat.{add-zero}
 use native.Mathlib.Numerals.{add-one}
 use lib.ListN.{length, set, take, drop, length-append, length-drop, take-append-drop}
-use lib.Seq.{take_at, drop-drop, drop-append-add, length-take-le, set_split, append_snoc}
+use lib.Seq.{take_at, take-append-le, take-take, drop-drop, drop-append-add, length-take-le, set_split, append_snoc}
 use Rattle.definition.specs.Write.{Bytes}
 use Rattle.log_lines.specs.Line.{Wrote}
 
@@ -49,3 +49,35 @@ room_more l at a b l' m h w =
     let f = w.next_is in
     let k : length l' ≡ length l = wrote_length l at a l' m (omega arith) w in
     omega arith
+
+-- what stands behind is as it was
+pub same_behind : (l : List ℕ) (at : ℕ) (bytes : Bytes) (l' : List ℕ) (n : ℕ) → at + length bytes ≤ length l → Wrote l at bytes l' n → (j : ℕ) → drop (at + length bytes + j) l' ≡ drop (at + length bytes + j) l
+same_behind l at bytes l' n h w j =
+    let long : length (take at l ++ bytes) ≡ at + length bytes = length-append (take at l) bytes ∙ ap (λ (k : ℕ). k + length bytes) (length-take-le at l (omega arith)) in
+    ap (λ (x : List ℕ). drop (at + length bytes + j) x) w.is
+    ∙ ap (λ (k : ℕ). drop (k + j) ((take at l ++ bytes) ++ drop (at + length bytes) l)) (sym long)
+    ∙ drop-append-add (take at l ++ bytes) (drop (at + length bytes) l) j
+    ∙ drop-drop j (at + length bytes) l
+
+-- bytes put over the first `len` of those that were written from k on: as if those had never been written
+pub written_over : (log : List ℕ) (n k len : ℕ) (buf : List ℕ) (text : Bytes) (log₁ log₂ : List ℕ) (n' : ℕ) → n ≤ k → k + len ≤ n + length text → n + length text ≤ length log → len ≤ length buf
+    → log₁ ≡ take k log ++ buf → buf ≡ take len buf ++ drop len (drop k log) → Wrote log₁ n text log₂ n' → Wrote log n text log₂ n'
+written_over log n k len buf text log₁ log₂ n' a b c d e f w =
+    let long : length (take k log) ≡ k = length-take-le k log (omega arith) in
+    let front : take n log₁ ≡ take n log = ap (λ (x : List ℕ). take n x) e ∙ take-append-le n (take k log) buf (omega arith) ∙ take-take n k log a in
+    let p : List ℕ = take k log ++ take len buf in
+    let p_long : length p ≡ k + len = omega (arith, length-append (take k log) (take len buf), long, length-take-le len buf d) in
+    let whole : log₁ ≡ p ++ drop (k + len) log =
+    e ∙ ap (λ (x : List ℕ). take k log ++ x) (f ∙ ap (λ (x : List ℕ). take len buf ++ x) (drop-drop len k log)) ∙ sym (append_assoc (take k log) (take len buf) (drop (k + len) log))
+    in
+    let m : ℕ = n + length text - (k + len) in
+    let m_is : length p + m ≡ n + length text = omega arith in
+    let m_is' : k + len + m ≡ n + length text = omega arith in
+    let back : drop (n + length text) log₁ ≡ drop (n + length text) log =
+    ap (λ (x : List ℕ). drop (n + length text) x) whole
+    ∙ ap (λ (x : ℕ). drop x (p ++ drop (k + len) log)) (sym m_is)
+    ∙ drop-append-add p (drop (k + len) log) m
+    ∙ drop-drop m (k + len) log
+    ∙ ap (λ (x : ℕ). drop x log) m_is'
+    in
+    record { next_is = w.next_is; is = w.is ∙ rw (front, back) refl }

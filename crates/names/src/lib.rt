@@ -84,6 +84,17 @@ impl AbilitySet {
     pub const COLLECTION: AbilitySet = AbilitySet(7);
 }
 
+// 02: all; of integers, bool and address; of references; of signer; of vectors, lists and ().
+const _: () = prove!(AbilitySet::ALL.0 == COPY + DROP + STORE + KEY);
+
+const _: () = prove!(AbilitySet::PRIMITIVES.0 == COPY + DROP + STORE);
+
+const _: () = prove!(AbilitySet::REFERENCES.0 == COPY + DROP);
+
+const _: () = prove!(AbilitySet::SIGNER.0 == DROP);
+
+const _: () = prove!(AbilitySet::COLLECTION.0 == COPY + DROP + STORE);
+
 // An ability mark on a named type.
 pub type AbilityMark = Option<AbilitySet>;
 

@@ -18,7 +18,7 @@ pub own_plain : (s : Shape) → OneOf plain_tags (tag_of the_type s) → Some (s
 own_plain UnitS k = refl
 own_plain (Ref m t) k = absurd (miss plain_tags 1 tt k)
 own_plain (Param id a) k = refl
-own_plain (Apply c n first many) k = absurd (miss plain_tags 3 tt k)
+own_plain (Apply a) k = absurd (miss plain_tags 3 tt k)
 own_plain (Var v) k = absurd (miss plain_tags 4 tt k)
 own_plain Anything k = absurd (miss plain_tags 5 tt k)
 own_plain UnresolvedError k = refl
@@ -30,7 +30,7 @@ pub beside_known : (s : Shape) → OneOf known_tags (tag_of the_type s) → sums
 beside_known UnitS k = refl
 beside_known (Ref m t) k = refl
 beside_known (Param id a) k = refl
-beside_known (Apply c n first many) k = refl
+beside_known (Apply a) k = refl
 beside_known (Var v) k = refl
 beside_known Anything k = absurd (miss known_tags 5 tt k)
 beside_known UnresolvedError k = refl

@@ -112,14 +112,14 @@ module _ (loc : ℕ) (ts : Trees) where
   whole false UnitS e = rw (none_of ts e)
   whole false (Ref m t) e = rw (one_of ts e)
   whole false (Param id a) e = rw (none_of ts e)
-  whole false (Apply k n first many) e = rw (as_args ts)
+  whole false (Apply a) e = rw (as_args ts)
   whole false (Var v) e = refl
   whole false Anything e = rw (none_of ts e)
   whole false UnresolvedError e = rw (none_of ts e)
   whole true UnitS e = rw (none_of ts e)
   whole true (Ref m t) e = rw (one_of ts e) (sym (plus_assoc (takes 1 2 1 2) (takes 2 0 0 1) (needs (first_tree ts))))
   whole true (Param id a) e = rw (none_of ts e)
-  whole true (Apply k n first many) e = rw (as_args ts) (sym (plus_assoc (takes 1 2 1 2) (takes 2 0 0 0) (needs_args ts)))
+  whole true (Apply a) e = rw (as_args ts) (sym (plus_assoc (takes 1 2 1 2) (takes 2 0 0 0) (needs_args ts)))
   whole true (Var v) e = refl
   whole true Anything e = rw (none_of ts e)
   whole true UnresolvedError e = rw (none_of ts e)
@@ -133,7 +133,7 @@ own_most : (h : Shape) → Most 2 (own h)
 own_most UnitS = fits 2 _ refl refl refl refl
 own_most (Ref m t) = fits 2 _ refl refl refl refl
 own_most (Param id a) = fits 2 _ refl refl refl refl
-own_most (Apply k n first many) = fits 2 _ refl refl refl refl
+own_most (Apply a) = fits 2 _ refl refl refl refl
 own_most (Var v) = tt
 own_most Anything = fits 2 _ refl refl refl refl
 own_most UnresolvedError = fits 2 _ refl refl refl refl
@@ -143,7 +143,7 @@ beside_most false h = fits 5 _ refl refl refl refl
 beside_most true UnitS = fits 5 _ refl refl refl refl
 beside_most true (Ref m t) = fits 5 _ refl refl refl refl
 beside_most true (Param id a) = fits 5 _ refl refl refl refl
-beside_most true (Apply k n first many) = fits 5 _ refl refl refl refl
+beside_most true (Apply a) = fits 5 _ refl refl refl refl
 beside_most true (Var v) = fits 5 _ refl refl refl refl
 beside_most true Anything = fits 5 _ refl refl refl refl
 beside_most true UnresolvedError = fits 5 _ refl refl refl refl
@@ -192,7 +192,7 @@ unfolding tree_size
 size_least loc ts UnitS e = let z = none_size ts e in omega arith
 size_least loc ts (Ref m t) e = let z = one_size ts e in omega arith
 size_least loc ts (Param id a) e = let z = none_size ts e in omega arith
-size_least loc ts (Apply k n first many) e = let z = name_least (name_of n) in omega arith
+size_least loc ts (Apply a) e = let z = name_least (name_of a.n) in omega arith
 size_least loc ts (Var v) e = let z = none_size ts e in omega arith
 size_least loc ts Anything e = let z = none_size ts e in omega arith
 size_least loc ts UnresolvedError e = let z = none_size ts e in omega arith

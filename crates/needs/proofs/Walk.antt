@@ -8,7 +8,8 @@ use Prim.Native.Nat.{ℕ, suc, ◌+◌, ◌*◌, ◌-◌, ◌≤◌, ◌<◌}
 use native.Mathlib.Nat.{sub-zero}
 use native.Mathlib.Omega.{arith}
 use lib.ListN.{length}
-use Rattle.definition.specs.Types.{State, Struct, Refusal}
+use Rattle.definition.specs.Types as d
+use Rattle.definition.specs.Types.{State, Struct}
 use Rattle.definition.specs.Write.{Bytes}
 use Rattle.definition.specs.Reader.{Read, got, not_read, Reader, give, go_on, ◌>>=◌}
 use Rattle.definition.specs.Trees.{Tree, Trees, no_trees, ◌then◌, read_trees, read_nested}
@@ -17,8 +18,8 @@ use Rattle.theorems.proofs.JoinAnswers.{tree_size, trees_size, Spent, spent, pay
 use Rattle.table.specs.State.{Declares}
 use Rattle.table.specs.Did.{tables}
 use Rattle.table.specs.declared.state.State.{State as Table}
-use Rattle.cursor.specs.Words.{refusal}
-use Rattle.cursor.specs.declared.ReadError.{ReadError}
+use Rattle.refusals.specs.Refusals.{refusal_of}
+use Rattle.refusals.specs.declared.Refusal.{Refusal}
 use Rattle.heads.specs.declared.Head.{Head}
 use Rattle.heads.specs.Fields.{Knows, many_parts, tree_of, tree_read}
 use Rattle.heads.proofs.Heads.{declares_self}
@@ -83,7 +84,7 @@ module _ (m : Reader Tree) (arg : Bool) (n : ℕ) (from : Bytes) (o : Option Sum
           bytes = omega arith;
         }
 
-    walk_stop : (x : Refusal) → m to ≡ not_read x → read_trees n m from ≡ not_read x
+    walk_stop : (x : d.Refusal) → m to ≡ not_read x → read_trees n m from ≡ not_read x
     unfolding read_trees ◌>>=◌ go_on
     walk_stop x e = g.reads
         ∙ ap (λ (j : ℕ). go_on (read_trees j m to) (λ us. give (append g.trees us))) one_more
@@ -133,10 +134,10 @@ module _ {st : Table} {l₀ : Bytes} {known nest : ℕ} {arg : Bool} {o : Option
         is = λ ds s e k. let q = t.is ds s e k in walk_more _ arg n _ o i _ c (g.is ds s e k) h q.tree _ d q.reads q.counts q.few (paid nest s _ _ _ q.reads);
       }
 
-  pub go_stop : {arg' : Bool} {l' : Bytes} {x : ReadError} → Counts st known arg (λ s. read_nested nest s l) l' (Err x) → i < n → (h : Head) → n ≡ many_parts h.shape
+  pub go_stop : {arg' : Bool} {l' : Bytes} {x : Refusal} → Counts st known arg (λ s. read_nested nest s l) l' (Err x) → i < n → (h : Head) → n ≡ many_parts h.shape
       → Counts st known arg' (λ s. tree_read (Ok h) l₀ (read_nested nest s)) l' (Err x)
   unfolding go_on
-  go_stop {x = x} t lt h m = record { is = λ ds s d k. rw (← m, walk_stop _ arg n _ o i _ c (g.is ds s d k) lt (refusal x) (t.is ds s d k)) refl }
+  go_stop {x = x} t lt h m = record { is = λ ds s d k. rw (← m, walk_stop _ arg n _ o i _ c (g.is ds s d k) lt (refusal_of x) (t.is ds s d k)) refl }
 
   -- the parts are arguments just if the type is a name
   pub go_all : n ≤ i → (arg' : Bool) (h : Head) → n ≡ many_parts h.shape → arg ≡ is_apply h.shape → o ≡ both (own h.shape) (Some (beside arg' h.shape))
@@ -158,6 +159,6 @@ module _ {st : Table} {l₀ : Bytes} {known nest : ℕ} {arg : Bool} {o : Option
       }
 
 -- what m reads, said otherwise
-pub counts_is : {st : Table} {known : ℕ} {arg : Bool} {m m' : State → Read Tree} {l : Bytes} {r : std.Result (Option Sums) ReadError}
+pub counts_is : {st : Table} {known : ℕ} {arg : Bool} {m m' : State → Read Tree} {l : Bytes} {r : std.Result (Option Sums) Refusal}
     → ((ds : List Struct) (s : State) → Declares st.words.now st.used ds → Knows s known ds → m s ≡ m' s) → Counts st known arg m l r → Counts st known arg m' l r
 counts_is {arg = arg} {l = l} {r = r} e t = record { is = λ ds s d k. subst (λ (x : Read Tree). Tells r arg l x) (e ds s d k) (t.is ds s d k) }

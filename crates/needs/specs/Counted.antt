@@ -10,8 +10,8 @@ use Rattle.table.specs.State.{Declares}
 use Rattle.table.specs.declared.state.State.{State as Table}
 use Rattle.table.specs.declared.Shape.{Shape}
 use Rattle.table.specs.declared.Shape.TheVariants.{Unit as UnitS, Ref, Param, Apply, Var, Anything, UnresolvedError}
-use Rattle.cursor.specs.Words.{refusal}
-use Rattle.cursor.specs.declared.ReadError.{ReadError}
+use Rattle.refusals.specs.Refusals.{refusal_of}
+use Rattle.refusals.specs.declared.Refusal.{Refusal}
 use Rattle.heads.specs.Fields.{Knows}
 use Rattle.needs.specs.declared.Sums.{Sums}
 
@@ -46,7 +46,7 @@ abbrev pub own : Shape → Option Sums
 own UnitS = Some (sums 1 0 0 0)
 own (Ref m t) = Some (sums 2 0 0 1)
 own (Param id a) = Some (sums 1 0 0 0)
-own (Apply k n first many) = Some (sums 2 0 0 0)
+own (Apply a) = Some (sums 2 0 0 0)
 own (Var v) = None
 own Anything = Some (sums 2 0 1 0)
 own UnresolvedError = Some (sums 1 0 0 0)
@@ -57,7 +57,7 @@ beside false h = sums 0 0 0 0
 beside true UnitS = sums 1 2 1 2
 beside true (Ref m t) = sums 1 2 1 2
 beside true (Param id a) = sums 1 2 1 2
-beside true (Apply k n first many) = sums 1 2 1 2
+beside true (Apply a) = sums 1 2 1 2
 beside true (Var v) = sums 1 2 1 2
 beside true Anything = sums 5 2 2 2
 beside true UnresolvedError = sums 1 2 1 2
@@ -67,7 +67,7 @@ abbrev pub is_apply : Shape → Bool
 is_apply UnitS = false
 is_apply (Ref m t) = false
 is_apply (Param id a) = false
-is_apply (Apply k n first many) = true
+is_apply (Apply a) = true
 is_apply (Var v) = false
 is_apply Anything = false
 is_apply UnresolvedError = false
@@ -86,10 +86,10 @@ pub record Told (c : Option Sums) (arg : Bool) (bytes : Bytes) (m : Read Tree) :
   pub counts : needs_of c ≡ as_argument arg tree
   pub few : Most (2 * tree_size tree) c
 
-abbrev pub Tells : Result (Option Sums) ReadError → Bool → Bytes → Read Tree → Type 0
+abbrev pub Tells : Result (Option Sums) Refusal → Bool → Bytes → Read Tree → Type 0
 Tells (Ok c) arg bytes m = Told c arg bytes m
-Tells (Err e) arg bytes m = m ≡ not_read (refusal e)
+Tells (Err e) arg bytes m = m ≡ not_read (refusal_of e)
 
 -- over the table st: r is the type that m reads, counted, and the bytes l are left; s knows as many variables and structs as the record began with
-pub record Counts (st : Table) (known : ℕ) (arg : Bool) (m : State → Read Tree) (l : Bytes) (r : Result (Option Sums) ReadError) : Type 0 where
+pub record Counts (st : Table) (known : ℕ) (arg : Bool) (m : State → Read Tree) (l : Bytes) (r : Result (Option Sums) Refusal) : Type 0 where
   pub is : (ds : List Struct) (s : State) → Declares st.words.now st.used ds → Knows s known ds → Tells r arg l (m s)

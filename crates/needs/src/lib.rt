@@ -8,9 +8,10 @@ ghost use Rattle.cursor.specs.Words.{Within};
 ghost use Rattle.heads.specs.Fields.{many_parts, tree_read, Arities};
 ghost use Rattle.needs.specs.Counted.{Counts, Most, beside, both, is_apply, own, sums};
 
-use cursor::{ReadError, Reader};
+use cursor::Reader;
 use heads::{Head, read_head};
 use reader::part_count;
+use refusals::Refusal;
 use table::Shape;
 use table::state::State;
 
@@ -57,7 +58,7 @@ fn own(shape: Shape) -> Option<Sums>
 {
     match shape {
         Shape::Ref(_, _) => Some(takes(2, 0, 0, 1)),
-        Shape::Apply(_, _, _, _) => Some(takes(2, 0, 0, 0)),
+        Shape::Apply(_) => Some(takes(2, 0, 0, 0)),
         Shape::Var(_) => None,
         Shape::Anything => Some(takes(2, 0, 1, 0)),
         _ => Some(takes(1, 0, 0, 0)),
@@ -82,7 +83,7 @@ fn beside(arg: bool, shape: Shape) -> Sums
 fn is_apply(shape: Shape) -> bool
     ensures { result ≡ is_apply shape }
 {
-    matches!(shape, Shape::Apply(_, _, _, _))
+    matches!(shape, Shape::Apply(_))
 }
 
 // ---- a type and its parts
@@ -96,7 +97,7 @@ pub fn count_type(
     known: u32,
     nest: u32,
     arg: bool,
-) -> Result<Option<Sums>, ReadError>
+) -> Result<Option<Sums>, Refusal>
     requires few_params { Arities (tables st.now).structs }
     requires short { length r.old.left.now ≤ 4096 }
     ensures is { Counts st.now known arg (λ s. read_nested nest s r.old.left.now) r.new.left.now result }
@@ -115,7 +116,7 @@ fn count_parts(
     nest: u32,
     arg: bool,
     head: Head,
-) -> Result<Option<Sums>, ReadError>
+) -> Result<Option<Sums>, Refusal>
     requires few_params { Arities (tables st.now).structs }
     requires few { many_parts head.shape ≤ 8 }
     requires short { length r.old.left.now ≤ 4096 }

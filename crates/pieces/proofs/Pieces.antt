@@ -308,7 +308,7 @@ line_size e n l =
 -- ---- calls with room for a line come to an end
 
 -- the job ended, or no more bytes are left than there were, and every record took one or more
-data Nearer (i n : ℕ) (p : Piece) : Type 0 where
+pub data Nearer (i n : ℕ) (p : Piece) : Type 0 where
   nearer : p.index + length p.rest ≤ i + n → length p.rest ≤ n → Nearer i n p
   at_end : p.ended ≡ true → Nearer i n p
 
@@ -341,7 +341,7 @@ near_from (suc n) i s (x ∷ a) room more is h = go (takes_on i (x ∷ a) room m
     go true false d (shorter y) f = near_line (line (entry_of i r)) (omega arith) (omega arith) (f _)
 
 -- a record that is taken on has at least one byte
-near_next : (i : ℕ) (s : State) (x : ℕ) (a : Bytes) (room : ℕ) (more : Bool) → IsBytes (x ∷ a) → sound s ≡ true → takes_on i (x ∷ a) room more ≡ true → Nearer (suc i) (length a) (next_lines i s (x ∷ a) room more)
+pub near_next : (i : ℕ) (s : State) (x : ℕ) (a : Bytes) (room : ℕ) (more : Bool) → IsBytes (x ∷ a) → sound s ≡ true → takes_on i (x ∷ a) room more ≡ true → Nearer (suc i) (length a) (next_lines i s (x ∷ a) room more)
 unfolding next_lines next_from halt after_line
 near_next i s x a room more is h t = rw e (go (ends_job r.0.number) refl (stream_on s h x a))
   where

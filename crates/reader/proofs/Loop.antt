@@ -26,8 +26,8 @@ use Rattle.table.specs.declared.state.Stop.{Stop}
 use Rattle.table.proofs.Rows.{length_entries}
 use Rattle.table.proofs.Steps.{grown_refl, grown_trans}
 use Rattle.table.proofs.Grown.{nodes_grow}
-use Rattle.cursor.specs.Words.{refusal}
-use Rattle.cursor.specs.declared.ReadError.{ReadError}
+use Rattle.refusals.specs.Refusals.{refusal_of}
+use Rattle.refusals.specs.declared.Refusal.{Refusal}
 use Rattle.heads.specs.declared.Head.{Head}
 use Rattle.heads.specs.Fields.{Knows, many_parts, tree_read}
 use Rattle.reader.specs.Taken.{Placed, placed, stopped, place_read, part_of, PlacedSo, Takes, put_node}
@@ -58,7 +58,7 @@ knows n ds = record { vars = length-replicate n unbound; structs = refl }
 
 -- ---- what m reads, said otherwise
 
-pub takes_is : {st : Table} {known : ℕ} {over : Bool} {m m' : State → Read Tree} {t : Table} {l : Bytes} {r : std.Result (Option ℕ) ReadError}
+pub takes_is : {st : Table} {known : ℕ} {over : Bool} {m m' : State → Read Tree} {t : Table} {l : Bytes} {r : std.Result (Option ℕ) Refusal}
     → ((ds : List Struct) (s : State) → Declares st.words.now st.used ds → Knows s known ds → m s ≡ m' s) → Takes st known over m t l r → Takes st known over m' t l r
 takes_is {st} {over = over} e t =
     record {
@@ -70,8 +70,8 @@ takes_is {st} {over = over} e t =
     }
 
 -- nothing was written
-pub takes_none : {st : Table} {known : ℕ} {over : Bool} {m : State → Read Tree} {l : Bytes} (e : ReadError)
-    → ((ds : List Struct) (s : State) → Declares st.words.now st.used ds → Knows s known ds → stopped (refusal e) ≡ place_read over build (m s) (held st ds)) → Takes st known over m st l (Err e)
+pub takes_none : {st : Table} {known : ℕ} {over : Bool} {m : State → Read Tree} {l : Bytes} (e : Refusal)
+    → ((ds : List Struct) (s : State) → Declares st.words.now st.used ds → Knows s known ds → stopped (refusal_of e) ≡ place_read over build (m s) (held st ds)) → Takes st known over m st l (Err e)
 takes_none {st} e f = record { same = refl; grown = grown_refl (tables st); structs = refl; inside = tt; is = f }
 
 -- ---- the loop
@@ -147,7 +147,7 @@ module _ {st₀ : Table} {l₀ : Bytes} {known nest : ℕ} {over₀ : Bool} {n :
               ∙ ap (λ (xs : List ℕ). onward xs (place_read (is_none o) build_all (read_trees (n - (i + 1)) (read_nested nest s) l') (held t ds))) (sym x);
         }
 
-  pub go_stop : {t : Table} {l' : Bytes} {e : ReadError} → Takes st known over (λ s. read_nested nest s l) t l' (Err e) → i < n → (h : Head) → n ≡ many_parts h.shape
+  pub go_stop : {t : Table} {l' : Bytes} {e : Refusal} → Takes st known over (λ s. read_nested nest s l) t l' (Err e) → i < n → (h : Head) → n ≡ many_parts h.shape
       → Takes st₀ known over₀ (λ s. tree_read (Ok h) l₀ (read_nested nest s)) t l' (Err e)
   go_stop {e = e} a lt h m =
       record {
@@ -157,7 +157,7 @@ module _ {st₀ : Table} {l₀ : Bytes} {known nest : ℕ} {over₀ : Bool} {n :
         inside = tt;
         is = λ ds s d k.
             let q = a.is ds s (declares_kept _ _ _ _ ds g.structs d) k in
-            stop (read_nested nest s) (n - (i + 1)) l over (held st ds) (refusal e) (take i parts) h.loc h.shape q
+            stop (read_nested nest s) (n - (i + 1)) l over (held st ds) (refusal_of e) (take i parts) h.loc h.shape q
             ∙ ap (λ (j : ℕ). then_node h.loc h.shape (onward (take i parts) (place_read over build_all (read_trees j (read_nested nest s) l) (held st ds)))) (sym (one_more lt))
             ∙ ap (λ (p : Placed (List ℕ)). then_node h.loc h.shape p) (sym (g.is ds s d k))
             ∙ ap (λ (j : ℕ). then_node h.loc h.shape (place_read over₀ build_all (read_trees j (read_nested nest s) l₀) (held st₀ ds))) m

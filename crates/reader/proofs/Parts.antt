@@ -79,7 +79,7 @@ unfolding read_trees go_on give place_read build build_all
 node_after UnitS loc over part l s = leaf_is loc UnitS over l s
 node_after (Ref m t) loc over part l s = ref_is loc m t over part l s
 node_after (Param id a) loc over part l s = leaf_is loc (Param id a) over l s
-node_after (Apply k n first many) loc over part l s = apply_is loc (Apply k n first many) (mark_of k) (name_of n) over (read_trees many part l) s (λ tys. refl)
+node_after (Apply a) loc over part l s = apply_is loc (Apply a) (mark_of a.k) (name_of a.n) over (read_trees a.many part l) s (λ tys. refl)
 node_after (Var v) loc over part l s = leaf_is loc (Var v) over l s
 node_after Anything loc over part l s = leaf_is loc Anything over l s
 node_after UnresolvedError loc over part l s = leaf_is loc UnresolvedError over l s

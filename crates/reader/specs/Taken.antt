@@ -2,7 +2,7 @@
 use Rattle.std.specs.Prelude as std
 use Rattle.std.specs.Prelude.{◌≡◌, Bool, List, ℕ, ◌<◌, get_or, Option, Some, None, Ok, Err, if◌then◌else◌}
 use Rattle.definition.specs.Types as d
-use Rattle.definition.specs.Types.{State, Struct, Refusal, full, Result, ok, refused}
+use Rattle.definition.specs.Types.{State, Struct, full, Result, ok, refused}
 use Rattle.definition.specs.Store.{sp}
 use Rattle.definition.specs.Write.{Bytes}
 use Rattle.definition.specs.Reader.{Read, got, not_read}
@@ -14,13 +14,13 @@ use Rattle.table.specs.Did.{held, tables}
 use Rattle.table.specs.declared.state.State.{State as Table}
 use Rattle.table.specs.declared.Shape.{Shape}
 use Rattle.table.specs.declared.Shape.TheVariants.{Unit as UnitS, Ref, Param, Apply, Var, Anything, UnresolvedError}
-use Rattle.cursor.specs.Words.{refusal}
-use Rattle.cursor.specs.declared.ReadError.{ReadError}
+use Rattle.refusals.specs.Refusals.{refusal_of}
+use Rattle.refusals.specs.declared.Refusal.{Refusal}
 use Rattle.heads.specs.Fields.{Knows}
 
 -- 5, 6 or 18; or what was placed, or 7, and the bytes after it
 pub data Placed (A : Type 0) : Type 0 where
-  stopped : Refusal → Placed A
+  stopped : d.Refusal → Placed A
   placed : Result (State × A) → Bytes → Placed A
 
 -- what was read is placed, unless space has ended before
@@ -29,23 +29,23 @@ place_read over put (not_read x) s = stopped x
 place_read over put (got a bytes) s = placed (if over then refused full else put a s) bytes
 
 -- what f makes of what was placed, 7, or why it is not read
-abbrev pub read_with : {A B : Type 0} → std.Result (Option A) ReadError → (A → B) → State → Bytes → Placed B
+abbrev pub read_with : {A B : Type 0} → std.Result (Option A) Refusal → (A → B) → State → Bytes → Placed B
 read_with (Ok (Some a)) f s bytes = placed (ok (s, f a)) bytes
 read_with (Ok None) f s bytes = placed (refused full) bytes
-read_with (Err e) f s bytes = stopped (refusal e)
+read_with (Err e) f s bytes = stopped (refusal_of e)
 
-abbrev pub part_of : std.Result (Option ℕ) ReadError → State → Bytes → Placed ℕ
+abbrev pub part_of : std.Result (Option ℕ) Refusal → State → Bytes → Placed ℕ
 part_of r s bytes = read_with r (λ t. t) s bytes
 
 -- P of what was placed, if it was
-abbrev pub PlacedSo : {A : Type 0} → std.Result (Option A) ReadError → (A → Type 0) → Type 0
+abbrev pub PlacedSo : {A : Type 0} → std.Result (Option A) Refusal → (A → Type 0) → Type 0
 PlacedSo (Ok (Some a)) P = P a
 PlacedSo (Ok None) P = Unit {0}
 PlacedSo (Err e) P = Unit {0}
 
 -- the table st became t, which lends the same words; the answer r is the type that m reads, and the bytes l are left; s knows as many variables and
 -- structs as the record began with
-pub record Takes (st : Table) (known : ℕ) (over : Bool) (m : State → Read Tree) (t : Table) (l : Bytes) (r : std.Result (Option ℕ) ReadError) : Type 0 where
+pub record Takes (st : Table) (known : ℕ) (over : Bool) (m : State → Read Tree) (t : Table) (l : Bytes) (r : std.Result (Option ℕ) Refusal) : Type 0 where
   pub same : t.words.ghost_name ≡ st.words.ghost_name
   pub grown : Grown (tables st) (tables t)
   pub structs : (tables t).structs ≡ (tables st).structs
@@ -57,7 +57,7 @@ abbrev pub with_parts : Shape → List ℕ → d.TypeValue
 with_parts UnitS tys = d.UnitType
 with_parts (Ref m t) tys = d.Ref m (get_or tys 0 0)
 with_parts (Param id a) tys = d.Param id.0 a.0
-with_parts (Apply k n first many) tys = d.Apply (mark_of k) (name_of n) tys
+with_parts (Apply a) tys = d.Apply (mark_of a.k) (name_of a.n) tys
 with_parts (Var v) tys = d.Var v.0
 with_parts Anything tys = d.Anything
 with_parts UnresolvedError tys = d.UnresolvedError

@@ -8,8 +8,9 @@ ghost use Rattle.cursor.specs.Words.{Within};
 ghost use Rattle.heads.specs.Fields.{tree_read, many_parts, Arities};
 ghost use Rattle.reader.specs.Taken.{Takes, PartsBelow, put_node};
 
-use cursor::{ReadError, Reader};
+use cursor::Reader;
 use heads::{Head, read_head};
+use refusals::Refusal;
 use table::Shape;
 use table::state::{State, Stop};
 
@@ -31,7 +32,7 @@ fn place_node(st: &mut State<'_>, head: Head, parts: [u32; 8]) -> Result<u32, St
     let shape = head.shape;
     match shape {
         Shape::Ref(m, _) => st.push_node(loc, Shape::Ref(m, parts[0])),
-        Shape::Apply(k, name, _, many) => st.push_apply(loc, k, name, parts, many),
+        Shape::Apply(a) => st.push_apply(loc, a.k, a.n, parts, a.many),
         _ => st.push_node(loc, shape),
     }
 }
@@ -46,7 +47,7 @@ pub fn read_type(
     known: u32,
     nest: u32,
     full: bool,
-) -> Result<Option<u32>, ReadError>
+) -> Result<Option<u32>, Refusal>
     requires { Arities (tables st.old).structs }
     ensures is { Takes st.old known full (λ s. read_nested nest s r.old.left.now) st.new r.new.left.now result }
     ensures within { Within r.old.left.now r.new.left.now }
@@ -64,7 +65,7 @@ fn read_parts(
     nest: u32,
     full: bool,
     head: Head,
-) -> Result<Option<u32>, ReadError>
+) -> Result<Option<u32>, Refusal>
     requires few_params { Arities (tables st.old).structs }
     requires few { many_parts head.shape ≤ 8 }
     ensures is { Takes st.old known full (λ s. tree_read (Ok head) r.old.left.now (read_nested nest s)) st.new r.new.left.now result }

@@ -19,8 +19,6 @@ use Rattle.definition.specs.Store.{count, taken, node, nowhere, args_at, with_ar
 use Rattle.definition.specs.Subst.{as_var, parts, next_in, next_of, forward, forward_tvar, reaches_itself, ready_value, ready, ready_tvars}
 use Rattle.names.specs.Names.{mark_of, name_of}
 use Rattle.names.specs.declared.TVar.{TVar}
-use Rattle.names.specs.declared.AbilitySet.{AbilitySet}
-use Rattle.names.specs.declared.TypeName.{TypeName}
 use Rattle.table.specs.State.{shape_of, node_of, outcome, seen, Below, Grown, Front, Any, Parts as PartsIn}
 use Rattle.table.specs.Did.{held, tables, Did}
 use Rattle.table.specs.declared.state.State.{State}
@@ -28,8 +26,9 @@ use Rattle.table.specs.declared.state.Stop.{Stop}
 use Rattle.table.specs.declared.state.Stop.TheVariants.{Refused}
 use Rattle.table.specs.declared.Node.{Node}
 use Rattle.table.specs.declared.Shape.{Shape}
+use Rattle.table.specs.declared.Applied.{Applied}
 use Rattle.table.specs.declared.Shape.TheVariants.{Ref as RefS, Apply as ApplyS, Var as VarS}
-use Rattle.table.specs.declared.Refusal.TheVariants.{RunsIntoItself}
+use Rattle.refusals.specs.declared.Refusal.TheVariants.{RunsIntoItself}
 use Rattle.table.specs.contracts.Shape.{the_type}
 use Rattle.table.proofs.Did.{did_now, did_is, to_when, of_when, stop_none}
 use Rattle.table.proofs.Grown.{still_in, args_kept, loc_is, value_is}
@@ -204,10 +203,10 @@ module _ (s : State) (t : ℕ) (i : t < s.used.nodes) (n : Node) (e : (ds : List
           let l : 0 < many = omega arith in
           sym (rw (z, get_or-take many tys 0 0 l) refl) ∙ anew (take many tys) ds) a
 
-    pub anew_apply : (k : Option AbilitySet) (name : TypeName) (first old : ℕ) → n.shape ≡ ApplyS k name first old → (tys : List ℕ) {v : State} {r : core.Result ℕ Stop} → Did s v r (λ s. sp s n.loc (d.Apply (mark_of k) (name_of name) (take many tys)))
+    pub anew_apply : (a : Applied) → n.shape ≡ ApplyS a → (tys : List ℕ) {v : State} {r : core.Result ℕ Stop} → Did s v r (λ s. sp s n.loc (d.Apply (mark_of a.k) (name_of a.n) (take many tys)))
         → Did s v r (λ s. rebuilt_at s t (take many tys))
     unfolding rebuilt with_args
-    anew_apply k name first old z tys a = did_is (λ ds x. sym (rw z refl) ∙ anew (take many tys) ds) a
+    anew_apply a z tys f = did_is (λ ds x. sym (rw z refl) ∙ anew (take many tys) ds) f
 
 -- ---- a node of a state that has grown
 

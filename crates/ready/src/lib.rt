@@ -13,8 +13,9 @@ ghost use Rattle.ready.specs.Ready.{Goes, Lands, HasParts, rebuilt_at, by_parts_
 
 use ends::{Chains, near_over, note_ends};
 use names::TVar;
+use refusals::Refusal;
+use table::Shape;
 use table::state::{State, Stop};
-use table::{Refusal, Shape};
 
 // How ready_tvars goes on from a type: to so many parts, to an open variable's end, or to what a variable is bound to.
 // Three ways, none of them a failure.
@@ -84,7 +85,7 @@ fn rebuild(st: &mut State<'_>, t: u32, tys: [u32; 8], many: u32) -> Result<u32, 
     let n = st.node_at(t);
     match n.shape {
         Shape::Ref(m, _) => st.push_node(n.loc, Shape::Ref(m, tys[0])),
-        Shape::Apply(k, name, _, _) => st.push_apply(n.loc, k, name, tys, many),
+        Shape::Apply(a) => st.push_apply(n.loc, a.k, a.n, tys, many),
         _ => Ok(t),
     }
 }

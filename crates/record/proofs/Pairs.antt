@@ -11,7 +11,8 @@ use lib.ListN.{length, get_or, set, length-set}
 use lib.Seq.{get_or-set_same, get_or-set_other}
 use Rattle.std.specs.Prelude.{Option, Some, None, Ok, Err, is_none, unwrap_or}
 use Rattle.std.specs.Option.{option_map}
-use Rattle.definition.specs.Types.{State, Struct, Refusal, Result, ok, err, refused, ◌>>=◌}
+use Rattle.definition.specs.Types as types
+use Rattle.definition.specs.Types.{State, Struct, Result, ok, err, refused, ◌>>=◌}
 use Rattle.definition.specs.Write.{Bytes}
 use Rattle.definition.specs.Reader as rd
 use Rattle.definition.specs.Reader.{Read, got, not_read, give, go_on, read_u32, times, read_two}
@@ -26,8 +27,8 @@ use Rattle.table.specs.declared.state.State.{State as Table}
 use Rattle.table.proofs.Steps.{grown_refl, grown_trans}
 use Rattle.table.proofs.Grown.{nodes_grow}
 use Rattle.tparams.specs.Pairs.{id_at, pairs}
-use Rattle.cursor.specs.Words.{refusal}
-use Rattle.cursor.specs.declared.ReadError.{ReadError}
+use Rattle.refusals.specs.Refusals.{refusal_of}
+use Rattle.refusals.specs.declared.Refusal.{Refusal}
 use Rattle.heads.specs.Fields.{Knows}
 use Rattle.reader.specs.Taken.{place_read, Takes}
 use Rattle.reader.proofs.Loop.{declares_kept, code}
@@ -118,7 +119,7 @@ left_more s n id l k e = rw (← e) (by (read_type s k))
     by (got t j) = more_by t (times n (read_pair s) j)
     by (not_read z) = refl
 
-left_cut : (s : State) (n : ℕ) (x : Refusal) (l : Bytes) → not_read x ≡ read_u32 l → not_read x ≡ left_at s (suc n) l
+left_cut : (s : State) (n : ℕ) (x : types.Refusal) (l : Bytes) → not_read x ≡ read_u32 l → not_read x ≡ left_at s (suc n) l
 unfolding times read_pair read_two rd.◌>>=◌ go_on
 left_cut s n x l e = rw (← e) refl
 
@@ -185,7 +186,7 @@ module _ {st₀ : Table} {l₀ : Bytes} {known n : ℕ} {st : Table} {l : Bytes}
       sym (left_is s n l₀ (held st₀ ds)) ∙ g.is ds s d k ∙ ap (λ (j : ℕ). place_read over (put_left (pairs ids nodes 0 i)) (left_at s j l) (held st ds)) z
 
   -- an id is not read
-  pub pairs_cut : {l' : Bytes} {e : ReadError} → i < n → not_read (refusal e) ≡ read_u32 l → FieldsAre st₀ known read_all st l' (Err e)
+  pub pairs_cut : {l' : Bytes} {e : Refusal} → i < n → not_read (refusal_of e) ≡ read_u32 l → FieldsAre st₀ known read_all st l' (Err e)
   unfolding place_read
   pairs_cut {e = e} h f =
       record {
@@ -194,7 +195,7 @@ module _ {st₀ : Table} {l₀ : Bytes} {known n : ℕ} {st : Table} {l : Bytes}
         structs = g.structs;
         inside = tt;
         is = λ ds s d k.
-            ap (λ (x : Read Left). place_read over (put_left (pairs ids nodes 0 i)) x (held st ds)) (left_cut s (n - (i + 1)) (refusal e) l f)
+            ap (λ (x : Read Left). place_read over (put_left (pairs ids nodes 0 i)) x (held st ds)) (left_cut s (n - (i + 1)) (refusal_of e) l f)
             ∙ sym (turn_is h ds s d k);
       }
 
@@ -212,7 +213,7 @@ module _ {st₀ : Table} {l₀ : Bytes} {known n : ℕ} {st : Table} {l : Bytes}
         turn_is h ds s d k ∙ ap (λ (x : Read Left). place_read over (put_left (pairs ids nodes 0 i)) x (held st ds)) (left_more s (n - (i + 1)) id l l₁ e)
 
     -- a type is not read
-    pub pairs_stop : {st' : Table} {l' : Bytes} {x : ReadError} → Takes st known over (λ s. read_nested 64 s l₁) st' l' (Err x) → FieldsAre st₀ known read_all st' l' (Err x)
+    pub pairs_stop : {st' : Table} {l' : Bytes} {x : Refusal} → Takes st known over (λ s. read_nested 64 s l₁) st' l' (Err x) → FieldsAre st₀ known read_all st' l' (Err x)
     unfolding place_read go_on
     pairs_stop {x = x} t =
         record {
@@ -221,7 +222,7 @@ module _ {st₀ : Table} {l₀ : Bytes} {known n : ℕ} {st : Table} {l : Bytes}
           structs = t.structs ∙ g.structs;
           inside = tt;
           is = λ ds s d k.
-              let y = stopped_is (read_nested 64 s l₁) over (held st ds) (refusal x) (t.is ds s (declares_kept _ _ _ _ ds g.structs d) k) in
+              let y = stopped_is (read_nested 64 s l₁) over (held st ds) (refusal_of x) (t.is ds s (declares_kept _ _ _ _ ds g.structs d) k) in
               sym (pair_is ds s d k ∙ ap (λ (r : Read Tree). place_read over (put_left (pairs ids nodes 0 i)) (go_on r (λ t l. go_on (left_at s (n - (i + 1)) l) (λ c. give (one t c)))) (held st ds)) y);
         }
 
@@ -276,7 +277,7 @@ module _ {st₀ : Table} {l₀ : Bytes} {known n : ℕ} {st : Table} {l : Bytes}
       ∙ ap (λ (j : ℕ). place_read over (put_left (pairs ids nodes 0 j)) (left_at s (n - i) l) (held st ds)) (sym z)
       ∙ sym (g.is ds s d k) ∙ left_is s n l₀ (held st₀ ds)
 
-  pub last_unread : n ≤ i → {st' : Table} {l' : Bytes} {x : ReadError} → Takes st known over (λ s. read_nested 64 s l) st' l' (Err x) → FieldsAre st₀ known read_all st' l' (Err x)
+  pub last_unread : n ≤ i → {st' : Table} {l' : Bytes} {x : Refusal} → Takes st known over (λ s. read_nested 64 s l) st' l' (Err x) → FieldsAre st₀ known read_all st' l' (Err x)
   unfolding place_read go_on
   last_unread h {x = x} t =
       record {
@@ -285,7 +286,7 @@ module _ {st₀ : Table} {l₀ : Bytes} {known n : ℕ} {st : Table} {l : Bytes}
         structs = t.structs ∙ g.structs;
         inside = tt;
         is = λ ds s d k.
-            let y = stopped_is (read_nested 64 s l) over (held st ds) (refusal x) (t.is ds s (declares_kept _ _ _ _ ds g.structs d) k) in
+            let y = stopped_is (read_nested 64 s l) over (held st ds) (refusal_of x) (t.is ds s (declares_kept _ _ _ _ ds g.structs d) k) in
             sym (ap (λ (r : Read Tree). place_read over (put_left (pairs ids nodes 0 n)) (go_on r (λ t. give ([], t))) (held st ds)) y) ∙ last_is h ds s d k;
       }
 

@@ -17,7 +17,7 @@ use Rattle.table.specs.State.{seen}
 use Rattle.table.specs.Did.{held}
 use Rattle.table.specs.declared.state.State.{State as Table}
 use Rattle.table.proofs.Pushed.{taken_seen}
-use Rattle.cursor.specs.declared.ReadError.{ReadError}
+use Rattle.refusals.specs.declared.Refusal.{Refusal}
 use Rattle.heads.specs.Fields.{Knows}
 use Rattle.reader.specs.Taken as taken
 use Rattle.reader.specs.Taken.{stopped, placed, place_read, read_with}
@@ -31,7 +31,7 @@ abbrev longer : {B : Type 0} → Bytes → taken.Placed B → taken.Placed B
 longer more (stopped x) = stopped x
 longer more (placed q l) = placed q (l ++ more)
 
-longer_fields : {A B : Type 0} (p : std.Result (Option A) ReadError) (g : A → B) (s : State) (l more : Bytes) → read_with p g s (l ++ more) ≡ longer more (read_with p g s l)
+longer_fields : {A B : Type 0} (p : std.Result (Option A) Refusal) (g : A → B) (s : State) (l more : Bytes) → read_with p g s (l ++ more) ≡ longer more (read_with p g s l)
 longer_fields (Ok (Some x)) g s l more = refl
 longer_fields (Ok None) g s l more = refl
 longer_fields (Err e) g s l more = refl
@@ -74,7 +74,7 @@ module _ (n : ℕ) (b : List ℕ) (start : ℕ) where
   abbrev next : Bytes → ℕ
   next l = start + (length own - length l)
 
-  stands : (r : std.Result (Option What) ReadError) (s s' : State) (l : Bytes) → fields_as r s' l ≡ place_read false place_record (read_fields s own) s → fields_as r s' (drop (next l) b) ≡ fields_as r s' (l ++ drop n (drop start b))
+  stands : (r : std.Result (Option What) Refusal) (s s' : State) (l : Bytes) → fields_as r s' l ≡ place_read false place_record (read_fields s own) s → fields_as r s' (drop (next l) b) ≡ fields_as r s' (l ++ drop n (drop start b))
   stands (Err e) s s' l f = refl
   stands (Ok o) s s' l f = go (read_fields s own) (goes_fields s own) (left_of place_record o noded (read_fields s own) s s' l f)
     where
@@ -84,7 +84,7 @@ module _ (n : ℕ) (b : List ℕ) (start : ℕ) where
   near : start ≤ length b → (l : Bytes) → next l ≤ length b
   near h l = simp (length-take, length-drop) (omega arith)
 
-  handed : (r : std.Result (Option What) ReadError) (s s' : State) (l : Bytes) → fields_as r s' l ≡ place_read false place_record (read_fields s own) s
+  handed : (r : std.Result (Option What) Refusal) (s s' : State) (l : Bytes) → fields_as r s' l ≡ place_read false place_record (read_fields s own) s
       → fields_as r s' (drop (next l) b) ≡ place_read false place_record (hand_back (drop n (drop start b)) (read_fields s own)) s
   handed r s s' l q =
       stands r s s' l q
@@ -92,7 +92,7 @@ module _ (n : ℕ) (b : List ℕ) (start : ℕ) where
       ∙ ap (longer (drop n (drop start b))) q
       ∙ longer_read place_record (read_fields s own) s (drop n (drop start b))
 
-pub whole_is : {st : Table} (b : List ℕ) (start : ℕ) → start ≤ length b → {st' : Table} {l l₀ : Bytes} {r : std.Result (Option What) ReadError}
+pub whole_is : {st : Table} (b : List ℕ) (start : ℕ) → start ≤ length b → {st' : Table} {l l₀ : Bytes} {r : std.Result (Option What) Refusal}
     → l₀ ≡ take 4096 (drop start b) → FieldsAre st st.used.vars (λ s. read_fields s l₀) st' l r → {n : ℕ} → n ≡ start + (length l₀ - length l) → RecordIs st b start st' (record { read = r; next = n })
 unfolding read_record max_record
 whole_is {st} b start h {st'} {l} {l₀} {r} e f {n} k =

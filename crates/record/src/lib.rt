@@ -11,7 +11,7 @@ ghost use Rattle.heads.specs.Fields.{Arities};
 ghost use Rattle.marks.specs.Marks.{reader_of};
 ghost use Rattle.fields.specs.Noded.{FieldsAre, RecordIs};
 
-use cursor::{ReadError, Reader};
+use cursor::Reader;
 use fields::{
     Fields, Look, Pairs, What, read_in, read_loc, read_loc_type, read_look, read_nc, read_rm,
     read_sd, read_sn, read_two,
@@ -19,6 +19,7 @@ use fields::{
 use marks::{RecordMark, mark_of};
 use names::TParamID;
 use reader::read_type;
+use refusals::Refusal;
 use table::state::State;
 
 // ---- pairs of an id and a type, and a last type
@@ -28,7 +29,7 @@ fn read_pairs(
     r: &mut Reader,
     known: u32,
     many: u8,
-) -> Result<Option<What>, ReadError>
+) -> Result<Option<What>, Refusal>
     requires few_params { Arities (tables st.old).structs }
     requires few { many ≤ 8 }
     ensures is { FieldsAre st.old known (λ s. go_on (times many (read_pair s) r.old.left.now) (λ pairs l. go_on (read_type s l) (λ t. give (TS pairs t)))) st.new r.new.left.now result }
@@ -53,7 +54,7 @@ fn read_pairs(
     Ok(last.map(|t| What::Look(Look::TS(pairs, t))))
 }
 
-fn read_ts(st: &mut State<'_>, r: &mut Reader, known: u32) -> Result<Option<What>, ReadError>
+fn read_ts(st: &mut State<'_>, r: &mut Reader, known: u32) -> Result<Option<What>, Refusal>
     requires { Arities (tables st.old).structs }
     ensures is { FieldsAre st.old known (λ s. read_TS s r.old.left.now) st.new r.new.left.now result }
     ensures within { Within r.old.left.now r.new.left.now }
@@ -70,7 +71,7 @@ fn fields_of(
     r: &mut Reader,
     known: u32,
     mark: RecordMark,
-) -> Result<Option<What>, ReadError>
+) -> Result<Option<What>, Refusal>
     requires few_params { Arities (tables st.old).structs }
     requires short { length r.old.left.now ≤ 4096 }
     ensures is { FieldsAre st.old known (λ s. reader_of (Some mark) s r.old.left.now) st.new r.new.left.now result }
@@ -92,7 +93,7 @@ fn fields_of(
 }
 
 // The mark, and its fields.
-fn read_fields(st: &mut State<'_>, r: &mut Reader, known: u32) -> Result<Option<What>, ReadError>
+fn read_fields(st: &mut State<'_>, r: &mut Reader, known: u32) -> Result<Option<What>, Refusal>
     requires few_params { Arities (tables st.old).structs }
     requires short { length r.old.left.now ≤ 4096 }
     ensures is { FieldsAre st.old known (λ s. read_fields s r.old.left.now) st.new r.new.left.now result }
@@ -101,7 +102,7 @@ fn read_fields(st: &mut State<'_>, r: &mut Reader, known: u32) -> Result<Option<
     let first = r.u8()?;
     let second = r.u8()?;
     let Some(mark) = mark_of(u32::from(first), u32::from(second)) else {
-        return Err(ReadError::Malformed);
+        return Err(Refusal::Malformed);
     };
     fields_of(st, r, known, mark)
 }

@@ -22,7 +22,7 @@ use Rattle.names.specs.declared.TVar.{TVar}
 use Rattle.table.specs.State.{Any, NodesIn, outcome, done, pushed_constraint, FoundIn, more}
 use Rattle.table.specs.Did.{held, zero_of, FineIn, Became, DidFor, Did, Kept, Took, Added, DeclaredBy}
 use Rattle.table.specs.declared.Used.{Used}
-use Rattle.table.specs.declared.Refusal.TheVariants.{OpenVariable, ParameterTwice}
+use Rattle.refusals.specs.declared.Refusal.TheVariants.{OpenVariable, ParameterTwice}
 use Rattle.table.specs.declared.state.State.{State}
 use Rattle.table.specs.declared.state.Stop.{Stop}
 use Rattle.table.specs.declared.state.Stop.TheVariants.{Failed, Refused}

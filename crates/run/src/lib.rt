@@ -24,8 +24,8 @@ use marks::{LocMark, LocTypeMark, LookMark, TwoMark};
 use names::{AbilitySet, TVar};
 use needs::Sums;
 use payload::Show;
+use refusals::Refusal;
 use subst::Unfolded;
-use table::Refusal;
 use table::state::{State, Stop};
 
 // What a step answers, as a run: its state is kept, or it is only shown. A flag, since both are said in one place for each record.

@@ -13,7 +13,7 @@ use Rattle.table.specs.Rows.{places}
 use Rattle.table.specs.State.{Parts, Named, NodesIn, outcome, node_of, shape_of}
 use Rattle.table.specs.declared.Node.{Node}
 use Rattle.table.specs.declared.Shape.{Shape}
-use Rattle.table.specs.declared.Refusal.TheVariants.{RunsIntoItself}
+use Rattle.refusals.specs.declared.Refusal.TheVariants.{RunsIntoItself}
 use Rattle.table.specs.declared.state.State.{State}
 use Rattle.table.specs.declared.state.Stop.{Stop}
 use Rattle.table.specs.declared.state.Stop.TheVariants.{Refused}

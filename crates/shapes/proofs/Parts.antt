@@ -14,11 +14,10 @@ use Rattle.definition.specs.Types.{State}
 use Rattle.definition.specs.Store.{args_at, with_args}
 use Rattle.definition.specs.Subst.{as_var, parts}
 use Rattle.definition.specs.Join.{is_var}
-use Rattle.names.specs.declared.AbilitySet.{AbilitySet}
 use Rattle.names.specs.declared.TVar.{TVar}
-use Rattle.names.specs.declared.TypeName.{TypeName}
 use Rattle.table.specs.Rows.{places}
 use Rattle.table.specs.State.{shape_of}
+use Rattle.table.specs.declared.Applied.{Applied}
 use Rattle.table.specs.declared.Shape.{Shape}
 use Rattle.table.specs.declared.Shape.TheVariants.{Ref, Apply}
 use Rattle.table.specs.contracts.Shape.{the_type}
@@ -29,7 +28,7 @@ use Rattle.shapes.proofs.Tags.{other_shapes}
 
 pub no_var : (s : Shape) → OneOf (0 ∷ 1 ∷ 2 ∷ 3 ∷ 5 ∷ 6 ∷ []) (tag_of the_type s) → (st : State) → None ≡ as_var (with_args st (shape_of s))
 unfolding as_var with_args
-no_var = other_shapes (0 ∷ 1 ∷ 2 ∷ 3 ∷ 5 ∷ 6 ∷ []) (λ s. (st : State) → None ≡ as_var (with_args st (shape_of s))) (λ st. refl) (λ m t st. refl) (λ id a st. refl) (λ k n first many st. refl) tt (λ st. refl) (λ st. refl)
+no_var = other_shapes (0 ∷ 1 ∷ 2 ∷ 3 ∷ 5 ∷ 6 ∷ []) (λ s. (st : State) → None ≡ as_var (with_args st (shape_of s))) (λ st. refl) (λ m t st. refl) (λ id a st. refl) (λ a st. refl) tt (λ st. refl) (λ st. refl)
 
 pub var_is : (v : ℕ) (x : d.TypeValue) (o : Option ℕ) → o ≡ as_var x → elim o [ None ↦ false | Some y ↦ eqb y v ] ≡ is_var v x
 unfolding is_var
@@ -48,10 +47,10 @@ ref_at s m t (suc i) h = absurd (omega arith)
 pub part_ref : (s : State) (sh : Shape) (m : Bool) (t i : ℕ) → sh ≡ Ref m t → i < part_count (shape_of sh) → t ≡ get_or (parts (with_args s (shape_of sh))) i 0
 part_ref s sh m t i e h = rw e (ref_at s m t i (rw e at h))
 
-pub part_apply : (s : State) (sh : Shape) (k : Option AbilitySet) (n : TypeName) (first many i r : ℕ) → sh ≡ Apply k n first many → i < part_count (shape_of sh)
-    → ((m : ℕ) → i < m → r ≡ get_or (args_at s (places first m)) i 0) → r ≡ get_or (parts (with_args s (shape_of sh))) i 0
+pub part_apply : (s : State) (sh : Shape) (a : Applied) (i r : ℕ) → sh ≡ Apply a → i < part_count (shape_of sh)
+    → ((m : ℕ) → i < m → r ≡ get_or (args_at s (places a.first m)) i 0) → r ≡ get_or (parts (with_args s (shape_of sh))) i 0
 unfolding parts with_args places
-part_apply s sh k n first many i r e h f = rw e (f many (rw e at h))
+part_apply s sh a i r e h f = rw e (f a.many (rw e at h))
 
 pub no_parts : (s : Shape) → OneOf (0 ∷ 2 ∷ 4 ∷ 5 ∷ 6 ∷ []) (tag_of the_type s) → (st : State) → [] ≡ parts (with_args st (shape_of s))
 unfolding parts with_args

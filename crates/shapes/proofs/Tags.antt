@@ -1,6 +1,5 @@
 -- What holds under a `_` arm: P of each shape, name or constraint whose tag is one of those that fall there. A caller gives P's proof for each of these
 -- tags, and `tt` for the others. Assumes nothing.
-use Rattle.std.specs.Prelude.{Option}
 use mathlib.Core.Path.{◌≡◌, refl, sym, subst}
 use mathlib.Core.Bool.{Bool, true, false, not}
 use mathlib.Core.List.{List, [], ◌∷◌}
@@ -10,12 +9,12 @@ use mir.Val.{has_key}
 use denote.Enum.Declared.{tag_of}
 use types.Run.{OneOf, miss}
 use Rattle.names.specs.declared.AbilitySet.{AbilitySet}
-use Rattle.names.specs.declared.AbilitySet.{AbilitySet}
 use Rattle.names.specs.declared.TParamID.{TParamID}
 use Rattle.names.specs.declared.TVar.{TVar}
 use Rattle.names.specs.declared.TypeName.{TypeName}
 use Rattle.names.specs.declared.TypeName.TheVariants.{Multiple, Builtin, ModuleType}
 use Rattle.names.specs.contracts.TypeName.{the_type as name_type}
+use Rattle.table.specs.declared.Applied.{Applied}
 use Rattle.table.specs.declared.Shape.{Shape}
 use Rattle.table.specs.declared.Shape.TheVariants.{Unit as UnitS, Ref, Param, Apply, Var, Anything, UnresolvedError}
 use Rattle.table.specs.contracts.Shape.{the_type}
@@ -37,12 +36,12 @@ module _ (tags : List ℕ) where
   met k false e a o = absurd (miss tags k (subst (λ (x : Bool). T (not x)) (sym e) tt) o)
 
   pub other_shapes : (P : Shape → Type 0) → At 0 (P UnitS) → At 1 ((m : Bool) (t : ℕ) → P (Ref m t)) → At 2 ((id : TParamID) (a : AbilitySet) → P (Param id a))
-      → At 3 ((k : Option AbilitySet) (n : TypeName) (first many : ℕ) → P (Apply k n first many)) → At 4 ((v : TVar) → P (Var v)) → At 5 (P Anything) → At 6 (P UnresolvedError)
+      → At 3 ((a : Applied) → P (Apply a)) → At 4 ((v : TVar) → P (Var v)) → At 5 (P Anything) → At 6 (P UnresolvedError)
       → (s : Shape) → OneOf tags (tag_of the_type s) → P s
   other_shapes P unit ref param apply var anything error UnitS o = met 0 _ refl unit o
   other_shapes P unit ref param apply var anything error (Ref m t) o = met 1 _ refl ref o m t
   other_shapes P unit ref param apply var anything error (Param id a) o = met 2 _ refl param o id a
-  other_shapes P unit ref param apply var anything error (Apply k n first many) o = met 3 _ refl apply o k n first many
+  other_shapes P unit ref param apply var anything error (Apply a) o = met 3 _ refl apply o a
   other_shapes P unit ref param apply var anything error (Var v) o = met 4 _ refl var o v
   other_shapes P unit ref param apply var anything error Anything o = met 5 _ refl anything o
   other_shapes P unit ref param apply var anything error UnresolvedError o = met 6 _ refl error o

@@ -13,18 +13,9 @@ ghost use Rattle.table.specs.State.{shape_of};
 ghost use Rattle.table.specs.Did.{held};
 ghost use Rattle.shapes.specs.Parts.{next, part_count};
 
-use names::{AbilityMark, TVar, TypeName};
+use names::{TVar, TypeName};
 use table::Shape;
 use table::state::State;
-
-// What Shape::Apply holds, to pass it on whole. The variant keeps its four fields: most matches want one or two.
-#[derive(Clone, Copy)]
-pub struct Applied {
-    pub k: AbilityMark,
-    pub n: TypeName,
-    pub first: u32,
-    pub many: u32,
-}
 
 // ---- tests
 
@@ -65,7 +56,7 @@ fn is_numeric(n: TypeName) -> bool
 pub fn is_integer(s: Shape) -> bool
     ensures { (st : d.State) → result ≡ is_integer (with_args st (shape_of s)) }
 {
-    matches!(s, Shape::Apply(_, n, _, _) if is_numeric(n))
+    matches!(s, Shape::Apply(a) if is_numeric(a.n))
 }
 
 // A type that is no variable: what a numeric variable takes.
@@ -73,7 +64,7 @@ pub fn num_shape(s: Shape) -> bool
     ensures { (st : d.State) → result ≡ num_shape (with_args st (shape_of s)) }
 {
     match s {
-        Shape::Apply(_, n, _, _) => is_numeric(n),
+        Shape::Apply(a) => is_numeric(a.n),
         _ => undecided(s),
     }
 }
@@ -85,7 +76,7 @@ pub fn part_count(s: Shape) -> u32
 {
     match s {
         Shape::Ref(_, _) => 1,
-        Shape::Apply(_, _, _, many) => many,
+        Shape::Apply(a) => a.many,
         _ => 0,
     }
 }
@@ -96,7 +87,7 @@ pub fn part_at(st: &State<'_>, s: Shape, i: u32) -> u32
 {
     match s {
         Shape::Ref(_, t) => t,
-        Shape::Apply(_, _, first, _) => st.arg_at(first, i),
+        Shape::Apply(a) => st.arg_at(a.first, i),
         _ => 0,
     }
 }

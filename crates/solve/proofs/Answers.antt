@@ -8,11 +8,14 @@ use native.Mathlib.Omega.{arith}
 use borrow.Author.Tests.{le-leb, lt-leb}
 use lib.ListN.{length}
 use Rattle.definition.specs.Types as d
-use Rattle.definition.specs.Types.{Struct, ok, ◌>>=◌, refused, Refusal, answer_too_long}
+use Rattle.definition.specs.Types.{Struct, ok, ◌>>=◌, refused, answer_too_long}
+use Rattle.definition.specs.Constraints.{failures}
 use Rattle.definition.specs.Store.{with_constraints, with_structs}
-use Rattle.definition.specs.Constraints.{failures, hindrance, solve_all}
+use Rattle.definition.specs.Write.{Bytes}
 use Rattle.definition.specs.Step as step
 use Rattle.definition.specs.Step.{answer, answer_with, refusal, max_payload}
+use Rattle.refusals.specs.Refusals.{refusal_of}
+use Rattle.refusals.specs.declared.Refusal.{Refusal}
 use Rattle.table.specs.State.{outcome, seen, Grown}
 use Rattle.table.specs.Did.{held, tables}
 use Rattle.table.specs.Known.{Declared}
@@ -28,8 +31,7 @@ use Rattle.snapshot.specs.Back.{GrownFrom}
 use Rattle.constraints.specs.Emptied.{Emptied}
 use Rattle.constraints.proofs.Solved.{goes_on, unsolved}
 use Rattle.abilities.specs.Kept.{Knows}
-use Rattle.abilities.specs.Rules.{AllKept, any_asks, refusal_of, Hindered}
-use Rattle.abilities.specs.declared.Hindrance.{Hindrance}
+use Rattle.abilities.specs.Rules.{AllKept, any_asks, bytes_of, Given, Checked}
 use Rattle.abilities.proofs.Asking.{asks_clear}
 use Rattle.writer.specs.Bytes.{Wrote, Capped}
 use Rattle.payload.specs.Payload.{shown}
@@ -38,34 +40,32 @@ use Rattle.payload.specs.declared.Show.TheVariants as show
 use Rattle.payload.proofs.Payload.{wrote_payload, wrote_rest, wrote_few}
 use Rattle.answer.specs.Ran.{ran, answered, refused_by}
 use Rattle.answer.specs.Answered.{AnswersIn}
-use Rattle.solve.specs.Solves.{reported, solved, solve_answer, Reports, Solves}
+use Rattle.solve.specs.Solves.{solved, solve_answer, Reports, Solves}
 use Rattle.solve.proofs.Left.{Decided}
 
 -- ---- the definition's answers
 
-reported_fits : (s before : d.State) → length (failures s s.constraints) ≤ 4096 → reported s before ≡ record { number = 0; payload = failures s s.constraints; state = with_constraints s [] }
-unfolding reported answer answer_with max_payload
-reported_fits s before h = rw (le-leb (length (failures s s.constraints)) 4096 h)
+solved_given : (s before : d.State) → Given (failures s) → solved s before ≡ answer_with before 0 (bytes_of (failures s)) (with_constraints s [])
+unfolding solved answer ◌>>=◌
+solved_given s before e = ap (λ (m : d.Result Bytes). answer before (m >>= (λ b. ok (with_constraints s [], b)))) e
 
-reported_long : (s before : d.State) → 4096 < length (failures s s.constraints) → reported s before ≡ refusal before answer_too_long
-unfolding reported answer answer_with max_payload
-reported_long s before h = rw (lt-leb (length (failures s s.constraints)) 4096 h)
+answer_fits : (before after : d.State) (b : Bytes) → length b ≤ 4096 → answer_with before 0 b after ≡ record { number = 0; payload = b; state = after }
+unfolding answer_with max_payload
+answer_fits before after b h = rw (le-leb (length b) 4096 h)
 
-all_clear : (s : d.State) → hindrance s s.constraints ≡ None → solve_all s ≡ ok (with_constraints s [], failures s s.constraints)
-unfolding solve_all
-all_clear s e = rw (e, solve_all) refl
+answer_long : (before after : d.State) (b : Bytes) → 4096 < length b → answer_with before 0 b after ≡ refusal before answer_too_long
+unfolding answer_with max_payload
+answer_long before after b h = rw (lt-leb (length b) 4096 h)
 
-all_refused : (s : d.State) (x : Refusal) → hindrance s s.constraints ≡ Some x → solve_all s ≡ refused x
-unfolding solve_all
-all_refused s x e = rw (e, solve_all) refl
+solved_fits : (s before : d.State) → Given (failures s) → length (bytes_of (failures s)) ≤ 4096 → solved s before ≡ record { number = 0; payload = bytes_of (failures s); state = with_constraints s [] }
+solved_fits s before g h = solved_given s before g ∙ answer_fits before (with_constraints s []) (bytes_of (failures s)) h
 
-solved_clear : (s before : d.State) → hindrance s s.constraints ≡ None → solved s before ≡ reported s before
-unfolding solved reported
-solved_clear s before e = ap (answer before) (all_clear s e)
+solved_long : (s before : d.State) → Given (failures s) → 4096 < length (bytes_of (failures s)) → solved s before ≡ refusal before answer_too_long
+solved_long s before g h = solved_given s before g ∙ answer_long before (with_constraints s []) (bytes_of (failures s)) h
 
-solved_refused : (s before : d.State) (x : Refusal) → hindrance s s.constraints ≡ Some x → solved s before ≡ refusal before x
-unfolding solved answer
-solved_refused s before x e = ap (answer before) (all_refused s x e)
+solved_refused : (s before : d.State) (x : d.Refusal) → failures s ≡ refused x → solved s before ≡ refusal before x
+unfolding solved answer ◌>>=◌
+solved_refused s before x e = ap (λ (m : d.Result Bytes). answer before (m >>= (λ b. ok (with_constraints s [], b)))) e
 
 -- ---- what is said of all declarations, and what is said otherwise
 
@@ -79,45 +79,41 @@ module _ {w₀ : List ℕ} {s t : State} {params : List (List ℕ)} {buf buf' : 
 
 -- ---- the failures
 
--- too long
-pub report_long : (w₀ : List ℕ) (before : Before) (s t : State) (params : List (List ℕ)) (buf buf' : List ℕ) (r : Answer)
-    → ((ds : List Struct) → Knows s params ds → Capped 4096 (length (failures (held s ds) (held s ds).constraints)) None)
-    → AnswersIn w₀ before s t buf buf' r (refused_by answer_too_long) → Reports w₀ before.used s params t buf buf' r reported
-report_long w₀ before s t params buf buf' r long a = reports_is before.used reported (λ ds k x. reported_long (held s ds) x (long ds k)) (reports_all before a)
+module _ (s : State) (params : List (List ℕ)) (given : (ds : List Struct) → Knows s params ds → Given (failures (held s ds))) where
+  -- too long
+  pub report_long : (w₀ : List ℕ) (before : Before) (t : State) (buf buf' : List ℕ) (r : Answer) → ((ds : List Struct) → Knows s params ds → Capped 4096 (length (bytes_of (failures (held s ds)))) None)
+      → AnswersIn w₀ before s t buf buf' r (refused_by answer_too_long) → Reports w₀ before.used s params t buf buf' r solved
+  report_long w₀ before t buf buf' r long a = reports_is before.used solved (λ ds k x. solved_long (held s ds) x (given ds k) (long ds k)) (reports_all before a)
 
--- of this size
-module _ (s : State) (params : List (List ℕ)) (size : ℕ) (sized : (ds : List Struct) → Knows s params ds → Capped 4096 (length (failures (held s ds) (held s ds).constraints)) (Some size)) where
-  pub report_room : (buf : List ℕ) → 4096 ≤ length buf → (ds : List Struct) → Knows s params ds → length (failures (held s ds) (held s ds).constraints) ≤ length buf
-  report_room buf room ds k = omega (arith, (sized ds k).1)
+  -- of this size
+  module _ (size : ℕ) (sized : (ds : List Struct) → Knows s params ds → Capped 4096 (length (bytes_of (failures (held s ds)))) (Some size)) where
+    pub report_room : (buf : List ℕ) → 4096 ≤ length buf → (ds : List Struct) → Knows s params ds → length (bytes_of (failures (held s ds))) ≤ length buf
+    report_room buf room ds k = omega (arith, (sized ds k).1)
 
-  pub report_kept : (w₀ : List ℕ) (before : Before) (t : State) (buf buf' : List ℕ) → Declared s.words.now s.used params → (len : ℕ)
-      → ((ds : List Struct) → Knows s params ds → Wrote buf 0 (failures (held s ds) (held s ds).constraints) buf' len) → Emptied s t
-      → Reports w₀ before.used s params t buf buf' (record { number = 0; len = len; used = t.used; kept = true }) reported
-  report_kept w₀ before t buf buf' d len wrote e =
-      let once = wrote d.structs d.known in
-      record {
-        same = e.same;
-        used = refl;
-        few = wrote_few buf _ buf' len once (sized d.structs d.known).1;
-        rest = wrote_rest buf _ buf' len once;
-        is = λ ds₀ ds k. reported_fits (held s ds) (seen w₀ before.used ds₀) (sized ds k).1 ∙ rw (wrote_payload buf _ buf' len (wrote ds k), e.is ds);
-        declares = λ ds₀ ds a b. declares_kept s.words.now s.used t.words.now t.used ds e.structs b;
-      }
+    pub report_kept : (w₀ : List ℕ) (before : Before) (t : State) (buf buf' : List ℕ) → Declared s.words.now s.used params → (len : ℕ)
+        → ((ds : List Struct) → Knows s params ds → Wrote buf 0 (bytes_of (failures (held s ds))) buf' len) → Emptied s t
+        → Reports w₀ before.used s params t buf buf' (record { number = 0; len = len; used = t.used; kept = true }) solved
+    report_kept w₀ before t buf buf' d len wrote e =
+        let once = wrote d.structs d.known in
+        record {
+          same = e.same;
+          used = refl;
+          few = wrote_few buf _ buf' len once (sized d.structs d.known).1;
+          rest = wrote_rest buf _ buf' len once;
+          is = λ ds₀ ds k. solved_fits (held s ds) (seen w₀ before.used ds₀) (given ds k) (sized ds k).1 ∙ rw (wrote_payload buf _ buf' len (wrote ds k), e.is ds);
+          declares = λ ds₀ ds a b. declares_kept s.words.now s.used t.words.now t.used ds e.structs b;
+        }
 
 -- ---- 9 and 16
 
-module _ {w₀ : List ℕ} (before : Before) {s t : State} {params : List (List ℕ)} {buf buf' : List ℕ} {r : Answer} where
-  pub abilities_clear : {sets sets' : List ℕ} → Hindered s params sets sets' (Ok tt) (λ x. hindrance x x.constraints) (λ l. AllKept l (tables s).constraints)
-      → Reports w₀ before.used s params t buf buf' r reported → Reports w₀ before.used s params t buf buf' r solved
-  abilities_clear c a = reports_is before.used solved (λ ds k x. solved_clear (held s ds) x (c.is ds k)) a
+pub abilities_refused : {w₀ : List ℕ} (before : Before) {s t : State} {params : List (List ℕ)} {buf buf' : List ℕ} {r : Answer} {sets sets' : List ℕ} (x : Refusal)
+    → Checked s params sets sets' (Err x) failures (λ l. AllKept l (tables s).constraints) → AnswersIn w₀ before s t buf buf' r (refused_by (refusal_of x)) → Reports w₀ before.used s params t buf buf' r solved
+abilities_refused before {s} x c a = reports_is before.used solved (λ ds k y. solved_refused (held s ds) y (refusal_of x) (c.is ds k)) (reports_all before a)
 
-  pub abilities_refused : {sets sets' : List ℕ} (h : Hindrance) → Hindered s params sets sets' (Err h) (λ x. hindrance x x.constraints) (λ l. AllKept l (tables s).constraints)
-      → AnswersIn w₀ before s t buf buf' r (refused_by (refusal_of h)) → Reports w₀ before.used s params t buf buf' r solved
-  abilities_refused h c a = reports_is before.used solved (λ ds k x. solved_refused (held s ds) x (refusal_of h) (c.is ds k)) (reports_all before a)
-
-  pub plain_clear : any_asks (tables s).constraints ≡ false → Reports w₀ before.used s params t buf buf' r reported → Reports w₀ before.used s params t buf buf' r solved
-  unfolding seen with_structs
-  plain_clear e a = reports_is before.used solved (λ ds k x. solved_clear (held s ds) x (asks_clear (held s ds) (tables s).constraints e)) a
+-- where none asks for abilities, none is refused
+pub none_refused : (s : State) → any_asks (tables s).constraints ≡ false → (ds : List Struct) → Given (failures (held s ds))
+unfolding seen with_structs
+none_refused s e ds = asks_clear (held s ds) (tables s).constraints e
 
 -- ---- from the state at entry
 

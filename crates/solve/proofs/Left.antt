@@ -31,7 +31,7 @@ use Rattle.table.proofs.Known.{known_kept}
 use Rattle.constraints.specs.Solve.{numbered}
 use Rattle.failing.specs.Failing.{ty_of}
 use Rattle.writer.specs.Bytes.{AllBytes}
-use Rattle.solve.specs.Report.{TysIn}
+use Rattle.failures.specs.Report.{TysIn}
 use Rattle.answer.specs.Ran.{Settles}
 use Rattle.answer.proofs.Calls.{ranges_bytes, seen_bytes}
 use Rattle.solve.specs.Solves.{HoldsSound}

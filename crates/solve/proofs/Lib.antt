@@ -2,4 +2,3 @@
 pub mod Left
 pub mod Ready
 pub mod Answers
-pub mod Rows

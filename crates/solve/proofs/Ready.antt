@@ -15,7 +15,7 @@ use Rattle.abilities.specs.Rules.{AskedIn, AskedKept, AllAsked, AllKept, asks_ab
 use Rattle.abilities.proofs.Asking.{asks_not}
 use Rattle.failing.specs.Failing.{TyIn}
 use Rattle.constraints.specs.Lacking.{AskedReady, AllReady}
-use Rattle.solve.specs.Report.{TysIn}
+use Rattle.failures.specs.Report.{TysIn}
 
 -- ---- the types that are asked for abilities are nodes
 

@@ -1,3 +1,2 @@
 -- What SV leaves, and what it asks. Assumes nothing: these are definitions.
 pub mod Solves
-pub mod Report

@@ -1,9 +1,8 @@
 -- What SV leaves, and what it asks of the state. Assumes nothing: these are definitions.
-use Rattle.std.specs.Prelude.{◌≡◌, true, List, [], ◌++◌, ℕ, ◌≤◌, take, drop, if◌then◌else◌}
+use Rattle.std.specs.Prelude.{◌≡◌, true, List, ◌++◌, ℕ, ◌≤◌, take, drop, if◌then◌else◌}
 use Rattle.definition.specs.Types as d
-use Rattle.definition.specs.Types.{Struct, ok}
-use Rattle.definition.specs.Store.{with_constraints}
-use Rattle.definition.specs.Constraints.{failures, solve_all, solve_constraints}
+use Rattle.definition.specs.Types.{Struct}
+use Rattle.definition.specs.Constraints.{solve_all, solve_constraints}
 use Rattle.definition.specs.Sound.{sound}
 use Rattle.definition.specs.Step as step
 use Rattle.definition.specs.Step.{answer}
@@ -19,10 +18,6 @@ pub record HoldsSound (s : State) (params : List (List ℕ)) : Type 0 where
   pub structs : List Struct
   pub is_sound : sound (held s structs) ≡ true
   pub known : Knows s params structs
-
--- the answer where nothing hinders: the failures, and no constraint
-unfoldable pub reported : d.State → d.State → step.Answer
-reported s before = answer before (ok (with_constraints s [], failures s s.constraints))
 
 -- the answer once the numeric variables are decided
 unfoldable pub solved : d.State → d.State → step.Answer

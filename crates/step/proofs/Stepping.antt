@@ -9,15 +9,19 @@ use lib.Dec.{ltb}
 use lib.ListN.{length, drop}
 use Rattle.std.specs.Prelude as std
 use Rattle.std.specs.Prelude.{Option, Some, None, Ok, Err, if◌then◌else◌}
-use Rattle.definition.specs.Types.{State, Struct, Refusal, malformed, full, Result, ok, refused, ◌>>=◌}
+use Rattle.definition.specs.Types as d
+use Rattle.definition.specs.Types.{State, Struct, malformed, full, Result, ok, refused, ◌>>=◌}
 use Rattle.definition.specs.Write.{Bytes, IsBytes}
 use Rattle.definition.specs.Reader.{Read, got}
 use Rattle.definition.specs.Store.{with_structs}
 use Rattle.definition.specs.Record.{Record, read_record}
 use Rattle.definition.specs.Sound.{sound}
 use Rattle.definition.specs.Step as step
-use Rattle.definition.specs.Step.{run, answer, refusal, number_of_refusal}
+use Rattle.definition.specs.Step.{run, answer, refusal}
 use Rattle.theorems.proofs.SoundRead.{RecordIn, ReadWell, given, well_read}
+use Rattle.refusals.specs.Refusals.{refusal_of}
+use Rattle.refusals.specs.declared.Refusal.{Refusal}
+use Rattle.refusals.specs.declared.Refusal.TheVariants.{Malformed, Full}
 use Rattle.table.specs.Tab.{tab}
 use Rattle.table.specs.Rows.{words_at}
 use Rattle.table.specs.Encode.{encode}
@@ -35,9 +39,6 @@ use Rattle.sound.specs.Lent.{used_of, structs_of}
 use Rattle.sound.proofs.Lays.{lent_declares}
 use Rattle.heads.specs.Fields.{Arities}
 use Rattle.reader.specs.Taken.{stopped, placed, place_read, PlacedSo}
-use Rattle.cursor.specs.Words as cursor
-use Rattle.cursor.specs.declared.ReadError.{ReadError}
-use Rattle.cursor.specs.declared.ReadError.TheVariants.{Malformed}
 use Rattle.fields.specs.declared.What.{What}
 use Rattle.fields.specs.declared.What.TheVariants as q
 use Rattle.fields.specs.Noded.{Noded, place_record, noded, fields_as, WhatIn, RecordIs}
@@ -49,9 +50,7 @@ use Rattle.run.specs.Dispatch.{noded_run}
 use Rattle.run.proofs.Placed.{run_placed}
 use Rattle.step.specs.declared.Stepped.{Stepped}
 use Rattle.step.specs.Trusted.{held, held_by, Stands, answered, unread, Steps, Leaves}
-use Rattle.verdict.specs.declared.Refused.{Refused}
-use Rattle.verdict.specs.declared.Refused.TheVariants.{Unread, Full}
-use Rattle.verdict.specs.Verdict.{refusal_of, rows_after, verdict_of, place_after}
+use Rattle.verdict.specs.Verdict.{rows_after, verdict_of, place_after}
 use Rattle.step.specs.Replies.{Replied, Begun, Begins, Ends, binding}
 use Rattle.step.proofs.Reading.{stop_is, Got, got_is, answered_not, unread_not, unread_got, answered_got}
 use Rattle.step.proofs.Keeping.{bytes_after, answered_sound, view_arities, partly_still}
@@ -80,7 +79,7 @@ rows_by (q.Look x) n = refl
 rows_by (q.Add x) n = refl
 
 abbrev WasRead : Type 0
-WasRead = std.Result (Option What) ReadError
+WasRead = std.Result (Option What) Refusal
 
 -- what was read of the state that words and bytes hold
 module _ {s : Table} (params : List (List ℕ)) {stream : Bytes} {at : ℕ} {t : Table} {f : Fields} (c : RecordIs s stream at t f) where
@@ -101,7 +100,7 @@ module _ {s : Table} (params : List (List ℕ)) {stream : Bytes} {at : ℕ} {t :
       more : (q : Result (State × Noded)) → placed q (drop f.next stream) ≡ place_read false place_record r (held_by s params) → unread (held_by s params) (drop at stream) ≡ drop f.next stream
       more q e = let i = got_is r q (drop f.next stream) (held_by s params) e in unread_got false (held_by s params) (drop at stream) i.what (drop f.next stream) i.read
 
-      none : (x : Refusal) → stopped x ≡ place_read false place_record r (held_by s params) → unread (held_by s params) (drop at stream) ≡ drop at stream
+      none : (x : d.Refusal) → stopped x ≡ place_read false place_record r (held_by s params) → unread (held_by s params) (drop at stream) ≡ drop at stream
       none x e = unread_not false (held_by s params) (drop at stream) x (stop_is r x (held_by s params) e)
 
       go : (p : WasRead) → f.read ≡ p → unread (held_by s params) (drop at stream) ≡ drop (place_after p at f.next) stream
@@ -172,20 +171,15 @@ module _ (s : Table) {params : List (List ℕ)} (stream : Bytes) (at : ℕ) (st 
     in_front {t = t} p front =
         partly_still s.words.now s.used t.words.now t.used s.lay t.lay (subst (λ (x : step.Answer). Front s₀.vars x.state.vars) p.is front) b.saved.now kept
 
-    -- a refusal's number, and what it leaves
-    abbrev Refuses : ℕ → Table → Answer → Type 0
-    Refuses number t a = (x : Refusal) (buf : List ℕ) → number_of_refusal x ≡ number → AnswersIn s.words.now b t₁ t buf buf a (refused_by x)
+    refused_by_x : (whole : Bool) (x : d.Refusal) {t : Table} {a : Answer} {buf : List ℕ} → AnswersIn s.words.now b t₁ t buf buf a (refused_by x) → answered whole s₀ bytes ≡ refusal s₀ x → Replied buf t params buf a (answered whole s₀ bytes)
+    refused_by_x whole x g e = rw e (rw counts at (reply_refused x entered structs g))
 
-    refused_by_x : (whole : Bool) (x : Refusal) {number : ℕ} {t : Table} {a : Answer} → Refuses number t a → number_of_refusal x ≡ number → answered whole s₀ bytes ≡ refusal s₀ x
-        → (buf : List ℕ) → Replied buf t params buf a (answered whole s₀ bytes)
-    refused_by_x whole x g n e buf = rw e (rw counts at (reply_refused x entered structs (g x buf n)))
-
-    refused_front : (whole : Bool) (x : Refusal) → answered whole s₀ bytes ≡ refusal s₀ x → Front s₀.vars (answered whole s₀ bytes).state.vars
+    refused_front : (whole : Bool) (x : d.Refusal) → answered whole s₀ bytes ≡ refusal s₀ x → Front s₀.vars (answered whole s₀ bytes).state.vars
     unfolding refusal
     refused_front whole x e = rw e (front_refl s₀.vars)
 
     -- reading stopped
-    stopped_by : (whole : Bool) (x : Refusal) → stopped x ≡ place_read false place_record (read_record s₀ bytes) s₀ → answered whole s₀ bytes ≡ refusal s₀ x
+    stopped_by : (whole : Bool) (x : d.Refusal) → stopped x ≡ place_read false place_record (read_record s₀ bytes) s₀ → answered whole s₀ bytes ≡ refusal s₀ x
     stopped_by whole x e = answered_not whole s₀ bytes x (stop_is (read_record s₀ bytes) x s₀ e)
 
     -- there is no space
@@ -212,29 +206,29 @@ module _ (s : Table) {params : List (List ℕ)} (stream : Bytes) (at : ℕ) (st 
       told_placed i b e = answered_got whole s₀ bytes i.what stream f.next i.read over o ∙ ap (λ (x : Bool). if x then refusal s₀ malformed else answer s₀ (run s₀ i.what)) e
 
       -- what the record is refused for
-      why_refused : (p : WasRead) → f.read ≡ p → (b : Bool) → over ≡ b → (x : Refused) → verdict_of p b ≡ Err x → answered whole s₀ bytes ≡ refusal s₀ (refusal_of x)
+      why_refused : (p : WasRead) → f.read ≡ p → (b : Bool) → over ≡ b → (x : Refusal) → verdict_of p b ≡ Err x → answered whole s₀ bytes ≡ refusal s₀ (refusal_of x)
       unfolding ◌>>=◌ answer
       why_refused (Err y) e b d x n =
-          let z : Unread y ≡ x = cc in
-          subst (λ (x : Refused). answered whole s₀ bytes ≡ refusal s₀ (refusal_of x)) z (stopped_by whole (cursor.refusal y) (read_is params c (Err y) e))
+          let z : y ≡ x = cc in
+          subst (λ (x : Refusal). answered whole s₀ bytes ≡ refusal s₀ (refusal_of x)) z (stopped_by whole (refusal_of y) (read_is params c (Err y) e))
       why_refused (Ok None) e true d x n =
-          let z : Unread Malformed ≡ x = cc in
-          subst (λ (x : Refused). answered whole s₀ bytes ≡ refusal s₀ (refusal_of x)) z (told_placed (full_read e) true d)
+          let z : Malformed ≡ x = cc in
+          subst (λ (x : Refusal). answered whole s₀ bytes ≡ refusal s₀ (refusal_of x)) z (told_placed (full_read e) true d)
       why_refused (Ok (Some v)) e true d x n =
-          let z : Unread Malformed ≡ x = cc in
-          subst (λ (x : Refused). answered whole s₀ bytes ≡ refusal s₀ (refusal_of x)) z (told_placed (got_is (read_record s₀ bytes) _ (drop f.next stream) s₀ (read_is params c (Ok (Some v)) e)) true d)
+          let z : Malformed ≡ x = cc in
+          subst (λ (x : Refusal). answered whole s₀ bytes ≡ refusal s₀ (refusal_of x)) z (told_placed (got_is (read_record s₀ bytes) _ (drop f.next stream) s₀ (read_is params c (Ok (Some v)) e)) true d)
       why_refused (Ok None) e false d x n =
           let z : Full ≡ x = cc in
-          subst (λ (x : Refused). answered whole s₀ bytes ≡ refusal s₀ (refusal_of x)) z
+          subst (λ (x : Refusal). answered whole s₀ bytes ≡ refusal s₀ (refusal_of x)) z
           (told_placed (full_read e) false d ∙ ap (λ (m : Result (State × Bytes)). answer s₀ m) (full_ran (full_read e)))
       why_refused (Ok (Some v)) e false d x n = absurd (let z : ◌≡◌ {A = ℕ} 0 1 = cc in omega arith)
 
-      pub steps_refused : at ≤ length stream → {next : ℕ} → next ≡ place_after f.read at f.next → {x : Refused} → verdict_of f.read over ≡ Err x → {number : ℕ} → number ≡ number_of_refusal (refusal_of x) → {t : Table} {a : Answer} → Refuses number t a
-          → (buf : List ℕ) {r : Stepped} → r ≡ gone a next b.used.vars → Leaves whole s params stream at buf t params buf r b.saved.now
-      steps_refused le {next} n {x} e m {t} {a} g buf q =
+      pub steps_refused : at ≤ length stream → {next : ℕ} → next ≡ place_after f.read at f.next → {x : Refusal} → verdict_of f.read over ≡ Err x → {t : Table} {a : Answer} {buf : List ℕ} → AnswersIn s.words.now b t₁ t buf buf a (refused_by (refusal_of x))
+          → {r : Stepped} → r ≡ gone a next b.used.vars → Leaves whole s params stream at buf t params buf r b.saved.now
+      steps_refused le {next} n {x} e {t} {a} g q =
           let told = why_refused f.read refl over refl x e in
-          let z = refused_by_x whole (refusal_of x) g (sym m) told buf in
-          leaves whole le n (g (refusal_of x) buf (sym m)).same z (in_front z (refused_front whole (refusal_of x) told)) (q ∙ ap (λ (u : Used). gone a next u.vars) counts)
+          let z = refused_by_x whole (refusal_of x) g told in
+          leaves whole le n g.same z (in_front z (refused_front whole (refusal_of x) told)) (q ∙ ap (λ (u : Used). gone a next u.vars) counts)
 
       module _ (what : What) (e : f.read ≡ Ok (Some what)) where
         abbrev n : Noded

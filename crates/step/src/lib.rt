@@ -114,7 +114,7 @@ fn step_from(
         }
         Err(x) => {
             let rows = before.used.vars;
-            with_next(answer::settle_refusal(st, before, x.number()), next, rows)
+            with_next(answer::settle_refusal(st, before, x), next, rows)
         }
     }
 }

@@ -1,5 +1,4 @@
 -- A node's parts are below it. Assumes nothing.
-use Rattle.std.specs.Prelude.{Option}
 use mathlib.Core.Path.{◌≡◌, sym, ap, ◌∙◌, subst}
 use mathlib.Core.List.{List, []}
 use Prim.Native.Nat.{ℕ, ◌<◌}
@@ -9,10 +8,9 @@ use Rattle.definition.specs.Types as d
 use Rattle.definition.specs.Types.{Struct}
 use Rattle.definition.specs.Store.{node, args_at, with_structs}
 use Rattle.names.specs.Names.{mark_of, name_of}
-use Rattle.names.specs.declared.AbilitySet.{AbilitySet}
-use Rattle.names.specs.declared.TypeName.{TypeName}
 use Rattle.table.specs.Rows.{places}
 use Rattle.table.specs.State.{shape_of, node_of, view, seen, Lay, Below, Named}
+use Rattle.table.specs.declared.Applied.{Applied}
 use Rattle.table.specs.declared.Shape.{Shape}
 use Rattle.table.specs.declared.Shape.TheVariants.{Ref, Apply}
 use Rattle.table.specs.declared.Node.{Node}
@@ -33,5 +31,5 @@ module _ (w : List ℕ) (u : Used) (ty : ℕ) (nd : Node) (lay : Lay w u) (in_us
   pub ref_below : (m : _) (t : ℕ) → nd.shape ≡ Ref m t → t < ty
   ref_below m t e = below_it (Ref m t) e
 
-  pub named : (k : Option AbilitySet) (n : TypeName) (first many : ℕ) → nd.shape ≡ Apply k n first many → Named w u first many ty
-  named k n first many e = below_named w u ty (mark_of k) (name_of n) first many (below_it (Apply k n first many) e)
+  pub named : (a : Applied) → nd.shape ≡ Apply a → Named w u a.first a.many ty
+  named a e = below_named w u ty (mark_of a.k) (name_of a.n) a.first a.many (below_it (Apply a) e)

@@ -18,7 +18,7 @@ use Rattle.table.specs.State.{view, seen, Lay, Wrote, After, Stored, Flat, Found
 use Rattle.table.specs.declared.Shape.{Shape}
 use Rattle.table.specs.declared.Shape.TheVariants.{Unit as UnitS, Ref, Param, Apply, Var, Anything, UnresolvedError}
 use Rattle.table.specs.declared.Used.{Used}
-use Rattle.table.specs.declared.Refusal.TheVariants.{Full}
+use Rattle.refusals.specs.declared.Refusal.TheVariants.{Full}
 use Rattle.table.proofs.Rows.{wrote_front, wrote_none}
 use Rattle.table.proofs.Steps.{refines_is}
 use Rattle.table.proofs.Pushed.{count_view, args_view, node_pushed, places_full}
@@ -32,7 +32,7 @@ unfolding args_of
 flat_args n UnitS h = refl
 flat_args n (Ref m t) h = refl
 flat_args n (Param id a) h = refl
-flat_args n (Apply k c first many) h = absurd h
+flat_args n (Apply a) h = absurd h
 flat_args n (Var v) h = refl
 flat_args n Anything h = refl
 flat_args n UnresolvedError h = refl
@@ -42,7 +42,7 @@ unfolding stored
 flat_stored n f UnitS h = refl
 flat_stored n f (Ref m t) h = refl
 flat_stored n f (Param id a) h = refl
-flat_stored n f (Apply k c first many) h = absurd h
+flat_stored n f (Apply a) h = absurd h
 flat_stored n f (Var v) h = refl
 flat_stored n f Anything h = refl
 flat_stored n f UnresolvedError h = refl
@@ -51,7 +51,7 @@ flat_below : (n : ℕ) (args : List ℕ) (s : Shape) → Flat n s → Below args
 flat_below n args UnitS h = tt
 flat_below n args (Ref m t) h = h
 flat_below n args (Param id a) h = tt
-flat_below n args (Apply k c first many) h = absurd h
+flat_below n args (Apply a) h = absurd h
 flat_below n args (Var v) h = tt
 flat_below n args Anything h = tt
 flat_below n args UnresolvedError h = tt
@@ -93,7 +93,7 @@ module _ (w : List ℕ) (u : Used) (loc : ℕ) (k : Option AbilitySet) (name : T
   )
 
   pub apply_pushed : (at count place : ℕ) (front w₁ r w' : List ℕ) → (4096 - u.args < n → ⊥) → at ≡ u.nodes → place ≡ u.args → count ≡ n → front ≡ take count parts → n ≤ length parts
-      → Wrote w (12293 + place) (length front) front w₁ → Wrote w₁ (5 + at * 6) 6 r w' → Written node_table r (node_at loc (Apply k name u.args n))
+      → Wrote w (12293 + place) (length front) front w₁ → Wrote w₁ (5 + at * 6) 6 r w' → Written node_table r (node_at loc (Apply (record { k = k; n = name; first = u.args; many = n })))
       → After w u w' (record { out = Ok u.nodes; used = record { nodes = u.nodes + 1; args = u.args + n; vars = u.vars; constraints = u.constraints; structs = u.structs } }) (λ s. sp s loc v)
   unfolding args_of stored places
   apply_pushed at count place front w₁ r w' room e f g t long first second row =

@@ -13,7 +13,7 @@ use Rattle.definition.specs.Store.{count, taken, with_vars, with_var, with_const
 use Rattle.table.specs.Rows.{row, entries, Clean, Written, arg_words, read_arg, node_table, arg_table, var_table, constraint_table, struct_table}
 use Rattle.table.specs.State.{view, seen, Below, Inside, Lay, Grown, Wrote, Changed, After, Stored, Declared, VarIn, one_var, outcome, with_cell, pushed_constraint}
 use Rattle.table.specs.declared.Used.{Used}
-use Rattle.table.specs.declared.Refusal.TheVariants.{Full}
+use Rattle.refusals.specs.declared.Refusal.TheVariants.{Full}
 use Rattle.table.proofs.Rows.{length_entries, entry_at, entry_out, Same, same_entries, same_clean, apart, Put, put_row, put_push, put_push_clean, put_blank, put_set, put_set_clean}
 use Rattle.table.proofs.Written.{node_long, cell_again, cell_long, constraint_long, struct_long}
 use Rattle.table.proofs.Fields.{arg_row}

@@ -6,7 +6,7 @@ use Rattle.definition.specs.Types.{Struct, Result}
 use Rattle.names.specs.declared.TVar.{TVar}
 use Rattle.table.specs.State.{Any, Refines, NodesIn, TypesIn, outcome, seen, view, Declared}
 use Rattle.table.specs.declared.Used.{Used}
-use Rattle.table.specs.declared.Refusal.TheVariants.{Full}
+use Rattle.refusals.specs.declared.Refusal.TheVariants.{Full}
 use Rattle.table.specs.declared.state.State.{State}
 use Rattle.table.specs.declared.state.Stop.{Stop}
 use Rattle.table.specs.declared.state.Stop.TheVariants.{Failed, Refused}

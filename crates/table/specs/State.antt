@@ -4,10 +4,12 @@ use Rattle.std.specs.Prelude.{◌≡◌, List, [], ◌∷◌, ◌++◌, ℕ, ◌
 use Rattle.std.specs.Prelude.{Option, None, Some}
 use Rattle.definition.specs.Types as d
 use Rattle.definition.specs.Types.{State, Struct, Places, Cell, Result, ok, err, refused, ◌>>=◌}
-use Rattle.definition.specs.Types.{full, too_deep, runs_into_itself, abilities_disagree, open_variable, no_argument, parameter_twice}
 use Rattle.definition.specs.Store.{count, taken, node, args_at, with_vars, with_structs, get, add_constraint, declare}
 use Rattle.names.specs.Names.{mark_of, name_of}
 use Rattle.table.specs.Rows.{entries, Clean, node_table, arg_table, var_table, constraint_table, struct_table, places}
+use Rattle.refusals.specs.Refusals.{refusal_of}
+use Rattle.refusals.specs.declared.Refusal.TheVariants.{Full}
+use Rattle.table.specs.declared.Applied.{Applied}
 use Rattle.table.specs.declared.Shape.{Shape}
 use Rattle.table.specs.declared.Shape.TheVariants.{Unit as UnitS, Ref, Param, Apply, Var, Anything, UnresolvedError}
 use Rattle.table.specs.declared.Node.{Node}
@@ -21,19 +23,21 @@ use Rattle.table.specs.declared.Constraint.TheVariants.{Ability, Numeric, Bits, 
 use Rattle.table.specs.Out.{Out}
 use Rattle.table.specs.declared.TypingError.{TypingError}
 use Rattle.table.specs.declared.TypingError.TheVariants.{SubtypeError, Incompatible, ArityMismatch, RecursiveType}
-use Rattle.table.specs.declared.Refusal.{Refusal}
-use Rattle.table.specs.declared.Refusal.TheVariants.{Full, TooDeep, RunsIntoItself, AbilitiesDisagree, OpenVariable, NoArgument, ParameterTwice}
 use Rattle.table.specs.Out.{Outcome}
 use Rattle.table.specs.declared.state.Stop.TheVariants.{Failed, Refused}
 use Rattle.std.specs.Prelude.{Ok, Err}
 
 -- ---- answers as the definition has them
 
+-- where a named type's arguments stand
+abbrev pub args_of : Applied → Places
+args_of a = places a.first a.many
+
 abbrev pub shape_of : Shape → d.Shape Places
 shape_of UnitS = d.UnitType
 shape_of (Ref m t) = d.Ref m t
 shape_of (Param id a) = d.Param id.0 a.0
-shape_of (Apply k n first many) = d.Apply (mark_of k) (name_of n) (places first many)
+shape_of (Apply a) = d.Apply (mark_of a.k) (name_of a.n) (args_of a)
 shape_of (Var v) = d.Var v.0
 shape_of Anything = d.Anything
 shape_of UnresolvedError = d.UnresolvedError
@@ -52,7 +56,7 @@ abbrev pub value_of : Shape → d.TypeValue
 value_of UnitS = d.UnitType
 value_of (Ref m t) = d.Ref m t
 value_of (Param id a) = d.Param id.0 a.0
-value_of (Apply k n first many) = d.Apply (mark_of k) (name_of n) []
+value_of (Apply a) = d.Apply (mark_of a.k) (name_of a.n) []
 value_of (Var v) = d.Var v.0
 value_of Anything = d.Anything
 value_of UnresolvedError = d.UnresolvedError
@@ -70,15 +74,6 @@ error_of (SubtypeError a b) = d.SubtypeError a b
 error_of (Incompatible a b) = d.Incompatible a b
 error_of (ArityMismatch a b) = d.ArityMismatch a b
 error_of (RecursiveType loc) = d.RecursiveType loc
-
-abbrev pub refusal_of : Refusal → d.Refusal
-refusal_of Full = full
-refusal_of TooDeep = too_deep
-refusal_of RunsIntoItself = runs_into_itself
-refusal_of AbilitiesDisagree = abilities_disagree
-refusal_of OpenVariable = open_variable
-refusal_of NoArgument = no_argument
-refusal_of ParameterTwice = parameter_twice
 
 -- the answer o, met in the state s
 unfoldable pub outcome : Out → State → Result (State × ℕ)
@@ -276,7 +271,7 @@ abbrev pub Flat : ℕ → Shape → Type 0
 Flat n UnitS = Unit {0}
 Flat n (Ref m t) = t < n
 Flat n (Param id a) = Unit {0}
-Flat n (Apply k c first many) = ⊥
+Flat n (Apply a) = ⊥
 Flat n (Var v) = Unit {0}
 Flat n Anything = Unit {0}
 Flat n UnresolvedError = Unit {0}

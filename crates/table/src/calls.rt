@@ -12,7 +12,7 @@ ghost use Rattle.table.specs.Did.{held, Counts, Did, Took, Kept, Added, Declared
 
 use crate::state::{State, Stop};
 use crate::{
-    ARGS_AT, CONSTRAINTS_AT, CellWords, Constraint, NODES_AT, Node, Refusal, STRUCTS_AT, Shape,
+    ARGS_AT, Applied, CONSTRAINTS_AT, CellWords, Constraint, NODES_AT, Node, STRUCTS_AT, Shape,
     StructRow, Used, VARS_AT, cell_row, cell_words_at, constraint_of, constraint_row,
     constraint_words_at, node_words_at, option_at, put_row, row_of, set_at, shape_at,
     struct_words_at, tvar, wide, write_words,
@@ -21,6 +21,7 @@ use names::{
     AbilityMark, AbilitySet, MAX_ARGS, MAX_CONSTRAINTS, MAX_NODES, MAX_STRUCTS, MAX_VARS, TVar,
     TypeName,
 };
+use refusals::Refusal;
 
 // TVar::next: the counts are lent, and altered by the taking.
 fn next_tvar(used: &mut Used) -> Result<TVar, Stop>
@@ -151,7 +152,13 @@ impl State<'_> {
         if MAX_NODES <= t || MAX_ARGS - first < n {
             return Err(Stop::Refused(Refusal::Full));
         }
-        let row = row_of(loc, Shape::Apply(k, name, first, n));
+        let a = Applied {
+            k,
+            n: name,
+            first,
+            many: n,
+        };
+        let row = row_of(loc, Shape::Apply(a));
         let w = &mut *self.words;
         write_words(w, ARGS_AT + wide(first), &parts[..wide(n)]);
         put_row(w, NODES_AT, t, row);

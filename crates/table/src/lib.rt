@@ -37,13 +37,22 @@ pub const STRUCT_WORDS: usize = 2;
 // How many words there are.
 pub const WORDS: usize = 24069;
 
-// Type_, as a node row has it: arguments are places, the first and how many.
+// A named type: its arguments are places, the first and how many.
+#[derive(Clone, Copy)]
+pub struct Applied {
+    pub k: AbilityMark,
+    pub n: TypeName,
+    pub first: u32,
+    pub many: u32,
+}
+
+// Type_, as a node row has it.
 #[derive(Clone, Copy)]
 pub enum Shape {
     Unit,
     Ref(bool, u32),
     Param(TParamID, AbilitySet),
-    Apply(AbilityMark, TypeName, u32, u32),
+    Apply(Applied),
     Var(TVar),
     Anything,
     UnresolvedError,
@@ -126,18 +135,6 @@ pub enum TypingError {
     Incompatible(u32, u32),
     ArityMismatch(u32, u32),
     RecursiveType(u32),
-}
-
-// The definition's refusals that a step can meet.
-#[derive(Clone, Copy)]
-pub enum Refusal {
-    Full,
-    TooDeep,
-    RunsIntoItself,
-    AbilitiesDisagree,
-    OpenVariable,
-    NoArgument,
-    ParameterTwice,
 }
 
 // The number as an index. std has no From<u32> for usize.
@@ -303,7 +300,12 @@ fn shape_at(r: NodeWords) -> Shape
         0 => Shape::Unit,
         1 => Shape::Ref(r.a == 1, r.b),
         2 => Shape::Param(TParamID(r.a), set_at(r.b)),
-        3..=5 => Shape::Apply(mark_at(r.a), name_at(r.tag, r.b), r.c, r.d),
+        3..=5 => Shape::Apply(Applied {
+            k: mark_at(r.a),
+            n: name_at(r.tag, r.b),
+            first: r.c,
+            many: r.d,
+        }),
         6 => Shape::Var(tvar_at(r.a)),
         7 => Shape::Anything,
         _ => Shape::UnresolvedError,
@@ -328,7 +330,7 @@ fn row_of(loc: u32, shape: Shape) -> [u32; 6]
         Shape::Unit => [0, loc, 0, 0, 0, 0],
         Shape::Ref(m, t) => [1, loc, u32::from(m), t, 0, 0],
         Shape::Param(id, a) => [2, loc, id.0, u32::from(a), 0, 0],
-        Shape::Apply(k, n, first, many) => apply_row(loc, mark_word(k), n, first, many),
+        Shape::Apply(a) => apply_row(loc, mark_word(a.k), a.n, a.first, a.many),
         Shape::Var(v) => [6, loc, u32::from(v), 0, 0, 0],
         Shape::Anything => [7, loc, 0, 0, 0, 0],
         Shape::UnresolvedError => [8, loc, 0, 0, 0, 0],

@@ -4,7 +4,8 @@ ghost use Rattle.std.specs.Prelude.{◌≡◌};
 ghost use Rattle.table.specs.State.{Lay};
 ghost use Rattle.table.specs.Layout.{Lay-prop};
 
-use crate::{Refusal, TypingError, Used};
+use crate::{TypingError, Used};
+use refusals::Refusal;
 
 // What a step that does not succeed says.
 #[derive(Clone, Copy)]

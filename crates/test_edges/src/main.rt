@@ -5,7 +5,6 @@
 
 ghost use Rattle.std.specs.Prelude.{◌≡◌, ◌+◌, ◌<◌, ◌≤◌, length, IfOk};
 
-use engine::Unsound;
 use itoa::Buffer;
 use limits::MAX_BUFFER;
 use std::io;
@@ -103,7 +102,7 @@ fn after_lines<'a>(stream: &[u8], log: &'a [u8]) -> Option<&'a [u8]> {
             &mut answer,
         ) {
             Ok(r) => (r.number, r.length as usize),
-            Err(Unsound) => (15, 0),
+            Err(e) => (e.number(), 0),
         };
         log = after_answer(log, i, number, answer.get(..len)?)?;
         stream = &stream[n..];

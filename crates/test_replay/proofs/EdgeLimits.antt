@@ -4,7 +4,7 @@ use mathlib.Core.Path.{◌≡◌, refl}
 use mathlib.Core.List.{[], ◌∷◌}
 use Rattle.definition.specs.Types.{Param}
 use Rattle.definition.proofs.Computed.{answered}
-use Rattle.definition.proofs.Spelling.{text, unit, u8, vector, var, FV, UF, BC, RM}
+use Rattle.definition.proofs.Spelling.{unit, u8, vector, var, SD, FV, UF, BC, RM}
 use Rattle.definition.proofs.AnswersLimits.{unit_node, filled, deep}
 use Rattle.definition.proofs.AnswersSpace.{told}
 
@@ -28,7 +28,7 @@ constraint_512 : answered (filled 1 0 0 511 0) (BC 0 (unit 1)) 4096 ≡ (0, [])
 unfolding answered
 constraint_512 = refl
 
-struct_256 : answered (filled 0 0 0 0 255) (text "SD\0\0") 4096 ≡ (0, 255 ∷ 0 ∷ [])
+struct_256 : answered (filled 0 0 0 0 255) (SD 0 []) 4096 ≡ (0, 255 ∷ 0 ∷ [])
 unfolding answered
 struct_256 = refl
 

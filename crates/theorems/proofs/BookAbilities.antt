@@ -9,13 +9,15 @@ use Rattle.std.specs.Prelude.{Option, None, Some}
 use Prim.Native.Nat.{ℕ, zero, suc, ◌+◌, ◌<◌}
 use native.Mathlib.Omega.{arith}
 use lib.ListN.{length, get_or}
+use Rattle.std.proofs.lemmas.List.{get_or_default}
 use lib.Dec.{ltb, eqb}
 use borrow.Author.Tests.{eqb-true, eqb-false, ne_eqb, ltb-true, ltb-false}
 use Rattle.std.specs.Prelude.{if◌then◌else◌}
-use Rattle.definition.specs.Types.{TypeName, Multiple, Builtin, ModuleType, UnitType, Ref, Param, Apply, Var, Anything, UnresolvedError, TypeValue, State}
+use Rattle.definition.specs.Types.{AbilityMark, TypeName, Multiple, Builtin, ModuleType, UnitType, Ref, Param, Apply, Var, Anything, UnresolvedError, TypeValue, State}
 use Rattle.definition.specs.Store.{count, type_at, loc_of, spanned, get, all_of}
 use Rattle.definition.specs.Subst.{as_var, parts, forward_tvar, next_in, next_of, unfold_var, unfold_type, goes_on_to, ends_in, reaches_itself}
 use Rattle.definition.specs.Instantiate.{struct_tparams}
+use Rattle.definition.specs.Trees.{arity}
 use Rattle.definition.specs.Sound.{sound}
 use Rattle.definition.specs.Rank.{RunsIntoItself}
 use Rattle.definition.specs.Abilities.{all, primitives, references, signer, collection, has, select, those, from_abilities, requires, builtin_abilities, declared_abilities, counts, first_lacking, is_none, lacking, granted, infer_value, infer, infer_abilities}
@@ -27,6 +29,7 @@ use Rattle.theorems.proofs.Soundness.{and}
 use Rattle.theorems.proofs.SoundFacts.{and_l, and_r, elim_l, elim_r, not_false, facts}
 use Rattle.theorems.proofs.DemandReading.{any_plain}
 use Rattle.theorems.proofs.TotalReading.{type_is_in, reaches_is_runs}
+use Rattle.theorems.proofs.DemandRuns.{Declared}
 use Rattle.theorems.proofs.SolveInferred.{more}
 
 -- ---- sets
@@ -178,19 +181,24 @@ module _ (s : State) where
       go false = in_7 c
   is_declared (struct_declares e) = e
 
-  pub counted : (n : TypeName) (i : ℕ) → ¬ Phantom s n i → counts s n i ≡ true
-  unfolding counts
-  counted (Multiple n) i h = refl
-  counted (Builtin b) i h = refl
-  counted (ModuleType n) i h = go (ltb (get_or (struct_tparams s n) i 0) 16) refl
+  pub counted : (n : TypeName) (i : ℕ) → i < arity s n → ¬ Phantom s n i → counts s n i ≡ true
+  unfolding counts arity
+  counted (Multiple n) i l h = refl
+  counted (Builtin b) i l h = refl
+  counted (ModuleType n) i l h = go (ltb (get_or (struct_tparams s n) i 16) 16) refl
     where
-      go : (b : Bool) → ltb (get_or (struct_tparams s n) i 0) 16 ≡ b → b ≡ true
+      go : (b : Bool) → ltb (get_or (struct_tparams s n) i 16) 16 ≡ b → b ≡ true
       go true e = refl
-      go false e = absurd (h (is_phantom (ltb-false (get_or (struct_tparams s n) i 0) 16 e)))
+      go false e = absurd (h (is_phantom (rw (get_or_default (struct_tparams s n) i 16 0 l) at (ltb-false (get_or (struct_tparams s n) i 16) 16 e))))
+
+  plain_parameter : (ps : List ℕ) (i : ℕ) → get_or ps i 16 < 16 → get_or ps i 0 < 16
+  plain_parameter [] i h = absurd (omega (arith, h))
+  plain_parameter (p ∷ ps) zero h = h
+  plain_parameter (p ∷ ps) (suc i) h = plain_parameter ps i h
 
   pub not_phantom : {n : TypeName} {i : ℕ} → counts s n i ≡ true → ¬ Phantom s n i
   unfolding counts
-  not_phantom {i = i} e (is_phantom {n = n} l) = let k = ltb-true (get_or (struct_tparams s n) i 0) 16 e in absurd (omega (arith, k, l))
+  not_phantom {i = i} e (is_phantom {n = n} l) = let k = plain_parameter (struct_tparams s n) i (ltb-true (get_or (struct_tparams s n) i 16) 16 e) in absurd (omega (arith, k, l))
 
   -- ---- one level
 
@@ -212,12 +220,12 @@ module _ (s : State) where
   is_none_of None e = refl
   is_none_of (Some i) e = never (cc)
 
-  pub none_lacking : (f : ℕ → ℕ) (n : TypeName) (tys : List ℕ) → All (Agrees f) tys → (a : Ability) → lacking f s n tys (bit a) ≡ None → ArgsHave n tys a
+  pub none_lacking : (f : ℕ → ℕ) (n : TypeName) (tys : List ℕ) → length tys ≡ arity s n → All (Agrees f) tys → (a : Ability) → lacking f s n tys (bit a) ≡ None → ArgsHave n tys a
   unfolding lacking ArgsHave
-  none_lacking f n tys h a e i l p =
+  none_lacking f n tys many h a e i l p =
       let z : 0 + i ≡ i = omega arith in
       let w : ℕ → Bool = λ ty. not (has (f ty) (bit a)) in
-      (all_get (Agrees f) tys h i l a).0 (not_false _ (none_lack (counts s n) w 0 tys e i l (rw z (counted n i p))))
+      (all_get (Agrees f) tys h i l a).0 (not_false _ (none_lack (counts s n) w 0 tys e i l (rw z (counted n i (omega (arith, l, many)) p))))
 
   pub lacking_none : (f : ℕ → ℕ) (n : TypeName) (tys : List ℕ) → All (Agrees f) tys → (a : Ability) → ArgsHave n tys a → lacking f s n tys (bit a) ≡ None
   unfolding lacking ArgsHave
@@ -229,23 +237,27 @@ module _ (s : State) where
   unfolding infer_value granted
   named_is f n tys a = rw (← (requires_bit a)) (those_has (granted f s n tys) a)
 
-  found : (f : ℕ → ℕ) (x : TypeValue) → as_var x ≡ None → All (Agrees f) (parts x) → (a : Ability) → InSet a (infer_value f s x) → Has s a x
+  -- as many arguments as parameters
+  abbrev pub Filled : TypeValue → Type 0
+  Filled x = (k : AbilityMark) (n : TypeName) (tys : List ℕ) → x ≡ Apply k n tys → length tys ≡ arity s n
+
+  found : (f : ℕ → ℕ) (x : TypeValue) → as_var x ≡ None → Filled x → All (Agrees f) (parts x) → (a : Ability) → InSet a (infer_value f s x) → Has s a x
   unfolding infer_value parts collection references has as_var ArgsHave
-  found f UnitType p h a e = unit_has (of_7 a e)
-  found f (Ref m t) p h copy e = reference_copy
-  found f (Ref m t) p h drop e = reference_drop
-  found f (Ref m t) p h store e = never (cc)
-  found f (Ref m t) p h key e = never (cc)
-  found f (Var v) p h a e = never (cc)
-  found f UnresolvedError p h a e = error_has
-  found f Anything p h a e = any_has
-  found f (Param id set) p h a e = parameter_has e
-  found f (Apply (Some set) n tys) p h a e = marked_has e
-  found f (Apply None n tys) p h a e =
+  found f UnitType p q h a e = unit_has (of_7 a e)
+  found f (Ref m t) p q h copy e = reference_copy
+  found f (Ref m t) p q h drop e = reference_drop
+  found f (Ref m t) p q h store e = never (cc)
+  found f (Ref m t) p q h key e = never (cc)
+  found f (Var v) p q h a e = never (cc)
+  found f UnresolvedError p q h a e = error_has
+  found f Anything p q h a e = any_has
+  found f (Param id set) p q h a e = parameter_has e
+  found f (Apply (Some set) n tys) p q h a e = marked_has e
+  found f (Apply None n tys) p q h a e =
       let g = sym (named_is f n tys a) ∙ e in
       let b = has (declared_abilities s n) (bit a) in
       let c = is_none (lacking f s n tys (bit (needed a))) in
-      named_has (declared_is n a (and_l b c g)) (none_lacking f n tys h (needed a) (is_none_of _ (and_r b c g)))
+      named_has (declared_is n a (and_l b c g)) (none_lacking f n tys (q None n tys refl) h (needed a) (is_none_of _ (and_r b c g)))
 
   had : (f : ℕ → ℕ) {a : Ability} (x : TypeValue) → as_var x ≡ None → All (Agrees f) (parts x) → Has s a x → InSet a (infer_value f s x)
   unfolding infer_value parts collection references has as_var is_none ArgsHave
@@ -283,25 +295,37 @@ module _ (S : State) where
 
   pub record Unfolds (t : ℕ) (x : TypeValue) : Type 0 where
     pub plain : as_var x ≡ None
+    pub filled : Filled S x
     pub inside : All (λ p. p < count S) (parts x)
     pub to_has : (a : Ability) → Has S a (type_at S t) → Has S a x
     pub from_has : (a : Ability) → Has S a x → Has S a (type_at S t)
 
-module _ {ar : TypeName → ℕ} {S : State} (s : Sound ar S) where
+pub not_itself : {ar : TypeName → ℕ} {S : State} → Sound ar S → (t : ℕ) → t < count S → ¬ RunsIntoItself S (type_at S t) → reaches_itself S t ≡ false
+not_itself {S = S} s t i r = go (reaches_itself S t) refl
+  where
+    go : (b : Bool) → reaches_itself S t ≡ b → b ≡ false
+    go true e = absurd (r ((reaches_is_runs s t i).0 e))
+    go false e = refl
+
+module _ {ar : TypeName → ℕ} {S : State} (s : Sound ar S) (d : Declared ar S) where
+  filled_at : (t : ℕ) → t < count S → Filled S (type_at S t)
+  filled_at t i k n tys e = s.arity t k n tys i e ∙ sym (d n)
+
   pub unfolds : (t : ℕ) → t < count S → Unfolds S t (unfold_type S (spanned S t)).value
   unfolding unfold_type spanned unfold_var as_var parts next_of next_in
   unfolds t i = go (kind (type_at S t))
     where
       plain_one : as_var (type_at S t) ≡ None → Unfolds S t (unfold_type S (spanned S t)).value
-      plain_one e = rw (e, unfold_type) (record { plain = e; inside = (type_is_in s i).parts_in; to_has = λ a h. h; from_has = λ a h. h })
+      plain_one e = rw (e, unfold_type) (record { plain = e; filled = filled_at t i; inside = (type_is_in s i).parts_in; to_has = λ a h. h; from_has = λ a h. h })
 
       end : (v : ℕ) → type_at S t ≡ Var v → (o : Option ℕ) → get S (forward_tvar S v) ≡ o → Unfolds S t (unfold_var S (loc_of S t) o).value
-      end v e None g = record { plain = refl; inside = tt; to_has = λ a h. any_has; from_has = λ a h. subst (Has S a) (sym e) (up S (chain s v (s.var_in t v i e)) 0 (rw g any_has)) }
+      end v e None g = record { plain = refl; filled = λ k n tys q. never (cc); inside = tt; to_has = λ a h. any_has; from_has = λ a h. subst (Has S a) (sym e) (up S (chain s v (s.var_in t v i e)) 0 (rw g any_has)) }
       end v e (Some T) g =
           let c = chain s v (s.var_in t v i e) in
           let n : next_in S (Some T) ≡ None = rw g at (s.chains v (s.var_in t v i e)) in
           record {
             plain = n;
+            filled = filled_at T (s.bind_in _ T g);
             inside = (type_is_in s (s.bind_in _ T g)).parts_in;
             to_has = λ a h. rw g at (down S c 0 (subst (Has S a) e h));
             from_has = λ a h. subst (Has S a) (sym e) (up S c 0 (rw g h));
@@ -325,15 +349,8 @@ module _ {ar : TypeName → ℕ} {S : State} (s : Sound ar S) where
   agree (suc n) t i e a =
       let x = (unfold_type S (spanned S t)).value in
       let u = unfolds t i in
-      let h = all_agree n (parts x) u.inside e (λ p j d. agree n p j d) in
-      (λ k. u.from_has a (found S (λ p. infer n S p) x u.plain h a k), λ d. had S (λ p. infer n S p) x u.plain h (u.to_has a d))
-
-  pub not_itself : (t : ℕ) → t < count S → ¬ RunsIntoItself S (type_at S t) → reaches_itself S t ≡ false
-  not_itself t i r = go (reaches_itself S t) refl
-    where
-      go : (b : Bool) → reaches_itself S t ≡ b → b ≡ false
-      go true e = absurd (r ((reaches_is_runs s t i).0 e))
-      go false e = refl
+      let h = all_agree n (parts x) u.inside e (λ p j f. agree n p j f) in
+      (λ k. u.from_has a (found S (λ p. infer n S p) x u.plain u.filled h a k), λ d. had S (λ p. infer n S p) x u.plain h (u.to_has a d))
 
   pub abilities_agree : (t : ℕ) → t < count S → reaches_itself S t ≡ false → Agrees S (λ p. infer_abilities S p) t
   unfolding infer_abilities reaches_itself
@@ -342,8 +359,8 @@ module _ {ar : TypeName → ℕ} {S : State} (s : Sound ar S) where
   pub parts_agree : (t : ℕ) → t < count S → reaches_itself S t ≡ false → All (Agrees S (λ p. infer_abilities S p)) (parts (unfold_type S (spanned S t)).value)
   unfolding infer_abilities reaches_itself ends_in goes_on_to
   parts_agree t i e =
-      let d = not_false (ends_in (count S) S t) e in
-      all_agree (count S) (parts (unfold_type S (spanned S t)).value) (unfolds t i).inside (more S (count S) (suc (count S)) t (omega arith) d) (λ p j d. agree (count S) p j d)
+      let f = not_false (ends_in (count S) S t) e in
+      all_agree (count S) (parts (unfold_type S (spanned S t)).value) (unfolds t i).inside (more S (count S) (suc (count S)) t (omega arith) f) (λ p j g. agree (count S) p j g)
 
 pub abilities_are : (S : State) → sound S ≡ true → (t : ℕ) → t < count S → ¬ RunsIntoItself S (type_at S t) → (a : Ability) → InSet a (infer_abilities S t) ↔ Has S a (type_at S t)
-abilities_are S h t i r a = abilities_agree (facts S h) t i (not_itself (facts S h) t i r) a
+abilities_are S h t i r a = abilities_agree (facts S h) (λ n. refl) t i (not_itself (facts S h) t i r) a

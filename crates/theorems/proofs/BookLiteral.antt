@@ -15,6 +15,7 @@ use Rattle.definition.specs.Types.{TypeName, Multiple, Builtin, ModuleType, Abil
 use Rattle.definition.specs.Store.{any_of, count, taken, type_at, spanned, get, num_loc, with_constraints, sp}
 use Rattle.definition.specs.Subst.{parts, as_var, forward, forward_tvar, unfold_var, unfold_type}
 use Rattle.definition.specs.Join.{integers, is_numeric, join}
+use Rattle.definition.specs.Abilities.{primitives}
 use Rattle.definition.specs.Constraints.{num_vars, undecided, is_integer, u64, default_num_var, default_num_vars, solve_all, solve_constraints}
 use Rattle.definition.specs.Instantiate.{builtin_tparams}
 use Rattle.definition.specs.Write.{Bytes}
@@ -29,7 +30,7 @@ use Rattle.theorems.proofs.DemandSteps.{quiet_⊑}
 use Rattle.theorems.proofs.LawsPost.{Grown, grown_refl}
 use Rattle.theorems.proofs.DemandCalls.{sp_post, var_ok}
 use Rattle.theorems.proofs.DemandMain.{eq_of, join_impl_good}
-use Rattle.theorems.proofs.SolveHindered.{solve_cases}
+use Rattle.theorems.proofs.SolveInTurn.{solve_cases}
 use Rattle.theorems.proofs.DemandWent.{Went, went_refl, went_trans, went_quiet, quiet_list, sound_cleared, PostS, ps_ok, ps_err, ps_refused, bind_postS}
 use Rattle.theorems.proofs.DemandRuns.{Declared, declared_on, Below, below_on, num_vars_below, u64_ok, defaults_went}
 use Rattle.theorems.proofs.SoundFacts.{facts}
@@ -263,7 +264,7 @@ module _ (S : State) (h : sound S ≡ true) where
   literal_room a b e = go (default_num_vars S (num_vars 0 S.vars)) default_all e
     where
       go : (m : Result State) → Takes S (5 * numeric S) (2 * numeric S) (λ s. s) (λ s. Unit {0}) m → (m >>= rest) ≡ refused full → ⊥
-      go (ok S') (takes_ok t u) e = solve_cases S' (λ m. m ≡ refused full → ⊥) (λ d. never (cc)) (λ d. never (cc)) (λ d. never (cc)) e
+      go (ok S') (takes_ok t u) e = solve_cases S' (λ m. m ≡ refused full → ⊥) (λ failures d. never (cc)) (λ d. never (cc)) (λ d. never (cc)) e
       go (err s x) t e = elim t [ ]
       go (refused y) (takes_full f) e = f (record { nodes_left = a; vars_left = b; places_fit = ((sound_is S).0 h).few_args })
 
@@ -273,12 +274,12 @@ module _ (S : State) (h : sound S ≡ true) where
   literal_by k n v v_in r = go (default_num_vars S (num_vars 0 S.vars)) r default_all
     where
       go : (m : Result State) → Sure (λ S'. Sound (arity S) S' × (taken S ≤ taken S') × Is S' v (Apply k n [])) m → Takes S (5 * numeric S) (2 * numeric S) (λ s. s) (λ s. Unit {0}) m → LiteralRule v (Apply k n []) (m >>= rest)
-      go (ok S') (sure_ok p) t = solve_cases S' (LiteralRule v (Apply k n [])) (λ loc. unfolds_leaf p.0 k n v loc (omega (arith, v_in, p.1)) p.2) sv_itself sv_contradicted
+      go (ok S') (sure_ok p) t = solve_cases S' (LiteralRule v (Apply k n [])) (λ failures loc. unfolds_leaf p.0 k n v loc (omega (arith, v_in, p.1)) p.2) sv_itself sv_contradicted
       go (err s x) p t = elim p [ ]
       go (refused x) p (takes_full f) = sv_full
 
   pub literal : (v loc : ℕ) → num_loc S v ≡ Some loc → get S (forward_tvar S v) ≡ None → LiteralRule v (Apply (Some 7) (Builtin 3) []) (solve_constraints S)
-  unfolding num_loc IsU64 u64
+  unfolding num_loc IsU64 u64 primitives
   literal v loc e free = literal_by (Some 7) (Builtin 3) v v_in (sure_map (λ S' p. (p.sound_after, p.more, p.is)) (solved (num_vars 0 S.vars) s (λ n. refl) below v v_in (inl free) (inr listed)))
     where
       v_in : v < taken S

@@ -1,19 +1,18 @@
 -- Demand 3, of every list of records: what is known only grows, and each join's result ranks at or above both its types. Assumes nothing.
 -- First whole readings: where none reaches itself, what ranks at a depth that is enough ranks whole. Then each join (CallsFair), and any two points of the list (EveryDepth).
-use mathlib.Core.Path.{◌≡◌, refl, subst}
+use mathlib.Core.Path.{◌≡◌, refl}
 use mathlib.Core.Bool.{true}
-use mathlib.Core.List.{List, [], ◌∷◌, Memᴰ}
-use Prim.Native.Nat.{ℕ, zero, suc, ◌≤◌, ◌<◌}
+use mathlib.Core.List.{List, Memᴰ}
+use Prim.Native.Nat.{ℕ, ◌≤◌, ◌<◌}
 use native.Mathlib.Omega.{arith}
-use lib.ListN.{length, get_or}
+use lib.ListN.{length}
 use Rattle.definition.specs.Types.{TypeName, TypeValue, Var, State, Result, ok, err, refused}
 use Rattle.definition.specs.Store.{count, taken, type_at}
 use Rattle.definition.specs.Write.{Bytes}
 use Rattle.definition.specs.Trees.{arity}
 use Rattle.definition.specs.Sound.{sound}
-use Rattle.definition.specs.Step.{step}
 use Rattle.definition.specs.Rank.{any, Rank, NoneReachesItself, RunsIntoItself}
-use Rattle.definition.specs.Demand.{JoinCall, outcome, OnSuccess, after, at, calls_at, AtOrBelow, NoneSinks, ResultAboveOperands, NoLoops, Demand3}
+use Rattle.definition.specs.Demand.{JoinCall, outcome, OnSuccess, Event, trace, point, at, AtOrBelow, NoneSinks, ResultAboveOperands, NoLoops, Demand3}
 use Rattle.theorems.proofs.DemandDepth.{unrolled, EndsWithin}
 use Rattle.theorems.proofs.DemandTracks.{Tracks}
 use Rattle.theorems.proofs.DemandOrder.{Sound}
@@ -22,8 +21,8 @@ use Rattle.theorems.proofs.DemandReading.{tracks_rank}
 use Rattle.theorems.proofs.DemandLoops.{deep_enough}
 use Rattle.theorems.proofs.TotalReading.{ends_below, In, var_is_in, type_is_in, ends_read, type_ends, var_ends}
 use Rattle.theorems.proofs.SoundFacts.{facts}
-use Rattle.theorems.proofs.DemandFair.{Fair, step_fair}
-use Rattle.theorems.proofs.DemandEveryDepth.{Rises, Up, up_above, Somehow, Gave, gave, between}
+use Rattle.theorems.proofs.DemandFair.{Fair}
+use Rattle.theorems.proofs.DemandEveryDepth.{Rises, Up, up_above, Somehow, Gave, gave, between, chained, calls_fair}
 
 -- ---- whole readings
 
@@ -69,32 +68,25 @@ above e a h = above_by a h _ (gave a h) (h.clear e)
 
 -- ---- demand 3
 
-at_next : (s : State) (records : List (Bytes × ℕ)) (i : ℕ) → i < length records → at s records (suc i) ≡ (step (at s records i) (get_or records i ([], 0)).0 (get_or records i ([], 0)).1).state
-unfolding at after
-at_next s [] i h = absurd (omega arith)
-at_next s ((bytes, buffer) ∷ records) zero h = refl
-at_next s ((bytes, buffer) ∷ records) (suc i) h = at_next (step s bytes buffer).state records i (omega arith)
-
 module _ (s : State) (records : List (Bytes × ℕ)) (safe : sound s ≡ true) (none : NoLoops s records) where
   sound_at : (i : ℕ) → Somehow (at s records i)
-  unfolding at after
+  unfolding at point
   sound_at i = (between s records 0 i (omega arith)).still (record { ar = arity s; facts_of = facts s safe })
 
-  none_at : (i : ℕ) → i ≤ length records → NoneReachesItself (at s records i)
+  none_at : (i : ℕ) → i ≤ length (trace s records) → NoneReachesItself (at s records i)
   unfolding NoLoops
   none_at i h = none i h
 
-  calls_above : (i : ℕ) → i < length records → (a : JoinCall) → Memᴰ a (calls_at s records i) → OnSuccess (outcome a) (λ s t. Above a s t)
-  unfolding calls_at
-  calls_above i h a m = above tt a (step_fair (at s records i) (get_or records i ([], 0)).0 (get_or records i ([], 0)).1 (λ (e : Unit {0}). none_at i (omega arith))
-      (λ e. subst (λ (x : State). NoneReachesItself x) (at_next s records i h) (none_at (suc i) h)) a m)
+  calls_above : (e : Event) → Memᴰ e (trace s records) → (a : JoinCall) → Memᴰ a e.calls → OnSuccess (outcome a) (λ s t. Above a s t)
+  unfolding at
+  calls_above e i a m = above tt a (calls_fair {E = Unit {0}} s (trace s records) (chained s records) (λ d k l. none_at k l) e i a m)
 
-  points_rise : (i j : ℕ) → i ≤ j → j ≤ length records → NoneSinks (at s records i) (at s records j)
+  points_rise : (i j : ℕ) → i ≤ j → j ≤ length (trace s records) → NoneSinks (at s records i) (at s records j)
   points_rise i j h l = none_sinks (at s records i) (at s records j) (sound_at i) (sound_at j) (between s records i j h).up (none_at j l)
 
--- demand 3: any list of records, from any sound state, where no variable reaches itself at the start or after any record
+-- demand 3: any list of records, from any sound state, where no variable reaches itself at the start or after any event
 pub demand_3 : (s : State) (records : List (Bytes × ℕ)) → sound s ≡ true → NoLoops s records → Demand3 s records
 demand_3 s records safe none = record {
   points = λ i j h l. points_rise s records safe none i j h l;
-  joins = λ i h a m. calls_above s records safe none i h a m;
+  joins = λ e i a m. calls_above s records safe none e i a m;
 }

@@ -14,7 +14,7 @@ use Rattle.definition.specs.Trees.{arity}
 use Rattle.definition.specs.Sound.{sound}
 use Rattle.definition.specs.Step.{step}
 use Rattle.definition.specs.Rank.{NoneReachesItself}
-use Rattle.definition.specs.Demand.{after, at, NoLoops, Demand3}
+use Rattle.definition.specs.Demand.{events, trace, point, at, NoLoops, Demand3}
 use Rattle.theorems.proofs.Laws.{get_beyond}
 use Rattle.theorems.proofs.DemandTracks.{never}
 use Rattle.theorems.proofs.DemandOrder.{Sound}
@@ -53,8 +53,8 @@ unfoldable pub clear_from : State → List (Bytes × ℕ) → Bool
 clear_from s [] = clear s
 clear_from s ((bytes, buffer) ∷ records) = elim (clear s) [ true ↦ clear_from (step s bytes buffer).state records | false ↦ false ]
 
-clear_at : (s : State) (records : List (Bytes × ℕ)) → Somehow s → clear_from s records ≡ true → (i : ℕ) → i ≤ length records → NoneReachesItself (at s records i)
-unfolding clear_from at after
+clear_at : (s : State) (records : List (Bytes × ℕ)) → Somehow s → clear_from s records ≡ true → (i : ℕ) → i ≤ length (trace s records) → NoneReachesItself (at s records i)
+unfolding clear_from at point trace events
 clear_at s [] h e zero l = clear_none h.facts_of e
 clear_at s [] h e (suc i) l = absurd (omega arith)
 clear_at s ((bytes, buffer) ∷ records) h e zero l = clear_none h.facts_of (elim_l (clear s) (clear_from (step s bytes buffer).state records) e)

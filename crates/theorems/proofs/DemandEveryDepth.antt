@@ -1,11 +1,13 @@
 -- Demand 3 at every depth of unrolling, of every list of records and with no hypothesis. Assumes nothing.
 -- First one record: the state rises, or is as it was (`Up`, `Stepped`). Then the list of records by induction, and each join by the main lemma.
-use mathlib.Core.Path.{◌≡◌, refl}
+use mathlib.Core.Path.{◌≡◌, refl, sym, subst}
 use mathlib.Core.Bool.{Bool, true, false}
-use mathlib.Core.List.{List, [], ◌∷◌, Memᴰ}
+use mathlib.Core.List.{List, [], ◌∷◌, ◌++◌, Memᴰ}
+use mathlib.Core.List.Memᴰ
+use mathlib.Core.Logic.{inl, inr}
 use Prim.Native.Nat.{ℕ, zero, suc, ◌≤◌, ◌<◌}
 use native.Mathlib.Omega.{arith}
-use lib.ListN.{length, get_or, take}
+use lib.ListN.{length}
 use lib.Dec.{leb}
 use Rattle.std.specs.Prelude.{if◌then◌else◌}
 use Rattle.definition.specs.Types.{TypeName, Var, State, max_depth, answer_too_long, unsound_state, Result, ok, err, refused}
@@ -15,8 +17,8 @@ use Rattle.definition.specs.Reader.{Read, got, not_read}
 use Rattle.definition.specs.Record.{Record, read_record}
 use Rattle.definition.specs.Trees.{arity}
 use Rattle.definition.specs.Step.{Answer, refusal, put_back, max_payload, answer_with, answer, max_buffer, usable, lent, run, step}
-use Rattle.definition.specs.Rank.{ReadType, Rank}
-use Rattle.definition.specs.Demand.{JoinCall, outcome, OnSuccess, after, at, calls_at}
+use Rattle.definition.specs.Rank.{ReadType, Rank, NoneReachesItself}
+use Rattle.definition.specs.Demand.{JoinCall, outcome, OnSuccess, after, Event, events, trace, point, at}
 use Rattle.theorems.proofs.DemandDepth.{unrolled}
 use Rattle.theorems.proofs.DemandOrder.{Sound, ◌⊑◌}
 use Rattle.theorems.proofs.DemandSteps.{quiet_⊑}
@@ -28,7 +30,7 @@ use Rattle.theorems.proofs.DemandPutBack.{quiet_put_back, sound_put_back}
 use Rattle.theorems.proofs.SoundFacts.{and_r, facts}
 use Rattle.theorems.proofs.SoundRead.{ReadWell, given, well_read}
 use Rattle.theorems.proofs.DemandRecords.{Leaves, l_ok, l_err, l_refused, run_leaves}
-use Rattle.theorems.proofs.DemandFair.{Fair, step_fair}
+use Rattle.theorems.proofs.DemandFair.{Fair, AllFair, step_fair}
 
 -- ---- the claim, with no hypothesis: where a variable reaches itself there is no whole reading, but there is one to every depth
 
@@ -45,7 +47,7 @@ JoinsAtEveryDepth call s t = BelowAtEveryDepth s call.lhs t × BelowAtEveryDepth
 
 pub record Demand3AtEveryDepth (s : State) (records : List (Bytes × ℕ)) : Type 0 where
   pub points : (i j : ℕ) → i ≤ j → Rises (at s records i) (at s records j)
-  pub joins : (i : ℕ) → i < length records → (call : JoinCall) → Memᴰ call (calls_at s records i) → OnSuccess (outcome call) (λ s t. JoinsAtEveryDepth call s t)
+  pub joins : (e : Event) → Memᴰ e (trace s records) → (call : JoinCall) → Memᴰ call e.calls → OnSuccess (outcome call) (λ s t. JoinsAtEveryDepth call s t)
 
 -- ---- a record raises what is known
 
@@ -137,18 +139,72 @@ answered a h (refused x) p = tt
 answered_at : {E : Type 0} (a : JoinCall) → Fair E a → OnSuccess (outcome a) (λ s t. JoinsAtEveryDepth a s t)
 answered_at a h = answered a h _ (gave a h)
 
--- ---- between the points of a list
+-- ---- events, one after the other
+
+-- an event that follows s: it raises what is known, and its joins are fair where no variable reaches itself at its two ends
+pub record Follows (E : Type 0) (s : State) (e : Event) : Type 0 where
+  pub stepped : Stepped s e.state
+  pub fair : (E → NoneReachesItself s) → (E → NoneReachesItself e.state) → AllFair E e.calls
+
+pub data Chain (E : Type 0) : State → List Event → Type 0 where
+  ended : {s : State} → Chain E s []
+  next : {s : State} {e : Event} {es : List Event} → Follows E s e → Chain E e.state es → Chain E s (e ∷ es)
+
+-- the state after all of them
+abbrev pub last_of : State → List Event → State
+last_of s [] = s
+last_of s (e ∷ es) = last_of e.state es
+
+chain_append : {E : Type 0} (s : State) (es es' : List Event) → Chain E s es → Chain E (last_of s es) es' → Chain E s (es ++ es')
+chain_append s [] es' c c' = c'
+chain_append s (e ∷ es) es' (next f c) c' = next f (chain_append e.state es es' c c')
+
+-- those of a record, and its state after the last of them
+pub record Events (E : Type 0) (s : State) (es : List Event) (s' : State) : Type 0 where
+  pub chain : Chain E s es
+  pub end : last_of s es ≡ s'
+
+pub record_events : {E : Type 0} (s : State) (bytes : Bytes) (buffer : ℕ) → Events E s (events s bytes buffer) (step s bytes buffer).state
+unfolding events
+record_events s bytes buffer = record { chain = next (record { stepped = step_stepped s bytes buffer; fair = λ n z. step_fair s bytes buffer n z }) ended; end = refl }
+
+pub chained : {E : Type 0} (s : State) (records : List (Bytes × ℕ)) → Chain E s (trace s records)
+unfolding trace
+chained s [] = ended
+chained {E} s ((bytes, buffer) ∷ records) =
+    let e : Events E s (events s bytes buffer) (step s bytes buffer).state = record_events s bytes buffer in
+    chain_append s (events s bytes buffer) (trace (step s bytes buffer).state records) e.chain (rw e.end (chained (step s bytes buffer).state records))
+
+-- ---- between the points of a chain
+
+up_to : {E : Type 0} (s : State) (es : List Event) → Chain E s es → (j : ℕ) → Stepped s (point s es j)
+unfolding point
+up_to s es c zero = stays s
+up_to s [] c (suc j) = stays s
+up_to s (e ∷ es) (next f c) (suc j) = stepped_trans f.stepped (up_to e.state es c j)
+
+between_points : {E : Type 0} (s : State) (es : List Event) → Chain E s es → (i j : ℕ) → i ≤ j → Stepped (point s es i) (point s es j)
+unfolding point
+between_points s es c zero j h = up_to s es c j
+between_points s es c (suc i) zero h = absurd (omega arith)
+between_points s [] c (suc i) (suc j) h = stays s
+between_points s (e ∷ es) (next f c) (suc i) (suc j) h = between_points e.state es c i j (omega arith)
 
 pub between : (s : State) (records : List (Bytes × ℕ)) (i j : ℕ) → i ≤ j → Stepped (at s records i) (at s records j)
-unfolding at after
-between s records zero j h = after_stepped s (take j records)
-between s records (suc i) zero h = absurd (omega arith)
-between s [] (suc i) (suc j) h = stays s
-between s ((bytes, buffer) ∷ records) (suc i) (suc j) h = between (step s bytes buffer).state records i j (omega arith)
+unfolding at
+between s records i j h = between_points {E = ⊥} s (trace s records) (chained s records) i j h
+
+-- the joins of an event of the chain
+pub calls_fair : {E : Type 0} (s : State) (es : List Event) → Chain E s es → (E → (i : ℕ) → i ≤ length es → NoneReachesItself (point s es i)) → (e : Event) → Memᴰ e es → AllFair E e.calls
+unfolding point
+calls_fair s [] c n e m = absurd (Memᴰ.not-nil m)
+calls_fair {E} s (e ∷ es) (next f c) n x m = elim (Memᴰ.cases_cons m) [
+  | inl i ↦ subst (λ (y : Event). AllFair E y.calls) (sym i) (f.fair (λ d. n d 0 (omega arith)) (λ d. n d 1 (omega arith)))
+  | inr i ↦ calls_fair e.state es c (λ d k l. n d (suc k) (omega (arith, l))) x i
+]
 
 pub demand_3_at_every_depth : (s : State) (records : List (Bytes × ℕ)) → Demand3AtEveryDepth s records
-unfolding calls_at
 demand_3_at_every_depth s records = record {
   points = λ i j h. (between s records i j h).up.rises;
-  joins = λ i h a m. answered_at a (step_fair {E = ⊥} (at s records i) (get_or records i ([], 0)).0 (get_or records i ([], 0)).1 (λ e. absurd e) (λ e. absurd e) a m);
+  joins = λ e i a m. answered_at a (calls_fair {E = ⊥} s (trace s records) (chained s records) (λ d. absurd d) e i a m);
 }

@@ -26,7 +26,7 @@ use Rattle.theorems.proofs.SoundRoom.{with_room, sp_room, struct_room}
 use Rattle.theorems.proofs.DemandCalls.{quiet_grown, next_tvar_post}
 use Rattle.theorems.proofs.DemandMain.{join_impl_good}
 use Rattle.theorems.proofs.SoundRead.{Fine, FineRecord}
-use Rattle.theorems.proofs.SolveHindered.{solve_cases}
+use Rattle.theorems.proofs.SolveInTurn.{solve_cases}
 use Rattle.theorems.proofs.DemandWent.{Went, WentTo, went_refl, went_trans, went_of, went_quiet, bindS_post, quiet_list, sound_cleared, add_went, join_went}
 use Rattle.theorems.proofs.TotalWalk.{Ends, e_ok, e_err, e_refused, RunOr, place_run, pairs_run, ready_tvars_run, subst_run, make_run}
 use Rattle.theorems.proofs.DemandRuns.{declared_on, place_went, instantiate_went, defaults_went, num_vars_below}
@@ -131,7 +131,7 @@ module _ (S : State) (s : Sound (arity S) S) where
   unfolding solve_constraints with_constraints
   solve_leaves = leaves_post (bindS_post _ (defaults_went (num_vars 0 S.vars) s (λ n. refl) (num_vars_below 0 S.vars (taken S) (omega arith))) (λ S1 g1 w1.
       let q = quiet_list w1.sound [] in
-      solve_cases S1 (Post ar S1 (λ S2 p. Went ar S S2)) (p_ok (quiet_grown q refl) (went_trans s w1 (went_quiet w1.sound (sound_cleared w1.sound) q))) p_refused p_refused))
+      solve_cases S1 (Post ar S1 (λ S2 p. Went ar S S2)) (λ failures. p_ok (quiet_grown q refl) (went_trans s w1 (went_quiet w1.sound (sound_cleared w1.sound) q))) p_refused p_refused))
 
   placed : (t : Tree) (S' : State) → RunOr ⊥ S true (λ s. ⊥) (build t S')
   placed t S' = place_run ⊥ S true t (λ h. absurd h) S' (λ h. absurd h)

@@ -37,7 +37,7 @@ use Rattle.theorems.proofs.DemandTracks.{never}
 use Rattle.theorems.proofs.SoundRoom.{with_room, constraint_room, struct_room}
 use Rattle.theorems.proofs.Soundness.{sound_is}
 use Rattle.theorems.proofs.TotalWalk.{seven, nine, eleven, sixteen, Ends, e_ok, e_err, e_refused, bind, RunOr, place_run, pairs_run, ready_tvars_run, make_run, subst_run}
-use Rattle.theorems.proofs.SolveHindered.{solve_cases}
+use Rattle.theorems.proofs.SolveInTurn.{solve_cases}
 use Rattle.theorems.proofs.Doubled.{is_ref as is_ref_tree, doubled, doubled_in, NoDoubled, NoDoubledIn, doubled_record, NoDoubledRecord, or_l, or_r}
 use Rattle.theorems.proofs.DoubledReads.{record_none_doubled}
 use Rattle.theorems.proofs.DoubledSingle.{is_ref, Plain, Single, under, plain_no_ref, Left, left_same, left_refl, Goes, goes_from, goes_map, goes, Unasked, IsPlain, sp_goes, tvar_goes, Joined, join_goes}
@@ -195,7 +195,7 @@ module _ (s : State) (i : Single s) where
   run_leaves (BC loc t) d = constrain_leaves s i t d _
   run_leaves (SC loc t) d = constrain_leaves s i t d _
   run_leaves (RM t) d = tell_leaves (needs t)
-  run_leaves SV d = bind _ (defaults_goes _ s i) (λ x j. solve_cases x (λ m. Leaves m) (e_ok (left_list j []).single) (e_refused (nine refl)) (e_refused (sixteen refl)))
+  run_leaves SV d = bind _ (defaults_goes _ s i) (λ x j. solve_cases x (λ m. Leaves m) (λ failures. e_ok (left_list j []).single) (e_refused (nine refl)) (e_refused (sixteen refl)))
 
   -- ---- the answer
 

@@ -1,17 +1,13 @@
--- Abilities, missing ones, rules and hindrances are the same with all locations set to 0. Assumes nothing.
-use mathlib.Core.Path.{◌≡◌, refl, ap, ◌∙◌}
-use mathlib.Core.Bool.{Bool}
-use mathlib.Core.List.{List, [], ◌∷◌, map}
-use Rattle.std.specs.Prelude.{None, Some}
+-- Abilities, missing ones and rules are the same with all locations set to 0. Assumes nothing.
+use mathlib.Core.Path.{◌≡◌, refl}
 use Prim.Native.Nat.{ℕ, zero, suc}
-use Rattle.std.specs.Prelude.{if◌then◌else◌}
-use Rattle.definition.specs.Types.{Constraint, AbilityConstraint, NumericConstraint, BitsConstraint, OrderedConstraint, BaseTypeConstraint, SingleTypeConstraint, mark_contradicted, State}
-use Rattle.definition.specs.Store.{count, spanned, any_of}
-use Rattle.definition.specs.Subst.{unfold_type, reaches_itself}
+use Rattle.definition.specs.Types.{State}
+use Rattle.definition.specs.Store.{count, spanned}
+use Rattle.definition.specs.Subst.{unfold_type}
 use Rattle.definition.specs.Abilities.{infer, infer_abilities, rule}
-use Rattle.definition.specs.Constraints.{missing, is_contradicted, ability_hindrance, constraint_hindrance, hindrance}
-use Rattle.theorems.proofs.Erase.{erase_constraint, erase, count_erase, structs_erase, spanned_erase, bool_same, opt_same, any_erase}
-use Rattle.theorems.proofs.EraseJoin.{unfold_type_erase, itself_erase}
+use Rattle.definition.specs.Constraints.{missing}
+use Rattle.theorems.proofs.Erase.{erase, count_erase, structs_erase, spanned_erase}
+use Rattle.theorems.proofs.EraseJoin.{unfold_type_erase}
 use Rattle.theorems.proofs.SolveInferred.{those_on, value_same, rule_same}
 
 module _ (s : State) where
@@ -30,18 +26,3 @@ module _ (s : State) where
   pub missing_erase : (ty wanted : ℕ) → missing (erase s) ty wanted ≡ missing s ty wanted
   unfolding missing
   missing_erase ty wanted = those_on _ _ (λ ability. rw (abilities_erase ty) refl)
-
-  one_erase : (c : Constraint) → constraint_hindrance (erase s) (erase_constraint c) ≡ constraint_hindrance s c
-  unfolding constraint_hindrance ability_hindrance
-  one_erase (AbilityConstraint loc ty wanted) = bool_same (reaches_itself s ty) (reaches_itself (erase s) ty) (itself_erase s ty) refl
-      (ap (λ (b : Bool). if b then Some mark_contradicted else None) (ap (any_of _) (missing_erase ty wanted) ∙ any_erase _ _ (λ ability. ap is_contradicted (rule_erase ability ty)) (missing s ty wanted)))
-  one_erase (NumericConstraint loc ty) = refl
-  one_erase (BitsConstraint loc ty) = refl
-  one_erase (OrderedConstraint loc ty) = refl
-  one_erase (BaseTypeConstraint loc ty) = refl
-  one_erase (SingleTypeConstraint loc ty) = refl
-
-  pub hindrance_erase : (cs : List Constraint) → hindrance (erase s) (map erase_constraint cs) ≡ hindrance s cs
-  unfolding hindrance
-  hindrance_erase [] = refl
-  hindrance_erase (c ∷ cs) = opt_same (constraint_hindrance s c) (constraint_hindrance (erase s) (erase_constraint c)) (one_erase c) (hindrance_erase cs) (λ x. refl)

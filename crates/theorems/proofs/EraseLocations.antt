@@ -8,15 +8,14 @@ use Prim.Native.Nat.{ℕ}
 use lib.ListN.{get_or, drop}
 use lib.Dec.{leb}
 use Rattle.definition.specs.Types.{State, fresh, unsound_state}
-use Rattle.definition.specs.Write.{Bytes, IsBytes}
+use Rattle.definition.specs.Write.{Bytes}
 use Rattle.definition.specs.Record.{read_record}
 use Rattle.definition.specs.Instantiate.{builtin_tparams}
 use Rattle.definition.specs.Trees.{arity}
 use Rattle.definition.specs.Sound.{sound}
 use Rattle.definition.specs.Step.{Answer, refusal, max_buffer, usable, lent, step}
-use Rattle.definition.specs.Locations.{failures, loc_field, tag_fields, expand, blank, mark_fields, after_mark, told, counts_of, blank_record, blank_payload, blank_job, Seen, seen, blank_log, LocationsDecideNothing}
+use Rattle.definition.specs.Locations.{failures, loc_field, tag_fields, expand, blank, mark_fields, after_mark, told, counts_of, blank_record, blank_payload, blank_job, Seen, seen, blank_log, JobOfBytes, LocationsDecideNothing}
 use Rattle.theorems.proofs.DemandTracks.{never}
-use Rattle.theorems.proofs.DemandOrder.{All}
 use Rattle.definition.proofs.Spelling.{hex}
 use Rattle.theorems.proofs.SoundKept.{sound_kept, fresh_sound}
 use Rattle.theorems.proofs.Erase.{erase, count_erase, taken_erase, args_erase, structs_erase, constraints_erase}
@@ -72,9 +71,6 @@ module _ (s s' : State) (h : sound s ≡ true) (h' : sound s' ≡ true) (e : era
 abbrev Job : Type 0
 Job = List (Bytes × ℕ)
 
-abbrev pub JobOfBytes : Job → Type 0
-JobOfBytes job = All (λ (r : Bytes × ℕ). IsBytes r.0) job
-
 from_alike : (job job' : Job) → JobOfBytes job → JobOfBytes job' → (s s' : State) → sound s ≡ true → sound s' ≡ true → erase s ≡ erase s' → blank_job s job ≡ blank_job s' job' → blank_log s job ≡ blank_log s' job'
 unfolding blank_job blank_log
 from_alike [] [] i i' s s' h h' e q = refl
@@ -88,7 +84,7 @@ from_alike ((bytes, buffer) ∷ job) ((bytes', buffer') ∷ job') i i' s s' h h'
     rw (seen_alike a, from_alike job job' i.1 i'.1 (step s bytes buffer).state (step s' bytes' buffer').state (sound_kept s bytes buffer i.0 h) (sound_kept s' bytes' buffer' i'.0 h') a.states rest_same) refl
 
 -- the theorem
-pub locations_decide_nothing : (job job' : Job) → JobOfBytes job → JobOfBytes job' → LocationsDecideNothing job job'
+pub locations_decide_nothing : (job job' : Job) → LocationsDecideNothing job job'
 unfolding LocationsDecideNothing
 locations_decide_nothing job job' i i' q = from_alike job job' i i' fresh fresh fresh_sound fresh_sound refl q
 

@@ -1,8 +1,8 @@
 -- A record's run with all locations set to 0 is its run, with locations set to 0 in what it shows and leaves. Assumes nothing.
 -- Placing by the tree, SV by its steps, then record by record (`run_erase`) from EraseJoin and EraseWrite; at the end the answer (`Blanked`).
-use mathlib.Core.Path.{◌≡◌, refl, sym, ap, ◌∙◌}
+use mathlib.Core.Path.{◌≡◌, refl, sym, ap}
 use mathlib.Core.Bool.{Bool, true, false, not, ◌&&◌}
-use mathlib.Core.List.{List, [], ◌∷◌, ◌++◌, map, map-append}
+use mathlib.Core.List.{List, [], ◌∷◌, ◌++◌, map, map-append, append-nil}
 use Rattle.std.specs.Prelude.{Option, None, Some}
 use Prim.Native.Nat.{ℕ, zero, suc, ◌-◌, ◌≤◌, ◌<◌}
 use native.Mathlib.Omega.{arith}
@@ -10,12 +10,12 @@ use lib.ListN.{length, replicate, get_or-eq_default}
 use lib.Dec.{leb, ltb, ltb→lt, nltb→le}
 use Rattle.std.specs.Prelude.{if◌then◌else◌}
 use Rattle.definition.specs.Types.{TypeName, Multiple, Builtin, ModuleType, UnitType, Ref, Param, Apply, Var, Anything, UnresolvedError, TypeValue, Spanned, Node, Cell, unbound, State, max_structs}
-use Rattle.definition.specs.Types.{Constraint, TypingError, SubtypeError, Incompatible, ArityMismatch, RecursiveType, Refusal, answer_too_long, Result, ok, refused, ◌>>=◌}
+use Rattle.definition.specs.Types.{Constraint, TypingError, SubtypeError, Incompatible, ArityMismatch, RecursiveType, Refusal, answer_too_long, Result, ok, ◌>>=◌}
 use Rattle.definition.specs.Store.{nowhere, count, taken, node, type_at, with_args, spanned, with_constraints}
 use Rattle.definition.specs.Subst.{parts, unfold_type}
 use Rattle.definition.specs.Join.{join, subtype}
 use Rattle.definition.specs.TParams.{arg_of, make_tparam_subst}
-use Rattle.definition.specs.Constraints.{num_vars, undecided, u64, default_num_var, default_num_vars, failures as all_failures, hindrance, solve_all, solve_constraints}
+use Rattle.definition.specs.Constraints.{num_vars, undecided, u64, default_num_var, default_num_vars, solve_all, solve_constraints}
 use Rattle.definition.specs.Write.{Bytes, u16, write_error}
 use Rattle.definition.specs.Reader.{Read}
 use Rattle.definition.specs.Trees.{Tree, unit_tree, anything_tree, error_tree, ref_tree, param_tree, apply_tree, var_tree, Trees, no_trees, ◌then◌, mark_fits, arity, is_mark, is_name}
@@ -38,8 +38,7 @@ use Rattle.theorems.proofs.Erase.{erase_mark, erase_cell, erase_constraint, eras
 use Rattle.theorems.proofs.Erase.{Erased, er_ok, er_err, er_refused, with_state, er_bind, er_elim, er_opt, sp_erase, next_erase, add_erase, declare_erase}
 use Rattle.theorems.proofs.EraseJoin.{unfold_type_erase, set_num_erase, ready_tvars_erase, join_erase, subtype_erase, subst_erase, instantiate_erase}
 use Rattle.theorems.proofs.EraseRead.{erase_tree, erase_trees, erase_pair, erase_record, blank_nil, length_blank, ReadAlike, w_got, w_not}
-use Rattle.theorems.proofs.EraseAbilities.{hindrance_erase}
-use Rattle.theorems.proofs.EraseWrite.{NameFits, Fits, Fitting, spanned_row, write_row, var_row, error_shown, failures_shown}
+use Rattle.theorems.proofs.EraseWrite.{NameFits, Fits, Fitting, spanned_row, write_row, var_row, error_shown, Shown, shown_told, shown_refused, constraints_shown}
 
 -- ---- placing
 
@@ -180,18 +179,22 @@ vars_are : (s : State) → (erase s).vars ≡ map erase_cell s.vars
 unfolding erase
 vars_are s = refl
 
+-- nothing follows
+whole : (S : State) (b b' : Bytes) → ((rest : Bytes) → blank S (b ++ rest) (failures ∷ []) ≡ b' ++ blank S rest (failures ∷ [])) → blank S b (failures ∷ []) ≡ b'
+unfolding blank
+whole S b b' p = rw (append-nil b, append-nil b') at (p [])
+
 module _ (S : State) (h : sound S ≡ true) where
   finished : (s : State) → Went (arity S) S s → Ranges S s → Erased (blanked S (failures ∷ [])) (solve_all s) (solve_all (erase s))
-  unfolding solve_all
-  finished s w r = go (hindrance s s.constraints) (hindrance (erase s) (erase s).constraints) (ap (hindrance (erase s)) (constraints_are s) ∙ hindrance_erase s s.constraints)
+  unfolding ◌>>=◌
+  finished s w r = go (rw (sym (constraints_are s)) at (constraints_shown S s fit s.constraints))
     where
       fit : Fitting S s
       fit = fitting S s (ranges_of S h).few_structs w.sound (value_in r)
 
-      go : (o o' : Option Refusal) → o' ≡ o → Erased (blanked S (failures ∷ [])) (elim o [ None ↦ ok (with_constraints s [], all_failures s s.constraints) | Some x ↦ refused x ])
-          (elim o' [ None ↦ ok (with_constraints (erase s) [], all_failures (erase s) (erase s).constraints) | Some x ↦ refused x ])
-      go None o' e = rw e (er_ok (pair_same (constraints_erased s []) (ap (all_failures (erase s)) (constraints_are s) ∙ sym (failures_shown S s fit s.constraints))))
-      go (Some x) o' e = rw e er_refused
+      go : {m m' : Result Bytes} → Shown S m m' → Erased (blanked S (failures ∷ [])) (m >>= λ failures. ok (with_constraints s [], failures)) (m' >>= λ failures. ok (with_constraints (erase s) [], failures))
+      go (shown_told {b = b} {b' = b'} p) = er_ok (pair_same (constraints_erased s []) (sym (whole S b b' p)))
+      go shown_refused = er_refused
 
   close : {d d' : Result State} → Erased erase d d' → PostS (arity S) S (Went (arity S) S) d → Ends true (In (Unit {0}) S true) (In (Unit {0}) S true) d
       → Erased (blanked S (failures ∷ [])) (d >>= λ (s : State). solve_all s) (d' >>= λ (s : State). solve_all s)

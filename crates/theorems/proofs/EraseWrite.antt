@@ -9,26 +9,43 @@ use lib.Dec.{eqb}
 use lib.ListN.{length, replicate}
 use Rattle.std.specs.Prelude.{if◌then◌else◌}
 use Rattle.definition.specs.Types.{TypeName, Multiple, Builtin, ModuleType, UnitType, Ref, Param, Apply, Var, Anything, UnresolvedError, TypeValue, Spanned, State}
-use Rattle.definition.specs.Types.{Constraint, AbilityConstraint, NumericConstraint, BitsConstraint, OrderedConstraint, BaseTypeConstraint, SingleTypeConstraint, TypingError, SubtypeError, Incompatible, ArityMismatch, RecursiveType}
+use Rattle.definition.specs.Types.{Constraint, AbilityConstraint, NumericConstraint, BitsConstraint, OrderedConstraint, BaseTypeConstraint, SingleTypeConstraint, TypingError, SubtypeError, Incompatible, ArityMismatch, RecursiveType, Refusal, runs_into_itself, Result, ok, refused, ◌>>=◌}
 use Rattle.definition.specs.Store.{count, type_at, spanned}
-use Rattle.definition.specs.Subst.{parts, unfold_type}
+use Rattle.definition.specs.Subst.{parts, unfold_type, reaches_itself}
 use Rattle.definition.specs.Write.{Bytes, u16, u32, apply_head, head, each, write_down, write_spanned, write, write_error}
 use Rattle.definition.specs.Trees.{arity}
-use Rattle.definition.specs.Constraints.{is_integer, is_base, is_single, failure, solve, missing, ability_failure, by_rule, solve_ability_constraint, solve_constraint, failures as all_failures}
+use Rattle.definition.specs.Constraints.{is_integer, is_base, is_single, failure, solve, missing, ability_failure, by_rule, in_turn, solve_ability_constraint, solve_constraint}
 use Rattle.definition.specs.Abilities.{Rule, declaration, argument, contradicted, rule}
 use Rattle.definition.specs.Step.{number_of_error}
 use Rattle.definition.specs.Locations.{Part, type, types, failures, rule as rule_part, loc_field, u32_field, tag_fields, tag_widths, expand, blank, shown_fields}
 use Rattle.theorems.proofs.DemandOrder.{All, All_map}
 use Rattle.theorems.proofs.Erase.{erase_spanned, erase_constraint, erase_error, erase, count_erase, spanned_erase}
-use Rattle.theorems.proofs.EraseJoin.{unfold_type_erase}
+use Rattle.theorems.proofs.EraseJoin.{unfold_type_erase, itself_erase}
 use Rattle.theorems.proofs.EraseAbilities.{rule_erase, missing_erase}
 use Rattle.theorems.proofs.SolveInferred.{unfolded as as_unfolded}
+use Rattle.theorems.proofs.SolveInTurn.{turn_map}
 
 -- a struct's number is two bytes
 abbrev pub NameFits : TypeName → Type 0
 NameFits (Multiple n) = Unit {0}
 NameFits (Builtin b) = Unit {0}
 NameFits (ModuleType n) = n < 65536
+
+-- failures, and those with locations set to 0, which are the same with their location fields set to 0, whatever follows; or one refusal
+pub data Shown (S : State) : Result Bytes → Result Bytes → Type 0 where
+  shown_told : {b b' : Bytes} → ((rest : Bytes) → blank S (b ++ rest) (failures ∷ []) ≡ b' ++ blank S rest (failures ∷ [])) → Shown S (ok b) (ok b')
+  shown_refused : {x : Refusal} → Shown S (refused x) (refused x)
+
+turn_shown : {A : Type 0} (S : State) (f f' : A → Result Bytes) → ((a : A) → Shown S (f a) (f' a)) → (l : List A) → Shown S (in_turn f l) (in_turn f' l)
+unfolding in_turn ◌>>=◌
+turn_shown S f f' h [] = shown_told (λ rest. refl)
+turn_shown S f f' h (a ∷ l) = go (h a) (turn_shown S f f' h l)
+  where
+    go : {m m' n n' : Result Bytes} → Shown S m m' → Shown S n n' → Shown S (m >>= λ failures. n >>= λ more. ok (failures ++ more)) (m' >>= λ failures. n' >>= λ more. ok (failures ++ more))
+    go (shown_told {b = b} {b' = b'} p) (shown_told {b = c} {b' = c'} q) =
+        shown_told (λ rest. rw (append_assoc b c rest, append_assoc b' c' (blank S rest (failures ∷ []))) (p (c ++ rest) ∙ ap (λ (l : Bytes). b' ++ l) (q rest)))
+    go (shown_told p) shown_refused = shown_refused
+    go shown_refused q = shown_refused
 
 module _ (S : State) where
   -- ---- a row of types
@@ -174,13 +191,13 @@ module _ (S : State) where
     unfolding failure u32 blank expand loc_field
     failure_shown code loc e t h rest = rw e (ap (λ (l : Bytes). code ∷ 0 ∷ 0 ∷ 0 ∷ 0 ∷ l) (spanned_type t h.0 h.1 rest failing))
 
-    solve_shown : (good : TypeValue → Bool) (code loc ty : ℕ) → eqb code 4 ≡ false → (rest : Bytes) → blank S (solve s good code loc ty ++ rest) failing ≡ solve (erase s) good code 0 ty ++ blank S rest failing
+    solve_shown : (good : TypeValue → Bool) (code loc ty : ℕ) → eqb code 4 ≡ false → Shown S (ok (solve s good code loc ty)) (ok (solve (erase s) good code 0 ty))
     unfolding solve
-    solve_shown good code loc ty e rest = rw (spanned_erase s ty, unfold_type_erase s (spanned s ty)) (go (good (unfold_type s (spanned s ty)).value))
+    solve_shown good code loc ty e = rw (spanned_erase s ty, unfold_type_erase s (spanned s ty)) (shown_told (go (good (unfold_type s (spanned s ty)).value)))
       where
-        go : (b : Bool) → blank S ((if b then [] else failure s code loc (unfold_type s (spanned s ty))) ++ rest) failing ≡ (if b then [] else failure (erase s) code 0 (erase_spanned (unfold_type s (spanned s ty)))) ++ blank S rest failing
-        go true = refl
-        go false = failure_shown code loc e (unfold_type s (spanned s ty)) (unfolded ty) rest
+        go : (b : Bool) (rest : Bytes) → blank S ((if b then [] else failure s code loc (unfold_type s (spanned s ty))) ++ rest) failing ≡ (if b then [] else failure (erase s) code 0 (erase_spanned (unfold_type s (spanned s ty)))) ++ blank S rest failing
+        go true rest = refl
+        go false rest = failure_shown code loc e (unfold_type s (spanned s ty)) (unfolded ty) rest
 
     -- code 4: the rule is one byte, or two
     ability_shown : (loc ability : ℕ) (t : Spanned TypeValue) → Written t → (why : Bytes) → ((rest : Bytes) → blank S (why ++ rest) (rule_part ∷ []) ≡ why ++ blank S rest failing) → (rest : Bytes)
@@ -190,36 +207,32 @@ module _ (S : State) where
         rw (append_assoc (write_spanned s t) why rest, append_assoc (write_spanned (erase s) (erase_spanned t)) why (blank S rest failing))
         (ap (λ (l : Bytes). 4 ∷ 0 ∷ 0 ∷ 0 ∷ 0 ∷ ability ∷ l) (spanned_type t h.0 h.1 (why ++ rest) (rule_part ∷ []) ∙ ap (λ (l : Bytes). write_spanned (erase s) (erase_spanned t) ++ l) (f rest)))
 
-    rule_shown : (loc ability : ℕ) (t : Spanned TypeValue) → Written t → (r : Rule) (rest : Bytes) → blank S (by_rule s loc ability t r ++ rest) failing ≡ by_rule (erase s) 0 ability (erase_spanned t) r ++ blank S rest failing
+    rule_shown : (loc ability : ℕ) (t : Spanned TypeValue) → Written t → (r : Rule) → Shown S (by_rule s loc ability t r) (by_rule (erase s) 0 ability (erase_spanned t) r)
     unfolding by_rule blank expand
-    rule_shown loc ability t h declaration rest = ability_shown loc ability t h _ (λ rest. refl) rest
-    rule_shown loc ability t h (argument place) rest = ability_shown loc ability t h _ (λ rest. refl) rest
-    rule_shown loc ability t h contradicted rest = refl
+    rule_shown loc ability t h declaration = shown_told (ability_shown loc ability t h _ (λ rest. refl))
+    rule_shown loc ability t h (argument place) = shown_told (ability_shown loc ability t h _ (λ rest. refl))
+    rule_shown loc ability t h contradicted = shown_refused
 
-    each_shown : (f f' : ℕ → Bytes) → ((a : ℕ) (rest : Bytes) → blank S (f a ++ rest) failing ≡ f' a ++ blank S rest failing) → (l : List ℕ) (rest : Bytes)
-        → blank S (each f l ++ rest) failing ≡ each f' l ++ blank S rest failing
-    unfolding each
-    each_shown f f' h [] rest = refl
-    each_shown f f' h (a ∷ l) rest = rw (append_assoc (f a) (each f l) rest, append_assoc (f' a) (each f' l) (blank S rest failing)) (h a (each f l ++ rest) ∙ ap (λ (b : Bytes). f' a ++ b) (each_shown f f' h l rest))
-
-    abilities_shown : (loc ty wanted : ℕ) (rest : Bytes) → blank S (solve_ability_constraint s loc ty wanted ++ rest) failing ≡ solve_ability_constraint (erase s) 0 ty wanted ++ blank S rest failing
+    abilities_shown : (loc ty wanted : ℕ) → Shown S (solve_ability_constraint s loc ty wanted) (solve_ability_constraint (erase s) 0 ty wanted)
     unfolding solve_ability_constraint
-    abilities_shown loc ty wanted rest = rw (missing_erase s ty wanted) (each_shown _ _ one (missing s ty wanted) rest)
+    abilities_shown loc ty wanted = unless_shown (reaches_itself s ty) (reaches_itself (erase s) ty) (itself_erase s ty) (rw (missing_erase s ty wanted) (turn_shown S _ _ one (missing s ty wanted)))
       where
-        one : (ability : ℕ) (rest : Bytes) → blank S (by_rule s loc ability (unfold_type s (spanned s ty)) (rule s ability (unfold_type s (spanned s ty)).value) ++ rest) failing
-            ≡ by_rule (erase s) 0 ability (unfold_type (erase s) (spanned (erase s) ty)) (rule (erase s) ability (unfold_type (erase s) (spanned (erase s) ty)).value) ++ blank S rest failing
-        one ability rest = rw (rule_erase s ability ty, spanned_erase s ty, unfold_type_erase s (spanned s ty)) (rule_shown loc ability (unfold_type s (spanned s ty)) (unfolded ty) (rule s ability (unfold_type s (spanned s ty)).value) rest)
+        one : (ability : ℕ) → Shown S (by_rule s loc ability (unfold_type s (spanned s ty)) (rule s ability (unfold_type s (spanned s ty)).value))
+            (by_rule (erase s) 0 ability (unfold_type (erase s) (spanned (erase s) ty)) (rule (erase s) ability (unfold_type (erase s) (spanned (erase s) ty)).value))
+        one ability = rw (rule_erase s ability ty, spanned_erase s ty, unfold_type_erase s (spanned s ty)) (rule_shown loc ability (unfold_type s (spanned s ty)) (unfolded ty) (rule s ability (unfold_type s (spanned s ty)).value))
 
-    constraint_shown : (c : Constraint) (rest : Bytes) → blank S (solve_constraint s c ++ rest) failing ≡ solve_constraint (erase s) (erase_constraint c) ++ blank S rest failing
+        unless_shown : {m m' : Result Bytes} (b b' : Bool) → b' ≡ b → Shown S m m' → Shown S (elim b [ true ↦ refused runs_into_itself | false ↦ m ]) (elim b' [ true ↦ refused runs_into_itself | false ↦ m' ])
+        unless_shown true b' e h = rw e shown_refused
+        unless_shown false b' e h = rw e h
+
+    constraint_shown : (c : Constraint) → Shown S (solve_constraint s c) (solve_constraint (erase s) (erase_constraint c))
     unfolding solve_constraint
-    constraint_shown (AbilityConstraint loc ty a) rest = abilities_shown loc ty a rest
-    constraint_shown (NumericConstraint loc ty) rest = solve_shown is_integer 1 loc ty refl rest
-    constraint_shown (BitsConstraint loc ty) rest = solve_shown is_integer 1 loc ty refl rest
-    constraint_shown (OrderedConstraint loc ty) rest = solve_shown is_integer 1 loc ty refl rest
-    constraint_shown (BaseTypeConstraint loc ty) rest = solve_shown is_base 2 loc ty refl rest
-    constraint_shown (SingleTypeConstraint loc ty) rest = solve_shown is_single 3 loc ty refl rest
+    constraint_shown (AbilityConstraint loc ty a) = abilities_shown loc ty a
+    constraint_shown (NumericConstraint loc ty) = solve_shown is_integer 1 loc ty refl
+    constraint_shown (BitsConstraint loc ty) = solve_shown is_integer 1 loc ty refl
+    constraint_shown (OrderedConstraint loc ty) = solve_shown is_integer 1 loc ty refl
+    constraint_shown (BaseTypeConstraint loc ty) = solve_shown is_base 2 loc ty refl
+    constraint_shown (SingleTypeConstraint loc ty) = solve_shown is_single 3 loc ty refl
 
-    pub failures_shown : (cs : List Constraint) → blank S (all_failures s cs) failing ≡ all_failures (erase s) (map erase_constraint cs)
-    unfolding all_failures blank
-    failures_shown [] = refl
-    failures_shown (c ∷ cs) = constraint_shown c (all_failures s cs) ∙ ap (λ (l : Bytes). solve_constraint (erase s) (erase_constraint c) ++ l) (failures_shown cs)
+    pub constraints_shown : (cs : List Constraint) → Shown S (in_turn (λ c. solve_constraint s c) cs) (in_turn (λ c. solve_constraint (erase s) c) (map erase_constraint cs))
+    constraints_shown cs = rw (turn_map (λ c. solve_constraint (erase s) c) erase_constraint cs) (turn_shown S _ _ constraint_shown cs)

@@ -17,7 +17,7 @@ pub mod DemandPutBack
 pub mod SoundFacts
 pub mod Soundness
 pub mod TotalReaches
-pub mod SolveHindered
+pub mod SolveInTurn
 pub mod SolveStays
 pub mod SolveInferred
 pub mod SoundRanges
@@ -36,6 +36,7 @@ pub mod DemandFair
 pub mod DemandMade
 pub mod DemandEveryDepth
 pub mod Demand
+pub mod DemandEvents
 pub mod SolveTold
 pub mod DemandClear
 pub mod TotalFuel

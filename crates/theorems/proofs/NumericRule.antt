@@ -1,12 +1,14 @@
 -- R-2: the numeric rule, of every builtin number b at once. The rule goes by the list `integers` alone, so a number that joins the list joins the rule. Assumes nothing.
 -- `NumericRule` is the claim in three parts: join and subtype, NC, marks without drop. Each part is computed from a name that is in the list.
-use mathlib.Core.Path.{◌≡◌, refl, ap, ◌∙◌}
+use mathlib.Core.Path.{◌≡◌, refl, sym, ap, ◌∙◌, subst}
+use mathlib.Core.Logic.{◌↔◌}
 use mathlib.Core.Bool.{Bool, true, false, not, ◌&&◌, ◌||◌}
-use mathlib.Core.List.{List, [], ◌∷◌}
+use mathlib.Core.List.{List, []}
 use Rattle.std.specs.Prelude.{None, Some}
 use Prim.Native.Nat.{ℕ, suc, ◌<◌}
-use Rattle.std.specs.Prelude.{if◌then◌else◌}
-use Rattle.definition.specs.Types.{Builtin, AbilityMark, Apply, Var, Places, State, TypeValue, Constraint, NumericConstraint, BitsConstraint, OrderedConstraint, Incompatible, malformed, Result, ok, err, ◌>>=◌}
+use Rattle.std.specs.Prelude.{if◌then◌else◌, eqb}
+use borrow.Author.Tests.{eqb-true}
+use Rattle.definition.specs.Types.{TypeName, Builtin, Multiple, ModuleType, AbilityMark, UnitType, Ref, Param, Apply, Var, Anything, UnresolvedError, Places, State, TypeValue, Constraint, NumericConstraint, BitsConstraint, OrderedConstraint, Incompatible, malformed, Result, ok, err, ◌>>=◌}
 use Rattle.definition.specs.Store.{count, type_at, loc_of, spanned, get, num_loc, insert, any_of}
 use Rattle.definition.specs.Subst.{as_var, is_anything, parts, unfold_type}
 use Rattle.definition.specs.Join.{TypingCase, integers, is_numeric, is_num_var, num_shape, check_num_tvar', check_num_tvar, is_var, used, join_bind_tvar, arm, join_unbound, join_arm, join_impl}
@@ -16,6 +18,7 @@ use Rattle.definition.specs.Reader as reader
 use Rattle.definition.specs.Reader.{got, not_read, Reader, give, refuse, go_on, byte}
 use Rattle.definition.specs.Trees.{Tree, apply_tree, is_mark, is_name, has_drop, mark_fits, arity, read_trees, read_mark, read_apply}
 use Rattle.definition.specs.Sound.{sound, places_fit, shape_allowed}
+use Rattle.theorems.proofs.DemandTracks.{never}
 use Rattle.theorems.proofs.SoundFacts.{facts}
 use Rattle.theorems.proofs.NumericCheck.{check_plain}
 use Rattle.theorems.proofs.BookLiteral.{no_arguments}
@@ -45,7 +48,7 @@ pub record NumericRule (s : State) (b : ℕ) : Type 0 where
       → join_impl (suc depth) s case other var ≡ taken_or_shown s v var other other var (is_numeric (Builtin b))
   -- (2) NC, of every kind
   pub constrained : (c : Constraint) (loc ty : ℕ) (k : AbilityMark) (tys : List ℕ) → Numeric c loc ty → (unfold_type s (spanned s ty)).value ≡ Apply k (Builtin b) tys
-      → solve_constraint s c ≡ (if is_numeric (Builtin b) then [] else failure s 1 loc (unfold_type s (spanned s ty)))
+      → solve_constraint s c ≡ ok (if is_numeric (Builtin b) then [] else failure s 1 loc (unfold_type s (spanned s ty)))
   -- (3) a mark without drop, in a record and in a state
   pub read : (read_type : Reader Tree) (loc : ℕ) (k : AbilityMark) (bytes after_mark after_number : Bytes) → read_mark bytes ≡ got k after_mark → byte after_mark ≡ got b after_number → is_name s (Builtin b) ≡ true → has_drop k ≡ false
       → read_apply s read_type loc byte Builtin malformed bytes ≡ (if is_numeric (Builtin b) then not_read malformed else read_arguments s read_type loc k b after_number)
@@ -54,10 +57,34 @@ pub record NumericRule (s : State) (b : ℕ) : Type 0 where
 
 -- ---- the list
 
--- 02's list
-integers_are : integers ≡ 2 ∷ 3 ∷ 4 ∷ 7 ∷ 8 ∷ 9 ∷ []
-unfolding integers
-integers_are = refl
+-- 01's and 02's integer types, by their numbers as builtins
+pub data IsInteger : ℕ → Type 0 where
+  u8 : IsInteger 2
+  u64 : IsInteger 3
+  u128 : IsInteger 4
+  u16 : IsInteger 7
+  u32 : IsInteger 8
+  u256 : IsInteger 9
+
+pub integers_are : (b : ℕ) → (is_numeric (Builtin b) ≡ true) ↔ IsInteger b
+unfolding is_numeric integers any_of
+integers_are b = (λ e. one 2 u8 _ (one 3 u64 _ (one 4 u128 _ (one 7 u16 _ (one 8 u32 _ (one 9 u256 _ (λ n. never (cc))))))) e, there)
+  where
+    -- b is i, or among those that follow
+    one : (i : ℕ) → IsInteger i → (rest : Bool) → (rest ≡ true → IsInteger b) → ◌≡◌ {A = Bool} (elim (eqb b i) [ true ↦ true | false ↦ rest ]) true → IsInteger b
+    one i is rest other e = go (eqb b i) refl e
+      where
+        go : (c : Bool) → eqb b i ≡ c → ◌≡◌ {A = Bool} (elim c [ true ↦ true | false ↦ rest ]) true → IsInteger b
+        go true p q = subst IsInteger (sym (eqb-true b i p)) is
+        go false p q = other q
+
+    there : {n : ℕ} → IsInteger n → is_numeric (Builtin n) ≡ true
+    there u8 = refl
+    there u64 = refl
+    there u128 = refl
+    there u16 = refl
+    there u32 = refl
+    there u256 = refl
 
 -- ---- (1)
 
@@ -65,10 +92,59 @@ numbered : (s : State) (v loc : ℕ) → num_loc s v ≡ Some loc → is_num_var
 unfolding is_num_var
 numbered s v loc e = rw (e, is_num_var) refl
 
+-- of any type that is no variable
+checked_shape : (s : State) (v loc other : ℕ) → num_loc s v ≡ Some loc → as_var (type_at s other) ≡ None → check_num_tvar s v other ≡ num_shape (type_at s other)
+unfolding check_num_tvar
+checked_shape s v loc other marked plain = ap (λ (x : Bool). not x || check_num_tvar' s other) (numbered s v loc marked) ∙ check_plain s other plain
+
+-- 01's list: `!`, `_` and the integer types
+pub data Takes : TypeValue → Type 0 where
+  takes_anything : Takes Anything
+  takes_error : Takes UnresolvedError
+  takes_integer : {k : AbilityMark} {b : ℕ} {tys : List ℕ} → IsInteger b → Takes (Apply k (Builtin b) tys)
+
+-- no list and no struct is an integer type
+numeric_name : (k : AbilityMark) (n : TypeName) (tys : List ℕ) → is_numeric n ≡ true → Takes (Apply k n tys)
+unfolding is_numeric
+numeric_name k (Multiple len) tys e = never (cc)
+numeric_name k (Builtin b) tys e = takes_integer ((integers_are b).0 e)
+numeric_name k (ModuleType m) tys e = never (cc)
+
+takes : (t : TypeValue) → (num_shape t ≡ true) ↔ Takes t
+unfolding num_shape
+takes t = (there t, back)
+  where
+    there : (t : TypeValue) → num_shape t ≡ true → Takes t
+    there UnitType e = never (cc)
+    there (Ref m p) e = never (cc)
+    there (Param id a) e = never (cc)
+    there (Apply k n tys) e = numeric_name k n tys e
+    there (Var v) e = never (cc)
+    there Anything e = takes_anything
+    there UnresolvedError e = takes_error
+
+    back : {t : TypeValue} → Takes t → num_shape t ≡ true
+    back takes_anything = refl
+    back takes_error = refl
+    back (takes_integer {b = b} i) = (integers_are b).1 i
+
+-- 01's rule where it stands, at the binding, of any type that is no variable: a numeric variable takes just these
+pub numeric_takes : (s : State) (v loc other : ℕ) → num_loc s v ≡ Some loc → as_var (type_at s other) ≡ None → (check_num_tvar s v other ≡ true) ↔ Takes (type_at s other)
+numeric_takes s v loc other marked plain = rw (checked_shape s v loc other marked plain) (takes (type_at s other))
+
+-- .. any other is turned down, whichever arm or merge binds it
+pub numeric_refuses : (s : State) (at v loc other : ℕ) → num_loc s v ≡ Some loc → as_var (type_at s other) ≡ None → ¬ Takes (type_at s other) → join_bind_tvar s at v other ≡ ok (s, false)
+unfolding join_bind_tvar
+numeric_refuses s at v loc other marked plain none = by (check_num_tvar s v other) refl
+  where
+    by : (x : Bool) → check_num_tvar s v other ≡ x → join_bind_tvar s at v other ≡ ok (s, false)
+    by true e = absurd (none ((numeric_takes s v loc other marked plain).0 e))
+    by false e = rw e refl
+
 module _ (s : State) (v loc other b : ℕ) (k : AbilityMark) (tys : List ℕ) (marked : num_loc s v ≡ Some loc) (is : type_at s other ≡ Apply k (Builtin b) tys) where
   checked : check_num_tvar s v other ≡ is_numeric (Builtin b)
-  unfolding check_num_tvar as_var num_shape
-  checked = ap (λ (x : Bool). not x || check_num_tvar' s other) (numbered s v loc marked) ∙ check_plain s other (ap as_var is) ∙ ap num_shape is
+  unfolding as_var num_shape
+  checked = checked_shape s v loc other marked (ap as_var is) ∙ ap num_shape is
 
   not_used : tys ≡ [] → used (suc other) s v other ≡ false
   unfolding used is_var any_of parts as_var
@@ -102,11 +178,11 @@ unfolding solve is_integer
 integer s loc ty b k tys e = ap (λ (x : TypeValue). if is_integer x then [] else failure s 1 loc (unfold_type s (spanned s ty))) e
 
 solved : (s : State) (c : Constraint) (loc ty b : ℕ) (k : AbilityMark) (tys : List ℕ) → Numeric c loc ty → (unfold_type s (spanned s ty)).value ≡ Apply k (Builtin b) tys
-    → solve_constraint s c ≡ (if is_numeric (Builtin b) then [] else failure s 1 loc (unfold_type s (spanned s ty)))
+    → solve_constraint s c ≡ ok (if is_numeric (Builtin b) then [] else failure s 1 loc (unfold_type s (spanned s ty)))
 unfolding solve_constraint
-solved s c loc ty b k tys numeric e = integer s loc ty b k tys e
-solved s c loc ty b k tys bits e = integer s loc ty b k tys e
-solved s c loc ty b k tys ordered e = integer s loc ty b k tys e
+solved s c loc ty b k tys numeric e = ap ok (integer s loc ty b k tys e)
+solved s c loc ty b k tys bits e = ap ok (integer s loc ty b k tys e)
+solved s c loc ty b k tys ordered e = ap ok (integer s loc ty b k tys e)
 
 -- ---- (3)
 

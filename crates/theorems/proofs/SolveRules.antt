@@ -1,8 +1,8 @@
 -- The rule that decides a missing ability, in the Book's words; 16 is met of a marked type alone; every inferred set is at most 15. `Decides` holds of the rule that
 -- is given, case by case from what agrees with the Book on the arguments, and of one rule at most (`once`). 16 is brought down to one ability that is asked for and
--- contradicted (`any_those`, `sixteen_of`). Assumes nothing.
+-- contradicted (`those_refused`, `sixteen_of`). Assumes nothing.
 use mathlib.Core.Path.{◌≡◌, refl, sym, ap, ◌∙◌, subst}
-use mathlib.Core.Logic.{◌↔◌}
+use mathlib.Core.Logic.{◌↔◌, ◌⊎◌, inl, inr}
 use mathlib.Core.Bool.{Bool, true, false, not, ◌&&◌}
 use mathlib.Core.List.{List, [], ◌∷◌}
 use Rattle.std.specs.Prelude.{Option, None, Some}
@@ -11,23 +11,25 @@ use native.Mathlib.Decide.{dec_lt}
 use native.Mathlib.Omega.{arith}
 use lib.ListN.{length, get_or}
 use borrow.Author.Tests.{leb-true}
-use Rattle.std.specs.Prelude.{if◌then◌else◌}
-use Rattle.definition.specs.Types.{TypeName, AbilityMark, UnitType, Ref, Param, Apply, Var, Anything, UnresolvedError, TypeValue, Refusal, runs_into_itself, mark_contradicted, State}
-use Rattle.definition.specs.Store.{count, type_at, spanned, any_of}
+use Rattle.definition.specs.Types.{TypeName, AbilityMark, UnitType, Ref, Param, Apply, Var, Anything, UnresolvedError, TypeValue, Spanned, Refusal, runs_into_itself, mark_contradicted, State, Result, refused}
+use Rattle.definition.specs.Store.{count, type_at, spanned}
 use Rattle.definition.specs.Subst.{parts, unfold_type, reaches_itself}
-use Rattle.definition.specs.Trees.{is_set, is_mark, is_name, mark_fits}
+use Rattle.definition.specs.Trees.{arity, is_set, is_mark, is_name, mark_fits}
 use Rattle.definition.specs.Sound.{is_u32, sound}
 use Rattle.definition.specs.Rank.{RunsIntoItself}
 use Rattle.definition.specs.Abilities.{all, references, collection, has, select, those, from_abilities, requires, declared_abilities, counts, is_none, lacking, granted, infer_value, infer, infer_abilities, Rule, declaration, argument, contradicted, by_argument, rule}
 use Rattle.definition.specs.Book.{Ability, copy, drop, store, key, bit, needed, Declares, Phantom, Has}
-use Rattle.definition.specs.Constraints.{missing, is_contradicted, ability_hindrance}
+use Rattle.definition.specs.Constraints.{missing, by_rule, in_turn, solve_ability_constraint}
+use Rattle.definition.specs.Write.{Bytes}
 use Rattle.theorems.proofs.DemandTracks.{never}
+use Rattle.theorems.proofs.SolveInTurn.{Tells, turn_first, turn_later, turn_refused}
 use Rattle.theorems.proofs.DemandOrder.{All, Sound}
-use Rattle.theorems.proofs.SoundFacts.{and_l, and_r, unnot, not_false}
+use Rattle.theorems.proofs.SoundFacts.{and_l, and_r, unnot, not_false, facts}
 use Rattle.theorems.proofs.SoundRanges.{ShapeIn, value_in}
 use Rattle.theorems.proofs.SoundKept.{ranges_of}
+use Rattle.theorems.proofs.DemandRuns.{Declared}
 use Rattle.theorems.proofs.SolveInferred.{infer_is, unfolded}
-use Rattle.theorems.proofs.BookAbilities.{requires_bit, some_lack, declared_is, is_declared, counted, not_phantom, Agrees, all_get, ArgsHave, none_lacking, named_is, not_itself, parts_agree}
+use Rattle.theorems.proofs.BookAbilities.{requires_bit, some_lack, declared_is, is_declared, counted, not_phantom, Agrees, all_get, ArgsHave, none_lacking, named_is, Filled, unfolds, not_itself, parts_agree}
 
 -- ---- the rule in the Book's words
 
@@ -76,98 +78,100 @@ module _ (S : State) where
   abbrev sets : ℕ → ℕ
   sets p = infer_abilities S p
 
-  placed : {k : AbilityMark} (n : TypeName) (tys : List ℕ) → All (Agrees S sets) tys → (a : Ability) → Declares S n a → (p : ℕ) → lacking sets S n tys (bit (needed a)) ≡ Some p → Decides S a (Apply k n tys) (argument p)
+  placed : {k : AbilityMark} (n : TypeName) (tys : List ℕ) → length tys ≡ arity S n → All (Agrees S sets) tys → (a : Ability) → Declares S n a → (p : ℕ) → lacking sets S n tys (bit (needed a)) ≡ Some p → Decides S a (Apply k n tys) (argument p)
   unfolding lacking
-  placed {k} n tys h a d p e =
+  placed {k} n tys many h a d p e =
       let w : ℕ → Bool = λ ty. not (has (sets ty) (bit (needed a))) in
       let (j, q, r) = some_lack (counts S n) w 0 tys p e in
       let z : 0 + j ≡ j = omega arith in
       let u : j ≡ p = omega (arith, q) in
       subst (λ i. Decides S a (Apply k n tys) (argument i)) u (by_place d r.within (not_phantom S {n = n} {i = j} (rw z at r.counts_there))
       (λ g. let y = (all_get S (Agrees S sets) tys h j r.within (needed a)).1 g in let n = unnot (has (sets (get_or tys j 0)) (bit (needed a))) r.lacks_there in never (cc))
-      (λ i l f. let y : 0 + i ≡ i = omega arith in (all_get S (Agrees S sets) tys h i (omega (arith, r.within)) (needed a)).0 (not_false _ (r.before i l (rw y (counted S n i f))))))
+      (λ i l f. let y : 0 + i ≡ i = omega arith in (all_get S (Agrees S sets) tys h i (omega (arith, r.within)) (needed a)).0 (not_false _ (r.before i l (rw y (counted S n i (omega (arith, l, r.within, many)) f))))))
 
-  decides : (x : TypeValue) → All (Agrees S sets) (parts x) → (a : Ability) → Decides S a x (rule S (bit a) x)
+  decides : (x : TypeValue) → Filled S x → All (Agrees S sets) (parts x) → (a : Ability) → Decides S a x (rule S (bit a) x)
   unfolding rule parts by_argument ArgsHave
-  decides UnitType h a = by_declaration (no_grant UnitType refl)
-  decides (Ref m t) h a = by_declaration (no_grant (Ref m t) refl)
-  decides (Var v) h a = by_declaration (no_grant (Var v) refl)
-  decides UnresolvedError h a = by_declaration (no_grant UnresolvedError refl)
-  decides Anything h a = by_declaration (no_grant Anything refl)
-  decides (Param id b) h a = by_declaration (no_grant (Param id b) refl)
-  decides (Apply k n tys) h a = go (has (declared_abilities S n) (bit a)) refl (lacking sets S n tys (requires (bit a))) refl
+  decides UnitType q h a = by_declaration (no_grant UnitType refl)
+  decides (Ref m t) q h a = by_declaration (no_grant (Ref m t) refl)
+  decides (Var v) q h a = by_declaration (no_grant (Var v) refl)
+  decides UnresolvedError q h a = by_declaration (no_grant UnresolvedError refl)
+  decides Anything q h a = by_declaration (no_grant Anything refl)
+  decides (Param id b) q h a = by_declaration (no_grant (Param id b) refl)
+  decides (Apply k n tys) q h a = go (has (declared_abilities S n) (bit a)) refl (lacking sets S n tys (requires (bit a))) refl
     where
       ungranted : has (declared_abilities S n) (bit a) ≡ false → Grants S a (Apply k n tys) → ⊥
       ungranted d (grants g) = let y = is_declared S g in never (cc)
 
       go : (b : Bool) → has (declared_abilities S n) (bit a) ≡ b → (o : Option ℕ) → lacking sets S n tys (requires (bit a)) ≡ o → Decides S a (Apply k n tys) (elim b [ false ↦ declaration | true ↦ by_argument o ])
       go false d o e = by_declaration (ungranted d)
-      go true d None e = by_none (declared_is S n a d) (none_lacking S sets n tys h (needed a) (rw (requires_bit a) at e))
-      go true d (Some p) e = placed n tys h a (declared_is S n a d) p (rw (requires_bit a) at e)
+      go true d None e = by_none (declared_is S n a d) (none_lacking S sets n tys (q k n tys refl) h (needed a) (rw (requires_bit a) at e))
+      go true d (Some p) e = placed n tys (q k n tys refl) h a (declared_is S n a d) p (rw (requires_bit a) at e)
 
-pub rule_is : {ar : TypeName → ℕ} {S : State} → Sound ar S → (t : ℕ) → t < count S → ¬ RunsIntoItself S (type_at S t) → (a : Ability) (r : Rule)
+pub rule_decides : {ar : TypeName → ℕ} {S : State} → Sound ar S → Declared ar S → (t : ℕ) → t < count S → ¬ RunsIntoItself S (type_at S t) → (a : Ability) (r : Rule)
     → (rule S (bit a) (unfold_type S (spanned S t)).value ≡ r) ↔ Decides S a (unfold_type S (spanned S t)).value r
-rule_is {S = S} s t i n a r =
-    let d = decides S (unfold_type S (spanned S t)).value (parts_agree s t i (not_itself s t i n)) a in
+rule_decides {S = S} s k t i n a r =
+    let d = decides S (unfold_type S (spanned S t)).value (unfolds s k t i).filled (parts_agree s k t i (not_itself s t i n)) a in
     ((λ e. subst (Decides S a (unfold_type S (spanned S t)).value) e d), λ d'. once d d')
 
--- ---- abilities that pass two tests
+pub rule_is : (s : State) → sound s ≡ true → (t : ℕ) → t < count s → ¬ RunsIntoItself s (type_at s t) → (a : Ability) (r : Rule)
+    → (rule s (bit a) (unfold_type s (spanned s t)).value ≡ r) ↔ Decides s a (unfold_type s (spanned s t)).value r
+rule_is s h t i n a r = rule_decides (facts s h) (λ n. refl) t i n a r
+
+-- ---- in turn over the abilities that pass a test
 
 abbrev IsBit : ℕ → Type 0
 IsBit x = (a : Ability) × (bit a ≡ x)
 
-any_select : (f g : ℕ → Bool) (l : List ℕ) → All IsBit l → any_of f (select g l) ≡ true → (a : Ability) × (g (bit a) ≡ true) × (f (bit a) ≡ true)
-unfolding any_of select
-any_select f g [] b e = never (cc)
-any_select f g (x ∷ l) b e = go (g x) refl e (λ d. any_select f g l b.1 d)
-  where
-    at : (c : Bool) → f x ≡ c → g x ≡ true → ◌≡◌ {A = Bool} (elim c [ true ↦ true | false ↦ any_of f (select g l) ]) true
-        → (any_of f (select g l) ≡ true → (a : Ability) × (g (bit a) ≡ true) × (f (bit a) ≡ true)) → (a : Ability) × (g (bit a) ≡ true) × (f (bit a) ≡ true)
-    at true d p e h = let (a, q) = b.0 in (a, rw q p, rw q d)
-    at false d p e h = h e
+-- one ability gives y, or tells failures
+abbrev Only : Refusal → Result Bytes → Type 0
+Only y m = (m ≡ refused y) ⊎ Tells m
 
-    go : (c : Bool) → g x ≡ c → any_of f (elim c as (λ y. List ℕ) [ true ↦ x ∷ select g l | false ↦ select g l ]) ≡ true
-        → (any_of f (select g l) ≡ true → (a : Ability) × (g (bit a) ≡ true) × (f (bit a) ≡ true)) → (a : Ability) × (g (bit a) ≡ true) × (f (bit a) ≡ true)
-    go true p e h = at (f x) refl p e h
-    go false p e h = h e
+module _ (f : ℕ → Result Bytes) (g : ℕ → Bool) (y : Refusal) where
+  -- an ability that passes the test is refused so
+  abbrev pub SomeRefused : Type 0
+  SomeRefused = (a : Ability) × (g (bit a) ≡ true) × (f (bit a) ≡ refused y)
 
-pub any_those : (f g : ℕ → Bool) → any_of f (those g) ≡ true → (a : Ability) × (g (bit a) ≡ true) × (f (bit a) ≡ true)
-unfolding those
-any_those f g e = any_select f g (1 ∷ 2 ∷ 4 ∷ 8 ∷ []) ((copy, refl), ((drop, refl), ((store, refl), ((key, refl), tt)))) e
+  select_refused : (l : List ℕ) → All IsBit l → in_turn f (select g l) ≡ refused y → SomeRefused
+  unfolding select in_turn
+  select_refused [] b e = never (cc)
+  select_refused (x ∷ l) b e = go (g x) refl e (λ d. select_refused l b.1 d)
+    where
+      at : g x ≡ true → (f x ≡ refused y) ⊎ (Tells (f x) × (in_turn f (select g l) ≡ refused y)) → (in_turn f (select g l) ≡ refused y → SomeRefused) → SomeRefused
+      at p (inl q) h = let (a, e) = b.0 in (a, rw e p, rw e q)
+      at p (inr t) h = h t.1
 
-here : (f g : ℕ → Bool) (x : ℕ) (l : List ℕ) → g x ≡ true → f x ≡ true → any_of f (select g (x ∷ l)) ≡ true
-unfolding any_of select
-here f g x l p q = rw (p, q, select, any_of) refl
+      go : (c : Bool) → g x ≡ c → in_turn f (elim c as (λ y. List ℕ) [ true ↦ x ∷ select g l | false ↦ select g l ]) ≡ refused y → (in_turn f (select g l) ≡ refused y → SomeRefused) → SomeRefused
+      go true p e h = at p (turn_refused f x (select g l) e) h
+      go false p e h = h e
 
-later : (f g : ℕ → Bool) (x : ℕ) (l : List ℕ) → any_of f (select g l) ≡ true → any_of f (select g (x ∷ l)) ≡ true
-unfolding any_of select
-later f g x l e = go (g x)
-  where
-    at : (c : Bool) → ◌≡◌ {A = Bool} (elim c [ true ↦ true | false ↦ any_of f (select g l) ]) true
-    at true = refl
-    at false = e
+  pub those_refused : in_turn f (those g) ≡ refused y → SomeRefused
+  unfolding those
+  those_refused e = select_refused (1 ∷ 2 ∷ 4 ∷ 8 ∷ []) ((copy, refl), ((drop, refl), ((store, refl), ((key, refl), tt)))) e
 
-    go : (c : Bool) → any_of f (elim c as (λ y. List ℕ) [ true ↦ x ∷ select g l | false ↦ select g l ]) ≡ true
-    go true = at (f x)
-    go false = e
+  here : (x : ℕ) (l : List ℕ) → g x ≡ true → f x ≡ refused y → in_turn f (select g (x ∷ l)) ≡ refused y
+  unfolding select
+  here x l p q = rw (p, select) (turn_first f x (select g l) q)
 
-pub those_any : (f g : ℕ → Bool) (a : Ability) → g (bit a) ≡ true → f (bit a) ≡ true → any_of f (those g) ≡ true
-unfolding those
-those_any f g copy p q = here f g 1 _ p q
-those_any f g drop p q = later f g 1 _ (here f g 2 _ p q)
-those_any f g store p q = later f g 1 _ (later f g 2 _ (here f g 4 _ p q))
-those_any f g key p q = later f g 1 _ (later f g 2 _ (later f g 4 _ (here f g 8 _ p q)))
+  later : (x : ℕ) (l : List ℕ) → Only y (f x) → in_turn f (select g l) ≡ refused y → in_turn f (select g (x ∷ l)) ≡ refused y
+  unfolding select
+  later x l o e = go (g x) o
+    where
+      go : (c : Bool) → Only y (f x) → in_turn f (elim c as (λ y. List ℕ) [ true ↦ x ∷ select g l | false ↦ select g l ]) ≡ refused y
+      go true (inl q) = turn_first f x (select g l) q
+      go true (inr t) = turn_later f x (select g l) t e
+      go false o = e
+
+  pub refused_those : ((x : ℕ) → Only y (f x)) → SomeRefused → in_turn f (those g) ≡ refused y
+  unfolding those
+  refused_those o (copy, p, q) = here 1 _ p q
+  refused_those o (drop, p, q) = later 1 _ (o 1) (here 2 _ p q)
+  refused_those o (store, p, q) = later 1 _ (o 1) (later 2 _ (o 2) (here 4 _ p q))
+  refused_those o (key, p, q) = later 1 _ (o 1) (later 2 _ (o 2) (later 4 _ (o 4) (here 8 _ p q)))
 
 -- ---- 16 of a marked type alone
 
 pub data Marked : TypeValue → Type 0 where
   marked : {set : ℕ} {n : TypeName} {tys : List ℕ} → Marked (Apply (Some set) n tys)
-
-pub is_contradicted_true : (r : Rule) → is_contradicted r ≡ true → r ≡ contradicted
-unfolding is_contradicted
-is_contradicted_true declaration e = never (cc)
-is_contradicted_true (argument i) e = never (cc)
-is_contradicted_true contradicted e = refl
 
 module _ (S : State) where
   value_marked : (a : Ability) (x : TypeValue) → has (infer_value (sets S) S x) (bit a) ≡ false → rule S (bit a) x ≡ contradicted → Marked x
@@ -187,26 +191,39 @@ module _ (S : State) where
       go true o h (Some i) e r = never (cc)
       go false o h o' e r = never (cc)
 
-  pub sixteen_of : (t wanted : ℕ) → ability_hindrance S t wanted ≡ Some mark_contradicted
-      → (reaches_itself S t ≡ false) × ((a : Ability) × (has wanted (bit a) && not (has (infer_abilities S t) (bit a)) ≡ true) × (rule S (bit a) (unfold_type S (spanned S t)).value ≡ contradicted))
-  unfolding ability_hindrance missing
-  sixteen_of t wanted e = go (reaches_itself S t) (any_of bad (those lost)) refl refl e
+  -- the failure for one ability
+  abbrev pub lack : ℕ → ℕ → ℕ → Result Bytes
+  lack loc t ability = by_rule S loc ability (unfold_type S (spanned S t)) (rule S ability (unfold_type S (spanned S t)).value)
+
+  -- asked for, and not there
+  abbrev pub lost : ℕ → ℕ → ℕ → Bool
+  lost t wanted ability = has wanted ability && not (has (infer_abilities S t) ability)
+
+  pub rule_refused : (loc ability : ℕ) (t : Spanned TypeValue) (r : Rule) {x : Refusal} → by_rule S loc ability t r ≡ refused x → (r ≡ contradicted) × (x ≡ mark_contradicted)
+  unfolding by_rule
+  rule_refused loc ability t declaration e = never (cc)
+  rule_refused loc ability t (argument i) e = never (cc)
+  rule_refused loc ability t contradicted {x} e = (refl, (let d : x ≡ mark_contradicted = cc in d))
+
+  pub rule_only : (loc ability : ℕ) (t : Spanned TypeValue) (r : Rule) → Only mark_contradicted (by_rule S loc ability t r)
+  unfolding by_rule
+  rule_only loc ability t declaration = inr (_, refl)
+  rule_only loc ability t (argument i) = inr (_, refl)
+  rule_only loc ability t contradicted = inl refl
+
+  pub sixteen_of : (loc t wanted : ℕ) → solve_ability_constraint S loc t wanted ≡ refused mark_contradicted
+      → (reaches_itself S t ≡ false) × ((a : Ability) × (lost t wanted (bit a) ≡ true) × (rule S (bit a) (unfold_type S (spanned S t)).value ≡ contradicted))
+  unfolding solve_ability_constraint missing
+  sixteen_of loc t wanted e = go (reaches_itself S t) refl e
     where
-      bad : ℕ → Bool
-      bad ability = is_contradicted (rule S ability (unfold_type S (spanned S t)).value)
+      go : (b : Bool) → reaches_itself S t ≡ b → ◌≡◌ {A = Result Bytes} (elim b [ true ↦ refused runs_into_itself | false ↦ in_turn (lack loc t) (those (lost t wanted)) ]) (refused mark_contradicted)
+          → (reaches_itself S t ≡ false) × ((a : Ability) × (lost t wanted (bit a) ≡ true) × (rule S (bit a) (unfold_type S (spanned S t)).value ≡ contradicted))
+      go true d e = never (cc)
+      go false d e = let (a, g, h) = those_refused (lack loc t) (lost t wanted) mark_contradicted e in (d, (a, g, (rule_refused loc (bit a) _ _ h).0))
 
-      lost : ℕ → Bool
-      lost ability = has wanted ability && not (has (infer_abilities S t) ability)
-
-      go : (b c : Bool) → reaches_itself S t ≡ b → any_of bad (those lost) ≡ c → ◌≡◌ {A = Option Refusal} (elim b [ true ↦ Some runs_into_itself | false ↦ if c then Some mark_contradicted else None ]) (Some mark_contradicted)
-          → (reaches_itself S t ≡ false) × ((a : Ability) × (lost (bit a) ≡ true) × (rule S (bit a) (unfold_type S (spanned S t)).value ≡ contradicted))
-      go true c d f e = never (cc)
-      go false true d f e = let (a, g, h) = any_those bad lost f in (d, (a, g, is_contradicted_true _ h))
-      go false false d f e = never (cc)
-
-  pub unmarked_never_16 : (t wanted : ℕ) → ability_hindrance S t wanted ≡ Some mark_contradicted → Marked (unfold_type S (spanned S t)).value
-  unmarked_never_16 t wanted e =
-      let (d, (a, g, r)) = sixteen_of t wanted e in
+  pub unmarked_never_16 : (loc t wanted : ℕ) → solve_ability_constraint S loc t wanted ≡ refused mark_contradicted → Marked (unfold_type S (spanned S t)).value
+  unmarked_never_16 loc t wanted e =
+      let (d, (a, g, r)) = sixteen_of loc t wanted e in
       value_marked a (unfold_type S (spanned S t)).value (ap (λ (set : ℕ). has set (bit a)) (sym (infer_is S t d)) ∙ unnot _ (and_r (has wanted (bit a)) (not (has (infer_abilities S t) (bit a))) g)) r
 
 -- ---- sets

@@ -5,7 +5,7 @@ use Rattle.definition.specs.Types.{State, Result, ok, err, refused, ◌>>=◌}
 use Rattle.definition.specs.Store.{with_constraints}
 use Rattle.definition.specs.Constraints.{num_vars, default_num_vars, solve_all, solve_constraints}
 use Rattle.definition.specs.Write.{Bytes}
-use Rattle.theorems.proofs.SolveHindered.{solve_cases}
+use Rattle.theorems.proofs.SolveInTurn.{solve_cases}
 
 unfoldable pub NoneStays : Result (State × Bytes) → Type 0
 NoneStays (ok (s, payload)) = s.constraints ≡ []
@@ -14,7 +14,7 @@ NoneStays (refused x) = Unit {0}
 
 all_leave : (s : State) → NoneStays (solve_all s)
 unfolding NoneStays with_constraints
-all_leave s = solve_cases s NoneStays refl tt tt
+all_leave s = solve_cases s NoneStays (λ failures. refl) tt tt
 
 pub none_stays : (s : State) → NoneStays (solve_constraints s)
 unfolding solve_constraints NoneStays ◌>>=◌

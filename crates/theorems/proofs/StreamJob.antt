@@ -15,14 +15,14 @@ use Rattle.definition.specs.Sound.{sound}
 use Rattle.definition.specs.Step.{run, Answer, number_of_error, number_of_refusal, refusal, max_payload, answer_with, answer, max_buffer, lent, step, streamed, step_stream}
 use Rattle.definition.specs.Job.{Entry, ends_job, job_from, job_log}
 use Rattle.theorems.proofs.StreamRecords.{front, records_from, records_of, entries}
-use Rattle.definition.specs.Locations.{blank_job, Seen, seen, blank_log, LocationsDecideNothing}
+use Rattle.definition.specs.Locations.{blank_job, Seen, seen, blank_log, JobOfBytes, LocationsDecideNothing}
 use Rattle.theorems.proofs.TotalWalk.{RunTime, seven, eight, nine, ten, eleven, twelve, thirteen, sixteen}
 use Rattle.theorems.proofs.TotalLate.{Late, fine, wrong, down, run_late}
 use Rattle.theorems.proofs.SoundRead.{bytes_take, ReadTime, ReadWell, not_given, well_read}
 use Rattle.theorems.proofs.SoundKept.{stream_sound_kept, usable_sound, trusted, fresh_sound}
 use Rattle.theorems.proofs.Stream.{ends}
 use Rattle.theorems.proofs.StreamCuts.{Fronted, fronted, not_fronted, fronts}
-use Rattle.theorems.proofs.EraseLocations.{JobOfBytes, locations_decide_nothing}
+use Rattle.theorems.proofs.EraseLocations.{locations_decide_nothing}
 
 -- ---- a run's answer does not end the job
 
@@ -142,8 +142,8 @@ records_bytes (suc n) s (b ∷ bytes) is h =
     go (got r rest) q e later = (bytes_take (length (b ∷ bytes) - length rest) (b ∷ bytes) is, subst (λ (l : Bytes). JobOfBytes (records_from n q.0.state l)) (ap (λ (q : Answer × Bytes). q.1) e) later)
     go (not_read x) q e later = (is, tt)
 
-pub streams_alike : (a b : Bytes) → IsBytes a → IsBytes b → LocationsDecideNothing (records_of a) (records_of b)
-unfolding records_of
+pub streams_alike : (a b : Bytes) → IsBytes a → IsBytes b → blank_job fresh (records_of a) ≡ blank_job fresh (records_of b) → blank_log fresh (records_of a) ≡ blank_log fresh (records_of b)
+unfolding records_of LocationsDecideNothing
 streams_alike a b i j = locations_decide_nothing (records_of a) (records_of b) (records_bytes (length a) fresh a i fresh_sound) (records_bytes (length b) fresh b j fresh_sound)
 
 -- .. so the lines of their logs have equal answer numbers
@@ -156,6 +156,5 @@ numbers_are i s [] = refl
 numbers_are i s ((bytes, buffer) ∷ records) = ap (λ (l : List ℕ). (step s bytes buffer).number ∷ l) (numbers_are (suc i) (step s bytes buffer).state records)
 
 pub logs_alike : (a b : Bytes) → IsBytes a → IsBytes b → blank_job fresh (records_of a) ≡ blank_job fresh (records_of b) → line_numbers (job_log a) ≡ line_numbers (job_log b)
-unfolding LocationsDecideNothing
 logs_alike a b i j e =
     sym (ap line_numbers (stream_is_job a i)) ∙ numbers_are 0 fresh (records_of a) ∙ ap (λ (l : List Seen). map (λ (x : Seen). x.number) l) (streams_alike a b i j e) ∙ sym (numbers_are 0 fresh (records_of b)) ∙ ap line_numbers (stream_is_job b j)

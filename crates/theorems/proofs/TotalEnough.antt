@@ -15,7 +15,6 @@ use Rattle.definition.specs.Subst.{parts, next_of, forward, forward_tvar, mark_o
 use Rattle.definition.specs.TParams.{TParamSubst, arg_of, subst_value, subst_down, subst_tparams}
 use Rattle.definition.specs.Instantiate.{tparam_constraints, instantiate_type_args, instantiate_apply, instantiate_value, instantiate_down, instantiate}
 use Rattle.definition.specs.Sound.{sound}
-use Rattle.definition.specs.Trees.{arity}
 use Rattle.theorems.proofs.Laws.{one_marks, value_same}
 use Rattle.theorems.proofs.LawsChains.{Within, w_here, w_hop, within_ends, within_more, within_same, next_agree}
 use Rattle.theorems.proofs.DemandTracks.{never, ends_det}

@@ -14,7 +14,7 @@ use Rattle.definition.specs.Subst.{as_var, is_anything, parts, forward_tvar, unf
 use Rattle.definition.specs.Join.{integers, TypingCase, Join, is_numeric, is_num_var, num_shape, check_num_tvar', check_num_tvar, is_var, used, join_bind_tvar, type_of, join_tvar, arm, join_unbound, join_arm, join_impl, join}
 use Rattle.definition.specs.Constraints.{num_vars, undecided, u64, default_num_var, default_num_vars, solve_constraints}
 use Rattle.definition.specs.Sound.{sound}
-use Rattle.theorems.proofs.SolveHindered.{solve_cases}
+use Rattle.theorems.proofs.SolveInTurn.{solve_cases}
 use Rattle.theorems.proofs.SoundFacts.{facts}
 use Rattle.theorems.proofs.Laws.{get_beyond, get_insert_same, get_insert_other, value_insert, taken_insert, merge_marks}
 use Rattle.theorems.proofs.LawsChains.{next_none, next_some, ends_same}
@@ -299,4 +299,4 @@ no_defaults l s d h = sure_no (takes_sure (defaults_take l s d h))
 -- SV answers none of 1 to 4
 pub solve_never_fails : (S : State) → sound S ≡ true → NoErr (solve_constraints S)
 unfolding solve_constraints
-solve_never_fails S h = let s = facts S h in no_bind _ (no_defaults (num_vars 0 S.vars) s (λ n. refl) (num_vars_below 0 S.vars (taken S) (omega arith))) (λ S1. solve_cases S1 NoErr no_ok no_refused no_refused)
+solve_never_fails S h = let s = facts S h in no_bind _ (no_defaults (num_vars 0 S.vars) s (λ n. refl) (num_vars_below 0 S.vars (taken S) (omega arith))) (λ S1. solve_cases S1 NoErr (λ failures. no_ok) no_refused no_refused)

@@ -19,6 +19,7 @@ use Rattle.definition.specs.Join.{integers, TypingCase, Join, Subtype, JoinImpl,
 use Rattle.definition.specs.Join.{Arm, join_mut, join_loc, join_refs, same_name, is_multiple, same_mark, join_applies, join_unbound, join_arm, join_impl, join, subtype}
 use Rattle.definition.specs.TParams.{TParamSubst, arg_of, make_tparam_subst, subst_value, subst_down, subst_tparams}
 use Rattle.definition.specs.Instantiate.{make_tvar, tvar_constraint, builtin_tparams, struct_tparams, tparam_constraints, make_tparams, join_args, instantiate_type_args, instantiate_apply, instantiate_value, instantiate_down, instantiate}
+use Rattle.definition.specs.Abilities.{primitives, has}
 use Rattle.definition.specs.Constraints.{num_vars, undecided, u64, default_num_var, default_num_vars, solve_constraints}
 use Rattle.definition.specs.Trees.{Tree, unit_tree, anything_tree, error_tree, ref_tree, param_tree, apply_tree, var_tree, Trees, no_trees, ◌then◌, has_drop, mark_fits, is_set, is_mark, is_name}
 use Rattle.definition.specs.Record.{NumericKind, Numeric, Bits, Ordered, Record, SD, FV, NV, SN, JN, SU, UF, RD, IN, TS, NC, BC, SC, SV, RM}
@@ -31,7 +32,7 @@ use Rattle.theorems.proofs.Soundness.{le_test}
 use Rattle.theorems.proofs.SoundRoom.{with_room, sp_room, tvar_room, constraint_room, struct_room}
 use Rattle.theorems.proofs.DemandMain.{Took, took, took_any_l, took_any_r, took_units, took_refs, took_params, took_applies, took_vars, took_var_l, took_var_r, took_error_l, took_error_r, took_others}
 use Rattle.theorems.proofs.SoundRanges.{U32, ShapeIn, CellIn, ConstraintIn, StructIn, Ranges, declare_ranges, loc_of_in, value_in, name_in, cell_in, node_ranges, var_ranges, insert_ranges, add_ranges, num_var_ranges, merge_ranges, cleared_ranges}
-use Rattle.theorems.proofs.SolveHindered.{solve_cases}
+use Rattle.theorems.proofs.SolveInTurn.{solve_cases}
 use Rattle.theorems.proofs.SoundRead.{TreeIn, TreesIn, RecordIn}
 
 -- 7 to 13 and 16, of which 9 and 16 only if z
@@ -77,7 +78,7 @@ join_loc_in Join m1 m2 l1 l2 u1 u2 = go (not m1 && m2)
 join_loc_in Subtype m1 m2 l1 l2 u1 u2 = u2
 
 u64_in : (b : State) → ShapeIn b u64
-unfolding u64 is_mark is_name mark_fits is_numeric has_drop max_builtin any_of integers
+unfolding u64 primitives is_mark is_name mark_fits is_numeric has_drop has max_builtin any_of integers
 u64_in b = refl
 
 abbrev IsSet : ℕ → Type 0
@@ -394,4 +395,4 @@ module _ (H : Type 0) (b : State) (z : Bool) where
   run_walk y s i (BC loc t) f = constrain_run s i t (λ h. (f h).1) _ (λ ty h. (f h).0)
   run_walk y s i (SC loc t) f = constrain_run s i t (λ h. (f h).1) _ (λ ty h. (f h).0)
   run_walk y s i (RM t) f = tell_run s i (needs t)
-  run_walk y s i SV f = bind _ (starts_run s i) (λ x j. solve_cases x Run (e_ok (λ h. cleared_ranges (j h))) (e_refused (nine y)) (e_refused (sixteen y)))
+  run_walk y s i SV f = bind _ (starts_run s i) (λ x j. solve_cases x Run (λ failures. e_ok (λ h. cleared_ranges (j h))) (e_refused (nine y)) (e_refused (sixteen y)))

@@ -3,7 +3,7 @@ use Rattle.std.specs.Prelude.{List, [], ◌∷◌, ℕ, zero, suc, get_or}
 use Rattle.std.specs.Prelude.{Option, None, Some}
 use Rattle.names.specs.declared.TParamID.{TParamID}
 use Rattle.table.specs.Out.{Out}
-use Rattle.table.specs.declared.Refusal.TheVariants.{NoArgument}
+use Rattle.refusals.specs.declared.Refusal.TheVariants.{NoArgument}
 use Rattle.table.specs.declared.state.Stop.TheVariants.{Refused}
 use Rattle.std.specs.Prelude.{Ok, Err}
 

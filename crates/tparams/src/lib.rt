@@ -9,17 +9,17 @@ ghost use Rattle.definition.specs.TParams.{arg_of, make_tparam_subst, subst_valu
 ghost use Rattle.names.specs.Names.{mark_of, name_of};
 ghost use Rattle.table.specs.State.{Parts, Named};
 ghost use Rattle.table.specs.Did.{tables, Did};
-ghost use Rattle.shapes.specs.Applied.{args_of};
+ghost use Rattle.table.specs.State.{args_of};
 ghost use Rattle.tparams.specs.Pairs.{pairs, answer};
 ghost use Rattle.tparams.specs.Made.{subst_of, made};
 
 mod substitution;
 
 use names::TParamID;
-use shapes::Applied;
+use refusals::Refusal;
 pub use substitution::TParamSubst;
 use table::state::{State, Stop};
-use table::{Refusal, Shape};
+use table::{Applied, Shape};
 
 // None if an id stands twice: the Rust asserts that none does.
 pub fn make_tparam_subst(ids: [TParamID; 8], args: [u32; 8], many: u32) -> Option<TParamSubst>
@@ -79,10 +79,7 @@ fn subst_down(st: &mut State<'_>, left: u32, subst: &TParamSubst, ty: u32) -> Re
             let p = subst_down(st, left - 1, subst, t)?;
             st.push_node(loc, Shape::Ref(m, p))
         }
-        Shape::Apply(k, n, first, many) => {
-            let t = Applied { k, n, first, many };
-            subst_apply(st, left - 1, subst, loc, t)
-        }
+        Shape::Apply(t) => subst_apply(st, left - 1, subst, loc, t),
     }
 }
 

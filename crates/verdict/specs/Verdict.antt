@@ -1,14 +1,10 @@
 -- What follows from what a record was read into. Assumes nothing: these are definitions.
 use Rattle.std.specs.Prelude.{Bool, true, false, List, ℕ, get_or, take, Option, Some, None, Result, Ok, Err}
-use Rattle.definition.specs.Types as d
 use Rattle.table.specs.Tab.{tab}
 use Rattle.fields.specs.declared.What.{What}
 use Rattle.fields.specs.declared.What.TheVariants as q
-use Rattle.cursor.specs.Words.{refusal}
-use Rattle.cursor.specs.declared.ReadError.{ReadError}
-use Rattle.cursor.specs.declared.ReadError.TheVariants.{Malformed}
-use Rattle.verdict.specs.declared.Refused.{Refused}
-use Rattle.verdict.specs.declared.Refused.TheVariants.{Unread, Full}
+use Rattle.refusals.specs.declared.Refusal.{Refusal}
+use Rattle.refusals.specs.declared.Refusal.TheVariants.{Malformed, Full}
 
 -- ---- SD's row
 
@@ -34,19 +30,15 @@ rows_after (q.Add x) n = n
 
 -- ---- what it comes to
 
-abbrev pub refusal_of : Refused → d.Refusal
-refusal_of (Unread e) = refusal e
-refusal_of Full = d.full
-
 -- what is run, or why nothing is. Bytes left over are malformed, which comes before no space
-abbrev pub verdict_of : Result (Option What) ReadError → Bool → Result What Refused
-verdict_of (Err e) over = Err (Unread e)
-verdict_of (Ok o) true = Err (Unread Malformed)
+abbrev pub verdict_of : Result (Option What) Refusal → Bool → Result What Refusal
+verdict_of (Err e) over = Err e
+verdict_of (Ok o) true = Err Malformed
 verdict_of (Ok None) false = Err Full
 verdict_of (Ok (Some x)) false = Ok x
 
 -- ---- the stream after a record
 
-abbrev pub place_after : Result (Option What) ReadError → ℕ → ℕ → ℕ
+abbrev pub place_after : Result (Option What) Refusal → ℕ → ℕ → ℕ
 place_after (Ok o) at next = next
 place_after (Err e) at next = at

@@ -2,12 +2,11 @@
 #![tactic(auto)]
 
 ghost use Rattle.std.specs.Prelude.{◌≡◌, ◌&&◌, ◌≤◌, ltb, length};
-ghost use Rattle.definition.specs.Step.{number_of_refusal};
 ghost use Rattle.verdict.specs.Verdict.{row_for, padded, rows_after, verdict_of, place_after};
 
-use cursor::ReadError;
 use fields::{Params, What};
 use payload::Answer;
+use refusals::Refusal;
 use table::Used;
 
 // ---- SD
@@ -52,41 +51,6 @@ pub fn rows_after(what: What, n: u32) -> u32
 
 // ---- what it comes to
 
-// Why a record is not run: reading stopped (5, 6, 18), or there is no space (7).
-#[derive(Clone, Copy)]
-pub enum Refused {
-    Unread(ReadError),
-    Full,
-}
-
-impl From<ReadError> for Refused {
-    ghost use Rattle.verdict.specs.declared.Refused.TheVariants.{Unread};
-
-    ghost from_gives = { λ e r. r ≡ Unread e };
-
-    fn from(e: ReadError) -> Refused {
-        Refused::Unread(e)
-    }
-}
-
-impl Refused {
-    ghost use Rattle.verdict.specs.Verdict.{refusal_of};
-
-    // Refused: 5 for an unknown name (unknown_is_five).
-    pub fn number(self) -> u32
-        ensures { result ≡ number_of_refusal (refusal_of self) }
-    {
-        match self {
-            Refused::Unread(e) => match e {
-                ReadError::Malformed => 5,
-                ReadError::UnknownName => 6,
-                ReadError::DoubledReference => 18,
-            },
-            Refused::Full => 7,
-        }
-    }
-}
-
 // Whether the record is all that is lent, and bytes are left over. `whole` is a flag, as the two public calls differ by it alone.
 pub fn left_over(whole: bool, next: usize, long: usize) -> bool
     ensures { result ≡ whole && ltb next long }
@@ -95,20 +59,20 @@ pub fn left_over(whole: bool, next: usize, long: usize) -> bool
 }
 
 // What is run, or why nothing is. Bytes left over are malformed, which comes before no space: a flag, since it is asked only once all was read.
-// Refused: no space before bytes left over (full_before_left_over).
-pub fn verdict_of(read: Result<Option<What>, ReadError>, over: bool) -> Result<What, Refused>
+// Refused: no space before bytes left over (full_before_left_over), and where reading stopped (unread_is_full).
+pub fn verdict_of(read: Result<Option<What>, Refusal>, over: bool) -> Result<What, Refusal>
     ensures { result ≡ verdict_of read over }
 {
     let placed = read?;
     if over {
-        return Err(Refused::Unread(ReadError::Malformed));
+        return Err(Refusal::Malformed);
     }
-    placed.ok_or(Refused::Full)
+    placed.ok_or(Refusal::Full)
 }
 
 // Where the stream goes on: 5, 6 and 18 leave it as it is.
 // Refused: a stream that goes on behind a malformed record (malformed_passed), one that stays before a record that is run (rest_not_passed).
-pub fn place_after(read: Result<Option<What>, ReadError>, at: usize, next: usize) -> usize
+pub fn place_after(read: Result<Option<What>, Refusal>, at: usize, next: usize) -> usize
     ensures { result ≡ place_after read at next }
 {
     match read {

@@ -29,7 +29,7 @@ unfolding head with_args
 head_same s loc UnitS = refl
 head_same s loc (Ref m t) = refl
 head_same s loc (Param id a) = refl
-head_same s loc (Apply k n first many) = refl
+head_same s loc (Apply a) = refl
 head_same s loc (Var v) = refl
 head_same s loc Anything = refl
 head_same s loc UnresolvedError = refl

@@ -104,7 +104,7 @@ pub fn write_head(loc: u32, shape: Shape, buf: &mut [u8], at: usize) -> usize
             let last = put_u32(buf, next, id.0);
             put_bytes(buf, last, &[abilities.0])
         }
-        Shape::Apply(k, n, _, _) => write_apply(buf, at, loc, k, n),
+        Shape::Apply(a) => write_apply(buf, at, loc, a.k, a.n),
         Shape::Var(v) => {
             let next = put_tag(buf, at, 6, loc);
             put_u16(buf, next, u32::from(v))
@@ -134,7 +134,7 @@ pub fn head_size(shape: Shape) -> u32
         Shape::Unit => 5,
         Shape::Ref(_, _) => 6,
         Shape::Param(_, _) => 10,
-        Shape::Apply(_, n, _, _) => name_size(n),
+        Shape::Apply(a) => name_size(a.n),
         Shape::Var(_) => 7,
         Shape::Anything => 5,
         Shape::UnresolvedError => 5,

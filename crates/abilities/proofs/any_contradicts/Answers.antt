@@ -1,7 +1,7 @@
 -- `abilities::any_contradicts` meets its contract. Assumes nothing.
 use mathlib.Core.Bool.{not}
 use mathlib.Core.Path.{ap, ◌∙◌}
-use Rattle.abilities.proofs.Hindered.{nothing_missing}
+use Rattle.abilities.proofs.Checked.{nothing_missing}
 use Rattle.abilities.proofs.any_contradicts.Goals as goal
 
 pub returns-else-any_missing : goal.returns-else-any_missing

@@ -1,7 +1,7 @@
 -- `abilities::granted` meets its contract. Assumes nothing.
 use mathlib.Core.Path.{ap, ◌∙◌}
 use Rattle.std.specs.Prelude.{None}
-use Rattle.definition.specs.Constraints.{is_contradicted}
+use Rattle.abilities.specs.Rules.{is_contradicted}
 use Rattle.abilities.proofs.Laws.{granted_is}
 use Rattle.abilities.proofs.granted.Goals as goal
 

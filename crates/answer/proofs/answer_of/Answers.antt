@@ -1,5 +1,5 @@
 -- `answer::answer_of` meets its contract. Assumes nothing.
-use mathlib.Core.Path.{◌≡◌, ap, sym, ◌∙◌}
+use mathlib.Core.Path.{◌≡◌, ap, ◌∙◌}
 use Rattle.std.proofs.Common.{Err}
 use Rattle.table.specs.declared.state.Stop.TheVariants.{Failed, Refused}
 use Rattle.answer.specs.Ran.{answered}
@@ -32,4 +32,4 @@ returns-in-Err-Refused c = let r = c.args.ran in
     let arm = c.in-Err-Refused in
     let e : r.result ≡ Err (Refused arm.x) = arm.is ∙ ap Err (rw arm.is at arm.field-0-is) in
     answers_is _ _ _ _ _ _ _ _ _ (answered r) (λ ds s. is_refused r _ s _ e)
-    (c.refuse.ensures _ _ (sym c.number_of.ensures))
+    (c.refuse.ensures _)

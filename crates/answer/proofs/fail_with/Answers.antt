@@ -1,7 +1,5 @@
 -- `answer::fail_with` meets its contract. Assumes nothing.
 use mathlib.Core.List.{[]}
-use mathlib.Core.Path.{sym}
-use Rattle.definition.specs.Types.{answer_too_long}
 use Rattle.answer.proofs.Cases.{failure_long, failure_fits}
 use Rattle.answer.proofs.fail_with.Goals as goal
 
@@ -10,7 +8,7 @@ returns-in_default c = let args = c.args in
     let paid = c.in_default.ensures in
     λ e n h. rw (paid.1 []).1
     (failure_long args.w.now args.u args.before.used args.before.saved.now args.buf.now args.show e _ n h _ _ _
-    (λ ds. (paid.1 ds).0) (rw paid.0 at (c.refuse.ensures answer_too_long args.buf.now (sym c.number_of.ensures))))
+    (λ ds. (paid.1 ds).0) (rw paid.0 at (c.refuse.ensures args.buf.now)))
 
 pub returns : goal.returns
 returns c = let args = c.args in

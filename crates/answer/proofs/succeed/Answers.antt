@@ -1,9 +1,7 @@
 -- `answer::succeed` meets its contract. Assumes nothing.
 use mathlib.Core.List.{[]}
-use mathlib.Core.Path.{sym}
 use Rattle.answer.proofs.Settling.{given_back}
 use Rattle.answer.proofs.Cases.{success_long, success_kept, success_back}
-use Rattle.definition.specs.Types.{answer_too_long}
 use Rattle.answer.proofs.succeed.Goals as goal
 
 pub returns-in_default : goal.returns-in_default
@@ -11,7 +9,7 @@ returns-in_default c = let args = c.args in
     let paid = c.in_default.ensures in
     rw (paid.1 []).1
     (success_long args.w.now args.u args.before.used args.before.saved.now args.buf.now args.kept args.show args.t _ _ _
-    (λ ds. (paid.1 ds).0) (rw paid.0 at (c.refuse.ensures answer_too_long args.buf.now (sym c.number_of.ensures))))
+    (λ ds. (paid.1 ds).0) (rw paid.0 at (c.refuse.ensures args.buf.now)))
 
 pub returns-then-kept : goal.returns-then-kept
 returns-then-kept c = let args = c.args in

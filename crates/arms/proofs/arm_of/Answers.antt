@@ -63,5 +63,5 @@ returns-in_default c = elim c.in_default.branch [
   | in_default-via-in-Unit+in_default w ↦ let a = w.in_default in c.arm_other.ensures _ _ (rw a.is-0 (unit_unlike _ a.not-Unit-1))
   | in_default-via-in-Ref+in_default w ↦ let a = w.in_default in c.arm_other.ensures _ _ (rw a.is-0 (ref_unlike _ _ _ a.not-Ref-1))
   | in_default-via-in-Param+in_default w ↦ let a = w.in_default in c.arm_other.ensures _ _ (rw a.is-0 (param_unlike _ _ _ a.not-Param-1))
-  | in_default-via-in-Apply+in_default w ↦ let a = w.in_default in c.arm_other.ensures _ _ (rw a.is-0 (apply_unlike _ _ _ _ _ a.not-Apply-1))
+  | in_default-via-in-Apply+in_default w ↦ let a = w.in_default in c.arm_other.ensures _ _ (rw a.is-0 (apply_unlike _ _ a.not-Apply-1))
 ]

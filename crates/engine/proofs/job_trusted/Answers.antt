@@ -1,7 +1,8 @@
 -- `engine::job_trusted` meets its contract. Assumes nothing.
 use mathlib.Core.Path.{◌∙◌}
 use Rattle.std.proofs.Common.{rules}
-use Rattle.engine.proofs.Laws.{stands_lent, lent_size, lent_lays, job_gives}
+use Rattle.lent.proofs.Passed.{stands_lent, lent_size, lent_lays}
+use Rattle.engine.proofs.Laws.{job_gives}
 use Rattle.engine.proofs.job_trusted.Goals as goal
 
 pub used_of-used-requires : goal.used_of-used-requires

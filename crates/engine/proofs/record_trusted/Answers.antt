@@ -4,7 +4,8 @@ use mathlib.Core.Path.{◌∙◌}
 use Rattle.std.proofs.Common.{rules}
 use Rattle.log_lines.proofs.Text.{bytes_of}
 use Rattle.snapshot.proofs.Saving.{partly_none}
-use Rattle.engine.proofs.Laws.{stands_lent, lent_size, lent_lays, record_gives}
+use Rattle.lent.proofs.Passed.{stands_lent, lent_size, lent_lays}
+use Rattle.engine.proofs.Laws.{record_gives}
 use Rattle.engine.proofs.record_trusted.Goals as goal
 
 pub used_of-used-requires : goal.used_of-used-requires

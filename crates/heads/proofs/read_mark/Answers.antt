@@ -9,8 +9,8 @@ use Rattle.definition.specs.Trees.{mark_of, read_mark}
 use Rattle.names.specs.Names.{mark_of as mark-is}
 use Rattle.names.specs.declared.AbilitySet.{AbilitySet}
 use Rattle.cursor.specs.Words.{read_as}
-use Rattle.cursor.specs.declared.ReadError.{ReadError}
-use Rattle.cursor.specs.declared.ReadError.TheVariants.{Malformed}
+use Rattle.refusals.specs.declared.Refusal.{Refusal}
+use Rattle.refusals.specs.declared.Refusal.TheVariants.{Malformed}
 use Rattle.heads.specs.Fields.{marked}
 use Rattle.heads.proofs.read_mark.Goals as goal
 
@@ -26,7 +26,7 @@ unfolding give refuse
 picked (Some k) m = refl
 picked None m = refl
 
-step : (o : Option (Option AbilitySet)) (x : ℕ) (l m : Bytes) (r : Result (Option AbilitySet) ReadError) → marked o ≡ mark_of x → got x m ≡ byte l → r ≡ ok_or o Malformed → read_as mark-is r m ≡ read_mark l
+step : (o : Option (Option AbilitySet)) (x : ℕ) (l m : Bytes) (r : Result (Option AbilitySet) Refusal) → marked o ≡ mark_of x → got x m ≡ byte l → r ≡ ok_or o Malformed → read_as mark-is r m ≡ read_mark l
 unfolding read_mark ◌>>=◌ go_on
 step o x l m r e f q = rw q (picked o m ∙ ap (λ (k : Option d.AbilityMark). pick k m) e ∙ rw (← f) refl)
 

@@ -85,7 +85,7 @@ instantiate_down-returns-in_ok-p-in-Ref t c =
 pub instantiate_down-instantiate_apply-requires : goal.instantiate_down-instantiate_apply-requires
 instantiate_down-instantiate_apply-requires t c = (
   omega (arith, c.decreases, c.if-left-eq0.false),
-  named_below _ _ _ _ _ _ c.requires (named _ _ _ _ c.args.st.now.lay c.requires c.node_at-node.ensures _ _ _ _ c.in-Apply.is),
+  named_below _ _ _ _ _ _ c.requires (named _ _ _ _ c.args.st.now.lay c.requires c.node_at-node.ensures _ c.in-Apply.is),
 )
 
 pub instantiate_down-returns-in-Apply : goal.instantiate_down-returns-in-Apply

@@ -13,7 +13,7 @@ unfolding places
 as-stored UnitS = refl
 as-stored (Ref m t) = refl
 as-stored (Param id a) = refl
-as-stored (Apply k n first many) = refl
+as-stored (Apply a) = refl
 as-stored (Var v) = refl
 as-stored Anything = refl
 as-stored UnresolvedError = refl

@@ -17,7 +17,7 @@ returns-in-Ref c = let pre = c.requires in
 pub returns-in-Apply : goal.returns-in-Apply
 returns-in-Apply c = let pre = c.requires in
     let node_at = c.node_at-n in
-    anew_apply _ _ pre.0 node_at.result node_at.ensures _ pre.1.0 _ _ _ _ c.in-Apply.is _
+    anew_apply _ _ pre.0 node_at.result node_at.ensures _ pre.1.0 _ c.in-Apply.is _
     c.push_apply.ensures
 
 pub returns-in_default : goal.returns-in_default

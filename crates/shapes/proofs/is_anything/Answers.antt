@@ -17,4 +17,4 @@ returns-in-Anything c = λ st. rw c.in-Anything.is refl
 pub returns-in_default : goal.returns-in_default
 unfolding is_anything with_args
 returns-in_default c = other_shapes (0 ∷ 1 ∷ 2 ∷ 3 ∷ 4 ∷ 6 ∷ []) (λ s. (st : State) → false ≡ is_anything (with_args st (shape_of s)))
-    (λ st. refl) (λ m t st. refl) (λ id a st. refl) (λ k n first many st. refl) (λ v st. refl) tt (λ st. refl) c.args.s (opened c.in_default.in_default-own.keys2)
+    (λ st. refl) (λ m t st. refl) (λ id a st. refl) (λ a st. refl) (λ v st. refl) tt (λ st. refl) c.args.s (opened c.in_default.in_default-own.keys2)

@@ -11,7 +11,7 @@ pub returns-in-Ref : goal.returns-in-Ref
 returns-in-Ref c = λ ds l. part_ref _ _ _ _ _ c.in-Ref.is l
 
 pub returns-in-Apply : goal.returns-in-Apply
-returns-in-Apply c = λ ds l. part_apply _ _ _ _ _ _ _ _ c.in-Apply.is l (c.arg_at.ensures ds)
+returns-in-Apply c = λ ds l. part_apply _ _ _ _ _ c.in-Apply.is l (c.arg_at.ensures ds)
 
 pub returns-in_default : goal.returns-in_default
 returns-in_default c = λ ds l. ap (λ (x : List ℕ). get_or x c.args.i 0) (no_parts c.args.s (opened c.in_default.in_default-own.keys3) _)

@@ -19,7 +19,7 @@ unfolding undecided with_args
 decided UnitS a e st = refl
 decided (Ref m t) a e st = refl
 decided (Param id k) a e st = refl
-decided (Apply k n first many) a e st = refl
+decided (Apply t) a e st = refl
 decided (Var v) a e st = refl
 decided Anything a e st = absurd (a refl)
 decided UnresolvedError a e st = absurd (e refl)

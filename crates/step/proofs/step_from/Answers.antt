@@ -23,8 +23,8 @@ returns-in-Err g c =
     let (e, p) = c.requires in
     let o = c.left_over.ensures in
     let v = sym c.verdict_of.ensures ∙ c.in-Err.is in
-    let settled = c.settle_refusal.ensures in
-    steps_refused c.args.st.now _ _ p.0 p.1.0 c.args.before e.1.0 e.1.1 c.read_record-f.ensures c.args.whole _ o p.1.1.0 c.place_after-next.ensures v c.number.ensures (λ x buf n. rw e.0 at (settled x buf n)) _ c.with_next-in-Err.ensures
+    let settled = c.settle_refusal.ensures c.args.buf.now in
+    steps_refused c.args.st.now _ _ p.0 p.1.0 c.args.before e.1.0 e.1.1 c.read_record-f.ensures c.args.whole _ o p.1.1.0 c.place_after-next.ensures v (rw e.0 at settled) c.with_next-in-Err.ensures
 
 pub returns-in-Ok : goal.returns-in-Ok
 returns-in-Ok g c =

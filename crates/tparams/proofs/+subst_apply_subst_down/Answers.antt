@@ -58,7 +58,7 @@ subst_down-returns-in_err-p-in-Ref t c =
 pub subst_down-subst_apply-requires : goal.subst_down-subst_apply-requires
 subst_down-subst_apply-requires t c = (
   omega (arith, c.decreases, c.if-left-eq0.false),
-  (named_below _ _ _ _ _ _ c.requires.0 (named _ _ _ _ c.args.st.now.lay c.requires.0 c.node_at-node.ensures _ _ _ _ c.in-Apply.is), c.requires.1),
+  (named_below _ _ _ _ _ _ c.requires.0 (named _ _ _ _ c.args.st.now.lay c.requires.0 c.node_at-node.ensures _ c.in-Apply.is), c.requires.1),
 )
 
 pub subst_down-returns-in-Unit : goal.subst_down-returns-in-Unit

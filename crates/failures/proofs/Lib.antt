@@ -1,0 +1,3 @@
+-- Bytes in pieces, and the failures as such pieces. Assumes nothing.
+mod Series
+mod Rows

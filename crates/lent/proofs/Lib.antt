@@ -1,0 +1,2 @@
+-- Laws of what is lent. Assumes nothing.
+pub mod Passed

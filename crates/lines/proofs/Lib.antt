@@ -1,0 +1,2 @@
+-- Laws of a job's lines. Assumes nothing.
+pub mod Jobs

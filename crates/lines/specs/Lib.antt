@@ -1,0 +1,2 @@
+-- What a stream's lines leave. Assumes nothing: these are definitions.
+pub mod Lists

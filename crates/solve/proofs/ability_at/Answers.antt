@@ -1,7 +1,0 @@
--- `solve::ability_at` meets its contract. Assumes nothing.
-use mathlib.Core.Path.{refl}
-use Rattle.solve.proofs.Rows.{is_ability}
-use Rattle.solve.proofs.ability_at.Goals as goal
-
-pub returns : goal.returns
-returns c = (is_ability _ c.requires, refl)

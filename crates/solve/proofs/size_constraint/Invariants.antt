@@ -1,9 +1,0 @@
--- `solve::size_constraint` meets its contract. Assumes nothing.
-use Rattle.abilities.specs.Kept.{Knows}
-use Rattle.table.specs.State.{constraint_of}
-use Rattle.failing.proofs.Series.{Sized}
-use Rattle.solve.proofs.Rows.{all_rows, rows_from}
-use Rattle.solve.proofs.size_constraint.Given as goal
-
-abbrev pub invariant-loop-k : goal.invariant-loop-k
-invariant-loop-k l = Sized (Knows l.st l.params) l.n (rows_from l.st (constraint_of l.c)) (all_rows l.st (constraint_of l.c)) l.room l.left l.k

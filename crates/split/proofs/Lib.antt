@@ -1,0 +1,2 @@
+-- Laws of the splitter. Assumes nothing.
+pub mod Laws

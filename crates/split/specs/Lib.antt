@@ -1,0 +1,2 @@
+-- What the splitter gives. Assumes nothing: these are definitions.
+pub mod Rest
