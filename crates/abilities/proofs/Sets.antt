@@ -28,7 +28,8 @@ use Rattle.table.specs.declared.Applied.{Applied}
 use Rattle.shapes.proofs.Tags.{other_shapes}
 use Rattle.ends.specs.Itself.{Goes_on}
 use Rattle.table.proofs.Pushed.{count_seen}
-use Rattle.ends.proofs.Lists.{all_one, zero_at}
+use Rattle.ends.proofs.Lists.{all_one}
+use Rattle.subst.proofs.Lists.{zero_at}
 use Rattle.abilities.specs.Kept.{Knows, parts_of, part_count, Ends, HasSet, Kept, PartsKept, Ready, ArgsReady, Inferred}
 
 -- ---- the parts of a type whose reading is over

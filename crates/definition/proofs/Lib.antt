@@ -1,5 +1,6 @@
 pub mod AnswersJoin
 pub mod AnswersMerge
+pub mod AnswersOccurs
 pub mod AnswersReading
 pub mod AnswersRecords
 pub mod AnswersReferences

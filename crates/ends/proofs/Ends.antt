@@ -19,7 +19,7 @@ use Rattle.ends.specs.Ends.{EndsBy, Noted, Meets}
 use Rattle.ends.specs.declared.Meeting.{Meeting}
 use Rattle.table.proofs.Pushed.{taken_seen}
 use Rattle.subst.proofs.Laws.{forward_none, forward_some}
-use Rattle.ends.proofs.Lists.{zero_at}
+use Rattle.subst.proofs.Lists.{zero_at}
 
 -- ---- a chain that ends
 

@@ -25,7 +25,8 @@ use Rattle.subst.specs.Answers.{unfolded, UnfoldedIn, Unfolds}
 use Rattle.ends.specs.Itself.{Goes_on, EndsAt, Measured, Levels, Soon}
 use Rattle.subst.specs.declared.Unfolded.{Unfolded}
 use Rattle.subst.specs.declared.Unfolded.TheVariants.{Node as NodeU, Anything}
-use Rattle.ends.proofs.Lists.{all_all, all_one, zero_at}
+use Rattle.subst.proofs.Lists.{zero_at}
+use Rattle.ends.proofs.Lists.{all_all, all_one}
 use Rattle.table.proofs.Grown.{value_is}
 use Rattle.table.proofs.Pushed.{count_seen}
 use Rattle.shapes.proofs.Nodes.{Low, below_low, inside_seen}

@@ -1,11 +1,11 @@
--- Lists of node numbers by their entries: what `all_of` gives, and the entries of a table of zeros. Assumes nothing.
+-- Lists of node numbers by their entries: what `all_of` gives. Assumes nothing.
 use mathlib.Core.Path.{◌≡◌, refl, ap, ◌∙◌}
 use mathlib.Core.Bool.{Bool, true, false, ◌&&◌}
 use mathlib.Core.List.{List, [], ◌∷◌}
 use Prim.Native.Nat.{ℕ, zero, suc, ◌<◌}
 use native.Mathlib.Nat.{not-suc-le-zero}
 use native.Mathlib.Omega.{arith}
-use lib.ListN.{length, get_or, replicate, length-replicate, get_or-replicate, get_or-eq_default}
+use lib.ListN.{length, get_or}
 use Rattle.definition.specs.Store.{all_of}
 
 all_cons : (f : ℕ → Bool) (t : ℕ) (ts : List ℕ) (b : Bool) → f t ≡ b → all_of f (t ∷ ts) ≡ (b && all_of f ts)
@@ -28,7 +28,3 @@ all_one f [] i h e = absurd (not-suc-le-zero h)
 all_one f (t ∷ ts) zero h e = all_cons f t ts false e
 all_one f (t ∷ ts) (suc i) h e =
     all_cons f t ts (f t) refl ∙ ap (λ (b : Bool). f t && b) (all_one f ts i (omega arith) e) ∙ and_false (f t)
-
-pub zero_at : (n t : ℕ) → Dec (t < n) → ◌≡◌ {A = ℕ} (get_or (replicate n 0) t 0) 0
-zero_at n t (yes l) = get_or-replicate n t 0 0 l
-zero_at n t (no l) = get_or-eq_default (replicate n 0) 0 (rw (length-replicate {A = ℕ} n 0) (omega arith))

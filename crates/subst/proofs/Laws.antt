@@ -148,19 +148,19 @@ module _ (s : State) (tvar ty : ℕ) where
   binds_failed b c z = stays (Err NotNumeric) (λ ds loc. bind_failed (held s ds) loc tvar ty (sym (c ds) ∙ z))
 
   module _ (b : Bool) (c : All s (λ x. b ≡ check_num_tvar x tvar ty)) (bt : b ≡ true) where
-    pub binds_used : (o : Bool) → All s (λ x. o ≡ used (suc ty) x tvar ty) → o ≡ true → Binds s s (Err Recursive) tvar ty
-    binds_used o e z = stays (Err Recursive) (λ ds loc. bind_used (held s ds) loc tvar ty (sym (c ds) ∙ bt) (sym (e ds) ∙ z))
+    pub binds_used : All s (λ x. used (suc ty) x tvar ty ≡ true) → Binds s s (Err Recursive) tvar ty
+    binds_used e = stays (Err Recursive) (λ ds loc. bind_used (held s ds) loc tvar ty (sym (c ds) ∙ bt) (e ds))
 
-    module _ (o : Bool) (e : All s (λ x. o ≡ used (suc ty) x tvar ty)) (ot : o ≡ false) (n : Node) (g : All s (λ x. node_of n ≡ node x ty)) (a : Bool)
+    module _ (e : All s (λ x. used (suc ty) x tvar ty ≡ false)) (n : Node) (g : All s (λ x. node_of n ≡ node x ty)) (a : Bool)
         (i : (x : d.State) → a ≡ is_anything (with_args x (shape_of n.shape))) where
       is_any : (ds : List Struct) → is_anything (type_at (held s ds) ty) ≡ a
       is_any ds = sym (i (held s ds) ∙ ap is_anything (value_is (held s ds) ty n (g ds)))
 
       pub binds_anything : a ≡ true → Binds s s (Ok tt) tvar ty
-      binds_anything z = stays (Ok tt) (λ ds loc. bind_anything (held s ds) loc tvar ty (sym (c ds) ∙ bt) (sym (e ds) ∙ ot) (is_any ds ∙ z))
+      binds_anything z = stays (Ok tt) (λ ds loc. bind_anything (held s ds) loc tvar ty (sym (c ds) ∙ bt) (e ds) (is_any ds ∙ z))
 
       pub binds_stored : {t : State} → Kept s t (λ x. insert x tvar ty) → a ≡ false → Binds s t (Ok tt) tvar ty
       binds_stored h z = record {
-        changed = became_is (λ ds k i loc. bind_stored (held s ds) loc tvar ty (sym (c ds) ∙ bt) (sym (e ds) ∙ ot) (is_any ds ∙ z) i) (became_as (λ x loc. ok (x, true)) h.changed (λ x. refl));
+        changed = became_is (λ ds k i loc. bind_stored (held s ds) loc tvar ty (sym (c ds) ∙ bt) (e ds) (is_any ds ∙ z) i) (became_as (λ x loc. ok (x, true)) h.changed (λ x. refl));
         used = h.used;
       }

@@ -2,14 +2,15 @@
 // Changed from the source that NOTICE names: ported to Rattle.
 #![tactic(auto)]
 
-ghost use Rattle.std.specs.Prelude.{◌≡◌, false, List, ℕ, suc, ◌<◌, Some};
+ghost use Rattle.std.specs.Prelude.{◌≡◌, List, ℕ, ◌<◌};
 ghost use Rattle.definition.specs.Types as d;
 ghost use Rattle.definition.specs.Store.{type_at, spanned};
 ghost use Rattle.definition.specs.Subst.{next_of, forward_tvar, set_num_var};
-ghost use Rattle.definition.specs.Join.{is_num_var, num_shape, check_num_tvar', check_num_tvar, used};
+ghost use Rattle.definition.specs.Join.{is_num_var, num_shape, check_num_tvar', check_num_tvar};
+ghost use Rattle.definition.specs.Spelled.{cut};
 ghost use Rattle.table.specs.Did.{held, Kept};
 ghost use Rattle.shapes.specs.Parts.{next};
-ghost use Rattle.subst.specs.Answers.{Unfolds, var_at, Clear, Binds};
+ghost use Rattle.subst.specs.Answers.{Unfolds, var_at, Looked, SoonLooked, Counted, Binds};
 
 use names::TVar;
 use table::state::State;
@@ -141,62 +142,102 @@ pub fn check_num_tvar(st: &State<'_>, tvar: TVar, ty: u32) -> bool
 
 // ---- the occurs walk
 
-// Whether tvar is in node t: down into every part, following no binding. A node without it is marked, so each is looked at once.
-// It returns early: `any` over the parts would need clauses on its closure, which marks nodes as it goes.
-fn used_in(st: &State<'_>, tvar: TVar, t: u32, marks: &mut [bool]) -> bool
-    requires { (t < st.now.used.nodes) × Clear st.now tvar.0 marks.old }
-    ensures { ((ds : List d.Struct) → result ≡ used (suc t) (held st.now ds) tvar.0 t) × Clear st.now tvar.0 marks.new }
+// Whether the variable was met, and how many parts of the type's spelling were looked at, at most 4,096.
+#[derive(Clone, Copy)]
+pub enum Occurs {
+    Met(u32),
+    Clear(u32),
+}
+
+const MAX_LOOKED: u32 = 4096;
+
+fn cut(n: u32) -> u32
+    ensures { result ≡ cut n }
 {
-    if marks[t as usize] {
-        return false;
-    }
-    let n = st.node_at(t);
-    let s = n.shape;
+    n.min(MAX_LOOKED)
+}
+
+// Down into the parts of node t from the left, up to the first tvar, following no binding. A node without tvar gets its number of parts, so each is entered once.
+// A part's number is tested before the call, which many parts then do without.
+fn used_in(st: &State<'_>, tvar: TVar, t: u32, counts: &mut [u16]) -> Occurs
+    requires { (t < st.now.used.nodes) × Counted st.now tvar.0 counts.old }
+    ensures { Looked st.now tvar.0 t result × Counted st.now tvar.0 counts.new }
+{
+    let s = st.node_at(t).shape;
     if shapes::is_var(tvar, s) {
-        return true;
+        return Occurs::Met(1);
     }
+    let mut looked: u32 = 1;
     for i in 0..shapes::part_count(s) {
         let p = shapes::part_at(st, s, i);
-        if used_in(st, tvar, p, marks) {
-            return true;
+        let known = counts[p as usize];
+        if 0 < known {
+            looked = cut(looked + u32::from(known));
+            continue;
+        }
+        match used_in(st, tvar, p, counts) {
+            Occurs::Met(n) => return Occurs::Met(cut(looked + n)),
+            Occurs::Clear(n) => looked = cut(looked + n),
         }
     }
-    marks[t as usize] = true;
-    false
+    // By `as`: it is at most 4,096, and `try_from` would need an arm for what cannot be.
+    counts[t as usize] = looked as u16;
+    Occurs::Clear(looked)
 }
 
-// How many of `budget` parts are left once tvar is seen not to be in node t; none if it is there, or not so soon.
-fn soon_clear(st: &State<'_>, tvar: TVar, t: u32, budget: u32) -> Option<u32>
+// So many parts are looked at without a table first.
+const BUDGET: u32 = 64;
+
+// What is left of a budget of parts where the variable is met, or where all parts are looked at; `Later` if the budget does not do.
+enum Soon {
+    Met(u32),
+    Clear(u32),
+    Later,
+}
+
+// The walk without a table, which ends once `budget` parts are looked at.
+fn soon_used(st: &State<'_>, tvar: TVar, t: u32, budget: u32) -> Soon
     requires { t < st.now.used.nodes }
-    ensures { (rest : ℕ) → result ≡ Some rest → (ds : List d.Struct) → used (suc t) (held st.now ds) tvar.0 t ≡ false }
+    ensures { SoonLooked st.now tvar.0 t budget result }
 {
-    let mut rest = budget.checked_sub(1)?;
-    let n = st.node_at(t);
-    let s = n.shape;
+    let Some(left) = budget.checked_sub(1) else {
+        return Soon::Later;
+    };
+    let s = st.node_at(t).shape;
     if shapes::is_var(tvar, s) {
-        return None;
+        return Soon::Met(left);
     }
+    let mut rest = left;
     for i in 0..shapes::part_count(s) {
         let p = shapes::part_at(st, s, i);
-        rest = soon_clear(st, tvar, p, rest)?;
+        match soon_used(st, tvar, p, rest) {
+            Soon::Clear(left) => rest = left,
+            over => return over,
+        }
     }
-    Some(rest)
+    Soon::Clear(rest)
 }
 
-fn used_with_marks(st: &State<'_>, tvar: TVar, ty: u32) -> bool
+// Not inlined, so that the table is in no frame of a join.
+#[inline(never)]
+fn used_with_counts(st: &State<'_>, tvar: TVar, ty: u32) -> Occurs
     requires { ty < st.now.used.nodes }
-    ensures { (ds : List d.Struct) → result ≡ used (suc ty) (held st.now ds) tvar.0 ty }
+    ensures { Looked st.now tvar.0 ty result }
 {
-    let mut marks = [false; 2048];
-    used_in(st, tvar, ty, &mut marks)
+    let mut counts = [0; 2048];
+    used_in(st, tvar, ty, &mut counts)
 }
 
-// used_tvars(ty) has tvar. A type of at most 64 parts needs no marks.
-pub fn used_tvars(st: &State<'_>, tvar: TVar, ty: u32) -> bool
+// Whether used_tvars(ty) has tvar, and how many parts were looked at.
+pub fn used_tvars(st: &State<'_>, tvar: TVar, ty: u32) -> Occurs
     requires { ty < st.now.used.nodes }
-    ensures { (ds : List d.Struct) → result ≡ used (suc ty) (held st.now ds) tvar.0 ty }
+    ensures { Looked st.now tvar.0 ty result }
 {
-    soon_clear(st, tvar, ty, 64).is_none() && used_with_marks(st, tvar, ty)
+    match soon_used(st, tvar, ty, BUDGET) {
+        Soon::Met(rest) => Occurs::Met(BUDGET - rest),
+        Soon::Clear(rest) => Occurs::Clear(BUDGET - rest),
+        Soon::Later => used_with_counts(st, tvar, ty),
+    }
 }
 
 // ---- join_bind_tvar
@@ -209,7 +250,7 @@ pub fn join_bind_tvar(st: &mut State<'_>, tvar: TVar, ty: u32) -> Result<(), Bin
     if !check_num_tvar(st, tvar, ty) {
         return Err(BindError::NotNumeric);
     }
-    if used_tvars(st, tvar, ty) {
+    if let Occurs::Met(_) = used_tvars(st, tvar, ty) {
         return Err(BindError::Recursive);
     }
     let n = st.node_at(ty);

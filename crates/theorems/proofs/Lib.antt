@@ -67,6 +67,7 @@ pub mod NeedsRecord
 pub mod Stream
 pub mod SoundPoints
 pub mod Erase
+pub mod Spelled
 pub mod EraseJoin
 pub mod EraseRead
 pub mod EraseShown

@@ -14,7 +14,7 @@ use Rattle.theorems.proofs.DemandTracks.{never}
 use Rattle.theorems.proofs.DemandOrder.{All, Sound}
 use Rattle.theorems.proofs.SoundFacts.{facts}
 
-each_same : (f g : ℕ → Bytes) (P : ℕ → Type 0) → ((p : ℕ) → P p → f p ≡ g p) → (ps : List ℕ) → All P ps → each f ps ≡ each g ps
+pub each_same : (f g : ℕ → Bytes) (P : ℕ → Type 0) → ((p : ℕ) → P p → f p ≡ g p) → (ps : List ℕ) → All P ps → each f ps ≡ each g ps
 unfolding each
 each_same f g P h [] a = refl
 each_same f g P h (p ∷ ps) a = rw (h p a.0, each_same f g P h ps a.1) refl

@@ -1,9 +1,9 @@
 -- `subst::used_in` meets its contract. Assumes nothing.
-use Rattle.subst.proofs.Occurs.{Passed}
+use Rattle.subst.proofs.Walk.{Walked}
 use Rattle.subst.proofs.+used_in.Given as goal
 
 abbrev pub decreases-used_in : goal.decreases-used_in
 decreases-used_in l = l.t
 
 abbrev pub invariant-loop-i : goal.invariant-loop-i
-invariant-loop-i l = Passed l.st l.tvar.0 l.t l.s l.i-end l.marks l.i
+invariant-loop-i l = Walked l.st l.tvar.0 l.t l.s l.i-end l.counts l.i l.looked

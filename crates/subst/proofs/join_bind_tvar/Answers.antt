@@ -5,19 +5,18 @@ use Rattle.subst.proofs.join_bind_tvar.Goals as goal
 pub returns-then-not-check_num_tvar : goal.returns-then-not-check_num_tvar
 returns-then-not-check_num_tvar c = binds_failed _ _ _ _ c.check_num_tvar.ensures c.if-not-check_num_tvar.true
 
-pub returns-then-used_tvars : goal.returns-then-used_tvars
-returns-then-used_tvars c = binds_used _ _ _ _ c.check_num_tvar.ensures c.if-not-check_num_tvar.false _ c.used_tvars.ensures c.if-used_tvars.true
+pub returns-in-Met : goal.returns-in-Met
+returns-in-Met c = binds_used _ _ _ _ c.check_num_tvar.ensures c.if-not-check_num_tvar.false c.in-Met.ensures.is
 
 pub returns-else-not-is_anything : goal.returns-else-not-is_anything
 returns-else-not-is_anything c =
     let node_at = c.node_at-n in
-    binds_anything _ _ _ _ c.check_num_tvar.ensures c.if-not-check_num_tvar.false _ c.used_tvars.ensures
-    c.if-used_tvars.false node_at.result node_at.ensures _
+    binds_anything _ _ _ _ c.check_num_tvar.ensures c.if-not-check_num_tvar.false c.in_default.ensures.is node_at.result node_at.ensures _
     c.is_anything.ensures c.if-not-is_anything.false
 
 pub returns-then-not-is_anything : goal.returns-then-not-is_anything
 returns-then-not-is_anything c =
     let node_at = c.node_at-n in
-    binds_stored _ _ _ _ c.check_num_tvar.ensures c.if-not-check_num_tvar.false _ c.used_tvars.ensures c.if-used_tvars.false node_at.result
+    binds_stored _ _ _ _ c.check_num_tvar.ensures c.if-not-check_num_tvar.false c.in_default.ensures.is node_at.result
     node_at.ensures _ c.is_anything.ensures c.bind_var.ensures
     c.if-not-is_anything.true
