@@ -29,8 +29,11 @@ over_rt_ci() {
     [ ! -e "$root/crates/$crate/out/rlib/stamp" ] || return 1
     below+=(-L "dependency=$root/crates/$crate/out/rlib")
   done
+  for crate in $(sed -n 's/^exports staticlib://p' "$root/crates.txt"); do
+    below+=(--extern "$crate=$root/crates/$crate/out/rlib/$crate.rlib")
+  done
   "$kit/bin/rattle" build --crate-name exports src/lib.rt --crate-type staticlib --extern "std=$kit/rlibs/std.rlib" -L "dependency=$kit/rlibs" \
-    --extern "engine=$root/crates/engine/out/rlib/engine.rlib" "${below[@]}" --antt-project "$kit/rattle/logic/antt-project.json" \
+    "${below[@]}" --antt-project "$kit/rattle/logic/antt-project.json" \
     --logic-built "$kit/logic_built" --jobs 2 --toolchain "$kit/toolchain" --backend llvm -o "$made"
 }
 

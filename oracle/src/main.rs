@@ -214,7 +214,8 @@ fn run(args: Vec<String>) -> i32 {
         Some("traps") => {
             let (lines, slowest) = traps::run(engine(false));
             lines.iter().for_each(|l| println!("{}", l.text()));
-            println!("slowest call: {:.3} ms", slowest * 1000.0);
+            let [lent, job] = traps::most_stack(&lines);
+            println!("slowest call: {:.3} ms; most stack: {} bytes lent, {} as a job", slowest * 1000.0, lent, job);
             return (slowest >= traps::LIMIT) as i32;
         }
         Some("damage") => return hurt(&words, engine(flag("--mimic"))),

@@ -20,12 +20,16 @@ pub struct Line {
     pub payload: usize,
     /// the best of three
     pub seconds: f64,
+    /// bytes of stack that the record took, lent and as a job, from the caller's frame on
+    pub stack: [usize; 2],
 }
 
 impl Line {
     pub fn text(&self) -> String {
         let (n, ms) = (self.number, self.seconds * 1000.0);
-        format!("{:<8} {:<34} {:>2}, {:>4} bytes, {:.3} ms", self.state, self.record, n, self.payload, ms)
+        let [lent, job] = self.stack;
+        let answer = format!("{:<8} {:<34} {:>2}, {:>4} bytes, {:.3} ms", self.state, self.record, n, self.payload, ms);
+        format!("{}, stack {} and {}", answer, lent, job)
     }
 }
 
@@ -224,19 +228,28 @@ fn tried(calls: &(dyn Calls + Sync), state: &'static str, lent: &Lent, record: &
         let (number, _, log) = lender.job(&bytes, false, LINE, 0).unwrap();
         (number, log, lender.lent())
     };
-    let (mut seconds, mut answer) = (f64::MAX, None);
+    let (_, by_record) = on_a_thread(STACK, || painted(call));
+    let (mut seconds, mut answer, mut by_job) = (f64::MAX, None, 0);
     for _ in 0..3 {
         let (took, a, left) = on_a_thread(STACK, call);
         seconds = took.min(seconds);
         assert_ne!(a.number, 15);
         assert_eq!(sound(&left.words, &left.params), Ok(()));
-        let (number, log, left_by_job) = on_a_thread(STACK, job);
+        let ((number, log, left_by_job), stack) = on_a_thread(STACK, || painted(job));
+        by_job = stack;
         assert_eq!((number, log), (0, line(&a).into_bytes()));
         assert!(left_by_job == left, "{}: {}", state, record);
         answer = Some(a)
     }
     let a = answer.unwrap();
-    Line { state, record: record.into(), number: a.number, payload: a.payload.len(), seconds }
+    Line {
+        state,
+        record: record.into(),
+        number: a.number,
+        payload: a.payload.len(),
+        seconds,
+        stack: [by_record, by_job],
+    }
 }
 
 /// the log's line of record 0
@@ -247,6 +260,37 @@ fn line(a: &Answer) -> String {
 
 fn on_a_thread<T: Send>(stack: usize, work: impl FnOnce() -> T + Send) -> T {
     std::thread::scope(|s| std::thread::Builder::new().stack_size(stack).spawn_scoped(s, work).unwrap().join().unwrap())
+}
+
+//---- the stack that a call takes ---------------------------------------------------------------------------
+
+const COLOUR: u8 = 0xa5;
+/// what a thread keeps above the frames that are looked at, and a page or more that is not painted
+const KEPT: usize = 32 << 10;
+
+/// The stack below this function's frame, up to where a thread of STACK bytes surely has it, in one colour; the frame's place.
+#[inline(never)]
+fn paint() -> usize {
+    let frame = 0u8;
+    let here = std::hint::black_box(std::ptr::addr_of!(frame)) as usize;
+    // below the frame nothing is live, but for the 128 bytes that a function may use without saying so
+    (here - (STACK - KEPT)..here - 256).for_each(|at| unsafe { (at as *mut u8).write_volatile(COLOUR) });
+    here
+}
+
+/// How far down below that place another colour is found.
+#[inline(never)]
+fn taken(here: usize) -> usize {
+    let deepest = (here - (STACK - KEPT)..here).find(|at| unsafe { (*at as *const u8).read_volatile() } != COLOUR);
+    here - deepest.unwrap_or(here)
+}
+
+/// What the work gives, and how much stack it took.
+#[inline(never)]
+fn painted<T>(work: impl FnOnce() -> T) -> (T, usize) {
+    let here = paint();
+    let given = work();
+    (given, taken(here))
 }
 
 /// as many constraints of a kind, as the words number them, as have room in an answer where all fail
@@ -268,6 +312,11 @@ fn asked(lent: &Lent, many: usize, kind: u32, set: u8) -> Lent {
     let node = s.view().binding(0).unwrap();
     (0..many).all(|_| s.add_constraint(kind, 1, node, set).is_some());
     s
+}
+
+/// The most stack that a call took, lent and as a job.
+pub fn most_stack(lines: &[Line]) -> [usize; 2] {
+    [0, 1].map(|k| lines.iter().map(|l| l.stack[k]).max().unwrap_or(0))
 }
 
 /// Every record on every state, each call on a thread of its own; and the slowest call's seconds.

@@ -429,7 +429,10 @@ fn traps_are_answered_at_once() {
     assert_eq!((asks_for("a number"), asks_for("bits"), asks_for("an order")), (0, 0, 0));
     let all_four = lines.iter().find(|l| l.state == "numeric" && l.record == "SV, 60 ask for all four").unwrap();
     assert!(all_four.number == 0 && all_four.payload > 4000, "{}", all_four.text());
-    assert!(slowest < traps::LIMIT, "{} s", slowest)
+    assert!(slowest < traps::LIMIT, "{} s", slowest);
+    // what is deepest is seen: RD of a type 2,046 deep, 224 bytes a level
+    let stacks = traps::most_stack(&lines);
+    assert!(stacks.iter().all(|stack| (2046 * 200..traps::STACK).contains(stack)), "{:?}", stacks)
 }
 
 #[test]
