@@ -2,3 +2,4 @@
 pub mod Settling
 pub mod Cases
 pub mod Calls
+pub mod Growing

@@ -4,7 +4,7 @@ use Rattle.definition.specs.Types as d
 use Rattle.definition.specs.Types.{Struct}
 use Rattle.definition.specs.Step as step
 use Rattle.table.specs.State.{seen, Declares}
-use Rattle.table.specs.Did.{held}
+use Rattle.table.specs.Did.{held, Linked}
 use Rattle.table.specs.declared.state.State.{State}
 use Rattle.snapshot.specs.declared.before.Before.{Before}
 use Rattle.payload.specs.declared.Answer.{Answer}
@@ -12,7 +12,7 @@ use Rattle.payload.specs.declared.Answer.{Answer}
 -- at entry there were the words w₀, of which b was saved, and after the run the state s. It became t, in the same words, and buf became buf' with the
 -- payload in front and all else as it was; number, payload and state are as f says
 pub record AnswersIn (w₀ : List ℕ) (b : Before) (s t : State) (buf buf' : List ℕ) (r : Answer) (f : d.State → d.State → step.Answer) : Type 0 where
-  pub same : t.words.ghost_name ≡ s.words.ghost_name
+  pub same : Linked s t
   pub used : r.used ≡ t.used
   pub few : r.len ≤ 4096
   pub rest : buf' ≡ take r.len buf' ++ drop r.len buf

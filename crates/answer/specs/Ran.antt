@@ -6,12 +6,14 @@ use Rattle.definition.specs.Types.{State, Struct, Result, ok, err, ◌>>=◌}
 use Rattle.definition.specs.Write.{Bytes}
 use Rattle.definition.specs.Step as step
 use Rattle.definition.specs.Step.{answer, refusal}
+use Rattle.theorems.specs.ReadySpelled.{spell_ready, with_state}
 use Rattle.table.specs.State.{outcome, seen, Lay, Declares}
 use Rattle.table.specs.Did.{StopIn}
 use Rattle.table.specs.declared.Used.{Used}
 use Rattle.table.specs.declared.state.Stop.{Stop}
 use Rattle.table.specs.declared.state.Stop.TheVariants.{Failed, Refused}
-use Rattle.snapshot.specs.Snap.{Saved, Since}
+use Rattle.snapshot.specs.Snap.{Saved, Rows, Since}
+use Rattle.table.specs.Touched.{Stay}
 use Rattle.payload.specs.declared.Answer.{Answer}
 use Rattle.payload.specs.declared.Show.{Show}
 use Rattle.payload.specs.Payload.{shown, Shows}
@@ -50,6 +52,10 @@ failure e after before = answer before (err after e)
 abbrev pub refused_by : d.Refusal → State → State → step.Answer
 refused_by x after before = refusal before x
 
+-- RD of type t
+abbrev pub spelled_by : ℕ → State → State → step.Answer
+spelled_by t after before = answer before (with_state before (spell_ready after t))
+
 -- ---- what an answer asks
 
 -- no variable was taken, and those that are there are as they were saved
@@ -66,8 +72,9 @@ pub record Settled (w₀ : List ℕ) (before : Used) (w : List ℕ) (u : Used) (
       → f (seen w u ds) (seen w₀ before ds₀) ≡ record { number = r.number; payload = take r.len buf'; state = seen w' r.used (if r.kept then ds else ds₀) }
   pub declares : (ds₀ ds : List Struct) → Declares w₀ before ds₀ → Declares w u ds → Declares w' r.used (if r.kept then ds else ds₀)
 
--- w with u in use became w', and buf became buf' with the payload in front and all else as it was; number, payload and state are as f says
-pub record Answers (w : List ℕ) (u before : Used) (saved buf w' buf' : List ℕ) (r : Answer) (f : State → State → step.Answer) : Type 0 where
+-- w with u in use became w', whose variables that are not noted are as they were, and buf became buf' with the payload in front and all else as it was; number, payload and state are as f says
+pub record Answers (w : List ℕ) (u before : Used) (saved : Rows) (buf w' buf' : List ℕ) (r : Answer) (f : State → State → step.Answer) : Type 0 where
   pub few : r.len ≤ 4096
   pub rest : buf' ≡ take r.len buf' ++ drop r.len buf
+  pub stay : Stay saved.touched before.vars w w'
   pub settled : (w₀ : List ℕ) → Since w₀ before saved w u → Settled w₀ before w u w' buf' r f

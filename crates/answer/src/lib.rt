@@ -1,7 +1,7 @@
 // From what a run left to its answer: the payload written, and the state kept, put back or as it was at entry.
 #![tactic(auto)]
 
-ghost use Rattle.std.specs.Prelude.{◌≡◌, false, List, ℕ, ◌≤◌, length, Ok};
+ghost use Rattle.std.specs.Prelude.{◌≡◌, false, List, ℕ, ◌≤◌, ◌<◌, length, Ok};
 ghost use Rattle.definition.specs.Types as d;
 ghost use Rattle.definition.specs.Write.{write_error};
 ghost use Rattle.definition.specs.Step.{number_of_error};
@@ -9,10 +9,12 @@ ghost use Rattle.refusals.specs.Refusals.{refusal_of};
 ghost use Rattle.table.specs.State.{error_of, view, seen, Lay, TypesIn};
 ghost use Rattle.table.specs.Did.{tables};
 ghost use Rattle.snapshot.specs.Snap.{Above};
-ghost use Rattle.snapshot.specs.Back.{GrownFrom};
+ghost use Rattle.snapshot.specs.Back.{rows_of, GrownFrom};
 ghost use Rattle.writer.specs.Bytes.{AllBytes};
 ghost use Rattle.payload.specs.Payload.{shown, Shows, Paid};
-ghost use Rattle.answer.specs.Ran.{Tells, Settles, Still, answered, success, failure, refused_by, Answers};
+ghost use Rattle.theorems.specs.ReadySpelled.{spell_ready};
+ghost use Rattle.ready.specs.Spell.{Spells};
+ghost use Rattle.answer.specs.Ran.{Tells, Settles, Still, answered, spelled_by, success, failure, refused_by, Answers};
 ghost use Rattle.answer.specs.Answered.{AnswersIn};
 
 use payload::{Answer, Show, as_before, as_left, write_payload};
@@ -46,7 +48,7 @@ fn pay(w: &mut [u32], u: Used, show: Show, t: u32, buf: &mut [u8]) -> Option<usi
 // A refusal: nothing is changed.
 pub fn refuse(w: &mut [u32], u: Used, before: Before<'_>, x: Refusal) -> Answer
     requires { Lay w.old u × Above before.used u }
-    ensures { (buf : List ℕ) → Answers w.old u before.entry.used before.entry.saved.now buf w.new buf result (refused_by (refusal_of x)) }
+    ensures { (buf : List ℕ) → Answers w.old u before.entry.used (rows_of before.entry) buf w.new buf result (refused_by (refusal_of x)) }
 {
     undo(w, u, before);
     as_before(before.used, x.number(), 0)
@@ -65,7 +67,7 @@ fn succeed(
     requires lay { Lay w.old u × Above before.used u }
     requires shows { Shows u show t × (AllBytes (view w.old u) × (4096 ≤ length buf.old)) }
     requires still { kept ≡ false → Still w.old u before.used before.saved.now }
-    ensures { Answers w.old u before.entry.used before.entry.saved.now buf.old w.new buf.new result (success kept show t) }
+    ensures { Answers w.old u before.entry.used (rows_of before.entry) buf.old w.new buf.new result (success kept show t) }
 {
     let Some(len) = pay(w, u, show, t, buf) else {
         return refuse(w, u, before, Refusal::AnswerTooLong);
@@ -88,7 +90,7 @@ fn fail_with(
 ) -> Answer
     requires lay { Lay w.old u × Above before.used u }
     requires shows { Shows u show 0 × (AllBytes (view w.old u) × (4096 ≤ length buf.old)) }
-    ensures { (e : d.TypingError) → number_of_error e ≡ number → ((s : d.State) → write_error s e ≡ shown show 0 s) → Answers w.old u before.entry.used before.entry.saved.now buf.old w.new buf.new result (failure e) }
+    ensures { (e : d.TypingError) → number_of_error e ≡ number → ((s : d.State) → write_error s e ≡ shown show 0 s) → Answers w.old u before.entry.used (rows_of before.entry) buf.old w.new buf.new result (failure e) }
 {
     let Some(len) = pay(w, u, show, 0, buf) else {
         return refuse(w, u, before, Refusal::AnswerTooLong);
@@ -101,7 +103,7 @@ fn fail_with(
 fn fail(w: &mut [u32], u: Used, before: Before<'_>, e: TypingError, buf: &mut [u8]) -> Answer
     requires lay { Lay w.old u × Above before.used u }
     requires types_in { TypesIn u.nodes e × (AllBytes (view w.old u) × (4096 ≤ length buf.old)) }
-    ensures { Answers w.old u before.entry.used before.entry.saved.now buf.old w.new buf.new result (failure (error_of e)) }
+    ensures { Answers w.old u before.entry.used (rows_of before.entry) buf.old w.new buf.new result (failure (error_of e)) }
 {
     match e {
         TypingError::SubtypeError(a, b) => fail_with(w, u, before, 1, Show::Two(a, b), buf),
@@ -117,12 +119,33 @@ pub fn answer_of(w: &mut [u32], u: Used, before: Before<'_>, ran: Ran, buf: &mut
     requires lay { Lay w.old u × Above before.used u }
     requires tells { Tells u ran.show ran.result × ((Settles ran.result → AllBytes (view w.old u)) × (4096 ≤ length buf.old)) }
     requires still { (t : ℕ) → ran.result ≡ Ok t → ran.kept ≡ false → Still w.old u before.used before.saved.now }
-    ensures { Answers w.old u before.entry.used before.entry.saved.now buf.old w.new buf.new result (answered ran) }
+    ensures { Answers w.old u before.entry.used (rows_of before.entry) buf.old w.new buf.new result (answered ran) }
 {
     match ran.result {
         Ok(t) => succeed(w, u, before, ran.kept, ran.show, t, buf),
         Err(Stop::Failed(e)) => fail(w, u, before, e, buf),
         Err(Stop::Refused(x)) => refuse(w, u, before, x),
+    }
+}
+
+// RD's answer: its payload, if any, is in the buffer. No variable was bound or marked.
+fn answer_spelled(
+    w: &mut [u32],
+    u: Used,
+    before: Before<'_>,
+    spelled: Result<usize, Refusal>,
+) -> Answer
+    requires lay { Lay w.old u × Above before.used u }
+    requires still { Still w.old u before.used before.saved.now }
+    ensures { (t : ℕ) (buf buf' : List ℕ) → ((ds : List d.Struct) → Spells (spell_ready (seen w.old u ds) t) buf buf' spelled) → Answers w.old u before.entry.used (rows_of before.entry) buf w.new buf' result (spelled_by t) }
+{
+    match spelled {
+        Ok(len) => {
+            let entry = before.used;
+            give_back(w, u, entry);
+            as_before(entry, 0, len)
+        }
+        Err(x) => refuse(w, u, before, x),
     }
 }
 
@@ -136,6 +159,7 @@ pub fn settle(st: &mut State<'_>, before: Before<'_>, ran: Ran, buf: &mut [u8]) 
     requires still { (t : ℕ) → ran.result ≡ Ok t → ran.kept ≡ false → Still st.old.words.now st.old.used before.used before.saved.now }
     ensures { AnswersIn w0 before.entry st.old st.new buf.old buf.new result (answered ran) }
 {
+    let before = before.since(st.touched);
     let w = &mut *st.words;
     let a = answer_of(w, st.used, before, ran, buf);
     st.used = a.used;
@@ -150,4 +174,20 @@ pub fn settle_refusal(st: &mut State<'_>, before: Before<'_>, x: Refusal) -> Ans
 {
     go_back(st, before);
     as_before(st.used, x.number(), 0)
+}
+
+// RD of type t, for which no node is made.
+pub fn settle_ready(st: &mut State<'_>, before: Before<'_>, t: u32, buf: &mut [u8]) -> Answer
+    ghost w0: { List ℕ }
+    requires grown { GrownFrom w0 before st.old }
+    requires shows { (t < st.old.used.nodes) × (AllBytes (tables st.old) × (4096 ≤ length buf.old)) }
+    requires still { Still st.old.words.now st.old.used before.used before.saved.now }
+    ensures { AnswersIn w0 before.entry st.old st.new buf.old buf.new result (spelled_by t) }
+{
+    let spelled = ready::spell_type(st, t, buf);
+    let before = before.since(st.touched);
+    let w = &mut *st.words;
+    let told = answer_spelled(w, st.used, before, spelled);
+    st.used = told.used;
+    told
 }

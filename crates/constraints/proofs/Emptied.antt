@@ -6,7 +6,7 @@ use Rattle.definition.specs.Store.{with_constraints, with_structs}
 use Rattle.table.specs.Tab.{tab}
 use Rattle.table.specs.Rows.{row, entries, Clean, constraint_words, node_table, arg_table, var_table, constraint_table, struct_table}
 use Rattle.table.specs.State.{view, seen, Lay, Inside, Wrote}
-use Rattle.table.specs.Did.{tables}
+use Rattle.table.specs.Did.{tables, Linked}
 use Rattle.table.specs.declared.Used.{Used}
 use Rattle.table.specs.declared.state.State as t
 use Rattle.table.proofs.Rows.{entry_out, row_same, Same, same_entries, same_clean, apart}
@@ -31,7 +31,7 @@ module _ (w : List ℕ) (u : Used) (h : Lay w u) (w' : List ℕ) (z : Wrote w (2
   c_args : Same arg_table w w'
   c_args = let x = few in apart arg_table w (21509 + 0 * 4) ((u.constraints - 0) * 4) [] w' z (λ i k l p q s e. omega arith)
 
-  c_vars : Same var_table w w'
+  pub c_vars : Same var_table w w'
   c_vars = let x = few in apart var_table w (21509 + 0 * 4) ((u.constraints - 0) * 4) [] w' z (λ i k l p q s e. omega arith)
 
   c_structs : Same struct_table w w'
@@ -82,6 +82,6 @@ module _ (w : List ℕ) (u : Used) (h : Lay w u) (w' : List ℕ) (z : Wrote w (2
         inside = subst Inside (sym emptied_view) (inside_constraints (view w u) _ h.inside);
       }
 
-pub emptied : {s e : t.State} → e.words.ghost_name ≡ s.words.ghost_name → tables e ≡ with_constraints (tables s) [] → Emptied s e
+pub emptied : {s e : t.State} → Linked s e → tables e ≡ with_constraints (tables s) [] → Emptied s e
 unfolding with_constraints seen with_structs
 emptied {s} {e} same is = record { same = same; structs = ap (λ (x : State). x.structs) is; is = λ ds. ap (λ (x : State). with_structs x ds) is }

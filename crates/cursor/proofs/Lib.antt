@@ -1,2 +1,3 @@
--- Laws of the bytes that are left. Assumes nothing.
+-- Laws of the bytes that are left, and of the next. Assumes nothing.
 pub mod Within
+pub mod Next

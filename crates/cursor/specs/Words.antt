@@ -1,9 +1,10 @@
 -- What a reader's answer is in the definition, and the bytes that it leaves. Assumes nothing: these are definitions.
-use Rattle.std.specs.Prelude.{◌≡◌, ℕ, Result, Ok, Err, drop}
+use Rattle.std.specs.Prelude.{◌≡◌, ℕ, ◌<◌, ◌≤◌, Result, Ok, Err, length, take, drop}
 use Rattle.definition.specs.Write.{Bytes}
 use Rattle.definition.specs.Reader.{Read, got, not_read}
 use Rattle.refusals.specs.Refusals.{refusal_of}
 use Rattle.refusals.specs.declared.Refusal.{Refusal}
+use Rattle.refusals.specs.declared.Refusal.TheVariants.{Malformed}
 
 -- what f makes of a value, and the bytes after it; or why there is none
 abbrev pub read_as : {A B : Type 0} → (A → B) → Result A Refusal → Bytes → Read B
@@ -17,3 +18,8 @@ read r bytes = read_as (λ a. a) r bytes
 pub record Within (l l' : Bytes) : Type 0 where
   pub from : ℕ
   pub is : l' ≡ drop from l
+
+-- the next n bytes of l, and what they leave; or there are fewer
+abbrev pub Next : ℕ → Bytes → Bytes → Result Bytes Refusal → Type 0
+Next n l l' (Ok bytes) = (n ≤ length l) × (bytes ≡ take n l) × (l' ≡ drop n l)
+Next n l l' (Err e) = (length l < n) × (e ≡ Malformed) × (l' ≡ l)

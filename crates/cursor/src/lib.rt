@@ -3,7 +3,7 @@
 
 ghost use Rattle.std.specs.Prelude.{◌≡◌, ◌<◌, ◌≤◌, take, IfErr, IfOk};
 ghost use Rattle.definition.specs.Reader.{byte, read_u16, read_u32, byte_to, name_below};
-ghost use Rattle.cursor.specs.Words.{Within, read};
+ghost use Rattle.cursor.specs.Words.{Within, Next, read};
 
 use refusals::Refusal;
 
@@ -27,36 +27,40 @@ impl<'a> Reader<'a> {
         }
     }
 
+    // The next N bytes, with one test of the length.
+    fn array<const N: usize>(&mut self) -> Result<[u8; N], Refusal>
+        ensures { Next N self.old.left.now self.new.left.now result }
+    {
+        let Some((bytes, left)) = self.left.split_first_chunk() else {
+            return Err(Refusal::Malformed);
+        };
+        self.left = left;
+        Ok(*bytes)
+    }
+
     pub fn u8(&mut self) -> Result<u8, Refusal>
         ensures is { read result self.new.left.now ≡ byte self.old.left.now }
         ensures within { Within self.old.left.now self.new.left.now }
         ensures kept { IfErr result (λ e. self.new.left.now ≡ self.old.left.now) }
     {
-        let [byte, left @ ..] = self.left else {
-            return Err(Refusal::Malformed);
-        };
-        self.left = left;
-        Ok(*byte)
+        let [byte] = self.array::<1>()?;
+        Ok(byte)
     }
 
     pub fn u16(&mut self) -> Result<u16, Refusal>
         ensures is { read result self.new.left.now ≡ read_u16 self.old.left.now }
         ensures within { Within self.old.left.now self.new.left.now }
     {
-        let low = self.u8()?;
-        let high = self.u8()?;
-        Ok(u16::from_le_bytes([low, high]))
+        let bytes = self.array::<2>()?;
+        Ok(u16::from_le_bytes(bytes))
     }
 
     pub fn u32(&mut self) -> Result<u32, Refusal>
         ensures is { read result self.new.left.now ≡ read_u32 self.old.left.now }
         ensures within { Within self.old.left.now self.new.left.now }
     {
-        let a = self.u8()?;
-        let b = self.u8()?;
-        let c = self.u8()?;
-        let d = self.u8()?;
-        Ok(u32::from_le_bytes([a, b, c, d]))
+        let bytes = self.array::<4>()?;
+        Ok(u32::from_le_bytes(bytes))
     }
 
     // A byte from 0 to max.

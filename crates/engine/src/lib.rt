@@ -40,7 +40,7 @@ fn record_trusted(
     let used = used_of(state);
     let mut st = State::new(state, used);
     let mut saved = [0u32; SAVED];
-    let r = step_trusted(&mut st, params, record, 0, true, 0, &mut saved, answer);
+    let r = step_trusted(&mut st, params, record, 0, true, &mut saved, answer);
     st.write_used();
     Answered {
         number: r.number,

@@ -49,6 +49,7 @@ use Rattle.fields.specs.declared.What.TheVariants as q
 use Rattle.fields.specs.Noded.{Noded, Shape, shape, place, place_record, noded, fields_as, WhatIn, FieldsAre}
 use Rattle.fields.specs.Noded as n
 use Rattle.fields.proofs.Placing.{stopped_is, last_type, first_type}
+use Rattle.table.proofs.Did.{linked, linked_now}
 
 -- ---- the marks of each form
 
@@ -92,7 +93,7 @@ fields_is {st} e t =
 -- nothing was written
 pub fields_none : {st : Table} {known : ℕ} {m : State → Read Record} {l : Bytes} {r : std.Result (Option What) Refusal} → PlacedSo r (WhatIn st.used.nodes)
     → ((s s' : State) (ds : List Struct) → Knows s known ds → fields_as r s' l ≡ place_read false place_record (m s) s') → FieldsAre st known m st l r
-fields_none {st} i f = record { same = refl; grown = grown_refl (tables st); structs = refl; inside = i; is = λ ds s d k. f s (held st ds) ds k }
+fields_none {st} i f = record { same = linked_now _; grown = grown_refl (tables st); structs = refl; inside = i; is = λ ds s d k. f s (held st ds) ds k }
 
 -- 5, 6 or 18 in the numbers
 pub unread_is : {st : Table} {known : ℕ} {m : State → Read Record} {l : Bytes} {e : Refusal} → ((s : State) (ds : List Struct) → Knows s known ds → rd.not_read (refusal_of e) ≡ m s)
@@ -151,7 +152,7 @@ pub rm_is : {st : Table} {known : ℕ} (l₀ : Bytes) {l : Bytes} {o : Option Su
 unfolding place_read place_record read_one rd.◌>>=◌ go_on give read_type as_argument
 rm_is {st} l₀ c =
     record {
-      same = refl;
+      same = linked_now _;
       grown = grown_refl (tables st);
       structs = refl;
       inside = tt;
@@ -163,7 +164,7 @@ pub rm_unread : {st : Table} {known : ℕ} (l₀ : Bytes) {l : Bytes} {e : Refus
 unfolding place_read read_one rd.◌>>=◌ go_on read_type
 rm_unread {st} l₀ c =
     record {
-      same = refl;
+      same = linked_now _;
       grown = grown_refl (tables st);
       structs = refl;
       inside = tt;
@@ -205,7 +206,7 @@ module _ {st : Table} {known : ℕ} (l₀ : Bytes) {st₁ : Table} {l₁ : Bytes
   unfolding read_two read_type rd.◌>>=◌
   two_is {st₂} {l} {p} t' =
       record {
-        same = t'.same ∙ t.same;
+        same = linked t'.same t.same;
         grown = grown_trans _ _ _ t.grown t'.grown;
         structs = t'.structs ∙ t.structs;
         inside = made_so p st₂.used.nodes (both_made m (unwrap_or o 0)) t'.inside (λ x f i. (first_in o st₁.used.nodes st₂.used.nodes (nodes_grow _ _ _ _ t'.grown) (was_open (rw f at t')) t.inside, i));
@@ -220,7 +221,7 @@ module _ {st : Table} {known : ℕ} (l₀ : Bytes) {st₁ : Table} {l₁ : Bytes
   unfolding read_two read_type rd.◌>>=◌ go_on place_read
   two_unread {e = e} t' =
       record {
-        same = t'.same ∙ t.same;
+        same = linked t'.same t.same;
         grown = grown_trans _ _ _ t.grown t'.grown;
         structs = t'.structs ∙ t.structs;
         inside = tt;

@@ -12,7 +12,7 @@ use Rattle.definition.specs.Join.{TypingCase, Join, Subtype}
 use Rattle.definition.specs.Step.{numeric_constraint}
 use Rattle.definition.specs.Needs.{Needs, needs}
 use Rattle.table.specs.State.{Grown, Declares, Parts}
-use Rattle.table.specs.Did.{held, tables}
+use Rattle.table.specs.Did.{held, tables, Linked}
 use Rattle.table.specs.declared.state.State.{State as Table}
 use Rattle.tparams.specs.Pairs.{pairs}
 use Rattle.constraints.specs.Solve.{kind_of}
@@ -197,7 +197,7 @@ WhatIn n (q.Add x) = Unit {0}
 -- the table st became t, which lends the same words; r is the record that m reads, its types placed, and the bytes l are left; s knows as many variables
 -- and structs as the record began with
 pub record FieldsAre (st : Table) (known : ℕ) (m : State → Read Record) (t : Table) (l : Bytes) (r : std.Result (Option What) Refusal) : Type 0 where
-  pub same : t.words.ghost_name ≡ st.words.ghost_name
+  pub same : Linked st t
   pub grown : Grown (tables st) (tables t)
   pub structs : (tables t).structs ≡ (tables st).structs
   pub inside : PlacedSo r (WhatIn t.used.nodes)
@@ -205,7 +205,7 @@ pub record FieldsAre (st : Table) (known : ℕ) (m : State → Read Record) (t :
 
 -- a record that starts at place `start`: the bytes after it are those from place next on, of all that there are
 pub record RecordIs (st : Table) (b : List ℕ) (start : ℕ) (t : Table) (r : Fields) : Type 0 where
-  pub same : t.words.ghost_name ≡ st.words.ghost_name
+  pub same : Linked st t
   pub grown : Grown (tables st) (tables t)
   pub structs : (tables t).structs ≡ (tables st).structs
   pub inside : PlacedSo r.read (WhatIn t.used.nodes)

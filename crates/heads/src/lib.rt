@@ -150,7 +150,8 @@ fn var_fields(r: &mut Reader, known: u32) -> Result<Shape, Refusal>
     Ok(Shape::Var(TVar(v)))
 }
 
-// By the tag, from 0 to 8; a part may nest `left` deep.
+// By the tag, from 0 to 8; a part may nest `left` deep. Inlined, as read_head is: a shape that a call gives back goes through memory.
+#[inline(always)]
 fn fields(st: &State<'_>, r: &mut Reader, known: u32, left: u32, tag: u8) -> Result<Shape, Refusal>
     requires few_params { Arities (tables st.now).structs }
     requires is_tag { tag ≤ 8 }
@@ -172,6 +173,7 @@ fn fields(st: &State<'_>, r: &mut Reader, known: u32, left: u32, tag: u8) -> Res
 }
 
 // Tag, location and fields of a type at most `nest` deep.
+#[inline(always)]
 pub fn read_head(st: &State<'_>, r: &mut Reader, known: u32, nest: u32) -> Result<Head, Refusal>
     requires { Arities (tables st.now).structs }
     ensures reads { (s : d.State) (ds : List d.Struct) → Declares st.now.words.now st.now.used ds → Knows s known ds → tree_read result r.new.left.now (read_nested (nest - 1) s) ≡ read_nested nest s r.old.left.now }

@@ -10,10 +10,10 @@ use Rattle.definition.specs.Types as d
 use Rattle.definition.specs.Store.{sp}
 use Rattle.definition.specs.Join.{join}
 use Rattle.table.specs.State.{Any, Parts}
-use Rattle.table.specs.Did.{held, Did}
+use Rattle.table.specs.Did.{held, Did, Linked}
 use Rattle.table.specs.declared.state.State.{State}
 use Rattle.table.specs.declared.state.Stop.{Stop}
-use Rattle.table.proofs.Did.{did_is, to_when, of_when, stop_none}
+use Rattle.table.proofs.Did.{did_is, to_when, of_when, stop_none, linked, linked_now}
 use Rattle.table.proofs.Grown.{nodes_grow}
 use Rattle.table.proofs.Walk.{rest, sp_apply, range, range_length, range_at, Walked, walk_start, walk_stop, walk_more, walk_end}
 use Rattle.instantiate.specs.Args.{joined}
@@ -21,7 +21,7 @@ use Rattle.instantiate.proofs.ArgLaws.{join_by, joins_are}
 
 -- i of c variables are joined with their arguments
 pub record Joining (loc : ℕ) (k : d.AbilityMark) (n : d.TypeName) (tvars tys : List ℕ) (c : ℕ) (s₀ s : State) (parts : List ℕ) (i : ℕ) : Type 0 where
-  pub same : s.words.ghost_name ≡ s₀.words.ghost_name
+  pub same : Linked s₀ s
   pub walked : Walked Any (join_by tvars tys) (sp_apply loc k n) (range 0 c) c s₀.words.now s₀.used s.words.now s.used parts i
   pub tvars_in : Parts s₀.used.nodes tvars c
   pub tys_in : Parts s₀.used.nodes tys c
@@ -32,7 +32,7 @@ pub joins_start : {loc : ℕ} {k : d.AbilityMark} {n : d.TypeName} {tvars tys : 
     → Joining loc k n tvars tys c s₀ s₀ parts 0
 joins_start {c = c} {s₀ = s₀} pa pb e sizes size =
     record {
-      same = refl;
+      same = linked_now _;
       walked = walk_start s₀.lay (range_length 0 c) (omega (arith, pa.few)) size;
       tvars_in = record { few = omega (arith, pa.few); below = λ j lt. pa.below j (omega arith) };
       tys_in = record { few = omega (arith, pb.few); below = λ j lt. pb.below j (omega arith) };
@@ -56,16 +56,16 @@ module _ {loc : ℕ} {k : d.AbilityMark} {n : d.TypeName} {tvars tys : List ℕ}
 
     pub joins_err : {at : ℕ} {x : Stop} {r : core.Result ℕ Stop} → at ≡ i → i < c → Did s t (Err x) (λ z. join z (get_or tvars at 0) (get_or tys at 0)) → r ≡ Err x → Did s₀ t r (joined loc k n (take a tvars) (take b tys))
     joins_err {x = x} at_is lt step q =
-        rw q (all_joined (of_when (step.changed.same ∙ g.same) (walk_stop g.walked lt (range_at c i lt) (to_when (join_step at_is step)) (sym (stop_none x)) refl)))
+        rw q (all_joined (of_when (linked step.changed.same g.same) (walk_stop g.walked lt (range_at c i lt) (to_when (join_step at_is step)) (sym (stop_none x)) refl)))
 
     pub joins_end : {r : core.Result ℕ Stop} → c ≤ i → Did s t r (λ z. sp z loc (d.Apply k n (take c parts))) → Did s₀ t r (joined loc k n (take a tvars) (take b tys))
     unfolding sp_apply
-    joins_end q x = all_joined (of_when (x.changed.same ∙ g.same) (walk_end g.walked q (to_when x)))
+    joins_end q x = all_joined (of_when (linked x.changed.same g.same) (walk_end g.walked q (to_when x)))
 
   pub joins_more : {at p : ℕ} {t : State} → at ≡ i → i < c → Did s t (Ok p) (λ z. join z (get_or tvars at 0) (get_or tys at 0)) → Joining loc k n tvars tys c s₀ t (set parts at p) (i + 1)
   joins_more at_is lt step =
       record {
-        same = step.changed.same ∙ g.same;
+        same = linked step.changed.same g.same;
         walked = walk_more g.walked lt (range_at c i lt) (to_when (join_step at_is step)) refl refl at_is;
         tvars_in = g.tvars_in;
         tys_in = g.tys_in;

@@ -14,10 +14,10 @@ use Rattle.names.specs.declared.AbilitySet.{AbilitySet}
 use Rattle.table.specs.Rows.{places}
 use Rattle.table.specs.State.{Declares, Placed}
 use Rattle.table.specs.Known.{Known}
-use Rattle.table.specs.Did.{held, tables, DidFor, Did}
+use Rattle.table.specs.Did.{held, tables, DidFor, Did, Linked}
 use Rattle.table.specs.declared.state.State.{State}
 use Rattle.table.specs.declared.state.Stop.{Stop}
-use Rattle.table.proofs.Did.{did_is, to_when}
+use Rattle.table.proofs.Did.{did_is, to_when, linked, linked_now}
 use Rattle.table.proofs.Walk.{rest, just_list, range, range_length, range_at, Walked, placed_length, arg_kept, walk_start, walk_more}
 use Rattle.join.proofs.Lists.{listed_is, list_err, list_ok}
 use Rattle.instantiate.specs.Known.{Numbered, ability_at}
@@ -32,7 +32,7 @@ KnownTo s params ds = Known s.words.now s.used params ds
 
 -- i of count variables are made
 pub record Making (params : List (List ℕ)) (loc : ℕ) (n : d.TypeName) (first many count : ℕ) (s₀ s : State) (tvars : List ℕ) (i : ℕ) : Type 0 where
-  pub same : s.words.ghost_name ≡ s₀.words.ghost_name
+  pub same : Linked s₀ s
   pub walked : Walked (KnownTo s₀ params) (tparam_by loc n (args_at (tables s₀) (places first many)) params) just_list (range 0 count) count s₀.words.now s₀.used s.words.now s.used tvars i
   pub placed : Placed s₀.words.now s₀.used first many
   pub fewer : count ≤ many
@@ -42,7 +42,7 @@ pub made_start : {params : List (List ℕ)} {loc : ℕ} {n : d.TypeName} {first 
     → ((ds : List Struct) → Declares s₀.words.now s₀.used ds → m ≡ length (tparam_constraints (held s₀ ds) n)) → count ≡ min many m → length tvars ≡ 8 → Making params loc n first many count s₀ s₀ tvars 0
 made_start {count = count} {s₀ = s₀} pl m_is count_is e =
     record {
-      same = refl;
+      same = linked_now _;
       walked = walk_start s₀.lay (range_length 0 count) (omega (arith, pl.few)) e;
       placed = pl;
       fewer = omega arith;
@@ -73,7 +73,7 @@ module _ {params : List (List ℕ)} {loc : ℕ} {n : d.TypeName} {first many cou
 
     pub made_more : {p at : ℕ} → Did s t (Ok p) (λ x. make_tparam x loc n ty ab.0) → at ≡ i → Making params loc n first many count s₀ t (set tvars at p) (i + 1)
     made_more step e =
-        record { same = step.changed.same ∙ g.same; walked = walk_more g.walked lt (range_at count i lt) (to_when (made_step step)) refl refl e; placed = g.placed; fewer = g.fewer; counted = g.counted }
+        record { same = linked step.changed.same g.same; walked = walk_more g.walked lt (range_at count i lt) (to_when (made_step step)) refl refl e; placed = g.placed; fewer = g.fewer; counted = g.counted }
 
   pub made_end : count ≤ i → Made (KnownTo s₀ params) s₀ s (Ok (record { tys = tvars; many = count })) (made loc n tys)
   made_end no_more = listed_is all_made (list_ok g.same g.walked (record { tys = tvars; many = count }) refl refl no_more)

@@ -14,11 +14,11 @@ use Rattle.definition.specs.Join.{join_impl, join_impl_types}
 use Rattle.names.specs.Names.{mark_of, name_of}
 use Rattle.table.specs.Rows.{places}
 use Rattle.table.specs.State.{Any, Named, seen}
-use Rattle.table.specs.Did.{held, tables, Did}
+use Rattle.table.specs.Did.{held, tables, Did, Linked}
 use Rattle.table.specs.declared.state.State.{State}
 use Rattle.table.specs.declared.state.Stop.{Stop}
 use Rattle.table.proofs.Steps.{bind_ok}
-use Rattle.table.proofs.Did.{did_is, to_when}
+use Rattle.table.proofs.Did.{did_is, to_when, linked, linked_now}
 use Rattle.table.proofs.Grown.{nodes_grow}
 use Rattle.table.proofs.Parts.{below_named}
 use Rattle.table.proofs.Walk.{rest, just_list, range, range_length, range_at, zip_types, zip_is, placed_length, arg_kept, Walked, walk_start, walk_more}
@@ -54,7 +54,7 @@ module _ (left : ℕ) (case : j.TypingCase) where
 -- ---- where the loop stands
 
 pub record Gathering (left : ℕ) (case : j.TypingCase) (t1 t2 : Applied) (n : ℕ) (s₀ s : State) (tys : List ℕ) (i : ℕ) : Type 0 where
-  pub same : s.words.ghost_name ≡ s₀.words.ghost_name
+  pub same : Linked s₀ s
   pub walked : Walked Any (join_at left case (args_at (tables s₀) (args_of t1)) (args_at (tables s₀) (args_of t2))) just_list (range 0 n) n s₀.words.now s₀.used s.words.now s.used tys i
   pub args1 : Named s₀.words.now s₀.used t1.first t1.many s₀.used.nodes
   pub args2 : Named s₀.words.now s₀.used t2.first t2.many s₀.used.nodes
@@ -65,7 +65,7 @@ module _ {left : ℕ} {case : j.TypingCase} {s₀ : State} {t1 t2 : Applied} {n 
   gather_none a b f long =
       let a1 = below_named s₀.words.now s₀.used s₀.used.nodes (mark_of t1.k) (name_of t1.n) t1.first t1.many a in
       let a2 = below_named s₀.words.now s₀.used s₀.used.nodes (mark_of t2.k) (name_of t2.n) t2.first t2.many b in
-      record { same = refl; walked = walk_start s₀.lay (range_length 0 n) (omega (arith, f, a1.placed.few)) long; args1 = a1; args2 = a2; fewer = f }
+      record { same = linked_now _; walked = walk_start s₀.lay (range_length 0 n) (omega (arith, f, a1.placed.few)) long; args1 = a1; args2 = a2; fewer = f }
 
   module _ {s : State} {tys : List ℕ} {i : ℕ} (g : Gathering left case t1 t2 n s₀ s tys i) where
     all_joined : (ds : List Struct) → rest (join_at left case (args_at (tables s₀) (args_of t1)) (args_at (tables s₀) (args_of t2))) just_list [] (range 0 n) (held s₀ ds)
@@ -100,7 +100,7 @@ module _ {left : ℕ} {case : j.TypingCase} {s₀ : State} {t1 t2 : Applied} {n 
 
       pub gather_more : {t : State} {p at : ℕ} → Did s t (Ok p) (λ x. join_impl left x case ty1 ty2) → at ≡ i → Gathering left case t1 t2 n s₀ t (set tys at p) (i + 1)
       gather_more {p = p} step e =
-          record { same = step.changed.same ∙ g.same; walked = walk_more g.walked lt (range_at n i lt) (to_when (at_place step)) refl refl e; args1 = g.args1; args2 = g.args2; fewer = g.fewer }
+          record { same = linked step.changed.same g.same; walked = walk_more g.walked lt (range_at n i lt) (to_when (at_place step)) refl refl e; args1 = g.args1; args2 = g.args2; fewer = g.fewer }
 
     pub gathered : n ≤ i → Joined s₀ s (Ok (record { tys = tys; many = n })) (λ x. join_impl_types (inner left) x case (args_at x (args_of t1)) (args_at x (args_of t2)))
     gathered no_more = listed_is (λ ds k. all_joined ds) (list_ok g.same g.walked (record { tys = tys; many = n }) refl refl no_more)

@@ -8,11 +8,11 @@ use lib.ListN.{get_or, take}
 use Rattle.definition.specs.Types as d
 use Rattle.definition.specs.Types.{Struct, Result, ok, ◌>>=◌}
 use Rattle.table.specs.State.{outcome}
-use Rattle.table.specs.Did.{held, DidFor}
+use Rattle.table.specs.Did.{held, DidFor, Linked}
 use Rattle.table.specs.declared.state.State.{State}
 use Rattle.table.specs.declared.state.Stop.{Stop}
 use Rattle.table.proofs.Steps.{bind_assoc, refines_as}
-use Rattle.table.proofs.Did.{became_is, became_on, became_as, err_is, stop_in, in_stop, stop_none, to_when}
+use Rattle.table.proofs.Did.{became_is, became_on, became_as, err_is, stop_in, in_stop, stop_none, to_when, linked}
 use Rattle.table.proofs.Walk.{rest, just_list, Walked, walk_stops, walk_ends, walk_parts}
 use Rattle.join.specs.Join.{Listed}
 
@@ -38,11 +38,11 @@ module _ {A : Type 0} {parts : A → List ℕ} {many : A → ℕ} {K : List Stru
 -- ---- a walk whose answer is the list
 
 module _ {A : Type 0} {parts : A → List ℕ} {many : A → ℕ} {K : List Struct → Type 0} {f : d.State → ℕ → Result (d.State × ℕ)} {tys l : List ℕ} {n i : ℕ} {s₀ s : State}
-    (same : s.words.ghost_name ≡ s₀.words.ghost_name) (wk : Walked K f just_list tys n s₀.words.now s₀.used s.words.now s.used l i) where
+    (same : Linked s₀ s) (wk : Walked K f just_list tys n s₀.words.now s₀.used s.words.now s.used l i) where
   pub list_err : {t : State} {e : Stop} {p : ℕ} {r : core.Result A Stop} → i < n → p ≡ get_or tys i 0 → DidFor K s t (Err e) (λ x. f x p) → r ≡ Err e → Listed parts many K s₀ t r (rest f just_list [] tys)
   list_err {e = e} lt p_is a q =
       rw q record {
-        changed = record { same = a.changed.same ∙ same; step = walk_stops wk lt p_is (to_when a) refl (stop_none e) (λ r. ok (r.0, [])) };
+        changed = record { same = linked a.changed.same same; step = walk_stops wk lt p_is (to_when a) refl (stop_none e) (λ r. ok (r.0, [])) };
         inside = stop_in _ e a.inside;
       }
 

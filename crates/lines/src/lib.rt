@@ -54,11 +54,10 @@ pub fn lines_trusted(
     log: &mut [u8],
     index: u64,
 ) -> Lines
-    requires { StandsIn st.old params.old }
+    requires { StandsIn st.old params.old × (st.old.saved ≡ 0) }
     ensures { Lists st.old params.old index stream.now more log.old st.new params.new log.new result }
 {
     let mut saved = [0u32; SAVED];
-    let mut rows: u32 = 0;
     let mut lines = Lines::nothing(index, false);
     // A record is as long as its bytes say: nothing counts through them.
     'records: while lines.read < stream.len() {
@@ -69,8 +68,7 @@ pub fn lines_trusted(
         }
         let at = begin_line(lines.index, log, lines.written);
         let buf = &mut log[at + PAYLOAD_AT..];
-        let r = step_trusted(st, params, stream, lines.read, false, rows, &mut saved, buf);
-        rows = r.rows;
+        let r = step_trusted(st, params, stream, lines.read, false, &mut saved, buf);
         lines = Lines {
             read: r.next,
             written: end_line(r.number, r.len, log, at),

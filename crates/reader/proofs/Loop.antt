@@ -19,7 +19,7 @@ use Rattle.definition.specs.Trees.{Tree, read_trees, read_nested}
 use Rattle.definition.specs.Build.{build, build_all}
 use Rattle.table.specs.Rows.{struct_table}
 use Rattle.table.specs.State.{Grown, Declares, view}
-use Rattle.table.specs.Did.{held, tables, Did}
+use Rattle.table.specs.Did.{held, tables, Did, Linked}
 use Rattle.table.specs.declared.Used.{Used}
 use Rattle.table.specs.declared.state.State.{State as Table}
 use Rattle.table.specs.declared.state.Stop.{Stop}
@@ -33,6 +33,7 @@ use Rattle.heads.specs.Fields.{Knows, many_parts, tree_read}
 use Rattle.reader.specs.Taken.{Placed, placed, stopped, place_read, part_of, PlacedSo, Takes, put_node}
 use Rattle.heads.proofs.Heads.{declares_self}
 use Rattle.reader.proofs.Parts.{never, then_node, onward, onward_none, node_after, turn, stop, at_open, none_left, found_is, found_in}
+use Rattle.table.proofs.Did.{linked, linked_now}
 
 -- ---- declarations and counts
 
@@ -72,13 +73,13 @@ takes_is {st} {over = over} e t =
 -- nothing was written
 pub takes_none : {st : Table} {known : ℕ} {over : Bool} {m : State → Read Tree} {l : Bytes} (e : Refusal)
     → ((ds : List Struct) (s : State) → Declares st.words.now st.used ds → Knows s known ds → stopped (refusal_of e) ≡ place_read over build (m s) (held st ds)) → Takes st known over m st l (Err e)
-takes_none {st} e f = record { same = refl; grown = grown_refl (tables st); structs = refl; inside = tt; is = f }
+takes_none {st} e f = record { same = linked_now _; grown = grown_refl (tables st); structs = refl; inside = tt; is = f }
 
 -- ---- the loop
 
 pub record Going (st₀ : Table) (l₀ : Bytes) (known nest : ℕ) (over₀ : Bool) (n : ℕ) (st : Table) (l : Bytes) (over : Bool) (parts : List ℕ) (i : ℕ) : Type 0 where
   pub left : i ≤ n
-  pub same : st.words.ghost_name ≡ st₀.words.ghost_name
+  pub same : Linked st₀ st
   pub grown : Grown (tables st₀) (tables st)
   pub structs : (tables st).structs ≡ (tables st₀).structs
   pub long : length parts ≡ 8
@@ -91,7 +92,7 @@ pub go_none : {st : Table} (l : Bytes) (known nest : ℕ) (over : Bool) (n : ℕ
 go_none {st} l known nest over n e =
     record {
       left = omega arith;
-      same = refl;
+      same = linked_now _;
       grown = grown_refl (tables st);
       structs = refl;
       long = e;
@@ -133,7 +134,7 @@ module _ {st₀ : Table} {l₀ : Bytes} {known nest : ℕ} {over₀ : Bool} {n :
         let lt : i < length parts = omega arith in
         record {
           left = omega arith;
-          same = a.same ∙ g.same;
+          same = linked a.same g.same;
           grown = grown_trans _ _ _ g.grown a.grown;
           structs = a.structs ∙ g.structs;
           long = length-set parts i (unwrap_or o 0) ∙ g.long;
@@ -151,7 +152,7 @@ module _ {st₀ : Table} {l₀ : Bytes} {known nest : ℕ} {over₀ : Bool} {n :
       → Takes st₀ known over₀ (λ s. tree_read (Ok h) l₀ (read_nested nest s)) t l' (Err e)
   go_stop {e = e} a lt h m =
       record {
-        same = a.same ∙ g.same;
+        same = linked a.same g.same;
         grown = grown_trans _ _ _ g.grown a.grown;
         structs = a.structs ∙ g.structs;
         inside = tt;
@@ -191,7 +192,7 @@ module _ {st₀ : Table} {l₀ : Bytes} {known nest : ℕ} {over₀ : Bool} {n :
       → {o : Option ℕ} → o ≡ result_ok x → Takes st₀ known over₀ (λ s. tree_read (Ok h) l₀ (read_nested nest s)) t l (Ok o)
   go_all lt h m e {t} {x} a {o} q =
       record {
-        same = a.changed.same ∙ g.same;
+        same = linked a.changed.same g.same;
         grown = grown_trans _ _ _ g.grown a.changed.step.grown;
         structs = a.changed.step.structs ∙ g.structs;
         inside = rw q (found_in x t.used.nodes a.inside);

@@ -10,7 +10,7 @@ use Rattle.definition.specs.Trees.{Tree}
 use Rattle.definition.specs.Build.{build}
 use Rattle.names.specs.Names.{mark_of, name_of}
 use Rattle.table.specs.State.{Grown, Declares}
-use Rattle.table.specs.Did.{held, tables}
+use Rattle.table.specs.Did.{held, tables, Linked}
 use Rattle.table.specs.declared.state.State.{State as Table}
 use Rattle.table.specs.declared.Shape.{Shape}
 use Rattle.table.specs.declared.Shape.TheVariants.{Unit as UnitS, Ref, Param, Apply, Var, Anything, UnresolvedError}
@@ -46,7 +46,7 @@ PlacedSo (Err e) P = Unit {0}
 -- the table st became t, which lends the same words; the answer r is the type that m reads, and the bytes l are left; s knows as many variables and
 -- structs as the record began with
 pub record Takes (st : Table) (known : ℕ) (over : Bool) (m : State → Read Tree) (t : Table) (l : Bytes) (r : std.Result (Option ℕ) Refusal) : Type 0 where
-  pub same : t.words.ghost_name ≡ st.words.ghost_name
+  pub same : Linked st t
   pub grown : Grown (tables st) (tables t)
   pub structs : (tables t).structs ≡ (tables st).structs
   pub inside : PlacedSo r (λ n. n < t.used.nodes)

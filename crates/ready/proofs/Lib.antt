@@ -1,2 +1,2 @@
--- Laws of ready_tvars, as the proofs of the code cite them. Assumes nothing.
-pub mod Run
+-- RD's sums and bytes, as the proofs of the code cite them. Assumes nothing.
+pub mod Told

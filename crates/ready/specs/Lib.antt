@@ -1,2 +1,2 @@
--- What the answers of ready_tvars stand for in the definition. Assumes nothing: these are definitions.
-pub mod Ready
+-- What the sums and the answer of RD stand for in the definition. Assumes nothing: these are definitions.
+pub mod Spell

@@ -1,153 +1,195 @@
 // typing/core.rs: ready_tvars.
-// Changed from the source that NOTICE names: ported to Rattle.
+// Changed from the source that NOTICE names: ported to Rattle. No node is made: what the type would be written as is told from the state as it is.
 #![tactic(auto)]
 
-ghost use Rattle.std.specs.Prelude.{◌≡◌, List, [], ◌*◌, ◌<◌, length, get_or, take};
+ghost use Rattle.std.specs.Prelude.{◌≡◌, true, List, ◌+◌, ◌≤◌, ◌<◌, length};
 ghost use Rattle.definition.specs.Types as d;
-ghost use Rattle.definition.specs.Store.{type_at};
-ghost use Rattle.definition.specs.Subst.{parts, ready, ready_tvars};
-ghost use Rattle.table.specs.State.{Parts};
-ghost use Rattle.table.specs.Did.{held, Did};
-ghost use Rattle.ends.specs.Known.{EndsKnown};
-ghost use Rattle.ready.specs.Ready.{Goes, Lands, HasParts, rebuilt_at, by_parts_at};
+ghost use Rattle.definition.specs.Subst.{ends_in};
+ghost use Rattle.theorems.specs.ReadySpelled.{ready_bytes, summed, spell_ready};
+ghost use Rattle.table.specs.Did.{held, tables};
+ghost use Rattle.writer.specs.Bytes.{Wrote, AllBytes};
+ghost use Rattle.ready.specs.Spell.{LedTo, Owns, Small, added, SumsOf, Measures, Spells};
 
-use ends::{Chains, near_over, note_ends};
+use ends::{Chains, note_ends};
 use names::TVar;
 use refusals::Refusal;
 use table::Shape;
-use table::state::{State, Stop};
+use table::state::State;
 
-// How ready_tvars goes on from a type: to so many parts, to an open variable's end, or to what a variable is bound to.
-// Three ways, none of them a failure.
-#[derive(Clone, Copy)]
-enum Onward {
-    Parts(u32),
-    Open(TVar),
-    Bound(u32),
-}
+const MAX_NODES: u32 = 2048;
 
-// Where the bound variables from a type on lead: to a node with its parts and the calls that are left; or to an open variable.
+const MAX_PLACES: u32 = 4096;
+
+const MAX_PAYLOAD: u32 = 4096;
+
+// The first type, and one for each node and each place: a type of more would not fit.
+const MAX_TYPES: u32 = 1 + MAX_NODES + MAX_PLACES;
+
+// Where a type leads: to a node that is no bound variable, or to an open variable. The node's number and no shape, which is copied slowly.
 #[derive(Clone, Copy)]
-enum Landing {
-    Parts { node: u32, many: u32, calls: u32 },
+enum Led {
+    Node(u32),
     Open { loc: u32, end: TVar },
 }
 
-// ---- ready_tvars
+// So many types are written, in so many bytes; they would take so many nodes and argument places.
+#[derive(Clone, Copy)]
+pub struct Sums {
+    pub types: u32,
+    pub bytes: u32,
+    pub nodes: u32,
+    pub places: u32,
+}
 
-fn ready_onward(chains: &Chains<'_, '_>, s: Shape) -> Onward
-    ensures { Goes chains.now.st.now s result }
+fn lead(chains: &Chains<'_, '_>, t: u32) -> Led
+    requires { t < chains.now.st.now.used.nodes }
+    ensures { LedTo chains.now.st.now t result }
 {
-    match s {
-        Shape::Var(v) => {
-            let last = chains.end(v);
-            match chains.st.bound_at(last) {
-                None => Onward::Open(last),
-                Some(t) => Onward::Bound(t),
-            }
-        }
-        _ => Onward::Parts(shapes::part_count(s)),
+    let n = chains.st.node_at(t);
+    let Some(v) = shapes::as_var(n.shape) else {
+        return Led::Node(t);
+    };
+    let end = chains.end(v);
+    match chains.st.bound_at(end) {
+        None => Led::Open { loc: n.loc, end },
+        Some(x) => Led::Node(x),
     }
 }
 
-// A call for each bound variable on the way. Here and below `ends` stands beside the state: Chains lends the state, and a `&mut State` cannot be lent so.
-fn land(st: &State<'_>, t: u32, left: u32, ends: &[u32]) -> Result<Landing, Stop>
-    requires { (t < st.now.used.nodes) × EndsKnown st.now ends.now }
-    ensures { Lands st.now t left result }
+// A type without its parts.
+fn own(shape: Shape) -> Sums
+    ensures { Owns shape result }
 {
-    let chains = Chains { st, ends };
-    let mut node = t;
-    for calls in (0..left).rev() {
-        let n = st.node_at(node);
-        match ready_onward(&chains, n.shape) {
-            Onward::Parts(many) => return Ok(Landing::Parts { node, many, calls }),
-            Onward::Open(end) => return Ok(Landing::Open { loc: n.loc, end }),
-            Onward::Bound(x) => node = x,
-        }
-    }
-    Err(Stop::Refused(Refusal::RunsIntoItself))
-}
-
-// Part i of node t.
-fn part_of(st: &State<'_>, t: u32, i: u32) -> u32
-    requires { t < st.now.used.nodes }
-    ensures { (ds : List d.Struct) → i < length (parts (type_at (held st.now ds) t)) → result ≡ get_or (parts (type_at (held st.now ds) t)) i 0 }
-{
-    let n = st.node_at(t);
-    shapes::part_at(st, n.shape, i)
-}
-
-// Node t anew, with these parts; a type without parts and without a name stays. Not reader's place_node: that makes a node of any shape that was read.
-fn rebuild(st: &mut State<'_>, t: u32, tys: [u32; 8], many: u32) -> Result<u32, Stop>
-    requires { (t < st.old.used.nodes) × (HasParts st.old t many × Parts st.old.used.nodes tys many) }
-    ensures { Did st.old st.new result (λ s. rebuilt_at s t (take many tys)) }
-{
-    let n = st.node_at(t);
-    match n.shape {
-        Shape::Ref(m, _) => st.push_node(n.loc, Shape::Ref(m, tys[0])),
-        Shape::Apply(a) => st.push_apply(n.loc, a.k, a.n, tys, many),
-        _ => Ok(t),
+    let bytes = writer::head_size(shape);
+    let (nodes, places) = match shape {
+        Shape::Ref(_, _) => (1, 0),
+        Shape::Apply(a) => (1, a.many),
+        Shape::Var(_) => (1, 0),
+        _ => (0, 0),
+    };
+    Sums {
+        types: 1,
+        bytes,
+        nodes,
+        places,
     }
 }
 
-// The parts of node t, one after the other; then the node. The call for a part is the only one that a level waits for.
-#[cycle(ready_ready_types)]
-fn ready_types(st: &mut State<'_>, t: u32, many: u32, left: u32, ends: &[u32]) -> Result<u32, Stop>
-    requires { (t < st.old.used.nodes) × (HasParts st.old t many × EndsKnown st.old ends.now) }
-    ensures { Did st.old st.new result (λ s. by_parts_at (λ s t. ready left s t) s t) }
+fn plus(a: Sums, b: Sums) -> Sums
+    requires { Small a × (Small b × (a.types + b.types ≤ 65536)) }
+    ensures { result ≡ added a b }
 {
-    // Eight, as push_apply takes them (tparams says why).
-    let mut tys: [u32; 8] = [0; 8];
+    Sums {
+        types: a.types + b.types,
+        bytes: a.bytes + b.bytes,
+        nodes: a.nodes + b.nodes,
+        places: a.places + b.places,
+    }
+}
+
+// What type t comes to, if it is over in `left` levels and has no more than `budget` types.
+fn measure(chains: &Chains<'_, '_>, t: u32, left: u32, budget: u32) -> Option<Sums>
+    requires { (t < chains.now.st.now.used.nodes) × (budget ≤ 65536) }
+    ensures { Measures chains.now.st.now t left budget result }
+{
+    let below = left.checked_sub(1)?;
+    if budget == 0 {
+        return None;
+    }
+    let Led::Node(x) = lead(chains, t) else {
+        return Some(Sums {
+            types: 1,
+            bytes: 7,
+            nodes: 1,
+            places: 0,
+        });
+    };
+    let shape = chains.st.node_at(x).shape;
+    let mut m = own(shape);
+    for i in 0..shapes::part_count(shape) {
+        let p = shapes::part_at(chains.st, shape, i);
+        let more = measure(chains, p, below, budget - m.types)?;
+        m = plus(m, more);
+    }
+    Some(m)
+}
+
+// The bytes of type t, which fit; the place after them.
+fn write_spelled(chains: &Chains<'_, '_>, t: u32, left: u32, buf: &mut [u8], at: usize) -> usize
+    requires all_bytes { (t < chains.now.st.now.used.nodes) × AllBytes (tables chains.now.st.now) }
+    requires fits { (ds : List d.Struct) → at + length (ready_bytes left (held chains.now.st.now ds) t) ≤ length buf.old }
+    ensures { (ds : List d.Struct) → Wrote buf.old at (ready_bytes left (held chains.now.st.now ds) t) buf.new result }
+{
+    let Some(below) = left.checked_sub(1) else {
+        return at;
+    };
+    let x = match lead(chains, t) {
+        Led::Open { loc, end } => return writer::write_head(loc, Shape::Var(end), buf, at),
+        Led::Node(x) => x,
+    };
+    let n = chains.st.node_at(x);
+    let loc = n.loc;
+    let shape = n.shape;
+    let many = shapes::part_count(shape);
+    let mut next = writer::write_head(loc, shape, buf, at);
     for i in 0..many {
-        let p = part_of(st, t, i);
-        let x = ready(st, p, left, ends)?;
-        tys[i as usize] = x;
+        let p = shapes::part_at(chains.st, shape, i);
+        next = write_spelled(chains, p, below, buf, next);
     }
-    rebuild(st, t, tys, many)
+    next
 }
 
-// ready_tvars, at most `left` calls deep.
-#[cycle(ready_ready_types)]
-fn ready(st: &mut State<'_>, t: u32, left: u32, ends: &[u32]) -> Result<u32, Stop>
-    requires { (t < st.old.used.nodes) × EndsKnown st.old ends.now }
-    ensures { Did st.old st.new result (λ s. ready left s t) }
+// ---- RD
+
+// What was measured, in as many levels as there are nodes, is written if it fits.
+fn spell_measured(
+    chains: &Chains<'_, '_>,
+    t: u32,
+    m: Sums,
+    buf: &mut [u8],
+) -> Result<usize, Refusal>
+    requires in_use { (t < chains.now.st.now.used.nodes) × (AllBytes (tables chains.now.st.now) × (4096 ≤ length buf.old)) }
+    requires measured { (ds : List d.Struct) → (ends_in chains.now.st.now.used.nodes (held chains.now.st.now ds) t ≡ true) × SumsOf (λ f. summed f chains.now.st.now.used.nodes (held chains.now.st.now ds) t) m }
+    ensures { (ds : List d.Struct) → Spells (spell_ready (held chains.now.st.now ds) t) buf.old buf.new result }
 {
-    match land(st, t, left, ends)? {
-        Landing::Parts { node, many, calls } => ready_types(st, node, many, calls, ends),
-        Landing::Open { loc, end } => st.push_node(loc, Shape::Var(end)),
+    let used = chains.st.used;
+    if MAX_NODES - used.nodes < m.nodes {
+        return Err(Refusal::Full);
     }
+    if MAX_PLACES - used.args < m.places {
+        return Err(Refusal::Full);
+    }
+    if MAX_PAYLOAD < m.bytes {
+        return Err(Refusal::AnswerTooLong);
+    }
+    Ok(write_spelled(chains, t, used.nodes, buf, 0))
 }
 
-// A type of fewer than 64 parts: no ends are noted.
-fn ready_near(st: &mut State<'_>, t: u32) -> Result<u32, Stop>
-    requires { t < st.old.used.nodes }
-    ensures { Did st.old st.new result (λ s. ready (st.old.used.nodes * 2) s t) }
-{
-    ready(st, t, st.used.nodes * 2, &[])
-}
-
-// A type of any size: every end is noted first, for the test and for the run.
-fn ready_far(st: &mut State<'_>, t: u32) -> Result<u32, Stop>
-    requires { t < st.old.used.nodes }
-    ensures { Did st.old st.new result (λ s. ready_tvars s t) }
+// A type of any size: every end is noted first, for the test and for both walks.
+fn spell_far(st: &State<'_>, t: u32, buf: &mut [u8]) -> Result<usize, Refusal>
+    requires { (t < st.now.used.nodes) × (AllBytes (tables st.now) × (4096 ≤ length buf.old)) }
+    ensures { (ds : List d.Struct) → Spells (spell_ready (held st.now ds) t) buf.old buf.new result }
 {
     let mut ends: [u32; 1024] = [0; 1024];
     note_ends(st, &mut ends);
     let chains = Chains { st, ends: &ends };
     if chains.never_over(t) {
-        return Err(Stop::Refused(Refusal::RunsIntoItself));
+        return Err(Refusal::RunsIntoItself);
     }
-    ready(st, t, st.used.nodes * 2, &ends)
+    match measure(&chains, t, st.used.nodes, MAX_TYPES) {
+        Some(m) => spell_measured(&chains, t, m, buf),
+        None => Err(Refusal::Full),
+    }
 }
 
-// Replaces every bound variable by its binding, in every part.
-pub fn ready_tvars(st: &mut State<'_>, t: u32) -> Result<u32, Stop>
-    requires { t < st.old.used.nodes }
-    ensures { Did st.old st.new result (λ s. ready_tvars s t) }
+// RD: the bytes of type t with its variables replaced, and how many. A type of at most 64 types needs no ends.
+pub fn spell_type(st: &State<'_>, t: u32, buf: &mut [u8]) -> Result<usize, Refusal>
+    requires { (t < st.now.used.nodes) × (AllBytes (tables st.now) × (4096 ≤ length buf.old)) }
+    ensures { (ds : List d.Struct) → Spells (spell_ready (held st.now ds) t) buf.old buf.new result }
 {
-    if near_over(st, t) {
-        ready_near(st, t)
-    } else {
-        ready_far(st, t)
+    let chains = Chains { st, ends: &[] };
+    match measure(&chains, t, st.used.nodes, 64) {
+        Some(m) => spell_measured(&chains, t, m, buf),
+        None => spell_far(st, t, buf),
     }
 }

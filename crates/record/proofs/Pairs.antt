@@ -22,7 +22,7 @@ use Rattle.definition.specs.Record as d
 use Rattle.definition.specs.Record.{Record, read_pair}
 use Rattle.names.specs.declared.TParamID.{TParamID}
 use Rattle.table.specs.State.{Grown, Declares}
-use Rattle.table.specs.Did.{held, tables}
+use Rattle.table.specs.Did.{held, tables, Linked}
 use Rattle.table.specs.declared.state.State.{State as Table}
 use Rattle.table.proofs.Steps.{grown_refl, grown_trans}
 use Rattle.table.proofs.Grown.{nodes_grow}
@@ -39,6 +39,7 @@ use Rattle.fields.specs.declared.What.TheVariants as q
 use Rattle.fields.specs.Noded.{Noded, run, looks, tparams, place_record, FieldsAre}
 use Rattle.fields.proofs.Placing.{stopped_is, last_type, first_type}
 use Rattle.fields.proofs.Forms.{was_open, made_with, made_so, first_in}
+use Rattle.table.proofs.Did.{linked, linked_now}
 
 -- ---- pairs in two arrays
 
@@ -151,7 +152,7 @@ put_last xs t s = ap (λ (k : List (ℕ × ℕ)). build t s >>= (λ (s, n). ok (
 
 pub record PairsGo (st₀ : Table) (l₀ : Bytes) (known n : ℕ) (st : Table) (l : Bytes) (over : Bool) (ids : List TParamID) (nodes : List ℕ) (i : ℕ) : Type 0 where
   pub left : i ≤ n
-  pub same : st.words.ghost_name ≡ st₀.words.ghost_name
+  pub same : Linked st₀ st
   pub grown : Grown (tables st₀) (tables st)
   pub structs : (tables st).structs ≡ (tables st₀).structs
   pub long_ids : length ids ≡ 8
@@ -165,7 +166,7 @@ unfolding pairs
 pairs_none {st} l known n e e' =
     record {
       left = omega arith;
-      same = refl;
+      same = linked_now _;
       grown = grown_refl (tables st);
       structs = refl;
       long_ids = e;
@@ -217,7 +218,7 @@ module _ {st₀ : Table} {l₀ : Bytes} {known n : ℕ} {st : Table} {l : Bytes}
     unfolding place_read go_on
     pairs_stop {x = x} t =
         record {
-          same = t.same ∙ g.same;
+          same = linked t.same g.same;
           grown = grown_trans _ _ _ g.grown t.grown;
           structs = t.structs ∙ g.structs;
           inside = tt;
@@ -250,7 +251,7 @@ module _ {st₀ : Table} {l₀ : Bytes} {known n : ℕ} {st : Table} {l : Bytes}
           let lt' : i < length ids = omega arith in
           record {
             left = omega arith;
-            same = t.same ∙ g.same;
+            same = linked t.same g.same;
             grown = grown_trans _ _ _ g.grown t.grown;
             structs = t.structs ∙ g.structs;
             long_ids = length-set ids i (record { 0 = id }) ∙ g.long_ids;
@@ -281,7 +282,7 @@ module _ {st₀ : Table} {l₀ : Bytes} {known n : ℕ} {st : Table} {l : Bytes}
   unfolding place_read go_on
   last_unread h {x = x} t =
       record {
-        same = t.same ∙ g.same;
+        same = linked t.same g.same;
         grown = grown_trans _ _ _ g.grown t.grown;
         structs = t.structs ∙ g.structs;
         inside = tt;
@@ -299,7 +300,7 @@ module _ {st₀ : Table} {l₀ : Bytes} {known n : ℕ} {st : Table} {l : Bytes}
       let z : i ≡ n = (let y = g.left in omega arith) in
       let up : st.used.nodes ≤ st'.used.nodes = nodes_grow _ _ _ _ t.grown in
       record {
-        same = t.same ∙ g.same;
+        same = linked t.same g.same;
         grown = grown_trans _ _ _ g.grown t.grown;
         structs = t.structs ∙ g.structs;
         inside = made_so o st'.used.nodes all_made t.inside (λ x f q. (record { few = few; below = λ j h. under (was_open (rw f at t)) up j (omega arith) }, q));

@@ -60,7 +60,7 @@ by_run : (b : State) (r : Ran) (s before : State) → r.kept ≡ true → Leaves
 unfolding ran
 by_run b r s before e l h = outcome_in b r.result s (unshown b before r.show (outcome r.result s) (rw e at l)) h
 
-in_words : (b : State) (w : List ℕ) (u : Used) (ds : List Struct) → Ranges b (seen w u ds) → AllBytes (view w u)
+pub in_words : (b : State) (w : List ℕ) (u : Used) (ds : List Struct) → Ranges b (seen w u ds) → AllBytes (view w u)
 in_words b w u ds r = seen_bytes w u ds (ranges_bytes b (seen w u ds) r)
 
 module _ {K : List Struct → Type 0} {s t : Table} {r : Ran} {kept : Bool} {step : State → Result (State × ℕ)} {f : State → State → Result (State × Bytes)} (c : Runs K s t r kept step f) (ds : List Struct) (k : K ds) (b : State) where

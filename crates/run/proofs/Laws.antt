@@ -11,7 +11,7 @@ use lib.ListN.{length, set, replicate, length-replicate}
 use Rattle.definition.specs.Types as d
 use Rattle.definition.specs.Types.{Struct, Result, ok, err, refused, ◌>>=◌, max_structs, full, parameter_twice, Spanned, TypeValue}
 use Rattle.definition.specs.Store.{spanned, next_tvar, add_constraint, declare}
-use Rattle.definition.specs.Subst.{set_num_var, ready_tvars}
+use Rattle.definition.specs.Subst.{set_num_var}
 use Rattle.definition.specs.Join as j
 use Rattle.definition.specs.Join.{join, subtype}
 use Rattle.definition.specs.TParams.{make_tparam_subst, subst_tparams}
@@ -45,7 +45,7 @@ use Rattle.definition.specs.Needs.{write_needs}
 use Rattle.needs.specs.Counted.{needs_of}
 use Rattle.needs.specs.declared.Sums.{Sums}
 use Rattle.definition.specs.Step.{tell}
-use Rattle.run.specs.Runs.{join_in, two_run, unfold_run, ready_run, subst_in, tparams_run, instantiate_run, tvar_run, num_tvar_in, num_tvar_run, set_num_in, set_num_run, constraint_run, needs_run, declare_run, Runs, TakenIn, TakesVar, with_row, Declared}
+use Rattle.run.specs.Runs.{join_in, two_run, unfold_run, subst_in, tparams_run, instantiate_run, tvar_run, num_tvar_in, num_tvar_run, set_num_in, set_num_run, constraint_run, needs_run, declare_run, Runs, TakenIn, TakesVar, with_row, Declared}
 
 -- ---- what an answer tells
 
@@ -148,11 +148,7 @@ module _ {s : State} where
   unfolding subst_in tparams_run outcome ◌>>=◌
   ran_twice ps t m e = ran_now (Err (Refused ParameterTwice)) Node false _ _ tt (λ ds. rw (← m) refl) (λ ds before. rw (← m) refl) e
 
--- ---- RD, IN, FV, NV: what follows their step
-
-ready_follows : (t : ℕ) (s before : d.State) → (ready_tvars s t >>= shows false Node before) ≡ ready_run t s before
-unfolding ready_run shown
-ready_follows t s before = refl
+-- ---- IN, FV, NV: what follows their step
 
 instantiate_follows : (t : ℕ) (s before : d.State) → (instantiate s t >>= shows true Node before) ≡ instantiate_run t s before
 unfolding instantiate_run shown
@@ -188,11 +184,6 @@ module _ {s t : State} {a : core.Result ℕ Stop} where
 
       follows : (s before : d.State) → (subst_in ps ty s >>= shows false Node before) ≡ tparams_run ps ty s before
       follows s before = rw (← m) refl
-
-  -- ---- RD
-
-  pub ran_ready : (ty : ℕ) → Did s t a (λ s. ready_tvars s ty) → {r : Ran} → r ≡ as_run a Node false → Runs Any s t r false (λ s. ready_tvars s ty) (ready_run ty)
-  ran_ready ty c e = run_after _ _ false (ready_follows ty) c e
 
   -- ---- IN
 

@@ -43,7 +43,7 @@ module _ (b : State) where
     place_leaves (both t u f) g = last u (λ a c. run (f a c)) (tree t g.0) g.1
     place_leaves (after_pairs pairs t f) g = last t (λ a c. run (f a c)) (pairs_run (Unit {0}) b true pairs (λ y. g.0) b (λ y. i)) g.1
 
-    placed_in : (x : Record) → RecordIn b x → (s : State) (n : Noded) → place_record x b ≡ ok (s, n) → Ranges b s
+    pub placed_in : (x : Record) → RecordIn b x → (s : State) (n : Noded) → place_record x b ≡ ok (s, n) → Ranges b s
     unfolding place_record
     placed_in x g s n e = go (subst (λ (m : Result (State × Noded)). Leaves b m) e (place_leaves (shape x) (shape_in b x g)))
       where

@@ -14,7 +14,7 @@ use Rattle.definition.specs.Write.{Bytes, u16, head, write, write_spanned}
 use Rattle.definition.specs.Needs.{Needs}
 use Rattle.definition.specs.Step.{tell}
 use Rattle.table.specs.State.{outcome, done, more, Any, Grown, FoundIn, Declares}
-use Rattle.table.specs.Did.{held, tables, StopIn, Became}
+use Rattle.table.specs.Did.{held, tables, StopIn, Became, Linked}
 use Rattle.table.specs.declared.Used.{Used}
 use Rattle.table.specs.declared.state.State.{State}
 use Rattle.table.specs.declared.state.Stop.{Stop}
@@ -122,7 +122,7 @@ pub record TakesVar (s t : State) (r : core.Result ℕ Stop) (f : d.State → Re
 
 -- one struct row more, if there is room; its bytes ps stand beside the words
 pub record Declared (s t : State) (r : Ran) (abilities params : ℕ) : Type 0 where
-  pub same : t.words.ghost_name ≡ s.words.ghost_name
+  pub same : Linked s t
   pub grown : Grown (tables s) (tables t)
   pub tells : Tells t.used r.show r.result
   pub kept_is : r.kept ≡ true

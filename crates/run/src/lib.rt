@@ -3,7 +3,6 @@
 
 ghost use Rattle.std.specs.Prelude.{◌≡◌, true, false, ◌<◌};
 ghost use Rattle.definition.specs.Store.{next_tvar};
-ghost use Rattle.definition.specs.Subst.{ready_tvars};
 ghost use Rattle.definition.specs.Instantiate.{instantiate};
 ghost use Rattle.needs.specs.Counted.{needs_of};
 ghost use Rattle.definition.specs.Step.{numeric_constraint};
@@ -12,15 +11,15 @@ ghost use Rattle.table.specs.Did.{zero_of};
 ghost use Rattle.table.specs.declared.state.State.{State};
 ghost use Rattle.table.specs.Known.{Known};
 ghost use Rattle.constraints.specs.Solve.{kind_of};
-ghost use Rattle.run.specs.Runs.{join_in, two_run, unfold_run, ready_run, subst_in, tparams_run, instantiate_run, tvar_run, num_tvar_in, num_tvar_run, set_num_in, set_num_run, constraint_run, needs_run, Runs, TakesVar, with_row, Declared};
-ghost use Rattle.fields.specs.Noded.{two_case, loc_type_constraint, binds, looks, adds, pairs_of, bind_of, look_of, add_of, BindIn, LookIn};
+ghost use Rattle.run.specs.Runs.{join_in, two_run, instantiate_run, tvar_run, num_tvar_in, num_tvar_run, set_num_in, set_num_run, constraint_run, needs_run, Runs, TakesVar, with_row, Declared};
+ghost use Rattle.fields.specs.Noded.{two_case, loc_type_constraint, unfolded, tparams, binds, looks, adds, pairs_of, bind_of, add_of, BindIn};
 ghost use Rattle.payload.specs.declared.Show.TheVariants.{Nothing};
 ghost use Rattle.run.specs.Dispatch.{RanAs};
 
 use answer::Ran;
 use constraints::NumericKind;
-use fields::{Add, Bind, Look, Pairs};
-use marks::{LocMark, LocTypeMark, LookMark, TwoMark};
+use fields::{Add, Bind, Pairs};
+use marks::{LocMark, LocTypeMark, TwoMark};
 use names::{AbilitySet, TVar};
 use needs::Sums;
 use payload::Show;
@@ -62,7 +61,7 @@ pub fn run_two(st: &mut State<'_>, m: TwoMark, lhs: u32, rhs: u32) -> Ran
 // UF: what a type unfolds to.
 pub fn run_unfold(st: &State<'_>, t: u32) -> Ran
     requires { t < st.now.used.nodes }
-    ensures { Runs Any st.now st.now result false (λ s. outcome result.result s) (unfold_run t) }
+    ensures { RanAs Any st.now st.now result (looks (unfolded t)) }
 {
     match subst::unfold_type(st, t) {
         Unfolded::Node(x) => shown(Ok(x), Show::Node, false),
@@ -70,18 +69,10 @@ pub fn run_unfold(st: &State<'_>, t: u32) -> Ran
     }
 }
 
-// RD: a type with its variables replaced.
-pub fn run_ready(st: &mut State<'_>, t: u32) -> Ran
-    requires { t < st.old.used.nodes }
-    ensures { Runs Any st.old st.new result false (λ s. ready_tvars s t) (ready_run t) }
-{
-    shown(ready::ready_tvars(st, t), Show::Node, false)
-}
-
 // TS: a type with arguments for its parameters.
 pub fn run_tparams(st: &mut State<'_>, ps: Pairs, t: u32) -> Ran
     requires { (t < st.old.used.nodes) × Parts st.old.used.nodes ps.nodes ps.many }
-    ensures { Runs Any st.old st.new result false (subst_in (pairs_of ps) t) (tparams_run (pairs_of ps) t) }
+    ensures { RanAs Any st.old st.new result (looks (tparams (pairs_of ps) t)) }
 {
     match tparams::make_tparam_subst(ps.ids, ps.nodes, ps.many) {
         Some(subst) => shown(tparams::subst_tparams(st, &subst, t), Show::Node, false),
@@ -191,7 +182,7 @@ pub fn put_row(params: &mut [[u8; 8]; 256], n: Option<u32>, bytes: [u8; 8])
     }
 }
 
-// ---- a record that is read and placed, by its mark. SD, whose bytes stand beside the words, and SV, whose payload is no type's, have calls of their own
+// ---- a record that is read and placed, by its mark. SD, whose bytes stand beside the words, SV, whose payload is no type's, and what only shows have calls of their own
 
 pub fn run_bind(st: &mut State<'_>, params: &[[u8; 8]; 256], what: Bind) -> Ran
     requires { BindIn st.old.used.nodes what }
@@ -201,19 +192,6 @@ pub fn run_bind(st: &mut State<'_>, params: &[[u8; 8]; 256], what: Bind) -> Ran
         Bind::SN(v, loc) => run_set_num(st, v, loc),
         Bind::Two(m, lhs, rhs) => run_two(st, m, lhs, rhs),
         Bind::IN(t) => run_instantiate(st, params, t),
-    }
-}
-
-pub fn run_look(st: &mut State<'_>, what: Look) -> Ran
-    requires { LookIn st.old.used.nodes what }
-    ensures { RanAs Any st.old st.new result (looks (look_of what)) }
-{
-    match what {
-        Look::One(m, t) => match m {
-            LookMark::UF => run_unfold(st, t),
-            LookMark::RD => run_ready(st, t),
-        },
-        Look::TS(ps, t) => run_tparams(st, ps, t),
     }
 }
 

@@ -17,8 +17,8 @@ use Rattle.refusals.specs.declared.Refusal.TheVariants.{RunsIntoItself}
 use Rattle.table.specs.declared.state.State.{State}
 use Rattle.table.specs.declared.state.Stop.{Stop}
 use Rattle.table.specs.declared.state.Stop.TheVariants.{Refused}
-use Rattle.table.specs.Did.{held, tables, DidFor}
-use Rattle.table.proofs.Did.{to_when, of_when, stop_none, did_now, did_is}
+use Rattle.table.specs.Did.{held, tables, DidFor, Linked}
+use Rattle.table.proofs.Did.{to_when, of_when, stop_none, did_now, did_is, linked, linked_now}
 use Rattle.table.proofs.Grown.{nodes_grow}
 use Rattle.table.proofs.Walk.{rest, Walked, placed_length, arg_kept, walk_start, walk_stop, walk_more, walk_end, walk_parts}
 use Rattle.shapes.proofs.Levels.{Walk, Levels, level_is}
@@ -50,12 +50,12 @@ pub record Through (K : List Struct → Type 0) (f : Walk) (h : List ℕ → d.S
 
 -- .. in the same words
 pub record Going (K : List Struct → Type 0) (f : Walk) (h : List ℕ → d.State → Result (d.State × ℕ)) (first many : ℕ) (s₀ s : State) (parts : List ℕ) (i : ℕ) : Type 0 where
-  pub same : s.words.ghost_name ≡ s₀.words.ghost_name
+  pub same : Linked s₀ s
   pub through : Through K f h first many s₀ s parts i
 
 module _ {K : List Struct → Type 0} {f : Walk} {h : List ℕ → d.State → Result (d.State × ℕ)} {first many : ℕ} {s₀ : State} where
   pub going_start : {parts : List ℕ} → Named s₀.words.now s₀.used first many s₀.used.nodes → length parts ≡ 8 → Going K f h first many s₀ s₀ parts 0
-  going_start nm e = record { same = refl; through = record { walked = walk_start s₀.lay (placed_length s₀.words.now s₀.used first many nm.placed) nm.placed.few e; named = nm } }
+  going_start nm e = record { same = linked_now _; through = record { walked = walk_start s₀.lay (placed_length s₀.words.now s₀.used first many nm.placed) nm.placed.few e; named = nm } }
 
   module _ {s : State} {parts : List ℕ} {i : ℕ} (g : Going K f h first many s₀ s parts i) where
     pub going_nodes : s₀.used.nodes ≤ s.used.nodes
@@ -70,13 +70,13 @@ module _ {K : List Struct → Type 0} {f : Walk} {h : List ℕ → d.State → R
       going_in = omega (arith, n_is, g.through.named.smaller i lt, going_nodes)
 
       pub going_stop : {t : State} {e : Stop} {r : core.Result ℕ Stop} → DidFor K s t (Err e) (λ x. f x n) → r ≡ Err e → DidFor K s₀ t r (rest f h [] (args_at (tables s₀) (places first many)))
-      going_stop {e = e} step q = rw q (of_when (step.changed.same ∙ g.same) (walk_stop g.through.walked {b = None} lt n_is (to_when step) (sym (stop_none e)) refl))
+      going_stop {e = e} step q = rw q (of_when (linked step.changed.same g.same) (walk_stop g.through.walked {b = None} lt n_is (to_when step) (sym (stop_none e)) refl))
 
       pub going_more : {t : State} {p at : ℕ} → DidFor K s t (Ok p) (λ x. f x n) → at ≡ i → Going K f h first many s₀ t (set parts at p) (i + 1)
-      going_more {p = p} step e = record { same = step.changed.same ∙ g.same; through = record { walked = walk_more g.through.walked {b = Some p} lt n_is (to_when step) refl refl e; named = g.through.named } }
+      going_more {p = p} step e = record { same = linked step.changed.same g.same; through = record { walked = walk_more g.through.walked {b = Some p} lt n_is (to_when step) refl refl e; named = g.through.named } }
 
     pub going_end : {t : State} {r : core.Result ℕ Stop} → many ≤ i → DidFor K s t r (h (take many parts)) → DidFor K s₀ t r (rest f h [] (args_at (tables s₀) (places first many)))
-    going_end no_more x = of_when (x.changed.same ∙ g.same) (walk_end g.through.walked no_more (to_when x))
+    going_end no_more x = of_when (linked x.changed.same g.same) (walk_end g.through.walked no_more (to_when x))
 
     pub going_parts : many ≤ i → Parts s.used.nodes parts many
     going_parts no_more = walk_parts g.through.walked no_more

@@ -13,6 +13,7 @@ use Rattle.definition.specs.Step.{put_back}
 use Rattle.table.specs.Tab.{tab}
 use Rattle.table.specs.Rows.{Table, row, words_at, entries, Clean, read_cell, cell_words, option_flag, option_word, node_table, arg_table, var_table, constraint_table, struct_table}
 use Rattle.table.specs.State.{view, seen, Lay, Inside, Stored, Wrote}
+use Rattle.table.specs.Touched.{Stay}
 use Rattle.table.specs.declared.Used.{Used}
 use Rattle.table.proofs.Tab.{tab_ext}
 use Rattle.table.proofs.Rows.{length_entries, entry_at, entry_out, row_same, Same, same_entries, same_clean, apart}
@@ -20,7 +21,9 @@ use Rattle.table.proofs.Written.{cell_again}
 use Rattle.table.proofs.States.{grown_vars}
 use Rattle.table.proofs.Steps.{refines_by}
 use Rattle.table.proofs.Pushed.{count_view, taken_view}
-use Rattle.snapshot.specs.Snap.{Above, Since}
+use mathlib.Core.Logic.{inl, inr}
+use Rattle.snapshot.specs.Snap.{Above, Rows, Since}
+use Rattle.snapshot.specs.Copied.{Copied}
 use Rattle.snapshot.proofs.Growing.{grown_above}
 
 -- past a list, and past the blanks after it, all is blank
@@ -43,22 +46,30 @@ pub blank_cell : var_table.write unbound ≡ tab 5 (λ k. 0)
 unfolding tab cell_words option_flag option_word
 blank_cell = refl
 
-module _ (w : List ℕ) (u : Used) (before : Used) (saved w₁ w' : List ℕ) (h : Lay w u)
-    (c : Wrote w 16389 (before.vars * 5) saved w₁) (z : Wrote w₁ (16389 + before.vars * 5) ((u.vars - before.vars) * 5) [] w') (w₀ : List ℕ) (s : Since w₀ before saved w u) where
+module _ (w : List ℕ) (u : Used) (before : Used) (r : Rows) (w₁ w' : List ℕ) (h : Lay w u)
+    (c : Copied w 16389 r.words 0 before.vars r.touched w₁) (z : Wrote w₁ (16389 + before.vars * 5) ((u.vars - before.vars) * 5) [] w') (w₀ : List ℕ) (s : Since w₀ before r w u) where
   above : Above before u
   above = grown_above w₀ before w u s.grown
 
   abbrev more : ℕ
   more = u.vars - before.vars
 
-  front_row : (i : ℕ) → i < before.vars → row var_table w' i ≡ row var_table w₀ i
-  front_row i lt = row_same var_table w₀ w' i (λ k p.
+  -- what is put back is what was saved, and what is not was not touched
+  front_word : (i k : ℕ) → i < before.vars → k < 5 → get_or w' (16389 + i * 5 + k) 0 ≡ get_or w₁ (16389 + (i * 5 + k)) 0
+  front_word i k lt p =
       let e : 16389 + i * 5 + k ≡ 16389 + (i * 5 + k) = omega arith in
-      z.there (16389 + i * 5 + k) (λ l q f. omega arith)
-      ∙ ap (λ (x : ℕ). get_or w₁ x 0) e
-      ∙ c.here (i * 5 + k) (omega arith)
-      ∙ s.kept.word (i * 5 + k) (omega arith)
-      ∙ ap (λ (x : ℕ). get_or w₀ x 0) (sym e))
+      z.there (16389 + i * 5 + k) (λ l q f. omega arith) ∙ ap (λ (x : ℕ). get_or w₁ x 0) e
+
+  front_row : (i : ℕ) → i < before.vars → row var_table w' i ≡ row var_table w₀ i
+  front_row i lt = elim (c.rows i lt) [
+    | inl f ↦ row_same var_table w₀ w' i (λ k p.
+        let e : 16389 + i * 5 + k ≡ 16389 + (i * 5 + k) = omega arith in
+        front_word i k lt p ∙ f k p ∙ ap (λ (x : ℕ). get_or r.words x 0) (let g : 0 + (i * 5 + k) ≡ i * 5 + k = omega arith in g) ∙ s.kept.word (i * 5 + k) (omega arith) ∙ ap (λ (x : ℕ). get_or w₀ x 0) (sym e))
+    | inr f ↦ row_same var_table w w' i (λ k p.
+        let e : 16389 + i * 5 + k ≡ 16389 + (i * 5 + k) = omega arith in
+        front_word i k lt p ∙ c.stay i lt f k p ∙ ap (λ (x : ℕ). get_or w x 0) (sym e))
+        ∙ s.stay i (let m = s.lay.vars in omega arith) lt f
+  ]
 
   tail_row : (i : ℕ) → before.vars ≤ i → i < u.vars → row var_table w' i ≡ var_table.write unbound
   tail_row i le lt = zero_row var_table w' i (λ k p.
@@ -101,23 +112,26 @@ module _ (w : List ℕ) (u : Used) (before : Used) (saved w₁ w' : List ℕ) (h
           ∙ h.clean_vars i p
           ∙ ap cell_words (entry_out var_table w u.vars i unbound (omega arith) ∙ sym (entry_out var_table w₀ before.vars i unbound (omega arith)))
 
+  away : {A : Type 0} (T : Table A) → ((i k l : ℕ) → i < T.rows → k < T.width → l < before.vars * 5 → T.base + i * T.width + k ≡ 16389 + l → ⊥) → Same T w w₁
+  away T ne i p = row_same T w w₁ i (λ k q. c.there _ (λ l s e. ne i k l p q s e))
+
   kept_nodes : Same node_table w w'
-  kept_nodes i p = apart node_table w₁ (16389 + before.vars * 5) (more * 5) [] w' z (λ i k l p q s e. omega arith) i p ∙ apart node_table w 16389 (before.vars * 5) saved w₁ c (λ i k l p q s e. omega arith) i p
+  kept_nodes i p = apart node_table w₁ (16389 + before.vars * 5) (more * 5) [] w' z (λ i k l p q s e. omega arith) i p ∙ away node_table (λ i k l p q s e. omega arith) i p
 
   kept_args : Same arg_table w w'
-  kept_args i p = apart arg_table w₁ (16389 + before.vars * 5) (more * 5) [] w' z (λ i k l p q s e. omega arith) i p ∙ apart arg_table w 16389 (before.vars * 5) saved w₁ c (λ i k l p q s e. omega arith) i p
+  kept_args i p = apart arg_table w₁ (16389 + before.vars * 5) (more * 5) [] w' z (λ i k l p q s e. omega arith) i p ∙ away arg_table (λ i k l p q s e. omega arith) i p
 
   kept_constraints : Same constraint_table w w'
   kept_constraints i p =
       let x = above.vars in
       let y = h.vars in
-      apart constraint_table w₁ (16389 + before.vars * 5) (more * 5) [] w' z (λ i k l p q s e. omega arith) i p ∙ apart constraint_table w 16389 (before.vars * 5) saved w₁ c (λ i k l p q s e. omega arith) i p
+      apart constraint_table w₁ (16389 + before.vars * 5) (more * 5) [] w' z (λ i k l p q s e. omega arith) i p ∙ away constraint_table (λ i k l p q s e. omega arith) i p
 
   kept_structs : Same struct_table w w'
   kept_structs i p =
       let x = above.vars in
       let y = h.vars in
-      apart struct_table w₁ (16389 + before.vars * 5) (more * 5) [] w' z (λ i k l p q s e. omega arith) i p ∙ apart struct_table w 16389 (before.vars * 5) saved w₁ c (λ i k l p q s e. omega arith) i p
+      apart struct_table w₁ (16389 + before.vars * 5) (more * 5) [] w' z (λ i k l p q s e. omega arith) i p ∙ away struct_table (λ i k l p q s e. omega arith) i p
 
   back_view : view w' u ≡ with_vars (view w u) back
   unfolding view with_vars
@@ -170,3 +184,10 @@ module _ (w : List ℕ) (u : Used) (before : Used) (saved w₁ w' : List ℕ) (h
       (grown_vars (view w u) back (omega (arith, taken_view w u, length-append (entries var_table w₀ before.vars) (replicate more unbound), length_entries var_table w₀ before.vars, length-replicate more unbound)))
       refl
       (λ ds k. back_is ds)
+
+-- .. and the rows that are not noted stay
+pub put_stay : (w : List ℕ) (u before : Used) (r : Rows) (w₁ w' : List ℕ) → Copied w 16389 r.words 0 before.vars r.touched w₁ → Wrote w₁ (16389 + before.vars * 5) ((u.vars - before.vars) * 5) [] w'
+    → Stay r.touched before.vars w w'
+put_stay w u before r w₁ w' c z v p q f = row_same var_table w w' v (λ k l.
+    let e : 16389 + v * 5 + k ≡ 16389 + (v * 5 + k) = omega arith in
+    z.there (16389 + v * 5 + k) (λ j x y. omega arith) ∙ ap (λ (x : ℕ). get_or w₁ x 0) e ∙ c.stay v q f k l ∙ ap (λ (x : ℕ). get_or w x 0) (sym e))

@@ -1,5 +1,6 @@
 -- Laws of the snapshot's return. Assumes nothing.
 pub mod Parts
+pub mod Copying
 pub mod Saving
 pub mod Growing
 pub mod Back

@@ -7,7 +7,7 @@ use borrow.Rule.Slice.PartMut.{put_mid}
 use Rattle.table.specs.State.{Wrote}
 
 module _ (w : List ℕ) (at n : ℕ) (row ys : List ℕ) (within : at + n ≤ length w) (long : length ys ≡ n) (same : (k : ℕ) → k < n → get_or ys k 0 ≡ get_or row k 0) where
-  wrote_mid : Wrote w at n row (put_mid at n w ys)
+  pub wrote_mid : Wrote w at n row (put_mid at n w ys)
   wrote_mid = record { size = search (rules, places); here = λ k p. here k p; there = λ j f. by j f (dec_lt j at) (dec_lt j (at + n)) }
     where
       here : (k : ℕ) → k < n → get_or (put_mid at n w ys) (at + k) 0 ≡ get_or row k 0

@@ -16,7 +16,7 @@ use Rattle.table.specs.declared.Used.{Used}
 use Rattle.table.proofs.Tab.{tab_ext}
 use Rattle.table.proofs.Rows.{length_entries, entry_out, row_same, Same, same_entries, same_clean, apart}
 use Rattle.table.proofs.Steps.{grown_trans}
-use Rattle.snapshot.specs.Snap.{Above, Saved, Since, Sized, Stood}
+use Rattle.snapshot.specs.Snap.{Above, Saved, Since, Sized, Stood, Rows}
 use Rattle.snapshot.proofs.Back.{getD_blanks, zero_row}
 
 -- ---- one table: rows b to n of w are zeroed, and w has the rows of w₀ below b
@@ -55,6 +55,28 @@ module _ {A : Type 0} (T : Table A) (w₀ : List ℕ) (b : ℕ) (w : List ℕ) (
           ∙ sym (blank_before i (omega arith) p)
       by (no q) (no r) =
           row_same T wa wb i (λ k s. z.there (T.base + i * T.width + k) (λ l t e. over i k l (omega arith) t e)) ∙ same i p ∙ blank_after i (omega arith) p ∙ sym (blank_before i (omega arith) p)
+
+-- ---- what giving back asks
+
+pub sized_on : {w : List ℕ} {u : Used} (w' : List ℕ) → length w' ≡ length w → Lay w u → Sized w' u
+sized_on w' e h = record { size = e ∙ h.size; nodes = h.nodes; args = h.args; constraints = h.constraints; structs = h.structs }
+
+-- no row of a variable is written
+pub vars_stay : (w₁ : List ℕ) (u before : Used) (w₂ w₃ w₄ w₅ : List ℕ) → Sized w₁ u → Above before u
+    → Wrote w₁ (5 + before.nodes * 6) ((u.nodes - before.nodes) * 6) [] w₂
+    → Wrote w₂ (12293 + before.args * 1) ((u.args - before.args) * 1) [] w₃
+    → Wrote w₃ (21509 + before.constraints * 4) ((u.constraints - before.constraints) * 4) [] w₄
+    → Wrote w₄ (23557 + before.structs * 2) ((u.structs - before.structs) * 2) [] w₅
+    → Same var_table w₁ w₅
+vars_stay w₁ u before w₂ w₃ w₄ w₅ h above z₂ z₃ z₄ z₅ i p =
+    let m = h.nodes in
+    let q = above.nodes in
+    let ma = h.args in
+    let qa = above.args in
+    apart var_table w₄ (23557 + before.structs * 2) ((u.structs - before.structs) * 2) [] w₅ z₅ (λ i k l p q s e. omega arith) i p
+    ∙ apart var_table w₃ (21509 + before.constraints * 4) ((u.constraints - before.constraints) * 4) [] w₄ z₄ (λ i k l p q s e. omega arith) i p
+    ∙ apart var_table w₂ (12293 + before.args * 1) ((u.args - before.args) * 1) [] w₃ z₃ (λ i k l p r s e. omega arith) i p
+    ∙ apart var_table w₁ (5 + before.nodes * 6) ((u.nodes - before.nodes) * 6) [] w₂ z₂ (λ i k l p r s e. omega arith) i p
 
 -- ---- all tables
 
@@ -162,14 +184,7 @@ module _ (w₁ : List ℕ) (u : Used) (before : Used) (w₂ w₃ w₄ w₅ w₀ 
   pub same_vars : Same var_table w₀ w₅
   unfolding Clean
   same_vars i p =
-      let m = h.nodes in
-      let q = above.nodes in
-      let ma = h.args in
-      let qa = above.args in
-      apart var_table w₄ (23557 + before.structs * 2) ((u.structs - before.structs) * 2) [] w₅ z₅ (λ i k l p q s e. omega arith) i p
-      ∙ apart var_table w₃ (21509 + before.constraints * 4) ((u.constraints - before.constraints) * 4) [] w₄ z₄ (λ i k l p q s e. omega arith) i p
-      ∙ apart var_table w₂ (12293 + before.args * 1) ((u.args - before.args) * 1) [] w₃ z₃ (λ i k l p r s e. omega arith) i p
-      ∙ apart var_table w₁ (5 + before.nodes * 6) ((u.nodes - before.nodes) * 6) [] w₂ z₂ (λ i k l p r s e. omega arith) i p
+      vars_stay w₁ u before w₂ w₃ w₄ w₅ (sized_on w₁ refl h) above z₂ z₃ z₄ z₅ i p
       ∙ h.clean_vars i p
       ∙ ap (λ (l : List Cell). cell_words (get_or l i unbound)) vars_then
       ∙ ap cell_words (getD_blanks (entries var_table w₀ before.vars) s.blanks i unbound)
@@ -209,15 +224,15 @@ module _ (w₁ : List ℕ) (u : Used) (before : Used) (w₂ w₃ w₄ w₅ w₀ 
 -- ---- whose variables stand
 
 -- after they were put back
-pub put_stood : (w₀ : List ℕ) (before : Used) (saved w : List ℕ) (u : Used) (w₁ : List ℕ) → Since w₀ before saved w u → Stored w u w₁ (λ s. put_back (with_structs (view w₀ before) s.structs) s) → Stood w₀ before w₁ u
+pub put_stood : (w₀ : List ℕ) (before : Used) (r : Rows) (w : List ℕ) (u : Used) (w₁ : List ℕ) → Since w₀ before r w u → Stored w u w₁ (λ s. put_back (with_structs (view w₀ before) s.structs) s) → Stood w₀ before w₁ u
 unfolding seen with_structs put_back with_vars
-put_stood w₀ before saved w u w₁ s a = record { lay = s.lay; now = a.lay; grown = grown_trans _ _ _ s.grown a.grown; blanks = taken (view w u) - taken (view w₀ before); vars = back }
+put_stood w₀ before r w u w₁ s a = record { lay = s.lay; now = a.lay; grown = grown_trans _ _ _ s.grown a.grown; blanks = taken (view w u) - taken (view w₀ before); vars = back }
   where
     back : (view w₁ u).vars ≡ (view w₀ before).vars ++ replicate (taken (view w u) - taken (view w₀ before)) unbound
     back = ap (λ (x : State). x.vars) (a.is [] tt)
 
 -- where the snapshot is still that of the words
-module _ (w₀ : List ℕ) (before : Used) (saved w : List ℕ) (u : Used) (s : Since w₀ before saved w u) (h : Lay w u) (now : Saved w u saved) (many : u.vars ≡ before.vars) where
+module _ (w₀ : List ℕ) (before : Used) (r : Rows) (w : List ℕ) (u : Used) (s : Since w₀ before r w u) (h : Lay w u) (now : Saved w u r.words) (many : u.vars ≡ before.vars) where
   still_row : (i : ℕ) → i < before.vars → row var_table w i ≡ row var_table w₀ i
   still_row i lt = row_same var_table w₀ w i (λ k p.
       let e : 16389 + i * 5 + k ≡ 16389 + (i * 5 + k) = omega arith in
@@ -232,8 +247,3 @@ module _ (w₀ : List ℕ) (before : Used) (saved w : List ℕ) (u : Used) (s : 
 
   pub saved_stood : Stood w₀ before w u
   saved_stood = record { lay = s.lay; now = h; grown = s.grown; blanks = 0; vars = still_vars ∙ sym (append-nil (view w₀ before).vars) }
-
--- ---- what giving back asks
-
-pub sized_on : {w : List ℕ} {u : Used} (w' : List ℕ) → length w' ≡ length w → Lay w u → Sized w' u
-sized_on w' e h = record { size = e ∙ h.size; nodes = h.nodes; args = h.args; constraints = h.constraints; structs = h.structs }

@@ -17,13 +17,13 @@ use Rattle.definition.specs.Step.{answer, answer_with, refusal, max_payload}
 use Rattle.refusals.specs.Refusals.{refusal_of}
 use Rattle.refusals.specs.declared.Refusal.{Refusal}
 use Rattle.table.specs.State.{outcome, seen, Grown}
-use Rattle.table.specs.Did.{held, tables}
+use Rattle.table.specs.Did.{held, tables, Linked}
 use Rattle.table.specs.Known.{Declared}
 use Rattle.table.specs.declared.Used.{Used}
 use Rattle.table.specs.declared.state.State.{State}
 use Rattle.table.specs.declared.state.Stop.{Stop}
 use Rattle.table.proofs.Known.{known_kept}
-use Rattle.table.proofs.Did.{stop_none}
+use Rattle.table.proofs.Did.{stop_none, linked}
 use Rattle.reader.proofs.Loop.{declares_kept}
 use Rattle.snapshot.specs.declared.before.Before.{Before}
 use Rattle.snapshot.specs.Snap.{Saved}
@@ -40,6 +40,7 @@ use Rattle.payload.specs.declared.Show.TheVariants as show
 use Rattle.payload.proofs.Payload.{wrote_payload, wrote_rest, wrote_few}
 use Rattle.answer.specs.Ran.{ran, answered, refused_by}
 use Rattle.answer.specs.Answered.{AnswersIn}
+use Rattle.answer.proofs.Growing.{grown_now, grown_on}
 use Rattle.solve.specs.Solves.{solved, solve_answer, Reports, Solves}
 use Rattle.solve.proofs.Left.{Decided}
 
@@ -118,15 +119,15 @@ none_refused s e ds = asks_clear (held s ds) (tables s).constraints e
 -- ---- from the state at entry
 
 module _ {w₀ : List ℕ} (before : Before) (s s₁ : State) (e : w₀ ≡ s.words.now) (f : before.used ≡ s.used) where
-  pub grown_from : Saved s.words.now s.used before.saved.now → Grown (tables s) (tables s₁) → GrownFrom w₀ before s₁
-  grown_from k g = rw (e, f) record { lay = s.lay; kept = k; grown = g }
+  pub grown_from : s.saved ≡ s.used.vars → Saved s.words.now s.used before.saved.now → Linked s s₁ → Grown (tables s) (tables s₁) → GrownFrom w₀ before s₁
+  grown_from m k l g = rw e (grown_on s.words.now before s s₁ (grown_now before s f m k) l g)
 
   module _ {t : State} {params : List (List ℕ)} {buf buf' : List ℕ} {x : Answer} where
-    solves : (g : d.State → d.State → step.Answer) → s₁.words.ghost_name ≡ s.words.ghost_name → (tables s₁).structs ≡ (tables s).structs
+    solves : (g : d.State → d.State → step.Answer) → Linked s s₁ → (tables s₁).structs ≡ (tables s).structs
         → ((ds : List Struct) (y : d.State) → solve_answer (held s ds) y ≡ g (held s₁ ds) y) → Reports w₀ before.used s₁ params t buf buf' x g → Solves s params t buf buf' x
     solves g same structs h c =
         let r : Reports w₀ before.used s params t buf buf' x solve_answer = record {
-          same = c.same ∙ same;
+          same = linked c.same same;
           used = c.used;
           few = c.few;
           rest = c.rest;

@@ -7,7 +7,7 @@ use Rattle.definition.specs.Sound.{sound}
 use Rattle.definition.specs.Step as step
 use Rattle.definition.specs.Step.{answer}
 use Rattle.table.specs.State.{seen, Declares}
-use Rattle.table.specs.Did.{held}
+use Rattle.table.specs.Did.{held, Linked}
 use Rattle.table.specs.declared.Used.{Used}
 use Rattle.table.specs.declared.state.State.{State}
 use Rattle.abilities.specs.Kept.{Knows}
@@ -28,7 +28,7 @@ solve_answer s before = answer before (solve_constraints s)
 
 -- as AnswersIn of answer, but for the declarations that words and bytes hold: abilities depend on them
 pub record Reports (w₀ : List ℕ) (before : Used) (s : State) (params : List (List ℕ)) (t : State) (buf buf' : List ℕ) (r : Answer) (f : d.State → d.State → step.Answer) : Type 0 where
-  pub same : t.words.ghost_name ≡ s.words.ghost_name
+  pub same : Linked s t
   pub used : r.used ≡ t.used
   pub few : r.len ≤ 4096
   pub rest : buf' ≡ take r.len buf' ++ drop r.len buf

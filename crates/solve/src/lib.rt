@@ -21,6 +21,7 @@ use failures::{size_failures, write_failures};
 use payload::{Answer, Show, as_left};
 use refusals::Refusal;
 use snapshot::before::Before;
+use table::Touched;
 use table::state::State;
 
 // Nothing is refused: the failures as payload, if they fit, and no constraint.
@@ -93,7 +94,7 @@ fn solve_from(
 ) -> Answer
     ghost w0: { List ℕ }
     requires entry { (w0 ≡ st.old.words.now) × (before.used ≡ st.old.used) }
-    requires saved { Saved st.old.words.now st.old.used before.saved.now × (4096 ≤ length buf.old) }
+    requires saved { ((st.old.saved ≡ st.old.used.vars) × Saved st.old.words.now st.old.used before.saved.now) × (4096 ≤ length buf.old) }
     requires holds_sound { HoldsSound st.old params.now }
     ensures { Solves st.old params.now st.new buf.old buf.new result }
 {
@@ -112,13 +113,14 @@ fn solve_from(
 
 // SV. `saved` has the rows of the variables as they are now.
 pub fn solve(st: &mut State<'_>, params: &[[u8; 8]; 256], saved: &[u32], buf: &mut [u8]) -> Answer
-    requires saved { Saved st.old.words.now st.old.used saved.now × ((5120 ≤ length saved.now) × (4096 ≤ length buf.old)) }
+    requires saved { ((st.old.saved ≡ st.old.used.vars) × Saved st.old.words.now st.old.used saved.now) × ((5120 ≤ length saved.now) × (4096 ≤ length buf.old)) }
     requires holds_sound { HoldsSound st.old params.now }
     ensures { Solves st.old params.now st.new buf.old buf.new result }
 {
     let before = Before {
         used: st.used,
         saved,
+        touched: Touched::Nothing,
     };
     solve_from(st, before, params, buf)
 }

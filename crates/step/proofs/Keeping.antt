@@ -22,12 +22,13 @@ use Rattle.theorems.proofs.Soundness.{and, le_test}
 use Rattle.theorems.proofs.SoundKept.{ranges_of, sound_kept, stream_sound_kept, trusted}
 use Rattle.table.specs.Rows.{row, entries, Clean, var_table, struct_table}
 use Rattle.table.specs.State.{view, Lay, Front, Declares}
-use Rattle.table.specs.Did.{tables}
+use Rattle.table.specs.Did.{tables, Linked}
 use Rattle.table.specs.declared.Used.{Used}
 use Rattle.table.specs.declared.state.State.{State as Table}
 use Rattle.table.proofs.Rows.{length_entries, row_word}
 use Rattle.table.proofs.Steps.{front_is}
-use Rattle.snapshot.specs.Snap.{Saved, SavedPartly}
+use Rattle.snapshot.specs.Snap.{Saved}
+use Rattle.snapshot.specs.Noted.{Noted}
 use Rattle.answer.specs.Ran.{Still}
 use Rattle.heads.specs.Fields.{Arities}
 use Rattle.step.specs.Trusted.{answered}
@@ -86,8 +87,8 @@ module _ (w₀ : List ℕ) (before : Used) (w : List ℕ) (u : Used) (a : Lay w�
   same_word : (i k : ℕ) → i < before.vars → k < 5 → get_or w (16389 + i * 5 + k) 0 ≡ get_or w₀ (16389 + i * 5 + k) 0
   same_word i k lt h = sym (row_word var_table w i k h) ∙ ap (λ (l : List ℕ). get_or l k 0) (same_row i lt) ∙ row_word var_table w₀ i k h
 
-  pub partly_still : (saved : List ℕ) → Saved w₀ before saved → SavedPartly w u before.vars saved
-  partly_still saved h = record { few = as_many; rows = record { word = λ k lt. h.word k lt ∙ sym (at k lt) } }
+  pub partly_still : (saved : List ℕ) → Saved w₀ before saved → (k : ℕ) → k < before.vars * 5 → get_or saved k 0 ≡ get_or w (16389 + k) 0
+  partly_still saved h k lt = h.word k lt ∙ sym (at k lt)
     where
       at : (k : ℕ) → k < before.vars * 5 → get_or w (16389 + k) 0 ≡ get_or w₀ (16389 + k) 0
       at k lt =
@@ -102,4 +103,20 @@ unfolding view
 saved_still w₀ before s a same saved h =
     let w : List ℕ = s.words.now in
     let many : s.used.vars ≡ before.vars = sym (length_entries var_table w s.used.vars) ∙ ap length same ∙ length_entries var_table w₀ before.vars in
-    record { many = many; rows = rw many (partly_still w₀ before w s.used a s.lay (front_is _ _ same) saved h).rows }
+    record { many = many; rows = record { word = rw many (partly_still w₀ before w s.used a s.lay (front_is _ _ same) saved h) } }
+
+-- .. but for those that are noted since
+pub noted_on : (s t : Table) (saved : List ℕ) → s.saved ≡ s.used.vars → Saved s.words.now s.used saved → Linked s t → Noted t saved
+noted_on s t saved m h l v p q f k i =
+    let few : v < s.saved = rw l.saved at p in
+    let same = (l.rows v (omega (arith, t.lay.vars)) few f).1 in
+    let in_use : v < s.used.vars = rw m at few in
+    let e : 0 + (v * 5 + k) ≡ v * 5 + k = omega arith in
+    let g : 16389 + (v * 5 + k) ≡ 16389 + v * 5 + k = omega arith in
+    ap (λ (x : ℕ). get_or saved x 0) e
+    ∙ h.word (v * 5 + k) (omega arith)
+    ∙ ap (λ (x : ℕ). get_or s.words.now x 0) g
+    ∙ sym (row_word var_table s.words.now v k i)
+    ∙ ap (λ (r : List ℕ). get_or r k 0) (sym same)
+    ∙ row_word var_table t.words.now v k i
+    ∙ ap (λ (x : ℕ). get_or t.words.now x 0) (sym g)

@@ -2,28 +2,33 @@
 use mathlib.Core.Path.{◌≡◌, refl, sym, ap, ap₂, ◌∙◌, subst}
 use mathlib.Core.Bool.{Bool, true, false}
 use mathlib.Core.List.{List, ◌++◌}
-use Prim.Native.Nat.{ℕ, ◌≤◌}
+use Prim.Native.Nat.{ℕ, ◌≤◌, ◌<◌}
 use native.Mathlib.Omega.{arith}
 use lib.ListN.{length, take, drop, length-take}
 use Rattle.std.specs.Prelude.{if◌then◌else◌, Option, Ok, Err}
 use Rattle.std.specs.Result.{result_ok}
 use Rattle.std.specs.Prelude as core
-use Rattle.definition.specs.Types.{State, Struct, Refusal, Result, ok, ◌>>=◌}
-use Rattle.definition.specs.Store.{with_structs}
+use Rattle.definition.specs.Types.{State, Struct, Refusal, max_nodes, max_args, Result, ok, ◌>>=◌}
+use Rattle.definition.specs.Store.{taken, with_structs}
+use Rattle.definition.specs.Trees.{arity}
 use Rattle.definition.specs.Record.{Record}
 use Rattle.definition.specs.Sound.{sound}
 use Rattle.definition.specs.Step as step
 use Rattle.definition.specs.Step.{answer, refusal}
+use Rattle.theorems.specs.ReadySpelled.{spell_ready, with_state}
+use Rattle.theorems.proofs.SoundRead.{FineRecord}
+use Rattle.theorems.proofs.ReadyTold.{Fits, RD_spells}
 use Rattle.theorems.proofs.SoundRanges.{Ranges, StructIn}
 use Rattle.theorems.proofs.SoundKept.{ranges_of}
 use Rattle.table.specs.State.{outcome, done, more, view, seen, Grown, FoundIn, Declares}
 use Rattle.table.specs.Known.{Known}
-use Rattle.table.specs.Did.{held as seen_in, tables}
+use Rattle.table.specs.Did.{held as seen_in, tables, Linked}
 use Rattle.table.specs.declared.Used.{Used}
 use Rattle.table.specs.declared.state.State.{State as Table}
 use Rattle.table.specs.declared.state.Stop.{Stop}
 use Rattle.table.specs.declared.state.Stop.TheVariants.{Failed, Refused}
-use Rattle.table.proofs.Steps.{grown_trans}
+use Rattle.answer.proofs.Growing.{grown_on}
+use Rattle.table.proofs.Pushed.{count_seen, args_seen}
 use Rattle.snapshot.specs.Snap.{Saved}
 use Rattle.snapshot.specs.Back.{GrownFrom}
 use Rattle.snapshot.specs.declared.before.Before.{Before}
@@ -31,14 +36,14 @@ use Rattle.sound.specs.Lent.{structs_of, encode_params}
 use Rattle.sound.proofs.Lays.{lent_declares}
 use Rattle.reader.proofs.Loop.{declares_kept}
 use Rattle.heads.specs.Fields.{Arities}
-use Rattle.fields.specs.Noded.{Run, Noded, declare, solve, run, Shape}
+use Rattle.fields.specs.Noded.{ready, looks, Run, Noded, declare, solve, run, Shape}
 use Rattle.writer.specs.Bytes.{AllBytes}
-use Rattle.answer.specs.Ran.{Tells, Settles, Still, answered, refused_by}
+use Rattle.answer.specs.Ran.{Tells, Settles, Still, answered, refused_by, spelled_by}
 use Rattle.answer.specs.Answered.{AnswersIn}
 use Rattle.answer.specs.declared.Ran.{Ran}
 use Rattle.payload.specs.declared.Answer.{Answer}
 use Rattle.run.specs.Runs.{Declared, with_row}
-use Rattle.run.proofs.Bytes.{declare_bytes}
+use Rattle.run.proofs.Bytes.{in_words, declare_bytes}
 use Rattle.run.specs.Dispatch.{noded_run, step_of, RanAs}
 use Rattle.run.proofs.Placed.{ShapeIn, shape_in, run_placed}
 use Rattle.run.proofs.PlacedBytes as noded
@@ -48,7 +53,7 @@ use Rattle.step.specs.Trusted.{held, Stands}
 use Rattle.verdict.specs.Verdict.{row_for, padded}
 use Rattle.step.specs.Replies.{Replied, Begun}
 use Rattle.step.proofs.Rows.{rows_of, rows_seen, held_known, known_rows, row_in, row_kept, arities_kept}
-use Rattle.step.proofs.Placing.{placed_SD, placed_SV}
+use Rattle.step.proofs.Placing.{placed_SD, placed_SV, PlacedRD, placed_as, placed_RD}
 use Rattle.step.proofs.Standing.{Leaves, leaves_ok, place_leaves, unkept_leaves}
 use Rattle.step.proofs.Keeping.{sound_arities, saved_still}
 
@@ -128,11 +133,23 @@ module _ {w₀ : List ℕ} {bf : Before} {params : List (List ℕ)} {s : Table} 
   then_known : Known s.words.now s.used params ds
   then_known = record { rows = then_declares; bytes = (known_structs w₀ bf.used params).bytes }
 
-  pub then_grown : (t : Table) → Grown (tables s) (tables t) → GrownFrom w₀ bf t
-  then_grown t g = record { lay = b.since.lay; kept = b.since.kept; grown = grown_trans _ _ _ b.since.grown g }
+  pub then_grown : (t : Table) → Linked s t → Grown (tables s) (tables t) → GrownFrom w₀ bf t
+  then_grown t l g = grown_on w₀ bf s t b.since l g
 
   in_range : Ranges s₀ s₀
   in_range = ranges_of s₀ b.stands.is_sound
+
+  -- placing takes nodes alone
+  vars_placed : (tables s).vars ≡ (view w₀ bf.used).vars
+  unfolding held seen with_structs
+  vars_placed = leaves_ok (subst (Leaves (λ v. v ≡ s₀.vars)) b.placed (place_leaves x s₀ refl))
+
+  still_placed : Still s.words.now s.used bf.used bf.saved.now
+  still_placed = saved_still w₀ bf.used s b.since.since.lay vars_placed bf.saved.now b.since.since.kept
+
+  bytes_placed : AllBytes (tables s)
+  unfolding held
+  bytes_placed = in_words s₀ s.words.now s.used ds (noded.placed_in s₀ in_range x b.fields _ _ b.placed)
 
 -- by any mark but SD and SV
 module _ {w₀ : List ℕ} {bf : Before} {params : List (List ℕ)} {s : Table} {x : Record} {n : Run} (b : Begun w₀ bf params s x (run n)) where
@@ -145,9 +162,8 @@ module _ {w₀ : List ℕ} {bf : Before} {params : List (List ℕ)} {s : Table} 
     pub run_still : (ty : ℕ) → r₁.result ≡ Ok ty → r₁.kept ≡ false → Still t.words.now t.used bf.used bf.saved.now
     unfolding held seen with_structs outcome
     run_still ty e q =
-        let read : (tables s).vars ≡ (view w₀ bf.used).vars = leaves_ok (subst (Leaves (λ v. v ≡ (s₀ b).vars)) b.placed (place_leaves x (s₀ b) refl)) in
         let left : ok (seen_in t (ds b), ty) ≡ step_of r₁ n (seen_in s (ds b)) = sym (ap (λ (o : core.Result ℕ Stop). outcome o (seen_in t (ds b))) e) ∙ c.left.step.is (ds b) (then_known b) in
-        saved_still w₀ bf.used t b.since.lay (leaves_ok (subst (Leaves (λ v. v ≡ (s₀ b).vars)) (sym left) (unkept_leaves r₁ n (seen_in s (ds b)) (sym c.kept_is ∙ q) read))) bf.saved.now b.since.kept
+        saved_still w₀ bf.used t b.since.since.lay (leaves_ok (subst (Leaves (λ v. v ≡ (s₀ b).vars)) (sym left) (unkept_leaves r₁ n (seen_in s (ds b)) (sym c.kept_is ∙ q) (vars_placed b)))) bf.saved.now b.since.since.kept
 
     pub reply_run : {t' : Table} {buf buf' : List ℕ} {r : Answer} → AnswersIn w₀ bf t t' buf buf' r (answered r₁) → Replied buf t' params buf' r (answer (s₀ b) (step.run (s₀ b) x))
     unfolding held noded_run
@@ -168,10 +184,33 @@ module _ {w₀ : List ℕ} {bf : Before} {params : List (List ℕ)} {s t : Table
   -- what settle asks
   pub run_settles : (buf : List ℕ) → 4096 ≤ length buf
       → GrownFrom w₀ bf t × ((Tells t.used r₁.show r₁.result × ((Settles r₁.result → AllBytes (tables t)) × (4096 ≤ length buf))) × ((ty : ℕ) → r₁.result ≡ Ok ty → r₁.kept ≡ false → Still t.words.now t.used bf.used bf.saved.now))
-  run_settles buf l = (then_grown b t k.ran.left.step.grown, ((k.ran.tells, (run_bytes begun_run k.ran, l)), run_still begun_run k.ran))
+  run_settles buf l = (then_grown b t k.ran.left.same k.ran.left.step.grown, ((k.ran.tells, (run_bytes begun_run k.ran, l)), run_still begun_run k.ran))
 
   pub reply_ran : {t' : Table} {buf buf' : List ℕ} {a : Answer} → AnswersIn w₀ bf t t' buf buf' a (answered r₁) → Replied buf t' params buf' a (answer (held w₀ bf.used params) (step.run (held w₀ bf.used params) x))
   reply_ran a = reply_run begun_run k.ran a
+
+-- ---- RD
+
+module _ {w₀ : List ℕ} {bf : Before} {params : List (List ℕ)} {s : Table} {x : Record} {ty : ℕ} (b : Begun w₀ bf params s x (run (looks (ready ty)))) where
+  -- what settle_ready asks
+  pub ready_settles : (buf : List ℕ) → 4096 ≤ length buf → ty < s.used.nodes
+      → GrownFrom w₀ bf s × (((ty < s.used.nodes) × (AllBytes (tables s) × (4096 ≤ length buf))) × Still s.words.now s.used bf.used bf.saved.now)
+  ready_settles buf l i = (b.since, ((i, (bytes_placed b, l)), still_placed b))
+
+  -- the words hold no more than fits
+  fits_placed : Fits (seen_in s (ds b)) 0 0
+  unfolding max_nodes max_args
+  fits_placed = (omega (arith, s.lay.nodes, count_seen s.words.now s.used (ds b)), omega (arith, s.lay.args, args_seen s.words.now s.used (ds b)))
+
+  told_placed : step.run (s₀ b) x ≡ with_state (s₀ b) (spell_ready (seen_in s (ds b)) ty)
+  told_placed = go (placed_RD _ _ ty x b.placed) b.names
+    where
+      go : {x : Record} → PlacedRD (s₀ b) (seen_in s (ds b)) ty x → FineRecord (arity (s₀ b)) (taken (s₀ b)) x → step.run (s₀ b) x ≡ with_state (s₀ b) (spell_ready (seen_in s (ds b)) ty)
+      go (placed_as {t = t} e) f = RD_spells (s₀ b) b.stands.is_sound t f (seen_in s (ds b)) ty e fits_placed
+
+  pub reply_ready : {t : Table} {buf buf' : List ℕ} {r : Answer} → AnswersIn w₀ bf s t buf buf' r (spelled_by ty) → Replied buf t params buf' r (answer (held w₀ bf.used params) (step.run (held w₀ bf.used params) x))
+  unfolding held
+  reply_ready a = replied_same a (ds b) (lent_declares w₀ params bf.used) (then_declares b) params (stands_arities b.stands) (stands_rows b.stands) _ (ap (answer (s₀ b)) told_placed)
 
 -- ---- SD
 
@@ -242,9 +281,8 @@ module _ {w₀ : List ℕ} {bf : Before} {params : List (List ℕ)} {s : Table} 
   pub solve_sound : HoldsSound s params
   solve_sound = record { structs = ds b; is_sound = ap sound still ∙ b.stands.is_sound; known = then_known b }
 
-  pub solve_saved : Saved s.words.now s.used bf.saved.now
-  unfolding held seen with_structs
-  solve_saved = (saved_still w₀ bf.used s b.since.lay (ap (λ (s : State). s.vars) still) bf.saved.now b.since.kept).rows
+  pub solve_saved : (s.saved ≡ s.used.vars) × Saved s.words.now s.used bf.saved.now
+  solve_saved = let k = still_placed b in (b.since.many ∙ sym k.many, k.rows)
 
   pub reply_solved : {t : Table} {buf buf' : List ℕ} {r : Answer} → Solves s params t buf buf' r → Replied buf t params buf' r (answer (held w₀ bf.used params) (step.run (held w₀ bf.used params) x))
   unfolding noded_run solve_answer

@@ -37,7 +37,6 @@ use Rattle.answer.proofs.Calls.{kept_never}
 use Rattle.run.specs.Runs.{subst_in, unfold_run, ready_run, tparams_run, tvar_run, num_tvar_run, constraint_run, needs_run, declare_run}
 use Rattle.run.specs.Dispatch.{run_of, noded_run, step_of, kept_of}
 use Rattle.run.proofs.Placed.{run_placed}
-use Rattle.step.specs.Replies.{binding}
 
 pub data Leaves {A : Type 0} (P : List Cell → Type 0) : Result (State × A) → Type 0 where
   l_ok : {s : State} {a : A} → P s.vars → Leaves P (ok (s, a))
@@ -235,39 +234,3 @@ unfolding run_of unfold_run ready_run tparams_run
 looks_leave (unfolded t) s before = l_ok (front_refl before.vars)
 looks_leave (ready t) s before = any_leaves _ _ (λ q. l_ok (front_refl before.vars))
 looks_leave (tparams ps t) s before = any_leaves _ _ (λ q. any_leaves _ _ (λ q. l_ok (front_refl before.vars)))
-
-module _ (s : State) where
-  noded_leaves : (n : Noded) (s' : State) → s'.vars ≡ s.vars → binding n ≡ false → Leaves (Front s.vars) (noded_run n s' s)
-  unfolding noded_run declare_run
-  noded_leaves (declare a ps) s' e k = subst (λ (v : List Cell). Leaves (Front v) (declare_run a ps s' s)) e (then_leaves _ (declare_leaves s' a ps) (λ s n p. l_ok p))
-  noded_leaves solve s' e k = kept_never refl k
-  noded_leaves (run (binds n)) s' e k = kept_never refl k
-  noded_leaves (run (looks n)) s' e k = looks_leave n s' s
-  noded_leaves (run (adds n)) s' e k = subst (λ (v : List Cell). Leaves (Front v) (run_of (adds n) s' s)) e (adds_leave n s' s)
-
-  if_state : (b : Bool) (number : ℕ) (payload : Bytes) (after : State) → Front s.vars after.vars → Front s.vars (if b then record { number = number; payload = payload; state = after } else refusal s answer_too_long).state.vars
-  unfolding refusal
-  if_state true number payload after f = f
-  if_state false number payload after f = front_refl s.vars
-
-  with_front : (number : ℕ) (payload : Bytes) (after : State) → Front s.vars after.vars → Front s.vars (answer_with s number payload after).state.vars
-  unfolding answer_with
-  with_front number payload after f = if_state (leb (length payload) max_payload) number payload after f
-
-  back_front : (after : State) → Front s.vars (put_back s after).vars
-  unfolding put_back with_vars
-  back_front after = record { rest = replicate (taken after - taken s) unbound; is = refl }
-
-  answer_leaves : {m : Result (State × Bytes)} → Leaves (Front s.vars) m → Front s.vars (answer s m).state.vars
-  unfolding answer refusal
-  answer_leaves (l_ok {s = after} {a = payload} f) = with_front 0 payload after f
-  answer_leaves (l_err {s = after} {e = e}) = with_front (number_of_error e) (write_error after e) (put_back s after) (back_front after)
-  answer_leaves l_refused = front_refl s.vars
-
-  -- what binds nothing leaves them so, whatever its answer is
-  pub answer_front : (x : Record) (s' : State) (n : Noded) → place_record x s ≡ ok (s', n) → binding n ≡ false → Front s.vars (answer s (definition.run s x)).state.vars
-  unfolding ◌>>=◌
-  answer_front x s' n e k =
-      let same : s'.vars ≡ s.vars = leaves_ok (subst (Leaves (λ v. v ≡ s.vars)) e (place_leaves x s refl)) in
-      let ran : definition.run s x ≡ noded_run n s' s = run_placed s x ∙ ap (λ (m : Result (State × Noded)). m >>= (λ q. noded_run q.1 q.0 s)) e in
-      answer_leaves (subst (Leaves (Front s.vars)) (sym ran) (noded_leaves n s' same k))

@@ -1,4 +1,4 @@
--- A record read, placed and answered is a step of the definition, and the rows that were saved before it still stand where it says so: by what
+-- A record read, placed and answered is a step of the definition, and the rows that were saved before it still stand but for the noted: by what
 -- reading came to, a refusal, a record left over, or one that is run. Assumes nothing.
 use mathlib.Core.Path.{◌≡◌, refl, sym, ap, ◌∙◌, subst}
 use mathlib.Core.Bool.{Bool, true, false, ◌&&◌}
@@ -13,27 +13,27 @@ use Rattle.definition.specs.Types as d
 use Rattle.definition.specs.Types.{State, Struct, malformed, full, Result, ok, refused, ◌>>=◌}
 use Rattle.definition.specs.Write.{Bytes, IsBytes}
 use Rattle.definition.specs.Reader.{Read, got}
-use Rattle.definition.specs.Store.{with_structs}
+use Rattle.definition.specs.Store.{taken, with_structs}
+use Rattle.definition.specs.Trees.{arity}
 use Rattle.definition.specs.Record.{Record, read_record}
 use Rattle.definition.specs.Sound.{sound}
 use Rattle.definition.specs.Step as step
 use Rattle.definition.specs.Step.{run, answer, refusal}
-use Rattle.theorems.proofs.SoundRead.{RecordIn, ReadWell, given, well_read}
+use Rattle.theorems.proofs.SoundRead.{RecordIn, FineRecord, ReadWell, given, well_read}
 use Rattle.refusals.specs.Refusals.{refusal_of}
 use Rattle.refusals.specs.declared.Refusal.{Refusal}
 use Rattle.refusals.specs.declared.Refusal.TheVariants.{Malformed, Full}
 use Rattle.table.specs.Tab.{tab}
 use Rattle.table.specs.Rows.{words_at}
 use Rattle.table.specs.Encode.{encode}
-use Rattle.table.specs.State.{view, seen, Front, Declares}
-use Rattle.table.specs.Did.{held as seen_in, tables}
+use Rattle.table.specs.State.{view, seen, Declares}
+use Rattle.table.specs.Did.{held as seen_in, tables, Linked}
 use Rattle.table.specs.declared.Used.{Used}
 use Rattle.table.specs.declared.state.State.{State as Table}
-use Rattle.snapshot.specs.Snap.{Saved, SavedPartly}
+use Rattle.snapshot.specs.Snap.{Saved}
 use Rattle.snapshot.specs.Back.{GrownFrom}
 use Rattle.snapshot.specs.declared.before.Before.{Before}
-use Rattle.snapshot.proofs.Saving.{partly_none}
-use Rattle.table.proofs.Steps.{front_refl}
+use Rattle.answer.proofs.Growing.{grown_now, grown_on}
 use Rattle.snapshot.proofs.Exact.{declares_still, word_for_word}
 use Rattle.sound.specs.Lent.{used_of, structs_of}
 use Rattle.sound.proofs.Lays.{lent_declares}
@@ -50,33 +50,26 @@ use Rattle.run.specs.Dispatch.{noded_run}
 use Rattle.run.proofs.Placed.{run_placed}
 use Rattle.step.specs.declared.Stepped.{Stepped}
 use Rattle.step.specs.Trusted.{held, held_by, Stands, answered, unread, Steps, Leaves}
-use Rattle.verdict.specs.Verdict.{rows_after, verdict_of, place_after}
-use Rattle.step.specs.Replies.{Replied, Begun, Begins, Ends, binding}
+use Rattle.verdict.specs.Verdict.{verdict_of, place_after}
+use Rattle.step.specs.Replies.{Replied, Begun, Begins, Ends}
 use Rattle.step.proofs.Reading.{stop_is, Got, got_is, answered_not, unread_not, unread_got, answered_got}
-use Rattle.step.proofs.Keeping.{bytes_after, answered_sound, view_arities, partly_still}
-use Rattle.step.proofs.Standing.{answer_front}
+use Rattle.step.proofs.Keeping.{bytes_after, answered_sound, view_arities, noted_on}
 use Rattle.step.proofs.Replying.{declared_in, stands_arities, reply_refused}
+use Rattle.table.proofs.Did.{linked}
 
 -- what read_record asks
 pub reading_arities : {w : List ℕ} {u : Used} {params : List (List ℕ)} → Stands w u params → Arities (view w u).structs
 reading_arities {w} {u} {params} s = view_arities w u _ (lent_declares w params u) (stands_arities s)
 
-abbrev gone : Answer → ℕ → ℕ → Stepped
-gone a next rows = record { number = a.number; len = a.len; next = next; rows = rows }
+abbrev gone : Answer → ℕ → Stepped
+gone a next = record { number = a.number; len = a.len; next = next }
 
 -- what was read well
-record_in : (s : State) (bytes : Bytes) → IsBytes bytes → (x : Record) (l : Bytes) → read_record s bytes ≡ got x l → RecordIn s x
+record_in : (s : State) (bytes : Bytes) → IsBytes bytes → (x : Record) (l : Bytes) → read_record s bytes ≡ got x l → RecordIn s x × FineRecord (arity s) (taken s) x
 record_in s bytes is x l e = go (subst (λ (r : Read Record). ReadWell (Unit {0}) s (length bytes - 1) r) e (well_read (Unit {0}) s bytes (λ y. is)))
   where
-    go : {n : ℕ} → ReadWell (Unit {0}) s n (got x l) → RecordIn s x
-    go (given p i k) = p.1 tt
-
-rows_by : (x : What) (n : ℕ) → rows_after x n ≡ (if binding (noded x) then 0 else n)
-rows_by (q.SD abilities params) n = refl
-rows_by q.SV n = refl
-rows_by (q.Bind x) n = refl
-rows_by (q.Look x) n = refl
-rows_by (q.Add x) n = refl
+    go : {n : ℕ} → ReadWell (Unit {0}) s n (got x l) → RecordIn s x × FineRecord (arity s) (taken s) x
+    go (given p i k) = (p.1 tt, p.0)
 
 abbrev WasRead : Type 0
 WasRead = std.Result (Option What) Refusal
@@ -138,11 +131,11 @@ module _ (s : Table) {params : List (List ℕ)} (stream : Bytes) (at : ℕ) (st 
   abbrev bytes : Bytes
   bytes = drop at stream
 
-  steps : (whole : Bool) {rows : ℕ} {buf : List ℕ} {t : Table} {params' : List (List ℕ)} {buf' : List ℕ} {a : Answer} {r : Stepped} → t.words.ghost_name ≡ s.words.ghost_name → Replied buf t params' buf' a (answered whole s₀ bytes)
-      → (next : ℕ) → next ≤ length stream → unread s₀ bytes ≡ drop next stream → r ≡ gone a next rows → Steps whole s params stream at buf t params' buf' r
+  steps : (whole : Bool) {buf : List ℕ} {t : Table} {params' : List (List ℕ)} {buf' : List ℕ} {a : Answer} {r : Stepped} → Linked s t → Replied buf t params' buf' a (answered whole s₀ bytes)
+      → (next : ℕ) → next ≤ length stream → unread s₀ bytes ≡ drop next stream → r ≡ gone a next → Steps whole s params stream at buf t params' buf' r
   steps whole {t = t} same p next le rest e =
       rw e (record {
-        same = same;
+        same = same.name;
         stands = record { lay = t.lay; bytes = p.bytes; is_sound = ap (λ (x : step.Answer). sound x.state) (sym p.is) ∙ answered_sound whole s₀ bytes (bytes_after at stream is) st.is_sound };
         few = p.few;
         buffer = p.rest;
@@ -152,7 +145,7 @@ module _ (s : Table) {params : List (List ℕ)} (stream : Bytes) (at : ℕ) (st 
       })
 
   -- b was saved at entry, and the record is read
-  module _ (b : Before) {t₁ : Table} {f : Fields} (counts : b.used ≡ s.used) (kept : Saved s.words.now s.used b.saved.now) (c : RecordIs s stream at t₁ f) where
+  module _ (b : Before) {t₁ : Table} {f : Fields} (counts : b.used ≡ s.used) (all : s.saved ≡ s.used.vars) (kept : Saved s.words.now s.used b.saved.now) (c : RecordIs s stream at t₁ f) where
     abbrev ds : List Struct
     ds = declared_in s.words.now s.used params
 
@@ -160,23 +153,13 @@ module _ (s : Table) {params : List (List ℕ)} (stream : Bytes) (at : ℕ) (st 
     entered = rw counts st
 
     pub grown : GrownFrom s.words.now b t₁
-    grown = record { lay = rw counts s.lay; kept = rw counts kept; grown = rw counts c.grown }
+    grown = grown_on s.words.now b s t₁ (grown_now b s counts all kept) c.same c.grown
 
     structs : (tables t₁).structs ≡ (view s.words.now b.used).structs
     structs = rw counts c.structs
 
-    -- the saved rows, where the variables stay in front
-    in_front : {buf : List ℕ} {t : Table} {params' : List (List ℕ)} {buf' : List ℕ} {a : Answer} {z : step.Answer} → Replied buf t params' buf' a z → Front s₀.vars z.state.vars → SavedPartly t.words.now t.used s.used.vars b.saved.now
-    unfolding held seen with_structs
-    in_front {t = t} p front =
-        partly_still s.words.now s.used t.words.now t.used s.lay t.lay (subst (λ (x : step.Answer). Front s₀.vars x.state.vars) p.is front) b.saved.now kept
-
     refused_by_x : (whole : Bool) (x : d.Refusal) {t : Table} {a : Answer} {buf : List ℕ} → AnswersIn s.words.now b t₁ t buf buf a (refused_by x) → answered whole s₀ bytes ≡ refusal s₀ x → Replied buf t params buf a (answered whole s₀ bytes)
     refused_by_x whole x g e = rw e (rw counts at (reply_refused x entered structs g))
-
-    refused_front : (whole : Bool) (x : d.Refusal) → answered whole s₀ bytes ≡ refusal s₀ x → Front s₀.vars (answered whole s₀ bytes).state.vars
-    unfolding refusal
-    refused_front whole x e = rw e (front_refl s₀.vars)
 
     -- reading stopped
     stopped_by : (whole : Bool) (x : d.Refusal) → stopped x ≡ place_read false place_record (read_record s₀ bytes) s₀ → answered whole s₀ bytes ≡ refusal s₀ x
@@ -192,10 +175,10 @@ module _ (s : Table) {params : List (List ℕ)} (stream : Bytes) (at : ℕ) (st 
 
     -- the answer, the words and the place where the stream goes on are the step's
     leaves : (whole : Bool) → at ≤ length stream → {next : ℕ} → next ≡ place_after f.read at f.next
-        → {rows : ℕ} {buf : List ℕ} {t : Table} {params' : List (List ℕ)} {buf' : List ℕ} {a : Answer} {r : Stepped} → t.words.ghost_name ≡ t₁.words.ghost_name → Replied buf t params' buf' a (answered whole s₀ bytes)
-        → SavedPartly t.words.now t.used rows b.saved.now → r ≡ gone a next rows → Leaves whole s params stream at buf t params' buf' r b.saved.now
-    leaves whole le {next} n same p h e =
-        (steps whole (same ∙ c.same) p next (rw n (rest_within f.read at f.next (length stream) le c.within)) (rest_is params c ∙ ap (λ (k : ℕ). drop k stream) (sym n)) e, rw e h)
+        → {buf : List ℕ} {t : Table} {params' : List (List ℕ)} {buf' : List ℕ} {a : Answer} {r : Stepped} → Linked t₁ t → Replied buf t params' buf' a (answered whole s₀ bytes)
+        → r ≡ gone a next → Leaves whole s params stream at buf t params' buf' r b.saved.now
+    leaves whole le {next} n same p e =
+        (steps whole (linked same c.same) p next (rw n (rest_within f.read at f.next (length stream) le c.within)) (rest_is params c ∙ ap (λ (k : ℕ). drop k stream) (sym n)) e, noted_on s _ b.saved.now all kept (linked same c.same))
 
     module _ (whole over : Bool) (o : over ≡ whole && ltb f.next (length stream)) where
       abbrev ReadAs : Result (State × Noded) → Type 0
@@ -224,11 +207,11 @@ module _ (s : Table) {params : List (List ℕ)} (stream : Bytes) (at : ℕ) (st 
       why_refused (Ok (Some v)) e false d x n = absurd (let z : ◌≡◌ {A = ℕ} 0 1 = cc in omega arith)
 
       pub steps_refused : at ≤ length stream → {next : ℕ} → next ≡ place_after f.read at f.next → {x : Refusal} → verdict_of f.read over ≡ Err x → {t : Table} {a : Answer} {buf : List ℕ} → AnswersIn s.words.now b t₁ t buf buf a (refused_by (refusal_of x))
-          → {r : Stepped} → r ≡ gone a next b.used.vars → Leaves whole s params stream at buf t params buf r b.saved.now
+          → {r : Stepped} → r ≡ gone a next → Leaves whole s params stream at buf t params buf r b.saved.now
       steps_refused le {next} n {x} e {t} {a} g q =
           let told = why_refused f.read refl over refl x e in
           let z = refused_by_x whole (refusal_of x) g told in
-          leaves whole le n g.same z (in_front z (refused_front whole (refusal_of x) told)) (q ∙ ap (λ (u : Used). gone a next u.vars) counts)
+          leaves whole le n g.same z q
 
       module _ (what : What) (e : f.read ≡ Ok (Some what)) where
         abbrev n : Noded
@@ -237,12 +220,16 @@ module _ (s : Table) {params : List (List ℕ)} (stream : Bytes) (at : ℕ) (st 
         at_node : ReadAs (ok (seen_in t₁ ds, n))
         at_node = got_is (read_record s₀ bytes) (ok (seen_in t₁ ds, n)) (drop f.next stream) s₀ (read_is params c (Ok (Some what)) e)
 
+        read_well : RecordIn s₀ at_node.what × FineRecord (arity s₀) (taken s₀) at_node.what
+        read_well = record_in s₀ bytes (bytes_after at stream is) _ _ at_node.read
+
         begun : Begun s.words.now b params t₁ at_node.what n
         begun = record {
           stands = entered;
           since = grown;
           structs = structs;
-          fields = subst (λ (u : Used). RecordIn (held s.words.now u params) at_node.what) (sym counts) (record_in s₀ bytes (bytes_after at stream is) _ _ at_node.read);
+          fields = subst (λ (u : Used). RecordIn (held s.words.now u params) at_node.what) (sym counts) read_well.0;
+          names = subst (λ (u : Used). FineRecord (arity (held s.words.now u params)) (taken (held s.words.now u params)) at_node.what) (sym counts) read_well.1;
           placed = subst (λ (u : Used). place_record at_node.what (held s.words.now u params) ≡ ok (seen t₁.words.now t₁.used (structs_of s.words.now params u.structs), n)) (sym counts) at_node.placed;
         }
 
@@ -252,19 +239,10 @@ module _ (s : Table) {params : List (List ℕ)} (stream : Bytes) (at : ℕ) (st 
         pub placed_in : WhatIn t₁.used.nodes what
         placed_in = subst (λ (p : WasRead). PlacedSo p (WhatIn t₁.used.nodes)) e c.inside
 
-        -- what the record says of the saved rows
-        rows_stand : {buf : List ℕ} {t : Table} {params' : List (List ℕ)} {buf' : List ℕ} {a : Answer} → Replied buf t params' buf' a (answer s₀ (run s₀ at_node.what))
-            → SavedPartly t.words.now t.used (rows_after what s.used.vars) b.saved.now
-        rows_stand {t = t} p = rw (rows_by what s.used.vars) (go (binding n) refl)
-          where
-            go : (k : Bool) → binding n ≡ k → SavedPartly t.words.now t.used (if k then 0 else s.used.vars) b.saved.now
-            go true k = partly_none t.words.now t.used b.saved.now
-            go false k = in_front p (answer_front s₀ at_node.what _ n at_node.placed k)
-
         pub steps_run : over ≡ false → at ≤ length stream → {next : ℕ} → next ≡ place_after f.read at f.next
-            → {rows : ℕ} → rows ≡ rows_after what b.used.vars → {buf : List ℕ} {t : Table} {params' : List (List ℕ)} {buf' : List ℕ} {a : Answer} → Ends s.words.now b params t₁ n buf t params' buf' a
-            → {r : Stepped} → r ≡ gone a next rows → Leaves whole s params stream at buf t params' buf' r b.saved.now
-        steps_run fits le is_next is_rows {buf} {t} {params'} {buf'} {a} g q =
+            → {buf : List ℕ} {t : Table} {params' : List (List ℕ)} {buf' : List ℕ} {a : Answer} → Ends s.words.now b params t₁ n buf t params' buf' a
+            → {r : Stepped} → r ≡ gone a next → Leaves whole s params stream at buf t params' buf' r b.saved.now
+        steps_run fits le is_next {buf} {t} {params'} {buf'} {a} g q =
             let z = subst (λ (u : Used). Replied buf t params' buf' a (answer (held s.words.now u params) (run (held s.words.now u params) at_node.what))) counts (g.is at_node.what begun) in
             let p : Replied buf t params' buf' a (answered whole s₀ bytes) = rw (told_placed at_node false fits) z in
-            leaves whole le is_next g.same p (rw (is_rows, counts) (rows_stand z)) q
+            leaves whole le is_next g.same p q

@@ -1,17 +1,19 @@
 -- The run of a record that is read and placed: what it starts from, and what its answer leaves in words, parameter bytes and buffer. Assumes nothing: these are definitions.
-use Rattle.std.specs.Prelude.{◌≡◌, Bool, true, false, List, ◌++◌, ℕ, ◌≤◌, take, drop}
+use Rattle.std.specs.Prelude.{◌≡◌, List, ◌++◌, ℕ, ◌≤◌, take, drop}
 use Rattle.definition.specs.Types.{ok}
+use Rattle.definition.specs.Store.{taken}
+use Rattle.definition.specs.Trees.{arity}
 use Rattle.definition.specs.Record.{Record}
 use Rattle.definition.specs.Step as step
 use Rattle.definition.specs.Step.{answer}
-use Rattle.theorems.proofs.SoundRead.{RecordIn}
+use Rattle.theorems.proofs.SoundRead.{RecordIn, FineRecord}
 use Rattle.table.specs.State.{view, seen}
-use Rattle.table.specs.Did.{tables}
+use Rattle.table.specs.Did.{tables, Linked}
 use Rattle.table.specs.declared.state.State.{State}
 use Rattle.sound.specs.Lent.{structs_of, encode_params}
 use Rattle.snapshot.specs.Back.{GrownFrom}
 use Rattle.snapshot.specs.declared.before.Before.{Before}
-use Rattle.fields.specs.Noded.{binds, looks, adds, Noded, declare, solve, run, place_record}
+use Rattle.fields.specs.Noded.{Noded, place_record}
 use Rattle.payload.specs.declared.Answer.{Answer}
 use Rattle.step.specs.Trusted.{held, held_by, Stands}
 
@@ -28,6 +30,7 @@ pub record Begun (w₀ : List ℕ) (b : Before) (params : List (List ℕ)) (s : 
   pub since : GrownFrom w₀ b s
   pub structs : (tables s).structs ≡ (view w₀ b.used).structs
   pub fields : RecordIn (held w₀ b.used params) x
+  pub names : FineRecord (arity (held w₀ b.used params)) (taken (held w₀ b.used params)) x
   pub placed : place_record x (held w₀ b.used params) ≡ ok (seen s.words.now s.used (structs_of w₀ params b.used.structs), n)
 
 -- .. some record
@@ -37,15 +40,5 @@ pub record Begins (w₀ : List ℕ) (b : Before) (params : List (List ℕ)) (s :
 
 -- r answers the run of that record
 pub record Ends (w₀ : List ℕ) (b : Before) (params : List (List ℕ)) (s : State) (n : Noded) (buf : List ℕ) (t : State) (params' : List (List ℕ)) (buf' : List ℕ) (r : Answer) : Type 0 where
-  pub same : t.words.ghost_name ≡ s.words.ghost_name
+  pub same : Linked s t
   pub is : (x : Record) → Begun w₀ b params s x n → Replied buf t params' buf' r (answer (held w₀ b.used params) (step.run (held w₀ b.used params) x))
-
--- ---- the saved rows
-
--- it may bind or mark a variable that is there
-abbrev pub binding : Noded → Bool
-binding (declare abilities params) = false
-binding solve = true
-binding (run (binds n)) = true
-binding (run (looks n)) = false
-binding (run (adds n)) = false

@@ -9,7 +9,7 @@ use Rattle.definition.specs.Step.{lent, streamed}
 use Rattle.table.specs.State.{seen, Lay}
 use Rattle.table.specs.declared.Used.{Used}
 use Rattle.table.specs.declared.state.State.{State}
-use Rattle.snapshot.specs.Snap.{SavedPartly}
+use Rattle.snapshot.specs.Noted.{Noted}
 use Rattle.sound.specs.Lent.{structs_of, encode_params}
 use Rattle.step.specs.declared.Stepped.{Stepped}
 
@@ -50,9 +50,9 @@ pub record Steps (whole : Bool) (s : State) (params : List (List ℕ)) (stream :
   pub is : answered whole (held_by s params) (drop at stream) ≡ record { number = r.number; payload = take r.len buf'; state = held_by t params' }
   pub rest : unread (held_by s params) (drop at stream) ≡ drop r.next stream
 
--- .. and so many of the saved rows still stand
+-- .. and the saved rows stand but for the noted
 abbrev pub Leaves : Bool → State → List (List ℕ) → Bytes → ℕ → Bytes → State → List (List ℕ) → Bytes → Stepped → List ℕ → Type 0
-Leaves whole s params stream at buf t params' buf' r saved = Steps whole s params stream at buf t params' buf' r × SavedPartly t.words.now t.used r.rows saved
+Leaves whole s params stream at buf t params' buf' r saved = Steps whole s params stream at buf t params' buf' r × Noted t saved
 
 -- the stream after the record at its head begins at place n; words and counts are as they were
 pub record Splits (s : State) (params : List (List ℕ)) (stream : Bytes) (t : State) (n : ℕ) : Type 0 where

@@ -3,36 +3,37 @@
 
 ghost use Rattle.std.specs.Prelude.{◌≡◌, List, ℕ, ◌≤◌, length, drop};
 ghost use Rattle.definition.specs.Write.{IsBytes};
-ghost use Rattle.snapshot.specs.Snap.{Saved, SavedPartly};
+ghost use Rattle.snapshot.specs.Snap.{Saved};
+ghost use Rattle.snapshot.specs.Noted.{Noted};
 ghost use Rattle.sound.specs.Lent.{used_of};
 ghost use Rattle.fields.specs.Noded.{declare, noded, params_of, WhatIn};
 ghost use Rattle.step.specs.Trusted.{StandsIn, Steps, Leaves, Splits};
 ghost use Rattle.step.specs.Replies.{Begins, Ends};
 
-use fields::{Params, What};
+use fields::{Look, Params, What};
+use marks::LookMark;
 use names::AbilitySet;
 use payload::Answer;
 use snapshot::before::Before;
+use table::Touched;
 use table::state::State;
-use verdict::{left_over, padded, place_after, row_for, rows_after, verdict_of};
+use verdict::{left_over, padded, place_after, row_for, verdict_of};
 
-// One record's answer, where the rest of the stream begins, and how many of the saved rows still stand.
+// One record's answer, and where the rest of the stream begins.
 #[derive(Clone, Copy)]
 pub struct Stepped {
     pub number: u32,
     pub len: usize,
     pub next: usize,
-    pub rows: u32,
 }
 
-fn with_next(a: Answer, next: usize, rows: u32) -> Stepped
-    ensures { result ≡ record { number = a.number; len = a.len; next = next; rows = rows } }
+fn with_next(a: Answer, next: usize) -> Stepped
+    ensures { result ≡ record { number = a.number; len = a.len; next = next } }
 {
     Stepped {
         number: a.number,
         len: a.len,
         next,
-        rows,
     }
 }
 
@@ -63,7 +64,7 @@ fn answer_declared(
 
 // ---- what was read
 
-// What was read and placed is run and answered.
+// What was read and placed is run and answered. RD is told from the placed state, so no call runs it.
 fn answer_placed(
     st: &mut State<'_>,
     before: Before<'_>,
@@ -82,7 +83,13 @@ fn answer_placed(
         }
         What::SV => return solve::solve(st, params, before.saved, buf),
         What::Bind(x) => run::run_bind(st, params, x),
-        What::Look(x) => run::run_look(st, x),
+        What::Look(x) => match x {
+            Look::One(m, t) => match m {
+                LookMark::UF => run::run_unfold(st, t),
+                LookMark::RD => return answer::settle_ready(st, before, t, buf),
+            },
+            Look::TS(ps, t) => run::run_tparams(st, ps, t),
+        },
         What::Add(x) => run::run_add(st, x),
     };
     answer::settle(st, before, ran, buf)
@@ -101,45 +108,39 @@ fn step_from(
     buf: &mut [u8],
 ) -> Stepped
     ghost w0: { List ℕ }
-    requires entry { (w0 ≡ st.old.words.now) × ((before.used ≡ st.old.used) × Saved st.old.words.now st.old.used before.saved.now) }
+    requires entry { (w0 ≡ st.old.words.now) × ((before.used ≡ st.old.used) × ((st.old.saved ≡ st.old.used.vars) × Saved st.old.words.now st.old.used before.saved.now)) }
     requires stands { StandsIn st.old params.old × (IsBytes stream.now × ((at ≤ length stream.now) × (4096 ≤ length buf.old))) }
     ensures { Leaves whole st.old params.old stream.now at buf.old st.new params.new buf.new result before.entry.saved.now }
 {
     let f = record::read_record(st, stream, at);
     let next = place_after(f.read, at, f.next);
     match verdict_of(f.read, left_over(whole, f.next, stream.len())) {
-        Ok(x) => {
-            let rows = rows_after(x, before.used.vars);
-            with_next(answer_placed(st, before, params, x, buf), next, rows)
-        }
-        Err(x) => {
-            let rows = before.used.vars;
-            with_next(answer::settle_refusal(st, before, x), next, rows)
-        }
+        Ok(x) => with_next(answer_placed(st, before, params, x, buf), next),
+        Err(x) => with_next(answer::settle_refusal(st, before, x), next),
     }
 }
 
-// whole: the record is all that is lent, and bytes left over are 5, which comes before 7; a flag, as the record's call and the job's differ by it alone. The first `rows` variables are saved already, and the answer
-// says how many are still: so rows are copied once after each record that may change them, not at each record.
+// whole: the record is all that is lent, and bytes left over are 5, which comes before 7; a flag, as the record's call and the job's differ by it alone. Of the rows
+// that were saved before only those are saved again that the records since have touched.
 pub fn step_trusted(
     st: &mut State<'_>,
     params: &mut [[u8; 8]; 256],
     stream: &[u8],
     at: usize,
     whole: bool,
-    rows: u32,
     saved: &mut [u32],
     buf: &mut [u8],
 ) -> Stepped
     requires stands { StandsIn st.old params.old × (IsBytes stream.now × ((at ≤ length stream.now) × ((5120 ≤ length saved.old) × (4096 ≤ length buf.old)))) }
-    requires saved_partly { SavedPartly st.old.words.now st.old.used rows saved.old }
+    requires noted { Noted st.old saved.old }
     ensures steps { Steps whole st.old params.old stream.now at buf.old st.new params.new buf.new result }
-    ensures saved_next { SavedPartly st.new.words.now st.new.used result.rows saved.new }
+    ensures noted_next { Noted st.new saved.new }
 {
-    snapshot::save_vars(st, rows, saved);
+    snapshot::save_vars(st, saved);
     let before = Before {
         used: st.used,
         saved,
+        touched: Touched::Nothing,
     };
     step_from(st, before, params, stream, at, whole, buf)
 }
@@ -154,7 +155,7 @@ fn rest_from(
     stream: &[u8],
 ) -> usize
     ghost w0: { List ℕ }
-    requires entry { (w0 ≡ st.old.words.now) × ((before.used ≡ st.old.used) × Saved st.old.words.now st.old.used before.saved.now) }
+    requires entry { (w0 ≡ st.old.words.now) × ((before.used ≡ st.old.used) × ((st.old.saved ≡ st.old.used.vars) × Saved st.old.words.now st.old.used before.saved.now)) }
     requires stands { StandsIn st.old params.now × (st.old.used ≡ used_of st.old.words.now) }
     ensures { Splits st.old params.now stream.now st.new result }
 {
@@ -171,13 +172,14 @@ pub fn rest_trusted(
     stream: &[u8],
     saved: &mut [u32],
 ) -> usize
-    requires { StandsIn st.old params.now × ((st.old.used ≡ used_of st.old.words.now) × (5120 ≤ length saved.old)) }
+    requires { StandsIn st.old params.now × ((st.old.used ≡ used_of st.old.words.now) × ((5120 ≤ length saved.old) × Noted st.old saved.old)) }
     ensures { Splits st.old params.now stream.now st.new result }
 {
-    snapshot::save_vars(st, 0, saved);
+    snapshot::save_vars(st, saved);
     let before = Before {
         used: st.used,
         saved,
+        touched: Touched::Nothing,
     };
     rest_from(st, before, params, stream)
 }

@@ -20,7 +20,24 @@ use Rattle.table.proofs.Grown.{nodes_grow}
 use Rattle.table.specs.declared.state.State.{State}
 use Rattle.table.specs.declared.state.Stop.{Stop}
 use Rattle.table.specs.declared.state.Stop.TheVariants.{Failed, Refused}
-use Rattle.table.specs.Did.{held, number_of, StopIn, VarIn, Became, DidFor, Kept, Counts}
+use Rattle.table.specs.Did.{held, number_of, StopIn, VarIn, Linked, Became, DidFor, Kept, Counts}
+
+-- ---- states that lend the same words
+
+pub linked_now : (s : State) → Linked s s
+linked_now s = record { name = refl; saved = refl; rows = λ v p q h. (h, refl) }
+
+-- .. as paths go on: the later step first
+pub linked : {s t v : State} → Linked t v → Linked s t → Linked s v
+linked {s} {t} b a =
+    record {
+      name = b.name ∙ a.name;
+      saved = b.saved ∙ a.saved;
+      rows = λ x p q h.
+          let m = b.rows x p (rw a.saved q) h in
+          let n = a.rows x p q m.0 in
+          (n.0, m.1 ∙ n.1);
+    }
 
 -- the nodes that an error names are those of the answer
 pub stop_in : (n : ℕ) (e : Stop) → NodesIn n (Err e) → StopIn n e
@@ -41,7 +58,7 @@ err_is e s h = stop_is (Err e) s h (stop_none e)
 
 module _ {A : Type 0} {K : List Struct → Type 0} {s : State} where
   pub became_now : {answer f : d.State → A} → ((ds : List Struct) → K ds → answer (held s ds) ≡ f (held s ds)) → Became K s s answer f
-  became_now e = record { same = refl; step = refines_now s.lay e }
+  became_now e = record { same = linked_now s; step = refines_now s.lay e }
 
   module _ {t : State} {answer f : d.State → A} where
     pub nodes_more : Became K s t answer f → s.used.nodes ≤ t.used.nodes
@@ -52,7 +69,7 @@ module _ {A : Type 0} {K : List Struct → Type 0} {s : State} where
 
     module _ {B : Type 0} {answer₂ : d.State → B} (j : A → B) (a : Became K s t answer f) where
       pub became_on : {v : State} → Became K t v answer₂ (λ x. j (answer x)) → Became K s v answer₂ (λ x. j (f x))
-      became_on n = record { same = n.same ∙ a.same; step = refines_on j a.step n.step }
+      became_on n = record { same = linked n.same a.same; step = refines_on j a.step n.step }
 
       pub became_as : ((x : d.State) → answer₂ x ≡ j (answer x)) → Became K s t answer₂ (λ x. j (f x))
       became_as e = record { same = a.same; step = refines_as j a.step e }
@@ -61,7 +78,7 @@ module _ {A : Type 0} {K : List Struct → Type 0} {s : State} where
 
 module _ {K : List Struct → Type 0} {s t : State} {f : d.State → Result (d.State × ℕ)} where
   pub became_number : {B : Type 0} {v : State} {n : ℕ} {answer₂ : d.State → B} (j : Result (d.State × ℕ) → B) → Became K s t (outcome (Ok n)) f → Became K t v answer₂ (λ x. j (ok (x, n))) → Became K s v answer₂ (λ x. j (f x))
-  became_number {n = n} j a b = record { same = b.same ∙ a.same; step = refines_number (Ok n) {b = Some n} j a.step refl refl b.step }
+  became_number {n = n} j a b = record { same = linked b.same a.same; step = refines_number (Ok n) {b = Some n} j a.step refl refl b.step }
 
 -- ---- the same, where the answer is a node
 
@@ -86,7 +103,7 @@ module _ {K : List Struct → Type 0} {s : State} where
 pub to_when : {K : List Struct → Type 0} {s t : State} {r : core.Result ℕ Stop} {f : d.State → Result (d.State × ℕ)} → DidFor K s t r f → When K s.words.now s.used t.words.now (record { out = r; used = t.used }) f
 to_when a = record { changed = a.changed.step; inside = a.inside }
 
-pub of_when : {K : List Struct → Type 0} {s t : State} {r : core.Result ℕ Stop} {f : d.State → Result (d.State × ℕ)} → t.words.ghost_name ≡ s.words.ghost_name
+pub of_when : {K : List Struct → Type 0} {s t : State} {r : core.Result ℕ Stop} {f : d.State → Result (d.State × ℕ)} → Linked s t
     → When K s.words.now s.used t.words.now (record { out = r; used = t.used }) f → DidFor K s t r f
 of_when e a = record { changed = record { same = e; step = a.changed }; inside = a.inside }
 
@@ -103,5 +120,5 @@ module _ {s t : State} {f : d.State → d.State} where
   pub to_stored : Kept s t f → Stored s.words.now s.used t.words.now f
   to_stored k = rw k.used at k.changed.step
 
-  pub of_stored : t.words.ghost_name ≡ s.words.ghost_name → t.used ≡ s.used → Stored s.words.now s.used t.words.now f → Kept s t f
+  pub of_stored : Linked s t → t.used ≡ s.used → Stored s.words.now s.used t.words.now f → Kept s t f
   of_stored e q a = record { changed = record { same = e; step = rw q a }; used = q }

@@ -14,3 +14,4 @@ pub mod Grown
 pub mod Parts
 pub mod Walk
 pub mod Did
+pub mod Linked

@@ -3,7 +3,7 @@ use mathlib.Core.Path.{◌≡◌, refl, sym, ap, ◌∙◌, subst}
 use mathlib.Core.List.{List, [], ◌++◌}
 use Rattle.std.specs.Prelude.{Option, Some, None, unwrap_or}
 use Rattle.std.proofs.lemmas.Option.{none-some, same_Some}
-use Prim.Native.Nat.{ℕ, ◌+◌, ◌*◌, ◌-◌, ◌<◌, ◌≤◌}
+use Prim.Native.Nat.{ℕ, ◌+◌, ◌*◌, ◌-◌, ◌<◌}
 use native.Mathlib.Omega.{arith}
 use lib.ListN.{length, get_or, take, length-append}
 use lib.Seq.{length-take-le, get_or-take, get_or-append-add}
@@ -19,7 +19,7 @@ use Rattle.table.specs.declared.Shape.{Shape}
 use Rattle.table.specs.declared.Shape.TheVariants.{Unit as UnitS, Ref, Param, Apply, Var, Anything, UnresolvedError}
 use Rattle.table.specs.declared.Used.{Used}
 use Rattle.refusals.specs.declared.Refusal.TheVariants.{Full}
-use Rattle.table.proofs.Rows.{wrote_front, wrote_none}
+use Rattle.table.proofs.Rows.{wrote_none}
 use Rattle.table.proofs.Steps.{refines_is}
 use Rattle.table.proofs.Pushed.{count_view, args_view, node_pushed, places_full}
 use Rattle.table.specs.declared.state.Stop.TheVariants.{Refused}
@@ -92,16 +92,16 @@ module _ (w : List ℕ) (u : Used) (loc : ℕ) (k : Option AbilitySet) (name : T
     ),
   )
 
-  pub apply_pushed : (at count place : ℕ) (front w₁ r w' : List ℕ) → (4096 - u.args < n → ⊥) → at ≡ u.nodes → place ≡ u.args → count ≡ n → front ≡ take count parts → n ≤ length parts
-      → Wrote w (12293 + place) (length front) front w₁ → Wrote w₁ (5 + at * 6) 6 r w' → Written node_table r (node_at loc (Apply (record { k = k; n = name; first = u.args; many = n })))
+  pub apply_pushed : (at place : ℕ) (w₁ r w' : List ℕ) → (4096 - u.args < n → ⊥) → at ≡ u.nodes → place ≡ u.args → Wrote w (12293 + place) n parts w₁ → Wrote w₁ (5 + at * 6) 6 r w'
+      → Written node_table r (node_at loc (Apply (record { k = k; n = name; first = u.args; many = n })))
       → After w u w' (record { out = Ok u.nodes; used = record { nodes = u.nodes + 1; args = u.args + n; vars = u.vars; constraints = u.constraints; structs = u.structs } }) (λ s. sp s loc v)
   unfolding args_of stored places
-  apply_pushed at count place front w₁ r w' room e f g t long first second row =
+  apply_pushed at place w₁ r w' room e f first second row =
       let few = h.args in
       let q = p.few in
       node_pushed w u loc v h parts n (u.args + n) w₁ r w' (d.Apply (mark_of k) (name_of name) (places u.args n)) lt (omega arith) (omega arith) refl refl
       (ap (λ (x : ℕ). d.Apply (mark_of k) (name_of name) (record { first = u.args; many = x })) many)
-      (rw f at (wrote_front w (12293 + place) n parts front w₁ first (t ∙ ap (λ (x : ℕ). take x parts) g) long))
+      (rw f at first)
       (rw e at second)
       row
       apply_below

@@ -41,6 +41,23 @@ wrote_more w at k r w' h lt =
     by i p (yes e) = rw e (get_or-set_same w' (at + k) (get_or r k 0) 0 (rw h.size lt))
     by i p (no e) = get_or-set_other w' (at + k) (at + i) (get_or r k 0) 0 (λ q. e (omega arith)) ∙ h.here i (omega arith)
 
+-- .. by a loop that goes on past the n words and writes no more
+pub record WroteMost (w : List ℕ) (at n : ℕ) (r w' : List ℕ) (k : ℕ) : Type 0 where
+  pub size : length w' ≡ length w
+  pub early : k ≤ n → Wrote w at k r w'
+  pub late : n ≤ k → Wrote w at n r w'
+
+pub most_none : (w : List ℕ) (at n : ℕ) (r : List ℕ) → WroteMost w at n r w 0
+most_none w at n r = record { size = refl; early = λ _. wrote_none w at r; late = λ h. let e : n ≡ 0 = omega arith in rw e (wrote_none w at r) }
+
+pub most_more : (w : List ℕ) (at n : ℕ) (r w' : List ℕ) (k : ℕ) → WroteMost w at n r w' k → k < n → at + n ≤ length w → WroteMost w at n r (set w' (at + k) (get_or r k 0)) (k + 1)
+most_more w at n r w' k c h b =
+    let m : Wrote w at (k + 1) r (set w' (at + k) (get_or r k 0)) = wrote_more w at k r w' (c.early (omega arith)) (omega arith) in
+    record { size = m.size; early = λ _. m; late = λ f. let q : n ≡ k + 1 = omega arith in rw q m }
+
+pub most_stay : (w : List ℕ) (at n : ℕ) (r w' : List ℕ) (k : ℕ) → WroteMost w at n r w' k → n ≤ k → WroteMost w at n r w' (k + 1)
+most_stay w at n r w' k c h = record { size = c.size; early = λ f. absurd (omega arith); late = λ _. c.late h }
+
 wrote_paste : (w : List ℕ) (at : ℕ) (r : List ℕ) (n : ℕ) → n ≤ length r → at + n ≤ length w → Wrote w at n r (paste w at r n)
 wrote_paste w at r zero h g = subst (λ (v : List ℕ). Wrote w at 0 r v) (paste_none w at r) (wrote_none w at r)
 wrote_paste w at r (suc n) h g =

@@ -5,6 +5,8 @@ use Rattle.definition.specs.Types as d
 use Rattle.definition.specs.Types.{Struct, Result}
 use Rattle.names.specs.declared.TVar.{TVar}
 use Rattle.table.specs.State.{Any, Refines, NodesIn, TypesIn, outcome, seen, view, Declared}
+use Rattle.table.specs.Rows.{row, var_table}
+use Rattle.table.specs.Touched.{Untouched}
 use Rattle.table.specs.declared.Used.{Used}
 use Rattle.refusals.specs.declared.Refusal.TheVariants.{Full}
 use Rattle.table.specs.declared.state.State.{State}
@@ -19,9 +21,15 @@ held s ds = seen s.words.now s.used ds
 abbrev pub tables : State → d.State
 tables s = view s.words.now s.used
 
+-- t lends the same words as s, as many rows are saved, and a saved row that t does not note is as it was; what was noted stays noted
+pub record Linked (s t : State) : Type 0 where
+  pub name : t.words.ghost_name ≡ s.words.ghost_name
+  pub saved : t.saved ≡ s.saved
+  pub rows : (v : ℕ) → v < 1024 → v < s.saved → Untouched t.touched v → Untouched s.touched v × (row var_table t.words.now v ≡ row var_table s.words.now v)
+
 -- the state s became t, which lends the same words; what `answer` makes of t is what f makes of s, for the declarations in K
 pub record Became {A : Type 0} (K : List Struct → Type 0) (s t : State) (answer f : d.State → A) : Type 0 where
-  pub same : t.words.ghost_name ≡ s.words.ghost_name
+  pub same : Linked s t
   pub step : Refines K s.words.now s.used t.words.now t.used answer f
 
 -- .. and the answer is r, a node
@@ -80,5 +88,5 @@ pub record Added (s t : State) (r : core.Result Unit Stop) (f : d.State → Resu
 
 -- a struct is declared, if the answer is its number
 pub record DeclaredBy (s t : State) (r : core.Result ℕ Stop) (abilities params : ℕ) : Type 0 where
-  pub same : t.words.ghost_name ≡ s.words.ghost_name
+  pub same : Linked s t
   pub declared : Declared s.words.now s.used t.words.now (record { out = r; used = t.used }) abilities params

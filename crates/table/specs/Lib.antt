@@ -3,6 +3,7 @@ pub mod Tab
 pub mod Rows
 pub mod Out
 pub mod State
+pub mod Touched
 pub mod Known
 pub mod Encode
 pub mod Layout

@@ -15,7 +15,7 @@ use crate::{
     ARGS_AT, Applied, CONSTRAINTS_AT, CellWords, Constraint, NODES_AT, Node, STRUCTS_AT, Shape,
     StructRow, Used, VARS_AT, cell_row, cell_words_at, constraint_of, constraint_row,
     constraint_words_at, node_words_at, option_at, put_row, row_of, set_at, shape_at,
-    struct_words_at, tvar, wide, write_words,
+    struct_words_at, touch, tvar, wide, write_parts, write_words,
 };
 use names::{
     AbilityMark, AbilitySet, MAX_ARGS, MAX_CONSTRAINTS, MAX_NODES, MAX_STRUCTS, MAX_VARS, TVar,
@@ -160,7 +160,7 @@ impl State<'_> {
         };
         let row = row_of(loc, Shape::Apply(a));
         let w = &mut *self.words;
-        write_words(w, ARGS_AT + wide(first), &parts[..wide(n)]);
+        write_parts(w, ARGS_AT + wide(first), parts, n);
         put_row(w, NODES_AT, t, row);
         self.used.nodes = t + 1;
         self.used.args = first + n;
@@ -174,7 +174,8 @@ impl State<'_> {
         next_tvar(&mut self.used)
     }
 
-    // Variable v has this binding and this mark.
+    // Variable v has this binding and this mark, and is noted.
+    // Refused (must-fail/): one that is not noted (binding_not_noted).
     fn put_cell(&mut self, v: TVar, b: Option<u32>, m: Option<u32>)
         requires { FoundIn self.old.used.nodes b }
         ensures { Kept self.old self.new (with_cell v.0 b m) }
@@ -183,6 +184,7 @@ impl State<'_> {
         if i < self.used.vars {
             let row = cell_row(b, m);
             put_row(self.words, VARS_AT, i, row);
+            self.touched = touch(self.touched, self.saved, i);
         }
     }
 

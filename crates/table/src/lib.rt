@@ -8,6 +8,7 @@ ghost use Rattle.definition.specs.Store.{node};
 ghost use Rattle.names.specs.Names.{mark_of, name_of};
 ghost use Rattle.table.specs.Rows.{read_shape, read_mark, read_name, read_option, mark_word, name_word, name_tag, read_constraint, node_table, var_table, constraint_table, places, Written};
 ghost use Rattle.table.specs.State.{shape_of, node_at, cell, constraint_of, Wrote};
+ghost use Rattle.table.specs.Touched.{Touches};
 ghost use Rattle.table.specs.State.{node_words_at, cell_words_at, constraint_words_at, struct_words_at};
 
 pub mod calls;
@@ -128,6 +129,16 @@ pub struct Used {
     pub structs: u32,
 }
 
+// Which of the variables whose rows are saved were bound or marked since. A fourth is not told apart: it may be any.
+#[derive(Clone, Copy)]
+pub enum Touched {
+    Nothing,
+    One(u32),
+    Two(u32, u32),
+    Three(u32, u32, u32),
+    Any,
+}
+
 // TypingError: the two types, or the location of a type that would contain itself.
 #[derive(Clone, Copy)]
 pub enum TypingError {
@@ -181,6 +192,22 @@ pub fn note(notes: &mut [u32], v: TVar, x: u32)
     }
 }
 
+// Variable v is bound or marked: it is noted, if its row is among the first `saved`.
+// Refused (must-fail/): a fourth that is forgotten (fourth_forgotten), a note that is lost (note_lost).
+fn touch(touched: Touched, saved: u32, v: u32) -> Touched
+    ensures { Touches saved v touched result }
+{
+    if saved <= v {
+        return touched;
+    }
+    match touched {
+        Touched::Nothing => Touched::One(v),
+        Touched::One(a) => Touched::Two(a, v),
+        Touched::Two(a, b) => Touched::Three(a, b, v),
+        Touched::Three(_, _, _) | Touched::Any => Touched::Any,
+    }
+}
+
 // ---- rows
 
 // These words, from place `at` on.
@@ -189,6 +216,18 @@ pub fn write_words(w: &mut [u32], at: usize, words: &[u32])
     ensures { Wrote w.old at (length words.now) words.now w.new }
 {
     w[at..at + words.len()].copy_from_slice(words);
+}
+
+// The first n of these parts, from place `at` on. Not write_words: a copy whose length is not known is a call, and waits for the single stores before it.
+fn write_parts(w: &mut [u32], at: usize, parts: [u32; 8], n: u32)
+    requires { (n ≤ 8) × (at + n ≤ length w.old) }
+    ensures { Wrote w.old at n parts w.new }
+{
+    for i in 0..8 {
+        if i < wide(n) {
+            w[at + i] = parts[i];
+        }
+    }
 }
 
 // Row i of a table whose rows have N words.

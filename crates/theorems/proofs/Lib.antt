@@ -40,6 +40,7 @@ pub mod DemandEvents
 pub mod SolveTold
 pub mod DemandClear
 pub mod TotalFuel
+pub mod ReadyTold
 pub mod TotalNine
 pub mod TotalLate
 pub mod SoundRefusals

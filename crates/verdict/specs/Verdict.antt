@@ -2,7 +2,6 @@
 use Rattle.std.specs.Prelude.{Bool, true, false, List, ℕ, get_or, take, Option, Some, None, Result, Ok, Err}
 use Rattle.table.specs.Tab.{tab}
 use Rattle.fields.specs.declared.What.{What}
-use Rattle.fields.specs.declared.What.TheVariants as q
 use Rattle.refusals.specs.declared.Refusal.{Refusal}
 use Rattle.refusals.specs.declared.Refusal.TheVariants.{Malformed, Full}
 
@@ -17,16 +16,6 @@ row_for (Some t) false n = None
 -- the first n bytes, and zeros
 unfoldable pub padded : List ℕ → ℕ → List ℕ
 padded bytes n = tab 8 (λ k. get_or (take n bytes) k 0)
-
--- ---- the saved rows
-
--- how many of the n saved rows surely stand after a record
-abbrev pub rows_after : What → ℕ → ℕ
-rows_after (q.SD abilities params) n = n
-rows_after q.SV n = 0
-rows_after (q.Bind x) n = 0
-rows_after (q.Look x) n = n
-rows_after (q.Add x) n = n
 
 -- ---- what it comes to
 

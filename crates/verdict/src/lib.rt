@@ -1,8 +1,8 @@
-// What follows from what a record was read into: why it is refused, where the stream goes on, which saved rows stand, and a new struct's row.
+// What follows from what a record was read into: why it is refused, where the stream goes on, and a new struct's row.
 #![tactic(auto)]
 
 ghost use Rattle.std.specs.Prelude.{◌≡◌, ◌&&◌, ◌≤◌, ltb, length};
-ghost use Rattle.verdict.specs.Verdict.{row_for, padded, rows_after, verdict_of, place_after};
+ghost use Rattle.verdict.specs.Verdict.{row_for, padded, verdict_of, place_after};
 
 use fields::{Params, What};
 use payload::Answer;
@@ -31,22 +31,6 @@ pub fn padded(params: Params) -> [u8; 8]
     let mut row = params.bytes;
     row[usize::from(params.many)..].fill(0);
     row
-}
-
-// ---- the saved rows
-
-// How many of the n saved rows surely stand after a record: what binds or marks a variable that is there leaves none.
-// Refused: all of them after a record that joins (joined_rows_stand) or solves (solved_rows_stand).
-pub fn rows_after(what: What, n: u32) -> u32
-    ensures { result ≡ rows_after what n }
-{
-    match what {
-        What::SD(_, _) => n,
-        What::SV => 0,
-        What::Bind(_) => 0,
-        What::Look(_) => n,
-        What::Add(_) => n,
-    }
 }
 
 // ---- what it comes to

@@ -31,6 +31,10 @@ each_one : (f : ℕ → Bytes) (t : ℕ) → each f (t ∷ []) ≡ f t
 unfolding each
 each_one f t = append-nil (f t)
 
+-- the bytes of a type whose parts have those that f gives
+unfoldable pub whole : (ℕ → Bytes) → State → ℕ → Bytes
+whole f s t = head (loc_of s t) (type_at s t) ++ each f (parts (type_at s t))
+
 module _ (s : State) (inside : Inside s) where
   levels : (n m t : ℕ) → t < count s → t < n → t < m → write_down n s (spanned s t) ≡ write_down m s (spanned s t)
   unfolding write_down spanned
@@ -42,42 +46,42 @@ module _ (s : State) (inside : Inside s) where
       (λ k l. let f : get_or (parts (type_at s t)) k 0 < t = parts_low s inside t h k l in levels n m (get_or (parts (type_at s t)) k 0) (omega arith) (omega arith) (omega arith)))
 
   -- the bytes of a type: tag, location and fields, then those of its parts
-  pub write_is : (t : ℕ) → t < count s → write s t ≡ head (loc_of s t) (type_at s t) ++ each (write s) (parts (type_at s t))
-  unfolding write write_spanned write_down spanned
+  pub write_is : (t : ℕ) → t < count s → write s t ≡ whole (write s) s t
+  unfolding write write_spanned write_down spanned whole
   write_is t h =
       ap (λ (b : Bytes). head (loc_of s t) (type_at s t) ++ b)
       (each_same (λ p. write_down (count s) s (spanned s p)) (write s) (parts (type_at s t))
       (λ k l. let f : get_or (parts (type_at s t)) k 0 < t = parts_low s inside t h k l in levels (count s) (suc (count s)) (get_or (parts (type_at s t)) k 0) (omega arith) (omega arith) (omega arith)))
 
--- the bytes of a type up to its part i
-unfoldable pub front : State → ℕ → ℕ → Bytes
-front s t i = head (loc_of s t) (type_at s t) ++ each (write s) (take i (parts (type_at s t)))
+-- .. up to its part i
+unfoldable pub front : (ℕ → Bytes) → State → ℕ → ℕ → Bytes
+front f s t i = head (loc_of s t) (type_at s t) ++ each f (take i (parts (type_at s t)))
 
-pub front_none : (s : State) (t : ℕ) → front s t 0 ≡ head (loc_of s t) (type_at s t)
-unfolding front each
-front_none s t = append-nil (head (loc_of s t) (type_at s t))
+module _ (f : ℕ → Bytes) (s : State) (t : ℕ) where
+  pub front_none : front f s t 0 ≡ head (loc_of s t) (type_at s t)
+  unfolding front each
+  front_none = append-nil (head (loc_of s t) (type_at s t))
 
-pub front_more : (s : State) (t i : ℕ) → i < length (parts (type_at s t)) → front s t (i + 1) ≡ front s t i ++ write s (get_or (parts (type_at s t)) i 0)
-unfolding front
-front_more s t i h =
-    let one : each (write s) (get_or (parts (type_at s t)) i 0 ∷ []) ≡ write s (get_or (parts (type_at s t)) i 0) = each_one (write s) (get_or (parts (type_at s t)) i 0) in
-    rw (add-one i, take-suc (parts (type_at s t)) i 0 h, each_append (write s) (take i (parts (type_at s t))) (get_or (parts (type_at s t)) i 0 ∷ []), one)
-    (sym (append_assoc (head (loc_of s t) (type_at s t)) (each (write s) (take i (parts (type_at s t)))) (write s (get_or (parts (type_at s t)) i 0))))
+  pub front_more : (i : ℕ) → i < length (parts (type_at s t)) → front f s t (i + 1) ≡ front f s t i ++ f (get_or (parts (type_at s t)) i 0)
+  unfolding front
+  front_more i h =
+      let one : each f (get_or (parts (type_at s t)) i 0 ∷ []) ≡ f (get_or (parts (type_at s t)) i 0) = each_one f (get_or (parts (type_at s t)) i 0) in
+      rw (add-one i, take-suc (parts (type_at s t)) i 0 h, each_append f (take i (parts (type_at s t))) (get_or (parts (type_at s t)) i 0 ∷ []), one)
+      (sym (append_assoc (head (loc_of s t) (type_at s t)) (each f (take i (parts (type_at s t)))) (f (get_or (parts (type_at s t)) i 0))))
 
--- all parts
-pub front_all : (s : State) → Inside s → (t i : ℕ) → t < count s → length (parts (type_at s t)) ≤ i → front s t i ≡ write s t
-unfolding front
-front_all s inside t i l h = rw (take_all i (parts (type_at s t)) h) (sym (write_is s inside t l))
+  -- all parts
+  pub front_all : (i : ℕ) → length (parts (type_at s t)) ≤ i → front f s t i ≡ whole f s t
+  unfolding front whole
+  front_all i h = rw (take_all i (parts (type_at s t)) h) refl
 
--- what is written up to a part is the front of the whole
-pub front_fits : (s : State) → Inside s → (t i : ℕ) → t < count s → length (front s t i) ≤ length (write s t)
-unfolding front
-front_fits s inside t i l =
-    let ps = parts (type_at s t) in
-    let e : write s t ≡ (head (loc_of s t) (type_at s t) ++ each (write s) (take i ps)) ++ each (write s) (drop i ps) =
-    write_is s inside t l
-    ∙ ap (λ (k : List ℕ). head (loc_of s t) (type_at s t) ++ each (write s) k) (sym (take-append-drop i ps))
-    ∙ ap (λ (b : Bytes). head (loc_of s t) (type_at s t) ++ b) (each_append (write s) (take i ps) (drop i ps))
-    ∙ sym (append_assoc (head (loc_of s t) (type_at s t)) (each (write s) (take i ps)) (each (write s) (drop i ps)))
-    in
-    rw (e, length-append (head (loc_of s t) (type_at s t) ++ each (write s) (take i ps)) (each (write s) (drop i ps))) (omega arith)
+  -- what is written up to a part is the front of the whole
+  pub front_fits : (i : ℕ) → length (front f s t i) ≤ length (whole f s t)
+  unfolding front whole
+  front_fits i =
+      let ps = parts (type_at s t) in
+      let e : head (loc_of s t) (type_at s t) ++ each f ps ≡ (head (loc_of s t) (type_at s t) ++ each f (take i ps)) ++ each f (drop i ps) =
+      ap (λ (k : List ℕ). head (loc_of s t) (type_at s t) ++ each f k) (sym (take-append-drop i ps))
+      ∙ ap (λ (b : Bytes). head (loc_of s t) (type_at s t) ++ b) (each_append f (take i ps) (drop i ps))
+      ∙ sym (append_assoc (head (loc_of s t) (type_at s t)) (each f (take i ps)) (each f (drop i ps)))
+      in
+      rw (e, length-append (head (loc_of s t) (type_at s t) ++ each f (take i ps)) (each f (drop i ps))) (omega arith)

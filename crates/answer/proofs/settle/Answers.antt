@@ -1,14 +1,17 @@
 -- `answer::settle` meets its contract. Assumes nothing.
 use mathlib.Core.Path.{refl}
 use Rattle.snapshot.proofs.Growing.{grown_above}
-use Rattle.answer.proofs.Settling.{answers_in}
+use Rattle.answer.proofs.Settling.{answers_in, linked_stay}
 use Rattle.answer.proofs.settle.Goals as goal
 
 pub answer_of-a-requires-clause-lay : goal.answer_of-a-requires-clause-lay
-answer_of-a-requires-clause-lay g c = (c.args.st.now.lay, grown_above _ _ _ _ c.requires.0.grown)
+answer_of-a-requires-clause-lay g c = let b = c.since-before.ensures in (c.args.st.now.lay, rw b.0 (grown_above _ _ _ _ c.requires.0.since.grown))
 
 pub invariant_of-st : goal.invariant_of-st
-invariant_of-st g c = record { lay = (c.answer_of-a.ensures.settled _ c.requires.0).lay }
+invariant_of-st g c = let b = c.since-before.ensures in record { lay = ((rw (b.0, b.1.0, b.1.1) at c.answer_of-a.ensures).settled _ c.requires.0.since).lay }
 
 pub returns : goal.returns
-returns g c = answers_in _ c.args.before _ _ _ _ _ _ c.requires.0 refl refl c.answer_of-a.ensures
+returns g c =
+    let b = c.since-before.ensures in
+    let a = rw (b.0, b.1.0, b.1.1) at c.answer_of-a.ensures in
+    answers_in _ c.args.before _ _ _ _ _ _ c.requires.0 (linked_stay _ _ _ refl refl refl c.requires.0.many a.stay) refl a

@@ -14,7 +14,7 @@ new-st-requires c = lent_lays _ _ c.requires _ c.used_of-used.ensures
 pub lines_trusted-lines-requires : goal.lines_trusted-lines-requires
 lines_trusted-lines-requires c =
     let n = c.new-st.ensures in
-    stands_lent _ _ c.requires c.new-st.result n.0 (n.1.0 ∙ c.used_of-used.ensures)
+    (stands_lent _ _ c.requires c.new-st.result n.0 (n.1.0 ∙ c.used_of-used.ensures), n.1.1.1)
 
 pub returns : goal.returns
 returns c =

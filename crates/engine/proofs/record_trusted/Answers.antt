@@ -3,7 +3,6 @@ use native.Mathlib.Omega.{arith}
 use mathlib.Core.Path.{◌∙◌}
 use Rattle.std.proofs.Common.{rules}
 use Rattle.log_lines.proofs.Text.{bytes_of}
-use Rattle.snapshot.proofs.Saving.{partly_none}
 use Rattle.lent.proofs.Passed.{stands_lent, lent_size, lent_lays}
 use Rattle.engine.proofs.Laws.{record_gives}
 use Rattle.engine.proofs.record_trusted.Goals as goal
@@ -19,7 +18,7 @@ step_trusted-r-requires c =
     let n = c.new-st.ensures in
     record {
       stands = (stands_lent _ _ c.requires.0 c.new-st.result n.0 (n.1.0 ∙ c.used_of-used.ensures), (bytes_of c.args.«record».now c.type_inv.record, (omega arith, (omega arith, c.requires.1))));
-      saved_partly = partly_none _ _ _;
+      noted = λ v p. absurd (omega (arith, p, n.1.1.1));
     }
 
 pub returns : goal.returns

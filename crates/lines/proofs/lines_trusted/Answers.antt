@@ -2,12 +2,11 @@
 use mathlib.Core.Path.{refl, sym, ◌∙◌}
 use native.Mathlib.Omega.{arith}
 use Rattle.log_lines.proofs.Text.{bytes_of}
-use Rattle.snapshot.proofs.Saving.{partly_none}
 use Rattle.lines.proofs.Jobs.{going_start, going_spent, going_stops, taken_on, takes_room, begin_room, free_begin, free_size, lent_digit, end_room, going_less, going_last, going_on}
 use Rattle.lines.proofs.lines_trusted.Goals as goal
 
 pub records-init : goal.records-init
-records-init c = rw c.nothing-lines.ensures (record { saved_all = refl; saved = partly_none _ _ _; going = going_start _ _ _ _ _ _ c.requires; goes_on = refl })
+records-init c = rw c.nothing-lines.ensures (record { saved_all = refl; saved = λ v p. absurd (omega (arith, p, c.requires.1)); going = going_start _ _ _ _ _ _ c.requires.0; goes_on = refl })
 
 pub returns-then-not-takes_on : goal.returns-then-not-takes_on
 returns-then-not-takes_on c =
@@ -71,7 +70,7 @@ records-preserved c =
     let i = c.records.invariant in
     record {
       saved_all = c.step_trusted-r.auto.saved ∙ i.saved_all;
-      saved = c.step_trusted-r.ensures.saved_next;
+      saved = c.step_trusted-r.ensures.noted_next;
       going = going_on i.going (bytes_of _ c.type_inv.stream) c.records-test.true (taken_on i.going c.takes_on.ensures c.if-not-takes_on.false)
           c.step_trusted-r.ensures.steps c.begin_line-at.ensures refl c.step_trusted-r.auto.buf (sym c.ends_job.ensures ∙ c.if-lines.false) c.end_line.ensures;
       goes_on = c.if-lines.false;

@@ -4,14 +4,14 @@ use mathlib.Core.Path.{◌≡◌}
 use mathlib.Core.Bool.{false}
 use Prim.Native.Nat.{◌-◌}
 use lib.ListN.{length}
-use Rattle.snapshot.specs.Snap.{SavedPartly}
+use Rattle.snapshot.specs.Noted.{Noted}
 use Rattle.lines.proofs.Jobs.{Going}
 use Rattle.lines.proofs.lines_trusted.Given as goal
 
 abbrev pub invariant-records : goal.invariant-records
 invariant-records l = record {
   saved_all : length l.saved ≡ 5120;
-  saved : SavedPartly l.st.words.now l.st.used l.rows l.saved;
+  saved : Noted l.st l.saved;
   going : Going l.initial.st l.initial.params l.index l.stream l.more l.initial.log l.st l.params l.log l.lines.read l.lines.written l.lines.index;
   goes_on : l.lines.ended ≡ false;
 }

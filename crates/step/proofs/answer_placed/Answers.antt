@@ -1,10 +1,11 @@
 -- `step::answer_placed` meets its contract. Assumes nothing.
-use mathlib.Core.Path.{ap, ◌∙◌}
-use Rattle.fields.specs.Noded.{noded, bind_of, look_of, add_of, binds, looks, adds}
+use mathlib.Core.Path.{refl, ap, ◌∙◌}
+use Rattle.fields.specs.Noded.{unfolded, tparams, noded, bind_of, pairs_of, add_of, binds, looks, adds}
 use Rattle.run.proofs.Arms.{narrow}
-use Rattle.step.proofs.Replying.{WasRun, run_settles, reply_ran, solve_saved, solve_sound, reply_solved}
+use Rattle.step.proofs.Replying.{WasRun, run_settles, reply_ran, ready_settles, reply_ready, solve_saved, solve_sound, reply_solved}
 use Rattle.step.proofs.answer_placed.Goals as goal
-use Rattle.step.proofs.answer_placed.Goals.{in-Bind, in-Look, in-Add}
+use Rattle.step.proofs.answer_placed.Goals.{in-Bind, in-Look+in-One+in-UF, in-Look+in-TS, in-Add}
+use Rattle.table.proofs.Did.{linked}
 
 pub answer_declared-requires : goal.answer_declared-requires
 answer_declared-requires g c = let e = c.in-SD.is in ((rw e at c.requires.0.0, c.requires.0.1), rw e at c.requires.1)
@@ -15,20 +16,30 @@ solve-requires g c = let b = (rw c.in-SV.is at c.requires.1).from in record { sa
 pub run_bind-ran-requires : goal.run_bind-ran-requires
 run_bind-ran-requires g c = rw c.in-Bind.is at c.requires.0.0
 
-pub run_look-ran-requires : goal.run_look-ran-requires
-run_look-ran-requires g c = rw c.in-Look.is at c.requires.0.0
+pub run_unfold-requires : goal.run_unfold-requires
+run_unfold-requires g c = rw (c.in-Look.is, c.in-One.is) at c.requires.0.0
+
+pub settle_ready-requires : goal.settle_ready-requires
+settle_ready-requires g c = let h = rw (c.in-Look.is, c.in-One.is, c.in-RD.is) at c.requires in ready_settles h.1.from c.args.buf.now h.0.1 h.0.0
+
+pub run_tparams-requires : goal.run_tparams-requires
+run_tparams-requires g c = let h = rw (c.in-Look.is, c.in-TS.is) at c.requires.0.0 in (h.1, h.0)
 
 pub settle-requires : goal.settle-requires
 settle-requires g c =
     let k : WasRun c.args.params.now c.args.st.now c.match-what.st c.match-what.ran (noded c.args.what) = elim c.match-what.branch [
       | in-Bind w ↦ record { what = binds (bind_of w.in-Bind.x); is = ap noded w.in-Bind.is; ran = rw (w.st-is, w.ran-is) w.run_bind-ran.ensures }
-      | in-Look w ↦ record { what = looks (look_of w.in-Look.x); is = ap noded w.in-Look.is; ran = rw (w.st-is, w.ran-is) (narrow w.run_look-ran.ensures) }
+      | in-Look+in-One+in-UF w ↦ record { what = looks (unfolded w.in-One.t); is = rw (w.in-Look.is, w.in-One.is, w.in-UF.is) refl; ran = rw (w.st-is, w.ran-is) (narrow w.run_unfold.ensures) }
+      | in-Look+in-TS w ↦ record { what = looks (tparams (pairs_of w.in-TS.ps) w.in-TS.t); is = rw (w.in-Look.is, w.in-TS.is) refl; ran = rw (w.st-is, w.ran-is) (narrow w.run_tparams.ensures) }
       | in-Add w ↦ record { what = adds (add_of w.in-Add.x); is = ap noded w.in-Add.is; ran = rw (w.st-is, w.ran-is) (narrow w.run_add-ran.ensures) }
     ] in
     run_settles c.requires.1.from k c.args.buf.now c.requires.0.1
 
 pub returns-in-SD : goal.returns-in-SD
 returns-in-SD g c = record { same = c.answer_declared.ensures.same; is = λ x b. c.answer_declared.ensures.is x (rw c.in-SD.is at b) }
+
+pub returns-in-RD : goal.returns-in-RD
+returns-in-RD g c = record { same = c.settle_ready.ensures.same; is = λ x b. reply_ready (rw (c.in-Look.is, c.in-One.is, c.in-RD.is) at b) c.settle_ready.ensures }
 
 pub returns-in-SV : goal.returns-in-SV
 returns-in-SV g c = record { same = c.solve.ensures.same; is = λ x b. reply_solved (rw c.in-SV.is at b) c.solve.ensures }
@@ -37,7 +48,8 @@ pub returns : goal.returns
 returns g c =
     let k : WasRun c.args.params.now c.args.st.now c.match-what.st c.match-what.ran (noded c.args.what) = elim c.match-what.branch [
       | in-Bind w ↦ record { what = binds (bind_of w.in-Bind.x); is = ap noded w.in-Bind.is; ran = rw (w.st-is, w.ran-is) w.run_bind-ran.ensures }
-      | in-Look w ↦ record { what = looks (look_of w.in-Look.x); is = ap noded w.in-Look.is; ran = rw (w.st-is, w.ran-is) (narrow w.run_look-ran.ensures) }
+      | in-Look+in-One+in-UF w ↦ record { what = looks (unfolded w.in-One.t); is = rw (w.in-Look.is, w.in-One.is, w.in-UF.is) refl; ran = rw (w.st-is, w.ran-is) (narrow w.run_unfold.ensures) }
+      | in-Look+in-TS w ↦ record { what = looks (tparams (pairs_of w.in-TS.ps) w.in-TS.t); is = rw (w.in-Look.is, w.in-TS.is) refl; ran = rw (w.st-is, w.ran-is) (narrow w.run_tparams.ensures) }
       | in-Add w ↦ record { what = adds (add_of w.in-Add.x); is = ap noded w.in-Add.is; ran = rw (w.st-is, w.ran-is) (narrow w.run_add-ran.ensures) }
     ] in
-    record { same = c.settle.ensures.same ∙ k.ran.left.same; is = λ x b. reply_ran b k c.settle.ensures }
+    record { same = linked c.settle.ensures.same k.ran.left.same; is = λ x b. reply_ran b k c.settle.ensures }

@@ -6,3 +6,6 @@ ghost-answer_declared g a = g.w0
 
 abbrev pub ghost-settle : goal.ghost-settle
 ghost-settle g a = g.w0
+
+abbrev pub ghost-settle_ready : goal.ghost-settle_ready
+ghost-settle_ready g a = g.w0

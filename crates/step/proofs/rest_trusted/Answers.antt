@@ -1,6 +1,12 @@
 -- `step::rest_trusted` meets its contract. Assumes nothing.
 use mathlib.Core.Path.{refl}
+use Rattle.step.proofs.Saved.{all_many, all_now, stands_now, splits_before}
 use Rattle.step.proofs.rest_trusted.Goals as goal
 
 pub rest_from-requires : goal.rest_from-requires
-rest_from-requires c = ((refl, (refl, c.save_vars.ensures)), (c.requires.0, c.requires.1.0))
+rest_from-requires c =
+    let a = c.save_vars.ensures in
+    ((refl, (refl, (all_many a, all_now a))), (stands_now a c.requires.0, rw (a.words, a.used) c.requires.1.0))
+
+pub returns : goal.returns
+returns c = splits_before c.save_vars.ensures c.rest_from.ensures

@@ -1,4 +1,4 @@
-use Rattle.writer.proofs.Turns.{goes_more, write_none, write_all, part_room, bytes_at, head_room}
+use Rattle.writer.proofs.Turns.{written, goes_more, write_none, write_all, part_room, bytes_at, head_room}
 use Rattle.table.proofs.Grown.{loc_is}
 use Rattle.shapes.proofs.Nodes.{at_node, part_low}
 use native.Mathlib.Omega.{arith}
@@ -9,7 +9,7 @@ write_head-next-requires t c = let args = c.args in
     let pre = c.requires in
     let node_at = c.node_at-node in
     let a = at_node _ _ _ _ node_at.result args.st.now.lay pre.all_bytes.0 node_at.ensures c.part_count-n.ensures in
-    (bytes_at a pre.all_bytes.1, head_room a args.buf.now _ pre.fits _ (λ ds. loc_is _ _ node_at.result (node_at.ensures ds)))
+    (bytes_at a pre.all_bytes.1, head_room (written a) a args.buf.now _ pre.fits _ (λ ds. loc_is _ _ node_at.result (node_at.ensures ds)))
 
 pub loop-i-init : goal.loop-i-init
 loop-i-init t c = (omega arith, λ E h. h)
@@ -24,12 +24,12 @@ write_type-next-requires t c = let args = c.args in
     let E = args.buf.now in
     let a = at_node _ _ _ _ node_at.result args.st.now.lay pre.all_bytes.0 node_at.ensures
     part_count.ensures in
-    let base = write_none a E _ pre.fits _ (λ ds. loc_is _ _ node_at.result (node_at.ensures ds)) _ _ write_head.ensures in
+    let base = write_none (written a) a E _ pre.fits _ (λ ds. loc_is _ _ node_at.result (node_at.ensures ds)) _ _ write_head.ensures in
     let f = part_low a _ _ loop_test.true c.part_at-p.ensures in (
       omega (arith, f, c.decreases),
       (
         (omega (arith, f, pre.all_bytes.0), pre.all_bytes.1),
-        part_room a E _ pre.fits _ _ _ _
+        part_room (written a) a E _ pre.fits _ _ _ _
             (c.loop-i.invariant.1 E base) loop_test.true c.part_at-p.ensures,
       ),
     )
@@ -45,8 +45,8 @@ loop-i-preserved t c = let args = c.args in
     let E = args.buf.now in
     let a = at_node _ _ _ _ node_at.result args.st.now.lay pre.all_bytes.0 node_at.ensures
     part_count.ensures in
-    let base = write_none a E _ pre.fits _ (λ ds. loc_is _ _ node_at.result (node_at.ensures ds)) _ _ write_head.ensures in
-    goes_more a E _ pre.fits _ _ _ _ _ _ _ _ base loop.invariant loop_test.true
+    let base = write_none (written a) a E _ pre.fits _ (λ ds. loc_is _ _ node_at.result (node_at.ensures ds)) _ _ write_head.ensures in
+    goes_more (written a) a E _ pre.fits _ _ _ _ _ _ _ _ base loop.invariant loop_test.true
     c.part_at-p.ensures c.write_type-next.ensures
 
 pub returns : goal.returns
@@ -57,6 +57,6 @@ returns t c = let args = c.args in
     let E = args.buf.now in
     let a = at_node _ _ _ _ node_at.result args.st.now.lay pre.all_bytes.0 node_at.ensures
     part_count.ensures in
-    let base = write_none a E _ pre.fits _ (λ ds. loc_is _ _ node_at.result (node_at.ensures ds)) _ _
+    let base = write_none (written a) a E _ pre.fits _ (λ ds. loc_is _ _ node_at.result (node_at.ensures ds)) _ _
     c.write_head-next.ensures in
-    write_all a E _ _ _ _ (c.loop-i.invariant.1 E base) c.loop-i-test.false
+    write_all (written a) a E _ _ _ _ (c.loop-i.invariant.1 E base) c.loop-i-test.false

@@ -1,24 +1,11 @@
 -- `cursor::Reader::u32` meets its contract. Assumes nothing.
-use Rattle.std.proofs.Common.{rules}
-use Rattle.definition.specs.Reader.{read_u32, ◌>>=◌, go_on, give}
+use Rattle.std.proofs.Common.{rules, ap, arith}
+use Rattle.definition.specs.Reader.{got}
+use Rattle.cursor.proofs.Next.{next_4}
 use Rattle.cursor.proofs.Reader.u32.Goals as goal
 
-pub returns-in_err-a-clause-is : goal.returns-in_err-a-clause-is
-unfolding read_u32 ◌>>=◌ go_on give
-returns-in_err-a-clause-is c = search rules
-
-pub returns-in_err-b-clause-is : goal.returns-in_err-b-clause-is
-unfolding read_u32 ◌>>=◌ go_on give
-returns-in_err-b-clause-is c = search rules
-
-pub returns-in_err-c-clause-is : goal.returns-in_err-c-clause-is
-unfolding read_u32 ◌>>=◌ go_on give
-returns-in_err-c-clause-is c = search rules
-
-pub returns-in_err-d-clause-is : goal.returns-in_err-d-clause-is
-unfolding read_u32 ◌>>=◌ go_on give
-returns-in_err-d-clause-is c = search rules
+pub returns-in_err-bytes-clause-is : goal.returns-in_err-bytes-clause-is
+returns-in_err-bytes-clause-is c = let h = next_4 _ _ _ c.array.ensures in search rules
 
 pub returns-clause-is : goal.returns-clause-is
-unfolding read_u32 ◌>>=◌ go_on give
-returns-clause-is c = search rules
+returns-clause-is c = rw (← next_4 _ _ _ c.array.ensures, c.in_ok-bytes.was) (ap (λ n. got n c.array.new.self.left.now) (omega arith))

@@ -1,5 +1,6 @@
 -- `table::State::take_var` meets its contract. Assumes nothing.
 use mathlib.Core.Path.{refl}
+use Rattle.table.proofs.Linked.{linked_same}
 use Rattle.table.proofs.Did.{var_took}
 use Rattle.table.proofs.state.State.take_var.Goals as goal
 
@@ -8,4 +9,4 @@ invariant_of-self c = record { lay = (var_took _ _ _ c.next_tvar.result c.args.s
 
 pub returns : goal.returns
 returns c = let x = var_took _ _ _ c.next_tvar.result c.args.self.now.lay c.next_tvar.ensures in
-    record { changed = record { same = refl; step = x.0 }; inside = x.1 }
+    record { changed = record { same = linked_same refl refl refl (λ i p. refl); step = x.0 }; inside = x.1 }
