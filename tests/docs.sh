@@ -35,7 +35,7 @@ looped() { # the lines of the loop that RECORDS.md shows are lines of the exampl
   sed 's/^ *//' rust/pongiwaru/examples/emit.rs | grep -Fx -f "$tmp/shown" | diff "$tmp/shown" - && [ "$(wc -l < "$tmp/shown")" -gt 10 ]
 }
 
-made() { python3 tools/computed.py --check && python3 tools/layers.py --check && python3 tools/claims.py --check && python3 tools/jobs.py antt --check; }
+made() { python3 tools/computed.py --check && python3 tools/layers.py --check && python3 tools/costs.py --check && python3 tools/claims.py --check && python3 tools/jobs.py antt --check; }
 
 drawn() { # every crate has its place in the picture and its row in README.md
   local name bad=0

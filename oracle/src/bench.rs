@@ -4,6 +4,7 @@
 //! types at hand and its answers dropped unread; and from bytes to a log, as the engine works.
 pub mod apart;
 pub mod body;
+pub mod costs;
 
 use crate::{
     calls::{Calls, Lines},
@@ -229,7 +230,7 @@ fn call(job: &mut Job, op: Op, copy: bool, failed: &mut Failed) -> Option<Type> 
 }
 
 fn ops_of(stream: &[u8]) -> Vec<Op> {
-    let mut form = Form { bytes: stream, at: 0, params: vec![] };
+    let mut form = Form::new(stream);
     let mut out = vec![];
     while form.at < stream.len() {
         out.push(form.record())
@@ -254,14 +255,19 @@ pub fn oracle_timed_core(ops: Vec<Op>, copy: bool) {
 #[no_mangle]
 #[inline(never)]
 pub fn oracle_timed_form(stream: &[u8], copy: bool, log: &mut Vec<u8>) {
-    let mut job = Job::new(Options::default());
-    let (mut form, mut place, mut failed) = (Form { bytes: stream, at: 0, params: vec![] }, 0, None);
+    let (mut job, mut form) = (Job::new(Options::default()), Form::new(stream));
     Counter::set(0);
+    form_on(&mut job, &mut form, copy, log)
+}
+
+/// .. from where a job stands on
+fn form_on(job: &mut Job, form: &mut Form, copy: bool, log: &mut Vec<u8>) {
+    let (mut place, mut failed) = (0, None);
     log.clear();
-    while form.at < stream.len() {
+    while form.at < form.bytes.len() {
         let op = form.record();
         let declared = matches!(op, Op::Declare(..)).then(|| form.params.len() as u16 - 1);
-        let answer = call(&mut job, op, copy, &mut failed);
+        let answer = call(job, op, copy, &mut failed);
         write!(log, "{} ", place).unwrap();
         match (answer, declared, failed.take()) {
             (Some(t), ..) => {
@@ -288,6 +294,9 @@ struct Form<'a> {
 }
 
 impl Form<'_> {
+    fn new(bytes: &[u8]) -> Form<'_> {
+        Form { bytes, at: 0, params: vec![] }
+    }
     fn byte(&mut self) -> u8 {
         self.at += 1;
         self.bytes[self.at - 1]
@@ -499,7 +508,7 @@ pub const SIDES: [&str; 7] =
 
 /// the bytes of each record
 fn cut(stream: &[u8]) -> Vec<&[u8]> {
-    let mut form = Form { bytes: stream, at: 0, params: vec![] };
+    let mut form = Form::new(stream);
     let mut out = vec![];
     while form.at < stream.len() {
         let at = form.at;

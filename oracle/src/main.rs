@@ -32,6 +32,7 @@ oracle traps                                          types with more parts than
 oracle bench [RUNS]                                   times beside core.rs, by mark, of lent records
 oracle bench once WORK SIDE TIMES                     the same job again and again, for a profiler
 oracle bench marks                                    for each mark a call without records and one with, likewise
+oracle bench costs [RUNS]                             the table that tools/costs.py draws
 oracle joinlog PROGRAM                                joinlog beside one call of the engine
 Without a file, stdin is read.";
 
@@ -207,6 +208,10 @@ fn run(args: Vec<String>) -> i32 {
         Some("bench") if words.get(1).map(String::as_str) == Some("marks") => {
             print!("{}", bench::apart::marks_once(engine(false)))
         }
+        Some("bench") if words.get(1).map(String::as_str) == Some("costs") => {
+            let runs = words.get(2).map_or(400, |w| number(Some(w)));
+            print!("{}", bench::costs::table(engine(false), runs as usize))
+        }
         Some("bench") => {
             let runs = words.get(1).map_or(200, |w| number(Some(w)));
             print!("{}", bench::table(engine(false), runs as usize))
@@ -214,6 +219,7 @@ fn run(args: Vec<String>) -> i32 {
         Some("traps") => {
             let (lines, slowest) = traps::run(engine(false));
             lines.iter().for_each(|l| println!("{}", l.text()));
+            traps::by_state(&lines).iter().for_each(|l| println!("{}", l));
             let [lent, job] = traps::most_stack(&lines);
             println!("slowest call: {:.3} ms; most stack: {} bytes lent, {} as a job", slowest * 1000.0, lent, job);
             return (slowest >= traps::LIMIT) as i32;

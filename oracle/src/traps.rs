@@ -6,7 +6,10 @@ use crate::{
     lent::{fresh, sound, Lent, MAX_NODES, MAX_VARS},
     text::assemble,
 };
-use std::{collections::VecDeque, time::Instant};
+use std::{
+    collections::{BTreeSet, VecDeque},
+    time::Instant,
+};
 
 /// seconds that a call may take: several times the slowest one's, since others may be at work on the machine
 pub const LIMIT: f64 = 0.2;
@@ -312,6 +315,20 @@ fn asked(lent: &Lent, many: usize, kind: u32, set: u8) -> Lent {
     let node = s.view().binding(0).unwrap();
     (0..many).all(|_| s.add_constraint(kind, 1, node, set).is_some());
     s
+}
+
+/// Of each state its answers, and its slowest call: the rows of docs/RUNS.md.
+pub fn by_state(lines: &[Line]) -> Vec<String> {
+    lines
+        .chunk_by(|a, b| a.state == b.state)
+        .map(|of| {
+            let answers: BTreeSet<_> = of.iter().map(|l| l.number).collect();
+            let answers: Vec<_> = answers.iter().map(|n| n.to_string()).collect();
+            let slow = of.iter().max_by(|a, b| a.seconds.total_cmp(&b.seconds)).unwrap();
+            let ms = slow.seconds * 1000.0;
+            format!("{}: {}; slowest {:.2} ms, {} ({})", slow.state, answers.join(", "), ms, slow.record, slow.number)
+        })
+        .collect()
 }
 
 /// The most stack that a call took, lent and as a job.

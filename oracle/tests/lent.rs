@@ -448,3 +448,11 @@ fn benchmark_jobs_have_core_rs_s_logs() {
         assert_eq!(answers.len(), if name.starts_with("body") { 5 } else { 1 }, "{}", name)
     }
 }
+
+#[test]
+fn costs_are_told_for_each_place_once_both_logs_are_equal() {
+    let Some(engine) = engine() else { return };
+    let places: usize = bench::costs::AXES.iter().map(|a| a.at.len()).sum();
+    let table = bench::costs::table(engine, 1);
+    assert_eq!(table.lines().skip(1).filter(|l| l.split('\t').count() == 5).count(), places * 3 * 2)
+}

@@ -102,7 +102,7 @@ pub fn note_ends(st: &State<'_>, ends: &mut [u32])
 // ---- a type that reaches a variable that reaches itself
 
 // A type of at most 64 parts needs no heights, and no ends are noted for it.
-pub fn near_over(st: &State<'_>, t: u32) -> bool
+fn near_over(st: &State<'_>, t: u32) -> bool
     requires { t < st.now.used.nodes }
     ensures { result ≡ true → (ds : List d.Struct) → false ≡ reaches_itself (held st.now ds) t }
 {

@@ -11,19 +11,15 @@ ghost use Rattle.writer.specs.Bytes.{Wrote, AllBytes};
 ghost use Rattle.ready.specs.Spell.{LedTo, Owns, Small, added, SumsOf, Measures, Spells};
 
 use ends::{Chains, note_ends};
-use names::TVar;
+use names::{MAX_ARGS, MAX_NODES, TVar};
 use refusals::Refusal;
 use table::Shape;
 use table::state::State;
 
-const MAX_NODES: u32 = 2048;
-
-const MAX_PLACES: u32 = 4096;
-
 const MAX_PAYLOAD: u32 = 4096;
 
 // The first type, and one for each node and each place: a type of more would not fit.
-const MAX_TYPES: u32 = 1 + MAX_NODES + MAX_PLACES;
+const MAX_TYPES: u32 = 1 + MAX_NODES + MAX_ARGS;
 
 // Where a type leads: to a node that is no bound variable, or to an open variable. The node's number and no shape, which is copied slowly.
 #[derive(Clone, Copy)]
@@ -156,7 +152,7 @@ fn spell_measured(
     if MAX_NODES - used.nodes < m.nodes {
         return Err(Refusal::Full);
     }
-    if MAX_PLACES - used.args < m.places {
+    if MAX_ARGS - used.args < m.places {
         return Err(Refusal::Full);
     }
     if MAX_PAYLOAD < m.bytes {

@@ -1,7 +1,7 @@
 -- A node of the state that the words hold, and its parts: as many as are counted, each below the node. Assumes nothing.
 use mathlib.Core.Path.{◌≡◌, refl, sym, ap, ◌∙◌}
 use mathlib.Core.List.{List, [], ◌∷◌}
-use Prim.Native.Nat.{ℕ, zero, suc, ◌<◌}
+use Prim.Native.Nat.{ℕ, zero, suc, ◌≤◌, ◌<◌}
 use native.Mathlib.Nat.{not-suc-le-zero}
 use native.Mathlib.Omega.{arith}
 use lib.ListN.{length, get_or, length-take, length-drop}
@@ -42,6 +42,15 @@ below_low s t (d.Var v) b = record { many = refl; low = λ i h. absurd (not-suc-
 below_low s t d.Anything b = record { many = refl; low = λ i h. absurd (not-suc-le-zero h) }
 below_low s t d.UnresolvedError b = record { many = refl; low = λ i h. absurd (not-suc-le-zero h) }
 
+below_few : (args : List ℕ) (t : ℕ) (sh : d.Shape Places) → Below args t sh → part_count sh ≤ 8
+below_few args t d.UnitType b = omega arith
+below_few args t (d.Ref m p) b = omega arith
+below_few args t (d.Param id a) b = omega arith
+below_few args t (d.Apply k n p) b = b.0
+below_few args t (d.Var v) b = omega arith
+below_few args t d.Anything b = omega arith
+below_few args t d.UnresolvedError b = omega arith
+
 module _ (s : State) (inside : Inside s) (t : ℕ) (h : t < count s) where
   node_low : Low s t (node s t).value
   node_low = below_low s t (node s t).value (inside.parts t h)
@@ -71,11 +80,25 @@ module _ {w : List ℕ} {u : Used} {t : ℕ} {sh : Shape} {many : ℕ} (a : At w
   pub counted : (ds : List Struct) → t < count (seen w u ds)
   counted ds = rw (count_seen w u ds) a.in_nodes
 
+  below : (ds : List Struct) → Below (seen w u ds).args t (shape_of sh)
+  below ds = rw (a.shape ds) ((inside_seen w u ds a.lay).parts t (counted ds))
+
   low : (ds : List Struct) → Low (seen w u ds) t (shape_of sh)
-  low ds = rw (a.shape ds) (below_low (seen w u ds) t (node (seen w u ds) t).value ((inside_seen w u ds a.lay).parts t (counted ds)))
+  low ds = below_low (seen w u ds) t (shape_of sh) (below ds)
+
+  pub few_parts : many ≤ 8
+  few_parts = rw a.many_is (below_few (seen w u []).args t (shape_of sh) (below []))
 
   pub many_parts : (ds : List Struct) → length (parts (type_at (seen w u ds) t)) ≡ many
   many_parts ds = sym (ap (λ (x : d.TypeValue). length (parts x)) (a.is ds)) ∙ (low ds).many ∙ sym a.many_is
+
+  -- l is the list of its parts
+  module _ (l : List ℕ) (e : (ds : List Struct) → l ≡ parts (type_at (seen w u ds) t)) where
+    pub at_listed : At w u t sh (length l)
+    at_listed = record { lay = a.lay; in_nodes = a.in_nodes; is = a.is; many_is = ap length (e []) ∙ many_parts [] ∙ a.many_is; shape = a.shape }
+
+    pub listed_part : (i : ℕ) (ds : List Struct) → get_or l i 0 ≡ get_or (parts (with_args (seen w u ds) (shape_of sh))) i 0
+    listed_part i ds = ap (λ (x : List ℕ). get_or x i 0) (e ds) ∙ sym (ap (λ (x : d.TypeValue). get_or (parts x) i 0) (a.is ds))
 
   -- part i, as part_at gives it
   module _ (i p : ℕ) (l : i < many) (e : (ds : List Struct) → i < part_count (shape_of sh) → p ≡ get_or (parts (with_args (seen w u ds) (shape_of sh))) i 0) where

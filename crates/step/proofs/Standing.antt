@@ -1,42 +1,31 @@
--- Which records leave the variables that are there as they are. `Leaves P`: on success the state's variables are as P says. Placing types and
--- reading them out take nodes alone, so any P stays; a record that binds and marks nothing that is there leaves the variables at entry in
--- front, and so does its answer, be it a success, an error or a refusal. Assumes nothing.
-use mathlib.Core.Path.{◌≡◌, refl, sym, ap, ◌∙◌, subst}
+-- Placing types and reading them out take nodes alone. `Leaves P`: on success the state's variables are as P says, whatever P is. Assumes nothing.
+use mathlib.Core.Path.{◌≡◌, refl}
 use mathlib.Core.Bool.{Bool, true, false}
-use mathlib.Core.List.{List, [], ◌∷◌, ◌++◌}
+use mathlib.Core.List.{List, [], ◌∷◌}
 use Rattle.std.specs.Prelude.{Option, None, Some, Ok, Err}
 use Rattle.std.specs.Prelude as core
-use Prim.Native.Nat.{ℕ, zero, suc, ◌+◌, ◌-◌, ◌≤◌}
-use native.Mathlib.Omega.{arith}
+use Prim.Native.Nat.{ℕ, zero, suc, ◌+◌}
 use lib.Dec.{leb, ltb}
-use lib.ListN.{length, set, replicate}
-use lib.Seq.{get_or_at}
-use Rattle.definition.specs.Types.{State, Cell, unbound, Constraint, UnitType, Ref, Param, Apply, Var, Anything, UnresolvedError, TypeValue}
+use lib.ListN.{length}
+use Rattle.definition.specs.Types.{State, Cell, UnitType, Ref, Param, Apply, Var, Anything, UnresolvedError, TypeValue}
 use Rattle.std.specs.Prelude.{if◌then◌else◌}
-use Rattle.definition.specs.Types.{TypingError, Refusal, full, answer_too_long, max_nodes, max_args, max_vars, max_constraints, max_structs, Result, ok, err, refused, ◌>>=◌}
-use Rattle.definition.specs.Store.{count, taken, args_of, get, with_vars, with_var, with_node, with_constraints, with_structs, sp, next_tvar, add_constraint, type_at, map_types}
-use Rattle.definition.specs.Store as store
-use Rattle.definition.specs.Write.{Bytes, write_error}
+use Rattle.definition.specs.Types.{TypingError, Refusal, max_nodes, max_args, Result, ok, err, refused, ◌>>=◌}
+use Rattle.definition.specs.Store.{count, args_of, get, with_node, sp, type_at, map_types}
 use Rattle.definition.specs.Trees.{Tree, unit_tree, anything_tree, error_tree, ref_tree, param_tree, apply_tree, var_tree, Trees, no_trees, ◌then◌}
 use Rattle.definition.specs.Build.{build, build_all, build_pairs}
-use Rattle.definition.specs.Subst.{forward_tvar, next_in, next_of, mark_one, mark_chain, set_num_var, reaches_itself, ready_value, ready_tvars}
+use Rattle.definition.specs.Subst.{forward_tvar, reaches_itself, ready_value, ready_tvars}
 use Rattle.definition.specs.Subst as subst_of
 use Rattle.definition.specs.TParams.{TParamSubst, arg_of, subst_value, subst_down, subst_tparams}
-use Rattle.definition.specs.Needs.{Needs}
 use Rattle.definition.specs.Record.{Record}
-use Rattle.definition.specs.Step as definition
-use Rattle.definition.specs.Step.{answer, answer_with, refusal, put_back, max_payload, number_of_error}
-use Rattle.table.specs.State.{Front, outcome}
+use Rattle.table.specs.State.{outcome}
 use Rattle.table.specs.declared.state.Stop.{Stop}
 use Rattle.table.specs.declared.state.Stop.TheVariants.{Failed, Refused}
-use Rattle.table.proofs.Steps.{front_refl}
-use Rattle.fields.specs.Noded.{Looks, unfolded, ready, tparams, Adds, tvar, num_tvar, constrain, tell, Run, binds, looks, adds, Noded, declare, solve, run}
+use Rattle.fields.specs.Noded.{unfolded, ready, tparams, Run, binds, looks, adds}
 use Rattle.fields.specs.Noded.{Shape, declares, solves, none, one, both, after_pairs, shape, place, place_record}
 use Rattle.answer.specs.declared.Ran.{Ran}
 use Rattle.answer.proofs.Calls.{kept_never}
-use Rattle.run.specs.Runs.{subst_in, unfold_run, ready_run, tparams_run, tvar_run, num_tvar_run, constraint_run, needs_run, declare_run}
-use Rattle.run.specs.Dispatch.{run_of, noded_run, step_of, kept_of}
-use Rattle.run.proofs.Placed.{run_placed}
+use Rattle.run.specs.Runs.{subst_in}
+use Rattle.run.specs.Dispatch.{step_of, kept_of}
 
 pub data Leaves {A : Type 0} (P : List Cell → Type 0) : Result (State × A) → Type 0 where
   l_ok : {s : State} {a : A} → P s.vars → Leaves P (ok (s, a))
@@ -169,68 +158,3 @@ module _ {P : List Cell → Type 0} where
   unkept_leaves r (looks (ready t)) s e p = ready_tvars_leaves s t p
   unkept_leaves r (looks (tparams ps t)) s e p = subst_in_leaves ps t s p
   unkept_leaves r (adds n) s e p = kept_never refl e
-
--- ---- the variables at entry stay in front
-
-front_set : (l m : List Cell) (v : ℕ) (c : Cell) → length l ≤ v → Front l (set (l ++ m) v c)
-front_set [] m v c h = record { rest = set m v c; is = refl }
-front_set (x ∷ l) m zero c h = absurd (omega arith)
-front_set (x ∷ l) m (suc v) c h = let f = front_set l m v c (omega arith) in record { rest = f.rest; is = ap (λ (k : List Cell). x ∷ k) f.is }
-
--- a variable that was just taken is bound to nothing, so it alone is marked
-new_get : (s : State) → get (with_var s) (length s.vars) ≡ None
-unfolding get with_var with_vars
-new_get s = ap (λ (c : Cell). c.binding) (get_or_at s.vars unbound [] unbound (length s.vars) refl)
-
-mark_last : (s : State) (n v loc : ℕ) → next_of s v ≡ None → mark_chain (suc n) s v loc ≡ mark_one s v loc
-unfolding mark_chain
-mark_last s n v loc e = ap (λ (o : Option ℕ). elim o [ None ↦ mark_one s v loc | Some next ↦ mark_chain n (mark_one s v loc) next loc ]) e
-
-new_front : (s : State) → Front s.vars (with_var s).vars
-unfolding with_var with_vars
-new_front s = record { rest = unbound ∷ []; is = refl }
-
-new_mark : (s : State) (n loc : ℕ) → Front s.vars (mark_chain n (with_var s) (length s.vars) loc).vars
-unfolding mark_chain next_of next_in mark_one with_var with_vars
-new_mark s zero loc = new_front s
-new_mark s (suc n) loc =
-    subst (λ (t : State). Front s.vars t.vars) (sym (mark_last (with_var s) n (length s.vars) loc (ap (next_in (with_var s)) (new_get s))))
-    (front_set s.vars (unbound ∷ []) (length s.vars) _ (omega arith))
-
-add_leaves : {P : List Cell → Type 0} (s : State) (c : Constraint) → P s.vars → Leaves {A = Bytes} P (add_constraint s c >>= (λ s. ok (s, [])))
-unfolding add_constraint with_constraints ◌>>=◌
-add_leaves {P} s c p = go (ltb (length s.constraints) max_constraints)
-  where
-    go : (b : Bool) → Leaves {A = Bytes} P (◌>>=◌ {A = State} {B = State × Bytes} (if b then ok (with_constraints s (s.constraints ++ (c ∷ []))) else refused full) (λ s. ok (s, [])))
-    go true = l_ok p
-    go false = l_refused
-
-tell_leaves : {P : List Cell → Type 0} (s : State) (n : Option Needs) → P s.vars → Leaves P (definition.tell s n)
-unfolding definition.tell
-tell_leaves s None p = l_refused
-tell_leaves s (Some n) p = l_ok p
-
-declare_leaves : (s : State) (a : ℕ) (ps : List ℕ) → Leaves (Front s.vars) (store.declare s a ps)
-unfolding store.declare with_structs
-declare_leaves s a ps = if_leaves (ltb (length s.structs) max_structs) (l_ok (front_refl s.vars)) l_refused
-
-tvar_leaves : {B : Type 0} (s : State) (f : State × ℕ → Result (State × B)) → Leaves (Front s.vars) (f (with_var s, length s.vars)) → Leaves (Front s.vars) (next_tvar s >>= f)
-unfolding next_tvar ◌>>=◌
-tvar_leaves s f h = go (ltb (taken s) max_vars)
-  where
-    go : (b : Bool) → Leaves (Front s.vars) ((if b then ok (with_var s, length s.vars) else refused full) >>= f)
-    go true = h
-    go false = l_refused
-
-adds_leave : (n : Adds) (s before : State) → Leaves (Front s.vars) (run_of (adds n) s before)
-unfolding run_of tvar_run num_tvar_run constraint_run needs_run set_num_var
-adds_leave (tvar loc) s before = tvar_leaves s _ (l_ok (new_front s))
-adds_leave (num_tvar loc) s before = tvar_leaves s _ (l_ok (new_mark s _ loc))
-adds_leave (constrain c) s before = add_leaves s c (front_refl s.vars)
-adds_leave (tell n) s before = tell_leaves s n (front_refl s.vars)
-
-looks_leave : (n : Looks) (s before : State) → Leaves (Front before.vars) (run_of (looks n) s before)
-unfolding run_of unfold_run ready_run tparams_run
-looks_leave (unfolded t) s before = l_ok (front_refl before.vars)
-looks_leave (ready t) s before = any_leaves _ _ (λ q. l_ok (front_refl before.vars))
-looks_leave (tparams ps t) s before = any_leaves _ _ (λ q. any_leaves _ _ (λ q. l_ok (front_refl before.vars)))

@@ -3,7 +3,7 @@
 use mathlib.Core.Path.{◌≡◌, refl, sym, ap, ◌∙◌}
 use mathlib.Core.Bool.{Bool, true, false, ◌||◌}
 use mathlib.Core.List.{List, [], ◌∷◌, ◌++◌}
-use Prim.Native.Nat.{ℕ, suc, ◌+◌, ◌-◌, ◌<◌, ◌≤◌}
+use Prim.Native.Nat.{ℕ, suc, ◌+◌, ◌-◌, ◌*◌, ◌<◌, ◌≤◌}
 use native.Mathlib.Decide.{ℕ_discrete, dec_lt}
 use native.Mathlib.Omega.{arith}
 use lib.ListN.{length, get_or, set, drop, length-set, replicate, length-replicate}
@@ -11,7 +11,7 @@ use lib.Seq.{get_or-set_other, get_or-set_same}
 use Rattle.std.proofs.lemmas.List.{drop_more, drop_all}
 use Rattle.definition.specs.Types as d
 use Rattle.definition.specs.Types.{Struct}
-use Rattle.definition.specs.Store.{count, with_args, type_at, any_of}
+use Rattle.definition.specs.Store.{count, node, with_args, type_at, any_of}
 use Rattle.definition.specs.Subst.{parts}
 use Rattle.definition.specs.Join.{is_var, used}
 use Rattle.definition.specs.Write.{each}
@@ -19,12 +19,13 @@ use Rattle.definition.specs.Spelled.{spelled, first_place, cut, looked_at}
 use Rattle.theorems.proofs.DemandOrder.{All}
 use Rattle.theorems.proofs.TotalFuel.{each_same}
 use Rattle.theorems.proofs.Spelled.{is_it, used_spelled, spelled_levels, any_append}
-use Rattle.table.specs.State.{shape_of, Inside}
+use Rattle.table.specs.State.{shape_of, node_of, Inside}
 use Rattle.table.specs.Did.{held}
 use Rattle.table.specs.declared.state.State.{State}
 use Rattle.table.specs.declared.Shape.{Shape}
+use Rattle.table.specs.declared.Node.{Node}
 use Rattle.shapes.specs.Parts.{part_count}
-use Rattle.shapes.proofs.Nodes.{At, counted, inside_seen, many_parts, part_is, parts_low}
+use Rattle.shapes.proofs.Nodes.{At, at_node, at_listed, listed_part, part_low, counted, few_parts, inside_seen, many_parts, part_is, parts_low}
 use Rattle.subst.specs.declared.Soon.{Soon}
 use Rattle.subst.specs.declared.Soon.TheVariants.{Met, Clear, Later}
 use Rattle.subst.specs.Answers.{place, Looks, Leaves, SoonLooked, Counted}
@@ -146,45 +147,66 @@ module _ {s : State} {v t : ℕ} {sh : Shape} {many i : ℕ} (h : Passed s v t s
 
 -- ---- with the table
 
-pub record Walked (s : State) (v t : ℕ) (sh : Shape) (many : ℕ) (counts : List ℕ) (i looked : ℕ) : Type 0 where
-  pub before : Passed s v t sh many i
-  pub is_cut : (ds : List Struct) → looked ≡ cut (before.passed ds)
+pub record Walked (s : State) (v t many : ℕ) (counts : List ℕ) (i looked : ℕ) : Type 0 where
+  pub shape : Shape
+  pub before : Passed s v t shape many i
+  pub is_cut : (ds : List Struct) → cut looked ≡ cut (before.passed ds)
+  pub few : looked ≤ 1 + i * 4096
   pub table : Counted s v counts
 
-pub walked_none : (s : State) (v t : ℕ) (sh : Shape) (many : ℕ) (counts : List ℕ) → At s.words.now s.used t sh many → Counted s v counts → (b : Bool) → ((x : d.State) → b ≡ is_var v (with_args x (shape_of sh))) → b ≡ false → Walked s v t sh many counts 0 1
-walked_none s v t sh many counts a c b e z = record { before = record { at = a; passed = λ ds. 1; ahead = start s v a b e z }; is_cut = λ ds. sym (cut_low 1 (omega arith)); table = c }
+pub walked_none : (s : State) (v t : ℕ) (n : Node) (parts_now counts : List ℕ) → t < s.used.nodes → ((ds : List Struct) → node_of n ≡ node (held s ds) t) → ((ds : List Struct) → parts_now ≡ parts (type_at (held s ds) t)) → Counted s v counts → (b : Bool)
+    → ((x : d.State) → b ≡ is_var v (with_args x (shape_of n.shape))) → b ≡ false → Walked s v t (length parts_now) counts 0 1
+walked_none s v t n parts_now counts lt node_is listed c b e z =
+    let a = at_listed (at_node s.words.now s.used t (part_count (shape_of n.shape)) n s.lay lt node_is refl) parts_now listed in
+    record { shape = n.shape; before = record { at = a; passed = λ ds. 1; ahead = start s v a b e z }; is_cut = λ ds. refl; few = omega arith; table = c }
 
-module _ {s : State} {v t : ℕ} {sh : Shape} {many : ℕ} {counts : List ℕ} {i looked : ℕ} (h : Walked s v t sh many counts i looked) where
-  pub walked_most : looked ≤ 4096
-  walked_most = rw (h.is_cut []) (cut_most (h.before.passed []))
-
-  pub walked_all : many ≤ i → Looks s v t false looked
+module _ {s : State} {v t many : ℕ} {counts : List ℕ} {i looked : ℕ} (h : Walked s v t many counts i looked) where
+  pub walked_all : many ≤ i → (r : ℕ) → r ≡ cut looked → Looks s v t false r
   unfolding looked_at
-  walked_all l = record { is = λ ds. (passed_all h.before l ds).used_is; many = λ ds. ap cut (passed_all h.before l ds).place_is ∙ sym (h.is_cut ds) }
+  walked_all l r c = record { is = λ ds. (passed_all h.before l ds).used_is; many = λ ds. ap cut (passed_all h.before l ds).place_is ∙ sym (c ∙ h.is_cut ds) }
 
   -- a part whose number is known
   pub walked_known : (p n : ℕ) → 0 < get_or counts p 0 → n ≡ get_or counts p 0 → Looks s v p false n
   walked_known p n l e = rw e (h.table.known p l)
 
-  module _ (p : ℕ) (met : Bool) (n : ℕ) (part : Looks s v p met n) where
-    pub sum_most : looked + n ≤ 8192
-    unfolding looked_at
-    sum_most = let q : n ≤ 4096 = rw (← (part.many [])) (cut_most (place (held s []) v p)) in omega (arith, q, walked_most)
+  -- part i of the list of them
+  module _ (l : List ℕ) (listed : (ds : List Struct) → l ≡ parts (type_at (held s ds) t)) (lt : i < many) where
+    is_part : (ds : List Struct) → i < part_count (shape_of h.shape) → get_or l i 0 ≡ get_or (parts (with_args (held s ds) (shape_of h.shape))) i 0
+    is_part ds k = listed_part h.before.at l listed i ds
 
-    module _ (l : i < many) (e : (ds : List Struct) → i < part_count (shape_of sh) → p ≡ get_or (parts (with_args (held s ds) (shape_of sh))) i 0) (sum : ℕ) (c : sum ≡ cut (looked + n)) where
-      sum_is : (ds : List Struct) → sum ≡ cut (h.before.passed ds + place (held s ds) v p)
+    pub part_below : get_or l i 0 < t
+    part_below = part_low h.before.at i (get_or l i 0) lt is_part
+
+    module _ (met : Bool) (n : ℕ) (part : Looks s v (get_or l i 0) met n) where
+      abbrev sum : List Struct → ℕ
+      sum ds = h.before.passed ds + place (held s ds) v (get_or l i 0)
+
+      part_most : n ≤ 4096
       unfolding looked_at
-      sum_is ds = c ∙ ap (λ (k : ℕ). cut (k + n)) (h.is_cut ds) ∙ ap (λ (k : ℕ). cut (cut (h.before.passed ds) + k)) (sym (part.many ds)) ∙ cut_sum (h.before.passed ds) (place (held s ds) v p)
+      part_most = rw (← (part.many [])) (cut_most (place (held s []) v (get_or l i 0)))
 
-      pub walked_met : met ≡ true → Looks s v t true sum
+      -- eight parts at most, each cut
+      pub sum_most : looked + n ≤ 32769
+      sum_most = omega (arith, part_most, h.few, lt, few_parts h.before.at)
+
+      sum_is : (ds : List Struct) → cut (looked + n) ≡ cut (sum ds)
       unfolding looked_at
-      walked_met z =
-          let ends : (ds : List Struct) → Ends (held s ds) v t true (h.before.passed ds + place (held s ds) v p) = passed_met h.before p l e (λ ds. part.is ds ∙ z) in
-          record { is = λ ds. (ends ds).used_is; many = λ ds. ap cut (ends ds).place_is ∙ sym (sum_is ds) }
+      sum_is ds =
+          sym (cut_sum looked n)
+          ∙ ap (λ (k : ℕ). cut (k + cut n)) (h.is_cut ds)
+          ∙ ap (λ (k : ℕ). cut (cut (h.before.passed ds) + k)) (cut_low n part_most ∙ sym (part.many ds))
+          ∙ cut_sum (h.before.passed ds) (place (held s ds) v (get_or l i 0))
 
-      pub walked_more : met ≡ false → (counts' : List ℕ) → Counted s v counts' → Walked s v t sh many counts' (i + 1) sum
+      pub walked_met : met ≡ true → (r : ℕ) → r ≡ cut (looked + n) → Looks s v t true r
+      unfolding looked_at
+      walked_met z r c =
+          let ends : (ds : List Struct) → Ends (held s ds) v t true (sum ds) = passed_met h.before (get_or l i 0) lt is_part (λ ds. part.is ds ∙ z) in
+          record { is = λ ds. (ends ds).used_is; many = λ ds. ap cut (ends ds).place_is ∙ sym (c ∙ sum_is ds) }
+
+      pub walked_more : met ≡ false → (counts' : List ℕ) → Counted s v counts' → Walked s v t many counts' (i + 1) (looked + n)
       unfolding passed_more
-      walked_more z counts' table = record { before = passed_more h.before p l e (λ ds. part.is ds ∙ z); is_cut = sum_is; table = table }
+      walked_more z counts' table =
+          record { shape = h.shape; before = passed_more h.before (get_or l i 0) lt is_part (λ ds. part.is ds ∙ z); is_cut = sum_is; few = omega (arith, part_most, h.few); table = table }
 
 -- node t gets its number
 pub counted_more : (s : State) (v t n : ℕ) (counts : List ℕ) → Counted s v counts → t < 2048 → Looks s v t false n → Counted s v (set counts t n)

@@ -12,6 +12,7 @@ pub mod Laws
 pub mod Known
 pub mod Grown
 pub mod Parts
+pub mod Listed
 pub mod Walk
 pub mod Did
 pub mod Linked

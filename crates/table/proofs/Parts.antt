@@ -22,7 +22,7 @@ unfolding args_at places
 below_named w u n k c first many b = record { placed = record { few = b.0; inside = b.1.0 }; smaller = λ i lt. rw (get_or-take, get_or-drop) (b.1.1 i lt) }
 
 module _ (w : List ℕ) (u : Used) (ty : ℕ) (nd : Node) (lay : Lay w u) (in_use : ty < u.nodes) (node_is : (ds : List Struct) → node_of nd ≡ node (seen w u ds) ty) where
-  below_it : (sh : Shape) → nd.shape ≡ sh → Below (view w u).args ty (shape_of sh)
+  pub below_it : (sh : Shape) → nd.shape ≡ sh → Below (view w u).args ty (shape_of sh)
   unfolding seen with_structs node
   below_it sh e =
       let p = lay.inside.parts ty (omega (arith, count_view w u)) in

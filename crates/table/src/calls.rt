@@ -2,8 +2,8 @@
 
 ghost use Rattle.std.specs.Prelude.{◌≡◌, List, [], ◌∷◌, ℕ, ◌<◌, length, take, get_or};
 ghost use Rattle.definition.specs.Types as d;
-ghost use Rattle.definition.specs.Store.{node, get, num_loc, sp, args_at, next_tvar, insert};
-ghost use Rattle.definition.specs.Subst.{mark_one};
+ghost use Rattle.definition.specs.Store.{node, type_at, get, num_loc, sp, args_at, next_tvar, insert};
+ghost use Rattle.definition.specs.Subst.{mark_one, parts};
 ghost use Rattle.names.specs.Names.{mark_of, name_of};
 ghost use Rattle.table.specs.Rows.{constraint_table, struct_table, places};
 ghost use Rattle.table.specs.Encode.{encode};
@@ -12,8 +12,8 @@ ghost use Rattle.table.specs.Did.{held, Counts, Did, Took, Kept, Added, Declared
 
 use crate::state::{State, Stop};
 use crate::{
-    ARGS_AT, Applied, CONSTRAINTS_AT, CellWords, Constraint, NODES_AT, Node, STRUCTS_AT, Shape,
-    StructRow, Used, VARS_AT, cell_row, cell_words_at, constraint_of, constraint_row,
+    ARGS_AT, Applied, CONSTRAINTS_AT, CellWords, Constraint, NODES_AT, NODE_WORDS, Node, STRUCTS_AT,
+    Shape, StructRow, Used, VARS_AT, cell_row, cell_words_at, constraint_of, constraint_row,
     constraint_words_at, node_words_at, option_at, put_row, row_of, set_at, shape_at,
     struct_words_at, touch, tvar, wide, write_parts, write_words,
 };
@@ -61,6 +61,24 @@ impl State<'_> {
             self.words[ARGS_AT + k]
         } else {
             0
+        }
+    }
+
+    // The parts of n, which is node t; a reference's one stands in its row. For a walk over many: read one by one, each place would be tested anew.
+    pub fn parts_of(&self, t: u32, n: Node) -> &[u32]
+        requires { (t < self.now.used.nodes) × ((ds : List d.Struct) → node_of n ≡ node (held self.now ds) t) }
+        ensures { (ds : List d.Struct) → result.now ≡ parts (type_at (held self.now ds) t) }
+    {
+        match n.shape {
+            Shape::Ref(_, _) => {
+                let at = NODES_AT + wide(t) * NODE_WORDS + 3;
+                &self.words[at..at + 1]
+            }
+            Shape::Apply(a) => {
+                let at = ARGS_AT + wide(a.first);
+                &self.words[at..at + wide(a.many)]
+            }
+            _ => &[],
         }
     }
 

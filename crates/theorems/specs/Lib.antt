@@ -1,1 +1,2 @@
+-- What RD answers, told without building. Assumes nothing: these are definitions.
 pub mod ReadySpelled

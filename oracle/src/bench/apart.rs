@@ -10,9 +10,11 @@ use std::fmt::Write as _;
 
 //---- by mark -------------------------------------------------------------------------------------------------
 
-/// records of a row: the time of a call without records is taken off, and the rest shared among them
+/// records of a row: the time of a call without them is taken off, and the rest shared among them
 const EACH: usize = 16;
 const DECLARED: &str = "SD {copy, drop} <{drop}>\n";
+/// read first in both calls of a row: it is its part to save the rows of all variables, once in a call
+const FIRST: &str = "UF u8\n";
 
 pub struct Row {
     pub name: &'static str,
@@ -20,7 +22,16 @@ pub struct Row {
     pub records: usize,
     /// run before, and not timed
     before: Vec<u8>,
-    stream: Vec<u8>,
+    /// what both calls begin with
+    first: &'static str,
+    text: String,
+}
+
+impl Row {
+    /// what the call without the row's records reads, and the one with them
+    fn streams(&self) -> [Vec<u8>; 2] {
+        [declared(self.first), declared(&(self.first.to_string() + &self.text))]
+    }
 }
 
 fn lines(n: usize, line: impl Fn(usize) -> String) -> String {
@@ -41,7 +52,7 @@ fn state(vars: usize) -> String {
 }
 
 fn row(name: &'static str, answer: u8, records: usize, line: impl Fn(usize) -> String) -> Row {
-    Row { name, answer, records, before: vec![], stream: declared(&lines(records, line)) }
+    Row { name, answer, records, before: vec![], first: FIRST, text: lines(records, line) }
 }
 
 /// records of a state with the declaration
@@ -59,6 +70,7 @@ pub fn rows() -> Vec<Row> {
     let each = |name, line: &str| row(name, 0, EACH, |_| line.into());
     let over = |name, answer, line: fn(usize) -> String| row(name, answer, EACH, line);
     vec![
+        Row { first: "", ..row("a call's first, UF", 0, 1, |_| FIRST.trim_end().into()) },
         each("SD", "SD {copy} <{}>"),
         each("FV", "FV"),
         each("NV", "NV"),
@@ -126,25 +138,27 @@ impl Marks<'_> {
         (timed(|| n = oracle_timed_more(self.calls, stream, &mut self.lent)), n)
     }
 
-    /// seconds of a call without records, and of one with the row's
-    fn both(&mut self, row: &Row) -> [f64; 2] {
-        [self.once(&row.before, &[]).0, self.once(&row.before, &row.stream).0]
+    /// seconds of a call without the row's records, and of one with them
+    fn both(&mut self, row: &Row, streams: &[Vec<u8>; 2]) -> [f64; 2] {
+        [0, 1].map(|k| self.once(&row.before, &streams[k]).0)
     }
 
     /// whether every answer is the row's
-    fn answered(&mut self, row: &Row) -> bool {
-        let (_, n) = self.once(&row.before, &row.stream);
-        let log = std::str::from_utf8(&self.lent.log[..n]).unwrap();
+    fn answered(&mut self, row: &Row, [without, with]: &[Vec<u8>; 2]) -> bool {
+        let (_, skipped) = self.once(&row.before, without);
+        let (_, n) = self.once(&row.before, with);
+        let log = std::str::from_utf8(&self.lent.log[skipped..n]).unwrap();
         let answers: Vec<_> = log.lines().map(|l| l.split(' ').nth(1)).collect();
         answers.len() == row.records && answers.iter().all(|a| *a == Some(&row.answer.to_string()))
     }
 
     /// nanoseconds of a record of the row
     fn measured(&mut self, row: &Row, runs: usize) -> f64 {
-        assert!(self.answered(row), "{}: another answer", row.name);
+        let streams = row.streams();
+        assert!(self.answered(row, &streams), "{}: another answer", row.name);
         let mut best = [f64::MAX; 2];
         for _ in 0..runs {
-            let now = self.both(row);
+            let now = self.both(row, &streams);
             best = [best[0].min(now[0]), best[1].min(now[1])]
         }
         (best[1] - best[0]) * 1e9 / row.records as f64
@@ -153,10 +167,11 @@ impl Marks<'_> {
 
 fn marks_table(calls: &dyn Calls, runs: usize) -> String {
     let mut states = SIZES.map(|n| Marks::new(calls, n));
-    let mut out = format!("by mark, engine alone, ns a record on states of {:?} variables:\n", SIZES);
+    let mut out =
+        format!("by mark, engine alone, ns a record on states of {:?} variables, and the difference:\n", SIZES);
     for row in rows() {
         let [a, b] = [0, 1].map(|i| states[i].measured(&row, runs));
-        writeln!(out, "  {:<20}{:>8.0}{:>8.0}", row.name, a, b).unwrap()
+        writeln!(out, "  {:<20}{:>8.0}{:>8.0}{:>+8.0}", row.name, a, b, b - a).unwrap()
     }
     out
 }
@@ -165,8 +180,9 @@ fn marks_table(calls: &dyn Calls, runs: usize) -> String {
 pub fn marks_once(calls: &dyn Calls) -> String {
     let mut states = SIZES.map(|n| Marks::new(calls, n));
     let told = |row: &Row| {
+        let streams = row.streams();
         for s in &mut states {
-            s.both(row);
+            s.both(row, &streams);
         }
         format!("{}\t{}\n", row.records, row.name)
     };

@@ -6,4 +6,4 @@ abbrev pub decreases-used_in : goal.decreases-used_in
 decreases-used_in l = l.t
 
 abbrev pub invariant-loop-i : goal.invariant-loop-i
-invariant-loop-i l = Walked l.st l.tvar.0 l.t l.s l.i-end l.counts l.i l.looked
+invariant-loop-i l = Walked l.st l.tvar.0 l.t l.i-end l.counts l.i l.looked
