@@ -181,6 +181,36 @@ def abilities():
     yield solved('solved: 16 with room', marked, ('SV', 16), 'UF u8')
 
 
+def again(name, text, number=0):
+    """limit, and the last answer sent back in a CN: it is answered with itself, or with this number."""
+    name, stream, log = limit(name, text)
+    payload = log[-1].split(' ')[2]
+    log.append('%d %s' % (len(log), number or '0 ' + payload))
+    return name, stream + b'CN' + bytes.fromhex(payload), log
+
+
+def spelled():
+    """R-12: CN at the limits of a payload and of a record, what may be sent back, and what it needs there."""
+    def eights(ends):
+        rows = [list_of(*ends[i:i + 8]) for i in range(0, len(ends), 8)]
+        return [list_of(*rows[i:i + 8]) for i in range(0, len(rows), 8)]
+
+    def all_but_one(ends):
+        """a list of 512 parts in lists of eight, 511 bytes of it the variable V512: a record of all would be too long"""
+        first, *rest = eights(ends)
+        return 'FV\n' * 513 + 'JN V512, %s\n' % first + 'CN ' + list_of('V512', *rest)
+
+    variables = ['V%d' % v for v in range(512)]
+    yield again('spelled: 512 variables', all_but_one(variables[::-1]), 5)
+    yield limit('spelled: 4,096 bytes', 'SD {}\n' + all_but_one(['S0'] + variables[1:]))
+    *before, last = ('SD {}\n' + all_but_one(['S0', 'S0'] + variables[2:])).split('\n')
+    yield limit('spelled: 4,097 bytes', '\n'.join(before), (last, 14), 'CN V512')
+    yield again('spelled: 4,094 bytes', 'FV\n' * 512 + 'CN ' + list_of(*eights(['P7', '()', '()'] + variables[3:])))
+    # () is handed back, a type with parts and a variable are made
+    yield limit('spelled: one node left', 'FV\n' + 'JN (), ()\n' * 1023 + 'BC ()', ('CN u8', 7), ('CN V0', 7), 'CN ()', ('RD u8', 7))
+    yield limit('spelled: two nodes left', 'FV\n' + 'JN (), ()\n' * 1023, ('CN &u8', 7), 'CN u8\nCN V0')
+
+
 def end(name, stream, *log):
     return name, stream, list(log)
 
@@ -205,7 +235,7 @@ def marks():
 
 def main():
     where = os.path.join(ROOT, 'crates/test_edges')
-    jobs = [j for made in (marked, computed, limits, told, abilities, ends, marks) for j in made()]
+    jobs = [j for made in (marked, computed, limits, told, abilities, spelled, ends, marks) for j in made()]
     behind = [(len(name) + 1 + len(stream), name.encode() + b'\n' + stream) for name, stream, _ in jobs]
     texts = {
         'stdin': b''.join(struct.pack('<I', size) + job for size, job in behind),

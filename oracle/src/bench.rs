@@ -65,8 +65,8 @@ fn grown(vars: usize, more: usize) -> Vec<u8> {
     assemble(&text, true).unwrap()
 }
 
-/// The jobs of the replay list that without SV are answered with 0 throughout: core.rs tells SV's failures in messages,
-/// which are not written here.
+/// The jobs of the replay list that without SV are answered with 0 throughout, with RD for CN: core.rs tells SV's failures
+/// in messages, which are not written here, and spells no type.
 fn short() -> Vec<Vec<u8>> {
     let entries = crate::list::parse(include_str!("../replay.list")).unwrap();
     entries.iter().filter_map(|e| answered(&e.stream)).collect()
@@ -76,9 +76,10 @@ fn answered(stream: &[u8]) -> Option<Vec<u8>> {
     let (mut job, mut at, mut out) = (Job::new(Options::default()), 0, vec![]);
     while at < stream.len() {
         let (r, n) = read_record(&stream[at..], job.known()).ok()?;
+        let r = if let Record::CN(t) = r { Record::RD(t) } else { r };
         if !matches!(r, Record::SV) {
             matches!(job.record(&r), Outcome::Core(0, _)).then_some(())?;
-            out.extend(&stream[at..at + n])
+            out.extend(r.bytes())
         }
         at += n
     }

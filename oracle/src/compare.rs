@@ -154,9 +154,9 @@ impl Tally {
     }
 }
 
-/// UF, RD, TS and RM leave the state word for word.
+/// UF, RD, CN, TS and RM leave the state word for word.
 fn only_reads(r: &Record) -> bool {
-    matches!(r, Record::UF(_) | Record::RD(_) | Record::TS(..) | Record::RM(_))
+    matches!(r, Record::UF(_) | Record::RD(_) | Record::CN(_) | Record::TS(..) | Record::RM(_))
 }
 
 pub fn same_counts(lender: &Lender, counted: Option<Counted>) -> Result<(), String> {
@@ -481,15 +481,17 @@ pub enum Alter {
     Count,
     /// RM tells a node too few
     Told,
+    /// CN shows an odd variable, alone, as another than an even one
+    Spelled,
     /// SV's first missing ability is another
     Missing,
     /// a line of a job
     Line,
 }
 
-pub const ALTERS: [Alter; 10] = {
+pub const ALTERS: [Alter; 11] = {
     use Alter::*;
-    [Number, Payload, Binding, Mark, Constraint, Reading, Count, Told, Missing, Line]
+    [Number, Payload, Binding, Mark, Constraint, Reading, Count, Told, Spelled, Missing, Line]
 };
 
 impl Alter {
@@ -523,6 +525,7 @@ impl Altered<'_> {
             Alter::Reading if number == 0 && record.starts_with(b"RD") && view.nodes() < 2048 => words[0] += 1,
             Alter::Count if number == 0 && record.starts_with(b"JN") && view.nodes() < 2048 => words[0] += 1,
             Alter::Told if number == 0 && record.starts_with(b"RM") => answer[0] -= 1,
+            Alter::Spelled if number == 0 && record.starts_with(b"CN") && answer[0] == 6 => answer[5] += record[7] & 1,
             Alter::Missing if number == 0 && record == b"SV" && answer[0] == 4 => answer[5] ^= 3,
             _ => (),
         }

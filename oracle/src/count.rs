@@ -292,8 +292,8 @@ impl Sim {
             Record::FV(_) | Record::NV(_) => self.var().map(drop),
             Record::JN(a, b) => self.join(1, false, a, b).map(drop),
             Record::SU(a, b) => self.join(1, true, a, b).map(drop),
-            Record::RD(t) if self.runs_into_itself(t, &mut HashMap::new()) => Err(9),
-            Record::RD(t) => self.ready(t),
+            Record::RD(t) | Record::CN(t) if self.runs_into_itself(t, &mut HashMap::new()) => Err(9),
+            Record::RD(t) | Record::CN(t) => self.ready(t),
             Record::TS(args, t) => {
                 let ids: Vec<_> = args.iter().map(|(id, _)| *id).collect();
                 let twice = (1..ids.len()).any(|i| ids[..i].contains(&ids[i]));
@@ -322,7 +322,7 @@ fn types(r: &Record) -> Vec<&Ty> {
     match r {
         Record::JN(a, b) | Record::SU(a, b) => vec![a, b],
         Record::TS(args, t) => args.iter().map(|(_, t)| t).chain([t]).collect(),
-        Record::UF(t) | Record::RD(t) | Record::IN(t) | Record::XP(t) => vec![t],
+        Record::UF(t) | Record::RD(t) | Record::CN(t) | Record::IN(t) | Record::XP(t) => vec![t],
         Record::NC(_, _, t) | Record::BC(_, t) | Record::SC(_, t) => vec![t],
         _ => vec![],
     }
@@ -356,6 +356,6 @@ pub fn counted(s: View, r: &Record) -> Counted {
     let mut sim =
         Sim { bound: state.bindings.into_iter().collect(), marks: state.marks.into_iter().collect(), used: before };
     let number = sim.run(s, r).err().unwrap_or(0);
-    let reads = matches!(r, Record::UF(_) | Record::RD(_) | Record::TS(..));
+    let reads = matches!(r, Record::UF(_) | Record::RD(_) | Record::CN(_) | Record::TS(..));
     Counted { number, used: if reads || number > 4 { before } else { sim.used } }
 }

@@ -124,6 +124,8 @@ pub struct Maker {
     chance: Chance,
     /// for the ids that TS lists twice; its own, so that all else is drawn as without them. None: never twice
     twice: Option<Chance>,
+    /// for CN in the place of RD, likewise
+    spelled: Chance,
     pub profile: Profile,
     marks: Marks,
     /// locations are 1, 2, 3 .., or for some jobs any number
@@ -146,6 +148,7 @@ impl Maker {
         let knots = profile == Knots;
         Maker {
             twice: Some(Chance(!chance.0)),
+            spelled: Chance(chance.0.rotate_left(32)),
             profile,
             marks: chance.weighted(&[(45, Marks::None), (40, Marks::Primitives), (15, Marks::Mixed)]),
             locs: 0,
@@ -371,7 +374,7 @@ impl Maker {
         ])
     }
 
-    fn declaration(&mut self) -> Record {
+    pub fn declaration(&mut self) -> Record {
         let n = self.chance.one(&[0, 0, 1, 1, 1, 2, 2, 3, 8]);
         Record::SD(self.chance.below(16) as u8, (0..n).map(|_| self.chance.below(32) as u8).collect())
     }
@@ -409,7 +412,10 @@ impl Maker {
             "JN" => self.pair_of(Record::JN),
             "SU" => self.pair_of(Record::SU),
             "UF" => Record::UF(self.var_or_type()),
-            "RD" => Record::RD(self.var_or_type()),
+            "RD" => {
+                let t = self.var_or_type();
+                self.read(t)
+            }
             "TS" => {
                 let closed = self.chance.percent(97);
                 Record::TS(self.arguments(), self.ty(closed))
@@ -428,6 +434,21 @@ impl Maker {
     fn pair_of(&mut self, mark: fn(Ty, Ty) -> Record) -> Record {
         let (a, b) = self.pair();
         mark(a, b)
+    }
+
+    /// RD, or as often CN
+    fn read(&mut self, t: Ty) -> Record {
+        if self.spelled.percent(50) {
+            Record::CN(t)
+        } else {
+            Record::RD(t)
+        }
+    }
+
+    /// a type over so many variables and these structs
+    pub fn over(&mut self, vars: usize, params: &[usize]) -> Ty {
+        (self.vars, self.params) = (vars, params.to_vec());
+        self.ty(false)
     }
 
     fn var_or_type(&mut self) -> Ty {
@@ -579,7 +600,11 @@ pub fn exhaustive(index: usize, cut: bool) -> Option<Made> {
     let mut records = vec![Record::SD(0, vec![0]), Record::FV(1), Record::FV(2)];
     records.extend(few_states().get(state)?.clone());
     records.push(if case == 0 { Record::JN(a, b) } else { Record::SU(a, b) });
-    records.extend([Record::RD(v(0)), Record::RD(v(1)), Record::FV(3)]);
+    records.extend(if index % 2 == 0 {
+        [Record::RD(v(0)), Record::CN(v(1)), Record::FV(3)]
+    } else {
+        [Record::CN(v(0)), Record::RD(v(1)), Record::FV(3)]
+    });
     let mut m = Maker::new(Chance::new(0, 0));
     (m.locs, m.any_loc, m.marks) = (10, false, Marks::None);
     let mut g = Growing::new(format!("exhaustive-{}", index), cut);
@@ -587,6 +612,7 @@ pub fn exhaustive(index: usize, cut: bool) -> Option<Made> {
         Record::JN(a, b) => Record::JN(m.dressed(a), m.dressed(b)),
         Record::SU(a, b) => Record::SU(m.dressed(a), m.dressed(b)),
         Record::RD(t) => Record::RD(m.dressed(t)),
+        Record::CN(t) => Record::CN(m.dressed(t)),
         other => other,
     }));
     Some(g.made)
@@ -620,7 +646,7 @@ pub fn limits(seed: u64, index: u64, cut: bool) -> Made {
             }
             "length" if n % 2 == 0 => m.long_join(4096 - near),
             "payload" if n < 14 => m.doubling(n as u16 - 10),
-            "payload" if n < 17 => Record::RD(bare(Kind::Var(0))),
+            "payload" if n < 17 => m.read(bare(Kind::Var(0))),
             _ => m.record(n, vars, &params),
         };
         if !g.add(&r) {

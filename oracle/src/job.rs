@@ -185,6 +185,25 @@ pub fn type_out(t: &Type) -> Ty {
     Ty { loc: t.loc.start(), kind }
 }
 
+/// 02, R-12: locations zero and unbound variables numbered from 0 by first appearance, left to right. `met`: those so far.
+pub fn spelled(t: &Ty, met: &mut Vec<u16>) -> Ty {
+    let mut all = |ts: &[Ty]| ts.iter().map(|t| spelled(t, met)).collect();
+    let kind = match &t.kind {
+        Kind::Ref(m, inner) => Kind::Ref(*m, Box::new(spelled(inner, met))),
+        Kind::Builtin(m, n, ts) => Kind::Builtin(*m, *n, all(ts)),
+        Kind::List(m, ts) => Kind::List(*m, all(ts)),
+        Kind::Struct(m, n, ts) => Kind::Struct(*m, *n, all(ts)),
+        Kind::Var(v) => {
+            if !met.contains(v) {
+                met.push(*v)
+            }
+            Kind::Var(met.iter().position(|w| w == v).unwrap() as u16)
+        }
+        other => other.clone(),
+    };
+    Ty { loc: 0, kind }
+}
+
 fn type_of(c: &Constraint) -> &Type {
     match c {
         Constraint::AbilityConstraint { ty, .. } => ty,
@@ -412,6 +431,11 @@ impl Job {
                 self.readable(&t)?;
                 put(&mut out, core::ready_tvars(&self.ctx.subst, t))
             }
+            Record::CN(t) => {
+                let t = type_in(t);
+                self.readable(&t)?;
+                spelled(&type_out(&core::ready_tvars(&self.ctx.subst, t)), &mut vec![]).write(&mut out)
+            }
             Record::TS(args, t) => {
                 let tps: Vec<_> = args.iter().map(|(id, _)| tparam(Loc::of(0), *id, 0)).collect();
                 let args: Vec<_> = args.iter().map(|(_, t)| type_in(t)).collect();
@@ -522,7 +546,7 @@ impl Job {
         go(&self.ctx.subst, &mut HashMap::new(), t)
     }
 
-    fn readable(&self, t: &Type) -> Result<(), Outcome> {
+    pub(crate) fn readable(&self, t: &Type) -> Result<(), Outcome> {
         match self.read_size(t) {
             None => Err(Outcome::Refused(9, "core.rs would not end".into())),
             Some(n) if n > HUGE => Err(Outcome::Refused(14, "not written out (7 where its nodes do not fit)".into())),

@@ -97,6 +97,7 @@ pub mod order;
 pub mod program;
 pub mod release;
 pub mod shrink;
+pub mod spelled;
 pub mod state_text;
 pub mod traps;
 

@@ -4,7 +4,7 @@ use oracle::{
     calls::{self, Calls},
     compare, damage, gen, job,
     job::Options,
-    list, order, program, release, traps,
+    list, order, program, release, spelled, traps,
 };
 use std::{
     fs,
@@ -27,6 +27,7 @@ oracle counts [LIST]                                  records of a list by mark 
 oracle order [LIST]                                   what this build's map order changes
 oracle compare SEED COUNT [RECORDS] [--alter=WHAT] [--profile=PROFILE]
                                                       the engine beside core.rs, on jobs from a seed
+oracle spelled SEED COUNT                             CN of COUNT pairs of jobs: equal bytes beside equal types
 oracle damage records|states|wild SEED COUNT           damaged records, damaged states
 oracle traps                                          types with more parts than nodes, deep and looped ones
 oracle bench [RUNS]                                   times beside core.rs, by mark, of lent records
@@ -194,6 +195,15 @@ fn run(args: Vec<String>) -> i32 {
             };
             let (alter, profile) = (flags.iter().find_map(named), flags.iter().find_map(profile));
             return compare(&words, engine(flag("--mimic")), alter, profile);
+        }
+        Some("spelled") if words.len() == 3 => {
+            match spelled::many(engine(flag("--mimic")), number(words.get(1)), number(words.get(2))) {
+                Ok(tally) => print!("{}", tally.text()),
+                Err(what) => {
+                    println!("FAULT: {}", what);
+                    return 1;
+                }
+            }
         }
         Some("bench") if words.get(1).map(String::as_str) == Some("once") => {
             let named = words.get(2).and_then(|w| bench::WORKS.into_iter().find(|n| n == w));

@@ -7,7 +7,7 @@ use crate::{
     record::{self, Kind, Known, Record, Ty},
 };
 use joblog::location::blank_payload;
-use std::collections::{BTreeMap, HashMap};
+use std::collections::BTreeMap;
 
 /// A job about numbers up to its first SV; then RD of each variable from before it, and FV.
 pub fn made(seed: u64, index: u64) -> Made {
@@ -39,25 +39,9 @@ pub fn made(seed: u64, index: u64) -> Made {
 }
 
 /// A type without locations, variables by first appearance in the job's answers.
-fn plain(t: &Ty, names: &mut HashMap<u16, u16>) -> Ty {
-    let all = |ts: &[Ty], names: &mut HashMap<u16, u16>| ts.iter().map(|t| plain(t, names)).collect();
-    let kind = match &t.kind {
-        Kind::Ref(mutable, inner) => Kind::Ref(*mutable, Box::new(plain(inner, names))),
-        Kind::Builtin(m, n, ts) => Kind::Builtin(*m, *n, all(ts, names)),
-        Kind::List(m, ts) => Kind::List(*m, all(ts, names)),
-        Kind::Struct(m, n, ts) => Kind::Struct(*m, *n, all(ts, names)),
-        Kind::Var(v) => {
-            let next = names.len() as u16;
-            Kind::Var(*names.entry(*v).or_insert(next))
-        }
-        other => other.clone(),
-    };
-    Ty { loc: 0, kind }
-}
-
-fn resolved(line: &str, known: &Known, names: &mut HashMap<u16, u16>) -> Option<Ty> {
+fn resolved(line: &str, known: &Known, met: &mut Vec<u16>) -> Option<Ty> {
     let payload = record::unhex(line.split(' ').nth(2)?)?;
-    Some(plain(&record::read_type(&payload, known).ok()?.0, names))
+    Some(job::spelled(&record::read_type(&payload, known).ok()?.0, met))
 }
 
 /// A line of SV, its failures' locations set to 0: the order decides at which mark's location a `u64` is stored.
@@ -75,7 +59,7 @@ pub fn compare(entries: &[Entry]) -> BTreeMap<&'static str, usize> {
     for e in entries {
         let got = job::log(&e.stream, Options::default(), false, false);
         let (mut known, mut rest, mut solved) = (crate::text::any_variable(), &e.stream[..], false);
-        let (mut ours, mut theirs) = (HashMap::new(), HashMap::new());
+        let (mut ours, mut theirs) = (vec![], vec![]);
         count("jobs", true);
         count("jobs of unequal length", got.lines().count() != e.log.lines().count());
         for (a, b) in e.log.lines().zip(got.lines()) {

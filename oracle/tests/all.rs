@@ -239,7 +239,7 @@ fn every_mark_and_answer_is_made() {
     let entries: Vec<_> = with_stack(|| made().iter().map(list::entry).collect());
     let counts = list::counts(&entries);
     let marks: BTreeSet<_> = counts.keys().map(|(m, _)| m.as_str()).collect();
-    let all = ["BC", "FV", "IN", "JN", "NC", "NV", "RD", "SC", "SD", "SN", "SU", "SV", "TS", "UF"];
+    let all = ["BC", "CN", "FV", "IN", "JN", "NC", "NV", "RD", "SC", "SD", "SN", "SU", "SV", "TS", "UF"];
     assert_eq!(marks.into_iter().collect::<Vec<_>>(), all);
     for n in [0, 2, 3, 4] {
         assert!(counts[&("JN".to_string(), n)] > 20, "JN {}", n)

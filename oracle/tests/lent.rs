@@ -10,6 +10,7 @@ use oracle::{
     lender::Lender,
     lent::{encode, fresh, sound, Lent, Params},
     record::read_record,
+    spelled,
     text::{any_variable, assemble, disassemble},
     traps,
 };
@@ -400,6 +401,30 @@ fn a_state_of_core_rs_goes_through_the_calls() {
         assert_eq!(lender.record(&record, 4095).unwrap().number, 15);
         assert_eq!(lender.record(b"XX", 4095).unwrap().number, 15)
     }
+}
+
+//---- spellings -----------------------------------------------------------------------------------------------------
+
+/// 02's R-12: equal bytes beside equal types, and answers sent back
+#[test]
+fn spellings_are_equal_where_the_types_agree() {
+    with_stack(|| {
+        for calls in all() {
+            let tally = spelled::many(calls, 71, 40).unwrap();
+            assert_eq!(tally.jobs, 40);
+            assert!(tally.equal > 1000 && tally.otherwise_written > 1000 && tally.unequal > 1000);
+            assert!(tally.near.len() == 7 && tally.again.contains_key(&0), "{}", tally.text());
+            // but for a list turned round they miss one another
+            let missed = tally.near.iter().filter(|(what, _)| !what.contains("list") && !what.contains("both"));
+            assert!(
+                missed.map(|(_, [unequal, equal])| *unequal > 0 && *equal == 0).all(|good| good),
+                "{}",
+                tally.text()
+            );
+            let altered = Altered { calls, alter: Alter::Spelled };
+            assert!(spelled::many(&altered, 71, 40).is_err())
+        }
+    })
 }
 
 //---- traps and benchmarks ----------------------------------------------------------------------------------------

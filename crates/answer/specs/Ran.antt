@@ -6,7 +6,7 @@ use Rattle.definition.specs.Types.{State, Struct, Result, ok, err, ◌>>=◌}
 use Rattle.definition.specs.Write.{Bytes}
 use Rattle.definition.specs.Step as step
 use Rattle.definition.specs.Step.{answer, refusal}
-use Rattle.theorems.specs.ReadySpelled.{spell_ready, with_state}
+use Rattle.theorems.specs.ReadySpelled.{Spelling, spell_ready, with_state}
 use Rattle.table.specs.State.{outcome, seen, Lay, Declares}
 use Rattle.table.specs.Did.{StopIn}
 use Rattle.table.specs.declared.Used.{Used}
@@ -52,9 +52,9 @@ failure e after before = answer before (err after e)
 abbrev pub refused_by : d.Refusal → State → State → step.Answer
 refused_by x after before = refusal before x
 
--- RD of type t
-abbrev pub spelled_by : ℕ → State → State → step.Answer
-spelled_by t after before = answer before (with_state before (spell_ready after t))
+-- RD or CN of type t
+abbrev pub spelled_by : Spelling → ℕ → State → State → step.Answer
+spelled_by how t after before = answer before (with_state before (spell_ready how after t))
 
 -- ---- what an answer asks
 

@@ -12,11 +12,14 @@ ghost use Rattle.snapshot.specs.Snap.{Above};
 ghost use Rattle.snapshot.specs.Back.{rows_of, GrownFrom};
 ghost use Rattle.writer.specs.Bytes.{AllBytes};
 ghost use Rattle.payload.specs.Payload.{shown, Shows, Paid};
+ghost use Rattle.theorems.specs.ReadySpelled as s;
 ghost use Rattle.theorems.specs.ReadySpelled.{spell_ready};
+ghost use Rattle.canonical.specs.Named.{spelling_of, AllNumbered};
 ghost use Rattle.ready.specs.Spell.{Spells};
 ghost use Rattle.answer.specs.Ran.{Tells, Settles, Still, answered, spelled_by, success, failure, refused_by, Answers};
 ghost use Rattle.answer.specs.Answered.{AnswersIn};
 
+use canonical::Spelling;
 use payload::{Answer, Show, as_before, as_left, write_payload};
 use refusals::Refusal;
 use snapshot::before::Before;
@@ -128,7 +131,7 @@ pub fn answer_of(w: &mut [u32], u: Used, before: Before<'_>, ran: Ran, buf: &mut
     }
 }
 
-// RD's answer: its payload, if any, is in the buffer. No variable was bound or marked.
+// RD's answer or CN's: its payload, if any, is in the buffer. No variable was bound or marked.
 fn answer_spelled(
     w: &mut [u32],
     u: Used,
@@ -137,7 +140,7 @@ fn answer_spelled(
 ) -> Answer
     requires lay { Lay w.old u × Above before.used u }
     requires still { Still w.old u before.used before.saved.now }
-    ensures { (t : ℕ) (buf buf' : List ℕ) → ((ds : List d.Struct) → Spells (spell_ready (seen w.old u ds) t) buf buf' spelled) → Answers w.old u before.entry.used (rows_of before.entry) buf w.new buf' result (spelled_by t) }
+    ensures { (how : s.Spelling) (t : ℕ) (buf buf' : List ℕ) → ((ds : List d.Struct) → Spells (spell_ready how (seen w.old u ds) t) buf buf' spelled) → Answers w.old u before.entry.used (rows_of before.entry) buf w.new buf' result (spelled_by how t) }
 {
     match spelled {
         Ok(len) => {
@@ -176,15 +179,21 @@ pub fn settle_refusal(st: &mut State<'_>, before: Before<'_>, x: Refusal) -> Ans
     as_before(st.used, x.number(), 0)
 }
 
-// RD of type t, for which no node is made.
-pub fn settle_ready(st: &mut State<'_>, before: Before<'_>, t: u32, buf: &mut [u8]) -> Answer
+// RD or CN of type t, for which no node is made.
+pub fn settle_ready(
+    st: &mut State<'_>,
+    before: Before<'_>,
+    t: u32,
+    spelling: Spelling,
+    buf: &mut [u8],
+) -> Answer
     ghost w0: { List ℕ }
     requires grown { GrownFrom w0 before st.old }
-    requires shows { (t < st.old.used.nodes) × (AllBytes (tables st.old) × (4096 ≤ length buf.old)) }
+    requires shows { (t < st.old.used.nodes) × ((AllBytes (tables st.old) × AllNumbered (tables st.old)) × (4096 ≤ length buf.old)) }
     requires still { Still st.old.words.now st.old.used before.used before.saved.now }
-    ensures { AnswersIn w0 before.entry st.old st.new buf.old buf.new result (spelled_by t) }
+    ensures { AnswersIn w0 before.entry st.old st.new buf.old buf.new result (spelled_by (spelling_of spelling) t) }
 {
-    let spelled = ready::spell_type(st, t, buf);
+    let spelled = ready::spell_type(st, t, spelling, buf);
     let before = before.since(st.touched);
     let w = &mut *st.words;
     let told = answer_spelled(w, st.used, before, spelled);

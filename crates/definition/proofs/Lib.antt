@@ -11,6 +11,7 @@ pub mod AnswersSpace
 pub mod AnswersStates
 pub mod AnswersStreams
 pub mod AnswersTypes
+pub mod AnswersCanonical
 pub mod AnswersWider
 pub mod AnswersLimits
 pub mod Computed

@@ -61,7 +61,7 @@ blank s (b ∷ bytes) [] = b ∷ bytes
 blank s (b ∷ bytes) (part ∷ awaited) = (expand s part b).0 ∷ blank s bytes ((expand s part b).1 ++ awaited)
 
 -- ---- records
--- what stands after each mark, and what 0 shows: SD a number, RM four, SV its failures, the others types or nothing
+-- what stands after each mark, and what 0 shows: SD a number, RM four, CN a type without locations, SV its failures, the others types or nothing
 unfoldable pub mark_fields : List (ℕ × ℕ × List Part × List Part)
 mark_fields =
     (83, 68, [], []) ∷
@@ -79,6 +79,7 @@ mark_fields =
     (83, 67, loc_field ++ (type ∷ []), types ∷ []) ∷
     (83, 86, [], failures ∷ []) ∷
     (82, 77, type ∷ [], []) ∷
+    (67, 78, type ∷ [], []) ∷
     []
 
 unfoldable pub after_mark : List (ℕ × ℕ × List Part × List Part) → ℕ → ℕ → List Part × List Part

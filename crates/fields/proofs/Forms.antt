@@ -33,7 +33,7 @@ use Rattle.reader.proofs.Loop.{declares_kept, knowing, knows, code}
 use Rattle.marks.specs.declared.LocMark.{LocMark}
 use Rattle.marks.specs.declared.LocMark.TheVariants.{FV, NV}
 use Rattle.marks.specs.declared.LookMark.{LookMark}
-use Rattle.marks.specs.declared.LookMark.TheVariants.{UF, RD}
+use Rattle.marks.specs.declared.LookMark.TheVariants.{UF, RD, CN}
 use Rattle.marks.specs.declared.TwoMark.{TwoMark}
 use Rattle.marks.specs.declared.TwoMark.TheVariants.{JN, SU}
 use Rattle.marks.specs.declared.LocTypeMark.{LocTypeMark}
@@ -60,6 +60,7 @@ loc_shaped NV loc = refl
 look_shaped : (m : LookMark) (t : Tree) → shape (look_record m t) ≡ n.look_shape m t
 look_shaped UF t = refl
 look_shaped RD t = refl
+look_shaped CN t = refl
 
 two_shaped : (m : TwoMark) (t1 t2 : Tree) → shape (two_record m t1 t2) ≡ n.two_shape m t1 t2
 two_shaped JN t1 t2 = refl

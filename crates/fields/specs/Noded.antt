@@ -11,6 +11,7 @@ use Rattle.definition.specs.Build.{build, build_pairs}
 use Rattle.definition.specs.Join.{TypingCase, Join, Subtype}
 use Rattle.definition.specs.Step.{numeric_constraint}
 use Rattle.definition.specs.Needs.{Needs, needs}
+use Rattle.theorems.specs.ReadySpelled.{Spelling, Located, Canonical}
 use Rattle.table.specs.State.{Grown, Declares, Parts}
 use Rattle.table.specs.Did.{held, tables, Linked}
 use Rattle.table.specs.declared.state.State.{State as Table}
@@ -23,7 +24,7 @@ use Rattle.needs.specs.Counted.{needs_of}
 use Rattle.marks.specs.declared.LocMark.{LocMark}
 use Rattle.marks.specs.declared.LocMark.TheVariants.{FV, NV}
 use Rattle.marks.specs.declared.LookMark.{LookMark}
-use Rattle.marks.specs.declared.LookMark.TheVariants.{UF, RD}
+use Rattle.marks.specs.declared.LookMark.TheVariants.{UF, RD, CN}
 use Rattle.marks.specs.declared.TwoMark.{TwoMark}
 use Rattle.marks.specs.declared.TwoMark.TheVariants.{JN, SU}
 use Rattle.marks.specs.declared.LocTypeMark.{LocTypeMark}
@@ -48,7 +49,8 @@ pub data Binds : Type 0 where
 
 -- only shows: the state stays as at entry
 pub data Looks : Type 0 where
-  unfolded ready : ℕ → Looks
+  unfolded : ℕ → Looks
+  ready : Spelling → ℕ → Looks
   tparams : List (ℕ × ℕ) → ℕ → Looks
 
 -- takes new rows at most
@@ -85,7 +87,8 @@ loc_adds NV loc = num_tvar loc
 
 abbrev pub one_looks : LookMark → ℕ → Looks
 one_looks UF t = unfolded t
-one_looks RD t = ready t
+one_looks RD t = ready Located t
+one_looks CN t = ready Canonical t
 
 abbrev pub two_case : TwoMark → TypingCase
 two_case JN = Join
@@ -123,6 +126,7 @@ shape (d.BC loc t) = loc_type_shape BC loc t
 shape (d.SC loc t) = loc_type_shape SC loc t
 shape d.SV = solves
 shape (d.RM t) = none (adds (tell (needs t)))
+shape (d.CN t) = look_shape CN t
 
 abbrev pub place : Shape → State → Result (State × Noded)
 place (declares abilities params) s = ok (s, declare abilities params)

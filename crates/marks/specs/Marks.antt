@@ -11,7 +11,7 @@ use Rattle.marks.specs.declared.RecordMark.TheVariants as m
 use Rattle.marks.specs.declared.LocMark.{LocMark}
 use Rattle.marks.specs.declared.LocMark.TheVariants.{FV, NV}
 use Rattle.marks.specs.declared.LookMark.{LookMark}
-use Rattle.marks.specs.declared.LookMark.TheVariants.{UF, RD}
+use Rattle.marks.specs.declared.LookMark.TheVariants.{UF, RD, CN}
 use Rattle.marks.specs.declared.TwoMark.{TwoMark}
 use Rattle.marks.specs.declared.TwoMark.TheVariants.{JN, SU}
 use Rattle.marks.specs.declared.LocTypeMark.{LocTypeMark}
@@ -26,6 +26,7 @@ loc_record NV = d.NV
 abbrev pub look_record : LookMark → Tree → Record
 look_record UF = d.UF
 look_record RD = d.RD
+look_record CN = d.CN
 
 abbrev pub two_record : TwoMark → Tree → Tree → Record
 two_record JN = d.JN

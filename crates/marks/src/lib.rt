@@ -20,6 +20,7 @@ pub enum LocMark {
 pub enum LookMark {
     UF,
     RD,
+    CN,
 }
 
 // Two types, joined.
@@ -58,7 +59,7 @@ pub enum RecordMark {
 #[derive(Clone, Copy)]
 struct Letters(u8, u8, RecordMark);
 
-const MARKS: [Letters; 15] = [
+const MARKS: [Letters; 16] = [
     Letters(b'S', b'D', RecordMark::SD),
     Letters(b'F', b'V', RecordMark::Loc(LocMark::FV)),
     Letters(b'N', b'V', RecordMark::Loc(LocMark::NV)),
@@ -74,6 +75,7 @@ const MARKS: [Letters; 15] = [
     Letters(b'S', b'C', RecordMark::LocType(LocTypeMark::SC)),
     Letters(b'S', b'V', RecordMark::SV),
     Letters(b'R', b'M', RecordMark::RM),
+    Letters(b'C', b'N', RecordMark::Look(LookMark::CN)),
 ];
 
 // The mark that these letters are, if any. A loop over the definition's rows in their order: each step of its proof is a row that is passed.

@@ -1,29 +1,31 @@
--- RD's answer without a new node, as the code goes about it: where a type leads, and sums over its types, part by part. Assumes nothing.
+-- The answers of RD and CN without a new node, as the code goes about it: where a type leads, and sums over its types, part by part. Assumes nothing.
 use mathlib.Core.Path.{◌≡◌, refl, sym, ap, ◌∙◌, subst}
 use mathlib.Core.Bool.{Bool, true, false}
-use mathlib.Core.List.{List, [], ◌∷◌, ◌++◌, append-nil}
+use mathlib.Core.List.{List, [], ◌∷◌, ◌++◌, append-nil, append_assoc}
 use Rattle.std.specs.Prelude.{Option, None, Some, Ok, Err, if◌then◌else◌}
-use Prim.Native.Nat.{ℕ, suc, ◌+◌, ◌-◌, ◌≤◌, ◌<◌}
+use Prim.Native.Nat.{ℕ, zero, suc, ◌+◌, ◌-◌, ◌≤◌, ◌<◌}
 use native.Mathlib.Nat.{not-suc-le-zero}
 use native.Mathlib.Decide.{ℕ_discrete}
 use native.Mathlib.Numerals.{add-one}
 use native.Mathlib.Omega.{arith}
-use lib.ListN.{length, get_or, take, drop, take-append-drop}
+use lib.ListN.{length, get_or, take, drop, length-append, take-append-drop}
 use lib.Seq.{take-suc, take_all}
 use Rattle.definition.specs.Types as d
 use Rattle.definition.specs.Types.{Struct, Places, Spanned, TypeValue, Result, ok, refused, full, runs_into_itself, max_nodes, max_args}
-use Rattle.definition.specs.Store.{count, node, type_at, spanned, get, with_args, all_of, args_of}
-use Rattle.definition.specs.Subst.{as_var, parts, forward_tvar, ends_in, reaches_itself}
-use Rattle.definition.specs.Write.{u16, u32, head, each}
-use Rattle.theorems.specs.ReadySpelled.{led_var, led, ready_bytes, total, summed, new_nodes, new_places, head_size, one, room_for, spell_ready}
-use Rattle.theorems.proofs.ReadyTold.{Fits, led_plain, led_at, led_goes, fits_room, room_fits, spelled_size, spelled_few}
+use Rattle.definition.specs.Store.{count, taken, node, type_at, loc_of, spanned, get, with_args, with_structs, all_of, args_of}
+use Rattle.definition.specs.Subst.{as_var, parts, next_in, next_of, forward, forward_tvar, ends_in, reaches_itself}
+use Rattle.definition.specs.Write.{Bytes, u16, u32, head}
+use Rattle.definition.specs.Canonical.{Spelled, spell_each}
+use Rattle.theorems.specs.ReadySpelled.{Spelling, head_by, met_by, spelled_with, led_var, led, spell_led, led_bytes, total, summed, new_nodes, new_places, head_size, one, room_for, spell_ready}
+use Rattle.theorems.proofs.ReadyTold.{Fits, led_plain, led_at, led_goes, fits_room, room_fits, head_size_is, by_size, each_size, spelled_size, spelled_few}
 use Rattle.theorems.proofs.SoundFacts.{not_false, of_each}
 use Rattle.names.specs.declared.TVar.{TVar}
 use Rattle.names.specs.declared.AbilitySet.{AbilitySet}
 use Rattle.names.specs.declared.TypeName.{TypeName}
 use Rattle.table.specs.Rows.{places}
-use Rattle.table.specs.State.{shape_of, value_of, node_of}
-use Rattle.table.specs.Did.{held}
+use Rattle.table.specs.State.{shape_of, value_of, node_of, view, seen}
+use Rattle.table.specs.Did.{held, tables}
+use Rattle.table.specs.declared.Used.{Used}
 use Rattle.table.specs.declared.state.State.{State}
 use Rattle.table.specs.declared.Node.{Node}
 use Rattle.table.specs.declared.Applied.{Applied}
@@ -36,11 +38,12 @@ use Rattle.shapes.proofs.Nodes.{At, counted, inside_seen, many_parts, part_is}
 use Rattle.subst.proofs.Laws.{var_of}
 use Rattle.ends.proofs.Itself.{few_parts}
 use Rattle.ends.proofs.Lists.{all_all}
-use Rattle.writer.specs.Bytes.{Wrote}
-use Rattle.writer.proofs.Put.{put_nothing}
-use Rattle.writer.proofs.Walk.{whole}
-use Rattle.writer.proofs.Turns.{head_same, Whole}
-use Rattle.ready.specs.Spell.{led_as, LedIn, LedTo, nodes_of, places_of, Owns, Small, added, SumsOf, Measures, Spells, spelt, too_long, stopped}
+use Rattle.writer.specs.Bytes.{put, Wrote}
+use Rattle.writer.proofs.Put.{put_nothing, put_put}
+use Rattle.writer.proofs.Turns.{head_same}
+use Rattle.canonical.specs.Named.{Numbered, AllNumbered}
+use Rattle.canonical.proofs.Numbers.{head_by_same, met_by_same}
+use Rattle.ready.specs.Spell.{led_as, LedIn, LedTo, nodes_of, places_of, Owns, Small, added, SumsOf, Measures, Goes, Spells, spelt, too_long, stopped}
 use Rattle.refusals.specs.declared.Refusal.TheVariants.{Full, RunsIntoItself, AnswerTooLong}
 use Rattle.ready.specs.declared.Led.{Led}
 use Rattle.ready.specs.declared.Led.TheVariants.{Node as NodeL, Open}
@@ -287,106 +290,299 @@ module _ {s : State} {t x many : ℕ} {sh : Shape} (a : At s.words.now s.used x 
 
 -- ---- the bytes
 
-spelled_none : (s : d.State) (t left : ℕ) → left ≡ 0 → ready_bytes left s t ≡ []
-unfolding ready_bytes
-spelled_none s t left e = rw e refl
+-- what was written in front of them is no matter
+snoc_spelled : Spelled → Spelled → Spelled
+snoc_spelled a b = record { bytes = a.bytes ++ b.bytes; met = b.met }
 
-pub spells_none : (s : State) (t left : ℕ) (buf : List ℕ) (next : ℕ) → left ≡ 0 → ((ds : List Struct) → next + length (ready_bytes left (held s ds) t) ≤ length buf) → (ds : List Struct) → Wrote buf next (ready_bytes left (held s ds) t) buf next
-spells_none s t left buf next z f ds =
-    let n = spelled_none (held s ds) t left z in
-    let i : next ≤ length buf = omega (arith, f ds) in
-    rw n (record { next_is = omega arith; is = put_nothing buf next i })
+each_snoc : (f : List ℕ → ℕ → Spelled) (ms ps : List ℕ) (p : ℕ) → spell_each f ms (ps ++ p ∷ []) ≡ snoc_spelled (spell_each f ms ps) (f (spell_each f ms ps).met p)
+unfolding spell_each snoc_spelled
+each_snoc f ms [] p = rw (append-nil (f ms p).bytes) refl
+each_snoc f ms (q ∷ ps) p = rw (each_snoc f (f ms q).met ps p, append_assoc) refl
 
-module _ {s : State} {t left : ℕ} where
-  module _ (below : ℕ) (e : left ≡ below + 1) (r : Led) (l : LedTo s t r) where
-    led_bytes : (x : Led) → r ≡ x → (ds : List Struct) → ready_bytes left (held s ds) t ≡ head (led_as x (held s ds)).loc (led_as x (held s ds)).value ++ each (λ p. ready_bytes below (held s ds) p) (parts (led_as x (held s ds)).value)
-    unfolding ready_bytes
-    led_bytes x z ds = rw (← z, e, add-one below, l.is ds) refl
+module _ (how : Spelling) (n : ℕ) (s : d.State) (ms : List ℕ) (loc : ℕ) (x : TypeValue) where
+  -- the type x, up to its part i
+  unfoldable pub front : ℕ → Spelled
+  front i = let below = spell_each (λ m p. spell_led how n s m p) (met_by how ms x) (take i (parts x)) in record { bytes = head_by how ms loc x ++ below.bytes; met = below.met }
 
-    pub spells_open : (loc : ℕ) (v : TVar) → r ≡ Open loc v → (ds : List Struct) → head loc (d.Var v.0) ≡ ready_bytes left (held s ds) t
-    unfolding parts each
-    spells_open loc v z ds = sym (led_bytes (Open loc v) z ds ∙ append-nil (head loc (d.Var v.0)))
+  front_none : front 0 ≡ record { bytes = head_by how ms loc x; met = met_by how ms x }
+  unfolding front spell_each
+  front_none = rw (append-nil (head_by how ms loc x)) refl
 
-    pub spells_node : (x : ℕ) → r ≡ NodeL x → Whole (λ s p. ready_bytes below s p) s.words.now s.used x (λ ds. ready_bytes left (held s ds) t)
-    unfolding whole spanned
-    spells_node x z = record { is = λ ds. led_bytes (NodeL x) z ds }
+  front_more : (i : ℕ) → i < length (parts x) → front (i + 1) ≡ snoc_spelled (front i) (spell_led how n s (front i).met (get_or (parts x) i 0))
+  unfolding front snoc_spelled
+  front_more i h = rw (add-one i, take-suc (parts x) i 0 h, each_snoc (λ m p. spell_led how n s m p) (met_by how ms x) (take i (parts x)) (get_or (parts x) i 0), append_assoc) refl
 
--- ---- RD
+  front_all : (i : ℕ) → length (parts x) ≤ i → front i ≡ spelled_with how (λ m p. spell_led how n s m p) ms loc x
+  unfolding front spelled_with
+  front_all i h = rw (take_all i (parts x) h) refl
 
-told_ended : (s : d.State) (t : ℕ) → ends_in (count s) s t ≡ true
-    → spell_ready s t ≡ (if room_for s (summed new_nodes (count s) s t) (summed new_places (count s) s t) then ok (ready_bytes (count s) s t) else refused full)
-unfolding spell_ready reaches_itself
-told_ended s t e = rw (spell_ready, e) refl
+  front_size : (i : ℕ) → length (front i).bytes ≡ partly n s x i head_size
+  unfolding front partly
+  front_size i =
+      length-append (head_by how ms loc x) _
+      ∙ omega (arith, by_size how ms loc x, each_size (λ m p. spell_led how n s m p) (λ p. summed head_size n s p) (λ m p. spelled_size how n s m p) (met_by how ms x) (take i (parts x)))
 
--- .. with the count known
-told_in : (s : d.State) (t n : ℕ) → count s ≡ n → ends_in n s t ≡ true → spell_ready s t ≡ (if room_for s (summed new_nodes n s t) (summed new_places n s t) then ok (ready_bytes n s t) else refused full)
-told_in s t n c e = rw (← c) (told_ended s t (rw c e))
+-- a part's bytes after those before it
+after_wrote : (a b : Bytes) (buf buf' buf'' : List ℕ) (at next next' : ℕ) → at + length (a ++ b) ≤ length buf → Wrote buf at a buf' next → Wrote buf' next b buf'' next' → Wrote buf at (a ++ b) buf'' next'
+after_wrote a b buf buf' buf'' at next next' fits h g = record {
+  next_is = omega (arith, length-append a b, h.next_is, g.next_is);
+  is = g.is ∙ ap (λ (l : List ℕ). put l next b) h.is ∙ ap (λ (j : ℕ). put (put buf at a) j b) h.next_is ∙ put_put buf at a b (omega (arith, fits, length-append a b));
+}
 
-ends_for : (s : d.State) (t n : ℕ) → count s ≡ n → ends_in (count s) s t ≡ true → ends_in n s t ≡ true
-ends_for s t n c e = rw (← c) e
+no_levels_left : (how : Spelling) (left : ℕ) (s : d.State) (ms : List ℕ) (t : ℕ) → left ≡ 0 → spell_led how left s ms t ≡ record { bytes = []; met = ms }
+unfolding spell_led
+no_levels_left how left s ms t e = rw e refl
 
-told_itself : (s : d.State) (t : ℕ) → reaches_itself s t ≡ true → spell_ready s t ≡ refused runs_into_itself
-unfolding spell_ready
-told_itself s t e = rw (e, spell_ready) refl
+-- ---- variables that have a place in the table
 
-no_fit : (s : d.State) (nodes places : ℕ) → (Fits s nodes places → ⊥) → room_for s nodes places ≡ false
-no_fit s nodes places h = go (room_for s nodes places) refl
-  where
-    go : (b : Bool) → room_for s nodes places ≡ b → b ≡ false
-    go true e = absurd (h (room_fits s nodes places e))
-    go false e = refl
+module _ (s : d.State) (numbered : (t : ℕ) → t < count s → Numbered (type_at s t)) (inside : (v t : ℕ) → get s v ≡ Some t → t < count s) where
+  var_low : (x : TypeValue) (v : ℕ) → as_var x ≡ Some v → Numbered x → v < 1024
+  unfolding as_var
+  var_low d.UnitType v e h = absurd (let z : ◌≡◌ {A = ℕ} 0 1 = cc in omega (arith, z))
+  var_low (d.Ref m t) v e h = absurd (let z : ◌≡◌ {A = ℕ} 0 1 = cc in omega (arith, z))
+  var_low (d.Param id a) v e h = absurd (let z : ◌≡◌ {A = ℕ} 0 1 = cc in omega (arith, z))
+  var_low (d.Apply k n p) v e h = absurd (let z : ◌≡◌ {A = ℕ} 0 1 = cc in omega (arith, z))
+  var_low (d.Var w) v e h = let q : w ≡ v = cc in omega (arith, h, q)
+  var_low d.Anything v e h = absurd (let z : ◌≡◌ {A = ℕ} 0 1 = cc in omega (arith, z))
+  var_low d.UnresolvedError v e h = absurd (let z : ◌≡◌ {A = ℕ} 0 1 = cc in omega (arith, z))
 
-module _ (s : State) (t : ℕ) where
-  abbrev Ended : List Struct → Type 0
-  Ended ds = ends_in s.used.nodes (held s ds) t ≡ true
+  next_low : (v w : ℕ) → next_of s v ≡ Some w → w < 1024
+  unfolding next_of next_in
+  next_low v w e = go (get s v) refl e
+    where
+      go : (o : Option ℕ) → get s v ≡ o → next_in s o ≡ Some w → w < 1024
+      go None g e = absurd (let z : ◌≡◌ {A = ℕ} 0 1 = cc in omega (arith, z))
+      go (Some t) g e = var_low (type_at s t) w e (numbered t (inside v t g))
 
-  abbrev SumFor : (TypeValue → ℕ) → List Struct → ℕ
-  SumFor f ds = summed f s.used.nodes (held s ds) t
+  end_low : (n v : ℕ) → v < 1024 → forward n s v < 1024
+  unfolding forward
+  end_low zero v h = h
+  end_low (suc n) v h = go (next_of s v) refl (λ w l. end_low n w l)
+    where
+      go : (o : Option ℕ) → next_of s v ≡ o → ((w : ℕ) → w < 1024 → forward n s w < 1024) → (elim o [ None ↦ v | Some next ↦ forward n s next ]) < 1024
+      go None e k = h
+      go (Some w) e k = k w (next_low v w e)
 
-  told : (ds : List Struct) → Ended ds → spell_ready (held s ds) t ≡ (if room_for (held s ds) (SumFor new_nodes ds) (SumFor new_places ds) then ok (ready_bytes s.used.nodes (held s ds) t) else refused full)
-  told ds e = told_in (held s ds) t s.used.nodes (count_seen s.words.now s.used ds) e
+  led_low : (t : ℕ) → t < count s → Numbered (led s (spanned s t)).value
+  unfolding led led_var forward_tvar spanned
+  led_low t h = go (as_var (type_at s t)) refl
+    where
+      var : (v : ℕ) → v < 1024 → (o : Option ℕ) → get s (forward_tvar s v) ≡ o → Numbered (led_var s (loc_of s t) (forward_tvar s v) o).value
+      var v l None g = end_low (taken s) v l
+      var v l (Some x) g = numbered x (inside (forward_tvar s v) x g)
 
-  told_full : (ds : List Struct) → Ended ds → (s.used.nodes + SumFor new_nodes ds ≤ 2048 → s.used.args + SumFor new_places ds ≤ 4096 → ⊥) → spell_ready (held s ds) t ≡ refused full
-  unfolding max_nodes max_args
-  told_full ds e h = told ds e ∙ rw (no_fit (held s ds) (SumFor new_nodes ds) (SumFor new_places ds) (λ f. h (omega (arith, f.0, count_seen s.words.now s.used ds)) (omega (arith, f.1, args_seen s.words.now s.used ds)))) refl
+      go : (o : Option ℕ) → as_var (type_at s t) ≡ o → Numbered (led s (spanned s t)).value
+      go None e = rw (e, led) (numbered t h)
+      go (Some v) e = rw (e, led) (var v (var_low (type_at s t) v e (numbered t h)) (get s (forward_tvar s v)) refl)
 
-  told_bytes : (ds : List Struct) → Ended ds → s.used.nodes + SumFor new_nodes ds ≤ 2048 → s.used.args + SumFor new_places ds ≤ 4096 → spell_ready (held s ds) t ≡ ok (ready_bytes s.used.nodes (held s ds) t)
-  unfolding max_nodes max_args
-  told_bytes ds e n p =
-      let r : room_for (held s ds) (SumFor new_nodes ds) (SumFor new_places ds) ≡ true = fits_room (held s ds) (SumFor new_nodes ds) (SumFor new_places ds) (omega (arith, n, count_seen s.words.now s.used ds), omega (arith, p, args_seen s.words.now s.used ds)) in
-      told ds e ∙ rw r refl
+-- in a state that the words hold
+args_numbered : (s : d.State) (x : d.Shape Places) → Numbered x → Numbered (with_args s x)
+unfolding with_args
+args_numbered s d.UnitType h = tt
+args_numbered s (d.Ref m t) h = tt
+args_numbered s (d.Param id a) h = tt
+args_numbered s (d.Apply k n p) h = tt
+args_numbered s (d.Var v) h = h
+args_numbered s d.Anything h = tt
+args_numbered s d.UnresolvedError h = tt
 
-  -- what was measured
-  module _ {m : Sums} (h : (ds : List Struct) → Ended ds × SumsOf (λ f. SumFor f ds) m) where
-    pub spells_no_node : {buf : List ℕ} → 2048 - s.used.nodes < m.nodes → (ds : List Struct) → Spells (spell_ready (held s ds) t) buf buf (Err Full)
-    spells_no_node l ds = stopped (told_full ds (h ds).0 (λ n p. absurd (omega (arith, l, n, (h ds).1.nodes)))) refl
+module _ (s : State) (h : AllNumbered (tables s)) where
+  types_numbered : (t : ℕ) → t < count (held s []) → Numbered (type_at (held s []) t)
+  unfolding AllNumbered node type_at seen with_structs
+  types_numbered t l = args_numbered (held s []) (node (held s []) t).value (h t l)
 
-    pub spells_no_place : {buf : List ℕ} → 4096 - s.used.args < m.places → (ds : List Struct) → Spells (spell_ready (held s ds) t) buf buf (Err Full)
-    spells_no_place l ds = stopped (told_full ds (h ds).0 (λ n p. absurd (omega (arith, l, p, (h ds).1.places)))) refl
+  pub end_numbered : (t : ℕ) → t < s.used.nodes → (loc : ℕ) (v : TVar) (r : Led) → r ≡ Open loc v → LedTo s t r → v.0 < 1024
+  end_numbered t i loc v r z l =
+      let e : (led (held s []) (spanned (held s []) t)).value ≡ d.Var v.0 = ap (λ (x : Spanned TypeValue). x.value) (sym (l.is []) ∙ ap (λ (x : Led). led_as x (held s [])) z) in
+      let q = led_low (held s []) types_numbered (λ w u g. (inside_seen s.words.now s.used [] s.lay).bindings w u g) t (rw (count_seen s.words.now s.used []) i) in
+      subst (λ (x : TypeValue). Numbered x) e q
 
-    pub long_is : (ds : List Struct) → length (ready_bytes s.used.nodes (held s ds) t) ≡ m.bytes
-    long_is ds = spelled_size s.used.nodes (held s ds) t ∙ sym (h ds).1.bytes
+pub shape_numbered : {w : List ℕ} {u : Used} {t : ℕ} {sh : Shape} {n : ℕ} → At w u t sh n → AllNumbered (view w u) → Numbered (shape_of sh)
+unfolding AllNumbered seen with_structs node
+shape_numbered {t = t} a b = rw (a.shape []) (b t (counted a []))
 
-    module _ (n : m.nodes ≤ 2048 - s.used.nodes) (p : m.places ≤ 4096 - s.used.args) where
-      bytes_are : (ds : List Struct) → spell_ready (held s ds) t ≡ ok (ready_bytes s.used.nodes (held s ds) t)
-      bytes_are ds = told_bytes ds (h ds).0 (omega (arith, s.lay.nodes, n, (h ds).1.nodes)) (omega (arith, s.lay.args, p, (h ds).1.places))
+-- ---- type t, up to its part i
 
-      pub spells_long : {buf : List ℕ} → 4096 < m.bytes → (ds : List Struct) → Spells (spell_ready (held s ds) t) buf buf (Err AnswerTooLong)
-      spells_long l ds = too_long (bytes_are ds) (rw (long_is ds) l) refl
+-- heads of any kind, which know the variables that were met
+module _ (how : Spelling) {H : Type 0} (met : H → List ℕ → Type 0) where
+  pub record Going (s : State) (x below many : ℕ) (h₀ : H) (buf₀ : List ℕ) (at : ℕ) (h : H) (buf : List ℕ) (next i : ℕ) : Type 0 where
+    pub left : i ≤ many
+    pub size : length buf ≡ length buf₀
+    pub is : (ds : List Struct) (ms : List ℕ) → met h₀ ms → Goes met (front how below (held s ds) ms (loc_of (held s ds) x) (type_at (held s ds) x) i) buf₀ at h buf next
 
-      pub spells_bytes : m.bytes ≤ 4096 → {buf buf' : List ℕ} {len : ℕ} → ((ds : List Struct) → Wrote buf 0 (ready_bytes s.used.nodes (held s ds) t) buf' len) → (ds : List Struct) → Spells (spell_ready (held s ds) t) buf buf' (Ok len)
-      spells_bytes l w ds = spelt (bytes_are ds) (rw (long_is ds) (omega (arith, l))) (w ds)
+  module _ (s : State) (t left : ℕ) (h₀ : H) (buf₀ : List ℕ) (at : ℕ) (known : (ms : List ℕ) × met h₀ ms) (fits : (ds : List Struct) → at + summed head_size left (held s ds) t ≤ length buf₀) where
+    -- no level is left
+    pub goes_none : left ≡ 0 → (ds : List Struct) (ms : List ℕ) → met h₀ ms → Goes met (spell_led how left (held s ds) ms t) buf₀ at h₀ buf₀ at
+    goes_none e ds ms k = rw (no_levels_left how left (held s ds) ms t e) (record { wrote = record { next_is = omega arith; is = put_nothing buf₀ at (omega (arith, fits ds)) }; knows = k })
 
-  pub spells_itself : (b : Bool) → ((ds : List Struct) → b ≡ reaches_itself (held s ds) t) → b ≡ true → (buf : List ℕ) (ds : List Struct) → Spells (spell_ready (held s ds) t) buf buf (Err RunsIntoItself)
-  spells_itself b e z buf ds = stopped (told_itself (held s ds) t (sym (e ds) ∙ z)) refl
+    module _ (below : ℕ) (e : left ≡ below + 1) (r : Led) (l : LedTo s t r) where
+      -- an open variable
+      module _ (loc : ℕ) (v : TVar) (z : r ≡ Open loc v) where
+        open_is : (ds : List Struct) → led (held s ds) (spanned (held s ds) t) ≡ record { loc = loc; value = d.Var v.0 }
+        open_is ds = sym (l.is ds) ∙ ap (λ (x : Led). led_as x (held s ds)) z
 
-  -- it is over in as many levels as there are nodes
-  ended : (b : Bool) → ((ds : List Struct) → b ≡ reaches_itself (held s ds) t) → b ≡ false → (ds : List Struct) → Ended ds
-  unfolding reaches_itself
-  ended b e z ds = ends_for (held s ds) t s.used.nodes (count_seen s.words.now s.used ds) (not_false (ends_in (count (held s ds)) (held s ds) t) (sym (e ds) ∙ z))
+        pub open_fits : at + length (head loc (d.Var v.0)) ≤ length buf₀
+        unfolding head u32 u16
+        open_fits = omega (arith, fits [], rw (← add-one below, ← e) at (open_sums below (held s []) t v.0 (ap (λ (x : Spanned TypeValue). x.value) (open_is []))).bytes)
 
-  -- more types than there is room for
-  pub spells_many : (b : Bool) → ((ds : List Struct) → b ≡ reaches_itself (held s ds) t) → b ≡ false → {r : Option Sums} {most : ℕ} → 6145 ≤ most → Measures s t s.used.nodes most r → r ≡ None → (buf : List ℕ) (ds : List Struct) → Spells (spell_ready (held s ds) t) buf buf (Err Full)
-  spells_many b e z enough g y buf ds =
-      let k = ended b e z ds in
-      stopped (told_full ds k (λ n p. absurd (omega (arith, enough, g.out y ds k, spelled_few s.used.nodes (held s ds) t, n, p)))) refl
+        pub goes_open : {h : H} {buf : List ℕ} {next : ℕ} → ((ms : List ℕ) → met h₀ ms → Wrote buf₀ at (head_by how ms loc (d.Var v.0)) buf next × met h (met_by how ms (d.Var v.0)))
+            → (ds : List Struct) (ms : List ℕ) → met h₀ ms → Goes met (spell_led how left (held s ds) ms t) buf₀ at h buf next
+        unfolding spell_led spelled_with parts spell_each
+        goes_open g ds ms k = rw (e, add-one below, open_is ds, append-nil (head_by how ms loc (d.Var v.0))) (record { wrote = (g ms k).0; knows = (g ms k).1 })
+
+      -- a node with so many parts
+      module _ (x : ℕ) (z : r ≡ NodeL x) {sh : Shape} {many : ℕ} (a : At s.words.now s.used x sh many) where
+        node_is : (ds : List Struct) → led (held s ds) (spanned (held s ds) t) ≡ spanned (held s ds) x
+        node_is ds = sym (l.is ds) ∙ ap (λ (y : Led). led_as y (held s ds)) z
+
+        value_is : (ds : List Struct) → (led (held s ds) (spanned (held s ds) t)).value ≡ type_at (held s ds) x
+        unfolding spanned
+        value_is ds = ap (λ (y : Spanned TypeValue). y.value) (node_is ds)
+
+        room : (ds : List Struct) (i : ℕ) → at + partly below (held s ds) (type_at (held s ds) x) i head_size ≤ length buf₀
+        room ds i = omega (arith, fits ds, rw (← add-one below, ← e) at (partly_in below (held s ds) (type_at (held s ds) x) head_size i t (value_is ds)))
+
+        same_value : (ds : List Struct) (ms : List ℕ) (loc : ℕ) → (head_by how ms loc (value_of sh) ≡ head_by how ms loc (type_at (held s ds) x)) × (met_by how ms (value_of sh) ≡ met_by how ms (type_at (held s ds) x))
+        same_value ds ms loc = (
+          sym (head_by_same how (held s ds) ms loc sh) ∙ ap (λ (y : TypeValue). head_by how ms loc y) (a.is ds),
+          sym (met_by_same how (held s ds) ms sh) ∙ ap (λ (y : TypeValue). met_by how ms y) (a.is ds),
+        )
+
+        pub head_fits : (loc : ℕ) → at + length (head loc (value_of sh)) ≤ length buf₀
+        head_fits loc =
+            let q = sym (ap length (head_same (held s []) loc sh)) ∙ ap (λ (y : TypeValue). length (head loc y)) (a.is []) ∙ head_size_is loc (type_at (held s []) x) in
+            omega (arith, room [] 0, q, partly_none below (held s []) (type_at (held s []) x) head_size)
+
+        pub going_none : (loc : ℕ) → ((ds : List Struct) → loc ≡ loc_of (held s ds) x) → {h : H} {buf : List ℕ} {next : ℕ}
+            → ((ms : List ℕ) → met h₀ ms → Wrote buf₀ at (head_by how ms loc (value_of sh)) buf next × met h (met_by how ms (value_of sh))) → length buf ≡ length buf₀ → Going s x below many h₀ buf₀ at h buf next 0
+        going_none loc q {h} {buf} {next} g b = record {
+          left = omega arith;
+          size = b;
+          is = λ ds ms k.
+              let v = same_value ds ms loc in
+              rw (front_none how below (held s ds) ms (loc_of (held s ds) x) (type_at (held s ds) x), ← q ds, ← v.0, ← v.1) (record { wrote = (g ms k).0; knows = (g ms k).1 });
+        }
+
+        module _ {h : H} {buf : List ℕ} {next i : ℕ} (g : Going s x below many h₀ buf₀ at h buf next i) where
+          pub knows_then : (ms : List ℕ) × met h ms
+          knows_then = (_, (g.is [] known.0 known.1).knows)
+
+          pub going_all : many ≤ i → (ds : List Struct) (ms : List ℕ) → met h₀ ms → Goes met (spell_led how left (held s ds) ms t) buf₀ at h buf next
+          unfolding spell_led spanned
+          going_all j ds ms k =
+              rw (e, add-one below, node_is ds, ← front_all how below (held s ds) ms (loc_of (held s ds) x) (type_at (held s ds) x) i (omega (arith, j, many_parts a ds))) (g.is ds ms k)
+
+          module _ (p : ℕ) (j : i < many) (part : (ds : List Struct) → i < part_count (shape_of sh) → p ≡ get_or (parts (with_args (held s ds) (shape_of sh))) i 0) where
+            here : (ds : List Struct) → p ≡ get_or (parts (type_at (held s ds) x)) i 0
+            here = part_is a i p j part
+
+            longer : (ds : List Struct) → partly below (held s ds) (type_at (held s ds) x) (i + 1) head_size ≡ partly below (held s ds) (type_at (held s ds) x) i head_size + summed head_size below (held s ds) p
+            longer ds =
+                partly_more below (held s ds) (type_at (held s ds) x) head_size i (omega (arith, j, many_parts a ds))
+                ∙ ap (λ (q : ℕ). partly below (held s ds) (type_at (held s ds) x) i head_size + summed head_size below (held s ds) q) (sym (here ds))
+
+            stands : (ds : List Struct) → next ≡ at + partly below (held s ds) (type_at (held s ds) x) i head_size
+            stands ds = (g.is ds known.0 known.1).wrote.next_is ∙ ap (λ (k : ℕ). at + k) (front_size how below (held s ds) known.0 (loc_of (held s ds) x) (type_at (held s ds) x) i)
+
+            pub part_fits : (ds : List Struct) → next + summed head_size below (held s ds) p ≤ length buf
+            part_fits ds = omega (arith, g.size, stands ds, longer ds, room ds (i + 1))
+
+            pub going_more : {h' : H} {buf' : List ℕ} {next' : ℕ} → ((ds : List Struct) (ms : List ℕ) → met h ms → Goes met (spell_led how below (held s ds) ms p) buf next h' buf' next') → length buf' ≡ length buf
+                → Going s x below many h₀ buf₀ at h' buf' next' (i + 1)
+            unfolding snoc_spelled
+            going_more f b = record {
+              left = omega (arith, j);
+              size = b ∙ g.size;
+              is = λ ds ms k.
+                  let s' = held s ds in
+                  let y = type_at s' x in
+                  let l = loc_of s' x in
+                  let o = g.is ds ms k in
+                  let w = f ds (front how below s' ms l y i).met o.knows in
+                  let q = front_more how below s' ms l y i (omega (arith, j, many_parts a ds)) in
+                  let z : get_or (parts y) i 0 ≡ p = sym (here ds) in
+                  let fit : at + length (front how below s' ms l y (i + 1)).bytes ≤ length buf₀ = omega (arith, front_size how below s' ms l y (i + 1), room ds (i + 1)) in
+                  rw (q, z) (record { wrote = after_wrote _ _ buf₀ buf _ at next _ (rw (q, z) at fit) o.wrote w.wrote; knows = w.knows });
+            }
+
+-- ---- RD and CN
+
+-- how: as the record asks for it
+module _ (how : Spelling) where
+  told_ended : (s : d.State) (t : ℕ) → ends_in (count s) s t ≡ true
+      → spell_ready how s t ≡ (if room_for s (summed new_nodes (count s) s t) (summed new_places (count s) s t) then ok (led_bytes how (count s) s t) else refused full)
+  unfolding spell_ready reaches_itself
+  told_ended s t e = rw (spell_ready, e) refl
+
+  -- .. with the count known
+  told_in : (s : d.State) (t n : ℕ) → count s ≡ n → ends_in n s t ≡ true → spell_ready how s t ≡ (if room_for s (summed new_nodes n s t) (summed new_places n s t) then ok (led_bytes how n s t) else refused full)
+  told_in s t n c e = rw (← c) (told_ended s t (rw c e))
+
+  ends_for : (s : d.State) (t n : ℕ) → count s ≡ n → ends_in (count s) s t ≡ true → ends_in n s t ≡ true
+  ends_for s t n c e = rw (← c) e
+
+  told_itself : (s : d.State) (t : ℕ) → reaches_itself s t ≡ true → spell_ready how s t ≡ refused runs_into_itself
+  unfolding spell_ready
+  told_itself s t e = rw (e, spell_ready) refl
+
+  no_fit : (s : d.State) (nodes places : ℕ) → (Fits s nodes places → ⊥) → room_for s nodes places ≡ false
+  no_fit s nodes places h = go (room_for s nodes places) refl
+    where
+      go : (b : Bool) → room_for s nodes places ≡ b → b ≡ false
+      go true e = absurd (h (room_fits s nodes places e))
+      go false e = refl
+
+  module _ (s : State) (t : ℕ) where
+    abbrev Ended : List Struct → Type 0
+    Ended ds = ends_in s.used.nodes (held s ds) t ≡ true
+
+    abbrev SumFor : (TypeValue → ℕ) → List Struct → ℕ
+    SumFor f ds = summed f s.used.nodes (held s ds) t
+
+    told : (ds : List Struct) → Ended ds → spell_ready how (held s ds) t ≡ (if room_for (held s ds) (SumFor new_nodes ds) (SumFor new_places ds) then ok (led_bytes how s.used.nodes (held s ds) t) else refused full)
+    told ds e = told_in (held s ds) t s.used.nodes (count_seen s.words.now s.used ds) e
+
+    told_full : (ds : List Struct) → Ended ds → (s.used.nodes + SumFor new_nodes ds ≤ 2048 → s.used.args + SumFor new_places ds ≤ 4096 → ⊥) → spell_ready how (held s ds) t ≡ refused full
+    unfolding max_nodes max_args
+    told_full ds e h = told ds e ∙ rw (no_fit (held s ds) (SumFor new_nodes ds) (SumFor new_places ds) (λ f. h (omega (arith, f.0, count_seen s.words.now s.used ds)) (omega (arith, f.1, args_seen s.words.now s.used ds)))) refl
+
+    told_bytes : (ds : List Struct) → Ended ds → s.used.nodes + SumFor new_nodes ds ≤ 2048 → s.used.args + SumFor new_places ds ≤ 4096 → spell_ready how (held s ds) t ≡ ok (led_bytes how s.used.nodes (held s ds) t)
+    unfolding max_nodes max_args
+    told_bytes ds e n p =
+        let r : room_for (held s ds) (SumFor new_nodes ds) (SumFor new_places ds) ≡ true = fits_room (held s ds) (SumFor new_nodes ds) (SumFor new_places ds) (omega (arith, n, count_seen s.words.now s.used ds), omega (arith, p, args_seen s.words.now s.used ds)) in
+        told ds e ∙ rw r refl
+
+    -- what was measured
+    module _ {m : Sums} (h : (ds : List Struct) → Ended ds × SumsOf (λ f. SumFor f ds) m) where
+      pub spells_no_node : {buf : List ℕ} → 2048 - s.used.nodes < m.nodes → (ds : List Struct) → Spells (spell_ready how (held s ds) t) buf buf (Err Full)
+      spells_no_node l ds = stopped (told_full ds (h ds).0 (λ n p. absurd (omega (arith, l, n, (h ds).1.nodes)))) refl
+
+      pub spells_no_place : {buf : List ℕ} → 4096 - s.used.args < m.places → (ds : List Struct) → Spells (spell_ready how (held s ds) t) buf buf (Err Full)
+      spells_no_place l ds = stopped (told_full ds (h ds).0 (λ n p. absurd (omega (arith, l, p, (h ds).1.places)))) refl
+
+      pub long_is : (ds : List Struct) → length (led_bytes how s.used.nodes (held s ds) t) ≡ m.bytes
+      long_is ds = spelled_size how s.used.nodes (held s ds) [] t ∙ sym (h ds).1.bytes
+
+      module _ (n : m.nodes ≤ 2048 - s.used.nodes) (p : m.places ≤ 4096 - s.used.args) where
+        bytes_are : (ds : List Struct) → spell_ready how (held s ds) t ≡ ok (led_bytes how s.used.nodes (held s ds) t)
+        bytes_are ds = told_bytes ds (h ds).0 (omega (arith, s.lay.nodes, n, (h ds).1.nodes)) (omega (arith, s.lay.args, p, (h ds).1.places))
+
+        pub spells_long : {buf : List ℕ} → 4096 < m.bytes → (ds : List Struct) → Spells (spell_ready how (held s ds) t) buf buf (Err AnswerTooLong)
+        spells_long l ds = too_long (bytes_are ds) (rw (long_is ds) l) refl
+
+        pub spells_bytes : m.bytes ≤ 4096 → {buf buf' : List ℕ} {len : ℕ} → ((ds : List Struct) → Wrote buf 0 (led_bytes how s.used.nodes (held s ds) t) buf' len) → (ds : List Struct) → Spells (spell_ready how (held s ds) t) buf buf' (Ok len)
+        spells_bytes l w ds = spelt (bytes_are ds) (rw (long_is ds) (omega (arith, l))) (w ds)
+
+    pub spells_itself : (b : Bool) → ((ds : List Struct) → b ≡ reaches_itself (held s ds) t) → b ≡ true → (buf : List ℕ) (ds : List Struct) → Spells (spell_ready how (held s ds) t) buf buf (Err RunsIntoItself)
+    spells_itself b e z buf ds = stopped (told_itself (held s ds) t (sym (e ds) ∙ z)) refl
+
+    -- it is over in as many levels as there are nodes
+    ended : (b : Bool) → ((ds : List Struct) → b ≡ reaches_itself (held s ds) t) → b ≡ false → (ds : List Struct) → Ended ds
+    unfolding reaches_itself
+    ended b e z ds = ends_for (held s ds) t s.used.nodes (count_seen s.words.now s.used ds) (not_false (ends_in (count (held s ds)) (held s ds) t) (sym (e ds) ∙ z))
+
+    -- more types than there is room for
+    pub spells_many : (b : Bool) → ((ds : List Struct) → b ≡ reaches_itself (held s ds) t) → b ≡ false → {r : Option Sums} {most : ℕ} → 6145 ≤ most → Measures s t s.used.nodes most r → r ≡ None → (buf : List ℕ) (ds : List Struct) → Spells (spell_ready how (held s ds) t) buf buf (Err Full)
+    spells_many b e z enough g y buf ds =
+        let k = ended b e z ds in
+        stopped (told_full ds k (λ n p. absurd (omega (arith, enough, g.out y ds k, spelled_few s.used.nodes (held s ds) t, n, p)))) refl

@@ -1,4 +1,4 @@
--- RD's answer without a new node: where a type leads, and sums over the types that are written. Assumes nothing: these are definitions.
+-- The answers of RD and CN without a new node: where a type leads, and sums over the types that are written. Assumes nothing: these are definitions.
 use Rattle.std.specs.Prelude.{◌≡◌, true, List, ℕ, ◌+◌, ◌*◌, ◌≤◌, ◌<◌, length, Option, None, Some, Ok, Err}
 use Rattle.std.specs.Prelude as core
 use Rattle.definition.specs.Types as d
@@ -6,6 +6,7 @@ use Rattle.definition.specs.Types.{Struct, Spanned, TypeValue, Places, Result, o
 use Rattle.definition.specs.Store.{spanned}
 use Rattle.definition.specs.Subst.{ends_in}
 use Rattle.definition.specs.Write.{Bytes, head}
+use Rattle.definition.specs.Canonical.{Spelled}
 use Rattle.theorems.specs.ReadySpelled.{led, summed, new_nodes, new_places, head_size, one}
 use Rattle.refusals.specs.Refusals.{refusal_of}
 use Rattle.refusals.specs.declared.Refusal.{Refusal}
@@ -83,7 +84,14 @@ pub record Measures (s : State) (t left budget : ℕ) (r : Option Sums) : Type 0
   pub small : (m : Sums) → r ≡ Some m → (m.types ≤ budget) × Small m
   pub out : r ≡ None → (ds : List Struct) → ends_in left (held s ds) t ≡ true → budget < summed one left (held s ds) t
 
--- ---- RD
+-- ---- the bytes
+
+-- the spelling k was written from place `at` of buf on: buf' and `next`; the heads that are left know the variables that were met by then
+pub record Goes {H : Type 0} (met : H → List ℕ → Type 0) (k : Spelled) (buf : List ℕ) (at : ℕ) (h : H) (buf' : List ℕ) (next : ℕ) : Type 0 where
+  pub wrote : Wrote buf at k.bytes buf' next
+  pub knows : met h k.met
+
+-- ---- RD and CN
 
 -- m was told: its bytes are in front of the buffer, so many; or they are too long, or m is a refusal, and the buffer is as it was
 pub data Spells (m : Result Bytes) (buf buf' : List ℕ) : core.Result ℕ Refusal → Type 0 where

@@ -2,14 +2,16 @@
 // Changed from the source that NOTICE names: ported to Rattle. No node is made: what the type would be written as is told from the state as it is.
 #![tactic(auto)]
 
-ghost use Rattle.std.specs.Prelude.{◌≡◌, true, List, ◌+◌, ◌≤◌, ◌<◌, length};
+ghost use Rattle.std.specs.Prelude.{◌≡◌, true, List, ℕ, ◌+◌, ◌≤◌, ◌<◌, length};
 ghost use Rattle.definition.specs.Types as d;
 ghost use Rattle.definition.specs.Subst.{ends_in};
-ghost use Rattle.theorems.specs.ReadySpelled.{ready_bytes, summed, spell_ready};
+ghost use Rattle.theorems.specs.ReadySpelled.{head_size, summed, spell_led, led_bytes, spell_ready};
 ghost use Rattle.table.specs.Did.{held, tables};
 ghost use Rattle.writer.specs.Bytes.{Wrote, AllBytes};
-ghost use Rattle.ready.specs.Spell.{LedTo, Owns, Small, added, SumsOf, Measures, Spells};
+ghost use Rattle.canonical.specs.Named.{spelling_of, AllNumbered};
+ghost use Rattle.ready.specs.Spell.{LedTo, Owns, Small, added, SumsOf, Measures, Goes, Spells};
 
+use canonical::{AsItStands, Heads, Names, Spelling};
 use ends::{Chains, note_ends};
 use names::{MAX_ARGS, MAX_NODES, TVar};
 use refusals::Refusal;
@@ -110,43 +112,65 @@ fn measure(chains: &Chains<'_, '_>, t: u32, left: u32, budget: u32) -> Option<Su
     Some(m)
 }
 
-// The bytes of type t, which fit; the place after them.
-fn write_spelled(chains: &Chains<'_, '_>, t: u32, left: u32, buf: &mut [u8], at: usize) -> usize
-    requires all_bytes { (t < chains.now.st.now.used.nodes) × AllBytes (tables chains.now.st.now) }
-    requires fits { (ds : List d.Struct) → at + length (ready_bytes left (held chains.now.st.now ds) t) ≤ length buf.old }
-    ensures { (ds : List d.Struct) → Wrote buf.old at (ready_bytes left (held chains.now.st.now ds) t) buf.new result }
+// The bytes of type t, which fit, as `heads` has them; the place after them.
+fn write_spelled<H: Heads>(
+    chains: &Chains<'_, '_>,
+    t: u32,
+    left: u32,
+    heads: &mut H,
+    buf: &mut [u8],
+    at: usize,
+) -> usize
+    requires known { (ms : List ℕ) × H.met heads.old ms }
+    requires in_use { (t < chains.now.st.now.used.nodes) × (AllBytes (tables chains.now.st.now) × AllNumbered (tables chains.now.st.now)) }
+    requires fits { (ds : List d.Struct) → at + summed head_size left (held chains.now.st.now ds) t ≤ length buf.old }
+    ensures { (ds : List d.Struct) (ms : List ℕ) → H.met heads.old ms → Goes H.met (spell_led H.spelling left (held chains.now.st.now ds) ms t) buf.old at heads.new buf.new result }
 {
     let Some(below) = left.checked_sub(1) else {
         return at;
     };
     let x = match lead(chains, t) {
-        Led::Open { loc, end } => return writer::write_head(loc, Shape::Var(end), buf, at),
+        Led::Open { loc, end } => return heads.write_head(loc, Shape::Var(end), buf, at),
         Led::Node(x) => x,
     };
     let n = chains.st.node_at(x);
     let loc = n.loc;
     let shape = n.shape;
     let many = shapes::part_count(shape);
-    let mut next = writer::write_head(loc, shape, buf, at);
+    let mut next = heads.write_head(loc, shape, buf, at);
     for i in 0..many {
         let p = shapes::part_at(chains.st, shape, i);
-        next = write_spelled(chains, p, below, buf, next);
+        next = write_spelled(chains, p, below, heads, buf, next);
     }
     next
 }
 
-// ---- RD
+// .. as a record's answer has them. The names are made here, once measuring is over: its levels take the most stack.
+#[inline(never)]
+fn write_by(chains: &Chains<'_, '_>, t: u32, left: u32, spelling: Spelling, buf: &mut [u8]) -> usize
+    requires in_use { (t < chains.now.st.now.used.nodes) × (AllBytes (tables chains.now.st.now) × AllNumbered (tables chains.now.st.now)) }
+    requires fits { (ds : List d.Struct) → summed head_size left (held chains.now.st.now ds) t ≤ length buf.old }
+    ensures { (ds : List d.Struct) → Wrote buf.old 0 (led_bytes (spelling_of spelling) left (held chains.now.st.now ds) t) buf.new result }
+{
+    match spelling {
+        Spelling::Located => write_spelled(chains, t, left, &mut AsItStands, buf, 0),
+        Spelling::Canonical => write_spelled(chains, t, left, &mut Names::new(), buf, 0),
+    }
+}
+
+// ---- RD and CN
 
 // What was measured, in as many levels as there are nodes, is written if it fits.
 fn spell_measured(
     chains: &Chains<'_, '_>,
     t: u32,
     m: Sums,
+    spelling: Spelling,
     buf: &mut [u8],
 ) -> Result<usize, Refusal>
-    requires in_use { (t < chains.now.st.now.used.nodes) × (AllBytes (tables chains.now.st.now) × (4096 ≤ length buf.old)) }
+    requires in_use { (t < chains.now.st.now.used.nodes) × ((AllBytes (tables chains.now.st.now) × AllNumbered (tables chains.now.st.now)) × (4096 ≤ length buf.old)) }
     requires measured { (ds : List d.Struct) → (ends_in chains.now.st.now.used.nodes (held chains.now.st.now ds) t ≡ true) × SumsOf (λ f. summed f chains.now.st.now.used.nodes (held chains.now.st.now ds) t) m }
-    ensures { (ds : List d.Struct) → Spells (spell_ready (held chains.now.st.now ds) t) buf.old buf.new result }
+    ensures { (ds : List d.Struct) → Spells (spell_ready (spelling_of spelling) (held chains.now.st.now ds) t) buf.old buf.new result }
 {
     let used = chains.st.used;
     if MAX_NODES - used.nodes < m.nodes {
@@ -158,13 +182,13 @@ fn spell_measured(
     if MAX_PAYLOAD < m.bytes {
         return Err(Refusal::AnswerTooLong);
     }
-    Ok(write_spelled(chains, t, used.nodes, buf, 0))
+    Ok(write_by(chains, t, used.nodes, spelling, buf))
 }
 
 // A type of any size: every end is noted first, for the test and for both walks.
-fn spell_far(st: &State<'_>, t: u32, buf: &mut [u8]) -> Result<usize, Refusal>
-    requires { (t < st.now.used.nodes) × (AllBytes (tables st.now) × (4096 ≤ length buf.old)) }
-    ensures { (ds : List d.Struct) → Spells (spell_ready (held st.now ds) t) buf.old buf.new result }
+fn spell_far(st: &State<'_>, t: u32, spelling: Spelling, buf: &mut [u8]) -> Result<usize, Refusal>
+    requires { (t < st.now.used.nodes) × ((AllBytes (tables st.now) × AllNumbered (tables st.now)) × (4096 ≤ length buf.old)) }
+    ensures { (ds : List d.Struct) → Spells (spell_ready (spelling_of spelling) (held st.now ds) t) buf.old buf.new result }
 {
     let mut ends: [u32; 1024] = [0; 1024];
     note_ends(st, &mut ends);
@@ -173,19 +197,24 @@ fn spell_far(st: &State<'_>, t: u32, buf: &mut [u8]) -> Result<usize, Refusal>
         return Err(Refusal::RunsIntoItself);
     }
     match measure(&chains, t, st.used.nodes, MAX_TYPES) {
-        Some(m) => spell_measured(&chains, t, m, buf),
+        Some(m) => spell_measured(&chains, t, m, spelling, buf),
         None => Err(Refusal::Full),
     }
 }
 
-// RD: the bytes of type t with its variables replaced, and how many. A type of at most 64 types needs no ends.
-pub fn spell_type(st: &State<'_>, t: u32, buf: &mut [u8]) -> Result<usize, Refusal>
-    requires { (t < st.now.used.nodes) × (AllBytes (tables st.now) × (4096 ≤ length buf.old)) }
-    ensures { (ds : List d.Struct) → Spells (spell_ready (held st.now ds) t) buf.old buf.new result }
+// The bytes of type t with its variables replaced, and how many. A type of at most 64 types needs no ends.
+pub fn spell_type(
+    st: &State<'_>,
+    t: u32,
+    spelling: Spelling,
+    buf: &mut [u8],
+) -> Result<usize, Refusal>
+    requires { (t < st.now.used.nodes) × ((AllBytes (tables st.now) × AllNumbered (tables st.now)) × (4096 ≤ length buf.old)) }
+    ensures { (ds : List d.Struct) → Spells (spell_ready (spelling_of spelling) (held st.now ds) t) buf.old buf.new result }
 {
     let chains = Chains { st, ends: &[] };
     match measure(&chains, t, st.used.nodes, 64) {
-        Some(m) => spell_measured(&chains, t, m, buf),
-        None => spell_far(st, t, buf),
+        Some(m) => spell_measured(&chains, t, m, spelling, buf),
+        None => spell_far(st, t, spelling, buf),
     }
 }

@@ -86,7 +86,7 @@ declare_bytes {s} {t} {r} {abilities} c ds many i ps g h =
     in_words b t.words.now t.used _
     (by_run b r _ b c.kept_is (subst (λ (m : Result (State × Bytes)). Leaves b m) (run_SD b abilities ps ∙ sym (c.is ds ps many b)) (run_walk (Unit {0}) b true refl b (λ y. i) (SD abilities ps) (λ y. g))) h)
 
--- ---- UF, RD, TS, whose state is not kept: from the state s with their types placed
+-- ---- UF, RD, CN, TS, whose state is not kept: from the state s with their types placed
 
 pub ready_leaves : (b s : State) → Ranges b s → (t : ℕ) → Leaves b (ready_tvars s t)
 ready_leaves b s i t = ready_tvars_run (Unit {0}) b true refl s (λ y. i) t

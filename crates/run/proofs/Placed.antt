@@ -10,6 +10,7 @@ use Rattle.definition.specs.Record as d
 use Rattle.definition.specs.Record.{Record}
 use Rattle.definition.specs.Step.{constrain, two_types}
 use Rattle.definition.specs.Step as definition
+use Rattle.theorems.specs.ReadySpelled.{spelled}
 use Rattle.theorems.proofs.DemandOrder.{All}
 use Rattle.theorems.proofs.SoundRanges.{StructIn}
 use Rattle.theorems.proofs.SoundRead.{TreeIn, RecordIn}
@@ -38,7 +39,7 @@ ShapeIn s (after_pairs ps t f) = All (λ (p : ℕ × Tree). TreeIn s p.1) ps × 
 
 -- the definition's run is the shape's, and what was read well is of a good shape
 by_record : (s : State) (x : Record) → (definition.run s x ≡ run_shape (shape x) s) × (RecordIn s x → ShapeIn s (shape x))
-unfolding definition.run constrain two_types run_of join_in two_run unfold_run ready_run tparams_run instantiate_run tvar_run num_tvar_run set_num_run constraint_run needs_run declare_run
+unfolding definition.run constrain two_types run_of join_in two_run unfold_run ready_run spelled tparams_run instantiate_run tvar_run num_tvar_run set_num_run constraint_run needs_run declare_run
 by_record s (d.SD abilities params) = (refl, λ g. g)
 by_record s (d.FV loc) = (refl, λ g. tt)
 by_record s (d.NV loc) = (refl, λ g. tt)
@@ -54,6 +55,7 @@ by_record s (d.BC loc t) = (refl, λ g. g.1)
 by_record s (d.SC loc t) = (refl, λ g. g.1)
 by_record s d.SV = (refl, λ g. tt)
 by_record s (d.RM t) = (refl, λ g. tt)
+by_record s (d.CN t) = (refl, λ g. g)
 
 pub shape_in : (s : State) (x : Record) → RecordIn s x → ShapeIn s (shape x)
 shape_in s x g = (by_record s x).1 g

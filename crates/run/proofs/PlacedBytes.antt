@@ -62,6 +62,6 @@ module _ {s t : Table} {r : Ran} {params : List (List ℕ)} (ds : List Struct) (
   unfolding step_of
   run_bytes (binds n) c p h = kept _ refl c p h
   run_bytes (looks (unfolded ty)) c p h = step_bytes c ds k b (unfold_leaves b (held s ds) (placed_in b i x g _ _ p) r.result h) h
-  run_bytes (looks (ready ty)) c p h = step_bytes c ds k b (ready_leaves b (held s ds) (placed_in b i x g _ _ p) ty) h
+  run_bytes (looks (ready how ty)) c p h = step_bytes c ds k b (ready_leaves b (held s ds) (placed_in b i x g _ _ p) ty) h
   run_bytes (looks (tparams pairs ty)) c p h = step_bytes c ds k b (subst_leaves b (held s ds) (placed_in b i x g _ _ p) pairs ty) h
   run_bytes (adds n) c p h = kept _ refl c p h

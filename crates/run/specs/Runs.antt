@@ -13,6 +13,7 @@ use Rattle.definition.specs.Instantiate.{instantiate}
 use Rattle.definition.specs.Write.{Bytes, u16, head, write, write_spanned}
 use Rattle.definition.specs.Needs.{Needs}
 use Rattle.definition.specs.Step.{tell}
+use Rattle.theorems.specs.ReadySpelled.{Spelling, spelled}
 use Rattle.table.specs.State.{outcome, done, more, Any, Grown, FoundIn, Declares}
 use Rattle.table.specs.Did.{held, tables, StopIn, Became, Linked}
 use Rattle.table.specs.declared.Used.{Used}
@@ -37,11 +38,11 @@ two_run case lhs rhs s before = do
 unfoldable pub unfold_run : ℕ → d.State → d.State → Result (d.State × Bytes)
 unfold_run t s before = ok (before, write_spanned s (unfold_type s (spanned s t)))
 
--- RD
-unfoldable pub ready_run : ℕ → d.State → d.State → Result (d.State × Bytes)
-ready_run t s before = do
+-- RD, CN
+unfoldable pub ready_run : Spelling → ℕ → d.State → d.State → Result (d.State × Bytes)
+ready_run how t s before = do
   (s, t) ← ready_tvars s t
-  ok (before, write s t)
+  ok (before, spelled how s t)
 
 unfoldable pub subst_in : List (ℕ × ℕ) → ℕ → d.State → Result (d.State × ℕ)
 subst_in pairs t s = do

@@ -1,4 +1,4 @@
--- Only SD is placed as a declaration and only SV as solving, and both leave the state as it is; only RD is placed as one, and its node is its tree's. Assumes nothing.
+-- Only SD is placed as a declaration and only SV as solving, and both leave the state as it is; only RD and CN are placed as ones to be spelled, each in its way, and the node is that of the record's tree. Assumes nothing.
 use mathlib.Core.Path.{◌≡◌, refl, sym, ap, ap₂}
 use mathlib.Core.List.{List}
 use Prim.Native.Nat.{ℕ, ◌≤◌}
@@ -8,6 +8,7 @@ use Rattle.definition.specs.Trees.{Tree}
 use Rattle.definition.specs.Build.{build, build_pairs}
 use Rattle.definition.specs.Record as d
 use Rattle.definition.specs.Record.{Record}
+use Rattle.theorems.specs.ReadySpelled.{Spelling, Located, Canonical, spelled_record}
 use Rattle.theorems.proofs.DemandTracks.{never}
 use Rattle.fields.specs.Noded.{unfolded, ready, tparams, Run, binds, looks, adds, Noded, declare, solve, run, Shape, declares, solves, none, one, both, after_pairs, shape, place, place_record}
 
@@ -17,13 +18,13 @@ own (declare a ps) = 1
 own solve = 1
 own (run r) = 0
 
--- whether it is RD's
+-- whether it is RD's or CN's
 abbrev shows_ready : Noded → ℕ
 shows_ready (declare a ps) = 0
 shows_ready solve = 0
 shows_ready (run (binds b)) = 0
 shows_ready (run (looks (unfolded t))) = 0
-shows_ready (run (looks (ready t))) = 1
+shows_ready (run (looks (ready how t))) = 1
 shows_ready (run (looks (tparams ps t))) = 0
 shows_ready (run (adds a)) = 0
 
@@ -32,9 +33,18 @@ node_of (declare a ps) = 0
 node_of solve = 0
 node_of (run (binds b)) = 0
 node_of (run (looks (unfolded t))) = 0
-node_of (run (looks (ready t))) = t
+node_of (run (looks (ready how t))) = t
 node_of (run (looks (tparams ps t))) = 0
 node_of (run (adds a)) = 0
+
+abbrev how_of : Noded → Spelling
+how_of (declare a ps) = Located
+how_of solve = Located
+how_of (run (binds b)) = Located
+how_of (run (looks (unfolded t))) = Located
+how_of (run (looks (ready how t))) = how
+how_of (run (looks (tparams ps t))) = Located
+how_of (run (adds a)) = Located
 
 abbrev whose : Noded → Shape
 whose (declare a ps) = declares a ps
@@ -85,39 +95,47 @@ pub placed_SV : (x : Record) (s s' : State) → place_record x s ≡ ok (s', sol
 unfolding place_record
 placed_SV x s s' e = (own_placed s' solve (shape x) s (omega arith) e).1
 
--- RD of a tree that is placed as node ty
-pub data PlacedRD (s s' : State) (ty : ℕ) : Record → Type 0 where
-  placed_as : {t : Tree} → build t s ≡ ok (s', ty) → PlacedRD s s' ty (d.RD t)
+-- the record that is answered so, of a tree that is placed as node ty
+pub record PlacedSpelled (s s' : State) (how : Spelling) (ty : ℕ) (x : Record) : Type 0 where
+  pub tree : Tree
+  pub is : x ≡ spelled_record how tree
+  pub placed : build tree s ≡ ok (s', ty)
 
-module _ (s s' : State) (ty : ℕ) where
+module _ (s s' : State) (how : Spelling) (ty : ℕ) where
   abbrev PlacedReady : Result (State × Noded) → Type 0
-  PlacedReady m = m ≡ ok (s', run (looks (ready ty)))
+  PlacedReady m = m ≡ ok (s', run (looks (ready how ty)))
 
-  built : (m : Result (State × ℕ)) → PlacedReady (m >>= (λ p. ok (p.0, run (looks (ready p.1))))) → m ≡ ok (s', ty)
+  built : (k : Spelling) (m : Result (State × ℕ)) → PlacedReady (m >>= (λ p. ok (p.0, run (looks (ready k p.1))))) → (m ≡ ok (s', ty)) × (k ≡ how)
   unfolding ◌>>=◌
-  built (ok p) e =
-      let q : ◌≡◌ {A = State × Noded} (p.0, run (looks (ready p.1))) (s', run (looks (ready ty))) = cc in
-      ap₂ (λ (s : State) (t : ℕ). ok (s, t)) (ap (λ (x : State × Noded). x.0) q) (ap (λ (x : State × Noded). node_of x.1) q)
-  built (err x y) e = never (cc)
-  built (refused x) e = never (cc)
+  built k (ok p) e =
+      let q : ◌≡◌ {A = State × Noded} (p.0, run (looks (ready k p.1))) (s', run (looks (ready how ty))) = cc in (
+        ap₂ (λ (s : State) (t : ℕ). ok (s, t)) (ap (λ (x : State × Noded). x.0) q) (ap (λ (x : State × Noded). node_of x.1) q),
+        ap (λ (x : State × Noded). how_of x.1) q,
+      )
+  built k (err x y) e = never (cc)
+  built k (refused x) e = never (cc)
+
+  spelled : (k : Spelling) (t : Tree) → PlacedReady (build t s >>= (λ p. ok (p.0, run (looks (ready k p.1))))) → PlacedSpelled s s' how ty (spelled_record k t)
+  spelled k t e = let b = built k (build t s) e in record { tree = t; is = ap (λ (j : Spelling). spelled_record j t) b.1; placed = b.0 }
 
   not_ready : {A : Type 0} (m : Result (State × Noded)) → told_in shows_ready m ≡ 0 → PlacedReady m → A
   not_ready m z e = not_told shows_ready m z e (omega arith)
 
-  pub placed_RD : (x : Record) → PlacedReady (place_record x s) → PlacedRD s s' ty x
+  pub placed_spelled : (x : Record) → PlacedReady (place_record x s) → PlacedSpelled s s' how ty x
   unfolding place_record
-  placed_RD (d.SD abilities params) e = not_ready _ refl e
-  placed_RD (d.FV loc) e = not_ready _ refl e
-  placed_RD (d.NV loc) e = not_ready _ refl e
-  placed_RD (d.SN v loc) e = not_ready _ refl e
-  placed_RD (d.JN t1 t2) e = not_ready _ (more shows_ready (build t1 s) t2 _ (λ a b. refl)) e
-  placed_RD (d.SU t1 t2) e = not_ready _ (more shows_ready (build t1 s) t2 _ (λ a b. refl)) e
-  placed_RD (d.UF t) e = not_ready _ (last shows_ready (build t s) _ (λ a. refl)) e
-  placed_RD (d.RD t) e = placed_as (built (build t s) e)
-  placed_RD (d.IN t) e = not_ready _ (last shows_ready (build t s) _ (λ a. refl)) e
-  placed_RD (d.TS pairs t) e = not_ready _ (more shows_ready (build_pairs pairs s) t _ (λ a b. refl)) e
-  placed_RD (d.NC loc kind t) e = not_ready _ (last shows_ready (build t s) _ (λ a. refl)) e
-  placed_RD (d.BC loc t) e = not_ready _ (last shows_ready (build t s) _ (λ a. refl)) e
-  placed_RD (d.SC loc t) e = not_ready _ (last shows_ready (build t s) _ (λ a. refl)) e
-  placed_RD d.SV e = not_ready _ refl e
-  placed_RD (d.RM t) e = not_ready _ refl e
+  placed_spelled (d.SD abilities params) e = not_ready _ refl e
+  placed_spelled (d.FV loc) e = not_ready _ refl e
+  placed_spelled (d.NV loc) e = not_ready _ refl e
+  placed_spelled (d.SN v loc) e = not_ready _ refl e
+  placed_spelled (d.JN t1 t2) e = not_ready _ (more shows_ready (build t1 s) t2 _ (λ a b. refl)) e
+  placed_spelled (d.SU t1 t2) e = not_ready _ (more shows_ready (build t1 s) t2 _ (λ a b. refl)) e
+  placed_spelled (d.UF t) e = not_ready _ (last shows_ready (build t s) _ (λ a. refl)) e
+  placed_spelled (d.RD t) e = spelled Located t e
+  placed_spelled (d.IN t) e = not_ready _ (last shows_ready (build t s) _ (λ a. refl)) e
+  placed_spelled (d.TS pairs t) e = not_ready _ (more shows_ready (build_pairs pairs s) t _ (λ a b. refl)) e
+  placed_spelled (d.NC loc kind t) e = not_ready _ (last shows_ready (build t s) _ (λ a. refl)) e
+  placed_spelled (d.BC loc t) e = not_ready _ (last shows_ready (build t s) _ (λ a. refl)) e
+  placed_spelled (d.SC loc t) e = not_ready _ (last shows_ready (build t s) _ (λ a. refl)) e
+  placed_spelled d.SV e = not_ready _ refl e
+  placed_spelled (d.RM t) e = not_ready _ refl e
+  placed_spelled (d.CN t) e = spelled Canonical t e

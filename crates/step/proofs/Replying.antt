@@ -8,16 +8,24 @@ use lib.ListN.{length, take, drop, length-take}
 use Rattle.std.specs.Prelude.{if◌then◌else◌, Option, Ok, Err}
 use Rattle.std.specs.Result.{result_ok}
 use Rattle.std.specs.Prelude as core
-use Rattle.definition.specs.Types.{State, Struct, Refusal, max_nodes, max_args, Result, ok, ◌>>=◌}
-use Rattle.definition.specs.Store.{taken, with_structs}
-use Rattle.definition.specs.Trees.{arity}
+use Rattle.definition.specs.Types as d
+use Rattle.definition.specs.Types.{TypeName, Places, State, Struct, Refusal, max_nodes, max_args, Result, ok, err, refused, ◌>>=◌}
+use Rattle.definition.specs.Store.{taken, node, type_at, with_args, with_structs}
+use Rattle.definition.specs.Trees.{Tree, arity}
+use Rattle.definition.specs.Build.{build}
 use Rattle.definition.specs.Record.{Record}
 use Rattle.definition.specs.Sound.{sound}
 use Rattle.definition.specs.Step as step
 use Rattle.definition.specs.Step.{answer, refusal}
-use Rattle.theorems.specs.ReadySpelled.{spell_ready, with_state}
-use Rattle.theorems.proofs.SoundRead.{FineRecord}
-use Rattle.theorems.proofs.ReadyTold.{Fits, RD_spells}
+use Rattle.theorems.specs.ReadySpelled.{Spelling, Located, Canonical, spelled_record, spell_ready, with_state}
+use Rattle.theorems.proofs.DemandTracks.{never}
+use Rattle.theorems.proofs.DemandOrder.{Sound}
+use Rattle.theorems.proofs.DemandWent.{WentTo}
+use Rattle.theorems.proofs.DemandRuns.{place_went}
+use Rattle.theorems.proofs.LawsPost.{Post, p_ok}
+use Rattle.theorems.proofs.SoundFacts.{facts}
+use Rattle.theorems.proofs.SoundRead.{Fine, FineRecord}
+use Rattle.theorems.proofs.ReadyTold.{Fits, record_spells}
 use Rattle.theorems.proofs.SoundRanges.{Ranges, StructIn}
 use Rattle.theorems.proofs.SoundKept.{ranges_of}
 use Rattle.table.specs.State.{outcome, done, more, view, seen, Grown, FoundIn, Declares}
@@ -28,7 +36,7 @@ use Rattle.table.specs.declared.state.State.{State as Table}
 use Rattle.table.specs.declared.state.Stop.{Stop}
 use Rattle.table.specs.declared.state.Stop.TheVariants.{Failed, Refused}
 use Rattle.answer.proofs.Growing.{grown_on}
-use Rattle.table.proofs.Pushed.{count_seen, args_seen}
+use Rattle.table.proofs.Pushed.{count_seen, args_seen, taken_seen}
 use Rattle.snapshot.specs.Snap.{Saved}
 use Rattle.snapshot.specs.Back.{GrownFrom}
 use Rattle.snapshot.specs.declared.before.Before.{Before}
@@ -38,6 +46,7 @@ use Rattle.reader.proofs.Loop.{declares_kept}
 use Rattle.heads.specs.Fields.{Arities}
 use Rattle.fields.specs.Noded.{ready, looks, Run, Noded, declare, solve, run, Shape}
 use Rattle.writer.specs.Bytes.{AllBytes}
+use Rattle.canonical.specs.Named.{Numbered, AllNumbered}
 use Rattle.answer.specs.Ran.{Tells, Settles, Still, answered, refused_by, spelled_by}
 use Rattle.answer.specs.Answered.{AnswersIn}
 use Rattle.answer.specs.declared.Ran.{Ran}
@@ -53,7 +62,7 @@ use Rattle.step.specs.Trusted.{held, Stands}
 use Rattle.verdict.specs.Verdict.{row_for, padded}
 use Rattle.step.specs.Replies.{Replied, Begun}
 use Rattle.step.proofs.Rows.{rows_of, rows_seen, held_known, known_rows, row_in, row_kept, arities_kept}
-use Rattle.step.proofs.Placing.{placed_SD, placed_SV, PlacedRD, placed_as, placed_RD}
+use Rattle.step.proofs.Placing.{placed_SD, placed_SV, PlacedSpelled, placed_spelled}
 use Rattle.step.proofs.Standing.{Leaves, leaves_ok, place_leaves, unkept_leaves}
 use Rattle.step.proofs.Keeping.{sound_arities, saved_still}
 
@@ -189,26 +198,60 @@ module _ {w₀ : List ℕ} {bf : Before} {params : List (List ℕ)} {s t : Table
   pub reply_ran : {t' : Table} {buf buf' : List ℕ} {a : Answer} → AnswersIn w₀ bf t t' buf buf' a (answered r₁) → Replied buf t' params buf' a (answer (held w₀ bf.used params) (step.run (held w₀ bf.used params) x))
   reply_ran a = reply_run begun_run k.ran a
 
--- ---- RD
+-- ---- RD and CN
 
-module _ {w₀ : List ℕ} {bf : Before} {params : List (List ℕ)} {s : Table} {x : Record} {ty : ℕ} (b : Begun w₀ bf params s x (run (looks (ready ty)))) where
+-- a tree of a sound state that is placed leaves one
+placed_sound : (S : State) → sound S ≡ true → (t : Tree) → Fine (arity S) (taken S) t → (S' : State) (ty : ℕ) → build t S ≡ ok (S', ty) → Sound (arity S) S'
+placed_sound S h t f S' ty e = go (build t S) e (place_went f (facts S h) (omega arith))
+  where
+    go : (m : Result (State × ℕ)) → m ≡ ok (S', ty) → Post (arity S) S (WentTo (arity S) S) m → Sound (arity S) S'
+    go (ok x) q (p_ok g w) = subst (λ (m : Result (State × ℕ)). Sound (arity S) (elim m [ ok y ↦ y.0 | err z e ↦ z | refused y ↦ S ])) q w.sound
+    go (err z y) q r = never (cc)
+    go (refused y) q r = never (cc)
+
+fine_tree : {ar : TypeName → ℕ} {vars : ℕ} (how : Spelling) (t : Tree) → FineRecord ar vars (spelled_record how t) → Fine ar vars t
+fine_tree Located t f = f
+fine_tree Canonical t f = f
+
+numbered_if : (s : State) (x : d.Shape Places) → ((v : ℕ) → with_args s x ≡ d.Var v → v < 1024) → Numbered x
+unfolding with_args
+numbered_if s d.UnitType h = tt
+numbered_if s (d.Ref m t) h = tt
+numbered_if s (d.Param id a) h = tt
+numbered_if s (d.Apply k n p) h = tt
+numbered_if s (d.Var v) h = h v refl
+numbered_if s d.Anything h = tt
+numbered_if s d.UnresolvedError h = tt
+
+module _ {w₀ : List ℕ} {bf : Before} {params : List (List ℕ)} {s : Table} {x : Record} {how : Spelling} {ty : ℕ} (b : Begun w₀ bf params s x (run (looks (ready how ty)))) where
+  from_tree : PlacedSpelled (s₀ b) (seen_in s (ds b)) how ty x
+  from_tree = placed_spelled _ _ how ty x b.placed
+
+  fine : Fine (arity (s₀ b)) (taken (s₀ b)) from_tree.tree
+  fine = fine_tree how from_tree.tree (subst (λ (y : Record). FineRecord (arity (s₀ b)) (taken (s₀ b)) y) from_tree.is b.names)
+
+  -- there are no more variables than the table of numbers has places
+  numbered_placed : AllNumbered (tables s)
+  unfolding AllNumbered node type_at seen with_structs
+  numbered_placed t h =
+      let S = seen_in s (ds b) in
+      let q = placed_sound (s₀ b) b.stands.is_sound from_tree.tree fine S ty from_tree.placed in
+      numbered_if S (node S t).value (λ v e. omega (arith, q.var_in t v h e, taken_seen s.words.now s.used (ds b), s.lay.vars))
+
   -- what settle_ready asks
   pub ready_settles : (buf : List ℕ) → 4096 ≤ length buf → ty < s.used.nodes
-      → GrownFrom w₀ bf s × (((ty < s.used.nodes) × (AllBytes (tables s) × (4096 ≤ length buf))) × Still s.words.now s.used bf.used bf.saved.now)
-  ready_settles buf l i = (b.since, ((i, (bytes_placed b, l)), still_placed b))
+      → GrownFrom w₀ bf s × (((ty < s.used.nodes) × ((AllBytes (tables s) × AllNumbered (tables s)) × (4096 ≤ length buf))) × Still s.words.now s.used bf.used bf.saved.now)
+  ready_settles buf l i = (b.since, ((i, ((bytes_placed b, numbered_placed), l)), still_placed b))
 
   -- the words hold no more than fits
   fits_placed : Fits (seen_in s (ds b)) 0 0
   unfolding max_nodes max_args
   fits_placed = (omega (arith, s.lay.nodes, count_seen s.words.now s.used (ds b)), omega (arith, s.lay.args, args_seen s.words.now s.used (ds b)))
 
-  told_placed : step.run (s₀ b) x ≡ with_state (s₀ b) (spell_ready (seen_in s (ds b)) ty)
-  told_placed = go (placed_RD _ _ ty x b.placed) b.names
-    where
-      go : {x : Record} → PlacedRD (s₀ b) (seen_in s (ds b)) ty x → FineRecord (arity (s₀ b)) (taken (s₀ b)) x → step.run (s₀ b) x ≡ with_state (s₀ b) (spell_ready (seen_in s (ds b)) ty)
-      go (placed_as {t = t} e) f = RD_spells (s₀ b) b.stands.is_sound t f (seen_in s (ds b)) ty e fits_placed
+  told_placed : step.run (s₀ b) x ≡ with_state (s₀ b) (spell_ready how (seen_in s (ds b)) ty)
+  told_placed = ap (λ (y : Record). step.run (s₀ b) y) from_tree.is ∙ record_spells how (s₀ b) b.stands.is_sound from_tree.tree fine (seen_in s (ds b)) ty from_tree.placed fits_placed
 
-  pub reply_ready : {t : Table} {buf buf' : List ℕ} {r : Answer} → AnswersIn w₀ bf s t buf buf' r (spelled_by ty) → Replied buf t params buf' r (answer (held w₀ bf.used params) (step.run (held w₀ bf.used params) x))
+  pub reply_ready : {t : Table} {buf buf' : List ℕ} {r : Answer} → AnswersIn w₀ bf s t buf buf' r (spelled_by how ty) → Replied buf t params buf' r (answer (held w₀ bf.used params) (step.run (held w₀ bf.used params) x))
   unfolding held
   reply_ready a = replied_same a (ds b) (lent_declares w₀ params bf.used) (then_declares b) params (stands_arities b.stands) (stands_rows b.stands) _ (ap (answer (s₀ b)) told_placed)
 

@@ -155,6 +155,6 @@ module _ {P : List Cell → Type 0} where
   unfolding step_of
   unkept_leaves r (binds n) s e p = kept_never refl e
   unkept_leaves r (looks (unfolded t)) s e p = outcome_leaves r.result s p
-  unkept_leaves r (looks (ready t)) s e p = ready_tvars_leaves s t p
+  unkept_leaves r (looks (ready how t)) s e p = ready_tvars_leaves s t p
   unkept_leaves r (looks (tparams ps t)) s e p = subst_in_leaves ps t s p
   unkept_leaves r (adds n) s e p = kept_never refl e

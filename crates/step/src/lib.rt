@@ -10,6 +10,7 @@ ghost use Rattle.fields.specs.Noded.{declare, noded, params_of, WhatIn};
 ghost use Rattle.step.specs.Trusted.{StandsIn, Steps, Leaves, Splits};
 ghost use Rattle.step.specs.Replies.{Begins, Ends};
 
+use canonical::Spelling;
 use fields::{Look, Params, What};
 use marks::LookMark;
 use names::AbilitySet;
@@ -64,7 +65,7 @@ fn answer_declared(
 
 // ---- what was read
 
-// What was read and placed is run and answered. RD is told from the placed state, so no call runs it.
+// What was read and placed is run and answered. RD and CN are told from the placed state, so no call runs them.
 fn answer_placed(
     st: &mut State<'_>,
     before: Before<'_>,
@@ -86,7 +87,12 @@ fn answer_placed(
         What::Look(x) => match x {
             Look::One(m, t) => match m {
                 LookMark::UF => run::run_unfold(st, t),
-                LookMark::RD => return answer::settle_ready(st, before, t, buf),
+                LookMark::RD => {
+                    return answer::settle_ready(st, before, t, Spelling::Located, buf);
+                }
+                LookMark::CN => {
+                    return answer::settle_ready(st, before, t, Spelling::Canonical, buf);
+                }
             },
             Look::TS(ps, t) => run::run_tparams(st, ps, t),
         },

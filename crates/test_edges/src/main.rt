@@ -11,7 +11,11 @@ use std::io;
 use std::io::{Read, Write};
 use table::WORDS;
 
+// Of one job's log.
 const ROOM: usize = 262144;
+
+// Of all jobs together.
+const JOBS: usize = 327680;
 
 // The place after the first line end.
 fn after_line(b: &[u8]) -> usize
@@ -154,7 +158,7 @@ fn read_full(mut input: io::Stdin, buf: &mut [u8]) -> io::Result<usize>
 }
 
 fn main(rt: HostRuntime) -> io::Result<()> {
-    let mut buf = [0u8; ROOM];
+    let mut buf = [0u8; JOBS];
     let mut log = [0u8; ROOM];
     let n = read_full(rt.stdin(), &mut buf)?;
     run_jobs(rt.stdout(), &buf[..n], &mut log)

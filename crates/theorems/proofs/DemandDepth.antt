@@ -29,7 +29,7 @@ read_all f (t ∷ ts) = ◌and◌ (f t) (read_all f ts)
 unfoldable pub read_shape : (ℕ → ReadType) → TypeValue → ReadType
 read_shape f UnitType = unit
 read_shape f (Ref m t) = reference m (f t)
-read_shape f (Param id a) = parameter id
+read_shape f (Param id a) = parameter id a
 read_shape f (Apply k n tys) = named k n (read_all f tys)
 read_shape f (Var v) = open_var v
 read_shape f Anything = any

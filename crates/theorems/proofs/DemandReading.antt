@@ -41,7 +41,7 @@ mutual
   rank_refl unresolved = error_below known_error
   rank_refl unit = units
   rank_refl (reference m t) = references (mut_refl m) (rank_refl t)
-  rank_refl (parameter id) = parameters
+  rank_refl (parameter id a) = parameters
   rank_refl (named k n ts) = same_named (ranks_refl ts)
 
   pub ranks_refl : (ts : ReadTypes) → Ranks ts ts

@@ -13,7 +13,7 @@ use Rattle.definition.specs.Join.{join, subtype}
 use Rattle.definition.specs.TParams.{subst_tparams}
 use Rattle.definition.specs.Constraints.{num_vars, solve_constraints}
 use Rattle.definition.specs.Write.{Bytes}
-use Rattle.definition.specs.Record.{NumericKind, Numeric, Bits, Ordered, Record, SD, FV, NV, SN, JN, SU, UF, RD, IN, TS, NC, BC, SC, SV, RM}
+use Rattle.definition.specs.Record.{NumericKind, Numeric, Bits, Ordered, Record, SD, FV, NV, SN, JN, SU, UF, RD, IN, TS, NC, BC, SC, SV, RM, CN}
 use Rattle.definition.specs.Trees.{Tree, arity}
 use Rattle.definition.specs.Build.{build}
 use Rattle.definition.specs.Needs.{Needs, needs}
@@ -159,3 +159,4 @@ module _ (S : State) (s : Sound (arity S) S) where
   run_leaves (SC loc t) f = constrain_leaves t _ (λ ty. refl) f
   run_leaves SV f = solve_leaves
   run_leaves (RM t) f = leaves_returns s (tells S (needs t))
+  run_leaves (CN t) f = leaves_returns s (returns_bind _ (placed t S) (λ a. returns_bind _ (ready_tvars_run ⊥ S true refl a.0 (λ h. absurd h) a.1) (λ b. r_ok)))

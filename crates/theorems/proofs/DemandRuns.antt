@@ -88,7 +88,7 @@ tparams_many s (Multiple n) = length-replicate n 0
 tparams_many s (Builtin b) = refl
 tparams_many s (ModuleType n) = length-map (struct_tparams s n) _
 
-arity_same : (s s' : State) → s'.structs ≡ s.structs → (n : TypeName) → arity s' n ≡ arity s n
+pub arity_same : (s s' : State) → s'.structs ≡ s.structs → (n : TypeName) → arity s' n ≡ arity s n
 unfolding arity struct_tparams
 arity_same s s' e (Multiple n) = refl
 arity_same s s' e (Builtin b) = refl

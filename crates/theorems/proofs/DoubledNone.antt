@@ -24,7 +24,7 @@ use Rattle.definition.specs.Constraints.{undecided, u64, default_num_var, defaul
 use Rattle.definition.specs.Write.{Bytes, u32}
 use Rattle.definition.specs.Reader.{Read, got, not_read}
 use Rattle.definition.specs.Trees.{Tree, unit_tree, anything_tree, error_tree, ref_tree, param_tree, apply_tree, var_tree, Trees, no_trees, ◌then◌}
-use Rattle.definition.specs.Record.{Record, SD, FV, NV, SN, JN, SU, UF, RD, IN, TS, NC, BC, SC, SV, RM, read_record}
+use Rattle.definition.specs.Record.{Record, SD, FV, NV, SN, JN, SU, UF, RD, IN, TS, NC, BC, SC, SV, RM, CN, read_record}
 use Rattle.definition.specs.Needs.{Needs, needs}
 use Rattle.definition.specs.Build.{build, build_all}
 use Rattle.definition.specs.Sound.{sound}
@@ -195,6 +195,7 @@ module _ (s : State) (i : Single s) where
   run_leaves (BC loc t) d = constrain_leaves s i t d _
   run_leaves (SC loc t) d = constrain_leaves s i t d _
   run_leaves (RM t) d = tell_leaves (needs t)
+  run_leaves (CN t) d = bind _ (placed t s) (λ x j. bind _ (ready_tvars_run ⊥ s true refl x.0 unasked x.1) (λ y k. e_ok i))
   run_leaves SV d = bind _ (defaults_goes _ s i) (λ x j. solve_cases x (λ m. Leaves m) (λ failures. e_ok (left_list j []).single) (e_refused (nine refl)) (e_refused (sixteen refl)))
 
   -- ---- the answer

@@ -19,8 +19,9 @@ use Rattle.definition.specs.Constraints.{num_vars, undecided, u64, default_num_v
 use Rattle.definition.specs.Write.{Bytes, u16, write_error}
 use Rattle.definition.specs.Reader.{Read}
 use Rattle.definition.specs.Trees.{Tree, unit_tree, anything_tree, error_tree, ref_tree, param_tree, apply_tree, var_tree, Trees, no_trees, ◌then◌, mark_fits, arity, is_mark, is_name}
-use Rattle.definition.specs.Record.{NumericKind, Numeric, Bits, Ordered, Record, SD, FV, NV, SN, JN, SU, UF, RD, IN, TS, NC, BC, SC, SV, RM}
+use Rattle.definition.specs.Record.{NumericKind, Numeric, Bits, Ordered, Record, SD, FV, NV, SN, JN, SU, UF, RD, IN, TS, NC, BC, SC, SV, RM, CN}
 use Rattle.definition.specs.Build.{build, build_all, build_pairs}
+use Rattle.definition.specs.Canonical.{canonical}
 use Rattle.definition.specs.Needs.{Needs, merge, needs, needs_args, write_needs}
 use Rattle.definition.specs.Sound.{sound}
 use Rattle.definition.specs.Step.{numeric_constraint, constrain, two_types, tell, run, Answer, number_of_error, refusal, put_back, max_payload, answer_with, answer, lent}
@@ -38,6 +39,7 @@ use Rattle.theorems.proofs.Erase.{erase_mark, erase_cell, erase_constraint, eras
 use Rattle.theorems.proofs.Erase.{Erased, er_ok, er_err, er_refused, with_state, er_bind, er_elim, er_opt, sp_erase, next_erase, add_erase, declare_erase}
 use Rattle.theorems.proofs.EraseJoin.{unfold_type_erase, set_num_erase, ready_tvars_erase, join_erase, subtype_erase, subst_erase, instantiate_erase}
 use Rattle.theorems.proofs.EraseRead.{erase_tree, erase_trees, erase_pair, erase_record, blank_nil, length_blank, ReadAlike, w_got, w_not}
+use Rattle.theorems.proofs.Canonical.{canonical_erase}
 use Rattle.theorems.proofs.EraseWrite.{NameFits, Fits, Fitting, spanned_row, write_row, var_row, error_shown, Shown, shown_told, shown_refused, constraints_shown}
 
 -- ---- placing
@@ -152,7 +154,7 @@ module _ (S s : State) (few : length S.structs ≤ max_structs) (w : Sound (arit
       go true e = f (ltb→lt t (count s) (test e))
       go false e = rw (outside t (nltb→le t (count s) (test (ap not e)))) out
 
-  fitting : Fitting S s
+  pub fitting : Fitting S s
   unfolding parts
   fitting = record {
     fits = λ t. in_or_out (Fits S) tt t (λ i. value_fits t i (type_at s t) refl (r t));
@@ -252,6 +254,7 @@ module _ (S : State) (h : sound S ≡ true) where
   run_erase (SC loc t) = constrain_erase t _ _ (λ ty. refl)
   run_erase SV = solve_erase
   run_erase (RM t) = rw (needs_erase t) (tell_erase (needs t))
+  run_erase (CN t) = er_bind _ _ (place_erase t S) (λ x. er_bind _ _ (ready_tvars_erase x.0 x.1) (λ y. er_ok (rw (canonical_erase y.0 y.1, blank_nil S (canonical y.0 y.1)) refl)))
 
 -- ---- the answer
 

@@ -12,7 +12,7 @@ use Rattle.definition.specs.TParams.{subst_tparams}
 use Rattle.definition.specs.Write.{Bytes}
 use Rattle.definition.specs.Reader.{got}
 use Rattle.definition.specs.Trees.{Tree}
-use Rattle.definition.specs.Record.{Record, UF, RD, TS, RM, read_record}
+use Rattle.definition.specs.Record.{Record, UF, RD, TS, RM, CN, read_record}
 use Rattle.definition.specs.Step.{tell, run, refusal, max_payload, answer_with, answer, lent, step, max_buffer}
 use Rattle.definition.specs.Needs.{Needs, needs}
 use Rattle.definition.specs.Sound.{sound}
@@ -27,6 +27,7 @@ pub data Looks : Record → Type 0 where
   readies : {t : Tree} → Looks (RD t)
   substitutes : {ps : List (ℕ × Tree)} {t : Tree} → Looks (TS ps t)
   tells : {t : Tree} → Looks (RM t)
+  spells : {t : Tree} → Looks (CN t)
 
 -- no error is met, and a success leaves the state s
 abbrev Back : State → Result (State × Bytes) → Type 0
@@ -46,6 +47,8 @@ goes_back s (TS ps t) substitutes =
     bind _ (pairs_run ⊥ s true ps (λ h. absurd h) s (λ h. absurd h)) (λ x i. bind _ (place_run ⊥ s true t (λ h. absurd h) x.0 i)
     (λ r j. bind _ (make_run ⊥ s true x.1) (λ subst p. bind _ (subst_run ⊥ s true refl _ subst r.0 j r.1) (λ y k. e_ok refl))))
 goes_back s (RM t) tells = tell_back s (needs t)
+goes_back s (CN t) spells =
+    bind _ (place_run ⊥ s true t (λ h. absurd h) s (λ h. absurd h)) (λ x j. bind _ (ready_tvars_run ⊥ s true refl x.0 j x.1) (λ r k. e_ok refl))
 goes_back s x l = elim l [ ]
 
 with_back : (s after : State) (payload : Bytes) → after ≡ s → (answer_with s 0 payload after).state ≡ s

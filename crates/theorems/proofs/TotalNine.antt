@@ -7,33 +7,38 @@ use mathlib.Core.List.{List, [], ◌∷◌}
 use Rattle.std.specs.Prelude.{Option, None, Some}
 use Prim.Native.Nat.{ℕ, zero, suc, ◌*◌, ◌≤◌, ◌<◌}
 use native.Mathlib.Omega.{arith}
-use Rattle.definition.specs.Types.{TypeValue, UnitType, Ref, Param, Apply, Var, Anything, UnresolvedError, State, runs_into_itself, Result, ok, err, refused, ◌>>=◌}
+use Rattle.definition.specs.Types.{TypeName, TypeValue, UnitType, Ref, Param, Apply, Var, Anything, UnresolvedError, State, runs_into_itself, Result, ok, err, refused, ◌>>=◌}
 use Rattle.definition.specs.Store.{count, type_at, loc_of, get, sp, map_types}
 use Rattle.definition.specs.Subst.{forward_tvar, reaches_itself, ready_value, ready, ready_tvars}
 use Rattle.definition.specs.Trees.{arity}
 use Rattle.definition.specs.Sound.{sound}
 use Rattle.definition.specs.Rank.{RunsIntoItself}
 use Rattle.theorems.proofs.DemandTracks.{never}
+use Rattle.theorems.proofs.DemandOrder.{Sound}
 use Rattle.theorems.proofs.SoundFacts.{facts}
+use Rattle.theorems.specs.ReadySpelled.{Located}
 use Rattle.theorems.proofs.ReadyTold.{Reads, made, no_place, reads}
 use Rattle.theorems.proofs.TotalReading.{reaches_is_runs}
 
 -- 9 just where the type runs into a variable that reaches itself
-pub ready_nine : (S : State) → sound S ≡ true → (t : ℕ) → t < count S → (ready_tvars S t ≡ refused runs_into_itself) ↔ RunsIntoItself S (type_at S t)
+pub nine_in : {ar : TypeName → ℕ} {S : State} → Sound ar S → (t : ℕ) → t < count S → (ready_tvars S t ≡ refused runs_into_itself) ↔ RunsIntoItself S (type_at S t)
 unfolding ready_tvars reaches_itself
-ready_nine S h t i = (there (reaches_itself S t) refl, λ l. back ((reaches_is_runs (facts S h) t i).1 l))
+nine_in {ar} {S} s t i = (there (reaches_itself S t) refl, λ l. back ((reaches_is_runs s t i).1 l))
   where
-    other : {n p : ℕ} {P : State → ℕ → Type 0} (m : Result (State × ℕ)) → Reads (arity S) P S n p m → m ≡ refused runs_into_itself → ⊥
+    other : {n p : ℕ} {P : State → ℕ → Type 0} (m : Result (State × ℕ)) → Reads ar P S n p m → m ≡ refused runs_into_itself → ⊥
     other (ok x) (made a j) e = never (cc)
     other (err s x) r e = elim r [ ]
     other (refused x) (no_place d) e = never (cc)
 
     there : (b : Bool) → reaches_itself S t ≡ b → ◌≡◌ {A = Result (State × ℕ)} (elim b [ true ↦ refused runs_into_itself | false ↦ ready (2 * count S) S t ]) (refused runs_into_itself) → RunsIntoItself S (type_at S t)
-    there true e r = (reaches_is_runs (facts S h) t i).0 e
-    there false e r = absurd (other _ (reads (facts S h) t i e (2 * count S) (omega arith)) r)
+    there true e r = (reaches_is_runs s t i).0 e
+    there false e r = absurd (other _ (reads s t i Located e (2 * count S) (omega arith)) r)
 
     back : reaches_itself S t ≡ true → ◌≡◌ {A = Result (State × ℕ)} (elim (reaches_itself S t) [ true ↦ refused runs_into_itself | false ↦ ready (2 * count S) S t ]) (refused runs_into_itself)
     back e = rw e refl
+
+pub ready_nine : (S : State) → sound S ≡ true → (t : ℕ) → t < count S → (ready_tvars S t ≡ refused runs_into_itself) ↔ RunsIntoItself S (type_at S t)
+ready_nine S h t i = nine_in (facts S h) t i
 
 -- ---- more calls give the same
 
@@ -80,7 +85,7 @@ ready_fuller (suc n) (suc m) l s t = value_fuller (λ s t. ready n s t) (λ s t.
 
 pub ready_enough : (S : State) → sound S ≡ true → (t : ℕ) → t < count S → reaches_itself S t ≡ false → (n : ℕ) → 2 * count S ≤ n → ready n S t ≡ ready (2 * count S) S t
 unfolding reaches_itself
-ready_enough S h t i e n l = go (ready_fuller (2 * count S) n l S t) (reads (facts S h) t i e (2 * count S) (omega arith))
+ready_enough S h t i e n l = go (ready_fuller (2 * count S) n l S t) (reads (facts S h) t i Located e (2 * count S) (omega arith))
   where
     go : {n p : ℕ} {P : State → ℕ → Type 0} {m m' : Result (State × ℕ)} → Fuller m m' → Reads (arity S) P S n p m → m' ≡ m
     go same r = refl

@@ -276,6 +276,10 @@ module _ {ar : TypeName → ℕ} {S : State} (s : Sound ar S) where
   ends_whole : (n : ℕ) (L : TypeValue) → In S L → EndsWithin S n L → ReadWhole S L
   ends_whole n L i w = record { is = unrolled any n S L; reads = ends_read s any n L i w; depth = n; enough = λ rest m h. unrolled_same any rest S n m L h w }
 
+-- the same of a state that is known to be sound otherwise
+pub readable_in : {ar : TypeName → ℕ} {S : State} → Sound ar S → (t : ℕ) → t < count S → ¬ RunsIntoItself S (type_at S t) → ReadWhole S (type_at S t)
+readable_in {S = S} s t i n = ends_whole s (count S) (type_at S t) (type_is_in s i) (type_ends s t i n)
+
 pub readable_type : (S : State) → sound S ≡ true → (t : ℕ) → t < count S → ReadWhole S (type_at S t) ↔ (¬ RunsIntoItself S (type_at S t))
 readable_type S h t i = let s = facts S h in ((λ r. reads_clear r.reads), λ n. ends_whole s (count S) (type_at S t) (type_is_in s i) (type_ends s t i n))
 

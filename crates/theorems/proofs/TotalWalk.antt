@@ -22,7 +22,7 @@ use Rattle.definition.specs.Instantiate.{make_tvar, tvar_constraint, builtin_tpa
 use Rattle.definition.specs.Abilities.{primitives, has}
 use Rattle.definition.specs.Constraints.{num_vars, undecided, u64, default_num_var, default_num_vars, solve_constraints}
 use Rattle.definition.specs.Trees.{Tree, unit_tree, anything_tree, error_tree, ref_tree, param_tree, apply_tree, var_tree, Trees, no_trees, ◌then◌, has_drop, mark_fits, is_set, is_mark, is_name}
-use Rattle.definition.specs.Record.{NumericKind, Numeric, Bits, Ordered, Record, SD, FV, NV, SN, JN, SU, UF, RD, IN, TS, NC, BC, SC, SV, RM}
+use Rattle.definition.specs.Record.{NumericKind, Numeric, Bits, Ordered, Record, SD, FV, NV, SN, JN, SU, UF, RD, IN, TS, NC, BC, SC, SV, RM, CN}
 use Rattle.definition.specs.Build.{build, build_all, build_pairs}
 use Rattle.definition.specs.Needs.{Needs, needs}
 use Rattle.definition.specs.Sound.{numeric_allowed}
@@ -395,4 +395,5 @@ module _ (H : Type 0) (b : State) (z : Bool) where
   run_walk y s i (BC loc t) f = constrain_run s i t (λ h. (f h).1) _ (λ ty h. (f h).0)
   run_walk y s i (SC loc t) f = constrain_run s i t (λ h. (f h).1) _ (λ ty h. (f h).0)
   run_walk y s i (RM t) f = tell_run s i (needs t)
+  run_walk y s i (CN t) f = bind _ (place_run t f s i) (λ x j. bind _ (ready_tvars_run y x.0 j x.1) (λ r k. e_ok i))
   run_walk y s i SV f = bind _ (starts_run s i) (λ x j. solve_cases x Run (λ failures. e_ok (λ h. cleared_ranges (j h))) (e_refused (nine y)) (e_refused (sixteen y)))

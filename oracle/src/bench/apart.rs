@@ -87,6 +87,8 @@ pub fn rows() -> Vec<Row> {
         over("UF", 0, |i| format!("UF V{}", i)),
         over("RD, a variable", 0, |i| format!("RD V{}", i)),
         over("RD, a list", 0, |i| format!("RD (V{}, vector<V{}>)", i, 16 + i % 8)),
+        over("CN, a variable", 0, |i| format!("CN V{}", i)),
+        over("CN, a list", 0, |i| format!("CN (V{}, vector<V{}>)", i, 16 + i % 8)),
         over("TS", 0, |i| format!("TS [P1 = V{}] (P1, vector<P1>)", i)),
         each("IN", "IN S0<_>"),
         each("RM", "RM S0<_>"),
@@ -237,13 +239,20 @@ fn asking_chain(n: usize, last: Option<u8>) -> lent::Lent {
     s
 }
 
-/// lists of lists of eight, with `n` times V0 at their ends
-fn ends(n: usize) -> String {
+/// so many open variables
+fn taken(n: usize) -> lent::Lent {
+    let mut s = fresh();
+    (0..n).for_each(|_| assert!(s.add_var().is_some()));
+    s
+}
+
+/// lists of lists of eight, with `n` variables at their ends
+fn ends(n: usize, variable: fn(usize) -> usize) -> String {
     let nest = |parts: Vec<String>| {
         let lists = parts.chunks(8).map(|c| if c.len() == 1 { c[0].clone() } else { format!("({})", c.join(", ")) });
         lists.collect::<Vec<_>>()
     };
-    nest(nest(nest(vec!["V0".into(); n]))).remove(0)
+    nest(nest(nest((0..n).map(|i| format!("V{}", variable(i))).collect()))).remove(0)
 }
 
 /// the best of some runs of one lent record: its answer, and seconds
@@ -263,7 +272,8 @@ fn lent_table(calls: &(dyn Calls + Sync), runs: usize) -> String {
     let [middle, large] = SIZES.map(|n| Marks::new(calls, n).state);
     let (long, half, numeric) = (chain(1000), chain(500), numeric_chain(1000));
     let (open, signer) = (asking_chain(1000, None), asking_chain(1000, Some(1)));
-    let wide = format!("RD {}", ends(504));
+    let [apart, numbered] = ["RD", "CN"].map(|mark| format!("{} {}", mark, ends(504, |i| i)));
+    let [wide, spelled] = ["RD", "CN"].map(|mark| format!("{} {}", mark, ends(504, |_| 0)));
     for (state, lent, record, shown) in [
         ("fresh", &fresh(), "UF u8", "UF u8"),
         ("100 variables", &middle, "UF V0", "UF V0"),
@@ -272,6 +282,10 @@ fn lent_table(calls: &(dyn Calls + Sync), runs: usize) -> String {
         ("chain of 1,000", &long, "UF V0", "UF V0"),
         ("chain of 1,000", &long, "RD V0", "RD V0"),
         ("chain of 1,000", &long, &wide, "RD of a list with 504 V0"),
+        ("chain of 1,000", &long, "CN V0", "CN V0"),
+        ("chain of 1,000", &long, &spelled, "CN of a list with 504 V0"),
+        ("504 variables", &taken(504), &apart, "RD of a list with 504 variables"),
+        ("504 variables", &taken(504), &numbered, "CN of a list with 504 variables"),
         ("chain of 1,000", &long, "RD V1000", "RD of a list with 4,096 V0"),
         ("chain of 500", &half, "JN V500, V501", "JN of 4,096 V0 and V1"),
         ("chain of 1,000", &numeric, "SV", "SV, numeric, 512 constraints"),

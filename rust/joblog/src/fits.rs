@@ -35,7 +35,7 @@ fn numbers(r: &Record) -> &'static [usize] {
         Record::JN(..) => &[0, 2, 3, 4, 7, 8, 10, 14],
         Record::SU(..) => &[0, 1, 2, 3, 4, 7, 8, 10, 14],
         Record::UF(_) => &[0, 7, 14],
-        Record::RD(_) => &[0, 7, 9, 14],
+        Record::RD(_) | Record::CN(_) => &[0, 7, 9, 14],
         Record::TS(..) => &[0, 7, 11, 12, 13, 14],
         Record::IN(_) => &[0, 7, 11],
         Record::RM(_) => &[0, 11],
@@ -254,6 +254,7 @@ impl State {
                 (self.low..=self.high).contains(&(*v as usize)) && (*v as usize) < MAX_VARS
             }
             (r, Outcome::Type(t)) => self.typed(r, t),
+            (Record::CN(u), Outcome::Spelled(t)) => like(&u.numbered(), t, true),
             _ => false,
         }
     }
@@ -295,7 +296,7 @@ impl State {
             (n, Record::TS(args, t)) => {
                 replaced(args, t).is_err_and(|m| m == n || (m, n) == (11, 12) || (m, n) == (12, 11))
             }
-            (9 | 14, Record::UF(t) | Record::RD(t)) => open(t),
+            (9 | 14, Record::UF(t) | Record::RD(t) | Record::CN(t)) => open(t),
             (9 | 16, Record::SV) => self.constraints.iter().any(|c| c.code == 4),
             _ => true,
         }

@@ -53,7 +53,7 @@ const fn row(mark: &[u8; 2], fields: &'static [Part], payload: &'static [Part]) 
     Mark { mark: *mark, fields, payload }
 }
 
-const MARKS: [Mark; 15] = [
+const MARKS: [Mark; 16] = [
     row(b"SD", &[], &[]),
     row(b"FV", &LOC, &[Types]),
     row(b"NV", &LOC, &[Types]),
@@ -69,6 +69,7 @@ const MARKS: [Mark; 15] = [
     row(b"SC", &[Location, Location, Location, Location, Type], &[Types]),
     row(b"SV", &[], &[Failures]),
     row(b"RM", &[Type], &[]),
+    row(b"CN", &[Type], &[]),
 ];
 
 fn of_mark(record: &[u8]) -> Option<&'static Mark> {

@@ -17,13 +17,21 @@ pub struct Book {
 pub struct Names<'a> {
     own: Option<&'a Part>,
     every: Option<&'a Part>,
+    no_variables: bool,
 }
 
 impl<'a> Names<'a> {
     /// The name of a struct (`S`), parameter (`P`), variable (`V`) or location (`@`).
     pub fn of(&self, kind: char, number: u32) -> Option<&'a str> {
         let found = |part: Option<&'a Part>| part.and_then(|p| p.get(&(kind, number)));
+        if kind == 'V' && self.no_variables {
+            return None;
+        }
         found(self.own).or_else(|| found(self.every)).map(String::as_str)
+    }
+    /// .. of structs, parameters and locations alone
+    pub fn without_variables(self) -> Self {
+        Names { no_variables: true, ..self }
     }
     /// a location by its name, or as `@236`
     pub fn place(&self, loc: u32) -> String {
@@ -84,6 +92,6 @@ impl Book {
 
     /// The names of the job JOBS/`name`.
     pub fn job(&self, name: &str) -> Names<'_> {
-        Names { own: self.jobs.get(name), every: Some(&self.every) }
+        Names { own: self.jobs.get(name), every: Some(&self.every), no_variables: false }
     }
 }

@@ -20,6 +20,8 @@ pub enum Outcome {
     Declared(u16),
     /// 0 of FV, NV, JN, SU, UF, RD, TS, IN
     Type(Ty),
+    /// 0 of CN: without locations, its variables no variables of the job but numbers, by first appearance
+    Spelled(Ty),
     /// 0 of RM: nodes, argument places, variables, constraints
     Needs([u32; 4]),
     /// 0 of SV: the constraints that failed, at least one
@@ -61,12 +63,15 @@ pub enum Rule {
 impl Outcome {
     /// Whether nothing is wrong. Not so for a 0 of SV with failed constraints.
     pub fn is_well(&self) -> bool {
-        matches!(self, Outcome::Done | Outcome::Declared(_) | Outcome::Type(_) | Outcome::Needs(_))
+        matches!(
+            self,
+            Outcome::Done | Outcome::Declared(_) | Outcome::Type(_) | Outcome::Spelled(_) | Outcome::Needs(_)
+        )
     }
-    /// one more than the highest variable that it shows
+    /// at least so many variables are taken: one more than the highest that it shows; a spelling numbers those in it
     pub fn taken(&self) -> usize {
         match self {
-            Outcome::Type(t) => t.taken(),
+            Outcome::Type(t) | Outcome::Spelled(t) => t.taken(),
             Outcome::Mismatch(_, a, b) => a.taken().max(b.taken()),
             Outcome::Failed(fs) => fs.iter().map(|f| f.ty.taken()).max().unwrap_or(0),
             _ => 0,
@@ -183,6 +188,10 @@ impl Rest<'_> {
             Record::SN(..) | Record::NC(..) | Record::BC(..) | Record::SC(..) => Ok(Outcome::Done),
             Record::JN(..) | Record::SU(..) | Record::TS(..) => self.ty().map(Outcome::Type),
             Record::UF(_) | Record::RD(_) | Record::IN(_) | Record::XP(_) => self.ty().map(Outcome::Type),
+            Record::CN(_) => match self.ty()? {
+                ty if ty == ty.numbered() => Ok(Outcome::Spelled(ty)),
+                _ => no("its payload has a location, or its variables are not numbered by first appearance"),
+            },
         }
     }
 }

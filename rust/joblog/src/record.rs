@@ -70,6 +70,8 @@ pub enum Record {
     SV,
     /// 02's R-3
     RM(Ty),
+    /// 02's R-12
+    CN(Ty),
     /// 02's R-5; malformed in the base
     XP(Ty),
 }
@@ -263,6 +265,7 @@ impl<'a> Reader<'a> {
             b"SC" => Record::SC(self.u32()?, self.ty(1)?),
             b"SV" => Record::SV,
             b"RM" => Record::RM(self.ty(1)?),
+            b"CN" => Record::CN(self.ty(1)?),
             b"XP" if self.known.expand => Record::XP(self.ty(1)?),
             _ => return malformed(0, "no record has this mark"),
         })
@@ -354,6 +357,22 @@ impl Ty {
         self.parts().iter().any(|t| is_ref(self) && is_ref(t) || t.has_doubled())
     }
 
+    /// The same without locations, each variable as its number by first appearance, left to right, from 0.
+    pub fn numbered(&self) -> Ty {
+        self.numbered_on(&mut vec![])
+    }
+
+    /// `met`: the variables met before it, in order
+    fn numbered_on(&self, met: &mut Vec<u16>) -> Ty {
+        if let Kind::Var(v) = self.kind {
+            let number = met.iter().position(|w| *w == v).unwrap_or(met.len());
+            met.resize(met.len().max(number + 1), v);
+            return Ty { loc: 0, kind: Kind::Var(number as u16) };
+        }
+        let parts = self.parts().iter().map(|t| t.numbered_on(met)).collect();
+        Ty { loc: 0, ..self.with_parts(parts) }
+    }
+
     /// one more than the highest variable in it
     pub fn taken(&self) -> usize {
         let own = if let Kind::Var(v) = self.kind { v as usize + 1 } else { 0 };
@@ -367,7 +386,8 @@ impl Record {
             Record::SD(..) | Record::FV(_) | Record::NV(_) | Record::SN(..) | Record::SV => vec![],
             Record::JN(a, b) | Record::SU(a, b) => vec![a, b],
             Record::TS(args, t) => args.iter().map(|(_, a)| a).chain([t]).collect(),
-            Record::UF(t) | Record::RD(t) | Record::IN(t) | Record::RM(t) | Record::XP(t) => vec![t],
+            Record::UF(t) | Record::RD(t) | Record::IN(t) => vec![t],
+            Record::RM(t) | Record::CN(t) | Record::XP(t) => vec![t],
             Record::NC(_, _, t) | Record::BC(_, t) | Record::SC(_, t) => vec![t],
         }
     }
@@ -395,6 +415,7 @@ impl Record {
             Record::SC(..) => "SC",
             Record::SV => "SV",
             Record::RM(..) => "RM",
+            Record::CN(..) => "CN",
             Record::XP(..) => "XP",
         }
     }
@@ -431,7 +452,7 @@ impl Record {
                 b.write(&mut out)
             }
             Record::UF(t) | Record::RD(t) | Record::TS(_, t) | Record::IN(t) => t.write(&mut out),
-            Record::RM(t) | Record::XP(t) => t.write(&mut out),
+            Record::RM(t) | Record::CN(t) | Record::XP(t) => t.write(&mut out),
             Record::NC(_, _, t) | Record::BC(_, t) | Record::SC(_, t) => t.write(&mut out),
             _ => (),
         }

@@ -52,6 +52,7 @@ pub fn answer<'a>(p: &Pair, printer: impl Into<Printer<'a>>) -> String {
         Outcome::Mismatch(1, a, b) => format!("{}: {} where {} is wanted", said, text(a), text(b)),
         Outcome::Mismatch(_, a, b) => format!("{}: {} and {}", said, text(a), text(b)),
         Outcome::Type(t) => format!("{} {}", said, text(t)),
+        Outcome::Spelled(t) => format!("{} {}", said, printer.without_variables().ty(t)),
         Outcome::Done | Outcome::Refused(_) => said.into(),
     }
 }

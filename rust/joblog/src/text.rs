@@ -38,6 +38,11 @@ struct Marked<'t> {
 }
 
 impl Printer<'_> {
+    /// For a spelling, whose variables are numbers and none of the job's.
+    pub fn without_variables(self) -> Self {
+        Printer { names: self.names.without_variables(), ..self }
+    }
+
     pub fn ty(&self, t: &Ty) -> String {
         self.marked(t, None).0
     }
@@ -161,7 +166,8 @@ impl Printer<'_> {
                 vec![format!("{} {}", self.named('V', *v as u32), self.at(*loc)).trim_end().into()]
             }
             Record::JN(a, b) | Record::SU(a, b) => vec![self.ty(a), self.ty(b)],
-            Record::UF(t) | Record::RD(t) | Record::IN(t) | Record::RM(t) | Record::XP(t) => vec![self.ty(t)],
+            Record::UF(t) | Record::RD(t) | Record::IN(t) => vec![self.ty(t)],
+            Record::RM(t) | Record::CN(t) | Record::XP(t) => vec![self.ty(t)],
             Record::TS(args, t) => {
                 let one = |(id, t): &(u32, Ty)| format!("{} = {}", self.named('P', *id), self.ty(t));
                 vec![format!("[{}] {}", args.iter().map(one).collect::<Vec<_>>().join(", "), self.ty(t))]
@@ -485,6 +491,7 @@ impl Parser<'_> {
             "SC" => Record::SC(self.loc()?, self.ty()?),
             "SV" => Record::SV,
             "RM" => Record::RM(self.ty()?),
+            "CN" => Record::CN(self.ty()?),
             _ => return Err(format!("`{}` is no mark", mark)),
         })
     }

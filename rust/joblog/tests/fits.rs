@@ -72,6 +72,11 @@ fn other_records() {
         ),
         ("RD vector<u8@1>@2", "0 0302000000000503010000000002", &["0 0302000000000503010000000006", "9", "14", "2"]),
         (
+            "CN vector<u8@1>@2",
+            "0 0300000000000503000000000002",
+            &["0 0302000000000503010000000002", "0 0300000000000503000000000006", "9", "14", "2", "11"],
+        ),
+        (
             "TS [P1 = u8@1] vector<P1@2>@3",
             "0 0303000000000503010000000002",
             &["0 0303000000000503020000000002", "12", "13", "11"],
@@ -128,6 +133,14 @@ fn variables_as_the_job_has_them() {
     assert!(wrong("FV @1\nFV @2", &log(&["0 06010000000000", "0 06020000000200"])).is_some());
     assert!(wrong("FV @1\nUF V0@2", &log(&["0 06010000000000", "0 06020000000100"])).is_some());
     assert!(wrong("UF V0@2", &log(&["0 0702000000"])).is_some());
+    // a spelling has numbers and no variables, yet no more of them than there are
+    let spelled = |payload: &str| log(&["0 06010000000000", "0 06020000000100", payload, "0 06050000000200"]);
+    let job = "FV @1\nFV @2\nCN (V1@3,)@4\nFV @5";
+    assert_eq!(wrong(job, &spelled("0 0400000000000106000000000000")), None);
+    assert!(wrong(job, &spelled("0 0400000000000106000000000100")).is_some());
+    let three = "0400000000000106000000000000"
+        .replace("06000000000000", "040000000000030600000000000006000000000100060000000002 00");
+    assert!(wrong(job, &spelled(&format!("0 {}", three.replace(' ', "")))).is_some());
     // an answer that is 6 names the first variable that is not taken
     assert_eq!(wrong("FV @1\nUF V1@2", &log(&["0 06010000000000", "6"])), None);
     assert!(wrong("FV @1\nUF V0@2", &log(&["0 06010000000000", "6"])).is_some());

@@ -51,6 +51,16 @@ fn a_zero_of_each_mark() {
     assert!(
         said("SD {}", 0, b"\x01\0").is_err() && said("SD {}", 0, b"").is_err() && said("SD {}", 0, b"\0\0\0").is_err()
     );
+    // without locations, variables by first appearance
+    let first = |v: u8| [b"\x06\0\0\0\0", &[v, 0][..]].concat();
+    let pair = |a: u8, b: u8| [&b"\x04\0\0\0\0\0\x02"[..], &first(a), &first(b)].concat();
+    let spelled = said("CN V0", 0, &pair(0, 1)).unwrap();
+    assert!(matches!(&spelled, Outcome::Spelled(t) if t.bytes() == pair(0, 1)) && spelled.is_well());
+    assert_eq!((spelled.taken(), spelled.number()), (2, 0));
+    assert!(said("CN V0", 0, &pair(0, 0)).is_ok());
+    for wrong in [U8, V0, b"", &first(1), &pair(0, 2), &pair(1, 0), &[first(0), first(0)].concat(), &first(0)[..6]] {
+        assert!(said("CN V0", 0, wrong).is_err(), "{:?}", wrong)
+    }
     let four = [1, 0, 0, 0, 2, 0, 0, 0, 3, 0, 0, 0, 4, 0, 0, 0];
     assert_eq!(said("RM u8", 0, &four), Ok(Outcome::Needs([1, 2, 3, 4])));
     assert!(said("RM u8", 0, &four[1..]).is_err() && said("RM u8", 0, &[&four[..], b"\0"].concat()).is_err());

@@ -326,5 +326,16 @@ fn numbers_by_their_names() {
     };
     let full = "5 JN  V3 (coin)@1  ~  0xA::receipt::Receipt<T@receipt.move:41:9>@5   → typed V3 (coin)@1";
     assert_eq!(last("receipt/new", Detail::Full), full);
-    assert_eq!(last("receipt/old", Detail::Types), "5 JN  V3  ~  0xA::receipt::Receipt<T>   → typed V3")
+    assert_eq!(last("receipt/old", Detail::Types), "5 JN  V3  ~  0xA::receipt::Receipt<T>   → typed V3");
+    // the numbers in a spelling are no variables, so V3's name is not V0's or theirs
+    let job = assemble("FV\nFV\nFV\nFV\nSD {}<{copy}>\nCN (V3@1, S0<P7@236>@5, V0, V1, V2)", false).unwrap();
+    let log = log[..4 * "0 0 06000000000000\n".len()].to_string()
+        + "4 0 0000\n5 0 0400000000000506000000000000"
+        + "050000000000000002000000000700000000"
+        + "060000000001000600000000020006000000000300\n";
+    let (lines, summary) = show(&job, &log, Options { names: book.job("receipt/new"), ..Options::default() });
+    assert_eq!(summary.code(), 0, "{}", summary.text());
+    let wanted =
+        "5 CN  (V3 (coin), 0xA::receipt::Receipt<T>, V0, V1, V2)   → typed (V0, 0xA::receipt::Receipt<T>, V1, V2, V3)";
+    assert_eq!(lines.lines().last(), Some(wanted))
 }

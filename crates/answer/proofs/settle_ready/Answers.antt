@@ -13,11 +13,11 @@ answer_spelled-told-requires-clause-still g c = let b = c.since-before.ensures i
 pub invariant_of-st : goal.invariant_of-st
 invariant_of-st g c =
     let b = c.since-before.ensures in
-    let a = c.answer_spelled-told.ensures c.args.t c.args.buf.now _ c.spell_type-spelled.ensures in
+    let a = c.answer_spelled-told.ensures _ c.args.t c.args.buf.now _ c.spell_type-spelled.ensures in
     record { lay = ((rw (b.0, b.1.0, b.1.1) at a).settled _ c.requires.0.since).lay }
 
 pub returns : goal.returns
 returns g c =
     let b = c.since-before.ensures in
-    let a = rw (b.0, b.1.0, b.1.1) at (c.answer_spelled-told.ensures c.args.t c.args.buf.now _ c.spell_type-spelled.ensures) in
+    let a = rw (b.0, b.1.0, b.1.1) at (c.answer_spelled-told.ensures _ c.args.t c.args.buf.now _ c.spell_type-spelled.ensures) in
     answers_in _ c.args.before _ _ _ _ _ _ c.requires.0 (linked_stay _ _ _ refl refl refl c.requires.0.many a.stay) refl a

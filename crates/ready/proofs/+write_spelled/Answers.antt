@@ -1,67 +1,73 @@
+use mathlib.Core.Path.{◌≡◌}
+use Prim.Native.Nat.{◌+◌}
 use native.Mathlib.Omega.{arith}
-use mathlib.Core.List.{[]}
 use Rattle.table.proofs.Grown.{loc_is}
 use Rattle.shapes.proofs.Nodes.{at_node, part_low}
-use Rattle.writer.proofs.Turns.{write_none, goes_more, write_all, part_room, bytes_at, head_room}
-use Rattle.ready.proofs.Told.{leads_in, spells_none, spells_open, spells_node}
+use Rattle.writer.proofs.Turns.{bytes_at}
+use Rattle.ready.proofs.Told.{leads_in, end_numbered, shape_numbered, goes_none, open_fits, goes_open, head_fits, going_none, knows_then, part_fits, going_more, going_all}
 use Rattle.ready.proofs.+write_spelled.Goals as goal
 
 pub returns-in_default : goal.returns-in_default
-returns-in_default t c = spells_none c.args.chains.now.st.now c.args.t c.args.left _ _ (omega (arith, c.in_default.ensures)) c.requires.fits
+returns-in_default g t c = goes_none _ g.H.Heads.met c.args.chains.now.st.now c.args.t c.args.left _ _ _ c.requires.known c.requires.fits (omega (arith, c.in_default.ensures))
 
-pub write_head-requires : goal.write_head-requires
-write_head-requires t c = (tt, rw (spells_open {left = c.args.left} c.in-Some.below (omega (arith, c.in-Some.ensures)) _ c.lead.ensures _ _ c.in-Open.is []) (c.requires.fits []))
+pub write_head-requires-clause-fits : goal.write_head-requires-clause-fits
+write_head-requires-clause-fits g t c = (
+  (tt, end_numbered _ c.requires.in_use.1.1 _ c.requires.in_use.0 _ _ _ c.in-Open.is c.lead.ensures),
+  open_fits g.H.Heads.spelling g.H.Heads.met _ c.args.t c.args.left _ _ _ c.requires.known c.requires.fits c.in-Some.below (omega (arith, c.in-Some.ensures)) _ c.lead.ensures _ _ c.in-Open.is,
+)
 
 pub returns-in-Open : goal.returns-in-Open
-returns-in-Open t c ds = rw (← spells_open {left = c.args.left} c.in-Some.below (omega (arith, c.in-Some.ensures)) _ c.lead.ensures _ _ c.in-Open.is ds) c.write_head.ensures
+returns-in-Open g t c = goes_open _ g.H.Heads.met _ c.args.t c.args.left _ _ _ c.requires.known c.requires.fits c.in-Some.below (omega (arith, c.in-Some.ensures)) _ c.lead.ensures _ _ c.in-Open.is c.write_head.ensures
 
-pub write_head-next-requires : goal.write_head-next-requires
-write_head-next-requires t c = let args = c.args in
-    let pre = c.requires in
+pub write_head-next-requires-clause-fits : goal.write_head-next-requires-clause-fits
+write_head-next-requires-clause-fits g t c =
+    let args = c.args in
     let node_at = c.node_at-n in
-    let k = spells_node c.in-Some.below (omega (arith, c.in-Some.ensures)) _ c.lead.ensures _ c.in-Node.is in
-    let a = at_node _ _ _ _ node_at.result args.chains.now.st.now.lay (leads_in c.lead.ensures c.in-Node.is) node_at.ensures c.part_count-many.ensures in
-    (bytes_at a pre.all_bytes.1, head_room k a args.buf.now _ pre.fits _ (λ ds. loc_is _ _ node_at.result (node_at.ensures ds)))
+    let a = at_node _ _ _ _ node_at.result args.chains.now.st.now.lay (leads_in c.lead.ensures c.in-Node.is) node_at.ensures c.part_count-many.ensures in (
+      (bytes_at a c.requires.in_use.1.0, shape_numbered a c.requires.in_use.1.1),
+      head_fits g.H.Heads.spelling g.H.Heads.met _ args.t args.left _ _ _ c.requires.known c.requires.fits c.in-Some.below (omega (arith, c.in-Some.ensures)) _ c.lead.ensures _ c.in-Node.is a _,
+    )
 
 pub loop-i-init : goal.loop-i-init
-loop-i-init t c = (omega arith, λ E h. h)
+loop-i-init g t c =
+    let args = c.args in
+    let node_at = c.node_at-n in
+    let a = at_node _ _ _ _ node_at.result args.chains.now.st.now.lay (leads_in c.lead.ensures c.in-Node.is) node_at.ensures c.part_count-many.ensures in
+    going_none _ g.H.Heads.met _ args.t args.left _ _ _ c.requires.known c.requires.fits c.in-Some.below (omega (arith, c.in-Some.ensures)) _ c.lead.ensures _ c.in-Node.is a
+    _ (λ ds. loc_is _ _ node_at.result (node_at.ensures ds)) c.write_head-next.ensures c.write_head-next.auto.buf
 
 pub write_spelled-next-requires : goal.write_spelled-next-requires
-write_spelled-next-requires t c = let args = c.args in
-    let pre = c.requires in
+write_spelled-next-requires g t c κs within =
+    let args = c.args in
     let node_at = c.node_at-n in
-    let loop_test = c.loop-i-test in
-    let E = args.buf.now in
     let i = leads_in c.lead.ensures c.in-Node.is in
-    let k = spells_node c.in-Some.below (omega (arith, c.in-Some.ensures)) _ c.lead.ensures _ c.in-Node.is in
     let a = at_node _ _ _ _ node_at.result args.chains.now.st.now.lay i node_at.ensures c.part_count-many.ensures in
-    let base = write_none k a E _ pre.fits _ (λ ds. loc_is _ _ node_at.result (node_at.ensures ds)) _ _ c.write_head-next.ensures in
-    let f = part_low a _ _ loop_test.true c.part_at-p.ensures in (
+    let f = part_low a _ _ c.loop-i-test.true c.part_at-p.ensures in
+    let e : args.left ≡ c.in-Some.below + 1 = omega (arith, c.in-Some.ensures) in (
       omega (arith, c.in-Some.ensures, c.decreases),
       (
-        (omega (arith, f, i), pre.all_bytes.1),
-        part_room k a E _ pre.fits _ _ _ _
-            (c.loop-i.invariant.1 E base) loop_test.true c.part_at-p.ensures,
+        within,
+        (
+          knows_then g.H.Heads.spelling g.H.Heads.met _ args.t args.left _ _ _ c.requires.known c.requires.fits c.in-Some.below e _ c.lead.ensures _ c.in-Node.is a c.loop-i.invariant,
+          (
+            (omega (arith, f, i), c.requires.in_use.1),
+            part_fits g.H.Heads.spelling g.H.Heads.met _ args.t args.left _ _ _ c.requires.known c.requires.fits c.in-Some.below e _ c.lead.ensures _ c.in-Node.is a c.loop-i.invariant _ c.loop-i-test.true c.part_at-p.ensures,
+          ),
+        ),
       ),
     )
 
 pub loop-i-preserved : goal.loop-i-preserved
-loop-i-preserved t c = let args = c.args in
-    let pre = c.requires in
+loop-i-preserved g t c =
+    let args = c.args in
     let node_at = c.node_at-n in
-    let E = args.buf.now in
-    let k = spells_node c.in-Some.below (omega (arith, c.in-Some.ensures)) _ c.lead.ensures _ c.in-Node.is in
     let a = at_node _ _ _ _ node_at.result args.chains.now.st.now.lay (leads_in c.lead.ensures c.in-Node.is) node_at.ensures c.part_count-many.ensures in
-    let base = write_none k a E _ pre.fits _ (λ ds. loc_is _ _ node_at.result (node_at.ensures ds)) _ _ c.write_head-next.ensures in
-    goes_more k a E _ pre.fits _ _ _ _ _ _ _ _ base c.loop-i.invariant c.loop-i-test.true
-    c.part_at-p.ensures c.write_spelled-next.ensures
+    going_more _ g.H.Heads.met _ args.t args.left _ _ _ c.requires.known c.requires.fits c.in-Some.below (omega (arith, c.in-Some.ensures)) _ c.lead.ensures _ c.in-Node.is a c.loop-i.invariant
+    _ c.loop-i-test.true c.part_at-p.ensures c.write_spelled-next.ensures c.write_spelled-next.auto.buf
 
 pub returns : goal.returns
-returns t c = let args = c.args in
-    let pre = c.requires in
+returns g t c =
+    let args = c.args in
     let node_at = c.node_at-n in
-    let E = args.buf.now in
-    let k = spells_node c.in-Some.below (omega (arith, c.in-Some.ensures)) _ c.lead.ensures _ c.in-Node.is in
     let a = at_node _ _ _ _ node_at.result args.chains.now.st.now.lay (leads_in c.lead.ensures c.in-Node.is) node_at.ensures c.part_count-many.ensures in
-    let base = write_none k a E _ pre.fits _ (λ ds. loc_is _ _ node_at.result (node_at.ensures ds)) _ _ c.write_head-next.ensures in
-    write_all k a E _ _ _ _ (c.loop-i.invariant.1 E base) c.loop-i-test.false
+    going_all _ g.H.Heads.met _ args.t args.left _ _ _ c.requires.known c.requires.fits c.in-Some.below (omega (arith, c.in-Some.ensures)) _ c.lead.ensures _ c.in-Node.is a c.loop-i.invariant c.loop-i-test.false

@@ -22,6 +22,9 @@ run_unfold-requires g c = rw (c.in-Look.is, c.in-One.is) at c.requires.0.0
 pub settle_ready-requires : goal.settle_ready-requires
 settle_ready-requires g c = let h = rw (c.in-Look.is, c.in-One.is, c.in-RD.is) at c.requires in ready_settles h.1.from c.args.buf.now h.0.1 h.0.0
 
+pub settle_ready-requires-in-CN : goal.settle_ready-requires-in-CN
+settle_ready-requires-in-CN g c = let h = rw (c.in-Look.is, c.in-One.is, c.in-CN.is) at c.requires in ready_settles h.1.from c.args.buf.now h.0.1 h.0.0
+
 pub run_tparams-requires : goal.run_tparams-requires
 run_tparams-requires g c = let h = rw (c.in-Look.is, c.in-TS.is) at c.requires.0.0 in (h.1, h.0)
 
@@ -40,6 +43,9 @@ returns-in-SD g c = record { same = c.answer_declared.ensures.same; is = λ x b.
 
 pub returns-in-RD : goal.returns-in-RD
 returns-in-RD g c = record { same = c.settle_ready.ensures.same; is = λ x b. reply_ready (rw (c.in-Look.is, c.in-One.is, c.in-RD.is) at b) c.settle_ready.ensures }
+
+pub returns-in-CN : goal.returns-in-CN
+returns-in-CN g c = record { same = c.settle_ready-in-CN.ensures.same; is = λ x b. reply_ready (rw (c.in-Look.is, c.in-One.is, c.in-CN.is) at b) c.settle_ready-in-CN.ensures }
 
 pub returns-in-SV : goal.returns-in-SV
 returns-in-SV g c = record { same = c.solve.ensures.same; is = λ x b. reply_solved (rw c.in-SV.is at b) c.solve.ensures }

@@ -1,0 +1,2 @@
+-- Laws of the variables that were met. Assumes nothing.
+pub mod Numbers
