@@ -54,7 +54,7 @@ beside() { step "2,000 jobs beside core.rs" target/release/oracle compare 1 2000
 
 with_engine() {
   beside
-  for what in number payload binding mark constraint reading count told spelled missing line; do step "altered: $what" found $what; done
+  for what in number payload binding mark constraint reading count told spelled missing code line; do step "altered: $what" found $what; done
   step "spellings" target/release/oracle spelled 1 300
   step "damaged records" target/release/oracle damage records 1 50
   step "damaged states" target/release/oracle damage states 1 2

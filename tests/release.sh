@@ -57,10 +57,10 @@ without_faults() { # SEED: with the faulty functions gone, publish
   ends_with 0 $joblog report "$tmp/$1/jobs" "$tmp/$1/logs"
 }
 
-every_number() { # SEED: each answer but 0, 15 and 17, and each code of SV
+every_number() { # SEED: each answer but 0 and 15, each code of SV, and XP's
   local n
-  for n in 1 2 3 4 5 6 7 8 9 10 11 12 13 14 16 18; do grep -q "^[^ ]* [0-9]* $n\$" "$tmp/$1/told" || { echo "none of $n" && return 1; }; done
-  for n in 1 2 3 4; do grep -q "^[^ ]* [0-9]* 0.* $n\( \|\$\)" "$tmp/$1/told" || { echo "none of SV's $n" && return 1; }; done
+  for n in 1 2 3 4 5 6 7 8 9 10 11 12 13 14 16 17 18; do grep -q "^[^ ]* [0-9]* $n\$" "$tmp/$1/told" || { echo "none of $n" && return 1; }; done
+  for n in 1 2 3 4 5; do grep -q "^[^ ]* [0-9]* 0.* $n\( \|\$\)" "$tmp/$1/told" || { echo "none of code $n" && return 1; }; done
 }
 
 program=$(bash tools/build.sh joinlog) || { echo "0 passed, 1 failed"; exit 1; }

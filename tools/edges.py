@@ -211,6 +211,36 @@ def spelled():
     yield limit('spelled: two nodes left', 'FV\n' + 'JN (), ()\n' * 1023, ('CN &u8', 7), 'CN u8\nCN V0')
 
 
+def tree(leaves):
+    while len(leaves) > 1:
+        leaves = [list_of(*leaves[i:i + 8]) for i in range(0, len(leaves), 8)]
+    return leaves[0]
+
+
+def finals():
+    """R-5: XP's type and codes, 7, 9, 14 and 17, and which of them comes first."""
+    # 02's worked values, and what XP answers once more
+    yield solved('final: open', 'FV\nXP vector<V0@9>@2\nXP vector<!@9>{copy, drop, store}@2')
+    yield solved('final: phantom', 'SD {copy, drop, store, key} <phantom {}>\nFV\nJN V0, vector<u8@4>@3\nXP S0<V0>@6', ('XP S0<u8>{copy}', 17))
+    yield solved('final: anything', 'XP (_@4, signer@7)@8', ('XP (_@4, signer{drop}@7){drop}@8', 17), 'FV\nJN V0, vector<_@5>\nXP V0')
+    yield solved('final: merged', 'FV\nFV\nJN V0, V1\nXP (V0@6, V1@7)@5\nXP (V0@6, V0@7)@5')
+    yield solved('final: marked builtins', 'XP vector<u8>{}', ('XP vector<(u8,){copy}>{copy}', 17), ('XP (u8, vector<(,){drop}>)', 17), 'FV')
+    # a doubled reference by a binding
+    yield solved('final: doubled', 'FV\nJN V0, &u8\nXP &V0')
+    # 54 lists of seven bytes, and leaves: an open variable has five in the type and five behind it, S0 eight
+    leaves = ['V0'] * 366 + ['()'] * 6 + ['u8'] * 4
+    yield solved('final: 4,096 bytes', 'FV\nSD {}\nXP ' + tree(leaves))
+    yield solved('final: 4,097 bytes', 'FV\nSD {}', ('XP ' + tree(leaves[:-1] + ['S0']), 14), 'JN V0, ()\nXP ' + tree(leaves[:-1] + ['S0']))
+    # no node beyond reading, and the last two
+    yield limit('final: nodes', 'JN (), ()\n' * 1023 + 'XP vector<u8>\nBC ()', ('XP vector<u8>', 7), ('XP vector<(u8,){copy}>', 7), 'XP u8\nBC ()', ('XP ()', 7))
+    yield solved('final: nested 64', 'FV\nXP ' + vectors(63, 'V0'))
+    yield end('final: nested 65', asm('FV\nXP ' + vectors(64, 'V0')), '0 0 06000000000000', '1 5')
+    # 17 is found behind a payload too long; 9 in any part, and before 17
+    yield solved('final: 17 before 14', 'FV\nJN V0, ' + BIG, ('XP (V0, V0)', 14), ('XP (V0, V0, (u8,){copy})', 17), 'XP V0')
+    circle = 'FV\nFV\nJN V0, vector<V1>\nJN V1, vector<V0>\nSD {} <phantom {}>\n'
+    yield solved('final: 9 before 17', circle, ('XP (V0,){copy}', 9), ('XP ((u8,){copy}, V0)', 9), ('XP S0<V0>', 9), ('XP S0<(u8,){copy}>', 17), 'UF V0')
+
+
 def end(name, stream, *log):
     return name, stream, list(log)
 
@@ -235,7 +265,7 @@ def marks():
 
 def main():
     where = os.path.join(ROOT, 'crates/test_edges')
-    jobs = [j for made in (marked, computed, limits, told, abilities, spelled, ends, marks) for j in made()]
+    jobs = [j for made in (marked, computed, limits, told, abilities, spelled, finals, ends, marks) for j in made()]
     behind = [(len(name) + 1 + len(stream), name.encode() + b'\n' + stream) for name, stream, _ in jobs]
     texts = {
         'stdin': b''.join(struct.pack('<I', size) + job for size, job in behind),

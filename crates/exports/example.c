@@ -41,7 +41,7 @@ static uint64_t run(const uint8_t *stream, size_t size) {
         size_t taken = rest == size ? size : size - rest; /* all is handed back where there is no whole record: lent all the same */
         uint32_t number = pongiwaru_record(state, PONGIWARU_WORDS, params, stream, taken, answer, sizeof answer, &length);
         print_line(index, number, length);
-        if (!PONGIWARU_WELL(stream, number, length)) {
+        if (!PONGIWARU_WELL(stream, number, answer, length)) {
             print_wrong(index, number, length);
             wrong++;
         }

@@ -28,10 +28,10 @@ extern "C" {
 #endif
 
 /* PONGIWARU_VERSION changes with the records, their answers, these functions or what they ask of a caller (5: more stack; 6: the
- * record CN), PONGIWARU_LAYOUT with what the words and rows of a state mean. Keep the layout's number beside a kept state. A later
+ * record CN; 7: XP), PONGIWARU_LAYOUT with what the words and rows of a state mean. Keep the layout's number beside a kept state. A later
  * version of the same layout goes on with it; under another layout it may be 15 or be taken for another sound state, so don't lend it:
  * run its records again from a fresh state. */
-#define PONGIWARU_VERSION 6
+#define PONGIWARU_VERSION 7
 #define PONGIWARU_LAYOUT 1
 
 /* Both numbers as the archive has them: the caller was built for it if they are PONGIWARU_VERSION and PONGIWARU_LAYOUT. Ask once,
@@ -50,8 +50,8 @@ enum {
 };
 
 /* The number of an answer. 0 to 4 may have a payload and change the state; 5 and above have none and leave all as it was.
- * 0 is not yet a success: SV answers 0 also where constraints failed, and its payload then lists them. Only an SV without a payload has
- * found none that fails. So ask PONGIWARU_WELL, and not for 0. */
+ * 0 is not yet a success: SV answers 0 also where constraints failed, and its payload then lists them; XP also where a type could not
+ * be inferred, and its payload then ends with codes. So ask PONGIWARU_WELL, and not for 0. */
 enum pongiwaru_number {
     PONGIWARU_RAN = 0, /* the record was run to its end; PONGIWARU_TYPED up to version 3 */
     PONGIWARU_SUBTYPE_ERROR = 1,
@@ -69,13 +69,17 @@ enum pongiwaru_number {
     PONGIWARU_PARAMETER_TWICE = 13,
     PONGIWARU_ANSWER_TOO_LONG = 14,
     PONGIWARU_UNSOUND_STATE = 15, /* words and params that are no sound state's, or an answer buffer that is too short */
-    PONGIWARU_ABILITY_MARK_CONTRADICTED = 16, /* SV: a mark lacks what declaration and arguments grant; 17 is not given yet */
+    PONGIWARU_ABILITY_MARK_CONTRADICTED = 16, /* SV: a mark lacks what declaration and arguments grant */
+    PONGIWARU_ALREADY_EXPANDED = 17, /* XP: a list or struct with an ability mark */
     PONGIWARU_DOUBLED_REFERENCE = 18 /* a reference directly under a reference */
 };
 
-/* Whether a record's answer says that nothing is wrong: 0, and of SV without a payload. record is what was lent, number what
- * pongiwaru_record gave, length what it wrote. */
-#define PONGIWARU_WELL(record, number, length) ((number) == PONGIWARU_RAN && ((length) == 0 || (record)[0] != 'S' || (record)[1] != 'V'))
+/* Whether a record's answer says that nothing is wrong: 0, of SV without a payload, of XP without codes. record is what was lent,
+ * number what pongiwaru_record gave, payload and length what it wrote. (Up to version 6 without payload.) */
+#define PONGIWARU_WELL(record, number, payload, length) \
+    ((number) == PONGIWARU_RAN && \
+     ((length) == 0 || !(((record)[0] == 'S' && (record)[1] == 'V') || \
+                         ((record)[0] == 'X' && (record)[1] == 'P' && pongiwaru_has_code(payload, length)))))
 
 /* One record, lent whole: bytes left over are 5. The result is the answer's number; of SV a 0 with a payload is failed constraints. The
  * payload stands in front of answer, and *length is how long it is; the rest of answer is as it was. */
@@ -108,6 +112,19 @@ uint32_t pongiwaru_fresh_job(uint32_t *state, size_t state_length, uint8_t param
                              const uint8_t *stream, size_t stream_length, bool more,
                              uint8_t *log, size_t log_length, size_t *written, size_t *read,
                              uint64_t *index, bool *ended);
+
+/* Whether a payload of XP has a code: byte 5 and a location behind the type. Tag by tag: in XP's type each struct's tag and location are
+ * followed by an ability mark, 16 or more, and a code's by the next code or nothing. */
+static inline bool pongiwaru_has_code(const uint8_t *payload, uint32_t length) {
+    static const uint8_t fields[9] = {0, 1, 5, 2, 2, 3, 2, 0, 0};
+    for (uint32_t at = 0; at < length;) {
+        uint8_t tag = payload[at];
+        at += 5;
+        if (tag == 5 && (at >= length || payload[at] < 16)) return true;
+        at += tag < 9 ? fields[tag] : 0;
+    }
+    return false;
+}
 
 #ifdef __cplusplus
 }

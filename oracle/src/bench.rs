@@ -9,7 +9,7 @@ pub mod costs;
 use crate::{
     calls::{Calls, Lines},
     gen::Chance,
-    job::{ability_bits, mark_in, mark_out, module, struct_name, tparam, Job, Options, Outcome, BUILTINS},
+    job::{ability_bits, mark_in, mark_out, module, struct_name, tparam, Job, Outcome, BUILTINS},
     lent::{fresh, Params},
     naming::ast::{
         probe::{number as var_number, tvar},
@@ -18,7 +18,10 @@ use crate::{
     record::{read_record, Record, VECTOR},
     shared::Counter,
     text::assemble,
-    typing::core::{self, Subst},
+    typing::{
+        core::{self, Subst},
+        expand,
+    },
 };
 use move_ir_types::location::*;
 use std::{collections::BTreeMap, fmt::Write as _, hint::black_box, io::Write as _, mem, time::Instant};
@@ -65,19 +68,19 @@ fn grown(vars: usize, more: usize) -> Vec<u8> {
     assemble(&text, true).unwrap()
 }
 
-/// The jobs of the replay list that without SV are answered with 0 throughout, with RD for CN: core.rs tells SV's failures
-/// in messages, which are not written here, and spells no type.
+/// The jobs of the replay list that without SV and XP are answered with 0 throughout, with RD for CN: core.rs tells SV's
+/// failures and XP's codes in messages, which are not written here, and spells no type.
 fn short() -> Vec<Vec<u8>> {
     let entries = crate::list::parse(include_str!("../replay.list")).unwrap();
     entries.iter().filter_map(|e| answered(&e.stream)).collect()
 }
 
 fn answered(stream: &[u8]) -> Option<Vec<u8>> {
-    let (mut job, mut at, mut out) = (Job::new(Options::default()), 0, vec![]);
+    let (mut job, mut at, mut out) = (Job::new(), 0, vec![]);
     while at < stream.len() {
         let (r, n) = read_record(&stream[at..], job.known()).ok()?;
         let r = if let Record::CN(t) = r { Record::RD(t) } else { r };
-        if !matches!(r, Record::SV) {
+        if !matches!(r, Record::SV | Record::XP(_)) {
             matches!(job.record(&r), Outcome::Core(0, _)).then_some(())?;
             out.extend(r.bytes())
         }
@@ -113,7 +116,7 @@ impl Work {
     /// Each record's mark, core.rs's answer, and the variables in use before and after it.
     fn each(&self, mut f: impl FnMut(&str, u8, [usize; 2])) {
         for stream in &self.streams {
-            let (mut job, mut at) = (Job::new(Options::default()), 0);
+            let (mut job, mut at) = (Job::new(), 0);
             while at < stream.len() {
                 let vars = job.known().vars;
                 let mark = std::str::from_utf8(&stream[at..at + 2]).unwrap();
@@ -167,6 +170,8 @@ pub enum Op {
     Join(fn(Subst, &Type, &Type) -> Result<(Subst, Type), core::TypingError>, Type, Type),
     Unfold(Type),
     Ready(Type),
+    /// of types in which nothing is open: no codes
+    Expand(Type),
     Replace(Vec<TParam>, Vec<Type>, Type),
     Instantiate(Type),
     Builtin(Loc, u8, Type),
@@ -218,6 +223,10 @@ fn call(job: &mut Job, op: Op, copy: bool, failed: &mut Failed) -> Option<Type> 
         Op::Join(f, a, b) => return joined(job, f, &a, &b, copy, failed),
         Op::Unfold(t) => return Some(core::unfold_type(&ctx.subst, t)),
         Op::Ready(t) => return Some(core::ready_tvars(&ctx.subst, t)),
+        Op::Expand(mut t) => {
+            expand::type_(ctx, &mut t);
+            return Some(t);
+        }
         Op::Replace(ids, args, t) => return Some(core::subst_tparams(&core::make_tparam_subst(&ids, args), t)),
         Op::Instantiate(t) => return Some(core::instantiate(ctx, t)),
         Op::Builtin(l, 0, t) => ctx.add_numeric_constraint(l, "+", t),
@@ -243,7 +252,7 @@ fn ops_of(stream: &[u8]) -> Vec<Op> {
 #[no_mangle]
 #[inline(never)]
 pub fn oracle_timed_core(ops: Vec<Op>, copy: bool) {
-    let mut job = Job::new(Options::default());
+    let mut job = Job::new();
     Counter::set(0);
     let mut failed = None;
     for op in ops {
@@ -256,7 +265,7 @@ pub fn oracle_timed_core(ops: Vec<Op>, copy: bool) {
 #[no_mangle]
 #[inline(never)]
 pub fn oracle_timed_form(stream: &[u8], copy: bool, log: &mut Vec<u8>) {
-    let (mut job, mut form) = (Job::new(Options::default()), Form::new(stream));
+    let (mut job, mut form) = (Job::new(), Form::new(stream));
     Counter::set(0);
     form_on(&mut job, &mut form, copy, log)
 }
@@ -360,6 +369,7 @@ impl Form<'_> {
             b"SU" => Op::Join(core::subtype, self.ty(), self.ty()),
             b"UF" => Op::Unfold(self.ty()),
             b"RD" => Op::Ready(self.ty()),
+            b"XP" => Op::Expand(self.ty()),
             b"TS" => {
                 let n = self.byte();
                 let (ids, args) = (0..n).map(|_| (tparam(Loc::of(0), self.u32(), 0), self.ty())).unzip();

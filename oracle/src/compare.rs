@@ -11,6 +11,7 @@ use crate::{
     state_text::state_text,
     text::disassemble,
 };
+use pongiwaru::Answer as Said;
 use std::collections::BTreeMap;
 
 /// The first record at which the two part, and how.
@@ -129,14 +130,21 @@ fn shown(a: &Answer) -> String {
 /// and a location; of code 4 an ability comes before, and a rule after, of one byte or two.
 fn types_shown(r: &Record, a: &Answer, known: &Known) -> Vec<(Ty, u8)> {
     let (mut rest, mut out) = (&a.payload[..], vec![]);
-    while !matches!(r, Record::SD(..) | Record::RM(_)) {
+    if matches!(r, Record::SD(..) | Record::RM(_)) {
+        return out;
+    }
+    loop {
         let code = rest.first().copied().filter(|_| *r == Record::SV);
         let before = code.map_or(0, |c| if c == 4 { 6 } else { 5 });
         let Some(Ok((t, n))) = rest.get(before..).map(|types| record::read_type(types, known)) else { break };
         rest = &rest[before + n..];
         let rule = rest.first().copied().filter(|_| code == Some(4)).unwrap_or(0);
         rest = &rest[rule as usize..];
-        out.push((t, rule))
+        out.push((t, rule));
+        // codes follow
+        if let Record::XP(_) = r {
+            break;
+        }
     }
     out
 }
@@ -154,9 +162,9 @@ impl Tally {
     }
 }
 
-/// UF, RD, CN, TS and RM leave the state word for word.
+/// UF, RD, CN, TS, RM and XP leave the state word for word.
 fn only_reads(r: &Record) -> bool {
-    matches!(r, Record::UF(_) | Record::RD(_) | Record::CN(_) | Record::TS(..) | Record::RM(_))
+    matches!(r, Record::UF(_) | Record::RD(_) | Record::CN(_) | Record::TS(..) | Record::RM(_) | Record::XP(_))
 }
 
 pub fn same_counts(lender: &Lender, counted: Option<Counted>) -> Result<(), String> {
@@ -485,13 +493,15 @@ pub enum Alter {
     Spelled,
     /// SV's first missing ability is another
     Missing,
+    /// the location of XP's last code
+    Code,
     /// a line of a job
     Line,
 }
 
-pub const ALTERS: [Alter; 11] = {
+pub const ALTERS: [Alter; 12] = {
     use Alter::*;
-    [Number, Payload, Binding, Mark, Constraint, Reading, Count, Told, Spelled, Missing, Line]
+    [Number, Payload, Binding, Mark, Constraint, Reading, Count, Told, Spelled, Missing, Code, Line]
 };
 
 impl Alter {
@@ -526,7 +536,10 @@ impl Altered<'_> {
             Alter::Count if number == 0 && record.starts_with(b"JN") && view.nodes() < 2048 => words[0] += 1,
             Alter::Told if number == 0 && record.starts_with(b"RM") => answer[0] -= 1,
             Alter::Spelled if number == 0 && record.starts_with(b"CN") && answer[0] == 6 => answer[5] += record[7] & 1,
-            Alter::Missing if number == 0 && record == b"SV" && answer[0] == 4 => answer[5] ^= 3,
+            Alter::Missing if number == 0 && record == b"SV" && answer.first() == Some(&4) => answer[5] ^= 3,
+            Alter::Code if number == 0 && record.starts_with(b"XP") && !Said::Ran.is_well(record, answer) => {
+                answer[answer.len() - 4] ^= 1
+            }
             _ => (),
         }
         number
@@ -547,7 +560,7 @@ impl Calls for Altered<'_> {
         if self.alter == Alter::Mark && record.starts_with(b"SN") {
             state.copy_from_slice(&before)
         }
-        self.spoil(state, params, record, answer, number)
+        self.spoil(state, params, record, &mut answer[..*length as usize], number)
     }
 
     fn counts(&self) -> bool {

@@ -292,7 +292,7 @@ impl Sim {
             Record::FV(_) | Record::NV(_) => self.var().map(drop),
             Record::JN(a, b) => self.join(1, false, a, b).map(drop),
             Record::SU(a, b) => self.join(1, true, a, b).map(drop),
-            Record::RD(t) | Record::CN(t) if self.runs_into_itself(t, &mut HashMap::new()) => Err(9),
+            Record::RD(t) | Record::CN(t) | Record::XP(t) if self.runs_into_itself(t, &mut HashMap::new()) => Err(9),
             Record::RD(t) | Record::CN(t) => self.ready(t),
             Record::TS(args, t) => {
                 let ids: Vec<_> = args.iter().map(|(id, _)| *id).collect();
@@ -356,6 +356,6 @@ pub fn counted(s: View, r: &Record) -> Counted {
     let mut sim =
         Sim { bound: state.bindings.into_iter().collect(), marks: state.marks.into_iter().collect(), used: before };
     let number = sim.run(s, r).err().unwrap_or(0);
-    let reads = matches!(r, Record::UF(_) | Record::RD(_) | Record::CN(_) | Record::TS(..));
+    let reads = matches!(r, Record::UF(_) | Record::RD(_) | Record::CN(_) | Record::TS(..) | Record::XP(_));
     Counted { number, used: if reads || number > 4 { before } else { sim.used } }
 }

@@ -149,7 +149,7 @@ fn still_sound_or(lender: &Lender, number: u32) -> Tried {
 
 fn job_known(s: View) -> crate::record::Known {
     let params = (0..s.structs()).map(|i| s.declared(i).1.len()).collect();
-    crate::record::Known { vars: s.vars(), params, expand: false }
+    crate::record::Known { vars: s.vars(), params }
 }
 
 //---- a state on its way through a job -------------------------------------------------------------------------

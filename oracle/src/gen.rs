@@ -1,7 +1,7 @@
 //! Jobs made from a seed: the same seed gives the same job. A job grows record by record beside core.rs, so
 //! that variables taken by merges, IN and SV are used too.
 use crate::{
-    job::{Job, Options, Outcome},
+    job::{Job, Outcome},
     record::{Kind, Record, Ty, MAX_NESTING, MAX_RECORD, VECTOR},
 };
 
@@ -126,6 +126,8 @@ pub struct Maker {
     twice: Option<Chance>,
     /// for CN in the place of RD, likewise
     spelled: Chance,
+    /// for XP between the other records, likewise
+    expand: Chance,
     pub profile: Profile,
     marks: Marks,
     /// locations are 1, 2, 3 .., or for some jobs any number
@@ -149,6 +151,7 @@ impl Maker {
         Maker {
             twice: Some(Chance(!chance.0)),
             spelled: Chance(chance.0.rotate_left(32)),
+            expand: Chance(chance.0.rotate_left(16)),
             profile,
             marks: chance.weighted(&[(45, Marks::None), (40, Marks::Primitives), (15, Marks::Mixed)]),
             locs: 0,
@@ -431,6 +434,20 @@ impl Maker {
         }
     }
 
+    /// XP before the next record, or none; some types have marked lists and structs
+    pub fn expansion(&mut self, vars: usize, params: &[usize]) -> Option<Record> {
+        let mut own = self.expand.clone();
+        let often = if self.profile == Profile::Abilities { 50 } else { 10 };
+        let wanted = own.percent(often);
+        let marks = own.weighted(&[(60, Marks::Primitives), (20, Marks::None), (20, Marks::Tenth)]);
+        (self.vars, self.params) = (vars, params.to_vec());
+        let others = (std::mem::replace(&mut self.chance, own), std::mem::replace(&mut self.marks, marks), self.locs);
+        let t = self.var_or_type();
+        self.expand = std::mem::replace(&mut self.chance, others.0);
+        (self.marks, self.locs) = (others.1, others.2);
+        wanted.then_some(Record::XP(t))
+    }
+
     fn pair_of(&mut self, mark: fn(Ty, Ty) -> Record) -> Record {
         let (a, b) = self.pair();
         mark(a, b)
@@ -452,7 +469,7 @@ impl Maker {
     }
 
     fn var_or_type(&mut self) -> Ty {
-        if self.chance.percent(60) {
+        if self.vars > 0 && self.chance.percent(60) {
             let v = bare(self.var());
             return self.dressed(v);
         }
@@ -480,7 +497,7 @@ struct Growing {
 impl Growing {
     fn new(name: String, cut: bool) -> Growing {
         let made = Made { name, stream: vec![], outcomes: vec![] };
-        Growing { job: Job::new(Options::default()), made, cut }
+        Growing { job: Job::new(), made, cut }
     }
 
     /// false: core.rs is silent, and the job is over
@@ -496,6 +513,18 @@ impl Growing {
             self.made.outcomes.push(outcome)
         }
         !silent || self.cut
+    }
+
+    /// records of the maker's, with XP between them
+    fn grow(&mut self, m: &mut Maker, numbers: std::ops::Range<usize>) {
+        for n in numbers {
+            let known = self.job.known().clone();
+            let between = m.expansion(known.vars, &known.params);
+            let r = m.record(n, known.vars, &known.params);
+            if between.is_some_and(|xp| !self.add(&xp)) || !self.add(&r) {
+                break;
+            }
+        }
     }
 
     fn add_all(&mut self, records: impl Iterator<Item = Record>) {
@@ -514,12 +543,7 @@ pub fn random(seed: u64, index: u64, records: usize, profile: Option<Profile>, c
     };
     m.twice = m.twice.filter(|_| !cut);
     let mut g = Growing::new(format!("random-{}-{}-{:?}", seed, index, m.profile).to_lowercase(), cut);
-    for n in 0..records {
-        let r = m.record(n, g.job.known().vars, &g.job.known().params);
-        if !g.add(&r) {
-            break;
-        }
-    }
+    g.grow(&mut m, 0..records);
     g.made
 }
 
@@ -529,12 +553,7 @@ pub fn onward(job: Job, seed: u64, index: u64, records: usize) -> Made {
     let name = format!("onward-{}-{}-{:?}", seed, index, m.profile).to_lowercase();
     let made = Made { name, stream: vec![], outcomes: vec![] };
     let mut g = Growing { job, made, cut: false };
-    for n in 3..3 + records {
-        let r = m.record(n, g.job.known().vars, &g.job.known().params);
-        if !g.add(&r) {
-            break;
-        }
-    }
+    g.grow(&mut m, 3..3 + records);
     g.made
 }
 
@@ -649,6 +668,9 @@ pub fn limits(seed: u64, index: u64, cut: bool) -> Made {
             "payload" if n < 17 => m.read(bare(Kind::Var(0))),
             _ => m.record(n, vars, &params),
         };
+        if kind == "payload" && n < 17 {
+            g.add(&Record::XP(bare(Kind::Var(0))));
+        }
         if !g.add(&r) {
             break;
         }

@@ -27,7 +27,7 @@ use move_ir_types::location::*;
 use move_symbol_pool::Symbol;
 use std::{
     cell::RefCell,
-    collections::{BTreeMap, HashMap},
+    collections::{BTreeMap, HashMap, HashSet},
     fmt::Write,
     panic::{catch_unwind, AssertUnwindSafe},
     sync::Once,
@@ -46,16 +46,10 @@ const HUGE: u64 = 4_000_000;
 pub enum Outcome {
     /// core.rs's answer, 0 to 4, and its payload
     Core(u8, Vec<u8>),
-    /// 5 to 14 by 01's rules, 16 and 18 by 02's, and why
+    /// 5 to 14 by 01's rules, 16 to 18 by 02's, and why
     Refused(u8, String),
     /// core.rs does not end here and 01 answers 0: there is nothing to compare with, and the job ends
     Silent(String),
-}
-
-#[derive(Debug, Clone, Copy, Default)]
-pub struct Options {
-    /// the record XP (02, R-5)
-    pub expand: bool,
 }
 
 /// A job's state as core.rs holds it; variables by number, a type as 01 writes it.
@@ -282,13 +276,14 @@ fn caught<T>(f: impl FnOnce() -> T) -> Result<T, String> {
 }
 
 /// 01's number for an assertion or panic of core.rs
-const PANICS: [(&str, u8); 6] = [
+const PANICS: [(&str, u8); 7] = [
     ("ICE failed naming", 10),
     ("ICE instantiate type variable", 11),
     ("ICE tvar in subst_tparams", 11),
     ("ICE unmapped tparam in subst_tparams_base", 12),
     ("assertion failed: old_val.is_none()", 13),
     ("assertion failed: label_added", 16),
+    ("ICE expanding pre expanded type", 17),
 ];
 
 fn number_of_panic(message: &str) -> u8 {
@@ -315,7 +310,7 @@ pub struct Job {
 }
 
 impl Job {
-    pub fn new(options: Options) -> Job {
+    pub fn new() -> Job {
         // a Context borrows its environment; a job's (one empty list) is never given back
         let env: &'static mut CompilationEnv = Box::leak(Box::new(CompilationEnv::new()));
         let prog = N::Program { modules: UniqueMap::new(), scripts: BTreeMap::new() };
@@ -327,7 +322,7 @@ impl Job {
             constants: UniqueMap::new(),
         };
         ctx.modules.add(module(Loc::of(0)), empty).ok().unwrap();
-        Job { known: Known { expand: options.expand, ..Known::default() }, wider: false, ctx }
+        Job { known: Known::default(), wider: false, ctx }
     }
 
     /// The first record of `stream`: its outcome and how many bytes it has, 0 where it is not read.
@@ -379,7 +374,7 @@ impl Job {
 
     /// A job whose state is `s`; its structs are declared one after the other.
     pub fn load(s: &State, declared: &[(u8, Vec<u8>)]) -> Job {
-        let mut job = Job::new(Options::default());
+        let mut job = Job::new();
         for (abilities, bytes) in declared {
             job.declare(*abilities, bytes, &mut vec![]).ok().unwrap()
         }
@@ -502,9 +497,14 @@ impl Job {
         }
     }
 
-    /// 02's R-5
+    /// 02's R-5. What is too large to be written out is 14, or 17 where a marked list or struct is in it.
     fn expand(&mut self, mut t: Type, out: &mut Vec<u8>) -> Result<(), Outcome> {
-        self.readable(&t)?;
+        self.readable(&t).map_err(|o| match o {
+            Outcome::Refused(14, _) if self.marked(&mut HashSet::new(), &t) => {
+                Outcome::Refused(17, "a marked list or struct in a type that is not written out".into())
+            }
+            o => o,
+        })?;
         expand::type_(&mut self.ctx, &mut t);
         type_out(&t).write(out);
         for d in self.ctx.env.take_diags() {
@@ -513,6 +513,17 @@ impl Job {
             out.extend(d.primary.0.start().to_le_bytes());
         }
         Ok(())
+    }
+
+    /// whether a list or struct with an ability mark is in the type, each variable looked at once
+    fn marked(&self, seen: &mut HashSet<TVar>, t: &Type) -> bool {
+        match &t.value {
+            Type_::Ref(_, i) => self.marked(seen, i),
+            Type_::Apply(Some(_), sp!(_, TypeName_::Multiple(_) | TypeName_::ModuleType(..)), _) => true,
+            Type_::Apply(_, _, args) => args.iter().any(|a| self.marked(seen, a)),
+            Type_::Var(v) => seen.insert(*v) && self.ctx.subst.get(*v).is_some_and(|b| self.marked(seen, b)),
+            _ => false,
+        }
     }
 
     //---- where core.rs would not end (a stack overflow is no panic) ------------------------------------
@@ -713,8 +724,8 @@ pub fn answer_text(o: &Outcome) -> String {
 }
 
 /// The outcomes of a stream's records; ends after 5, 6, 18 or silence, or with the bytes.
-pub fn outcomes(mut stream: &[u8], options: Options, mut each: impl FnMut(&Job, &Outcome)) {
-    let mut job = Job::new(options);
+pub fn outcomes(mut stream: &[u8], mut each: impl FnMut(&Job, &Outcome)) {
+    let mut job = Job::new();
     while !stream.is_empty() {
         let (outcome, n) = job.next(stream);
         each(&job, &outcome);
@@ -726,9 +737,9 @@ pub fn outcomes(mut stream: &[u8], options: Options, mut each: impl FnMut(&Job, 
 }
 
 /// The log of a stream as joinlog prints it. With `notes`, a `#` line after each answer that is not core.rs's.
-pub fn log(stream: &[u8], options: Options, notes: bool, states: bool) -> String {
+pub fn log(stream: &[u8], notes: bool, states: bool) -> String {
     let (mut out, mut n) = (String::new(), 0);
-    outcomes(stream, options, |job, o| {
+    outcomes(stream, |job, o| {
         writeln!(out, "{} {}", n, answer_text(o)).unwrap();
         match o {
             Outcome::Refused(_, why) | Outcome::Silent(why) if notes => {

@@ -2,9 +2,7 @@
 use oracle::{
     bench,
     calls::{self, Calls},
-    compare, damage, gen, job,
-    job::Options,
-    list, order, program, release, spelled, traps,
+    compare, damage, gen, job, list, order, program, release, spelled, traps,
 };
 use std::{
     fs,
@@ -14,7 +12,7 @@ use std::{
 };
 
 const USAGE: &str = "\
-oracle log [--why] [--state] [--xp] [STREAM]   core.rs's log of a stream
+oracle log [--why] [--state] [STREAM]   core.rs's log of a stream
 oracle gen random SEED COUNT RECORDS [PROFILE] [--cut]
                                                       a list of jobs with their logs
 oracle gen exhaustive FIRST COUNT [STEP] [--cut]      --cut: without records that core.rs refuses
@@ -105,7 +103,7 @@ fn written(functions: &[release::Function], folder: &Path) -> std::io::Result<()
 }
 
 fn check(entries: &[list::Entry]) -> i32 {
-    let differs = |e: &&list::Entry| job::log(&e.stream, Options::default(), false, false) != e.log;
+    let differs = |e: &&list::Entry| job::log(&e.stream, false, false) != e.log;
     let wrong: Vec<_> = entries.iter().filter(differs).collect();
     wrong.iter().for_each(|e| println!("differs: {}", e.name));
     println!("{} jobs equal, {} differ", entries.len() - wrong.len(), wrong.len());
@@ -164,10 +162,7 @@ fn run(args: Vec<String>) -> i32 {
     let (flags, words): (Vec<String>, Vec<String>) = args.into_iter().partition(|a| a.starts_with("--"));
     let flag = |name: &str| flags.iter().any(|f| f == name);
     match words.first().map(String::as_str) {
-        Some("log") => {
-            let options = Options { expand: flag("--xp") };
-            write(job::log(&read(words.get(1)), options, flag("--why"), flag("--state")).as_bytes())
-        }
+        Some("log") => write(job::log(&read(words.get(1)), flag("--why"), flag("--state")).as_bytes()),
         Some("gen") if words.len() > 1 => write(list::print(&generate(&words[1..], flag("--cut"))).as_bytes()),
         Some("release") if words.len() == 4 => {
             let functions = release::release(number(words.get(1)), number(words.get(2)) as usize);

@@ -2,7 +2,7 @@
 //! The list is made by the build with the ordered map and run again by the one with the real map.
 use crate::{
     gen::{Chance, Made, Maker, Profile},
-    job::{self, Job, Options, Outcome},
+    job::{self, Job, Outcome},
     list::Entry,
     record::{self, Kind, Known, Record, Ty},
 };
@@ -13,7 +13,7 @@ use std::collections::BTreeMap;
 pub fn made(seed: u64, index: u64) -> Made {
     let mut m = Maker::new(Chance::new(seed, index));
     m.profile = Profile::Numbers;
-    let mut job = Job::new(Options::default());
+    let mut job = Job::new();
     let mut made = Made { name: format!("order-{}-{}", seed, index), stream: vec![], outcomes: vec![] };
     let mut add = |job: &mut Job, r: &Record| {
         let outcome = job.record(r);
@@ -57,7 +57,7 @@ pub fn compare(entries: &[Entry]) -> BTreeMap<&'static str, usize> {
     let mut out = BTreeMap::new();
     let mut count = |what, yes: bool| *out.entry(what).or_insert(0) += yes as usize;
     for e in entries {
-        let got = job::log(&e.stream, Options::default(), false, false);
+        let got = job::log(&e.stream, false, false);
         let (mut known, mut rest, mut solved) = (crate::text::any_variable(), &e.stream[..], false);
         let (mut ours, mut theirs) = (vec![], vec![]);
         count("jobs", true);

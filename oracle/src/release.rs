@@ -1,13 +1,14 @@
 //! A release from a seed: jobs of functions that are well, and one function with each fault that an answer or a code
-//! of SV names. What is told of each is what `joblog report` must say.
+//! of SV or XP names. What is told of each is what `joblog report` must say.
 use crate::{
     gen::{Chance, Maker},
-    job::{outcomes, Options, Outcome},
+    job::{outcomes, Outcome},
     record::{Known, Record, MAX_RECORD},
     text::assemble,
 };
+use pongiwaru::Answer;
 
-/// The first record of a job that is not well: its number, its answer, and of SV's 0 the codes of its rows.
+/// The first record of a job that is not well: its number, its answer, and of a 0 the codes of SV's rows or of XP.
 #[derive(Clone, Debug, PartialEq, Eq)]
 pub struct Told {
     pub record: usize,
@@ -43,14 +44,14 @@ struct Fault {
 }
 
 const fn fault(answer: u8, records: fn(&Words) -> String) -> Fault {
-    Fault { answer, codes: &[], records, goes_on: matches!(answer, 1..=4 | 10..=13) }
+    Fault { answer, codes: &[], records, goes_on: matches!(answer, 1..=4 | 10..=13 | 17) }
 }
 const fn rows(codes: &'static [u8], records: fn(&Words) -> String) -> Fault {
     Fault { answer: 0, codes, records, goes_on: true }
 }
 
 /// every answer but 15, which no job from a fresh state has, and every code
-const FAULTS: [Fault; 33] = [
+const FAULTS: [Fault; 37] = [
     fault(1, |w| w.put("SU &T, &mut T")),
     fault(1, |w| w.put("SU (U, &vector<T>), (U, &mut vector<T>)")),
     fault(2, |w| w.put("JN vector<T>, vector<U>")),
@@ -77,6 +78,8 @@ const FAULTS: [Fault; 33] = [
     fault(13, |w| w.put("TS [P0 = T, P0 = U] P0")),
     fault(14, |w| w.put(&(eightfold(&["V1", "V2", "P1"]) + "RD V0"))),
     fault(16, |w| w.put("SV\nSD {} <{copy}>\nIN S0<vector<T>{}>\nSV")),
+    fault(17, |w| w.put("XP (T,){copy}")),
+    fault(17, |w| w.put("SD {drop}\nFV\nJN V0, &vector<S0{drop}>\nXP (U, V0)")),
     fault(18, |w| w.put("UF &mut &T")),
     fault(18, |w| w.put("SU T, (U, vector<&&T>)")),
     rows(&[1], |w| w.put("NC bits vector<T>\nSV")),
@@ -84,6 +87,8 @@ const FAULTS: [Fault; 33] = [
     rows(&[3], |w| w.put("FV\nSC V0\nJN V0, (T, U)\nSV")),
     rows(&[4], |w| w.put("SD {} <ABILITY>\nIN S0<signer>\nSV")),
     rows(&[4, 4], |w| w.put("SD {copy, store} <{}>\nSD {} <{copy, store}>\nIN S1<S0<signer>>\nSV")),
+    rows(&[5], |w| w.put("FV\nXP (T, vector<V0>)")),
+    rows(&[5, 5], |w| w.put("FV\nFV\nJN V0, (U, V1)\nXP (&V0, V1)")),
 ];
 
 /// four variables from V`first` on, each bound to 63 lists around the next, the last to as many around ()
@@ -134,14 +139,15 @@ impl Words {
 
 fn all(stream: &[u8]) -> (Vec<Outcome>, Known) {
     let (mut out, mut known) = (vec![], Known::default());
-    outcomes(stream, Options::default(), |job, o| {
+    outcomes(stream, |job, o| {
         out.push(o.clone());
         known = job.known().clone()
     });
     (out, known)
 }
 
-/// whether the stream goes on with `r` as a function that is well: answered 0, and nothing fails if SV comes next
+/// whether the stream goes on with `r` as a function that is well: answered 0, with no row and no code, and nothing fails
+/// if SV comes next
 fn well(stream: &[u8], r: &Record) -> bool {
     let bytes = r.bytes();
     if bytes.len() > MAX_RECORD {
@@ -150,7 +156,7 @@ fn well(stream: &[u8], r: &Record) -> bool {
     let (outcomes, _) = all(&[stream, &bytes, b"SV"].concat());
     let none = |o: &Outcome| matches!(o, Outcome::Core(0, payload) if payload.is_empty());
     match &outcomes[..] {
-        [.., answer @ Outcome::Core(0, _), next] => none(next) && (*r != Record::SV || none(answer)),
+        [.., Outcome::Core(0, payload), next] => none(next) && Answer::Ran.is_well(&bytes, payload),
         _ => false,
     }
 }
@@ -160,10 +166,13 @@ fn grow(stream: &mut Vec<u8>, maker: &mut Maker, records: usize) -> usize {
     let mut added = 0;
     for n in 0..2 * records {
         let (_, known) = all(stream);
+        let between = maker.expansion(known.vars, &known.params);
         let r = maker.record(n, known.vars, &known.params);
-        if added < records && well(stream, &r) {
-            stream.extend(r.bytes());
-            added += 1
+        for r in between.into_iter().chain([r]) {
+            if added < records && well(stream, &r) {
+                stream.extend(r.bytes());
+                added += 1
+            }
         }
     }
     stream.extend(b"SV");
@@ -201,7 +210,7 @@ pub fn release(seed: u64, count: usize) -> Vec<Function> {
 }
 
 impl Told {
-    /// `RECORD ANSWER`, and SV's codes
+    /// `RECORD ANSWER`, and the codes
     pub fn text(&self) -> String {
         let codes: String = self.codes.iter().map(|c| format!(" {}", c)).collect();
         format!("{} {}{}", self.record, self.answer, codes)

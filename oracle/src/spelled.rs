@@ -4,7 +4,7 @@
 use crate::{
     calls::{Calls, MIN_ANSWER},
     gen::{Chance, Maker},
-    job::{ability_bits, mark_out, type_in, Job, Options, Outcome},
+    job::{ability_bits, mark_out, type_in, Job, Outcome},
     lender::Lender,
     lent,
     naming::ast::{TVar, Type, Type_},
@@ -138,7 +138,7 @@ struct Side<'a> {
 impl<'a> Side<'a> {
     fn new(calls: &'a dyn Calls, chance: Chance) -> Side<'a> {
         let lender = Lender::new(calls, &lent::fresh());
-        Side { job: Job::new(Options::default()), lender, chance, told: vec![] }
+        Side { job: Job::new(), lender, chance, told: vec![] }
     }
 
     /// Both answers; none where the engine comes to a limit that core.rs does not know.

@@ -69,6 +69,25 @@ fn leaning(last: impl Fn(&mut Lent) -> usize) -> Lent {
     s
 }
 
+/// .. a list with an ability mark at the bottom of a ladder, for XP
+fn marked_ladder(s: &mut Lent) -> usize {
+    let u8_ = s.add_node(3, 2, 0, 2, &[]).unwrap();
+    let marked = s.add_node(4, 3, 16, 1, &[u8_]).unwrap();
+    let first = s.add_node(4, 4, 0, 8, &[u8_, u8_, u8_, u8_, u8_, u8_, u8_, marked]).unwrap();
+    rungs(s, first, LEVELS)
+}
+
+/// V0 is that ladder, V2 a list of it and of what has no mark
+fn marked() -> Lent {
+    let mut s = fresh();
+    (0..8).for_each(|_| assert!(s.add_var().is_some()));
+    let top = marked_ladder(&mut s);
+    let u8_ = s.add_node(3, 2, 0, 2, &[]).unwrap();
+    let list = s.add_node(4, 5, 0, 2, &[u8_, top]).unwrap();
+    (s.bind(0, top), s.bind(2, list));
+    s
+}
+
 /// .. a circle of two vectors, which a walk from left to right comes to last
 fn far_right(s: &mut Lent) -> usize {
     let vars = [1, 2].map(|v| s.add_node(6, 4, v, 0, &[]).unwrap());
@@ -191,13 +210,15 @@ fn numeric() -> Lent {
 
 //---- records ------------------------------------------------------------------------------------------------
 
-const RECORDS: [&str; 24] = [
+const RECORDS: [&str; 26] = [
     "UF V0",
     "UF (V0, V0)",
     "RD V0",
     "RD (V0, V2, V0)",
     "CN V0",
     "CN (V0, V2, V0)",
+    "XP V0",
+    "XP (V0, V2, V0)",
     "JN V0, V2",
     "JN V2, V0",
     "SU V0, V2",
@@ -353,6 +374,8 @@ pub fn run(calls: &(dyn Calls + Sync)) -> (Vec<Line>, f64) {
         ("chain", chain()),
         ("leaning", leaning(|s| s.add_node(3, 4, 0, 2, &[]).unwrap())),
         ("right", leaning(far_right)),
+        ("marked", marked()),
+        ("leans on", leaning(marked_ladder)),
         ("crossed", crossed()),
         ("numeric", numeric()),
     ];

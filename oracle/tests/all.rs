@@ -6,7 +6,7 @@ use joblog::{
 };
 use oracle::{
     gen::{self, Chance, Made},
-    job::{self, with_stack, Job, Options, Outcome},
+    job::{self, with_stack, Job, Outcome},
     list, order,
     record::{self, hex, read_record, Record},
     release,
@@ -18,7 +18,7 @@ use std::collections::BTreeSet;
 const REAL_MAP: bool = cfg!(feature = "hashmap");
 
 fn log(stream: &[u8]) -> String {
-    job::log(stream, Options::default(), false, false)
+    job::log(stream, false, false)
 }
 
 fn asm(text: &str) -> Vec<u8> {
@@ -183,7 +183,7 @@ fn an_integer_type_that_core_rs_has_not_is_silent() {
 fn errors_and_refusals_put_the_state_back() {
     for i in 0..300 {
         let m = gen::random(12, i, 25, None, false);
-        let (mut job, mut rest) = (Job::new(Options::default()), &m.stream[..]);
+        let (mut job, mut rest) = (Job::new(), &m.stream[..]);
         while !rest.is_empty() {
             let before = job.state();
             let (outcome, n) = job.next(rest);
@@ -208,7 +208,7 @@ fn errors_and_refusals_put_the_state_back() {
 #[test]
 fn jobs_side_by_side_do_not_meet() {
     let streams: Vec<_> = (0..20).map(|i| gen::random(13, i, 25, None, true).stream).collect();
-    let mut jobs: Vec<_> = streams.iter().map(|s| (Job::new(Options::default()), &s[..], String::new(), 0)).collect();
+    let mut jobs: Vec<_> = streams.iter().map(|s| (Job::new(), &s[..], String::new(), 0)).collect();
     while jobs.iter().any(|(_, rest, _, _)| !rest.is_empty()) {
         for (job, rest, log, n) in jobs.iter_mut().filter(|(_, rest, _, _)| !rest.is_empty()) {
             let (outcome, length) = job.next(rest);
@@ -239,13 +239,16 @@ fn every_mark_and_answer_is_made() {
     let entries: Vec<_> = with_stack(|| made().iter().map(list::entry).collect());
     let counts = list::counts(&entries);
     let marks: BTreeSet<_> = counts.keys().map(|(m, _)| m.as_str()).collect();
-    let all = ["BC", "CN", "FV", "IN", "JN", "NC", "NV", "RD", "SC", "SD", "SN", "SU", "SV", "TS", "UF"];
+    let all = ["BC", "CN", "FV", "IN", "JN", "NC", "NV", "RD", "SC", "SD", "SN", "SU", "SV", "TS", "UF", "XP"];
     assert_eq!(marks.into_iter().collect::<Vec<_>>(), all);
     for n in [0, 2, 3, 4] {
         assert!(counts[&("JN".to_string(), n)] > 20, "JN {}", n)
     }
     for n in 0..5 {
         assert!(counts[&("SU".to_string(), n)] > 20, "SU {}", n)
+    }
+    for n in [0, 9, 17] {
+        assert!(counts[&("XP".to_string(), n)] > 2, "XP {}", n)
     }
 }
 

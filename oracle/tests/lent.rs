@@ -6,7 +6,7 @@ use oracle::{
     compare::{self, Alter, Altered, Tally, ALTERS},
     damage,
     gen::{self, Chance},
-    job::{is_wider, with_stack, Job, Options, Outcome},
+    job::{is_wider, with_stack, Job, Outcome},
     lender::Lender,
     lent::{encode, fresh, sound, Lent, Params},
     record::read_record,
@@ -22,7 +22,7 @@ fn all() -> Vec<&'static dyn Calls> {
 }
 
 fn after(text: &str) -> Lent {
-    let (stream, mut job, mut at) = (assemble(text, true).unwrap(), Job::new(Options::default()), 0);
+    let (stream, mut job, mut at) = (assemble(text, true).unwrap(), Job::new(), 0);
     while at < stream.len() {
         let (outcome, n) = job.next(&stream[at..]);
         assert!(matches!(outcome, Outcome::Core(0, _)), "{}", text);
@@ -37,7 +37,7 @@ fn after(text: &str) -> Lent {
 #[test]
 fn states_written_are_sound_and_read_again() {
     for i in 0..300 {
-        let (m, mut job, mut at) = (gen::random(21, i, 25, None, false), Job::new(Options::default()), 0);
+        let (m, mut job, mut at) = (gen::random(21, i, 25, None, false), Job::new(), 0);
         while at < m.stream.len() {
             let (outcome, n) = job.next(&m.stream[at..]);
             if n == 0 || matches!(outcome, Outcome::Silent(_)) {
@@ -281,7 +281,7 @@ fn damage_is_answered_as_it_must_be() {
     with_stack(|| {
         for calls in all() {
             let mut tally = damage::Tally::default();
-            damage::records(calls, 61, 10, &mut tally).unwrap();
+            damage::records(calls, 61, 20, &mut tally).unwrap();
             damage::wild(calls, 42, 6, &mut tally).unwrap();
             assert!(tally.of("5") > 100 && tally.of("6") > 20 && tally.went_on() > 100, "{}", tally.text());
             assert!(tally.of("18") > 0, "{}", tally.text());
@@ -382,7 +382,7 @@ fn careless_calls_are_found() {
     with_stack(|| {
         for (i, careless) in CARELESS.iter().enumerate() {
             let mut tally = damage::Tally::default();
-            let found = damage::records(careless, 61, 10, &mut tally)
+            let found = damage::records(careless, 61, 20, &mut tally)
                 .and_then(|_| damage::wild(careless, 42, 6, &mut tally))
                 .and_then(|_| damage::lend(&mut Lender::new(careless, &wider()), b"SV", MIN_ANSWER, &mut tally));
             assert!(found.is_err(), "fault {}", i)

@@ -5,10 +5,12 @@ use std::{
     path::{Path, PathBuf},
 };
 
-/// the text without comments and preprocessor lines
+/// the text without comments, preprocessor lines and what follows the prototypes
 fn bare(header: &str) -> String {
     let mut out = String::new();
-    let mut rest = header;
+    // a line of the preprocessor may go on behind a backslash
+    let header = header.replace("\\\n", " ");
+    let mut rest = header.split("static inline").next().unwrap();
     while let Some((text, after)) = rest.split_once("/*") {
         out += text;
         rest = after.split_once("*/").expect("a comment ends").1;

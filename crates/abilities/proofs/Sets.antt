@@ -41,7 +41,7 @@ all_true f l i h e = by (f (get_or l i 0)) refl
     by true z = z
     by false z = let y = all_one f l i h z in cc
 
-parts_over : (s : d.State) (m t i : ℕ) → i < length (goes_on_to s t) → ends_in (suc m) s t ≡ true → ends_in m s (get_or (goes_on_to s t) i 0) ≡ true
+pub parts_over : (s : d.State) (m t i : ℕ) → i < length (goes_on_to s t) → ends_in (suc m) s t ≡ true → ends_in m s (get_or (goes_on_to s t) i 0) ≡ true
 unfolding ends_in
 parts_over s m t i h e = all_true (λ p. ends_in m s p) (goes_on_to s t) i h e
 
@@ -53,7 +53,7 @@ pub some_left : (s : State) (left t : ℕ) → Ends s left t → 0 < left
 some_left s zero t e = absurd (not_at_once (held s []) t (e.over [] 0 (omega arith)))
 some_left s (suc left) t e = omega arith
 
-no_circle : (s : d.State) (t : ℕ) → ends_in (count s) s t ≡ true → reaches_itself s t ≡ false
+pub no_circle : (s : d.State) (t : ℕ) → ends_in (count s) s t ≡ true → reaches_itself s t ≡ false
 unfolding reaches_itself
 no_circle s t e = rw e refl
 

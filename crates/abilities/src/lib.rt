@@ -43,7 +43,7 @@ pub struct Asked {
 // `sets` are words, of which 256 is added to a set that is known: a slice of Options would ask more of who lends it.
 
 // The set kept for node t. By %, which takes the 256 off: `try_from` would refuse every set that is known.
-fn kept(sets: &[u32], t: u32) -> AbilitySet
+pub fn kept(sets: &[u32], t: u32) -> AbilitySet
     requires { (length sets.now ≡ 2048) × (t < 2048) }
     ensures { result.0 ≡ get_or sets.now t 0 % 256 }
 {
@@ -215,7 +215,7 @@ fn keep_set(chains: &Chains<'_, '_>, params: &[[u8; 8]; 256], t: u32, sets: &mut
 }
 
 // The set of node t, whose reading is over in `left` levels, is kept, and those of its parts.
-fn infer(chains: &Chains<'_, '_>, params: &[[u8; 8]; 256], t: u32, left: u32, sets: &mut [u32])
+pub fn infer(chains: &Chains<'_, '_>, params: &[[u8; 8]; 256], t: u32, left: u32, sets: &mut [u32])
     requires { (t < chains.now.st.now.used.nodes) × (Ends chains.now.st.now left t × Kept chains.now.st.now params.now sets.old) }
     ensures { Inferred chains.now.st.now params.now t sets.old sets.new }
 {

@@ -9,7 +9,7 @@ use Rattle.definition.specs.Types.{State, Struct, Result, ok, err, refused, ◌>
 use Rattle.definition.specs.Write.{Bytes, write_error}
 use Rattle.definition.specs.Step as step
 use Rattle.definition.specs.Step.{answer, answer_with, refusal, put_back, number_of_error}
-use Rattle.theorems.specs.ReadySpelled.{Spelling, spell_ready, with_state}
+use Rattle.theorems.specs.ReadySpelled.{with_state}
 use Rattle.ready.specs.Spell.{Spells, spelt, too_long, stopped}
 use Rattle.refusals.specs.Refusals.{refusal_of}
 use Rattle.table.specs.State.{outcome, error_of, seen, Lay}
@@ -21,7 +21,7 @@ use Rattle.snapshot.specs.Snap.{Rows, PutBack, Undone}
 use Rattle.table.specs.Touched.{Stay}
 use Rattle.writer.specs.Bytes.{Wrote}
 use Rattle.payload.specs.Payload.{shown}
-use Rattle.answer.specs.Ran.{ran, spelled_by, answered, success, failure, refused_by, Answers}
+use Rattle.answer.specs.Ran.{ran, told_by, answered, success, failure, refused_by, Answers}
 use Rattle.payload.specs.declared.Show.{Show}
 use Rattle.answer.specs.declared.Ran.{Ran}
 use Rattle.payload.specs.declared.Answer.{Answer}
@@ -56,7 +56,7 @@ module _ (w : List ℕ) (u before : Used) (saved : Rows) (buf : List ℕ) where
     failure_fits w' buf' len fits wrote back =
         puts_back w u before saved (failure e) number (shown show 0) (λ after before. put_back before after) with_shown w' buf buf' len fits wrote back (λ x y. refl)
 
--- ---- RD and CN
+-- ---- a payload that was spelled
 
 abbrev bytes_of : Result Bytes → Bytes
 bytes_of (ok b) = b
@@ -76,18 +76,18 @@ module _ {m : Result Bytes} {buf buf' : List ℕ} where
   told_same (too_long e l q) = q
   told_same (stopped e q) = q
 
-module _ (w : List ℕ) (u before : Used) (saved : Rows) (buf w' buf' : List ℕ) (how : Spelling) (t : ℕ) where
-  pub spelled_back : (len : ℕ) → ((ds : List Struct) → Spells (spell_ready how (seen w u ds) t) buf buf' (Ok len)) → Undone w u w' before saved × Stay saved.touched before.vars w w'
-      → Answers w u before saved buf w' buf' (record { number = 0; len = len; used = before; kept = false }) (spelled_by how t)
+module _ (w : List ℕ) (u before : Used) (saved : Rows) (buf w' buf' : List ℕ) (tell : State → Result Bytes) where
+  pub spelled_back : (len : ℕ) → ((ds : List Struct) → Spells (tell (seen w u ds)) buf buf' (Ok len)) → Undone w u w' before saved × Stay saved.touched before.vars w w'
+      → Answers w u before saved buf w' buf' (record { number = 0; len = len; used = before; kept = false }) (told_by tell)
   unfolding answer with_state ◌>>=◌
   spelled_back len h back =
-      let bytes : State → Bytes = λ s. bytes_of (spell_ready how s t) in
+      let bytes : State → Bytes = λ s. bytes_of (tell s) in
       let plain : State → State → step.Answer = λ after s. answer_with s 0 (bytes after) s in
-      answers_is w u before saved buf w' buf' _ plain (spelled_by how t) (λ ds s. let e = (told_bytes (h ds)).0 in ap (λ (m : Result Bytes). answer s (with_state s m)) e)
+      answers_is w u before saved buf w' buf' _ plain (told_by tell) (λ ds s. let e = (told_bytes (h ds)).0 in ap (λ (m : Result Bytes). answer s (with_state s m)) e)
       (goes_back w u before saved plain 0 bytes (λ after s. s) (λ after s. refl) w' buf buf' len (λ ds. (told_bytes (h ds)).1) (λ ds. (told_bytes (h ds)).2) back (λ after s. refl))
 
-  pub spelled_refused : (x : Refusal) (r : Answer) → ((ds : List Struct) → Spells (spell_ready how (seen w u ds) t) buf buf' (Err x)) → Answers w u before saved buf w' buf r (refused_by (refusal_of x)) → Answers w u before saved buf w' buf' r (spelled_by how t)
-  spelled_refused x r h a = rw (told_same (h [])) (answers_is w u before saved buf w' buf r (refused_by (refusal_of x)) (spelled_by how t) (λ ds s. told_refusal (h ds) s) a)
+  pub spelled_refused : (x : Refusal) (r : Answer) → ((ds : List Struct) → Spells (tell (seen w u ds)) buf buf' (Err x)) → Answers w u before saved buf w' buf r (refused_by (refusal_of x)) → Answers w u before saved buf w' buf' r (told_by tell)
+  spelled_refused x r h a = rw (told_same (h [])) (answers_is w u before saved buf w' buf r (refused_by (refusal_of x)) (told_by tell) (λ ds s. told_refusal (h ds) s) a)
 
 -- ---- what a run left, by its answer
 

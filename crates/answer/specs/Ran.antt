@@ -52,9 +52,13 @@ failure e after before = answer before (err after e)
 abbrev pub refused_by : d.Refusal → State → State → step.Answer
 refused_by x after before = refusal before x
 
+-- m tells the payload, and the state stays as it was
+abbrev pub told_by : (State → Result Bytes) → State → State → step.Answer
+told_by m after before = answer before (with_state before (m after))
+
 -- RD or CN of type t
 abbrev pub spelled_by : Spelling → ℕ → State → State → step.Answer
-spelled_by how t after before = answer before (with_state before (spell_ready how after t))
+spelled_by how t = told_by (λ after. spell_ready how after t)
 
 -- ---- what an answer asks
 

@@ -3,20 +3,18 @@
 
 ghost use Rattle.std.specs.Prelude.{◌≡◌, false, List, ℕ, ◌≤◌, ◌<◌, length, Ok};
 ghost use Rattle.definition.specs.Types as d;
-ghost use Rattle.definition.specs.Write.{write_error};
+ghost use Rattle.definition.specs.Write.{Bytes, write_error};
 ghost use Rattle.definition.specs.Step.{number_of_error};
 ghost use Rattle.refusals.specs.Refusals.{refusal_of};
 ghost use Rattle.table.specs.State.{error_of, view, seen, Lay, TypesIn};
-ghost use Rattle.table.specs.Did.{tables};
-ghost use Rattle.snapshot.specs.Snap.{Above};
+ghost use Rattle.table.specs.Did.{held, tables};
+ghost use Rattle.snapshot.specs.Snap.{Above, Since};
 ghost use Rattle.snapshot.specs.Back.{rows_of, GrownFrom};
 ghost use Rattle.writer.specs.Bytes.{AllBytes};
 ghost use Rattle.payload.specs.Payload.{shown, Shows, Paid};
-ghost use Rattle.theorems.specs.ReadySpelled as s;
-ghost use Rattle.theorems.specs.ReadySpelled.{spell_ready};
 ghost use Rattle.canonical.specs.Named.{spelling_of, AllNumbered};
 ghost use Rattle.ready.specs.Spell.{Spells};
-ghost use Rattle.answer.specs.Ran.{Tells, Settles, Still, answered, spelled_by, success, failure, refused_by, Answers};
+ghost use Rattle.answer.specs.Ran.{Tells, Settles, Still, answered, told_by, spelled_by, success, failure, refused_by, Answers};
 ghost use Rattle.answer.specs.Answered.{AnswersIn};
 
 use canonical::Spelling;
@@ -131,7 +129,7 @@ pub fn answer_of(w: &mut [u32], u: Used, before: Before<'_>, ran: Ran, buf: &mut
     }
 }
 
-// RD's answer or CN's: its payload, if any, is in the buffer. No variable was bound or marked.
+// A payload that is in the buffer, if any, and the state at entry. No variable was bound or marked.
 fn answer_spelled(
     w: &mut [u32],
     u: Used,
@@ -140,7 +138,8 @@ fn answer_spelled(
 ) -> Answer
     requires lay { Lay w.old u × Above before.used u }
     requires still { Still w.old u before.used before.saved.now }
-    ensures { (how : s.Spelling) (t : ℕ) (buf buf' : List ℕ) → ((ds : List d.Struct) → Spells (spell_ready how (seen w.old u ds) t) buf buf' spelled) → Answers w.old u before.entry.used (rows_of before.entry) buf w.new buf' result (spelled_by how t) }
+    ensures is { (m : d.State → d.Result Bytes) (buf buf' : List ℕ) → ((ds : List d.Struct) → Spells (m (seen w.old u ds)) buf buf' spelled) → Answers w.old u before.entry.used (rows_of before.entry) buf w.new buf' result (told_by m) }
+    ensures lay { (w₀ : List ℕ) → Since w₀ before.entry.used (rows_of before.entry) w.old u → Lay w.new result.used }
 {
     match spelled {
         Ok(len) => {
@@ -179,6 +178,24 @@ pub fn settle_refusal(st: &mut State<'_>, before: Before<'_>, x: Refusal) -> Ans
     as_before(st.used, x.number(), 0)
 }
 
+// What was spelled from a state that only reading has changed: the payload is in the buffer, or nothing is.
+pub fn settle_spelled(
+    st: &mut State<'_>,
+    before: Before<'_>,
+    spelled: Result<usize, Refusal>,
+) -> Answer
+    ghost w0: { List ℕ }
+    requires grown { GrownFrom w0 before st.old }
+    requires still { Still st.old.words.now st.old.used before.used before.saved.now }
+    ensures { (m : d.State → d.Result Bytes) (buf buf' : List ℕ) → ((ds : List d.Struct) → Spells (m (held st.old ds)) buf buf' spelled) → AnswersIn w0 before.entry st.old st.new buf buf' result (told_by m) }
+{
+    let before = before.since(st.touched);
+    let w = &mut *st.words;
+    let told = answer_spelled(w, st.used, before, spelled);
+    st.used = told.used;
+    told
+}
+
 // RD or CN of type t, for which no node is made.
 pub fn settle_ready(
     st: &mut State<'_>,
@@ -194,9 +211,5 @@ pub fn settle_ready(
     ensures { AnswersIn w0 before.entry st.old st.new buf.old buf.new result (spelled_by (spelling_of spelling) t) }
 {
     let spelled = ready::spell_type(st, t, spelling, buf);
-    let before = before.since(st.touched);
-    let w = &mut *st.words;
-    let told = answer_spelled(w, st.used, before, spelled);
-    st.used = told.used;
-    told
+    settle_spelled(st, before, spelled)
 }

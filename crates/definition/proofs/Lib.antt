@@ -8,6 +8,7 @@ pub mod AnswersSolve
 pub mod AnswersSolveAbilities
 pub mod AnswersSound
 pub mod AnswersSpace
+pub mod AnswersExpand
 pub mod AnswersStates
 pub mod AnswersStreams
 pub mod AnswersTypes

@@ -18,6 +18,8 @@ pub data Part : Type 0 where
   struct_high : ℕ → Part
   -- the code of a failure, in a row that goes on to the end; the rule that decided a failure of code 4
   failures rule : Part
+  -- the code of a variable that is not inferred, in a row that goes on to the end
+  codes : Part
 
 unfoldable pub loc_field : List Part
 loc_field = location ∷ location ∷ location ∷ location ∷ []
@@ -52,6 +54,7 @@ expand s struct b = (b, struct_high b ∷ [])
 expand s (struct_high a) b = (b, replicate (arity s (ModuleType (a + 256 * b))) type)
 expand s pairs b = (b, pair_fields b ++ (type ∷ []))
 expand s failures b = (b, loc_field ++ (if eqb b 4 then plain ∷ type ∷ rule ∷ [] else type ∷ failures ∷ []))
+expand s codes b = (b, loc_field ++ (codes ∷ []))
 expand s rule b = (b, if eqb b 2 then plain ∷ failures ∷ [] else failures ∷ [])
 
 -- the bytes with every location field set to 0. Where nothing is awaited they stay as they are
@@ -61,7 +64,7 @@ blank s (b ∷ bytes) [] = b ∷ bytes
 blank s (b ∷ bytes) (part ∷ awaited) = (expand s part b).0 ∷ blank s bytes ((expand s part b).1 ++ awaited)
 
 -- ---- records
--- what stands after each mark, and what 0 shows: SD a number, RM four, CN a type without locations, SV its failures, the others types or nothing
+-- what stands after each mark, and what 0 shows: SD a number, RM four, CN a type without locations, SV its failures, XP a type and its codes, the others types or nothing
 unfoldable pub mark_fields : List (ℕ × ℕ × List Part × List Part)
 mark_fields =
     (83, 68, [], []) ∷
@@ -80,6 +83,7 @@ mark_fields =
     (83, 86, [], failures ∷ []) ∷
     (82, 77, type ∷ [], []) ∷
     (67, 78, type ∷ [], []) ∷
+    (88, 80, type ∷ [], type ∷ codes ∷ []) ∷
     []
 
 unfoldable pub after_mark : List (ℕ × ℕ × List Part × List Part) → ℕ → ℕ → List Part × List Part

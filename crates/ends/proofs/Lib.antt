@@ -2,3 +2,4 @@
 pub mod Lists
 pub mod Itself
 pub mod Ends
+pub mod Leads

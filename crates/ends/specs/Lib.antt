@@ -2,3 +2,4 @@
 pub mod Known
 pub mod Ends
 pub mod Itself
+pub mod Leads

@@ -2,17 +2,22 @@
 
 ghost use Rattle.std.specs.Prelude.{◌≡◌, List, ◌<◌, ◌≤◌};
 ghost use Rattle.definition.specs.Types as d;
-ghost use Rattle.definition.specs.Store.{spanned};
 ghost use Rattle.definition.specs.Subst.{forward_tvar, reaches_itself};
 ghost use Rattle.table.specs.Did.{held};
-ghost use Rattle.subst.specs.Answers.{Unfolds};
 ghost use Rattle.ends.specs.Known.{EndsKnown, EndsKnown-prop};
 ghost use Rattle.ends.specs.Itself.{Goes_on, Levels, Measured, Soon};
+ghost use Rattle.ends.specs.Leads.{LedTo};
 
 use names::TVar;
-use subst::Unfolded;
 use table::Shape;
 use table::state::State;
+
+// Where a type leads: to a node that is no bound variable, or to an open variable, which `_` is not. The node's number and no shape, which is copied slowly.
+#[derive(Clone, Copy)]
+pub enum Led {
+    Node(u32),
+    Open { loc: u32, end: TVar },
+}
 
 // A state, and what is noted of the ends of its chains: of a variable one more than the number of the variable at the end, or 0, which is none.
 #[derive(Clone, Copy)]
@@ -33,15 +38,19 @@ impl Chains<'_, '_> {
         }
     }
 
-    // unfold_type, by the ends that are noted.
-    fn unfold_by(&self, t: u32) -> Unfolded
+    // unfold_type, by the ends that are noted, and what it leaves open.
+    pub fn lead(&self, t: u32) -> Led
         requires { t < self.now.st.now.used.nodes }
-        ensures { Unfolds self.now.st.now result (λ s. spanned s t) }
+        ensures { LedTo self.now.st.now t result }
     {
         let n = self.st.node_at(t);
-        match shapes::as_var(n.shape) {
-            None => Unfolded::Node(t),
-            Some(v) => subst::unfold_end(self.st, n.loc, self.end(v)),
+        let Some(v) = shapes::as_var(n.shape) else {
+            return Led::Node(t);
+        };
+        let end = self.end(v);
+        match self.st.bound_at(end) {
+            None => Led::Open { loc: n.loc, end },
+            Some(x) => Led::Node(x),
         }
     }
 
@@ -50,9 +59,9 @@ impl Chains<'_, '_> {
         requires { t < self.now.st.now.used.nodes }
         ensures { Goes_on self.now.st.now t result }
     {
-        match self.unfold_by(t) {
-            Unfolded::Node(x) => self.st.node_at(x).shape,
-            Unfolded::Anything(_) => Shape::Anything,
+        match self.lead(t) {
+            Led::Node(x) => self.st.node_at(x).shape,
+            Led::Open { .. } => Shape::Anything,
         }
     }
 

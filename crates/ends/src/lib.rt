@@ -11,7 +11,7 @@ ghost use Rattle.ends.specs.Ends.{EndsBy, Noted, Meets};
 
 mod chains;
 
-pub use chains::Chains;
+pub use chains::{Chains, Led};
 use names::TVar;
 use table::state::State;
 
@@ -102,7 +102,7 @@ pub fn note_ends(st: &State<'_>, ends: &mut [u32])
 // ---- a type that reaches a variable that reaches itself
 
 // A type of at most 64 parts needs no heights, and no ends are noted for it.
-fn near_over(st: &State<'_>, t: u32) -> bool
+pub fn near_over(st: &State<'_>, t: u32) -> bool
     requires { t < st.now.used.nodes }
     ensures { result ≡ true → (ds : List d.Struct) → false ≡ reaches_itself (held st.now ds) t }
 {

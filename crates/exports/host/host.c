@@ -79,9 +79,23 @@ static void abilities(void) {
     record(sd, sizeof sd, sizeof answer, &length);
     expect("IN leaves two constraints", record(in, sizeof in, sizeof answer, &length) == PONGIWARU_RAN && state[3] == 2);
     expect("SV shows a missing ability", record(sv, sizeof sv, sizeof answer, &length) == PONGIWARU_RAN && length == sizeof row && memcmp(answer, row, sizeof row) == 0);
-    expect("and it is no success", !PONGIWARU_WELL(sv, PONGIWARU_RAN, length) && PONGIWARU_WELL(in, PONGIWARU_RAN, 5) && PONGIWARU_WELL(sd, PONGIWARU_RAN, 2));
-    expect("SV leaves none", state[3] == 0 && record(sv, sizeof sv, sizeof answer, &length) == PONGIWARU_RAN && length == 0 && PONGIWARU_WELL(sv, PONGIWARU_RAN, length));
-    expect("an error and a refusal are none", !PONGIWARU_WELL(in, PONGIWARU_INCOMPATIBLE, 14) && !PONGIWARU_WELL(sv, PONGIWARU_FULL, 0));
+    expect("and it is no success", !PONGIWARU_WELL(sv, PONGIWARU_RAN, answer, length) && PONGIWARU_WELL(in, PONGIWARU_RAN, answer, 5) && PONGIWARU_WELL(sd, PONGIWARU_RAN, answer, 2));
+    expect("SV leaves none", state[3] == 0 && record(sv, sizeof sv, sizeof answer, &length) == PONGIWARU_RAN && length == 0 && PONGIWARU_WELL(sv, PONGIWARU_RAN, answer, length));
+    expect("an error and a refusal are none", !PONGIWARU_WELL(in, PONGIWARU_INCOMPATIBLE, answer, 14) && !PONGIWARU_WELL(sv, PONGIWARU_FULL, answer, 0));
+}
+
+/* XP: V0 is bound to nothing; then a struct, whose tag is 5 as a code is */
+static void expanded(void) {
+    static const uint8_t open[] = {'X', 'P', 3, 2, 0, 0, 0, 0, 5, 6, 9, 0, 0, 0, 0, 0};
+    static const uint8_t shown[] = {3, 2, 0, 0, 0, 23, 5, 8, 9, 0, 0, 0, 5, 9, 0, 0, 0};
+    static const uint8_t none[] = {'X', 'P', 5, 2, 0, 0, 0, 0, 0, 0, 3, 5, 5, 5, 5, 0, 2};
+    uint32_t length = 9;
+    fresh();
+    record(fv, sizeof fv, sizeof answer, &length);
+    record(sd, sizeof sd, sizeof answer, &length);
+    expect("XP shows a type and its code", record(open, sizeof open, sizeof answer, &length) == PONGIWARU_RAN && length == sizeof shown && memcmp(answer, shown, sizeof shown) == 0);
+    expect("which is no success", !PONGIWARU_WELL(open, PONGIWARU_RAN, answer, length));
+    expect("a struct is no code", record(none, sizeof none, sizeof answer, &length) == PONGIWARU_RAN && length == 15 && PONGIWARU_WELL(none, PONGIWARU_RAN, answer, length));
 }
 
 static void refused(void) {
@@ -210,6 +224,7 @@ static void stream_of(enum pongiwaru_number number) {
         break;
     case PONGIWARU_UNSOUND_STATE: break;
     case PONGIWARU_ABILITY_MARK_CONTRADICTED: BYTES("SD\0\1\1" "IN\5" LOC "\0\0\0" "\3" LOC "\22\2" "SV"); break;
+    case PONGIWARU_ALREADY_EXPANDED: BYTES("XP\4" LOC "\20\1" U8); break;
     case PONGIWARU_DOUBLED_REFERENCE: BYTES("FV" LOC "UF" REF REF U8); break;
     }
 }
@@ -239,7 +254,7 @@ static void numbers(void) {
         uint64_t index = 0;
         bool ended;
         stream_of((enum pongiwaru_number)number);
-        if (size == 0) continue; /* 15 is no record's, and 17 is no answer */
+        if (size == 0) continue; /* 15 is no record's */
         fresh();
         sprintf(what, "the last answer is %d", number);
         expect(what, one_by_one(text, &used) == (uint32_t)number);
@@ -255,6 +270,7 @@ int main(void) {
     numbers_of_the_archive();
     records();
     abilities();
+    expanded();
     refused();
     splits();
     jobs();

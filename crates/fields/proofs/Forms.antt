@@ -256,6 +256,10 @@ pub one_IN : One (λ t. q.Bind (c.IN t)) d.IN
 unfolding place_record
 one_IN = record { nodes = λ t. n.run (n.binds (n.instantiate t)); places = λ t s. refl; shows = λ t. refl; inside = λ n t l. l }
 
+pub one_XP : One (λ t. q.XP t) d.XP
+unfolding place_record
+one_XP = record { nodes = λ t. n.expand t; places = λ t s. refl; shows = λ t. refl; inside = λ n t l. l }
+
 pub one_loc_type : (m : LocTypeMark) (loc : ℕ) → One (λ t. q.Add (a.LocType m loc t)) (loc_type_record m loc)
 unfolding place_record
 one_loc_type m loc =

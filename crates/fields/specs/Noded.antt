@@ -64,16 +64,18 @@ pub data Run : Type 0 where
   looks : Looks → Run
   adds : Adds → Run
 
--- SD and SV have calls of their own
+-- SD, SV and XP have calls of their own
 pub data Noded : Type 0 where
   declare : ℕ → List ℕ → Noded
   solve : Noded
+  expand : ℕ → Noded
   run : Run → Noded
 
 -- the types of a record, from left to right, and what is run of their nodes
 pub data Shape : Type 0 where
   declares : ℕ → List ℕ → Shape
   solves : Shape
+  expands : Tree → Shape
   none : Run → Shape
   one : Tree → (ℕ → Run) → Shape
   both : Tree → Tree → (ℕ → ℕ → Run) → Shape
@@ -127,10 +129,14 @@ shape (d.SC loc t) = loc_type_shape SC loc t
 shape d.SV = solves
 shape (d.RM t) = none (adds (tell (needs t)))
 shape (d.CN t) = look_shape CN t
+shape (d.XP t) = expands t
 
 abbrev pub place : Shape → State → Result (State × Noded)
 place (declares abilities params) s = ok (s, declare abilities params)
 place solves s = ok (s, solve)
+place (expands t) s = do
+  (s, ty) ← build t s
+  ok (s, expand ty)
 place (none r) s = ok (s, run r)
 place (one t f) s = do
   (s, ty) ← build t s
@@ -173,6 +179,7 @@ params_of ps = take ps.many ps.bytes
 abbrev pub noded : What → Noded
 noded (q.SD abilities ps) = declare abilities.0 (params_of ps)
 noded q.SV = solve
+noded (q.XP t) = expand t
 noded (q.Bind x) = run (binds (bind_of x))
 noded (q.Look x) = run (looks (look_of x))
 noded (q.Add x) = run (adds (add_of x))
@@ -194,6 +201,7 @@ LookIn n (l.TS ps t) = Parts n ps.nodes ps.many × (t < n)
 abbrev pub WhatIn : ℕ → What → Type 0
 WhatIn n (q.SD abilities ps) = ps.many ≤ 8
 WhatIn n q.SV = Unit {0}
+WhatIn n (q.XP t) = t < n
 WhatIn n (q.Bind x) = BindIn n x
 WhatIn n (q.Look x) = LookIn n x
 WhatIn n (q.Add x) = Unit {0}

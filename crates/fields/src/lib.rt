@@ -5,7 +5,7 @@ ghost use Rattle.std.specs.Prelude.{◌≡◌, ℕ, ◌≤◌, length, IfOk};
 ghost use Rattle.definition.specs.Store.{taken};
 ghost use Rattle.definition.specs.Reader.{byte_to, times, read_one, read_two, read_three, name_below, read_u32};
 ghost use Rattle.definition.specs.Trees.{read_type};
-ghost use Rattle.definition.specs.Record.{SN, IN, NC, RM, read_SD, read_kind};
+ghost use Rattle.definition.specs.Record.{SN, IN, NC, RM, XP, read_SD, read_kind};
 ghost use Rattle.table.specs.Did.{tables};
 ghost use Rattle.table.specs.declared.state.State.{State as Table};
 ghost use Rattle.heads.specs.Fields.{Arities};
@@ -71,6 +71,7 @@ pub enum What {
     Bind(Bind),
     Look(Look),
     Add(Add),
+    XP(u32),
 }
 
 // What was read, or none if there was no space for its types (7); and the place after it, beside both, since a record without space has one too.
@@ -103,6 +104,15 @@ pub fn read_in(st: &mut State<'_>, r: &mut Reader, known: u32) -> Result<Option<
 {
     let ty = read_type(st, r, known, 64, false)?;
     Ok(ty.map(|t| What::Bind(Bind::IN(t))))
+}
+
+pub fn read_xp(st: &mut State<'_>, r: &mut Reader, known: u32) -> Result<Option<What>, Refusal>
+    requires { Arities (tables st.old).structs }
+    ensures is { FieldsAre st.old known (λ s. read_one XP (read_type s) r.old.left.now) st.new r.new.left.now result }
+    ensures within { Within r.old.left.now r.new.left.now }
+{
+    let ty = read_type(st, r, known, 64, false)?;
+    Ok(ty.map(|t| What::XP(t)))
 }
 
 pub fn read_two(

@@ -45,6 +45,7 @@ reader_of (Some m.IN) s = read_one d.IN (read_type s)
 reader_of (Some m.NC) s = read_three d.NC read_u32 read_kind (read_type s)
 reader_of (Some m.SV) s = give d.SV
 reader_of (Some m.RM) s = read_one d.RM (read_type s)
+reader_of (Some m.XP) s = read_one d.XP (read_type s)
 reader_of (Some (m.Loc x)) s = read_one (loc_record x) read_u32
 reader_of (Some (m.Look x)) s = read_one (look_record x) (read_type s)
 reader_of (Some (m.Two x)) s = read_two (two_record x) (read_type s) (read_type s)

@@ -49,6 +49,7 @@ pub enum RecordMark {
     NC,
     SV,
     RM,
+    XP,
     Loc(LocMark),
     Look(LookMark),
     Two(TwoMark),
@@ -59,7 +60,7 @@ pub enum RecordMark {
 #[derive(Clone, Copy)]
 struct Letters(u8, u8, RecordMark);
 
-const MARKS: [Letters; 16] = [
+const MARKS: [Letters; 17] = [
     Letters(b'S', b'D', RecordMark::SD),
     Letters(b'F', b'V', RecordMark::Loc(LocMark::FV)),
     Letters(b'N', b'V', RecordMark::Loc(LocMark::NV)),
@@ -76,6 +77,7 @@ const MARKS: [Letters; 16] = [
     Letters(b'S', b'V', RecordMark::SV),
     Letters(b'R', b'M', RecordMark::RM),
     Letters(b'C', b'N', RecordMark::Look(LookMark::CN)),
+    Letters(b'X', b'P', RecordMark::XP),
 ];
 
 // The mark that these letters are, if any. A loop over the definition's rows in their order: each step of its proof is a row that is passed.

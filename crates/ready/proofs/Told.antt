@@ -36,42 +36,19 @@ use Rattle.table.proofs.Pushed.{count_seen, args_seen}
 use Rattle.shapes.specs.Parts.{next, part_count}
 use Rattle.shapes.proofs.Nodes.{At, counted, inside_seen, many_parts, part_is}
 use Rattle.subst.proofs.Laws.{var_of}
-use Rattle.ends.proofs.Itself.{few_parts}
+use Rattle.ends.specs.Leads.{led_as, LedTo, unfolds_to}
+use Rattle.ends.specs.declared.chains.Led.{Led}
+use Rattle.ends.specs.declared.chains.Led.TheVariants.{Node as NodeL, Open}
+use Rattle.ends.proofs.Itself.{few_parts, unfolded_node}
 use Rattle.ends.proofs.Lists.{all_all}
 use Rattle.writer.specs.Bytes.{put, Wrote}
 use Rattle.writer.proofs.Put.{put_nothing, put_put}
 use Rattle.writer.proofs.Turns.{head_same}
 use Rattle.canonical.specs.Named.{Numbered, AllNumbered}
 use Rattle.canonical.proofs.Numbers.{head_by_same, met_by_same}
-use Rattle.ready.specs.Spell.{led_as, LedIn, LedTo, nodes_of, places_of, Owns, Small, added, SumsOf, Measures, Goes, Spells, spelt, too_long, stopped}
+use Rattle.ready.specs.Spell.{nodes_of, places_of, Owns, Small, added, SumsOf, Measures, Goes, Spells, spelt, too_long, stopped}
 use Rattle.refusals.specs.declared.Refusal.TheVariants.{Full, RunsIntoItself, AnswerTooLong}
-use Rattle.ready.specs.declared.Led.{Led}
-use Rattle.ready.specs.declared.Led.TheVariants.{Node as NodeL, Open}
 use Rattle.ready.specs.declared.Sums.{Sums}
-
--- ---- where a type leads
-
-module _ (s : State) (t : ℕ) (n : Node) (e : (ds : List Struct) → node_of n ≡ node (held s ds) t) (r : Option TVar) (a : (x : d.State) → next r ≡ as_var (with_args x (shape_of n.shape))) where
-  pub leads_plain : t < s.used.nodes → r ≡ None → LedTo s t (NodeL t)
-  leads_plain i z = record { is = λ ds. sym (led_plain (held s ds) t (var_of (held s ds) t n r (e ds) a ∙ ap next z)); inside = i }
-
-  module _ (v : TVar) (z : r ≡ Some v) (last : TVar) (l : (ds : List Struct) → last.0 ≡ forward_tvar (held s ds) v.0) (b : Option ℕ) (g : (ds : List Struct) → b ≡ get (held s ds) last.0) where
-    leads_var : (ds : List Struct) (o : Option ℕ) → b ≡ o → led (held s ds) (spanned (held s ds) t) ≡ led_var (held s ds) n.loc last.0 o
-    leads_var ds o y =
-        led_at (held s ds) t v.0 o (var_of (held s ds) t n r (e ds) a ∙ ap next z) (ap (get (held s ds)) (sym (l ds)) ∙ sym (g ds) ∙ y)
-        ∙ ap (λ (k : ℕ). led_var (held s ds) k (forward_tvar (held s ds) v.0) o) (sym (loc_is (held s ds) t n (e ds)))
-        ∙ ap (λ (k : ℕ). led_var (held s ds) n.loc k o) (sym (l ds))
-
-    pub leads_open : b ≡ None → LedTo s t (Open n.loc last)
-    unfolding led_var
-    leads_open y = record { is = λ ds. sym (leads_var ds None y); inside = tt }
-
-    pub leads_bound : (x : ℕ) → b ≡ Some x → LedTo s t (NodeL x)
-    unfolding led_var
-    leads_bound x y = record {
-      is = λ ds. sym (leads_var ds (Some x) y);
-      inside = rw (count_seen s.words.now s.used []) at ((inside_seen s.words.now s.used [] s.lay).bindings last.0 x (sym (g []) ∙ y));
-    }
 
 -- ---- a type without its parts
 
@@ -180,7 +157,7 @@ few : (s : State) {x many : ℕ} {sh : Shape} → At s.words.now s.used x sh man
 few s {x} {sh = sh} a = few_parts (held s []).args x (shape_of sh) (rw (a.shape []) ((inside_seen s.words.now s.used [] s.lay).parts x (counted a [])))
 
 pub leads_in : {s : State} {t x : ℕ} {r : Led} → LedTo s t r → r ≡ NodeL x → x < s.used.nodes
-leads_in {s} l z = subst (λ (y : Led). LedIn s.used.nodes y) z l.inside
+leads_in l z = unfolded_node l.unfolds.inside (ap unfolds_to z)
 
 module _ {s : State} {t left budget : ℕ} where
   measures_some : (m : Sums) → ((ds : List Struct) → (ends_in left (held s ds) t ≡ true) × SumsOf (λ f. summed f left (held s ds) t) m) → (m.types ≤ budget) × Small m → Measures s t left budget (Some m)

@@ -1,13 +1,12 @@
--- The answers of RD and CN without a new node: where a type leads, and sums over the types that are written. Assumes nothing: these are definitions.
+-- The answers of RD and CN without a new node: sums over the types that are written. Assumes nothing: these are definitions.
 use Rattle.std.specs.Prelude.{◌≡◌, true, List, ℕ, ◌+◌, ◌*◌, ◌≤◌, ◌<◌, length, Option, None, Some, Ok, Err}
 use Rattle.std.specs.Prelude as core
 use Rattle.definition.specs.Types as d
 use Rattle.definition.specs.Types.{Struct, Spanned, TypeValue, Places, Result, ok, refused}
-use Rattle.definition.specs.Store.{spanned}
 use Rattle.definition.specs.Subst.{ends_in}
 use Rattle.definition.specs.Write.{Bytes, head}
 use Rattle.definition.specs.Canonical.{Spelled}
-use Rattle.theorems.specs.ReadySpelled.{led, summed, new_nodes, new_places, head_size, one}
+use Rattle.theorems.specs.ReadySpelled.{summed, new_nodes, new_places, head_size, one}
 use Rattle.refusals.specs.Refusals.{refusal_of}
 use Rattle.refusals.specs.declared.Refusal.{Refusal}
 use Rattle.refusals.specs.declared.Refusal.TheVariants.{AnswerTooLong}
@@ -16,22 +15,7 @@ use Rattle.table.specs.State.{shape_of, value_of}
 use Rattle.table.specs.Did.{held}
 use Rattle.table.specs.declared.state.State.{State}
 use Rattle.table.specs.declared.Shape.{Shape}
-use Rattle.ready.specs.declared.Led.{Led}
-use Rattle.ready.specs.declared.Led.TheVariants.{Node, Open}
 use Rattle.ready.specs.declared.Sums.{Sums}
-
-abbrev pub led_as : Led → d.State → Spanned TypeValue
-led_as (Node x) s = spanned s x
-led_as (Open loc v) s = record { loc = loc; value = d.Var v.0 }
-
-abbrev pub LedIn : ℕ → Led → Type 0
-LedIn n (Node x) = x < n
-LedIn n (Open loc v) = Unit {0}
-
--- type t leads so
-pub record LedTo (s : State) (t : ℕ) (r : Led) : Type 0 where
-  pub is : (ds : List Struct) → led_as r (held s ds) ≡ led (held s ds) (spanned (held s ds) t)
-  pub inside : LedIn s.used.nodes r
 
 -- ---- a type without its parts
 

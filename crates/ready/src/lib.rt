@@ -9,11 +9,11 @@ ghost use Rattle.theorems.specs.ReadySpelled.{head_size, summed, spell_led, led_
 ghost use Rattle.table.specs.Did.{held, tables};
 ghost use Rattle.writer.specs.Bytes.{Wrote, AllBytes};
 ghost use Rattle.canonical.specs.Named.{spelling_of, AllNumbered};
-ghost use Rattle.ready.specs.Spell.{LedTo, Owns, Small, added, SumsOf, Measures, Goes, Spells};
+ghost use Rattle.ready.specs.Spell.{Owns, Small, added, SumsOf, Measures, Goes, Spells};
 
 use canonical::{AsItStands, Heads, Names, Spelling};
-use ends::{Chains, note_ends};
-use names::{MAX_ARGS, MAX_NODES, TVar};
+use ends::{Chains, Led, note_ends};
+use names::{MAX_ARGS, MAX_NODES};
 use refusals::Refusal;
 use table::Shape;
 use table::state::State;
@@ -23,13 +23,6 @@ const MAX_PAYLOAD: u32 = 4096;
 // The first type, and one for each node and each place: a type of more would not fit.
 const MAX_TYPES: u32 = 1 + MAX_NODES + MAX_ARGS;
 
-// Where a type leads: to a node that is no bound variable, or to an open variable. The node's number and no shape, which is copied slowly.
-#[derive(Clone, Copy)]
-enum Led {
-    Node(u32),
-    Open { loc: u32, end: TVar },
-}
-
 // So many types are written, in so many bytes; they would take so many nodes and argument places.
 #[derive(Clone, Copy)]
 pub struct Sums {
@@ -37,21 +30,6 @@ pub struct Sums {
     pub bytes: u32,
     pub nodes: u32,
     pub places: u32,
-}
-
-fn lead(chains: &Chains<'_, '_>, t: u32) -> Led
-    requires { t < chains.now.st.now.used.nodes }
-    ensures { LedTo chains.now.st.now t result }
-{
-    let n = chains.st.node_at(t);
-    let Some(v) = shapes::as_var(n.shape) else {
-        return Led::Node(t);
-    };
-    let end = chains.end(v);
-    match chains.st.bound_at(end) {
-        None => Led::Open { loc: n.loc, end },
-        Some(x) => Led::Node(x),
-    }
 }
 
 // A type without its parts.
@@ -94,7 +72,7 @@ fn measure(chains: &Chains<'_, '_>, t: u32, left: u32, budget: u32) -> Option<Su
     if budget == 0 {
         return None;
     }
-    let Led::Node(x) = lead(chains, t) else {
+    let Led::Node(x) = chains.lead(t) else {
         return Some(Sums {
             types: 1,
             bytes: 7,
@@ -129,7 +107,7 @@ fn write_spelled<H: Heads>(
     let Some(below) = left.checked_sub(1) else {
         return at;
     };
-    let x = match lead(chains, t) {
+    let x = match chains.lead(t) {
         Led::Open { loc, end } => return heads.write_head(loc, Shape::Var(end), buf, at),
         Led::Node(x) => x,
     };

@@ -2,7 +2,7 @@
 use Rattle.definition.specs.Types as d
 use Rattle.refusals.specs.declared.Refusal.{Refusal}
 use Rattle.refusals.specs.declared.Refusal.TheVariants.{Malformed, UnknownName, Full, TooDeep, RunsIntoItself, AbilitiesDisagree, OpenVariable, NoArgument, ParameterTwice}
-use Rattle.refusals.specs.declared.Refusal.TheVariants.{AnswerTooLong, UnsoundState, MarkContradicted, DoubledReference}
+use Rattle.refusals.specs.declared.Refusal.TheVariants.{AnswerTooLong, UnsoundState, MarkContradicted, AlreadyExpanded, DoubledReference}
 
 abbrev pub refusal_of : Refusal → d.Refusal
 refusal_of Malformed = d.malformed
@@ -17,4 +17,5 @@ refusal_of ParameterTwice = d.parameter_twice
 refusal_of AnswerTooLong = d.answer_too_long
 refusal_of UnsoundState = d.unsound_state
 refusal_of MarkContradicted = d.mark_contradicted
+refusal_of AlreadyExpanded = d.already_expanded
 refusal_of DoubledReference = d.doubled_reference

@@ -19,6 +19,7 @@ pub enum Refusal {
     AnswerTooLong,
     UnsoundState,
     MarkContradicted,
+    AlreadyExpanded,
     DoubledReference,
 }
 
@@ -41,6 +42,7 @@ impl Refusal {
             Refusal::AnswerTooLong => 14,
             Refusal::UnsoundState => 15,
             Refusal::MarkContradicted => 16,
+            Refusal::AlreadyExpanded => 17,
             Refusal::DoubledReference => 18,
         }
     }

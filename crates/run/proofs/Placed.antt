@@ -14,15 +14,16 @@ use Rattle.theorems.specs.ReadySpelled.{spelled}
 use Rattle.theorems.proofs.DemandOrder.{All}
 use Rattle.theorems.proofs.SoundRanges.{StructIn}
 use Rattle.theorems.proofs.SoundRead.{TreeIn, RecordIn}
-use Rattle.fields.specs.Noded.{Run, Noded, run, Shape, declares, solves, none, one, both, after_pairs, shape, place, place_record}
+use Rattle.fields.specs.Noded.{Run, Noded, expand, run, Shape, declares, solves, expands, none, one, both, after_pairs, shape, place, place_record}
 use Rattle.run.specs.Runs.{join_in, two_run, unfold_run, ready_run, tparams_run, instantiate_run, tvar_run, num_tvar_run, set_num_run, constraint_run, needs_run, declare_run}
-use Rattle.run.specs.Dispatch.{run_of, noded_run}
+use Rattle.run.specs.Dispatch.{expand_run, run_of, noded_run}
 
 -- ---- mark by mark
 
 abbrev run_shape : Shape → State → Result (State × Bytes)
 run_shape (declares abilities params) s = declare_run abilities params s s
 run_shape solves s = solve_constraints s
+run_shape (expands t) s = build t s >>= (λ p. expand_run p.1 p.0 s)
 run_shape (none r) s = run_of r s s
 run_shape (one t f) s = build t s >>= (λ p. run_of (f p.1) p.0 s)
 run_shape (both t u f) s = build t s >>= (λ p. build u p.0 >>= (λ q. run_of (f p.1 q.1) q.0 s))
@@ -32,6 +33,7 @@ run_shape (after_pairs ps t f) s = build_pairs ps s >>= (λ p. build t p.0 >>= (
 abbrev pub ShapeIn : State → Shape → Type 0
 ShapeIn s (declares abilities params) = StructIn (record { abilities = abilities; params = params })
 ShapeIn s solves = Unit {0}
+ShapeIn s (expands t) = TreeIn s t
 ShapeIn s (none r) = Unit {0}
 ShapeIn s (one t f) = TreeIn s t
 ShapeIn s (both t u f) = TreeIn s t × TreeIn s u
@@ -56,6 +58,7 @@ by_record s (d.SC loc t) = (refl, λ g. g.1)
 by_record s d.SV = (refl, λ g. tt)
 by_record s (d.RM t) = (refl, λ g. tt)
 by_record s (d.CN t) = (refl, λ g. g)
+by_record s (d.XP t) = (refl, λ g. g)
 
 pub shape_in : (s : State) (x : Record) → RecordIn s x → ShapeIn s (shape x)
 shape_in s x g = (by_record s x).1 g
@@ -66,8 +69,8 @@ module _ (s : State) where
   abbrev then_run : Result (State × Noded) → Result (State × Bytes)
   then_run m = m >>= (λ q. noded_run q.1 q.0 s)
 
-  last : {A : Type 0} (m : Result (State × A)) (f : A → Run) → (m >>= (λ p. run_of (f p.1) p.0 s)) ≡ then_run (m >>= (λ p. ok (p.0, run (f p.1))))
-  unfolding ◌>>=◌ noded_run
+  last : {A : Type 0} (m : Result (State × A)) (f : A → Noded) → (m >>= (λ p. noded_run (f p.1) p.0 s)) ≡ then_run (m >>= (λ p. ok (p.0, f p.1)))
+  unfolding ◌>>=◌
   last (ok p) f = refl
   last (err s e) f = refl
   last (refused x) f = refl
@@ -75,8 +78,8 @@ module _ (s : State) where
   -- and the tree t after it
   more : {A : Type 0} (m : Result (State × A)) (t : Tree) (f : A → ℕ → Run)
       → (m >>= (λ p. build t p.0 >>= (λ q. run_of (f p.1 q.1) q.0 s))) ≡ then_run (m >>= (λ p. build t p.0 >>= (λ q. ok (q.0, run (f p.1 q.1)))))
-  unfolding ◌>>=◌
-  more (ok p) t f = last (build t p.0) (f p.1)
+  unfolding ◌>>=◌ noded_run
+  more (ok p) t f = last (build t p.0) (λ u. run (f p.1 u))
   more (err s e) t f = refl
   more (refused x) t f = refl
 
@@ -84,8 +87,9 @@ module _ (s : State) where
   unfolding ◌>>=◌ noded_run
   placed_is (declares abilities params) = refl
   placed_is solves = refl
+  placed_is (expands t) = last (build t s) expand
   placed_is (none r) = refl
-  placed_is (one t f) = last (build t s) f
+  placed_is (one t f) = last (build t s) (λ u. run (f u))
   placed_is (both t u f) = more (build t s) u f
   placed_is (after_pairs ps t f) = more (build_pairs ps s) t f
 

@@ -15,7 +15,7 @@ use Rattle.table.specs.declared.state.State.{State as Table}
 use Rattle.writer.specs.Bytes.{AllBytes}
 use Rattle.answer.specs.Ran.{Settles}
 use Rattle.answer.specs.declared.Ran.{Ran}
-use Rattle.fields.specs.Noded.{unfolded, ready, tparams, Run, binds, looks, adds, Noded, run, Shape, declares, solves, none, one, both, after_pairs, shape, place, place_record}
+use Rattle.fields.specs.Noded.{unfolded, ready, tparams, Run, binds, looks, adds, Noded, run, Shape, declares, solves, expands, none, one, both, after_pairs, shape, place, place_record}
 use Rattle.table.specs.Known.{Known}
 use Rattle.run.proofs.Bytes.{Leaves, step_bytes, record_bytes, ready_leaves, subst_leaves, unfold_leaves}
 use Rattle.run.specs.Dispatch.{noded_run, step_of, kept_of, RanAs}
@@ -38,6 +38,7 @@ module _ (b : State) where
     place_leaves : (h : Shape) → ShapeIn b h → Leaves b (place h b)
     place_leaves (declares abilities params) g = e_ok (λ y. i)
     place_leaves solves g = e_ok (λ y. i)
+    place_leaves (expands t) g = then _ (tree t g) (λ p j. e_ok (λ y. j))
     place_leaves (none r) g = e_ok (λ y. i)
     place_leaves (one t f) g = then _ (tree t g) (λ p j. e_ok (λ y. j))
     place_leaves (both t u f) g = last u (λ a c. run (f a c)) (tree t g.0) g.1

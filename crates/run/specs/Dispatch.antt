@@ -1,15 +1,16 @@
 -- The run of a record whose types are placed, as the definition's `run` has it. Assumes nothing: these are definitions.
-use Rattle.std.specs.Prelude.{Bool, true, false, List, ℕ}
+use Rattle.std.specs.Prelude.{◌++◌, Bool, true, false, List, ℕ}
 use Rattle.definition.specs.Types as d
-use Rattle.definition.specs.Types.{Struct, Result}
+use Rattle.definition.specs.Types.{Struct, Result, ok, ◌>>=◌}
 use Rattle.definition.specs.Write.{Bytes}
 use Rattle.definition.specs.Store.{next_tvar}
 use Rattle.definition.specs.Subst.{ready_tvars}
 use Rattle.definition.specs.Instantiate as i
 use Rattle.definition.specs.Constraints.{solve_constraints}
+use Rattle.definition.specs.Expand.{expand_type}
 use Rattle.table.specs.State.{outcome, pushed_constraint}
 use Rattle.table.specs.declared.state.State.{State}
-use Rattle.fields.specs.Noded.{set_num, two, instantiate, unfolded, ready, tparams, tvar, num_tvar, constrain, tell, Run, binds, looks, adds, Noded, declare, solve, run}
+use Rattle.fields.specs.Noded.{set_num, two, instantiate, unfolded, ready, tparams, tvar, num_tvar, constrain, tell, Run, binds, looks, adds, Noded, declare, solve, expand, run}
 use Rattle.answer.specs.declared.Ran.{Ran}
 use Rattle.run.specs.Runs.{join_in, two_run, unfold_run, ready_run, subst_in, tparams_run, instantiate_run, tvar_run, num_tvar_in, num_tvar_run, set_num_in, set_num_run, constraint_run, needs_run, declare_run, Runs}
 
@@ -26,9 +27,16 @@ run_of (adds (num_tvar loc)) s before = num_tvar_run loc s before
 run_of (adds (constrain c)) s before = constraint_run c s before
 run_of (adds (tell n)) s before = needs_run n s before
 
+-- XP's payload is no node's
+abbrev pub expand_run : ℕ → d.State → d.State → Result (d.State × Bytes)
+expand_run t s before = do
+  x ← expand_type s t
+  ok (before, x.type ++ x.codes)
+
 unfoldable pub noded_run : Noded → d.State → d.State → Result (d.State × Bytes)
 noded_run (declare abilities params) s before = declare_run abilities params s before
 noded_run solve s before = solve_constraints s
+noded_run (expand t) s before = expand_run t s before
 noded_run (run r) s before = run_of r s before
 
 -- the number and the state that the run comes by, before the payload

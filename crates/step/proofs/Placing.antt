@@ -1,54 +1,40 @@
--- Only SD is placed as a declaration and only SV as solving, and both leave the state as it is; only RD and CN are placed as ones to be spelled, each in its way, and the node is that of the record's tree. Assumes nothing.
-use mathlib.Core.Path.{◌≡◌, refl, sym, ap, ap₂}
+-- Only SD is placed as a declaration and only SV as solving, and both leave the state as it is; only RD, CN and XP are placed as ones to be spelled, each in its way, and the node is that of the record's tree. Assumes nothing.
+use mathlib.Core.Path.{◌≡◌, refl, sym, ap}
 use mathlib.Core.List.{List}
 use Prim.Native.Nat.{ℕ, ◌≤◌}
 use native.Mathlib.Omega.{arith}
-use Rattle.definition.specs.Types.{State, Result, ok, err, refused, ◌>>=◌}
+use Rattle.definition.specs.Types.{State, BaseTypeConstraint, SingleTypeConstraint, Result, ok, err, refused, ◌>>=◌}
 use Rattle.definition.specs.Trees.{Tree}
 use Rattle.definition.specs.Build.{build, build_pairs}
+use Rattle.definition.specs.Step.{numeric_constraint}
 use Rattle.definition.specs.Record as d
 use Rattle.definition.specs.Record.{Record}
 use Rattle.theorems.specs.ReadySpelled.{Spelling, Located, Canonical, spelled_record}
 use Rattle.theorems.proofs.DemandTracks.{never}
-use Rattle.fields.specs.Noded.{unfolded, ready, tparams, Run, binds, looks, adds, Noded, declare, solve, run, Shape, declares, solves, none, one, both, after_pairs, shape, place, place_record}
+use Rattle.fields.specs.Noded.{instantiate, unfolded, ready, tparams, constrain, Run, binds, looks, adds, Noded, declare, solve, expand, run, Shape, declares, solves, expands, none, one, both, after_pairs, shape, place, place_record}
 
--- whether it has a call of its own
+-- whether it is declared or solved, without a type
 abbrev own : Noded → ℕ
 own (declare a ps) = 1
 own solve = 1
+own (expand t) = 0
 own (run r) = 0
 
--- whether it is RD's or CN's
-abbrev shows_ready : Noded → ℕ
-shows_ready (declare a ps) = 0
-shows_ready solve = 0
-shows_ready (run (binds b)) = 0
-shows_ready (run (looks (unfolded t))) = 0
-shows_ready (run (looks (ready how t))) = 1
-shows_ready (run (looks (tparams ps t))) = 0
-shows_ready (run (adds a)) = 0
-
-abbrev node_of : Noded → ℕ
-node_of (declare a ps) = 0
-node_of solve = 0
-node_of (run (binds b)) = 0
-node_of (run (looks (unfolded t))) = 0
-node_of (run (looks (ready how t))) = t
-node_of (run (looks (tparams ps t))) = 0
-node_of (run (adds a)) = 0
-
-abbrev how_of : Noded → Spelling
-how_of (declare a ps) = Located
-how_of solve = Located
-how_of (run (binds b)) = Located
-how_of (run (looks (unfolded t))) = Located
-how_of (run (looks (ready how t))) = how
-how_of (run (looks (tparams ps t))) = Located
-how_of (run (adds a)) = Located
+-- whether it is RD's, CN's or XP's
+abbrev is_spelled : Noded → ℕ
+is_spelled (declare a ps) = 0
+is_spelled solve = 0
+is_spelled (expand t) = 1
+is_spelled (run (binds b)) = 0
+is_spelled (run (looks (unfolded t))) = 0
+is_spelled (run (looks (ready how t))) = 1
+is_spelled (run (looks (tparams ps t))) = 0
+is_spelled (run (adds a)) = 0
 
 abbrev whose : Noded → Shape
 whose (declare a ps) = declares a ps
 whose solve = solves
+whose (expand t) = solves
 whose (run r) = none r
 
 -- of a record whose run is told by no mark, placing it is told by none
@@ -58,7 +44,7 @@ module _ (told : Noded → ℕ) where
   told_in (err s e) = 0
   told_in (refused x) = 0
 
-  last : {A : Type 0} (m : Result (State × A)) (f : A → Run) → ((a : A) → told (run (f a)) ≡ 0) → told_in (m >>= (λ p. ok (p.0, run (f p.1)))) ≡ 0
+  last : {A : Type 0} (m : Result (State × A)) (f : A → Noded) → ((a : A) → told (f a) ≡ 0) → told_in (m >>= (λ p. ok (p.0, f p.1))) ≡ 0
   unfolding ◌>>=◌
   last (ok p) f h = h p.1
   last (err s e) f h = refl
@@ -66,7 +52,7 @@ module _ (told : Noded → ℕ) where
 
   more : {A : Type 0} (m : Result (State × A)) (t : Tree) (f : A → ℕ → Run) → ((a : A) (u : ℕ) → told (run (f a u)) ≡ 0) → told_in (m >>= (λ p. build t p.0 >>= (λ q. ok (q.0, run (f p.1 q.1))))) ≡ 0
   unfolding ◌>>=◌
-  more (ok p) t f h = last (build t p.0) (f p.1) (h p.1)
+  more (ok p) t f h = last (build t p.0) (λ u. run (f p.1 u)) (h p.1)
   more (err s e) t f h = refl
   more (refused x) t f h = refl
 
@@ -82,8 +68,9 @@ module _ (s' : State) (n : Noded) where
   own_placed : (h : Shape) (s : State) → 1 ≤ own n → place h s ≡ ok (s', n) → (h ≡ whose n) × (s' ≡ s)
   own_placed (declares a ps) s l e = let p = parts s (declare a ps) e in (sym (ap whose p.0), p.1)
   own_placed solves s l e = let p = parts s solve e in (sym (ap whose p.0), p.1)
+  own_placed (expands t) s l e = not_told own _ (last own (build t s) expand (λ a. refl)) e l
   own_placed (none r) s l e = not_told own _ refl e l
-  own_placed (one t f) s l e = not_told own _ (last own (build t s) f (λ a. refl)) e l
+  own_placed (one t f) s l e = not_told own _ (last own (build t s) (λ u. run (f u)) (λ a. refl)) e l
   own_placed (both t u f) s l e = not_told own _ (more own (build t s) u f (λ a b. refl)) e l
   own_placed (after_pairs ps t f) s l e = not_told own _ (more own (build_pairs ps s) t f (λ a b. refl)) e l
 
@@ -95,47 +82,50 @@ pub placed_SV : (x : Record) (s s' : State) → place_record x s ≡ ok (s', sol
 unfolding place_record
 placed_SV x s s' e = (own_placed s' solve (shape x) s (omega arith) e).1
 
--- the record that is answered so, of a tree that is placed as node ty
-pub record PlacedSpelled (s s' : State) (how : Spelling) (ty : ℕ) (x : Record) : Type 0 where
+-- the record that `make` gives, of a tree that is placed as node ty
+pub record OfTree (s s' : State) (make : Tree → Record) (ty : ℕ) (x : Record) : Type 0 where
   pub tree : Tree
-  pub is : x ≡ spelled_record how tree
+  pub is : x ≡ make tree
   pub placed : build tree s ≡ ok (s', ty)
 
-module _ (s s' : State) (how : Spelling) (ty : ℕ) where
-  abbrev PlacedReady : Result (State × Noded) → Type 0
-  PlacedReady m = m ≡ ok (s', run (looks (ready how ty)))
+-- such a record, by what it is placed as
+pub data PlacedTree (s s' : State) (x : Record) : Noded → Type 0 where
+  placed_spelled : {how : Spelling} {ty : ℕ} → OfTree s s' (spelled_record how) ty x → PlacedTree s s' x (run (looks (ready how ty)))
+  placed_expanded : {ty : ℕ} → OfTree s s' d.XP ty x → PlacedTree s s' x (expand ty)
 
-  built : (k : Spelling) (m : Result (State × ℕ)) → PlacedReady (m >>= (λ p. ok (p.0, run (looks (ready k p.1))))) → (m ≡ ok (s', ty)) × (k ≡ how)
+module _ (s s' : State) (n : Noded) where
+  abbrev Placed : Result (State × Noded) → Type 0
+  Placed m = m ≡ ok (s', n)
+
+  built : (m : Result (State × ℕ)) (f : ℕ → Noded) → Placed (m >>= (λ p. ok (p.0, f p.1))) → (ty : ℕ) × (m ≡ ok (s', ty)) × (n ≡ f ty)
   unfolding ◌>>=◌
-  built k (ok p) e =
-      let q : ◌≡◌ {A = State × Noded} (p.0, run (looks (ready k p.1))) (s', run (looks (ready how ty))) = cc in (
-        ap₂ (λ (s : State) (t : ℕ). ok (s, t)) (ap (λ (x : State × Noded). x.0) q) (ap (λ (x : State × Noded). node_of x.1) q),
-        ap (λ (x : State × Noded). how_of x.1) q,
-      )
-  built k (err x y) e = never (cc)
-  built k (refused x) e = never (cc)
+  built (ok p) f e = let q = parts s' n p.0 (f p.1) e in (p.1, ap (λ (s : State). ok (s, p.1)) (sym q.1), q.0)
+  built (err x y) f e = never (cc)
+  built (refused x) f e = never (cc)
 
-  spelled : (k : Spelling) (t : Tree) → PlacedReady (build t s >>= (λ p. ok (p.0, run (looks (ready k p.1))))) → PlacedSpelled s s' how ty (spelled_record k t)
-  spelled k t e = let b = built k (build t s) e in record { tree = t; is = ap (λ (j : Spelling). spelled_record j t) b.1; placed = b.0 }
+  module _ (l : 1 ≤ is_spelled n) where
+    not_spelled : {A : Type 0} (m : Result (State × Noded)) → told_in is_spelled m ≡ 0 → Placed m → A
+    not_spelled m z e = not_told is_spelled m z e l
 
-  not_ready : {A : Type 0} (m : Result (State × Noded)) → told_in shows_ready m ≡ 0 → PlacedReady m → A
-  not_ready m z e = not_told shows_ready m z e (omega arith)
+    as_spelled : (how : Spelling) (t : Tree) → Placed (build t s >>= (λ p. ok (p.0, run (looks (ready how p.1))))) → PlacedTree s s' (spelled_record how t) n
+    as_spelled how t e = let (ty, b, q) = built (build t s) (λ u. run (looks (ready how u))) e in rw q (placed_spelled (record { tree = t; is = refl; placed = b }))
 
-  pub placed_spelled : (x : Record) → PlacedReady (place_record x s) → PlacedSpelled s s' how ty x
-  unfolding place_record
-  placed_spelled (d.SD abilities params) e = not_ready _ refl e
-  placed_spelled (d.FV loc) e = not_ready _ refl e
-  placed_spelled (d.NV loc) e = not_ready _ refl e
-  placed_spelled (d.SN v loc) e = not_ready _ refl e
-  placed_spelled (d.JN t1 t2) e = not_ready _ (more shows_ready (build t1 s) t2 _ (λ a b. refl)) e
-  placed_spelled (d.SU t1 t2) e = not_ready _ (more shows_ready (build t1 s) t2 _ (λ a b. refl)) e
-  placed_spelled (d.UF t) e = not_ready _ (last shows_ready (build t s) _ (λ a. refl)) e
-  placed_spelled (d.RD t) e = spelled Located t e
-  placed_spelled (d.IN t) e = not_ready _ (last shows_ready (build t s) _ (λ a. refl)) e
-  placed_spelled (d.TS pairs t) e = not_ready _ (more shows_ready (build_pairs pairs s) t _ (λ a b. refl)) e
-  placed_spelled (d.NC loc kind t) e = not_ready _ (last shows_ready (build t s) _ (λ a. refl)) e
-  placed_spelled (d.BC loc t) e = not_ready _ (last shows_ready (build t s) _ (λ a. refl)) e
-  placed_spelled (d.SC loc t) e = not_ready _ (last shows_ready (build t s) _ (λ a. refl)) e
-  placed_spelled d.SV e = not_ready _ refl e
-  placed_spelled (d.RM t) e = not_ready _ refl e
-  placed_spelled (d.CN t) e = spelled Canonical t e
+    pub placed_tree : (x : Record) → Placed (place_record x s) → PlacedTree s s' x n
+    unfolding place_record
+    placed_tree (d.SD abilities params) e = not_spelled _ refl e
+    placed_tree (d.FV loc) e = not_spelled _ refl e
+    placed_tree (d.NV loc) e = not_spelled _ refl e
+    placed_tree (d.SN v loc) e = not_spelled _ refl e
+    placed_tree (d.JN t1 t2) e = not_spelled _ (more is_spelled (build t1 s) t2 _ (λ a b. refl)) e
+    placed_tree (d.SU t1 t2) e = not_spelled _ (more is_spelled (build t1 s) t2 _ (λ a b. refl)) e
+    placed_tree (d.UF t) e = not_spelled _ (last is_spelled (build t s) (λ u. run (looks (unfolded u))) (λ a. refl)) e
+    placed_tree (d.RD t) e = as_spelled Located t e
+    placed_tree (d.IN t) e = not_spelled _ (last is_spelled (build t s) (λ u. run (binds (instantiate u))) (λ a. refl)) e
+    placed_tree (d.TS pairs t) e = not_spelled _ (more is_spelled (build_pairs pairs s) t _ (λ a b. refl)) e
+    placed_tree (d.NC loc kind t) e = not_spelled _ (last is_spelled (build t s) (λ u. run (adds (constrain (numeric_constraint kind loc u)))) (λ a. refl)) e
+    placed_tree (d.BC loc t) e = not_spelled _ (last is_spelled (build t s) (λ u. run (adds (constrain (BaseTypeConstraint loc u)))) (λ a. refl)) e
+    placed_tree (d.SC loc t) e = not_spelled _ (last is_spelled (build t s) (λ u. run (adds (constrain (SingleTypeConstraint loc u)))) (λ a. refl)) e
+    placed_tree d.SV e = not_spelled _ refl e
+    placed_tree (d.RM t) e = not_spelled _ refl e
+    placed_tree (d.CN t) e = as_spelled Canonical t e
+    placed_tree (d.XP t) e = let (ty, b, q) = built (build t s) expand e in rw q (placed_expanded (record { tree = t; is = refl; placed = b }))

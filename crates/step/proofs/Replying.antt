@@ -11,8 +11,11 @@ use Rattle.std.specs.Prelude as core
 use Rattle.definition.specs.Types as d
 use Rattle.definition.specs.Types.{TypeName, Places, State, Struct, Refusal, max_nodes, max_args, Result, ok, err, refused, ◌>>=◌}
 use Rattle.definition.specs.Store.{taken, node, type_at, with_args, with_structs}
+use Rattle.definition.specs.Write.{Bytes}
 use Rattle.definition.specs.Trees.{Tree, arity}
 use Rattle.definition.specs.Build.{build}
+use Rattle.definition.specs.Expand.{Expanded, expand_type}
+use Rattle.definition.specs.Record as record_of
 use Rattle.definition.specs.Record.{Record}
 use Rattle.definition.specs.Sound.{sound}
 use Rattle.definition.specs.Step as step
@@ -29,6 +32,7 @@ use Rattle.theorems.proofs.ReadyTold.{Fits, record_spells}
 use Rattle.theorems.proofs.SoundRanges.{Ranges, StructIn}
 use Rattle.theorems.proofs.SoundKept.{ranges_of}
 use Rattle.table.specs.State.{outcome, done, more, view, seen, Grown, FoundIn, Declares}
+use Rattle.table.specs.Known as known
 use Rattle.table.specs.Known.{Known}
 use Rattle.table.specs.Did.{held as seen_in, tables, Linked}
 use Rattle.table.specs.declared.Used.{Used}
@@ -44,10 +48,10 @@ use Rattle.sound.specs.Lent.{structs_of, encode_params}
 use Rattle.sound.proofs.Lays.{lent_declares}
 use Rattle.reader.proofs.Loop.{declares_kept}
 use Rattle.heads.specs.Fields.{Arities}
-use Rattle.fields.specs.Noded.{ready, looks, Run, Noded, declare, solve, run, Shape}
+use Rattle.fields.specs.Noded.{ready, looks, Run, Noded, declare, solve, expand, run, Shape}
 use Rattle.writer.specs.Bytes.{AllBytes}
 use Rattle.canonical.specs.Named.{Numbered, AllNumbered}
-use Rattle.answer.specs.Ran.{Tells, Settles, Still, answered, refused_by, spelled_by}
+use Rattle.answer.specs.Ran.{Tells, Settles, Still, answered, refused_by, told_by, spelled_by}
 use Rattle.answer.specs.Answered.{AnswersIn}
 use Rattle.answer.specs.declared.Ran.{Ran}
 use Rattle.payload.specs.declared.Answer.{Answer}
@@ -57,12 +61,13 @@ use Rattle.run.specs.Dispatch.{noded_run, step_of, RanAs}
 use Rattle.run.proofs.Placed.{ShapeIn, shape_in, run_placed}
 use Rattle.run.proofs.PlacedBytes as noded
 use Rattle.run.proofs.Inside.{known_structs}
+use Rattle.expand.specs.Told.{expanded_bytes}
 use Rattle.solve.specs.Solves.{HoldsSound, solve_answer, Solves}
 use Rattle.step.specs.Trusted.{held, Stands}
 use Rattle.verdict.specs.Verdict.{row_for, padded}
 use Rattle.step.specs.Replies.{Replied, Begun}
 use Rattle.step.proofs.Rows.{rows_of, rows_seen, held_known, known_rows, row_in, row_kept, arities_kept}
-use Rattle.step.proofs.Placing.{placed_SD, placed_SV, PlacedSpelled, placed_spelled}
+use Rattle.step.proofs.Placing.{placed_SD, placed_SV, OfTree, PlacedTree, placed_spelled, placed_expanded, placed_tree}
 use Rattle.step.proofs.Standing.{Leaves, leaves_ok, place_leaves, unkept_leaves}
 use Rattle.step.proofs.Keeping.{sound_arities, saved_still}
 
@@ -224,8 +229,8 @@ numbered_if s d.Anything h = tt
 numbered_if s d.UnresolvedError h = tt
 
 module _ {w₀ : List ℕ} {bf : Before} {params : List (List ℕ)} {s : Table} {x : Record} {how : Spelling} {ty : ℕ} (b : Begun w₀ bf params s x (run (looks (ready how ty)))) where
-  from_tree : PlacedSpelled (s₀ b) (seen_in s (ds b)) how ty x
-  from_tree = placed_spelled _ _ how ty x b.placed
+  from_tree : OfTree (s₀ b) (seen_in s (ds b)) (spelled_record how) ty x
+  from_tree = elim (placed_tree _ _ (run (looks (ready how ty))) (omega arith) x b.placed) [ placed_spelled o ↦ o ]
 
   fine : Fine (arity (s₀ b)) (taken (s₀ b)) from_tree.tree
   fine = fine_tree how from_tree.tree (subst (λ (y : Record). FineRecord (arity (s₀ b)) (taken (s₀ b)) y) from_tree.is b.names)
@@ -334,3 +339,37 @@ module _ {w₀ : List ℕ} {bf : Before} {params : List (List ℕ)} {s : Table} 
       replied_with (if r.kept then ds b else ds b) (c.declares (ds b) (ds b) (then_declares b) (then_declares b)) params
       (subst Arities same (stands_arities b.stands)) (stands_rows b.stands ∙ ap rows_of same) buf c.few c.rest _
       (ap₂ answer (sym still) (run_is b) ∙ c.is (ds b) (ds b) (then_known b))
+
+-- ---- XP
+
+-- the payload, told beside the state
+told_beside : (m : Result Expanded) (s : State) → ◌>>=◌ {B = State × Bytes} m (λ (x : Expanded). ok (s, x.type ++ x.codes)) ≡ with_state s (m >>= (λ (x : Expanded). ok (x.type ++ x.codes)))
+unfolding with_state ◌>>=◌
+told_beside (ok x) s = refl
+told_beside (err z e) s = refl
+told_beside (refused x) s = refl
+
+module _ {w₀ : List ℕ} {bf : Before} {params : List (List ℕ)} {s : Table} {x : Record} {ty : ℕ} (b : Begun w₀ bf params s x (expand ty)) where
+  -- what expand asks
+  pub expand_asks : (buf : List ℕ) → 4096 ≤ length buf → ty < s.used.nodes
+      → GrownFrom w₀ bf s × (((ty < s.used.nodes) × (AllBytes (tables s) × (known.Declared s.words.now s.used params × (4096 ≤ length buf)))) × Still s.words.now s.used bf.used bf.saved.now)
+  expand_asks buf l i = (b.since, ((i, (bytes_placed b, (record { structs = ds b; known = then_known b }, l))), still_placed b))
+
+  from_expanded : OfTree (s₀ b) (seen_in s (ds b)) record_of.XP ty x
+  from_expanded = elim (placed_tree _ _ (expand ty) (omega arith) x b.placed) [ placed_expanded o ↦ o ]
+
+  sound_placed : Sound (arity (s₀ b)) (seen_in s (ds b))
+  sound_placed = placed_sound (s₀ b) b.stands.is_sound from_expanded.tree (subst (λ (y : Record). FineRecord (arity (s₀ b)) (taken (s₀ b)) y) from_expanded.is b.names) (seen_in s (ds b)) ty from_expanded.placed
+
+  module _ {t : Table} {buf buf' : List ℕ} {r : Answer}
+      (a : (ds : List Struct) → Known s.words.now s.used params ds → (arity : TypeName → ℕ) → Sound arity (seen_in s ds) → AnswersIn w₀ bf s t buf buf' r (told_by (λ y. expanded_bytes (seen_in s ds) ty))) where
+    here : AnswersIn w₀ bf s t buf buf' r (told_by (λ y. expanded_bytes (seen_in s (ds b)) ty))
+    here = a (ds b) (then_known b) (arity (s₀ b)) sound_placed
+
+    pub expanded_same : Linked s t
+    expanded_same = here.same
+
+    pub reply_expanded : Replied buf t params buf' r (answer (held w₀ bf.used params) (step.run (held w₀ bf.used params) x))
+    unfolding held noded_run expanded_bytes
+    reply_expanded = replied_same here (ds b) (lent_declares w₀ params bf.used) (then_declares b) params (stands_arities b.stands) (stands_rows b.stands) _
+        (ap (answer (s₀ b)) (run_is b ∙ told_beside (expand_type (seen_in s (ds b)) ty) (s₀ b)))

@@ -21,7 +21,7 @@ use Rattle.table.specs.State.{outcome}
 use Rattle.table.specs.declared.state.Stop.{Stop}
 use Rattle.table.specs.declared.state.Stop.TheVariants.{Failed, Refused}
 use Rattle.fields.specs.Noded.{unfolded, ready, tparams, Run, binds, looks, adds}
-use Rattle.fields.specs.Noded.{Shape, declares, solves, none, one, both, after_pairs, shape, place, place_record}
+use Rattle.fields.specs.Noded.{Shape, declares, solves, expands, none, one, both, after_pairs, shape, place, place_record}
 use Rattle.answer.specs.declared.Ran.{Ran}
 use Rattle.answer.proofs.Calls.{kept_never}
 use Rattle.run.specs.Runs.{subst_in}
@@ -97,6 +97,7 @@ module _ {P : List Cell → Type 0} where
   shape_leaves : (h : Shape) (s : State) → P s.vars → Leaves P (place h s)
   shape_leaves (declares a ps) s p = l_ok p
   shape_leaves solves s p = l_ok p
+  shape_leaves (expands t) s p = then_leaves _ (build_leaves t s p) (λ s a p. l_ok p)
   shape_leaves (none r) s p = l_ok p
   shape_leaves (one t f) s p = then_leaves _ (build_leaves t s p) (λ s a p. l_ok p)
   shape_leaves (both t u f) s p = then_leaves _ (build_leaves t s p) (λ s a p. then_leaves _ (build_leaves u s p) (λ s b p. l_ok p))

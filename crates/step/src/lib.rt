@@ -65,7 +65,7 @@ fn answer_declared(
 
 // ---- what was read
 
-// What was read and placed is run and answered. RD and CN are told from the placed state, so no call runs them.
+// What was read and placed is run and answered. RD, CN and XP are told from the placed state, so no call runs them.
 fn answer_placed(
     st: &mut State<'_>,
     before: Before<'_>,
@@ -83,6 +83,7 @@ fn answer_placed(
             return answer_declared(st, before, params, abilities, own, buf);
         }
         What::SV => return solve::solve(st, params, before.saved, buf),
+        What::XP(t) => return expand::expand(st, before, params, t, buf),
         What::Bind(x) => run::run_bind(st, params, x),
         What::Look(x) => match x {
             Look::One(m, t) => match m {

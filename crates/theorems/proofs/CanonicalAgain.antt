@@ -33,10 +33,12 @@ use Rattle.theorems.proofs.CanonicalAgree.{numbered as as_numbered, numbered_ali
 use Rattle.theorems.proofs.CanonicalBytes.{plain, Within, parse, deep, parse_back}
 use Rattle.theorems.proofs.CanonicalSpelled.{Stands, canonical_is}
 use Rattle.theorems.proofs.CanonicalReady.{StandsFor, news_few, Resolved, resolved, ran_in, ready_reads}
-use Rattle.theorems.proofs.CanonicalOne.{Spelling, if_short, with_is, of_record, short, within_same}
-use Rattle.theorems.proofs.CanonicalRD.{made, reads_CN}
+use Rattle.theorems.proofs.CanonicalOne.{Spelling, of_record, short, within_same}
+use Rattle.theorems.proofs.CanonicalRD.{reads_CN}
+use Rattle.theorems.proofs.ReadBack.{made}
 use Rattle.theorems.proofs.CanonicalRead.{read_of, ToldOf, told_of, type_parses}
 use Rattle.theorems.proofs.CanonicalBuilt.{places_tree, stands_reads}
+use Rattle.theorems.proofs.LawsAnswer.{if_short, with_is}
 
 -- ---- a numbered type is numbered as it stands
 

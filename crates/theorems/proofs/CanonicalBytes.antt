@@ -11,6 +11,7 @@ use borrow.Author.Tests.{le-ltb}
 use Rattle.definition.specs.Types.{TypeName, Multiple, Builtin, ModuleType, AbilityMark}
 use Rattle.definition.specs.Rank.{ReadType, any, unresolved, unit, open_var, parameter, reference, named, ReadTypes, no_types, ◌and◌}
 use Rattle.definition.specs.Write.{Bytes, bool, mark}
+use Rattle.theorems.proofs.ReadBack.{u16_is, u32_is}
 
 -- ---- written, every location 0
 
@@ -99,26 +100,6 @@ module _ (ar : TypeName → ℕ) where
     deeps : ReadTypes → ℕ
     deeps no_types = 0
     deeps (◌and◌ r rs) = deep r + deeps rs
-
-  pub u16_is : (n : ℕ) → n < 65536 → n % 256 + 256 * (n / 256 % 256) ≡ n
-  u16_is n h = omega arith
-
-  low_half : (n : ℕ) → n % 256 + 256 * (n / 256 % 256) ≡ n % 65536
-  low_half n = omega arith
-
-  halves : (n low high : ℕ) → low ≡ n % 65536 → high ≡ n / 65536 → low + 65536 * high ≡ n
-  halves n low high p q = omega (arith, p, q)
-
-  top_byte : (n : ℕ) → n / 16777216 ≡ n / 65536 / 256
-  top_byte n = omega arith
-
-  pub u32_is : (n : ℕ) → n < 4294967296 → n % 256 + 256 * (n / 256 % 256) + 65536 * (n / 65536 % 256) + 16777216 * (n / 16777216 % 256) ≡ n
-  u32_is n h = ap (λ (x : ℕ). n % 256 + 256 * (n / 256 % 256) + 65536 * (n / 65536 % 256) + 16777216 * (x % 256)) (top_byte n)
-      ∙ gather (n % 256 + 256 * (n / 256 % 256)) (n / 65536 % 256) (n / 65536 / 256 % 256)
-      ∙ halves n _ _ (low_half n) (u16_is (n / 65536) (omega arith))
-    where
-      gather : (a b c : ℕ) → a + 65536 * b + 16777216 * c ≡ a + 65536 * (b + 256 * c)
-      gather a b c = omega arith
 
   bool_is : (b : Bool) → eqb (bool b) 1 ≡ b
   unfolding bool

@@ -1,32 +1,29 @@
 -- R-12: what CN answers is read back from a record, where it fits one and its variables are taken: it can be carried. Assumes nothing.
 use mathlib.Core.Path.{◌≡◌, refl, sym, ap, ◌∙◌, subst}
-use mathlib.Core.Bool.{Bool, true, false, not, ◌&&◌}
+use mathlib.Core.Bool.{Bool, true, false, ◌&&◌}
 use mathlib.Core.List.Memᴰ
 use mathlib.Core.List.{List, [], ◌∷◌, ◌++◌, append_assoc, append-nil, Memᴰ}
-use Rattle.std.specs.Prelude.{None, Some, if◌then◌else◌}
-use Prim.Native.Nat.{ℕ, zero, suc, ◌+◌, ◌-◌, ◌/◌, ◌%◌, ◌≤◌, ◌<◌}
+use Rattle.std.specs.Prelude.{None}
+use Prim.Native.Nat.{ℕ, zero, suc, ◌≤◌, ◌<◌}
 use native.Mathlib.Omega.{arith}
 use lib.ListN.{length, get_or, take, take-append-drop, drop_of_length-le}
-use lib.Dec.{eqb, leb, ltb}
-use borrow.Author.Tests.{lt-ltb, le-leb, ne_eqb}
-use Rattle.definition.specs.Types.{State, TypeName, Multiple, Builtin, ModuleType, AbilityMark, Refusal, malformed, unknown_name, doubled_reference, Result, ok, err, refused}
+use lib.Dec.{eqb}
+use Rattle.definition.specs.Types.{State, Multiple, Builtin, ModuleType, malformed, unknown_name, Result, ok, err, refused}
 use Rattle.definition.specs.Store.{taken, get}
 use Rattle.definition.specs.Rank.{ReadType, any, unresolved, unit, open_var, parameter, reference, named, ReadTypes, no_types, ◌and◌}
-use Rattle.definition.specs.Write.{Bytes, bool, mark}
+use Rattle.definition.specs.Write.{Bytes}
 use Rattle.definition.specs.Canonical.{number_of}
-use Rattle.definition.specs.Reader.{got, not_read, Reader, give, refuse, go_on, ◌>>=◌, read_one, read_two, byte, read_u16, read_u32, byte_if, byte_to, read_bool, name_below}
-use Rattle.definition.specs.Trees.{Tree, unit_tree, anything_tree, error_tree, ref_tree, param_tree, apply_tree, var_tree, Trees, no_trees, ◌then◌, is_set, is_mark, is_name, mark_fits, mark_of, read_mark, read_trees, arity, under_ref, read_apply, by_tag, read_nested, read_type}
+use Rattle.definition.specs.Reader.{got, read_one, read_two, byte, read_u16, read_u32, byte_if, read_bool, name_below}
+use Rattle.definition.specs.Trees.{Tree, unit_tree, anything_tree, error_tree, ref_tree, param_tree, apply_tree, var_tree, Trees, no_trees, ◌then◌, is_set, is_mark, mark_fits, read_trees, arity, under_ref, by_tag, read_nested, read_type}
 use Rattle.definition.specs.Record.{CN, read_record}
 use Rattle.definition.specs.Build.{build}
 use Rattle.definition.specs.Sound.{sound}
 use Rattle.definition.specs.Agree.{rename, rename_all, variables, variables_all, met_in, NoReference, Nested, n_any, n_error, n_unit, n_var, n_param, n_ref, n_named, AllNested, n_none, n_each, tags, tags_all, places, places_all, Carried, CNCarried}
-use Rattle.theorems.proofs.DemandTracks.{never}
 use Rattle.theorems.proofs.DemandRuns.{arity_same}
-use Rattle.theorems.proofs.SoundFacts.{and_l, and_r, facts}
-use Rattle.theorems.proofs.SoundRanges.{Named}
+use Rattle.theorems.proofs.SoundFacts.{facts}
 use Rattle.theorems.proofs.SoundRead.{Fine, ReadWell, given, well_read}
 use Rattle.theorems.proofs.CanonicalAgree.{numbered as as_numbered, variables_renamed, from_map}
-use Rattle.theorems.proofs.CanonicalBytes.{plain, plains, how_many, Within, in_any, in_error, in_unit, in_var, in_param, in_ref, in_named, AllWithin, in_none, in_each, u16_is, u32_is}
+use Rattle.theorems.proofs.CanonicalBytes.{plain, plains, how_many, Within, in_any, in_error, in_unit, in_var, in_param, in_ref, in_named, AllWithin, in_none, in_each}
 use Rattle.theorems.proofs.CanonicalWithin.{Shaped, sh_any, sh_error, sh_unit, sh_var, sh_param, sh_ref, sh_named, AllShaped, sh_none, sh_each}
 use Rattle.theorems.proofs.ReadyTold.{Fits, Reads as Gives, made, no_place}
 use Rattle.theorems.proofs.CanonicalReady.{StandsFor}
@@ -34,62 +31,8 @@ use Rattle.theorems.proofs.CanonicalOne.{Spelling, of_record, short, within_same
 use Rattle.theorems.proofs.CanonicalRD.{reads_CN}
 use Rattle.theorems.proofs.CanonicalRead.{read_of, reads_of}
 use Rattle.theorems.proofs.CanonicalBuilt.{places_tree, stands_meets}
-
--- ---- readers, on bytes that are known
-
-then_ok : {A B : Type 0} (m : Reader A) (f : A → Reader B) {bytes rest : Bytes} {a : A} → m bytes ≡ got a rest → (m >>= f) bytes ≡ f a rest
-unfolding ◌>>=◌ go_on
-then_ok m f e = ap (λ x. go_on x f) e
-
-give_ok : {A : Type 0} (a : A) (bytes : Bytes) → give a bytes ≡ got a bytes
-unfolding give
-give_ok a bytes = refl
-
-if_not : {A : Type 0} (b : Bool) (x y : Reader A) (bytes : Bytes) → b ≡ true → (if not b then x else y) bytes ≡ y bytes
-if_not true x y bytes e = refl
-if_not false x y bytes e = never (cc)
-
-if_yes : {A : Type 0} (b : Bool) (x y : Reader A) (bytes : Bytes) → b ≡ true → (if b then x else y) bytes ≡ x bytes
-if_yes true x y bytes e = refl
-if_yes false x y bytes e = never (cc)
-
-byte_ok : (b : ℕ) (rest : Bytes) → byte (b ∷ rest) ≡ got b rest
-unfolding byte
-byte_ok b rest = refl
-
-byte_if_ok : (allowed : ℕ → Bool) (b : ℕ) (rest : Bytes) → allowed b ≡ true → byte_if allowed (b ∷ rest) ≡ got b rest
-unfolding byte_if
-byte_if_ok allowed b rest e = then_ok byte _ (byte_ok b rest) ∙ if_yes (allowed b) _ _ rest e ∙ give_ok b rest
-
-u16_ok : (v : ℕ) (rest : Bytes) → v < 65536 → read_u16 (v % 256 ∷ v / 256 % 256 ∷ rest) ≡ got v rest
-unfolding read_u16
-u16_ok v rest h = then_ok byte _ (byte_ok _ _) ∙ then_ok byte _ (byte_ok _ _) ∙ give_ok _ rest ∙ ap (λ (n : ℕ). got n rest) (u16_is (λ n. 0) v h)
-
-u32_ok : (v : ℕ) (rest : Bytes) → v < 4294967296 → read_u32 (v % 256 ∷ v / 256 % 256 ∷ v / 65536 % 256 ∷ v / 16777216 % 256 ∷ rest) ≡ got v rest
-unfolding read_u32
-u32_ok v rest h = then_ok byte _ (byte_ok _ _) ∙ then_ok byte _ (byte_ok _ _) ∙ then_ok byte _ (byte_ok _ _) ∙ then_ok byte _ (byte_ok _ _) ∙ give_ok _ rest ∙ ap (λ (n : ℕ). got n rest) (u32_is (λ n. 0) v h)
-
-name_ok : (known v : ℕ) (rest : Bytes) → v < 65536 → v < known → name_below known (v % 256 ∷ v / 256 % 256 ∷ rest) ≡ got v rest
-unfolding name_below
-name_ok known v rest h l = then_ok read_u16 _ (u16_ok v rest h) ∙ if_yes (ltb v known) _ _ rest (lt-ltb v known l) ∙ give_ok v rest
-
-bool_ok : (m : Bool) (rest : Bytes) → read_bool (bool m ∷ rest) ≡ got m rest
-unfolding read_bool read_one bool
-bool_ok true rest = then_ok (byte_to 1) _ (byte_if_ok _ 1 rest refl) ∙ give_ok _ rest
-bool_ok false rest = then_ok (byte_to 1) _ (byte_if_ok _ 0 rest refl) ∙ give_ok _ rest
-
-mark_ok : (k : AbilityMark) (rest : Bytes) → is_mark k ≡ true → read_mark (mark k ∷ rest) ≡ got k rest
-unfolding read_mark mark is_mark mark_of
-mark_ok None rest h = then_ok byte _ (byte_ok _ _) ∙ give_ok None rest
-mark_ok (Some set) rest h = then_ok byte _ (byte_ok _ _) ∙ go (eqb (16 + set) 0) (leb 16 (16 + set)) (ne_eqb (16 + set) 0 (λ e. absurd (omega (arith, e)))) (le-leb 16 (16 + set) (omega arith))
-  where
-    less : 16 + set - 16 ≡ set
-    less = omega arith
-
-    go : (z l : Bool) → z ≡ false → l ≡ true → (elim (if z then Some None else if l && is_set (16 + set - 16) then Some (Some (16 + set - 16)) else None) as (λ o. Reader AbilityMark) [ None ↦ refuse malformed | Some k ↦ give k ]) rest ≡ got (Some set) rest
-    go true l e f = never (cc)
-    go false false e f = never (cc)
-    go false true e f = rw (less, h) (give_ok (Some set) rest)
+use Rattle.theorems.proofs.ReadBack.{then_ok, give_ok, byte_ok, byte_if_ok, u16_ok, u32_ok, name_ok, bool_ok, under_ok, apply_ok, tag_ok}
+use Rattle.theorems.proofs.SoundRanges.{name_known}
 
 -- ---- types
 
@@ -136,47 +79,25 @@ no_ref (named k (Builtin b) rs) rest h = refl
 no_ref (named k (Multiple b) rs) rest h = refl
 no_ref (named k (ModuleType b) rs) rest h = refl
 
-under_ok : (left : ℕ) (m : Reader Tree) (bytes : Bytes) → eqb (get_or bytes 0 0) 1 ≡ false → under_ref left m bytes ≡ m bytes
-unfolding under_ref
-under_ok left m bytes e = go (ltb 0 left) (eqb (get_or bytes 0 0) 1) e
-  where
-    go : (b c : Bool) → c ≡ false → (if b && c then not_read doubled_reference else m bytes) ≡ m bytes
-    go true true e = never (cc)
-    go true false e = refl
-    go false c e = refl
-
 module _ (s : State) where
-  apply_ok : (m : Reader Tree) (number : Reader ℕ) (name : ℕ → TypeName) (x : Refusal) (k : AbilityMark) (i : ℕ) {l r rest : Bytes} {ts : Trees} → Named s k (name i) → number l ≡ got i r → read_trees (arity s (name i)) m r ≡ got ts rest
-      → read_apply s m 0 number name x (mark k ∷ l) ≡ got (apply_tree 0 k (name i) ts) rest
-  unfolding read_apply
-  apply_ok m number name x k i {l} {r} {rest} {ts} h e f =
-      let marked : is_mark k ≡ true = and_l (is_mark k) (is_name s (name i)) (and_l (is_mark k && is_name s (name i)) (mark_fits k (name i)) h) in
-      let known : is_name s (name i) ≡ true = and_r (is_mark k) (is_name s (name i)) (and_l (is_mark k && is_name s (name i)) (mark_fits k (name i)) h) in
-      let fits : mark_fits k (name i) ≡ true = and_r (is_mark k && is_name s (name i)) (mark_fits k (name i)) h in
-      then_ok read_mark _ (mark_ok k l marked) ∙ then_ok number _ e ∙ if_not (is_name s (name i)) _ _ r known ∙ if_not (mark_fits k (name i)) _ _ r fits ∙ then_ok (read_trees (arity s (name i)) m) _ f ∙ give_ok _ rest
-
-  tag_ok : (n tag : ℕ) (more : Bytes) → leb tag 8 ≡ true → read_nested (suc n) s (tag ∷ 0 ∷ 0 ∷ 0 ∷ 0 ∷ more) ≡ get_or (by_tag s (read_nested n s) 0 n) tag (refuse malformed) more
-  unfolding read_nested
-  tag_ok n tag more e = then_ok (byte_to 8) _ (byte_if_ok _ tag _ e) ∙ then_ok read_u32 _ (u32_ok 0 more (omega arith))
-
   mutual
     unfolding plain plains by_tag tree_of trees_of read_trees read_two read_one variables variables_all
 
     pub read_back : {q : ReadType} → Within (arity s) q → Shaped s q → (n : ℕ) → Nested n q → ((v : ℕ) → Memᴰ v (variables q) → v < taken s) → (rest : Bytes) → read_nested n s (plain q ++ rest) ≡ got (tree_of q) rest
     read_back w e zero d t rest = elim d [ ]
-    read_back in_any sh_any (suc n) n_any t rest = tag_ok n 7 rest refl ∙ give_ok _ rest
-    read_back in_error sh_error (suc n) n_error t rest = tag_ok n 8 rest refl ∙ give_ok _ rest
-    read_back in_unit sh_unit (suc n) n_unit t rest = tag_ok n 0 rest refl ∙ give_ok _ rest
-    read_back (in_var {v = v} h) sh_var (suc n) n_var t rest = tag_ok n 6 _ refl ∙ then_ok (name_below (taken s)) _ (name_ok (taken s) v rest h (t v (Memᴰ.head refl))) ∙ give_ok _ rest
-    read_back (in_param {id = id} {a = a} h) (sh_param e) (suc n) n_param t rest = tag_ok n 2 _ refl ∙ then_ok read_u32 _ (u32_ok id _ h) ∙ then_ok (byte_if is_set) _ (byte_if_ok is_set a rest e) ∙ give_ok _ rest
+    read_back in_any sh_any (suc n) n_any t rest = tag_ok s n 7 0 rest refl (omega arith) ∙ give_ok _ rest
+    read_back in_error sh_error (suc n) n_error t rest = tag_ok s n 8 0 rest refl (omega arith) ∙ give_ok _ rest
+    read_back in_unit sh_unit (suc n) n_unit t rest = tag_ok s n 0 0 rest refl (omega arith) ∙ give_ok _ rest
+    read_back (in_var {v = v} h) sh_var (suc n) n_var t rest = tag_ok s n 6 0 _ refl (omega arith) ∙ then_ok (name_below (taken s)) _ (name_ok (taken s) v rest h (t v (Memᴰ.head refl))) ∙ give_ok _ rest
+    read_back (in_param {id = id} {a = a} h) (sh_param e) (suc n) n_param t rest = tag_ok s n 2 0 _ refl (omega arith) ∙ then_ok read_u32 _ (u32_ok id _ h) ∙ then_ok (byte_if is_set) _ (byte_if_ok is_set a rest e) ∙ give_ok _ rest
     read_back (in_ref {m = m} {r = r} w) (sh_ref e) (suc n) (n_ref f d) t rest =
-        tag_ok n 1 _ refl ∙ then_ok read_bool _ (bool_ok m (plain r ++ rest)) ∙ then_ok (under_ref n (read_nested n s)) _ (under_ok n (read_nested n s) (plain r ++ rest) (no_ref r rest f) ∙ read_back w e n d t rest) ∙ give_ok _ rest
+        tag_ok s n 1 0 _ refl (omega arith) ∙ then_ok read_bool _ (bool_ok m (plain r ++ rest)) ∙ then_ok (under_ref n (read_nested n s)) _ (under_ok n (read_nested n s) (plain r ++ rest) (no_ref r rest f) ∙ read_back w e n d t rest) ∙ give_ok _ rest
     read_back (in_named {k = k} {n = Builtin b} {rs = rs} h c w) (sh_named e es) (suc n) (n_named d) t rest =
-        tag_ok n 3 _ refl ∙ apply_ok (read_nested n s) byte Builtin malformed k b e (byte_ok b (plains rs ++ rest)) (ap (λ (i : ℕ). read_trees i (read_nested n s) (plains rs ++ rest)) (sym c) ∙ all_back w es n d t rest)
+        tag_ok s n 3 0 _ refl (omega arith) ∙ apply_ok s 0 (read_nested n s) byte Builtin malformed k b e (byte_ok b (plains rs ++ rest)) (ap (λ (i : ℕ). read_trees i (read_nested n s) (plains rs ++ rest)) (sym c) ∙ all_back w es n d t rest)
     read_back (in_named {k = k} {n = Multiple b} {rs = rs} h c w) (sh_named e es) (suc n) (n_named d) t rest =
-        tag_ok n 4 _ refl ∙ apply_ok (read_nested n s) byte Multiple malformed k b e (byte_ok b (plains rs ++ rest)) (ap (λ (i : ℕ). read_trees i (read_nested n s) (plains rs ++ rest)) (sym c) ∙ all_back w es n d t rest)
+        tag_ok s n 4 0 _ refl (omega arith) ∙ apply_ok s 0 (read_nested n s) byte Multiple malformed k b e (byte_ok b (plains rs ++ rest)) (ap (λ (i : ℕ). read_trees i (read_nested n s) (plains rs ++ rest)) (sym c) ∙ all_back w es n d t rest)
     read_back (in_named {k = k} {n = ModuleType b} {rs = rs} h c w) (sh_named e es) (suc n) (n_named d) t rest =
-        tag_ok n 5 _ refl ∙ apply_ok (read_nested n s) read_u16 ModuleType unknown_name k b e (u16_ok b (plains rs ++ rest) h) (ap (λ (i : ℕ). read_trees i (read_nested n s) (plains rs ++ rest)) (sym c) ∙ all_back w es n d t rest)
+        tag_ok s n 5 0 _ refl (omega arith) ∙ apply_ok s 0 (read_nested n s) read_u16 ModuleType unknown_name k b e (u16_ok b (plains rs ++ rest) h) (ap (λ (i : ℕ). read_trees i (read_nested n s) (plains rs ++ rest)) (sym c) ∙ all_back w es n d t rest)
 
     all_back : {qs : ReadTypes} → AllWithin (arity s) qs → AllShaped s qs → (n : ℕ) → AllNested n qs → ((v : ℕ) → Memᴰ v (variables_all qs) → v < taken s) → (rest : Bytes) → read_trees (how_many (arity s) qs) (read_nested n s) (plains qs ++ rest) ≡ got (trees_of qs) rest
     all_back in_none sh_none n n_none t rest = give_ok _ rest
@@ -247,12 +168,6 @@ module _ (f : ℕ → ℕ) where
     all_places_renamed (◌and◌ r rs) = omega (arith, places_renamed r, all_places_renamed rs)
 
 -- ---- equal declarations
-
-name_known : (s s' : State) → s.structs ≡ s'.structs → (n : TypeName) → is_name s n ≡ is_name s' n
-unfolding is_name
-name_known s s' e (Multiple m) = refl
-name_known s s' e (Builtin b) = refl
-name_known s s' e (ModuleType m) = rw e refl
 
 module _ (s s' : State) (e : s.structs ≡ s'.structs) where
   mutual

@@ -1,33 +1,31 @@
 -- R-12: under equal declarations the bytes of two CN that answer 0 are equal exactly if the resolved types agree. Assumes nothing.
 use mathlib.Core.Path.{◌≡◌, refl, sym, ap, ◌∙◌, subst}
 use mathlib.Core.Logic.{◌↔◌}
-use mathlib.Core.Bool.{Bool, true, false}
+use mathlib.Core.Bool.{true}
 use mathlib.Core.List.{[]}
 use Prim.Native.Nat.{ℕ, suc, ◌-◌, ◌≤◌, ◌<◌}
 use native.Mathlib.Omega.{arith}
 use lib.ListN.{length}
-use lib.Dec.{leb, leb→le}
-use Rattle.std.specs.Prelude.{if◌then◌else◌}
-use Rattle.definition.specs.Types.{State, TypeName, Multiple, Builtin, ModuleType, TypingError, SubtypeError, Incompatible, ArityMismatch, RecursiveType, Refusal, malformed, unknown_name, full, too_deep}
-use Rattle.definition.specs.Types.{runs_into_itself, abilities_disagree, open_variable, no_argument, parameter_twice, answer_too_long, unsound_state, mark_contradicted, doubled_reference, Result, ok, err, refused, ◌>>=◌}
+use Rattle.definition.specs.Types.{State, TypeName, Multiple, Builtin, ModuleType, TypingError, Refusal}
+use Rattle.definition.specs.Types.{runs_into_itself, Result, ok, err, refused, ◌>>=◌}
 use Rattle.definition.specs.Store.{count, type_at}
 use Rattle.definition.specs.Subst.{reaches_itself, ready_tvars}
 use Rattle.definition.specs.Rank.{ReadType, ReadTypes, no_types, ◌and◌, Reads, RunsIntoItself}
 use Rattle.definition.specs.Trees.{Tree, arity}
-use Rattle.definition.specs.Write.{Bytes, IsBytes, write_error}
+use Rattle.definition.specs.Write.{Bytes, IsBytes}
 use Rattle.definition.specs.Record.{CN, read_record}
 use Rattle.definition.specs.Reader.{got}
 use Rattle.definition.specs.Agree.{met_in, Agree, Spells, OneSpelling, CNResolves}
 use Rattle.definition.specs.Build.{build}
 use Rattle.definition.specs.Canonical.{canonical, number_of}
 use Rattle.definition.specs.Sound.{sound}
-use Rattle.definition.specs.Step.{run, number_of_error, number_of_refusal, refusal, put_back, max_payload, answer_with, answer, max_buffer, usable, lent, step, Answer}
+use Rattle.definition.specs.Step.{run, answer, usable, step, Answer}
 use Rattle.theorems.proofs.DemandTracks.{never}
 use Rattle.theorems.proofs.DemandOrder.{Sound}
 use Rattle.theorems.proofs.LawsPost.{Post, p_ok}
 use Rattle.theorems.proofs.DemandWent.{WentTo}
 use Rattle.theorems.proofs.DemandRuns.{arity_same, place_went}
-use Rattle.theorems.proofs.SoundFacts.{and_r, test, facts}
+use Rattle.theorems.proofs.SoundFacts.{facts}
 use Rattle.theorems.proofs.SoundKept.{ranges_of}
 use Rattle.theorems.proofs.SoundRanges.{Ranges, value_in}
 use Rattle.theorems.proofs.SoundRead.{ReadWell, given, well_read}
@@ -41,6 +39,7 @@ use Rattle.theorems.proofs.CanonicalBytes.{plain, Within, in_any, in_error, in_u
 use Rattle.theorems.proofs.CanonicalSpelled.{Stands, canonical_is, spellings_agree}
 use Rattle.theorems.proofs.CanonicalReady.{Resolved, resolved, ran_in, ready_reads}
 use Rattle.theorems.proofs.CanonicalWithin.{Shaped, shaped, numbered_within}
+use Rattle.theorems.proofs.LawsAnswer.{Zero, answered_0, usable_is, sound_of, step_runs}
 
 -- p is the spelling of r, and is read in one way
 pub record Spelling (S : State) (p : Bytes) (r : ReadType) : Type 0 where
@@ -81,77 +80,16 @@ module _ (S : State) (h : sound S ≡ true) where
 
 -- ---- the answer
 
--- a payload of 0
-pub record Zero (m : Result (State × Bytes)) (p : Bytes) : Type 0 where
-  pub left : State
-  pub is_ok : m ≡ ok (left, p)
-  pub short : length p ≤ 4096
-
-error_not_0 : (e : TypingError) → number_of_error e ≡ 0 → ⊥
-unfolding number_of_error
-error_not_0 (SubtypeError a b) h = absurd (omega (arith, h))
-error_not_0 (Incompatible a b) h = absurd (omega (arith, h))
-error_not_0 (ArityMismatch a b) h = absurd (omega (arith, h))
-error_not_0 (RecursiveType l) h = absurd (omega (arith, h))
-
-refusal_not_0 : (x : Refusal) → number_of_refusal x ≡ 0 → ⊥
-unfolding number_of_refusal
-refusal_not_0 malformed h = absurd (omega (arith, h))
-refusal_not_0 unknown_name h = absurd (omega (arith, h))
-refusal_not_0 full h = absurd (omega (arith, h))
-refusal_not_0 too_deep h = absurd (omega (arith, h))
-refusal_not_0 runs_into_itself h = absurd (omega (arith, h))
-refusal_not_0 abilities_disagree h = absurd (omega (arith, h))
-refusal_not_0 open_variable h = absurd (omega (arith, h))
-refusal_not_0 no_argument h = absurd (omega (arith, h))
-refusal_not_0 parameter_twice h = absurd (omega (arith, h))
-refusal_not_0 answer_too_long h = absurd (omega (arith, h))
-refusal_not_0 unsound_state h = absurd (omega (arith, h))
-refusal_not_0 mark_contradicted h = absurd (omega (arith, h))
-refusal_not_0 doubled_reference h = absurd (omega (arith, h))
-
--- the answer that is given if the payload is short
-abbrev pub if_short : State → ℕ → Bytes → State → Bool → Answer
-if_short before n p after b = if b then record { number = n; payload = p; state = after } else record { number = 14; payload = []; state = before }
-
-pub with_is : (before : State) (n : ℕ) (p : Bytes) (after : State) → answer_with before n p after ≡ if_short before n p after (leb (length p) 4096)
-unfolding answer_with refusal number_of_refusal max_payload
-with_is before n p after = refl
-
-ok_0 : (S after : State) (p : Bytes) (b : Bool) → leb (length p) 4096 ≡ b → (if_short S 0 p after b).number ≡ 0 → Zero (ok (after, p)) (if_short S 0 p after b).payload
-ok_0 S after p true e h = record { left = after; is_ok = refl; short = leb→le (length p) 4096 (test e) }
-ok_0 S after p false e h = absurd (omega (arith, h))
-
-err_0 : (S after s : State) (n : ℕ) (p : Bytes) (b : Bool) → (n ≡ 0 → ⊥) → (if_short S n p after b).number ≡ 0 → ⊥
-err_0 S after s n p true d h = d h
-err_0 S after s n p false d h = absurd (omega (arith, h))
-
-answered_0 : (S : State) (m : Result (State × Bytes)) → (answer S m).number ≡ 0 → Zero m (answer S m).payload
-unfolding answer refusal
-answered_0 S (ok (after, p)) h = rw (with_is S 0 p after) (ok_0 S after p (leb (length p) 4096) refl (rw (with_is S 0 p after) at h))
-answered_0 S (err after e) h = absurd (err_0 S (put_back S after) after (number_of_error e) (write_error after e) (leb (length (write_error after e)) 4096) (error_not_0 e) (rw (with_is S (number_of_error e) (write_error after e) (put_back S after)) at h))
-answered_0 S (refused x) h = absurd (refusal_not_0 x h)
-
-abbrev by_test : Bool → Answer → Answer → Answer
-by_test b one other = elim b [ true ↦ one | false ↦ other ]
-
 -- a CN that answers 0
 module _ (S : State) (bytes : Bytes) (buffer : ℕ) (tree : Tree) (are_bytes : IsBytes bytes) (is_CN : read_record S bytes ≡ got (CN tree) []) (number : (step S bytes buffer).number ≡ 0) where
-  usable_is : usable S buffer ≡ true
-  unfolding step refusal number_of_refusal
-  usable_is = go (usable S buffer) number
-    where
-      go : (b : Bool) → (by_test b (lent S (read_record S bytes)) (refusal S unsound_state)).number ≡ 0 → b ≡ true
-      go true h = refl
-      go false h = absurd (omega (arith, h))
+  able : usable S buffer ≡ true
+  able = usable_is S bytes buffer number
 
   pub sound_is : sound S ≡ true
-  unfolding usable
-  sound_is = and_r (leb max_buffer buffer) (sound S) usable_is
+  sound_is = sound_of S buffer able
 
   pub answered : step S bytes buffer ≡ answer S (run S (CN tree))
-  unfolding step lent
-  answered = rw (usable_is, step) (rw is_CN refl)
+  answered = step_runs S bytes buffer (CN tree) able is_CN
 
   read_well : ReadWell (Unit {0}) S (length bytes - 1) (got (CN tree) [])
   read_well = rw is_CN at (well_read (Unit {0}) S bytes (λ u. are_bytes))

@@ -10,13 +10,14 @@ use Rattle.definition.specs.Types.{State, Result, ok, err, refused, ◌>>=◌, a
 use Rattle.definition.specs.Subst.{ready_tvars}
 use Rattle.definition.specs.Write.{Bytes, write}
 use Rattle.definition.specs.Canonical.{canonical}
-use Rattle.definition.specs.Reader.{Read, got, not_read, give, go_on, ◌>>=◌ as ◌then_read◌, read_one, byte}
+use Rattle.definition.specs.Reader.{Read, got, not_read, go_on, ◌>>=◌ as ◌then_read◌, byte}
 use Rattle.definition.specs.Trees.{Tree, read_type}
-use Rattle.definition.specs.Record.{Record, RD, CN, by_mark, fields_of, read_fields, max_record, hand_back, read_record}
+use Rattle.definition.specs.Record.{RD, CN, by_mark, fields_of, read_fields, max_record, read_record}
 use Rattle.definition.specs.Build.{build}
 use Rattle.definition.specs.Step.{run, refusal, answer, answer_with, max_payload, usable, lent, step, Answer}
 use Rattle.definition.specs.Agree.{AsRD, CNAsRD}
 use Rattle.theorems.proofs.Canonical.{canonical_length}
+use Rattle.theorems.proofs.ReadBack.{made, made_is}
 
 same : (a : Answer) → AsRD a a
 same a = record { same_number = refl; same_length = refl; same_state = refl }
@@ -51,28 +52,15 @@ module _ (s : State) where
   lent_same tree [] = runs tree
   lent_same tree (b ∷ rest) = same _
 
-  -- the record of a type that is read
-  abbrev pub made : (Tree → Record) → Bytes → Read Tree → Read Record
-  made make more (got t rest) = got (make t) (rest ++ more)
-  made make more (not_read x) = not_read x
-
-  made_is : (make : Tree → Record) (more bytes : Bytes) → hand_back more (read_one make (read_type s) bytes) ≡ made make more (read_type s bytes)
-  unfolding hand_back read_one ◌then_read◌ go_on give
-  made_is make more bytes = go (read_type s bytes)
-    where
-      go : (x : Read Tree) → hand_back more (go_on x (λ t. give (make t))) ≡ made make more x
-      go (got t rest) = refl
-      go (not_read x) = refl
-
-  pub reads_CN : (bytes : Bytes) → read_record s (67 ∷ 78 ∷ bytes) ≡ made CN (drop 4094 bytes) (read_type s (take 4094 bytes))
+  pub reads_CN : (bytes : Bytes) → read_record s (67 ∷ 78 ∷ bytes) ≡ made s CN (drop 4094 bytes) (read_type s (take 4094 bytes))
   unfolding read_record max_record read_fields by_mark fields_of byte ◌then_read◌ go_on
-  reads_CN bytes = made_is CN (drop 4094 bytes) (take 4094 bytes)
+  reads_CN bytes = made_is s CN (drop 4094 bytes) (take 4094 bytes)
 
-  pub reads_RD : (bytes : Bytes) → read_record s (82 ∷ 68 ∷ bytes) ≡ made RD (drop 4094 bytes) (read_type s (take 4094 bytes))
+  pub reads_RD : (bytes : Bytes) → read_record s (82 ∷ 68 ∷ bytes) ≡ made s RD (drop 4094 bytes) (read_type s (take 4094 bytes))
   unfolding read_record max_record read_fields by_mark fields_of byte ◌then_read◌ go_on
-  reads_RD bytes = made_is RD (drop 4094 bytes) (take 4094 bytes)
+  reads_RD bytes = made_is s RD (drop 4094 bytes) (take 4094 bytes)
 
-  lent_both : (more : Bytes) (x : Read Tree) → AsRD (lent s (made CN more x)) (lent s (made RD more x))
+  lent_both : (more : Bytes) (x : Read Tree) → AsRD (lent s (made s CN more x)) (lent s (made s RD more x))
   lent_both more (got t rest) = lent_same t (rest ++ more)
   lent_both more (not_read x) = same _
 

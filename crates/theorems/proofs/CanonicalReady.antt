@@ -7,15 +7,15 @@ use Rattle.std.specs.Prelude.{Option, None, Some}
 use Prim.Native.Nat.{ℕ, zero, suc, ◌+◌, ◌*◌, ◌≤◌, ◌<◌}
 use native.Mathlib.Omega.{arith}
 use lib.ListN.{length}
-use Rattle.definition.specs.Types.{AbilityMark, TypeName, TypeValue, UnitType, Ref, Param, Apply, Var, Anything, UnresolvedError, State, runs_into_itself, Result, ok, refused, ◌>>=◌}
+use Rattle.definition.specs.Types.{AbilityMark, TypeName, TypeValue, Ref, Apply, Var, State, runs_into_itself, Result, ok, refused, ◌>>=◌}
 use Rattle.definition.specs.Store.{count, taken, type_at, loc_of, get, args_of, sp, map_types}
-use Rattle.definition.specs.Subst.{as_var, parts, next_in, next_of, forward, forward_tvar, reaches_itself, ready_value, ready, ready_tvars}
+use Rattle.definition.specs.Subst.{as_var, parts, next_of, forward, forward_tvar, reaches_itself, ready_value, ready, ready_tvars}
 use Rattle.definition.specs.Rank.{ReadType, any, unresolved, unit, open_var, parameter, reference, named, ReadTypes, no_types, ◌and◌}
 use Rattle.definition.specs.Rank.{Reads, reads_unit, reads_reference, reads_parameter, reads_named, reads_bound, reads_open, reads_any, reads_error, ReadsAll, reads_none, reads_each}
 use Rattle.definition.specs.Agree.{tags, tags_all, places, places_all}
 use Rattle.theorems.proofs.Laws.{value_new}
-use Rattle.theorems.proofs.LawsChains.{ends_same}
-use Rattle.theorems.proofs.DemandTracks.{never, ends_det}
+use Rattle.theorems.proofs.LawsChains.{as_var_is, next_some, next_none, ends_same}
+use Rattle.theorems.proofs.DemandTracks.{ends_det}
 use Rattle.theorems.proofs.DemandOrder.{All, All_map, Sound, chain, ends_in as end_taken}
 use Rattle.theorems.proofs.DemandSteps.{NodeOk}
 use Rattle.theorems.proofs.DemandCalls.{var_ok}
@@ -24,24 +24,6 @@ use Rattle.theorems.proofs.ReadyTold.{Grown, grown_refl, grown_trans, added_refl
 use Rattle.theorems.proofs.CanonicalSpelled.{Stands, st_unit, st_any, st_error, st_param, st_var, st_ref, st_named, AllStand, st_none, st_each}
 
 -- ---- a chain followed to its end
-
-as_var_is : (x : TypeValue) (w : ℕ) → as_var x ≡ Some w → x ≡ Var w
-unfolding as_var
-as_var_is UnitType w e = never (cc)
-as_var_is (Ref m t) w e = never (cc)
-as_var_is (Param id a) w e = never (cc)
-as_var_is (Apply k n tys) w e = never (cc)
-as_var_is (Var v) w e = ap Var (cc)
-as_var_is Anything w e = never (cc)
-as_var_is UnresolvedError w e = never (cc)
-
-next_bound : (S : State) (v t : ℕ) → get S v ≡ Some t → next_of S v ≡ as_var (type_at S t)
-unfolding next_of next_in
-next_bound S v t g = rw g refl
-
-next_open : (S : State) (v : ℕ) → get S v ≡ None → next_of S v ≡ None
-unfolding next_of next_in
-next_open S v g = rw g refl
 
 -- what reading a variable comes to: its open end, or what its end holds
 data AtEnd (S : State) (v end : ℕ) (r : ReadType) : Type 0 where
@@ -66,8 +48,8 @@ at_end S (suc n) v {r} d = go (at_itself S v d) (λ w x. at_end S n w x)
     onward t g x (Some w) e k = moved w (forward n S w) (k w (subst (λ (y : TypeValue). Reads S y r) (as_var_is (type_at S t) w e) x))
 
     go : AtEnd S v v r → ((w : ℕ) → Reads S (Var w) r → AtEnd S w (forward n S w) r) → AtEnd S v (elim (next_of S v) [ None ↦ v | Some next ↦ forward n S next ]) r
-    go (at_bound {T = t} g x) k = rw (next_bound S v t g) (onward t g x (as_var (type_at S t)) refl k)
-    go (at_open g q) k = rw (next_open S v g) (at_open g q)
+    go (at_bound {T = t} g x) k = rw (next_some S v t g) (onward t g x (as_var (type_at S t)) refl k)
+    go (at_open g q) k = rw (next_none S v g) (at_open g q)
 
 -- ---- a type that stands stays, when nodes are added
 

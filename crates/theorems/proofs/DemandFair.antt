@@ -15,7 +15,7 @@ use Rattle.definition.specs.Join.{TypingCase, Join, Subtype, join_impl, join, su
 use Rattle.definition.specs.Constraints.{num_vars, undecided, u64, default_num_var}
 use Rattle.definition.specs.Write.{Bytes, write}
 use Rattle.definition.specs.Reader.{Read, got, not_read}
-use Rattle.definition.specs.Record.{Record, SD, FV, NV, SN, JN, SU, UF, RD, IN, TS, NC, BC, SC, SV, RM, CN, read_record}
+use Rattle.definition.specs.Record.{Record, SD, FV, NV, SN, JN, SU, UF, RD, IN, TS, NC, BC, SC, SV, RM, CN, XP, read_record}
 use Rattle.definition.specs.Trees.{Tree, arity}
 use Rattle.definition.specs.Step.{Answer, refusal, max_payload, answer, max_buffer, usable, two_types, lent, run, step}
 use Rattle.definition.specs.Rank.{NoneReachesItself}
@@ -138,6 +138,7 @@ module _ {E : Type 0} where
   run_calls_fair S s (SC loc t) f w n z = none_fair
   run_calls_fair S s (RM t) f w n z = none_fair
   run_calls_fair S s (CN t) f w n z = none_fair
+  run_calls_fair S s (XP t) f w n z = none_fair
   run_calls_fair S s SV f w n z = nums_fair (num_vars 0 S.vars) S s (λ n. refl) (num_vars_below 0 S.vars (taken S) (omega arith)) n
 
   lent_fair : (s : State) → Sound (arity s) s → {k : ℕ} (r : Read Record) → ReadWell ⊥ s k r → Weighs max_payload r → (E → NoneReachesItself s) → (E → NoneReachesItself (lent s r).state) → AllFair E (lent_calls s r)

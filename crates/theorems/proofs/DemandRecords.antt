@@ -13,7 +13,7 @@ use Rattle.definition.specs.Join.{join, subtype}
 use Rattle.definition.specs.TParams.{subst_tparams}
 use Rattle.definition.specs.Constraints.{num_vars, solve_constraints}
 use Rattle.definition.specs.Write.{Bytes}
-use Rattle.definition.specs.Record.{NumericKind, Numeric, Bits, Ordered, Record, SD, FV, NV, SN, JN, SU, UF, RD, IN, TS, NC, BC, SC, SV, RM, CN}
+use Rattle.definition.specs.Record.{NumericKind, Numeric, Bits, Ordered, Record, SD, FV, NV, SN, JN, SU, UF, RD, IN, TS, NC, BC, SC, SV, RM, CN, XP}
 use Rattle.definition.specs.Trees.{Tree, arity}
 use Rattle.definition.specs.Build.{build}
 use Rattle.definition.specs.Needs.{Needs, needs}
@@ -28,7 +28,7 @@ use Rattle.theorems.proofs.DemandMain.{join_impl_good}
 use Rattle.theorems.proofs.SoundRead.{Fine, FineRecord}
 use Rattle.theorems.proofs.SolveInTurn.{solve_cases}
 use Rattle.theorems.proofs.DemandWent.{Went, WentTo, went_refl, went_trans, went_of, went_quiet, bindS_post, quiet_list, sound_cleared, add_went, join_went}
-use Rattle.theorems.proofs.TotalWalk.{Ends, e_ok, e_err, e_refused, RunOr, place_run, pairs_run, ready_tvars_run, subst_run, make_run}
+use Rattle.theorems.proofs.TotalWalk.{Ends, e_ok, e_err, e_refused, RunOr, place_run, pairs_run, ready_tvars_run, subst_run, make_run, expand_run}
 use Rattle.theorems.proofs.DemandRuns.{declared_on, place_went, instantiate_went, defaults_went, num_vars_below}
 
 pub data Leaves (ar : TypeName → ℕ) (S : State) : Result (State × Bytes) → Type 0 where
@@ -160,3 +160,4 @@ module _ (S : State) (s : Sound (arity S) S) where
   run_leaves SV f = solve_leaves
   run_leaves (RM t) f = leaves_returns s (tells S (needs t))
   run_leaves (CN t) f = leaves_returns s (returns_bind _ (placed t S) (λ a. returns_bind _ (ready_tvars_run ⊥ S true refl a.0 (λ h. absurd h) a.1) (λ b. r_ok)))
+  run_leaves (XP t) f = leaves_returns s (returns_bind _ (placed t S) (λ a. returns_bind _ (expand_run true refl _ a.0 a.1) (λ b. r_ok)))

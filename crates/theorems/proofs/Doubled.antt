@@ -13,7 +13,7 @@ use Rattle.definition.specs.Store.{taken}
 use Rattle.definition.specs.Write.{Bytes}
 use Rattle.definition.specs.Reader.{Reader, give, refuse, ◌>>=◌, read_one, read_two, read_three, byte, read_u16, read_u32, byte_if, byte_to, read_bool, name_below, times}
 use Rattle.definition.specs.Trees.{Tree, unit_tree, anything_tree, error_tree, ref_tree, param_tree, apply_tree, var_tree, Trees, no_trees, ◌then◌, is_set, under_ref, read_apply, by_tag, read_nested, read_type}
-use Rattle.definition.specs.Record.{Record, SD, FV, NV, SN, JN, SU, UF, RD, IN, TS, NC, BC, SC, SV, RM, CN, read_kind, read_SD, read_pair, read_TS, by_mark, fields_of, read_fields, max_record, hand_back, read_record}
+use Rattle.definition.specs.Record.{Record, SD, FV, NV, SN, JN, SU, UF, RD, IN, TS, NC, BC, SC, SV, RM, CN, XP, read_kind, read_SD, read_pair, read_TS, by_mark, fields_of, read_fields, max_record, hand_back, read_record}
 use Rattle.theorems.proofs.DemandTracks.{never}
 
 -- ---- doubled references
@@ -62,6 +62,7 @@ doubled_record (SC loc t) = doubled t
 doubled_record SV = false
 doubled_record (RM t) = doubled t
 doubled_record (CN t) = doubled t
+doubled_record (XP t) = doubled t
 
 abbrev pub NoDoubled : Tree → Type 0
 NoDoubled t = doubled t ≡ false
@@ -135,6 +136,7 @@ module _ (read_type : Reader Tree) (s : State) where
       (83, 86, give SV) ∷
       (82, 77, read_one RM read_type) ∷
       (67, 78, read_one CN read_type) ∷
+      (88, 80, read_one XP read_type) ∷
       []
 
   unfoldable pub fields_with : Reader Record

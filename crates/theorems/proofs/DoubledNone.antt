@@ -24,7 +24,7 @@ use Rattle.definition.specs.Constraints.{undecided, u64, default_num_var, defaul
 use Rattle.definition.specs.Write.{Bytes, u32}
 use Rattle.definition.specs.Reader.{Read, got, not_read}
 use Rattle.definition.specs.Trees.{Tree, unit_tree, anything_tree, error_tree, ref_tree, param_tree, apply_tree, var_tree, Trees, no_trees, ◌then◌}
-use Rattle.definition.specs.Record.{Record, SD, FV, NV, SN, JN, SU, UF, RD, IN, TS, NC, BC, SC, SV, RM, CN, read_record}
+use Rattle.definition.specs.Record.{Record, SD, FV, NV, SN, JN, SU, UF, RD, IN, TS, NC, BC, SC, SV, RM, CN, XP, read_record}
 use Rattle.definition.specs.Needs.{Needs, needs}
 use Rattle.definition.specs.Build.{build, build_all}
 use Rattle.definition.specs.Sound.{sound}
@@ -36,7 +36,7 @@ use Rattle.theorems.proofs.Laws.{num_marks, vars_nodes}
 use Rattle.theorems.proofs.DemandTracks.{never}
 use Rattle.theorems.proofs.SoundRoom.{with_room, constraint_room, struct_room}
 use Rattle.theorems.proofs.Soundness.{sound_is}
-use Rattle.theorems.proofs.TotalWalk.{seven, nine, eleven, sixteen, Ends, e_ok, e_err, e_refused, bind, RunOr, place_run, pairs_run, ready_tvars_run, make_run, subst_run}
+use Rattle.theorems.proofs.TotalWalk.{seven, nine, eleven, sixteen, Ends, e_ok, e_err, e_refused, bind, RunOr, place_run, pairs_run, ready_tvars_run, make_run, subst_run, expand_run}
 use Rattle.theorems.proofs.SolveInTurn.{solve_cases}
 use Rattle.theorems.proofs.Doubled.{is_ref as is_ref_tree, doubled, doubled_in, NoDoubled, NoDoubledIn, doubled_record, NoDoubledRecord, or_l, or_r}
 use Rattle.theorems.proofs.DoubledReads.{record_none_doubled}
@@ -196,6 +196,7 @@ module _ (s : State) (i : Single s) where
   run_leaves (SC loc t) d = constrain_leaves s i t d _
   run_leaves (RM t) d = tell_leaves (needs t)
   run_leaves (CN t) d = bind _ (placed t s) (λ x j. bind _ (ready_tvars_run ⊥ s true refl x.0 unasked x.1) (λ y k. e_ok i))
+  run_leaves (XP t) d = bind _ (placed t s) (λ x j. bind _ (expand_run true refl _ x.0 x.1) (λ y k. e_ok i))
   run_leaves SV d = bind _ (defaults_goes _ s i) (λ x j. solve_cases x (λ m. Leaves m) (λ failures. e_ok (left_list j []).single) (e_refused (nine refl)) (e_refused (sixteen refl)))
 
   -- ---- the answer

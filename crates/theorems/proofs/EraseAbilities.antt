@@ -16,7 +16,7 @@ module _ (s : State) where
   infer_erase zero t = refl
   infer_erase (suc n) t = rw (spanned_erase s t, unfold_type_erase s (spanned s t)) (value_same (erase s) s (structs_erase s) _ _ (λ p. infer_erase n p) (unfold_type s (spanned s t)).value)
 
-  abilities_erase : (t : ℕ) → infer_abilities (erase s) t ≡ infer_abilities s t
+  pub abilities_erase : (t : ℕ) → infer_abilities (erase s) t ≡ infer_abilities s t
   unfolding infer_abilities
   abilities_erase t = rw (count_erase s) (infer_erase (count s) t)
 

@@ -38,7 +38,7 @@ module _ (s : State) where
   unfolding forward_tvar
   end_erase v = rw (taken_erase s) (forward_erase (taken s) v)
 
-  end_get : (v : ℕ) → get (erase s) (forward_tvar (erase s) v) ≡ get s (forward_tvar s v)
+  pub end_get : (v : ℕ) → get (erase s) (forward_tvar (erase s) v) ≡ get s (forward_tvar s v)
   end_get v = rw (end_erase v) (get_erase s (forward_tvar s v))
 
   unfold_erase : (l l' : ℕ) (o : Option ℕ) → l' ≡ 0 → unfold_var (erase s) l' o ≡ erase_spanned (unfold_var s l o)

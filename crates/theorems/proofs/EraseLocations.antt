@@ -8,13 +8,13 @@ use Prim.Native.Nat.{ℕ}
 use lib.ListN.{get_or, drop}
 use lib.Dec.{leb}
 use Rattle.definition.specs.Types.{State, fresh, unsound_state}
-use Rattle.definition.specs.Write.{Bytes}
+use Rattle.definition.specs.Write.{IsBytes, Bytes}
 use Rattle.definition.specs.Record.{read_record}
 use Rattle.definition.specs.Instantiate.{builtin_tparams}
 use Rattle.definition.specs.Trees.{arity}
 use Rattle.definition.specs.Sound.{sound}
 use Rattle.definition.specs.Step.{Answer, refusal, max_buffer, usable, lent, step}
-use Rattle.definition.specs.Locations.{failures, loc_field, tag_fields, expand, blank, mark_fields, after_mark, told, counts_of, blank_record, blank_payload, blank_job, Seen, seen, blank_log, JobOfBytes, LocationsDecideNothing}
+use Rattle.definition.specs.Locations.{failures, loc_field, tag_fields, expand, blank, mark_fields, after_mark, told, counts_of, blank_record, blank_payload, blank_job, Seen, seen, blank_log, JobOfBytes, LocationsDecideNothing, type, codes}
 use Rattle.theorems.proofs.DemandTracks.{never}
 use Rattle.definition.proofs.Spelling.{hex}
 use Rattle.theorems.proofs.SoundKept.{sound_kept, fresh_sound}
@@ -22,6 +22,7 @@ use Rattle.theorems.proofs.Erase.{erase, count_erase, taken_erase, args_erase, s
 use Rattle.theorems.proofs.EraseRead.{record_alike}
 use Rattle.theorems.proofs.EraseShown.{read_shows}
 use Rattle.theorems.proofs.EraseRun.{lent_erase}
+use Rattle.theorems.proofs.SoundRead.{well_read}
 
 -- two answers that are alike, and the states that they leave
 record Alike (s : State) (bytes : Bytes) (a : Answer) (s' : State) (bytes' : Bytes) (a' : Answer) : Type 0 where
@@ -43,12 +44,12 @@ seen_alike : {s s' : State} {bytes bytes' : Bytes} {a a' : Answer} → Alike s b
 unfolding seen
 seen_alike r = same_seen r.numbers r.payloads (same_counts _ _ r.states)
 
-module _ (s s' : State) (h : sound s ≡ true) (h' : sound s' ≡ true) (e : erase s ≡ erase s') (bytes bytes' : Bytes) (r : blank_record s bytes ≡ blank_record s' bytes') where
+module _ (s s' : State) (h : sound s ≡ true) (h' : sound s' ≡ true) (e : erase s ≡ erase s') (bytes bytes' : Bytes) (i : IsBytes bytes) (i' : IsBytes bytes') (r : blank_record s bytes ≡ blank_record s' bytes') where
   lent_alike : Alike s bytes (lent s (read_record s bytes)) s' bytes' (lent s' (read_record s' bytes'))
   unfolding blank_payload
   lent_alike =
-      let p = lent_erase s h (read_shows s bytes) (record_alike s bytes) in
-      let q = lent_erase s' h' (read_shows s' bytes') (record_alike s' bytes') in
+      let p = lent_erase s h (well_read (Unit {0}) s bytes (λ u. i)) (read_shows s bytes) (record_alike s bytes) in
+      let q = lent_erase s' h' (well_read (Unit {0}) s' bytes' (λ u. i')) (read_shows s' bytes') (record_alike s' bytes') in
       let both : lent (erase s) (read_record (erase s) (blank_record s bytes)) ≡ lent (erase s') (read_record (erase s') (blank_record s' bytes')) = rw (e, r) refl in
       record {
         numbers = sym p.same_number ∙ ap (λ (a : Answer). a.number) both ∙ q.same_number;
@@ -80,7 +81,7 @@ from_alike ((bytes, buffer) ∷ job) ((bytes', buffer') ∷ job') i i' s s' h h'
     let record_same : blank_record s bytes ≡ blank_record s' bytes' = ap (λ (l : Job). (get_or l 0 ([], 0)).0) q in
     let buffer_same : buffer ≡ buffer' = ap (λ (l : Job). (get_or l 0 ([], 0)).1) q in
     let rest_same : blank_job (step s bytes buffer).state job ≡ blank_job (step s' bytes' buffer').state job' = ap (λ (l : Job). drop 1 l) q in
-    let a : Alike s bytes (step s bytes buffer) s' bytes' (step s' bytes' buffer') = subst (λ n. Alike s bytes (step s bytes buffer) s' bytes' (step s' bytes' n)) buffer_same (step_alike s s' h h' e bytes bytes' record_same buffer) in
+    let a : Alike s bytes (step s bytes buffer) s' bytes' (step s' bytes' buffer') = subst (λ n. Alike s bytes (step s bytes buffer) s' bytes' (step s' bytes' n)) buffer_same (step_alike s s' h h' e bytes bytes' i.0 i'.0 record_same buffer) in
     rw (seen_alike a, from_alike job job' i.1 i'.1 (step s bytes buffer).state (step s' bytes' buffer').state (sound_kept s bytes buffer i.0 h) (sound_kept s' bytes' buffer' i'.0 h') a.states rest_same) refl
 
 -- the theorem
@@ -104,3 +105,8 @@ failures_blanked = refl
 abilities_blanked : blank fresh (hex "04 07000000 08 00 08000000 01 04 09000000 01 00 0a000000 02 05 01 0b000000 00 0c000000") (failures ∷ []) ≡ hex "04 00000000 08 00 00000000 01 04 00000000 01 00 00000000 02 05 01 00000000 00 00000000"
 unfolding blank expand loc_field tag_fields
 abilities_blanked = refl
+
+-- XP: a vector of `!` that was a variable, then its code: a code 5 is no struct's tag
+codes_blanked : blank fresh (hex "03 02000000 17 05 08 09000000 05 09000000 05 0a000000") (type ∷ codes ∷ []) ≡ hex "03 00000000 17 05 08 00000000 05 00000000 05 00000000"
+unfolding blank expand loc_field tag_fields arity builtin_tparams
+codes_blanked = refl

@@ -19,27 +19,31 @@ use Rattle.definition.specs.Constraints.{num_vars, undecided, u64, default_num_v
 use Rattle.definition.specs.Write.{Bytes, u16, write_error}
 use Rattle.definition.specs.Reader.{Read}
 use Rattle.definition.specs.Trees.{Tree, unit_tree, anything_tree, error_tree, ref_tree, param_tree, apply_tree, var_tree, Trees, no_trees, ◌then◌, mark_fits, arity, is_mark, is_name}
-use Rattle.definition.specs.Record.{NumericKind, Numeric, Bits, Ordered, Record, SD, FV, NV, SN, JN, SU, UF, RD, IN, TS, NC, BC, SC, SV, RM, CN}
+use Rattle.definition.specs.Record.{NumericKind, Numeric, Bits, Ordered, Record, SD, FV, NV, SN, JN, SU, UF, RD, IN, TS, NC, BC, SC, SV, RM, CN, XP}
 use Rattle.definition.specs.Build.{build, build_all, build_pairs}
 use Rattle.definition.specs.Canonical.{canonical}
 use Rattle.definition.specs.Needs.{Needs, merge, needs, needs_args, write_needs}
 use Rattle.definition.specs.Sound.{sound}
 use Rattle.definition.specs.Step.{numeric_constraint, constrain, two_types, tell, run, Answer, number_of_error, refusal, put_back, max_payload, answer_with, answer, lent}
-use Rattle.definition.specs.Locations.{Part, types, failures, blank, shown_fields}
+use Rattle.definition.specs.Expand.{Expanded, expand_type}
+use Rattle.definition.specs.Locations.{Part, type, types, codes, failures, blank, shown_fields}
 use Rattle.theorems.proofs.EraseShown.{success_fields, Shows, shows, shows_none}
 use Rattle.theorems.proofs.DemandTracks.{never}
 use Rattle.theorems.proofs.DemandOrder.{All, All_map, Sound}
 use Rattle.theorems.proofs.SoundFacts.{and_l, and_r, test, facts}
 use Rattle.theorems.proofs.SoundRanges.{ShapeIn, Ranges, value_in}
-use Rattle.theorems.proofs.DemandWent.{Went, PostS, ps_ok}
-use Rattle.theorems.proofs.DemandRuns.{num_vars_below, defaults_went}
-use Rattle.theorems.proofs.TotalWalk.{Ends, e_ok, In, starts_run}
+use Rattle.theorems.proofs.DemandWent.{Went, WentTo, PostS, ps_ok}
+use Rattle.theorems.proofs.DemandRuns.{num_vars_below, place_went, defaults_went}
+use Rattle.theorems.proofs.TotalWalk.{Ends, e_ok, In, place_run, starts_run}
 use Rattle.theorems.proofs.SoundKept.{ranges_of}
 use Rattle.theorems.proofs.Erase.{erase_mark, erase_cell, erase_constraint, erase_error, erase, taken_erase, spanned_erase, vars_erase, constraints_erased}
 use Rattle.theorems.proofs.Erase.{Erased, er_ok, er_err, er_refused, with_state, er_bind, er_elim, er_opt, sp_erase, next_erase, add_erase, declare_erase}
 use Rattle.theorems.proofs.EraseJoin.{unfold_type_erase, set_num_erase, ready_tvars_erase, join_erase, subtype_erase, subst_erase, instantiate_erase}
 use Rattle.theorems.proofs.EraseRead.{erase_tree, erase_trees, erase_pair, erase_record, blank_nil, length_blank, ReadAlike, w_got, w_not}
 use Rattle.theorems.proofs.Canonical.{canonical_erase}
+use Rattle.theorems.proofs.EraseExpand.{Both, both_ok, both_refused, whole_blank, type_both}
+use Rattle.theorems.proofs.SoundRead.{FineRecord, RecordIn, ReadWell, given}
+use Rattle.theorems.proofs.LawsPost.{Post, p_ok}
 use Rattle.theorems.proofs.EraseWrite.{NameFits, Fits, Fitting, spanned_row, write_row, var_row, error_shown, Shown, shown_told, shown_refused, constraints_shown}
 
 -- ---- placing
@@ -237,24 +241,43 @@ module _ (S : State) (h : sound S ≡ true) where
   tell_erase None = er_refused
   tell_erase (Some n) = er_ok (pair_same refl (sym (blank_nil S (write_needs n))))
 
-  pub run_erase : (r : Record) → Erased (blanked S (success_fields r)) (run S r) (run (erase S) (erase_record r))
+  -- XP: the state that its type is placed in has the declared arities
+  payload_erase : {m m' : Result Expanded} → Both S (type ∷ []) m m' → Erased (blanked S (type ∷ codes ∷ [])) (m >>= λ (x : Expanded). ok (S, x.type ++ x.codes)) (m' >>= λ (x : Expanded). ok (erase S, x.type ++ x.codes))
+  unfolding ◌>>=◌
+  payload_erase (both_ok p) = er_ok (pair_same refl (whole_blank S p))
+  payload_erase both_refused = er_refused
+
+  expanded_erase : (s : State) (ty : ℕ) → Sound (arity S) s → Ranges S s
+      → Erased (blanked S (type ∷ codes ∷ [])) (expand_type s ty >>= λ (x : Expanded). ok (S, x.type ++ x.codes)) (expand_type (erase s) ty >>= λ (x : Expanded). ok (erase S, x.type ++ x.codes))
+  expanded_erase s ty w r = payload_erase (type_both S s (fitting S s (ranges_of S h).few_structs w (value_in r)) ty)
+
+  expand_erase : {d d' : Result (State × ℕ)} → Erased with_state d d' → Post (arity S) S (WentTo (arity S) S) d → Ends true (In (Unit {0}) S true) (λ x. In (Unit {0}) S true x.0) d
+      → Erased (blanked S (type ∷ codes ∷ [])) (d >>= λ (p : State × ℕ). expand_type p.0 p.1 >>= λ (x : Expanded). ok (S, x.type ++ x.codes))
+      (d' >>= λ (p : State × ℕ). expand_type p.0 p.1 >>= λ (x : Expanded). ok (erase S, x.type ++ x.codes))
+  unfolding ◌>>=◌
+  expand_erase (er_ok {a = p} e) (p_ok g w) (e_ok i) = rw e (expanded_erase p.0 p.1 w.sound (i tt))
+  expand_erase (er_err e d) p q = er_err e d
+  expand_erase er_refused p q = er_refused
+
+  pub run_erase : (r : Record) → FineRecord (arity S) (taken S) r → RecordIn S r → Erased (blanked S (success_fields r)) (run S r) (run (erase S) (erase_record r))
   unfolding run erase_record success_fields
-  run_erase (SD a ps) = er_bind _ _ (declare_erase S a ps) (λ x. er_ok (rw (blank_nil S (u16 x.1)) refl))
-  run_erase (FV loc) = er_bind _ _ (next_erase S) (λ x. er_ok (pair_same refl (sym (var_row S loc _))))
-  run_erase (NV loc) = er_bind _ _ (next_erase S) (λ x. er_ok (pair_same (set_num_erase x.0 x.1 loc 0 refl) (sym (var_row S loc _))))
-  run_erase (SN v loc) = er_ok (pair_same (set_num_erase S v loc 0 refl) (sym (empty (types ∷ []))))
-  run_erase (JN t u) = two_erase join join_erase t u
-  run_erase (SU t u) = two_erase subtype subtype_erase t u
-  run_erase (UF t) = er_bind _ _ (place_erase t S) (λ x. er_ok (rw (spanned_erase x.0 x.1, unfold_type_erase x.0 (spanned x.0 x.1), spanned_row S x.0 (unfold_type x.0 (spanned x.0 x.1))) refl))
-  run_erase (RD t) = er_bind _ _ (place_erase t S) (λ x. er_bind _ _ (ready_tvars_erase x.0 x.1) (λ y. er_ok (rw (write_row S y.0 y.1) refl)))
-  run_erase (TS ps t) = er_bind _ _ (pairs_erase ps S) (λ x. er_bind _ _ (place_erase t x.0) (λ y. er_bind _ _ (make_erase x.1) (λ subst. er_bind _ _ (subst_erase subst y.0 y.1) (λ z. er_ok (rw (write_row S z.0 z.1) refl)))))
-  run_erase (IN t) = er_bind _ _ (place_erase t S) (λ x. er_bind _ _ (instantiate_erase x.0 x.1) (λ y. er_ok (rw (write_row S y.0 y.1) refl)))
-  run_erase (NC loc kind t) = constrain_erase t _ _ (λ ty. numeric_erase kind loc ty)
-  run_erase (BC loc t) = constrain_erase t _ _ (λ ty. refl)
-  run_erase (SC loc t) = constrain_erase t _ _ (λ ty. refl)
-  run_erase SV = solve_erase
-  run_erase (RM t) = rw (needs_erase t) (tell_erase (needs t))
-  run_erase (CN t) = er_bind _ _ (place_erase t S) (λ x. er_bind _ _ (ready_tvars_erase x.0 x.1) (λ y. er_ok (rw (canonical_erase y.0 y.1, blank_nil S (canonical y.0 y.1)) refl)))
+  run_erase (SD a ps) f b = er_bind _ _ (declare_erase S a ps) (λ x. er_ok (rw (blank_nil S (u16 x.1)) refl))
+  run_erase (FV loc) f b = er_bind _ _ (next_erase S) (λ x. er_ok (pair_same refl (sym (var_row S loc _))))
+  run_erase (NV loc) f b = er_bind _ _ (next_erase S) (λ x. er_ok (pair_same (set_num_erase x.0 x.1 loc 0 refl) (sym (var_row S loc _))))
+  run_erase (SN v loc) f b = er_ok (pair_same (set_num_erase S v loc 0 refl) (sym (empty (types ∷ []))))
+  run_erase (JN t u) f b = two_erase join join_erase t u
+  run_erase (SU t u) f b = two_erase subtype subtype_erase t u
+  run_erase (UF t) f b = er_bind _ _ (place_erase t S) (λ x. er_ok (rw (spanned_erase x.0 x.1, unfold_type_erase x.0 (spanned x.0 x.1), spanned_row S x.0 (unfold_type x.0 (spanned x.0 x.1))) refl))
+  run_erase (RD t) f b = er_bind _ _ (place_erase t S) (λ x. er_bind _ _ (ready_tvars_erase x.0 x.1) (λ y. er_ok (rw (write_row S y.0 y.1) refl)))
+  run_erase (TS ps t) f b = er_bind _ _ (pairs_erase ps S) (λ x. er_bind _ _ (place_erase t x.0) (λ y. er_bind _ _ (make_erase x.1) (λ subst. er_bind _ _ (subst_erase subst y.0 y.1) (λ z. er_ok (rw (write_row S z.0 z.1) refl)))))
+  run_erase (IN t) f b = er_bind _ _ (place_erase t S) (λ x. er_bind _ _ (instantiate_erase x.0 x.1) (λ y. er_ok (rw (write_row S y.0 y.1) refl)))
+  run_erase (NC loc kind t) f b = constrain_erase t _ _ (λ ty. numeric_erase kind loc ty)
+  run_erase (BC loc t) f b = constrain_erase t _ _ (λ ty. refl)
+  run_erase (SC loc t) f b = constrain_erase t _ _ (λ ty. refl)
+  run_erase SV f b = solve_erase
+  run_erase (RM t) f b = rw (needs_erase t) (tell_erase (needs t))
+  run_erase (CN t) f b = er_bind _ _ (place_erase t S) (λ x. er_bind _ _ (ready_tvars_erase x.0 x.1) (λ y. er_ok (rw (canonical_erase y.0 y.1, blank_nil S (canonical y.0 y.1)) refl)))
+  run_erase (XP t) f b = expand_erase (place_erase t S) (place_went f (facts S h) (omega arith)) (place_run (Unit {0}) S true t (λ u. b) S (λ u. ranges_of S h))
 
 -- ---- the answer
 
@@ -300,10 +323,10 @@ module _ (S : State) where
       rw (p, q, error_number_erase e, ← (error_shown S success s e)) (with_erase (shown_fields success) (number_of_error e) (write_error s e) (put_back S s) _ (put_back_erase s))
   answer_erase success (er_refused {x = x}) = refusal_erase (shown_fields success) x
 
-  pub lent_erase : sound S ≡ true → {success : List Part} {x x' : Read Record} → Shows success x → ReadAlike x x' → Blanked S (shown_fields success) (lent S x) (lent (erase S) x')
+  pub lent_erase : sound S ≡ true → {n : ℕ} {success : List Part} {x x' : Read Record} → ReadWell (Unit {0}) S n x → Shows success x → ReadAlike x x' → Blanked S (shown_fields success) (lent S x) (lent (erase S) x')
   unfolding lent
-  lent_erase h (shows q) (w_got {r = r} {rest = []} {rest' = []} e l) = rw (e, ← q) (answer_erase (success_fields r) (run_erase S h r))
-  lent_erase h (shows q) (w_got {rest = []} {rest' = b ∷ rest'} e l) = never (cc)
-  lent_erase h (shows q) (w_got {rest = b ∷ rest} {rest' = []} e l) = never (cc)
-  lent_erase h (shows q) (w_got {rest = b ∷ rest} {rest' = b' ∷ rest'} e l) = refusal_erase (shown_fields _) _
-  lent_erase h shows_none (w_not {x = x}) = refusal_erase (shown_fields _) x
+  lent_erase h (given p i m) (shows q) (w_got {r = r} {rest = []} {rest' = []} e l) = rw (e, ← q) (answer_erase (success_fields r) (run_erase S h r p.0 (p.1 tt)))
+  lent_erase h g (shows q) (w_got {rest = []} {rest' = b ∷ rest'} e l) = never (cc)
+  lent_erase h g (shows q) (w_got {rest = b ∷ rest} {rest' = []} e l) = never (cc)
+  lent_erase h g (shows q) (w_got {rest = b ∷ rest} {rest' = b' ∷ rest'} e l) = refusal_erase (shown_fields _) _
+  lent_erase h g shows_none (w_not {x = x}) = refusal_erase (shown_fields _) x

@@ -124,7 +124,7 @@ module _ (S : State) where
   u16_back : (n : ℕ) → n < 65536 → n % 256 + 256 * (n / 256 % 256) ≡ n
   u16_back n h = omega arith
 
-  head_type : (l : ℕ) (x : TypeValue) → Fits x → (rest : Bytes) (more : List Part) → blank S (head l x ++ rest) (type ∷ more) ≡ head 0 x ++ blank S rest (replicate (length (parts x)) type ++ more)
+  pub head_type : (l : ℕ) (x : TypeValue) → Fits x → (rest : Bytes) (more : List Part) → blank S (head l x ++ rest) (type ∷ more) ≡ head 0 x ++ blank S rest (replicate (length (parts x)) type ++ more)
   unfolding head apply_head u32 u16 blank expand loc_field u32_field tag_fields parts arity
   head_type l UnitType h rest more = refl
   head_type l (Ref m t) h rest more = refl

@@ -3,10 +3,10 @@ use mathlib.Core.Path.{◌≡◌, refl, sym, ap, ◌∙◌, subst}
 use Rattle.std.specs.Prelude.{Option, None, Some}
 use Prim.Native.Nat.{ℕ, zero, suc, ◌≤◌}
 use native.Mathlib.Omega.{arith}
-use Rattle.definition.specs.Types.{Var, State}
+use Rattle.definition.specs.Types.{Var, State, TypeValue, UnitType, Ref, Param, Apply, Anything, UnresolvedError}
 use Rattle.definition.specs.Store.{type_at, get}
 use Rattle.definition.specs.Subst.{next_of, next_in, as_var, forward}
-use Rattle.theorems.proofs.DemandTracks.{Ends, here, hop}
+use Rattle.theorems.proofs.DemandTracks.{Ends, here, hop, never}
 
 -- v's chain ends within n steps
 pub data Within (S : State) : ℕ → ℕ → Type 0 where
@@ -55,6 +55,16 @@ next_agree S S' v g f = go (get S v) refl
     go : (o : Option ℕ) → get S v ≡ o → next_in S' (get S' v) ≡ next_in S (get S v)
     go None e = rw (g, e) refl
     go (Some t) e = rw (g, e) (ap as_var (f t e))
+
+pub as_var_is : (x : TypeValue) (w : ℕ) → as_var x ≡ Some w → x ≡ Var w
+unfolding as_var
+as_var_is UnitType w e = never (cc)
+as_var_is (Ref m t) w e = never (cc)
+as_var_is (Param id a) w e = never (cc)
+as_var_is (Apply k n tys) w e = never (cc)
+as_var_is (Var v) w e = ap Var (cc)
+as_var_is Anything w e = never (cc)
+as_var_is UnresolvedError w e = never (cc)
 
 pub next_none : (S : State) (v : ℕ) → get S v ≡ None → next_of S v ≡ None
 unfolding next_of next_in

@@ -237,7 +237,7 @@ total f (x ∷ l) = go (f x) (total f l)
     go true h = omega (arith, h)
     go false h = omega (arith, h)
 
-those_fit : (f : ℕ → Bool) → from_abilities (those f) ≤ 15
+pub those_fit : (f : ℕ → Bool) → from_abilities (those f) ≤ 15
 unfolding those from_abilities
 those_fit f = total f (1 ∷ 2 ∷ 4 ∷ 8 ∷ [])
 

@@ -33,7 +33,7 @@ use Rattle.theorems.proofs.SoundRanges.{all_append, ShapeIn, NodeIn, CellIn, Con
 use Rattle.theorems.proofs.SoundRead.{ReadTime, five, six, eighteen, ReadWell, given, not_given, well_read}
 use Rattle.theorems.proofs.SoundRefusals.{error_number, step_cases, stream_cases}
 use Rattle.theorems.proofs.DemandRecords.{Leaves, l_ok, l_err, l_refused, run_leaves}
-use Rattle.theorems.proofs.TotalWalk.{RunTime, seven, eight, nine, ten, eleven, twelve, thirteen, sixteen, e_ok, e_err, e_refused, Run, run_walk}
+use Rattle.theorems.proofs.TotalWalk.{RunTime, seven, eight, nine, ten, eleven, twelve, thirteen, sixteen, seventeen, e_ok, e_err, e_refused, Run, run_walk}
 
 -- ---- from the test to the ranges
 
@@ -188,6 +188,7 @@ run_time_number eleven d = absurd (omega (arith, d))
 run_time_number twelve d = absurd (omega (arith, d))
 run_time_number thirteen d = absurd (omega (arith, d))
 run_time_number (sixteen y) d = absurd (omega (arith, d))
+run_time_number (seventeen y) d = absurd (omega (arith, d))
 
 read_time_number : {x : Refusal} → ReadTime x → number_of_refusal x ≢ 15
 unfolding number_of_refusal

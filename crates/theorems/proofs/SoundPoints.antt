@@ -12,11 +12,11 @@ use Rattle.definition.specs.TParams.{subst_tparams}
 use Rattle.definition.specs.Write.{Bytes}
 use Rattle.definition.specs.Reader.{got}
 use Rattle.definition.specs.Trees.{Tree}
-use Rattle.definition.specs.Record.{Record, UF, RD, TS, RM, CN, read_record}
+use Rattle.definition.specs.Record.{Record, UF, RD, TS, RM, CN, XP, read_record}
 use Rattle.definition.specs.Step.{tell, run, refusal, max_payload, answer_with, answer, lent, step, max_buffer}
 use Rattle.definition.specs.Needs.{Needs, needs}
 use Rattle.definition.specs.Sound.{sound}
-use Rattle.theorems.proofs.TotalWalk.{eleven, Ends, e_ok, e_err, e_refused, bind, place_run, pairs_run, ready_tvars_run, make_run, subst_run}
+use Rattle.theorems.proofs.TotalWalk.{eleven, Ends, e_ok, e_err, e_refused, bind, place_run, pairs_run, ready_tvars_run, make_run, subst_run, expand_run}
 use Rattle.theorems.proofs.SoundKept.{usable_sound}
 
 -- ---- UF, RD, TS and RM
@@ -28,6 +28,7 @@ pub data Looks : Record → Type 0 where
   substitutes : {ps : List (ℕ × Tree)} {t : Tree} → Looks (TS ps t)
   tells : {t : Tree} → Looks (RM t)
   spells : {t : Tree} → Looks (CN t)
+  expands : {t : Tree} → Looks (XP t)
 
 -- no error is met, and a success leaves the state s
 abbrev Back : State → Result (State × Bytes) → Type 0
@@ -49,6 +50,7 @@ goes_back s (TS ps t) substitutes =
 goes_back s (RM t) tells = tell_back s (needs t)
 goes_back s (CN t) spells =
     bind _ (place_run ⊥ s true t (λ h. absurd h) s (λ h. absurd h)) (λ x j. bind _ (ready_tvars_run ⊥ s true refl x.0 j x.1) (λ r k. e_ok refl))
+goes_back s (XP t) expands = bind _ (place_run ⊥ s true t (λ h. absurd h) s (λ h. absurd h)) (λ x j. bind _ (expand_run true refl _ x.0 x.1) (λ r k. e_ok refl))
 goes_back s x l = elim l [ ]
 
 with_back : (s after : State) (payload : Bytes) → after ≡ s → (answer_with s 0 payload after).state ≡ s
@@ -65,7 +67,7 @@ back_leaves s (ok (after, payload)) (e_ok e) = with_back s after payload e
 back_leaves s (err after x) (e_err e) = absurd e
 back_leaves s (refused x) (e_refused r) = refl
 
--- UF, RD, TS and RM leave the state as at entry, whatever they answer
+-- UF, RD, TS, RM and XP leave the state as at entry, whatever they answer
 pub looking_leaves : (s : State) (x : Record) → Looks x → (answer s (run s x)).state ≡ s
 looking_leaves s x l = back_leaves s (run s x) (goes_back s x l)
 

@@ -7,7 +7,7 @@ use Rattle.std.specs.Prelude.{Option, None, Some}
 use Prim.Native.Nat.{ℕ, zero, suc, ◌+◌, ◌≤◌, ◌<◌}
 use native.Mathlib.Omega.{arith}
 use lib.ListN.{length, get_or, set, length-append, length-set}
-use Rattle.definition.specs.Types.{TypeName, AbilityMark, Shape, UnitType, Ref, Param, Apply, Var, Anything, UnresolvedError, TypeValue, Places, Node, Cell, unbound, Struct, State, max_nodes, max_args, max_vars, max_constraints, max_structs}
+use Rattle.definition.specs.Types.{TypeName, AbilityMark, Shape, UnitType, Ref, Param, Apply, Var, Anything, UnresolvedError, TypeValue, Places, Node, Cell, unbound, Struct, State, max_nodes, max_args, max_vars, max_constraints, max_structs, Multiple, Builtin, ModuleType}
 use Rattle.definition.specs.Types.{Constraint, AbilityConstraint, NumericConstraint, BitsConstraint, OrderedConstraint, BaseTypeConstraint, SingleTypeConstraint}
 use Rattle.definition.specs.Store.{nowhere, count, taken, with_args, node, type_at, loc_of, num_loc, with_vars, with_constraints, with_structs, insert, args_of, stored, with_node, with_var, all_of}
 use Rattle.definition.specs.Subst.{next_of, or_insert, mark_one, mark_chain, set_num_var}
@@ -43,6 +43,13 @@ all_test f (x ∷ l) h = elim_and (f x) (all_of f l) h.0 (all_test f l h.1)
 
 abbrev pub U32 : ℕ → Type 0
 U32 x = is_u32 x ≡ true
+
+-- equal declarations
+pub name_known : (s s' : State) → s.structs ≡ s'.structs → (n : TypeName) → is_name s n ≡ is_name s' n
+unfolding is_name
+name_known s s' e (Multiple m) = refl
+name_known s s' e (Builtin b) = refl
+name_known s s' e (ModuleType m) = rw e refl
 
 -- a name with its mark, by the declarations of s
 abbrev pub Named : State → AbilityMark → TypeName → Type 0

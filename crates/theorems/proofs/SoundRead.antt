@@ -15,7 +15,7 @@ use Rattle.definition.specs.Write.{Bytes, IsBytes}
 use Rattle.definition.specs.Reader.{Read, got, not_read, Reader, give, refuse, go_on, ◌>>=◌, byte, read_u16, read_u32, byte_if, byte_to, read_bool, name_below, times, read_one, read_two, read_three}
 use Rattle.definition.specs.Trees.{Tree, unit_tree, anything_tree, error_tree, ref_tree, param_tree, apply_tree, var_tree, Trees, no_trees, ◌then◌, is_set, is_param, is_count, is_mark, is_name}
 use Rattle.definition.specs.Trees.{read_trees, mark_of, read_mark, mark_fits, arity, under_ref, read_apply, by_tag, read_nested, read_type}
-use Rattle.definition.specs.Record.{Record, SD, FV, NV, SN, JN, SU, UF, RD, IN, TS, NC, BC, SC, SV, RM, CN, read_kind, read_SD, read_pair, read_TS, by_mark, fields_of, read_fields, max_record, hand_back, read_record}
+use Rattle.definition.specs.Record.{Record, SD, FV, NV, SN, JN, SU, UF, RD, IN, TS, NC, BC, SC, SV, RM, CN, XP, read_kind, read_SD, read_pair, read_TS, by_mark, fields_of, read_fields, max_record, hand_back, read_record}
 use Rattle.definition.specs.Sound.{is_u32, struct_allowed}
 use Rattle.theorems.proofs.DemandOrder.{All, All_map}
 use Rattle.theorems.proofs.SoundFacts.{and_r, not_false, test}
@@ -62,6 +62,7 @@ FineRecord ar vars (SC loc t) = Fine ar vars t
 FineRecord ar vars SV = Unit {0}
 FineRecord ar vars (RM t) = Fine ar vars t
 FineRecord ar vars (CN t) = Fine ar vars t
+FineRecord ar vars (XP t) = Fine ar vars t
 
 -- ---- fields in range: the names are those of s
 
@@ -96,6 +97,7 @@ RecordIn s (SC loc t) = U32 loc × TreeIn s t
 RecordIn s SV = Unit {0}
 RecordIn s (RM t) = TreeIn s t
 RecordIn s (CN t) = TreeIn s t
+RecordIn s (XP t) = TreeIn s t
 
 -- ---- bytes
 
@@ -331,7 +333,7 @@ module _ (H : Type 0) where
                   gives_one UF (λ t p. p),
                   (
                     gives_one RD (λ t p. p),
-                    (gives_TS, (gives_one IN (λ t p. p), (gives_NC, (gives_loc_type BC (λ l t p q. (q.0, λ h. (p h, q.1 h))), (gives_loc_type SC (λ l t p q. (q.0, λ h. (p h, q.1 h))), (gives_give SV (tt, λ h. tt), (gives_one RM (λ t p. p), (gives_one CN (λ t p. p), tt)))))))),
+                    (gives_TS, (gives_one IN (λ t p. p), (gives_NC, (gives_loc_type BC (λ l t p q. (q.0, λ h. (p h, q.1 h))), (gives_loc_type SC (λ l t p q. (q.0, λ h. (p h, q.1 h))), (gives_give SV (tt, λ h. tt), (gives_one RM (λ t p. p), (gives_one CN (λ t p. p), (gives_one XP (λ t p. p), tt))))))))),
                   ),
                 ),
               ),

@@ -9,7 +9,7 @@ use lib.ListN.{length}
 use lib.Dec.{leb}
 use Rattle.definition.specs.Types.{State, TypingError, SubtypeError, Incompatible, ArityMismatch, RecursiveType, Refusal, malformed, unknown_name, full, too_deep, runs_into_itself, abilities_disagree}
 use Rattle.std.specs.Prelude.{if◌then◌else◌}
-use Rattle.definition.specs.Types.{open_variable, no_argument, parameter_twice, answer_too_long, unsound_state, mark_contradicted, doubled_reference, Result, ok, err, refused}
+use Rattle.definition.specs.Types.{open_variable, no_argument, parameter_twice, answer_too_long, unsound_state, mark_contradicted, already_expanded, doubled_reference, Result, ok, err, refused}
 use Rattle.definition.specs.Write.{Bytes}
 use Rattle.definition.specs.Reader.{Read, got, not_read}
 use Rattle.definition.specs.Record.{Record, read_record}
@@ -96,6 +96,7 @@ refusal_number parameter_twice = omega arith
 refusal_number answer_too_long = omega arith
 refusal_number unsound_state = omega arith
 refusal_number mark_contradicted = omega arith
+refusal_number already_expanded = omega arith
 refusal_number doubled_reference = omega arith
 
 with_number : (s : State) (n : ℕ) (p : Bytes) (s' : State) → n < 100 → (answer_with s n p s').number < 100

@@ -227,7 +227,7 @@ module _ (s : State) where
                               c_give _,
                               (
                                 c_one _,
-                                (c_one _, tt),
+                                (c_one _, (c_one _, tt)),
                               ),
                             ),
                           ),

@@ -16,7 +16,7 @@ use Rattle.definition.specs.Step.{run, Answer, number_of_error, number_of_refusa
 use Rattle.definition.specs.Job.{Entry, ends_job, job_from, job_log}
 use Rattle.theorems.proofs.StreamRecords.{front, records_from, records_of, entries}
 use Rattle.definition.specs.Locations.{blank_job, Seen, seen, blank_log, JobOfBytes, LocationsDecideNothing}
-use Rattle.theorems.proofs.TotalWalk.{RunTime, seven, eight, nine, ten, eleven, twelve, thirteen, sixteen}
+use Rattle.theorems.proofs.TotalWalk.{RunTime, seven, eight, nine, ten, eleven, twelve, thirteen, sixteen, seventeen}
 use Rattle.theorems.proofs.TotalLate.{Late, fine, wrong, down, run_late}
 use Rattle.theorems.proofs.SoundRead.{bytes_take, ReadTime, ReadWell, not_given, well_read}
 use Rattle.theorems.proofs.SoundKept.{stream_sound_kept, usable_sound, trusted, fresh_sound}
@@ -36,6 +36,7 @@ run_goes_on eleven = refl
 run_goes_on twelve = refl
 run_goes_on thirteen = refl
 run_goes_on (sixteen y) = refl
+run_goes_on (seventeen y) = refl
 
 error_goes_on : (e : TypingError) → ends_job (number_of_error e) ≡ false
 unfolding ends_job number_of_error

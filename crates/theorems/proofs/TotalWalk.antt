@@ -12,7 +12,7 @@ use lib.Dec.{eqb}
 use Rattle.std.specs.Prelude.{if◌then◌else◌}
 use Rattle.definition.specs.Types.{max_builtin, TypeName, Multiple, Builtin, ModuleType, TypeValue, UnitType, Ref, Param, Apply, Var, Anything, UnresolvedError, State, Cell, TypingError, max_depth}
 use Rattle.definition.specs.Types.{Constraint, AbilityConstraint}
-use Rattle.definition.specs.Types.{Refusal, full, too_deep, runs_into_itself, abilities_disagree, open_variable, no_argument, parameter_twice, mark_contradicted, Result, ok, err, refused, ◌>>=◌}
+use Rattle.definition.specs.Types.{Refusal, full, too_deep, runs_into_itself, abilities_disagree, open_variable, no_argument, parameter_twice, mark_contradicted, already_expanded, Result, ok, err, refused, ◌>>=◌}
 use Rattle.definition.specs.Store.{any_of, count, type_at, loc_of, get, num_loc, sp, next_tvar, add_constraint, declare, map_types}
 use Rattle.definition.specs.Subst.{is_anything, forward_tvar, reaches_itself, ready_value, ready, ready_tvars}
 use Rattle.definition.specs.Join.{integers, TypingCase, Join, Subtype, JoinImpl, is_numeric, check_num_tvar, used, join_bind_tvar, type_of, shown, merge_num, join_tvar, join_impl_types}
@@ -22,7 +22,10 @@ use Rattle.definition.specs.Instantiate.{make_tvar, tvar_constraint, builtin_tpa
 use Rattle.definition.specs.Abilities.{primitives, has}
 use Rattle.definition.specs.Constraints.{num_vars, undecided, u64, default_num_var, default_num_vars, solve_constraints}
 use Rattle.definition.specs.Trees.{Tree, unit_tree, anything_tree, error_tree, ref_tree, param_tree, apply_tree, var_tree, Trees, no_trees, ◌then◌, has_drop, mark_fits, is_set, is_mark, is_name}
-use Rattle.definition.specs.Record.{NumericKind, Numeric, Bits, Ordered, Record, SD, FV, NV, SN, JN, SU, UF, RD, IN, TS, NC, BC, SC, SV, RM, CN}
+use Rattle.definition.specs.Abilities.{infer_abilities}
+use Rattle.definition.specs.Write.{Bytes, head}
+use Rattle.definition.specs.Expand.{Expanded, expand_types, under, expand_marked, expand_value, expand, expand_type}
+use Rattle.definition.specs.Record.{NumericKind, Numeric, Bits, Ordered, Record, SD, FV, NV, SN, JN, SU, UF, RD, IN, TS, NC, BC, SC, SV, RM, CN, XP}
 use Rattle.definition.specs.Build.{build, build_all, build_pairs}
 use Rattle.definition.specs.Needs.{Needs, needs}
 use Rattle.definition.specs.Sound.{numeric_allowed}
@@ -45,6 +48,7 @@ pub data RunTime (z : Bool) : Refusal → Type 0 where
   twelve : RunTime z no_argument
   thirteen : RunTime z parameter_twice
   sixteen : z ≡ true → RunTime z mark_contradicted
+  seventeen : z ≡ true → RunTime z already_expanded
 
 -- a success has P, an error is met in a state that has E
 pub data Ends {A : Type 0} (z : Bool) (E : State → Type 0) (P : A → Type 0) : Result A → Type 0 where
@@ -65,6 +69,50 @@ either false p q = q refl
 pub maybe : {A : Type 0} {z : Bool} {E : State → Type 0} {P : A → Type 0} (o : Option ℕ) {x : Result A} {f : ℕ → Result A} → Ends z E P x → ((t : ℕ) → Ends z E P (f t)) → Ends {A = A} z E P (elim o [ None ↦ x | Some t ↦ f t ])
 maybe None p q = p
 maybe (Some t) p q = q t
+
+-- ---- XP: it takes nothing, so of the state nothing is asked
+module _ (z : Bool) (y : z ≡ true) (E : State → Type 0) where
+  abbrev Expands : Result Expanded → Type 0
+  Expands m = Ends z E (λ x. Unit {0}) m
+
+  expand_types_run : (f : ℕ → Result Expanded) → ((t : ℕ) → Expands (f t)) → (ts : List ℕ) → Expands (expand_types f ts)
+  unfolding expand_types
+  expand_types_run f h [] = e_ok tt
+  expand_types_run f h (t ∷ ts) = bind _ (h t) (λ a i. bind _ (expand_types_run f h ts) (λ b j. e_ok tt))
+
+  under_run : (head : Bytes) {m : Result Expanded} → Expands m → Expands (under head m)
+  unfolding under
+  under_run head p = bind _ p (λ a i. e_ok tt)
+
+  marked_run : (n : TypeName) {m : Result Expanded} → Expands m → Expands (expand_marked n m)
+  unfolding expand_marked
+  marked_run (Builtin b) p = p
+  marked_run (Multiple len) p = e_refused (seventeen y)
+  marked_run (ModuleType m) p = e_refused (seventeen y)
+
+  expand_value_run : (f : ℕ → Result Expanded) → ((t : ℕ) → Expands (f t)) → (s : State) (ty loc : ℕ) (x : TypeValue) → Expands (expand_value f s ty loc x)
+  unfolding expand_value
+  expand_value_run f h s ty loc UnitType = e_ok tt
+  expand_value_run f h s ty loc UnresolvedError = e_ok tt
+  expand_value_run f h s ty loc Anything = e_ok tt
+  expand_value_run f h s ty loc (Param id a) = e_ok tt
+  expand_value_run f h s ty loc (Ref m t) = under_run (head loc (Ref m t)) (h t)
+  expand_value_run f h s ty loc (Var v) = maybe (get s (forward_tvar s v)) (e_ok tt) (λ t. h t)
+  expand_value_run f h s ty loc (Apply (Some set) n tys) = marked_run n (under_run (head loc (Apply (Some set) n tys)) (expand_types_run f h tys))
+  expand_value_run f h s ty loc (Apply None n tys) = under_run (head loc (Apply (Some (infer_abilities s ty)) n tys)) (expand_types_run f h tys)
+
+  expand_down_run : (n : ℕ) (s : State) (ty : ℕ) → Expands (expand n s ty)
+  unfolding expand
+  expand_down_run zero s ty = e_refused (nine y)
+  expand_down_run (suc n) s ty = expand_value_run (λ t. expand n s t) (λ t. expand_down_run n s t) s ty (loc_of s ty) (type_at s ty)
+
+  pub expand_run : (s : State) (ty : ℕ) → Expands (expand_type s ty)
+  unfolding expand_type
+  expand_run s ty = go (reaches_itself s ty)
+    where
+      go : (x : Bool) → Expands (elim x [ true ↦ refused runs_into_itself | false ↦ expand (2 * count s) s ty ])
+      go true = e_refused (nine y)
+      go false = expand_down_run (2 * count s) s ty
 
 -- ---- fields of what is built
 
@@ -396,4 +444,5 @@ module _ (H : Type 0) (b : State) (z : Bool) where
   run_walk y s i (SC loc t) f = constrain_run s i t (λ h. (f h).1) _ (λ ty h. (f h).0)
   run_walk y s i (RM t) f = tell_run s i (needs t)
   run_walk y s i (CN t) f = bind _ (place_run t f s i) (λ x j. bind _ (ready_tvars_run y x.0 j x.1) (λ r k. e_ok i))
+  run_walk y s i (XP t) f = bind _ (place_run t f s i) (λ x j. bind _ (expand_run z y _ x.0 x.1) (λ r k. e_ok i))
   run_walk y s i SV f = bind _ (starts_run s i) (λ x j. solve_cases x Run (λ failures. e_ok (λ h. cleared_ranges (j h))) (e_refused (nine y)) (e_refused (sixteen y)))

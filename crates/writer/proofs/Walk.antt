@@ -22,7 +22,7 @@ unfolding each
 each_append f [] b = refl
 each_append f (t ∷ ts) b = rw (each_append f ts b) (sym (append_assoc (f t) (each f ts) (each f b)))
 
-each_same : (f g : ℕ → Bytes) (ts : List ℕ) → ((i : ℕ) → i < length ts → f (get_or ts i 0) ≡ g (get_or ts i 0)) → each f ts ≡ each g ts
+pub each_same : (f g : ℕ → Bytes) (ts : List ℕ) → ((i : ℕ) → i < length ts → f (get_or ts i 0) ≡ g (get_or ts i 0)) → each f ts ≡ each g ts
 unfolding each
 each_same f g [] h = refl
 each_same f g (t ∷ ts) h = rw (h 0 (omega arith), each_same f g ts (λ i l. h (suc i) (omega arith))) refl
@@ -30,6 +30,17 @@ each_same f g (t ∷ ts) h = rw (h 0 (omega arith), each_same f g ts (λ i l. h 
 each_one : (f : ℕ → Bytes) (t : ℕ) → each f (t ∷ []) ≡ f t
 unfolding each
 each_one f t = append-nil (f t)
+
+-- one part more
+pub each_more : (f : ℕ → Bytes) (ts : List ℕ) (i : ℕ) → i < length ts → each f (take (i + 1) ts) ≡ each f (take i ts) ++ f (get_or ts i 0)
+each_more f ts i h =
+    let one : each f (get_or ts i 0 ∷ []) ≡ f (get_or ts i 0) = each_one f (get_or ts i 0) in
+    rw (add-one i, take-suc ts i 0 h, each_append f (take i ts) (get_or ts i 0 ∷ []), one) refl
+
+pub each_in : (f : ℕ → Bytes) (ts : List ℕ) (i : ℕ) → length (each f (take i ts)) ≤ length (each f ts)
+each_in f ts i =
+    let e : each f ts ≡ each f (take i ts) ++ each f (drop i ts) = ap (each f) (sym (take-append-drop i ts)) ∙ each_append f (take i ts) (drop i ts) in
+    rw (e, length-append (each f (take i ts)) (each f (drop i ts))) (omega arith)
 
 -- the bytes of a type whose parts have those that f gives
 unfoldable pub whole : (ℕ → Bytes) → State → ℕ → Bytes
@@ -65,9 +76,8 @@ module _ (f : ℕ → Bytes) (s : State) (t : ℕ) where
   pub front_more : (i : ℕ) → i < length (parts (type_at s t)) → front f s t (i + 1) ≡ front f s t i ++ f (get_or (parts (type_at s t)) i 0)
   unfolding front
   front_more i h =
-      let one : each f (get_or (parts (type_at s t)) i 0 ∷ []) ≡ f (get_or (parts (type_at s t)) i 0) = each_one f (get_or (parts (type_at s t)) i 0) in
-      rw (add-one i, take-suc (parts (type_at s t)) i 0 h, each_append f (take i (parts (type_at s t))) (get_or (parts (type_at s t)) i 0 ∷ []), one)
-      (sym (append_assoc (head (loc_of s t) (type_at s t)) (each f (take i (parts (type_at s t)))) (f (get_or (parts (type_at s t)) i 0))))
+      ap (λ (b : Bytes). head (loc_of s t) (type_at s t) ++ b) (each_more f (parts (type_at s t)) i h)
+      ∙ sym (append_assoc (head (loc_of s t) (type_at s t)) (each f (take i (parts (type_at s t)))) (f (get_or (parts (type_at s t)) i 0)))
 
   -- all parts
   pub front_all : (i : ℕ) → length (parts (type_at s t)) ≤ i → front f s t i ≡ whole f s t
@@ -78,10 +88,6 @@ module _ (f : ℕ → Bytes) (s : State) (t : ℕ) where
   pub front_fits : (i : ℕ) → length (front f s t i) ≤ length (whole f s t)
   unfolding front whole
   front_fits i =
+      let h = head (loc_of s t) (type_at s t) in
       let ps = parts (type_at s t) in
-      let e : head (loc_of s t) (type_at s t) ++ each f ps ≡ (head (loc_of s t) (type_at s t) ++ each f (take i ps)) ++ each f (drop i ps) =
-      ap (λ (k : List ℕ). head (loc_of s t) (type_at s t) ++ each f k) (sym (take-append-drop i ps))
-      ∙ ap (λ (b : Bytes). head (loc_of s t) (type_at s t) ++ b) (each_append f (take i ps) (drop i ps))
-      ∙ sym (append_assoc (head (loc_of s t) (type_at s t)) (each f (take i ps)) (each f (drop i ps)))
-      in
-      rw (e, length-append (head (loc_of s t) (type_at s t) ++ each f (take i ps)) (each f (drop i ps))) (omega arith)
+      rw (length-append h (each f (take i ps)), length-append h (each f ps)) (omega (arith, each_in f ps i))

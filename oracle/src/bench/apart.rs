@@ -89,6 +89,8 @@ pub fn rows() -> Vec<Row> {
         over("RD, a list", 0, |i| format!("RD (V{}, vector<V{}>)", i, 16 + i % 8)),
         over("CN, a variable", 0, |i| format!("CN V{}", i)),
         over("CN, a list", 0, |i| format!("CN (V{}, vector<V{}>)", i, 16 + i % 8)),
+        over("XP, a variable", 0, |i| format!("XP V{}", i)),
+        over("XP, a list", 0, |i| format!("XP (V{}, vector<V{}>)", i, 16 + i % 8)),
         over("TS", 0, |i| format!("TS [P1 = V{}] (P1, vector<P1>)", i)),
         each("IN", "IN S0<_>"),
         each("RM", "RM S0<_>"),

@@ -1,9 +1,9 @@
 //! A function body as a type checker walks it: IN and TS for a call, SU for each argument, FV and JN for a let, JN where
-//! branches meet, UF at a dot, and at the end SV and RD of every local. One statement in eleven is wrong: a join or subtype
+//! branches meet, UF at a dot, and at the end SV and of each local RD or XP. One statement in eleven is wrong: a join or subtype
 //! that answers 1 to 4 and is put back.
 use crate::{
     gen::Chance,
-    job::{Job, Options, Outcome},
+    job::{Job, Outcome},
     record::{read_type, Kind},
     text::assemble,
 };
@@ -29,7 +29,7 @@ struct Body {
 /// statement; None where its last statement takes too many.
 pub fn body(vars: usize, ahead: usize, index: u64) -> Option<Vec<u8>> {
     let chance = Chance::new(12, index ^ (vars as u64) << 32);
-    let mut b = Body { chance, job: Job::new(Options::default()), stream: vec![], locals: vec![] };
+    let mut b = Body { chance, job: Job::new(), stream: vec![], locals: vec![] };
     b.ask(DECLARED);
     for _ in 0..ahead {
         b.ask("FV");
@@ -154,7 +154,7 @@ impl Body {
         self.ask("SV");
         for i in 0..self.locals.len() {
             let v = self.locals[i].var;
-            self.ask(&format!("RD V{}", v));
+            self.ask(&format!("{} V{}", ["RD", "XP"][i % 2], v));
         }
         self.stream
     }

@@ -1,5 +1,5 @@
-//! `joblog explain`: explain.txt, which has for every answer and every code of SV what it means, what to do, and a job
-//! with its log.
+//! `joblog explain`: explain.txt, which has for every answer and every code of SV and XP what it means, what to do, and
+//! a job with its log.
 
 const TEXTS: &str = include_str!("explain.txt");
 
@@ -14,13 +14,13 @@ pub fn given_for(number: usize) -> String {
     rest.lines().find_map(|l| l.strip_prefix("given for: ")).unwrap_or_default().into()
 }
 
-/// The text of an answer's number; of `SV`, or of `SV code N`. None where there is none.
+/// The text of an answer's number; of `SV`, of `SV code N`, or the same of `XP`. None where there is none.
 pub fn explain(words: &[String]) -> Option<String> {
     let asked = words.join(" ");
     let wanted = |head: &str| match asked.as_str() {
-        "SV" => head.starts_with("SV code "),
+        "SV" | "XP" => head.starts_with(&format!("{} code ", asked)),
         "" => false,
-        _ if head.starts_with("SV") => head == asked,
+        _ if head.starts_with("SV") || head.starts_with("XP") => head == asked,
         _ => head.split_once(' ').is_some_and(|(number, _)| number == asked),
     };
     let texts: Vec<String> = all().filter(|(h, _)| wanted(h)).map(|(h, rest)| format!("{}\n{}\n", h, rest)).collect();

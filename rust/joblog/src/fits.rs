@@ -19,6 +19,8 @@ struct Constraint {
 #[derive(Default)]
 pub struct State {
     pub structs: usize,
+    /// each struct as SD declares it: abilities and parameter bytes
+    declared: Vec<(u8, Vec<u8>)>,
     /// at least and at most so many variables are taken
     pub low: usize,
     pub high: usize,
@@ -190,6 +192,92 @@ fn added(t: &Ty, out: &mut Vec<Constraint>) {
     t.parts().iter().for_each(|p| added(p, out))
 }
 
+//---- XP ------------------------------------------------------------------------------------------
+
+const BASE: u8 = 7;
+const KEY: u8 = 8;
+const STORE: u8 = 4;
+const SIGNER: u8 = 1;
+
+/// whether a list or struct with an ability mark stands in it, which is 17
+fn marked(t: &Ty) -> bool {
+    matches!(t.kind, Kind::List(16.., _) | Kind::Struct(16.., ..)) || t.parts().iter().any(marked)
+}
+
+/// no variable, and a mark on every name
+fn whole(t: &Ty) -> bool {
+    let own = !matches!(t.kind, Kind::Var(_) | Kind::Builtin(0, ..) | Kind::List(0, _) | Kind::Struct(0, ..));
+    own && t.parts().iter().all(whole)
+}
+
+/// the locations of the `!` in it, from left to right
+fn errors(t: &Ty, out: &mut Vec<u32>) {
+    if t.kind == Kind::UnresolvedError {
+        out.push(t.loc)
+    }
+    t.parts().iter().for_each(|p| errors(p, out))
+}
+
+/// whether all of the first are among the second, in their order
+fn among(few: &[u32], all: &[u32]) -> bool {
+    let mut all = all.iter();
+    few.iter().all(|x| all.any(|y| x == y))
+}
+
+impl State {
+    /// the abilities of a type without variables
+    fn abilities(&self, t: &Ty) -> u8 {
+        let every = |ts: &mut dyn Iterator<Item = &Ty>| ts.fold(15, |set, t| set & self.abilities(t));
+        match &t.kind {
+            Kind::Unit => BASE,
+            Kind::Ref(..) => 3,
+            Kind::Var(_) | Kind::Anything | Kind::UnresolvedError => 15,
+            Kind::Param(_, set) => *set,
+            Kind::Builtin(m @ 16.., ..) | Kind::List(m @ 16.., _) | Kind::Struct(m @ 16.., ..) => m - 16,
+            Kind::Builtin(_, SIGNER, _) => 2,
+            Kind::Builtin(_, _, ts) | Kind::List(_, ts) => BASE & every(&mut ts.iter()),
+            Kind::Struct(_, n, ts) => {
+                let (set, params) = &self.declared[*n as usize];
+                let had = every(&mut ts.iter().zip(params).filter(|(_, p)| **p < 16).map(|(t, _)| t));
+                set & (had & BASE | if had & STORE != 0 { KEY } else { 0 })
+            }
+        }
+    }
+
+    /// whether `t` is `u` as XP shows it; of what stands for a variable nothing more is known than that it is whole
+    fn expands(&self, u: &Ty, t: &Ty) -> bool {
+        let mark = if open(u) { None } else { Some(16 + self.abilities(u)) };
+        let head = |of: &Ty, m: u8| {
+            let mut head = of.with_parts(vec![]);
+            if let Kind::Builtin(own, ..) | Kind::List(own, _) | Kind::Struct(own, ..) = &mut head.kind {
+                *own = m
+            }
+            head
+        };
+        match (&u.kind, &t.kind) {
+            (Kind::Var(_), _) => true,
+            (Kind::Builtin(16.., ..), _) => self.same_parts(u, t, u.with_parts(vec![]) == t.with_parts(vec![])),
+            (Kind::Builtin(..) | Kind::List(..) | Kind::Struct(..), _) => {
+                let known = mark.is_none_or(|m| head(u, m) == t.with_parts(vec![]));
+                self.same_parts(u, t, known && head(u, 0) == head(t, 0))
+            }
+            _ => self.same_parts(u, t, u.with_parts(vec![]) == t.with_parts(vec![])),
+        }
+    }
+    fn same_parts(&self, u: &Ty, t: &Ty, heads: bool) -> bool {
+        let (x, y) = (u.parts(), t.parts());
+        heads && x.len() == y.len() && x.iter().zip(y).all(|(u, t)| self.expands(u, t))
+    }
+
+    /// The type and the codes: a code for some of its `!`, and none where no variable is.
+    fn expanded(&self, u: &Ty, t: &Ty, codes: &[u32]) -> bool {
+        let mut found = vec![];
+        errors(t, &mut found);
+        let told = among(codes, &found) && (open(u) || codes.is_empty());
+        !marked(u) && whole(t) && told && self.expands(u, t)
+    }
+}
+
 //---- SV ------------------------------------------------------------------------------------------
 
 /// whether a constraint of this code fails on a type that is no variable
@@ -249,6 +337,7 @@ impl State {
             (Record::RM(t), Outcome::Needs(n)) => !open(t) && *n == needs(t),
             (Record::SV, Outcome::Done) => self.solved(&[]),
             (Record::SV, Outcome::Failed(fs)) => self.solved(fs),
+            (Record::XP(u), Outcome::Expanded(t, codes)) => self.expanded(u, t, codes),
             (Record::SN(..) | Record::NC(..) | Record::BC(..) | Record::SC(..), Outcome::Done) => true,
             (Record::FV(_) | Record::NV(_), Outcome::Type(Ty { kind: Kind::Var(v), .. })) => {
                 (self.low..=self.high).contains(&(*v as usize)) && (*v as usize) < MAX_VARS
@@ -296,7 +385,8 @@ impl State {
             (n, Record::TS(args, t)) => {
                 replaced(args, t).is_err_and(|m| m == n || (m, n) == (11, 12) || (m, n) == (12, 11))
             }
-            (9 | 14, Record::UF(t) | Record::RD(t) | Record::CN(t)) => open(t),
+            (9 | 14, Record::UF(t) | Record::RD(t) | Record::CN(t) | Record::XP(t)) => open(t),
+            (17, Record::XP(t)) => open(t) || marked(t),
             (9 | 16, Record::SV) => self.constraints.iter().any(|c| c.code == 4),
             _ => true,
         }
@@ -319,7 +409,10 @@ impl State {
         self.low = self.low.max(r.taken());
         match (r, payload.number()) {
             (Record::JN(a, b) | Record::SU(a, b), 0..=4) if open(a) || open(b) => self.high = MAX_VARS,
-            (Record::SD(..), 0) => self.structs += 1,
+            (Record::SD(set, params), 0) => {
+                self.structs += 1;
+                self.declared.push((*set, params.clone()))
+            }
             (Record::FV(_) | Record::NV(_), 0) => {
                 self.numeric |= matches!(r, Record::NV(_));
                 self.low = payload.taken();

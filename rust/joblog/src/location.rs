@@ -22,6 +22,8 @@ enum Part {
     Failures,
     /// the rule of a missing ability
     Rule,
+    /// the code of a variable that is not inferred, in a row that goes on to the end
+    Codes,
 }
 use Part::*;
 
@@ -53,7 +55,7 @@ const fn row(mark: &[u8; 2], fields: &'static [Part], payload: &'static [Part]) 
     Mark { mark: *mark, fields, payload }
 }
 
-const MARKS: [Mark; 16] = [
+const MARKS: [Mark; 17] = [
     row(b"SD", &[], &[]),
     row(b"FV", &LOC, &[Types]),
     row(b"NV", &LOC, &[Types]),
@@ -70,6 +72,7 @@ const MARKS: [Mark; 16] = [
     row(b"SV", &[], &[Failures]),
     row(b"RM", &[Type], &[]),
     row(b"CN", &[Type], &[]),
+    row(b"XP", &[Type], &[Type, Codes]),
 ];
 
 fn of_mark(record: &[u8]) -> Option<&'static Mark> {
@@ -95,6 +98,7 @@ fn brings(part: Part, b: u8, params: &[usize]) -> Vec<Part> {
         Failures => [&LOC[..], &[Type, Failures]].concat(),
         Rule if b == 2 => vec![Plain, Failures],
         Rule => vec![Failures],
+        Codes => [&LOC[..], &[Codes]].concat(),
     }
 }
 

@@ -19,7 +19,7 @@ const fn ends(number: usize, word: &'static str) -> Word {
 }
 
 /// by rising number
-pub const ANSWERS: [Word; 18] = [
+pub const ANSWERS: [Word; 19] = [
     goes_on(0, "typed"),
     goes_on(1, "subtype error"),
     goes_on(2, "incompatible"),
@@ -37,6 +37,7 @@ pub const ANSWERS: [Word; 18] = [
     goes_on(14, "answer too long"),
     goes_on(15, "unsound state"),
     goes_on(16, "ability mark contradicted"),
+    goes_on(17, "already expanded"),
     ends(18, "doubled reference"),
 ];
 

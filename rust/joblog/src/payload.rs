@@ -1,6 +1,6 @@
 //! What one answer says: from a record, the answer's number and its payload to a tree or failures. A 0 is no success by
-//! itself: SV answers 0 also where constraints failed, and its payload lists them. `Outcome::is_well` tells the two
-//! apart, and an answer that its record cannot have is an error.
+//! itself: SV answers 0 also where constraints failed, XP also where a type could not be inferred, and their payloads
+//! list these. `Outcome::is_well` tells the two apart, and an answer that its record cannot have is an error.
 use crate::{
     fits::{State, MAX_VARS},
     pairs,
@@ -10,6 +10,8 @@ use std::fmt;
 
 /// the longest payload
 pub const MAX_PAYLOAD: usize = 4096;
+/// XP's code
+pub const UNINFERRED: u8 = 5;
 
 #[derive(Debug, Clone, PartialEq, Eq)]
 #[non_exhaustive]
@@ -26,6 +28,8 @@ pub enum Outcome {
     Needs([u32; 4]),
     /// 0 of SV: the constraints that failed, at least one
     Failed(Vec<Failure>),
+    /// 0 of XP: the type, and where in it a variable could not be inferred
+    Expanded(Ty, Vec<u32>),
     /// 1 to 3, with both types
     Mismatch(usize, Ty, Ty),
     /// 4, with a location
@@ -61,17 +65,18 @@ pub enum Rule {
 }
 
 impl Outcome {
-    /// Whether nothing is wrong. Not so for a 0 of SV with failed constraints.
+    /// Whether nothing is wrong. Not so for a 0 of SV with failed constraints, or of XP with a type that is not inferred.
     pub fn is_well(&self) -> bool {
-        matches!(
-            self,
-            Outcome::Done | Outcome::Declared(_) | Outcome::Type(_) | Outcome::Spelled(_) | Outcome::Needs(_)
-        )
+        match self {
+            Outcome::Expanded(_, open) => open.is_empty(),
+            Outcome::Done | Outcome::Declared(_) | Outcome::Type(_) | Outcome::Spelled(_) | Outcome::Needs(_) => true,
+            _ => false,
+        }
     }
     /// at least so many variables are taken: one more than the highest that it shows; a spelling numbers those in it
     pub fn taken(&self) -> usize {
         match self {
-            Outcome::Type(t) | Outcome::Spelled(t) => t.taken(),
+            Outcome::Type(t) | Outcome::Spelled(t) | Outcome::Expanded(t, _) => t.taken(),
             Outcome::Mismatch(_, a, b) => a.taken().max(b.taken()),
             Outcome::Failed(fs) => fs.iter().map(|f| f.ty.taken()).max().unwrap_or(0),
             _ => 0,
@@ -172,6 +177,18 @@ impl Rest<'_> {
         Ok(if rows.is_empty() { Outcome::Done } else { Outcome::Failed(rows) })
     }
 
+    /// a type, and codes up to the end
+    fn expanded(&mut self) -> Read<Outcome> {
+        let (ty, mut open) = (self.ty()?, vec![]);
+        while !self.bytes.is_empty() {
+            match self.byte()? {
+                UNINFERRED => open.push(self.u32()?),
+                _ => return no("its payload has a code that is none"),
+            }
+        }
+        Ok(Outcome::Expanded(ty, open))
+    }
+
     /// the payload of a 0
     fn zero(&mut self, r: &Record) -> Read<Outcome> {
         match r {
@@ -187,11 +204,12 @@ impl Rest<'_> {
             Record::RM(_) => Ok(Outcome::Needs([self.u32()?, self.u32()?, self.u32()?, self.u32()?])),
             Record::SN(..) | Record::NC(..) | Record::BC(..) | Record::SC(..) => Ok(Outcome::Done),
             Record::JN(..) | Record::SU(..) | Record::TS(..) => self.ty().map(Outcome::Type),
-            Record::UF(_) | Record::RD(_) | Record::IN(_) | Record::XP(_) => self.ty().map(Outcome::Type),
+            Record::UF(_) | Record::RD(_) | Record::IN(_) => self.ty().map(Outcome::Type),
             Record::CN(_) => match self.ty()? {
                 ty if ty == ty.numbered() => Ok(Outcome::Spelled(ty)),
                 _ => no("its payload has a location, or its variables are not numbered by first appearance"),
             },
+            Record::XP(_) => self.expanded(),
         }
     }
 }

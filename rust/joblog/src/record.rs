@@ -72,7 +72,7 @@ pub enum Record {
     RM(Ty),
     /// 02's R-12
     CN(Ty),
-    /// 02's R-5; malformed in the base
+    /// 02's R-5
     XP(Ty),
 }
 
@@ -81,7 +81,6 @@ pub enum Record {
 pub struct Known {
     pub vars: usize,
     pub params: Vec<usize>,
-    pub expand: bool,
 }
 
 /// Where in the record reading stops, and by which rule: the answer's number is 5, 6 or 18.
@@ -266,7 +265,7 @@ impl<'a> Reader<'a> {
             b"SV" => Record::SV,
             b"RM" => Record::RM(self.ty(1)?),
             b"CN" => Record::CN(self.ty(1)?),
-            b"XP" if self.known.expand => Record::XP(self.ty(1)?),
+            b"XP" => Record::XP(self.ty(1)?),
             _ => return malformed(0, "no record has this mark"),
         })
     }

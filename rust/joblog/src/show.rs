@@ -12,7 +12,7 @@ use std::{collections::BTreeMap, fmt::Write};
 pub struct Options<'a> {
     pub detail: Detail,
     pub names: Names<'a>,
-    /// only records that are not answered with 0, and SV with failed constraints
+    /// only records that are not answered with 0, SV with failed constraints and XP with codes
     pub errors: bool,
     /// at most so many lines
     pub lines: usize,
@@ -31,6 +31,15 @@ fn failed(p: &Pair) -> usize {
         fs.len()
     } else {
         0
+    }
+}
+
+/// what a record has done wrong that is not answered well
+fn wrong(p: &Pair) -> &'static str {
+    match &p.payload {
+        Outcome::Failed(_) => "failed constraints",
+        Outcome::Expanded(..) => "a type that is not inferred",
+        _ => word(p.number),
     }
 }
 
@@ -53,6 +62,11 @@ pub fn answer<'a>(p: &Pair, printer: impl Into<Printer<'a>>) -> String {
         Outcome::Mismatch(_, a, b) => format!("{}: {} and {}", said, text(a), text(b)),
         Outcome::Type(t) => format!("{} {}", said, text(t)),
         Outcome::Spelled(t) => format!("{} {}", said, printer.without_variables().ty(t)),
+        Outcome::Expanded(t, open) if open.is_empty() => format!("{} {}", said, text(t)),
+        Outcome::Expanded(t, open) => {
+            let places: Vec<_> = open.iter().map(|loc| printer.names.place(*loc)).collect();
+            format!("{} {}; not inferred: {}", said, text(t), places.join(", "))
+        }
         Outcome::Done | Outcome::Refused(_) => said.into(),
     }
 }
@@ -82,7 +96,9 @@ fn why(p: &Pair) -> String {
 pub struct Summary {
     pub answers: BTreeMap<usize, usize>,
     pub failed_constraints: usize,
-    /// an answer that is not 0, or SV with failed constraints: the record, and what it is
+    /// XP's codes
+    pub not_inferred: usize,
+    /// an answer that is not 0, SV with failed constraints, XP with a type that is not inferred: the record, and what it is
     pub first_error: Option<(usize, &'static str)>,
     /// the log does not fit the job
     pub wrong: Option<String>,
@@ -115,8 +131,9 @@ impl Summary {
     fn add(&mut self, p: &Pair) {
         *self.answers.entry(p.number).or_insert(0) += 1;
         self.failed_constraints += failed(p);
+        self.not_inferred += if let Outcome::Expanded(_, open) = &p.payload { open.len() } else { 0 };
         if !p.payload.is_well() && self.first_error.is_none() {
-            self.first_error = Some((p.n, if p.number == 0 { "failed constraints" } else { word(p.number) }))
+            self.first_error = Some((p.n, wrong(p)))
         }
     }
 
@@ -129,6 +146,9 @@ impl Summary {
         if self.failed_constraints > 0 {
             parts.push(format!("failed constraints: {}", self.failed_constraints))
         }
+        if self.not_inferred > 0 {
+            parts.push(format!("not inferred: {}", self.not_inferred))
+        }
         match (self.first_error, &self.wrong) {
             (Some((n, what)), _) => parts.push(format!("first error: record {}, {}", n, what)),
             (None, None) => parts.push("no error".into()),
@@ -138,7 +158,7 @@ impl Summary {
         parts.join("; ")
     }
 
-    /// 0: nothing is wrong. 1: some answer is not 0, or SV lists failed constraints. 2: the log does not fit the job.
+    /// 0: nothing is wrong. 1: some answer is not 0, SV lists failed constraints or XP codes. 2: the log does not fit the job.
     pub fn code(&self) -> i32 {
         match (&self.wrong, self.first_error) {
             (Some(_), _) => 2,

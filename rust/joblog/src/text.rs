@@ -203,7 +203,7 @@ pub fn record_text(r: &Record) -> String {
 
 /// What a stream without its log may name: any variable, and the structs declared so far.
 pub fn any_variable() -> Known {
-    Known { vars: 1 << 16, ..Known::default() }
+    Known { vars: 1 << 16, params: vec![] }
 }
 
 /// The text of a stream; what cannot be read stands as `hex`, so every stream has one.
@@ -492,6 +492,7 @@ impl Parser<'_> {
             "SV" => Record::SV,
             "RM" => Record::RM(self.ty()?),
             "CN" => Record::CN(self.ty()?),
+            "XP" => Record::XP(self.ty()?),
             _ => return Err(format!("`{}` is no mark", mark)),
         })
     }

@@ -1,4 +1,4 @@
-//! src/explain.txt: every answer and every code of SV, as pairs::ANSWERS and docs/RECORDS.md's tables have them, and each example beside its log.
+//! src/explain.txt: every answer and every code of SV and XP, as pairs::ANSWERS and docs/RECORDS.md's tables have them, and each example beside its log.
 use joblog::{
     pairs::{Pair, Pairs, ANSWERS},
     payload::Outcome,
@@ -49,14 +49,16 @@ fn every_answer_has_its_text() {
     let heads: Vec<String> = texts().iter().map(|t| t.head.to_string()).collect();
     let mut wanted: Vec<String> = ANSWERS.iter().map(|a| format!("{} {}", a.number, a.word)).collect();
     wanted.extend((1..=4).map(|code| format!("SV code {}", code)));
+    wanted.push("XP code 5".into());
     assert_eq!(heads, wanted)
 }
 
 #[test]
 fn records_says_the_same() {
     for t in texts() {
-        let given_for = match t.head.strip_prefix("SV code ") {
-            Some(code) => cells("| code | given for |", code)[0],
+        let given_for = match t.head.split_once(" code ") {
+            Some(("SV", code)) => cells("| code | given for |", code)[0],
+            Some((_, code)) => cells("| XP's code | given for |", code)[0],
             None => {
                 let (number, word) = t.head.split_once(' ').unwrap();
                 let row = cells("| number | word | given for | payload |", number);
@@ -73,8 +75,9 @@ fn records_says_the_same() {
 
 /// what the last record of an example is answered with
 fn last_is(t: &Text, last: &Pair) -> bool {
-    match (t.head.strip_prefix("SV code "), &last.payload) {
-        (Some(code), Outcome::Failed(_)) => last.raw[0].to_string() == code && last.number == 0,
+    match (t.head.split_once(" code "), &last.payload) {
+        (Some(("SV", code)), Outcome::Failed(_)) => last.raw[0].to_string() == code && last.number == 0,
+        (Some(("XP", "5")), Outcome::Expanded(_, open)) => !open.is_empty(),
         (Some(_), _) => false,
         (None, _) => t.head.starts_with(&format!("{} ", last.number)),
     }

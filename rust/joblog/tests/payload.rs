@@ -97,6 +97,22 @@ fn a_zero_of_sv_with_rows_is_no_success() {
 }
 
 #[test]
+fn a_zero_of_xp_with_codes_is_no_success() {
+    assert_eq!(said("XP u8", 0, U8), Ok(Outcome::Expanded(u8_type(), vec![])));
+    assert!(said("XP u8", 0, U8).unwrap().is_well());
+    let two = [U8, b"\x05\x09\0\0\0\x05\x0a\0\0\0"].concat();
+    let open = said("XP u8", 0, &two).unwrap();
+    assert_eq!(open, Outcome::Expanded(u8_type(), vec![9, 10]));
+    assert!(!open.is_well() && open.number() == 0);
+    for cut in (1..two.len()).filter(|n| *n != U8.len() && *n != U8.len() + 5) {
+        assert!(said("XP u8", 0, &two[..cut]).is_err(), "{}", cut)
+    }
+    // a code that is none, and a type where a code belongs
+    assert!(said("XP u8", 0, &[U8, b"\x04\x09\0\0\0"].concat()).is_err() && said("XP u8", 0, b"").is_err());
+    assert!(said("XP u8", 0, &[U8, U8].concat()).is_err());
+}
+
+#[test]
 fn errors_and_refusals() {
     for number in 1..=3 {
         let two = [U8, V0].concat();
@@ -107,12 +123,12 @@ fn errors_and_refusals() {
     }
     assert_eq!(said("JN V0, V0", 4, b"\x09\0\0\0"), Ok(Outcome::Recursive(9)));
     assert!(said("JN V0, V0", 4, b"\x09\0\0").is_err() && said("JN V0, V0", 4, b"").is_err());
-    for number in (5..=16).chain([18]) {
+    for number in 5..=18 {
         let outcome = said("SV", number, b"").unwrap();
         assert_eq!(outcome, Outcome::Refused(number));
         assert!(!outcome.is_well() && outcome.number() == number && said("SV", number, b"\0").is_err())
     }
-    for none in [17, 19, 256, usize::MAX] {
+    for none in [19, 256, usize::MAX] {
         assert!(said("SV", none, b"").is_err())
     }
 }

@@ -210,13 +210,14 @@ not known: the logs are by no run that is known: there is no manifest
 
 #[test]
 fn answers_are_explained() {
-    for n in (0..=16).chain([18]) {
+    for n in 0..=18 {
         let (status, out, _) = joblog(&["explain", &n.to_string()], b"");
         assert!(status == 0 && out.starts_with(&format!("{} ", n)), "{}: {}", n, out);
         assert!(["given for: ", "means: ", "do: ", "example:"].iter().all(|w| out.contains(w)), "{}", out)
     }
     assert_eq!(joblog(&["explain", "SV"], b"").1.matches("SV code ").count(), 4);
+    assert!(joblog(&["explain", "XP"], b"").1.starts_with("XP code 5\n"));
     assert!(joblog(&["explain", "SV", "code", "4"], b"").1.starts_with("SV code 4\n"));
-    assert_eq!(joblog(&["explain", "17"], b""), (2, String::new(), "joblog: there is no answer 17\n".into()));
+    assert_eq!(joblog(&["explain", "19"], b""), (2, String::new(), "joblog: there is no answer 19\n".into()));
     assert_eq!(joblog(&["explain"], b"").0, 2)
 }

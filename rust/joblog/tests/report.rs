@@ -109,7 +109,7 @@ fn every_answer_is_told() {
         let job = report::job(&name, &job, Some(log.as_bytes()), Default::default(), false);
         assert_eq!(job.unknown, Vec::<String>::new(), "{}", head);
         assert_eq!(job.verdict() == Verdict::Well, head == "0 typed", "{}", head);
-        let number = head.strip_prefix("SV code ").map_or(head.split(' ').next().unwrap().into(), |_| head.clone());
+        let number = head.split_once(" code ").map_or(head.split(' ').next().unwrap().into(), |_| head.clone());
         assert!(head == "0 typed" || job.failures.iter().any(|f| f.label() == number), "{}", head);
         out += &format!("== {}\n{}\n", head, text::text(&Release { jobs: vec![job], ..Release::default() }, true))
     }

@@ -137,6 +137,22 @@ fn what_in_would_take() {
 }
 
 #[test]
+fn a_type_as_it_is_in_the_end() {
+    let job = asm("FV\nXP vector<V0>\nXP u8\nXP (u8,){copy}");
+    let log = "0 0 06010000000000\n1 0 0303000000170508020000000502000000\n2 0 03040000001702\n3 17\n";
+    let wanted = "\
+0 FV   → typed V0
+1 XP  vector<V0>   → typed vector<!>; not inferred: @2
+2 XP  u8   → typed u8
+3 XP  (u8,)   → already expanded
+";
+    let (lines, summary) = show(&job, log, Options::default());
+    assert_eq!(lines, wanted);
+    let counts = "4 records; 0 typed: 3, 17 already expanded: 1; not inferred: 1";
+    assert_eq!(summary.text(), format!("{}; first error: record 1, a type that is not inferred", counts))
+}
+
+#[test]
 fn a_job_and_its_log_for_people() {
     let (lines, summary) = show(&asm(JOB), LOG, Options::default());
     let wanted = "\
@@ -278,6 +294,13 @@ fn locations_are_no_difference() {
     assert_eq!(h("01000000", "0203"), h("09080706", "0203"));
     assert_ne!(h("01000000", "0203"), h("01000000", "0204"));
     assert_ne!(h("01000000", "0203"), h("01000000", "01"));
+    // a type, then codes: a code's 5 is no struct's tag
+    let x = |at: &str, rest: &str| {
+        let bytes = format!("03{0}1705 08{0} 05{0} 05{0}{1}", at, rest).replace(' ', "");
+        blank_payload(b"XP", 0, &unhex(&bytes).unwrap(), &[])
+    };
+    assert_eq!(x("01000000", ""), x("09080706", ""));
+    assert_ne!(x("01000000", ""), x("01000000", "0501000000"));
     let f = side("FV @7\nFV", "0 0 06070000000000\n");
     assert_eq!(found(&a, &f), "2: it is too short: no line for record 1 and those after it");
 }

@@ -4,8 +4,8 @@
 macro_rules! answers {
     ($($name:ident = $number:literal, $words:literal;)*) => {
         /// An answer's number. 0 to 4 may have a payload and change the state; the others have none and leave all as it was.
-        /// `Ran` is not yet a success: SV answers so also where constraints failed, and its payload then lists them.
-        /// `is_well` tells the two apart.
+        /// `Ran` is not yet a success: SV answers so also where constraints failed, XP also where a type could not be
+        /// inferred, and the payload then lists them. `is_well` tells the two apart.
         #[derive(Debug, Clone, Copy, PartialEq, Eq, Hash, PartialOrd, Ord)]
         #[repr(u32)]
         #[non_exhaustive]
@@ -44,6 +44,7 @@ answers! {
     AnswerTooLong = 14, "answer too long";
     UnsoundState = 15, "unsound state";
     AbilityMarkContradicted = 16, "ability mark contradicted";
+    AlreadyExpanded = 17, "already expanded";
     DoubledReference = 18, "doubled reference";
 }
 
@@ -51,10 +52,15 @@ impl Answer {
     pub fn number(self) -> u32 {
         self as u32
     }
-    /// Whether this answer to `record`, with this payload, says that nothing is wrong: `Ran`, and of SV without a payload.
-    /// `joblog::payload` reads what the payload says.
+    /// Whether this answer to `record`, with this payload, says that nothing is wrong: `Ran`, of SV without a payload, of
+    /// XP without codes. `joblog::payload` reads what the payload says.
     pub fn is_well(self, record: &[u8], payload: &[u8]) -> bool {
-        self == Answer::Ran && (payload.is_empty() || !record.starts_with(b"SV"))
+        let listed = match record.get(..2) {
+            Some(b"SV") => !payload.is_empty(),
+            Some(b"XP") => has_code(payload),
+            _ => false,
+        };
+        self == Answer::Ran && !listed
     }
     /// whether it is one of the trade's errors, 1 to 4
     pub fn is_error(self) -> bool {
@@ -70,4 +76,18 @@ impl std::fmt::Display for Answer {
     fn fmt(&self, f: &mut std::fmt::Formatter) -> std::fmt::Result {
         f.write_str(self.words())
     }
+}
+
+/// Whether a payload of XP has a code, byte 5 and a location behind the type. In XP's type each struct's tag and location
+/// are followed by an ability mark, 16 or more, and a code's by the next code or nothing.
+fn has_code(payload: &[u8]) -> bool {
+    const FIELDS: [usize; 9] = [0, 1, 5, 2, 2, 3, 2, 0, 0];
+    let mut rest = payload;
+    while let [tag, _, _, _, _, behind @ ..] = rest {
+        if *tag == 5 && behind.first().is_none_or(|mark| *mark < 16) {
+            return true;
+        }
+        rest = behind.get(FIELDS.get(*tag as usize).copied().unwrap_or(0)..).unwrap_or(&[])
+    }
+    false
 }

@@ -86,6 +86,13 @@ fn what_an_answer_says() {
     assert_eq!((rows.len(), rows[0].loc, rows[0].reason), (1, 2, Reason::Lacks(1, Rule::Declaration)));
     assert_eq!(ask(b"SV"), Outcome::Done);
     assert_eq!(ask(DOUBLED), Outcome::Refused(18));
+    // XP of a struct and of a list of one in it, then with a variable that is bound to nothing
+    let struct_of = |part: &[u8]| [b"XP\x05\x05\x05\x05\x05\0\0\0", part].concat();
+    assert!(matches!(ask(&struct_of(b"\x03\x05\x05\x05\x05\0\x02")), Outcome::Expanded(_, open) if open.is_empty()));
+    ask(b"FV\x01\0\0\0");
+    assert!(matches!(ask(&struct_of(b"\x06\x09\0\0\0\x01\0")), Outcome::Expanded(_, open) if open == [9]));
+    let marked = ask(b"XP\x04\0\0\0\0\x10\0");
+    assert_eq!(marked, Outcome::Refused(17))
 }
 
 #[test]
@@ -142,7 +149,7 @@ fn numbers_and_answers() {
     for a in Answer::ALL {
         assert_eq!(Answer::of(a.number()), Some(*a))
     }
-    assert_eq!([17, 19].map(Answer::of), [None; 2]);
+    assert_eq!([19, 20].map(Answer::of), [None; 2]);
     assert_eq!(Answer::SubtypeError.to_string(), "subtype error")
 }
 

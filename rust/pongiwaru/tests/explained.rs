@@ -18,6 +18,6 @@ fn examples() {
         assert_eq!(given, log, "{}", text);
         run += !job.is_empty() as usize
     }
-    // all of 0 to 18 but 15 and 17, and SV's four codes
-    assert_eq!(run, 21)
+    // all of 0 to 18 but 15, SV's four codes and XP's one
+    assert_eq!(run, 23)
 }

@@ -1,23 +1,10 @@
 -- `answer::settle_ready` meets its contract. Assumes nothing.
-use mathlib.Core.Path.{refl}
-use Rattle.snapshot.proofs.Growing.{grown_above}
-use Rattle.answer.proofs.Settling.{answers_in, linked_stay}
+use Rattle.theorems.specs.ReadySpelled.{spell_ready}
+use Rattle.canonical.specs.Named.{spelling_of}
 use Rattle.answer.proofs.settle_ready.Goals as goal
 
-pub answer_spelled-told-requires-clause-lay : goal.answer_spelled-told-requires-clause-lay
-answer_spelled-told-requires-clause-lay g c = let b = c.since-before.ensures in (c.args.st.now.lay, rw b.0 (grown_above _ _ _ _ c.requires.0.since.grown))
-
-pub answer_spelled-told-requires-clause-still : goal.answer_spelled-told-requires-clause-still
-answer_spelled-told-requires-clause-still g c = let b = c.since-before.ensures in rw (b.0, b.1.0) c.requires.1.1
-
-pub invariant_of-st : goal.invariant_of-st
-invariant_of-st g c =
-    let b = c.since-before.ensures in
-    let a = c.answer_spelled-told.ensures _ c.args.t c.args.buf.now _ c.spell_type-spelled.ensures in
-    record { lay = ((rw (b.0, b.1.0, b.1.1) at a).settled _ c.requires.0.since).lay }
+pub settle_spelled-requires : goal.settle_spelled-requires
+settle_spelled-requires g c = (c.requires.0, c.requires.1.1)
 
 pub returns : goal.returns
-returns g c =
-    let b = c.since-before.ensures in
-    let a = rw (b.0, b.1.0, b.1.1) at (c.answer_spelled-told.ensures _ c.args.t c.args.buf.now _ c.spell_type-spelled.ensures) in
-    answers_in _ c.args.before _ _ _ _ _ _ c.requires.0 (linked_stay _ _ _ refl refl refl c.requires.0.many a.stay) refl a
+returns g c = c.settle_spelled.ensures (λ s. spell_ready (spelling_of c.args.spelling) s c.args.t) c.args.buf.now _ c.spell_type-spelled.ensures

@@ -23,6 +23,9 @@ returns-in-SV-clause-is c = rw c.in-SV.is (sv_is)
 pub returns-in-RM-clause-is : goal.returns-in-RM-clause-is
 returns-in-RM-clause-is c = rw c.in-RM.is (c.read_rm.ensures.is)
 
+pub returns-in-XP-clause-is : goal.returns-in-XP-clause-is
+returns-in-XP-clause-is c = rw c.in-XP.is (c.read_xp.ensures.is)
+
 pub returns-in-Loc-clause-is : goal.returns-in-Loc-clause-is
 returns-in-Loc-clause-is c = rw c.in-Loc.is (c.read_loc.ensures.is _ _)
 

@@ -2,7 +2,7 @@
 use mathlib.Core.Path.{refl, ap, ◌∙◌}
 use Rattle.fields.specs.Noded.{unfolded, tparams, noded, bind_of, pairs_of, add_of, binds, looks, adds}
 use Rattle.run.proofs.Arms.{narrow}
-use Rattle.step.proofs.Replying.{WasRun, run_settles, reply_ran, ready_settles, reply_ready, solve_saved, solve_sound, reply_solved}
+use Rattle.step.proofs.Replying.{WasRun, run_settles, reply_ran, ready_settles, reply_ready, solve_saved, solve_sound, reply_solved, expand_asks, expanded_same, reply_expanded}
 use Rattle.step.proofs.answer_placed.Goals as goal
 use Rattle.step.proofs.answer_placed.Goals.{in-Bind, in-Look+in-One+in-UF, in-Look+in-TS, in-Add}
 use Rattle.table.proofs.Did.{linked}
@@ -12,6 +12,9 @@ answer_declared-requires g c = let e = c.in-SD.is in ((rw e at c.requires.0.0, c
 
 pub solve-requires : goal.solve-requires
 solve-requires g c = let b = (rw c.in-SV.is at c.requires.1).from in record { saved = (solve_saved b, (c.args.before.long, c.requires.0.1)); holds_sound = solve_sound b }
+
+pub expand-requires : goal.expand-requires
+expand-requires g c = let h = rw c.in-XP.is at c.requires in expand_asks h.1.from c.args.buf.now h.0.1 h.0.0
 
 pub run_bind-ran-requires : goal.run_bind-ran-requires
 run_bind-ran-requires g c = rw c.in-Bind.is at c.requires.0.0
@@ -49,6 +52,9 @@ returns-in-CN g c = record { same = c.settle_ready-in-CN.ensures.same; is = λ x
 
 pub returns-in-SV : goal.returns-in-SV
 returns-in-SV g c = record { same = c.solve.ensures.same; is = λ x b. reply_solved (rw c.in-SV.is at b) c.solve.ensures }
+
+pub returns-in-XP : goal.returns-in-XP
+returns-in-XP g c = record { same = expanded_same (rw c.in-XP.is at c.requires.1).from c.expand.ensures; is = λ x b. reply_expanded (rw c.in-XP.is at b) c.expand.ensures }
 
 pub returns : goal.returns
 returns g c =

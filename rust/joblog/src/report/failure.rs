@@ -1,8 +1,8 @@
-//! One thing that is wrong: an answer that is not 0, or a row of SV.
+//! One thing that is wrong: an answer that is not 0, a row of SV, or a code of XP.
 use crate::{
     names::Names,
     pairs::{word, Pair},
-    payload::{self, Outcome, Reason, Rule},
+    payload::{self, Outcome, Reason, Rule, UNINFERRED},
     record::{Kind, Record, Ty, ABILITIES},
     show::record,
     text::{Detail, Printer},
@@ -33,14 +33,14 @@ pub struct Failure {
     /// empty where the record is not read
     pub mark: &'static str,
     pub number: usize,
-    /// of a row of SV; else 0
+    /// 1 to 4 of a row of SV, 5 of XP; else 0
     pub code: u8,
     /// what is wrong, in a sentence
     pub told: String,
     pub text: String,
     /// without names, with locations and ability marks
     pub plain: String,
-    /// both types of 1 to 3, or SV's type
+    /// both types of 1 to 3, SV's type, or what XP shows
     pub types: Vec<Shown>,
     pub locations: Vec<u32>,
     pub places: Vec<String>,
@@ -50,10 +50,11 @@ pub struct Failure {
     pub unread: Option<usize>,
 }
 
-pub const CODES: [&str; 4] = ["no integer type", "no base type", "no single type", "ability missing"];
+pub const CODES: [&str; 5] =
+    ["no integer type", "no base type", "no single type", "ability missing", "type not inferred"];
 
 impl Failure {
-    /// the answer's word, or what a row of SV is of
+    /// the answer's word, or what a row of SV or a code of XP is of
     pub fn word(&self) -> &'static str {
         match self.code {
             0 => word(self.number),
@@ -64,6 +65,7 @@ impl Failure {
     pub fn label(&self) -> String {
         match self.code {
             0 => self.number.to_string(),
+            UNINFERRED => format!("XP code {}", UNINFERRED),
             code => format!("SV code {}", code),
         }
     }
@@ -116,8 +118,8 @@ impl Teller<'_> {
 
     fn failure(&self, told: String) -> Failure {
         let p = self.p;
-        // of 10 the ability marks are what is wrong
-        let text = record(p, self.printer(if p.number == 10 { Detail::Marks } else { Detail::Types }));
+        // of 10 and 17 the ability marks are what is wrong
+        let text = record(p, self.printer(if matches!(p.number, 10 | 17) { Detail::Marks } else { Detail::Types }));
         let plain = record(p, Printer { detail: Detail::Full, names: Names::default() });
         let mark = p.read.as_ref().map_or("", Record::mark);
         Failure {
@@ -177,6 +179,13 @@ impl Teller<'_> {
         self.at(f, vec![row.loc])
     }
 
+    /// a code of XP: the variable stood at this location
+    fn open(&self, t: &Ty, loc: u32) -> Failure {
+        let told = format!("nothing decides a type of {}", self.ty(t));
+        let f = Failure { code: UNINFERRED, types: vec![self.shown(t, None)], ..self.failure(told) };
+        self.at(f, vec![loc])
+    }
+
     /// the locations of a record that is read
     fn operands(&self) -> Vec<u32> {
         match &self.p.read {
@@ -207,6 +216,7 @@ pub fn failures(p: &Pair, names: Names) -> Vec<Failure> {
     match &p.payload {
         payload if payload.is_well() => vec![],
         Outcome::Failed(rows) => rows.iter().map(|row| teller.row(row)).collect(),
+        Outcome::Expanded(t, open) => open.iter().map(|loc| teller.open(t, *loc)).collect(),
         Outcome::Mismatch(n, a, b) => vec![teller.mismatch(*n, a, b)],
         Outcome::Recursive(loc) => {
             let told = "a variable would have to hold itself".to_string();

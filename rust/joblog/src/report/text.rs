@@ -25,7 +25,7 @@ fn failure(job: &Job, f: &Failure, out: &mut String) {
     writeln!(out, "  --> {}, record {} (byte {}): {}", job.name, f.record, f.at, f.text).unwrap();
     types(f, out);
     if f.types.len() < 2 && !f.places.is_empty() {
-        let what = if f.code > 0 { "constraint at" } else { "at    " };
+        let what = if matches!(f.code, 1..=4) { "constraint at" } else { "at    " };
         writeln!(out, "    {} {}", what, f.places.join(", ")).unwrap()
     }
     if let Some(bytes) = f.unread {

@@ -1,11 +1,13 @@
 -- `ends::chains::Chains::goes_on` meets its contract. Assumes nothing.
+use mathlib.Core.Path.{ap}
+use Rattle.ends.specs.Leads.{unfolds_to}
 use Rattle.ends.proofs.Itself.{goes_node, goes_anything, unfolded_node}
 use Rattle.ends.proofs.chains.Chains.goes_on.Goals as goal
 
 pub returns-in-Node : goal.returns-in-Node
-returns-in-Node c = let unfold_by = c.unfold_by in
-    goes_node _ _ unfold_by.result unfold_by.ensures _ c.in-Node.is
-    (unfolded_node unfold_by.ensures.inside c.in-Node.is) c.node_at.result c.node_at.ensures
+returns-in-Node c = let leads = c.lead.ensures in
+    let e = ap unfolds_to c.in-Node.is in
+    goes_node _ _ _ leads.unfolds _ e (unfolded_node leads.unfolds.inside e) c.node_at.result c.node_at.ensures
 
-pub returns-in-Anything : goal.returns-in-Anything
-returns-in-Anything c = goes_anything _ _ c.unfold_by.result c.unfold_by.ensures _ c.in-Anything.is
+pub returns-in-Open : goal.returns-in-Open
+returns-in-Open c = goes_anything _ _ _ c.lead.ensures.unfolds _ (ap unfolds_to c.in-Open.is)

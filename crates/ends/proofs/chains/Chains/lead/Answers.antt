@@ -1,10 +1,9 @@
--- `ready::lead` meets its contract. Assumes nothing.
-use Rattle.ready.proofs.Told.{leads_plain, leads_open, leads_bound}
-use Rattle.std.proofs.Common.{rules}
-use Rattle.ready.proofs.lead.Goals as goal
+-- `ends::chains::Chains::lead` meets its contract. Assumes nothing.
+use Rattle.ends.proofs.Leads.{leads_plain, leads_open, leads_bound}
+use Rattle.ends.proofs.chains.Chains.lead.Goals as goal
 
 pub returns-in_default : goal.returns-in_default
-returns-in_default c = leads_plain _ _ c.node_at-n.result c.node_at-n.ensures _ c.as_var.ensures c.requires (search rules)
+returns-in_default c = leads_plain _ _ c.node_at-n.result c.node_at-n.ensures _ c.as_var.ensures c.requires c.in_default.is
 
 pub returns-in-None : goal.returns-in-None
 returns-in-None c = leads_open _ _ c.node_at-n.result c.node_at-n.ensures _ c.as_var.ensures _ c.in-Some.is _ c.end-end.ensures _ c.bound_at.ensures c.in-None.is

@@ -1,0 +1,5 @@
+-- The words of before go on to `settle_spelled`. Assumes nothing.
+use Rattle.expand.proofs.expand.Given as goal
+
+abbrev pub ghost-settle_spelled : goal.ghost-settle_spelled
+ghost-settle_spelled g a = g.w0
