@@ -1,7 +1,7 @@
 #!/bin/bash
-# 20,000 random jobs through core.rs and through the engine in one process: answers, payloads, bindings, marks, constraints. Then joinlog over streams of 600 KiB, beside
-# one call of the engine over the whole stream. Exits non-zero on a disagreement, and where cargo is missing, unless WITHOUT_CORE_RS=yes: so a green gate has made the
-# comparison, or says that it was told not to.
+# 20,000 random jobs through core.rs and through the engine in one process: answers, payloads, bindings, marks, constraints. 4,000 with literals beside a second reading of
+# 02 (R-7). Then joinlog over streams of 600 KiB, beside one call of the engine over the whole stream. Exits non-zero on a disagreement, and where cargo is missing, unless
+# WITHOUT_CORE_RS=yes: so a green gate has made the comparison, or says that it was told not to.
 # Engine and joinlog are the proved ones (tools/build.sh): after `rt ci`, as in the gate, they are there in seconds.
 cd "$(dirname "$0")" || exit 1
 if [ "${WITHOUT_CORE_RS-}" = yes ]; then
@@ -16,4 +16,5 @@ PONGIWARU_LIB=$(bash ../tools/build.sh exports) || exit 1
 export PONGIWARU_LIB
 joinlog=$(bash ../tools/build.sh joinlog) || exit 1
 cargo build --release --offline -j2 || exit 1
-target/release/oracle compare 1 20000 && target/release/oracle joinlog "$joinlog"
+oracle=target/release/oracle
+$oracle compare 1 20000 && $oracle compare 1 4000 --profile=numbers && $oracle joinlog "$joinlog"

@@ -45,8 +45,8 @@ archive() { # the engine's functions, proved, in ../crates/exports/out
   if [ -n "$PONGIWARU_LIB" ]; then [ -f "$PONGIWARU_LIB" ]; else bash ../tools/build.sh exports; fi
 }
 
-found() { # WHAT: an answer of the engine's side, altered, is found and the job made small
-  target/release/oracle compare 1 500 --alter="$1" > "$tmp/found"
+found() { # WHAT [PROFILE]: an answer of the engine's side, altered, is found and the job made small
+  target/release/oracle compare 1 500 --alter="$1" ${2:+--profile="$2"} > "$tmp/found"
   [ $? -eq 1 ] && grep -q '^DISAGREEMENT' "$tmp/found"
 }
 
@@ -56,6 +56,10 @@ with_engine() {
   beside
   for what in number payload binding mark constraint reading count told spelled missing code line; do step "altered: $what" found $what; done
   step "spellings" target/release/oracle spelled 1 300
+  step "altered: need" found need numbers
+  step "2,000 jobs with literals" target/release/oracle compare 1 2000 --profile=numbers
+  step "damaged needs" target/release/oracle damage needs 1 3
+  step "needs anywhere" target/release/oracle damage literals 1 100
   step "damaged records" target/release/oracle damage records 1 50
   step "damaged states" target/release/oracle damage states 1 2
   step "damaged at several places" target/release/oracle damage wild 1 100

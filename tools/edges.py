@@ -241,6 +241,28 @@ def finals():
     yield solved('final: 9 before 17', circle, ('XP (V0,){copy}', 9), ('XP ((u8,){copy}, V0)', 9), ('XP S0<V0>', 9), ('XP S0<(u8,){copy}>', 17), 'UF V0')
 
 
+def literals():
+    """R-7: each width just met and just missed, merges, `!`, SN, SV's choice, and the bits that are read."""
+    widths = (('u8', 8), ('u16', 16), ('u32', 32), ('u64', 64), ('u128', 128), ('u256', 256))
+    for name, bits in widths:
+        yield limit('literal: %s met' % name, 'NL @1 %d\nJN V0@2, %s@3\nNL @4 %d\nJN %s@5, V1@6\nJN V0@7, V1@8\nSV\nUF V2@9' % (bits, name, bits, name))
+    for name, bits in widths[:-1]:
+        yield limit('literal: %s missed' % name, 'NL @1 %d\nJN V0@2, %s@3\nJN %s@4, V0@5\nFV @6\nJN V1@7, %s@8\nSU V0@9, V1@10\nSV\nUF V0@11' % (bits + 1, name, name, name))
+    two = 'NL @1 9\nNL @2 100\n'
+    yield limit('literal: the second larger', two + 'JN V0@3, V1@4\nJN V0@5, u64@6\nSV\nUF V0@7\nUF V2@8')
+    yield limit('literal: the first larger', two + 'JN V1@3, V0@4\nJN V0@5, u64@6\nSV\nUF V0@7\nUF V2@8')
+    yield limit('literal: an error', 'NL @1 9\nJN V0@2, !@3\nJN V0@4, u8@5\nJN V0@6, u16@7\nUF V0@8')
+    yield limit('literal: an error solved', 'NL @1 129\nJN V0@2, !@3\nSV\nUF V0@4')
+    yield limit('literal: SN', 'NL @1 9\nSN V0 @2\nFV @3\nSN V1 @4\nJN V1@5, u8@6\nJN V0@7, u8@8\nJN V0@9, u16@10')
+    # put back: what was taken meanwhile needs nothing
+    yield limit('literal: put back', 'FV @1\nJN V0@2, bool@3\nNL @4 9\nJN V0@5, V1@6\nSN V2 @7\nJN V2@8, u8@9\nUF V2@10')
+    yield limit('literal: variables', 'FV\n' * 1023 + 'NL @1 9', ('NL @2 9', 7), ('FV', 7), 'JN V1023@3, u8@4\nJN V1023@5, u16@6\nUF V1023@7')
+    for bits in (0, 257, 65535):
+        yield end('literal: %d bits' % bits, asm('NL @1 256\nNL @2 %d' % bits), '0 0 06010000000000', '1 5')
+    yield end('literal: cut', asm('NL @1 256\nNL @2 9')[:-1], '0 0 06010000000000', '1 5')
+    yield end('literal: cut at 0', asm('NL @1 256\nNL @2 256')[:-1], '0 0 06010000000000', '1 5')
+
+
 def end(name, stream, *log):
     return name, stream, list(log)
 
@@ -265,7 +287,7 @@ def marks():
 
 def main():
     where = os.path.join(ROOT, 'crates/test_edges')
-    jobs = [j for made in (marked, computed, limits, told, abilities, spelled, finals, ends, marks) for j in made()]
+    jobs = [j for made in (marked, computed, limits, told, abilities, spelled, finals, literals, ends, marks) for j in made()]
     behind = [(len(name) + 1 + len(stream), name.encode() + b'\n' + stream) for name, stream, _ in jobs]
     texts = {
         'stdin': b''.join(struct.pack('<I', size) + job for size, job in behind),

@@ -8,6 +8,7 @@ pub mod costs;
 
 use crate::{
     calls::{Calls, Lines},
+    diagnostics::Diagnostic,
     gen::Chance,
     job::{ability_bits, mark_in, mark_out, module, struct_name, tparam, Job, Outcome, BUILTINS},
     lent::{fresh, Params},
@@ -68,8 +69,8 @@ fn grown(vars: usize, more: usize) -> Vec<u8> {
     assemble(&text, true).unwrap()
 }
 
-/// The jobs of the replay list that without SV and XP are answered with 0 throughout, with RD for CN: core.rs tells SV's
-/// failures and XP's codes in messages, which are not written here, and spells no type.
+/// The jobs of the replay list that without SV are answered with 0 throughout, with RD for CN: core.rs tells SV's failures
+/// in messages, which are not written here, and spells no type.
 fn short() -> Vec<Vec<u8>> {
     let entries = crate::list::parse(include_str!("../replay.list")).unwrap();
     entries.iter().filter_map(|e| answered(&e.stream)).collect()
@@ -80,7 +81,7 @@ fn answered(stream: &[u8]) -> Option<Vec<u8>> {
     while at < stream.len() {
         let (r, n) = read_record(&stream[at..], job.known()).ok()?;
         let r = if let Record::CN(t) = r { Record::RD(t) } else { r };
-        if !matches!(r, Record::SV | Record::XP(_)) {
+        if !matches!(r, Record::SV) {
             matches!(job.record(&r), Outcome::Core(0, _)).then_some(())?;
             out.extend(r.bytes())
         }
@@ -170,7 +171,6 @@ pub enum Op {
     Join(fn(Subst, &Type, &Type) -> Result<(Subst, Type), core::TypingError>, Type, Type),
     Unfold(Type),
     Ready(Type),
-    /// of types in which nothing is open: no codes
     Expand(Type),
     Replace(Vec<TParam>, Vec<Type>, Type),
     Instantiate(Type),
@@ -277,12 +277,16 @@ fn form_on(job: &mut Job, form: &mut Form, copy: bool, log: &mut Vec<u8>) {
     while form.at < form.bytes.len() {
         let op = form.record();
         let declared = matches!(op, Op::Declare(..)).then(|| form.params.len() as u16 - 1);
+        let expands = matches!(op, Op::Expand(_));
         let answer = call(job, op, copy, &mut failed);
         write!(log, "{} ", place).unwrap();
         match (answer, declared, failed.take()) {
             (Some(t), ..) => {
                 log.extend(b"0 ");
-                put_type(&t, log)
+                put_type(&t, log);
+                if expands {
+                    put_codes(&job.ctx.env.take_diags(), log)
+                }
             }
             (_, _, Some(e)) => put_error(&e, log),
             (_, Some(n), _) => {
@@ -387,6 +391,14 @@ impl Form<'_> {
 fn put(bytes: &[u8], log: &mut Vec<u8>) {
     const DIGITS: &[u8; 16] = b"0123456789abcdef";
     bytes.iter().for_each(|b| log.extend([DIGITS[*b as usize >> 4], DIGITS[*b as usize & 15]]))
+}
+
+/// XP's codes
+fn put_codes(open: &[Diagnostic], log: &mut Vec<u8>) {
+    for d in open {
+        put(&[5], log);
+        put(&d.primary.0.start().to_le_bytes(), log)
+    }
 }
 
 /// an answer of 1 to 4

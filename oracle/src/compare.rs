@@ -90,7 +90,7 @@ pub enum Agreed {
 pub fn agree(
     outcome: &Outcome,
     answer: &Answer,
-    counted: Option<Counted>,
+    counted: Option<&Counted>,
     tally: &mut Tally,
 ) -> Result<Agreed, String> {
     let limit = |n: u32| matches!(n, 7 | 8);
@@ -115,7 +115,14 @@ pub fn agree(
             tally.apart(SILENT);
             Ok(Agreed::Silent)
         }
-        Outcome::Core(n, payload) if *n as u32 == answer.number && *payload == answer.payload => Ok(Agreed::Same),
+        Outcome::Core(n, payload) if *n as u32 == answer.number && *payload == answer.payload => {
+            match counted.and_then(|c| Some((c.number, c.payload.as_ref()?))) {
+                Some((m, p)) if (m, p) != (*n as u32, payload) => {
+                    Err(format!("core.rs: {} {}; by 01's rules on trees: {} {}", n, hex(payload), m, hex(p)))
+                }
+                _ => Ok(Agreed::Same),
+            }
+        }
         Outcome::Refused(n, _) if *n as u32 == answer.number => Ok(Agreed::Same),
         Outcome::Core(n, p) => Err(format!("core.rs: {} {}; ours: {}", n, hex(p), shown(answer))),
         Outcome::Refused(n, why) => Err(format!("by 01: {} ({}); ours: {}", n, why, shown(answer))),
@@ -167,7 +174,7 @@ fn only_reads(r: &Record) -> bool {
     matches!(r, Record::UF(_) | Record::RD(_) | Record::CN(_) | Record::TS(..) | Record::RM(_) | Record::XP(_))
 }
 
-pub fn same_counts(lender: &Lender, counted: Option<Counted>) -> Result<(), String> {
+pub fn same_counts(lender: &Lender, counted: Option<&Counted>) -> Result<(), String> {
     match counted {
         Some(c) if c.used != used(lender.view()) => {
             Err(format!("by 01's counts: {:?}; ours: {:?}", c.used, used(lender.view())))
@@ -181,6 +188,7 @@ pub fn same_state(lender: &Lender, job: &Job, r: Option<&Record>) -> Result<(), 
     if let Err(rule) = lent::sound(view.words, view.params) {
         return Err(format!("left unsound: {}", rule));
     }
+    view.grown_from(lender.before())?;
     if r.is_some_and(only_reads) && !lender.unchanged() {
         return Err(format!("a reading record changed {}", lender.first_change()));
     }
@@ -253,6 +261,8 @@ struct Run<'a> {
     log: String,
     at: usize,
     index: usize,
+    /// begun on a fresh state, and no SN since (02, R-7)
+    without_sn: bool,
 }
 
 impl Run<'_> {
@@ -275,14 +285,18 @@ impl Run<'_> {
         if let Some(four) = told {
             as_told(&self.lender, &answer, four)?
         }
-        match agree(&outcome, &answer, counted, tally)? {
+        match agree(&outcome, &answer, counted.as_ref(), tally)? {
             Agreed::Same => (),
             Agreed::Limit => self.job = job_of(self.lender.view()),
             Agreed::Silent => return Ok(false),
         }
+        self.without_sn &= mark != "SN";
+        if self.without_sn {
+            self.lender.view().met()?
+        }
         if answer.number <= 4 {
             same_state(&self.lender, &self.job, r)?;
-            same_counts(&self.lender, counted)?
+            same_counts(&self.lender, counted.as_ref())?
         }
         *tally.records.entry((mark, answer.number)).or_insert(0) += 1;
         if let Some(r) = r {
@@ -306,7 +320,7 @@ pub fn stream(
     tally: &mut Tally,
 ) -> Result<(), Disagreement> {
     let (lender, job) = (Lender::new(calls, start), job_of(start.view()));
-    let mut run = Run { lender, job, log: String::new(), at: 0, index: 0 };
+    let mut run = Run { lender, job, log: String::new(), at: 0, index: 0, without_sn: *start == lent::fresh() };
     let room = MIN_ANSWER + if chance.percent(20) { chance.below(100) } else { 0 };
     let mut refused = false;
     while run.at < stream.len() {
@@ -481,6 +495,8 @@ pub enum Alter {
     Binding,
     /// SN marks nothing
     Mark,
+    /// the last variable needs a bit less after a join
+    Need,
     /// the kind of a constraint that NC adds
     Constraint,
     /// RD changes nothing to see but a spare node
@@ -499,9 +515,9 @@ pub enum Alter {
     Line,
 }
 
-pub const ALTERS: [Alter; 12] = {
+pub const ALTERS: [Alter; 13] = {
     use Alter::*;
-    [Number, Payload, Binding, Mark, Constraint, Reading, Count, Told, Spelled, Missing, Code, Line]
+    [Number, Payload, Binding, Mark, Need, Constraint, Reading, Count, Told, Spelled, Missing, Code, Line]
 };
 
 impl Alter {
@@ -534,6 +550,10 @@ impl Altered<'_> {
             }
             Alter::Reading if number == 0 && record.starts_with(b"RD") && view.nodes() < 2048 => words[0] += 1,
             Alter::Count if number == 0 && record.starts_with(b"JN") && view.nodes() < 2048 => words[0] += 1,
+            Alter::Need if number == 0 && record.starts_with(b"JN") && view.vars() > 0 => {
+                let at = 16_389 + 5 * (view.vars() - 1) + 4;
+                words[at] = words[at].saturating_sub(1)
+            }
             Alter::Told if number == 0 && record.starts_with(b"RM") => answer[0] -= 1,
             Alter::Spelled if number == 0 && record.starts_with(b"CN") && answer[0] == 6 => answer[5] += record[7] & 1,
             Alter::Missing if number == 0 && record == b"SV" && answer.first() == Some(&4) => answer[5] ^= 3,

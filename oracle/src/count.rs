@@ -1,14 +1,20 @@
-//! What a record takes, counted by 01's rules on trees: nodes, argument places, variables and constraints, and the 7 or 8
-//! where a limit is met. core.rs counts none of these. Uses no code of the engine's; not claimed to be independent of the definition. Answers other than 7 and 8 are core.rs's to give.
+//! A record by 01's and 02's rules on trees. What it takes: nodes, argument places, variables and constraints, and the 7 or
+//! 8 where a limit is met, which core.rs does not count. And what JN, SU and SV's joins answer and leave, with the needs of
+//! literals (02, R-7), which core.rs does not know: without needs they must be core.rs's. Uses no code of the engine's; not
+//! claimed to be independent of the definition.
 use crate::{
+    job::State,
     lent::{View, MAX_CONSTRAINTS, MAX_NODES, MAX_PLACES, MAX_STRUCTS, MAX_VARS},
-    record::{Kind, Record, Ty, BUILTINS},
+    record::{Kind, Record, Ty},
 };
 use std::collections::{BTreeMap, HashMap};
 
 const MAX_DEPTH: usize = 256;
-const U64: u8 = 3;
 const PRIMITIVES: u8 = 16 + 7;
+/// the integer types, narrowest first, each with its bits
+const WIDTHS: [(u8, u16); 6] = [(2, 8), (7, 16), (8, 32), (3, 64), (4, 128), (9, 256)];
+/// what SV gives a literal that nothing decides: from u64 on
+const DEFAULTS: &[(u8, u16)] = WIDTHS.split_at(3).1;
 
 /// Rows in use.
 #[derive(Debug, Clone, Copy, PartialEq, Eq)]
@@ -23,20 +29,58 @@ pub fn used(s: View) -> Used {
     Used { nodes: s.nodes(), places: s.places(), vars: s.vars(), constraints: s.constraints() }
 }
 
-/// The answer's number as far as counting tells (14 is not seen), and the rows in use after it.
-#[derive(Debug, Clone, Copy, PartialEq, Eq)]
+/// The answer's number as far as counting tells (14 is not seen), and the rows in use after it. Of JN and SU, where it is 0
+/// to 4, also the payload.
+#[derive(Debug, Clone, PartialEq, Eq)]
 pub struct Counted {
     pub number: u32,
     pub used: Used,
+    pub payload: Option<Vec<u8>>,
 }
 
-/// the number that ends a run
-type Run<T> = Result<T, u32>;
-const FULL: u32 = 7;
+/// what ends a run
+#[derive(Debug, Clone, PartialEq, Eq)]
+enum Stop {
+    /// 1 to 3, with both types
+    Two(u32, Ty, Ty),
+    /// 4, with its location
+    Recursive(u32),
+    /// from 7 on
+    Number(u32),
+}
+type Run<T> = Result<T, Stop>;
+const FULL: Stop = Stop::Number(7);
+
+impl Stop {
+    fn number(&self) -> u32 {
+        match self {
+            Stop::Two(n, ..) | Stop::Number(n) => *n,
+            Stop::Recursive(_) => 4,
+        }
+    }
+    fn payload(&self) -> Vec<u8> {
+        match self {
+            Stop::Two(_, a, b) => [a.bytes(), b.bytes()].concat(),
+            Stop::Recursive(loc) => loc.to_le_bytes().to_vec(),
+            Stop::Number(_) => vec![],
+        }
+    }
+}
+
+fn two<T>(number: u32, a: &Ty, b: &Ty) -> Run<T> {
+    Err(Stop::Two(number, a.clone(), b.clone()))
+}
+
+/// a numeric mark: its location, and how many bits are needed
+#[derive(Debug, Clone, Copy)]
+struct Mark {
+    loc: u32,
+    need: u16,
+}
 
 struct Sim {
     bound: HashMap<u16, Ty>,
-    marks: BTreeMap<u16, u32>,
+    marks: BTreeMap<u16, Mark>,
     used: Used,
 }
 
@@ -88,12 +132,12 @@ impl Sim {
 
     fn join(&mut self, depth: usize, sub: bool, a: &Ty, b: &Ty) -> Run<Ty> {
         if depth > MAX_DEPTH {
-            return Err(8);
+            return Err(Stop::Number(8));
         }
         match (&a.kind, &b.kind) {
             (Kind::Anything, _) | (Kind::Unit, Kind::Unit) => Ok(b.clone()),
             (_, Kind::Anything) => Ok(a.clone()),
-            (Kind::Ref(false, _), Kind::Ref(true, _)) if sub => Err(1),
+            (Kind::Ref(false, _), Kind::Ref(true, _)) if sub => two(1, a, b),
             (Kind::Ref(m, t), Kind::Ref(n, u)) => {
                 let loc = if !sub && !m && *n { a.loc } else { b.loc };
                 let inner = self.join(depth + 1, sub, t, u)?;
@@ -101,7 +145,7 @@ impl Sim {
                 Ok(at(loc, Kind::Ref(*n && (sub || *m), Box::new(inner))))
             }
             (Kind::Param(x, _), Kind::Param(y, _)) if x == y => Ok(b.clone()),
-            (Kind::List(_, ts), Kind::List(_, us)) if ts.len() != us.len() => Err(3),
+            (Kind::List(_, ts), Kind::List(_, us)) if ts.len() != us.len() => two(3, a, b),
             (Kind::Builtin(k, n, ts), Kind::Builtin(l, m, us)) if n == m => {
                 let parts = self.join_all(depth, sub, k == l, ts, us)?;
                 Ok(at(b.loc, Kind::Builtin(*l, *m, parts)))
@@ -117,13 +161,13 @@ impl Sim {
             (Kind::Var(_), _) | (_, Kind::Var(_)) => self.join_var(depth, sub, a, b),
             (Kind::UnresolvedError, _) => Ok(b.clone()),
             (_, Kind::UnresolvedError) => Ok(a.clone()),
-            _ => Err(2),
+            _ => two(2, a, b),
         }
     }
 
     fn join_all(&mut self, depth: usize, sub: bool, marks: bool, ts: &[Ty], us: &[Ty]) -> Run<Vec<Ty>> {
         if !marks {
-            return Err(10);
+            return Err(Stop::Number(10));
         }
         let parts = ts.iter().zip(us).map(|(t, u)| self.join(depth + 1, sub, t, u)).collect::<Run<Vec<_>>>()?;
         self.node(parts.len())?;
@@ -135,8 +179,14 @@ impl Sim {
         match (&a.kind, &b.kind) {
             (Kind::Var(x), Kind::Var(y)) if x == y => Ok(b.clone()),
             (Kind::Var(x), Kind::Var(y)) => self.merge(depth, sub, (a.loc, *x), (b.loc, *y)),
-            (Kind::Var(x), _) if !self.bound.contains_key(x) => self.bind(*x, b).map(|_| a.clone()),
-            (_, Kind::Var(y)) if !self.bound.contains_key(y) => self.bind(*y, a).map(|_| b.clone()),
+            (Kind::Var(x), _) if !self.bound.contains_key(x) => match self.bind(a.loc, *x, b)? {
+                true => Ok(a.clone()),
+                false => two(2, a, b),
+            },
+            (_, Kind::Var(y)) if !self.bound.contains_key(y) => match self.bind(b.loc, *y, a)? {
+                true => Ok(b.clone()),
+                false => two(2, a, b),
+            },
             (Kind::Var(x), _) => {
                 let fresh = self.var()?;
                 self.bound.insert(fresh, b.clone());
@@ -158,39 +208,46 @@ impl Sim {
         let open = [&t, &u].iter().filter(|t| t.kind == Kind::Anything).count();
         (0..open + 2).try_for_each(|_| self.node(0))?;
         let fresh = self.var()?;
-        if let Some(loc) = self.marks.get(&end2).or(self.marks.get(&end1)).copied() {
-            self.marks.insert(fresh, loc);
+        if let Some(mark) = self.merged(end1, end2) {
+            self.marks.insert(fresh, mark);
         }
         self.bound.insert(end1, at(loc1, Kind::Var(fresh)));
         self.bound.insert(end2, at(loc2, Kind::Var(fresh)));
         let joined = self.join(depth + 1, sub, &t, &u)?;
-        if self.bound.contains_key(&fresh) {
-            return Err(4);
+        if let Some(t) = self.bound.get(&fresh) {
+            return Err(Stop::Recursive(t.loc));
         }
-        match self.bind(fresh, &joined) {
-            Err(2) => {
-                (0..open).try_for_each(|_| self.node(0))?;
-                Err(2)
-            }
-            done => done.map(|_| at(loc2, Kind::Var(fresh))),
+        if self.bind(loc2, fresh, &joined)? {
+            return Ok(at(loc2, Kind::Var(fresh)));
         }
+        (0..open).try_for_each(|_| self.node(0))?;
+        let shown = |t: &Ty, id: u16| if t.kind == Kind::Anything { at(t.loc, Kind::Var(id)) } else { t.clone() };
+        two(2, &shown(&t, id1), &shown(&u, id2))
     }
 
-    fn bind(&mut self, v: u16, t: &Ty) -> Run<()> {
-        let integer = match t.kind {
-            Kind::Builtin(_, n, _) => BUILTINS[n as usize].integer,
+    /// the second's location, and the larger need
+    fn merged(&self, end1: u16, end2: u16) -> Option<Mark> {
+        let (first, second) = (self.marks.get(&end1), self.marks.get(&end2));
+        let need = first.iter().chain(&second).map(|m| m.need).max()?;
+        Some(Mark { loc: second.or(first)?.loc, need })
+    }
+
+    /// false: the numeric check turns it down
+    fn bind(&mut self, loc: u32, v: u16, t: &Ty) -> Run<bool> {
+        let wide = |need: u16| match t.kind {
+            Kind::Builtin(_, n, _) => WIDTHS.iter().any(|(b, bits)| *b == n && *bits >= need),
             _ => matches!(t.kind, Kind::Anything | Kind::UnresolvedError),
         };
-        if self.marks.contains_key(&v) && !integer {
-            return Err(2);
+        if self.marks.get(&v).is_some_and(|mark| !wide(mark.need)) {
+            return Ok(false);
         }
         if occurs(v, t) {
-            return Err(4);
+            return Err(Stop::Recursive(loc));
         }
         if t.kind != Kind::Anything {
             self.bound.insert(v, t.clone());
         }
-        Ok(())
+        Ok(true)
     }
 
     //---- the other records -----------------------------------------------------------------------------------
@@ -228,8 +285,8 @@ impl Sim {
 
     fn replace(&mut self, ids: &[u32], t: &Ty) -> Run<()> {
         match &t.kind {
-            Kind::Var(_) => Err(11),
-            Kind::Param(id, _) if !ids.contains(id) => Err(12),
+            Kind::Var(_) => Err(Stop::Number(11)),
+            Kind::Param(id, _) if !ids.contains(id) => Err(Stop::Number(12)),
             Kind::Ref(..) | Kind::Builtin(..) | Kind::List(..) | Kind::Struct(..) => {
                 t.parts().iter().try_for_each(|p| self.replace(ids, p))?;
                 self.built(t)
@@ -240,7 +297,7 @@ impl Sim {
 
     fn instantiate(&mut self, t: &Ty) -> Run<Ty> {
         match &t.kind {
-            Kind::Var(_) => Err(11),
+            Kind::Var(_) => Err(Stop::Number(11)),
             Kind::Anything => {
                 self.node(0)?;
                 Ok(at(t.loc, Kind::Var(self.var()?)))
@@ -274,31 +331,42 @@ impl Sim {
 
     /// SV's numeric step
     fn settle(&mut self) -> Run<()> {
-        for (v, loc) in self.marks.clone() {
-            let open = self.bound.get(&self.end(v)).is_none_or(|t| t.kind == Kind::UnresolvedError);
+        for (v, Mark { loc, .. }) in self.marks.clone() {
+            let end = self.end(v);
+            let open = self.bound.get(&end).is_none_or(|t| t.kind == Kind::UnresolvedError);
             if open {
                 (0..2).try_for_each(|_| self.node(0))?;
-                let u64_ = at(loc, Kind::Builtin(PRIMITIVES, U64, vec![]));
-                self.join(1, false, &u64_, &at(loc, Kind::Var(v)))?;
+                let need = self.marks.get(&end).map_or(0, |mark| mark.need);
+                let (number, _) = DEFAULTS.iter().find(|(_, bits)| *bits >= need).unwrap();
+                let integer = at(loc, Kind::Builtin(PRIMITIVES, *number, vec![]));
+                self.join(1, false, &integer, &at(loc, Kind::Var(v)))?;
             }
         }
         Ok(())
     }
 
-    fn run(&mut self, s: View, r: &Record) -> Run<()> {
-        types(r).into_iter().try_for_each(|t| self.read(t))?;
+    /// JN's or SU's type
+    fn joined(&mut self, r: &Record) -> Option<Run<Ty>> {
         match r {
-            Record::SD(..) if s.structs() == MAX_STRUCTS => Err(FULL),
-            Record::FV(_) | Record::NV(_) => self.var().map(drop),
-            Record::JN(a, b) => self.join(1, false, a, b).map(drop),
-            Record::SU(a, b) => self.join(1, true, a, b).map(drop),
-            Record::RD(t) | Record::CN(t) | Record::XP(t) if self.runs_into_itself(t, &mut HashMap::new()) => Err(9),
+            Record::JN(a, b) => Some(self.join(1, false, a, b)),
+            Record::SU(a, b) => Some(self.join(1, true, a, b)),
+            _ => None,
+        }
+    }
+
+    fn run(&mut self, structs: usize, r: &Record) -> Run<()> {
+        match r {
+            Record::SD(..) if structs == MAX_STRUCTS => Err(FULL),
+            Record::FV(_) | Record::NV(_) | Record::NL(..) => self.var().map(drop),
+            Record::RD(t) | Record::CN(t) | Record::XP(t) if self.runs_into_itself(t, &mut HashMap::new()) => {
+                Err(Stop::Number(9))
+            }
             Record::RD(t) | Record::CN(t) => self.ready(t),
             Record::TS(args, t) => {
                 let ids: Vec<_> = args.iter().map(|(id, _)| *id).collect();
                 let twice = (1..ids.len()).any(|i| ids[..i].contains(&ids[i]));
                 if twice {
-                    return Err(13);
+                    return Err(Stop::Number(13));
                 }
                 self.replace(&ids, t)
             }
@@ -349,13 +417,76 @@ pub fn needs(t: &Ty) -> Option<[usize; 4]> {
     })
 }
 
+/// JN's or SU's payload as far as its run goes
+fn shown(done: &Run<Ty>) -> Option<Vec<u8>> {
+    match done {
+        Ok(t) => Some(t.bytes()),
+        Err(Stop::Number(_)) => None,
+        Err(stop) => Some(stop.payload()),
+    }
+}
+
 /// A record on a sound state whose types are small enough to be trees.
 pub fn counted(s: View, r: &Record) -> Counted {
     let before = used(s);
-    let state = s.state();
-    let mut sim =
-        Sim { bound: state.bindings.into_iter().collect(), marks: state.marks.into_iter().collect(), used: before };
-    let number = sim.run(s, r).err().unwrap_or(0);
+    let mut sim = Sim::new(&s.state(), before);
+    let mut payload = None;
+    let done = types(r).into_iter().try_for_each(|t| sim.read(t)).and_then(|_| match sim.joined(r) {
+        Some(done) => {
+            payload = shown(&done);
+            done.map(drop)
+        }
+        None => sim.run(s.structs(), r),
+    });
+    let number = done.map_or_else(|stop| stop.number(), |_| 0);
     let reads = matches!(r, Record::UF(_) | Record::RD(_) | Record::CN(_) | Record::TS(..) | Record::XP(_));
-    Counted { number, used: if reads || number > 4 { before } else { sim.used } }
+    Counted { number, used: if reads || number > 4 { before } else { sim.used }, payload }
+}
+
+//---- what needs decide (02, R-7) ---------------------------------------------------------------------------
+
+impl Sim {
+    fn new(s: &State, used: Used) -> Sim {
+        let needs: HashMap<u16, u16> = s.needs.iter().copied().collect();
+        let mark = |(v, loc): &(u16, u32)| (*v, Mark { loc: *loc, need: needs.get(v).copied().unwrap_or(0) });
+        Sim { bound: s.bindings.iter().cloned().collect(), marks: s.marks.iter().map(mark).collect(), used }
+    }
+
+    /// `s` with the bindings, marks and needs that are here
+    fn leave(self, s: &State) -> State {
+        let mut bindings: Vec<_> = self.bound.into_iter().collect();
+        bindings.sort_by_key(|(v, _)| *v);
+        State {
+            next_var: self.used.vars as u64,
+            bindings,
+            marks: self.marks.iter().map(|(v, m)| (*v, m.loc)).collect(),
+            needs: self.marks.iter().filter(|(_, m)| m.need > 0).map(|(v, m)| (*v, m.need)).collect(),
+            ..s.clone()
+        }
+    }
+
+    /// rows are counted from none on: a state of trees has no nodes
+    fn of(s: &State) -> Sim {
+        Sim::new(s, Used { nodes: 0, places: 0, vars: s.next_var as usize, constraints: 0 })
+    }
+}
+
+/// JN or SU: the number, the payload and the state after it.
+pub fn joined(s: &State, r: &Record) -> (u8, Vec<u8>, State) {
+    let mut sim = Sim::of(s);
+    match sim.joined(r).expect("JN or SU") {
+        Ok(t) => (0, t.bytes(), sim.leave(s)),
+        // all bindings and marks are put back; variables stay taken
+        Err(stop) => (stop.number() as u8, stop.payload(), State { next_var: sim.used.vars as u64, ..s.clone() }),
+    }
+}
+
+/// SV's numeric step. It gives none of 1 to 4.
+pub fn settled(s: &State) -> Result<State, u8> {
+    let mut sim = Sim::of(s);
+    match sim.settle() {
+        Ok(()) => Ok(sim.leave(s)),
+        Err(Stop::Number(n)) => Err(n as u8),
+        Err(stop) => panic!("by 02's rules SV's join gives {}", stop.number()),
+    }
 }

@@ -4,7 +4,7 @@ use crate::{
     calls::{job_of, Calls, LINE, MIN_ANSWER},
     compare::{self, agree, same_counts, same_state, Agreed},
     count::counted,
-    gen::Chance,
+    gen::{Chance, Profile},
     job::{self, answer_text, Job, Outcome},
     lender::Lender,
     lent::{fresh, place_of_word, sound, Lent, View, WORDS},
@@ -90,7 +90,7 @@ pub fn lend(lender: &mut Lender, bytes: &[u8], room: usize, tally: &mut Tally) -
     if answer.number == 15 {
         return Err("15 though sound".into());
     }
-    let agreed = agree(&outcome, &answer, counted, &mut compare::Tally::default())?;
+    let agreed = agree(&outcome, &answer, counted.as_ref(), &mut compare::Tally::default())?;
     match (&outcome, agreed) {
         (Outcome::Refused(n @ (5 | 6 | 18), _), _) => tally.add(n.to_string()),
         (_, Agreed::Same) => tally.add(ONWARD),
@@ -99,7 +99,7 @@ pub fn lend(lender: &mut Lender, bytes: &[u8], room: usize, tally: &mut Tally) -
         (_, Agreed::Silent) => tally.add(ALONE),
     }
     match agreed == Agreed::Same && answer.number <= 4 {
-        true => same_state(lender, &job, None).and_then(|_| same_counts(lender, counted)),
+        true => same_state(lender, &job, None).and_then(|_| same_counts(lender, counted.as_ref())),
         false => still_sound(lender),
     }
 }
@@ -162,7 +162,11 @@ pub struct Midway {
 }
 
 pub fn midway(calls: &dyn Calls, seed: u64, i: u64) -> Result<Midway, String> {
-    let m = compare::made(seed, i, 40, None);
+    midway_of(calls, seed, i, None)
+}
+
+pub fn midway_of(calls: &dyn Calls, seed: u64, i: u64, profile: Option<Profile>) -> Result<Midway, String> {
+    let m = compare::made(seed, i, 40, profile);
     let mut chance = Chance::new(seed ^ 0x6d69_6477, i);
     let mut lender = Lender::new(calls, &fresh());
     let half = m.outcomes.len() / 2;
@@ -333,6 +337,63 @@ fn spoil(lent: &mut Lent, chance: &mut Chance) {
                 let at = chance.one(&used) + chance.below(60);
                 lent.words[at] = chance.one(&[0, 1, 2, 3, 6, 7, 16, 40, 0xffff_ffff])
             }
+        }
+    }
+}
+
+//---- needs (02, R-7) -------------------------------------------------------------------------------------------
+
+/// Each variable of states about numbers, marked and not, with every need up to 257 and some by chance.
+pub fn needs(calls: &dyn Calls, seed: u64, count: u64, tally: &mut Tally) -> Tried {
+    for i in 0..count {
+        let m = midway_of(calls, seed, i, Some(Profile::Numbers))?;
+        let mut chance = Chance::new(seed ^ 0x6e_6565, i);
+        tally.states += 1;
+        for (v, marked) in (0..m.lent.view().vars()).flat_map(|v| [(v, true), (v, false)]) {
+            let mut lent = m.lent.clone();
+            match marked {
+                true => lent.set_mark(v, chance.below(9) as u32),
+                false => lent.clear_mark(v),
+            }
+            let mut lender = Lender::new(calls, &lent);
+            for bits in (0..=257).chain((0..3).map(|_| chance.bits() as u32)) {
+                lent.set_need(v, bits);
+                lender.lend(&lent);
+                let told = |e| format!("{}: V{}, marked: {}, need {}: {}", m.name, v, marked, bits, e);
+                lend(&mut lender, &m.record, MIN_ANSWER, tally).map_err(told)?
+            }
+        }
+    }
+    Ok(())
+}
+
+/// Sound states with marks and needs anywhere, ends that need less than the variables before them among them: SV gives none
+/// of 1 to 4, and no need sinks.
+pub fn literals(calls: &dyn Calls, seed: u64, count: u64, tally: &mut Tally) -> Tried {
+    for i in 0..count {
+        let m = midway_of(calls, seed, i, Some(Profile::Numbers))?;
+        let mut chance = Chance::new(seed ^ 0x6c_6974, i);
+        tally.states += 1;
+        for k in 0..20 {
+            let mut lent = m.lent.clone();
+            needed(&mut lent, &mut chance);
+            let mut lender = Lender::new(calls, &lent);
+            let told = |e| format!("{}: {}: {}", m.name, k, e);
+            lend(&mut lender, b"SV", MIN_ANSWER, tally).map_err(told)?;
+            lender.view().grown_from(lent.view()).map_err(told)?
+        }
+    }
+    Ok(())
+}
+
+/// marks and needs by chance
+fn needed(lent: &mut Lent, chance: &mut Chance) {
+    for v in 0..lent.view().vars() {
+        lent.clear_mark(v);
+        if chance.percent(70) {
+            lent.set_mark(v, chance.below(9) as u32);
+            let any = 1 + chance.below(256) as u32;
+            lent.set_need(v, chance.one(&[0, 1, 8, 9, 64, 65, 128, 129, 256, any]))
         }
     }
 }

@@ -2,7 +2,7 @@
 //! that variables taken by merges, IN and SV are used too.
 use crate::{
     job::{Job, Outcome},
-    record::{Kind, Record, Ty, MAX_NESTING, MAX_RECORD, VECTOR},
+    record::{Kind, Record, Ty, BUILTINS, MAX_NESTING, MAX_RECORD, VECTOR},
 };
 
 const SIGNER: u8 = 1;
@@ -10,6 +10,8 @@ const U8: u8 = 2;
 const U64: u8 = 3;
 const U128: u8 = 4;
 const BOOL: u8 = 6;
+/// the needs at which a wider integer type is wanted, and those before
+const NEEDS: [u16; 13] = [1, 7, 8, 9, 16, 17, 32, 33, 64, 65, 128, 129, 256];
 const PARAM_IDS: [u32; 5] = [0, 1, 7, 8, 4_000_000_000];
 
 //---- chance --------------------------------------------------------------------------------------------
@@ -109,7 +111,7 @@ fn bare(kind: Kind) -> Ty {
 
 /// an integer type's mark has drop
 fn with_drop(builtin: Option<u8>, mark: u8) -> u8 {
-    mark | if matches!(builtin, Some(U8 | U64 | U128)) && mark != 0 { 2 } else { 0 }
+    mark | if builtin.is_some_and(|n| BUILTINS[n as usize].integer) && mark != 0 { 2 } else { 0 }
 }
 
 /// A reference to `t`, or to what `t` refers to: no record has a reference directly under a reference (02, R-6).
@@ -136,6 +138,11 @@ pub struct Maker {
     depth: usize,
     var_weight: usize,
     few: usize,
+    /// the record NL (02, R-7): in jobs of the profile numbers that are asked for by name, never by chance, so that all
+    /// other jobs stay
+    literals: bool,
+    /// in one of two of these the integer types are core.rs's alone, so that it can answer beside the needs; else all six
+    plain: bool,
     /// of IN and SV, how many in a hundred are SV
     solve: usize,
     vars: usize,
@@ -159,6 +166,8 @@ impl Maker {
             depth: chance.one(&[2, 3, 3, 4, 5]),
             var_weight: if knots { chance.one(&[32, 64]) } else { chance.one(&[4, 8, 16, 32]) },
             few: if knots { chance.one(&[2, 3, 5]) } else { 0 },
+            literals: false,
+            plain: false,
             solve: 0,
             vars: 0,
             params: vec![],
@@ -168,6 +177,8 @@ impl Maker {
 
     fn of_profile(mut self, profile: Profile) -> Maker {
         self.profile = profile;
+        self.literals = profile == Profile::Numbers;
+        self.plain = self.literals && self.chance.percent(50);
         if profile == Profile::Abilities {
             (self.few, self.var_weight) = self.chance.one(&[(0, 8), (0, 32), (3, 64), (6, 64)]);
             // without marks there is no 16, and a long list is solved
@@ -239,12 +250,19 @@ impl Maker {
         ])
     }
 
+    fn integer(&mut self) -> u8 {
+        match self.literals && !self.plain {
+            true => self.chance.one(&[U8, U64, U128, 7, 8, 9]),
+            false => self.chance.one(&[U8, U64, U64, U128]),
+        }
+    }
+
     /// a type without locations and marks
     pub fn tree(&mut self, depth: usize, closed: bool) -> Ty {
         let parts = |m: &mut Maker, n: usize| (0..n).map(|_| m.tree(depth - 1, closed)).collect();
         bare(match self.shape(depth, closed) {
             Shape::Unit => Kind::Unit,
-            Shape::Int => Kind::Builtin(0, self.chance.one(&[U8, U64, U64, U128]), vec![]),
+            Shape::Int => Kind::Builtin(0, self.integer(), vec![]),
             Shape::Plain(n) => Kind::Builtin(0, n, vec![]),
             Shape::Param => Kind::Param(self.chance.one(&PARAM_IDS), self.chance.below(16) as u8),
             Shape::Anything => Kind::Anything,
@@ -351,6 +369,10 @@ impl Maker {
         if (n < first && self.chance.percent(50)) || (self.params.is_empty() && self.chance.percent(10)) {
             return "SD";
         }
+        // core.rs has three of the integer types: the others come after the first need
+        if self.literals && self.vars == 0 {
+            return "NL";
+        }
         if self.vars == 0 || (self.vars < 2 && self.chance.percent(70)) {
             return self.chance.one(&["FV", "NV"]);
         }
@@ -374,6 +396,7 @@ impl Maker {
             (10, "BC"),
             (10, "SC"),
             (if matches!(p, P::Numbers | P::Fresh) { 20 } else { 8 }, "SV"),
+            (if self.literals { 60 } else { 0 }, "NL"),
         ])
     }
 
@@ -408,6 +431,7 @@ impl Maker {
             "SD" => self.declaration(),
             "FV" => Record::FV(self.loc()),
             "NV" => Record::NV(self.loc()),
+            "NL" => Record::NL(self.loc(), self.need()),
             "SN" => {
                 let Kind::Var(v) = self.var() else { unreachable!() };
                 Record::SN(v, self.loc())
@@ -446,6 +470,13 @@ impl Maker {
         self.expand = std::mem::replace(&mut self.chance, others.0);
         (self.marks, self.locs) = (others.1, others.2);
         wanted.then_some(Record::XP(t))
+    }
+
+    fn need(&mut self) -> u16 {
+        match self.chance.percent(70) {
+            true => self.chance.one(&NEEDS),
+            false => 1 + self.chance.below(256) as u16,
+        }
     }
 
     fn pair_of(&mut self, mark: fn(Ty, Ty) -> Record) -> Record {

@@ -3,8 +3,12 @@
 //! `Outcome::Core` is core.rs's own answer, 0 to 4. `Outcome::Refused` is NOT core.rs's: it follows 01's rules,
 //! from the reader, from a count, or from the assertion at which core.rs panicked. Two limits are not modelled,
 //! because core.rs counts neither: 7 for nodes or argument places, and 8.
+//!
+//! A literal's need (02, R-7) stands beside core.rs's map. In a job that has one, JN, SU and SV's numeric step are answered
+//! by 02's rules on trees (`count`), whose answer without the needs must be core.rs's; and the integer types that core.rs
+//! has not are structs without parameters in its map, which is all that it asks of them but in `NC`.
 use crate::{
-    count::needs,
+    count::{joined, needs, settled},
     diagnostics::{
         codes::{AbilitySafety, Code, TypeSafety},
         Diagnostic,
@@ -59,6 +63,8 @@ pub struct State {
     pub structs: usize,
     pub bindings: Vec<(u16, Ty)>,
     pub marks: Vec<(u16, u32)>,
+    /// 02's R-7: how many bits a marked variable needs, where it needs any
+    pub needs: Vec<(u16, u16)>,
     pub constraints: Vec<Held>,
 }
 
@@ -109,6 +115,43 @@ pub(crate) fn struct_name(loc: Loc, n: u16) -> StructName {
     StructName(sp(loc, Symbol::from(format!("S{}", n).as_str())))
 }
 
+/// what the name of a struct that stands for an integer type begins with
+const WIDE: &str = "W";
+
+/// copy, drop and store: an integer type's abilities
+const PRIMITIVES: u8 = 7;
+/// the ids from here on, which no record has, stand for integer types that expand.rs is to leave alone
+const EXPANDED: u64 = 1 << 32;
+
+fn stand_in(loc: Loc, n: u8) -> StructName {
+    StructName(sp(loc, Symbol::from(format!("{}{}", WIDE, n).as_str())))
+}
+
+/// the integer type that a struct stands for
+fn stood_for(name: &TypeName_) -> Option<u8> {
+    match name {
+        TypeName_::ModuleType(_, s) => s.0.value.as_str().strip_prefix(WIDE)?.parse().ok(),
+        _ => None,
+    }
+}
+
+/// expand.rs takes a marked struct for an error, and gives an unmarked one its abilities: parameters it leaves as they are
+fn as_parameters(t: &Type) -> Type {
+    let value = match &t.value {
+        Type_::Ref(m, inner) => Type_::Ref(*m, Box::new(as_parameters(inner))),
+        Type_::Apply(k, n, args) => match stood_for(&n.value) {
+            Some(number) => {
+                let id = TParamID(EXPANDED + 32 * number as u64 + mark_out(k) as u64);
+                let bits = k.as_ref().map_or(PRIMITIVES, ability_bits);
+                Type_::Param(TParam { id, ..tparam(t.loc, 0, bits) })
+            }
+            None => Type_::Apply(k.clone(), n.clone(), args.iter().map(as_parameters).collect()),
+        },
+        other => other.clone(),
+    };
+    sp(t.loc, value)
+}
+
 pub(crate) fn tparam(loc: Loc, id: u32, bits: u8) -> TParam {
     TParam {
         id: TParamID(id as u64),
@@ -146,7 +189,10 @@ pub fn type_in(t: &Ty) -> Type {
             Kind::Unit => Type_::Unit,
             Kind::Ref(mutable, inner) => Type_::Ref(*mutable, Box::new(type_in(inner))),
             Kind::Param(id, bits) => Type_::Param(tparam(loc, *id, *bits)),
-            Kind::Builtin(m, n, args) => apply(*m, TypeName_::Builtin(sp(loc, BUILTINS[*n as usize].clone())), args),
+            Kind::Builtin(m, n, args) => match BUILTINS.get(*n as usize) {
+                Some(b) => apply(*m, TypeName_::Builtin(sp(loc, b.clone())), args),
+                None => apply(*m, TypeName_::ModuleType(module(loc), stand_in(loc, *n)), args),
+            },
             Kind::List(m, args) => apply(*m, TypeName_::Multiple(args.len()), args),
             Kind::Struct(m, n, args) => apply(*m, TypeName_::ModuleType(module(loc), struct_name(loc, *n)), args),
             Kind::Var(v) => Type_::Var(nprobe::tvar(*v as u64)),
@@ -160,7 +206,10 @@ pub fn type_out(t: &Type) -> Ty {
     let kind = match &t.value {
         Type_::Unit => Kind::Unit,
         Type_::Ref(mutable, inner) => Kind::Ref(*mutable, Box::new(type_out(inner))),
-        Type_::Param(tp) => Kind::Param(tp.id.0 as u32, ability_bits(&tp.abilities)),
+        Type_::Param(tp) => match tp.id.0.checked_sub(EXPANDED) {
+            Some(n) => Kind::Builtin(if n % 32 == 0 { 16 + PRIMITIVES } else { (n % 32) as u8 }, (n / 32) as u8, vec![]),
+            None => Kind::Param(tp.id.0 as u32, ability_bits(&tp.abilities)),
+        },
         Type_::Apply(k, n, args) => {
             let (m, args) = (mark_out(k), args.iter().map(type_out).collect());
             match &n.value {
@@ -169,7 +218,10 @@ pub fn type_out(t: &Type) -> Ty {
                     Kind::Builtin(m, number as u8, args)
                 }
                 TypeName_::Multiple(_) => Kind::List(m, args),
-                TypeName_::ModuleType(_, s) => Kind::Struct(m, s.0.value.as_str()[1..].parse().unwrap(), args),
+                TypeName_::ModuleType(_, s) => match stood_for(&n.value) {
+                    Some(number) => Kind::Builtin(m, number, args),
+                    None => Kind::Struct(m, s.0.value.as_str()[1..].parse().unwrap(), args),
+                },
             }
         }
         Type_::Var(v) => Kind::Var(nprobe::number(*v) as u16),
@@ -306,6 +358,8 @@ pub struct Job {
     known: Known,
     /// its state has a type that core.rs has not, so that every record is silent
     wider: bool,
+    /// 02's R-7: what the numeric variables need, where they need any bits
+    needs: BTreeMap<u16, u16>,
     pub(crate) ctx: Context<'static>,
 }
 
@@ -322,7 +376,9 @@ impl Job {
             constants: UniqueMap::new(),
         };
         ctx.modules.add(module(Loc::of(0)), empty).ok().unwrap();
-        Job { known: Known::default(), wider: false, ctx }
+        let mut job = Job { known: Known::default(), wider: false, needs: BTreeMap::new(), ctx };
+        (BUILTINS.len()..record::BUILTINS.len()).for_each(|n| job.add_struct(stand_in(Loc::of(0), n as u8), PRIMITIVES, &[]));
+        job
     }
 
     /// The first record of `stream`: its outcome and how many bytes it has, 0 where it is not read.
@@ -335,10 +391,10 @@ impl Job {
 
     /// One record that is known to be read; all but 0 to 4 leave the state as at entry.
     pub fn record(&mut self, r: &Record) -> Outcome {
-        if self.wider || r.types().into_iter().any(is_wider) {
+        if self.needs.is_empty() && (self.wider || r.types().into_iter().any(is_wider)) {
             return Outcome::Silent(WIDER.into());
         }
-        let (subst, vars) = (self.ctx.subst.clone(), self.known.vars);
+        let (subst, vars, needs) = (self.ctx.subst.clone(), self.known.vars, self.needs.clone());
         let constraints: Vec<_> = self.ctx.constraints.iter().map(copy_of).collect();
         Counter::set(vars as u64);
         let done = caught(|| self.run(r));
@@ -357,6 +413,7 @@ impl Job {
             self.known.vars = Counter::peek() as usize;
         } else {
             self.ctx.subst = subst;
+            self.needs = needs;
             self.ctx.constraints = constraints;
             self.ctx.env.take_diags();
         }
@@ -379,15 +436,22 @@ impl Job {
             job.declare(*abilities, bytes, &mut vec![]).ok().unwrap()
         }
         job.known.vars = s.next_var as usize;
-        job.wider = s.has_wider();
+        job.wider = s.has_wider() && s.needs.is_empty();
         if job.wider {
             return job;
         }
-        s.bindings.iter().for_each(|(v, t)| job.ctx.subst.insert(nprobe::tvar(*v as u64), type_in(t)));
-        let marks = s.marks.iter().map(|(v, l)| (nprobe::tvar(*v as u64), Loc::of(*l)));
-        marks.for_each(|(v, l)| cprobe::mark(&mut job.ctx.subst, v, l));
+        job.hold(s);
         job.ctx.constraints = s.constraints.iter().map(unheld).collect();
         job
+    }
+
+    /// The bindings, marks and needs are those of `s`.
+    fn hold(&mut self, s: &State) {
+        self.ctx.subst = Subst::empty();
+        s.bindings.iter().for_each(|(v, t)| self.ctx.subst.insert(nprobe::tvar(*v as u64), type_in(t)));
+        let marks = s.marks.iter().map(|(v, l)| (nprobe::tvar(*v as u64), Loc::of(*l)));
+        marks.for_each(|(v, l)| cprobe::mark(&mut self.ctx.subst, v, l));
+        self.needs = s.needs.iter().copied().collect()
     }
 
     /// Declaration n: abilities and parameter bytes, as core.rs holds them.
@@ -406,6 +470,7 @@ impl Job {
             structs: self.known.params.len(),
             bindings: cprobe::bindings(s).into_iter().map(|(v, t)| (n(v), type_out(&t))).collect(),
             marks: cprobe::num_vars(s).into_iter().map(|(v, l)| (n(v), l.start())).collect(),
+            needs: self.needs.iter().map(|(v, bits)| (*v, *bits)).collect(),
             constraints: self.ctx.constraints.iter().map(held).collect(),
         }
     }
@@ -417,7 +482,12 @@ impl Job {
             Record::SD(abilities, params) => self.declare(*abilities, params, &mut out)?,
             Record::FV(loc) => put(&mut out, core::make_tvar(&mut self.ctx, Loc::of(*loc))),
             Record::NV(loc) => put(&mut out, core::make_num_tvar(&mut self.ctx, Loc::of(*loc))),
+            Record::NL(loc, bits) => {
+                put(&mut out, core::make_num_tvar(&mut self.ctx, Loc::of(*loc)));
+                self.needs.insert(self.known.vars as u16, *bits);
+            }
             Record::SN(v, loc) => self.ctx.subst.set_num_var(nprobe::tvar(*v as u64), Loc::of(*loc)),
+            Record::JN(..) | Record::SU(..) if !self.needs.is_empty() => return self.joined(r),
             Record::JN(a, b) => return Ok(self.join(core::join, a, b)),
             Record::SU(a, b) => return Ok(self.join(core::subtype, a, b)),
             Record::UF(t) => put(&mut out, core::unfold_type(&self.ctx.subst, type_in(t))),
@@ -461,6 +531,13 @@ impl Job {
         if self.known.params.len() == MAX_STRUCTS {
             return Err(Outcome::Refused(7, "no struct left".into()));
         }
+        self.add_struct(struct_name(Loc::of(0), number), abilities, params);
+        self.known.params.push(params.len());
+        out.extend(number.to_le_bytes());
+        Ok(())
+    }
+
+    fn add_struct(&mut self, name: StructName, abilities: u8, params: &[u8]) {
         let loc = Loc::of(0);
         let param =
             |(i, p): (usize, &u8)| StructTypeParameter { param: tparam(loc, i as u32, p % 16), is_phantom: *p >= 16 };
@@ -471,10 +548,7 @@ impl Job {
             fields: StructFields::Native(loc),
         };
         let module = self.ctx.modules.get_mut(&module(loc)).unwrap();
-        module.structs.add(struct_name(loc, number), def).ok().unwrap();
-        self.known.params.push(params.len());
-        out.extend(number.to_le_bytes());
-        Ok(())
+        module.structs.add(name, def).ok().unwrap()
     }
 
     /// 1 to 4 put back all bindings and marks, as the compiler does by dropping the failed `Subst`.
@@ -497,6 +571,38 @@ impl Job {
         }
     }
 
+    /// JN and SU where literals need bits: by 02's rules on trees, which without needs must be core.rs.
+    fn joined(&mut self, r: &Record) -> Answer {
+        let s = self.state();
+        self.held_to_core(&s, r);
+        let (number, payload, after) = joined(&s, r);
+        Counter::set(after.next_var);
+        match number {
+            0 => self.hold(&after),
+            1..=4 => (),
+            n => return Err(Outcome::Refused(n, "by 02's rules on trees".into())),
+        }
+        Ok((number, payload))
+    }
+
+    /// where core.rs has every type
+    fn held_to_core(&mut self, s: &State, r: &Record) {
+        if s.has_wider() || r.types().into_iter().any(is_wider) {
+            return;
+        }
+        let (number, payload, after) = joined(&State { needs: vec![], ..s.clone() }, r);
+        let (Record::JN(a, b) | Record::SU(a, b)) = r else { return };
+        if number <= 4 {
+            let vars = Counter::peek();
+            let core = self.join(if matches!(r, Record::SU(..)) { core::subtype } else { core::join }, a, b);
+            let left = State { next_var: Counter::peek(), needs: vec![], ..self.state() };
+            assert!(core == (number, payload), "driver: without needs core.rs gives {:?}", core);
+            assert!(left == after, "driver: without needs core.rs leaves {}", state_text(&left));
+            Counter::set(vars);
+            self.hold(s)
+        }
+    }
+
     /// 02's R-5. What is too large to be written out is 14, or 17 where a marked list or struct is in it.
     fn expand(&mut self, mut t: Type, out: &mut Vec<u8>) -> Result<(), Outcome> {
         self.readable(&t).map_err(|o| match o {
@@ -505,7 +611,14 @@ impl Job {
             }
             o => o,
         })?;
+        let kept = self.ctx.subst.clone();
+        if !self.needs.is_empty() {
+            t = as_parameters(&t);
+            let bindings = cprobe::bindings(&kept).into_iter();
+            bindings.for_each(|(v, b)| self.ctx.subst.insert(v, as_parameters(&b)))
+        }
         expand::type_(&mut self.ctx, &mut t);
+        self.ctx.subst = kept;
         type_out(&t).write(out);
         for d in self.ctx.env.take_diags() {
             assert!(d.code == Code::T(TypeSafety::UninferredType));
@@ -519,7 +632,9 @@ impl Job {
     fn marked(&self, seen: &mut HashSet<TVar>, t: &Type) -> bool {
         match &t.value {
             Type_::Ref(_, i) => self.marked(seen, i),
-            Type_::Apply(Some(_), sp!(_, TypeName_::Multiple(_) | TypeName_::ModuleType(..)), _) => true,
+            Type_::Apply(Some(_), sp!(_, n @ (TypeName_::Multiple(_) | TypeName_::ModuleType(..))), _) => {
+                stood_for(n).is_none()
+            }
             Type_::Apply(_, _, args) => args.iter().any(|a| self.marked(seen, a)),
             Type_::Var(v) => seen.insert(*v) && self.ctx.subst.get(*v).is_some_and(|b| self.marked(seen, b)),
             _ => false,
@@ -573,9 +688,15 @@ impl Job {
     /// alone to see which of them it was (that adds diagnostics only: the numeric step finds nothing left to do); both
     /// must agree.
     fn solve(&mut self, out: &mut Vec<u8>) -> Result<(), Outcome> {
-        let all = std::mem::take(&mut self.ctx.constraints);
+        let mut all = std::mem::take(&mut self.ctx.constraints);
         // numeric step first, alone: what may be solved depends on the bindings that it makes
-        core::solve_constraints(&mut self.ctx);
+        match self.needs.is_empty() {
+            true => core::solve_constraints(&mut self.ctx),
+            false => {
+                self.settle()?;
+                all.retain(|c| !self.of_a_stand_in(c))
+            }
+        }
         for c in &all {
             if let Constraint::AbilityConstraint { ty, constraints, .. } = c {
                 self.unhindered(c, ty, constraints)?
@@ -598,6 +719,25 @@ impl Job {
         }
         assert!(format!("{:?}", together) == format!("{:?}", singly), "driver: attribution differs");
         Ok(())
+    }
+
+    /// SV's numeric step where literals need bits
+    fn settle(&mut self) -> Result<(), Outcome> {
+        let full = |n| Outcome::Refused(n, "by 02's rules on trees".into());
+        let after = settled(&self.state()).map_err(full)?;
+        Counter::set(after.next_var);
+        self.hold(&after);
+        Ok(())
+    }
+
+    /// a numeric constraint that is met by an integer type that core.rs has not
+    fn of_a_stand_in(&self, c: &Constraint) -> bool {
+        let numeric = matches!(
+            c,
+            Constraint::NumericConstraint(..) | Constraint::BitsConstraint(..) | Constraint::OrderedConstraint(..)
+        );
+        let unfolded = core::unfold_type(&self.ctx.subst, type_of(c).clone());
+        numeric && matches!(&unfolded.value, Type_::Apply(_, n, _) if stood_for(&n.value).is_some())
     }
 
     fn solve_rest(&mut self) {

@@ -97,6 +97,10 @@ impl<'a> Lender<'a> {
     pub fn lent(&self) -> Lent {
         Lent { words: self.words().to_vec(), params: *self.params() }
     }
+    /// the state before the last call
+    pub fn before(&self) -> View<'_> {
+        self.before.view()
+    }
     /// lends another state
     pub fn lend(&mut self, lent: &Lent) {
         if self.words().len() == lent.words.len() {

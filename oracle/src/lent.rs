@@ -121,6 +121,10 @@ impl<'a> View<'a> {
         let row = self.row(VAR, v);
         (row[2] == 1).then_some(row[3])
     }
+    /// how many bits it needs (02, R-7), 0 for none
+    pub fn need(&self, v: usize) -> u32 {
+        self.row(VAR, v)[4]
+    }
     /// kind as in the words, location, node, abilities
     pub fn constraint(&self, i: usize) -> [u32; 4] {
         self.row(CONSTRAINT, i).try_into().unwrap()
@@ -150,9 +154,53 @@ impl<'a> View<'a> {
             structs: self.structs(),
             bindings: vars().filter_map(|v| Some((v as u16, self.ty(self.binding(v)?)))).collect(),
             marks: vars().filter_map(|v| Some((v as u16, self.mark(v)?))).collect(),
+            needs: vars().map(|v| (v as u16, self.need(v) as u16)).filter(|(_, need)| *need > 0).collect(),
             constraints: (0..self.constraints()).map(held).collect(),
         }
     }
+}
+
+//---- 02, R-7: what is known of literals only grows ------------------------------------------------------------
+
+impl View<'_> {
+    /// where a variable's chain ends
+    pub fn end(&self, mut v: usize) -> usize {
+        while let Some([6, _, next, ..]) = self.binding(v).map(|n| self.node(n)) {
+            v = next as usize
+        }
+        v
+    }
+
+    /// No variable of `before` loses its mark, and no need sinks, its own or its chain end's.
+    pub fn grown_from(&self, before: View) -> Result<(), String> {
+        let sunk = |v: usize| {
+            before.mark(v).is_some() && self.mark(v).is_none()
+                || self.need(v) < before.need(v)
+                || self.need(self.end(v)) < before.need(before.end(v))
+        };
+        (0..before.vars()).find(|v| sunk(*v)).map_or(Ok(()), |v| Err(format!("V{}'s mark or need sinks", v)))
+    }
+
+    /// In a job without SN each numeric variable's chain end is numeric, needs no less, and is open, or holds `!` or an
+    /// integer type at least as wide.
+    pub fn met(&self) -> Result<(), String> {
+        let met = |v: usize| {
+            let end = self.end(v);
+            let holds = self.binding(end).is_none_or(|n| match self.node(n) {
+                [3, _, _, number, ..] => bits_of(number) >= self.need(end).max(1),
+                [tag, ..] => tag == 8,
+            });
+            self.mark(end).is_some() && self.need(end) >= self.need(v) && holds
+        };
+        let unmet = (0..self.vars()).find(|v| self.mark(*v).is_some() && !met(*v));
+        unmet.map_or(Ok(()), |v| Err(format!("V{} is not met", v)))
+    }
+}
+
+/// of a builtin, 0 where it is no integer type
+fn bits_of(number: u32) -> u32 {
+    let name = BUILTINS[number as usize].name;
+    name.strip_prefix('u').and_then(|bits| bits.parse().ok()).unwrap_or(0)
 }
 
 //---- 01, "a sound state" -------------------------------------------------------------------------------------
@@ -234,8 +282,9 @@ impl View<'_> {
     }
 
     fn var_allowed(&self, v: usize) -> Sound {
-        let [bound, node, numeric, loc, spare]: [u32; 5] = self.row(VAR, v).try_into().unwrap();
-        holds(bound <= 1 && numeric <= 1 && spare == 0, "a variable's fields")?;
+        let [bound, node, numeric, loc, need]: [u32; 5] = self.row(VAR, v).try_into().unwrap();
+        holds(bound <= 1 && numeric <= 1, "a variable's fields")?;
+        holds(need <= if numeric == 1 { 256 } else { 0 }, "a variable's need")?;
         holds(bound == 1 || node == 0, "unbound: no node")?;
         holds(numeric == 1 || loc == 0, "unmarked: no location")?;
         holds(bound == 0 || (node as usize) < self.nodes(), "a binding is a node")?;
@@ -316,6 +365,13 @@ impl Lent {
         let at = START[VAR] + WIDTH[VAR] * v;
         self.words[at + 2..at + 4].copy_from_slice(&[1, loc])
     }
+    pub fn clear_mark(&mut self, v: usize) {
+        let at = START[VAR] + WIDTH[VAR] * v;
+        self.words[at + 2..at + 5].fill(0)
+    }
+    pub fn set_need(&mut self, v: usize, bits: u32) {
+        self.words[START[VAR] + WIDTH[VAR] * v + 4] = bits
+    }
     pub fn add_constraint(&mut self, kind: u32, loc: u32, node: usize, abilities: u8) -> Option<usize> {
         self.push(CONSTRAINT, &[kind, loc, node as u32, abilities as u32])
     }
@@ -341,6 +397,9 @@ pub fn encode(s: &State, declared: &[Declared]) -> Option<Lent> {
     }
     for (v, loc) in &s.marks {
         out.set_mark(*v as usize, *loc)
+    }
+    for (v, bits) in &s.needs {
+        out.set_need(*v as usize, *bits as u32)
     }
     for h in &s.constraints {
         let node = out.add_type(&h.ty)?;

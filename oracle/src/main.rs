@@ -27,6 +27,7 @@ oracle compare SEED COUNT [RECORDS] [--alter=WHAT] [--profile=PROFILE]
                                                       the engine beside core.rs, on jobs from a seed
 oracle spelled SEED COUNT                             CN of COUNT pairs of jobs: equal bytes beside equal types
 oracle damage records|states|wild SEED COUNT           damaged records, damaged states
+oracle damage needs|literals SEED COUNT               every need on every variable; SV where needs stand anywhere
 oracle traps                                          types with more parts than nodes, deep and looped ones
 oracle bench [RUNS]                                   times beside core.rs, by mark, of lent records
 oracle bench once WORK SIDE TIMES                     the same job again and again, for a profiler
@@ -145,6 +146,8 @@ fn hurt(words: &[String], calls: &dyn Calls) -> i32 {
         Some("records") => damage::records(calls, seed, count, &mut tally),
         Some("states") => damage::states(calls, seed, count, &mut tally),
         Some("wild") => damage::wild(calls, seed, count, &mut tally),
+        Some("needs") => damage::needs(calls, seed, count, &mut tally),
+        Some("literals") => damage::literals(calls, seed, count, &mut tally),
         _ => fail(USAGE),
     };
     print!("{}{:.1} s\n", tally.text(), start.elapsed().as_secs_f64());

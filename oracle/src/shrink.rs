@@ -112,7 +112,7 @@ fn fewer(records: &mut Vec<Record>, shows: &mut dyn FnMut(&[Record]) -> bool) {
 /// Without a record that takes a variable or declares a struct, the later numbers one lower.
 fn renumbered(records: &[Record], at: usize) -> Option<Vec<Record>> {
     let declares = |r: &Record| matches!(r, Record::SD(..));
-    let takes = |r: &Record| matches!(r, Record::FV(_) | Record::NV(_));
+    let takes = |r: &Record| matches!(r, Record::FV(_) | Record::NV(_) | Record::NL(..));
     let (of, is_struct): (fn(&Record) -> bool, bool) = match &records[at] {
         r if declares(r) => (declares, true),
         r if takes(r) => (takes, false),
@@ -173,6 +173,7 @@ fn lighter_records(r: &Record) -> Vec<Record> {
     match &mut plain {
         Record::FV(l) | Record::NV(l) | Record::SN(_, l) | Record::BC(l, _) | Record::SC(l, _) => *l = 0,
         Record::NC(l, k, _) => (*l, *k) = (0, 0),
+        Record::NL(l, bits) => (*l, *bits) = (0, 1),
         Record::SD(a, params) => {
             *a = 0;
             params.iter_mut().for_each(|p| *p = 0)

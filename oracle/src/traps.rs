@@ -208,6 +208,21 @@ fn numeric() -> Lent {
     s
 }
 
+/// V0 is bound to V1, V1 to V2 and so on; all need bits, and the last is open
+fn literals() -> Lent {
+    let mut s = fresh();
+    (0..1000).for_each(|_| assert!(s.add_var().is_some()));
+    for v in 0..1000 {
+        s.set_mark(v, v as u32);
+        s.set_need(v, 1 + (v as u32 * 7) % 256);
+        if v < 999 {
+            let next = s.add_node(6, 0, v as u32 + 1, 0, &[]).unwrap();
+            s.bind(v, next)
+        }
+    }
+    s
+}
+
 //---- records ------------------------------------------------------------------------------------------------
 
 const RECORDS: [&str; 26] = [
@@ -378,6 +393,7 @@ pub fn run(calls: &(dyn Calls + Sync)) -> (Vec<Line>, f64) {
         ("leans on", leaning(marked_ladder)),
         ("crossed", crossed()),
         ("numeric", numeric()),
+        ("literals", literals()),
     ];
     let mut lines = vec![];
     for (name, lent) in &states {

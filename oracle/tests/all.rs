@@ -56,6 +56,32 @@ fn marked_calls() {
     }
 }
 
+/// 02's R-7, its worked values: of each job the last answer or two, by a second reading of 02
+#[test]
+fn literals() {
+    let two_ends = "NL @1 9\nNL @2 100\nJN V1@3, V0@4\n";
+    for (job, wanted) in [
+        ("NL @1 9\nJN V0@2, u8@3".to_string(), "1 2 0602000000000003030000000002"),
+        ("NL @1 9\nJN V0@2, u16@3".into(), "1 0 06020000000000"),
+        ("NL @1 9\nJN V0, u16@3\nNL @4 20\nJN V1@5, V0@6".into(), "3 2 0605000000010003030000000007"),
+        ("NL @1 64\nSV\nUF V0".into(), "2 0 03010000001703"),
+        ("NL @1 65\nSV\nUF V0".into(), "2 0 03010000001704"),
+        ("NL @1 128\nSV\nUF V0".into(), "2 0 03010000001704"),
+        ("NL @1 129\nSV\nUF V0".into(), "2 0 03010000001709"),
+        ("NL @1 256\nSV\nUF V0".into(), "2 0 03010000001709"),
+        ("NL @1 0".into(), "0 5"),
+        ("NL @1 257".into(), "0 5"),
+        (two_ends.to_string() + "JN V0@5, u64@6", "3 2 0605000000000003060000000003"),
+        (two_ends.to_string() + "SV\nUF V0\nUF V1\nUF V2", "6 0 03010000001704"),
+        // SN needs no bits, and lowers no need
+        ("FV @1\nSN V0 @2\nJN V0, u8@3".into(), "2 0 06000000000000"),
+        ("NL @1 9\nSN V0 @2\nJN V0, u8@3".into(), "2 2 0600000000000003030000000002"),
+    ] {
+        let log = log(&assemble(&job, false).unwrap());
+        assert_eq!(log.lines().last(), Some(wanted), "{}", job)
+    }
+}
+
 /// 02's R-1: core.rs's failures of code 4 with ability, type and rule; 9 and 16 by the driver, in list order
 #[test]
 fn abilities_on_the_log() {

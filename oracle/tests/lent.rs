@@ -5,7 +5,7 @@ use oracle::{
     calls::{engine, job_of, Calls, Lines, Mimic, MIN_ANSWER},
     compare::{self, Alter, Altered, Tally, ALTERS},
     damage,
-    gen::{self, Chance},
+    gen::{self, Chance, Profile},
     job::{is_wider, with_stack, Job, Outcome},
     lender::Lender,
     lent::{encode, fresh, sound, Lent, Params},
@@ -76,6 +76,8 @@ fn each_rule_of_a_sound_state() {
     s.add_constraint(0, 10, vector, 15);
     s.add_constraint(3, 11, u8_, 0);
     assert_eq!(sound(&s.words, &s.params), Ok(()));
+    s.set_need(2, 256);
+    assert_eq!(sound(&s.words, &s.params), Ok(()));
     let (place, declared) = (12_293, 23_557);
     let [node, var, held] = [(5, 6), (16_389, 5), (21_509, 4)].map(|(start, width)| move |i: usize| start + width * i);
     let breaks: Vec<Break> = vec![
@@ -108,8 +110,9 @@ fn each_rule_of_a_sound_state() {
         (var(0) + 1, 6, "no binding is `_`"),
         (var(1) + 1, 2, "a chain of variables ends"),
         (var(3) + 1, 1, "unbound: no node"),
-        (var(2) + 2, 0, "unmarked: no location"),
-        (var(2) + 4, 1, "a variable's fields"),
+        (var(2) + 2, 0, "a variable's need"),
+        (var(2) + 4, 257, "a variable's need"),
+        (var(3) + 4, 1, "a variable's need"),
         (held(0), 6, "a constraint's fields"),
         (held(0) + 2, 8, "a constraint's fields"),
         (held(0) + 3, 16, "a constraint's abilities"),
@@ -168,6 +171,28 @@ fn the_engine_agrees_with_core_rs() {
     })
 }
 
+/// 02's R-7
+#[test]
+fn literals_beside_a_second_reading() {
+    if cfg!(feature = "hashmap") {
+        return;
+    }
+    with_stack(|| {
+        for calls in all() {
+            let mut tally = Tally::default();
+            let found = compare::many(calls, 33, 150, 25, Some(Profile::Numbers), &mut tally);
+            assert!(found.is_none(), "{}", compare::report(&found.unwrap()));
+            assert!(tally.records[&("NL", 0)] > 300 && tally.records[&("JN", 2)] > 100);
+            let mut tally = damage::Tally::default();
+            damage::needs(calls, 34, 1, &mut tally).unwrap();
+            assert!(tally.of("15: a variable's need") > 100, "{}", tally.text());
+            let mut solved = damage::Tally::default();
+            damage::literals(calls, 35, 10, &mut solved).unwrap();
+            assert!(solved.went_on() > 100, "{}", solved.text())
+        }
+    })
+}
+
 #[test]
 fn altered_answers_are_found_and_shrunk() {
     if cfg!(feature = "hashmap") {
@@ -177,7 +202,8 @@ fn altered_answers_are_found_and_shrunk() {
         for calls in all() {
             for alter in ALTERS.into_iter().filter(|a| calls.counts() || !matches!(a, Alter::Count | Alter::Told)) {
                 let altered = Altered { calls, alter };
-                let found = compare::many(&altered, 32, 100, 25, None, &mut Tally::default());
+                let profile = (alter == Alter::Need).then_some(Profile::Numbers);
+                let found = compare::many(&altered, 32, 100, 25, profile, &mut Tally::default());
                 let found = found.unwrap_or_else(|| panic!("{:?} was not found", alter));
                 let small = compare::smallest(&altered, found);
                 assert!(compare::disagrees(&altered, &small.start, &small.stream).is_some());
@@ -450,6 +476,7 @@ fn traps_are_answered_at_once() {
     assert_eq!((asks("leaning", "drop"), asks("leaning", "copy, drop, store")), (0, 14));
     assert_eq!((asks("chain", "drop"), asks("chain", "copy, drop, store"), asks("chains", "all four")), (0, 14, 0));
     assert_eq!((number("crossed", "JN V0, V2"), number("crossed", "SU V2, V0")), (0, 0));
+    assert_eq!((number("literals", "SV"), number("literals", "JN V0, V2")), (0, 0));
     let asks_for = |what| number("numeric", format!("SV, 273 ask for {}", what).as_str());
     assert_eq!((asks_for("a number"), asks_for("bits"), asks_for("an order")), (0, 0, 0));
     let all_four = lines.iter().find(|l| l.state == "numeric" && l.record == "SV, 60 ask for all four").unwrap();

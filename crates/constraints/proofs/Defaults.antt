@@ -4,11 +4,11 @@ use Rattle.std.specs.Prelude.{Option, None, Some, Ok, Err}
 use Rattle.std.specs.Prelude as core
 use Rattle.definition.specs.Types as d
 use Rattle.definition.specs.Types.{State, Struct, Cell, unbound, Spanned, TypeValue, Result, ok, err, refused, ◌>>=◌}
-use Rattle.definition.specs.Store.{node, with_args, spanned, num_loc, sp, with_structs}
-use Rattle.definition.specs.Subst.{unfold_type}
+use Rattle.definition.specs.Store.{node, with_args, spanned, num_loc, need_of, sp, with_structs}
+use Rattle.definition.specs.Subst.{forward_tvar, unfold_type}
 use Rattle.definition.specs.Join.{join}
 use Rattle.definition.specs.Abilities.{primitives}
-use Rattle.definition.specs.Constraints.{undecided, u64, num_vars, default_num_var, default_num_vars}
+use Rattle.definition.specs.Constraints.{undecided, default_builtin, default_integer, default_of, num_vars, default_num_var, default_num_vars}
 use Rattle.table.specs.Rows.{read_option}
 use Rattle.table.specs.State.{Any, outcome, seen, view, node_of, shape_of}
 use Rattle.table.specs.Did.{held, tables, Became, Did, Added}
@@ -17,7 +17,7 @@ use Rattle.table.specs.declared.Node.{Node}
 use Rattle.table.specs.declared.state.State as table
 use Rattle.table.specs.declared.state.Stop.{Stop}
 use Rattle.table.proofs.Steps.{bind_assoc}
-use Rattle.table.proofs.Did.{became_now, became_is, became_on, became_as, became_number, did_err, did_then, err_is, stop_in}
+use Rattle.table.proofs.Did.{became_now, became_is, became_on, became_as, became_number, did_is, did_err, did_then, err_is, stop_in}
 use Rattle.table.proofs.Grown.{value_is}
 use Rattle.table.proofs.Fields.{num_read}
 use Rattle.table.proofs.Pushed.{taken_view}
@@ -25,7 +25,7 @@ use Rattle.subst.specs.Answers.{unfolded, var_at}
 use Rattle.subst.specs.declared.Unfolded.{Unfolded}
 use Rattle.subst.specs.declared.Unfolded.TheVariants.{Node as NodeU, Anything as AnythingU}
 use Rattle.snapshot.specs.Snap.{Saved}
-use Rattle.constraints.specs.Solve.{numbered, join_u64, default_marked, defaults}
+use Rattle.constraints.specs.Solve.{numbered, join_integer, default_marked, defaults}
 
 -- ---- what nothing decides
 
@@ -49,29 +49,39 @@ numbered_bind (refused x) f = refl
 abbrev no_number : State × ℕ → Result (State × ℕ)
 no_number x = ok (x.0, 0)
 
--- ---- the join with u64
+-- ---- the join with the integer type
 
 abbrev from_tvar : ℕ → State × ℕ → Result (State × ℕ)
 from_tvar t x = join x.0 t x.1
 
-abbrev from_u64 : ℕ → ℕ → State × ℕ → Result (State × ℕ)
-from_u64 v loc x = sp x.0 loc (d.Var v) >>= from_tvar x.1
+abbrev from_integer : ℕ → ℕ → State × ℕ → Result (State × ℕ)
+from_integer v loc x = sp x.0 loc (d.Var v) >>= from_tvar x.1
 
-module _ (v loc : ℕ) {s t : table.State} where
-  pub u64_full : {e : Stop} {r : core.Result ℕ Stop} → Did s t (Err e) (λ x. sp x loc (d.Apply (Some 7) (d.Builtin 3) [])) → r ≡ Err e → Did s t r (λ x. join_u64 x v loc)
-  unfolding join_u64 u64 primitives
-  u64_full a q = did_err (from_u64 v loc) a q
+abbrev pub Chosen : table.State → ℕ → ℕ → Type 0
+Chosen s v b = (ds : List Struct) → b ≡ default_builtin (need_of (held s ds) (forward_tvar (held s ds) v))
 
-  module _ {u64_ : ℕ} (a : Did s t (Ok u64_) (λ x. sp x loc (d.Apply (Some 7) (d.Builtin 3) []))) where
-    u64_then : {m : table.State} {r : core.Result ℕ Stop} → Did t m r (λ x. sp x loc (d.Var v) >>= from_tvar u64_) → Did s m r (λ x. join_u64 x v loc)
-    unfolding join_u64 u64 primitives
-    u64_then n = did_then (from_u64 v loc) a n
+default_is : (s : State) (v b : ℕ) → b ≡ default_builtin (need_of s (forward_tvar s v)) → d.Apply (Some 7) (d.Builtin b) [] ≡ default_of s v
+unfolding default_of default_integer primitives
+default_is s v b e = ap (λ (x : ℕ). d.Apply (Some 7) (d.Builtin x) []) e
 
-    pub tvar_full : {m : table.State} {e : Stop} {r : core.Result ℕ Stop} → Did t m (Err e) (λ x. sp x loc (d.Var v)) → r ≡ Err e → Did s m r (λ x. join_u64 x v loc)
-    tvar_full b q = u64_then (did_err (from_tvar u64_) b q)
+module _ (v loc : ℕ) {s t : table.State} {b : ℕ} (chosen : Chosen s v b) where
+  pushed : {r : core.Result ℕ Stop} → Did s t r (λ x. sp x loc (d.Apply (Some 7) (d.Builtin b) [])) → Did s t r (λ x. sp x loc (default_of x v))
+  pushed a = did_is (λ ds k. ap (λ (ty : TypeValue). sp (held s ds) loc ty) (default_is (held s ds) v b (chosen ds))) a
 
-    pub u64_joined : {tvar : ℕ} {m n : table.State} {r : core.Result ℕ Stop} → Did t m (Ok tvar) (λ x. sp x loc (d.Var v)) → Did m n r (λ x. join x u64_ tvar) → Did s n r (λ x. join_u64 x v loc)
-    u64_joined b j = u64_then (did_then (from_tvar u64_) b j)
+  pub integer_full : {e : Stop} {r : core.Result ℕ Stop} → Did s t (Err e) (λ x. sp x loc (d.Apply (Some 7) (d.Builtin b) [])) → r ≡ Err e → Did s t r (λ x. join_integer x v loc)
+  unfolding join_integer
+  integer_full a q = did_err (from_integer v loc) (pushed a) q
+
+  module _ {integer : ℕ} (a : Did s t (Ok integer) (λ x. sp x loc (d.Apply (Some 7) (d.Builtin b) []))) where
+    integer_then : {m : table.State} {r : core.Result ℕ Stop} → Did t m r (λ x. sp x loc (d.Var v) >>= from_tvar integer) → Did s m r (λ x. join_integer x v loc)
+    unfolding join_integer
+    integer_then n = did_then (from_integer v loc) (pushed a) n
+
+    pub tvar_full : {m : table.State} {e : Stop} {r : core.Result ℕ Stop} → Did t m (Err e) (λ x. sp x loc (d.Var v)) → r ≡ Err e → Did s m r (λ x. join_integer x v loc)
+    tvar_full b q = integer_then (did_err (from_tvar integer) b q)
+
+    pub integer_joined : {tvar : ℕ} {m n : table.State} {r : core.Result ℕ Stop} → Did t m (Ok tvar) (λ x. sp x loc (d.Var v)) → Did m n r (λ x. join x integer tvar) → Did s n r (λ x. join_integer x v loc)
+    integer_joined b j = integer_then (did_then (from_tvar integer) b j)
 
 -- ---- default_num_var
 
@@ -79,19 +89,19 @@ join_unnumbered : (t : ℕ) (y : State × ℕ) → (join y.0 t y.1 >>= no_number
 unfolding ◌>>=◌
 join_unnumbered t y = sym (bind_assoc (join y.0 t y.1) (λ z. ok z.0) (λ s. ok (s, 0)))
 
-tvar_unnumbered : (v loc : ℕ) (x : State × ℕ) → (from_u64 v loc x >>= no_number) ≡ ((sp x.0 loc (d.Var v) >>= (λ y. join y.0 x.1 y.1 >>= (λ z. ok z.0))) >>= (λ s. ok (s, 0)))
+tvar_unnumbered : (v loc : ℕ) (x : State × ℕ) → (from_integer v loc x >>= no_number) ≡ ((sp x.0 loc (d.Var v) >>= (λ y. join y.0 x.1 y.1 >>= (λ z. ok z.0))) >>= (λ s. ok (s, 0)))
 tvar_unnumbered v loc x =
     bind_assoc (sp x.0 loc (d.Var v)) (from_tvar x.1) no_number
     ∙ (λ i. sp x.0 loc (d.Var v) >>= (λ y. join_unnumbered x.1 y i))
     ∙ sym (bind_assoc (sp x.0 loc (d.Var v)) (λ y. join y.0 x.1 y.1 >>= (λ z. ok z.0)) (λ s. ok (s, 0)))
 
-default_joins : (s : State) (v loc : ℕ) → undecided (unfold_type s (var_at loc v)).value ≡ true → (join_u64 s v loc >>= no_number) ≡ numbered (default_num_var s v loc)
-unfolding numbered default_num_var join_u64
+default_joins : (s : State) (v loc : ℕ) → undecided (unfold_type s (var_at loc v)).value ≡ true → (join_integer s v loc >>= no_number) ≡ numbered (default_num_var s v loc)
+unfolding numbered default_num_var join_integer
 default_joins s v loc e =
     rw (e, default_num_var)
-    (bind_assoc (sp s loc u64) (from_u64 v loc) no_number
-    ∙ (λ i. sp s loc u64 >>= (λ x. tvar_unnumbered v loc x i))
-    ∙ sym (bind_assoc (sp s loc u64) (λ x. sp x.0 loc (d.Var v) >>= (λ y. join y.0 x.1 y.1 >>= (λ z. ok z.0))) (λ t. ok (t, 0))))
+    (bind_assoc (sp s loc (default_of s v)) (from_integer v loc) no_number
+    ∙ (λ i. sp s loc (default_of s v) >>= (λ x. tvar_unnumbered v loc x i))
+    ∙ sym (bind_assoc (sp s loc (default_of s v)) (λ x. sp x.0 loc (d.Var v) >>= (λ y. join y.0 x.1 y.1 >>= (λ z. ok z.0))) (λ t. ok (t, 0))))
 
 default_stays : (s : State) (v loc : ℕ) → undecided (unfold_type s (var_at loc v)).value ≡ false → ok (s, 0) ≡ numbered (default_num_var s v loc)
 unfolding numbered default_num_var ◌>>=◌
@@ -108,10 +118,10 @@ module _ {s : table.State} where
     default_decided q = added_now (λ ds. default_stays (held s ds) v loc (sym (is ds) ∙ q))
 
     module _ (q : b ≡ true) where
-      pub default_stop : {t : table.State} {e : Stop} {r : core.Result Unit Stop} → Did s t (Err e) (λ x. join_u64 x v loc) → r ≡ Err e → Added s t r (λ x. numbered (default_num_var x v loc))
+      pub default_stop : {t : table.State} {e : Stop} {r : core.Result Unit Stop} → Did s t (Err e) (λ x. join_integer x v loc) → r ≡ Err e → Added s t r (λ x. numbered (default_num_var x v loc))
       default_stop {e} a p = rw p record { changed = became_is (λ ds k. default_joins (held s ds) v loc (sym (is ds) ∙ q)) (became_as (λ y. y >>= no_number) a.changed (λ x. err_is e x no_number)); inside = stop_in _ e a.inside }
 
-      pub default_done : {t : table.State} {n : ℕ} → Did s t (Ok n) (λ x. join_u64 x v loc) → Added s t (Ok tt) (λ x. numbered (default_num_var x v loc))
+      pub default_done : {t : table.State} {n : ℕ} → Did s t (Ok n) (λ x. join_integer x v loc) → Added s t (Ok tt) (λ x. numbered (default_num_var x v loc))
       unfolding outcome ◌>>=◌
       default_done a = record { changed = became_is (λ ds k. default_joins (held s ds) v loc (sym (is ds) ∙ q)) (became_number (λ y. y >>= no_number) a.changed (became_now (λ ds k. refl))); inside = tt }
 

@@ -5,7 +5,7 @@ use Rattle.definition.specs.Types as d
 use Rattle.definition.specs.Types.{State, Cell, Result, ok, ◌>>=◌}
 use Rattle.definition.specs.Store.{sp}
 use Rattle.definition.specs.Join.{join}
-use Rattle.definition.specs.Constraints.{u64, default_num_var}
+use Rattle.definition.specs.Constraints.{default_of, default_num_var}
 use Rattle.definition.specs.Record as record_of
 use Rattle.constraints.specs.declared.NumericKind.{NumericKind}
 use Rattle.constraints.specs.declared.NumericKind.TheVariants.{Numeric, Bits, Ordered}
@@ -20,11 +20,11 @@ unfoldable pub numbered : Result State → Result (State × ℕ)
 numbered r = r >>= (λ s. ok (s, 0))
 
 -- the join of a variable that nothing decides
-unfoldable pub join_u64 : State → ℕ → ℕ → Result (State × ℕ)
-join_u64 subst num_var loc = do
-  (subst, u64) ← sp subst loc u64
+unfoldable pub join_integer : State → ℕ → ℕ → Result (State × ℕ)
+join_integer subst num_var loc = do
+  (subst, integer) ← sp subst loc (default_of subst num_var)
   (subst, tvar) ← sp subst loc (d.Var num_var)
-  join subst u64 tvar
+  join subst integer tvar
 
 unfoldable pub default_marked : State → ℕ → Option ℕ → Result State
 default_marked subst num_var None = ok subst

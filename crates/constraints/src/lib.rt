@@ -1,4 +1,4 @@
-// typing/core.rs: a constraint is listed; solve_constraints: numeric variables that nothing decides become u64; the list is emptied;
+// typing/core.rs: a constraint is listed; solve_constraints: numeric variables that nothing decides become u64, or wider; the list is emptied;
 // which constraints fail, and how, what the Rust reports as a message (solve_ability_constraint, solve_builtin_type_constraint,
 // solve_base_type_constraint, solve_single_type_constraint).
 // Changed from the source that NOTICE names: ported to Rattle.
@@ -7,8 +7,8 @@
 ghost use Rattle.std.specs.Prelude.{◌≡◌, ℕ, ◌+◌, ◌*◌, ◌<◌, ◌≤◌, List, [], length, nat_eq, slice_index, if◌then◌else◌};
 ghost use Rattle.definition.specs.Types as d;
 ghost use Rattle.definition.specs.Types.{BaseTypeConstraint, SingleTypeConstraint};
-ghost use Rattle.definition.specs.Subst.{unfold_type};
-ghost use Rattle.definition.specs.Constraints.{undecided, num_vars, default_num_var, default_num_vars, by_rule};
+ghost use Rattle.definition.specs.Subst.{forward_tvar, unfold_type};
+ghost use Rattle.definition.specs.Constraints.{undecided, num_vars, default_builtin, default_num_var, default_num_vars, by_rule};
 ghost use Rattle.definition.specs.Step.{numeric_constraint};
 ghost use Rattle.table.specs.Rows.{read_option};
 ghost use Rattle.table.specs.State.{constraint_of, pushed_constraint};
@@ -16,8 +16,8 @@ ghost use Rattle.table.specs.Did.{held, Did, Added};
 ghost use Rattle.subst.specs.Answers.{var_at};
 ghost use Rattle.snapshot.specs.Snap.{Saved};
 ghost use Rattle.constraints.specs.Emptied.{Emptied};
-ghost use Rattle.constraints.specs.Solve.{kind_of, numbered, join_u64};
-ghost use Rattle.definition.specs.Store.{spanned};
+ghost use Rattle.constraints.specs.Solve.{kind_of, numbered, join_integer};
+ghost use Rattle.definition.specs.Store.{need_of, spanned};
 ghost use Rattle.abilities.specs.Kept.{HasSet, Kept};
 ghost use Rattle.abilities.specs.Rules.{rule_of, RuleIn, bytes_of};
 ghost use Rattle.failing.specs.Failing.{plain, report, ReportIn, TyIn, Fails};
@@ -25,7 +25,7 @@ ghost use Rattle.constraints.specs.Lacking.{lack, row, IsAbility, Lacking, Asked
 
 use abilities::{Asked, Rule};
 use failing::{Failing, ask_of, good};
-use names::{AbilitySet, COPY, TVar, TypeName, U64};
+use names::{AbilitySet, COPY, TVar, TypeName, U64, U128, U256};
 use snapshot::zero_rows;
 use subst::Unfolded;
 use table::state::{State, Stop};
@@ -69,7 +69,7 @@ pub fn single_type_constraint(st: &mut State<'_>, loc: u32, ty: u32) -> Result<(
     st.push_constraint(Constraint::SingleType(loc, ty))
 }
 
-// ---- numeric variables that nothing decides become u64
+// ---- numeric variables that nothing decides become u64, or wider where more bits are needed
 
 fn undecided_var(st: &State<'_>, num_var: TVar, loc: u32) -> bool
     ensures { (ds : List d.Struct) → result ≡ undecided (unfold_type (held st.now ds) (var_at loc num_var.0)).value }
@@ -80,21 +80,44 @@ fn undecided_var(st: &State<'_>, num_var: TVar, loc: u32) -> bool
     }
 }
 
-// The join with u64, which has the abilities copy, drop and store.
-fn join_u64(st: &mut State<'_>, num_var: TVar, loc: u32) -> Result<u32, Stop>
-    ensures { Did st.old st.new result (λ s. join_u64 s num_var.0 loc) }
+// Added (R-7): the narrowest of u64, u128 and u256 that has so many bits.
+#[tactic(auto, unfolding(definition::specs::Constraints::default_builtin))]
+fn default_builtin(need: u32) -> u32
+    ensures { result ≡ default_builtin need }
+{
+    if need <= 64 {
+        U64
+    } else if need <= 128 {
+        U128
+    } else {
+        U256
+    }
+}
+
+// .. that the end of the variable's chain needs.
+fn default_at(st: &State<'_>, num_var: TVar) -> u32
+    ensures { (ds : List d.Struct) → result ≡ default_builtin (need_of (held st.now ds) (forward_tvar (held st.now ds) num_var.0)) }
+{
+    let last = subst::forward_tvar(st, num_var);
+    default_builtin(st.need_at(last))
+}
+
+// The join with that integer type, which has the abilities copy, drop and store.
+fn join_integer(st: &mut State<'_>, num_var: TVar, loc: u32) -> Result<u32, Stop>
+    ensures { Did st.old st.new result (λ s. join_integer s num_var.0 loc) }
 {
     let k = Some(AbilitySet::PRIMITIVES);
-    let u64_ = st.push_apply(loc, k, TypeName::Builtin(U64), [0; 8], 0)?;
+    let b = default_at(st, num_var);
+    let integer = st.push_apply(loc, k, TypeName::Builtin(b), [0; 8], 0)?;
     let tvar = st.push_node(loc, Shape::Var(num_var))?;
-    join::join(st, u64_, tvar)
+    join::join(st, integer, tvar)
 }
 
 fn default_num_var(st: &mut State<'_>, num_var: TVar, loc: u32) -> Result<(), Stop>
     ensures { Added st.old st.new result (λ s. numbered (default_num_var s num_var.0 loc)) }
 {
     if undecided_var(st, num_var, loc) {
-        join_u64(st, num_var, loc)?;
+        join_integer(st, num_var, loc)?;
     }
     Ok(())
 }

@@ -59,7 +59,7 @@ abbrev pub deep : Node → ℕ → State
 deep leaf n = record {
   nodes = leaf ∷ nested n 0;
   args = [];
-  vars = replicate 2 (record { binding = Some n; numeric = None });
+  vars = replicate 2 (record { binding = Some n; numeric = None; need = 0 });
   constraints = [];
   structs = [];
 }

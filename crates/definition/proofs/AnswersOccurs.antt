@@ -64,7 +64,7 @@ rungs (suc n) t s = rungs n (suc t) (record {
 })
 
 abbrev pub on : State
-on = record { nodes = record { loc = 0; value = Var 1 } ∷ []; args = []; vars = replicate 3 (record { binding = None; numeric = None }); constraints = []; structs = [] }
+on = record { nodes = record { loc = 0; value = Var 1 } ∷ []; args = []; vars = replicate 3 (record { binding = None; numeric = None; need = 0 }); constraints = []; structs = [] }
 
 -- V1 is met on the way down, at the fifth tag
 pub first_way_down : looked 1 (rungs 4 0 on) ≡ (true, 5)

@@ -34,7 +34,7 @@ abbrev pub older_mark : State
 older_mark = record {
   nodes = record { loc = 0; value = Var 1 } ∷ [];
   args = [];
-  vars = record { binding = Some 0; numeric = Some 4 } ∷ unbound ∷ [];
+  vars = record { binding = Some 0; numeric = Some 4; need = 0 } ∷ unbound ∷ [];
   constraints = [];
   structs = [];
 }

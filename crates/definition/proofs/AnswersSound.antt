@@ -60,7 +60,7 @@ unfolding number
 set_of_a_declaration_16 = refl
 
 -- locations of 2^32: of a node, a mark
-pub location_past_u32 : map number (located 4294967296 UnitType ∷ cell (record { binding = None; numeric = Some 4294967296 }) ∷ []) ≡ replicate 2 15
+pub location_past_u32 : map number (located 4294967296 UnitType ∷ cell (record { binding = None; numeric = Some 4294967296; need = 0 }) ∷ []) ≡ replicate 2 15
 unfolding number
 location_past_u32 = refl
 
@@ -106,7 +106,7 @@ pub constraint_of_no_node : map (λ c. number (constraint c)) (each_kind 0 1) �
 unfolding number
 constraint_of_no_node = refl
 
-pub binding_of_no_node : number (cell (record { binding = Some 1; numeric = None })) ≡ 15
+pub binding_of_no_node : number (cell (record { binding = Some 1; numeric = None; need = 0 })) ≡ 15
 unfolding number
 binding_of_no_node = refl
 
@@ -116,7 +116,7 @@ allowed =
     map (λ b. of_shape (Apply (Some 2) (Builtin b) no_places)) integer_types ++
     of_shape (Apply (Some 15) (Builtin 9) no_places) ∷
     located 4294967295 (Param 4294967295 15) ∷
-    of_tables (record { binding = Some 0; numeric = Some 4294967295 } ∷ []) (AbilityConstraint 4294967295 0 15 ∷ []) (record { abilities = 15; params = replicate 8 31 } ∷ []) ∷
+    of_tables (record { binding = Some 0; numeric = Some 4294967295; need = 0 } ∷ []) (AbilityConstraint 4294967295 0 15 ∷ []) (record { abilities = 15; params = replicate 8 31 } ∷ []) ∷
     []
 
 pub greatest_allowed : map number allowed ≡ replicate 9 0
@@ -161,7 +161,7 @@ pub part_not_smaller : number (of_shape (Ref false 0)) ≡ 15
 unfolding number
 part_not_smaller = refl
 
-pub binding_is_anything : number (tables (record { loc = 0; value = Anything }) (record { binding = Some 0; numeric = None } ∷ []) [] []) ≡ 15
+pub binding_is_anything : number (tables (record { loc = 0; value = Anything }) (record { binding = Some 0; numeric = None; need = 0 } ∷ []) [] []) ≡ 15
 unfolding number
 binding_is_anything = refl
 
@@ -169,7 +169,7 @@ binding_is_anything = refl
 pub chain_never_ends : number (record {
   nodes = record { loc = 0; value = Var 0 } ∷ record { loc = 0; value = Var 1 } ∷ [];
   args = [];
-  vars = record { binding = Some 1; numeric = None } ∷ record { binding = Some 0; numeric = None } ∷ [];
+  vars = record { binding = Some 1; numeric = None; need = 0 } ∷ record { binding = Some 0; numeric = None; need = 0 } ∷ [];
   constraints = [];
   structs = [];
 }) ≡ 15

@@ -1,5 +1,6 @@
 pub mod AnswersJoin
 pub mod AnswersMerge
+pub mod AnswersNeeds
 pub mod AnswersOccurs
 pub mod AnswersReading
 pub mod AnswersRecords
@@ -15,6 +16,7 @@ pub mod AnswersTypes
 pub mod AnswersCanonical
 pub mod AnswersWider
 pub mod AnswersLimits
+pub mod AnswersLiterals
 pub mod Computed
 pub mod Spelling
 pub mod Worked

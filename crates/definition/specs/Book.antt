@@ -7,7 +7,7 @@ use Rattle.definition.specs.Subst.{forward_tvar, unfold_type}
 use Rattle.definition.specs.Join.{is_multiple, join, subtype}
 use Rattle.definition.specs.Instantiate.{struct_tparams}
 use Rattle.definition.specs.Abilities.{has, struct_abilities, infer_abilities}
-use Rattle.definition.specs.Constraints.{is_integer, solve_constraints}
+use Rattle.definition.specs.Constraints.{is_integer, default_of, solve_constraints}
 use Rattle.definition.specs.Rank.{RunsIntoItself}
 use Rattle.definition.specs.Write.{Bytes}
 
@@ -177,8 +177,8 @@ LiteralRule v t (refused x) = SVRefused x
 pub record TheBook (s : State) : Type 0 where
   pub subtype_book : (l r : ℕ) (L R : MoveType) → Denotes s l L → Denotes s r R → BookType L → SubtypeRule BookSubtype s l r L R
   pub join_book : (l r : ℕ) (L R : MoveType) → Denotes s l L → Denotes s r R → BookType L → BookType R → JoinRule BookSubtype s l r L R
-  -- Integers: the type of a literal that nothing decides is taken to be u64, with the mark that core.rs gives it
-  pub literal : (v loc : ℕ) → num_loc s v ≡ Some loc → get s (forward_tvar s v) ≡ None → LiteralRule v (Apply (Some 7) (Builtin 3) []) (solve_constraints s)
+  -- Integers: the type of a literal that nothing decides is taken to be u64, with the mark that core.rs gives it; R-7: or wider, if it needs more than 64 bits
+  pub literal : (v loc : ℕ) → num_loc s v ≡ Some loc → get s (forward_tvar s v) ≡ None → LiteralRule v (default_of s v) (solve_constraints s)
   -- .. and that of a literal that is decided stays as it is
   pub decided_literal : (v loc : ℕ) (t : TypeValue) → (unfold_type s (record { loc = loc; value = Var v })).value ≡ t → is_integer t ≡ true → LiteralRule v t (solve_constraints s)
   -- Abilities: a type that does not run into itself has those that the Book gives it, and no others

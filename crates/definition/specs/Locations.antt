@@ -84,6 +84,7 @@ mark_fields =
     (82, 77, type ∷ [], []) ∷
     (67, 78, type ∷ [], []) ∷
     (88, 80, type ∷ [], type ∷ codes ∷ []) ∷
+    (78, 76, loc_field ++ (plain ∷ plain ∷ []), types ∷ []) ∷
     []
 
 unfoldable pub after_mark : List (ℕ × ℕ × List Part × List Part) → ℕ → ℕ → List Part × List Part

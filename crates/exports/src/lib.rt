@@ -12,9 +12,9 @@ use engine::{Lines, Unsound};
 // The header's PONGIWARU_VERSION, of this archive. Refused (must-fail/): the version before (version_before).
 #[unsafe(no_mangle)]
 pub extern "C" fn pongiwaru_version() -> u32
-    ensures { result ≡ 7 }
+    ensures { result ≡ 8 }
 {
-    7
+    8
 }
 
 // The header's PONGIWARU_LAYOUT, of this archive.

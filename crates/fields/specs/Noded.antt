@@ -56,6 +56,7 @@ pub data Looks : Type 0 where
 -- takes new rows at most
 pub data Adds : Type 0 where
   tvar num_tvar : ℕ → Adds
+  literal : ℕ → ℕ → Adds
   constrain : Constraint → Adds
   tell : Option Needs → Adds
 
@@ -117,6 +118,7 @@ shape (d.SD abilities params) = declares abilities params
 shape (d.FV loc) = loc_shape FV loc
 shape (d.NV loc) = loc_shape NV loc
 shape (d.SN v loc) = none (binds (set_num v loc))
+shape (d.NL loc bits) = none (adds (literal loc bits))
 shape (d.JN t1 t2) = two_shape JN t1 t2
 shape (d.SU t1 t2) = two_shape SU t1 t2
 shape (d.UF t) = look_shape UF t
@@ -169,6 +171,7 @@ look_of (l.TS ps t) = tparams (pairs_of ps) t
 
 abbrev pub add_of : Add → Adds
 add_of (a.Loc m loc) = loc_adds m loc
+add_of (a.NL loc bits) = literal loc bits
 add_of (a.NC loc kind t) = constrain (numeric_constraint (kind_of kind) loc t)
 add_of (a.LocType m loc t) = constrain (loc_type_constraint m loc t)
 add_of (a.RM c) = tell (needs_of c)

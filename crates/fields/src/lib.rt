@@ -5,12 +5,12 @@ ghost use Rattle.std.specs.Prelude.{◌≡◌, ℕ, ◌≤◌, length, IfOk};
 ghost use Rattle.definition.specs.Store.{taken};
 ghost use Rattle.definition.specs.Reader.{byte_to, times, read_one, read_two, read_three, name_below, read_u32};
 ghost use Rattle.definition.specs.Trees.{read_type};
-ghost use Rattle.definition.specs.Record.{SN, IN, NC, RM, XP, read_SD, read_kind};
+ghost use Rattle.definition.specs.Record.{SN, NL, IN, NC, RM, XP, read_SD, read_kind, read_bits};
 ghost use Rattle.table.specs.Did.{tables};
 ghost use Rattle.table.specs.declared.state.State.{State as Table};
 ghost use Rattle.heads.specs.Fields.{Arities};
 ghost use Rattle.marks.specs.Marks.{loc_record, look_record, two_record, loc_type_record};
-ghost use Rattle.cursor.specs.Words.{Within, read_as};
+ghost use Rattle.cursor.specs.Words.{Within, read, read_as};
 ghost use Rattle.constraints.specs.Solve.{kind_of};
 ghost use Rattle.fields.specs.Noded.{FieldsAre, params_of};
 
@@ -52,6 +52,7 @@ pub enum Look {
 #[derive(Clone, Copy)]
 pub enum Add {
     Loc(LocMark, u32),
+    NL(u32, u16),
     NC(u32, NumericKind, u32),
     LocType(LocTypeMark, u32, u32),
     RM(Option<Sums>),
@@ -151,6 +152,27 @@ pub fn read_loc(r: &mut Reader, m: LocMark) -> Result<Option<What>, Refusal>
 {
     let loc = r.u32()?;
     Ok(Some(What::Add(Add::Loc(m, loc))))
+}
+
+// How many bits, from 1 to 256: tested when both bytes are read.
+fn read_bits(r: &mut Reader) -> Result<u16, Refusal>
+    ensures is { read result r.new.left.now ≡ read_bits r.old.left.now }
+    ensures within { Within r.old.left.now r.new.left.now }
+{
+    let bits = r.u16()?;
+    match bits {
+        1..=256 => Ok(bits),
+        _ => Err(Refusal::Malformed),
+    }
+}
+
+pub fn read_nl(r: &mut Reader) -> Result<Option<What>, Refusal>
+    ensures is { (st : Table) (known : ℕ) → FieldsAre st known (λ s. read_two NL read_u32 read_bits r.old.left.now) st r.new.left.now result }
+    ensures within { Within r.old.left.now r.new.left.now }
+{
+    let loc = r.u32()?;
+    let bits = read_bits(r)?;
+    Ok(Some(What::Add(Add::NL(loc, bits))))
 }
 
 pub fn read_sn(r: &mut Reader, known: u32) -> Result<Option<What>, Refusal>

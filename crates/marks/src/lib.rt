@@ -50,6 +50,7 @@ pub enum RecordMark {
     SV,
     RM,
     XP,
+    NL,
     Loc(LocMark),
     Look(LookMark),
     Two(TwoMark),
@@ -60,7 +61,7 @@ pub enum RecordMark {
 #[derive(Clone, Copy)]
 struct Letters(u8, u8, RecordMark);
 
-const MARKS: [Letters; 17] = [
+const MARKS: [Letters; 18] = [
     Letters(b'S', b'D', RecordMark::SD),
     Letters(b'F', b'V', RecordMark::Loc(LocMark::FV)),
     Letters(b'N', b'V', RecordMark::Loc(LocMark::NV)),
@@ -78,6 +79,7 @@ const MARKS: [Letters; 17] = [
     Letters(b'R', b'M', RecordMark::RM),
     Letters(b'C', b'N', RecordMark::Look(LookMark::CN)),
     Letters(b'X', b'P', RecordMark::XP),
+    Letters(b'N', b'L', RecordMark::NL),
 ];
 
 // The mark that these letters are, if any. A loop over the definition's rows in their order: each step of its proof is a row that is passed.

@@ -5,12 +5,17 @@ use mathlib.Core.List.{List}
 use Rattle.std.specs.Prelude.{Option, None, Some, Ok, Err, if◌then◌else◌}
 use Rattle.std.specs.Prelude as core
 use Rattle.std.specs.Option.{option_or, is_some}
-use Prim.Native.Nat.{ℕ, ◌<◌}
+use Prim.Native.Nat.{ℕ, ◌<◌, ◌≤◌}
+use native.Mathlib.Omega.{arith}
+use native.Mathlib.Decide.{dec_lt}
+use borrow.Author.Tests.{le-leb, lt-leb}
+use Rattle.std.specs.Prelude.{max}
+use Rattle.std.proofs.Math.Nat.{max-eq_left, max-eq_right}
 use Rattle.definition.specs.Types as d
 use Rattle.definition.specs.Types.{Struct, Result, ok, err, ◌>>=◌}
-use Rattle.definition.specs.Store.{get, node, with_args, num_loc, insert, sp, next_tvar}
+use Rattle.definition.specs.Store.{get, node, with_args, num_loc, need_of, insert, with_need, sp, next_tvar}
 use Rattle.definition.specs.Subst.{is_anything, forward_tvar, set_num_var}
-use Rattle.definition.specs.Join.{type_of, merge_num, shown, join_bind_tvar, join_unbound}
+use Rattle.definition.specs.Join.{type_of, merge_num, larger, shown, join_bind_tvar, join_unbound}
 use Rattle.names.specs.declared.TVar.{TVar}
 use Rattle.subst.specs.Answers.{Binding, bound, Binds}
 use Rattle.subst.specs.declared.BindError.{BindError}
@@ -60,39 +65,46 @@ pub opens_ready : (s : State) (m : Merging) → m.ty1 < s.used.nodes → m.ty2 <
 unfolding opened
 opens_ready s m a b c = record { changed = became_now (λ ds k. refl); inside = (a, (b, c)) }
 
-open_is : (k : Inner) (s : d.State) (loc1 id1 loc2 id2 e1 e2 : ℕ) (num1 num2 : Option ℕ) → e1 ≡ forward_tvar s id1 → e2 ≡ forward_tvar s id2 → num1 ≡ num_loc s e1 → num2 ≡ num_loc s e2
-    → open_types k s loc1 e1 num1 loc2 e2 num2 ≡ open_tvar k s loc1 id1 loc2 id2
+open_is : (k : Inner) (s : d.State) (loc1 id1 loc2 id2 e1 e2 : ℕ) (num1 num2 : Option ℕ) (need1 need2 : ℕ) → e1 ≡ forward_tvar s id1 → e2 ≡ forward_tvar s id2 → num1 ≡ num_loc s e1 → num2 ≡ num_loc s e2
+    → need1 ≡ need_of s e1 → need2 ≡ need_of s e2 → open_types k s loc1 e1 num1 loc2 e2 num2 (larger need1 need2) ≡ open_tvar k s loc1 id1 loc2 id2
 unfolding open_tvar
-open_is k s loc1 id1 loc2 id2 e1 e2 num1 num2 p q a b = rw (a, b, p, q)
+open_is k s loc1 id1 loc2 id2 e1 e2 num1 num2 need1 need2 p q a b c d = rw (a, b, c, d, p, q)
 
 -- the ends e1 and e2 of both chains
-pub opens_ends : {s : State} (id1 id2 : ℕ) {e1 e2 : TVar} {n1 n2 : Option ℕ}
+pub opens_ends : {s : State} (id1 id2 : ℕ) {e1 e2 : TVar} {n1 n2 : Option ℕ} {need1 need2 : ℕ}
     → ((ds : List Struct) → e1.0 ≡ forward_tvar (held s ds) id1) → ((ds : List Struct) → e2.0 ≡ forward_tvar (held s ds) id2)
     → ((ds : List Struct) → n1 ≡ num_loc (held s ds) e1.0) → ((ds : List Struct) → n2 ≡ num_loc (held s ds) e2.0)
-    → {t : State} {r : core.Result Merging Stop} (loc1 loc2 : ℕ) → Opens s t r (λ x k. open_types k x loc1 e1.0 n1 loc2 e2.0 n2) → Opens s t r (λ x k. open_tvar k x loc1 id1 loc2 id2)
-opens_ends {s} id1 id2 {e1} {e2} {n1} {n2} p1 p2 q1 q2 loc1 loc2 o =
-    opens_is (λ ds k. open_is k (held s ds) loc1 id1 loc2 id2 e1.0 e2.0 n1 n2 (p1 ds) (p2 ds) (q1 ds) (q2 ds)) o
+    → ((ds : List Struct) → need1 ≡ need_of (held s ds) e1.0) → ((ds : List Struct) → need2 ≡ need_of (held s ds) e2.0)
+    → {t : State} {r : core.Result Merging Stop} (loc1 loc2 : ℕ) → Opens s t r (λ x k. open_types k x loc1 e1.0 n1 loc2 e2.0 n2 (larger need1 need2)) → Opens s t r (λ x k. open_tvar k x loc1 id1 loc2 id2)
+opens_ends {s} id1 id2 {e1} {e2} {n1} {n2} {need1} {need2} p1 p2 q1 q2 r1 r2 loc1 loc2 o =
+    opens_is (λ ds k. open_is k (held s ds) loc1 id1 loc2 id2 e1.0 e2.0 n1 n2 need1 need2 (p1 ds) (p2 ds) (q1 ds) (q2 ds) (r1 ds) (r2 ds)) o
 
 -- ---- the numeric mark of a merge
 
-num_some : (n1 n2 : Option ℕ) (nloc : ℕ) → option_or n2 n1 ≡ Some nloc → (s : d.State) (v : ℕ) → set_num_var s v nloc ≡ merge_num s n1 n2 v
+num_some : (n1 n2 : Option ℕ) (nloc need : ℕ) → option_or n2 n1 ≡ Some nloc → (s : d.State) (v : ℕ) → with_need (set_num_var s v nloc) v need ≡ merge_num s n1 n2 need v
 unfolding merge_num
-num_some n1 (Some x) nloc e s v = let z : nloc ≡ x = cc in ap (set_num_var s v) z
-num_some (Some y) None nloc e s v = let z : nloc ≡ y = cc in ap (set_num_var s v) z
-num_some None None nloc e s v = cc
+num_some n1 (Some x) nloc need e s v = let z : nloc ≡ x = cc in ap (λ (l : ℕ). with_need (set_num_var s v l) v need) z
+num_some (Some y) None nloc need e s v = let z : nloc ≡ y = cc in ap (λ (l : ℕ). with_need (set_num_var s v l) v need) z
+num_some None None nloc need e s v = cc
 
-num_none : (n1 n2 : Option ℕ) → option_or n2 n1 ≡ None → (s : d.State) (v : ℕ) → s ≡ merge_num s n1 n2 v
+num_none : (n1 n2 : Option ℕ) → option_or n2 n1 ≡ None → (s : d.State) (need v : ℕ) → s ≡ merge_num s n1 n2 need v
 unfolding merge_num
-num_none n1 (Some x) e s v = cc
-num_none (Some y) None e s v = cc
-num_none None None e s v = refl
+num_none n1 (Some x) e s need v = cc
+num_none (Some y) None e s need v = cc
+num_none None None e s need v = refl
 
-module _ {s : State} (n1 n2 : Option ℕ) (v : ℕ) {r : Option ℕ} (is : r ≡ option_or n2 n1) where
-  pub marks_some : {t : State} {nloc : ℕ} → r ≡ Some nloc → Kept s t (λ x. set_num_var x v nloc) → Kept s t (λ x. merge_num x n1 n2 v)
-  marks_some {nloc = nloc} e a = record { changed = became_is (λ ds k. num_some n1 n2 nloc (sym is ∙ e) (held s ds) v) a.changed; used = a.used }
+module _ {s : State} (n1 n2 : Option ℕ) (need v : ℕ) {r : Option ℕ} (is : r ≡ option_or n2 n1) where
+  pub marks_some : {m t : State} {nloc : ℕ} → r ≡ Some nloc → Kept s m (λ x. set_num_var x v nloc) → Kept m t (λ x. with_need x v need) → Kept s t (λ x. merge_num x n1 n2 need v)
+  marks_some {nloc = nloc} e a b =
+      record { changed = became_is (λ ds k. num_some n1 n2 nloc need (sym is ∙ e) (held s ds) v) (became_on (λ x. with_need x v need) a.changed b.changed); used = b.used ∙ a.used }
 
-  pub marks_none : r ≡ None → Kept s s (λ x. merge_num x n1 n2 v)
-  marks_none e = record { changed = became_now (λ ds k. num_none n1 n2 (sym is ∙ e) (held s ds) v); used = refl }
+  pub marks_none : r ≡ None → Kept s s (λ x. merge_num x n1 n2 need v)
+  marks_none e = record { changed = became_now (λ ds k. num_none n1 n2 (sym is ∙ e) (held s ds) need v); used = refl }
+
+-- the larger need, as u32's own `max` has it
+pub max_larger : (a b : ℕ) → max a b ≡ larger a b
+unfolding larger
+max_larger a b = elim (dec_lt b a) [ yes h ↦ rw (lt-leb a b h) (max-eq_left (omega arith)) | no h ↦ let g : a ≤ b = omega arith in rw (le-leb a b g) (max-eq_right g) ]
 
 -- ---- showing
 

@@ -4,9 +4,9 @@ use Rattle.std.specs.Prelude.{Option, None, Some, Ok, Err}
 use Rattle.std.specs.Prelude as core
 use Rattle.definition.specs.Types as d
 use Rattle.definition.specs.Types.{Result, ok, err, ◌>>=◌, RecursiveType}
-use Rattle.definition.specs.Store.{loc_of, get, num_loc, insert, sp, next_tvar}
+use Rattle.definition.specs.Store.{loc_of, get, num_loc, need_of, insert, sp, next_tvar}
 use Rattle.definition.specs.Subst.{forward_tvar}
-use Rattle.definition.specs.Join.{type_of, merge_num, shown, join_bind_tvar, join_unbound}
+use Rattle.definition.specs.Join.{type_of, merge_num, larger, shown, join_bind_tvar, join_unbound}
 use Rattle.names.specs.declared.TVar.{TVar}
 use Rattle.table.specs.State.{Any, outcome}
 use Rattle.table.specs.Did.{StopIn, Became}
@@ -19,25 +19,26 @@ use Rattle.merge.specs.declared.Merging.{Merging}
 abbrev pub Inner : Type 0
 Inner = d.State → ℕ → ℕ → ℕ → ℕ → Result (d.State × ℕ)
 
-unfoldable pub open_ends : Inner → d.State → ℕ → ℕ → Option ℕ → ℕ → ℕ → ℕ → Option ℕ → ℕ → Result (d.State × ℕ)
-open_ends inner subst loc1 last_id1 num_loc_1 ty1 loc2 last_id2 num_loc_2 ty2 = do
+unfoldable pub open_ends : Inner → d.State → ℕ → ℕ → Option ℕ → ℕ → ℕ → ℕ → Option ℕ → ℕ → ℕ → Result (d.State × ℕ)
+open_ends inner subst loc1 last_id1 num_loc_1 ty1 loc2 last_id2 num_loc_2 ty2 need = do
   (subst, new_tvar) ← next_tvar subst
-  (subst, var1) ← sp (merge_num subst num_loc_1 num_loc_2 new_tvar) loc1 (d.Var new_tvar)
+  (subst, var1) ← sp (merge_num subst num_loc_1 num_loc_2 need new_tvar) loc1 (d.Var new_tvar)
   (subst, var2) ← sp subst loc2 (d.Var new_tvar)
   inner (insert (insert subst last_id1 var1) last_id2 var2) ty1 ty2 new_tvar var2
 
 -- .. from the types of both ends on
-unfoldable pub open_types : Inner → d.State → ℕ → ℕ → Option ℕ → ℕ → ℕ → Option ℕ → Result (d.State × ℕ)
-open_types inner subst loc1 last_id1 num_loc_1 loc2 last_id2 num_loc_2 = do
+unfoldable pub open_types : Inner → d.State → ℕ → ℕ → Option ℕ → ℕ → ℕ → Option ℕ → ℕ → Result (d.State × ℕ)
+open_types inner subst loc1 last_id1 num_loc_1 loc2 last_id2 num_loc_2 need = do
   (subst, ty1) ← type_of subst loc1 last_id1
   (subst, ty2) ← type_of subst loc2 last_id2
-  open_ends inner subst loc1 last_id1 num_loc_1 ty1 loc2 last_id2 num_loc_2 ty2
+  open_ends inner subst loc1 last_id1 num_loc_1 ty1 loc2 last_id2 num_loc_2 ty2 need
 
 unfoldable pub open_tvar : Inner → d.State → ℕ → ℕ → ℕ → ℕ → Result (d.State × ℕ)
 open_tvar inner subst loc1 id1 loc2 id2 =
     open_types inner subst
     loc1 (forward_tvar subst id1) (num_loc subst (forward_tvar subst id1))
     loc2 (forward_tvar subst id2) (num_loc subst (forward_tvar subst id2))
+    (larger (need_of subst (forward_tvar subst id1)) (need_of subst (forward_tvar subst id2)))
 
 -- the merge, or what it ends with, given what follows
 unfoldable pub opened : core.Result Merging Stop → d.State → Inner → Result (d.State × ℕ)

@@ -3,7 +3,7 @@
 #![tactic(auto)]
 
 ghost use Rattle.std.specs.Prelude.{ℕ, ◌<◌};
-ghost use Rattle.definition.specs.Join.{type_of, merge_num, shown, join_unbound};
+ghost use Rattle.definition.specs.Join.{type_of, merge_num, larger, shown, join_unbound};
 ghost use Rattle.table.specs.Did.{Did, Kept, number_by};
 ghost use Rattle.merge.specs.Merge.{open_ends, open_tvar, show_both, close_tvar, meet_tvar, Opens, Meets};
 
@@ -16,12 +16,13 @@ use table::{Shape, TypingError};
 #[derive(Clone, Copy)]
 pub struct VarAt(pub u32, pub TVar);
 
-// The end of a chain that began with a variable at `loc`: the last variable, its numeric mark and its type.
+// The end of a chain that began with a variable at `loc`: the last variable, its numeric mark (location and need) and its type.
 #[derive(Clone, Copy)]
 struct End {
     loc: u32,
     last_id: TVar,
     num_loc: Option<u32>,
+    need: u32,
     ty: u32,
 }
 
@@ -44,22 +45,30 @@ fn type_of(st: &mut State<'_>, loc: u32, id: TVar) -> Result<u32, Stop>
     }
 }
 
-// The fresh variable is numeric if either end is; the second's location wins.
-fn merge_num(st: &mut State<'_>, num_loc_1: Option<u32>, num_loc_2: Option<u32>, new_tvar: TVar)
-    ensures { Kept st.old st.new (λ s. merge_num s num_loc_1 num_loc_2 new_tvar.0) }
+// The fresh variable is numeric if either end is, and needs so many bits; the second's location wins.
+fn merge_num(
+    st: &mut State<'_>,
+    num_loc_1: Option<u32>,
+    num_loc_2: Option<u32>,
+    need: u32,
+    new_tvar: TVar,
+)
+    ensures { Kept st.old st.new (λ s. merge_num s num_loc_1 num_loc_2 need new_tvar.0) }
 {
     if let Some(nloc) = num_loc_2.or(num_loc_1) {
         subst::set_num_var(st, new_tvar, nloc);
+        st.set_need(new_tvar, need);
     }
 }
 
-// Both ends are bound to a fresh variable.
+// Both ends are bound to a fresh variable, which needs what either does.
 fn open_ends(st: &mut State<'_>, e1: End, e2: End) -> Result<Merging, Stop>
     requires { (e1.ty < st.old.used.nodes) × (e2.ty < st.old.used.nodes) }
-    ensures { Opens st.old st.new result (λ s k. open_ends k s e1.loc e1.last_id.0 e1.num_loc e1.ty e2.loc e2.last_id.0 e2.num_loc e2.ty) }
+    ensures { Opens st.old st.new result (λ s k. open_ends k s e1.loc e1.last_id.0 e1.num_loc e1.ty e2.loc e2.last_id.0 e2.num_loc e2.ty (larger e1.need e2.need)) }
 {
     let new_tvar = st.take_var()?;
-    merge_num(st, e1.num_loc, e2.num_loc, new_tvar);
+    let need = e1.need.max(e2.need);
+    merge_num(st, e1.num_loc, e2.num_loc, need, new_tvar);
     let var1 = st.push_node(e1.loc, Shape::Var(new_tvar))?;
     let var2 = st.push_node(e2.loc, Shape::Var(new_tvar))?;
     st.bind_var(e1.last_id, var1);
@@ -80,18 +89,22 @@ pub fn open_tvar(st: &mut State<'_>, v1: VarAt, v2: VarAt) -> Result<Merging, St
     let last_id2 = subst::forward_tvar(st, v2.1);
     let num_loc_1 = st.num_loc_at(last_id1);
     let num_loc_2 = st.num_loc_at(last_id2);
+    let need1 = st.need_at(last_id1);
+    let need2 = st.need_at(last_id2);
     let ty1 = type_of(st, v1.0, last_id1)?;
     let ty2 = type_of(st, v2.0, last_id2)?;
     let e1 = End {
         loc: v1.0,
         last_id: last_id1,
         num_loc: num_loc_1,
+        need: need1,
         ty: ty1,
     };
     let e2 = End {
         loc: v2.0,
         last_id: last_id2,
         num_loc: num_loc_2,
+        need: need2,
         ty: ty2,
     };
     open_ends(st, e1, e2)

@@ -6,7 +6,7 @@ ghost use Rattle.std.specs.Prelude.{◌≡◌, ◌≤◌, ◌<◌, length};
 ghost use Rattle.definition.specs.Types.{Builtin};
 ghost use Rattle.definition.specs.Abilities.{has, builtin_abilities, requires};
 ghost use Rattle.definition.specs.Instantiate.{builtin_tparams};
-ghost use Rattle.definition.specs.Join.{is_numeric};
+ghost use Rattle.definition.specs.Join.{is_numeric, width};
 ghost use Rattle.definition.specs.Trees.{has_drop};
 
 pub const MAX_NODES: u32 = 2048;
@@ -28,6 +28,10 @@ pub const MAX_BUILTIN: u32 = 9;
 pub const SIGNER: u32 = 1;
 
 pub const U64: u32 = 3;
+
+pub const U128: u32 = 4;
+
+pub const U256: u32 = 9;
 
 pub const VECTOR: u32 = 5;
 
@@ -112,6 +116,22 @@ pub fn is_numeric(b: u32) -> bool
     ensures { result ≡ is_numeric (Builtin b) }
 {
     matches!(b, 2 | 3 | 4 | 7 | 8 | 9)
+}
+
+// Added (R-7): how many bits an integer type has.
+#[tactic(auto, unfolding(definition::specs::Join::width))]
+pub fn width(b: u32) -> u32
+    ensures { result ≡ width b }
+{
+    match b {
+        2 => 8,
+        7 => 16,
+        8 => 32,
+        U64 => 64,
+        U128 => 128,
+        U256 => 256,
+        _ => 0,
+    }
 }
 
 // AbilitySet::has_ability_. An ability is its bit: a type of the four would ask more of callers, who may pass any number but 0.

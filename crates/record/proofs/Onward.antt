@@ -12,7 +12,7 @@ use Rattle.definition.specs.Store.{taken}
 use Rattle.definition.specs.Write.{Bytes}
 use Rattle.definition.specs.Reader.{Read, got, not_read, Reader, give, refuse, go_on, ◌>>=◌, byte, read_u16, read_u32, byte_if, byte_to, read_bool, name_below, times, read_one, read_two, read_three}
 use Rattle.definition.specs.Trees.{Tree, unit_tree, anything_tree, error_tree, ref_tree, param_tree, var_tree, is_set, is_name, read_trees, mark_of, read_mark, mark_fits, arity, under_ref, read_apply, by_tag, read_nested, read_type}
-use Rattle.definition.specs.Record.{Record, read_kind, read_SD, read_pair, read_TS, by_mark, fields_of, read_fields}
+use Rattle.definition.specs.Record.{Record, read_kind, read_bits, read_SD, read_pair, read_TS, by_mark, fields_of, read_fields}
 
 -- what is left is l without some bytes in front
 pub data Onward (l : Bytes) {A : Type 0} : Read A → Type 0 where
@@ -171,6 +171,10 @@ module _ (s : State) where
   unfolding read_kind
   goes_kind = goes_one _ (byte_to 2) (goes_byte_if _)
 
+  goes_bits : Goes read_bits
+  unfolding read_bits
+  goes_bits = goes_then read_u16 _ goes_u16 (λ n. goes_if (leb 1 n && leb n 256) (goes_give n) (goes_refuse malformed))
+
   goes_SD : Goes (read_SD s)
   unfolding read_SD
   goes_SD = goes_then (byte_if _) _ (goes_byte_if _) (λ a. goes_then (byte_if _) _ (goes_byte_if _) (λ n. goes_then (times n (byte_if _)) _ (goes_times n (byte_if _) (goes_byte_if _)) (λ ps. goes_give _)))
@@ -222,7 +226,7 @@ module _ (s : State) where
                             goes_two _ read_u32 (read_type s) goes_u32 goes_type,
                             (
                               goes_give _,
-                              (goes_one _ (read_type s) goes_type, (goes_one _ (read_type s) goes_type, (goes_one _ (read_type s) goes_type, tt))),
+                              (goes_one _ (read_type s) goes_type, (goes_one _ (read_type s) goes_type, (goes_one _ (read_type s) goes_type, (goes_two _ read_u32 read_bits goes_u32 goes_bits, tt)))),
                             ),
                           ),
                         ),

@@ -13,8 +13,8 @@ ghost use Rattle.fields.specs.Noded.{FieldsAre, RecordIs};
 
 use cursor::Reader;
 use fields::{
-    Fields, Look, Pairs, What, read_in, read_loc, read_loc_type, read_look, read_nc, read_rm,
-    read_sd, read_sn, read_two, read_xp,
+    Fields, Look, Pairs, What, read_in, read_loc, read_loc_type, read_look, read_nc, read_nl,
+    read_rm, read_sd, read_sn, read_two, read_xp,
 };
 use marks::{RecordMark, mark_of};
 use names::TParamID;
@@ -86,6 +86,7 @@ fn fields_of(
         RecordMark::SV => Ok(Some(What::SV)),
         RecordMark::RM => read_rm(st, r, known),
         RecordMark::XP => read_xp(st, r, known),
+        RecordMark::NL => read_nl(r),
         RecordMark::Loc(m) => read_loc(r, m),
         RecordMark::Look(m) => read_look(st, r, known, m),
         RecordMark::Two(m) => read_two(st, r, known, m),

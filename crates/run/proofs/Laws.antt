@@ -10,7 +10,7 @@ use lib.Dec.{ltb, ltb→lt}
 use lib.ListN.{length, set, replicate, length-replicate}
 use Rattle.definition.specs.Types as d
 use Rattle.definition.specs.Types.{Struct, Result, ok, err, refused, ◌>>=◌, max_structs, full, parameter_twice, Spanned, TypeValue}
-use Rattle.definition.specs.Store.{spanned, next_tvar, add_constraint, declare}
+use Rattle.definition.specs.Store.{spanned, with_need, next_tvar, add_constraint, declare}
 use Rattle.definition.specs.Subst.{set_num_var}
 use Rattle.definition.specs.Join as j
 use Rattle.definition.specs.Join.{join, subtype}
@@ -26,7 +26,7 @@ use Rattle.refusals.specs.declared.Refusal.TheVariants.{OpenVariable, ParameterT
 use Rattle.table.specs.declared.state.State.{State}
 use Rattle.table.specs.declared.state.Stop.{Stop}
 use Rattle.table.specs.declared.state.Stop.TheVariants.{Failed, Refused}
-use Rattle.table.proofs.Did.{stop_in, err_is, became_now, became_is, became_as, became_number, did_is}
+use Rattle.table.proofs.Did.{stop_in, err_is, became_now, became_is, became_on, became_as, became_number, did_is}
 use Rattle.table.proofs.Steps.{NoError}
 use Rattle.table.proofs.States.{plain_if}
 use Rattle.marks.specs.declared.TwoMark.{TwoMark}
@@ -45,7 +45,7 @@ use Rattle.definition.specs.Needs.{write_needs}
 use Rattle.needs.specs.Counted.{needs_of}
 use Rattle.needs.specs.declared.Sums.{Sums}
 use Rattle.definition.specs.Step.{tell}
-use Rattle.run.specs.Runs.{join_in, two_run, unfold_run, subst_in, tparams_run, instantiate_run, tvar_run, num_tvar_in, num_tvar_run, set_num_in, set_num_run, constraint_run, needs_run, declare_run, Runs, TakenIn, TakesVar, with_row, Declared}
+use Rattle.run.specs.Runs.{join_in, two_run, unfold_run, subst_in, tparams_run, instantiate_run, tvar_run, marked_in, marked_run, needing, set_num_in, set_num_run, constraint_run, needs_run, declare_run, Runs, TakenIn, TakesVar, with_row, Declared}
 
 -- ---- what an answer tells
 
@@ -148,7 +148,7 @@ module _ {s : State} where
   unfolding subst_in tparams_run outcome ◌>>=◌
   ran_twice ps t m e = ran_now (Err (Refused ParameterTwice)) Node false _ _ tt (λ ds. rw (← m) refl) (λ ds before. rw (← m) refl) e
 
--- ---- IN, FV, NV: what follows their step
+-- ---- IN, FV, NV, NL: what follows their step
 
 instantiate_follows : (t : ℕ) (s before : d.State) → (instantiate s t >>= shows true Node before) ≡ instantiate_run t s before
 unfolding instantiate_run shown
@@ -158,18 +158,22 @@ tvar_follows : (loc : ℕ) (s before : d.State) → (next_tvar s >>= shows true 
 unfolding tvar_run shown
 tvar_follows loc s before = refl
 
-abbrev mark : ℕ → d.State × ℕ → Result (d.State × ℕ)
-mark loc x = ok (set_num_var x.0 x.1 loc, x.1)
+-- the marking of a new variable
+abbrev Mark : Type 0
+Mark = d.State → ℕ → d.State
 
-in_is : (loc : ℕ) (s : d.State) → (next_tvar s >>= mark loc) ≡ num_tvar_in loc s
-unfolding num_tvar_in
-in_is loc s = refl
+abbrev then_mark : Mark → d.State × ℕ → Result (d.State × ℕ)
+then_mark mark x = ok (mark x.0 x.1, x.1)
 
-num_follows : (loc : ℕ) (s before : d.State) → (num_tvar_in loc s >>= shows true (Variable loc) before) ≡ num_tvar_run loc s before
-unfolding num_tvar_in num_tvar_run ◌>>=◌ shown
-num_follows loc s before = go (next_tvar s)
+in_is : (mark : Mark) (s : d.State) → (next_tvar s >>= then_mark mark) ≡ marked_in mark s
+unfolding marked_in
+in_is mark s = refl
+
+marked_follows : (mark : Mark) (loc : ℕ) (s before : d.State) → (marked_in mark s >>= shows true (Variable loc) before) ≡ marked_run mark loc s before
+unfolding marked_in marked_run ◌>>=◌ shown
+marked_follows mark loc s before = go (next_tvar s)
   where
-    go : (m : Result (d.State × ℕ)) → ((m >>= mark loc) >>= shows true (Variable loc) before) ≡ (m >>= (λ x. ok (set_num_var x.0 x.1 loc, head loc (d.Var x.1))))
+    go : (m : Result (d.State × ℕ)) → ((m >>= then_mark mark) >>= shows true (Variable loc) before) ≡ (m >>= (λ x. ok (mark x.0 x.1, head loc (d.Var x.1))))
     go (ok x) = refl
     go (err s e) = refl
     go (refused x) = refl
@@ -190,13 +194,17 @@ module _ {s t : State} {a : core.Result ℕ Stop} where
   pub ran_instantiate : (K : List Struct → Type 0) (ty : ℕ) → DidFor K s t a (λ s. instantiate s ty) → {r : Ran} → r ≡ as_run a Node true → Runs K s t r true (λ s. instantiate s ty) (instantiate_run ty)
   ran_instantiate K ty c e = run_after _ _ true (instantiate_follows ty) c e
 
-  -- ---- FV, NV
+  -- ---- FV, NV, NL
 
   pub ran_tvar : (loc : ℕ) → TakesVar s t a (λ s. next_tvar s) → {r : Ran} → r ≡ as_run a (Variable loc) true → Runs Any s t r true (λ s. next_tvar s) (tvar_run loc)
   ran_tvar loc c e = run_changed a _ _ (Variable loc) true (tvar_follows loc) c.changed (tells_var t.used loc a c.inside) e
 
-  pub ran_num_tvar : (loc : ℕ) → TakesVar s t a (num_tvar_in loc) → {r : Ran} → r ≡ as_run a (Variable loc) true → Runs Any s t r true (num_tvar_in loc) (num_tvar_run loc)
-  ran_num_tvar loc c e = run_changed a _ _ (Variable loc) true (num_follows loc) c.changed (tells_var t.used loc a c.inside) e
+  pub ran_marked : (mark : Mark) (loc : ℕ) → TakesVar s t a (marked_in mark) → {r : Ran} → r ≡ as_run a (Variable loc) true → Runs Any s t r true (marked_in mark) (marked_run mark loc)
+  ran_marked mark loc c e = run_changed a _ _ (Variable loc) true (marked_follows mark loc) c.changed (tells_var t.used loc a c.inside) e
+
+-- a mark, then its need
+pub literal_kept : {s m t : State} (v loc : ℕ) {n bits : ℕ} → Kept s m (λ s. set_num_var s v loc) → Kept m t (λ s. with_need s v n) → n ≡ bits → Kept s t (λ s. needing loc bits s v)
+literal_kept v loc {n = n} a b e = rw (← e) (record { changed = became_on (λ s. with_need s v n) a.changed b.changed; used = b.used ∙ a.used })
 
 module _ {s t : State} where
   -- none is left
@@ -206,15 +214,15 @@ module _ {s t : State} where
   pub took_tvar : {v : TVar} {n : ℕ} → Took s t (Ok v) (λ s. next_tvar s) → n ≡ v.0 → TakesVar s t (Ok n) (λ s. next_tvar s)
   took_tvar c q = rw q (record { changed = c.changed; inside = c.inside })
 
-  module _ (loc : ℕ) where
-    pub no_num_tvar : {e : Stop} {r : core.Result ℕ Stop} → Took s t (Err e) (λ s. next_tvar s) → r ≡ Err e → TakesVar s t r (num_tvar_in loc)
-    no_num_tvar {e} c q = rw q (record { changed = became_is (λ ds k. in_is loc (held s ds)) (became_as (λ m. m >>= mark loc) c.changed (λ x. err_is e x (mark loc))); inside = c.inside })
+  module _ (mark : Mark) where
+    pub none_marked : {e : Stop} {r : core.Result ℕ Stop} → Took s t (Err e) (λ s. next_tvar s) → r ≡ Err e → TakesVar s t r (marked_in mark)
+    none_marked {e} c q = rw q (record { changed = became_is (λ ds k. in_is mark (held s ds)) (became_as (λ m. m >>= then_mark mark) c.changed (λ x. err_is e x (then_mark mark))); inside = c.inside })
 
-    pub took_num_tvar : {v : TVar} {t' : State} {n : ℕ} → Took s t (Ok v) (λ s. next_tvar s) → Kept t t' (λ s. set_num_var s v.0 loc) → n ≡ v.0 → TakesVar s t' (Ok n) (num_tvar_in loc)
+    pub took_marked : {v : TVar} {t' : State} {n : ℕ} → Took s t (Ok v) (λ s. next_tvar s) → Kept t t' (λ s. mark s v.0) → n ≡ v.0 → TakesVar s t' (Ok n) (marked_in mark)
     unfolding outcome ◌>>=◌
-    took_num_tvar {v} {t'} c m q = rw q
+    took_marked {v} {t'} c m q = rw q
         (record {
-          changed = became_is (λ ds k. in_is loc (held s ds)) (became_number (λ m. m >>= mark loc) c.changed (became_as (λ x. ok (x, v.0)) m.changed (λ x. refl)));
+          changed = became_is (λ ds k. in_is mark (held s ds)) (became_number (λ m. m >>= then_mark mark) c.changed (became_as (λ x. ok (x, v.0)) m.changed (λ x. refl)));
           inside = rw m.used c.inside;
         })
 

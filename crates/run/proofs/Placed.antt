@@ -15,7 +15,7 @@ use Rattle.theorems.proofs.DemandOrder.{All}
 use Rattle.theorems.proofs.SoundRanges.{StructIn}
 use Rattle.theorems.proofs.SoundRead.{TreeIn, RecordIn}
 use Rattle.fields.specs.Noded.{Run, Noded, expand, run, Shape, declares, solves, expands, none, one, both, after_pairs, shape, place, place_record}
-use Rattle.run.specs.Runs.{join_in, two_run, unfold_run, ready_run, tparams_run, instantiate_run, tvar_run, num_tvar_run, set_num_run, constraint_run, needs_run, declare_run}
+use Rattle.run.specs.Runs.{join_in, two_run, unfold_run, ready_run, tparams_run, instantiate_run, tvar_run, marked_run, set_num_run, constraint_run, needs_run, declare_run}
 use Rattle.run.specs.Dispatch.{expand_run, run_of, noded_run}
 
 -- ---- mark by mark
@@ -41,11 +41,12 @@ ShapeIn s (after_pairs ps t f) = All (λ (p : ℕ × Tree). TreeIn s p.1) ps × 
 
 -- the definition's run is the shape's, and what was read well is of a good shape
 by_record : (s : State) (x : Record) → (definition.run s x ≡ run_shape (shape x) s) × (RecordIn s x → ShapeIn s (shape x))
-unfolding definition.run constrain two_types run_of join_in two_run unfold_run ready_run spelled tparams_run instantiate_run tvar_run num_tvar_run set_num_run constraint_run needs_run declare_run
+unfolding definition.run constrain two_types run_of join_in two_run unfold_run ready_run spelled tparams_run instantiate_run tvar_run marked_run set_num_run constraint_run needs_run declare_run
 by_record s (d.SD abilities params) = (refl, λ g. g)
 by_record s (d.FV loc) = (refl, λ g. tt)
 by_record s (d.NV loc) = (refl, λ g. tt)
 by_record s (d.SN v loc) = (refl, λ g. tt)
+by_record s (d.NL loc bits) = (refl, λ g. tt)
 by_record s (d.JN t1 t2) = (refl, λ g. g)
 by_record s (d.SU t1 t2) = (refl, λ g. g)
 by_record s (d.UF t) = (refl, λ g. g)

@@ -10,9 +10,9 @@ use Rattle.definition.specs.Constraints.{solve_constraints}
 use Rattle.definition.specs.Expand.{expand_type}
 use Rattle.table.specs.State.{outcome, pushed_constraint}
 use Rattle.table.specs.declared.state.State.{State}
-use Rattle.fields.specs.Noded.{set_num, two, instantiate, unfolded, ready, tparams, tvar, num_tvar, constrain, tell, Run, binds, looks, adds, Noded, declare, solve, expand, run}
+use Rattle.fields.specs.Noded.{set_num, two, instantiate, unfolded, ready, tparams, tvar, num_tvar, literal, constrain, tell, Run, binds, looks, adds, Noded, declare, solve, expand, run}
 use Rattle.answer.specs.declared.Ran.{Ran}
-use Rattle.run.specs.Runs.{join_in, two_run, unfold_run, ready_run, subst_in, tparams_run, instantiate_run, tvar_run, num_tvar_in, num_tvar_run, set_num_in, set_num_run, constraint_run, needs_run, declare_run, Runs}
+use Rattle.run.specs.Runs.{join_in, two_run, unfold_run, ready_run, subst_in, tparams_run, instantiate_run, tvar_run, marked_in, marked_run, numeric, needing, set_num_in, set_num_run, constraint_run, needs_run, declare_run, Runs}
 
 -- s has the types placed, `before` is the state at entry
 unfoldable pub run_of : Run → d.State → d.State → Result (d.State × Bytes)
@@ -23,7 +23,8 @@ run_of (looks (unfolded t)) s before = unfold_run t s before
 run_of (looks (ready how t)) s before = ready_run how t s before
 run_of (looks (tparams pairs t)) s before = tparams_run pairs t s before
 run_of (adds (tvar loc)) s before = tvar_run loc s before
-run_of (adds (num_tvar loc)) s before = num_tvar_run loc s before
+run_of (adds (num_tvar loc)) s before = marked_run (numeric loc) loc s before
+run_of (adds (literal loc bits)) s before = marked_run (needing loc bits) loc s before
 run_of (adds (constrain c)) s before = constraint_run c s before
 run_of (adds (tell n)) s before = needs_run n s before
 
@@ -48,7 +49,8 @@ step_of r (looks (unfolded t)) s = outcome r.result s
 step_of r (looks (ready how t)) s = ready_tvars s t
 step_of r (looks (tparams pairs t)) s = subst_in pairs t s
 step_of r (adds (tvar loc)) s = next_tvar s
-step_of r (adds (num_tvar loc)) s = num_tvar_in loc s
+step_of r (adds (num_tvar loc)) s = marked_in (numeric loc) s
+step_of r (adds (literal loc bits)) s = marked_in (needing loc bits) s
 step_of r (adds (constrain c)) s = pushed_constraint c s
 step_of r (adds (tell n)) s = outcome r.result s
 

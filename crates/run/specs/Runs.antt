@@ -4,7 +4,7 @@ use Rattle.std.specs.Prelude.{◌≡◌, Bool, true, List, [], length, set, Opti
 use Prim.Native.Nat.{ℕ}
 use Rattle.definition.specs.Types as d
 use Rattle.definition.specs.Types.{Struct, Result, ok, ◌>>=◌}
-use Rattle.definition.specs.Store.{spanned, next_tvar, add_constraint, declare}
+use Rattle.definition.specs.Store.{spanned, with_need, next_tvar, add_constraint, declare}
 use Rattle.definition.specs.Subst.{set_num_var, unfold_type, ready_tvars}
 use Rattle.definition.specs.Join as j
 use Rattle.definition.specs.Join.{join, subtype}
@@ -68,16 +68,24 @@ tvar_run loc s before = do
   (s, v) ← next_tvar s
   ok (s, head loc (d.Var v))
 
-unfoldable pub num_tvar_in : ℕ → d.State → Result (d.State × ℕ)
-num_tvar_in loc s = do
+-- a new variable, that `mark` marks
+unfoldable pub marked_in : (d.State → ℕ → d.State) → d.State → Result (d.State × ℕ)
+marked_in mark s = do
   (s, v) ← next_tvar s
-  ok (set_num_var s v loc, v)
+  ok (mark s v, v)
+
+unfoldable pub marked_run : (d.State → ℕ → d.State) → ℕ → d.State → d.State → Result (d.State × Bytes)
+marked_run mark loc s before = do
+  (s, v) ← next_tvar s
+  ok (mark s v, head loc (d.Var v))
 
 -- NV
-unfoldable pub num_tvar_run : ℕ → d.State → d.State → Result (d.State × Bytes)
-num_tvar_run loc s before = do
-  (s, v) ← next_tvar s
-  ok (set_num_var s v loc, head loc (d.Var v))
+abbrev pub numeric : ℕ → d.State → ℕ → d.State
+numeric loc s v = set_num_var s v loc
+
+-- NL
+abbrev pub needing : ℕ → ℕ → d.State → ℕ → d.State
+needing loc bits s v = with_need (set_num_var s v loc) v bits
 
 unfoldable pub set_num_in : ℕ → ℕ → d.State → Result (d.State × ℕ)
 set_num_in v loc s = ok (set_num_var s v loc, 0)

@@ -11,7 +11,7 @@ ghost use Rattle.table.specs.Did.{zero_of};
 ghost use Rattle.table.specs.declared.state.State.{State};
 ghost use Rattle.table.specs.Known.{Known};
 ghost use Rattle.constraints.specs.Solve.{kind_of};
-ghost use Rattle.run.specs.Runs.{join_in, two_run, instantiate_run, tvar_run, num_tvar_in, num_tvar_run, set_num_in, set_num_run, constraint_run, needs_run, Runs, TakesVar, with_row, Declared};
+ghost use Rattle.run.specs.Runs.{join_in, two_run, instantiate_run, tvar_run, marked_in, marked_run, numeric, needing, set_num_in, set_num_run, constraint_run, needs_run, Runs, TakesVar, with_row, Declared};
 ghost use Rattle.fields.specs.Noded.{two_case, loc_type_constraint, unfolded, tparams, binds, looks, adds, pairs_of, bind_of, add_of, BindIn};
 ghost use Rattle.payload.specs.declared.Show.TheVariants.{Nothing};
 ghost use Rattle.run.specs.Dispatch.{RanAs};
@@ -109,7 +109,7 @@ pub fn run_tvar(st: &mut State<'_>, loc: u32) -> Ran
 
 // A new variable, marked numeric.
 fn take_num_tvar(st: &mut State<'_>, loc: u32) -> Result<u32, Stop>
-    ensures { TakesVar st.old st.new result (num_tvar_in loc) }
+    ensures { TakesVar st.old st.new result (marked_in (numeric loc)) }
 {
     let v = st.take_var()?;
     subst::set_num_var(st, v, loc);
@@ -118,9 +118,26 @@ fn take_num_tvar(st: &mut State<'_>, loc: u32) -> Result<u32, Stop>
 
 // NV
 pub fn run_num_tvar(st: &mut State<'_>, loc: u32) -> Ran
-    ensures { Runs Any st.old st.new result true (num_tvar_in loc) (num_tvar_run loc) }
+    ensures { Runs Any st.old st.new result true (marked_in (numeric loc)) (marked_run (numeric loc) loc) }
 {
     shown(take_num_tvar(st, loc), Show::Variable(loc), true)
+}
+
+// A new variable, marked numeric, that needs so many bits.
+fn take_literal(st: &mut State<'_>, loc: u32, bits: u16) -> Result<u32, Stop>
+    ensures { TakesVar st.old st.new result (marked_in (needing loc bits)) }
+{
+    let v = st.take_var()?;
+    subst::set_num_var(st, v, loc);
+    st.set_need(v, u32::from(bits));
+    Ok(u32::from(v))
+}
+
+// NL
+pub fn run_literal(st: &mut State<'_>, loc: u32, bits: u16) -> Ran
+    ensures { Runs Any st.old st.new result true (marked_in (needing loc bits)) (marked_run (needing loc bits) loc) }
+{
+    shown(take_literal(st, loc, bits), Show::Variable(loc), true)
 }
 
 // SN: a variable marked numeric.
@@ -203,6 +220,7 @@ pub fn run_add(st: &mut State<'_>, what: Add) -> Ran
             LocMark::FV => run_tvar(st, loc),
             LocMark::NV => run_num_tvar(st, loc),
         },
+        Add::NL(loc, bits) => run_literal(st, loc, bits),
         Add::NC(loc, kind, t) => run_numeric(st, kind, loc, t),
         Add::LocType(m, loc, t) => run_loc_type(st, m, loc, t),
         Add::RM(sums) => run_needs(sums),

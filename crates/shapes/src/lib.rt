@@ -6,7 +6,7 @@ ghost use Rattle.std.specs.Prelude.{◌≡◌, List, ℕ, ◌<◌, get_or};
 ghost use Rattle.definition.specs.Types as d;
 ghost use Rattle.definition.specs.Store.{with_args};
 ghost use Rattle.definition.specs.Subst.{as_var, is_anything, parts};
-ghost use Rattle.definition.specs.Join.{is_numeric, num_shape, is_var};
+ghost use Rattle.definition.specs.Join.{is_numeric, fits, num_shape, is_var};
 ghost use Rattle.definition.specs.Constraints.{undecided, is_integer};
 ghost use Rattle.names.specs.Names.{name_of};
 ghost use Rattle.table.specs.State.{shape_of};
@@ -59,12 +59,22 @@ pub fn is_integer(s: Shape) -> bool
     matches!(s, Shape::Apply(a) if is_numeric(a.n))
 }
 
-// A type that is no variable: what a numeric variable takes.
-pub fn num_shape(s: Shape) -> bool
-    ensures { (st : d.State) → result ≡ num_shape (with_args st (shape_of s)) }
+// An integer type that has so many bits.
+fn fits(need: u32, n: TypeName) -> bool
+    ensures { result ≡ fits need (name_of n) }
+{
+    match n {
+        TypeName::Builtin(b) => names::is_numeric(b) && need <= names::width(b),
+        _ => false,
+    }
+}
+
+// A type that is no variable: what a numeric variable takes that needs so many bits.
+pub fn num_shape(need: u32, s: Shape) -> bool
+    ensures { (st : d.State) → result ≡ num_shape need (with_args st (shape_of s)) }
 {
     match s {
-        Shape::Apply(a) => is_numeric(a.n),
+        Shape::Apply(a) => fits(need, a.n),
         _ => undecided(s),
     }
 }

@@ -1,4 +1,4 @@
-// SV: solve_constraints. Numeric variables that nothing decides become u64, the failures are the payload, and no constraint stays.
+// SV: solve_constraints. Numeric variables that nothing decides become u64 or wider, the failures are the payload, and no constraint stays.
 // Changed from the source that NOTICE names: ported to Rattle.
 #![tactic(auto)]
 

@@ -72,7 +72,7 @@ shape_read s few loc UnresolvedError e = refl
 
 cell_read : (c : Cell) → read_cell (cell_words c) ≡ c
 unfolding read_cell cell_words
-cell_read c = ap₂ (λ (b n : Option ℕ). record { binding = b; numeric = n }) (option_read c.binding) (option_read c.numeric)
+cell_read c = ap₂ (λ (b n : Option ℕ). record { binding = b; numeric = n; need = c.need }) (option_read c.binding) (option_read c.numeric)
 
 constraint_back : (s : State) (c : Constraint) → constraint_allowed s c ≡ true → read_constraint (constraint_words c) ≡ c
 unfolding read_constraint constraint_words constraint_allowed

@@ -13,14 +13,14 @@ use Rattle.std.specs.Prelude.{if◌then◌else◌}
 use Rattle.definition.specs.Types.{Struct, Node}
 use Rattle.definition.specs.Store.{count, type_at, with_args, with_structs}
 use Rattle.definition.specs.Subst.{is_anything}
-use Rattle.definition.specs.Sound.{is_u32, at_node, constraint_allowed, binding_allowed, numeric_allowed, no_anything}
+use Rattle.definition.specs.Sound.{is_u32, at_node, constraint_allowed, binding_allowed, numeric_allowed, need_allowed, no_anything}
 use Rattle.definition.specs.Trees.{is_set}
 use Rattle.table.specs.Rows.{read_option, option_flag, option_word, read_shape, read_constraint, constraint_words, node_table}
 use Rattle.table.specs.State.{view, seen}
 use Rattle.table.specs.declared.Used.{Used}
 use Rattle.table.proofs.Rows.{length_entries}
 use Rattle.table.proofs.Fields.{node_made}
-use Rattle.sound_fields.specs.Fields.{numeric_fine}
+use Rattle.sound_fields.specs.Fields.{numeric_fine, need_fine}
 use Rattle.sound_rows.specs.Rows.{binding_fine}
 use Rattle.sound_fields.proofs.Below.{and_l, and_r, both, when_false}
 use Rattle.sound.proofs.Fields.{Tag, tag_of, t0, t1, t2, t3, t4, t5, t6, t7, t8, beyond, mod_back, set_mod, set_was}
@@ -76,6 +76,16 @@ numeric_u32 is x h = by (eqb is 1)
     by : (t : Bool) → numeric_allowed (if t then Some x else None) ≡ true
     by true = h
     by false = refl
+
+-- a need is tested as the definition allows it
+pub need_same : (is x need : ℕ) → Back is x → need_fine is need ≡ need_allowed (read_option is x) need
+unfolding need_fine need_allowed read_option
+need_same is x need b = by is (flag_is is) b
+  where
+    by : (is : ℕ) → Flag is → Back is x → need_fine is need ≡ need_allowed (read_option is x) need
+    by _ off b = refl
+    by _ on b = refl
+    by n (over _ h) b = absurd (omega (arith, sym (over_flag n x h) ∙ b.flag))
 
 module _ (w : List ℕ) (u : Used) (ds : List Struct) where
   pub nodes_count : count (seen w u ds) ≡ u.nodes

@@ -12,10 +12,10 @@ use lib.ListN.{length, get_or, length-replicate, get_or-eq_default}
 use lib.Seq.{ext_get_or}
 use borrow.Author.Tests.{leb-true, eqb-true, lt-ltb, le-ltb, le-leb, eq-eqb}
 use Rattle.definition.specs.Types.{State, Struct, Node, Constraint, unbound, max_nodes, max_args, max_vars, max_constraints, max_structs}
-use Rattle.definition.specs.Store.{nowhere, count, taken, node, get, num_loc, with_args, with_structs, all_of}
+use Rattle.definition.specs.Store.{nowhere, count, taken, node, get, num_loc, need_of, with_args, with_structs, all_of}
 use Rattle.definition.specs.Subst.{parts}
 use Rattle.definition.specs.Sound as sd
-use Rattle.definition.specs.Sound.{sound, counts_fit, smaller_than, is_u32, node_allowed, binding_allowed, numeric_allowed, cell_allowed, constraint_allowed, struct_allowed, fields_allowed, no_anything, no_binding_anything, chain_ends, chains_end}
+use Rattle.definition.specs.Sound.{sound, counts_fit, smaller_than, is_u32, node_allowed, binding_allowed, numeric_allowed, need_allowed, cell_allowed, constraint_allowed, struct_allowed, fields_allowed, no_anything, no_binding_anything, chain_ends, chains_end}
 use Rattle.definition.specs.Trees.{is_set}
 use Rattle.theorems.proofs.SoundFacts.{of_each, at_place}
 use Rattle.table.specs.Tab.{tab}
@@ -25,10 +25,10 @@ use Rattle.table.specs.State.{view, seen}
 use Rattle.table.specs.declared.Used.{Used}
 use Rattle.table.proofs.Tab.{length_tab, getD_tab, getD_tab_out}
 use Rattle.table.proofs.Rows.{length_entries}
-use Rattle.table.proofs.Fields.{node_row, var_row, constraint_row, struct_row, arg_row, node_made, get_read, num_read, constraint_read}
+use Rattle.table.proofs.Fields.{node_row, var_row, constraint_row, struct_row, arg_row, node_made, get_read, num_read, need_read, constraint_read}
 use Rattle.table.specs.Encode.{counts as count_words, encode as encode_words}
 use Rattle.sound.specs.Lent.{used_of, bytes_at, struct_of, structs_of, decode, encode_params, same_words, same_rows, lent_sound, LentSound}
-use Rattle.sound_fields.specs.Fields.{all_below, byte_fine, numeric_fine}
+use Rattle.sound_fields.specs.Fields.{all_below, byte_fine, numeric_fine, need_fine}
 use Rattle.sound_rows.specs.Rows.{Sized, struct_fine, node_fine, cell_fine, binding_fine, constraint_fine}
 use Rattle.sound_tables.specs.Tables.{counts_fine, zeros, tails_fine, params_at, bytes_fine, tables_fine}
 use Rattle.sound.specs.Chains.{chain_fine}
@@ -38,7 +38,7 @@ use Rattle.sound.proofs.Fields.{tag_of, mod_back, set_mod, set_was}
 use Rattle.sound.proofs.Encode.{Rows, Holds, encoded, holds}
 use Rattle.sound.proofs.Rows.{rows_from, used_row, past_row, tail_rows, rows_tail}
 use Rattle.sound.proofs.Shapes.{each_of, Good, good, fine, args_count, vars_count}
-use Rattle.sound.proofs.Rowwise.{Back, numeric_good, numeric_was, numeric_u32, nodes_count, BindingGood, binding_good, binding_was, ConstraintGood, kind_fine, constraint_good, constraint_was}
+use Rattle.sound.proofs.Rowwise.{Back, numeric_good, numeric_was, numeric_u32, need_same, nodes_count, BindingGood, binding_good, binding_was, ConstraintGood, kind_fine, constraint_good, constraint_was}
 use Rattle.sound.proofs.Chains.{chain_is}
 
 -- every test of the code passes
@@ -173,17 +173,17 @@ module _ (w : List ℕ) (p : List (List ℕ)) (u : Used) (z : Sized w u) (small 
     node_good t lt = good w u ds _ z.vars (counted w p u) t _ _ _ _ _ (tag_of (get_or w (5 + t * 6) 0)) (u32 _) (all_at u.nodes (node_fine w u) h.tables.nodes t lt)
 
     abbrev CellAt : ℕ → Type 0
-    CellAt v = BindingGood w u ds (get_or w (16389 + v * 5) 0) (get_or w (16389 + v * 5 + 1) 0) × (Back (get_or w (16389 + v * 5 + 2) 0) (get_or w (16389 + v * 5 + 3) 0) × (get_or w (16389 + v * 5 + 4) 0 ≡ 0))
+    CellAt v = BindingGood w u ds (get_or w (16389 + v * 5) 0) (get_or w (16389 + v * 5 + 1) 0) × (Back (get_or w (16389 + v * 5 + 2) 0) (get_or w (16389 + v * 5 + 3) 0) × (need_fine (get_or w (16389 + v * 5 + 2) 0) (get_or w (16389 + v * 5 + 4) 0) ≡ true))
 
     cell_good : (v : ℕ) → v < u.vars → CellAt v
     unfolding cell_fine
     cell_good v lt =
         let e = all_at u.vars (cell_fine w u) h.tables.cells v lt in
-        let e2 = and_l (binding_fine w u (get_or w (16389 + v * 5) 0) (get_or w (16389 + v * 5 + 1) 0) && numeric_fine (get_or w (16389 + v * 5 + 2) 0) (get_or w (16389 + v * 5 + 3) 0)) (eqb (get_or w (16389 + v * 5 + 4) 0) 0) e in (
+        let e2 = and_l (binding_fine w u (get_or w (16389 + v * 5) 0) (get_or w (16389 + v * 5 + 1) 0) && numeric_fine (get_or w (16389 + v * 5 + 2) 0) (get_or w (16389 + v * 5 + 3) 0)) (need_fine (get_or w (16389 + v * 5 + 2) 0) (get_or w (16389 + v * 5 + 4) 0)) e in (
           binding_good w u ds _ _ (and_l (binding_fine w u (get_or w (16389 + v * 5) 0) (get_or w (16389 + v * 5 + 1) 0)) (numeric_fine (get_or w (16389 + v * 5 + 2) 0) (get_or w (16389 + v * 5 + 3) 0)) e2),
           (
             numeric_good _ _ (and_r (binding_fine w u (get_or w (16389 + v * 5) 0) (get_or w (16389 + v * 5 + 1) 0)) (numeric_fine (get_or w (16389 + v * 5 + 2) 0) (get_or w (16389 + v * 5 + 3) 0)) e2),
-            eqb-true _ 0 (and_r (binding_fine w u (get_or w (16389 + v * 5) 0) (get_or w (16389 + v * 5 + 1) 0) && numeric_fine (get_or w (16389 + v * 5 + 2) 0) (get_or w (16389 + v * 5 + 3) 0)) (eqb (get_or w (16389 + v * 5 + 4) 0) 0) e),
+            and_r (binding_fine w u (get_or w (16389 + v * 5) 0) (get_or w (16389 + v * 5 + 1) 0) && numeric_fine (get_or w (16389 + v * 5 + 2) 0) (get_or w (16389 + v * 5 + 3) 0)) (need_fine (get_or w (16389 + v * 5 + 2) 0) (get_or w (16389 + v * 5 + 4) 0)) e,
           ),
         )
 
@@ -214,7 +214,7 @@ module _ (w : List ℕ) (p : List (List ℕ)) (u : Used) (z : Sized w u) (small 
     var_rows : Rows var_table w (entries var_table w u.vars)
     unfolding cell_words read_cell
     var_rows = rows_from var_table w u.vars
-        (λ v lt. let g = cell_good v lt in ap (λ (r : List ℕ). cell_words (read_cell r)) (var_row w v) ∙ cc (g.0.back.flag, g.0.back.word, g.1.0.flag, g.1.0.word, g.1.1) ∙ sym (var_row w v))
+        (λ v lt. let g = cell_good v lt in ap (λ (r : List ℕ). cell_words (read_cell r)) (var_row w v) ∙ cc (g.0.back.flag, g.0.back.word, g.1.0.flag, g.1.0.word) ∙ sym (var_row w v))
         (λ i p q. tail_rows var_table w u.vars (tails_are w u h.tables.tails).t_vars i p q ∙ blank_var)
 
     constraint_rows : Rows constraint_table w (entries constraint_table w u.constraints)
@@ -301,10 +301,12 @@ module _ (w : List ℕ) (p : List (List ℕ)) (u : Used) (z : Sized w u) (small 
         ap (λ (n : Node). node_allowed S n) (node_is t lt) ∙ both _ _ (u32 _) (node_good t lt).allowed)
 
     sound_cells : all_of (λ c. cell_allowed S c) S.vars ≡ true
-    unfolding cell_allowed get num_loc
+    unfolding cell_allowed get num_loc need_of
     sound_cells = each_of (λ c. cell_allowed S c) unbound S.vars (λ v a.
         let lt : v < u.vars = omega (arith, cells_count) in
-        both _ _ (ap (λ (o : Option ℕ). binding_allowed S o) (get_read w u ds v lt) ∙ (cell_good v lt).0.allowed) (ap (λ (o : Option ℕ). numeric_allowed o) (num_read w u ds v lt) ∙ numeric_u32 _ _ (u32 _)))
+        both _ _
+        (both _ _ (ap (λ (o : Option ℕ). binding_allowed S o) (get_read w u ds v lt) ∙ (cell_good v lt).0.allowed) (ap (λ (o : Option ℕ). numeric_allowed o) (num_read w u ds v lt) ∙ numeric_u32 _ _ (u32 _)))
+        (ap₂ (λ (o : Option ℕ) (n : ℕ). need_allowed o n) (num_read w u ds v lt) (need_read w u ds v lt) ∙ sym (need_same _ _ _ (cell_good v lt).1.0) ∙ (cell_good v lt).1.1))
 
     sound_constraints : all_of (λ c. constraint_allowed S c) S.constraints ≡ true
     sound_constraints = each_of (λ c. constraint_allowed S c) constraint_table.blank S.constraints (λ i a.
@@ -402,16 +404,15 @@ module _ (w : List ℕ) (p : List (List ℕ)) (u : Used) (z : Sized w u) (small 
     record CellWords (v : ℕ) : Type 0 where
       pub binding : Back (get_or w (16389 + v * 5) 0) (get_or w (16389 + v * 5 + 1) 0)
       pub numeric : Back (get_or w (16389 + v * 5 + 2) 0) (get_or w (16389 + v * 5 + 3) 0)
-      pub spare : get_or w (16389 + v * 5 + 4) 0 ≡ 0
 
     cell_back : (v : ℕ) → v < u.vars → CellWords v
     unfolding cell_words read_cell
     cell_back v lt =
         let e = ap (λ (r : List ℕ). cell_words (read_cell r)) (sym (var_row w v)) ∙ used_row var_table w u.vars v_rows z.vars v lt ∙ var_row w v in
-        record { binding = record { flag = cc; word = cc }; numeric = record { flag = cc; word = cc }; spare = cc }
+        record { binding = record { flag = cc; word = cc }; numeric = record { flag = cc; word = cc } }
 
     cell_was : (v : ℕ) → v < u.vars → cell_fine w u v ≡ true
-    unfolding cell_fine cell_allowed no_binding_anything get
+    unfolding cell_fine cell_allowed no_binding_anything get num_loc need_of
     cell_was v lt =
         let a : v < length S.vars = omega (arith, cells_count) in
         let c = cell_back v lt in
@@ -420,11 +421,13 @@ module _ (w : List ℕ) (p : List (List ℕ)) (u : Used) (z : Sized w u) (small 
         both _ _ (both _ _
         (binding_was w u ds _ _ (record {
           back = c.binding;
-          allowed = ap (λ (o : Option ℕ). binding_allowed S o) (sym (get_read w u ds v lt)) ∙ and_l _ (numeric_allowed (get_or S.vars v unbound).numeric) al;
+          allowed = ap (λ (o : Option ℕ). binding_allowed S o) (sym (get_read w u ds v lt)) ∙ and_l _ (numeric_allowed (get_or S.vars v unbound).numeric) (and_l _ (need_allowed (get_or S.vars v unbound).numeric (get_or S.vars v unbound).need) al);
           knows = ap (λ (o : Option ℕ). no_anything S o) (sym (get_read w u ds v lt)) ∙ kn;
         }))
         (numeric_was _ _ c.numeric))
-        (eq-eqb _ 0 c.spare)
+        (need_same _ _ _ c.numeric
+        ∙ sym (ap₂ (λ (o : Option ℕ) (n : ℕ). need_allowed o n) (num_read w u ds v lt) (need_read w u ds v lt))
+        ∙ and_r _ (need_allowed (get_or S.vars v unbound).numeric (get_or S.vars v unbound).need) al)
 
     list_was : (i : ℕ) → i < u.constraints → constraint_fine w u i ≡ true
     unfolding constraint_fine kind_fine

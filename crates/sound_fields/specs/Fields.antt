@@ -45,3 +45,6 @@ fits_fine tag a b = if eqb tag 3 then (if is_numeric (Builtin b) then has_drop (
 
 unfoldable pub numeric_fine : ℕ → ℕ → Bool
 numeric_fine is x = if eqb is 0 then eqb x 0 else eqb is 1
+
+unfoldable pub need_fine : ℕ → ℕ → Bool
+need_fine is need = if eqb is 0 then eqb need 0 else leb need 256

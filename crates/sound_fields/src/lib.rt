@@ -5,7 +5,7 @@
 ghost use Rattle.std.specs.Prelude.{◌≡◌, ◌<◌, eqb};
 ghost use Rattle.definition.specs.Trees.{has_drop};
 ghost use Rattle.table.specs.Rows.{read_mark};
-ghost use Rattle.sound_fields.specs.Fields.{all_below, byte_fine, four_zeros, ref_fine, param_fine, var_fine, mark_fine, name_fine, fits_fine, numeric_fine};
+ghost use Rattle.sound_fields.specs.Fields.{all_below, byte_fine, four_zeros, ref_fine, param_fine, var_fine, mark_fine, name_fine, fits_fine, numeric_fine, need_fine};
 
 use names::{AbilitySet, MAX_BUILTIN, has_drop, is_numeric};
 use table::{NodeWords, Used};
@@ -106,4 +106,12 @@ pub fn numeric_fine(is: u32, x: u32) -> bool
     ensures { result ≡ numeric_fine is x }
 {
     if is == 0 { x == 0 } else { is == 1 }
+}
+
+// Without a mark nothing is needed, with one up to 256 bits.
+#[tactic(auto, unfolding(crate::specs::Fields::need_fine))]
+pub fn need_fine(is: u32, need: u32) -> bool
+    ensures { result ≡ need_fine is need }
+{
+    if is == 0 { need == 0 } else { need <= 256 }
 }

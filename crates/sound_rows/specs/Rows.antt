@@ -1,7 +1,7 @@
 -- The test of each row, word by word. Assumes nothing: these are definitions.
 use Rattle.std.specs.Prelude.{◌≡◌, Bool, not, ◌&&◌, List, ℕ, ◌+◌, ◌*◌, ◌≤◌, eqb, ltb, leb, length, get_or, if◌then◌else◌}
 use Rattle.table.specs.declared.Used.{Used}
-use Rattle.sound_fields.specs.Fields.{all_below, four_zeros, ref_fine, param_fine, var_fine, mark_fine, name_fine, fits_fine, numeric_fine}
+use Rattle.sound_fields.specs.Fields.{all_below, four_zeros, ref_fine, param_fine, var_fine, mark_fine, name_fine, fits_fine, numeric_fine, need_fine}
 
 -- as many words as the layout has, and no more rows in use than each table has
 pub record Sized (w : List ℕ) (u : Used) : Type 0 where
@@ -49,7 +49,7 @@ unfoldable pub cell_fine : List ℕ → Used → ℕ → Bool
 cell_fine w u v =
     binding_fine w u (get_or w (16389 + v * 5) 0) (get_or w (16389 + v * 5 + 1) 0)
     && numeric_fine (get_or w (16389 + v * 5 + 2) 0) (get_or w (16389 + v * 5 + 3) 0)
-    && eqb (get_or w (16389 + v * 5 + 4) 0) 0
+    && need_fine (get_or w (16389 + v * 5 + 2) 0) (get_or w (16389 + v * 5 + 4) 0)
 
 -- ---- constraints
 

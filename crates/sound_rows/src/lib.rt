@@ -7,7 +7,8 @@ ghost use Rattle.sound_rows.specs.Rows.{Sized, struct_fine, args_fine, part_fine
 
 use names::VECTOR;
 use sound_fields::{
-    fits_fine, four_zeros, mark_fine, name_fine, numeric_fine, param_fine, ref_fine, var_fine,
+    fits_fine, four_zeros, mark_fine, name_fine, need_fine, numeric_fine, param_fine, ref_fine,
+    var_fine,
 };
 use table::{
     ARGS_AT, NodeWords, Used, cell_words_at, constraint_words_at, node_words_at, struct_words_at,
@@ -110,7 +111,9 @@ impl Lent<'_> {
         ensures { result ≡ cell_fine self.now.words.now self.now.used v }
     {
         let c = cell_words_at(self.words, v);
-        self.binding_fine(c.bound, c.binding) && numeric_fine(c.numeric, c.loc) && c.spare == 0
+        self.binding_fine(c.bound, c.binding)
+            && numeric_fine(c.numeric, c.loc)
+            && need_fine(c.numeric, c.need)
     }
 
     // ---- constraints

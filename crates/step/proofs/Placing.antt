@@ -116,6 +116,7 @@ module _ (s s' : State) (n : Noded) where
     placed_tree (d.FV loc) e = not_spelled _ refl e
     placed_tree (d.NV loc) e = not_spelled _ refl e
     placed_tree (d.SN v loc) e = not_spelled _ refl e
+    placed_tree (d.NL loc bits) e = not_spelled _ refl e
     placed_tree (d.JN t1 t2) e = not_spelled _ (more is_spelled (build t1 s) t2 _ (λ a b. refl)) e
     placed_tree (d.SU t1 t2) e = not_spelled _ (more is_spelled (build t1 s) t2 _ (λ a b. refl)) e
     placed_tree (d.UF t) e = not_spelled _ (last is_spelled (build t s) (λ u. run (looks (unfolded u))) (λ a. refl)) e

@@ -10,7 +10,7 @@ use native.Mathlib.Numerals.{sub-one}
 use native.Mathlib.Omega.{arith}
 use Rattle.definition.specs.Types as d
 use Rattle.definition.specs.Types.{Struct, ok, err, RecursiveType}
-use Rattle.definition.specs.Store.{node, with_args, type_at, get, num_loc, insert}
+use Rattle.definition.specs.Store.{node, with_args, type_at, get, num_loc, need_of, insert}
 use Rattle.definition.specs.Subst.{as_var, is_anything, next_in, next_of, forward, forward_tvar}
 use Rattle.definition.specs.Join.{is_num_var, num_shape, check_num_tvar', check_num_tvar, used, join_bind_tvar}
 use Rattle.table.specs.State.{shape_of, node_of}
@@ -87,33 +87,34 @@ pub is_num : (s : d.State) (v : ℕ) (f : Option ℕ) → f ≡ num_loc s v → 
 unfolding is_num_var
 is_num s v f e = ap (λ (o : Option ℕ). elim o [ None ↦ false | Some loc ↦ true ]) e
 
-module _ (s : d.State) (ty : ℕ) where
-  pub num_plain : as_var (type_at s ty) ≡ None → num_shape (type_at s ty) ≡ check_num_tvar' s ty
+module _ (s : d.State) (need ty : ℕ) where
+  pub num_plain : as_var (type_at s ty) ≡ None → num_shape need (type_at s ty) ≡ check_num_tvar' s need ty
   unfolding check_num_tvar'
   num_plain e = rw (e, check_num_tvar') refl
 
   module _ (v : ℕ) (e : as_var (type_at s ty) ≡ Some v) where
-    open_end : get s (forward_tvar s v) ≡ None → is_num_var s (forward_tvar s v) ≡ check_num_tvar' s ty
+    open_end : get s (forward_tvar s v) ≡ None → is_num_var s (forward_tvar s v) ≡ check_num_tvar' s need ty
     unfolding check_num_tvar'
     open_end g = rw (e, check_num_tvar') (rw (g, check_num_tvar') refl)
 
-    bound_end : (t : ℕ) → get s (forward_tvar s v) ≡ Some t → num_shape (type_at s t) ≡ check_num_tvar' s ty
+    bound_end : (t : ℕ) → get s (forward_tvar s v) ≡ Some t → num_shape need (type_at s t) ≡ check_num_tvar' s need ty
     unfolding check_num_tvar'
     bound_end t g = rw (e, check_num_tvar') (rw (g, check_num_tvar') refl)
 
-    pub num_open : (last : ℕ) → last ≡ forward_tvar s v → get s last ≡ None → is_num_var s last ≡ check_num_tvar' s ty
+    pub num_open : (last : ℕ) → last ≡ forward_tvar s v → get s last ≡ None → is_num_var s last ≡ check_num_tvar' s need ty
     num_open last l g = ap (is_num_var s) l ∙ open_end (sym (ap (get s) l) ∙ g)
 
-    pub num_bound : (last t : ℕ) → last ≡ forward_tvar s v → get s last ≡ Some t → num_shape (type_at s t) ≡ check_num_tvar' s ty
+    pub num_bound : (last t : ℕ) → last ≡ forward_tvar s v → get s last ≡ Some t → num_shape need (type_at s t) ≡ check_num_tvar' s need ty
     num_bound last t l g = bound_end t (sym (ap (get s) l) ∙ g)
 
-  pub num_marked : (v : ℕ) → is_num_var s v ≡ true → check_num_tvar' s ty ≡ check_num_tvar s v ty
+module _ (s : d.State) (v ty : ℕ) where
+  pub num_marked : (need : ℕ) → need ≡ need_of s v → is_num_var s v ≡ true → check_num_tvar' s need ty ≡ check_num_tvar s v ty
   unfolding check_num_tvar
-  num_marked v e = rw e refl
+  num_marked need n e = rw (n, e) refl
 
-  pub num_any : (v : ℕ) → is_num_var s v ≡ false → true ≡ check_num_tvar s v ty
+  pub num_any : is_num_var s v ≡ false → true ≡ check_num_tvar s v ty
   unfolding check_num_tvar
-  num_any v e = rw e refl
+  num_any e = rw e refl
 
 -- ---- binding
 

@@ -110,34 +110,34 @@ fn is_num_var(st: &State<'_>, v: TVar) -> bool
     st.num_loc_at(v).is_some()
 }
 
-fn num_node(st: &State<'_>, t: u32) -> bool
-    ensures { (ds : List d.Struct) → result ≡ num_shape (type_at (held st.now ds) t) }
+fn num_node(st: &State<'_>, need: u32, t: u32) -> bool
+    ensures { (ds : List d.Struct) → result ≡ num_shape need (type_at (held st.now ds) t) }
 {
-    shapes::num_shape(st.node_at(t).shape)
+    shapes::num_shape(need, st.node_at(t).shape)
 }
 
-// check_num_tvar_: a variable is followed to its end first.
-fn check_num_type(st: &State<'_>, ty: u32) -> bool
-    ensures { (ds : List d.Struct) → result ≡ check_num_tvar' (held st.now ds) ty }
+// check_num_tvar_, of a type with so many bits: a variable is followed to its end first.
+fn check_num_type(st: &State<'_>, need: u32, ty: u32) -> bool
+    ensures { (ds : List d.Struct) → result ≡ check_num_tvar' (held st.now ds) need ty }
 {
     let n = st.node_at(ty);
     match shapes::as_var(n.shape) {
-        None => shapes::num_shape(n.shape),
+        None => shapes::num_shape(need, n.shape),
         Some(v) => {
             let last = forward_tvar(st, v);
             match st.bound_at(last) {
                 None => is_num_var(st, last),
-                Some(t) => num_node(st, t),
+                Some(t) => num_node(st, need, t),
             }
         }
     }
 }
 
-// A variable without a numeric mark takes any type.
+// A variable without a numeric mark takes any type, one with a mark an integer type that has the bits it needs.
 pub fn check_num_tvar(st: &State<'_>, tvar: TVar, ty: u32) -> bool
     ensures { (ds : List d.Struct) → result ≡ check_num_tvar (held st.now ds) tvar.0 ty }
 {
-    !is_num_var(st, tvar) || check_num_type(st, ty)
+    !is_num_var(st, tvar) || check_num_type(st, st.need_at(tvar), ty)
 }
 
 // ---- the occurs walk

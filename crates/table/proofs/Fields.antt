@@ -7,7 +7,7 @@ use native.Mathlib.Omega.{arith}
 use lib.ListN.{length, get_or, drop, replicate, length-replicate, get_or-eq_default}
 use lib.Seq.{get_or-take, get_or-drop}
 use Rattle.definition.specs.Types.{Struct, Shape, Places, Cell, unbound}
-use Rattle.definition.specs.Store.{nowhere, node, get, num_loc, args_at, with_structs}
+use Rattle.definition.specs.Store.{nowhere, node, get, num_loc, need_of, args_at, with_structs}
 use Rattle.table.specs.Tab.{tab}
 use Rattle.table.specs.Rows.{words_at, row, entries, places, read_shape, read_option, read_node, read_arg, read_cell, read_constraint, read_struct, node_table, arg_table, var_table, constraint_table, struct_table}
 use Rattle.table.specs.State.{node_words_at, view, seen, Declares}
@@ -56,7 +56,7 @@ module _ (w : List ℕ) (u : Used) where
   pub arg_beyond : (ds : List Struct) (first many i : ℕ) → i < many → u.args ≤ first + i → get_or (args_at (seen w u ds) (places first many)) i 0 ≡ 0
   arg_beyond ds first many i h le = args_of_places ds first many i h ∙ entry_out arg_table w u.args (first + i) 0 le
 
-  cell_read : (v : ℕ) → v < u.vars → get_or (entries var_table w u.vars) v unbound ≡ record { binding = read_option (get_or w (16389 + v * 5) 0) (get_or w (16389 + v * 5 + 1) 0); numeric = read_option (get_or w (16389 + v * 5 + 2) 0) (get_or w (16389 + v * 5 + 3) 0) }
+  cell_read : (v : ℕ) → v < u.vars → get_or (entries var_table w u.vars) v unbound ≡ record { binding = read_option (get_or w (16389 + v * 5) 0) (get_or w (16389 + v * 5 + 1) 0); numeric = read_option (get_or w (16389 + v * 5 + 2) 0) (get_or w (16389 + v * 5 + 3) 0); need = get_or w (16389 + v * 5 + 4) 0 }
   unfolding read_cell
   cell_read v h = entry_at var_table w u.vars v unbound h ∙ ap read_cell (var_row w v)
 
@@ -75,6 +75,14 @@ module _ (w : List ℕ) (u : Used) where
   pub num_beyond : (ds : List Struct) (v : ℕ) → u.vars ≤ v → num_loc (seen w u ds) v ≡ None
   unfolding num_loc seen view with_structs
   num_beyond ds v h = ap (λ (c : Cell). c.numeric) (entry_out var_table w u.vars v unbound h)
+
+  pub need_read : (ds : List Struct) (v : ℕ) → v < u.vars → need_of (seen w u ds) v ≡ get_or w (16389 + v * 5 + 4) 0
+  unfolding need_of seen view with_structs
+  need_read ds v h = ap (λ (c : Cell). c.need) (cell_read v h)
+
+  pub need_beyond : (ds : List Struct) (v : ℕ) → u.vars ≤ v → need_of (seen w u ds) v ≡ 0
+  unfolding need_of seen view with_structs
+  need_beyond ds v h = ap (λ (c : Cell). c.need) (entry_out var_table w u.vars v unbound h)
 
   pub constraint_read : (ds : List Struct) (i : ℕ) → i < u.constraints
       → get_or (seen w u ds).constraints i constraint_table.blank ≡ read_constraint (get_or w (21509 + i * 4) 0 ∷ get_or w (21509 + i * 4 + 1) 0 ∷ get_or w (21509 + i * 4 + 2) 0 ∷ get_or w (21509 + i * 4 + 3) 0 ∷ [])

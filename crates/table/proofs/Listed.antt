@@ -66,8 +66,8 @@ module _ (tag a b c k : ℕ) where
   unfolding read_shape inner_or
   inner_word =
       either b (eqb tag 0) d.UnitType from_1 refl (either b (eqb tag 1) (d.Ref (eqb a 1) b) from_2 refl (either b (eqb tag 2) (d.Param a (b % 256)) from_3 refl
-          (either b (ltb tag 6) (d.Apply (read_mark a) (read_name tag b) (places c k)) from_6 refl (either b (eqb tag 6) (d.Var (a % 65536)) from_7 refl
-              (either b (eqb tag 7) d.Anything d.UnresolvedError refl refl)))))
+      (either b (ltb tag 6) (d.Apply (read_mark a) (read_name tag b) (places c k)) from_6 refl (either b (eqb tag 6) (d.Var (a % 65536)) from_7 refl
+      (either b (eqb tag 7) d.Anything d.UnresolvedError refl refl)))))
 
 module _ (w : List ℕ) (u : Used) (t : ℕ) (n : Node) (lay : Lay w u) (in_use : t < u.nodes) (node_is : (ds : List Struct) → node_of n ≡ node (seen w u ds) t) where
   -- the type is what its shape is

@@ -1,5 +1,5 @@
 -- The primitives' last steps: what they wrote is what the definition says. `at` and the like are numbers as indices. Assumes nothing.
-use mathlib.Core.Path.{◌≡◌, refl, sym, ap, ◌∙◌, subst}
+use mathlib.Core.Path.{◌≡◌, refl, sym, ap, ap₂, ◌∙◌, subst}
 use mathlib.Core.List.{List, [], ◌++◌}
 use Rattle.std.specs.Prelude.{Option, Some, None, unwrap_or}
 use Rattle.std.proofs.lemmas.Option.{none-some, same_Some}
@@ -8,7 +8,7 @@ use native.Mathlib.Omega.{arith}
 use lib.ListN.{length, get_or, take, length-append}
 use lib.Seq.{length-take-le, get_or-take, get_or-append-add}
 use Rattle.definition.specs.Types as d
-use Rattle.definition.specs.Store.{args_of, stored, sp, insert, get, num_loc, with_structs}
+use Rattle.definition.specs.Store.{args_of, stored, sp, insert, with_need, get, num_loc, need_of, with_structs}
 use Rattle.definition.specs.Subst.{mark_one, or_insert}
 use Rattle.names.specs.Names.{mark_of, name_of}
 use Rattle.names.specs.declared.AbilitySet.{AbilitySet}
@@ -118,21 +118,27 @@ unfolding seen with_structs get
 bound_in w u v None h e = tt
 bound_in w u v (Some t) h e = subst (λ (n : ℕ). t < n) (count_view w u) (h.inside.bindings v t (sym (e [])))
 
--- insert and mark_one are this store, at what the state says of the variable
-pub insert_cell : (w : List ℕ) (u : Used) (v t : ℕ) (m : Option ℕ) (w' : List ℕ) → ((ds : List d.Struct) → m ≡ num_loc (seen w u ds) v) → Stored w u w' (with_cell v (Some t) m) → Stored w u w' (λ s. insert s v t)
+-- insert, with_need and mark_one are this store, at what the state says of the variable
+pub insert_cell : (w : List ℕ) (u : Used) (v t : ℕ) (m : Option ℕ) (n : ℕ) (w' : List ℕ) → ((ds : List d.Struct) → m ≡ num_loc (seen w u ds) v) → ((ds : List d.Struct) → n ≡ need_of (seen w u ds) v)
+    → Stored w u w' (with_cell v (Some t) m n) → Stored w u w' (λ s. insert s v t)
 unfolding insert with_cell
-insert_cell w u v t m w' e a = refines_is (λ ds k. ap (λ (x : Option ℕ). with_cell v (Some t) x (seen w u ds)) (e ds)) a
+insert_cell w u v t m n w' e f a = refines_is (λ ds k. ap₂ (λ (x : Option ℕ) (y : ℕ). with_cell v (Some t) x y (seen w u ds)) (e ds) (f ds)) a
+
+pub need_cell : (w : List ℕ) (u : Used) (v n : ℕ) (b m : Option ℕ) (w' : List ℕ) → ((ds : List d.Struct) → b ≡ get (seen w u ds) v) → ((ds : List d.Struct) → m ≡ num_loc (seen w u ds) v)
+    → Stored w u w' (with_cell v b m n) → Stored w u w' (λ s. with_need s v n)
+unfolding with_need with_cell
+need_cell w u v n b m w' e f a = refines_is (λ ds k. ap₂ (λ (x y : Option ℕ). with_cell v x y n (seen w u ds)) (e ds) (f ds)) a
 
 or_insert_is : (o : Option ℕ) (x : ℕ) → unwrap_or o x ≡ or_insert o x
 unfolding or_insert
 or_insert_is None x = refl
 or_insert_is (Some y) x = refl
 
-pub mark_cell : (w : List ℕ) (u : Used) (v loc l : ℕ) (b m : Option ℕ) (w' : List ℕ) → ((ds : List d.Struct) → b ≡ get (seen w u ds) v) → ((ds : List d.Struct) → m ≡ num_loc (seen w u ds) v) → l ≡ unwrap_or m loc
-    → Stored w u w' (with_cell v b (Some l)) → Stored w u w' (λ s. mark_one s v loc)
+pub mark_cell : (w : List ℕ) (u : Used) (v loc l : ℕ) (b m : Option ℕ) (n : ℕ) (w' : List ℕ) → ((ds : List d.Struct) → b ≡ get (seen w u ds) v) → ((ds : List d.Struct) → m ≡ num_loc (seen w u ds) v) → ((ds : List d.Struct) → n ≡ need_of (seen w u ds) v) → l ≡ unwrap_or m loc
+    → Stored w u w' (with_cell v b (Some l) n) → Stored w u w' (λ s. mark_one s v loc)
 unfolding mark_one with_cell
-mark_cell w u v loc l b m w' e f g a =
+mark_cell w u v loc l b m n w' e f g' g a =
     refines_is
-    (λ ds k. ap (λ (x : Option ℕ). with_cell v x (Some l) (seen w u ds)) (e ds)
-    ∙ ap (λ (x : ℕ). with_cell v (get (seen w u ds) v) (Some x) (seen w u ds)) (g ∙ or_insert_is m loc ∙ ap (λ (x : Option ℕ). or_insert x loc) (f ds)))
+    (λ ds k. ap₂ (λ (x : Option ℕ) (y : ℕ). with_cell v x (Some l) y (seen w u ds)) (e ds) (g' ds)
+    ∙ ap (λ (x : ℕ). with_cell v (get (seen w u ds) v) (Some x) (need_of (seen w u ds) v) (seen w u ds)) (g ∙ or_insert_is m loc ∙ ap (λ (x : Option ℕ). or_insert x loc) (f ds)))
     a

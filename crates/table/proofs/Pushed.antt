@@ -11,7 +11,7 @@ use lib.Seq.{ext_get_or, get_or-append-add, get_or-take, length-take-le, set_out
 use Rattle.definition.specs.Types.{State, Struct, Shape, Places, Node, TypeValue, Cell, unbound, Constraint, ok}
 use Rattle.definition.specs.Store.{count, taken, with_vars, with_var, with_constraints, with_structs, with_node, args_of, stored, sp, next_tvar, declare}
 use Rattle.table.specs.Rows.{row, entries, Clean, Written, arg_words, read_arg, node_table, arg_table, var_table, constraint_table, struct_table}
-use Rattle.table.specs.State.{view, seen, Below, Inside, Lay, Grown, Wrote, Changed, After, Stored, Declared, VarIn, one_var, outcome, with_cell, pushed_constraint}
+use Rattle.table.specs.State.{view, seen, Below, Inside, Lay, Grown, Wrote, Changed, After, Stored, Declared, VarIn, one_var, outcome, cell, with_cell, pushed_constraint}
 use Rattle.table.specs.declared.Used.{Used}
 use Rattle.refusals.specs.declared.Refusal.TheVariants.{Full}
 use Rattle.table.proofs.Rows.{length_entries, entry_at, entry_out, Same, same_entries, same_clean, apart, Put, put_row, put_push, put_push_clean, put_blank, put_set, put_set_clean}
@@ -241,27 +241,27 @@ module _ (w : List ℕ) (u : Used) (h : Lay w u) where
 
 -- ---- a variable's row is written
 
-module _ (w : List ℕ) (u : Used) (v : ℕ) (b m : Option ℕ) (h : Lay w u) (node : (t : ℕ) → b ≡ Some t → t < u.nodes) where
+module _ (w : List ℕ) (u : Used) (v : ℕ) (b m : Option ℕ) (n : ℕ) (h : Lay w u) (node : (t : ℕ) → b ≡ Some t → t < u.nodes) where
   abbrev c : Cell
-  c = record { binding = b; numeric = m }
+  c = cell b m n
 
-  cell_grown : Grown (view w u) (with_cell v b m (view w u))
+  cell_grown : Grown (view w u) (with_cell v b m n (view w u))
   unfolding with_cell
   cell_grown = grown_vars (view w u) _ (rw (length-set (view w u).vars v c) (omega arith))
 
-  cell_inside : Inside (with_cell v b m (view w u))
-  cell_inside = inside_cell (view w u) v b m h.inside (λ t e. rw (count_view w u) (node t e))
+  cell_inside : Inside (with_cell v b m n (view w u))
+  cell_inside = inside_cell (view w u) v b m n h.inside (λ t e. rw (count_view w u) (node t e))
 
-  cell_seen : (ds : List Struct) → with_structs (with_cell v b m (view w u)) ds ≡ with_cell v b m (seen w u ds)
+  cell_seen : (ds : List Struct) → with_structs (with_cell v b m n (view w u)) ds ≡ with_cell v b m n (seen w u ds)
   unfolding seen with_structs with_cell with_vars
   cell_seen ds = refl
 
-  cell_structs : (with_cell v b m (view w u)).structs ≡ (view w u).structs
+  cell_structs : (with_cell v b m n (view w u)).structs ≡ (view w u).structs
   unfolding with_cell with_vars
   cell_structs = refl
 
   -- past the variables in use nothing is written
-  none_view : u.vars ≤ v → view w u ≡ with_cell v b m (view w u)
+  none_view : u.vars ≤ v → view w u ≡ with_cell v b m n (view w u)
   unfolding with_cell with_vars
   none_view le =
       λ i. record {
@@ -272,8 +272,8 @@ module _ (w : List ℕ) (u : Used) (v : ℕ) (b m : Option ℕ) (h : Lay w u) (n
         structs = (view w u).structs;
       }
 
-  pub cell_none : u.vars ≤ v → Stored w u w (with_cell v b m)
-  cell_none le = refines_by (with_cell v b m (view w u)) h (none_view le) cell_grown cell_structs (λ ds k. cell_seen ds)
+  pub cell_none : u.vars ≤ v → Stored w u w (with_cell v b m n)
+  cell_none le = refines_by (with_cell v b m n (view w u)) h (none_view le) cell_grown cell_structs (λ ds k. cell_seen ds)
 
   module _ (r w' : List ℕ) (lt : v < u.vars) (wrote : Wrote w (16389 + v * 5) 5 r w') (q : Written var_table r c) where
     put_c : Put var_table w v c w'
@@ -291,7 +291,7 @@ module _ (w : List ℕ) (u : Used) (v : ℕ) (b m : Option ℕ) (h : Lay w u) (n
     kept_structs : Same struct_table w w'
     kept_structs = apart struct_table w (16389 + v * 5) 5 r w' wrote (λ i k l p q s e. let x = h.vars in omega arith)
 
-    cell_view : view w' u ≡ with_cell v b m (view w u)
+    cell_view : view w' u ≡ with_cell v b m n (view w u)
     unfolding view with_cell with_vars
     cell_view =
         λ i. record {
@@ -319,8 +319,8 @@ module _ (w : List ℕ) (u : Used) (v : ℕ) (b m : Option ℕ) (h : Lay w u) (n
           inside = subst Inside (sym cell_view) cell_inside;
         }
 
-    pub cell_put : Stored w u w' (with_cell v b m)
-    cell_put = refines_by (with_cell v b m (view w u)) cell_lay cell_view cell_grown cell_structs (λ ds k. cell_seen ds)
+    pub cell_put : Stored w u w' (with_cell v b m n)
+    cell_put = refines_by (with_cell v b m n (view w u)) cell_lay cell_view cell_grown cell_structs (λ ds k. cell_seen ds)
 
 -- ---- a constraint is listed
 

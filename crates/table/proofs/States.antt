@@ -15,7 +15,7 @@ use Rattle.definition.specs.Types as d
 use Rattle.std.specs.Prelude.{if◌then◌else◌}
 use Rattle.definition.specs.Types.{State, Shape, UnitType, Ref, Param, Apply, Var, Anything, UnresolvedError, Places, TypeValue, Cell, unbound, Constraint, max_nodes, max_args, max_vars, max_constraints, max_structs, full, ok, refused, Refusal, ◌>>=◌}
 use Rattle.definition.specs.Store.{count, taken, nowhere, node, get, with_vars, with_var, with_constraints, with_structs, with_node, args_of, stored, sp, next_tvar, add_constraint, declare}
-use Rattle.table.specs.State.{Below, Inside, Grown, with_cell, pushed_constraint}
+use Rattle.table.specs.State.{Below, Inside, Grown, cell, with_cell, pushed_constraint}
 use Rattle.table.proofs.Steps.{front_refl, NoError}
 
 -- ---- the definition's steps, with room and without
@@ -101,15 +101,15 @@ inside_node s loc v h new =
         let e : count s ≡ t = omega (arith, length-append s.nodes (record { loc = loc; value = stored (length s.args) v } ∷ [])) in
         rw (get_or_at s.nodes (record { loc = loc; value = stored (length s.args) v }) [] nowhere t e, ← e) new
 
-pub inside_cell : (s : State) (v : ℕ) (b m : Option ℕ) → Inside s → ((t : ℕ) → b ≡ Some t → t < count s) → Inside (with_cell v b m s)
+pub inside_cell : (s : State) (v : ℕ) (b m : Option ℕ) (n : ℕ) → Inside s → ((t : ℕ) → b ≡ Some t → t < count s) → Inside (with_cell v b m n s)
 unfolding with_cell with_vars node get
-inside_cell s v b m h new =
+inside_cell s v b m n h new =
     record { parts = h.parts; bindings = λ x t e. by x t e (ℕ_discrete x v) (dec_lt v (length s.vars)) }
   where
-    by : (x t : ℕ) → (get_or (set s.vars v (record { binding = b; numeric = m })) x unbound).binding ≡ Some t → Dec (x ≡ v) → Dec (v < length s.vars) → t < count s
-    by x t e (yes p) (yes q) = new t (sym (ap (λ (z : Cell). z.binding) (get_or-set_same s.vars v (record { binding = b; numeric = m }) unbound q)) ∙ rw p at e)
-    by x t e (yes p) (no q) = h.bindings x t (rw (set_out s.vars v (record { binding = b; numeric = m }) (omega arith)) at e)
-    by x t e (no p) q = h.bindings x t (sym (ap (λ (z : Cell). z.binding) (get_or-set_other s.vars v x (record { binding = b; numeric = m }) unbound p)) ∙ e)
+    by : (x t : ℕ) → (get_or (set s.vars v (cell b m n)) x unbound).binding ≡ Some t → Dec (x ≡ v) → Dec (v < length s.vars) → t < count s
+    by x t e (yes p) (yes q) = new t (sym (ap (λ (z : Cell). z.binding) (get_or-set_same s.vars v (cell b m n) unbound q)) ∙ rw p at e)
+    by x t e (yes p) (no q) = h.bindings x t (rw (set_out s.vars v (cell b m n) (omega arith)) at e)
+    by x t e (no p) q = h.bindings x t (sym (ap (λ (z : Cell). z.binding) (get_or-set_other s.vars v x (cell b m n) unbound p)) ∙ e)
 
 pub inside_var : (s : State) → Inside s → Inside (with_var s)
 unfolding with_var with_vars node get

@@ -13,6 +13,7 @@ use Rattle.definition.specs.Types.{TypeName, Multiple, Builtin, ModuleType, Abil
 use Rattle.definition.specs.Types.{Constraint, AbilityConstraint, NumericConstraint, BitsConstraint, OrderedConstraint, BaseTypeConstraint, SingleTypeConstraint, Struct}
 use Rattle.table.specs.Rows.{flag, read_mark, mark_word, read_option, option_flag, option_word, places, read_name, read_shape, read_node, name_tag, name_word, shape_words, node_words, node_table}
 use Rattle.table.specs.Rows.{read_cell, cell_words, var_table, read_constraint, constraint_words, constraint_table, read_struct, struct_words, struct_table, Written}
+use Rattle.table.specs.State.{cell}
 
 -- ---- nodes
 
@@ -99,7 +100,7 @@ option_again (Some x) = refl
 
 pub cell_again : (c : Cell) → read_cell (cell_words c) ≡ c
 unfolding read_cell cell_words
-cell_again c = λ i. record { binding = option_again c.binding i; numeric = option_again c.numeric i }
+cell_again c = λ i. record { binding = option_again c.binding i; numeric = option_again c.numeric i; need = c.need }
 
 some_flag : (b : Bool) (o : Option ℕ) → b ≡ is_some o → bool_byte b ≡ option_flag o
 unfolding option_flag
@@ -111,11 +112,11 @@ unfolding option_word
 some_word x None e = e
 some_word x (Some y) e = e
 
-pub cell_row : (b m : Option ℕ) (bf mf : Bool) (bw mw : ℕ) → bf ≡ is_some b → bw ≡ unwrap_or b 0 → mf ≡ is_some m → mw ≡ unwrap_or m 0
-    → Written var_table (bool_byte bf ∷ bw ∷ bool_byte mf ∷ mw ∷ 0 ∷ []) (record { binding = b; numeric = m })
+pub cell_row : (b m : Option ℕ) (bf mf : Bool) (bw mw n : ℕ) → bf ≡ is_some b → bw ≡ unwrap_or b 0 → mf ≡ is_some m → mw ≡ unwrap_or m 0
+    → Written var_table (bool_byte bf ∷ bw ∷ bool_byte mf ∷ mw ∷ n ∷ []) (cell b m n)
 unfolding cell_words
-cell_row b m bf mf bw mw e f g h =
-    record { is = λ i. some_flag bf b e i ∷ some_word bw b f i ∷ some_flag mf m g i ∷ some_word mw m h i ∷ 0 ∷ []; again = cell_again _ }
+cell_row b m bf mf bw mw n e f g h =
+    record { is = λ i. some_flag bf b e i ∷ some_word bw b f i ∷ some_flag mf m g i ∷ some_word mw m h i ∷ n ∷ []; again = cell_again _ }
 
 pub cell_long : (c : Cell) → length (cell_words c) ≡ 5
 unfolding cell_words

@@ -113,13 +113,13 @@ arg_words t = t ∷ []
 abbrev pub arg_table : Table ℕ
 arg_table = record { base = 12293; width = 1; rows = 4096; blank = 0; read = read_arg; write = arg_words }
 
--- ---- variables: whether bound, the node; whether numeric, the location; a spare word
+-- ---- variables: whether bound, the node; whether numeric, the location; the need
 
 unfoldable pub read_cell : List ℕ → Cell
-read_cell r = record { binding = read_option (get_or r 0 0) (get_or r 1 0); numeric = read_option (get_or r 2 0) (get_or r 3 0) }
+read_cell r = record { binding = read_option (get_or r 0 0) (get_or r 1 0); numeric = read_option (get_or r 2 0) (get_or r 3 0); need = get_or r 4 0 }
 
 unfoldable pub cell_words : Cell → List ℕ
-cell_words c = option_flag c.binding ∷ option_word c.binding ∷ option_flag c.numeric ∷ option_word c.numeric ∷ 0 ∷ []
+cell_words c = option_flag c.binding ∷ option_word c.binding ∷ option_flag c.numeric ∷ option_word c.numeric ∷ c.need ∷ []
 
 abbrev pub var_table : Table Cell
 var_table = record { base = 16389; width = 5; rows = 1024; blank = unbound; read = read_cell; write = cell_words }

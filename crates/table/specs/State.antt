@@ -48,8 +48,8 @@ node_of n = record { loc = n.loc; value = shape_of n.shape }
 abbrev pub node_at : ℕ → Shape → d.Node
 node_at loc shape = record { loc = loc; value = shape_of shape }
 
-abbrev pub cell : Option ℕ → Option ℕ → Cell
-cell b m = record { binding = b; numeric = m }
+abbrev pub cell : Option ℕ → Option ℕ → ℕ → Cell
+cell b m n = record { binding = b; numeric = m; need = n }
 
 -- a shape without arguments
 abbrev pub value_of : Shape → d.TypeValue
@@ -102,7 +102,7 @@ abbrev pub node_words_at : List ℕ → ℕ → NodeWords
 node_words_at w t = record { tag = get_or w (5 + t * 6) 0; loc = get_or w (5 + t * 6 + 1) 0; a = get_or w (5 + t * 6 + 2) 0; b = get_or w (5 + t * 6 + 3) 0; c = get_or w (5 + t * 6 + 4) 0; d = get_or w (5 + t * 6 + 5) 0 }
 
 abbrev pub cell_words_at : List ℕ → ℕ → CellWords
-cell_words_at w v = record { bound = get_or w (16389 + v * 5) 0; binding = get_or w (16389 + v * 5 + 1) 0; numeric = get_or w (16389 + v * 5 + 2) 0; loc = get_or w (16389 + v * 5 + 3) 0; spare = get_or w (16389 + v * 5 + 4) 0 }
+cell_words_at w v = record { bound = get_or w (16389 + v * 5) 0; binding = get_or w (16389 + v * 5 + 1) 0; numeric = get_or w (16389 + v * 5 + 2) 0; loc = get_or w (16389 + v * 5 + 3) 0; need = get_or w (16389 + v * 5 + 4) 0 }
 
 -- .. of variable v's, if it is among so many
 abbrev pub CellAt : List ℕ → ℕ → ℕ → Option CellWords → Type 0
@@ -240,9 +240,9 @@ pub record Wrote (w : List ℕ) (at n : ℕ) (row : List ℕ) (w' : List ℕ) : 
 unfoldable pub pushed_constraint : d.Constraint → State → Result (State × ℕ)
 pushed_constraint c s = add_constraint s c >>= (λ t. ok (t, 0))
 
--- variable v has this binding and this mark
-unfoldable pub with_cell : ℕ → Option ℕ → Option ℕ → State → State
-with_cell v b m s = with_vars s (set s.vars v (record { binding = b; numeric = m }))
+-- variable v has this binding, this mark and this need
+unfoldable pub with_cell : ℕ → Option ℕ → Option ℕ → ℕ → State → State
+with_cell v b m n s = with_vars s (set s.vars v (cell b m n))
 
 -- declarations that have the abilities and the parameter counts of the struct rows
 pub record Declares (w : List ℕ) (u : Used) (ds : List Struct) : Type 0 where

@@ -2,7 +2,7 @@
 
 ghost use Rattle.std.specs.Prelude.{◌≡◌, List, [], ◌∷◌, ℕ, ◌<◌, length, take, get_or};
 ghost use Rattle.definition.specs.Types as d;
-ghost use Rattle.definition.specs.Store.{node, type_at, get, num_loc, sp, args_at, next_tvar, insert};
+ghost use Rattle.definition.specs.Store.{node, type_at, get, num_loc, need_of, sp, args_at, next_tvar, insert, with_need};
 ghost use Rattle.definition.specs.Subst.{mark_one, parts};
 ghost use Rattle.names.specs.Names.{mark_of, name_of};
 ghost use Rattle.table.specs.Rows.{constraint_table, struct_table, places};
@@ -12,10 +12,10 @@ ghost use Rattle.table.specs.Did.{held, Counts, Did, Took, Kept, Added, Declared
 
 use crate::state::{State, Stop};
 use crate::{
-    ARGS_AT, Applied, CONSTRAINTS_AT, CellWords, Constraint, NODES_AT, NODE_WORDS, Node, STRUCTS_AT,
-    Shape, StructRow, Used, VARS_AT, cell_row, cell_words_at, constraint_of, constraint_row,
-    constraint_words_at, node_words_at, option_at, put_row, row_of, set_at, shape_at,
-    struct_words_at, touch, tvar, wide, write_parts, write_words,
+    ARGS_AT, Applied, CONSTRAINTS_AT, CellWords, Constraint, NODE_WORDS, NODES_AT, Node,
+    STRUCTS_AT, Shape, StructRow, Used, VARS_AT, cell_row, cell_words_at, constraint_of,
+    constraint_row, constraint_words_at, node_words_at, option_at, put_row, row_of, set_at,
+    shape_at, struct_words_at, touch, tvar, wide, write_parts, write_words,
 };
 use names::{
     AbilityMark, AbilitySet, MAX_ARGS, MAX_CONSTRAINTS, MAX_NODES, MAX_STRUCTS, MAX_VARS, TVar,
@@ -110,6 +110,16 @@ impl State<'_> {
         option_at(r.numeric, r.loc)
     }
 
+    // How many bits v's numeric mark needs.
+    pub fn need_at(&self, v: TVar) -> u32
+        ensures { (ds : List d.Struct) → result ≡ need_of (held self.now ds) v.0 }
+    {
+        match self.cell_at(v) {
+            Some(r) => r.need,
+            None => 0,
+        }
+    }
+
     // Constraint i, in the order of the list.
     pub fn constraint_at(&self, i: u32) -> Constraint
         requires { i < self.now.used.constraints }
@@ -192,27 +202,29 @@ impl State<'_> {
         next_tvar(&mut self.used)
     }
 
-    // Variable v has this binding and this mark, and is noted.
+    // Variable v has this binding, this mark and this need, and is noted.
     // Refused (must-fail/): one that is not noted (binding_not_noted).
-    fn put_cell(&mut self, v: TVar, b: Option<u32>, m: Option<u32>)
+    fn put_cell(&mut self, v: TVar, b: Option<u32>, m: Option<u32>, need: u32)
         requires { FoundIn self.old.used.nodes b }
-        ensures { Kept self.old self.new (with_cell v.0 b m) }
+        ensures { Kept self.old self.new (with_cell v.0 b m need) }
     {
         let i = u32::from(v);
         if i < self.used.vars {
-            let row = cell_row(b, m);
+            let row = cell_row(b, m, need);
             put_row(self.words, VARS_AT, i, row);
             self.touched = touch(self.touched, self.saved, i);
         }
     }
 
-    // Subst::insert: binds v to node t.
+    // Subst::insert: binds v to node t. Its mark and need stay.
+    // Refused (must-fail/): a need that a binding loses (need_lost_when_bound).
     pub fn bind_var(&mut self, v: TVar, t: u32)
         requires { t < self.old.used.nodes }
         ensures { Kept self.old self.new (λ s. insert s v.0 t) }
     {
         let m = self.num_loc_at(v);
-        self.put_cell(v, Some(t), m);
+        let need = self.need_at(v);
+        self.put_cell(v, Some(t), m, need);
     }
 
     // num_vars.entry(v).or_insert(loc)
@@ -221,7 +233,17 @@ impl State<'_> {
     {
         let b = self.bound_at(v);
         let m = self.num_loc_at(v);
-        self.put_cell(v, b, Some(m.unwrap_or(loc)));
+        let need = self.need_at(v);
+        self.put_cell(v, b, Some(m.unwrap_or(loc)), need);
+    }
+
+    // The need of v's mark.
+    pub fn set_need(&mut self, v: TVar, need: u32)
+        ensures { Kept self.old self.new (λ s. with_need s v.0 need) }
+    {
+        let b = self.bound_at(v);
+        let m = self.num_loc_at(v);
+        self.put_cell(v, b, m, need);
     }
 
     // context.constraints.push

@@ -93,14 +93,14 @@ pub struct NodeWords {
     pub d: u32,
 }
 
-// .. of a variable's: whether bound, the node; whether numeric, the location; a spare word.
+// .. of a variable's: whether bound, the node; whether numeric, the location; how many bits are needed.
 #[derive(Clone, Copy)]
 pub struct CellWords {
     pub bound: u32,
     pub binding: u32,
     pub numeric: u32,
     pub loc: u32,
-    pub spare: u32,
+    pub need: u32,
 }
 
 // .. of a constraint's.
@@ -268,13 +268,13 @@ pub fn cell_words_at(w: &[u32], v: u32) -> CellWords
     requires { (length w.now ≡ 24069) × (v < 1024) }
     ensures { result ≡ cell_words_at w.now v }
 {
-    let [bound, binding, numeric, loc, spare] = row_at::<VAR_WORDS>(w, VARS_AT, v);
+    let [bound, binding, numeric, loc, need] = row_at::<VAR_WORDS>(w, VARS_AT, v);
     CellWords {
         bound,
         binding,
         numeric,
         loc,
-        spare,
+        need,
     }
 }
 
@@ -377,15 +377,15 @@ fn row_of(loc: u32, shape: Shape) -> [u32; 6]
 }
 
 // The row of a variable.
-fn cell_row(b: Option<u32>, m: Option<u32>) -> [u32; 5]
-    ensures { Written var_table result (cell b m) }
+fn cell_row(b: Option<u32>, m: Option<u32>, need: u32) -> [u32; 5]
+    ensures { Written var_table result (cell b m need) }
 {
     [
         u32::from(b.is_some()),
         b.unwrap_or(0),
         u32::from(m.is_some()),
         m.unwrap_or(0),
-        0,
+        need,
     ]
 }
 

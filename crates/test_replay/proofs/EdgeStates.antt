@@ -24,7 +24,7 @@ abbrev two_lists : Places → Places → List ℕ → State
 two_lists p q args = record {
   nodes = unit_node ∷ record { loc = 1; value = Apply None (Multiple 1) p } ∷ record { loc = 2; value = Apply None (Multiple 1) q } ∷ [];
   args = args;
-  vars = record { binding = Some 1; numeric = None } ∷ record { binding = Some 2; numeric = None } ∷ [];
+  vars = record { binding = Some 1; numeric = None; need = 0 } ∷ record { binding = Some 2; numeric = None; need = 0 } ∷ [];
   constraints = [];
   structs = [];
 }

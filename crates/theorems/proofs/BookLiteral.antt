@@ -1,4 +1,4 @@
--- A numeric variable whose type nothing has decided is u64 after solve_constraints; one that is an integer type stays it. Assumes nothing.
+-- A numeric variable whose type nothing has decided is u64, or wider where more bits are needed, after solve_constraints; one that is an integer type stays it. Assumes nothing.
 -- First that a named type without arguments stays as it is; then the turn of one variable (`Decided`, `Turned`); then all of them by the list (`Solved`).
 use mathlib.Core.Path.{◌≡◌, refl, sym, ap, ◌∙◌}
 use mathlib.Core.Logic.{◌⊎◌, inl, inr}
@@ -12,11 +12,11 @@ use lib.Dec.{eqb}
 use lib.ListN.{length, get_or, get_or-eq_default}
 use Rattle.std.specs.Prelude.{if◌then◌else◌}
 use Rattle.definition.specs.Types.{TypeName, Multiple, Builtin, ModuleType, AbilityMark, TypeValue, UnitType, Ref, Param, Apply, Var, Anything, UnresolvedError, Cell, unbound, State, max_nodes, max_vars, max_depth, full, Result, ok, err, refused, ◌>>=◌}
-use Rattle.definition.specs.Store.{any_of, count, taken, type_at, spanned, get, num_loc, with_constraints, sp}
+use Rattle.definition.specs.Store.{any_of, count, taken, type_at, spanned, get, num_loc, with_constraints, sp, need_of}
 use Rattle.definition.specs.Subst.{parts, as_var, forward, forward_tvar, unfold_var, unfold_type}
 use Rattle.definition.specs.Join.{integers, is_numeric, join}
 use Rattle.definition.specs.Abilities.{primitives}
-use Rattle.definition.specs.Constraints.{num_vars, undecided, is_integer, u64, default_num_var, default_num_vars, solve_all, solve_constraints}
+use Rattle.definition.specs.Constraints.{num_vars, undecided, is_integer, default_num_var, default_num_vars, solve_all, solve_constraints, default_builtin, default_integer, default_of}
 use Rattle.definition.specs.Instantiate.{builtin_tparams}
 use Rattle.definition.specs.Write.{Bytes}
 use Rattle.definition.specs.Trees.{arity}
@@ -32,11 +32,11 @@ use Rattle.theorems.proofs.DemandCalls.{sp_post, var_ok}
 use Rattle.theorems.proofs.DemandMain.{eq_of, join_impl_good}
 use Rattle.theorems.proofs.SolveInTurn.{solve_cases}
 use Rattle.theorems.proofs.DemandWent.{Went, went_refl, went_trans, went_quiet, quiet_list, sound_cleared, PostS, ps_ok, ps_err, ps_refused, bind_postS}
-use Rattle.theorems.proofs.DemandRuns.{Declared, declared_on, Below, below_on, num_vars_below, u64_ok, defaults_went}
+use Rattle.theorems.proofs.DemandRuns.{Declared, declared_on, Below, below_on, num_vars_below, defaults_went, default_ok}
 use Rattle.theorems.proofs.SoundFacts.{facts}
 use Rattle.theorems.proofs.Soundness.{sound_is}
 use Rattle.theorems.proofs.TotalTakes.{Takes, takes_ok, takes_full}
-use Rattle.theorems.proofs.TotalNoFail.{Sure, sure_ok, sure_refused, sure_bind, sure_map, CalmAt, default_sure, defaults_take, no_defaults}
+use Rattle.theorems.proofs.TotalNoFail.{Sure, sure_ok, sure_refused, sure_bind, sure_map, CalmAt, default_sure, defaults_take, no_defaults, integer}
 use Rattle.theorems.proofs.DemandRecords.{NoErr, no_ok, no_refused}
 use Rattle.theorems.proofs.BookDeep.{numeric}
 
@@ -64,8 +64,8 @@ fits_leaf (f_node h ts) u = head_leaf h ts u
 Is : State → ℕ → TypeValue → Type 0
 Is S v type = (t : ℕ) × (get S (forward_tvar S v) ≡ Some t) × (type_at S t ≡ type)
 
-IsU64 : State → ℕ → Type 0
-IsU64 S v = Is S v u64
+IsInt : ℕ → State → ℕ → Type 0
+IsInt k S v = Is S v (integer k)
 
 module _ {ar : TypeName → ℕ} {S S' : State} (s : Sound ar S) (s' : Sound ar S') (x : S ⊑ S') where
   leaf_on : (k : AbilityMark) (n : TypeName) (v : ℕ) → v < taken S → Is S v (Apply k n []) → Is S' v (Apply k n [])
@@ -75,9 +75,9 @@ module _ {ar : TypeName → ℕ} {S S' : State} (s : Sound ar S) (s' : Sound ar 
       let same : forward_tvar S' v ≡ l.last = ends_det (chain s' v (omega (arith, x.more_vars))) (ends_keep x (chain s v h) l.ends) in
       (l.type, rw same l.bound, fits_leaf l.fits (x.kept t (s.bind_in _ t g) ∙ u))
 
-  u64_on : (v : ℕ) → v < taken S → IsU64 S v → IsU64 S' v
-  unfolding IsU64 u64
-  u64_on v h u = leaf_on _ _ v h u
+  int_on : (k v : ℕ) → v < taken S → IsInt k S v → IsInt k S' v
+  unfolding IsInt
+  int_on k v h u = leaf_on _ _ v h u
 
   -- variables with one end keep one end
   one_end : (v w : ℕ) → v < taken S → w < taken S → forward_tvar S v ≡ forward_tvar S w → forward_tvar S' v ≡ forward_tvar S' w
@@ -89,15 +89,15 @@ module _ {ar : TypeName → ℕ} {S S' : State} (s : Sound ar S) (s' : Sound ar 
 
 -- ---- one variable
 
--- a join with u64 makes it so
-tracked_u64 : {ar : TypeName → ℕ} {S : State} {l r t w : ℕ} → Sound ar S → w < taken S → Tracks S l t → Tracks S r t → type_at S l ≡ u64 → type_at S r ≡ Var w → IsU64 S w
-unfolding IsU64 Is u64
-tracked_u64 s h (t_any e) q u d = never (cc)
-tracked_u64 s h (t_var a b c e) q u d = never (cc)
-tracked_u64 s h (t_fit r f) (t_any e) u d = any_var e d
-tracked_u64 s h (t_fit r f) (t_fit r' f') u d = solid_var (fits_solid_l f') d
-tracked_u64 s h (t_fit (r_self n) f) (t_var a b c e) u d = nonvar_var n b
-tracked_u64 {S = S} {w = w} s h (t_fit (r_var {w = w1} {e = e1} {t = t} v k g) f) (t_var {v = v2} {w = w2} {e = e2} a b c e) u d =
+-- a join with an integer type makes it so
+tracked_int : {ar : TypeName → ℕ} {S : State} {l r t w k : ℕ} → Sound ar S → w < taken S → Tracks S l t → Tracks S r t → type_at S l ≡ integer k → type_at S r ≡ Var w → IsInt k S w
+unfolding IsInt Is
+tracked_int s h (t_any e) q u d = never (cc)
+tracked_int s h (t_var a b c e) q u d = never (cc)
+tracked_int s h (t_fit r f) (t_any e) u d = any_var e d
+tracked_int s h (t_fit r f) (t_fit r' f') u d = solid_var (fits_solid_l f') d
+tracked_int s h (t_fit (r_self n) f) (t_var a b c e) u d = nonvar_var n b
+tracked_int {S = S} {w = w} s h (t_fit (r_var {w = w1} {e = e1} {t = t} v k g) f) (t_var {v = v2} {w = w2} {e = e2} a b c e) u d =
     let p : v2 ≡ w = cc in
     let q : w1 ≡ w2 = cc in
     let ends : e2 ≡ e1 = ends_det e (rw q at k) in
@@ -106,46 +106,46 @@ tracked_u64 {S = S} {w = w} s h (t_fit (r_var {w = w1} {e = e1} {t = t} v k g) f
 
 record Decided (ar : TypeName → ℕ) (S : State) (v loc : ℕ) (S' : State) : Type 0 where
   went : Went ar S S'
-  is : undecided (unfold_type S (record { loc = loc; value = Var v })).value ≡ true → IsU64 S' v
+  is : undecided (unfold_type S (record { loc = loc; value = Var v })).value ≡ true → Is S' v (default_of S v)
 
 decided : {ar : TypeName → ℕ} {S : State} → Sound ar S → Declared ar S → (v loc : ℕ) → v < taken S → PostS ar S (Decided ar S v loc) (default_num_var S v loc)
-unfolding default_num_var join
+unfolding default_num_var join default_of default_integer primitives IsInt
 decided {ar} {S} s d v loc h = go (undecided _) refl
   where
     go : (b : Bool) → undecided (unfold_type S (record { loc = loc; value = Var v })).value ≡ b → PostS ar S (Decided ar S v loc) (elim b [
       | false ↦ ok S
-      | true ↦ sp S loc u64 >>= (λ (x : State × ℕ). sp x.0 loc (Var v) >>= (λ (y : State × ℕ). join y.0 x.1 y.1 >>= (λ (z : State × ℕ). ok z.0)))
+      | true ↦ sp S loc (default_of S v) >>= (λ (x : State × ℕ). sp x.0 loc (Var v) >>= (λ (y : State × ℕ). join y.0 x.1 y.1 >>= (λ (z : State × ℕ). ok z.0)))
     ])
     go false e = ps_ok (grown_refl S) (record { went = went_refl s; is = λ f. never (cc) })
     go true e =
-        bind_postS _ (sp_post s loc u64 (u64_ok d)) (λ S1 l g1 p.
+        bind_postS _ (sp_post s loc (default_of S v) (default_ok d S v)) (λ S1 l g1 p.
         bind_postS _ (sp_post p.sound loc (Var v) (var_ok v (omega (arith, p.same_vars)))) (λ S2 r g2 q.
         let l_in : l < count S2 = omega (arith, p.t_in, q.quiet.q_nodes) in
         bind_postS _ (join_impl_good max_depth S2 _ l r q.sound l_in q.t_in) (λ S3 t g3 j. ps_ok (grown_refl S3) (record {
           went = went_trans s (went_quiet s p.sound p.quiet) (went_trans p.sound (went_quiet p.sound q.sound q.quiet) (record { sound = j.sound; above = j.above }));
-          is = λ f. tracked_u64 j.sound (omega (arith, p.same_vars, q.same_vars, j.above.more_vars)) j.left j.right (j.above.kept l l_in ∙ q.quiet.q_kept l p.t_in ∙ p.is) (j.above.kept r q.t_in ∙ q.is);
+          is = λ f. tracked_int j.sound (omega (arith, p.same_vars, q.same_vars, j.above.more_vars)) j.left j.right (j.above.kept l l_in ∙ q.quiet.q_kept l p.t_in ∙ p.is) (j.above.kept r q.t_in ∙ q.is);
         }))))
 
--- nothing has decided v, or it is u64
-abbrev Literal : State → ℕ → Type 0
-Literal S v = (get S (forward_tvar S v) ≡ None) ⊎ IsU64 S v
+-- nothing has decided v, which will be the integer type k; or it is
+abbrev Literal : ℕ → State → ℕ → Type 0
+Literal k S v = ((get S (forward_tvar S v) ≡ None) × (default_of S v ≡ integer k)) ⊎ IsInt k S v
 
 open_undecided : (S : State) (v loc : ℕ) → get S (forward_tvar S v) ≡ None → undecided (unfold_type S (record { loc = loc; value = Var v })).value ≡ true
 unfolding unfold_type unfold_var as_var undecided
 open_undecided S v loc e = rw e refl
 
 -- what the turn of w leaves of v
-record Turned (ar : TypeName → ℕ) (S : State) (w v : ℕ) (S' : State) : Type 0 where
+record Turned (ar : TypeName → ℕ) (S : State) (k w v : ℕ) (S' : State) : Type 0 where
   grown : Grown S S'
   went : Went ar S S'
-  still : Literal S' v
-  its_turn : w ≡ v → IsU64 S' v
+  still : Literal k S' v
+  its_turn : w ≡ v → IsInt k S' v
 
-module _ {ar : TypeName → ℕ} {S : State} (s : Sound ar S) (w loc v : ℕ) (w_in : w < taken S) (v_in : v < taken S) where
-  turned : {S' : State} → Literal S v → Grown S S' → Decided ar S w loc S' → CalmAt S (forward_tvar S w) S' → Turned ar S w v S'
-  unfolding IsU64 Is
-  turned {S'} (inr u) g d o = let r = u64_on s d.went.sound d.went.above v v_in u in record { grown = g; went = d.went; still = inr r; its_turn = λ e. r }
-  turned {S'} (inl free) g d o = go (ℕ_discrete (forward_tvar S v) (forward_tvar S w))
+module _ {ar : TypeName → ℕ} {S : State} (s : Sound ar S) (k w loc v : ℕ) (w_in : w < taken S) (v_in : v < taken S) where
+  turned : {S' : State} → Literal k S v → Grown S S' → Decided ar S w loc S' → CalmAt S (forward_tvar S w) S' → Turned ar S k w v S'
+  unfolding IsInt Is default_of
+  turned {S'} (inr u) g d o = let r = int_on s d.went.sound d.went.above k v v_in u in record { grown = g; went = d.went; still = inr r; its_turn = λ e. r }
+  turned {S'} (inl (free, chosen)) g d o = go (ℕ_discrete (forward_tvar S v) (forward_tvar S w))
     where
       s' : Sound ar S'
       s' = d.went.sound
@@ -153,21 +153,21 @@ module _ {ar : TypeName → ℕ} {S : State} (s : Sound ar S) (w loc v : ℕ) (w
       x : S ⊑ S'
       x = d.went.above
 
-      go : Dec (forward_tvar S v ≡ forward_tvar S w) → Turned ar S w v S'
+      go : Dec (forward_tvar S v ≡ forward_tvar S w) → Turned ar S k w v S'
       go (yes e) =
-          let u : IsU64 S' w = d.is (open_undecided S w loc (sym (ap (get S) e) ∙ free)) in
-          let r : IsU64 S' v = (u.0, ap (get S') (one_end s s' x v w v_in w_in e) ∙ u.1, u.2) in
+          let u : Is S' w (default_of S w) = d.is (open_undecided S w loc (sym (ap (get S) e) ∙ free)) in
+          let r : IsInt k S' v = (u.0, ap (get S') (one_end s s' x v w v_in w_in e) ∙ u.1, u.2 ∙ ap (λ (z : ℕ). default_integer (need_of S z)) (sym e) ∙ chosen) in
           record { grown = g; went = d.went; still = inr r; its_turn = λ i. r }
       go (no n) =
           let e = forward_tvar S v in
           let free' : get S' e ≡ None = o.only e (ends_in s v_in (chain s v v_in)) n ∙ free in
           let same : forward_tvar S' v ≡ e = ends_det (chain s' v (omega (arith, x.more_vars))) (ends_keep x (chain s v v_in) (here (next_none S' e free'))) in
-          record { grown = g; went = d.went; still = inl (ap (get S') same ∙ free'); its_turn = λ i. absurd (n (ap (forward_tvar S) (sym i))) }
+          record { grown = g; went = d.went; still = inl (ap (get S') same ∙ free', ap (λ (z : ℕ). default_integer (need_of S' z)) same ∙ ap default_integer (x.need_stays e (ends_in s v_in (chain s v v_in))) ∙ chosen); its_turn = λ i. absurd (n (ap (forward_tvar S) (sym i))) }
 
-  turn : Declared ar S → Literal S v → Sure (Turned ar S w v) (default_num_var S w loc)
+  turn : Declared ar S → Literal k S v → Sure (Turned ar S k w v) (default_num_var S w loc)
   turn d f = go (decided s d w loc w_in) (default_sure s d w loc w_in)
     where
-      go : {m : Result State} → PostS ar S (Decided ar S w loc) m → Sure (CalmAt S (forward_tvar S w)) m → Sure (Turned ar S w v) m
+      go : {m : Result State} → PostS ar S (Decided ar S w loc) m → Sure (CalmAt S (forward_tvar S w)) m → Sure (Turned ar S k w v) m
       go (ps_ok g p) (sure_ok o) = sure_ok (turned f g p o)
       go (ps_err g p) s = elim s [ ]
       go ps_refused sure_refused = sure_refused
@@ -192,22 +192,22 @@ marked_listed (c ∷ cells) k (suc i) loc e = let z : k + suc i ≡ suc k + i = 
     go None m = m
     go (Some l) m = inr m
 
-record Solved (ar : TypeName → ℕ) (S : State) (v : ℕ) (S' : State) : Type 0 where
+record Solved (ar : TypeName → ℕ) (S : State) (k v : ℕ) (S' : State) : Type 0 where
   sound_after : Sound ar S'
   more : taken S ≤ taken S'
-  is : IsU64 S' v
+  is : IsInt k S' v
 
-solved : {ar : TypeName → ℕ} (l : List (ℕ × ℕ)) {S : State} → Sound ar S → Declared ar S → Below (taken S) l → (v : ℕ) → v < taken S → Literal S v → IsU64 S v ⊎ Listed v l → Sure (Solved ar S v) (default_num_vars S l)
+solved : {ar : TypeName → ℕ} (l : List (ℕ × ℕ)) {S : State} → Sound ar S → Declared ar S → Below (taken S) l → (k v : ℕ) → v < taken S → Literal k S v → IsInt k S v ⊎ Listed v l → Sure (Solved ar S k v) (default_num_vars S l)
 unfolding default_num_vars
-solved [] {S} s d b v v_in f (inl u) = sure_ok (record { sound_after = s; more = omega arith; is = u })
-solved [] {S} s d b v v_in f (inr n) = absurd n
-solved {ar} ((w, loc) ∷ l) {S} s d b v v_in f n = sure_bind _ (turn s w loc v b.0 v_in d f) (λ S1 t.
+solved [] {S} s d b k v v_in f (inl u) = sure_ok (record { sound_after = s; more = omega arith; is = u })
+solved [] {S} s d b k v v_in f (inr n) = absurd n
+solved {ar} ((w, loc) ∷ l) {S} s d b k v v_in f n = sure_bind _ (turn s k w loc v b.0 v_in d f) (λ S1 t.
     let up = t.went.above.more_vars in
     sure_map (λ S2 r. record { sound_after = r.sound_after; more = omega (arith, r.more); is = r.is })
-    (solved l t.went.sound (declared_on d t.grown) (below_on up l b.1) v (omega arith) t.still (next t.went t.its_turn n)))
+    (solved l t.went.sound (declared_on d t.grown) (below_on up l b.1) k v (omega arith) t.still (next t.went t.its_turn n)))
   where
-    next : {S1 : State} → Went ar S S1 → (w ≡ v → IsU64 S1 v) → IsU64 S v ⊎ Listed v ((w, loc) ∷ l) → IsU64 S1 v ⊎ Listed v l
-    next x i (inl u) = inl (u64_on s x.sound x.above v v_in u)
+    next : {S1 : State} → Went ar S S1 → (w ≡ v → IsInt k S1 v) → IsInt k S v ⊎ Listed v ((w, loc) ∷ l) → IsInt k S1 v ⊎ Listed v l
+    next x i (inl u) = inl (int_on s x.sound x.above k v v_in u)
     next x i (inr (inl e)) = inl (i e)
     next x i (inr (inr m)) = inr m
 
@@ -278,9 +278,9 @@ module _ (S : State) (h : sound S ≡ true) where
       go (err s x) p t = elim p [ ]
       go (refused x) p (takes_full f) = sv_full
 
-  pub literal : (v loc : ℕ) → num_loc S v ≡ Some loc → get S (forward_tvar S v) ≡ None → LiteralRule v (Apply (Some 7) (Builtin 3) []) (solve_constraints S)
-  unfolding num_loc IsU64 u64 primitives
-  literal v loc e free = literal_by (Some 7) (Builtin 3) v v_in (sure_map (λ S' p. (p.sound_after, p.more, p.is)) (solved (num_vars 0 S.vars) s (λ n. refl) below v v_in (inl free) (inr listed)))
+  pub literal : (v loc : ℕ) → num_loc S v ≡ Some loc → get S (forward_tvar S v) ≡ None → LiteralRule v (default_of S v) (solve_constraints S)
+  unfolding num_loc IsInt default_of default_integer primitives
+  literal v loc e free = literal_by (Some 7) (Builtin (default_builtin (need_of S (forward_tvar S v)))) v v_in (sure_map (λ S' p. (p.sound_after, p.more, p.is)) (solved (num_vars 0 S.vars) s (λ n. refl) below _ v v_in (inl (free, refl)) (inr listed)))
     where
       v_in : v < taken S
       v_in = elim (native.Mathlib.Decide.dec_lt v (taken S)) [ yes l ↦ l | no l ↦ never (let d : (get_or S.vars v unbound).numeric ≡ None = ap (λ (c : Cell). c.numeric) (get_or-eq_default S.vars unbound (omega arith)) in cc) ]

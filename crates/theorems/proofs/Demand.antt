@@ -12,7 +12,7 @@ use Rattle.definition.specs.Write.{Bytes}
 use Rattle.definition.specs.Trees.{arity}
 use Rattle.definition.specs.Sound.{sound}
 use Rattle.definition.specs.Rank.{any, Rank, NoneReachesItself, RunsIntoItself}
-use Rattle.definition.specs.Demand.{JoinCall, outcome, OnSuccess, Event, trace, point, at, AtOrBelow, NoneSinks, ResultAboveOperands, NoLoops, Demand3}
+use Rattle.definition.specs.Demand.{JoinCall, outcome, OnSuccess, Event, trace, point, at, AtOrBelow, NoneSinks, ResultAboveOperands, NoLoops, Demand3, NeedsGrow}
 use Rattle.theorems.proofs.DemandDepth.{unrolled, EndsWithin}
 use Rattle.theorems.proofs.DemandTracks.{Tracks}
 use Rattle.theorems.proofs.DemandOrder.{Sound}
@@ -49,7 +49,7 @@ type_below : {ar : TypeName → ℕ} {s : State} → Sound ar s → NoneReachesI
 type_below {s = s} h n x t i j r = at_or_below h h (type_at s x) (type_at s t) (type_is_in h i) (type_is_in h j) (count s) (tracks_rank h any (count s) x t i j r) (type_ends h t j (no_runs n))
 
 abbrev Above : JoinCall → State → ℕ → Type 0
-Above a s t = ResultAboveOperands a s t × NoneSinks a.before s
+Above a s t = ResultAboveOperands a s t × NoneSinks a.before s × NeedsGrow a.before s
 
 above_by : {E : Type 0} (a : JoinCall) (h : Fair E a) (m : Result (State × ℕ)) → Gave a h m → ((s : State) (t : ℕ) → m ≡ ok (s, t) → NoneReachesItself s) → OnSuccess m (λ s t. Above a s t)
 unfolding OnSuccess
@@ -59,6 +59,7 @@ above_by a h (ok (s, t)) (p_ok g j) n = (
     above_rhs = type_below j.sound (n s t refl) a.rhs t (omega (arith, h.r_in, j.above.more_nodes)) j.t_in j.right;
   },
   none_sinks a.before s (record { ar = h.ar; facts_of = h.from }) (record { ar = h.ar; facts_of = j.sound }) (up_above h.from j.sound j.above) (n s t refl),
+  (up_above h.from j.sound j.above).needs,
 )
 above_by a h (err s e) p n = tt
 above_by a h (refused x) p n = tt
@@ -84,9 +85,23 @@ module _ (s : State) (records : List (Bytes × ℕ)) (safe : sound s ≡ true) (
   points_rise : (i j : ℕ) → i ≤ j → j ≤ length (trace s records) → NoneSinks (at s records i) (at s records j)
   points_rise i j h l = none_sinks (at s records i) (at s records j) (sound_at i) (sound_at j) (between s records i j h).up (none_at j l)
 
+-- R-7: marks stay, and needs only grow, from each point to each later one, and across each join that succeeds; whether or not a variable reaches itself
+pub needs_grow : (s : State) (records : List (Bytes × ℕ)) (i j : ℕ) → i ≤ j → NeedsGrow (at s records i) (at s records j)
+needs_grow s records i j h = (between s records i j h).up.needs
+
+grown_by : {E : Type 0} (a : JoinCall) (h : Fair E a) (m : Result (State × ℕ)) → Gave a h m → OnSuccess m (λ s t. NeedsGrow a.before s)
+unfolding OnSuccess
+grown_by a h (ok (s, t)) (p_ok g j) = (up_above h.from j.sound j.above).needs
+grown_by a h (err s e) p = tt
+grown_by a h (refused x) p = tt
+
+pub needs_grow_in_joins : (s : State) (records : List (Bytes × ℕ)) (e : Event) → Memᴰ e (trace s records) → (call : JoinCall) → Memᴰ call e.calls → OnSuccess (outcome call) (λ s t. NeedsGrow call.before s)
+needs_grow_in_joins s records e i a m = let f = calls_fair {E = ⊥} s (trace s records) (chained s records) (λ d. absurd d) e i a m in grown_by a f _ (gave a f)
+
 -- demand 3: any list of records, from any sound state, where no variable reaches itself at the start or after any event
 pub demand_3 : (s : State) (records : List (Bytes × ℕ)) → sound s ≡ true → NoLoops s records → Demand3 s records
 demand_3 s records safe none = record {
   points = λ i j h l. points_rise s records safe none i j h l;
   joins = λ e i a m. calls_above s records safe none e i a m;
+  needs = λ i j h l. needs_grow s records i j h;
 }

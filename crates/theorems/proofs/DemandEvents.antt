@@ -11,7 +11,7 @@ use Rattle.definition.specs.Write.{Bytes}
 use Rattle.definition.specs.Step.{step}
 use Rattle.definition.specs.Sound.{sound}
 use Rattle.definition.specs.Rank.{NoneReachesItself}
-use Rattle.definition.specs.Demand.{JoinCall, outcome, OnSuccess, step_calls, after, Event, events, trace, point, at, NoneSinks, ResultAboveOperands, NoLoops, Demand3}
+use Rattle.definition.specs.Demand.{JoinCall, outcome, OnSuccess, step_calls, after, Event, events, trace, point, at, NoneSinks, NeedsGrow, ResultAboveOperands, NoLoops, Demand3}
 use Rattle.theorems.proofs.Demand.{demand_3}
 use Rattle.theorems.proofs.DemandEveryDepth.{Rises, JoinsAtEveryDepth, Demand3AtEveryDepth, demand_3_at_every_depth}
 
@@ -43,13 +43,15 @@ event_of_record s ((bytes, buffer) ∷ records) (suc i) h = Memᴰ.tail (event_o
 -- demand 3 said of records
 pub record OfRecords (s : State) (records : List (Bytes × ℕ)) : Type 0 where
   pub points : (i j : ℕ) → i ≤ j → j ≤ length records → NoneSinks (after s (take i records)) (after s (take j records))
-  pub joins : (i : ℕ) → i < length records → (call : JoinCall) → Memᴰ call (calls_of_record s records i) → OnSuccess (outcome call) (λ s t. ResultAboveOperands call s t × NoneSinks call.before s)
+  pub joins : (i : ℕ) → i < length records → (call : JoinCall) → Memᴰ call (calls_of_record s records i) → OnSuccess (outcome call) (λ s t. ResultAboveOperands call s t × NoneSinks call.before s × NeedsGrow call.before s)
+  pub needs : (i j : ℕ) → i ≤ j → j ≤ length records → NeedsGrow (after s (take i records)) (after s (take j records))
 
 pub demand_3_of_records : (s : State) (records : List (Bytes × ℕ)) → sound s ≡ true → ((i : ℕ) → i ≤ length records → NoneReachesItself (after s (take i records))) → OfRecords s records
 unfolding NoLoops
 demand_3_of_records s records safe none = record {
   points = λ i j h l. rw (at_is_after s records i, at_is_after s records j) at (claim.points i j h (omega (arith, l, one_each s records)));
   joins = λ i h call m. claim.joins (of_record s records i) (event_of_record s records i h) call m;
+  needs = λ i j h l. rw (at_is_after s records i, at_is_after s records j) at (claim.needs i j h (omega (arith, l, one_each s records)));
 }
   where
     claim : Demand3 s records

@@ -1,9 +1,8 @@
 -- Demand 3 at every depth of unrolling, of every list of records and with no hypothesis. Assumes nothing.
 -- First one record: the state rises, or is as it was (`Up`, `Stepped`). Then the list of records by induction, and each join by the main lemma.
-use mathlib.Core.Path.{◌≡◌, refl, sym, subst}
+use mathlib.Core.Path.{◌≡◌, refl, sym, subst, ap}
 use mathlib.Core.Bool.{Bool, true, false}
 use mathlib.Core.List.{List, [], ◌∷◌, ◌++◌, Memᴰ}
-use mathlib.Core.List.Memᴰ
 use mathlib.Core.Logic.{inl, inr}
 use Prim.Native.Nat.{ℕ, zero, suc, ◌≤◌, ◌<◌}
 use native.Mathlib.Omega.{arith}
@@ -11,16 +10,16 @@ use lib.ListN.{length}
 use lib.Dec.{leb}
 use Rattle.std.specs.Prelude.{if◌then◌else◌}
 use Rattle.definition.specs.Types.{TypeName, Var, State, max_depth, answer_too_long, unsound_state, Result, ok, err, refused}
-use Rattle.definition.specs.Store.{taken, type_at}
+use Rattle.definition.specs.Store.{taken, type_at, need_of}
 use Rattle.definition.specs.Write.{Bytes}
 use Rattle.definition.specs.Reader.{Read, got, not_read}
 use Rattle.definition.specs.Record.{Record, read_record}
 use Rattle.definition.specs.Trees.{arity}
 use Rattle.definition.specs.Step.{Answer, refusal, put_back, max_payload, answer_with, answer, max_buffer, usable, lent, run, step}
 use Rattle.definition.specs.Rank.{ReadType, Rank, NoneReachesItself}
-use Rattle.definition.specs.Demand.{JoinCall, outcome, OnSuccess, after, Event, events, trace, point, at}
+use Rattle.definition.specs.Demand.{JoinCall, outcome, OnSuccess, after, Event, events, trace, point, at, NeedsGrow}
 use Rattle.theorems.proofs.DemandDepth.{unrolled}
-use Rattle.theorems.proofs.DemandOrder.{Sound, ◌⊑◌}
+use Rattle.theorems.proofs.DemandOrder.{Sound, ◌⊑◌, chain, ends_in, ends_keep}
 use Rattle.theorems.proofs.DemandSteps.{quiet_⊑}
 use Rattle.theorems.proofs.LawsPost.{Post, p_ok}
 use Rattle.theorems.proofs.DemandCalls.{Joined}
@@ -29,8 +28,11 @@ use Rattle.theorems.proofs.DemandReading.{rank_refl, rank_trans, tracks_rank, va
 use Rattle.theorems.proofs.DemandPutBack.{quiet_put_back, sound_put_back}
 use Rattle.theorems.proofs.SoundFacts.{and_r, facts}
 use Rattle.theorems.proofs.SoundRead.{ReadWell, given, well_read}
-use Rattle.theorems.proofs.DemandRecords.{Leaves, l_ok, l_err, l_refused, run_leaves}
+use Rattle.theorems.proofs.DemandRecords.{Leaves, l_ok, l_err, l_refused, run_leaves, Literals, literals}
 use Rattle.theorems.proofs.DemandFair.{Fair, AllFair, step_fair}
+use Rattle.definition.specs.Subst.{forward_tvar}
+use Rattle.theorems.proofs.DemandTracks.{ends_stop, ends_det}
+use mathlib.Core.List.Memᴰ
 
 -- ---- the claim, with no hypothesis: where a variable reaches itself there is no whole reading, but there is one to every depth
 
@@ -54,23 +56,43 @@ pub record Demand3AtEveryDepth (s : State) (records : List (Bytes × ℕ)) : Typ
 pub record Up (s s' : State) : Type 0 where
   pub more : taken s ≤ taken s'
   pub rises : Rises s s'
+  pub needs : NeedsGrow s s'
 
 up_refl : (s : State) → Up s s
 unfolding Rises
-up_refl s = record { more = omega arith; rises = λ v h rest n. rank_refl _ }
+up_refl s = record { more = omega arith; rises = λ v h rest n. rank_refl _; needs = record { mark_stays = λ v i h. h; own_need = λ v i. omega arith; end_need = λ v i. omega arith } }
 
 up_trans : {s s' s'' : State} → Up s s' → Up s' s'' → Up s s''
 unfolding Rises
-up_trans a b = record { more = omega (arith, a.more, b.more); rises = λ v h rest n. rank_trans (a.rises v h rest n) (b.rises v (omega (arith, a.more)) rest n) }
+up_trans a b = record {
+  more = omega (arith, a.more, b.more);
+  rises = λ v h rest n. rank_trans (a.rises v h rest n) (b.rises v (omega (arith, a.more)) rest n);
+  needs = record {
+    mark_stays = λ v i h. b.needs.mark_stays v (omega (arith, a.more)) (a.needs.mark_stays v i h);
+    own_need = λ v i. omega (arith, a.needs.own_need v i, b.needs.own_need v (omega (arith, a.more)));
+    end_need = λ v i. omega (arith, a.needs.end_need v i, b.needs.end_need v (omega (arith, a.more)));
+  };
+}
 
 -- some arity by which the state is sound
 pub record Somehow (s : State) : Type 0 where
   pub ar : TypeName → ℕ
   pub facts_of : Sound ar s
 
+needs_above : {ar : TypeName → ℕ} {s s' : State} → Sound ar s → Sound ar s' → s ⊑ s' → NeedsGrow s s'
+needs_above {s = S} {s' = S'} s s' x = record {
+  mark_stays = λ v i h. x.num_stays v h;
+  own_need = λ v i. omega (arith, x.need_stays v i);
+  end_need = λ v i.
+      let c = chain s v i in
+      let j = ends_in s i c in
+      let r = chain s' (forward_tvar S v) (omega (arith, x.more_vars)) in
+      omega (arith, x.end_grows (forward_tvar S v) _ j (ends_stop c) r, ap (need_of S') (ends_det (ends_keep x c r) (chain s' v (omega (arith, x.more_vars)))));
+}
+
 pub up_above : {ar : TypeName → ℕ} {s s' : State} → Sound ar s → Sound ar s' → s ⊑ s' → Up s s'
 unfolding Rises
-up_above s s' x = record { more = x.more_vars; rises = λ v h rest n. var_up s s' x rest n v h }
+up_above s s' x = record { more = x.more_vars; rises = λ v h rest n. var_up s s' x rest n v h; needs = needs_above s s' x }
 
 pub record Stepped (s s' : State) : Type 0 where
   pub up : Up s s'
@@ -93,15 +115,15 @@ answer_with_stepped s n p s' h = go (leb (length p) max_payload)
     go true = h
     go false = stays s
 
-answer_stepped : {ar : TypeName → ℕ} (s : State) → Sound ar s → (m : Result (State × Bytes)) → Leaves ar s m → Stepped s (answer s m).state
+answer_stepped : {ar : TypeName → ℕ} (s : State) → Sound ar s → (r : Literals) (m : Result (State × Bytes)) → Leaves r ar s m → Stepped s (answer s m).state
 unfolding answer refusal
-answer_stepped s h (ok (s', p)) (l_ok w) = answer_with_stepped s _ p s' (stepped_above h w.sound w.above)
-answer_stepped s h (err s' e) (l_err g n) = answer_with_stepped s _ _ (put_back s s') (stepped_above h (sound_put_back h g n) (quiet_⊑ h (sound_put_back h g n) (quiet_put_back h g n)))
-answer_stepped s h (refused x) l_refused = stays s
+answer_stepped s h r (ok (s', p)) (l_ok w k) = answer_with_stepped s _ p s' (stepped_above h w.sound w.above)
+answer_stepped s h r (err s' e) (l_err g n) = answer_with_stepped s _ _ (put_back s s') (stepped_above h (sound_put_back h g n) (quiet_⊑ h (sound_put_back h g n) (quiet_put_back h g n)))
+answer_stepped s h r (refused x) l_refused = stays s
 
 lent_stepped : (s : State) → Sound (arity s) s → {n : ℕ} (r : Read Record) → ReadWell ⊥ s n r → Stepped s (lent s r).state
 unfolding lent refusal
-lent_stepped s h (got r []) (given f i l) = answer_stepped s h (run s r) (run_leaves s h r f.0)
+lent_stepped s h (got r []) (given f i l) = answer_stepped s h (literals r) (run s r) (run_leaves s h r f.0)
 lent_stepped s h (got r (b ∷ rest)) f = stays s
 lent_stepped s h (not_read x) f = stays s
 

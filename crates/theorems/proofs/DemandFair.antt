@@ -3,7 +3,6 @@
 use mathlib.Core.Path.{◌≡◌, refl, sym, subst}
 use mathlib.Core.Logic.{inl, inr}
 use mathlib.Core.Bool.{Bool, true, false}
-use mathlib.Core.List.Memᴰ
 use mathlib.Core.List.{List, [], ◌∷◌, ◌++◌, Memᴰ}
 use Prim.Native.Nat.{ℕ, ◌≤◌, ◌<◌}
 use native.Mathlib.Omega.{arith}
@@ -12,10 +11,10 @@ use Rattle.definition.specs.Types.{TypeName, Var, State, max_depth, unsound_stat
 use Rattle.definition.specs.Store.{count, taken, sp}
 use Rattle.definition.specs.Subst.{forward_tvar, unfold_type}
 use Rattle.definition.specs.Join.{TypingCase, Join, Subtype, join_impl, join, subtype}
-use Rattle.definition.specs.Constraints.{num_vars, undecided, u64, default_num_var}
+use Rattle.definition.specs.Constraints.{num_vars, undecided, default_num_var, default_of}
 use Rattle.definition.specs.Write.{Bytes, write}
 use Rattle.definition.specs.Reader.{Read, got, not_read}
-use Rattle.definition.specs.Record.{Record, SD, FV, NV, SN, JN, SU, UF, RD, IN, TS, NC, BC, SC, SV, RM, CN, XP, read_record}
+use Rattle.definition.specs.Record.{Record, SD, FV, NV, SN, JN, SU, UF, RD, IN, TS, NC, BC, SC, SV, RM, CN, XP, read_record, NL}
 use Rattle.definition.specs.Trees.{Tree, arity}
 use Rattle.definition.specs.Step.{Answer, refusal, max_payload, answer, max_buffer, usable, two_types, lent, run, step}
 use Rattle.definition.specs.Rank.{NoneReachesItself}
@@ -26,9 +25,10 @@ use Rattle.theorems.proofs.DemandCalls.{sp_post, var_ok}
 use Rattle.theorems.proofs.SoundFacts.{and_r, facts}
 use Rattle.theorems.proofs.SoundRead.{ReadWell, given, Fine, FineRecord, well_read}
 use Rattle.theorems.proofs.DemandWent.{Went, PostS, ps_ok}
-use Rattle.theorems.proofs.DemandRuns.{Declared, declared_on, Below, below_on, num_vars_below, place_went, u64_ok, default_went}
+use Rattle.theorems.proofs.DemandRuns.{Declared, declared_on, Below, below_on, num_vars_below, place_went, default_went, default_ok}
 use Rattle.theorems.proofs.JoinAnswers.{weight, Weighs, weighs, record_weighs, run_fits}
 use Rattle.theorems.proofs.TotalNoFail.{Sure, sure_ok, sure_is, takes_sure, CalmAt, placed_takes, new_calm, default_sure}
+use mathlib.Core.List.Memᴰ
 
 -- what a join is claimed from. E: what is given of its record
 pub record Fair (E : Type 0) (a : JoinCall) : Type 0 where
@@ -93,10 +93,10 @@ module _ {E : Type 0} where
     where
       go : (b : Bool) → undecided (unfold_type S (record { loc = loc; value = Var v })).value ≡ b → AllFair E (elim b [
         | false ↦ []
-        | true ↦ if_reached (sp S loc u64 >>= (λ (x : State × ℕ). sp x.0 loc (Var v) >>= (λ (y : State × ℕ). ok (record { before = y.0; case = Join; lhs = x.1; rhs = y.1 } ∷ []))))
+        | true ↦ if_reached (sp S loc (default_of S v) >>= (λ (x : State × ℕ). sp x.0 loc (Var v) >>= (λ (y : State × ℕ). ok (record { before = y.0; case = Join; lhs = x.1; rhs = y.1 } ∷ []))))
       ])
       go false e = none_fair
-      go true e = post_fair _ (sp_post s loc u64 (u64_ok d)) (λ S1 l p.
+      go true e = post_fair _ (sp_post s loc (default_of S v) (default_ok d S v)) (λ S1 l p.
           post_fair _ (sp_post p.sound loc (Var v) (var_ok v (omega (arith, p.same_vars)))) (λ S2 r q.
           one_fair _ (record {
             ar = ar;
@@ -127,6 +127,7 @@ module _ {E : Type 0} where
   run_calls_fair S s (FV loc) f w n z = none_fair
   run_calls_fair S s (NV loc) f w n z = none_fair
   run_calls_fair S s (SN v loc) f w n z = none_fair
+  run_calls_fair S s (NL loc bits) f w n z = none_fair
   run_calls_fair S s (JN t1 t2) f w n z = two_fair Join S s t1 t2 f.0 f.1 (λ e s' p d. subst (λ (x : Answer). NoneReachesItself x.state) (run_fits s Join t1 t2 f w s' p d) (z e))
   run_calls_fair S s (SU t1 t2) f w n z = two_fair Subtype S s t1 t2 f.0 f.1 (λ e s' p d. subst (λ (x : Answer). NoneReachesItself x.state) (run_fits s Subtype t1 t2 f w s' p d) (z e))
   run_calls_fair S s (UF t) f w n z = none_fair

@@ -7,7 +7,7 @@ use Prim.Native.Nat.{ℕ}
 use Rattle.definition.specs.Types.{Var, State, max_depth, TypingError, Refusal, Result, ok, err, refused, ◌>>=◌}
 use Rattle.definition.specs.Store.{sp}
 use Rattle.definition.specs.Join.{TypingCase, Join, Subtype, join_impl, join, subtype}
-use Rattle.definition.specs.Constraints.{num_vars, undecided, u64, default_num_var, default_num_vars, solve_all, solve_constraints}
+use Rattle.definition.specs.Constraints.{num_vars, undecided, default_num_var, default_num_vars, solve_all, solve_constraints, default_of}
 use Rattle.definition.specs.Write.{Bytes, write}
 use Rattle.definition.specs.Record.{JN, SU, SV}
 use Rattle.definition.specs.Trees.{Tree}
@@ -71,13 +71,13 @@ num_made S v loc = go (undecided _)
 
     go : (b : Bool) → Default S (elim b [
       | false ↦ ok S
-      | true ↦ sp S loc u64 >>= (λ (z : State × ℕ). sp z.0 loc (Var v) >>= (λ (y : State × ℕ). join y.0 z.1 y.1 >>= (λ (x : State × ℕ). ok x.0)))
+      | true ↦ sp S loc (default_of S v) >>= (λ (z : State × ℕ). sp z.0 loc (Var v) >>= (λ (y : State × ℕ). join y.0 z.1 y.1 >>= (λ (x : State × ℕ). ok x.0)))
     ]) (elim b [
       | false ↦ []
-      | true ↦ if_reached (sp S loc u64 >>= (λ (z : State × ℕ). sp z.0 loc (Var v) >>= (λ (y : State × ℕ). ok (record { before = y.0; case = Join; lhs = z.1; rhs = y.1 } ∷ []))))
+      | true ↦ if_reached (sp S loc (default_of S v) >>= (λ (z : State × ℕ). sp z.0 loc (Var v) >>= (λ (y : State × ℕ). ok (record { before = y.0; case = Join; lhs = z.1; rhs = y.1 } ∷ []))))
     ])
     go false = decided
-    go true = first (sp S loc u64) (no_sp S loc u64)
+    go true = first (sp S loc (default_of S v)) (no_sp S loc (default_of S v))
 
 -- one variable after the other, each in the state that the last one left
 pub data Defaults : State → Result State → List JoinCall → Type 0 where

@@ -28,6 +28,7 @@ use Rattle.theorems.proofs.LawsPost.{grown_refl, Post, p_ok, p_err, p_refused, p
 use Rattle.theorems.proofs.DemandCalls.{quiet_grown, sp_post, next_tvar_post, join_bind_tvar_post, Joined, Good, join_tvar_post}
 use Rattle.theorems.proofs.SoundFacts.{not_false}
 use lib.Dec.{eqb, eqb→eq, T}
+use Rattle.theorems.proofs.MetSteps.{held_insert}
 
 -- ---- which arm two types take
 
@@ -298,7 +299,7 @@ module _ {ar : TypeName → ℕ} (join : JoinImpl) (g : Good ar join) {S : State
         right = t_fit (r_var m.is (here (ends_stop m.ends2)) (rw lf at la.bound)) la.fits;
         plain = λ a b. nonvar_var a el;
       })
-      (post_from (quiet_grown (quiet_bind v.sound f r v.free v.f_in r1 k1) (structs_insert S1 f r))
+      (post_from (quiet_grown (quiet_bind v.sound f r v.free v.f_in r1 k1) (structs_insert S1 f r) (held_insert S1 f r v.f_in (λ n. never (let z = v.no_mark in cc))))
       (join_tvar_post join g s2 c (loc_of S1 l) id (loc_of S1 r) f (omega (arith, q2.q_vars)) (omega (arith, v.f_in, taken_insert S1 f r))))))
 
   var_r_post : (id : ℕ) → solid (type_at S l) ≡ true → type_at S r ≡ Var id → Post ar S (Joined ar S l r) (join_arm join S c l r (VarR id))
@@ -325,7 +326,7 @@ module _ {ar : TypeName → ℕ} (join : JoinImpl) (g : Good ar join) {S : State
         left = t_fit (r_var m.is (here (ends_stop m.ends1)) (rw lf at la.bound)) la.fits;
         plain = λ a b. nonvar_var b er;
       })
-      (post_from (quiet_grown (quiet_bind v.sound f l v.free v.f_in l1 k1) (structs_insert S1 f l))
+      (post_from (quiet_grown (quiet_bind v.sound f l v.free v.f_in l1 k1) (structs_insert S1 f l) (held_insert S1 f l v.f_in (λ n. never (let z = v.no_mark in cc))))
       (join_tvar_post join g s2 c (loc_of S1 l) f (loc_of S1 r) id (omega (arith, v.f_in, taken_insert S1 f l)) (omega (arith, q2.q_vars))))))
 
   join_arm_post : {a : Arm} → Took (type_at S l) (type_at S r) a → Post ar S (Joined ar S l r) (join_arm join S c l r a)

@@ -1,6 +1,6 @@
 -- The merge of two variables: both chain ends are bound to a new variable, which takes the join of their types. Assumes nothing.
 -- `Ready` says what holds before the two bindings. From it: which chains change and how, that they still end, that nothing known is lost, and so that the state goes up.
-use mathlib.Core.Path.{◌≡◌, refl, sym, ◌∙◌, subst}
+use mathlib.Core.Path.{◌≡◌, refl, sym, ◌∙◌, subst, ap}
 use mathlib.Core.Logic.{◌≢◌, ◌⊎◌, inl, inr}
 use mathlib.Core.Bool.{true}
 use Rattle.std.specs.Prelude.{None, Some}
@@ -9,14 +9,14 @@ use native.Mathlib.Decide.{ℕ_discrete}
 use native.Mathlib.Omega.{arith}
 use Rattle.definition.specs.Types.{TypeName, Var}
 use Rattle.definition.specs.Types.{State}
-use Rattle.definition.specs.Store.{count, taken, type_at, get, insert}
+use Rattle.definition.specs.Store.{count, taken, type_at, get, insert, num_loc, need_of}
 use Rattle.definition.specs.Subst.{next_of, as_var, is_anything}
 use Rattle.theorems.proofs.Laws.{get_beyond, on_nodes, constraints_insert}
-use Rattle.theorems.proofs.Laws.{places_same, get_insert_same, get_insert_other, insert_nodes, value_insert, count_insert, taken_insert}
+use Rattle.theorems.proofs.Laws.{places_same, get_insert_same, get_insert_other, insert_nodes, value_insert, count_insert, taken_insert, needs_same, is_num_same, need_insert, num_insert}
 use Rattle.theorems.proofs.LawsChains.{Within, w_here, w_hop, within_same, next_agree, next_none, next_var}
 use Rattle.theorems.proofs.DemandTracks.{Ends, here, hop, solid, r_self, r_var}
 use Rattle.theorems.proofs.DemandTracks.{Tracks, t_any, t_var, t_fit, Fits}
-use Rattle.theorems.proofs.DemandTracks.{never, solid_any, solid_var, nonvar_var, fits_solid_r}
+use Rattle.theorems.proofs.DemandTracks.{never, solid_any, solid_var, nonvar_var, fits_solid_r, ends_det}
 use Rattle.theorems.proofs.DemandOrder.{Sound, Lands, ◌⊑◌, chain_within, bind_solid, fits_keep}
 use Rattle.theorems.proofs.DemandOrder.{⊑_trans}
 use Rattle.theorems.proofs.DemandSteps.{Quiet, quiet_⊑, chains_from}
@@ -36,6 +36,8 @@ pub record Ready (ar : TypeName → ℕ) (S P : State) (e1 e2 f n1 n2 : ℕ) : T
   pub n2_in : n2 < count P
   pub is1 : type_at P n1 ≡ Var f
   pub is2 : type_at P n2 ≡ Var f
+  pub need1 : need_of S e1 ≤ need_of P f
+  pub need2 : need_of S e2 ≤ need_of P f
 
 module _ {ar : TypeName → ℕ} {S P : State} {e1 e2 f n1 n2 : ℕ} (y : Ready ar S P e1 e2 f n1 n2) where
   abbrev pub tied : State
@@ -49,6 +51,12 @@ module _ {ar : TypeName → ℕ} {S P : State} {e1 e2 f n1 n2 : ℕ} (y : Ready 
 
   pub tkn : taken tied ≡ taken P
   tkn = taken_insert (insert P e1 n1) e2 n2 ∙ taken_insert P e1 n1
+
+  pub num_tied : (v : ℕ) → num_loc tied v ≡ num_loc P v
+  num_tied v = num_insert (insert P e1 n1) e2 n2 v ∙ num_insert P e1 n1 v
+
+  pub need_tied : (v : ℕ) → need_of tied v ≡ need_of P v
+  need_tied v = need_insert (insert P e1 n1) e2 n2 v ∙ need_insert P e1 n1 v
 
   pub get_e2 : get tied e2 ≡ Some n2
   get_e2 = get_insert_same (insert P e1 n1) e2 n2 (omega (arith, taken_insert P e1 n1, y.in2, y.quiet.q_vars))
@@ -121,6 +129,7 @@ module _ {ar : TypeName → ℕ} {S P : State} {e1 e2 f n1 n2 : ℕ} (y : Ready 
     bind_known = λ w u e. elim (tied_cases w u e) [ inl d ↦ rw (val u, d, y.is1) refl | inr (inl d) ↦ rw (val u, d, y.is2) refl | inr (inr d) ↦ rw (val u) (y.sound.bind_known w u d) ];
     chains = chains_from tied (suc (taken S)) (omega (arith, tkn, y.f_in, y.new)) (λ v l. within_tied (within_P v));
     constraints_on = on_nodes (constraints_insert (insert P e1 n1) e2 n2 ∙ constraints_insert P e1 n1) (omega (arith, cnt)) y.sound.constraints_on;
+    needs_in = needs_same P tied num_tied need_tied y.sound.needs_in;
   }
 
 pub tracks_solid : {S : State} {x r : ℕ} → Tracks S x r → solid (type_at S x) ≡ true → as_var (type_at S r) ≡ None → Fits S x r
@@ -169,8 +178,16 @@ module _ {ar : TypeName → ℕ} {S P : State} {e1 e2 f n1 n2 : ℕ} (y : Ready 
     more_vars = omega (arith, y.quiet.q_vars, tkn y, up3.more_vars);
     hops = λ v w h. up3.hops v w (next_rest y v (not_1 v w h) (not_2 v w h) ∙ y.quiet.q_next v ∙ h);
     lands = λ e T g n. land e T g n (which y e);
+    num_stays = λ v h. up3.num_stays v (is_num_same P (tied y) v (num_tied y v) ∙ y.quiet.q_num v h);
+    need_stays = λ v h. up3.need_stays v (omega (arith, y.quiet.q_vars, tkn y)) ∙ need_tied y v ∙ y.quiet.q_need v h;
+    end_grows = λ e e' i n d. grows e e' i n d (which y e);
   }
     where
+      grows : (e e' : ℕ) → e < taken S → next_of S e ≡ None → Ends S3 e e' → Which y e → need_of S e ≤ need_of S3 e'
+      grows e e' i n d (first k) = omega (arith, ap (λ (x : ℕ). need_of S x) k, ap (λ (x : ℕ). need_of S3 x) (ends_det (subst (λ (v : ℕ). Ends S3 v f) (sym k) ends_1) d), y.need1, need_tied y f, up3.need_stays f (omega (arith, y.f_in, tkn y)))
+      grows e e' i n d (second k) = omega (arith, ap (λ (x : ℕ). need_of S x) k, ap (λ (x : ℕ). need_of S3 x) (ends_det (subst (λ (v : ℕ). Ends S3 v f) (sym k) ends_2) d), y.need2, need_tied y f, up3.need_stays f (omega (arith, y.f_in, tkn y)))
+      grows e e' i n d (rest a b) = omega (arith, y.quiet.q_need e i, need_tied y e, up3.end_grows e e' (omega (arith, y.quiet.q_vars, tkn y)) (next_rest y e a b ∙ y.quiet.q_next e ∙ n) d)
+
       not_1 : (v w : ℕ) → next_of S v ≡ Some w → v ≢ e1
       not_1 v w h d = never (let p : next_of S e1 ≡ Some w = rw d at h in let r = y.end1 in cc)
 

@@ -1,6 +1,6 @@
 -- Sound states, and the order between states: S ⊑ S' where all that S knows S' knows. Assumes nothing.
 -- First soundness as a record, then the order, then facts of a sound state; at the end, that chains go on in the order and that it is reflexive and transitive.
-use mathlib.Core.Path.{◌≡◌, refl, ◌∙◌}
+use mathlib.Core.Path.{◌≡◌, refl, ◌∙◌, ap}
 use mathlib.Core.Bool.{true, false}
 use mathlib.Core.List.{List, [], ◌∷◌}
 use Rattle.std.specs.Prelude.{Option, None, Some}
@@ -9,13 +9,14 @@ use native.Mathlib.Omega.{arith}
 use lib.ListN.{length}
 use Rattle.definition.specs.Types.{TypeName, AbilityMark, TypeValue, UnitType, Ref, Param, Apply, Var, Anything, UnresolvedError}
 use Rattle.definition.specs.Types.{State}
-use Rattle.definition.specs.Store.{count, taken, node, type_at, get}
-use Rattle.theorems.proofs.Laws.{PlacesIn, OnNodes}
+use Rattle.definition.specs.Store.{count, taken, node, type_at, get, need_of}
+use Rattle.theorems.proofs.Laws.{PlacesIn, OnNodes, NeedsIn}
 use Rattle.definition.specs.Subst.{next_of, next_in, as_var, is_anything, forward_tvar, parts}
 use Rattle.theorems.proofs.LawsChains.{Within, stop_within, within_ends}
 use Rattle.theorems.proofs.DemandTracks.{Ends, here, hop, ends_stop, h_unit, h_ref, h_param, h_apply, solid, Reach, r_self, r_var, le_mut_refl}
 use Rattle.theorems.proofs.DemandTracks.{Tracks, t_any, t_var, t_fit, Fits, f_err, f_node, TracksAll, ta_nil, ta_cons, fits_trans}
-use Rattle.theorems.proofs.DemandTracks.{never, Kind, k_any, k_var, k_solid, kind, solid_any, solid_var, nonvar_var}
+use Rattle.theorems.proofs.DemandTracks.{never, Kind, k_any, k_var, k_solid, kind, solid_any, solid_var, nonvar_var, ends_det}
+use Rattle.definition.specs.Join.{is_num_var}
 
 abbrev pub All : {A : Type 0} → (A → Type 0) → List A → Type 0
 All P [] = Unit {0}
@@ -30,6 +31,7 @@ pub record Sound (ar : TypeName → ℕ) (S : State) : Type 0 where
   pub bind_known : (v t : ℕ) → get S v ≡ Some t → is_anything (type_at S t) ≡ false
   pub chains : (v : ℕ) → v < taken S → next_of S (forward_tvar S v) ≡ None
   pub constraints_on : OnNodes S
+  pub needs_in : NeedsIn S
 
 -- the nodes alone, and the constraints on them
 pub record Nodes (ar : TypeName → ℕ) (S : State) : Type 0 where
@@ -57,6 +59,10 @@ pub record ◌⊑◌ (S S' : State) : Type 0 where
   pub more_vars : taken S ≤ taken S'
   pub hops : (v w : ℕ) → next_of S v ≡ Some w → next_of S' v ≡ Some w
   pub lands : (e T : ℕ) → get S e ≡ Some T → next_of S e ≡ None → Lands S' e T
+  -- marks stay; a variable's need stays as it was taken with, and that of its chain's end does not sink
+  pub num_stays : (v : ℕ) → is_num_var S v ≡ true → is_num_var S' v ≡ true
+  pub need_stays : (v : ℕ) → v < taken S → need_of S' v ≡ need_of S v
+  pub end_grows : (e e' : ℕ) → e < taken S → next_of S e ≡ None → Ends S' e e' → need_of S e ≤ need_of S' e'
 
 -- ---- facts of a sound state
 
@@ -181,6 +187,9 @@ pub ⊑_refl : {ar : TypeName → ℕ} {S : State} → Sound ar S → S ⊑ S
   more_vars = omega arith;
   hops = λ v w h. h;
   lands = λ e T g n. record { last = e; type = T; ends = here n; bound = g; fits = fits_refl s (s.bind_in e T g) (bind_solid s e T g n) };
+  num_stays = λ v h. h;
+  need_stays = λ v h. refl;
+  end_grows = λ e e' i n d. omega (arith, ap (λ (x : ℕ). need_of S x) (ends_det (here n) d));
 }
 
 pub ⊑_trans : {ar : TypeName → ℕ} {S S' S'' : State} → Sound ar S → Sound ar S' → Sound ar S'' → S ⊑ S' → S' ⊑ S'' → S ⊑ S''
@@ -190,6 +199,15 @@ pub ⊑_trans : {ar : TypeName → ℕ} {S S' S'' : State} → Sound ar S → So
   more_vars = omega (arith, x.more_vars, y.more_vars);
   hops = λ v w h. y.hops v w (x.hops v w h);
   lands = λ e T g n. go e T g n (x.lands e T g n);
+  num_stays = λ v h. y.num_stays v (x.num_stays v h);
+  need_stays = λ v h. y.need_stays v (omega (arith, x.more_vars)) ∙ x.need_stays v h;
+  end_grows = λ e e'' i n d.
+      let i' : e < taken S' = omega (arith, x.more_vars) in
+      let c = chain s' e i' in
+      let j = ends_in s' i' c in
+      let r = chain s'' (forward_tvar S' e) (omega (arith, y.more_vars)) in
+      let k = ap (λ (z : ℕ). need_of S'' z) (ends_det (ends_keep y c r) d) in
+      omega (arith, x.end_grows e (forward_tvar S' e) i n c, y.end_grows (forward_tvar S' e) _ j (ends_stop c) r, k);
 }
   where
     go : (e T : ℕ) → get S e ≡ Some T → next_of S e ≡ None → Lands S' e T → Lands S'' e T

@@ -6,13 +6,14 @@ use Prim.Native.Nat.{ℕ, zero, suc, ◌-◌}
 use native.Mathlib.Omega.{arith}
 use lib.ListN.{get_or, replicate, length-append, length-replicate}
 use Rattle.definition.specs.Types.{TypeName, Cell, unbound, State}
-use Rattle.definition.specs.Store.{count, taken, type_at, get, with_vars}
+use Rattle.definition.specs.Store.{count, taken, type_at, get, with_vars, num_loc, need_of}
 use Rattle.definition.specs.Step.{put_back}
-use Rattle.theorems.proofs.Laws.{on_nodes, constraints_vars, SameNodes, vars_nodes, value_same, count_same, places_same, get_beyond}
+use Rattle.theorems.proofs.Laws.{on_nodes, constraints_vars, SameNodes, vars_nodes, value_same, count_same, places_same, get_beyond, is_num_same, needs_same}
 use Rattle.theorems.proofs.LawsChains.{Within, w_here, within_same, next_agree, next_none}
 use Rattle.theorems.proofs.DemandOrder.{Sound, Nodes, chain_within}
 use Rattle.theorems.proofs.DemandSteps.{Quiet, chains_from}
 use Rattle.theorems.proofs.LawsPost.{Grown}
+use Rattle.theorems.proofs.MetSteps.{Keeps, held_same}
 
 getD_none : (n v : ℕ) → get_or (replicate n unbound) v unbound ≡ unbound
 getD_none zero v = refl
@@ -36,6 +37,14 @@ module _ {ar : TypeName → ℕ} {S E : State} (s : Sound ar S) (g : Grown S E) 
   unfolding get put_back with_vars
   got_back v = ap (λ (c : Cell). c.binding) (getD_more S.vars (taken E - taken S) v)
 
+  num_back : (v : ℕ) → num_loc B v ≡ num_loc S v
+  unfolding num_loc put_back with_vars
+  num_back v = ap (λ (c : Cell). c.numeric) (getD_more S.vars (taken E - taken S) v)
+
+  need_back : (v : ℕ) → need_of B v ≡ need_of S v
+  unfolding need_of put_back with_vars
+  need_back v = ap (λ (c : Cell). c.need) (getD_more S.vars (taken E - taken S) v)
+
   kept_taken : taken B ≡ taken E
   unfolding put_back with_vars
   kept_taken = length-append S.vars _ ∙ omega (arith, length-replicate (taken E - taken S) unbound, g.g_vars)
@@ -57,7 +66,12 @@ module _ {ar : TypeName → ℕ} {S E : State} (s : Sound ar S) (g : Grown S E) 
     q_vars = omega (arith, kept_taken, g.g_vars);
     q_next = λ v. next_agree S B v (got_back v) (λ t e. val t ∙ g.g_kept t (s.bind_in v t e));
     q_get = λ v t h. got_back v ∙ h;
+    q_num = λ v h. is_num_same S B v (num_back v) ∙ h;
+    q_need = λ v h. need_back v;
   }
+
+  pub held_put_back : Keeps S B
+  held_put_back = held_same S B (λ v t e. val t ∙ g.g_kept t (s.bind_in v t e)) got_back num_back need_back
 
   pub sound_put_back : Sound ar B
   sound_put_back = record {
@@ -69,6 +83,7 @@ module _ {ar : TypeName → ℕ} {S E : State} (s : Sound ar S) (g : Grown S E) 
     bind_known = λ v t e. let h : get S v ≡ Some t = sym (got_back v) ∙ e in rw (val t, g.g_kept t (s.bind_in v t h)) (s.bind_known v t h);
     chains = chains_from B (taken S) quiet_put_back.q_vars (λ v h. within_same quiet_put_back.q_next (old v));
     constraints_on = on_nodes back_constraints (omega (arith, cnt)) n.n_constraints;
+    needs_in = needs_same S B num_back need_back s.needs_in;
   }
     where
       old : (v : ℕ) → Within S (taken S) v

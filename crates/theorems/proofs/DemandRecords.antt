@@ -1,43 +1,76 @@
 -- Every record's run goes up, or leaves the state as it was, or ends in an error whose nodes are sound. Assumes nothing.
 -- First the runs that give back the state as it was, then constraints, then record by record by the rules of Went and the main lemma.
 use mathlib.Core.Path.{◌≡◌, refl}
-use mathlib.Core.Bool.{Bool, true}
+use mathlib.Core.Bool.{Bool, true, false}
 use mathlib.Core.List.{List, [], ◌∷◌, ◌++◌}
 use Rattle.std.specs.Prelude.{Option, None, Some}
 use Prim.Native.Nat.{ℕ, ◌<◌}
 use native.Mathlib.Omega.{arith}
+use lib.Dec.{leb}
 use Rattle.definition.specs.Types.{TypeName, TypeValue, Constraint, State}
-use Rattle.definition.specs.Store.{count, taken, get, with_constraints, with_structs, sp, declare}
-use Rattle.definition.specs.Types.{TypingError, Refusal, Result, ok, err, refused, ◌>>=◌}
-use Rattle.definition.specs.Join.{join, subtype}
+use Rattle.definition.specs.Store.{count, taken, get, with_constraints, with_structs, sp, declare, num_loc, need_of, with_need, with_var}
+use Rattle.definition.specs.Types.{TypingError, Refusal, Result, ok, err, refused, ◌>>=◌, Var}
+use Rattle.definition.specs.Join.{join, subtype, is_num_var}
 use Rattle.definition.specs.TParams.{subst_tparams}
 use Rattle.definition.specs.Constraints.{num_vars, solve_constraints}
-use Rattle.definition.specs.Write.{Bytes}
-use Rattle.definition.specs.Record.{NumericKind, Numeric, Bits, Ordered, Record, SD, FV, NV, SN, JN, SU, UF, RD, IN, TS, NC, BC, SC, SV, RM, CN, XP}
+use Rattle.definition.specs.Write.{Bytes, head}
+use Rattle.definition.specs.Record.{NumericKind, Numeric, Bits, Ordered, Record, SD, FV, NV, SN, JN, SU, UF, RD, IN, TS, NC, BC, SC, SV, RM, CN, XP, NL}
 use Rattle.definition.specs.Trees.{Tree, arity}
 use Rattle.definition.specs.Build.{build}
 use Rattle.definition.specs.Needs.{Needs, needs}
 use Rattle.definition.specs.Step.{numeric_constraint, constrain, two_types, tell, run}
-use Rattle.theorems.proofs.Laws.{SameNodes, num_marks, type_on}
+use Rattle.theorems.proofs.Laws.{SameNodes, num_marks, type_on, NeedsIn, value_same, need_set_num, literal_marks, literal_others}
 use Rattle.theorems.proofs.DemandOrder.{Sound, Nodes}
-use Rattle.theorems.proofs.DemandSteps.{quiet_same, sound_same, quiet_marks, sound_marks}
+use Rattle.theorems.proofs.DemandSteps.{quiet_same, quiet_marks, sound_marks, sound_chains, quiet_fresh}
 use Rattle.theorems.proofs.LawsPost.{Grown, grown_refl, Post, p_ok, p_err, p_refused, post_map, bind_post}
-use Rattle.theorems.proofs.SoundRoom.{with_room, sp_room, struct_room}
-use Rattle.theorems.proofs.DemandCalls.{quiet_grown, next_tvar_post}
+use Rattle.theorems.proofs.SoundRoom.{with_room, sp_room, struct_room, tvar_room}
+use Rattle.theorems.proofs.DemandCalls.{quiet_grown, next_tvar_post, new_var}
 use Rattle.theorems.proofs.DemandMain.{join_impl_good}
 use Rattle.theorems.proofs.SoundRead.{Fine, FineRecord}
 use Rattle.theorems.proofs.SolveInTurn.{solve_cases}
-use Rattle.theorems.proofs.DemandWent.{Went, WentTo, went_refl, went_trans, went_of, went_quiet, bindS_post, quiet_list, sound_cleared, add_went, join_went}
+use Rattle.theorems.proofs.DemandWent.{Went, WentTo, went_refl, went_trans, went_of, went_quiet, bindS_post, quiet_list, sound_cleared, add_went, join_went, held_list}
 use Rattle.theorems.proofs.TotalWalk.{Ends, e_ok, e_err, e_refused, RunOr, place_run, pairs_run, ready_tvars_run, subst_run, make_run, expand_run}
 use Rattle.theorems.proofs.DemandRuns.{declared_on, place_went, instantiate_went, defaults_went, num_vars_below}
+use Rattle.definition.specs.Subst.{set_num_var}
+use Rattle.theorems.proofs.DemandTracks.{never}
+use Rattle.theorems.proofs.MetSteps.{Keeps, Claim, is_held, is_bare, Claimed, keeps_claim, bare_num, held_same, held_var, held_num, held_literal}
 
-pub data Leaves (ar : TypeName → ℕ) (S : State) : Result (State × Bytes) → Type 0 where
-  l_ok : {S' : State} {p : Bytes} → Went ar S S' → Leaves ar S (ok (S', p))
-  l_err : {S' : State} {e : TypingError} → Grown S S' → Nodes ar S' → Leaves ar S (err S' e)
-  l_refused : {x : Refusal} → Leaves ar S (refused x)
+-- what a record does to needs of its own: SN marks variables without a check, NL takes one that has a need
+pub data Literals : Type 0 where
+  marks takes neither : Literals
 
-leaves_post : {ar : TypeName → ℕ} {S : State} {m : Result (State × Bytes)} → Post ar S (λ S' p. Went ar S S') m → Leaves ar S m
-leaves_post (p_ok g w) = l_ok w
+unfoldable pub literals : Record → Literals
+literals (SD abilities params) = neither
+literals (FV loc) = neither
+literals (NV loc) = neither
+literals (SN v loc) = marks
+literals (NL loc bits) = takes
+literals (JN t1 t2) = neither
+literals (SU t1 t2) = neither
+literals (UF t) = neither
+literals (RD t) = neither
+literals (IN t) = neither
+literals (TS pairs t) = neither
+literals (NC loc kind t) = neither
+literals (BC loc t) = neither
+literals (SC loc t) = neither
+literals SV = neither
+literals (RM t) = neither
+literals (CN t) = neither
+literals (XP t) = neither
+
+-- a claim is kept by every record but those of one mark
+unfoldable pub spares : Claim → Literals → Bool
+spares is_held r = elim r [ marks ↦ false | takes ↦ true | neither ↦ true ]
+spares is_bare r = elim r [ marks ↦ true | takes ↦ false | neither ↦ true ]
+
+pub data Leaves (r : Literals) (ar : TypeName → ℕ) (S : State) : Result (State × Bytes) → Type 0 where
+  l_ok : {S' : State} {p : Bytes} → Went ar S S' → ((q : Claim) → spares q r ≡ true → Claimed q S → Claimed q S') → Leaves r ar S (ok (S', p))
+  l_err : {S' : State} {e : TypingError} → Grown S S' → Nodes ar S' → Leaves r ar S (err S' e)
+  l_refused : {x : Refusal} → Leaves r ar S (refused x)
+
+leaves_post : {r : Literals} {ar : TypeName → ℕ} {S : State} {m : Result (State × Bytes)} → Post ar S (λ S' p. Went ar S S') m → Leaves r ar S m
+leaves_post (p_ok g w) = l_ok w (λ q c. keeps_claim g.g_keeps q)
 leaves_post (p_err g n) = l_err g n
 leaves_post p_refused = l_refused
 
@@ -51,8 +84,8 @@ pub data Returns (S : State) : Result (State × Bytes) → Type 0 where
   r_ok : {p : Bytes} → Returns S (ok (S, p))
   r_refused : {x : Refusal} → Returns S (refused x)
 
-leaves_returns : {ar : TypeName → ℕ} {S : State} {m : Result (State × Bytes)} → Sound ar S → Returns S m → Leaves ar S m
-leaves_returns s r_ok = l_ok (went_refl s)
+leaves_returns : {r : Literals} {ar : TypeName → ℕ} {S : State} {m : Result (State × Bytes)} → Sound ar S → Returns S m → Leaves r ar S m
+leaves_returns s r_ok = l_ok (went_refl s) (λ q c h. h)
 leaves_returns s r_refused = l_refused
 
 pub no_bind : {A B : Type 0} {m : Result A} (f : A → Result B) → NoErr m → ((a : A) → NoErr (f a)) → NoErr (m >>= f)
@@ -98,7 +131,7 @@ module _ (S : State) (s : Sound (arity S) S) where
   ar = arity S
 
   two_leaves : (f : State → ℕ → ℕ → Result (State × ℕ)) → ((S' : State) (l r : ℕ) → Sound ar S' → l < count S' → r < count S' → Post ar S' (WentTo ar S') (f S' l r))
-      → (t1 t2 : Tree) → Fine ar (taken S) t1 → Fine ar (taken S) t2 → Leaves ar S (two_types f S t1 t2)
+      → (t1 t2 : Tree) → Fine ar (taken S) t1 → Fine ar (taken S) t2 → Leaves neither ar S (two_types f S t1 t2)
   unfolding two_types
   two_leaves f h t1 t2 f1 f2 = leaves_post (
       bind_post _ (place_went f1 s (omega arith)) (λ S1 l g1 w1.
@@ -110,16 +143,16 @@ module _ (S : State) (s : Sound (arity S) S) where
   unfolding subtype
   subtype_went S' l r s' i j = post_map (λ S'' t g k. record { sound = k.sound; above = k.above; t_in = k.t_in }) (join_impl_good _ S' _ l r s' i j)
 
-  constrain_leaves : (t : Tree) (make : ℕ → Constraint) → ((ty : ℕ) → type_on (make ty) ≡ ty) → Fine ar (taken S) t → Leaves ar S (constrain S t make)
+  constrain_leaves : (t : Tree) (make : ℕ → Constraint) → ((ty : ℕ) → type_on (make ty) ≡ ty) → Fine ar (taken S) t → Leaves neither ar S (constrain S t make)
   unfolding constrain
   constrain_leaves t make on f = leaves_post (
       bind_post _ (place_went f s (omega arith)) (λ S1 ty g1 w1.
       bindS_post _ (add_went w1.sound _ (rw (on ty) w1.t_in)) (λ S2 g2 w2. p_ok (grown_refl S2) (went_trans s (went_of w1) w2))))
 
-  declare_leaves : (a : ℕ) (ps : List ℕ) (f : ℕ → Bytes) → Leaves ar S (declare S a ps >>= λ (x : State × ℕ). ok (x.0, f x.1))
-  unfolding ◌>>=◌ with_structs get
-  declare_leaves a ps f = with_room (λ m. Leaves ar S (m >>= λ (x : State × ℕ). ok (x.0, f x.1))) (struct_room S a ps)
-      (λ e. l_ok (went_quiet s (sound_same s same (omega arith) (λ v. refl) (record { on = s.constraints_on.on })) (quiet_same s same (omega arith) (λ v. refl)))) l_refused
+  declare_leaves : (a : ℕ) (ps : List ℕ) (f : ℕ → Bytes) → Leaves neither ar S (declare S a ps >>= λ (x : State × ℕ). ok (x.0, f x.1))
+  unfolding ◌>>=◌ with_structs get num_loc need_of is_num_var NeedsIn
+  declare_leaves a ps f = with_room (λ m. Leaves neither ar S (m >>= λ (x : State × ℕ). ok (x.0, f x.1))) (struct_room S a ps)
+      (λ e. l_ok (went_quiet s (sound_chains s same (omega arith) (λ v. refl) (record { on = s.constraints_on.on }) (λ n. n)) (quiet_same s same (omega arith) (λ v. refl) (λ v h. h) (λ v h. refl))) (λ q c. keeps_claim kept q)) l_refused
     where
       S' : State
       S' = with_structs S (S.structs ++ (record { abilities = a; params = ps } ∷ []))
@@ -127,24 +160,42 @@ module _ (S : State) (s : Sound (arity S) S) where
       same : SameNodes S S'
       same = record { same_nodes = refl; same_args = refl }
 
-  solve_leaves : Leaves ar S (solve_constraints S)
+      kept : Keeps S S'
+      kept = held_same S S' (λ v t e. value_same same t) (λ v. refl) (λ v. refl) (λ v. refl)
+
+  solve_leaves : Leaves neither ar S (solve_constraints S)
   unfolding solve_constraints with_constraints
   solve_leaves = leaves_post (bindS_post _ (defaults_went (num_vars 0 S.vars) s (λ n. refl) (num_vars_below 0 S.vars (taken S) (omega arith))) (λ S1 g1 w1.
       let q = quiet_list w1.sound [] in
-      solve_cases S1 (Post ar S1 (λ S2 p. Went ar S S2)) (λ failures. p_ok (quiet_grown q refl) (went_trans s w1 (went_quiet w1.sound (sound_cleared w1.sound) q))) p_refused p_refused))
+      solve_cases S1 (Post ar S1 (λ S2 p. Went ar S S2)) (λ failures. p_ok (quiet_grown q refl (held_list w1.sound [])) (went_trans s w1 (went_quiet w1.sound (sound_cleared w1.sound) q))) p_refused p_refused))
 
   placed : (t : Tree) (S' : State) → RunOr ⊥ S true (λ s. ⊥) (build t S')
   placed t S' = place_run ⊥ S true t (λ h. absurd h) S' (λ h. absurd h)
 
-  pub run_leaves : (r : Record) → FineRecord ar (taken S) r → Leaves ar S (run S r)
-  unfolding run subst_tparams
+  literal_kept : (loc bits : ℕ) → leb bits 256 ≡ true → (q : Claim) → spares q takes ≡ true → Claimed q S → Claimed q (with_need (set_num_var (with_var S) (taken S) loc) (taken S) bits)
+  unfolding Claimed spares
+  literal_kept loc bits f is_held c h = held_literal (with_var S) (taken S) loc bits (new_var s).free (new_var s).no_need f ((held_var s).held h)
+  literal_kept loc bits f is_bare c h = never (cc)
+
+  mark_kept : (v loc : ℕ) (q : Claim) → spares q marks ≡ true → Claimed q S → Claimed q (set_num_var S v loc)
+  unfolding Claimed spares
+  mark_kept v loc is_held c h = never (cc)
+  mark_kept v loc is_bare c h = bare_num S v loc h
+
+  pub run_leaves : (r : Record) → FineRecord ar (taken S) r → Leaves (literals r) ar S (run S r)
+  unfolding run subst_tparams literals ◌>>=◌
   run_leaves (SD a ps) f = declare_leaves a ps _
   run_leaves (FV loc) f = leaves_post (bind_post _ (next_tvar_post s) (λ S1 v g w. p_ok (grown_refl S1) (went_quiet s w.sound w.quiet)))
   run_leaves (NV loc) f = leaves_post (bind_post _ (next_tvar_post s) (λ S1 v g w.
       let m = num_marks S1 v loc in
-      let q = quiet_marks w.sound m in
-      p_ok (quiet_grown q m.m_structs) (went_trans s (went_quiet s w.sound w.quiet) (went_quiet w.sound (sound_marks w.sound m) q))))
-  run_leaves (SN v loc) f = let m = num_marks S v loc in l_ok (went_quiet s (sound_marks s m) (quiet_marks s m))
+      let q = quiet_marks w.sound m (λ x h. need_set_num S1 v loc x) in
+      p_ok (quiet_grown q m.m_structs (held_num S1 v loc w.free)) (went_trans s (went_quiet s w.sound w.quiet) (went_quiet w.sound (sound_marks w.sound m) q))))
+  run_leaves (NL loc bits) f = with_room (λ m. Leaves takes ar S (m >>= λ (x : State × ℕ). ok (with_need (set_num_var x.0 x.1 loc) x.1 bits, head loc (Var x.1)))) (tvar_room S) (λ e.
+      let w = new_var s in
+      let m = literal_marks (with_var S) (taken S) loc bits f in
+      l_ok (went_quiet s (sound_marks w.sound m) (quiet_fresh w.sound w.quiet m (λ x h. literal_others (with_var S) (taken S) loc bits x (λ d. omega arith))))
+      (literal_kept loc bits f)) l_refused
+  run_leaves (SN v loc) f = let m = num_marks S v loc in l_ok (went_quiet s (sound_marks s m) (quiet_marks s m (λ x h. need_set_num S v loc x))) (mark_kept v loc)
   run_leaves (JN t1 t2) f = two_leaves join (λ S' l r s' i j. join_went s' l r i j) t1 t2 f.0 f.1
   run_leaves (SU t1 t2) f = two_leaves subtype subtype_went t1 t2 f.0 f.1
   run_leaves (UF t) f = leaves_returns s (returns_bind _ (placed t S) (λ a. r_ok))

@@ -3,18 +3,19 @@
 use mathlib.Core.Path.{◌≡◌, refl, sym, ap, ◌∙◌}
 use mathlib.Core.Bool.{Bool, true, false}
 use mathlib.Core.List.{List, [], ◌∷◌}
-use Rattle.std.specs.Prelude.{Option, None, Some}
+use Rattle.std.specs.Prelude.{Option, None, Some, if◌then◌else◌}
 use Prim.Native.Nat.{ℕ, zero, suc, ◌+◌, ◌≤◌, ◌<◌}
 use native.Mathlib.Omega.{arith}
 use lib.ListN.{length, length-map, length-replicate}
 use Rattle.definition.specs.Types.{TypeName, Multiple, Builtin, ModuleType, TypeValue, UnitType, Ref, Param, Apply, Var, Anything, UnresolvedError, AbilityConstraint, State, Cell}
-use Rattle.definition.specs.Store.{count, taken, type_at, loc_of, map_types}
+use Rattle.definition.specs.Store.{count, taken, type_at, loc_of, map_types, need_of}
 use Rattle.definition.specs.Types.{Result}
-use Rattle.definition.specs.Subst.{parts}
+use Rattle.definition.specs.Subst.{parts, forward_tvar}
 use Rattle.definition.specs.Trees.{Tree, Trees, arity}
 use Rattle.definition.specs.Build.{build, build_all}
 use Rattle.definition.specs.Instantiate.{tvar_constraint, builtin_tparams, struct_tparams, tparam_constraints, make_tparams, join_args, instantiate_type_args, instantiate_apply, instantiate_value, instantiate_down, instantiate}
-use Rattle.definition.specs.Constraints.{num_vars, undecided, u64, default_num_var, default_num_vars}
+use Rattle.definition.specs.Abilities.{primitives}
+use Rattle.definition.specs.Constraints.{num_vars, undecided, default_num_var, default_num_vars, default_builtin, default_integer, default_of}
 use Rattle.theorems.proofs.Laws.{type_on}
 use Rattle.theorems.proofs.DemandOrder.{All, All_map, Sound, ◌⊑◌}
 use Rattle.theorems.proofs.DemandSteps.{NodeOk}
@@ -24,6 +25,7 @@ use Rattle.theorems.proofs.DemandMain.{in_later}
 use Rattle.theorems.proofs.SoundRead.{size, Fine, fine_unit, fine_anything, fine_error, fine_ref, fine_param, fine_apply, fine_var, Fines, fine_none, fine_then}
 use Rattle.theorems.proofs.DemandWent.{Went, WentTo, went_refl, went_trans, went_of, went_on, PostS, ps_ok, postS_map, bindS_post, bind_postS, bindS_postS}
 use Rattle.theorems.proofs.DemandWent.{sp_went, make_tvar_went, add_went, join_went, ref_ok, apply_ok, unit_ok, any_ok, error_ok, param_ok}
+use lib.Dec.{leb}
 
 pub record WentAll (ar : TypeName → ℕ) (S : State) (n : ℕ) (S' : State) (ts : List ℕ) : Type 0 where
   pub sound : Sound ar S'
@@ -179,9 +181,14 @@ module _ {ar : TypeName → ℕ} where
 
   -- ---- solve_constraints
 
-  pub u64_ok : {S : State} → Declared ar S → NodeOk ar S u64
-  unfolding u64 arity builtin_tparams
-  u64_ok d = apply_ok _ _ [] tt (d _)
+  pub default_ok : {S : State} → Declared ar S → (S' : State) (v : ℕ) → NodeOk ar S (default_of S' v)
+  unfolding default_of default_integer default_builtin primitives arity builtin_tparams
+  default_ok {S} d S' v = go (leb (need_of S' (forward_tvar S' v)) 64) (leb (need_of S' (forward_tvar S' v)) 128)
+    where
+      go : (a b : Bool) → NodeOk ar S (Apply (Some 7) (Builtin (if a then 3 else if b then 4 else 9)) [])
+      go true b = apply_ok _ _ [] tt (d _)
+      go false true = apply_ok _ _ [] tt (d _)
+      go false false = apply_ok _ _ [] tt (d _)
 
   boolS_post : {S : State} {P : State → Type 0} (b : Bool) {x y : Result State} → PostS ar S P x → PostS ar S P y → PostS ar S P (elim b [ false ↦ x | true ↦ y ])
   boolS_post false f g = f
@@ -190,7 +197,7 @@ module _ {ar : TypeName → ℕ} where
   pub default_went : (v loc : ℕ) → {S : State} → Sound ar S → Declared ar S → v < taken S → PostS ar S (Went ar S) (default_num_var S v loc)
   unfolding default_num_var
   default_went v loc {S} s d h = boolS_post (undecided _) (ps_ok (grown_refl S) (went_refl s))
-      (bind_postS _ (sp_went s loc u64 (u64_ok d)) (λ S1 l g1 w1.
+      (bind_postS _ (sp_went s loc (default_of S v) (default_ok d S v)) (λ S1 l g1 w1.
       bind_postS _ (sp_went w1.sound loc (Var v) (var_ok v (omega (arith, w1.above.more_vars)))) (λ S2 r g2 w2.
       bind_postS _ (join_went w2.sound l r (omega (arith, w1.t_in, w2.above.more_nodes)) w2.t_in) (λ S3 t g3 w3.
       ps_ok (grown_refl S3) (went_trans s (went_of w1) (went_trans w1.sound (went_of w2) (went_of w3)))))))

@@ -2,26 +2,27 @@
 -- `Went` holds of no step and of one step after another; then rules for bind of runs that give a state, and the small steps.
 use mathlib.Core.Path.{◌≡◌, refl, sym, ap, ◌∙◌}
 use mathlib.Core.Bool.{Bool}
-use mathlib.Core.List.Memᴰ
 use mathlib.Core.List.{List, [], ◌∷◌, ◌++◌, Memᴰ}
 use mathlib.Core.Logic.{inl, inr}
 use Prim.Native.Nat.{ℕ, ◌<◌}
 use native.Mathlib.Omega.{arith}
 use lib.ListN.{length}
 use Rattle.definition.specs.Types.{TypeName, AbilityMark, TypeValue, UnitType, Ref, Param, Apply, Var, Anything, UnresolvedError, Constraint, State}
-use Rattle.definition.specs.Store.{count, get, with_constraints, sp, add_constraint}
+use Rattle.definition.specs.Store.{count, get, with_constraints, sp, add_constraint, num_loc, need_of}
 use Rattle.definition.specs.Types.{TypingError, Refusal, Result, ok, err, refused, ◌>>=◌}
 use Rattle.definition.specs.Subst.{parts}
-use Rattle.definition.specs.Join.{join}
+use Rattle.definition.specs.Join.{join, is_num_var}
 use Rattle.definition.specs.Instantiate.{make_tvar}
-use Rattle.theorems.proofs.Laws.{type_on}
+use Rattle.theorems.proofs.Laws.{type_on, value_same, NeedsIn}
 use Rattle.theorems.proofs.DemandTracks.{never}
 use Rattle.theorems.proofs.DemandOrder.{All, Sound, Nodes, ◌⊑◌, ⊑_refl, ⊑_trans}
-use Rattle.theorems.proofs.DemandSteps.{Quiet, quiet_⊑, quiet_same, sound_same, NodeOk}
+use Rattle.theorems.proofs.DemandSteps.{Quiet, quiet_⊑, quiet_same, NodeOk, sound_chains}
 use Rattle.theorems.proofs.LawsPost.{Grown, grown_trans, Post, p_ok, p_err, p_refused, post_from, post_map, bind_post}
 use Rattle.theorems.proofs.SoundRoom.{with_room, constraint_room}
 use Rattle.theorems.proofs.DemandCalls.{quiet_grown, sp_post, next_tvar_post, var_ok}
 use Rattle.theorems.proofs.DemandMain.{join_impl_good}
+use Rattle.theorems.proofs.MetSteps.{Keeps, held_same}
+use mathlib.Core.List.Memᴰ
 
 pub record Went (ar : TypeName → ℕ) (S S' : State) : Type 0 where
   pub sound : Sound ar S'
@@ -97,12 +98,16 @@ module _ {ar : TypeName → ℕ} where
 
   -- another list of constraints, on nodes
   pub quiet_list : {S : State} → Sound ar S → (cs : List Constraint) → Quiet S (with_constraints S cs)
-  unfolding with_constraints get
-  quiet_list s cs = quiet_same s (record { same_nodes = refl; same_args = refl }) (omega arith) (λ v. refl)
+  unfolding with_constraints get num_loc need_of is_num_var NeedsIn
+  quiet_list s cs = quiet_same s (record { same_nodes = refl; same_args = refl }) (omega arith) (λ v. refl) (λ v h. h) (λ v h. refl)
+
+  pub held_list : {S : State} → Sound ar S → (cs : List Constraint) → Keeps S (with_constraints S cs)
+  unfolding with_constraints get num_loc need_of
+  held_list {S} s cs = held_same S (with_constraints S cs) (λ v t e. value_same (record { same_nodes = refl; same_args = refl }) t) (λ v. refl) (λ v. refl) (λ v. refl)
 
   sound_list : {S : State} → Sound ar S → (cs : List Constraint) → ((c : Constraint) → Memᴰ c cs → type_on c < count S) → Sound ar (with_constraints S cs)
-  unfolding with_constraints get
-  sound_list s cs h = sound_same s (record { same_nodes = refl; same_args = refl }) (omega arith) (λ v. refl) (record { on = h })
+  unfolding with_constraints get num_loc need_of is_num_var NeedsIn
+  sound_list s cs h = sound_chains s (record { same_nodes = refl; same_args = refl }) (omega arith) (λ v. refl) (record { on = h }) (λ n. n)
 
   pub sound_added : {S : State} → Sound ar S → (c : Constraint) → type_on c < count S → Sound ar (with_constraints S (S.constraints ++ (c ∷ [])))
   sound_added {S} s c h = sound_list s (S.constraints ++ (c ∷ [])) (λ d m. elim (Memᴰ.append_cases S.constraints m) [ inl x ↦ s.constraints_on.on d x | inr x ↦ let e : d ≡ c = Memᴰ.eq_of_singleton x in rw e h ])
@@ -112,7 +117,7 @@ module _ {ar : TypeName → ℕ} where
 
   pub add_went : {S : State} → Sound ar S → (c : Constraint) → type_on c < count S → PostS ar S (Went ar S) (add_constraint S c)
   unfolding with_constraints
-  add_went {S} s c h = with_room (PostS ar S (Went ar S)) (constraint_room S c) (λ e. ps_ok (quiet_grown (quiet_list s _) refl) (went_quiet s (sound_added s c h) (quiet_list s _))) ps_refused
+  add_went {S} s c h = with_room (PostS ar S (Went ar S)) (constraint_room S c) (λ e. ps_ok (quiet_grown (quiet_list s _) refl (held_list s _)) (went_quiet s (sound_added s c h) (quiet_list s _))) ps_refused
 
   pub join_went : {S : State} → Sound ar S → (l r : ℕ) → l < count S → r < count S → Post ar S (WentTo ar S) (join S l r)
   unfolding join

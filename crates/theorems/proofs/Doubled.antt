@@ -13,7 +13,7 @@ use Rattle.definition.specs.Store.{taken}
 use Rattle.definition.specs.Write.{Bytes}
 use Rattle.definition.specs.Reader.{Reader, give, refuse, ◌>>=◌, read_one, read_two, read_three, byte, read_u16, read_u32, byte_if, byte_to, read_bool, name_below, times}
 use Rattle.definition.specs.Trees.{Tree, unit_tree, anything_tree, error_tree, ref_tree, param_tree, apply_tree, var_tree, Trees, no_trees, ◌then◌, is_set, under_ref, read_apply, by_tag, read_nested, read_type}
-use Rattle.definition.specs.Record.{Record, SD, FV, NV, SN, JN, SU, UF, RD, IN, TS, NC, BC, SC, SV, RM, CN, XP, read_kind, read_SD, read_pair, read_TS, by_mark, fields_of, read_fields, max_record, hand_back, read_record}
+use Rattle.definition.specs.Record.{Record, SD, FV, NV, SN, JN, SU, UF, RD, IN, TS, NC, BC, SC, SV, RM, CN, XP, read_kind, read_SD, read_pair, read_TS, by_mark, fields_of, read_fields, max_record, hand_back, read_record, NL, read_bits}
 use Rattle.theorems.proofs.DemandTracks.{never}
 
 -- ---- doubled references
@@ -50,6 +50,7 @@ doubled_record (SD abilities params) = false
 doubled_record (FV loc) = false
 doubled_record (NV loc) = false
 doubled_record (SN v loc) = false
+doubled_record (NL loc bits) = false
 doubled_record (JN t1 t2) = doubled t1 || doubled t2
 doubled_record (SU t1 t2) = doubled t1 || doubled t2
 doubled_record (UF t) = doubled t
@@ -137,6 +138,7 @@ module _ (read_type : Reader Tree) (s : State) where
       (82, 77, read_one RM read_type) ∷
       (67, 78, read_one CN read_type) ∷
       (88, 80, read_one XP read_type) ∷
+      (78, 76, read_two NL read_u32 read_bits) ∷
       []
 
   unfoldable pub fields_with : Reader Record

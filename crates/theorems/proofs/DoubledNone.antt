@@ -4,7 +4,6 @@
 use mathlib.Core.Path.{◌≡◌, refl, ap}
 use mathlib.Core.Logic.{◌≢◌}
 use mathlib.Core.Bool.{Bool, true, false, ◌&&◌, ◌||◌}
-use mathlib.Core.List.Memᴰ
 use mathlib.Core.List.{List, [], ◌∷◌, ◌++◌}
 use Rattle.std.specs.Prelude.{Option, None, Some}
 use Prim.Native.Nat.{ℕ, zero, suc, ◌<◌}
@@ -15,16 +14,16 @@ use lib.Dec.{leb}
 use Rattle.std.specs.Prelude.{if◌then◌else◌}
 use Rattle.definition.specs.Types.{TypeName, Shape, UnitType, Ref, Param, Apply, Var, Anything, UnresolvedError, TypeValue, Places, Node, State, fresh, max_depth}
 use Rattle.definition.specs.Types.{Constraint, answer_too_long, unsound_state, Result, ok, err, refused, ◌>>=◌}
-use Rattle.definition.specs.Store.{nowhere, count, node, type_at, loc_of, with_args, with_constraints, add_constraint, with_structs, declare, map_types}
+use Rattle.definition.specs.Store.{nowhere, count, node, type_at, loc_of, with_args, with_constraints, add_constraint, with_structs, declare, map_types, with_need}
 use Rattle.definition.specs.Subst.{parts, set_num_var}
 use Rattle.definition.specs.Join.{join, subtype}
 use Rattle.definition.specs.TParams.{subst_tparams}
 use Rattle.definition.specs.Instantiate.{make_tvar, make_tparams, join_args, instantiate_type_args, instantiate_apply, instantiate_value, instantiate_down, instantiate}
-use Rattle.definition.specs.Constraints.{undecided, u64, default_num_var, default_num_vars, solve_constraints}
+use Rattle.definition.specs.Constraints.{undecided, default_num_var, default_num_vars, solve_constraints, default_integer, default_of}
 use Rattle.definition.specs.Write.{Bytes, u32}
 use Rattle.definition.specs.Reader.{Read, got, not_read}
 use Rattle.definition.specs.Trees.{Tree, unit_tree, anything_tree, error_tree, ref_tree, param_tree, apply_tree, var_tree, Trees, no_trees, ◌then◌}
-use Rattle.definition.specs.Record.{Record, SD, FV, NV, SN, JN, SU, UF, RD, IN, TS, NC, BC, SC, SV, RM, CN, XP, read_record}
+use Rattle.definition.specs.Record.{Record, SD, FV, NV, SN, JN, SU, UF, RD, IN, TS, NC, BC, SC, SV, RM, CN, XP, read_record, NL}
 use Rattle.definition.specs.Needs.{Needs, needs}
 use Rattle.definition.specs.Build.{build, build_all}
 use Rattle.definition.specs.Sound.{sound}
@@ -41,6 +40,7 @@ use Rattle.theorems.proofs.SolveInTurn.{solve_cases}
 use Rattle.theorems.proofs.Doubled.{is_ref as is_ref_tree, doubled, doubled_in, NoDoubled, NoDoubledIn, doubled_record, NoDoubledRecord, or_l, or_r}
 use Rattle.theorems.proofs.DoubledReads.{record_none_doubled}
 use Rattle.theorems.proofs.DoubledSingle.{is_ref, Plain, Single, under, plain_no_ref, Left, left_same, left_refl, Goes, goes_from, goes_map, goes, Unasked, IsPlain, sp_goes, tvar_goes, Joined, join_goes}
+use mathlib.Core.List.Memᴰ
 
 -- ---- the claim
 
@@ -126,9 +126,9 @@ inst_goes (suc n) s i ty = inst_value_goes (λ s t. instantiate_down n s t) (λ 
 -- ---- constraints
 
 default_goes : (s : State) → Single s → (v loc : ℕ) → Ends true Single Single (default_num_var s v loc)
-unfolding default_num_var join u64
+unfolding default_num_var join default_of default_integer
 default_goes s i v loc = go (undecided _) (
-    bind _ (sp_goes s i loc u64 tt) (λ x p.
+    bind _ (sp_goes s i loc (default_of s v) tt) (λ x p.
     bind _ (sp_goes x.0 p.0.single loc (Var v) tt) (λ y q.
     bind _ (join_goes max_depth y.0 q.0.single _ x.1 y.1) (λ z r. e_ok r.0.single))))
   where
@@ -165,6 +165,10 @@ declare_leaves s i a ps = with_room Leaves (struct_room s a ps) (λ e. e_ok (lef
 marked : {s : State} → Single s → (v loc : ℕ) → Single (set_num_var s v loc)
 marked {s} i v loc = (left_same (num_marks s v loc).m_nodes i).single
 
+needed : {s : State} → Single s → (v n : ℕ) → Single (with_need s v n)
+unfolding with_need
+needed {s} i v n = (left_same (vars_nodes s _) i).single
+
 module _ (s : State) (i : Single s) where
   -- UF, RD and TS give back s: of what they build on the way nothing is asked
   unasked : {A : Type 0} → ⊥ → A
@@ -183,6 +187,7 @@ module _ (s : State) (i : Single s) where
   run_leaves (SD a ps) d = bind _ (declare_leaves s i a ps) (λ x j. e_ok j)
   run_leaves (FV loc) d = bind _ (tvar_goes s i) (λ x p. e_ok p.0.single)
   run_leaves (NV loc) d = bind _ (tvar_goes s i) (λ x p. e_ok (marked p.0.single x.1 loc))
+  run_leaves (NL loc bits) d = bind _ (tvar_goes s i) (λ x p. e_ok (needed (marked p.0.single x.1 loc) x.1 bits))
   run_leaves (SN v loc) d = e_ok (marked i v loc)
   run_leaves (JN t1 t2) d = two_leaves _ (λ s i l r. join_goes max_depth s i _ l r) s i t1 t2 d
   run_leaves (SU t1 t2) d = two_leaves _ (λ s i l r. join_goes max_depth s i _ l r) s i t1 t2 d

@@ -44,7 +44,7 @@ abbrev pub saved : State
 saved = record {
   nodes = record { loc = 1; value = Apply None (Builtin 2) (record { first = 0; many = 0 }) } ∷ record { loc = 2; value = Ref false 0 } ∷ record { loc = 3; value = Ref false 1 } ∷ record { loc = 4; value = Ref true 1 } ∷ [];
   args = [];
-  vars = record { binding = Some 2; numeric = None } ∷ record { binding = Some 3; numeric = None } ∷ [];
+  vars = record { binding = Some 2; numeric = None; need = 0 } ∷ record { binding = Some 3; numeric = None; need = 0 } ∷ [];
   constraints = [];
   structs = [];
 }

@@ -14,7 +14,7 @@ use Rattle.definition.specs.Types.{TypeName, AbilityMark, Shape, UnitType, Ref, 
 use Rattle.definition.specs.Store.{nowhere, count, map_args, node, type_at, loc_of, with_args, stored, get, num_loc, insert, with_node, sp, next_tvar}
 use Rattle.definition.specs.Subst.{is_anything, forward_tvar}
 use Rattle.definition.specs.Join.{TypingCase, JoinImpl, check_num_tvar, used, join_bind_tvar, type_of, shown, join_tvar, join_impl_types, Arm, join_mut, join_refs, same_name, is_multiple, same_mark, join_applies, join_unbound, join_arm, join_impl}
-use Rattle.theorems.proofs.Laws.{count_with_node, node_old, node_new, SameNodes, insert_nodes, with_var_nodes, merge_marks}
+use Rattle.theorems.proofs.Laws.{count_with_node, node_old, node_new, SameNodes, insert_nodes, with_var_nodes, merge_nodes}
 use Rattle.theorems.proofs.DemandTracks.{never}
 use Rattle.theorems.proofs.SoundRoom.{with_room, sp_room, tvar_room}
 use Rattle.theorems.proofs.DemandMain.{Took, took, took_any_l, took_any_r, took_units, took_refs, took_params, took_applies, took_vars, took_var_l, took_var_r, took_error_l, took_error_r, took_others}
@@ -188,7 +188,7 @@ module _ (J : JoinImpl) (h : (s : State) → Single s → (c : TypingCase) (l r 
       goes _ (type_of_goes s i loc1 e1) (λ x1 l1 p1.
       goes _ (type_of_goes x1.0 l1.single loc2 e2) (λ x2 l2 p2.
       goes _ (tvar_goes x2.0 l2.single) (λ f l3 p3.
-      let marked = left_same (merge_marks f.0 (num_loc s e1) (num_loc s e2) f.1).m_nodes l3.single in
+      let marked = left_same (merge_nodes f.0 (num_loc s e1) (num_loc s e2) _ f.1) l3.single in
       goes_from marked (
       goes _ (sp_goes _ marked.single loc1 (Var f.1) tt) (λ v1 l4 p4.
       goes _ (sp_goes v1.0 l4.single loc2 (Var f.1) tt) (λ v2 l5 p5.

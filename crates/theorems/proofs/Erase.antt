@@ -11,7 +11,7 @@ use Rattle.definition.specs.Types.{Shape, UnitType, Ref, Param, Apply, Var, Anyt
 use Rattle.definition.specs.Types.{Constraint, AbilityConstraint, NumericConstraint, BitsConstraint, OrderedConstraint, BaseTypeConstraint, SingleTypeConstraint}
 use Rattle.std.specs.Prelude.{if◌then◌else◌}
 use Rattle.definition.specs.Types.{max_nodes, max_args, max_vars, max_constraints, max_structs, TypingError, SubtypeError, Incompatible, ArityMismatch, RecursiveType, Refusal, Result, ok, err, refused, ◌>>=◌}
-use Rattle.definition.specs.Store.{count, taken, nowhere, args_at, with_args, node, type_at, loc_of, spanned, get, num_loc, with_vars, with_constraints, with_structs, insert, args_of, with_node, sp, with_var, next_tvar, add_constraint, declare, map_types, any_of, all_of}
+use Rattle.definition.specs.Store.{count, taken, nowhere, args_at, with_args, node, type_at, loc_of, spanned, get, num_loc, with_vars, with_constraints, with_structs, insert, args_of, with_node, sp, with_var, next_tvar, add_constraint, declare, map_types, any_of, all_of, need_of}
 
 -- ---- locations set to 0
 
@@ -26,7 +26,7 @@ erase_mark None = None
 erase_mark (Some loc) = Some 0
 
 abbrev pub erase_cell : Cell → Cell
-erase_cell c = record { binding = c.binding; numeric = erase_mark c.numeric }
+erase_cell c = record { binding = c.binding; numeric = erase_mark c.numeric; need = c.need }
 
 abbrev pub erase_constraint : Constraint → Constraint
 erase_constraint (AbilityConstraint loc ty abilities) = AbilityConstraint 0 ty abilities
@@ -106,6 +106,10 @@ module _ (s : State) where
   unfolding num_loc
   num_erase v = ap (λ (c : Cell). c.numeric) (cell_erase v)
 
+  pub need_erase : (v : ℕ) → need_of (erase s) v ≡ need_of s v
+  unfolding need_of
+  need_erase v = ap (λ (c : Cell). c.need) (cell_erase v)
+
 -- ---- the state changed
 
 map_set : {A B : Type 0} (f : A → B) (l : List A) (i : ℕ) (a : A) → set (map f l) i (f a) ≡ map f (set l i a)
@@ -124,7 +128,7 @@ cell_set s v c c' e = rw (e, map_set erase_cell s.vars v c) refl
 
 pub insert_erase : (s : State) (v t : ℕ) → insert (erase s) v t ≡ erase (insert s v t)
 unfolding insert
-insert_erase s v t = cell_set s v _ _ (rw (num_erase s v) refl)
+insert_erase s v t = cell_set s v _ _ (rw (num_erase s v, need_erase s v) refl)
 
 pub node_erased : (s : State) (l : ℕ) (x : TypeValue) → with_node (erase s) 0 x ≡ erase (with_node s l x)
 unfolding erase with_node

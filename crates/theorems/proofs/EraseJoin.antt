@@ -9,14 +9,14 @@ use lib.Dec.{eqb}
 use Rattle.definition.specs.Types.{TypeName, Multiple, Builtin, ModuleType, AbilityMark, UnitType, Ref, Param, Apply, Var, Anything, UnresolvedError, TypeValue, Spanned, State}
 use Rattle.std.specs.Prelude.{if◌then◌else◌}
 use Rattle.definition.specs.Types.{AbilityConstraint, BaseTypeConstraint, RecursiveType, Result}
-use Rattle.definition.specs.Store.{count, taken, type_at, loc_of, spanned, get, num_loc, insert, sp}
+use Rattle.definition.specs.Store.{count, taken, type_at, loc_of, spanned, get, num_loc, insert, sp, need_of, with_need}
 use Rattle.definition.specs.Subst.{as_var, is_anything, parts, next_in, next_of, forward, forward_tvar, or_insert, mark_one, mark_chain, set_num_var, unfold_var, unfold_type, goes_on_to, ends_in, reaches_itself, ready_value, ready, ready_tvars}
 use Rattle.definition.specs.Join.{TypingCase, Join, Subtype, is_num_var, num_shape, check_num_tvar', check_num_tvar, is_var, used, join_bind_tvar, JoinImpl, type_of, merge_num, shown, join_tvar, join_impl_types}
-use Rattle.definition.specs.Join.{Arm, AnythingL, AnythingR, Units, Refs, Params, Applies, Vars, VarL, VarR, ErrorL, ErrorR, Others, arm, join_mut, join_loc, join_refs, same_name, is_multiple, same_mark, join_applies, join_unbound, join_arm, join_impl, join, subtype}
+use Rattle.definition.specs.Join.{Arm, AnythingL, AnythingR, Units, Refs, Params, Applies, Vars, VarL, VarR, ErrorL, ErrorR, Others, arm, join_mut, join_loc, join_refs, same_name, is_multiple, same_mark, join_applies, join_unbound, join_arm, join_impl, join, subtype, larger}
 use Rattle.definition.specs.TParams.{TParamSubst, arg_of, subst_value, subst_down, subst_tparams}
 use Rattle.definition.specs.Instantiate.{make_tvar, tvar_constraint, struct_tparams, tparam_constraints, make_tparams, join_args, instantiate_type_args, instantiate_apply, instantiate_value, instantiate_down, instantiate}
 use Rattle.theorems.proofs.Erase.{erase_spanned, erase_mark, erase_constraint, erase, count_erase, taken_erase, structs_erase, value_erase, loc_erase, spanned_erase, get_erase, num_erase, cell_set, insert_erase}
-use Rattle.theorems.proofs.Erase.{Erased, er_ok, er_err, er_refused, with_state, er_bind, er_if, er_elim, er_opt, sp_erase, next_erase, add_erase, Erases, map_erase, opt_same, any_erase, all_erase}
+use Rattle.theorems.proofs.Erase.{Erased, er_ok, er_err, er_refused, with_state, er_bind, er_if, er_elim, er_opt, sp_erase, next_erase, add_erase, Erases, map_erase, opt_same, any_erase, all_erase, need_erase}
 
 -- ---- chains
 
@@ -72,7 +72,7 @@ module _ (s : State) where
 
 mark_one_erase : (s : State) (v l l' : ℕ) → l' ≡ 0 → mark_one (erase s) v l' ≡ erase (mark_one s v l)
 unfolding mark_one or_insert
-mark_one_erase s v l l' z = cell_set s v _ _ (rw (get_erase s v, num_erase s v, z, older (num_loc s v)) refl)
+mark_one_erase s v l l' z = cell_set s v _ _ (rw (get_erase s v, num_erase s v, need_erase s v, z, older (num_loc s v)) refl)
   where
     older : (o : Option ℕ) → or_insert (erase_mark o) 0 ≡ 0
     older None = refl
@@ -93,12 +93,19 @@ pub set_num_erase : (s : State) (v l l' : ℕ) → l' ≡ 0 → set_num_var (era
 unfolding set_num_var
 set_num_erase s v l l' z = rw (taken_erase s) (mark_chain_erase (taken s) s v l l' z)
 
-merge_erase : (s : State) (a b : Option ℕ) (v : ℕ) → merge_num (erase s) (erase_mark a) (erase_mark b) v ≡ erase (merge_num s a b v)
+need_set_erase : (s : State) (v n : ℕ) → with_need (erase s) v n ≡ erase (with_need s v n)
+unfolding with_need
+need_set_erase s v n = cell_set s v _ _ (rw (get_erase s v, num_erase s v) refl)
+
+pub literal_erase : (s : State) (v l l' n : ℕ) → l' ≡ 0 → with_need (set_num_var (erase s) v l') v n ≡ erase (with_need (set_num_var s v l) v n)
+literal_erase s v l l' n z = rw (set_num_erase s v l l' z) (need_set_erase (set_num_var s v l) v n)
+
+merge_erase : (s : State) (a b : Option ℕ) (n v : ℕ) → merge_num (erase s) (erase_mark a) (erase_mark b) n v ≡ erase (merge_num s a b n v)
 unfolding merge_num
-merge_erase s None None v = refl
-merge_erase s (Some l) None v = set_num_erase s v l 0 refl
-merge_erase s None (Some l) v = set_num_erase s v l 0 refl
-merge_erase s (Some k) (Some l) v = set_num_erase s v l 0 refl
+merge_erase s None None n v = refl
+merge_erase s (Some l) None n v = literal_erase s v l 0 n refl
+merge_erase s None (Some l) n v = literal_erase s v l 0 n refl
+merge_erase s (Some k) (Some l) n v = literal_erase s v l 0 n refl
 
 -- ---- RD
 
@@ -132,14 +139,14 @@ module _ (s : State) where
       go None o' e = rw e refl
       go (Some l) o' e = rw e refl
 
-  check'_erase : (t : ℕ) → check_num_tvar' (erase s) t ≡ check_num_tvar' s t
+  check'_erase : (n t : ℕ) → check_num_tvar' (erase s) n t ≡ check_num_tvar' s n t
   unfolding check_num_tvar'
-  check'_erase t = opt_same (as_var (type_at s t)) (as_var (type_at (erase s) t)) (ap as_var (value_erase s t)) (ap num_shape (value_erase s t)) (λ v.
-      opt_same (get s (forward_tvar s v)) (get (erase s) (forward_tvar (erase s) v)) (end_get s v) (rw (end_erase s v) (num_var_erase (forward_tvar s v))) (λ u. ap num_shape (value_erase s u)))
+  check'_erase n t = opt_same (as_var (type_at s t)) (as_var (type_at (erase s) t)) (ap as_var (value_erase s t)) (ap (num_shape n) (value_erase s t)) (λ v.
+      opt_same (get s (forward_tvar s v)) (get (erase s) (forward_tvar (erase s) v)) (end_get s v) (rw (end_erase s v) (num_var_erase (forward_tvar s v))) (λ u. ap (num_shape n) (value_erase s u)))
 
   check_erase : (v t : ℕ) → check_num_tvar (erase s) v t ≡ check_num_tvar s v t
   unfolding check_num_tvar
-  check_erase v t = rw (num_var_erase v, check'_erase t) refl
+  check_erase v t = rw (num_var_erase v, need_erase s v, check'_erase (need_of s v) t) refl
 
   used_erase : (n v t : ℕ) → used n (erase s) v t ≡ used n s v t
   unfolding used
@@ -188,13 +195,14 @@ module _ (j : JoinImpl) (r : Alike j) where
 
   tvar_erase : (s : State) (c : TypingCase) (l1 l1' id1 l2 l2' id2 : ℕ) → l1' ≡ 0 → l2' ≡ 0 → Erased with_state (join_tvar j s c l1 id1 l2 id2) (join_tvar j (erase s) c l1' id1 l2' id2)
   unfolding join_tvar
-  tvar_erase s c l1 l1' id1 l2 l2' id2 z1 z2 = rw (end_erase s id1, end_erase s id2, num_erase s (forward_tvar s id1), num_erase s (forward_tvar s id2)) (
+  tvar_erase s c l1 l1' id1 l2 l2' id2 z1 z2 = rw (end_erase s id1, end_erase s id2, num_erase s (forward_tvar s id1), num_erase s (forward_tvar s id2), need_erase s (forward_tvar s id1), need_erase s (forward_tvar s id2)) (
+      let need = larger (need_of s (forward_tvar s id1)) (need_of s (forward_tvar s id2)) in
       let end1 = forward_tvar s id1 in
       let end2 = forward_tvar s id2 in
       er_bind _ _ (type_of_erase s l1 l1' end1 z1) (λ x1.
       er_bind _ _ (type_of_erase x1.0 l2 l2' end2 z2) (λ x2.
       er_bind _ _ (next_erase x2.0) (λ x3.
-      er_bind _ _ (sp_from (merge_num x3.0 (num_loc s end1) (num_loc s end2) x3.1) _ (merge_erase x3.0 (num_loc s end1) (num_loc s end2) x3.1) l1 l1' (Var x3.1) z1) (λ x4.
+      er_bind _ _ (sp_from (merge_num x3.0 (num_loc s end1) (num_loc s end2) need x3.1) _ (merge_erase x3.0 (num_loc s end1) (num_loc s end2) need x3.1) l1 l1' (Var x3.1) z1) (λ x4.
       er_bind _ _ (sp_erase x4.0 l2 l2' (Var x3.1) z2) (λ x5.
       er_bind _ _ (inner_from (insert (insert x5.0 end1 x4.1) end2 x5.1) _ (both_bound x5.0 end1 x4.1 end2 x5.1) c x1.1 x2.1) (λ x6.
       er_opt (get x6.0 x3.1) _ (get_erase x6.0 x3.1)

@@ -6,7 +6,7 @@ use mathlib.Core.List.{List, [], ◌∷◌, ◌++◌, map, append_assoc}
 use Rattle.std.specs.Prelude.{Option, None, Some}
 use Prim.Native.Nat.{ℕ, zero, suc, ◌+◌, ◌*◌}
 use lib.ListN.{length, get_or, take, drop, replicate, length-append, length-drop}
-use lib.Dec.{eqb, ltb}
+use lib.Dec.{eqb, ltb, leb}
 use Rattle.std.specs.Prelude.{if◌then◌else◌}
 use Rattle.definition.specs.Types.{TypeName, Multiple, Builtin, ModuleType, AbilityMark, State, Refusal, malformed, unknown_name, doubled_reference}
 use Rattle.definition.specs.Store.{taken}
@@ -14,7 +14,7 @@ use Rattle.definition.specs.Write.{Bytes}
 use Rattle.definition.specs.Instantiate.{struct_tparams}
 use Rattle.definition.specs.Reader.{Read, got, not_read, Reader, give, refuse, go_on, ◌>>=◌, byte, read_u16, read_u32, byte_if, byte_to, read_bool, name_below, times, read_one, read_two, read_three}
 use Rattle.definition.specs.Trees.{Tree, unit_tree, anything_tree, error_tree, ref_tree, param_tree, apply_tree, var_tree, Trees, no_trees, ◌then◌, read_trees, mark_of, read_mark, mark_fits, arity, under_ref, read_apply, by_tag, is_name, read_nested, read_type, is_set}
-use Rattle.definition.specs.Record.{NumericKind, Record, SD, FV, NV, SN, JN, SU, UF, RD, IN, TS, NC, BC, SC, SV, RM, CN, XP, read_kind, read_SD, read_pair, read_TS, by_mark, fields_of, read_fields, max_record, hand_back, read_record}
+use Rattle.definition.specs.Record.{NumericKind, Record, SD, FV, NV, SN, JN, SU, UF, RD, IN, TS, NC, BC, SC, SV, RM, CN, XP, read_kind, read_SD, read_pair, read_TS, by_mark, fields_of, read_fields, max_record, hand_back, read_record, NL, read_bits}
 use Rattle.definition.specs.Locations.{Part, plain, location, type, builtin, list, struct, struct_high, pairs, loc_field, u32_field, tag_fields, pair_fields, expand, blank, mark_fields, after_mark, told, blank_record}
 use Rattle.theorems.proofs.Erase.{erase, taken_erase, structs_erase}
 
@@ -42,6 +42,7 @@ erase_record (SD abilities params) = SD abilities params
 erase_record (FV loc) = FV 0
 erase_record (NV loc) = NV 0
 erase_record (SN v loc) = SN v 0
+erase_record (NL loc bits) = NL 0 bits
 erase_record (JN t1 t2) = JN (erase_tree t1) (erase_tree t2)
 erase_record (SU t1 t2) = SU (erase_tree t1) (erase_tree t2)
 erase_record (UF t) = UF (erase_tree t)
@@ -288,6 +289,14 @@ module _ (s : State) where
   unfolding read_two erase_record loc_field
   al_SN = al_bind _ _ (al_name _ _ (taken_erase s) (al_u16 loc_field)) (λ v. al_bind _ _ (al_loc []) (λ loc. al_give (SN v loc) refl))
 
+  al_bits : (more : List Part) → Alike same s (plain ∷ plain ∷ more) (λ n. more) read_bits read_bits
+  unfolding read_bits
+  al_bits more = al_bind _ _ (al_u16 more) (λ n. al_if (leb 1 n && leb n 256) (al_give n refl) (al_refuse _))
+
+  al_NL : WholeRecord (loc_field ++ (plain ∷ plain ∷ [])) (read_two NL read_u32 read_bits) (read_two NL read_u32 read_bits)
+  unfolding read_two erase_record
+  al_NL = al_bind _ _ (al_loc _) (λ l. al_bind _ _ (al_bits []) (λ n. al_give (NL l n) refl))
+
   al_two : (mark : Tree → Tree → Record) → ((t u : Tree) → mark (erase_tree t) (erase_tree u) ≡ erase_record (mark t u)) → WholeRecord (type ∷ type ∷ []) (read_two mark (read_type s) (read_type s)) (read_two mark (read_type (erase s)) (read_type (erase s)))
   unfolding read_two
   al_two mark e = al_bind _ _ (al_type _) (λ t. al_bind _ _ (al_type []) (λ u. al_give (mark t u) (e t u)))
@@ -346,7 +355,7 @@ module _ (s : State) where
       mark_row al_SD (mark_row (al_loc_only FV (λ l. refl)) (mark_row (al_loc_only NV (λ l. refl)) (mark_row al_SN
       (mark_row (al_two JN (λ t u. refl)) (mark_row (al_two SU (λ t u. refl)) (mark_row (al_one UF (λ t. refl)) (mark_row (al_one RD (λ t. refl))
       (mark_row al_TS (mark_row (al_one IN (λ t. refl)) (mark_row al_NC (mark_row (al_loc_type BC (λ l t. refl)) (mark_row (al_loc_type SC (λ l t. refl))
-      (mark_row (al_give SV refl) (mark_row (al_one RM (λ t. refl)) (mark_row (al_one CN (λ t. refl)) (mark_row (al_one XP (λ t. refl)) no_marks))))))))))))))))
+      (mark_row (al_give SV refl) (mark_row (al_one RM (λ t. refl)) (mark_row (al_one CN (λ t. refl)) (mark_row (al_one XP (λ t. refl)) (mark_row al_NL no_marks)))))))))))))))))
 
   fields_alike : (bytes : Bytes) → Reads erase_record s (λ r. []) (read_fields s bytes) (read_fields (erase s) (blank_record s bytes))
   unfolding read_fields ◌>>=◌ go_on byte blank blank_record told

@@ -12,14 +12,14 @@ use Rattle.std.specs.Prelude.{if◌then◌else◌}
 use Rattle.definition.specs.Types.{TypeName, Multiple, Builtin, ModuleType, UnitType, Ref, Param, Apply, Var, Anything, UnresolvedError, TypeValue, Spanned, Node, Cell, unbound, State, max_structs}
 use Rattle.definition.specs.Types.{Constraint, TypingError, SubtypeError, Incompatible, ArityMismatch, RecursiveType, Refusal, answer_too_long, Result, ok, ◌>>=◌}
 use Rattle.definition.specs.Store.{nowhere, count, taken, node, type_at, with_args, spanned, with_constraints}
-use Rattle.definition.specs.Subst.{parts, unfold_type}
+use Rattle.definition.specs.Subst.{parts, unfold_type, forward_tvar}
 use Rattle.definition.specs.Join.{join, subtype}
 use Rattle.definition.specs.TParams.{arg_of, make_tparam_subst}
-use Rattle.definition.specs.Constraints.{num_vars, undecided, u64, default_num_var, default_num_vars, solve_all, solve_constraints}
+use Rattle.definition.specs.Constraints.{num_vars, undecided, default_num_var, default_num_vars, solve_all, solve_constraints, default_integer, default_of}
 use Rattle.definition.specs.Write.{Bytes, u16, write_error}
 use Rattle.definition.specs.Reader.{Read}
 use Rattle.definition.specs.Trees.{Tree, unit_tree, anything_tree, error_tree, ref_tree, param_tree, apply_tree, var_tree, Trees, no_trees, ◌then◌, mark_fits, arity, is_mark, is_name}
-use Rattle.definition.specs.Record.{NumericKind, Numeric, Bits, Ordered, Record, SD, FV, NV, SN, JN, SU, UF, RD, IN, TS, NC, BC, SC, SV, RM, CN, XP}
+use Rattle.definition.specs.Record.{NumericKind, Numeric, Bits, Ordered, Record, SD, FV, NV, SN, JN, SU, UF, RD, IN, TS, NC, BC, SC, SV, RM, CN, XP, NL}
 use Rattle.definition.specs.Build.{build, build_all, build_pairs}
 use Rattle.definition.specs.Canonical.{canonical}
 use Rattle.definition.specs.Needs.{Needs, merge, needs, needs_args, write_needs}
@@ -37,8 +37,8 @@ use Rattle.theorems.proofs.DemandRuns.{num_vars_below, place_went, defaults_went
 use Rattle.theorems.proofs.TotalWalk.{Ends, e_ok, In, place_run, starts_run}
 use Rattle.theorems.proofs.SoundKept.{ranges_of}
 use Rattle.theorems.proofs.Erase.{erase_mark, erase_cell, erase_constraint, erase_error, erase, taken_erase, spanned_erase, vars_erase, constraints_erased}
-use Rattle.theorems.proofs.Erase.{Erased, er_ok, er_err, er_refused, with_state, er_bind, er_elim, er_opt, sp_erase, next_erase, add_erase, declare_erase}
-use Rattle.theorems.proofs.EraseJoin.{unfold_type_erase, set_num_erase, ready_tvars_erase, join_erase, subtype_erase, subst_erase, instantiate_erase}
+use Rattle.theorems.proofs.Erase.{Erased, er_ok, er_err, er_refused, with_state, er_bind, er_elim, er_opt, sp_erase, next_erase, add_erase, declare_erase, need_erase}
+use Rattle.theorems.proofs.EraseJoin.{unfold_type_erase, set_num_erase, ready_tvars_erase, join_erase, subtype_erase, subst_erase, instantiate_erase, end_erase, literal_erase}
 use Rattle.theorems.proofs.EraseRead.{erase_tree, erase_trees, erase_pair, erase_record, blank_nil, length_blank, ReadAlike, w_got, w_not}
 use Rattle.theorems.proofs.Canonical.{canonical_erase}
 use Rattle.theorems.proofs.EraseExpand.{Both, both_ok, both_refused, whole_blank, type_both}
@@ -119,11 +119,15 @@ num_vars_erase v (c ∷ cells) = go c.numeric (num_vars_erase (suc v) cells)
     go None e = e
     go (Some loc) e = ap (λ (l : List (ℕ × ℕ)). (v, 0) ∷ l) e
 
+default_of_erase : (s : State) (v : ℕ) → default_of (erase s) v ≡ default_of s v
+unfolding default_of
+default_of_erase s v = ap default_integer (rw (end_erase s v) (need_erase s (forward_tvar s v)))
+
 default_erase : (s : State) (v loc : ℕ) → Erased erase (default_num_var s v loc) (default_num_var (erase s) v 0)
 unfolding default_num_var
 default_erase s v loc =
     er_elim (undecided (unfold_type s (record { loc = loc; value = Var v })).value) _ (ap (λ (t : Spanned TypeValue). undecided t.value) (unfold_type_erase s (record { loc = loc; value = Var v })))
-    (er_bind _ _ (sp_erase s loc 0 u64 refl) (λ x. er_bind _ _ (sp_erase x.0 loc 0 (Var v) refl) (λ y. er_bind _ _ (join_erase y.0 x.1 y.1) (λ w. er_ok refl)))) (er_ok refl)
+    (er_bind _ _ (rw (default_of_erase s v) (sp_erase s loc 0 (default_of s v) refl)) (λ x. er_bind _ _ (sp_erase x.0 loc 0 (Var v) refl) (λ y. er_bind _ _ (join_erase y.0 x.1 y.1) (λ w. er_ok refl)))) (er_ok refl)
 
 defaults_erase : (l : List (ℕ × ℕ)) (s : State) → Erased erase (default_num_vars s l) (default_num_vars (erase s) (map zero_loc l))
 unfolding default_num_vars
@@ -264,6 +268,7 @@ module _ (S : State) (h : sound S ≡ true) where
   run_erase (SD a ps) f b = er_bind _ _ (declare_erase S a ps) (λ x. er_ok (rw (blank_nil S (u16 x.1)) refl))
   run_erase (FV loc) f b = er_bind _ _ (next_erase S) (λ x. er_ok (pair_same refl (sym (var_row S loc _))))
   run_erase (NV loc) f b = er_bind _ _ (next_erase S) (λ x. er_ok (pair_same (set_num_erase x.0 x.1 loc 0 refl) (sym (var_row S loc _))))
+  run_erase (NL loc bits) f b = er_bind _ _ (next_erase S) (λ x. er_ok (pair_same (literal_erase x.0 x.1 loc 0 bits refl) (sym (var_row S loc _))))
   run_erase (SN v loc) f b = er_ok (pair_same (set_num_erase S v loc 0 refl) (sym (empty (types ∷ []))))
   run_erase (JN t u) f b = two_erase join join_erase t u
   run_erase (SU t u) f b = two_erase subtype subtype_erase t u

@@ -10,7 +10,7 @@ use Rattle.std.specs.Prelude.{if◌then◌else◌}
 use Rattle.definition.specs.Types.{State, Refusal}
 use Rattle.definition.specs.Write.{Bytes}
 use Rattle.definition.specs.Reader.{Read, got, not_read, Reader, give, refuse, go_on, ◌>>=◌, byte, read_one, read_two, read_three}
-use Rattle.definition.specs.Record.{Record, SD, FV, NV, SN, JN, SU, UF, RD, IN, TS, NC, BC, SC, SV, RM, CN, XP, read_SD, read_TS, by_mark, fields_of, read_fields, max_record, hand_back, read_record}
+use Rattle.definition.specs.Record.{Record, SD, FV, NV, SN, JN, SU, UF, RD, IN, TS, NC, BC, SC, SV, RM, CN, XP, read_SD, read_TS, by_mark, fields_of, read_fields, max_record, hand_back, read_record, NL}
 use Rattle.definition.specs.Locations.{Part, type, types, codes, failures, mark_fields, after_mark, told}
 
 unfoldable pub success_fields : Record → List Part
@@ -18,6 +18,7 @@ success_fields (SD abilities params) = []
 success_fields (FV loc) = types ∷ []
 success_fields (NV loc) = types ∷ []
 success_fields (SN v loc) = types ∷ []
+success_fields (NL loc bits) = types ∷ []
 success_fields (JN t1 t2) = types ∷ []
 success_fields (SU t1 t2) = types ∷ []
 success_fields (UF t) = types ∷ []
@@ -87,7 +88,7 @@ rows s =
     row (sh_bind _ _ (λ a. sh_bind _ _ (λ n. sh_bind _ _ (λ ps. sh_give _ refl)))) (row (sh_one _ _ (λ l. refl)) (row (sh_one _ _ (λ l. refl)) (row (sh_two _ _ _ (λ v l. refl))
     (row (sh_two _ _ _ (λ t u. refl)) (row (sh_two _ _ _ (λ t u. refl)) (row (sh_one _ _ (λ t. refl)) (row (sh_one _ _ (λ t. refl))
     (row (sh_bind _ _ (λ n. sh_bind _ _ (λ ps. sh_bind _ _ (λ t. sh_give _ refl)))) (row (sh_one _ _ (λ t. refl)) (row (sh_three _ _ _ _ (λ l k t. refl)) (row (sh_two _ _ _ (λ l t. refl)) (row (sh_two _ _ _ (λ l t. refl))
-    (row (sh_give _ refl) (row (sh_one _ _ (λ t. refl)) (row (sh_one _ _ (λ t. refl)) (row (sh_one _ _ (λ t. refl)) no_rows))))))))))))))))
+    (row (sh_give _ refl) (row (sh_one _ _ (λ t. refl)) (row (sh_one _ _ (λ t. refl)) (row (sh_one _ _ (λ t. refl)) (row (sh_two _ _ _ (λ l n. refl)) no_rows)))))))))))))))))
 
 handed : {shown : List Part} (more : Bytes) {x : Read Record} → Shows shown x → Shows shown (hand_back more x)
 unfolding hand_back

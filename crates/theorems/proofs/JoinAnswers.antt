@@ -17,7 +17,7 @@ use Rattle.definition.specs.Write.{Bytes, write}
 use Rattle.definition.specs.Reader.{Read, got, not_read, Reader, give, refuse, go_on, ◌>>=◌, byte, read_u16, read_u32, byte_if, byte_to, read_bool, name_below, times, read_one, read_two, read_three}
 use Rattle.definition.specs.Trees.{Tree, unit_tree, anything_tree, error_tree, ref_tree, param_tree, apply_tree, var_tree, Trees, no_trees, ◌then◌}
 use Rattle.definition.specs.Trees.{read_trees, mark_of, read_mark, mark_fits, arity, under_ref, read_apply, by_tag, is_set, is_name, read_nested, read_type}
-use Rattle.definition.specs.Record.{Record, SD, FV, NV, SN, JN, SU, UF, RD, IN, TS, NC, BC, SC, SV, RM, CN, XP, read_kind, read_SD, read_pair, read_TS, by_mark, fields_of, read_fields, max_record, hand_back, read_record}
+use Rattle.definition.specs.Record.{Record, SD, FV, NV, SN, JN, SU, UF, RD, IN, TS, NC, BC, SC, SV, RM, CN, XP, read_kind, read_SD, read_pair, read_TS, by_mark, fields_of, read_fields, max_record, hand_back, read_record, NL, read_bits}
 use Rattle.definition.specs.Build.{build, build_all}
 use Rattle.definition.specs.Sound.{sound}
 use Rattle.definition.specs.Step.{Answer, refusal, max_payload, answer_with, answer, max_buffer, usable, two_types, lent, run, step}
@@ -197,6 +197,7 @@ weight (SD abilities params) = 0
 weight (FV loc) = 0
 weight (NV loc) = 0
 weight (SN v loc) = 0
+weight (NL loc bits) = 0
 weight (JN t1 t2) = tree_size t1 + tree_size t2
 weight (SU t1 t2) = tree_size t1 + tree_size t2
 weight (UF t) = 0
@@ -279,6 +280,10 @@ module _ (n : ℕ) where
     unfolding read_two weight
     light_SN = light (always_then (name_below (taken s)) _ (λ v. always_then read_u32 _ (λ loc. always_give (SN v loc) refl)))
 
+    light_NL : Light (read_two NL read_u32 read_bits)
+    unfolding read_two weight
+    light_NL = light (always_then read_u32 _ (λ loc. always_then read_bits _ (λ n. always_give (NL loc n) refl)))
+
     light_TS : Light (read_TS s)
     unfolding read_TS weight
     light_TS = light (always_then (byte_to 8) _ (λ n. always_then (times n (read_pair s)) _ (λ ps. always_then (read_type s) _ (λ t. always_give (TS ps t) refl))))
@@ -312,7 +317,7 @@ module _ (n : ℕ) where
                 light_two SU (λ a b. refl),
                 (
                   light_one UF (λ t. refl),
-                  (light_one RD (λ t. refl), (light_TS, (light_one IN (λ t. refl), (light_NC, (light_loc_type BC (λ l t. refl), (light_loc_type SC (λ l t. refl), (light (always_give SV refl), (light_one RM (λ t. refl), (light_one CN (λ t. refl), (light_one XP (λ t. refl), tt)))))))))),
+                  (light_one RD (λ t. refl), (light_TS, (light_one IN (λ t. refl), (light_NC, (light_loc_type BC (λ l t. refl), (light_loc_type SC (λ l t. refl), (light (always_give SV refl), (light_one RM (λ t. refl), (light_one CN (λ t. refl), (light_one XP (λ t. refl), (light_NL, tt))))))))))),
                 ),
               ),
             ),

@@ -24,6 +24,7 @@ use Rattle.theorems.proofs.DemandCalls.{quiet_grown, Joined, Good}
 use Rattle.theorems.proofs.DemandMain.{Took, took_any_l, took_any_r, took_units, took_refs, took_params, took_applies, took_vars, took_var_l, took_var_r, took_error_l, took_error_r, took_others, took, in_later, join_impl_good}
 use Rattle.theorems.proofs.SoundFacts.{facts}
 use Rattle.theorems.proofs.TotalFuel.{write_at}
+use Rattle.theorems.proofs.MetSteps.{held_node}
 
 -- ---- how many bytes a type is written in
 
@@ -126,7 +127,7 @@ post_is {B} {ar} {S} {P} {s = s} {b = b} p e = go (subst (λ (y : Result (State 
 
 -- a new node, whatever its parts
 pub sp_value : {ar : TypeName → ℕ} {S : State} → Sound ar S → (l : ℕ) (sh : TypeValue) → Post ar S (λ S' t. type_at S' t ≡ sh) (sp S l sh)
-sp_value {ar} {S} s l sh = with_room (Post ar S (λ S' t. type_at S' t ≡ sh)) (sp_room S l sh) (λ e. p_ok (quiet_grown (quiet_node s l sh) (structs_node S l sh)) (value_new S l sh)) p_refused
+sp_value {ar} {S} s l sh = with_room (Post ar S (λ S' t. type_at S' t ≡ sh)) (sp_room S l sh) (λ e. p_ok (quiet_grown (quiet_node s l sh) (structs_node S l sh) (held_node s l sh)) (value_new S l sh)) p_refused
 
 -- ---- the arms of a join
 

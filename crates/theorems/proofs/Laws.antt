@@ -1,18 +1,21 @@
 -- What the operations of the state do to what is read of it. Assumes nothing.
 -- Change by change: a new node, then changes that keep nodes and argument places, each with what is read after it.
-use mathlib.Core.Path.{◌≡◌, refl, ap, ◌∙◌, subst}
+use mathlib.Core.Path.{◌≡◌, refl, ap, ◌∙◌, subst, sym}
 use mathlib.Core.Logic.{◌≢◌}
 use mathlib.Core.List.{List, [], ◌∷◌, ◌++◌, Memᴰ}
-use Rattle.std.specs.Prelude.{Option, None, Some}
+use Rattle.std.specs.Prelude.{Option, None, Some, if◌then◌else◌}
 use Prim.Native.Nat.{ℕ, zero, suc, ◌+◌, ◌≤◌, ◌<◌}
 use native.Mathlib.Omega.{arith}
 use lib.ListN.{length, get_or, set, take, drop, length-append, length-set, length-drop, get_or-append, get_or-eq_default}
 use lib.Seq.{get_or-append_seam, get_or-set_same, get_or-set_other, take-append-le, drop-append-le, drop_at}
 use Rattle.definition.specs.Types.{Shape, UnitType, Ref, Param, Apply, Var, Anything, UnresolvedError, TypeValue, Places}
 use Rattle.definition.specs.Types.{Cell, unbound, State, Constraint, AbilityConstraint, NumericConstraint, BitsConstraint, OrderedConstraint, BaseTypeConstraint, SingleTypeConstraint}
-use Rattle.definition.specs.Store.{nowhere, count, taken, node, args_at, with_args, args_of, stored, type_at, get, insert, with_vars, with_node, with_var}
+use Rattle.definition.specs.Store.{nowhere, count, taken, node, args_at, with_args, args_of, stored, type_at, get, insert, with_vars, with_node, with_var, num_loc, need_of, with_need}
 use Rattle.definition.specs.Subst.{next_of, mark_one, mark_chain, set_num_var}
-use Rattle.definition.specs.Join.{merge_num}
+use Rattle.definition.specs.Join.{merge_num, is_num_var, larger}
+use mathlib.Core.Bool.{Bool, true, false}
+use lib.Dec.{leb, leb→le, le→leb, eqb→eq, T}
+use Rattle.definition.specs.Sound.{need_allowed}
 
 -- ---- a new node
 
@@ -256,18 +259,99 @@ pub taken_insert : (s : State) (v t : ℕ) → taken (insert s v t) ≡ taken s
 unfolding insert with_vars
 taken_insert s v t = length-set s.vars v _
 
+-- ---- what a variable has, after a cell is set
+
+pub set_field : {B : Type 0} (p : Cell → B) (l : List Cell) (v : ℕ) (c : Cell) (w : ℕ) → p c ≡ p (get_or l v unbound) → p (get_or (set l v c) w unbound) ≡ p (get_or l w unbound)
+set_field p [] v c w e = refl
+set_field p (d ∷ l) zero c zero e = e
+set_field p (d ∷ l) zero c (suc w) e = refl
+set_field p (d ∷ l) (suc v) c zero e = refl
+set_field p (d ∷ l) (suc v) c (suc w) e = set_field p l v c w e
+
+pub set_holds : (P : Cell → Type 0) (l : List Cell) (v : ℕ) (c : Cell) (w : ℕ) → P (get_or l w unbound) → (v < length l → P c) → P (get_or (set l v c) w unbound)
+set_holds P [] v c w h k = h
+set_holds P (d ∷ l) zero c zero h k = k (omega arith)
+set_holds P (d ∷ l) zero c (suc w) h k = h
+set_holds P (d ∷ l) (suc v) c zero h k = h
+set_holds P (d ∷ l) (suc v) c (suc w) h k = set_holds P l v c w h (λ i. k (omega arith))
+
+pub need_with_node : (s : State) (l : ℕ) (sh : TypeValue) (v : ℕ) → need_of (with_node s l sh) v ≡ need_of s v
+unfolding need_of with_node
+need_with_node s l sh v = refl
+
+pub num_with_node : (s : State) (l : ℕ) (sh : TypeValue) (v : ℕ) → num_loc (with_node s l sh) v ≡ num_loc s v
+unfolding num_loc with_node
+num_with_node s l sh v = refl
+
+pub need_with_var : (s : State) (v : ℕ) → need_of (with_var s) v ≡ need_of s v
+unfolding need_of with_var with_vars
+need_with_var s v = ap (λ (c : Cell). c.need) (getD_snoc s.vars v)
+
+pub num_with_var : (s : State) (v : ℕ) → num_loc (with_var s) v ≡ num_loc s v
+unfolding num_loc with_var with_vars
+num_with_var s v = ap (λ (c : Cell). c.numeric) (getD_snoc s.vars v)
+
+pub need_insert : (s : State) (v t w : ℕ) → need_of (insert s v t) w ≡ need_of s w
+unfolding need_of insert with_vars
+need_insert s v t w = set_field (λ (c : Cell). c.need) s.vars v _ w refl
+
+pub num_insert : (s : State) (v t w : ℕ) → num_loc (insert s v t) w ≡ num_loc s w
+unfolding num_loc insert with_vars
+num_insert s v t w = set_field (λ (c : Cell). c.numeric) s.vars v _ w refl
+
+pub need_beyond : (s : State) (v : ℕ) → taken s ≤ v → need_of s v ≡ 0
+unfolding need_of
+need_beyond s v h = ap (λ (c : Cell). c.need) (get_or-eq_default s.vars unbound {n = v} h)
+
+pub is_num_same : (s s' : State) (v : ℕ) → num_loc s' v ≡ num_loc s v → is_num_var s' v ≡ is_num_var s v
+unfolding is_num_var
+is_num_same s s' v e = ap (λ (o : Option ℕ). elim o [ None ↦ false | Some loc ↦ true ]) e
+
+pub num_beyond : (s : State) (v : ℕ) → taken s ≤ v → is_num_var s v ≡ false
+unfolding is_num_var num_loc
+num_beyond s v h = ap (λ (c : Cell). elim c.numeric [ None ↦ false | Some loc ↦ true ]) (get_or-eq_default s.vars unbound {n = v} h)
+
+pub is_num_of : (s : State) (v : ℕ) → is_num_var s v ≡ true → (elim (num_loc s v) [ None ↦ false | Some loc ↦ true ]) ≡ true
+unfolding is_num_var
+is_num_of s v h = h
+
 -- ---- marks
 
--- bindings, nodes and places are as they were
+-- every need is one that a sound state may have
+unfoldable pub NeedsIn : State → Type 0
+NeedsIn s = (v : ℕ) → need_allowed (num_loc s v) (need_of s v) ≡ true
+
+pub needs_same : (s s' : State) → ((v : ℕ) → num_loc s' v ≡ num_loc s v) → ((v : ℕ) → need_of s' v ≡ need_of s v) → NeedsIn s → NeedsIn s'
+unfolding NeedsIn
+needs_same s s' f g h v = rw (f v, g v) (h v)
+
+-- an unmarked variable needs nothing
+none_needs : (o : Option ℕ) (n : ℕ) → o ≡ None → need_allowed o n ≡ true → n ≡ 0
+unfolding need_allowed
+none_needs None n e h = eqb→eq n 0 (subst (λ (b : Bool). T b) (sym h) tt)
+none_needs (Some loc) n e h = cc
+
+need_most : (o : Option ℕ) (n : ℕ) → need_allowed o n ≡ true → leb n 256 ≡ true
+unfolding need_allowed
+need_most None n h = rw (none_needs None n refl h) refl
+need_most (Some loc) n h = h
+
+pub needs_most : (s : State) → NeedsIn s → (v : ℕ) → leb (need_of s v) 256 ≡ true
+unfolding NeedsIn
+needs_most s h v = need_most (num_loc s v) (need_of s v) (h v)
+
+-- bindings, nodes and places are as they were; marks stay, and needs are ones that a sound state may have
 pub record SameButMarks (s s' : State) : Type 0 where
   pub m_nodes : SameNodes s s'
   pub m_get : (v : ℕ) → get s' v ≡ get s v
   pub m_taken : taken s' ≡ taken s
   pub m_structs : s'.structs ≡ s.structs
   pub m_constraints : s'.constraints ≡ s.constraints
+  pub m_num : (v : ℕ) → is_num_var s v ≡ true → is_num_var s' v ≡ true
+  pub m_most : NeedsIn s → NeedsIn s'
 
 marks_refl : (s : State) → SameButMarks s s
-marks_refl s = record { m_nodes = record { same_nodes = refl; same_args = refl }; m_get = λ v. refl; m_taken = refl; m_structs = refl; m_constraints = refl }
+marks_refl s = record { m_nodes = record { same_nodes = refl; same_args = refl }; m_get = λ v. refl; m_taken = refl; m_structs = refl; m_constraints = refl; m_num = λ v h. h; m_most = λ h. h }
 
 marks_trans : {s s' s'' : State} → SameButMarks s s' → SameButMarks s' s'' → SameButMarks s s''
 marks_trans a b = record {
@@ -276,18 +360,43 @@ marks_trans a b = record {
   m_taken = b.m_taken ∙ a.m_taken;
   m_structs = b.m_structs ∙ a.m_structs;
   m_constraints = b.m_constraints ∙ a.m_constraints;
+  m_num = λ v h. b.m_num v (a.m_num v h);
+  m_most = λ h. b.m_most (a.m_most h);
 }
 
-getD_mark : (l : List Cell) (v : ℕ) (m : Option ℕ) (w : ℕ) → (get_or (set l v (record { binding = (get_or l v unbound).binding; numeric = m })) w unbound).binding ≡ (get_or l w unbound).binding
-getD_mark [] v m w = refl
-getD_mark (c ∷ l) zero m zero = refl
-getD_mark (c ∷ l) zero m (suc w) = refl
-getD_mark (c ∷ l) (suc v) m zero = refl
-getD_mark (c ∷ l) (suc v) m (suc w) = getD_mark l v m w
+need_mark_one : (s : State) (v loc w : ℕ) → need_of (mark_one s v loc) w ≡ need_of s w
+unfolding need_of mark_one with_vars
+need_mark_one s v loc w = set_field (λ (c : Cell). c.need) s.vars v _ w refl
+
+abbrev Marked : Cell → Type 0
+Marked c = (elim c.numeric [ None ↦ false | Some loc ↦ true ]) ≡ true
+
+num_mark_one : (s : State) (v loc w : ℕ) → is_num_var s w ≡ true → is_num_var (mark_one s v loc) w ≡ true
+unfolding is_num_var num_loc mark_one with_vars
+num_mark_one s v loc w h = set_holds Marked s.vars v _ w h (λ i. refl)
+
+num_mark_self : (s : State) (v loc : ℕ) → v < taken s → is_num_var (mark_one s v loc) v ≡ true
+unfolding is_num_var num_loc mark_one with_vars
+num_mark_self s v loc h = ap (λ (c : Cell). elim c.numeric [ None ↦ false | Some loc ↦ true ]) (get_or-set_same s.vars v _ unbound h)
+
+abbrev CellIn : Cell → Type 0
+CellIn c = need_allowed c.numeric c.need ≡ true
+
+most_mark_one : (s : State) (v loc : ℕ) → NeedsIn s → NeedsIn (mark_one s v loc)
+unfolding NeedsIn need_of num_loc mark_one with_vars need_allowed
+most_mark_one s v loc h w = set_holds CellIn s.vars v _ w (h w) (λ i. need_most (num_loc s v) (need_of s v) (h v))
 
 pub one_marks : (s : State) (v loc : ℕ) → SameButMarks s (mark_one s v loc)
 unfolding mark_one get with_vars
-one_marks s v loc = record { m_nodes = record { same_nodes = refl; same_args = refl }; m_get = λ w. getD_mark s.vars v _ w; m_taken = length-set s.vars v _; m_structs = refl; m_constraints = refl }
+one_marks s v loc = record {
+  m_nodes = record { same_nodes = refl; same_args = refl };
+  m_get = λ w. set_field (λ (c : Cell). c.binding) s.vars v _ w refl;
+  m_taken = length-set s.vars v _;
+  m_structs = refl;
+  m_constraints = refl;
+  m_num = num_mark_one s v loc;
+  m_most = most_mark_one s v loc;
+}
 
 chain_marks : (n : ℕ) (s : State) (v loc : ℕ) → SameButMarks s (mark_chain n s v loc)
 unfolding mark_chain
@@ -303,8 +412,163 @@ pub num_marks : (s : State) (v loc : ℕ) → SameButMarks s (set_num_var s v lo
 unfolding set_num_var
 num_marks s v loc = chain_marks _ s v loc
 
-pub merge_marks : (s : State) (a b : Option ℕ) (f : ℕ) → SameButMarks s (merge_num s a b f)
+-- a need beside the mark
+pub need_marks : (s : State) (v n : ℕ) → (v < taken s → need_allowed (num_loc s v) n ≡ true) → SameButMarks s (with_need s v n)
+unfolding with_need get need_of is_num_var num_loc with_vars NeedsIn
+need_marks s v n k = record {
+  m_nodes = record { same_nodes = refl; same_args = refl };
+  m_get = λ w. set_field (λ (c : Cell). c.binding) s.vars v _ w refl;
+  m_taken = length-set s.vars v _;
+  m_structs = refl;
+  m_constraints = refl;
+  m_num = λ w e. ap (λ (o : Option ℕ). elim o [ None ↦ false | Some loc ↦ true ]) (set_field (λ (c : Cell). c.numeric) s.vars v _ w refl) ∙ e;
+  m_most = λ f w. set_holds CellIn s.vars v _ w (f w) k;
+}
+
+pub need_set_num : (s : State) (v loc w : ℕ) → need_of (set_num_var s v loc) w ≡ need_of s w
+unfolding set_num_var mark_chain
+need_set_num s v loc w = go (taken s) s v
+  where
+    go : (n : ℕ) (s : State) (v : ℕ) → need_of (mark_chain n s v loc) w ≡ need_of s w
+    go zero s v = refl
+    go (suc n) s v = on (next_of s v) (λ next. go n (mark_one s v loc) next ∙ need_mark_one s v loc w)
+      where
+        on : (o : Option ℕ) → ((next : ℕ) → need_of (mark_chain n (mark_one s v loc) next loc) w ≡ need_of s w) → need_of (elim o [ None ↦ mark_one s v loc | Some next ↦ mark_chain n (mark_one s v loc) next loc ]) w ≡ need_of s w
+        on None f = need_mark_one s v loc w
+        on (Some next) f = f next
+
+-- the variable itself is marked
+pub num_set_self : (s : State) (v loc : ℕ) → v < taken s → is_num_var (set_num_var s v loc) v ≡ true
+unfolding set_num_var mark_chain
+num_set_self s v loc h = go (taken s) h
+  where
+    go : (n : ℕ) → v < n → is_num_var (mark_chain n s v loc) v ≡ true
+    go zero i = absurd (omega arith)
+    go (suc n) i = on (next_of s v)
+      where
+        on : (o : Option ℕ) → is_num_var (elim o [ None ↦ mark_one s v loc | Some next ↦ mark_chain n (mark_one s v loc) next loc ]) v ≡ true
+        on None = num_mark_self s v loc h
+        on (Some next) = (chain_marks n (mark_one s v loc) next loc).m_num v (num_mark_self s v loc h)
+
+allowed_marked : (o : Option ℕ) (n : ℕ) → (elim o [ None ↦ false | Some loc ↦ true ]) ≡ true → leb n 256 ≡ true → need_allowed o n ≡ true
+unfolding need_allowed
+allowed_marked None n h k = absurd (clash h)
+  where
+    clash : false ≡ true → ⊥
+    clash e = subst (λ (b : Bool). T b) (sym e) tt
+allowed_marked (Some loc) n h k = k
+
+pub allowed_of : (s : State) (v n : ℕ) → is_num_var s v ≡ true → leb n 256 ≡ true → need_allowed (num_loc s v) n ≡ true
+unfolding is_num_var
+allowed_of s v n h k = allowed_marked (num_loc s v) n h k
+
+-- a mark with its need, on a variable that had none
+pub literal_marks : (s : State) (v loc n : ℕ) → leb n 256 ≡ true → SameButMarks s (with_need (set_num_var s v loc) v n)
+literal_marks s v loc n k = let m = num_marks s v loc in
+    marks_trans m (need_marks (set_num_var s v loc) v n (λ h. allowed_of (set_num_var s v loc) v n (num_set_self s v loc (omega (arith, m.m_taken))) k))
+
+pub merge_marks : (s : State) (a b : Option ℕ) (n f : ℕ) → leb n 256 ≡ true → SameButMarks s (merge_num s a b n f)
 unfolding merge_num
-merge_marks s a (Some l) f = num_marks s f l
-merge_marks s (Some l) None f = num_marks s f l
-merge_marks s None None f = marks_refl s
+merge_marks s a (Some l) n f k = literal_marks s f l n k
+merge_marks s (Some l) None n f k = literal_marks s f l n k
+merge_marks s None None n f k = marks_refl s
+
+-- no other variable's need changes
+pub literal_others : (s : State) (v loc n w : ℕ) → w ≢ v → need_of (with_need (set_num_var s v loc) v n) w ≡ need_of s w
+unfolding need_of with_need with_vars
+literal_others s v loc n w d = ap (λ (c : Cell). c.need) (get_or-set_other (set_num_var s v loc).vars v w _ unbound d) ∙ need_set_num s v loc w
+
+pub merge_others : (s : State) (a b : Option ℕ) (n f w : ℕ) → w ≢ f → need_of (merge_num s a b n f) w ≡ need_of s w
+unfolding merge_num
+merge_others s a (Some l) n f w d = literal_others s f l n w d
+merge_others s (Some l) None n f w d = literal_others s f l n w d
+merge_others s None None n f w d = refl
+
+-- of any need
+literal_nodes : (s : State) (v loc n : ℕ) → SameNodes s (with_need (set_num_var s v loc) v n)
+unfolding with_need
+literal_nodes s v loc n =
+    let m = (num_marks s v loc).m_nodes in
+    let k = vars_nodes (set_num_var s v loc) _ in
+    record { same_nodes = k.same_nodes ∙ m.same_nodes; same_args = k.same_args ∙ m.same_args }
+
+pub merge_nodes : (s : State) (a b : Option ℕ) (n f : ℕ) → SameNodes s (merge_num s a b n f)
+unfolding merge_num
+merge_nodes s a (Some l) n f = literal_nodes s f l n
+merge_nodes s (Some l) None n f = literal_nodes s f l n
+merge_nodes s None None n f = (marks_refl s).m_nodes
+
+-- ---- the larger need
+
+-- it is one of the two
+larger_one : (P : ℕ → Type 0) (a b : ℕ) → P a → P b → P (larger a b)
+unfolding larger
+larger_one P a b h k = go (leb a b)
+  where
+    go : (c : Bool) → P (if c then b else a)
+    go true = k
+    go false = h
+
+pub larger_most : (a b : ℕ) → leb a 256 ≡ true → leb b 256 ≡ true → leb (larger a b) 256 ≡ true
+larger_most a b h k = larger_one (λ n. leb n 256 ≡ true) a b h k
+
+pub larger_least : (a b c : ℕ) → a ≤ c → b ≤ c → larger a b ≤ c
+larger_least a b c h k = larger_one (λ n. n ≤ c) a b h k
+
+pub larger_l : (a b : ℕ) → a ≤ larger a b
+unfolding larger
+larger_l a b = go (leb a b) refl
+  where
+    go : (c : Bool) → leb a b ≡ c → a ≤ (if c then b else a)
+    go true e = leb→le a b (subst (λ (c : Bool). T c) (sym e) tt)
+    go false e = omega arith
+
+pub larger_r : (a b : ℕ) → b ≤ larger a b
+unfolding larger
+larger_r a b = go (leb a b) refl
+  where
+    clash : T (leb a b) → leb a b ≡ false → ⊥
+    clash t e = subst (λ (c : Bool). T c) e t
+
+    go : (c : Bool) → leb a b ≡ c → b ≤ (if c then b else a)
+    go true e = omega arith
+    go false e = elim (native.Mathlib.Decide.dec_lt a b) [ yes l ↦ absurd (clash (le→leb a b (omega arith)) e) | no l ↦ omega arith ]
+
+-- ---- the need of a merge
+
+larger_zero : larger 0 0 ≡ 0
+unfolding larger
+larger_zero = refl
+
+pub larger_none : (a b : ℕ) → a ≡ 0 → b ≡ 0 → larger a b ≡ 0
+larger_none a b d e = rw (d, e) larger_zero
+
+need_set : (s : State) (v n : ℕ) → v < taken s → need_of (with_need s v n) v ≡ n
+unfolding need_of with_need with_vars
+need_set s v n h = ap (λ (c : Cell). c.need) (get_or-set_same s.vars v _ unbound h)
+
+pub literal_need : (s : State) (v loc n : ℕ) → v < taken s → need_of (with_need (set_num_var s v loc) v n) v ≡ n
+literal_need s v loc n h = need_set (set_num_var s v loc) v n (omega (arith, (num_marks s v loc).m_taken))
+
+-- the fresh variable needs what the ends need
+pub merge_need : (s s' : State) (e1 e2 f : ℕ) → NeedsIn s → f < taken s' → larger (need_of s e1) (need_of s e2) ≤ need_of (merge_num s' (num_loc s e1) (num_loc s e2) (larger (need_of s e1) (need_of s e2)) f) f
+unfolding merge_num NeedsIn
+merge_need s s' e1 e2 f h i = go (num_loc s e1) (num_loc s e2) refl refl
+  where
+    n : ℕ
+    n = larger (need_of s e1) (need_of s e2)
+
+    set : (loc : ℕ) → n ≤ need_of (with_need (set_num_var s' f loc) f n) f
+    set loc = omega (arith, literal_need s' f loc n i)
+
+    go : (a b : Option ℕ) → num_loc s e1 ≡ a → num_loc s e2 ≡ b → n ≤ need_of (merge_num s' a b n f) f
+    go a (Some loc) d e = set loc
+    go (Some loc) None d e = set loc
+    go None None d e = omega (arith, larger_none (need_of s e1) (need_of s e2) (none_needs (num_loc s e1) (need_of s e1) d (h e1)) (none_needs (num_loc s e2) (need_of s e2) e (h e2)))
+
+-- .. and no more
+pub merge_at_most : (s : State) (a b : Option ℕ) (n f : ℕ) → f < taken s → need_of s f ≡ 0 → need_of (merge_num s a b n f) f ≤ n
+unfolding merge_num
+merge_at_most s a (Some l) n f h e = omega (arith, literal_need s f l n h)
+merge_at_most s (Some l) None n f h e = omega (arith, literal_need s f l n h)
+merge_at_most s None None n f h e = omega arith

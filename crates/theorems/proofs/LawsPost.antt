@@ -8,6 +8,7 @@ use Rattle.theorems.proofs.DemandOrder.{Nodes}
 use Rattle.std.specs.Prelude.{if◌then◌else◌}
 use Rattle.definition.specs.Types.{TypeName, State, TypingError, Refusal, Result, ok, err, refused, ◌>>=◌}
 use Rattle.definition.specs.Store.{count, taken, type_at}
+use Rattle.theorems.proofs.MetSteps.{Keeps, keeps_trans}
 
 -- nodes and variables are only added, and the declarations stay
 pub record Grown (S S' : State) : Type 0 where
@@ -15,12 +16,14 @@ pub record Grown (S S' : State) : Type 0 where
   pub g_kept : (i : ℕ) → i < count S → type_at S' i ≡ type_at S i
   pub g_vars : taken S ≤ taken S'
   pub g_structs : S'.structs ≡ S.structs
+  -- what numeric variables are bound to stays as the numeric check wants it; where none needs anything none comes to
+  pub g_keeps : Keeps S S'
 
 pub grown_refl : (S : State) → Grown S S
-grown_refl S = record { g_nodes = omega arith; g_kept = λ i h. refl; g_vars = omega arith; g_structs = refl }
+grown_refl S = record { g_nodes = omega arith; g_kept = λ i h. refl; g_vars = omega arith; g_structs = refl; g_keeps = record { held = λ h. h; bare = λ h. h } }
 
 pub grown_trans : {S S' S'' : State} → Grown S S' → Grown S' S'' → Grown S S''
-grown_trans a b = record { g_nodes = omega (arith, a.g_nodes, b.g_nodes); g_kept = λ i h. b.g_kept i (omega (arith, a.g_nodes)) ∙ a.g_kept i h; g_vars = omega (arith, a.g_vars, b.g_vars); g_structs = b.g_structs ∙ a.g_structs }
+grown_trans a b = record { g_nodes = omega (arith, a.g_nodes, b.g_nodes); g_kept = λ i h. b.g_kept i (omega (arith, a.g_nodes)) ∙ a.g_kept i h; g_vars = omega (arith, a.g_vars, b.g_vars); g_structs = b.g_structs ∙ a.g_structs; g_keeps = keeps_trans a.g_keeps b.g_keeps }
 
 -- a success has P; an error is met in a state that has grown from S, with sound nodes
 pub data Post {B : Type 0} (ar : TypeName → ℕ) (S : State) (P : State → B → Type 0) : Result (State × B) → Type 0 where

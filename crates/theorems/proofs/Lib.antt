@@ -5,6 +5,8 @@ pub mod LawsChains
 pub mod DemandOrder
 pub mod DemandSteps
 pub mod DemandMerge
+pub mod SoundFacts
+pub mod MetSteps
 pub mod LawsPost
 pub mod SoundRoom
 pub mod DemandCalls
@@ -14,7 +16,6 @@ pub mod DemandReading
 pub mod DemandLoops
 pub mod TotalFinite
 pub mod DemandPutBack
-pub mod SoundFacts
 pub mod Soundness
 pub mod TotalReaches
 pub mod SolveInTurn
@@ -109,3 +110,5 @@ pub mod DoubledTag
 pub mod DoubledSaved
 pub mod DoubledSingle
 pub mod DoubledNone
+pub mod MetWidths
+pub mod MetJobs

@@ -13,9 +13,9 @@ use Rattle.theorems.proofs.DemandCalls.{type_of_post}
 use Rattle.theorems.proofs.DemandMain.{Took, took, took_any_l, took_any_r, took_units, took_refs, took_params, took_applies, took_vars, took_var_l, took_var_r, took_error_l, took_error_r, took_others, join_impl_good}
 
 -- of what is no variable the check looks at the type alone
-pub check_plain : (S : State) (ty : ℕ) → as_var (type_at S ty) ≡ None → check_num_tvar' S ty ≡ num_shape (type_at S ty)
+pub check_plain : (S : State) (need ty : ℕ) → as_var (type_at S ty) ≡ None → check_num_tvar' S need ty ≡ num_shape need (type_at S ty)
 unfolding check_num_tvar'
-check_plain S ty e = rw (e, check_num_tvar') refl
+check_plain S need ty e = rw (e, check_num_tvar') refl
 
 -- an arm that binds an unbound variable at once: the other type is none
 left_at : {L R : TypeValue} {a : Arm} (id : ℕ) → Took L R a → a ≡ VarL id → as_var R ≡ None

@@ -5,23 +5,25 @@ use mathlib.Core.Logic.{◌↔◌}
 use mathlib.Core.Bool.{Bool, true, false, not, ◌&&◌, ◌||◌}
 use mathlib.Core.List.{List, []}
 use Rattle.std.specs.Prelude.{None, Some}
-use Prim.Native.Nat.{ℕ, suc, ◌<◌}
+use Prim.Native.Nat.{ℕ, suc, ◌<◌, ◌≤◌}
 use Rattle.std.specs.Prelude.{if◌then◌else◌, eqb}
 use borrow.Author.Tests.{eqb-true}
 use Rattle.definition.specs.Types.{TypeName, Builtin, Multiple, ModuleType, AbilityMark, UnitType, Ref, Param, Apply, Var, Anything, UnresolvedError, Places, State, TypeValue, Constraint, NumericConstraint, BitsConstraint, OrderedConstraint, Incompatible, malformed, Result, ok, err, ◌>>=◌}
-use Rattle.definition.specs.Store.{count, type_at, loc_of, spanned, get, num_loc, insert, any_of}
+use Rattle.definition.specs.Store.{count, type_at, loc_of, spanned, get, num_loc, insert, any_of, need_of}
 use Rattle.definition.specs.Subst.{as_var, is_anything, parts, unfold_type}
-use Rattle.definition.specs.Join.{TypingCase, integers, is_numeric, is_num_var, num_shape, check_num_tvar', check_num_tvar, is_var, used, join_bind_tvar, arm, join_unbound, join_arm, join_impl}
+use Rattle.definition.specs.Join.{TypingCase, integers, is_numeric, is_num_var, num_shape, check_num_tvar', check_num_tvar, is_var, used, join_bind_tvar, arm, join_unbound, join_arm, join_impl, width, fits}
 use Rattle.definition.specs.Constraints.{is_integer, solve, failure, solve_constraint}
 use Rattle.definition.specs.Write.{Bytes}
-use Rattle.definition.specs.Reader as reader
 use Rattle.definition.specs.Reader.{got, not_read, Reader, give, refuse, go_on, byte}
 use Rattle.definition.specs.Trees.{Tree, apply_tree, is_mark, is_name, has_drop, mark_fits, arity, read_trees, read_mark, read_apply}
 use Rattle.definition.specs.Sound.{sound, places_fit, shape_allowed}
 use Rattle.theorems.proofs.DemandTracks.{never}
-use Rattle.theorems.proofs.SoundFacts.{facts}
+use Rattle.theorems.proofs.SoundFacts.{facts, and_l}
+use Rattle.theorems.proofs.MetSteps.{fits_parts}
+use Rattle.theorems.proofs.TotalNoFail.{fits_from}
 use Rattle.theorems.proofs.NumericCheck.{check_plain}
 use Rattle.theorems.proofs.BookLiteral.{no_arguments}
+use Rattle.definition.specs.Reader as reader
 
 -- ---- the claim
 
@@ -43,9 +45,9 @@ read_arguments s read_type loc k b = reader.◌>>=◌ (read_trees (arity s (Buil
 pub record NumericRule (s : State) (b : ℕ) : Type 0 where
   -- (1) join and subtype, the variable on either side
   pub on_the_left : (depth : ℕ) (case : TypingCase) (v loc var other : ℕ) (k : AbilityMark) (tys : List ℕ) → num_loc s v ≡ Some loc → get s v ≡ None → other < count s → type_at s var ≡ Var v → type_at s other ≡ Apply k (Builtin b) tys
-      → join_impl (suc depth) s case var other ≡ taken_or_shown s v var other var other (is_numeric (Builtin b))
+      → join_impl (suc depth) s case var other ≡ taken_or_shown s v var other var other (fits (need_of s v) (Builtin b))
   pub on_the_right : (depth : ℕ) (case : TypingCase) (v loc var other : ℕ) (k : AbilityMark) (tys : List ℕ) → num_loc s v ≡ Some loc → get s v ≡ None → other < count s → type_at s var ≡ Var v → type_at s other ≡ Apply k (Builtin b) tys
-      → join_impl (suc depth) s case other var ≡ taken_or_shown s v var other other var (is_numeric (Builtin b))
+      → join_impl (suc depth) s case other var ≡ taken_or_shown s v var other other var (fits (need_of s v) (Builtin b))
   -- (2) NC, of every kind
   pub constrained : (c : Constraint) (loc ty : ℕ) (k : AbilityMark) (tys : List ℕ) → Numeric c loc ty → (unfold_type s (spanned s ty)).value ≡ Apply k (Builtin b) tys
       → solve_constraint s c ≡ ok (if is_numeric (Builtin b) then [] else failure s 1 loc (unfold_type s (spanned s ty)))
@@ -93,47 +95,47 @@ unfolding is_num_var
 numbered s v loc e = rw (e, is_num_var) refl
 
 -- of any type that is no variable
-checked_shape : (s : State) (v loc other : ℕ) → num_loc s v ≡ Some loc → as_var (type_at s other) ≡ None → check_num_tvar s v other ≡ num_shape (type_at s other)
+checked_shape : (s : State) (v loc other : ℕ) → num_loc s v ≡ Some loc → as_var (type_at s other) ≡ None → check_num_tvar s v other ≡ num_shape (need_of s v) (type_at s other)
 unfolding check_num_tvar
-checked_shape s v loc other marked plain = ap (λ (x : Bool). not x || check_num_tvar' s other) (numbered s v loc marked) ∙ check_plain s other plain
+checked_shape s v loc other marked plain = ap (λ (x : Bool). not x || check_num_tvar' s (need_of s v) other) (numbered s v loc marked) ∙ check_plain s (need_of s v) other plain
 
--- 01's list: `!`, `_` and the integer types
-pub data Takes : TypeValue → Type 0 where
-  takes_anything : Takes Anything
-  takes_error : Takes UnresolvedError
-  takes_integer : {k : AbilityMark} {b : ℕ} {tys : List ℕ} → IsInteger b → Takes (Apply k (Builtin b) tys)
+-- 01's list, with 02's need: `!`, `_` and the integer types that have so many bits
+pub data Takes (need : ℕ) : TypeValue → Type 0 where
+  takes_anything : Takes need Anything
+  takes_error : Takes need UnresolvedError
+  takes_integer : {k : AbilityMark} {b : ℕ} {tys : List ℕ} → IsInteger b → need ≤ width b → Takes need (Apply k (Builtin b) tys)
 
 -- no list and no struct is an integer type
-numeric_name : (k : AbilityMark) (n : TypeName) (tys : List ℕ) → is_numeric n ≡ true → Takes (Apply k n tys)
-unfolding is_numeric
-numeric_name k (Multiple len) tys e = never (cc)
-numeric_name k (Builtin b) tys e = takes_integer ((integers_are b).0 e)
-numeric_name k (ModuleType m) tys e = never (cc)
+numeric_name : (need : ℕ) (k : AbilityMark) (n : TypeName) (tys : List ℕ) → fits need n ≡ true → Takes need (Apply k n tys)
+unfolding fits is_numeric
+numeric_name need k (Multiple len) tys e = never (cc)
+numeric_name need k (Builtin b) tys e = let p = fits_parts need b e in takes_integer ((integers_are b).0 p.0) p.1
+numeric_name need k (ModuleType m) tys e = never (cc)
 
-takes : (t : TypeValue) → (num_shape t ≡ true) ↔ Takes t
+takes : (need : ℕ) (t : TypeValue) → (num_shape need t ≡ true) ↔ Takes need t
 unfolding num_shape
-takes t = (there t, back)
+takes need t = (there t, back)
   where
-    there : (t : TypeValue) → num_shape t ≡ true → Takes t
+    there : (t : TypeValue) → num_shape need t ≡ true → Takes need t
     there UnitType e = never (cc)
     there (Ref m p) e = never (cc)
     there (Param id a) e = never (cc)
-    there (Apply k n tys) e = numeric_name k n tys e
+    there (Apply k n tys) e = numeric_name need k n tys e
     there (Var v) e = never (cc)
     there Anything e = takes_anything
     there UnresolvedError e = takes_error
 
-    back : {t : TypeValue} → Takes t → num_shape t ≡ true
+    back : {t : TypeValue} → Takes need t → num_shape need t ≡ true
     back takes_anything = refl
     back takes_error = refl
-    back (takes_integer {b = b} i) = (integers_are b).1 i
+    back (takes_integer {b = b} i l) = fits_from need b ((integers_are b).1 i) l
 
 -- 01's rule where it stands, at the binding, of any type that is no variable: a numeric variable takes just these
-pub numeric_takes : (s : State) (v loc other : ℕ) → num_loc s v ≡ Some loc → as_var (type_at s other) ≡ None → (check_num_tvar s v other ≡ true) ↔ Takes (type_at s other)
-numeric_takes s v loc other marked plain = rw (checked_shape s v loc other marked plain) (takes (type_at s other))
+pub numeric_takes : (s : State) (v loc other : ℕ) → num_loc s v ≡ Some loc → as_var (type_at s other) ≡ None → (check_num_tvar s v other ≡ true) ↔ Takes (need_of s v) (type_at s other)
+numeric_takes s v loc other marked plain = rw (checked_shape s v loc other marked plain) (takes (need_of s v) (type_at s other))
 
 -- .. any other is turned down, whichever arm or merge binds it
-pub numeric_refuses : (s : State) (at v loc other : ℕ) → num_loc s v ≡ Some loc → as_var (type_at s other) ≡ None → ¬ Takes (type_at s other) → join_bind_tvar s at v other ≡ ok (s, false)
+pub numeric_refuses : (s : State) (at v loc other : ℕ) → num_loc s v ≡ Some loc → as_var (type_at s other) ≡ None → ¬ Takes (need_of s v) (type_at s other) → join_bind_tvar s at v other ≡ ok (s, false)
 unfolding join_bind_tvar
 numeric_refuses s at v loc other marked plain none = by (check_num_tvar s v other) refl
   where
@@ -142,30 +144,30 @@ numeric_refuses s at v loc other marked plain none = by (check_num_tvar s v othe
     by false e = rw e refl
 
 module _ (s : State) (v loc other b : ℕ) (k : AbilityMark) (tys : List ℕ) (marked : num_loc s v ≡ Some loc) (is : type_at s other ≡ Apply k (Builtin b) tys) where
-  checked : check_num_tvar s v other ≡ is_numeric (Builtin b)
+  checked : check_num_tvar s v other ≡ fits (need_of s v) (Builtin b)
   unfolding as_var num_shape
-  checked = checked_shape s v loc other marked (ap as_var is) ∙ ap num_shape is
+  checked = checked_shape s v loc other marked (ap as_var is) ∙ ap (num_shape (need_of s v)) is
 
   not_used : tys ≡ [] → used (suc other) s v other ≡ false
   unfolding used is_var any_of parts as_var
   not_used e = rw (is, e) refl
 
-  binds : (at : ℕ) (x : Bool) → is_numeric (Builtin b) ≡ x → (x ≡ true → tys ≡ []) → join_bind_tvar s at v other ≡ (if x then ok (insert s v other, true) else ok (s, false))
+  binds : (at : ℕ) (x : Bool) → fits (need_of s v) (Builtin b) ≡ x → (x ≡ true → tys ≡ []) → join_bind_tvar s at v other ≡ (if x then ok (insert s v other, true) else ok (s, false))
   unfolding join_bind_tvar is_anything
   binds at true e none_there = rw (checked, e, not_used (none_there refl), is) refl
   binds at false e none_there = rw (checked, e) refl
 
-  joins : (lhs rhs var : ℕ) (x : Bool) → is_numeric (Builtin b) ≡ x → (x ≡ true → tys ≡ []) → join_unbound s lhs rhs var v other ≡ taken_or_shown s v var other lhs rhs x
+  joins : (lhs rhs var : ℕ) (x : Bool) → fits (need_of s v) (Builtin b) ≡ x → (x ≡ true → tys ≡ []) → join_unbound s lhs rhs var v other ≡ taken_or_shown s v var other lhs rhs x
   unfolding join_unbound taken_or_shown ◌>>=◌
   joins lhs rhs var true e h = rw (binds (loc_of s var) true e h) refl
   joins lhs rhs var false e h = rw (binds (loc_of s var) false e h) refl
 
-  on_left : (depth : ℕ) (case : TypingCase) (var : ℕ) (x : Bool) → is_numeric (Builtin b) ≡ x → (x ≡ true → tys ≡ []) → get s v ≡ None → type_at s var ≡ Var v
+  on_left : (depth : ℕ) (case : TypingCase) (var : ℕ) (x : Bool) → fits (need_of s v) (Builtin b) ≡ x → (x ≡ true → tys ≡ []) → get s v ≡ None → type_at s var ≡ Var v
       → join_impl (suc depth) s case var other ≡ taken_or_shown s v var other var other x
   unfolding join_impl join_arm arm
   on_left depth case var x e h free at = rw (at, is, free, join_arm) (joins var other var x e h)
 
-  on_right : (depth : ℕ) (case : TypingCase) (var : ℕ) (x : Bool) → is_numeric (Builtin b) ≡ x → (x ≡ true → tys ≡ []) → get s v ≡ None → type_at s var ≡ Var v
+  on_right : (depth : ℕ) (case : TypingCase) (var : ℕ) (x : Bool) → fits (need_of s v) (Builtin b) ≡ x → (x ≡ true → tys ≡ []) → get s v ≡ None → type_at s var ≡ Var v
       → join_impl (suc depth) s case other var ≡ taken_or_shown s v var other other var x
   unfolding join_impl join_arm arm
   on_right depth case var x e h free at = rw (is, at, free, join_arm) (joins other var var x e h)
@@ -208,10 +210,10 @@ module _ (s : State) (m : Reader Tree) (loc b : ℕ) (k : AbilityMark) (bytes af
 -- ---- the rule
 
 pub numeric_rule : (s : State) → sound s ≡ true → (b : ℕ) → NumericRule s b
-unfolding shape_allowed
+unfolding shape_allowed fits
 numeric_rule s h b = record {
-  on_the_left = λ depth case v loc var other k tys num free l at is. on_left s v loc other b k tys num is depth case var (is_numeric (Builtin b)) refl (plain other k tys l is) free at;
-  on_the_right = λ depth case v loc var other k tys num free l at is. on_right s v loc other b k tys num is depth case var (is_numeric (Builtin b)) refl (plain other k tys l is) free at;
+  on_the_left = λ depth case v loc var other k tys num free l at is. on_left s v loc other b k tys num is depth case var (fits (need_of s v) (Builtin b)) refl (λ e. plain other k tys l is (and_l (is_numeric (Builtin b)) _ e)) free at;
+  on_the_right = λ depth case v loc var other k tys num free l at is. on_right s v loc other b k tys num is depth case var (fits (need_of s v) (Builtin b)) refl (λ e. plain other k tys l is (and_l (is_numeric (Builtin b)) _ e)) free at;
   constrained = λ c loc ty k tys n e. solved s c loc ty b k tys n e;
   read = λ m loc k bytes l l' e f n d. fits_or_not s m loc b k bytes l l' e f n (is_numeric (Builtin b)) (without_drop b k d);
   kept = λ k places e. ap (λ (x : Bool). is_mark k && is_name s (Builtin b) && x && places_fit s (Builtin b) places) (without_drop b k e);

@@ -2,7 +2,6 @@
 -- First laws of tests and of lists that pass a test; then, test by test, what a node, a constraint and a variable of a sound state are.
 use mathlib.Core.Path.{◌≡◌, refl, sym, ap, ◌∙◌, subst}
 use mathlib.Core.Bool.{Bool, true, false, not, ◌&&◌}
-use mathlib.Core.List.Memᴰ
 use mathlib.Core.List.{List, [], ◌∷◌, Memᴰ}
 use mathlib.Core.Logic.{inl, inr}
 use Rattle.std.specs.Prelude.{Option, None, Some}
@@ -10,15 +9,16 @@ use Prim.Native.Nat.{ℕ, zero, suc, ◌+◌, ◌≤◌, ◌<◌}
 use native.Mathlib.Omega.{arith}
 use lib.ListN.{length, get_or, drop, length-take, length-drop}
 use lib.Dec.{T, leb, ltb, eqb, leb→le, ltb→lt, eqb→eq}
-use Rattle.definition.specs.Types.{TypeName, AbilityMark, Shape, UnitType, Ref, Param, Apply, Var, Anything, UnresolvedError, Places, unbound, State, Constraint, AbilityConstraint, NumericConstraint, BitsConstraint, OrderedConstraint, BaseTypeConstraint, SingleTypeConstraint}
-use Rattle.definition.specs.Store.{nowhere, count, taken, node, type_at, with_args, args_at, get, all_of}
+use Rattle.definition.specs.Types.{TypeName, AbilityMark, Shape, UnitType, Ref, Param, Apply, Var, Anything, UnresolvedError, Places, unbound, State, Constraint, AbilityConstraint, NumericConstraint, BitsConstraint, OrderedConstraint, BaseTypeConstraint, SingleTypeConstraint, Cell}
+use Rattle.definition.specs.Store.{nowhere, count, taken, node, type_at, with_args, args_at, get, all_of, num_loc, need_of}
 use Rattle.definition.specs.Subst.{is_anything, parts, next_of, forward_tvar}
 use Rattle.definition.specs.Trees.{arity, mark_fits, is_mark, is_name}
 use Rattle.definition.specs.Sound.{all_at, counts_fit, smaller_than, parts_smaller, is_u32, places_fit, shape_allowed, node_allowed, binding_allowed, numeric_allowed}
-use Rattle.definition.specs.Sound.{cell_allowed, at_node, constraint_allowed, struct_allowed, fields_allowed, no_anything, no_binding_anything, chain_ends, chains_end, sound}
-use Rattle.theorems.proofs.Laws.{PlacesIn, type_on, get_beyond}
+use Rattle.definition.specs.Sound.{cell_allowed, at_node, constraint_allowed, struct_allowed, fields_allowed, no_anything, no_binding_anything, chain_ends, chains_end, sound, need_allowed}
+use Rattle.theorems.proofs.Laws.{PlacesIn, type_on, get_beyond, NeedsIn}
 use Rattle.theorems.proofs.DemandTracks.{never}
 use Rattle.theorems.proofs.DemandOrder.{All, Sound}
+use mathlib.Core.List.Memᴰ
 
 -- ---- tests
 
@@ -181,6 +181,17 @@ module _ (s : State) (h : sound s ≡ true) where
   stops v None e b = e
   stops v (Some w) e b = never (let c : false ≡ true = rw (e, chain_ends) at b in cc)
 
+  pub need_in : (v : ℕ) → need_allowed (num_loc s v) (need_of s v) ≡ true
+  unfolding cell_allowed need_allowed num_loc need_of
+  need_in v = elim (native.Mathlib.Decide.dec_lt v (taken s)) [
+    | yes l ↦ and_r (binding_allowed s (get_or s.vars v unbound).binding && numeric_allowed (get_or s.vars v unbound).numeric) _ (cell v l)
+    | no l ↦ let e = lib.ListN.get_or-eq_default s.vars unbound {n = v} (omega arith) in ap (λ (c : Cell). need_allowed c.numeric c.need) e
+  ]
+
+  needs : NeedsIn s
+  unfolding NeedsIn
+  needs = need_in
+
   pub facts : Sound (arity s) s
   unfolding parts_smaller fields_allowed no_binding_anything chains_end cell_allowed get type_at node
   facts = record {
@@ -188,8 +199,9 @@ module _ (s : State) (h : sound s ≡ true) where
     parts_below = λ i l. all_below i (parts (type_at s i)) (at_place (λ t n. smaller_than t (parts (with_args s n.value))) nowhere s.nodes smaller i l);
     var_in = λ i v l e. shape_var s (node s i).value (shape i l) v e;
     arity = λ i k n ps l e. shape_arity s (node s i).value (shape i l) k n ps e;
-    bind_in = λ v t e. in_nodes (get s v) t e (and_l _ (numeric_allowed (get_or s.vars v unbound).numeric) (cell v (bound_taken v t e)));
+    bind_in = λ v t e. in_nodes (get s v) t e (and_l _ (numeric_allowed (get_or s.vars v unbound).numeric) (and_l _ (need_allowed (get_or s.vars v unbound).numeric (get_or s.vars v unbound).need) (cell v (bound_taken v t e))));
     bind_known = λ v t e. not_any (get s v) t e (of_each (λ c. no_anything s c.binding) unbound s.vars bindings v (bound_taken v t e));
     chains = λ v l. stops v (next_of s (forward_tvar s v)) refl (at_place (λ v c. chain_ends s v) unbound s.vars ends v l);
     constraints_on = record { on = λ c m. on_node s c (of_member (λ c. constraint_allowed s c) s.constraints (and_r (all_of (λ n. node_allowed s n) s.nodes && all_of (λ c. cell_allowed s c) s.vars) _ (and_l _ (all_of (λ d. struct_allowed d) s.structs) fields)) c m) };
+    needs_in = needs;
   }

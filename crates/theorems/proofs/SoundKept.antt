@@ -12,27 +12,27 @@ use Rattle.std.specs.Prelude.{if◌then◌else◌}
 use Rattle.definition.specs.Types.{TypeName, Multiple, Builtin, ModuleType, Shape, UnitType, Ref, Param, Apply, Var, Anything, UnresolvedError, Places, Node, unbound, State, fresh, max_nodes, max_args, max_vars, max_constraints, max_structs}
 use Rattle.definition.specs.Types.{Constraint, AbilityConstraint, NumericConstraint, BitsConstraint, OrderedConstraint, BaseTypeConstraint, SingleTypeConstraint, Struct}
 use Rattle.definition.specs.Types.{Refusal, answer_too_long, Result, ok, err, refused}
-use Rattle.definition.specs.Store.{nowhere, count, taken, node, type_at, with_args, args_at, num_loc, all_of}
+use Rattle.definition.specs.Store.{nowhere, count, taken, node, type_at, with_args, args_at, num_loc, all_of, need_of}
 use Rattle.definition.specs.Subst.{parts}
 use Rattle.definition.specs.Trees.{mark_fits, arity, is_set, is_mark, is_name}
 use Rattle.definition.specs.Instantiate.{struct_tparams}
 use Rattle.definition.specs.Write.{Bytes, IsBytes}
 use Rattle.definition.specs.Reader.{Read, got, not_read}
 use Rattle.definition.specs.Record.{Record, read_record}
-use Rattle.definition.specs.Sound.{all_at, counts_fit, parts_smaller, fields_allowed, no_binding_anything, chains_end, is_u32, places_fit, shape_allowed, node_allowed, at_node, constraint_allowed, binding_allowed, cell_allowed, sound}
+use Rattle.definition.specs.Sound.{all_at, counts_fit, parts_smaller, fields_allowed, no_binding_anything, chains_end, is_u32, places_fit, shape_allowed, node_allowed, at_node, constraint_allowed, binding_allowed, cell_allowed, sound, need_allowed}
 use Rattle.definition.specs.Step.{run, Answer, number_of_error, number_of_refusal, refusal, put_back, max_payload, answer_with, answer, max_buffer, usable, lent, step, streamed, step_stream}
 use Rattle.definition.specs.Demand.{after}
 use Rattle.definition.specs.Job.{Entry, ends_job, job_from, job_log}
 use Rattle.theorems.proofs.Laws.{PlacesIn, type_on}
 use Rattle.theorems.proofs.DemandOrder.{All, Sound}
 use Rattle.theorems.proofs.TotalFinite.{all_at as each}
-use Rattle.theorems.proofs.SoundFacts.{and_l, and_r, test, length_args, cell, facts}
-use Rattle.theorems.proofs.Soundness.{untest, and, lt_test, le_test, not_anything, numeric_u32, sound_is}
+use Rattle.theorems.proofs.SoundFacts.{and_l, and_r, test, length_args, cell, facts, need_in}
+use Rattle.theorems.proofs.Soundness.{untest, and, lt_test, le_test, not_anything, numeric_u32, sound_is, marked_need, unmarked_need}
 use Rattle.theorems.proofs.DemandPutBack.{sound_put_back}
-use Rattle.theorems.proofs.SoundRanges.{all_append, ShapeIn, NodeIn, CellIn, ConstraintIn, StructIn, Ranges, unbound_in, node_in, cell_in, vars_ranges}
+use Rattle.theorems.proofs.SoundRanges.{all_append, ShapeIn, NodeIn, CellIn, ConstraintIn, StructIn, Ranges, unbound_in, node_in, cell_in, vars_ranges, need_cell}
 use Rattle.theorems.proofs.SoundRead.{ReadTime, five, six, eighteen, ReadWell, given, not_given, well_read}
 use Rattle.theorems.proofs.SoundRefusals.{error_number, step_cases, stream_cases}
-use Rattle.theorems.proofs.DemandRecords.{Leaves, l_ok, l_err, l_refused, run_leaves}
+use Rattle.theorems.proofs.DemandRecords.{Leaves, l_ok, l_err, l_refused, run_leaves, Literals, literals}
 use Rattle.theorems.proofs.TotalWalk.{RunTime, seven, eight, nine, ten, eleven, twelve, thirteen, sixteen, seventeen, e_ok, e_err, e_refused, Run, run_walk}
 
 -- ---- from the test to the ranges
@@ -70,7 +70,7 @@ constraint_ranges s (BaseTypeConstraint loc ty) e = and_l (is_u32 loc) _ e
 constraint_ranges s (SingleTypeConstraint loc ty) e = and_l (is_u32 loc) _ e
 
 pub ranges_of : (s : State) → sound s ≡ true → Ranges s s
-unfolding node cell_allowed
+unfolding node cell_allowed num_loc need_of
 ranges_of s h = let w = (sound_is s).0 h in record {
   few_nodes = w.few_nodes;
   few_args = w.few_args;
@@ -80,7 +80,7 @@ ranges_of s h = let w = (sound_is s).0 h in record {
   extra = [];
   declared = sym (append-nil s.structs);
   nodes_in = all_each (NodeIn s) nowhere s.nodes (λ t i. node_ranges s (node s t) (w.node_fields t i));
-  cells_in = all_each CellIn unbound s.vars (λ v i. record { mark_in = and_r (binding_allowed s (get_or s.vars v unbound).binding) _ (cell s h v i) });
+  cells_in = all_each CellIn unbound s.vars (λ v i. record { mark_in = and_r (binding_allowed s (get_or s.vars v unbound).binding) _ (and_l _ (need_allowed (get_or s.vars v unbound).numeric (get_or s.vars v unbound).need) (cell s h v i)); need_in = need_in s h v });
   constraints_in = all_members ConstraintIn s.constraints (λ c m. constraint_ranges s c (w.constraint_fields c m));
   structs_in = all_members StructIn s.structs (λ d m. record { struct_in = w.struct_fields d m });
 }
@@ -148,6 +148,8 @@ module _ {s s' : State} (w : Sound (arity s) s') (r : Ranges s s') where
     node_fields = node_back;
     binding_fields = w.bind_in;
     numeric_fields = λ v loc e. numeric_u32 (num_loc s' v) loc e (cell_in r v);
+    need_fields = λ v loc e. marked_need (num_loc s' v) (need_of s' v) loc e (need_cell r v);
+    no_need_fields = λ v e. unmarked_need (num_loc s' v) (need_of s' v) e (need_cell r v);
     constraint_fields = λ c m. constraint_back c (each ConstraintIn s'.constraints r.constraints_in c m) (w.constraints_on.on c m);
     struct_fields = λ d m. (each StructIn s'.structs r.structs_in d m).struct_in;
     bindings_not_anything = λ v t e. not_anything (type_at s' t) (w.bind_known v t e);
@@ -201,21 +203,21 @@ module _ (s : State) (h : sound s ≡ true) where
   unfolding refusal
   refusal_good x l = record { left = h; no_15 = l }
 
-  answer_good : (m : Result (State × Bytes)) → Leaves (arity s) s m → Run (Unit {0}) s true m → Good (answer s m)
+  answer_good : (r : Literals) (m : Result (State × Bytes)) → Leaves r (arity s) s m → Run (Unit {0}) s true m → Good (answer s m)
   unfolding answer
-  answer_good (ok (s', p)) (l_ok w) (e_ok i) = with_good s h 0 (λ d. absurd (omega (arith, d))) p s' (still_sound w.sound (i tt))
-  answer_good (err s' e) (l_err g n) (e_err i) = with_good s h (number_of_error e) (λ d. absurd (omega (arith, error_number e, d))) _ (put_back s s') (still_sound (sound_put_back (facts s h) g n) (put_back_ranges (ranges_of s h) (i tt)))
-  answer_good (refused x) l_refused (e_refused t) = refusal_good x (run_time_number t)
+  answer_good r (ok (s', p)) (l_ok w k) (e_ok i) = with_good s h 0 (λ d. absurd (omega (arith, d))) p s' (still_sound w.sound (i tt))
+  answer_good r (err s' e) (l_err g n) (e_err i) = with_good s h (number_of_error e) (λ d. absurd (omega (arith, error_number e, d))) _ (put_back s s') (still_sound (sound_put_back (facts s h) g n) (put_back_ranges (ranges_of s h) (i tt)))
+  answer_good r (refused x) l_refused (e_refused t) = refusal_good x (run_time_number t)
 
   lent_good : {n : ℕ} (r : Read Record) → ReadWell (Unit {0}) s n r → Good (lent s r)
   unfolding lent number_of_refusal
-  lent_good (got r []) (given f i l) = answer_good (run s r) (run_leaves s (facts s h) r f.0) (run_walk (Unit {0}) s true refl s (λ u. ranges_of s h) r f.1)
+  lent_good (got r []) (given f i l) = answer_good (literals r) (run s r) (run_leaves s (facts s h) r f.0) (run_walk (Unit {0}) s true refl s (λ u. ranges_of s h) r f.1)
   lent_good (got r (b ∷ rest)) f = refusal_good _ (λ d. absurd (omega (arith, d)))
   lent_good (not_read x) (not_given t) = refusal_good x (read_time_number t)
 
   streamed_good : (bytes : Bytes) → IsBytes bytes → {n : ℕ} (r : Read Record) → ReadWell (Unit {0}) s n r → Good (streamed s bytes r).0 × IsBytes (streamed s bytes r).1
   unfolding streamed
-  streamed_good bytes is (got r rest) (given f i l) = (answer_good (run s r) (run_leaves s (facts s h) r f.0) (run_walk (Unit {0}) s true refl s (λ u. ranges_of s h) r f.1), i tt)
+  streamed_good bytes is (got r rest) (given f i l) = (answer_good (literals r) (run s r) (run_leaves s (facts s h) r f.0) (run_walk (Unit {0}) s true refl s (λ u. ranges_of s h) r f.1), i tt)
   streamed_good bytes is (not_read x) (not_given t) = (refusal_good x (read_time_number t), is)
 
 -- ---- the theorem

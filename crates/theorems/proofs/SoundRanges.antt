@@ -9,13 +9,15 @@ use native.Mathlib.Omega.{arith}
 use lib.ListN.{length, get_or, set, length-append, length-set}
 use Rattle.definition.specs.Types.{TypeName, AbilityMark, Shape, UnitType, Ref, Param, Apply, Var, Anything, UnresolvedError, TypeValue, Places, Node, Cell, unbound, Struct, State, max_nodes, max_args, max_vars, max_constraints, max_structs, Multiple, Builtin, ModuleType}
 use Rattle.definition.specs.Types.{Constraint, AbilityConstraint, NumericConstraint, BitsConstraint, OrderedConstraint, BaseTypeConstraint, SingleTypeConstraint}
-use Rattle.definition.specs.Store.{nowhere, count, taken, with_args, node, type_at, loc_of, num_loc, with_vars, with_constraints, with_structs, insert, args_of, stored, with_node, with_var, all_of}
+use Rattle.definition.specs.Store.{nowhere, count, taken, with_args, node, type_at, loc_of, num_loc, with_vars, with_constraints, with_structs, insert, args_of, stored, with_node, with_var, all_of, need_of, with_need}
 use Rattle.definition.specs.Subst.{next_of, or_insert, mark_one, mark_chain, set_num_var}
 use Rattle.definition.specs.Trees.{mark_fits, is_set, is_mark, is_name}
 use Rattle.definition.specs.Join.{merge_num}
-use Rattle.definition.specs.Sound.{is_u32, numeric_allowed, struct_allowed}
+use Rattle.definition.specs.Sound.{is_u32, numeric_allowed, struct_allowed, need_allowed}
 use Rattle.theorems.proofs.DemandOrder.{All}
 use Rattle.theorems.proofs.Soundness.{elim_and}
+use lib.Dec.{leb}
+use Rattle.theorems.proofs.Laws.{NeedsIn, needs_most, num_marks, num_set_self, allowed_of}
 
 -- ---- lists
 
@@ -24,10 +26,10 @@ module _ {A : Type 0} (P : A → Type 0) where
   all_append [] m p q = q
   all_append (x ∷ l) m p q = (p.0, all_append l m p.1 q)
 
-  pub all_set : (l : List A) (i : ℕ) (a : A) → All P l → P a → All P (set l i a)
+  pub all_set : (l : List A) (i : ℕ) (a : A) → All P l → (i < length l → P a) → All P (set l i a)
   all_set [] i a p q = tt
-  all_set (x ∷ l) zero a p q = (q, p.1)
-  all_set (x ∷ l) (suc i) a p q = (p.0, all_set l i a p.1 q)
+  all_set (x ∷ l) zero a p q = (q (omega arith), p.1)
+  all_set (x ∷ l) (suc i) a p q = (p.0, all_set l i a p.1 (λ h. q (omega arith)))
 
   pub all_get : (d : A) (l : List A) → All P l → P d → (i : ℕ) → P (get_or l i d)
   all_get d [] p q i = q
@@ -70,6 +72,7 @@ pub record NodeIn (s : State) (n : Node) : Type 0 where
 
 pub record CellIn (c : Cell) : Type 0 where
   pub mark_in : numeric_allowed c.numeric ≡ true
+  pub need_in : need_allowed c.numeric c.need ≡ true
 
 abbrev pub ConstraintIn : Constraint → Type 0
 ConstraintIn (AbilityConstraint loc ty abilities) = U32 loc × (is_set abilities ≡ true)
@@ -103,8 +106,8 @@ unfolding is_u32
 nowhere_in b = record { loc_in = refl; shape_in = tt }
 
 pub unbound_in : CellIn unbound
-unfolding numeric_allowed
-unbound_in = record { mark_in = refl }
+unfolding numeric_allowed need_allowed
+unbound_in = record { mark_in = refl; need_in = refl }
 
 read_in : (b s : State) (x : Shape Places) → ShapeIn b x → ShapeIn b (with_args s x)
 unfolding with_args
@@ -146,6 +149,14 @@ module _ {b s : State} (r : Ranges b s) where
   unfolding num_loc
   cell_in v = (all_get CellIn unbound s.vars r.cells_in unbound_in v).mark_in
 
+  pub needs_of : NeedsIn s
+  unfolding NeedsIn num_loc need_of
+  needs_of v = (all_get CellIn unbound s.vars r.cells_in unbound_in v).need_in
+
+  pub need_cell : (v : ℕ) → need_allowed (num_loc s v) (need_of s v) ≡ true
+  unfolding num_loc need_of
+  need_cell v = (all_get CellIn unbound s.vars r.cells_in unbound_in v).need_in
+
   -- ---- what is changed
 
   pub node_ranges : (l : ℕ) (x : TypeValue) → U32 l → ShapeIn b x → count s < max_nodes → length s.args + length (args_of x) ≤ max_args → Ranges b (with_node s l x)
@@ -184,12 +195,12 @@ module _ {b s : State} (r : Ranges b s) where
   unfolding with_var
   var_ranges c = vars_ranges _ (omega (arith, length-append s.vars (unbound ∷ []))) (all_append CellIn s.vars _ r.cells_in (unbound_in, tt))
 
-  set_ranges : (v : ℕ) (c : Cell) → CellIn c → Ranges b (with_vars s (set s.vars v c))
+  set_ranges : (v : ℕ) (c : Cell) → (v < taken s → CellIn c) → Ranges b (with_vars s (set s.vars v c))
   set_ranges v c h = vars_ranges _ (omega (arith, r.few_vars, length-set s.vars v c)) (all_set CellIn s.vars v c r.cells_in h)
 
   pub insert_ranges : (v t : ℕ) → Ranges b (insert s v t)
   unfolding insert
-  insert_ranges v t = set_ranges v _ (record { mark_in = cell_in v })
+  insert_ranges v t = set_ranges v _ (λ h. record { mark_in = cell_in v; need_in = need_cell v })
 
   or_insert_in : (o : Option ℕ) (loc : ℕ) → numeric_allowed o ≡ true → U32 loc → U32 (or_insert o loc)
   unfolding or_insert numeric_allowed
@@ -197,8 +208,12 @@ module _ {b s : State} (r : Ranges b s) where
   or_insert_in (Some x) loc h u = h
 
   mark_ranges : (v loc : ℕ) → U32 loc → Ranges b (mark_one s v loc)
-  unfolding mark_one numeric_allowed
-  mark_ranges v loc u = set_ranges v _ (record { mark_in = or_insert_in (num_loc s v) loc (cell_in v) u })
+  unfolding mark_one numeric_allowed need_allowed
+  mark_ranges v loc u = set_ranges v _ (λ h. record { mark_in = or_insert_in (num_loc s v) loc (cell_in v) u; need_in = needs_most s needs_of v })
+
+  need_ranges : (v n : ℕ) → (v < taken s → need_allowed (num_loc s v) n ≡ true) → Ranges b (with_need s v n)
+  unfolding with_need
+  need_ranges v n k = set_ranges v _ (λ h. record { mark_in = cell_in v; need_in = k h })
 
   pub constraints_ranges : (cs : List Constraint) → length cs ≤ max_constraints → All ConstraintIn cs → Ranges b (with_constraints s cs)
   unfolding with_constraints
@@ -248,11 +263,14 @@ pub num_var_ranges : {b s : State} → Ranges b s → (v loc : ℕ) → U32 loc 
 unfolding set_num_var
 num_var_ranges r v loc u = chain_ranges _ r v loc u
 
-pub merge_ranges : {b s : State} → Ranges b s → (x y : Option ℕ) → numeric_allowed x ≡ true → numeric_allowed y ≡ true → (v : ℕ) → Ranges b (merge_num s x y v)
+pub literal_ranges : {b s : State} → Ranges b s → (v loc n : ℕ) → U32 loc → leb n 256 ≡ true → Ranges b (with_need (set_num_var s v loc) v n)
+literal_ranges {s = s} r v loc n u k = need_ranges (num_var_ranges r v loc u) v n (λ h. allowed_of (set_num_var s v loc) v n (num_set_self s v loc (omega (arith, (num_marks s v loc).m_taken))) k)
+
+pub merge_ranges : {b s : State} → Ranges b s → (x y : Option ℕ) → numeric_allowed x ≡ true → numeric_allowed y ≡ true → (n : ℕ) → leb n 256 ≡ true → (v : ℕ) → Ranges b (merge_num s x y n v)
 unfolding merge_num numeric_allowed
-merge_ranges r x (Some l) hx hy v = num_var_ranges r v l hy
-merge_ranges r (Some l) None hx hy v = num_var_ranges r v l hx
-merge_ranges r None None hx hy v = r
+merge_ranges r x (Some l) hx hy n k v = literal_ranges r v l n hy k
+merge_ranges r (Some l) None hx hy n k v = literal_ranges r v l n hx k
+merge_ranges r None None hx hy n k v = r
 
 pub cleared_ranges : {b s : State} → Ranges b s → Ranges b (with_constraints s [])
 cleared_ranges r = constraints_ranges r [] (omega arith) tt

@@ -15,7 +15,7 @@ use Rattle.definition.specs.Write.{Bytes, IsBytes}
 use Rattle.definition.specs.Reader.{Read, got, not_read, Reader, give, refuse, go_on, ◌>>=◌, byte, read_u16, read_u32, byte_if, byte_to, read_bool, name_below, times, read_one, read_two, read_three}
 use Rattle.definition.specs.Trees.{Tree, unit_tree, anything_tree, error_tree, ref_tree, param_tree, apply_tree, var_tree, Trees, no_trees, ◌then◌, is_set, is_param, is_count, is_mark, is_name}
 use Rattle.definition.specs.Trees.{read_trees, mark_of, read_mark, mark_fits, arity, under_ref, read_apply, by_tag, read_nested, read_type}
-use Rattle.definition.specs.Record.{Record, SD, FV, NV, SN, JN, SU, UF, RD, IN, TS, NC, BC, SC, SV, RM, CN, XP, read_kind, read_SD, read_pair, read_TS, by_mark, fields_of, read_fields, max_record, hand_back, read_record}
+use Rattle.definition.specs.Record.{Record, SD, FV, NV, SN, JN, SU, UF, RD, IN, TS, NC, BC, SC, SV, RM, CN, XP, read_kind, read_SD, read_pair, read_TS, by_mark, fields_of, read_fields, max_record, hand_back, read_record, NL, read_bits}
 use Rattle.definition.specs.Sound.{is_u32, struct_allowed}
 use Rattle.theorems.proofs.DemandOrder.{All, All_map}
 use Rattle.theorems.proofs.SoundFacts.{and_r, not_false, test}
@@ -50,6 +50,7 @@ FineRecord ar vars (SD abilities params) = Unit {0}
 FineRecord ar vars (FV loc) = Unit {0}
 FineRecord ar vars (NV loc) = Unit {0}
 FineRecord ar vars (SN v loc) = Unit {0}
+FineRecord ar vars (NL loc bits) = leb bits 256 ≡ true
 FineRecord ar vars (JN t1 t2) = Fine ar vars t1 × Fine ar vars t2
 FineRecord ar vars (SU t1 t2) = Fine ar vars t1 × Fine ar vars t2
 FineRecord ar vars (UF t) = Fine ar vars t
@@ -85,6 +86,7 @@ RecordIn s (SD abilities params) = StructIn (record { abilities = abilities; par
 RecordIn s (FV loc) = Unit {0}
 RecordIn s (NV loc) = U32 loc
 RecordIn s (SN v loc) = U32 loc
+RecordIn s (NL loc bits) = U32 loc × (leb bits 256 ≡ true)
 RecordIn s (JN t1 t2) = TreeIn s t1 × TreeIn s t2
 RecordIn s (SU t1 t2) = TreeIn s t1 × TreeIn s t2
 RecordIn s (UF t) = TreeIn s t
@@ -274,6 +276,14 @@ module _ (H : Type 0) where
     unfolding read_two
     gives_SN = gives_then (name_below (taken s)) _ (gives_name (taken s)) (λ v p. gives_then read_u32 _ gives_u32 (λ loc q. gives_give _ (tt, q)))
 
+    gives_bits : Gives (λ n. leb n 256 ≡ true) read_bits
+    unfolding read_bits
+    gives_bits = gives_then read_u16 _ gives_u16 (λ n p. gives_if (leb 1 n && leb n 256) (λ e. gives_give n (and_r (leb 1 n) _ e)) (λ e. gives_refuse five))
+
+    gives_NL : Gives GoodRecord (read_two NL read_u32 read_bits)
+    unfolding read_two
+    gives_NL = gives_then read_u32 _ gives_u32 (λ loc p. gives_then read_bits _ gives_bits (λ n q. gives_give _ (q, λ h. (p h, q))))
+
     gives_two : (mark : Tree → Tree → Record) → ((t1 t2 : Tree) → GoodTree t1 → GoodTree t2 → GoodRecord (mark t1 t2)) → Gives GoodRecord (read_two mark (read_type s) (read_type s))
     unfolding read_two
     gives_two mark h = gives_then (read_type s) _ gives_type (λ t1 p. gives_then (read_type s) _ gives_type (λ t2 q. gives_give _ (h t1 t2 p q)))
@@ -333,7 +343,7 @@ module _ (H : Type 0) where
                   gives_one UF (λ t p. p),
                   (
                     gives_one RD (λ t p. p),
-                    (gives_TS, (gives_one IN (λ t p. p), (gives_NC, (gives_loc_type BC (λ l t p q. (q.0, λ h. (p h, q.1 h))), (gives_loc_type SC (λ l t p q. (q.0, λ h. (p h, q.1 h))), (gives_give SV (tt, λ h. tt), (gives_one RM (λ t p. p), (gives_one CN (λ t p. p), (gives_one XP (λ t p. p), tt))))))))),
+                    (gives_TS, (gives_one IN (λ t p. p), (gives_NC, (gives_loc_type BC (λ l t p q. (q.0, λ h. (p h, q.1 h))), (gives_loc_type SC (λ l t p q. (q.0, λ h. (p h, q.1 h))), (gives_give SV (tt, λ h. tt), (gives_one RM (λ t p. p), (gives_one CN (λ t p. p), (gives_one XP (λ t p. p), (gives_NL, tt)))))))))),
                   ),
                 ),
               ),

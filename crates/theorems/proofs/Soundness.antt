@@ -8,14 +8,14 @@ use Rattle.std.specs.Prelude.{Option, None, Some}
 use Prim.Native.Nat.{ℕ, suc, ◌+◌, ◌≤◌, ◌<◌}
 use native.Mathlib.Omega.{arith}
 use lib.ListN.{length, get_or}
-use lib.Dec.{T, leb, ltb, leb→le, le→leb, lt→ltb}
+use lib.Dec.{T, leb, ltb, leb→le, le→leb, lt→ltb, eqb→eq}
 use Rattle.definition.specs.Types.{Anything, UnitType, Ref, Param, Apply, Var, UnresolvedError, TypeValue, Cell, unbound, State, max_nodes, max_args, max_vars, max_constraints, max_structs, Constraint, Struct}
-use Rattle.definition.specs.Store.{nowhere, count, taken, node, type_at, with_args, get, num_loc, all_of}
+use Rattle.definition.specs.Store.{nowhere, count, taken, node, type_at, with_args, get, num_loc, all_of, need_of}
 use Rattle.definition.specs.Subst.{is_anything, parts, next_of, forward_tvar}
-use Rattle.definition.specs.Sound.{all_at, counts_fit, smaller_than, parts_smaller, is_u32, node_allowed, binding_allowed, numeric_allowed, cell_allowed, constraint_allowed, struct_allowed, fields_allowed, no_anything, no_binding_anything, chain_ends, chains_end, sound}
+use Rattle.definition.specs.Sound.{all_at, counts_fit, smaller_than, parts_smaller, is_u32, node_allowed, binding_allowed, numeric_allowed, cell_allowed, constraint_allowed, struct_allowed, fields_allowed, no_anything, no_binding_anything, chain_ends, chains_end, sound, need_allowed}
 use Rattle.theorems.proofs.DemandTracks.{never}
 use Rattle.theorems.proofs.TotalFinite.{all_at as at_member}
-use Rattle.theorems.proofs.SoundFacts.{and_l, and_r, test, of_member, of_each, at_place, all_below, smaller, fields, bindings, ends, cell, bound_taken, in_nodes, not_any, stops}
+use Rattle.theorems.proofs.SoundFacts.{and_l, and_r, test, of_member, of_each, at_place, all_below, smaller, fields, bindings, ends, cell, bound_taken, in_nodes, not_any, stops, need_in}
 
 -- ---- a sound state in words
 
@@ -32,6 +32,9 @@ pub record IsSound (s : State) : Type 0 where
   pub node_fields : (t : ℕ) → t < count s → node_allowed s (node s t) ≡ true
   pub binding_fields : (v t : ℕ) → get s v ≡ Some t → t < count s
   pub numeric_fields : (v loc : ℕ) → num_loc s v ≡ Some loc → is_u32 loc ≡ true
+  -- a mark needs 256 bits at most; without a mark none is needed
+  pub need_fields : (v loc : ℕ) → num_loc s v ≡ Some loc → need_of s v ≤ 256
+  pub no_need_fields : (v : ℕ) → num_loc s v ≡ None → need_of s v ≡ 0
   pub constraint_fields : (c : Constraint) → Memᴰ c s.constraints → constraint_allowed s c ≡ true
   pub struct_fields : (d : Struct) → Memᴰ d s.structs → struct_allowed d ≡ true
   -- no binding is `_`
@@ -89,6 +92,16 @@ unfolding numeric_allowed
 numeric_u32 None loc e b = never (cc)
 numeric_u32 (Some u) loc e b = let c : u ≡ loc = cc in rw c at b
 
+pub marked_need : (o : Option ℕ) (n loc : ℕ) → o ≡ Some loc → need_allowed o n ≡ true → n ≤ 256
+unfolding need_allowed
+marked_need None n loc e b = never (cc)
+marked_need (Some u) n loc e b = leb→le n 256 (test b)
+
+pub unmarked_need : (o : Option ℕ) (n : ℕ) → o ≡ None → need_allowed o n ≡ true → n ≡ 0
+unfolding need_allowed
+unmarked_need None n e b = eqb→eq n 0 (test b)
+unmarked_need (Some u) n e b = never (cc)
+
 module _ (s : State) (h : sound s ≡ true) where
   counts : counts_fit s ≡ true
   unfolding sound
@@ -99,7 +112,7 @@ module _ (s : State) (h : sound s ≡ true) where
   num_taken v loc e = elim (native.Mathlib.Decide.dec_lt v (taken s)) [ yes l ↦ l | no l ↦ never (let g = lib.ListN.get_or-eq_default s.vars unbound {n = v} (omega arith) in let z : None ≡ Some loc = sym (ap (λ (c : Cell). c.numeric) g) ∙ e in cc) ]
 
   says : IsSound s
-  unfolding counts_fit parts_smaller fields_allowed cell_allowed no_binding_anything chains_end get num_loc type_at node
+  unfolding counts_fit parts_smaller fields_allowed cell_allowed no_binding_anything chains_end get num_loc need_of type_at node
   says = record {
     few_nodes = leb→le (count s) max_nodes (test (and_l (leb (count s) max_nodes) (leb (length s.args) max_args) c3));
     few_args = leb→le (length s.args) max_args (test (and_r (leb (count s) max_nodes) _ c3));
@@ -108,8 +121,10 @@ module _ (s : State) (h : sound s ≡ true) where
     few_structs = leb→le (length s.structs) max_structs (test (and_r (leb (count s) max_nodes && leb (length s.args) max_args && leb (taken s) max_vars && leb (length s.constraints) max_constraints) _ counts));
     smaller_parts = λ t p i m. at_member (λ q. q < t) (parts (type_at s t)) (all_below t (parts (type_at s t)) (at_place (λ t n. smaller_than t (parts (with_args s n.value))) nowhere s.nodes (smaller s h) t i)) p m;
     node_fields = λ t i. of_each (λ n. node_allowed s n) nowhere s.nodes f_nodes t i;
-    binding_fields = λ v t e. in_nodes s h (get s v) t e (and_l _ (numeric_allowed (get_or s.vars v unbound).numeric) (cell s h v (bound_taken s h v t e)));
-    numeric_fields = λ v loc e. numeric_u32 (num_loc s v) loc e (and_r (binding_allowed s (get_or s.vars v unbound).binding) _ (cell s h v (num_taken v loc e)));
+    binding_fields = λ v t e. in_nodes s h (get s v) t e (and_l _ (numeric_allowed (get_or s.vars v unbound).numeric) (and_l _ (need_allowed (get_or s.vars v unbound).numeric (get_or s.vars v unbound).need) (cell s h v (bound_taken s h v t e))));
+    numeric_fields = λ v loc e. numeric_u32 (num_loc s v) loc e (and_r (binding_allowed s (get_or s.vars v unbound).binding) _ (and_l _ (need_allowed (get_or s.vars v unbound).numeric (get_or s.vars v unbound).need) (cell s h v (num_taken v loc e))));
+    need_fields = λ v loc e. marked_need (num_loc s v) (need_of s v) loc e (need_in s h v);
+    no_need_fields = λ v e. unmarked_need (num_loc s v) (need_of s v) e (need_in s h v);
     constraint_fields = of_member (λ c. constraint_allowed s c) s.constraints f_constraints;
     struct_fields = of_member (λ d. struct_allowed d) s.structs f_structs;
     bindings_not_anything = λ v t e. not_anything (type_at s t) (not_any s h (get s v) t e (of_each (λ c. no_anything s c.binding) unbound s.vars (bindings s h) v (bound_taken s h v t e)));
@@ -147,6 +162,11 @@ module _ (s : State) (h : IsSound s) where
   numeric_test v None e = refl
   numeric_test v (Some loc) e = h.numeric_fields v loc e
 
+  need_test : (v : ℕ) (o : Option ℕ) → num_loc s v ≡ o → need_allowed o (need_of s v) ≡ true
+  unfolding need_allowed
+  need_test v None e = rw (h.no_need_fields v e) refl
+  need_test v (Some loc) e = le_test (need_of s v) 256 (h.need_fields v loc e)
+
   anything_test : (L : TypeValue) → L ≢ Anything → not (is_anything L) ≡ true
   unfolding is_anything
   anything_test UnitType d = refl
@@ -171,7 +191,7 @@ module _ (s : State) (h : IsSound s) where
   chain_test v e = rw (e, chain_ends) refl
 
   passes : sound s ≡ true
-  unfolding sound counts_fit parts_smaller fields_allowed cell_allowed no_binding_anything chains_end get num_loc type_at node
+  unfolding sound counts_fit parts_smaller fields_allowed cell_allowed no_binding_anything chains_end get num_loc need_of type_at node
   passes = and (and (and (and
       (and (and (and (and (le_test (count s) max_nodes h.few_nodes)
       (le_test (length s.args) max_args h.few_args))
@@ -180,7 +200,7 @@ module _ (s : State) (h : IsSound s) where
       (le_test (length s.structs) max_structs h.few_structs))
       (each_at (λ t n. smaller_than t (parts (with_args s n.value))) nowhere s.nodes (λ t i. smaller_test t (parts (type_at s t)) (λ p m. h.smaller_parts t p i m))))
       (and (and (and (each_of (λ n. node_allowed s n) nowhere s.nodes (λ t i. h.node_fields t i))
-      (each_of (λ c. cell_allowed s c) unbound s.vars (λ v i. and (binding_test v (get s v) refl) (numeric_test v (num_loc s v) refl))))
+      (each_of (λ c. cell_allowed s c) unbound s.vars (λ v i. and (and (binding_test v (get s v) refl) (numeric_test v (num_loc s v) refl)) (need_test v (num_loc s v) refl))))
       (members (λ c. constraint_allowed s c) s.constraints h.constraint_fields))
       (members (λ d. struct_allowed d) s.structs h.struct_fields)))
       (each_of (λ c. no_anything s c.binding) unbound s.vars (λ v i. known_test v (get s v) refl)))

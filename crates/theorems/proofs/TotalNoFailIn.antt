@@ -4,15 +4,15 @@ use mathlib.Core.Path.{◌≡◌, refl, sym, ap, ◌∙◌, subst}
 use mathlib.Core.Logic.{◌≢◌, ◌⊎◌, inl, inr}
 use mathlib.Core.Bool.{Bool, true, false, ◌||◌}
 use mathlib.Core.List.{List, [], ◌∷◌}
-use Rattle.std.specs.Prelude.{Option, None, Some}
+use Rattle.std.specs.Prelude.{None, Some}
 use Prim.Native.Nat.{ℕ, zero, suc, ◌*◌, ◌≤◌, ◌<◌}
 use native.Mathlib.Omega.{arith}
-use lib.ListN.{length, get_or, set, get_or-eq_default}
+use lib.ListN.{length, get_or-eq_default}
 use lib.Dec.{eqb}
 use borrow.Author.Tests.{eq-eqb, ne_eqb}
 use Rattle.std.specs.Prelude.{if◌then◌else◌}
 use Rattle.definition.specs.Types.{TypeName, TypeValue, UnitType, Ref, Param, Apply, Var, Anything, UnresolvedError, Cell, unbound, Constraint, AbilityConstraint, State, max_depth, Incompatible, Result, ok, err, ◌>>=◌}
-use Rattle.definition.specs.Store.{count, taken, type_at, loc_of, get, num_loc, insert, args_of, with_vars, with_node, with_var, with_constraints, sp, next_tvar, add_constraint, map_types, any_of}
+use Rattle.definition.specs.Store.{count, taken, type_at, loc_of, get, num_loc, insert, args_of, with_node, with_constraints, sp, next_tvar, add_constraint, map_types, any_of}
 use Rattle.definition.specs.Subst.{as_var, is_anything, parts, forward_tvar}
 use Rattle.definition.specs.Join.{Join, is_num_var, check_num_tvar, is_var, used, join_bind_tvar, type_of, merge_num, join_tvar, arm, VarL, join_unbound, join_arm, join_impl, join}
 use Rattle.definition.specs.Instantiate.{make_tvar, tvar_constraint, make_tparams, join_args, instantiate_type_args, instantiate_apply, instantiate_value, instantiate_down, instantiate}
@@ -22,7 +22,7 @@ use Rattle.theorems.proofs.SoundFacts.{facts}
 use Rattle.theorems.proofs.DemandRecords.{NoErr}
 use Rattle.theorems.proofs.TotalFuel.{any_same, used_levels}
 use Rattle.theorems.proofs.DemandMain.{join_impl_good}
-use Rattle.theorems.proofs.Laws.{type_on, value_new, count_with_node, taken_with_node, getD_snoc, get_with_node, get_beyond, get_with_var, get_insert_other, value_insert, taken_with_var, structs_node, structs_with_var}
+use Rattle.theorems.proofs.Laws.{type_on, value_new, count_with_node, taken_with_node, get_with_node, get_beyond, get_with_var, get_insert_other, value_insert, taken_with_var, structs_node, structs_with_var, num_with_node, num_with_var, num_insert}
 use Rattle.theorems.proofs.LawsChains.{next_none}
 use Rattle.theorems.proofs.DemandTracks.{never, here, ends_det, solid, nonvar_var, k_any, k_var, k_solid, kind, Kind}
 use Rattle.theorems.proofs.DemandOrder.{All, All_map, Sound, chain}
@@ -30,35 +30,17 @@ use Rattle.theorems.proofs.DemandSteps.{NodeOk, quiet_node, sound_node, quiet_va
 use Rattle.theorems.proofs.SoundRoom.{with_room, sp_room, tvar_room, constraint_room}
 use Rattle.theorems.proofs.LawsPost.{Grown, grown_refl, grown_trans, Post, p_ok, p_err, p_refused}
 use Rattle.theorems.proofs.DemandCalls.{quiet_grown, NewNode, new_node, var_ok}
-use Rattle.theorems.proofs.DemandWent.{any_ok, ref_ok, quiet_list, sound_added}
+use Rattle.theorems.proofs.DemandWent.{any_ok, ref_ok, quiet_list, sound_added, held_list}
 use Rattle.theorems.proofs.DemandRuns.{Declared, declared_on, tvar_on, instantiate_down_went}
 use Rattle.theorems.proofs.TotalNoFail.{Sure, sure_no, sure_ok, sure_refused, sure_bind, sure_map}
 use Rattle.theorems.proofs.NeedsExact.{four, sum, Exact, exact_ok, ExactAnd, more_none, more_node, more_var, more_constraint, more_insert, more_trans, exact_room, exact_as, exact_map, exact_sure, exact_eq, exact_none, exact_post, exact_bind}
+use Rattle.theorems.proofs.MetSteps.{held_node, held_var}
 
 -- ---- marks
 
 pub num_beyond : (s : State) (v : ℕ) → taken s ≤ v → num_loc s v ≡ None
 unfolding num_loc
 num_beyond s v h = ap (λ (c : Cell). c.numeric) (get_or-eq_default s.vars unbound h)
-
-num_node : (s : State) (l : ℕ) (sh : TypeValue) (v : ℕ) → num_loc (with_node s l sh) v ≡ num_loc s v
-unfolding num_loc with_node
-num_node s l sh v = refl
-
-num_var : (s : State) (v : ℕ) → num_loc (with_var s) v ≡ num_loc s v
-unfolding num_loc with_var with_vars
-num_var s v = ap (λ (c : Cell). c.numeric) (getD_snoc s.vars v)
-
-getD_bind : (l : List Cell) (v : ℕ) (b : Option ℕ) (w : ℕ) → (get_or (set l v (record { binding = b; numeric = (get_or l v unbound).numeric })) w unbound).numeric ≡ (get_or l w unbound).numeric
-getD_bind [] v b w = refl
-getD_bind (c ∷ l) zero b zero = refl
-getD_bind (c ∷ l) zero b (suc w) = refl
-getD_bind (c ∷ l) (suc v) b zero = refl
-getD_bind (c ∷ l) (suc v) b (suc w) = getD_bind l v b w
-
-num_insert : (s : State) (v t w : ℕ) → num_loc (insert s v t) w ≡ num_loc s w
-unfolding num_loc insert with_vars
-num_insert s v t w = getD_bind s.vars v (Some t) w
 
 -- ---- the steps
 
@@ -69,7 +51,7 @@ pub record NodeAt (ar : TypeName → ℕ) (S : State) (sh : TypeValue) (a : Stat
 
 pub sp_exact : {ar : TypeName → ℕ} {S : State} → Sound ar S → (l : ℕ) (sh : TypeValue) → NodeOk ar S sh → ExactAnd S (four 1 (length (args_of sh)) 0 0) (NodeAt ar S sh) (sp S l sh)
 sp_exact {ar} {S} s l sh o = exact_room (sp_room S l sh) (λ h. (omega (arith, h.nodes_fit), h.places_fit)) (more_node S l sh)
-    (record { new = new_node s l sh o; grown = quiet_grown (quiet_node s l sh) (structs_node S l sh); marks = num_node S l sh })
+    (record { new = new_node s l sh o; grown = quiet_grown (quiet_node s l sh) (structs_node S l sh) (held_node s l sh); marks = num_with_node S l sh })
 
 record VarAt (ar : TypeName → ℕ) (S : State) (a : State × ℕ) : Type 0 where
   sound : Sound ar a.0
@@ -81,7 +63,7 @@ record VarAt (ar : TypeName → ℕ) (S : State) (a : State × ℕ) : Type 0 whe
 
 next_exact : {ar : TypeName → ℕ} {S : State} → Sound ar S → ExactAnd S (four 0 0 1 0) (VarAt ar S) (next_tvar S)
 next_exact {ar} {S} s = exact_room (tvar_room S) (λ h. omega (arith, h.variables_fit)) (more_var S)
-    (record { sound = sound_var s; grown = quiet_grown (quiet_var s) (structs_with_var S); is = refl; more = taken_with_var S; same_get = get_with_var S; marks = num_var S })
+    (record { sound = sound_var s; grown = quiet_grown (quiet_var s) (structs_with_var S) (held_var s); is = refl; more = taken_with_var S; same_get = get_with_var S; marks = num_with_var S })
 
 -- ---- a join with an unbound variable without a mark
 
@@ -345,7 +327,7 @@ pub record Kept (ar : TypeName → ℕ) (S S' : State) : Type 0 where
 pub add_exact : {ar : TypeName → ℕ} {S : State} → Sound ar S → (c : Constraint) → type_on c < count S → Exact S (four 0 0 0 1) (λ x. x) (Kept ar S) (add_constraint S c)
 unfolding with_constraints get num_loc
 add_exact {ar} {S} s c h = exact_room (constraint_room S c) (λ e. omega (arith, e.constraints_fit)) (more_constraint S c) (record {
-  steady = record { before = s; after = sound_added s c h; grown = quiet_grown (quiet_list s _) refl; marks = λ y. refl };
+  steady = record { before = s; after = sound_added s c h; grown = quiet_grown (quiet_list s _) refl (held_list s _); marks = λ y. refl };
   gets = λ y. refl;
   vars = refl;
 })
@@ -488,7 +470,7 @@ unused_of S y t x e v a = ap (λ (z : TypeValue). is_var y z || any_of (λ p. us
 new_level : {ar : TypeName → ℕ} {S S1 : State} → Steady ar S S1 → ((y : ℕ) → y < taken S → get S1 y ≡ get S y) → (l : ℕ) (sh : TypeValue) → as_var sh ≡ None → ((y : ℕ) → is_var y sh ≡ false)
     → ((y : ℕ) → y < taken S → All (λ u. used (count S1) (with_node S1 l sh) y u ≡ false) (parts sh)) → Sure (Level S) (sp S1 l sh)
 new_level {S = S} {S1 = S1} z o l sh e v u = sure_map (λ a d. subst (Level S) (sym d) (record {
-  marks = λ y. num_node S1 l sh y ∙ z.marks y;
+  marks = λ y. num_with_node S1 l sh y ∙ z.marks y;
   olds = λ y i. get_with_node S1 l sh y ∙ o y i;
   unused = λ y i. unused_of (with_node S1 l sh) y (count S1) sh (value_new S1 l sh) (v y) (u y i);
   next = taken S;
@@ -532,7 +514,7 @@ module _ {ar : TypeName → ℕ} (f : State → ℕ → Result (State × ℕ)) (
       let sh = Ref m B.1 in
       new_level (steady_trans a.steady q.steady) (λ y j. q.level.olds y (omega (arith, a.vars)) ∙ a.gets y) (loc_of S t) sh refl (λ y. refl) (λ y j.
       let s2 = sound_node s1 (loc_of S t) sh (ref_ok m B.1 q.t_in) in
-      let g2 = quiet_grown (quiet_node s1 (loc_of S t) sh) (structs_node B.0 (loc_of S t) sh) in
+      let g2 = quiet_grown (quiet_node s1 (loc_of S t) sh) (structs_node B.0 (loc_of S t) sh) (held_node s1 (loc_of S t) sh) in
       (used_levels s2 (count B.0) (suc B.1) y B.1 (omega (arith, q.t_in, count_with_node B.0 (loc_of S t) sh)) q.t_in (omega arith) ∙ used_kept s1 g2 (suc B.1) y B.1 q.t_in ∙ q.level.unused y (omega (arith, a.vars)), tt))))
   level_sure {S} s d t i (Apply k n tys) e =
       let b : All (λ p. p < t) tys = rw e at (s.parts_below t i) in

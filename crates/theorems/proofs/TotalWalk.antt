@@ -8,24 +8,24 @@ use Rattle.std.specs.Prelude.{Option, None, Some}
 use Prim.Native.Nat.{ℕ, zero, suc, ◌*◌, ◌%◌}
 use native.Mathlib.Omega.{arith}
 use lib.ListN.{replicate}
-use lib.Dec.{eqb}
+use lib.Dec.{eqb, leb}
 use Rattle.std.specs.Prelude.{if◌then◌else◌}
 use Rattle.definition.specs.Types.{max_builtin, TypeName, Multiple, Builtin, ModuleType, TypeValue, UnitType, Ref, Param, Apply, Var, Anything, UnresolvedError, State, Cell, TypingError, max_depth}
 use Rattle.definition.specs.Types.{Constraint, AbilityConstraint}
 use Rattle.definition.specs.Types.{Refusal, full, too_deep, runs_into_itself, abilities_disagree, open_variable, no_argument, parameter_twice, mark_contradicted, already_expanded, Result, ok, err, refused, ◌>>=◌}
-use Rattle.definition.specs.Store.{any_of, count, type_at, loc_of, get, num_loc, sp, next_tvar, add_constraint, declare, map_types}
+use Rattle.definition.specs.Store.{any_of, count, type_at, loc_of, get, num_loc, sp, next_tvar, add_constraint, declare, map_types, need_of}
 use Rattle.definition.specs.Subst.{is_anything, forward_tvar, reaches_itself, ready_value, ready, ready_tvars}
 use Rattle.definition.specs.Join.{integers, TypingCase, Join, Subtype, JoinImpl, is_numeric, check_num_tvar, used, join_bind_tvar, type_of, shown, merge_num, join_tvar, join_impl_types}
-use Rattle.definition.specs.Join.{Arm, join_mut, join_loc, join_refs, same_name, is_multiple, same_mark, join_applies, join_unbound, join_arm, join_impl, join, subtype}
+use Rattle.definition.specs.Join.{Arm, join_mut, join_loc, join_refs, same_name, is_multiple, same_mark, join_applies, join_unbound, join_arm, join_impl, join, subtype, larger}
 use Rattle.definition.specs.TParams.{TParamSubst, arg_of, make_tparam_subst, subst_value, subst_down, subst_tparams}
 use Rattle.definition.specs.Instantiate.{make_tvar, tvar_constraint, builtin_tparams, struct_tparams, tparam_constraints, make_tparams, join_args, instantiate_type_args, instantiate_apply, instantiate_value, instantiate_down, instantiate}
 use Rattle.definition.specs.Abilities.{primitives, has}
-use Rattle.definition.specs.Constraints.{num_vars, undecided, u64, default_num_var, default_num_vars, solve_constraints}
+use Rattle.definition.specs.Constraints.{num_vars, undecided, default_num_var, default_num_vars, solve_constraints, default_builtin, default_integer, default_of}
 use Rattle.definition.specs.Trees.{Tree, unit_tree, anything_tree, error_tree, ref_tree, param_tree, apply_tree, var_tree, Trees, no_trees, ◌then◌, has_drop, mark_fits, is_set, is_mark, is_name}
 use Rattle.definition.specs.Abilities.{infer_abilities}
 use Rattle.definition.specs.Write.{Bytes, head}
 use Rattle.definition.specs.Expand.{Expanded, expand_types, under, expand_marked, expand_value, expand, expand_type}
-use Rattle.definition.specs.Record.{NumericKind, Numeric, Bits, Ordered, Record, SD, FV, NV, SN, JN, SU, UF, RD, IN, TS, NC, BC, SC, SV, RM, CN, XP}
+use Rattle.definition.specs.Record.{NumericKind, Numeric, Bits, Ordered, Record, SD, FV, NV, SN, JN, SU, UF, RD, IN, TS, NC, BC, SC, SV, RM, CN, XP, NL}
 use Rattle.definition.specs.Build.{build, build_all, build_pairs}
 use Rattle.definition.specs.Needs.{Needs, needs}
 use Rattle.definition.specs.Sound.{numeric_allowed}
@@ -34,9 +34,10 @@ use Rattle.theorems.proofs.DemandOrder.{All}
 use Rattle.theorems.proofs.Soundness.{le_test}
 use Rattle.theorems.proofs.SoundRoom.{with_room, sp_room, tvar_room, constraint_room, struct_room}
 use Rattle.theorems.proofs.DemandMain.{Took, took, took_any_l, took_any_r, took_units, took_refs, took_params, took_applies, took_vars, took_var_l, took_var_r, took_error_l, took_error_r, took_others}
-use Rattle.theorems.proofs.SoundRanges.{U32, ShapeIn, CellIn, ConstraintIn, StructIn, Ranges, declare_ranges, loc_of_in, value_in, name_in, cell_in, node_ranges, var_ranges, insert_ranges, add_ranges, num_var_ranges, merge_ranges, cleared_ranges}
+use Rattle.theorems.proofs.SoundRanges.{U32, ShapeIn, CellIn, ConstraintIn, StructIn, Ranges, declare_ranges, loc_of_in, value_in, name_in, cell_in, node_ranges, var_ranges, insert_ranges, add_ranges, num_var_ranges, merge_ranges, cleared_ranges, literal_ranges, needs_of}
 use Rattle.theorems.proofs.SolveInTurn.{solve_cases}
 use Rattle.theorems.proofs.SoundRead.{TreeIn, TreesIn, RecordIn}
+use Rattle.theorems.proofs.Laws.{larger_most, needs_most}
 
 -- 7 to 13 and 16, of which 9 and 16 only if z
 pub data RunTime (z : Bool) : Refusal → Type 0 where
@@ -125,9 +126,14 @@ join_loc_in Join m1 m2 l1 l2 u1 u2 = go (not m1 && m2)
     go false = u2
 join_loc_in Subtype m1 m2 l1 l2 u1 u2 = u2
 
-u64_in : (b : State) → ShapeIn b u64
-unfolding u64 primitives is_mark is_name mark_fits is_numeric has_drop has max_builtin any_of integers
-u64_in b = refl
+default_in : (b s : State) (v : ℕ) → ShapeIn b (default_of s v)
+unfolding default_of default_integer default_builtin primitives is_mark is_name mark_fits is_numeric has_drop has max_builtin any_of integers
+default_in b s v = go (leb (need_of s (forward_tvar s v)) 64) (leb (need_of s (forward_tvar s v)) 128)
+  where
+    go : (c d : Bool) → ShapeIn {A = List ℕ} b (Apply (Some primitives) (Builtin (if c then 3 else if d then 4 else 9)) [])
+    go true d = refl
+    go false true = refl
+    go false false = refl
 
 abbrev IsSet : ℕ → Type 0
 IsSet a = is_set a ≡ true
@@ -249,7 +255,9 @@ module _ (H : Type 0) (b : State) (z : Bool) where
         bind _ (type_of_run s i loc1 u1 e1) (λ x1 i1.
         bind _ (type_of_run x1.0 i1 loc2 u2 e2) (λ x2 i2.
         bind _ (tvar_run x2.0 i2) (λ f i3.
-        let marked : In (merge_num f.0 (num_loc s e1) (num_loc s e2) f.1) = λ h. merge_ranges (i3 h) (num_loc s e1) (num_loc s e2) (cell_in (i h) e1) (cell_in (i h) e2) f.1 in
+        let need = larger (need_of s e1) (need_of s e2) in
+        let marked : In (merge_num f.0 (num_loc s e1) (num_loc s e2) need f.1) = λ h. merge_ranges (i3 h) (num_loc s e1) (num_loc s e2) (cell_in (i h) e1) (cell_in (i h) e2) need
+        (larger_most (need_of s e1) (need_of s e2) (needs_most s (needs_of (i h)) e1) (needs_most s (needs_of (i h)) e2)) f.1 in
         bind _ (sp_run _ marked loc1 u1 (Var f.1) (λ h. tt)) (λ v1 i4.
         bind _ (sp_run v1.0 i4 loc2 u2 (Var f.1) (λ h. tt)) (λ v2 i5.
         bind _ (r _ (λ h. insert_ranges (insert_ranges (i5 h) e1 v1.1) e2 v2.1) c x1.1 x2.1) (λ n i6.
@@ -391,7 +399,7 @@ module _ (H : Type 0) (b : State) (z : Bool) where
   default_run : (s : State) → In s → (v loc : ℕ) → (H → U32 loc) → Ends z In In (default_num_var s v loc)
   unfolding default_num_var join
   default_run s i v loc u = go (undecided _) (
-      bind _ (sp_run s i loc u u64 (λ h. u64_in b)) (λ x i1.
+      bind _ (sp_run s i loc u (default_of s v) (λ h. default_in b s v)) (λ x i1.
       bind _ (sp_run x.0 i1 loc u (Var v) (λ h. tt)) (λ y i2.
       bind _ (join_run max_depth y.0 i2 _ x.1 y.1) (λ z i3. e_ok i3))))
     where
@@ -431,6 +439,7 @@ module _ (H : Type 0) (b : State) (z : Bool) where
   run_walk y s i (SD a ps) f = bind _ (declare_run s i a ps f) (λ x j. e_ok j)
   run_walk y s i (FV loc) f = bind _ (tvar_run s i) (λ x j. e_ok j)
   run_walk y s i (NV loc) f = bind _ (tvar_run s i) (λ x j. e_ok (λ h. num_var_ranges (j h) x.1 loc (f h)))
+  run_walk y s i (NL loc bits) f = bind _ (tvar_run s i) (λ x j. e_ok (λ h. literal_ranges (j h) x.1 loc bits (f h).0 (f h).1))
   run_walk y s i (SN v loc) f = e_ok (λ h. num_var_ranges (i h) v loc (f h))
   run_walk y s i (JN t1 t2) f = two_run _ (λ s i l r. join_run max_depth s i _ l r) s i t1 t2 f
   run_walk y s i (SU t1 t2) f = two_run _ (λ s i l r. join_run max_depth s i _ l r) s i t1 t2 f

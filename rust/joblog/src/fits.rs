@@ -32,7 +32,7 @@ pub struct State {
 fn numbers(r: &Record) -> &'static [usize] {
     match r {
         Record::SN(..) => &[0],
-        Record::SD(..) | Record::FV(_) | Record::NV(_) => &[0, 7],
+        Record::SD(..) | Record::FV(_) | Record::NV(_) | Record::NL(..) => &[0, 7],
         Record::NC(..) | Record::BC(..) | Record::SC(..) => &[0, 7],
         Record::JN(..) => &[0, 2, 3, 4, 7, 8, 10, 14],
         Record::SU(..) => &[0, 1, 2, 3, 4, 7, 8, 10, 14],
@@ -339,7 +339,7 @@ impl State {
             (Record::SV, Outcome::Failed(fs)) => self.solved(fs),
             (Record::XP(u), Outcome::Expanded(t, codes)) => self.expanded(u, t, codes),
             (Record::SN(..) | Record::NC(..) | Record::BC(..) | Record::SC(..), Outcome::Done) => true,
-            (Record::FV(_) | Record::NV(_), Outcome::Type(Ty { kind: Kind::Var(v), .. })) => {
+            (Record::FV(_) | Record::NV(_) | Record::NL(..), Outcome::Type(Ty { kind: Kind::Var(v), .. })) => {
                 (self.low..=self.high).contains(&(*v as usize)) && (*v as usize) < MAX_VARS
             }
             (r, Outcome::Type(t)) => self.typed(r, t),
@@ -376,7 +376,7 @@ impl State {
     fn other(&self, r: &Record, payload: &Outcome) -> bool {
         match (payload.number(), r) {
             (7, Record::SD(..)) => self.structs == MAX_STRUCTS,
-            (7, Record::FV(_) | Record::NV(_)) => self.high == MAX_VARS,
+            (7, Record::FV(_) | Record::NV(_) | Record::NL(..)) => self.high == MAX_VARS,
             (7, _) => true,
             (_, Record::JN(a, b)) => self.failed(false, a, b, payload),
             (_, Record::SU(a, b)) => self.failed(true, a, b, payload),
@@ -413,8 +413,8 @@ impl State {
                 self.structs += 1;
                 self.declared.push((*set, params.clone()))
             }
-            (Record::FV(_) | Record::NV(_), 0) => {
-                self.numeric |= matches!(r, Record::NV(_));
+            (Record::FV(_) | Record::NV(_) | Record::NL(..), 0) => {
+                self.numeric |= !matches!(r, Record::FV(_));
                 self.low = payload.taken();
                 self.high = self.low
             }

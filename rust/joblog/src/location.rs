@@ -55,7 +55,7 @@ const fn row(mark: &[u8; 2], fields: &'static [Part], payload: &'static [Part]) 
     Mark { mark: *mark, fields, payload }
 }
 
-const MARKS: [Mark; 17] = [
+const MARKS: [Mark; 18] = [
     row(b"SD", &[], &[]),
     row(b"FV", &LOC, &[Types]),
     row(b"NV", &LOC, &[Types]),
@@ -73,6 +73,7 @@ const MARKS: [Mark; 17] = [
     row(b"RM", &[Type], &[]),
     row(b"CN", &[Type], &[]),
     row(b"XP", &[Type], &[Type, Codes]),
+    row(b"NL", &[Location, Location, Location, Location, Plain, Plain], &[Types]),
 ];
 
 fn of_mark(record: &[u8]) -> Option<&'static Mark> {

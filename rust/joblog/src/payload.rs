@@ -20,7 +20,7 @@ pub enum Outcome {
     Done,
     /// 0 of SD: the struct's number
     Declared(u16),
-    /// 0 of FV, NV, JN, SU, UF, RD, TS, IN
+    /// 0 of FV, NV, NL, JN, SU, UF, RD, TS, IN
     Type(Ty),
     /// 0 of CN: without locations, its variables no variables of the job but numbers, by first appearance
     Spelled(Ty),
@@ -196,7 +196,7 @@ impl Rest<'_> {
                 n if n as usize == self.known.params.len() => Ok(Outcome::Declared(n)),
                 n => Err(format!("its payload is struct {}, and the next is {}", n, self.known.params.len())),
             },
-            Record::FV(loc) | Record::NV(loc) => match self.ty()? {
+            Record::FV(loc) | Record::NV(loc) | Record::NL(loc, _) => match self.ty()? {
                 ty if ty.loc == *loc && matches!(ty.kind, record::Kind::Var(_)) => Ok(Outcome::Type(ty)),
                 _ => no("its payload is no variable at the record's location"),
             },

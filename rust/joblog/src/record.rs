@@ -74,6 +74,8 @@ pub enum Record {
     CN(Ty),
     /// 02's R-5
     XP(Ty),
+    /// 02's R-7: how many bits the literal needs
+    NL(u32, u16),
 }
 
 /// What a record may name: variables below `vars`, structs with as many arguments as declared.
@@ -147,6 +149,14 @@ impl<'a> Reader<'a> {
     }
     fn u32(&mut self) -> Read<u32> {
         Ok(u32::from_le_bytes([self.byte()?, self.byte()?, self.byte()?, self.byte()?]))
+    }
+    /// tested when both bytes are read
+    fn bits(&mut self) -> Read<u16> {
+        let at = self.at;
+        match self.u16()? {
+            bits @ 1..=256 => Ok(bits),
+            _ => malformed(at, "a literal needs 1 to 256 bits"),
+        }
     }
     fn set(&mut self) -> Read<u8> {
         self.byte_to(15, "a set of abilities is 0 to 15")
@@ -266,6 +276,7 @@ impl<'a> Reader<'a> {
             b"RM" => Record::RM(self.ty(1)?),
             b"CN" => Record::CN(self.ty(1)?),
             b"XP" => Record::XP(self.ty(1)?),
+            b"NL" => Record::NL(self.u32()?, self.bits()?),
             _ => return malformed(0, "no record has this mark"),
         })
     }
@@ -382,7 +393,7 @@ impl Ty {
 impl Record {
     pub fn types(&self) -> Vec<&Ty> {
         match self {
-            Record::SD(..) | Record::FV(_) | Record::NV(_) | Record::SN(..) | Record::SV => vec![],
+            Record::SD(..) | Record::FV(_) | Record::NV(_) | Record::NL(..) | Record::SN(..) | Record::SV => vec![],
             Record::JN(a, b) | Record::SU(a, b) => vec![a, b],
             Record::TS(args, t) => args.iter().map(|(_, a)| a).chain([t]).collect(),
             Record::UF(t) | Record::RD(t) | Record::IN(t) => vec![t],
@@ -416,6 +427,7 @@ impl Record {
             Record::RM(..) => "RM",
             Record::CN(..) => "CN",
             Record::XP(..) => "XP",
+            Record::NL(..) => "NL",
         }
     }
 
@@ -427,6 +439,10 @@ impl Record {
                 out.extend(params)
             }
             Record::FV(loc) | Record::NV(loc) => out.extend(loc.to_le_bytes()),
+            Record::NL(loc, bits) => {
+                out.extend(loc.to_le_bytes());
+                out.extend(bits.to_le_bytes())
+            }
             Record::SN(v, loc) => {
                 out.extend(v.to_le_bytes());
                 out.extend(loc.to_le_bytes())

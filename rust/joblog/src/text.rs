@@ -162,6 +162,7 @@ impl Printer<'_> {
                 vec![abilities(*set) + &angled]
             }
             Record::FV(loc) | Record::NV(loc) => vec![self.located(*loc, String::new())],
+            Record::NL(loc, bits) => vec![self.located(*loc, bits.to_string())],
             Record::SN(v, loc) => {
                 vec![format!("{} {}", self.named('V', *v as u32), self.at(*loc)).trim_end().into()]
             }
@@ -279,6 +280,10 @@ impl Parser<'_> {
             Ok(n) if n <= max => Ok(n),
             _ => Err(format!("a number up to {} is wanted at `{}`", max, rest)),
         }
+    }
+    /// what a literal needs; the record has room for others, so that a 5 can be made
+    fn bits(&mut self) -> Parsed<u16> {
+        Ok(self.number(u16::MAX as u32)? as u16)
     }
     fn loc(&mut self) -> Parsed<u32> {
         if self.take("@") {
@@ -479,6 +484,7 @@ impl Parser<'_> {
             "SD" => self.declaration()?,
             "FV" => Record::FV(self.loc()?),
             "NV" => Record::NV(self.loc()?),
+            "NL" => Record::NL(self.loc()?, self.bits()?),
             "SN" => Record::SN(self.var()?, self.loc()?),
             "JN" => self.two().map(|(a, b)| Record::JN(a, b))?,
             "SU" => self.two().map(|(a, b)| Record::SU(a, b))?,

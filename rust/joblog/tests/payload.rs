@@ -28,7 +28,7 @@ fn v0() -> Ty {
 
 #[test]
 fn a_zero_of_each_mark() {
-    for text in ["FV @7", "NV @7"] {
+    for text in ["FV @7", "NV @7", "NL @7 9"] {
         assert_eq!(said(text, 0, V0), Ok(Outcome::Type(v0())));
         // another location, no variable, none, two
         for wrong in [b"\x06\x08\0\0\0\0\0", U8, b"", &[V0, V0].concat()] {

@@ -1,10 +1,10 @@
 //! Text to bytes, and a job with its log for people.
 use joblog::{
     diff::{diff, Difference},
-    location::blank_payload,
+    location::{blank_payload, blank_record},
     names::Book,
     payload,
-    record::{unhex, Record},
+    record::{read_record, unhex, Record},
     show::{show, Options},
     text::{any_variable, assemble, disassemble, Detail},
 };
@@ -41,6 +41,22 @@ fn text_that_is_no_job_is_refused() {
     }
     assert_eq!(assemble("SV\n\n  UF  Q1", false), Err("line 3: a type is wanted at `Q1`".into()));
     assert!(assemble(&format!("UF {}u8", "&".repeat(1_000_000)), false).is_err());
+}
+
+/// 02's R-7
+#[test]
+fn how_wide_a_literal_is() {
+    let bytes = assemble("NL @1 9\nNL 256", false).unwrap();
+    assert_eq!(bytes, b"NL\x01\0\0\0\x09\0NL\0\0\0\0\0\x01");
+    assert_eq!(disassemble(&bytes), "NL @1 9\nNL 256\n");
+    assert_eq!(blank_record(&bytes[..8], &[]), b"NL\0\0\0\0\x09\0");
+    // read when both bytes are there
+    for text in ["NL @1 0", "NL @1 257", "NL @1 65535"] {
+        let bytes = assemble(text, false).unwrap();
+        let told = |n| read_record(&bytes[..n], &any_variable()).map_err(|x| (x.number, x.at)).err();
+        assert_eq!((told(8), told(7)), (Some((5, 6)), Some((5, 7))), "{}", text)
+    }
+    assert!(["NL @1", "NL @1 65536", "NL @1 nine"].iter().all(|text| assemble(text, false).is_err()))
 }
 
 #[test]

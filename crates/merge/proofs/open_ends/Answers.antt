@@ -4,7 +4,7 @@ use Rattle.std.proofs.Common.{rules}
 use Rattle.definition.specs.Store.{insert}
 use Rattle.merge.specs.Merge.{open_ends}
 use Rattle.table.proofs.Did.{nodes_more, stop_in}
-use Rattle.merge.proofs.Laws.{opens_err, opens_then, opens_kept, opens_ready}
+use Rattle.merge.proofs.Laws.{opens_err, opens_then, opens_kept, opens_ready, max_larger}
 use Rattle.merge.proofs.open_ends.Goals as goal
 
 pub returns-in_err-new_tvar : goal.returns-in_err-new_tvar
@@ -14,13 +14,13 @@ returns-in_err-new_tvar c = opens_err _ c.in_err-new_tvar.ensures.changed c.in_e
 pub returns-in_err-var1 : goal.returns-in_err-var1
 unfolding open_ends
 returns-in_err-var1 c =
-    opens_then _ c.in_ok-new_tvar.ensures.changed (opens_kept _ c.merge_num.ensures
+    opens_then _ c.in_ok-new_tvar.ensures.changed (opens_kept _ (rw (c.max-need.ensures, max_larger) at c.merge_num.ensures)
     (opens_err _ c.in_err-var1.ensures.changed (stop_in _ _ c.in_err-var1.ensures.inside) (search rules)))
 
 pub returns-in_err-var2 : goal.returns-in_err-var2
 unfolding open_ends
 returns-in_err-var2 c =
-    opens_then _ c.in_ok-new_tvar.ensures.changed (opens_kept _ c.merge_num.ensures (opens_then _ c.in_ok-var1.ensures.changed
+    opens_then _ c.in_ok-new_tvar.ensures.changed (opens_kept _ (rw (c.max-need.ensures, max_larger) at c.merge_num.ensures) (opens_then _ c.in_ok-var1.ensures.changed
     (opens_err _ c.in_err-var2.ensures.changed (stop_in _ _ c.in_err-var2.ensures.inside) (search rules))))
 
 pub bind_var-requires : goal.bind_var-requires
@@ -41,7 +41,7 @@ returns c =
     let in1 = c.requires.0 in
     let in2 = c.requires.1 in
     let in3 = c.in_ok-var2.ensures.inside in
-    opens_then _ c.in_ok-new_tvar.ensures.changed (opens_kept _ c.merge_num.ensures (opens_then _ c.in_ok-var1.ensures.changed (opens_then _ c.in_ok-var2.ensures.changed
+    opens_then _ c.in_ok-new_tvar.ensures.changed (opens_kept _ (rw (c.max-need.ensures, max_larger) at c.merge_num.ensures) (opens_then _ c.in_ok-var1.ensures.changed (opens_then _ c.in_ok-var2.ensures.changed
     (opens_kept (λ s k. k (insert s e2.last_id.0 c.in_ok-var2.var2) e1.ty e2.ty v c.in_ok-var2.var2) c.bind_var.ensures
     (opens_kept (λ s k. k s e1.ty e2.ty v c.in_ok-var2.var2) c.bind_var-2.ensures
     (opens_ready _ _ (omega arith) (omega arith) (omega arith)))))))

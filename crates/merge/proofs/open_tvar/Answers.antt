@@ -9,13 +9,13 @@ use Rattle.merge.proofs.open_tvar.Goals as goal
 pub returns-in_err-ty1 : goal.returns-in_err-ty1
 unfolding open_types
 returns-in_err-ty1 c =
-    opens_ends _ _ c.forward_tvar-last_id1.ensures c.forward_tvar-last_id2.ensures c.num_loc_at-num_loc_1.ensures c.num_loc_at-num_loc_2.ensures _ _
+    opens_ends _ _ c.forward_tvar-last_id1.ensures c.forward_tvar-last_id2.ensures c.num_loc_at-num_loc_1.ensures c.num_loc_at-num_loc_2.ensures c.need_at-need1.ensures c.need_at-need2.ensures _ _
     (opens_err _ c.in_err-ty1.ensures.changed (stop_in _ _ c.in_err-ty1.ensures.inside) (search rules))
 
 pub returns-in_err-ty2 : goal.returns-in_err-ty2
 unfolding open_types
 returns-in_err-ty2 c =
-    opens_ends _ _ c.forward_tvar-last_id1.ensures c.forward_tvar-last_id2.ensures c.num_loc_at-num_loc_1.ensures c.num_loc_at-num_loc_2.ensures _ _
+    opens_ends _ _ c.forward_tvar-last_id1.ensures c.forward_tvar-last_id2.ensures c.num_loc_at-num_loc_1.ensures c.num_loc_at-num_loc_2.ensures c.need_at-need1.ensures c.need_at-need2.ensures _ _
     (opens_then _ c.in_ok-ty1.ensures.changed (opens_err _ c.in_err-ty2.ensures.changed (stop_in _ _ c.in_err-ty2.ensures.inside) (search rules)))
 
 pub open_ends-requires : goal.open_ends-requires
@@ -24,5 +24,5 @@ open_ends-requires c = (omega (arith, c.in_ok-ty1.ensures.inside, nodes_more c.i
 pub returns : goal.returns
 unfolding open_types
 returns c =
-    opens_ends _ _ c.forward_tvar-last_id1.ensures c.forward_tvar-last_id2.ensures c.num_loc_at-num_loc_1.ensures c.num_loc_at-num_loc_2.ensures _ _
+    opens_ends _ _ c.forward_tvar-last_id1.ensures c.forward_tvar-last_id2.ensures c.num_loc_at-num_loc_1.ensures c.num_loc_at-num_loc_2.ensures c.need_at-need1.ensures c.need_at-need2.ensures _ _
     (opens_then _ c.in_ok-ty1.ensures.changed (opens_then _ c.in_ok-ty2.ensures.changed c.open_ends.ensures))

@@ -26,6 +26,9 @@ returns-in-RM-clause-is c = rw c.in-RM.is (c.read_rm.ensures.is)
 pub returns-in-XP-clause-is : goal.returns-in-XP-clause-is
 returns-in-XP-clause-is c = rw c.in-XP.is (c.read_xp.ensures.is)
 
+pub returns-in-NL-clause-is : goal.returns-in-NL-clause-is
+returns-in-NL-clause-is c = rw c.in-NL.is (c.read_nl.ensures.is _ _)
+
 pub returns-in-Loc-clause-is : goal.returns-in-Loc-clause-is
 returns-in-Loc-clause-is c = rw c.in-Loc.is (c.read_loc.ensures.is _ _)
 

@@ -10,6 +10,10 @@ pub returns-in-NV : goal.returns-in-NV
 unfolding run_of step_of
 returns-in-NV c = rw (c.in-Loc.is, c.in-NV.is) c.run_num_tvar.ensures
 
+pub returns-in-NL : goal.returns-in-NL
+unfolding run_of step_of
+returns-in-NL c = rw c.in-NL.is c.run_literal.ensures
+
 pub returns-in-NC : goal.returns-in-NC
 unfolding run_of step_of
 returns-in-NC c = rw c.in-NC.is c.run_numeric.ensures

@@ -189,7 +189,7 @@ impl Teller<'_> {
     /// the locations of a record that is read
     fn operands(&self) -> Vec<u32> {
         match &self.p.read {
-            Ok(Record::FV(loc) | Record::NV(loc) | Record::SN(_, loc)) => vec![*loc],
+            Ok(Record::FV(loc) | Record::NV(loc) | Record::NL(loc, _) | Record::SN(_, loc)) => vec![*loc],
             Ok(Record::NC(loc, ..) | Record::BC(loc, _) | Record::SC(loc, _)) => vec![*loc],
             Ok(r) => r.types().iter().map(|t| t.loc).collect(),
             Err(_) => vec![],

@@ -5,4 +5,4 @@ use Rattle.table.proofs.state.State.bind_var.Goals as goal
 
 pub returns : goal.returns
 returns c = let put = c.put_cell.ensures in
-    of_stored put.changed.same put.used (insert_cell _ _ _ _ c.num_loc_at-m.result _ c.num_loc_at-m.ensures (to_stored put))
+    of_stored put.changed.same put.used (insert_cell _ _ _ _ c.num_loc_at-m.result c.need_at-need.result _ c.num_loc_at-m.ensures c.need_at-need.ensures (to_stored put))

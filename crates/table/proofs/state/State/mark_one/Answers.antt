@@ -9,4 +9,4 @@ put_cell-requires c = bound_in _ _ _ c.bound_at-b.result c.args.self.now.lay c.b
 pub returns : goal.returns
 returns c = let put = c.put_cell.ensures in
     of_stored put.changed.same put.used
-    (mark_cell _ _ _ _ _ c.bound_at-b.result c.num_loc_at-m.result _ c.bound_at-b.ensures c.num_loc_at-m.ensures c.unwrap_or.ensures (to_stored put))
+    (mark_cell _ _ _ _ _ c.bound_at-b.result c.num_loc_at-m.result c.need_at-need.result _ c.bound_at-b.ensures c.num_loc_at-m.ensures c.need_at-need.ensures c.unwrap_or.ensures (to_stored put))
