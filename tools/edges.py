@@ -293,6 +293,9 @@ def main():
         'stdin': b''.join(struct.pack('<I', size) + job for size, job in behind),
         'stdout': ''.join('= %s\n' % name + ''.join(line + '\n' for line in log[-KEPT:]) for name, _, log in jobs).encode(),
     }
+    room = int(re.search(r'const JOBS: usize = (\d+);', open(os.path.join(where, 'src/main.rt')).read()).group(1))
+    if len(texts['stdin']) > room:
+        sys.exit('crates/test_edges reads %d bytes, and the jobs have %d' % (room, len(texts['stdin'])))
     if '--check' in sys.argv[1:]:
         stale = [name for name, text in texts.items() if open(os.path.join(where, name), 'rb').read() != text]
         if stale:
