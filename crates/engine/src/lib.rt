@@ -14,7 +14,7 @@ use lines::lines_trusted;
 use snapshot::SAVED;
 use sound::used_of;
 pub use split::split;
-use step::step_trusted;
+use step::{NAMES, step_trusted};
 use table::WORDS;
 use table::state::State;
 
@@ -40,7 +40,10 @@ fn record_trusted(
     let used = used_of(state);
     let mut st = State::new(state, used);
     let mut saved = [0u32; SAVED];
-    let r = step_trusted(&mut st, params, record, 0, true, &mut saved, answer);
+    let mut names = [0u16; NAMES];
+    let r = step_trusted(
+        &mut st, params, record, 0, true, &mut saved, &mut names, answer,
+    );
     st.write_used();
     Answered {
         number: r.number,

@@ -8,7 +8,7 @@ ghost use Rattle.step.specs.Trusted.{StandsIn};
 use limits::{ends_job, takes_on};
 use log_lines::{PAYLOAD_AT, begin_line, end_line};
 use snapshot::SAVED;
-use step::step_trusted;
+use step::{NAMES, step_trusted};
 use table::state::State;
 
 // How much of a stream was read and how much of a log written, the next record's number, and whether the job ended: a flag, since the others
@@ -58,6 +58,7 @@ pub fn lines_trusted(
     ensures { Lists st.old params.old index stream.now more log.old st.new params.new log.new result }
 {
     let mut saved = [0u32; SAVED];
+    let mut names = [0u16; NAMES];
     let mut lines = Lines::nothing(index, false);
     // A record is as long as its bytes say: nothing counts through them.
     'records: while lines.read < stream.len() {
@@ -68,7 +69,9 @@ pub fn lines_trusted(
         }
         let at = begin_line(lines.index, log, lines.written);
         let buf = &mut log[at + PAYLOAD_AT..];
-        let r = step_trusted(st, params, stream, lines.read, false, &mut saved, buf);
+        let r = step_trusted(
+            st, params, stream, lines.read, false, &mut saved, &mut names, buf,
+        );
         lines = Lines {
             read: r.next,
             written: end_line(r.number, r.len, log, at),

@@ -109,9 +109,10 @@ fn read_fields(st: &mut State<'_>, r: &mut Reader, known: u32) -> Result<Option<
     fields_of(st, r, known, mark)
 }
 
-// The record that starts at place `start`. After 5, 6 and 18 the place says nothing.
-pub fn read_record(st: &mut State<'_>, b: &[u8], start: usize) -> Fields
-    requires { Arities (tables st.old).structs × (start ≤ length b.now) }
+// The record that starts at place `start`. After 5, 6 and 18 the place says nothing. What is a list in it goes into `names`, lent since `Fields` is
+// copied for every record: so far there is none.
+pub fn read_record(st: &mut State<'_>, b: &[u8], start: usize, names: &mut [u16]) -> Fields
+    requires { Arities (tables st.old).structs × ((start ≤ length b.now) × (256 ≤ length names.old)) }
     ensures { RecordIs st.old b.now start st.new result }
 {
     let known = st.used.vars;

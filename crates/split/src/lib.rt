@@ -8,7 +8,7 @@ ghost use Rattle.split.specs.Rest.{rest_of};
 use lent::{Unsound, tested};
 use snapshot::SAVED;
 use sound::used_of;
-use step::rest_trusted;
+use step::{NAMES, rest_trusted};
 use table::state::State;
 
 // On a sound state.
@@ -21,7 +21,8 @@ fn split_trusted<'a>(state: &mut [u32], params: &[[u8; 8]; 256], stream: &'a [u8
     let used = used_of(state);
     let mut st = State::new(state, used);
     let mut saved = [0u32; SAVED];
-    let n = rest_trusted(&mut st, params, stream, &mut saved);
+    let mut names = [0u16; NAMES];
+    let n = rest_trusted(&mut st, params, stream, &mut saved, &mut names);
     &stream[n..]
 }
 

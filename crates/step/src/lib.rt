@@ -20,6 +20,9 @@ use table::Touched;
 use table::state::State;
 use verdict::{left_over, padded, place_after, row_for, verdict_of};
 
+// How long the list is that is lent beside the state, for what a record has of names.
+pub const NAMES: usize = 256;
+
 // One record's answer, and where the rest of the stream begins.
 #[derive(Clone, Copy)]
 pub struct Stepped {
@@ -112,14 +115,16 @@ fn step_from(
     stream: &[u8],
     at: usize,
     whole: bool,
+    names: &mut [u16],
     buf: &mut [u8],
 ) -> Stepped
     ghost w0: { List ℕ }
     requires entry { (w0 ≡ st.old.words.now) × ((before.used ≡ st.old.used) × ((st.old.saved ≡ st.old.used.vars) × Saved st.old.words.now st.old.used before.saved.now)) }
     requires stands { StandsIn st.old params.old × (IsBytes stream.now × ((at ≤ length stream.now) × (4096 ≤ length buf.old))) }
+    requires list { 256 ≤ length names.old }
     ensures { Leaves whole st.old params.old stream.now at buf.old st.new params.new buf.new result before.entry.saved.now }
 {
-    let f = record::read_record(st, stream, at);
+    let f = record::read_record(st, stream, at, names);
     let next = place_after(f.read, at, f.next);
     match verdict_of(f.read, left_over(whole, f.next, stream.len())) {
         Ok(x) => with_next(answer_placed(st, before, params, x, buf), next),
@@ -128,7 +133,7 @@ fn step_from(
 }
 
 // whole: the record is all that is lent, and bytes left over are 5, which comes before 7; a flag, as the record's call and the job's differ by it alone. Of the rows
-// that were saved before only those are saved again that the records since have touched.
+// that were saved before only those are saved again that the records since have touched. `names`: what they held says nothing.
 pub fn step_trusted(
     st: &mut State<'_>,
     params: &mut [[u8; 8]; 256],
@@ -136,10 +141,12 @@ pub fn step_trusted(
     at: usize,
     whole: bool,
     saved: &mut [u32],
+    names: &mut [u16],
     buf: &mut [u8],
 ) -> Stepped
     requires stands { StandsIn st.old params.old × (IsBytes stream.now × ((at ≤ length stream.now) × ((5120 ≤ length saved.old) × (4096 ≤ length buf.old)))) }
     requires noted { Noted st.old saved.old }
+    requires list { 256 ≤ length names.old }
     ensures steps { Steps whole st.old params.old stream.now at buf.old st.new params.new buf.new result }
     ensures noted_next { Noted st.new saved.new }
 {
@@ -149,7 +156,7 @@ pub fn step_trusted(
         saved,
         touched: Touched::Nothing,
     };
-    step_from(st, before, params, stream, at, whole, buf)
+    step_from(st, before, params, stream, at, whole, names, buf)
 }
 
 // ---- the splitter
@@ -160,13 +167,15 @@ fn rest_from(
     before: Before<'_>,
     params: &[[u8; 8]; 256],
     stream: &[u8],
+    names: &mut [u16],
 ) -> usize
     ghost w0: { List ℕ }
     requires entry { (w0 ≡ st.old.words.now) × ((before.used ≡ st.old.used) × ((st.old.saved ≡ st.old.used.vars) × Saved st.old.words.now st.old.used before.saved.now)) }
     requires stands { StandsIn st.old params.now × (st.old.used ≡ used_of st.old.words.now) }
+    requires list { 256 ≤ length names.old }
     ensures { Splits st.old params.now stream.now st.new result }
 {
-    let f = record::read_record(st, stream, 0);
+    let f = record::read_record(st, stream, 0, names);
     snapshot::go_back(st, before);
     st.write_used();
     place_after(f.read, 0, f.next)
@@ -178,8 +187,10 @@ pub fn rest_trusted(
     params: &[[u8; 8]; 256],
     stream: &[u8],
     saved: &mut [u32],
+    names: &mut [u16],
 ) -> usize
-    requires { StandsIn st.old params.now × ((st.old.used ≡ used_of st.old.words.now) × ((5120 ≤ length saved.old) × Noted st.old saved.old)) }
+    requires stands { StandsIn st.old params.now × ((st.old.used ≡ used_of st.old.words.now) × ((5120 ≤ length saved.old) × Noted st.old saved.old)) }
+    requires list { 256 ≤ length names.old }
     ensures { Splits st.old params.now stream.now st.new result }
 {
     snapshot::save_vars(st, saved);
@@ -188,5 +199,5 @@ pub fn rest_trusted(
         saved,
         touched: Touched::Nothing,
     };
-    rest_from(st, before, params, stream)
+    rest_from(st, before, params, stream, names)
 }

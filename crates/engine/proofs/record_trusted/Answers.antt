@@ -19,6 +19,7 @@ step_trusted-r-requires c =
     record {
       stands = (stands_lent _ _ c.requires.0 c.new-st.result n.0 (n.1.0 ∙ c.used_of-used.ensures), (bytes_of c.args.«record».now c.type_inv.record, (omega arith, (omega arith, c.requires.1))));
       noted = λ v p. absurd (omega (arith, p, n.1.1.1));
+      list = omega arith;
     }
 
 pub returns : goal.returns

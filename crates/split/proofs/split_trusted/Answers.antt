@@ -15,7 +15,7 @@ pub rest_trusted-n-requires : goal.rest_trusted-n-requires
 rest_trusted-n-requires c =
     let n = c.new-st.ensures in
     let u = c.used_of-used.ensures in
-    (stands_lent _ _ c.requires c.new-st.result n.0 (n.1.0 ∙ u), (rw n.0 (n.1.0 ∙ u), (omega arith, λ v p. absurd (omega (arith, p, n.1.1.1)))))
+    record { stands = (stands_lent _ _ c.requires c.new-st.result n.0 (n.1.0 ∙ u), (rw n.0 (n.1.0 ∙ u), (omega arith, λ v p. absurd (omega (arith, p, n.1.1.1))))); list = omega arith }
 
 pub returns-clause-rest : goal.returns-clause-rest
 returns-clause-rest c =

@@ -6,14 +6,14 @@ use Rattle.step.proofs.Stepping.{reading_arities, words_back, splits}
 use Rattle.step.proofs.rest_from.Goals as goal
 
 pub read_record-f-requires : goal.read_record-f-requires
-read_record-f-requires g c = (reading_arities c.requires.1.0, omega arith)
+read_record-f-requires g c = let (e, (p, l)) = c.requires in (reading_arities p.0, (omega arith, l))
 
 pub go_back-requires : goal.go_back-requires
-go_back-requires g c = let (e, p) = c.requires in rw e.0 (grown_on _ c.args.before c.args.st.now _ (grown_now c.args.before c.args.st.now e.1.0 e.1.1.0 e.1.1.1) c.read_record-f.ensures.same c.read_record-f.ensures.grown)
+go_back-requires g c = let (e, (p, l)) = c.requires in rw e.0 (grown_on _ c.args.before c.args.st.now _ (grown_now c.args.before c.args.st.now e.1.0 e.1.1.0 e.1.1.1) c.read_record-f.ensures.same c.read_record-f.ensures.grown)
 
 pub returns : goal.returns
 returns g c =
-    let (e, p) = c.requires in
+    let (e, (p, l)) = c.requires in
     let r = c.read_record-f.ensures in
     let u = c.go_back.ensures in
     let s = splits _ r c.place_after.ensures in

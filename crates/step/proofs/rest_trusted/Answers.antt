@@ -6,7 +6,8 @@ use Rattle.step.proofs.rest_trusted.Goals as goal
 pub rest_from-requires : goal.rest_from-requires
 rest_from-requires c =
     let a = c.save_vars.ensures in
-    ((refl, (refl, (all_many a, all_now a))), (stands_now a c.requires.0, rw (a.words, a.used) c.requires.1.0))
+    let p = c.requires.stands in
+    ((refl, (refl, (all_many a, all_now a))), ((stands_now a p.0, rw (a.words, a.used) p.1.0), c.requires.list))
 
 pub returns : goal.returns
 returns c = splits_before c.save_vars.ensures c.rest_from.ensures

@@ -4,14 +4,14 @@ use Rattle.step.proofs.Stepping.{reading_arities, runs, grown, steps_refused, st
 use Rattle.step.proofs.step_from.Goals as goal
 
 pub read_record-f-requires : goal.read_record-f-requires
-read_record-f-requires g c = let p = c.requires.1 in (reading_arities p.0, p.1.1.0)
+read_record-f-requires g c = let (e, (p, l)) = c.requires in (reading_arities p.0, (p.1.1.0, l))
 
 pub settle_refusal-requires : goal.settle_refusal-requires
-settle_refusal-requires g c = let (e, p) = c.requires in rw e.0 (grown c.args.st.now _ _ p.0 p.1.0 c.args.before e.1.0 e.1.1.0 e.1.1.1 c.read_record-f.ensures)
+settle_refusal-requires g c = let (e, (p, l)) = c.requires in rw e.0 (grown c.args.st.now _ _ p.0 p.1.0 c.args.before e.1.0 e.1.1.0 e.1.1.1 c.read_record-f.ensures)
 
 pub answer_placed-requires : goal.answer_placed-requires
 answer_placed-requires g c =
-    let (e, p) = c.requires in
+    let (e, (p, l)) = c.requires in
     let r = c.read_record-f.ensures in
     let o = c.left_over.ensures in
     let k = runs c.read_record-f.result.read c.left_over.result _ (sym c.verdict_of.ensures ∙ c.in-Ok.is) in
@@ -20,7 +20,7 @@ answer_placed-requires g c =
 
 pub returns-in-Err : goal.returns-in-Err
 returns-in-Err g c =
-    let (e, p) = c.requires in
+    let (e, (p, l)) = c.requires in
     let o = c.left_over.ensures in
     let v = sym c.verdict_of.ensures ∙ c.in-Err.is in
     let settled = c.settle_refusal.ensures c.args.buf.now in
@@ -28,7 +28,7 @@ returns-in-Err g c =
 
 pub returns-in-Ok : goal.returns-in-Ok
 returns-in-Ok g c =
-    let (e, p) = c.requires in
+    let (e, (p, l)) = c.requires in
     let o = c.left_over.ensures in
     let k = runs c.read_record-f.result.read c.left_over.result _ (sym c.verdict_of.ensures ∙ c.in-Ok.is) in
     let ends = c.answer_placed.ensures in

@@ -7,7 +7,7 @@ pub step_from-requires : goal.step_from-requires
 step_from-requires c =
     let p = c.requires.stands in
     let a = c.save_vars.ensures in
-    ((refl, (refl, (all_many a, all_now a))), (stands_now a p.0, (p.1.0, (p.1.1.0, p.1.1.1.1))))
+    ((refl, (refl, (all_many a, all_now a))), ((stands_now a p.0, (p.1.0, (p.1.1.0, p.1.1.1.1))), c.requires.list))
 
 pub returns : goal.returns
 returns c = record { steps = steps_before c.save_vars.ensures c.step_from.ensures.0; noted_next = c.step_from.ensures.1 }
