@@ -16,7 +16,7 @@
 static uint8_t job[1 << 24];
 static uint32_t state[PONGIWARU_WORDS]; /* all zero: a fresh state */
 static uint8_t params[PONGIWARU_ROWS][PONGIWARU_ROW_BYTES];
-static uint8_t answer[PONGIWARU_ANSWER_BYTES];
+static uint8_t answer[PONGIWARU_MANY_ANSWER_BYTES]; /* MJ's; enough for all others */
 
 static void print_line(uint64_t index, uint32_t number, uint32_t length) {
     printf("%" PRIu64 " %" PRIu32, index, number);
@@ -24,9 +24,15 @@ static void print_line(uint64_t index, uint32_t number, uint32_t length) {
     putchar('\n');
 }
 
-static void print_wrong(uint64_t index, uint32_t number, uint32_t length) {
-    if (number == PONGIWARU_RAN) /* SV: its number is 0, and the payload has a row for each constraint that failed */
-        fprintf(stderr, "record %" PRIu64 ": failed constraints, in %" PRIu32 " bytes\n", index, length);
+/* SV, XP and MJ answer 0 whatever is wrong, and the payload says what: a row for each constraint that failed, a code for each variable
+ * that is not inferred, each pair's number */
+static const char *told_by(const uint8_t *record) {
+    return record[0] == 'S' ? "failed constraints" : record[0] == 'X' ? "types not inferred" : "failed pairs";
+}
+
+static void print_wrong(uint64_t index, const uint8_t *record, uint32_t number, uint32_t length) {
+    if (number == PONGIWARU_RAN)
+        fprintf(stderr, "record %" PRIu64 ": %s, in %" PRIu32 " bytes\n", index, told_by(record), length);
     else
         fprintf(stderr, "record %" PRIu64 ": answer %" PRIu32 "\n", index, number);
 }
@@ -42,7 +48,7 @@ static uint64_t run(const uint8_t *stream, size_t size) {
         uint32_t number = pongiwaru_record(state, PONGIWARU_WORDS, params, stream, taken, answer, sizeof answer, &length);
         print_line(index, number, length);
         if (!PONGIWARU_WELL(stream, number, answer, length)) {
-            print_wrong(index, number, length);
+            print_wrong(index, stream, number, length);
             wrong++;
         }
         stream += taken;

@@ -28,10 +28,11 @@ extern "C" {
 #endif
 
 /* PONGIWARU_VERSION changes with the records, their answers, these functions or what they ask of a caller (5: more stack; 6: the
- * record CN; 7: XP; 8: NL), PONGIWARU_LAYOUT with what the words and rows of a state mean. Keep the layout's number beside a kept state.
- * A later version of the same layout goes on with it (to one before 8 a state in which a literal needs bits is 15); under another layout
- * it may be 15 or be taken for another sound state, so don't lend it: run its records again from a fresh state. */
-#define PONGIWARU_VERSION 8
+ * record CN; 7: XP; 8: NL; 9: MJ, which wants longer buffers), PONGIWARU_LAYOUT with what the words and rows of a state mean. Keep the
+ * layout's number beside a kept state. A later version of the same layout goes on with it (to one before 8 a state in which a literal
+ * needs bits is 15); under another layout it may be 15 or be taken for another sound state, so don't lend it: run its records again from
+ * a fresh state. */
+#define PONGIWARU_VERSION 9
 #define PONGIWARU_LAYOUT 1
 
 /* Both numbers as the archive has them: the caller was built for it if they are PONGIWARU_VERSION and PONGIWARU_LAYOUT. Ask once,
@@ -46,12 +47,15 @@ enum {
     PONGIWARU_RECORD_BYTES = 4096, /* the most that a record has; a longer one is 5 */
     PONGIWARU_ANSWER_BYTES = 4096, /* the least answer buffer; a shorter one is 15 */
     PONGIWARU_LINE_BYTES = 8217,   /* the log's room for one more line; a job with less takes no record */
+    PONGIWARU_MANY_ANSWER_BYTES = 61485, /* the same two where the record's first two bytes are MJ, whatever follows them */
+    PONGIWARU_MANY_LINE_BYTES = 122995,
     PONGIWARU_STACK_BYTES = 1048576 /* of a thread: a call's 768 KiB, and 256 for what its callers keep there */
 };
 
 /* The number of an answer. 0 to 4 may have a payload and change the state; 5 and above have none and leave all as it was.
  * 0 is not yet a success: SV answers 0 also where constraints failed, and its payload then lists them; XP also where a type could not
- * be inferred, and its payload then ends with codes. So ask PONGIWARU_WELL, and not for 0. */
+ * be inferred, and its payload then ends with codes; MJ whatever its pairs are answered, and its payload has their numbers. So ask
+ * PONGIWARU_WELL, and not for 0. */
 enum pongiwaru_number {
     PONGIWARU_RAN = 0, /* the record was run to its end; PONGIWARU_TYPED up to version 3 */
     PONGIWARU_SUBTYPE_ERROR = 1,
@@ -74,14 +78,15 @@ enum pongiwaru_number {
     PONGIWARU_DOUBLED_REFERENCE = 18 /* a reference directly under a reference */
 };
 
-/* Whether a record's answer says that nothing is wrong: 0, of SV without a payload, of XP without codes. record is what was lent,
- * number what pongiwaru_record gave, payload and length what it wrote. (Up to version 6 without payload.) */
+/* Whether a record's answer says that nothing is wrong: 0, of SV without a payload, of XP without codes, of MJ with pairs of 0 alone.
+ * record is what was lent, number what pongiwaru_record gave, payload and length what it wrote. (Up to version 6 without payload.) */
 #define PONGIWARU_WELL(record, number, payload, length) \
     ((number) == PONGIWARU_RAN && \
      ((length) == 0 || !(((record)[0] == 'S' && (record)[1] == 'V') || \
-                         ((record)[0] == 'X' && (record)[1] == 'P' && pongiwaru_has_code(payload, length)))))
+                         ((record)[0] == 'X' && (record)[1] == 'P' && pongiwaru_has_code(payload, length)) || \
+                         ((record)[0] == 'M' && (record)[1] == 'J' && pongiwaru_has_failed_pair(payload, length)))))
 
-/* One record, lent whole: bytes left over are 5. The result is the answer's number; of SV a 0 with a payload is failed constraints. The
+/* One record, lent whole: bytes left over are 5. The result is the answer's number; a 0 is not yet a success: PONGIWARU_WELL. The
  * payload stands in front of answer, and *length is how long it is; the rest of answer is as it was. */
 uint32_t pongiwaru_record(uint32_t *state, size_t state_length, uint8_t params[PONGIWARU_ROWS][PONGIWARU_ROW_BYTES],
                           const uint8_t *record, size_t record_length,
@@ -98,7 +103,8 @@ void pongiwaru_split(uint32_t *state, size_t state_length, uint8_t params[PONGIW
  * state that is not sound. *read and *written say how much of stream and log was used. *ended: nothing follows, after a 5, a 6, a 15,
  * an 18 or the last record.
  * A call that has not ended is made again, on the bytes that were not read. Where it read nothing it waits: with more, for the bytes
- * that follow; for a log of PONGIWARU_LINE_BYTES; or for ever, where *index is UINT64_MAX, since record numbers end one below it.
+ * that follow; for a log of PONGIWARU_LINE_BYTES, or of PONGIWARU_MANY_LINE_BYTES where the next two bytes are MJ; or for ever, where
+ * *index is UINT64_MAX, since record numbers end one below it.
  * A caller that lends an *index of its own tests for that and stops; a count from 0 does not come so far. */
 uint32_t pongiwaru_job(uint32_t *state, size_t state_length, uint8_t params[PONGIWARU_ROWS][PONGIWARU_ROW_BYTES],
                        const uint8_t *stream, size_t stream_length, bool more,
@@ -122,6 +128,15 @@ static inline bool pongiwaru_has_code(const uint8_t *payload, uint32_t length) {
         at += 5;
         if (tag == 5 && (at >= length || payload[at] < 16)) return true;
         at += tag < 9 ? fields[tag] : 0;
+    }
+    return false;
+}
+
+/* Whether a payload of MJ has a pair that is not 0. A pair is its number, its payload's length in two bytes, and that payload. */
+static inline bool pongiwaru_has_failed_pair(const uint8_t *payload, uint32_t length) {
+    for (uint32_t at = 0; at + 3 <= length;) {
+        if (payload[at] != 0) return true;
+        at += 3 + payload[at + 1] + 256u * payload[at + 2];
     }
     return false;
 }

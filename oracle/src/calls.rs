@@ -6,9 +6,13 @@ use crate::{
 };
 use pongiwaru::lent;
 
+/// of all records but MJ
 pub const MIN_ANSWER: usize = pongiwaru::ANSWER_BYTES;
-/// room that a log needs for one line more
+/// room that a log needs for one line more, of all records but MJ
 pub const LINE: usize = pongiwaru::LINE_BYTES;
+
+/// the same of the record at hand
+pub use pongiwaru::{answer_bytes, line_bytes};
 
 pub use pongiwaru::lent::Progress as Lines;
 
@@ -122,7 +126,7 @@ impl Calls for Mimic {
         length: &mut u32,
     ) -> u32 {
         *length = 0;
-        if answer.len() < MIN_ANSWER || sound(state, params).is_err() {
+        if answer.len() < answer_bytes(record) || sound(state, params).is_err() {
             return 15;
         }
         let mut job = job_of(View { words: state, params });
@@ -163,11 +167,12 @@ impl Calls for Mimic {
         }
         let mut job = job_of(View { words: state, params });
         while lines.read < stream.len() && !lines.ended {
-            if (more && stream.len() - lines.read < 4096) || log.len() - lines.written < LINE {
+            let rest = &stream[lines.read..];
+            if (more && rest.len() < 4096) || log.len() - lines.written < line_bytes(rest) {
                 Mimic::leave(&job, state, params);
                 return 0;
             }
-            let (outcome, n) = job.next(&stream[lines.read..]);
+            let (outcome, n) = job.next(rest);
             let line = format!("{} {}\n", lines.index, answer_text(&outcome));
             log[lines.written..lines.written + line.len()].copy_from_slice(line.as_bytes());
             (lines.written, lines.read, lines.index) = (lines.written + line.len(), lines.read + n, lines.index + 1);

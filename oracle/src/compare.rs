@@ -1,6 +1,6 @@
 //! The engine beside core.rs, in one process: every answer, payload, binding, mark, constraint and declaration.
 use crate::{
-    calls::{job_of, lent_of, Calls, Lines, LINE, MIN_ANSWER},
+    calls::{answer_bytes, job_of, lent_of, line_bytes, Calls, Lines, LINE, MIN_ANSWER},
     count::{counted, needs, used, Counted, Used},
     gen::{self, Chance, Made, Profile},
     job::{Job, Outcome},
@@ -33,6 +33,8 @@ pub struct Tally {
     pub doubled: BTreeMap<&'static str, usize>,
     /// SV's answers that show a missing ability, and the failures in them by rule 1 and 2
     pub missing: [usize; 3],
+    /// pairs of MJ by their numbers
+    pub pairs: BTreeMap<u8, usize>,
     pub lines: usize,
 }
 
@@ -62,6 +64,8 @@ impl Tally {
         out += &format!("0 to 4, held to core.rs: {}; from 5 on, held to 01's and 02's rules: {}\n", core, rest);
         let doubled: Vec<_> = self.doubled.iter().map(|(mark, n)| format!("{} {}", mark, n)).collect();
         out += &format!("answers that show a doubled reference: {}\n", doubled.join(", "));
+        let pairs: Vec<_> = self.pairs.iter().map(|(n, count)| format!("{}: {}", n, count)).collect();
+        out += &format!("pairs of MJ: {}\n", pairs.join(", "));
         let [shown, one, two] = self.missing;
         out += &format!("SV that shows missing abilities: {}; by rule 1: {}, by rule 2: {}\n", shown, one, two);
         self.apart.iter().for_each(|(why, n)| out += &format!("{}: {}\n", why, n));
@@ -137,7 +141,7 @@ fn shown(a: &Answer) -> String {
 /// and a location; of code 4 an ability comes before, and a rule after, of one byte or two.
 fn types_shown(r: &Record, a: &Answer, known: &Known) -> Vec<(Ty, u8)> {
     let (mut rest, mut out) = (&a.payload[..], vec![]);
-    if matches!(r, Record::SD(..) | Record::RM(_)) {
+    if matches!(r, Record::SD(..) | Record::RM(_) | Record::MJ(_)) {
         return out;
     }
     loop {
@@ -156,8 +160,24 @@ fn types_shown(r: &Record, a: &Answer, known: &Known) -> Vec<(Ty, u8)> {
     out
 }
 
+/// The numbers and payloads of an MJ's pairs.
+pub fn pairs_shown(payload: &[u8]) -> Vec<(u8, &[u8])> {
+    let (mut rest, mut out) = (payload, vec![]);
+    while let [number, low, high, behind @ ..] = rest {
+        let length = u16::from_le_bytes([*low, *high]) as usize;
+        let Some((shown, after)) = behind.split_at_checked(length) else { break };
+        out.push((*number, shown));
+        rest = after
+    }
+    out
+}
+
 impl Tally {
-    fn count_shown(&mut self, r: &Record, mark: &'static str, shown: &[(Ty, u8)]) {
+    fn count_shown(&mut self, r: &Record, mark: &'static str, answer: &Answer, known: &Known) {
+        if let Record::MJ(_) = r {
+            pairs_shown(&answer.payload).iter().for_each(|(n, _)| *self.pairs.entry(*n).or_insert(0) += 1)
+        }
+        let shown = types_shown(r, answer, known);
         if shown.iter().any(|(t, _)| t.has_doubled()) {
             *self.doubled.entry(mark).or_insert(0) += 1
         }
@@ -267,21 +287,22 @@ struct Run<'a> {
 
 impl Run<'_> {
     /// one record; Ok(false): the job is over
-    fn step(&mut self, stream: &[u8], room: usize, tally: &mut Tally) -> Result<bool, String> {
+    fn step(&mut self, stream: &[u8], over: usize, tally: &mut Tally) -> Result<bool, String> {
         let rest = &stream[self.at..];
         let read = record::read_record(rest, self.job.known()).ok();
-        let (outcome, n) = self.job.next(rest);
+        let (r, mark) = (read.as_ref().map(|(r, _)| r), read.as_ref().map_or("??", |(r, _)| r.mark()));
+        let counted = r.filter(|_| self.lender.calls.counts()).map(|r| counted(self.lender.view(), r));
+        let (outcome, n) = self.job.next_within(rest, counted.as_ref().map_or(&[], |c| &c.pairs));
         let split = self.lender.split(rest)?;
         if split != n {
             return Err(format!("split takes {} bytes, not {}", split, n));
         }
-        let (r, mark) = (read.as_ref().map(|(r, _)| r), read.as_ref().map_or("??", |(r, _)| r.mark()));
-        let counted = r.filter(|_| self.lender.calls.counts()).map(|r| counted(self.lender.view(), r));
         let told = match r {
             Some(Record::IN(t)) if self.lender.calls.counts() => told(&mut self.lender, t, tally)?,
             _ => None,
         };
-        let answer = self.lender.record(if n == 0 { rest } else { &rest[..n] }, room)?;
+        let lent = if n == 0 { rest } else { &rest[..n] };
+        let answer = self.lender.record(lent, answer_bytes(lent) + over)?;
         if let Some(four) = told {
             as_told(&self.lender, &answer, four)?
         }
@@ -300,7 +321,7 @@ impl Run<'_> {
         }
         *tally.records.entry((mark, answer.number)).or_insert(0) += 1;
         if let Some(r) = r {
-            tally.count_shown(r, mark, &types_shown(r, &answer, self.job.known()))
+            tally.count_shown(r, mark, &answer, self.job.known())
         }
         self.log += &match answer.payload.is_empty() {
             true => format!("{} {}\n", self.index, answer.number),
@@ -321,11 +342,12 @@ pub fn stream(
 ) -> Result<(), Disagreement> {
     let (lender, job) = (Lender::new(calls, start), job_of(start.view()));
     let mut run = Run { lender, job, log: String::new(), at: 0, index: 0, without_sn: *start == lent::fresh() };
-    let room = MIN_ANSWER + if chance.percent(20) { chance.below(100) } else { 0 };
+    // an answer buffer has so much more than it must have
+    let over = if chance.percent(20) { chance.below(100) } else { 0 };
     let mut refused = false;
     while run.at < stream.len() {
         let index = run.index;
-        match run.step(stream, room, tally) {
+        match run.step(stream, over, tally) {
             Ok(true) => (),
             Ok(false) => {
                 refused = run.index > index;
@@ -352,21 +374,26 @@ fn in_pieces(lender: &mut Lender, stream: &[u8], wanted: &str, chance: &mut Chan
     let piece = chance.one(&[usize::MAX, usize::MAX, 4096, 5000, 9000]);
     let room = LINE + chance.one(&[0, 1, 20_000]);
     let (mut log, mut at, mut have, mut index) = (vec![], 0, 0usize, 0);
-    let mut over = false;
+    let (mut over, mut waits) = (false, false);
     while !over {
         have = stream.len().min(have.saturating_add(piece));
-        let more = have < stream.len();
-        let (number, Lines { read, index: next, ended, .. }, text) =
-            lender.job(&stream[at..have], more, room, index)?;
+        let (bytes, more) = (&stream[at..have], have < stream.len());
+        // an MJ that found no room for its line gets it
+        let room = if waits { room.max(line_bytes(bytes)) } else { room };
+        let (number, Lines { read, index: next, ended, .. }, text) = lender.job(bytes, more, room, index)?;
         log.extend(text);
         if number != 0 {
             return Err(format!("the job answers {}", number));
         }
-        let stuck = read == 0 && next == index && !more;
-        (at, index, over) = (at + read, next, ended);
-        if stuck && !over {
+        waits = room < line_bytes(bytes);
+        let stuck = read == 0 && next == index && !ended;
+        if waits && !stuck {
+            return Err("the job takes an MJ without room for its line".into());
+        }
+        if stuck && !waits && !more {
             return Err("the job does not go on".into());
         }
+        (at, index, over) = (at + read, next, ended)
     }
     match log == wanted.as_bytes() {
         true => Ok(()),
@@ -385,6 +412,7 @@ pub fn made(seed: u64, i: u64, records: usize, profile: Option<Profile>) -> Made
         _ if profile.is_some() => gen::random(seed, i, some(&mut chance), profile, false),
         0 if chance.percent(20) => gen::deep(seed, i),
         0 => gen::limits(seed, i, false),
+        1 if chance.percent(50) => gen::pairs_at_limits(seed, i),
         1 => gen::random(seed, i, 12 * records, None, false),
         2..=34 => gen::exhaustive(chance.below(7056), false).unwrap(),
         35..=49 => gen::random(seed, i, some(&mut chance), Some(Profile::Abilities), false),
@@ -511,13 +539,17 @@ pub enum Alter {
     Missing,
     /// the location of XP's last code
     Code,
+    /// the number of MJ's last pair
+    Pair,
+    /// MJ's last pair, where it is refused, takes a node
+    Kept,
     /// a line of a job
     Line,
 }
 
-pub const ALTERS: [Alter; 13] = {
+pub const ALTERS: [Alter; 15] = {
     use Alter::*;
-    [Number, Payload, Binding, Mark, Need, Constraint, Reading, Count, Told, Spelled, Missing, Code, Line]
+    [Number, Payload, Binding, Mark, Need, Constraint, Reading, Count, Told, Spelled, Missing, Code, Pair, Kept, Line]
 };
 
 impl Alter {
@@ -557,6 +589,14 @@ impl Altered<'_> {
             Alter::Told if number == 0 && record.starts_with(b"RM") => answer[0] -= 1,
             Alter::Spelled if number == 0 && record.starts_with(b"CN") && answer[0] == 6 => answer[5] += record[7] & 1,
             Alter::Missing if number == 0 && record == b"SV" && answer.first() == Some(&4) => answer[5] ^= 3,
+            Alter::Pair if number == 0 && record.starts_with(b"MJ") => {
+                let last: usize = pairs_shown(answer).iter().rev().skip(1).map(|(_, p)| 3 + p.len()).sum();
+                answer[last] ^= 1
+            }
+            Alter::Kept if number == 0 && record.starts_with(b"MJ") => {
+                let refused = pairs_shown(answer).last().is_some_and(|(n, _)| *n > 4);
+                words[0] += (refused && view.nodes() < 2048) as u32
+            }
             Alter::Code if number == 0 && record.starts_with(b"XP") && !Said::Ran.is_well(record, answer) => {
                 answer[answer.len() - 4] ^= 1
             }

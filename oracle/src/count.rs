@@ -3,9 +3,9 @@
 //! literals (02, R-7), which core.rs does not know: without needs they must be core.rs's. Uses no code of the engine's; not
 //! claimed to be independent of the definition.
 use crate::{
-    job::State,
+    job::{put_pair, State, MAX_PAYLOAD},
     lent::{View, MAX_CONSTRAINTS, MAX_NODES, MAX_PLACES, MAX_STRUCTS, MAX_VARS},
-    record::{Kind, Record, Ty},
+    record::{Kind, Record, Ty, TypingCase},
 };
 use std::collections::{BTreeMap, HashMap};
 
@@ -29,13 +29,15 @@ pub fn used(s: View) -> Used {
     Used { nodes: s.nodes(), places: s.places(), vars: s.vars(), constraints: s.constraints() }
 }
 
-/// The answer's number as far as counting tells (14 is not seen), and the rows in use after it. Of JN and SU, where it is 0
+/// The answer's number as far as counting tells (14 is not seen), and the rows in use after it. Of JN, SU and MJ, where it is 0
 /// to 4, also the payload.
 #[derive(Debug, Clone, PartialEq, Eq)]
 pub struct Counted {
     pub number: u32,
     pub used: Used,
     pub payload: Option<Vec<u8>>,
+    /// of MJ the number of each pair, 14 among them
+    pub pairs: Vec<u8>,
 }
 
 /// what ends a run
@@ -354,6 +356,24 @@ impl Sim {
         }
     }
 
+    /// 02's R-8: what a pair is answered as JN or SU. 1 to 4 put back bindings and marks, a refusal all that the run took.
+    fn pair(&mut self, case: TypingCase, a: &Ty, b: &Ty) -> (u8, Vec<u8>) {
+        let (bound, marks, used) = (self.bound.clone(), self.marks.clone(), self.used);
+        let (number, payload) = match self.join(1, case == TypingCase::Subtype, a, b) {
+            Ok(t) => (0, t.bytes()),
+            Err(stop) => (stop.number() as u8, stop.payload()),
+        };
+        let number = if payload.len() > MAX_PAYLOAD { 14 } else { number };
+        if number > 0 {
+            (self.bound, self.marks) = (bound, marks)
+        }
+        if number <= 4 {
+            return (number, payload);
+        }
+        self.used = used;
+        (number, vec![])
+    }
+
     fn run(&mut self, structs: usize, r: &Record) -> Run<()> {
         match r {
             Record::SD(..) if structs == MAX_STRUCTS => Err(FULL),
@@ -389,6 +409,7 @@ fn occurs(v: u16, t: &Ty) -> bool {
 fn types(r: &Record) -> Vec<&Ty> {
     match r {
         Record::JN(a, b) | Record::SU(a, b) => vec![a, b],
+        Record::MJ(pairs) => pairs.iter().flat_map(|(_, a, b)| [a, b]).collect(),
         Record::TS(args, t) => args.iter().map(|(_, t)| t).chain([t]).collect(),
         Record::UF(t) | Record::RD(t) | Record::CN(t) | Record::IN(t) | Record::XP(t) => vec![t],
         Record::NC(_, _, t) | Record::BC(_, t) | Record::SC(_, t) => vec![t],
@@ -430,17 +451,27 @@ fn shown(done: &Run<Ty>) -> Option<Vec<u8>> {
 pub fn counted(s: View, r: &Record) -> Counted {
     let before = used(s);
     let mut sim = Sim::new(&s.state(), before);
-    let mut payload = None;
-    let done = types(r).into_iter().try_for_each(|t| sim.read(t)).and_then(|_| match sim.joined(r) {
-        Some(done) => {
+    let (mut payload, mut pairs) = (None, vec![]);
+    let done = types(r).into_iter().try_for_each(|t| sim.read(t)).and_then(|_| match (r, sim.joined(r)) {
+        (_, Some(done)) => {
             payload = shown(&done);
             done.map(drop)
         }
-        None => sim.run(s.structs(), r),
+        (Record::MJ(all), _) => {
+            let mut out = vec![];
+            for (case, a, b) in all {
+                let (number, bytes) = sim.pair(*case, a, b);
+                put_pair(number, &bytes, &mut out);
+                pairs.push(number)
+            }
+            payload = Some(out);
+            Ok(())
+        }
+        _ => sim.run(s.structs(), r),
     });
     let number = done.map_or_else(|stop| stop.number(), |_| 0);
     let reads = matches!(r, Record::UF(_) | Record::RD(_) | Record::CN(_) | Record::TS(..) | Record::XP(_));
-    Counted { number, used: if reads || number > 4 { before } else { sim.used }, payload }
+    Counted { number, used: if reads || number > 4 { before } else { sim.used }, payload, pairs }
 }
 
 //---- what needs decide (02, R-7) ---------------------------------------------------------------------------

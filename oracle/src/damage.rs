@@ -1,9 +1,9 @@
 //! Damaged records and damaged states, lent between guards. What each call must answer comes from 01's reader
 //! (`record`), from 01's rules for a sound state (`lent::sound`), and where the call goes on from core.rs.
 use crate::{
-    calls::{job_of, Calls, LINE, MIN_ANSWER},
+    calls::{answer_bytes, job_of, line_bytes, Calls, MIN_ANSWER},
     compare::{self, agree, same_counts, same_state, Agreed},
-    count::counted,
+    count::{counted, Counted},
     gen::{Chance, Profile},
     job::{self, answer_text, Job, Outcome},
     lender::Lender,
@@ -51,15 +51,17 @@ type Tried = Result<(), String>;
 
 //---- what must be answered -------------------------------------------------------------------------------
 
-/// A lent record's outcome on a sound state, and the job after it.
-fn expected(s: View, bytes: &[u8]) -> (Outcome, Job) {
+/// A lent record's outcome on a sound state, the job after it, and what counting says of it.
+fn expected(s: View, bytes: &[u8], counts: bool) -> (Outcome, Job, Option<Counted>) {
     let mut job = job_of(s);
-    let outcome = match read_record(bytes, job.known()) {
-        Err(x) => Outcome::Refused(x.number, x.rule.into()),
-        Ok((_, n)) if n < bytes.len() => Outcome::Refused(5, "bytes left over".into()),
-        Ok((r, _)) => job.record(&r),
-    };
-    (outcome, job)
+    match read_record(bytes, job.known()) {
+        Err(x) => (Outcome::Refused(x.number, x.rule.into()), job, None),
+        Ok((_, n)) if n < bytes.len() => (Outcome::Refused(5, "bytes left over".into()), job, None),
+        Ok((r, _)) => {
+            let counted = counts.then(|| counted(s, &r));
+            (job.record_within(&r, counted.as_ref().map_or(&[], |c| &c.pairs)), job, counted)
+        }
+    }
 }
 
 /// too large for core.rs, whose types are trees
@@ -69,7 +71,8 @@ fn too_large(s: View) -> bool {
 
 /// Lends one record and holds the answer to what it must be. The state is left as the call leaves it.
 pub fn lend(lender: &mut Lender, bytes: &[u8], room: usize, tally: &mut Tally) -> Tried {
-    let verdict = if room < MIN_ANSWER { Err("answer buffer") } else { sound(lender.words(), lender.params()) };
+    let short = room < answer_bytes(bytes);
+    let verdict = if short { Err("answer buffer") } else { sound(lender.words(), lender.params()) };
     if let Err(rule) = verdict {
         let answer = lender.record(bytes, room)?;
         tally.add(format!("15: {}", rule));
@@ -83,9 +86,7 @@ pub fn lend(lender: &mut Lender, bytes: &[u8], room: usize, tally: &mut Tally) -
         tally.add(ALONE);
         return if answer.number == 15 { Err("15 though sound".into()) } else { still_sound(lender) };
     }
-    let (outcome, job) = expected(lender.view(), bytes);
-    let whole = read_record(bytes, &job_known(lender.view())).ok().filter(|(_, n)| *n == bytes.len());
-    let counted = whole.filter(|_| lender.calls.counts()).map(|(r, _)| counted(lender.view(), &r));
+    let (outcome, job, counted) = expected(lender.view(), bytes, lender.calls.counts());
     let answer = lender.record(bytes, room)?;
     if answer.number == 15 {
         return Err("15 though sound".into());
@@ -120,12 +121,15 @@ fn stream(lender: &mut Lender, bytes: &[u8], tally: &mut Tally) -> Tried {
     let large = verdict.is_ok() && too_large(lender.view());
     let line = match first {
         Ok(_) if large || verdict.is_err() => None,
-        Ok(n) if n > 0 => Some(answer_text(&expected(lender.view(), &bytes[..n]).0)),
+        Ok(n) if n > 0 => Some(answer_text(&expected(lender.view(), &bytes[..n], lender.calls.counts()).0)),
         _ => first.err().filter(|_| !bytes.is_empty()).map(|x| x.number.to_string()),
     };
-    let (number, lines, log) = lender.job(bytes, false, LINE, 0)?;
+    let (number, lines, log) = lender.job(bytes, false, line_bytes(bytes), 0)?;
     tally.add("split and job");
-    let text = String::from_utf8_lossy(&log);
+    // behind an MJ's line there is room for more
+    let log =
+        if bytes.starts_with(b"MJ") { log.split_inclusive(|b| *b == b'\n').next().unwrap_or(&[]) } else { &log[..] };
+    let text = String::from_utf8_lossy(log);
     match (verdict, line) {
         (Ok(()), _) if first.is_err() && !(lines.ended && lines.read == 0) => {
             Err(format!("job: {:?}, and {:?} though the record is not read", text, lines))
@@ -179,7 +183,7 @@ pub fn midway_of(calls: &dyn Calls, seed: u64, i: u64, profile: Option<Profile>)
         if steps == 0 || n == 0 {
             break;
         }
-        lender.record(&record, MIN_ANSWER)?;
+        lender.record(&record, answer_bytes(&record))?;
         at += n
     }
     let lent = lender.lent();
@@ -228,7 +232,8 @@ pub fn records(calls: &dyn Calls, seed: u64, count: u64, tally: &mut Tally) -> T
             all.swap_remove(k);
         }
         for (k, bytes) in all.iter().enumerate() {
-            let room = if k % 50 == 49 { chance.below(MIN_ANSWER) } else { MIN_ANSWER + chance.below(3) };
+            let least = answer_bytes(bytes);
+            let room = if k % 50 == 49 { chance.below(least) } else { least + chance.below(3) };
             lend(&mut lender, bytes, room, tally).map_err(|e| told(&m, bytes, e))?;
             lender.lend(&m.lent);
             stream(&mut lender, bytes, tally).map_err(|e| told(&m, bytes, e))?;
@@ -265,7 +270,7 @@ fn other_bytes(b: u8, chance: &mut Chance) -> Vec<u8> {
 /// One record on the damaged state; every few also the splitter and a job.
 fn on_damaged(lender: &mut Lender, lent: &Lent, record: &[u8], k: usize, tally: &mut Tally) -> Tried {
     let damaged = (k % 5 == 0).then(|| lender.lent());
-    lend(lender, record, MIN_ANSWER, tally)?;
+    lend(lender, record, answer_bytes(record), tally)?;
     if let Some(damaged) = damaged {
         lender.lend(&damaged);
         stream(lender, record, tally)?
@@ -318,7 +323,7 @@ pub fn wild(calls: &dyn Calls, seed: u64, count: u64, tally: &mut Tally) -> Trie
             spoil(&mut lent, &mut chance);
             let mut lender = Lender::new(calls, &lent);
             let told = |e| format!("{}: wild {}: {}", m.name, k, e);
-            lend(&mut lender, &m.record, MIN_ANSWER, tally).map_err(told)?;
+            lend(&mut lender, &m.record, answer_bytes(&m.record), tally).map_err(told)?;
             lender.lend(&lent);
             stream(&mut lender, &m.record, tally).map_err(told)?
         }
@@ -360,7 +365,7 @@ pub fn needs(calls: &dyn Calls, seed: u64, count: u64, tally: &mut Tally) -> Tri
                 lent.set_need(v, bits);
                 lender.lend(&lent);
                 let told = |e| format!("{}: V{}, marked: {}, need {}: {}", m.name, v, marked, bits, e);
-                lend(&mut lender, &m.record, MIN_ANSWER, tally).map_err(told)?
+                lend(&mut lender, &m.record, answer_bytes(&m.record), tally).map_err(told)?
             }
         }
     }

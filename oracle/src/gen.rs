@@ -2,7 +2,7 @@
 //! that variables taken by merges, IN and SV are used too.
 use crate::{
     job::{Job, Outcome},
-    record::{Kind, Record, Ty, BUILTINS, MAX_NESTING, MAX_RECORD, VECTOR},
+    record::{Kind, Record, Ty, TypingCase, BUILTINS, MAX_NESTING, MAX_PAIRS, MAX_RECORD, VECTOR},
 };
 
 const SIGNER: u8 = 1;
@@ -69,12 +69,14 @@ pub enum Profile {
     Fresh,
     /// every second record is IN or SV (02, R-1). Never by chance alone, so that the other profiles' jobs stay
     Abilities,
+    /// before every second record stands MJ (02, R-8). Nor is this by chance
+    Pairs,
 }
 
 impl Profile {
     pub fn named(name: &str) -> Option<Profile> {
         use Profile::*;
-        let all = [All, Refs, Knots, Numbers, Lists, Structs, Fresh, Abilities];
+        let all = [All, Refs, Knots, Numbers, Lists, Structs, Fresh, Abilities, Pairs];
         all.into_iter().find(|p| format!("{:?}", p).to_lowercase() == name)
     }
 }
@@ -130,6 +132,8 @@ pub struct Maker {
     spelled: Chance,
     /// for XP between the other records, likewise
     expand: Chance,
+    /// for MJ between them, likewise. None: never, since what refuses a pair is not core.rs's
+    many: Option<Chance>,
     pub profile: Profile,
     marks: Marks,
     /// locations are 1, 2, 3 .., or for some jobs any number
@@ -159,6 +163,7 @@ impl Maker {
             twice: Some(Chance(!chance.0)),
             spelled: Chance(chance.0.rotate_left(32)),
             expand: Chance(chance.0.rotate_left(16)),
+            many: Some(Chance(chance.0.rotate_left(48))),
             profile,
             marks: chance.weighted(&[(45, Marks::None), (40, Marks::Primitives), (15, Marks::Mixed)]),
             locs: 0,
@@ -460,16 +465,61 @@ impl Maker {
 
     /// XP before the next record, or none; some types have marked lists and structs
     pub fn expansion(&mut self, vars: usize, params: &[usize]) -> Option<Record> {
-        let mut own = self.expand.clone();
         let often = if self.profile == Profile::Abilities { 50 } else { 10 };
-        let wanted = own.percent(often);
-        let marks = own.weighted(&[(60, Marks::Primitives), (20, Marks::None), (20, Marks::Tenth)]);
         (self.vars, self.params) = (vars, params.to_vec());
-        let others = (std::mem::replace(&mut self.chance, own), std::mem::replace(&mut self.marks, marks), self.locs);
-        let t = self.var_or_type();
-        self.expand = std::mem::replace(&mut self.chance, others.0);
-        (self.marks, self.locs) = (others.1, others.2);
-        wanted.then_some(Record::XP(t))
+        let own = self.expand.clone();
+        self.aside(own, |m| {
+            let wanted = m.chance.percent(often);
+            m.marks = m.chance.weighted(&[(60, Marks::Primitives), (20, Marks::None), (20, Marks::Tenth)]);
+            let t = m.var_or_type();
+            m.expand = m.chance.clone();
+            wanted.then_some(Record::XP(t))
+        })
+    }
+
+    /// drawn from `own` and with marks of its own, so that all else is drawn as without it
+    fn aside<T>(&mut self, own: Chance, f: impl FnOnce(&mut Maker) -> T) -> T {
+        let others = (std::mem::replace(&mut self.chance, own), self.marks, self.locs, self.few);
+        let made = f(self);
+        (self.chance, self.marks, self.locs, self.few) = others;
+        made
+    }
+
+    /// MJ before the next record, or none
+    pub fn many(&mut self, vars: usize, params: &[usize]) -> Option<Record> {
+        let own = self.many.clone()?;
+        let often = if self.profile == Profile::Pairs { 50 } else { 8 };
+        (self.vars, self.params) = (vars, params.to_vec());
+        self.aside(own, |m| {
+            let wanted = m.chance.percent(often);
+            let n = m.chance.weighted(&[(3, 1), (5, 2), (5, 3), (3, 5), (2, 8), (1, MAX_PAIRS)]);
+            // some of the variables come again and again
+            m.few = if m.chance.percent(50) { 3 } else { m.few };
+            let r = Record::MJ((0..n).map(|_| m.one_of_many()).collect());
+            m.many = Some(m.chance.clone());
+            wanted.then_some(r)
+        })
+    }
+
+    fn case(&mut self) -> TypingCase {
+        self.chance.one(&[TypingCase::Join, TypingCase::Subtype])
+    }
+
+    /// a pair; of one in ten the second parts' marks disagree, once the first are joined
+    fn one_of_many(&mut self) -> (TypingCase, Ty, Ty) {
+        let case = self.case();
+        if self.chance.percent(90) {
+            let (a, b) = self.pair();
+            return (case, a, b);
+        }
+        let (a, b) = (self.small(), self.small());
+        (case, self.list_with(a, 0x17), self.list_with(b, 0))
+    }
+
+    /// a list of `t` and of a `u8` with this mark
+    fn list_with(&mut self, t: Ty, mark: u8) -> Ty {
+        let u8_ = Ty { loc: self.loc(), kind: Kind::Builtin(mark, U8, vec![]) };
+        Ty { loc: self.loc(), kind: Kind::List(0, vec![t, u8_]) }
     }
 
     fn need(&mut self) -> u16 {
@@ -546,13 +596,16 @@ impl Growing {
         !silent || self.cut
     }
 
-    /// records of the maker's, with XP between them
+    /// records of the maker's, with XP and MJ between them
     fn grow(&mut self, m: &mut Maker, numbers: std::ops::Range<usize>) {
         for n in numbers {
             let known = self.job.known().clone();
-            let between = m.expansion(known.vars, &known.params);
-            let r = m.record(n, known.vars, &known.params);
-            if between.is_some_and(|xp| !self.add(&xp)) || !self.add(&r) {
+            let between = [m.expansion(known.vars, &known.params), m.many(known.vars, &known.params)];
+            if between.into_iter().flatten().any(|r| !self.add(&r)) {
+                break;
+            }
+            let r = m.record(n, self.job.known().vars, &known.params);
+            if !self.add(&r) {
                 break;
             }
         }
@@ -572,7 +625,7 @@ pub fn random(seed: u64, index: u64, records: usize, profile: Option<Profile>, c
         Some(profile) => m.of_profile(profile),
         None => m,
     };
-    m.twice = m.twice.filter(|_| !cut);
+    (m.twice, m.many) = (m.twice.filter(|_| !cut), m.many.filter(|_| !cut));
     let mut g = Growing::new(format!("random-{}-{}-{:?}", seed, index, m.profile).to_lowercase(), cut);
     g.grow(&mut m, 0..records);
     g.made
@@ -709,10 +762,15 @@ pub fn limits(seed: u64, index: u64, cut: bool) -> Made {
     g.made
 }
 
-/// two chains V0 = vector<V2> = .. and V1 = vector<V3> = .. of n vectors, and the join of their heads
-fn chains(g: &mut Growing, n: usize) {
+/// two chains V0 = vector<V2> = .. and V1 = vector<V3> = .. of n vectors
+fn links(g: &mut Growing, n: usize) {
     g.add_all((0..2 * n as u32 + 2).map(Record::FV));
-    g.add_all((0..2 * n as u16).map(|i| Record::JN(v(i), vector(v(i + 2)))));
+    g.add_all((0..2 * n as u16).map(|i| Record::JN(v(i), vector(v(i + 2)))))
+}
+
+/// .. and the join of their heads
+fn chains(g: &mut Growing, n: usize) {
+    links(g, n);
     g.add(&Record::JN(v(0), v(1)));
 }
 
@@ -725,7 +783,62 @@ pub fn deep(seed: u64, index: u64) -> Made {
     g.made
 }
 
+fn pairs(all: &[(TypingCase, Ty, Ty)]) -> Record {
+    Record::MJ(all.to_vec())
+}
+
+/// A job with MJs (02, R-8) whose pairs come to a limit in the middle: variables or nodes, that nearly all are taken, or a join's
+/// depth; marks that disagree between two pairs that bind; or errors of two types that are too long, likewise.
+pub fn pairs_at_limits(seed: u64, index: u64) -> Made {
+    use TypingCase::*;
+    let mut m = Maker::new(Chance::new(seed ^ 0x7061_6972_73, index));
+    let kind = ["variables", "nodes", "depth", "marks", "long"][index as usize % 5];
+    let mut g = Growing::new(format!("pairs-{}-{}-{}", seed, index, kind), false);
+    let near = m.chance.below(20);
+    match kind {
+        "variables" => g.add_all((0..1024 - near as u32).map(Record::FV)),
+        "nodes" => {
+            g.add_all((0..8).map(Record::FV));
+            g.add_all((0..990 + near).map(|_| Record::JN(bare(Kind::Unit), bare(Kind::Unit))))
+        }
+        "depth" => links(&mut g, 118 + near),
+        "long" => {
+            g.add_all((0..8).map(Record::FV));
+            let long = |m: &mut Maker| m.wide(8);
+            let (a, b) = (long(&mut m), long(&mut m));
+            g.add_all([Record::JN(v(0), a), Record::JN(v(1), vector(b))].into_iter())
+        }
+        _ => g.add_all((0..8).map(Record::FV)),
+    }
+    for _ in 0..4 {
+        m.vars = g.job.known().vars;
+        let mut all: Vec<_> = (0..3 + m.chance.below(8)).map(|_| m.one_of_many()).collect();
+        let at = m.chance.below(all.len());
+        let (bound, other) =
+            (m.vars as u16 - 1 - m.chance.below(6) as u16, m.vars as u16 - 1 - m.chance.below(6) as u16);
+        let refused = match kind {
+            "long" | "depth" => (m.case(), v(0), v(1)),
+            _ => (m.case(), m.list_with(v(bound), 0x17), m.list_with(plain(BOOL), 0)),
+        };
+        all.splice(at..at, [(Join, v(other), plain(U8)), refused, (Subtype, v(bound), plain(U64))]);
+        // past a join too deep core.rs has variables that the engine has not
+        if !g.add(&pairs(&all)) || kind == "depth" {
+            break;
+        }
+        g.grow(&mut m, 10..12)
+    }
+    g.made
+}
+
 impl Maker {
+    /// lists of lists of eight, so many of them: too long for an answer together with another such type
+    fn wide(&mut self, n: usize) -> Ty {
+        let row = |m: &mut Maker| bare(Kind::List(0, (0..8).map(|_| m.tree(1, true)).collect()));
+        let rows = (0..n).map(|_| bare(Kind::List(0, (0..4 + self.chance.below(2)).map(|_| row(self)).collect())));
+        let t = bare(Kind::List(0, rows.collect()));
+        self.dressed(t)
+    }
+
     /// a type of nesting n
     fn nested(&mut self, n: usize) -> Ty {
         if n == 1 {

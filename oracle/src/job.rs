@@ -2,7 +2,8 @@
 //!
 //! `Outcome::Core` is core.rs's own answer, 0 to 4. `Outcome::Refused` is NOT core.rs's: it follows 01's rules,
 //! from the reader, from a count, or from the assertion at which core.rs panicked. Two limits are not modelled,
-//! because core.rs counts neither: 7 for nodes or argument places, and 8.
+//! because core.rs counts neither: 7 for nodes or argument places, and 8. Of MJ (02, R-8), which core.rs has not, each pair is a
+//! call of its `join` or `subtype`; which pairs are 7 or 8 is told by whoever counts (`record_within`).
 //!
 //! A literal's need (02, R-7) stands beside core.rs's map. In a job that has one, JN, SU and SV's numeric step are answered
 //! by 02's rules on trees (`count`), whose answer without the needs must be core.rs's; and the integer types that core.rs
@@ -19,7 +20,7 @@ use crate::{
         TParamID, TVar, Type, TypeName_, Type_,
     },
     parser::ast::{Ability_, ModuleName, StructName},
-    record::{self, Kind, Known, Record, Ty},
+    record::{self, Kind, Known, Record, Ty, TypingCase},
     shared::{unique_map::UniqueMap, CompilationEnv, Counter, NumericalAddress},
     state_text::state_text,
     typing::{
@@ -207,7 +208,9 @@ pub fn type_out(t: &Type) -> Ty {
         Type_::Unit => Kind::Unit,
         Type_::Ref(mutable, inner) => Kind::Ref(*mutable, Box::new(type_out(inner))),
         Type_::Param(tp) => match tp.id.0.checked_sub(EXPANDED) {
-            Some(n) => Kind::Builtin(if n % 32 == 0 { 16 + PRIMITIVES } else { (n % 32) as u8 }, (n / 32) as u8, vec![]),
+            Some(n) => {
+                Kind::Builtin(if n % 32 == 0 { 16 + PRIMITIVES } else { (n % 32) as u8 }, (n / 32) as u8, vec![])
+            }
             None => Kind::Param(tp.id.0 as u32, ability_bits(&tp.abilities)),
         },
         Type_::Apply(k, n, args) => {
@@ -377,23 +380,57 @@ impl Job {
         };
         ctx.modules.add(module(Loc::of(0)), empty).ok().unwrap();
         let mut job = Job { known: Known::default(), wider: false, needs: BTreeMap::new(), ctx };
-        (BUILTINS.len()..record::BUILTINS.len()).for_each(|n| job.add_struct(stand_in(Loc::of(0), n as u8), PRIMITIVES, &[]));
+        (BUILTINS.len()..record::BUILTINS.len())
+            .for_each(|n| job.add_struct(stand_in(Loc::of(0), n as u8), PRIMITIVES, &[]));
         job
     }
 
     /// The first record of `stream`: its outcome and how many bytes it has, 0 where it is not read.
     pub fn next(&mut self, stream: &[u8]) -> (Outcome, usize) {
+        self.next_within(stream, &[])
+    }
+
+    /// .. with the numbers of an MJ's pairs, as `record_within` has them
+    pub fn next_within(&mut self, stream: &[u8], pairs: &[u8]) -> (Outcome, usize) {
         match record::read_record(stream, &self.known) {
-            Ok((r, n)) => (self.record(&r), n),
+            Ok((r, n)) => (self.record_within(&r, pairs), n),
             Err(x) => (Outcome::Refused(x.number, format!("not read: byte {}, {}", x.at, x.rule)), 0),
         }
     }
 
     /// One record that is known to be read; all but 0 to 4 leave the state as at entry.
     pub fn record(&mut self, r: &Record) -> Outcome {
-        if self.needs.is_empty() && (self.wider || r.types().into_iter().any(is_wider)) {
-            return Outcome::Silent(WIDER.into());
+        self.record_within(r, &[])
+    }
+
+    /// .. where a pair of MJ that was counted to be 7 or 8 is refused so, and core.rs is not asked: it knows neither limit
+    pub fn record_within(&mut self, r: &Record, pairs: &[u8]) -> Outcome {
+        match r {
+            _ if self.needs.is_empty() && (self.wider || r.types().into_iter().any(is_wider)) => {
+                Outcome::Silent(WIDER.into())
+            }
+            Record::MJ(all) => self.many(all, pairs),
+            _ => self.one(r),
         }
+    }
+
+    /// 02's R-8: one pair after the other, each in the state that the one before it left
+    fn many(&mut self, all: &[(TypingCase, Ty, Ty)], counted: &[u8]) -> Outcome {
+        let mut out = vec![];
+        for (i, (case, a, b)) in all.iter().enumerate() {
+            match counted.get(i) {
+                Some(n @ (7 | 8)) => put_pair(*n, &[], &mut out),
+                _ => match self.one(&case.record(a.clone(), b.clone())) {
+                    Outcome::Core(n, payload) => put_pair(n, &payload, &mut out),
+                    Outcome::Refused(n, _) => put_pair(n, &[], &mut out),
+                    silent => return silent,
+                },
+            }
+        }
+        Outcome::Core(0, out)
+    }
+
+    fn one(&mut self, r: &Record) -> Outcome {
         let (subst, vars, needs) = (self.ctx.subst.clone(), self.known.vars, self.needs.clone());
         let constraints: Vec<_> = self.ctx.constraints.iter().map(copy_of).collect();
         Counter::set(vars as u64);
@@ -849,6 +886,13 @@ impl Job {
         let place = (0..args.len()).find(|i| !phantom[*i] && self.lacks(ability, &args[*i])).unwrap();
         vec![2, place as u8]
     }
+}
+
+/// a pair of MJ's payload: number, length, payload
+pub fn put_pair(number: u8, payload: &[u8], out: &mut Vec<u8>) {
+    out.push(number);
+    out.extend((payload.len() as u16).to_le_bytes());
+    out.extend(payload)
 }
 
 //---- whole jobs ----------------------------------------------------------------------------------------

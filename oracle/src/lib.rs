@@ -93,6 +93,7 @@ pub mod job;
 pub mod lender;
 pub mod lent;
 pub mod list;
+pub mod many;
 pub mod order;
 pub mod program;
 pub mod release;

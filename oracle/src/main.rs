@@ -2,7 +2,7 @@
 use oracle::{
     bench,
     calls::{self, Calls},
-    compare, damage, gen, job, list, order, program, release, spelled, traps,
+    compare, damage, gen, job, list, many, order, program, release, spelled, traps,
 };
 use std::{
     fs,
@@ -26,6 +26,7 @@ oracle order [LIST]                                   what this build's map orde
 oracle compare SEED COUNT [RECORDS] [--alter=WHAT] [--profile=PROFILE]
                                                       the engine beside core.rs, on jobs from a seed
 oracle spelled SEED COUNT                             CN of COUNT pairs of jobs: equal bytes beside equal types
+oracle many                                           MJ at its edges
 oracle damage records|states|wild SEED COUNT           damaged records, damaged states
 oracle damage needs|literals SEED COUNT               every need on every variable; SV where needs stand anywhere
 oracle traps                                          types with more parts than nodes, deep and looped ones
@@ -203,6 +204,13 @@ fn run(args: Vec<String>) -> i32 {
                 }
             }
         }
+        Some("many") => match many::edges(engine(flag("--mimic"))) {
+            Ok(tried) => println!("{} calls, all as they must be", tried),
+            Err(what) => {
+                println!("FAULT: {}", what);
+                return 1;
+            }
+        },
         Some("bench") if words.get(1).map(String::as_str) == Some("once") => {
             let named = words.get(2).and_then(|w| bench::WORKS.into_iter().find(|n| n == w));
             let work = &bench::work(named.unwrap_or_else(|| fail(USAGE)));
@@ -225,12 +233,14 @@ fn run(args: Vec<String>) -> i32 {
             print!("{}", bench::table(engine(false), runs as usize))
         }
         Some("traps") => {
-            let (lines, slowest) = traps::run(engine(false));
+            let lines = traps::run(engine(false));
             lines.iter().for_each(|l| println!("{}", l.text()));
             traps::by_state(&lines).iter().for_each(|l| println!("{}", l));
             let [lent, job] = traps::most_stack(&lines);
-            println!("slowest call: {:.3} ms; most stack: {} bytes lent, {} as a job", slowest * 1000.0, lent, job);
-            return (slowest >= traps::LIMIT) as i32;
+            let [slow, many] = traps::slowest(&lines).map(|s| s * 1000.0);
+            println!("slowest call: {:.3} ms, slowest MJ: {:.3} ms", slow, many);
+            println!("most stack: {} bytes lent, {} as a job", lent, job);
+            return lines.iter().any(traps::Line::slow) as i32;
         }
         Some("damage") => return hurt(&words, engine(flag("--mimic"))),
         Some("joinlog") if words.len() == 2 => match program::run(engine(false), words[1].as_ref()) {

@@ -1,7 +1,7 @@
 //! joinlog, the program, beside one call of the engine's job over the whole stream: the same log, however the bytes come.
 use crate::{
     calls::{Calls, Lines},
-    gen::{random, Chance},
+    gen::{random, Chance, Profile},
     lent::fresh,
 };
 use std::{
@@ -19,7 +19,10 @@ const SECONDS: &str = "60";
 
 /// A job again and again: each record that was read once can be read again, so nothing in it ends the job.
 fn long(seed: u64, bytes: usize) -> Vec<u8> {
-    let part = random(seed, 0, 300, None, true).stream;
+    again(&random(seed, 0, 300, None, true).stream, bytes)
+}
+
+fn again(part: &[u8], bytes: usize) -> Vec<u8> {
     part.repeat(bytes.div_ceil(part.len()))
 }
 
@@ -68,7 +71,7 @@ fn parting(ours: &[u8], whole: &[u8]) -> String {
 /// UF of `&&..`, cut after the inner tag
 const DOUBLED: &[u8] = b"UF\x01\0\0\0\0\0\x01";
 
-/// Long streams: whole, ending in a cut record, ended by a 5 or an 18 on the way.
+/// Long streams: whole, ending in a cut record, ended by a 5 or an 18 on the way, and with MJs.
 pub fn run(calls: &dyn Calls, program: &Path) -> Result<String, String> {
     let stored = std::env::temp_dir().join(format!("joinlog-{}", std::process::id()));
     let mut told = String::new();
@@ -77,7 +80,11 @@ pub fn run(calls: &dyn Calls, program: &Path) -> Result<String, String> {
         let cut = stream[..stream.len() - 1].to_vec();
         let ended_by = |record: &[u8]| [&long(seed, BYTES / 2)[..], record, &stream[..]].concat();
         let (stopped, doubled) = (ended_by(b"??"), ended_by(DOUBLED));
-        for (name, bytes) in [("whole", &stream), ("cut", &cut), ("stopped", &stopped), ("doubled", &doubled)] {
+        // with MJs, whose lines want more room
+        let pairs = again(&random(seed, 0, 300, Some(Profile::Pairs), false).stream, BYTES);
+        let kinds =
+            [("whole", &stream), ("cut", &cut), ("stopped", &stopped), ("doubled", &doubled), ("pairs", &pairs)];
+        for (name, bytes) in kinds {
             let log = whole(calls, bytes);
             for pipe in [false, true] {
                 let ours = printed(program, bytes, pipe, &stored);

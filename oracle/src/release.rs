@@ -8,7 +8,8 @@ use crate::{
 };
 use pongiwaru::Answer;
 
-/// The first record of a job that is not well: its number, its answer, and of a 0 the codes of SV's rows or of XP.
+/// The first record of a job that is not well: its number, its answer, of MJ that of its first pair that is not well, and of a 0
+/// the codes of SV's rows or of XP.
 #[derive(Clone, Debug, PartialEq, Eq)]
 pub struct Told {
     pub record: usize,
@@ -51,7 +52,7 @@ const fn rows(codes: &'static [u8], records: fn(&Words) -> String) -> Fault {
 }
 
 /// every answer but 15, which no job from a fresh state has, and every code
-const FAULTS: [Fault; 37] = [
+const FAULTS: [Fault; 40] = [
     fault(1, |w| w.put("SU &T, &mut T")),
     fault(1, |w| w.put("SU (U, &vector<T>), (U, &mut vector<T>)")),
     fault(2, |w| w.put("JN vector<T>, vector<U>")),
@@ -59,6 +60,10 @@ const FAULTS: [Fault; 37] = [
     fault(3, |w| w.put("JN (T, U), (T,)")),
     fault(3, |w| w.put("SU (T, U), (T, U, T)")),
     fault(4, |w| w.put("FV\nJN V0, (vector<V0>, T)")),
+    // a pair's number stands for the answer's
+    fault(1, |w| w.put("MJ join T, T; subtype &T, &mut T")),
+    fault(2, |w| w.put("FV\nMJ join V0, T; join V0, U; join U, U")),
+    fault(10, |w| w.put("MJ join vector<T>{copy, drop}, vector<T>{drop}; join U, U")),
     fault(5, |w| w.put("UF T\nhex 5858")),
     fault(5, |w| w.put("hex 554609")),
     fault(5, |w| w.put("FV\nhex 4a4e060100")),
@@ -167,8 +172,9 @@ fn grow(stream: &mut Vec<u8>, maker: &mut Maker, records: usize) -> usize {
     for n in 0..2 * records {
         let (_, known) = all(stream);
         let between = maker.expansion(known.vars, &known.params);
+        let many = maker.many(known.vars, &known.params);
         let r = maker.record(n, known.vars, &known.params);
-        for r in between.into_iter().chain([r]) {
+        for r in between.into_iter().chain(many).chain([r]) {
             if added < records && well(stream, &r) {
                 stream.extend(r.bytes());
                 added += 1

@@ -1,6 +1,6 @@
 //! A job made smaller while it still shows something: fewer records, then smaller types, then zero fields.
 use crate::{
-    record::{read_record, Kind, Record, Ty},
+    record::{read_record, Kind, Record, Ty, TypingCase},
     text::any_variable,
 };
 
@@ -145,6 +145,7 @@ fn lower(t: &mut Ty, above: u16) {
 fn types_of(r: &mut Record) -> Vec<&mut Ty> {
     match r {
         Record::JN(a, b) | Record::SU(a, b) => vec![a, b],
+        Record::MJ(pairs) => pairs.iter_mut().flat_map(|(_, a, b)| [a, b]).collect(),
         Record::TS(args, t) => args.iter_mut().map(|(_, t)| t).chain([t]).collect(),
         Record::UF(t) | Record::RD(t) | Record::CN(t) | Record::IN(t) => vec![t],
         Record::RM(t) | Record::XP(t) => vec![t],
@@ -174,6 +175,7 @@ fn lighter_records(r: &Record) -> Vec<Record> {
         Record::FV(l) | Record::NV(l) | Record::SN(_, l) | Record::BC(l, _) | Record::SC(l, _) => *l = 0,
         Record::NC(l, k, _) => (*l, *k) = (0, 0),
         Record::NL(l, bits) => (*l, *bits) = (0, 1),
+        Record::MJ(pairs) => pairs.iter_mut().for_each(|(case, ..)| *case = TypingCase::Join),
         Record::SD(a, params) => {
             *a = 0;
             params.iter_mut().for_each(|p| *p = 0)
@@ -183,6 +185,12 @@ fn lighter_records(r: &Record) -> Vec<Record> {
     out.push(plain);
     if let Record::TS(args, t) = r {
         out.extend((0..args.len()).map(|i| Record::TS([&args[..i], &args[i + 1..]].concat(), t.clone())))
+    }
+    if let Record::MJ(pairs) = r {
+        if pairs.len() > 1 {
+            out.extend((0..pairs.len()).map(|i| Record::MJ([&pairs[..i], &pairs[i + 1..]].concat())))
+        }
+        out.extend(pairs.iter().map(|(case, a, b)| case.record(a.clone(), b.clone())))
     }
     let count = types_of(&mut r.clone()).len();
     for k in 0..count {

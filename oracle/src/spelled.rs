@@ -2,7 +2,7 @@
 //! resolved types agree, and whether an answer that a record may carry is answered with itself. Agreement is decided by
 //! a walk over core.rs's own types, which knows nothing of bytes.
 use crate::{
-    calls::{Calls, MIN_ANSWER},
+    calls::{answer_bytes, Calls, MIN_ANSWER},
     gen::{Chance, Maker},
     job::{ability_bits, mark_out, type_in, Job, Outcome},
     lender::Lender,
@@ -147,7 +147,7 @@ impl<'a> Side<'a> {
         if bytes.len() > MAX_RECORD {
             return Ok(None);
         }
-        let (outcome, answer) = (self.job.record(r), self.lender.record(&bytes, MIN_ANSWER)?);
+        let (outcome, answer) = (self.job.record(r), self.lender.record(&bytes, answer_bytes(&bytes))?);
         match &outcome {
             _ if matches!(answer.number, 7 | 8) => Ok(None),
             Outcome::Core(n, _) | Outcome::Refused(n, _) if *n as u32 == answer.number => {

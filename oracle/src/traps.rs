@@ -1,17 +1,20 @@
 //! States on which a walk written word for word would not end in practice: types with more parts than any machine
 //! counts, as deep as the tables allow, or running into themselves. Lent, and every record tried on each.
 use crate::{
-    calls::{Calls, LINE, MIN_ANSWER},
+    calls::{answer_bytes, line_bytes, Calls, MIN_ANSWER},
+    compare::pairs_shown,
     lender::{Answer, Lender},
     lent::{fresh, sound, Lent, MAX_NODES, MAX_VARS},
+    record::MAX_PAIRS,
     text::assemble,
 };
 use std::{
-    collections::{BTreeSet, VecDeque},
+    collections::{BTreeMap, BTreeSet, VecDeque},
     time::Instant,
 };
 
-/// seconds that a call may take: several times the slowest one's, since others may be at work on the machine
+/// seconds that a call may take, of an MJ for each pair: several times the slowest one's, since others may be at work on the
+/// machine
 pub const LIMIT: f64 = 0.2;
 /// the stack that every call fits, this caller's part of it included
 pub const STACK: usize = 768 << 10;
@@ -21,6 +24,8 @@ pub struct Line {
     pub record: String,
     pub number: u32,
     pub payload: usize,
+    /// of MJ the numbers of its pairs
+    pub pairs: Vec<u8>,
     /// the best of three
     pub seconds: f64,
     /// bytes of stack that the record took, lent and as a job, from the caller's frame on
@@ -32,7 +37,27 @@ impl Line {
         let (n, ms) = (self.number, self.seconds * 1000.0);
         let [lent, job] = self.stack;
         let answer = format!("{:<8} {:<34} {:>2}, {:>4} bytes, {:.3} ms", self.state, self.record, n, self.payload, ms);
-        format!("{}, stack {} and {}", answer, lent, job)
+        format!("{}{}, stack {} and {}", answer, self.of_pairs(), lent, job)
+    }
+
+    fn of_pairs(&self) -> String {
+        let mut counts = BTreeMap::new();
+        self.pairs.iter().for_each(|n| *counts.entry(n).or_insert(0) += 1);
+        let told: Vec<_> = counts.iter().map(|(n, count)| format!("{}: {}", n, count)).collect();
+        if told.is_empty() {
+            String::new()
+        } else {
+            format!(", pairs {}", told.join(", "))
+        }
+    }
+
+    fn is_many(&self) -> bool {
+        self.record.starts_with("MJ")
+    }
+
+    /// whether the call took longer than one may
+    pub fn slow(&self) -> bool {
+        self.seconds >= LIMIT * self.pairs.len().max(1) as f64
     }
 }
 
@@ -112,7 +137,8 @@ fn deep() -> Lent {
 }
 
 /// V0 is a type with all nodes but the spare ones, V2 what is 253 levels above its end V1. With one spare RD goes down all of it;
-/// with four a join of the two goes down 254 calls, and then looks for V1 in all that is left of V0.
+/// with four a join of the two goes down 254 calls, and then looks for V1 in all that is left of V0; with 128 so does each of 15
+/// pairs.
 fn deepest(reference: bool, spare: usize) -> Lent {
     let mut s = fresh();
     (0..8).for_each(|_| assert!(s.add_var().is_some()));
@@ -254,19 +280,38 @@ const RECORDS: [&str; 26] = [
     "SV",
 ];
 
+/// Pairs that an MJ has as often as it can, and pairs that it has once, before those.
+const MANY: [(&str, &str); 9] = [
+    ("", "join V0, V2"),
+    ("", "join V2, V0"),
+    ("", "subtype V0, V2"),
+    ("", "join V0, V0"),
+    ("", "join V4, (V0, V0)"),
+    ("", "join (V0, V0), (V2, V4)"),
+    ("", "join vector<V0>, (V2,)"),
+    ("", "join V3, V0"),
+    ("join V5, V2; subtype V6, u8; ", "join V0, V5"),
+];
+
+/// its name, and its text
+fn many((once, again): (&str, &str)) -> (String, String) {
+    let times = MAX_PAIRS - once.matches(';').count();
+    (format!("MJ {}{} times {}", once, times, again), format!("MJ {}{}", once, vec![again; times].join("; ")))
+}
+
 /// A record's answer; and as a job of this record alone it gives the same line and leaves the same state.
 fn tried(calls: &(dyn Calls + Sync), state: &'static str, lent: &Lent, record: &str) -> Line {
     let bytes = assemble(record, true).unwrap();
     let call = || {
         let mut lender = Lender::new(calls, lent);
-        lender.warm(MIN_ANSWER);
+        lender.warm(answer_bytes(&bytes));
         let start = Instant::now();
-        let a = lender.record(&bytes, MIN_ANSWER).unwrap();
+        let a = lender.record(&bytes, answer_bytes(&bytes)).unwrap();
         (start.elapsed().as_secs_f64(), a, lender.lent())
     };
     let job = || {
         let mut lender = Lender::new(calls, lent);
-        let (number, _, log) = lender.job(&bytes, false, LINE, 0).unwrap();
+        let (number, _, log) = lender.job(&bytes, false, line_bytes(&bytes), 0).unwrap();
         (number, log, lender.lent())
     };
     let (_, by_record) = on_a_thread(STACK, || painted(call));
@@ -288,6 +333,7 @@ fn tried(calls: &(dyn Calls + Sync), state: &'static str, lent: &Lent, record: &
         record: record.into(),
         number: a.number,
         payload: a.payload.len(),
+        pairs: pairs_shown(if bytes.starts_with(b"MJ") { &a.payload } else { &[] }).iter().map(|(n, _)| *n).collect(),
         seconds,
         stack: [by_record, by_job],
     }
@@ -355,16 +401,23 @@ fn asked(lent: &Lent, many: usize, kind: u32, set: u8) -> Lent {
     s
 }
 
-/// Of each state its answers, and its slowest call: the rows of docs/RUNS.md.
+/// Of each state its answers, those of MJ's pairs, and its slowest call and MJ: the rows of docs/RUNS.md.
 pub fn by_state(lines: &[Line]) -> Vec<String> {
+    fn told<T: Ord + ToString>(of: impl Iterator<Item = T>) -> String {
+        of.collect::<BTreeSet<_>>().iter().map(T::to_string).collect::<Vec<_>>().join(", ")
+    }
+    let slowest = |of: &mut dyn Iterator<Item = &Line>| {
+        let slow = of.max_by(|a, b| a.seconds.total_cmp(&b.seconds)).unwrap();
+        format!("{:.2} ms, {} ({})", slow.seconds * 1000.0, slow.record, slow.number)
+    };
     lines
         .chunk_by(|a, b| a.state == b.state)
         .map(|of| {
-            let answers: BTreeSet<_> = of.iter().map(|l| l.number).collect();
-            let answers: Vec<_> = answers.iter().map(|n| n.to_string()).collect();
-            let slow = of.iter().max_by(|a, b| a.seconds.total_cmp(&b.seconds)).unwrap();
-            let ms = slow.seconds * 1000.0;
-            format!("{}: {}; slowest {:.2} ms, {} ({})", slow.state, answers.join(", "), ms, slow.record, slow.number)
+            let (many, one): (Vec<_>, Vec<_>) = of.iter().partition(|l| l.is_many());
+            let (answers, pairs) =
+                (told(one.iter().map(|l| l.number)), told(many.iter().flat_map(|l| l.pairs.clone())));
+            let [slow, slow_many] = [one, many].map(|of| slowest(&mut of.into_iter()));
+            format!("{}: {}; slowest {}; pairs {}; slowest MJ {}", of[0].state, answers, slow, pairs, slow_many)
         })
         .collect()
 }
@@ -374,14 +427,21 @@ pub fn most_stack(lines: &[Line]) -> [usize; 2] {
     [0, 1].map(|k| lines.iter().map(|l| l.stack[k]).max().unwrap_or(0))
 }
 
-/// Every record on every state, each call on a thread of its own; and the slowest call's seconds.
-pub fn run(calls: &(dyn Calls + Sync)) -> (Vec<Line>, f64) {
+/// The seconds of the slowest call, MJ left out, and of the slowest MJ.
+pub fn slowest(lines: &[Line]) -> [f64; 2] {
+    let of = |many: bool| lines.iter().filter(move |l| l.is_many() == many).map(|l| l.seconds);
+    [of(false).fold(0.0, f64::max), of(true).fold(0.0, f64::max)]
+}
+
+/// Every record on every state, each call on a thread of its own.
+pub fn run(calls: &(dyn Calls + Sync)) -> Vec<Line> {
     let states = [
         ("ladder", ladder()),
         ("deep", deep()),
         ("deepest", deepest(true, 1)),
         ("lists", deepest(false, 1)),
         ("under", deepest(true, 4)),
+        ("beneath", deepest(true, 128)),
         ("turns", turns()),
         ("tower", tower(calls, false)),
         ("circle", tower(calls, true)),
@@ -399,6 +459,12 @@ pub fn run(calls: &(dyn Calls + Sync)) -> (Vec<Line>, f64) {
     for (name, lent) in &states {
         assert_eq!(sound(&lent.words, &lent.params), Ok(()), "{}", name);
         lines.extend(RECORDS.iter().map(|r| tried(calls, name, lent, r)));
+        for of in MANY {
+            let (named, text) = many(of);
+            let mut line = tried(calls, name, lent, &text);
+            line.record = named;
+            lines.push(line)
+        }
         let mut solved = tried(calls, name, &constrained(calls, lent), "SV");
         solved.record = "SV with constraints on V0".into();
         lines.push(solved);
@@ -413,6 +479,5 @@ pub fn run(calls: &(dyn Calls + Sync)) -> (Vec<Line>, f64) {
             lines.push(solved)
         }
     }
-    let slowest = lines.iter().map(|l| l.seconds).fold(0.0, f64::max);
-    (lines, slowest)
+    lines
 }

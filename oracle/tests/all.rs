@@ -2,7 +2,8 @@
 use joblog::{
     diff::{diff, Difference},
     location::blank_record,
-    pairs::Pairs,
+    pairs::{Pair, Pairs},
+    payload::Outcome as Said,
 };
 use oracle::{
     gen::{self, Chance, Made},
@@ -80,6 +81,34 @@ fn literals() {
         let log = log(&assemble(&job, false).unwrap());
         assert_eq!(log.lines().last(), Some(wanted), "{}", job)
     }
+}
+
+/// 02's R-8, the worked records: the second pair answered, refused, and refused once it has bound a variable
+#[test]
+fn pairs() {
+    let many = |middle: &str| format!("FV@1\nMJ join V0@2, u8@3; {}; join V0@9, u8@10\nFV@11", middle);
+    let refused = "join (V0@2, u8{copy, drop, store}@5)@6, (bool@7, u8@8)@9";
+    for (job, wanted) in [
+        (
+            many("subtype &@5 u8@6, &mut@7 u8@8"),
+            "0 000700 06020000000000 011a00 01050000000003060000000002 01070000000103080000000002 000700 060a0000000200",
+        ),
+        (many("join u8{copy, drop, store}@5, u8@6"), "0 000700 06020000000000 0a0000 000700 060a0000000200"),
+        (format!("FV@1\nMJ {}; join V0@10, u8@11\nRD V0", refused), "0 0a0000 000700 060a0000000000"),
+    ] {
+        let log = log(&assemble(&job, false).unwrap());
+        let answers: Vec<_> = log.lines().map(|l| l.split_once(' ').unwrap().1).collect();
+        assert_eq!(answers[1].replace(' ', ""), wanted.replace(' ', ""), "{}", job);
+        let last = if job.ends_with("RD V0") { "0 030b0000000002" } else { "0 060b0000000300" };
+        assert_eq!(answers[2], last, "{}", job)
+    }
+    // an error keeps what it took, and puts back what it bound; a refusal of a pair ends no job
+    let error = "FV\nMJ join (V0, u8), (bool, bool); join V0, u8\nUF V0";
+    assert_eq!((numbers(&asm(error)), last("MJ join u8, u8{drop}")), (vec![0, 0, 0], 0));
+    assert_eq!(last(&format!("{}MJ join V0, V1; join V1, V0", "FV\n".repeat(1023))), 0);
+    let full = format!("{}MJ join V0, V1; join V2, V3; join V1, V0\nFV", "FV\n".repeat(1023));
+    let log = log(&asm(&full));
+    assert!(log.ends_with("\n1024 7\n") && log.contains("070000"), "{}", log.lines().nth(1023).unwrap())
 }
 
 /// 02's R-1: core.rs's failures of code 4 with ability, type and rule; 9 and 16 by the driver, in list order
@@ -265,7 +294,7 @@ fn every_mark_and_answer_is_made() {
     let entries: Vec<_> = with_stack(|| made().iter().map(list::entry).collect());
     let counts = list::counts(&entries);
     let marks: BTreeSet<_> = counts.keys().map(|(m, _)| m.as_str()).collect();
-    let all = ["BC", "CN", "FV", "IN", "JN", "NC", "NV", "RD", "SC", "SD", "SN", "SU", "SV", "TS", "UF", "XP"];
+    let all = ["BC", "CN", "FV", "IN", "JN", "MJ", "NC", "NV", "RD", "SC", "SD", "SN", "SU", "SV", "TS", "UF", "XP"];
     assert_eq!(marks.into_iter().collect::<Vec<_>>(), all);
     for n in [0, 2, 3, 4] {
         assert!(counts[&("JN".to_string(), n)] > 20, "JN {}", n)
@@ -363,11 +392,15 @@ fn every_made_job_can_be_shown() {
 
 //---- releases ------------------------------------------------------------------------------------------------------
 
-/// the number and answer of the first record that is not well
+/// the number of the first record that is not well, and its answer, of MJ that of its first pair that is not
 fn first_fault(stream: &[u8]) -> Option<(usize, usize)> {
     let log = log(stream);
     let mut pairs = Pairs::new(stream, &log).map(|p| p.unwrap());
-    pairs.find(|p| !p.payload.is_well()).map(|p| (p.n, p.number))
+    let number = |p: &Pair| match &p.payload {
+        Said::Pairs(all) => all.iter().map(Said::number).find(|n| *n > 0).unwrap_or(0),
+        said => said.number(),
+    };
+    pairs.find(|p| !p.payload.is_well()).map(|p| (p.n, number(&p)))
 }
 
 /// What is told of a release is what core.rs's side says; 8, and 7 for nodes, it does not know.

@@ -2,14 +2,16 @@
 //! linked, on the engine.
 use oracle::{
     bench,
-    calls::{engine, job_of, Calls, Lines, Mimic, MIN_ANSWER},
+    calls::{answer_bytes, engine, job_of, line_bytes, Calls, Lines, Mimic, LINE, MIN_ANSWER},
     compare::{self, Alter, Altered, Tally, ALTERS},
+    count::counted,
     damage,
     gen::{self, Chance, Profile},
-    job::{is_wider, with_stack, Job, Outcome},
+    job::{is_wider, put_pair, with_stack, Job, Outcome},
     lender::Lender,
-    lent::{encode, fresh, sound, Lent, Params},
-    record::read_record,
+    lent::{encode, fresh, sound, Lent, Params, View},
+    many,
+    record::{read_record, Record},
     spelled,
     text::{any_variable, assemble, disassemble},
     traps,
@@ -171,6 +173,60 @@ fn the_engine_agrees_with_core_rs() {
     })
 }
 
+/// 02's R-8: refused pairs among pairs that go on, by each number that a pair can have
+#[test]
+fn pairs_of_one_record() {
+    if cfg!(feature = "hashmap") {
+        return;
+    }
+    with_stack(|| {
+        for calls in all() {
+            assert!(many::edges(calls).unwrap() > 80);
+            let mut tally = Tally::default();
+            let found = compare::many(calls, 36, 150, 25, Some(Profile::Pairs), &mut tally);
+            assert!(found.is_none(), "{}", compare::report(&found.unwrap()));
+            for i in 0..40 {
+                let m = gen::pairs_at_limits(37, i);
+                let found = compare::stream(calls, &fresh(), &m.stream, &mut Chance::new(37, i), &mut tally);
+                assert!(found.is_ok(), "{}: {}", m.name, found.unwrap_err().what)
+            }
+            let had = |n: u8| tally.pairs.get(&n).copied().unwrap_or(0);
+            assert!([0, 1, 2, 3, 4, 7, 10, 14].into_iter().all(|n| had(n) > 3), "{:?}", tally.pairs);
+            assert!(had(8) > 3 || !calls.counts(), "{:?}", tally.pairs)
+        }
+    })
+}
+
+/// What counting says of each pair is what core.rs's `join` answers, where neither comes to a limit that core.rs has not.
+#[test]
+fn pairs_are_counted_as_core_rs_answers_them() {
+    if cfg!(feature = "hashmap") {
+        return;
+    }
+    with_stack(|| {
+        let (mut held, mut limits) = (0, 0);
+        for i in 0..120 {
+            let (m, mut job, mut at) = (gen::random(38, i, 20, Some(Profile::Pairs), false), Job::new(), 0);
+            while at < m.stream.len() {
+                let (r, n) = read_record(&m.stream[at..], job.known()).unwrap();
+                let declared: Vec<_> = (0..job.known().params.len()).map(|i| job.declared(i)).collect();
+                let before = encode(&job.state(), &declared);
+                let outcome = job.record(&r);
+                at += n;
+                let (Record::MJ(_), Some(before)) = (&r, before) else { continue };
+                let c = counted(before.view(), &r);
+                if c.number == 7 || c.pairs.iter().any(|n| matches!(n, 7 | 8)) {
+                    limits += 1;
+                    continue;
+                }
+                assert_eq!(outcome, Outcome::Core(0, c.payload.unwrap()), "{}", m.name);
+                held += 1
+            }
+        }
+        assert!(held > 500, "{} held, {} at limits", held, limits)
+    })
+}
+
 /// 02's R-7
 #[test]
 fn literals_beside_a_second_reading() {
@@ -200,7 +256,9 @@ fn altered_answers_are_found_and_shrunk() {
     }
     with_stack(|| {
         for calls in all() {
-            for alter in ALTERS.into_iter().filter(|a| calls.counts() || !matches!(a, Alter::Count | Alter::Told)) {
+            for alter in
+                ALTERS.into_iter().filter(|a| calls.counts() || !matches!(a, Alter::Count | Alter::Told | Alter::Kept))
+            {
                 let altered = Altered { calls, alter };
                 let profile = (alter == Alter::Need).then_some(Profile::Numbers);
                 let found = compare::many(&altered, 32, 100, 25, profile, &mut Tally::default());
@@ -209,7 +267,7 @@ fn altered_answers_are_found_and_shrunk() {
                 assert!(compare::disagrees(&altered, &small.start, &small.stream).is_some());
                 assert!(compare::disagrees(calls, &small.start, &small.stream).is_none());
                 let text = disassemble(&small.stream);
-                assert!(text.lines().count() <= 3 && small.stream.len() <= 40, "{:?}: {}", alter, text)
+                assert!(text.lines().count() <= 3 && small.stream.len() <= 42, "{:?}: {}", alter, text)
             }
         }
     })
@@ -332,9 +390,16 @@ enum Careless {
     GoesOnAfterDoubled,
     WiderUnread,
     WiderUnsound,
+    /// an MJ with a buffer for others, and others with none for an MJ
+    ShortMany,
+    LongForOne,
+    /// an MJ in a log with room for others
+    ShortLog,
+    /// each pair in the state that the record began with
+    FromTheStart,
 }
 
-const CARELESS: [Careless; 12] = [
+const CARELESS: [Careless; 16] = [
     Careless::PastAnswer,
     Careless::BesideWords,
     Careless::TakesUnsound,
@@ -347,11 +412,53 @@ const CARELESS: [Careless; 12] = [
     Careless::GoesOnAfterDoubled,
     Careless::WiderUnread,
     Careless::WiderUnsound,
+    Careless::ShortMany,
+    Careless::LongForOne,
+    Careless::ShortLog,
+    Careless::FromTheStart,
 ];
 
 fn read_as_wider(lent: &Lent, record: &[u8]) -> bool {
     let read = read_record(record, job_of(lent.view()).known());
     read.is_ok_and(|(r, _)| r.types().into_iter().any(is_wider))
+}
+
+/// An MJ whose pairs do not know of one another.
+fn from_the_start(w: &mut [u32], p: &mut Params, record: &[u8], a: &mut [u8], length: &mut u32) -> Option<u32> {
+    let read = read_record(record, job_of(View { words: w, params: p }).known()).ok();
+    let (Record::MJ(pairs), n) = read.filter(|_| sound(w, p).is_ok())? else { return None };
+    if n < record.len() || a.len() < answer_bytes(record) {
+        return None;
+    }
+    let (start, mut out) = (Lent { words: w.to_vec(), params: *p }, vec![]);
+    for (case, x, y) in pairs {
+        (w.copy_from_slice(&start.words), *p = start.params);
+        let number = Mimic.record(w, p, &case.record(x, y).bytes(), a, length);
+        put_pair(number as u8, &a[..*length as usize], &mut out)
+    }
+    a[..out.len()].copy_from_slice(&out);
+    *length = out.len() as u32;
+    Some(0)
+}
+
+impl Careless {
+    /// what those that are careless about MJ answer
+    fn of_many(&self, w: &mut [u32], p: &mut Params, r: &[u8], a: &mut [u8], length: &mut u32) -> Option<u32> {
+        match self {
+            Careless::ShortMany if (MIN_ANSWER..answer_bytes(r)).contains(&a.len()) => {
+                let mut long = vec![0; answer_bytes(r)];
+                let number = Mimic.record(w, p, r, &mut long, length);
+                a[..*length as usize].copy_from_slice(&long[..*length as usize]);
+                Some(number)
+            }
+            Careless::LongForOne if r == b"M" && a.len() < answer_bytes(b"MJ") => {
+                *length = 0;
+                Some(15)
+            }
+            Careless::FromTheStart => from_the_start(w, p, r, a, length),
+            _ => None,
+        }
+    }
 }
 
 impl Calls for Careless {
@@ -360,6 +467,9 @@ impl Calls for Careless {
     }
     fn record(&self, w: &mut [u32], p: &mut Params, r: &[u8], a: &mut [u8], length: &mut u32) -> u32 {
         let (end, first) = (a.len(), w.as_mut_ptr());
+        if let Some(number) = self.of_many(w, p, r, a, length) {
+            return number;
+        }
         let lent = Lent { words: w.to_vec(), params: *p };
         match (self, Mimic.record(w, p, r, a, length)) {
             // the guards stand there, in the same allocation
@@ -395,6 +505,12 @@ impl Calls for Careless {
         }
     }
     fn job(&self, w: &mut [u32], p: &mut Params, s: &[u8], more: bool, log: &mut [u8], lines: &mut Lines) -> u32 {
+        if let (Careless::ShortLog, true) = (self, (LINE..line_bytes(s)).contains(&log.len())) {
+            let mut long = vec![0; line_bytes(s)];
+            let number = Mimic.job(w, p, s, more, &mut long, lines);
+            log[..lines.written].copy_from_slice(&long[..lines.written]);
+            return number;
+        }
         let number = Mimic.job(w, p, s, more, log, lines);
         if let Careless::GoesOnAfterDoubled = self {
             lines.ended &= !log[..lines.written].ends_with(b" 18\n")
@@ -410,7 +526,8 @@ fn careless_calls_are_found() {
             let mut tally = damage::Tally::default();
             let found = damage::records(careless, 61, 20, &mut tally)
                 .and_then(|_| damage::wild(careless, 42, 6, &mut tally))
-                .and_then(|_| damage::lend(&mut Lender::new(careless, &wider()), b"SV", MIN_ANSWER, &mut tally));
+                .and_then(|_| damage::lend(&mut Lender::new(careless, &wider()), b"SV", MIN_ANSWER, &mut tally))
+                .and_then(|_| many::edges(careless).map(drop));
             assert!(found.is_err(), "fault {}", i)
         }
     })
@@ -465,7 +582,7 @@ fn the_header_promises_the_stack_that_is_tried_and_256_kib() {
 #[test]
 fn traps_are_answered_at_once() {
     let Some(engine) = engine() else { return };
-    let (lines, slowest) = traps::run(engine);
+    let lines = traps::run(engine);
     let number =
         |state: &str, record: &str| lines.iter().find(|l| l.state == state && l.record == record).unwrap().number;
     assert_eq!((number("ladder", "RD V0"), number("ladder", "UF V0"), number("ladder", "JN V0, V2")), (7, 14, 7));
@@ -481,7 +598,14 @@ fn traps_are_answered_at_once() {
     assert_eq!((asks_for("a number"), asks_for("bits"), asks_for("an order")), (0, 0, 0));
     let all_four = lines.iter().find(|l| l.state == "numeric" && l.record == "SV, 60 ask for all four").unwrap();
     assert!(all_four.number == 0 && all_four.payload > 4000, "{}", all_four.text());
-    assert!(slowest < traps::LIMIT, "{} s", slowest);
+    let pairs =
+        |state: &str, record: &str| &lines.iter().find(|l| l.state == state && l.record == record).unwrap().pairs;
+    // at once, each of them; and in `beneath` each goes down all 254 calls
+    assert_eq!(*pairs("ladder", "MJ 15 times join V0, V2"), [7; 15]);
+    assert_eq!(*pairs("ladder", "MJ 15 times join V0, V0"), [0; 15]);
+    assert_eq!(*pairs("beneath", "MJ 15 times join V0, V2"), [4; 15]);
+    assert!(lines.iter().any(|l| l.pairs == [14; 15]));
+    lines.iter().for_each(|l| assert!(!l.slow(), "{}", l.text()));
     // what is deepest is seen: a type 2,046 deep, 100 bytes a level and more
     let stacks = traps::most_stack(&lines);
     assert!(stacks.iter().all(|stack| (2046 * 100..traps::STACK).contains(stack)), "{:?}", stacks)

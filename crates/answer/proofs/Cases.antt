@@ -8,7 +8,7 @@ use Rattle.std.specs.Prelude.{if◌then◌else◌, Ok, Err}
 use Rattle.definition.specs.Types.{State, Struct, Result, ok, err, refused, ◌>>=◌, TypingError, answer_too_long}
 use Rattle.definition.specs.Write.{Bytes, write_error}
 use Rattle.definition.specs.Step as step
-use Rattle.definition.specs.Step.{answer, answer_with, refusal, put_back, number_of_error}
+use Rattle.definition.specs.Step.{answer, answer_with, answer_within, max_payload, refusal, put_back, number_of_error}
 use Rattle.theorems.specs.ReadySpelled.{with_state}
 use Rattle.ready.specs.Spell.{Spells, spelt, too_long, stopped}
 use Rattle.refusals.specs.Refusals.{refusal_of}
@@ -45,7 +45,7 @@ module _ (w : List ℕ) (u before : Used) (saved : Rows) (buf : List ℕ) where
 
   -- an error
   module _ (show : Show) (e : TypingError) (number : ℕ) (numbered : number_of_error e ≡ number) (writes : (s : State) → write_error s e ≡ shown show 0 s) where
-    with_shown : (after before : State) → failure e after before ≡ answer_with before number (shown show 0 after) (put_back before after)
+    with_shown : (after before : State) → failure e after before ≡ answer_with max_payload before number (shown show 0 after) (put_back before after)
     with_shown after before = failure_with e after before ∙ rw (numbered, writes after)
 
     pub failure_long : (w' buf' : List ℕ) (r : Answer) → ((ds : List Struct) → 4096 < length (shown show 0 (seen w u ds))) → Answers w u before saved buf w' buf' r (refused_by answer_too_long) → Answers w u before saved buf w' buf' r (failure e)
@@ -68,7 +68,7 @@ module _ {m : Result Bytes} {buf buf' : List ℕ} where
   told_bytes (spelt e l h) = rw e (refl, l, h)
 
   told_refusal : {x : Refusal} → Spells m buf buf' (Err x) → (before : State) → answer before (with_state before m) ≡ refusal before (refusal_of x)
-  unfolding answer with_state ◌>>=◌
+  unfolding answer answer_within with_state ◌>>=◌
   told_refusal (too_long {b = b} e l q) before = rw e (answer_long before 0 b before l)
   told_refusal (stopped e q) before = rw e refl
 
@@ -79,10 +79,10 @@ module _ {m : Result Bytes} {buf buf' : List ℕ} where
 module _ (w : List ℕ) (u before : Used) (saved : Rows) (buf w' buf' : List ℕ) (tell : State → Result Bytes) where
   pub spelled_back : (len : ℕ) → ((ds : List Struct) → Spells (tell (seen w u ds)) buf buf' (Ok len)) → Undone w u w' before saved × Stay saved.touched before.vars w w'
       → Answers w u before saved buf w' buf' (record { number = 0; len = len; used = before; kept = false }) (told_by tell)
-  unfolding answer with_state ◌>>=◌
+  unfolding answer answer_within with_state ◌>>=◌
   spelled_back len h back =
       let bytes : State → Bytes = λ s. bytes_of (tell s) in
-      let plain : State → State → step.Answer = λ after s. answer_with s 0 (bytes after) s in
+      let plain : State → State → step.Answer = λ after s. answer_with max_payload s 0 (bytes after) s in
       answers_is w u before saved buf w' buf' _ plain (told_by tell) (λ ds s. let e = (told_bytes (h ds)).0 in ap (λ (m : Result Bytes). answer s (with_state s m)) e)
       (goes_back w u before saved plain 0 bytes (λ after s. s) (λ after s. refl) w' buf buf' len (λ ds. (told_bytes (h ds)).1) (λ ds. (told_bytes (h ds)).2) back (λ after s. refl))
 
@@ -101,5 +101,5 @@ module _ (r : Ran) (after before : State) where
   is_failed x e = rw e
 
   pub is_refused : (x : Refusal) → r.result ≡ Err (Refused x) → answered r after before ≡ refused_by (refusal_of x) after before
-  unfolding ran outcome ◌>>=◌ answer
+  unfolding ran outcome ◌>>=◌ answer answer_within
   is_refused x e = rw e

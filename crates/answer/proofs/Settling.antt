@@ -11,7 +11,7 @@ use Rattle.definition.specs.Types.{State, Struct, TypingError, Refusal, answer_t
 use Rattle.definition.specs.Store.{with_structs}
 use Rattle.definition.specs.Write.{Bytes, write_error}
 use Rattle.definition.specs.Step as step
-use Rattle.definition.specs.Step.{answer, answer_with, refusal, put_back, max_payload, number_of_error, number_of_refusal}
+use Rattle.definition.specs.Step.{answer, answer_with, answer_within, refusal, put_back, max_payload, number_of_error, number_of_refusal}
 use Rattle.table.specs.State.{view, seen, Lay, Declares}
 use Rattle.table.specs.declared.Used.{Used}
 use Rattle.snapshot.specs.Snap.{Rows, Since, PutBack, GivenBack, Undone}
@@ -33,20 +33,20 @@ use Rattle.payload.proofs.Payload.{wrote_payload, wrote_rest, wrote_few}
 
 -- ---- the definition's answers
 
-answer_fits : (before : State) (n : ℕ) (p : Bytes) (after : State) → length p ≤ 4096 → answer_with before n p after ≡ record { number = n; payload = p; state = after }
+answer_fits : (before : State) (n : ℕ) (p : Bytes) (after : State) → length p ≤ 4096 → answer_with max_payload before n p after ≡ record { number = n; payload = p; state = after }
 unfolding answer_with max_payload
 answer_fits before n p after h = rw (le-leb (length p) 4096 h)
 
-pub answer_long : (before : State) (n : ℕ) (p : Bytes) (after : State) → 4096 < length p → answer_with before n p after ≡ refusal before answer_too_long
+pub answer_long : (before : State) (n : ℕ) (p : Bytes) (after : State) → 4096 < length p → answer_with max_payload before n p after ≡ refusal before answer_too_long
 unfolding answer_with max_payload
 answer_long before n p after h = rw (lt-leb (length p) 4096 h)
 
-pub success_with : (kept : Bool) (show : Show) (t : ℕ) (after before : State) → success kept show t after before ≡ answer_with before 0 (shown show t after) (if kept then after else before)
-unfolding answer
+pub success_with : (kept : Bool) (show : Show) (t : ℕ) (after before : State) → success kept show t after before ≡ answer_with max_payload before 0 (shown show t after) (if kept then after else before)
+unfolding answer answer_within
 success_with kept show t after before = refl
 
-pub failure_with : (e : TypingError) (after before : State) → failure e after before ≡ answer_with before (number_of_error e) (write_error after e) (put_back before after)
-unfolding answer
+pub failure_with : (e : TypingError) (after before : State) → failure e after before ≡ answer_with max_payload before (number_of_error e) (write_error after e) (put_back before after)
+unfolding answer answer_within
 failure_with e after before = refl
 
 -- ---- states
@@ -93,7 +93,7 @@ module _ (w : List ℕ) (u before : Used) (saved : Rows) where
       }
 
   -- f answers with this number, the payload p and the state q, if that is not too long
-  module _ (f : State → State → step.Answer) (number : ℕ) (p : State → Bytes) (q : State → State → State) (with : (after before : State) → f after before ≡ answer_with before number (p after) (q after before)) where
+  module _ (f : State → State → step.Answer) (number : ℕ) (p : State → Bytes) (q : State → State → State) (with : (after before : State) → f after before ≡ answer_with max_payload before number (p after) (q after before)) where
     pub long : (w' buf buf' : List ℕ) (r : Answer) → ((ds : List Struct) → 4096 < length (p (seen w u ds))) → Answers w u before saved buf w' buf' r (refused_by answer_too_long)
         → Answers w u before saved buf w' buf' r f
     long w' buf buf' r h a = answers_is w u before saved buf w' buf' r (refused_by answer_too_long) f (λ ds s. with (seen w u ds) s ∙ answer_long s number _ _ (h ds)) a

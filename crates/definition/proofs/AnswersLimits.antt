@@ -65,11 +65,11 @@ deep leaf n = record {
 }
 
 -- the test of the length alone; of a type so long, by a whole call, in EdgeLimits
-pub payload_4096 : (answer_with fresh 0 (replicate 4096 0) fresh).number ≡ 0
+pub payload_4096 : (answer_with max_payload fresh 0 (replicate 4096 0) fresh).number ≡ 0
 unfolding answer_with max_payload
 payload_4096 = refl
 
-pub payload_4097_is_14 : (answer_with fresh 0 (replicate 4097 0) fresh).number ≡ 14
+pub payload_4097_is_14 : (answer_with max_payload fresh 0 (replicate 4097 0) fresh).number ≡ 14
 unfolding answer_with max_payload refusal number_of_refusal
 payload_4097_is_14 = refl
 

@@ -52,7 +52,7 @@ pub IN_of_a_variable_is_11 : after (FV 1 ∷ []) (IN (list 2 (u8 3 ∷ var 4 0 �
 unfolding after
 IN_of_a_variable_is_11 = refl
 
-pub fourteen_leaves_the_state : count (answer_with fresh 0 (replicate 4097 0) (filled 1 0 0 0 0)).state ≡ 0
+pub fourteen_leaves_the_state : count (answer_with max_payload fresh 0 (replicate 4097 0) (filled 1 0 0 0 0)).state ≡ 0
 unfolding answer_with max_payload refusal number_of_refusal
 fourteen_leaves_the_state = refl
 

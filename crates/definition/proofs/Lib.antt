@@ -4,6 +4,7 @@ pub mod AnswersNeeds
 pub mod AnswersOccurs
 pub mod AnswersReading
 pub mod AnswersRecords
+pub mod AnswersMany
 pub mod AnswersReferences
 pub mod AnswersSolve
 pub mod AnswersSolveAbilities

@@ -2,6 +2,7 @@
 use Rattle.std.specs.Prelude.{◌∷◌}
 use Rattle.definition.specs.Types.{List, [], ℕ, UnitType, Ref, Param, Apply, Var, Anything, UnresolvedError, State, Result, ok, ◌>>=◌}
 use Rattle.definition.specs.Store.{sp}
+use Rattle.definition.specs.Join.{TypingCase}
 use Rattle.definition.specs.Trees.{Tree, unit_tree, anything_tree, error_tree, ref_tree, param_tree, apply_tree, var_tree, Trees, no_trees, ◌then◌}
 
 unfoldable mutual
@@ -22,3 +23,12 @@ unfoldable mutual
 unfoldable pub build_pairs : List (ℕ × Tree) → State → Result (State × List (ℕ × ℕ))
 build_pairs [] s = ok (s, [])
 build_pairs ((id, t) ∷ pairs) s = do (s, t) ← build t s; (s, pairs) ← build_pairs pairs s; ok (s, (id, t) ∷ pairs)
+
+-- MJ's types, from left to right over all pairs
+unfoldable pub build_many : List (TypingCase × Tree × Tree) → State → Result (State × List (TypingCase × ℕ × ℕ))
+build_many [] s = ok (s, [])
+build_many ((case, t1, t2) ∷ pairs) s = do
+  (s, lhs) ← build t1 s
+  (s, rhs) ← build t2 s
+  (s, pairs) ← build_many pairs s
+  ok (s, (case, lhs, rhs) ∷ pairs)

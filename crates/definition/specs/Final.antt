@@ -240,7 +240,7 @@ Placing s = (tree : Tree) → (build tree s ≡ refused full) ↔ (¬ RoomFor s 
 
 -- 7 exactly if placing the type finds no room
 unfoldable pub XPSeven : State → Type 0
-XPSeven s = (bytes : Bytes) (buffer : ℕ) (tree : Tree) → usable s buffer ≡ true → read_record s bytes ≡ got (XP tree) [] → ((step s bytes buffer).number ≡ 7) ↔ (build tree s ≡ refused full)
+XPSeven s = (bytes : Bytes) (buffer : ℕ) (tree : Tree) → usable s bytes buffer ≡ true → read_record s bytes ≡ got (XP tree) [] → ((step s bytes buffer).number ≡ 7) ↔ (build tree s ≡ refused full)
 
 -- no variable is left, and every name has a mark
 unfoldable pub FinalWhole : State → Type 0
@@ -254,7 +254,7 @@ ExpandedReads s s' = (bytes : Bytes) (buffer : ℕ) (tree : Tree) (p : Bytes) �
 -- XP of it, where there is room to read it: 17 if a list or struct is in it, else the same bytes and no code
 unfoldable pub ExpandAgain : State → State → Type 0
 ExpandAgain s s' = (bytes : Bytes) (buffer buffer' : ℕ) (tree : Tree) (p : Bytes) → IsBytes bytes → read_record s bytes ≡ got (XP tree) [] → sound s ≡ true → (x : Shown s tree p) → s.structs ≡ s'.structs
-    → Nested 64 x.final → length (spelled x.final) ≤ 4094 → usable s' buffer' ≡ true → build x.final s' ≢ refused full
+    → Nested 64 x.final → length (spelled x.final) ≤ 4094 → usable s' (88 ∷ 80 ∷ spelled x.final) buffer' ≡ true → build x.final s' ≢ refused full
     → (Contains x.final → (step s' (88 ∷ 80 ∷ spelled x.final) buffer').number ≡ 17)
     × (¬ Contains x.final → ((step s' (88 ∷ 80 ∷ spelled x.final) buffer').number ≡ 0) × ((step s' (88 ∷ 80 ∷ spelled x.final) buffer').payload ≡ spelled x.final))
 

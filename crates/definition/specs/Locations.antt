@@ -1,6 +1,6 @@
 -- 02, R-4: which bytes of a record and of a payload are location fields; a job, and what it is answered, with these fields set to 0.
 -- Assumes nothing: these are definitions.
-use Rattle.std.specs.Prelude.{◌≡◌, ◌&&◌, ◌∷◌, ◌++◌, ◌+◌, ◌*◌, if◌then◌else◌}
+use Rattle.std.specs.Prelude.{◌≡◌, ◌&&◌, ◌∷◌, ◌++◌, ◌+◌, ◌-◌, ◌*◌, if◌then◌else◌}
 use Rattle.definition.specs.Types.{List, [], ℕ, zero, suc, length, get_or, take, drop, replicate, eqb, Builtin, ModuleType, State, fresh}
 use Rattle.definition.specs.Store.{count, taken}
 use Rattle.definition.specs.Trees.{arity}
@@ -20,6 +20,11 @@ pub data Part : Type 0 where
   failures rule : Part
   -- the code of a variable that is not inferred, in a row that goes on to the end
   codes : Part
+  -- R-8: MJ's count of pairs. In its payload a pair's number, the two bytes of its length, and a row of types of so many bytes more
+  many pair : Part
+  pair_low : ℕ → Part
+  pair_high : ℕ → ℕ → Part
+  types_in : ℕ → Part
 
 unfoldable pub loc_field : List Part
 loc_field = location ∷ location ∷ location ∷ location ∷ []
@@ -42,6 +47,14 @@ unfoldable pub pair_fields : ℕ → List Part
 pair_fields zero = []
 pair_fields (suc n) = u32_field ++ type ∷ pair_fields n
 
+unfoldable pub many_fields : ℕ → List Part
+many_fields zero = []
+many_fields (suc n) = plain ∷ type ∷ type ∷ many_fields n
+
+-- a row of types of n bytes
+unfoldable pub row : ℕ → List Part
+row n = if eqb n 0 then [] else types_in n ∷ []
+
 -- what stands for a byte b, 0 for a location's, and what b brings, before all that is awaited already. The state tells a struct's arity
 unfoldable pub expand : State → Part → ℕ → ℕ × List Part
 expand s plain b = (b, [])
@@ -56,6 +69,11 @@ expand s pairs b = (b, pair_fields b ++ (type ∷ []))
 expand s failures b = (b, loc_field ++ (if eqb b 4 then plain ∷ type ∷ rule ∷ [] else type ∷ failures ∷ []))
 expand s codes b = (b, loc_field ++ (codes ∷ []))
 expand s rule b = (b, if eqb b 2 then plain ∷ failures ∷ [] else failures ∷ [])
+expand s many b = (b, many_fields b)
+expand s pair b = (b, pair_low b ∷ [])
+expand s (pair_low number) b = (b, pair_high number b ∷ [])
+expand s (pair_high number low) b = (b, (if eqb number 4 then loc_field else row (low + 256 * b)) ++ (pair ∷ []))
+expand s (types_in n) b = (b, loc_field ++ replicate (get_or tag_widths b 0) plain ++ row (n - 5 - get_or tag_widths b 0))
 
 -- the bytes with every location field set to 0. Where nothing is awaited they stay as they are
 unfoldable pub blank : State → Bytes → List Part → Bytes
@@ -64,7 +82,7 @@ blank s (b ∷ bytes) [] = b ∷ bytes
 blank s (b ∷ bytes) (part ∷ awaited) = (expand s part b).0 ∷ blank s bytes ((expand s part b).1 ++ awaited)
 
 -- ---- records
--- what stands after each mark, and what 0 shows: SD a number, RM four, CN a type without locations, SV its failures, XP a type and its codes, the others types or nothing
+-- what stands after each mark, and what 0 shows: SD a number, RM four, CN a type without locations, SV its failures, XP a type and its codes, MJ its pairs, the others types or nothing
 unfoldable pub mark_fields : List (ℕ × ℕ × List Part × List Part)
 mark_fields =
     (83, 68, [], []) ∷
@@ -85,6 +103,7 @@ mark_fields =
     (67, 78, type ∷ [], []) ∷
     (88, 80, type ∷ [], type ∷ codes ∷ []) ∷
     (78, 76, loc_field ++ (plain ∷ plain ∷ []), types ∷ []) ∷
+    (77, 74, many ∷ [], pair ∷ []) ∷
     []
 
 unfoldable pub after_mark : List (ℕ × ℕ × List Part × List Part) → ℕ → ℕ → List Part × List Part

@@ -3,7 +3,7 @@
 use mathlib.Core.Path.{◌≡◌, refl, sym, ap, ap₂, ◌∙◌}
 use mathlib.Core.Bool.{Bool, true, false, ◌&&◌}
 use mathlib.Core.List.{List, [], ◌++◌}
-use Prim.Native.Nat.{ℕ, ◌-◌, ◌≤◌}
+use Prim.Native.Nat.{ℕ, ◌-◌, ◌≤◌, ◌<◌}
 use native.Mathlib.Omega.{arith}
 use lib.Dec.{leb}
 use lib.ListN.{length, take, drop, length-take, length-drop}
@@ -13,10 +13,10 @@ use Rattle.definition.specs.Write.{Bytes}
 use Rattle.definition.specs.Record.{read_record}
 use Rattle.definition.specs.Sound.{sound}
 use Rattle.definition.specs.Step as step
-use Rattle.definition.specs.Step.{lent, step, step_stream, usable, max_buffer}
-use Rattle.pieces.specs.Pieces.{next_lines}
-use Rattle.theorems.proofs.SoundKept.{trusted}
-use Rattle.theorems.proofs.Soundness.{and, le_test}
+use Rattle.definition.specs.Step.{lent, step, least_buffer, usable}
+use Rattle.pieces.specs.Pieces.{line_room, max_line, next_lines}
+use Rattle.pieces.proofs.Pieces.{room_enough}
+use Rattle.theorems.proofs.SoundKept.{usable_enough}
 use Rattle.table.specs.Encode.{encode}
 use Rattle.table.specs.State.{Lay, Declares}
 use Rattle.table.specs.Did.{held as seen_in}
@@ -44,17 +44,22 @@ last_is e f = f ∙ e
 
 -- ---- one lent record
 
+-- a payload's length is far below 2 to the 32
+pub few_bytes : (bytes : Bytes) (n : ℕ) → n ≤ least_buffer bytes → n < 4294967296
+unfolding line_room max_line
+few_bytes bytes n l = omega (arith, room_enough bytes)
+
 long : (n : ℕ) (l : List ℕ) → n ≤ length l → length (take n l) ≡ n
 long n l h = length-take n l ∙ omega (arith, h)
 
 module _ (w : List ℕ) (p : List (List ℕ)) (h : lent_sound w p ≡ true) (s : Table) (n : s.words.now ≡ w) (c : s.used ≡ used_of w)
-    (bytes buf : Bytes) (k : 4096 ≤ length buf) (t : Table) (p' : List (List ℕ)) (buf' : Bytes) (r : Stepped)
+    (bytes buf : Bytes) (k : least_buffer bytes ≤ length buf) (t : Table) (p' : List (List ℕ)) (buf' : Bytes) (r : Stepped)
     (g : Steps true s p bytes 0 buf t p' buf' r) (w' : List ℕ)
     (e : (ds : List Struct) → Declares t.words.now t.used ds → w' ≡ encode (seen_in t ds)) (w'' : List ℕ) (last : w'' ≡ w') where
   steps : step (decode w p) bytes (length buf) ≡ record { number = r.number; payload = take r.len buf'; state = held_by t p' }
-  unfolding step usable answered max_buffer
+  unfolding step answered
   steps =
-      let t : usable (decode w p) (length buf) ≡ true = and (le_test 4096 (length buf) k) (lent_says w p h).is_sound in
+      let t : usable (decode w p) bytes (length buf) ≡ true = usable_enough (decode w p) bytes (length buf) k (lent_says w p h).is_sound in
       ap (λ q. elim q as (λ x. step.Answer) [ true ↦ lent (decode w p) (read_record (decode w p) bytes) | false ↦ step.refusal (decode w p) unsound_state ]) t ∙ (rw (held_lent w p h s n c) at g.is)
 
   recorded : lent_step w p bytes (length buf) ≡ record { number = r.number; payload = take r.len buf'; words = w''; params = p' }
@@ -73,12 +78,12 @@ module _ (w : List ℕ) (p : List (List ℕ)) (h : lent_sound w p ≡ true) (s :
 
 -- ---- 15
 
-no_room : (s : State) (bytes : Bytes) (buffer : ℕ) → leb 4096 buffer ≡ false → step s bytes buffer ≡ step.refusal s unsound_state
-unfolding step usable max_buffer
+no_room : (s : State) (bytes : Bytes) (buffer : ℕ) → leb (least_buffer bytes) buffer ≡ false → step s bytes buffer ≡ step.refusal s unsound_state
+unfolding step usable
 no_room s bytes buffer e = ap {B = step.Answer} (λ b. elim (b && sound s) as (λ x. step.Answer) [ true ↦ lent s (read_record s bytes) | false ↦ step.refusal s unsound_state ]) e
 
 -- the buffer is too short
-pub short_gives : (w : List ℕ) (p : List (List ℕ)) (bytes buf : Bytes) → leb 4096 (length buf) ≡ false
+pub short_gives : (w : List ℕ) (p : List (List ℕ)) (bytes buf : Bytes) → leb (least_buffer bytes) (length buf) ≡ false
     → GivesAnswer (lent_step w p bytes (length buf)) buf (record { number = 15; length = 0 }) w p buf
 unfolding lent_step lent_answer in_front step.refusal step.number_of_refusal
 short_gives w p bytes buf e = rw (go (lent_sound w p) refl) (record { told = refl; words = refl; params = refl; front = refl; size = refl })

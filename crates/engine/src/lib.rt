@@ -3,6 +3,7 @@
 #![tactic(auto)]
 
 ghost use Rattle.std.specs.Prelude.{◌≡◌, true, ◌≤◌, length as size};
+ghost use Rattle.definition.specs.Step.{least_buffer};
 ghost use Rattle.sound.specs.Lent.{lent_sound};
 ghost use Rattle.engine.specs.Public.{lent_step, answer_of, GivesAnswer, lent_lines, fresh_lines, number_of, lines_of, GivesLines};
 
@@ -34,7 +35,7 @@ fn record_trusted(
     record: &[u8],
     answer: &mut [u8],
 ) -> Answered
-    requires { (lent_sound state.old params.old ≡ true) × (4096 ≤ size answer.old) }
+    requires { (lent_sound state.old params.old ≡ true) × (least_buffer «record».now ≤ size answer.old) }
     ensures { GivesAnswer (lent_step state.old params.old «record».now (size answer.old)) answer.old result state.new params.new answer.new }
 {
     let used = used_of(state);
@@ -61,7 +62,7 @@ pub fn lent_record(
 ) -> Result<Answered, Unsound>
     ensures { GivesAnswer (lent_step state.old params.old «record».now (size answer.old)) answer.old (answer_of result) state.new params.new answer.new }
 {
-    if !fits(answer.len()) {
+    if !fits(record, answer.len()) {
         return Err(Unsound);
     }
     tested(state, params)?;

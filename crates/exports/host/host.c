@@ -17,7 +17,7 @@ static void expect(const char *what, bool holds) {
 
 static uint32_t state[PONGIWARU_WORDS], before[PONGIWARU_WORDS];
 static uint8_t params[PONGIWARU_ROWS][PONGIWARU_ROW_BYTES];
-static uint8_t answer[PONGIWARU_ANSWER_BYTES], log_bytes[65536];
+static uint8_t answer[PONGIWARU_MANY_ANSWER_BYTES], log_bytes[PONGIWARU_MANY_LINE_BYTES + 65536];
 
 static void fresh(void) {
     memset(state, 0, sizeof state);
@@ -96,6 +96,40 @@ static void expanded(void) {
     expect("XP shows a type and its code", record(open, sizeof open, sizeof answer, &length) == PONGIWARU_RAN && length == sizeof shown && memcmp(answer, shown, sizeof shown) == 0);
     expect("which is no success", !PONGIWARU_WELL(open, PONGIWARU_RAN, answer, length));
     expect("a struct is no code", record(none, sizeof none, sizeof answer, &length) == PONGIWARU_RAN && length == 15 && PONGIWARU_WELL(none, PONGIWARU_RAN, answer, length));
+}
+
+/* MJ: the worked record, V0 taken; in its place a pair of 10 */
+static void pairs(void) {
+    static const uint8_t many[] = {
+        'M', 'J', 3, 0, 6, 2, 0, 0, 0, 0, 0, 3, 3, 0, 0, 0, 0, 2,
+        1, 1, 5, 0, 0, 0, 0, 3, 6, 0, 0, 0, 0, 2, 1, 7, 0, 0, 0, 1, 3, 8, 0, 0, 0, 0, 2,
+        0, 6, 9, 0, 0, 0, 0, 0, 3, 10, 0, 0, 0, 0, 2};
+    static const uint8_t shown[] = {
+        0, 7, 0, 6, 2, 0, 0, 0, 0, 0,
+        1, 26, 0, 1, 5, 0, 0, 0, 0, 3, 6, 0, 0, 0, 0, 2, 1, 7, 0, 0, 0, 1, 3, 8, 0, 0, 0, 0, 2,
+        0, 7, 0, 6, 10, 0, 0, 0, 2, 0};
+    static const uint8_t refused[] = {'M', 'J', 1, 0, 3, 5, 0, 0, 0, 23, 2, 3, 6, 0, 0, 0, 0, 2};
+    static const uint8_t none[] = {10, 0, 0}, well[] = {0, 0, 0, 0, 7, 0, 6, 2, 0, 0, 0, 0, 0};
+    static const char line[] = "0 0 0a0000\n";
+    uint32_t length = 9;
+    size_t written = 9, read = 9;
+    uint64_t index = 0;
+    bool ended = false;
+    fresh();
+    record(fv, sizeof fv, sizeof answer, &length);
+    expect("a buffer one byte short is 15", record(many, sizeof many, PONGIWARU_MANY_ANSWER_BYTES - 1, &length) == PONGIWARU_UNSOUND_STATE && length == 0 && state[0] == 0);
+    expect("so is one for its two letters alone", record(many, 2, PONGIWARU_MANY_ANSWER_BYTES - 1, &length) == PONGIWARU_UNSOUND_STATE);
+    expect("one letter wants no more than others", record(many, 1, PONGIWARU_ANSWER_BYTES, &length) == PONGIWARU_MALFORMED);
+    expect("MJ is 0", record(many, sizeof many, PONGIWARU_MANY_ANSWER_BYTES, &length) == PONGIWARU_RAN);
+    expect("its pairs", length == sizeof shown && memcmp(answer, shown, sizeof shown) == 0 && untouched(answer, sizeof shown, sizeof answer));
+    expect("11 nodes, 3 variables", state[0] == 11 && state[2] == 3);
+    expect("a failed pair is no success", !PONGIWARU_WELL(many, PONGIWARU_RAN, answer, length) && !PONGIWARU_WELL(refused, PONGIWARU_RAN, none, sizeof none) && PONGIWARU_WELL(many, PONGIWARU_RAN, well, sizeof well));
+    fresh();
+    job(refused, sizeof refused, false, PONGIWARU_MANY_LINE_BYTES - 1, &written, &read, &index, &ended);
+    expect("a log one byte short waits for room", written == 0 && read == 0 && index == 0 && !ended);
+    job(refused, sizeof refused, false, PONGIWARU_MANY_LINE_BYTES, &written, &read, &index, &ended);
+    expect("room for its line takes it", written == sizeof line - 1 && memcmp(log_bytes, line, written) == 0 && read == sizeof refused && index == 1 && ended);
+    expect("a refused pair keeps what was read", state[0] == 2);
 }
 
 static void refused(void) {
@@ -271,6 +305,7 @@ int main(void) {
     records();
     abilities();
     expanded();
+    pairs();
     refused();
     splits();
     jobs();

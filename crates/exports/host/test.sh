@@ -39,9 +39,10 @@ runs() { # STATUS ERR JOB: the example's exit status, and a pattern that its sta
   got=$?
   [ $got -eq "$1" ] && { [ -s "$tmp/err" ] || echo; } | cat - "$tmp/err" | grep -Eq "$2"
 }
-no_success() { # a failed SV and a 5 are told, and the exit status has them
+no_success() { # a failed SV, a failed pair and a 5 are told, and the exit status has them
   printf 'BC\1\0\0\0\0\2\0\0\0SVSV' > "$tmp/failed" && runs 1 '^record 1: failed constraints, in 10 bytes$' "$tmp/failed" &&
     [ "$(wc -l < "$tmp/err")" -eq 1 ] && [ "$(tail -n 1 "$tmp/log")" = '2 0' ] || return 1
+  printf 'MJ\1\0\3\1\0\0\0\0\2\3\2\0\0\0\0\6' > "$tmp/failed" && runs 1 '^record 0: failed pairs, in 17 bytes$' "$tmp/failed" || return 1
   printf 'SVXX' > "$tmp/failed" && runs 1 '^record 1: answer 5$' "$tmp/failed" && runs 2 'cannot be read' .
 }
 other_archive() { # beside a header of another version or layout nothing is run

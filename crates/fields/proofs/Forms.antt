@@ -80,8 +80,8 @@ was_open {st} {known} {over} k =
 
 -- ---- what m reads, said otherwise
 
-pub fields_is : {st : Table} {known : ℕ} {m m' : State → Read Record} {st' : Table} {l : Bytes} {r : std.Result (Option What) Refusal}
-    → ((ds : List Struct) (s : State) → Declares st.words.now st.used ds → Knows s known ds → m s ≡ m' s) → FieldsAre st known m st' l r → FieldsAre st known m' st' l r
+pub fields_is : {names : List ℕ} {st : Table} {known : ℕ} {m m' : State → Read Record} {st' : Table} {l : Bytes} {r : std.Result (Option What) Refusal}
+    → ((ds : List Struct) (s : State) → Declares st.words.now st.used ds → Knows s known ds → m s ≡ m' s) → FieldsAre names st known m st' l r → FieldsAre names st known m' st' l r
 fields_is {st} e t =
     record {
       same = t.same;
@@ -92,19 +92,19 @@ fields_is {st} e t =
     }
 
 -- nothing was written
-pub fields_none : {st : Table} {known : ℕ} {m : State → Read Record} {l : Bytes} {r : std.Result (Option What) Refusal} → PlacedSo r (WhatIn st.used.nodes)
-    → ((s s' : State) (ds : List Struct) → Knows s known ds → fields_as r s' l ≡ place_read false place_record (m s) s') → FieldsAre st known m st l r
+pub fields_none : {names : List ℕ} {st : Table} {known : ℕ} {m : State → Read Record} {l : Bytes} {r : std.Result (Option What) Refusal} → PlacedSo r (WhatIn names st.used.nodes)
+    → ((s s' : State) (ds : List Struct) → Knows s known ds → fields_as names r s' l ≡ place_read false place_record (m s) s') → FieldsAre names st known m st l r
 fields_none {st} i f = record { same = linked_now _; grown = grown_refl (tables st); structs = refl; inside = i; is = λ ds s d k. f s (held st ds) ds k }
 
 -- 5, 6 or 18 in the numbers
-pub unread_is : {st : Table} {known : ℕ} {m : State → Read Record} {l : Bytes} {e : Refusal} → ((s : State) (ds : List Struct) → Knows s known ds → rd.not_read (refusal_of e) ≡ m s)
-    → FieldsAre st known m st l (Err e)
+pub unread_is : {names : List ℕ} {st : Table} {known : ℕ} {m : State → Read Record} {l : Bytes} {e : Refusal} → ((s : State) (ds : List Struct) → Knows s known ds → rd.not_read (refusal_of e) ≡ m s)
+    → FieldsAre names st known m st l (Err e)
 unfolding place_read
 unread_is f = fields_none tt (λ s s' ds k. ap (λ (x : Read Record). place_read false place_record x s') (f s ds k))
 
 -- .. in a type
-pub type_unread : {st : Table} {known : ℕ} {over : Bool} {x : State → Read Tree} {st' : Table} {l : Bytes} {e : Refusal} {m : State → Read Record}
-    → Takes st known over x st' l (Err e) → ((s : State) (ds : List Struct) → Knows s known ds → x s ≡ rd.not_read (refusal_of e) → rd.not_read (refusal_of e) ≡ m s) → FieldsAre st known m st' l (Err e)
+pub type_unread : {names : List ℕ} {st : Table} {known : ℕ} {over : Bool} {x : State → Read Tree} {st' : Table} {l : Bytes} {e : Refusal} {m : State → Read Record}
+    → Takes st known over x st' l (Err e) → ((s : State) (ds : List Struct) → Knows s known ds → x s ≡ rd.not_read (refusal_of e) → rd.not_read (refusal_of e) ≡ m s) → FieldsAre names st known m st' l (Err e)
 unfolding place_read
 type_unread {st} {over = over} {x} {e = e} t f =
     record {
@@ -117,13 +117,13 @@ type_unread {st} {over = over} {x} {e = e} t f =
 
 -- ---- what the code makes of the last type's node
 
-pub made_with : (o : Option ℕ) (mk : ℕ → What) (f : ℕ → Noded) (s : State) (l : Bytes) → ((t : ℕ) → noded (mk t) ≡ f t) → fields_as (Ok (option_map mk o)) s l ≡ read_with (Ok o) f s l
-made_with (Some t) mk f s l e = ap (λ (y : Noded). placed (ok (s, y)) l) (e t)
-made_with None mk f s l e = refl
+pub made_with : (names : List ℕ) (o : Option ℕ) (mk : ℕ → What) (f : ℕ → Noded) (s : State) (l : Bytes) → ((t : ℕ) → noded names (mk t) ≡ f t) → fields_as names (Ok (option_map mk o)) s l ≡ read_with (Ok o) f s l
+made_with names (Some t) mk f s l e = ap (λ (y : Noded). placed (ok (s, y)) l) (e t)
+made_with names None mk f s l e = refl
 
-pub made_so : (o : Option ℕ) (n : ℕ) (mk : ℕ → What) → PlacedSo (Ok o) (λ t. t < n) → ((t : ℕ) → o ≡ Some t → t < n → WhatIn n (mk t)) → PlacedSo (Ok (option_map mk o)) (WhatIn n)
-made_so (Some t) n mk i f = f t refl i
-made_so None n mk i f = tt
+pub made_so : (names : List ℕ) (o : Option ℕ) (n : ℕ) (mk : ℕ → What) → PlacedSo (Ok o) (λ t. t < n) → ((t : ℕ) → o ≡ Some t → t < n → WhatIn names n (mk t)) → PlacedSo (Ok (option_map mk o)) (WhatIn names n)
+made_so names (Some t) n mk i f = f t refl i
+made_so names None n mk i f = tt
 
 -- ---- one type
 
@@ -131,25 +131,25 @@ made_so None n mk i f = tt
 pub record One (mk : ℕ → What) (make : Tree → Record) : Type 0 where
   pub nodes : ℕ → Noded
   pub places : (t : Tree) (s : State) → place_record (make t) s ≡ (build t s >>= (λ (s, ty). ok (s, nodes ty)))
-  pub shows : (t : ℕ) → noded (mk t) ≡ nodes t
-  pub inside : (n t : ℕ) → t < n → WhatIn n (mk t)
+  pub shows : (names : List ℕ) (t : ℕ) → noded names (mk t) ≡ nodes t
+  pub inside : (names : List ℕ) (n t : ℕ) → t < n → WhatIn names n (mk t)
 
-pub one_is : {st : Table} {known : ℕ} (l₀ : Bytes) {st' : Table} {l : Bytes} {o : Option ℕ} {mk : ℕ → What} {make : Tree → Record} → One mk make
-    → Takes st known false (λ s. read_nested 64 s l₀) st' l (Ok o) → FieldsAre st known (λ s. read_one make (read_type s) l₀) st' l (Ok (option_map mk o))
+pub one_is : {names : List ℕ} {st : Table} {known : ℕ} (l₀ : Bytes) {st' : Table} {l : Bytes} {o : Option ℕ} {mk : ℕ → What} {make : Tree → Record} → One mk make
+    → Takes st known false (λ s. read_nested 64 s l₀) st' l (Ok o) → FieldsAre names st known (λ s. read_one make (read_type s) l₀) st' l (Ok (option_map mk o))
 unfolding read_one read_type rd.◌>>=◌
-one_is {st} l₀ {st'} {l} {o} {mk} {make} f t =
+one_is {names} {st} l₀ {st'} {l} {o} {mk} {make} f t =
     record {
       same = t.same;
       grown = t.grown;
       structs = t.structs;
-      inside = made_so o st'.used.nodes mk t.inside (λ x e i. f.inside st'.used.nodes x i);
-      is = λ ds s d k. made_with o mk f.nodes (held st' ds) l f.shows ∙ last_type place_record make f.nodes f.places (Ok o) false _ (held st ds) _ _ (t.is ds s d k);
+      inside = made_so names o st'.used.nodes mk t.inside (λ x e i. f.inside names st'.used.nodes x i);
+      is = λ ds s d k. made_with names o mk f.nodes (held st' ds) l (f.shows names) ∙ last_type place_record make f.nodes f.places (Ok o) false _ (held st ds) _ _ (t.is ds s d k);
     }
 
 -- ---- one type, counted
 
-pub rm_is : {st : Table} {known : ℕ} (l₀ : Bytes) {l : Bytes} {o : Option Sums} → Counts st known false (λ s. read_nested 64 s l₀) l (Ok o)
-    → FieldsAre st known (λ s. read_one d.RM (read_type s) l₀) st l (Ok (Some (q.Add (a.RM o))))
+pub rm_is : {names : List ℕ} {st : Table} {known : ℕ} (l₀ : Bytes) {l : Bytes} {o : Option Sums} → Counts st known false (λ s. read_nested 64 s l₀) l (Ok o)
+    → FieldsAre names st known (λ s. read_one d.RM (read_type s) l₀) st l (Ok (Some (q.Add (a.RM o))))
 unfolding place_read place_record read_one rd.◌>>=◌ go_on give read_type as_argument
 rm_is {st} l₀ c =
     record {
@@ -160,8 +160,8 @@ rm_is {st} l₀ c =
       is = λ ds s d k. let t = c.is ds s d k in rw (t.reads, t.counts) refl;
     }
 
-pub rm_unread : {st : Table} {known : ℕ} (l₀ : Bytes) {l : Bytes} {e : Refusal} → Counts st known false (λ s. read_nested 64 s l₀) l (Err e)
-    → FieldsAre st known (λ s. read_one d.RM (read_type s) l₀) st l (Err e)
+pub rm_unread : {names : List ℕ} {st : Table} {known : ℕ} (l₀ : Bytes) {l : Bytes} {e : Refusal} → Counts st known false (λ s. read_nested 64 s l₀) l (Err e)
+    → FieldsAre names st known (λ s. read_one d.RM (read_type s) l₀) st l (Err e)
 unfolding place_read read_one rd.◌>>=◌ go_on read_type
 rm_unread {st} l₀ c =
     record {
@@ -202,23 +202,23 @@ module _ (m : TwoMark) where
   both_made lhs rhs = q.Bind (c.Two m lhs rhs)
 
 module _ {st : Table} {known : ℕ} (l₀ : Bytes) {st₁ : Table} {l₁ : Bytes} {o : Option ℕ} (m : TwoMark) (t : Takes st known false (λ s. read_nested 64 s l₀) st₁ l₁ (Ok o)) where
-  pub two_is : {st₂ : Table} {l : Bytes} {p : Option ℕ} → Takes st₁ known (is_none o) (λ s. read_nested 64 s l₁) st₂ l (Ok p)
-      → FieldsAre st known (λ s. read_two (two_record m) (read_type s) (read_type s) l₀) st₂ l (Ok (option_map (both_made m (unwrap_or o 0)) p))
+  pub two_is : {names : List ℕ} {st₂ : Table} {l : Bytes} {p : Option ℕ} → Takes st₁ known (is_none o) (λ s. read_nested 64 s l₁) st₂ l (Ok p)
+      → FieldsAre names st known (λ s. read_two (two_record m) (read_type s) (read_type s) l₀) st₂ l (Ok (option_map (both_made m (unwrap_or o 0)) p))
   unfolding read_two read_type rd.◌>>=◌
-  two_is {st₂} {l} {p} t' =
+  two_is {names} {st₂} {l} {p} t' =
       record {
         same = linked t'.same t.same;
         grown = grown_trans _ _ _ t.grown t'.grown;
         structs = t'.structs ∙ t.structs;
-        inside = made_so p st₂.used.nodes (both_made m (unwrap_or o 0)) t'.inside (λ x f i. (first_in o st₁.used.nodes st₂.used.nodes (nodes_grow _ _ _ _ t'.grown) (was_open (rw f at t')) t.inside, i));
+        inside = made_so names p st₂.used.nodes (both_made m (unwrap_or o 0)) t'.inside (λ x f i. (first_in o st₁.used.nodes st₂.used.nodes (nodes_grow _ _ _ _ t'.grown) (was_open (rw f at t')) t.inside, i));
         is = λ ds s d k.
-            made_with p (both_made m (unwrap_or o 0)) (nodes m (unwrap_or o 0)) (held st₂ ds) l (λ t. refl)
+            made_with names p (both_made m (unwrap_or o 0)) (nodes m (unwrap_or o 0)) (held st₂ ds) l (λ t. refl)
             ∙ alone m (unwrap_or o 0) p _ (read_nested 64 s l₁) (held st₁ ds) _ _ (t'.is ds s (declares_kept _ _ _ _ ds t.structs d) k)
             ∙ sym (first_type place_record (two_record m) (second m) (places m) (read_nested 64 s) o false _ (held st ds) (held st₁ ds) _ (t.is ds s d k));
       }
 
-  pub two_unread : {st₂ : Table} {l : Bytes} {e : Refusal} → Takes st₁ known (is_none o) (λ s. read_nested 64 s l₁) st₂ l (Err e)
-      → FieldsAre st known (λ s. read_two (two_record m) (read_type s) (read_type s) l₀) st₂ l (Err e)
+  pub two_unread : {names : List ℕ} {st₂ : Table} {l : Bytes} {e : Refusal} → Takes st₁ known (is_none o) (λ s. read_nested 64 s l₁) st₂ l (Err e)
+      → FieldsAre names st known (λ s. read_two (two_record m) (read_type s) (read_type s) l₀) st₂ l (Err e)
   unfolding read_two read_type rd.◌>>=◌ go_on place_read
   two_unread {e = e} t' =
       record {
@@ -234,15 +234,15 @@ module _ {st : Table} {known : ℕ} (l₀ : Bytes) {st₁ : Table} {l₁ : Bytes
 
 -- ---- numbers, and a type or none
 
-module _ {st : Table} {known : ℕ} where
-  pub loc_is : (l₀ : Bytes) {l : Bytes} {loc : ℕ} (m : LocMark) → rd.got loc l ≡ read_u32 l₀ → FieldsAre st known (λ s. read_one (loc_record m) read_u32 l₀) st l (Ok (Some (q.Add (a.Loc m loc))))
+module _ {names : List ℕ} {st : Table} {known : ℕ} where
+  pub loc_is : (l₀ : Bytes) {l : Bytes} {loc : ℕ} (m : LocMark) → rd.got loc l ≡ read_u32 l₀ → FieldsAre names st known (λ s. read_one (loc_record m) read_u32 l₀) st l (Ok (Some (q.Add (a.Loc m loc))))
   unfolding place_read place_record read_one rd.◌>>=◌ go_on give
   loc_is l₀ {l} {loc} m e =
       fields_none tt
       (λ s s' ds k. ap (λ (h : Shape). placed (place h s') l) (sym (loc_shaped m loc))
       ∙ ap (λ (x : Read ℕ). place_read false place_record (go_on x (λ loc. give (loc_record m loc))) s') e)
 
-  pub sv_is : {l : Bytes} → FieldsAre st known (λ s. give d.SV l) st l (Ok (Some q.SV))
+  pub sv_is : {l : Bytes} → FieldsAre names st known (λ s. give d.SV l) st l (Ok (Some q.SV))
   unfolding place_read place_record give
   sv_is = fields_none tt (λ s s' ds k. refl)
 
@@ -250,21 +250,21 @@ module _ {st : Table} {known : ℕ} where
 
 pub one_look : (m : LookMark) → One (λ t. q.Look (k.One m t)) (look_record m)
 unfolding place_record
-one_look m = record { nodes = λ t. n.run (n.looks (n.one_looks m t)); places = λ t s. ap (λ (h : Shape). place h s) (look_shaped m t); shows = λ t. refl; inside = λ n t l. l }
+one_look m = record { nodes = λ t. n.run (n.looks (n.one_looks m t)); places = λ t s. ap (λ (h : Shape). place h s) (look_shaped m t); shows = λ names t. refl; inside = λ names n t l. l }
 
 pub one_IN : One (λ t. q.Bind (c.IN t)) d.IN
 unfolding place_record
-one_IN = record { nodes = λ t. n.run (n.binds (n.instantiate t)); places = λ t s. refl; shows = λ t. refl; inside = λ n t l. l }
+one_IN = record { nodes = λ t. n.run (n.binds (n.instantiate t)); places = λ t s. refl; shows = λ names t. refl; inside = λ names n t l. l }
 
 pub one_XP : One (λ t. q.XP t) d.XP
 unfolding place_record
-one_XP = record { nodes = λ t. n.expand t; places = λ t s. refl; shows = λ t. refl; inside = λ n t l. l }
+one_XP = record { nodes = λ t. n.expand t; places = λ t s. refl; shows = λ names t. refl; inside = λ names n t l. l }
 
 pub one_loc_type : (m : LocTypeMark) (loc : ℕ) → One (λ t. q.Add (a.LocType m loc t)) (loc_type_record m loc)
 unfolding place_record
 one_loc_type m loc =
-    record { nodes = λ t. n.run (n.adds (n.constrain (n.loc_type_constraint m loc t))); places = λ t s. ap (λ (h : Shape). place h s) (loc_type_shaped m loc t); shows = λ t. refl; inside = λ n t l. tt }
+    record { nodes = λ t. n.run (n.adds (n.constrain (n.loc_type_constraint m loc t))); places = λ t s. ap (λ (h : Shape). place h s) (loc_type_shaped m loc t); shows = λ names t. refl; inside = λ names n t l. tt }
 
 pub one_NC : (loc : ℕ) (kind : NumericKind) → One (λ t. q.Add (a.NC loc kind t)) (d.NC loc (kind_of kind))
 unfolding place_record
-one_NC loc kind = record { nodes = λ t. n.run (n.adds (n.constrain (numeric_constraint (kind_of kind) loc t))); places = λ t s. refl; shows = λ t. refl; inside = λ n t l. tt }
+one_NC loc kind = record { nodes = λ t. n.run (n.adds (n.constrain (numeric_constraint (kind_of kind) loc t))); places = λ t s. refl; shows = λ names t. refl; inside = λ names n t l. tt }

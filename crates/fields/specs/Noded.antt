@@ -1,13 +1,13 @@
 -- A record whose types are placed: their nodes stand in the trees' stead. What the code's answer is as one. Assumes nothing: these are definitions.
 use Rattle.std.specs.Prelude as std
-use Rattle.std.specs.Prelude.{◌≡◌, false, List, ℕ, ◌≤◌, ◌<◌, length, take, drop, Option}
+use Rattle.std.specs.Prelude.{◌≡◌, false, List, [], ◌∷◌, ℕ, zero, suc, ◌+◌, ◌*◌, ◌≤◌, ◌<◌, length, get_or, take, drop, Option}
 use Rattle.definition.specs.Types.{State, Struct, Constraint, BaseTypeConstraint, SingleTypeConstraint, Result, ok, ◌>>=◌}
 use Rattle.definition.specs.Write.{Bytes}
 use Rattle.definition.specs.Reader.{Read}
 use Rattle.definition.specs.Record as d
 use Rattle.definition.specs.Record.{Record, read_record}
 use Rattle.definition.specs.Trees.{Tree}
-use Rattle.definition.specs.Build.{build, build_pairs}
+use Rattle.definition.specs.Build.{build, build_pairs, build_many}
 use Rattle.definition.specs.Join.{TypingCase, Join, Subtype}
 use Rattle.definition.specs.Step.{numeric_constraint}
 use Rattle.definition.specs.Needs.{Needs, needs}
@@ -65,11 +65,12 @@ pub data Run : Type 0 where
   looks : Looks → Run
   adds : Adds → Run
 
--- SD, SV and XP have calls of their own
+-- SD, SV, XP and MJ have calls of their own
 pub data Noded : Type 0 where
   declare : ℕ → List ℕ → Noded
   solve : Noded
   expand : ℕ → Noded
+  many : List (TypingCase × ℕ × ℕ) → Noded
   run : Run → Noded
 
 -- the types of a record, from left to right, and what is run of their nodes
@@ -81,6 +82,7 @@ pub data Shape : Type 0 where
   one : Tree → (ℕ → Run) → Shape
   both : Tree → Tree → (ℕ → ℕ → Run) → Shape
   after_pairs : List (ℕ × Tree) → Tree → (List (ℕ × ℕ) → ℕ → Run) → Shape
+  all_pairs : List (TypingCase × Tree × Tree) → Shape
 
 -- what is run of each mark of a form
 
@@ -132,6 +134,7 @@ shape d.SV = solves
 shape (d.RM t) = none (adds (tell (needs t)))
 shape (d.CN t) = look_shape CN t
 shape (d.XP t) = expands t
+shape (d.MJ pairs) = all_pairs pairs
 
 abbrev pub place : Shape → State → Result (State × Noded)
 place (declares abilities params) s = ok (s, declare abilities params)
@@ -151,6 +154,9 @@ place (after_pairs pairs t f) s = do
   (s, pairs) ← build_pairs pairs s
   (s, ty) ← build t s
   ok (s, run (f pairs ty))
+place (all_pairs pairs) s = do
+  (s, pairs) ← build_many pairs s
+  ok (s, many pairs)
 
 unfoldable pub place_record : Record → State → Result (State × Noded)
 place_record x s = place (shape x) s
@@ -179,17 +185,26 @@ add_of (a.RM c) = tell (needs_of c)
 abbrev pub params_of : Params → List ℕ
 params_of ps = take ps.many ps.bytes
 
-abbrev pub noded : What → Noded
-noded (q.SD abilities ps) = declare abilities.0 (params_of ps)
-noded q.SV = solve
-noded (q.XP t) = expand t
-noded (q.Bind x) = run (binds (bind_of x))
-noded (q.Look x) = run (looks (look_of x))
-noded (q.Add x) = run (adds (add_of x))
+abbrev pub case_of : ℕ → TypingCase
+case_of n = get_or (Join ∷ Subtype ∷ []) n Join
+
+-- n pairs, in a list of names from place i on
+unfoldable pub many_at : List ℕ → ℕ → ℕ → List (TypingCase × ℕ × ℕ)
+many_at names i zero = []
+many_at names i (suc n) = (case_of (get_or names i 0), get_or names (i + 1) 0, get_or names (i + 2) 0) ∷ many_at names (i + 3) n
+
+abbrev pub noded : List ℕ → What → Noded
+noded names (q.SD abilities ps) = declare abilities.0 (params_of ps)
+noded names q.SV = solve
+noded names (q.XP t) = expand t
+noded names (q.MJ n) = many (many_at names 0 n)
+noded names (q.Bind x) = run (binds (bind_of x))
+noded names (q.Look x) = run (looks (look_of x))
+noded names (q.Add x) = run (adds (add_of x))
 
 -- met in the state s, with these bytes left
-abbrev pub fields_as : std.Result (Option What) Refusal → State → Bytes → Placed Noded
-fields_as r s bytes = read_with r noded s bytes
+abbrev pub fields_as : List ℕ → std.Result (Option What) Refusal → State → Bytes → Placed Noded
+fields_as names r s bytes = read_with r (noded names) s bytes
 
 -- nodes below n
 abbrev pub BindIn : ℕ → Bind → Type 0
@@ -201,29 +216,34 @@ abbrev pub LookIn : ℕ → Look → Type 0
 LookIn n (l.One m t) = t < n
 LookIn n (l.TS ps t) = Parts n ps.nodes ps.many × (t < n)
 
-abbrev pub WhatIn : ℕ → What → Type 0
-WhatIn n (q.SD abilities ps) = ps.many ≤ 8
-WhatIn n q.SV = Unit {0}
-WhatIn n (q.XP t) = t < n
-WhatIn n (q.Bind x) = BindIn n x
-WhatIn n (q.Look x) = LookIn n x
-WhatIn n (q.Add x) = Unit {0}
+-- those of the first k pairs
+abbrev pub ManyIn : ℕ → List ℕ → ℕ → Type 0
+ManyIn n names k = (i : ℕ) → i < k → (get_or names (3 * i + 1) 0 < n) × (get_or names (3 * i + 2) 0 < n)
 
--- the table st became t, which lends the same words; r is the record that m reads, its types placed, and the bytes l are left; s knows as many variables
+abbrev pub WhatIn : List ℕ → ℕ → What → Type 0
+WhatIn names n (q.SD abilities ps) = ps.many ≤ 8
+WhatIn names n q.SV = Unit {0}
+WhatIn names n (q.XP t) = t < n
+WhatIn names n (q.MJ k) = (k ≤ 15) × ManyIn n names k
+WhatIn names n (q.Bind x) = BindIn n x
+WhatIn names n (q.Look x) = LookIn n x
+WhatIn names n (q.Add x) = Unit {0}
+
+-- the table st became t, which lends the same words; r is the record that m reads, its types placed, with what stands in the list of names, and the bytes l are left; s knows as many variables
 -- and structs as the record began with
-pub record FieldsAre (st : Table) (known : ℕ) (m : State → Read Record) (t : Table) (l : Bytes) (r : std.Result (Option What) Refusal) : Type 0 where
+pub record FieldsAre (names : List ℕ) (st : Table) (known : ℕ) (m : State → Read Record) (t : Table) (l : Bytes) (r : std.Result (Option What) Refusal) : Type 0 where
   pub same : Linked st t
   pub grown : Grown (tables st) (tables t)
   pub structs : (tables t).structs ≡ (tables st).structs
-  pub inside : PlacedSo r (WhatIn t.used.nodes)
-  pub is : (ds : List Struct) (s : State) → Declares st.words.now st.used ds → Knows s known ds → fields_as r (held t ds) l ≡ place_read false place_record (m s) (held st ds)
+  pub inside : PlacedSo r (WhatIn names t.used.nodes)
+  pub is : (ds : List Struct) (s : State) → Declares st.words.now st.used ds → Knows s known ds → fields_as names r (held t ds) l ≡ place_read false place_record (m s) (held st ds)
 
 -- a record that starts at place `start`: the bytes after it are those from place next on, of all that there are
-pub record RecordIs (st : Table) (b : List ℕ) (start : ℕ) (t : Table) (r : Fields) : Type 0 where
+pub record RecordIs (names : List ℕ) (st : Table) (b : List ℕ) (start : ℕ) (t : Table) (r : Fields) : Type 0 where
   pub same : Linked st t
   pub grown : Grown (tables st) (tables t)
   pub structs : (tables t).structs ≡ (tables st).structs
-  pub inside : PlacedSo r.read (WhatIn t.used.nodes)
+  pub inside : PlacedSo r.read (WhatIn names t.used.nodes)
   pub within : r.next ≤ length b
   pub is : (ds : List Struct) → Declares st.words.now st.used ds
-      → fields_as r.read (held t ds) (drop r.next b) ≡ place_read false place_record (read_record (held st ds) (drop start b)) (held st ds)
+      → fields_as names r.read (held t ds) (drop r.next b) ≡ place_read false place_record (read_record (held st ds) (drop start b)) (held st ds)

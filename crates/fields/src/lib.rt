@@ -1,7 +1,7 @@
 // The fields of a record after its mark, read from left to right (5, 6, 18), its types placed as nodes (7).
 #![tactic(auto)]
 
-ghost use Rattle.std.specs.Prelude.{◌≡◌, ℕ, ◌≤◌, length, IfOk};
+ghost use Rattle.std.specs.Prelude.{◌≡◌, List, ℕ, ◌≤◌, length, IfOk};
 ghost use Rattle.definition.specs.Store.{taken};
 ghost use Rattle.definition.specs.Reader.{byte_to, times, read_one, read_two, read_three, name_below, read_u32};
 ghost use Rattle.definition.specs.Trees.{read_type};
@@ -73,6 +73,8 @@ pub enum What {
     Look(Look),
     Add(Add),
     XP(u32),
+    // So many pairs, which stand in the list of names: of each its case, 0 or 1 as the record has it, and its two nodes.
+    MJ(u32),
 }
 
 // What was read, or none if there was no space for its types (7); and the place after it, beside both, since a record without space has one too.
@@ -91,7 +93,7 @@ pub fn read_look(
     m: LookMark,
 ) -> Result<Option<What>, Refusal>
     requires { Arities (tables st.old).structs }
-    ensures is { FieldsAre st.old known (λ s. read_one (look_record m) (read_type s) r.old.left.now) st.new r.new.left.now result }
+    ensures is { (names : List ℕ) → FieldsAre names st.old known (λ s. read_one (look_record m) (read_type s) r.old.left.now) st.new r.new.left.now result }
     ensures within { Within r.old.left.now r.new.left.now }
 {
     let ty = read_type(st, r, known, 64, false)?;
@@ -100,7 +102,7 @@ pub fn read_look(
 
 pub fn read_in(st: &mut State<'_>, r: &mut Reader, known: u32) -> Result<Option<What>, Refusal>
     requires { Arities (tables st.old).structs }
-    ensures is { FieldsAre st.old known (λ s. read_one IN (read_type s) r.old.left.now) st.new r.new.left.now result }
+    ensures is { (names : List ℕ) → FieldsAre names st.old known (λ s. read_one IN (read_type s) r.old.left.now) st.new r.new.left.now result }
     ensures within { Within r.old.left.now r.new.left.now }
 {
     let ty = read_type(st, r, known, 64, false)?;
@@ -109,7 +111,7 @@ pub fn read_in(st: &mut State<'_>, r: &mut Reader, known: u32) -> Result<Option<
 
 pub fn read_xp(st: &mut State<'_>, r: &mut Reader, known: u32) -> Result<Option<What>, Refusal>
     requires { Arities (tables st.old).structs }
-    ensures is { FieldsAre st.old known (λ s. read_one XP (read_type s) r.old.left.now) st.new r.new.left.now result }
+    ensures is { (names : List ℕ) → FieldsAre names st.old known (λ s. read_one XP (read_type s) r.old.left.now) st.new r.new.left.now result }
     ensures within { Within r.old.left.now r.new.left.now }
 {
     let ty = read_type(st, r, known, 64, false)?;
@@ -123,7 +125,7 @@ pub fn read_two(
     m: TwoMark,
 ) -> Result<Option<What>, Refusal>
     requires { Arities (tables st.old).structs }
-    ensures is { FieldsAre st.old known (λ s. read_two (two_record m) (read_type s) (read_type s) r.old.left.now) st.new r.new.left.now result }
+    ensures is { (names : List ℕ) → FieldsAre names st.old known (λ s. read_two (two_record m) (read_type s) (read_type s) r.old.left.now) st.new r.new.left.now result }
     ensures within { Within r.old.left.now r.new.left.now }
 {
     let lhs = read_type(st, r, known, 64, false)?;
@@ -137,7 +139,7 @@ pub fn read_two(
 pub fn read_rm(st: &State<'_>, r: &mut Reader, known: u32) -> Result<Option<What>, Refusal>
     requires few_params { Arities (tables st.now).structs }
     requires short { length r.old.left.now ≤ 4096 }
-    ensures is { FieldsAre st.now known (λ s. read_one RM (read_type s) r.old.left.now) st.now r.new.left.now result }
+    ensures is { (names : List ℕ) → FieldsAre names st.now known (λ s. read_one RM (read_type s) r.old.left.now) st.now r.new.left.now result }
     ensures within { Within r.old.left.now r.new.left.now }
 {
     let sums = count_type(st, r, known, 64, false)?;
@@ -147,7 +149,7 @@ pub fn read_rm(st: &State<'_>, r: &mut Reader, known: u32) -> Result<Option<What
 // ---- numbers, and a type or none
 
 pub fn read_loc(r: &mut Reader, m: LocMark) -> Result<Option<What>, Refusal>
-    ensures is { (st : Table) (known : ℕ) → FieldsAre st known (λ s. read_one (loc_record m) read_u32 r.old.left.now) st r.new.left.now result }
+    ensures is { (st : Table) (known : ℕ) (names : List ℕ) → FieldsAre names st known (λ s. read_one (loc_record m) read_u32 r.old.left.now) st r.new.left.now result }
     ensures within { Within r.old.left.now r.new.left.now }
 {
     let loc = r.u32()?;
@@ -167,7 +169,7 @@ fn read_bits(r: &mut Reader) -> Result<u16, Refusal>
 }
 
 pub fn read_nl(r: &mut Reader) -> Result<Option<What>, Refusal>
-    ensures is { (st : Table) (known : ℕ) → FieldsAre st known (λ s. read_two NL read_u32 read_bits r.old.left.now) st r.new.left.now result }
+    ensures is { (st : Table) (known : ℕ) (names : List ℕ) → FieldsAre names st known (λ s. read_two NL read_u32 read_bits r.old.left.now) st r.new.left.now result }
     ensures within { Within r.old.left.now r.new.left.now }
 {
     let loc = r.u32()?;
@@ -176,7 +178,7 @@ pub fn read_nl(r: &mut Reader) -> Result<Option<What>, Refusal>
 }
 
 pub fn read_sn(r: &mut Reader, known: u32) -> Result<Option<What>, Refusal>
-    ensures is { (st : Table) → FieldsAre st known (λ s. read_two SN (name_below (taken s)) read_u32 r.old.left.now) st r.new.left.now result }
+    ensures is { (st : Table) (names : List ℕ) → FieldsAre names st known (λ s. read_two SN (name_below (taken s)) read_u32 r.old.left.now) st r.new.left.now result }
     ensures within { Within r.old.left.now r.new.left.now }
 {
     let v = r.name_below(known)?;
@@ -191,7 +193,7 @@ pub fn read_loc_type(
     m: LocTypeMark,
 ) -> Result<Option<What>, Refusal>
     requires { Arities (tables st.old).structs }
-    ensures is { FieldsAre st.old known (λ s. read_two (loc_type_record m) read_u32 (read_type s) r.old.left.now) st.new r.new.left.now result }
+    ensures is { (names : List ℕ) → FieldsAre names st.old known (λ s. read_two (loc_type_record m) read_u32 (read_type s) r.old.left.now) st.new r.new.left.now result }
     ensures within { Within r.old.left.now r.new.left.now }
 {
     let loc = r.u32()?;
@@ -214,7 +216,7 @@ fn read_kind(r: &mut Reader) -> Result<NumericKind, Refusal>
 
 pub fn read_nc(st: &mut State<'_>, r: &mut Reader, known: u32) -> Result<Option<What>, Refusal>
     requires { Arities (tables st.old).structs }
-    ensures is { FieldsAre st.old known (λ s. read_three NC read_u32 read_kind (read_type s) r.old.left.now) st.new r.new.left.now result }
+    ensures is { (names : List ℕ) → FieldsAre names st.old known (λ s. read_three NC read_u32 read_kind (read_type s) r.old.left.now) st.new r.new.left.now result }
     ensures within { Within r.old.left.now r.new.left.now }
 {
     let loc = r.u32()?;
@@ -240,7 +242,7 @@ fn read_params(r: &mut Reader, many: u8) -> Result<Params, Refusal>
 }
 
 pub fn read_sd(r: &mut Reader) -> Result<Option<What>, Refusal>
-    ensures is { (st : Table) (known : ℕ) → FieldsAre st known (λ s. read_SD s r.old.left.now) st r.new.left.now result }
+    ensures is { (st : Table) (known : ℕ) (names : List ℕ) → FieldsAre names st known (λ s. read_SD s r.old.left.now) st r.new.left.now result }
     ensures within { Within r.old.left.now r.new.left.now }
 {
     let abilities = AbilitySet(r.byte_to(15)?);

@@ -12,8 +12,8 @@ use Rattle.definition.specs.Types.{State}
 use Rattle.definition.specs.Write.{Bytes, IsBytes}
 use Rattle.definition.specs.Record.{max_record}
 use Rattle.definition.specs.Sound.{sound}
-use Rattle.pieces.specs.Pieces.{Piece, max_line, max_index, takes_on, halt, next_lines}
-use Rattle.pieces.proofs.Pieces.{Nearer, nearer, at_end, near_next, next_spent, next_stops}
+use Rattle.pieces.specs.Pieces.{Piece, line_room, max_line, max_index, takes_on, halt, next_lines}
+use Rattle.pieces.proofs.Pieces.{Nearer, nearer, at_end, near_next, next_spent, next_stops, room_enough}
 use Rattle.theorems.proofs.SoundFacts.{and_l}
 use Rattle.theorems.proofs.Soundness.{and, le_test}
 use Rattle.turns.specs.Filling.{ended, lost, first, short, Within, Filled}
@@ -41,7 +41,7 @@ not_third false b c e = refl
 
 -- with room for a line
 steps : (i : ℕ) (s : State) (a : Bytes) (room : ℕ) (more : Bool) → IsBytes a → sound s ≡ true → max_line ≤ room → (more && ltb (length a) 4096) ≡ false → Steps i a (next_lines i s a room more)
-unfolding takes_on halt max_record max_line max_index
+unfolding takes_on halt max_record max_index
 steps i s [] room true is h r w = clash refl w
 steps i s [] room false is h r w = ends (ap (λ (p : Piece). p.ended) (next_spent i s room false))
 steps i s (x ∷ a) room more is h r w = go (ltb i 18446744073709551615) refl
@@ -51,9 +51,9 @@ steps i s (x ∷ a) room more is h r w = go (ltb i 18446744073709551615) refl
     near (at_end e) = ends e
 
     go : (o : Bool) → ltb i 18446744073709551615 ≡ o → Steps i (x ∷ a) (next_lines i s (x ∷ a) room more)
-    go true e = near (near_next i s x a room more is h (and (whole more (length (x ∷ a)) w) (and (le_test max_line room r) e)))
+    go true e = near (near_next i s x a room more is h (and (whole more (length (x ∷ a)) w) (and (le_test (line_room (x ∷ a)) room (omega (arith, r, room_enough (x ∷ a)))) e)))
     go false e =
-        let stops = next_stops i s room more x a (not_third (not more || leb 4096 (length (x ∷ a))) (leb max_line room) (ltb i 18446744073709551615) e) in
+        let stops = next_stops i s room more x a (not_third (not more || leb 4096 (length (x ∷ a))) (leb (line_room (x ∷ a)) room) (ltb i 18446744073709551615) e) in
         no_number (ltb-false i 18446744073709551615 e) (ap (λ (p : Piece). p.index) stops) (ap (λ (p : Piece). p.rest) stops)
 
 -- ---- a turn

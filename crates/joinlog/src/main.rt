@@ -27,7 +27,7 @@ struct Job {
 }
 
 impl Job {
-    // Before the first turn. With no room for a line no record would be taken on, and no turn would be the last (refused: log_of_4096).
+    // Before the first turn. With no room for a line no record would be taken on, and no turn would be the last (refused: log_of_122994).
     fn new() -> Job
         ensures at_first { result.turn ≡ first }
         ensures room { max_line ≤ length result.log }

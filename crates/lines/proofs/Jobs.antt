@@ -7,7 +7,7 @@ use Prim.Native.Nat.{ℕ, suc, ◌+◌, ◌-◌, ◌≤◌, ◌<◌}
 use native.Mathlib.Omega.{arith}
 use borrow.Author.Tests.{leb-true, leb-false}
 use lib.Dec.{leb, ltb, leb→le, ltb→lt}
-use lib.ListN.{length, take, drop, length-take, length-drop, length-append, drop_of_length-le}
+use lib.ListN.{length, take, drop, replicate, length-take, length-drop, length-append, length-replicate, drop_of_length-le}
 use lib.Seq.{take_at, drop-drop, drop-append-add, length-take-le}
 use Rattle.std.proofs.lemmas.List.{take_rest}
 use Rattle.definition.specs.Types.{State}
@@ -15,18 +15,18 @@ use Rattle.definition.specs.Write.{Bytes, IsBytes}
 use Rattle.definition.specs.Record.{max_record}
 use Rattle.definition.specs.Sound.{sound}
 use Rattle.definition.specs.Step as step
-use Rattle.definition.specs.Step.{step_stream, max_buffer}
+use Rattle.definition.specs.Step.{step_stream, least_buffer, job_buffer}
 use Rattle.definition.specs.Job.{ends_job, line}
-use Rattle.pieces.specs.Pieces.{Piece, max_line, max_index, takes_on, halt, after_line, next_lines}
+use Rattle.pieces.specs.Pieces.{Piece, line_room, max_index, takes_on, halt, after_line, next_lines}
 use Rattle.theorems.proofs.SoundFacts.{and_l, and_r, test}
 use Rattle.theorems.proofs.SoundKept.{trusted}
-use Rattle.theorems.proofs.SoundRefusals.{stream_two_digits, stream_refusal_leaves}
+use Rattle.theorems.proofs.SoundRefusals.{stream_refusal_leaves}
 use Rattle.theorems.proofs.Stream.{Goes_on, shorter, over, stream_on}
-use Rattle.pieces.proofs.Pieces.{entry_of, next_spent, next_stops, next_last, next_goes, no_line, two_lines, line_size}
+use Rattle.pieces.proofs.Pieces.{entry_of, next_spent, next_stops, next_last, next_goes, no_line, two_lines, line_size, line_fits}
 use Rattle.table.specs.declared.state.State.{State as Table}
 use Rattle.log_lines.specs.Line.{Wrote, line_of, begin_of, end_of}
 use Rattle.log_lines.proofs.Writing.{wrote_length, wrote_more}
-use Rattle.log_lines.proofs.Text.{end_size, line_is, filled, filled_size, filled_payload, wrote_over}
+use Rattle.log_lines.proofs.Text.{decimal_more, end_size, line_is, filled, filled_size, filled_payload, wrote_over}
 use Rattle.step.specs.declared.Stepped.{Stepped}
 use Rattle.lines.specs.declared.Lines.{Lines}
 use Rattle.step.specs.Trusted.{held_by, Stands, answered, unread, Steps}
@@ -58,8 +58,8 @@ module _ {s₀ : Table} {p₀ : List (List ℕ)} {index : ℕ} {stream : Bytes} 
   halts o e = record { same = g.same; stands = g.stands; fits = g.fits; within = g.within; others = g.others; is = sym g.is ∙ ap (λ (q : Piece). after_line (take n log) q) e ∙ rw (append-nil (take n log)) refl }
 
   -- what the test of a record says
-  pub taken_on : {b o : Bool} → ((bytes : Bytes) → length bytes ≡ length stream - at → b ≡ takes_on i bytes (length log - n) more) → b ≡ o → takes_on i (drop at stream) (length log₀ - n) more ≡ o
-  taken_on f e = rw (← g.size) (sym (f (drop at stream) (length-drop at stream)) ∙ e)
+  pub taken_on : {b o : Bool} → b ≡ takes_on i (drop at stream) (length log - n) more → b ≡ o → takes_on i (drop at stream) (length log₀ - n) more ≡ o
+  taken_on t e = rw (← g.size) (sym t ∙ e)
 
   -- no bytes are left
   pub going_spent : length stream ≤ at → Lists s₀ p₀ index stream more log₀ s p log (lines_at at n i (not more))
@@ -78,17 +78,17 @@ module _ {s₀ : Table} {p₀ : List (List ℕ)} {index : ℕ} {stream : Bytes} 
 -- ---- the next record of a piece, answered by r
 
 module _ (i : ℕ) (s : State) (room : ℕ) (more : Bool) (h : sound s ≡ true) (r : step.Answer × Bytes) where
-  one_goes : (b : Bytes) → 0 < length b → IsBytes b → takes_on i b room more ≡ true → step_stream s b max_buffer ≡ r → ends_job r.0.number ≡ false
+  one_goes : (b : Bytes) → 0 < length b → IsBytes b → takes_on i b room more ≡ true → step_stream s b job_buffer ≡ r → ends_job r.0.number ≡ false
       → next_lines i s b room more ≡ after_line (line (entry_of i r)) (next_lines (suc i) r.0.state r.1 (room - length (line (entry_of i r))) more)
   one_goes [] l is t e d = absurd (omega arith)
   one_goes (x ∷ b) l is t e d = rw (← e) (next_goes i s room more x b is h t (rw (← e) at d))
 
-  one_last : (b : Bytes) → 0 < length b → takes_on i b room more ≡ true → step_stream s b max_buffer ≡ r → ends_job r.0.number ≡ true
+  one_last : (b : Bytes) → 0 < length b → takes_on i b room more ≡ true → step_stream s b job_buffer ≡ r → ends_job r.0.number ≡ true
       → next_lines i s b room more ≡ after_line (line (entry_of i r)) (halt (suc i) r.0.state r.1 true)
   one_last [] l t e d = absurd (omega arith)
   one_last (x ∷ b) l t e d = rw (← e) (next_last i s room more x b t (rw (← e) at d))
 
-  one_shorter : (b : Bytes) → 0 < length b → step_stream s b max_buffer ≡ r → ends_job r.0.number ≡ false → length r.1 < length b
+  one_shorter : (b : Bytes) → 0 < length b → step_stream s b job_buffer ≡ r → ends_job r.0.number ≡ false → length r.1 < length b
   one_shorter [] l e d = absurd (omega arith)
   one_shorter (x ∷ b) l e d = go (rw e at (stream_on s h x b))
     where
@@ -121,34 +121,38 @@ longer log₀ log n text log' n' z l o q =
 
 -- ---- the loop's turn
 
-pub takes_room : (i : ℕ) (b : Bytes) (room : ℕ) (more : Bool) → takes_on i b room more ≡ true → (8217 ≤ room) × (i < 18446744073709551615)
-unfolding takes_on max_line max_index
+pub takes_room : (i : ℕ) (b : Bytes) (room : ℕ) (more : Bool) → takes_on i b room more ≡ true → (line_room b ≤ room) × (i < 18446744073709551615)
+unfolding takes_on max_index
 takes_room i b room more t =
-    let q = and_r (not more || leb max_record (length b)) (leb 8217 room && ltb i 18446744073709551615) t in
-    (leb→le 8217 room (test (and_l (leb 8217 room) (ltb i 18446744073709551615) q)), ltb→lt i 18446744073709551615 (test (and_r (leb 8217 room) (ltb i 18446744073709551615) q)))
+    let q = and_r (not more || leb max_record (length b)) (leb (line_room b) room && ltb i 18446744073709551615) t in
+    (leb→le (line_room b) room (test (and_l (leb (line_room b) room) (ltb i 18446744073709551615) q)), ltb→lt i 18446744073709551615 (test (and_r (leb (line_room b) room) (ltb i 18446744073709551615) q)))
 
--- the longest line is room for the begin of any, and behind it for the longest payload
-begin_few : (i : ℕ) (p : Bytes) → length p ≡ 4096 → length (begin_of i) + 2 + 4096 ≤ 8217
-unfolding max_line
-begin_few i p h =
+-- a record's longest line is room for the begin of any, and behind it for the record's longest payload
+begin_few : (i : ℕ) (bytes p : Bytes) → length p ≡ least_buffer bytes → length (begin_of i) + 2 + least_buffer bytes ≤ line_room bytes
+unfolding line_room
+begin_few i bytes p h =
     let z : ℕ = 0 in
     omega (
       arith,
       h,
-      line_size (record { index = i; number = z; payload = p }) (omega arith) (omega (arith, h)),
+      line_size bytes (record { index = i; number = z; payload = p }) (omega arith) (omega (arith, h)),
       ap length (line_is i z p),
       length-append (begin_of i) (end_of z p),
       end_size z p,
+      decimal_more z,
     )
 
 -- a record is taken on: its line's begin is written, and what is left of the log is lent for its payload
 module _ {s₀ : Table} {p₀ : List (List ℕ)} {index : ℕ} {stream : Bytes} {more : Bool} {log₀ : List ℕ} {s : Table} {p : List (List ℕ)} {log : Bytes} {at n i : ℕ} (g : Going s₀ p₀ index stream more log₀ s p log at n i)
     (t : takes_on i (drop at stream) (length log₀ - n) more ≡ true) where
-  all_room : n + 8217 ≤ length log
+  abbrev most : ℕ
+  most = least_buffer (drop at stream)
+
+  all_room : n + line_room (drop at stream) ≤ length log
   all_room = omega (arith, (takes_room i (drop at stream) (length log₀ - n) more t).0, g.size, g.fits)
 
-  few : length (begin_of i) + 2 + 4096 ≤ 8217
-  few = begin_few i (take 4096 log) (length-take-le 4096 log (omega (arith, all_room)))
+  few : length (begin_of i) + 2 + most ≤ line_room (drop at stream)
+  few = begin_few i (drop at stream) (replicate most 0) (length-replicate most 0)
 
   pub begin_room : n + length (begin_of i) ≤ length log
   begin_room = omega (arith, all_room, few)
@@ -157,13 +161,13 @@ module _ {s₀ : Table} {p₀ : List (List ℕ)} {index : ℕ} {stream : Bytes} 
     pub begun_size : length log₁ ≡ length log
     begun_size = wrote_length log n (begin_of i) log₁ b begin_room w
 
-    free_room : b + 2 + 4096 ≤ length log₁
+    free_room : b + 2 + most ≤ length log₁
     free_room = omega (arith, w.next_is, begun_size, all_room, few)
 
     pub free_begin : b + 2 ≤ length log₁
     free_begin = omega (arith, free_room)
 
-    pub free_size : 4096 ≤ length (take (length log₁ - (b + 2)) (drop (b + 2) log₁))
+    pub free_size : most ≤ length (take (length log₁ - (b + 2)) (drop (b + 2) log₁))
     free_size = omega (arith, free_room, ap length (take_rest log₁ (b + 2)), length-drop (b + 2) log₁)
 
 module _ {s₀ : Table} {p₀ : List (List ℕ)} {index : ℕ} {stream : Bytes} {more : Bool} {log₀ : List ℕ} {s : Table} {p : List (List ℕ)} {log : Bytes} {at n i : ℕ} (g : Going s₀ p₀ index stream more log₀ s p log at n i)
@@ -175,22 +179,17 @@ module _ {s₀ : Table} {p₀ : List (List ℕ)} {index : ℕ} {stream : Bytes} 
   abbrev answer : step.Answer × Bytes
   answer = (record { number = r.number; payload = take r.len buf'; state = held_by t' p' }, drop r.next stream)
 
-  answer_is : step_stream (held_by s p) (drop at stream) max_buffer ≡ answer
+  answer_is : step_stream (held_by s p) (drop at stream) job_buffer ≡ answer
   unfolding answered unread
   answer_is = trusted (held_by s p) (drop at stream) g.stands.is_sound ∙ ap₂ (λ (x : step.Answer) (y : Bytes). (x, y)) st.is st.rest
 
   left : 0 < length (drop at stream)
   left = omega (arith, length-drop at stream, l)
 
-  pub line_room : n + length text ≤ length log
-  unfolding max_line
-  line_room =
-      let few : r.number < 100 = ap_lt answer_is (stream_two_digits (held_by s p) (drop at stream) max_buffer) in
-      let m = line_size (entry_of i answer) few (omega (arith, length-take r.len buf', st.few)) in
+  pub whole_room : n + length text ≤ length log
+  whole_room =
+      let m : length text ≤ line_room (drop at stream) = rw answer_is at (line_fits i (held_by s p) (drop at stream)) in
       omega (arith, m, (takes_room i (drop at stream) (length log₀ - n) more t).0, g.size, g.fits)
-    where
-      ap_lt : {x y : step.Answer × Bytes} → x ≡ y → x.0.number < 100 → y.0.number < 100
-      ap_lt e h = rw e at h
 
   -- an answer with a payload is none of 5 and above
   one_digit : r.len ≤ length buf' → 0 < r.len → r.number < 10
@@ -202,11 +201,11 @@ module _ {s₀ : Table} {p₀ : List (List ℕ)} {index : ℕ} {stream : Bytes} 
       go : (b : Bool) → leb 5 r.number ≡ b → r.number < 10
       go false e = omega (arith, leb-false 5 r.number e)
       go true e =
-          let none : take r.len buf' ≡ [] = at_answer answer_is (stream_refusal_leaves (held_by s p) (drop at stream) max_buffer) (leb-true 5 r.number e) in
+          let none : take r.len buf' ≡ [] = at_answer answer_is (stream_refusal_leaves (held_by s p) (drop at stream) job_buffer) (leb-true 5 r.number e) in
           absurd (omega (arith, ap length none, length-take-le r.len buf' k, h))
 
   turned : {log' : Bytes} {n' : ℕ} → Wrote log n text log' n' → Longer log₀ log n text log' n'
-  turned {log'} {n'} q = longer log₀ log n text log' n' g.size (omega (arith, line_room, g.size)) g.others q
+  turned {log'} {n'} q = longer log₀ log n text log' n' g.size (omega (arith, whole_room, g.size)) g.others q
 
   -- after this record's line the piece is q
   piece_is : {log' : Bytes} {n' : ℕ} → Wrote log n text log' n' → (q : Piece) → next_lines i (held_by s p) (drop at stream) (length log₀ - n) more ≡ after_line text q → after_line (take n' log') q ≡ next_lines index (held_by s₀ p₀) stream (length log₀) more
@@ -234,7 +233,7 @@ module _ {s₀ : Table} {p₀ : List (List ℕ)} {index : ℕ} {stream : Bytes} 
 
     text_room : b + length (end_of r.number (take r.len buf')) ≤ length log₁
     text_room =
-        omega (arith, line_room, ap length (line_is i r.number (take r.len buf')), length-append (begin_of i) (end_of r.number (take r.len buf')), w.next_is, begun_size g t w)
+        omega (arith, whole_room, ap length (line_is i r.number (take r.len buf')), length-append (begin_of i) (end_of r.number (take r.len buf')), w.next_is, begun_size g t w)
 
     pub end_room : (b + 2 + r.len ≤ length lent) × (b + length (end_of r.number (take r.len (drop (b + 2) lent))) ≤ length lent)
     end_room = rw (lent_size, filled_payload log₁ b r.len buf' same payload_room front) (payload_room, text_room)

@@ -62,9 +62,8 @@ pub fn lines_trusted(
     let mut lines = Lines::nothing(index, false);
     // A record is as long as its bytes say: nothing counts through them.
     'records: while lines.read < stream.len() {
-        let left = stream.len() - lines.read;
         let room = log.len() - lines.written;
-        if !takes_on(lines.index, left, room, more) {
+        if !takes_on(lines.index, stream, lines.read, room, more) {
             return lines;
         }
         let at = begin_line(lines.index, log, lines.written);

@@ -161,7 +161,7 @@ module _ (log : List ℕ) (at len : ℕ) (more : 0 < len) (room : at + 1 + 2 * l
 
 -- ---- a line's end
 
-decimal_more : (x : ℕ) → 0 < length (decimal x)
+pub decimal_more : (x : ℕ) → 0 < length (decimal x)
 unfolding decimal digits
 decimal_more x = omega (arith, length-append (if ltb x 10 then [] else digits 19 (x / 10)) ((48 + x % 10) ∷ []))
 

@@ -51,6 +51,7 @@ pub enum RecordMark {
     RM,
     XP,
     NL,
+    MJ,
     Loc(LocMark),
     Look(LookMark),
     Two(TwoMark),
@@ -61,7 +62,7 @@ pub enum RecordMark {
 #[derive(Clone, Copy)]
 struct Letters(u8, u8, RecordMark);
 
-const MARKS: [Letters; 18] = [
+const MARKS: [Letters; 19] = [
     Letters(b'S', b'D', RecordMark::SD),
     Letters(b'F', b'V', RecordMark::Loc(LocMark::FV)),
     Letters(b'N', b'V', RecordMark::Loc(LocMark::NV)),
@@ -80,6 +81,7 @@ const MARKS: [Letters; 18] = [
     Letters(b'C', b'N', RecordMark::Look(LookMark::CN)),
     Letters(b'X', b'P', RecordMark::XP),
     Letters(b'N', b'L', RecordMark::NL),
+    Letters(b'M', b'J', RecordMark::MJ),
 ];
 
 // The mark that these letters are, if any. A loop over the definition's rows in their order: each step of its proof is a row that is passed.

@@ -6,13 +6,13 @@ use Prim.Native.Nat.{ℕ}
 use lib.ListN.{replicate}
 use Rattle.definition.specs.Types.{fresh}
 use Rattle.definition.specs.Write.{Bytes}
-use Rattle.pieces.specs.Pieces.{Piece, max_line, max_index, takes_on, halt, after_line, next_from, next_lines}
+use Rattle.pieces.specs.Pieces.{Piece, line_room, max_line, max_index, takes_on, halt, after_line, next_from, next_lines}
 use Rattle.definition.proofs.Computed.{log_of}
 use Rattle.definition.proofs.Spelling.{text, unit, param, u8, bool, list, FV, JN, UF}
 
 -- a piece of a job from a fresh state, every name unfolded
 unfoldable pub piece : Bytes → ℕ → Bool → Piece
-unfolding log_of max_line max_index takes_on halt after_line next_from next_lines
+unfolding log_of line_room max_line max_index takes_on halt after_line next_from next_lines
 piece bytes room more = next_lines 0 fresh bytes room more
 
 -- ---- what is taken on
@@ -32,6 +32,18 @@ waits_with_room_for_8216 = refl
 pub goes_on_with_room_for_8217 : (piece (FV 1) 8217 false).text ≡ text "0 0 06010000000000\n"
 unfolding piece
 goes_on_with_room_for_8217 = refl
+
+-- an MJ wants more room, told by its two letters
+abbrev many : Bytes
+many = text "MJ" ++ (1 ∷ 0 ∷ unit 1 ++ unit 2)
+
+pub waits_with_room_for_122994 : (piece many 122994 false).text ≡ []
+unfolding piece
+waits_with_room_for_122994 = refl
+
+pub goes_on_with_room_for_122995 : (piece many 122995 false).text ≡ text "0 0 0005000002000000\n"
+unfolding piece
+goes_on_with_room_for_122995 = refl
 
 -- ---- what is told
 

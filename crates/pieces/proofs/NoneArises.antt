@@ -5,7 +5,7 @@ use Prim.Native.Nat.{ℕ, zero, suc, ◌-◌}
 use lib.ListN.{length}
 use Rattle.definition.specs.Types.{State}
 use Rattle.definition.specs.Write.{Bytes}
-use Rattle.definition.specs.Step.{Answer, max_buffer, step_stream}
+use Rattle.definition.specs.Step.{Answer, job_buffer, step_stream}
 use Rattle.definition.specs.Job.{ends_job, line}
 use Rattle.theorems.proofs.DoubledNone.{NoDoubledState, none_arises_streamed}
 use Rattle.pieces.specs.Pieces.{takes_on, halt, after_line, next_from, next_lines}
@@ -17,11 +17,11 @@ from_none_arises zero i s [] room more d = d
 from_none_arises zero i s (b ∷ bytes) room more d = d
 from_none_arises (suc n) i s [] room more d = d
 from_none_arises (suc n) i s (b ∷ bytes) room more d =
-    go (takes_on i (b ∷ bytes) room more) (ends_job r.0.number) (none_arises_streamed s (b ∷ bytes) max_buffer d)
+    go (takes_on i (b ∷ bytes) room more) (ends_job r.0.number) (none_arises_streamed s (b ∷ bytes) job_buffer d)
     (λ state rest room k. from_none_arises n (suc i) state rest room more k)
   where
     r : Answer × Bytes
-    r = step_stream s (b ∷ bytes) max_buffer
+    r = step_stream s (b ∷ bytes) job_buffer
 
     go : (t o : Bool) → NoDoubledState r.0.state → ((state : State) (rest : Bytes) (room : ℕ) → NoDoubledState state → NoDoubledState (next_from n (suc i) state rest room more).state)
         → NoDoubledState (piece_after t o n i s (b ∷ bytes) r room more).state

@@ -1,26 +1,28 @@
 -- A job piece by piece: 4,096 bytes answer as the whole stream would, and the lines of the pieces, one after the other, are the log. Assumes nothing.
 -- First a record needs no more than 4,096 bytes; then one piece, by induction on the records in it (`Follows`: its lines, and then the rest of the log); then pieces one after the other.
 use mathlib.Core.Path.{◌≡◌, refl, sym, ap, ◌∙◌}
-use mathlib.Core.Bool.{Bool, true, false, not}
+use mathlib.Core.Bool.{Bool, true, false, not, ◌&&◌}
 use mathlib.Core.List.{List, [], ◌∷◌, ◌++◌, append-nil, append_assoc}
-use Prim.Native.Nat.{ℕ, zero, suc, ◌+◌, ◌-◌, ◌/◌, ◌%◌, ◌≤◌, ◌<◌}
+use Prim.Native.Nat.{ℕ, zero, suc, ◌+◌, ◌*◌, ◌-◌, ◌/◌, ◌%◌, ◌≤◌, ◌<◌}
 use native.Mathlib.Omega.{arith}
-use lib.ListN.{length, take, drop, length-append}
-use lib.Dec.{leb, ltb, leb→le}
+use lib.ListN.{length, take, drop, length-append, get_or}
+use lib.Dec.{leb, ltb, leb→le, eqb}
 use Rattle.std.specs.Prelude.{if◌then◌else◌}
 use Rattle.definition.specs.Types.{State, fresh, unsound_state}
 use Rattle.definition.specs.Write.{Bytes, IsBytes}
 use Rattle.definition.specs.Reader.{Read, got, not_read}
 use Rattle.definition.specs.Record.{Record, max_record, hand_back, read_fields, read_record}
 use Rattle.definition.specs.Sound.{sound}
-use Rattle.definition.specs.Step.{run, Answer, refusal, answer, max_buffer, usable, streamed, step_stream}
+use Rattle.definition.specs.Step.{Answer, refusal, reply, max_many, max_buffer, least_buffer, job_buffer, usable, streamed, step_stream}
 use Rattle.definition.specs.Job.{Entry, ends_job, job_from, job_log, digits, decimal, hexadecimal, payload_text, line, lines, joinlog}
-use Rattle.pieces.specs.Pieces.{Piece, max_line, max_index, takes_on, halt, after_line, next_from, next_lines}
+use Rattle.pieces.specs.Pieces.{Piece, line_room, max_line, max_index, takes_on, halt, after_line, next_from, next_lines}
 use Rattle.theorems.proofs.StreamDecimal.{digits_same}
 use Rattle.theorems.proofs.SoundFacts.{and_l, test}
 use Rattle.theorems.proofs.Soundness.{and, le_test, lt_test}
 use Rattle.theorems.proofs.SoundRead.{bytes_append}
 use Rattle.theorems.proofs.SoundKept.{stream_sound_kept, fresh_sound}
+use Rattle.theorems.proofs.SoundRefusals.{stream_two_digits}
+use Rattle.theorems.proofs.StepFits.{stream_fits}
 use Rattle.theorems.proofs.Stream.{Goes_on, shorter, over, stream_on, job_enough}
 use Rattle.theorems.proofs.DemandTracks.{never}
 
@@ -43,13 +45,24 @@ and_then b r = (r.0, r.1 ++ b)
 
 streamed_front : (s : State) (a b more : Bytes) (r : Read Record) → streamed s (a ++ b) (hand_back (more ++ b) r) ≡ and_then b (streamed s a (hand_back more r))
 unfolding streamed hand_back
-streamed_front s a b more (got x rest) = ap (λ (m : Bytes). (answer s (run s x), m)) (sym (append_assoc rest more b))
+streamed_front s a b more (got x rest) = ap (λ (m : Bytes). (reply s x, m)) (sym (append_assoc rest more b))
 streamed_front s a b more (not_read x) = refl
+
+-- what a record wants is told by its first two bytes
+least_front : (a b : Bytes) → 4096 ≤ length a → least_buffer (a ++ b) ≡ least_buffer a
+unfolding least_buffer
+least_front [] b l = absurd (omega arith)
+least_front (x ∷ []) b l = absurd (omega arith)
+least_front (x ∷ y ∷ a) b l = refl
+
+usable_front : (s : State) (a b : Bytes) (buffer : ℕ) → 4096 ≤ length a → usable s (a ++ b) buffer ≡ usable s a buffer
+unfolding usable
+usable_front s a b buffer l = rw (least_front a b l) refl
 
 -- a stretch of 4,096 bytes or more is answered as the whole stream is
 pub stream_front : (s : State) (a b : Bytes) (buffer : ℕ) → 4096 ≤ length a → step_stream s (a ++ b) buffer ≡ and_then b (step_stream s a buffer)
 unfolding step_stream read_record max_record
-stream_front s a b buffer l = go (usable s buffer)
+stream_front s a b buffer l = rw (usable_front s a b buffer l, step_stream) (go (usable s a buffer))
   where
     reads : streamed s (a ++ b) (read_record s (a ++ b)) ≡ and_then b (streamed s a (read_record s a))
     reads = rw (take_front 4096 a b l, drop_front 4096 a b l) (streamed_front s a b (drop 4096 a) (read_fields s (take 4096 a)))
@@ -96,10 +109,10 @@ unfolding after_line
 then_line {log} text p b f = record { is = ap (λ (m : Bytes). text ++ m) f.is ∙ sym (append_assoc text p.text (onward p b)); left = f.left; bytes = f.bytes }
 
 -- the bytes at hand answer as all of them do
-at_hand : (i : ℕ) (s : State) (a b : Bytes) (room : ℕ) (more : Bool) → (more ≡ false → b ≡ []) → takes_on i a room more ≡ true → step_stream s (a ++ b) max_buffer ≡ and_then b (step_stream s a max_buffer)
+at_hand : (i : ℕ) (s : State) (a b : Bytes) (room : ℕ) (more : Bool) → (more ≡ false → b ≡ []) → takes_on i a room more ≡ true → step_stream s (a ++ b) job_buffer ≡ and_then b (step_stream s a job_buffer)
 unfolding takes_on max_record
-at_hand i s a b room true f t = stream_front s a b max_buffer (leb→le 4096 (length a) (test (and_l (leb 4096 (length a)) _ t)))
-at_hand i s a b room false f t = rw (f refl, append-nil a, append-nil (step_stream s a max_buffer).1) refl
+at_hand i s a b room true f t = stream_front s a b job_buffer (leb→le 4096 (length a) (test (and_l (leb 4096 (length a)) _ t)))
+at_hand i s a b room false f t = rw (f refl, append-nil a, append-nil (step_stream s a job_buffer).1) refl
 
 abbrev pub entry_of : ℕ → Answer × Bytes → Entry
 entry_of i r = record { index = i; number = r.0.number; payload = r.0.payload }
@@ -129,10 +142,10 @@ piece_from (suc n) zero i s (x ∷ a) b room more is is' h f l k = absurd (omega
 piece_from (suc n) (suc m) i s (x ∷ a) b room more is is' h f l k = go (takes_on i (x ∷ a) room more) refl (λ state rest room is h l k. piece_from n m (suc i) state rest b room more is is' h f l k)
   where
     r : Answer × Bytes
-    r = step_stream s (x ∷ a) max_buffer
+    r = step_stream s (x ∷ a) job_buffer
 
     kept : (sound r.0.state ≡ true) × IsBytes r.1
-    kept = stream_sound_kept s (x ∷ a) max_buffer is h
+    kept = stream_sound_kept s (x ∷ a) job_buffer is h
 
     Next : Type 0
     Next = (state : State) (rest : Bytes) (room : ℕ) → IsBytes rest → sound state ≡ true → length rest ≤ n → length (rest ++ b) ≤ m → Follows (lines (job_from m (suc i) state (rest ++ b))) (next_from n (suc i) state rest room more) b
@@ -212,10 +225,10 @@ next_enough (suc n) zero i s (x ∷ a) room more is h l k = absurd (omega arith)
 next_enough (suc n) (suc m) i s (x ∷ a) room more is h l k = go (takes_on i (x ∷ a) room more) (ends_job r.0.number) refl (stream_on s h x a) (λ state rest room is h l k. next_enough n m (suc i) state rest room more is h l k)
   where
     r : Answer × Bytes
-    r = step_stream s (x ∷ a) max_buffer
+    r = step_stream s (x ∷ a) job_buffer
 
     kept : (sound r.0.state ≡ true) × IsBytes r.1
-    kept = stream_sound_kept s (x ∷ a) max_buffer is h
+    kept = stream_sound_kept s (x ∷ a) job_buffer is h
 
     go : (t o : Bool) → ends_job r.0.number ≡ o → Goes_on a r
         → ((state : State) (rest : Bytes) (room : ℕ) → IsBytes rest → sound state ≡ true → length rest ≤ n → length rest ≤ m → next_from n (suc i) state rest room more ≡ next_from m (suc i) state rest room more)
@@ -233,7 +246,7 @@ module _ (i : ℕ) (s : State) (room : ℕ) (more : Bool) where
   module _ (x : ℕ) (a : Bytes) where
     -- record i's answer and the bytes after it
     abbrev pub next_answer : Answer × Bytes
-    next_answer = step_stream s (x ∷ a) max_buffer
+    next_answer = step_stream s (x ∷ a) job_buffer
 
     abbrev cases : Bool → Bool → Piece
     cases t o = piece_after t o (length a) i s (x ∷ a) next_answer room more
@@ -250,7 +263,7 @@ module _ (i : ℕ) (s : State) (room : ℕ) (more : Bool) where
         → next_lines i s (x ∷ a) room more ≡ after_line (line (entry_of i next_answer)) (next_lines (suc i) next_answer.0.state next_answer.1 (room - length (line (entry_of i next_answer))) more)
     unfolding next_lines next_from
     next_goes is h t e =
-        let kept = stream_sound_kept s (x ∷ a) max_buffer is h in
+        let kept = stream_sound_kept s (x ∷ a) job_buffer is h in
         ap (λ q. cases q (ends_job next_answer.0.number)) t ∙ ap (λ q. cases true q) e
         ∙ (ap (λ (p : Piece). after_line (line (entry_of i next_answer)) p)
         (next_enough (length a) (length next_answer.1) (suc i) next_answer.0.state next_answer.1 _
@@ -268,7 +281,7 @@ pub two_lines : (l m : Bytes) (p : Piece) → after_line l (after_line m p) ≡ 
 unfolding after_line
 two_lines l m p = rw (append_assoc l m p.text) refl
 
--- ---- no line is longer than max_line
+-- ---- no line is longer than its record's room
 
 digits_few : (n x : ℕ) → length (digits n x) ≤ n
 unfolding digits
@@ -289,9 +302,9 @@ unfolding payload_text
 payload_size [] = omega arith
 payload_size (b ∷ l) = omega (arith, hexadecimal_twice (b ∷ l))
 
-pub line_size : (e : Entry) → e.number < 100 → length e.payload ≤ 4096 → length (line e) ≤ max_line
-unfolding line max_line decimal
-line_size e n l =
+pub line_size : (bytes : Bytes) (e : Entry) → e.number < 100 → length e.payload ≤ least_buffer bytes → length (line e) ≤ line_room bytes
+unfolding line line_room decimal
+line_size bytes e n l =
     let two : length (digits 20 e.number) ≤ 2 = rw (digits_same 19 1 e.number (omega arith) n) (digits_few 2 e.number) in
     omega (
       arith,
@@ -304,6 +317,27 @@ line_size e n l =
       length-append (digits 20 e.index ++ (32 ∷ digits 20 e.number)) (payload_text e.payload),
       length-append (digits 20 e.index ++ (32 ∷ digits 20 e.number) ++ payload_text e.payload) (10 ∷ []),
     )
+
+-- the line of a record of a job
+pub line_fits : (i : ℕ) (s : State) (bytes : Bytes) → length (line (entry_of i (step_stream s bytes job_buffer))) ≤ line_room bytes
+line_fits i s bytes = line_size bytes (entry_of i (step_stream s bytes job_buffer)) (stream_two_digits s bytes job_buffer) (stream_fits s bytes job_buffer)
+
+-- .. of an MJ at most 122,995 bytes, of the others 8,217; a room of 122,995 is enough for both
+pub room_is : (bytes : Bytes) → line_room bytes ≡ (if eqb (get_or bytes 0 0) 77 && eqb (get_or bytes 1 0) 74 then 122995 else 8217)
+unfolding line_room least_buffer max_many max_buffer
+room_is bytes = go (eqb (get_or bytes 0 0) 77 && eqb (get_or bytes 1 0) 74)
+  where
+    go : (b : Bool) → 25 + 2 * (if b then max_many else max_buffer) ≡ (if b then 122995 else 8217)
+    go true = refl
+    go false = refl
+
+pub room_enough : (bytes : Bytes) → line_room bytes ≤ max_line
+unfolding max_line
+room_enough bytes = rw (room_is bytes) (go (eqb (get_or bytes 0 0) 77 && eqb (get_or bytes 1 0) 74))
+  where
+    go : (b : Bool) → (if b then 122995 else 8217) ≤ 122995
+    go true = omega arith
+    go false = omega arith
 
 -- ---- calls with room for a line come to an end
 
@@ -329,10 +363,10 @@ near_from zero i s (x ∷ a) room more is h = near_halt i s (x ∷ a) false
 near_from (suc n) i s (x ∷ a) room more is h = go (takes_on i (x ∷ a) room more) (ends_job r.0.number) refl (stream_on s h x a) (λ room. near_from n (suc i) r.0.state r.1 room more kept.1 kept.0)
   where
     r : Answer × Bytes
-    r = step_stream s (x ∷ a) max_buffer
+    r = step_stream s (x ∷ a) job_buffer
 
     kept : (sound r.0.state ≡ true) × IsBytes r.1
-    kept = stream_sound_kept s (x ∷ a) max_buffer is h
+    kept = stream_sound_kept s (x ∷ a) job_buffer is h
 
     go : (t o : Bool) → ends_job r.0.number ≡ o → Goes_on a r → ((room : ℕ) → Nearer (suc i) (length r.1) (next_from n (suc i) r.0.state r.1 room more)) → Nearer i (length (x ∷ a)) (piece_after t o n i s (x ∷ a) r room more)
     go false o d g f = near_halt i s (x ∷ a) false
@@ -346,10 +380,10 @@ unfolding next_lines next_from halt after_line
 near_next i s x a room more is h t = rw e (go (ends_job r.0.number) refl (stream_on s h x a))
   where
     r : Answer × Bytes
-    r = step_stream s (x ∷ a) max_buffer
+    r = step_stream s (x ∷ a) job_buffer
 
     kept : (sound r.0.state ≡ true) × IsBytes r.1
-    kept = stream_sound_kept s (x ∷ a) max_buffer is h
+    kept = stream_sound_kept s (x ∷ a) job_buffer is h
 
     e : next_lines i s (x ∷ a) room more ≡ piece_after true (ends_job r.0.number) (length a) i s (x ∷ a) r room more
     e = ap (λ q. piece_after q (ends_job r.0.number) (length a) i s (x ∷ a) r room more) t
@@ -370,7 +404,7 @@ calls_end (suc k) i s (x ∷ a) room l r m is h = go p.ended refl (near_next i s
     p = next_lines i s (x ∷ a) room false
 
     on : takes_on i (x ∷ a) room false ≡ true
-    on = and (le_test max_line room r) (lt_test i max_index (omega (arith, m)))
+    on = and (le_test (line_room (x ∷ a)) room (omega (arith, r, room_enough (x ∷ a)))) (lt_test i max_index (omega (arith, m)))
 
     f : Follows (log_from i s ((x ∷ a) ++ [])) p []
     f = piece_follows i s (x ∷ a) [] room false is tt h (λ e. refl)

@@ -1,14 +1,18 @@
 -- A job piece by piece: the lines of as many records as the bytes at hand hold whole and the log's room surely takes. Assumes nothing: these are definitions.
-use Rattle.std.specs.Prelude.{Bool, true, false, not, ◌||◌, ◌&&◌, [], ◌∷◌, ◌++◌, ℕ, zero, suc, ◌-◌, length, leb, ltb}
+use Rattle.std.specs.Prelude.{Bool, true, false, not, ◌||◌, ◌&&◌, [], ◌∷◌, ◌++◌, ℕ, zero, suc, ◌-◌, length, leb, ltb, ◌+◌, ◌*◌}
 use Rattle.definition.specs.Types.{State}
 use Rattle.definition.specs.Write.{Bytes}
 use Rattle.definition.specs.Record.{max_record}
-use Rattle.definition.specs.Step.{step_stream, max_buffer}
+use Rattle.definition.specs.Step.{step_stream, least_buffer, job_buffer}
 use Rattle.definition.specs.Job.{Entry, ends_job, line}
 
--- no line is longer: 20 digits, a space, 2 digits, a space, 2 · 4,096 digits, the end
+-- no line of a record is longer: 20 digits, a space, 2 digits, a space, two digits for each byte of its payload, the end. The record's first two bytes tell it
+unfoldable pub line_room : Bytes → ℕ
+line_room bytes = 25 + 2 * least_buffer bytes
+
+-- no line at all is longer: that of an MJ, of 2 · 61,485 digits
 unfoldable pub max_line : ℕ
-max_line = 8217
+max_line = 122995
 
 -- record numbers are counted up to here: 2 to the 64, less one
 unfoldable pub max_index : ℕ
@@ -24,7 +28,7 @@ pub record Piece : Type 0 where
 
 -- record i is taken on: its bytes are at hand, unless no more follow, its line surely fits, and so does the number after i
 unfoldable pub takes_on : ℕ → Bytes → ℕ → Bool → Bool
-takes_on i bytes room more = (not more || leb max_record (length bytes)) && (leb max_line room && ltb i max_index)
+takes_on i bytes room more = (not more || leb max_record (length bytes)) && (leb (line_room bytes) room && ltb i max_index)
 
 unfoldable pub halt : ℕ → State → Bytes → Bool → Piece
 halt i s bytes ended = record { text = []; state = s; rest = bytes; index = i; ended = ended }
@@ -41,7 +45,7 @@ next_from (suc n) i s (b ∷ bytes) room more =
     elim (takes_on i (b ∷ bytes) room more) [
       | false ↦ halt i s (b ∷ bytes) false
       | true ↦
-          (let (a, rest) = step_stream s (b ∷ bytes) max_buffer in
+          (let (a, rest) = step_stream s (b ∷ bytes) job_buffer in
           let entry : Entry = record { index = i; number = a.number; payload = a.payload } in
           elim (ends_job a.number) [
             | true ↦ after_line (line entry) (halt (suc i) a.state rest true)

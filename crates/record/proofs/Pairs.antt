@@ -187,7 +187,7 @@ module _ {st₀ : Table} {l₀ : Bytes} {known n : ℕ} {st : Table} {l : Bytes}
       sym (left_is s n l₀ (held st₀ ds)) ∙ g.is ds s d k ∙ ap (λ (j : ℕ). place_read over (put_left (pairs ids nodes 0 i)) (left_at s j l) (held st ds)) z
 
   -- an id is not read
-  pub pairs_cut : {l' : Bytes} {e : Refusal} → i < n → not_read (refusal_of e) ≡ read_u32 l → FieldsAre st₀ known read_all st l' (Err e)
+  pub pairs_cut : {names : List ℕ} {l' : Bytes} {e : Refusal} → i < n → not_read (refusal_of e) ≡ read_u32 l → FieldsAre names st₀ known read_all st l' (Err e)
   unfolding place_read
   pairs_cut {e = e} h f =
       record {
@@ -214,7 +214,7 @@ module _ {st₀ : Table} {l₀ : Bytes} {known n : ℕ} {st : Table} {l : Bytes}
         turn_is h ds s d k ∙ ap (λ (x : Read Left). place_read over (put_left (pairs ids nodes 0 i)) x (held st ds)) (left_more s (n - (i + 1)) id l l₁ e)
 
     -- a type is not read
-    pub pairs_stop : {st' : Table} {l' : Bytes} {x : Refusal} → Takes st known over (λ s. read_nested 64 s l₁) st' l' (Err x) → FieldsAre st₀ known read_all st' l' (Err x)
+    pub pairs_stop : {names : List ℕ} {st' : Table} {l' : Bytes} {x : Refusal} → Takes st known over (λ s. read_nested 64 s l₁) st' l' (Err x) → FieldsAre names st₀ known read_all st' l' (Err x)
     unfolding place_read go_on
     pairs_stop {x = x} t =
         record {
@@ -278,7 +278,7 @@ module _ {st₀ : Table} {l₀ : Bytes} {known n : ℕ} {st : Table} {l : Bytes}
       ∙ ap (λ (j : ℕ). place_read over (put_left (pairs ids nodes 0 j)) (left_at s (n - i) l) (held st ds)) (sym z)
       ∙ sym (g.is ds s d k) ∙ left_is s n l₀ (held st₀ ds)
 
-  pub last_unread : n ≤ i → {st' : Table} {l' : Bytes} {x : Refusal} → Takes st known over (λ s. read_nested 64 s l) st' l' (Err x) → FieldsAre st₀ known read_all st' l' (Err x)
+  pub last_unread : {names : List ℕ} → n ≤ i → {st' : Table} {l' : Bytes} {x : Refusal} → Takes st known over (λ s. read_nested 64 s l) st' l' (Err x) → FieldsAre names st₀ known read_all st' l' (Err x)
   unfolding place_read go_on
   last_unread h {x = x} t =
       record {
@@ -294,18 +294,18 @@ module _ {st₀ : Table} {l₀ : Bytes} {known n : ℕ} {st : Table} {l : Bytes}
   abbrev all_made : ℕ → What
   all_made t = q.Look (k.TS (record { ids = ids; nodes = nodes; many = n }) t)
 
-  pub pairs_all : n ≤ i → n ≤ 8 → {st' : Table} {l' : Bytes} {o : Option ℕ} → Takes st known over (λ s. read_nested 64 s l) st' l' (Ok o) → FieldsAre st₀ known read_all st' l' (Ok (option_map all_made o))
+  pub pairs_all : {names : List ℕ} → n ≤ i → n ≤ 8 → {st' : Table} {l' : Bytes} {o : Option ℕ} → Takes st known over (λ s. read_nested 64 s l) st' l' (Ok o) → FieldsAre names st₀ known read_all st' l' (Ok (option_map all_made o))
   unfolding build_pairs
-  pairs_all h few {st'} {l'} {o} t =
+  pairs_all {names} h few {st'} {l'} {o} t =
       let z : i ≡ n = (let y = g.left in omega arith) in
       let up : st.used.nodes ≤ st'.used.nodes = nodes_grow _ _ _ _ t.grown in
       record {
         same = linked t.same g.same;
         grown = grown_trans _ _ _ g.grown t.grown;
         structs = t.structs ∙ g.structs;
-        inside = made_so o st'.used.nodes all_made t.inside (λ x f q. (record { few = few; below = λ j h. under (was_open (rw f at t)) up j (omega arith) }, q));
+        inside = made_so names o st'.used.nodes all_made t.inside (λ x f q. (record { few = few; below = λ j h. under (was_open (rw f at t)) up j (omega arith) }, q));
         is = λ ds s d k.
-            made_with o all_made (λ x. run (looks (tparams (pairs ids nodes 0 n) x))) (held st' ds) l' (λ t. refl)
+            made_with names o all_made (λ x. run (looks (tparams (pairs ids nodes 0 n) x))) (held st' ds) l' (λ t. refl)
             ∙ last_type (put_left (pairs ids nodes 0 n)) (λ t. ([], t)) (λ x. run (looks (tparams (pairs ids nodes 0 n) x))) (put_last (pairs ids nodes 0 n)) (Ok o) over (read_nested 64 s l) (held st ds)
             (held st' ds) l' (t.is ds s (declares_kept _ _ _ _ ds g.structs d) k)
             ∙ last_is h ds s d k;

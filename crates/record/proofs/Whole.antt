@@ -67,43 +67,43 @@ knows_seen : (st : Table) (ds : List Struct) → Knows (held st ds) st.used.vars
 unfolding seen with_structs
 knows_seen st ds = record { vars = taken_seen st.words.now st.used ds; structs = refl }
 
-module _ (n : ℕ) (b : List ℕ) (start : ℕ) where
+module _ (names : List ℕ) (n : ℕ) (b : List ℕ) (start : ℕ) where
   abbrev own : Bytes
   own = take n (drop start b)
 
   abbrev next : Bytes → ℕ
   next l = start + (length own - length l)
 
-  stands : (r : std.Result (Option What) Refusal) (s s' : State) (l : Bytes) → fields_as r s' l ≡ place_read false place_record (read_fields s own) s → fields_as r s' (drop (next l) b) ≡ fields_as r s' (l ++ drop n (drop start b))
+  stands : (r : std.Result (Option What) Refusal) (s s' : State) (l : Bytes) → fields_as names r s' l ≡ place_read false place_record (read_fields s own) s → fields_as names r s' (drop (next l) b) ≡ fields_as names r s' (l ++ drop n (drop start b))
   stands (Err e) s s' l f = refl
-  stands (Ok o) s s' l f = go (read_fields s own) (goes_fields s own) (left_of place_record o noded (read_fields s own) s s' l f)
+  stands (Ok o) s s' l f = go (read_fields s own) (goes_fields s own) (left_of place_record o (noded names) (read_fields s own) s s' l f)
     where
-      go : (x : Read Record) → Onward own x → (a : Record) × (x ≡ got a l) → fields_as (Ok o) s' (drop (next l) b) ≡ fields_as (Ok o) s' (l ++ drop n (drop start b))
-      go x h (a, e) = ap (λ (k : Bytes). fields_as (Ok o) s' k) (left_is n b start a l (rw e at h))
+      go : (x : Read Record) → Onward own x → (a : Record) × (x ≡ got a l) → fields_as names (Ok o) s' (drop (next l) b) ≡ fields_as names (Ok o) s' (l ++ drop n (drop start b))
+      go x h (a, e) = ap (λ (k : Bytes). fields_as names (Ok o) s' k) (left_is n b start a l (rw e at h))
 
   near : start ≤ length b → (l : Bytes) → next l ≤ length b
   near h l = simp (length-take, length-drop) (omega arith)
 
-  handed : (r : std.Result (Option What) Refusal) (s s' : State) (l : Bytes) → fields_as r s' l ≡ place_read false place_record (read_fields s own) s
-      → fields_as r s' (drop (next l) b) ≡ place_read false place_record (hand_back (drop n (drop start b)) (read_fields s own)) s
+  handed : (r : std.Result (Option What) Refusal) (s s' : State) (l : Bytes) → fields_as names r s' l ≡ place_read false place_record (read_fields s own) s
+      → fields_as names r s' (drop (next l) b) ≡ place_read false place_record (hand_back (drop n (drop start b)) (read_fields s own)) s
   handed r s s' l q =
       stands r s s' l q
-      ∙ longer_fields r noded s' l (drop n (drop start b))
+      ∙ longer_fields r (noded names) s' l (drop n (drop start b))
       ∙ ap (longer (drop n (drop start b))) q
       ∙ longer_read place_record (read_fields s own) s (drop n (drop start b))
 
-pub whole_is : {st : Table} (b : List ℕ) (start : ℕ) → start ≤ length b → {st' : Table} {l l₀ : Bytes} {r : std.Result (Option What) Refusal}
-    → l₀ ≡ take 4096 (drop start b) → FieldsAre st st.used.vars (λ s. read_fields s l₀) st' l r → {n : ℕ} → n ≡ start + (length l₀ - length l) → RecordIs st b start st' (record { read = r; next = n })
+pub whole_is : {names : List ℕ} {st : Table} (b : List ℕ) (start : ℕ) → start ≤ length b → {st' : Table} {l l₀ : Bytes} {r : std.Result (Option What) Refusal}
+    → l₀ ≡ take 4096 (drop start b) → FieldsAre names st st.used.vars (λ s. read_fields s l₀) st' l r → {n : ℕ} → n ≡ start + (length l₀ - length l) → RecordIs names st b start st' (record { read = r; next = n })
 unfolding read_record max_record
-whole_is {st} b start h {st'} {l} {l₀} {r} e f {n} k =
-    let z : n ≡ next 4096 b start l = k ∙ ap (λ (m : Bytes). start + (length m - length l)) e in
+whole_is {names} {st} b start h {st'} {l} {l₀} {r} e f {n} k =
+    let z : n ≡ next names 4096 b start l = k ∙ ap (λ (m : Bytes). start + (length m - length l)) e in
     rw z (record {
       same = f.same;
       grown = f.grown;
       structs = f.structs;
       inside = f.inside;
-      within = near 4096 b start h l;
+      within = near names 4096 b start h l;
       is = λ ds d.
           let s = held st ds in
-          handed 4096 b start r s (held st' ds) l (f.is ds s d (knows_seen st ds) ∙ ap (λ (m : Bytes). place_read false place_record (read_fields s m) s) e);
+          handed names 4096 b start r s (held st' ds) l (f.is ds s d (knows_seen st ds) ∙ ap (λ (m : Bytes). place_read false place_record (read_fields s m) s) e);
     })

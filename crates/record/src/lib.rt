@@ -1,10 +1,10 @@
 // One record from the caller's bytes: its mark and fields read from left to right (5, 6, 18), its types placed as nodes (7).
 #![tactic(auto)]
 
-ghost use Rattle.std.specs.Prelude.{◌≡◌, ◌≤◌, length};
+ghost use Rattle.std.specs.Prelude.{◌≡◌, List, ℕ, ◌≤◌, length};
 ghost use Rattle.definition.specs.Reader.{give, go_on, times};
 ghost use Rattle.definition.specs.Trees.{read_type};
-ghost use Rattle.definition.specs.Record.{TS, read_fields, read_pair, read_TS};
+ghost use Rattle.definition.specs.Record.{TS, MJ, read_fields, read_pair, read_TS, read_case_pair, read_MJ};
 ghost use Rattle.table.specs.Did.{tables};
 ghost use Rattle.cursor.specs.Words.{Within};
 ghost use Rattle.heads.specs.Fields.{Arities};
@@ -32,7 +32,7 @@ fn read_pairs(
 ) -> Result<Option<What>, Refusal>
     requires few_params { Arities (tables st.old).structs }
     requires few { many ≤ 8 }
-    ensures is { FieldsAre st.old known (λ s. go_on (times many (read_pair s) r.old.left.now) (λ pairs l. go_on (read_type s l) (λ t. give (TS pairs t)))) st.new r.new.left.now result }
+    ensures is { (names : List ℕ) → FieldsAre names st.old known (λ s. go_on (times many (read_pair s) r.old.left.now) (λ pairs l. go_on (read_type s l) (λ t. give (TS pairs t)))) st.new r.new.left.now result }
     ensures within { Within r.old.left.now r.new.left.now }
 {
     let mut over = false;
@@ -56,11 +56,63 @@ fn read_pairs(
 
 fn read_ts(st: &mut State<'_>, r: &mut Reader, known: u32) -> Result<Option<What>, Refusal>
     requires { Arities (tables st.old).structs }
-    ensures is { FieldsAre st.old known (λ s. read_TS s r.old.left.now) st.new r.new.left.now result }
+    ensures is { (names : List ℕ) → FieldsAre names st.old known (λ s. read_TS s r.old.left.now) st.new r.new.left.now result }
     ensures within { Within r.old.left.now r.new.left.now }
 {
     let many = r.byte_to(8)?;
     read_pairs(st, r, known, many)
+}
+
+// ---- pairs of two types, each with its case
+
+// Of each pair its case and its two nodes are put into the list.
+// Refused (must-fail/): the second node in the first's place (second_for_first).
+fn read_cases(
+    st: &mut State<'_>,
+    r: &mut Reader,
+    known: u32,
+    names: &mut [u16],
+    many: u8,
+) -> Result<Option<What>, Refusal>
+    requires few_params { Arities (tables st.old).structs }
+    requires few { (many ≤ 15) × (256 ≤ length names.old) }
+    ensures is { FieldsAre names.new st.old known (λ s. go_on (times many (read_case_pair s) r.old.left.now) (λ pairs. give (MJ pairs))) st.new r.new.left.now result }
+    ensures within { Within r.old.left.now r.new.left.now }
+{
+    let mut over = false;
+    for i in 0..usize::from(many) {
+        let case = r.byte_to(1)?;
+        let lhs = read_type(st, r, known, 64, over)?;
+        let rhs = read_type(st, r, known, 64, lhs.is_none())?;
+        over = rhs.is_none();
+        names[3 * i] = u16::from(case);
+        names[3 * i + 1] = lhs.unwrap_or(0) as u16;
+        names[3 * i + 2] = rhs.unwrap_or(0) as u16;
+    }
+    if over {
+        return Ok(None);
+    }
+    Ok(Some(What::MJ(u32::from(many))))
+}
+
+// How many pairs there are, 1 to 15, and these.
+// Refused: 16 of them (sixteen_pairs).
+fn read_many(
+    st: &mut State<'_>,
+    r: &mut Reader,
+    known: u32,
+    names: &mut [u16],
+) -> Result<Option<What>, Refusal>
+    requires few_params { Arities (tables st.old).structs }
+    requires list { 256 ≤ length names.old }
+    ensures is { FieldsAre names.new st.old known (λ s. read_MJ s r.old.left.now) st.new r.new.left.now result }
+    ensures within { Within r.old.left.now r.new.left.now }
+{
+    let many = r.u8()?;
+    match many {
+        1..=15 => read_cases(st, r, known, names, many),
+        _ => Err(Refusal::Malformed),
+    }
 }
 
 // ---- the whole record
@@ -70,11 +122,13 @@ fn fields_of(
     st: &mut State<'_>,
     r: &mut Reader,
     known: u32,
+    names: &mut [u16],
     mark: RecordMark,
 ) -> Result<Option<What>, Refusal>
     requires few_params { Arities (tables st.old).structs }
     requires short { length r.old.left.now ≤ 4096 }
-    ensures is { FieldsAre st.old known (λ s. reader_of (Some mark) s r.old.left.now) st.new r.new.left.now result }
+    requires list { 256 ≤ length names.old }
+    ensures is { FieldsAre names.new st.old known (λ s. reader_of (Some mark) s r.old.left.now) st.new r.new.left.now result }
     ensures within { Within r.old.left.now r.new.left.now }
 {
     match mark {
@@ -87,6 +141,7 @@ fn fields_of(
         RecordMark::RM => read_rm(st, r, known),
         RecordMark::XP => read_xp(st, r, known),
         RecordMark::NL => read_nl(r),
+        RecordMark::MJ => read_many(st, r, known, names),
         RecordMark::Loc(m) => read_loc(r, m),
         RecordMark::Look(m) => read_look(st, r, known, m),
         RecordMark::Two(m) => read_two(st, r, known, m),
@@ -95,10 +150,16 @@ fn fields_of(
 }
 
 // The mark, and its fields.
-fn read_fields(st: &mut State<'_>, r: &mut Reader, known: u32) -> Result<Option<What>, Refusal>
+fn read_fields(
+    st: &mut State<'_>,
+    r: &mut Reader,
+    known: u32,
+    names: &mut [u16],
+) -> Result<Option<What>, Refusal>
     requires few_params { Arities (tables st.old).structs }
     requires short { length r.old.left.now ≤ 4096 }
-    ensures is { FieldsAre st.old known (λ s. read_fields s r.old.left.now) st.new r.new.left.now result }
+    requires list { 256 ≤ length names.old }
+    ensures is { FieldsAre names.new st.old known (λ s. read_fields s r.old.left.now) st.new r.new.left.now result }
     ensures within { Within r.old.left.now r.new.left.now }
 {
     let first = r.u8()?;
@@ -106,19 +167,19 @@ fn read_fields(st: &mut State<'_>, r: &mut Reader, known: u32) -> Result<Option<
     let Some(mark) = mark_of(u32::from(first), u32::from(second)) else {
         return Err(Refusal::Malformed);
     };
-    fields_of(st, r, known, mark)
+    fields_of(st, r, known, names, mark)
 }
 
-// The record that starts at place `start`. After 5, 6 and 18 the place says nothing. What is a list in it goes into `names`, lent since `Fields` is
-// copied for every record: so far there is none.
+// The record that starts at place `start`. After 5, 6 and 18 the place says nothing. The nodes of MJ's pairs go into `names`, lent since `Fields` is
+// copied for every record.
 pub fn read_record(st: &mut State<'_>, b: &[u8], start: usize, names: &mut [u16]) -> Fields
     requires { Arities (tables st.old).structs × ((start ≤ length b.now) × (256 ≤ length names.old)) }
-    ensures { RecordIs st.old b.now start st.new result }
+    ensures { RecordIs names.new st.old b.now start st.new result }
 {
     let known = st.used.vars;
     let mut r = Reader::new(&b[start..]);
     let long = r.left.len();
-    let read = read_fields(st, &mut r, known);
+    let read = read_fields(st, &mut r, known, names);
     let next = start + long.saturating_sub(r.left.len());
     Fields { read, next }
 }

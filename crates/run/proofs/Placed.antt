@@ -4,17 +4,18 @@ use Prim.Native.Nat.{ℕ}
 use Rattle.definition.specs.Types.{State, Result, ok, err, refused, ◌>>=◌}
 use Rattle.definition.specs.Write.{Bytes}
 use Rattle.definition.specs.Trees.{Tree}
-use Rattle.definition.specs.Build.{build, build_pairs}
+use Rattle.definition.specs.Build.{build, build_pairs, build_many}
 use Rattle.definition.specs.Constraints.{solve_constraints}
+use Rattle.definition.specs.Join.{TypingCase}
 use Rattle.definition.specs.Record as d
 use Rattle.definition.specs.Record.{Record}
-use Rattle.definition.specs.Step.{constrain, two_types}
+use Rattle.definition.specs.Step.{constrain, two_types, run_pairs}
 use Rattle.definition.specs.Step as definition
 use Rattle.theorems.specs.ReadySpelled.{spelled}
 use Rattle.theorems.proofs.DemandOrder.{All}
 use Rattle.theorems.proofs.SoundRanges.{StructIn}
 use Rattle.theorems.proofs.SoundRead.{TreeIn, RecordIn}
-use Rattle.fields.specs.Noded.{Run, Noded, expand, run, Shape, declares, solves, expands, none, one, both, after_pairs, shape, place, place_record}
+use Rattle.fields.specs.Noded.{Run, Noded, expand, many, run, Shape, declares, solves, expands, none, one, both, after_pairs, all_pairs, shape, place, place_record}
 use Rattle.run.specs.Runs.{join_in, two_run, unfold_run, ready_run, tparams_run, instantiate_run, tvar_run, marked_run, set_num_run, constraint_run, needs_run, declare_run}
 use Rattle.run.specs.Dispatch.{expand_run, run_of, noded_run}
 
@@ -28,6 +29,7 @@ run_shape (none r) s = run_of r s s
 run_shape (one t f) s = build t s >>= (λ p. run_of (f p.1) p.0 s)
 run_shape (both t u f) s = build t s >>= (λ p. build u p.0 >>= (λ q. run_of (f p.1 q.1) q.0 s))
 run_shape (after_pairs ps t f) s = build_pairs ps s >>= (λ p. build t p.0 >>= (λ q. run_of (f p.1 q.1) q.0 s))
+run_shape (all_pairs ps) s = build_many ps s >>= (λ p. ok (run_pairs p.0 p.1))
 
 -- what was read well
 abbrev pub ShapeIn : State → Shape → Type 0
@@ -38,6 +40,7 @@ ShapeIn s (none r) = Unit {0}
 ShapeIn s (one t f) = TreeIn s t
 ShapeIn s (both t u f) = TreeIn s t × TreeIn s u
 ShapeIn s (after_pairs ps t f) = All (λ (p : ℕ × Tree). TreeIn s p.1) ps × TreeIn s t
+ShapeIn s (all_pairs ps) = All (λ (p : TypingCase × Tree × Tree). TreeIn s p.1 × TreeIn s p.2) ps
 
 -- the definition's run is the shape's, and what was read well is of a good shape
 by_record : (s : State) (x : Record) → (definition.run s x ≡ run_shape (shape x) s) × (RecordIn s x → ShapeIn s (shape x))
@@ -60,6 +63,7 @@ by_record s d.SV = (refl, λ g. tt)
 by_record s (d.RM t) = (refl, λ g. tt)
 by_record s (d.CN t) = (refl, λ g. g)
 by_record s (d.XP t) = (refl, λ g. g)
+by_record s (d.MJ pairs) = (refl, λ g. g)
 
 pub shape_in : (s : State) (x : Record) → RecordIn s x → ShapeIn s (shape x)
 shape_in s x g = (by_record s x).1 g
@@ -93,6 +97,7 @@ module _ (s : State) where
   placed_is (one t f) = last (build t s) (λ u. run (f u))
   placed_is (both t u f) = more (build t s) u f
   placed_is (after_pairs ps t f) = more (build_pairs ps s) t f
+  placed_is (all_pairs ps) = last (build_many ps s) many
 
 pub run_placed : (s : State) (x : Record) → definition.run s x ≡ (place_record x s >>= (λ (s', n). noded_run n s' s))
 unfolding place_record

@@ -13,7 +13,7 @@ use Rattle.definition.specs.Constraints.{failures}
 use Rattle.definition.specs.Store.{with_constraints, with_structs}
 use Rattle.definition.specs.Write.{Bytes}
 use Rattle.definition.specs.Step as step
-use Rattle.definition.specs.Step.{answer, answer_with, refusal, max_payload}
+use Rattle.definition.specs.Step.{answer, answer_with, answer_within, refusal, max_payload}
 use Rattle.refusals.specs.Refusals.{refusal_of}
 use Rattle.refusals.specs.declared.Refusal.{Refusal}
 use Rattle.table.specs.State.{outcome, seen, Grown}
@@ -46,15 +46,15 @@ use Rattle.solve.proofs.Left.{Decided}
 
 -- ---- the definition's answers
 
-solved_given : (s before : d.State) → Given (failures s) → solved s before ≡ answer_with before 0 (bytes_of (failures s)) (with_constraints s [])
-unfolding solved answer ◌>>=◌
+solved_given : (s before : d.State) → Given (failures s) → solved s before ≡ answer_with max_payload before 0 (bytes_of (failures s)) (with_constraints s [])
+unfolding solved answer answer_within ◌>>=◌
 solved_given s before e = ap (λ (m : d.Result Bytes). answer before (m >>= (λ b. ok (with_constraints s [], b)))) e
 
-answer_fits : (before after : d.State) (b : Bytes) → length b ≤ 4096 → answer_with before 0 b after ≡ record { number = 0; payload = b; state = after }
+answer_fits : (before after : d.State) (b : Bytes) → length b ≤ 4096 → answer_with max_payload before 0 b after ≡ record { number = 0; payload = b; state = after }
 unfolding answer_with max_payload
 answer_fits before after b h = rw (le-leb (length b) 4096 h)
 
-answer_long : (before after : d.State) (b : Bytes) → 4096 < length b → answer_with before 0 b after ≡ refusal before answer_too_long
+answer_long : (before after : d.State) (b : Bytes) → 4096 < length b → answer_with max_payload before 0 b after ≡ refusal before answer_too_long
 unfolding answer_with max_payload
 answer_long before after b h = rw (lt-leb (length b) 4096 h)
 
@@ -65,7 +65,7 @@ solved_long : (s before : d.State) → Given (failures s) → 4096 < length (byt
 solved_long s before g h = solved_given s before g ∙ answer_long before (with_constraints s []) (bytes_of (failures s)) h
 
 solved_refused : (s before : d.State) (x : d.Refusal) → failures s ≡ refused x → solved s before ≡ refusal before x
-unfolding solved answer ◌>>=◌
+unfolding solved answer answer_within ◌>>=◌
 solved_refused s before x e = ap (λ (m : d.Result Bytes). answer before (m >>= (λ b. ok (with_constraints s [], b)))) e
 
 -- ---- what is said of all declarations, and what is said otherwise

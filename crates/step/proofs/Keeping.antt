@@ -14,21 +14,19 @@ use Rattle.definition.specs.Record.{read_record}
 use Rattle.definition.specs.Sound.{sound, struct_allowed}
 use Rattle.definition.specs.Trees.{is_set}
 use Rattle.definition.specs.Step as step
-use Rattle.definition.specs.Step.{lent, usable, max_buffer}
+use Rattle.definition.specs.Step.{least_buffer, lent, usable, job_buffer}
 use Rattle.theorems.proofs.DemandOrder.{All}
 use Rattle.theorems.proofs.SoundFacts.{and_l, and_r, test}
 use Rattle.theorems.proofs.SoundRanges.{StructIn}
-use Rattle.theorems.proofs.Soundness.{and, le_test}
-use Rattle.theorems.proofs.SoundKept.{ranges_of, sound_kept, stream_sound_kept, trusted}
+use Rattle.theorems.proofs.SoundKept.{ranges_of, sound_kept, stream_sound_kept, usable_enough, trusted}
 use Rattle.table.specs.Rows.{row, entries, Clean, var_table, struct_table}
 use Rattle.table.specs.State.{view, Lay, Front, Declares}
-use Rattle.table.specs.Did.{tables, Linked}
+use Rattle.table.specs.Did.{tables}
 use Rattle.table.specs.declared.Used.{Used}
 use Rattle.table.specs.declared.state.State.{State as Table}
 use Rattle.table.proofs.Rows.{length_entries, row_word}
 use Rattle.table.proofs.Steps.{front_is}
 use Rattle.snapshot.specs.Snap.{Saved}
-use Rattle.snapshot.specs.Noted.{Noted}
 use Rattle.answer.specs.Ran.{Still}
 use Rattle.heads.specs.Fields.{Arities}
 use Rattle.step.specs.Trusted.{answered}
@@ -40,12 +38,13 @@ bytes_after (suc n) [] h = tt
 bytes_after (suc n) (b ∷ l) h = bytes_after n l h.1
 
 pub answered_sound : (whole : Bool) (s : State) (bytes : Bytes) → IsBytes bytes → sound s ≡ true → sound (answered whole s bytes).state ≡ true
-unfolding answered step.step usable
+unfolding answered step.step
 answered_sound true s bytes is h =
-    let t : usable s max_buffer ≡ true = and (le_test max_buffer max_buffer (omega arith)) h in
-    let e : step.step s bytes max_buffer ≡ lent s (read_record s bytes) = rw (t, step.step) refl in
-    rw e at (sound_kept s bytes max_buffer is h)
-answered_sound false s bytes is h = rw (trusted s bytes h) at (stream_sound_kept s bytes max_buffer is h).0
+    let most : ℕ = least_buffer bytes in
+    let t : usable s bytes most ≡ true = usable_enough s bytes most (omega arith) h in
+    let e : step.step s bytes most ≡ lent s (read_record s bytes) = rw (t, step.step) refl in
+    rw e at (sound_kept s bytes most is h)
+answered_sound false s bytes is h = rw (trusted s bytes h) at (stream_sound_kept s bytes job_buffer is h).0
 
 -- ---- declarations
 
@@ -104,19 +103,3 @@ saved_still w₀ before s a same saved h =
     let w : List ℕ = s.words.now in
     let many : s.used.vars ≡ before.vars = sym (length_entries var_table w s.used.vars) ∙ ap length same ∙ length_entries var_table w₀ before.vars in
     record { many = many; rows = record { word = rw many (partly_still w₀ before w s.used a s.lay (front_is _ _ same) saved h) } }
-
--- .. but for those that are noted since
-pub noted_on : (s t : Table) (saved : List ℕ) → s.saved ≡ s.used.vars → Saved s.words.now s.used saved → Linked s t → Noted t saved
-noted_on s t saved m h l v p q f k i =
-    let few : v < s.saved = rw l.saved at p in
-    let same = (l.rows v (omega (arith, t.lay.vars)) few f).1 in
-    let in_use : v < s.used.vars = rw m at few in
-    let e : 0 + (v * 5 + k) ≡ v * 5 + k = omega arith in
-    let g : 16389 + (v * 5 + k) ≡ 16389 + v * 5 + k = omega arith in
-    ap (λ (x : ℕ). get_or saved x 0) e
-    ∙ h.word (v * 5 + k) (omega arith)
-    ∙ ap (λ (x : ℕ). get_or s.words.now x 0) g
-    ∙ sym (row_word var_table s.words.now v k i)
-    ∙ ap (λ (r : List ℕ). get_or r k 0) (sym same)
-    ∙ row_word var_table t.words.now v k i
-    ∙ ap (λ (x : ℕ). get_or t.words.now x 0) (sym g)

@@ -12,7 +12,7 @@ use Rattle.definition.specs.Types.{State, Refusal, malformed, Result}
 use Rattle.definition.specs.Write.{Bytes}
 use Rattle.definition.specs.Reader.{Read, got, not_read}
 use Rattle.definition.specs.Record.{Record, read_record}
-use Rattle.definition.specs.Step.{run, answer, refusal, lent, streamed}
+use Rattle.definition.specs.Step.{reply, refusal, lent, streamed}
 use Rattle.reader.specs.Taken.{stopped, placed, place_read}
 use Rattle.fields.specs.Noded.{Noded, place_record}
 use Rattle.step.specs.Trusted.{answered, unread}
@@ -55,18 +55,18 @@ module _ (whole : Bool) (s : State) (bytes : Bytes) where
 
   -- bytes left over are 5, where the record is all that is lent
   pub answered_got : (x : Record) (stream : Bytes) (next : ℕ) → read_record s bytes ≡ got x (drop next stream) → (over : Bool) → over ≡ whole && ltb next (length stream)
-      → answered whole s bytes ≡ (if over then refusal s malformed else answer s (run s x))
+      → answered whole s bytes ≡ (if over then refusal s malformed else reply s x)
   unfolding answered lent streamed
   answered_got x stream next e over o = go whole o
     where
-      lent_is : (l : Bytes) (b : Bool) → (b ≡ true → 0 < length l) → (b ≡ false → length l ≤ 0) → lent s (got x l) ≡ (if b then refusal s malformed else answer s (run s x))
+      lent_is : (l : Bytes) (b : Bool) → (b ≡ true → 0 < length l) → (b ≡ false → length l ≤ 0) → lent s (got x l) ≡ (if b then refusal s malformed else reply s x)
       lent_is [] true f g = absurd (omega (arith, f refl))
       lent_is [] false f g = refl
       lent_is (y ∷ l) true f g = refl
       lent_is (y ∷ l) false f g = absurd (omega (arith, g refl))
 
-      go : (b : Bool) → over ≡ b && ltb next (length stream) → answered b s bytes ≡ (if over then refusal s malformed else answer s (run s x))
+      go : (b : Bool) → over ≡ b && ltb next (length stream) → answered b s bytes ≡ (if over then refusal s malformed else reply s x)
       go true o =
           ap (λ (r : Read Record). lent s r) e
           ∙ lent_is (drop next stream) over (λ t. simp length-drop (omega (arith, ltb-true next (length stream) (sym o ∙ t)))) (λ t. simp length-drop (omega (arith, ltb-false next (length stream) (sym o ∙ t))))
-      go false o = ap (λ (r : Read Record). (streamed s bytes r).0) e ∙ sym (ap (λ (b : Bool). if b then refusal s malformed else answer s (run s x)) o)
+      go false o = ap (λ (r : Read Record). (streamed s bytes r).0) e ∙ sym (ap (λ (b : Bool). if b then refusal s malformed else reply s x) o)

@@ -1,23 +1,15 @@
 -- From a state whose variables were saved to that before it: words and counts are the same. Assumes nothing.
-use mathlib.Core.Path.{◌≡◌, sym, ap, ◌∙◌}
+use mathlib.Core.Path.{◌∙◌}
 use mathlib.Core.Bool.{Bool}
 use mathlib.Core.List.{List}
 use Prim.Native.Nat.{ℕ}
 use Rattle.definition.specs.Write.{Bytes}
-use Rattle.table.specs.declared.Used.{Used}
 use Rattle.table.specs.declared.state.State.{State as Table}
-use Rattle.snapshot.specs.Snap.{Saved}
 use Rattle.snapshot.specs.Noted.{SavesAll}
 use Rattle.step.specs.declared.Stepped.{Stepped}
 use Rattle.step.specs.Trusted.{Steps, Splits, StandsIn}
 
 module _ {s m : Table} {saved : List ℕ} (a : SavesAll s m saved) where
-  pub all_many : m.saved ≡ m.used.vars
-  all_many = a.many ∙ ap (λ (u : Used). u.vars) (sym a.used)
-
-  pub all_now : Saved m.words.now m.used saved
-  all_now = rw (a.words, a.used) a.all
-
   pub stands_now : {params : List (List ℕ)} → StandsIn s params → StandsIn m params
   stands_now st = rw (a.words, a.used) st
 

@@ -12,7 +12,8 @@ use Rattle.std.specs.Prelude.{if◌then◌else◌}
 use Rattle.definition.specs.Types.{TypingError, Refusal, max_nodes, max_args, Result, ok, err, refused, ◌>>=◌}
 use Rattle.definition.specs.Store.{count, args_of, get, with_node, sp, type_at, map_types}
 use Rattle.definition.specs.Trees.{Tree, unit_tree, anything_tree, error_tree, ref_tree, param_tree, apply_tree, var_tree, Trees, no_trees, ◌then◌}
-use Rattle.definition.specs.Build.{build, build_all, build_pairs}
+use Rattle.definition.specs.Build.{build, build_all, build_pairs, build_many}
+use Rattle.definition.specs.Join.{TypingCase}
 use Rattle.definition.specs.Subst.{forward_tvar, reaches_itself, ready_value, ready_tvars}
 use Rattle.definition.specs.Subst as subst_of
 use Rattle.definition.specs.TParams.{TParamSubst, arg_of, subst_value, subst_down, subst_tparams}
@@ -21,7 +22,7 @@ use Rattle.table.specs.State.{outcome}
 use Rattle.table.specs.declared.state.Stop.{Stop}
 use Rattle.table.specs.declared.state.Stop.TheVariants.{Failed, Refused}
 use Rattle.fields.specs.Noded.{unfolded, ready, tparams, Run, binds, looks, adds}
-use Rattle.fields.specs.Noded.{Shape, declares, solves, expands, none, one, both, after_pairs, shape, place, place_record}
+use Rattle.fields.specs.Noded.{Shape, declares, solves, expands, none, one, both, after_pairs, all_pairs, shape, place, place_record}
 use Rattle.answer.specs.declared.Ran.{Ran}
 use Rattle.answer.proofs.Calls.{kept_never}
 use Rattle.run.specs.Runs.{subst_in}
@@ -94,6 +95,12 @@ module _ {P : List Cell → Type 0} where
   pairs_leave [] s p = l_ok p
   pairs_leave (q ∷ ps) s p = then_leaves _ (build_leaves q.1 s p) (λ s t p. then_leaves _ (pairs_leave ps s p) (λ s ps p. l_ok p))
 
+  many_leave : (ps : List (TypingCase × Tree × Tree)) (s : State) → P s.vars → Leaves P (build_many ps s)
+  unfolding build_many
+  many_leave [] s p = l_ok p
+  many_leave (q ∷ ps) s p =
+      then_leaves _ (build_leaves q.1 s p) (λ s t p. then_leaves _ (build_leaves q.2 s p) (λ s u p. then_leaves _ (many_leave ps s p) (λ s ps p. l_ok p)))
+
   shape_leaves : (h : Shape) (s : State) → P s.vars → Leaves P (place h s)
   shape_leaves (declares a ps) s p = l_ok p
   shape_leaves solves s p = l_ok p
@@ -102,6 +109,7 @@ module _ {P : List Cell → Type 0} where
   shape_leaves (one t f) s p = then_leaves _ (build_leaves t s p) (λ s a p. l_ok p)
   shape_leaves (both t u f) s p = then_leaves _ (build_leaves t s p) (λ s a p. then_leaves _ (build_leaves u s p) (λ s b p. l_ok p))
   shape_leaves (after_pairs ps t f) s p = then_leaves _ (pairs_leave ps s p) (λ s a p. then_leaves _ (build_leaves t s p) (λ s b p. l_ok p))
+  shape_leaves (all_pairs ps) s p = then_leaves _ (many_leave ps s p) (λ s a p. l_ok p)
 
   pub place_leaves : (x : Record) (s : State) → P s.vars → Leaves P (place_record x s)
   unfolding place_record

@@ -5,12 +5,14 @@ use Rattle.definition.specs.Write.{Bytes}
 use Rattle.definition.specs.Record.{read_record}
 use Rattle.definition.specs.Sound.{sound}
 use Rattle.definition.specs.Step as step
-use Rattle.definition.specs.Step.{lent, streamed}
+use Rattle.definition.specs.Step.{least_buffer, lent, streamed}
 use Rattle.table.specs.State.{seen, Lay}
 use Rattle.table.specs.declared.Used.{Used}
 use Rattle.table.specs.declared.state.State.{State}
 use Rattle.snapshot.specs.Noted.{Noted}
 use Rattle.sound.specs.Lent.{structs_of, encode_params}
+use Rattle.fields.specs.declared.What.{What}
+use Rattle.fields.specs.declared.What.TheVariants as q
 use Rattle.step.specs.declared.Stepped.{Stepped}
 
 -- the state that words and bytes hold, with so many rows in use
@@ -40,11 +42,21 @@ answered false s bytes = (streamed s bytes (read_record s bytes)).0
 unfoldable pub unread : d.State → Bytes → Bytes
 unread s bytes = (streamed s bytes (read_record s bytes)).1
 
+-- the bytes of the buffer that an answer of it may fill
+abbrev pub wants : What → ℕ
+wants (q.SD abilities ps) = 4096
+wants q.SV = 4096
+wants (q.XP t) = 4096
+wants (q.MJ n) = 61485
+wants (q.Bind x) = 4096
+wants (q.Look x) = 4096
+wants (q.Add x) = 4096
+
 -- the record at place `at` of the stream was answered by r: the payload stands in front of the buffer, and the rest begins at r.next
 pub record Steps (whole : Bool) (s : State) (params : List (List ℕ)) (stream : Bytes) (at : ℕ) (buf : Bytes) (t : State) (params' : List (List ℕ)) (buf' : Bytes) (r : Stepped) : Type 0 where
   pub same : t.words.ghost_name ≡ s.words.ghost_name
   pub stands : StandsIn t params'
-  pub few : r.len ≤ 4096
+  pub few : r.len ≤ least_buffer (drop at stream)
   pub buffer : buf' ≡ take r.len buf' ++ drop r.len buf
   pub within : r.next ≤ length stream
   pub is : answered whole (held_by s params) (drop at stream) ≡ record { number = r.number; payload = take r.len buf'; state = held_by t params' }

@@ -2,12 +2,13 @@
 #![tactic(auto)]
 
 ghost use Rattle.std.specs.Prelude.{◌≡◌, List, ℕ, ◌≤◌, length, drop};
+ghost use Rattle.definition.specs.Step.{least_buffer};
 ghost use Rattle.definition.specs.Write.{IsBytes};
 ghost use Rattle.snapshot.specs.Snap.{Saved};
 ghost use Rattle.snapshot.specs.Noted.{Noted};
 ghost use Rattle.sound.specs.Lent.{used_of};
 ghost use Rattle.fields.specs.Noded.{declare, noded, params_of, WhatIn};
-ghost use Rattle.step.specs.Trusted.{StandsIn, Steps, Leaves, Splits};
+ghost use Rattle.step.specs.Trusted.{StandsIn, wants, Steps, Leaves, Splits};
 ghost use Rattle.step.specs.Replies.{Begins, Ends};
 
 use canonical::Spelling;
@@ -16,8 +17,8 @@ use marks::LookMark;
 use names::AbilitySet;
 use payload::Answer;
 use snapshot::before::Before;
-use table::Touched;
 use table::state::State;
+use table::{Touched, Used};
 use verdict::{left_over, padded, place_after, row_for, verdict_of};
 
 // How long the list is that is lent beside the state, for what a record has of names.
@@ -54,8 +55,8 @@ fn answer_declared(
 ) -> Answer
     ghost w0: { List ℕ }
     requires room { (own.many ≤ 8) × (4096 ≤ length buf.old) }
-    requires begins { Begins w0 before params.old st.old (declare abilities.0 (params_of own)) }
-    ensures { Ends w0 before.entry params.old st.old (declare abilities.0 (params_of own)) buf.old st.new params.new buf.new result }
+    requires begins { Begins w0 before.used before.saved.now params.old st.old (declare abilities.0 (params_of own)) }
+    ensures { Ends w0 before.entry.used before.entry.saved.now params.old st.old (declare abilities.0 (params_of own)) buf.old st.new params.new before.entry.saved.now buf.new result }
 {
     let used = st.used;
     let ran = run::run_declare(st, abilities, u32::from(own.many));
@@ -68,20 +69,29 @@ fn answer_declared(
 
 // ---- what was read
 
-// What was read and placed is run and answered. RD, CN and XP are told from the placed state, so no call runs them.
+// What was read and placed is run and answered. RD, CN and XP are told from the placed state, so no call runs them. `entry` and `saved`: what an answer
+// goes back to; MJ's pairs save anew.
 fn answer_placed(
     st: &mut State<'_>,
-    before: Before<'_>,
+    entry: Used,
+    saved: &mut [u32],
     params: &mut [[u8; 8]; 256],
+    names: &[u16],
     what: What,
     buf: &mut [u8],
 ) -> Answer
     ghost w0: { List ℕ }
-    requires room { WhatIn st.old.used.nodes what × (4096 ≤ length buf.old) }
-    requires begins { Begins w0 before params.old st.old (noded what) }
-    ensures { Ends w0 before.entry params.old st.old (noded what) buf.old st.new params.new buf.new result }
+    requires room { (5120 ≤ length saved.old) × ((256 ≤ length names.now) × (WhatIn names.now st.old.used.nodes what × (wants what ≤ length buf.old))) }
+    requires begins { Begins w0 entry saved.old params.old st.old (noded names.now what) }
+    ensures { Ends w0 entry saved.old params.old st.old (noded names.now what) buf.old st.new params.new saved.new buf.new result }
 {
+    let before = Before {
+        used: entry,
+        saved,
+        touched: Touched::Nothing,
+    };
     let ran = match what {
+        What::MJ(n) => return many::answer_pairs(st, saved, names, n, buf),
         What::SD(abilities, own) => {
             return answer_declared(st, before, params, abilities, own, buf);
         }
@@ -110,7 +120,8 @@ fn answer_placed(
 // From the state at entry on, whose variables are saved.
 fn step_from(
     st: &mut State<'_>,
-    before: Before<'_>,
+    entry: Used,
+    saved: &mut [u32],
     params: &mut [[u8; 8]; 256],
     stream: &[u8],
     at: usize,
@@ -119,16 +130,23 @@ fn step_from(
     buf: &mut [u8],
 ) -> Stepped
     ghost w0: { List ℕ }
-    requires entry { (w0 ≡ st.old.words.now) × ((before.used ≡ st.old.used) × ((st.old.saved ≡ st.old.used.vars) × Saved st.old.words.now st.old.used before.saved.now)) }
-    requires stands { StandsIn st.old params.old × (IsBytes stream.now × ((at ≤ length stream.now) × (4096 ≤ length buf.old))) }
-    requires list { 256 ≤ length names.old }
-    ensures { Leaves whole st.old params.old stream.now at buf.old st.new params.new buf.new result before.entry.saved.now }
+    requires entry { (w0 ≡ st.old.words.now) × ((entry ≡ st.old.used) × ((st.old.saved ≡ st.old.used.vars) × Saved st.old.words.now st.old.used saved.old)) }
+    requires stands { StandsIn st.old params.old × (IsBytes stream.now × ((at ≤ length stream.now) × (least_buffer (drop at stream.now) ≤ length buf.old))) }
+    requires list { (5120 ≤ length saved.old) × (256 ≤ length names.old) }
+    ensures { Leaves whole st.old params.old stream.now at buf.old st.new params.new buf.new result saved.new }
 {
     let f = record::read_record(st, stream, at, names);
     let next = place_after(f.read, at, f.next);
     match verdict_of(f.read, left_over(whole, f.next, stream.len())) {
-        Ok(x) => with_next(answer_placed(st, before, params, x, buf), next),
-        Err(x) => with_next(answer::settle_refusal(st, before, x), next),
+        Ok(x) => with_next(answer_placed(st, entry, saved, params, names, x, buf), next),
+        Err(x) => {
+            let before = Before {
+                used: entry,
+                saved,
+                touched: Touched::Nothing,
+            };
+            with_next(answer::settle_refusal(st, before, x), next)
+        }
     }
 }
 
@@ -144,19 +162,14 @@ pub fn step_trusted(
     names: &mut [u16],
     buf: &mut [u8],
 ) -> Stepped
-    requires stands { StandsIn st.old params.old × (IsBytes stream.now × ((at ≤ length stream.now) × ((5120 ≤ length saved.old) × (4096 ≤ length buf.old)))) }
+    requires stands { StandsIn st.old params.old × (IsBytes stream.now × ((at ≤ length stream.now) × ((5120 ≤ length saved.old) × (least_buffer (drop at stream.now) ≤ length buf.old)))) }
     requires noted { Noted st.old saved.old }
     requires list { 256 ≤ length names.old }
     ensures steps { Steps whole st.old params.old stream.now at buf.old st.new params.new buf.new result }
     ensures noted_next { Noted st.new saved.new }
 {
     snapshot::save_vars(st, saved);
-    let before = Before {
-        used: st.used,
-        saved,
-        touched: Touched::Nothing,
-    };
-    step_from(st, before, params, stream, at, whole, names, buf)
+    step_from(st, st.used, saved, params, stream, at, whole, names, buf)
 }
 
 // ---- the splitter

@@ -6,7 +6,7 @@
 ghost use Rattle.std.specs.Prelude.{◌≡◌, ◌+◌, ◌<◌, ◌≤◌, length, IfOk};
 
 use itoa::Buffer;
-use limits::MAX_BUFFER;
+use limits::MAX_MANY;
 use std::io;
 use std::io::{Read, Write};
 use table::WORDS;
@@ -90,7 +90,7 @@ fn record_size(size: usize, rest: usize) -> usize
 fn after_lines<'a>(stream: &[u8], log: &'a [u8]) -> Option<&'a [u8]> {
     let mut state = [0u32; WORDS];
     let mut params = [[0u8; 8]; 256];
-    let mut answer = [0u8; MAX_BUFFER];
+    let mut answer = [0u8; MAX_MANY];
     let mut stream = stream;
     let mut log = log;
     for i in 0..u64::MAX {

@@ -19,12 +19,13 @@ use Rattle.definition.specs.Reader.{Read, got, not_read}
 use Rattle.definition.specs.Trees.{Tree, arity, read_type}
 use Rattle.definition.specs.Record.{CN}
 use Rattle.definition.specs.Sound.{sound}
-use Rattle.definition.specs.Step.{run, number_of_refusal, refusal, answer, max_buffer, usable, lent, step}
+use Rattle.definition.specs.Step.{run, number_of_refusal, refusal, answer, max_buffer, usable, lent, step, answer_within, most_of, apart, reply, least_buffer}
 use Rattle.definition.specs.Agree.{met_in, tags, places, Agree, Carried, CNAgain, CNRoom}
+use Rattle.theorems.proofs.LawsAnswer.{sound_of}
 use Rattle.theorems.proofs.DemandTracks.{never}
 use Rattle.theorems.proofs.DemandOrder.{All, Sound}
 use Rattle.theorems.proofs.DemandRuns.{arity_same}
-use Rattle.theorems.proofs.SoundFacts.{and_r, test, facts}
+use Rattle.theorems.proofs.SoundFacts.{test, facts}
 use Rattle.theorems.proofs.Soundness.{and}
 use Rattle.theorems.proofs.SoundRead.{Fine, ReadWell, given, well_read}
 use Rattle.theorems.proofs.ReadyTold.{Fits, Grown, Reads as Gives, made as given_so, no_place}
@@ -74,11 +75,11 @@ shown s m = m >>= (λ (x : State × ℕ). ok (s, canonical x.0 x.1))
 
 -- a payload that fits
 fits : (s : State) (p : Bytes) → length p ≤ 4096 → ((answer s (ok (s, p))).number ≡ 0) × ((answer s (ok (s, p))).payload ≡ p)
-unfolding answer
+unfolding answer answer_within
 fits s p h = rw (with_is s 0 p s, le-leb (length p) 4096 h) (refl, refl)
 
 not_7 : (s : State) (p : Bytes) → (answer s (ok (s, p))).number ≢ 7
-unfolding answer
+unfolding answer answer_within
 not_7 s p = rw (with_is s 0 p s) (go (leb (length p) 4096))
   where
     go : (b : Bool) → (if_short s 0 p s b).number ≢ 7
@@ -86,11 +87,11 @@ not_7 s p = rw (with_is s 0 p s) (go (leb (length p) 4096))
     go false e = absurd (omega (arith, e))
 
 nine_not_7 : (s : State) → (answer s (refused runs_into_itself)).number ≢ 7
-unfolding answer refusal number_of_refusal
+unfolding answer answer_within refusal number_of_refusal
 nine_not_7 s e = absurd (omega (arith, e))
 
 full_is_7 : (s : State) → (answer s (refused full)).number ≡ 7
-unfolding answer refusal number_of_refusal
+unfolding answer answer_within refusal number_of_refusal
 full_is_7 s = refl
 
 -- ---- what is carried
@@ -112,8 +113,8 @@ module _ (s' : State) (p : Bytes) (c : Carried s' p) (h : sound s' ≡ true) whe
   unfolding run ◌>>=◌
   run_is = rw c.build_gives refl
 
-  answered : (buffer : ℕ) → usable s' buffer ≡ true → step s' (67 ∷ 78 ∷ p) buffer ≡ answer s' (shown s' (ready_tvars c.placed c.node))
-  unfolding step lent
+  answered : (buffer : ℕ) → usable s' (67 ∷ 78 ∷ p) buffer ≡ true → step s' (67 ∷ 78 ∷ p) buffer ≡ answer s' (shown s' (ready_tvars c.placed c.node))
+  unfolding step lent reply apart most_of answer
   answered buffer u = rw (u, step) (rw c.is_CN (rw run_is refl))
 
   module _ (a : Grown (arity s') s' c.placed) (i : c.node < count c.placed) (d : Stands c.placed (type_at c.placed c.node) q) where
@@ -174,34 +175,30 @@ module _ (s' : State) (p : Bytes) (c : Carried s' p) (h : sound s' ≡ true) whe
           ap read_of (sym same_tree) ∙ ap (λ (x : ReadType × Bytes). x.0) (sym (u n (omega arith)) ∙ back)
       go more (not_read x) z f u = never (cc)
 
-not_usable : (s : State) (bytes : Bytes) (buffer : ℕ) → usable s buffer ≡ false → (step s bytes buffer).number ≡ 15
+not_usable : (s : State) (bytes : Bytes) (buffer : ℕ) → usable s bytes buffer ≡ false → (step s bytes buffer).number ≡ 15
 unfolding step refusal number_of_refusal
 not_usable s bytes buffer e = rw (e, step) refl
 
-sound_of : (s : State) (buffer : ℕ) → usable s buffer ≡ true → sound s ≡ true
-unfolding usable
-sound_of s buffer e = and_r (leb max_buffer buffer) (sound s) e
-
-is_usable : (s : State) (buffer : ℕ) → 4096 ≤ buffer → sound s ≡ true → usable s buffer ≡ true
-unfolding usable max_buffer
-is_usable s buffer l h = and (le-leb 4096 buffer l) h
+is_usable : (s : State) (p : Bytes) (buffer : ℕ) → 4096 ≤ buffer → sound s ≡ true → usable s (67 ∷ 78 ∷ p) buffer ≡ true
+unfolding usable least_buffer max_buffer
+is_usable s p buffer l h = and (le-leb 4096 buffer l) h
 
 -- not 7, where beside what reading takes as much again is left
 pub cn_room : (s : State) → CNRoom s
 unfolding CNRoom
-cn_room s p buffer c n a = go (usable s buffer) refl
+cn_room s p buffer c n a = go (usable s (67 ∷ 78 ∷ p) buffer) refl
   where
-    go : (b : Bool) → usable s buffer ≡ b → (step s (67 ∷ 78 ∷ p) buffer).number ≢ 7
-    go true e = let h : sound s ≡ true = sound_of s buffer e in rw (answered s p c h buffer e) (room_left s p c h n a (is_built s p c h))
+    go : (b : Bool) → usable s (67 ∷ 78 ∷ p) buffer ≡ b → (step s (67 ∷ 78 ∷ p) buffer).number ≢ 7
+    go true e = let h : sound s ≡ true = sound_of s (67 ∷ 78 ∷ p) buffer e in rw (answered s p c h buffer e) (room_left s p c h n a (is_built s p c h))
     go false e = rw (not_usable s (67 ∷ 78 ∷ p) buffer e) (λ x. absurd (omega (arith, x)))
 
 -- the same bytes, or 7
 pub cn_again : (s s' : State) → CNAgain s s'
 unfolding CNAgain
 cn_again s s' bytes p buffer buffer' r e x c h l n =
-    rw (is (is_usable s' buffer' l h)) (again_in s' p c h same (short s bytes buffer p r x) (is_built s' p c h) (rw (is (is_usable s' buffer' l h)) at n))
+    rw (is (is_usable s' p buffer' l h)) (again_in s' p c h same (short s bytes buffer p r x) (is_built s' p c h) (rw (is (is_usable s' p buffer' l h)) at n))
   where
-    is : usable s' buffer' ≡ true → step s' (67 ∷ 78 ∷ p) buffer' ≡ answer s' (shown s' (ready_tvars c.placed c.node))
+    is : usable s' (67 ∷ 78 ∷ p) buffer' ≡ true → step s' (67 ∷ 78 ∷ p) buffer' ≡ answer s' (shown s' (ready_tvars c.placed c.node))
     is u = answered s' p c h buffer' u
 
     spelled : Spelling s p r

@@ -19,7 +19,7 @@ use Rattle.definition.specs.Agree.{met_in, Agree, Spells, OneSpelling, CNResolve
 use Rattle.definition.specs.Build.{build}
 use Rattle.definition.specs.Canonical.{canonical, number_of}
 use Rattle.definition.specs.Sound.{sound}
-use Rattle.definition.specs.Step.{run, answer, usable, step, Answer}
+use Rattle.definition.specs.Step.{run, answer, usable, step, Answer, apart}
 use Rattle.theorems.proofs.DemandTracks.{never}
 use Rattle.theorems.proofs.DemandOrder.{Sound}
 use Rattle.theorems.proofs.LawsPost.{Post, p_ok}
@@ -82,14 +82,15 @@ module _ (S : State) (h : sound S ≡ true) where
 
 -- a CN that answers 0
 module _ (S : State) (bytes : Bytes) (buffer : ℕ) (tree : Tree) (are_bytes : IsBytes bytes) (is_CN : read_record S bytes ≡ got (CN tree) []) (number : (step S bytes buffer).number ≡ 0) where
-  able : usable S buffer ≡ true
+  able : usable S bytes buffer ≡ true
   able = usable_is S bytes buffer number
 
   pub sound_is : sound S ≡ true
-  sound_is = sound_of S buffer able
+  sound_is = sound_of S bytes buffer able
 
   pub answered : step S bytes buffer ≡ answer S (run S (CN tree))
-  answered = step_runs S bytes buffer (CN tree) able is_CN
+  unfolding apart
+  answered = step_runs S bytes buffer (CN tree) able is_CN refl
 
   read_well : ReadWell (Unit {0}) S (length bytes - 1) (got (CN tree) [])
   read_well = rw is_CN at (well_read (Unit {0}) S bytes (λ u. are_bytes))

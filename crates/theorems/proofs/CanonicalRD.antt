@@ -14,7 +14,7 @@ use Rattle.definition.specs.Reader.{Read, got, not_read, go_on, ◌>>=◌ as ◌
 use Rattle.definition.specs.Trees.{Tree, read_type}
 use Rattle.definition.specs.Record.{RD, CN, by_mark, fields_of, read_fields, max_record, read_record}
 use Rattle.definition.specs.Build.{build}
-use Rattle.definition.specs.Step.{run, refusal, answer, answer_with, max_payload, usable, lent, step, Answer}
+use Rattle.definition.specs.Step.{run, refusal, answer_within, answer, answer_with, most_of, apart, reply, least_buffer, max_payload, usable, lent, step, Answer}
 use Rattle.definition.specs.Agree.{AsRD, CNAsRD}
 use Rattle.theorems.proofs.Canonical.{canonical_length}
 use Rattle.theorems.proofs.ReadBack.{made, made_is}
@@ -24,7 +24,7 @@ same a = record { same_number = refl; same_length = refl; same_state = refl }
 
 module _ (s : State) where
   with_payload : (p q : Bytes) → length p ≡ length q → AsRD (answer s (ok (s, p))) (answer s (ok (s, q)))
-  unfolding answer answer_with
+  unfolding answer answer_within answer_with
   with_payload p q e = rw e (go (leb (length q) max_payload))
     where
       go : (b : Bool) → AsRD (if b then record { number = 0; payload = p; state = s } else refusal s answer_too_long) (if b then record { number = 0; payload = q; state = s } else refusal s answer_too_long)
@@ -48,7 +48,7 @@ module _ (s : State) where
       go (refused x) = same _
 
   lent_same : (tree : Tree) (rest : Bytes) → AsRD (lent s (got (CN tree) rest)) (lent s (got (RD tree) rest))
-  unfolding lent
+  unfolding lent reply apart most_of answer
   lent_same tree [] = runs tree
   lent_same tree (b ∷ rest) = same _
 
@@ -68,8 +68,8 @@ module _ (s : State) where
   lent_bytes bytes = rw (reads_CN bytes, reads_RD bytes) (lent_both (drop 4094 bytes) (read_type s (take 4094 bytes)))
 
   pub cn_as_rd : CNAsRD s
-  unfolding CNAsRD step
-  cn_as_rd bytes buffer = go (usable s buffer)
+  unfolding CNAsRD step usable least_buffer
+  cn_as_rd bytes buffer = go (usable s (67 ∷ 78 ∷ bytes) buffer)
     where
       go : (b : Bool) → AsRD (elim b [ true ↦ lent s (read_record s (67 ∷ 78 ∷ bytes)) | false ↦ refusal s unsound_state ]) (elim b [ true ↦ lent s (read_record s (82 ∷ 68 ∷ bytes)) | false ↦ refusal s unsound_state ])
       go true = lent_bytes bytes

@@ -12,18 +12,18 @@ use Rattle.definition.specs.Subst.{reaches_itself}
 use Rattle.definition.specs.Write.{Bytes}
 use Rattle.definition.specs.Trees.{arity}
 use Rattle.definition.specs.Sound.{sound}
-use Rattle.definition.specs.Step.{step}
 use Rattle.definition.specs.Rank.{NoneReachesItself}
-use Rattle.definition.specs.Demand.{events, trace, point, at, NoLoops, Demand3}
+use Rattle.definition.specs.Demand.{events, trace, point, at, NoLoops, Demand3, if_reached, two_types_calls, default_num_var_calls, default_num_vars_calls, run_calls, Event, pair_events, nothing_done, many_events, events_by, lent_events}
 use Rattle.theorems.proofs.Laws.{get_beyond}
 use Rattle.theorems.proofs.DemandTracks.{never}
 use Rattle.theorems.proofs.DemandOrder.{Sound}
 use Rattle.theorems.proofs.SoundFacts.{unnot, elim_l, elim_r, of_each, facts}
 use Rattle.theorems.proofs.TotalReading.{reaches_is_runs}
-use Rattle.theorems.proofs.DemandEveryDepth.{Somehow, step_stepped}
+use Rattle.theorems.proofs.DemandEveryDepth.{Somehow, Chain, next, chained}
 use Rattle.theorems.proofs.Demand.{demand_3}
 use Rattle.definition.proofs.Computed.{answered}
 use Rattle.definition.proofs.Spelling.{bool, vector, var, FV, NV, JN, SV}
+use Rattle.definition.proofs.AnswersMany.{worked}
 
 -- ---- the test
 
@@ -48,22 +48,24 @@ clear_none {s = s} h e v t = never (let a = unclear in let b = (reaches_is_runs 
     unclear : reaches_itself s T ≡ false
     unclear = let c : clear_binding s (get s v) ≡ true = of_each (λ c. clear_binding s c.binding) unbound s.vars e v v_in in unnot (reaches_itself s T) (rw t.bound at c)
 
--- at the start, and after each record
-unfoldable pub clear_from : State → List (Bytes × ℕ) → Bool
-clear_from s [] = clear s
-clear_from s ((bytes, buffer) ∷ records) = elim (clear s) [ true ↦ clear_from (step s bytes buffer).state records | false ↦ false ]
+-- at the start, and after each record or pair
+unfoldable pub clear_along : State → List Event → Bool
+clear_along s [] = clear s
+clear_along s (e ∷ es) = elim (clear s) [ true ↦ clear_along e.state es | false ↦ false ]
 
-clear_at : (s : State) (records : List (Bytes × ℕ)) → Somehow s → clear_from s records ≡ true → (i : ℕ) → i ≤ length (trace s records) → NoneReachesItself (at s records i)
-unfolding clear_from at point trace events
-clear_at s [] h e zero l = clear_none h.facts_of e
-clear_at s [] h e (suc i) l = absurd (omega arith)
-clear_at s ((bytes, buffer) ∷ records) h e zero l = clear_none h.facts_of (elim_l (clear s) (clear_from (step s bytes buffer).state records) e)
-clear_at s ((bytes, buffer) ∷ records) h e (suc i) l =
-    clear_at (step s bytes buffer).state records ((step_stepped s bytes buffer).still h) (elim_r (clear s) (clear_from (step s bytes buffer).state records) e) i (omega arith)
+unfoldable pub clear_from : State → List (Bytes × ℕ) → Bool
+clear_from s records = clear_along s (trace s records)
+
+clear_at : (s : State) (es : List Event) → Chain ⊥ s es → Somehow s → clear_along s es ≡ true → (i : ℕ) → i ≤ length es → NoneReachesItself (point s es i)
+unfolding clear_along point
+clear_at s [] c h e zero l = clear_none h.facts_of e
+clear_at s [] c h e (suc i) l = absurd (omega arith)
+clear_at s (x ∷ es) c h e zero l = clear_none h.facts_of (elim_l (clear s) (clear_along x.state es) e)
+clear_at s (x ∷ es) (next f c) h e (suc i) l = clear_at x.state es c (f.stepped.still h) (elim_r (clear s) (clear_along x.state es) e) i (omega arith)
 
 pub no_loops : (s : State) (records : List (Bytes × ℕ)) → sound s ≡ true → clear_from s records ≡ true → NoLoops s records
-unfolding NoLoops
-no_loops s records h e i l = clear_at s records (record { ar = arity s; facts_of = facts s h }) e i l
+unfolding NoLoops at clear_from
+no_loops s records h e i l = clear_at s (trace s records) (chained s records) (record { ar = arity s; facts_of = facts s h }) e i l
 
 -- ---- a job: a numeric variable V0, and V1 joined to it; an error; too short an answer buffer; V3, taken by the error, bound to vector<V0>; SV, which makes V0 a u64
 
@@ -71,8 +73,20 @@ abbrev pub job : List (Bytes × ℕ)
 job = (NV 1, 4096) ∷ (FV 2, 4096) ∷ (JN (var 3 1) (var 4 0), 4096) ∷ (JN (var 5 0) (bool 6), 4096) ∷ (SV, 4095) ∷ (JN (var 8 3) (vector 9 (var 10 0)), 4096) ∷ (SV, 4096) ∷ []
 
 job_clear : clear_from fresh job ≡ true
-unfolding answered clear_from clear clear_binding
+unfolding answered two_types_calls if_reached run_calls default_num_var_calls default_num_vars_calls pair_events nothing_done many_events events_by lent_events events trace clear_from clear_along clear clear_binding
 job_clear = refl
+
+-- .. and of pairs: V0 with u8, a subtype error, and V0 with u8 again
+abbrev pub pairs_job : List (Bytes × ℕ)
+pairs_job = (FV 1, 4096) ∷ (worked, 61485) ∷ (worked, 61484) ∷ []
+
+pairs_job_clear : clear_from fresh pairs_job ≡ true
+unfolding answered two_types_calls if_reached run_calls default_num_var_calls default_num_vars_calls pair_events nothing_done many_events events_by lent_events events trace clear_from clear_along clear clear_binding
+pairs_job_clear = refl
+
+pub pairs_job_demand_3 : Demand3 fresh pairs_job
+unfolding answered
+pairs_job_demand_3 = demand_3 fresh pairs_job refl (no_loops fresh pairs_job refl pairs_job_clear)
 
 pub job_demand_3 : Demand3 fresh job
 unfolding answered

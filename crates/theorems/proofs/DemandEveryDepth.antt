@@ -1,7 +1,8 @@
 -- Demand 3 at every depth of unrolling, of every list of records and with no hypothesis. Assumes nothing.
--- First one record: the state rises, or is as it was (`Up`, `Stepped`). Then the list of records by induction, and each join by the main lemma.
-use mathlib.Core.Path.{◌≡◌, refl, sym, subst, ap}
+-- First one record: the state rises, or is as it was (`Up`, `Stepped`). Then its events, one after the other (`Chain`): one for each pair of an MJ, one for any other record. Each join by the main lemma.
+use mathlib.Core.Path.{◌≡◌, refl, sym, subst, ap, sym, ◌∙◌, subst}
 use mathlib.Core.Bool.{Bool, true, false}
+use mathlib.Core.List.Memᴰ
 use mathlib.Core.List.{List, [], ◌∷◌, ◌++◌, Memᴰ}
 use mathlib.Core.Logic.{inl, inr}
 use Prim.Native.Nat.{ℕ, zero, suc, ◌≤◌, ◌<◌}
@@ -10,29 +11,34 @@ use lib.ListN.{length}
 use lib.Dec.{leb}
 use Rattle.std.specs.Prelude.{if◌then◌else◌}
 use Rattle.definition.specs.Types.{TypeName, Var, State, max_depth, answer_too_long, unsound_state, Result, ok, err, refused}
+use Rattle.definition.specs.Join.{TypingCase}
 use Rattle.definition.specs.Store.{taken, type_at, need_of}
 use Rattle.definition.specs.Write.{Bytes}
 use Rattle.definition.specs.Reader.{Read, got, not_read}
-use Rattle.definition.specs.Record.{Record, read_record}
-use Rattle.definition.specs.Trees.{arity}
-use Rattle.definition.specs.Step.{Answer, refusal, put_back, max_payload, answer_with, answer, max_buffer, usable, lent, run, step}
+use Rattle.definition.specs.Record.{Record, read_record, SD, FV, NV, SN, NL, JN, SU, UF, RD, IN, TS, NC, BC, SC, SV, RM, CN, XP, MJ}
+use Rattle.definition.specs.Trees.{arity, Tree}
+use Rattle.definition.specs.Step.{Answer, refusal, put_back, max_payload, answer_with, usable, lent, run, step, answer_within, Apart, as_others, many, apart, most_of, reply, pair_answer, run_pairs}
 use Rattle.definition.specs.Rank.{ReadType, Rank, NoneReachesItself}
-use Rattle.definition.specs.Demand.{JoinCall, outcome, OnSuccess, after, Event, events, trace, point, at, NeedsGrow}
+use Rattle.definition.specs.Demand.{JoinCall, outcome, OnSuccess, after, Event, events, trace, point, at, NeedsGrow, run_calls, pair_events, nothing_done, many_events, events_by, lent_events}
+use Rattle.definition.specs.Build.{build_many}
 use Rattle.theorems.proofs.DemandDepth.{unrolled}
-use Rattle.theorems.proofs.DemandOrder.{Sound, ◌⊑◌, chain, ends_in, ends_keep}
+use Rattle.theorems.proofs.DemandOrder.{Sound, ◌⊑◌, chain, ends_in, ends_keep, All}
 use Rattle.theorems.proofs.DemandSteps.{quiet_⊑}
 use Rattle.theorems.proofs.LawsPost.{Post, p_ok}
 use Rattle.theorems.proofs.DemandCalls.{Joined}
 use Rattle.theorems.proofs.DemandMain.{join_impl_good}
 use Rattle.theorems.proofs.DemandReading.{rank_refl, rank_trans, tracks_rank, var_up}
 use Rattle.theorems.proofs.DemandPutBack.{quiet_put_back, sound_put_back}
-use Rattle.theorems.proofs.SoundFacts.{and_r, facts}
-use Rattle.theorems.proofs.SoundRead.{ReadWell, given, well_read}
-use Rattle.theorems.proofs.DemandRecords.{Leaves, l_ok, l_err, l_refused, run_leaves, Literals, literals}
-use Rattle.theorems.proofs.DemandFair.{Fair, AllFair, step_fair}
+use Rattle.theorems.proofs.SoundFacts.{facts}
 use Rattle.definition.specs.Subst.{forward_tvar}
 use Rattle.theorems.proofs.DemandTracks.{ends_stop, ends_det}
 use mathlib.Core.List.Memᴰ
+use Rattle.theorems.proofs.SoundRead.{FineRecord, ReadWell, given, well_read}
+use Rattle.theorems.proofs.JoinAnswers.{weight, Weighs, weighs, record_weighs}
+use Rattle.theorems.proofs.LawsAnswer.{sound_of}
+use Rattle.theorems.proofs.ManyPairs.{Pair, PairFits, fits_on, Placed, many_put, many_replies, many_refused}
+use Rattle.theorems.proofs.DemandRecords.{Literals, literals, Leaves, l_ok, l_err, l_refused, run_leaves, pair_raised, PlacedPairs, many_went, NoErr, no_many}
+use Rattle.theorems.proofs.DemandFair.{Fair, AllFair, none_fair, run_calls_fair, pair_fair}
 
 -- ---- the claim, with no hypothesis: where a variable reaches itself there is no whole reading, but there is one to every depth
 
@@ -107,32 +113,36 @@ stepped_trans a b = record { up = up_trans a.up b.up; still = λ h. b.still (a.s
 stepped_above : {ar : TypeName → ℕ} {s s' : State} → Sound ar s → Sound ar s' → s ⊑ s' → Stepped s s'
 stepped_above {ar} s s' x = record { up = up_above s s' x; still = λ h. record { ar = ar; facts_of = s' } }
 
-answer_with_stepped : (s : State) (n : ℕ) (p : Bytes) (s' : State) → Stepped s s' → Stepped s (answer_with s n p s').state
+answer_with_stepped : (most : ℕ) (s : State) (n : ℕ) (p : Bytes) (s' : State) → Stepped s s' → Stepped s (answer_with most s n p s').state
 unfolding answer_with refusal
-answer_with_stepped s n p s' h = go (leb (length p) max_payload)
+answer_with_stepped most s n p s' h = go (leb (length p) most)
   where
     go : (b : Bool) → Stepped s (if b then record { number = n; payload = p; state = s' } else refusal s answer_too_long).state
     go true = h
     go false = stays s
 
-answer_stepped : {ar : TypeName → ℕ} (s : State) → Sound ar s → (r : Literals) (m : Result (State × Bytes)) → Leaves r ar s m → Stepped s (answer s m).state
-unfolding answer refusal
-answer_stepped s h r (ok (s', p)) (l_ok w k) = answer_with_stepped s _ p s' (stepped_above h w.sound w.above)
-answer_stepped s h r (err s' e) (l_err g n) = answer_with_stepped s _ _ (put_back s s') (stepped_above h (sound_put_back h g n) (quiet_⊑ h (sound_put_back h g n) (quiet_put_back h g n)))
-answer_stepped s h r (refused x) l_refused = stays s
+answer_stepped : {ar : TypeName → ℕ} (most : ℕ) (s : State) → Sound ar s → (r : Literals) (m : Result (State × Bytes)) → Leaves r ar s m → Stepped s (answer_within most s m).state
+unfolding answer_within refusal
+answer_stepped most s h r (ok (s', p)) (l_ok w k) = answer_with_stepped most s _ p s' (stepped_above h w.sound w.above)
+answer_stepped most s h r (err s' e) (l_err g n) = answer_with_stepped most s _ _ (put_back s s') (stepped_above h (sound_put_back h g n) (quiet_⊑ h (sound_put_back h g n) (quiet_put_back h g n)))
+answer_stepped most s h r (refused x) l_refused = stays s
+
+reply_stepped : (s : State) → Sound (arity s) s → (r : Record) → FineRecord (arity s) (taken s) r → Stepped s (reply s r).state
+unfolding reply
+reply_stepped s h r f = answer_stepped (most_of (apart r)) s h (literals r) (run s r) (run_leaves s h r f)
 
 lent_stepped : (s : State) → Sound (arity s) s → {n : ℕ} (r : Read Record) → ReadWell ⊥ s n r → Stepped s (lent s r).state
 unfolding lent refusal
-lent_stepped s h (got r []) (given f i l) = answer_stepped s h (literals r) (run s r) (run_leaves s h r f.0)
+lent_stepped s h (got r []) (given f i l) = reply_stepped s h r f.0
 lent_stepped s h (got r (b ∷ rest)) f = stays s
 lent_stepped s h (not_read x) f = stays s
 
 pub step_stepped : (s : State) (bytes : Bytes) (buffer : ℕ) → Stepped s (step s bytes buffer).state
 unfolding step usable refusal
-step_stepped s bytes buffer = go (usable s buffer) refl
+step_stepped s bytes buffer = go (usable s bytes buffer) refl
   where
-    go : (b : Bool) → usable s buffer ≡ b → Stepped s (elim b as (λ x. Answer) [ true ↦ lent s (read_record s bytes) | false ↦ refusal s unsound_state ]).state
-    go true e = lent_stepped s (facts s (and_r (leb max_buffer buffer) _ e)) (read_record s bytes) (well_read ⊥ s bytes (λ h. absurd h))
+    go : (b : Bool) → usable s bytes buffer ≡ b → Stepped s (elim b as (λ x. Answer) [ true ↦ lent s (read_record s bytes) | false ↦ refusal s unsound_state ]).state
+    go true e = lent_stepped s (facts s (sound_of s bytes buffer e)) (read_record s bytes) (well_read ⊥ s bytes (λ h. absurd h))
     go false e = stays s
 
 pub after_stepped : (s : State) (records : List (Bytes × ℕ)) → Stepped s (after s records)
@@ -185,10 +195,104 @@ chain_append s (e ∷ es) es' (next f c) c' = next f (chain_append e.state es es
 pub record Events (E : Type 0) (s : State) (es : List Event) (s' : State) : Type 0 where
   pub chain : Chain E s es
   pub end : last_of s es ≡ s'
+  pub some : 1 ≤ length es
+
+-- .. a record that does nothing
+nothing_events : {E : Type 0} (s : State) → Events E s (nothing_done s) s
+unfolding nothing_done
+nothing_events s = record { chain = next (record { stepped = stays s; fair = λ n z. none_fair }) ended; end = refl; some = omega arith }
+
+-- .. MJ's pairs, from the state s that they were placed from, S: one event or more, if there is a pair or more
+pairs_chain : {E : Type 0} {ar : TypeName → ℕ} (s : State) (ps : List Pair) (S : State) → Stepped s S → Sound ar S → All (PairFits S) ps → 1 ≤ length ps → Chain E s (pair_events S ps)
+unfolding pair_events
+pairs_chain s [] S u h f l = absurd (omega arith)
+pairs_chain s (p ∷ []) S u h f l = let a = pair_raised h p (f.0.l_in, f.0.r_in) in
+    next (record { stepped = stepped_trans u (stepped_above h a.went.sound a.went.above); fair = λ n z. pair_fair S h p f.0 z }) ended
+pairs_chain s (p ∷ q ∷ ps) S u h f l = let a = pair_raised h p (f.0.l_in, f.0.r_in) in
+    next (record { stepped = stepped_trans u (stepped_above h a.went.sound a.went.above); fair = λ n z. pair_fair S h p f.0 z })
+    (pairs_chain (pair_answer S p).state (q ∷ ps) (pair_answer S p).state (stays _) a.went.sound (fits_on h a.went.sound a.grown (q ∷ ps) f.1) (omega arith))
+
+pairs_end : (s : State) (ps : List Pair) (S : State) → 1 ≤ length ps → last_of s (pair_events S ps) ≡ (run_pairs S ps).0
+unfolding pair_events run_pairs
+pairs_end s [] S l = absurd (omega arith)
+pairs_end s (p ∷ []) S l = refl
+pairs_end s (p ∷ q ∷ ps) S l = pairs_end (pair_answer S p).state (q ∷ ps) (pair_answer S p).state (omega arith)
+
+pairs_many : (s : State) (ps : List Pair) → length (pair_events s ps) ≡ length ps
+unfolding pair_events
+pairs_many s [] = refl
+pairs_many s (p ∷ ps) = ap suc (pairs_many (pair_answer s p).state ps)
+
+many_events_are : {E : Type 0} (s : State) → Sound (arity s) s → (ps : List (TypingCase × Tree × Tree)) → FineRecord (arity s) (taken s) (MJ ps) → weight (MJ ps) ≤ max_payload → Events E s (many_events s (build_many ps s)) (reply s (MJ ps)).state
+unfolding many_events weight refusal
+many_events_are {E} s h ps f w = go (build_many ps s) refl (no_many ps s) (many_put ps f.0 w h (omega arith)) (many_went ps f.0 h (omega arith))
+  where
+    go : (m : Result (State × List Pair)) → build_many ps s ≡ m → NoErr m → Post (arity s) s (Placed (arity s) (length ps)) m → Post (arity s) s (PlacedPairs (arity s) s) m
+        → Events E s (elim m [ ok (s', pairs) ↦ pair_events s' pairs | err s' e ↦ nothing_done s | refused x ↦ nothing_done s ]) (reply s (MJ ps)).state
+    go (ok (S, qs)) e n (p_ok g p) (p_ok g' q) =
+        let r : (reply s (MJ ps)).state ≡ (run_pairs S qs).0 = ap (λ (a : Answer). a.state) (many_replies s ps f.2 S qs e) in
+        record {
+          chain = pairs_chain s qs S (stepped_above h q.went.sound q.went.above) p.sound p.fits (omega (arith, p.so_many, f.1));
+          end = pairs_end s qs S (omega (arith, p.so_many, f.1)) ∙ sym r;
+          some = omega (arith, pairs_many S qs, p.so_many, f.1);
+        }
+    go (err _ _) e n p q = elim n [ ]
+    go (refused x) e n p q = let r : (reply s (MJ ps)).state ≡ s = ap (λ (a : Answer). a.state) (many_refused s ps x e) in rw r (nothing_events s)
+
+-- one event for every other record
+one_event : {E : Type 0} (s : State) → Sound (arity s) s → (r : Record) → FineRecord (arity s) (taken s) r → weight r ≤ max_payload → Events E s (record { state = (reply s r).state; calls = run_calls s r } ∷ []) (reply s r).state
+one_event s h r f w = record { chain = next (record { stepped = reply_stepped s h r f; fair = λ n z. run_calls_fair s h r f w n z }) ended; end = refl; some = omega arith }
+
+-- every record but MJ is answered as the others are
+pub data ByApart : Record → Apart → Type 0 where
+  as_other : {r : Record} → ByApart r as_others
+  as_many : {ps : List (TypingCase × Tree × Tree)} → ByApart (MJ ps) (many ps)
+
+pub by_apart : (r : Record) → ByApart r (apart r)
+unfolding apart
+by_apart (SD a ps) = as_other
+by_apart (FV loc) = as_other
+by_apart (NV loc) = as_other
+by_apart (NL loc bits) = as_other
+by_apart (SN v loc) = as_other
+by_apart (JN t u) = as_other
+by_apart (SU t u) = as_other
+by_apart (UF t) = as_other
+by_apart (RD t) = as_other
+by_apart (IN t) = as_other
+by_apart (TS ps t) = as_other
+by_apart (NC loc kind t) = as_other
+by_apart (BC loc t) = as_other
+by_apart (SC loc t) = as_other
+by_apart SV = as_other
+by_apart (RM t) = as_other
+by_apart (CN t) = as_other
+by_apart (XP t) = as_other
+by_apart (MJ ps) = as_many
+
+events_of : {E : Type 0} (s : State) → Sound (arity s) s → {r : Record} {a : Apart} → ByApart r a → FineRecord (arity s) (taken s) r → weight r ≤ max_payload → Events E s (events_by s r a) (reply s r).state
+unfolding events_by
+events_of s h (as_other {r = r}) f w = one_event s h r f w
+events_of s h (as_many {ps = ps}) f w = many_events_are s h ps f w
+
+lent_events_are : {E : Type 0} (s : State) → Sound (arity s) s → {n : ℕ} (r : Read Record) → ReadWell ⊥ s n r → Weighs max_payload r → Events E s (lent_events s r) (lent s r).state
+unfolding lent_events lent refusal
+lent_events_are s h (got r []) (given f i l) (weighs w) = events_of s h (by_apart r) f.0 w
+lent_events_are s h (got r (b ∷ rest)) f w = nothing_events s
+lent_events_are s h (not_read x) f w = nothing_events s
 
 pub record_events : {E : Type 0} (s : State) (bytes : Bytes) (buffer : ℕ) → Events E s (events s bytes buffer) (step s bytes buffer).state
-unfolding events
-record_events s bytes buffer = record { chain = next (record { stepped = step_stepped s bytes buffer; fair = λ n z. step_fair s bytes buffer n z }) ended; end = refl }
+unfolding events step refusal
+record_events {E} s bytes buffer = go (usable s bytes buffer) refl
+  where
+    go : (b : Bool) → usable s bytes buffer ≡ b → Events E s (elim b [ true ↦ lent_events s (read_record s bytes) | false ↦ nothing_done s ])
+        (elim b as (λ x. Answer) [ true ↦ lent s (read_record s bytes) | false ↦ refusal s unsound_state ]).state
+    go true e = lent_events_are s (facts s (sound_of s bytes buffer e)) (read_record s bytes) (well_read ⊥ s bytes (λ h. absurd h)) (record_weighs s bytes)
+    go false e = nothing_events s
+
+-- every record has an event, and the last of them ends in the state that the record leaves
+pub trace_ends : (s : State) (bytes : Bytes) (buffer : ℕ) → (1 ≤ length (events s bytes buffer)) × (last_of s (events s bytes buffer) ≡ (step s bytes buffer).state)
+trace_ends s bytes buffer = let e = record_events {E = ⊥} s bytes buffer in (e.some, e.end)
 
 pub chained : {E : Type 0} (s : State) (records : List (Bytes × ℕ)) → Chain E s (trace s records)
 unfolding trace

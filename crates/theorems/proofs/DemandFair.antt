@@ -6,27 +6,25 @@ use mathlib.Core.Bool.{Bool, true, false}
 use mathlib.Core.List.{List, [], ◌∷◌, ◌++◌, Memᴰ}
 use Prim.Native.Nat.{ℕ, ◌≤◌, ◌<◌}
 use native.Mathlib.Omega.{arith}
-use lib.Dec.{leb}
-use Rattle.definition.specs.Types.{TypeName, Var, State, max_depth, unsound_state, Result, ok, err, refused, ◌>>=◌}
+use Rattle.definition.specs.Types.{TypeName, Var, State, max_depth, Result, ok, err, refused, ◌>>=◌}
 use Rattle.definition.specs.Store.{count, taken, sp}
 use Rattle.definition.specs.Subst.{forward_tvar, unfold_type}
 use Rattle.definition.specs.Join.{TypingCase, Join, Subtype, join_impl, join, subtype}
 use Rattle.definition.specs.Constraints.{num_vars, undecided, default_num_var, default_of}
 use Rattle.definition.specs.Write.{Bytes, write}
-use Rattle.definition.specs.Reader.{Read, got, not_read}
-use Rattle.definition.specs.Record.{Record, SD, FV, NV, SN, JN, SU, UF, RD, IN, TS, NC, BC, SC, SV, RM, CN, XP, read_record, NL}
+use Rattle.definition.specs.Record.{Record, SD, FV, NV, SN, JN, SU, UF, RD, IN, TS, NC, BC, SC, SV, RM, CN, XP, NL, MJ}
 use Rattle.definition.specs.Trees.{Tree, arity}
-use Rattle.definition.specs.Step.{Answer, refusal, max_payload, answer, max_buffer, usable, two_types, lent, run, step}
+use Rattle.definition.specs.Step.{Answer, max_payload, two_types, pair_answer, run, reply}
 use Rattle.definition.specs.Rank.{NoneReachesItself}
-use Rattle.definition.specs.Demand.{JoinCall, outcome, if_reached, two_types_calls, default_num_var_calls, default_num_vars_calls, run_calls, lent_calls, step_calls}
+use Rattle.definition.specs.Demand.{JoinCall, outcome, if_reached, two_types_calls, default_num_var_calls, default_num_vars_calls, run_calls}
 use Rattle.theorems.proofs.DemandOrder.{Sound}
 use Rattle.theorems.proofs.LawsPost.{Post, p_ok, p_err, p_refused}
 use Rattle.theorems.proofs.DemandCalls.{sp_post, var_ok}
-use Rattle.theorems.proofs.SoundFacts.{and_r, facts}
-use Rattle.theorems.proofs.SoundRead.{ReadWell, given, Fine, FineRecord, well_read}
+use Rattle.theorems.proofs.SoundRead.{Fine, FineRecord}
 use Rattle.theorems.proofs.DemandWent.{Went, PostS, ps_ok}
 use Rattle.theorems.proofs.DemandRuns.{Declared, declared_on, Below, below_on, num_vars_below, place_went, default_went, default_ok}
-use Rattle.theorems.proofs.JoinAnswers.{weight, Weighs, weighs, record_weighs, run_fits}
+use Rattle.theorems.proofs.JoinAnswers.{weight, run_fits}
+use Rattle.theorems.proofs.ManyPairs.{Pair, PairFits, pair_fits}
 use Rattle.theorems.proofs.TotalNoFail.{Sure, sure_ok, sure_is, takes_sure, CalmAt, placed_takes, new_calm, default_sure}
 use mathlib.Core.List.Memᴰ
 
@@ -50,7 +48,7 @@ unfolding ◌>>=◌
 joined_clear m f z s t e = z s (f (s, t)) (rw e refl)
 
 module _ {E : Type 0} where
-  none_fair : AllFair E []
+  pub none_fair : AllFair E []
   none_fair a m = absurd (Memᴰ.not-nil m)
 
   one_fair : (b : JoinCall) → Fair E b → AllFair E (b ∷ [])
@@ -121,7 +119,7 @@ module _ {E : Type 0} where
 
   -- ---- a record, where none reaches itself before it or in the state that it leaves
 
-  run_calls_fair : (S : State) → Sound (arity S) S → (r : Record) → FineRecord (arity S) (taken S) r → weight r ≤ max_payload → (E → NoneReachesItself S) → (E → NoneReachesItself (answer S (run S r)).state) → AllFair E (run_calls S r)
+  pub run_calls_fair : (S : State) → Sound (arity S) S → (r : Record) → FineRecord (arity S) (taken S) r → weight r ≤ max_payload → (E → NoneReachesItself S) → (E → NoneReachesItself (reply S r).state) → AllFair E (run_calls S r)
   unfolding run_calls run join subtype
   run_calls_fair S s (SD a ps) f w n z = none_fair
   run_calls_fair S s (FV loc) f w n z = none_fair
@@ -140,18 +138,15 @@ module _ {E : Type 0} where
   run_calls_fair S s (RM t) f w n z = none_fair
   run_calls_fair S s (CN t) f w n z = none_fair
   run_calls_fair S s (XP t) f w n z = none_fair
+  run_calls_fair S s (MJ ps) f w n z = none_fair
   run_calls_fair S s SV f w n z = nums_fair (num_vars 0 S.vars) S s (λ n. refl) (num_vars_below 0 S.vars (taken S) (omega arith)) n
 
-  lent_fair : (s : State) → Sound (arity s) s → {k : ℕ} (r : Read Record) → ReadWell ⊥ s k r → Weighs max_payload r → (E → NoneReachesItself s) → (E → NoneReachesItself (lent s r).state) → AllFair E (lent_calls s r)
-  unfolding lent_calls lent
-  lent_fair s h (got r []) (given f i l) (weighs w) n z = run_calls_fair s h r f.0 w n z
-  lent_fair s h (got r (b ∷ rest)) f w n z = none_fair
-  lent_fair s h (not_read x) f w n z = none_fair
-
-  pub step_fair : (s : State) (bytes : Bytes) (buffer : ℕ) → (E → NoneReachesItself s) → (E → NoneReachesItself (step s bytes buffer).state) → AllFair E (step_calls s bytes buffer)
-  unfolding step_calls usable step
-  step_fair s bytes buffer n z = go (usable s buffer) refl z
-    where
-      go : (b : Bool) → usable s buffer ≡ b → (E → NoneReachesItself (elim b as (λ x. Answer) [ true ↦ lent s (read_record s bytes) | false ↦ refusal s unsound_state ]).state) → AllFair E (elim b [ true ↦ lent_calls s (read_record s bytes) | false ↦ [] ])
-      go true e z = lent_fair s (facts s (and_r (leb max_buffer buffer) _ e)) (read_record s bytes) (well_read ⊥ s bytes (λ h. absurd h)) (record_weighs s bytes) n z
-      go false e z = none_fair
+  -- a pair of MJ
+  pub pair_fair : {ar : TypeName → ℕ} (S : State) → Sound ar S → (p : Pair) → PairFits S p → (E → NoneReachesItself (pair_answer S p).state) → AllFair E (record { before = S; case = p.0; lhs = p.1; rhs = p.2 } ∷ [])
+  pair_fair {ar} S s p i z = one_fair _ (record {
+    ar = ar;
+    from = s;
+    l_in = i.l_in;
+    r_in = i.r_in;
+    clear = λ e s' t d. subst (λ (x : Answer). NoneReachesItself x.state) (pair_fits s p i s' t d) (z e);
+  })

@@ -1,5 +1,5 @@
--- The joins that demand 3 speaks of are those that the runs of JN, SU and SV make. Assumes nothing.
--- By the definitions of the runs: JN and SU make one join, SV one or none for each numeric variable in turn. Each is followed by cases of its results.
+-- The joins that demand 3 speaks of are those that the runs of JN, SU, MJ and SV make. Assumes nothing.
+-- By the definitions of the runs: JN and SU make one join, MJ one for each pair in turn, SV one or none for each numeric variable in turn. Each is followed by cases of its results.
 use mathlib.Core.Path.{◌≡◌, refl}
 use mathlib.Core.Bool.{Bool, true, false}
 use mathlib.Core.List.{List, [], ◌∷◌, ◌++◌}
@@ -9,11 +9,11 @@ use Rattle.definition.specs.Store.{sp}
 use Rattle.definition.specs.Join.{TypingCase, Join, Subtype, join_impl, join, subtype}
 use Rattle.definition.specs.Constraints.{num_vars, undecided, default_num_var, default_num_vars, solve_all, solve_constraints, default_of}
 use Rattle.definition.specs.Write.{Bytes, write}
-use Rattle.definition.specs.Record.{JN, SU, SV}
+use Rattle.definition.specs.Record.{JN, SU, SV, MJ}
 use Rattle.definition.specs.Trees.{Tree}
-use Rattle.definition.specs.Build.{build}
-use Rattle.definition.specs.Step.{two_types, run}
-use Rattle.definition.specs.Demand.{JoinCall, outcome, if_reached, two_types_calls, default_num_var_calls, default_num_vars_calls, run_calls}
+use Rattle.definition.specs.Build.{build, build_many}
+use Rattle.definition.specs.Step.{Answer, answer, two_types, pair_answer, pair_bytes, run_pairs, run, apart}
+use Rattle.definition.specs.Demand.{JoinCall, outcome, if_reached, two_types_calls, default_num_var_calls, default_num_vars_calls, run_calls, Event, pair_events, many_events, events_by}
 use Rattle.theorems.proofs.DemandRecords.{NoErr, no_sp, no_place}
 
 -- ---- JN and SU: one join, whose result is written; or no room for the types
@@ -45,6 +45,28 @@ JN_calls s t1 t2 = two_types_made Join s t1 t2
 pub SU_calls : (s : State) (t1 t2 : Tree) → OneJoin (run s (SU t1 t2)) (run_calls s (SU t1 t2))
 unfolding run run_calls subtype
 SU_calls s t1 t2 = two_types_made Subtype s t1 t2
+
+-- ---- MJ: one join for each pair, in the state that the pair before it left
+
+-- the answer to a pair whose join is a
+abbrev pub answered : JoinCall → Answer
+answered a = answer a.before (outcome a >>= λ (x : State × ℕ). ok (x.0, write x.0 x.1))
+
+pub data PairsMade : State → State × Bytes → List Event → Type 0 where
+  none_left : {S : State} → PairsMade S (S, []) []
+  one_made : {S S' : State} {bytes : Bytes} {es : List Event} (a : JoinCall) → a.before ≡ S → PairsMade (answered a).state (S', bytes) es
+      → PairsMade S (S', pair_bytes (answered a) ++ bytes) (record { state = (answered a).state; calls = a ∷ [] } ∷ es)
+
+pairs_made : (ps : List (TypingCase × ℕ × ℕ)) (S : State) → PairsMade S (run_pairs S ps) (pair_events S ps)
+unfolding run_pairs pair_events pair_answer
+pairs_made [] S = none_left
+pairs_made ((c, l, r) ∷ ps) S = one_made (record { before = S; case = c; lhs = l; rhs = r }) refl (pairs_made ps (pair_answer S (c, l, r)).state)
+
+-- an MJ that is placed: its run's state and payload are those of its pairs, and its events are theirs
+pub MJ_calls : (s : State) (ps : List (TypingCase × Tree × Tree)) (s' : State) (qs : List (TypingCase × ℕ × ℕ)) → build_many ps s ≡ ok (s', qs)
+    → PairsMade s' (run_pairs s' qs) (pair_events s' qs) × (run s (MJ ps) ≡ ok (run_pairs s' qs)) × (events_by s (MJ ps) (apart (MJ ps)) ≡ pair_events s' qs)
+unfolding run events_by apart many_events ◌>>=◌
+MJ_calls s ps s' qs e = (pairs_made qs s', rw e refl, rw e refl)
 
 -- ---- SV: for each numeric variable in turn one join whose state is kept, or none
 

@@ -1,32 +1,35 @@
 -- Every record's run goes up, or leaves the state as it was, or ends in an error whose nodes are sound. Assumes nothing.
 -- First the runs that give back the state as it was, then constraints, then record by record by the rules of Went and the main lemma.
-use mathlib.Core.Path.{◌≡◌, refl}
+use mathlib.Core.Path.{◌≡◌, refl, ◌∙◌}
 use mathlib.Core.Bool.{Bool, true, false}
 use mathlib.Core.List.{List, [], ◌∷◌, ◌++◌}
 use Rattle.std.specs.Prelude.{Option, None, Some}
-use Prim.Native.Nat.{ℕ, ◌<◌}
+use Prim.Native.Nat.{ℕ, ◌<◌, ◌≤◌}
 use native.Mathlib.Omega.{arith}
 use lib.Dec.{leb}
-use Rattle.definition.specs.Types.{TypeName, TypeValue, Constraint, State}
-use Rattle.definition.specs.Store.{count, taken, get, with_constraints, with_structs, sp, declare, num_loc, need_of, with_need, with_var}
-use Rattle.definition.specs.Types.{TypingError, Refusal, Result, ok, err, refused, ◌>>=◌, Var}
-use Rattle.definition.specs.Join.{join, subtype, is_num_var}
+use Rattle.definition.specs.Types.{TypeName, TypeValue, Constraint, State, TypingError, Refusal, Result, ok, err, refused, ◌>>=◌, Var, answer_too_long, max_depth}
+use Rattle.definition.specs.Store.{count, taken, get, with_constraints, with_structs, sp, declare, num_loc, need_of, with_need, with_var, with_vars}
+use Rattle.definition.specs.Join.{join, subtype, is_num_var, TypingCase}
+use Rattle.std.specs.Prelude.{if◌then◌else◌}
 use Rattle.definition.specs.TParams.{subst_tparams}
 use Rattle.definition.specs.Constraints.{num_vars, solve_constraints}
-use Rattle.definition.specs.Write.{Bytes, head}
-use Rattle.definition.specs.Record.{NumericKind, Numeric, Bits, Ordered, Record, SD, FV, NV, SN, JN, SU, UF, RD, IN, TS, NC, BC, SC, SV, RM, CN, XP, NL}
+use Rattle.definition.specs.Write.{Bytes, head, write_error}
+use Rattle.definition.specs.Record.{NumericKind, Numeric, Bits, Ordered, Record, SD, FV, NV, SN, JN, SU, UF, RD, IN, TS, NC, BC, SC, SV, RM, CN, XP, NL, MJ}
 use Rattle.definition.specs.Trees.{Tree, arity}
-use Rattle.definition.specs.Build.{build}
+use Rattle.definition.specs.Build.{build, build_many}
 use Rattle.definition.specs.Needs.{Needs, needs}
-use Rattle.definition.specs.Step.{numeric_constraint, constrain, two_types, tell, run}
+use Rattle.definition.specs.Step.{numeric_constraint, constrain, two_types, tell, run, number_of_error, refusal, put_back, max_payload, answer_with, answer_within, answer, pair_answer, run_pairs}
 use Rattle.theorems.proofs.Laws.{SameNodes, num_marks, type_on, NeedsIn, value_same, need_set_num, literal_marks, literal_others}
-use Rattle.theorems.proofs.DemandOrder.{Sound, Nodes}
+use Rattle.theorems.proofs.DemandOrder.{Sound, Nodes, All, All_map}
 use Rattle.theorems.proofs.DemandSteps.{quiet_same, quiet_marks, sound_marks, sound_chains, quiet_fresh}
-use Rattle.theorems.proofs.LawsPost.{Grown, grown_refl, Post, p_ok, p_err, p_refused, post_map, bind_post}
+use Rattle.theorems.proofs.LawsPost.{Grown, grown_refl, Post, p_ok, p_err, p_refused, post_map, bind_post, grown_trans}
 use Rattle.theorems.proofs.SoundRoom.{with_room, sp_room, struct_room, tvar_room}
 use Rattle.theorems.proofs.DemandCalls.{quiet_grown, next_tvar_post, new_var}
+use lib.ListN.{length}
+use lib.Dec.{leb}
+use Rattle.theorems.proofs.DemandPutBack.{held_put_back, quiet_put_back, sound_put_back}
 use Rattle.theorems.proofs.DemandMain.{join_impl_good}
-use Rattle.theorems.proofs.SoundRead.{Fine, FineRecord}
+use Rattle.theorems.proofs.SoundRead.{Fine, FineRecord, FineMany}
 use Rattle.theorems.proofs.SolveInTurn.{solve_cases}
 use Rattle.theorems.proofs.DemandWent.{Went, WentTo, went_refl, went_trans, went_of, went_quiet, bindS_post, quiet_list, sound_cleared, add_went, join_went, held_list}
 use Rattle.theorems.proofs.TotalWalk.{Ends, e_ok, e_err, e_refused, RunOr, place_run, pairs_run, ready_tvars_run, subst_run, make_run, expand_run}
@@ -58,6 +61,34 @@ literals SV = neither
 literals (RM t) = neither
 literals (CN t) = neither
 literals (XP t) = neither
+literals (MJ pairs) = neither
+
+pub data ByLiterals : Record → Literals → Type 0 where
+  is_SN : {v loc : ℕ} → ByLiterals (SN v loc) marks
+  is_NL : {loc bits : ℕ} → ByLiterals (NL loc bits) takes
+  is_neither : {r : Record} → ByLiterals r neither
+
+pub by_literals : (r : Record) → ByLiterals r (literals r)
+unfolding literals
+by_literals (SD abilities params) = is_neither
+by_literals (FV loc) = is_neither
+by_literals (NV loc) = is_neither
+by_literals (SN v loc) = is_SN
+by_literals (NL loc bits) = is_NL
+by_literals (JN t1 t2) = is_neither
+by_literals (SU t1 t2) = is_neither
+by_literals (UF t) = is_neither
+by_literals (RD t) = is_neither
+by_literals (IN t) = is_neither
+by_literals (TS pairs t) = is_neither
+by_literals (NC loc kind t) = is_neither
+by_literals (BC loc t) = is_neither
+by_literals (SC loc t) = is_neither
+by_literals SV = is_neither
+by_literals (RM t) = is_neither
+by_literals (CN t) = is_neither
+by_literals (XP t) = is_neither
+by_literals (MJ pairs) = is_neither
 
 -- a claim is kept by every record but those of one mark
 unfoldable pub spares : Claim → Literals → Bool
@@ -123,6 +154,76 @@ unfolding numeric_constraint
 numeric_on Numeric loc ty = refl
 numeric_on Bits loc ty = refl
 numeric_on Ordered loc ty = refl
+
+-- ---- MJ's pairs: each is answered in a sound state above the one before it
+
+-- the two types of a pair are of the state
+abbrev pub PairIn : State → TypingCase × ℕ × ℕ → Type 0
+PairIn S p = (p.1 < count S) × (p.2 < count S)
+
+pub record Raised (ar : TypeName → ℕ) (S S' : State) : Type 0 where
+  pub went : Went ar S S'
+  pub grown : Grown S S'
+
+back_structs : (S S' : State) → (put_back S S').structs ≡ S'.structs
+unfolding put_back with_vars
+back_structs S S' = refl
+
+pub pairs_on : {S S' : State} → Grown S S' → (ps : List (TypingCase × ℕ × ℕ)) → All (PairIn S) ps → All (PairIn S') ps
+pairs_on g ps h = All_map (λ p i. (omega (arith, i.0, g.g_nodes), omega (arith, i.1, g.g_nodes))) ps h
+
+module _ {ar : TypeName → ℕ} where
+  pub raised_refl : {S : State} → Sound ar S → Raised ar S S
+  raised_refl {S} s = record { went = went_refl s; grown = grown_refl S }
+
+  pub raised_trans : {S S' S'' : State} → Sound ar S → Raised ar S S' → Raised ar S' S'' → Raised ar S S''
+  raised_trans s a b = record { went = went_trans s a.went b.went; grown = grown_trans a.grown b.grown }
+
+  with_raised : (most : ℕ) {S : State} → Sound ar S → (n : ℕ) (p : Bytes) (S' : State) → Raised ar S S' → Raised ar S (answer_with most S n p S').state
+  unfolding answer_with refusal
+  with_raised most {S} s n p S' h = go (leb (length p) most)
+    where
+      go : (b : Bool) → Raised ar S (if b then record { number = n; payload = p; state = S' } else refusal S answer_too_long).state
+      go true = h
+      go false = raised_refl s
+
+  answer_raised : {S : State} → Sound ar S → (m : Result (State × Bytes)) → Post ar S (λ S' p. Went ar S S') m → Raised ar S (answer S m).state
+  unfolding answer answer_within refusal
+  answer_raised s (ok (S', p)) (p_ok g w) = with_raised max_payload s 0 p S' (record { went = w; grown = g })
+  answer_raised {S} s (err S' e) (p_err g n) =
+      with_raised max_payload s (number_of_error e) (write_error S' e) (put_back S S') (record { went = went_quiet s (sound_put_back s g n) (quiet_put_back s g n); grown = quiet_grown (quiet_put_back s g n) (back_structs S S' ∙ g.g_structs) (held_put_back s g n) })
+  answer_raised s (refused x) p_refused = raised_refl s
+
+  pub pair_raised : {S : State} → Sound ar S → (p : TypingCase × ℕ × ℕ) → PairIn S p → Raised ar S (pair_answer S p).state
+  unfolding pair_answer
+  pair_raised {S} s (c, l, r) i = answer_raised s _ (bind_post _ (join_impl_good max_depth S c l r s i.0 i.1) (λ S1 t g j. p_ok (grown_refl S1) (record { sound = j.sound; above = j.above })))
+
+  pub pairs_raised : (ps : List (TypingCase × ℕ × ℕ)) {S : State} → Sound ar S → All (PairIn S) ps → Raised ar S (run_pairs S ps).0
+  unfolding run_pairs
+  pairs_raised [] s i = raised_refl s
+  pairs_raised (p ∷ ps) s i = let a = pair_raised s p i.0 in raised_trans s a (pairs_raised ps a.went.sound (pairs_on a.grown ps i.1))
+
+pub no_many : (ps : List (TypingCase × Tree × Tree)) (s : State) → NoErr (build_many ps s)
+unfolding build_many
+no_many [] s = no_ok
+no_many ((c, t1, t2) ∷ ps) s = no_bind _ (no_place t1 s) (λ x. no_bind _ (no_place t2 x.0) (λ y. no_bind _ (no_many ps y.0) (λ z. no_ok)))
+
+-- placed
+pub record PlacedPairs (ar : TypeName → ℕ) (S S' : State) (ps : List (TypingCase × ℕ × ℕ)) : Type 0 where
+  pub went : Went ar S S'
+  pub pairs_in : All (PairIn S') ps
+
+pub many_went : {ar : TypeName → ℕ} {vars : ℕ} (ps : List (TypingCase × Tree × Tree)) → FineMany ar vars ps → {S : State} → Sound ar S → vars ≤ taken S → Post ar S (PlacedPairs ar S) (build_many ps S)
+unfolding build_many
+many_went [] f {S} s h = p_ok (grown_refl S) (record { went = went_refl s; pairs_in = tt })
+many_went ((c, t1, t2) ∷ ps) f s h =
+    bind_post _ (place_went f.0.0 s h) (λ S1 l g1 w1.
+    bind_post _ (place_went f.0.1 w1.sound (omega (arith, h, g1.g_vars))) (λ S2 r g2 w2.
+    bind_post _ (many_went ps f.1 w2.sound (omega (arith, h, g1.g_vars, g2.g_vars))) (λ S3 qs g3 w3.
+    p_ok {b = (c, l, r) ∷ qs} (grown_refl S3) (record {
+      went = went_trans s (went_of w1) (went_trans w1.sound (went_of w2) w3.went);
+      pairs_in = ((omega (arith, w1.t_in, g2.g_nodes, g3.g_nodes), omega (arith, w2.t_in, g3.g_nodes)), w3.pairs_in);
+    }))))
 
 -- ---- record by record
 
@@ -212,3 +313,5 @@ module _ (S : State) (s : Sound (arity S) S) where
   run_leaves (RM t) f = leaves_returns s (tells S (needs t))
   run_leaves (CN t) f = leaves_returns s (returns_bind _ (placed t S) (λ a. returns_bind _ (ready_tvars_run ⊥ S true refl a.0 (λ h. absurd h) a.1) (λ b. r_ok)))
   run_leaves (XP t) f = leaves_returns s (returns_bind _ (placed t S) (λ a. returns_bind _ (expand_run true refl _ a.0 a.1) (λ b. r_ok)))
+  run_leaves (MJ ps) f = leaves_post (bind_post _ (many_went ps f.0 s (omega arith)) (λ S1 qs g w.
+      let a = pairs_raised qs w.went.sound w.pairs_in in p_ok a.grown (went_trans s w.went a.went)))

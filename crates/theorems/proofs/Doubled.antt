@@ -10,10 +10,11 @@ use lib.Dec.{eqb}
 use Rattle.std.specs.Prelude.{if◌then◌else◌}
 use Rattle.definition.specs.Types.{Multiple, Builtin, ModuleType, State, malformed, unknown_name}
 use Rattle.definition.specs.Store.{taken}
+use Rattle.definition.specs.Join.{TypingCase}
 use Rattle.definition.specs.Write.{Bytes}
 use Rattle.definition.specs.Reader.{Reader, give, refuse, ◌>>=◌, read_one, read_two, read_three, byte, read_u16, read_u32, byte_if, byte_to, read_bool, name_below, times}
 use Rattle.definition.specs.Trees.{Tree, unit_tree, anything_tree, error_tree, ref_tree, param_tree, apply_tree, var_tree, Trees, no_trees, ◌then◌, is_set, under_ref, read_apply, by_tag, read_nested, read_type}
-use Rattle.definition.specs.Record.{Record, SD, FV, NV, SN, JN, SU, UF, RD, IN, TS, NC, BC, SC, SV, RM, CN, XP, read_kind, read_SD, read_pair, read_TS, by_mark, fields_of, read_fields, max_record, hand_back, read_record, NL, read_bits}
+use Rattle.definition.specs.Record.{Record, SD, FV, NV, SN, JN, SU, UF, RD, IN, TS, NC, BC, SC, SV, RM, CN, XP, read_kind, read_SD, read_pair, read_TS, by_mark, fields_of, read_fields, max_record, hand_back, read_record, NL, read_bits, MJ, read_case, is_many, read_case_pair, read_MJ}
 use Rattle.theorems.proofs.DemandTracks.{never}
 
 -- ---- doubled references
@@ -45,6 +46,10 @@ unfoldable pub doubled_pairs : List (ℕ × Tree) → Bool
 doubled_pairs [] = false
 doubled_pairs (pair ∷ pairs) = doubled pair.1 || doubled_pairs pairs
 
+unfoldable pub doubled_many : List (TypingCase × Tree × Tree) → Bool
+doubled_many [] = false
+doubled_many (pair ∷ pairs) = (doubled pair.1 || doubled pair.2) || doubled_many pairs
+
 unfoldable pub doubled_record : Record → Bool
 doubled_record (SD abilities params) = false
 doubled_record (FV loc) = false
@@ -64,6 +69,7 @@ doubled_record SV = false
 doubled_record (RM t) = doubled t
 doubled_record (CN t) = doubled t
 doubled_record (XP t) = doubled t
+doubled_record (MJ pairs) = doubled_many pairs
 
 abbrev pub NoDoubled : Tree → Type 0
 NoDoubled t = doubled t ≡ false
@@ -119,6 +125,15 @@ module _ (read_type : Reader Tree) (s : State) where
     t ← read_type
     give (TS pairs t)
 
+  unfoldable pub case_pair_with : Reader (TypingCase × Tree × Tree)
+  case_pair_with = read_three (λ case t1 t2. (case, t1, t2)) read_case read_type read_type
+
+  unfoldable pub MJ_with : Reader Record
+  MJ_with = do
+    n ← byte_if is_many
+    pairs ← times n case_pair_with
+    give (MJ pairs)
+
   unfoldable pub by_mark_with : List (ℕ × ℕ × Reader Record)
   by_mark_with =
       (83, 68, read_SD s) ∷
@@ -139,6 +154,7 @@ module _ (read_type : Reader Tree) (s : State) where
       (67, 78, read_one CN read_type) ∷
       (88, 80, read_one XP read_type) ∷
       (78, 76, read_two NL read_u32 read_bits) ∷
+      (77, 74, MJ_with) ∷
       []
 
   unfoldable pub fields_with : Reader Record
@@ -170,7 +186,7 @@ unfolding read_type
 type_now s = nested_now 64 s
 
 pub record_now : (s : State) (bytes : Bytes) → record_with (read_type s) s bytes ≡ read_record s bytes
-unfolding record_with fields_with by_mark_with TS_with pair_with read_record read_fields by_mark read_TS read_pair
+unfolding record_with fields_with by_mark_with TS_with pair_with MJ_with case_pair_with read_record read_fields by_mark read_TS read_pair read_MJ read_case_pair
 record_now s bytes = refl
 
 -- ---- two lists of readers, row for row

@@ -16,18 +16,18 @@ use Rattle.definition.specs.Types.{TypeName, Shape, UnitType, Ref, Param, Apply,
 use Rattle.definition.specs.Types.{Constraint, answer_too_long, unsound_state, Result, ok, err, refused, ◌>>=◌}
 use Rattle.definition.specs.Store.{nowhere, count, node, type_at, loc_of, with_args, with_constraints, add_constraint, with_structs, declare, map_types, with_need}
 use Rattle.definition.specs.Subst.{parts, set_num_var}
-use Rattle.definition.specs.Join.{join, subtype}
+use Rattle.definition.specs.Join.{TypingCase, join, subtype}
 use Rattle.definition.specs.TParams.{subst_tparams}
 use Rattle.definition.specs.Instantiate.{make_tvar, make_tparams, join_args, instantiate_type_args, instantiate_apply, instantiate_value, instantiate_down, instantiate}
 use Rattle.definition.specs.Constraints.{undecided, default_num_var, default_num_vars, solve_constraints, default_integer, default_of}
 use Rattle.definition.specs.Write.{Bytes, u32}
 use Rattle.definition.specs.Reader.{Read, got, not_read}
 use Rattle.definition.specs.Trees.{Tree, unit_tree, anything_tree, error_tree, ref_tree, param_tree, apply_tree, var_tree, Trees, no_trees, ◌then◌}
-use Rattle.definition.specs.Record.{Record, SD, FV, NV, SN, JN, SU, UF, RD, IN, TS, NC, BC, SC, SV, RM, CN, XP, read_record, NL}
+use Rattle.definition.specs.Record.{Record, SD, FV, NV, SN, JN, SU, UF, RD, IN, TS, NC, BC, SC, SV, RM, CN, XP, read_record, NL, MJ}
 use Rattle.definition.specs.Needs.{Needs, needs}
-use Rattle.definition.specs.Build.{build, build_all}
+use Rattle.definition.specs.Build.{build, build_all, build_many}
 use Rattle.definition.specs.Sound.{sound}
-use Rattle.definition.specs.Step.{constrain, two_types, tell, run, Answer, refusal, put_back, max_payload, max_buffer, answer_with, answer, usable, lent, step, streamed, step_stream}
+use Rattle.definition.specs.Step.{constrain, two_types, tell, pair_answer, run_pairs, run, Answer, refusal, put_back, max_payload, answer_with, answer_within, answer, apart, most_of, reply, least_buffer, usable, lent, step, streamed, step_stream}
 use Rattle.definition.specs.Demand.{after}
 use Rattle.definition.proofs.Spelling.{imm, param, u8, var, text, FV as FV', JN as JN', RD as RD'}
 use Rattle.definition.proofs.AnswersJoin.{after as records_after}
@@ -37,7 +37,7 @@ use Rattle.theorems.proofs.SoundRoom.{with_room, constraint_room, struct_room}
 use Rattle.theorems.proofs.Soundness.{sound_is}
 use Rattle.theorems.proofs.TotalWalk.{seven, nine, eleven, sixteen, Ends, e_ok, e_err, e_refused, bind, RunOr, place_run, pairs_run, ready_tvars_run, make_run, subst_run, expand_run}
 use Rattle.theorems.proofs.SolveInTurn.{solve_cases}
-use Rattle.theorems.proofs.Doubled.{is_ref as is_ref_tree, doubled, doubled_in, NoDoubled, NoDoubledIn, doubled_record, NoDoubledRecord, or_l, or_r}
+use Rattle.theorems.proofs.Doubled.{is_ref as is_ref_tree, doubled, doubled_in, NoDoubled, NoDoubledIn, doubled_record, NoDoubledRecord, or_l, or_r, doubled_many}
 use Rattle.theorems.proofs.DoubledReads.{record_none_doubled}
 use Rattle.theorems.proofs.DoubledSingle.{is_ref, Plain, Single, under, plain_no_ref, Left, left_same, left_refl, Goes, goes_from, goes_map, goes, Unasked, IsPlain, sp_goes, tvar_goes, Joined, join_goes}
 use mathlib.Core.List.Memᴰ
@@ -169,6 +169,45 @@ needed : {s : State} → Single s → (v n : ℕ) → Single (with_need s v n)
 unfolding with_need
 needed {s} i v n = (left_same (vars_nodes s _) i).single
 
+-- ---- the answer
+
+module _ (s : State) (i : Single s) where
+  with_single : (most n : ℕ) (p : Bytes) (s' : State) → Single s' → Single (answer_with most s n p s').state
+  unfolding answer_with refusal
+  with_single most n p s' i' = go (leb (length p) most)
+    where
+      go : (b : Bool) → Single (if b then record { number = n; payload = p; state = s' } else refusal s answer_too_long).state
+      go true = i'
+      go false = i
+
+  answer_single : (most : ℕ) (m : Result (State × Bytes)) → Leaves m → Single (answer_within most s m).state
+  unfolding answer_within refusal put_back
+  answer_single most (ok (s', p)) (e_ok i') = with_single most 0 p s' i'
+  answer_single most (err s' e) (e_err i') = with_single most _ _ (put_back s s') (left_same (vars_nodes s' _) i').single
+  answer_single most (refused x) l = i
+
+-- ---- MJ
+
+many_leaves : (ps : List (TypingCase × Tree × Tree)) → doubled_many ps ≡ false → (s : State) → Single s → Leaves (build_many ps s)
+unfolding build_many doubled_many
+many_leaves [] d s i = e_ok i
+many_leaves ((c, t1, t2) ∷ ps) d s i =
+    let both : doubled t1 || doubled t2 ≡ false = or_l (doubled t1 || doubled t2) (doubled_many ps) d in
+    bind _ (place_goes t1 (or_l (doubled t1) (doubled t2) both) s i) (λ x p.
+    bind _ (place_goes t2 (or_r (doubled t1) (doubled t2) both) x.0 p.0.single) (λ y q.
+    bind _ (many_leaves ps (or_r (doubled t1 || doubled t2) (doubled_many ps) d) y.0 q.0.single) (λ z j. e_ok j)))
+
+pair_single : (s : State) → Single s → (p : TypingCase × ℕ × ℕ) → Single (pair_answer s p).state
+unfolding pair_answer answer
+pair_single s i (c, l, r) = answer_single s i max_payload _ (bind _ (join_goes max_depth s i c l r) (λ x p. e_ok p.0.single))
+
+pairs_single : (ps : List (TypingCase × ℕ × ℕ)) (s : State) → Single s → Single (run_pairs s ps).0
+unfolding run_pairs
+pairs_single [] s i = i
+pairs_single (p ∷ ps) s i = pairs_single ps (pair_answer s p).state (pair_single s i p)
+
+-- ---- record by record
+
 module _ (s : State) (i : Single s) where
   -- UF, RD and TS give back s: of what they build on the way nothing is asked
   unasked : {A : Type 0} → ⊥ → A
@@ -202,36 +241,25 @@ module _ (s : State) (i : Single s) where
   run_leaves (RM t) d = tell_leaves (needs t)
   run_leaves (CN t) d = bind _ (placed t s) (λ x j. bind _ (ready_tvars_run ⊥ s true refl x.0 unasked x.1) (λ y k. e_ok i))
   run_leaves (XP t) d = bind _ (placed t s) (λ x j. bind _ (expand_run true refl _ x.0 x.1) (λ y k. e_ok i))
+  run_leaves (MJ ps) d = bind _ (many_leaves ps d s i) (λ x j. e_ok (pairs_single x.1 x.0 j))
   run_leaves SV d = bind _ (defaults_goes _ s i) (λ x j. solve_cases x (λ m. Leaves m) (λ failures. e_ok (left_list j []).single) (e_refused (nine refl)) (e_refused (sixteen refl)))
 
-  -- ---- the answer
-
-  with_single : (n : ℕ) (p : Bytes) (s' : State) → Single s' → Single (answer_with s n p s').state
-  unfolding answer_with refusal
-  with_single n p s' i' = go (leb (length p) max_payload)
-    where
-      go : (b : Bool) → Single (if b then record { number = n; payload = p; state = s' } else refusal s answer_too_long).state
-      go true = i'
-      go false = i
-
-  answer_single : (m : Result (State × Bytes)) → Leaves m → Single (answer s m).state
-  unfolding answer refusal put_back
-  answer_single (ok (s', p)) (e_ok i') = with_single 0 p s' i'
-  answer_single (err s' e) (e_err i') = with_single _ _ (put_back s s') (left_same (vars_nodes s' _) i').single
-  answer_single (refused x) l = i
+  reply_single : (r : Record) → NoDoubledRecord r → Single (reply s r).state
+  unfolding reply
+  reply_single r d = answer_single s i (most_of (apart r)) (run s r) (run_leaves r d)
 
   abbrev NoneRead : Read Record → Type 0
   NoneRead x = (r : Record) (rest : Bytes) → x ≡ got r rest → NoDoubledRecord r
 
   lent_single : (x : Read Record) → NoneRead x → Single (lent s x).state
   unfolding lent refusal
-  lent_single (got r []) f = answer_single (run s r) (run_leaves r (f r [] refl))
+  lent_single (got r []) f = reply_single r (f r [] refl)
   lent_single (got r (b ∷ rest)) f = i
   lent_single (not_read x) f = i
 
   streamed_single : (bytes : Bytes) (x : Read Record) → NoneRead x → Single (streamed s bytes x).0.state
   unfolding streamed refusal
-  streamed_single bytes (got r rest) f = answer_single (run s r) (run_leaves r (f r rest refl))
+  streamed_single bytes (got r rest) f = reply_single r (f r rest refl)
   streamed_single bytes (not_read x) f = i
 
 -- ---- the theorem
@@ -260,9 +288,9 @@ state_single s h d = record { over = λ n m t e. over n m t e (dec_lt n (count s
     over n m t e (no l) = never (let z : (node s n).value ≡ UnresolvedError = ap (λ (x : Node). x.value) (get_or-eq_default s.nodes nowhere {n = n} (omega arith)) in cc)
 
 -- where a call is made, the state is sound
-tested : {A : Type 0} (s : State) (buffer : ℕ) (P : A → Type 0) (x y : A) → (sound s ≡ true → P x) → P y → P (elim (usable s buffer) as (λ b. A) [ true ↦ x | false ↦ y ])
+tested : {A : Type 0} (s : State) (bytes : Bytes) (buffer : ℕ) (P : A → Type 0) (x y : A) → (sound s ≡ true → P x) → P y → P (elim (usable s bytes buffer) as (λ b. A) [ true ↦ x | false ↦ y ])
 unfolding usable
-tested {A} s buffer P x y f p = go (leb max_buffer buffer) (sound s) f
+tested {A} s bytes buffer P x y f p = go (leb (least_buffer bytes) buffer) (sound s) f
   where
     go : (b c : Bool) → (c ≡ true → P x) → P (elim (b && c) as (λ b. A) [ true ↦ x | false ↦ y ])
     go true true g = g refl
@@ -273,14 +301,14 @@ tested {A} s buffer P x y f p = go (leb max_buffer buffer) (sound s) f
 pub none_arises : (s : State) (bytes : Bytes) (buffer : ℕ) → NoDoubledState s → NoDoubledState (step s bytes buffer).state
 unfolding step refusal
 none_arises s bytes buffer d =
-    tested s buffer (λ (a : Answer). NoDoubledState a.state) (lent s (read_record s bytes)) (refusal s unsound_state)
+    tested s bytes buffer (λ (a : Answer). NoDoubledState a.state) (lent s (read_record s bytes)) (refusal s unsound_state)
     (λ h. single_state (lent_single s (state_single s h d) (read_record s bytes) (record_none_doubled s bytes))) d
 
 -- .. and at the head of a stream
 pub none_arises_streamed : (s : State) (bytes : Bytes) (buffer : ℕ) → NoDoubledState s → NoDoubledState (step_stream s bytes buffer).0.state
 unfolding step_stream refusal
 none_arises_streamed s bytes buffer d =
-    tested s buffer (λ (a : Answer × Bytes). NoDoubledState a.0.state) (streamed s bytes (read_record s bytes)) (refusal s unsound_state, bytes)
+    tested s bytes buffer (λ (a : Answer × Bytes). NoDoubledState a.0.state) (streamed s bytes (read_record s bytes)) (refusal s unsound_state, bytes)
     (λ h. single_state (streamed_single s (state_single s h d) bytes (read_record s bytes) (record_none_doubled s bytes))) d
 
 -- so of any list of records

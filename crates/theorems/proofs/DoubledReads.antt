@@ -12,14 +12,15 @@ use native.Mathlib.Omega.{arith}
 use Rattle.std.specs.Prelude.{if◌then◌else◌}
 use Rattle.definition.specs.Types.{TypeName, Multiple, Builtin, ModuleType, State, Refusal, malformed, unknown_name, doubled_reference}
 use Rattle.definition.specs.Store.{taken}
+use Rattle.definition.specs.Join.{TypingCase}
 use Rattle.definition.specs.Write.{Bytes}
 use Rattle.definition.specs.Reader.{Read, got, not_read, Reader, give, refuse, go_on, ◌>>=◌, read_one, read_two, read_three, byte, read_u16, read_u32, byte_if, byte_to, read_bool, name_below, times}
 use Rattle.definition.specs.Trees.{Tree, unit_tree, anything_tree, error_tree, ref_tree, param_tree, apply_tree, var_tree, no_trees, ◌then◌, read_trees, read_mark, mark_fits, arity, is_name, is_set, under_ref, read_apply, by_tag, read_nested, read_type}
-use Rattle.definition.specs.Record.{Record, SD, FV, NV, SN, JN, SU, UF, RD, IN, TS, NC, BC, SC, SV, RM, CN, XP, read_kind, read_SD, max_record, hand_back, read_record, NL, read_bits}
+use Rattle.definition.specs.Record.{Record, SD, FV, NV, SN, JN, SU, UF, RD, IN, TS, NC, BC, SC, SV, RM, CN, XP, read_kind, read_SD, max_record, hand_back, read_record, NL, read_bits, MJ, read_case, is_many}
 use Rattle.theorems.proofs.DemandOrder.{All}
 use Rattle.theorems.proofs.Soundness.{lt_test}
-use Rattle.theorems.proofs.Doubled.{is_ref, doubled, doubled_in, doubled_pairs, doubled_record, NoDoubled, NoDoubledRecord, read_01, read_record_01}
-use Rattle.theorems.proofs.Doubled.{Rows, no_rows, row, row_at, Marks, no_marks, mark_row, mark_at, by_tag_with, nested_with, pair_with, TS_with, by_mark_with, fields_with, record_with, record_now}
+use Rattle.theorems.proofs.Doubled.{is_ref, doubled, doubled_in, doubled_pairs, doubled_many, doubled_record, NoDoubled, NoDoubledRecord, read_01, read_record_01}
+use Rattle.theorems.proofs.Doubled.{Rows, no_rows, row, row_at, Marks, no_marks, mark_row, mark_at, by_tag_with, nested_with, pair_with, TS_with, case_pair_with, MJ_with, by_mark_with, fields_with, record_with, record_now}
 
 -- ---- what 01's reader gives, and what ours gives. D: a doubled reference is in it
 
@@ -215,12 +216,25 @@ module _ (s : State) {m m' : Reader Tree} (p : Beside false doubled m m') where
   b_pairs zero = b_give [] false refl
   b_pairs (suc n) = b_bind (λ q. b_bind (λ qs. b_give (q ∷ qs) _ refl) (b_after (doubled q.1) (b_pairs n))) b_pair
 
+  b_case_pair : Beside false (λ (q : TypingCase × Tree × Tree). doubled q.1 || doubled q.2) (case_pair_with m s) (case_pair_with m' s)
+  unfolding case_pair_with read_three
+  b_case_pair = b_bind (λ c. b_bind (λ t1. b_bind (λ t2. b_give (c, t1, t2) _ refl) (b_after (doubled t1) p)) p) (b_same read_case)
+
+  b_many : (n : ℕ) → Beside false doubled_many (times n (case_pair_with m s)) (times n (case_pair_with m' s))
+  unfolding times doubled_many
+  b_many zero = b_give [] false refl
+  b_many (suc n) = b_bind (λ q. b_bind (λ qs. b_give (q ∷ qs) _ refl) (b_after (doubled q.1 || doubled q.2) (b_many n))) b_case_pair
+
   abbrev Whole : Reader Record → Reader Record → Type 0
   Whole f f' = Beside false doubled_record f f'
 
   b_TS : Whole (TS_with m s) (TS_with m' s)
   unfolding TS_with doubled_record
   b_TS = b_bind (λ n. b_bind (λ pairs. b_bind (λ t. b_give (TS pairs t) _ refl) (b_after (doubled_pairs pairs) p)) (b_pairs n)) (b_same (byte_to 8))
+
+  b_MJ : Whole (MJ_with m s) (MJ_with m' s)
+  unfolding MJ_with doubled_record
+  b_MJ = b_bind (λ n. b_bind (λ pairs. b_give (MJ pairs) _ refl) (b_many n)) (b_same (byte_if is_many))
 
   b_two : (mark : Tree → Tree → Record) → ((t1 t2 : Tree) → doubled_record (mark t1 t2) ≡ doubled t1 || doubled t2) → Whole (read_two mark m m) (read_two mark m' m')
   unfolding read_two
@@ -258,7 +272,7 @@ module _ (s : State) {m m' : Reader Tree} (p : Beside false doubled m m') where
   unfolding by_mark_with doubled_record
   b_marks =
       mark_row b_SD (mark_row (b_loc FV (λ l. refl)) (mark_row (b_loc NV (λ l. refl)) (mark_row b_SN (mark_row (b_two JN (λ t u. refl)) (mark_row (b_two SU (λ t u. refl)) (mark_row (b_one UF (λ t. refl)) (mark_row (b_one RD (λ t. refl))
-      (mark_row b_TS (mark_row (b_one IN (λ t. refl)) (mark_row b_NC (mark_row (b_loc_type BC (λ l t. refl)) (mark_row (b_loc_type SC (λ l t. refl)) (mark_row (b_give SV false refl) (mark_row (b_one RM (λ t. refl)) (mark_row (b_one CN (λ t. refl)) (mark_row (b_one XP (λ t. refl)) (mark_row b_NL no_marks)))))))))))))))))
+      (mark_row b_TS (mark_row (b_one IN (λ t. refl)) (mark_row b_NC (mark_row (b_loc_type BC (λ l t. refl)) (mark_row (b_loc_type SC (λ l t. refl)) (mark_row (b_give SV false refl) (mark_row (b_one RM (λ t. refl)) (mark_row (b_one CN (λ t. refl)) (mark_row (b_one XP (λ t. refl)) (mark_row b_NL (mark_row b_MJ no_marks))))))))))))))))))
 
   b_fields : Whole (fields_with m s) (fields_with m' s)
   unfolding fields_with

@@ -14,18 +14,18 @@ use Rattle.definition.specs.Step.{Answer, refusal, usable, lent, step}
 use Rattle.theorems.proofs.DemandTracks.{never}
 use Rattle.definition.proofs.Computed.{answered, left_by}
 use Rattle.definition.proofs.Spelling.{imm, mut, u8, var, JN, SU, UF, RD}
-use Rattle.theorems.proofs.Doubled.{doubled_record, NoDoubledRecord, by_tag_with, nested_with, pair_with, TS_with, by_mark_with, fields_with, record_with, read_01, read_record_01}
+use Rattle.theorems.proofs.Doubled.{doubled_record, NoDoubledRecord, by_tag_with, nested_with, pair_with, TS_with, case_pair_with, MJ_with, by_mark_with, fields_with, record_with, read_01, read_record_01}
 use Rattle.theorems.proofs.DoubledReads.{AsBefore, given_as_before, given_with_one, refused_as_before, refused_sooner, record_as_before}
 
 -- ---- over any state
 
 -- a call whose record is read so
-unfoldable pub step_of : State → ℕ → Read Record → Answer
-step_of s buffer x = elim (usable s buffer) [ true ↦ lent s x | false ↦ refusal s unsound_state ]
+unfoldable pub step_of : State → Bytes → ℕ → Read Record → Answer
+step_of s bytes buffer x = elim (usable s bytes buffer) [ true ↦ lent s x | false ↦ refusal s unsound_state ]
 
 -- .. as before R-6, by 01's reader
 unfoldable pub step_01 : State → Bytes → ℕ → Answer
-step_01 s bytes buffer = step_of s buffer (read_record_01 s bytes)
+step_01 s bytes buffer = step_of s bytes buffer (read_record_01 s bytes)
 
 read_same : {r : Record} {rest : Bytes} {x y : Read Record} → AsBefore doubled_record x y → x ≡ got r rest → NoDoubledRecord r → y ≡ x
 read_same (given_as_before e) d n = refl
@@ -35,7 +35,7 @@ read_same refused_sooner d n = never (cc)
 
 pub answers_as_before : (s : State) (bytes : Bytes) (buffer : ℕ) (r : Record) (rest : Bytes) → read_record_01 s bytes ≡ got r rest → NoDoubledRecord r → step s bytes buffer ≡ step_01 s bytes buffer
 unfolding step step_of step_01
-answers_as_before s bytes buffer r rest d n = ap (step_of s buffer) (read_same (record_as_before s bytes) d n)
+answers_as_before s bytes buffer r rest d n = ap (step_of s bytes buffer) (read_same (record_as_before s bytes) d n)
 
 -- ---- computed
 
@@ -78,7 +78,7 @@ saved_states = refl
 
 -- .. and as before R-6
 pub saved_states_01 : map (λ (c : Bytes × ℕ × Bytes). let a : Answer = step_01 saved c.0 4096 in (a.number, a.payload)) saved_calls ≡ saved_answers
-unfolding answered step_01 step_of read_record_01 read_01 record_with fields_with by_mark_with TS_with pair_with nested_with by_tag_with
+unfolding answered step_01 step_of read_record_01 read_01 record_with fields_with by_mark_with TS_with pair_with MJ_with case_pair_with nested_with by_tag_with
 saved_states_01 = refl
 
 pub joined_is_doubled : answered (left_by saved (JN (var 5 0) (var 6 1) ∷ [])) (RD (var 7 2)) 4096 ≡ (0, imm 3 (imm 2 (u8 1)))

@@ -13,7 +13,7 @@ use Rattle.definition.specs.Record.{read_record}
 use Rattle.definition.specs.Instantiate.{builtin_tparams}
 use Rattle.definition.specs.Trees.{arity}
 use Rattle.definition.specs.Sound.{sound}
-use Rattle.definition.specs.Step.{Answer, refusal, max_buffer, usable, lent, step}
+use Rattle.definition.specs.Step.{Answer, refusal, usable, lent, step, least_buffer}
 use Rattle.definition.specs.Locations.{failures, loc_field, tag_fields, expand, blank, mark_fields, after_mark, told, counts_of, blank_record, blank_payload, blank_job, Seen, seen, blank_log, JobOfBytes, LocationsDecideNothing, type, codes}
 use Rattle.theorems.proofs.DemandTracks.{never}
 use Rattle.definition.proofs.Spelling.{hex}
@@ -44,6 +44,12 @@ seen_alike : {s s' : State} {bytes bytes' : Bytes} {a a' : Answer} → Alike s b
 unfolding seen
 seen_alike r = same_seen r.numbers r.payloads (same_counts _ _ r.states)
 
+mark_kept : (s : State) (bytes : Bytes) → least_buffer (blank_record s bytes) ≡ least_buffer bytes
+unfolding least_buffer blank_record blank told
+mark_kept s [] = refl
+mark_kept s (a ∷ []) = refl
+mark_kept s (a ∷ b ∷ bytes) = refl
+
 module _ (s s' : State) (h : sound s ≡ true) (h' : sound s' ≡ true) (e : erase s ≡ erase s') (bytes bytes' : Bytes) (i : IsBytes bytes) (i' : IsBytes bytes') (r : blank_record s bytes ≡ blank_record s' bytes') where
   lent_alike : Alike s bytes (lent s (read_record s bytes)) s' bytes' (lent s' (read_record s' bytes'))
   unfolding blank_payload
@@ -61,9 +67,14 @@ module _ (s s' : State) (h : sound s ≡ true) (h' : sound s' ≡ true) (e : era
   unfolding refusal blank_payload blank
   unsound_alike = record { numbers = refl; payloads = refl; states = e }
 
+  -- the mark is no location
+  same_buffer : least_buffer bytes ≡ least_buffer bytes'
+  same_buffer = sym (mark_kept s bytes) ∙ ap least_buffer r ∙ mark_kept s' bytes'
+
   step_alike : (buffer : ℕ) → Alike s bytes (step s bytes buffer) s' bytes' (step s' bytes' buffer)
   unfolding step usable
-  step_alike buffer = go (leb max_buffer buffer && true) (usable s buffer) (usable s' buffer) (ap (λ b. leb max_buffer buffer && b) h) (ap (λ b. leb max_buffer buffer && b) h')
+  step_alike buffer = go (leb (least_buffer bytes) buffer && true) (usable s bytes buffer) (usable s' bytes' buffer) (ap (λ b. leb (least_buffer bytes) buffer && b) h)
+      (ap (λ (n : ℕ). leb n buffer && sound s') (sym same_buffer) ∙ ap (λ b. leb (least_buffer bytes) buffer && b) h')
     where
       go : (b c d : Bool) → c ≡ b → d ≡ b → Alike s bytes (elim c [ true ↦ lent s (read_record s bytes) | false ↦ refusal s unsound_state ]) s' bytes' (elim d [ true ↦ lent s' (read_record s' bytes') | false ↦ refusal s' unsound_state ])
       go true c d p q = rw (p, q) lent_alike

@@ -10,12 +10,13 @@ use lib.Dec.{eqb, ltb, leb}
 use Rattle.std.specs.Prelude.{if◌then◌else◌}
 use Rattle.definition.specs.Types.{TypeName, Multiple, Builtin, ModuleType, AbilityMark, State, Refusal, malformed, unknown_name, doubled_reference}
 use Rattle.definition.specs.Store.{taken}
+use Rattle.definition.specs.Join.{TypingCase}
 use Rattle.definition.specs.Write.{Bytes}
 use Rattle.definition.specs.Instantiate.{struct_tparams}
 use Rattle.definition.specs.Reader.{Read, got, not_read, Reader, give, refuse, go_on, ◌>>=◌, byte, read_u16, read_u32, byte_if, byte_to, read_bool, name_below, times, read_one, read_two, read_three}
 use Rattle.definition.specs.Trees.{Tree, unit_tree, anything_tree, error_tree, ref_tree, param_tree, apply_tree, var_tree, Trees, no_trees, ◌then◌, read_trees, mark_of, read_mark, mark_fits, arity, under_ref, read_apply, by_tag, is_name, read_nested, read_type, is_set}
-use Rattle.definition.specs.Record.{NumericKind, Record, SD, FV, NV, SN, JN, SU, UF, RD, IN, TS, NC, BC, SC, SV, RM, CN, XP, read_kind, read_SD, read_pair, read_TS, by_mark, fields_of, read_fields, max_record, hand_back, read_record, NL, read_bits}
-use Rattle.definition.specs.Locations.{Part, plain, location, type, builtin, list, struct, struct_high, pairs, loc_field, u32_field, tag_fields, pair_fields, expand, blank, mark_fields, after_mark, told, blank_record}
+use Rattle.definition.specs.Record.{NumericKind, Record, SD, FV, NV, SN, JN, SU, UF, RD, IN, TS, NC, BC, SC, SV, RM, CN, XP, read_kind, read_SD, read_pair, read_TS, by_mark, fields_of, read_fields, max_record, hand_back, read_record, NL, read_bits, MJ, read_case, is_many, read_case_pair, read_MJ}
+use Rattle.definition.specs.Locations.{Part, plain, location, type, builtin, list, struct, struct_high, pairs, loc_field, u32_field, tag_fields, pair_fields, expand, blank, mark_fields, after_mark, told, blank_record, many, many_fields}
 use Rattle.theorems.proofs.Erase.{erase, taken_erase, structs_erase}
 
 -- ---- locations set to 0
@@ -37,6 +38,9 @@ unfoldable mutual
 abbrev pub erase_pair : ℕ × Tree → ℕ × Tree
 erase_pair p = (p.0, erase_tree p.1)
 
+abbrev pub erase_case_pair : TypingCase × Tree × Tree → TypingCase × Tree × Tree
+erase_case_pair p = (p.0, erase_tree p.1, erase_tree p.2)
+
 unfoldable pub erase_record : Record → Record
 erase_record (SD abilities params) = SD abilities params
 erase_record (FV loc) = FV 0
@@ -56,6 +60,7 @@ erase_record SV = SV
 erase_record (RM t) = RM (erase_tree t)
 erase_record (CN t) = CN (erase_tree t)
 erase_record (XP t) = XP (erase_tree t)
+erase_record (MJ ps) = MJ (map erase_case_pair ps)
 
 -- ---- blank
 
@@ -330,6 +335,20 @@ module _ (s : State) where
   unfolding read_TS expand erase_record
   al_TS = al_bind _ _ (al_byte_if _ pairs [] (λ b. refl)) (λ n. rw (append_assoc (pair_fields n)) (al_bind _ _ (al_pairs n (type ∷ [])) (λ ps. al_bind _ _ (al_type []) (λ t. al_give (TS ps t) refl))))
 
+  al_case : (more : List Part) → Alike {A = TypingCase} same s (plain ∷ more) (λ c. more) read_case read_case
+  unfolding read_case read_one
+  al_case more = al_bind _ _ (al_plain_if _ more) (λ b. al_give _ refl)
+
+  al_many : (n : ℕ) (more : List Part) → Alike (map erase_case_pair) s (many_fields n ++ more) (λ ps. more) (times n (read_case_pair s)) (times n (read_case_pair (erase s)))
+  unfolding times read_case_pair read_three many_fields
+  al_many zero more = al_give [] refl
+  al_many (suc n) more = al_bind _ _ (al_bind _ _ (al_case (type ∷ type ∷ many_fields n ++ more)) (λ c. al_bind _ _ (al_type (type ∷ many_fields n ++ more)) (λ t. al_bind _ _ (al_type (many_fields n ++ more)) (λ u. al_give {h = erase_case_pair} (c, t, u) refl))))
+      (λ p. al_bind _ _ (al_many n more) (λ ps. al_give (p ∷ ps) refl))
+
+  al_MJ : WholeRecord (many ∷ []) (read_MJ s) (read_MJ (erase s))
+  unfolding read_MJ expand erase_record
+  al_MJ = al_bind _ _ (al_byte_if is_many many [] (λ b. refl)) (λ n. al_bind _ _ (al_many n []) (λ ps. al_give (MJ ps) refl))
+
   al_SD : WholeRecord [] (read_SD s) (read_SD (erase s))
   unfolding read_SD erase_record
   al_SD = al_bind _ _ (al_same (byte_to 15)) (λ a. al_bind _ _ (al_same (byte_to 8)) (λ n. al_bind _ _ (al_same (times n (byte_to 31))) (λ ps. al_give (SD a ps) refl)))
@@ -355,7 +374,7 @@ module _ (s : State) where
       mark_row al_SD (mark_row (al_loc_only FV (λ l. refl)) (mark_row (al_loc_only NV (λ l. refl)) (mark_row al_SN
       (mark_row (al_two JN (λ t u. refl)) (mark_row (al_two SU (λ t u. refl)) (mark_row (al_one UF (λ t. refl)) (mark_row (al_one RD (λ t. refl))
       (mark_row al_TS (mark_row (al_one IN (λ t. refl)) (mark_row al_NC (mark_row (al_loc_type BC (λ l t. refl)) (mark_row (al_loc_type SC (λ l t. refl))
-      (mark_row (al_give SV refl) (mark_row (al_one RM (λ t. refl)) (mark_row (al_one CN (λ t. refl)) (mark_row (al_one XP (λ t. refl)) (mark_row al_NL no_marks)))))))))))))))))
+      (mark_row (al_give SV refl) (mark_row (al_one RM (λ t. refl)) (mark_row (al_one CN (λ t. refl)) (mark_row (al_one XP (λ t. refl)) (mark_row al_NL (mark_row al_MJ no_marks))))))))))))))))))
 
   fields_alike : (bytes : Bytes) → Reads erase_record s (λ r. []) (read_fields s bytes) (read_fields (erase s) (blank_record s bytes))
   unfolding read_fields ◌>>=◌ go_on byte blank blank_record told

@@ -2,29 +2,28 @@
 -- Placing by the tree, SV by its steps, then record by record (`run_erase`) from EraseJoin and EraseWrite; at the end the answer (`Blanked`).
 use mathlib.Core.Path.{◌≡◌, refl, sym, ap}
 use mathlib.Core.Bool.{Bool, true, false, not, ◌&&◌}
-use mathlib.Core.List.{List, [], ◌∷◌, ◌++◌, map, map-append, append-nil}
+use mathlib.Core.List.{List, [], ◌∷◌, ◌++◌, map, append-nil}
 use Rattle.std.specs.Prelude.{Option, None, Some}
-use Prim.Native.Nat.{ℕ, zero, suc, ◌-◌, ◌≤◌, ◌<◌}
+use Prim.Native.Nat.{ℕ, suc, ◌≤◌, ◌<◌}
 use native.Mathlib.Omega.{arith}
-use lib.ListN.{length, replicate, get_or-eq_default}
+use lib.ListN.{length, get_or-eq_default}
 use lib.Dec.{leb, ltb, ltb→lt, nltb→le}
 use Rattle.std.specs.Prelude.{if◌then◌else◌}
-use Rattle.definition.specs.Types.{TypeName, Multiple, Builtin, ModuleType, UnitType, Ref, Param, Apply, Var, Anything, UnresolvedError, TypeValue, Spanned, Node, Cell, unbound, State, max_structs}
-use Rattle.definition.specs.Types.{Constraint, TypingError, SubtypeError, Incompatible, ArityMismatch, RecursiveType, Refusal, answer_too_long, Result, ok, ◌>>=◌}
+use Rattle.definition.specs.Types.{TypeName, Multiple, Builtin, ModuleType, UnitType, Ref, Param, Apply, Var, Anything, UnresolvedError, TypeValue, Spanned, Node, Cell, State, max_structs, Constraint, Refusal, answer_too_long, Result, ok, ◌>>=◌}
 use Rattle.definition.specs.Store.{nowhere, count, taken, node, type_at, with_args, spanned, with_constraints}
 use Rattle.definition.specs.Subst.{parts, unfold_type, forward_tvar}
-use Rattle.definition.specs.Join.{join, subtype}
+use Rattle.definition.specs.Join.{join, subtype, TypingCase}
 use Rattle.definition.specs.TParams.{arg_of, make_tparam_subst}
 use Rattle.definition.specs.Constraints.{num_vars, undecided, default_num_var, default_num_vars, solve_all, solve_constraints, default_integer, default_of}
 use Rattle.definition.specs.Write.{Bytes, u16, write_error}
 use Rattle.definition.specs.Reader.{Read}
 use Rattle.definition.specs.Trees.{Tree, unit_tree, anything_tree, error_tree, ref_tree, param_tree, apply_tree, var_tree, Trees, no_trees, ◌then◌, mark_fits, arity, is_mark, is_name}
-use Rattle.definition.specs.Record.{NumericKind, Numeric, Bits, Ordered, Record, SD, FV, NV, SN, JN, SU, UF, RD, IN, TS, NC, BC, SC, SV, RM, CN, XP, NL}
-use Rattle.definition.specs.Build.{build, build_all, build_pairs}
+use Rattle.definition.specs.Record.{NumericKind, Numeric, Bits, Ordered, Record, SD, FV, NV, SN, JN, SU, UF, RD, IN, TS, NC, BC, SC, SV, RM, CN, XP, NL, MJ}
+use Rattle.definition.specs.Build.{build, build_all, build_pairs, build_many}
 use Rattle.definition.specs.Canonical.{canonical}
 use Rattle.definition.specs.Needs.{Needs, merge, needs, needs_args, write_needs}
 use Rattle.definition.specs.Sound.{sound}
-use Rattle.definition.specs.Step.{numeric_constraint, constrain, two_types, tell, run, Answer, number_of_error, refusal, put_back, max_payload, answer_with, answer, lent}
+use Rattle.definition.specs.Step.{numeric_constraint, constrain, two_types, tell, run, Answer, number_of_error, refusal, put_back, answer_with, answer_within, apart, most_of, reply, lent}
 use Rattle.definition.specs.Expand.{Expanded, expand_type}
 use Rattle.definition.specs.Locations.{Part, type, types, codes, failures, blank, shown_fields}
 use Rattle.theorems.proofs.EraseShown.{success_fields, Shows, shows, shows_none}
@@ -36,15 +35,15 @@ use Rattle.theorems.proofs.DemandWent.{Went, WentTo, PostS, ps_ok}
 use Rattle.theorems.proofs.DemandRuns.{num_vars_below, place_went, defaults_went}
 use Rattle.theorems.proofs.TotalWalk.{Ends, e_ok, In, place_run, starts_run}
 use Rattle.theorems.proofs.SoundKept.{ranges_of}
-use Rattle.theorems.proofs.Erase.{erase_mark, erase_cell, erase_constraint, erase_error, erase, taken_erase, spanned_erase, vars_erase, constraints_erased}
-use Rattle.theorems.proofs.Erase.{Erased, er_ok, er_err, er_refused, with_state, er_bind, er_elim, er_opt, sp_erase, next_erase, add_erase, declare_erase, need_erase}
+use Rattle.theorems.proofs.Erase.{erase_mark, erase_cell, erase_constraint, erase, spanned_erase, constraints_erased, Erased, er_ok, er_err, er_refused, with_state, er_bind, er_elim, er_opt, sp_erase, next_erase, add_erase, declare_erase, need_erase}
 use Rattle.theorems.proofs.EraseJoin.{unfold_type_erase, set_num_erase, ready_tvars_erase, join_erase, subtype_erase, subst_erase, instantiate_erase, end_erase, literal_erase}
-use Rattle.theorems.proofs.EraseRead.{erase_tree, erase_trees, erase_pair, erase_record, blank_nil, length_blank, ReadAlike, w_got, w_not}
+use Rattle.theorems.proofs.EraseRead.{erase_tree, erase_trees, erase_pair, erase_record, blank_nil, length_blank, ReadAlike, w_got, w_not, erase_case_pair}
 use Rattle.theorems.proofs.Canonical.{canonical_erase}
 use Rattle.theorems.proofs.EraseExpand.{Both, both_ok, both_refused, whole_blank, type_both}
 use Rattle.theorems.proofs.SoundRead.{FineRecord, RecordIn, ReadWell, given}
 use Rattle.theorems.proofs.LawsPost.{Post, p_ok}
 use Rattle.theorems.proofs.EraseWrite.{NameFits, Fits, Fitting, spanned_row, write_row, var_row, error_shown, Shown, shown_told, shown_refused, constraints_shown}
+use Rattle.theorems.proofs.EraseMany.{error_number_erase, put_back_erase, pairs_erase as run_pairs_erase}
 
 -- ---- placing
 
@@ -94,6 +93,11 @@ pairs_erase : (ps : List (ℕ × Tree)) (s : State) → Erased with_state (build
 unfolding build_pairs
 pairs_erase [] s = er_ok refl
 pairs_erase ((id, t) ∷ ps) s = er_bind _ _ (place_erase t s) (λ x. er_bind _ _ (pairs_erase ps x.0) (λ y. er_ok refl))
+
+many_erase : (ps : List (TypingCase × Tree × Tree)) (s : State) → Erased with_state (build_many ps s) (build_many (map erase_case_pair ps) (erase s))
+unfolding build_many
+many_erase [] s = er_ok refl
+many_erase ((c, t, u) ∷ ps) s = er_bind _ _ (place_erase t s) (λ x. er_bind _ _ (place_erase u x.0) (λ y. er_bind _ _ (many_erase ps y.0) (λ z. er_ok refl)))
 
 abbrev same : {A : Type 0} → A → A
 same a = a
@@ -184,10 +188,6 @@ nums_erase s = num_vars_erase 0 s.vars
 constraints_are : (s : State) → (erase s).constraints ≡ map erase_constraint s.constraints
 unfolding erase
 constraints_are s = refl
-
-vars_are : (s : State) → (erase s).vars ≡ map erase_cell s.vars
-unfolding erase
-vars_are s = refl
 
 -- nothing follows
 whole : (S : State) (b b' : Bytes) → ((rest : Bytes) → blank S (b ++ rest) (failures ∷ []) ≡ b' ++ blank S rest (failures ∷ [])) → blank S b (failures ∷ []) ≡ b'
@@ -283,6 +283,7 @@ module _ (S : State) (h : sound S ≡ true) where
   run_erase (RM t) f b = rw (needs_erase t) (tell_erase (needs t))
   run_erase (CN t) f b = er_bind _ _ (place_erase t S) (λ x. er_bind _ _ (ready_tvars_erase x.0 x.1) (λ y. er_ok (rw (canonical_erase y.0 y.1, blank_nil S (canonical y.0 y.1)) refl)))
   run_erase (XP t) f b = expand_erase (place_erase t S) (place_went f (facts S h) (omega arith)) (place_run (Unit {0}) S true t (λ u. b) S (λ u. ranges_of S h))
+  run_erase (MJ ps) f b = er_bind _ _ (many_erase ps S) (λ x. er_ok (let e = run_pairs_erase S x.1 x.0 in pair_same e.0 e.1))
 
 -- ---- the answer
 
@@ -297,40 +298,51 @@ module _ (S : State) where
   unfolding refusal blank
   refusal_erase fields x = record { same_number = refl; same_payload = refl; same_state = refl }
 
-  with_erase : (fields : ℕ → List Part) (n : ℕ) (p : Bytes) (s s' : State) → s' ≡ erase s → Blanked S fields (answer_with S n p s) (answer_with (erase S) n (blank S p (fields n)) s')
+  with_erase : (most : ℕ) (fields : ℕ → List Part) (n : ℕ) (p : Bytes) (s s' : State) → s' ≡ erase s → Blanked S fields (answer_with most S n p s) (answer_with most (erase S) n (blank S p (fields n)) s')
   unfolding answer_with
-  with_erase fields n p s s' e = rw (length_blank S p (fields n)) (go (leb (length p) max_payload))
+  with_erase most fields n p s s' e = rw (length_blank S p (fields n)) (go (leb (length p) most))
     where
       go : (b : Bool) → Blanked S fields (if b then record { number = n; payload = p; state = s } else refusal S answer_too_long)
           (if b then record { number = n; payload = blank S p (fields n); state = s' } else refusal (erase S) answer_too_long)
       go true = record { same_number = refl; same_payload = refl; same_state = e }
       go false = refusal_erase fields answer_too_long
 
-  error_number_erase : (e : TypingError) → number_of_error (erase_error e) ≡ number_of_error e
-  unfolding number_of_error
-  error_number_erase (SubtypeError t u) = refl
-  error_number_erase (Incompatible t u) = refl
-  error_number_erase (ArityMismatch t u) = refl
-  error_number_erase (RecursiveType loc) = refl
+  answer_erase : (most : ℕ) (success : List Part) {m m' : Result (State × Bytes)} → Erased (blanked S success) m m' → Blanked S (shown_fields success) (answer_within most S m) (answer_within most (erase S) m')
+  unfolding answer_within shown_fields
+  answer_erase most success (er_ok {a = x} e) = rw e (with_erase most (shown_fields success) 0 x.1 x.0 (erase x.0) refl)
+  answer_erase most success (er_err {s = s} {e = e} p q) =
+      rw (p, q, error_number_erase e, ← (error_shown S success s e)) (with_erase most (shown_fields success) (number_of_error e) (write_error s e) (put_back S s) _ (put_back_erase S s))
+  answer_erase most success (er_refused {x = x}) = refusal_erase (shown_fields success) x
 
-  unbounds : (n : ℕ) → map erase_cell (replicate n unbound) ≡ replicate n unbound
-  unbounds zero = refl
-  unbounds (suc n) = ap (λ (l : List Cell). unbound ∷ l) (unbounds n)
+  most_erase : (r : Record) → most_of (apart (erase_record r)) ≡ most_of (apart r)
+  unfolding most_of apart erase_record
+  most_erase (SD a ps) = refl
+  most_erase (FV loc) = refl
+  most_erase (NV loc) = refl
+  most_erase (NL loc bits) = refl
+  most_erase (SN v loc) = refl
+  most_erase (JN t u) = refl
+  most_erase (SU t u) = refl
+  most_erase (UF t) = refl
+  most_erase (RD t) = refl
+  most_erase (IN t) = refl
+  most_erase (TS ps t) = refl
+  most_erase (NC loc kind t) = refl
+  most_erase (BC loc t) = refl
+  most_erase (SC loc t) = refl
+  most_erase SV = refl
+  most_erase (RM t) = refl
+  most_erase (CN t) = refl
+  most_erase (XP t) = refl
+  most_erase (MJ ps) = refl
 
-  put_back_erase : (s : State) → put_back (erase S) (erase s) ≡ erase (put_back S s)
-  unfolding put_back
-  put_back_erase s = rw (taken_erase S, taken_erase s, vars_erase s (S.vars ++ replicate (taken s - taken S) unbound), map-append erase_cell S.vars (replicate (taken s - taken S) unbound), unbounds (taken s - taken S), vars_are S) refl
-
-  answer_erase : (success : List Part) {m m' : Result (State × Bytes)} → Erased (blanked S success) m m' → Blanked S (shown_fields success) (answer S m) (answer (erase S) m')
-  unfolding answer shown_fields
-  answer_erase success (er_ok {a = x} e) = rw e (with_erase (shown_fields success) 0 x.1 x.0 (erase x.0) refl)
-  answer_erase success (er_err {s = s} {e = e} p q) =
-      rw (p, q, error_number_erase e, ← (error_shown S success s e)) (with_erase (shown_fields success) (number_of_error e) (write_error s e) (put_back S s) _ (put_back_erase s))
-  answer_erase success (er_refused {x = x}) = refusal_erase (shown_fields success) x
+  reply_erase : sound S ≡ true → (r : Record) → FineRecord (arity S) (taken S) r → RecordIn S r → Blanked S (shown_fields (success_fields r)) (reply S r) (reply (erase S) (erase_record r))
+  unfolding reply
+  reply_erase h r f b = rw (most_erase r) (answer_erase (most_of (apart r)) (success_fields r) (run_erase S h r f b))
 
   pub lent_erase : sound S ≡ true → {n : ℕ} {success : List Part} {x x' : Read Record} → ReadWell (Unit {0}) S n x → Shows success x → ReadAlike x x' → Blanked S (shown_fields success) (lent S x) (lent (erase S) x')
   unfolding lent
-  lent_erase h (given p i m) (shows q) (w_got {r = r} {rest = []} {rest' = []} e l) = rw (e, ← q) (answer_erase (success_fields r) (run_erase S h r p.0 (p.1 tt)))
+  lent_erase h (given p i m) (shows q) (w_got {r = r} {rest = []} {rest' = []} e l) = rw (e, ← q) (reply_erase h r p.0 (p.1 tt))
   lent_erase h g (shows q) (w_got {rest = []} {rest' = b ∷ rest'} e l) = never (cc)
   lent_erase h g (shows q) (w_got {rest = b ∷ rest} {rest' = []} e l) = never (cc)
   lent_erase h g (shows q) (w_got {rest = b ∷ rest} {rest' = b' ∷ rest'} e l) = refusal_erase (shown_fields _) _

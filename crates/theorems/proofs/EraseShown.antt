@@ -10,8 +10,8 @@ use Rattle.std.specs.Prelude.{if◌then◌else◌}
 use Rattle.definition.specs.Types.{State, Refusal}
 use Rattle.definition.specs.Write.{Bytes}
 use Rattle.definition.specs.Reader.{Read, got, not_read, Reader, give, refuse, go_on, ◌>>=◌, byte, read_one, read_two, read_three}
-use Rattle.definition.specs.Record.{Record, SD, FV, NV, SN, JN, SU, UF, RD, IN, TS, NC, BC, SC, SV, RM, CN, XP, read_SD, read_TS, by_mark, fields_of, read_fields, max_record, hand_back, read_record, NL}
-use Rattle.definition.specs.Locations.{Part, type, types, codes, failures, mark_fields, after_mark, told}
+use Rattle.definition.specs.Record.{Record, SD, FV, NV, SN, JN, SU, UF, RD, IN, TS, NC, BC, SC, SV, RM, CN, XP, read_SD, read_TS, by_mark, fields_of, read_fields, max_record, hand_back, read_record, NL, MJ, read_MJ}
+use Rattle.definition.specs.Locations.{Part, type, types, codes, failures, mark_fields, after_mark, told, pair}
 
 unfoldable pub success_fields : Record → List Part
 success_fields (SD abilities params) = []
@@ -32,6 +32,7 @@ success_fields SV = failures ∷ []
 success_fields (RM t) = []
 success_fields (CN t) = []
 success_fields (XP t) = type ∷ codes ∷ []
+success_fields (MJ ps) = pair ∷ []
 
 -- the record, if one is read, shows this
 pub data Shows (shown : List Part) : Read Record → Type 0 where
@@ -83,12 +84,12 @@ row_at (row {a = a'} {b = b'} {m = m} {ps = ps} {shown = shown} {ms = ms} {pss =
     go false q = q
 
 rows : (s : State) → Rows (by_mark s) mark_fields
-unfolding by_mark mark_fields success_fields read_SD read_TS
+unfolding by_mark mark_fields success_fields read_SD read_TS read_MJ
 rows s =
     row (sh_bind _ _ (λ a. sh_bind _ _ (λ n. sh_bind _ _ (λ ps. sh_give _ refl)))) (row (sh_one _ _ (λ l. refl)) (row (sh_one _ _ (λ l. refl)) (row (sh_two _ _ _ (λ v l. refl))
     (row (sh_two _ _ _ (λ t u. refl)) (row (sh_two _ _ _ (λ t u. refl)) (row (sh_one _ _ (λ t. refl)) (row (sh_one _ _ (λ t. refl))
     (row (sh_bind _ _ (λ n. sh_bind _ _ (λ ps. sh_bind _ _ (λ t. sh_give _ refl)))) (row (sh_one _ _ (λ t. refl)) (row (sh_three _ _ _ _ (λ l k t. refl)) (row (sh_two _ _ _ (λ l t. refl)) (row (sh_two _ _ _ (λ l t. refl))
-    (row (sh_give _ refl) (row (sh_one _ _ (λ t. refl)) (row (sh_one _ _ (λ t. refl)) (row (sh_one _ _ (λ t. refl)) (row (sh_two _ _ _ (λ l n. refl)) no_rows)))))))))))))))))
+    (row (sh_give _ refl) (row (sh_one _ _ (λ t. refl)) (row (sh_one _ _ (λ t. refl)) (row (sh_one _ _ (λ t. refl)) (row (sh_two _ _ _ (λ l n. refl)) (row (sh_bind _ _ (λ n. sh_bind _ _ (λ ps. sh_give _ refl))) no_rows))))))))))))))))))
 
 handed : {shown : List Part} (more : Bytes) {x : Read Record} → Shows shown x → Shows shown (hand_back more x)
 unfolding hand_back

@@ -14,7 +14,7 @@ use Rattle.definition.specs.Trees.{Tree, arity}
 use Rattle.definition.specs.Record.{XP, read_record}
 use Rattle.definition.specs.Build.{build}
 use Rattle.definition.specs.Sound.{sound}
-use Rattle.definition.specs.Step.{run, answer, usable, step, Answer}
+use Rattle.definition.specs.Step.{run, answer, usable, step, Answer, apart}
 use Rattle.definition.specs.Final.{Shown, ExpandsAs02, XPSeven, Came, came_ok, came_17}
 use Rattle.theorems.proofs.DemandTracks.{never}
 use Rattle.theorems.proofs.DemandOrder.{Sound}
@@ -29,12 +29,13 @@ use Rattle.theorems.proofs.ExpandNine.{walk_comes}
 
 -- ---- a record XP
 
-module _ (S : State) (bytes : Bytes) (buffer : ℕ) (tree : Tree) (u : usable S buffer ≡ true) (is_XP : read_record S bytes ≡ got (XP tree) []) where
+module _ (S : State) (bytes : Bytes) (buffer : ℕ) (tree : Tree) (u : usable S bytes buffer ≡ true) (is_XP : read_record S bytes ≡ got (XP tree) []) where
   pub sound_is : sound S ≡ true
-  sound_is = sound_of S buffer u
+  sound_is = sound_of S bytes buffer u
 
   pub answered : step S bytes buffer ≡ answer S (run S (XP tree))
-  answered = step_runs S bytes buffer (XP tree) u is_XP
+  unfolding apart
+  answered = step_runs S bytes buffer (XP tree) u is_XP refl
 
   went : Post (arity S) S (WentTo (arity S) S) (build tree S)
   went = go (rw is_XP at (well_read ⊥ S bytes (λ z. absurd z)))
@@ -105,7 +106,7 @@ shows S tree p (refused x) b q z = never (let o = z.is_ok in cc)
 pub expands_as_02 : (s : State) → ExpandsAs02 s
 unfolding ExpandsAs02
 expands_as_02 s bytes buffer tree c n =
-    let u : usable s buffer ≡ true = usable_is s bytes buffer n in
+    let u : usable s bytes buffer ≡ true = usable_is s bytes buffer n in
     let a = answered s bytes buffer tree u c in
     let z : Zero (run s (XP tree)) (answer s (run s (XP tree))).payload = answered_0 s (run s (XP tree)) (sym (ap (λ (x : Answer). x.number) a) ∙ n) in
     subst (λ (p : Bytes). Shown s tree p) (sym (ap (λ (x : Answer). x.payload) a)) (shows s tree _ (build tree s) refl (went s bytes buffer tree u c) (subst (λ (m : Result (State × Bytes)). Zero m (answer s (run s (XP tree))).payload) (run_is s tree) z))

@@ -17,14 +17,14 @@ use Rattle.definition.specs.Write.{Bytes, write}
 use Rattle.definition.specs.Reader.{Read, got, not_read, Reader, give, refuse, go_on, ◌>>=◌, byte, read_u16, read_u32, byte_if, byte_to, read_bool, name_below, times, read_one, read_two, read_three}
 use Rattle.definition.specs.Trees.{Tree, unit_tree, anything_tree, error_tree, ref_tree, param_tree, apply_tree, var_tree, Trees, no_trees, ◌then◌}
 use Rattle.definition.specs.Trees.{read_trees, mark_of, read_mark, mark_fits, arity, under_ref, read_apply, by_tag, is_set, is_name, read_nested, read_type}
-use Rattle.definition.specs.Record.{Record, SD, FV, NV, SN, JN, SU, UF, RD, IN, TS, NC, BC, SC, SV, RM, CN, XP, read_kind, read_SD, read_pair, read_TS, by_mark, fields_of, read_fields, max_record, hand_back, read_record, NL, read_bits}
+use Rattle.definition.specs.Record.{Record, SD, FV, NV, SN, JN, SU, UF, RD, IN, TS, NC, BC, SC, SV, RM, CN, XP, read_kind, read_SD, read_pair, read_TS, by_mark, fields_of, read_fields, max_record, hand_back, read_record, NL, read_bits, MJ, read_case, is_many, read_case_pair, read_MJ}
 use Rattle.definition.specs.Build.{build, build_all}
-use Rattle.definition.specs.Sound.{sound}
-use Rattle.definition.specs.Step.{Answer, refusal, max_payload, answer_with, answer, max_buffer, usable, two_types, lent, run, step}
-use Rattle.definition.specs.Demand.{JoinCall, outcome, run_calls, lent_calls, step_calls}
+use Rattle.definition.specs.Step.{Answer, refusal, max_payload, answer_with, answer_within, apart, most_of, reply, usable, two_types, lent, run, step}
+use Rattle.definition.specs.Demand.{JoinCall, outcome, run_calls, Event, nothing_done, events_by, lent_events, events}
 use Rattle.theorems.proofs.DemandOrder.{All, Sound}
+use Rattle.theorems.proofs.LawsAnswer.{sound_of}
 use Rattle.theorems.proofs.LawsPost.{grown_refl, Post, p_ok, post_map, bind_post}
-use Rattle.theorems.proofs.SoundFacts.{and_r, facts}
+use Rattle.theorems.proofs.SoundFacts.{facts}
 use Rattle.theorems.proofs.Soundness.{le_test}
 use Rattle.theorems.proofs.DemandMade.{OneJoin, not_placed, joined, JN_calls, SU_calls}
 use Rattle.theorems.proofs.SoundRead.{Fine, fine_unit, fine_anything, fine_error, fine_ref, fine_param, fine_apply, fine_var, Fines, fine_none, fine_then, FineRecord, ReadWell, given, well_read}
@@ -190,7 +190,11 @@ module _ (s : State) where
   unfolding read_type
   pays_type = pays_nested 64
 
--- ---- the two types of a JN or SU
+-- ---- the types of a JN, SU or MJ
+
+unfoldable pub many_size : List (TypingCase × Tree × Tree) → ℕ
+many_size [] = 0
+many_size ((c, t1, t2) ∷ ps) = tree_size t1 + tree_size t2 + many_size ps
 
 unfoldable pub weight : Record → ℕ
 weight (SD abilities params) = 0
@@ -211,6 +215,7 @@ weight SV = 0
 weight (RM t) = 0
 weight (CN t) = 0
 weight (XP t) = 0
+weight (MJ pairs) = many_size pairs
 
 pub data Weighs (n : ℕ) : Read Record → Type 0 where
   weighs : {r : Record} {rest : Bytes} → weight r ≤ n → Weighs n (got r rest)
@@ -292,6 +297,26 @@ module _ (n : ℕ) where
     unfolding read_three weight
     light_NC = light (always_then read_u32 _ (λ loc. always_then read_kind _ (λ k. always_then (read_type s) _ (λ t. always_give (NC loc k t) refl))))
 
+    pays_case : Pays 0 (λ k. 1) read_case
+    unfolding read_case read_one
+    pays_case = pays_then (λ b. 1) (λ k. 1) 0 (byte_to 1) _ (pays_byte_if _) (λ b. pays_give (λ k. 1) 1 _ (omega arith))
+
+    pays_many : (k : ℕ) → Pays 0 many_size (times k (read_case_pair s))
+    unfolding times read_case_pair read_three many_size
+    pays_many zero = pays_give many_size 0 [] (omega arith)
+    pays_many (suc k) =
+        pays_then (λ (p : TypingCase × Tree × Tree). tree_size p.1 + tree_size p.2) many_size 0 _ _
+        (pays_then (λ c. 1) (λ (p : TypingCase × Tree × Tree). tree_size p.1 + tree_size p.2) 0 read_case _ pays_case (λ c.
+        pays_then tree_size (λ (p : TypingCase × Tree × Tree). tree_size p.1 + tree_size p.2) 1 (read_type s) _ (pays_type s) (λ t1.
+        pays_then tree_size (λ (p : TypingCase × Tree × Tree). tree_size p.1 + tree_size p.2) (1 + tree_size t1) (read_type s) _ (pays_type s) (λ t2.
+        pays_give (λ (p : TypingCase × Tree × Tree). tree_size p.1 + tree_size p.2) (1 + tree_size t1 + tree_size t2) (c, t1, t2) (omega arith)))))
+        (λ p. pays_then many_size many_size (0 + (tree_size p.1 + tree_size p.2)) (times k (read_case_pair s)) _ (pays_many k)
+        (λ ps. pays_give many_size (0 + (tree_size p.1 + tree_size p.2) + many_size ps) (p ∷ ps) (omega arith)))
+
+    light_MJ : Light (read_MJ s)
+    unfolding read_MJ weight
+    light_MJ = light_pays _ (pays_then (λ b. 1) weight 0 (byte_if is_many) _ (pays_byte_if is_many) (λ k. pays_then many_size weight 1 (times k (read_case_pair s)) _ (pays_many k) (λ ps. pays_give weight (1 + many_size ps) (MJ ps) (omega arith))))
+
     abbrev AllLight : List (ℕ × ℕ × Reader Record) → Type 0
     AllLight [] = Unit {0}
     AllLight (e ∷ es) = Light e.2 × AllLight es
@@ -317,7 +342,7 @@ module _ (n : ℕ) where
                 light_two SU (λ a b. refl),
                 (
                   light_one UF (λ t. refl),
-                  (light_one RD (λ t. refl), (light_TS, (light_one IN (λ t. refl), (light_NC, (light_loc_type BC (λ l t. refl), (light_loc_type SC (λ l t. refl), (light (always_give SV refl), (light_one RM (λ t. refl), (light_one CN (λ t. refl), (light_one XP (λ t. refl), (light_NL, tt))))))))))),
+                  (light_one RD (λ t. refl), (light_TS, (light_one IN (λ t. refl), (light_NC, (light_loc_type BC (λ l t. refl), (light_loc_type SC (λ l t. refl), (light (always_give SV refl), (light_one RM (λ t. refl), (light_one CN (λ t. refl), (light_one XP (λ t. refl), (light_NL, (light_MJ, tt)))))))))))),
                 ),
               ),
             ),
@@ -332,7 +357,7 @@ module _ (n : ℕ) where
     light_fields (a ∷ []) h = not_weighed
     light_fields (a ∷ b ∷ bytes) h = light_fields_of (by_mark s) light_marks a b bytes (omega arith)
 
--- the two types of a JN or SU are read from 4,096 bytes at most, as many as a payload may have
+-- the types of a JN, SU or MJ are read from 4,096 bytes at most, as many as a payload may have
 pub record_weighs : (s : State) (bytes : Bytes) → Weighs max_payload (read_record s bytes)
 unfolding read_record hand_back max_record max_payload
 record_weighs s bytes = back (read_fields s (take max_record bytes)) (light_fields max_payload s (take max_record bytes) (omega (arith, length-take max_record bytes)))
@@ -391,7 +416,7 @@ module _ {ar : TypeName → ℕ} where
 
 -- ---- the payload of a JN or SU
 
-as_length : (S : State) (t n : ℕ) → wrote S t ≤ n → length (write S t) ≤ n
+pub as_length : (S : State) (t n : ℕ) → wrote S t ≤ n → length (write S t) ≤ n
 unfolding wrote
 as_length S t n h = h
 
@@ -408,24 +433,20 @@ abbrev pub two_of : TypingCase → Tree → Tree → Record
 two_of Join t1 t2 = JN t1 t2
 two_of Subtype t1 t2 = SU t1 t2
 
-pub fitting : (S S' : State) (p : Bytes) → length p ≤ max_payload → answer S (ok (S', p)) ≡ record { number = 0; payload = p; state = S' }
-unfolding answer answer_with
-fitting S S' p h = rw (le_test (length p) max_payload h) refl
+pub fitting : (most : ℕ) (S S' : State) (p : Bytes) → length p ≤ most → answer_within most S (ok (S', p)) ≡ record { number = 0; payload = p; state = S' }
+unfolding answer_within answer_with
+fitting most S S' p h = rw (le_test (length p) most h) refl
 
 pub run_fits : {ar : TypeName → ℕ} {S : State} → Sound ar S → (c : TypingCase) (t1 t2 : Tree) → FineRecord ar (taken S) (two_of c t1 t2) → weight (two_of c t1 t2) ≤ max_payload → (S' : State) (p : Bytes)
-    → run S (two_of c t1 t2) ≡ ok (S', p) → answer S (run S (two_of c t1 t2)) ≡ record { number = 0; payload = p; state = S' }
-unfolding run join subtype weight
-run_fits {S = S} s Join t1 t2 f h S' p e = rw e (fitting S S' p (omega (arith, h, post_is (two_payload Join s t1 t2 f.0 f.1) e)))
-run_fits {S = S} s Subtype t1 t2 f h S' p e = rw e (fitting S S' p (omega (arith, h, post_is (two_payload Subtype s t1 t2 f.0 f.1) e)))
+    → run S (two_of c t1 t2) ≡ ok (S', p) → reply S (two_of c t1 t2) ≡ record { number = 0; payload = p; state = S' }
+unfolding reply apart most_of run join subtype weight
+run_fits {S = S} s Join t1 t2 f h S' p e = rw e (fitting max_payload S S' p (omega (arith, h, post_is (two_payload Join s t1 t2 f.0 f.1) e)))
+run_fits {S = S} s Subtype t1 t2 f h S' p e = rw e (fitting max_payload S S' p (omega (arith, h, post_is (two_payload Subtype s t1 t2 f.0 f.1) e)))
 
 -- ---- a JN or SU whose join succeeds answers 0, with the state that the join leaves
 
-usable_sound : (s : State) (buffer : ℕ) → usable s buffer ≡ true → sound s ≡ true
-unfolding usable
-usable_sound s buffer e = and_r (leb max_buffer buffer) _ e
-
 two_answered : (c : TypingCase) (s : State) → Sound (arity s) s → {n : ℕ} (t1 t2 : Tree) → ReadWell ⊥ s n (got (two_of c t1 t2) []) → Weighs max_payload (got (two_of c t1 t2) []) → (s' : State) (p : Bytes)
-    → run s (two_of c t1 t2) ≡ ok (s', p) → answer s (run s (two_of c t1 t2)) ≡ record { number = 0; payload = p; state = s' }
+    → run s (two_of c t1 t2) ≡ ok (s', p) → reply s (two_of c t1 t2) ≡ record { number = 0; payload = p; state = s' }
 two_answered c s h t1 t2 (given f i l) (weighs w) s' p e = run_fits h c t1 t2 f.0 w s' p e
 
 one_run : {m : Result (State × Bytes)} {l : List JoinCall} → OneJoin m l → (a : JoinCall) → Memᴰ a l → (s : State) (t : ℕ) → outcome a ≡ ok (s, t) → m ≡ ok (s, write s t)
@@ -437,10 +458,23 @@ two_types_made : (c : TypingCase) (s : State) (t1 t2 : Tree) → OneJoin (run s 
 two_types_made Join s t1 t2 = JN_calls s t1 t2
 two_types_made Subtype s t1 t2 = SU_calls s t1 t2
 
-pub join_answers_0 : (s : State) (bytes : Bytes) (buffer : ℕ) (c : TypingCase) (t1 t2 : Tree) → read_record s bytes ≡ got (two_of c t1 t2) [] → (a : JoinCall) → Memᴰ a (step_calls s bytes buffer)
-    → (s' : State) (t : ℕ) → outcome a ≡ ok (s', t) → step s bytes buffer ≡ record { number = 0; payload = write s' t; state = s' }
-unfolding step step_calls lent lent_calls
-join_answers_0 s bytes buffer c t1 t2 e a mem s' t d = go (usable s buffer) refl mem
+-- a JN or SU is one event
+two_events : (c : TypingCase) (s : State) (t1 t2 : Tree) → lent_events s (got (two_of c t1 t2) []) ≡ record { state = (reply s (two_of c t1 t2)).state; calls = run_calls s (two_of c t1 t2) } ∷ []
+unfolding lent_events events_by apart
+two_events Join s t1 t2 = refl
+two_events Subtype s t1 t2 = refl
+
+pub calls_of : {e x : Event} (a : JoinCall) → Memᴰ e (x ∷ []) → Memᴰ a e.calls → Memᴰ a x.calls
+calls_of a m n = subst (λ (y : Event). Memᴰ a y.calls) (mathlib.Core.List.Memᴰ.eq_of_singleton m) n
+
+pub no_calls : (s : State) {e : Event} (a : JoinCall) → Memᴰ e (nothing_done s) → Memᴰ a e.calls → ⊥
+unfolding nothing_done
+no_calls s a m n = absurd (mathlib.Core.List.Memᴰ.not-nil (calls_of a m n))
+
+pub join_answers_0 : (s : State) (bytes : Bytes) (buffer : ℕ) (c : TypingCase) (t1 t2 : Tree) → read_record s bytes ≡ got (two_of c t1 t2) [] → (e : Event) → Memᴰ e (events s bytes buffer)
+    → (a : JoinCall) → Memᴰ a e.calls → (s' : State) (t : ℕ) → outcome a ≡ ok (s', t) → step s bytes buffer ≡ record { number = 0; payload = write s' t; state = s' }
+unfolding step events lent
+join_answers_0 s bytes buffer c t1 t2 e x mem a call s' t d = go (usable s bytes buffer) refl mem
   where
     well : ReadWell ⊥ s (length bytes - 1) (got (two_of c t1 t2) [])
     well = subst (λ (y : Read Record). ReadWell ⊥ s (length bytes - 1) y) e (well_read ⊥ s bytes (λ h. absurd h))
@@ -448,10 +482,11 @@ join_answers_0 s bytes buffer c t1 t2 e a mem s' t d = go (usable s buffer) refl
     short : Weighs max_payload (got (two_of c t1 t2) [])
     short = subst (λ (y : Read Record). Weighs max_payload y) e (record_weighs s bytes)
 
-    go : (b : Bool) → usable s buffer ≡ b → Memᴰ a (elim b as (λ x. List JoinCall) [ true ↦ lent_calls s (read_record s bytes) | false ↦ [] ])
+    go : (b : Bool) → usable s bytes buffer ≡ b → Memᴰ x (elim b as (λ x. List Event) [ true ↦ lent_events s (read_record s bytes) | false ↦ nothing_done s ])
         → ◌≡◌ {A = Answer} (elim b [ true ↦ lent s (read_record s bytes) | false ↦ refusal s unsound_state ]) (record { number = 0; payload = write s' t; state = s' })
     go true u m =
-        let m' : Memᴰ a (run_calls s (two_of c t1 t2)) = subst (λ (y : Read Record). Memᴰ a (lent_calls s y)) e m in
+        let m' : Memᴰ x (lent_events s (got (two_of c t1 t2) [])) = subst (λ (y : Read Record). Memᴰ x (lent_events s y)) e m in
+        let n : Memᴰ a (run_calls s (two_of c t1 t2)) = calls_of a (subst (λ (l : List Event). Memᴰ x l) (two_events c s t1 t2) m') call in
         subst (λ (y : Read Record). lent s y ≡ record { number = 0; payload = write s' t; state = s' }) (sym e)
-        (two_answered c s (facts s (usable_sound s buffer u)) t1 t2 well short s' (write s' t) (one_run (two_types_made c s t1 t2) a m' s' t d))
-    go false u m = absurd (mathlib.Core.List.Memᴰ.not-nil m)
+        (two_answered c s (facts s (sound_of s bytes buffer u)) t1 t2 well short s' (write s' t) (one_run (two_types_made c s t1 t2) a n s' t d))
+    go false u m = absurd (no_calls s a m call)

@@ -12,7 +12,7 @@ use Rattle.definition.specs.Write.{Bytes, write_error}
 use Rattle.definition.specs.Reader.{got}
 use Rattle.definition.specs.Record.{Record, read_record}
 use Rattle.definition.specs.Sound.{sound}
-use Rattle.definition.specs.Step.{run, number_of_error, number_of_refusal, refusal, put_back, max_payload, answer_with, answer, max_buffer, usable, lent, step, Answer}
+use Rattle.definition.specs.Step.{run, number_of_error, number_of_refusal, refusal, put_back, max_payload, answer_with, answer_within, answer, as_others, apart, most_of, reply, least_buffer, usable, lent, step, Answer}
 use Rattle.theorems.proofs.SoundFacts.{and_r, test}
 
 -- ---- the number of an answer
@@ -20,7 +20,7 @@ use Rattle.theorems.proofs.SoundFacts.{and_r, test}
 abbrev pub if_short : State → ℕ → Bytes → State → Bool → Answer
 if_short before n p after b = if b then record { number = n; payload = p; state = after } else record { number = 14; payload = []; state = before }
 
-pub with_is : (before : State) (n : ℕ) (p : Bytes) (after : State) → answer_with before n p after ≡ if_short before n p after (leb (length p) 4096)
+pub with_is : (before : State) (n : ℕ) (p : Bytes) (after : State) → answer_with max_payload before n p after ≡ if_short before n p after (leb (length p) 4096)
 unfolding answer_with refusal number_of_refusal max_payload
 with_is before n p after = refl
 
@@ -55,22 +55,22 @@ seven_full already_expanded h = absurd (omega (arith, h))
 seven_full doubled_reference h = absurd (omega (arith, h))
 
 -- a refusal is 5 or more
-not_zero : (x : Refusal) → number_of_refusal x ≡ 0 → ⊥
+pub refusal_number_5 : (x : Refusal) → 5 ≤ number_of_refusal x
 unfolding number_of_refusal
-not_zero malformed h = absurd (omega (arith, h))
-not_zero unknown_name h = absurd (omega (arith, h))
-not_zero full h = absurd (omega (arith, h))
-not_zero too_deep h = absurd (omega (arith, h))
-not_zero runs_into_itself h = absurd (omega (arith, h))
-not_zero abilities_disagree h = absurd (omega (arith, h))
-not_zero open_variable h = absurd (omega (arith, h))
-not_zero no_argument h = absurd (omega (arith, h))
-not_zero parameter_twice h = absurd (omega (arith, h))
-not_zero answer_too_long h = absurd (omega (arith, h))
-not_zero unsound_state h = absurd (omega (arith, h))
-not_zero mark_contradicted h = absurd (omega (arith, h))
-not_zero already_expanded h = absurd (omega (arith, h))
-not_zero doubled_reference h = absurd (omega (arith, h))
+refusal_number_5 malformed = omega arith
+refusal_number_5 unknown_name = omega arith
+refusal_number_5 full = omega arith
+refusal_number_5 too_deep = omega arith
+refusal_number_5 runs_into_itself = omega arith
+refusal_number_5 abilities_disagree = omega arith
+refusal_number_5 open_variable = omega arith
+refusal_number_5 no_argument = omega arith
+refusal_number_5 parameter_twice = omega arith
+refusal_number_5 answer_too_long = omega arith
+refusal_number_5 unsound_state = omega arith
+refusal_number_5 mark_contradicted = omega arith
+refusal_number_5 already_expanded = omega arith
+refusal_number_5 doubled_reference = omega arith
 
 ok_0 : (S after : State) (p : Bytes) (b : Bool) → leb (length p) 4096 ≡ b → (if_short S 0 p after b).number ≡ 0 → Zero (ok (after, p)) (if_short S 0 p after b).payload
 ok_0 S after p true e h = record { left = after; is_ok = refl; short = leb→le (length p) 4096 (test e) }
@@ -81,20 +81,20 @@ err_not S after n k p true d c h = d h
 err_not S after n k p false d c h = c h
 
 pub answered_0 : (S : State) (m : Result (State × Bytes)) → (answer S m).number ≡ 0 → Zero m (answer S m).payload
-unfolding answer refusal
+unfolding answer answer_within refusal
 answered_0 S (ok (after, p)) h = rw (with_is S 0 p after) (ok_0 S after p (leb (length p) 4096) refl (rw (with_is S 0 p after) at h))
 answered_0 S (err after e) h = absurd (err_not S (put_back S after) (number_of_error e) 0 (write_error after e) (leb (length (write_error after e)) 4096) (error_low e).0 (λ q. absurd (omega (arith, q))) (rw (with_is S (number_of_error e) (write_error after e) (put_back S after)) at h))
-answered_0 S (refused x) h = absurd (not_zero x h)
+answered_0 S (refused x) h = absurd (omega (arith, h, refusal_number_5 x))
 
 -- 7 is the refusal of a run
 pub answered_7 : (S : State) (m : Result (State × Bytes)) → (answer S m).number ≡ 7 → m ≡ refused full
-unfolding answer refusal
+unfolding answer answer_within refusal
 answered_7 S (ok (after, p)) h = absurd (err_not S after 0 7 p (leb (length p) 4096) (λ q. absurd (omega (arith, q))) (λ q. absurd (omega (arith, q))) (rw (with_is S 0 p after) at h))
 answered_7 S (err after e) h = absurd (err_not S (put_back S after) (number_of_error e) 7 (write_error after e) (leb (length (write_error after e)) 4096) (error_low e).1 (λ q. absurd (omega (arith, q))) (rw (with_is S (number_of_error e) (write_error after e) (put_back S after)) at h))
 answered_7 S (refused x) h = ap refused (seven_full x h)
 
 pub full_7 : (S : State) → (answer S (refused full)).number ≡ 7
-unfolding answer refusal number_of_refusal
+unfolding answer answer_within refusal number_of_refusal
 full_7 S = refl
 
 -- ---- a lent record
@@ -102,19 +102,20 @@ full_7 S = refl
 abbrev by_test : Bool → Answer → Answer → Answer
 by_test b one other = elim b [ true ↦ one | false ↦ other ]
 
-pub usable_is : (S : State) (bytes : Bytes) (buffer : ℕ) → (step S bytes buffer).number ≡ 0 → usable S buffer ≡ true
+pub usable_is : (S : State) (bytes : Bytes) (buffer : ℕ) → (step S bytes buffer).number ≡ 0 → usable S bytes buffer ≡ true
 unfolding step refusal number_of_refusal
-usable_is S bytes buffer number = go (usable S buffer) number
+usable_is S bytes buffer number = go (usable S bytes buffer) number
   where
     go : (b : Bool) → (by_test b (lent S (read_record S bytes)) (refusal S unsound_state)).number ≡ 0 → b ≡ true
     go true h = refl
     go false h = absurd (omega (arith, h))
 
 -- what it asked of state and buffer
-pub sound_of : (S : State) (buffer : ℕ) → usable S buffer ≡ true → sound S ≡ true
+pub sound_of : (S : State) (bytes : Bytes) (buffer : ℕ) → usable S bytes buffer ≡ true → sound S ≡ true
 unfolding usable
-sound_of S buffer u = and_r (leb max_buffer buffer) (sound S) u
+sound_of S bytes buffer u = and_r (leb (least_buffer bytes) buffer) (sound S) u
 
-pub step_runs : (S : State) (bytes : Bytes) (buffer : ℕ) (r : Record) → usable S buffer ≡ true → read_record S bytes ≡ got r [] → step S bytes buffer ≡ answer S (run S r)
-unfolding step lent
-step_runs S bytes buffer r u e = rw (u, step) (rw e refl)
+-- of a record that is answered as the others are
+pub step_runs : (S : State) (bytes : Bytes) (buffer : ℕ) (r : Record) → usable S bytes buffer ≡ true → read_record S bytes ≡ got r [] → apart r ≡ as_others → step S bytes buffer ≡ answer S (run S r)
+unfolding step lent reply most_of answer
+step_runs S bytes buffer r u e a = rw (u, step) (rw e (rw a refl))

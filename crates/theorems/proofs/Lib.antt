@@ -31,6 +31,9 @@ pub mod DemandRuns
 pub mod DemandRecords
 pub mod JoinWrites
 pub mod JoinAnswers
+pub mod ManyPairs
+pub mod ReadLetters
+pub mod StepFits
 pub mod TotalTakes
 pub mod TotalNoFail
 pub mod DemandFair
@@ -92,6 +95,7 @@ pub mod ExpandWhole
 pub mod ExpandAgain
 pub mod ExpandCodes
 pub mod ExpandRoom
+pub mod EraseMany
 pub mod EraseRun
 pub mod CanonicalWithin
 pub mod CanonicalOne

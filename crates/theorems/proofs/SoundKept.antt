@@ -4,9 +4,9 @@ use mathlib.Core.Path.{◌≡◌, refl, sym, ap, ◌∙◌}
 use mathlib.Core.Logic.{◌≢◌}
 use mathlib.Core.Bool.{Bool, true, false, ◌&&◌}
 use mathlib.Core.List.{List, [], ◌∷◌, append-nil, Memᴰ}
-use Prim.Native.Nat.{ℕ, zero, suc, ◌+◌, ◌-◌, ◌≤◌, ◌<◌}
+use Prim.Native.Nat.{ℕ, zero, suc, ◌+◌, ◌≤◌, ◌<◌}
 use native.Mathlib.Omega.{arith}
-use lib.ListN.{length, get_or, replicate, length-append, length-replicate, get_or-append}
+use lib.ListN.{length, get_or, length-append, get_or-append}
 use lib.Dec.{leb, eqb, eqb_refl, ltb→lt}
 use Rattle.std.specs.Prelude.{if◌then◌else◌}
 use Rattle.definition.specs.Types.{TypeName, Multiple, Builtin, ModuleType, Shape, UnitType, Ref, Param, Apply, Var, Anything, UnresolvedError, Places, Node, unbound, State, fresh, max_nodes, max_args, max_vars, max_constraints, max_structs}
@@ -20,7 +20,7 @@ use Rattle.definition.specs.Write.{Bytes, IsBytes}
 use Rattle.definition.specs.Reader.{Read, got, not_read}
 use Rattle.definition.specs.Record.{Record, read_record}
 use Rattle.definition.specs.Sound.{all_at, counts_fit, parts_smaller, fields_allowed, no_binding_anything, chains_end, is_u32, places_fit, shape_allowed, node_allowed, at_node, constraint_allowed, binding_allowed, cell_allowed, sound, need_allowed}
-use Rattle.definition.specs.Step.{run, Answer, number_of_error, number_of_refusal, refusal, put_back, max_payload, answer_with, answer, max_buffer, usable, lent, step, streamed, step_stream}
+use Rattle.definition.specs.Step.{run, Answer, number_of_error, number_of_refusal, refusal, put_back, answer_with, max_buffer, usable, lent, step, streamed, step_stream, answer_within, apart, most_of, reply, max_many, least_buffer, job_buffer}
 use Rattle.definition.specs.Demand.{after}
 use Rattle.definition.specs.Job.{Entry, ends_job, job_from, job_log}
 use Rattle.theorems.proofs.Laws.{PlacesIn, type_on}
@@ -29,8 +29,8 @@ use Rattle.theorems.proofs.TotalFinite.{all_at as each}
 use Rattle.theorems.proofs.SoundFacts.{and_l, and_r, test, length_args, cell, facts, need_in}
 use Rattle.theorems.proofs.Soundness.{untest, and, lt_test, le_test, not_anything, numeric_u32, sound_is, marked_need, unmarked_need}
 use Rattle.theorems.proofs.DemandPutBack.{sound_put_back}
-use Rattle.theorems.proofs.SoundRanges.{all_append, ShapeIn, NodeIn, CellIn, ConstraintIn, StructIn, Ranges, unbound_in, node_in, cell_in, vars_ranges, need_cell}
-use Rattle.theorems.proofs.SoundRead.{ReadTime, five, six, eighteen, ReadWell, given, not_given, well_read}
+use Rattle.theorems.proofs.SoundRanges.{ShapeIn, NodeIn, CellIn, ConstraintIn, StructIn, Ranges, node_in, cell_in, need_cell, put_back_ranges}
+use Rattle.theorems.proofs.SoundRead.{ReadTime, five, six, eighteen, ReadWell, given, not_given, well_read, FineRecord, RecordIn}
 use Rattle.theorems.proofs.SoundRefusals.{error_number, step_cases, stream_cases}
 use Rattle.theorems.proofs.DemandRecords.{Leaves, l_ok, l_err, l_refused, run_leaves, Literals, literals}
 use Rattle.theorems.proofs.TotalWalk.{RunTime, seven, eight, nine, ten, eleven, twelve, thirteen, sixteen, seventeen, e_ok, e_err, e_refused, Run, run_walk}
@@ -158,23 +158,14 @@ module _ {s s' : State} (w : Sound (arity s) s') (r : Ranges s s') where
 
 -- ---- the answer
 
-put_back_ranges : {s s' : State} → Ranges s s → Ranges s s' → Ranges s (put_back s s')
-unfolding put_back
-put_back_ranges {s} {s'} r r' =
-    vars_ranges r' _ (omega (arith, r.few_vars, r'.few_vars, length-append s.vars (replicate (taken s' - taken s) unbound), length-replicate (taken s' - taken s) unbound)) (all_append CellIn s.vars _ r.cells_in (unbounds (taken s' - taken s)))
-  where
-    unbounds : (n : ℕ) → All CellIn (replicate n unbound)
-    unbounds zero = tt
-    unbounds (suc n) = (unbound_in, unbounds n)
-
 -- an answer that leaves a sound state, and is no 15
 record Good (a : Answer) : Type 0 where
   left : sound a.state ≡ true
   no_15 : a.number ≢ 15
 
-with_good : (s : State) → sound s ≡ true → (n : ℕ) → n ≢ 15 → (p : Bytes) (s' : State) → sound s' ≡ true → Good (answer_with s n p s')
+with_good : (most : ℕ) (s : State) → sound s ≡ true → (n : ℕ) → n ≢ 15 → (p : Bytes) (s' : State) → sound s' ≡ true → Good (answer_with most s n p s')
 unfolding answer_with refusal number_of_refusal
-with_good s h n l p s' h' = go (leb (length p) max_payload)
+with_good most s h n l p s' h' = go (leb (length p) most)
   where
     go : (b : Bool) → Good (if b then record { number = n; payload = p; state = s' } else refusal s answer_too_long)
     go true = record { left = h'; no_15 = l }
@@ -203,21 +194,25 @@ module _ (s : State) (h : sound s ≡ true) where
   unfolding refusal
   refusal_good x l = record { left = h; no_15 = l }
 
-  answer_good : (r : Literals) (m : Result (State × Bytes)) → Leaves r (arity s) s m → Run (Unit {0}) s true m → Good (answer s m)
-  unfolding answer
-  answer_good r (ok (s', p)) (l_ok w k) (e_ok i) = with_good s h 0 (λ d. absurd (omega (arith, d))) p s' (still_sound w.sound (i tt))
-  answer_good r (err s' e) (l_err g n) (e_err i) = with_good s h (number_of_error e) (λ d. absurd (omega (arith, error_number e, d))) _ (put_back s s') (still_sound (sound_put_back (facts s h) g n) (put_back_ranges (ranges_of s h) (i tt)))
-  answer_good r (refused x) l_refused (e_refused t) = refusal_good x (run_time_number t)
+  answer_good : (r : Literals) (most : ℕ) (m : Result (State × Bytes)) → Leaves r (arity s) s m → Run (Unit {0}) s true m → Good (answer_within most s m)
+  unfolding answer_within
+  answer_good r most (ok (s', p)) (l_ok w k) (e_ok i) = with_good most s h 0 (λ d. absurd (omega (arith, d))) p s' (still_sound w.sound (i tt))
+  answer_good r most (err s' e) (l_err g n) (e_err i) = with_good most s h (number_of_error e) (λ d. absurd (omega (arith, error_number e, d))) _ (put_back s s') (still_sound (sound_put_back (facts s h) g n) (put_back_ranges (ranges_of s h) (i tt)))
+  answer_good r most (refused x) l_refused (e_refused t) = refusal_good x (run_time_number t)
+
+  reply_good : (r : Record) → FineRecord (arity s) (taken s) r → (Unit {0} → RecordIn s r) → Good (reply s r)
+  unfolding reply
+  reply_good r f i = answer_good (literals r) (most_of (apart r)) (run s r) (run_leaves s (facts s h) r f) (run_walk (Unit {0}) s true refl s (λ u. ranges_of s h) r i)
 
   lent_good : {n : ℕ} (r : Read Record) → ReadWell (Unit {0}) s n r → Good (lent s r)
   unfolding lent number_of_refusal
-  lent_good (got r []) (given f i l) = answer_good (literals r) (run s r) (run_leaves s (facts s h) r f.0) (run_walk (Unit {0}) s true refl s (λ u. ranges_of s h) r f.1)
+  lent_good (got r []) (given f i l) = reply_good r f.0 f.1
   lent_good (got r (b ∷ rest)) f = refusal_good _ (λ d. absurd (omega (arith, d)))
   lent_good (not_read x) (not_given t) = refusal_good x (read_time_number t)
 
   streamed_good : (bytes : Bytes) → IsBytes bytes → {n : ℕ} (r : Read Record) → ReadWell (Unit {0}) s n r → Good (streamed s bytes r).0 × IsBytes (streamed s bytes r).1
   unfolding streamed
-  streamed_good bytes is (got r rest) (given f i l) = (answer_good (literals r) (run s r) (run_leaves s (facts s h) r f.0) (run_walk (Unit {0}) s true refl s (λ u. ranges_of s h) r f.1), i tt)
+  streamed_good bytes is (got r rest) (given f i l) = (reply_good r f.0 f.1, i tt)
   streamed_good bytes is (not_read x) (not_given t) = (refusal_good x (read_time_number t), is)
 
 -- ---- the theorem
@@ -241,16 +236,28 @@ after_sound s ((bytes, buffer) ∷ records) is h = after_sound (step s bytes buf
 
 -- ---- a job never meets 15
 
-pub usable_sound : (s : State) → sound s ≡ true → usable s max_buffer ≡ true
+pub usable_enough : (s : State) (bytes : Bytes) (buffer : ℕ) → least_buffer bytes ≤ buffer → sound s ≡ true → usable s bytes buffer ≡ true
 unfolding usable
-usable_sound s h = and (le_test max_buffer max_buffer (omega arith)) h
+usable_enough s bytes buffer l h = and (le_test (least_buffer bytes) buffer l) h
+
+-- a job's buffer is enough for every record
+job_enough : (bytes : Bytes) → least_buffer bytes ≤ job_buffer
+unfolding least_buffer job_buffer max_many max_buffer
+job_enough bytes = go (eqb (get_or bytes 0 0) 77 && eqb (get_or bytes 1 0) 74)
+  where
+    go : (b : Bool) → (if b then max_many else max_buffer) ≤ job_buffer
+    go true = omega arith
+    go false = omega arith
+
+pub usable_sound : (s : State) (bytes : Bytes) → sound s ≡ true → usable s bytes job_buffer ≡ true
+usable_sound s bytes h = usable_enough s bytes job_buffer (job_enough bytes) h
 
 -- so a job need not test its state again
-pub trusted : (s : State) (bytes : Bytes) → sound s ≡ true → step_stream s bytes max_buffer ≡ streamed s bytes (read_record s bytes)
+pub trusted : (s : State) (bytes : Bytes) → sound s ≡ true → step_stream s bytes job_buffer ≡ streamed s bytes (read_record s bytes)
 unfolding step_stream
-trusted s bytes h = rw (usable_sound s h, step_stream) refl
+trusted s bytes h = rw (usable_sound s bytes h, step_stream) refl
 
-pub stream_no_15 : (s : State) (bytes : Bytes) → IsBytes bytes → sound s ≡ true → (step_stream s bytes max_buffer).0.number ≢ 15
+pub stream_no_15 : (s : State) (bytes : Bytes) → IsBytes bytes → sound s ≡ true → (step_stream s bytes job_buffer).0.number ≢ 15
 stream_no_15 s bytes is h = rw (trusted s bytes h) (streamed_good s h bytes is (read_record s bytes) (well_read (Unit {0}) s bytes (λ u. is))).0.no_15
 
 abbrev No15 : Entry → Type 0
@@ -261,8 +268,8 @@ unfolding job_from
 from_no_15 zero i s bytes is h = tt
 from_no_15 (suc n) i s [] is h = tt
 from_no_15 (suc n) i s (b ∷ bytes) is h =
-    let kept = stream_sound_kept s (b ∷ bytes) max_buffer is h in
-    go (ends_job (step_stream s (b ∷ bytes) max_buffer).0.number) _ _ (stream_no_15 s (b ∷ bytes) is h) (from_no_15 n (suc i) _ _ kept.1 kept.0)
+    let kept = stream_sound_kept s (b ∷ bytes) job_buffer is h in
+    go (ends_job (step_stream s (b ∷ bytes) job_buffer).0.number) _ _ (stream_no_15 s (b ∷ bytes) is h) (from_no_15 n (suc i) _ _ kept.1 kept.0)
   where
     go : (x : Bool) (e : Entry) (es : List Entry) → No15 e → All No15 es → All No15 (elim x [ true ↦ e ∷ [] | false ↦ e ∷ es ])
     go true e es l f = (l, tt)

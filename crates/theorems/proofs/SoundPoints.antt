@@ -4,6 +4,7 @@ use mathlib.Core.Bool.{Bool, true, false}
 use mathlib.Core.List.{List, ◌∷◌}
 use Rattle.std.specs.Prelude.{Option, None, Some}
 use Prim.Native.Nat.{ℕ}
+use native.Mathlib.Omega.{arith}
 use lib.ListN.{length}
 use lib.Dec.{leb}
 use Rattle.std.specs.Prelude.{if◌then◌else◌}
@@ -13,11 +14,11 @@ use Rattle.definition.specs.Write.{Bytes}
 use Rattle.definition.specs.Reader.{got}
 use Rattle.definition.specs.Trees.{Tree}
 use Rattle.definition.specs.Record.{Record, UF, RD, TS, RM, CN, XP, read_record}
-use Rattle.definition.specs.Step.{tell, run, refusal, max_payload, answer_with, answer, lent, step, max_buffer}
+use Rattle.definition.specs.Step.{tell, run, refusal, answer_with, answer_within, apart, most_of, reply, least_buffer, lent, step}
 use Rattle.definition.specs.Needs.{Needs, needs}
 use Rattle.definition.specs.Sound.{sound}
 use Rattle.theorems.proofs.TotalWalk.{eleven, Ends, e_ok, e_err, e_refused, bind, place_run, pairs_run, ready_tvars_run, make_run, subst_run, expand_run}
-use Rattle.theorems.proofs.SoundKept.{usable_sound}
+use Rattle.theorems.proofs.SoundKept.{usable_enough}
 
 -- ---- UF, RD, TS and RM
 
@@ -53,27 +54,28 @@ goes_back s (CN t) spells =
 goes_back s (XP t) expands = bind _ (place_run ⊥ s true t (λ h. absurd h) s (λ h. absurd h)) (λ x j. bind _ (expand_run true refl _ x.0 x.1) (λ r k. e_ok refl))
 goes_back s x l = elim l [ ]
 
-with_back : (s after : State) (payload : Bytes) → after ≡ s → (answer_with s 0 payload after).state ≡ s
+with_back : (most : ℕ) (s after : State) (payload : Bytes) → after ≡ s → (answer_with most s 0 payload after).state ≡ s
 unfolding answer_with refusal
-with_back s after payload e = go (leb (length payload) max_payload)
+with_back most s after payload e = go (leb (length payload) most)
   where
     go : (b : Bool) → (if b then record { number = 0; payload = payload; state = after } else refusal s answer_too_long).state ≡ s
     go true = e
     go false = refl
 
-back_leaves : (s : State) (m : Result (State × Bytes)) → Back s m → (answer s m).state ≡ s
-unfolding answer refusal
-back_leaves s (ok (after, payload)) (e_ok e) = with_back s after payload e
-back_leaves s (err after x) (e_err e) = absurd e
-back_leaves s (refused x) (e_refused r) = refl
+back_leaves : (most : ℕ) (s : State) (m : Result (State × Bytes)) → Back s m → (answer_within most s m).state ≡ s
+unfolding answer_within refusal
+back_leaves most s (ok (after, payload)) (e_ok e) = with_back most s after payload e
+back_leaves most s (err after x) (e_err e) = absurd e
+back_leaves most s (refused x) (e_refused r) = refl
 
 -- UF, RD, TS, RM and XP leave the state as at entry, whatever they answer
-pub looking_leaves : (s : State) (x : Record) → Looks x → (answer s (run s x)).state ≡ s
-looking_leaves s x l = back_leaves s (run s x) (goes_back s x l)
+pub looking_leaves : (s : State) (x : Record) → Looks x → (reply s x).state ≡ s
+unfolding reply
+looking_leaves s x l = back_leaves (most_of (apart x)) s (run s x) (goes_back s x l)
 
 -- ---- bytes left over
 
 -- 5, and nothing is run: the state is as at entry
-pub left_over : (s : State) (x : Record) (b : ℕ) (rest bytes : Bytes) → sound s ≡ true → read_record s bytes ≡ got x (b ∷ rest) → step s bytes max_buffer ≡ refusal s malformed
+pub left_over : (s : State) (x : Record) (b : ℕ) (rest bytes : Bytes) → sound s ≡ true → read_record s bytes ≡ got x (b ∷ rest) → step s bytes (least_buffer bytes) ≡ refusal s malformed
 unfolding step lent
-left_over s x b rest bytes h e = rw (usable_sound s h, step) (rw e refl)
+left_over s x b rest bytes h e = rw (usable_enough s bytes (least_buffer bytes) (omega arith) h, step) (rw e refl)

@@ -4,9 +4,9 @@ use mathlib.Core.Path.{◌≡◌, refl, ap, ◌∙◌}
 use mathlib.Core.Bool.{Bool, true, ◌&&◌}
 use mathlib.Core.List.{List, [], ◌∷◌, ◌++◌, append_assoc}
 use Rattle.std.specs.Prelude.{Option, None, Some}
-use Prim.Native.Nat.{ℕ, zero, suc, ◌+◌, ◌≤◌, ◌<◌}
+use Prim.Native.Nat.{ℕ, zero, suc, ◌+◌, ◌≤◌, ◌<◌, ◌-◌}
 use native.Mathlib.Omega.{arith}
-use lib.ListN.{length, get_or, set, length-append, length-set}
+use lib.ListN.{length, get_or, set, length-append, length-set, replicate, length-replicate}
 use Rattle.definition.specs.Types.{TypeName, AbilityMark, Shape, UnitType, Ref, Param, Apply, Var, Anything, UnresolvedError, TypeValue, Places, Node, Cell, unbound, Struct, State, max_nodes, max_args, max_vars, max_constraints, max_structs, Multiple, Builtin, ModuleType}
 use Rattle.definition.specs.Types.{Constraint, AbilityConstraint, NumericConstraint, BitsConstraint, OrderedConstraint, BaseTypeConstraint, SingleTypeConstraint}
 use Rattle.definition.specs.Store.{nowhere, count, taken, with_args, node, type_at, loc_of, num_loc, with_vars, with_constraints, with_structs, insert, args_of, stored, with_node, with_var, all_of, need_of, with_need}
@@ -14,6 +14,7 @@ use Rattle.definition.specs.Subst.{next_of, or_insert, mark_one, mark_chain, set
 use Rattle.definition.specs.Trees.{mark_fits, is_set, is_mark, is_name}
 use Rattle.definition.specs.Join.{merge_num}
 use Rattle.definition.specs.Sound.{is_u32, numeric_allowed, struct_allowed, need_allowed}
+use Rattle.definition.specs.Step.{put_back}
 use Rattle.theorems.proofs.DemandOrder.{All}
 use Rattle.theorems.proofs.Soundness.{elim_and}
 use lib.Dec.{leb}
@@ -274,3 +275,12 @@ merge_ranges r None None hx hy n k v = r
 
 pub cleared_ranges : {b s : State} → Ranges b s → Ranges b (with_constraints s [])
 cleared_ranges r = constraints_ranges r [] (omega arith) tt
+
+pub put_back_ranges : {b s s' : State} → Ranges b s → Ranges b s' → Ranges b (put_back s s')
+unfolding put_back
+put_back_ranges {b} {s} {s'} r r' =
+    vars_ranges r' _ (omega (arith, r.few_vars, r'.few_vars, length-append s.vars (replicate (taken s' - taken s) unbound), length-replicate (taken s' - taken s) unbound)) (all_append CellIn s.vars _ r.cells_in (unbounds (taken s' - taken s)))
+  where
+    unbounds : (n : ℕ) → All CellIn (replicate n unbound)
+    unbounds zero = tt
+    unbounds (suc n) = (unbound_in, unbounds n)

@@ -7,18 +7,19 @@ use Rattle.std.specs.Prelude.{None, Some}
 use Prim.Native.Nat.{ℕ, zero, suc, ◌+◌, ◌*◌, ◌-◌, ◌≤◌, ◌<◌}
 use native.Mathlib.Omega.{arith}
 use lib.ListN.{length, get_or, take, drop, length-append, length-take, length-drop}
-use lib.Dec.{ltb, leb, eqb, ltb→lt}
+use lib.Dec.{ltb, leb, eqb, ltb→lt, leb→le}
 use Rattle.std.specs.Prelude.{if◌then◌else◌}
 use Rattle.definition.specs.Types.{TypeName, AbilityMark, State, Refusal, malformed, unknown_name, doubled_reference}
 use Rattle.definition.specs.Store.{taken}
 use Rattle.definition.specs.Write.{Bytes, IsBytes}
 use Rattle.definition.specs.Reader.{Read, got, not_read, Reader, give, refuse, go_on, ◌>>=◌, byte, read_u16, read_u32, byte_if, byte_to, read_bool, name_below, times, read_one, read_two, read_three}
+use Rattle.definition.specs.Join.{TypingCase}
 use Rattle.definition.specs.Trees.{Tree, unit_tree, anything_tree, error_tree, ref_tree, param_tree, apply_tree, var_tree, Trees, no_trees, ◌then◌, is_set, is_param, is_count, is_mark, is_name}
 use Rattle.definition.specs.Trees.{read_trees, mark_of, read_mark, mark_fits, arity, under_ref, read_apply, by_tag, read_nested, read_type}
-use Rattle.definition.specs.Record.{Record, SD, FV, NV, SN, JN, SU, UF, RD, IN, TS, NC, BC, SC, SV, RM, CN, XP, read_kind, read_SD, read_pair, read_TS, by_mark, fields_of, read_fields, max_record, hand_back, read_record, NL, read_bits}
+use Rattle.definition.specs.Record.{Record, SD, FV, NV, SN, JN, SU, UF, RD, IN, TS, NC, BC, SC, SV, RM, CN, XP, read_kind, read_SD, read_pair, read_TS, by_mark, fields_of, read_fields, max_record, hand_back, read_record, NL, read_bits, MJ, read_case, is_many, read_case_pair, read_MJ}
 use Rattle.definition.specs.Sound.{is_u32, struct_allowed}
 use Rattle.theorems.proofs.DemandOrder.{All, All_map}
-use Rattle.theorems.proofs.SoundFacts.{and_r, not_false, test}
+use Rattle.theorems.proofs.SoundFacts.{and_l, and_r, not_false, test}
 use Rattle.theorems.proofs.Soundness.{and, lt_test}
 use Rattle.theorems.proofs.SoundRanges.{all_test, U32, Named, StructIn}
 
@@ -45,6 +46,9 @@ mutual
 abbrev pub FinePairs : (TypeName → ℕ) → ℕ → List (ℕ × Tree) → Type 0
 FinePairs ar vars ps = All (λ (p : ℕ × Tree). Fine ar vars p.1) ps
 
+abbrev pub FineMany : (TypeName → ℕ) → ℕ → List (TypingCase × Tree × Tree) → Type 0
+FineMany ar vars ps = All (λ (p : TypingCase × Tree × Tree). Fine ar vars p.1 × Fine ar vars p.2) ps
+
 abbrev pub FineRecord : (TypeName → ℕ) → ℕ → Record → Type 0
 FineRecord ar vars (SD abilities params) = Unit {0}
 FineRecord ar vars (FV loc) = Unit {0}
@@ -64,6 +68,7 @@ FineRecord ar vars SV = Unit {0}
 FineRecord ar vars (RM t) = Fine ar vars t
 FineRecord ar vars (CN t) = Fine ar vars t
 FineRecord ar vars (XP t) = Fine ar vars t
+FineRecord ar vars (MJ pairs) = FineMany ar vars pairs × (1 ≤ length pairs) × (length pairs ≤ 15)
 
 -- ---- fields in range: the names are those of s
 
@@ -100,6 +105,7 @@ RecordIn s SV = Unit {0}
 RecordIn s (RM t) = TreeIn s t
 RecordIn s (CN t) = TreeIn s t
 RecordIn s (XP t) = TreeIn s t
+RecordIn s (MJ pairs) = All (λ (p : TypingCase × Tree × Tree). TreeIn s p.1 × TreeIn s p.2) pairs
 
 -- ---- bytes
 
@@ -184,6 +190,10 @@ module _ (H : Type 0) where
   gives_kind : Gives (λ k. Unit {0}) read_kind
   unfolding read_kind read_one
   gives_kind = gives_then (byte_to 2) _ (gives_byte_if _) (λ b p. gives_give _ tt)
+
+  gives_case : Gives (λ k. Unit {0}) read_case
+  unfolding read_case read_one
+  gives_case = gives_then (byte_to 1) _ (gives_byte_if _) (λ b p. gives_give _ tt)
 
   pub gives_mark : Gives (λ k. is_mark k ≡ true) read_mark
   unfolding read_mark mark_of is_mark
@@ -313,6 +323,19 @@ module _ (H : Type 0) where
     unfolding read_three
     gives_NC = gives_then read_u32 _ gives_u32 (λ loc p. gives_then read_kind _ gives_kind (λ k q. gives_then (read_type s) _ gives_type (λ t r. gives_give _ (r.0, λ h. (p h, r.1 h)))))
 
+    gives_case_pair : Gives (λ p. GoodTree p.1 × GoodTree p.2) (read_case_pair s)
+    unfolding read_case_pair read_three
+    gives_case_pair = gives_then read_case _ gives_case (λ c u. gives_then (read_type s) _ gives_type (λ t1 p. gives_then (read_type s) _ gives_type (λ t2 q. gives_give _ (p, q))))
+
+    few_pairs : (n : ℕ) → is_many n ≡ true → (1 ≤ n) × (n ≤ 15)
+    unfolding is_many
+    few_pairs n e = (leb→le 1 n (test (and_l (leb 1 n) (leb n 15) e)), leb→le n 15 (test (and_r (leb 1 n) (leb n 15) e)))
+
+    gives_MJ : Gives GoodRecord (read_MJ s)
+    unfolding read_MJ
+    gives_MJ = gives_then (byte_if is_many) _ (gives_byte_if is_many) (λ n p. gives_then (times n (read_case_pair s)) _ (gives_times n (read_case_pair s) gives_case_pair) (λ ps q.
+        gives_give _ ((All_map (λ x y. (y.0.0, y.1.0)) ps q.0, omega (arith, q.1, (few_pairs n p).0), omega (arith, q.1, (few_pairs n p).1)), λ h. All_map (λ x y. (y.0.1 h, y.1.1 h)) ps q.0)))
+
     abbrev AllMarks : List (ℕ × ℕ × Reader Record) → Type 0
     AllMarks [] = Unit {0}
     AllMarks (e ∷ es) = Gives GoodRecord e.2 × AllMarks es
@@ -343,7 +366,7 @@ module _ (H : Type 0) where
                   gives_one UF (λ t p. p),
                   (
                     gives_one RD (λ t p. p),
-                    (gives_TS, (gives_one IN (λ t p. p), (gives_NC, (gives_loc_type BC (λ l t p q. (q.0, λ h. (p h, q.1 h))), (gives_loc_type SC (λ l t p q. (q.0, λ h. (p h, q.1 h))), (gives_give SV (tt, λ h. tt), (gives_one RM (λ t p. p), (gives_one CN (λ t p. p), (gives_one XP (λ t p. p), (gives_NL, tt)))))))))),
+                    (gives_TS, (gives_one IN (λ t p. p), (gives_NC, (gives_loc_type BC (λ l t p q. (q.0, λ h. (p h, q.1 h))), (gives_loc_type SC (λ l t p q. (q.0, λ h. (p h, q.1 h))), (gives_give SV (tt, λ h. tt), (gives_one RM (λ t p. p), (gives_one CN (λ t p. p), (gives_one XP (λ t p. p), (gives_NL, (gives_MJ, tt))))))))))),
                   ),
                 ),
               ),

@@ -10,16 +10,17 @@ use lib.Dec.{leb}
 use Rattle.definition.specs.Types.{State, TypingError, SubtypeError, Incompatible, ArityMismatch, RecursiveType, Refusal, malformed, unknown_name, full, too_deep, runs_into_itself, abilities_disagree}
 use Rattle.std.specs.Prelude.{if◌then◌else◌}
 use Rattle.definition.specs.Types.{open_variable, no_argument, parameter_twice, answer_too_long, unsound_state, mark_contradicted, already_expanded, doubled_reference, Result, ok, err, refused}
+use Rattle.definition.specs.Join.{TypingCase}
 use Rattle.definition.specs.Write.{Bytes}
 use Rattle.definition.specs.Reader.{Read, got, not_read}
 use Rattle.definition.specs.Record.{Record, read_record}
-use Rattle.definition.specs.Step.{run, Answer, number_of_error, number_of_refusal, refusal, put_back, max_payload, answer_with, answer, usable, lent, step, streamed, step_stream}
+use Rattle.definition.specs.Step.{run, Answer, number_of_error, number_of_refusal, refusal, put_back, answer_with, answer_within, answer, pair_answer, apart, most_of, reply, usable, max_payload, lent, step, streamed, step_stream}
 
 -- ---- the test of a call passes, or it is 15
 
 pub step_cases : (s : State) (bytes : Bytes) (buffer : ℕ) (P : Answer → Type 0) → P (lent s (read_record s bytes)) → P (refusal s unsound_state) → P (step s bytes buffer)
 unfolding step
-step_cases s bytes buffer P p q = go (usable s buffer)
+step_cases s bytes buffer P p q = go (usable s bytes buffer)
   where
     go : (b : Bool) → P (elim b as (λ x. Answer) [ true ↦ lent s (read_record s bytes) | false ↦ refusal s unsound_state ])
     go true = p
@@ -27,7 +28,7 @@ step_cases s bytes buffer P p q = go (usable s buffer)
 
 pub stream_cases : (s : State) (bytes : Bytes) (buffer : ℕ) (P : Answer × Bytes → Type 0) → P (streamed s bytes (read_record s bytes)) → P (refusal s unsound_state, bytes) → P (step_stream s bytes buffer)
 unfolding step_stream
-stream_cases s bytes buffer P p q = go (usable s buffer)
+stream_cases s bytes buffer P p q = go (usable s bytes buffer)
   where
     go : (b : Bool) → P (elim b as (λ x. Answer × Bytes) [ true ↦ streamed s bytes (read_record s bytes) | false ↦ (refusal s unsound_state, bytes) ])
     go true = p
@@ -42,36 +43,45 @@ error_number (Incompatible a b) = omega arith
 error_number (ArityMismatch a b) = omega arith
 error_number (RecursiveType loc) = omega arith
 
-abbrev Untouched : State → Answer → Type 0
+abbrev pub Untouched : State → Answer → Type 0
 Untouched s a = 5 ≤ a.number → (a.state ≡ s) × (a.payload ≡ [])
 
 refusal_untouched : (s : State) (x : Refusal) → Untouched s (refusal s x)
 unfolding refusal
 refusal_untouched s x l = (refl, refl)
 
-with_untouched : (s : State) (n : ℕ) (p : Bytes) (s' : State) → n ≤ 4 → Untouched s (answer_with s n p s')
+with_untouched : (most : ℕ) (s : State) (n : ℕ) (p : Bytes) (s' : State) → n ≤ 4 → Untouched s (answer_with most s n p s')
 unfolding answer_with
-with_untouched s n p s' h = go (leb (length p) max_payload)
+with_untouched most s n p s' h = go (leb (length p) most)
   where
     go : (b : Bool) → Untouched s (if b then record { number = n; payload = p; state = s' } else refusal s answer_too_long)
     go true = λ l. absurd (omega arith)
     go false = refusal_untouched s answer_too_long
 
-answer_untouched : (s : State) (m : Result (State × Bytes)) → Untouched s (answer s m)
-unfolding answer
-answer_untouched s (ok (s', p)) = with_untouched s 0 p s' (omega arith)
-answer_untouched s (err s' e) = with_untouched s (number_of_error e) _ (put_back s s') (error_number e)
-answer_untouched s (refused x) = refusal_untouched s x
+answer_untouched : (most : ℕ) (s : State) (m : Result (State × Bytes)) → Untouched s (answer_within most s m)
+unfolding answer_within
+answer_untouched most s (ok (s', p)) = with_untouched most s 0 p s' (omega arith)
+answer_untouched most s (err s' e) = with_untouched most s (number_of_error e) _ (put_back s s') (error_number e)
+answer_untouched most s (refused x) = refusal_untouched s x
+
+pub reply_untouched : (s : State) (r : Record) → Untouched s (reply s r)
+unfolding reply
+reply_untouched s r = answer_untouched (most_of (apart r)) s (run s r)
+
+-- a pair of MJ that is 5 or above has no payload, and leaves the state that it began with
+pub pair_refused_leaves : (s : State) (pair : TypingCase × ℕ × ℕ) → 5 ≤ (pair_answer s pair).number → ((pair_answer s pair).state ≡ s) × ((pair_answer s pair).payload ≡ [])
+unfolding pair_answer answer
+pair_refused_leaves s (case, lhs, rhs) = answer_untouched max_payload s _
 
 lent_untouched : (s : State) (r : Read Record) → Untouched s (lent s r)
 unfolding lent
-lent_untouched s (got r []) = answer_untouched s (run s r)
+lent_untouched s (got r []) = reply_untouched s r
 lent_untouched s (got r (b ∷ rest)) = refusal_untouched s _
 lent_untouched s (not_read x) = refusal_untouched s x
 
 streamed_untouched : (s : State) (bytes : Bytes) (r : Read Record) → Untouched s (streamed s bytes r).0
 unfolding streamed
-streamed_untouched s bytes (got r rest) = answer_untouched s (run s r)
+streamed_untouched s bytes (got r rest) = reply_untouched s r
 streamed_untouched s bytes (not_read x) = refusal_untouched s x
 
 pub refusal_leaves : (s : State) (bytes : Bytes) (buffer : ℕ) → 5 ≤ (step s bytes buffer).number → ((step s bytes buffer).state ≡ s) × ((step s bytes buffer).payload ≡ [])
@@ -99,23 +109,23 @@ refusal_number mark_contradicted = omega arith
 refusal_number already_expanded = omega arith
 refusal_number doubled_reference = omega arith
 
-with_number : (s : State) (n : ℕ) (p : Bytes) (s' : State) → n < 100 → (answer_with s n p s').number < 100
+with_number : (most : ℕ) (s : State) (n : ℕ) (p : Bytes) (s' : State) → n < 100 → (answer_with most s n p s').number < 100
 unfolding answer_with refusal
-with_number s n p s' h = go (leb (length p) max_payload)
+with_number most s n p s' h = go (leb (length p) most)
   where
     go : (b : Bool) → (if b then record { number = n; payload = p; state = s' } else refusal s answer_too_long).number < 100
     go true = h
     go false = refusal_number answer_too_long
 
-answer_number : (s : State) (m : Result (State × Bytes)) → (answer s m).number < 100
-unfolding answer refusal
-answer_number s (ok (s', p)) = with_number s 0 p s' (omega arith)
-answer_number s (err s' e) = with_number s (number_of_error e) _ (put_back s s') (omega (arith, error_number e))
-answer_number s (refused x) = refusal_number x
+pub answer_number : (most : ℕ) (s : State) (m : Result (State × Bytes)) → (answer_within most s m).number < 100
+unfolding answer_within refusal
+answer_number most s (ok (s', p)) = with_number most s 0 p s' (omega arith)
+answer_number most s (err s' e) = with_number most s (number_of_error e) _ (put_back s s') (omega (arith, error_number e))
+answer_number most s (refused x) = refusal_number x
 
 streamed_number : (s : State) (bytes : Bytes) (r : Read Record) → (streamed s bytes r).0.number < 100
-unfolding streamed refusal
-streamed_number s bytes (got r rest) = answer_number s (run s r)
+unfolding streamed refusal reply
+streamed_number s bytes (got r rest) = answer_number (most_of (apart r)) s (run s r)
 streamed_number s bytes (not_read x) = refusal_number x
 
 pub stream_two_digits : (s : State) (bytes : Bytes) (buffer : ℕ) → (step_stream s bytes buffer).0.number < 100

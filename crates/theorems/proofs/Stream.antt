@@ -10,7 +10,7 @@ use Rattle.definition.specs.Write.{Bytes, IsBytes}
 use Rattle.definition.specs.Reader.{Read, got, not_read}
 use Rattle.definition.specs.Record.{Record, read_record}
 use Rattle.definition.specs.Sound.{sound}
-use Rattle.definition.specs.Step.{Answer, refusal, number_of_refusal, max_buffer, streamed, step_stream}
+use Rattle.definition.specs.Step.{Answer, refusal, number_of_refusal, job_buffer, streamed, step_stream}
 use Rattle.definition.specs.Job.{Entry, ends_job, job_from, job_log}
 use Rattle.theorems.proofs.DemandTracks.{never}
 use Rattle.theorems.proofs.SoundRead.{ReadTime, five, six, eighteen, ReadWell, given, not_given, well_read}
@@ -27,7 +27,7 @@ ends five = refl
 ends six = refl
 ends eighteen = refl
 
-pub stream_on : (s : State) → sound s ≡ true → (b : ℕ) (bytes : Bytes) → Goes_on bytes (step_stream s (b ∷ bytes) max_buffer)
+pub stream_on : (s : State) → sound s ≡ true → (b : ℕ) (bytes : Bytes) → Goes_on bytes (step_stream s (b ∷ bytes) job_buffer)
 unfolding streamed refusal
 stream_on s h b bytes = rw (trusted s (b ∷ bytes) h) (go (read_record s (b ∷ bytes)) (well_read ⊥ s (b ∷ bytes) (λ x. absurd x)))
   where
@@ -44,13 +44,13 @@ job_enough (suc n) zero i s [] is h l k = refl
 job_enough (suc n) (suc m) i s [] is h l k = refl
 job_enough zero m i s (b ∷ bytes) is h l k = absurd (omega arith)
 job_enough (suc n) zero i s (b ∷ bytes) is h l k = absurd (omega arith)
-job_enough (suc n) (suc m) i s (b ∷ bytes) is h l k = go (ends_job (step_stream s (b ∷ bytes) max_buffer).0.number) refl (stream_on s h b bytes) (λ state rest is h l k. job_enough n m (suc i) state rest is h l k)
+job_enough (suc n) (suc m) i s (b ∷ bytes) is h l k = go (ends_job (step_stream s (b ∷ bytes) job_buffer).0.number) refl (stream_on s h b bytes) (λ state rest is h l k. job_enough n m (suc i) state rest is h l k)
   where
     r : Answer × Bytes
-    r = step_stream s (b ∷ bytes) max_buffer
+    r = step_stream s (b ∷ bytes) job_buffer
 
     kept : (sound r.0.state ≡ true) × IsBytes r.1
-    kept = stream_sound_kept s (b ∷ bytes) max_buffer is h
+    kept = stream_sound_kept s (b ∷ bytes) job_buffer is h
 
     e : Entry
     e = record { index = i; number = r.0.number; payload = r.0.payload }

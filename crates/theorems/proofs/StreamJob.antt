@@ -12,7 +12,7 @@ use Rattle.definition.specs.Write.{Bytes, IsBytes}
 use Rattle.definition.specs.Reader.{Read, got, not_read}
 use Rattle.definition.specs.Record.{Record, read_record}
 use Rattle.definition.specs.Sound.{sound}
-use Rattle.definition.specs.Step.{run, Answer, number_of_error, number_of_refusal, refusal, max_payload, answer_with, answer, max_buffer, lent, step, streamed, step_stream}
+use Rattle.definition.specs.Step.{run, Answer, number_of_error, number_of_refusal, refusal, answer_with, answer_within, apart, most_of, reply, job_buffer, lent, step, streamed, step_stream}
 use Rattle.definition.specs.Job.{Entry, ends_job, job_from, job_log}
 use Rattle.theorems.proofs.StreamRecords.{front, records_from, records_of, entries}
 use Rattle.definition.specs.Locations.{blank_job, Seen, seen, blank_log, JobOfBytes, LocationsDecideNothing}
@@ -45,30 +45,34 @@ error_goes_on (Incompatible t u) = refl
 error_goes_on (ArityMismatch t u) = refl
 error_goes_on (RecursiveType loc) = refl
 
-with_goes_on : (s : State) (n : ℕ) (p : Bytes) (s' : State) → ends_job n ≡ false → ends_job (answer_with s n p s').number ≡ false
+with_goes_on : (most : ℕ) (s : State) (n : ℕ) (p : Bytes) (s' : State) → ends_job n ≡ false → ends_job (answer_with most s n p s').number ≡ false
 unfolding answer_with refusal ends_job number_of_refusal
-with_goes_on s n p s' e = go (leb (length p) max_payload)
+with_goes_on most s n p s' e = go (leb (length p) most)
   where
     go : (b : Bool) → ends_job (if b then record { number = n; payload = p; state = s' } else refusal s answer_too_long).number ≡ false
     go true = e
     go false = refl
 
-answer_goes_on : (s : State) (m : Result (State × Bytes)) → Late true m → ends_job (answer s m).number ≡ false
-unfolding answer refusal ends_job
-answer_goes_on s (ok (s', p)) fine = with_goes_on s 0 p s' refl
-answer_goes_on s (err s' e) wrong = with_goes_on s (number_of_error e) _ _ (error_goes_on e)
-answer_goes_on s (refused x) (down r) = run_goes_on r
+answer_goes_on : (most : ℕ) (s : State) (m : Result (State × Bytes)) → Late true m → ends_job (answer_within most s m).number ≡ false
+unfolding answer_within refusal ends_job
+answer_goes_on most s (ok (s', p)) fine = with_goes_on most s 0 p s' refl
+answer_goes_on most s (err s' e) wrong = with_goes_on most s (number_of_error e) _ _ (error_goes_on e)
+answer_goes_on most s (refused x) (down r) = run_goes_on r
+
+reply_goes_on : (s : State) (r : Record) → ends_job (reply s r).number ≡ false
+unfolding reply
+reply_goes_on s r = answer_goes_on (most_of (apart r)) s (run s r) (run_late s r)
 
 -- ---- one record
 
-step_lent : (s : State) (bytes : Bytes) → sound s ≡ true → step s bytes max_buffer ≡ lent s (read_record s bytes)
+step_lent : (s : State) (bytes : Bytes) → sound s ≡ true → step s bytes job_buffer ≡ lent s (read_record s bytes)
 unfolding step
-step_lent s bytes h = rw (usable_sound s h, step) refl
+step_lent s bytes h = rw (usable_sound s bytes h, step) refl
 
 abbrev entry : ℕ → Answer → Entry
 entry i a = record { index = i; number = a.number; payload = a.payload }
 
-entries_step : (i : ℕ) (s : State) (bytes : Bytes) (records : List (Bytes × ℕ)) (a : Answer) → step s bytes max_buffer ≡ a → entries i s ((bytes, max_buffer) ∷ records) ≡ entry i a ∷ entries (suc i) a.state records
+entries_step : (i : ℕ) (s : State) (bytes : Bytes) (records : List (Bytes × ℕ)) (a : Answer) → step s bytes job_buffer ≡ a → entries i s ((bytes, job_buffer) ∷ records) ≡ entry i a ∷ entries (suc i) a.state records
 unfolding entries
 entries_step i s bytes records a e = rw e refl
 
@@ -86,27 +90,27 @@ module _ (i : ℕ) (s : State) (h : sound s ≡ true) (bytes : Bytes) (n : ℕ) 
   onward q = elim (ends_job q.0.number) as (λ o. List Entry) [ true ↦ entry i q.0 ∷ [] | false ↦ entry i q.0 ∷ job_from n (suc i) q.0.state q.1 ]
 
   -- a record that is read
-  read_on : (r : Record) (rest : Bytes) → read_record s (front bytes rest) ≡ got r [] → (q : Answer × Bytes) → q ≡ (answer s (run s r), rest)
+  read_on : (r : Record) (rest : Bytes) → read_record s (front bytes rest) ≡ got r [] → (q : Answer × Bytes) → q ≡ (reply s r, rest)
       → entries (suc i) q.0.state (records_from n q.0.state q.1) ≡ job_from n (suc i) q.0.state q.1
-      → entries i s ((front bytes rest, max_buffer) ∷ records_from n q.0.state rest) ≡ onward q
+      → entries i s ((front bytes rest, job_buffer) ∷ records_from n q.0.state rest) ≡ onward q
   unfolding lent
   read_on r rest f q e later =
-      let a = answer s (run s r) in
+      let a = reply s r in
       let left : q.1 ≡ rest = ap (λ (q : Answer × Bytes). q.1) e in
       let is : q.0 ≡ a = ap (λ (q : Answer × Bytes). q.0) e in
-      let alone : step s (front bytes rest) max_buffer ≡ q.0 = step_lent s (front bytes rest) h ∙ ap (λ (x : Read Record). lent s x) f ∙ sym is in
-      let goes : ends_job q.0.number ≡ false = ap (λ (a : Answer). ends_job a.number) is ∙ answer_goes_on s (run s r) (run_late s r) in
+      let alone : step s (front bytes rest) job_buffer ≡ q.0 = step_lent s (front bytes rest) h ∙ ap (λ (x : Read Record). lent s x) f ∙ sym is in
+      let goes : ends_job q.0.number ≡ false = ap (λ (a : Answer). ends_job a.number) is ∙ reply_goes_on s r in
       entries_step i s (front bytes rest) (records_from n q.0.state rest) q.0 alone
       ∙ ap (λ (l : Bytes). entry i q.0 ∷ entries (suc i) q.0.state (records_from n q.0.state l)) (sym left)
       ∙ ap (λ (es : List Entry). entry i q.0 ∷ es) later
       ∙ going_on (ends_job q.0.number) _ _ goes
 
   -- one that is not
-  not_on : (x : Refusal) → ReadTime x → read_record s bytes ≡ not_read x → (q : Answer × Bytes) → q ≡ (refusal s x, bytes) → entries i s ((bytes, max_buffer) ∷ []) ≡ onward q
+  not_on : (x : Refusal) → ReadTime x → read_record s bytes ≡ not_read x → (q : Answer × Bytes) → q ≡ (refusal s x, bytes) → entries i s ((bytes, job_buffer) ∷ []) ≡ onward q
   unfolding lent refusal entries
   not_on x t d q e =
       let is : q.0 ≡ refusal s x = ap (λ (q : Answer × Bytes). q.0) e in
-      let alone : step s bytes max_buffer ≡ q.0 = step_lent s bytes h ∙ ap (λ (x : Read Record). lent s x) d ∙ sym is in
+      let alone : step s bytes job_buffer ≡ q.0 = step_lent s bytes h ∙ ap (λ (x : Read Record). lent s x) d ∙ sym is in
       entries_step i s bytes [] q.0 alone ∙ ended (ends_job q.0.number) _ _ (ap (λ (a : Answer). ends_job a.number) is ∙ ends t)
 
 stream_from : (n i : ℕ) (s : State) (bytes : Bytes) → IsBytes bytes → sound s ≡ true → entries i s (records_from n s bytes) ≡ job_from n i s bytes
@@ -114,12 +118,12 @@ unfolding records_from entries job_from streamed
 stream_from zero i s bytes is h = refl
 stream_from (suc n) i s [] is h = refl
 stream_from (suc n) i s (b ∷ bytes) is h =
-    let kept = stream_sound_kept s (b ∷ bytes) max_buffer is h in
-    go (read_record s (b ∷ bytes)) refl (step_stream s (b ∷ bytes) max_buffer) (trusted s (b ∷ bytes) h) (fronts s (b ∷ bytes)) (well_read ⊥ s (b ∷ bytes) (λ x. absurd x)) (stream_from n (suc i) _ _ kept.1 kept.0)
+    let kept = stream_sound_kept s (b ∷ bytes) job_buffer is h in
+    go (read_record s (b ∷ bytes)) refl (step_stream s (b ∷ bytes) job_buffer) (trusted s (b ∷ bytes) h) (fronts s (b ∷ bytes)) (well_read ⊥ s (b ∷ bytes) (λ x. absurd x)) (stream_from n (suc i) _ _ kept.1 kept.0)
   where
     go : (x : Read Record) → read_record s (b ∷ bytes) ≡ x → (q : Answer × Bytes) → q ≡ streamed s (b ∷ bytes) x → Fronted s (b ∷ bytes) x → ReadWell ⊥ s (length (b ∷ bytes) - 1) x
         → entries (suc i) q.0.state (records_from n q.0.state q.1) ≡ job_from n (suc i) q.0.state q.1
-        → entries i s (elim x [ got r rest ↦ (front (b ∷ bytes) rest, max_buffer) ∷ records_from n q.0.state rest | not_read x ↦ (b ∷ bytes, max_buffer) ∷ [] ])
+        → entries i s (elim x [ got r rest ↦ (front (b ∷ bytes) rest, job_buffer) ∷ records_from n q.0.state rest | not_read x ↦ (b ∷ bytes, job_buffer) ∷ [] ])
         ≡ onward i s h (b ∷ bytes) n q
     go (got r rest) d q e (fronted f) w later = read_on i s h (b ∷ bytes) n r rest f q e later
     go (not_read x) d q e not_fronted (not_given t) later = not_on i s h (b ∷ bytes) n x t d q e
@@ -135,11 +139,11 @@ unfolding records_from streamed front
 records_bytes zero s bytes is h = tt
 records_bytes (suc n) s [] is h = tt
 records_bytes (suc n) s (b ∷ bytes) is h =
-    let kept = stream_sound_kept s (b ∷ bytes) max_buffer is h in
-    go (read_record s (b ∷ bytes)) (step_stream s (b ∷ bytes) max_buffer) (trusted s (b ∷ bytes) h) (records_bytes n _ _ kept.1 kept.0)
+    let kept = stream_sound_kept s (b ∷ bytes) job_buffer is h in
+    go (read_record s (b ∷ bytes)) (step_stream s (b ∷ bytes) job_buffer) (trusted s (b ∷ bytes) h) (records_bytes n _ _ kept.1 kept.0)
   where
     go : (x : Read Record) (q : Answer × Bytes) → q ≡ streamed s (b ∷ bytes) x → JobOfBytes (records_from n q.0.state q.1)
-        → JobOfBytes (elim x [ got r rest ↦ (front (b ∷ bytes) rest, max_buffer) ∷ records_from n q.0.state rest | not_read x ↦ (b ∷ bytes, max_buffer) ∷ [] ])
+        → JobOfBytes (elim x [ got r rest ↦ (front (b ∷ bytes) rest, job_buffer) ∷ records_from n q.0.state rest | not_read x ↦ (b ∷ bytes, job_buffer) ∷ [] ])
     go (got r rest) q e later = (bytes_take (length (b ∷ bytes) - length rest) (b ∷ bytes) is, subst (λ (l : Bytes). JobOfBytes (records_from n q.0.state l)) (ap (λ (q : Answer × Bytes). q.1) e) later)
     go (not_read x) q e later = (is, tt)
 

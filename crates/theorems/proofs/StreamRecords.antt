@@ -6,7 +6,7 @@ use Rattle.definition.specs.Types.{State, fresh}
 use Rattle.definition.specs.Write.{Bytes}
 use Rattle.definition.specs.Reader.{got, not_read}
 use Rattle.definition.specs.Record.{read_record}
-use Rattle.definition.specs.Step.{max_buffer, step, step_stream}
+use Rattle.definition.specs.Step.{job_buffer, step, step_stream}
 use Rattle.definition.specs.Job.{Entry}
 
 -- the bytes that were read, where `rest` is left
@@ -18,8 +18,8 @@ unfoldable pub records_from : ℕ → State → Bytes → List (Bytes × ℕ)
 records_from zero s bytes = []
 records_from (suc n) s [] = []
 records_from (suc n) s (b ∷ bytes) = elim (read_record s (b ∷ bytes)) [
-  | got r rest ↦ (front (b ∷ bytes) rest, max_buffer) ∷ records_from n (step_stream s (b ∷ bytes) max_buffer).0.state rest
-  | not_read x ↦ (b ∷ bytes, max_buffer) ∷ []
+  | got r rest ↦ (front (b ∷ bytes) rest, job_buffer) ∷ records_from n (step_stream s (b ∷ bytes) job_buffer).0.state rest
+  | not_read x ↦ (b ∷ bytes, job_buffer) ∷ []
 ]
 
 unfoldable pub records_of : Bytes → List (Bytes × ℕ)

@@ -7,12 +7,12 @@ use mathlib.Core.List.{List, [], ◌∷◌, map}
 use Rattle.std.specs.Prelude.{Option, None, Some}
 use Prim.Native.Nat.{ℕ, zero, suc, ◌*◌, ◌%◌}
 use native.Mathlib.Omega.{arith}
-use lib.ListN.{replicate}
+use lib.ListN.{replicate, length}
 use lib.Dec.{eqb, leb}
 use Rattle.std.specs.Prelude.{if◌then◌else◌}
 use Rattle.definition.specs.Types.{max_builtin, TypeName, Multiple, Builtin, ModuleType, TypeValue, UnitType, Ref, Param, Apply, Var, Anything, UnresolvedError, State, Cell, TypingError, max_depth}
 use Rattle.definition.specs.Types.{Constraint, AbilityConstraint}
-use Rattle.definition.specs.Types.{Refusal, full, too_deep, runs_into_itself, abilities_disagree, open_variable, no_argument, parameter_twice, mark_contradicted, already_expanded, Result, ok, err, refused, ◌>>=◌}
+use Rattle.definition.specs.Types.{Refusal, full, too_deep, runs_into_itself, abilities_disagree, open_variable, no_argument, parameter_twice, mark_contradicted, already_expanded, Result, ok, err, refused, ◌>>=◌, answer_too_long}
 use Rattle.definition.specs.Store.{any_of, count, type_at, loc_of, get, num_loc, sp, next_tvar, add_constraint, declare, map_types, need_of}
 use Rattle.definition.specs.Subst.{is_anything, forward_tvar, reaches_itself, ready_value, ready, ready_tvars}
 use Rattle.definition.specs.Join.{integers, TypingCase, Join, Subtype, JoinImpl, is_numeric, check_num_tvar, used, join_bind_tvar, type_of, shown, merge_num, join_tvar, join_impl_types}
@@ -25,16 +25,17 @@ use Rattle.definition.specs.Trees.{Tree, unit_tree, anything_tree, error_tree, r
 use Rattle.definition.specs.Abilities.{infer_abilities}
 use Rattle.definition.specs.Write.{Bytes, head}
 use Rattle.definition.specs.Expand.{Expanded, expand_types, under, expand_marked, expand_value, expand, expand_type}
-use Rattle.definition.specs.Record.{NumericKind, Numeric, Bits, Ordered, Record, SD, FV, NV, SN, JN, SU, UF, RD, IN, TS, NC, BC, SC, SV, RM, CN, XP, NL}
-use Rattle.definition.specs.Build.{build, build_all, build_pairs}
+use Rattle.definition.specs.Record.{NumericKind, Numeric, Bits, Ordered, Record, SD, FV, NV, SN, JN, SU, UF, RD, IN, TS, NC, BC, SC, SV, RM, CN, XP, NL, MJ}
+use Rattle.definition.specs.Build.{build, build_all, build_pairs, build_many}
+use Rattle.definition.specs.Write.{Bytes, write_error}
 use Rattle.definition.specs.Needs.{Needs, needs}
 use Rattle.definition.specs.Sound.{numeric_allowed}
-use Rattle.definition.specs.Step.{numeric_constraint, constrain, two_types, tell, run}
+use Rattle.definition.specs.Step.{number_of_error, refusal, put_back, max_payload, answer_with, answer_within, answer, numeric_constraint, constrain, two_types, tell, pair_answer, run_pairs, run}
 use Rattle.theorems.proofs.DemandOrder.{All}
 use Rattle.theorems.proofs.Soundness.{le_test}
 use Rattle.theorems.proofs.SoundRoom.{with_room, sp_room, tvar_room, constraint_room, struct_room}
 use Rattle.theorems.proofs.DemandMain.{Took, took, took_any_l, took_any_r, took_units, took_refs, took_params, took_applies, took_vars, took_var_l, took_var_r, took_error_l, took_error_r, took_others}
-use Rattle.theorems.proofs.SoundRanges.{U32, ShapeIn, CellIn, ConstraintIn, StructIn, Ranges, declare_ranges, loc_of_in, value_in, name_in, cell_in, node_ranges, var_ranges, insert_ranges, add_ranges, num_var_ranges, merge_ranges, cleared_ranges, literal_ranges, needs_of}
+use Rattle.theorems.proofs.SoundRanges.{U32, ShapeIn, CellIn, ConstraintIn, StructIn, Ranges, declare_ranges, loc_of_in, value_in, name_in, cell_in, node_ranges, var_ranges, insert_ranges, add_ranges, num_var_ranges, merge_ranges, cleared_ranges, literal_ranges, needs_of, put_back_ranges}
 use Rattle.theorems.proofs.SolveInTurn.{solve_cases}
 use Rattle.theorems.proofs.SoundRead.{TreeIn, TreesIn, RecordIn}
 use Rattle.theorems.proofs.Laws.{larger_most, needs_most}
@@ -309,7 +310,7 @@ module _ (H : Type 0) (b : State) (z : Bool) where
       arm_run (took_error_r e d) = e_ok i
       arm_run took_others = e_err i
 
-  join_run : (n : ℕ) (s : State) → In s → (c : TypingCase) (lhs rhs : ℕ) → Run (join_impl n s c lhs rhs)
+  pub join_run : (n : ℕ) (s : State) → In s → (c : TypingCase) (lhs rhs : ℕ) → Run (join_impl n s c lhs rhs)
   unfolding join_impl
   join_run zero s i c lhs rhs = e_refused eight
   join_run (suc n) s i c lhs rhs = arm_run (λ s c l r. join_impl n s c l r) (λ s i c l r. join_run n s i c l r) s i c lhs rhs (took (type_at s lhs) (type_at s rhs))
@@ -434,6 +435,37 @@ module _ (H : Type 0) (b : State) (z : Bool) where
   tell_run s i None = e_refused eleven
   tell_run s i (Some n) = e_ok i
 
+  -- ---- MJ
+
+  pub many_run : {E : State → Type 0} (ps : List (TypingCase × Tree × Tree)) → (H → All (λ (p : TypingCase × Tree × Tree). TreeIn b p.1 × TreeIn b p.2) ps) → (s : State) → In s → RunOr E (build_many ps s)
+  unfolding build_many
+  many_run [] f s i = e_ok i
+  many_run ((c, t1, t2) ∷ ps) f s i =
+      bind _ (place_run t1 (λ h. (f h).0.0) s i) (λ x i1. bind _ (place_run t2 (λ h. (f h).0.1) x.0 i1) (λ y i2. bind _ (many_run ps (λ h. (f h).1) y.0 i2) (λ w i3. e_ok i3)))
+
+  with_in : (most : ℕ) (s : State) → In s → (n : ℕ) (p : Bytes) (s' : State) → In s' → In (answer_with most s n p s').state
+  unfolding answer_with refusal
+  with_in most s i n p s' i' = go (leb (length p) most)
+    where
+      go : (b : Bool) → In (if b then record { number = n; payload = p; state = s' } else refusal s answer_too_long).state
+      go true = i'
+      go false = i
+
+  answer_in : (s : State) → In s → (m : Result (State × Bytes)) → Run m → In (answer s m).state
+  unfolding answer answer_within refusal
+  answer_in s i (ok (s', p)) (e_ok j) = with_in max_payload s i 0 p s' j
+  answer_in s i (err s' e) (e_err j) = with_in max_payload s i (number_of_error e) (write_error s' e) (put_back s s') (λ h. put_back_ranges (i h) (j h))
+  answer_in s i (refused x) (e_refused t) = i
+
+  pub pair_in : (s : State) → In s → (p : TypingCase × ℕ × ℕ) → In (pair_answer s p).state
+  unfolding pair_answer
+  pair_in s i (c, l, r) = answer_in s i _ (bind _ (join_run max_depth s i c l r) (λ x j. e_ok j))
+
+  pairs_in : (ps : List (TypingCase × ℕ × ℕ)) (s : State) → In s → In (run_pairs s ps).0
+  unfolding run_pairs
+  pairs_in [] s i = i
+  pairs_in (p ∷ ps) s i = pairs_in ps (pair_answer s p).state (pair_in s i p)
+
   pub run_walk : z ≡ true → (s : State) → In s → (r : Record) → (H → RecordIn b r) → Run (run s r)
   unfolding run join subtype subst_tparams instantiate solve_constraints
   run_walk y s i (SD a ps) f = bind _ (declare_run s i a ps f) (λ x j. e_ok j)
@@ -454,4 +486,5 @@ module _ (H : Type 0) (b : State) (z : Bool) where
   run_walk y s i (RM t) f = tell_run s i (needs t)
   run_walk y s i (CN t) f = bind _ (place_run t f s i) (λ x j. bind _ (ready_tvars_run y x.0 j x.1) (λ r k. e_ok i))
   run_walk y s i (XP t) f = bind _ (place_run t f s i) (λ x j. bind _ (expand_run z y _ x.0 x.1) (λ r k. e_ok i))
+  run_walk y s i (MJ ps) f = bind _ (many_run ps f s i) (λ x j. e_ok (pairs_in x.1 x.0 j))
   run_walk y s i SV f = bind _ (starts_run s i) (λ x j. solve_cases x Run (λ failures. e_ok (λ h. cleared_ranges (j h))) (e_refused (nine y)) (e_refused (sixteen y)))

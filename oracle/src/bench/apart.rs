@@ -1,8 +1,10 @@
 //! What a table of whole jobs does not show: a record of each mark, a lent record, and the slowest records on sound states.
 use super::{timed, Lent};
 use crate::{
-    calls::{Calls, Lines, MIN_ANSWER},
+    calls::{answer_bytes, Calls, Lines},
+    compare::pairs_shown,
     lent::{self, fresh, sound, MAX_CONSTRAINTS},
+    record::{unhex, MAX_PAIRS},
     text::assemble,
     traps,
 };
@@ -19,7 +21,9 @@ const FIRST: &str = "UF u8\n";
 pub struct Row {
     pub name: &'static str,
     answer: u8,
-    pub records: usize,
+    records: usize,
+    /// an MJ's pairs, and what each of them is answered
+    pairs: Option<(usize, u8)>,
     /// run before, and not timed
     before: Vec<u8>,
     /// what both calls begin with
@@ -28,6 +32,11 @@ pub struct Row {
 }
 
 impl Row {
+    /// records, of an MJ pairs: what the time is shared among
+    pub fn shares(&self) -> usize {
+        self.pairs.map_or(self.records, |(n, _)| n)
+    }
+
     /// what the call without the row's records reads, and the one with them
     fn streams(&self) -> [Vec<u8>; 2] {
         [declared(self.first), declared(&(self.first.to_string() + &self.text))]
@@ -52,7 +61,7 @@ fn state(vars: usize) -> String {
 }
 
 fn row(name: &'static str, answer: u8, records: usize, line: impl Fn(usize) -> String) -> Row {
-    Row { name, answer, records, before: vec![], first: FIRST, text: lines(records, line) }
+    Row { name, answer, records, pairs: None, before: vec![], first: FIRST, text: lines(records, line) }
 }
 
 /// records of a state with the declaration
@@ -66,10 +75,27 @@ fn solved(name: &'static str, constrained: String) -> Row {
     Row { before: declared(&("SV\n".to_string() + &constrained)), ..row(name, 0, 1, |_| "SV".into()) }
 }
 
+/// one MJ of as many pairs as it may have, told by the pair
+fn many(name: &'static str, answer: u8, pair: impl Fn(usize) -> String) -> Row {
+    let text = format!("MJ {}", (0..MAX_PAIRS).map(pair).collect::<Vec<_>>().join("; "));
+    Row { pairs: Some((MAX_PAIRS, answer)), ..row(name, 0, 1, |_| text.clone()) }
+}
+
+fn pairs() -> [Row; 6] {
+    [
+        many("MJ, no variable", 0, |_| "join vector<u8>, vector<u8>".into()),
+        many("MJ, binds", 0, |i| format!("join V{}, vector<u8>", 36 + i)),
+        many("MJ, merges two open", 0, |i| format!("join V{}, V{}", 36 + i, 60 + i)),
+        many("MJ, a bound one", 0, |i| format!("join V{}, u64", i)),
+        many("MJ, fails with 2", 2, |i| format!("join V{}, bool", i)),
+        many("MJ, fails with 1", 1, |_| "subtype &u8, &mut u8".into()),
+    ]
+}
+
 pub fn rows() -> Vec<Row> {
     let each = |name, line: &str| row(name, 0, EACH, |_| line.into());
     let over = |name, answer, line: fn(usize) -> String| row(name, answer, EACH, line);
-    vec![
+    let one = vec![
         Row { first: "", ..row("a call's first, UF", 0, 1, |_| FIRST.trim_end().into()) },
         each("SD", "SD {copy} <{}>"),
         each("FV", "FV"),
@@ -102,7 +128,8 @@ pub fn rows() -> Vec<Row> {
         solved("SV, 16 NC", lines(16, |i| format!("NC numeric V{}", i))),
         solved("SV, 16 IN", lines(16, |_| "IN S0<u8>".into())),
         solved("SV, 16 IN that fail", lines(16, |_| "IN S0<P1>".into())),
-    ]
+    ];
+    one.into_iter().chain(pairs()).collect()
 }
 
 /// a job that goes on from the state that is lent; the log's length
@@ -153,10 +180,15 @@ impl Marks<'_> {
         let (_, n) = self.once(&row.before, with);
         let log = std::str::from_utf8(&self.lent.log[skipped..n]).unwrap();
         let answers: Vec<_> = log.lines().map(|l| l.split(' ').nth(1)).collect();
-        answers.len() == row.records && answers.iter().all(|a| *a == Some(&row.answer.to_string()))
+        let pairs = |(n, number): (usize, u8)| {
+            let payload = unhex(log.trim_end().split(' ').nth(2).unwrap()).unwrap();
+            pairs_shown(&payload).iter().filter(|(m, _)| *m == number).count() == n
+        };
+        let all = answers.iter().all(|a| *a == Some(&row.answer.to_string()));
+        answers.len() == row.records && all && row.pairs.is_none_or(pairs)
     }
 
-    /// nanoseconds of a record of the row
+    /// nanoseconds of a record of the row, or of a pair
     fn measured(&mut self, row: &Row, runs: usize) -> f64 {
         let streams = row.streams();
         assert!(self.answered(row, &streams), "{}: another answer", row.name);
@@ -165,14 +197,16 @@ impl Marks<'_> {
             let now = self.both(row, &streams);
             best = [best[0].min(now[0]), best[1].min(now[1])]
         }
-        (best[1] - best[0]) * 1e9 / row.records as f64
+        (best[1] - best[0]) * 1e9 / row.shares() as f64
     }
 }
 
 fn marks_table(calls: &dyn Calls, runs: usize) -> String {
     let mut states = SIZES.map(|n| Marks::new(calls, n));
-    let mut out =
-        format!("by mark, engine alone, ns a record on states of {:?} variables, and the difference:\n", SIZES);
+    let mut out = format!(
+        "by mark, engine alone, ns a record, of MJ a pair, on states of {:?} variables, and the difference:\n",
+        SIZES
+    );
     for row in rows() {
         let [a, b] = [0, 1].map(|i| states[i].measured(&row, runs));
         writeln!(out, "  {:<20}{:>8.0}{:>8.0}{:>+8.0}", row.name, a, b, b - a).unwrap()
@@ -188,7 +222,7 @@ pub fn marks_once(calls: &dyn Calls) -> String {
         for s in &mut states {
             s.both(row, &streams);
         }
-        format!("{}\t{}\n", row.records, row.name)
+        format!("{}\t{}\n", row.shares(), row.name)
     };
     rows().iter().map(told).collect()
 }
@@ -261,7 +295,7 @@ fn ends(n: usize, variable: fn(usize) -> usize) -> String {
 fn lent_record(calls: &dyn Calls, state: &lent::Lent, record: &str, runs: usize) -> (u32, f64) {
     assert_eq!(sound(&state.words, &state.params), Ok(()));
     let bytes = assemble(record, true).unwrap();
-    let (mut answer, mut length, mut number, mut best) = ([0; MIN_ANSWER], 0, 0, f64::MAX);
+    let (mut answer, mut length, mut number, mut best) = (vec![0; answer_bytes(&bytes)], 0, 0, f64::MAX);
     for _ in 0..runs {
         let (mut words, mut params) = (state.words.clone(), state.params);
         best = best.min(timed(|| number = calls.record(&mut words, &mut params, &bytes, &mut answer, &mut length)))
@@ -297,7 +331,7 @@ fn lent_table(calls: &(dyn Calls + Sync), runs: usize) -> String {
         let (number, seconds) = lent_record(calls, lent, record, runs);
         writeln!(out, "  {:<18}{:<30}{:>2}{:>10.1} us", state, shown, number, seconds * 1e6).unwrap()
     }
-    let (mut tried, _) = traps::run(calls);
+    let mut tried = traps::run(calls);
     tried.sort_by(|a, b| b.seconds.total_cmp(&a.seconds));
     writeln!(out, "the slowest of {} records on other sound states (oracle traps):", tried.len()).unwrap();
     tried.iter().take(4).for_each(|l| writeln!(out, "  {}", l.text()).unwrap());

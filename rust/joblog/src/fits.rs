@@ -2,7 +2,7 @@
 //! way that is the whole answer; elsewhere its shape, and how many variables may be taken.
 use crate::{
     payload::{Failure, Outcome, Reason, Rule},
-    record::{Kind, Record, Ty},
+    record::{Kind, Record, Ty, TypingCase},
 };
 
 pub const MAX_VARS: usize = 1024;
@@ -43,6 +43,7 @@ fn numbers(r: &Record) -> &'static [usize] {
         Record::RM(_) => &[0, 11],
         Record::SV => &[0, 7, 9, 14, 16],
         Record::XP(_) => &[0, 7, 9, 14, 17],
+        Record::MJ(_) => &[0, 7],
     }
 }
 
@@ -338,6 +339,12 @@ impl State {
             (Record::SV, Outcome::Done) => self.solved(&[]),
             (Record::SV, Outcome::Failed(fs)) => self.solved(fs),
             (Record::XP(u), Outcome::Expanded(t, codes)) => self.expanded(u, t, codes),
+            (Record::MJ(pairs), Outcome::Pairs(all)) => {
+                let fits = |((case, a, b), o): (&(TypingCase, Ty, Ty), &Outcome)| {
+                    self.fits(&case.record(a.clone(), b.clone()), o)
+                };
+                pairs.len() == all.len() && pairs.iter().zip(all).all(|p| fits(p).is_ok())
+            }
             (Record::SN(..) | Record::NC(..) | Record::BC(..) | Record::SC(..), Outcome::Done) => true,
             (Record::FV(_) | Record::NV(_) | Record::NL(..), Outcome::Type(Ty { kind: Kind::Var(v), .. })) => {
                 (self.low..=self.high).contains(&(*v as usize)) && (*v as usize) < MAX_VARS
@@ -427,6 +434,13 @@ impl State {
             (Record::NC(loc, _, t), 0) => self.add(1, *loc, t),
             (Record::BC(loc, t), 0) => self.add(2, *loc, t),
             (Record::SC(loc, t), 0) => self.add(3, *loc, t),
+            (Record::MJ(pairs), 0) => {
+                // what a pair takes depends on its types alone, as far as it is known
+                let all = if let Outcome::Pairs(all) = payload { &all[..] } else { &[] };
+                for ((case, a, b), o) in pairs.iter().zip(all) {
+                    self.after(&case.record(a.clone(), b.clone()), o)?
+                }
+            }
             (Record::SV, 0) => {
                 self.high = if self.numeric { MAX_VARS } else { self.high };
                 self.constraints.clear()

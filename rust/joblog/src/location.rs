@@ -24,6 +24,14 @@ enum Part {
     Rule,
     /// the code of a variable that is not inferred, in a row that goes on to the end
     Codes,
+    /// MJ's count
+    Many,
+    /// a pair's number, in a row that goes on to the end; the bytes of its payload's length
+    Pair,
+    PairLow(u8),
+    PairHigh(u8, u8),
+    /// a tag in a row of types of so many bytes
+    TypesIn(usize),
 }
 use Part::*;
 
@@ -55,7 +63,7 @@ const fn row(mark: &[u8; 2], fields: &'static [Part], payload: &'static [Part]) 
     Mark { mark: *mark, fields, payload }
 }
 
-const MARKS: [Mark; 18] = [
+const MARKS: [Mark; 19] = [
     row(b"SD", &[], &[]),
     row(b"FV", &LOC, &[Types]),
     row(b"NV", &LOC, &[Types]),
@@ -74,10 +82,23 @@ const MARKS: [Mark; 18] = [
     row(b"CN", &[Type], &[]),
     row(b"XP", &[Type], &[Type, Codes]),
     row(b"NL", &[Location, Location, Location, Location, Plain, Plain], &[Types]),
+    row(b"MJ", &[Many], &[Pair]),
 ];
 
 fn of_mark(record: &[u8]) -> Option<&'static Mark> {
     MARKS.iter().find(|m| record.starts_with(&m.mark))
+}
+
+fn width(tag: usize) -> usize {
+    WIDTHS.get(tag).copied().unwrap_or(0)
+}
+
+fn types_in(bytes: usize) -> Vec<Part> {
+    if bytes == 0 {
+        vec![]
+    } else {
+        vec![TypesIn(bytes)]
+    }
 }
 
 /// What a byte brings before all that is awaited. `params`: how many parameters each declared struct has.
@@ -86,10 +107,8 @@ fn brings(part: Part, b: u8, params: &[usize]) -> Vec<Part> {
     match part {
         Plain | Location => vec![],
         Type => [&LOC, TAGS.get(n).copied().unwrap_or(&[])].concat(),
-        Types => {
-            let width = WIDTHS.get(n).copied().unwrap_or(0);
-            [&LOC[..], &vec![Plain; width], &[Types]].concat()
-        }
+        Types => [&LOC[..], &vec![Plain; width(n)], &[Types]].concat(),
+        TypesIn(bytes) => [&LOC[..], &vec![Plain; width(n)], &types_in(bytes.saturating_sub(5 + width(n)))].concat(),
         Builtin => vec![Type; BUILTINS.get(n).map_or(0, |b| b.arguments)],
         List => vec![Type; n],
         Struct => vec![StructHigh(b)],
@@ -100,6 +119,11 @@ fn brings(part: Part, b: u8, params: &[usize]) -> Vec<Part> {
         Rule if b == 2 => vec![Plain, Failures],
         Rule => vec![Failures],
         Codes => [&LOC[..], &[Codes]].concat(),
+        Many => [Plain, Type, Type].repeat(n),
+        Pair => vec![PairLow(b)],
+        PairLow(number) => vec![PairHigh(number, b)],
+        PairHigh(4, _) => [&LOC[..], &[Pair]].concat(),
+        PairHigh(_, low) => [types_in(u16::from_le_bytes([low, b]) as usize), vec![Pair]].concat(),
     }
 }
 

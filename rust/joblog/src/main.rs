@@ -29,7 +29,7 @@ joblog asm [--number] [TEXT]          a job's text to its bytes
 joblog disasm [JOB]                   bytes to text
 joblog show [FLAGS] JOB LOG           a job and its log for people
     --full        locations and ability marks too
-    --errors      only what is not answered with 0, and SV with failed constraints
+    --errors      only what is not answered with 0, SV with failed constraints, XP with codes, MJ with pairs that failed
     --why         for an answer that ends a job (5, 6, 18): the byte and the rule
     -n N          at most N lines
     --names FILE  names for structs, parameters, variables and locations
@@ -45,7 +45,7 @@ asm and disasm read standard input where no file is named. --number: places with
 
 Exit status: report: 0 publish, 1 do not, 2 not known: a log is missing, cut, not its job's, or by no run that is known
              0 done; show: nothing is wrong; diff: equal but for locations; run: every job has its log
-             1 show: some answer is not 0, or SV lists failed constraints; diff: a difference; run: some job has no log
+             1 show: some answer or pair is not 0, SV lists failed constraints or XP codes; diff: a difference; run: some job has no log
              2 bad usage, a file that cannot be read or written, text that is no job, a log that does not fit its job
 ";
 

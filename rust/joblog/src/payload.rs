@@ -1,14 +1,15 @@
 //! What one answer says: from a record, the answer's number and its payload to a tree or failures. A 0 is no success by
 //! itself: SV answers 0 also where constraints failed, XP also where a type could not be inferred, and their payloads
-//! list these. `Outcome::is_well` tells the two apart, and an answer that its record cannot have is an error.
+//! list these; MJ answers 0 whatever its pairs are answered. `Outcome::is_well` tells the two apart, and an answer that its
+//! record cannot have is an error.
 use crate::{
     fits::{State, MAX_VARS},
     pairs,
-    record::{self, Known, Record, Refusal, Ty, ABILITIES},
+    record::{self, Known, Record, Refusal, Ty, TypingCase, ABILITIES},
 };
 use std::fmt;
 
-/// the longest payload
+/// the longest payload; of MJ that of each pair
 pub const MAX_PAYLOAD: usize = 4096;
 /// XP's code
 pub const UNINFERRED: u8 = 5;
@@ -30,6 +31,8 @@ pub enum Outcome {
     Failed(Vec<Failure>),
     /// 0 of XP: the type, and where in it a variable could not be inferred
     Expanded(Ty, Vec<u32>),
+    /// 0 of MJ: what each pair is answered, as a JN or SU of its own
+    Pairs(Vec<Outcome>),
     /// 1 to 3, with both types
     Mismatch(usize, Ty, Ty),
     /// 4, with a location
@@ -65,10 +68,12 @@ pub enum Rule {
 }
 
 impl Outcome {
-    /// Whether nothing is wrong. Not so for a 0 of SV with failed constraints, or of XP with a type that is not inferred.
+    /// Whether nothing is wrong. Not so for a 0 of SV with failed constraints, of XP with a type that is not inferred, or of MJ
+    /// with a pair that is not answered 0.
     pub fn is_well(&self) -> bool {
         match self {
             Outcome::Expanded(_, open) => open.is_empty(),
+            Outcome::Pairs(all) => all.iter().all(Outcome::is_well),
             Outcome::Done | Outcome::Declared(_) | Outcome::Type(_) | Outcome::Spelled(_) | Outcome::Needs(_) => true,
             _ => false,
         }
@@ -79,6 +84,7 @@ impl Outcome {
             Outcome::Type(t) | Outcome::Spelled(t) | Outcome::Expanded(t, _) => t.taken(),
             Outcome::Mismatch(_, a, b) => a.taken().max(b.taken()),
             Outcome::Failed(fs) => fs.iter().map(|f| f.ty.taken()).max().unwrap_or(0),
+            Outcome::Pairs(all) => all.iter().map(Outcome::taken).max().unwrap_or(0),
             _ => 0,
         }
     }
@@ -189,6 +195,14 @@ impl Rest<'_> {
         Ok(Outcome::Expanded(ty, open))
     }
 
+    /// a pair's number, its payload's length, and its payload
+    fn pair(&mut self, r: &Record) -> Read<Outcome> {
+        let (number, length) = (self.byte()?, u16::from_le_bytes(self.take()?) as usize);
+        let (payload, rest) = self.bytes.split_at_checked(length).ok_or("its payload is cut")?;
+        self.bytes = rest;
+        read(r, number as usize, payload, self.known)
+    }
+
     /// the payload of a 0
     fn zero(&mut self, r: &Record) -> Read<Outcome> {
         match r {
@@ -210,6 +224,12 @@ impl Rest<'_> {
                 _ => no("its payload has a location, or its variables are not numbered by first appearance"),
             },
             Record::XP(_) => self.expanded(),
+            Record::MJ(pairs) => {
+                let one = |(i, (case, a, b)): (usize, &(TypingCase, Ty, Ty))| {
+                    self.pair(&case.record(a.clone(), b.clone())).map_err(|e| format!("pair {}: {}", i, e))
+                };
+                pairs.iter().enumerate().map(one).collect::<Read<_>>().map(Outcome::Pairs)
+            }
         }
     }
 }
@@ -220,7 +240,7 @@ pub fn read(r: &Record, number: usize, payload: &[u8], known: &Known) -> Read<Ou
     if !pairs::ANSWERS.iter().any(|a| a.number == number) {
         return Err(format!("there is no answer {}", number));
     }
-    if payload.len() > MAX_PAYLOAD {
+    if payload.len() > MAX_PAYLOAD && !matches!(r, Record::MJ(_)) {
         return no("its payload is longer than 4,096 bytes");
     }
     let mut rest = Rest { bytes: payload, known };

@@ -3,6 +3,8 @@
 
 pub const MAX_RECORD: usize = 4096;
 pub const MAX_NESTING: usize = 64;
+/// of MJ
+pub const MAX_PAIRS: usize = 15;
 
 pub struct Builtin {
     pub name: &'static str,
@@ -51,6 +53,23 @@ pub enum Kind {
     UnresolvedError,
 }
 
+/// Whether a pair of MJ is answered as JN or as SU: its byte in the record.
+#[derive(Debug, Clone, Copy, PartialEq, Eq)]
+pub enum TypingCase {
+    Join,
+    Subtype,
+}
+
+impl TypingCase {
+    /// the record that a pair is answered as
+    pub fn record(self, a: Ty, b: Ty) -> Record {
+        match self {
+            TypingCase::Join => Record::JN(a, b),
+            TypingCase::Subtype => Record::SU(a, b),
+        }
+    }
+}
+
 #[derive(Debug, Clone, PartialEq, Eq)]
 #[non_exhaustive]
 pub enum Record {
@@ -76,6 +95,8 @@ pub enum Record {
     XP(Ty),
     /// 02's R-7: how many bits the literal needs
     NL(u32, u16),
+    /// 02's R-8
+    MJ(Vec<(TypingCase, Ty, Ty)>),
 }
 
 /// What a record may name: variables below `vars`, structs with as many arguments as declared.
@@ -257,6 +278,21 @@ impl<'a> Reader<'a> {
         Ok(Record::TS(args, self.ty(1)?))
     }
 
+    fn pair(&mut self) -> Read<(TypingCase, Ty, Ty)> {
+        let case = match self.byte_to(1, "a pair's byte is 0 or 1")? {
+            0 => TypingCase::Join,
+            _ => TypingCase::Subtype,
+        };
+        Ok((case, self.ty(1)?, self.ty(1)?))
+    }
+
+    fn many(&mut self) -> Read<Record> {
+        match self.byte()? as usize {
+            n @ 1..=MAX_PAIRS => Ok(Record::MJ((0..n).map(|_| self.pair()).collect::<Read<_>>()?)),
+            _ => malformed(self.at - 1, "MJ has 1 to 15 pairs"),
+        }
+    }
+
     fn record(&mut self) -> Read<Record> {
         Ok(match &[self.byte()?, self.byte()?] {
             b"SD" => self.declaration()?,
@@ -277,6 +313,7 @@ impl<'a> Reader<'a> {
             b"CN" => Record::CN(self.ty(1)?),
             b"XP" => Record::XP(self.ty(1)?),
             b"NL" => Record::NL(self.u32()?, self.bits()?),
+            b"MJ" => self.many()?,
             _ => return malformed(0, "no record has this mark"),
         })
     }
@@ -395,6 +432,7 @@ impl Record {
         match self {
             Record::SD(..) | Record::FV(_) | Record::NV(_) | Record::NL(..) | Record::SN(..) | Record::SV => vec![],
             Record::JN(a, b) | Record::SU(a, b) => vec![a, b],
+            Record::MJ(pairs) => pairs.iter().flat_map(|(_, a, b)| [a, b]).collect(),
             Record::TS(args, t) => args.iter().map(|(_, a)| a).chain([t]).collect(),
             Record::UF(t) | Record::RD(t) | Record::IN(t) => vec![t],
             Record::RM(t) | Record::CN(t) | Record::XP(t) => vec![t],
@@ -428,6 +466,7 @@ impl Record {
             Record::CN(..) => "CN",
             Record::XP(..) => "XP",
             Record::NL(..) => "NL",
+            Record::MJ(..) => "MJ",
         }
     }
 
@@ -459,6 +498,7 @@ impl Record {
                 out.push(*kind)
             }
             Record::BC(loc, _) | Record::SC(loc, _) => out.extend(loc.to_le_bytes()),
+            Record::MJ(pairs) => write_pairs(pairs, &mut out),
             _ => (),
         }
         match self {
@@ -472,6 +512,15 @@ impl Record {
             _ => (),
         }
         out
+    }
+}
+
+fn write_pairs(pairs: &[(TypingCase, Ty, Ty)], out: &mut Vec<u8>) {
+    out.push(pairs.len() as u8);
+    for (case, a, b) in pairs {
+        out.push(*case as u8);
+        a.write(out);
+        b.write(out)
     }
 }
 

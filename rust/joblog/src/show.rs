@@ -12,7 +12,7 @@ use std::{collections::BTreeMap, fmt::Write};
 pub struct Options<'a> {
     pub detail: Detail,
     pub names: Names<'a>,
-    /// only records that are not answered with 0, SV with failed constraints and XP with codes
+    /// only records that are not answered with 0, SV with failed constraints, XP with codes and MJ with pairs that are not 0
     pub errors: bool,
     /// at most so many lines
     pub lines: usize,
@@ -39,15 +39,20 @@ fn wrong(p: &Pair) -> &'static str {
     match &p.payload {
         Outcome::Failed(_) => "failed constraints",
         Outcome::Expanded(..) => "a type that is not inferred",
+        Outcome::Pairs(all) => all.iter().find(|o| !o.is_well()).map_or(word(p.number), |o| word(o.number())),
         _ => word(p.number),
     }
 }
 
 /// An answer in words, with its payload.
 pub fn answer<'a>(p: &Pair, printer: impl Into<Printer<'a>>) -> String {
-    let (said, printer) = (word(p.number), printer.into());
+    said(&p.payload, printer.into())
+}
+
+fn said(payload: &Outcome, printer: Printer) -> String {
+    let said = word(payload.number());
     let text = |t| printer.ty(t);
-    match &p.payload {
+    match payload {
         Outcome::Declared(n) => format!("{} S{}", said, n),
         Outcome::Recursive(loc) => format!("{} {}", said, printer.names.place(*loc)),
         Outcome::Needs([n, p, v, c]) => {
@@ -66,6 +71,10 @@ pub fn answer<'a>(p: &Pair, printer: impl Into<Printer<'a>>) -> String {
         Outcome::Expanded(t, open) => {
             let places: Vec<_> = open.iter().map(|loc| printer.names.place(*loc)).collect();
             format!("{} {}; not inferred: {}", said, text(t), places.join(", "))
+        }
+        Outcome::Pairs(all) => {
+            let one = |(i, o): (usize, &Outcome)| format!("; pair {} {}", i, self::said(o, printer));
+            said.to_string() + &all.iter().enumerate().map(one).collect::<String>()
         }
         Outcome::Done | Outcome::Refused(_) => said.into(),
     }
@@ -98,7 +107,10 @@ pub struct Summary {
     pub failed_constraints: usize,
     /// XP's codes
     pub not_inferred: usize,
-    /// an answer that is not 0, SV with failed constraints, XP with a type that is not inferred: the record, and what it is
+    /// pairs of MJ that are not answered with 0
+    pub failed_pairs: usize,
+    /// an answer that is not 0, SV with failed constraints, XP with a type that is not inferred, MJ with a pair that is not 0: the
+    /// record, and what it is
     pub first_error: Option<(usize, &'static str)>,
     /// the log does not fit the job
     pub wrong: Option<String>,
@@ -132,6 +144,8 @@ impl Summary {
         *self.answers.entry(p.number).or_insert(0) += 1;
         self.failed_constraints += failed(p);
         self.not_inferred += if let Outcome::Expanded(_, open) = &p.payload { open.len() } else { 0 };
+        self.failed_pairs +=
+            if let Outcome::Pairs(all) = &p.payload { all.iter().filter(|o| !o.is_well()).count() } else { 0 };
         if !p.payload.is_well() && self.first_error.is_none() {
             self.first_error = Some((p.n, wrong(p)))
         }
@@ -149,6 +163,9 @@ impl Summary {
         if self.not_inferred > 0 {
             parts.push(format!("not inferred: {}", self.not_inferred))
         }
+        if self.failed_pairs > 0 {
+            parts.push(format!("failed pairs: {}", self.failed_pairs))
+        }
         match (self.first_error, &self.wrong) {
             (Some((n, what)), _) => parts.push(format!("first error: record {}, {}", n, what)),
             (None, None) => parts.push("no error".into()),
@@ -158,7 +175,8 @@ impl Summary {
         parts.join("; ")
     }
 
-    /// 0: nothing is wrong. 1: some answer is not 0, SV lists failed constraints or XP codes. 2: the log does not fit the job.
+    /// 0: nothing is wrong. 1: some answer or pair is not 0, SV lists failed constraints or XP codes. 2: the log does not fit the
+    /// job.
     pub fn code(&self) -> i32 {
         match (&self.wrong, self.first_error) {
             (Some(_), _) => 2,

@@ -1,11 +1,12 @@
 //! Jobs as text, one record to a line, in Move's syntax (README.md has the grammar): printer and parser.
 use crate::{
     names::Names,
-    record::{self, Kind, Known, Record, Ty, ABILITIES, BUILTINS, MAX_RECORD},
+    record::{self, Kind, Known, Record, Ty, TypingCase, ABILITIES, BUILTINS, MAX_RECORD},
 };
 use std::{fmt::Write, ops::Range};
 
 const NUMERIC_KINDS: [&str; 3] = ["numeric", "bits", "ordered"];
+const CASES: [&str; 2] = ["join", "subtype"];
 
 //---- printing ----------------------------------------------------------------------------------------
 
@@ -178,6 +179,12 @@ impl Printer<'_> {
             }
             Record::BC(loc, t) | Record::SC(loc, t) => vec![self.located(*loc, self.ty(t))],
             Record::SV => vec![String::new()],
+            Record::MJ(pairs) => {
+                let one = |(case, a, b): &(TypingCase, Ty, Ty)| {
+                    format!("{} {}, {}", CASES[*case as usize], self.ty(a), self.ty(b))
+                };
+                vec![pairs.iter().map(one).collect::<Vec<_>>().join("; ")]
+            }
         }
     }
 }
@@ -471,6 +478,32 @@ impl Parser<'_> {
         Ok((a, self.ty()?))
     }
 
+    fn case(&mut self) -> Parsed<TypingCase> {
+        let rest = self.rest;
+        match self.word() {
+            "join" => Ok(TypingCase::Join),
+            "subtype" => Ok(TypingCase::Subtype),
+            _ => Err(format!("join or subtype is wanted at `{}`", rest)),
+        }
+    }
+    /// the record has room for none and for more than 15, so that a 5 can be made
+    fn pairs(&mut self) -> Parsed<Vec<(TypingCase, Ty, Ty)>> {
+        let mut pairs = vec![];
+        self.skip();
+        while !self.rest.is_empty() {
+            let case = self.case()?;
+            let (a, b) = self.two()?;
+            pairs.push((case, a, b));
+            if !self.take(";") {
+                break;
+            }
+        }
+        if pairs.len() > u8::MAX as usize {
+            return Err("MJ has no room for so many pairs".into());
+        }
+        Ok(pairs)
+    }
+
     fn numeric_kind(&mut self) -> Parsed<u8> {
         let rest = self.rest;
         let word = self.word();
@@ -499,6 +532,7 @@ impl Parser<'_> {
             "RM" => Record::RM(self.ty()?),
             "CN" => Record::CN(self.ty()?),
             "XP" => Record::XP(self.ty()?),
+            "MJ" => Record::MJ(self.pairs()?),
             _ => return Err(format!("`{}` is no mark", mark)),
         })
     }

@@ -1,7 +1,7 @@
 //! What one answer says, by mark and number, and what is no answer to a record.
 use joblog::{
     payload::{read, Answers, Failure, Outcome, Reason, Rule},
-    record::{read_record, Kind, Known, Ty},
+    record::{read_record, unhex, Kind, Known, Ty},
     text::{any_variable, assemble},
 };
 
@@ -110,6 +110,34 @@ fn a_zero_of_xp_with_codes_is_no_success() {
     // a code that is none, and a type where a code belongs
     assert!(said("XP u8", 0, &[U8, b"\x04\x09\0\0\0"].concat()).is_err() && said("XP u8", 0, b"").is_err());
     assert!(said("XP u8", 0, &[U8, U8].concat()).is_err());
+}
+
+/// 02's R-8: the worked payload; what a pair cannot be answered is no answer to the record
+#[test]
+fn a_zero_of_mj_with_a_pair_that_failed_is_no_success() {
+    let worked = "MJ join V0@2, u8@3; subtype &@5 u8@6, &mut@7 u8@8; join V0@9, u8@10";
+    let first = unhex("000700 06020000000000").unwrap();
+    let second = unhex("011a00 01050000000003060000000002 01070000000103080000000002").unwrap();
+    let third = unhex("000700 060a0000000200").unwrap();
+    let all = [&first[..], &second, &third].concat();
+    let Ok(Outcome::Pairs(pairs)) = said(worked, 0, &all) else { panic!("{:?}", said(worked, 0, &all)) };
+    assert_eq!(pairs.iter().map(Outcome::number).collect::<Vec<_>>(), [0, 1, 0]);
+    let told = Outcome::Pairs(pairs.clone());
+    assert!(!told.is_well() && told.number() == 0 && told.taken() == 3 && pairs[0].is_well() && !pairs[1].is_well());
+    for cut in 0..all.len() {
+        assert!(said(worked, 0, &all[..cut]).is_err(), "{}", cut)
+    }
+    assert!(said(worked, 0, &[&all[..], b"\0"].concat()).is_err() && said(worked, 7, &all).is_err());
+    // a refused pair has no payload, and there is no pair of 5 or 19
+    let with = |number: u8| said(worked, 0, &[&first[..], &[number, 0, 0], &third].concat());
+    for number in [7, 8, 10, 14] {
+        assert!(matches!(with(number), Ok(Outcome::Pairs(p)) if p[1] == Outcome::Refused(number as usize)));
+        assert!(said(worked, 0, &[&first[..], &[number, 1, 0, 0], &third].concat()).is_err())
+    }
+    assert!(with(19).is_err());
+    // so long as its pairs are
+    let long = |n: u16| [&b"\x02"[..], &n.to_le_bytes(), U8, &vec![0; n as usize - 7]].concat();
+    assert_eq!(said("MJ join u8, V0", 0, &long(4097)), Err("pair 0: its payload is longer than 4,096 bytes".into()));
 }
 
 #[test]

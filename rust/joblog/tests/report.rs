@@ -157,6 +157,27 @@ fn a_zero_with_rows_is_an_error() {
     assert_eq!(f.status(), 1)
 }
 
+/// 02's R-8: of a 0 of MJ each pair that is not 0, as of the JN or SU that it is
+#[test]
+fn a_zero_with_a_pair_that_failed_is_an_error() {
+    let f = well("pairs");
+    let job = "MJ join u8@1, u8@2; subtype &@3 u8@4, &mut@5 u8@6; join u8{drop}@7, u8@8";
+    let payload = "000700 03020000000002 011a00 0103000000000304000000000201050000000103060000000002 0a0000";
+    let log = format!("0 0 {}\n", payload.replace(' ', ""));
+    f.job("e", &assemble(job, false).unwrap(), &log);
+    f.manifest(true);
+    let r = f.report();
+    assert_eq!(r.status(), 1);
+    let told = "error[1] subtype error: `&u8` is immutable where `&mut u8` is wanted\n  --> e, record 0 (byte 0): MJ, pair 1: SU  &u8  <:  &mut u8\n    left   &u8    @3\n";
+    let text = text::text(&r, false);
+    assert!(text.starts_with(told), "{}", text);
+    let told = "error[10] abilities disagree: one name with two different ability marks\n  --> e, record 0 (byte 0): MJ, pair 2: JN  u8{drop}  ~  u8\n";
+    assert!(text.contains(told), "{}", text);
+    let lines = jsonl::lines(&r);
+    let fields = r#""mark":"MJ","number":10,"pair":2,"code":0,"word":"abilities disagree""#;
+    assert!(lines.contains(fields) && lines.contains(r#""number":1,"pair":1,"#), "{}", lines)
+}
+
 #[test]
 fn what_differs_first_is_marked() {
     let (job, log) = ("SU (vector<u8@1>@2, ())@3, (vector<bool@4>@5, ())@6", "0 2 0301000000000203040000000006\n");

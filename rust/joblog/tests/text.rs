@@ -59,6 +59,53 @@ fn how_wide_a_literal_is() {
     assert!(["NL @1", "NL @1 65536", "NL @1 nine"].iter().all(|text| assemble(text, false).is_err()))
 }
 
+/// 02's R-8
+#[test]
+fn pairs_of_one_record() {
+    let text = "FV @1\nMJ join V0@2, u8@3; subtype &@5 u8@6, &mut@7 u8@8; join V0@9, u8@10\n";
+    let job = assemble(text, false).unwrap();
+    assert_eq!((job[6..10].to_vec(), disassemble(&job)), (b"MJ\x03\0".to_vec(), text.to_string()));
+    assert_eq!(assemble(&(text.trim_end().to_string() + ";"), false), Ok(job.clone()));
+    let payload = "000700 06020000000000 011a00 0105000000000306000000000201070000000103080000000002 0a0000";
+    let log = format!("0 0 06010000000000\n1 0 {}\n", payload.replace(' ', ""));
+    let (lines, summary) = show(&job, &log, Options::default());
+    let record = "MJ  join V0, u8; subtype &u8, &mut u8; join V0, u8";
+    let told = "pair 0 typed V0; pair 1 subtype error: &u8 where &mut u8 is wanted; pair 2 abilities disagree";
+    assert_eq!(lines.lines().last().unwrap(), format!("1 {}   → typed; {}", record, told));
+    let wanted = "2 records; 0 typed: 2; failed pairs: 2; first error: record 1, subtype error";
+    assert_eq!((summary.text(), summary.code()), (wanted.into(), 1));
+    // locations of the record, and of its payload pair by pair: 4's is a location, 10 shows nothing
+    let (blank, hex) =
+        (text.replace(['1', '2', '3', '5', '6', '7', '9'], "0").replace("u8@8", "u8@0"), |h| unhex(h).unwrap());
+    let blank = assemble(&blank.replace("@00", "@0"), false).unwrap();
+    assert_eq!(blank_record(&job[6..], &[]), blank[6..]);
+    let told = hex(
+        "000700 06020000000000 0a0000 040400 09000000 011a00 01050000000003060000000002 01070000000103080000000002",
+    );
+    let none = hex(
+        "000700 06000000000000 0a0000 040400 00000000 011a00 01000000000003000000000002 01000000000103000000000002",
+    );
+    assert_eq!(blank_payload(&job[6..], 0, &told, &[]), none)
+}
+
+/// .. and which of its bytes are none: 5 where the count or a pair's byte stands, or where the bytes end
+#[test]
+fn pairs_that_cannot_be_read() {
+    let at = |text: &str, cut: usize| {
+        let bytes = assemble(text, false).unwrap();
+        read_record(&bytes[..bytes.len() - cut], &any_variable()).map_err(|x| (x.number, x.at)).err()
+    };
+    let many = |n: usize| "MJ ".to_string() + &vec!["join (), ()"; n].join("; ");
+    assert_eq!((at("MJ", 0), at("MJ", 1), at(&many(16), 0)), (Some((5, 2)), Some((5, 2)), Some((5, 2))));
+    assert_eq!((at(&many(1), 0), at(&many(15), 0), at(&many(15), 1)), (None, None, Some((5, 2 + 1 + 15 * 11 - 1))));
+    assert_eq!(at("hex 4d4a 01 02 0000000000 0000000000", 0), Some((5, 3)));
+    assert_eq!(at("hex 4d4a 02 00 0000000000 0000000000 02", 0), Some((5, 14)));
+    for text in ["MJ u8, u8", "MJ join u8", "MJ meet u8, u8", "MJ join u8, u8, u8", "MJ join u8, u8 subtype u8, u8"] {
+        assert!(assemble(text, false).is_err(), "{}", text)
+    }
+    assert!(assemble(&many(255), false).is_ok() && assemble(&many(256), false).is_err())
+}
+
 #[test]
 fn every_stream_has_a_text() {
     for stream in [&b"XX"[..], b"", b"UF", b"UF\x09", b"UF\x01\0\0\0\0\x02", b"SVSV\x80", &[0xff; 5000]] {

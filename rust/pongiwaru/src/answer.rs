@@ -5,7 +5,7 @@ macro_rules! answers {
     ($($name:ident = $number:literal, $words:literal;)*) => {
         /// An answer's number. 0 to 4 may have a payload and change the state; the others have none and leave all as it was.
         /// `Ran` is not yet a success: SV answers so also where constraints failed, XP also where a type could not be
-        /// inferred, and the payload then lists them. `is_well` tells the two apart.
+        /// inferred, and the payload then lists them; MJ whatever its pairs are answered. `is_well` tells the two apart.
         #[derive(Debug, Clone, Copy, PartialEq, Eq, Hash, PartialOrd, Ord)]
         #[repr(u32)]
         #[non_exhaustive]
@@ -53,11 +53,12 @@ impl Answer {
         self as u32
     }
     /// Whether this answer to `record`, with this payload, says that nothing is wrong: `Ran`, of SV without a payload, of
-    /// XP without codes. `joblog::payload` reads what the payload says.
+    /// XP without codes, of MJ with pairs of 0 alone. `joblog::payload` reads what the payload says.
     pub fn is_well(self, record: &[u8], payload: &[u8]) -> bool {
         let listed = match record.get(..2) {
             Some(b"SV") => !payload.is_empty(),
             Some(b"XP") => has_code(payload),
+            Some(b"MJ") => has_failed_pair(payload),
             _ => false,
         };
         self == Answer::Ran && !listed
@@ -76,6 +77,18 @@ impl std::fmt::Display for Answer {
     fn fmt(&self, f: &mut std::fmt::Formatter) -> std::fmt::Result {
         f.write_str(self.words())
     }
+}
+
+/// Whether a payload of MJ has a pair that is not 0. A pair is its number, its payload's length in two bytes, and that payload.
+fn has_failed_pair(payload: &[u8]) -> bool {
+    let mut rest = payload;
+    while let [number, low, high, behind @ ..] = rest {
+        if *number != 0 {
+            return true;
+        }
+        rest = behind.get(u16::from_le_bytes([*low, *high]) as usize..).unwrap_or(&[])
+    }
+    false
 }
 
 /// Whether a payload of XP has a code, byte 5 and a location behind the type. In XP's type each struct's tag and location

@@ -30,10 +30,31 @@ pub const ROWS: usize = header::ROWS as usize;
 pub const ROW_BYTES: usize = header::ROW_BYTES as usize;
 pub type Rows = [[u8; ROW_BYTES]; ROWS];
 
-/// the most that a record has; the least answer buffer; the room that a log needs for one line more
+/// the most that a record has; the least answer buffer; the room that a log needs for one line more. Of a record whose first
+/// two bytes are MJ the last two: `answer_bytes` and `line_bytes` tell by the bytes
 pub const RECORD_BYTES: usize = header::RECORD_BYTES as usize;
 pub const ANSWER_BYTES: usize = header::ANSWER_BYTES as usize;
 pub const LINE_BYTES: usize = header::LINE_BYTES as usize;
+pub const MANY_ANSWER_BYTES: usize = header::MANY_ANSWER_BYTES as usize;
+pub const MANY_LINE_BYTES: usize = header::MANY_LINE_BYTES as usize;
+
+/// The least answer buffer for a record.
+pub fn answer_bytes(record: &[u8]) -> usize {
+    if record.starts_with(b"MJ") {
+        MANY_ANSWER_BYTES
+    } else {
+        ANSWER_BYTES
+    }
+}
+
+/// The room that a log needs for the line of the record at the head of a stream.
+pub fn line_bytes(stream: &[u8]) -> usize {
+    if stream.starts_with(b"MJ") {
+        MANY_LINE_BYTES
+    } else {
+        LINE_BYTES
+    }
+}
 
 /// the constants of pongiwaru.h
 pub const HEADER: &[(&str, u32)] = &header::CONSTANTS;

@@ -1,7 +1,8 @@
 //! A state and the calls on it.
 use crate::{
+    answer_bytes,
     lent::{self, Progress},
-    Answer, Rows, ANSWER_BYTES, LINE_BYTES, ROWS, ROW_BYTES, WORDS,
+    Answer, Rows, MANY_LINE_BYTES, ROWS, ROW_BYTES, WORDS,
 };
 
 /// The words and rows that are lent to each call. They may be kept, with `LAYOUT` beside them, and lent again later.
@@ -44,14 +45,14 @@ impl State {
 
     /// One record, whole: its answer and payload.
     pub fn record(&mut self, record: &[u8]) -> (Answer, Vec<u8>) {
-        let mut payload = vec![0; ANSWER_BYTES];
+        let mut payload = vec![0; answer_bytes(record)];
         let (answer, length) = self.record_in(record, &mut payload);
         payload.truncate(length);
         (answer, payload)
     }
 
     /// One record, its payload in front of `buffer`: the answer and the payload's length. A buffer of less than
-    /// `ANSWER_BYTES` is answered with UnsoundState.
+    /// `answer_bytes(record)` is answered with UnsoundState.
     pub fn record_in(&mut self, record: &[u8], buffer: &mut [u8]) -> (Answer, usize) {
         let mut length = 0;
         let number = lent::record(&mut self.words, &mut self.rows, record, buffer, &mut length);
@@ -67,8 +68,8 @@ impl State {
     }
 
     /// The job's next lines into `log`, for as many records as the bytes hold whole and the log has room for
-    /// (`LINE_BYTES` for each). `index` is the next record's number. With `more`, further bytes follow these, and a
-    /// record is taken only where `RECORD_BYTES` are at hand.
+    /// (`LINE_BYTES` for each, `MANY_LINE_BYTES` for an MJ). `index` is the next record's number. With `more`, further bytes
+    /// follow these, and a record is taken only where `RECORD_BYTES` are at hand.
     pub fn job(&mut self, stream: &[u8], more: bool, log: &mut [u8], index: &mut u64) -> Lines {
         let mut p = Progress { index: *index, ..Progress::default() };
         let number = lent::job(&mut self.words, &mut self.rows, stream, more, log, &mut p);
@@ -87,7 +88,7 @@ impl State {
     /// The log of a whole stream, record numbers from 0; None where the state is unsound.
     pub fn log(&mut self, stream: &[u8]) -> Option<Vec<u8>> {
         let (mut out, mut rest, mut index) = (vec![], stream, 0);
-        let mut log = vec![0; 8 * LINE_BYTES];
+        let mut log = vec![0; MANY_LINE_BYTES];
         loop {
             let lines = self.job(rest, false, &mut log, &mut index);
             out.extend_from_slice(&log[..lines.written]);

@@ -1,5 +1,8 @@
 //! The calls from Rust, and this crate's names beside the header's and joblog's.
-use pongiwaru::{Answer, State, ANSWER_BYTES, HEADER, LINE_BYTES, ROWS, ROW_BYTES, WORDS};
+use pongiwaru::{
+    answer_bytes, line_bytes, Answer, State, ANSWER_BYTES, HEADER, LINE_BYTES, MANY_ANSWER_BYTES, MANY_LINE_BYTES,
+    ROWS, ROW_BYTES, WORDS,
+};
 
 /// the worked example of docs/RECORDS.md
 const STREAM: &[u8] = include_bytes!("../../../crates/joinlog/stdin");
@@ -111,6 +114,47 @@ fn refusals_leave_all_as_it_was() {
     assert!(state == before && short == [7; ANSWER_BYTES - 1]);
     assert!(!Answer::Malformed.is_well(b"XX", &[]) && !Answer::Incompatible.is_well(b"JN", &[0; 10]));
     assert!(Answer::Malformed.is_refusal() && !Answer::Incompatible.is_refusal() && Answer::Incompatible.is_error())
+}
+
+/// 02's R-8: a pair of 10 between two that bind V0 and show it
+const PAIRS: &[u8] = b"MJ\x03\0\x06\x02\0\0\0\0\0\x03\x03\0\0\0\0\x02\
+    \0\x03\x05\0\0\0\x17\x02\x03\x06\0\0\0\0\x02\
+    \x01\x06\x09\0\0\0\0\0\x03\x0a\0\0\0\0\x02";
+
+#[test]
+fn many_pairs_in_one_record() {
+    let told = b"\0\x07\0\x06\x02\0\0\0\0\0\x0a\0\0\0\x07\0\x06\x0a\0\0\0\x02\0";
+    let (mut state, mut room) = (State::fresh(), vec![7; MANY_ANSWER_BYTES]);
+    state.record(b"FV\x01\0\0\0");
+    assert_eq!([PAIRS, b"MJ", b"M", b"FV"].map(answer_bytes), [61_485, 61_485, 4096, 4096]);
+    assert_eq!([PAIRS, b"MJ", b"M", b"FV"].map(line_bytes), [122_995, 122_995, 8217, 8217]);
+    assert_eq!(state.record_in(PAIRS, &mut room[..MANY_ANSWER_BYTES - 1]), (Answer::UnsoundState, 0));
+    assert_eq!(state.record_in(b"MJ", &mut room[..ANSWER_BYTES]), (Answer::UnsoundState, 0));
+    assert_eq!(state.record_in(b"M", &mut room[..ANSWER_BYTES]), (Answer::Malformed, 0));
+    assert!(room.iter().all(|b| *b == 7));
+    assert_eq!(state.clone().record(PAIRS), (Answer::Ran, told.to_vec()));
+    assert_eq!(state.record_in(PAIRS, &mut room), (Answer::Ran, told.len()));
+    assert!(room.starts_with(told) && room[told.len()..].iter().all(|b| *b == 7));
+    // no success, though its number is 0
+    assert!(!Answer::Ran.is_well(PAIRS, told) && Answer::Ran.is_well(PAIRS, &told[..10]));
+    // six nodes read, three more and two variables by the third pair's merge, nothing by the second
+    assert_eq!((state.words()[0], state.words()[2]), (9, 3))
+}
+
+/// `log` goes on where an MJ finds less room than its line may have; `job` waits for it
+#[test]
+fn a_log_has_room_for_many_pairs() {
+    let stream = [&b"FV\x01\0\0\0"[..], PAIRS, b"SV", PAIRS].concat();
+    let log = String::from_utf8(State::fresh().log(&stream).unwrap()).unwrap();
+    assert_eq!(log.lines().map(|l| &l[..3]).collect::<Vec<_>>(), ["0 0", "1 0", "2 0", "3 0"]);
+    let (mut state, mut index, mut out) = (State::fresh(), 0, vec![0; MANY_LINE_BYTES]);
+    let lines = state.job(&stream, false, &mut out, &mut index);
+    assert_eq!((lines.read, lines.ended, index), (6, false, 1));
+    let lines = state.job(&stream[6..], false, &mut out[..MANY_LINE_BYTES - 1], &mut index);
+    assert_eq!((lines.read, lines.written, lines.ended, index), (0, 0, false, 1));
+    let lines = state.job(&stream[6..], false, &mut out, &mut index);
+    // behind its line there is room for SV's, and not for another's
+    assert_eq!((lines.read, lines.ended, index), (PAIRS.len() + 2, false, 3))
 }
 
 /// 02's R-1: a struct's parameter asks for copy; a signer has it not, and a `u8` only by its mark

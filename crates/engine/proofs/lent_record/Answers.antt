@@ -15,4 +15,4 @@ returns-in_err-tested c =
     rw is (unsound_gives _ _ _ _ c.in_err-tested.ensures)
 
 pub record_trusted-requires : goal.record_trusted-requires
-record_trusted-requires c = (c.in_ok-tested.ensures, leb→le 4096 _ (test (sym c.fits.ensures ∙ c.if-not-fits.false)))
+record_trusted-requires c = (c.in_ok-tested.ensures, leb→le _ _ (test (sym c.fits.ensures ∙ c.if-not-fits.false)))

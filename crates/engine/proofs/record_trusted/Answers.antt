@@ -4,7 +4,7 @@ use mathlib.Core.Path.{◌∙◌}
 use Rattle.std.proofs.Common.{rules}
 use Rattle.log_lines.proofs.Text.{bytes_of}
 use Rattle.lent.proofs.Passed.{stands_lent, lent_size, lent_lays}
-use Rattle.engine.proofs.Laws.{record_gives}
+use Rattle.engine.proofs.Laws.{few_bytes, record_gives}
 use Rattle.engine.proofs.record_trusted.Goals as goal
 
 pub used_of-used-requires : goal.used_of-used-requires
@@ -21,6 +21,9 @@ step_trusted-r-requires c =
       noted = λ v p. absurd (omega (arith, p, n.1.1.1));
       list = omega arith;
     }
+
+pub overflow_cast-result : goal.overflow_cast-result
+overflow_cast-result c = record { fits = few_bytes c.args.«record».now _ c.step_trusted-r.ensures.steps.few }
 
 pub returns : goal.returns
 returns c =

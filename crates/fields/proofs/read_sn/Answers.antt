@@ -8,14 +8,14 @@ use Rattle.fields.proofs.read_sn.Goals as goal
 
 pub returns-in_err-v-clause-is : goal.returns-in_err-v-clause-is
 unfolding read_two ◌>>=◌ go_on
-returns-in_err-v-clause-is c = λ st. let e : c.from_residual.result ≡ Err c.in_err-v.field-0.0 = search rules in
+returns-in_err-v-clause-is c = λ st names. let e : c.from_residual.result ≡ Err c.in_err-v.field-0.0 = search rules in
     rw e (unread_is (λ s ds k. rw (k.vars, ← c.name_below.ensures.is, c.in_err-v.was) refl))
 
 pub returns-in_err-loc-clause-is : goal.returns-in_err-loc-clause-is
 unfolding read_two ◌>>=◌ go_on
-returns-in_err-loc-clause-is c = λ st. let e : c.from_residual-in_err-loc.result ≡ Err c.in_err-loc.field-0.0 = search rules in
+returns-in_err-loc-clause-is c = λ st names. let e : c.from_residual-in_err-loc.result ≡ Err c.in_err-loc.field-0.0 = search rules in
     rw e (unread_is (λ s ds k. rw (k.vars, ← c.name_below.ensures.is, c.in_ok-v.was, ← c.u32.ensures.is, c.in_err-loc.was) refl))
 
 pub returns-clause-is : goal.returns-clause-is
 unfolding place_read place_record read_two ◌>>=◌ go_on give
-returns-clause-is c = λ st. fields_none tt (λ s s' ds k. rw (k.vars, ← c.name_below.ensures.is, c.in_ok-v.was, ← c.u32.ensures.is, c.in_ok-loc.was) refl)
+returns-clause-is c = λ st names. fields_none tt (λ s s' ds k. rw (k.vars, ← c.name_below.ensures.is, c.in_ok-v.was, ← c.u32.ensures.is, c.in_ok-loc.was) refl)

@@ -1,6 +1,7 @@
 -- `step::rest_trusted` meets its contract. Assumes nothing.
 use mathlib.Core.Path.{refl}
-use Rattle.step.proofs.Saved.{all_many, all_now, stands_now, splits_before}
+use Rattle.answer.proofs.Growing.{all_many, all_now}
+use Rattle.step.proofs.Saved.{stands_now, splits_before}
 use Rattle.step.proofs.rest_trusted.Goals as goal
 
 pub rest_from-requires : goal.rest_from-requires

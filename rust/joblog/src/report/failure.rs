@@ -1,9 +1,9 @@
-//! One thing that is wrong: an answer that is not 0, a row of SV, or a code of XP.
+//! One thing that is wrong: an answer that is not 0, a row of SV, a code of XP, or a pair of MJ that is not 0.
 use crate::{
     names::Names,
     pairs::{word, Pair},
     payload::{self, Outcome, Reason, Rule, UNINFERRED},
-    record::{Kind, Record, Ty, ABILITIES},
+    record::{Kind, Record, Ty, TypingCase, ABILITIES},
     show::record,
     text::{Detail, Printer},
 };
@@ -32,7 +32,10 @@ pub struct Failure {
     pub at: usize,
     /// empty where the record is not read
     pub mark: &'static str,
+    /// the answer's; of a pair of MJ the pair's
     pub number: usize,
+    /// of MJ, from 0
+    pub pair: Option<usize>,
     /// 1 to 4 of a row of SV, 5 of XP; else 0
     pub code: u8,
     /// what is wrong, in a sentence
@@ -127,6 +130,7 @@ impl Teller<'_> {
             at: p.at,
             mark,
             number: p.number,
+            pair: None,
             code: 0,
             told,
             text,
@@ -210,11 +214,33 @@ impl Teller<'_> {
     }
 }
 
+/// What is wrong with pair `i` of MJ, told as of the JN or SU that it is.
+fn of_pair(p: &Pair, i: usize, of: &(TypingCase, Ty, Ty), payload: &Outcome, names: Names) -> Vec<Failure> {
+    let (case, a, b) = of.clone();
+    let one = Pair {
+        n: p.n,
+        at: p.at,
+        bytes: p.bytes,
+        read: Ok(case.record(a, b)),
+        number: payload.number(),
+        raw: vec![],
+        payload: payload.clone(),
+    };
+    let within = |text: String| format!("MJ, pair {}: {}", i, text);
+    let put = |f: Failure| Failure { mark: "MJ", pair: Some(i), text: within(f.text), plain: within(f.plain), ..f };
+    failures(&one, names).into_iter().map(put).collect()
+}
+
 /// What is wrong with a record's answer.
 pub fn failures(p: &Pair, names: Names) -> Vec<Failure> {
     let teller = Teller { p, names };
     match &p.payload {
         payload if payload.is_well() => vec![],
+        Outcome::Pairs(all) => {
+            let Ok(Record::MJ(pairs)) = &p.read else { return vec![] };
+            let told = pairs.iter().zip(all).enumerate().map(|(i, (of, o))| of_pair(p, i, of, o, names));
+            told.flatten().collect()
+        }
         Outcome::Failed(rows) => rows.iter().map(|row| teller.row(row)).collect(),
         Outcome::Expanded(t, open) => open.iter().map(|loc| teller.open(t, *loc)).collect(),
         Outcome::Mismatch(n, a, b) => vec![teller.mismatch(*n, a, b)],

@@ -47,6 +47,7 @@ fn failure(job: &Job, f: &Failure) -> String {
             ("byte", f.at.to_string()),
             ("mark", string(f.mark)),
             ("number", f.number.to_string()),
+            ("pair", f.pair.map_or("null".into(), |i| i.to_string())),
             ("code", f.code.to_string()),
             ("word", string(f.word())),
             ("told", string(&f.told)),

@@ -1,0 +1,2 @@
+-- What a pair of MJ leaves, and what all of them do. Assumes nothing: these are definitions.
+pub mod Turns
