@@ -54,7 +54,7 @@ beside() { step "2,000 jobs beside core.rs" target/release/oracle compare 1 2000
 
 with_engine() {
   beside
-  for what in number payload binding mark constraint reading count told spelled missing code pair kept line; do step "altered: $what" found $what; done
+  for what in number payload binding mark constraint reading count told spelled missing code pair kept link left line; do step "altered: $what" found $what; done
   step "pairs" target/release/oracle many
   step "2,000 jobs with pairs" target/release/oracle compare 1 2000 --profile=pairs
   step "spellings" target/release/oracle spelled 1 300

@@ -87,13 +87,13 @@ def limits():
     # 1,024 variables; a join that takes none goes on
     yield limit('variables', 'FV\n' * 1023 + 'NV', ('FV', 7), ('NV', 7), 'UF V1023\nJN V1023, u8\nUF V1023')
     # a merge wants one more
-    yield limit('variables of a merge', 'FV\n' * 1024, ('JN V0, V1', 7), 'JN V0, u8\nUF V0')
+    yield limit('variables of a merge', 'FV\n' * 1024, ('JN V0, V1', 7), ('JL V0, V1', 7), 'JN V0, u8\nUF V0')
     # 512 constraints
     yield limit('constraints', 'BC ()\n' * 511 + 'SC ()', ('NC numeric u8', 7), ('BC u8', 7), ('SC u8', 7), 'UF u8')
     # 256 declarations
     yield limit('structs', 'SD {} <{}>\n' * 255 + 'SD {copy} <{drop}, phantom {}>', ('SD {}', 7), 'UF S255<u8, u8>\nUF S0<bool>')
     # 2,048 nodes: JN of () twice takes two. UF wants one meanwhile
-    yield limit('nodes', 'JN (), ()\n' * 1024, ('JN (), ()', 7), ('UF ()', 7), 'FV')
+    yield limit('nodes', 'JN (), ()\n' * 1024, ('JN (), ()', 7), ('UF ()', 7), ('UL ()', 7), 'FV')
     yield limit('nodes, one left', 'JN (), ()\n' * 1023 + 'BC ()', ('JN (), ()', 7), 'UF ()', 'BC ()', ('UF ()', 7))
     # JN of u8 twice takes two for reading and one for the result: 682 of them leave two
     yield limit('nodes, built', 'JN u8, u8\n' * 682, ('JN u8, u8', 7), 'JN u8, ()', ('UF ()', 7))
@@ -104,7 +104,7 @@ def limits():
     yield limit('payloads', 'FV\nFV\nJN V0, %s\nJN V1, vector<%s>' % (BIG, BIG), ('JN V0, V1', 14), ('RD (V0, V0)', 14), 'NC numeric V0\nNC bits V1', ('SV', 14), 'FV\nRD V2')
     # the first call and the merges' at 1, 2, 65, 66, 129, 130, 193 and 194, then one for each vector and its part
     yield limit('depth 256', chains(62), 'JN V0, V4\nUF V0')
-    yield limit('depth 257', chains(63), ('JN V0, V4', 8), 'UF V0\nJN V1, V5\nFV')
+    yield limit('depth 257', chains(63), ('JN V0, V4', 8), ('JL V0, V4', 8), 'UF V0\nJN V1, V5\nFV')
     # a chain of references ends the job at its first record
     yield limit('chain of references', 'FV\nFV', ('JN V0, %sV1' % ('&' * 63), 18))
 
@@ -263,6 +263,25 @@ def literals():
     yield end('literal: cut at 0', asm('NL @1 256\nNL @2 256')[:-1], '0 0 06010000000000', '1 5')
 
 
+def sized(n):
+    """A type of n bytes, 16 or more."""
+    few = {5: '()', 7: 'u8', 10: 'P7', 11: '&()', 12: 'vector<()>', 13: '&u8', 16: '&P7', 22: '((), P7)'}
+    if n in few:
+        return few[n]
+    if n < 7 + 8 * 16:
+        return 'vector<%s>' % sized(n - 7)
+    each, rest = divmod(n - 7, 8)
+    return list_of(*[sized(each)] * 7, sized(each + rest))
+
+
+def links():
+    """R-9: 4,092 bytes of both types and 4,093; 64 merges, each over a chain that is two links longer. The largest sums: oracle/tests/lent.rs."""
+    other = 'FV\nFV\nFV\nJN V0, %s\nJN V1, vector<%s>\nJN V2, vector<%s>\n' % (BIG, sized(1014), sized(1015))
+    yield limit('links: payloads', other + 'JL V0, V1', ('JL V0, V2', 14), 'JN V0, V2\nUL V0\nFV')
+    eights = [list_of(*[list_of(*[v] * 8)] * 8) for v in ('V0', 'V1')]
+    yield limit('links: a chain', 'FV\nFV\nJL %s, %s\nUL V0\nJL V0, V1\nUL V1\nUL V65' % tuple(eights))
+
+
 def end(name, stream, *log):
     return name, stream, list(log)
 
@@ -287,7 +306,7 @@ def marks():
 
 def main():
     where = os.path.join(ROOT, 'crates/test_edges')
-    jobs = [j for made in (marked, computed, limits, told, abilities, spelled, finals, literals, ends, marks) for j in made()]
+    jobs = [j for made in (marked, computed, limits, told, abilities, spelled, finals, literals, links, ends, marks) for j in made()]
     behind = [(len(name) + 1 + len(stream), name.encode() + b'\n' + stream) for name, stream, _ in jobs]
     texts = {
         'stdin': b''.join(struct.pack('<I', size) + job for size, job in behind),

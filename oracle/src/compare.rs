@@ -9,7 +9,7 @@ use crate::{
     record::{self, hex, Kind, Known, Record, Ty},
     shrink::shrink,
     state_text::state_text,
-    text::disassemble,
+    text::{any_variable, disassemble},
 };
 use pongiwaru::Answer as Said;
 use std::collections::BTreeMap;
@@ -78,6 +78,7 @@ const OTHER_REFUSAL: &str = "7 or 8 before another of 7 to 14, as counted by 01"
 const TOLD: &str = "RM before IN";
 const FILLED: &str = "IN where exactly RM's four are left, and where one is missing";
 const SILENT: &str = "core.rs silent: job ended";
+const LINKED: &str = "JL and UL from the states of JN and UF";
 
 //---- one record ------------------------------------------------------------------------------------------
 
@@ -189,9 +190,10 @@ impl Tally {
     }
 }
 
-/// UF, RD, CN, TS, RM and XP leave the state word for word.
+/// UF, UL, RD, CN, TS, RM and XP leave the state word for word.
 fn only_reads(r: &Record) -> bool {
-    matches!(r, Record::UF(_) | Record::RD(_) | Record::CN(_) | Record::TS(..) | Record::RM(_) | Record::XP(_))
+    let told = matches!(r, Record::TS(..) | Record::RM(_));
+    told || matches!(r, Record::UF(_) | Record::UL(_) | Record::RD(_) | Record::CN(_) | Record::XP(_))
 }
 
 pub fn same_counts(lender: &Lender, counted: Option<&Counted>) -> Result<(), String> {
@@ -273,10 +275,63 @@ fn as_told(lender: &Lender, answer: &Answer, four: [usize; 4]) -> Result<(), Str
     }
 }
 
+//---- JN and UF, and JL and UL of the same types before them (R-9) -----------------------------------------------
+
+/// JL or UL of a record's types, its answer and the state that it leaves.
+struct Linked {
+    record: Record,
+    answer: Answer,
+    left: Lent,
+}
+
+/// .. from the state that the record meets, held to the driver's and to 01's counts.
+fn linked(run: &mut Run, r: &Record, room: usize, tally: &mut Tally) -> Result<Option<Linked>, String> {
+    let record = match r {
+        Record::JN(a, b) => Record::JL(a.clone(), b.clone()),
+        Record::UF(t) => Record::UL(t.clone()),
+        _ => return Ok(None),
+    };
+    run.beside.lend(&run.lender.lent());
+    let outcome = run.job.aside(&record);
+    let counted = run.lender.calls.counts().then(|| counted(run.lender.view(), &record));
+    let answer = run.beside.record(&record.bytes(), room)?;
+    let told = |e| format!("{} in its place: {}", record.mark(), e);
+    agree(&outcome, &answer, counted.as_ref(), &mut Tally::default()).map_err(told)?;
+    // core.rs in the engine's place goes on with JN and UF
+    if counted.is_none() && matches!(answer.number, 7 | 8) {
+        return Ok(None);
+    }
+    tally.apart(LINKED);
+    Ok(Some(Linked { answer, left: run.beside.lent(), record }))
+}
+
+impl Linked {
+    /// The same number, payload and state, and four bytes more; 14 where these are too many.
+    fn beside(&self, plain: &Answer, left: &Lent) -> Result<(), String> {
+        let said = self.answer.payload.len().saturating_sub(4);
+        let same = match plain.number {
+            0..=4 if plain.payload.len() + 4 > MIN_ANSWER => self.answer.number == 14,
+            0..=4 => {
+                let number = self.answer.number == plain.number;
+                number && self.answer.payload[..said] == plain.payload && self.left == *left
+            }
+            number => self.answer.number == number,
+        };
+        match same {
+            true => Ok(()),
+            false => {
+                Err(format!("{} in its place: {}; ours: {}", self.record.mark(), shown(&self.answer), shown(plain)))
+            }
+        }
+    }
+}
+
 //---- one job --------------------------------------------------------------------------------------------------
 
 struct Run<'a> {
     lender: Lender<'a>,
+    /// for what is tried in a record's place
+    beside: Lender<'a>,
     job: Job,
     log: String,
     at: usize,
@@ -286,10 +341,18 @@ struct Run<'a> {
 }
 
 impl Run<'_> {
+    /// the record's answer, and beside it what was tried in its place
+    fn answer(&mut self, record: &[u8], over: usize, linked: Option<Linked>) -> Result<Answer, String> {
+        let answer = self.lender.record(record, answer_bytes(record) + over)?;
+        linked.map_or(Ok(()), |linked| linked.beside(&answer, &self.lender.lent()))?;
+        Ok(answer)
+    }
+
     /// one record; Ok(false): the job is over
     fn step(&mut self, stream: &[u8], over: usize, tally: &mut Tally) -> Result<bool, String> {
         let rest = &stream[self.at..];
         let read = record::read_record(rest, self.job.known()).ok();
+        let linked = read.as_ref().map_or(Ok(None), |(r, _)| linked(self, r, MIN_ANSWER + over, tally))?;
         let (r, mark) = (read.as_ref().map(|(r, _)| r), read.as_ref().map_or("??", |(r, _)| r.mark()));
         let counted = r.filter(|_| self.lender.calls.counts()).map(|r| counted(self.lender.view(), r));
         let (outcome, n) = self.job.next_within(rest, counted.as_ref().map_or(&[], |c| &c.pairs));
@@ -302,7 +365,7 @@ impl Run<'_> {
             _ => None,
         };
         let lent = if n == 0 { rest } else { &rest[..n] };
-        let answer = self.lender.record(lent, answer_bytes(lent) + over)?;
+        let answer = self.answer(lent, over, linked)?;
         if let Some(four) = told {
             as_told(&self.lender, &answer, four)?
         }
@@ -341,7 +404,8 @@ pub fn stream(
     tally: &mut Tally,
 ) -> Result<(), Disagreement> {
     let (lender, job) = (Lender::new(calls, start), job_of(start.view()));
-    let mut run = Run { lender, job, log: String::new(), at: 0, index: 0, without_sn: *start == lent::fresh() };
+    let (beside, without_sn) = (Lender::new(calls, start), *start == lent::fresh());
+    let mut run = Run { lender, beside, job, log: String::new(), at: 0, index: 0, without_sn };
     // an answer buffer has so much more than it must have
     let over = if chance.percent(20) { chance.below(100) } else { 0 };
     let mut refused = false;
@@ -543,13 +607,20 @@ pub enum Alter {
     Pair,
     /// MJ's last pair, where it is refused, takes a node
     Kept,
+    /// JL and UL tell a link too many
+    Link,
+    /// JL of two variables tells the links of the left one's chain
+    Left,
     /// a line of a job
     Line,
 }
 
-pub const ALTERS: [Alter; 15] = {
+pub const ALTERS: [Alter; 17] = {
     use Alter::*;
-    [Number, Payload, Binding, Mark, Need, Constraint, Reading, Count, Told, Spelled, Missing, Code, Pair, Kept, Line]
+    [
+        Number, Payload, Binding, Mark, Need, Constraint, Reading, Count, Told, Spelled, Missing, Code, Pair, Kept,
+        Link, Left, Line,
+    ]
 };
 
 impl Alter {
@@ -606,6 +677,23 @@ impl Altered<'_> {
     }
 }
 
+/// JL and UL tell another number of links.
+pub fn a_link_more(record: &[u8], answer: &mut [u8]) {
+    if let (true, Some(links)) = (matches!(record, [b'J' | b'U', b'L', ..]), answer.last_chunk_mut::<4>()) {
+        links[0] ^= 1
+    }
+}
+
+/// JL of two variables tells the links of the left one's chain.
+pub fn left_alone(before: lent::View, record: &[u8], answer: &mut [u8]) {
+    let Ok((Record::JL(a, b), _)) = record::read_record(record, &any_variable()) else { return };
+    if let (Kind::Var(v), Kind::Var(w), Some(links)) = (a.kind, b.kind, answer.last_chunk_mut()) {
+        if v != w {
+            *links = (before.chain(v as usize).count() as u32 - 1).to_le_bytes()
+        }
+    }
+}
+
 impl Calls for Altered<'_> {
     fn record(
         &self,
@@ -619,6 +707,12 @@ impl Calls for Altered<'_> {
         let number = self.calls.record(state, params, record, answer, length);
         if self.alter == Alter::Mark && record.starts_with(b"SN") {
             state.copy_from_slice(&before)
+        }
+        let told = &mut answer[..*length as usize];
+        match self.alter {
+            Alter::Link if number <= 4 => a_link_more(record, told),
+            Alter::Left if number <= 4 => left_alone(lent::View { words: &before, params }, record, told),
+            _ => (),
         }
         self.spoil(state, params, record, &mut answer[..*length as usize], number)
     }

@@ -1,7 +1,7 @@
 //! A record by 01's and 02's rules on trees. What it takes: nodes, argument places, variables and constraints, and the 7 or
 //! 8 where a limit is met, which core.rs does not count. And what JN, SU and SV's joins answer and leave, with the needs of
-//! literals (02, R-7), which core.rs does not know: without needs they must be core.rs's. Uses no code of the engine's; not
-//! claimed to be independent of the definition.
+//! literals (02, R-7), which core.rs does not know: without needs they must be core.rs's. And how many links a join follows
+//! (02, R-9), summed at each merge. Uses no code of the engine's; not claimed to be independent of the definition.
 use crate::{
     job::{put_pair, State, MAX_PAYLOAD},
     lent::{View, MAX_CONSTRAINTS, MAX_NODES, MAX_PLACES, MAX_STRUCTS, MAX_VARS},
@@ -29,8 +29,8 @@ pub fn used(s: View) -> Used {
     Used { nodes: s.nodes(), places: s.places(), vars: s.vars(), constraints: s.constraints() }
 }
 
-/// The answer's number as far as counting tells (14 is not seen), and the rows in use after it. Of JN, SU and MJ, where it is 0
-/// to 4, also the payload.
+/// The answer's number as far as counting tells (14 is not seen), and the rows in use after it. Of JN, SU, JL and MJ, where it
+/// is 0 to 4, also the payload, of JL with its links.
 #[derive(Debug, Clone, PartialEq, Eq)]
 pub struct Counted {
     pub number: u32,
@@ -84,6 +84,8 @@ struct Sim {
     bound: HashMap<u16, Ty>,
     marks: BTreeMap<u16, Mark>,
     used: Used,
+    /// what all merges so far have followed
+    links: u32,
 }
 
 fn at(loc: u32, kind: Kind) -> Ty {
@@ -128,6 +130,14 @@ impl Sim {
             v = *next
         }
         v
+    }
+
+    /// how many bindings lead from variable to variable up to the end
+    fn links(&self, v: u16) -> u32 {
+        match self.bound.get(&v) {
+            Some(Ty { kind: Kind::Var(next), .. }) => 1 + self.links(*next),
+            _ => 0,
+        }
     }
 
     //---- join ------------------------------------------------------------------------------------------
@@ -205,6 +215,7 @@ impl Sim {
 
     fn merge(&mut self, depth: usize, sub: bool, (loc1, id1): (u32, u16), (loc2, id2): (u32, u16)) -> Run<Ty> {
         let (end1, end2) = (self.end(id1), self.end(id2));
+        self.links += self.links(id1) + self.links(id2);
         let read = |s: &Sim, e: u16, loc| s.bound.get(&e).cloned().unwrap_or(at(loc, Kind::Anything));
         let (t, u) = (read(self, end1, loc1), read(self, end2, loc2));
         let open = [&t, &u].iter().filter(|t| t.kind == Kind::Anything).count();
@@ -347,10 +358,10 @@ impl Sim {
         Ok(())
     }
 
-    /// JN's or SU's type
+    /// JN's, SU's or JL's type
     fn joined(&mut self, r: &Record) -> Option<Run<Ty>> {
         match r {
-            Record::JN(a, b) => Some(self.join(1, false, a, b)),
+            Record::JN(a, b) | Record::JL(a, b) => Some(self.join(1, false, a, b)),
             Record::SU(a, b) => Some(self.join(1, true, a, b)),
             _ => None,
         }
@@ -408,10 +419,10 @@ fn occurs(v: u16, t: &Ty) -> bool {
 
 fn types(r: &Record) -> Vec<&Ty> {
     match r {
-        Record::JN(a, b) | Record::SU(a, b) => vec![a, b],
+        Record::JN(a, b) | Record::SU(a, b) | Record::JL(a, b) => vec![a, b],
         Record::MJ(pairs) => pairs.iter().flat_map(|(_, a, b)| [a, b]).collect(),
         Record::TS(args, t) => args.iter().map(|(_, t)| t).chain([t]).collect(),
-        Record::UF(t) | Record::RD(t) | Record::CN(t) | Record::IN(t) | Record::XP(t) => vec![t],
+        Record::UF(t) | Record::RD(t) | Record::CN(t) | Record::IN(t) | Record::XP(t) | Record::UL(t) => vec![t],
         Record::NC(_, _, t) | Record::BC(_, t) | Record::SC(_, t) => vec![t],
         _ => vec![],
     }
@@ -438,7 +449,16 @@ pub fn needs(t: &Ty) -> Option<[usize; 4]> {
     })
 }
 
-/// JN's or SU's payload as far as its run goes
+/// 02's R-9: what JL shows behind its payload
+pub fn tail(r: &Record, links: u32) -> Vec<u8> {
+    if let Record::JL(..) = r {
+        links.to_le_bytes().to_vec()
+    } else {
+        vec![]
+    }
+}
+
+/// a join's payload as far as its run goes
 fn shown(done: &Run<Ty>) -> Option<Vec<u8>> {
     match done {
         Ok(t) => Some(t.bytes()),
@@ -454,7 +474,7 @@ pub fn counted(s: View, r: &Record) -> Counted {
     let (mut payload, mut pairs) = (None, vec![]);
     let done = types(r).into_iter().try_for_each(|t| sim.read(t)).and_then(|_| match (r, sim.joined(r)) {
         (_, Some(done)) => {
-            payload = shown(&done);
+            payload = shown(&done).map(|said| [said, tail(r, sim.links)].concat());
             done.map(drop)
         }
         (Record::MJ(all), _) => {
@@ -470,7 +490,8 @@ pub fn counted(s: View, r: &Record) -> Counted {
         _ => sim.run(s.structs(), r),
     });
     let number = done.map_or_else(|stop| stop.number(), |_| 0);
-    let reads = matches!(r, Record::UF(_) | Record::RD(_) | Record::CN(_) | Record::TS(..) | Record::XP(_));
+    let reads =
+        matches!(r, Record::UF(_) | Record::UL(_) | Record::RD(_) | Record::CN(_) | Record::TS(..) | Record::XP(_));
     Counted { number, used: if reads || number > 4 { before } else { sim.used }, payload, pairs }
 }
 
@@ -480,7 +501,7 @@ impl Sim {
     fn new(s: &State, used: Used) -> Sim {
         let needs: HashMap<u16, u16> = s.needs.iter().copied().collect();
         let mark = |(v, loc): &(u16, u32)| (*v, Mark { loc: *loc, need: needs.get(v).copied().unwrap_or(0) });
-        Sim { bound: s.bindings.iter().cloned().collect(), marks: s.marks.iter().map(mark).collect(), used }
+        Sim { bound: s.bindings.iter().cloned().collect(), marks: s.marks.iter().map(mark).collect(), used, links: 0 }
     }
 
     /// `s` with the bindings, marks and needs that are here
@@ -502,13 +523,17 @@ impl Sim {
     }
 }
 
-/// JN or SU: the number, the payload and the state after it.
-pub fn joined(s: &State, r: &Record) -> (u8, Vec<u8>, State) {
+/// JN, SU or JL: the number, the payload without JL's links, these, and the state after it.
+pub fn joined(s: &State, r: &Record) -> (u8, Vec<u8>, u32, State) {
     let mut sim = Sim::of(s);
-    match sim.joined(r).expect("JN or SU") {
-        Ok(t) => (0, t.bytes(), sim.leave(s)),
+    let done = sim.joined(r).expect("a join");
+    let links = sim.links;
+    match done {
+        Ok(t) => (0, t.bytes(), links, sim.leave(s)),
         // all bindings and marks are put back; variables stay taken
-        Err(stop) => (stop.number() as u8, stop.payload(), State { next_var: sim.used.vars as u64, ..s.clone() }),
+        Err(stop) => {
+            (stop.number() as u8, stop.payload(), links, State { next_var: sim.used.vars as u64, ..s.clone() })
+        }
     }
 }
 

@@ -134,6 +134,8 @@ pub struct Maker {
     expand: Chance,
     /// for MJ between them, likewise. None: never, since what refuses a pair is not core.rs's
     many: Option<Chance>,
+    /// for JL in the place of JN and UL in that of UF, likewise. None: in no place
+    linked: Option<Chance>,
     pub profile: Profile,
     marks: Marks,
     /// locations are 1, 2, 3 .., or for some jobs any number
@@ -164,6 +166,7 @@ impl Maker {
             spelled: Chance(chance.0.rotate_left(32)),
             expand: Chance(chance.0.rotate_left(16)),
             many: Some(Chance(chance.0.rotate_left(48))),
+            linked: Some(Chance((!chance.0).rotate_left(16))),
             profile,
             marks: chance.weighted(&[(45, Marks::None), (40, Marks::Primitives), (15, Marks::Mixed)]),
             locs: 0,
@@ -177,6 +180,13 @@ impl Maker {
             vars: 0,
             params: vec![],
             chance,
+        }
+    }
+
+    /// with `cut`: no record whose answer core.rs alone does not give
+    fn answered_by_core(&mut self, cut: bool) {
+        if cut {
+            (self.twice, self.many, self.linked) = (None, None, None)
         }
     }
 
@@ -441,9 +451,15 @@ impl Maker {
                 let Kind::Var(v) = self.var() else { unreachable!() };
                 Record::SN(v, self.loc())
             }
-            "JN" => self.pair_of(Record::JN),
+            "JN" => {
+                let mark = if self.counts() { Record::JL } else { Record::JN };
+                self.pair_of(mark)
+            }
             "SU" => self.pair_of(Record::SU),
-            "UF" => Record::UF(self.var_or_type()),
+            "UF" => {
+                let mark = if self.counts() { Record::UL } else { Record::UF };
+                mark(self.var_or_type())
+            }
             "RD" => {
                 let t = self.var_or_type();
                 self.read(t)
@@ -532,6 +548,11 @@ impl Maker {
     fn pair_of(&mut self, mark: fn(Ty, Ty) -> Record) -> Record {
         let (a, b) = self.pair();
         mark(a, b)
+    }
+
+    /// whether the next JN or UF counts its links
+    fn counts(&mut self) -> bool {
+        self.linked.as_mut().is_some_and(|own| own.percent(40))
     }
 
     /// RD, or as often CN
@@ -625,7 +646,7 @@ pub fn random(seed: u64, index: u64, records: usize, profile: Option<Profile>, c
         Some(profile) => m.of_profile(profile),
         None => m,
     };
-    (m.twice, m.many) = (m.twice.filter(|_| !cut), m.many.filter(|_| !cut));
+    m.answered_by_core(cut);
     let mut g = Growing::new(format!("random-{}-{}-{:?}", seed, index, m.profile).to_lowercase(), cut);
     g.grow(&mut m, 0..records);
     g.made
@@ -727,8 +748,8 @@ pub fn exhaustive(index: usize, cut: bool) -> Option<Made> {
 /// length, or the depth of a join.
 pub fn limits(seed: u64, index: u64, cut: bool) -> Made {
     let mut m = Maker::new(Chance::new(seed ^ 0x6c69_6d69_7473, index));
-    m.twice = m.twice.filter(|_| !cut);
-    let kinds = ["variables", "constraints", "structs", "nesting", "length", "depth", "payload"];
+    m.answered_by_core(cut);
+    let kinds = ["variables", "constraints", "structs", "nesting", "length", "depth", "payload", "links"];
     let kind = kinds[index as usize % kinds.len()];
     let mut g = Growing::new(format!("limits-{}-{}-{}", seed, index, kind), cut);
     let near = m.chance.below(6);
@@ -737,6 +758,7 @@ pub fn limits(seed: u64, index: u64, cut: bool) -> Made {
         "constraints" => g.add_all((0..512 - near as u32).map(|i| Record::BC(i, bare(Kind::Unit)))),
         "structs" => g.add_all((0..256 - near % 3).map(|i| Record::SD((i % 16) as u8, vec![]))),
         "depth" => chains(&mut g, 121 + near),
+        "links" => one_end(&mut g, 290 + 10 * near),
         _ => g.add_all((0..3).map(Record::FV)),
     }
     for n in 10..20 {
@@ -748,6 +770,7 @@ pub fn limits(seed: u64, index: u64, cut: bool) -> Made {
                 Record::JN(m.dressed(a), m.dressed(b))
             }
             "length" if n % 2 == 0 => m.long_join(4096 - near),
+            "links" if n % 2 == 0 => m.over_chains(vars),
             "payload" if n < 14 => m.doubling(n as u16 - 10),
             "payload" if n < 17 => m.read(bare(Kind::Var(0))),
             _ => m.record(n, vars, &params),
@@ -760,6 +783,12 @@ pub fn limits(seed: u64, index: u64, cut: bool) -> Made {
         }
     }
     g.made
+}
+
+/// two chains with one end, of n links; many leave few nodes
+fn one_end(g: &mut Growing, n: usize) {
+    g.add_all((0..3).map(Record::FV));
+    g.add_all((0..n).map(|_| Record::JN(v(0), v(1))))
 }
 
 /// two chains V0 = vector<V2> = .. and V1 = vector<V3> = .. of n vectors
@@ -866,6 +895,20 @@ impl Maker {
         };
         self.vars = self.vars.max(3);
         Record::JN(side(self), side(self))
+    }
+
+    /// JL of two lists of variables of chains, or UL of one
+    fn over_chains(&mut self, vars: usize) -> Record {
+        self.vars = vars;
+        let n = 1 + self.chance.below(8);
+        let side = |m: &mut Maker| {
+            let parts = (0..n).map(|_| bare(Kind::Var(m.chance.one(&[0, 1, 2, vars as u16 / 2])))).collect();
+            m.dressed(bare(Kind::List(0, parts)))
+        };
+        match self.chance.below(4) {
+            0 => Record::UL(v(self.chance.below(vars) as u16)),
+            _ => Record::JL(side(self), side(self)),
+        }
     }
 
     /// V0 = (V1, V1, ..), V1 = (V2, V2, ..): each step makes the whole type larger

@@ -8,8 +8,11 @@
 //! A literal's need (02, R-7) stands beside core.rs's map. In a job that has one, JN, SU and SV's numeric step are answered
 //! by 02's rules on trees (`count`), whose answer without the needs must be core.rs's; and the integer types that core.rs
 //! has not are structs without parameters in its map, which is all that it asks of them but in `NC`.
+//!
+//! Of JL and UL (02, R-9) all but the last four bytes is core.rs's. UL's links are counted along its bindings; JL's by
+//! `count`, whose answer and state must be core.rs's.
 use crate::{
-    count::{joined, needs, settled},
+    count::{joined, needs, settled, tail},
     diagnostics::{
         codes::{AbilitySafety, Code, TypeSafety},
         Diagnostic,
@@ -524,10 +527,15 @@ impl Job {
                 self.needs.insert(self.known.vars as u16, *bits);
             }
             Record::SN(v, loc) => self.ctx.subst.set_num_var(nprobe::tvar(*v as u64), Loc::of(*loc)),
-            Record::JN(..) | Record::SU(..) if !self.needs.is_empty() => return self.joined(r),
+            Record::JN(..) | Record::SU(..) | Record::JL(..) if !self.needs.is_empty() => return self.joined(r),
             Record::JN(a, b) => return Ok(self.join(core::join, a, b)),
             Record::SU(a, b) => return Ok(self.join(core::subtype, a, b)),
+            Record::JL(a, b) => return self.join_links(r, a, b),
             Record::UF(t) => put(&mut out, core::unfold_type(&self.ctx.subst, type_in(t))),
+            Record::UL(t) => {
+                put(&mut out, core::unfold_type(&self.ctx.subst, type_in(t)));
+                out.extend(self.links(&t.kind).to_le_bytes())
+            }
             Record::RD(t) => {
                 let t = type_in(t);
                 self.readable(&t)?;
@@ -608,18 +616,49 @@ impl Job {
         }
     }
 
-    /// JN and SU where literals need bits: by 02's rules on trees, which without needs must be core.rs.
+    /// how many of core.rs's bindings lead from variable to variable
+    fn links(&self, of: &Kind) -> u32 {
+        let bindings: HashMap<_, _> = cprobe::bindings(&self.ctx.subst).into_iter().collect();
+        let variable = |t: &Type| if let Type_::Var(v) = t.value { Some(v) } else { None };
+        let first = if let Kind::Var(v) = of { Some(nprobe::tvar(*v as u64)) } else { None };
+        let chain = std::iter::successors(first, |v| bindings.get(v).and_then(variable));
+        chain.skip(1).count() as u32
+    }
+
+    /// JL: core.rs's join, and the links by 02's rules on trees; where these meet a limit, that is the answer.
+    fn join_links(&mut self, r: &Record, a: &Ty, b: &Ty) -> Answer {
+        let before = self.state();
+        let core = self.join(core::join, a, b);
+        let (number, said, links, after) = joined(&before, r);
+        if number > 4 {
+            return Err(Outcome::Refused(number, "by 02's rules on trees".into()));
+        }
+        let left = State { next_var: Counter::peek(), ..self.state() };
+        assert!(core == (number, said.clone()), "driver: core.rs gives {:?}, and by 02's rules it is {}", core, number);
+        assert!(left == after, "driver: core.rs leaves {}", state_text(&left));
+        Ok((number, [said, tail(r, links)].concat()))
+    }
+
+    /// A record's outcome, all left as it was. It declares nothing and adds no constraint.
+    pub fn aside(&mut self, r: &Record) -> Outcome {
+        let (subst, known, needs) = (self.ctx.subst.clone(), self.known.clone(), self.needs.clone());
+        let outcome = self.record(r);
+        (self.ctx.subst, self.known, self.needs) = (subst, known, needs);
+        outcome
+    }
+
+    /// Joins where literals need bits: by 02's rules on trees, which without needs must be core.rs.
     fn joined(&mut self, r: &Record) -> Answer {
         let s = self.state();
         self.held_to_core(&s, r);
-        let (number, payload, after) = joined(&s, r);
+        let (number, payload, links, after) = joined(&s, r);
         Counter::set(after.next_var);
         match number {
             0 => self.hold(&after),
             1..=4 => (),
             n => return Err(Outcome::Refused(n, "by 02's rules on trees".into())),
         }
-        Ok((number, payload))
+        Ok((number, [payload, tail(r, links)].concat()))
     }
 
     /// where core.rs has every type
@@ -627,8 +666,8 @@ impl Job {
         if s.has_wider() || r.types().into_iter().any(is_wider) {
             return;
         }
-        let (number, payload, after) = joined(&State { needs: vec![], ..s.clone() }, r);
-        let (Record::JN(a, b) | Record::SU(a, b)) = r else { return };
+        let (number, payload, _, after) = joined(&State { needs: vec![], ..s.clone() }, r);
+        let (Record::JN(a, b) | Record::SU(a, b) | Record::JL(a, b)) = r else { return };
         if number <= 4 {
             let vars = Counter::peek();
             let core = self.join(if matches!(r, Record::SU(..)) { core::subtype } else { core::join }, a, b);

@@ -164,11 +164,16 @@ impl<'a> View<'a> {
 
 impl View<'_> {
     /// where a variable's chain ends
-    pub fn end(&self, mut v: usize) -> usize {
-        while let Some([6, _, next, ..]) = self.binding(v).map(|n| self.node(n)) {
-            v = next as usize
-        }
-        v
+    pub fn end(&self, v: usize) -> usize {
+        self.chain(v).last().unwrap_or(v)
+    }
+    /// the variable, the one that it is bound to, and so on
+    pub fn chain(&self, v: usize) -> impl Iterator<Item = usize> + '_ {
+        let next = |v: &usize| match self.binding(*v).map(|n| self.node(n)) {
+            Some([6, _, next, ..]) => Some(next as usize),
+            _ => None,
+        };
+        std::iter::successors(Some(v), next)
     }
 
     /// No variable of `before` loses its mark, and no need sinks, its own or its chain end's.

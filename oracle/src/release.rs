@@ -52,7 +52,7 @@ const fn rows(codes: &'static [u8], records: fn(&Words) -> String) -> Fault {
 }
 
 /// every answer but 15, which no job from a fresh state has, and every code
-const FAULTS: [Fault; 40] = [
+const FAULTS: [Fault; 42] = [
     fault(1, |w| w.put("SU &T, &mut T")),
     fault(1, |w| w.put("SU (U, &vector<T>), (U, &mut vector<T>)")),
     fault(2, |w| w.put("JN vector<T>, vector<U>")),
@@ -60,6 +60,8 @@ const FAULTS: [Fault; 40] = [
     fault(3, |w| w.put("JN (T, U), (T,)")),
     fault(3, |w| w.put("SU (T, U), (T, U, T)")),
     fault(4, |w| w.put("FV\nJN V0, (vector<V0>, T)")),
+    fault(2, |w| w.put("FV\nFV\nJN V0, V1\nJL (V0, T), (V1, U)")),
+    fault(4, |w| w.put("FV\nJL V0, (vector<V0>, T)")),
     // a pair's number stands for the answer's
     fault(1, |w| w.put("MJ join T, T; subtype &T, &mut T")),
     fault(2, |w| w.put("FV\nMJ join V0, T; join V0, U; join U, U")),

@@ -144,11 +144,11 @@ fn lower(t: &mut Ty, above: u16) {
 
 fn types_of(r: &mut Record) -> Vec<&mut Ty> {
     match r {
-        Record::JN(a, b) | Record::SU(a, b) => vec![a, b],
+        Record::JN(a, b) | Record::SU(a, b) | Record::JL(a, b) => vec![a, b],
         Record::MJ(pairs) => pairs.iter_mut().flat_map(|(_, a, b)| [a, b]).collect(),
         Record::TS(args, t) => args.iter_mut().map(|(_, t)| t).chain([t]).collect(),
         Record::UF(t) | Record::RD(t) | Record::CN(t) | Record::IN(t) => vec![t],
-        Record::RM(t) | Record::XP(t) => vec![t],
+        Record::RM(t) | Record::XP(t) | Record::UL(t) => vec![t],
         Record::NC(_, _, t) | Record::BC(_, t) | Record::SC(_, t) => vec![t],
         _ => vec![],
     }

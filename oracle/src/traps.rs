@@ -180,6 +180,40 @@ fn tower(calls: &dyn Calls, closed: bool) -> Lent {
     lender.lent()
 }
 
+/// V0 and V1 are such towers, V0 on V2 and so on, V1 on V3
+fn towers(calls: &dyn Calls) -> Lent {
+    let list = |part: &str| format!("({})", [part; 8].join(", "));
+    let part = |v: usize| if v < 58 { format!("V{}", v + 2) } else { "u8".into() };
+    let joins: String = (0..60).map(|v| format!("JN V{}, {}\n", v, list(&part(v)))).collect();
+    let stream = assemble(&("FV\n".repeat(60) + &joins), true).unwrap();
+    let mut lender = Lender::new(calls, &fresh());
+    let (number, lines, _) = lender.job(&stream, false, 1 << 20, 0).unwrap();
+    assert_eq!((number, lines.index), (0, 120));
+    lender.lent()
+}
+
+/// how many links V8's chain has in `linked`
+pub const LINKED: usize = 480;
+
+/// V8 is bound to V9, V9 to V10 and so on. V0 is a list of lists of eight, three deep, whose ends are all V8; V2 such a list
+/// of V9. Their join merges each of 512 ends, and the chain is a link longer each time.
+pub fn linked() -> Lent {
+    let mut s = fresh();
+    (0..LINKED + 9).for_each(|_| assert!(s.add_var().is_some()));
+    for v in 8..LINKED + 8 {
+        let next = s.add_node(6, 0, v as u32 + 1, 0, &[]).unwrap();
+        s.bind(v, next)
+    }
+    let unit = s.add_node(0, 0, 0, 0, &[]).unwrap();
+    s.bind(LINKED + 8, unit);
+    for (v, end) in [(0, 8), (2, 9)] {
+        let end = s.add_node(6, 0, end, 0, &[]).unwrap();
+        let top = rungs(&mut s, end, 3);
+        s.bind(v, top)
+    }
+    s
+}
+
 /// V0 is bound to V2, V2 to V4 and so on, V1 to V3 and so on: two chains through all variables
 fn chains() -> Lent {
     let mut s = fresh();
@@ -251,9 +285,10 @@ fn literals() -> Lent {
 
 //---- records ------------------------------------------------------------------------------------------------
 
-const RECORDS: [&str; 26] = [
+const RECORDS: [&str; 31] = [
     "UF V0",
     "UF (V0, V0)",
+    "UL V0",
     "RD V0",
     "RD (V0, V2, V0)",
     "CN V0",
@@ -267,6 +302,10 @@ const RECORDS: [&str; 26] = [
     "JN V0, V0",
     "JN V1, V0",
     "JN V0, V1",
+    "JL V0, V1",
+    "JL V0, V2",
+    "JL (V0, V0), (V2, V4)",
+    "JL (V0, V1), (V1, V0)",
     "JN V1, vector<V0>",
     "JN V4, (V0, V0)",
     "JN (V0, V0), (V2, V4)",
@@ -445,6 +484,8 @@ pub fn run(calls: &(dyn Calls + Sync)) -> Vec<Line> {
         ("turns", turns()),
         ("tower", tower(calls, false)),
         ("circle", tower(calls, true)),
+        ("towers", towers(calls)),
+        ("linked", linked()),
         ("chains", chains()),
         ("chain", chain()),
         ("leaning", leaning(|s| s.add_node(3, 4, 0, 2, &[]).unwrap())),

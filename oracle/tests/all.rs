@@ -111,6 +111,36 @@ fn pairs() {
     assert!(log.ends_with("\n1024 7\n") && log.contains("070000"), "{}", log.lines().nth(1023).unwrap())
 }
 
+/// 02's R-9, its worked values: of each job the last answers, the links by the driver
+#[test]
+fn links() {
+    for (job, wanted) in [
+        (
+            "FV\nFV\nFV\nJL V0, V1\nJL V1, V2\nUL V0\nJL V0, bool\nJL V2, u8\nUL V0",
+            &[
+                "0 0600000000030000000000",
+                "0 0600000000040001000000",
+                "0 070000000002000000",
+                "0 0600000000060002000000",
+                "2 030000000000060300000000000202000000",
+                "0 0300000000000603000000",
+            ][..],
+        ),
+        ("FV\nFV\nJN V0, V1\nJL (V0, V0), (V1, V1)", &["0 0400000000000206000000000300060000000004000 6000000"]),
+        ("FV\nFV\nJN V0, vector<V1>\nJN V1, vector<V0>\nJL V0, V1", &["4 0000000002000000"]),
+        (
+            "JL u8, u8\nUL (u8, _)\nJL u8, u8{drop}",
+            &["0 0300000000000200000000", "0 040000000000020300000000000207000000 0000000000", "10"],
+        ),
+    ] {
+        let log = log(&assemble(job, false).unwrap());
+        let answers: Vec<_> = log.lines().map(|l| l.split_once(' ').unwrap().1).collect();
+        let wanted: Vec<_> =
+            wanted.iter().map(|w| w.split_at(2)).map(|(n, p)| n.to_string() + &p.replace(' ', "")).collect();
+        assert_eq!(answers[answers.len() - wanted.len()..], wanted, "{}", job)
+    }
+}
+
 /// 02's R-1: core.rs's failures of code 4 with ability, type and rule; 9 and 16 by the driver, in list order
 #[test]
 fn abilities_on_the_log() {
@@ -294,10 +324,14 @@ fn every_mark_and_answer_is_made() {
     let entries: Vec<_> = with_stack(|| made().iter().map(list::entry).collect());
     let counts = list::counts(&entries);
     let marks: BTreeSet<_> = counts.keys().map(|(m, _)| m.as_str()).collect();
-    let all = ["BC", "CN", "FV", "IN", "JN", "MJ", "NC", "NV", "RD", "SC", "SD", "SN", "SU", "SV", "TS", "UF", "XP"];
+    let all = [
+        "BC", "CN", "FV", "IN", "JL", "JN", "MJ", "NC", "NV", "RD", "SC", "SD", "SN", "SU", "SV", "TS", "UF", "UL",
+        "XP",
+    ];
     assert_eq!(marks.into_iter().collect::<Vec<_>>(), all);
     for n in [0, 2, 3, 4] {
-        assert!(counts[&("JN".to_string(), n)] > 20, "JN {}", n)
+        assert!(counts[&("JN".to_string(), n)] > 20, "JN {}", n);
+        assert!(counts[&("JL".to_string(), n)] > 20, "JL {}", n)
     }
     for n in 0..5 {
         assert!(counts[&("SU".to_string(), n)] > 20, "SU {}", n)

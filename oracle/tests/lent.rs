@@ -267,8 +267,101 @@ fn altered_answers_are_found_and_shrunk() {
                 assert!(compare::disagrees(&altered, &small.start, &small.stream).is_some());
                 assert!(compare::disagrees(calls, &small.start, &small.stream).is_none());
                 let text = disassemble(&small.stream);
-                assert!(text.lines().count() <= 3 && small.stream.len() <= 42, "{:?}: {}", alter, text)
+                // what makes a chain cannot be left out, and IN makes some
+                let small = text.lines().count() <= 3 && small.stream.len() <= 42;
+                assert!(small || alter == Alter::Left, "{:?}: {}", alter, text)
             }
+        }
+    })
+}
+
+//---- links (02, R-9) -----------------------------------------------------------------------------------------------
+
+fn number_of_links(answer: &[u8]) -> u32 {
+    u32::from_le_bytes(*answer.last_chunk().unwrap())
+}
+
+/// V0 is bound to V1, V1 to V2 and so on, and the last is open
+fn chain(vars: u32) -> Lent {
+    let mut s = fresh();
+    (0..vars).for_each(|_| assert!(s.add_var().is_some()));
+    for v in 1..vars {
+        let next = s.add_node(6, 0, v, 0, &[]).unwrap();
+        s.bind(v as usize - 1, next)
+    }
+    s
+}
+
+/// a chain as long as there may be, one variable less, and a sum that no u16 holds
+#[test]
+fn the_longest_chains() {
+    with_stack(|| {
+        for calls in all() {
+            let answer = |lent: &Lent, text: &str| {
+                let answer = Lender::new(calls, lent).record(&assemble(text, false).unwrap(), MIN_ANSWER).unwrap();
+                (answer.number, answer.payload.last_chunk().map_or(0, |n| u32::from_le_bytes(*n)))
+            };
+            let (full, one) = (chain(1024), chain(1023));
+            assert_eq!(answer(&full, "UL V0"), (0, 1023));
+            assert_eq!((answer(&full, "UL V1022"), answer(&full, "UL V1023")), ((0, 1), (0, 0)));
+            assert_eq!((answer(&full, "UL (V0, V0)"), answer(&full, "UL &V0")), ((0, 0), (0, 0)));
+            // a merge wants a variable, whatever it would have counted
+            assert_eq!((answer(&full, "JL V0, V1"), answer(&full, "JL V0, u8")), ((7, 0), (7, 0)));
+            assert_eq!((answer(&full, "JL V1023, u8"), answer(&full, "JL V0, V0")), ((0, 0), (0, 0)));
+            assert_eq!((answer(&one, "JL V0, V1"), answer(&one, "JL V0, V1022")), ((0, 1022 + 1021), (0, 1022)));
+            // the second merge finds none left
+            assert_eq!(answer(&one, "JL (V0, V0), (V1, V1)").0, 7);
+            let (ends, links) = (512, traps::LINKED as u32);
+            let sum = ends * (2 * links - 1) + ends * (ends - 1);
+            assert_eq!(answer(&traps::linked(), "JL V0, V2"), (0, sum));
+            assert!(sum > 10 * 65_535)
+        }
+    })
+}
+
+/// a type of so many bytes, 16 or more
+fn long(bytes: usize) -> String {
+    let few =
+        [(5, "()"), (7, "u8"), (10, "P7"), (11, "&()"), (12, "vector<()>"), (13, "&u8"), (16, "&P7"), (22, "((), P7)")];
+    match few.iter().find(|(n, _)| *n == bytes) {
+        Some((_, text)) => text.to_string(),
+        None if bytes < 7 + 8 * 16 => format!("vector<{}>", long(bytes - 7)),
+        None => {
+            let (each, rest) = ((bytes - 7) / 8, (bytes - 7) % 8);
+            format!("({}, {})", vec![long(each); 7].join(", "), long(each + rest))
+        }
+    }
+}
+
+/// 02's 14: a payload of 4,092 bytes has room for the number, one of 4,093 has none
+#[test]
+fn links_count_towards_the_longest_answer() {
+    with_stack(|| {
+        for calls in all() {
+            let state = after(&format!("FV\nFV\nFV\nJN V0, {}\nJN V1, vector<()>\nJN V2, &u8", long(4080)));
+            let answer = |text: &str| {
+                let record = assemble(text, false).unwrap();
+                let answer = Lender::new(calls, &state).record(&record, MIN_ANSWER).unwrap();
+                (answer.number, answer.payload.len())
+            };
+            for (plain, counted, short, long) in [
+                ("UF", "UL", long(4092), long(4093)),
+                ("JN", "JL", "V0, V1".into(), "V0, V2".into()),
+                ("JN", "JL", format!("{}, vector<()>", long(4080)), format!("{}, &u8", long(4080))),
+            ] {
+                let number = if plain == "UF" { 0 } else { 2 };
+                assert_eq!(answer(&format!("{} {}", plain, short)), (number, 4092));
+                assert_eq!(answer(&format!("{} {}", counted, short)), (number, 4096));
+                assert_eq!(answer(&format!("{} {}", plain, long)), (number, 4093));
+                assert_eq!(answer(&format!("{} {}", counted, long)), (14, 0))
+            }
+            // what joins is at least five bytes shorter than its operands, and a record has 4,096
+            assert_eq!(answer(&format!("JL {}, _", long(4089))), (0, 4093));
+            // 4 has its location and the number
+            let circle = after("FV\nFV\nJN V0, vector<V1>\nJN V1, vector<V0>");
+            let answer =
+                Lender::new(calls, &circle).record(&assemble("JL V0, V1", false).unwrap(), MIN_ANSWER).unwrap();
+            assert_eq!((answer.number, answer.payload.len(), number_of_links(&answer.payload)), (4, 8, 2))
         }
     })
 }
@@ -360,6 +453,13 @@ fn wider() -> Lent {
     s
 }
 
+/// V0 and V1 are bound to V2
+fn merged() -> Lent {
+    after("FV\nFV\nFV\nJN V0, V1")
+}
+/// JL of V2, which is open, and V0
+const JOINED: &[u8] = b"JL\x06\0\0\0\0\x02\0\x06\0\0\0\0\0\0";
+
 #[test]
 fn damage_is_answered_as_it_must_be() {
     with_stack(|| {
@@ -397,9 +497,11 @@ enum Careless {
     ShortLog,
     /// each pair in the state that the record began with
     FromTheStart,
+    LinkTooMany,
+    LeftChainAlone,
 }
 
-const CARELESS: [Careless; 16] = [
+const CARELESS: [Careless; 18] = [
     Careless::PastAnswer,
     Careless::BesideWords,
     Careless::TakesUnsound,
@@ -416,6 +518,8 @@ const CARELESS: [Careless; 16] = [
     Careless::LongForOne,
     Careless::ShortLog,
     Careless::FromTheStart,
+    Careless::LinkTooMany,
+    Careless::LeftChainAlone,
 ];
 
 fn read_as_wider(lent: &Lent, record: &[u8]) -> bool {
@@ -494,6 +598,14 @@ impl Calls for Careless {
             (Careless::FiveForSix, 6) | (Careless::FiveForDoubled, 18) => 5,
             (Careless::WiderUnread, 0) if read_as_wider(&lent, r) => 5,
             (Careless::WiderUnsound, 0) if !job_of(lent.view()).has_state() => 15,
+            (Careless::LinkTooMany, n @ 0..=4) => {
+                compare::a_link_more(r, &mut a[..*length as usize]);
+                n
+            }
+            (Careless::LeftChainAlone, n @ 0..=4) => {
+                compare::left_alone(lent.view(), r, &mut a[..*length as usize]);
+                n
+            }
             (_, n) => n,
         }
     }
@@ -527,6 +639,7 @@ fn careless_calls_are_found() {
             let found = damage::records(careless, 61, 20, &mut tally)
                 .and_then(|_| damage::wild(careless, 42, 6, &mut tally))
                 .and_then(|_| damage::lend(&mut Lender::new(careless, &wider()), b"SV", MIN_ANSWER, &mut tally))
+                .and_then(|_| damage::lend(&mut Lender::new(careless, &merged()), JOINED, MIN_ANSWER, &mut tally))
                 .and_then(|_| many::edges(careless).map(drop));
             assert!(found.is_err(), "fault {}", i)
         }

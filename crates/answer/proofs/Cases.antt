@@ -4,11 +4,11 @@ use mathlib.Core.Bool.{Bool, true, false}
 use mathlib.Core.List.{List, []}
 use Prim.Native.Nat.{ℕ, ◌≤◌, ◌<◌}
 use lib.ListN.{length}
-use Rattle.std.specs.Prelude.{if◌then◌else◌, Ok, Err}
+use Rattle.std.specs.Prelude.{Option, if◌then◌else◌, Ok, Err}
 use Rattle.definition.specs.Types.{State, Struct, Result, ok, err, refused, ◌>>=◌, TypingError, answer_too_long}
 use Rattle.definition.specs.Write.{Bytes, write_error}
 use Rattle.definition.specs.Step as step
-use Rattle.definition.specs.Step.{answer, answer_with, answer_within, max_payload, refusal, put_back, number_of_error}
+use Rattle.definition.specs.Step.{answer, answer_with, answer_within, behind, max_payload, refusal, put_back, number_of_error}
 use Rattle.theorems.specs.ReadySpelled.{with_state}
 use Rattle.ready.specs.Spell.{Spells, spelt, too_long, stopped}
 use Rattle.refusals.specs.Refusals.{refusal_of}
@@ -20,7 +20,7 @@ use Rattle.refusals.specs.declared.Refusal.{Refusal}
 use Rattle.snapshot.specs.Snap.{Rows, PutBack, Undone}
 use Rattle.table.specs.Touched.{Stay}
 use Rattle.writer.specs.Bytes.{Wrote}
-use Rattle.payload.specs.Payload.{shown}
+use Rattle.payload.specs.Payload.{shown, tail_bytes}
 use Rattle.answer.specs.Ran.{ran, told_by, answered, success, failure, refused_by, Answers}
 use Rattle.payload.specs.declared.Show.{Show}
 use Rattle.answer.specs.declared.Ran.{Ran}
@@ -29,32 +29,35 @@ use Rattle.answer.proofs.Settling.{answer_long, answers_is, success_with, failur
 
 module _ (w : List ℕ) (u before : Used) (saved : Rows) (buf : List ℕ) where
   -- a success
-  module _ (kept : Bool) (show : Show) (t : ℕ) where
+  module _ (kept : Bool) (show : Show) (t : ℕ) (tail : Option ℕ) where
     abbrev state : State → State → State
     state after before = if kept then after else before
 
-    pub success_long : (w' buf' : List ℕ) (r : Answer) → ((ds : List Struct) → 4096 < length (shown show t (seen w u ds))) → Answers w u before saved buf w' buf' r (refused_by answer_too_long) → Answers w u before saved buf w' buf' r (success kept show t)
-    success_long w' buf' r h a = long w u before saved (success kept show t) 0 (shown show t) state (success_with kept show t) w' buf buf' r h a
+    abbrev pub tells : State → Bytes
+    tells s = behind (tail_bytes tail) (shown show t s)
 
-    module _ (buf' : List ℕ) (len : ℕ) (fits : (ds : List Struct) → length (shown show t (seen w u ds)) ≤ 4096) (wrote : (ds : List Struct) → Wrote buf 0 (shown show t (seen w u ds)) buf' len) where
-      pub success_kept : kept ≡ true → Lay w u → Answers w u before saved buf w buf' (record { number = 0; len = len; used = u; kept = true }) (success kept show t)
-      success_kept e lay = keeps w u before saved (success kept show t) 0 (shown show t) state (success_with kept show t) w buf buf' len fits wrote refl lay (λ a b. rw e)
+    pub success_long : (w' buf' : List ℕ) (r : Answer) → ((ds : List Struct) → 4096 < length (tells (seen w u ds))) → Answers w u before saved buf w' buf' r (refused_by answer_too_long) → Answers w u before saved buf w' buf' r (success kept show t tail)
+    success_long w' buf' r h a = long w u before saved (success kept show t tail) 0 tells state (success_with kept show t tail) w' buf buf' r h a
 
-      pub success_back : (w' : List ℕ) → kept ≡ false → Undone w u w' before saved × Stay saved.touched before.vars w w' → Answers w u before saved buf w' buf' (record { number = 0; len = len; used = before; kept = false }) (success kept show t)
-      success_back w' e back = goes_back w u before saved (success kept show t) 0 (shown show t) state (success_with kept show t) w' buf buf' len fits wrote back (λ a b. rw e)
+    module _ (buf' : List ℕ) (len : ℕ) (fits : (ds : List Struct) → length (tells (seen w u ds)) ≤ 4096) (wrote : (ds : List Struct) → Wrote buf 0 (tells (seen w u ds)) buf' len) where
+      pub success_kept : kept ≡ true → Lay w u → Answers w u before saved buf w buf' (record { number = 0; len = len; used = u; kept = true }) (success kept show t tail)
+      success_kept e lay = keeps w u before saved (success kept show t tail) 0 tells state (success_with kept show t tail) w buf buf' len fits wrote refl lay (λ a b. rw e)
+
+      pub success_back : (w' : List ℕ) → kept ≡ false → Undone w u w' before saved × Stay saved.touched before.vars w w' → Answers w u before saved buf w' buf' (record { number = 0; len = len; used = before; kept = false }) (success kept show t tail)
+      success_back w' e back = goes_back w u before saved (success kept show t tail) 0 tells state (success_with kept show t tail) w' buf buf' len fits wrote back (λ a b. rw e)
 
   -- an error
-  module _ (show : Show) (e : TypingError) (number : ℕ) (numbered : number_of_error e ≡ number) (writes : (s : State) → write_error s e ≡ shown show 0 s) where
-    with_shown : (after before : State) → failure e after before ≡ answer_with max_payload before number (shown show 0 after) (put_back before after)
-    with_shown after before = failure_with e after before ∙ rw (numbered, writes after)
+  module _ (show : Show) (e : TypingError) (tail : Option ℕ) (number : ℕ) (numbered : number_of_error e ≡ number) (writes : (s : State) → write_error s e ≡ shown show 0 s) where
+    with_shown : (after before : State) → failure e tail after before ≡ answer_with max_payload before number (behind (tail_bytes tail) (shown show 0 after)) (put_back before after)
+    with_shown after before = failure_with e tail after before ∙ rw (numbered, writes after)
 
-    pub failure_long : (w' buf' : List ℕ) (r : Answer) → ((ds : List Struct) → 4096 < length (shown show 0 (seen w u ds))) → Answers w u before saved buf w' buf' r (refused_by answer_too_long) → Answers w u before saved buf w' buf' r (failure e)
-    failure_long w' buf' r h x = long w u before saved (failure e) number (shown show 0) (λ after before. put_back before after) with_shown w' buf buf' r h x
+    pub failure_long : (w' buf' : List ℕ) (r : Answer) → ((ds : List Struct) → 4096 < length (behind (tail_bytes tail) (shown show 0 (seen w u ds)))) → Answers w u before saved buf w' buf' r (refused_by answer_too_long) → Answers w u before saved buf w' buf' r (failure e tail)
+    failure_long w' buf' r h x = long w u before saved (failure e tail) number (λ s. behind (tail_bytes tail) (shown show 0 s)) (λ after before. put_back before after) with_shown w' buf buf' r h x
 
-    pub failure_fits : (w' buf' : List ℕ) (len : ℕ) → ((ds : List Struct) → length (shown show 0 (seen w u ds)) ≤ 4096) → ((ds : List Struct) → Wrote buf 0 (shown show 0 (seen w u ds)) buf' len) → PutBack w u w' before saved × Stay saved.touched before.vars w w'
-        → Answers w u before saved buf w' buf' (record { number = number; len = len; used = u; kept = true }) (failure e)
+    pub failure_fits : (w' buf' : List ℕ) (len : ℕ) → ((ds : List Struct) → length (behind (tail_bytes tail) (shown show 0 (seen w u ds))) ≤ 4096) → ((ds : List Struct) → Wrote buf 0 (behind (tail_bytes tail) (shown show 0 (seen w u ds))) buf' len) → PutBack w u w' before saved × Stay saved.touched before.vars w w'
+        → Answers w u before saved buf w' buf' (record { number = number; len = len; used = u; kept = true }) (failure e tail)
     failure_fits w' buf' len fits wrote back =
-        puts_back w u before saved (failure e) number (shown show 0) (λ after before. put_back before after) with_shown w' buf buf' len fits wrote back (λ x y. refl)
+        puts_back w u before saved (failure e tail) number (λ s. behind (tail_bytes tail) (shown show 0 s)) (λ after before. put_back before after) with_shown w' buf buf' len fits wrote back (λ x y. refl)
 
 -- ---- a payload that was spelled
 
@@ -68,7 +71,7 @@ module _ {m : Result Bytes} {buf buf' : List ℕ} where
   told_bytes (spelt e l h) = rw e (refl, l, h)
 
   told_refusal : {x : Refusal} → Spells m buf buf' (Err x) → (before : State) → answer before (with_state before m) ≡ refusal before (refusal_of x)
-  unfolding answer answer_within with_state ◌>>=◌
+  unfolding answer answer_within behind with_state ◌>>=◌
   told_refusal (too_long {b = b} e l q) before = rw e (answer_long before 0 b before l)
   told_refusal (stopped e q) before = rw e refl
 
@@ -79,7 +82,7 @@ module _ {m : Result Bytes} {buf buf' : List ℕ} where
 module _ (w : List ℕ) (u before : Used) (saved : Rows) (buf w' buf' : List ℕ) (tell : State → Result Bytes) where
   pub spelled_back : (len : ℕ) → ((ds : List Struct) → Spells (tell (seen w u ds)) buf buf' (Ok len)) → Undone w u w' before saved × Stay saved.touched before.vars w w'
       → Answers w u before saved buf w' buf' (record { number = 0; len = len; used = before; kept = false }) (told_by tell)
-  unfolding answer answer_within with_state ◌>>=◌
+  unfolding answer answer_within behind with_state ◌>>=◌
   spelled_back len h back =
       let bytes : State → Bytes = λ s. bytes_of (tell s) in
       let plain : State → State → step.Answer = λ after s. answer_with max_payload s 0 (bytes after) s in
@@ -92,14 +95,14 @@ module _ (w : List ℕ) (u before : Used) (saved : Rows) (buf w' buf' : List ℕ
 -- ---- what a run left, by its answer
 
 module _ (r : Ran) (after before : State) where
-  pub is_done : (t : ℕ) → r.result ≡ Ok t → answered r after before ≡ success r.kept r.show t after before
+  pub is_done : (t : ℕ) → r.result ≡ Ok t → answered r after before ≡ success r.kept r.show t r.tail after before
   unfolding ran outcome ◌>>=◌
   is_done t e = rw e
 
-  pub is_failed : (x : table.TypingError) → r.result ≡ Err (Failed x) → answered r after before ≡ failure (error_of x) after before
+  pub is_failed : (x : table.TypingError) → r.result ≡ Err (Failed x) → answered r after before ≡ failure (error_of x) r.tail after before
   unfolding ran outcome ◌>>=◌
   is_failed x e = rw e
 
   pub is_refused : (x : Refusal) → r.result ≡ Err (Refused x) → answered r after before ≡ refused_by (refusal_of x) after before
-  unfolding ran outcome ◌>>=◌ answer answer_within
+  unfolding ran outcome ◌>>=◌ answer_within
   is_refused x e = rw e

@@ -6,12 +6,12 @@ use Prim.Native.Nat.{ℕ, ◌≤◌, ◌<◌}
 use native.Mathlib.Omega.{arith}
 use borrow.Author.Tests.{le-leb, lt-leb}
 use lib.ListN.{length}
-use Rattle.std.specs.Prelude.{if◌then◌else◌}
+use Rattle.std.specs.Prelude.{Option, if◌then◌else◌}
 use Rattle.definition.specs.Types.{State, Struct, TypingError, Refusal, answer_too_long}
 use Rattle.definition.specs.Store.{with_structs}
 use Rattle.definition.specs.Write.{Bytes, write_error}
 use Rattle.definition.specs.Step as step
-use Rattle.definition.specs.Step.{answer, answer_with, answer_within, refusal, put_back, max_payload, number_of_error, number_of_refusal}
+use Rattle.definition.specs.Step.{answer_with, answer_within, behind, refusal, put_back, max_payload, number_of_error, number_of_refusal}
 use Rattle.table.specs.State.{view, seen, Lay, Declares}
 use Rattle.table.specs.declared.Used.{Used}
 use Rattle.snapshot.specs.Snap.{Rows, Since, PutBack, GivenBack, Undone}
@@ -20,7 +20,7 @@ use Rattle.table.specs.declared.Touched.{Touched}
 use Rattle.table.specs.declared.Touched.TheVariants.{Nothing}
 use Rattle.snapshot.proofs.Tails.{saved_stood}
 use Rattle.writer.specs.Bytes.{Wrote}
-use Rattle.payload.specs.Payload.{shown}
+use Rattle.payload.specs.Payload.{shown, tail_bytes}
 use Rattle.answer.specs.Ran.{success, failure, refused_by, Still, Answers}
 use Rattle.answer.specs.Answered.{AnswersIn}
 use Rattle.table.specs.Did.{held, Linked}
@@ -41,13 +41,13 @@ pub answer_long : (before : State) (n : ℕ) (p : Bytes) (after : State) → 409
 unfolding answer_with max_payload
 answer_long before n p after h = rw (lt-leb (length p) 4096 h)
 
-pub success_with : (kept : Bool) (show : Show) (t : ℕ) (after before : State) → success kept show t after before ≡ answer_with max_payload before 0 (shown show t after) (if kept then after else before)
-unfolding answer answer_within
-success_with kept show t after before = refl
+pub success_with : (kept : Bool) (show : Show) (t : ℕ) (tail : Option ℕ) (after before : State) → success kept show t tail after before ≡ answer_with max_payload before 0 (behind (tail_bytes tail) (shown show t after)) (if kept then after else before)
+unfolding answer_within
+success_with kept show t tail after before = refl
 
-pub failure_with : (e : TypingError) (after before : State) → failure e after before ≡ answer_with max_payload before (number_of_error e) (write_error after e) (put_back before after)
-unfolding answer answer_within
-failure_with e after before = refl
+pub failure_with : (e : TypingError) (tail : Option ℕ) (after before : State) → failure e tail after before ≡ answer_with max_payload before (number_of_error e) (behind (tail_bytes tail) (write_error after e)) (put_back before after)
+unfolding answer_within
+failure_with e tail after before = refl
 
 -- ---- states
 

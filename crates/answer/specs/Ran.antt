@@ -1,11 +1,11 @@
 -- What a run left, as the definition's result, and what its answer leaves in the words and in the buffer. Assumes nothing: these are definitions.
-use Rattle.std.specs.Prelude.{◌≡◌, Bool, List, ◌++◌, ℕ, ◌≤◌, take, drop, if◌then◌else◌, Ok, Err}
+use Rattle.std.specs.Prelude.{◌≡◌, Bool, List, ◌++◌, ℕ, ◌≤◌, take, drop, Option, if◌then◌else◌, Ok, Err}
 use Rattle.std.specs.Prelude as core
 use Rattle.definition.specs.Types as d
 use Rattle.definition.specs.Types.{State, Struct, Result, ok, err, ◌>>=◌}
 use Rattle.definition.specs.Write.{Bytes}
 use Rattle.definition.specs.Step as step
-use Rattle.definition.specs.Step.{answer, refusal}
+use Rattle.definition.specs.Step.{answer, answer_within, max_payload, refusal}
 use Rattle.theorems.specs.ReadySpelled.{Spelling, spell_ready, with_state}
 use Rattle.table.specs.State.{outcome, seen, Lay, Declares}
 use Rattle.table.specs.Did.{StopIn}
@@ -16,7 +16,7 @@ use Rattle.snapshot.specs.Snap.{Saved, Rows, Since}
 use Rattle.table.specs.Touched.{Stay}
 use Rattle.payload.specs.declared.Answer.{Answer}
 use Rattle.payload.specs.declared.Show.{Show}
-use Rattle.payload.specs.Payload.{shown, Shows}
+use Rattle.payload.specs.Payload.{shown, tail_bytes, Shows}
 use Rattle.answer.specs.declared.Ran.{Ran}
 
 -- ---- what a run left
@@ -41,13 +41,13 @@ Settles (Err (Refused x)) = ⊥
 -- ---- the definition's answers, of the state after a run and of that before it
 
 abbrev pub answered : Ran → State → State → step.Answer
-answered r after before = answer before (ran r after before)
+answered r after before = answer_within max_payload (tail_bytes r.tail) before (ran r after before)
 
-abbrev pub success : Bool → Show → ℕ → State → State → step.Answer
-success kept show t after before = answer before (ok (if kept then after else before, shown show t after))
+abbrev pub success : Bool → Show → ℕ → Option ℕ → State → State → step.Answer
+success kept show t tail after before = answer_within max_payload (tail_bytes tail) before (ok (if kept then after else before, shown show t after))
 
-abbrev pub failure : d.TypingError → State → State → step.Answer
-failure e after before = answer before (err after e)
+abbrev pub failure : d.TypingError → Option ℕ → State → State → step.Answer
+failure e tail after before = answer_within max_payload (tail_bytes tail) before (err after e)
 
 abbrev pub refused_by : d.Refusal → State → State → step.Answer
 refused_by x after before = refusal before x

@@ -4,14 +4,14 @@
 ghost use Rattle.std.specs.Prelude.{◌≡◌, false, List, ℕ, ◌≤◌, ◌<◌, length, Ok};
 ghost use Rattle.definition.specs.Types as d;
 ghost use Rattle.definition.specs.Write.{Bytes, write_error};
-ghost use Rattle.definition.specs.Step.{number_of_error};
+ghost use Rattle.definition.specs.Step.{behind, number_of_error};
 ghost use Rattle.refusals.specs.Refusals.{refusal_of};
 ghost use Rattle.table.specs.State.{error_of, view, seen, Lay, TypesIn};
 ghost use Rattle.table.specs.Did.{held, tables};
 ghost use Rattle.snapshot.specs.Snap.{Above, Since};
 ghost use Rattle.snapshot.specs.Back.{rows_of, GrownFrom};
 ghost use Rattle.writer.specs.Bytes.{AllBytes};
-ghost use Rattle.payload.specs.Payload.{shown, Shows, Paid};
+ghost use Rattle.payload.specs.Payload.{shown, tail_bytes, Shows, Paid};
 ghost use Rattle.canonical.specs.Named.{spelling_of, AllNumbered};
 ghost use Rattle.ready.specs.Spell.{Spells};
 ghost use Rattle.answer.specs.Ran.{Tells, Settles, Still, answered, told_by, spelled_by, success, failure, refused_by, Answers};
@@ -30,6 +30,8 @@ use table::{TypingError, Used};
 pub struct Ran {
     pub result: Result<u32, Stop>,
     pub show: Show,
+    // The count behind what a success or an error shows.
+    pub tail: Option<u32>,
     // Whether a success leaves the state as it is, or as it was at entry: a record that only asks for a type takes nodes to show it.
     // A flag, as payload's Answer has it: result and payload are said either way.
     pub kept: bool,
@@ -38,12 +40,19 @@ pub struct Ran {
 // ---- the answers, by words and counts: whether the words are a state after them hangs on what was saved
 
 // The payload of the state that the words are.
-fn pay(w: &mut [u32], u: Used, show: Show, t: u32, buf: &mut [u8]) -> Option<usize>
+fn pay(
+    w: &mut [u32],
+    u: Used,
+    show: Show,
+    t: u32,
+    tail: Option<u32>,
+    buf: &mut [u8],
+) -> Option<usize>
     requires { Lay w.old u × (Shows u show t × (AllBytes (view w.old u) × (4096 ≤ length buf.old))) }
-    ensures { (w.new ≡ w.old) × ((ds : List d.Struct) → Paid (shown show t (seen w.old u ds)) buf.old buf.new result) }
+    ensures { (w.new ≡ w.old) × ((ds : List d.Struct) → Paid (behind (tail_bytes tail) (shown show t (seen w.old u ds))) buf.old buf.new result) }
 {
     let st = State::new(w, u);
-    write_payload(&st, show, t, buf)
+    write_payload(&st, show, t, tail, buf)
 }
 
 // A refusal: nothing is changed.
@@ -63,14 +72,15 @@ fn succeed(
     kept: bool,
     show: Show,
     t: u32,
+    tail: Option<u32>,
     buf: &mut [u8],
 ) -> Answer
     requires lay { Lay w.old u × Above before.used u }
     requires shows { Shows u show t × (AllBytes (view w.old u) × (4096 ≤ length buf.old)) }
     requires still { kept ≡ false → Still w.old u before.used before.saved.now }
-    ensures { Answers w.old u before.entry.used (rows_of before.entry) buf.old w.new buf.new result (success kept show t) }
+    ensures { Answers w.old u before.entry.used (rows_of before.entry) buf.old w.new buf.new result (success kept show t tail) }
 {
-    let Some(len) = pay(w, u, show, t, buf) else {
+    let Some(len) = pay(w, u, show, t, tail, buf) else {
         return refuse(w, u, before, Refusal::AnswerTooLong);
     };
     if kept {
@@ -87,13 +97,14 @@ fn fail_with(
     before: Before<'_>,
     number: u32,
     show: Show,
+    tail: Option<u32>,
     buf: &mut [u8],
 ) -> Answer
     requires lay { Lay w.old u × Above before.used u }
     requires shows { Shows u show 0 × (AllBytes (view w.old u) × (4096 ≤ length buf.old)) }
-    ensures { (e : d.TypingError) → number_of_error e ≡ number → ((s : d.State) → write_error s e ≡ shown show 0 s) → Answers w.old u before.entry.used (rows_of before.entry) buf.old w.new buf.new result (failure e) }
+    ensures { (e : d.TypingError) → number_of_error e ≡ number → ((s : d.State) → write_error s e ≡ shown show 0 s) → Answers w.old u before.entry.used (rows_of before.entry) buf.old w.new buf.new result (failure e tail) }
 {
-    let Some(len) = pay(w, u, show, 0, buf) else {
+    let Some(len) = pay(w, u, show, 0, tail, buf) else {
         return refuse(w, u, before, Refusal::AnswerTooLong);
     };
     put_vars(w, u, before);
@@ -101,16 +112,31 @@ fn fail_with(
 }
 
 // A typing error: it shows two types, or a location.
-fn fail(w: &mut [u32], u: Used, before: Before<'_>, e: TypingError, buf: &mut [u8]) -> Answer
+fn fail(
+    w: &mut [u32],
+    u: Used,
+    before: Before<'_>,
+    e: TypingError,
+    tail: Option<u32>,
+    buf: &mut [u8],
+) -> Answer
     requires lay { Lay w.old u × Above before.used u }
     requires types_in { TypesIn u.nodes e × (AllBytes (view w.old u) × (4096 ≤ length buf.old)) }
-    ensures { Answers w.old u before.entry.used (rows_of before.entry) buf.old w.new buf.new result (failure (error_of e)) }
+    ensures { Answers w.old u before.entry.used (rows_of before.entry) buf.old w.new buf.new result (failure (error_of e) tail) }
 {
     match e {
-        TypingError::SubtypeError(a, b) => fail_with(w, u, before, 1, Show::Two(a, b), buf),
-        TypingError::Incompatible(a, b) => fail_with(w, u, before, 2, Show::Two(a, b), buf),
-        TypingError::ArityMismatch(a, b) => fail_with(w, u, before, 3, Show::Two(a, b), buf),
-        TypingError::RecursiveType(loc) => fail_with(w, u, before, 4, Show::Location(loc), buf),
+        TypingError::SubtypeError(a, b) => fail_with(w, u, before, 1, Show::Two(a, b), tail, buf),
+        TypingError::Incompatible(a, b) => fail_with(w, u, before, 2, Show::Two(a, b), tail, buf),
+        TypingError::ArityMismatch(a, b) => fail_with(w, u, before, 3, Show::Two(a, b), tail, buf),
+        TypingError::RecursiveType(loc) => fail_with(
+            w,
+            u,
+            before,
+            4,
+            Show::Location(loc),
+            tail,
+            buf,
+        ),
     }
 }
 
@@ -123,8 +149,8 @@ pub fn answer_of(w: &mut [u32], u: Used, before: Before<'_>, ran: Ran, buf: &mut
     ensures { Answers w.old u before.entry.used (rows_of before.entry) buf.old w.new buf.new result (answered ran) }
 {
     match ran.result {
-        Ok(t) => succeed(w, u, before, ran.kept, ran.show, t, buf),
-        Err(Stop::Failed(e)) => fail(w, u, before, e, buf),
+        Ok(t) => succeed(w, u, before, ran.kept, ran.show, t, ran.tail, buf),
+        Err(Stop::Failed(e)) => fail(w, u, before, e, ran.tail, buf),
         Err(Stop::Refused(x)) => refuse(w, u, before, x),
     }
 }

@@ -6,6 +6,7 @@ use Rattle.definition.specs.Store.{loc_of, args_at, with_args, sp}
 use Rattle.definition.specs.Subst.{on_shape}
 use Rattle.definition.specs.Join as j
 use Rattle.definition.specs.Join.{JoinImpl, VarL, VarR, arm, join_arm, join_tvar, join_impl_types}
+use Rattle.definition.specs.Links.{LinksImpl, links_tvar, links_types, links_arm}
 use Rattle.names.specs.Names.{mark_of, name_of}
 use Rattle.table.specs.State.{shape_of, Below}
 use Rattle.table.specs.declared.Shape.{Shape}
@@ -37,6 +38,20 @@ by_arm join_impl subst case lhs rhs ArityMismatch = err subst (d.ArityMismatch l
 by_arm join_impl subst case lhs rhs Incompatible = err subst (d.Incompatible lhs rhs)
 by_arm join_impl subst case lhs rhs Disagree = refused abilities_disagree
 
+-- .. and the links that it follows
+unfoldable pub links_by_arm : JoinImpl → LinksImpl → State → j.TypingCase → ℕ → ℕ → Arm → ℕ
+links_by_arm join_impl links_impl subst case lhs rhs Lhs = 0
+links_by_arm join_impl links_impl subst case lhs rhs Rhs = 0
+links_by_arm join_impl links_impl subst case lhs rhs (Refs left mut t1 t2) = links_impl subst case t1 t2
+links_by_arm join_impl links_impl subst case lhs rhs (Applies a1 a2) = links_types join_impl links_impl subst case (args_at subst (args_of a1)) (args_at subst (args_of a2))
+links_by_arm join_impl links_impl subst case lhs rhs (Vars id1 id2) = links_tvar links_impl subst case (loc_of subst lhs) id1.0 (loc_of subst rhs) id2.0
+links_by_arm join_impl links_impl subst case lhs rhs (VarLhs id) = links_arm join_impl links_impl subst case lhs rhs (VarL id.0)
+links_by_arm join_impl links_impl subst case lhs rhs (VarRhs id) = links_arm join_impl links_impl subst case lhs rhs (VarR id.0)
+links_by_arm join_impl links_impl subst case lhs rhs SubtypeError = 0
+links_by_arm join_impl links_impl subst case lhs rhs ArityMismatch = 0
+links_by_arm join_impl links_impl subst case lhs rhs Incompatible = 0
+links_by_arm join_impl links_impl subst case lhs rhs Disagree = 0
+
 -- the types that an arm goes on to are below n
 abbrev pub ArmBelow : List ℕ → ℕ → Arm → Type 0
 ArmBelow args n Lhs = Unit {0}
@@ -55,6 +70,8 @@ ArmBelow args n Disagree = Unit {0}
 pub record Takes (case : j.TypingCase) (lhs rhs : Shape) (a : Arm) : Type 0 where
   pub is : (join_impl : JoinImpl) (subst : State) (l r : ℕ)
       → join_arm join_impl subst case l r (arm (with_args subst (shape_of lhs)) (with_args subst (shape_of rhs))) ≡ by_arm join_impl subst case l r a
+  pub links : (join_impl : JoinImpl) (links_impl : LinksImpl) (subst : State) (l r : ℕ)
+      → links_arm join_impl links_impl subst case l r (arm (with_args subst (shape_of lhs)) (with_args subst (shape_of rhs))) ≡ links_by_arm join_impl links_impl subst case l r a
   pub below : (args : List ℕ) (n : ℕ) → Below args n (shape_of lhs) → Below args n (shape_of rhs) → ArmBelow args n a
 
 -- the arm of a type that is no variable, `_` or error, beside one of another shape

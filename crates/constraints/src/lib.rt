@@ -98,7 +98,7 @@ fn default_builtin(need: u32) -> u32
 fn default_at(st: &State<'_>, num_var: TVar) -> u32
     ensures { (ds : List d.Struct) → result ≡ default_builtin (need_of (held st.now ds) (forward_tvar (held st.now ds) num_var.0)) }
 {
-    let last = subst::forward_tvar(st, num_var);
+    let last = subst::forward_tvar(st, num_var).tvar;
     default_builtin(st.need_at(last))
 }
 

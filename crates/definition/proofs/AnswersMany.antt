@@ -3,8 +3,8 @@ use Rattle.std.proofs.Common.{◌≡◌, ℕ, List, [], ◌∷◌, ◌++◌, len
 use Rattle.definition.specs.Types.{fresh, ok}
 use Rattle.definition.specs.Write.{Bytes}
 use Rattle.definition.specs.Store.{taken}
-use Rattle.definition.specs.Step.{many as many_pairs, max_many, most_of, answer_with, answer_within}
-use Rattle.definition.specs.Demand.{run_calls, two_types_calls, if_reached, pair_events, nothing_done, many_events, events_by, lent_events, events, trace, point, at}
+use Rattle.definition.specs.Step.{many as many_pairs, max_many, most_of, answer_with, behind, answer_within}
+use Rattle.definition.specs.Demand.{run_calls, two_types_calls, if_reached, pair_events, nothing_done, many_events, one_event, events_by, lent_events, events, trace, point, at}
 use Rattle.definition.specs.Locations.{Part, counts_of, loc_field, u32_field, tag_fields, tag_widths, pair_fields, many_fields, row, pair, many, expand, blank}
 use Rattle.definition.proofs.Computed.{answered, left_by, log_of}
 use Rattle.definition.proofs.Spelling.{hex, text, imm, mut, u8, bool, unit, list, var, joined, FV, UF}
@@ -131,8 +131,8 @@ unfolding log_of
 job_lends_enough = refl
 
 -- ---- the payload's limit is not that of other records
-pub payload_past_4096 : (answer_within (most_of (many_pairs [])) fresh (ok (fresh, replicate 4097 0))).number ≡ 0
-unfolding answer_within most_of max_many answer_with
+pub payload_past_4096 : (answer_within (most_of (many_pairs [])) [] fresh (ok (fresh, replicate 4097 0))).number ≡ 0
+unfolding answer_within behind most_of max_many answer_with
 payload_past_4096 = refl
 
 -- ---- demand 3: each pair has its event
@@ -142,7 +142,7 @@ job = (FV 1, 4096) ∷ (worked, 61485) ∷ (worked, 61484) ∷ []
 
 -- FV, three pairs, and a 15
 unfoldable pub events_of : List (Bytes × ℕ) → ℕ
-unfolding answered two_types_calls if_reached run_calls pair_events nothing_done many_events events_by lent_events events trace
+unfolding answered two_types_calls if_reached run_calls pair_events nothing_done many_events one_event events_by lent_events events trace
 events_of records = length (trace fresh records)
 
 pub pairs_count_as_records : events_of job ≡ 5
@@ -151,7 +151,7 @@ pairs_count_as_records = refl
 
 -- variables taken at each point
 unfoldable pub taken_at : List (Bytes × ℕ) → ℕ → ℕ
-unfolding answered two_types_calls if_reached run_calls pair_events nothing_done many_events events_by lent_events events trace point at
+unfolding answered two_types_calls if_reached run_calls pair_events nothing_done many_events one_event events_by lent_events events trace point at
 taken_at records i = taken (at fresh records i)
 
 pub points_of_pairs : taken_at job 0 ∷ taken_at job 1 ∷ taken_at job 2 ∷ taken_at job 3 ∷ taken_at job 4 ∷ taken_at job 5 ∷ [] ≡ 0 ∷ 1 ∷ 1 ∷ 1 ∷ 3 ∷ 3 ∷ []

@@ -5,6 +5,7 @@ pub mod AnswersOccurs
 pub mod AnswersReading
 pub mod AnswersRecords
 pub mod AnswersMany
+pub mod AnswersLinks
 pub mod AnswersReferences
 pub mod AnswersSolve
 pub mod AnswersSolveAbilities

@@ -81,37 +81,47 @@ blank s [] awaited = []
 blank s (b ∷ bytes) [] = b ∷ bytes
 blank s (b ∷ bytes) (part ∷ awaited) = (expand s part b).0 ∷ blank s bytes ((expand s part b).1 ++ awaited)
 
+-- .. but for the last n bytes, which are no types and no locations
+unfoldable pub blank_before : ℕ → State → Bytes → List Part → Bytes
+blank_before zero s bytes awaited = blank s bytes awaited
+blank_before (suc n) s bytes awaited =
+    let shown = length bytes - suc n in
+    blank s (take shown bytes) awaited ++ drop shown bytes
+
 -- ---- records
--- what stands after each mark, and what 0 shows: SD a number, RM four, CN a type without locations, SV its failures, XP a type and its codes, MJ its pairs, the others types or nothing
-unfoldable pub mark_fields : List (ℕ × ℕ × List Part × List Part)
+-- what stands after each mark, and what 0 shows: SD a number, RM four, CN a type without locations, SV its failures, XP a type and its codes, MJ its pairs, the others types or nothing.
+-- And how many bytes of a count end what 0 to 4 show (R-9)
+unfoldable pub mark_fields : List (ℕ × ℕ × List Part × List Part × ℕ)
 mark_fields =
-    (83, 68, [], []) ∷
-    (70, 86, loc_field, types ∷ []) ∷
-    (78, 86, loc_field, types ∷ []) ∷
-    (83, 78, plain ∷ plain ∷ loc_field, types ∷ []) ∷
-    (74, 78, type ∷ type ∷ [], types ∷ []) ∷
-    (83, 85, type ∷ type ∷ [], types ∷ []) ∷
-    (85, 70, type ∷ [], types ∷ []) ∷
-    (82, 68, type ∷ [], types ∷ []) ∷
-    (84, 83, pairs ∷ [], types ∷ []) ∷
-    (73, 78, type ∷ [], types ∷ []) ∷
-    (78, 67, loc_field ++ (plain ∷ type ∷ []), types ∷ []) ∷
-    (66, 67, loc_field ++ (type ∷ []), types ∷ []) ∷
-    (83, 67, loc_field ++ (type ∷ []), types ∷ []) ∷
-    (83, 86, [], failures ∷ []) ∷
-    (82, 77, type ∷ [], []) ∷
-    (67, 78, type ∷ [], []) ∷
-    (88, 80, type ∷ [], type ∷ codes ∷ []) ∷
-    (78, 76, loc_field ++ (plain ∷ plain ∷ []), types ∷ []) ∷
-    (77, 74, many ∷ [], pair ∷ []) ∷
+    (83, 68, [], [], 0) ∷
+    (70, 86, loc_field, types ∷ [], 0) ∷
+    (78, 86, loc_field, types ∷ [], 0) ∷
+    (83, 78, plain ∷ plain ∷ loc_field, types ∷ [], 0) ∷
+    (74, 78, type ∷ type ∷ [], types ∷ [], 0) ∷
+    (83, 85, type ∷ type ∷ [], types ∷ [], 0) ∷
+    (85, 70, type ∷ [], types ∷ [], 0) ∷
+    (82, 68, type ∷ [], types ∷ [], 0) ∷
+    (84, 83, pairs ∷ [], types ∷ [], 0) ∷
+    (73, 78, type ∷ [], types ∷ [], 0) ∷
+    (78, 67, loc_field ++ (plain ∷ type ∷ []), types ∷ [], 0) ∷
+    (66, 67, loc_field ++ (type ∷ []), types ∷ [], 0) ∷
+    (83, 67, loc_field ++ (type ∷ []), types ∷ [], 0) ∷
+    (83, 86, [], failures ∷ [], 0) ∷
+    (82, 77, type ∷ [], [], 0) ∷
+    (67, 78, type ∷ [], [], 0) ∷
+    (88, 80, type ∷ [], type ∷ codes ∷ [], 0) ∷
+    (78, 76, loc_field ++ (plain ∷ plain ∷ []), types ∷ [], 0) ∷
+    (77, 74, many ∷ [], pair ∷ [], 0) ∷
+    (85, 76, type ∷ [], types ∷ [], 4) ∷
+    (74, 76, type ∷ type ∷ [], types ∷ [], 4) ∷
     []
 
-unfoldable pub after_mark : List (ℕ × ℕ × List Part × List Part) → ℕ → ℕ → List Part × List Part
-after_mark [] a b = ([], [])
-after_mark ((a', b', fields, shown) ∷ marks) a b = if eqb a a' && eqb b b' then (fields, shown) else after_mark marks a b
+unfoldable pub after_mark : List (ℕ × ℕ × List Part × List Part × ℕ) → ℕ → ℕ → List Part × List Part × ℕ
+after_mark [] a b = ([], [], 0)
+after_mark ((a', b', fields, shown, count) ∷ marks) a b = if eqb a a' && eqb b b' then (fields, shown, count) else after_mark marks a b
 
 -- what the mark of a record tells
-unfoldable pub told : Bytes → List Part × List Part
+unfoldable pub told : Bytes → List Part × List Part × ℕ
 told bytes = after_mark mark_fields (get_or bytes 0 0) (get_or bytes 1 0)
 
 -- the record with its location fields set to 0, as far as tags, counts and numbers lead, whether it is well formed or not: two records are equal but
@@ -125,7 +135,7 @@ shown_fields success number = if eqb number 0 then success else if eqb number 4 
 
 -- the payload of the answer to a record, with its location fields set to 0
 unfoldable pub blank_payload : State → Bytes → Answer → Bytes
-blank_payload s bytes a = blank s a.payload (shown_fields (told bytes).1 a.number)
+blank_payload s bytes a = blank_before (told bytes).2 s a.payload (shown_fields (told bytes).1 a.number)
 
 -- ---- jobs
 -- records, each with the length of the answer buffer that it is lent, all location fields set to 0

@@ -34,7 +34,7 @@ impl Chains<'_, '_> {
     {
         match table::noted(self.ends, v).checked_sub(1) {
             Some(last) => table::tvar(last),
-            None => subst::forward_tvar(self.st, v),
+            None => subst::forward_tvar(self.st, v).tvar,
         }
     }
 

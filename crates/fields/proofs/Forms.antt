@@ -33,9 +33,9 @@ use Rattle.reader.proofs.Loop.{declares_kept, knowing, knows, code}
 use Rattle.marks.specs.declared.LocMark.{LocMark}
 use Rattle.marks.specs.declared.LocMark.TheVariants.{FV, NV}
 use Rattle.marks.specs.declared.LookMark.{LookMark}
-use Rattle.marks.specs.declared.LookMark.TheVariants.{UF, RD, CN}
+use Rattle.marks.specs.declared.LookMark.TheVariants.{UF, RD, CN, UL}
 use Rattle.marks.specs.declared.TwoMark.{TwoMark}
-use Rattle.marks.specs.declared.TwoMark.TheVariants.{JN, SU}
+use Rattle.marks.specs.declared.TwoMark.TheVariants.{JN, SU, JL}
 use Rattle.marks.specs.declared.LocTypeMark.{LocTypeMark}
 use Rattle.marks.specs.declared.LocTypeMark.TheVariants.{BC, SC}
 use Rattle.marks.specs.Marks.{loc_record, look_record, two_record, loc_type_record}
@@ -61,10 +61,12 @@ look_shaped : (m : LookMark) (t : Tree) → shape (look_record m t) ≡ n.look_s
 look_shaped UF t = refl
 look_shaped RD t = refl
 look_shaped CN t = refl
+look_shaped UL t = refl
 
 two_shaped : (m : TwoMark) (t1 t2 : Tree) → shape (two_record m t1 t2) ≡ n.two_shape m t1 t2
 two_shaped JN t1 t2 = refl
 two_shaped SU t1 t2 = refl
+two_shaped JL t1 t2 = refl
 
 loc_type_shaped : (m : LocTypeMark) (loc : ℕ) (t : Tree) → shape (loc_type_record m loc t) ≡ n.loc_type_shape m loc t
 loc_type_shaped BC loc t = refl
@@ -180,7 +182,7 @@ first_in None n n' l e i = never (ap code (sym e))
 
 module _ (m : TwoMark) where
   abbrev nodes : ℕ → ℕ → Noded
-  nodes lhs rhs = n.run (n.binds (n.two (n.two_case m) lhs rhs))
+  nodes lhs rhs = n.run (n.binds (n.two_binds m lhs rhs))
 
   abbrev second : ℕ → Tree → State → Result (State × Noded)
   second lhs t2 s = build t2 s >>= (λ (s, rhs). ok (s, nodes lhs rhs))

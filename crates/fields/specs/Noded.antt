@@ -24,9 +24,9 @@ use Rattle.needs.specs.Counted.{needs_of}
 use Rattle.marks.specs.declared.LocMark.{LocMark}
 use Rattle.marks.specs.declared.LocMark.TheVariants.{FV, NV}
 use Rattle.marks.specs.declared.LookMark.{LookMark}
-use Rattle.marks.specs.declared.LookMark.TheVariants.{UF, RD, CN}
+use Rattle.marks.specs.declared.LookMark.TheVariants.{UF, RD, CN, UL}
 use Rattle.marks.specs.declared.TwoMark.{TwoMark}
-use Rattle.marks.specs.declared.TwoMark.TheVariants.{JN, SU}
+use Rattle.marks.specs.declared.TwoMark.TheVariants.{JN, SU, JL}
 use Rattle.marks.specs.declared.LocTypeMark.{LocTypeMark}
 use Rattle.marks.specs.declared.LocTypeMark.TheVariants.{BC, SC}
 use Rattle.fields.specs.declared.Bind.{Bind}
@@ -45,11 +45,12 @@ use Rattle.fields.specs.declared.Fields.{Fields}
 pub data Binds : Type 0 where
   set_num : ℕ → ℕ → Binds
   two : TypingCase → ℕ → ℕ → Binds
+  joined_links : ℕ → ℕ → Binds
   instantiate : ℕ → Binds
 
 -- only shows: the state stays as at entry
 pub data Looks : Type 0 where
-  unfolded : ℕ → Looks
+  unfolded unfolded_links : ℕ → Looks
   ready : Spelling → ℕ → Looks
   tparams : List (ℕ × ℕ) → ℕ → Looks
 
@@ -94,10 +95,12 @@ abbrev pub one_looks : LookMark → ℕ → Looks
 one_looks UF t = unfolded t
 one_looks RD t = ready Located t
 one_looks CN t = ready Canonical t
+one_looks UL t = unfolded_links t
 
-abbrev pub two_case : TwoMark → TypingCase
-two_case JN = Join
-two_case SU = Subtype
+abbrev pub two_binds : TwoMark → ℕ → ℕ → Binds
+two_binds JN lhs rhs = two Join lhs rhs
+two_binds SU lhs rhs = two Subtype lhs rhs
+two_binds JL lhs rhs = joined_links lhs rhs
 
 abbrev pub loc_type_constraint : LocTypeMark → ℕ → ℕ → Constraint
 loc_type_constraint BC loc t = BaseTypeConstraint loc t
@@ -110,7 +113,7 @@ abbrev pub look_shape : LookMark → Tree → Shape
 look_shape m t = one t (λ ty. looks (one_looks m ty))
 
 abbrev pub two_shape : TwoMark → Tree → Tree → Shape
-two_shape m t1 t2 = both t1 t2 (λ lhs rhs. binds (two (two_case m) lhs rhs))
+two_shape m t1 t2 = both t1 t2 (λ lhs rhs. binds (two_binds m lhs rhs))
 
 abbrev pub loc_type_shape : LocTypeMark → ℕ → Tree → Shape
 loc_type_shape m loc t = one t (λ ty. adds (constrain (loc_type_constraint m loc ty)))
@@ -135,6 +138,8 @@ shape (d.RM t) = none (adds (tell (needs t)))
 shape (d.CN t) = look_shape CN t
 shape (d.XP t) = expands t
 shape (d.MJ pairs) = all_pairs pairs
+shape (d.UL t) = look_shape UL t
+shape (d.JL t1 t2) = two_shape JL t1 t2
 
 abbrev pub place : Shape → State → Result (State × Noded)
 place (declares abilities params) s = ok (s, declare abilities params)
@@ -165,7 +170,7 @@ place_record x s = place (shape x) s
 
 abbrev pub bind_of : Bind → Binds
 bind_of (c.SN v loc) = set_num v.0 loc
-bind_of (c.Two m lhs rhs) = two (two_case m) lhs rhs
+bind_of (c.Two m lhs rhs) = two_binds m lhs rhs
 bind_of (c.IN t) = instantiate t
 
 abbrev pub pairs_of : Pairs → List (ℕ × ℕ)

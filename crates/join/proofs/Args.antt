@@ -78,10 +78,10 @@ module _ {left : ℕ} {case : j.TypingCase} {s₀ : State} {t1 t2 : Applied} {n 
     module _ (lt : i < n) {ty1 ty2 : ℕ}
         (read1 : (ds : List Struct) (m : ℕ) → i < m → ty1 ≡ get_or (args_at (held s ds) (places t1.first m)) i 0)
         (read2 : (ds : List Struct) (m : ℕ) → i < m → ty2 ≡ get_or (args_at (held s ds) (places t2.first m)) i 0) where
-      is1 : ty1 ≡ get_or (args_at (tables s₀) (args_of t1)) i 0
+      pub is1 : ty1 ≡ get_or (args_at (tables s₀) (args_of t1)) i 0
       is1 = arg_kept s₀.words.now s₀.used t1.first t1.many g.args1.placed s.words.now s.used g.walked.changed.grown ty1 i (omega (arith, g.fewer)) read1
 
-      is2 : ty2 ≡ get_or (args_at (tables s₀) (args_of t2)) i 0
+      pub is2 : ty2 ≡ get_or (args_at (tables s₀) (args_of t2)) i 0
       is2 = arg_kept s₀.words.now s₀.used t2.first t2.many g.args2.placed s.words.now s.used g.walked.changed.grown ty2 i (omega (arith, g.fewer)) read2
 
       pub gather_in : (ty1 < s.used.nodes) × (ty2 < s.used.nodes)

@@ -3,3 +3,4 @@ pub mod Binds
 pub mod Lists
 pub mod Args
 pub mod Operands
+pub mod Links

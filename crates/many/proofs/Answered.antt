@@ -35,11 +35,11 @@ use Rattle.answer.specs.Ran.{ran, answered, Settles}
 use Rattle.answer.specs.Answered.{AnswersIn}
 use Rattle.answer.specs.declared.Ran.{Ran}
 use Rattle.answer.proofs.Growing.{grown_now, grown_on, noted_since}
-use Rattle.run.specs.Runs.{join_in, two_run, Runs}
+use Rattle.run.specs.Runs.{join_in, two_run, no_tail, Runs}
 use Rattle.run.proofs.Bytes.{Leaves, step_bytes}
-use Rattle.payload.specs.Payload.{shown}
+use Rattle.payload.specs.Payload.{shown, tail_bytes}
 use Rattle.reader.proofs.Loop.{declares_kept}
-use Rattle.fields.specs.Noded.{two_case}
+use Rattle.arms.specs.Arms.{case_of as arm_case}
 use Rattle.many.specs.Turns.{InRange, pair_of, PairAnswered}
 use Rattle.many.specs.declared.Pair.{Pair}
 
@@ -57,7 +57,7 @@ join_leaves b s i Subtype lhs rhs = join_run (Unit {0}) b true max_depth s (λ y
 
 pub pair_number : (s : State) (p : TypingCase × ℕ × ℕ) → (pair_answer s p).number < 100
 unfolding pair_answer answer
-pair_number s (case, lhs, rhs) = answer_number max_payload s _
+pair_number s (case, lhs, rhs) = answer_number max_payload [] s _
 
 -- no answer has fewer nodes than there were
 with_count : (n : ℕ) (s t : State) (k : ℕ) (p : Bytes) → n ≤ count s → n ≤ count t → n ≤ count (answer_with max_payload s k p t).state
@@ -78,11 +78,11 @@ put_back_count : (s t : State) → count (put_back s t) ≡ count t
 unfolding put_back with_vars
 put_back_count s t = refl
 
-answer_count : (n : ℕ) (s : State) (m : Result (State × Bytes)) → n ≤ count s → AtLeast n m → n ≤ count (answer s m).state
-unfolding answer answer_within refusal
-answer_count n s (ok (t, p)) a b = with_count n s t 0 p a b
-answer_count n s (err t e) a b = with_count n s (put_back s t) _ _ a (omega (arith, b, put_back_count s t))
-answer_count n s (refused x) a b = a
+answer_count : (n : ℕ) (s : State) (tail : Bytes) (m : Result (State × Bytes)) → n ≤ count s → AtLeast n m → n ≤ count (answer_within max_payload tail s m).state
+unfolding answer_within refusal
+answer_count n s tail (ok (t, p)) a b = with_count n s t 0 _ a b
+answer_count n s tail (err t e) a b = with_count n s (put_back s t) _ _ a (omega (arith, b, put_back_count s t))
+answer_count n s tail (refused x) a b = a
 
 ran_least : (n : ℕ) (r : Ran) (s t : State) → n ≤ count s → n ≤ count t → AtLeast n (ran r t s)
 unfolding ran outcome ◌>>=◌
@@ -100,10 +100,10 @@ ran_least n r s t a b = go r.result
 -- ---- one pair
 
 -- the state s, whose rows are saved, became u by the run
-module _ {s u : Table} {rows : List ℕ} (all : s.saved ≡ s.used.vars) (kept : Saved s.words.now s.used rows) (p : Pair) {r : Ran} (c : Runs Any s u r true (λ s. join_in (two_case p.case) s p.lhs p.rhs) (two_run (two_case p.case) p.lhs p.rhs)) where
+module _ {s u : Table} {rows : List ℕ} (all : s.saved ≡ s.used.vars) (kept : Saved s.words.now s.used rows) (p : Pair) {r : Ran} (c : Runs Any s u r true (λ s. join_in (arm_case p.case) s p.lhs p.rhs) (two_run (arm_case p.case) p.lhs p.rhs) no_tail) where
   -- the fields that its answer writes as a byte are bytes
   pub run_bytes : InRange s → Settles r.result → AllBytes (tables u)
-  run_bytes i h = step_bytes c i.structs tt i.base (join_leaves i.base (held s i.structs) i.ranges (two_case p.case) p.lhs p.rhs) h
+  run_bytes i h = step_bytes c i.structs tt i.base (join_leaves i.base (held s i.structs) i.ranges (arm_case p.case) p.lhs p.rhs) h
 
   pub grown : (b : Before) → b.used ≡ s.used → b.saved.now ≡ rows → GrownFrom s.words.now b u
   grown b counts same = grown_on s.words.now b s u (grown_now b s counts all (rw same kept)) c.left.same c.left.step.grown
@@ -123,9 +123,11 @@ module _ {s u : Table} {rows : List ℕ} (all : s.saved ≡ s.used.vars) (kept :
         ∙ ap (λ (x : List Struct). record { number = a.number; payload = take a.len mid'; state = held t x }) (sym (same_either a.kept ds))
 
     pub told : (ds : List Struct) → pair_answer (held s ds) (pair_of p) ≡ record { number = a.number; payload = take a.len mid'; state = held t ds }
+    unfolding answer
     told ds =
-        pair_is (two_case p.case) p.lhs p.rhs (held s ds)
+        pair_is (arm_case p.case) p.lhs p.rhs (held s ds)
         ∙ ap (λ (x : Result (State × Bytes)). answer (held s ds) x) (sym (c.is ds tt (held s ds)))
+        ∙ ap (λ (x : Bytes). answer_within max_payload x (held s ds) (ran r (held u ds) (held s ds))) (sym (c.tail_is ds))
         ∙ settled ds
 
     pub small : a.number < 100
@@ -142,7 +144,7 @@ module _ {s u : Table} {rows : List ℕ} (all : s.saved ≡ s.used.vars) (kept :
         let up : s.used.nodes ≤ u.used.nodes = nodes_grow _ _ _ _ c.left.step.grown in
         let first : s.used.nodes ≤ count (held s []) = omega (arith, count_seen s.words.now s.used []) in
         let second : s.used.nodes ≤ count (held u []) = omega (arith, up, count_seen u.words.now u.used []) in
-        let left = answer_count s.used.nodes (held s []) (ran r (held u []) (held s [])) first (ran_least s.used.nodes r (held s []) (held u []) first second) in
+        let left = answer_count s.used.nodes (held s []) (tail_bytes r.tail) (ran r (held u []) (held s [])) first (ran_least s.used.nodes r (held s []) (held u []) first second) in
         omega (arith, subst (λ (x : step.Answer). s.used.nodes ≤ count x.state) (settled []) left, count_seen t.words.now t.used [])
 
     pub declares : (ds : List Struct) → Declares s.words.now s.used ds → Declares t.words.now t.used ds

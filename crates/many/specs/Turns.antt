@@ -10,16 +10,17 @@ use Rattle.table.specs.Did.{held}
 use Rattle.table.specs.declared.state.State.{State}
 use Rattle.snapshot.specs.Noted.{Noted}
 use Rattle.writer.specs.Bytes.{Wrote}
-use Rattle.fields.specs.Noded.{two_case, case_of, many_at}
+use Rattle.arms.specs.Arms.{case_of as arm_case}
+use Rattle.fields.specs.Noded.{case_of, many_at}
 use Rattle.payload.specs.declared.Answer.{Answer}
 use Rattle.many.specs.declared.Pair.{Pair}
 
 abbrev pub pair_of : Pair → TypingCase × ℕ × ℕ
-pair_of p = (two_case p.case, p.lhs, p.rhs)
+pair_of p = (arm_case p.case, p.lhs, p.rhs)
 
 -- pair i of the list
 pub record StandsAt (names : List ℕ) (i : ℕ) (p : Pair) : Type 0 where
-  pub case : two_case p.case ≡ case_of (get_or names (3 * i) 0)
+  pub case : arm_case p.case ≡ case_of (get_or names (3 * i) 0)
   pub lhs : p.lhs ≡ get_or names (3 * i + 1) 0
   pub rhs : p.rhs ≡ get_or names (3 * i + 2) 0
 

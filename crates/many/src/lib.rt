@@ -6,10 +6,11 @@ ghost use Rattle.definition.specs.Write.{u16 as bytes-u16};
 ghost use Rattle.writer.specs.Bytes.{Wrote};
 ghost use Rattle.snapshot.specs.Snap.{Saved};
 ghost use Rattle.snapshot.specs.Noted.{Noted};
-ghost use Rattle.fields.specs.Noded.{two_case, case_of, ManyIn};
+ghost use Rattle.arms.specs.Arms.{case_of as arm_case};
+ghost use Rattle.fields.specs.Noded.{case_of, ManyIn};
 ghost use Rattle.many.specs.Turns.{InRange, PairIn, StandsAt, PairAnswered, ManyAnswered};
 
-use marks::TwoMark;
+use arms::TypingCase;
 use payload::{Answer, as_left};
 use snapshot::before::Before;
 use snapshot::save_vars;
@@ -22,19 +23,19 @@ const PAYLOAD_AT: usize = 3;
 
 #[derive(Clone, Copy)]
 struct Pair {
-    case: TwoMark,
+    case: TypingCase,
     lhs: u32,
     rhs: u32,
 }
 
 // ---- pairs in the list of names
 
-fn case_of(n: u16) -> TwoMark
-    ensures { two_case result ≡ case_of n }
+fn case_of(n: u16) -> TypingCase
+    ensures { arm_case result ≡ case_of n }
 {
     match n {
-        1 => TwoMark::SU,
-        _ => TwoMark::JN,
+        1 => TypingCase::Subtype,
+        _ => TypingCase::Join,
     }
 }
 
@@ -76,7 +77,7 @@ fn answer_from(
     requires room { at + 4099 ≤ length buf.old }
     ensures { PairAnswered st.old pair at buf.old st.new before.entry.saved.now buf.new result }
 {
-    let ran = run::run_two(st, pair.case, pair.lhs, pair.rhs);
+    let ran = run::run_case(st, pair.case, pair.lhs, pair.rhs);
     let a = answer::settle(st, before, ran, &mut buf[at + PAYLOAD_AT..]);
     put_head(buf, at, a.number, a.len) + a.len
 }

@@ -11,9 +11,9 @@ use Rattle.marks.specs.declared.RecordMark.TheVariants as m
 use Rattle.marks.specs.declared.LocMark.{LocMark}
 use Rattle.marks.specs.declared.LocMark.TheVariants.{FV, NV}
 use Rattle.marks.specs.declared.LookMark.{LookMark}
-use Rattle.marks.specs.declared.LookMark.TheVariants.{UF, RD, CN}
+use Rattle.marks.specs.declared.LookMark.TheVariants.{UF, RD, CN, UL}
 use Rattle.marks.specs.declared.TwoMark.{TwoMark}
-use Rattle.marks.specs.declared.TwoMark.TheVariants.{JN, SU}
+use Rattle.marks.specs.declared.TwoMark.TheVariants.{JN, SU, JL}
 use Rattle.marks.specs.declared.LocTypeMark.{LocTypeMark}
 use Rattle.marks.specs.declared.LocTypeMark.TheVariants.{BC, SC}
 
@@ -27,10 +27,12 @@ abbrev pub look_record : LookMark → Tree → Record
 look_record UF = d.UF
 look_record RD = d.RD
 look_record CN = d.CN
+look_record UL = d.UL
 
 abbrev pub two_record : TwoMark → Tree → Tree → Record
 two_record JN = d.JN
 two_record SU = d.SU
+two_record JL = d.JL
 
 abbrev pub loc_type_record : LocTypeMark → ℕ → Tree → Record
 loc_type_record BC = d.BC

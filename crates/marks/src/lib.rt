@@ -21,6 +21,7 @@ pub enum LookMark {
     UF,
     RD,
     CN,
+    UL,
 }
 
 // Two types, joined.
@@ -28,6 +29,7 @@ pub enum LookMark {
 pub enum TwoMark {
     JN,
     SU,
+    JL,
 }
 
 // A location and a type; a constraint is listed.
@@ -62,7 +64,7 @@ pub enum RecordMark {
 #[derive(Clone, Copy)]
 struct Letters(u8, u8, RecordMark);
 
-const MARKS: [Letters; 19] = [
+const MARKS: [Letters; 21] = [
     Letters(b'S', b'D', RecordMark::SD),
     Letters(b'F', b'V', RecordMark::Loc(LocMark::FV)),
     Letters(b'N', b'V', RecordMark::Loc(LocMark::NV)),
@@ -82,6 +84,8 @@ const MARKS: [Letters; 19] = [
     Letters(b'X', b'P', RecordMark::XP),
     Letters(b'N', b'L', RecordMark::NL),
     Letters(b'M', b'J', RecordMark::MJ),
+    Letters(b'U', b'L', RecordMark::Look(LookMark::UL)),
+    Letters(b'J', b'L', RecordMark::Two(TwoMark::JL)),
 ];
 
 // The mark that these letters are, if any. A loop over the definition's rows in their order: each step of its proof is a row that is passed.

@@ -1,23 +1,26 @@
 -- The steps of a merge and of a meeting, as laws that follow the code. Assumes nothing.
 use mathlib.Core.Path.{◌≡◌, refl, sym, ap, ◌∙◌}
 use mathlib.Core.Bool.{Bool, true, false, not}
-use mathlib.Core.List.{List}
+use mathlib.Core.List.{List, []}
+use lib.Dec.{ltb}
 use Rattle.std.specs.Prelude.{Option, None, Some, Ok, Err, if◌then◌else◌}
 use Rattle.std.specs.Prelude as core
 use Rattle.std.specs.Option.{option_or, is_some}
-use Prim.Native.Nat.{ℕ, ◌<◌, ◌≤◌}
+use Prim.Native.Nat.{ℕ, ◌+◌, ◌*◌, ◌<◌, ◌≤◌}
 use native.Mathlib.Omega.{arith}
 use native.Mathlib.Decide.{dec_lt}
 use borrow.Author.Tests.{le-leb, lt-leb}
 use Rattle.std.specs.Prelude.{max}
 use Rattle.std.proofs.Math.Nat.{max-eq_left, max-eq_right}
 use Rattle.definition.specs.Types as d
-use Rattle.definition.specs.Types.{Struct, Result, ok, err, ◌>>=◌}
-use Rattle.definition.specs.Store.{get, node, with_args, num_loc, need_of, insert, with_need, sp, next_tvar}
-use Rattle.definition.specs.Subst.{is_anything, forward_tvar, set_num_var}
+use Rattle.definition.specs.Types.{Struct, Result, ok, err, refused, ◌>>=◌, full, max_vars}
+use Rattle.definition.specs.Store.{taken, with_var, get, node, with_args, num_loc, need_of, insert, with_need, sp, next_tvar}
+use Rattle.definition.specs.Subst.{is_anything, forward_tvar, links, set_num_var}
 use Rattle.definition.specs.Join.{type_of, merge_num, larger, shown, join_bind_tvar, join_unbound}
 use Rattle.names.specs.declared.TVar.{TVar}
-use Rattle.subst.specs.Answers.{Binding, bound, Binds}
+use Rattle.subst.specs.declared.End.{End}
+use Rattle.subst.proofs.Laws.{links_few}
+use Rattle.subst.specs.Answers.{Forwards, Binding, bound, Binds}
 use Rattle.subst.specs.declared.BindError.{BindError}
 use Rattle.subst.specs.declared.BindError.TheVariants.{NotNumeric, Recursive}
 use Rattle.table.specs.State.{Any, outcome, node_of, shape_of}
@@ -29,7 +32,8 @@ use Rattle.table.specs.declared.state.Stop.{Stop}
 use Rattle.table.specs.declared.state.Stop.TheVariants.{Failed}
 use Rattle.table.proofs.Did.{became_now, became_is, became_on, became_as, became_number, did_now, did_is, err_is, stop_in}
 use Rattle.table.proofs.Grown.{loc_is, value_is}
-use Rattle.merge.specs.Merge.{Inner, ThenMerge, open_types, open_tvar, opened, Opens, show_both, close_tvar, meet_tvar, met, Meets}
+use Rattle.table.proofs.Pushed.{taken_view, taken_seen}
+use Rattle.merge.specs.Merge.{Inner, ThenMerge, open_types, open_tvar, opened, Opens, OneTaken, FewFor, Follows, show_both, close_tvar, meet_tvar, met, Meets}
 use Rattle.merge.specs.declared.Merging.{Merging}
 
 -- ---- the type of a chain's end
@@ -78,6 +82,40 @@ pub opens_ends : {s : State} (id1 id2 : ℕ) {e1 e2 : TVar} {n1 n2 : Option ℕ}
     → {t : State} {r : core.Result Merging Stop} (loc1 loc2 : ℕ) → Opens s t r (λ x k. open_types k x loc1 e1.0 n1 loc2 e2.0 n2 (larger need1 need2)) → Opens s t r (λ x k. open_tvar k x loc1 id1 loc2 id2)
 opens_ends {s} id1 id2 {e1} {e2} {n1} {n2} {need1} {need2} p1 p2 q1 q2 r1 r2 loc1 loc2 o =
     opens_is (λ ds k. open_is k (held s ds) loc1 id1 loc2 id2 e1.0 e2.0 n1 n2 need1 need2 (p1 ds) (p2 ds) (q1 ds) (q2 ds) (r1 ds) (r2 ds)) o
+
+-- ---- variables taken, and links followed
+
+new_is : (s t : d.State) (v : ℕ) (b : Bool) → ◌≡◌ {A = Result (d.State × ℕ)} (ok (t, v)) (if b then ok (with_var s, taken s) else refused full) → v ≡ taken s
+new_is s t v true e = ap (λ (m : Result (d.State × ℕ)). elim m [ ok x ↦ x.1 | err x y ↦ v | refused x ↦ v ]) e
+new_is s t v false e = cc
+
+module _ {s t : State} where
+  pub vars_more : {A : Type 0} {K : List Struct → Type 0} {answer f : d.State → A} → Became K s t answer f → s.used.vars ≤ t.used.vars
+  vars_more a = omega (arith, a.step.grown.vars, taken_view s.words.now s.used, taken_view t.words.now t.used)
+
+  pub took_one : {v : TVar} → Took s t (Ok v) (λ x. next_tvar x) → s.used.vars < t.used.vars
+  unfolding next_tvar outcome
+  took_one {v} a = let e = new_is (held s []) (held t []) v.0 (ltb (taken (held s [])) max_vars) (a.changed.step.is [] tt) in omega (arith, e, taken_seen s.words.now s.used [], a.inside)
+
+pub none_taken : {s t : State} {e : Stop} {f : d.State → Result (d.State × ℕ)} (a b : ℕ) {r : core.Result Merging Stop} → Became Any s t (outcome (Err e)) f → r ≡ Err e → OneTaken r a b
+none_taken a b x q = rw q tt
+
+few_taken : (r : core.Result Merging Stop) (a b n : ℕ) → n ≤ 2048 * a + 2048 → OneTaken r a b → FewFor r b n
+few_taken (Ok m) a b n l o = omega (arith, l, o)
+few_taken (Err e) a b n l o = tt
+
+module _ {s : State} (v1 v2 : ℕ) {n : ℕ} {e1 e2 : End} (n_few : n ≤ 2048 * s.used.vars) (f1 : Forwards s e1 v1) (f2 : Forwards s e2 v2) where
+  pub both_few : (e1.links + e2.links ≤ 2048) × (n + (e1.links + e2.links) ≤ 2099200)
+  both_few = let a = links_few s e1 v1 f1 in let b = links_few s e2 v2 f2 in (omega (arith, a, b), omega (arith, a, b, n_few, s.lay.vars))
+
+  both_is : {n' : ℕ} → n' ≡ n + (e1.links + e2.links) → (ds : List Struct) → n' ≡ n + (links (held s ds) v1 + links (held s ds) v2)
+  both_is e ds = let a = f1.links_is ds in let b = f2.links_is ds in omega (arith, e, a, b)
+
+  pub follows_err : {t : State} {n' : ℕ} {p q : State} {x : Stop} {f : d.State → Result (d.State × ℕ)} {r : core.Result Merging Stop} → n' ≡ n + (e1.links + e2.links) → Became Any p q (outcome (Err x)) f → r ≡ Err x → Follows s t r n n' (λ z. links z v1 + links z v2)
+  follows_err e a q = rw q record { is = both_is e; few = tt }
+
+  pub follows_both : (m : ℕ) {t : State} {n' : ℕ} (r : core.Result Merging Stop) → n' ≡ n + (e1.links + e2.links) → s.used.vars ≤ m → OneTaken r m t.used.vars → Follows s t r n n' (λ z. links z v1 + links z v2)
+  follows_both m {t} {n'} r e l o = record { is = both_is e; few = let p = both_few in few_taken r m t.used.vars n' (omega (arith, e, l, p.0, n_few)) o }
 
 -- ---- the numeric mark of a merge
 

@@ -1,15 +1,15 @@
 -- The definition's join_tvar cut at its inner join, given what follows, and the answers of the cuts. Assumes nothing: these are definitions.
-use Rattle.std.specs.Prelude.{List, ℕ, ◌<◌, if◌then◌else◌}
+use Rattle.std.specs.Prelude.{◌≡◌, List, ℕ, ◌+◌, ◌*◌, ◌<◌, ◌≤◌, if◌then◌else◌}
 use Rattle.std.specs.Prelude.{Option, None, Some, Ok, Err}
 use Rattle.std.specs.Prelude as core
 use Rattle.definition.specs.Types as d
-use Rattle.definition.specs.Types.{Result, ok, err, ◌>>=◌, RecursiveType}
+use Rattle.definition.specs.Types.{Struct, Result, ok, err, ◌>>=◌, RecursiveType}
 use Rattle.definition.specs.Store.{loc_of, get, num_loc, need_of, insert, sp, next_tvar}
 use Rattle.definition.specs.Subst.{forward_tvar}
 use Rattle.definition.specs.Join.{type_of, merge_num, larger, shown, join_bind_tvar, join_unbound}
 use Rattle.names.specs.declared.TVar.{TVar}
 use Rattle.table.specs.State.{Any, outcome}
-use Rattle.table.specs.Did.{StopIn, Became}
+use Rattle.table.specs.Did.{held, StopIn, Became}
 use Rattle.table.specs.declared.state.State.{State}
 use Rattle.table.specs.declared.state.Stop.{Stop}
 use Rattle.merge.specs.declared.Merging.{Merging}
@@ -54,6 +54,23 @@ OpenedIn n (Err e) = StopIn n e
 pub record Opens (s t : State) (r : core.Result Merging Stop) (f : d.State → Inner → Result (d.State × ℕ)) : Type 0 where
   pub changed : Became Any s t (opened r) f
   pub inside : OpenedIn t.used.nodes r
+
+-- one of the variables is taken at least, unless there is an error
+abbrev pub OneTaken : core.Result Merging Stop → ℕ → ℕ → Type 0
+OneTaken (Ok m) vars vars' = vars < vars'
+OneTaken (Err e) vars vars' = Unit {0}
+
+-- ---- how many links were followed
+
+-- n are at most two chains for each of the variables, unless there is an error
+abbrev pub FewFor : {A : Type 0} → core.Result A Stop → ℕ → ℕ → Type 0
+FewFor (Ok x) vars n = n ≤ 2048 * vars
+FewFor (Err e) vars n = Unit {0}
+
+-- n links were followed before, and n' after: more by what f says of the state before
+pub record Follows {A : Type 0} (s t : State) (r : core.Result A Stop) (n n' : ℕ) (f : d.State → ℕ) : Type 0 where
+  pub is : (ds : List Struct) → n' ≡ n + f (held s ds)
+  pub few : FewFor r t.used.vars n'
 
 -- ---- after the inner join
 

@@ -2,10 +2,11 @@
 // Changed from the source that NOTICE names: ported to Rattle.
 #![tactic(auto)]
 
-ghost use Rattle.std.specs.Prelude.{ℕ, ◌<◌};
+ghost use Rattle.std.specs.Prelude.{ℕ, ◌+◌, ◌*◌, ◌<◌, ◌≤◌};
+ghost use Rattle.definition.specs.Subst.{links};
 ghost use Rattle.definition.specs.Join.{type_of, merge_num, larger, shown, join_unbound};
 ghost use Rattle.table.specs.Did.{Did, Kept, number_by};
-ghost use Rattle.merge.specs.Merge.{open_ends, open_tvar, show_both, close_tvar, meet_tvar, Opens, Meets};
+ghost use Rattle.merge.specs.Merge.{open_ends, open_tvar, show_both, close_tvar, meet_tvar, Opens, OneTaken, Follows, Meets};
 
 use names::TVar;
 use subst::BindError;
@@ -64,7 +65,7 @@ fn merge_num(
 // Both ends are bound to a fresh variable, which needs what either does.
 fn open_ends(st: &mut State<'_>, e1: End, e2: End) -> Result<Merging, Stop>
     requires { (e1.ty < st.old.used.nodes) × (e2.ty < st.old.used.nodes) }
-    ensures { Opens st.old st.new result (λ s k. open_ends k s e1.loc e1.last_id.0 e1.num_loc e1.ty e2.loc e2.last_id.0 e2.num_loc e2.ty (larger e1.need e2.need)) }
+    ensures { Opens st.old st.new result (λ s k. open_ends k s e1.loc e1.last_id.0 e1.num_loc e1.ty e2.loc e2.last_id.0 e2.num_loc e2.ty (larger e1.need e2.need)) × OneTaken result st.old.used.vars st.new.used.vars }
 {
     let new_tvar = st.take_var()?;
     let need = e1.need.max(e2.need);
@@ -81,12 +82,21 @@ fn open_ends(st: &mut State<'_>, e1: End, e2: End) -> Result<Merging, Stop>
     })
 }
 
-// The ends of both chains, with their types and numeric marks.
-pub fn open_tvar(st: &mut State<'_>, v1: VarAt, v2: VarAt) -> Result<Merging, Stop>
-    ensures { Opens st.old st.new result (λ s k. open_tvar k s v1.0 v1.1.0 v2.0 v2.1.0) }
+// The ends of both chains, with their types and numeric marks. The links of both are added to those followed so far.
+pub fn open_tvar(
+    st: &mut State<'_>,
+    v1: VarAt,
+    v2: VarAt,
+    followed: &mut u32,
+) -> Result<Merging, Stop>
+    requires { followed.old ≤ 2048 * st.old.used.vars }
+    ensures { Opens st.old st.new result (λ s k. open_tvar k s v1.0 v1.1.0 v2.0 v2.1.0) × Follows st.old st.new result followed.old followed.new (λ s. links s v1.1.0 + links s v2.1.0) }
 {
-    let last_id1 = subst::forward_tvar(st, v1.1);
-    let last_id2 = subst::forward_tvar(st, v2.1);
+    let end1 = subst::forward_tvar(st, v1.1);
+    let end2 = subst::forward_tvar(st, v2.1);
+    let last_id1 = end1.tvar;
+    let last_id2 = end2.tvar;
+    *followed += end1.links + end2.links;
     let num_loc_1 = st.num_loc_at(last_id1);
     let num_loc_2 = st.num_loc_at(last_id2);
     let need1 = st.need_at(last_id1);

@@ -20,6 +20,11 @@ shown (Location loc) t s = u32 loc
 shown (Two a b) t s = write s a ++ write s b
 shown (Four a b c e) t s = u32 a ++ u32 b ++ u32 c ++ u32 e
 
+-- what stands behind it: nothing, or a count
+abbrev pub tail_bytes : Option ℕ → Bytes
+tail_bytes None = []
+tail_bytes (Some n) = u32 n
+
 -- the nodes or the variable that are shown are in use
 abbrev pub Shows : Used → Show → ℕ → Type 0
 Shows u Nothing t = Unit {0}

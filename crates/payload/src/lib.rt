@@ -1,12 +1,13 @@
 // What an answer is: its number, its payload in bytes, the rows in use, and whether the state is the one that the run left.
 #![tactic(auto)]
 
-ghost use Rattle.std.specs.Prelude.{◌≡◌, true, false, List, ◌++◌, ◌≤◌, ◌<◌, length};
+ghost use Rattle.std.specs.Prelude.{◌≡◌, true, false, List, ◌++◌, ◌+◌, ◌≤◌, ◌<◌, length};
 ghost use Rattle.definition.specs.Types as d;
 ghost use Rattle.definition.specs.Write.{u32 as bytes-u32, write};
+ghost use Rattle.definition.specs.Step.{behind};
 ghost use Rattle.table.specs.Did.{held, tables};
 ghost use Rattle.writer.specs.Bytes.{Wrote, Capped, AllBytes};
-ghost use Rattle.payload.specs.Payload.{reply, shown, Shows, Paid};
+ghost use Rattle.payload.specs.Payload.{reply, shown, tail_bytes, Shows, Paid};
 
 use table::state::State;
 use table::{Shape, Used, tvar};
@@ -40,29 +41,29 @@ pub const MAX_PAYLOAD: u32 = 4096;
 
 // ---- the payload
 
-pub fn two_size(st: &State<'_>, a: u32, b: u32) -> Option<u32>
-    requires { (a < st.now.used.nodes) × (b < st.now.used.nodes) }
-    ensures { (ds : List d.Struct) → Capped 4096 (length (write (held st.now ds) a ++ write (held st.now ds) b)) result }
+pub fn two_size(st: &State<'_>, a: u32, b: u32, most: u32) -> Option<u32>
+    requires { ((a < st.now.used.nodes) × (b < st.now.used.nodes)) × (most ≤ 4096) }
+    ensures { (ds : List d.Struct) → Capped most (length (write (held st.now ds) a ++ write (held st.now ds) b)) result }
 {
-    let n = size_type(st, a, MAX_PAYLOAD)?;
-    let m = size_type(st, b, MAX_PAYLOAD - n)?;
+    let n = size_type(st, a, most)?;
+    let m = size_type(st, b, most - n)?;
     Some(n + m)
 }
 
-// How many bytes, if no more than 4,096.
+// How many bytes, if no more than `most`.
 #[tactic(auto, unfolding(crate::specs::Payload::shown, definition::specs::Write::u16, definition::specs::Write::u32, definition::specs::Write::head))]
-pub fn shown_size(st: &State<'_>, show: Show, t: u32) -> Option<u32>
-    requires { Shows st.now.used show t }
-    ensures { (ds : List d.Struct) → Capped 4096 (length (shown show t (held st.now ds))) result }
+pub fn shown_size(st: &State<'_>, show: Show, t: u32, most: u32) -> Option<u32>
+    requires { Shows st.now.used show t × ((16 ≤ most) × (most ≤ 4096)) }
+    ensures { (ds : List d.Struct) → Capped most (length (shown show t (held st.now ds))) result }
 {
     match show {
         Show::Nothing => Some(0),
         Show::Number => Some(2),
         Show::Variable(_) => Some(7),
-        Show::Node => size_type(st, t, MAX_PAYLOAD),
+        Show::Node => size_type(st, t, most),
         Show::Anything(_) => Some(5),
         Show::Location(_) => Some(4),
-        Show::Two(a, b) => two_size(st, a, b),
+        Show::Two(a, b) => two_size(st, a, b, most),
         Show::Four(_, _, _, _) => Some(16),
     }
 }
@@ -104,15 +105,43 @@ pub fn write_shown(st: &State<'_>, show: Show, t: u32, buf: &mut [u8]) -> usize
     }
 }
 
-// The payload, if it has no more than 4,096 bytes, and how many. It is sized first: else the buffer stays as it was.
+// What stands behind what is shown: nothing, or a count of four bytes.
+fn tail_size(tail: Option<u32>) -> u32
+    ensures { result ≡ length (tail_bytes tail) }
+{
+    match tail {
+        None => 0,
+        Some(_) => 4,
+    }
+}
+
+fn put_tail(tail: Option<u32>, buf: &mut [u8], at: usize) -> usize
+    requires { at + length (tail_bytes tail) ≤ length buf.old }
+    ensures { Wrote buf.old at (tail_bytes tail) buf.new result }
+{
+    match tail {
+        None => at,
+        Some(count) => put_u32(buf, at, count),
+    }
+}
+
+// The payload, if it has no more than 4,096 bytes with its tail, and how many. It is sized first: else the buffer stays as it was.
+// Refused (must-fail/): a limit without the tail (limit_without_tail), a tail over what is shown (tail_in_front).
 // The 4,096 bytes are a clause and no struct of the buffer: writer and failing ask for what they write, and would unpack it again.
 // `AllBytes` is no part of State: its `new` and push_apply would ask their callers for it.
-pub fn write_payload(st: &State<'_>, show: Show, t: u32, buf: &mut [u8]) -> Option<usize>
+pub fn write_payload(
+    st: &State<'_>,
+    show: Show,
+    t: u32,
+    tail: Option<u32>,
+    buf: &mut [u8],
+) -> Option<usize>
     requires { Shows st.now.used show t × (AllBytes (tables st.now) × (4096 ≤ length buf.old)) }
-    ensures { (ds : List d.Struct) → Paid (shown show t (held st.now ds)) buf.old buf.new result }
+    ensures { (ds : List d.Struct) → Paid (behind (tail_bytes tail) (shown show t (held st.now ds))) buf.old buf.new result }
 {
-    shown_size(st, show, t)?;
-    Some(write_shown(st, show, t, buf))
+    shown_size(st, show, t, MAX_PAYLOAD - tail_size(tail))?;
+    let end = write_shown(st, show, t, buf);
+    Some(put_tail(tail, buf, end))
 }
 
 // ---- the state

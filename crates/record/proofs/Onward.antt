@@ -234,7 +234,7 @@ module _ (s : State) where
                             goes_two _ read_u32 (read_type s) goes_u32 goes_type,
                             (
                               goes_give _,
-                              (goes_one _ (read_type s) goes_type, (goes_one _ (read_type s) goes_type, (goes_one _ (read_type s) goes_type, (goes_two _ read_u32 read_bits goes_u32 goes_bits, (goes_MJ, tt))))),
+                              (goes_one _ (read_type s) goes_type, (goes_one _ (read_type s) goes_type, (goes_one _ (read_type s) goes_type, (goes_two _ read_u32 read_bits goes_u32 goes_bits, (goes_MJ, (goes_one _ (read_type s) goes_type, (goes_two _ (read_type s) (read_type s) goes_type goes_type, tt))))))),
                             ),
                           ),
                         ),

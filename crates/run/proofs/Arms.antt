@@ -11,5 +11,5 @@ use Rattle.table.proofs.Steps.{refines_among}
 use Rattle.answer.specs.declared.Ran.{Ran}
 use Rattle.run.specs.Runs.{Runs}
 
-pub narrow : {s t : State} {r : Ran} {K : List Struct → Type 0} {kept : Bool} {step : d.State → Result (d.State × ℕ)} {run : d.State → d.State → Result (d.State × Bytes)} → Runs Any s t r kept step run → Runs K s t r kept step run
-narrow c = record { left = record { same = c.left.same; step = refines_among (λ ds k. tt) c.left.step }; tells = c.tells; kept_is = c.kept_is; is = λ ds k before. c.is ds tt before }
+pub narrow : {s t : State} {r : Ran} {K : List Struct → Type 0} {kept : Bool} {step : d.State → Result (d.State × ℕ)} {run : d.State → d.State → Result (d.State × Bytes)} {tail : d.State → Bytes} → Runs Any s t r kept step run tail → Runs K s t r kept step run tail
+narrow c = record { left = record { same = c.left.same; step = refines_among (λ ds k. tt) c.left.step }; tells = c.tells; kept_is = c.kept_is; is = λ ds k before. c.is ds tt before; tail_is = c.tail_is }

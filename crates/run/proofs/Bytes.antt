@@ -63,7 +63,7 @@ by_run b r s before e l h = outcome_in b r.result s (unshown b before r.show (ou
 pub in_words : (b : State) (w : List ℕ) (u : Used) (ds : List Struct) → Ranges b (seen w u ds) → AllBytes (view w u)
 in_words b w u ds r = seen_bytes w u ds (ranges_bytes b (seen w u ds) r)
 
-module _ {K : List Struct → Type 0} {s t : Table} {r : Ran} {kept : Bool} {step : State → Result (State × ℕ)} {f : State → State → Result (State × Bytes)} (c : Runs K s t r kept step f) (ds : List Struct) (k : K ds) (b : State) where
+module _ {K : List Struct → Type 0} {s t : Table} {r : Ran} {kept : Bool} {step : State → Result (State × ℕ)} {f : State → State → Result (State × Bytes)} {tail : State → Bytes} (c : Runs K s t r kept step f tail) (ds : List Struct) (k : K ds) (b : State) where
   -- by its step
   pub step_bytes : Leaves b (step (held s ds)) → Settles r.result → AllBytes (tables t)
   step_bytes l h = in_words b t.words.now t.used ds (outcome_in b r.result _ (subst (λ (m : Result (State × ℕ)). Leaves b m) (sym (c.left.step.is ds k)) l) h)

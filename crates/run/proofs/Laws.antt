@@ -16,7 +16,7 @@ use Rattle.definition.specs.Join as j
 use Rattle.definition.specs.Join.{join, subtype}
 use Rattle.definition.specs.TParams.{make_tparam_subst, subst_tparams}
 use Rattle.definition.specs.Instantiate.{instantiate}
-use Rattle.definition.specs.Write.{Bytes, head, write, write_spanned}
+use Rattle.definition.specs.Write.{Bytes, u32, head, write, write_spanned}
 use Rattle.theorems.proofs.SoundFacts.{test}
 use Rattle.names.specs.declared.TVar.{TVar}
 use Rattle.table.specs.State.{Any, NodesIn, outcome, done, pushed_constraint, FoundIn, more}
@@ -29,13 +29,14 @@ use Rattle.table.specs.declared.state.Stop.TheVariants.{Failed, Refused}
 use Rattle.table.proofs.Did.{stop_in, err_is, became_now, became_is, became_on, became_as, became_number, did_is}
 use Rattle.table.proofs.Steps.{NoError}
 use Rattle.table.proofs.States.{plain_if}
-use Rattle.marks.specs.declared.TwoMark.{TwoMark}
-use Rattle.marks.specs.declared.TwoMark.TheVariants.{JN, SU}
-use Rattle.fields.specs.Noded.{two_case}
+use Rattle.arms.specs.Arms.{case_of}
+use Rattle.arms.specs.declared.TypingCase.{TypingCase}
+use Rattle.arms.specs.declared.TypingCase.TheVariants.{Join, Subtype}
+use Rattle.fields.specs.Noded.{joined_links, binds}
 use Rattle.subst.specs.Answers.{Unfolds}
 use Rattle.subst.specs.declared.Unfolded.{Unfolded}
 use Rattle.subst.specs.declared.Unfolded.TheVariants.{Node as NodeU, Anything as AnythingU}
-use Rattle.payload.specs.Payload.{shown}
+use Rattle.payload.specs.Payload.{shown, tail_bytes}
 use Rattle.payload.specs.declared.Show.{Show}
 use Rattle.payload.specs.declared.Show.TheVariants.{Nothing, Number, Variable, Node, Anything, Four}
 use Rattle.answer.specs.Ran.{ran, Tells}
@@ -45,7 +46,9 @@ use Rattle.definition.specs.Needs.{write_needs}
 use Rattle.needs.specs.Counted.{needs_of}
 use Rattle.needs.specs.declared.Sums.{Sums}
 use Rattle.definition.specs.Step.{tell}
-use Rattle.run.specs.Runs.{join_in, two_run, unfold_run, subst_in, tparams_run, instantiate_run, tvar_run, marked_in, marked_run, needing, set_num_in, set_num_run, constraint_run, needs_run, declare_run, Runs, TakenIn, TakesVar, with_row, Declared}
+use Rattle.definition.specs.Links.{join_links}
+use Rattle.run.specs.Dispatch.{run_of, step_of, tail_of, RanAs}
+use Rattle.run.specs.Runs.{join_in, two_run, unfold_run, subst_in, tparams_run, instantiate_run, tvar_run, marked_in, marked_run, needing, set_num_in, set_num_run, constraint_run, needs_run, declare_run, no_tail, join_tail, Runs, TakenIn, TakesVar, with_row, Declared}
 
 -- ---- what an answer tells
 
@@ -68,25 +71,27 @@ abbrev shows : Bool → Show → d.State → d.State × ℕ → Result (d.State 
 shows kept show before x = ok (if kept then x.0 else before, shown show x.1 x.0)
 
 -- a step's answer as a run's
-abbrev as_run : core.Result ℕ Stop → Show → Bool → Ran
-as_run a show kept = record { result = a; show = show; kept = kept }
+abbrev as_run : core.Result ℕ Stop → Show → Option ℕ → Bool → Ran
+as_run a show tail kept = record { result = a; show = show; tail = tail; kept = kept }
 
-module _ {s t : State} (a : core.Result ℕ Stop) (step : d.State → Result (d.State × ℕ)) (f : d.State → d.State → Result (d.State × Bytes)) (show : Show) (kept : Bool) (follows : (x before : d.State) → (step x >>= shows kept show before) ≡ f x before) where
+module _ {s t : State} (a : core.Result ℕ Stop) (step : d.State → Result (d.State × ℕ)) (f : d.State → d.State → Result (d.State × Bytes)) (show : Show) (kept : Bool) (tail : Option ℕ) (says : d.State → Bytes)
+    (told : (ds : List Struct) → tail_bytes tail ≡ says (held s ds)) (follows : (x before : d.State) → (step x >>= shows kept show before) ≡ f x before) where
   -- for the declarations in K
-  run_changed : {K : List Struct → Type 0} → Became K s t (outcome a) step → Tells t.used show a → {r : Ran} → r ≡ as_run a show kept → Runs K s t r kept step f
+  run_changed : {K : List Struct → Type 0} → Became K s t (outcome a) step → Tells t.used show a → {r : Ran} → r ≡ as_run a show tail kept → Runs K s t r kept step f says
   unfolding ran
   run_changed {K} c i {r} e =
-      subst (λ (x : Ran). Runs K s t x kept step f) (sym e)
+      subst (λ (x : Ran). Runs K s t x kept step f says) (sym e)
       (record {
         left = c;
         tells = i;
         kept_is = refl;
         is = λ ds k before. ap (λ (x : Result (d.State × ℕ)). x >>= shows kept show before) (c.step.is ds k) ∙ follows (held s ds) before;
+        tail_is = told;
       })
 
 module _ {s t : State} {a : core.Result ℕ Stop} (step : d.State → Result (d.State × ℕ)) (f : d.State → d.State → Result (d.State × Bytes)) (kept : Bool) (follows : (x before : d.State) → (step x >>= shows kept Node before) ≡ f x before) where
-  run_after : {K : List Struct → Type 0} → DidFor K s t a step → {r : Ran} → r ≡ as_run a Node kept → Runs K s t r kept step f
-  run_after c e = run_changed a step f Node kept follows c.changed (tells_node t.used a c.inside) e
+  run_after : {K : List Struct → Type 0} → DidFor K s t a step → {r : Ran} → r ≡ as_run a Node None kept → Runs K s t r kept step f no_tail
+  run_after c e = run_changed a step f Node kept None no_tail (λ ds. refl) follows c.changed (tells_node t.used a c.inside) e
 
 -- ---- JN, SU
 
@@ -94,57 +99,70 @@ two_follows : (case : j.TypingCase) (lhs rhs : ℕ) (s before : d.State) → (jo
 unfolding two_run shown
 two_follows case lhs rhs s before = refl
 
-module _ {s t : State} {a : core.Result ℕ Stop} (lhs rhs : ℕ) where
-  pub ran_join : (m : TwoMark) → m ≡ JN → Did s t a (λ s. join s lhs rhs) → {r : Ran} → r ≡ as_run a Node true → Runs Any s t r true (λ s. join_in (two_case m) s lhs rhs) (two_run (two_case m) lhs rhs)
-  unfolding join_in
-  ran_join m q c e = rw q (run_after _ _ true (two_follows j.Join lhs rhs) c e)
+abbrev RanCase : State → State → ℕ → ℕ → Ran → TypingCase → Type 0
+RanCase s t lhs rhs r case = Runs Any s t r true (λ s. join_in (case_of case) s lhs rhs) (two_run (case_of case) lhs rhs) no_tail
 
-  pub ran_subtype : (m : TwoMark) → m ≡ SU → Did s t a (λ s. subtype s lhs rhs) → {r : Ran} → r ≡ as_run a Node true → Runs Any s t r true (λ s. join_in (two_case m) s lhs rhs) (two_run (two_case m) lhs rhs)
+module _ {s t : State} {a : core.Result ℕ Stop} (lhs rhs : ℕ) where
+  pub ran_join : (case : TypingCase) → case ≡ Join → Did s t a (λ s. join s lhs rhs) → {r : Ran} → r ≡ as_run a Node None true → RanCase s t lhs rhs r case
   unfolding join_in
-  ran_subtype m q c e = rw q (run_after _ _ true (two_follows j.Subtype lhs rhs) c e)
+  ran_join case q c e = rw q (run_after _ _ true (two_follows j.Join lhs rhs) c e)
+
+  pub ran_subtype : (case : TypingCase) → case ≡ Subtype → Did s t a (λ s. subtype s lhs rhs) → {r : Ran} → r ≡ as_run a Node None true → RanCase s t lhs rhs r case
+  unfolding join_in
+  ran_subtype case q c e = rw q (run_after _ _ true (two_follows j.Subtype lhs rhs) c e)
+
+  -- JL
+  pub ran_links : (n : ℕ) → Did s t a (λ s. join s lhs rhs) → ((ds : List Struct) → n ≡ join_links (held s ds) lhs rhs) → {r : Ran} → r ≡ as_run a Node (Some n) true → RanAs Any s t r (binds (joined_links lhs rhs))
+  unfolding join_in run_of step_of tail_of join_tail
+  ran_links n c l e = run_changed a _ _ Node true (Some n) (join_tail lhs rhs) (λ ds. ap u32 (l ds)) (two_follows j.Join lhs rhs) c.changed (tells_node t.used a c.inside) e
 
 -- ---- UF
 
-abbrev Unfolding : State → ℕ → Ran → Type 0
-Unfolding s t r = Runs Any s s r false (λ x. outcome r.result x) (unfold_run t)
+abbrev Unfolding : (d.State → Bytes) → State → ℕ → Ran → Type 0
+Unfolding says s t r = Runs Any s s r false (λ x. outcome r.result x) (unfold_run t) says
 
 abbrev Telling : State → Option Sums → Ran → Type 0
-Telling s c r = Runs Any s s r true (λ x. outcome r.result x) (needs_run (needs_of c))
+Telling s c r = Runs Any s s r true (λ x. outcome r.result x) (needs_run (needs_of c)) no_tail
 
 module _ {s : State} where
   -- nothing was written
-  ran_now : (a : core.Result ℕ Stop) (show : Show) (kept : Bool) (step : d.State → Result (d.State × ℕ)) (f : d.State → d.State → Result (d.State × Bytes)) → Tells s.used show a → ((ds : List Struct) → outcome a (held s ds) ≡ step (held s ds))
-      → ((ds : List Struct) (before : d.State) → (outcome a (held s ds) >>= shows kept show before) ≡ f (held s ds) before) → {r : Ran} → r ≡ as_run a show kept → Runs Any s s r kept step f
+  ran_told : (a : core.Result ℕ Stop) (show : Show) (tail : Option ℕ) (kept : Bool) (step : d.State → Result (d.State × ℕ)) (f : d.State → d.State → Result (d.State × Bytes)) (says : d.State → Bytes) → ((ds : List Struct) → tail_bytes tail ≡ says (held s ds)) → Tells s.used show a
+      → ((ds : List Struct) → outcome a (held s ds) ≡ step (held s ds)) → ((ds : List Struct) (before : d.State) → (outcome a (held s ds) >>= shows kept show before) ≡ f (held s ds) before) → {r : Ran} → r ≡ as_run a show tail kept → Runs Any s s r kept step f says
   unfolding ran
-  ran_now a show kept step f i l q e = subst (λ (x : Ran). Runs Any s s x kept step f) (sym e) (record { left = became_now (λ ds k. l ds); tells = i; kept_is = refl; is = λ ds k before. q ds before })
+  ran_told a show tail kept step f says told i l q e = subst (λ (x : Ran). Runs Any s s x kept step f says) (sym e) (record { left = became_now (λ ds k. l ds); tells = i; kept_is = refl; is = λ ds k before. q ds before; tail_is = told })
 
-  pub ran_unfolded : (t x : ℕ) (y : Unfolded) → Unfolds s y (λ s. spanned s t) → y ≡ NodeU x → {r : Ran} → r ≡ as_run (Ok x) Node false → Unfolding s t r
-  unfolding unfold_run outcome shown ◌>>=◌ write
-  ran_unfolded t x y a q e =
-      subst (Unfolding s t) (sym e)
-      (ran_now (Ok x) Node false _ _ (let i = a.inside in rw q at i) (λ ds. refl)
-      (λ ds before. ap (λ (z : Spanned TypeValue). ok (before, write_spanned (held s ds) z)) (let e = a.is ds in rw q at e)) refl)
+  ran_now : (a : core.Result ℕ Stop) (show : Show) (kept : Bool) (step : d.State → Result (d.State × ℕ)) (f : d.State → d.State → Result (d.State × Bytes)) → Tells s.used show a → ((ds : List Struct) → outcome a (held s ds) ≡ step (held s ds))
+      → ((ds : List Struct) (before : d.State) → (outcome a (held s ds) >>= shows kept show before) ≡ f (held s ds) before) → {r : Ran} → r ≡ as_run a show None kept → Runs Any s s r kept step f no_tail
+  ran_now a show kept step f i l q e = ran_told a show None kept step f no_tail (λ ds. refl) i l q e
 
-  pub ran_anything : (t loc : ℕ) (y : Unfolded) → Unfolds s y (λ s. spanned s t) → y ≡ AnythingU loc → {r : Ran} → r ≡ as_run (Ok 0) (Anything loc) false → Unfolding s t r
-  unfolding unfold_run outcome shown ◌>>=◌
-  ran_anything t loc y a q e =
-      subst (Unfolding s t) (sym e)
-      (ran_now (Ok 0) (Anything loc) false _ _ tt (λ ds. refl)
-      (λ ds before. ap (λ (z : Bytes). ok (before, z)) (sym (write_anything (held s ds) loc) ∙ ap (λ (z : Spanned TypeValue). write_spanned (held s ds) z) (let e = a.is ds in rw q at e))) refl)
+  module _ (tail : Option ℕ) (says : d.State → Bytes) (told : (ds : List Struct) → tail_bytes tail ≡ says (held s ds)) where
+    pub ran_unfolded : (t x : ℕ) (y : Unfolded) → Unfolds s y (λ s. spanned s t) → y ≡ NodeU x → {r : Ran} → r ≡ as_run (Ok x) Node tail false → Unfolding says s t r
+    unfolding unfold_run outcome shown ◌>>=◌ write
+    ran_unfolded t x y a q e =
+        subst (Unfolding says s t) (sym e)
+        (ran_told (Ok x) Node tail false _ _ says told (let i = a.inside in rw q at i) (λ ds. refl)
+        (λ ds before. ap (λ (z : Spanned TypeValue). ok (before, write_spanned (held s ds) z)) (let e = a.is ds in rw q at e)) refl)
+
+    pub ran_anything : (t loc : ℕ) (y : Unfolded) → Unfolds s y (λ s. spanned s t) → y ≡ AnythingU loc → {r : Ran} → r ≡ as_run (Ok 0) (Anything loc) tail false → Unfolding says s t r
+    unfolding unfold_run outcome shown ◌>>=◌
+    ran_anything t loc y a q e =
+        subst (Unfolding says s t) (sym e)
+        (ran_told (Ok 0) (Anything loc) tail false _ _ says told tt (λ ds. refl)
+        (λ ds before. ap (λ (z : Bytes). ok (before, z)) (sym (write_anything (held s ds) loc) ∙ ap (λ (z : Spanned TypeValue). write_spanned (held s ds) z) (let e = a.is ds in rw q at e))) refl)
 
   -- ---- RM
 
-  pub ran_needs : (c : Sums) {r : Ran} → r ≡ as_run (Ok 0) (Four c.nodes c.places c.variables c.constraints) true → Telling s (Some c) r
+  pub ran_needs : (c : Sums) {r : Ran} → r ≡ as_run (Ok 0) (Four c.nodes c.places c.variables c.constraints) None true → Telling s (Some c) r
   unfolding needs_run tell write_needs outcome shown ◌>>=◌
   ran_needs c e = subst (Telling s (Some c)) (sym e) (ran_now (Ok 0) (Four c.nodes c.places c.variables c.constraints) true _ _ tt (λ ds. refl) (λ ds before. refl) refl)
 
-  pub ran_open : {r : Ran} → r ≡ as_run (Err (Refused OpenVariable)) Nothing true → Telling s None r
+  pub ran_open : {r : Ran} → r ≡ as_run (Err (Refused OpenVariable)) Nothing None true → Telling s None r
   unfolding needs_run tell outcome shown ◌>>=◌
   ran_open e = subst (Telling s None) (sym e) (ran_now (Err (Refused OpenVariable)) Nothing true _ _ tt (λ ds. refl) (λ ds before. refl) refl)
 
   -- ---- TS
 
-  pub ran_twice : (ps : List (ℕ × ℕ)) (t : ℕ) → refused parameter_twice ≡ make_tparam_subst ps → {r : Ran} → r ≡ as_run (Err (Refused ParameterTwice)) Node false → Runs Any s s r false (subst_in ps t) (tparams_run ps t)
+  pub ran_twice : (ps : List (ℕ × ℕ)) (t : ℕ) → refused parameter_twice ≡ make_tparam_subst ps → {r : Ran} → r ≡ as_run (Err (Refused ParameterTwice)) Node None false → Runs Any s s r false (subst_in ps t) (tparams_run ps t) no_tail
   unfolding subst_in tparams_run outcome ◌>>=◌
   ran_twice ps t m e = ran_now (Err (Refused ParameterTwice)) Node false _ _ tt (λ ds. rw (← m) refl) (λ ds before. rw (← m) refl) e
 
@@ -179,7 +197,7 @@ marked_follows mark loc s before = go (next_tvar s)
     go (refused x) = refl
 
 module _ {s t : State} {a : core.Result ℕ Stop} where
-  pub ran_tparams : (ps subst : List (ℕ × ℕ)) (ty : ℕ) → ok subst ≡ make_tparam_subst ps → Did s t a (λ s. subst_tparams subst s ty) → {r : Ran} → r ≡ as_run a Node false → Runs Any s t r false (subst_in ps ty) (tparams_run ps ty)
+  pub ran_tparams : (ps subst : List (ℕ × ℕ)) (ty : ℕ) → ok subst ≡ make_tparam_subst ps → Did s t a (λ s. subst_tparams subst s ty) → {r : Ran} → r ≡ as_run a Node None false → Runs Any s t r false (subst_in ps ty) (tparams_run ps ty) no_tail
   unfolding subst_in tparams_run shown ◌>>=◌
   ran_tparams ps subst ty m c e = run_after (subst_in ps ty) (tparams_run ps ty) false follows (did_is (λ ds k. substitutes (held s ds)) c) e
     where
@@ -191,16 +209,16 @@ module _ {s t : State} {a : core.Result ℕ Stop} where
 
   -- ---- IN
 
-  pub ran_instantiate : (K : List Struct → Type 0) (ty : ℕ) → DidFor K s t a (λ s. instantiate s ty) → {r : Ran} → r ≡ as_run a Node true → Runs K s t r true (λ s. instantiate s ty) (instantiate_run ty)
+  pub ran_instantiate : (K : List Struct → Type 0) (ty : ℕ) → DidFor K s t a (λ s. instantiate s ty) → {r : Ran} → r ≡ as_run a Node None true → Runs K s t r true (λ s. instantiate s ty) (instantiate_run ty) no_tail
   ran_instantiate K ty c e = run_after _ _ true (instantiate_follows ty) c e
 
   -- ---- FV, NV, NL
 
-  pub ran_tvar : (loc : ℕ) → TakesVar s t a (λ s. next_tvar s) → {r : Ran} → r ≡ as_run a (Variable loc) true → Runs Any s t r true (λ s. next_tvar s) (tvar_run loc)
-  ran_tvar loc c e = run_changed a _ _ (Variable loc) true (tvar_follows loc) c.changed (tells_var t.used loc a c.inside) e
+  pub ran_tvar : (loc : ℕ) → TakesVar s t a (λ s. next_tvar s) → {r : Ran} → r ≡ as_run a (Variable loc) None true → Runs Any s t r true (λ s. next_tvar s) (tvar_run loc) no_tail
+  ran_tvar loc c e = run_changed a _ _ (Variable loc) true None no_tail (λ ds. refl) (tvar_follows loc) c.changed (tells_var t.used loc a c.inside) e
 
-  pub ran_marked : (mark : Mark) (loc : ℕ) → TakesVar s t a (marked_in mark) → {r : Ran} → r ≡ as_run a (Variable loc) true → Runs Any s t r true (marked_in mark) (marked_run mark loc)
-  ran_marked mark loc c e = run_changed a _ _ (Variable loc) true (marked_follows mark loc) c.changed (tells_var t.used loc a c.inside) e
+  pub ran_marked : (mark : Mark) (loc : ℕ) → TakesVar s t a (marked_in mark) → {r : Ran} → r ≡ as_run a (Variable loc) None true → Runs Any s t r true (marked_in mark) (marked_run mark loc) no_tail
+  ran_marked mark loc c e = run_changed a _ _ (Variable loc) true None no_tail (λ ds. refl) (marked_follows mark loc) c.changed (tells_var t.used loc a c.inside) e
 
 -- a mark, then its need
 pub literal_kept : {s m t : State} (v loc : ℕ) {n bits : ℕ} → Kept s m (λ s. set_num_var s v loc) → Kept m t (λ s. with_need s v n) → n ≡ bits → Kept s t (λ s. needing loc bits s v)
@@ -228,9 +246,9 @@ module _ {s t : State} where
 
   -- ---- NC, BC, SC
 
-  pub ran_constraint : {a : core.Result (Unit {0}) Stop} (k : d.Constraint) → Added s t a (pushed_constraint k) → {r : Ran} → r ≡ as_run (zero_of a) Nothing true → Runs Any s t r true (pushed_constraint k) (constraint_run k)
+  pub ran_constraint : {a : core.Result (Unit {0}) Stop} (k : d.Constraint) → Added s t a (pushed_constraint k) → {r : Ran} → r ≡ as_run (zero_of a) Nothing None true → Runs Any s t r true (pushed_constraint k) (constraint_run k) no_tail
   unfolding pushed_constraint constraint_run ◌>>=◌ shown
-  ran_constraint {a} k c e = run_changed (zero_of a) _ _ Nothing true follows c.changed (tells_none t.used a c.inside) e
+  ran_constraint {a} k c e = run_changed (zero_of a) _ _ Nothing true None no_tail (λ ds. refl) follows c.changed (tells_none t.used a c.inside) e
     where
       go : (before : d.State) (m : Result d.State) → ((m >>= (λ (x : d.State). ok (x, 0))) >>= shows true Nothing before) ≡ (m >>= (λ (x : d.State). ok (x, [])))
       go before (ok x) = refl
@@ -242,9 +260,9 @@ module _ {s t : State} where
 
   -- ---- SN
 
-  pub ran_set_num : (v loc : ℕ) → Kept s t (λ s. set_num_var s v loc) → {r : Ran} → r ≡ as_run (Ok 0) Nothing true → Runs Any s t r true (set_num_in v loc) (set_num_run v loc)
+  pub ran_set_num : (v loc : ℕ) → Kept s t (λ s. set_num_var s v loc) → {r : Ran} → r ≡ as_run (Ok 0) Nothing None true → Runs Any s t r true (set_num_in v loc) (set_num_run v loc) no_tail
   unfolding set_num_in set_num_run outcome shown ◌>>=◌
-  ran_set_num v loc c e = run_changed (Ok 0) _ _ Nothing true (λ x before. refl) (became_as (λ s. ok (s, 0)) c.changed (λ s. refl)) tt e
+  ran_set_num v loc c e = run_changed (Ok 0) _ _ Nothing true None no_tail (λ ds. refl) (λ x before. refl) (became_as (λ s. ok (s, 0)) c.changed (λ s. refl)) tt e
 
 -- ---- SD
 
@@ -291,7 +309,7 @@ module _ {s t : State} {a : core.Result ℕ Stop} {abilities n : ℕ} (c : Decla
   number (Err (Failed x)) e = tt
   number (Err (Refused x)) e = tt
 
-  pub ran_declare : {r : Ran} → r ≡ as_run a Number true → Declared s t r abilities n
+  pub ran_declare : {r : Ran} → r ≡ as_run a Number None true → Declared s t r abilities n
   unfolding ran declare_run shown
   ran_declare e =
       subst (λ (x : Ran). Declared s t x abilities n) (sym e)
@@ -300,6 +318,7 @@ module _ {s t : State} {a : core.Result ℕ Stop} {abilities n : ℕ} (c : Decla
         grown = c.declared.grown;
         tells = tells_number t.used a after (subst (λ (x : Result (d.State × ℕ)). NoError x) (sym blank_is) (declare_no_error (held s blanks) abilities []));
         kept_is = refl;
+        tail_is = refl;
         number = number a refl;
         is = λ ds ps many before. ap (λ (x : Result (d.State × ℕ)). x >>= shows true Number before) (c.declared.is ds ps many);
         declares = c.declared.declares;

@@ -44,7 +44,7 @@ ShapeIn s (all_pairs ps) = All (λ (p : TypingCase × Tree × Tree). TreeIn s p.
 
 -- the definition's run is the shape's, and what was read well is of a good shape
 by_record : (s : State) (x : Record) → (definition.run s x ≡ run_shape (shape x) s) × (RecordIn s x → ShapeIn s (shape x))
-unfolding definition.run constrain two_types run_of join_in two_run unfold_run ready_run spelled tparams_run instantiate_run tvar_run marked_run set_num_run constraint_run needs_run declare_run
+unfolding definition.run constrain two_types definition.unfolded run_of join_in two_run unfold_run ready_run spelled tparams_run instantiate_run tvar_run marked_run set_num_run constraint_run needs_run declare_run
 by_record s (d.SD abilities params) = (refl, λ g. g)
 by_record s (d.FV loc) = (refl, λ g. tt)
 by_record s (d.NV loc) = (refl, λ g. tt)
@@ -64,6 +64,8 @@ by_record s (d.RM t) = (refl, λ g. tt)
 by_record s (d.CN t) = (refl, λ g. g)
 by_record s (d.XP t) = (refl, λ g. g)
 by_record s (d.MJ pairs) = (refl, λ g. g)
+by_record s (d.UL t) = (refl, λ g. g)
+by_record s (d.JL t1 t2) = (refl, λ g. g)
 
 pub shape_in : (s : State) (x : Record) → RecordIn s x → ShapeIn s (shape x)
 shape_in s x g = (by_record s x).1 g

@@ -15,7 +15,7 @@ use Rattle.table.specs.declared.state.State.{State as Table}
 use Rattle.writer.specs.Bytes.{AllBytes}
 use Rattle.answer.specs.Ran.{Settles}
 use Rattle.answer.specs.declared.Ran.{Ran}
-use Rattle.fields.specs.Noded.{unfolded, ready, tparams, Run, binds, looks, adds, Noded, run, Shape, declares, solves, expands, none, one, both, after_pairs, all_pairs, shape, place, place_record}
+use Rattle.fields.specs.Noded.{unfolded, unfolded_links, ready, tparams, Run, binds, looks, adds, Noded, run, Shape, declares, solves, expands, none, one, both, after_pairs, all_pairs, shape, place, place_record}
 use Rattle.table.specs.Known.{Known}
 use Rattle.run.proofs.Bytes.{Leaves, step_bytes, record_bytes, ready_leaves, subst_leaves, unfold_leaves}
 use Rattle.run.specs.Dispatch.{noded_run, step_of, kept_of, RanAs}
@@ -64,6 +64,7 @@ module _ {s t : Table} {r : Ran} {params : List (List ℕ)} (ds : List Struct) (
   unfolding step_of
   run_bytes (binds n) c p h = kept _ refl c p h
   run_bytes (looks (unfolded ty)) c p h = step_bytes c ds k b (unfold_leaves b (held s ds) (placed_in b i x g _ _ p) r.result h) h
+  run_bytes (looks (unfolded_links ty)) c p h = step_bytes c ds k b (unfold_leaves b (held s ds) (placed_in b i x g _ _ p) r.result h) h
   run_bytes (looks (ready how ty)) c p h = step_bytes c ds k b (ready_leaves b (held s ds) (placed_in b i x g _ _ p) ty) h
   run_bytes (looks (tparams pairs ty)) c p h = step_bytes c ds k b (subst_leaves b (held s ds) (placed_in b i x g _ _ p) pairs ty) h
   run_bytes (adds n) c p h = kept _ refl c p h

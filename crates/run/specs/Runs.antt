@@ -5,12 +5,13 @@ use Prim.Native.Nat.{ℕ}
 use Rattle.definition.specs.Types as d
 use Rattle.definition.specs.Types.{Struct, Result, ok, ◌>>=◌}
 use Rattle.definition.specs.Store.{spanned, with_need, next_tvar, add_constraint, declare}
-use Rattle.definition.specs.Subst.{set_num_var, unfold_type, ready_tvars}
+use Rattle.definition.specs.Subst.{links_of, set_num_var, unfold_type, ready_tvars}
 use Rattle.definition.specs.Join as j
 use Rattle.definition.specs.Join.{join, subtype}
+use Rattle.definition.specs.Links.{join_links}
 use Rattle.definition.specs.TParams.{make_tparam_subst, subst_tparams}
 use Rattle.definition.specs.Instantiate.{instantiate}
-use Rattle.definition.specs.Write.{Bytes, u16, head, write, write_spanned}
+use Rattle.definition.specs.Write.{Bytes, u16, u32, head, write, write_spanned}
 use Rattle.definition.specs.Needs.{Needs}
 use Rattle.definition.specs.Step.{tell}
 use Rattle.theorems.specs.ReadySpelled.{Spelling, spelled}
@@ -19,6 +20,7 @@ use Rattle.table.specs.Did.{held, tables, StopIn, Became, Linked}
 use Rattle.table.specs.declared.Used.{Used}
 use Rattle.table.specs.declared.state.State.{State}
 use Rattle.table.specs.declared.state.Stop.{Stop}
+use Rattle.payload.specs.Payload.{tail_bytes}
 use Rattle.answer.specs.Ran.{ran, Tells}
 use Rattle.answer.specs.declared.Ran.{Ran}
 
@@ -112,12 +114,25 @@ declare_run abilities params s before = do
 
 -- ---- what a run leaves
 
--- the state s became t, and the answer is r: as f says, and r's number and state as `step` says, for the declarations in K. On success the state is kept, or not
-pub record Runs (K : List Struct → Type 0) (s t : State) (r : Ran) (kept : Bool) (step : d.State → Result (d.State × ℕ)) (f : d.State → d.State → Result (d.State × Bytes)) : Type 0 where
+-- no tail
+abbrev pub no_tail : d.State → Bytes
+no_tail s = []
+
+-- JL
+unfoldable pub join_tail : ℕ → ℕ → d.State → Bytes
+join_tail lhs rhs s = u32 (join_links s lhs rhs)
+
+-- UL
+unfoldable pub unfold_tail : ℕ → d.State → Bytes
+unfold_tail t s = u32 (links_of s t)
+
+-- the state s became t, and the answer is r: as f says, with the tail behind what is shown, and r's number and state as `step` says, for the declarations in K. On success the state is kept, or not
+pub record Runs (K : List Struct → Type 0) (s t : State) (r : Ran) (kept : Bool) (step : d.State → Result (d.State × ℕ)) (f : d.State → d.State → Result (d.State × Bytes)) (tail : d.State → Bytes) : Type 0 where
   pub left : Became K s t (outcome r.result) step
   pub tells : Tells t.used r.show r.result
   pub kept_is : r.kept ≡ kept
   pub is : (ds : List Struct) → K ds → (before : d.State) → ran r (held t ds) before ≡ f (held s ds) before
+  pub tail_is : (ds : List Struct) → tail_bytes r.tail ≡ tail (held s ds)
 
 -- a variable that is taken, or no node past the last
 abbrev pub TakenIn : Used → core.Result ℕ Stop → Type 0
@@ -135,6 +150,7 @@ pub record Declared (s t : State) (r : Ran) (abilities params : ℕ) : Type 0 wh
   pub grown : Grown (tables s) (tables t)
   pub tells : Tells t.used r.show r.result
   pub kept_is : r.kept ≡ true
+  pub tail_is : r.tail ≡ None
   pub number : FoundIn 256 (done r.result)
   pub is : (ds : List Struct) (ps : List ℕ) → length ds ≡ s.used.structs → (before : d.State)
       → ran r (held t (more (done r.result) ds (record { abilities = abilities; params = ps }))) before ≡ declare_run abilities ps (held s ds) before

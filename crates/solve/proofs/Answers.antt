@@ -13,7 +13,7 @@ use Rattle.definition.specs.Constraints.{failures}
 use Rattle.definition.specs.Store.{with_constraints, with_structs}
 use Rattle.definition.specs.Write.{Bytes}
 use Rattle.definition.specs.Step as step
-use Rattle.definition.specs.Step.{answer, answer_with, answer_within, refusal, max_payload}
+use Rattle.definition.specs.Step.{answer, answer_with, answer_within, behind, refusal, max_payload}
 use Rattle.refusals.specs.Refusals.{refusal_of}
 use Rattle.refusals.specs.declared.Refusal.{Refusal}
 use Rattle.table.specs.State.{outcome, seen, Grown}
@@ -47,7 +47,7 @@ use Rattle.solve.proofs.Left.{Decided}
 -- ---- the definition's answers
 
 solved_given : (s before : d.State) → Given (failures s) → solved s before ≡ answer_with max_payload before 0 (bytes_of (failures s)) (with_constraints s [])
-unfolding solved answer answer_within ◌>>=◌
+unfolding solved answer answer_within behind ◌>>=◌
 solved_given s before e = ap (λ (m : d.Result Bytes). answer before (m >>= (λ b. ok (with_constraints s [], b)))) e
 
 answer_fits : (before after : d.State) (b : Bytes) → length b ≤ 4096 → answer_with max_payload before 0 b after ≡ record { number = 0; payload = b; state = after }
@@ -65,7 +65,7 @@ solved_long : (s before : d.State) → Given (failures s) → 4096 < length (byt
 solved_long s before g h = solved_given s before g ∙ answer_long before (with_constraints s []) (bytes_of (failures s)) h
 
 solved_refused : (s before : d.State) (x : d.Refusal) → failures s ≡ refused x → solved s before ≡ refusal before x
-unfolding solved answer answer_within ◌>>=◌
+unfolding solved answer answer_within behind ◌>>=◌
 solved_refused s before x e = ap (λ (m : d.Result Bytes). answer before (m >>= (λ b. ok (with_constraints s [], b)))) e
 
 -- ---- what is said of all declarations, and what is said otherwise
@@ -140,6 +140,6 @@ module _ {w₀ : List ℕ} (before : Before) (s s₁ : State) (e : w₀ ≡ s.wo
     unfolding solve_answer solved outcome ◌>>=◌
     solved_done a c = solves solved a.changed.same a.changed.step.structs (λ ds y. ap (answer y) (sym (goes_on (Ok 0) a.changed ds))) c
 
-    pub solved_stop : {stop : Stop} → Decided s s₁ (Err stop) → AnswersIn w₀ before s₁ t buf buf' x (answered (record { result = Err stop; show = show.Nothing; kept = true })) → Solves s params t buf buf' x
-    unfolding solve_answer ran shown
+    pub solved_stop : {stop : Stop} → Decided s s₁ (Err stop) → AnswersIn w₀ before s₁ t buf buf' x (answered (record { result = Err stop; show = show.Nothing; tail = None; kept = true })) → Solves s params t buf buf' x
+    unfolding solve_answer ran shown answer
     solved_stop {stop = stop} a c = solves _ a.changed.same a.changed.step.structs (λ ds y. ap (answer y) (sym (unsolved (Err stop) a.changed (stop_none stop) ds))) (reports_all before c)

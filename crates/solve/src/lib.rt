@@ -104,6 +104,7 @@ fn solve_from(
             let ran = Ran {
                 result: Err(e),
                 show: Show::Nothing,
+                tail: None,
                 kept: true,
             };
             settle(st, before, ran, buf)

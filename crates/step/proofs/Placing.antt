@@ -1,19 +1,25 @@
 -- Only SD is placed as a declaration and only SV as solving, and both leave the state as it is; only RD, CN and XP are placed as ones to be spelled, each in its way, and the node is that of the record's tree; only MJ is placed as pairs. Assumes nothing.
-use mathlib.Core.Path.{◌≡◌, refl, sym, ap}
-use mathlib.Core.List.{List}
+use mathlib.Core.Path.{◌≡◌, refl, sym, ap, ◌∙◌}
+use mathlib.Core.List.{List, []}
 use Prim.Native.Nat.{ℕ, ◌≤◌}
 use native.Mathlib.Omega.{arith}
 use Rattle.definition.specs.Types.{State, BaseTypeConstraint, SingleTypeConstraint, Result, ok, err, refused, ◌>>=◌}
 use Rattle.definition.specs.Trees.{Tree}
 use Rattle.definition.specs.Build.{build, build_pairs, build_many}
 use Rattle.definition.specs.Join.{TypingCase}
-use Rattle.definition.specs.Step.{numeric_constraint, as_others, apart}
+use Rattle.definition.specs.Step.{Apart, numeric_constraint, max_payload, apart, most_of, counted}
+use Rattle.definition.specs.Step.{tail_of as tail_before}
+use Rattle.definition.specs.Write.{Bytes}
+use Rattle.definition.specs.Subst.{links_of}
+use Rattle.definition.specs.Links.{join_links}
 use Rattle.definition.specs.Record as d
 use Rattle.definition.specs.Record.{Record}
 use Rattle.theorems.specs.ReadySpelled.{Spelling, Located, Canonical, spelled_record}
 use Rattle.theorems.proofs.DemandTracks.{never}
-use Rattle.theorems.proofs.DemandEveryDepth.{ByApart, as_other, as_many, by_apart}
-use Rattle.fields.specs.Noded.{instantiate, unfolded, ready, tparams, constrain, Run, binds, looks, adds, Noded, declare, solve, expand, many, run, Shape, declares, solves, expands, none, one, both, after_pairs, all_pairs, shape, place, place_record}
+use Rattle.theorems.proofs.DemandEveryDepth.{ByApart, as_other, as_many, as_links_of_one, as_links_of_two, by_apart}
+use Rattle.fields.specs.Noded.{set_num, two, joined_links, instantiate, unfolded, unfolded_links, ready, tparams, constrain, Run, binds, looks, adds, Noded, declare, solve, expand, many, run, Shape, declares, solves, expands, none, one, both, after_pairs, all_pairs, shape, place, place_record}
+use Rattle.run.specs.Runs.{join_tail, unfold_tail}
+use Rattle.run.specs.Dispatch.{tail_of}
 
 -- whether it is declared or solved, without a type
 abbrev own : Noded → ℕ
@@ -39,9 +45,34 @@ by_trees (expand t) = 1
 by_trees (many ps) = 1
 by_trees (run (binds b)) = 0
 by_trees (run (looks (unfolded t))) = 0
+by_trees (run (looks (unfolded_links t))) = 0
 by_trees (run (looks (ready how t))) = 1
 by_trees (run (looks (tparams ps t))) = 0
 by_trees (run (adds a)) = 0
+
+-- whether a count stands behind what it shows
+abbrev counts : Noded → ℕ
+counts (declare a ps) = 0
+counts solve = 0
+counts (expand t) = 0
+counts (many ps) = 0
+counts (run (binds (set_num v loc))) = 0
+counts (run (binds (two case lhs rhs))) = 0
+counts (run (binds (joined_links lhs rhs))) = 1
+counts (run (binds (instantiate t))) = 0
+counts (run (looks (unfolded t))) = 0
+counts (run (looks (unfolded_links t))) = 1
+counts (run (looks (ready how t))) = 0
+counts (run (looks (tparams ps t))) = 0
+counts (run (adds a)) = 0
+
+-- .. and which
+abbrev pub tail_after : Noded → State → Bytes
+tail_after (declare a ps) s = []
+tail_after solve s = []
+tail_after (expand t) s = []
+tail_after (many ps) s = []
+tail_after (run r) s = tail_of r s
 
 abbrev whose : Noded → Shape
 whose (declare a ps) = declares a ps
@@ -152,12 +183,78 @@ module _ (s s' : State) (n : Noded) where
     placed_tree (d.CN t) e = as_spelled Canonical t e
     placed_tree (d.XP t) e = let (ty, b, q) = built (build t s) expand e in rw q (placed_expanded (record { tree = t; is = refl; placed = b }))
     placed_tree (d.MJ ps) e = let (qs, b, q) = built (build_many ps s) many e in rw q (placed_pairs (record { trees = ps; is = refl; placed = b }))
+    placed_tree (d.UL t) e = not_by_trees _ (last by_trees (build t s) (λ u. run (looks (unfolded_links u))) (λ a. refl)) e
+    placed_tree (d.JL t1 t2) e = not_by_trees _ (more by_trees (build t1 s) t2 _ (λ a b. refl)) e
 
-  -- a record that stands as the others do
-  pub placed_other : is_many n ≡ 0 → (x : Record) → Placed (place_record x s) → apart x ≡ as_others
-  unfolding place_record
-  placed_other l x e = go (by_apart x) e
+  -- a record that is answered in 4,096 bytes
+  pub placed_most : is_many n ≡ 0 → (x : Record) → Placed (place_record x s) → most_of (apart x) ≡ max_payload
+  unfolding place_record most_of
+  placed_most l x e = go (by_apart x) e
     where
-      go : {y : Record} {a : _} → ByApart y a → Placed (place_record y s) → a ≡ as_others
+      go : {y : Record} {a : Apart} → ByApart y a → Placed (place_record y s) → most_of a ≡ max_payload
       go as_other e = refl
+      go as_links_of_one e = refl
+      go as_links_of_two e = refl
       go (as_many {ps = ps}) e = let (qs, b, q) = built (build_many ps s) many e in absurd (omega (arith, l, ap is_many q))
+
+  -- what stands behind what a record shows is told by what it is placed as
+  untold : (x : Noded) → counts x ≡ 0 → [] ≡ tail_after x s'
+  unfolding tail_of
+  untold (declare a ps) h = refl
+  untold solve h = refl
+  untold (expand t) h = refl
+  untold (many ps) h = refl
+  untold (run (binds (set_num v loc))) h = refl
+  untold (run (binds (two case lhs rhs))) h = refl
+  untold (run (binds (joined_links lhs rhs))) h = never (omega (arith, h))
+  untold (run (binds (instantiate t))) h = refl
+  untold (run (looks (unfolded t))) h = refl
+  untold (run (looks (unfolded_links t))) h = never (omega (arith, h))
+  untold (run (looks (ready how t))) h = refl
+  untold (run (looks (tparams ps t))) h = refl
+  untold (run (adds a)) h = refl
+
+  no_count : (m : Result (State × Noded)) → told_in counts m ≡ 0 → Placed m → [] ≡ tail_after n s'
+  no_count m z e = untold n (sym (ap (told_in counts) e) ∙ z)
+
+  counted_one : (m : Result (State × ℕ)) → Placed (m >>= (λ p. ok (p.0, run (looks (unfolded_links p.1))))) → counted (m >>= (λ (p : State × ℕ). ok (links_of p.0 p.1))) ≡ tail_after n s'
+  unfolding ◌>>=◌ counted tail_of unfold_tail
+  counted_one (ok p) e = let q = parts s' n p.0 (run (looks (unfolded_links p.1))) e in rw (q.0, q.1) refl
+  counted_one (err y z) e = never (cc)
+  counted_one (refused y) e = never (cc)
+
+  counted_last : (a : ℕ) (m : Result (State × ℕ)) → Placed (m >>= (λ p. ok (p.0, run (binds (joined_links a p.1))))) → counted (m >>= (λ (p : State × ℕ). ok (join_links p.0 a p.1))) ≡ tail_after n s'
+  unfolding ◌>>=◌ counted tail_of join_tail
+  counted_last a (ok p) e = let q = parts s' n p.0 (run (binds (joined_links a p.1))) e in rw (q.0, q.1) refl
+  counted_last a (err y z) e = never (cc)
+  counted_last a (refused y) e = never (cc)
+
+  counted_two : (u : Tree) (m : Result (State × ℕ)) → Placed (m >>= (λ p. build u p.0 >>= (λ q. ok (q.0, run (binds (joined_links p.1 q.1)))))) → counted (m >>= (λ (p : State × ℕ). build u p.0 >>= (λ (q : State × ℕ). ok (join_links q.0 p.1 q.1)))) ≡ tail_after n s'
+  unfolding ◌>>=◌ counted
+  counted_two u (ok p) e = counted_last p.1 (build u p.0) e
+  counted_two u (err y z) e = never (cc)
+  counted_two u (refused y) e = never (cc)
+
+  pub placed_tail : (x : Record) → Placed (place_record x s) → tail_before s (apart x) ≡ tail_after n s'
+  unfolding place_record tail_before apart
+  placed_tail (d.SD abilities params) e = no_count _ refl e
+  placed_tail (d.FV loc) e = no_count _ refl e
+  placed_tail (d.NV loc) e = no_count _ refl e
+  placed_tail (d.SN v loc) e = no_count _ refl e
+  placed_tail (d.NL loc bits) e = no_count _ refl e
+  placed_tail (d.JN t1 t2) e = no_count _ (more counts (build t1 s) t2 _ (λ a b. refl)) e
+  placed_tail (d.SU t1 t2) e = no_count _ (more counts (build t1 s) t2 _ (λ a b. refl)) e
+  placed_tail (d.UF t) e = no_count _ (last counts (build t s) (λ u. run (looks (unfolded u))) (λ a. refl)) e
+  placed_tail (d.RD t) e = no_count _ (last counts (build t s) (λ u. run (looks (ready Located u))) (λ a. refl)) e
+  placed_tail (d.IN t) e = no_count _ (last counts (build t s) (λ u. run (binds (instantiate u))) (λ a. refl)) e
+  placed_tail (d.TS pairs t) e = no_count _ (more counts (build_pairs pairs s) t _ (λ a b. refl)) e
+  placed_tail (d.NC loc kind t) e = no_count _ (last counts (build t s) (λ u. run (adds (constrain (numeric_constraint kind loc u)))) (λ a. refl)) e
+  placed_tail (d.BC loc t) e = no_count _ (last counts (build t s) (λ u. run (adds (constrain (BaseTypeConstraint loc u)))) (λ a. refl)) e
+  placed_tail (d.SC loc t) e = no_count _ (last counts (build t s) (λ u. run (adds (constrain (SingleTypeConstraint loc u)))) (λ a. refl)) e
+  placed_tail d.SV e = no_count _ refl e
+  placed_tail (d.RM t) e = no_count _ refl e
+  placed_tail (d.CN t) e = no_count _ (last counts (build t s) (λ u. run (looks (ready Canonical u))) (λ a. refl)) e
+  placed_tail (d.XP t) e = no_count _ (last counts (build t s) expand (λ a. refl)) e
+  placed_tail (d.MJ ps) e = no_count _ (last counts (build_many ps s) many (λ a. refl)) e
+  placed_tail (d.UL t) e = counted_one (build t s) e
+  placed_tail (d.JL t1 t2) e = counted_two t2 (build t1 s) e

@@ -1,7 +1,7 @@
 -- From what was run to its answer, in the state and the parameter bytes. Assumes nothing.
 use mathlib.Core.Path.{◌≡◌, refl, sym, ap, ap₂, ◌∙◌, subst}
 use mathlib.Core.Bool.{Bool, true, false}
-use mathlib.Core.List.{List, ◌++◌}
+use mathlib.Core.List.{List, [], ◌++◌}
 use Prim.Native.Nat.{ℕ, ◌≤◌, ◌<◌}
 use native.Mathlib.Omega.{arith}
 use lib.ListN.{length, take, drop, length-take}
@@ -19,7 +19,7 @@ use Rattle.definition.specs.Record as record_of
 use Rattle.definition.specs.Record.{Record}
 use Rattle.definition.specs.Sound.{sound}
 use Rattle.definition.specs.Step as step
-use Rattle.definition.specs.Step.{max_payload, answer_within, answer, refusal, run_pairs, as_others, most_of, apart, max_many, reply}
+use Rattle.definition.specs.Step.{max_payload, answer_within, answer, refusal, run_pairs, most_of, apart, max_many, reply}
 use Rattle.theorems.specs.ReadySpelled.{Spelling, Located, Canonical, spelled_record, spell_ready, with_state}
 use Rattle.theorems.proofs.DemandTracks.{never}
 use Rattle.theorems.proofs.DemandOrder.{Sound}
@@ -54,13 +54,14 @@ use Rattle.definition.specs.Join.{TypingCase}
 use Rattle.fields.specs.Noded.{place_record, ready, looks, Run, Noded, declare, solve, expand, many, many_at, run, Shape}
 use Rattle.writer.specs.Bytes.{AllBytes}
 use Rattle.canonical.specs.Named.{Numbered, AllNumbered}
-use Rattle.answer.specs.Ran.{Tells, Settles, Still, answered, refused_by, told_by, spelled_by}
+use Rattle.answer.specs.Ran.{ran, Tells, Settles, Still, answered, refused_by, told_by, spelled_by}
 use Rattle.answer.specs.Answered.{AnswersIn}
 use Rattle.answer.specs.declared.Ran.{Ran}
 use Rattle.payload.specs.declared.Answer.{Answer}
 use Rattle.run.specs.Runs.{Declared, with_row}
 use Rattle.run.proofs.Bytes.{in_words, declare_bytes}
-use Rattle.run.specs.Dispatch.{noded_run, step_of, RanAs}
+use Rattle.payload.specs.Payload.{tail_bytes}
+use Rattle.run.specs.Dispatch.{noded_run, step_of, tail_of, RanAs}
 use Rattle.run.proofs.Placed.{ShapeIn, shape_in, run_placed}
 use Rattle.run.proofs.PlacedBytes as noded
 use Rattle.run.proofs.Inside.{known_structs}
@@ -72,7 +73,7 @@ use Rattle.step.specs.Trusted.{held, Stands, wants}
 use Rattle.verdict.specs.Verdict.{row_for, padded}
 use Rattle.step.specs.Replies.{Replied, Begun}
 use Rattle.step.proofs.Rows.{rows_of, rows_seen, held_known, known_rows, row_in, row_kept, arities_kept}
-use Rattle.step.proofs.Placing.{is_many, placed_SD, placed_SV, OfTree, OfTrees, placed_spelled, placed_expanded, placed_pairs, placed_tree, placed_other}
+use Rattle.step.proofs.Placing.{is_many, placed_SD, placed_SV, OfTree, OfTrees, placed_spelled, placed_expanded, placed_pairs, placed_tree, placed_most, placed_tail, tail_after}
 use Rattle.step.proofs.Standing.{Leaves, leaves_ok, place_leaves, unkept_leaves}
 use Rattle.step.proofs.Keeping.{sound_arities, saved_still}
 
@@ -174,10 +175,15 @@ module _ {w₀ : List ℕ} {entry : Used} {rows : List ℕ} {params : List (List
   unfolding held
   bytes_placed = in_words s₀ s.words.now s.used ds (noded.placed_in s₀ in_range x b.fields _ _ b.placed)
 
-  -- a record that stands as the others do
-  pub as_other : is_many n ≡ 0 → {t : Table} {params' : List (List ℕ)} {buf buf' : List ℕ} {r : Answer} → Replied 4096 buf t params' buf' r (answer s₀ (step.run s₀ x)) → Replied (most_of (apart x)) buf t params' buf' r (reply s₀ x)
-  unfolding reply answer most_of max_payload
-  as_other l z = let e = placed_other _ _ n l x b.placed in rw e z
+  -- a record that is answered in 4,096 bytes, by what stands behind what it shows
+  pub as_one : is_many n ≡ 0 → {t : Table} {params' : List (List ℕ)} {buf buf' : List ℕ} {r : Answer} → Replied 4096 buf t params' buf' r (answer_within 4096 (tail_after n (seen_in s ds)) s₀ (step.run s₀ x)) → Replied (most_of (apart x)) buf t params' buf' r (reply s₀ x)
+  unfolding reply max_payload
+  as_one l z = rw (placed_most _ _ n l x b.placed, placed_tail _ _ n x b.placed) z
+
+  -- .. nothing
+  pub as_other : is_many n ≡ 0 → [] ≡ tail_after n (seen_in s ds) → {t : Table} {params' : List (List ℕ)} {buf buf' : List ℕ} {r : Answer} → Replied 4096 buf t params' buf' r (answer s₀ (step.run s₀ x)) → Replied (most_of (apart x)) buf t params' buf' r (reply s₀ x)
+  unfolding answer max_payload
+  as_other l q z = as_one l (rw (← q) z)
 
 -- by any mark but SD and SV
 module _ {w₀ : List ℕ} {entry : Used} {rows : List ℕ} {params : List (List ℕ)} {s : Table} {x : Record} {n : Run} (b : Begun w₀ entry rows params s x (run n)) where
@@ -193,11 +199,11 @@ module _ {w₀ : List ℕ} {entry : Used} {rows : List ℕ} {params : List (List
         let left : ok (seen_in t (ds b), ty) ≡ step_of r₁ n (seen_in s (ds b)) = sym (ap (λ (o : core.Result ℕ Stop). outcome o (seen_in t (ds b))) e) ∙ c.left.step.is (ds b) (then_known b) in
         saved_still w₀ entry t b.since.lay (leaves_ok (subst (Leaves (λ v. v ≡ (s₀ b).vars)) (sym left) (unkept_leaves r₁ n (seen_in s (ds b)) (sym c.kept_is ∙ q) (vars_placed b)))) rows b.since.kept
 
-    pub reply_run : {bf : Before} {t' : Table} {buf buf' : List ℕ} {r : Answer} → AnswersIn w₀ bf t t' buf buf' r (answered r₁) → bf.used ≡ entry → Replied 4096 buf t' params buf' r (answer (s₀ b) (step.run (s₀ b) x))
-    unfolding held noded_run
+    pub reply_run : {bf : Before} {t' : Table} {buf buf' : List ℕ} {r : Answer} → AnswersIn w₀ bf t t' buf buf' r (answered r₁) → bf.used ≡ entry → Replied 4096 buf t' params buf' r (answer_within 4096 (tail_of n (seen_in s (ds b))) (s₀ b) (step.run (s₀ b) x))
+    unfolding held noded_run max_payload
     reply_run a p =
         replied_same a entry p (ds b) (lent_declares w₀ params entry) (declares_stay s.words.now s.used t (ds b) c.left.step.structs (then_declares b)) params
-        (stands_arities b.stands) (stands_rows b.stands) _ (ap (answer (s₀ b)) (run_is b ∙ sym (c.is (ds b) (then_known b) (s₀ b))))
+        (stands_arities b.stands) (stands_rows b.stands) _ (ap₂ (λ (l : Bytes) (m : Result (State × Bytes)). answer_within 4096 l (s₀ b) m) (sym (c.tail_is (ds b))) (run_is b ∙ sym (c.is (ds b) (then_known b) (s₀ b))))
 
 -- t and r are what the run of n leaves
 pub record WasRun (params : List (List ℕ)) (s t : Table) (r : Ran) (n : Noded) : Type 0 where
@@ -214,8 +220,8 @@ module _ {w₀ : List ℕ} {entry : Used} {rows : List ℕ} {params : List (List
       → GrownFrom w₀ bf t × ((Tells t.used r₁.show r₁.result × ((Settles r₁.result → AllBytes (tables t)) × (4096 ≤ length buf))) × ((ty : ℕ) → r₁.result ≡ Ok ty → r₁.kept ≡ false → Still t.words.now t.used bf.used bf.saved.now))
   run_settles bf p q buf l = (then_grown b bf p q t k.ran.left.same k.ran.left.step.grown, ((k.ran.tells, (run_bytes begun_run k.ran, l)), rw (p, q) (run_still begun_run k.ran)))
 
-  pub reply_ran : {bf : Before} {t' : Table} {buf buf' : List ℕ} {a : Answer} → AnswersIn w₀ bf t t' buf buf' a (answered r₁) → bf.used ≡ entry → Replied 4096 buf t' params buf' a (answer (held w₀ entry params) (step.run (held w₀ entry params) x))
-  reply_ran a p = reply_run begun_run k.ran a p
+  pub reply_ran : {bf : Before} {t' : Table} {buf buf' : List ℕ} {a : Answer} → AnswersIn w₀ bf t t' buf buf' a (answered r₁) → bf.used ≡ entry → Replied (most_of (apart x)) buf t' params buf' a (reply (held w₀ entry params) x)
+  reply_ran a p = as_one begun_run refl (reply_run begun_run k.ran a p)
 
 -- ---- RD and CN
 
@@ -326,13 +332,13 @@ module _ {w₀ : List ℕ} {entry : Used} {rows : List ℕ} {params : List (List
 
   pub reply_declared : {bf : Before} {t' : Table} {buf buf' : List ℕ} {r : Answer} → AnswersIn w₀ bf t t' buf buf' r (answered r₁) → bf.used ≡ entry → r.kept ≡ kept
       → (row : List ℕ) → row ≡ padded bytes many → (params' : List (List ℕ)) → params' ≡ with_row n params row → Replied 4096 buf t' params' buf' r (answer (held w₀ entry params) (step.run (held w₀ entry params) x))
-  unfolding held noded_run number
+  unfolding held noded_run number answer
   reply_declared {r = r} a counts k row is_padded params' p =
       let q : params' ≡ with_row (row_for number r.kept s.used.structs) params (padded bytes many) = p ∙ ap₂ (λ (m : Option ℕ) (l : List ℕ). with_row m params l) (is_row ∙ ap (λ (y : Bool). row_for number y s.used.structs) (sym k)) is_padded in
       replied a entry counts (ds b) (with_new b c) (lent_declares w₀ params entry) (then_more b c as_long) params'
       (arities_kept number r.kept (ds b) abilities many bytes (stands_arities b.stands) (omega (arith, as_long, few)))
       (q ∙ row_kept number r.kept (ds b) abilities many bytes s.used.structs params (many_before b c) (few_more b c as_long) (stands_rows b.stands))
-      _ (ap (answer (s₀ b)) (run_is b ∙ sym (c.is (ds b) (take many bytes) (many_before b c) (s₀ b))))
+      _ (ap (answer (s₀ b)) (run_is b ∙ sym (c.is (ds b) (take many bytes) (many_before b c) (s₀ b))) ∙ ap (λ (y : Option ℕ). answer_within max_payload (tail_bytes y) (s₀ b) (ran r₁ (seen_in t (with_new b c)) (s₀ b))) (sym c.tail_is))
 
 -- ---- SV
 

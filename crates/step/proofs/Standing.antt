@@ -21,7 +21,7 @@ use Rattle.definition.specs.Record.{Record}
 use Rattle.table.specs.State.{outcome}
 use Rattle.table.specs.declared.state.Stop.{Stop}
 use Rattle.table.specs.declared.state.Stop.TheVariants.{Failed, Refused}
-use Rattle.fields.specs.Noded.{unfolded, ready, tparams, Run, binds, looks, adds}
+use Rattle.fields.specs.Noded.{unfolded, unfolded_links, ready, tparams, Run, binds, looks, adds}
 use Rattle.fields.specs.Noded.{Shape, declares, solves, expands, none, one, both, after_pairs, all_pairs, shape, place, place_record}
 use Rattle.answer.specs.declared.Ran.{Ran}
 use Rattle.answer.proofs.Calls.{kept_never}
@@ -164,6 +164,7 @@ module _ {P : List Cell → Type 0} where
   unfolding step_of
   unkept_leaves r (binds n) s e p = kept_never refl e
   unkept_leaves r (looks (unfolded t)) s e p = outcome_leaves r.result s p
+  unkept_leaves r (looks (unfolded_links t)) s e p = outcome_leaves r.result s p
   unkept_leaves r (looks (ready how t)) s e p = ready_tvars_leaves s t p
   unkept_leaves r (looks (tparams ps t)) s e p = subst_in_leaves ps t s p
   unkept_leaves r (adds n) s e p = kept_never refl e

@@ -18,7 +18,7 @@ use Rattle.definition.specs.Trees.{arity}
 use Rattle.definition.specs.Record.{Record, read_record}
 use Rattle.definition.specs.Sound.{sound}
 use Rattle.definition.specs.Step as step
-use Rattle.definition.specs.Step.{max_payload, least_buffer, refusal, answer_within, most_of, apart, reply}
+use Rattle.definition.specs.Step.{max_payload, least_buffer, refusal, answer_within, most_of, tail_of, apart, reply}
 use Rattle.theorems.proofs.StepFits.{others_short, most_read}
 use Rattle.theorems.proofs.SoundRead.{RecordIn, FineRecord, ReadWell, given, well_read}
 use Rattle.refusals.specs.Refusals.{refusal_of}
@@ -189,7 +189,7 @@ module _ (s : Table) {params : List (List ℕ)} (stream : Bytes) (at : ℕ) (st 
     full_reply : (i : Got (read_record s₀ bytes) (refused full) (drop f.next stream) s₀) → reply s₀ i.what ≡ refusal s₀ full
     unfolding reply answer_within ◌>>=◌
     full_reply i =
-        ap (λ (m : Result (State × Bytes)). answer_within (most_of (apart i.what)) s₀ m) (run_placed s₀ i.what ∙ ap (λ (m : Result (State × Noded)). m >>= (λ q. noded_run q.1 q.0 s₀)) i.placed)
+        ap (λ (m : Result (State × Bytes)). answer_within (most_of (apart i.what)) (tail_of s₀ (apart i.what)) s₀ m) (run_placed s₀ i.what ∙ ap (λ (m : Result (State × Noded)). m >>= (λ q. noded_run q.1 q.0 s₀)) i.placed)
 
     -- the answer, the words and the place where the stream goes on are the step's
     leaves : (whole : Bool) → at ≤ length stream → {next : ℕ} → next ≡ place_after f.read at f.next

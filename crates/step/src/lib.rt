@@ -101,6 +101,7 @@ fn answer_placed(
         What::Look(x) => match x {
             Look::One(m, t) => match m {
                 LookMark::UF => run::run_unfold(st, t),
+                LookMark::UL => run::run_unfold_links(st, t),
                 LookMark::RD => {
                     return answer::settle_ready(st, before, t, Spelling::Located, buf);
                 }

@@ -1,7 +1,7 @@
 -- The steps of the definition's chain end, numeric check and binding, as the code takes them. Assumes nothing.
 use mathlib.Core.Path.{◌≡◌, refl, sym, ap, ◌∙◌}
 use mathlib.Core.Bool.{Bool, true, false}
-use mathlib.Core.List.{List}
+use mathlib.Core.List.{List, []}
 use Rattle.std.specs.Prelude.{Option, None, Some, Ok, Err}
 use Rattle.std.specs.Option.{is_some}
 use Prim.Native.Nat.{ℕ, zero, suc, ◌+◌, ◌-◌, ◌<◌, ◌≤◌}
@@ -10,8 +10,8 @@ use native.Mathlib.Numerals.{sub-one}
 use native.Mathlib.Omega.{arith}
 use Rattle.definition.specs.Types as d
 use Rattle.definition.specs.Types.{Struct, ok, err, RecursiveType}
-use Rattle.definition.specs.Store.{node, with_args, type_at, get, num_loc, need_of, insert}
-use Rattle.definition.specs.Subst.{as_var, is_anything, next_in, next_of, forward, forward_tvar}
+use Rattle.definition.specs.Store.{taken, node, with_args, type_at, get, num_loc, need_of, insert}
+use Rattle.definition.specs.Subst.{as_var, is_anything, next_in, next_of, forward, forward_tvar, forward_links, links}
 use Rattle.definition.specs.Join.{is_num_var, num_shape, check_num_tvar', check_num_tvar, used, join_bind_tvar}
 use Rattle.table.specs.State.{shape_of, node_of}
 use Rattle.table.specs.Did.{held, Kept}
@@ -22,7 +22,8 @@ use Rattle.table.proofs.Grown.{value_is}
 use Rattle.table.proofs.Pushed.{taken_seen}
 use Rattle.names.specs.declared.TVar.{TVar}
 use Rattle.shapes.specs.Parts.{next}
-use Rattle.subst.specs.Answers.{Binding, bound, Binds}
+use Rattle.subst.specs.Answers.{Forwards, Binding, bound, Binds}
+use Rattle.subst.specs.declared.End.{End}
 use Rattle.subst.specs.declared.BindError.TheVariants.{NotNumeric, Recursive}
 
 pub var_of : (s : d.State) (t : ℕ) (n : Node) (r : Option TVar) → node_of n ≡ node s t → ((x : d.State) → next r ≡ as_var (with_args x (shape_of n.shape))) → as_var (type_at s t) ≡ next r
@@ -60,26 +61,72 @@ unfolding forward
 forward_zero zero s v p = refl
 forward_zero (suc n) s v p = absurd (not-suc-le-zero p)
 
--- where the loop stands after i steps: from here on the chain ends where it ends from the start
-pub record Chain (s : State) (cur₀ cur i : ℕ) : Type 0 where
+-- .. and the links of it
+links_none : (n : ℕ) (s : d.State) (v : ℕ) → next_of s v ≡ None → forward_links n s v ≡ 0
+unfolding forward_links
+links_none zero s v e = refl
+links_none (suc n) s v e = rw (e, forward_links) refl
+
+links_less : (n : ℕ) (s : d.State) (v x : ℕ) → 0 < n → next_of s v ≡ Some x → forward_links n s v ≡ suc (forward_links (n - 1) s x)
+unfolding forward_links
+links_less zero s v x p e = absurd (not-suc-le-zero p)
+links_less (suc n) s v x p e = rw (e, forward_links, sub-one (suc n)) refl
+
+links_zero : (n : ℕ) (s : d.State) (v : ℕ) → n ≤ 0 → forward_links n s v ≡ 0
+unfolding forward_links
+links_zero zero s v p = refl
+links_zero (suc n) s v p = absurd (not-suc-le-zero p)
+
+-- where the loop stands after i steps: from here on the chain ends where it ends from the start, and i of its links were followed
+pub record Chain (s : State) (cur₀ cur n i : ℕ) : Type 0 where
   pub is : (ds : List Struct) → forward (s.used.vars - i) (held s ds) cur ≡ forward_tvar (held s ds) cur₀
+  pub links_is : (ds : List Struct) → n + forward_links (s.used.vars - i) (held s ds) cur ≡ links (held s ds) cur₀
+  pub steps : n ≡ i
 
-pub chain_start : (s : State) (cur : ℕ) → Chain s cur cur 0
-unfolding forward_tvar
-chain_start s cur = let z : s.used.vars - 0 ≡ s.used.vars = omega arith in record { is = λ ds. rw (z, taken_seen s.words.now s.used ds) refl }
+pub chain_start : (s : State) (cur : ℕ) → Chain s cur cur 0 0
+unfolding forward_tvar links
+chain_start s cur =
+    let z : s.used.vars - 0 ≡ s.used.vars = omega arith in
+    record { is = λ ds. rw (z, taken_seen s.words.now s.used ds) refl; links_is = λ ds. rw (z, taken_seen s.words.now s.used ds) (omega arith); steps = refl }
 
-module _ {s : State} {cur₀ cur i : ℕ} (c : Chain s cur₀ cur i) where
-  pub chain_out : s.used.vars ≤ i → (ds : List Struct) → cur ≡ forward_tvar (held s ds) cur₀
-  chain_out z ds = sym (forward_zero (s.used.vars - i) (held s ds) cur (omega arith)) ∙ c.is ds
+module _ {s : State} {cur₀ cur n i : ℕ} (c : Chain s cur₀ cur n i) where
+  pub chain_out : s.used.vars ≤ i → (e : End) → e.tvar.0 ≡ cur → e.links ≡ n → Forwards s e cur₀
+  chain_out z e a b = record {
+    tvar_is = λ ds. a ∙ sym (forward_zero (s.used.vars - i) (held s ds) cur (omega arith)) ∙ c.is ds;
+    links_is = λ ds. let x = c.links_is ds in let y = links_zero (s.used.vars - i) (held s ds) cur (omega arith) in omega (arith, b, x, y);
+  }
 
   module _ (r : Option TVar) (e : (ds : List Struct) → next r ≡ next_of (held s ds) cur) where
-    pub chain_end : r ≡ None → (ds : List Struct) → cur ≡ forward_tvar (held s ds) cur₀
-    chain_end z ds = sym (forward_none (s.used.vars - i) (held s ds) cur (sym (e ds) ∙ ap next z)) ∙ c.is ds
+    pub chain_end : r ≡ None → (f : End) → f.tvar.0 ≡ cur → f.links ≡ n → Forwards s f cur₀
+    chain_end z f a b = record {
+      tvar_is = λ ds. a ∙ sym (forward_none (s.used.vars - i) (held s ds) cur (sym (e ds) ∙ ap next z)) ∙ c.is ds;
+      links_is = λ ds. let x = c.links_is ds in let y = links_none (s.used.vars - i) (held s ds) cur (sym (e ds) ∙ ap next z) in omega (arith, b, x, y);
+    }
 
-    pub chain_on : i < s.used.vars → (v : TVar) → r ≡ Some v → Chain s cur₀ v.0 (i + 1)
+    pub chain_on : i < s.used.vars → (v : TVar) → r ≡ Some v → Chain s cur₀ v.0 (n + 1) (i + 1)
     chain_on p v z =
         let q : s.used.vars - (i + 1) ≡ s.used.vars - i - 1 = omega arith in
-        record { is = λ ds. rw q (sym (forward_less (s.used.vars - i) (held s ds) cur v.0 (omega arith) (sym (e ds) ∙ ap next z)) ∙ c.is ds) }
+        record {
+          is = λ ds. rw q (sym (forward_less (s.used.vars - i) (held s ds) cur v.0 (omega arith) (sym (e ds) ∙ ap next z)) ∙ c.is ds);
+          links_is = λ ds.
+              let x = c.links_is ds in
+              let y = links_less (s.used.vars - i) (held s ds) cur v.0 (omega arith) (sym (e ds) ∙ ap next z) in
+              rw q (omega (arith, x, y));
+          steps = ap (λ (k : ℕ). k + 1) c.steps;
+        }
+
+links_most : (n : ℕ) (s : d.State) (v : ℕ) → forward_links n s v ≤ n
+unfolding forward_links
+links_most zero s v = omega arith
+links_most (suc n) s v = go (next_of s v) (λ x. links_most n s x)
+  where
+    go : (o : Option ℕ) → ((x : ℕ) → forward_links n s x ≤ n) → elim o [ None ↦ 0 | Some x ↦ suc (forward_links n s x) ] ≤ suc n
+    go None l = omega arith
+    go (Some x) l = let k = l x in omega arith
+
+pub links_few : (s : State) (e : End) (v : ℕ) → Forwards s e v → e.links ≤ 1024
+unfolding links
+links_few s e v f = let a = f.links_is [] in let b = links_most (taken (held s [])) (held s []) v in let c = taken_seen s.words.now s.used [] in omega (arith, a, b, c, s.lay.vars)
 
 -- ---- the numeric check
 

@@ -9,7 +9,7 @@ use native.Mathlib.Omega.{arith}
 use Rattle.definition.specs.Types as d
 use Rattle.definition.specs.Types.{Struct}
 use Rattle.definition.specs.Store.{node, type_at, loc_of, spanned, get, with_args}
-use Rattle.definition.specs.Subst.{as_var, next_of, forward_tvar, unfold_var, unfold_type, mark_one, mark_chain, set_num_var}
+use Rattle.definition.specs.Subst.{as_var, next_of, forward_tvar, links, links_of, unfold_var, unfold_type, mark_one, mark_chain, set_num_var}
 use Rattle.table.specs.State.{shape_of, node_of, Any}
 use Rattle.table.specs.Did.{held, Became, Kept}
 use Rattle.table.specs.declared.state.State.{State}
@@ -60,6 +60,17 @@ module _ (s : State) (t : ℕ) (n : Node) (e : (ds : List Struct) → node_of n 
     is = λ ds. f.is ds ∙ ap (λ (l : ℕ). unfold_type (held s ds) (var_at l v.0)) (loc_is (held s ds) t n (e ds)) ∙ type_var (held s ds) t v.0 (var_of (held s ds) t n r (e ds) a ∙ ap next z);
     inside = f.inside;
   }
+
+-- ---- the links of it
+
+module _ (s : d.State) (t : ℕ) where
+  pub links_plain : as_var (type_at s t) ≡ None → 0 ≡ links_of s t
+  unfolding links_of
+  links_plain e = rw (e, links_of) refl
+
+  pub links_var : (v : ℕ) → as_var (type_at s t) ≡ Some v → (n : ℕ) → n ≡ links s v → n ≡ links_of s t
+  unfolding links_of
+  links_var v e n l = rw (e, links_of) l
 
 -- ---- Subst::set_num_var
 

@@ -3,12 +3,13 @@ use Rattle.std.specs.Prelude.{◌≡◌, Bool, true, false, List, ℕ, suc, ◌+
 use Rattle.definition.specs.Types as d
 use Rattle.definition.specs.Types.{Struct, Spanned, TypeValue, ok, err, RecursiveType}
 use Rattle.definition.specs.Store.{type_at, spanned}
-use Rattle.definition.specs.Subst.{unfold_type}
+use Rattle.definition.specs.Subst.{forward_tvar, links, unfold_type}
 use Rattle.definition.specs.Join.{is_var, used, join_bind_tvar}
 use Rattle.definition.specs.Spelled.{spelled, first_place, looked_at}
 use Rattle.table.specs.State.{Any}
 use Rattle.table.specs.Did.{held, Became}
 use Rattle.table.specs.declared.state.State.{State}
+use Rattle.subst.specs.declared.End.{End}
 use Rattle.subst.specs.declared.Unfolded.{Unfolded}
 use Rattle.subst.specs.declared.Unfolded.TheVariants.{Node, Anything}
 use Rattle.subst.specs.declared.Occurs.{Occurs}
@@ -17,6 +18,11 @@ use Rattle.subst.specs.declared.Soon.{Soon}
 use Rattle.subst.specs.declared.Soon.TheVariants as soon
 use Rattle.subst.specs.declared.BindError.{BindError}
 use Rattle.subst.specs.declared.BindError.TheVariants.{NotNumeric, Recursive}
+
+-- the end of v's chain and the links that lead there, whatever the declarations are
+pub record Forwards (s : State) (end : End) (v : ℕ) : Type 0 where
+  pub tvar_is : (ds : List Struct) → end.tvar.0 ≡ forward_tvar (held s ds) v
+  pub links_is : (ds : List Struct) → end.links ≡ links (held s ds) v
 
 -- what a type unfolds to
 abbrev pub unfolded : Unfolded → d.State → Spanned TypeValue

@@ -5,12 +5,12 @@
 ghost use Rattle.std.specs.Prelude.{◌≡◌, List, ℕ, ◌<◌};
 ghost use Rattle.definition.specs.Types as d;
 ghost use Rattle.definition.specs.Store.{type_at, spanned};
-ghost use Rattle.definition.specs.Subst.{next_of, forward_tvar, set_num_var};
+ghost use Rattle.definition.specs.Subst.{next_of, forward_tvar, links_of, set_num_var};
 ghost use Rattle.definition.specs.Join.{is_num_var, num_shape, check_num_tvar', check_num_tvar};
 ghost use Rattle.definition.specs.Spelled.{cut};
 ghost use Rattle.table.specs.Did.{held, Kept};
 ghost use Rattle.shapes.specs.Parts.{next};
-ghost use Rattle.subst.specs.Answers.{Unfolds, var_at, Looked, SoonLooked, Counted, Binds};
+ghost use Rattle.subst.specs.Answers.{Forwards, Unfolds, var_at, Looked, SoonLooked, Counted, Binds};
 
 use names::TVar;
 use table::state::State;
@@ -31,6 +31,13 @@ pub enum Unfolded {
 
 // ---- forward_tvar
 
+// The end of a chain, and how many bindings lead there, from variable to variable.
+#[derive(Clone, Copy)]
+pub struct End {
+    pub tvar: TVar,
+    pub links: u32,
+}
+
 // The variable that cur is bound to, if that is what it is bound to.
 pub fn next_of(st: &State<'_>, cur: TVar) -> Option<TVar>
     ensures { (ds : List d.Struct) → next result ≡ next_of (held st.now ds) cur.0 }
@@ -39,18 +46,20 @@ pub fn next_of(st: &State<'_>, cur: TVar) -> Option<TVar>
     shapes::as_var(st.node_at(t).shape)
 }
 
-// The variable at the end of the chain from id.
-pub fn forward_tvar(st: &State<'_>, id: TVar) -> TVar
-    ensures { (ds : List d.Struct) → result.0 ≡ forward_tvar (held st.now ds) id.0 }
+// The variable at the end of the chain from id, and the links that were followed.
+pub fn forward_tvar(st: &State<'_>, id: TVar) -> End
+    ensures { Forwards st.now result id.0 }
 {
     let mut cur = id;
+    let mut links: u32 = 0;
     for _link in 0..st.used.vars {
         let Some(v) = next_of(st, cur) else {
-            return cur;
+            return End { tvar: cur, links };
         };
         cur = v;
+        links += 1;
     }
-    cur
+    End { tvar: cur, links }
 }
 
 // ---- unfold_type
@@ -69,8 +78,8 @@ pub fn unfold_end(st: &State<'_>, loc: u32, last: TVar) -> Unfolded
 pub fn unfold_tvar(st: &State<'_>, loc: u32, v: TVar) -> Unfolded
     ensures { Unfolds st.now result (λ s. var_at loc v.0) }
 {
-    let last = forward_tvar(st, v);
-    unfold_end(st, loc, last)
+    let end = forward_tvar(st, v);
+    unfold_end(st, loc, end.tvar)
 }
 
 // Of a variable, the type at its end; of any other type, itself.
@@ -82,6 +91,17 @@ pub fn unfold_type(st: &State<'_>, t: u32) -> Unfolded
     match shapes::as_var(n.shape) {
         None => Unfolded::Node(t),
         Some(v) => unfold_tvar(st, n.loc, v),
+    }
+}
+
+// How many links unfold_type follows.
+pub fn unfold_links(st: &State<'_>, t: u32) -> u32
+    ensures { (ds : List d.Struct) → result ≡ links_of (held st.now ds) t }
+{
+    let n = st.node_at(t);
+    match shapes::as_var(n.shape) {
+        None => 0,
+        Some(v) => forward_tvar(st, v).links,
     }
 }
 
@@ -124,7 +144,7 @@ fn check_num_type(st: &State<'_>, need: u32, ty: u32) -> bool
     match shapes::as_var(n.shape) {
         None => shapes::num_shape(need, n.shape),
         Some(v) => {
-            let last = forward_tvar(st, v);
+            let last = forward_tvar(st, v).tvar;
             match st.bound_at(last) {
                 None => is_num_var(st, last),
                 Some(t) => num_node(st, need, t),

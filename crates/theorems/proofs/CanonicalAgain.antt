@@ -19,7 +19,7 @@ use Rattle.definition.specs.Reader.{Read, got, not_read}
 use Rattle.definition.specs.Trees.{Tree, arity, read_type}
 use Rattle.definition.specs.Record.{CN}
 use Rattle.definition.specs.Sound.{sound}
-use Rattle.definition.specs.Step.{run, number_of_refusal, refusal, answer, max_buffer, usable, lent, step, answer_within, most_of, apart, reply, least_buffer}
+use Rattle.definition.specs.Step.{run, number_of_refusal, refusal, answer, max_buffer, usable, lent, step, answer_within, most_of, apart, reply, least_buffer, behind, tail_of}
 use Rattle.definition.specs.Agree.{met_in, tags, places, Agree, Carried, CNAgain, CNRoom}
 use Rattle.theorems.proofs.LawsAnswer.{sound_of}
 use Rattle.theorems.proofs.DemandTracks.{never}
@@ -75,11 +75,11 @@ shown s m = m >>= (λ (x : State × ℕ). ok (s, canonical x.0 x.1))
 
 -- a payload that fits
 fits : (s : State) (p : Bytes) → length p ≤ 4096 → ((answer s (ok (s, p))).number ≡ 0) × ((answer s (ok (s, p))).payload ≡ p)
-unfolding answer answer_within
+unfolding answer answer_within behind
 fits s p h = rw (with_is s 0 p s, le-leb (length p) 4096 h) (refl, refl)
 
 not_7 : (s : State) (p : Bytes) → (answer s (ok (s, p))).number ≢ 7
-unfolding answer answer_within
+unfolding answer answer_within behind
 not_7 s p = rw (with_is s 0 p s) (go (leb (length p) 4096))
   where
     go : (b : Bool) → (if_short s 0 p s b).number ≢ 7
@@ -114,7 +114,7 @@ module _ (s' : State) (p : Bytes) (c : Carried s' p) (h : sound s' ≡ true) whe
   run_is = rw c.build_gives refl
 
   answered : (buffer : ℕ) → usable s' (67 ∷ 78 ∷ p) buffer ≡ true → step s' (67 ∷ 78 ∷ p) buffer ≡ answer s' (shown s' (ready_tvars c.placed c.node))
-  unfolding step lent reply apart most_of answer
+  unfolding step lent reply apart most_of tail_of answer
   answered buffer u = rw (u, step) (rw c.is_CN (rw run_is refl))
 
   module _ (a : Grown (arity s') s' c.placed) (i : c.node < count c.placed) (d : Stands c.placed (type_at c.placed c.node) q) where

@@ -14,7 +14,7 @@ use Rattle.definition.specs.Reader.{Read, got, not_read, go_on, ◌>>=◌ as ◌
 use Rattle.definition.specs.Trees.{Tree, read_type}
 use Rattle.definition.specs.Record.{RD, CN, by_mark, fields_of, read_fields, max_record, read_record}
 use Rattle.definition.specs.Build.{build}
-use Rattle.definition.specs.Step.{run, refusal, answer_within, answer, answer_with, most_of, apart, reply, least_buffer, max_payload, usable, lent, step, Answer}
+use Rattle.definition.specs.Step.{run, refusal, answer_within, answer, answer_with, most_of, apart, reply, least_buffer, max_payload, usable, lent, step, Answer, behind, tail_of}
 use Rattle.definition.specs.Agree.{AsRD, CNAsRD}
 use Rattle.theorems.proofs.Canonical.{canonical_length}
 use Rattle.theorems.proofs.ReadBack.{made, made_is}
@@ -24,7 +24,7 @@ same a = record { same_number = refl; same_length = refl; same_state = refl }
 
 module _ (s : State) where
   with_payload : (p q : Bytes) → length p ≡ length q → AsRD (answer s (ok (s, p))) (answer s (ok (s, q)))
-  unfolding answer answer_within answer_with
+  unfolding answer answer_within behind answer_with
   with_payload p q e = rw e (go (leb (length q) max_payload))
     where
       go : (b : Bool) → AsRD (if b then record { number = 0; payload = p; state = s } else refusal s answer_too_long) (if b then record { number = 0; payload = q; state = s } else refusal s answer_too_long)
@@ -48,7 +48,7 @@ module _ (s : State) where
       go (refused x) = same _
 
   lent_same : (tree : Tree) (rest : Bytes) → AsRD (lent s (got (CN tree) rest)) (lent s (got (RD tree) rest))
-  unfolding lent reply apart most_of answer
+  unfolding lent reply apart most_of tail_of answer
   lent_same tree [] = runs tree
   lent_same tree (b ∷ rest) = same _
 

@@ -10,7 +10,7 @@ use Rattle.definition.specs.Types.{State, Incompatible, RecursiveType, ok, err, 
 use Rattle.definition.specs.Store.{count, taken, type_at, get, insert, with_node, with_var}
 use Rattle.definition.specs.Subst.{next_of, as_var, is_anything, forward_tvar, parts}
 use Rattle.theorems.proofs.Laws.{get_with_node, count_with_node, value_new, taken_with_node, get_beyond, get_with_var, taken_with_var}
-use Rattle.theorems.proofs.Laws.{get_insert_same, merge_marks, structs_node, structs_insert, structs_with_var, is_num_same, num_with_node, num_with_var, num_beyond, is_num_of, count_same, value_same, merge_others, need_with_node, need_with_var, need_beyond, needs_most, larger_most, larger_l, larger_r, larger_none, merge_need, merge_at_most}
+use Rattle.theorems.proofs.Laws.{get_insert_same, merge_marks, structs_node, structs_insert, structs_with_var, is_num_same, num_with_node, num_with_var, num_beyond, is_num_of, count_same, value_same, merge_others, need_with_node, need_with_var, need_beyond, needs_most, larger_most, larger_l, larger_r, larger_none, merge_need, merge_at_most, SameButMarks}
 use Rattle.theorems.proofs.DemandTracks.{Ends, ends_stop, solid}
 use Rattle.theorems.proofs.DemandTracks.{Tracks}
 use Rattle.theorems.proofs.DemandTracks.{never, k_any, k_var, k_solid, kind, solid_any, solid_var, solid_nonvar, nonvar_var}
@@ -241,6 +241,47 @@ rest_post {S = S} {e1 = e1} {e2 = e2} {f = f} {n1 = n1} {n2 = n2} y join g c loc
     (λ kf. bind_post _ (shown_post w.sound T1 id1 (later id1 h1)) (λ S4 t1 g4 u1. bind_post _ (shown_post u1.0 T2 id2 (omega (arith, u1.1, later id2 h2))) (λ S5 t2 g5 u2. p_err (grown_refl S5) (nodes_of u2.0))))))
     (λ t e. p_err (grown_refl S2) (nodes_of j.sound)))
 
+-- ---- a merge before its inner join
+
+-- the fresh variable f, marked by what its ends e1 and e2 are marked by
+module _ {ar : TypeName → ℕ} {S Sb Sc : State} {f : ℕ} (s : Sound ar S) (e1 e2 : ℕ) (v : NewVar ar Sb Sc f) where
+  abbrev pub marked : State
+  marked = merge_num Sc (num_loc S e1) (num_loc S e2) (larger (need_of S e1) (need_of S e2)) f
+
+  pub marks_alone : SameButMarks Sc marked
+  marks_alone = merge_marks Sc (num_loc S e1) (num_loc S e2) (larger (need_of S e1) (need_of S e2)) f (larger_most (need_of S e1) (need_of S e2) (needs_most S s.needs_in e1) (needs_most S s.needs_in e2))
+
+  pub quiet_marked : Quiet Sb marked
+  quiet_marked = quiet_fresh v.sound v.quiet marks_alone (λ x h. merge_others Sc (num_loc S e1) (num_loc S e2) (larger (need_of S e1) (need_of S e2)) f x (λ d. omega (arith, v.is)))
+
+  pub sound_marked : Sound ar marked
+  sound_marked = sound_marks v.sound marks_alone
+
+  pub marked_in : f < taken marked
+  marked_in = omega (arith, v.f_in, marks_alone.m_taken)
+
+  -- .. and the two nodes that are it
+  pub ready_of : {Sd Se : State} {n1 n2 : ℕ} → Quiet S Sb → NewNode ar marked (Var f) Sd n1 → NewNode ar Sd (Var f) Se n2 → next_of S e1 ≡ None → next_of S e2 ≡ None → e1 < taken S → e2 < taken S → Ready ar S Se e1 e2 f n1 n2
+  ready_of u p q end1 end2 in1 in2 =
+      let mn = merge_need S Sc e1 e2 f s.needs_in v.f_in in
+      record {
+        before = s;
+        sound = q.sound;
+        quiet = quiet_trans u (quiet_trans quiet_marked (quiet_trans p.quiet q.quiet));
+        end1 = end1;
+        end2 = end2;
+        in1 = in1;
+        in2 = in2;
+        new = omega (arith, v.is, u.q_vars);
+        f_in = omega (arith, marked_in, p.same_vars, q.same_vars);
+        n1_in = omega (arith, p.t_in, q.quiet.q_nodes);
+        n2_in = q.t_in;
+        is1 = q.quiet.q_kept _ p.t_in ∙ p.is;
+        is2 = q.is;
+        need1 = omega (arith, larger_l (need_of S e1) (need_of S e2), mn, p.same_need f, q.same_need f);
+        need2 = omega (arith, larger_r (need_of S e1) (need_of S e2), mn, p.same_need f, q.same_need f);
+      }
+
 pub join_tvar_post : {ar : TypeName → ℕ} {S : State} (join : JoinImpl) → Good ar join → Sound ar S → (c : TypingCase) (loc1 id1 loc2 id2 : ℕ) → id1 < taken S → id2 < taken S
     → Post ar S (Merged ar S id1 id2) (join_tvar join S c loc1 id1 loc2 id2)
 unfolding join_tvar
@@ -253,8 +294,7 @@ join_tvar_post {ar} {S} join g s c loc1 id1 loc2 id2 h1 h2 =
     bind_post _ (type_of_post a.sound loc2 e2 (a.quiet.q_next e2 ∙ ends_stop d2)) (λ Sb T2 gb b.
     bind_post _ (next_tvar_post b.sound) (λ Sc f gc v.
     let most = larger_most (need_of S e1) (need_of S e2) (needs_most S s.needs_in e1) (needs_most S s.needs_in e2) in
-    let mm = merge_marks Sc (num_loc S e1) (num_loc S e2) (larger (need_of S e1) (need_of S e2)) f most in
-    let qm = quiet_fresh v.sound v.quiet mm (λ x h. merge_others Sc (num_loc S e1) (num_loc S e2) (larger (need_of S e1) (need_of S e2)) f x (λ d. omega (arith, v.is))) in
+    let mm = marks_alone s e1 e2 v in
     let same : (x : ℕ) → x < taken S → need_of Sc x ≡ need_of S x = λ x l. v.same_need x ∙ b.quiet.q_need x (omega (arith, a.quiet.q_vars)) ∙ a.quiet.q_need x l in
     let bare : NoNeeds Sc → larger (need_of S e1) (need_of S e2) ≡ 0 = λ z. larger_none (need_of S e1) (need_of S e2) (sym (same e1 (ends_in s h1 d1)) ∙ none_at Sc z e1) (sym (same e2 (ends_in s h2 d2)) ∙ none_at Sc z e2) in
     let gm : Grown Sc _ = record {
@@ -264,29 +304,12 @@ join_tvar_post {ar} {S} join g s c loc1 id1 loc2 id2 h1 h2 =
       g_structs = mm.m_structs;
       g_keeps = held_merge Sc (num_loc S e1) (num_loc S e2) (larger (need_of S e1) (need_of S e2)) f v.free v.no_need v.f_in most bare;
     } in
-    let sm = sound_marks v.sound mm in
     let mn = merge_need S Sc e1 e2 f s.needs_in v.f_in in
-    bind_post _ (post_from gm (sp_post sm loc1 (Var f) (var_ok f (omega (arith, v.f_in, mm.m_taken))))) (λ Sd n1 gd p.
+    bind_post _ (post_from gm (sp_post (sound_marked s e1 e2 v) loc1 (Var f) (var_ok f (marked_in s e1 e2 v)))) (λ Sd n1 gd p.
     bind_post _ (sp_post p.sound loc2 (Var f) (var_ok f (omega (arith, v.f_in, mm.m_taken, p.same_vars)))) (λ Se n2 ge q.
-    let qbe = quiet_trans qm (quiet_trans p.quiet q.quiet) in
+    let qbe = quiet_trans (quiet_marked s e1 e2 v) (quiet_trans p.quiet q.quiet) in
     let qae = quiet_trans b.quiet qbe in
-    let y : Ready ar S Se e1 e2 f n1 n2 = record {
-      before = s;
-      sound = q.sound;
-      quiet = quiet_trans a.quiet qae;
-      end1 = ends_stop d1;
-      end2 = ends_stop d2;
-      in1 = ends_in s h1 d1;
-      in2 = ends_in s h2 d2;
-      new = omega (arith, v.is, b.same_vars, a.same_vars);
-      f_in = omega (arith, v.f_in, mm.m_taken, p.same_vars, q.same_vars);
-      n1_in = omega (arith, p.t_in, q.quiet.q_nodes);
-      n2_in = q.t_in;
-      is1 = q.quiet.q_kept n1 p.t_in ∙ p.is;
-      is2 = q.is;
-      need1 = omega (arith, larger_l (need_of S e1) (need_of S e2), mn, p.same_need f, q.same_need f);
-      need2 = omega (arith, larger_r (need_of S e1) (need_of S e2), mn, p.same_need f, q.same_need f);
-    } in
+    let y : Ready ar S Se e1 e2 f n1 n2 = ready_of s e1 e2 v (quiet_trans a.quiet b.quiet) p q (ends_stop d1) (ends_stop d2) (ends_in s h1 d1) (ends_in s h2 d2) in
     let num_f : num_loc Se f ≡ num_loc (merge_num Sc (num_loc S e1) (num_loc S e2) (larger (need_of S e1) (need_of S e2)) f) f = q.same_num f ∙ p.same_num f in
     let old : (x : ℕ) → x < f → num_loc Se x ≡ num_loc S x = λ x l. q.same_num x ∙ p.same_num x ∙ num_merge_other Sc (num_loc S e1) (num_loc S e2) (larger (need_of S e1) (need_of S e2)) f x v.free (λ d. omega arith) ∙ v.same_num x ∙ b.same_num x ∙ a.same_num x in
     let gt = tied_grown y Sc v.f_in num_f (old e1 (omega (arith, y.in1, y.new))) (old e2 (omega (arith, y.in2, y.new))) in

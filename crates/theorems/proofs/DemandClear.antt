@@ -13,7 +13,7 @@ use Rattle.definition.specs.Write.{Bytes}
 use Rattle.definition.specs.Trees.{arity}
 use Rattle.definition.specs.Sound.{sound}
 use Rattle.definition.specs.Rank.{NoneReachesItself}
-use Rattle.definition.specs.Demand.{events, trace, point, at, NoLoops, Demand3, if_reached, two_types_calls, default_num_var_calls, default_num_vars_calls, run_calls, Event, pair_events, nothing_done, many_events, events_by, lent_events}
+use Rattle.definition.specs.Demand.{events, trace, point, at, NoLoops, Demand3, if_reached, two_types_calls, default_num_var_calls, default_num_vars_calls, run_calls, Event, pair_events, nothing_done, many_events, events_by, lent_events, one_event}
 use Rattle.theorems.proofs.Laws.{get_beyond}
 use Rattle.theorems.proofs.DemandTracks.{never}
 use Rattle.theorems.proofs.DemandOrder.{Sound}
@@ -73,7 +73,7 @@ abbrev pub job : List (Bytes × ℕ)
 job = (NV 1, 4096) ∷ (FV 2, 4096) ∷ (JN (var 3 1) (var 4 0), 4096) ∷ (JN (var 5 0) (bool 6), 4096) ∷ (SV, 4095) ∷ (JN (var 8 3) (vector 9 (var 10 0)), 4096) ∷ (SV, 4096) ∷ []
 
 job_clear : clear_from fresh job ≡ true
-unfolding answered two_types_calls if_reached run_calls default_num_var_calls default_num_vars_calls pair_events nothing_done many_events events_by lent_events events trace clear_from clear_along clear clear_binding
+unfolding answered two_types_calls if_reached run_calls default_num_var_calls default_num_vars_calls pair_events nothing_done many_events one_event events_by lent_events events trace clear_from clear_along clear clear_binding
 job_clear = refl
 
 -- .. and of pairs: V0 with u8, a subtype error, and V0 with u8 again
@@ -81,7 +81,7 @@ abbrev pub pairs_job : List (Bytes × ℕ)
 pairs_job = (FV 1, 4096) ∷ (worked, 61485) ∷ (worked, 61484) ∷ []
 
 pairs_job_clear : clear_from fresh pairs_job ≡ true
-unfolding answered two_types_calls if_reached run_calls default_num_var_calls default_num_vars_calls pair_events nothing_done many_events events_by lent_events events trace clear_from clear_along clear clear_binding
+unfolding answered two_types_calls if_reached run_calls default_num_var_calls default_num_vars_calls pair_events nothing_done many_events one_event events_by lent_events events trace clear_from clear_along clear clear_binding
 pairs_job_clear = refl
 
 pub pairs_job_demand_3 : Demand3 fresh pairs_job

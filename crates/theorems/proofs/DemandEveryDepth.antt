@@ -15,11 +15,11 @@ use Rattle.definition.specs.Join.{TypingCase}
 use Rattle.definition.specs.Store.{taken, type_at, need_of}
 use Rattle.definition.specs.Write.{Bytes}
 use Rattle.definition.specs.Reader.{Read, got, not_read}
-use Rattle.definition.specs.Record.{Record, read_record, SD, FV, NV, SN, NL, JN, SU, UF, RD, IN, TS, NC, BC, SC, SV, RM, CN, XP, MJ}
+use Rattle.definition.specs.Record.{Record, read_record, SD, FV, NV, SN, NL, JN, SU, UF, RD, IN, TS, NC, BC, SC, SV, RM, CN, XP, MJ, UL, JL}
 use Rattle.definition.specs.Trees.{arity, Tree}
-use Rattle.definition.specs.Step.{Answer, refusal, put_back, max_payload, answer_with, usable, lent, run, step, answer_within, Apart, as_others, many, apart, most_of, reply, pair_answer, run_pairs}
+use Rattle.definition.specs.Step.{Answer, refusal, put_back, max_payload, answer_with, usable, lent, run, step, answer_within, Apart, as_others, many, apart, most_of, reply, pair_answer, run_pairs, behind, tail_of, links_of_one, links_of_two}
 use Rattle.definition.specs.Rank.{ReadType, Rank, NoneReachesItself}
-use Rattle.definition.specs.Demand.{JoinCall, outcome, OnSuccess, after, Event, events, trace, point, at, NeedsGrow, run_calls, pair_events, nothing_done, many_events, events_by, lent_events}
+use Rattle.definition.specs.Demand.{JoinCall, outcome, OnSuccess, after, Event, events, trace, point, at, NeedsGrow, pair_events, nothing_done, many_events, events_by, lent_events, one_event}
 use Rattle.definition.specs.Build.{build_many}
 use Rattle.theorems.proofs.DemandDepth.{unrolled}
 use Rattle.theorems.proofs.DemandOrder.{Sound, ◌⊑◌, chain, ends_in, ends_keep, All}
@@ -121,15 +121,15 @@ answer_with_stepped most s n p s' h = go (leb (length p) most)
     go true = h
     go false = stays s
 
-answer_stepped : {ar : TypeName → ℕ} (most : ℕ) (s : State) → Sound ar s → (r : Literals) (m : Result (State × Bytes)) → Leaves r ar s m → Stepped s (answer_within most s m).state
+answer_stepped : {ar : TypeName → ℕ} (most : ℕ) (tail : Bytes) (s : State) → Sound ar s → (r : Literals) (m : Result (State × Bytes)) → Leaves r ar s m → Stepped s (answer_within most tail s m).state
 unfolding answer_within refusal
-answer_stepped most s h r (ok (s', p)) (l_ok w k) = answer_with_stepped most s _ p s' (stepped_above h w.sound w.above)
-answer_stepped most s h r (err s' e) (l_err g n) = answer_with_stepped most s _ _ (put_back s s') (stepped_above h (sound_put_back h g n) (quiet_⊑ h (sound_put_back h g n) (quiet_put_back h g n)))
-answer_stepped most s h r (refused x) l_refused = stays s
+answer_stepped most tail s h r (ok (s', p)) (l_ok w k) = answer_with_stepped most s _ (behind tail p) s' (stepped_above h w.sound w.above)
+answer_stepped most tail s h r (err s' e) (l_err g n) = answer_with_stepped most s _ _ (put_back s s') (stepped_above h (sound_put_back h g n) (quiet_⊑ h (sound_put_back h g n) (quiet_put_back h g n)))
+answer_stepped most tail s h r (refused x) l_refused = stays s
 
 reply_stepped : (s : State) → Sound (arity s) s → (r : Record) → FineRecord (arity s) (taken s) r → Stepped s (reply s r).state
 unfolding reply
-reply_stepped s h r f = answer_stepped (most_of (apart r)) s h (literals r) (run s r) (run_leaves s h r f)
+reply_stepped s h r f = answer_stepped (most_of (apart r)) (tail_of s (apart r)) s h (literals r) (run s r) (run_leaves s h r f)
 
 lent_stepped : (s : State) → Sound (arity s) s → {n : ℕ} (r : Read Record) → ReadWell ⊥ s n r → Stepped s (lent s r).state
 unfolding lent refusal
@@ -240,13 +240,16 @@ many_events_are {E} s h ps f w = go (build_many ps s) refl (no_many ps s) (many_
     go (refused x) e n p q = let r : (reply s (MJ ps)).state ≡ s = ap (λ (a : Answer). a.state) (many_refused s ps x e) in rw r (nothing_events s)
 
 -- one event for every other record
-one_event : {E : Type 0} (s : State) → Sound (arity s) s → (r : Record) → FineRecord (arity s) (taken s) r → weight r ≤ max_payload → Events E s (record { state = (reply s r).state; calls = run_calls s r } ∷ []) (reply s r).state
-one_event s h r f w = record { chain = next (record { stepped = reply_stepped s h r f; fair = λ n z. run_calls_fair s h r f w n z }) ended; end = refl; some = omega arith }
+its_end : {E : Type 0} (s : State) → Sound (arity s) s → (r : Record) → FineRecord (arity s) (taken s) r → weight r ≤ max_payload → Events E s (one_event s r) (reply s r).state
+unfolding one_event
+its_end s h r f w = record { chain = next (record { stepped = reply_stepped s h r f; fair = λ n z. run_calls_fair s h r f w n z }) ended; end = refl; some = omega arith }
 
--- every record but MJ is answered as the others are
+-- MJ, UL and JL stand apart
 pub data ByApart : Record → Apart → Type 0 where
   as_other : {r : Record} → ByApart r as_others
   as_many : {ps : List (TypingCase × Tree × Tree)} → ByApart (MJ ps) (many ps)
+  as_links_of_one : {t : Tree} → ByApart (UL t) (links_of_one t)
+  as_links_of_two : {t1 t2 : Tree} → ByApart (JL t1 t2) (links_of_two t1 t2)
 
 pub by_apart : (r : Record) → ByApart r (apart r)
 unfolding apart
@@ -269,10 +272,14 @@ by_apart (RM t) = as_other
 by_apart (CN t) = as_other
 by_apart (XP t) = as_other
 by_apart (MJ ps) = as_many
+by_apart (UL t) = as_links_of_one
+by_apart (JL t u) = as_links_of_two
 
 events_of : {E : Type 0} (s : State) → Sound (arity s) s → {r : Record} {a : Apart} → ByApart r a → FineRecord (arity s) (taken s) r → weight r ≤ max_payload → Events E s (events_by s r a) (reply s r).state
 unfolding events_by
-events_of s h (as_other {r = r}) f w = one_event s h r f w
+events_of s h (as_other {r = r}) f w = its_end s h r f w
+events_of s h (as_links_of_one {t = t}) f w = its_end s h (UL t) f w
+events_of s h (as_links_of_two {t1 = t1} {t2 = t2}) f w = its_end s h (JL t1 t2) f w
 events_of s h (as_many {ps = ps}) f w = many_events_are s h ps f w
 
 lent_events_are : {E : Type 0} (s : State) → Sound (arity s) s → {n : ℕ} (r : Read Record) → ReadWell ⊥ s n r → Weighs max_payload r → Events E s (lent_events s r) (lent s r).state

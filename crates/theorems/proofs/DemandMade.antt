@@ -1,5 +1,5 @@
--- The joins that demand 3 speaks of are those that the runs of JN, SU, MJ and SV make. Assumes nothing.
--- By the definitions of the runs: JN and SU make one join, MJ one for each pair in turn, SV one or none for each numeric variable in turn. Each is followed by cases of its results.
+-- The joins that demand 3 speaks of are those that the runs of JN, SU, JL, MJ and SV make. Assumes nothing.
+-- By the definitions of the runs: JN, SU and JL make one join, MJ one for each pair in turn, SV one or none for each numeric variable in turn. Each is followed by cases of its results.
 use mathlib.Core.Path.{◌≡◌, refl}
 use mathlib.Core.Bool.{Bool, true, false}
 use mathlib.Core.List.{List, [], ◌∷◌, ◌++◌}
@@ -9,14 +9,14 @@ use Rattle.definition.specs.Store.{sp}
 use Rattle.definition.specs.Join.{TypingCase, Join, Subtype, join_impl, join, subtype}
 use Rattle.definition.specs.Constraints.{num_vars, undecided, default_num_var, default_num_vars, solve_all, solve_constraints, default_of}
 use Rattle.definition.specs.Write.{Bytes, write}
-use Rattle.definition.specs.Record.{JN, SU, SV, MJ}
+use Rattle.definition.specs.Record.{JN, SU, SV, MJ, JL}
 use Rattle.definition.specs.Trees.{Tree}
 use Rattle.definition.specs.Build.{build, build_many}
 use Rattle.definition.specs.Step.{Answer, answer, two_types, pair_answer, pair_bytes, run_pairs, run, apart}
 use Rattle.definition.specs.Demand.{JoinCall, outcome, if_reached, two_types_calls, default_num_var_calls, default_num_vars_calls, run_calls, Event, pair_events, many_events, events_by}
 use Rattle.theorems.proofs.DemandRecords.{NoErr, no_sp, no_place}
 
--- ---- JN and SU: one join, whose result is written; or no room for the types
+-- ---- JN, SU and JL: one join, whose result is written; or no room for the types
 
 pub data OneJoin : Result (State × Bytes) → List JoinCall → Type 0 where
   not_placed : {x : Refusal} → OneJoin (refused x) []
@@ -45,6 +45,10 @@ JN_calls s t1 t2 = two_types_made Join s t1 t2
 pub SU_calls : (s : State) (t1 t2 : Tree) → OneJoin (run s (SU t1 t2)) (run_calls s (SU t1 t2))
 unfolding run run_calls subtype
 SU_calls s t1 t2 = two_types_made Subtype s t1 t2
+
+pub JL_calls : (s : State) (t1 t2 : Tree) → OneJoin (run s (JL t1 t2)) (run_calls s (JL t1 t2))
+unfolding run run_calls join
+JL_calls s t1 t2 = two_types_made Join s t1 t2
 
 -- ---- MJ: one join for each pair, in the state that the pair before it left
 

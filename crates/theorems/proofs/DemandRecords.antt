@@ -14,11 +14,11 @@ use Rattle.std.specs.Prelude.{if◌then◌else◌}
 use Rattle.definition.specs.TParams.{subst_tparams}
 use Rattle.definition.specs.Constraints.{num_vars, solve_constraints}
 use Rattle.definition.specs.Write.{Bytes, head, write_error}
-use Rattle.definition.specs.Record.{NumericKind, Numeric, Bits, Ordered, Record, SD, FV, NV, SN, JN, SU, UF, RD, IN, TS, NC, BC, SC, SV, RM, CN, XP, NL, MJ}
+use Rattle.definition.specs.Record.{NumericKind, Numeric, Bits, Ordered, Record, SD, FV, NV, SN, JN, SU, UF, RD, IN, TS, NC, BC, SC, SV, RM, CN, XP, NL, MJ, UL, JL}
 use Rattle.definition.specs.Trees.{Tree, arity}
 use Rattle.definition.specs.Build.{build, build_many}
 use Rattle.definition.specs.Needs.{Needs, needs}
-use Rattle.definition.specs.Step.{numeric_constraint, constrain, two_types, tell, run, number_of_error, refusal, put_back, max_payload, answer_with, answer_within, answer, pair_answer, run_pairs}
+use Rattle.definition.specs.Step.{numeric_constraint, constrain, two_types, tell, run, number_of_error, refusal, put_back, max_payload, answer_with, answer_within, answer, pair_answer, run_pairs, behind, unfolded}
 use Rattle.theorems.proofs.Laws.{SameNodes, num_marks, type_on, NeedsIn, value_same, need_set_num, literal_marks, literal_others}
 use Rattle.theorems.proofs.DemandOrder.{Sound, Nodes, All, All_map}
 use Rattle.theorems.proofs.DemandSteps.{quiet_same, quiet_marks, sound_marks, sound_chains, quiet_fresh}
@@ -62,6 +62,8 @@ literals (RM t) = neither
 literals (CN t) = neither
 literals (XP t) = neither
 literals (MJ pairs) = neither
+literals (UL t) = neither
+literals (JL t1 t2) = neither
 
 pub data ByLiterals : Record → Literals → Type 0 where
   is_SN : {v loc : ℕ} → ByLiterals (SN v loc) marks
@@ -89,6 +91,8 @@ by_literals (RM t) = is_neither
 by_literals (CN t) = is_neither
 by_literals (XP t) = is_neither
 by_literals (MJ pairs) = is_neither
+by_literals (UL t) = is_neither
+by_literals (JL t1 t2) = is_neither
 
 -- a claim is kept by every record but those of one mark
 unfoldable pub spares : Claim → Literals → Bool
@@ -188,7 +192,7 @@ module _ {ar : TypeName → ℕ} where
       go false = raised_refl s
 
   answer_raised : {S : State} → Sound ar S → (m : Result (State × Bytes)) → Post ar S (λ S' p. Went ar S S') m → Raised ar S (answer S m).state
-  unfolding answer answer_within refusal
+  unfolding answer answer_within behind refusal
   answer_raised s (ok (S', p)) (p_ok g w) = with_raised max_payload s 0 p S' (record { went = w; grown = g })
   answer_raised {S} s (err S' e) (p_err g n) =
       with_raised max_payload s (number_of_error e) (write_error S' e) (put_back S S') (record { went = went_quiet s (sound_put_back s g n) (quiet_put_back s g n); grown = quiet_grown (quiet_put_back s g n) (back_structs S S' ∙ g.g_structs) (held_put_back s g n) })
@@ -273,6 +277,10 @@ module _ (S : State) (s : Sound (arity S) S) where
   placed : (t : Tree) (S' : State) → RunOr ⊥ S true (λ s. ⊥) (build t S')
   placed t S' = place_run ⊥ S true t (λ h. absurd h) S' (λ h. absurd h)
 
+  unfolded_leaves : (t : Tree) → Leaves neither ar S (unfolded S t)
+  unfolding unfolded
+  unfolded_leaves t = leaves_returns s (returns_bind _ (placed t S) (λ a. r_ok))
+
   literal_kept : (loc bits : ℕ) → leb bits 256 ≡ true → (q : Claim) → spares q takes ≡ true → Claimed q S → Claimed q (with_need (set_num_var (with_var S) (taken S) loc) (taken S) bits)
   unfolding Claimed spares
   literal_kept loc bits f is_held c h = held_literal (with_var S) (taken S) loc bits (new_var s).free (new_var s).no_need f ((held_var s).held h)
@@ -299,7 +307,9 @@ module _ (S : State) (s : Sound (arity S) S) where
   run_leaves (SN v loc) f = let m = num_marks S v loc in l_ok (went_quiet s (sound_marks s m) (quiet_marks s m (λ x h. need_set_num S v loc x))) (mark_kept v loc)
   run_leaves (JN t1 t2) f = two_leaves join (λ S' l r s' i j. join_went s' l r i j) t1 t2 f.0 f.1
   run_leaves (SU t1 t2) f = two_leaves subtype subtype_went t1 t2 f.0 f.1
-  run_leaves (UF t) f = leaves_returns s (returns_bind _ (placed t S) (λ a. r_ok))
+  run_leaves (UF t) f = unfolded_leaves t
+  run_leaves (UL t) f = unfolded_leaves t
+  run_leaves (JL t1 t2) f = two_leaves join (λ S' l r s' i j. join_went s' l r i j) t1 t2 f.0 f.1
   run_leaves (RD t) f = leaves_returns s (returns_bind _ (placed t S) (λ a. returns_bind _ (ready_tvars_run ⊥ S true refl a.0 (λ h. absurd h) a.1) (λ b. r_ok)))
   run_leaves (IN t) f = leaves_post (
       bind_post _ (place_went f s (omega arith)) (λ S1 ty g1 w1.

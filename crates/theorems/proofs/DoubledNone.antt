@@ -23,11 +23,11 @@ use Rattle.definition.specs.Constraints.{undecided, default_num_var, default_num
 use Rattle.definition.specs.Write.{Bytes, u32}
 use Rattle.definition.specs.Reader.{Read, got, not_read}
 use Rattle.definition.specs.Trees.{Tree, unit_tree, anything_tree, error_tree, ref_tree, param_tree, apply_tree, var_tree, Trees, no_trees, ◌then◌}
-use Rattle.definition.specs.Record.{Record, SD, FV, NV, SN, JN, SU, UF, RD, IN, TS, NC, BC, SC, SV, RM, CN, XP, read_record, NL, MJ}
+use Rattle.definition.specs.Record.{Record, SD, FV, NV, SN, JN, SU, UF, RD, IN, TS, NC, BC, SC, SV, RM, CN, XP, read_record, NL, MJ, UL, JL}
 use Rattle.definition.specs.Needs.{Needs, needs}
 use Rattle.definition.specs.Build.{build, build_all, build_many}
 use Rattle.definition.specs.Sound.{sound}
-use Rattle.definition.specs.Step.{constrain, two_types, tell, pair_answer, run_pairs, run, Answer, refusal, put_back, max_payload, answer_with, answer_within, answer, apart, most_of, reply, least_buffer, usable, lent, step, streamed, step_stream}
+use Rattle.definition.specs.Step.{constrain, two_types, tell, pair_answer, run_pairs, run, Answer, refusal, put_back, max_payload, answer_with, answer_within, answer, apart, most_of, reply, least_buffer, usable, lent, step, streamed, step_stream, behind, tail_of, unfolded}
 use Rattle.definition.specs.Demand.{after}
 use Rattle.definition.proofs.Spelling.{imm, param, u8, var, text, FV as FV', JN as JN', RD as RD'}
 use Rattle.definition.proofs.AnswersJoin.{after as records_after}
@@ -180,11 +180,11 @@ module _ (s : State) (i : Single s) where
       go true = i'
       go false = i
 
-  answer_single : (most : ℕ) (m : Result (State × Bytes)) → Leaves m → Single (answer_within most s m).state
+  answer_single : (most : ℕ) (tail : Bytes) (m : Result (State × Bytes)) → Leaves m → Single (answer_within most tail s m).state
   unfolding answer_within refusal put_back
-  answer_single most (ok (s', p)) (e_ok i') = with_single most 0 p s' i'
-  answer_single most (err s' e) (e_err i') = with_single most _ _ (put_back s s') (left_same (vars_nodes s' _) i').single
-  answer_single most (refused x) l = i
+  answer_single most tail (ok (s', p)) (e_ok i') = with_single most 0 (behind tail p) s' i'
+  answer_single most tail (err s' e) (e_err i') = with_single most _ _ (put_back s s') (left_same (vars_nodes s' _) i').single
+  answer_single most tail (refused x) l = i
 
 -- ---- MJ
 
@@ -199,7 +199,7 @@ many_leaves ((c, t1, t2) ∷ ps) d s i =
 
 pair_single : (s : State) → Single s → (p : TypingCase × ℕ × ℕ) → Single (pair_answer s p).state
 unfolding pair_answer answer
-pair_single s i (c, l, r) = answer_single s i max_payload _ (bind _ (join_goes max_depth s i c l r) (λ x p. e_ok p.0.single))
+pair_single s i (c, l, r) = answer_single s i max_payload [] _ (bind _ (join_goes max_depth s i c l r) (λ x p. e_ok p.0.single))
 
 pairs_single : (ps : List (TypingCase × ℕ × ℕ)) (s : State) → Single s → Single (run_pairs s ps).0
 unfolding run_pairs
@@ -216,6 +216,10 @@ module _ (s : State) (i : Single s) where
   placed : (t : Tree) (s' : State) → RunOr ⊥ s true Single (build t s')
   placed t s' = place_run ⊥ s true t unasked s' unasked
 
+  unfolded_leaves : (t : Tree) → Leaves (unfolded s t)
+  unfolding unfolded
+  unfolded_leaves t = bind _ (placed t s) (λ x j. e_ok i)
+
   tell_leaves : (n : Option Needs) → Leaves (tell s n)
   unfolding tell
   tell_leaves None = e_refused eleven
@@ -230,7 +234,9 @@ module _ (s : State) (i : Single s) where
   run_leaves (SN v loc) d = e_ok (marked i v loc)
   run_leaves (JN t1 t2) d = two_leaves _ (λ s i l r. join_goes max_depth s i _ l r) s i t1 t2 d
   run_leaves (SU t1 t2) d = two_leaves _ (λ s i l r. join_goes max_depth s i _ l r) s i t1 t2 d
-  run_leaves (UF t) d = bind _ (placed t s) (λ x j. e_ok i)
+  run_leaves (UF t) d = unfolded_leaves t
+  run_leaves (UL t) d = unfolded_leaves t
+  run_leaves (JL t1 t2) d = two_leaves _ (λ s i l r. join_goes max_depth s i _ l r) s i t1 t2 d
   run_leaves (RD t) d = bind _ (placed t s) (λ x j. bind _ (ready_tvars_run ⊥ s true refl x.0 unasked x.1) (λ y k. e_ok i))
   run_leaves (TS ps t) d =
       bind _ (pairs_run ⊥ s true ps unasked s unasked) (λ x j. bind _ (placed t x.0) (λ y k. bind _ (make_run ⊥ s true x.1) (λ subst p. bind _ (subst_run ⊥ s true refl _ subst y.0 unasked y.1) (λ z l. e_ok i))))
@@ -246,7 +252,7 @@ module _ (s : State) (i : Single s) where
 
   reply_single : (r : Record) → NoDoubledRecord r → Single (reply s r).state
   unfolding reply
-  reply_single r d = answer_single s i (most_of (apart r)) (run s r) (run_leaves r d)
+  reply_single r d = answer_single s i (most_of (apart r)) (tail_of s (apart r)) (run s r) (run_leaves r d)
 
   abbrev NoneRead : Read Record → Type 0
   NoneRead x = (r : Record) (rest : Bytes) → x ≡ got r rest → NoDoubledRecord r

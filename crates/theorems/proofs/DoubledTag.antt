@@ -15,7 +15,7 @@ use Rattle.definition.specs.Store.{taken}
 use Rattle.definition.specs.Write.{Bytes}
 use Rattle.definition.specs.Reader.{Read, got, not_read, Reader, give, refuse, go_on, ◌>>=◌, read_one, read_two, read_three, byte, read_u16, read_u32, byte_if, read_bool, name_below, times}
 use Rattle.definition.specs.Trees.{Tree, no_trees, ◌then◌, read_trees, mark_of, read_mark, mark_fits, arity, is_name, is_set, under_ref, read_apply, by_tag, read_nested, read_type}
-use Rattle.definition.specs.Record.{Record, FV, NV, SN, JN, SU, UF, RD, IN, NC, BC, SC, SV, RM, CN, XP, read_kind, read_SD, max_record, hand_back, read_record, NL, read_bits, read_case}
+use Rattle.definition.specs.Record.{Record, FV, NV, SN, JN, SU, UF, RD, IN, NC, BC, SC, SV, RM, CN, XP, read_kind, read_SD, max_record, hand_back, read_record, NL, read_bits, read_case, UL, JL}
 use Rattle.theorems.proofs.SoundFacts.{and_l, and_r, test}
 use Rattle.theorems.proofs.DemandTracks.{never}
 use Rattle.theorems.proofs.Doubled.{Rows, no_rows, row, row_at, Marks, no_marks, mark_row, mark_at, by_tag_with, nested_with, pair_with, TS_with, case_pair_with, MJ_with, by_mark_with, fields_with, record_with, record_now}
@@ -289,7 +289,7 @@ module _ (s : State) {p o : Reader Tree} (b : Both p o) where
   unfolding by_mark_with
   x_marks =
       mark_row x_SD (mark_row (x_loc FV) (mark_row (x_loc NV) (mark_row x_SN (mark_row (x_two JN) (mark_row (x_two SU) (mark_row (x_one UF) (mark_row (x_one RD)
-      (mark_row x_TS (mark_row (x_one IN) (mark_row x_NC (mark_row (x_loc_type BC) (mark_row (x_loc_type SC) (mark_row (x_give SV) (mark_row (x_one RM) (mark_row (x_one CN) (mark_row (x_one XP) (mark_row x_NL (mark_row x_MJ no_marks))))))))))))))))))
+      (mark_row x_TS (mark_row (x_one IN) (mark_row x_NC (mark_row (x_loc_type BC) (mark_row (x_loc_type SC) (mark_row (x_give SV) (mark_row (x_one RM) (mark_row (x_one CN) (mark_row (x_one XP) (mark_row x_NL (mark_row x_MJ (mark_row (x_one UL) (mark_row (x_two JL) no_marks))))))))))))))))))))
 
   x_fields : Both (fields_with p s) (fields_with o s)
   unfolding fields_with

@@ -100,7 +100,7 @@ need_set_erase s v n = cell_set s v _ _ (rw (get_erase s v, num_erase s v) refl)
 pub literal_erase : (s : State) (v l l' n : ℕ) → l' ≡ 0 → with_need (set_num_var (erase s) v l') v n ≡ erase (with_need (set_num_var s v l) v n)
 literal_erase s v l l' n z = rw (set_num_erase s v l l' z) (need_set_erase (set_num_var s v l) v n)
 
-merge_erase : (s : State) (a b : Option ℕ) (n v : ℕ) → merge_num (erase s) (erase_mark a) (erase_mark b) n v ≡ erase (merge_num s a b n v)
+pub merge_erase : (s : State) (a b : Option ℕ) (n v : ℕ) → merge_num (erase s) (erase_mark a) (erase_mark b) n v ≡ erase (merge_num s a b n v)
 unfolding merge_num
 merge_erase s None None n v = refl
 merge_erase s (Some l) None n v = literal_erase s v l 0 n refl
@@ -162,7 +162,7 @@ bind_erase s l l' v t z =
 
 -- ---- the merge
 
-type_of_erase : (s : State) (l l' v : ℕ) → l' ≡ 0 → Erased with_state (type_of s l v) (type_of (erase s) l' v)
+pub type_of_erase : (s : State) (l l' v : ℕ) → l' ≡ 0 → Erased with_state (type_of s l v) (type_of (erase s) l' v)
 unfolding type_of
 type_of_erase s l l' v z = er_opt (get s v) _ (get_erase s v) (sp_erase s l l' Anything z) (λ t. er_ok refl)
 
@@ -170,10 +170,10 @@ shown_erase : (s : State) (t v : ℕ) → Erased with_state (shown s t v) (shown
 unfolding shown
 shown_erase s t v = er_if (is_anything (type_at s t)) _ (ap is_anything (value_erase s t)) (sp_erase s (loc_of s t) (loc_of (erase s) t) (Var v) (loc_erase s t)) (er_ok refl)
 
-sp_from : (s s' : State) → s' ≡ erase s → (l l' : ℕ) (x : TypeValue) → l' ≡ 0 → Erased with_state (sp s l x) (sp s' l' x)
+pub sp_from : (s s' : State) → s' ≡ erase s → (l l' : ℕ) (x : TypeValue) → l' ≡ 0 → Erased with_state (sp s l x) (sp s' l' x)
 sp_from s s' e l l' x z = rw e (sp_erase s l l' x z)
 
-both_bound : (s : State) (v t w u : ℕ) → insert (insert (erase s) v t) w u ≡ erase (insert (insert s v t) w u)
+pub both_bound : (s : State) (v t w u : ℕ) → insert (insert (erase s) v t) w u ≡ erase (insert (insert s v t) w u)
 both_bound s v t w u = rw (insert_erase s v t) (insert_erase (insert s v t) w u)
 
 join_loc_0 : (c : TypingCase) (a b : Bool) (l1 l2 : ℕ) → l1 ≡ 0 → l2 ≡ 0 → join_loc c a b l1 l2 ≡ 0

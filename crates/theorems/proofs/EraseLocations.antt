@@ -21,7 +21,7 @@ use Rattle.theorems.proofs.SoundKept.{sound_kept, fresh_sound}
 use Rattle.theorems.proofs.Erase.{erase, count_erase, taken_erase, args_erase, structs_erase, constraints_erase}
 use Rattle.theorems.proofs.EraseRead.{record_alike}
 use Rattle.theorems.proofs.EraseShown.{read_shows}
-use Rattle.theorems.proofs.EraseRun.{lent_erase}
+use Rattle.theorems.proofs.EraseRun.{lent_erase, nothing_before}
 use Rattle.theorems.proofs.SoundRead.{well_read}
 
 -- two answers that are alike, and the states that they leave
@@ -64,8 +64,8 @@ module _ (s s' : State) (h : sound s ≡ true) (h' : sound s' ≡ true) (e : era
       }
 
   unsound_alike : Alike s bytes (refusal s unsound_state) s' bytes' (refusal s' unsound_state)
-  unfolding refusal blank_payload blank
-  unsound_alike = record { numbers = refl; payloads = refl; states = e }
+  unfolding refusal blank_payload
+  unsound_alike = record { numbers = refl; payloads = nothing_before s (told bytes).2 _ ∙ sym (nothing_before s' (told bytes').2 _); states = e }
 
   -- the mark is no location
   same_buffer : least_buffer bytes ≡ least_buffer bytes'

@@ -15,7 +15,7 @@ use Rattle.definition.specs.Types.{answer_too_long, Result, ok, ◌>>=◌}
 use Rattle.definition.specs.Store.{count, taken, spanned}
 use Rattle.definition.specs.Subst.{parts}
 use Rattle.definition.specs.Write.{Bytes, u16, u32, bool, mark, apply_head, head, each, write_down, write_spanned, write, write_error}
-use Rattle.definition.specs.Step.{Answer, number_of_error, number_of_refusal, refusal, put_back, max_payload, answer_with, answer_within, answer, pair_answer, pair_bytes, run_pairs}
+use Rattle.definition.specs.Step.{Answer, number_of_error, number_of_refusal, refusal, put_back, max_payload, answer_with, answer_within, answer, pair_answer, pair_bytes, run_pairs, behind}
 use Rattle.definition.specs.Locations.{Part, plain, types, pair, loc_field, tag_widths, row, expand, blank}
 use Rattle.theorems.proofs.Erase.{erase_cell, erase_spanned, erase_error, erase, count_erase, taken_erase, spanned_erase, vars_erase, Erased, er_ok, er_err, er_refused, with_state}
 use Rattle.theorems.proofs.EraseJoin.{join_impl_erase}
@@ -140,7 +140,7 @@ module _ (B : State) where
 
   join_alike : (s : State) {j j' : Result (State × ℕ)} → Erased with_state j j'
       → Alike (answer s (j >>= λ (x : State × ℕ). ok (x.0, write x.0 x.1))) (answer (erase s) (j' >>= λ (x : State × ℕ). ok (x.0, write x.0 x.1)))
-  unfolding answer answer_within ◌>>=◌
+  unfolding answer answer_within behind ◌>>=◌
   join_alike s (er_ok {a = x} e) = rw e (
       with_alike s 0 (write x.0 x.1) (write (erase x.0) x.1) x.0 (erase x.0) (ap length (sym (write_row B x.0 x.1)) ∙ length_blank B (write x.0 x.1) (types ∷ []))
       (pays_row 0 refl (write_ended x.0 x.1)) refl)

@@ -4,29 +4,29 @@ use mathlib.Core.Path.{◌≡◌, refl, sym, ap}
 use mathlib.Core.Bool.{Bool, true, false, not, ◌&&◌}
 use mathlib.Core.List.{List, [], ◌∷◌, ◌++◌, map, append-nil}
 use Rattle.std.specs.Prelude.{Option, None, Some}
-use Prim.Native.Nat.{ℕ, suc, ◌≤◌, ◌<◌}
+use Prim.Native.Nat.{ℕ, suc, ◌≤◌, ◌<◌, zero, ◌-◌}
 use native.Mathlib.Omega.{arith}
-use lib.ListN.{length, get_or-eq_default}
+use lib.ListN.{length, get_or-eq_default, take, drop, length-append}
 use lib.Dec.{leb, ltb, ltb→lt, nltb→le}
 use Rattle.std.specs.Prelude.{if◌then◌else◌}
-use Rattle.definition.specs.Types.{TypeName, Multiple, Builtin, ModuleType, UnitType, Ref, Param, Apply, Var, Anything, UnresolvedError, TypeValue, Spanned, Node, Cell, State, max_structs, Constraint, Refusal, answer_too_long, Result, ok, ◌>>=◌}
+use Rattle.definition.specs.Types.{TypeName, Multiple, Builtin, ModuleType, UnitType, Ref, Param, Apply, Var, Anything, UnresolvedError, TypeValue, Spanned, Node, Cell, State, max_structs, Constraint, Refusal, answer_too_long, Result, ok, ◌>>=◌, refused}
 use Rattle.definition.specs.Store.{nowhere, count, taken, node, type_at, with_args, spanned, with_constraints}
 use Rattle.definition.specs.Subst.{parts, unfold_type, forward_tvar}
 use Rattle.definition.specs.Join.{join, subtype, TypingCase}
 use Rattle.definition.specs.TParams.{arg_of, make_tparam_subst}
 use Rattle.definition.specs.Constraints.{num_vars, undecided, default_num_var, default_num_vars, solve_all, solve_constraints, default_integer, default_of}
-use Rattle.definition.specs.Write.{Bytes, u16, write_error}
+use Rattle.definition.specs.Write.{Bytes, u16, write_error, u32}
 use Rattle.definition.specs.Reader.{Read}
 use Rattle.definition.specs.Trees.{Tree, unit_tree, anything_tree, error_tree, ref_tree, param_tree, apply_tree, var_tree, Trees, no_trees, ◌then◌, mark_fits, arity, is_mark, is_name}
-use Rattle.definition.specs.Record.{NumericKind, Numeric, Bits, Ordered, Record, SD, FV, NV, SN, JN, SU, UF, RD, IN, TS, NC, BC, SC, SV, RM, CN, XP, NL, MJ}
+use Rattle.definition.specs.Record.{NumericKind, Numeric, Bits, Ordered, Record, SD, FV, NV, SN, JN, SU, UF, RD, IN, TS, NC, BC, SC, SV, RM, CN, XP, NL, MJ, UL, JL}
 use Rattle.definition.specs.Build.{build, build_all, build_pairs, build_many}
 use Rattle.definition.specs.Canonical.{canonical}
 use Rattle.definition.specs.Needs.{Needs, merge, needs, needs_args, write_needs}
 use Rattle.definition.specs.Sound.{sound}
-use Rattle.definition.specs.Step.{numeric_constraint, constrain, two_types, tell, run, Answer, number_of_error, refusal, put_back, answer_with, answer_within, apart, most_of, reply, lent}
+use Rattle.definition.specs.Step.{numeric_constraint, constrain, two_types, tell, run, Answer, number_of_error, refusal, put_back, answer_with, answer_within, apart, most_of, reply, lent, Apart, as_others, many, links_of_one, links_of_two, counted, tail_of, behind, unfolded}
 use Rattle.definition.specs.Expand.{Expanded, expand_type}
-use Rattle.definition.specs.Locations.{Part, type, types, codes, failures, blank, shown_fields}
-use Rattle.theorems.proofs.EraseShown.{success_fields, Shows, shows, shows_none}
+use Rattle.definition.specs.Locations.{Part, type, types, codes, failures, blank, shown_fields, blank_before}
+use Rattle.theorems.proofs.EraseShown.{success_fields, Shows, shows, shows_none, count_width, shown_of}
 use Rattle.theorems.proofs.DemandTracks.{never}
 use Rattle.theorems.proofs.DemandOrder.{All, All_map, Sound}
 use Rattle.theorems.proofs.SoundFacts.{and_l, and_r, test, facts}
@@ -44,6 +44,11 @@ use Rattle.theorems.proofs.SoundRead.{FineRecord, RecordIn, ReadWell, given}
 use Rattle.theorems.proofs.LawsPost.{Post, p_ok}
 use Rattle.theorems.proofs.EraseWrite.{NameFits, Fits, Fitting, spanned_row, write_row, var_row, error_shown, Shown, shown_told, shown_refused, constraints_shown}
 use Rattle.theorems.proofs.EraseMany.{error_number_erase, put_back_erase, pairs_erase as run_pairs_erase}
+use Rattle.theorems.proofs.LinksErase.{links_of_erase, join_links_erase}
+use Rattle.theorems.proofs.DemandEveryDepth.{ByApart, as_other, as_many, as_links_of_one, as_links_of_two, by_apart}
+use Rattle.theorems.proofs.LawsAnswer.{behind_length}
+use lib.Seq.{take-append_seam, drop-append_seam}
+use Rattle.theorems.proofs.LinksTail.{Tail, of_links, nothing_shown, one_tail, two_tail}
 
 -- ---- placing
 
@@ -230,6 +235,10 @@ module _ (S : State) (h : sound S ≡ true) where
   unfolding blank
   empty fields = refl
 
+  unfolded_erase : (t : Tree) → Erased (blanked S (types ∷ [])) (unfolded S t) (unfolded (erase S) (erase_tree t))
+  unfolding unfolded
+  unfolded_erase t = er_bind _ _ (place_erase t S) (λ x. er_ok (rw (spanned_erase x.0 x.1, unfold_type_erase x.0 (spanned x.0 x.1), spanned_row S x.0 (unfold_type x.0 (spanned x.0 x.1))) refl))
+
   constrain_erase : (t : Tree) (make make' : ℕ → Constraint) → ((ty : ℕ) → make' ty ≡ erase_constraint (make ty)) → Erased (blanked S (types ∷ [])) (constrain S t make) (constrain (erase S) (erase_tree t) make')
   unfolding constrain
   constrain_erase t make make' e = er_bind _ _ (place_erase t S) (λ x. er_bind _ _ (add_erase x.0 (make x.1) (make' x.1) (e x.1)) (λ s. er_ok (rw (empty (types ∷ [])) refl)))
@@ -272,7 +281,9 @@ module _ (S : State) (h : sound S ≡ true) where
   run_erase (SN v loc) f b = er_ok (pair_same (set_num_erase S v loc 0 refl) (sym (empty (types ∷ []))))
   run_erase (JN t u) f b = two_erase join join_erase t u
   run_erase (SU t u) f b = two_erase subtype subtype_erase t u
-  run_erase (UF t) f b = er_bind _ _ (place_erase t S) (λ x. er_ok (rw (spanned_erase x.0 x.1, unfold_type_erase x.0 (spanned x.0 x.1), spanned_row S x.0 (unfold_type x.0 (spanned x.0 x.1))) refl))
+  run_erase (UF t) f b = unfolded_erase t
+  run_erase (UL t) f b = unfolded_erase t
+  run_erase (JL t u) f b = two_erase join join_erase t u
   run_erase (RD t) f b = er_bind _ _ (place_erase t S) (λ x. er_bind _ _ (ready_tvars_erase x.0 x.1) (λ y. er_ok (rw (write_row S y.0 y.1) refl)))
   run_erase (TS ps t) f b = er_bind _ _ (pairs_erase ps S) (λ x. er_bind _ _ (place_erase t x.0) (λ y. er_bind _ _ (make_erase x.1) (λ subst. er_bind _ _ (subst_erase subst y.0 y.1) (λ z. er_ok (rw (write_row S z.0 z.1) refl)))))
   run_erase (IN t) f b = er_bind _ _ (place_erase t S) (λ x. er_bind _ _ (instantiate_erase x.0 x.1) (λ y. er_ok (rw (write_row S y.0 y.1) refl)))
@@ -285,65 +296,141 @@ module _ (S : State) (h : sound S ≡ true) where
   run_erase (XP t) f b = expand_erase (place_erase t S) (place_went f (facts S h) (omega arith)) (place_run (Unit {0}) S true t (λ u. b) S (λ u. ranges_of S h))
   run_erase (MJ ps) f b = er_bind _ _ (many_erase ps S) (λ x. er_ok (let e = run_pairs_erase S x.1 x.0 in pair_same e.0 e.1))
 
--- ---- the answer
+-- ---- the count behind what a record shows: it has no locations
 
--- an answer, and the one with locations set to 0; `fields` tells what a payload is made of
-pub record Blanked (S : State) (fields : ℕ → List Part) (a a' : Answer) : Type 0 where
-  pub same_number : a'.number ≡ a.number
-  pub same_payload : a'.payload ≡ blank S a.payload (fields a.number)
-  pub same_state : a'.state ≡ erase a.state
+-- the tail of an answer is n bytes long, if the run shows anything
+data Behind (n : ℕ) (tail : Bytes) : Result (State × Bytes) → Type 0 where
+  so_long : {m : Result (State × Bytes)} → length tail ≡ n → Behind n tail m
+  shows_nothing : {x : Refusal} → Behind n tail (refused x)
+
+unfoldable erase_apart : Apart → Apart
+erase_apart as_others = as_others
+erase_apart (many ps) = many (map erase_case_pair ps)
+erase_apart (links_of_one t) = links_of_one (erase_tree t)
+erase_apart (links_of_two t u) = links_of_two (erase_tree t) (erase_tree u)
+
+apart_erase : (r : Record) → apart (erase_record r) ≡ erase_apart (apart r)
+unfolding apart erase_record erase_apart
+apart_erase (SD a ps) = refl
+apart_erase (FV loc) = refl
+apart_erase (NV loc) = refl
+apart_erase (NL loc bits) = refl
+apart_erase (SN v loc) = refl
+apart_erase (JN t u) = refl
+apart_erase (SU t u) = refl
+apart_erase (UF t) = refl
+apart_erase (RD t) = refl
+apart_erase (IN t) = refl
+apart_erase (TS ps t) = refl
+apart_erase (NC loc kind t) = refl
+apart_erase (BC loc t) = refl
+apart_erase (SC loc t) = refl
+apart_erase SV = refl
+apart_erase (RM t) = refl
+apart_erase (CN t) = refl
+apart_erase (XP t) = refl
+apart_erase (MJ ps) = refl
+apart_erase (UL t) = refl
+apart_erase (JL t u) = refl
+
+most_erase : (a : Apart) → most_of (erase_apart a) ≡ most_of a
+unfolding most_of erase_apart
+most_erase as_others = refl
+most_erase (many ps) = refl
+most_erase (links_of_one t) = refl
+most_erase (links_of_two t u) = refl
+
+counted_erase : {m m' : Result ℕ} → Erased (λ (n : ℕ). n) m m' → counted m' ≡ counted m
+unfolding counted
+counted_erase (er_ok e) = rw e refl
+counted_erase (er_err p q) = refl
+counted_erase er_refused = refl
 
 module _ (S : State) where
-  refusal_erase : (fields : ℕ → List Part) (x : Refusal) → Blanked S fields (refusal S x) (refusal (erase S) x)
-  unfolding refusal blank
-  refusal_erase fields x = record { same_number = refl; same_payload = refl; same_state = refl }
+  tail_erase : (a : Apart) → tail_of (erase S) (erase_apart a) ≡ tail_of S a
+  unfolding tail_of erase_apart
+  tail_erase as_others = refl
+  tail_erase (many ps) = refl
+  tail_erase (links_of_one t) = counted_erase (er_bind _ _ (place_erase t S) (λ x. er_ok (links_of_erase x.0 x.1)))
+  tail_erase (links_of_two t u) = counted_erase (er_bind _ _ (place_erase t S) (λ x. er_bind _ _ (place_erase u x.0) (λ y. er_ok (join_links_erase y.0 x.1 y.1))))
 
-  with_erase : (most : ℕ) (fields : ℕ → List Part) (n : ℕ) (p : Bytes) (s s' : State) → s' ≡ erase s → Blanked S fields (answer_with most S n p s) (answer_with most (erase S) n (blank S p (fields n)) s')
-  unfolding answer_with
-  with_erase most fields n p s s' e = rw (length_blank S p (fields n)) (go (leb (length p) most))
+  counted_behind : {P : ℕ → Type 0} {tail : Bytes} {m : Result (State × Bytes)} → Tail P tail m → Behind 4 tail m
+  unfolding u32
+  counted_behind (of_links e p) = so_long (rw e refl)
+  counted_behind nothing_shown = shows_nothing
+
+  tail_behind : {r : Record} {a : Apart} → ByApart r a → Behind (count_width a) (tail_of S a) (run S r)
+  unfolding count_width tail_of run
+  tail_behind as_other = so_long refl
+  tail_behind as_many = so_long refl
+  tail_behind (as_links_of_one {t = t}) = counted_behind (one_tail S t)
+  tail_behind (as_links_of_two {t1 = t} {t2 = u}) = counted_behind (two_tail S t u)
+
+  -- its bytes are left as they are
+  before_tail : (n : ℕ) (tail p : Bytes) (fields : List Part) → length tail ≡ n → blank_before n S (behind tail p) fields ≡ behind tail (blank S p fields)
+  unfolding blank_before behind
+  before_tail zero [] p fields e = refl
+  before_tail zero (b ∷ tail) p fields e = absurd (omega (arith, e))
+  before_tail (suc n) [] p fields e = absurd (omega (arith, e))
+  before_tail (suc n) (b ∷ tail) p fields e =
+      let shown : length (p ++ (b ∷ tail)) - suc n ≡ length p = omega (arith, e, length-append p (b ∷ tail)) in
+      rw (shown, take-append_seam p (b ∷ tail), drop-append_seam p (b ∷ tail)) refl
+
+  pub nothing_before : (n : ℕ) (fields : List Part) → blank_before n S [] fields ≡ []
+  unfolding blank_before blank
+  nothing_before zero fields = refl
+  nothing_before (suc n) fields = go (0 - suc n)
     where
-      go : (b : Bool) → Blanked S fields (if b then record { number = n; payload = p; state = s } else refusal S answer_too_long)
-          (if b then record { number = n; payload = blank S p (fields n); state = s' } else refusal (erase S) answer_too_long)
-      go true = record { same_number = refl; same_payload = refl; same_state = e }
+      go : (k : ℕ) → blank S (take k []) fields ++ drop k [] ≡ []
+      go zero = refl
+      go (suc k) = refl
+
+-- ---- the answer
+
+-- an answer, and the one with locations set to 0; `fields` tells what a payload is made of, but for a count of n bytes at its end
+pub record Blanked (S : State) (n : ℕ) (fields : ℕ → List Part) (a a' : Answer) : Type 0 where
+  pub same_number : a'.number ≡ a.number
+  pub same_payload : a'.payload ≡ blank_before n S a.payload (fields a.number)
+  pub same_state : a'.state ≡ erase a.state
+
+module _ (S : State) (n : ℕ) where
+  refusal_erase : (fields : ℕ → List Part) (x : Refusal) → Blanked S n fields (refusal S x) (refusal (erase S) x)
+  unfolding refusal
+  refusal_erase fields x = record { same_number = refl; same_payload = sym (nothing_before S n (fields _)); same_state = refl }
+
+  with_erase : (most : ℕ) (fields : ℕ → List Part) (number : ℕ) (p p' : Bytes) (s s' : State) → length p' ≡ length p → p' ≡ blank_before n S p (fields number) → s' ≡ erase s
+      → Blanked S n fields (answer_with most S number p s) (answer_with most (erase S) number p' s')
+  unfolding answer_with
+  with_erase most fields number p p' s s' l b e = rw l (go (leb (length p) most))
+    where
+      go : (c : Bool) → Blanked S n fields (if c then record { number = number; payload = p; state = s } else refusal S answer_too_long)
+          (if c then record { number = number; payload = p'; state = s' } else refusal (erase S) answer_too_long)
+      go true = record { same_number = refl; same_payload = b; same_state = e }
       go false = refusal_erase fields answer_too_long
 
-  answer_erase : (most : ℕ) (success : List Part) {m m' : Result (State × Bytes)} → Erased (blanked S success) m m' → Blanked S (shown_fields success) (answer_within most S m) (answer_within most (erase S) m')
+  -- a payload and its tail
+  tail_kept : (most : ℕ) (tail : Bytes) → length tail ≡ n → (fields : ℕ → List Part) (number : ℕ) (p : Bytes) (s s' : State) → s' ≡ erase s
+      → Blanked S n fields (answer_with most S number (behind tail p) s) (answer_with most (erase S) number (behind tail (blank S p (fields number))) s')
+  tail_kept most tail l fields number p s s' e =
+      with_erase most fields number (behind tail p) (behind tail (blank S p (fields number))) s s' (omega (arith, behind_length tail p, behind_length tail (blank S p (fields number)), length_blank S p (fields number)))
+      (sym (before_tail S n tail p (fields number) l)) e
+
+  answer_erase : (most : ℕ) (tail : Bytes) (success : List Part) {m m' : Result (State × Bytes)} → Behind n tail m → Erased (blanked S success) m m' → Blanked S n (shown_fields success) (answer_within most tail S m) (answer_within most tail (erase S) m')
   unfolding answer_within shown_fields
-  answer_erase most success (er_ok {a = x} e) = rw e (with_erase most (shown_fields success) 0 x.1 x.0 (erase x.0) refl)
-  answer_erase most success (er_err {s = s} {e = e} p q) =
-      rw (p, q, error_number_erase e, ← (error_shown S success s e)) (with_erase most (shown_fields success) (number_of_error e) (write_error s e) (put_back S s) _ (put_back_erase S s))
-  answer_erase most success (er_refused {x = x}) = refusal_erase (shown_fields success) x
+  answer_erase most tail success (so_long l) (er_ok {a = x} e) = rw e (tail_kept most tail l (shown_fields success) 0 x.1 x.0 (erase x.0) refl)
+  answer_erase most tail success (so_long l) (er_err {s = s} {e = e} p q) =
+      rw (p, q, error_number_erase e, ← (error_shown S success s e)) (tail_kept most tail l (shown_fields success) (number_of_error e) (write_error s e) (put_back S s) _ (put_back_erase S s))
+  answer_erase most tail success b (er_refused {x = x}) = refusal_erase (shown_fields success) x
 
-  most_erase : (r : Record) → most_of (apart (erase_record r)) ≡ most_of (apart r)
-  unfolding most_of apart erase_record
-  most_erase (SD a ps) = refl
-  most_erase (FV loc) = refl
-  most_erase (NV loc) = refl
-  most_erase (NL loc bits) = refl
-  most_erase (SN v loc) = refl
-  most_erase (JN t u) = refl
-  most_erase (SU t u) = refl
-  most_erase (UF t) = refl
-  most_erase (RD t) = refl
-  most_erase (IN t) = refl
-  most_erase (TS ps t) = refl
-  most_erase (NC loc kind t) = refl
-  most_erase (BC loc t) = refl
-  most_erase (SC loc t) = refl
-  most_erase SV = refl
-  most_erase (RM t) = refl
-  most_erase (CN t) = refl
-  most_erase (XP t) = refl
-  most_erase (MJ ps) = refl
+reply_erase : (S : State) → sound S ≡ true → (r : Record) → FineRecord (arity S) (taken S) r → RecordIn S r → Blanked S (count_width (apart r)) (shown_fields (success_fields r)) (reply S r) (reply (erase S) (erase_record r))
+unfolding reply
+reply_erase S h r f b =
+    rw (apart_erase r, most_erase (apart r), tail_erase S (apart r)) (answer_erase S (count_width (apart r)) (most_of (apart r)) (tail_of S (apart r)) (success_fields r) (tail_behind S (by_apart r)) (run_erase S h r f b))
 
-  reply_erase : sound S ≡ true → (r : Record) → FineRecord (arity S) (taken S) r → RecordIn S r → Blanked S (shown_fields (success_fields r)) (reply S r) (reply (erase S) (erase_record r))
-  unfolding reply
-  reply_erase h r f b = rw (most_erase r) (answer_erase (most_of (apart r)) (success_fields r) (run_erase S h r f b))
-
-  pub lent_erase : sound S ≡ true → {n : ℕ} {success : List Part} {x x' : Read Record} → ReadWell (Unit {0}) S n x → Shows success x → ReadAlike x x' → Blanked S (shown_fields success) (lent S x) (lent (erase S) x')
-  unfolding lent
-  lent_erase h (given p i m) (shows q) (w_got {r = r} {rest = []} {rest' = []} e l) = rw (e, ← q) (reply_erase h r p.0 (p.1 tt))
-  lent_erase h g (shows q) (w_got {rest = []} {rest' = b ∷ rest'} e l) = never (cc)
-  lent_erase h g (shows q) (w_got {rest = b ∷ rest} {rest' = []} e l) = never (cc)
-  lent_erase h g (shows q) (w_got {rest = b ∷ rest} {rest' = b' ∷ rest'} e l) = refusal_erase (shown_fields _) _
-  lent_erase h g shows_none (w_not {x = x}) = refusal_erase (shown_fields _) x
+pub lent_erase : (S : State) → sound S ≡ true → {k : ℕ} {shown : List Part × ℕ} {x x' : Read Record} → ReadWell (Unit {0}) S k x → Shows shown x → ReadAlike x x' → Blanked S shown.1 (shown_fields shown.0) (lent S x) (lent (erase S) x')
+unfolding lent shown_of
+lent_erase S h (given p i m) (shows q) (w_got {r = r} {rest = []} {rest' = []} e l) = rw (e, ← q) (reply_erase S h r p.0 (p.1 tt))
+lent_erase S h g (shows q) (w_got {rest = []} {rest' = b ∷ rest'} e l) = never (cc)
+lent_erase S h g (shows q) (w_got {rest = b ∷ rest} {rest' = []} e l) = never (cc)
+lent_erase S h {shown = shown} g (shows q) (w_got {rest = b ∷ rest} {rest' = b' ∷ rest'} e l) = refusal_erase S shown.1 (shown_fields shown.0) _
+lent_erase S h {shown = shown} g shows_none (w_not {x = x}) = refusal_erase S shown.1 (shown_fields shown.0) x

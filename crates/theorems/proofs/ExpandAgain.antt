@@ -21,7 +21,7 @@ use Rattle.definition.specs.Trees.{Tree, unit_tree, anything_tree, error_tree, r
 use Rattle.definition.specs.Record.{XP, read_record}
 use Rattle.definition.specs.Build.{build, build_all}
 use Rattle.definition.specs.Sound.{sound}
-use Rattle.definition.specs.Step.{number_of_refusal, refusal, answer, step, Answer, answer_within}
+use Rattle.definition.specs.Step.{number_of_refusal, refusal, answer, step, Answer, answer_within, behind}
 use Rattle.definition.specs.Final.{Finally, final_unit, final_any, final_error, final_param, final_ref, final_builtin, AllFinally, final_none, final_each, spelled, codes_of, Marked, marked_list, marked_struct, ReachesMarked, is_marked, through_binding, through_part, Came, came_ok, came_17}
 use Rattle.definition.specs.Final.{Whole, whole_unit, whole_any, whole_error, whole_param, whole_ref, whole_name, AllWhole, whole_none, whole_each, Contains, a_list, a_struct, in_ref, in_argument, SomeContain, in_first, in_later, ExpandAgain}
 use Rattle.theorems.proofs.Laws.{structs_node, node_old, node_new}
@@ -297,7 +297,7 @@ module _ (s s' : State) (e : s'.structs ≡ s.structs) where
     fines_there (fine_then f fs) = fine_then (fine_there f) (fines_there fs)
 
 fits : (s : State) (p : Bytes) → length p ≤ 4096 → ((answer s (ok (s, p))).number ≡ 0) × ((answer s (ok (s, p))).payload ≡ p)
-unfolding answer answer_within
+unfolding answer answer_within behind
 fits s p h = rw (with_is s 0 p s, le-leb (length p) 4096 h) (refl, refl)
 
 is_17 : (s : State) → (answer s (refused already_expanded)).number ≡ 17

@@ -17,16 +17,16 @@ use Rattle.definition.specs.Write.{Bytes, write}
 use Rattle.definition.specs.Reader.{Read, got, not_read, Reader, give, refuse, go_on, ◌>>=◌, byte, read_u16, read_u32, byte_if, byte_to, read_bool, name_below, times, read_one, read_two, read_three}
 use Rattle.definition.specs.Trees.{Tree, unit_tree, anything_tree, error_tree, ref_tree, param_tree, apply_tree, var_tree, Trees, no_trees, ◌then◌}
 use Rattle.definition.specs.Trees.{read_trees, mark_of, read_mark, mark_fits, arity, under_ref, read_apply, by_tag, is_set, is_name, read_nested, read_type}
-use Rattle.definition.specs.Record.{Record, SD, FV, NV, SN, JN, SU, UF, RD, IN, TS, NC, BC, SC, SV, RM, CN, XP, read_kind, read_SD, read_pair, read_TS, by_mark, fields_of, read_fields, max_record, hand_back, read_record, NL, read_bits, MJ, read_case, is_many, read_case_pair, read_MJ}
+use Rattle.definition.specs.Record.{Record, SD, FV, NV, SN, JN, SU, UF, RD, IN, TS, NC, BC, SC, SV, RM, CN, XP, read_kind, read_SD, read_pair, read_TS, by_mark, fields_of, read_fields, max_record, hand_back, read_record, NL, read_bits, MJ, read_case, is_many, read_case_pair, read_MJ, UL, JL}
 use Rattle.definition.specs.Build.{build, build_all}
-use Rattle.definition.specs.Step.{Answer, refusal, max_payload, answer_with, answer_within, apart, most_of, reply, usable, two_types, lent, run, step}
-use Rattle.definition.specs.Demand.{JoinCall, outcome, run_calls, Event, nothing_done, events_by, lent_events, events}
+use Rattle.definition.specs.Step.{Answer, refusal, max_payload, answer_with, answer_within, apart, most_of, reply, usable, two_types, lent, run, step, behind, tail_of, links_of_two}
+use Rattle.definition.specs.Demand.{JoinCall, outcome, run_calls, Event, nothing_done, events_by, lent_events, events, one_event}
 use Rattle.theorems.proofs.DemandOrder.{All, Sound}
-use Rattle.theorems.proofs.LawsAnswer.{sound_of}
+use Rattle.theorems.proofs.LawsAnswer.{sound_of, behind_length, counted_short}
 use Rattle.theorems.proofs.LawsPost.{grown_refl, Post, p_ok, post_map, bind_post}
 use Rattle.theorems.proofs.SoundFacts.{facts}
 use Rattle.theorems.proofs.Soundness.{le_test}
-use Rattle.theorems.proofs.DemandMade.{OneJoin, not_placed, joined, JN_calls, SU_calls}
+use Rattle.theorems.proofs.DemandMade.{OneJoin, not_placed, joined, JN_calls, SU_calls, JL_calls}
 use Rattle.theorems.proofs.SoundRead.{Fine, fine_unit, fine_anything, fine_error, fine_ref, fine_param, fine_apply, fine_var, Fines, fine_none, fine_then, FineRecord, ReadWell, given, well_read}
 use Rattle.theorems.proofs.DemandWent.{WentTo}
 use Rattle.theorems.proofs.DemandRuns.{place_went}
@@ -190,7 +190,7 @@ module _ (s : State) where
   unfolding read_type
   pays_type = pays_nested 64
 
--- ---- the types of a JN, SU or MJ
+-- ---- the types of a JN, SU, JL or MJ
 
 unfoldable pub many_size : List (TypingCase × Tree × Tree) → ℕ
 many_size [] = 0
@@ -216,6 +216,8 @@ weight (RM t) = 0
 weight (CN t) = 0
 weight (XP t) = 0
 weight (MJ pairs) = many_size pairs
+weight (UL t) = 0
+weight (JL t1 t2) = tree_size t1 + tree_size t2
 
 pub data Weighs (n : ℕ) : Read Record → Type 0 where
   weighs : {r : Record} {rest : Bytes} → weight r ≤ n → Weighs n (got r rest)
@@ -342,7 +344,7 @@ module _ (n : ℕ) where
                 light_two SU (λ a b. refl),
                 (
                   light_one UF (λ t. refl),
-                  (light_one RD (λ t. refl), (light_TS, (light_one IN (λ t. refl), (light_NC, (light_loc_type BC (λ l t. refl), (light_loc_type SC (λ l t. refl), (light (always_give SV refl), (light_one RM (λ t. refl), (light_one CN (λ t. refl), (light_one XP (λ t. refl), (light_NL, (light_MJ, tt)))))))))))),
+                  (light_one RD (λ t. refl), (light_TS, (light_one IN (λ t. refl), (light_NC, (light_loc_type BC (λ l t. refl), (light_loc_type SC (λ l t. refl), (light (always_give SV refl), (light_one RM (λ t. refl), (light_one CN (λ t. refl), (light_one XP (λ t. refl), (light_NL, (light_MJ, (light_one UL (λ t. refl), (light_two JL (λ a b. refl), tt)))))))))))))),
                 ),
               ),
             ),
@@ -416,38 +418,58 @@ module _ {ar : TypeName → ℕ} where
 
 -- ---- the payload of a JN or SU
 
-pub as_length : (S : State) (t n : ℕ) → wrote S t ≤ n → length (write S t) ≤ n
+pub length_wrote : (S : State) (t : ℕ) → length (write S t) ≡ wrote S t
 unfolding wrote
-as_length S t n h = h
+length_wrote S t = refl
 
 pub two_payload : {ar : TypeName → ℕ} (c : TypingCase) {S : State} → Sound ar S → (t1 t2 : Tree) → Fine ar (taken S) t1 → Fine ar (taken S) t2
-    → Post ar S (λ S' p. length p ≤ tree_size t1 + tree_size t2) (two_types (λ s l r. join_impl max_depth s c l r) S t1 t2)
+    → Post ar S (λ S' p. length p + 5 ≤ tree_size t1 + tree_size t2) (two_types (λ s l r. join_impl max_depth s c l r) S t1 t2)
 unfolding two_types
 two_payload c {S} s t1 t2 f1 f2 =
     bind_post _ (place_put f1 s (omega arith)) (λ S1 l g1 p.
     bind_post _ (place_put f2 p.sound g1.g_vars) (λ S2 r g2 q.
     bind_post _ (join_impl_slim max_depth S2 c l r q.sound (omega (arith, p.t_in, g2.g_nodes)) q.t_in) (λ S3 t g3 n.
-    p_ok {b = write S3 t} (grown_refl S3) (as_length S3 t (tree_size t1 + tree_size t2) (omega (arith, n, p.written, q.written, wrote_kept p.sound q.sound g2 l p.t_in))))))
+    p_ok {b = write S3 t} (grown_refl S3) (omega (arith, length_wrote S3 t, n, p.written, q.written, wrote_kept p.sound q.sound g2 l p.t_in)))))
 
 abbrev pub two_of : TypingCase → Tree → Tree → Record
 two_of Join t1 t2 = JN t1 t2
 two_of Subtype t1 t2 = SU t1 t2
 
-pub fitting : (most : ℕ) (S S' : State) (p : Bytes) → length p ≤ most → answer_within most S (ok (S', p)) ≡ record { number = 0; payload = p; state = S' }
+pub fitting : (most : ℕ) (tail : Bytes) (S S' : State) (p : Bytes) → length (behind tail p) ≤ most → answer_within most tail S (ok (S', p)) ≡ record { number = 0; payload = behind tail p; state = S' }
 unfolding answer_within answer_with
-fitting most S S' p h = rw (le_test (length p) most h) refl
+fitting most tail S S' p h = rw (le_test (length (behind tail p)) most h) refl
 
 pub run_fits : {ar : TypeName → ℕ} {S : State} → Sound ar S → (c : TypingCase) (t1 t2 : Tree) → FineRecord ar (taken S) (two_of c t1 t2) → weight (two_of c t1 t2) ≤ max_payload → (S' : State) (p : Bytes)
     → run S (two_of c t1 t2) ≡ ok (S', p) → reply S (two_of c t1 t2) ≡ record { number = 0; payload = p; state = S' }
-unfolding reply apart most_of run join subtype weight
-run_fits {S = S} s Join t1 t2 f h S' p e = rw e (fitting max_payload S S' p (omega (arith, h, post_is (two_payload Join s t1 t2 f.0 f.1) e)))
-run_fits {S = S} s Subtype t1 t2 f h S' p e = rw e (fitting max_payload S S' p (omega (arith, h, post_is (two_payload Subtype s t1 t2 f.0 f.1) e)))
+unfolding reply apart most_of tail_of behind run join subtype weight
+run_fits {S = S} s Join t1 t2 f h S' p e = rw e (fitting max_payload [] S S' p (omega (arith, h, post_is (two_payload Join s t1 t2 f.0 f.1) e)))
+run_fits {S = S} s Subtype t1 t2 f h S' p e = rw e (fitting max_payload [] S S' p (omega (arith, h, post_is (two_payload Subtype s t1 t2 f.0 f.1) e)))
 
--- ---- a JN or SU whose join succeeds answers 0, with the state that the join leaves
+tail_short : (S : State) (t1 t2 : Tree) → length (tail_of S (links_of_two t1 t2)) ≤ 4
+unfolding tail_of
+tail_short S t1 t2 = counted_short _
 
-two_answered : (c : TypingCase) (s : State) → Sound (arity s) s → {n : ℕ} (t1 t2 : Tree) → ReadWell ⊥ s n (got (two_of c t1 t2) []) → Weighs max_payload (got (two_of c t1 t2) []) → (s' : State) (p : Bytes)
-    → run s (two_of c t1 t2) ≡ ok (s', p) → reply s (two_of c t1 t2) ≡ record { number = 0; payload = p; state = s' }
-two_answered c s h t1 t2 (given f i l) (weighs w) s' p e = run_fits h c t1 t2 f.0 w s' p e
+-- a JL's payload has room for its count: the join writes five bytes less than its types
+pub links_fit : {ar : TypeName → ℕ} {S : State} → Sound ar S → (t1 t2 : Tree) → FineRecord ar (taken S) (JL t1 t2) → weight (JL t1 t2) ≤ max_payload → (S' : State) (p : Bytes)
+    → run S (JL t1 t2) ≡ ok (S', p) → reply S (JL t1 t2) ≡ record { number = 0; payload = behind (tail_of S (links_of_two t1 t2)) p; state = S' }
+unfolding reply apart most_of tail_of run join weight
+links_fit {S = S} s t1 t2 f h S' p e =
+    rw e (fitting max_payload (tail_of S (links_of_two t1 t2)) S S' p (omega (arith, h, post_is (two_payload Join s t1 t2 f.0 f.1) e, tail_short S t1 t2, behind_length (tail_of S (links_of_two t1 t2)) p)))
+
+-- ---- a JN, SU or JL whose join succeeds answers 0, with the state that the join leaves
+
+-- such a record, where it was read
+abbrev Fitted : State → Record → Type 0
+Fitted s r = Sound (arity s) s → FineRecord (arity s) (taken s) r → weight r ≤ max_payload → (s' : State) (p : Bytes) → run s r ≡ ok (s', p) → reply s r ≡ record { number = 0; payload = behind (tail_of s (apart r)) p; state = s' }
+
+two_fitted : (c : TypingCase) (s : State) (t1 t2 : Tree) → Fitted s (two_of c t1 t2)
+unfolding apart tail_of behind
+two_fitted Join s t1 t2 h f w s' p e = run_fits h Join t1 t2 f w s' p e
+two_fitted Subtype s t1 t2 h f w s' p e = run_fits h Subtype t1 t2 f w s' p e
+
+links_fitted : (s : State) (t1 t2 : Tree) → Fitted s (JL t1 t2)
+unfolding apart
+links_fitted s t1 t2 h f w s' p e = links_fit h t1 t2 f w s' p e
 
 one_run : {m : Result (State × Bytes)} {l : List JoinCall} → OneJoin m l → (a : JoinCall) → Memᴰ a l → (s : State) (t : ℕ) → outcome a ≡ ok (s, t) → m ≡ ok (s, write s t)
 unfolding ◌then_run◌
@@ -458,11 +480,15 @@ two_types_made : (c : TypingCase) (s : State) (t1 t2 : Tree) → OneJoin (run s 
 two_types_made Join s t1 t2 = JN_calls s t1 t2
 two_types_made Subtype s t1 t2 = SU_calls s t1 t2
 
--- a JN or SU is one event
-two_events : (c : TypingCase) (s : State) (t1 t2 : Tree) → lent_events s (got (two_of c t1 t2) []) ≡ record { state = (reply s (two_of c t1 t2)).state; calls = run_calls s (two_of c t1 t2) } ∷ []
+-- each is one event
+two_events : (c : TypingCase) (s : State) (t1 t2 : Tree) → lent_events s (got (two_of c t1 t2) []) ≡ one_event s (two_of c t1 t2)
 unfolding lent_events events_by apart
 two_events Join s t1 t2 = refl
 two_events Subtype s t1 t2 = refl
+
+links_events : (s : State) (t1 t2 : Tree) → lent_events s (got (JL t1 t2) []) ≡ one_event s (JL t1 t2)
+unfolding lent_events events_by apart
+links_events s t1 t2 = refl
 
 pub calls_of : {e x : Event} (a : JoinCall) → Memᴰ e (x ∷ []) → Memᴰ a e.calls → Memᴰ a x.calls
 calls_of a m n = subst (λ (y : Event). Memᴰ a y.calls) (mathlib.Core.List.Memᴰ.eq_of_singleton m) n
@@ -471,22 +497,37 @@ pub no_calls : (s : State) {e : Event} (a : JoinCall) → Memᴰ e (nothing_done
 unfolding nothing_done
 no_calls s a m n = absurd (mathlib.Core.List.Memᴰ.not-nil (calls_of a m n))
 
+module _ (s : State) (bytes : Bytes) (buffer : ℕ) (r : Record) (e : read_record s bytes ≡ got r []) (fit : Fitted s r) (made : OneJoin (run s r) (run_calls s r)) (one : lent_events s (got r []) ≡ one_event s r) where
+  one_join_answers : (x : Event) → Memᴰ x (events s bytes buffer) → (a : JoinCall) → Memᴰ a x.calls → (s' : State) (t : ℕ) → outcome a ≡ ok (s', t)
+      → step s bytes buffer ≡ record { number = 0; payload = behind (tail_of s (apart r)) (write s' t); state = s' }
+  unfolding step events lent one_event
+  one_join_answers x mem a call s' t d = go (usable s bytes buffer) refl mem
+    where
+      fine : {n : ℕ} → ReadWell ⊥ s n (got r []) → FineRecord (arity s) (taken s) r
+      fine (given f i l) = f.0
+
+      light : Weighs max_payload (got r []) → weight r ≤ max_payload
+      light (weighs w) = w
+
+      go : (b : Bool) → usable s bytes buffer ≡ b → Memᴰ x (elim b as (λ x. List Event) [ true ↦ lent_events s (read_record s bytes) | false ↦ nothing_done s ])
+          → ◌≡◌ {A = Answer} (elim b [ true ↦ lent s (read_record s bytes) | false ↦ refusal s unsound_state ]) (record { number = 0; payload = behind (tail_of s (apart r)) (write s' t); state = s' })
+      go true u m =
+          let m' : Memᴰ x (lent_events s (got r [])) = subst (λ (y : Read Record). Memᴰ x (lent_events s y)) e m in
+          let n : Memᴰ a (run_calls s r) = calls_of a (subst (λ (l : List Event). Memᴰ x l) one m') call in
+          let f = fine (subst (λ (y : Read Record). ReadWell ⊥ s (length bytes - 1) y) e (well_read ⊥ s bytes (λ h. absurd h))) in
+          let w = light (subst (λ (y : Read Record). Weighs max_payload y) e (record_weighs s bytes)) in
+          subst (λ (y : Read Record). lent s y ≡ record { number = 0; payload = behind (tail_of s (apart r)) (write s' t); state = s' }) (sym e)
+          (fit (facts s (sound_of s bytes buffer u)) f w s' (write s' t) (one_run made a n s' t d))
+      go false u m = absurd (no_calls s a m call)
+
 pub join_answers_0 : (s : State) (bytes : Bytes) (buffer : ℕ) (c : TypingCase) (t1 t2 : Tree) → read_record s bytes ≡ got (two_of c t1 t2) [] → (e : Event) → Memᴰ e (events s bytes buffer)
     → (a : JoinCall) → Memᴰ a e.calls → (s' : State) (t : ℕ) → outcome a ≡ ok (s', t) → step s bytes buffer ≡ record { number = 0; payload = write s' t; state = s' }
-unfolding step events lent
-join_answers_0 s bytes buffer c t1 t2 e x mem a call s' t d = go (usable s bytes buffer) refl mem
-  where
-    well : ReadWell ⊥ s (length bytes - 1) (got (two_of c t1 t2) [])
-    well = subst (λ (y : Read Record). ReadWell ⊥ s (length bytes - 1) y) e (well_read ⊥ s bytes (λ h. absurd h))
+unfolding apart tail_of behind
+join_answers_0 s bytes buffer Join t1 t2 e = one_join_answers s bytes buffer (JN t1 t2) e (two_fitted Join s t1 t2) (two_types_made Join s t1 t2) (two_events Join s t1 t2)
+join_answers_0 s bytes buffer Subtype t1 t2 e = one_join_answers s bytes buffer (SU t1 t2) e (two_fitted Subtype s t1 t2) (two_types_made Subtype s t1 t2) (two_events Subtype s t1 t2)
 
-    short : Weighs max_payload (got (two_of c t1 t2) [])
-    short = subst (λ (y : Read Record). Weighs max_payload y) e (record_weighs s bytes)
-
-    go : (b : Bool) → usable s bytes buffer ≡ b → Memᴰ x (elim b as (λ x. List Event) [ true ↦ lent_events s (read_record s bytes) | false ↦ nothing_done s ])
-        → ◌≡◌ {A = Answer} (elim b [ true ↦ lent s (read_record s bytes) | false ↦ refusal s unsound_state ]) (record { number = 0; payload = write s' t; state = s' })
-    go true u m =
-        let m' : Memᴰ x (lent_events s (got (two_of c t1 t2) [])) = subst (λ (y : Read Record). Memᴰ x (lent_events s y)) e m in
-        let n : Memᴰ a (run_calls s (two_of c t1 t2)) = calls_of a (subst (λ (l : List Event). Memᴰ x l) (two_events c s t1 t2) m') call in
-        subst (λ (y : Read Record). lent s y ≡ record { number = 0; payload = write s' t; state = s' }) (sym e)
-        (two_answered c s (facts s (sound_of s bytes buffer u)) t1 t2 well short s' (write s' t) (one_run (two_types_made c s t1 t2) a n s' t d))
-    go false u m = absurd (no_calls s a m call)
+-- .. a JL with its count behind: it is never 14 either
+pub links_answer_0 : (s : State) (bytes : Bytes) (buffer : ℕ) (t1 t2 : Tree) → read_record s bytes ≡ got (JL t1 t2) [] → (e : Event) → Memᴰ e (events s bytes buffer)
+    → (a : JoinCall) → Memᴰ a e.calls → (s' : State) (t : ℕ) → outcome a ≡ ok (s', t) → step s bytes buffer ≡ record { number = 0; payload = behind (tail_of s (links_of_two t1 t2)) (write s' t); state = s' }
+unfolding apart
+links_answer_0 s bytes buffer t1 t2 e = one_join_answers s bytes buffer (JL t1 t2) e (links_fitted s t1 t2) (JL_calls s t1 t2) (links_events s t1 t2)

@@ -1,5 +1,5 @@
--- A join's result is written in no more bytes than its two types are, so a JN or SU whose join succeeds answers 0. Assumes nothing.
--- First how many bytes a type is written in, by its node; then the arms of a join, each over an inner join whose result is no longer; then the induction on the depth.
+-- A join's result is written in at least five bytes less than its two types are, so a JN or SU whose join succeeds answers 0, and a JL too. Assumes nothing.
+-- First how many bytes a type is written in, by its node; then the arms of a join, each over an inner join whose result is so much shorter; then the induction on the depth.
 use mathlib.Core.Path.{◌≡◌, refl, ap, ◌∙◌, subst}
 use mathlib.Core.Bool.{Bool, true, not, ◌&&◌}
 use mathlib.Core.List.{List, [], ◌∷◌}
@@ -65,6 +65,23 @@ head_length loc (Var v) = refl
 head_length loc Anything = refl
 head_length loc UnresolvedError = refl
 
+-- at least a tag and a location
+name_least : (n : TypeName) → 5 ≤ name_size n
+unfolding name_size
+name_least (Multiple n) = omega arith
+name_least (Builtin b) = omega arith
+name_least (ModuleType n) = omega arith
+
+head_least : (L : TypeValue) → 5 ≤ head_size L
+unfolding head_size
+head_least UnitType = omega arith
+head_least (Ref m t) = omega arith
+head_least (Param id a) = omega arith
+head_least (Apply k n tys) = name_least n
+head_least (Var v) = omega arith
+head_least Anything = omega arith
+head_least UnresolvedError = omega arith
+
 each_length : (S : State) (ts : List ℕ) → length (each (λ p. write S p) ts) ≡ wrote_all S ts
 unfolding each wrote wrote_all
 each_length S [] = refl
@@ -77,6 +94,9 @@ module _ {ar : TypeName → ℕ} {S : State} (s : Sound ar S) where
       let a = head_length (loc_of S t) (type_at S t) in
       let b = each_length S (parts (type_at S t)) in
       ap length (write_at s t h) ∙ length-append (head (loc_of S t) (type_at S t)) (each (λ p. write S p) (parts (type_at S t))) ∙ rw (a, b) refl
+
+  pub wrote_least : (t : ℕ) → t < count S → 5 ≤ wrote S t
+  wrote_least t h = omega (arith, wrote_is t h, head_least (type_at S t))
 
   pub wrote_of : (t : ℕ) (L : TypeValue) → type_at S t ≡ L → t < count S → wrote S t ≡ head_size L + wrote_all S (parts L)
   wrote_of t L e h = rw e at (wrote_is t h)
@@ -132,7 +152,7 @@ sp_value {ar} {S} s l sh = with_room (Post ar S (λ S' t. type_at S' t ≡ sh)) 
 -- ---- the arms of a join
 
 abbrev Narrow : State → ℕ → ℕ → State → ℕ → Type 0
-Narrow S l r S' t = wrote S' t ≤ wrote S l + wrote S r
+Narrow S l r S' t = wrote S' t + 5 ≤ wrote S l + wrote S r
 
 -- .. if what is left is sound and has t
 abbrev NarrowIn : (TypeName → ℕ) → State → ℕ → ℕ → State → ℕ → Type 0
@@ -167,10 +187,10 @@ module _ {ar : TypeName → ℕ} (join : JoinImpl) (g : Good ar join) (w : Slim 
 
   module _ {S : State} (s : Sound ar S) (c : TypingCase) (l r : ℕ) (l_in : l < count S) (r_in : r < count S) where
     slim_right : Post ar S (NarrowIn ar S l r) (ok (S, r))
-    slim_right = p_ok {b = r} (grown_refl S) (λ s' i. omega arith)
+    slim_right = p_ok {b = r} (grown_refl S) (λ s' i. omega (arith, wrote_least s l l_in))
 
     slim_left : Post ar S (NarrowIn ar S l r) (ok (S, l))
-    slim_left = p_ok {b = l} (grown_refl S) (λ s' i. omega arith)
+    slim_left = p_ok {b = l} (grown_refl S) (λ s' i. omega (arith, wrote_least s r r_in))
 
     refs_slim : (m1 : Bool) (t1 : ℕ) (m2 : Bool) (t2 : ℕ) → type_at S l ≡ Ref m1 t1 → type_at S r ≡ Ref m2 t2 → (o : Option Bool) → Post ar S (NarrowIn ar S l r) (join_refs join S c l r m1 t1 m2 t2 o)
     unfolding join_refs parts
@@ -192,11 +212,11 @@ module _ {ar : TypeName → ℕ} (join : JoinImpl) (g : Good ar join) (w : Slim 
         let b1 : All (λ p. p < l) tys1 = rw el at (s.parts_below l l_in) in
         let b2 : All (λ p. p < r) tys2 = rw er at (s.parts_below r r_in) in
         bind_post _ (types_slim s c tys1 tys2 (All_map (λ p h. omega arith) tys1 b1) (All_map (λ p h. omega arith) tys2 b2)) (λ S1 ts g1 j.
-        post_map (λ S2 n g2 e s2 i. omega (arith, j.narrow, apply_wrote s l k1 n1 tys1 el l_in, apply_wrote s r k2 n2 tys2 er r_in, apply_wrote s2 n k2 n2 ts e i, wrote_all_kept j.sound s2 g2 ts j.ts_in))
+        post_map (λ S2 n g2 e s2 i. omega (arith, j.narrow, name_least n1, apply_wrote s l k1 n1 tys1 el l_in, apply_wrote s r k2 n2 tys2 er r_in, apply_wrote s2 n k2 n2 ts e i, wrote_all_kept j.sound s2 g2 ts j.ts_in))
         (sp_value j.sound (loc_of S r) (Apply k2 n2 ts))))))
 
     -- where a type is a variable, the result is one
-    var_slim : {m : Result (State × ℕ)} (x v : ℕ) → x < count S → type_at S x ≡ Var v → wrote S x ≤ wrote S l + wrote S r
+    var_slim : {m : Result (State × ℕ)} (x v : ℕ) → x < count S → type_at S x ≡ Var v → wrote S x + 5 ≤ wrote S l + wrote S r
         → ((S' : State) (t : ℕ) → Joined ar S l r S' t → Tracks S' x t) → Post ar S (Joined ar S l r) m → Post ar S (NarrowIn ar S l r) m
     var_slim x v x_in e n f p = post_map (λ S' t g j s' i.
         let is = tracks_var (f S' t j) (g.g_kept x x_in ∙ e) in
@@ -210,9 +230,9 @@ module _ {ar : TypeName → ℕ} (join : JoinImpl) (g : Good ar join) (w : Slim 
     arm_slim (took_refs {m1 = m1} {m2 = m2} {t1 = t1} {t2 = t2} el er) p = refs_slim m1 t1 m2 t2 el er (join_mut c m1 m2)
     arm_slim (took_params {id1 = id1} {id2 = id2} el er) p = if_post (eqb id1 id2) (λ e. slim_right) (λ e. p_err (grown_refl S) (nodes_of s))
     arm_slim (took_applies {k1 = k1} {k2 = k2} {n1 = n1} {n2 = n2} {tys1 = tys1} {tys2 = tys2} el er) p = applies_slim k1 n1 tys1 k2 n2 tys2 el er
-    arm_slim (took_vars {id1 = id1} {id2 = id2} el er) p = var_slim l id1 l_in el (omega arith) (λ S' t j. j.left) p
-    arm_slim (took_var_l {id = id} el h) p = var_slim l id l_in el (omega arith) (λ S' t j. j.left) p
-    arm_slim (took_var_r {id = id} h er) p = var_slim r id r_in er (omega arith) (λ S' t j. j.right) p
+    arm_slim (took_vars {id1 = id1} {id2 = id2} el er) p = var_slim l id1 l_in el (omega (arith, wrote_least s r r_in)) (λ S' t j. j.left) p
+    arm_slim (took_var_l {id = id} el h) p = var_slim l id l_in el (omega (arith, wrote_least s r r_in)) (λ S' t j. j.left) p
+    arm_slim (took_var_r {id = id} h er) p = var_slim r id r_in er (omega (arith, wrote_least s l l_in)) (λ S' t j. j.right) p
     arm_slim (took_error_l e h) p = slim_right
     arm_slim (took_error_r h e) p = slim_left
     arm_slim took_others p = p_err (grown_refl S) (nodes_of s)
@@ -228,6 +248,6 @@ join_impl_slim (suc depth) S c l r s l_in r_in =
     (post_both p (arm_slim (λ s c l r. join_impl depth s c l r) (λ S c l r s l_in r_in. join_impl_good depth S c l r s l_in r_in) (λ S c l r s l_in r_in. join_impl_slim depth S c l r s l_in r_in) s c l r l_in r_in (took (type_at S l) (type_at S r)) p))
 
 pub join_writes_no_more : (depth : ℕ) (s : State) (case : TypingCase) (lhs rhs : ℕ) → sound s ≡ true → lhs < count s → rhs < count s → (s' : State) (t : ℕ) → join_impl depth s case lhs rhs ≡ ok (s', t)
-    → length (write s' t) ≤ length (write s lhs) + length (write s rhs)
+    → length (write s' t) + 5 ≤ length (write s lhs) + length (write s rhs)
 unfolding wrote
 join_writes_no_more depth s case lhs rhs h l_in r_in s' t e = post_is (join_impl_slim depth s case lhs rhs (facts s h) l_in r_in) e

@@ -1,18 +1,18 @@
 -- The number of an answer: what 0 and 7 say of the run, and of state and buffer. Assumes nothing.
 use mathlib.Core.Path.{◌≡◌, refl, ap}
 use mathlib.Core.Bool.{Bool, true, false}
-use mathlib.Core.List.{[]}
-use Prim.Native.Nat.{ℕ, ◌≤◌}
+use mathlib.Core.List.{[], ◌∷◌}
+use Prim.Native.Nat.{ℕ, ◌≤◌, ◌+◌}
 use native.Mathlib.Omega.{arith}
-use lib.ListN.{length}
+use lib.ListN.{length, length-append}
 use lib.Dec.{leb, leb→le}
 use Rattle.std.specs.Prelude.{if◌then◌else◌}
 use Rattle.definition.specs.Types.{State, TypingError, SubtypeError, Incompatible, ArityMismatch, RecursiveType, Refusal, malformed, unknown_name, full, too_deep, runs_into_itself, abilities_disagree, open_variable, no_argument, parameter_twice, answer_too_long, unsound_state, mark_contradicted, already_expanded, doubled_reference, Result, ok, err, refused}
-use Rattle.definition.specs.Write.{Bytes, write_error}
+use Rattle.definition.specs.Write.{Bytes, write_error, u32}
 use Rattle.definition.specs.Reader.{got}
 use Rattle.definition.specs.Record.{Record, read_record}
 use Rattle.definition.specs.Sound.{sound}
-use Rattle.definition.specs.Step.{run, number_of_error, number_of_refusal, refusal, put_back, max_payload, answer_with, answer_within, answer, as_others, apart, most_of, reply, least_buffer, usable, lent, step, Answer}
+use Rattle.definition.specs.Step.{run, number_of_error, number_of_refusal, refusal, put_back, max_payload, answer_with, answer_within, answer, as_others, apart, most_of, reply, least_buffer, usable, lent, step, Answer, behind, tail_of, counted}
 use Rattle.theorems.proofs.SoundFacts.{and_r, test}
 
 -- ---- the number of an answer
@@ -81,14 +81,14 @@ err_not S after n k p true d c h = d h
 err_not S after n k p false d c h = c h
 
 pub answered_0 : (S : State) (m : Result (State × Bytes)) → (answer S m).number ≡ 0 → Zero m (answer S m).payload
-unfolding answer answer_within refusal
+unfolding answer answer_within behind refusal
 answered_0 S (ok (after, p)) h = rw (with_is S 0 p after) (ok_0 S after p (leb (length p) 4096) refl (rw (with_is S 0 p after) at h))
 answered_0 S (err after e) h = absurd (err_not S (put_back S after) (number_of_error e) 0 (write_error after e) (leb (length (write_error after e)) 4096) (error_low e).0 (λ q. absurd (omega (arith, q))) (rw (with_is S (number_of_error e) (write_error after e) (put_back S after)) at h))
 answered_0 S (refused x) h = absurd (omega (arith, h, refusal_number_5 x))
 
 -- 7 is the refusal of a run
 pub answered_7 : (S : State) (m : Result (State × Bytes)) → (answer S m).number ≡ 7 → m ≡ refused full
-unfolding answer answer_within refusal
+unfolding answer answer_within behind refusal
 answered_7 S (ok (after, p)) h = absurd (err_not S after 0 7 p (leb (length p) 4096) (λ q. absurd (omega (arith, q))) (λ q. absurd (omega (arith, q))) (rw (with_is S 0 p after) at h))
 answered_7 S (err after e) h = absurd (err_not S (put_back S after) (number_of_error e) 7 (write_error after e) (leb (length (write_error after e)) 4096) (error_low e).1 (λ q. absurd (omega (arith, q))) (rw (with_is S (number_of_error e) (write_error after e) (put_back S after)) at h))
 answered_7 S (refused x) h = ap refused (seven_full x h)
@@ -96,6 +96,19 @@ answered_7 S (refused x) h = ap refused (seven_full x h)
 pub full_7 : (S : State) → (answer S (refused full)).number ≡ 7
 unfolding answer answer_within refusal number_of_refusal
 full_7 S = refl
+
+-- ---- a count behind a payload
+
+pub behind_length : (tail p : Bytes) → length (behind tail p) ≡ length p + length tail
+unfolding behind
+behind_length [] p = omega arith
+behind_length (b ∷ tail) p = length-append p (b ∷ tail)
+
+pub counted_short : (m : Result ℕ) → length (counted m) ≤ 4
+unfolding counted u32
+counted_short (ok n) = omega arith
+counted_short (err s e) = omega arith
+counted_short (refused x) = omega arith
 
 -- ---- a lent record
 
@@ -117,5 +130,5 @@ sound_of S bytes buffer u = and_r (leb (least_buffer bytes) buffer) (sound S) u
 
 -- of a record that is answered as the others are
 pub step_runs : (S : State) (bytes : Bytes) (buffer : ℕ) (r : Record) → usable S bytes buffer ≡ true → read_record S bytes ≡ got r [] → apart r ≡ as_others → step S bytes buffer ≡ answer S (run S r)
-unfolding step lent reply most_of answer
+unfolding step lent reply most_of tail_of answer
 step_runs S bytes buffer r u e a = rw (u, step) (rw e (rw a refl))

@@ -60,6 +60,9 @@ pub mod BookRoom
 pub mod Book
 pub mod BookExamples
 pub mod TotalEnough
+pub mod Links
+pub mod LinksFew
+pub mod LinksCounted
 pub mod StreamDecimal
 pub mod NumericCheck
 pub mod NumericRule
@@ -74,6 +77,8 @@ pub mod SoundPoints
 pub mod Erase
 pub mod Spelled
 pub mod EraseJoin
+pub mod LinksErase
+pub mod LinksTail
 pub mod EraseRead
 pub mod EraseShown
 pub mod EraseAbilities
@@ -100,6 +105,7 @@ pub mod EraseRun
 pub mod CanonicalWithin
 pub mod CanonicalOne
 pub mod CanonicalRD
+pub mod LinksRecords
 pub mod CanonicalRead
 pub mod CanonicalBuilt
 pub mod CanonicalAgain

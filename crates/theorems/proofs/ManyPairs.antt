@@ -18,7 +18,7 @@ use Rattle.definition.specs.Reader.{Read, got}
 use Rattle.definition.specs.Trees.{Tree, unit_tree, anything_tree, error_tree, ref_tree, param_tree, apply_tree, var_tree, Trees, no_trees, ◌then◌, arity}
 use Rattle.definition.specs.Record.{Record, MJ, read_record}
 use Rattle.definition.specs.Build.{build, build_all, build_many}
-use Rattle.definition.specs.Step.{Answer, number_of_error, refusal, put_back, max_payload, answer_with, answer_within, answer, two_types, pair_answer, pair_bytes, run_pairs, run, apart, max_many, most_of, reply, usable, lent, step}
+use Rattle.definition.specs.Step.{Answer, number_of_error, refusal, put_back, max_payload, answer_with, answer_within, answer, two_types, pair_answer, pair_bytes, run_pairs, run, apart, max_many, most_of, reply, usable, lent, step, behind, tail_of}
 use Rattle.definition.specs.Demand.{JoinCall, outcome, Event, pair_events, nothing_done, many_events, events_by, lent_events, events}
 use Rattle.theorems.proofs.DemandOrder.{All, All_map, Sound}
 use Rattle.theorems.proofs.LawsPost.{Grown, grown_refl, Post, p_ok, bind_post}
@@ -29,7 +29,7 @@ use Rattle.theorems.proofs.SoundRefusals.{error_number, reply_untouched}
 use Rattle.theorems.proofs.TotalWalk.{seven, Ends, e_ok, e_refused, bind, place_run}
 use Rattle.theorems.proofs.DemandRecords.{NoErr, no_place, pair_raised}
 use Rattle.theorems.proofs.JoinWrites.{wrote, wrote_kept, post_is, join_impl_slim}
-use Rattle.theorems.proofs.JoinAnswers.{many_size, weight, Weighs, weighs, record_weighs, place_put, as_length, two_of, fitting, no_calls}
+use Rattle.theorems.proofs.JoinAnswers.{many_size, weight, Weighs, weighs, record_weighs, place_put, length_wrote, two_of, fitting, no_calls}
 use Rattle.theorems.proofs.LawsAnswer.{refusal_number_5, sound_of}
 
 abbrev pub Pair : Type 0
@@ -77,9 +77,9 @@ many_put ((c, t1, t2) ∷ ps) f l s h =
 -- a pair whose join succeeds answers 0, with the state that the join leaves
 pub pair_fits : {ar : TypeName → ℕ} {S : State} → Sound ar S → (p : Pair) → PairFits S p → (S' : State) (t : ℕ) → join_impl max_depth S p.0 p.1 p.2 ≡ ok (S', t)
     → pair_answer S p ≡ record { number = 0; payload = write S' t; state = S' }
-unfolding pair_answer answer ◌>>=◌
+unfolding pair_answer answer behind ◌>>=◌
 pair_fits {S = S} s (c, l, r) i S' t e =
-    rw e (fitting max_payload S S' (write S' t) (as_length S' t max_payload (omega (arith, i.short, post_is (join_impl_slim max_depth S c l r s i.l_in i.r_in) e))))
+    rw e (fitting max_payload [] S S' (write S' t) (omega (arith, length_wrote S' t, i.short, post_is (join_impl_slim max_depth S c l r s i.l_in i.r_in) e)))
 
 -- ---- the bytes of the answers
 
@@ -91,19 +91,19 @@ with_length most s n p s' = go (leb (length p) most) refl
     go true e = leb→le (length p) most (test e)
     go false e = omega arith
 
-pub answer_length : (most : ℕ) (s : State) (m : Result (State × Bytes)) → length (answer_within most s m).payload ≤ most
+pub answer_length : (most : ℕ) (tail : Bytes) (s : State) (m : Result (State × Bytes)) → length (answer_within most tail s m).payload ≤ most
 unfolding answer_within refusal
-answer_length most s (ok (s', p)) = with_length most s 0 p s'
-answer_length most s (err s' e) = with_length most s (number_of_error e) (write_error s' e) (put_back s s')
-answer_length most s (refused x) = omega arith
+answer_length most tail s (ok (s', p)) = with_length most s 0 (behind tail p) s'
+answer_length most tail s (err s' e) = with_length most s (number_of_error e) (behind tail (write_error s' e)) (put_back s s')
+answer_length most tail s (refused x) = omega arith
 
 pair_length : (s : State) (p : Pair) → length (pair_bytes (pair_answer s p)) ≤ 4099
 unfolding pair_bytes pair_answer answer u16 max_payload
-pair_length s (c, l, r) = omega (arith, answer_length max_payload s (join_impl max_depth s c l r >>= λ (x : State × ℕ). ok (x.0, write x.0 x.1)))
+pair_length s (c, l, r) = omega (arith, answer_length max_payload [] s (join_impl max_depth s c l r >>= λ (x : State × ℕ). ok (x.0, write x.0 x.1)))
 
 pub pair_short : (s : State) (p : Pair) → length (pair_answer s p).payload ≤ 4096
 unfolding pair_answer answer max_payload
-pair_short s (c, l, r) = answer_length max_payload s (join_impl max_depth s c l r >>= λ (x : State × ℕ). ok (x.0, write x.0 x.1))
+pair_short s (c, l, r) = answer_length max_payload [] s (join_impl max_depth s c l r >>= λ (x : State × ℕ). ok (x.0, write x.0 x.1))
 
 pairs_length : (ps : List Pair) (s : State) → length (run_pairs s ps).1 ≤ 4099 * length ps
 unfolding run_pairs
@@ -117,7 +117,7 @@ many_count [] s = e_ok refl
 many_count ((c, t1, t2) ∷ ps) s =
     bind _ (place_run ⊥ s true t1 (λ h. absurd h) s (λ h. absurd h)) (λ x j. bind _ (place_run ⊥ s true t2 (λ h. absurd h) x.0 (λ h. absurd h)) (λ y k. bind _ (many_count ps y.0) (λ z e. e_ok (ap suc e))))
 
-ends_is : {A : Type 0} {z : Bool} {E : State → Type 0} {P : A → Type 0} {m : Result A} {a : A} → Ends z E P m → m ≡ ok a → P a
+pub ends_is : {A : Type 0} {z : Bool} {E : State → Type 0} {P : A → Type 0} {m : Result A} {a : A} → Ends z E P m → m ≡ ok a → P a
 ends_is {A} {z} {E} {P} {a = a} p e = go (subst (λ (y : Result A). Ends z E P y) e p)
   where
     go : Ends z E P (ok a) → P a
@@ -143,9 +143,9 @@ placed s ps s' qs e = rw e refl
 
 pub many_replies : (s : State) (ps : List (TypingCase × Tree × Tree)) → length ps ≤ 15 → (s' : State) (qs : List Pair) → build_many ps s ≡ ok (s', qs)
     → reply s (MJ ps) ≡ record { number = 0; payload = (run_pairs s' qs).1; state = (run_pairs s' qs).0 }
-unfolding reply apart most_of
+unfolding reply apart most_of tail_of behind
 many_replies s ps h s' qs e = let d : run s (MJ ps) ≡ ok (run_pairs s' qs) = placed s ps s' qs e in
-    ap (λ (m : Result (State × Bytes)). answer_within max_many s m) d ∙ fitting max_many s (run_pairs s' qs).0 (run_pairs s' qs).1 (ends_is (run_length s ps h) d)
+    ap (λ (m : Result (State × Bytes)). answer_within max_many [] s m) d ∙ fitting max_many [] s (run_pairs s' qs).0 (run_pairs s' qs).1 (ends_is (run_length s ps h) d)
 
 pub many_refused : (s : State) (ps : List (TypingCase × Tree × Tree)) (x : Refusal) → build_many ps s ≡ refused x → reply s (MJ ps) ≡ refusal s x
 unfolding reply run ◌>>=◌ answer_within
@@ -226,7 +226,7 @@ sp_vars s l x vs e = with_room (Ends true (λ y. ⊥) (λ (a : State × ℕ). a.
 mutual
   unfolding build build_all
 
-  place_vars : (t : Tree) (s : State) (vs : List Cell) → s.vars ≡ vs → Ends true (λ y. ⊥) (λ (a : State × ℕ). a.0.vars ≡ vs) (build t s)
+  pub place_vars : (t : Tree) (s : State) (vs : List Cell) → s.vars ≡ vs → Ends true (λ y. ⊥) (λ (a : State × ℕ). a.0.vars ≡ vs) (build t s)
   place_vars (unit_tree loc) s vs e = sp_vars s loc UnitType vs e
   place_vars (anything_tree loc) s vs e = sp_vars s loc Anything vs e
   place_vars (error_tree loc) s vs e = sp_vars s loc UnresolvedError vs e
@@ -262,15 +262,15 @@ back_same : (s s2 s' : State) → s2.vars ≡ s.vars → put_back s2 s' ≡ put_
 unfolding put_back
 back_same s s2 s' e = rw e refl
 
-answer_beside : (s s2 : State) → s2.vars ≡ s.vars → (m : Result (State × Bytes)) → Beside s2 (answer_within max_payload s m) (answer_within max_payload s2 m)
-unfolding answer_within
+answer_beside : (s s2 : State) → s2.vars ≡ s.vars → (m : Result (State × Bytes)) → Beside s2 (answer_within max_payload [] s m) (answer_within max_payload [] s2 m)
+unfolding answer_within behind
 answer_beside s s2 e (ok (s', p)) = with_beside s s2 0 p s' s' (omega arith) refl
 answer_beside s s2 e (err s' x) = with_beside s s2 (number_of_error x) (write_error s' x) (put_back s s') (put_back s2 s') (error_number x) (back_same s s2 s' e)
 answer_beside s s2 e (refused x) = refusal_beside s s2 x
 
 two_placed : (s : State) (c : TypingCase) (t1 t2 : Tree) (s1 : State) (l : ℕ) (s2 : State) (r : ℕ) → build t1 s ≡ ok (s1, l) → build t2 s1 ≡ ok (s2, r)
-    → reply s (two_of c t1 t2) ≡ answer_within max_payload s (join_impl max_depth s2 c l r >>= λ (x : State × ℕ). ok (x.0, write x.0 x.1))
-unfolding reply apart most_of run two_types join subtype ◌>>=◌
+    → reply s (two_of c t1 t2) ≡ answer_within max_payload [] s (join_impl max_depth s2 c l r >>= λ (x : State × ℕ). ok (x.0, write x.0 x.1))
+unfolding reply apart most_of tail_of run two_types join subtype ◌>>=◌
 two_placed s Join t1 t2 s1 l s2 r e d = rw e (rw d refl)
 two_placed s Subtype t1 t2 s1 l s2 r e d = rw e (rw d refl)
 
@@ -286,7 +286,7 @@ one_left : (s : State) (p : Pair) → (run_pairs s (p ∷ [])).0 ≡ (pair_answe
 unfolding run_pairs
 one_left s p = refl
 
-pair_beside : (s s2 : State) (c : TypingCase) (l r : ℕ) → s2.vars ≡ s.vars → Beside s2 (answer_within max_payload s (join_impl max_depth s2 c l r >>= λ (x : State × ℕ). ok (x.0, write x.0 x.1))) (pair_answer s2 (c, l, r))
+pair_beside : (s s2 : State) (c : TypingCase) (l r : ℕ) → s2.vars ≡ s.vars → Beside s2 (answer_within max_payload [] s (join_impl max_depth s2 c l r >>= λ (x : State × ℕ). ok (x.0, write x.0 x.1))) (pair_answer s2 (c, l, r))
 unfolding pair_answer answer
 pair_beside s s2 c l r e = answer_beside s s2 e (join_impl max_depth s2 c l r >>= λ (x : State × ℕ). ok (x.0, write x.0 x.1))
 
@@ -320,12 +320,12 @@ pair_is_record s c t1 t2 s1 l s2 r e d =
     }
 
 not_placed_1 : (s : State) (c : TypingCase) (t1 t2 : Tree) (x : Refusal) → build t1 s ≡ refused x → reply s (two_of c t1 t2) ≡ refusal s x
-unfolding reply apart most_of run two_types join subtype ◌>>=◌ answer_within
+unfolding reply apart most_of tail_of run two_types join subtype ◌>>=◌ answer_within
 not_placed_1 s Join t1 t2 x e = rw e refl
 not_placed_1 s Subtype t1 t2 x e = rw e refl
 
 not_placed_2 : (s : State) (c : TypingCase) (t1 t2 : Tree) (s1 : State) (l : ℕ) (x : Refusal) → build t1 s ≡ ok (s1, l) → build t2 s1 ≡ refused x → reply s (two_of c t1 t2) ≡ refusal s x
-unfolding reply apart most_of run two_types join subtype ◌>>=◌ answer_within
+unfolding reply apart most_of tail_of run two_types join subtype ◌>>=◌ answer_within
 not_placed_2 s Join t1 t2 s1 l x e d = rw e (rw d refl)
 not_placed_2 s Subtype t1 t2 s1 l x e d = rw e (rw d refl)
 

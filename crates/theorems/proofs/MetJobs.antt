@@ -17,10 +17,10 @@ use Rattle.definition.specs.Write.{Bytes, IsBytes}
 use Rattle.definition.specs.Reader.{Read, got, not_read}
 use Rattle.definition.specs.Record.{Record, read_record}
 use Rattle.definition.specs.Trees.{arity}
-use Rattle.definition.specs.Step.{Answer, refusal, put_back, answer_with, usable, lent, run, step, streamed, step_stream, Apart, most_of, apart, answer_within, reply, pair_answer, job_buffer}
+use Rattle.definition.specs.Step.{Answer, refusal, put_back, answer_with, usable, lent, run, step, streamed, step_stream, Apart, most_of, apart, answer_within, reply, pair_answer, job_buffer, behind, tail_of}
 use Rattle.definition.specs.Job.{Entry, ends_job, job_from}
 use Rattle.definition.specs.Sound.{sound}
-use Rattle.definition.specs.Demand.{Event, events, trace, point, FitsNeed, fits_error, fits_integer, Met, AllMet, WithoutSN, NeedsMet, at, nothing_done, events_by, lent_events, many_events, pair_events}
+use Rattle.definition.specs.Demand.{Event, events, trace, point, FitsNeed, fits_error, fits_integer, Met, AllMet, WithoutSN, NeedsMet, at, nothing_done, events_by, lent_events, many_events, pair_events, one_event}
 use Rattle.theorems.proofs.DemandTracks.{never, Ends, here, hop, ends_stop}
 use Rattle.theorems.proofs.DemandOrder.{All, Sound, chain, next_bound}
 use Rattle.theorems.proofs.LawsChains.{next_some}
@@ -38,7 +38,7 @@ use Rattle.theorems.proofs.DemandRecords.{Literals, literals, ByLiterals, is_SN,
 use Rattle.theorems.proofs.ManyPairs.{Pair}
 use Rattle.theorems.proofs.LawsPost.{Post, p_ok}
 use Rattle.definition.specs.Build.{build_many}
-use Rattle.theorems.proofs.DemandEveryDepth.{between, ByApart, as_other, as_many, by_apart}
+use Rattle.theorems.proofs.DemandEveryDepth.{between, ByApart, as_other, as_many, by_apart, as_links_of_one, as_links_of_two}
 use Rattle.theorems.proofs.MetSteps.{Claim, is_held, is_bare, Claimed, keeps_claim, Holds, holds_var, holds_fit, Held, NoNeeds}
 
 -- ---- every record keeps the claim but those that begin with these letters: SN's, NL's
@@ -70,15 +70,15 @@ module _ (q : Claim) (s : State) (h : Claimed q s) where
       go true = k
       go false = h
 
-  answer_kept : {ar : TypeName → ℕ} → Sound ar s → (r : Literals) → spares q r ≡ true → (m : Result (State × Bytes)) → Leaves r ar s m → (most : ℕ) → Claimed q (answer_within most s m).state
+  answer_kept : {ar : TypeName → ℕ} → Sound ar s → (r : Literals) → spares q r ≡ true → (m : Result (State × Bytes)) → Leaves r ar s m → (most : ℕ) (tail : Bytes) → Claimed q (answer_within most tail s m).state
   unfolding answer_within refusal
-  answer_kept f r e (ok (s', p)) (l_ok w k) most = answer_with_kept most _ p s' (k q e h)
-  answer_kept f r e (err s' x) (l_err g n) most = answer_with_kept most _ _ (put_back s s') (keeps_claim (held_put_back f g n) q h)
-  answer_kept f r e (refused x) l_refused most = h
+  answer_kept f r e (ok (s', p)) (l_ok w k) most tail = answer_with_kept most _ (behind tail p) s' (k q e h)
+  answer_kept f r e (err s' x) (l_err g n) most tail = answer_with_kept most _ _ (put_back s s') (keeps_claim (held_put_back f g n) q h)
+  answer_kept f r e (refused x) l_refused most tail = h
 
   reply_kept : Sound (arity s) s → (r : Record) → spares q (literals r) ≡ true → FineRecord (arity s) (taken s) r → Claimed q (reply s r).state
   unfolding reply
-  reply_kept f r e p = answer_kept f (literals r) e (run s r) (run_leaves s f r p) (most_of (apart r))
+  reply_kept f r e p = answer_kept f (literals r) e (run s r) (run_leaves s f r p) (most_of (apart r)) (tail_of s (apart r))
 
   lent_kept : Sound (arity s) s → {n : ℕ} (bytes : Bytes) (r : Read Record) → ReadWell ⊥ s n r → take 2 bytes ≢ letters_of q → Lettered (take 2 bytes) r → Claimed q (lent s r).state
   unfolding lent refusal
@@ -126,11 +126,13 @@ many_held s (err S e) p h = (h, tt)
 many_held s (refused x) p h = (h, tt)
 
 lent_events_held : (s : State) → Sound (arity s) s → {n : ℕ} (bytes : Bytes) (r : Read Record) → ReadWell ⊥ s n r → take 2 bytes ≢ letters_of is_held → Lettered (take 2 bytes) r → Held s → All (λ e. Held e.state) (lent_events s r)
-unfolding lent_events events_by nothing_done Claimed
+unfolding lent_events events_by one_event nothing_done Claimed
 lent_events_held s f bytes (got r []) (given p i l) d e h = go r (apart r) (by_apart r) p.0 (spared is_held bytes d e)
   where
     go : (r : Record) (a : Apart) → ByApart r a → FineRecord (arity s) (taken s) r → spares is_held (literals r) ≡ true → All (λ e. Held e.state) (events_by s r a)
     go r a as_other p e = (reply_kept is_held s h f r e p, tt)
+    go r a as_links_of_one p e = (reply_kept is_held s h f r e p, tt)
+    go r a as_links_of_two p e = (reply_kept is_held s h f r e p, tt)
     go r a (as_many {ps = ps}) p e = many_held s (build_many ps s) (many_went ps p.0 f (omega arith)) h
 lent_events_held s f bytes (got r (b ∷ rest)) p d e h = (h, tt)
 lent_events_held s f bytes (not_read x) p d e h = (h, tt)

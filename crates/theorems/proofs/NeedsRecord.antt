@@ -21,7 +21,7 @@ use Rattle.definition.specs.Trees.{read_trees, read_mark, under_ref, read_apply,
 use Rattle.definition.specs.Record.{IN, RM, by_mark, fields_of, read_fields, max_record, hand_back, read_record}
 use Rattle.definition.specs.Needs.{Needs, needs, write_needs}
 use Rattle.definition.specs.Sound.{struct_allowed, sound}
-use Rattle.definition.specs.Step.{tell, run, Answer, number_of_refusal, refusal, max_payload, answer_with, answer_within, apart, most_of, reply, max_buffer, least_buffer, usable, lent, step}
+use Rattle.definition.specs.Step.{tell, run, Answer, number_of_refusal, refusal, max_payload, answer_with, answer_within, apart, most_of, reply, max_buffer, least_buffer, usable, lent, step, behind, tail_of}
 use Rattle.theorems.proofs.DemandTracks.{never}
 use Rattle.theorems.proofs.SoundFacts.{and_l, and_r, not_false, test}
 use Rattle.theorems.proofs.Soundness.{le_test, and}
@@ -132,26 +132,26 @@ pub data Foretells (s : State) (RM_answer IN_answer : Answer) : Type 0 where
   enough_left : (n : Needs) → Tells s n RM_answer → Fits s n → IN_answer.number ≡ 0 → More s n IN_answer.state → Foretells s RM_answer IN_answer
   too_little_left : (n : Needs) → Tells s n RM_answer → (Fits s n → ⊥) → IN_answer ≡ refusal s full → Foretells s RM_answer IN_answer
 
-told_0 : (s : State) (n : Needs) → answer_within max_payload s (tell s (Some n)) ≡ record { number = 0; payload = write_needs n; state = s }
-unfolding answer_within answer_with tell write_needs u32 max_payload
+told_0 : (s : State) (n : Needs) → answer_within max_payload [] s (tell s (Some n)) ≡ record { number = 0; payload = write_needs n; state = s }
+unfolding answer_within behind answer_with tell write_needs u32 max_payload
 told_0 s n = refl
 
-IN_answers : (s : State) (n : Needs) (t : Tree) {a : Answer} → Tells s n a → shown t ≤ max_payload → {m : Result (State × Bytes)} → Foretold s n t m → Foretells s a (answer_within max_payload s m)
-unfolding answer_within
-IN_answers s n t k h (it_fits {s' = s'} {payload = payload} f m l) = rw (fitting max_payload s s' payload (omega arith)) (enough_left n k f refl m)
+IN_answers : (s : State) (n : Needs) (t : Tree) {a : Answer} → Tells s n a → shown t ≤ max_payload → {m : Result (State × Bytes)} → Foretold s n t m → Foretells s a (answer_within max_payload [] s m)
+unfolding answer_within behind
+IN_answers s n t k h (it_fits {s' = s'} {payload = payload} f m l) = rw (fitting max_payload [] s s' payload (omega arith)) (enough_left n k f refl m)
 IN_answers s n t k h (it_does_not f) = too_little_left n k f refl
 
-seven_or_eleven : (s : State) {m : Result (State × Bytes)} → SevenOrEleven m → (answer_within max_payload s m ≡ refusal s full) ⊎ (answer_within max_payload s m ≡ refusal s open_variable)
+seven_or_eleven : (s : State) {m : Result (State × Bytes)} → SevenOrEleven m → (answer_within max_payload [] s m ≡ refusal s full) ⊎ (answer_within max_payload [] s m ≡ refusal s open_variable)
 unfolding answer_within
 seven_or_eleven s is_seven = inl refl
 seven_or_eleven s is_eleven = inr refl
 
 module _ (s : State) (h : sound s ≡ true) where
   runs_foretell : (t : Tree) → Fine (arity s) (taken s) t → shown t ≤ max_payload → tree_size t ≤ 4094 → Foretells s (reply s (RM t)) (reply s (IN t))
-  unfolding reply apart most_of run tell answer_within
+  unfolding reply apart most_of tail_of run tell answer_within
   runs_foretell t f l b = go (needs t) refl
     where
-      go : (o : Option Needs) → needs t ≡ o → Foretells s (answer_within max_payload s (tell s o)) (answer_within max_payload s (run s (IN t)))
+      go : (o : Option Needs) → needs t ≡ o → Foretells s (answer_within max_payload [] s (tell s o)) (answer_within max_payload [] s (run s (IN t)))
       go None e = variable_inside refl (seven_or_eleven s (IN_of_a_variable s h t f ((needs_none t).0 e)))
       go (Some n) e = let w = needs_few t n e in IN_answers s n t (record { is = told_0 s n; few = omega arith }) l (foretold s h t f n e)
 

@@ -20,7 +20,7 @@ use Rattle.definition.specs.Write.{Bytes, IsBytes}
 use Rattle.definition.specs.Reader.{Read, got, not_read}
 use Rattle.definition.specs.Record.{Record, read_record}
 use Rattle.definition.specs.Sound.{all_at, counts_fit, parts_smaller, fields_allowed, no_binding_anything, chains_end, is_u32, places_fit, shape_allowed, node_allowed, at_node, constraint_allowed, binding_allowed, cell_allowed, sound, need_allowed}
-use Rattle.definition.specs.Step.{run, Answer, number_of_error, number_of_refusal, refusal, put_back, answer_with, max_buffer, usable, lent, step, streamed, step_stream, answer_within, apart, most_of, reply, max_many, least_buffer, job_buffer}
+use Rattle.definition.specs.Step.{run, Answer, number_of_error, number_of_refusal, refusal, put_back, answer_with, max_buffer, usable, lent, step, streamed, step_stream, answer_within, apart, most_of, reply, max_many, least_buffer, job_buffer, behind, tail_of}
 use Rattle.definition.specs.Demand.{after}
 use Rattle.definition.specs.Job.{Entry, ends_job, job_from, job_log}
 use Rattle.theorems.proofs.Laws.{PlacesIn, type_on}
@@ -194,15 +194,15 @@ module _ (s : State) (h : sound s ≡ true) where
   unfolding refusal
   refusal_good x l = record { left = h; no_15 = l }
 
-  answer_good : (r : Literals) (most : ℕ) (m : Result (State × Bytes)) → Leaves r (arity s) s m → Run (Unit {0}) s true m → Good (answer_within most s m)
+  answer_good : (r : Literals) (most : ℕ) (tail : Bytes) (m : Result (State × Bytes)) → Leaves r (arity s) s m → Run (Unit {0}) s true m → Good (answer_within most tail s m)
   unfolding answer_within
-  answer_good r most (ok (s', p)) (l_ok w k) (e_ok i) = with_good most s h 0 (λ d. absurd (omega (arith, d))) p s' (still_sound w.sound (i tt))
-  answer_good r most (err s' e) (l_err g n) (e_err i) = with_good most s h (number_of_error e) (λ d. absurd (omega (arith, error_number e, d))) _ (put_back s s') (still_sound (sound_put_back (facts s h) g n) (put_back_ranges (ranges_of s h) (i tt)))
-  answer_good r most (refused x) l_refused (e_refused t) = refusal_good x (run_time_number t)
+  answer_good r most tail (ok (s', p)) (l_ok w k) (e_ok i) = with_good most s h 0 (λ d. absurd (omega (arith, d))) (behind tail p) s' (still_sound w.sound (i tt))
+  answer_good r most tail (err s' e) (l_err g n) (e_err i) = with_good most s h (number_of_error e) (λ d. absurd (omega (arith, error_number e, d))) _ (put_back s s') (still_sound (sound_put_back (facts s h) g n) (put_back_ranges (ranges_of s h) (i tt)))
+  answer_good r most tail (refused x) l_refused (e_refused t) = refusal_good x (run_time_number t)
 
   reply_good : (r : Record) → FineRecord (arity s) (taken s) r → (Unit {0} → RecordIn s r) → Good (reply s r)
   unfolding reply
-  reply_good r f i = answer_good (literals r) (most_of (apart r)) (run s r) (run_leaves s (facts s h) r f) (run_walk (Unit {0}) s true refl s (λ u. ranges_of s h) r i)
+  reply_good r f i = answer_good (literals r) (most_of (apart r)) (tail_of s (apart r)) (run s r) (run_leaves s (facts s h) r f) (run_walk (Unit {0}) s true refl s (λ u. ranges_of s h) r i)
 
   lent_good : {n : ℕ} (r : Read Record) → ReadWell (Unit {0}) s n r → Good (lent s r)
   unfolding lent number_of_refusal

@@ -13,18 +13,19 @@ use Rattle.definition.specs.TParams.{subst_tparams}
 use Rattle.definition.specs.Write.{Bytes}
 use Rattle.definition.specs.Reader.{got}
 use Rattle.definition.specs.Trees.{Tree}
-use Rattle.definition.specs.Record.{Record, UF, RD, TS, RM, CN, XP, read_record}
-use Rattle.definition.specs.Step.{tell, run, refusal, answer_with, answer_within, apart, most_of, reply, least_buffer, lent, step}
+use Rattle.definition.specs.Record.{Record, UF, RD, TS, RM, CN, XP, read_record, UL}
+use Rattle.definition.specs.Step.{tell, run, refusal, answer_with, answer_within, apart, most_of, reply, least_buffer, lent, step, behind, tail_of, unfolded}
 use Rattle.definition.specs.Needs.{Needs, needs}
 use Rattle.definition.specs.Sound.{sound}
 use Rattle.theorems.proofs.TotalWalk.{eleven, Ends, e_ok, e_err, e_refused, bind, place_run, pairs_run, ready_tvars_run, make_run, subst_run, expand_run}
 use Rattle.theorems.proofs.SoundKept.{usable_enough}
 
--- ---- UF, RD, TS and RM
+-- ---- UF, UL, RD, TS, RM, CN and XP
 
 -- the record whose run only looks at a state
 pub data Looks : Record → Type 0 where
   unfolds : {t : Tree} → Looks (UF t)
+  counts : {t : Tree} → Looks (UL t)
   readies : {t : Tree} → Looks (RD t)
   substitutes : {ps : List (ℕ × Tree)} {t : Tree} → Looks (TS ps t)
   tells : {t : Tree} → Looks (RM t)
@@ -40,9 +41,14 @@ unfolding tell
 tell_back s None = e_refused eleven
 tell_back s (Some n) = e_ok refl
 
+unfolded_back : (s : State) (t : Tree) → Back s (unfolded s t)
+unfolding unfolded
+unfolded_back s t = bind _ (place_run ⊥ s true t (λ h. absurd h) s (λ h. absurd h)) (λ x j. e_ok refl)
+
 goes_back : (s : State) (x : Record) → Looks x → Back s (run s x)
 unfolding run subst_tparams
-goes_back s (UF t) unfolds = bind _ (place_run ⊥ s true t (λ h. absurd h) s (λ h. absurd h)) (λ x j. e_ok refl)
+goes_back s (UF t) unfolds = unfolded_back s t
+goes_back s (UL t) counts = unfolded_back s t
 goes_back s (RD t) readies =
     bind _ (place_run ⊥ s true t (λ h. absurd h) s (λ h. absurd h)) (λ x j. bind _ (ready_tvars_run ⊥ s true refl x.0 j x.1) (λ r k. e_ok refl))
 goes_back s (TS ps t) substitutes =
@@ -62,16 +68,16 @@ with_back most s after payload e = go (leb (length payload) most)
     go true = e
     go false = refl
 
-back_leaves : (most : ℕ) (s : State) (m : Result (State × Bytes)) → Back s m → (answer_within most s m).state ≡ s
+back_leaves : (most : ℕ) (tail : Bytes) (s : State) (m : Result (State × Bytes)) → Back s m → (answer_within most tail s m).state ≡ s
 unfolding answer_within refusal
-back_leaves most s (ok (after, payload)) (e_ok e) = with_back most s after payload e
-back_leaves most s (err after x) (e_err e) = absurd e
-back_leaves most s (refused x) (e_refused r) = refl
+back_leaves most tail s (ok (after, payload)) (e_ok e) = with_back most s after (behind tail payload) e
+back_leaves most tail s (err after x) (e_err e) = absurd e
+back_leaves most tail s (refused x) (e_refused r) = refl
 
--- UF, RD, TS, RM and XP leave the state as at entry, whatever they answer
+-- UF, UL, RD, TS, RM, CN and XP leave the state as at entry, whatever they answer
 pub looking_leaves : (s : State) (x : Record) → Looks x → (reply s x).state ≡ s
 unfolding reply
-looking_leaves s x l = back_leaves (most_of (apart x)) s (run s x) (goes_back s x l)
+looking_leaves s x l = back_leaves (most_of (apart x)) (tail_of s (apart x)) s (run s x) (goes_back s x l)
 
 -- ---- bytes left over
 

@@ -16,7 +16,7 @@ use Rattle.definition.specs.Reader.{Read, got, not_read, Reader, give, refuse, g
 use Rattle.definition.specs.Join.{TypingCase}
 use Rattle.definition.specs.Trees.{Tree, unit_tree, anything_tree, error_tree, ref_tree, param_tree, apply_tree, var_tree, Trees, no_trees, ◌then◌, is_set, is_param, is_count, is_mark, is_name}
 use Rattle.definition.specs.Trees.{read_trees, mark_of, read_mark, mark_fits, arity, under_ref, read_apply, by_tag, read_nested, read_type}
-use Rattle.definition.specs.Record.{Record, SD, FV, NV, SN, JN, SU, UF, RD, IN, TS, NC, BC, SC, SV, RM, CN, XP, read_kind, read_SD, read_pair, read_TS, by_mark, fields_of, read_fields, max_record, hand_back, read_record, NL, read_bits, MJ, read_case, is_many, read_case_pair, read_MJ}
+use Rattle.definition.specs.Record.{Record, SD, FV, NV, SN, JN, SU, UF, RD, IN, TS, NC, BC, SC, SV, RM, CN, XP, read_kind, read_SD, read_pair, read_TS, by_mark, fields_of, read_fields, max_record, hand_back, read_record, NL, read_bits, MJ, read_case, is_many, read_case_pair, read_MJ, UL, JL}
 use Rattle.definition.specs.Sound.{is_u32, struct_allowed}
 use Rattle.theorems.proofs.DemandOrder.{All, All_map}
 use Rattle.theorems.proofs.SoundFacts.{and_l, and_r, not_false, test}
@@ -68,6 +68,8 @@ FineRecord ar vars SV = Unit {0}
 FineRecord ar vars (RM t) = Fine ar vars t
 FineRecord ar vars (CN t) = Fine ar vars t
 FineRecord ar vars (XP t) = Fine ar vars t
+FineRecord ar vars (UL t) = Fine ar vars t
+FineRecord ar vars (JL t1 t2) = Fine ar vars t1 × Fine ar vars t2
 FineRecord ar vars (MJ pairs) = FineMany ar vars pairs × (1 ≤ length pairs) × (length pairs ≤ 15)
 
 -- ---- fields in range: the names are those of s
@@ -105,6 +107,8 @@ RecordIn s SV = Unit {0}
 RecordIn s (RM t) = TreeIn s t
 RecordIn s (CN t) = TreeIn s t
 RecordIn s (XP t) = TreeIn s t
+RecordIn s (UL t) = TreeIn s t
+RecordIn s (JL t1 t2) = TreeIn s t1 × TreeIn s t2
 RecordIn s (MJ pairs) = All (λ (p : TypingCase × Tree × Tree). TreeIn s p.1 × TreeIn s p.2) pairs
 
 -- ---- bytes
@@ -366,7 +370,7 @@ module _ (H : Type 0) where
                   gives_one UF (λ t p. p),
                   (
                     gives_one RD (λ t p. p),
-                    (gives_TS, (gives_one IN (λ t p. p), (gives_NC, (gives_loc_type BC (λ l t p q. (q.0, λ h. (p h, q.1 h))), (gives_loc_type SC (λ l t p q. (q.0, λ h. (p h, q.1 h))), (gives_give SV (tt, λ h. tt), (gives_one RM (λ t p. p), (gives_one CN (λ t p. p), (gives_one XP (λ t p. p), (gives_NL, (gives_MJ, tt))))))))))),
+                    (gives_TS, (gives_one IN (λ t p. p), (gives_NC, (gives_loc_type BC (λ l t p q. (q.0, λ h. (p h, q.1 h))), (gives_loc_type SC (λ l t p q. (q.0, λ h. (p h, q.1 h))), (gives_give SV (tt, λ h. tt), (gives_one RM (λ t p. p), (gives_one CN (λ t p. p), (gives_one XP (λ t p. p), (gives_NL, (gives_MJ, (gives_one UL (λ t p. p), (gives_two JL (λ a b p q. two p q), tt))))))))))))),
                   ),
                 ),
               ),

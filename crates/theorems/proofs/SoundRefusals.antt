@@ -14,7 +14,7 @@ use Rattle.definition.specs.Join.{TypingCase}
 use Rattle.definition.specs.Write.{Bytes}
 use Rattle.definition.specs.Reader.{Read, got, not_read}
 use Rattle.definition.specs.Record.{Record, read_record}
-use Rattle.definition.specs.Step.{run, Answer, number_of_error, number_of_refusal, refusal, put_back, answer_with, answer_within, answer, pair_answer, apart, most_of, reply, usable, max_payload, lent, step, streamed, step_stream}
+use Rattle.definition.specs.Step.{run, Answer, number_of_error, number_of_refusal, refusal, put_back, answer_with, answer_within, answer, pair_answer, apart, most_of, reply, usable, max_payload, lent, step, streamed, step_stream, behind, tail_of}
 
 -- ---- the test of a call passes, or it is 15
 
@@ -58,20 +58,20 @@ with_untouched most s n p s' h = go (leb (length p) most)
     go true = λ l. absurd (omega arith)
     go false = refusal_untouched s answer_too_long
 
-answer_untouched : (most : ℕ) (s : State) (m : Result (State × Bytes)) → Untouched s (answer_within most s m)
+answer_untouched : (most : ℕ) (tail : Bytes) (s : State) (m : Result (State × Bytes)) → Untouched s (answer_within most tail s m)
 unfolding answer_within
-answer_untouched most s (ok (s', p)) = with_untouched most s 0 p s' (omega arith)
-answer_untouched most s (err s' e) = with_untouched most s (number_of_error e) _ (put_back s s') (error_number e)
-answer_untouched most s (refused x) = refusal_untouched s x
+answer_untouched most tail s (ok (s', p)) = with_untouched most s 0 (behind tail p) s' (omega arith)
+answer_untouched most tail s (err s' e) = with_untouched most s (number_of_error e) _ (put_back s s') (error_number e)
+answer_untouched most tail s (refused x) = refusal_untouched s x
 
 pub reply_untouched : (s : State) (r : Record) → Untouched s (reply s r)
 unfolding reply
-reply_untouched s r = answer_untouched (most_of (apart r)) s (run s r)
+reply_untouched s r = answer_untouched (most_of (apart r)) (tail_of s (apart r)) s (run s r)
 
 -- a pair of MJ that is 5 or above has no payload, and leaves the state that it began with
 pub pair_refused_leaves : (s : State) (pair : TypingCase × ℕ × ℕ) → 5 ≤ (pair_answer s pair).number → ((pair_answer s pair).state ≡ s) × ((pair_answer s pair).payload ≡ [])
 unfolding pair_answer answer
-pair_refused_leaves s (case, lhs, rhs) = answer_untouched max_payload s _
+pair_refused_leaves s (case, lhs, rhs) = answer_untouched max_payload [] s _
 
 lent_untouched : (s : State) (r : Read Record) → Untouched s (lent s r)
 unfolding lent
@@ -117,15 +117,15 @@ with_number most s n p s' h = go (leb (length p) most)
     go true = h
     go false = refusal_number answer_too_long
 
-pub answer_number : (most : ℕ) (s : State) (m : Result (State × Bytes)) → (answer_within most s m).number < 100
+pub answer_number : (most : ℕ) (tail : Bytes) (s : State) (m : Result (State × Bytes)) → (answer_within most tail s m).number < 100
 unfolding answer_within refusal
-answer_number most s (ok (s', p)) = with_number most s 0 p s' (omega arith)
-answer_number most s (err s' e) = with_number most s (number_of_error e) _ (put_back s s') (omega (arith, error_number e))
-answer_number most s (refused x) = refusal_number x
+answer_number most tail s (ok (s', p)) = with_number most s 0 (behind tail p) s' (omega arith)
+answer_number most tail s (err s' e) = with_number most s (number_of_error e) _ (put_back s s') (omega (arith, error_number e))
+answer_number most tail s (refused x) = refusal_number x
 
 streamed_number : (s : State) (bytes : Bytes) (r : Read Record) → (streamed s bytes r).0.number < 100
 unfolding streamed refusal reply
-streamed_number s bytes (got r rest) = answer_number (most_of (apart r)) s (run s r)
+streamed_number s bytes (got r rest) = answer_number (most_of (apart r)) (tail_of s (apart r)) s (run s r)
 streamed_number s bytes (not_read x) = refusal_number x
 
 pub stream_two_digits : (s : State) (bytes : Bytes) (buffer : ℕ) → (step_stream s bytes buffer).0.number < 100

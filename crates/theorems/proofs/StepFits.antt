@@ -16,10 +16,10 @@ use Rattle.definition.specs.Reader.{Read, got, not_read}
 use Rattle.definition.specs.Trees.{Tree}
 use Rattle.definition.specs.Record.{Record, MJ, read_record}
 use Rattle.definition.specs.Build.{build_many}
-use Rattle.definition.specs.Step.{Answer, number_of_refusal, refusal, max_payload, run, Apart, apart, max_many, most_of, reply, max_buffer, least_buffer, lent, step, streamed, step_stream}
+use Rattle.definition.specs.Step.{Answer, number_of_refusal, refusal, max_payload, run, Apart, apart, max_many, most_of, reply, max_buffer, least_buffer, lent, step, streamed, step_stream, tail_of}
 use Rattle.theorems.proofs.DemandTracks.{never}
 use Rattle.theorems.proofs.ReadLetters.{letters, Lettered, lettered, not_lettered, read_letters}
-use Rattle.theorems.proofs.DemandEveryDepth.{ByApart, as_other, as_many, by_apart}
+use Rattle.theorems.proofs.DemandEveryDepth.{ByApart, as_other, as_many, by_apart, as_links_of_one, as_links_of_two}
 use Rattle.theorems.proofs.SoundRefusals.{step_cases, stream_cases}
 use Rattle.theorems.proofs.TotalWalk.{RunTime, seven, eight, nine, ten, eleven, twelve, thirteen, sixteen, seventeen, Ends, e_err, e_refused}
 use Rattle.theorems.proofs.ManyPairs.{Pair, answer_length, many_count, many_replies, many_refused, few_read}
@@ -46,6 +46,8 @@ many_short (a ∷ b ∷ bytes) e = let p : a ≡ 77 = cc in let q : b ≡ 74 = c
 by_letters : (bytes : Bytes) {r : Record} {a : Apart} → ByApart r a → letters r ≡ take 2 bytes → most_of a ≤ least_buffer bytes
 unfolding most_of letters
 by_letters bytes as_other e = others_short bytes
+by_letters bytes as_links_of_one e = others_short bytes
+by_letters bytes as_links_of_two e = others_short bytes
 by_letters bytes as_many e = omega (arith, many_short bytes (sym e))
 
 read_short : (s : State) (bytes : Bytes) → Short (least_buffer bytes) (read_record s bytes)
@@ -69,7 +71,7 @@ refusal_fits s x n = omega arith
 
 reply_fits : (s : State) (r : Record) → length (reply s r).payload ≤ most_of (apart r)
 unfolding reply
-reply_fits s r = answer_length (most_of (apart r)) s (run s r)
+reply_fits s r = answer_length (most_of (apart r)) (tail_of s (apart r)) s (run s r)
 
 lent_fits : (s : State) (n : ℕ) (r : Read Record) → Short n r → length (lent s r).payload ≤ n
 unfolding lent

@@ -235,7 +235,7 @@ module _ (s : State) where
                                       c_bind _ _ c_u32 (λ l. c_bind _ _ (c_bind _ _ c_u16 (λ n. c_if (leb 1 n && leb n 256) (c_give n) (c_refuse _))) (λ n. c_give _)),
                                       (
                                         c_bind _ _ (c_byte_if _) (λ n. c_bind _ _ (c_times n _ (c_bind _ _ (c_bind _ _ (c_byte_if _) (λ b. c_give _)) (λ c. c_bind _ _ c_type (λ t. c_bind _ _ c_type (λ u. c_give _))))) (λ ps. c_give _)),
-                                        tt,
+                                        (c_one _, (c_two _, tt)),
                                       ),
                                     ),
                                   ),

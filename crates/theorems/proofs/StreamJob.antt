@@ -12,7 +12,7 @@ use Rattle.definition.specs.Write.{Bytes, IsBytes}
 use Rattle.definition.specs.Reader.{Read, got, not_read}
 use Rattle.definition.specs.Record.{Record, read_record}
 use Rattle.definition.specs.Sound.{sound}
-use Rattle.definition.specs.Step.{run, Answer, number_of_error, number_of_refusal, refusal, answer_with, answer_within, apart, most_of, reply, job_buffer, lent, step, streamed, step_stream}
+use Rattle.definition.specs.Step.{run, Answer, number_of_error, number_of_refusal, refusal, answer_with, answer_within, apart, most_of, reply, job_buffer, lent, step, streamed, step_stream, behind, tail_of}
 use Rattle.definition.specs.Job.{Entry, ends_job, job_from, job_log}
 use Rattle.theorems.proofs.StreamRecords.{front, records_from, records_of, entries}
 use Rattle.definition.specs.Locations.{blank_job, Seen, seen, blank_log, JobOfBytes, LocationsDecideNothing}
@@ -53,15 +53,15 @@ with_goes_on most s n p s' e = go (leb (length p) most)
     go true = e
     go false = refl
 
-answer_goes_on : (most : ℕ) (s : State) (m : Result (State × Bytes)) → Late true m → ends_job (answer_within most s m).number ≡ false
+answer_goes_on : (most : ℕ) (tail : Bytes) (s : State) (m : Result (State × Bytes)) → Late true m → ends_job (answer_within most tail s m).number ≡ false
 unfolding answer_within refusal ends_job
-answer_goes_on most s (ok (s', p)) fine = with_goes_on most s 0 p s' refl
-answer_goes_on most s (err s' e) wrong = with_goes_on most s (number_of_error e) _ _ (error_goes_on e)
-answer_goes_on most s (refused x) (down r) = run_goes_on r
+answer_goes_on most tail s (ok (s', p)) fine = with_goes_on most s 0 (behind tail p) s' refl
+answer_goes_on most tail s (err s' e) wrong = with_goes_on most s (number_of_error e) _ _ (error_goes_on e)
+answer_goes_on most tail s (refused x) (down r) = run_goes_on r
 
 reply_goes_on : (s : State) (r : Record) → ends_job (reply s r).number ≡ false
 unfolding reply
-reply_goes_on s r = answer_goes_on (most_of (apart r)) s (run s r) (run_late s r)
+reply_goes_on s r = answer_goes_on (most_of (apart r)) (tail_of s (apart r)) s (run s r) (run_late s r)
 
 -- ---- one record
 

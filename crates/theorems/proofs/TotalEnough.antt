@@ -89,7 +89,7 @@ mark_levels n S v loc d (suc a) zero h i = absurd (omega arith)
 mark_levels n S v loc (w_here e) (suc a) (suc b) h i = rw (e, mark_chain) refl
 mark_levels (suc n) S v loc (w_hop {w = w} e d) (suc a) (suc b) h i = rw (e, mark_chain) (mark_levels n (mark_one S v loc) w loc (within_same (marked_next S v loc) d) a b (omega arith) (omega arith))
 
-one_more : (n v : ℕ) → v < n → (k : ℕ) × (n ≡ suc k)
+pub one_more : (n v : ℕ) → v < n → (k : ℕ) × (n ≡ suc k)
 one_more zero v h = absurd (omega arith)
 one_more (suc n) v h = (n, refl)
 

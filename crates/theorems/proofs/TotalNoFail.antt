@@ -17,16 +17,16 @@ use Rattle.definition.specs.Constraints.{num_vars, undecided, default_num_var, d
 use Rattle.definition.specs.Sound.{sound}
 use Rattle.theorems.proofs.SolveInTurn.{solve_cases}
 use Rattle.theorems.proofs.SoundFacts.{facts}
-use Rattle.theorems.proofs.Laws.{get_beyond, get_insert_same, get_insert_other, value_insert, taken_insert, merge_marks, merge_others, merge_need, merge_at_most, larger_most, larger_l, larger_r, larger_least, needs_most, need_insert}
+use Rattle.theorems.proofs.Laws.{get_beyond, get_insert_same, get_insert_other, value_insert, taken_insert, merge_at_most, larger_least, needs_most, need_insert}
 use Rattle.theorems.proofs.LawsChains.{next_none, next_some, ends_same}
 use Rattle.theorems.proofs.DemandTracks.{never, here, ends_stop, ends_det, solid}
 use Rattle.theorems.proofs.DemandMerge.{Ready, tied, val, tkn, get_rest, sound_tied, need_tied}
 use Rattle.theorems.proofs.DemandCalm.{Calm, calm_refl, calm_trans, calm_same, calm_insert, calm_tied, Dead, dead_leaf}
 use Rattle.theorems.proofs.DemandOrder.{Sound, chain, ends_in}
-use Rattle.theorems.proofs.DemandSteps.{Quiet, quiet_refl, quiet_trans, sound_marks, quiet_bind, sound_bind, quiet_fresh}
+use Rattle.theorems.proofs.DemandSteps.{Quiet, quiet_refl, quiet_trans, quiet_bind, sound_bind}
 use Rattle.theorems.proofs.TotalTakes.{Takes, TakesAnd, takes_ok, takes_full, took_none, took_insert, took_marks, took_trans, takes_from, takes_more, takes_map, takes_eq, takes_bind, takes_post, sp_takes, next_takes, type_of_takes}
 use Rattle.theorems.proofs.LawsPost.{grown_refl, Post, p_ok, post_map}
-use Rattle.theorems.proofs.DemandCalls.{NewNode, sp_post, next_tvar_post, var_ok}
+use Rattle.theorems.proofs.DemandCalls.{NewNode, sp_post, next_tvar_post, var_ok, marks_alone, quiet_marked, sound_marked, marked_in, ready_of}
 use Rattle.theorems.proofs.DemandWent.{Went, any_ok, PostS, ps_ok}
 use Rattle.theorems.proofs.DemandRecords.{NoErr, no_ok, no_refused, no_bind}
 use Rattle.theorems.proofs.MetSteps.{fits_parts}
@@ -183,35 +183,17 @@ merge_takes {ar} {S} n s loc1 new loc2 v l k i j g bare u fit op =
     takes_post 2 1 _ (type_of_takes S loc2 e2) (open_type s loc2 e2 op) (λ Sb T2 gb b.
     takes_post 2 0 _ (next_takes Sb) (next_tvar_post b.sound) (λ Sc f gc w.
     let need = larger (need_of S e1) (need_of S e2) in
-    let m = merge_marks Sc (num_loc S e1) (num_loc S e2) need f (larger_most (need_of S e1) (need_of S e2) (needs_most S s.needs_in e1) (needs_most S s.needs_in e2)) in
-    let qm = quiet_fresh w.sound w.quiet m (λ x h. merge_others Sc (num_loc S e1) (num_loc S e2) need f x (λ d. omega (arith, w.is))) in
-    let mn = merge_need S Sc e1 e2 f s.needs_in w.f_in in
+    let m = marks_alone s e1 e2 w in
     let most : need_of (merge_num Sc (num_loc S e1) (num_loc S e2) need f) f ≤ need_of S e2 = omega (
       arith,
       merge_at_most Sc (num_loc S e1) (num_loc S e2) need f w.f_in w.no_need,
       larger_least (need_of S e1) (need_of S e2) (need_of S e2) (omega (arith, bare, ap (need_of S) same1)) (omega arith),
     ) in
     takes_from (took_marks m) (
-    takes_post 1 0 _ (sp_takes _ loc1 (Var f) refl) (sp_post (sound_marks w.sound m) loc1 (Var f) (var_ok f (omega (arith, w.f_in, m.m_taken)))) (λ Sd n1 gd p.
+    takes_post 1 0 _ (sp_takes _ loc1 (Var f) refl) (sp_post (sound_marked s e1 e2 w) loc1 (Var f) (var_ok f (marked_in s e1 e2 w))) (λ Sd n1 gd p.
     takes_post 0 0 _ (sp_takes Sd loc2 (Var f) refl) (sp_post p.sound loc2 (Var f) (var_ok f (omega (arith, w.f_in, m.m_taken, p.same_vars)))) (λ Se n2 ge q.
-    let qb : Quiet Sb Se = quiet_trans qm (quiet_trans p.quiet q.quiet) in
-    let y : Ready ar S Se e1 e2 f n1 n2 = record {
-      before = s;
-      sound = q.sound;
-      quiet = quiet_trans b.quiet qb;
-      end1 = ends_stop (chain s new i);
-      end2 = ends_stop (chain s v j);
-      in1 = ends_in s i (chain s new i);
-      in2 = ends_in s j (chain s v j);
-      new = omega (arith, w.is, b.same_vars);
-      f_in = omega (arith, w.f_in, m.m_taken, p.same_vars, q.same_vars);
-      n1_in = omega (arith, p.t_in, q.quiet.q_nodes);
-      n2_in = q.t_in;
-      is1 = q.quiet.q_kept n1 p.t_in ∙ p.is;
-      is2 = q.is;
-      need1 = omega (arith, larger_l (need_of S e1) (need_of S e2), mn, p.same_need f, q.same_need f);
-      need2 = omega (arith, larger_r (need_of S e1) (need_of S e2), mn, p.same_need f, q.same_need f);
-    } in
+    let qb : Quiet Sb Se = quiet_trans (quiet_marked s e1 e2 w) (quiet_trans p.quiet q.quiet) in
+    let y : Ready ar S Se e1 e2 f n1 n2 = ready_of s e1 e2 w b.quiet p q (ends_stop (chain s new i)) (ends_stop (chain s v j)) (ends_in s i (chain s new i)) (ends_in s j (chain s v j)) in
     let same : (x : ℕ) → get Se x ≡ get S x = λ x. q.same_get x ∙ p.same_get x ∙ m.m_get x ∙ w.same_get x ∙ b.same_get x in
     let vl : type_at (tied y) l ≡ integer k = val y l ∙ y.quiet.q_kept l l_in ∙ u in
     let vo : Open (tied y) T2 = open_on Sb (tied y) T2 b.is_open (val y T2 ∙ qb.q_kept T2 b.t_in) in

@@ -25,12 +25,12 @@ use Rattle.definition.specs.Trees.{Tree, unit_tree, anything_tree, error_tree, r
 use Rattle.definition.specs.Abilities.{infer_abilities}
 use Rattle.definition.specs.Write.{Bytes, head}
 use Rattle.definition.specs.Expand.{Expanded, expand_types, under, expand_marked, expand_value, expand, expand_type}
-use Rattle.definition.specs.Record.{NumericKind, Numeric, Bits, Ordered, Record, SD, FV, NV, SN, JN, SU, UF, RD, IN, TS, NC, BC, SC, SV, RM, CN, XP, NL, MJ}
+use Rattle.definition.specs.Record.{NumericKind, Numeric, Bits, Ordered, Record, SD, FV, NV, SN, JN, SU, UF, RD, IN, TS, NC, BC, SC, SV, RM, CN, XP, NL, MJ, UL, JL}
 use Rattle.definition.specs.Build.{build, build_all, build_pairs, build_many}
 use Rattle.definition.specs.Write.{Bytes, write_error}
 use Rattle.definition.specs.Needs.{Needs, needs}
 use Rattle.definition.specs.Sound.{numeric_allowed}
-use Rattle.definition.specs.Step.{number_of_error, refusal, put_back, max_payload, answer_with, answer_within, answer, numeric_constraint, constrain, two_types, tell, pair_answer, run_pairs, run}
+use Rattle.definition.specs.Step.{number_of_error, refusal, put_back, max_payload, answer_with, answer_within, answer, numeric_constraint, constrain, two_types, tell, pair_answer, run_pairs, run, behind, unfolded}
 use Rattle.theorems.proofs.DemandOrder.{All}
 use Rattle.theorems.proofs.Soundness.{le_test}
 use Rattle.theorems.proofs.SoundRoom.{with_room, sp_room, tvar_room, constraint_room, struct_room}
@@ -423,6 +423,10 @@ module _ (H : Type 0) (b : State) (z : Bool) where
   unfolding two_types
   two_run f r s i t1 t2 g = bind _ (place_run t1 (λ h. (g h).0) s i) (λ x i1. bind _ (place_run t2 (λ h. (g h).1) x.0 i1) (λ y i2. bind _ (r y.0 i2 x.1 y.1) (λ z i3. e_ok i3)))
 
+  unfolded_run : (s : State) → In s → (t : Tree) → (H → TreeIn b t) → Run (unfolded s t)
+  unfolding unfolded
+  unfolded_run s i t f = bind _ (place_run t f s i) (λ x j. e_ok i)
+
   constrain_run : (s : State) → In s → (t : Tree) → (H → TreeIn b t) → (make : ℕ → Constraint) → ((ty : ℕ) → H → ConstraintIn (make ty)) → Run (constrain s t make)
   unfolding constrain
   constrain_run s i t f make g = bind _ (place_run t f s i) (λ x j. bind _ (add_run x.0 j _ (g _)) (λ y k. e_ok k))
@@ -452,7 +456,7 @@ module _ (H : Type 0) (b : State) (z : Bool) where
       go false = i
 
   answer_in : (s : State) → In s → (m : Result (State × Bytes)) → Run m → In (answer s m).state
-  unfolding answer answer_within refusal
+  unfolding answer answer_within behind refusal
   answer_in s i (ok (s', p)) (e_ok j) = with_in max_payload s i 0 p s' j
   answer_in s i (err s' e) (e_err j) = with_in max_payload s i (number_of_error e) (write_error s' e) (put_back s s') (λ h. put_back_ranges (i h) (j h))
   answer_in s i (refused x) (e_refused t) = i
@@ -475,7 +479,9 @@ module _ (H : Type 0) (b : State) (z : Bool) where
   run_walk y s i (SN v loc) f = e_ok (λ h. num_var_ranges (i h) v loc (f h))
   run_walk y s i (JN t1 t2) f = two_run _ (λ s i l r. join_run max_depth s i _ l r) s i t1 t2 f
   run_walk y s i (SU t1 t2) f = two_run _ (λ s i l r. join_run max_depth s i _ l r) s i t1 t2 f
-  run_walk y s i (UF t) f = bind _ (place_run t f s i) (λ x j. e_ok i)
+  run_walk y s i (UF t) f = unfolded_run s i t f
+  run_walk y s i (UL t) f = unfolded_run s i t f
+  run_walk y s i (JL t1 t2) f = two_run _ (λ s i l r. join_run max_depth s i _ l r) s i t1 t2 f
   run_walk y s i (RD t) f = bind _ (place_run t f s i) (λ x j. bind _ (ready_tvars_run y x.0 j x.1) (λ r k. e_ok i))
   run_walk y s i (IN t) f = bind _ (place_run t f s i) (λ x j. bind _ (inst_run y _ x.0 j x.1) (λ r k. e_ok k))
   run_walk y s i (TS ps t) f =

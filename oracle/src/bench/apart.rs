@@ -107,10 +107,17 @@ pub fn rows() -> Vec<Row> {
         over("JN, a bound one", 0, |i| format!("JN V{}, u64", i)),
         over("JN, fails with 2", 2, |i| format!("JN V{}, bool", i)),
         over("JN, fails with 4", 4, |i| format!("JN V{}, vector<V{}>", 36 + i, 36 + i)),
+        each("JL, no variable", "JL vector<u8>, vector<u8>"),
+        over("JL, binds", 0, |i| format!("JL V{}, vector<u8>", 36 + i)),
+        over("JL, merges two open", 0, |i| format!("JL V{}, V{}", 36 + i, 60 + i)),
+        over("JL, a bound one", 0, |i| format!("JL V{}, u64", i)),
+        over("JL, fails with 2", 2, |i| format!("JL V{}, bool", i)),
+        over("JL, fails with 4", 4, |i| format!("JL V{}, vector<V{}>", 36 + i, 36 + i)),
         each("SU, no variable", "SU &mut u8, &u8"),
         over("SU, binds", 0, |i| format!("SU V{}, u64", 36 + i)),
         over("SU, fails with 1", 1, |_| "SU &u8, &mut u8".into()),
         over("UF", 0, |i| format!("UF V{}", i)),
+        over("UL", 0, |i| format!("UL V{}", i)),
         over("RD, a variable", 0, |i| format!("RD V{}", i)),
         over("RD, a list", 0, |i| format!("RD (V{}, vector<V{}>)", i, 16 + i % 8)),
         over("CN, a variable", 0, |i| format!("CN V{}", i)),
@@ -303,6 +310,26 @@ fn lent_record(calls: &dyn Calls, state: &lent::Lent, record: &str, runs: usize)
     (number, best)
 }
 
+/// UL beside UF, and JL beside JN, where the chains are long (02, R-9)
+fn links_table(calls: &dyn Calls, runs: usize) -> String {
+    let mut out = String::from("a lent record, and the one that counts its links:\n");
+    let (long, half, linked) = (chain(1000), chain(500), traps::linked());
+    for (state, lent, plain, fields, shown) in [
+        ("chain of 1,000", &long, "UF", "V0", "V0"),
+        ("chain of 1,000", &long, "JN", "V0, ()", "V0, ()"),
+        ("chain of 1,000", &long, "JN", "V0, V1", "V0, V1"),
+        ("chain of 500", &half, "JN", "V500, V501", "4,096 V0 and V1"),
+        ("chain of 480", &linked, "JN", "V0, V2", "512 V8 and V9"),
+    ] {
+        let counting = if plain == "UF" { "UL" } else { "JL" };
+        let [(number, a), (_, b)] =
+            [plain, counting].map(|m| lent_record(calls, lent, &format!("{} {}", m, fields), runs));
+        writeln!(out, "  {:<18}{} of {:<24}{:>2}{:>10.1}{:>10.1} us", state, plain, shown, number, a * 1e6, b * 1e6)
+            .unwrap()
+    }
+    out
+}
+
 fn lent_table(calls: &(dyn Calls + Sync), runs: usize) -> String {
     let mut out = String::from("a lent record, its answer:\n");
     let [middle, large] = SIZES.map(|n| Marks::new(calls, n).state);
@@ -339,5 +366,5 @@ fn lent_table(calls: &(dyn Calls + Sync), runs: usize) -> String {
 }
 
 pub fn table(calls: &(dyn Calls + Sync), runs: usize) -> String {
-    marks_table(calls, 10 * runs) + &lent_table(calls, runs)
+    marks_table(calls, 10 * runs) + &links_table(calls, runs) + &lent_table(calls, runs)
 }

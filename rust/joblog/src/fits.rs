@@ -1,7 +1,7 @@
 //! Which answers a record can have: what of a log can be told without running the job. Where no variable is in the
 //! way that is the whole answer; elsewhere its shape, and how many variables may be taken.
 use crate::{
-    payload::{Failure, Outcome, Reason, Rule},
+    payload::{Failure, Outcome, Reason, Rule, MAX_PAYLOAD},
     record::{Kind, Record, Ty, TypingCase},
 };
 
@@ -34,9 +34,9 @@ fn numbers(r: &Record) -> &'static [usize] {
         Record::SN(..) => &[0],
         Record::SD(..) | Record::FV(_) | Record::NV(_) | Record::NL(..) => &[0, 7],
         Record::NC(..) | Record::BC(..) | Record::SC(..) => &[0, 7],
-        Record::JN(..) => &[0, 2, 3, 4, 7, 8, 10, 14],
+        Record::JN(..) | Record::JL(..) => &[0, 2, 3, 4, 7, 8, 10, 14],
         Record::SU(..) => &[0, 1, 2, 3, 4, 7, 8, 10, 14],
-        Record::UF(_) => &[0, 7, 14],
+        Record::UF(_) | Record::UL(_) => &[0, 7, 14],
         Record::RD(_) | Record::CN(_) => &[0, 7, 9, 14],
         Record::TS(..) => &[0, 7, 11, 12, 13, 14],
         Record::IN(_) => &[0, 7, 11],
@@ -112,6 +112,26 @@ impl Join {
             }
             _ => self.name(a, b),
         }
+    }
+}
+
+/// whether the join goes on to a variable beside another type
+fn meets_variable(a: &Ty, b: &Ty) -> bool {
+    let mut join = Join { lean: false, open: false };
+    join.join(a, b).ok();
+    join.open
+}
+
+/// bytes of the number of links
+const LINKS: usize = 4;
+
+/// JL's 14: of errors alone, since a type that joins is written in fewer bytes than its operands.
+fn long_failure(a: &Ty, b: &Ty) -> bool {
+    let mut join = Join { lean: false, open: false };
+    match join.join(a, b) {
+        _ if join.open => true,
+        Err(Failed(number, x, y)) => number != 10 && x.bytes().len() + y.bytes().len() > MAX_PAYLOAD - LINKS,
+        Ok(_) => false,
     }
 }
 
@@ -357,15 +377,25 @@ impl State {
 
     fn typed(&self, r: &Record, t: &Ty) -> bool {
         match r {
-            Record::UF(u) => matches!(u.kind, Kind::Var(_)) || u == t,
+            Record::UF(u) | Record::UL(u) => matches!(u.kind, Kind::Var(_)) || u == t,
             Record::RD(u) => like(u, t, true),
             Record::TS(args, u) => replaced(args, u).is_ok_and(|u| u == *t),
             Record::IN(u) => !open(u) && like(&instantiated(u), t, false),
-            Record::JN(a, b) | Record::SU(a, b) => {
+            Record::JN(a, b) | Record::SU(a, b) | Record::JL(a, b) => {
                 let mut join = Join { lean: matches!(r, Record::SU(..)), open: false };
                 join.join(a, b).is_ok_and(|u| like(&u, t, false))
             }
             _ => false,
+        }
+    }
+
+    /// the most links that UL or JL can follow here
+    fn links(&self, r: &Record) -> usize {
+        match r {
+            Record::UL(Ty { kind: Kind::Var(_), .. }) => self.high.saturating_sub(1),
+            // two chains of each merge, and each merge takes a variable
+            Record::JL(a, b) if meets_variable(a, b) => 2 * (MAX_VARS - 1) * MAX_VARS,
+            _ => 0,
         }
     }
 
@@ -387,12 +417,15 @@ impl State {
             (7, _) => true,
             (_, Record::JN(a, b)) => self.failed(false, a, b, payload),
             (_, Record::SU(a, b)) => self.failed(true, a, b, payload),
+            (14, Record::JL(a, b)) => long_failure(a, b),
+            (_, Record::JL(a, b)) => self.failed(false, a, b, payload),
             (11, Record::IN(t) | Record::RM(t)) => open(t),
             (14, Record::TS(args, t)) => replaced(args, t).is_ok(),
             (n, Record::TS(args, t)) => {
                 replaced(args, t).is_err_and(|m| m == n || (m, n) == (11, 12) || (m, n) == (12, 11))
             }
             (9 | 14, Record::UF(t) | Record::RD(t) | Record::CN(t) | Record::XP(t)) => open(t),
+            (14, Record::UL(t)) => matches!(t.kind, Kind::Var(_)) || t.bytes().len() > MAX_PAYLOAD - LINKS,
             (17, Record::XP(t)) => open(t) || marked(t),
             (9 | 16, Record::SV) => self.constraints.iter().any(|c| c.code == 4),
             _ => true,
@@ -405,6 +438,10 @@ impl State {
         if !numbers(r).contains(&number) {
             return Err(format!("{} is never answered with {}", r.mark(), number));
         }
+        if payload.links().is_some_and(|n| n as usize > self.links(r)) {
+            return Err(format!("this {} cannot follow so many links", r.mark()));
+        }
+        let payload = payload.plain();
         match if number == 0 { self.done(r, payload) } else { self.other(r, payload) } {
             true => Ok(()),
             false => Err(format!("this {} cannot have this answer", r.mark())),
@@ -415,7 +452,9 @@ impl State {
     pub fn after(&mut self, r: &Record, payload: &Outcome) -> Result<(), String> {
         self.low = self.low.max(r.taken());
         match (r, payload.number()) {
-            (Record::JN(a, b) | Record::SU(a, b), 0..=4) if open(a) || open(b) => self.high = MAX_VARS,
+            (Record::JN(a, b) | Record::SU(a, b) | Record::JL(a, b), 0..=4) if open(a) || open(b) => {
+                self.high = MAX_VARS
+            }
             (Record::SD(set, params), 0) => {
                 self.structs += 1;
                 self.declared.push((*set, params.clone()))

@@ -57,13 +57,19 @@ struct Mark {
     fields: &'static [Part],
     /// the payload of a 0
     payload: &'static [Part],
+    /// so many bytes of each payload's end are no location and no type: the links' number
+    tail: usize,
 }
 
 const fn row(mark: &[u8; 2], fields: &'static [Part], payload: &'static [Part]) -> Mark {
-    Mark { mark: *mark, fields, payload }
+    Mark { mark: *mark, fields, payload, tail: 0 }
 }
 
-const MARKS: [Mark; 19] = [
+const fn counted(mark: &[u8; 2], fields: &'static [Part]) -> Mark {
+    Mark { tail: 4, ..row(mark, fields, &[Types]) }
+}
+
+const MARKS: [Mark; 21] = [
     row(b"SD", &[], &[]),
     row(b"FV", &LOC, &[Types]),
     row(b"NV", &LOC, &[Types]),
@@ -83,6 +89,8 @@ const MARKS: [Mark; 19] = [
     row(b"XP", &[Type], &[Type, Codes]),
     row(b"NL", &[Location, Location, Location, Location, Plain, Plain], &[Types]),
     row(b"MJ", &[Many], &[Pair]),
+    counted(b"UL", &[Type]),
+    counted(b"JL", &[Type, Type]),
 ];
 
 fn of_mark(record: &[u8]) -> Option<&'static Mark> {
@@ -149,12 +157,14 @@ pub fn blank_record(record: &[u8], params: &[usize]) -> Vec<u8> {
 /// The payload of the answer `number` to a record.
 pub fn blank_payload(record: &[u8], number: usize, payload: &[u8], params: &[usize]) -> Vec<u8> {
     let mut out = payload.to_vec();
-    let fields = match (number, of_mark(record)) {
+    let mark = of_mark(record);
+    let fields = match (number, mark) {
         (0, Some(mark)) => mark.payload,
         (1..=3, _) => &[Types],
         (4, _) => &LOC,
         _ => &[],
     };
-    blank(&mut out, fields, params);
+    let end = out.len().saturating_sub(mark.map_or(0, |mark| mark.tail));
+    blank(&mut out[..end], fields, params);
     out
 }

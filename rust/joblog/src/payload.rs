@@ -37,6 +37,8 @@ pub enum Outcome {
     Mismatch(usize, Ty, Ty),
     /// 4, with a location
     Recursive(u32),
+    /// 0 to 4 of UL and JL: what UF and JN say, and how many links were followed
+    Linked(Box<Outcome>, u32),
     /// 5 and above: all is as it was before the record
     Refused(usize),
 }
@@ -71,7 +73,7 @@ impl Outcome {
     /// Whether nothing is wrong. Not so for a 0 of SV with failed constraints, of XP with a type that is not inferred, or of MJ
     /// with a pair that is not answered 0.
     pub fn is_well(&self) -> bool {
-        match self {
+        match self.plain() {
             Outcome::Expanded(_, open) => open.is_empty(),
             Outcome::Pairs(all) => all.iter().all(Outcome::is_well),
             Outcome::Done | Outcome::Declared(_) | Outcome::Type(_) | Outcome::Spelled(_) | Outcome::Needs(_) => true,
@@ -80,7 +82,7 @@ impl Outcome {
     }
     /// at least so many variables are taken: one more than the highest that it shows; a spelling numbers those in it
     pub fn taken(&self) -> usize {
-        match self {
+        match self.plain() {
             Outcome::Type(t) | Outcome::Spelled(t) | Outcome::Expanded(t, _) => t.taken(),
             Outcome::Mismatch(_, a, b) => a.taken().max(b.taken()),
             Outcome::Failed(fs) => fs.iter().map(|f| f.ty.taken()).max().unwrap_or(0),
@@ -90,10 +92,24 @@ impl Outcome {
     }
     /// the answer's number
     pub fn number(&self) -> usize {
-        match self {
+        match self.plain() {
             Outcome::Mismatch(number, ..) | Outcome::Refused(number) => *number,
             Outcome::Recursive(_) => 4,
             _ => 0,
+        }
+    }
+    /// without the number of links
+    pub fn plain(&self) -> &Outcome {
+        match self {
+            Outcome::Linked(said, _) => said,
+            said => said,
+        }
+    }
+    /// how many links UL or JL followed
+    pub fn links(&self) -> Option<u32> {
+        match self {
+            Outcome::Linked(_, links) => Some(*links),
+            _ => None,
         }
     }
 }
@@ -217,8 +233,8 @@ impl Rest<'_> {
             Record::SV => self.failures(),
             Record::RM(_) => Ok(Outcome::Needs([self.u32()?, self.u32()?, self.u32()?, self.u32()?])),
             Record::SN(..) | Record::NC(..) | Record::BC(..) | Record::SC(..) => Ok(Outcome::Done),
-            Record::JN(..) | Record::SU(..) | Record::TS(..) => self.ty().map(Outcome::Type),
-            Record::UF(_) | Record::RD(_) | Record::IN(_) => self.ty().map(Outcome::Type),
+            Record::JN(..) | Record::SU(..) | Record::JL(..) | Record::TS(..) => self.ty().map(Outcome::Type),
+            Record::UF(_) | Record::UL(_) | Record::RD(_) | Record::IN(_) => self.ty().map(Outcome::Type),
             Record::CN(_) => match self.ty()? {
                 ty if ty == ty.numbered() => Ok(Outcome::Spelled(ty)),
                 _ => no("its payload has a location, or its variables are not numbered by first appearance"),
@@ -234,6 +250,17 @@ impl Rest<'_> {
     }
 }
 
+/// The payload without the number of links, and that, where the record has one.
+fn apart<'a>(r: &Record, number: usize, payload: &'a [u8]) -> Read<(&'a [u8], Option<u32>)> {
+    match (r, number) {
+        (Record::UL(_) | Record::JL(..), 0..=4) => {
+            let (said, links) = payload.split_last_chunk().ok_or("its payload has no number of links")?;
+            Ok((said, Some(u32::from_le_bytes(*links))))
+        }
+        _ => Ok((payload, None)),
+    }
+}
+
 /// What the answer `number` to a record says. `known`: what a type may name, the structs those of before the record.
 /// Err: it is no answer to this record.
 pub fn read(r: &Record, number: usize, payload: &[u8], known: &Known) -> Read<Outcome> {
@@ -243,6 +270,7 @@ pub fn read(r: &Record, number: usize, payload: &[u8], known: &Known) -> Read<Ou
     if payload.len() > MAX_PAYLOAD && !matches!(r, Record::MJ(_)) {
         return no("its payload is longer than 4,096 bytes");
     }
+    let (payload, links) = apart(r, number, payload)?;
     let mut rest = Rest { bytes: payload, known };
     let outcome = match number {
         0 => rest.zero(r)?,
@@ -251,7 +279,7 @@ pub fn read(r: &Record, number: usize, payload: &[u8], known: &Known) -> Read<Ou
         _ => Outcome::Refused(number),
     };
     match rest.bytes.len() {
-        0 => Ok(outcome),
+        0 => Ok(links.into_iter().fold(outcome, |said, links| Outcome::Linked(Box::new(said), links))),
         n => Err(format!("its payload has {} bytes too many", n)),
     }
 }

@@ -97,6 +97,10 @@ pub enum Record {
     NL(u32, u16),
     /// 02's R-8
     MJ(Vec<(TypingCase, Ty, Ty)>),
+    /// 02's R-9: JN with its links counted
+    JL(Ty, Ty),
+    /// 02's R-9: UF with its links counted
+    UL(Ty),
 }
 
 /// What a record may name: variables below `vars`, structs with as many arguments as declared.
@@ -314,6 +318,8 @@ impl<'a> Reader<'a> {
             b"XP" => Record::XP(self.ty(1)?),
             b"NL" => Record::NL(self.u32()?, self.bits()?),
             b"MJ" => self.many()?,
+            b"JL" => Record::JL(self.ty(1)?, self.ty(1)?),
+            b"UL" => Record::UL(self.ty(1)?),
             _ => return malformed(0, "no record has this mark"),
         })
     }
@@ -431,11 +437,11 @@ impl Record {
     pub fn types(&self) -> Vec<&Ty> {
         match self {
             Record::SD(..) | Record::FV(_) | Record::NV(_) | Record::NL(..) | Record::SN(..) | Record::SV => vec![],
-            Record::JN(a, b) | Record::SU(a, b) => vec![a, b],
+            Record::JN(a, b) | Record::SU(a, b) | Record::JL(a, b) => vec![a, b],
             Record::MJ(pairs) => pairs.iter().flat_map(|(_, a, b)| [a, b]).collect(),
             Record::TS(args, t) => args.iter().map(|(_, a)| a).chain([t]).collect(),
             Record::UF(t) | Record::RD(t) | Record::IN(t) => vec![t],
-            Record::RM(t) | Record::CN(t) | Record::XP(t) => vec![t],
+            Record::RM(t) | Record::CN(t) | Record::XP(t) | Record::UL(t) => vec![t],
             Record::NC(_, _, t) | Record::BC(_, t) | Record::SC(_, t) => vec![t],
         }
     }
@@ -467,6 +473,8 @@ impl Record {
             Record::XP(..) => "XP",
             Record::NL(..) => "NL",
             Record::MJ(..) => "MJ",
+            Record::JL(..) => "JL",
+            Record::UL(..) => "UL",
         }
     }
 
@@ -502,12 +510,12 @@ impl Record {
             _ => (),
         }
         match self {
-            Record::JN(a, b) | Record::SU(a, b) => {
+            Record::JN(a, b) | Record::SU(a, b) | Record::JL(a, b) => {
                 a.write(&mut out);
                 b.write(&mut out)
             }
             Record::UF(t) | Record::RD(t) | Record::TS(_, t) | Record::IN(t) => t.write(&mut out),
-            Record::RM(t) | Record::CN(t) | Record::XP(t) => t.write(&mut out),
+            Record::RM(t) | Record::CN(t) | Record::XP(t) | Record::UL(t) => t.write(&mut out),
             Record::NC(_, _, t) | Record::BC(_, t) | Record::SC(_, t) => t.write(&mut out),
             _ => (),
         }

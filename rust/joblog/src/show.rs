@@ -52,7 +52,7 @@ pub fn answer<'a>(p: &Pair, printer: impl Into<Printer<'a>>) -> String {
 fn said(payload: &Outcome, printer: Printer) -> String {
     let said = word(payload.number());
     let text = |t| printer.ty(t);
-    match payload {
+    let told = match payload.plain() {
         Outcome::Declared(n) => format!("{} S{}", said, n),
         Outcome::Recursive(loc) => format!("{} {}", said, printer.names.place(*loc)),
         Outcome::Needs([n, p, v, c]) => {
@@ -76,7 +76,11 @@ fn said(payload: &Outcome, printer: Printer) -> String {
             let one = |(i, o): (usize, &Outcome)| format!("; pair {} {}", i, self::said(o, printer));
             said.to_string() + &all.iter().enumerate().map(one).collect::<String>()
         }
-        Outcome::Done | Outcome::Refused(_) => said.into(),
+        Outcome::Done | Outcome::Refused(_) | Outcome::Linked(..) => said.into(),
+    };
+    match payload.links() {
+        Some(links) => format!("{}; links: {}", told, links),
+        None => told,
     }
 }
 

@@ -153,7 +153,7 @@ impl Printer<'_> {
         }
     }
 
-    /// A record's fields; the operands of JN and SU apart, for the caller to join.
+    /// A record's fields; the operands of JN, SU and JL apart, for the caller to join.
     pub fn fields(&self, r: &Record) -> Vec<String> {
         match r {
             Record::SD(set, params) => {
@@ -167,9 +167,9 @@ impl Printer<'_> {
             Record::SN(v, loc) => {
                 vec![format!("{} {}", self.named('V', *v as u32), self.at(*loc)).trim_end().into()]
             }
-            Record::JN(a, b) | Record::SU(a, b) => vec![self.ty(a), self.ty(b)],
+            Record::JN(a, b) | Record::SU(a, b) | Record::JL(a, b) => vec![self.ty(a), self.ty(b)],
             Record::UF(t) | Record::RD(t) | Record::IN(t) => vec![self.ty(t)],
-            Record::RM(t) | Record::CN(t) | Record::XP(t) => vec![self.ty(t)],
+            Record::RM(t) | Record::CN(t) | Record::XP(t) | Record::UL(t) => vec![self.ty(t)],
             Record::TS(args, t) => {
                 let one = |(id, t): &(u32, Ty)| format!("{} = {}", self.named('P', *id), self.ty(t));
                 vec![format!("[{}] {}", args.iter().map(one).collect::<Vec<_>>().join(", "), self.ty(t))]
@@ -521,7 +521,9 @@ impl Parser<'_> {
             "SN" => Record::SN(self.var()?, self.loc()?),
             "JN" => self.two().map(|(a, b)| Record::JN(a, b))?,
             "SU" => self.two().map(|(a, b)| Record::SU(a, b))?,
+            "JL" => self.two().map(|(a, b)| Record::JL(a, b))?,
             "UF" => Record::UF(self.ty()?),
+            "UL" => Record::UL(self.ty()?),
             "RD" => Record::RD(self.ty()?),
             "TS" => Record::TS(self.arguments()?, self.ty()?),
             "IN" => Record::IN(self.ty()?),

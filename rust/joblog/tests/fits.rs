@@ -151,6 +151,63 @@ fn pairs_take_variables() {
     assert!(wrong(job, &after("0 03060000000002").replace("06060000000300", "0606000000ff04")).is_some());
 }
 
+/// 02's R-9: without variables no link is followed, and the number counts towards 14
+#[test]
+fn links_that_can_be_followed() {
+    for (job, own, others) in [
+        (
+            "JL u8@1, u8@2",
+            "0 0302000000000200000000",
+            &["0 0302000000000201000000", "0 0301000000000200000000", "0 03020000000002", "14", "9"][..],
+        ),
+        (
+            "JL u8@1, bool@2",
+            "2 030100000000020302000000000600000000",
+            &["2 030100000000020302000000000601000000", "0 0302000000000600000000", "14", "10"],
+        ),
+        ("JL u8{drop}@1, u8@2", "10", &["14", "0 0302000000000200000000"]),
+        ("UL u8@1", "0 0301000000000200000000", &["0 0301000000000201000000", "0 03020000000002 00000000", "14", "9"]),
+        ("FV @1\nUL V0@2", "0 070200000000000000", &["0 070200000001000000", "9", "8"]),
+        ("FV @1\nJL V0@2, _@3", "0 0602000000000000000000", &["0 0602000000000001000000", "0 0702000000 00000000"]),
+        ("FV @1\nJL V0@2, u8@3", "0 0602000000000000000000", &["0 06020000000000ffffffff"]),
+    ] {
+        let told = |answer: &str| {
+            let fv = if job.starts_with("FV") { &["0 06010000000000"][..] } else { &[] };
+            log(&[fv, &[answer]].concat())
+        };
+        assert_eq!(wrong(job, &told(own)), None, "{}", job);
+        for other in others {
+            assert!(wrong(job, &told(other)).is_some(), "{}: {}", job, other)
+        }
+    }
+    // a chain is as long as there are variables before its end
+    let job = "FV @1\nFV @2\nJN V0@3, V1@4\nUL V0@5";
+    let chain = |links: &str| {
+        let ul = format!("0 0705000000{}", links);
+        log(&["0 06010000000000", "0 06020000000100", "0 06040000000200", &ul])
+    };
+    assert_eq!(wrong(job, &chain("01000000")), None);
+    assert!(wrong(job, &chain("00040000")).is_some());
+}
+
+/// .. both types and the number in 4,096 bytes, and in 4,097
+#[test]
+fn the_longest_answers_with_links() {
+    let list = |of: &[String]| format!("({})", of.join(", "));
+    let eight = list(&vec!["P7".to_string(); 8]);
+    let parts = [vec![list(&vec![eight.clone(); 8]); 5], vec![list(&vec![eight; 6]), "(P7, vector<()>)".into()]];
+    for (other, long) in [("vector<()>", false), ("&u8", true)] {
+        let job = format!("JL {}, {}", list(&parts.concat()), other);
+        assert_eq!(assemble(&job, false).unwrap().len(), 2 + 4092 + long as usize);
+        assert_eq!(wrong(&job, &log(&["14"])).is_none(), long)
+    }
+    for (part, long) in [("vector<()>", false), ("&u8", true)] {
+        let job = format!("UL {}", list(&[list(&parts.concat()[..6]), "P7".into(), "vector<()>".into(), part.into()]));
+        assert_eq!(assemble(&job, false).unwrap().len(), 2 + 4092 + long as usize);
+        assert_eq!(wrong(&job, &log(&["14"])).is_none(), long)
+    }
+}
+
 /// constraints on types that are no variables: each row must be there, in the order of the list, and no other
 #[test]
 fn rows_are_those_of_the_list() {

@@ -140,6 +140,40 @@ fn a_zero_of_mj_with_a_pair_that_failed_is_no_success() {
     assert_eq!(said("MJ join u8, V0", 0, &long(4097)), Err("pair 0: its payload is longer than 4,096 bytes".into()));
 }
 
+/// 02's R-9: what JN and UF say, and behind it the number of links
+#[test]
+fn links_stand_behind_what_else_is_said() {
+    let linked = |said| Ok(Outcome::Linked(Box::new(said), 0x0102));
+    let tail = |payload: &[u8]| [payload, b"\x02\x01\0\0"].concat();
+    for text in ["JL u8, V0", "UL V0"] {
+        let well = said(text, 0, &tail(U8));
+        assert_eq!(well, linked(Outcome::Type(u8_type())));
+        let well = well.unwrap();
+        assert!(well.is_well() && well.number() == 0 && well.links() == Some(0x0102));
+        // no number, a cut one, a byte more, no type
+        for wrong in [U8, &tail(U8)[..10], &[&tail(U8), &b"\0"[..]].concat(), &tail(b""), b""] {
+            assert!(said(text, 0, wrong).is_err(), "{}: {:?}", text, wrong)
+        }
+    }
+    assert_eq!(said("UL V0", 0, &tail(V0)).unwrap().taken(), 1);
+    for number in 1..=3 {
+        let failed = said("JL u8, V0", number, &tail(&[U8, V0].concat())).unwrap();
+        assert_eq!(failed, Outcome::Linked(Box::new(Outcome::Mismatch(number, u8_type(), v0())), 0x0102));
+        assert!(!failed.is_well() && failed.number() == number);
+        assert!(said("JL u8, V0", number, &[U8, V0].concat()).is_err())
+    }
+    assert_eq!(said("JL V0, V0", 4, &tail(b"\x09\0\0\0")), linked(Outcome::Recursive(9)));
+    assert!(said("JL V0, V0", 4, b"\x09\0\0\0").is_err());
+    // a refusal shows none, and nor does any other record
+    assert_eq!(said("JL V0, V0", 7, b""), Ok(Outcome::Refused(7)));
+    assert!(said("JL V0, V0", 7, &tail(b"")).is_err() && said("JN u8, V0", 0, &tail(U8)).is_err());
+    assert_eq!(said("JN u8, V0", 0, U8).unwrap().links(), None);
+    // 4,096 bytes are the most, the number among them: a payload of UL is UF's and four bytes
+    let long = |n: usize| [vec![4, 0, 0, 0, 0, 0, 0], vec![0; n]].concat();
+    assert!(said("UL u8", 0, &long(4090)).unwrap_err().contains("longer than 4,096"));
+    assert!(!said("UL u8", 0, &long(4089)).unwrap_err().contains("longer than 4,096"));
+}
+
 #[test]
 fn errors_and_refusals() {
     for number in 1..=3 {

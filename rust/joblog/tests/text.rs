@@ -106,6 +106,53 @@ fn pairs_that_cannot_be_read() {
     assert!(assemble(&many(255), false).is_ok() && assemble(&many(256), false).is_err())
 }
 
+/// 02's R-9: 02's worked values, shown and held beside one another
+#[test]
+fn how_many_links_are_followed() {
+    let text = "FV\nFV\nFV\nJL V0, V1\nJL V1, V2\nUL V0\nJL V0, bool\nJL V2, u8\nUL V0\nUL (V0,)\n";
+    let (job, rest) = (assemble(text, false).unwrap(), "UL (V0,)@4\nJL &mut@1 _@2, P7@3\n");
+    assert_eq!(disassemble(&job), text);
+    assert_eq!(disassemble(&assemble(rest, false).unwrap()), rest);
+    let log = "0 0 06000000000000\n1 0 06000000000100\n2 0 06000000000200\n3 0 0600000000030000000000\n\
+        4 0 0600000000040001000000\n5 0 070000000002000000\n6 0 0600000000060002000000\n\
+        7 2 030000000000060300000000000202000000\n8 0 0300000000000603000000\n9 0 040000000000010600000000000000000000\n";
+    let (lines, summary) = show(&job, log, Options::default());
+    let wanted = "3 JL  V0  ~  V1   → typed V3; links: 0\n4 JL  V1  ~  V2   → typed V4; links: 1\n\
+        5 UL  V0   → typed _; links: 2\n6 JL  V0  ~  bool   → typed V6; links: 2\n\
+        7 JL  V2  ~  u8   → incompatible: bool and u8; links: 2\n8 UL  V0   → typed bool; links: 3\n\
+        9 UL  (V0,)   → typed (V0,); links: 0\n";
+    assert_eq!(lines.split_inclusive('\n').skip(3).collect::<String>(), wanted);
+    assert_eq!((summary.code(), summary.wrong), (1, None));
+    // another number of links is a difference, wherever the record stands
+    assert!(matches!(diff((&job, log), (&job, log)), Difference::None(10)));
+    let other = log.replace("8 0 0300000000000603000000", "8 0 0300000000000602000000");
+    let Difference::Found(found) = diff((&job, log), (&job, &other)) else { panic!("no difference") };
+    assert!(found.to_string().contains("links: 3") && found.to_string().contains("links: 2"), "{}", found)
+}
+
+/// .. their locations are JN's and UF's, and a byte of the number is taken for none and for no tag
+#[test]
+fn links_are_no_locations() {
+    let blanked = |text: &str, number, payload: &str| {
+        blank_payload(&assemble(text, false).unwrap(), number, &unhex(payload).unwrap(), &[])
+    };
+    for (text, number, payload, plain) in [
+        ("UL V0@9", 0, "0601020304 0000 01020304", "0600000000 0000 01020304"),
+        ("UL V0@9", 0, "0701020304 06010203", "0700000000 06010203"),
+        ("JL V0@9, V1@8", 0, "0301020304 0002 03010000", "0300000000 0002 03010000"),
+        ("JL V0@9, V1@8", 2, "0001020304 0801020304 05060708", "0000000000 0800000000 05060708"),
+        ("JL V0@9, V1@8", 4, "01020304 05060708", "00000000 05060708"),
+        ("JN V0@9, V1@8", 2, "0001020304 0801020304 0506070809", "0000000000 0800000000 0500000000"),
+        ("JL V0@9, V1@8", 7, "", ""),
+        ("JL V0@9, V1@8", 0, "010203", "010203"),
+    ] {
+        assert_eq!(blanked(text, number, payload), unhex(plain).unwrap(), "{}", text)
+    }
+    let record = |text: &str| blank_record(&assemble(text, false).unwrap(), &[]);
+    assert_eq!(record("JL V0@9, &@8 u8@7"), assemble("JL V0, &u8", false).unwrap());
+    assert_eq!(record("UL V0@9"), assemble("UL V0", false).unwrap())
+}
+
 #[test]
 fn every_stream_has_a_text() {
     for stream in [&b"XX"[..], b"", b"UF", b"UF\x09", b"UF\x01\0\0\0\0\x02", b"SVSV\x80", &[0xff; 5000]] {

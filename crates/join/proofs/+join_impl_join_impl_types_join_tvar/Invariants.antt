@@ -1,6 +1,7 @@
 -- `join::join_impl`, `join_impl_types` and `join_tvar` meet their contracts, as one cycle of calls. Twice the depth left falls, and stands one higher where
 -- the argument walk and the merge call the operand walk at the same depth. Assumes nothing.
 use Rattle.join.proofs.Args.{Gathering}
+use Rattle.join.proofs.Links.{Summing}
 use Rattle.arms.specs.Arms.{case_of}
 use Prim.Native.Nat.{◌+◌}
 use Rattle.join.proofs.+join_impl_join_impl_types_join_tvar.Given as goal
@@ -15,4 +16,4 @@ abbrev pub decreases-join_tvar : goal.decreases-join_tvar
 decreases-join_tvar l = l.left + l.left + 1
 
 abbrev pub invariant-join_impl_types-loop-i : goal.invariant-join_impl_types-loop-i
-invariant-join_impl_types-loop-i l = Gathering l.left (case_of l.case) l.t1 l.t2 l.many l.initial.st l.st l.tys l.i
+invariant-join_impl_types-loop-i l = Gathering l.left (case_of l.case) l.t1 l.t2 l.many l.initial.st l.st l.tys l.i × Summing l.left (case_of l.case) l.t1 l.t2 l.initial.st l.st l.initial.links l.links l.i

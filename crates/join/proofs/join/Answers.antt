@@ -1,8 +1,5 @@
 -- `join::join` meets its contract. Assumes nothing.
-use Rattle.definition.specs.Types.{max_depth}
-use Rattle.definition.specs.Join.{join}
 use Rattle.join.proofs.join.Goals as goal
 
 pub returns : goal.returns
-unfolding join max_depth
-returns c = c.join_impl.ensures
+returns c = c.join_links.ensures.0

@@ -5,4 +5,4 @@ use Rattle.join.proofs.subtype.Goals as goal
 
 pub returns : goal.returns
 unfolding subtype max_depth
-returns c = c.join_impl.ensures
+returns c = c.join_impl.ensures.0

@@ -12,13 +12,13 @@ use Rattle.many.proofs.Bytes.{filled_size, payload_size, head_wrote}
 use Rattle.many.proofs.Answered.{run_bytes, grown, small, told, still_noted, named, more_nodes, declares, in_range, wrote_pair}
 use Rattle.many.proofs.answer_from.Goals as goal
 
-pub run_two-ran-requires : goal.run_two-ran-requires
-run_two-ran-requires g c = c.requires.1.0.0
+pub run_case-ran-requires : goal.run_case-ran-requires
+run_case-ran-requires g c = c.requires.1.0.0
 
 pub settle-a-requires : goal.settle-a-requires
 settle-a-requires g c =
     let (e, (p, l)) = c.requires in
-    let r = c.run_two-ran.ensures in
+    let r = c.run_case-ran.ensures in
     let long = ap length (take_rest c.args.buf.now (c.args.at + 3)) in (
       rw e.0 (grown e.1.1.0 e.1.1.1 c.args.pair r c.args.before e.1.0 refl),
       ((r.tells, (run_bytes e.1.1.0 e.1.1.1 c.args.pair r p.1, omega (arith, long, length-drop (c.args.at + 3) c.args.buf.now, l))), λ t e f. kept_never r.kept_is f),
@@ -28,7 +28,7 @@ pub put_head-requires : goal.put_head-requires
 put_head-requires g c =
     let (e, (p, l)) = c.requires in
     let a = rw e.0 at c.settle-a.ensures in
-    let n : c.settle-a.result.number < 100 = small e.1.1.0 e.1.1.1 c.args.pair c.run_two-ran.ensures a e.1.0 refl in
+    let n : c.settle-a.result.number < 100 = small e.1.1.0 e.1.1.1 c.args.pair c.run_case-ran.ensures a e.1.0 refl in
     let room : c.args.at + 3 + c.settle-a.result.len ≤ length c.args.buf.now = omega (arith, l, a.few) in
     (omega arith, (omega (arith, a.few), omega (arith, filled_size c.args.buf.now c.args.at c.settle-a.result.len _ room c.settle-a.auto.buf a.rest)))
 
@@ -42,7 +42,7 @@ pub returns : goal.returns
 unfolding u16
 returns g c =
     let (e, (p, l)) = c.requires in
-    let r = c.run_two-ran.ensures in
+    let r = c.run_case-ran.ensures in
     let a = rw e.0 at c.settle-a.ensures in
     let room : c.args.at + 3 + c.settle-a.result.len ≤ length c.args.buf.now = omega (arith, l, a.few) in
     let w = head_wrote c.args.buf.now c.args.at c.settle-a.result.len _ room c.settle-a.auto.buf a.rest _ _ _ refl c.put_head.ensures in

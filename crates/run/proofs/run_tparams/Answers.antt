@@ -1,7 +1,7 @@
 -- `run::run_tparams` meets its contract. Assumes nothing.
 use mathlib.Core.Path.{sym, ap, ◌∙◌}
 use Rattle.tparams.specs.Made.{made}
-use Rattle.run.specs.Dispatch.{run_of, step_of}
+use Rattle.run.specs.Dispatch.{run_of, step_of, tail_of}
 use Rattle.run.proofs.Laws.{ran_tparams, ran_twice}
 use Rattle.run.proofs.run_tparams.Goals as goal
 
@@ -14,9 +14,9 @@ subst_tparams-requires c =
     (c.requires.0, rw (kept.0, kept.1) c.requires.1)
 
 pub returns-in-Some : goal.returns-in-Some
-unfolding run_of step_of
+unfolding run_of step_of tail_of
 returns-in-Some c = ran_tparams _ _ _ (sym (ap made c.in-Some.is) ∙ c.make_tparam_subst.ensures.made) c.subst_tparams.ensures c.shown.ensures
 
 pub returns-in-None : goal.returns-in-None
-unfolding run_of step_of
+unfolding run_of step_of tail_of
 returns-in-None c = ran_twice _ _ (sym (ap made c.in-None.is) ∙ c.make_tparam_subst.ensures.made) c.shown-in-None.ensures

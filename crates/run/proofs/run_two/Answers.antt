@@ -1,9 +1,14 @@
 -- `run::run_two` meets its contract. Assumes nothing.
-use Rattle.run.proofs.Laws.{ran_join, ran_subtype}
+use Rattle.run.specs.Dispatch.{run_of, step_of, tail_of}
 use Rattle.run.proofs.run_two.Goals as goal
 
 pub returns-in-JN : goal.returns-in-JN
-returns-in-JN c = ran_join _ _ _ c.in-JN.is c.join.ensures c.shown.ensures
+unfolding run_of step_of tail_of
+returns-in-JN c = rw c.in-JN.is c.run_case.ensures
 
 pub returns-in-SU : goal.returns-in-SU
-returns-in-SU c = ran_subtype _ _ _ c.in-SU.is c.subtype.ensures c.shown-in-SU.ensures
+unfolding run_of step_of tail_of
+returns-in-SU c = rw c.in-SU.is c.run_case-in-SU.ensures
+
+pub returns-in-JL : goal.returns-in-JL
+returns-in-JL c = rw c.in-JL.is c.run_links.ensures

@@ -26,6 +26,6 @@ returns g c =
     record {
       name = c.settle-a.ensures.same.name ∙ d.same.name;
       noted = noted_since c.requires.1.from.saved c.requires.1.from.since (linked c.settle-a.ensures.same d.same);
-      is = λ x b. as_other b refl (reply_declared _ _ b d c.padded.ensures.1 c.requires.0.0 _ _ _ (c.ok-number.ensures.value ∙ ok_done _) c.row_for-n.ensures
+      is = λ x b. as_other b refl refl (reply_declared _ _ b d c.padded.ensures.1 c.requires.0.0 _ _ _ (c.ok-number.ensures.value ∙ ok_done _) c.row_for-n.ensures
           c.settle-a.ensures refl refl _ c.padded.ensures.0 _ c.put_row.ensures);
     }

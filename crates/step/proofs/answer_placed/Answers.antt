@@ -1,12 +1,12 @@
 -- `step::answer_placed` meets its contract. Assumes nothing.
 use mathlib.Core.Path.{refl, ap}
-use Rattle.fields.specs.Noded.{unfolded, tparams, noded, bind_of, pairs_of, add_of, binds, looks, adds}
+use Rattle.fields.specs.Noded.{unfolded, unfolded_links, tparams, noded, bind_of, pairs_of, add_of, binds, looks, adds}
 use Rattle.answer.proofs.Growing.{noted_since}
 use Rattle.run.proofs.Arms.{narrow}
 use Rattle.step.proofs.Replying.{WasRun, as_other, some_room, run_settles, reply_ran, ready_settles, reply_ready, solve_saved, solve_sound, reply_solved, expand_asks, expanded_same, reply_expanded, range_placed, reply_many}
-use Rattle.step.proofs.Placing.{is_many}
+use Rattle.run.specs.Dispatch.{tail_of}
 use Rattle.step.proofs.answer_placed.Goals as goal
-use Rattle.step.proofs.answer_placed.Goals.{in-Bind, in-Look+in-One+in-UF, in-Look+in-TS, in-Add}
+use Rattle.step.proofs.answer_placed.Goals.{in-Bind, in-Look+in-One+in-UF, in-Look+in-One+in-UL, in-Look+in-TS, in-Add}
 use Rattle.table.proofs.Did.{linked, linked_now}
 
 pub answer_declared-requires : goal.answer_declared-requires
@@ -24,6 +24,9 @@ run_bind-ran-requires g c = rw c.in-Bind.is at c.requires.0.1.1.0
 pub run_unfold-requires : goal.run_unfold-requires
 run_unfold-requires g c = rw (c.in-Look.is, c.in-One.is) at c.requires.0.1.1.0
 
+pub run_unfold_links-requires : goal.run_unfold_links-requires
+run_unfold_links-requires g c = rw (c.in-Look.is, c.in-One.is) at c.requires.0.1.1.0
+
 pub settle_ready-requires : goal.settle_ready-requires
 settle_ready-requires g c = let h = rw (c.in-Look.is, c.in-One.is, c.in-RD.is) at c.requires in ready_settles h.1.from _ refl refl c.args.buf.now h.0.1.1.1 h.0.1.1.0
 
@@ -38,6 +41,7 @@ settle-requires g c =
     let k : WasRun c.args.params.now c.args.st.now c.match-what.st c.match-what.ran (noded c.args.names.now c.args.what) = elim c.match-what.branch [
       | in-Bind w ↦ record { what = binds (bind_of w.in-Bind.x); is = ap (noded c.args.names.now) w.in-Bind.is; ran = rw (w.st-is, w.ran-is) w.run_bind-ran.ensures }
       | in-Look+in-One+in-UF w ↦ record { what = looks (unfolded w.in-One.t); is = rw (w.in-Look.is, w.in-One.is, w.in-UF.is) refl; ran = rw (w.st-is, w.ran-is) (narrow w.run_unfold.ensures) }
+      | in-Look+in-One+in-UL w ↦ record { what = looks (unfolded_links w.in-One.t); is = rw (w.in-Look.is, w.in-One.is, w.in-UL.is) refl; ran = rw (w.st-is, w.ran-is) (narrow w.run_unfold_links.ensures) }
       | in-Look+in-TS w ↦ record { what = looks (tparams (pairs_of w.in-TS.ps) w.in-TS.t); is = rw (w.in-Look.is, w.in-TS.is) refl; ran = rw (w.st-is, w.ran-is) (narrow w.run_tparams.ensures) }
       | in-Add w ↦ record { what = adds (add_of w.in-Add.x); is = ap (noded c.args.names.now) w.in-Add.is; ran = rw (w.st-is, w.ran-is) (narrow w.run_add-ran.ensures) }
     ] in
@@ -56,21 +60,23 @@ pub returns-in-SD : goal.returns-in-SD
 returns-in-SD g c = record { name = c.answer_declared.ensures.name; noted = c.answer_declared.ensures.noted; is = λ x b. c.answer_declared.ensures.is x (rw c.in-SD.is at b) }
 
 pub returns-in-RD : goal.returns-in-RD
+unfolding tail_of
 returns-in-RD g c =
     let h = rw (c.in-Look.is, c.in-One.is, c.in-RD.is) at c.requires.1 in
     record {
       name = (c.settle_ready.ensures.same).name;
       noted = noted_since h.from.saved h.from.since (c.settle_ready.ensures.same);
-      is = λ x b. let d = rw (c.in-Look.is, c.in-One.is, c.in-RD.is) at b in as_other d refl (reply_ready d c.settle_ready.ensures refl);
+      is = λ x b. let d = rw (c.in-Look.is, c.in-One.is, c.in-RD.is) at b in as_other d refl refl (reply_ready d c.settle_ready.ensures refl);
     }
 
 pub returns-in-CN : goal.returns-in-CN
+unfolding tail_of
 returns-in-CN g c =
     let h = rw (c.in-Look.is, c.in-One.is, c.in-CN.is) at c.requires.1 in
     record {
       name = (c.settle_ready-in-CN.ensures.same).name;
       noted = noted_since h.from.saved h.from.since (c.settle_ready-in-CN.ensures.same);
-      is = λ x b. let d = rw (c.in-Look.is, c.in-One.is, c.in-CN.is) at b in as_other d refl (reply_ready d c.settle_ready-in-CN.ensures refl);
+      is = λ x b. let d = rw (c.in-Look.is, c.in-One.is, c.in-CN.is) at b in as_other d refl refl (reply_ready d c.settle_ready-in-CN.ensures refl);
     }
 
 pub returns-in-SV : goal.returns-in-SV
@@ -79,7 +85,7 @@ returns-in-SV g c =
     record {
       name = (c.solve.ensures.same).name;
       noted = noted_since h.from.saved h.from.since (c.solve.ensures.same);
-      is = λ x b. let d = rw c.in-SV.is at b in as_other d refl (reply_solved d c.solve.ensures);
+      is = λ x b. let d = rw c.in-SV.is at b in as_other d refl refl (reply_solved d c.solve.ensures);
     }
 
 pub returns-in-XP : goal.returns-in-XP
@@ -88,7 +94,7 @@ returns-in-XP g c =
     record {
       name = (expanded_same h.from c.expand.ensures).name;
       noted = noted_since h.from.saved h.from.since (expanded_same h.from c.expand.ensures);
-      is = λ x b. let d = rw c.in-XP.is at b in as_other d refl (reply_expanded d c.expand.ensures refl);
+      is = λ x b. let d = rw c.in-XP.is at b in as_other d refl refl (reply_expanded d c.expand.ensures refl);
     }
 
 pub returns : goal.returns
@@ -96,6 +102,7 @@ returns g c =
     let k : WasRun c.args.params.now c.args.st.now c.match-what.st c.match-what.ran (noded c.args.names.now c.args.what) = elim c.match-what.branch [
       | in-Bind w ↦ record { what = binds (bind_of w.in-Bind.x); is = ap (noded c.args.names.now) w.in-Bind.is; ran = rw (w.st-is, w.ran-is) w.run_bind-ran.ensures }
       | in-Look+in-One+in-UF w ↦ record { what = looks (unfolded w.in-One.t); is = rw (w.in-Look.is, w.in-One.is, w.in-UF.is) refl; ran = rw (w.st-is, w.ran-is) (narrow w.run_unfold.ensures) }
+      | in-Look+in-One+in-UL w ↦ record { what = looks (unfolded_links w.in-One.t); is = rw (w.in-Look.is, w.in-One.is, w.in-UL.is) refl; ran = rw (w.st-is, w.ran-is) (narrow w.run_unfold_links.ensures) }
       | in-Look+in-TS w ↦ record { what = looks (tparams (pairs_of w.in-TS.ps) w.in-TS.t); is = rw (w.in-Look.is, w.in-TS.is) refl; ran = rw (w.st-is, w.ran-is) (narrow w.run_tparams.ensures) }
       | in-Add w ↦ record { what = adds (add_of w.in-Add.x); is = ap (noded c.args.names.now) w.in-Add.is; ran = rw (w.st-is, w.ran-is) (narrow w.run_add-ran.ensures) }
     ] in
@@ -103,5 +110,5 @@ returns g c =
     record {
       name = same.name;
       noted = noted_since c.requires.1.from.saved c.requires.1.from.since same;
-      is = λ x b. as_other b (ap is_many k.is) (reply_ran b k c.settle.ensures refl);
+      is = λ x b. reply_ran b k c.settle.ensures refl;
     }

@@ -18,14 +18,14 @@ returns-in-None-bound_at c = let node_at = c.node_at-n in
     let as_var = c.as_var in
     λ ds. c.is_num_var.ensures ds ∙ num_open _ _ _ _
     (var_of _ _ node_at.result as_var.result (node_at.ensures ds) as_var.ensures ∙ ap next c.in-Some.is)
-    _ (c.forward_tvar-last.ensures ds)
+    _ (c.forward_tvar.ensures.tvar_is ds)
     (sym (c.bound_at.ensures ds) ∙ c.in-None-bound_at.is)
 
 pub returns-in-Some-bound_at : goal.returns-in-Some-bound_at
 returns-in-Some-bound_at c = let node_at = c.node_at-n in
     let as_var = c.as_var in
-    let forward_tvar = c.forward_tvar-last in
+    let forward_tvar = c.forward_tvar in
     λ ds. c.num_node.ensures ds ∙ num_bound _ _ _ _
     (var_of _ _ node_at.result as_var.result (node_at.ensures ds) as_var.ensures ∙ ap next c.in-Some.is)
-    _ _ (forward_tvar.ensures ds)
+    _ _ (forward_tvar.ensures.tvar_is ds)
     (sym (c.bound_at.ensures ds) ∙ c.in-Some-bound_at.is)

@@ -234,7 +234,7 @@ fn of_pair(p: &Pair, i: usize, of: &(TypingCase, Ty, Ty), payload: &Outcome, nam
 /// What is wrong with a record's answer.
 pub fn failures(p: &Pair, names: Names) -> Vec<Failure> {
     let teller = Teller { p, names };
-    match &p.payload {
+    match p.payload.plain() {
         payload if payload.is_well() => vec![],
         Outcome::Pairs(all) => {
             let Ok(Record::MJ(pairs)) = &p.read else { return vec![] };
