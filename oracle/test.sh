@@ -54,9 +54,11 @@ beside() { step "2,000 jobs beside core.rs" target/release/oracle compare 1 2000
 
 with_engine() {
   beside
-  for what in number payload binding mark constraint reading count told spelled missing code pair kept link left line; do step "altered: $what" found $what; done
+  for what in number payload binding mark constraint reading count told spelled missing code pair kept link left moved unmarked copied line; do step "altered: $what" found $what; done
   step "pairs" target/release/oracle many
   step "2,000 jobs with pairs" target/release/oracle compare 1 2000 --profile=pairs
+  step "clearings" target/release/oracle keep 1 2000
+  step "2,000 jobs with clearings" target/release/oracle compare 1 2000 --profile=kept
   step "spellings" target/release/oracle spelled 1 300
   step "altered: need" found need numbers
   step "2,000 jobs with literals" target/release/oracle compare 1 2000 --profile=numbers

@@ -282,6 +282,16 @@ def links():
     yield limit('links: a chain', 'FV\nFV\nJL %s, %s\nUL V0\nJL V0, V1\nUL V1\nUL V65' % tuple(eights))
 
 
+def keeps():
+    """R-11: functions that are cleared have nodes, more in all than there are; the same without KP have none. 255 listed, and 6 at the last."""
+    instance = 'IN %s' % list_of(*[list_of(*['_'] * 8)] * 8)
+    yield limit('keep: functions', ('%s\nSV\nKP\n' % instance) * 5)
+    yield limit('keep: functions without it', ('%s\nSV\n' % instance) * 4, (instance, 7), 'KP\n%s\nKP\nFV' % instance)
+    most = ', '.join(['V1'] * 254)
+    yield limit('keep: 255 listed', 'FV\nFV\nFV\nKP %s, V0\nFV' % most)
+    yield limit('keep: the last of 255', 'FV\nFV', ('KP %s, V2' % most, 6))
+
+
 def end(name, stream, *log):
     return name, stream, list(log)
 
@@ -306,7 +316,7 @@ def marks():
 
 def main():
     where = os.path.join(ROOT, 'crates/test_edges')
-    jobs = [j for made in (marked, computed, limits, told, abilities, spelled, finals, literals, links, ends, marks) for j in made()]
+    jobs = [j for made in (marked, computed, limits, told, abilities, spelled, finals, literals, links, keeps, ends, marks) for j in made()]
     behind = [(len(name) + 1 + len(stream), name.encode() + b'\n' + stream) for name, stream, _ in jobs]
     texts = {
         'stdin': b''.join(struct.pack('<I', size) + job for size, job in behind),

@@ -28,11 +28,11 @@ extern "C" {
 #endif
 
 /* PONGIWARU_VERSION changes with the records, their answers, these functions or what they ask of a caller (5: more stack; 6: the
- * record CN; 7: XP; 8: NL; 9: MJ, which wants longer buffers; 10: JL and UL), PONGIWARU_LAYOUT with what the words and rows of a state
- * mean. Keep the layout's number beside a kept state. A later version of the same layout goes on with it (to one before 8 a state in
- * which a literal needs bits is 15); under another layout it may be 15 or be taken for another sound state, so don't lend it: run its
- * records again from a fresh state. */
-#define PONGIWARU_VERSION 10
+ * record CN; 7: XP; 8: NL; 9: MJ, which wants longer buffers; 10: JL and UL; 11: KP, behind which variables have other numbers),
+ * PONGIWARU_LAYOUT with what the words and rows of a state mean. Keep the layout's number beside a kept state. A later version of the
+ * same layout goes on with it (to one before 8 a state in which a literal needs bits is 15); under another layout it may be 15 or be
+ * taken for another sound state, so don't lend it: run its records again from a fresh state. */
+#define PONGIWARU_VERSION 11
 #define PONGIWARU_LAYOUT 1
 
 /* Both numbers as the archive has them: the caller was built for it if they are PONGIWARU_VERSION and PONGIWARU_LAYOUT. Ask once,

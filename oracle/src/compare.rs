@@ -142,7 +142,7 @@ fn shown(a: &Answer) -> String {
 /// and a location; of code 4 an ability comes before, and a rule after, of one byte or two.
 fn types_shown(r: &Record, a: &Answer, known: &Known) -> Vec<(Ty, u8)> {
     let (mut rest, mut out) = (&a.payload[..], vec![]);
-    if matches!(r, Record::SD(..) | Record::RM(_) | Record::MJ(_)) {
+    if matches!(r, Record::SD(..) | Record::RM(_) | Record::MJ(_) | Record::KP(_)) {
         return out;
     }
     loop {
@@ -205,12 +205,25 @@ pub fn same_counts(lender: &Lender, counted: Option<&Counted>) -> Result<(), Str
     }
 }
 
+/// After KP (02, R-11): every word is that of a clearing, where rows are counted; no need and no mark of what stays sinks.
+pub fn after_clearing(lender: &Lender, listed: &[u16]) -> Result<(), String> {
+    let wanted = lender.before().cleared(listed);
+    lender.view().grown_from(lender.before(), |v| wanted.moved(v))?;
+    match !lender.calls.counts() || lender.lent() == wanted.lent {
+        true => Ok(()),
+        false => Err(format!("a clearing by 02 leaves another {}", wanted.lent.first_other(&lender.lent()))),
+    }
+}
+
 pub fn same_state(lender: &Lender, job: &Job, r: Option<&Record>) -> Result<(), String> {
     let view = lender.view();
     if let Err(rule) = lent::sound(view.words, view.params) {
         return Err(format!("left unsound: {}", rule));
     }
-    view.grown_from(lender.before())?;
+    match r {
+        Some(Record::KP(listed)) => after_clearing(lender, listed)?,
+        _ => view.grown_from(lender.before(), Some)?,
+    }
     if r.is_some_and(only_reads) && !lender.unchanged() {
         return Err(format!("a reading record changed {}", lender.first_change()));
     }
@@ -475,6 +488,7 @@ pub fn made(seed: u64, i: u64, records: usize, profile: Option<Profile>) -> Made
     match chance.below(100) {
         _ if profile.is_some() => gen::random(seed, i, some(&mut chance), profile, false),
         0 if chance.percent(20) => gen::deep(seed, i),
+        0 if chance.percent(25) => gen::functions(seed, i),
         0 => gen::limits(seed, i, false),
         1 if chance.percent(50) => gen::pairs_at_limits(seed, i),
         1 => gen::random(seed, i, 12 * records, None, false),
@@ -611,15 +625,21 @@ pub enum Alter {
     Link,
     /// JL of two variables tells the links of the left one's chain
     Left,
+    /// KP tells another new number of the last variable that stays
+    Moved,
+    /// KP drops the last mark
+    Unmarked,
+    /// KP leaves a place too many, a copy of the last
+    Copied,
     /// a line of a job
     Line,
 }
 
-pub const ALTERS: [Alter; 17] = {
+pub const ALTERS: [Alter; 20] = {
     use Alter::*;
     [
         Number, Payload, Binding, Mark, Need, Constraint, Reading, Count, Told, Spelled, Missing, Code, Pair, Kept,
-        Link, Left, Line,
+        Link, Left, Moved, Unmarked, Copied, Line,
     ]
 };
 
@@ -671,6 +691,13 @@ impl Altered<'_> {
             Alter::Code if number == 0 && record.starts_with(b"XP") && !Said::Ran.is_well(record, answer) => {
                 answer[answer.len() - 4] ^= 1
             }
+            Alter::Moved if number == 0 && record.starts_with(b"KP") => {
+                if let Some([.., new, _]) = answer.last_chunk_mut::<4>() {
+                    *new ^= 1
+                }
+            }
+            Alter::Unmarked if number == 0 && record.starts_with(b"KP") => lent::drop_mark(words),
+            Alter::Copied if number == 0 && record.starts_with(b"KP") => lent::copy_place(words),
             _ => (),
         }
         number

@@ -1,9 +1,9 @@
 //! A record by 01's and 02's rules on trees. What it takes: nodes, argument places, variables and constraints, and the 7 or
 //! 8 where a limit is met, which core.rs does not count. And what JN, SU and SV's joins answer and leave, with the needs of
 //! literals (02, R-7), which core.rs does not know: without needs they must be core.rs's. And how many links a join follows
-//! (02, R-9), summed at each merge. Uses no code of the engine's; not claimed to be independent of the definition.
+//! (02, R-9), summed at each merge. KP is a clearing of the words (`lent`). Uses no code of the engine's; not claimed to be independent of the definition.
 use crate::{
-    job::{put_pair, State, MAX_PAYLOAD},
+    job::{put_pair, put_stay, State, MAX_PAYLOAD},
     lent::{View, MAX_CONSTRAINTS, MAX_NODES, MAX_PLACES, MAX_STRUCTS, MAX_VARS},
     record::{Kind, Record, Ty, TypingCase},
 };
@@ -30,7 +30,7 @@ pub fn used(s: View) -> Used {
 }
 
 /// The answer's number as far as counting tells (14 is not seen), and the rows in use after it. Of JN, SU, JL and MJ, where it
-/// is 0 to 4, also the payload, of JL with its links.
+/// is 0 to 4, also the payload, of JL with its links; likewise of KP.
 #[derive(Debug, Clone, PartialEq, Eq)]
 pub struct Counted {
     pub number: u32,
@@ -467,8 +467,18 @@ fn shown(done: &Run<Ty>) -> Option<Vec<u8>> {
     }
 }
 
+/// KP (02, R-11), which takes nothing: what a clearing of the words leaves.
+fn cleared(s: View, listed: &[u16]) -> Counted {
+    let (left, mut payload) = (s.cleared(listed), vec![]);
+    put_stay(&left.stay, &mut payload);
+    Counted { number: 0, used: used(left.lent.view()), payload: Some(payload), pairs: vec![] }
+}
+
 /// A record on a sound state whose types are small enough to be trees.
 pub fn counted(s: View, r: &Record) -> Counted {
+    if let Record::KP(listed) = r {
+        return cleared(s, listed);
+    }
     let before = used(s);
     let mut sim = Sim::new(&s.state(), before);
     let (mut payload, mut pairs) = (None, vec![]);

@@ -2,13 +2,13 @@
 //! (`record`), from 01's rules for a sound state (`lent::sound`), and where the call goes on from core.rs.
 use crate::{
     calls::{answer_bytes, job_of, line_bytes, Calls, MIN_ANSWER},
-    compare::{self, agree, same_counts, same_state, Agreed},
+    compare::{self, after_clearing, agree, same_counts, same_state, Agreed},
     count::{counted, Counted},
     gen::{Chance, Profile},
     job::{self, answer_text, Job, Outcome},
     lender::Lender,
     lent::{fresh, place_of_word, sound, Lent, View, WORDS},
-    record::{hex, read_record, MAX_RECORD},
+    record::{hex, read_record, Record, MAX_RECORD},
 };
 use std::collections::BTreeMap;
 
@@ -82,11 +82,18 @@ pub fn lend(lender: &mut Lender, bytes: &[u8], room: usize, tally: &mut Tally) -
         };
     }
     if too_large(lender.view()) {
+        let read = read_record(bytes, &job_known(lender.view()));
         let answer = lender.record(bytes, room)?;
         tally.add(ALONE);
-        return if answer.number == 15 { Err("15 though sound".into()) } else { still_sound(lender) };
+        return match (answer.number, read) {
+            (15, _) => Err("15 though sound".into()),
+            (0, Ok((Record::KP(listed), _))) => after_clearing(lender, &listed),
+            _ => still_sound(lender),
+        };
     }
     let (outcome, job, counted) = expected(lender.view(), bytes, lender.calls.counts());
+    let keeps =
+        read_record(bytes, &job_known(lender.view())).ok().map(|(r, _)| r).filter(|r| matches!(r, Record::KP(_)));
     let answer = lender.record(bytes, room)?;
     if answer.number == 15 {
         return Err("15 though sound".into());
@@ -100,7 +107,7 @@ pub fn lend(lender: &mut Lender, bytes: &[u8], room: usize, tally: &mut Tally) -
         (_, Agreed::Silent) => tally.add(ALONE),
     }
     match agreed == Agreed::Same && answer.number <= 4 {
-        true => same_state(lender, &job, None).and_then(|_| same_counts(lender, counted.as_ref())),
+        true => same_state(lender, &job, keeps.as_ref()).and_then(|_| same_counts(lender, counted.as_ref())),
         false => still_sound(lender),
     }
 }
@@ -385,7 +392,7 @@ pub fn literals(calls: &dyn Calls, seed: u64, count: u64, tally: &mut Tally) -> 
             let mut lender = Lender::new(calls, &lent);
             let told = |e| format!("{}: {}: {}", m.name, k, e);
             lend(&mut lender, b"SV", MIN_ANSWER, tally).map_err(told)?;
-            lender.view().grown_from(lent.view()).map_err(told)?
+            lender.view().grown_from(lent.view(), Some).map_err(told)?
         }
     }
     Ok(())

@@ -12,6 +12,8 @@ const U128: u8 = 4;
 const BOOL: u8 = 6;
 /// the needs at which a wider integer type is wanted, and those before
 const NEEDS: [u16; 13] = [1, 7, 8, 9, 16, 17, 32, 33, 64, 65, 128, 129, 256];
+/// the most that KP lists
+const MAX_LISTED: usize = 255;
 const PARAM_IDS: [u32; 5] = [0, 1, 7, 8, 4_000_000_000];
 
 //---- chance --------------------------------------------------------------------------------------------
@@ -71,12 +73,14 @@ pub enum Profile {
     Abilities,
     /// before every second record stands MJ (02, R-8). Nor is this by chance
     Pairs,
+    /// before every third record stands KP (02, R-11). Nor is this by chance
+    Kept,
 }
 
 impl Profile {
     pub fn named(name: &str) -> Option<Profile> {
         use Profile::*;
-        let all = [All, Refs, Knots, Numbers, Lists, Structs, Fresh, Abilities, Pairs];
+        let all = [All, Refs, Knots, Numbers, Lists, Structs, Fresh, Abilities, Pairs, Kept];
         all.into_iter().find(|p| format!("{:?}", p).to_lowercase() == name)
     }
 }
@@ -136,6 +140,8 @@ pub struct Maker {
     many: Option<Chance>,
     /// for JL in the place of JN and UL in that of UF, likewise. None: in no place
     linked: Option<Chance>,
+    /// for KP between the other records, likewise. None: never, since core.rs clears nothing
+    keep: Option<Chance>,
     pub profile: Profile,
     marks: Marks,
     /// locations are 1, 2, 3 .., or for some jobs any number
@@ -167,6 +173,7 @@ impl Maker {
             expand: Chance(chance.0.rotate_left(16)),
             many: Some(Chance(chance.0.rotate_left(48))),
             linked: Some(Chance((!chance.0).rotate_left(16))),
+            keep: Some(Chance((!chance.0).rotate_left(32))),
             profile,
             marks: chance.weighted(&[(45, Marks::None), (40, Marks::Primitives), (15, Marks::Mixed)]),
             locs: 0,
@@ -186,7 +193,7 @@ impl Maker {
     /// with `cut`: no record whose answer core.rs alone does not give
     fn answered_by_core(&mut self, cut: bool) {
         if cut {
-            (self.twice, self.many, self.linked) = (None, None, None)
+            (self.twice, self.many, self.linked, self.keep) = (None, None, None, None)
         }
     }
 
@@ -517,6 +524,32 @@ impl Maker {
         })
     }
 
+    /// KP before the next record, or none: of no variable, of all, mostly of a few
+    pub fn keep(&mut self, vars: usize) -> Option<Record> {
+        let own = self.keep.clone()?;
+        let often = if self.profile == Profile::Kept { 33 } else { 4 };
+        self.vars = vars;
+        self.aside(own, |m| {
+            let wanted = m.chance.percent(often);
+            let n = m.chance.weighted(&[(2, 0), (3, 1), (4, 2), (4, 3), (3, 6), (2, MAX_LISTED)]);
+            let r = m.listed(n);
+            m.keep = Some(m.chance.clone());
+            wanted.then_some(r)
+        })
+    }
+
+    /// KP of n variables, some of them twice; of as many as it can list: of all. A job's first literal stays: from its needs alone
+    /// the driver knows that there are types that core.rs has not.
+    fn listed(&mut self, n: usize) -> Record {
+        let any = |m: &mut Maker| if let Kind::Var(v) = m.var() { v } else { unreachable!("a variable") };
+        let literal = self.literals.then_some(0);
+        Record::KP(match n {
+            _ if self.vars == 0 => vec![],
+            MAX_LISTED => (0..self.vars.min(n) as u16).rev().collect(),
+            _ => (0..n).map(|_| any(self)).chain(literal).collect(),
+        })
+    }
+
     fn case(&mut self) -> TypingCase {
         self.chance.one(&[TypingCase::Join, TypingCase::Subtype])
     }
@@ -617,11 +650,12 @@ impl Growing {
         !silent || self.cut
     }
 
-    /// records of the maker's, with XP and MJ between them
+    /// records of the maker's, with XP, MJ and KP between them
     fn grow(&mut self, m: &mut Maker, numbers: std::ops::Range<usize>) {
         for n in numbers {
             let known = self.job.known().clone();
-            let between = [m.expansion(known.vars, &known.params), m.many(known.vars, &known.params)];
+            let between =
+                [m.expansion(known.vars, &known.params), m.many(known.vars, &known.params), m.keep(known.vars)];
             if between.into_iter().flatten().any(|r| !self.add(&r)) {
                 break;
             }
@@ -809,6 +843,30 @@ pub fn deep(seed: u64, index: u64) -> Made {
     let mut g = Growing::new(format!("deep-{}-{}", seed, index), false);
     chains(&mut g, 124 + m.chance.below(7));
     g.add(&Record::SU(v(0), v(1)));
+    g.made
+}
+
+/// A job of several functions, cleared after each (02, R-11): together they take more variables, or more nodes, than there are.
+pub fn functions(seed: u64, index: u64) -> Made {
+    let mut m = Maker::new(Chance::new(seed ^ 0x6675_6e63, index));
+    let kind = ["variables", "nodes"][index as usize % 2];
+    let mut g = Growing::new(format!("functions-{}-{}-{}", seed, index, kind), false);
+    for _ in 0..4 {
+        match kind {
+            "variables" => g.add_all((0..400).map(Record::FV)),
+            _ => {
+                g.add_all((0..4).map(Record::FV));
+                g.add_all((0..350).map(|_| Record::JN(bare(Kind::Unit), bare(Kind::Unit))))
+            }
+        }
+        g.grow(&mut m, 10..16);
+        m.vars = g.job.known().vars;
+        let n = m.chance.below(4);
+        let kept = m.listed(n);
+        if !g.add(&kept) {
+            break;
+        }
+    }
     g.made
 }
 

@@ -11,6 +11,9 @@
 //!
 //! Of JL and UL (02, R-9) all but the last four bytes is core.rs's. UL's links are counted along its bindings; JL's by
 //! `count`, whose answer and state must be core.rs's.
+//!
+//! core.rs never clears, and gives no number again. KP (02, R-11) is the driver's own reach over core.rs's trees: what stays is put
+//! back into core.rs's map and list under new numbers, and its counter goes on behind them.
 use crate::{
     count::{joined, needs, settled, tail},
     diagnostics::{
@@ -35,7 +38,7 @@ use move_ir_types::location::*;
 use move_symbol_pool::Symbol;
 use std::{
     cell::RefCell,
-    collections::{BTreeMap, HashMap, HashSet},
+    collections::{BTreeMap, BTreeSet, HashMap, HashSet},
     fmt::Write,
     panic::{catch_unwind, AssertUnwindSafe},
     sync::Once,
@@ -82,10 +85,42 @@ pub struct Held {
 }
 
 impl State {
+    /// 02's R-11, over trees: what KP of these variables leaves, and the variables that stay, by rising number.
+    fn cleared(&self, listed: &[u16]) -> (State, Vec<u16>) {
+        let bound: BTreeMap<u16, &Ty> = self.bindings.iter().map(|(v, t)| (*v, t)).collect();
+        let (mut kept, mut open) = (BTreeSet::new(), listed.to_vec());
+        self.constraints.iter().for_each(|h| variables(&h.ty, &mut open));
+        while let Some(v) = open.pop() {
+            if kept.insert(v) {
+                bound.get(&v).into_iter().for_each(|t| variables(t, &mut open))
+            }
+        }
+        let stay: Vec<u16> = kept.into_iter().collect();
+        let to = |v: u16| stay.binary_search(&v).ok().map(|new| new as u16);
+        let moved = |t: &Ty| t.moved(&to).expect("a type that stays has its variables");
+        let after = State {
+            next_var: stay.len() as u64,
+            structs: self.structs,
+            bindings: self.bindings.iter().filter_map(|(v, t)| Some((to(*v)?, moved(t)))).collect(),
+            marks: self.marks.iter().filter_map(|(v, loc)| Some((to(*v)?, *loc))).collect(),
+            needs: self.needs.iter().filter_map(|(v, bits)| Some((to(*v)?, *bits))).collect(),
+            constraints: self.constraints.iter().map(|h| Held { ty: moved(&h.ty), ..h.clone() }).collect(),
+        };
+        (after, stay)
+    }
+
     fn has_wider(&self) -> bool {
         let bound = self.bindings.iter().map(|(_, t)| t);
         bound.chain(self.constraints.iter().map(|h| &h.ty)).any(is_wider)
     }
+}
+
+/// the variables in a type, added
+fn variables(t: &Ty, out: &mut Vec<u16>) {
+    if let Kind::Var(v) = t.kind {
+        out.push(v)
+    }
+    t.parts().iter().for_each(|p| variables(p, out))
 }
 
 //---- types in and out ------------------------------------------------------------------------------
@@ -566,6 +601,7 @@ impl Job {
                 None => return Err(Outcome::Refused(11, "a variable".into())),
             },
             Record::XP(t) => self.expand(type_in(t), &mut out)?,
+            Record::KP(listed) => self.keep(listed, &mut out),
             r => unimplemented!("{} in the driver", r.mark()),
         }
         Ok((0, out))
@@ -637,6 +673,17 @@ impl Job {
         assert!(core == (number, said.clone()), "driver: core.rs gives {:?}, and by 02's rules it is {}", core, number);
         assert!(left == after, "driver: core.rs leaves {}", state_text(&left));
         Ok((number, [said, tail(r, links)].concat()))
+    }
+
+    /// KP: the map, the list, the needs and the counter are those of what stays. Where a type that core.rs has not outlives all
+    /// needs, the rest is silent.
+    fn keep(&mut self, listed: &[u16], out: &mut Vec<u8>) {
+        let (after, stay) = self.state().cleared(listed);
+        self.hold(&after);
+        self.ctx.constraints = after.constraints.iter().map(unheld).collect();
+        Counter::set(after.next_var);
+        self.wider = after.has_wider() && after.needs.is_empty();
+        put_stay(&stay, out)
     }
 
     /// A record's outcome, all left as it was. It declares nothing and adds no constraint.
@@ -932,6 +979,14 @@ pub fn put_pair(number: u8, payload: &[u8], out: &mut Vec<u8>) {
     out.push(number);
     out.extend((payload.len() as u16).to_le_bytes());
     out.extend(payload)
+}
+
+/// KP's payload: old and new number of each variable that stays
+pub fn put_stay(stay: &[u16], out: &mut Vec<u8>) {
+    for (new, old) in stay.iter().enumerate() {
+        out.extend(old.to_le_bytes());
+        out.extend((new as u16).to_le_bytes())
+    }
 }
 
 //---- whole jobs ----------------------------------------------------------------------------------------

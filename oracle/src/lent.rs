@@ -176,14 +176,16 @@ impl View<'_> {
         std::iter::successors(Some(v), next)
     }
 
-    /// No variable of `before` loses its mark, and no need sinks, its own or its chain end's.
-    pub fn grown_from(&self, before: View) -> Result<(), String> {
-        let sunk = |v: usize| {
-            before.mark(v).is_some() && self.mark(v).is_none()
-                || self.need(v) < before.need(v)
-                || self.need(self.end(v)) < before.need(before.end(v))
+    /// No variable of `before` loses its mark, and no need sinks, its own or its chain end's. `moved`: where each is here, if it
+    /// is.
+    pub fn grown_from(&self, before: View, moved: impl Fn(usize) -> Option<usize>) -> Result<(), String> {
+        let sunk = |v: usize, here: usize| {
+            before.mark(v).is_some() && self.mark(here).is_none()
+                || self.need(here) < before.need(v)
+                || self.need(self.end(here)) < before.need(before.end(v))
         };
-        (0..before.vars()).find(|v| sunk(*v)).map_or(Ok(()), |v| Err(format!("V{}'s mark or need sinks", v)))
+        let found = (0..before.vars()).find(|v| moved(*v).is_some_and(|here| sunk(*v, here)));
+        found.map_or(Ok(()), |v| Err(format!("V{}'s mark or need sinks", v)))
     }
 
     /// In a job without SN each numeric variable's chain end is numeric, needs no less, and is open, or holds `!` or an
@@ -313,6 +315,108 @@ impl View<'_> {
     }
 }
 
+//---- 02, R-11: what KP leaves --------------------------------------------------------------------------------
+
+/// The state that KP leaves, and the variables that stay, by rising number: from there on they are 0, 1, 2 and so on.
+pub struct Cleared {
+    pub lent: Lent,
+    pub stay: Vec<u16>,
+}
+
+impl Cleared {
+    /// where a variable goes
+    pub fn moved(&self, v: usize) -> Option<usize> {
+        self.stay.binary_search(&(v as u16)).ok()
+    }
+}
+
+/// which nodes, places and variables are kept
+struct Kept {
+    nodes: Vec<bool>,
+    places: Vec<bool>,
+    vars: Vec<bool>,
+}
+
+/// For each number, and the one past them, how many kept ones are below it.
+fn slid(kept: &[bool]) -> Vec<u32> {
+    let mut below = vec![0];
+    below.extend(kept.iter().scan(0, |n, k| {
+        *n += *k as u32;
+        Some(*n)
+    }));
+    below
+}
+
+fn those(kept: &[bool]) -> impl Iterator<Item = usize> + '_ {
+    (0..kept.len()).filter(|i| kept[*i])
+}
+
+impl View<'_> {
+    /// The listed variables, the constraints' types, and what both reach: bindings, parts, variables. A node's places go with it.
+    fn kept(&self, listed: &[u16]) -> Kept {
+        let mut kept = Kept {
+            nodes: vec![false; self.nodes()],
+            places: vec![false; self.places()],
+            vars: vec![false; self.vars()],
+        };
+        let mut nodes: Vec<usize> = (0..self.constraints()).map(|i| self.constraint(i)[2] as usize).collect();
+        let mut vars: Vec<usize> = listed.iter().map(|v| *v as usize).collect();
+        while !(nodes.is_empty() && vars.is_empty()) {
+            for v in std::mem::take(&mut vars) {
+                if !std::mem::replace(&mut kept.vars[v], true) {
+                    nodes.extend(self.binding(v))
+                }
+            }
+            for n in std::mem::take(&mut nodes) {
+                if !std::mem::replace(&mut kept.nodes[n], true) {
+                    nodes.extend(self.parts(n));
+                    vars.extend(Some(self.node(n)).filter(|row| row[0] == 6).map(|row| row[2] as usize))
+                }
+            }
+        }
+        for n in those(&kept.nodes) {
+            if let [3..=5, _, _, _, first, many] = self.node(n) {
+                kept.places[first as usize..(first + many) as usize].fill(true)
+            }
+        }
+        kept
+    }
+
+    /// .. each under the number of kept ones that were below it; a place that is shared stays so, and gaps close. A node without
+    /// arguments has the number that its first place would have.
+    pub fn cleared(&self, listed: &[u16]) -> Cleared {
+        let kept = self.kept(listed);
+        let [nodes, places, vars] = [&kept.nodes, &kept.places, &kept.vars].map(|k| slid(k));
+        let mut lent = Lent { params: *self.params, ..fresh() };
+        for n in those(&kept.nodes) {
+            let [tag, loc, a, b, first, many] = self.node(n);
+            let row = match tag {
+                1 => [tag, loc, a, nodes[b as usize], first, many],
+                3..=5 => [tag, loc, a, b, places[first as usize], many],
+                6 => [tag, loc, vars[a as usize], b, first, many],
+                _ => [tag, loc, a, b, first, many],
+            };
+            lent.push(NODE, &row);
+        }
+        for p in those(&kept.places) {
+            lent.push(PLACE, &[nodes[self.place(p)]]);
+        }
+        for v in those(&kept.vars) {
+            let mut row = self.row(VAR, v).to_vec();
+            row[1] = self.binding(v).map_or(0, |n| nodes[n]);
+            lent.push(VAR, &row);
+        }
+        for i in 0..self.constraints() {
+            let [kind, loc, node, abilities] = self.constraint(i);
+            lent.push(CONSTRAINT, &[kind, loc, nodes[node as usize], abilities]);
+        }
+        for i in 0..self.structs() {
+            lent.push(STRUCT, self.row(STRUCT, i));
+        }
+        Cleared { lent, stay: those(&kept.vars).map(|v| v as u16).collect() }
+    }
+}
+
 //---- writing -------------------------------------------------------------------------------------------------
 
 impl Lent {
@@ -340,7 +444,11 @@ impl Lent {
     }
     /// a list of the eight places from `first` on, which other nodes may have too
     pub fn add_list(&mut self, first: usize) -> Option<usize> {
-        self.push(NODE, &[4, 0, 0, 8, first as u32, 8])
+        self.add_shared(0, 0, first, 8)
+    }
+    /// .. of `many` of them
+    pub fn add_shared(&mut self, loc: u32, mark: u32, first: usize, many: usize) -> Option<usize> {
+        self.push(NODE, &[4, loc, mark, many as u32, first as u32, many as u32])
     }
 
     pub fn add_type(&mut self, t: &Ty) -> Option<usize> {
@@ -384,6 +492,31 @@ impl Lent {
         let i = self.push(STRUCT, &[*abilities as u32, bytes.len() as u32])?;
         self.params[i][..bytes.len()].copy_from_slice(bytes);
         Some(i)
+    }
+}
+
+/// For calls that are to be found out: the last marked variable loses its mark.
+pub fn drop_mark(words: &mut [u32]) {
+    let row = |v: usize| START[VAR] + WIDTH[VAR] * v;
+    if let Some(v) = (0..words[VAR] as usize).rev().find(|v| words[row(*v) + 2] == 1) {
+        words[row(v) + 2..row(v) + 5].fill(0)
+    }
+}
+
+/// .. the last place stands there once more
+pub fn copy_place(words: &mut [u32]) {
+    let n = words[PLACE] as usize;
+    if (1..MAX_PLACES).contains(&n) {
+        words[START[PLACE] + n] = words[START[PLACE] + n - 1];
+        words[PLACE] += 1
+    }
+}
+
+impl Lent {
+    /// where another state first differs
+    pub fn first_other(&self, other: &Lent) -> String {
+        let word = (0..WORDS).find(|i| self.words[*i] != other.words[*i]);
+        word.map_or("parameter byte".into(), place_of_word)
     }
 }
 

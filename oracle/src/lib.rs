@@ -90,6 +90,7 @@ pub mod count;
 pub mod damage;
 pub mod gen;
 pub mod job;
+pub mod keep;
 pub mod lender;
 pub mod lent;
 pub mod list;

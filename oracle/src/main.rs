@@ -2,7 +2,7 @@
 use oracle::{
     bench,
     calls::{self, Calls},
-    compare, damage, gen, job, list, many, order, program, release, spelled, traps,
+    compare, damage, gen, job, keep, list, many, order, program, release, spelled, traps,
 };
 use std::{
     fs,
@@ -27,6 +27,7 @@ oracle compare SEED COUNT [RECORDS] [--alter=WHAT] [--profile=PROFILE]
                                                       the engine beside core.rs, on jobs from a seed
 oracle spelled SEED COUNT                             CN of COUNT pairs of jobs: equal bytes beside equal types
 oracle many                                           MJ at its edges
+oracle keep SEED COUNT                                KP at its edges, and on COUNT states that no job has
 oracle damage records|states|wild SEED COUNT           damaged records, damaged states
 oracle damage needs|literals SEED COUNT               every need on every variable; SV where needs stand anywhere
 oracle traps                                          types with more parts than nodes, deep and looped ones
@@ -211,6 +212,15 @@ fn run(args: Vec<String>) -> i32 {
                 return 1;
             }
         },
+        Some("keep") if words.len() == 3 => {
+            match keep::all(engine(flag("--mimic")), number(words.get(1)), number(words.get(2))) {
+                Ok(tried) => println!("{} calls, all as they must be", tried),
+                Err(what) => {
+                    println!("FAULT: {}", what);
+                    return 1;
+                }
+            }
+        }
         Some("bench") if words.get(1).map(String::as_str) == Some("once") => {
             let named = words.get(2).and_then(|w| bench::WORKS.into_iter().find(|n| n == w));
             let work = &bench::work(named.unwrap_or_else(|| fail(USAGE)));

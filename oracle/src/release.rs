@@ -52,7 +52,7 @@ const fn rows(codes: &'static [u8], records: fn(&Words) -> String) -> Fault {
 }
 
 /// every answer but 15, which no job from a fresh state has, and every code
-const FAULTS: [Fault; 42] = [
+const FAULTS: [Fault; 44] = [
     fault(1, |w| w.put("SU &T, &mut T")),
     fault(1, |w| w.put("SU (U, &vector<T>), (U, &mut vector<T>)")),
     fault(2, |w| w.put("JN vector<T>, vector<U>")),
@@ -71,6 +71,9 @@ const FAULTS: [Fault; 42] = [
     fault(5, |w| w.put("FV\nhex 4a4e060100")),
     fault(6, |w| w.put("UF V0")),
     fault(6, |w| w.put("UF vector<S0>")),
+    // a number that none has after a KP, and in one
+    fault(6, |w| w.put("FV\nFV\nKP V1\nUF V1")),
+    fault(6, |w| w.put("FV\nKP V0, V1")),
     fault(7, |w| w.put(&("FV\n".repeat(1024 - w.vars) + "NV"))),
     fault(7, |w| w.put(&("SD {drop} <{}>\n".repeat(256 - w.structs) + "SD {}"))),
     fault(7, |w| w.put(&("SV\n".to_string() + &"BC T\n".repeat(512) + "SC U"))),
@@ -176,7 +179,7 @@ fn grow(stream: &mut Vec<u8>, maker: &mut Maker, records: usize) -> usize {
         let between = maker.expansion(known.vars, &known.params);
         let many = maker.many(known.vars, &known.params);
         let r = maker.record(n, known.vars, &known.params);
-        for r in between.into_iter().chain(many).chain([r]) {
+        for r in between.into_iter().chain(many).chain([r]).chain(maker.keep(known.vars)) {
             if added < records && well(stream, &r) {
                 stream.extend(r.bytes());
                 added += 1

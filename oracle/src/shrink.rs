@@ -78,8 +78,10 @@ fn variables(r: &mut Record, each: &mut dyn FnMut(&mut u16)) {
             _ => (),
         }
     }
-    if let Record::SN(v, _) = r {
-        each(v)
+    match r {
+        Record::SN(v, _) => each(v),
+        Record::KP(listed) => listed.iter_mut().for_each(&mut *each),
+        _ => (),
     }
     types_of(r).into_iter().for_each(|t| go(t, each))
 }
@@ -191,6 +193,10 @@ fn lighter_records(r: &Record) -> Vec<Record> {
             out.extend((0..pairs.len()).map(|i| Record::MJ([&pairs[..i], &pairs[i + 1..]].concat())))
         }
         out.extend(pairs.iter().map(|(case, a, b)| case.record(a.clone(), b.clone())))
+    }
+    if let Record::KP(listed) = r {
+        out.extend((0..listed.len()).map(|i| Record::KP([&listed[..i], &listed[i + 1..]].concat())));
+        out.extend((0..listed.len()).map(|i| Record::KP([&listed[..i], &[0], &listed[i + 1..]].concat())))
     }
     let count = types_of(&mut r.clone()).len();
     for k in 0..count {

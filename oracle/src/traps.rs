@@ -5,8 +5,8 @@ use crate::{
     compare::pairs_shown,
     lender::{Answer, Lender},
     lent::{fresh, sound, Lent, MAX_NODES, MAX_VARS},
-    record::MAX_PAIRS,
-    text::assemble,
+    record::{read_record, Record, MAX_PAIRS},
+    text::{any_variable, assemble},
 };
 use std::{
     collections::{BTreeMap, BTreeSet, VecDeque},
@@ -237,6 +237,19 @@ fn chain() -> Lent {
     s
 }
 
+/// V0 is the last of as many lists as there can be, each of the eight types before it: all have places of others
+fn dense() -> Lent {
+    let mut s = fresh();
+    (0..8).for_each(|_| assert!(s.add_var().is_some()));
+    for k in 0..MAX_NODES {
+        let node = if k < 8 { s.add_node(6, 1, k as u32, 0, &[]) } else { s.add_list(k - 8) };
+        s.add_place(node.unwrap()).unwrap();
+    }
+    s.bind(0, MAX_NODES - 1);
+    s.bind(2, MAX_NODES / 2);
+    s
+}
+
 /// V0 is a tree of lists with 792 open variables as its leaves, V2 a list of eight lists, each of the eight types before it.
 /// A join binds each variable to one of the last of these lists, and looks for it in all that are before.
 fn crossed() -> Lent {
@@ -285,7 +298,7 @@ fn literals() -> Lent {
 
 //---- records ------------------------------------------------------------------------------------------------
 
-const RECORDS: [&str; 31] = [
+const RECORDS: [&str; 35] = [
     "UF V0",
     "UF (V0, V0)",
     "UL V0",
@@ -317,6 +330,10 @@ const RECORDS: [&str; 31] = [
     "BC V0",
     "SC V2",
     "SV",
+    "KP",
+    "KP V0",
+    "KP V2, V1, V0",
+    "KP V7, V3",
 ];
 
 /// Pairs that an MJ has as often as it can, and pairs that it has once, before those.
@@ -360,6 +377,7 @@ fn tried(calls: &(dyn Calls + Sync), state: &'static str, lent: &Lent, record: &
         seconds = took.min(seconds);
         assert_ne!(a.number, 15);
         assert_eq!(sound(&left.words, &left.params), Ok(()));
+        assert!(cleared(lent, &bytes).is_none_or(|wanted| wanted == left), "{}: {}", state, record);
         let ((number, log, left_by_job), stack) = on_a_thread(STACK, || painted(job));
         by_job = stack;
         assert_eq!((number, log), (0, line(&a).into_bytes()));
@@ -375,6 +393,14 @@ fn tried(calls: &(dyn Calls + Sync), state: &'static str, lent: &Lent, record: &
         pairs: pairs_shown(if bytes.starts_with(b"MJ") { &a.payload } else { &[] }).iter().map(|(n, _)| *n).collect(),
         seconds,
         stack: [by_record, by_job],
+    }
+}
+
+/// what KP leaves, by a clearing of the words
+fn cleared(lent: &Lent, bytes: &[u8]) -> Option<Lent> {
+    match read_record(bytes, &any_variable()) {
+        Ok((Record::KP(listed), _)) => Some(lent.view().cleared(&listed).lent),
+        _ => None,
     }
 }
 
@@ -492,6 +518,7 @@ pub fn run(calls: &(dyn Calls + Sync)) -> Vec<Line> {
         ("right", leaning(far_right)),
         ("marked", marked()),
         ("leans on", leaning(marked_ladder)),
+        ("dense", dense()),
         ("crossed", crossed()),
         ("numeric", numeric()),
         ("literals", literals()),

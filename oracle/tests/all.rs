@@ -141,6 +141,42 @@ fn links() {
     }
 }
 
+/// 02's R-11, the worked values: of each job the last answers, and what stays in core.rs's map and list
+#[test]
+fn what_is_kept() {
+    for (job, wanted, state) in [
+        (
+            "FV @1\nFV @2\nFV @3\nNV @4\nJN V2@5, vector<V3@6>@7\nJN V1@8, u8@9\nKP V2",
+            &["0 0200000003000100"][..],
+            "next V2, S0; bindings [V0 = vector<V1@6>@7]; numeric [V1 @4]; constraints []",
+        ),
+        (
+            "FV @1\nFV @2\nFV @3\nJN V1@4, vector<V2@6>@5\nBC @7 (V1@9,)@8\nKP",
+            &["0 0100000002000100"],
+            "next V2, S0; bindings [V0 = vector<V1@6>@5]; numeric []; constraints [base @7 (V0@9,)@8]",
+        ),
+        (
+            "FV @1\nJN V0@2, u8@3\nKP\nFV @4\nUF V0@5",
+            &["0", "0 06040000000000", "0 0705000000"],
+            "next V1, S0; bindings []; numeric []; constraints []",
+        ),
+        // what is bound to one that stays goes, a circle stays whole; SN's mark and a need stay
+        (
+            "FV@1\nFV@2\nFV@3\nNL@4 9\nJN V0@5, vector<V1@6>@7\nJN V1@8, vector<V2@9>@10\nJN V2@11, vector<V1@12>@13\nSN V2 @14\nKP V3, V1, V3",
+            &["0 0100000002000100 0300 0200"],
+            "next V3, S0; bindings [V0 = vector<V1@9>@10, V1 = vector<V0@12>@13]; numeric [V1 @14, V2 @4 9 bits]; constraints []",
+        ),
+        ("FV@1\nKP V1", &["6"], "next V1, S0; bindings []; numeric []; constraints []"),
+    ] {
+        let told = job::log(&assemble(job, false).unwrap(), false, true);
+        let answers: Vec<_> = told.lines().filter(|l| !l.starts_with('#')).map(|l| l.split_once(' ').unwrap().1).collect();
+        let wanted: Vec<_> =
+            wanted.iter().map(|w| w.split_once(' ').map_or(w.to_string(), |(n, p)| format!("{} {}", n, p.replace(' ', "")))).collect();
+        assert!(answers.ends_with(&wanted.iter().map(String::as_str).collect::<Vec<_>>()), "{}: {}", job, told);
+        assert_eq!(told.lines().last(), Some(&*format!("# {}", state)), "{}", job)
+    }
+}
+
 /// 02's R-1: core.rs's failures of code 4 with ability, type and rule; 9 and 16 by the driver, in list order
 #[test]
 fn abilities_on_the_log() {
@@ -325,8 +361,8 @@ fn every_mark_and_answer_is_made() {
     let counts = list::counts(&entries);
     let marks: BTreeSet<_> = counts.keys().map(|(m, _)| m.as_str()).collect();
     let all = [
-        "BC", "CN", "FV", "IN", "JL", "JN", "MJ", "NC", "NV", "RD", "SC", "SD", "SN", "SU", "SV", "TS", "UF", "UL",
-        "XP",
+        "BC", "CN", "FV", "IN", "JL", "JN", "KP", "MJ", "NC", "NV", "RD", "SC", "SD", "SN", "SU", "SV", "TS", "UF",
+        "UL", "XP",
     ];
     assert_eq!(marks.into_iter().collect::<Vec<_>>(), all);
     for n in [0, 2, 3, 4] {

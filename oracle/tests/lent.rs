@@ -7,9 +7,10 @@ use oracle::{
     count::counted,
     damage,
     gen::{self, Chance, Profile},
-    job::{is_wider, put_pair, with_stack, Job, Outcome},
+    job::{is_wider, put_pair, put_stay, with_stack, Job, Outcome},
+    keep,
     lender::Lender,
-    lent::{encode, fresh, sound, Lent, Params, View},
+    lent::{drop_mark, encode, fresh, sound, Lent, Params, View},
     many,
     record::{read_record, Record},
     spelled,
@@ -256,8 +257,9 @@ fn altered_answers_are_found_and_shrunk() {
     }
     with_stack(|| {
         for calls in all() {
-            for alter in
-                ALTERS.into_iter().filter(|a| calls.counts() || !matches!(a, Alter::Count | Alter::Told | Alter::Kept))
+            for alter in ALTERS
+                .into_iter()
+                .filter(|a| calls.counts() || !matches!(a, Alter::Count | Alter::Told | Alter::Kept | Alter::Copied))
             {
                 let altered = Altered { calls, alter };
                 let profile = (alter == Alter::Need).then_some(Profile::Numbers);
@@ -271,6 +273,147 @@ fn altered_answers_are_found_and_shrunk() {
                 let small = text.lines().count() <= 3 && small.stream.len() <= 42;
                 assert!(small || alter == Alter::Left, "{:?}: {}", alter, text)
             }
+        }
+    })
+}
+
+//---- clearing (02, R-11) -------------------------------------------------------------------------------------------
+
+#[test]
+fn clearings_beside_core_rs() {
+    if cfg!(feature = "hashmap") {
+        return;
+    }
+    with_stack(|| {
+        for calls in all() {
+            assert!(keep::all(calls, 39, 200).unwrap() > 4000);
+            let mut tally = Tally::default();
+            let found = compare::many(calls, 39, 100, 25, Some(Profile::Kept), &mut tally);
+            assert!(found.is_none(), "{}", compare::report(&found.unwrap()));
+            assert!(tally.records[&("KP", 0)] > 500, "{}", tally.text())
+        }
+    })
+}
+
+/// a stream's records but those of a mark
+fn without(stream: &[u8], mark: &str) -> Vec<u8> {
+    let (mut known, mut rest, mut out) = (any_variable(), stream, vec![]);
+    while let Ok((r, n)) = read_record(rest, &known) {
+        if let Record::SD(_, params) = &r {
+            known.params.push(params.len())
+        }
+        out.extend(if r.mark() == mark { &[] } else { &rest[..n] });
+        rest = &rest[n..]
+    }
+    out
+}
+
+/// how many records of a stream are answered with 7
+fn full(calls: &dyn Calls, stream: &[u8]) -> usize {
+    let mut lender = Lender::new(calls, &fresh());
+    let (_, _, log) = lender.job(stream, false, 1 << 22, 0).unwrap();
+    String::from_utf8(log).unwrap().lines().filter(|l| l.ends_with(" 7")).count()
+}
+
+/// Functions that are cleared after each have space; the same without KP have none.
+#[test]
+fn what_is_cleared_is_used_again() {
+    if cfg!(feature = "hashmap") {
+        return;
+    }
+    with_stack(|| {
+        for calls in all() {
+            // core.rs in the engine's place knows of variables alone
+            for i in (0..6).filter(|i| calls.counts() || i % 2 == 0) {
+                let m = gen::functions(40, i);
+                let mut tally = Tally::default();
+                let found = compare::stream(calls, &fresh(), &m.stream, &mut Chance::new(40, i), &mut tally);
+                assert!(found.is_ok(), "{}: {}", m.name, found.unwrap_err().what);
+                assert!(tally.records[&("KP", 0)] >= 4, "{}", m.name);
+                assert!(full(calls, &m.stream) == 0 && full(calls, &without(&m.stream, "KP")) > 0, "{}", m.name)
+            }
+        }
+    })
+}
+
+/// KP by the clearing of the words, with one fault or none; all else by core.rs.
+enum Clearing {
+    Right,
+    NumberKept,
+    MarkDropped,
+    PlacesCopied,
+}
+
+/// each node with places of its own
+fn with_own_places(lent: &Lent) -> Option<Lent> {
+    let mut out = lent.clone();
+    out.words[..2].fill(0);
+    out.words[5..16_389].fill(0);
+    for n in 0..lent.view().nodes() {
+        let [tag, loc, a, b, ..] = lent.view().node(n);
+        let parts = if (3..=5).contains(&tag) { lent.view().parts(n) } else { vec![] };
+        out.add_node(tag, loc, a, b, &parts)?;
+    }
+    Some(out)
+}
+
+impl Clearing {
+    fn keep(&self, w: &mut [u32], p: &Params, record: &[u8]) -> Option<Vec<u8>> {
+        sound(w, p).ok()?;
+        let read = read_record(record, job_of(View { words: w, params: p }).known());
+        let (Record::KP(listed), n) = read.ok()? else { return None };
+        if n < record.len() {
+            return None;
+        }
+        let (mut left, mut out) = (View { words: w, params: p }.cleared(&listed), vec![]);
+        put_stay(&left.stay, &mut out);
+        match self {
+            Clearing::NumberKept => {
+                if let Some([a, b, c, d]) = out.last_chunk_mut() {
+                    (*c, *d) = (*a, *b)
+                }
+            }
+            Clearing::MarkDropped => drop_mark(&mut left.lent.words),
+            Clearing::PlacesCopied => left.lent = with_own_places(&left.lent).unwrap_or(left.lent),
+            _ => (),
+        }
+        w.copy_from_slice(&left.lent.words);
+        Some(out)
+    }
+}
+
+impl Calls for Clearing {
+    fn record(&self, w: &mut [u32], p: &mut Params, r: &[u8], a: &mut [u8], length: &mut u32) -> u32 {
+        match self.keep(w, p, r) {
+            Some(shown) => {
+                a[..shown.len()].copy_from_slice(&shown);
+                *length = shown.len() as u32;
+                0
+            }
+            None => Mimic.record(w, p, r, a, length),
+        }
+    }
+    fn split(&self, w: &mut [u32], p: &mut Params, stream: &[u8], rest: &mut usize) {
+        Mimic.split(w, p, stream, rest)
+    }
+    fn job(&self, w: &mut [u32], p: &mut Params, s: &[u8], more: bool, log: &mut [u8], lines: &mut Lines) -> u32 {
+        // a job of one record
+        let (mut shown, mut length) = (vec![0; MIN_ANSWER], 0);
+        let number = self.record(w, p, s, &mut shown, &mut length);
+        let digits: String = shown[..length as usize].iter().map(|b| format!("{:02x}", b)).collect();
+        let line = format!("0 {}{}{}\n", number, if digits.is_empty() { "" } else { " " }, digits);
+        log[..line.len()].copy_from_slice(line.as_bytes());
+        *lines = Lines { written: line.len(), read: s.len(), index: lines.index + 1, ended: !more };
+        0
+    }
+}
+
+#[test]
+fn faulty_clearings_are_found() {
+    with_stack(|| {
+        assert_eq!(keep::states(&Clearing::Right, 41, 60).err(), None);
+        for (i, faulty) in [Clearing::NumberKept, Clearing::MarkDropped, Clearing::PlacesCopied].iter().enumerate() {
+            assert!(keep::states(faulty, 41, 60).is_err(), "fault {}", i)
         }
     })
 }
@@ -529,8 +672,9 @@ fn read_as_wider(lent: &Lent, record: &[u8]) -> bool {
 
 /// An MJ whose pairs do not know of one another.
 fn from_the_start(w: &mut [u32], p: &mut Params, record: &[u8], a: &mut [u8], length: &mut u32) -> Option<u32> {
-    let read = read_record(record, job_of(View { words: w, params: p }).known()).ok();
-    let (Record::MJ(pairs), n) = read.filter(|_| sound(w, p).is_ok())? else { return None };
+    sound(w, p).ok()?;
+    let read = read_record(record, job_of(View { words: w, params: p }).known());
+    let (Record::MJ(pairs), n) = read.ok()? else { return None };
     if n < record.len() || a.len() < answer_bytes(record) {
         return None;
     }

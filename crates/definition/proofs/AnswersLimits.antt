@@ -1,6 +1,6 @@
 -- 01's limits, computed in states written down: each line is false under an edit of must-fail/ (docs/CLAIMS.md, 'Edits of the definition'). The other side of each
 -- count is in crates/test_replay, EdgeLimits. Assumes nothing.
-use Rattle.std.proofs.Common.{◌≡◌, ℕ, zero, suc, false, List, [], ◌∷◌, replicate, refl}
+use Rattle.std.proofs.Common.{◌≡◌, ℕ, zero, suc, false, List, [], ◌∷◌, ◌++◌, replicate, refl}
 use Rattle.std.specs.Prelude.{None, Some}
 use Rattle.definition.specs.Types.{UnitType, Ref, Node, unbound, BaseTypeConstraint, State, fresh, refused, full, max_vars, ◌>>=◌}
 use Rattle.definition.specs.Store.{next_tvar}
@@ -33,6 +33,11 @@ node_2049_is_7 = refl
 pub argument_4097_is_7 : answered (filled 1 4096 0 0 0) (UF (vector 1 (unit 2))) 4096 ≡ (7, [])
 unfolding answered
 argument_4097_is_7 = refl
+
+-- MJ's types, from left to right over all pairs: the last finds no node, and nothing is done
+pub many_nodes_2049_is_7 : answered (filled 2045 0 0 0 0) (text "MJ" ++ (2 ∷ 0 ∷ unit 1 ++ unit 2 ++ (0 ∷ unit 3 ++ unit 4))) 61485 ≡ (7, [])
+unfolding answered
+many_nodes_2049_is_7 = refl
 
 -- the run alone: the test of so many chains, which a whole call begins with, is dear to compute (it is in EdgeLimits)
 pub variable_1025_is_7 : run (filled 0 0 1024 0 0) (record_of.FV 1) ≡ refused full

@@ -5,7 +5,7 @@ use Rattle.definition.specs.Write.{Bytes, u32}
 use Rattle.definition.specs.Step.{Answer, answer_with, answer_within, behind, max_payload}
 use Rattle.definition.specs.Locations.{loc_field, u32_field, tag_fields, tag_widths, pair_fields, many_fields, row, mark_fields, after_mark, told, shown_fields, expand, blank, blank_before, blank_payload}
 use Rattle.definition.proofs.Computed.{answered, answers_of}
-use Rattle.definition.proofs.Spelling.{hex, text, any, u8, bool, vector, list, var, FV, JN}
+use Rattle.definition.proofs.Spelling.{hex, text, any, imm, u8, bool, vector, list, var, FV, JN}
 use Rattle.definition.proofs.AnswersJoin.{after}
 
 abbrev pub UL : Bytes → Bytes
@@ -45,6 +45,20 @@ every_argument = refl
 pub inner_merge : after (FV 0 ∷ FV 0 ∷ FV 0 ∷ FV 0 ∷ JN (var 0 2) (var 0 3) ∷ JN (var 0 0) (vector 0 (var 0 2)) ∷ JN (var 0 1) (vector 0 (var 0 3)) ∷ []) (JL (var 0 0) (var 0 1)) ≡ (0, var 0 5 ++ hex "02000000")
 unfolding after
 inner_merge = refl
+
+-- a merge under references
+pub under_a_reference : after (FV 0 ∷ FV 0 ∷ JN (var 0 0) (var 0 1) ∷ []) (JL (imm 0 (var 0 0)) (imm 0 (var 0 1))) ≡ (0, imm 0 (var 0 3) ++ hex "02000000")
+unfolding after
+under_a_reference = refl
+
+-- a bound variable on either side meets a type: its own chain, one link; the fresh one that takes the type has none
+pub bound_on_the_left : after (FV 0 ∷ FV 0 ∷ JN (var 0 0) (var 0 1) ∷ []) (JL (var 0 0) (bool 0)) ≡ (0, var 0 4 ++ hex "01000000")
+unfolding after
+bound_on_the_left = refl
+
+pub bound_on_the_right : after (FV 0 ∷ FV 0 ∷ JN (var 0 0) (var 0 1) ∷ []) (JL (bool 0) (var 0 0)) ≡ (0, var 0 4 ++ hex "01000000")
+unfolding after
+bound_on_the_right = refl
 
 -- an error after a merge: what was followed so far
 pub up_to_the_error : after (FV 0 ∷ FV 0 ∷ JN (var 0 0) (var 0 1) ∷ []) (JL (list 0 (var 0 0 ∷ u8 1 ∷ var 0 0 ∷ [])) (list 0 (var 0 1 ∷ bool 2 ∷ var 0 1 ∷ []))) ≡ (2, u8 1 ++ bool 2 ++ hex "02000000")

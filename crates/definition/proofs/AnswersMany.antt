@@ -3,7 +3,7 @@ use Rattle.std.proofs.Common.{◌≡◌, ℕ, List, [], ◌∷◌, ◌++◌, len
 use Rattle.definition.specs.Types.{fresh, ok}
 use Rattle.definition.specs.Write.{Bytes}
 use Rattle.definition.specs.Store.{taken}
-use Rattle.definition.specs.Step.{many as many_pairs, max_many, most_of, answer_with, behind, answer_within}
+use Rattle.definition.specs.Step.{many as many_pairs, max_many, max_payload, most_of, answer_with, behind, answer_within, answer, refusal, number_of_refusal}
 use Rattle.definition.specs.Demand.{run_calls, two_types_calls, if_reached, pair_events, nothing_done, many_events, one_event, events_by, lent_events, events, trace, point, at}
 use Rattle.definition.specs.Locations.{Part, counts_of, loc_field, u32_field, tag_fields, tag_widths, pair_fields, many_fields, row, pair, many, expand, blank}
 use Rattle.definition.proofs.Computed.{answered, left_by, log_of}
@@ -50,6 +50,19 @@ disagree = join (hex "03 05000000 17 02") (u8 6)
 pub refused_pair_goes_on : after (FV 1 ∷ []) (MJ (join (var 2 0) (u8 3) ∷ disagree ∷ join (var 9 0) (u8 10) ∷ [])) ≡ (0, hex "000700 06020000000000  0a0000  000700 060a0000000200")
 unfolding after
 refused_pair_goes_on = refl
+
+pub refused_pair_takes_no_more : counts (FV 1 ∷ MJ (join (var 2 0) (u8 3) ∷ disagree ∷ join (var 9 0) (u8 10) ∷ []) ∷ []) ≡ 9 ∷ 0 ∷ 3 ∷ 0 ∷ 0 ∷ []
+unfolding left_by counts_of
+refused_pair_takes_no_more = refl
+
+-- each pair has its own 4,096 bytes
+pub pair_of_4096 : (answer fresh (ok (fresh, replicate 4096 0))).number ≡ 0
+unfolding answer answer_within answer_with behind max_payload
+pair_of_4096 = refl
+
+pub pair_of_4097_is_14 : (answer fresh (ok (fresh, replicate 4097 0))).number ≡ 14
+unfolding answer answer_within answer_with behind max_payload refusal number_of_refusal
+pair_of_4097_is_14 = refl
 
 -- what it took in its run is given back, what reading took is not: JN of it alone would leave nothing
 pub refused_pair_keeps_what_was_read : counts (MJ (disagree ∷ []) ∷ []) ≡ 2 ∷ 0 ∷ 0 ∷ 0 ∷ 0 ∷ []

@@ -6,6 +6,7 @@ pub mod AnswersReading
 pub mod AnswersRecords
 pub mod AnswersMany
 pub mod AnswersLinks
+pub mod AnswersKeep
 pub mod AnswersReferences
 pub mod AnswersSolve
 pub mod AnswersSolveAbilities

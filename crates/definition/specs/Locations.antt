@@ -114,6 +114,7 @@ mark_fields =
     (77, 74, many ∷ [], pair ∷ [], 0) ∷
     (85, 76, type ∷ [], types ∷ [], 4) ∷
     (74, 76, type ∷ type ∷ [], types ∷ [], 4) ∷
+    (75, 80, [], [], 0) ∷
     []
 
 unfoldable pub after_mark : List (ℕ × ℕ × List Part × List Part × ℕ) → ℕ → ℕ → List Part × List Part × ℕ

@@ -132,6 +132,22 @@ static void pairs(void) {
     expect("a refused pair keeps what was read", state[0] == 2);
 }
 
+/* KP: of two variables the second stays and has the first one's number; the declaration stays */
+static void kept(void) {
+    static const uint8_t kp[] = {'K', 'P', 1, 1, 0}, shown[] = {1, 0, 0, 0};
+    static const uint8_t gone[] = {'U', 'F', 6, 9, 0, 0, 0, 1, 0};
+    uint32_t length = 9;
+    fresh();
+    record(sd, sizeof sd, sizeof answer, &length);
+    record(fv, sizeof fv, sizeof answer, &length);
+    record(fv, sizeof fv, sizeof answer, &length);
+    memset(answer, 170, sizeof answer);
+    expect("KP is 0", record(kp, sizeof kp, sizeof answer, &length) == PONGIWARU_RAN && PONGIWARU_WELL(kp, PONGIWARU_RAN, answer, length));
+    expect("the old number and the new one", length == sizeof shown && memcmp(answer, shown, sizeof shown) == 0 && untouched(answer, sizeof shown, sizeof answer));
+    expect("one variable and the struct stay", state[2] == 1 && state[4] == 1 && params[0][0] == 17);
+    expect("nobody has the old number", record(gone, sizeof gone, sizeof answer, &length) == PONGIWARU_UNKNOWN_NAME);
+}
+
 static void refused(void) {
     uint32_t length = 9;
     fresh();
@@ -306,6 +322,7 @@ int main(void) {
     abilities();
     expanded();
     pairs();
+    kept();
     refused();
     splits();
     jobs();

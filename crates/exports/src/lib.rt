@@ -12,9 +12,9 @@ use engine::{Lines, Unsound};
 // The header's PONGIWARU_VERSION, of this archive. Refused (must-fail/): the version before (version_before).
 #[unsafe(no_mangle)]
 pub extern "C" fn pongiwaru_version() -> u32
-    ensures { result ≡ 10 }
+    ensures { result ≡ 11 }
 {
-    10
+    11
 }
 
 // The header's PONGIWARU_LAYOUT, of this archive.

@@ -66,12 +66,13 @@ pub data Run : Type 0 where
   looks : Looks → Run
   adds : Adds → Run
 
--- SD, SV, XP and MJ have calls of their own
+-- SD, SV, XP, MJ and KP have calls of their own
 pub data Noded : Type 0 where
   declare : ℕ → List ℕ → Noded
   solve : Noded
   expand : ℕ → Noded
   many : List (TypingCase × ℕ × ℕ) → Noded
+  keep : List ℕ → Noded
   run : Run → Noded
 
 -- the types of a record, from left to right, and what is run of their nodes
@@ -84,6 +85,7 @@ pub data Shape : Type 0 where
   both : Tree → Tree → (ℕ → ℕ → Run) → Shape
   after_pairs : List (ℕ × Tree) → Tree → (List (ℕ × ℕ) → ℕ → Run) → Shape
   all_pairs : List (TypingCase × Tree × Tree) → Shape
+  keeps : List ℕ → Shape
 
 -- what is run of each mark of a form
 
@@ -140,10 +142,12 @@ shape (d.XP t) = expands t
 shape (d.MJ pairs) = all_pairs pairs
 shape (d.UL t) = look_shape UL t
 shape (d.JL t1 t2) = two_shape JL t1 t2
+shape (d.KP listed) = keeps listed
 
 abbrev pub place : Shape → State → Result (State × Noded)
 place (declares abilities params) s = ok (s, declare abilities params)
 place solves s = ok (s, solve)
+place (keeps listed) s = ok (s, keep listed)
 place (expands t) s = do
   (s, ty) ← build t s
   ok (s, expand ty)
@@ -203,6 +207,7 @@ noded names (q.SD abilities ps) = declare abilities.0 (params_of ps)
 noded names q.SV = solve
 noded names (q.XP t) = expand t
 noded names (q.MJ n) = many (many_at names 0 n)
+noded names (q.KP n) = keep (take n names)
 noded names (q.Bind x) = run (binds (bind_of x))
 noded names (q.Look x) = run (looks (look_of x))
 noded names (q.Add x) = run (adds (add_of x))
@@ -230,6 +235,7 @@ WhatIn names n (q.SD abilities ps) = ps.many ≤ 8
 WhatIn names n q.SV = Unit {0}
 WhatIn names n (q.XP t) = t < n
 WhatIn names n (q.MJ k) = (k ≤ 15) × ManyIn n names k
+WhatIn names n (q.KP k) = k ≤ 255
 WhatIn names n (q.Bind x) = BindIn n x
 WhatIn names n (q.Look x) = LookIn n x
 WhatIn names n (q.Add x) = Unit {0}

@@ -75,6 +75,8 @@ pub enum What {
     XP(u32),
     // So many pairs, which stand in the list of names: of each its case, 0 or 1 as the record has it, and its two nodes.
     MJ(u32),
+    // So many variables, which stand in the list of names.
+    KP(u32),
 }
 
 // What was read, or none if there was no space for its types (7); and the place after it, beside both, since a record without space has one too.

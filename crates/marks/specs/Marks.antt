@@ -5,7 +5,7 @@ use Rattle.definition.specs.Store.{taken}
 use Rattle.definition.specs.Reader.{Reader, give, refuse, read_one, read_two, read_three, name_below, read_u32}
 use Rattle.definition.specs.Trees.{Tree, read_type}
 use Rattle.definition.specs.Record as d
-use Rattle.definition.specs.Record.{Record, read_SD, read_TS, read_MJ, read_kind, read_bits}
+use Rattle.definition.specs.Record.{Record, read_SD, read_TS, read_MJ, read_KP, read_kind, read_bits}
 use Rattle.marks.specs.declared.RecordMark.{RecordMark}
 use Rattle.marks.specs.declared.RecordMark.TheVariants as m
 use Rattle.marks.specs.declared.LocMark.{LocMark}
@@ -50,6 +50,7 @@ reader_of (Some m.RM) s = read_one d.RM (read_type s)
 reader_of (Some m.XP) s = read_one d.XP (read_type s)
 reader_of (Some m.NL) s = read_two d.NL read_u32 read_bits
 reader_of (Some m.MJ) s = read_MJ s
+reader_of (Some m.KP) s = read_KP s
 reader_of (Some (m.Loc x)) s = read_one (loc_record x) read_u32
 reader_of (Some (m.Look x)) s = read_one (look_record x) (read_type s)
 reader_of (Some (m.Two x)) s = read_two (two_record x) (read_type s) (read_type s)

@@ -54,6 +54,7 @@ pub enum RecordMark {
     XP,
     NL,
     MJ,
+    KP,
     Loc(LocMark),
     Look(LookMark),
     Two(TwoMark),
@@ -64,7 +65,7 @@ pub enum RecordMark {
 #[derive(Clone, Copy)]
 struct Letters(u8, u8, RecordMark);
 
-const MARKS: [Letters; 21] = [
+const MARKS: [Letters; 22] = [
     Letters(b'S', b'D', RecordMark::SD),
     Letters(b'F', b'V', RecordMark::Loc(LocMark::FV)),
     Letters(b'N', b'V', RecordMark::Loc(LocMark::NV)),
@@ -86,6 +87,7 @@ const MARKS: [Letters; 21] = [
     Letters(b'M', b'J', RecordMark::MJ),
     Letters(b'U', b'L', RecordMark::Look(LookMark::UL)),
     Letters(b'J', b'L', RecordMark::Two(TwoMark::JL)),
+    Letters(b'K', b'P', RecordMark::KP),
 ];
 
 // The mark that these letters are, if any. A loop over the definition's rows in their order: each step of its proof is a row that is passed.

@@ -2,4 +2,5 @@
 pub mod Onward
 pub mod Pairs
 pub mod Many
+pub mod Names
 pub mod Whole

@@ -12,7 +12,7 @@ use Rattle.definition.specs.Store.{taken}
 use Rattle.definition.specs.Write.{Bytes}
 use Rattle.definition.specs.Reader.{Read, got, not_read, Reader, give, refuse, go_on, ◌>>=◌, byte, read_u16, read_u32, byte_if, byte_to, read_bool, name_below, times, read_one, read_two, read_three}
 use Rattle.definition.specs.Trees.{Tree, unit_tree, anything_tree, error_tree, ref_tree, param_tree, var_tree, is_set, is_name, read_trees, mark_of, read_mark, mark_fits, arity, under_ref, read_apply, by_tag, read_nested, read_type}
-use Rattle.definition.specs.Record.{Record, read_kind, read_bits, read_case, is_many, read_SD, read_pair, read_TS, read_case_pair, read_MJ, by_mark, fields_of, read_fields}
+use Rattle.definition.specs.Record.{Record, read_kind, read_bits, read_case, is_many, read_SD, read_pair, read_TS, read_case_pair, read_MJ, read_KP, by_mark, fields_of, read_fields}
 
 -- what is left is l without some bytes in front
 pub data Onward (l : Bytes) {A : Type 0} : Read A → Type 0 where
@@ -195,6 +195,10 @@ module _ (s : State) where
   unfolding read_MJ
   goes_MJ = goes_then (byte_if is_many) _ (goes_byte_if is_many) (λ n. goes_then (times n (read_case_pair s)) _ (goes_times n (read_case_pair s) goes_case_pair) (λ ps. goes_give _))
 
+  goes_KP : Goes (read_KP s)
+  unfolding read_KP
+  goes_KP = goes_then byte _ goes_byte (λ n. goes_then (times n (name_below (taken s))) _ (goes_times n (name_below (taken s)) (goes_name (taken s))) (λ listed. goes_give _))
+
   abbrev AllMarks : List (ℕ × ℕ × Reader Record) → Type 0
   AllMarks [] = Unit {0}
   AllMarks (e ∷ es) = Goes e.2 × AllMarks es
@@ -234,7 +238,7 @@ module _ (s : State) where
                             goes_two _ read_u32 (read_type s) goes_u32 goes_type,
                             (
                               goes_give _,
-                              (goes_one _ (read_type s) goes_type, (goes_one _ (read_type s) goes_type, (goes_one _ (read_type s) goes_type, (goes_two _ read_u32 read_bits goes_u32 goes_bits, (goes_MJ, (goes_one _ (read_type s) goes_type, (goes_two _ (read_type s) (read_type s) goes_type goes_type, tt))))))),
+                              (goes_one _ (read_type s) goes_type, (goes_one _ (read_type s) goes_type, (goes_one _ (read_type s) goes_type, (goes_two _ read_u32 read_bits goes_u32 goes_bits, (goes_MJ, (goes_one _ (read_type s) goes_type, (goes_two _ (read_type s) (read_type s) goes_type goes_type, (goes_KP, tt)))))))),
                             ),
                           ),
                         ),

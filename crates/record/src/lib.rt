@@ -2,10 +2,12 @@
 #![tactic(auto)]
 
 ghost use Rattle.std.specs.Prelude.{◌≡◌, List, ℕ, ◌≤◌, length};
-ghost use Rattle.definition.specs.Reader.{give, go_on, times};
+ghost use Rattle.definition.specs.Reader.{give, go_on, times, name_below};
+ghost use Rattle.definition.specs.Store.{taken};
 ghost use Rattle.definition.specs.Trees.{read_type};
-ghost use Rattle.definition.specs.Record.{TS, MJ, read_fields, read_pair, read_TS, read_case_pair, read_MJ};
+ghost use Rattle.definition.specs.Record.{TS, MJ, KP, read_fields, read_pair, read_TS, read_case_pair, read_MJ, read_KP};
 ghost use Rattle.table.specs.Did.{tables};
+ghost use Rattle.table.specs.declared.state.State.{State as Table};
 ghost use Rattle.cursor.specs.Words.{Within};
 ghost use Rattle.heads.specs.Fields.{Arities};
 ghost use Rattle.marks.specs.Marks.{reader_of};
@@ -115,6 +117,37 @@ fn read_many(
     }
 }
 
+// ---- variables by number
+
+// They are put into the list.
+// Refused: all in the first place (one_place_for_all).
+fn read_names(
+    r: &mut Reader,
+    known: u32,
+    names: &mut [u16],
+    many: u8,
+) -> Result<Option<What>, Refusal>
+    requires { (256 ≤ length names.old) × (many ≤ 255) }
+    ensures is { (st : Table) → FieldsAre names.new st known (λ s. go_on (times many (name_below (taken s)) r.old.left.now) (λ listed. give (KP listed))) st r.new.left.now result }
+    ensures within { Within r.old.left.now r.new.left.now }
+{
+    for i in 0..usize::from(many) {
+        let v = r.name_below(known)?;
+        names[i] = v;
+    }
+    Ok(Some(What::KP(u32::from(many))))
+}
+
+// How many there are, and these.
+fn read_keep(r: &mut Reader, known: u32, names: &mut [u16]) -> Result<Option<What>, Refusal>
+    requires { 256 ≤ length names.old }
+    ensures is { (st : Table) → FieldsAre names.new st known (λ s. read_KP s r.old.left.now) st r.new.left.now result }
+    ensures within { Within r.old.left.now r.new.left.now }
+{
+    let many = r.u8()?;
+    read_names(r, known, names, many)
+}
+
 // ---- the whole record
 
 // The fields of a mark: one arm for each form of marks.
@@ -142,6 +175,7 @@ fn fields_of(
         RecordMark::XP => read_xp(st, r, known),
         RecordMark::NL => read_nl(r),
         RecordMark::MJ => read_many(st, r, known, names),
+        RecordMark::KP => read_keep(r, known, names),
         RecordMark::Loc(m) => read_loc(r, m),
         RecordMark::Look(m) => read_look(st, r, known, m),
         RecordMark::Two(m) => read_two(st, r, known, m),

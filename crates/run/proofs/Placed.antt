@@ -7,6 +7,7 @@ use Rattle.definition.specs.Trees.{Tree}
 use Rattle.definition.specs.Build.{build, build_pairs, build_many}
 use Rattle.definition.specs.Constraints.{solve_constraints}
 use Rattle.definition.specs.Join.{TypingCase}
+use Rattle.definition.specs.Keep.{reach, cleared, survivors}
 use Rattle.definition.specs.Record as d
 use Rattle.definition.specs.Record.{Record}
 use Rattle.definition.specs.Step.{constrain, two_types, run_pairs}
@@ -15,7 +16,7 @@ use Rattle.theorems.specs.ReadySpelled.{spelled}
 use Rattle.theorems.proofs.DemandOrder.{All}
 use Rattle.theorems.proofs.SoundRanges.{StructIn}
 use Rattle.theorems.proofs.SoundRead.{TreeIn, RecordIn}
-use Rattle.fields.specs.Noded.{Run, Noded, expand, many, run, Shape, declares, solves, expands, none, one, both, after_pairs, all_pairs, shape, place, place_record}
+use Rattle.fields.specs.Noded.{Run, Noded, expand, many, run, Shape, declares, solves, expands, none, one, both, after_pairs, all_pairs, keeps, shape, place, place_record}
 use Rattle.run.specs.Runs.{join_in, two_run, unfold_run, ready_run, tparams_run, instantiate_run, tvar_run, marked_run, set_num_run, constraint_run, needs_run, declare_run}
 use Rattle.run.specs.Dispatch.{expand_run, run_of, noded_run}
 
@@ -30,6 +31,7 @@ run_shape (one t f) s = build t s >>= (λ p. run_of (f p.1) p.0 s)
 run_shape (both t u f) s = build t s >>= (λ p. build u p.0 >>= (λ q. run_of (f p.1 q.1) q.0 s))
 run_shape (after_pairs ps t f) s = build_pairs ps s >>= (λ p. build t p.0 >>= (λ q. run_of (f p.1 q.1) q.0 s))
 run_shape (all_pairs ps) s = build_many ps s >>= (λ p. ok (run_pairs p.0 p.1))
+run_shape (keeps listed) s = ok (cleared s listed, survivors (reach s listed).vars)
 
 -- what was read well
 abbrev pub ShapeIn : State → Shape → Type 0
@@ -41,6 +43,7 @@ ShapeIn s (one t f) = TreeIn s t
 ShapeIn s (both t u f) = TreeIn s t × TreeIn s u
 ShapeIn s (after_pairs ps t f) = All (λ (p : ℕ × Tree). TreeIn s p.1) ps × TreeIn s t
 ShapeIn s (all_pairs ps) = All (λ (p : TypingCase × Tree × Tree). TreeIn s p.1 × TreeIn s p.2) ps
+ShapeIn s (keeps listed) = Unit {0}
 
 -- the definition's run is the shape's, and what was read well is of a good shape
 by_record : (s : State) (x : Record) → (definition.run s x ≡ run_shape (shape x) s) × (RecordIn s x → ShapeIn s (shape x))
@@ -66,6 +69,7 @@ by_record s (d.XP t) = (refl, λ g. g)
 by_record s (d.MJ pairs) = (refl, λ g. g)
 by_record s (d.UL t) = (refl, λ g. g)
 by_record s (d.JL t1 t2) = (refl, λ g. g)
+by_record s (d.KP listed) = (refl, λ g. tt)
 
 pub shape_in : (s : State) (x : Record) → RecordIn s x → ShapeIn s (shape x)
 shape_in s x g = (by_record s x).1 g
@@ -100,6 +104,7 @@ module _ (s : State) where
   placed_is (both t u f) = more (build t s) u f
   placed_is (after_pairs ps t f) = more (build_pairs ps s) t f
   placed_is (all_pairs ps) = last (build_many ps s) many
+  placed_is (keeps listed) = refl
 
 pub run_placed : (s : State) (x : Record) → definition.run s x ≡ (place_record x s >>= (λ (s', n). noded_run n s' s))
 unfolding place_record

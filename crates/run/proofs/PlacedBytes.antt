@@ -15,7 +15,7 @@ use Rattle.table.specs.declared.state.State.{State as Table}
 use Rattle.writer.specs.Bytes.{AllBytes}
 use Rattle.answer.specs.Ran.{Settles}
 use Rattle.answer.specs.declared.Ran.{Ran}
-use Rattle.fields.specs.Noded.{unfolded, unfolded_links, ready, tparams, Run, binds, looks, adds, Noded, run, Shape, declares, solves, expands, none, one, both, after_pairs, all_pairs, shape, place, place_record}
+use Rattle.fields.specs.Noded.{unfolded, unfolded_links, ready, tparams, Run, binds, looks, adds, Noded, run, Shape, declares, solves, expands, none, one, both, after_pairs, all_pairs, keeps, shape, place, place_record}
 use Rattle.table.specs.Known.{Known}
 use Rattle.run.proofs.Bytes.{Leaves, step_bytes, record_bytes, ready_leaves, subst_leaves, unfold_leaves}
 use Rattle.run.specs.Dispatch.{noded_run, step_of, kept_of, RanAs}
@@ -43,6 +43,7 @@ module _ (b : State) where
     place_leaves (one t f) g = then _ (tree t g) (λ p j. e_ok (λ y. j))
     place_leaves (both t u f) g = last u (λ a c. run (f a c)) (tree t g.0) g.1
     place_leaves (after_pairs pairs t f) g = last t (λ a c. run (f a c)) (pairs_run (Unit {0}) b true pairs (λ y. g.0) b (λ y. i)) g.1
+    place_leaves (keeps listed) g = e_ok (λ y. i)
     place_leaves (all_pairs pairs) g = then _ (many_run (Unit {0}) b true pairs (λ y. g) b (λ y. i)) (λ p j. e_ok (λ y. j))
 
     pub placed_in : (x : Record) → RecordIn b x → (s : State) (n : Noded) → place_record x b ≡ ok (s, n) → Ranges b s

@@ -9,10 +9,11 @@ use Rattle.definition.specs.Join.{Join}
 use Rattle.definition.specs.Instantiate as i
 use Rattle.definition.specs.Constraints.{solve_constraints}
 use Rattle.definition.specs.Expand.{expand_type}
+use Rattle.definition.specs.Keep.{reach, cleared, survivors}
 use Rattle.definition.specs.Step.{run_pairs}
 use Rattle.table.specs.State.{outcome, pushed_constraint}
 use Rattle.table.specs.declared.state.State.{State}
-use Rattle.fields.specs.Noded.{set_num, two, joined_links, instantiate, unfolded, unfolded_links, ready, tparams, tvar, num_tvar, literal, constrain, tell, Run, binds, looks, adds, Noded, declare, solve, expand, many, run}
+use Rattle.fields.specs.Noded.{set_num, two, joined_links, instantiate, unfolded, unfolded_links, ready, tparams, tvar, num_tvar, literal, constrain, tell, Run, binds, looks, adds, Noded, declare, solve, expand, many, keep, run}
 use Rattle.answer.specs.declared.Ran.{Ran}
 use Rattle.run.specs.Runs.{join_in, two_run, unfold_run, ready_run, subst_in, tparams_run, instantiate_run, tvar_run, marked_in, marked_run, numeric, needing, set_num_in, set_num_run, constraint_run, needs_run, declare_run, join_tail, unfold_tail, Runs}
 
@@ -43,6 +44,7 @@ noded_run (declare abilities params) s before = declare_run abilities params s b
 noded_run solve s before = solve_constraints s
 noded_run (expand t) s before = expand_run t s before
 noded_run (many pairs) s before = ok (run_pairs s pairs)
+noded_run (keep listed) s before = ok (cleared s listed, survivors (reach s listed).vars)
 noded_run (run r) s before = run_of r s before
 
 -- the number and the state that the run comes by, before the payload

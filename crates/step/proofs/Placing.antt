@@ -16,8 +16,8 @@ use Rattle.definition.specs.Record as d
 use Rattle.definition.specs.Record.{Record}
 use Rattle.theorems.specs.ReadySpelled.{Spelling, Located, Canonical, spelled_record}
 use Rattle.theorems.proofs.DemandTracks.{never}
-use Rattle.theorems.proofs.DemandEveryDepth.{ByApart, as_other, as_many, as_links_of_one, as_links_of_two, by_apart}
-use Rattle.fields.specs.Noded.{set_num, two, joined_links, instantiate, unfolded, unfolded_links, ready, tparams, constrain, Run, binds, looks, adds, Noded, declare, solve, expand, many, run, Shape, declares, solves, expands, none, one, both, after_pairs, all_pairs, shape, place, place_record}
+use Rattle.theorems.proofs.DemandEveryDepth.{ByApart, as_other, as_many, as_links_of_one, as_links_of_two, as_keeps, by_apart}
+use Rattle.fields.specs.Noded.{set_num, two, joined_links, instantiate, unfolded, unfolded_links, ready, tparams, constrain, Run, binds, looks, adds, Noded, declare, solve, expand, many, keep, run, Shape, declares, solves, expands, none, one, both, after_pairs, all_pairs, keeps, shape, place, place_record}
 use Rattle.run.specs.Runs.{join_tail, unfold_tail}
 use Rattle.run.specs.Dispatch.{tail_of}
 
@@ -27,6 +27,7 @@ own (declare a ps) = 1
 own solve = 1
 own (expand t) = 0
 own (many ps) = 0
+own (keep listed) = 0
 own (run r) = 0
 
 -- whether it is MJ's
@@ -35,14 +36,16 @@ is_many (declare a ps) = 0
 is_many solve = 0
 is_many (expand t) = 0
 is_many (many ps) = 1
+is_many (keep listed) = 0
 is_many (run r) = 0
 
--- whether it is RD's, CN's, XP's or MJ's, which the record's trees tell
+-- whether it is RD's, CN's, XP's, MJ's or KP's, which the record tells
 abbrev by_trees : Noded → ℕ
 by_trees (declare a ps) = 0
 by_trees solve = 0
 by_trees (expand t) = 1
 by_trees (many ps) = 1
+by_trees (keep listed) = 1
 by_trees (run (binds b)) = 0
 by_trees (run (looks (unfolded t))) = 0
 by_trees (run (looks (unfolded_links t))) = 0
@@ -56,6 +59,7 @@ counts (declare a ps) = 0
 counts solve = 0
 counts (expand t) = 0
 counts (many ps) = 0
+counts (keep listed) = 0
 counts (run (binds (set_num v loc))) = 0
 counts (run (binds (two case lhs rhs))) = 0
 counts (run (binds (joined_links lhs rhs))) = 1
@@ -72,6 +76,7 @@ tail_after (declare a ps) s = []
 tail_after solve s = []
 tail_after (expand t) s = []
 tail_after (many ps) s = []
+tail_after (keep listed) s = []
 tail_after (run r) s = tail_of r s
 
 abbrev whose : Noded → Shape
@@ -79,6 +84,7 @@ whose (declare a ps) = declares a ps
 whose solve = solves
 whose (expand t) = solves
 whose (many ps) = solves
+whose (keep listed) = solves
 whose (run r) = none r
 
 -- of a record whose run is told by no mark, placing it is told by none
@@ -118,6 +124,7 @@ module _ (s' : State) (n : Noded) where
   own_placed (both t u f) s l e = not_told own _ (more own (build t s) u f (λ a b. refl)) e l
   own_placed (after_pairs ps t f) s l e = not_told own _ (more own (build_pairs ps s) t f (λ a b. refl)) e l
   own_placed (all_pairs ps) s l e = not_told own _ (last own (build_many ps s) many (λ a. refl)) e l
+  own_placed (keeps listed) s l e = not_told own _ refl e l
 
 pub placed_SD : (x : Record) (s s' : State) (a : ℕ) (ps : List ℕ) → place_record x s ≡ ok (s', declare a ps) → (shape x ≡ declares a ps) × (s' ≡ s)
 unfolding place_record
@@ -144,6 +151,7 @@ pub data PlacedTree (s s' : State) (x : Record) : Noded → Type 0 where
   placed_spelled : {how : Spelling} {ty : ℕ} → OfTree s s' (spelled_record how) ty x → PlacedTree s s' x (run (looks (ready how ty)))
   placed_expanded : {ty : ℕ} → OfTree s s' d.XP ty x → PlacedTree s s' x (expand ty)
   placed_pairs : {qs : List (TypingCase × ℕ × ℕ)} → OfTrees s s' qs x → PlacedTree s s' x (many qs)
+  placed_kept : {listed : List ℕ} → x ≡ d.KP listed → s' ≡ s → PlacedTree s s' x (keep listed)
 
 module _ (s s' : State) (n : Noded) where
   abbrev Placed : Result (State × Noded) → Type 0
@@ -185,6 +193,7 @@ module _ (s s' : State) (n : Noded) where
     placed_tree (d.MJ ps) e = let (qs, b, q) = built (build_many ps s) many e in rw q (placed_pairs (record { trees = ps; is = refl; placed = b }))
     placed_tree (d.UL t) e = not_by_trees _ (last by_trees (build t s) (λ u. run (looks (unfolded_links u))) (λ a. refl)) e
     placed_tree (d.JL t1 t2) e = not_by_trees _ (more by_trees (build t1 s) t2 _ (λ a b. refl)) e
+    placed_tree (d.KP listed) e = let q = parts s' n s (keep listed) e in rw q.0 (placed_kept refl q.1)
 
   -- a record that is answered in 4,096 bytes
   pub placed_most : is_many n ≡ 0 → (x : Record) → Placed (place_record x s) → most_of (apart x) ≡ max_payload
@@ -192,9 +201,10 @@ module _ (s s' : State) (n : Noded) where
   placed_most l x e = go (by_apart x) e
     where
       go : {y : Record} {a : Apart} → ByApart y a → Placed (place_record y s) → most_of a ≡ max_payload
-      go as_other e = refl
+      go (as_other f) e = refl
       go as_links_of_one e = refl
       go as_links_of_two e = refl
+      go as_keeps e = refl
       go (as_many {ps = ps}) e = let (qs, b, q) = built (build_many ps s) many e in absurd (omega (arith, l, ap is_many q))
 
   -- what stands behind what a record shows is told by what it is placed as
@@ -204,6 +214,7 @@ module _ (s s' : State) (n : Noded) where
   untold solve h = refl
   untold (expand t) h = refl
   untold (many ps) h = refl
+  untold (keep listed) h = refl
   untold (run (binds (set_num v loc))) h = refl
   untold (run (binds (two case lhs rhs))) h = refl
   untold (run (binds (joined_links lhs rhs))) h = never (omega (arith, h))
@@ -258,3 +269,4 @@ module _ (s s' : State) (n : Noded) where
   placed_tail (d.MJ ps) e = no_count _ (last counts (build_many ps s) many (λ a. refl)) e
   placed_tail (d.UL t) e = counted_one (build t s) e
   placed_tail (d.JL t1 t2) e = counted_two t2 (build t1 s) e
+  placed_tail (d.KP listed) e = no_count _ refl e

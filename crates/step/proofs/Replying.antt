@@ -4,7 +4,8 @@ use mathlib.Core.Bool.{Bool, true, false}
 use mathlib.Core.List.{List, [], ◌++◌}
 use Prim.Native.Nat.{ℕ, ◌≤◌, ◌<◌}
 use native.Mathlib.Omega.{arith}
-use lib.ListN.{length, take, drop, length-take}
+use lib.ListN.{length, get_or, take, drop, length-take}
+use lib.Seq.{get_or-take}
 use Rattle.std.specs.Prelude.{if◌then◌else◌, Option, Ok, Err}
 use Rattle.std.specs.Result.{result_ok}
 use Rattle.std.specs.Prelude as core
@@ -15,6 +16,7 @@ use Rattle.definition.specs.Write.{Bytes}
 use Rattle.definition.specs.Trees.{Tree, arity}
 use Rattle.definition.specs.Build.{build}
 use Rattle.definition.specs.Expand.{Expanded, expand_type}
+use Rattle.definition.specs.Keep.{reach, cleared, survivors}
 use Rattle.definition.specs.Record as record_of
 use Rattle.definition.specs.Record.{Record}
 use Rattle.definition.specs.Sound.{sound}
@@ -30,6 +32,9 @@ use Rattle.theorems.proofs.SoundFacts.{facts}
 use Rattle.theorems.proofs.SoundRead.{Fine, FineRecord}
 use Rattle.theorems.proofs.ReadyTold.{Fits, record_spells}
 use Rattle.theorems.proofs.ManyPairs.{many_replies}
+use Rattle.theorems.proofs.TotalFinite.{all_at}
+use Rattle.theorems.proofs.KeepLists.{mem_at}
+use Rattle.theorems.proofs.KeepRanges.{KP_answers}
 use Rattle.theorems.proofs.SoundRanges.{Ranges, StructIn}
 use Rattle.theorems.proofs.SoundKept.{ranges_of}
 use Rattle.table.specs.State.{outcome, done, more, view, seen, Grown, FoundIn, Declares}
@@ -43,6 +48,9 @@ use Rattle.table.specs.declared.state.Stop.TheVariants.{Failed, Refused}
 use Rattle.answer.proofs.Growing.{grown_on}
 use Rattle.table.proofs.Pushed.{count_seen, args_seen, taken_seen}
 use Rattle.snapshot.specs.Snap.{Saved}
+use Rattle.snapshot.specs.Noted.{Noted}
+use Rattle.table.specs.Touched.{Untouched}
+use Rattle.table.specs.declared.Touched.{Touched}
 use Rattle.many.specs.Turns.{InRange, ManyAnswered}
 use Rattle.snapshot.specs.Back.{GrownFrom}
 use Rattle.snapshot.specs.declared.before.Before.{Before}
@@ -51,7 +59,7 @@ use Rattle.sound.proofs.Lays.{lent_declares}
 use Rattle.reader.proofs.Loop.{declares_kept}
 use Rattle.heads.specs.Fields.{Arities}
 use Rattle.definition.specs.Join.{TypingCase}
-use Rattle.fields.specs.Noded.{place_record, ready, looks, Run, Noded, declare, solve, expand, many, many_at, run, Shape}
+use Rattle.fields.specs.Noded.{place_record, ready, looks, Run, Noded, declare, solve, expand, many, many_at, keep, run, Shape}
 use Rattle.writer.specs.Bytes.{AllBytes}
 use Rattle.canonical.specs.Named.{Numbered, AllNumbered}
 use Rattle.answer.specs.Ran.{ran, Tells, Settles, Still, answered, refused_by, told_by, spelled_by}
@@ -61,6 +69,7 @@ use Rattle.payload.specs.declared.Answer.{Answer}
 use Rattle.run.specs.Runs.{Declared, with_row}
 use Rattle.run.proofs.Bytes.{in_words, declare_bytes}
 use Rattle.payload.specs.Payload.{tail_bytes}
+use Rattle.payload.proofs.Payload.{wrote_payload, wrote_rest}
 use Rattle.run.specs.Dispatch.{noded_run, step_of, tail_of, RanAs}
 use Rattle.run.proofs.Placed.{ShapeIn, shape_in, run_placed}
 use Rattle.run.proofs.PlacedBytes as noded
@@ -71,9 +80,10 @@ use Rattle.fields.specs.declared.What.{What}
 use Rattle.fields.specs.declared.What.TheVariants as q
 use Rattle.step.specs.Trusted.{held, Stands, wants}
 use Rattle.verdict.specs.Verdict.{row_for, padded}
-use Rattle.step.specs.Replies.{Replied, Begun}
+use Rattle.keep.specs.Keeps.{AsSound}
+use Rattle.step.specs.Replies.{Replied, Begun, KeptBy}
 use Rattle.step.proofs.Rows.{rows_of, rows_seen, held_known, known_rows, row_in, row_kept, arities_kept}
-use Rattle.step.proofs.Placing.{is_many, placed_SD, placed_SV, OfTree, OfTrees, placed_spelled, placed_expanded, placed_pairs, placed_tree, placed_most, placed_tail, tail_after}
+use Rattle.step.proofs.Placing.{is_many, placed_SD, placed_SV, OfTree, OfTrees, placed_spelled, placed_expanded, placed_pairs, placed_kept, placed_tree, placed_most, placed_tail, tail_after}
 use Rattle.step.proofs.Standing.{Leaves, leaves_ok, place_leaves, unkept_leaves}
 use Rattle.step.proofs.Keeping.{sound_arities, saved_still}
 
@@ -427,11 +437,57 @@ module _ {w₀ : List ℕ} {entry : Used} {rows : List ℕ} {params : List (List
       ∙ many_replies (s₀ b) from_pairs.trees few_trees (seen_in s (ds b)) (many_at names 0 n) from_pairs.placed
       ∙ rw (e, a.number) refl))
 
+-- ---- KP
+
+module _ {w₀ : List ℕ} {entry : Used} {rows : List ℕ} {params : List (List ℕ)} {s : Table} {x : Record} (names : List ℕ) (n : ℕ) (b : Begun w₀ entry rows params s x (keep (take n names))) where
+  from_names : (x ≡ record_of.KP (take n names)) × (seen_in s (ds b) ≡ s₀ b)
+  from_names = elim (placed_tree _ _ (keep (take n names)) (omega arith) x b.placed) [ placed_kept e q ↦ (e, q) ]
+
+  fine_names : FineRecord (arity (s₀ b)) (taken (s₀ b)) (record_of.KP (take n names))
+  fine_names = subst (λ (y : Record). FineRecord (arity (s₀ b)) (taken (s₀ b)) y) from_names.0 b.names
+
+  taken_here : taken (s₀ b) ≡ s.used.vars
+  taken_here = sym (ap (λ (y : State). taken y) from_names.1) ∙ taken_seen s.words.now s.used (ds b)
+
+  -- what answer_kept asks
+  pub kept_asks : n ≤ 255 → 256 ≤ length names → (n ≤ length names) × ((k : ℕ) → k < n → get_or names k 0 < s.used.vars)
+  kept_asks few long = (
+    omega (arith, few, long),
+    λ k h.
+        let m = mem_at (take n names) k (omega (arith, length-take n names, few, long, h)) in
+        let l = all_at (λ v. v < taken (s₀ b)) (take n names) fine_names (get_or (take n names) k 0) m in
+        let e = get_or-take n names k 0 h in
+        omega (arith, l, e, taken_here),
+  )
+
+  pub kept_sound : AsSound s
+  kept_sound = record { structs = ds b; is_sound = ap sound from_names.1 ∙ b.stands.is_sound }
+
+  pub reply_kept : {t : Table} {buf buf' : List ℕ} {r : Answer} → KeptBy s t (take n names) buf buf' r → Replied (most_of (apart x)) buf t params buf' r (reply (held w₀ entry params) x)
+  unfolding held max_payload
+  reply_kept {t} {buf} {buf'} {r} k =
+      let w = k.keeps.wrote (ds b) in
+      let e : reply (s₀ b) x ≡ record { number = r.number; payload = take r.len buf'; state = seen_in t (ds b) } =
+      ap (λ (y : Record). reply (s₀ b) y) from_names.0 ∙ KP_answers (s₀ b) b.stands.is_sound (take n names)
+      ∙ (λ i. record {
+        number = sym k.number i;
+        payload = (ap (λ (y : State). survivors (reach y (take n names)).vars) (sym from_names.1) ∙ sym (wrote_payload buf _ buf' r.len w)) i;
+        state = (ap (λ (y : State). cleared y (take n names)) (sym from_names.1) ∙ sym (k.keeps.clears.is (ds b))) i;
+      })
+      in
+      subst (λ (m : ℕ). Replied m buf t params buf' r (reply (s₀ b) x)) (sym (placed_most _ _ (keep (take n names)) refl x b.placed))
+      (replied_with 4096 (ds b) (declares_kept s.words.now s.used t.words.now t.used (ds b) k.keeps.clears.structs (then_declares b)) params (stands_arities b.stands) (stands_rows b.stands) buf k.keeps.few (wrote_rest buf _ buf' r.len w) _ e)
+
+-- any row may have been touched
+pub kept_noted : {s t : Table} {listed buf buf' : List ℕ} {r : Answer} → KeptBy s t listed buf buf' r → (rows : List ℕ) → Noted t rows
+kept_noted k rows v p q f = absurd (subst (λ (y : Touched). Untouched y v) k.keeps.clears.touched f)
+
 pub some_room : (w : What) {m : ℕ} → wants w ≤ m → 4096 ≤ m
 some_room (q.SD abilities ps) l = l
 some_room q.SV l = l
 some_room (q.XP t) l = l
 some_room (q.MJ n) l = omega arith
+some_room (q.KP n) l = l
 some_room (q.Bind x) l = l
 some_room (q.Look x) l = l
 some_room (q.Add x) l = l

@@ -22,7 +22,7 @@ use Rattle.table.specs.State.{outcome}
 use Rattle.table.specs.declared.state.Stop.{Stop}
 use Rattle.table.specs.declared.state.Stop.TheVariants.{Failed, Refused}
 use Rattle.fields.specs.Noded.{unfolded, unfolded_links, ready, tparams, Run, binds, looks, adds}
-use Rattle.fields.specs.Noded.{Shape, declares, solves, expands, none, one, both, after_pairs, all_pairs, shape, place, place_record}
+use Rattle.fields.specs.Noded.{Shape, declares, solves, expands, none, one, both, after_pairs, all_pairs, keeps, shape, place, place_record}
 use Rattle.answer.specs.declared.Ran.{Ran}
 use Rattle.answer.proofs.Calls.{kept_never}
 use Rattle.run.specs.Runs.{subst_in}
@@ -109,6 +109,7 @@ module _ {P : List Cell → Type 0} where
   shape_leaves (one t f) s p = then_leaves _ (build_leaves t s p) (λ s a p. l_ok p)
   shape_leaves (both t u f) s p = then_leaves _ (build_leaves t s p) (λ s a p. then_leaves _ (build_leaves u s p) (λ s b p. l_ok p))
   shape_leaves (after_pairs ps t f) s p = then_leaves _ (pairs_leave ps s p) (λ s a p. then_leaves _ (build_leaves t s p) (λ s b p. l_ok p))
+  shape_leaves (keeps listed) s p = l_ok p
   shape_leaves (all_pairs ps) s p = then_leaves _ (many_leave ps s p) (λ s a p. l_ok p)
 
   pub place_leaves : (x : Record) (s : State) → P s.vars → Leaves P (place_record x s)

@@ -264,6 +264,7 @@ module _ (s : Table) {params : List (List ℕ)} (stream : Bytes) (at : ℕ) (st 
             enough q.SV h = omega (arith, l, least)
             enough (q.XP t) h = omega (arith, l, least)
             enough (q.MJ k) h = omega (arith, l, most, many_most at_node.what _ _ _ h)
+            enough (q.KP k) h = omega (arith, l, least)
             enough (q.Bind x) h = omega (arith, l, least)
             enough (q.Look x) h = omega (arith, l, least)
             enough (q.Add x) h = omega (arith, l, least)

@@ -16,6 +16,7 @@ use Rattle.snapshot.specs.Snap.{Since}
 use Rattle.snapshot.specs.Noted.{Noted}
 use Rattle.fields.specs.Noded.{Noded, place_record}
 use Rattle.payload.specs.declared.Answer.{Answer}
+use Rattle.keep.specs.Keeps.{Keeps}
 use Rattle.step.specs.Trusted.{held, held_by, Stands}
 
 -- the answer a is r: the payload, of at most `most` bytes, stands in front of the buffer, and its state is what words and bytes hold, the bytes being just its declarations'
@@ -45,3 +46,8 @@ pub record Ends (w₀ : List ℕ) (entry : Used) (rows : List ℕ) (params : Lis
   pub name : t.words.ghost_name ≡ s.words.ghost_name
   pub noted : Noted t rows'
   pub is : (x : Record) → Begun w₀ entry rows params s x n → Replied (most_of (apart x)) buf t params' buf' r (reply (held w₀ entry params) x)
+
+-- s became t by KP of these, and r is 0: the pairs stand in front of the buffer
+pub record KeptBy (s t : State) (listed buf buf' : List ℕ) (r : Answer) : Type 0 where
+  pub keeps : Keeps s t listed buf buf' r.len
+  pub number : r.number ≡ 0

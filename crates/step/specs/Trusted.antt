@@ -48,6 +48,7 @@ wants (q.SD abilities ps) = 4096
 wants q.SV = 4096
 wants (q.XP t) = 4096
 wants (q.MJ n) = 61485
+wants (q.KP n) = 4096
 wants (q.Bind x) = 4096
 wants (q.Look x) = 4096
 wants (q.Add x) = 4096

@@ -1,7 +1,7 @@
 // One record of a sound state: read, placed, run and answered; a refusal leaves all as at entry.
 #![tactic(auto)]
 
-ghost use Rattle.std.specs.Prelude.{◌≡◌, List, ℕ, ◌≤◌, length, drop};
+ghost use Rattle.std.specs.Prelude.{◌≡◌, List, ℕ, ◌≤◌, ◌<◌, length, get_or, take, drop};
 ghost use Rattle.definition.specs.Step.{least_buffer};
 ghost use Rattle.definition.specs.Write.{IsBytes};
 ghost use Rattle.snapshot.specs.Snap.{Saved};
@@ -9,16 +9,17 @@ ghost use Rattle.snapshot.specs.Noted.{Noted};
 ghost use Rattle.sound.specs.Lent.{used_of};
 ghost use Rattle.fields.specs.Noded.{declare, noded, params_of, WhatIn};
 ghost use Rattle.step.specs.Trusted.{StandsIn, wants, Steps, Leaves, Splits};
-ghost use Rattle.step.specs.Replies.{Begins, Ends};
+ghost use Rattle.keep.specs.Keeps.{AsSound};
+ghost use Rattle.step.specs.Replies.{Begins, Ends, KeptBy};
 
 use canonical::Spelling;
 use fields::{Look, Params, What};
 use marks::LookMark;
 use names::AbilitySet;
-use payload::Answer;
+use payload::{Answer, as_left};
 use snapshot::before::Before;
 use table::state::State;
-use table::{Touched, Used};
+use table::{Touched, Used, wide};
 use verdict::{left_over, padded, place_after, row_for, verdict_of};
 
 // How long the list is that is lent beside the state, for what a record has of names.
@@ -67,6 +68,19 @@ fn answer_declared(
     a
 }
 
+// ---- KP
+
+// The first n names are those that it lists. Not inlined, so that keep's tables are in no other record's frame.
+#[inline(never)]
+fn answer_kept(st: &mut State<'_>, names: &[u16], n: u32, buf: &mut [u8]) -> Answer
+    requires known { (n ≤ length names.now) × ((k : ℕ) → k < n → get_or names.now k 0 < st.old.used.vars) }
+    requires as_sound { AsSound st.old × (4096 ≤ length buf.old) }
+    ensures { KeptBy st.old st.new (take n names.now) buf.old buf.new result }
+{
+    let len = keep::keep_listed(st, names, wide(n), buf);
+    as_left(st.used, 0, len)
+}
+
 // ---- what was read
 
 // What was read and placed is run and answered. RD, CN and XP are told from the placed state, so no call runs them. `entry` and `saved`: what an answer
@@ -92,6 +106,7 @@ fn answer_placed(
     };
     let ran = match what {
         What::MJ(n) => return many::answer_pairs(st, saved, names, n, buf),
+        What::KP(n) => return answer_kept(st, names, n, buf),
         What::SD(abilities, own) => {
             return answer_declared(st, before, params, abilities, own, buf);
         }

@@ -8,3 +8,4 @@ pub mod Known
 pub mod Encode
 pub mod Layout
 pub mod Did
+pub mod Moved

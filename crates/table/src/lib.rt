@@ -12,6 +12,7 @@ ghost use Rattle.table.specs.Touched.{Touches};
 ghost use Rattle.table.specs.State.{node_words_at, cell_words_at, constraint_words_at, struct_words_at};
 
 pub mod calls;
+pub mod one_row;
 pub mod state;
 
 use names::{AbilityMark, AbilitySet, TParamID, TVar, TypeName};

@@ -22,7 +22,8 @@ use Rattle.theorems.proofs.TotalReading.{reaches_is_runs}
 use Rattle.theorems.proofs.DemandEveryDepth.{Somehow, Chain, next, chained}
 use Rattle.theorems.proofs.Demand.{demand_3}
 use Rattle.definition.proofs.Computed.{answered}
-use Rattle.definition.proofs.Spelling.{bool, vector, var, FV, NV, JN, SV}
+use Rattle.definition.proofs.Spelling.{bool, u8, vector, var, FV, NV, JN, SV}
+use Rattle.definition.proofs.AnswersKeep.{KP}
 use Rattle.definition.proofs.AnswersMany.{worked}
 
 -- ---- the test
@@ -91,3 +92,15 @@ pairs_job_demand_3 = demand_3 fresh pairs_job refl (no_loops fresh pairs_job ref
 pub job_demand_3 : Demand3 fresh job
 unfolding answered
 job_demand_3 = demand_3 fresh job refl (no_loops fresh job refl job_clear)
+
+-- .. and over KP: V1, a vector of V2, stays as V0, and V2 as V1, which is then u8; V0 and V3 go
+abbrev pub keep_job : List (Bytes × ℕ)
+keep_job = (FV 1, 4096) ∷ (FV 2, 4096) ∷ (FV 3, 4096) ∷ (JN (var 4 1) (vector 5 (var 6 2)), 4096) ∷ (FV 7, 4096) ∷ (KP (1 ∷ []), 4096) ∷ (JN (var 8 1) (u8 9), 4096) ∷ (FV 10, 4096) ∷ []
+
+keep_job_clear : clear_from fresh keep_job ≡ true
+unfolding answered two_types_calls if_reached run_calls default_num_var_calls default_num_vars_calls pair_events nothing_done many_events one_event events_by lent_events events trace clear_from clear_along clear clear_binding
+keep_job_clear = refl
+
+pub keep_job_demand_3 : Demand3 fresh keep_job
+unfolding answered
+keep_job_demand_3 = demand_3 fresh keep_job refl (no_loops fresh keep_job refl keep_job_clear)

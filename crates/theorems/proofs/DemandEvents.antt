@@ -7,13 +7,14 @@ use mathlib.Core.Logic.{inl, inr}
 use Prim.Native.Nat.{ℕ, zero, suc, ◌+◌, ◌≤◌, ◌<◌}
 use native.Mathlib.Omega.{arith}
 use lib.ListN.{length, get_or, take, length-append}
+use Rattle.std.specs.Prelude.{Option}
 use Rattle.definition.specs.Types.{State}
 use Rattle.definition.specs.Write.{Bytes}
 use Rattle.definition.specs.Step.{step}
 use Rattle.definition.specs.Sound.{sound}
-use Rattle.definition.specs.Demand.{JoinCall, outcome, OnSuccess, after, Event, events, trace, point, at, NoneSinks, NeedsGrow, ResultAboveOperands, NoLoops, Demand3}
+use Rattle.definition.specs.Demand.{JoinCall, outcome, OnSuccess, after, Event, events, trace, point, at, NoneSinks, NeedsGrow, ResultAboveOperands, NoLoops, Demand3, NoneSinksBy, NeedsGrowBy, from_to}
 use Rattle.theorems.proofs.Demand.{demand_3}
-use Rattle.theorems.proofs.DemandEveryDepth.{last_of, trace_ends, Rises, JoinsAtEveryDepth, Demand3AtEveryDepth, demand_3_at_every_depth}
+use Rattle.theorems.proofs.DemandEveryDepth.{last_of, trace_ends, RisesBy, JoinsAtEveryDepth, Demand3AtEveryDepth, demand_3_at_every_depth}
 
 -- how many events the first i records have: the number of the point at their end
 abbrev pub so_many : State → List (Bytes × ℕ) → ℕ → ℕ
@@ -75,11 +76,15 @@ event_of_record s [] i h e m = absurd (omega arith)
 event_of_record s ((bytes, buffer) ∷ records) zero h e m = in_front (events s bytes buffer) _ m
 event_of_record s ((bytes, buffer) ∷ records) (suc i) h e m = behind (events s bytes buffer) _ (event_of_record (step s bytes buffer).state records i (omega arith) e m)
 
+-- where a variable is after records i to j, if it is taken before them
+abbrev pub between_records : State → List (Bytes × ℕ) → ℕ → ℕ → ℕ → Option ℕ
+between_records s records i j = from_to s records (so_many s records i) (so_many s records j)
+
 -- demand 3 said of records
 pub record OfRecords (s : State) (records : List (Bytes × ℕ)) : Type 0 where
-  pub points : (i j : ℕ) → i ≤ j → j ≤ length records → NoneSinks (after s (take i records)) (after s (take j records))
+  pub points : (i j : ℕ) → i ≤ j → j ≤ length records → NoneSinksBy (between_records s records i j) (after s (take i records)) (after s (take j records))
   pub joins : (i : ℕ) → i < length records → (e : Event) → Memᴰ e (of_record s records i) → (call : JoinCall) → Memᴰ call e.calls → OnSuccess (outcome call) (λ s t. ResultAboveOperands call s t × NoneSinks call.before s × NeedsGrow call.before s)
-  pub needs : (i j : ℕ) → i ≤ j → j ≤ length records → NeedsGrow (after s (take i records)) (after s (take j records))
+  pub needs : (i j : ℕ) → i ≤ j → j ≤ length records → NeedsGrowBy (between_records s records i j) (after s (take i records)) (after s (take j records))
 
 pub demand_3_of_records : (s : State) (records : List (Bytes × ℕ)) → sound s ≡ true → NoLoops s records → OfRecords s records
 demand_3_of_records s records safe none = record {
@@ -93,7 +98,7 @@ demand_3_of_records s records safe none = record {
 
 -- the same at every depth of unrolling, with no hypothesis
 pub record OfRecordsAtEveryDepth (s : State) (records : List (Bytes × ℕ)) : Type 0 where
-  pub points : (i j : ℕ) → i ≤ j → Rises (after s (take i records)) (after s (take j records))
+  pub points : (i j : ℕ) → i ≤ j → RisesBy (between_records s records i j) (after s (take i records)) (after s (take j records))
   pub joins : (i : ℕ) → i < length records → (e : Event) → Memᴰ e (of_record s records i) → (call : JoinCall) → Memᴰ call e.calls → OnSuccess (outcome call) (λ s t. JoinsAtEveryDepth call s t)
 
 pub every_depth_of_records : (s : State) (records : List (Bytes × ℕ)) → OfRecordsAtEveryDepth s records

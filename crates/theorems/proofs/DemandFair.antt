@@ -12,7 +12,7 @@ use Rattle.definition.specs.Subst.{forward_tvar, unfold_type}
 use Rattle.definition.specs.Join.{TypingCase, Join, Subtype, join_impl, join, subtype}
 use Rattle.definition.specs.Constraints.{num_vars, undecided, default_num_var, default_of}
 use Rattle.definition.specs.Write.{Bytes, write}
-use Rattle.definition.specs.Record.{Record, SD, FV, NV, SN, JN, SU, UF, RD, IN, TS, NC, BC, SC, SV, RM, CN, XP, NL, MJ, UL, JL}
+use Rattle.definition.specs.Record.{Record, SD, FV, NV, SN, JN, SU, UF, RD, IN, TS, NC, BC, SC, SV, RM, CN, XP, NL, MJ, UL, JL, KP}
 use Rattle.definition.specs.Trees.{Tree, arity}
 use Rattle.definition.specs.Step.{Answer, max_payload, two_types, pair_answer, run, reply}
 use Rattle.definition.specs.Rank.{NoneReachesItself}
@@ -139,6 +139,7 @@ module _ {E : Type 0} where
   run_calls_fair S s (CN t) f w n z = none_fair
   run_calls_fair S s (XP t) f w n z = none_fair
   run_calls_fair S s (MJ ps) f w n z = none_fair
+  run_calls_fair S s (KP listed) f w n z = none_fair
   run_calls_fair S s (UL t) f w n z = none_fair
   run_calls_fair S s (JL t1 t2) f w n z = two_fair Join S s t1 t2 f.0 f.1 (λ e s' p d. subst (λ (x : Answer). NoneReachesItself x.state) (links_fit s t1 t2 f w s' p d) (z e))
   run_calls_fair S s SV f w n z = nums_fair (num_vars 0 S.vars) S s (λ n. refl) (num_vars_below 0 S.vars (taken S) (omega arith)) n

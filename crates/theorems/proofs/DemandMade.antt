@@ -13,7 +13,7 @@ use Rattle.definition.specs.Record.{JN, SU, SV, MJ, JL}
 use Rattle.definition.specs.Trees.{Tree}
 use Rattle.definition.specs.Build.{build, build_many}
 use Rattle.definition.specs.Step.{Answer, answer, two_types, pair_answer, pair_bytes, run_pairs, run, apart}
-use Rattle.definition.specs.Demand.{JoinCall, outcome, if_reached, two_types_calls, default_num_var_calls, default_num_vars_calls, run_calls, Event, pair_events, many_events, events_by}
+use Rattle.definition.specs.Demand.{JoinCall, outcome, if_reached, two_types_calls, default_num_var_calls, default_num_vars_calls, run_calls, Event, pair_events, many_events, events_by, stays}
 use Rattle.theorems.proofs.DemandRecords.{NoErr, no_sp, no_place}
 
 -- ---- JN, SU and JL: one join, whose result is written; or no room for the types
@@ -59,7 +59,7 @@ answered a = answer a.before (outcome a >>= λ (x : State × ℕ). ok (x.0, writ
 pub data PairsMade : State → State × Bytes → List Event → Type 0 where
   none_left : {S : State} → PairsMade S (S, []) []
   one_made : {S S' : State} {bytes : Bytes} {es : List Event} (a : JoinCall) → a.before ≡ S → PairsMade (answered a).state (S', bytes) es
-      → PairsMade S (S', pair_bytes (answered a) ++ bytes) (record { state = (answered a).state; calls = a ∷ [] } ∷ es)
+      → PairsMade S (S', pair_bytes (answered a) ++ bytes) (record { state = (answered a).state; calls = a ∷ []; moves = stays } ∷ es)
 
 pairs_made : (ps : List (TypingCase × ℕ × ℕ)) (S : State) → PairsMade S (run_pairs S ps) (pair_events S ps)
 unfolding run_pairs pair_events pair_answer

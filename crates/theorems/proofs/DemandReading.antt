@@ -21,7 +21,7 @@ use Rattle.definition.specs.Rank.{Known, known_error, known_unit, known_referenc
 use Rattle.definition.specs.Rank.{Rank, any_below, open_below, error_below, units, parameters, references, same_named, Ranks, no_more, each}
 use Rattle.theorems.proofs.DemandDepth.{end_shape, follow, read_all, read_shape, unrolled}
 
-mut_refl : (m : Bool) → MutRank m m
+pub mut_refl : (m : Bool) → MutRank m m
 mut_refl true = lower_mutable
 mut_refl false = both_immutable
 

@@ -1,4 +1,4 @@
--- Every record's run goes up, or leaves the state as it was, or ends in an error whose nodes are sound. Assumes nothing.
+-- Every record's run goes up, or leaves the state as it was, or ends in an error whose nodes are sound; KP's leaves what it keeps. Assumes nothing.
 -- First the runs that give back the state as it was, then constraints, then record by record by the rules of Went and the main lemma.
 use mathlib.Core.Path.{◌≡◌, refl, ◌∙◌}
 use mathlib.Core.Bool.{Bool, true, false}
@@ -14,11 +14,15 @@ use Rattle.std.specs.Prelude.{if◌then◌else◌}
 use Rattle.definition.specs.TParams.{subst_tparams}
 use Rattle.definition.specs.Constraints.{num_vars, solve_constraints}
 use Rattle.definition.specs.Write.{Bytes, head, write_error}
-use Rattle.definition.specs.Record.{NumericKind, Numeric, Bits, Ordered, Record, SD, FV, NV, SN, JN, SU, UF, RD, IN, TS, NC, BC, SC, SV, RM, CN, XP, NL, MJ, UL, JL}
+use Rattle.definition.specs.Record.{NumericKind, Numeric, Bits, Ordered, Record, SD, FV, NV, SN, JN, SU, UF, RD, IN, TS, NC, BC, SC, SV, RM, CN, XP, NL, MJ, UL, JL, KP}
 use Rattle.definition.specs.Trees.{Tree, arity}
 use Rattle.definition.specs.Build.{build, build_many}
 use Rattle.definition.specs.Needs.{Needs, needs}
-use Rattle.definition.specs.Step.{numeric_constraint, constrain, two_types, tell, run, number_of_error, refusal, put_back, max_payload, answer_with, answer_within, answer, pair_answer, run_pairs, behind, unfolded}
+use Rattle.definition.specs.Step.{numeric_constraint, constrain, two_types, tell, run, number_of_error, refusal, put_back, max_payload, answer_with, answer_within, answer, pair_answer, run_pairs, behind, unfolded, Apart, as_others, many, links_of_one, links_of_two, keeps, apart}
+use Rattle.definition.specs.Keep.{reach, cleared, survivors, moved}
+use Rattle.definition.specs.Demand.{stays}
+use Rattle.theorems.proofs.TotalFinite.{all_at}
+use Rattle.theorems.proofs.KeepReach.{TakenAll}
 use Rattle.theorems.proofs.Laws.{SameNodes, num_marks, type_on, NeedsIn, value_same, need_set_num, literal_marks, literal_others}
 use Rattle.theorems.proofs.DemandOrder.{Sound, Nodes, All, All_map}
 use Rattle.theorems.proofs.DemandSteps.{quiet_same, quiet_marks, sound_marks, sound_chains, quiet_fresh}
@@ -62,6 +66,7 @@ literals (RM t) = neither
 literals (CN t) = neither
 literals (XP t) = neither
 literals (MJ pairs) = neither
+literals (KP listed) = neither
 literals (UL t) = neither
 literals (JL t1 t2) = neither
 
@@ -93,18 +98,32 @@ by_literals (XP t) = is_neither
 by_literals (MJ pairs) = is_neither
 by_literals (UL t) = is_neither
 by_literals (JL t1 t2) = is_neither
+by_literals (KP listed) = is_neither
 
 -- a claim is kept by every record but those of one mark
 unfoldable pub spares : Claim → Literals → Bool
 spares is_held r = elim r [ marks ↦ false | takes ↦ true | neither ↦ true ]
 spares is_bare r = elim r [ marks ↦ true | takes ↦ false | neither ↦ true ]
 
-pub data Leaves (r : Literals) (ar : TypeName → ℕ) (S : State) : Result (State × Bytes) → Type 0 where
-  l_ok : {S' : State} {p : Bytes} → Went ar S S' → ((q : Claim) → spares q r ≡ true → Claimed q S → Claimed q S') → Leaves r ar S (ok (S', p))
-  l_err : {S' : State} {e : TypingError} → Grown S S' → Nodes ar S' → Leaves r ar S (err S' e)
-  l_refused : {x : Refusal} → Leaves r ar S (refused x)
+-- the variables that a record lists, if it is one that clears
+unfoldable pub clears : Apart → Option (List ℕ)
+clears as_others = None
+clears (many pairs) = None
+clears (links_of_one t) = None
+clears (links_of_two t1 t2) = None
+clears (keeps listed) = Some listed
 
-leaves_post : {r : Literals} {ar : TypeName → ℕ} {S : State} {m : Result (State × Bytes)} → Post ar S (λ S' p. Went ar S S') m → Leaves r ar S m
+-- .. and where a variable goes then
+unfoldable pub goes : State → Option (List ℕ) → ℕ → Option ℕ
+goes s k = elim k [ None ↦ stays | Some listed ↦ moved s listed ]
+
+pub data Leaves (r : Literals) (ar : TypeName → ℕ) (S : State) : Option (List ℕ) → Result (State × Bytes) → Type 0 where
+  l_ok : {S' : State} {p : Bytes} → Went ar S S' → ((q : Claim) → spares q r ≡ true → Claimed q S → Claimed q S') → Leaves r ar S None (ok (S', p))
+  l_cleared : {listed : List ℕ} {S' : State} {p : Bytes} → S' ≡ cleared S listed → p ≡ survivors (reach S listed).vars → TakenAll S listed → Leaves r ar S (Some listed) (ok (S', p))
+  l_err : {S' : State} {e : TypingError} → Grown S S' → Nodes ar S' → Leaves r ar S None (err S' e)
+  l_refused : {k : Option (List ℕ)} {x : Refusal} → Leaves r ar S k (refused x)
+
+leaves_post : {r : Literals} {ar : TypeName → ℕ} {S : State} {m : Result (State × Bytes)} → Post ar S (λ S' p. Went ar S S') m → Leaves r ar S None m
 leaves_post (p_ok g w) = l_ok w (λ q c. keeps_claim g.g_keeps q)
 leaves_post (p_err g n) = l_err g n
 leaves_post p_refused = l_refused
@@ -119,7 +138,7 @@ pub data Returns (S : State) : Result (State × Bytes) → Type 0 where
   r_ok : {p : Bytes} → Returns S (ok (S, p))
   r_refused : {x : Refusal} → Returns S (refused x)
 
-leaves_returns : {r : Literals} {ar : TypeName → ℕ} {S : State} {m : Result (State × Bytes)} → Sound ar S → Returns S m → Leaves r ar S m
+leaves_returns : {r : Literals} {ar : TypeName → ℕ} {S : State} {m : Result (State × Bytes)} → Sound ar S → Returns S m → Leaves r ar S None m
 leaves_returns s r_ok = l_ok (went_refl s) (λ q c h. h)
 leaves_returns s r_refused = l_refused
 
@@ -236,7 +255,7 @@ module _ (S : State) (s : Sound (arity S) S) where
   ar = arity S
 
   two_leaves : (f : State → ℕ → ℕ → Result (State × ℕ)) → ((S' : State) (l r : ℕ) → Sound ar S' → l < count S' → r < count S' → Post ar S' (WentTo ar S') (f S' l r))
-      → (t1 t2 : Tree) → Fine ar (taken S) t1 → Fine ar (taken S) t2 → Leaves neither ar S (two_types f S t1 t2)
+      → (t1 t2 : Tree) → Fine ar (taken S) t1 → Fine ar (taken S) t2 → Leaves neither ar S None (two_types f S t1 t2)
   unfolding two_types
   two_leaves f h t1 t2 f1 f2 = leaves_post (
       bind_post _ (place_went f1 s (omega arith)) (λ S1 l g1 w1.
@@ -248,15 +267,15 @@ module _ (S : State) (s : Sound (arity S) S) where
   unfolding subtype
   subtype_went S' l r s' i j = post_map (λ S'' t g k. record { sound = k.sound; above = k.above; t_in = k.t_in }) (join_impl_good _ S' _ l r s' i j)
 
-  constrain_leaves : (t : Tree) (make : ℕ → Constraint) → ((ty : ℕ) → type_on (make ty) ≡ ty) → Fine ar (taken S) t → Leaves neither ar S (constrain S t make)
+  constrain_leaves : (t : Tree) (make : ℕ → Constraint) → ((ty : ℕ) → type_on (make ty) ≡ ty) → Fine ar (taken S) t → Leaves neither ar S None (constrain S t make)
   unfolding constrain
   constrain_leaves t make on f = leaves_post (
       bind_post _ (place_went f s (omega arith)) (λ S1 ty g1 w1.
       bindS_post _ (add_went w1.sound _ (rw (on ty) w1.t_in)) (λ S2 g2 w2. p_ok (grown_refl S2) (went_trans s (went_of w1) w2))))
 
-  declare_leaves : (a : ℕ) (ps : List ℕ) (f : ℕ → Bytes) → Leaves neither ar S (declare S a ps >>= λ (x : State × ℕ). ok (x.0, f x.1))
+  declare_leaves : (a : ℕ) (ps : List ℕ) (f : ℕ → Bytes) → Leaves neither ar S None (declare S a ps >>= λ (x : State × ℕ). ok (x.0, f x.1))
   unfolding ◌>>=◌ with_structs get num_loc need_of is_num_var NeedsIn
-  declare_leaves a ps f = with_room (λ m. Leaves neither ar S (m >>= λ (x : State × ℕ). ok (x.0, f x.1))) (struct_room S a ps)
+  declare_leaves a ps f = with_room (λ m. Leaves neither ar S None (m >>= λ (x : State × ℕ). ok (x.0, f x.1))) (struct_room S a ps)
       (λ e. l_ok (went_quiet s (sound_chains s same (omega arith) (λ v. refl) (record { on = s.constraints_on.on }) (λ n. n)) (quiet_same s same (omega arith) (λ v. refl) (λ v h. h) (λ v h. refl))) (λ q c. keeps_claim kept q)) l_refused
     where
       S' : State
@@ -268,7 +287,7 @@ module _ (S : State) (s : Sound (arity S) S) where
       kept : Keeps S S'
       kept = held_same S S' (λ v t e. value_same same t) (λ v. refl) (λ v. refl) (λ v. refl)
 
-  solve_leaves : Leaves neither ar S (solve_constraints S)
+  solve_leaves : Leaves neither ar S None (solve_constraints S)
   unfolding solve_constraints with_constraints
   solve_leaves = leaves_post (bindS_post _ (defaults_went (num_vars 0 S.vars) s (λ n. refl) (num_vars_below 0 S.vars (taken S) (omega arith))) (λ S1 g1 w1.
       let q = quiet_list w1.sound [] in
@@ -277,7 +296,7 @@ module _ (S : State) (s : Sound (arity S) S) where
   placed : (t : Tree) (S' : State) → RunOr ⊥ S true (λ s. ⊥) (build t S')
   placed t S' = place_run ⊥ S true t (λ h. absurd h) S' (λ h. absurd h)
 
-  unfolded_leaves : (t : Tree) → Leaves neither ar S (unfolded S t)
+  unfolded_leaves : (t : Tree) → Leaves neither ar S None (unfolded S t)
   unfolding unfolded
   unfolded_leaves t = leaves_returns s (returns_bind _ (placed t S) (λ a. r_ok))
 
@@ -291,15 +310,15 @@ module _ (S : State) (s : Sound (arity S) S) where
   mark_kept v loc is_held c h = never (cc)
   mark_kept v loc is_bare c h = bare_num S v loc h
 
-  pub run_leaves : (r : Record) → FineRecord ar (taken S) r → Leaves (literals r) ar S (run S r)
-  unfolding run subst_tparams literals ◌>>=◌
+  pub run_leaves : (r : Record) → FineRecord ar (taken S) r → Leaves (literals r) ar S (clears (apart r)) (run S r)
+  unfolding run subst_tparams literals apart clears ◌>>=◌
   run_leaves (SD a ps) f = declare_leaves a ps _
   run_leaves (FV loc) f = leaves_post (bind_post _ (next_tvar_post s) (λ S1 v g w. p_ok (grown_refl S1) (went_quiet s w.sound w.quiet)))
   run_leaves (NV loc) f = leaves_post (bind_post _ (next_tvar_post s) (λ S1 v g w.
       let m = num_marks S1 v loc in
       let q = quiet_marks w.sound m (λ x h. need_set_num S1 v loc x) in
       p_ok (quiet_grown q m.m_structs (held_num S1 v loc w.free)) (went_trans s (went_quiet s w.sound w.quiet) (went_quiet w.sound (sound_marks w.sound m) q))))
-  run_leaves (NL loc bits) f = with_room (λ m. Leaves takes ar S (m >>= λ (x : State × ℕ). ok (with_need (set_num_var x.0 x.1 loc) x.1 bits, head loc (Var x.1)))) (tvar_room S) (λ e.
+  run_leaves (NL loc bits) f = with_room (λ m. Leaves takes ar S None (m >>= λ (x : State × ℕ). ok (with_need (set_num_var x.0 x.1 loc) x.1 bits, head loc (Var x.1)))) (tvar_room S) (λ e.
       let w = new_var s in
       let m = literal_marks (with_var S) (taken S) loc bits f in
       l_ok (went_quiet s (sound_marks w.sound m) (quiet_fresh w.sound w.quiet m (λ x h. literal_others (with_var S) (taken S) loc bits x (λ d. omega arith))))
@@ -325,3 +344,4 @@ module _ (S : State) (s : Sound (arity S) S) where
   run_leaves (XP t) f = leaves_returns s (returns_bind _ (placed t S) (λ a. returns_bind _ (expand_run true refl _ a.0 a.1) (λ b. r_ok)))
   run_leaves (MJ ps) f = leaves_post (bind_post _ (many_went ps f.0 s (omega arith)) (λ S1 qs g w.
       let a = pairs_raised qs w.went.sound w.pairs_in in p_ok a.grown (went_trans s w.went a.went)))
+  run_leaves (KP listed) f = l_cleared refl refl (λ v m. all_at (λ v. v < taken S) listed f v m)

@@ -14,7 +14,7 @@ use Rattle.definition.specs.Join.{TypingCase}
 use Rattle.definition.specs.Write.{Bytes}
 use Rattle.definition.specs.Reader.{Reader, give, refuse, ◌>>=◌, read_one, read_two, read_three, byte, read_u16, read_u32, byte_if, byte_to, read_bool, name_below, times}
 use Rattle.definition.specs.Trees.{Tree, unit_tree, anything_tree, error_tree, ref_tree, param_tree, apply_tree, var_tree, Trees, no_trees, ◌then◌, is_set, under_ref, read_apply, by_tag, read_nested, read_type}
-use Rattle.definition.specs.Record.{Record, SD, FV, NV, SN, JN, SU, UF, RD, IN, TS, NC, BC, SC, SV, RM, CN, XP, read_kind, read_SD, read_pair, read_TS, by_mark, fields_of, read_fields, max_record, hand_back, read_record, NL, read_bits, MJ, read_case, is_many, read_case_pair, read_MJ, UL, JL}
+use Rattle.definition.specs.Record.{Record, SD, FV, NV, SN, JN, SU, UF, RD, IN, TS, NC, BC, SC, SV, RM, CN, XP, read_kind, read_SD, read_pair, read_TS, by_mark, fields_of, read_fields, max_record, hand_back, read_record, NL, read_bits, MJ, read_case, is_many, read_case_pair, read_MJ, UL, JL, KP, read_KP}
 use Rattle.theorems.proofs.DemandTracks.{never}
 
 -- ---- doubled references
@@ -70,6 +70,7 @@ doubled_record (RM t) = doubled t
 doubled_record (CN t) = doubled t
 doubled_record (XP t) = doubled t
 doubled_record (MJ pairs) = doubled_many pairs
+doubled_record (KP listed) = false
 doubled_record (UL t) = doubled t
 doubled_record (JL t1 t2) = doubled t1 || doubled t2
 
@@ -159,6 +160,7 @@ module _ (read_type : Reader Tree) (s : State) where
       (77, 74, MJ_with) ∷
       (85, 76, read_one UL read_type) ∷
       (74, 76, read_two JL read_type read_type) ∷
+      (75, 80, read_KP s) ∷
       []
 
   unfoldable pub fields_with : Reader Record

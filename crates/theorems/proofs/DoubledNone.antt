@@ -23,7 +23,7 @@ use Rattle.definition.specs.Constraints.{undecided, default_num_var, default_num
 use Rattle.definition.specs.Write.{Bytes, u32}
 use Rattle.definition.specs.Reader.{Read, got, not_read}
 use Rattle.definition.specs.Trees.{Tree, unit_tree, anything_tree, error_tree, ref_tree, param_tree, apply_tree, var_tree, Trees, no_trees, ◌then◌}
-use Rattle.definition.specs.Record.{Record, SD, FV, NV, SN, JN, SU, UF, RD, IN, TS, NC, BC, SC, SV, RM, CN, XP, read_record, NL, MJ, UL, JL}
+use Rattle.definition.specs.Record.{Record, SD, FV, NV, SN, JN, SU, UF, RD, IN, TS, NC, BC, SC, SV, RM, CN, XP, read_record, NL, MJ, UL, JL, KP}
 use Rattle.definition.specs.Needs.{Needs, needs}
 use Rattle.definition.specs.Build.{build, build_all, build_many}
 use Rattle.definition.specs.Sound.{sound}
@@ -38,6 +38,14 @@ use Rattle.theorems.proofs.Soundness.{sound_is}
 use Rattle.theorems.proofs.TotalWalk.{seven, nine, eleven, sixteen, Ends, e_ok, e_err, e_refused, bind, RunOr, place_run, pairs_run, ready_tvars_run, make_run, subst_run, expand_run}
 use Rattle.theorems.proofs.SolveInTurn.{solve_cases}
 use Rattle.theorems.proofs.Doubled.{is_ref as is_ref_tree, doubled, doubled_in, NoDoubled, NoDoubledIn, doubled_record, NoDoubledRecord, or_l, or_r, doubled_many}
+use Rattle.definition.specs.Trees.{arity}
+use Rattle.definition.specs.Store.{taken}
+use Rattle.definition.specs.Keep.{cleared}
+use Rattle.theorems.proofs.SoundRead.{FineRecord, read_fine}
+use Rattle.theorems.proofs.TotalFinite.{all_at}
+use Rattle.theorems.proofs.KeepReach.{TakenAll}
+use Rattle.theorems.proofs.KeepSound.{cleared_sound}
+use Rattle.theorems.proofs.KeepDepth.{keep_none_doubled}
 use Rattle.theorems.proofs.DoubledReads.{record_none_doubled}
 use Rattle.theorems.proofs.DoubledSingle.{is_ref, Plain, Single, under, plain_no_ref, Left, left_same, left_refl, Goes, goes_from, goes_map, goes, Unasked, IsPlain, sp_goes, tvar_goes, Joined, join_goes}
 use mathlib.Core.List.Memᴰ
@@ -206,69 +214,7 @@ unfolding run_pairs
 pairs_single [] s i = i
 pairs_single (p ∷ ps) s i = pairs_single ps (pair_answer s p).state (pair_single s i p)
 
--- ---- record by record
-
-module _ (s : State) (i : Single s) where
-  -- UF, RD and TS give back s: of what they build on the way nothing is asked
-  unasked : {A : Type 0} → ⊥ → A
-  unasked h = absurd h
-
-  placed : (t : Tree) (s' : State) → RunOr ⊥ s true Single (build t s')
-  placed t s' = place_run ⊥ s true t unasked s' unasked
-
-  unfolded_leaves : (t : Tree) → Leaves (unfolded s t)
-  unfolding unfolded
-  unfolded_leaves t = bind _ (placed t s) (λ x j. e_ok i)
-
-  tell_leaves : (n : Option Needs) → Leaves (tell s n)
-  unfolding tell
-  tell_leaves None = e_refused eleven
-  tell_leaves (Some n) = e_ok i
-
-  run_leaves : (r : Record) → NoDoubledRecord r → Leaves (run s r)
-  unfolding run join subtype subst_tparams instantiate solve_constraints doubled_record
-  run_leaves (SD a ps) d = bind _ (declare_leaves s i a ps) (λ x j. e_ok j)
-  run_leaves (FV loc) d = bind _ (tvar_goes s i) (λ x p. e_ok p.0.single)
-  run_leaves (NV loc) d = bind _ (tvar_goes s i) (λ x p. e_ok (marked p.0.single x.1 loc))
-  run_leaves (NL loc bits) d = bind _ (tvar_goes s i) (λ x p. e_ok (needed (marked p.0.single x.1 loc) x.1 bits))
-  run_leaves (SN v loc) d = e_ok (marked i v loc)
-  run_leaves (JN t1 t2) d = two_leaves _ (λ s i l r. join_goes max_depth s i _ l r) s i t1 t2 d
-  run_leaves (SU t1 t2) d = two_leaves _ (λ s i l r. join_goes max_depth s i _ l r) s i t1 t2 d
-  run_leaves (UF t) d = unfolded_leaves t
-  run_leaves (UL t) d = unfolded_leaves t
-  run_leaves (JL t1 t2) d = two_leaves _ (λ s i l r. join_goes max_depth s i _ l r) s i t1 t2 d
-  run_leaves (RD t) d = bind _ (placed t s) (λ x j. bind _ (ready_tvars_run ⊥ s true refl x.0 unasked x.1) (λ y k. e_ok i))
-  run_leaves (TS ps t) d =
-      bind _ (pairs_run ⊥ s true ps unasked s unasked) (λ x j. bind _ (placed t x.0) (λ y k. bind _ (make_run ⊥ s true x.1) (λ subst p. bind _ (subst_run ⊥ s true refl _ subst y.0 unasked y.1) (λ z l. e_ok i))))
-  run_leaves (IN t) d = bind _ (place_goes t d s i) (λ x p. bind _ (inst_goes _ x.0 p.0.single x.1) (λ y q. e_ok q.0.single))
-  run_leaves (NC loc kind t) d = constrain_leaves s i t d _
-  run_leaves (BC loc t) d = constrain_leaves s i t d _
-  run_leaves (SC loc t) d = constrain_leaves s i t d _
-  run_leaves (RM t) d = tell_leaves (needs t)
-  run_leaves (CN t) d = bind _ (placed t s) (λ x j. bind _ (ready_tvars_run ⊥ s true refl x.0 unasked x.1) (λ y k. e_ok i))
-  run_leaves (XP t) d = bind _ (placed t s) (λ x j. bind _ (expand_run true refl _ x.0 x.1) (λ y k. e_ok i))
-  run_leaves (MJ ps) d = bind _ (many_leaves ps d s i) (λ x j. e_ok (pairs_single x.1 x.0 j))
-  run_leaves SV d = bind _ (defaults_goes _ s i) (λ x j. solve_cases x (λ m. Leaves m) (λ failures. e_ok (left_list j []).single) (e_refused (nine refl)) (e_refused (sixteen refl)))
-
-  reply_single : (r : Record) → NoDoubledRecord r → Single (reply s r).state
-  unfolding reply
-  reply_single r d = answer_single s i (most_of (apart r)) (tail_of s (apart r)) (run s r) (run_leaves r d)
-
-  abbrev NoneRead : Read Record → Type 0
-  NoneRead x = (r : Record) (rest : Bytes) → x ≡ got r rest → NoDoubledRecord r
-
-  lent_single : (x : Read Record) → NoneRead x → Single (lent s x).state
-  unfolding lent refusal
-  lent_single (got r []) f = reply_single r (f r [] refl)
-  lent_single (got r (b ∷ rest)) f = i
-  lent_single (not_read x) f = i
-
-  streamed_single : (bytes : Bytes) (x : Read Record) → NoneRead x → Single (streamed s bytes x).0.state
-  unfolding streamed refusal
-  streamed_single bytes (got r rest) f = reply_single r (f r rest refl)
-  streamed_single bytes (not_read x) f = i
-
--- ---- the theorem
+-- ---- what is asked of nodes, of those of the state alone
 
 single_state : {s : State} → Single s → NoDoubledState s
 single_state i n h m t e m' t' d = plain_no_ref (under i n m t e) m' t' d
@@ -293,6 +239,73 @@ state_single s h d = record { over = λ n m t e. over n m t e (dec_lt n (count s
         record { plain_in = omega arith; no_ref = plain t (λ m' t' c. d n l m t v m' t' c) (node s t).value refl }
     over n m t e (no l) = never (let z : (node s n).value ≡ UnresolvedError = ap (λ (x : Node). x.value) (get_or-eq_default s.nodes nowhere {n = n} (omega arith)) in cc)
 
+-- ---- record by record
+
+module _ (s : State) (safe : sound s ≡ true) (i : Single s) where
+  -- UF, RD and TS give back s: of what they build on the way nothing is asked
+  unasked : {A : Type 0} → ⊥ → A
+  unasked h = absurd h
+
+  placed : (t : Tree) (s' : State) → RunOr ⊥ s true Single (build t s')
+  placed t s' = place_run ⊥ s true t unasked s' unasked
+
+  unfolded_leaves : (t : Tree) → Leaves (unfolded s t)
+  unfolding unfolded
+  unfolded_leaves t = bind _ (placed t s) (λ x j. e_ok i)
+
+  tell_leaves : (n : Option Needs) → Leaves (tell s n)
+  unfolding tell
+  tell_leaves None = e_refused eleven
+  tell_leaves (Some n) = e_ok i
+
+  run_leaves : (r : Record) → NoDoubledRecord r → FineRecord (arity s) (taken s) r → Leaves (run s r)
+  unfolding run join subtype subst_tparams instantiate solve_constraints doubled_record
+  run_leaves (SD a ps) d f = bind _ (declare_leaves s i a ps) (λ x j. e_ok j)
+  run_leaves (FV loc) d f = bind _ (tvar_goes s i) (λ x p. e_ok p.0.single)
+  run_leaves (NV loc) d f = bind _ (tvar_goes s i) (λ x p. e_ok (marked p.0.single x.1 loc))
+  run_leaves (NL loc bits) d f = bind _ (tvar_goes s i) (λ x p. e_ok (needed (marked p.0.single x.1 loc) x.1 bits))
+  run_leaves (SN v loc) d f = e_ok (marked i v loc)
+  run_leaves (JN t1 t2) d f = two_leaves _ (λ s i l r. join_goes max_depth s i _ l r) s i t1 t2 d
+  run_leaves (SU t1 t2) d f = two_leaves _ (λ s i l r. join_goes max_depth s i _ l r) s i t1 t2 d
+  run_leaves (UF t) d f = unfolded_leaves t
+  run_leaves (UL t) d f = unfolded_leaves t
+  run_leaves (JL t1 t2) d f = two_leaves _ (λ s i l r. join_goes max_depth s i _ l r) s i t1 t2 d
+  run_leaves (RD t) d f = bind _ (placed t s) (λ x j. bind _ (ready_tvars_run ⊥ s true refl x.0 unasked x.1) (λ y k. e_ok i))
+  run_leaves (TS ps t) d f =
+      bind _ (pairs_run ⊥ s true ps unasked s unasked) (λ x j. bind _ (placed t x.0) (λ y k. bind _ (make_run ⊥ s true x.1) (λ subst p. bind _ (subst_run ⊥ s true refl _ subst y.0 unasked y.1) (λ z l. e_ok i))))
+  run_leaves (IN t) d f = bind _ (place_goes t d s i) (λ x p. bind _ (inst_goes _ x.0 p.0.single x.1) (λ y q. e_ok q.0.single))
+  run_leaves (NC loc kind t) d f = constrain_leaves s i t d _
+  run_leaves (BC loc t) d f = constrain_leaves s i t d _
+  run_leaves (SC loc t) d f = constrain_leaves s i t d _
+  run_leaves (RM t) d f = tell_leaves (needs t)
+  run_leaves (CN t) d f = bind _ (placed t s) (λ x j. bind _ (ready_tvars_run ⊥ s true refl x.0 unasked x.1) (λ y k. e_ok i))
+  run_leaves (XP t) d f = bind _ (placed t s) (λ x j. bind _ (expand_run true refl _ x.0 x.1) (λ y k. e_ok i))
+  run_leaves (KP listed) d f =
+      let known : TakenAll s listed = λ v m. all_at (λ v. v < taken s) listed f v m in
+      e_ok (state_single (cleared s listed) (cleared_sound s safe listed known) (keep_none_doubled s safe listed known (single_state i)))
+  run_leaves (MJ ps) d f = bind _ (many_leaves ps d s i) (λ x j. e_ok (pairs_single x.1 x.0 j))
+  run_leaves SV d f = bind _ (defaults_goes _ s i) (λ x j. solve_cases x (λ m. Leaves m) (λ failures. e_ok (left_list j []).single) (e_refused (nine refl)) (e_refused (sixteen refl)))
+
+  reply_single : (r : Record) → NoDoubledRecord r × FineRecord (arity s) (taken s) r → Single (reply s r).state
+  unfolding reply
+  reply_single r d = answer_single s i (most_of (apart r)) (tail_of s (apart r)) (run s r) (run_leaves r d.0 d.1)
+
+  abbrev NoneRead : Read Record → Type 0
+  NoneRead x = (r : Record) (rest : Bytes) → x ≡ got r rest → NoDoubledRecord r × FineRecord (arity s) (taken s) r
+
+  lent_single : (x : Read Record) → NoneRead x → Single (lent s x).state
+  unfolding lent refusal
+  lent_single (got r []) f = reply_single r (f r [] refl)
+  lent_single (got r (b ∷ rest)) f = i
+  lent_single (not_read x) f = i
+
+  streamed_single : (bytes : Bytes) (x : Read Record) → NoneRead x → Single (streamed s bytes x).0.state
+  unfolding streamed refusal
+  streamed_single bytes (got r rest) f = reply_single r (f r rest refl)
+  streamed_single bytes (not_read x) f = i
+
+-- ---- the theorem
+
 -- where a call is made, the state is sound
 tested : {A : Type 0} (s : State) (bytes : Bytes) (buffer : ℕ) (P : A → Type 0) (x y : A) → (sound s ≡ true → P x) → P y → P (elim (usable s bytes buffer) as (λ b. A) [ true ↦ x | false ↦ y ])
 unfolding usable
@@ -308,14 +321,14 @@ pub none_arises : (s : State) (bytes : Bytes) (buffer : ℕ) → NoDoubledState 
 unfolding step refusal
 none_arises s bytes buffer d =
     tested s bytes buffer (λ (a : Answer). NoDoubledState a.state) (lent s (read_record s bytes)) (refusal s unsound_state)
-    (λ h. single_state (lent_single s (state_single s h d) (read_record s bytes) (record_none_doubled s bytes))) d
+    (λ h. single_state (lent_single s h (state_single s h d) (read_record s bytes) (λ r rest e. (record_none_doubled s bytes r rest e, read_fine s bytes r rest e)))) d
 
 -- .. and at the head of a stream
 pub none_arises_streamed : (s : State) (bytes : Bytes) (buffer : ℕ) → NoDoubledState s → NoDoubledState (step_stream s bytes buffer).0.state
 unfolding step_stream refusal
 none_arises_streamed s bytes buffer d =
     tested s bytes buffer (λ (a : Answer × Bytes). NoDoubledState a.0.state) (streamed s bytes (read_record s bytes)) (refusal s unsound_state, bytes)
-    (λ h. single_state (streamed_single s (state_single s h d) bytes (read_record s bytes) (record_none_doubled s bytes))) d
+    (λ h. single_state (streamed_single s h (state_single s h d) bytes (read_record s bytes) (λ r rest e. (record_none_doubled s bytes r rest e, read_fine s bytes r rest e)))) d
 
 -- so of any list of records
 pub none_arises_after : (records : List (Bytes × ℕ)) (s : State) → NoDoubledState s → NoDoubledState (after s records)

@@ -16,7 +16,7 @@ use Rattle.definition.specs.Join.{TypingCase}
 use Rattle.definition.specs.Write.{Bytes}
 use Rattle.definition.specs.Reader.{Read, got, not_read, Reader, give, refuse, go_on, ◌>>=◌, read_one, read_two, read_three, byte, read_u16, read_u32, byte_if, byte_to, read_bool, name_below, times}
 use Rattle.definition.specs.Trees.{Tree, unit_tree, anything_tree, error_tree, ref_tree, param_tree, apply_tree, var_tree, no_trees, ◌then◌, read_trees, read_mark, mark_fits, arity, is_name, is_set, under_ref, read_apply, by_tag, read_nested, read_type}
-use Rattle.definition.specs.Record.{Record, SD, FV, NV, SN, JN, SU, UF, RD, IN, TS, NC, BC, SC, SV, RM, CN, XP, read_kind, read_SD, max_record, hand_back, read_record, NL, read_bits, MJ, read_case, is_many, UL, JL}
+use Rattle.definition.specs.Record.{Record, SD, FV, NV, SN, JN, SU, UF, RD, IN, TS, NC, BC, SC, SV, RM, CN, XP, read_kind, read_SD, max_record, hand_back, read_record, NL, read_bits, MJ, read_case, is_many, UL, JL, KP, read_KP}
 use Rattle.theorems.proofs.DemandOrder.{All}
 use Rattle.theorems.proofs.Soundness.{lt_test}
 use Rattle.theorems.proofs.Doubled.{is_ref, doubled, doubled_in, doubled_pairs, doubled_many, doubled_record, NoDoubled, NoDoubledRecord, read_01, read_record_01}
@@ -268,11 +268,15 @@ module _ (s : State) {m m' : Reader Tree} (p : Beside false doubled m m') where
   unfolding read_SD doubled_record
   b_SD = b_bind (λ a. b_bind (λ n. b_bind (λ ps. b_give (SD a ps) false refl) (b_same _)) (b_same _)) (b_same _)
 
+  b_KP : Whole (read_KP s) (read_KP s)
+  unfolding read_KP doubled_record
+  b_KP = b_bind (λ n. b_bind (λ vs. b_give (KP vs) false refl) (b_same _)) (b_same _)
+
   b_marks : Marks (Beside false doubled_record) (by_mark_with m s) (by_mark_with m' s)
   unfolding by_mark_with doubled_record
   b_marks =
       mark_row b_SD (mark_row (b_loc FV (λ l. refl)) (mark_row (b_loc NV (λ l. refl)) (mark_row b_SN (mark_row (b_two JN (λ t u. refl)) (mark_row (b_two SU (λ t u. refl)) (mark_row (b_one UF (λ t. refl)) (mark_row (b_one RD (λ t. refl))
-      (mark_row b_TS (mark_row (b_one IN (λ t. refl)) (mark_row b_NC (mark_row (b_loc_type BC (λ l t. refl)) (mark_row (b_loc_type SC (λ l t. refl)) (mark_row (b_give SV false refl) (mark_row (b_one RM (λ t. refl)) (mark_row (b_one CN (λ t. refl)) (mark_row (b_one XP (λ t. refl)) (mark_row b_NL (mark_row b_MJ (mark_row (b_one UL (λ t. refl)) (mark_row (b_two JL (λ t u. refl)) no_marks))))))))))))))))))))
+      (mark_row b_TS (mark_row (b_one IN (λ t. refl)) (mark_row b_NC (mark_row (b_loc_type BC (λ l t. refl)) (mark_row (b_loc_type SC (λ l t. refl)) (mark_row (b_give SV false refl) (mark_row (b_one RM (λ t. refl)) (mark_row (b_one CN (λ t. refl)) (mark_row (b_one XP (λ t. refl)) (mark_row b_NL (mark_row b_MJ (mark_row (b_one UL (λ t. refl)) (mark_row (b_two JL (λ t u. refl)) (mark_row b_KP no_marks)))))))))))))))))))))
 
   b_fields : Whole (fields_with m s) (fields_with m' s)
   unfolding fields_with

@@ -15,7 +15,7 @@ use Rattle.definition.specs.Store.{taken}
 use Rattle.definition.specs.Write.{Bytes}
 use Rattle.definition.specs.Reader.{Read, got, not_read, Reader, give, refuse, go_on, ◌>>=◌, read_one, read_two, read_three, byte, read_u16, read_u32, byte_if, read_bool, name_below, times}
 use Rattle.definition.specs.Trees.{Tree, no_trees, ◌then◌, read_trees, mark_of, read_mark, mark_fits, arity, is_name, is_set, under_ref, read_apply, by_tag, read_nested, read_type}
-use Rattle.definition.specs.Record.{Record, FV, NV, SN, JN, SU, UF, RD, IN, NC, BC, SC, SV, RM, CN, XP, read_kind, read_SD, max_record, hand_back, read_record, NL, read_bits, read_case, UL, JL}
+use Rattle.definition.specs.Record.{Record, FV, NV, SN, JN, SU, UF, RD, IN, NC, BC, SC, SV, RM, CN, XP, read_kind, read_SD, max_record, hand_back, read_record, NL, read_bits, read_case, UL, JL, read_KP}
 use Rattle.theorems.proofs.SoundFacts.{and_l, and_r, test}
 use Rattle.theorems.proofs.DemandTracks.{never}
 use Rattle.theorems.proofs.Doubled.{Rows, no_rows, row, row_at, Marks, no_marks, mark_row, mark_at, by_tag_with, nested_with, pair_with, TS_with, case_pair_with, MJ_with, by_mark_with, fields_with, record_with, record_now}
@@ -285,11 +285,15 @@ module _ (s : State) {p o : Reader Tree} (b : Both p o) where
   unfolding read_three read_kind read_one
   x_NC = x_bind x_u32 (λ l. x_bind (x_bind (x_byte_if _) (λ k. x_give _)) (λ kind. x_bind b (λ t. x_give _)))
 
+  x_KP : Both (read_KP s) (read_KP s)
+  unfolding read_KP
+  x_KP = x_bind x_byte (λ n. x_bind (x_times n (x_name (taken s))) (λ vs. x_give _))
+
   x_marks : Marks Both (by_mark_with p s) (by_mark_with o s)
   unfolding by_mark_with
   x_marks =
       mark_row x_SD (mark_row (x_loc FV) (mark_row (x_loc NV) (mark_row x_SN (mark_row (x_two JN) (mark_row (x_two SU) (mark_row (x_one UF) (mark_row (x_one RD)
-      (mark_row x_TS (mark_row (x_one IN) (mark_row x_NC (mark_row (x_loc_type BC) (mark_row (x_loc_type SC) (mark_row (x_give SV) (mark_row (x_one RM) (mark_row (x_one CN) (mark_row (x_one XP) (mark_row x_NL (mark_row x_MJ (mark_row (x_one UL) (mark_row (x_two JL) no_marks))))))))))))))))))))
+      (mark_row x_TS (mark_row (x_one IN) (mark_row x_NC (mark_row (x_loc_type BC) (mark_row (x_loc_type SC) (mark_row (x_give SV) (mark_row (x_one RM) (mark_row (x_one CN) (mark_row (x_one XP) (mark_row x_NL (mark_row x_MJ (mark_row (x_one UL) (mark_row (x_two JL) (mark_row x_KP no_marks)))))))))))))))))))))
 
   x_fields : Both (fields_with p s) (fields_with o s)
   unfolding fields_with

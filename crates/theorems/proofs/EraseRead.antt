@@ -15,7 +15,7 @@ use Rattle.definition.specs.Write.{Bytes}
 use Rattle.definition.specs.Instantiate.{struct_tparams}
 use Rattle.definition.specs.Reader.{Read, got, not_read, Reader, give, refuse, go_on, ◌>>=◌, byte, read_u16, read_u32, byte_if, byte_to, read_bool, name_below, times, read_one, read_two, read_three}
 use Rattle.definition.specs.Trees.{Tree, unit_tree, anything_tree, error_tree, ref_tree, param_tree, apply_tree, var_tree, Trees, no_trees, ◌then◌, read_trees, mark_of, read_mark, mark_fits, arity, under_ref, read_apply, by_tag, is_name, read_nested, read_type, is_set}
-use Rattle.definition.specs.Record.{NumericKind, Record, SD, FV, NV, SN, JN, SU, UF, RD, IN, TS, NC, BC, SC, SV, RM, CN, XP, read_kind, read_SD, read_pair, read_TS, by_mark, fields_of, read_fields, max_record, hand_back, read_record, NL, read_bits, MJ, read_case, is_many, read_case_pair, read_MJ, UL, JL}
+use Rattle.definition.specs.Record.{NumericKind, Record, SD, FV, NV, SN, JN, SU, UF, RD, IN, TS, NC, BC, SC, SV, RM, CN, XP, read_kind, read_SD, read_pair, read_TS, by_mark, fields_of, read_fields, max_record, hand_back, read_record, NL, read_bits, MJ, read_case, is_many, read_case_pair, read_MJ, UL, JL, KP, read_KP}
 use Rattle.definition.specs.Locations.{Part, plain, location, type, builtin, list, struct, struct_high, pairs, loc_field, u32_field, tag_fields, pair_fields, expand, blank, mark_fields, after_mark, told, blank_record, many, many_fields}
 use Rattle.theorems.proofs.Erase.{erase, taken_erase, structs_erase}
 
@@ -61,6 +61,7 @@ erase_record (RM t) = RM (erase_tree t)
 erase_record (CN t) = CN (erase_tree t)
 erase_record (XP t) = XP (erase_tree t)
 erase_record (MJ ps) = MJ (map erase_case_pair ps)
+erase_record (KP listed) = KP listed
 erase_record (UL t) = UL (erase_tree t)
 erase_record (JL t1 t2) = JL (erase_tree t1) (erase_tree t2)
 
@@ -355,6 +356,10 @@ module _ (s : State) where
   unfolding read_SD erase_record
   al_SD = al_bind _ _ (al_same (byte_to 15)) (λ a. al_bind _ _ (al_same (byte_to 8)) (λ n. al_bind _ _ (al_same (times n (byte_to 31))) (λ ps. al_give (SD a ps) refl)))
 
+  al_KP : WholeRecord [] (read_KP s) (read_KP (erase s))
+  unfolding read_KP erase_record
+  al_KP = rw (taken_erase s) (al_bind _ _ (al_same byte) (λ n. al_bind _ _ (al_same (times n (name_below (taken s)))) (λ vs. al_give (KP vs) refl)))
+
   -- by mark, row for row
   data Marks : List (ℕ × ℕ × Reader Record) → List (ℕ × ℕ × Reader Record) → List (ℕ × ℕ × List Part × List Part × ℕ) → Type 0 where
     no_marks : Marks [] [] []
@@ -376,7 +381,7 @@ module _ (s : State) where
       mark_row al_SD (mark_row (al_loc_only FV (λ l. refl)) (mark_row (al_loc_only NV (λ l. refl)) (mark_row al_SN
       (mark_row (al_two JN (λ t u. refl)) (mark_row (al_two SU (λ t u. refl)) (mark_row (al_one UF (λ t. refl)) (mark_row (al_one RD (λ t. refl))
       (mark_row al_TS (mark_row (al_one IN (λ t. refl)) (mark_row al_NC (mark_row (al_loc_type BC (λ l t. refl)) (mark_row (al_loc_type SC (λ l t. refl))
-      (mark_row (al_give SV refl) (mark_row (al_one RM (λ t. refl)) (mark_row (al_one CN (λ t. refl)) (mark_row (al_one XP (λ t. refl)) (mark_row al_NL (mark_row al_MJ (mark_row (al_one UL (λ t. refl)) (mark_row (al_two JL (λ t u. refl)) no_marks))))))))))))))))))))
+      (mark_row (al_give SV refl) (mark_row (al_one RM (λ t. refl)) (mark_row (al_one CN (λ t. refl)) (mark_row (al_one XP (λ t. refl)) (mark_row al_NL (mark_row al_MJ (mark_row (al_one UL (λ t. refl)) (mark_row (al_two JL (λ t u. refl)) (mark_row al_KP no_marks)))))))))))))))))))))
 
   fields_alike : (bytes : Bytes) → Reads erase_record s (λ r. []) (read_fields s bytes) (read_fields (erase s) (blank_record s bytes))
   unfolding read_fields ◌>>=◌ go_on byte blank blank_record told

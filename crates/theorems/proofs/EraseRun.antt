@@ -1,6 +1,6 @@
 -- A record's run with all locations set to 0 is its run, with locations set to 0 in what it shows and leaves. Assumes nothing.
 -- Placing by the tree, SV by its steps, then record by record (`run_erase`) from EraseJoin and EraseWrite; at the end the answer (`Blanked`).
-use mathlib.Core.Path.{◌≡◌, refl, sym, ap}
+use mathlib.Core.Path.{◌≡◌, refl, sym, ap, ◌∙◌}
 use mathlib.Core.Bool.{Bool, true, false, not, ◌&&◌}
 use mathlib.Core.List.{List, [], ◌∷◌, ◌++◌, map, append-nil}
 use Rattle.std.specs.Prelude.{Option, None, Some}
@@ -18,12 +18,12 @@ use Rattle.definition.specs.Constraints.{num_vars, undecided, default_num_var, d
 use Rattle.definition.specs.Write.{Bytes, u16, write_error, u32}
 use Rattle.definition.specs.Reader.{Read}
 use Rattle.definition.specs.Trees.{Tree, unit_tree, anything_tree, error_tree, ref_tree, param_tree, apply_tree, var_tree, Trees, no_trees, ◌then◌, mark_fits, arity, is_mark, is_name}
-use Rattle.definition.specs.Record.{NumericKind, Numeric, Bits, Ordered, Record, SD, FV, NV, SN, JN, SU, UF, RD, IN, TS, NC, BC, SC, SV, RM, CN, XP, NL, MJ, UL, JL}
+use Rattle.definition.specs.Record.{NumericKind, Numeric, Bits, Ordered, Record, SD, FV, NV, SN, JN, SU, UF, RD, IN, TS, NC, BC, SC, SV, RM, CN, XP, NL, MJ, UL, JL, KP}
 use Rattle.definition.specs.Build.{build, build_all, build_pairs, build_many}
 use Rattle.definition.specs.Canonical.{canonical}
 use Rattle.definition.specs.Needs.{Needs, merge, needs, needs_args, write_needs}
 use Rattle.definition.specs.Sound.{sound}
-use Rattle.definition.specs.Step.{numeric_constraint, constrain, two_types, tell, run, Answer, number_of_error, refusal, put_back, answer_with, answer_within, apart, most_of, reply, lent, Apart, as_others, many, links_of_one, links_of_two, counted, tail_of, behind, unfolded}
+use Rattle.definition.specs.Step.{numeric_constraint, constrain, two_types, tell, run, Answer, number_of_error, refusal, put_back, answer_with, answer_within, apart, most_of, reply, lent, Apart, as_others, many, links_of_one, links_of_two, counted, tail_of, behind, unfolded, keeps}
 use Rattle.definition.specs.Expand.{Expanded, expand_type}
 use Rattle.definition.specs.Locations.{Part, type, types, codes, failures, blank, shown_fields, blank_before}
 use Rattle.theorems.proofs.EraseShown.{success_fields, Shows, shows, shows_none, count_width, shown_of}
@@ -40,12 +40,14 @@ use Rattle.theorems.proofs.EraseJoin.{unfold_type_erase, set_num_erase, ready_tv
 use Rattle.theorems.proofs.EraseRead.{erase_tree, erase_trees, erase_pair, erase_record, blank_nil, length_blank, ReadAlike, w_got, w_not, erase_case_pair}
 use Rattle.theorems.proofs.Canonical.{canonical_erase}
 use Rattle.theorems.proofs.EraseExpand.{Both, both_ok, both_refused, whole_blank, type_both}
+use Rattle.theorems.proofs.KeepErase.{cleared_erase, shown_erase}
+use Rattle.definition.specs.Keep.{reach, survivors}
 use Rattle.theorems.proofs.SoundRead.{FineRecord, RecordIn, ReadWell, given}
 use Rattle.theorems.proofs.LawsPost.{Post, p_ok}
 use Rattle.theorems.proofs.EraseWrite.{NameFits, Fits, Fitting, spanned_row, write_row, var_row, error_shown, Shown, shown_told, shown_refused, constraints_shown}
 use Rattle.theorems.proofs.EraseMany.{error_number_erase, put_back_erase, pairs_erase as run_pairs_erase}
 use Rattle.theorems.proofs.LinksErase.{links_of_erase, join_links_erase}
-use Rattle.theorems.proofs.DemandEveryDepth.{ByApart, as_other, as_many, as_links_of_one, as_links_of_two, by_apart}
+use Rattle.theorems.proofs.DemandEveryDepth.{ByApart, as_other, as_many, as_links_of_one, as_links_of_two, as_keeps, by_apart}
 use Rattle.theorems.proofs.LawsAnswer.{behind_length}
 use lib.Seq.{take-append_seam, drop-append_seam}
 use Rattle.theorems.proofs.LinksTail.{Tail, of_links, nothing_shown, one_tail, two_tail}
@@ -294,6 +296,7 @@ module _ (S : State) (h : sound S ≡ true) where
   run_erase (RM t) f b = rw (needs_erase t) (tell_erase (needs t))
   run_erase (CN t) f b = er_bind _ _ (place_erase t S) (λ x. er_bind _ _ (ready_tvars_erase x.0 x.1) (λ y. er_ok (rw (canonical_erase y.0 y.1, blank_nil S (canonical y.0 y.1)) refl)))
   run_erase (XP t) f b = expand_erase (place_erase t S) (place_went f (facts S h) (omega arith)) (place_run (Unit {0}) S true t (λ u. b) S (λ u. ranges_of S h))
+  run_erase (KP listed) f b = er_ok (pair_same (cleared_erase S listed) (shown_erase S listed ∙ sym (blank_nil S (survivors (reach S listed).vars))))
   run_erase (MJ ps) f b = er_bind _ _ (many_erase ps S) (λ x. er_ok (let e = run_pairs_erase S x.1 x.0 in pair_same e.0 e.1))
 
 -- ---- the count behind what a record shows: it has no locations
@@ -308,6 +311,7 @@ erase_apart as_others = as_others
 erase_apart (many ps) = many (map erase_case_pair ps)
 erase_apart (links_of_one t) = links_of_one (erase_tree t)
 erase_apart (links_of_two t u) = links_of_two (erase_tree t) (erase_tree u)
+erase_apart (keeps listed) = keeps listed
 
 apart_erase : (r : Record) → apart (erase_record r) ≡ erase_apart (apart r)
 unfolding apart erase_record erase_apart
@@ -332,6 +336,7 @@ apart_erase (XP t) = refl
 apart_erase (MJ ps) = refl
 apart_erase (UL t) = refl
 apart_erase (JL t u) = refl
+apart_erase (KP listed) = refl
 
 most_erase : (a : Apart) → most_of (erase_apart a) ≡ most_of a
 unfolding most_of erase_apart
@@ -339,6 +344,7 @@ most_erase as_others = refl
 most_erase (many ps) = refl
 most_erase (links_of_one t) = refl
 most_erase (links_of_two t u) = refl
+most_erase (keeps listed) = refl
 
 counted_erase : {m m' : Result ℕ} → Erased (λ (n : ℕ). n) m m' → counted m' ≡ counted m
 unfolding counted
@@ -351,6 +357,7 @@ module _ (S : State) where
   unfolding tail_of erase_apart
   tail_erase as_others = refl
   tail_erase (many ps) = refl
+  tail_erase (keeps listed) = refl
   tail_erase (links_of_one t) = counted_erase (er_bind _ _ (place_erase t S) (λ x. er_ok (links_of_erase x.0 x.1)))
   tail_erase (links_of_two t u) = counted_erase (er_bind _ _ (place_erase t S) (λ x. er_bind _ _ (place_erase u x.0) (λ y. er_ok (join_links_erase y.0 x.1 y.1))))
 
@@ -361,7 +368,8 @@ module _ (S : State) where
 
   tail_behind : {r : Record} {a : Apart} → ByApart r a → Behind (count_width a) (tail_of S a) (run S r)
   unfolding count_width tail_of run
-  tail_behind as_other = so_long refl
+  tail_behind (as_other e) = so_long refl
+  tail_behind as_keeps = so_long refl
   tail_behind as_many = so_long refl
   tail_behind (as_links_of_one {t = t}) = counted_behind (one_tail S t)
   tail_behind (as_links_of_two {t1 = t} {t2 = u}) = counted_behind (two_tail S t u)

@@ -10,9 +10,9 @@ use Rattle.std.specs.Prelude.{if◌then◌else◌}
 use Rattle.definition.specs.Types.{State, Refusal}
 use Rattle.definition.specs.Write.{Bytes}
 use Rattle.definition.specs.Reader.{Read, got, not_read, Reader, give, refuse, go_on, ◌>>=◌, byte, read_one, read_two, read_three}
-use Rattle.definition.specs.Record.{Record, SD, FV, NV, SN, JN, SU, UF, RD, IN, TS, NC, BC, SC, SV, RM, CN, XP, read_SD, read_TS, by_mark, fields_of, read_fields, max_record, hand_back, read_record, NL, MJ, read_MJ, UL, JL}
+use Rattle.definition.specs.Record.{Record, SD, FV, NV, SN, JN, SU, UF, RD, IN, TS, NC, BC, SC, SV, RM, CN, XP, read_SD, read_TS, by_mark, fields_of, read_fields, max_record, hand_back, read_record, NL, MJ, read_MJ, UL, JL, KP, read_KP}
 use Rattle.definition.specs.Locations.{Part, type, types, codes, failures, mark_fields, after_mark, told, pair}
-use Rattle.definition.specs.Step.{Apart, as_others, many, links_of_one, links_of_two, apart}
+use Rattle.definition.specs.Step.{Apart, as_others, many, links_of_one, links_of_two, apart, keeps}
 
 unfoldable pub success_fields : Record → List Part
 success_fields (SD abilities params) = []
@@ -36,6 +36,7 @@ success_fields (XP t) = type ∷ codes ∷ []
 success_fields (MJ ps) = pair ∷ []
 success_fields (UL t) = types ∷ []
 success_fields (JL t1 t2) = types ∷ []
+success_fields (KP listed) = []
 
 -- how many bytes of a count stand behind what it shows
 unfoldable pub count_width : Apart → ℕ
@@ -43,6 +44,7 @@ count_width as_others = 0
 count_width (many ps) = 0
 count_width (links_of_one t) = 4
 count_width (links_of_two t1 t2) = 4
+count_width (keeps listed) = 0
 
 unfoldable pub shown_of : Record → List Part × ℕ
 shown_of r = (success_fields r, count_width (apart r))
@@ -101,12 +103,12 @@ row_at (row {a = a'} {b = b'} {m = m} {ps = ps} {shown = shown} {n = n} {ms = ms
     go false q = q
 
 rows : (s : State) → Rows (by_mark s) mark_fields
-unfolding by_mark mark_fields shown_of success_fields count_width apart read_SD read_TS read_MJ
+unfolding by_mark mark_fields shown_of success_fields count_width apart read_SD read_TS read_MJ read_KP
 rows s =
     row (sh_bind _ _ (λ a. sh_bind _ _ (λ n. sh_bind _ _ (λ ps. sh_give _ refl)))) (row (sh_one _ _ (λ l. refl)) (row (sh_one _ _ (λ l. refl)) (row (sh_two _ _ _ (λ v l. refl))
     (row (sh_two _ _ _ (λ t u. refl)) (row (sh_two _ _ _ (λ t u. refl)) (row (sh_one _ _ (λ t. refl)) (row (sh_one _ _ (λ t. refl))
     (row (sh_bind _ _ (λ n. sh_bind _ _ (λ ps. sh_bind _ _ (λ t. sh_give _ refl)))) (row (sh_one _ _ (λ t. refl)) (row (sh_three _ _ _ _ (λ l k t. refl)) (row (sh_two _ _ _ (λ l t. refl)) (row (sh_two _ _ _ (λ l t. refl))
-    (row (sh_give _ refl) (row (sh_one _ _ (λ t. refl)) (row (sh_one _ _ (λ t. refl)) (row (sh_one _ _ (λ t. refl)) (row (sh_two _ _ _ (λ l n. refl)) (row (sh_bind _ _ (λ n. sh_bind _ _ (λ ps. sh_give _ refl))) (row (sh_one _ _ (λ t. refl)) (row (sh_two _ _ _ (λ t u. refl)) no_rows))))))))))))))))))))
+    (row (sh_give _ refl) (row (sh_one _ _ (λ t. refl)) (row (sh_one _ _ (λ t. refl)) (row (sh_one _ _ (λ t. refl)) (row (sh_two _ _ _ (λ l n. refl)) (row (sh_bind _ _ (λ n. sh_bind _ _ (λ ps. sh_give _ refl))) (row (sh_one _ _ (λ t. refl)) (row (sh_two _ _ _ (λ t u. refl)) (row (sh_bind _ _ (λ n. sh_bind _ _ (λ vs. sh_give _ refl))) no_rows)))))))))))))))))))))
 
 handed : {shown : List Part × ℕ} (more : Bytes) {x : Read Record} → Shows shown x → Shows shown (hand_back more x)
 unfolding hand_back

@@ -17,7 +17,7 @@ use Rattle.definition.specs.Write.{Bytes, write}
 use Rattle.definition.specs.Reader.{Read, got, not_read, Reader, give, refuse, go_on, ◌>>=◌, byte, read_u16, read_u32, byte_if, byte_to, read_bool, name_below, times, read_one, read_two, read_three}
 use Rattle.definition.specs.Trees.{Tree, unit_tree, anything_tree, error_tree, ref_tree, param_tree, apply_tree, var_tree, Trees, no_trees, ◌then◌}
 use Rattle.definition.specs.Trees.{read_trees, mark_of, read_mark, mark_fits, arity, under_ref, read_apply, by_tag, is_set, is_name, read_nested, read_type}
-use Rattle.definition.specs.Record.{Record, SD, FV, NV, SN, JN, SU, UF, RD, IN, TS, NC, BC, SC, SV, RM, CN, XP, read_kind, read_SD, read_pair, read_TS, by_mark, fields_of, read_fields, max_record, hand_back, read_record, NL, read_bits, MJ, read_case, is_many, read_case_pair, read_MJ, UL, JL}
+use Rattle.definition.specs.Record.{Record, SD, FV, NV, SN, JN, SU, UF, RD, IN, TS, NC, BC, SC, SV, RM, CN, XP, read_kind, read_SD, read_pair, read_TS, by_mark, fields_of, read_fields, max_record, hand_back, read_record, NL, read_bits, MJ, read_case, is_many, read_case_pair, read_MJ, UL, JL, KP, read_KP}
 use Rattle.definition.specs.Build.{build, build_all}
 use Rattle.definition.specs.Step.{Answer, refusal, max_payload, answer_with, answer_within, apart, most_of, reply, usable, two_types, lent, run, step, behind, tail_of, links_of_two}
 use Rattle.definition.specs.Demand.{JoinCall, outcome, run_calls, Event, nothing_done, events_by, lent_events, events, one_event}
@@ -216,6 +216,7 @@ weight (RM t) = 0
 weight (CN t) = 0
 weight (XP t) = 0
 weight (MJ pairs) = many_size pairs
+weight (KP listed) = 0
 weight (UL t) = 0
 weight (JL t1 t2) = tree_size t1 + tree_size t2
 
@@ -319,6 +320,10 @@ module _ (n : ℕ) where
     unfolding read_MJ weight
     light_MJ = light_pays _ (pays_then (λ b. 1) weight 0 (byte_if is_many) _ (pays_byte_if is_many) (λ k. pays_then many_size weight 1 (times k (read_case_pair s)) _ (pays_many k) (λ ps. pays_give weight (1 + many_size ps) (MJ ps) (omega arith))))
 
+    light_KP : Light (read_KP s)
+    unfolding read_KP weight
+    light_KP = light (always_then byte _ (λ n. always_then (times n (name_below (taken s))) _ (λ vs. always_give (KP vs) refl)))
+
     abbrev AllLight : List (ℕ × ℕ × Reader Record) → Type 0
     AllLight [] = Unit {0}
     AllLight (e ∷ es) = Light e.2 × AllLight es
@@ -344,7 +349,7 @@ module _ (n : ℕ) where
                 light_two SU (λ a b. refl),
                 (
                   light_one UF (λ t. refl),
-                  (light_one RD (λ t. refl), (light_TS, (light_one IN (λ t. refl), (light_NC, (light_loc_type BC (λ l t. refl), (light_loc_type SC (λ l t. refl), (light (always_give SV refl), (light_one RM (λ t. refl), (light_one CN (λ t. refl), (light_one XP (λ t. refl), (light_NL, (light_MJ, (light_one UL (λ t. refl), (light_two JL (λ a b. refl), tt)))))))))))))),
+                  (light_one RD (λ t. refl), (light_TS, (light_one IN (λ t. refl), (light_NC, (light_loc_type BC (λ l t. refl), (light_loc_type SC (λ l t. refl), (light (always_give SV refl), (light_one RM (λ t. refl), (light_one CN (λ t. refl), (light_one XP (λ t. refl), (light_NL, (light_MJ, (light_one UL (λ t. refl), (light_two JL (λ a b. refl), (light_KP, tt))))))))))))))),
                 ),
               ),
             ),

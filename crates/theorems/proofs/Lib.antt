@@ -24,6 +24,16 @@ pub mod SolveInferred
 pub mod SoundRanges
 pub mod TotalReading
 pub mod DemandCalm
+pub mod KeepLists
+pub mod KeepReach
+pub mod KeepSame
+pub mod TotalChains
+pub mod KeepSound
+pub mod KeepRanges
+pub mod KeepReads
+pub mod KeepDepth
+pub mod KeepHeld
+pub mod KeepAgain
 pub mod SoundRead
 pub mod TotalWalk
 pub mod DemandWent
@@ -41,6 +51,7 @@ pub mod DemandMade
 pub mod DemandEveryDepth
 pub mod Demand
 pub mod DemandEvents
+pub mod DemandMoves
 pub mod SolveTold
 pub mod DemandClear
 pub mod TotalFuel
@@ -75,6 +86,7 @@ pub mod NeedsRecord
 pub mod Stream
 pub mod SoundPoints
 pub mod Erase
+pub mod KeepErase
 pub mod Spelled
 pub mod EraseJoin
 pub mod LinksErase
@@ -88,6 +100,8 @@ pub mod Canonical
 pub mod CanonicalAgree
 pub mod CanonicalBytes
 pub mod CanonicalSpelled
+pub mod KeepAlike
+pub mod KeepAnswers
 pub mod CanonicalReady
 pub mod EraseWrite
 pub mod EraseExpand

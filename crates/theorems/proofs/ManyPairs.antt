@@ -19,7 +19,7 @@ use Rattle.definition.specs.Trees.{Tree, unit_tree, anything_tree, error_tree, r
 use Rattle.definition.specs.Record.{Record, MJ, read_record}
 use Rattle.definition.specs.Build.{build, build_all, build_many}
 use Rattle.definition.specs.Step.{Answer, number_of_error, refusal, put_back, max_payload, answer_with, answer_within, answer, two_types, pair_answer, pair_bytes, run_pairs, run, apart, max_many, most_of, reply, usable, lent, step, behind, tail_of}
-use Rattle.definition.specs.Demand.{JoinCall, outcome, Event, pair_events, nothing_done, many_events, events_by, lent_events, events}
+use Rattle.definition.specs.Demand.{JoinCall, outcome, Event, pair_events, nothing_done, many_events, events_by, lent_events, events, stays}
 use Rattle.theorems.proofs.DemandOrder.{All, All_map, Sound}
 use Rattle.theorems.proofs.LawsPost.{Grown, grown_refl, Post, p_ok, bind_post}
 use Rattle.theorems.proofs.SoundRoom.{with_room, sp_room}
@@ -363,7 +363,7 @@ pair_calls (p ∷ qs) S h f e m a n s' t d =
       | inr i ↦ pair_calls qs (pair_answer S p).state r.went.sound (fits_on h r.went.sound r.grown qs f.1) e i a n s' t d
     ]
   where
-    this : e ≡ record { state = (pair_answer S p).state; calls = record { before = S; case = p.0; lhs = p.1; rhs = p.2 } ∷ [] } → Answers0 e a s' t
+    this : e ≡ record { state = (pair_answer S p).state; calls = record { before = S; case = p.0; lhs = p.1; rhs = p.2 } ∷ []; moves = stays } → Answers0 e a s' t
     this i =
         let b : a ≡ record { before = S; case = p.0; lhs = p.1; rhs = p.2 } = mathlib.Core.List.Memᴰ.eq_of_singleton (subst (λ (y : Event). Memᴰ a y.calls) i n) in
         let k : join_impl max_depth S p.0 p.1 p.2 ≡ ok (s', t) = subst (λ (x : JoinCall). outcome x ≡ ok (s', t)) b d in

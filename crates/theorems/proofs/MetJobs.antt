@@ -4,7 +4,7 @@ use mathlib.Core.Path.{◌≡◌, refl, sym, ap, ◌∙◌}
 use mathlib.Core.Logic.{◌≢◌}
 use mathlib.Core.Bool.{Bool, true, false}
 use mathlib.Core.List.{List, [], ◌∷◌, Memᴰ}
-use Rattle.std.specs.Prelude.{None, if◌then◌else◌}
+use Rattle.std.specs.Prelude.{Option, None, if◌then◌else◌}
 use Prim.Native.Nat.{ℕ, zero, suc, ◌-◌, ◌≤◌, ◌<◌}
 use native.Mathlib.Omega.{arith}
 use lib.ListN.{length, take}
@@ -34,11 +34,12 @@ use Rattle.theorems.proofs.SoundKept.{stream_sound_kept, trusted, fresh_sound}
 use Rattle.theorems.proofs.Stream.{ends}
 use Rattle.theorems.proofs.StreamRecords.{front, records_from, records_of}
 use Rattle.theorems.proofs.StreamCuts.{Fronted, fronted, not_fronted, fronts}
-use Rattle.theorems.proofs.DemandRecords.{Literals, literals, ByLiterals, is_SN, is_NL, is_neither, by_literals, spares, Leaves, l_ok, l_err, l_refused, run_leaves, PairIn, pairs_on, pair_raised, PlacedPairs, many_went}
+use Rattle.theorems.proofs.DemandRecords.{Literals, literals, ByLiterals, is_SN, is_NL, is_neither, by_literals, spares, Leaves, l_ok, l_cleared, l_err, l_refused, run_leaves, PairIn, pairs_on, pair_raised, PlacedPairs, many_went}
 use Rattle.theorems.proofs.ManyPairs.{Pair}
 use Rattle.theorems.proofs.LawsPost.{Post, p_ok}
 use Rattle.definition.specs.Build.{build_many}
-use Rattle.theorems.proofs.DemandEveryDepth.{between, ByApart, as_other, as_many, by_apart, as_links_of_one, as_links_of_two}
+use Rattle.theorems.proofs.DemandEveryDepth.{between, ByApart, as_other, as_many, as_keeps, by_apart, as_links_of_one, as_links_of_two}
+use Rattle.theorems.proofs.KeepHeld.{keep_claim}
 use Rattle.theorems.proofs.MetSteps.{Claim, is_held, is_bare, Claimed, keeps_claim, Holds, holds_var, holds_fit, Held, NoNeeds}
 
 -- ---- every record keeps the claim but those that begin with these letters: SN's, NL's
@@ -70,17 +71,18 @@ module _ (q : Claim) (s : State) (h : Claimed q s) where
       go true = k
       go false = h
 
-  answer_kept : {ar : TypeName → ℕ} → Sound ar s → (r : Literals) → spares q r ≡ true → (m : Result (State × Bytes)) → Leaves r ar s m → (most : ℕ) (tail : Bytes) → Claimed q (answer_within most tail s m).state
+  answer_kept : sound s ≡ true → (r : Literals) → spares q r ≡ true → {k : Option (List ℕ)} (m : Result (State × Bytes)) → Leaves r (arity s) s k m → (most : ℕ) (tail : Bytes) → Claimed q (answer_within most tail s m).state
   unfolding answer_within refusal
   answer_kept f r e (ok (s', p)) (l_ok w k) most tail = answer_with_kept most _ (behind tail p) s' (k q e h)
-  answer_kept f r e (err s' x) (l_err g n) most tail = answer_with_kept most _ _ (put_back s s') (keeps_claim (held_put_back f g n) q h)
+  answer_kept f r e (ok (s', p)) (l_cleared {listed = listed} d i k) most tail = answer_with_kept most _ (behind tail p) s' (rw d (keep_claim s f listed k q h))
+  answer_kept f r e (err s' x) (l_err g n) most tail = answer_with_kept most _ _ (put_back s s') (keeps_claim (held_put_back (facts s f) g n) q h)
   answer_kept f r e (refused x) l_refused most tail = h
 
-  reply_kept : Sound (arity s) s → (r : Record) → spares q (literals r) ≡ true → FineRecord (arity s) (taken s) r → Claimed q (reply s r).state
+  reply_kept : sound s ≡ true → (r : Record) → spares q (literals r) ≡ true → FineRecord (arity s) (taken s) r → Claimed q (reply s r).state
   unfolding reply
-  reply_kept f r e p = answer_kept f (literals r) e (run s r) (run_leaves s f r p) (most_of (apart r)) (tail_of s (apart r))
+  reply_kept f r e p = answer_kept f (literals r) e (run s r) (run_leaves s (facts s f) r p) (most_of (apart r)) (tail_of s (apart r))
 
-  lent_kept : Sound (arity s) s → {n : ℕ} (bytes : Bytes) (r : Read Record) → ReadWell ⊥ s n r → take 2 bytes ≢ letters_of q → Lettered (take 2 bytes) r → Claimed q (lent s r).state
+  lent_kept : sound s ≡ true → {n : ℕ} (bytes : Bytes) (r : Read Record) → ReadWell ⊥ s n r → take 2 bytes ≢ letters_of q → Lettered (take 2 bytes) r → Claimed q (lent s r).state
   unfolding lent refusal
   lent_kept f bytes (got r []) (given p i l) d e = reply_kept f r (spared q bytes d e) p.0
   lent_kept f bytes (got r (b ∷ rest)) p d e = h
@@ -92,7 +94,7 @@ module _ (q : Claim) (s : State) (h : Claimed q s) where
   step_kept bytes buffer d = go (usable s bytes buffer) refl
     where
       go : (b : Bool) → usable s bytes buffer ≡ b → Claimed q (elim b as (λ x. Answer) [ true ↦ lent s (read_record s bytes) | false ↦ refusal s unsound_state ]).state
-      go true e = lent_kept (facts s (sound_of s bytes buffer e)) bytes (read_record s bytes) (well_read ⊥ s bytes (λ x. absurd x)) d (read_letters s bytes)
+      go true e = lent_kept (sound_of s bytes buffer e) bytes (read_record s bytes) (well_read ⊥ s bytes (λ x. absurd x)) d (read_letters s bytes)
       go false e = h
 
 -- a state without needs stays without by every record that does not begin with the letters NL
@@ -125,15 +127,16 @@ many_held s (ok (S, ps)) (p_ok g p) h = pairs_held ps S p.went.sound p.pairs_in 
 many_held s (err S e) p h = (h, tt)
 many_held s (refused x) p h = (h, tt)
 
-lent_events_held : (s : State) → Sound (arity s) s → {n : ℕ} (bytes : Bytes) (r : Read Record) → ReadWell ⊥ s n r → take 2 bytes ≢ letters_of is_held → Lettered (take 2 bytes) r → Held s → All (λ e. Held e.state) (lent_events s r)
+lent_events_held : (s : State) → sound s ≡ true → {n : ℕ} (bytes : Bytes) (r : Read Record) → ReadWell ⊥ s n r → take 2 bytes ≢ letters_of is_held → Lettered (take 2 bytes) r → Held s → All (λ e. Held e.state) (lent_events s r)
 unfolding lent_events events_by one_event nothing_done Claimed
 lent_events_held s f bytes (got r []) (given p i l) d e h = go r (apart r) (by_apart r) p.0 (spared is_held bytes d e)
   where
     go : (r : Record) (a : Apart) → ByApart r a → FineRecord (arity s) (taken s) r → spares is_held (literals r) ≡ true → All (λ e. Held e.state) (events_by s r a)
-    go r a as_other p e = (reply_kept is_held s h f r e p, tt)
+    go r a (as_other d) p e = (reply_kept is_held s h f r e p, tt)
+    go r a as_keeps p e = (reply_kept is_held s h f r e p, tt)
     go r a as_links_of_one p e = (reply_kept is_held s h f r e p, tt)
     go r a as_links_of_two p e = (reply_kept is_held s h f r e p, tt)
-    go r a (as_many {ps = ps}) p e = many_held s (build_many ps s) (many_went ps p.0 f (omega arith)) h
+    go r a (as_many {ps = ps}) p e = many_held s (build_many ps s) (many_went ps p.0 (facts s f) (omega arith)) h
 lent_events_held s f bytes (got r (b ∷ rest)) p d e h = (h, tt)
 lent_events_held s f bytes (not_read x) p d e h = (h, tt)
 
@@ -142,7 +145,7 @@ unfolding events nothing_done letters_of
 events_held s bytes buffer d h = go (usable s bytes buffer) refl
   where
     go : (b : Bool) → usable s bytes buffer ≡ b → All (λ e. Held e.state) (elim b as (λ x. List Event) [ true ↦ lent_events s (read_record s bytes) | false ↦ nothing_done s ])
-    go true e = lent_events_held s (facts s (sound_of s bytes buffer e)) bytes (read_record s bytes) (well_read ⊥ s bytes (λ x. absurd x)) d (read_letters s bytes) h
+    go true e = lent_events_held s (sound_of s bytes buffer e) bytes (read_record s bytes) (well_read ⊥ s bytes (λ x. absurd x)) d (read_letters s bytes) h
     go false e = (h, tt)
 
 trace_held : (s : State) (records : List (Bytes × ℕ)) → WithoutSN records → Held s → All (λ e. Held e.state) (trace s records)
@@ -239,7 +242,7 @@ stream_met (suc n) s (b ∷ bytes) is h k w =
         let left : q.1 ≡ rest = ap (λ (q : Answer × Bytes). q.1) e in
         let is : q.0 ≡ reply s r = ap (λ (q : Answer × Bytes). q.0) e in
         let none_SN : spares is_held (literals r) ≡ true = spared is_held (front (b ∷ bytes) rest) (λ y. w (front (b ∷ bytes) rest, job_buffer) (Memᴰ.head refl) y) (rw f at (read_letters s (front (b ∷ bytes) rest))) in
-        let held : Held q.0.state = rw is (reply_kept is_held s k (facts s h) r none_SN p.0) in
+        let held : Held q.0.state = rw is (reply_kept is_held s k h r none_SN p.0) in
         on q (ends_job q.0.number) (all_met q.0.state safe held) (λ o. later held (λ z m. w z (Memᴰ.tail (rw left at m))))
     go (not_read x) q e not_fronted (not_given t) safe later w =
         let is : q.0 ≡ refusal s x = ap (λ (q : Answer × Bytes). q.0) e in

@@ -10,7 +10,7 @@ use Rattle.std.specs.Prelude.{if◌then◌else◌}
 use Rattle.definition.specs.Types.{State, Refusal}
 use Rattle.definition.specs.Write.{Bytes}
 use Rattle.definition.specs.Reader.{Read, got, not_read, Reader, give, refuse, go_on, ◌>>=◌, read_one, read_two, read_three, byte}
-use Rattle.definition.specs.Record.{Record, SD, FV, NV, SN, JN, SU, UF, RD, IN, TS, NC, BC, SC, SV, RM, CN, XP, NL, MJ, read_SD, read_TS, read_MJ, by_mark, fields_of, read_fields, max_record, hand_back, read_record, UL, JL}
+use Rattle.definition.specs.Record.{Record, SD, FV, NV, SN, JN, SU, UF, RD, IN, TS, NC, BC, SC, SV, RM, CN, XP, NL, MJ, read_SD, read_TS, read_MJ, by_mark, fields_of, read_fields, max_record, hand_back, read_record, UL, JL, KP, read_KP}
 use Rattle.theorems.proofs.SoundFacts.{and_l, and_r, test}
 
 unfoldable pub letters : Record → Bytes
@@ -35,6 +35,7 @@ letters (XP t) = 88 ∷ 80 ∷ []
 letters (MJ pairs) = 77 ∷ 74 ∷ []
 letters (UL t) = 85 ∷ 76 ∷ []
 letters (JL t1 t2) = 74 ∷ 76 ∷ []
+letters (KP listed) = 75 ∷ 80 ∷ []
 
 -- what is read has these letters
 pub data Lettered (l : Bytes) : Read Record → Type 0 where
@@ -74,12 +75,12 @@ data Rows : List (ℕ × ℕ × Reader Record) → Type 0 where
   row : {a b : ℕ} {m : Reader Record} {ms : List (ℕ × ℕ × Reader Record)} → Lettering (a ∷ b ∷ []) m → Rows ms → Rows ((a, b, m) ∷ ms)
 
 rows : (s : State) → Rows (by_mark s)
-unfolding by_mark letters read_SD read_TS read_MJ
+unfolding by_mark letters read_SD read_TS read_MJ read_KP
 rows s =
     row (let_bind _ _ (λ a. let_bind _ _ (λ n. let_bind _ _ (λ ps. let_give _ refl)))) (row (let_one _ _ (λ l. refl)) (row (let_one _ _ (λ l. refl)) (row (let_two _ _ _ (λ v l. refl))
     (row (let_two _ _ _ (λ t u. refl)) (row (let_two _ _ _ (λ t u. refl)) (row (let_one _ _ (λ t. refl)) (row (let_one _ _ (λ t. refl))
     (row (let_bind _ _ (λ n. let_bind _ _ (λ ps. let_bind _ _ (λ t. let_give _ refl)))) (row (let_one _ _ (λ t. refl)) (row (let_three _ _ _ _ (λ l b t. refl)) (row (let_two _ _ _ (λ l t. refl)) (row (let_two _ _ _ (λ l t. refl))
-    (row (let_give _ refl) (row (let_one _ _ (λ t. refl)) (row (let_one _ _ (λ t. refl)) (row (let_one _ _ (λ t. refl)) (row (let_two _ _ _ (λ l n. refl)) (row (let_bind _ _ (λ n. let_bind _ _ (λ ps. let_give _ refl))) (row (let_one _ _ (λ t. refl)) (row (let_two _ _ _ (λ t u. refl)) no_rows))))))))))))))))))))
+    (row (let_give _ refl) (row (let_one _ _ (λ t. refl)) (row (let_one _ _ (λ t. refl)) (row (let_one _ _ (λ t. refl)) (row (let_two _ _ _ (λ l n. refl)) (row (let_bind _ _ (λ n. let_bind _ _ (λ ps. let_give _ refl))) (row (let_one _ _ (λ t. refl)) (row (let_two _ _ _ (λ t u. refl)) (row (let_bind _ _ (λ n. let_bind _ _ (λ vs. let_give _ refl))) no_rows)))))))))))))))))))))
 
 row_at : {ms : List (ℕ × ℕ × Reader Record)} → Rows ms → (a b : ℕ) → Lettering (a ∷ b ∷ []) (fields_of ms a b)
 unfolding fields_of refuse

@@ -93,10 +93,10 @@ unfoldable pub spell_down : Spelling → ℕ → State → List ℕ → ℕ → 
 spell_down how zero s met t = record { bytes = []; met = met }
 spell_down how (suc n) s met t = spelled_with how (λ met p. spell_down how n s met p) met (loc_of s t) (type_at s t)
 
-as_it_stands : List ℕ → Bytes → Spelled
+unfoldable pub as_it_stands : List ℕ → Bytes → Spelled
 as_it_stands met b = record { bytes = b; met = met }
 
-each_located : (f : List ℕ → ℕ → Spelled) (g : ℕ → Bytes) → ((met : List ℕ) (p : ℕ) → f met p ≡ as_it_stands met (g p)) → (met ps : List ℕ) → spell_each f met ps ≡ as_it_stands met (each g ps)
+pub each_located : (f : List ℕ → ℕ → Spelled) (g : ℕ → Bytes) → ((met : List ℕ) (p : ℕ) → f met p ≡ as_it_stands met (g p)) → (met ps : List ℕ) → spell_each f met ps ≡ as_it_stands met (each g ps)
 unfolding spell_each each as_it_stands
 each_located f g h met [] = refl
 each_located f g h met (p ∷ ps) = rw (h met p, each_located f g h met ps) refl

@@ -32,7 +32,9 @@ use Rattle.theorems.proofs.DemandPutBack.{sound_put_back}
 use Rattle.theorems.proofs.SoundRanges.{ShapeIn, NodeIn, CellIn, ConstraintIn, StructIn, Ranges, node_in, cell_in, need_cell, put_back_ranges}
 use Rattle.theorems.proofs.SoundRead.{ReadTime, five, six, eighteen, ReadWell, given, not_given, well_read, FineRecord, RecordIn}
 use Rattle.theorems.proofs.SoundRefusals.{error_number, step_cases, stream_cases}
-use Rattle.theorems.proofs.DemandRecords.{Leaves, l_ok, l_err, l_refused, run_leaves, Literals, literals}
+use Rattle.theorems.proofs.DemandRecords.{Leaves, l_ok, l_cleared, l_err, l_refused, run_leaves, Literals, literals}
+use Rattle.theorems.proofs.KeepSound.{cleared_sound}
+use Rattle.std.specs.Prelude.{Option}
 use Rattle.theorems.proofs.TotalWalk.{RunTime, seven, eight, nine, ten, eleven, twelve, thirteen, sixteen, seventeen, e_ok, e_err, e_refused, Run, run_walk}
 
 -- ---- from the test to the ranges
@@ -194,9 +196,10 @@ module _ (s : State) (h : sound s ≡ true) where
   unfolding refusal
   refusal_good x l = record { left = h; no_15 = l }
 
-  answer_good : (r : Literals) (most : ℕ) (tail : Bytes) (m : Result (State × Bytes)) → Leaves r (arity s) s m → Run (Unit {0}) s true m → Good (answer_within most tail s m)
+  answer_good : (r : Literals) {k : Option (List ℕ)} (most : ℕ) (tail : Bytes) (m : Result (State × Bytes)) → Leaves r (arity s) s k m → Run (Unit {0}) s true m → Good (answer_within most tail s m)
   unfolding answer_within
   answer_good r most tail (ok (s', p)) (l_ok w k) (e_ok i) = with_good most s h 0 (λ d. absurd (omega (arith, d))) (behind tail p) s' (still_sound w.sound (i tt))
+  answer_good r most tail (ok (s', p)) (l_cleared {listed = listed} d e k) (e_ok i) = with_good most s h 0 (λ d. absurd (omega (arith, d))) (behind tail p) s' (rw d (cleared_sound s h listed k))
   answer_good r most tail (err s' e) (l_err g n) (e_err i) = with_good most s h (number_of_error e) (λ d. absurd (omega (arith, error_number e, d))) _ (put_back s s') (still_sound (sound_put_back (facts s h) g n) (put_back_ranges (ranges_of s h) (i tt)))
   answer_good r most tail (refused x) l_refused (e_refused t) = refusal_good x (run_time_number t)
 

@@ -16,7 +16,7 @@ use Rattle.definition.specs.Reader.{Read, got, not_read, Reader, give, refuse, g
 use Rattle.definition.specs.Join.{TypingCase}
 use Rattle.definition.specs.Trees.{Tree, unit_tree, anything_tree, error_tree, ref_tree, param_tree, apply_tree, var_tree, Trees, no_trees, ◌then◌, is_set, is_param, is_count, is_mark, is_name}
 use Rattle.definition.specs.Trees.{read_trees, mark_of, read_mark, mark_fits, arity, under_ref, read_apply, by_tag, read_nested, read_type}
-use Rattle.definition.specs.Record.{Record, SD, FV, NV, SN, JN, SU, UF, RD, IN, TS, NC, BC, SC, SV, RM, CN, XP, read_kind, read_SD, read_pair, read_TS, by_mark, fields_of, read_fields, max_record, hand_back, read_record, NL, read_bits, MJ, read_case, is_many, read_case_pair, read_MJ, UL, JL}
+use Rattle.definition.specs.Record.{Record, SD, FV, NV, SN, JN, SU, UF, RD, IN, TS, NC, BC, SC, SV, RM, CN, XP, read_kind, read_SD, read_pair, read_TS, by_mark, fields_of, read_fields, max_record, hand_back, read_record, NL, read_bits, MJ, read_case, is_many, read_case_pair, read_MJ, UL, JL, KP, read_KP}
 use Rattle.definition.specs.Sound.{is_u32, struct_allowed}
 use Rattle.theorems.proofs.DemandOrder.{All, All_map}
 use Rattle.theorems.proofs.SoundFacts.{and_l, and_r, not_false, test}
@@ -71,6 +71,7 @@ FineRecord ar vars (XP t) = Fine ar vars t
 FineRecord ar vars (UL t) = Fine ar vars t
 FineRecord ar vars (JL t1 t2) = Fine ar vars t1 × Fine ar vars t2
 FineRecord ar vars (MJ pairs) = FineMany ar vars pairs × (1 ≤ length pairs) × (length pairs ≤ 15)
+FineRecord ar vars (KP listed) = All (λ v. v < vars) listed
 
 -- ---- fields in range: the names are those of s
 
@@ -110,6 +111,7 @@ RecordIn s (XP t) = TreeIn s t
 RecordIn s (UL t) = TreeIn s t
 RecordIn s (JL t1 t2) = TreeIn s t1 × TreeIn s t2
 RecordIn s (MJ pairs) = All (λ (p : TypingCase × Tree × Tree). TreeIn s p.1 × TreeIn s p.2) pairs
+RecordIn s (KP listed) = Unit {0}
 
 -- ---- bytes
 
@@ -340,6 +342,11 @@ module _ (H : Type 0) where
     gives_MJ = gives_then (byte_if is_many) _ (gives_byte_if is_many) (λ n p. gives_then (times n (read_case_pair s)) _ (gives_times n (read_case_pair s) gives_case_pair) (λ ps q.
         gives_give _ ((All_map (λ x y. (y.0.0, y.1.0)) ps q.0, omega (arith, q.1, (few_pairs n p).0), omega (arith, q.1, (few_pairs n p).1)), λ h. All_map (λ x y. (y.0.1 h, y.1.1 h)) ps q.0)))
 
+    gives_KP : Gives GoodRecord (read_KP s)
+    unfolding read_KP
+    gives_KP = gives_then byte _ gives_byte (λ n p. gives_then (times n (name_below (taken s))) _ (gives_times n (name_below (taken s)) (gives_name (taken s))) (λ vs q.
+        gives_give _ (All_map (λ v l. ltb→lt v (taken s) (test l)) vs q.0, λ h. tt)))
+
     abbrev AllMarks : List (ℕ × ℕ × Reader Record) → Type 0
     AllMarks [] = Unit {0}
     AllMarks (e ∷ es) = Gives GoodRecord e.2 × AllMarks es
@@ -370,7 +377,7 @@ module _ (H : Type 0) where
                   gives_one UF (λ t p. p),
                   (
                     gives_one RD (λ t p. p),
-                    (gives_TS, (gives_one IN (λ t p. p), (gives_NC, (gives_loc_type BC (λ l t p q. (q.0, λ h. (p h, q.1 h))), (gives_loc_type SC (λ l t p q. (q.0, λ h. (p h, q.1 h))), (gives_give SV (tt, λ h. tt), (gives_one RM (λ t p. p), (gives_one CN (λ t p. p), (gives_one XP (λ t p. p), (gives_NL, (gives_MJ, (gives_one UL (λ t p. p), (gives_two JL (λ a b p q. two p q), tt))))))))))))),
+                    (gives_TS, (gives_one IN (λ t p. p), (gives_NC, (gives_loc_type BC (λ l t p q. (q.0, λ h. (p h, q.1 h))), (gives_loc_type SC (λ l t p q. (q.0, λ h. (p h, q.1 h))), (gives_give SV (tt, λ h. tt), (gives_one RM (λ t p. p), (gives_one CN (λ t p. p), (gives_one XP (λ t p. p), (gives_NL, (gives_MJ, (gives_one UL (λ t p. p), (gives_two JL (λ a b p q. two p q), (gives_KP, tt)))))))))))))),
                   ),
                 ),
               ),
@@ -400,3 +407,9 @@ ReadWell H s n r = Given H (λ r. FineRecord (arity s) (taken s) r × (H → Rec
 
 pub well_read : (H : Type 0) (s : State) (bytes : Bytes) → (H → IsBytes bytes) → ReadWell H s (length bytes - 1) (read_record s bytes)
 well_read H s bytes is = gives_record H s bytes is
+
+pub read_fine : (s : State) (bytes : Bytes) (r : Record) (rest : Bytes) → read_record s bytes ≡ got r rest → FineRecord (arity s) (taken s) r
+read_fine s bytes r rest e = go (rw e at (well_read ⊥ s bytes (λ h. absurd h)))
+  where
+    go : {n : ℕ} → ReadWell ⊥ s n (got r rest) → FineRecord (arity s) (taken s) r
+    go (given f i l) = f.0

@@ -19,7 +19,7 @@ use Rattle.definition.specs.Build.{build_many}
 use Rattle.definition.specs.Step.{Answer, number_of_refusal, refusal, max_payload, run, Apart, apart, max_many, most_of, reply, max_buffer, least_buffer, lent, step, streamed, step_stream, tail_of}
 use Rattle.theorems.proofs.DemandTracks.{never}
 use Rattle.theorems.proofs.ReadLetters.{letters, Lettered, lettered, not_lettered, read_letters}
-use Rattle.theorems.proofs.DemandEveryDepth.{ByApart, as_other, as_many, by_apart, as_links_of_one, as_links_of_two}
+use Rattle.theorems.proofs.DemandEveryDepth.{ByApart, as_other, as_many, by_apart, as_links_of_one, as_links_of_two, as_keeps}
 use Rattle.theorems.proofs.SoundRefusals.{step_cases, stream_cases}
 use Rattle.theorems.proofs.TotalWalk.{RunTime, seven, eight, nine, ten, eleven, twelve, thirteen, sixteen, seventeen, Ends, e_err, e_refused}
 use Rattle.theorems.proofs.ManyPairs.{Pair, answer_length, many_count, many_replies, many_refused, few_read}
@@ -45,7 +45,8 @@ many_short (a ∷ b ∷ bytes) e = let p : a ≡ 77 = cc in let q : b ≡ 74 = c
 
 by_letters : (bytes : Bytes) {r : Record} {a : Apart} → ByApart r a → letters r ≡ take 2 bytes → most_of a ≤ least_buffer bytes
 unfolding most_of letters
-by_letters bytes as_other e = others_short bytes
+by_letters bytes (as_other d) e = others_short bytes
+by_letters bytes as_keeps e = others_short bytes
 by_letters bytes as_links_of_one e = others_short bytes
 by_letters bytes as_links_of_two e = others_short bytes
 by_letters bytes as_many e = omega (arith, many_short bytes (sym e))

@@ -15,7 +15,7 @@ use Rattle.definition.specs.Store.{taken}
 use Rattle.definition.specs.Write.{Bytes}
 use Rattle.definition.specs.Reader.{Read, got, not_read, Reader, give, refuse, go_on, ◌>>=◌, byte, read_u16, read_u32, byte_if, read_bool, name_below, times, read_one, read_two, read_three}
 use Rattle.definition.specs.Trees.{Tree, read_trees, mark_of, read_mark, mark_fits, arity, under_ref, read_apply, by_tag, is_name, read_nested, read_type}
-use Rattle.definition.specs.Record.{Record, read_kind, read_SD, read_pair, read_TS, by_mark, fields_of, read_fields, max_record, hand_back, read_record, read_bits, read_case, read_case_pair, read_MJ}
+use Rattle.definition.specs.Record.{Record, read_kind, read_SD, read_pair, read_TS, by_mark, fields_of, read_fields, max_record, hand_back, read_record, read_bits, read_case, read_case_pair, read_MJ, read_KP}
 use Rattle.theorems.proofs.StreamRecords.{front}
 use Rattle.theorems.proofs.DemandOrder.{All}
 use Rattle.theorems.proofs.DemandTracks.{never}
@@ -196,7 +196,7 @@ module _ (s : State) where
   c_loc_type mark = c_bind _ _ c_u32 (λ l. c_bind _ _ c_type (λ t. c_give _))
 
   c_marks : All (λ (row : ℕ × ℕ × Reader Record). Cuts row.2) (by_mark s)
-  unfolding by_mark read_SD read_two read_TS read_pair read_MJ read_case_pair read_three read_kind read_bits read_case read_one
+  unfolding by_mark read_SD read_two read_TS read_pair read_MJ read_case_pair read_three read_kind read_bits read_case read_one read_KP
   c_marks = (
     c_bind _ _ (c_byte_if _) (λ a. c_bind _ _ (c_byte_if _) (λ n. c_bind _ _ (c_times n _ (c_byte_if _)) (λ ps. c_give _))),
     (
@@ -235,7 +235,7 @@ module _ (s : State) where
                                       c_bind _ _ c_u32 (λ l. c_bind _ _ (c_bind _ _ c_u16 (λ n. c_if (leb 1 n && leb n 256) (c_give n) (c_refuse _))) (λ n. c_give _)),
                                       (
                                         c_bind _ _ (c_byte_if _) (λ n. c_bind _ _ (c_times n _ (c_bind _ _ (c_bind _ _ (c_byte_if _) (λ b. c_give _)) (λ c. c_bind _ _ c_type (λ t. c_bind _ _ c_type (λ u. c_give _))))) (λ ps. c_give _)),
-                                        (c_one _, (c_two _, tt)),
+                                        (c_one _, (c_two _, (c_bind _ _ c_byte (λ n. c_bind _ _ (c_times n _ (c_name (taken s))) (λ vs. c_give _)), tt))),
                                       ),
                                     ),
                                   ),

@@ -1,14 +1,12 @@
 -- In a sound state the bounds on chains, substitution and instantiation are enough: more steps give the same, and none is turned down for want of them. Assumes nothing.
--- First chains: none comes back, so with a mark for each variable they are short. Then walks down a type, whose nodes fall: two runs with enough steps have one outcome (`Settled`).
-use mathlib.Core.Path.{◌≡◌, refl, sym, ap, ◌∙◌, subst}
+-- First chains, which are short (TotalChains). Then walks down a type, whose nodes fall: two runs with enough steps have one outcome (`Settled`).
+use mathlib.Core.Path.{◌≡◌, refl, sym, ap, ◌∙◌}
 use mathlib.Core.Bool.{Bool, true, false}
 use mathlib.Core.List.{List, [], ◌∷◌}
 use Rattle.std.specs.Prelude.{Option, None, Some}
 use Prim.Native.Nat.{ℕ, zero, suc, ◌≤◌, ◌<◌}
-use native.Mathlib.Decide.{ℕ_discrete}
 use native.Mathlib.Omega.{arith}
-use lib.ListN.{length, get_or, set, replicate, get_or-replicate}
-use lib.Seq.{get_or-set_other}
+use lib.ListN.{length}
 use Rattle.definition.specs.Types.{TypeName, AbilityMark, TypeValue, UnitType, Ref, Param, Apply, Var, Anything, UnresolvedError, State, TypingError, Refusal, no_argument, Result, ok, err, refused, ◌>>=◌}
 use Rattle.definition.specs.Store.{count, taken, type_at, loc_of, sp, map_types}
 use Rattle.definition.specs.Subst.{parts, next_of, forward, forward_tvar, mark_one, mark_chain, set_num_var}
@@ -17,13 +15,13 @@ use Rattle.definition.specs.Instantiate.{tparam_constraints, instantiate_type_ar
 use Rattle.definition.specs.Sound.{sound}
 use Rattle.theorems.proofs.Laws.{one_marks, value_same}
 use Rattle.theorems.proofs.LawsChains.{Within, w_here, w_hop, within_ends, within_more, within_same, next_agree}
-use Rattle.theorems.proofs.DemandTracks.{never, ends_det}
+use Rattle.theorems.proofs.DemandTracks.{ends_det}
 use Rattle.theorems.proofs.DemandOrder.{All, Sound, chain, chain_within, next_in_range}
 use Rattle.theorems.proofs.DemandSteps.{NodeOk}
 use Rattle.theorems.proofs.LawsPost.{Grown, grown_refl, grown_trans, Post, p_ok, p_err}
 use Rattle.theorems.proofs.DemandCalls.{sp_post}
-use Rattle.theorems.proofs.TotalFinite.{closed, mark_one as one_marked, closed_none}
 use Rattle.theorems.proofs.SoundFacts.{facts}
+use Rattle.theorems.proofs.TotalChains.{chains_short}
 use Rattle.theorems.proofs.DemandWent.{PostS, ps_ok, add_went, ref_ok, apply_ok}
 use Rattle.theorems.proofs.DemandRuns.{Declared, declared_on, tparams_many, make_tparams_went, instantiate_down_went}
 use Rattle.theorems.proofs.TotalWalk.{RunTime, eleven, twelve}
@@ -31,50 +29,10 @@ use Rattle.theorems.proofs.TotalLate.{Late, fine, wrong, down, sp_late, add_late
 
 -- ---- chains
 
--- w comes after v in v's chain
-data After (S : State) : ℕ → ℕ → Type 0 where
-  next : {v w : ℕ} → next_of S v ≡ Some w → After S v w
-  later : {v u w : ℕ} → next_of S v ≡ Some u → After S u w → After S v w
-
-after_next : {S : State} {v w u : ℕ} → After S v w → next_of S w ≡ Some u → After S v u
-after_next (next e) d = later e (next d)
-after_next (later e a) d = later e (after_next a d)
-
--- a chain that ends does not come back
-no_return : {S : State} {n v : ℕ} → Within S n v → After S v v → ⊥
-no_return (w_here h) (next e) = never (cc)
-no_return (w_here h) (later e a) = never (cc)
-no_return {v = v} (w_hop {w = w} h d) (next e) = let c : w ≡ v = cc in no_return d (rw c (next {w = v} e))
-no_return {S} {v = v} (w_hop {w = w} h d) (later {u = u} e a) = let c : u ≡ w = cc in no_return d (after_next (subst (λ (x : ℕ). After S x v) c a) h)
-
 module _ {ar : TypeName → ℕ} {S : State} (s : Sound ar S) where
-  all_marked : (ms : List Bool) (v : ℕ) → closed ms ≡ 0 → (b : Bool) → get_or ms v true ≡ b → get_or ms v true ≡ true
-  all_marked ms v c true e = e
-  all_marked ms v c false e = absurd (omega (arith, one_marked ms v e))
-
-  -- no variable twice: with a mark for each variable before v
-  abbrev Before : List Bool → ℕ → Type 0
-  Before ms v = (m : ℕ) → m < taken S → get_or ms m true ≡ true → After S m v
-
-  one_step : (n : ℕ) (ms : List Bool) → closed ms ≡ suc n → (v : ℕ) → v < taken S → Before ms v
-      → ((w : ℕ) → next_of S v ≡ Some w → w < taken S → closed (set ms v true) ≡ n → Before (set ms v true) w → Within S n v) → Within S n v
-  one_step n ms cm v h back f = go (get_or ms v true) refl (next_of S v) refl
-    where
-      go : (b : Bool) → get_or ms v true ≡ b → (o : Option ℕ) → next_of S v ≡ o → Within S n v
-      go true e o d = absurd (no_return (chain_within s v h) (back v h e))
-      go false e None d = w_here d
-      go false e (Some w) d = f w d (next_in_range s v w d) (omega (arith, one_marked ms v e)) (λ m i y. elim (ℕ_discrete m v) [
-        | yes c ↦ subst (λ (x : ℕ). After S x w) (sym c) (next d)
-        | no c ↦ after_next (back m i (sym (get_or-set_other ms v m true true c) ∙ y)) d
-      ])
-
-  short : (n : ℕ) (ms : List Bool) → closed ms ≡ suc n → (v : ℕ) → v < taken S → Before ms v → Within S n v
-  short zero ms cm v h back = one_step zero ms cm v h back (λ w d i k b. absurd (no_return (chain_within s w i) (b w i (all_marked (set ms v true) w k (get_or (set ms v true) w true) refl))))
-  short (suc n) ms cm v h back = one_step (suc n) ms cm v h back (λ w d i k b. w_hop d (short n (set ms v true) k w i b))
-
   -- a chain has fewer steps than there are variables
   pub chain_short : (n : ℕ) → taken S ≡ suc n → (v : ℕ) → v < taken S → Within S n v
-  chain_short n e v h = short n (replicate (taken S) false) (closed_none s (taken S) ∙ e) v h (λ m i y. never (let z = get_or-replicate (taken S) m false true i in cc))
+  chain_short n e v h = chains_short S (taken S) (λ w i. chain_within s w i) (λ w u d. next_in_range s w u d) n e v h
 
   forward_same : (v : ℕ) → v < taken S → (n : ℕ) → taken S ≤ n → forward n S v ≡ forward_tvar S v
   forward_same v h n l = ends_det (within_ends (within_more (chain_within s v h) n l)) (chain s v h)

@@ -31,7 +31,7 @@ any_same f g P h (p ∷ ps) a = step (f p) (g p) (h p a.0) (any_same f g P h ps 
     step false true e r = never (cc)
 
 module _ {ar : TypeName → ℕ} {S : State} (s : Sound ar S) where
-  write_levels : (n m t : ℕ) → t < count S → t < n → t < m → write_down n S (spanned S t) ≡ write_down m S (spanned S t)
+  pub write_levels : (n m t : ℕ) → t < count S → t < n → t < m → write_down n S (spanned S t) ≡ write_down m S (spanned S t)
   unfolding write_down spanned
   write_levels zero m t h i j = absurd (omega arith)
   write_levels (suc n) zero t h i j = absurd (omega arith)

@@ -25,7 +25,7 @@ use Rattle.definition.specs.Trees.{Tree, unit_tree, anything_tree, error_tree, r
 use Rattle.definition.specs.Abilities.{infer_abilities}
 use Rattle.definition.specs.Write.{Bytes, head}
 use Rattle.definition.specs.Expand.{Expanded, expand_types, under, expand_marked, expand_value, expand, expand_type}
-use Rattle.definition.specs.Record.{NumericKind, Numeric, Bits, Ordered, Record, SD, FV, NV, SN, JN, SU, UF, RD, IN, TS, NC, BC, SC, SV, RM, CN, XP, NL, MJ, UL, JL}
+use Rattle.definition.specs.Record.{NumericKind, Numeric, Bits, Ordered, Record, SD, FV, NV, SN, JN, SU, UF, RD, IN, TS, NC, BC, SC, SV, RM, CN, XP, NL, MJ, UL, JL, KP}
 use Rattle.definition.specs.Build.{build, build_all, build_pairs, build_many}
 use Rattle.definition.specs.Write.{Bytes, write_error}
 use Rattle.definition.specs.Needs.{Needs, needs}
@@ -37,6 +37,7 @@ use Rattle.theorems.proofs.SoundRoom.{with_room, sp_room, tvar_room, constraint_
 use Rattle.theorems.proofs.DemandMain.{Took, took, took_any_l, took_any_r, took_units, took_refs, took_params, took_applies, took_vars, took_var_l, took_var_r, took_error_l, took_error_r, took_others}
 use Rattle.theorems.proofs.SoundRanges.{U32, ShapeIn, CellIn, ConstraintIn, StructIn, Ranges, declare_ranges, loc_of_in, value_in, name_in, cell_in, node_ranges, var_ranges, insert_ranges, add_ranges, num_var_ranges, merge_ranges, cleared_ranges, literal_ranges, needs_of, put_back_ranges}
 use Rattle.theorems.proofs.SolveInTurn.{solve_cases}
+use Rattle.theorems.proofs.KeepRanges.{keep_ranges}
 use Rattle.theorems.proofs.SoundRead.{TreeIn, TreesIn, RecordIn}
 use Rattle.theorems.proofs.Laws.{larger_most, needs_most}
 
@@ -492,5 +493,6 @@ module _ (H : Type 0) (b : State) (z : Bool) where
   run_walk y s i (RM t) f = tell_run s i (needs t)
   run_walk y s i (CN t) f = bind _ (place_run t f s i) (λ x j. bind _ (ready_tvars_run y x.0 j x.1) (λ r k. e_ok i))
   run_walk y s i (XP t) f = bind _ (place_run t f s i) (λ x j. bind _ (expand_run z y _ x.0 x.1) (λ r k. e_ok i))
+  run_walk y s i (KP listed) f = e_ok (λ h. keep_ranges listed (i h))
   run_walk y s i (MJ ps) f = bind _ (many_run ps f s i) (λ x j. e_ok (pairs_in x.1 x.0 j))
   run_walk y s i SV f = bind _ (starts_run s i) (λ x j. solve_cases x Run (λ failures. e_ok (λ h. cleared_ranges (j h))) (e_refused (nine y)) (e_refused (sixteen y)))

@@ -92,6 +92,15 @@ fn pairs() -> [Row; 6] {
     ]
 }
 
+/// of so many variables; the constraints' stay too
+fn clearings() -> [Row; 3] {
+    let kp = |name, n: usize| {
+        let listed: Vec<_> = (0..n).map(|v| format!("V{}", v)).collect();
+        row(name, 0, 1, |_| format!("KP {}", listed.join(", ")))
+    };
+    [kp("KP, none listed", 0), kp("KP, 16 listed", 16), kp("KP, 100 listed", 100)]
+}
+
 pub fn rows() -> Vec<Row> {
     let each = |name, line: &str| row(name, 0, EACH, |_| line.into());
     let over = |name, answer, line: fn(usize) -> String| row(name, answer, EACH, line);
@@ -136,7 +145,7 @@ pub fn rows() -> Vec<Row> {
         solved("SV, 16 IN", lines(16, |_| "IN S0<u8>".into())),
         solved("SV, 16 IN that fail", lines(16, |_| "IN S0<P1>".into())),
     ];
-    one.into_iter().chain(pairs()).collect()
+    one.into_iter().chain(pairs()).chain(clearings()).collect()
 }
 
 /// a job that goes on from the state that is lent; the log's length
@@ -289,6 +298,17 @@ fn taken(n: usize) -> lent::Lent {
     s
 }
 
+/// each variable a list of the next, round about: all nodes and variables
+fn ring() -> lent::Lent {
+    let mut s = taken(lent::MAX_VARS);
+    for v in 0..lent::MAX_VARS {
+        let next = s.add_node(6, 0, ((v + 1) % lent::MAX_VARS) as u32, 0, &[]).unwrap();
+        let list = s.add_node(4, 0, 0, 1, &[next]).unwrap();
+        s.bind(v, list)
+    }
+    s
+}
+
 /// lists of lists of eight, with `n` variables at their ends
 fn ends(n: usize, variable: fn(usize) -> usize) -> String {
     let nest = |parts: Vec<String>| {
@@ -351,6 +371,10 @@ fn lent_table(calls: &(dyn Calls + Sync), runs: usize) -> String {
         ("504 variables", &taken(504), &numbered, "CN of a list with 504 variables"),
         ("chain of 1,000", &long, "RD V1000", "RD of a list with 4,096 V0"),
         ("chain of 500", &half, "JN V500, V501", "JN of 4,096 V0 and V1"),
+        ("100 variables", &middle, "KP", "KP, what constraints reach stays"),
+        ("960 variables", &large, "KP", "KP, what constraints reach stays"),
+        ("chain of 1,000", &long, "KP V0", "KP V0, 1,000 stay"),
+        ("1,024 variables", &ring(), "KP V0", "KP V0, all stay"),
         ("chain of 1,000", &numeric, "SV", "SV, numeric, 512 constraints"),
         ("chain of 1,000", &open, "SV", "SV, 512 ask all four"),
         ("chain to a signer", &signer, "SV", "SV, 512 ask all four"),
@@ -365,6 +389,44 @@ fn lent_table(calls: &(dyn Calls + Sync), runs: usize) -> String {
     out
 }
 
+//---- a long job, cleared or not (02, R-11) -----------------------------------------------------------------------
+
+/// as many functions as fit without KP
+const FUNCTIONS: usize = 170;
+
+/// Functions one after the other, each with four variables, a constraint and its SV. `every`: so many, and then KP of none.
+fn functions(every: Option<usize>) -> Vec<u8> {
+    let (mut text, mut v) = (DECLARED.to_string(), 0);
+    for n in 1..=FUNCTIONS {
+        text += &format!("FV\nFV\nNV\nJN V{}, vector<V{}>\nJN V{}, V{}\n", v + 1, v + 2, v, v + 1);
+        text += &format!("SU V{}, u64\nRD V{}\nUF V{}\nNC numeric V{}\nSV\n", v + 2, v, v + 1, v + 2);
+        v += 4;
+        if every.is_some_and(|every| n % every == 0) {
+            text += "KP\n";
+            v = 0
+        }
+    }
+    assemble(&text, true).unwrap()
+}
+
+fn functions_table(runs: usize) -> String {
+    let mut out = format!("a job of {} functions, engine alone, ns a function:\n", FUNCTIONS);
+    let mut lent = Lent::new();
+    for (shown, every) in [("without KP", None), ("KP after each ten", Some(10)), ("KP after each", Some(1))] {
+        let stream = functions(every);
+        let n = super::oracle_timed_fresh_job(&stream, &mut lent);
+        let log = std::str::from_utf8(&lent.log[..n]).unwrap();
+        assert!(log.lines().all(|l| l.split(' ').nth(1) == Some("0")), "{}: another answer", shown);
+        let [nodes, _, vars, ..] = lent.words[..] else { unreachable!("words") };
+        let once = |lent: &mut Lent| timed(|| super::oracle_timed_fresh_job(&stream, lent));
+        let best = (0..runs).map(|_| once(&mut lent)).fold(f64::MAX, f64::min);
+        let each = best * 1e9 / FUNCTIONS as f64;
+        writeln!(out, "  {:<20}{:>8.0}, {} nodes and {} variables at the end", shown, each, nodes, vars).unwrap()
+    }
+    out
+}
+
 pub fn table(calls: &(dyn Calls + Sync), runs: usize) -> String {
-    marks_table(calls, 10 * runs) + &links_table(calls, runs) + &lent_table(calls, runs)
+    let one = marks_table(calls, 10 * runs) + &links_table(calls, runs);
+    one + &functions_table(runs) + &lent_table(calls, runs)
 }

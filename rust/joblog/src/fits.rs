@@ -31,7 +31,7 @@ pub struct State {
 /// the numbers that a record which is read can be answered with
 fn numbers(r: &Record) -> &'static [usize] {
     match r {
-        Record::SN(..) => &[0],
+        Record::SN(..) | Record::KP(_) => &[0],
         Record::SD(..) | Record::FV(_) | Record::NV(_) | Record::NL(..) => &[0, 7],
         Record::NC(..) | Record::BC(..) | Record::SC(..) => &[0, 7],
         Record::JN(..) | Record::JL(..) => &[0, 2, 3, 4, 7, 8, 10, 14],
@@ -49,6 +49,11 @@ fn numbers(r: &Record) -> &'static [usize] {
 
 fn open(t: &Ty) -> bool {
     t.taken() > 0
+}
+
+/// a constraint's type after a KP; none where a variable in it has gone, which none of a constraint's does
+fn moved(t: &Ty, kept: &[(u16, u16)]) -> Option<Ty> {
+    t.moved(&|v| kept.binary_search_by_key(&v, |(old, _)| *old).ok().map(|i| kept[i].1))
 }
 
 //---- a join, as far as it goes without variables -------------------------------------------------
@@ -371,6 +376,10 @@ impl State {
             }
             (r, Outcome::Type(t)) => self.typed(r, t),
             (Record::CN(u), Outcome::Spelled(t)) => like(&u.numbered(), t, true),
+            (Record::KP(_), Outcome::Kept(all)) => {
+                let types = self.constraints.iter().filter_map(|c| c.ty.as_ref());
+                payload.taken() <= self.high && types.map(|t| moved(t, all)).all(|t| t.is_some())
+            }
             _ => false,
         }
     }
@@ -480,6 +489,10 @@ impl State {
                     self.after(&case.record(a.clone(), b.clone()), o)?
                 }
             }
+            (Record::KP(_), 0) => {
+                self.kept(if let Outcome::Kept(all) = payload { all } else { &[] });
+                return Ok(());
+            }
             (Record::SV, 0) => {
                 self.high = if self.numeric { MAX_VARS } else { self.high };
                 self.constraints.clear()
@@ -489,6 +502,15 @@ impl State {
         self.low = self.low.max(payload.taken());
         let fits = self.low <= self.high;
         fits.then_some(()).ok_or("its answer shows a variable that is not taken".into())
+    }
+
+    /// so many variables are taken from here on, and the constraints' types have their new numbers
+    fn kept(&mut self, all: &[(u16, u16)]) {
+        (self.low, self.high) = (all.len(), all.len());
+        self.numeric &= !all.is_empty();
+        for c in &mut self.constraints {
+            c.ty = c.ty.as_ref().and_then(|t| moved(t, all))
+        }
     }
 
     fn add(&mut self, code: u8, loc: u32, t: &Ty) {

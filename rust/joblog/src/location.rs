@@ -69,7 +69,7 @@ const fn counted(mark: &[u8; 2], fields: &'static [Part]) -> Mark {
     Mark { tail: 4, ..row(mark, fields, &[Types]) }
 }
 
-const MARKS: [Mark; 21] = [
+const MARKS: [Mark; 22] = [
     row(b"SD", &[], &[]),
     row(b"FV", &LOC, &[Types]),
     row(b"NV", &LOC, &[Types]),
@@ -91,6 +91,7 @@ const MARKS: [Mark; 21] = [
     row(b"MJ", &[Many], &[Pair]),
     counted(b"UL", &[Type]),
     counted(b"JL", &[Type, Type]),
+    row(b"KP", &[], &[]),
 ];
 
 fn of_mark(record: &[u8]) -> Option<&'static Mark> {

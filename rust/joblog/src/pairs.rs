@@ -1,5 +1,6 @@
 //! A job gone through beside its log: each record with its line.
 use crate::{
+    names::Names,
     payload::{Answers, Outcome},
     record::{self, Record, Refusal},
 };
@@ -68,6 +69,19 @@ pub struct Pair<'a> {
     pub number: usize,
     pub raw: Vec<u8>,
     pub payload: Outcome,
+    /// whether a KP stands before it: variables may have other numbers than those that they were taken with
+    pub moved: bool,
+}
+
+impl Pair<'_> {
+    /// the names that hold here: a variable's up to the first KP
+    pub fn names<'n>(&self, names: Names<'n>) -> Names<'n> {
+        if self.moved {
+            names.without_variables()
+        } else {
+            names
+        }
+    }
 }
 
 pub struct Pairs<'a> {
@@ -78,6 +92,7 @@ pub struct Pairs<'a> {
     /// whether lines that begin with `#` are left out
     notes: bool,
     answers: Answers,
+    moved: bool,
     ended: bool,
 }
 
@@ -97,7 +112,7 @@ fn line_of(line: &str, n: usize) -> Option<(usize, Vec<u8>)> {
 impl<'a> Pairs<'a> {
     /// A job's log as joinlog writes it.
     pub fn of_log(stream: &'a [u8], log: &'a str) -> Self {
-        Pairs { stream, at: 0, n: 0, log, notes: false, answers: Answers::new(), ended: false }
+        Pairs { stream, at: 0, n: 0, log, notes: false, answers: Answers::new(), moved: false, ended: false }
     }
 
     /// The same, with lines that begin with `#` left out: core.rs's logs may have such notes.
@@ -138,7 +153,9 @@ impl<'a> Pairs<'a> {
         })?;
         let payload = self.answers.of_record(&r, number, &raw).map_err(|e| format!("record {}: {}", n, e))?;
         self.at += length;
-        Ok(Pair { n, at, bytes: &rest[..length], read: Ok(r), number, raw, payload })
+        let moved = self.moved;
+        self.moved |= matches!(r, Record::KP(_));
+        Ok(Pair { n, at, bytes: &rest[..length], read: Ok(r), number, raw, payload, moved })
     }
 
     fn not_read(&mut self, number: usize, raw: Vec<u8>) -> Result<Pair<'a>, String> {
@@ -148,7 +165,8 @@ impl<'a> Pairs<'a> {
             return Err(format!("record {} is not one that is answered with {}", n, number));
         }
         self.at = self.stream.len();
-        Ok(Pair { n, at, bytes, read: Err(stops), number, raw, payload: Outcome::Refused(number) })
+        let (payload, moved) = (Outcome::Refused(number), self.moved);
+        Ok(Pair { n, at, bytes, read: Err(stops), number, raw, payload, moved })
     }
 }
 

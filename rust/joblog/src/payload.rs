@@ -33,6 +33,8 @@ pub enum Outcome {
     Expanded(Ty, Vec<u32>),
     /// 0 of MJ: what each pair is answered, as a JN or SU of its own
     Pairs(Vec<Outcome>),
+    /// 0 of KP: the variables that stay, by rising number: each one's number up to here, and from here on
+    Kept(Vec<(u16, u16)>),
     /// 1 to 3, with both types
     Mismatch(usize, Ty, Ty),
     /// 4, with a location
@@ -76,17 +78,20 @@ impl Outcome {
         match self.plain() {
             Outcome::Expanded(_, open) => open.is_empty(),
             Outcome::Pairs(all) => all.iter().all(Outcome::is_well),
-            Outcome::Done | Outcome::Declared(_) | Outcome::Type(_) | Outcome::Spelled(_) | Outcome::Needs(_) => true,
+            Outcome::Done | Outcome::Declared(_) | Outcome::Type(_) | Outcome::Spelled(_) => true,
+            Outcome::Needs(_) | Outcome::Kept(_) => true,
             _ => false,
         }
     }
-    /// at least so many variables are taken: one more than the highest that it shows; a spelling numbers those in it
+    /// at least so many variables are taken, of KP before it: one more than the highest that it shows; a spelling numbers those
+    /// in it
     pub fn taken(&self) -> usize {
         match self.plain() {
             Outcome::Type(t) | Outcome::Spelled(t) | Outcome::Expanded(t, _) => t.taken(),
             Outcome::Mismatch(_, a, b) => a.taken().max(b.taken()),
             Outcome::Failed(fs) => fs.iter().map(|f| f.ty.taken()).max().unwrap_or(0),
             Outcome::Pairs(all) => all.iter().map(Outcome::taken).max().unwrap_or(0),
+            Outcome::Kept(all) => all.last().map_or(0, |(old, _)| *old as usize + 1),
             _ => 0,
         }
     }
@@ -219,6 +224,22 @@ impl Rest<'_> {
         read(r, number as usize, payload, self.known)
     }
 
+    /// old and new numbers up to the end: the old ones rise, the new ones go from 0 on, and who is listed stays
+    fn kept(&mut self, listed: &[u16]) -> Read<Outcome> {
+        let mut all: Vec<(u16, u16)> = vec![];
+        while !self.bytes.is_empty() {
+            let pair = (u16::from_le_bytes(self.take()?), u16::from_le_bytes(self.take()?));
+            if pair.1 as usize != all.len() || all.last().is_some_and(|(old, _)| *old >= pair.0) {
+                return no("its payload's numbers do not rise, or leave one out");
+            }
+            all.push(pair)
+        }
+        match listed.iter().all(|v| all.binary_search_by_key(v, |(old, _)| *old).is_ok()) {
+            true => Ok(Outcome::Kept(all)),
+            false => no("its payload lacks a variable that the record lists"),
+        }
+    }
+
     /// the payload of a 0
     fn zero(&mut self, r: &Record) -> Read<Outcome> {
         match r {
@@ -246,6 +267,7 @@ impl Rest<'_> {
                 };
                 pairs.iter().enumerate().map(one).collect::<Read<_>>().map(Outcome::Pairs)
             }
+            Record::KP(listed) => self.kept(listed),
         }
     }
 }

@@ -101,6 +101,8 @@ pub enum Record {
     JL(Ty, Ty),
     /// 02's R-9: UF with its links counted
     UL(Ty),
+    /// 02's R-11: the variables that are kept
+    KP(Vec<u16>),
 }
 
 /// What a record may name: variables below `vars`, structs with as many arguments as declared.
@@ -297,6 +299,11 @@ impl<'a> Reader<'a> {
         }
     }
 
+    fn listed(&mut self) -> Read<Record> {
+        let n = self.byte()?;
+        Ok(Record::KP((0..n).map(|_| self.var()).collect::<Read<_>>()?))
+    }
+
     fn record(&mut self) -> Read<Record> {
         Ok(match &[self.byte()?, self.byte()?] {
             b"SD" => self.declaration()?,
@@ -320,6 +327,7 @@ impl<'a> Reader<'a> {
             b"MJ" => self.many()?,
             b"JL" => Record::JL(self.ty(1)?, self.ty(1)?),
             b"UL" => Record::UL(self.ty(1)?),
+            b"KP" => self.listed()?,
             _ => return malformed(0, "no record has this mark"),
         })
     }
@@ -426,6 +434,14 @@ impl Ty {
         Ty { loc: 0, ..self.with_parts(parts) }
     }
 
+    /// The same with other variables in the place of those in it; none where one has none.
+    pub fn moved(&self, to: &impl Fn(u16) -> Option<u16>) -> Option<Ty> {
+        if let Kind::Var(v) = self.kind {
+            return Some(Ty { loc: self.loc, kind: Kind::Var(to(v)?) });
+        }
+        Some(self.with_parts(self.parts().iter().map(|t| t.moved(to)).collect::<Option<_>>()?))
+    }
+
     /// one more than the highest variable in it
     pub fn taken(&self) -> usize {
         let own = if let Kind::Var(v) = self.kind { v as usize + 1 } else { 0 };
@@ -436,7 +452,8 @@ impl Ty {
 impl Record {
     pub fn types(&self) -> Vec<&Ty> {
         match self {
-            Record::SD(..) | Record::FV(_) | Record::NV(_) | Record::NL(..) | Record::SN(..) | Record::SV => vec![],
+            Record::SD(..) | Record::FV(_) | Record::NV(_) | Record::NL(..) | Record::SN(..) => vec![],
+            Record::SV | Record::KP(_) => vec![],
             Record::JN(a, b) | Record::SU(a, b) | Record::JL(a, b) => vec![a, b],
             Record::MJ(pairs) => pairs.iter().flat_map(|(_, a, b)| [a, b]).collect(),
             Record::TS(args, t) => args.iter().map(|(_, a)| a).chain([t]).collect(),
@@ -448,7 +465,11 @@ impl Record {
 
     /// one more than the highest variable in it
     pub fn taken(&self) -> usize {
-        let own = if let Record::SN(v, _) = self { *v as usize + 1 } else { 0 };
+        let own = match self {
+            Record::SN(v, _) => *v as usize + 1,
+            Record::KP(listed) => listed.iter().max().map_or(0, |v| *v as usize + 1),
+            _ => 0,
+        };
         self.types().into_iter().map(Ty::taken).fold(own, usize::max)
     }
 
@@ -475,6 +496,7 @@ impl Record {
             Record::MJ(..) => "MJ",
             Record::JL(..) => "JL",
             Record::UL(..) => "UL",
+            Record::KP(..) => "KP",
         }
     }
 
@@ -493,6 +515,10 @@ impl Record {
             Record::SN(v, loc) => {
                 out.extend(v.to_le_bytes());
                 out.extend(loc.to_le_bytes())
+            }
+            Record::KP(listed) => {
+                out.push(listed.len() as u8);
+                listed.iter().for_each(|v| out.extend(v.to_le_bytes()))
             }
             Record::TS(args, _) => {
                 out.push(args.len() as u8);

@@ -76,6 +76,11 @@ fn said(payload: &Outcome, printer: Printer) -> String {
             let one = |(i, o): (usize, &Outcome)| format!("; pair {} {}", i, self::said(o, printer));
             said.to_string() + &all.iter().enumerate().map(one).collect::<String>()
         }
+        Outcome::Kept(all) if all.is_empty() => format!("{}; no variable stays", said),
+        Outcome::Kept(all) => {
+            let one = |(old, new): &(u16, u16)| format!("{} is now V{}", printer.variable(*old), new);
+            format!("{}; {}", said, all.iter().map(one).collect::<Vec<_>>().join(", "))
+        }
         Outcome::Done | Outcome::Refused(_) | Outcome::Linked(..) => said.into(),
     };
     match payload.links() {
@@ -133,6 +138,7 @@ pub fn show(stream: &[u8], log: &str, options: Options) -> (String, Summary) {
             }
         };
         summary.add(&p);
+        let printer = Printer { names: p.names(printer.names), ..printer };
         let wanted = !options.errors || !p.payload.is_well();
         if wanted && shown < options.lines {
             shown += 1;

@@ -78,6 +78,10 @@ impl Printer<'_> {
         }
     }
 
+    pub fn variable(&self, v: u16) -> String {
+        self.named('V', v as u32)
+    }
+
     fn comma(&self, ts: &[Ty], text: &mut Marked) {
         for (i, t) in ts.iter().enumerate() {
             text.out += if i == 0 { "" } else { ", " };
@@ -126,7 +130,7 @@ impl Printer<'_> {
                 self.angled(args, text);
                 text.out += &self.mark(*m)
             }
-            Kind::Var(v) => text.out += &self.named('V', *v as u32),
+            Kind::Var(v) => text.out += &self.variable(*v),
             Kind::Anything => text.out += "_",
             Kind::UnresolvedError => text.out += "!",
         }
@@ -165,7 +169,7 @@ impl Printer<'_> {
             Record::FV(loc) | Record::NV(loc) => vec![self.located(*loc, String::new())],
             Record::NL(loc, bits) => vec![self.located(*loc, bits.to_string())],
             Record::SN(v, loc) => {
-                vec![format!("{} {}", self.named('V', *v as u32), self.at(*loc)).trim_end().into()]
+                vec![format!("{} {}", self.variable(*v), self.at(*loc)).trim_end().into()]
             }
             Record::JN(a, b) | Record::SU(a, b) | Record::JL(a, b) => vec![self.ty(a), self.ty(b)],
             Record::UF(t) | Record::RD(t) | Record::IN(t) => vec![self.ty(t)],
@@ -184,6 +188,9 @@ impl Printer<'_> {
                     format!("{} {}, {}", CASES[*case as usize], self.ty(a), self.ty(b))
                 };
                 vec![pairs.iter().map(one).collect::<Vec<_>>().join("; ")]
+            }
+            Record::KP(listed) => {
+                vec![listed.iter().map(|v| self.variable(*v)).collect::<Vec<_>>().join(", ")]
             }
         }
     }
@@ -504,6 +511,21 @@ impl Parser<'_> {
         Ok(pairs)
     }
 
+    fn listed(&mut self) -> Parsed<Vec<u16>> {
+        let mut listed = vec![];
+        self.skip();
+        while !self.rest.is_empty() {
+            listed.push(self.var()?);
+            if !self.take(",") {
+                break;
+            }
+        }
+        if listed.len() > u8::MAX as usize {
+            return Err("KP lists at most 255 variables".into());
+        }
+        Ok(listed)
+    }
+
     fn numeric_kind(&mut self) -> Parsed<u8> {
         let rest = self.rest;
         let word = self.word();
@@ -535,6 +557,7 @@ impl Parser<'_> {
             "CN" => Record::CN(self.ty()?),
             "XP" => Record::XP(self.ty()?),
             "MJ" => Record::MJ(self.pairs()?),
+            "KP" => Record::KP(self.listed()?),
             _ => return Err(format!("`{}` is no mark", mark)),
         })
     }

@@ -235,3 +235,60 @@ fn what_cannot_be_read_is_refused() {
         assert!(Answers::new().read(b"SV", number, b"").is_err())
     }
 }
+
+/// 02's R-11: pairs of numbers, the old ones rising, the new ones from 0 on
+#[test]
+fn variables_that_stay() {
+    let numbers = |pairs: &[(u16, u16)]| -> Vec<u8> {
+        pairs.iter().flat_map(|(old, new)| [old.to_le_bytes(), new.to_le_bytes()].concat()).collect()
+    };
+    let kept = said("KP V5, V2, V5", 0, &numbers(&[(2, 0), (3, 1), (5, 2)])).unwrap();
+    assert_eq!(kept, Outcome::Kept(vec![(2, 0), (3, 1), (5, 2)]));
+    assert!(kept.is_well() && kept.number() == 0 && kept.taken() == 6);
+    assert_eq!(said("KP", 0, b""), Ok(Outcome::Kept(vec![])));
+    assert!(said("KP", 0, &numbers(&[(1023, 0)])).is_ok());
+    for wrong in [
+        &[(5, 0)][..],
+        &[(2, 0), (3, 1)],
+        &[(2, 1), (5, 2)],
+        &[(2, 0), (5, 2)],
+        &[(2, 0), (5, 0)],
+        &[(5, 0), (2, 1)],
+        &[(2, 0), (2, 1), (5, 2)],
+        &[(0, 2), (1, 5)],
+    ] {
+        assert!(said("KP V2, V5", 0, &numbers(wrong)).is_err(), "{:?}", wrong)
+    }
+    for cut in [&[2, 0, 0][..], &[2], b"\x02\0\0\0\0"] {
+        assert!(said("KP V2", 0, cut).is_err(), "{:?}", cut)
+    }
+    // 1,024 fit
+    let all: Vec<_> = (0..1024).map(|v| (v, v)).collect();
+    assert_eq!((numbers(&all).len(), said("KP V9", 0, &numbers(&all)).is_ok()), (4096, true))
+}
+
+/// .. and what may be said after it
+#[test]
+fn what_is_known_after_a_kp() {
+    let mut answers = Answers::new();
+    let mut ask = |text: &str, number, payload: &str| {
+        answers.read(&assemble(text, false).unwrap(), number, &unhex(payload).unwrap())
+    };
+    for (v, text) in ["FV", "FV", "NV"].into_iter().enumerate() {
+        assert!(ask(text, 0, &format!("06000000000{}00", v)).is_ok())
+    }
+    assert!(ask("NC numeric vector<V2>", 0, "").is_ok());
+    // V3 is not taken; a constraint's variable stays
+    assert!(ask("KP V0", 0, "0000 0000 0200 0100 0300 0200").is_err());
+    assert!(ask("KP V0", 0, "0000 0000").is_err());
+    assert!(ask("KP V0", 7, "").is_err() && ask("KP V0", 14, "").is_err());
+    assert!(ask("KP V0", 0, "0000 0000 0200 0100").is_ok());
+    // .. under its new number, and the old one is not taken
+    assert_eq!(ask("UF V2", 6, ""), Ok(Outcome::Refused(6)));
+    assert!(ask("SV", 0, "01 00000000 0300000000 0005 06000000000200").is_err());
+    assert!(ask("SV", 0, "01 00000000 0300000000 0005 06000000000100").is_ok());
+    // SV may have taken variables, of the numeric one
+    assert!(ask("KP", 0, "").is_ok());
+    assert!(ask("FV", 0, "06000000000100").is_err() && ask("FV", 0, "06000000000000").is_ok());
+    assert!(ask("SV", 0, "").is_ok() && ask("FV", 0, "06000000000200").is_err())
+}

@@ -4,7 +4,7 @@ use joblog::{
     location::{blank_payload, blank_record},
     names::Book,
     payload,
-    record::{read_record, unhex, Record},
+    record::{read_record, unhex, Known, Record},
     show::{show, Options},
     text::{any_variable, assemble, disassemble, Detail},
 };
@@ -471,4 +471,59 @@ fn numbers_by_their_names() {
     let wanted =
         "5 CN  (V3 (coin), 0xA::receipt::Receipt<T>, V0, V1, V2)   → typed (V0, 0xA::receipt::Receipt<T>, V1, V2, V3)";
     assert_eq!(lines.lines().last(), Some(wanted))
+}
+
+/// 02's R-11, its first worked value: old and new numbers, and from there on the new ones
+#[test]
+fn what_is_kept_and_under_which_number() {
+    let text = "FV @1\nFV @2\nFV @3\nNV @4\nJN V2@5, vector<V3@6>@7\nJN V1@8, u8@9\nKP V2\nRD V0@10\nFV @11\n";
+    let job = assemble(text, false).unwrap();
+    assert_eq!(disassemble(&job), text);
+    let log = "0 0 06010000000000\n1 0 06020000000100\n2 0 06030000000200\n3 0 06040000000300\n4 0 06050000000200\n\
+        5 0 06080000000100\n6 0 0200000003000100\n7 0 030700000000 05 06060000000100\n8 0 060b0000000200\n";
+    let log = log.replace("00 05 06", "000506");
+    let (book, _) = Book::of("V 0 x\nV 2 coin\nV 3 y\n");
+    let (lines, summary) = show(&job, &log, Options { names: book.job("any"), ..Options::default() });
+    let wanted = "4 JN  V2 (coin)  ~  vector<V3 (y)>   → typed V2 (coin)\n5 JN  V1  ~  u8   → typed V1\n\
+        6 KP  V2 (coin)   → typed; V2 (coin) is now V0, V3 (y) is now V1\n7 RD  V0   → typed vector<V1>\n\
+        8 FV   → typed V2\n";
+    assert_eq!(lines.split_inclusive('\n').skip(4).collect::<String>(), wanted);
+    assert_eq!((summary.code(), summary.wrong), (0, None));
+    // another variable that stays is a difference, and no location is in it
+    assert!(matches!(diff((&job, &log), (&job, &log)), Difference::None(9)));
+    let other = (text.replace("KP V2", "KP V2, V1"), log.replace("0200000003000100", "010000000200010003000200"));
+    let other = (
+        assemble(&other.0, false).unwrap(),
+        other.1.replace("0600000001", "0600000002").replace("b0000000200", "b0000000300"),
+    );
+    let Difference::Found(found) = diff((&job, &log), (&other.0, &other.1)) else { panic!("no difference") };
+    assert!(found.to_string().contains("KP  V2, V1"), "{}", found);
+    let plain = assemble("KP V258", false).unwrap();
+    assert_eq!((blank_record(&plain, &[]), blank_payload(&plain, 0, &[1, 1, 0, 0], &[])), (plain, vec![1, 1, 0, 0]));
+    // none
+    let (none, log) = (assemble("FV\nKP\nFV", false).unwrap(), "0 0 06000000000000\n1 0\n2 0 06000000000000\n");
+    assert_eq!((&none[6..9], disassemble(&none)), (&b"KP\0"[..], "FV\nKP\nFV\n".into()));
+    assert!(show(&none, log, Options::default()).0.contains("\n1 KP   → typed; no variable stays\n2 FV   → typed V0\n"))
+}
+
+/// .. 5 where the bytes end, 6 at a variable that is not taken, which is met by place
+#[test]
+fn a_list_that_cannot_be_read() {
+    let known = |vars| Known { vars, params: vec![] };
+    let at =
+        |digits: &str, vars| read_record(&unhex(digits).unwrap(), &known(vars)).map_err(|x| (x.number, x.at)).err();
+    assert_eq!((at("4b50", 9), at("4b5001", 9), at("4b500100", 9)), (Some((5, 2)), Some((5, 3)), Some((5, 4))));
+    assert_eq!(
+        (at("4b500108", 9), at("4b5002 0800 09", 9), at("4b5002 0900 09", 9)),
+        (Some((5, 4)), Some((5, 6)), Some((6, 3)))
+    );
+    assert_eq!((at("4b5002 0800 0800", 9), at("4b5002 0800 0900", 9), at("4b5000", 0)), (None, Some((6, 5)), None));
+    let many = |n: usize, last: &str| format!("KP {}, {}", vec!["V1"; n - 1].join(", "), last);
+    let bytes = assemble(&many(255, "V2"), false).unwrap();
+    assert_eq!((bytes.len(), read_record(&bytes, &known(3)).unwrap().1), (513, 513));
+    assert_eq!(read_record(&bytes, &known(2)).map_err(|x| (x.number, x.at)).err(), Some((6, 511)));
+    assert!(assemble(&many(256, "V2"), false).is_err());
+    for text in ["KP u8", "KP V0 V1", "KP 0", "KP V70000", "KP @1"] {
+        assert!(assemble(text, false).is_err(), "{}", text)
+    }
 }

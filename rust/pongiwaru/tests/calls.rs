@@ -141,6 +141,31 @@ fn many_pairs_in_one_record() {
     assert_eq!((state.words()[0], state.words()[2]), (9, 3))
 }
 
+/// 02's R-11: a caller's numbers after KP, by its payload
+#[test]
+fn what_is_kept_has_other_numbers() {
+    use joblog::payload::{Answers, Outcome};
+    let (mut state, mut answers) = (State::fresh(), Answers::new());
+    let mut ask = |record: &[u8]| {
+        let (answer, payload) = state.record(record);
+        assert_eq!(answer.is_well(record, &payload), answer == Answer::Ran);
+        (answers.read(record, answer.number() as usize, &payload).unwrap(), state.words()[..3].to_vec())
+    };
+    for _ in 0..3 {
+        ask(b"FV\0\0\0\0");
+    }
+    // V2 is a vector of V1, and V0 `u8`
+    ask(b"JN\x06\0\0\0\0\x02\0\x03\0\0\0\0\0\x05\x06\0\0\0\0\x01\0");
+    ask(b"JN\x06\0\0\0\0\0\0\x03\0\0\0\0\0\x02");
+    assert_eq!(ask(b"KP\x01\x03\0").0, Outcome::Refused(6));
+    assert_eq!(ask(b"KP\x01\x02\0"), (Outcome::Kept(vec![(1, 0), (2, 1)]), vec![2, 1, 2]));
+    assert_eq!(ask(b"UF\x06\0\0\0\0\x02\0").0, Outcome::Refused(6));
+    assert!(
+        matches!(ask(b"RD\x06\0\0\0\0\x01\0").0, Outcome::Type(t) if t.bytes() == b"\x03\0\0\0\0\0\x05\x06\0\0\0\0\0\0")
+    );
+    assert_eq!(ask(b"KP\0"), (Outcome::Kept(vec![]), vec![0, 0, 0]))
+}
+
 /// `log` goes on where an MJ finds less room than its line may have; `job` waits for it
 #[test]
 fn a_log_has_room_for_many_pairs() {

@@ -32,6 +32,9 @@ returns-in-NL-clause-is c = rw c.in-NL.is (c.read_nl.ensures.is _ _ _)
 pub returns-in-MJ-clause-is : goal.returns-in-MJ-clause-is
 returns-in-MJ-clause-is c = rw c.in-MJ.is (c.read_many.ensures.is)
 
+pub returns-in-KP-clause-is : goal.returns-in-KP-clause-is
+returns-in-KP-clause-is c = rw c.in-KP.is (c.read_keep.ensures.is _)
+
 pub returns-in-Loc-clause-is : goal.returns-in-Loc-clause-is
 returns-in-Loc-clause-is c = rw c.in-Loc.is (c.read_loc.ensures.is _ _ _)
 

@@ -3,7 +3,7 @@ use mathlib.Core.Path.{refl, ap}
 use Rattle.fields.specs.Noded.{unfolded, unfolded_links, tparams, noded, bind_of, pairs_of, add_of, binds, looks, adds}
 use Rattle.answer.proofs.Growing.{noted_since}
 use Rattle.run.proofs.Arms.{narrow}
-use Rattle.step.proofs.Replying.{WasRun, as_other, some_room, run_settles, reply_ran, ready_settles, reply_ready, solve_saved, solve_sound, reply_solved, expand_asks, expanded_same, reply_expanded, range_placed, reply_many}
+use Rattle.step.proofs.Replying.{WasRun, as_other, some_room, run_settles, reply_ran, ready_settles, reply_ready, solve_saved, solve_sound, reply_solved, expand_asks, expanded_same, reply_expanded, range_placed, reply_many, kept_asks, kept_sound, kept_noted, reply_kept}
 use Rattle.run.specs.Dispatch.{tail_of}
 use Rattle.step.proofs.answer_placed.Goals as goal
 use Rattle.step.proofs.answer_placed.Goals.{in-Bind, in-Look+in-One+in-UF, in-Look+in-One+in-UL, in-Look+in-TS, in-Add}
@@ -53,8 +53,17 @@ answer_pairs-requires g c =
     let b = h.1.from in
     record { pairs_in = (h.0.1.1.0.0, (h.0.1.0, (h.0.1.1.0.1, range_placed _ _ b))); noted = (h.0.0, noted_since {s = c.args.st.now} b.saved b.since (linked_now _)); room = h.0.1.1.1 }
 
+pub answer_kept-requires : goal.answer_kept-requires
+answer_kept-requires g c =
+    let h = rw c.in-KP.is at c.requires in
+    let b = h.1.from in
+    record { known = kept_asks _ _ b h.0.1.1.0 h.0.1.0; as_sound = (kept_sound _ _ b, h.0.1.1.1) }
+
 pub returns-in-MJ : goal.returns-in-MJ
 returns-in-MJ g c = let a = c.answer_pairs.ensures in record { name = a.name; noted = a.noted; is = λ x b. reply_many _ _ (rw c.in-MJ.is at b) a }
+
+pub returns-in-KP : goal.returns-in-KP
+returns-in-KP g c = let k = c.answer_kept.ensures in record { name = (k.keeps.clears.same).name; noted = kept_noted k _; is = λ x b. reply_kept _ _ (rw c.in-KP.is at b) k }
 
 pub returns-in-SD : goal.returns-in-SD
 returns-in-SD g c = record { name = c.answer_declared.ensures.name; noted = c.answer_declared.ensures.noted; is = λ x b. c.answer_declared.ensures.is x (rw c.in-SD.is at b) }

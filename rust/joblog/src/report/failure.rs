@@ -225,6 +225,7 @@ fn of_pair(p: &Pair, i: usize, of: &(TypingCase, Ty, Ty), payload: &Outcome, nam
         number: payload.number(),
         raw: vec![],
         payload: payload.clone(),
+        moved: p.moved,
     };
     let within = |text: String| format!("MJ, pair {}: {}", i, text);
     let put = |f: Failure| Failure { mark: "MJ", pair: Some(i), text: within(f.text), plain: within(f.plain), ..f };

@@ -161,6 +161,7 @@ pub fn job(name: &str, stream: &[u8], log: Option<&[u8]>, names: Names, lines: b
             Ok(p) => {
                 out.records += 1;
                 out.read = p.at + if p.read.is_ok() { p.bytes.len() } else { 0 };
+                let names = p.names(names);
                 out.failures.extend(failure::failures(&p, names));
                 out.lines.extend(lines.then(|| line(&p, names)))
             }
