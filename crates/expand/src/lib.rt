@@ -259,7 +259,8 @@ fn spell_over(
     }
 }
 
-// A type of any size: every end is noted first, for the test and for all walks.
+// A type of any size: every end is noted first, for the test and for all walks. Not inlined, so that the table is in no other record's frame.
+#[inline(never)]
 fn spell_far(
     st: &State<'_>,
     params: &[[u8; 8]; 256],

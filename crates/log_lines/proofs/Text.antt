@@ -51,7 +51,7 @@ digits_more (suc n) x h = either (ltb x 10) refl (λ l. digits_more n (x / 10) l
         let m : x / 10 < power (suc n) = omega arith in
         digits_next (suc n) x l ∙ ap (λ (d : Bytes). d ++ ((48 + x % 10) ∷ [])) (f m) ∙ sym (digits_next (suc (suc n)) x l)
 
-decimal_one : (x : ℕ) → x < 10 → decimal x ≡ (48 + x) ∷ []
+pub decimal_one : (x : ℕ) → x < 10 → decimal x ≡ (48 + x) ∷ []
 unfolding decimal
 decimal_one x h = digits_one 19 x h
 

@@ -61,43 +61,69 @@ pub enum RecordMark {
     LocType(LocTypeMark),
 }
 
-// A mark's two letters, and the mark.
-#[derive(Clone, Copy)]
-struct Letters(u8, u8, RecordMark);
+// The letters, as numbers of bytes.
+const B: u32 = b'B' as u32;
 
-const MARKS: [Letters; 22] = [
-    Letters(b'S', b'D', RecordMark::SD),
-    Letters(b'F', b'V', RecordMark::Loc(LocMark::FV)),
-    Letters(b'N', b'V', RecordMark::Loc(LocMark::NV)),
-    Letters(b'S', b'N', RecordMark::SN),
-    Letters(b'J', b'N', RecordMark::Two(TwoMark::JN)),
-    Letters(b'S', b'U', RecordMark::Two(TwoMark::SU)),
-    Letters(b'U', b'F', RecordMark::Look(LookMark::UF)),
-    Letters(b'R', b'D', RecordMark::Look(LookMark::RD)),
-    Letters(b'T', b'S', RecordMark::TS),
-    Letters(b'I', b'N', RecordMark::IN),
-    Letters(b'N', b'C', RecordMark::NC),
-    Letters(b'B', b'C', RecordMark::LocType(LocTypeMark::BC)),
-    Letters(b'S', b'C', RecordMark::LocType(LocTypeMark::SC)),
-    Letters(b'S', b'V', RecordMark::SV),
-    Letters(b'R', b'M', RecordMark::RM),
-    Letters(b'C', b'N', RecordMark::Look(LookMark::CN)),
-    Letters(b'X', b'P', RecordMark::XP),
-    Letters(b'N', b'L', RecordMark::NL),
-    Letters(b'M', b'J', RecordMark::MJ),
-    Letters(b'U', b'L', RecordMark::Look(LookMark::UL)),
-    Letters(b'J', b'L', RecordMark::Two(TwoMark::JL)),
-    Letters(b'K', b'P', RecordMark::KP),
-];
+const C: u32 = b'C' as u32;
 
-// The mark that these letters are, if any. A loop over the definition's rows in their order: each step of its proof is a row that is passed.
+const D: u32 = b'D' as u32;
+
+const F: u32 = b'F' as u32;
+
+const I: u32 = b'I' as u32;
+
+const J: u32 = b'J' as u32;
+
+const K: u32 = b'K' as u32;
+
+const L: u32 = b'L' as u32;
+
+const M: u32 = b'M' as u32;
+
+const N: u32 = b'N' as u32;
+
+const P: u32 = b'P' as u32;
+
+const R: u32 = b'R' as u32;
+
+const S: u32 = b'S' as u32;
+
+const T: u32 = b'T' as u32;
+
+const U: u32 = b'U' as u32;
+
+const V: u32 = b'V' as u32;
+
+const X: u32 = b'X' as u32;
+
+// The mark that these letters are, if any. For speed a match, which tests few of them, and no loop over rows of letters.
+#[tactic(auto, unfolding(definition::specs::Record::by_mark, definition::specs::Record::fields_of))]
 pub fn mark_of(first: u32, second: u32) -> Option<RecordMark>
     ensures { (s : d.State) → reader_of result s ≡ fields_of (by_mark s) first second }
 {
-    for Letters(a, b, mark) in MARKS {
-        if first == u32::from(a) && second == u32::from(b) {
-            return Some(mark);
-        }
+    match (first, second) {
+        (S, D) => Some(RecordMark::SD),
+        (F, V) => Some(RecordMark::Loc(LocMark::FV)),
+        (N, V) => Some(RecordMark::Loc(LocMark::NV)),
+        (S, N) => Some(RecordMark::SN),
+        (J, N) => Some(RecordMark::Two(TwoMark::JN)),
+        (S, U) => Some(RecordMark::Two(TwoMark::SU)),
+        (U, F) => Some(RecordMark::Look(LookMark::UF)),
+        (R, D) => Some(RecordMark::Look(LookMark::RD)),
+        (T, S) => Some(RecordMark::TS),
+        (I, N) => Some(RecordMark::IN),
+        (N, C) => Some(RecordMark::NC),
+        (B, C) => Some(RecordMark::LocType(LocTypeMark::BC)),
+        (S, C) => Some(RecordMark::LocType(LocTypeMark::SC)),
+        (S, V) => Some(RecordMark::SV),
+        (R, M) => Some(RecordMark::RM),
+        (C, N) => Some(RecordMark::Look(LookMark::CN)),
+        (X, P) => Some(RecordMark::XP),
+        (N, L) => Some(RecordMark::NL),
+        (M, J) => Some(RecordMark::MJ),
+        (U, L) => Some(RecordMark::Look(LookMark::UL)),
+        (J, L) => Some(RecordMark::Two(TwoMark::JL)),
+        (K, P) => Some(RecordMark::KP),
+        _ => None,
     }
-    None
 }

@@ -163,7 +163,8 @@ fn spell_measured(
     Ok(write_by(chains, t, used.nodes, spelling, buf))
 }
 
-// A type of any size: every end is noted first, for the test and for both walks.
+// A type of any size: every end is noted first, for the test and for both walks. Not inlined, so that the table is in no other type's frame.
+#[inline(never)]
 fn spell_far(st: &State<'_>, t: u32, spelling: Spelling, buf: &mut [u8]) -> Result<usize, Refusal>
     requires { (t < st.now.used.nodes) × ((AllBytes (tables st.now) × AllNumbered (tables st.now)) × (4096 ≤ length buf.old)) }
     ensures { (ds : List d.Struct) → Spells (spell_ready (spelling_of spelling) (held st.now ds) t) buf.old buf.new result }

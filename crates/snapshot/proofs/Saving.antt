@@ -13,8 +13,7 @@ use Rattle.snapshot.specs.Snap.{Saved}
 use Rattle.snapshot.specs.Copied.{Copied}
 use Rattle.snapshot.specs.Noted.{Noted}
 
-module _ (s : State) (n : ℕ) (saved saved₁ ys saved₂ : List ℕ) (few : n ≤ s.saved) (in_use : n ≤ s.used.vars) (noted : Noted s saved) (c : Copied saved 0 s.words.now 16389 n s.touched saved₁)
-    (z : Wrote saved₁ (n * 5) (s.used.vars * 5 - n * 5) ys saved₂) (new : (k : ℕ) → k < s.used.vars * 5 - n * 5 → get_or ys k 0 ≡ get_or s.words.now (16389 + n * 5 + k) 0) where
+module _ (s : State) (n : ℕ) (saved saved₁ : List ℕ) (few : n ≤ s.saved) (in_use : n ≤ s.used.vars) (noted : Noted s saved) (c : Copied saved 0 s.words.now 16389 n s.touched saved₁) where
   front : (k : ℕ) → k < n * 5 → get_or saved₁ k 0 ≡ get_or s.words.now (16389 + k) 0
   front k h =
       let v : ℕ = k / 5 in
@@ -29,12 +28,17 @@ module _ (s : State) (n : ℕ) (saved saved₁ ys saved₂ : List ℕ) (few : n 
       let i : 16389 + (v * 5 + k % 5) ≡ 16389 + k = omega (arith, e) in
       ap (λ (x : ℕ). get_or saved₁ x 0) (sym g) ∙ at ∙ ap (λ (x : ℕ). get_or s.words.now x 0) i
 
-  pub all_saved : Saved s.words.now s.used saved₂
-  all_saved = record { word = λ k h. by k h (dec_lt k (n * 5)) }
-    where
-      by : (k : ℕ) → k < s.used.vars * 5 → Dec (k < n * 5) → get_or saved₂ k 0 ≡ get_or s.words.now (16389 + k) 0
-      by k h (yes p) = z.there k (λ l q e. omega (arith, e)) ∙ front k p
-      by k h (no p) =
-          let e : n * 5 + (k - n * 5) ≡ k = omega arith in
-          let f : 16389 + n * 5 + (k - n * 5) ≡ 16389 + k = omega arith in
-          ap (λ (x : ℕ). get_or saved₂ x 0) (sym e) ∙ z.here (k - n * 5) (omega arith) ∙ new (k - n * 5) (omega arith) ∙ ap (λ (x : ℕ). get_or s.words.now x 0) f
+  -- there is no other
+  pub old_saved : n ≡ s.used.vars → Saved s.words.now s.used saved₁
+  old_saved e = record { word = λ k h. front k (omega (arith, e)) }
+
+  module _ (ys saved₂ : List ℕ) (z : Wrote saved₁ (n * 5) (s.used.vars * 5 - n * 5) ys saved₂) (new : (k : ℕ) → k < s.used.vars * 5 - n * 5 → get_or ys k 0 ≡ get_or s.words.now (16389 + n * 5 + k) 0) where
+    pub all_saved : Saved s.words.now s.used saved₂
+    all_saved = record { word = λ k h. by k h (dec_lt k (n * 5)) }
+      where
+        by : (k : ℕ) → k < s.used.vars * 5 → Dec (k < n * 5) → get_or saved₂ k 0 ≡ get_or s.words.now (16389 + k) 0
+        by k h (yes p) = z.there k (λ l q e. omega (arith, e)) ∙ front k p
+        by k h (no p) =
+            let e : n * 5 + (k - n * 5) ≡ k = omega arith in
+            let f : 16389 + n * 5 + (k - n * 5) ≡ 16389 + k = omega arith in
+            ap (λ (x : ℕ). get_or saved₂ x 0) (sym e) ∙ z.here (k - n * 5) (omega arith) ∙ new (k - n * 5) (omega arith) ∙ ap (λ (x : ℕ). get_or s.words.now x 0) f

@@ -43,7 +43,8 @@ fn copy_row(to: &mut [u32], at: usize, from: &[u32], first: usize, n: u32, v: u3
     }
 }
 
-// .. those of the noted ones among the first n.
+// .. those of the noted ones among the first n. Inlined, for speed: mostly none is noted.
+#[inline(always)]
 fn copy_touched(to: &mut [u32], at: usize, from: &[u32], first: usize, n: u32, touched: Touched)
     requires { (at + n * 5 ≤ length to.old) × (first + n * 5 ≤ length from.now) }
     ensures { Copied to.old at from.now first n touched to.new }
@@ -67,7 +68,8 @@ fn copy_touched(to: &mut [u32], at: usize, from: &[u32], first: usize, n: u32, t
     }
 }
 
-// The rows of the variables in use. Those that were saved before are copied again only where they were touched since.
+// The rows of the variables in use. Those that were saved before are copied again only where they were touched since. The test is for speed: most
+// records find no new variable, and a copy is a call.
 fn save_rows(st: &State<'_>, saved: &mut [u32])
     requires { (5120 ≤ length saved.old) × Noted st.now saved.old }
     ensures { Saved st.now.words.now st.now.used saved.new }
@@ -75,6 +77,9 @@ fn save_rows(st: &State<'_>, saved: &mut [u32])
     let vars = st.used.vars;
     let n = st.saved.min(vars);
     copy_touched(saved, 0, st.words, VARS_AT, n, st.touched);
+    if n == vars {
+        return;
+    }
     let from = n as usize * VAR_WORDS;
     let to = vars as usize * VAR_WORDS;
     saved[from..to].copy_from_slice(&st.words[VARS_AT + from..VARS_AT + to]);

@@ -112,7 +112,8 @@ fn solve_from(
     }
 }
 
-// SV. `saved` has the rows of the variables as they are now.
+// SV. `saved` has the rows of the variables as they are now. Not inlined, so that the tables are in no other record's frame.
+#[inline(never)]
 pub fn solve(st: &mut State<'_>, params: &[[u8; 8]; 256], saved: &[u32], buf: &mut [u8]) -> Answer
     requires saved { ((st.old.saved ≡ st.old.used.vars) × Saved st.old.words.now st.old.used saved.now) × ((5120 ≤ length saved.now) × (4096 ≤ length buf.old)) }
     requires holds_sound { HoldsSound st.old params.now }

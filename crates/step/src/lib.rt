@@ -45,7 +45,8 @@ fn with_next(a: Answer, next: usize) -> Stepped
 
 // ---- SD
 
-// The bytes go into the row of the struct's number.
+// The bytes go into the row of the struct's number. Not inlined, so that no other record clears what it keeps.
+#[inline(never)]
 fn answer_declared(
     st: &mut State<'_>,
     before: Before<'_>,

@@ -88,7 +88,9 @@ fn write_apply(buf: &mut [u8], at: usize, loc: u32, k: AbilityMark, n: TypeName)
     }
 }
 
-// A type's tag, location and fields: a variable or `_` that stands in no table. Each tag is written in one place, so none has a name.
+// A type's tag, location and fields: a variable or `_` that stands in no table. Each tag is written in one place, so none has a name. Inlined, for speed:
+// a shape that is handed to a call goes through memory.
+#[inline(always)]
 pub fn write_head(loc: u32, shape: Shape, buf: &mut [u8], at: usize) -> usize
     requires { ByteFields (shape_of shape) × (at + length (head loc (value_of shape)) ≤ length buf.old) }
     ensures { Wrote buf.old at (head loc (value_of shape)) buf.new result }

@@ -1,2 +1,0 @@
--- Laws of marks. Assumes nothing.
-pub mod Marks
