@@ -54,7 +54,8 @@ beside() { step "2,000 jobs beside core.rs" target/release/oracle compare 1 2000
 
 with_engine() {
   beside
-  for what in number payload binding mark constraint reading count told spelled missing code pair kept link left moved unmarked copied line; do step "altered: $what" found $what; done
+  for what in number payload binding mark constraint reading count told spelled missing code pair kept link left moved unmarked copied line slow spoken unwritten behind fifth; do step "altered: $what" found $what; done
+  step "the slow engine" target/release/oracle twice 1 500
   step "pairs" target/release/oracle many
   step "2,000 jobs with pairs" target/release/oracle compare 1 2000 --profile=pairs
   step "clearings" target/release/oracle keep 1 2000

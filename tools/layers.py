@@ -14,7 +14,7 @@ GROUPS = [
     ('the lent words', '#aed6f1', 'names refusals table snapshot sound_fields sound_rows sound_tables sound'),
     ("core.rs's functions", '#a9dfbf', 'shapes subst ends canonical ready arms merge join tparams instantiate abilities failing constraints'),
     ('bytes in and out', '#d7bde2', 'cursor marks heads reader needs fields record writer log_lines payload answer'),
-    ('a slow engine', '#f9e79f', 'history'),
+    ('a slow engine', '#f9e79f', 'history old_subst old_merge old_join old_ready recheck checklog'),
     ('a record', '#f5b7b1', 'run failures solve expand many keep verdict step'),
     ('calls, programs', '#d5dbdb', 'limits lent split lines engine turns joinlog exports test_edges test_traps'),
 ]

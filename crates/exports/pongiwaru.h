@@ -28,11 +28,11 @@ extern "C" {
 #endif
 
 /* PONGIWARU_VERSION changes with the records, their answers, these functions or what they ask of a caller (5: more stack; 6: the
- * record CN; 7: XP; 8: NL; 9: MJ, which wants longer buffers; 10: JL and UL; 11: KP, behind which variables have other numbers),
- * PONGIWARU_LAYOUT with what the words and rows of a state mean. Keep the layout's number beside a kept state. A later version of the
- * same layout goes on with it (to one before 8 a state in which a literal needs bits is 15); under another layout it may be 15 or be
- * taken for another sound state, so don't lend it: run its records again from a fresh state. */
-#define PONGIWARU_VERSION 11
+ * record CN; 7: XP; 8: NL; 9: MJ, which wants longer buffers; 10: JL and UL; 11: KP, behind which variables have other numbers; 12:
+ * pongiwaru_check_record), PONGIWARU_LAYOUT with what the words and rows of a state mean. Keep the layout's number beside a kept state.
+ * A later version of the same layout goes on with it (to one before 8 a state in which a literal needs bits is 15); under another
+ * layout it may be 15 or be taken for another sound state, so don't lend it: run its records again from a fresh state. */
+#define PONGIWARU_VERSION 12
 #define PONGIWARU_LAYOUT 1
 
 /* Both numbers as the archive has them: the caller was built for it if they are PONGIWARU_VERSION and PONGIWARU_LAYOUT. Ask once,
@@ -91,6 +91,14 @@ enum pongiwaru_number {
 uint32_t pongiwaru_record(uint32_t *state, size_t state_length, uint8_t params[PONGIWARU_ROWS][PONGIWARU_ROW_BYTES],
                           const uint8_t *record, size_t record_length,
                           uint8_t *answer, size_t answer_length, uint32_t *length);
+
+/* The same call by another engine: slower, with join, subtype, unfolding and RD after the Rust's, to check pongiwaru_record by. JN, SU,
+ * UF and RD alone; a record with another mark is 5, after 15, and changes nothing. An answer buffer of less than PONGIWARU_ANSWER_BYTES
+ * is 15, whatever the mark. Lent the same words, rows, bytes and room as pongiwaru_record, of these four marks it gives the same number,
+ * payload, words and rows (proved). */
+uint32_t pongiwaru_check_record(uint32_t *state, size_t state_length, uint8_t params[PONGIWARU_ROWS][PONGIWARU_ROW_BYTES],
+                                const uint8_t *record, size_t record_length,
+                                uint8_t *answer, size_t answer_length, uint32_t *length);
 
 /* How many bytes of the stream are left after the record at its head: the last *rest. All of them on 5, 6, 15 and 18. State and params
  * are as they were; params is not const, since C before C23 refuses an array of rows that is not const where const rows are wanted. */

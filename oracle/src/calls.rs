@@ -11,6 +11,13 @@ pub const MIN_ANSWER: usize = pongiwaru::ANSWER_BYTES;
 /// room that a log needs for one line more, of all records but MJ
 pub const LINE: usize = pongiwaru::LINE_BYTES;
 
+/// the marks that the slow engine has
+pub const CHECKED: [&[u8]; 4] = [b"JN", b"SU", b"UF", b"RD"];
+
+pub fn is_checked(record: &[u8]) -> bool {
+    CHECKED.iter().any(|mark| record.starts_with(mark))
+}
+
 /// the same of the record at hand
 pub use pongiwaru::{answer_bytes, line_bytes};
 
@@ -24,6 +31,12 @@ pub trait Calls {
     /// One record, lent whole: the answer's number.
     fn record(&self, state: &mut [u32], params: &mut Params, record: &[u8], answer: &mut [u8], length: &mut u32)
         -> u32;
+    /// whether the slow engine is asked beside this one
+    fn checks(&self) -> bool {
+        true
+    }
+    /// One record by the slow engine.
+    fn check(&self, state: &mut [u32], params: &mut Params, record: &[u8], answer: &mut [u8], length: &mut u32) -> u32;
     /// How many bytes of the stream are left after one record.
     fn split(&self, state: &mut [u32], params: &mut Params, stream: &[u8], rest: &mut usize);
     /// A job's next lines, `lines.index` on: 0, or 15.
@@ -52,6 +65,10 @@ impl Calls for Engine {
         length: &mut u32,
     ) -> u32 {
         lent::record(state, params, record, answer, length)
+    }
+
+    fn check(&self, state: &mut [u32], params: &mut Params, record: &[u8], answer: &mut [u8], length: &mut u32) -> u32 {
+        lent::check_record(state, params, record, answer, length)
     }
 
     fn split(&self, state: &mut [u32], params: &mut Params, stream: &[u8], rest: &mut usize) {
@@ -141,6 +158,16 @@ impl Calls for Mimic {
             Mimic::leave(&job, state, params)
         }
         Mimic::number(&outcome)
+    }
+
+    /// what the header says of it
+    fn check(&self, state: &mut [u32], params: &mut Params, record: &[u8], answer: &mut [u8], length: &mut u32) -> u32 {
+        *length = 0;
+        match answer.len() < MIN_ANSWER || sound(state, params).is_err() {
+            true => 15,
+            false if is_checked(record) => self.record(state, params, record, answer, length),
+            false => 5,
+        }
     }
 
     fn split(&self, state: &mut [u32], params: &mut Params, stream: &[u8], rest: &mut usize) {

@@ -556,6 +556,12 @@ fn onward(calls: &dyn Calls, seed: u64, i: u64) -> Option<(Lent, Made)> {
     Some((lent, made))
 }
 
+/// Job i and the state that it begins on.
+pub fn begun(calls: &dyn Calls, seed: u64, i: u64, records: usize, profile: Option<Profile>) -> (Lent, Made) {
+    let onward = if profile.is_some() { None } else { onward(calls, seed, i) };
+    onward.unwrap_or_else(|| (lent::fresh(), made(seed, i, records, profile)))
+}
+
 /// Jobs up to `count`, of a profile or of all kinds; stops at the first disagreement.
 pub fn many(
     calls: &dyn Calls,
@@ -566,8 +572,7 @@ pub fn many(
     tally: &mut Tally,
 ) -> Option<Found> {
     (0..count).find_map(|i| {
-        let begun = if profile.is_some() { None } else { onward(calls, seed, i) };
-        let (start, m) = begun.unwrap_or_else(|| (lent::fresh(), made(seed, i, records, profile)));
+        let (start, m) = begun(calls, seed, i, records, profile);
         let disagreement = stream(calls, &start, &m.stream, &mut Chance::new(seed, i), tally).err()?;
         Some(Found { name: m.name, start, stream: m.stream, disagreement })
     })
@@ -633,17 +638,30 @@ pub enum Alter {
     Copied,
     /// a line of a job
     Line,
+    /// the slow engine: 2 becomes 3
+    Slow,
+    /// the location of a reference that a join answers
+    Spoken,
+    /// a join leaves the mark of the last variable unwritten
+    Unwritten,
+    /// a byte behind a payload is another
+    Behind,
+    /// FV is answered as the engine does
+    Fifth,
 }
 
-pub const ALTERS: [Alter; 20] = {
+pub const ALTERS: [Alter; 25] = {
     use Alter::*;
     [
         Number, Payload, Binding, Mark, Need, Constraint, Reading, Count, Told, Spelled, Missing, Code, Pair, Kept,
-        Link, Left, Moved, Unmarked, Copied, Line,
+        Link, Left, Moved, Unmarked, Copied, Line, Slow, Spoken, Unwritten, Behind, Fifth,
     ]
 };
 
 impl Alter {
+    fn is_of_the_slow(self) -> bool {
+        matches!(self, Alter::Slow | Alter::Spoken | Alter::Unwritten | Alter::Behind | Alter::Fifth)
+    }
     pub fn named(name: &str) -> Option<Alter> {
         ALTERS.into_iter().find(|a| format!("{:?}", a).to_lowercase() == name)
     }
@@ -746,6 +764,30 @@ impl Calls for Altered<'_> {
 
     fn counts(&self) -> bool {
         self.calls.counts()
+    }
+
+    /// what is altered elsewhere must be found without it
+    fn checks(&self) -> bool {
+        self.alter.is_of_the_slow()
+    }
+
+    fn check(&self, state: &mut [u32], params: &mut Params, record: &[u8], answer: &mut [u8], length: &mut u32) -> u32 {
+        if self.alter == Alter::Fifth && record.starts_with(b"FV") {
+            return self.calls.record(state, params, record, answer, length);
+        }
+        let number = self.calls.check(state, params, record, answer, length);
+        let view = lent::View { words: state, params };
+        match self.alter {
+            Alter::Slow if number == 2 => return 3,
+            Alter::Spoken if number == 0 && record.starts_with(b"JN") && answer[0] == 1 => answer[1] ^= 1,
+            Alter::Unwritten if number == 0 && record.starts_with(b"JN") && view.vars() > 0 => {
+                let at = 16_389 + 5 * (view.vars() - 1) + 2;
+                state[at..at + 3].fill(0)
+            }
+            Alter::Behind if number == 0 && record.starts_with(b"UF") => answer[*length as usize] ^= 1,
+            _ => (),
+        }
+        number
     }
 
     fn split(&self, state: &mut [u32], params: &mut Params, stream: &[u8], rest: &mut usize) {

@@ -82,7 +82,7 @@ pub fn lend(lender: &mut Lender, bytes: &[u8], room: usize, tally: &mut Tally) -
         };
     }
     if too_large(lender.view()) {
-        let read = read_record(bytes, &job_known(lender.view()));
+        let read = read_record(bytes, &known_of(lender.view()));
         let answer = lender.record(bytes, room)?;
         tally.add(ALONE);
         return match (answer.number, read) {
@@ -93,7 +93,7 @@ pub fn lend(lender: &mut Lender, bytes: &[u8], room: usize, tally: &mut Tally) -
     }
     let (outcome, job, counted) = expected(lender.view(), bytes, lender.calls.counts());
     let keeps =
-        read_record(bytes, &job_known(lender.view())).ok().map(|(r, _)| r).filter(|r| matches!(r, Record::KP(_)));
+        read_record(bytes, &known_of(lender.view())).ok().map(|(r, _)| r).filter(|r| matches!(r, Record::KP(_)));
     let answer = lender.record(bytes, room)?;
     if answer.number == 15 {
         return Err("15 though sound".into());
@@ -119,7 +119,7 @@ fn still_sound(lender: &Lender) -> Tried {
 /// The same bytes as a stream: split, then a job. The state is left as the job leaves it.
 fn stream(lender: &mut Lender, bytes: &[u8], tally: &mut Tally) -> Tried {
     let verdict = sound(lender.words(), lender.params());
-    let known = verdict.is_ok().then(|| job_known(lender.view()));
+    let known = verdict.is_ok().then(|| known_of(lender.view()));
     let n = lender.split(bytes)?;
     let first = known.as_ref().map_or(Ok(0), |k| read_record(bytes, k).map(|(_, n)| n));
     if n != first.unwrap_or(0) {
@@ -158,7 +158,7 @@ fn still_sound_or(lender: &Lender, number: u32) -> Tried {
     still_sound(lender)
 }
 
-fn job_known(s: View) -> crate::record::Known {
+pub fn known_of(s: View) -> crate::record::Known {
     let params = (0..s.structs()).map(|i| s.declared(i).1.len()).collect();
     crate::record::Known { vars: s.vars(), params }
 }

@@ -1,9 +1,10 @@
 //! A caller that lends: its buffers stand between guards, and each call is held to what every answer leaves alone.
 use crate::{
-    calls::{Calls, Lines},
+    calls::{is_checked, Calls, Lines, CHECKED, MIN_ANSWER},
     count::{used, Used},
-    lent::{Lent, Params, View, MAX_STRUCTS},
+    lent::{sound, Lent, Params, View, MAX_STRUCTS},
 };
+use std::sync::atomic::{AtomicUsize, Ordering::Relaxed};
 
 const GUARD: usize = 64;
 const GUARD_BYTE: u8 = 0xa5;
@@ -57,6 +58,26 @@ pub struct Lender<'a> {
     output: Guarded<u8>,
     before: Lent,
     old_output: Vec<u8>,
+    /// lends the same to the slow engine
+    slow: Option<Box<Lender<'a>>>,
+    /// records of other marks than the slow engine's
+    others: usize,
+}
+
+/// Of other marks it is asked one record in so many.
+const SHARE: usize = 8;
+
+/// How many records the slow engine was asked, of each of its marks, and others.
+static ASKED: [AtomicUsize; 5] = [const { AtomicUsize::new(0) }; 5];
+
+/// .. in words
+pub fn asked() -> String {
+    let [jn, su, uf, rd, others] = [0, 1, 2, 3, 4].map(|i| ASKED[i].load(Relaxed));
+    let all = jn + su + uf + rd;
+    format!(
+        "by the slow engine too: {} (JN {}, SU {}, UF {}, RD {}); of other marks: {}\n",
+        all, jn, su, uf, rd, others
+    )
 }
 
 /// The answer to one record.
@@ -68,6 +89,12 @@ pub struct Answer {
 
 impl<'a> Lender<'a> {
     pub fn new(calls: &'a dyn Calls, lent: &Lent) -> Lender<'a> {
+        let slow = calls.checks().then(|| Lender::alone(calls, lent).into());
+        Lender { slow, ..Lender::alone(calls, lent) }
+    }
+
+    /// .. to one engine alone
+    pub fn alone(calls: &'a dyn Calls, lent: &Lent) -> Lender<'a> {
         Lender {
             calls,
             words: Guarded::new(&lent.words, GUARD_WORD),
@@ -76,6 +103,8 @@ impl<'a> Lender<'a> {
             output: Guarded::new(&[], GUARD_BYTE),
             before: lent.clone(),
             old_output: vec![],
+            slow: None,
+            others: 0,
         }
     }
 
@@ -161,11 +190,13 @@ impl<'a> Lender<'a> {
     }
 
     /// One record with an answer buffer of `room` bytes. A refusal must leave words and buffer as they were.
-    pub fn record(&mut self, record: &[u8], room: usize) -> Result<Answer, Fault> {
+    fn record_by(&mut self, slowly: bool, record: &[u8], room: usize) -> Result<Answer, Fault> {
         self.prepare(record, room);
         let mut length = Guarded::new(&[0xdead_beefu32], GUARD_WORD);
         let params: &mut Params = self.params.get_mut().try_into().unwrap();
-        let number = self.calls.record(
+        let call = if slowly { Calls::check } else { Calls::record };
+        let number = call(
+            self.calls,
             self.words.get_mut(),
             params,
             self.input.get(),
@@ -184,6 +215,54 @@ impl<'a> Lender<'a> {
             return fault(format!("answer {} changed the state: {}", number, self.first_change()));
         }
         Ok(Answer { number, payload: self.output.get()[..long].to_vec() })
+    }
+
+    /// .. by the slow engine
+    pub fn check(&mut self, record: &[u8], room: usize) -> Result<Answer, Fault> {
+        self.record_by(true, record, room)
+    }
+
+    /// .. by the engine, and beside it by the slow one: each of its marks, and some others.
+    pub fn record(&mut self, record: &[u8], room: usize) -> Result<Answer, Fault> {
+        let answer = self.record_by(false, record, room)?;
+        self.others += !is_checked(record) as usize;
+        if !is_checked(record) && self.others % SHARE != 0 {
+            return Ok(answer);
+        }
+        let Some(mut slow) = self.slow.take() else { return Ok(answer) };
+        slow.lend(&self.before);
+        let told = slow.check(record, room).and_then(|slowly| self.same(&slow, record, room, &answer, &slowly));
+        self.slow = Some(slow);
+        told.map_err(|what| format!("the slow engine: {}", what)).map(|_| answer)
+    }
+
+    /// An MJ's 15 may be for its buffer.
+    fn was_unsound(&self, record: &[u8], answer: &Answer) -> bool {
+        let before = self.before();
+        answer.number == 15 && (!record.starts_with(b"MJ") || sound(before.words, before.params).is_err())
+    }
+
+    /// Of its four marks the slow engine gives the same number, payload, words and parameter bytes, of others 5; 15 for a buffer
+    /// that is too short for these four. What it may not touch `check` has looked at.
+    fn same(&self, slow: &Lender, record: &[u8], room: usize, answer: &Answer, slowly: &Answer) -> Result<(), Fault> {
+        let mark = CHECKED.iter().position(|mark| record.starts_with(mark));
+        ASKED[mark.unwrap_or(4)].fetch_add(1, Relaxed);
+        if !is_checked(record) {
+            let wanted = if room < MIN_ANSWER || self.was_unsound(record, answer) { 15 } else { 5 };
+            return match slowly.number {
+                n if n == wanted => Ok(()),
+                n => fault(format!("answer {}, and not {}, to a record of another mark", n, wanted)),
+            };
+        }
+        if slowly != answer {
+            let [n, m] = [answer, slowly].map(|a| (a.number, crate::record::hex(&a.payload)));
+            return fault(format!("{} {}, and not {} {}", m.0, m.1, n.0, n.1));
+        }
+        match (self.words() == slow.words(), self.params() == slow.params()) {
+            (true, true) => Ok(()),
+            (false, _) => fault(format!("another {}", self.lent().first_other(&slow.lent()))),
+            (_, false) => fault("other parameter bytes"),
+        }
     }
 
     /// How many bytes the first record has.

@@ -102,6 +102,7 @@ pub mod shrink;
 pub mod spelled;
 pub mod state_text;
 pub mod traps;
+pub mod twice;
 
 /// the record form, jobs as text and the printer, under the names that this crate uses
 pub use joblog::{record, show, text};

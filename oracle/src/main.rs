@@ -2,7 +2,7 @@
 use oracle::{
     bench,
     calls::{self, Calls},
-    compare, damage, gen, job, keep, list, many, order, program, release, spelled, traps,
+    compare, damage, gen, job, keep, lender, list, many, order, program, release, spelled, traps, twice,
 };
 use std::{
     fs,
@@ -26,11 +26,12 @@ oracle order [LIST]                                   what this build's map orde
 oracle compare SEED COUNT [RECORDS] [--alter=WHAT] [--profile=PROFILE]
                                                       the engine beside core.rs, on jobs from a seed
 oracle spelled SEED COUNT                             CN of COUNT pairs of jobs: equal bytes beside equal types
+oracle twice SEED COUNT                               the engine beside the slow one: edges, and states of COUNT jobs
 oracle many                                           MJ at its edges
 oracle keep SEED COUNT                                KP at its edges, and on COUNT states that no job has
 oracle damage records|states|wild SEED COUNT           damaged records, damaged states
 oracle damage needs|literals SEED COUNT               every need on every variable; SV where needs stand anywhere
-oracle traps                                          types with more parts than nodes, deep and looped ones
+oracle traps [slow]                                   types with more parts than nodes, deep and looped ones
 oracle bench [RUNS]                                   times beside core.rs, by mark, of lent records
 oracle bench once WORK SIDE TIMES                     the same job again and again, for a profiler
 oracle bench marks                                    for each mark a call without records and one with, likewise
@@ -129,7 +130,7 @@ fn compare(words: &[String], calls: &dyn Calls, alter: Option<compare::Alter>, p
     let mut tally = compare::Tally::default();
     let start = std::time::Instant::now();
     let found = compare::many(calls, number(words.get(1)), number(words.get(2)), records, profile, &mut tally);
-    print!("{}", tally.text());
+    print!("{}{}", tally.text(), lender::asked());
     println!("{:.1} s", start.elapsed().as_secs_f64());
     let Some(found) = found else {
         println!("no disagreement");
@@ -152,7 +153,7 @@ fn hurt(words: &[String], calls: &dyn Calls) -> i32 {
         Some("literals") => damage::literals(calls, seed, count, &mut tally),
         _ => fail(USAGE),
     };
-    print!("{}{:.1} s\n", tally.text(), start.elapsed().as_secs_f64());
+    print!("{}{}{:.1} s\n", tally.text(), lender::asked(), start.elapsed().as_secs_f64());
     match done {
         Ok(()) => println!("all as they must be"),
         Err(what) => {
@@ -161,6 +162,36 @@ fn hurt(words: &[String], calls: &dyn Calls) -> i32 {
         }
     }
     0
+}
+
+/// The engine beside the slow one.
+fn twice(words: &[String], calls: &dyn Calls) -> i32 {
+    let told = twice::edges(calls).and_then(|(tried, top)| {
+        println!("{} records at edges, {} entries at most", tried, top);
+        twice::jobs(calls, number(words.get(1)), number(words.get(2)))
+    });
+    print!("{}", lender::asked());
+    match &told {
+        Ok(tried) => println!("{} records on states of jobs: no disagreement", tried),
+        Err(what) => println!("DISAGREEMENT: {}", what),
+    }
+    told.is_err() as i32
+}
+
+/// The engine on traps, and the slow one; `slow`: this alone.
+fn trapped(which: Option<&str>) -> i32 {
+    let lines = if which == Some("slow") { vec![] } else { traps::run(engine(false)) };
+    lines.iter().for_each(|l| println!("{}", l.text()));
+    traps::by_state(&lines).iter().for_each(|l| println!("{}", l));
+    let [lent, job] = traps::most_stack(&lines);
+    let [slow, many] = traps::slowest(&lines).map(|s| s * 1000.0);
+    println!("slowest call: {:.3} ms, slowest MJ: {:.3} ms", slow, many);
+    println!("most stack: {} bytes lent, {} as a job", lent, job);
+    let slowly = traps::run_slowly(engine(false));
+    slowly.iter().for_each(|l| println!("{}", l.text()));
+    let [seconds, stack] = traps::most_slowly(&slowly);
+    println!("the slow engine's slowest call: {:.3} ms; its most stack: {} bytes", seconds * 1000.0, stack);
+    (lines.iter().any(traps::Line::slow) || slowly.iter().any(traps::Slow::over)) as i32
 }
 
 fn run(args: Vec<String>) -> i32 {
@@ -212,6 +243,7 @@ fn run(args: Vec<String>) -> i32 {
                 return 1;
             }
         },
+        Some("twice") if words.len() == 3 => return twice(&words, engine(flag("--mimic"))),
         Some("keep") if words.len() == 3 => {
             match keep::all(engine(flag("--mimic")), number(words.get(1)), number(words.get(2))) {
                 Ok(tried) => println!("{} calls, all as they must be", tried),
@@ -242,16 +274,7 @@ fn run(args: Vec<String>) -> i32 {
             let runs = words.get(1).map_or(200, |w| number(Some(w)));
             print!("{}", bench::table(engine(false), runs as usize))
         }
-        Some("traps") => {
-            let lines = traps::run(engine(false));
-            lines.iter().for_each(|l| println!("{}", l.text()));
-            traps::by_state(&lines).iter().for_each(|l| println!("{}", l));
-            let [lent, job] = traps::most_stack(&lines);
-            let [slow, many] = traps::slowest(&lines).map(|s| s * 1000.0);
-            println!("slowest call: {:.3} ms, slowest MJ: {:.3} ms", slow, many);
-            println!("most stack: {} bytes lent, {} as a job", lent, job);
-            return lines.iter().any(traps::Line::slow) as i32;
-        }
+        Some("traps") => return trapped(words.get(1).map(String::as_str)),
         Some("damage") => return hurt(&words, engine(flag("--mimic"))),
         Some("joinlog") if words.len() == 2 => match program::run(engine(false), words[1].as_ref()) {
             Ok(told) => print!("{}", told),

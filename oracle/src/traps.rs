@@ -1,7 +1,7 @@
 //! States on which a walk written word for word would not end in practice: types with more parts than any machine
 //! counts, as deep as the tables allow, or running into themselves. Lent, and every record tried on each.
 use crate::{
-    calls::{answer_bytes, line_bytes, Calls, MIN_ANSWER},
+    calls::{answer_bytes, line_bytes, Calls, CHECKED, MIN_ANSWER},
     compare::pairs_shown,
     lender::{Answer, Lender},
     lent::{fresh, sound, Lent, MAX_NODES, MAX_VARS},
@@ -359,18 +359,18 @@ fn many((once, again): (&str, &str)) -> (String, String) {
 fn tried(calls: &(dyn Calls + Sync), state: &'static str, lent: &Lent, record: &str) -> Line {
     let bytes = assemble(record, true).unwrap();
     let call = || {
-        let mut lender = Lender::new(calls, lent);
+        let mut lender = Lender::alone(calls, lent);
         lender.warm(answer_bytes(&bytes));
         let start = Instant::now();
         let a = lender.record(&bytes, answer_bytes(&bytes)).unwrap();
         (start.elapsed().as_secs_f64(), a, lender.lent())
     };
     let job = || {
-        let mut lender = Lender::new(calls, lent);
+        let mut lender = Lender::alone(calls, lent);
         let (number, _, log) = lender.job(&bytes, false, line_bytes(&bytes), 0).unwrap();
         (number, log, lender.lent())
     };
-    let (_, by_record) = on_a_thread(STACK, || painted(call));
+    let (_, by_record) = on_a_thread(STACK, || painted(STACK, call));
     let (mut seconds, mut answer, mut by_job) = (f64::MAX, None, 0);
     for _ in 0..3 {
         let (took, a, left) = on_a_thread(STACK, call);
@@ -378,7 +378,7 @@ fn tried(calls: &(dyn Calls + Sync), state: &'static str, lent: &Lent, record: &
         assert_ne!(a.number, 15);
         assert_eq!(sound(&left.words, &left.params), Ok(()));
         assert!(cleared(lent, &bytes).is_none_or(|wanted| wanted == left), "{}: {}", state, record);
-        let ((number, log, left_by_job), stack) = on_a_thread(STACK, || painted(job));
+        let ((number, log, left_by_job), stack) = on_a_thread(STACK, || painted(STACK, job));
         by_job = stack;
         assert_eq!((number, log), (0, line(&a).into_bytes()));
         assert!(left_by_job == left, "{}: {}", state, record);
@@ -420,29 +420,29 @@ const COLOUR: u8 = 0xa5;
 /// what a thread keeps above the frames that are looked at, and a page or more that is not painted
 const KEPT: usize = 32 << 10;
 
-/// The stack below this function's frame, up to where a thread of STACK bytes surely has it, in one colour; the frame's place.
+/// The stack below this function's frame, up to where a thread of so many bytes surely has it, in one colour; the frame's place.
 #[inline(never)]
-fn paint() -> usize {
+fn paint(stack: usize) -> usize {
     let frame = 0u8;
     let here = std::hint::black_box(std::ptr::addr_of!(frame)) as usize;
     // below the frame nothing is live, but for the 128 bytes that a function may use without saying so
-    (here - (STACK - KEPT)..here - 256).for_each(|at| unsafe { (at as *mut u8).write_volatile(COLOUR) });
+    (here - (stack - KEPT)..here - 256).for_each(|at| unsafe { (at as *mut u8).write_volatile(COLOUR) });
     here
 }
 
 /// How far down below that place another colour is found.
 #[inline(never)]
-fn taken(here: usize) -> usize {
-    let deepest = (here - (STACK - KEPT)..here).find(|at| unsafe { (*at as *const u8).read_volatile() } != COLOUR);
+fn taken(stack: usize, here: usize) -> usize {
+    let deepest = (here - (stack - KEPT)..here).find(|at| unsafe { (*at as *const u8).read_volatile() } != COLOUR);
     here - deepest.unwrap_or(here)
 }
 
-/// What the work gives, and how much stack it took.
+/// What the work gives, and how much it took of a thread's stack.
 #[inline(never)]
-fn painted<T>(work: impl FnOnce() -> T) -> (T, usize) {
-    let here = paint();
+fn painted<T>(stack: usize, work: impl FnOnce() -> T) -> (T, usize) {
+    let here = paint(stack);
     let given = work();
-    (given, taken(here))
+    (given, taken(stack, here))
 }
 
 /// as many constraints of a kind, as the words number them, as have room in an answer where all fail
@@ -498,9 +498,8 @@ pub fn slowest(lines: &[Line]) -> [f64; 2] {
     [of(false).fold(0.0, f64::max), of(true).fold(0.0, f64::max)]
 }
 
-/// Every record on every state, each call on a thread of its own.
-pub fn run(calls: &(dyn Calls + Sync)) -> Vec<Line> {
-    let states = [
+fn states(calls: &dyn Calls) -> Vec<(&'static str, Lent)> {
+    vec![
         ("ladder", ladder()),
         ("deep", deep()),
         ("deepest", deepest(true, 1)),
@@ -522,7 +521,71 @@ pub fn run(calls: &(dyn Calls + Sync)) -> Vec<Line> {
         ("crossed", crossed()),
         ("numeric", numeric()),
         ("literals", literals()),
-    ];
+    ]
+}
+
+//---- the slow engine ------------------------------------------------------------------------------------------
+
+/// seconds that its call may take
+pub const SLOW_LIMIT: f64 = 10.0;
+/// of its thread, so that a call that does not fit STACK is told and no crash
+const SLOW_STACK: usize = 1 << 20;
+
+/// A call of the slow engine, on a trap.
+pub struct Slow {
+    pub state: &'static str,
+    pub record: &'static str,
+    pub number: u32,
+    pub seconds: f64,
+    pub stack: usize,
+}
+
+impl Slow {
+    pub fn text(&self) -> String {
+        let ms = self.seconds * 1000.0;
+        format!("{:<8} {:<34} {:>2}, slowly {:.3} ms, stack {}", self.state, self.record, self.number, ms, self.stack)
+    }
+    /// whether it took longer or more stack than it may
+    pub fn over(&self) -> bool {
+        self.seconds >= SLOW_LIMIT || self.stack >= STACK
+    }
+}
+
+/// The slow engine's answer and state are the engine's.
+fn slowly(calls: &(dyn Calls + Sync), state: &'static str, lent: &Lent, record: &'static str) -> Slow {
+    let bytes = assemble(record, true).unwrap();
+    let mut lender = Lender::alone(calls, lent);
+    let answer = lender.record(&bytes, MIN_ANSWER).unwrap();
+    let call = || {
+        let mut lender = Lender::alone(calls, lent);
+        lender.warm(MIN_ANSWER);
+        let start = Instant::now();
+        let a = lender.check(&bytes, MIN_ANSWER).unwrap();
+        (start.elapsed().as_secs_f64(), a, lender.lent())
+    };
+    let ((seconds, a, left), stack) = on_a_thread(SLOW_STACK, || painted(SLOW_STACK, call));
+    assert!(a == answer && left == lender.lent(), "{}: {}", state, record);
+    Slow { state, record, number: a.number, seconds, stack }
+}
+
+/// The seconds of its slowest call, and the bytes of stack of its deepest.
+pub fn most_slowly(lines: &[Slow]) -> [f64; 2] {
+    let most = |of: fn(&Slow) -> f64| lines.iter().map(of).fold(0.0, f64::max);
+    [most(|l| l.seconds), most(|l| l.stack as f64)]
+}
+
+/// The slow engine on every state, with every record that it has.
+pub fn run_slowly(calls: &(dyn Calls + Sync)) -> Vec<Slow> {
+    let own = |r: &&&str| CHECKED.iter().any(|mark| r.as_bytes().starts_with(mark));
+    let on = |(name, lent): &(&'static str, Lent)| -> Vec<_> {
+        RECORDS.iter().filter(own).map(|r| slowly(calls, name, lent, r)).collect()
+    };
+    states(calls).iter().flat_map(on).collect()
+}
+
+/// Every record on every state, each call on a thread of its own.
+pub fn run(calls: &(dyn Calls + Sync)) -> Vec<Line> {
+    let states = states(calls);
     let mut lines = vec![];
     for (name, lent) in &states {
         assert_eq!(sound(&lent.words, &lent.params), Ok(()), "{}", name);

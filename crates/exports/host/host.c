@@ -36,6 +36,10 @@ static uint32_t record(const uint8_t *bytes, size_t size, size_t room, uint32_t 
     return pongiwaru_record(state, PONGIWARU_WORDS, params, bytes, size, answer, room, length);
 }
 
+static uint32_t check(const uint8_t *bytes, size_t size, size_t room, uint32_t *length) {
+    return pongiwaru_check_record(state, PONGIWARU_WORDS, params, bytes, size, answer, room, length);
+}
+
 static uint32_t job(const uint8_t *stream, size_t size, bool more, size_t room, size_t *written, size_t *read, uint64_t *index, bool *ended) {
     return pongiwaru_job(state, PONGIWARU_WORDS, params, stream, size, more, log_bytes, room, written, read, index, ended);
 }
@@ -146,6 +150,50 @@ static void kept(void) {
     expect("the old number and the new one", length == sizeof shown && memcmp(answer, shown, sizeof shown) == 0 && untouched(answer, sizeof shown, sizeof answer));
     expect("one variable and the struct stay", state[2] == 1 && state[4] == 1 && params[0][0] == 17);
     expect("nobody has the old number", record(gone, sizeof gone, sizeof answer, &length) == PONGIWARU_UNKNOWN_NAME);
+}
+
+/* a record by both engines, from the same words and rows: the state goes on with what they left */
+static bool same(const uint8_t *bytes, size_t size, uint32_t number) {
+    static uint32_t left[PONGIWARU_WORDS];
+    static uint8_t rows[sizeof params], told[sizeof answer];
+    uint32_t length = 9, slowly = 9;
+    memcpy(before, state, sizeof state);
+    memset(answer, 170, sizeof answer);
+    bool given = record(bytes, size, sizeof answer, &length) == number;
+    memcpy(left, state, sizeof state);
+    memcpy(rows, params, sizeof params);
+    memcpy(told, answer, sizeof answer);
+    memcpy(state, before, sizeof state);
+    memset(answer, 170, sizeof answer);
+    given = given && check(bytes, size, sizeof answer, &slowly) == number && slowly == length;
+    return given && memcmp(left, state, sizeof state) == 0 && memcmp(rows, params, sizeof params) == 0 && memcmp(told, answer, sizeof answer) == 0;
+}
+
+/* the slow engine: of its four marks what pongiwaru_record gives, of others 5 */
+static void checked(void) {
+    static const uint8_t jn[] = {'J', 'N', 6, 2, 0, 0, 0, 0, 0, 3, 3, 0, 0, 0, 0, 2}, su[] = {'S', 'U', 6, 2, 0, 0, 0, 1, 0, 6, 3, 0, 0, 0, 0, 0};
+    static const uint8_t uf[] = {'U', 'F', 6, 4, 0, 0, 0, 1, 0}, rd[] = {'R', 'D', 4, 5, 0, 0, 0, 0, 2, 6, 6, 0, 0, 0, 0, 0, 6, 7, 0, 0, 0, 1, 0};
+    static const uint8_t wrong[] = {'J', 'N', 6, 2, 0, 0, 0, 0, 0, 0, 3, 0, 0, 0}, gone[] = {'U', 'F', 6, 4, 0, 0, 0, 9, 0}, mj[] = {'M', 'J'};
+    uint32_t length = 9;
+    fresh();
+    record(sd, sizeof sd, sizeof answer, &length);
+    record(fv, sizeof fv, sizeof answer, &length);
+    record(fv, sizeof fv, sizeof answer, &length);
+    expect("JN by both", same(jn, sizeof jn, PONGIWARU_RAN) && state[0] == 2);
+    expect("SU by both", same(su, sizeof su, PONGIWARU_RAN) && state[2] == 3);
+    expect("UF by both", same(uf, sizeof uf, PONGIWARU_RAN));
+    expect("RD by both", same(rd, sizeof rd, PONGIWARU_RAN));
+    expect("an error by both", same(wrong, sizeof wrong, PONGIWARU_INCOMPATIBLE));
+    expect("a refusal by both", same(gone, sizeof gone, PONGIWARU_UNKNOWN_NAME));
+    expect("bytes left over by both", same(jn, sizeof jn - 1, PONGIWARU_MALFORMED));
+    memcpy(before, state, sizeof state);
+    memset(answer, 170, sizeof answer);
+    expect("another mark is 5", check(fv, sizeof fv, sizeof answer, &length) == PONGIWARU_MALFORMED && length == 0 && untouched(answer, 0, sizeof answer));
+    expect("MJ wants no more room", check(mj, sizeof mj, PONGIWARU_ANSWER_BYTES, &length) == PONGIWARU_MALFORMED);
+    expect("a short buffer is 15 before that", check(fv, sizeof fv, PONGIWARU_ANSWER_BYTES - 1, &length) == PONGIWARU_UNSOUND_STATE && check(uf, sizeof uf, PONGIWARU_ANSWER_BYTES - 1, &length) == PONGIWARU_UNSOUND_STATE);
+    expect("neither changes anything", memcmp(before, state, sizeof state) == 0);
+    state[0] = 2049;
+    expect("a state that is not sound is 15", check(fv, sizeof fv, sizeof answer, &length) == PONGIWARU_UNSOUND_STATE && check(uf, sizeof uf, sizeof answer, &length) == PONGIWARU_UNSOUND_STATE);
 }
 
 static void refused(void) {
@@ -323,6 +371,7 @@ int main(void) {
     expanded();
     pairs();
     kept();
+    checked();
     refused();
     splits();
     jobs();

@@ -2,19 +2,20 @@
 #![tactic(auto)]
 
 ghost use Rattle.std.specs.Prelude.{◌≡◌, ◌-◌, ◌≤◌, length as size, drop};
-ghost use Rattle.engine.specs.Public.{lent_step, GivesAnswer, lent_lines, fresh_lines, number_of, lines_of, GivesLines};
+ghost use Rattle.engine.specs.Public.{lent_step, answer_of, GivesAnswer, lent_lines, fresh_lines, number_of, lines_of, GivesLines};
 ghost use Rattle.engine.specs.Rest.{rest_of};
+ghost use Rattle.recheck.specs.Check.{check_step};
 
-use engine::{Lines, Unsound};
+use engine::{Answered, Lines, Unsound};
 
 // ---- what a caller was built against
 
 // The header's PONGIWARU_VERSION, of this archive. Refused (must-fail/): the version before (version_before).
 #[unsafe(no_mangle)]
 pub extern "C" fn pongiwaru_version() -> u32
-    ensures { result ≡ 11 }
+    ensures { result ≡ 12 }
 {
-    11
+    12
 }
 
 // The header's PONGIWARU_LAYOUT, of this archive.
@@ -27,10 +28,26 @@ pub extern "C" fn pongiwaru_layout() -> u32
 
 // ---- one record
 
-// One record, lent whole. The result is the answer's number; the payload stands in front of the answer buffer, and length is how long it is.
+// What a record's call returns and writes: 15 for a state that is not sound, or too short a buffer.
 // Refused: a length on 15 (length_on_15).
-#[unsafe(no_mangle)]
 #[tactic(auto, unfolding(definition::specs::Step::number_of_refusal))]
+fn answered(r: Result<Answered, Unsound>, length: &mut u32) -> u32
+    ensures { record { number = result; length = length.new } ≡ answer_of r }
+{
+    match r {
+        Ok(a) => {
+            *length = a.length;
+            a.number
+        }
+        Err(e) => {
+            *length = 0;
+            e.number()
+        }
+    }
+}
+
+// One record, lent whole. The result is the answer's number; the payload stands in front of the answer buffer, and length is how long it is.
+#[unsafe(no_mangle)]
 pub extern "C" fn pongiwaru_record(
     state: &mut [u32],
     params: &mut [[u8; 8]; 256],
@@ -40,16 +57,24 @@ pub extern "C" fn pongiwaru_record(
 ) -> u32
     ensures { GivesAnswer (lent_step state.old params.old «record».now (size answer.old)) answer.old (record { number = result; length = length.new }) state.new params.new answer.new }
 {
-    match engine::lent_record(state, params, record, answer) {
-        Ok(r) => {
-            *length = r.length;
-            r.number
-        }
-        Err(e) => {
-            *length = 0;
-            e.number()
-        }
-    }
+    let r = engine::lent_record(state, params, record, answer);
+    answered(r, length)
+}
+
+// The same by the slow engine, of JN, SU, UF and RD alone: to check the call before by.
+// Refused: the engine that is to be checked (checked_by_itself).
+#[unsafe(no_mangle)]
+pub extern "C" fn pongiwaru_check_record(
+    state: &mut [u32],
+    params: &mut [[u8; 8]; 256],
+    record: &[u8],
+    answer: &mut [u8],
+    length: &mut u32,
+) -> u32
+    ensures { GivesAnswer (check_step state.old params.old «record».now (size answer.old)) answer.old (record { number = result; length = length.new }) state.new params.new answer.new }
+{
+    let r = recheck::check_record(state, params, record, answer);
+    answered(r, length)
 }
 
 // How many bytes of the stream are left after one record; all of them on 5, 6, 15 and 18. The state is as it was.

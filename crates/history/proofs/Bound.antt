@@ -1,14 +1,14 @@
 -- A binding, as the state whose rows say the same has it. Assumes nothing.
 use mathlib.Core.Path.{◌≡◌, refl, sym, ap, subst}
 use mathlib.Core.List.{List}
-use Rattle.std.specs.Prelude.{None, Some}
+use Rattle.std.specs.Prelude.{None}
 use Prim.Native.Nat.{ℕ, ◌+◌, ◌<◌, ◌≤◌}
 use native.Mathlib.Omega.{arith}
 use lib.ListN.{set}
 use lib.Seq.{set_out}
 use Rattle.definition.specs.Types as d
 use Rattle.definition.specs.Types.{Cell, unbound}
-use Rattle.definition.specs.Store.{taken, get, num_loc, need_of, insert, with_vars}
+use Rattle.definition.specs.Store.{taken, get, insert, with_vars}
 use Rattle.table.specs.Rows.{var_table}
 use Rattle.table.specs.State.{Lay, view}
 use Rattle.table.specs.Did.{Linked, Kept, held, tables}
@@ -27,6 +27,11 @@ use Rattle.history.proofs.Entry.{bind_fits, bind_holds, bind_stored, bind_room}
 pub linked_any : {s t : State} → t.words.ghost_name ≡ s.words.ghost_name → t.saved ≡ s.saved → t.touched ≡ touched.Any → Linked s t
 linked_any name saved e = record { name = name; saved = saved; rows = λ v a b f. absurd (rw e at f) }
 
+-- past the variables in use nothing is set
+pub none_set : (s : d.State) (v : ℕ) (c : Cell) → taken s ≤ v → s ≡ with_vars s (set s.vars v c)
+unfolding with_vars
+none_set s v c h = λ i. record { nodes = s.nodes; args = s.args; vars = sym (set_out s.vars v c h) i; constraints = s.constraints; structs = s.structs }
+
 module _ (p : Past) (id v t : ℕ) (e : id ≡ v) (r : (t < p.st.used.nodes) × Spare p v) where
   abbrev a : Holds p.st.words.now p.st.used p.bindings p.bound p.marks p.marked
   a = p.holds
@@ -36,10 +41,10 @@ module _ (p : Past) (id v t : ℕ) (e : id ≡ v) (r : (t < p.st.used.nodes) × 
     spare = subst (λ (x : ℕ). Spare p x) (sym e) r.1
 
     pub past_fits : p.bound < 5120
-    past_fits = bind_fits p.st.words.now p.st.used p.st.lay p.bindings p.bound p.marks p.marked a id t lt r.0 spare
+    past_fits = bind_fits p.st.words.now p.st.used p.st.lay p.bindings p.bound p.marks p.marked a id lt t r.0 spare
 
     pub past_holds : Holds p.st.words.now p.st.used (set p.bindings p.bound (record { tvar = id; node = t })) (p.bound + 1) p.marks p.marked
-    past_holds = bind_holds p.st.words.now p.st.used p.st.lay p.bindings p.bound p.marks p.marked a id t lt r.0 spare
+    past_holds = bind_holds p.st.words.now p.st.used p.st.lay p.bindings p.bound p.marks p.marked a id lt t r.0 spare
 
     abbrev words' : List ℕ
     words' = words_of p.st.words.now (set p.bindings p.bound (record { tvar = id; node = t })) (p.bound + 1) p.marks p.marked
@@ -47,8 +52,8 @@ module _ (p : Past) (id v t : ℕ) (e : id ≡ v) (r : (t < p.st.used.nodes) × 
     pub past_bound : (l : Lay words' p.st.used) → Kept (as_rows p) (rows_of p.st words' l) (λ s. insert s v t) × ((p.bound + 1 + room (view words' p.st.used) + open_at p v ≤ reach p + 1) × (marks_reach p ≤ marks_reach p))
     past_bound l =
         subst (λ (x : ℕ). Kept (as_rows p) (rows_of p.st words' l) (λ s. insert s x t) × ((p.bound + 1 + room (view words' p.st.used) + open_at p x ≤ reach p + 1) × (marks_reach p ≤ marks_reach p))) e (
-          of_stored (linked_any refl refl refl) refl (bind_stored p.st.words.now p.st.used p.st.lay p.bindings p.bound p.marks p.marked a id t lt r.0 spare),
-          (omega (arith, bind_room p.st.words.now p.st.used p.st.lay p.bindings p.bound p.marks p.marked a id t lt r.0 spare), omega arith),
+          of_stored (linked_any refl refl refl) refl (bind_stored p.st.words.now p.st.used p.st.lay p.bindings p.bound p.marks p.marked a id lt t r.0 spare),
+          (omega (arith, bind_room p.st.words.now p.st.used p.st.lay p.bindings p.bound p.marks p.marked a id lt t r.0 spare), omega arith),
         )
 
   -- no variable in use: nothing is done
@@ -58,8 +63,8 @@ module _ (p : Past) (id v t : ℕ) (e : id ≡ v) (r : (t < p.st.used.nodes) × 
     not_bound = ap (λ (c : Cell). c.binding) (entry_out var_table (as_rows p).words.now p.st.used.vars v unbound (rw e at le))
 
     nothing : (s : d.State) → taken s ≤ v → s ≡ insert s v t
-    unfolding insert with_vars
-    nothing s h = λ i. record { nodes = s.nodes; args = s.args; vars = sym (set_out s.vars v (record { binding = Some t; numeric = num_loc s v; need = need_of s v }) h) i; constraints = s.constraints; structs = s.structs }
+    unfolding insert
+    nothing s h = none_set s v _ h
 
     pub past_same : Kept (as_rows p) (as_rows p) (λ s. insert s v t) × Spends p p v
     past_same = (

@@ -66,6 +66,14 @@ unfolding find_mark
 mark_same m l zero v f = refl
 mark_same m l (suc k) v f = rw (f k (omega arith), mark_same m l k v (λ i q. f i (omega arith))) refl
 
+-- what holds of the entries, and of the new one
+pub each : {A : Type 0} (P : A → Type 0) (l : List A) (n : ℕ) (b d : A) → n < length l → P b → ((i : ℕ) → i < n → P (get_or l i d)) → (i : ℕ) → i < n + 1 → P (get_or (set l n b) i d)
+each P l n b d lt new old i p = by (ℕ_discrete i n)
+  where
+    by : Dec (i ≡ n) → P (get_or (set l n b) i d)
+    by (yes e) = subst P (sym (ap (λ (x : ℕ). get_or (set l n b) x d) e ∙ get_or-set_same l n b d lt)) new
+    by (no e) = subst P (sym (get_or-set_other l n i b d e)) (old i (omega arith))
+
 module _ (h : List Binding) (n : ℕ) (b : Binding) (lt : n < length h) where
   abbrev pub newer : List Binding
   newer = set h n b

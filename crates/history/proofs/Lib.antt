@@ -5,3 +5,10 @@ pub mod Room
 pub mod Entry
 pub mod Reading
 pub mod Bound
+pub mod Carried
+pub mod Asked
+pub mod Marked
+pub mod Under
+pub mod Few
+pub mod Back
+pub mod Loading

@@ -5,8 +5,8 @@ use Prim.Native.Nat.{ℕ, ◌<◌}
 use native.Mathlib.Omega.{arith}
 use native.Mathlib.Decide.{dec_lt}
 use lib.ListN.{get_or}
-use Rattle.definition.specs.Types.{State, Struct, Cell, unbound, Places}
-use Rattle.definition.specs.Store.{node, args_at, get, num_loc, need_of, with_vars, with_structs}
+use Rattle.definition.specs.Types.{State, Struct, Shape, Cell, unbound, Places}
+use Rattle.definition.specs.Store.{node, args_at, with_args, get, num_loc, need_of, with_vars, with_structs}
 use Rattle.table.specs.Tab.{tab}
 use Rattle.table.specs.State.{seen, Lay}
 use Rattle.table.specs.declared.Used.{Used}
@@ -51,3 +51,7 @@ module _ (w : List ℕ) (u : Used) (l : Lay w u) (h : List Binding) (n : ℕ) (m
   pub args_is : (p : Places) → args_at (seen w u ds) p ≡ args_at past p
   unfolding args_at with_vars
   args_is p = ap (λ (s : State). args_at s p) (sym is_seen)
+
+  pub parts_is : (x : Shape Places) → with_args (seen w u ds) x ≡ with_args past x
+  unfolding with_args args_at with_vars
+  parts_is x = ap (λ (s : State). with_args s x) (sym is_seen)

@@ -28,11 +28,11 @@ module _ (w : List ℕ) (h : List Binding) (n : ℕ) (m : List Mark) (k : ℕ) w
   abbrev pub made : List ℕ
   made = words_of w h n m k
 
-  of_low : (j : ℕ) → j < 16389 → get_or made j 0 ≡ get_or w j 0
+  pub of_low : (j : ℕ) → j < 16389 → get_or made j 0 ≡ get_or w j 0
   unfolding words_of word_of
   of_low j p = getD_tab 24069 (word_of w h n m k) j 0 (omega arith) ∙ rw (lt-ltb j 16389 p) refl
 
-  of_high : (j : ℕ) → 21509 ≤ j → j < 24069 → get_or made j 0 ≡ get_or w j 0
+  pub of_high : (j : ℕ) → 21509 ≤ j → j < 24069 → get_or made j 0 ≡ get_or w j 0
   unfolding words_of word_of
   of_high j p q = getD_tab 24069 (word_of w h n m k) j 0 q ∙ rw (le-ltb j 16389 (omega arith), le-ltb j 21509 p) refl
 

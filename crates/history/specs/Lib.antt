@@ -3,3 +3,4 @@ pub mod Room
 pub mod History
 pub mod Holding
 pub mod Past
+pub mod Rows

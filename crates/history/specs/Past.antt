@@ -1,6 +1,7 @@
 -- The state of table whose rows say what the histories say. Contracts of the engine are cited for it as they stand. Assumes nothing: these are definitions.
-use Rattle.std.specs.Prelude.{List, ℕ, ◌+◌, ◌-◌, ◌<◌, ◌≤◌, Result, Ok, Err}
-use Rattle.definition.specs.Store.{get}
+use Rattle.std.specs.Prelude.{List, ℕ, ◌+◌, ◌-◌, ◌<◌, ◌≤◌, set, Option, Result, Ok, Err}
+use Rattle.definition.specs.Types as d
+use Rattle.definition.specs.Store.{get, with_vars}
 use Rattle.table.specs.State.{Lay}
 use Rattle.table.specs.Did.{tables}
 use Rattle.names.specs.declared.TVar.{TVar}
@@ -48,3 +49,7 @@ Marks p q = (reach q ≤ reach p) × (marks_reach q ≤ marks_reach p + 1)
 abbrev pub Frees : Past → Past → Result TVar Stop → Type 0
 Frees p q (Ok v) = (reach q + 3 ≤ reach p) × (marks_reach q + 1 ≤ marks_reach p)
 Frees p q (Err e) = Within p q
+
+-- variable v has this mark and this need
+unfoldable pub with_mark : ℕ → Option ℕ → ℕ → d.State → d.State
+with_mark v numeric need s = with_vars s (set s.vars v (record { binding = get s v; numeric = numeric; need = need }))

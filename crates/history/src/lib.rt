@@ -2,18 +2,23 @@
 // Changed from the source that NOTICE names: ported to Rattle.
 #![tactic(auto)]
 
-ghost use Rattle.std.specs.Prelude.{◌≡◌, List, ℕ, ◌<◌, get_or};
+ghost use Rattle.std.specs.Prelude.{◌≡◌, List, ℕ, ◌<◌, get_or, take};
 ghost use Rattle.definition.specs.Types as d;
-ghost use Rattle.definition.specs.Store.{node, args_at, get, num_loc, need_of, insert};
+ghost use Rattle.definition.specs.Store.{node, args_at, with_args, get, num_loc, need_of, insert, sp, next_tvar, with_need};
+ghost use Rattle.definition.specs.Subst.{mark_one, parts};
+ghost use Rattle.names.specs.Names.{mark_of, name_of};
 ghost use Rattle.table.specs.Rows.{places};
-ghost use Rattle.table.specs.State.{node_of};
-ghost use Rattle.table.specs.Did.{held, Kept};
+ghost use Rattle.shapes.specs.Parts.{part_count};
+ghost use Rattle.table.specs.State.{node_of, shape_of, value_of, Flat, Parts};
+ghost use Rattle.table.specs.Did.{held, Did, Took, Kept};
 ghost use Rattle.history.specs.History.{find_binding, find_mark, Holds};
 ghost use Rattle.history.specs.Holding.{Holds-prop};
 
-use names::TVar;
-use table::Node;
-use table::state::State;
+pub mod rows;
+
+use names::{AbilityMark, TVar, TypeName};
+use table::state::{State, Stop};
+use table::{Node, Shape};
 
 // From this entry on, variable `tvar` is bound to `node`.
 #[derive(Clone, Copy)]
@@ -31,6 +36,7 @@ pub struct Mark {
 }
 
 // A state whose bindings and marks are histories. While it stands, no variable's row of the words is read or written.
+// Refused (must-fail/): a place less for bindings (one_place_less), for marks (one_mark_less).
 #[derive(Drop)]
 pub struct Past<'a> {
     pub st: State<'a>,
@@ -42,9 +48,10 @@ pub struct Past<'a> {
 }
 
 impl Past<'_> {
-    ghost use Rattle.history.specs.Past.{as_rows, Spare, Spends};
+    ghost use Rattle.history.specs.Past.{as_rows, marks_reach, with_mark, Spare, Within, Spends, Marks, Frees};
 
     // The node that variable v is bound to.
+    // Refused (must-fail/): the oldest entry in place of the newest (oldest_binding_found).
     fn find(&self, v: u32) -> Option<u32>
         ensures { result ≡ find_binding self.now.bindings self.now.bound v }
     {
@@ -88,6 +95,13 @@ impl Past<'_> {
         self.st.arg_at(first, i)
     }
 
+    // Part i of a type.
+    pub fn part_at(&self, s: Shape, i: u32) -> u32
+        ensures { (ds : List d.Struct) → i < part_count (shape_of s) → result ≡ get_or (parts (with_args (held (as_rows self.now) ds) (shape_of s))) i 0 }
+    {
+        shapes::part_at(&self.st, s, i)
+    }
+
     // Subst::get
     pub fn bound_at(&self, v: TVar) -> Option<u32>
         ensures { (ds : List d.Struct) → result ≡ get (held (as_rows self.now) ds) v.0 }
@@ -112,6 +126,7 @@ impl Past<'_> {
     // ---- how it is changed
 
     // Subst::insert: a newer entry.
+    // Refused (must-fail/): one that is not counted (binding_not_counted).
     pub fn bind_var(&mut self, v: TVar, t: u32)
         requires { (t < self.old.st.used.nodes) × Spare self.old v.0 }
         ensures { Kept (as_rows self.old) (as_rows self.new) (λ s. insert s v.0 t) × Spends self.old self.new v.0 }
@@ -121,5 +136,58 @@ impl Past<'_> {
             self.bindings[self.bound] = Binding { tvar: i, node: t };
             self.bound += 1;
         }
+    }
+
+    // Variable v has this mark and this need: a newer entry.
+    pub fn put_mark(&mut self, v: TVar, numeric: Option<u32>, need: u32)
+        requires { marks_reach self.old < 2048 }
+        ensures { Kept (as_rows self.old) (as_rows self.new) (with_mark v.0 numeric need) × Marks self.old self.new }
+    {
+        let i = u32::from(v);
+        if i < self.st.used.vars {
+            self.marks[self.marked] = Mark {
+                tvar: i,
+                numeric,
+                need,
+            };
+            self.marked += 1;
+        }
+    }
+
+    // num_vars.entry(v).or_insert(loc), and how many bits v needs. Where v is bound to no variable, this is set_num_var.
+    pub fn mark_var(&mut self, v: TVar, loc: u32, need: u32)
+        requires { marks_reach self.old < 2048 }
+        ensures { Kept (as_rows self.old) (as_rows self.new) (λ s. with_need (mark_one s v.0 loc) v.0 need) × Marks self.old self.new }
+    {
+        let known = self.num_loc_at(v);
+        self.put_mark(v, Some(known.unwrap_or(loc)), need);
+    }
+
+    // A fresh variable: no entry has it.
+    pub fn take_var(&mut self) -> Result<TVar, Stop>
+        ensures { Took (as_rows self.old) (as_rows self.new) result (λ s. next_tvar s) × Frees self.old self.new result }
+    {
+        self.st.take_var()
+    }
+
+    pub fn push_node(&mut self, loc: u32, shape: Shape) -> Result<u32, Stop>
+        requires { Flat self.old.st.used.nodes shape }
+        ensures { Did (as_rows self.old) (as_rows self.new) result (λ s. sp s loc (value_of shape)) × Within self.old self.new }
+    {
+        self.st.push_node(loc, shape)
+    }
+
+    pub fn push_apply(
+        &mut self,
+        loc: u32,
+        k: AbilityMark,
+        name: TypeName,
+        parts: [u32; 8],
+        n: u32,
+    ) -> Result<u32, Stop>
+        requires { Parts self.old.st.used.nodes parts n }
+        ensures { Did (as_rows self.old) (as_rows self.new) result (λ s. sp s loc (d.Apply (mark_of k) (name_of name) (take n parts))) × Within self.old self.new }
+    {
+        self.st.push_apply(loc, k, name, parts, n)
     }
 }

@@ -42,24 +42,36 @@ fn of_this_header() {
     })
 }
 
+#[cfg(linked)]
+type Record =
+    unsafe extern "C" fn(*mut u32, usize, *mut [u8; ROW_BYTES], *const u8, usize, *mut u8, usize, *mut u32) -> u32;
+
+#[cfg(linked)]
+fn record_by(
+    call: Record,
+    state: &mut [u32],
+    rows: &mut Rows,
+    record: &[u8],
+    answer: &mut [u8],
+    length: &mut u32,
+) -> u32 {
+    of_this_header();
+    let (words, bytes, room) = (state.len(), record.len(), answer.len());
+    unsafe {
+        call(state.as_mut_ptr(), words, rows.as_mut_ptr(), record.as_ptr(), bytes, answer.as_mut_ptr(), room, length)
+    }
+}
+
 /// One record, lent whole: the answer's number. The payload's length goes to `length`.
 #[cfg(linked)]
 pub fn record(state: &mut [u32], rows: &mut Rows, record: &[u8], answer: &mut [u8], length: &mut u32) -> u32 {
-    of_this_header();
-    let rows: *mut [u8; ROW_BYTES] = rows.as_mut_ptr();
-    let (words, bytes, room) = (state.len(), record.len(), answer.len());
-    unsafe {
-        header::pongiwaru_record(
-            state.as_mut_ptr(),
-            words,
-            rows,
-            record.as_ptr(),
-            bytes,
-            answer.as_mut_ptr(),
-            room,
-            length,
-        )
-    }
+    record_by(header::pongiwaru_record, state, rows, record, answer, length)
+}
+
+/// .. by the slow engine: of JN, SU, UF and RD the same, of any other mark Malformed.
+#[cfg(linked)]
+pub fn check_record(state: &mut [u32], rows: &mut Rows, record: &[u8], answer: &mut [u8], length: &mut u32) -> u32 {
+    record_by(header::pongiwaru_check_record, state, rows, record, answer, length)
 }
 
 /// How many bytes of the stream are left after the record at its head. State and rows are as they were.
@@ -151,6 +163,10 @@ pub fn version_and_layout() -> (u32, u32) {
 }
 #[cfg(not(linked))]
 pub fn record(_: &mut [u32], _: &mut Rows, _: &[u8], _: &mut [u8], _: &mut u32) -> u32 {
+    no_archive()
+}
+#[cfg(not(linked))]
+pub fn check_record(_: &mut [u32], _: &mut Rows, _: &[u8], _: &mut [u8], _: &mut u32) -> u32 {
     no_archive()
 }
 #[cfg(not(linked))]

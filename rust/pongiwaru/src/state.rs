@@ -2,7 +2,7 @@
 use crate::{
     answer_bytes,
     lent::{self, Progress},
-    Answer, Rows, MANY_LINE_BYTES, ROWS, ROW_BYTES, WORDS,
+    Answer, Rows, ANSWER_BYTES, MANY_LINE_BYTES, ROWS, ROW_BYTES, WORDS,
 };
 
 /// The words and rows that are lent to each call. They may be kept, with `LAYOUT` beside them, and lent again later.
@@ -57,6 +57,15 @@ impl State {
         let mut length = 0;
         let number = lent::record(&mut self.words, &mut self.rows, record, buffer, &mut length);
         (answer(number), length as usize)
+    }
+
+    /// JN, SU, UF or RD by the slow engine, to check `record` by: the same answer, payload and state. Another mark is answered with
+    /// Malformed.
+    pub fn check_record(&mut self, record: &[u8]) -> (Answer, Vec<u8>) {
+        let (mut payload, mut length) = (vec![0; ANSWER_BYTES], 0);
+        let number = lent::check_record(&mut self.words, &mut self.rows, record, &mut payload, &mut length);
+        payload.truncate(length as usize);
+        (answer(number), payload)
     }
 
     /// The record at the head of the stream, and what is left after it; no record, and all that there is, where it

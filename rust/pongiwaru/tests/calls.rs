@@ -166,6 +166,33 @@ fn what_is_kept_has_other_numbers() {
     assert_eq!(ask(b"KP\0"), (Outcome::Kept(vec![]), vec![0, 0, 0]))
 }
 
+/// the slow engine: of its four marks what `record` gives, of others Malformed
+#[test]
+fn records_checked() {
+    let mut state = State::fresh();
+    state.record(b"FV\x01\0\0\0");
+    state.record(b"FV\x01\0\0\0");
+    let mut both = |record: &[u8]| {
+        let mut other = state.clone();
+        let (answer, slowly) = (state.record(record), other.check_record(record));
+        assert!(answer == slowly && state == other, "{:?}, and not {:?}", slowly, answer);
+        answer.0
+    };
+    assert_eq!(both(b"JN\x06\x02\0\0\0\0\0\x03\x03\0\0\0\0\x02"), Answer::Ran);
+    assert_eq!(both(b"SU\x06\x02\0\0\0\x01\0\x06\x03\0\0\0\0\0"), Answer::Ran);
+    assert_eq!(both(b"UF\x06\x04\0\0\0\x01\0"), Answer::Ran);
+    assert_eq!(both(b"RD\x06\x05\0\0\0\x01\0"), Answer::Ran);
+    assert_eq!(both(b"JN\x06\x02\0\0\0\0\0\0\x03\0\0\0"), Answer::Incompatible);
+    assert_eq!(both(b"UF\x06\x04\0\0\0\x07\0"), Answer::UnknownName);
+    assert_eq!(both(DOUBLED), Answer::DoubledReference);
+    let before = state.clone();
+    assert_eq!(state.check_record(b"FV\x01\0\0\0"), (Answer::Malformed, vec![]));
+    assert_eq!(state.check_record(PAIRS), (Answer::Malformed, vec![]));
+    assert!(state == before);
+    let mut unsound = State::kept(&[], before.rows());
+    assert_eq!(unsound.check_record(b"SV"), (Answer::UnsoundState, vec![]))
+}
+
 /// `log` goes on where an MJ finds less room than its line may have; `job` waits for it
 #[test]
 fn a_log_has_room_for_many_pairs() {

@@ -1,0 +1,2 @@
+-- What the two engines' comparison says. Assumes nothing: these are definitions.
+pub mod Checked
