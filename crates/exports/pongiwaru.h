@@ -16,6 +16,7 @@
  * stack, and needs the more of it the deeper a state's types are nested. A call takes at most 768 KiB of it (tested on the deepest
  * sound states, not proved). What its callers keep on that stack comes on top: beside 256 KiB of theirs, a thread of
  * PONGIWARU_STACK_BYTES is enough.
+ * Of the host's functions the archive wants memcpy and memset, and no other (tested).
  */
 #ifndef PONGIWARU_H
 #define PONGIWARU_H

@@ -189,3 +189,7 @@ refused_in w₀ b s t buf number a x e =
       is = λ ds₀ ds. let q : held t ds₀ ≡ seen w₀ b.used ds₀ = rw a.used (seen_same w₀ t.words.now b.used ds₀ a.is) in rw (← e, q);
       declares = λ ds₀ ds p q. rw a.used (declares_same w₀ t.words.now b.used ds₀ (ap (λ (s : State). s.structs) a.is) p);
     }
+
+pub number_14 : number_of_refusal answer_too_long ≡ 14
+unfolding number_of_refusal
+number_14 = refl

@@ -23,3 +23,8 @@ pub record Within (l l' : Bytes) : Type 0 where
 abbrev pub Next : ℕ → Bytes → Bytes → Result Bytes Refusal → Type 0
 Next n l l' (Ok bytes) = (n ≤ length l) × (bytes ≡ take n l) × (l' ≡ drop n l)
 Next n l l' (Err e) = (length l < n) × (e ≡ Malformed) × (l' ≡ l)
+
+-- a reader of l that was asked for n bytes stands at l': behind them, or where it stood if there are fewer
+pub record Asked (n : ℕ) (l l' : Bytes) : Type 0 where
+  pub behind : n ≤ length l → l' ≡ drop n l
+  pub kept : length l < n → l' ≡ l

@@ -3,7 +3,7 @@
 
 ghost use Rattle.std.specs.Prelude.{◌≡◌, ◌<◌, ◌≤◌, take, IfErr, IfOk};
 ghost use Rattle.definition.specs.Reader.{byte, read_u16, read_u32, byte_to, name_below};
-ghost use Rattle.cursor.specs.Words.{Within, Next, read};
+ghost use Rattle.cursor.specs.Words.{Within, Next, Asked, read};
 
 use refusals::Refusal;
 
@@ -42,6 +42,7 @@ impl<'a> Reader<'a> {
         ensures is { read result self.new.left.now ≡ byte self.old.left.now }
         ensures within { Within self.old.left.now self.new.left.now }
         ensures kept { IfErr result (λ e. self.new.left.now ≡ self.old.left.now) }
+        ensures asked { Asked 1 self.old.left.now self.new.left.now }
     {
         let [byte] = self.array::<1>()?;
         Ok(byte)
@@ -50,6 +51,8 @@ impl<'a> Reader<'a> {
     pub fn u16(&mut self) -> Result<u16, Refusal>
         ensures is { read result self.new.left.now ≡ read_u16 self.old.left.now }
         ensures within { Within self.old.left.now self.new.left.now }
+        ensures kept { IfErr result (λ e. self.new.left.now ≡ self.old.left.now) }
+        ensures asked { Asked 2 self.old.left.now self.new.left.now }
     {
         let bytes = self.array::<2>()?;
         Ok(u16::from_le_bytes(bytes))
@@ -58,6 +61,8 @@ impl<'a> Reader<'a> {
     pub fn u32(&mut self) -> Result<u32, Refusal>
         ensures is { read result self.new.left.now ≡ read_u32 self.old.left.now }
         ensures within { Within self.old.left.now self.new.left.now }
+        ensures kept { IfErr result (λ e. self.new.left.now ≡ self.old.left.now) }
+        ensures asked { Asked 4 self.old.left.now self.new.left.now }
     {
         let bytes = self.array::<4>()?;
         Ok(u32::from_le_bytes(bytes))
@@ -68,6 +73,7 @@ impl<'a> Reader<'a> {
         ensures is { read result self.new.left.now ≡ byte_to max self.old.left.now }
         ensures within { Within self.old.left.now self.new.left.now }
         ensures most { IfOk result (λ x. x ≤ max) }
+        ensures asked { Asked 1 self.old.left.now self.new.left.now }
     {
         let byte = self.u8()?;
         if max < u32::from(byte) {
@@ -81,6 +87,7 @@ impl<'a> Reader<'a> {
         ensures is { read result self.new.left.now ≡ name_below known self.old.left.now }
         ensures within { Within self.old.left.now self.new.left.now }
         ensures below { IfOk result (λ x. x < known) }
+        ensures asked { Asked 2 self.old.left.now self.new.left.now }
     {
         let name = self.u16()?;
         if u32::from(name) < known {

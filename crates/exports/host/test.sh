@@ -52,6 +52,9 @@ other_archive() { # beside a header of another version or layout nothing is run
       (cd "$tmp/exports" && cc -I. example.c out/libexports.a -o example) && runs 2 'not the one of this header' crates/joinlog/stdin && [ ! -s "$tmp/log" ] || return 1
   done
 }
+from_outside() { # what the archive wants of its host: copying and filling, and nothing else
+  [ "$(nm -u "$lib" | sed -n 's/^ *U //p' | sort -u | tr '\n' ' ')" = 'memcpy memset ' ]
+}
 from_rust() {
   PONGIWARU_LIB=$(readlink -f "$lib") cargo run -q --release --offline --manifest-path rust/pongiwaru/Cargo.toml --example worked > "$tmp/log" &&
     cmp "$tmp/log" crates/joinlog/stdout
@@ -59,6 +62,7 @@ from_rust() {
 
 from_c c99
 from_c c17
+one "the names that the archive wants" from_outside
 one "the example in C" example
 one "the example: what is no success" no_success
 one "the example: over another archive" other_archive

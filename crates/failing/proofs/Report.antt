@@ -1,7 +1,8 @@
 -- One failure as bytes, written head first, and that declarations do not show in it. Assumes nothing.
 use mathlib.Core.Path.{◌≡◌, refl, ap, subst, fun_ext}
 use mathlib.Core.List.{List, ◌∷◌, ◌++◌}
-use Prim.Native.Nat.{ℕ, zero, suc, ◌+◌, ◌≤◌}
+use Prim.Native.Nat.{ℕ, zero, suc, ◌+◌, ◌%◌, ◌<◌, ◌≤◌}
+use native.Mathlib.Omega.{arith}
 use lib.ListN.{length}
 use Rattle.definition.specs.Types as d
 use Rattle.definition.specs.Types.{State, Struct, Spanned, TypeValue}
@@ -60,3 +61,7 @@ module _ (w : List ℕ) (u : Used) (ds es : List Struct) where
 
   pub fits_same : (f : Failing) (next m : ℕ) → next + length (failing f (seen w u ds)) ≤ m → next + length (failing f (seen w u es)) ≤ m
   fits_same f next m h = subst (λ (b : Bytes). next + length b ≤ m) (failing_same f) h
+
+-- a failure's code is a byte as it stands
+pub small : (code : ℕ) → code < 4 → code % 256 ≡ code
+small code h = omega arith

@@ -82,3 +82,10 @@ module _ {A B C : Type 0} (put : A → State → Result (State × B)) (h : Tree 
   pub first_type : (o : Option ℕ) (over : Bool) (x : Read Tree) (s s' : State) (l : Bytes) → part_of (Ok o) s' l ≡ place_read over build x s
       → place_read over put (go_on x (λ t l. go_on (more l) (λ c. give (h t c)))) s ≡ place_read (is_none o) (after (unwrap_or o 0)) (more l) s'
   first_type o over x s s' l e = read_onward over x s ∙ ap onward (sym e) ∙ part_onward o s' l
+
+-- true is not false
+pub is_not : {A : Type 0} → true ≡ false → A
+is_not e = let z : true ≡ false = e in cc
+
+pub not_is : {A : Type 0} → false ≡ true → A
+not_is e = let z : false ≡ true = e in cc

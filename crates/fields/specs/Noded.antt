@@ -231,7 +231,7 @@ abbrev pub ManyIn : ℕ → List ℕ → ℕ → Type 0
 ManyIn n names k = (i : ℕ) → i < k → (get_or names (3 * i + 1) 0 < n) × (get_or names (3 * i + 2) 0 < n)
 
 abbrev pub WhatIn : List ℕ → ℕ → What → Type 0
-WhatIn names n (q.SD abilities ps) = ps.many ≤ 8
+WhatIn names n (q.SD abilities ps) = (abilities.0 ≤ 15) × (ps.many ≤ 8)
 WhatIn names n q.SV = Unit {0}
 WhatIn names n (q.XP t) = t < n
 WhatIn names n (q.MJ k) = (k ≤ 15) × ManyIn n names k

@@ -1,6 +1,11 @@
 -- Ability marks, and one part. Assumes nothing.
 use mathlib.Core.Path.{◌≡◌, refl, sym}
 use mathlib.Core.Bool.{Bool, true, false, not, ◌||◌}
+use Prim.Native.Nat.{ℕ, ◌+◌, ◌-◌, ◌<◌, ◌≤◌}
+use native.Mathlib.Nat.{le_antisymm}
+use native.Mathlib.Omega.{arith}
+use borrow.Author.Tests.{le-leb, lt-leb}
+use lib.Dec.{leb}
 use Rattle.std.specs.Prelude.{None}
 use Rattle.definition.specs.Types.{TypeName}
 use Rattle.definition.specs.Join.{is_numeric}
@@ -25,3 +30,18 @@ or_true false = refl
 pub fits_none : (n : TypeName) → true ≡ mark_fits None n
 unfolding mark_fits has_drop
 fits_none n = sym (or_true (not (is_numeric n)))
+
+-- the set in a mark's byte
+pub set_in : (x : ℕ) → x ≤ 31 → leb (x - 16) 15 ≡ true
+set_in x l = le-leb (x - 16) 15 (omega (arith, l))
+
+pub set_past : (x : ℕ) → 31 < x → leb (x - 16) 15 ≡ false
+set_past x l = lt-leb (x - 16) 15 (omega (arith, l))
+
+-- the one tag left
+pub last_tag : (t : ℕ) → t ≤ 8 → (t ≡ 0 → ⊥) → (t ≡ 1 → ⊥) → (t ≡ 2 → ⊥) → (t ≡ 3 → ⊥) → (t ≡ 4 → ⊥) → (t ≡ 5 → ⊥) → (t ≡ 6 → ⊥) → (t ≡ 7 → ⊥) → t ≡ 8
+last_tag t l a b c d e f g h =
+    le_antisymm l (next 7 t (next 6 t (next 5 t (next 4 t (next 3 t (next 2 t (next 1 t (next 0 t (omega arith) a) b) c) d) e) f) g) h)
+  where
+    next : (n tag : ℕ) → n ≤ tag → (tag ≡ n → ⊥) → n + 1 ≤ tag
+    next n tag l e = omega arith

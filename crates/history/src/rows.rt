@@ -7,6 +7,7 @@ ghost use Rattle.history.specs.History.{words_of};
 ghost use Rattle.history.specs.Rows.{Loads, LoadedBindings, LoadedMarks, entries_of, InRows, Stores};
 
 use crate::{Binding, Mark, Past};
+use snapshot::copy_all;
 use table::state::State;
 use table::{Touched, Used, VAR_WORDS, VARS_AT, wide};
 
@@ -81,7 +82,7 @@ impl<'a> Past<'a> {
         requires { length words.old ≡ 24069 }
         ensures { Loads st.now.words.now st.now.used result }
     {
-        words.copy_from_slice(st.words);
+        copy_all(words, st.words);
         Past::load(words, st.used)
     }
 
@@ -101,7 +102,7 @@ impl<'a> Past<'a> {
         requires { length w.old ≡ 24069 }
         ensures { w.new ≡ words_of self.now.st.words.now self.now.bindings self.now.bound self.now.marks self.now.marked }
     {
-        w.copy_from_slice(self.st.words);
+        copy_all(w, self.st.words);
         write_back(w, &self.entries());
     }
 

@@ -5,6 +5,7 @@ use mathlib.Core.List.{List, [], ◌∷◌}
 use Prim.Native.Nat.{ℕ, zero, suc, ◌≤◌, ◌<◌, ◌%◌, min}
 use native.Mathlib.Omega.{arith}
 use native.Mathlib.Decide.{dec_lt}
+use borrow.Author.Tests.{eq-eqb, ne_eqb}
 use lib.ListN.{length, get_or, take, length-take, length-map, length-replicate, get_or-replicate, get_or-map, get_or-eq_default}
 use lib.Seq.{get_or-take}
 use lib.Dec.{eqb}
@@ -125,3 +126,12 @@ module _ (w : List ℕ) (u : Used) (ds : List Struct) where
   pub count_struct : (n r : ℕ) → r ≡ length (get_or ds n struct_table.blank).params → r ≡ length (tparam_constraints (seen w u ds) (ModuleType n))
   unfolding tparam_constraints struct_tparams seen with_structs
   count_struct n r e = e ∙ sym (length-map (get_or ds n struct_table.blank).params (λ p. p % 16))
+
+-- a vector has one parameter, no other builtin has any
+pub builtin_one : (b : ℕ) → b ≡ 5 → 1 ≡ length (builtin_tparams b)
+unfolding builtin_tparams
+builtin_one b e = rw (eq-eqb _ _ e) refl
+
+pub builtin_none : (b : ℕ) → (b ≡ 5 → ⊥) → 0 ≡ length (builtin_tparams b)
+unfolding builtin_tparams
+builtin_none b e = rw (ne_eqb _ _ e) refl

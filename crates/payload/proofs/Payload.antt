@@ -114,3 +114,7 @@ types_fit show t a b s e h = rw e at h
 pub node_fits : (show : Show) (t : ℕ) (s : State) → show ≡ Node → length (shown show t s) ≤ 4096 → length (write s t) ≤ 4096
 unfolding shown
 node_fits show t s e h = rw e at h
+
+pub length_location : (loc : ℕ) → length (u32 loc) ≡ 4
+unfolding u32
+length_location loc = refl

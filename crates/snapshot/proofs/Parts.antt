@@ -1,5 +1,5 @@
 -- A part of the words, written as one. Assumes nothing.
-use Rattle.std.proofs.Common.{◌≡◌, ℕ, ◌+◌, ◌-◌, ◌*◌, ◌≤◌, ◌<◌, List, length, get_or, arith, rules}
+use Rattle.std.proofs.Common.{◌≡◌, ℕ, ◌+◌, ◌-◌, ◌*◌, ◌≤◌, ◌<◌, List, length, get_or, subst, arith, rules}
 use Rattle.std.proofs.lemmas.List.{places}
 use Rattle.std.proofs.Math.Nat.{mul-sub, mul-le-mul_right, mul_comm}
 use native.Mathlib.Decide.{dec_lt}
@@ -21,6 +21,10 @@ module _ (w : List ℕ) (at n : ℕ) (row ys : List ℕ) (within : at + n ≤ le
   -- .. as the part from place `at` to `at + n`
   pub wrote_part : Wrote w at n row (put_mid at (at + n - at) w ys)
   wrote_part = let e : at + n - at ≡ n = omega arith in rw e wrote_mid
+
+-- a list that is written whole, by how many words it has
+pub wrote_long : {w row w' : List ℕ} {at n : ℕ} → length row ≡ n → Wrote w at (length row) row w' → Wrote w at n row w'
+wrote_long {w} {row} {w'} {at} e h = subst (λ (m : ℕ). Wrote w at m row w') e h
 
 -- where rows from the first to the last end
 pub rows_end : (base from to n : ℕ) → from ≤ to → base + to * n ≡ base + from * n + (to - from) * n

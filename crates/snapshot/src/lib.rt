@@ -30,6 +30,25 @@ pub fn zero_rows<const N: usize>(w: &mut [u32], base: usize, from: u32, to: u32)
     w[base + from as usize * N..base + to as usize * N].fill(0);
 }
 
+// These words, however many, from place `at` on. Word by word: `copy_from_slice` of a length that is not known is memmove, which the archive for C would ask
+// of its host (refused by crates/exports/host/test.sh).
+pub fn copy_words(w: &mut [u32], at: usize, words: &[u32])
+    requires { at + length words.now ≤ length w.old }
+    ensures { Wrote w.old at (length words.now) words.now w.new }
+{
+    for k in 0..words.len() {
+        w[at + k] = words[k];
+    }
+}
+
+// .. all of as many.
+pub fn copy_all(w: &mut [u32], words: &[u32])
+    requires { length w.old ≡ length words.now }
+    ensures { w.new ≡ words.now }
+{
+    copy_words(w, 0, words);
+}
+
 // ---- rows of variables, from one list of them to another: the words have them from VARS_AT on, what was saved from the start
 
 // The row of variable v, if it is among the first n.
@@ -63,7 +82,7 @@ fn copy_touched(to: &mut [u32], at: usize, from: &[u32], first: usize, n: u32, t
         }
         Touched::Any => {
             let long = n as usize * VAR_WORDS;
-            to[at..at + long].copy_from_slice(&from[first..first + long]);
+            copy_words(to, at, &from[first..first + long]);
         }
     }
 }
@@ -82,7 +101,7 @@ fn save_rows(st: &State<'_>, saved: &mut [u32])
     }
     let from = n as usize * VAR_WORDS;
     let to = vars as usize * VAR_WORDS;
-    saved[from..to].copy_from_slice(&st.words[VARS_AT + from..VARS_AT + to]);
+    copy_words(saved, from, &st.words[VARS_AT + from..VARS_AT + to]);
 }
 
 // .. and none is touched yet.

@@ -27,7 +27,7 @@ fn split_trusted<'a>(state: &mut [u32], params: &[[u8; 8]; 256], stream: &'a [u8
 }
 
 // The stream after one record, its tail; all of it on 5, 6, 15 and 18. The state is as it was.
-// Refused (must-fail/): a stream handed back whole always (all_handed_back), none of it on 15 (split_past_15).
+// Refused (must-fail/): a stream handed back whole always (all_handed_back), one byte passed on 15 (split_past_15), none of it handed back on 15 (nothing_left_on_15).
 pub fn split<'a>(state: &mut [u32], params: &[[u8; 8]; 256], stream: &'a [u8]) -> &'a [u8]
     ensures rest { result.now ≡ rest_of state.old params.now stream.now }
     ensures tail { drop (length stream.now - length result.now) stream.now ≡ result.now }

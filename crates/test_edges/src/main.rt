@@ -28,7 +28,9 @@ fn after_line(b: &[u8]) -> usize
 }
 
 // The last seven lines.
-fn last_lines(log: &[u8]) -> &[u8] {
+fn last_lines(log: &[u8]) -> &[u8]
+    ensures { length result.now ≤ length log.now }
+{
     let mut ends = (0..log.len())
         .rev()
         .filter(|at| log.get(*at) == Some(&b'\n'));
@@ -39,7 +41,9 @@ fn last_lines(log: &[u8]) -> &[u8] {
 }
 
 // The stream's log.
-fn log_of<'a>(stream: &[u8], log: &'a mut [u8]) -> &'a [u8] {
+fn log_of<'a>(stream: &[u8], log: &'a mut [u8]) -> &'a [u8]
+    ensures { length result.now ≤ length log.old }
+{
     let mut state = [0u32; WORDS];
     let mut params = [[0u8; 8]; 256];
     match engine::job(&mut state, &mut params, stream, false, log, 0) {

@@ -24,5 +24,5 @@ returns-in_err-params-clause-is c = λ st known names. let e : c.from_residual-i
 
 pub returns-clause-is : goal.returns-clause-is
 unfolding place_read place_record read_SD ◌>>=◌ go_on give
-returns-clause-is c = λ st known names. fields_none c.in_ok-params.ensures.few
+returns-clause-is c = λ st known names. fields_none (c.in_ok-byte_to.ensures.most, c.in_ok-params.ensures.few)
     (λ s s' ds k. rw (← c.byte_to.ensures.is, c.in_ok-byte_to.was, ← c.byte_to-2.ensures.is, c.in_ok-many.was, ← c.read_params.ensures.is, c.in_ok-params.was) refl)

@@ -1,7 +1,7 @@
 -- `snapshot::copy_touched` meets its contract: row by row, or all of them. Assumes nothing.
-use Rattle.std.proofs.Common.{rules, refl}
+use Rattle.std.proofs.Common.{rules}
 use Rattle.std.proofs.lemmas.List.{places}
-use Rattle.snapshot.proofs.Parts.{wrote_part}
+use Rattle.snapshot.proofs.Parts.{wrote_long}
 use Rattle.snapshot.proofs.Copying.{copied_none, copied_one, copied_two, copied_three, copied_all}
 use Rattle.snapshot.proofs.copy_touched.Goals as goal
 
@@ -20,4 +20,4 @@ returns-in-Three c = rw c.in-Three.is (copied_three c.copy_row-in-Three.ensures 
 pub returns-in-Any : goal.returns-in-Any
 returns-in-Any c =
     let p = c.requires in
-    rw c.in-Any.is (copied_all (wrote_part _ _ _ _ _ p.0 (search rules) (λ k q. refl)) (λ k q. search (rules, places)))
+    rw c.in-Any.is (copied_all (wrote_long (search (rules, places)) c.copy_words.ensures) (λ k q. search (rules, places)))

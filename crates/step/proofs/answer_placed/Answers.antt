@@ -10,7 +10,7 @@ use Rattle.step.proofs.answer_placed.Goals.{in-Bind, in-Look+in-One+in-UF, in-Lo
 use Rattle.table.proofs.Did.{linked, linked_now}
 
 pub answer_declared-requires : goal.answer_declared-requires
-answer_declared-requires g c = let e = c.in-SD.is in let h = rw e at c.requires in (h.0.1.1, h.1)
+answer_declared-requires g c = let e = c.in-SD.is in let h = rw e at c.requires in ((h.0.1.1.0.1, h.0.1.1.1), h.1)
 
 pub solve-requires : goal.solve-requires
 solve-requires g c = let h = rw c.in-SV.is at c.requires in let b = h.1.from in record { saved = (solve_saved b, (h.0.0, h.0.1.1.1)); holds_sound = solve_sound b }

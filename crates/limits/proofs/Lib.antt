@@ -1,0 +1,2 @@
+-- Laws of when a record is taken on. Assumes nothing.
+pub mod Laws
